@@ -1,0 +1,57 @@
+use Rattle.std.proofs.Common.{◌≡◌, ℕ, zero, suc, ◌+◌, Bool, true, false, cond, List, [], ◌∷◌, length, refl, arith, eqb, IsTrue}
+use Rattle.std.proofs.Math.Dec.{eqb-suc-suc}
+use Rattle.std.proofs.lemmas.Bool.{ne_eqb, cond_both}
+use Rattle.std.proofs.lemmas.Bool.Decides.{nat_tests}
+use Rattle.std.proofs.lemmas.Grind.{common_steps}
+use Rattle.thread_local_model.specs.Held.{is_held, least, with_least, without, held_count, HoldsAllBelow}
+
+pub least_free : (held : List Bool) → is_held held (least held) ≡ false
+least_free [] = refl
+least_free (false ∷ held) = refl
+least_free (true ∷ held) = least_free held
+
+pub least_lower : (held : List Bool) → HoldsAllBelow (least held) held
+least_lower [] id h = absurd (omega arith)
+least_lower (false ∷ held) id h = absurd (omega arith)
+least_lower (true ∷ held) zero h = refl
+least_lower (true ∷ held) (suc id) h = least_lower held id (omega arith)
+
+pub is_held-with_least : (held : List Bool) (id : ℕ) → is_held (with_least held) id ≡ cond (eqb (least held) id) true (is_held held id)
+is_held-with_least [] zero = refl
+is_held-with_least [] (suc id) = rw (ne_eqb 0 (suc id) (omega arith)) refl
+is_held-with_least (false ∷ held) zero = refl
+is_held-with_least (false ∷ held) (suc id) = rw (ne_eqb 0 (suc id) (omega arith)) refl
+is_held-with_least (true ∷ held) zero = rw (ne_eqb (suc (least held)) 0 (omega arith)) refl
+is_held-with_least (true ∷ held) (suc id) = rw (eqb-suc-suc (least held) id) (is_held-with_least held id)
+
+pub length-with_least : (held : List Bool) → length (with_least held) ≡ cond (eqb (least held) (length held)) (length held + 1) (length held)
+length-with_least [] = refl
+length-with_least (false ∷ held) = rw (ne_eqb 0 (suc (length held)) (omega arith)) refl
+length-with_least (true ∷ held) =
+    let ih = length-with_least held in
+    grind (arith, nat_tests)
+
+pub held_count-with_least : (held : List Bool) → held_count (with_least held) ≡ held_count held + 1
+held_count-with_least [] = refl
+held_count-with_least (false ∷ held) = omega arith
+held_count-with_least (true ∷ held) = omega (arith, held_count-with_least held)
+
+pub is_held-without : (held : List Bool) (given id : ℕ) → is_held (without held given) id ≡ cond (eqb given id) false (is_held held id)
+is_held-without [] zero zero = refl
+is_held-without [] zero (suc id) = rw (ne_eqb 0 (suc id) (omega arith)) refl
+is_held-without [] (suc given) zero = rw (ne_eqb (suc given) 0 (omega arith)) refl
+is_held-without [] (suc given) (suc id) = cond_both (eqb (suc given) (suc id)) false false (λ b. false ≡ b) (λ _. refl) (λ _. refl)
+is_held-without (h ∷ held) zero zero = refl
+is_held-without (h ∷ held) zero (suc id) = rw (ne_eqb 0 (suc id) (omega arith)) refl
+is_held-without (h ∷ held) (suc given) zero = rw (ne_eqb (suc given) 0 (omega arith)) refl
+is_held-without (h ∷ held) (suc given) (suc id) = rw (eqb-suc-suc given id) (is_held-without held given id)
+
+pub length-without : (held : List Bool) (given : ℕ) → length (without held given) ≡ length held
+length-without held given = grind (arith, common_steps)
+
+pub held_count-without : (held : List Bool) (given : ℕ) → IsTrue (is_held held given) → held_count (without held given) + 1 ≡ held_count held
+held_count-without [] given h = cc
+held_count-without (true ∷ held) zero h = omega arith
+held_count-without (false ∷ held) zero h = cc
+held_count-without (true ∷ held) (suc given) h = omega (arith, held_count-without held given h)
+held_count-without (false ∷ held) (suc given) h = held_count-without held given h

@@ -1,0 +1,8 @@
+use Rattle.thread_local_model.proofs.HeldLaws as laws
+use Rattle.thread_local_model.proofs.held.least_is_least.Goals as goal
+
+pub returns-clause-free : goal.returns-clause-free
+returns-clause-free c = laws.least_free
+
+pub returns-clause-lower : goal.returns-clause-lower
+returns-clause-lower c = laws.least_lower

@@ -1,0 +1,4 @@
+pub mod Place
+pub mod Held
+pub mod Walk
+pub mod Buckets

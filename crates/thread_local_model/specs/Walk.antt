@@ -1,0 +1,14 @@
+use Rattle.std.specs.Prelude.{ℕ, zero, suc, ◌-◌, ◌^◌, ◌==◌, if◌then◌else◌, List, [], ◌++◌, Option, Some, option_to_list}
+
+-- the values of a map at the ids below n, by ascending id
+unfoldable pub walk_below : {V : Type 0} → (ℕ → Option V) → ℕ → List V
+walk_below values zero = []
+walk_below values (suc id) = walk_below values id ++ option_to_list (values id)
+
+-- the values of a map, by ascending id
+unfoldable pub walk : {V : Type 0} → (ℕ → Option V) → List V
+walk values = walk_below values (2 ^ 63 - 1)
+
+-- the map with this value at this id, and every other id as it was
+abbrev pub with_value : {V : Type 0} → (ℕ → Option V) → ℕ → V → ℕ → Option V
+with_value values id v j = if id == j then Some v else values j

@@ -1,0 +1,24 @@
+ghost use Rattle.std.specs.Prelude.{◌≡◌, ℕ, ◌+◌, ◌<◌, ◌==◌, Bool, true, false, List, length, IsTrue, if◌then◌else◌};
+ghost use Rattle.thread_local_model.specs.Held.{is_held, least, with_least, without, held_count, HoldsAllBelow};
+
+/// The least id that isn't held is just that: it isn't held, and every lower id is.
+pub fn least_is_least()
+    ensures free { (held : List Bool) → is_held held (least held) ≡ false }
+    ensures lower { (held : List Bool) → HoldsAllBelow (least held) held }
+{}
+
+/// Taking an id changes the held ids at the least that wasn't held, and at no other.
+pub fn taking_changes_the_least()
+    ensures at { (held : List Bool) (id : ℕ) → is_held (with_least held) id ≡ (if least held == id then true else is_held held id) }
+    ensures peak { (held : List Bool) → length (with_least held)
+        ≡ (if least held == length held then length held + 1 else length held) }
+    ensures count { (held : List Bool) → held_count (with_least held) ≡ held_count held + 1 }
+{}
+
+/// Giving an id back changes the held ids at that id, and at no other.
+pub fn giving_changes_that_id()
+    ensures at { (held : List Bool) (given id : ℕ) → is_held (without held given) id ≡ (if given == id then false else is_held held id) }
+    ensures peak { (held : List Bool) (given : ℕ) → length (without held given) ≡ length held }
+    ensures count { (held : List Bool) (given : ℕ) → IsTrue (is_held held given)
+        → held_count (without held given) + 1 ≡ held_count held }
+{}
