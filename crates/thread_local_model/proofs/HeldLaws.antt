@@ -1,4 +1,4 @@
-use Rattle.std.proofs.Common.{◌≡◌, ℕ, zero, suc, ◌+◌, Bool, true, false, cond, List, [], ◌∷◌, length, refl, arith, eqb, IsTrue}
+use Rattle.std.proofs.Common.{◌≡◌, ℕ, zero, suc, ◌+◌, ◌≤◌, ap, Bool, true, false, cond, List, [], ◌∷◌, length, refl, arith, eqb, IsTrue}
 use Rattle.std.proofs.Math.Dec.{eqb-suc-suc}
 use Rattle.std.proofs.lemmas.Bool.{ne_eqb, cond_both}
 use Rattle.std.proofs.lemmas.Bool.Decides.{nat_tests}
@@ -15,6 +15,19 @@ least_lower [] id h = absurd (omega arith)
 least_lower (false ∷ held) id h = absurd (omega arith)
 least_lower (true ∷ held) zero h = refl
 least_lower (true ∷ held) (suc id) h = least_lower held id (omega arith)
+
+pub least_only : (held : List Bool) (id : ℕ) → is_held held id ≡ false → HoldsAllBelow id held → id ≡ least held
+least_only [] zero free lower = refl
+least_only [] (suc id) free lower = let first : false ≡ true = lower 0 (omega arith) in cc
+least_only (false ∷ held) zero free lower = refl
+least_only (false ∷ held) (suc id) free lower = let first : false ≡ true = lower 0 (omega arith) in cc
+least_only (true ∷ held) zero free lower = cc
+least_only (true ∷ held) (suc id) free lower = ap suc (least_only held id free (λ k h. lower (suc k) (omega arith)))
+
+pub least_bounded : (held : List Bool) → least held ≤ length held
+least_bounded [] = omega arith
+least_bounded (false ∷ held) = omega arith
+least_bounded (true ∷ held) = omega (arith, least_bounded held)
 
 pub is_held-with_least : (held : List Bool) (id : ℕ) → is_held (with_least held) id ≡ cond (eqb (least held) id) true (is_held held id)
 is_held-with_least [] zero = refl

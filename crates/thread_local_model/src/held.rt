@@ -1,10 +1,12 @@
-ghost use Rattle.std.specs.Prelude.{◌≡◌, ℕ, ◌+◌, ◌<◌, ◌==◌, Bool, true, false, List, length, IsTrue, if◌then◌else◌};
+ghost use Rattle.std.specs.Prelude.{◌≡◌, ℕ, ◌+◌, ◌<◌, ◌≤◌, ◌==◌, Bool, true, false, List, length, IsTrue, if◌then◌else◌};
 ghost use Rattle.thread_local_model.specs.Held.{is_held, least, with_least, without, held_count, HoldsAllBelow};
 
 /// The least id that isn't held is just that: it isn't held, and every lower id is.
 pub fn least_is_least()
     ensures free { (held : List Bool) → is_held held (least held) ≡ false }
     ensures lower { (held : List Bool) → HoldsAllBelow (least held) held }
+    ensures only { (held : List Bool) (id : ℕ) → is_held held id ≡ false → HoldsAllBelow id held → id ≡ least held }
+    ensures bounded { (held : List Bool) → least held ≤ length held }
 {}
 
 /// Taking an id changes the held ids at the least that wasn't held, and at no other.

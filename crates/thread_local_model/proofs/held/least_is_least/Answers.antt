@@ -6,3 +6,9 @@ returns-clause-free c = laws.least_free
 
 pub returns-clause-lower : goal.returns-clause-lower
 returns-clause-lower c = laws.least_lower
+
+pub returns-clause-only : goal.returns-clause-only
+returns-clause-only c = laws.least_only
+
+pub returns-clause-bounded : goal.returns-clause-bounded
+returns-clause-bounded c = laws.least_bounded
