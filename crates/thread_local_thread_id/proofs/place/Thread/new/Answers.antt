@@ -1,0 +1,15 @@
+use Rattle.std.proofs.Common.{◌+◌, ◌-◌, ◌*◌, ◌^◌, ◌%◌, arith}
+use Rattle.std.proofs.lemmas.Nat.{one_shl}
+use Rattle.thread_local_model.proofs.PlaceLaws.{only_place}
+use Rattle.thread_local_thread_id.proofs.place.Thread.new.Goals as goal
+
+pub returns-clause-bucket : goal.returns-clause-bucket
+returns-clause-bucket c =
+    let power = c.ilog2-bucket.ensures in
+    (only_place c.args.id c.ilog2-bucket.result (c.args.id + 1 - 2 ^ c.ilog2-bucket.result) (omega arith) (omega arith)).0
+
+pub returns-clause-index : goal.returns-clause-index
+returns-clause-index c =
+    let power = c.ilog2-bucket.ensures in
+    let shifted = one_shl c.ilog2-bucket.result 64 power.bound in
+    (only_place c.args.id c.ilog2-bucket.result (c.args.id - (1 * 2 ^ c.ilog2-bucket.result % 2 ^ 64 - 1)) (omega arith) (omega arith)).1

@@ -1,0 +1,8 @@
+//! Places of ids, and the manager that gives ids out and takes them back.
+#![tactic(auto)]
+
+pub mod manager;
+pub mod place;
+
+pub use manager::{LocalError, ThreadIdManager};
+pub use place::Thread;

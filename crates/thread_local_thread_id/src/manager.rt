@@ -1,0 +1,166 @@
+ghost use Rattle.std.specs.Prelude.{◌≡◌, ℕ, ◌+◌, ◌-◌, ◌^◌, ◌<◌, ◌≤◌, ◌==◌, Bool, true, false, [], length, IsTrue, OnOk, OnErr, IfOk, if◌then◌else◌};
+ghost use Rattle.std.specs.Prelude.{alloc_error};
+ghost use Rattle.thread_local_model.specs.Held.{is_held, least, with_least, without, HoldsAllBelow};
+
+use std::alloc::{AllocError, Global};
+use std::marker::Model;
+
+/// How many ids there are: 0 to 2^63 - 2.
+pub const IDS: usize = (1 << 63) - 1;
+
+/// Why no id could be had.
+#[derive(Clone, Copy, Debug, PartialEq, Eq)]
+pub enum LocalError {
+    /// There was no memory for the return of a further id.
+    Memory(AllocError),
+    /// Every id is held.
+    Exhausted,
+}
+
+/// Gives out the least id that isn't held, and takes ids back.
+///
+/// Contracts see the held ids, as a truth value for each id below the peak, and the room: the number of ids
+/// whose return needs no further memory. The peak is the greatest number of ids held at one moment.
+///
+/// Unlike in the Rust crate it is public, one for each table, and the memory that an id's return needs is
+/// taken when the id is.
+#[derive(Drop)]
+pub struct ThreadIdManager {
+    held: Vec<bool>,
+    peak: usize,
+}
+
+impl Model for ThreadIdManager {
+    ghost use Rattle.thread_local_model.specs.Held.{Manager};
+
+    ghost Value = { Manager };
+
+    ghost use Rattle.thread_local_thread_id.specs.Entries.{manager_of, IsManager};
+
+    ghost view = { manager_of };
+
+    ghost invariant = { IsManager };
+}
+
+impl ThreadIdManager {
+    /// A manager with no id held. It takes no memory.
+    pub fn new(alloc: Global) -> ThreadIdManager
+        ensures held { result.held ≡ [] }
+        ensures room { result.room ≡ 0 }
+    {
+        ThreadIdManager {
+            held: Vec::new(alloc),
+            peak: 0,
+        }
+    }
+
+    /// Takes the least id that isn't held. It asks for memory only where every id below the peak is held and
+    /// there is no room for one more.
+    pub fn alloc(&mut self) -> Result<usize, LocalError>
+        ensures least { IfOk result (λ id. id ≡ least self.old.held) }
+        ensures in_range { IfOk result (λ id. id < 2 ^ 63 - 1) }
+        ensures held { OnOk result (self.new.held ≡ with_least self.old.held) }
+        ensures at { IfOk result (λ taken. (id : ℕ) → is_held self.new.held id ≡ (if taken == id then true else is_held self.old.held id)) }
+
+        // The peak grows by one where every id below it was held, and the room doesn't fall.
+        ensures peak { OnOk result (length self.new.held
+            ≡ (if least self.old.held == length self.old.held then length self.old.held + 1 else length self.old.held)) }
+        ensures room { self.old.room ≤ self.new.room }
+        ensures within { length self.new.held ≤ self.new.room }
+        ensures bounded { self.new.room ≤ 2 ^ 63 - 1 }
+
+        ensures memory { result ≡ Err (LocalError.Memory alloc_error)
+            → HoldsAllBelow (length self.old.held) self.old.held × (length self.old.held ≡ self.old.room) }
+        ensures exhausted { result ≡ Err LocalError.Exhausted → HoldsAllBelow (2 ^ 63 - 1) self.old.held }
+        ensures err { OnErr result (self.new ≡ self.old) }
+    {
+        let id = self.least_free();
+        self.make_room(id)?;
+        self.hold(id);
+        Ok(id)
+    }
+
+    // The least id that isn't held.
+    fn least_free(&self) -> usize
+        ensures least { result ≡ least self.now.held }
+        ensures in_room { result ≤ self.now.room }
+    {
+        first_free(&self.held)
+    }
+
+    // Makes room for the return of the id, where there is none.
+    fn make_room(&mut self, id: usize) -> Result<(), LocalError>
+        requires { id ≡ least self.old.held }
+        ensures held { self.new.held ≡ self.old.held }
+        ensures room { self.old.room ≤ self.new.room }
+        ensures within { length self.new.held ≤ self.new.room }
+        ensures bounded { self.new.room ≤ 2 ^ 63 - 1 }
+        ensures ok { OnOk result ((id < self.new.room) × (id < 2 ^ 63 - 1)) }
+
+        ensures memory { result ≡ Err (LocalError.Memory alloc_error)
+            → HoldsAllBelow (length self.old.held) self.old.held × (length self.old.held ≡ self.old.room) }
+        ensures exhausted { result ≡ Err LocalError.Exhausted → HoldsAllBelow (2 ^ 63 - 1) self.old.held }
+        ensures err { OnErr result (self.new ≡ self.old) }
+    {
+        if id < self.held.len() {
+            return Ok(());
+        }
+        if id >= IDS {
+            return Err(LocalError::Exhausted);
+        }
+        if self.held.push(false).is_err() {
+            return Err(LocalError::Memory(AllocError));
+        }
+        Ok(())
+    }
+
+    // Marks the id as held.
+    fn hold(&mut self, id: usize)
+        requires least { id ≡ least self.old.held }
+        requires room { id < self.old.room }
+        ensures held { self.new.held ≡ with_least self.old.held }
+        ensures room { self.new.room ≡ self.old.room }
+        ensures within { length self.new.held ≤ self.new.room }
+        ensures bounded { self.new.room ≤ 2 ^ 63 - 1 }
+    {
+        self.held[id] = true;
+        if id == self.peak {
+            self.peak += 1;
+        }
+    }
+
+    /// Whether an id is held.
+    pub fn is_held(&self, id: usize) -> bool
+        ensures held { result ≡ is_held self.now.held id }
+        ensures within { length self.now.held ≤ self.now.room }
+        ensures bounded { self.now.room ≤ 2 ^ 63 - 1 }
+    {
+        self.held.get(id).copied().unwrap_or(false)
+    }
+
+    /// Takes an id back. The caller shows that it is held. It takes no memory.
+    pub fn free(&mut self, id: usize)
+        requires { IsTrue (is_held self.old.held id) }
+        ensures held { self.new.held ≡ without self.old.held id }
+        ensures at { (other : ℕ) → is_held self.new.held other ≡ (if id == other then false else is_held self.old.held other) }
+        ensures peak { length self.new.held ≡ length self.old.held }
+        ensures room { self.new.room ≡ self.old.room }
+    {
+        self.held[id] = false;
+    }
+}
+
+/// The place of the first entry that is false, or the number of entries.
+fn first_free(held: &[bool]) -> usize
+    ensures { result ≡ least held.now }
+{
+    for (id, held) in held.iter().enumerate() {
+        if !*held {
+            return id;
+        }
+    }
+    held.len()
+}
+
+#[cfg(test)]
+mod tests;

@@ -1,0 +1,61 @@
+use super::*;
+use std::process::Abort;
+use std::test::Fail;
+
+// Takes an id; where memory is refused, nothing has changed and the same call succeeds.
+fn take(
+    rt: &impl Abort,
+    manager: &mut ThreadIdManager,
+    held: &[usize],
+) -> Result<usize, LocalError> {
+    match manager.alloc() {
+        Ok(id) => Ok(id),
+        Err(LocalError::Exhausted) => Err(LocalError::Exhausted),
+        Err(LocalError::Memory(_)) => {
+            for id in 0..8 {
+                assert_eq!(rt;
+                    manager.is_held(id),
+                    held.contains(&id),
+                    "id {id} after a refusal"
+                );
+            }
+            manager.alloc()
+        }
+    }
+}
+
+#[test]
+fn least_ids_in_turn(rt: HostRuntime) -> Result<(), Fail> {
+    let mut manager = ThreadIdManager::new(rt.alloc());
+    assert!(rt; !manager.is_held(0));
+    assert_eq!(rt; take(&rt, &mut manager, &[])?, 0);
+    assert_eq!(rt; take(&rt, &mut manager, &[0])?, 1);
+    assert_eq!(rt; take(&rt, &mut manager, &[0, 1])?, 2);
+    assert!(rt; manager.is_held(1));
+    manager.free(1);
+    assert!(rt; manager.is_held(0));
+    manager.free(0);
+    assert!(rt; manager.is_held(2));
+    assert!(rt; !manager.is_held(0) && !manager.is_held(1) && !manager.is_held(3));
+    assert_eq!(rt; take(&rt, &mut manager, &[2])?, 0);
+    assert_eq!(rt; take(&rt, &mut manager, &[0, 2])?, 1);
+    assert_eq!(rt; take(&rt, &mut manager, &[0, 1, 2])?, 3);
+    Ok(())
+}
+
+#[test]
+fn a_returned_id_needs_no_memory(rt: HostRuntime) -> Result<(), Fail> {
+    let mut manager = ThreadIdManager::new(rt.alloc());
+    let first = [0, 1, 2, 3, 4, 5, 6, 7];
+    for id in 0..40usize {
+        assert_eq!(rt; take(&rt, &mut manager, &first[..id.min(8)])?, id);
+    }
+    assert!(rt; manager.is_held(33) && manager.is_held(7));
+    manager.free(33);
+    assert!(rt; manager.is_held(7));
+    manager.free(7);
+    // No memory is asked for here, so a refusal would be a fault of the manager's.
+    assert_eq!(rt; manager.alloc()?, 7);
+    assert_eq!(rt; manager.alloc()?, 33);
+    Ok(())
+}
