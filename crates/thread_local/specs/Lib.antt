@@ -1,0 +1,2 @@
+pub use Rattle.thread_local_model.specs.Place
+pub use Rattle.thread_local_model.specs.Held

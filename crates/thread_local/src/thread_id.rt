@@ -1,0 +1,3 @@
+//! Places of ids, and the manager that gives ids out and takes them back.
+
+pub use thread_local_thread_id::{LocalError, Thread, ThreadIdManager};

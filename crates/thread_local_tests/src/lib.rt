@@ -1,0 +1,4 @@
+//! Examples and tests that use `thread_local` as its users do.
+#![tactic(auto)]
+
+pub mod examples;

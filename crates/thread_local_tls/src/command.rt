@@ -1,0 +1,52 @@
+ghost use Rattle.std.specs.Prelude.{◌≡◌, ◌≤◌, List, [], IfSome, OnOk, OnErr, IfOk, IsErrOf, MatchResult};
+ghost use Rattle.std.specs.Io.KnownBytes.{Appends, Keeps};
+ghost use Rattle.thread_local_tls.specs.declared.moves.Move.{Move};
+ghost use Rattle.thread_local_tls.specs.Moves.{ids_given, MayRun};
+ghost use Rattle.thread_local_tls.specs.Words.{texts, command_of, lines_of, IsMisuse};
+ghost use Rattle.thread_local_tls.specs.Faults.{Answers};
+
+use crate::fault::Fault;
+use crate::moves::ids;
+use crate::words::command;
+use std::alloc::Global;
+use std::io::Write;
+
+/// Runs the command that the words name, and answers the status that the program ends with. The output goes
+/// to `out`, after the last word was accepted, and the line of a fault to `err`. It takes memory for the moves
+/// and for the ids.
+pub fn run<O: Write, E: Write>(alloc: Global, words: &[String], out: &mut O, err: &mut E) -> u8
+    ensures status { result ≤ 2 }
+    ensures done { result ≡ 0 → Answers (texts words.now) (O.contents out.old) (O.contents out.new) }
+    ensures misuse { result ≡ 2 → IsMisuse (texts words.now) × Keeps (O.contents out.old) (O.contents out.new) }
+{
+    match answer(alloc, words, out) {
+        Ok(()) => 0,
+        Err(fault) => fault.report(err),
+    }
+}
+
+// Runs the command and writes its output.
+fn answer<O: Write>(alloc: Global, words: &[String], out: &mut O) -> Result<(), Fault>
+    ensures done { OnOk result (Answers (texts words.now) (O.contents out.old) (O.contents out.new)) }
+    ensures misuse { IsErrOf result Fault.Usage → IsMisuse (texts words.now) × Keeps (O.contents out.old) (O.contents out.new) }
+{
+    let moves = command(alloc, words)?;
+    let ids = ids(alloc, &moves)?;
+    print(&ids, out)
+}
+
+// Writes a line for each id.
+fn print<O: Write>(ids: &[usize], out: &mut O) -> Result<(), Fault>
+    ensures written { OnOk result (Appends (O.contents out.old) (O.contents out.new) (lines_of ids.now)) }
+    ensures fault { IsErrOf result Fault.Usage → ⊥ }
+{
+    for id in ids {
+        if writeln!(out, "{id}").is_err() {
+            return Err(Fault::Write);
+        }
+    }
+    if out.flush().is_err() {
+        return Err(Fault::Write);
+    }
+    Ok(())
+}

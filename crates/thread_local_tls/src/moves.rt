@@ -1,0 +1,65 @@
+ghost use Rattle.std.specs.Prelude.{◌≡◌, ℕ, ◌-◌, ◌^◌, false, [], take, slice_get, IfOk, IsErrOf};
+ghost use Rattle.thread_local.specs.Held.{is_held, HoldsAllBelow};
+ghost use Rattle.thread_local_tls.specs.Moves.{held_after, ids_given, MayRun};
+
+use std::alloc::{AllocError, Global};
+use thread_local::thread_id::{LocalError, ThreadIdManager};
+
+/// A step of `tls ids`.
+#[derive(Clone, Copy, Debug, PartialEq, Eq)]
+pub enum Move {
+    /// Take the least id that isn't held.
+    Take,
+    /// Give this id back.
+    Give(usize),
+}
+
+/// Why a list of moves was not run to its end.
+#[derive(Clone, Copy, Debug, PartialEq, Eq)]
+pub enum IdsError {
+    /// An id could not be had, or there was no memory for the answer.
+    Local(LocalError),
+    /// An id was given back that isn't held.
+    NotHeld,
+}
+
+impl From<LocalError> for IdsError {
+    ghost use Rattle.std.specs.Prelude.{◌≡◌};
+    ghost use Rattle.thread_local_tls.specs.declared.moves.IdsError.TheVariants.{Local};
+
+    ghost from_gives = { λ error e. e ≡ Local error };
+
+    fn from(error: LocalError) -> IdsError {
+        IdsError::Local(error)
+    }
+}
+
+/// Runs the moves in order from no id held, and answers the ids that were taken. It never waits, and takes
+/// memory for the manager and for the answer: want of it is answered as `Local(Memory(..))`.
+pub fn ids(alloc: Global, moves: &[Move]) -> Result<Vec<usize>, IdsError>
+    ensures ok { IfOk result (λ ids. (ids.items ≡ ids_given [] moves.now) × MayRun [] moves.now) }
+    ensures not_held { IsErrOf result IdsError.NotHeld → (n : ℕ) × (id : ℕ) × (slice_get moves.now n ≡ Some (Move.Give id))
+        × MayRun [] (take n moves.now) × (is_held (held_after [] (take n moves.now)) id ≡ false) }
+    ensures exhausted { IsErrOf result (IdsError.Local LocalError.Exhausted) → (n : ℕ) × (slice_get moves.now n ≡ Some Move.Take)
+        × MayRun [] (take n moves.now) × HoldsAllBelow (2 ^ 63 - 1) (held_after [] (take n moves.now)) }
+{
+    let mut manager = ThreadIdManager::new(alloc);
+    let mut ids = Vec::new(alloc);
+    for step in moves {
+        match *step {
+            Move::Take => {
+                let id = manager.alloc()?;
+                if ids.push(id).is_err() {
+                    return Err(IdsError::Local(LocalError::Memory(AllocError)));
+                }
+            }
+            Move::Give(id) => {
+                if !manager.is_held(id) {
+                    return Err(IdsError::NotHeld);
+                }
+                manager.free(id);
+            }
+        }
+    }
+    Ok(ids)
+}

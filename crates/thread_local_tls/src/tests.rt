@@ -1,0 +1,166 @@
+use super::*;
+use std::alloc::{AllocError, Global};
+use std::io;
+use std::io::Write;
+use std::process::Abort;
+use std::test::Fail;
+
+// A writer over memory that fails at its write with this number, counted from 0.
+#[derive(Drop)]
+struct Memory {
+    bytes: Vec<u8>,
+    writes: usize,
+    fails_at: usize,
+}
+
+impl Memory {
+    fn new(alloc: Global, fails_at: usize) -> Memory {
+        Memory {
+            bytes: Vec::new(alloc),
+            writes: 0,
+            fails_at,
+        }
+    }
+
+    fn sound(alloc: Global) -> Memory {
+        Memory::new(alloc, usize::MAX)
+    }
+}
+
+impl Write for Memory {
+    fn write(&mut self, buf: &[u8]) -> io::Result<usize> {
+        let number = self.writes;
+        self.writes = self.writes.saturating_add(1);
+        if number == self.fails_at {
+            return Err(io::Error::from(io::ErrorKind::Other));
+        }
+        self.bytes.extend_from_slice(buf)?;
+        Ok(buf.len())
+    }
+
+    fn flush(&mut self) -> io::Result<()> {
+        Ok(())
+    }
+}
+
+const USAGE: &str = "usage: tls ids WORDS.. | tls tally WORKERS NUMBERS\n";
+
+fn words(alloc: Global, line: &str) -> Result<Vec<String>, AllocError> {
+    let mut words = Vec::new(alloc);
+    for word in line.split_whitespace() {
+        words.push(word.to_string(alloc)?)?;
+    }
+    Ok(words)
+}
+
+// Runs the line, and compares what is written and the status.
+fn expect(
+    rt: &impl Abort,
+    alloc: Global,
+    line: &str,
+    output: &str,
+    fault: &str,
+    status: u8,
+) -> Result<(), AllocError> {
+    let mut out = Memory::sound(alloc);
+    let mut err = Memory::sound(alloc);
+    let words = words(alloc, line)?;
+    assert_eq!(rt;
+        run(alloc, &words, &mut out, &mut err),
+        status,
+        "the status of '{line}'"
+    );
+    assert_eq!(rt;
+        out.bytes.as_slice(),
+        output.as_bytes(),
+        "the output of '{line}'"
+    );
+    assert_eq!(rt;
+        err.bytes.as_slice(),
+        fault.as_bytes(),
+        "the fault of '{line}'"
+    );
+    Ok(())
+}
+
+#[test]
+fn prints_the_least_ids(rt: HostRuntime) -> Result<(), Fail> {
+    let lines = [
+        (
+            "ids take take take give 1 give 0 take take take",
+            "0\n1\n2\n0\n1\n3\n",
+        ),
+        ("ids take give 0 take", "0\n0\n"),
+        ("ids take take give 00 give 1 take", "0\n1\n0\n"),
+        ("ids take give 00000000000000000000000000 take", "0\n0\n"),
+    ];
+    for (line, output) in lines {
+        expect(&rt, rt.alloc(), line, output, "", 0)?;
+    }
+    Ok(())
+}
+
+#[test]
+fn wrong_arguments_print_the_usage(rt: HostRuntime) -> Result<(), Fail> {
+    let lines = [
+        "",
+        "ids",
+        "ids give 0",
+        "ids take give",
+        "ids take give 0 give 0",
+        "ids take give +0",
+        "ids take give 18446744073709551615",
+        "ids take give 18446744073709551616",
+        "tally 0 10",
+        "tally 65 10",
+        "tally 5 1000001",
+    ];
+    for line in lines {
+        expect(&rt, rt.alloc(), line, "", USAGE, 2)?;
+    }
+    Ok(())
+}
+
+#[test]
+fn a_failed_write_is_told(rt: HostRuntime) -> Result<(), Fail> {
+    let words = words(rt.alloc(), "ids take take take give 1 take")?;
+    let mut faults = 0usize;
+    for fails_at in 0..100 {
+        let mut out = Memory::new(rt.alloc(), fails_at);
+        let mut err = Memory::sound(rt.alloc());
+        let status = run(rt.alloc(), &words, &mut out, &mut err);
+        if out.writes <= fails_at {
+            assert_eq!(rt; status, 0);
+            assert_eq!(rt; out.bytes.as_slice(), b"0\n1\n2\n1\n".as_slice());
+            assert!(rt; 1 < faults, "a first and a later write failed");
+            return Ok(());
+        }
+        faults = faults.saturating_add(1);
+        assert_eq!(rt; status, 1, "write {fails_at}");
+        assert_eq!(rt; err.bytes.as_slice(), b"tls: write failed\n".as_slice());
+    }
+    assert!(rt; false, "each run met a failing write");
+    Ok(())
+}
+
+#[test]
+fn a_fault_that_cannot_be_told_keeps_its_status(rt: HostRuntime) -> Result<(), Fail> {
+    let words = words(rt.alloc(), "ids give 0")?;
+    let mut out = Memory::sound(rt.alloc());
+    let mut err = Memory::new(rt.alloc(), 0);
+    assert_eq!(rt; run(rt.alloc(), &words, &mut out, &mut err), 2);
+    assert!(rt; out.bytes.is_empty());
+    Ok(())
+}
+
+#[test]
+fn moves_run_in_order(rt: HostRuntime) -> Result<(), Fail> {
+    let moves = [Move::Take, Move::Take, Move::Give(0), Move::Take];
+    match ids(rt.alloc(), &moves) {
+        Ok(given) => assert_eq!(rt; given.as_slice(), [0, 1, 0].as_slice()),
+        Err(_) => assert!(rt; false, "the moves may be run"),
+    }
+    let stuck = [Move::Take, Move::Give(1), Move::Take];
+    assert!(rt; matches!(ids(rt.alloc(), &stuck), Err(IdsError::NotHeld)));
+    Ok(())
+}
