@@ -1,6 +1,8 @@
-use Rattle.std.proofs.Common.{◌≡◌, ◌≢◌, ℕ, zero, suc, ◌<◌, ◌≤◌, Bool, true, false, List, [], ◌∷◌, length, take, set, ◌++◌, refl, ap, sym, arith}
-use Rattle.std.proofs.lemmas.List.{get_or-set_other}
-use Rattle.thread_local_model.specs.Held.{is_held, least, with_least}
+use Rattle.std.proofs.Common.{◌≡◌, ◌≢◌, ℕ, zero, suc, ◌+◌, ◌<◌, ◌≤◌, Bool, true, false, List, [], ◌∷◌, length, take, set, get_or, ◌++◌, refl, ap, sym, ◌∙◌, arith, ⊎_elim, IsTrue}
+use Rattle.std.proofs.lemmas.List.{get_or-set_other, get_or-set_same, get_or_default}
+use Rattle.std.proofs.lemmas.Bool.{both_ways, true_from_ne_false, cases_eq, cases_lt}
+use Rattle.thread_local_model.proofs.HeldLaws.{least_lower}
+use Rattle.thread_local_model.specs.Held.{is_held, least, with_least, HoldsAllBelow}
 
 -- no entry from the peak on is held
 abbrev pub IsFreeFrom : ℕ → List Bool → Type 0
@@ -84,3 +86,43 @@ least_within [] peak within above = omega arith
 least_within (false ∷ entries) peak within above = omega arith
 least_within (true ∷ entries) zero within above = let first : true ≡ false = above 0 (omega arith) in cc
 least_within (true ∷ entries) (suc peak) within above = let rest = least_within entries peak (omega arith) (λ k p. above (suc k) (omega arith)) in omega arith
+
+-- the free entries below the peak lie in a range
+abbrev pub LiesIn : ℕ → ℕ → ℕ → List Bool → Type 0
+LiesIn peak from to entries = (id : ℕ) → id < peak → is_held entries id ≡ false → (from ≤ id) × (id < to)
+
+-- what isn't in the range is held, and so is what was passed of it
+pub held_so_far : (entries : List Bool) (peak from to n : ℕ) → n ≤ peak → LiesIn peak from to entries
+    → ((k : ℕ) → from ≤ k → k < n → k < to → IsTrue (is_held entries k)) → HoldsAllBelow n entries
+held_so_far entries peak from to n within lies passed k h =
+    true_from_ne_false (is_held entries k) (λ free.
+    let here = lies k (omega arith) free in
+    let held = passed k here.0 h here.1 in
+    both_ways (is_held entries k) free held)
+
+-- once the least free entry is held, the free ones lie behind it
+pub LiesIn-hold : (entries : List Bool) (peak from to id : ℕ) → id < length entries → id ≡ least entries → LiesIn peak from to entries → LiesIn peak (id + 1) to (set entries id true)
+LiesIn-hold entries peak from to id inside first lies k h free =
+    ⊎_elim
+    (λ same. let at : is_held (set entries id true) k ≡ true = rw same (get_or-set_same entries id true false inside) in absurd (both_ways _ free at))
+    (λ apart.
+    let was : is_held entries k ≡ false = rw (get_or-set_other entries id k true false apart) at free in
+    ⊎_elim
+    (λ before. absurd (both_ways _ was (least_lower entries k (omega arith))))
+    (λ behind. (omega arith, (lies k h was).1))
+    (cases_lt k id))
+    (cases_eq k id)
+
+-- the same where that entry was the peak's
+pub LiesIn-hold_peak : (entries : List Bool) (peak from to id : ℕ) → id < length entries → id ≡ least entries → id ≡ peak → LiesIn peak from to entries → LiesIn (peak + 1) (id + 1) to (set entries id true)
+LiesIn-hold_peak entries peak from to id inside first at lies k h free =
+    ⊎_elim
+    (λ below. LiesIn-hold entries peak from to id inside first lies k below free)
+    (λ top.
+    let same : k ≡ id = omega arith in
+    let held : is_held (set entries id true) k ≡ true = rw same (get_or-set_same entries id true false inside) in absurd (both_ways _ free held))
+    (cases_lt k peak)
+
+-- an entry that was read as free
+pub read_free : (entries : List Bool) (id : ℕ) (read : Bool) → id < length entries → read ≡ get_or entries id read → read ≡ false → is_held entries id ≡ false
+read_free entries id read inside is free = get_or_default entries id false read inside ∙ sym is ∙ free

@@ -1,4 +1,4 @@
-ghost use Rattle.std.specs.Prelude.{◌≡◌, ℕ, ◌+◌, ◌-◌, ◌^◌, ◌<◌, ◌≤◌, ◌==◌, Bool, true, false, [], length, IsTrue, OnOk, OnErr, IfOk, if◌then◌else◌};
+ghost use Rattle.std.specs.Prelude.{◌≡◌, ℕ, ◌+◌, ◌-◌, ◌^◌, ◌<◌, ◌≤◌, ◌==◌, max, Bool, true, false, [], length, IsTrue, OnOk, OnErr, IfOk, if◌then◌else◌};
 ghost use Rattle.std.specs.Prelude.{alloc_error};
 ghost use Rattle.thread_local_model.specs.Held.{is_held, least, with_least, without, HoldsAllBelow};
 
@@ -28,6 +28,9 @@ pub enum LocalError {
 pub struct ThreadIdManager {
     held: Vec<bool>,
     peak: usize,
+    // Each id below the peak that isn't held lies from here on, and before that.
+    free_from: usize,
+    free_to: usize,
 }
 
 impl Model for ThreadIdManager {
@@ -51,6 +54,8 @@ impl ThreadIdManager {
         ThreadIdManager {
             held: Vec::new(alloc),
             peak: 0,
+            free_from: 0,
+            free_to: 0,
         }
     }
 
@@ -85,7 +90,12 @@ impl ThreadIdManager {
         ensures least { result ≡ least self.now.held }
         ensures in_room { result ≤ self.now.room }
     {
-        first_free(&self.held)
+        for id in self.free_from..self.free_to {
+            if !self.held[id] {
+                return id;
+            }
+        }
+        self.peak
     }
 
     // Makes room for the return of the id, where there is none.
@@ -124,6 +134,7 @@ impl ThreadIdManager {
         ensures bounded { self.new.room ≤ 2 ^ 63 - 1 }
     {
         self.held[id] = true;
+        self.free_from = id + 1;
         if id == self.peak {
             self.peak += 1;
         }
@@ -147,19 +158,24 @@ impl ThreadIdManager {
         ensures room { self.new.room ≡ self.old.room }
     {
         self.held[id] = false;
+        let (from, to) = widened(self.free_from, self.free_to, id);
+        self.free_from = from;
+        self.free_to = to;
     }
 }
 
-/// The place of the first entry that is false, or the number of entries.
-fn first_free(held: &[bool]) -> usize
-    ensures { result ≡ least held.now }
+// The least range that has the numbers from `from` up to `to`, and this one.
+fn widened(from: usize, to: usize, number: usize) -> (usize, usize)
+    requires { number < 2 ^ 63 }
+    ensures has { (result.0 ≤ number) × (number < result.1) }
+    ensures keeps { from < to → (result.0 ≤ from) × (to ≤ result.1) }
+    ensures within { result.1 ≤ max to (number + 1) }
 {
-    for (id, held) in held.iter().enumerate() {
-        if !*held {
-            return id;
-        }
+    if from < to {
+        (from.min(number), to.max(number + 1))
+    } else {
+        (number, number + 1)
     }
-    held.len()
 }
 
 #[cfg(test)]
