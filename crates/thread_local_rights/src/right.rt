@@ -1,0 +1,119 @@
+//! The right to an id, and the rights of the ids that are free.
+ghost use Rattle.std.specs.Prelude.{◌≡◌, ◌≢◌, ℕ, ◌==◌, true, false, List, [], if◌then◌else◌};
+ghost use types.Logic.{sem};
+ghost use Rattle.thread_local_rights.specs.Rights.{is_out, right_owns, rights_own};
+
+use std::marker::{Model, PhantomData};
+
+/// The right to one id of one table. No two values are the right to one id of one table.
+///
+/// It takes no bytes. It can't be dropped: it is put back, or forgotten by `std::mem::forget` and then lost for good.
+pub struct Right {
+    marker: PhantomData<()>,
+    pub ghost table: { ℕ },
+    pub ghost id: { ℕ },
+}
+
+impl Model for Right {
+    ghost also_owns = { λ r. right_owns r.table r.id };
+}
+
+/// The rights of a table that are not out: those of all ids but the ones that were taken and not put back.
+///
+/// It takes no bytes.
+pub struct Rights {
+    marker: PhantomData<()>,
+    pub ghost table: { ℕ },
+    pub ghost out: { List ℕ },
+}
+
+impl Model for Rights {
+    ghost also_owns = { λ r. rights_own r.table r.out };
+}
+
+impl Rights {
+    /// All rights of a new table, whose name no other table has.
+    pub fn new() -> Rights
+        ensures { result.out ≡ [] }
+    {
+        Rights {
+            marker: PhantomData,
+        }
+    }
+
+    /// Takes the right to an id out.
+    pub fn take(&mut self, id: usize) -> Right
+        requires { is_out self.old.out id ≡ false }
+        ensures right { (result.table ≡ self.old.table) × (result.id ≡ id) }
+        ensures table { self.new.table ≡ self.old.table }
+        ensures out { (j : ℕ) → is_out self.new.out j ≡ (if id == j then true else is_out self.old.out j) }
+    {
+        Right {
+            marker: PhantomData,
+        }
+    }
+
+    /// Puts a right back, which shows that it was out.
+    pub fn put_back(&mut self, right: Right)
+        requires { right.table ≡ self.old.table }
+        ensures was_out { is_out self.old.out right.id ≡ true }
+        ensures table { self.new.table ≡ self.old.table }
+        ensures out { (j : ℕ) → is_out self.new.out j ≡ (if right.id == j then false else is_out self.old.out j) }
+    {
+        let Right { marker: _ } = right;
+    }
+
+    /// Shows that a right that someone has is out. At run time it does nothing.
+    pub fn lacks(&mut self, right: &mut Right)
+        requires { right.old.table ≡ self.old.table }
+        ensures out { is_out self.old.out right.old.id ≡ true }
+        ensures same { (self.new ≡ self.old) × (right.new ≡ right.old) }
+    {}
+
+    /// Shows that the rights of two tables have two names. At run time it does nothing.
+    pub fn apart(&mut self, other: &mut Rights)
+        ensures tables { self.old.table ≢ other.old.table }
+        ensures same { (self.new ≡ self.old) × (other.new ≡ other.old) }
+    {}
+}
+
+impl Right {
+    /// Shows that two rights of one table are to two ids. At run time it does nothing.
+    pub fn apart(&mut self, other: &mut Right)
+        requires { self.old.table ≡ other.old.table }
+        ensures ids { self.old.id ≢ other.old.id }
+        ensures same { (self.new ≡ self.old) × (other.new ≡ other.old) }
+    {}
+
+    /// Leaves the right with the caller's proof, as for an invariant of its own. At run time it does nothing.
+    pub fn lay_down(self)
+        ensures* { sem 𝓛 (right_owns self.table self.id) }
+    {
+        let Right { marker: _ } = self;
+    }
+
+    /// Makes the right of what `lay_down` left. At run time it does nothing.
+    pub fn take_up() -> Right
+        ghost of: { ℕ × ℕ }
+        requires* { sem 𝓛 (right_owns of.0 of.1) }
+        ensures { (result.table ≡ of.0) × (result.id ≡ of.1) }
+    {
+        Right {
+            marker: PhantomData,
+        }
+    }
+}
+
+impl Drop for Rights {
+    fn drop(self) {
+        let Rights { marker: _ } = self;
+    }
+}
+
+unsafe impl Send for Right {}
+
+unsafe impl Send for Rights {}
+
+unsafe impl Sync for Right {}
+
+unsafe impl Sync for Rights {}
