@@ -3,5 +3,7 @@
 #![tactic(auto)]
 
 pub mod right;
+#[cfg(test)]
+mod tests;
 
 pub use right::{Right, Rights};

@@ -7,7 +7,8 @@ use std::marker::{Model, PhantomData};
 
 /// The right to one id of one table. No two values are the right to one id of one table.
 ///
-/// It takes no bytes. It can't be dropped: it is put back, or forgotten by `std::mem::forget` and then lost for good.
+/// It takes no bytes. One that is dropped or forgotten is lost for good: its id stays out.
+#[derive(Drop)]
 pub struct Right {
     marker: PhantomData<()>,
     pub ghost table: { ℕ },
@@ -21,6 +22,7 @@ impl Model for Right {
 /// The rights of a table that are not out: those of all ids but the ones that were taken and not put back.
 ///
 /// It takes no bytes.
+#[derive(Drop)]
 pub struct Rights {
     marker: PhantomData<()>,
     pub ghost table: { ℕ },
@@ -101,12 +103,6 @@ impl Right {
         Right {
             marker: PhantomData,
         }
-    }
-}
-
-impl Drop for Rights {
-    fn drop(self) {
-        let Rights { marker: _ } = self;
     }
 }
 

@@ -1,0 +1,60 @@
+ghost use Rattle.std.specs.Prelude.{◌≡◌, false};
+ghost use Rattle.thread_local_rights.specs.Rights.{is_out};
+
+use crate::{Right, Rights};
+use std::mem;
+use std::test::Fail;
+
+/// Where a right may stand: in a struct and in an enum.
+#[derive(Drop)]
+enum Place {
+    Taken(Held),
+    Vacant,
+}
+
+#[derive(Drop)]
+struct Held {
+    id: usize,
+    right: Right,
+    ghost own: { right.id ≡ id },
+}
+
+fn hold(rights: &mut Rights, id: usize) -> Held
+    requires { is_out rights.old.out id ≡ false }
+    ensures { (result.id ≡ id) × (result.right.table ≡ rights.old.table) × (rights.new.table ≡ rights.old.table) }
+{
+    let right = rights.take(id);
+    Held { id, right }
+}
+
+#[test]
+fn rights_go_out_and_come_back(rt: HostRuntime) -> Result<(), Fail> {
+    let mut rights = Rights::new();
+    let mut five = rights.take(5);
+    let mut seven = rights.take(7);
+    five.apart(&mut seven);
+    rights.lacks(&mut five);
+    mem::swap(&mut five, &mut seven);
+    rights.put_back(five);
+    rights.put_back(seven);
+    let again = rights.take(5);
+    rights.put_back(again);
+    Ok(())
+}
+
+#[test]
+fn a_right_takes_no_bytes(rt: HostRuntime) {
+    assert_eq!(rt; (mem::size_of::<Right>(), mem::size_of::<Rights>()), (0, 0));
+}
+
+#[test]
+fn a_right_stands_in_a_struct_and_in_an_enum(rt: HostRuntime) {
+    let mut rights = Rights::new();
+    let mut place = Place::Taken(hold(&mut rights, 3));
+    let before = mem::replace(&mut place, Place::Vacant);
+    if let Place::Taken(held) = before {
+        assert_eq!(rt; held.id, 3);
+        mem::forget(held);
+    }
+    drop(place);
+}
