@@ -1,3 +1,5 @@
 pub mod Elements
 mod Facts
+mod Guards
 mod Tokens
+mod Words

@@ -1,1 +1,3 @@
+pub mod Guarded
+pub mod Locking
 pub mod Rights

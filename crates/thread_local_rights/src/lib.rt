@@ -2,8 +2,10 @@
 //! And a lock whose value is tied to the table that it belongs to.
 #![tactic(auto)]
 
+pub mod lock;
 pub mod right;
 #[cfg(test)]
 mod tests;
 
+pub use lock::{Fits, Lock, LockGuard};
 pub use right::{Right, Rights};

@@ -1,0 +1,118 @@
+//! A lock of one word. Whenever it is free its value fits, under a tag that never changes.
+ghost use Rattle.std.specs.Prelude.{◌≡◌, ◌≢◌, ℕ, ◌<◌, IfSome};
+ghost use Rattle.std.specs.Coded.{coded_ℕ};
+ghost use Rattle.thread_local_rights.specs.Locking.{lock_owns, lock_shares, guard_owns, guard_shares, Fitting};
+
+use std::marker::{Brand, Model, Move, Owns, PhantomData};
+use std::sync::Wait;
+use std::sync::atomic::Ordering::SeqCst;
+use std::sync::atomic::raw;
+use std::thread;
+
+mod lends;
+mod word;
+
+use word::exchange;
+
+/// What a lock keeps of its value.
+pub trait Fits {
+    /// What of the value stays as it was when the lock was made.
+    ghost tag: { Self → ℕ };
+
+    /// What holds of the value whenever the lock is free.
+    ghost fits: { Self → Type 0 };
+}
+
+/// The word of a lock that is free.
+const FREE: u64 = 0;
+
+/// The word of a lock that is taken.
+const TAKEN: u64 = 1;
+
+/// A value that one thread at a time writes through a `&`. A contract sees the tag of its value.
+///
+/// A guard that is forgotten leaves the lock taken for good.
+pub struct Lock<V: Fits> {
+    word: u64,
+    value: V,
+}
+
+impl<V: Fits> Owns for Lock<V> {
+    ghost Value = { ℕ };
+
+    ghost coded = { coded_ℕ };
+
+    ghost shr_at = { λ tag p κ. lock_shares V.row (Fitting V.tag V.fits tag) p κ };
+}
+
+impl<V: Fits> Move for Lock<V> {
+    ghost own_val = { λ tag vs. lock_owns V.row (Fitting V.tag V.fits tag) (λ n x. Fields.own_val (record { word = n; value = x }) vs) };
+}
+
+/// The right to a lock's value. Dropping it releases the lock, for which the value has to fit again.
+pub struct LockGuard<'a, V: Fits> {
+    lock: *const Lock<V>,
+    marker: PhantomData<&'a V>,
+    pub ghost tag: { ℕ },
+    pub ghost value: { V } by { V.code },
+}
+
+impl<'a, V: Fits> Model for LockGuard<'a, V> {
+    ghost also_owns = { λ g. guard_owns 'a V.row (Fitting V.tag V.fits g.tag) g.lock g.value };
+
+    ghost also_shares = { λ g _ κ. guard_shares 'a V.row g.lock g.value κ };
+}
+
+impl<V: Fits> Lock<V> {
+    /// A free lock. It takes no memory.
+    pub fn new(value: V) -> Lock<V>
+        requires { V.fits value }
+        ensures { result ≡ V.tag value }
+    {
+        Lock { word: FREE, value }
+    }
+
+    /// The value, of which nothing is known: a guard may have been forgotten.
+    pub fn into_inner(self) -> V {
+        let Self { word: _, value } = self;
+        value
+    }
+
+    /// Takes the lock if it is free.
+    pub fn try_lock(&self) -> Option<LockGuard<'_, V>>
+        ensures tag { IfSome result (λ guard. (guard.tag ≡ self.now) × (V.tag guard.value ≡ self.now)) }
+        ensures fits { IfSome result (λ guard. V.fits guard.value) }
+    {
+        let found = unsafe { exchange::<Brand>(&raw const self.word, FREE, TAKEN) };
+        if found == FREE {
+            Some(LockGuard {
+                lock: self,
+                marker: PhantomData,
+            })
+        } else {
+            None
+        }
+    }
+}
+
+impl<V: Fits + Drop> Drop for Lock<V> {
+    fn drop(self) {
+        drop(self.into_inner());
+    }
+}
+
+impl<V: Fits> Drop for LockGuard<'_, V> {
+    fn drop(self)
+        requires tag { V.tag self.value ≡ self.tag }
+        requires fits { V.fits self.value }
+    {
+        let Self { lock, marker: _ } = self;
+        unsafe { raw::store::<Brand>(&raw const (*lock).word, FREE, SeqCst) };
+    }
+}
+
+unsafe impl<V: Fits + Send> Send for Lock<V> {}
+
+unsafe impl<V: Fits + Send> Sync for Lock<V> {}
+
+unsafe impl<V: Fits + Sync> Sync for LockGuard<'_, V> {}
