@@ -1,5 +1,3 @@
 pub mod Elements
 mod Facts
-mod Guards
 mod Tokens
-mod Words

@@ -1,3 +1,1 @@
-pub mod Guarded
-pub mod Locking
 pub mod Rights

@@ -3,8 +3,8 @@ ghost use Rattle.std.specs.Prelude.{◌≡◌, []};
 ghost use mir.Syntax.{named};
 ghost use types.Logic.{sem};
 ghost use Rattle.std.specs.Borrow.{follows};
-ghost use Rattle.thread_local_rights.specs.contracts.lock.LockGuard.{the_row};
-ghost use Rattle.thread_local_rights.specs.Guarded.{guard_with_value};
+ghost use Rattle.thread_local_lock.specs.contracts.lock.LockGuard.{the_row};
+ghost use Rattle.thread_local_lock.specs.Guarded.{guard_with_value};
 
 use super::{Fits, LockGuard};
 use std::ops::{Deref, DerefMut};

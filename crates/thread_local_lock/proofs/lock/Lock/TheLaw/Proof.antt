@@ -31,11 +31,11 @@ use denote.Struct.Parts.{PartsBack, Struct-parts, shape_of}
 use denote.Struct.Lending.{Law}
 use Rattle.std.specs.Sync.RawAtomic.{word}
 use Rattle.std.proofs.cell.BorrowLemmas.{flag, by_one}
-use Rattle.thread_local_rights.specs.Locking.{Fitting, fact, offset, Sharing, named_value, fitting, with_word, invariant, kept, lock_shares}
-use Rattle.thread_local_rights.specs.declared.lock.Fits.{Ghosts}
-use Rattle.thread_local_rights.specs.contracts.lock.Lock as C
-use Rattle.thread_local_rights.proofs.Words.{word_out, word_in}
-use Rattle.thread_local_rights.proofs.lock.Lock.TheLaw.Statement.{statement}
+use Rattle.thread_local_lock.specs.Locking.{Fitting, fact, offset, Sharing, named_value, fitting, with_word, invariant, kept, lock_shares}
+use Rattle.thread_local_lock.specs.declared.lock.Fits.{Ghosts}
+use Rattle.thread_local_lock.specs.contracts.lock.Lock as C
+use Rattle.thread_local_lock.proofs.Words.{word_out, word_in}
+use Rattle.thread_local_lock.proofs.lock.Lock.TheLaw.Statement.{statement}
 
 module _ {M : Type 1} {𝓤 : Ura M} (𝓛 : Logic 𝓤) (m : Member) (g : Ghosts m.row.Denot) (d : ℕ) (L : Lawful 𝓛 (row_of m)) (b o : ℕ) (κ : Lft) where
   open 𝓛 use {H, A}

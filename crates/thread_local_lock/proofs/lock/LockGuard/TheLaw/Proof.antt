@@ -11,11 +11,11 @@ use denote.Struct.Field.{RawPtr-field}
 use denote.Struct.Laws.{RawPtr-copy, field_copy}
 use denote.Struct.Lending.{of_Lends}
 use Rattle.std.specs.contracts.marker.PhantomData as P
-use Rattle.thread_local_rights.specs.Locking.{Fitting}
-use Rattle.thread_local_rights.specs.declared.lock.Fits.{Ghosts}
-use Rattle.thread_local_rights.specs.contracts.lock.LockGuard as C
-use Rattle.thread_local_rights.proofs.lock.LockGuard.TheLaw.Statement.{statement}
-use Rattle.thread_local_rights.proofs.Guards.{guard_laws, lends_guard}
+use Rattle.thread_local_lock.specs.Locking.{Fitting}
+use Rattle.thread_local_lock.specs.declared.lock.Fits.{Ghosts}
+use Rattle.thread_local_lock.specs.contracts.lock.LockGuard as C
+use Rattle.thread_local_lock.proofs.lock.LockGuard.TheLaw.Statement.{statement}
+use Rattle.thread_local_lock.proofs.Guards.{guard_laws, lends_guard}
 
 pub shares : (a : NamedLft) (T : RattleType) (g : Ghosts T.Denot) (L : Laws T) → statement a T g L
 shares a T g L = of_Lends (C.struct a T g) (C.the_codes T.Denot T.coded (P.the_row (ShrRef a.mir a.lft T)).coded) (C.the_heap a.lft T g) (C.the_lent a.lft T g) (λ d p. guard_laws a.lft T L.shr_laws d.lock d.value)

@@ -1,7 +1,7 @@
 //! A lock of one word. Whenever it is free its value fits, under a tag that never changes.
 ghost use Rattle.std.specs.Prelude.{◌≡◌, ◌≢◌, ℕ, ◌<◌, IfSome};
 ghost use Rattle.std.specs.Coded.{coded_ℕ};
-ghost use Rattle.thread_local_rights.specs.Locking.{lock_owns, lock_shares, guard_owns, guard_shares, Fitting};
+ghost use Rattle.thread_local_lock.specs.Locking.{lock_owns, lock_shares, guard_owns, guard_shares, Fitting};
 
 use std::marker::{Brand, Model, Move, Owns, PhantomData};
 use std::sync::Wait;

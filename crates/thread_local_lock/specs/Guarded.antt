@@ -1,5 +1,5 @@
 use Rattle.std.specs.Prelude.{ℕ}
-use Rattle.thread_local_rights.specs.declared.lock.LockGuard.{LockGuard}
+use Rattle.thread_local_lock.specs.declared.lock.LockGuard.{LockGuard}
 
 -- the guard with another value behind it
 abbrev pub guard_with_value : {X : Type 0} → LockGuard X → X → LockGuard X

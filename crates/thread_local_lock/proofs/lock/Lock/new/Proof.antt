@@ -41,13 +41,13 @@ use Rattle.std.proofs.mem.Param.{El, lawful, Good, one}
 use Rattle.std.proofs.ResultValues.{and_tt}
 use Rattle.std.proofs.raw_atomic.Walks.{proved, proved_at, leaves}
 use Rattle.std.specs.contracts.marker.PhantomData as marker
-use Rattle.thread_local_rights.specs.Locking.{Fitting, offset, Sharing, named_value, held, fitting, with_word, invariant, kept, guarding, lock_shares, guard_owns, guard_shares}
-use Rattle.thread_local_rights.specs.contracts.lock.Lock as lock
-use Rattle.thread_local_rights.specs.contracts.lock.Lock.TheInside as inside
-use Rattle.thread_local_rights.specs.contracts.lock.Lock.new.{ended, clauses}
-use Rattle.thread_local_rights.specs.contracts.lock.Lock.new.Key.{name as #self}
-use Rattle.thread_local_rights.proofs.lock.Lock.new.Statement.{statement}
-use Rattle.thread_local_rights.proofs.lock.Lock.new.Code as code
+use Rattle.thread_local_lock.specs.Locking.{Fitting, offset, Sharing, named_value, held, fitting, with_word, invariant, kept, guarding, lock_shares, guard_owns, guard_shares}
+use Rattle.thread_local_lock.specs.contracts.lock.Lock as lock
+use Rattle.thread_local_lock.specs.contracts.lock.Lock.TheInside as inside
+use Rattle.thread_local_lock.specs.contracts.lock.Lock.new.{ended, clauses}
+use Rattle.thread_local_lock.specs.contracts.lock.Lock.new.Key.{name as #self}
+use Rattle.thread_local_lock.proofs.lock.Lock.new.Statement.{statement}
+use Rattle.thread_local_lock.proofs.lock.Lock.new.Code as code
 
 pub new_spec : {M : Type 1} → statement M
 new_spec 𝓤 𝓛 𝓜 𝓡 wired X L g d _ =

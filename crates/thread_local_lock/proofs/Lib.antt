@@ -1,0 +1,2 @@
+mod Guards
+mod Words
