@@ -1,2 +1,6 @@
+mod Calls
+mod Fields
 mod Guards
+mod Opened
+mod Steps
 mod Words

@@ -2,5 +2,6 @@
 #![tactic(auto)]
 
 pub mod lock;
+mod word;
 
 pub use lock::{Fits, Lock, LockGuard};

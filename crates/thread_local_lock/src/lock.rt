@@ -9,10 +9,9 @@ use std::sync::atomic::Ordering::SeqCst;
 use std::sync::atomic::raw;
 use std::thread;
 
-mod lends;
-mod word;
+use crate::word::exchange;
 
-use word::exchange;
+mod lends;
 
 /// What a lock keeps of its value.
 pub trait Fits {
@@ -28,6 +27,15 @@ const FREE: u64 = 0;
 
 /// The word of a lock that is taken.
 const TAKEN: u64 = 1;
+
+/// The word of a lock that is taken and for which a thread may sleep.
+const AWAITED: u64 = 2;
+
+/// How long a thread sleeps, in nanoseconds, unless it is woken. A thread that went to sleep just before a release may miss the wake.
+const NAP: u64 = 1_000_000;
+
+/// How often a thread tries again, and yields in between, before it sleeps.
+const TRIES: u64 = 100;
 
 /// A value that one thread at a time writes through a `&`. A contract sees the tag of its value.
 ///
@@ -83,7 +91,37 @@ impl<V: Fits> Lock<V> {
         ensures tag { IfSome result (λ guard. (guard.tag ≡ self.now) × (V.tag guard.value ≡ self.now)) }
         ensures fits { IfSome result (λ guard. V.fits guard.value) }
     {
-        let found = unsafe { exchange::<Brand>(&raw const self.word, FREE, TAKEN) };
+        self.take(TAKEN)
+    }
+
+    /// Takes the lock. May wait: it tries for a while, and then sleeps in between.
+    pub fn lock<R: Wait>(&self, rt: &R) -> LockGuard<'_, V>
+        ensures tag { (result.tag ≡ self.now) × (V.tag result.value ≡ self.now) }
+        ensures fits { V.fits result.value }
+    {
+        for _ in 0..TRIES {
+            if let Some(guard) = self.try_lock() {
+                return guard;
+            }
+            thread::yield_now();
+        }
+        for _ in rt.forever() {
+            self.mark();
+            self.sleep(rt);
+            if let Some(guard) = self.take(AWAITED) {
+                return guard;
+            }
+        }
+        unreachable!()
+    }
+
+    /// Takes the lock if it is free, and writes `word`.
+    fn take(&self, word: u64) -> Option<LockGuard<'_, V>>
+        requires { word ≢ 0 }
+        ensures tag { IfSome result (λ guard. (guard.tag ≡ self.now) × (V.tag guard.value ≡ self.now)) }
+        ensures fits { IfSome result (λ guard. V.fits guard.value) }
+    {
+        let found = unsafe { exchange::<Brand>(&raw const self.word, FREE, word) };
         if found == FREE {
             Some(LockGuard {
                 lock: self,
@@ -92,6 +130,16 @@ impl<V: Fits> Lock<V> {
         } else {
             None
         }
+    }
+
+    /// Tells the thread that has the lock that another may sleep.
+    fn mark(&self) {
+        unsafe { exchange::<Brand>(&raw const self.word, TAKEN, AWAITED) };
+    }
+
+    /// Sleeps, unless the lock has been released since `mark`.
+    fn sleep<R: Wait>(&self, rt: &R) {
+        unsafe { raw::park::<Brand, R>(rt, &raw const self.word, AWAITED, 0, NAP) };
     }
 }
 
@@ -107,7 +155,19 @@ impl<V: Fits> Drop for LockGuard<'_, V> {
         requires fits { V.fits self.value }
     {
         let Self { lock, marker: _ } = self;
-        unsafe { raw::store::<Brand>(&raw const (*lock).word, FREE, SeqCst) };
+        unsafe {
+            let word = &raw const (*lock).word;
+            let seen = raw::load::<Brand>(word, SeqCst);
+            raw::store::<Brand>(word, FREE, SeqCst);
+            wake_if(word, seen);
+        }
+    }
+}
+
+/// Wakes a thread that sleeps on the word, if `seen` says that one may.
+unsafe fn wake_if(word: *const u64, seen: u64) {
+    if seen == AWAITED {
+        unsafe { raw::wake_one(word) };
     }
 }
 
