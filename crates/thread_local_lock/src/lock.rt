@@ -107,7 +107,7 @@ impl<V: Fits> Lock<V> {
         }
         for _ in rt.forever() {
             self.mark();
-            self.sleep(rt);
+            self.sleep(rt, NAP);
             if let Some(guard) = self.take(AWAITED) {
                 return guard;
             }
@@ -137,9 +137,9 @@ impl<V: Fits> Lock<V> {
         unsafe { exchange::<Brand>(&raw const self.word, TAKEN, AWAITED) };
     }
 
-    /// Sleeps, unless the lock has been released since `mark`.
-    fn sleep<R: Wait>(&self, rt: &R) {
-        unsafe { raw::park::<Brand, R>(rt, &raw const self.word, AWAITED, 0, NAP) };
+    /// Sleeps for so long at most, unless the lock has been released since `mark`.
+    fn sleep<R: Wait>(&self, rt: &R, nanos: u64) {
+        unsafe { raw::park::<Brand, R>(rt, &raw const self.word, AWAITED, 0, nanos) };
     }
 }
 
