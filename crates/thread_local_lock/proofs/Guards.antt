@@ -15,7 +15,7 @@ use types.Tokens.{bor_open, obor_close, obor_alter}
 use types.Na.{before_dup, before_shorten}
 use denote.RattleType.{RattleType, RowLaws}
 use denote.Memory.{part_at, mem, shared_of}
-use denote.RawPtr.{Ptr, block_ptr, null_ptr}
+use denote.RawPtr.{InBlock, Ptr, block_ptr, null_ptr}
 use denote.Sharing.{ShrLaws, within}
 use denote.SharingLaws.{within_shr_laws, said_shr_laws}
 use denote.Shares.{Shares, settles}
@@ -46,8 +46,8 @@ module _ {M : Type 1} {𝓤 : Ura M} (𝓛 : Logic 𝓤) where
   infix 26 ◌⊢◌
   infixr 35 ◌∗◌
   -- a guard's lock lies somewhere
-  pub placed : (β : Lft) (R : RattleType) (ok : R.Denot → Type 0) (p : Ptr) (x : R.Denot) → ⟦ guard_owns β R ok p x ⟧ ⊢ fact 𝓤 ((at : ℕ × ℕ) × (p ≡ block_ptr at.0 at.1))
-  placed β R ok (block_ptr b o) x = fact_i 𝓤 ((at : ℕ × ℕ) × (block_ptr b o ≡ block_ptr at.0 at.1)) _ ((b, o), refl)
+  pub placed : (β : Lft) (R : RattleType) (ok : R.Denot → Type 0) (p : Ptr) (x : R.Denot) → ⟦ guard_owns β R ok p x ⟧ ⊢ fact 𝓤 (InBlock p)
+  placed β R ok (block_ptr b o) x = fact_i 𝓤 (InBlock (block_ptr b o)) _ tt
   placed β R ok null_ptr x = never_e 𝓤 _
 
   module _ (β : Lft) (R : RattleType) (ok : R.Denot → Type 0) (b o : ℕ) (x : R.Denot) where

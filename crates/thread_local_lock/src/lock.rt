@@ -155,12 +155,10 @@ impl<V: Fits> Drop for LockGuard<'_, V> {
         requires fits { V.fits self.value }
     {
         let Self { lock, marker: _ } = self;
-        unsafe {
-            let word = &raw const (*lock).word;
-            let seen = raw::load::<Brand>(word, SeqCst);
-            raw::store::<Brand>(word, FREE, SeqCst);
-            wake_if(word, seen);
-        }
+        let word = unsafe { &raw const (*lock).word };
+        let seen = unsafe { raw::load::<Brand>(word, SeqCst) };
+        unsafe { raw::store::<Brand>(word, FREE, SeqCst) };
+        unsafe { wake_if(word, seen) };
     }
 }
 
