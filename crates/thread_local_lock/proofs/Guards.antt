@@ -50,6 +50,10 @@ module _ {M : Type 1} {𝓤 : Ura M} (𝓛 : Logic 𝓤) where
   placed β R ok (block_ptr b o) x = fact_i 𝓤 (InBlock (block_ptr b o)) _ tt
   placed β R ok null_ptr x = never_e 𝓤 _
 
+  pub seen : (β : Lft) (R : RattleType) (p : Ptr) (x : R.Denot) (κ : Lft) → ⟦ guard_shares β R p x κ ⟧ ⊢ fact 𝓤 (InBlock p)
+  seen β R (block_ptr b o) x κ = fact_i 𝓤 (InBlock (block_ptr b o)) _ tt
+  seen β R null_ptr x κ = never_e 𝓤 _
+
   module _ (β : Lft) (R : RattleType) (ok : R.Denot → Type 0) (b o : ℕ) (x : R.Denot) where
     abbrev P : Fml
     P = guard_owns β R ok (block_ptr b o) x
