@@ -2,6 +2,8 @@
 #![tactic(auto)]
 
 pub mod lock;
+#[cfg(test)]
+mod tests;
 mod word;
 
 pub use lock::{Fits, Lock, LockGuard};

@@ -143,6 +143,13 @@ impl<V: Fits> Lock<V> {
     }
 }
 
+impl<V: Fits> LockGuard<'_, V> {
+    /// Leaves the lock taken for good, as a guard does that is forgotten.
+    pub fn leave_taken(self) {
+        let Self { lock: _, marker: _ } = self;
+    }
+}
+
 impl<V: Fits + Drop> Drop for Lock<V> {
     fn drop(self) {
         drop(self.into_inner());
