@@ -1,0 +1,10 @@
+//! The ids of a table under its lock, each with its right.
+#![tactic(auto)]
+
+pub mod ids;
+pub mod locked;
+#[cfg(test)]
+mod tests;
+
+pub use ids::{HeldId, Ids};
+pub use locked::LockedIds;

@@ -1,0 +1,50 @@
+//! The ids of a table, for all its threads.
+ghost use Rattle.std.specs.Prelude.{◌≡◌, ℕ, IfOk};
+
+use crate::{HeldId, Ids};
+use std::marker::Model;
+use std::sync::Wait;
+use thread_local_lock::Lock;
+use thread_local_thread_id::LocalError;
+
+/// The ids of a table under a lock. Contracts see the table.
+#[derive(Drop)]
+pub struct LockedIds {
+    ids: Lock<Ids>,
+}
+
+impl Model for LockedIds {
+    ghost Value = { ℕ };
+
+    ghost view = { λ inside. inside.ids };
+}
+
+impl LockedIds {
+    /// Lets several threads take ids and give them back. It takes no memory.
+    pub fn new(ids: Ids) -> LockedIds
+        ensures { result ≡ ids.table }
+    {
+        LockedIds {
+            ids: Lock::new(ids),
+        }
+    }
+
+    /// Takes the least id that isn't held. May wait.
+    pub fn take<R: Wait>(&self, rt: &R) -> Result<HeldId, LocalError>
+        ensures { IfOk result (λ taken. taken.right.table ≡ self.now) }
+    {
+        self.ids.lock(rt).take()
+    }
+
+    /// Takes an id of this table back. May wait, and takes no memory.
+    pub fn give<R: Wait>(&self, rt: &R, held: HeldId)
+        requires { held.right.table ≡ self.now }
+    {
+        self.ids.lock(rt).give(held);
+    }
+
+    /// The ids as they are.
+    pub fn into_inner(self) -> Ids {
+        self.ids.into_inner()
+    }
+}

@@ -1,0 +1,115 @@
+ghost use Rattle.std.specs.Prelude.{◌≡◌, ◌≢◌, ℕ, IfOk};
+
+use crate::{HeldId, Ids, LockedIds};
+use std::mem::{forget, swap};
+use std::sync::Wait;
+use std::sync::atomic::AtomicBool;
+use std::sync::atomic::Ordering::SeqCst;
+use std::test::Fail;
+use std::thread;
+use std::thread::Threads;
+use thread_local_thread_id::LocalError;
+
+/// Two ids of one table are two.
+fn take_two(ids: &mut Ids) -> Result<(HeldId, HeldId), LocalError>
+    ensures { IfOk result (λ two. two.0.id ≢ two.1.id) }
+{
+    let mut first = ids.take()?;
+    let mut second = ids.take()?;
+    first.right.apart(&mut second.right);
+    Ok((first, second))
+}
+
+/// Takes an id and gives it back so many times. Answers how often another thread had the same id at that moment, or whether there was
+/// no memory for one.
+fn take_and_give<R: Wait>(
+    ids: &LockedIds,
+    rt: &R,
+    used: &[AtomicBool; 4],
+    times: u64,
+) -> Result<u64, LocalError> {
+    let mut shared = 0u64;
+    for _ in 0..times {
+        let held = ids.take(rt)?;
+        if let Some(mark) = used.get(held.id) {
+            if mark.swap(true, SeqCst) {
+                shared = shared.saturating_add(1);
+            }
+            mark.store(false, SeqCst);
+        } else {
+            shared = shared.saturating_add(1);
+        }
+        ids.give(rt, held);
+    }
+    Ok(shared)
+}
+
+#[test]
+fn an_id_is_held_once(rt: HostRuntime) -> Result<(), Fail> {
+    let mut ids = Ids::new(rt.alloc());
+    let (first, second) = take_two(&mut ids)?;
+    assert_eq!(rt; (first.id, second.id), (0, 1));
+    Ok(())
+}
+
+#[test]
+fn threads_hold_unlike_ids(rt: HostRuntime) -> Result<(), Fail> {
+    let ids = LockedIds::new(Ids::new(rt.alloc()));
+    let used = [
+        AtomicBool::new(false),
+        AtomicBool::new(false),
+        AtomicBool::new(false),
+        AtomicBool::new(false),
+    ];
+    let (there, marks) = (&ids, &used);
+    let run = || take_and_give(there, &rt, marks, 10_000);
+    let (a, b) = thread::join(
+        &rt,
+        || thread::join(&rt, run, run),
+        || thread::join(&rt, run, run),
+    );
+    for shared in [a.0, a.1, b.0, b.1] {
+        assert_eq!(rt; shared, Ok(0));
+    }
+    let ids = ids.into_inner();
+    for id in 0..4 {
+        assert!(rt; !ids.is_held(id));
+    }
+    Ok(())
+}
+
+#[test]
+fn held_ids_are_swapped_moved_and_forgotten(rt: HostRuntime) -> Result<(), Fail> {
+    let ids = LockedIds::new(Ids::new(rt.alloc()));
+    let mut first = ids.take(&rt)?;
+    let mut second = ids.take(&rt)?;
+    let third = ids.take(&rt)?;
+    swap(&mut first, &mut second);
+    assert_eq!(rt; (first.id, second.id, third.id), (1, 0, 2));
+    let there = &ids;
+    let (_, id) = thread::join(
+        &rt,
+        || there.give(&rt, first),
+        || {
+            let id = second.id;
+            there.give(&rt, second);
+            id
+        },
+    );
+    assert_eq!(rt; id, 0);
+    forget(third);
+    let again = ids.take(&rt)?;
+    assert_eq!(rt; again.id, 0);
+    ids.give(&rt, again);
+    let ids = ids.into_inner();
+    assert_eq!(rt;
+        (
+            ids.is_held(0),
+            ids.is_held(1),
+            ids.is_held(2),
+            ids.is_held(3)
+        ),
+        (false, false, true, false)
+    );
+    Ok(())
+}
