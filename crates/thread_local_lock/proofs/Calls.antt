@@ -1,5 +1,5 @@
 -- A call of the word's exchange at `Brand`, with the outcome that the caller's proof picks. Assumes `Logic`.
-use Rattle.std.proofs.Common.{ap, ◌≡◌, ℕ, ◌^◌, ◌<◌, List, [], ◌∷◌, sym, refl, w64, eqb}
+use Rattle.std.proofs.Common.{ap, ℕ, ◌^◌, ◌<◌, List, [], ◌∷◌, sym, refl, w64, eqb}
 use seplogic.Ra.Ura.{Ura}
 use mir.Syntax.{Callee, Dict, a_type, dcons, dnil}
 use mir.Val.{Val, vint, vptr, vunit}

@@ -1,28 +1,28 @@
 -- A guard's right to the value, taken apart and lent. Assumes `Logic`.
-use Rattle.std.proofs.Common.{◌≡◌, ℕ, ◌+◌, List, [], ◌∷◌, ◌++◌, refl}
+use Rattle.std.proofs.Common.{ℕ, ◌+◌, [], ◌∷◌, ◌++◌}
 use seplogic.Ra.Ura.{Ura}
 use base.Share
 use base.Fraction.{full_share}
-use base.Logic.{SProp, ent, sep, wand, ex, upd_i, never_e, apply∗, id⊢}
-use base.Fml.{Lft, GName, Share, Incl, Fml, ftrue, ffalse, fsep, fseps, fex, fwand, fupd, fdead, fbor, flft, finv, fobs, Incl-refl, Incl-trans}
+use base.Logic.{SProp, ent, sep, upd_i, never_e, id⊢}
+use base.Fml.{Lft, Share, Incl, Fml, ftrue, ffalse, fsep, fseps, fwand, fupd, fdead, fbor, flft, fobs, Incl-refl, Incl-trans}
 use base.Before.{before}
 use contract.Monad.{fact, fact_i}
 use contract.BorrowLft.{meet_⊑_left, meet_⊑_right, ⊑_meet}
-use ghost.Rules.{Toks, span}
+use ghost.Rules.{span}
 use types.Logic.{Logic, sem, lfts}
-use types.Kit.{‵, raw, ◌⊛◌, some, later, ◌$◌, ◌∵◌, !, qed, by, move, keep, drop, use1, use2, use3, split, split3, fsplit, fjoin, fjoin3, fpick, fpack, assume, suffices, await, updating, now, done}
+use types.Kit.{‵, raw, ◌⊛◌, later, ◌$◌, ◌∵◌, !, qed, move, keep, drop, use1, use2, use3, split, split3, fsplit, fjoin, fjoin3, fpick, fpack, assume, suffices, await, updating, now, done}
 use types.Tokens.{bor_open, obor_close, obor_alter}
 use types.Na.{before_dup, before_shorten}
 use denote.RattleType.{RattleType, RowLaws}
 use denote.Memory.{part_at, mem, shared_of}
 use denote.RawPtr.{InBlock, Ptr, block_ptr, null_ptr}
-use denote.Sharing.{ShrLaws, within}
+use denote.Sharing.{ShrLaws}
 use denote.SharingLaws.{within_shr_laws, said_shr_laws}
 use denote.Shares.{Shares, settles}
 use denote.Steps.{nothing}
 use denote.Struct.Lending.{Lends, Lends-false}
 use Rattle.std.proofs.cell.BorrowLemmas.{by_one, unnest_before}
-use Rattle.thread_local_lock.specs.Locking.{offset, Sharing, named_value, held, invariant, kept, guarding, guard_owns, guard_shares}
+use Rattle.thread_local_lock.specs.Locking.{offset, Sharing, named_value, kept, guarding, guard_owns, guard_shares}
 
 pub guard_laws : (β : Lft) (R : RattleType) → RowLaws R → (p : Ptr) (x : R.Denot) → ShrLaws (guard_shares β R p x)
 guard_laws β R L (block_ptr b o) x = within_shr_laws β (shared_of R x b (o + offset R)) (L x b (o + offset R))

@@ -3,11 +3,11 @@ use Rattle.std.proofs.Common.{◌≡◌, ℕ, ◌+◌, [], ◌∷◌, sym, refl,
 use seplogic.Ra.Ura.{Ura}
 use base.Fraction.{full_share}
 use base.Logic.{SProp, ent, sep, ex}
-use base.Fml.{Lft, GName, Share, Incl, Fml, fsep, fobs, fbor, finv}
+use base.Fml.{Lft, GName, Share, Incl, Fml, fobs, fbor, finv}
 use base.Before.{before}
 use types.Logic.{Logic, sem}
 use types.SemTy.{Body}
-use types.Kit.{‵, raw, ◌⊛◌, ◌$◌, ◌∵◌, !, qed, by, move, use1, split, fsplit, fjoin, fpick, fpack, group, show, rewrite, done}
+use types.Kit.{‵, ◌⊛◌, ◌$◌, ◌∵◌, !, qed, by, move, use1, split, fsplit, fjoin, fpick, fpack, show, rewrite, done}
 use denote.RattleType.{RattleType}
 use denote.Memory.{mem, part_at}
 use denote.Ref.{NamedLft}
@@ -16,7 +16,7 @@ use denote.Struct.OwningLaws.{part_out, part_in}
 use Rattle.std.proofs.cell.Through.{Handed, hands_before}
 use Rattle.thread_local_lock.specs.declared.lock.Fits.{Ghosts}
 use Rattle.thread_local_lock.specs.Guarded.{guard_with_value}
-use Rattle.thread_local_lock.specs.Locking.{Fitting, offset, Sharing, named_value, held, invariant, kept, guarding, guard_owns}
+use Rattle.thread_local_lock.specs.Locking.{Fitting, offset, Sharing, named_value, invariant, guarding, guard_owns}
 use Rattle.thread_local_lock.specs.contracts.lock.LockGuard as guard
 use Rattle.thread_local_lock.proofs.Fields.{Words}
 

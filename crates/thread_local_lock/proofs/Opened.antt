@@ -3,7 +3,7 @@
 use Rattle.std.proofs.Common.{ℕ, List, [], ◌∷◌}
 use mathlib.Core.List.{Mem, not-mem-nil}
 use seplogic.Ra.Ura.{Ura}
-use base.Logic.{SProp, ent, sep, wand, ex, all, guard, upd, apply∗, ex_i, upd_i}
+use base.Logic.{SProp, ent, sep, wand, ex, guard, upd, apply∗, ex_i, upd_i}
 use base.Fml.{Lft, Share, Fml, fsep, flft, fbor, finv, fnamed}
 use types.Logic.{Logic, sem}
 use types.Kit.{‵, raw, ◌⊛◌, some, ◌$◌, ◌∵◌, !, qed, move, split, join, pick, show, check, frame, each, assume, suffices, settle, done, use1, use2}

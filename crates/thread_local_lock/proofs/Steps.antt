@@ -1,13 +1,13 @@
 -- What the walks over the lock's word share. Assumes `Logic`.
-use Rattle.std.proofs.Common.{◌≢◌, ℕ, zero, suc, ◌+◌, List, [], ◌∷◌, refl, eqb, Bool, true, false, sym}
+use Rattle.std.proofs.Common.{◌≢◌, ℕ, zero, suc, ◌+◌, [], ◌∷◌, refl, eqb, Bool, true, false, sym}
 use Rattle.std.proofs.Math.Dec.{eqb-zero-suc}
 use seplogic.Ra.Ura.{Ura}
 use mir.Syntax.{Body, seq, call, return, skip, assign, block, loop, cond, switch, exit, unreachable, lend_static, call_v}
-use base.Logic.{SProp, ent, sep, ex, upd, emp, upd_i}
-use base.Fml.{Share, Fml, ftrue, fsep, flft, fbor, finv}
+use base.Logic.{SProp, ent, sep, ex, emp, upd_i}
+use base.Fml.{Share, Fml, ftrue, fsep, flft, fbor}
 use prog.Atomic.{either}
 use types.Logic.{Logic, sem}
-use types.Kit.{‵, by, rewrite, use0, use2, raw, ◌⊛◌, some, ◌$◌, ◌∵◌, !, qed, move, keep, drop, split, join, fsplit, fjoin, fpick, fpack, pick, show, assume, suffices, settle, frame, use1, done}
+use types.Kit.{‵, rewrite, use0, use2, ◌$◌, ◌∵◌, !, qed, move, keep, drop, fsplit, fjoin, fpick, fpack, show, assume, suffices, frame, use1, done}
 use denote.RattleType.{RattleType}
 use denote.Steps.{nothing}
 use denote.RawPtr.{block_ptr}

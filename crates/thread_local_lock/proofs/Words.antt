@@ -5,7 +5,7 @@ use mir.Syntax.{ty_int}
 use mir.Val.{Val, vint, has_ty, WT}
 use base.Fraction.{full_share}
 use base.Logic.{ent}
-use base.Fml.{Fml, fat}
+use base.Fml.{fat}
 use types.Logic.{Logic, sem}
 use types.Kit.{‵, given, ◌$◌, ◌∵◌, !, qed, move, keep, rewrite, fsplit, fjoin, learn, use1, feq_l, feq_i, flt_i, done}
 use denote.Memory.{part_at}

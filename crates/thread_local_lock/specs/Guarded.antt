@@ -1,4 +1,3 @@
-use Rattle.std.specs.Prelude.{ℕ}
 use Rattle.thread_local_lock.specs.declared.lock.LockGuard.{LockGuard}
 
 -- the guard with another value behind it

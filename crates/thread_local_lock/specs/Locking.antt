@@ -3,8 +3,7 @@
 -- under the name γ, which tracks it, and that the value fits. A guard has that right, and gives it back with a value that fits.
 -- Where the lock isn't shared, γ says that a value fits if the word is 0. So a guard that was forgotten does no harm.
 use Rattle.std.specs.Prelude.{◌≡◌, ℕ, zero, suc, ◌+◌}
-use base.Fml.{Lft, GName, Fml, ftrue, ffalse, fsep, fex, fobs, fbor, finv}
-use base.Before.{before}
+use base.Fml.{Lft, GName, Fml, ftrue, ffalse, fsep, fex, fobs, fbor}
 use prog.Memory.{up, align}
 use types.SemTy.{Body}
 use denote.RattleType.{RattleType}

@@ -3,13 +3,12 @@ ghost use Rattle.std.specs.Prelude.{◌≡◌, ◌≢◌, ℕ, ◌<◌, IfSome};
 ghost use Rattle.std.specs.Coded.{coded_ℕ};
 ghost use Rattle.thread_local_lock.specs.Locking.{lock_owns, lock_shares, guard_owns, guard_shares, Fitting};
 
+use crate::word::exchange;
 use std::marker::{Brand, Model, Move, Owns, PhantomData};
 use std::sync::Wait;
 use std::sync::atomic::Ordering::SeqCst;
 use std::sync::atomic::raw;
 use std::thread;
-
-use crate::word::exchange;
 
 mod lends;
 
@@ -63,6 +62,8 @@ pub struct LockGuard<'a, V: Fits> {
     marker: PhantomData<&'a V>,
     pub ghost tag: { ℕ },
     pub ghost value: { V } by { V.code },
+    // What a `&mut` to the lock follows, where the guard was made of one.
+    pub ghost name: { ℕ },
 }
 
 impl<'a, V: Fits> Model for LockGuard<'a, V> {

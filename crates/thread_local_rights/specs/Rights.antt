@@ -1,5 +1,5 @@
 -- The right to an id is an element that one holder at a time has, at the id's key under the table's name.
-use Rattle.std.specs.Prelude.{ℕ, ◌==◌, ◌||◌, Bool, true, false, not, List, [], ◌∷◌, if◌then◌else◌}
+use Rattle.std.specs.Prelude.{ℕ, ◌==◌, Bool, true, false, not, List, [], ◌∷◌, if◌then◌else◌}
 use mathlib.Core.Option.{Option, none, some}
 use base.Fml.{Fml, fown}
 use types.Keyed.{keyed, token}

@@ -3,10 +3,12 @@ ghost use Rattle.std.specs.Prelude.{◌≡◌, []};
 ghost use mir.Syntax.{named};
 ghost use types.Logic.{sem};
 ghost use Rattle.std.specs.Borrow.{follows};
+ghost use Rattle.thread_local_lock.specs.contracts.lock.Lock.{the_row as lock_row};
 ghost use Rattle.thread_local_lock.specs.contracts.lock.LockGuard.{the_row};
 ghost use Rattle.thread_local_lock.specs.Guarded.{guard_with_value};
 
-use super::{Fits, LockGuard};
+use super::{Fits, Lock, LockGuard, TAKEN};
+use std::marker::PhantomData;
 use std::ops::{Deref, DerefMut};
 
 impl<V: Fits> Deref for LockGuard<'_, V> {
@@ -29,5 +31,20 @@ impl<V: Fits> DerefMut for LockGuard<'_, V> {
         ensures value { result.now ≡ self.old.value }
     {
         unsafe { &mut *(&raw const (*self.lock).value as *mut V) }
+    }
+}
+
+impl<V: Fits> Lock<V> {
+    /// The right to the value, even where a guard has left the lock taken. Nothing is known of the value. Once it fits, dropping the guard
+    /// leaves the lock free.
+    pub fn get_mut(&mut self) -> LockGuard<'_, V>
+        ensures* same { sem 𝓛 (follows (lock_row V.row V.Fits) (lock_row V.row V.Fits) self.entry.ghost_name result.name (λ _. self.old)) }
+        ensures tag { result.tag ≡ self.old }
+    {
+        self.word = TAKEN;
+        LockGuard {
+            lock: self,
+            marker: PhantomData,
+        }
     }
 }

@@ -1,20 +1,18 @@
 -- `exchange` calls the step, and reads the word off its result.
-use Rattle.std.proofs.Common.{T, ◌≡◌, ℕ, ◌^◌, ◌<◌, List, [], ◌∷◌, sym, refl, ap, subst, lit<, w64, eqb}
+use Rattle.std.proofs.Common.{T, ◌≡◌, ℕ, ◌^◌, List, [], ◌∷◌, sym, refl, ap, lit<, w64, eqb}
 use mir.Syntax.{dcons, dnil, a_type, ty_ptr}
-use mir.Val.{Val, vint, of_list, has_ty, WT}
+use mir.Val.{Val, vint, has_ty, WT}
 use mir.MapTy.{inst_fn}
-use base.Logic.{SProp, ent, sep, emp, id⊢}
+use base.Logic.{SProp, emp, id⊢}
 use base.Fml.{Lft, Share, Fml, ftrue, fsep, flft}
-use prog.Wp.{Env, WpFn}
+use prog.Wp.{Env}
 use prog.Atomic.{either}
-use types.Logic.{sem}
 use types.Kit.{Item, ‵, raw, ◌⊛◌, some, later, at_ret, ◌$◌, ◌∵◌, !, qed, by, move, keep, drop, split, join, fsplit, fjoin, pick, use0, use1, await, rewrite, feq_i, feq_l, flt_i, flt_l}
 use types.Run.{lit, of_opd, no_more, and_then, first, blocks, exec, returns, enter}
 use types.Part.{agg}
 use types.ByLocal.{alloc_all, pass_all, free_all, look_at, get, sets, lands_as, lands_last, env}
 use contract.Running.{tables}
 use contract.Monad.{fact, fact_i}
-use contract.BorrowLft.{◌⊑◌}
 use denote.Exit.{yes}
 use denote.RattleType.{RattleType, owns}
 use denote.Laws.{Is, shows}
@@ -29,7 +27,6 @@ use denote.Steps.{nothing, only, peeks, heard}
 use denote.Struct.Laws.{u64-laws, u64-copy}
 use denote.Struct.Field.{u64-field}
 use denote.Triple.Call.{calls_at, calls_at_last}
-use denote.Triple.Entry.{alive}
 use denote.Triple.Spec.{triple_of}
 use denote.Triple.Walked.{Stays, stay_dropped, walk_of, Goes-dropped}
 use Rattle.std.proofs.raw_atomic.Walks.{proved, leaves}
@@ -83,7 +80,7 @@ exchange_spec 𝓤 𝓛 𝓜 𝓡 wired Y laws g d met' =
     calls_at_last ! (fm 𝓛 𝓜 𝓡) called (met 𝓤 𝓛 𝓜 𝓡 (code.calls-std::sync::atomic::raw::compare_exchange 𝓡.env wired) Y laws g d met') y
     (and_then ! (get ! refl) (and_then ! (get ! refl) (and_then ! (get ! refl) (and_then ! (get ! refl) (and_then ! (get ! refl) (no_more !)))))) (λ v.
     use1 𝓛 (later (some (λ (r : Res.Denot). (ts ⊛ ‵ (Res.own_val r (v ∷ []))) ⊛ some (λ (_ : Unit {0} × (Unit {0} × (Unit {0} × (Unit {0} × (Unit {0} × Unit {0}))))).
-        ‵ (fsep ftrue (fsep ftrue (fsep ftrue (fsep ftrue (fsep ftrue ftrue))))) ⊛ (raw (fact 𝓤 (MatchResult r (λ n. n ≡ old) (λ n. n ≡ old → ⊥))) ⊛ ‵ (g.after (word_found r))))))) (id⊢ 𝓤 (called.post y v)) $
+    ‵ (fsep ftrue (fsep ftrue (fsep ftrue (fsep ftrue (fsep ftrue ftrue))))) ⊛ (raw (fact 𝓤 (MatchResult r (λ n. n ≡ old) (λ n. n ≡ old → ⊥))) ⊛ ‵ (g.after (word_found r))))))) (id⊢ 𝓤 (called.post y v)) $
     await ! tt $ pick ! (λ r. split ! $ split ! $ move ! (2 ∷ []) $ pick ! (λ _. split ! $ drop ! $ split ! $ drop ! $ move ! (2 ∷ []) $ peeks ! Res (Is Res) (shows 𝓛 Res) r (v ∷ []) (λ is.
     -- [the answer; the outcome; the tokens]
     let gv = (((result_laws u64 u64 word_laws word_laws).lawful 𝓛).typed r (v ∷ []) is).0 in let j : read.Ghost = ((tt, tt, tt, (r, tt), (v ∷ [], tt)), tt) in

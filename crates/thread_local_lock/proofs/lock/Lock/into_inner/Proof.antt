@@ -1,49 +1,28 @@
 -- `into_inner` takes the value out, whatever the word is.
-use Rattle.std.proofs.Common.{◌≡◌, ℕ, zero, suc, ◌+◌, ◌^◌, ◌<◌, ◌&&◌, T, true, List, [], ◌∷◌, ◌++◌, sym, refl, ap, ◌∙◌, subst, lit<, w64, eqb, Option, Some, None}
-use mir.Syntax.{dcons, dnil, a_type, named}
-use mir.Val.{Val, vunit, vint, vptr, vstruct, vcons, vnil, of_list, has_ty, WT}
+use Rattle.std.proofs.Common.{◌≡◌, ◌&&◌, T, true, List, [], ◌∷◌, ◌++◌, sym, refl, ◌∙◌, subst, w64}
+use mir.Syntax.{dcons, dnil, a_type}
+use mir.Val.{Val, vint, vstruct, vcons, vnil, of_list, has_ty}
 use mir.MapTy.{inst_fn}
-use base.Fraction.{full_share}
-use base.Logic.{SProp, ent, sep, wand, emp, id⊢, via, apply∗, guard_i}
-use base.Fml.{Lft, Share, Fml, ftrue, fsep, fex, feq, fall, flft, fhide, fbor, finv, fobs, Incl-refl}
-use base.Before.{before}
+use base.Logic.{SProp, ent, id⊢}
+use base.Fml.{ftrue, fsep}
 use prog.Wp.{WpFn}
-use types.Logic.{sem}
-use types.Kit.{‵, raw, ◌⊛◌, some, given, later, mean, at_ret, ◌$◌, ◌∵◌, !, qed, by, move, keep, drop, split, split3, join, fsplit, fsplit3, fjoin, fjoin3, fpick, fpack, pick, learn, use0, use1, use2, use3, await, rewrite, feq_i, feq_l, flt_i, flt_l, suffices}
-use types.Run.{stop, fld, hop, load, addr, lit, unit_lit, of_opd, bin, no_more, and_then, first, blocks, branches, exec, assigns, Calls-last, returns, enter}
-use types.ByLocal.{alloc_all, pass_all, free_all, look_at, get, get_in, through, sets, sets_last, lands_last, is, env}
-use types.Part.{agg, sub, whole, look_in}
-use types.Match.{live}
-use types.Tokens.{bor_open, obor_close}
-use types.Na.{before_dup}
+use types.Kit.{‵, raw, ◌⊛◌, ◌$◌, ◌∵◌, !, qed, by, move, keep, drop, split, fsplit, fsplit3, fjoin, fpick, rewrite, feq_l, flt_l, suffices}
+use types.Run.{stop, fld, of_opd, returns, enter}
+use types.ByLocal.{alloc_all, pass_all, free_all, look_at, get, get_in, sets}
+use types.Part.{sub, whole}
 use contract.Running.{tables}
-use contract.Monad.{fact, fact_i, fact_use}
-use contract.BorrowLft.{◌⊑◌, ⊑_meet}
-use contract.Shared.{Lends-one}
-use denote.Exit.{yes, no}
-use denote.RattleType.{RattleType, Valss, owns}
-use denote.Signature.{types_at, plain, named_lft}
-use denote.RawPtr.{Ptr, InBlock, block_ptr, ptr_val, block_of, count_of, at_block}
-use denote.Steps.{nothing, only, peeks, heard, looks, shuts}
-use denote.Opens.{unhide}
-use denote.Laws.{Is, shows, Typed}
-use denote.Memory.{part_of, part_at, cell_at, hidden_shr, shared_of}
+use denote.Exit.{no}
+use denote.RattleType.{RattleType}
+use denote.Signature.{plain}
+use denote.Steps.{nothing, peeks}
+use denote.Laws.{Is, shows}
 use denote.Param.{param, layout, bounded}
-use denote.Param.Laws.{param_laws}
-use denote.Builtin.{RefOf, u64}
-use denote.Ref.{shr_vals, shr_Tells}
-use denote.SharingLaws.{shortens}
-use denote.Struct.Lending.{lent_out}
-use denote.Struct.Struct.{within}
 use denote.Triple.Entry.{alive}
 use denote.Triple.Walked.{Stays, stay_dropped, walk_of, Goes-dropped}
 use Rattle.std.proofs.mem.Param.{El, lawful, Good, one}
 use Rattle.std.proofs.ResultValues.{and_tt}
-use Rattle.std.proofs.raw_atomic.Walks.{proved, proved_at, leaves}
-use Rattle.std.specs.contracts.marker.PhantomData as marker
-use Rattle.thread_local_lock.specs.Locking.{Fitting, offset, Sharing, named_value, held, fitting, with_word, invariant, kept, guarding, lock_shares, guard_owns, guard_shares}
+use Rattle.std.proofs.raw_atomic.Walks.{proved_at, leaves}
 use Rattle.thread_local_lock.specs.contracts.lock.Lock as lock
-use Rattle.thread_local_lock.specs.contracts.lock.Lock.TheInside as inside
 use Rattle.thread_local_lock.specs.contracts.lock.Lock.into_inner.{ended, clauses}
 use Rattle.thread_local_lock.specs.contracts.lock.Lock.into_inner.Key.{name as #self}
 use Rattle.thread_local_lock.proofs.lock.Lock.into_inner.Statement.{statement}

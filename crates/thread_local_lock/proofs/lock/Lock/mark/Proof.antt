@@ -1,47 +1,33 @@
 -- `mark` is one exchange, after which the word is TAKEN or AWAITED where it was so before.
-use Rattle.std.proofs.Common.{◌≡◌, ◌≢◌, ℕ, zero, suc, ◌+◌, ◌^◌, ◌<◌, T, List, [], ◌∷◌, ◌++◌, sym, refl, ap, ◌∙◌, subst, lit<, w64, eqb, eqb→eq, Option, Some, None, IfSome}
+use Rattle.std.proofs.Common.{ℕ, ◌+◌, List, [], ◌∷◌, refl, lit<, w64}
 use Rattle.std.proofs.Math.Nat.{suc-ne-zero}
-use mir.Syntax.{Body, dcons, dnil, a_type, named}
-use mir.Val.{Val, vunit, vint, vptr, vcons, vnil}
+use mir.Syntax.{dcons, dnil, a_type, named}
+use mir.Val.{Val, vunit, vint, vptr}
 use mir.MapTy.{inst_fn}
-use base.Logic.{SProp, ent, sep, wand, emp, id⊢, via, apply∗}
-use base.Fml.{Lft, Share, Fml, ftrue, fsep, fex, flft, fbor, finv}
-use base.Before.{before}
-use prog.Wp.{WpFn}
-use prog.Atomic.{either}
-use types.Logic.{sem}
-use types.Kit.{‵, raw, ◌⊛◌, some, later, mean, at_ret, ◌$◌, ◌∵◌, !, qed, by, move, keep, drop, split, join, fsplit, fjoin, fpick, fpack, pick, use0, use1, use2, use3, await, rewrite, feq_i, flt_i}
-use types.Run.{stop, fld, addr, lit, unit_lit, of_opd, bin, no_more, and_then, first, blocks, branches, exec, Calls-last, returns, enter}
-use types.ByLocal.{alloc_all, pass_all, free_all, look_at, get, through, sets, sets_last, lands_last, env}
-use types.Part.{agg}
-use types.Match.{live}
-use types.Na.{before_dup}
+use base.Logic.{SProp, wand, via, apply∗}
+use base.Fml.{Lft, Share, Fml, ftrue, fsep, flft, fbor}
+use types.Kit.{‵, raw, ◌⊛◌, some, later, mean, at_ret, ◌$◌, ◌∵◌, !, qed, by, move, keep, drop, split, join, fsplit, fjoin, fpick, pick, use2, use3, await, feq_i}
+use types.Run.{stop, fld, addr, lit, unit_lit, of_opd, no_more, and_then, first, blocks, exec, Calls-last, returns, enter}
+use types.ByLocal.{alloc_all, pass_all, free_all, look_at, get, through, sets, lands_last, env}
 use contract.Running.{tables}
-use contract.Monad.{fact, fact_i}
 use contract.Shared.{Lends-one}
 use denote.Exit.{yes}
 use denote.RattleType.{RattleType, owns}
-use denote.Signature.{types_at, plain, named_lft}
-use denote.RawPtr.{Ptr, block_ptr}
-use denote.Steps.{nothing, heard}
+use denote.Signature.{types_at, plain}
+use denote.RawPtr.{block_ptr}
+use denote.Steps.{nothing}
 use denote.Opens.{unhide}
 use denote.Param.{param, bounded}
-use denote.Builtin.{RefOf, u64}
+use denote.Builtin.{RefOf}
 use denote.Ref.{shr_vals, shr_Tells}
-use denote.Plain.{uint_vals, uint_Tells}
-use denote.Triple.Entry.{Res, alive}
 use denote.Triple.Walked.{Stays, stay_dropped, walk_of, Goes-dropped}
-use Rattle.std.proofs.option.Made.{Some-of, none_of}
 use Rattle.std.proofs.raw_atomic.Walks.{proved, leaves}
 use Rattle.std.proofs.raw_atomic.Calls.{fm, found, finds}
-use Rattle.std.specs.contracts.option.Option as Opt
-use Rattle.thread_local_lock.specs.Locking.{Fitting, Sharing, held, fitting, with_word, invariant, kept, guarding}
+use Rattle.thread_local_lock.specs.Locking.{Fitting, invariant}
 use Rattle.thread_local_lock.specs.contracts.lock.Lock as lock
-use Rattle.thread_local_lock.specs.contracts.lock.LockGuard as guard
 use Rattle.thread_local_lock.specs.contracts.lock.Lock.mark.{ended, clauses}
 use Rattle.thread_local_lock.specs.contracts.lock.Lock.mark.Key.{name as #self}
 use Rattle.thread_local_lock.proofs.Steps.{tail, gained, exchanged}
-use Rattle.thread_local_lock.proofs.Fields.{guard_of, Words, made}
 use Rattle.thread_local_lock.proofs.Calls.{exchanges}
 use Rattle.thread_local_lock.proofs.lock.Lock.mark.Statement.{statement}
 use Rattle.thread_local_lock.proofs.lock.Lock.mark.Code as code

@@ -1,48 +1,36 @@
 -- `sleep` parks on the word.
-use Rattle.std.proofs.Common.{◌≡◌, ◌≢◌, ℕ, zero, suc, ◌+◌, ◌^◌, ◌<◌, T, List, [], ◌∷◌, ◌++◌, sym, refl, ap, ◌∙◌, subst, lit<, w64, eqb, eqb→eq, Option, Some, None, IfSome}
-use mir.Syntax.{Body, dcons, dnil, a_type, named}
-use mir.Val.{Val, vunit, vint, vptr, vcons, vnil}
+use Rattle.std.proofs.Common.{ℕ, ◌+◌, List, [], ◌∷◌, refl, lit<, w64}
+use mir.Syntax.{dcons, dnil, a_type, named}
+use mir.Val.{Val, vunit, vint, vptr}
 use mir.MapTy.{inst_fn}
-use base.Logic.{SProp, ent, sep, wand, emp, id⊢, via, apply∗}
-use base.Fml.{Lft, Share, Fml, ftrue, fsep, fex, flft, fbor, finv}
-use base.Before.{before}
-use prog.Wp.{WpFn}
-use prog.Atomic.{either}
-use types.Logic.{sem}
-use types.Kit.{‵, raw, ◌⊛◌, some, later, mean, at_ret, ◌$◌, ◌∵◌, !, qed, by, move, keep, drop, group, fsplit3, split, split3, join, fsplit, fjoin, fpick, fpack, pick, use0, use1, use2, use3, await, rewrite, feq_i, flt_i}
-use types.Run.{stop, fld, addr, lit, unit_lit, of_opd, bin, no_more, and_then, first, blocks, branches, exec, Calls-last, returns, enter}
-use types.ByLocal.{alloc_all, pass_all, free_all, look_at, get, through, sets, sets_last, lands_last, env}
-use types.Part.{agg}
-use types.Match.{live}
-use types.Na.{before_dup}
+use base.Logic.{SProp, wand, apply∗}
+use base.Fml.{Lft, Share, Fml, ftrue, fsep, flft}
+use types.Kit.{‵, raw, ◌⊛◌, some, later, mean, at_ret, ◌$◌, ◌∵◌, !, qed, by, move, keep, group, fsplit3, split, split3, join, fsplit, fjoin, fpick, pick, use1, use2, use3, await, feq_i}
+use types.Run.{stop, fld, addr, lit, unit_lit, of_opd, no_more, and_then, first, blocks, exec, Calls-last, returns, enter}
+use types.ByLocal.{alloc_all, pass_all, free_all, look_at, get, through, sets, lands_last, env}
 use contract.Running.{tables}
-use contract.Monad.{fact, fact_i}
+use contract.Monad.{fact}
 use contract.BorrowLft.{◌⊑◌}
 use contract.Shared.{Lends-one}
 use denote.Exit.{yes}
 use denote.RattleType.{RattleType, owns}
-use denote.Signature.{types_at, plain, named_lft}
-use denote.RawPtr.{Ptr, block_ptr}
+use denote.Signature.{types_at, plain}
+use denote.RawPtr.{block_ptr}
 use denote.Steps.{nothing, heard}
 use denote.Opens.{unhide}
 use denote.Param.{param, bounded}
 use denote.Builtin.{RefOf, u64}
 use denote.Ref.{shr_vals, shr_Tells}
 use denote.Plain.{uint_vals, uint_Tells}
-use denote.Triple.Entry.{Res, alive}
 use denote.Triple.Walked.{Stays, stay_dropped, walk_of, Goes-dropped}
-use Rattle.std.proofs.option.Made.{Some-of, none_of}
 use Rattle.std.proofs.raw_atomic.Walks.{proved, leaves}
 use Rattle.std.proofs.raw_atomic.Calls.{fm, stored, has_stored}
 use Rattle.std.specs.Sync.RawAtomic.{asks, always}
-use Rattle.std.specs.contracts.option.Option as Opt
-use Rattle.thread_local_lock.specs.Locking.{Fitting, Sharing, held, fitting, with_word, invariant, kept, guarding}
+use Rattle.thread_local_lock.specs.Locking.{Fitting}
 use Rattle.thread_local_lock.specs.contracts.lock.Lock as lock
-use Rattle.thread_local_lock.specs.contracts.lock.LockGuard as guard
 use Rattle.thread_local_lock.specs.contracts.lock.Lock.sleep.{ended, clauses}
 use Rattle.thread_local_lock.specs.contracts.lock.Lock.sleep.Key.{name as #self}
 use Rattle.thread_local_lock.proofs.Steps.{tail, looked}
-use Rattle.thread_local_lock.proofs.Fields.{guard_of, Words, made}
 use Rattle.thread_local_lock.proofs.Calls.{lent, parks}
 use Rattle.thread_local_lock.proofs.lock.Lock.sleep.Statement.{statement}
 use Rattle.thread_local_lock.proofs.lock.Lock.sleep.Code as code

@@ -1,15 +1,12 @@
 -- `take` is one exchange: where the word was FREE, the guard has the right to the value.
-use Rattle.std.proofs.Common.{◌≡◌, ◌≢◌, ℕ, zero, suc, ◌+◌, ◌^◌, ◌<◌, T, List, [], ◌∷◌, ◌++◌, sym, refl, ap, ◌∙◌, subst, lit<, w64, eqb, eqb→eq, Option, Some, None, IfSome}
+use Rattle.std.proofs.Common.{◌≡◌, ◌≢◌, ℕ, ◌+◌, [], ◌∷◌, refl, lit<, w64, eqb→eq, Option, Some, None, IfSome}
 use mir.Syntax.{Body, dcons, dnil, a_type, named}
 use mir.Val.{Val, vint, vptr, vcons, vnil}
 use mir.MapTy.{inst_fn}
-use base.Logic.{SProp, ent, sep, wand, emp, id⊢, via, apply∗}
-use base.Fml.{Lft, Share, Fml, ftrue, fsep, fex, flft, fbor, finv}
+use base.Logic.{SProp, wand, emp, via, apply∗}
+use base.Fml.{Lft, Share, Fml, ftrue, fsep, flft, fbor, finv}
 use base.Before.{before}
-use prog.Wp.{WpFn}
-use prog.Atomic.{either}
-use types.Logic.{sem}
-use types.Kit.{‵, raw, ◌⊛◌, some, later, mean, at_ret, ◌$◌, ◌∵◌, !, qed, by, move, keep, drop, split, join, fsplit, fjoin, fpick, fpack, pick, use0, use1, use2, use3, await, rewrite, feq_i, flt_i}
+use types.Kit.{‵, raw, ◌⊛◌, some, later, mean, at_ret, ◌$◌, ◌∵◌, !, qed, by, move, keep, drop, split, join, fsplit, fjoin, fpick, fpack, pick, use0, use1, use2, use3, await, rewrite}
 use types.Run.{stop, fld, addr, lit, of_opd, bin, no_more, and_then, first, blocks, branches, exec, Calls-last, returns, enter}
 use types.ByLocal.{alloc_all, pass_all, free_all, look_at, get, through, sets, sets_last, lands_last, env}
 use types.Part.{agg}
@@ -28,13 +25,12 @@ use denote.Param.{param, bounded}
 use denote.Builtin.{RefOf, u64}
 use denote.Ref.{shr_vals, shr_Tells}
 use denote.Plain.{uint_vals, uint_Tells}
-use denote.Triple.Entry.{Res, alive}
 use denote.Triple.Walked.{Stays, stay_dropped, walk_of, Goes-dropped}
 use Rattle.std.proofs.option.Made.{Some-of, none_of}
 use Rattle.std.proofs.raw_atomic.Walks.{proved, leaves}
 use Rattle.std.proofs.raw_atomic.Calls.{fm, found, finds}
 use Rattle.std.specs.contracts.option.Option as Opt
-use Rattle.thread_local_lock.specs.Locking.{Fitting, Sharing, held, fitting, with_word, invariant, kept, guarding}
+use Rattle.thread_local_lock.specs.Locking.{Fitting, Sharing, with_word, invariant, guarding}
 use Rattle.thread_local_lock.specs.contracts.lock.Lock as lock
 use Rattle.thread_local_lock.specs.contracts.lock.LockGuard as guard
 use Rattle.thread_local_lock.specs.contracts.lock.Lock.take.{ended, clauses}
@@ -69,7 +65,7 @@ take_spec 𝓤 𝓛 𝓜 𝓡 wired X L g d _ =
     (via 𝓤 _ (exchanged 𝓛 R ok b o t s 0 new taken) (exchanges 𝓛 𝓜 𝓡 (code.calls-thread_local_lock::word::exchange 𝓡.env wired) (block_ptr b (o + 0)) 0 new (lit< tt) are.1.0.1 after)) $
     Calls-last ! (fm 𝓛 𝓜 𝓡) (found after) (and_then ! (get ! refl) (and_then ! (lit ! tt) (and_then ! (get ! refl) (no_more !)))) (λ u. finds ! after (λ n fits.
     lands_last ! refl (tt, record { fits = fits }) $ exec ! 𝓣.C 𝓣.Λ Ev (tail fn.body) (at_ret Ev Post) $ sets ! (of_opd ! (get ! refl)) refl (tt, record { fits = fits }) $
-    sets ! (bin ! (get ! refl) (lit ! tt) tt) refl (tt, tt) $ 
+    sets ! (bin ! (get ! refl) (lit ! tt) tt) refl (tt, tt) $
     fsplit ! $ move ! (0 ∷ 2 ∷ []) $ use2 𝓛 (later (‵ (flft κ q))) (apply∗ 𝓤 (𝓛.A.lft t.0 s) (H.⇛ (𝓛.A.lft κ q))) $ await ! tt $ move ! (0 ∷ 3 ∷ []) $ join ! $
     first ! $ branches ! (get ! refl)
     (λ free. let n0 : n ≡ 0 = eqb→eq n 0 free in
@@ -77,7 +73,7 @@ take_spec 𝓤 𝓛 𝓜 𝓡 wired X L g d _ =
     sets_last ! (agg ! (and_then ! (lit ! tt) (and_then ! (get ! refl) (no_more !)))) refl (tt, (record { fits = lit< tt }, ((tt, (tt, tt)), tt))) $ exec ! 𝓣.C 𝓣.Λ Ev last (at_ret Ev Post) $
     sets ! (of_opd ! (get ! refl)) refl (tt, (record { fits = lit< tt }, ((tt, (tt, tt)), tt))) $
     move ! (1 ∷ []) $ rewrite ! 0 (λ (m : ℕ). ‵ (with_word R ok b o t m)) n0 refl $ fpick ! (λ x. fsplit ! $ fpick ! (λ fit. drop ! $ move ! (2 ∷ 0 ∷ []) $ fjoin ! $ fpack ! Sharing (λ z. guarding R ok b o z κ x) t $
-    let h : G.Denot = record { lock = p; marker = record {}; tag = tag; value = x } in let v : Val = live 1 (vcons (guard_of p) vnil) in
+    let h : G.Denot = record { lock = p; marker = record {}; tag = tag; value = x; name = 0 } in let v : Val = live 1 (vcons (guard_of p) vnil) in
     use0 𝓛 (‵ ((Words ℓ R g).own_val (p, (tt, tt)) (guard_of p ∷ []))) (made ℓ R g 𝓛 p) $ fjoin ! $ use1 𝓛 (‵ ((Opt.the_row G).own_val (Some h) (v ∷ []))) (Some-of 𝓛 G h (guard_of p)) $
     use0 𝓛 (raw (fact 𝓤 (Fit (Some h)))) (fact_i 𝓤 (Fit (Some h)) (emp 𝓤) fit.0) $ use0 𝓛 (raw (fact 𝓤 (Tag (Some h)))) (fact_i 𝓤 (Tag (Some h)) (emp 𝓤) (refl, fit.1)) $ join ! $ nothing ! $ nothing ! $ fjoin ! $ nothing ! $ fjoin ! $
     returns ! (look_at ! 0 refl) $ free_all ! refl $ keep ! (3 ∷ 0 ∷ 2 ∷ 1 ∷ []) $ by ! (leaves 𝓛 En hs c y v (Some h) (tt, (tt, tt)) (tt, (tt, tt))))))

@@ -1,9 +1,9 @@
 -- Two rights to one id would be one element twice.
-use Rattle.std.proofs.Common.{◌≡◌, ◌≢◌, ℕ, true, List, [], ◌∷◌, refl, sym, MutBor}
+use Rattle.std.proofs.Common.{◌≢◌, List, [], ◌∷◌, refl}
 use mir.Syntax.{named}
 use mir.Val.{Val, vptr, vunit}
 use base.Fml.{ftrue, flft}
-use types.Kit.{‵, raw, ◌⊛◌, given, ◌$◌, ◌∵◌, !, qed, move, keep, rewrite, split, join, fsplit, fsplit3, fjoin, fjoin3, learn, suffices, frame, use2, feq_i}
+use types.Kit.{‵, raw, ◌⊛◌, given, ◌$◌, ◌∵◌, !, qed, move, keep, split, join, fsplit, fsplit3, fjoin, fjoin3, learn, suffices, frame, use2, feq_i}
 use types.Run.{of_opd, unit_lit, returns, enter}
 use types.ByLocal.{alloc_all, pass_all, free_all, look_at, sets}
 use contract.Running.{tables}
@@ -12,7 +12,7 @@ use denote.Signature.{plain}
 use denote.Steps.{nothing, opens, closes, heard}
 use denote.Triple.Walked.{Stays, walk_of, stay_ref, Goes-ref, ends_at}
 use Rattle.std.proofs.raw_atomic.Walks.{proved}
-use Rattle.thread_local_rights.specs.Rights.{is_out, right_owns, rights_own}
+use Rattle.thread_local_rights.specs.Rights.{right_owns}
 use Rattle.thread_local_rights.proofs.Elements.{right_apart}
 use Rattle.thread_local_rights.proofs.Facts.{tells, tells_last}
 use Rattle.thread_local_rights.specs.contracts.right.Right.{the_row as A}

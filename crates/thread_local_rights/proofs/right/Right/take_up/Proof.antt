@@ -1,7 +1,7 @@
 -- `take_up` puts the fields, which own nothing, to the right's element.
-use Rattle.std.proofs.Common.{ℕ, List, [], ◌∷◌, refl}
+use Rattle.std.proofs.Common.{[], ◌∷◌, refl}
 use base.Fml.{ftrue}
-use types.Kit.{‵, raw, ◌⊛◌, ◌$◌, ◌∵◌, !, qed, keep, split, join, fjoin, suffices, use0, done}
+use types.Kit.{‵, ◌⊛◌, ◌$◌, ◌∵◌, !, qed, keep, join, fjoin, suffices, use0, done}
 use types.Run.{no_more, and_then, returns, enter}
 use types.ByLocal.{alloc_all, pass_all, free_all, look_at, get, sets}
 use types.Part.{agg}
@@ -27,4 +27,4 @@ take_up_spec 𝓤 𝓛 𝓜 𝓡 wired =
     qed 𝓛 ((‵ ftrue ⊛ ‵ ftrue) ∷ ‵ (right_owns g.0 g.1) ∷ []) ∵ keep ! (1 ∷ []) $ enter ! 𝓣.C 𝓣.Λ code.function [] _ $ alloc_all ! (λ l. pass_all ! refl tt $
     sets ! (agg ! (no_more !)) refl (tt, tt) $ sets ! (agg ! (and_then ! (get ! refl) (no_more !))) refl (tt, (tt, tt)) $
     returns ! (look_at ! 0 refl) $ free_all ! refl $ suffices ! _ (ends_at 𝓛 f.ended stayed c y token record { marker = record {}; table = g.0; id = g.1 } tt tt) $ says ! (refl, refl) $
-    use0 𝓛 (‵ ((Mark (right.the_type).name).own_val (tt, tt) (token ∷ []))) (made (right.the_type).name 𝓛) $ fjoin ! $ nothing ! $ join ! $ nothing ! $ join ! $ done !))
+    use0 𝓛 (‵ ((Mark (right.the_type).name).own_val (tt, tt) (token ∷ []))) (made (right.the_type).name 𝓛) $ fjoin ! $ nothing ! $ join {Γ = []} ! $ nothing ! $ join ! $ done !))

@@ -1,5 +1,5 @@
 -- A right that someone has is not among those that are in.
-use Rattle.std.proofs.Common.{◌≡◌, ◌≢◌, ℕ, true, List, [], ◌∷◌, refl, sym, MutBor}
+use Rattle.std.proofs.Common.{◌≡◌, ℕ, true, List, [], ◌∷◌, refl, sym}
 use mir.Syntax.{named}
 use mir.Val.{Val, vptr, vunit}
 use base.Fml.{ftrue, flft}

@@ -1,10 +1,9 @@
 -- `new` makes the elements of all ids under a fresh name.
-use Rattle.std.proofs.Common.{List, [], ◌∷◌, refl}
-use mir.Val.{Val}
-use base.Logic.{via, ex, emp}
-use base.Fml.{Fml, ftrue}
+use Rattle.std.proofs.Common.{[], ◌∷◌, refl}
+use base.Logic.{via, ex}
+use base.Fml.{ftrue}
 use types.Logic.{sem}
-use types.Kit.{‵, raw, ◌⊛◌, some, later, ◌$◌, ◌∵◌, !, qed, by, keep, join, fjoin, pick, suffices, frame, use0, await, done}
+use types.Kit.{‵, ◌⊛◌, some, later, ◌$◌, ◌∵◌, !, qed, keep, join, fjoin, pick, suffices, use0, await, done}
 use types.Run.{no_more, and_then, returns, enter}
 use types.ByLocal.{alloc_all, pass_all, free_all, look_at, get, sets}
 use types.Part.{agg}

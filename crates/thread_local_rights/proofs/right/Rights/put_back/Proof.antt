@@ -1,8 +1,8 @@
 -- `put_back` puts the right's element to the others.
-use Rattle.std.proofs.Common.{◌≡◌, ℕ, true, List, [], ◌∷◌, refl, MutBor}
+use Rattle.std.proofs.Common.{◌≡◌, ℕ, true, List, [], ◌∷◌, refl}
 use mir.Syntax.{named}
 use mir.Val.{Val, vptr, vunit}
-use base.Fml.{Fml, ftrue, flft}
+use base.Fml.{ftrue, flft}
 use types.Kit.{‵, raw, ◌⊛◌, given, ◌$◌, ◌∵◌, !, qed, move, keep, rewrite, split, join, fsplit, fsplit3, fjoin, fjoin3, learn, suffices, frame, use2, feq_i}
 use types.Run.{of_opd, unit_lit, returns, enter}
 use types.ByLocal.{alloc_all, pass_all, free_all, look_at, sets}

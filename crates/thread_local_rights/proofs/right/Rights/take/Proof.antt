@@ -1,9 +1,9 @@
 -- `take` cuts the id's element off.
-use Rattle.std.proofs.Common.{◌≡◌, ℕ, List, [], ◌∷◌, refl, w64, MutBor}
+use Rattle.std.proofs.Common.{ℕ, [], ◌∷◌, refl, w64}
 use mir.Syntax.{named}
-use mir.Val.{Val, vptr, vint}
-use base.Fml.{Fml, ftrue, flft, fsep}
-use types.Kit.{‵, raw, ◌⊛◌, ◌$◌, ◌∵◌, !, qed, move, keep, split, join, fsplit, fsplit3, fjoin, fjoin3, suffices, frame, use0, use1, feq_i, done}
+use mir.Val.{Val, vptr}
+use base.Fml.{ftrue, flft}
+use types.Kit.{‵, raw, ◌⊛◌, ◌$◌, ◌∵◌, !, qed, move, keep, split, join, fsplit, fsplit3, fjoin, fjoin3, suffices, frame, use0, use1}
 use types.Run.{no_more, and_then, returns, enter}
 use types.ByLocal.{alloc_all, pass_all, free_all, look_at, get, sets}
 use types.Part.{agg}
@@ -14,9 +14,9 @@ use denote.Plain.{uint_vals, uint_Tells}
 use denote.Ref.{MutRef, mut_vals, mut_Tells}
 use denote.Signature.{plain}
 use denote.Steps.{nothing, opens, closes, heard}
-use denote.Triple.Walked.{Stays, walk_of, says, stay_dropped, Goes-dropped, stay_ref, Goes-ref, ends_at}
+use denote.Triple.Walked.{Stays, walk_of, stay_dropped, Goes-dropped, stay_ref, Goes-ref, ends_at}
 use Rattle.std.proofs.raw_atomic.Walks.{proved}
-use Rattle.thread_local_rights.specs.Rights.{is_out, right_owns, rights_own}
+use Rattle.thread_local_rights.specs.Rights.{right_owns, rights_own}
 use Rattle.thread_local_rights.proofs.Elements.{rights_cut}
 use Rattle.thread_local_rights.proofs.Facts.{tells, tells_last}
 use Rattle.thread_local_rights.proofs.Tokens.{token, Mark, made}

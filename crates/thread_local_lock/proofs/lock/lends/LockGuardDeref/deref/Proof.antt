@@ -3,9 +3,8 @@ use Rattle.std.proofs.Common.{◌≡◌, ℕ, ◌+◌, List, [], ◌∷◌, ◌+
 use mir.Syntax.{dcons, dnil, a_type, named}
 use mir.Val.{Val, vptr}
 use mir.MapTy.{inst_fn}
-use base.Logic.{SProp, ent, emp, never_e, guard_i}
-use base.Fml.{Lft, Share, Fml, ftrue, fsep, flft, fhide, Incl-refl}
-use prog.Wp.{WpFn}
+use base.Logic.{SProp, emp, guard_i}
+use base.Fml.{Lft, Fml, ftrue, fsep, flft, fhide, Incl-refl}
 use types.Logic.{sem}
 use types.Kit.{‵, raw, ◌⊛◌, given, at_ret, ◌$◌, ◌∵◌, !, qed, by, move, keep, split, join, fsplit, fjoin, learn, use0, use1, rewrite, feq_i}
 use types.Run.{stop, fld, hop, addr, of_opd, first, blocks, exec, returns, enter}
@@ -17,7 +16,7 @@ use contract.BorrowLft.{⊑_meet}
 use denote.Exit.{yes}
 use denote.RattleType.{RattleType, owns}
 use denote.Signature.{types_at, plain, named_lft}
-use denote.RawPtr.{Ptr, InBlock, block_ptr, null_ptr, block_of, count_of, at_block}
+use denote.RawPtr.{Ptr, InBlock, block_ptr, block_of, count_of, at_block}
 use denote.Steps.{nothing, peeks, looks, shuts}
 use denote.Opens.{unhide}
 use denote.Laws.{Is, shows}
@@ -28,7 +27,6 @@ use denote.Builtin.{RefOf}
 use denote.Ref.{ShrRef, shr_vals, shr_Tells}
 use denote.SharingLaws.{shortens}
 use denote.Struct.Lending.{lent_out}
-use denote.Triple.Entry.{alive}
 use denote.Triple.Walked.{Stays, stay_dropped, walk_of, Goes-dropped}
 use Rattle.std.proofs.raw_atomic.Walks.{proved, leaves}
 use Rattle.std.specs.contracts.marker.PhantomData as marker

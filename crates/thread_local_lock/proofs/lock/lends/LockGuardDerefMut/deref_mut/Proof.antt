@@ -1,12 +1,11 @@
 -- `deref_mut` lends the value, and the guard follows it.
-use Rattle.std.proofs.Common.{◌≡◌, ℕ, ◌+◌, List, [], ◌∷◌, ◌++◌, sym, refl, ap, ◌∙◌}
+use Rattle.std.proofs.Common.{◌≡◌, ℕ, ◌+◌, List, [], ◌∷◌, sym, refl, ap, ◌∙◌}
 use mir.Syntax.{dcons, dnil, a_type, named}
 use mir.Val.{Val, vptr}
 use mir.MapTy.{inst_fn}
 use base.Fraction.{full_share}
-use base.Logic.{SProp, ent, emp, guard_i}
+use base.Logic.{SProp, emp, guard_i}
 use base.Fml.{Lft, GName, Share, Fml, ftrue, fsep, fobs, fbor, flft}
-use prog.Wp.{WpFn}
 use types.Logic.{sem}
 use types.SemTy.{Body}
 use types.Kit.{‵, raw, ◌⊛◌, some, given, later, at_ret, ◌$◌, ◌∵◌, !, qed, by, move, keep, split, split3, join, fsplit, fsplit3, fjoin, fjoin3, fpick, fpack, pick, learn, use0, use1, use2, use3, await, rewrite, feq_i}
@@ -25,10 +24,9 @@ use denote.Laws.{Is, shows}
 use denote.Memory.{cell_at, part_at, part_of, mem}
 use denote.Param.{param, bounded}
 use denote.Builtin.{RefMutOf}
-use denote.Ref.{MutRef, MutBor, mut_vals, mut_Tells}
+use denote.Ref.{MutBor, mut_vals, mut_Tells}
 use denote.Follow.{follows}
 use denote.Struct.OwningLaws.{part_out, part_in}
-use denote.Triple.Entry.{alive}
 use denote.Triple.Walked.{Stays, stay_dropped, walk_of, Goes-spent_ref}
 use Rattle.std.proofs.raw_atomic.Walks.{proved, leaves}
 use Rattle.thread_local_lock.specs.Guarded.{guard_with_value}
