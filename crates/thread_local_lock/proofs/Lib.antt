@@ -1,8 +1,7 @@
-mod Calls
 mod Fields
 mod Guards
 mod Handed
 mod Lent
-mod Opened
+mod Names
 mod Steps
 mod Words

@@ -2,7 +2,6 @@
 use Rattle.std.proofs.Common.{◌≢◌, ℕ, zero, suc, ◌+◌, [], ◌∷◌, refl, eqb, Bool, true, false, sym}
 use Rattle.std.proofs.Math.Dec.{eqb-zero-suc}
 use seplogic.Ra.Ura.{Ura}
-use mir.Syntax.{Body, seq, call, return, skip, assign, block, loop, cond, switch, exit, unreachable, lend_static, call_v}
 use base.Logic.{SProp, ent, sep, ex, emp, upd_i}
 use base.Fml.{Share, Fml, ftrue, fsep, flft, fbor}
 use prog.Atomic.{either}
@@ -11,33 +10,9 @@ use types.Kit.{‵, rewrite, use0, use2, ◌$◌, ◌∵◌, !, qed, move, keep,
 use denote.RattleType.{RattleType}
 use denote.Steps.{nothing}
 use denote.RawPtr.{block_ptr}
-use denote.Shadow.{makes_shadow}
-use Rattle.std.proofs.raw_atomic.Calls.{seq_cst}
-use Rattle.std.proofs.raw_atomic.PtrCalls.{ordered, is_ordered}
-use Rattle.std.specs.declared.sync.atomic.Ordering.TheVariants.{SeqCst}
-use Rattle.std.specs.contracts.sync.atomic.Ordering.{the_row as order_row}
 use Rattle.std.specs.Sync.RawAtomic.{word, asks, always}
 use Rattle.thread_local_lock.specs.Locking.{Sharing, with_word, invariant}
-use Rattle.thread_local_lock.proofs.Opened.{Lies, opened}
-
--- what follows the first statement
-abbrev pub tail : Body → Body
-tail (seq a b) = b
-tail skip = skip
-tail (assign p r) = skip
-tail (block a) = skip
-tail (loop a) = skip
-tail (cond c a b) = skip
-tail (switch c x) = skip
-tail (exit k) = skip
-tail return = skip
-tail unreachable = skip
-tail (lend_static p τ c) = skip
-tail (call f xs d) = skip
-tail (call_v c ς xs d) = skip
-
-pub order_made : {M : Type 1} {𝓤 : Ura M} (𝓛 : Logic 𝓤) → ent 𝓤 (emp 𝓤) (sem 𝓛 (order_row.own_val SeqCst (seq_cst ∷ [])))
-order_made 𝓛 = makes_shadow 𝓛 (order_row.own_val SeqCst (seq_cst ∷ [])) ordered is_ordered
+use Rattle.thread_local_word.proofs.Opened.{Lies, opened}
 
 module _ {M : Type 1} {𝓤 : Ura M} (𝓛 : Logic 𝓤) (R : RattleType) (ok : R.Denot → Type 0) (b o : ℕ) (t : Sharing) (q : Share) where
   open 𝓛 use {A}

@@ -4,6 +4,5 @@
 pub mod lock;
 #[cfg(test)]
 mod tests;
-mod word;
 
 pub use lock::{Fits, Lock, LockGuard};

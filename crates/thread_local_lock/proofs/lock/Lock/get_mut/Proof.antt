@@ -1,33 +1,8 @@
 -- `get_mut` stores TAKEN, and the guard has the right to the value for as long as the lock is lent.
-use Rattle.std.proofs.Common.{◌≡◌, ℕ, ◌+◌, [], ◌∷◌, refl, lit<}
-use mir.Syntax.{dcons, dnil, a_type, named}
-use mir.Val.{Val, vptr}
-use mir.MapTy.{inst_fn}
-use base.Fraction.{full_share}
-use base.Logic.{SProp, emp}
-use base.Fml.{Lft, GName, Share, Fml, ftrue, fsep, flft}
-use types.Kit.{‵, raw, ◌⊛◌, some, later, ◌$◌, ◌∵◌, !, qed, by, move, keep, split, split3, join, fsplit, fsplit3, fjoin, pick, group, use0, use1, await}
-use types.Run.{stop, fld, addr, lit, of_opd, no_more, and_then, assigns, store_raw, returns, enter}
-use types.ByLocal.{alloc_all, pass_all, free_all, look_at, get, through, sets}
-use types.Part.{agg}
-use types.Mut.{open_ref}
-use contract.Running.{tables}
-use contract.Monad.{fact, fact_i}
-use denote.Exit.{no}
-use denote.RattleType.{RattleType, owns}
-use denote.Signature.{types_at, plain, named_lft}
-use denote.RawPtr.{block_ptr}
-use denote.Steps.{nothing}
-use denote.Memory.{mem, part_at}
-use denote.Param.{param, layout, bounded}
-use denote.Param.Laws.{param_laws}
-use denote.Builtin.{RefMutOf}
-use denote.Ref.{mut_vals, mut_Tells}
-use denote.Follow.{follows}
+use Rattle.thread_local_lock.proofs.Names.{◌≡◌, ℕ, ◌+◌, [], ◌∷◌, refl, lit<, dcons, dnil, a_type, named, Val, vptr, inst_fn, full_share, SProp, emp, Lft, GName, Share, Fml, ftrue, fsep, flft, ‵, raw, ◌⊛◌, some, later, ◌$◌, ◌∵◌, !, qed, by, move, keep, split, split3, join, fsplit, fsplit3, fjoin, pick, group, use0, use1, await, stop, fld, addr, lit, of_opd, no_more, and_then, returns, enter, alloc_all, pass_all, free_all, look_at, get, through, sets, agg, open_ref, tables, fact, fact_i, no, RattleType, owns, types_at, plain, named_lft, block_ptr, nothing, mem, part_at, param, layout, bounded, param_laws, RefMutOf, mut_vals, mut_Tells, follows, Stays, stay_dropped, walk_of, Goes-spent_ref, proved, leaves}
+use types.Run.{assigns, store_raw}
 use denote.Struct.Members.{Member}
-use denote.Triple.Walked.{Stays, stay_dropped, walk_of, Goes-spent_ref}
 use Rattle.std.specs.Sync.RawAtomic.{word}
-use Rattle.std.proofs.raw_atomic.Walks.{proved, leaves}
 use Rattle.thread_local_lock.specs.Locking.{Fitting, offset, guard_owns}
 use Rattle.thread_local_lock.specs.contracts.lock.Lock as lock
 use Rattle.thread_local_lock.specs.contracts.lock.LockGuard as guard

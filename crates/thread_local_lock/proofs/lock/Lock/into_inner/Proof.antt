@@ -1,27 +1,7 @@
 -- `into_inner` takes the value out, whatever the word is.
-use Rattle.std.proofs.Common.{◌≡◌, ◌&&◌, T, true, List, [], ◌∷◌, ◌++◌, sym, refl, ◌∙◌, subst, w64}
-use mir.Syntax.{dcons, dnil, a_type}
-use mir.Val.{Val, vint, vstruct, vcons, vnil, of_list, has_ty}
-use mir.MapTy.{inst_fn}
-use base.Logic.{SProp, ent, id⊢}
-use base.Fml.{ftrue, fsep}
-use prog.Wp.{WpFn}
-use types.Kit.{‵, raw, ◌⊛◌, ◌$◌, ◌∵◌, !, qed, by, move, keep, drop, split, fsplit, fsplit3, fjoin, fpick, rewrite, feq_l, flt_l, suffices}
-use types.Run.{stop, fld, of_opd, returns, enter}
-use types.ByLocal.{alloc_all, pass_all, free_all, look_at, get, get_in, sets}
-use types.Part.{sub, whole}
-use contract.Running.{tables}
-use denote.Exit.{no}
-use denote.RattleType.{RattleType}
-use denote.Signature.{plain}
-use denote.Steps.{nothing, peeks}
-use denote.Laws.{Is, shows}
-use denote.Param.{param, layout, bounded}
-use denote.Triple.Entry.{alive}
-use denote.Triple.Walked.{Stays, stay_dropped, walk_of, Goes-dropped}
-use Rattle.std.proofs.mem.Param.{El, lawful, Good, one}
-use Rattle.std.proofs.ResultValues.{and_tt}
-use Rattle.std.proofs.raw_atomic.Walks.{proved_at, leaves}
+use Rattle.thread_local_lock.proofs.Names.{◌≡◌, ◌&&◌, T, true, List, [], ◌∷◌, ◌++◌, sym, refl, ◌∙◌, subst, w64, dcons, dnil, a_type, Val, vint, vstruct, vcons, vnil, has_ty, inst_fn, SProp, ent, id⊢, ftrue, fsep, WpFn, ‵, raw, ◌⊛◌, ◌$◌, ◌∵◌, !, qed, by, move, keep, drop, split, fsplit, fsplit3, fjoin, fpick, rewrite, feq_l, suffices, stop, fld, of_opd, returns, enter, alloc_all, pass_all, free_all, look_at, get, get_in, sets, sub, whole, tables, no, RattleType, plain, nothing, peeks, Is, shows, param, layout, bounded, alive, Stays, stay_dropped, walk_of, Goes-dropped, El, lawful, Good, one, and_tt, proved_at, leaves}
+use mir.Val.{of_list}
+use types.Kit.{flt_l}
 use Rattle.thread_local_lock.specs.contracts.lock.Lock as lock
 use Rattle.thread_local_lock.specs.contracts.lock.Lock.into_inner.{ended, clauses}
 use Rattle.thread_local_lock.specs.contracts.lock.Lock.into_inner.Key.{name as #self}

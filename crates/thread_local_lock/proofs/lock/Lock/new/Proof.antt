@@ -1,30 +1,9 @@
 -- `new` puts the value behind a free word.
-use Rattle.std.proofs.Common.{◌≡◌, ℕ, ◌^◌, ◌&&◌, T, true, List, [], ◌∷◌, ◌++◌, sym, refl, subst, lit<, w64}
-use mir.Syntax.{dcons, dnil, a_type}
-use mir.Val.{Val, vint, vstruct, vcons, vnil, has_ty, WT}
-use mir.MapTy.{inst_fn}
-use base.Logic.{SProp, ent, emp, id⊢}
-use base.Fml.{ftrue, fsep, fex}
-use prog.Wp.{WpFn}
-use types.Kit.{‵, raw, ◌⊛◌, ◌$◌, ◌∵◌, !, qed, by, move, keep, drop, split, fsplit, fjoin, fjoin3, fpack, use0, rewrite, feq_i, flt_i, suffices}
-use types.Run.{lit, of_opd, no_more, and_then, returns, enter}
-use types.ByLocal.{alloc_all, pass_all, free_all, look_at, get, sets}
-use types.Part.{agg}
-use contract.Running.{tables}
-use contract.Monad.{fact, fact_i}
-use denote.Exit.{no}
-use denote.RattleType.{RattleType, Valss, owns}
-use denote.Signature.{types_at, plain}
-use denote.Steps.{nothing, heard}
+use Rattle.thread_local_lock.proofs.Names.{◌≡◌, ℕ, ◌^◌, ◌&&◌, T, true, List, [], ◌∷◌, ◌++◌, sym, refl, subst, lit<, w64, dcons, dnil, a_type, Val, vint, vstruct, vcons, vnil, has_ty, WT, inst_fn, SProp, ent, emp, id⊢, ftrue, fsep, WpFn, ‵, raw, ◌⊛◌, ◌$◌, ◌∵◌, !, qed, by, move, keep, drop, split, fsplit, fjoin, fjoin3, fpack, use0, rewrite, feq_i, flt_i, suffices, lit, of_opd, no_more, and_then, returns, enter, alloc_all, pass_all, free_all, look_at, get, sets, agg, tables, fact, fact_i, no, RattleType, owns, types_at, plain, nothing, heard, param, layout, bounded, u64, alive, Stays, stay_dropped, walk_of, Goes-dropped, El, lawful, Good, one, and_tt, proved_at, leaves}
+use base.Fml.{fex}
+use denote.RattleType.{Valss}
 use denote.Laws.{Typed}
-use denote.Param.{param, layout, bounded}
-use denote.Builtin.{u64}
 use denote.Struct.Struct.{within}
-use denote.Triple.Entry.{alive}
-use denote.Triple.Walked.{Stays, stay_dropped, walk_of, Goes-dropped}
-use Rattle.std.proofs.mem.Param.{El, lawful, Good, one}
-use Rattle.std.proofs.ResultValues.{and_tt}
-use Rattle.std.proofs.raw_atomic.Walks.{proved_at, leaves}
 use Rattle.thread_local_lock.specs.Locking.{Fitting}
 use Rattle.thread_local_lock.specs.contracts.lock.Lock.TheInside as inside
 use Rattle.thread_local_lock.specs.contracts.lock.Lock.new.{ended, clauses}

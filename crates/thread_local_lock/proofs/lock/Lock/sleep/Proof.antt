@@ -1,37 +1,13 @@
 -- `sleep` parks on the word.
-use Rattle.std.proofs.Common.{ℕ, ◌+◌, List, [], ◌∷◌, refl, lit<, w64}
-use mir.Syntax.{dcons, dnil, a_type, named}
-use mir.Val.{Val, vunit, vint, vptr}
-use mir.MapTy.{inst_fn}
-use base.Logic.{SProp, wand, apply∗}
-use base.Fml.{Lft, Share, Fml, ftrue, fsep, flft}
-use types.Kit.{‵, raw, ◌⊛◌, some, later, mean, at_ret, ◌$◌, ◌∵◌, !, qed, by, move, keep, group, fsplit3, split, split3, join, fsplit, fjoin, fpick, pick, use1, use2, use3, await, feq_i}
-use types.Run.{stop, fld, addr, lit, unit_lit, of_opd, no_more, and_then, first, blocks, exec, Calls-last, returns, enter}
-use types.ByLocal.{alloc_all, pass_all, free_all, look_at, get, through, sets, lands_last, env}
-use contract.Running.{tables}
-use contract.Monad.{fact}
+use Rattle.thread_local_lock.proofs.Names.{ℕ, ◌+◌, List, [], ◌∷◌, refl, lit<, w64, dcons, dnil, a_type, named, Val, vunit, vint, vptr, inst_fn, SProp, wand, apply∗, Lft, Share, Fml, ftrue, fsep, flft, ‵, raw, ◌⊛◌, some, later, mean, at_ret, ◌$◌, ◌∵◌, !, qed, by, move, keep, group, fsplit3, split, split3, join, fsplit, fjoin, fpick, pick, use1, use2, use3, await, feq_i, stop, fld, addr, lit, unit_lit, of_opd, no_more, and_then, first, blocks, exec, Calls-last, returns, enter, alloc_all, pass_all, free_all, look_at, get, through, sets, lands_last, env, tables, fact, Lends-one, yes, RattleType, owns, types_at, plain, block_ptr, nothing, heard, unhide, param, bounded, RefOf, u64, shr_vals, shr_Tells, uint_vals, uint_Tells, Stays, stay_dropped, walk_of, Goes-dropped, proved, leaves, fm, stored, has_stored, tail}
 use contract.BorrowLft.{◌⊑◌}
-use contract.Shared.{Lends-one}
-use denote.Exit.{yes}
-use denote.RattleType.{RattleType, owns}
-use denote.Signature.{types_at, plain}
-use denote.RawPtr.{block_ptr}
-use denote.Steps.{nothing, heard}
-use denote.Opens.{unhide}
-use denote.Param.{param, bounded}
-use denote.Builtin.{RefOf, u64}
-use denote.Ref.{shr_vals, shr_Tells}
-use denote.Plain.{uint_vals, uint_Tells}
-use denote.Triple.Walked.{Stays, stay_dropped, walk_of, Goes-dropped}
-use Rattle.std.proofs.raw_atomic.Walks.{proved, leaves}
-use Rattle.std.proofs.raw_atomic.Calls.{fm, stored, has_stored}
 use Rattle.std.specs.Sync.RawAtomic.{asks, always}
 use Rattle.thread_local_lock.specs.Locking.{Fitting}
 use Rattle.thread_local_lock.specs.contracts.lock.Lock as lock
 use Rattle.thread_local_lock.specs.contracts.lock.Lock.sleep.{ended, clauses}
 use Rattle.thread_local_lock.specs.contracts.lock.Lock.sleep.Key.{name as #self}
-use Rattle.thread_local_lock.proofs.Steps.{tail, looked}
-use Rattle.thread_local_lock.proofs.Calls.{lent, parks}
+use Rattle.thread_local_lock.proofs.Steps.{looked}
+use Rattle.thread_local_word.proofs.Calls.{lent, parks}
 use Rattle.thread_local_lock.proofs.lock.Lock.sleep.Statement.{statement}
 use Rattle.thread_local_lock.proofs.lock.Lock.sleep.Code as code
 

@@ -1,43 +1,20 @@
 -- `take` is one exchange: where the word was FREE, the guard has the right to the value.
-use Rattle.std.proofs.Common.{◌≡◌, ◌≢◌, ℕ, ◌+◌, [], ◌∷◌, refl, lit<, w64, eqb→eq, Option, Some, None, IfSome}
-use mir.Syntax.{Body, dcons, dnil, a_type, named}
-use mir.Val.{Val, vint, vptr, vcons, vnil}
-use mir.MapTy.{inst_fn}
-use base.Logic.{SProp, wand, emp, via, apply∗}
-use base.Fml.{Lft, Share, Fml, ftrue, fsep, flft, fbor, finv}
+use Rattle.thread_local_lock.proofs.Names.{◌≡◌, ℕ, ◌+◌, [], ◌∷◌, refl, lit<, w64, dcons, dnil, a_type, named, Val, vint, vptr, vcons, vnil, inst_fn, SProp, wand, emp, via, apply∗, Lft, Share, Fml, ftrue, fsep, flft, fbor, finv, ‵, raw, ◌⊛◌, some, later, mean, at_ret, ◌$◌, ◌∵◌, !, qed, by, move, keep, drop, split, join, fsplit, fjoin, fpick, fpack, pick, use0, use1, use2, use3, await, rewrite, stop, fld, addr, lit, of_opd, no_more, and_then, first, blocks, exec, Calls-last, returns, enter, alloc_all, pass_all, free_all, look_at, get, through, sets, sets_last, lands_last, env, agg, tables, fact, fact_i, Lends-one, yes, RattleType, owns, types_at, plain, named_lft, Ptr, block_ptr, nothing, heard, unhide, param, bounded, RefOf, u64, shr_vals, shr_Tells, uint_vals, uint_Tells, Stays, stay_dropped, walk_of, Goes-dropped, proved, leaves, fm, found, finds, tail, exchanges}
+use Rattle.std.proofs.Common.{◌≢◌, eqb→eq, Option, Some, None, IfSome}
+use mir.Syntax.{Body}
 use base.Before.{before}
-use types.Kit.{‵, raw, ◌⊛◌, some, later, mean, at_ret, ◌$◌, ◌∵◌, !, qed, by, move, keep, drop, split, join, fsplit, fjoin, fpick, fpack, pick, use0, use1, use2, use3, await, rewrite}
-use types.Run.{stop, fld, addr, lit, of_opd, bin, no_more, and_then, first, blocks, branches, exec, Calls-last, returns, enter}
-use types.ByLocal.{alloc_all, pass_all, free_all, look_at, get, through, sets, sets_last, lands_last, env}
-use types.Part.{agg}
+use types.Run.{bin, branches}
 use types.Match.{live}
 use types.Na.{before_dup}
-use contract.Running.{tables}
-use contract.Monad.{fact, fact_i}
-use contract.Shared.{Lends-one}
-use denote.Exit.{yes}
-use denote.RattleType.{RattleType, owns}
-use denote.Signature.{types_at, plain, named_lft}
-use denote.RawPtr.{Ptr, block_ptr}
-use denote.Steps.{nothing, heard}
-use denote.Opens.{unhide}
-use denote.Param.{param, bounded}
-use denote.Builtin.{RefOf, u64}
-use denote.Ref.{shr_vals, shr_Tells}
-use denote.Plain.{uint_vals, uint_Tells}
-use denote.Triple.Walked.{Stays, stay_dropped, walk_of, Goes-dropped}
 use Rattle.std.proofs.option.Made.{Some-of, none_of}
-use Rattle.std.proofs.raw_atomic.Walks.{proved, leaves}
-use Rattle.std.proofs.raw_atomic.Calls.{fm, found, finds}
 use Rattle.std.specs.contracts.option.Option as Opt
 use Rattle.thread_local_lock.specs.Locking.{Fitting, Sharing, with_word, invariant, guarding}
 use Rattle.thread_local_lock.specs.contracts.lock.Lock as lock
 use Rattle.thread_local_lock.specs.contracts.lock.LockGuard as guard
 use Rattle.thread_local_lock.specs.contracts.lock.Lock.take.{ended, clauses}
 use Rattle.thread_local_lock.specs.contracts.lock.Lock.take.Key.{name as #self}
-use Rattle.thread_local_lock.proofs.Steps.{tail, gained, exchanged}
+use Rattle.thread_local_lock.proofs.Steps.{gained, exchanged}
 use Rattle.thread_local_lock.proofs.Fields.{guard_of, Words, made}
-use Rattle.thread_local_lock.proofs.Calls.{exchanges}
 use Rattle.thread_local_lock.proofs.lock.Lock.take.Statement.{statement}
 use Rattle.thread_local_lock.proofs.lock.Lock.take.Code as code
 
@@ -62,7 +39,7 @@ take_spec 𝓤 𝓛 𝓜 𝓡 wired X L g d _ =
     let after : ℕ → Fml = λ n. fsep (flft t.0 s) (gained 𝓛 R ok b o t s 0 n) in
     first ! $ blocks ! $ sets ! (addr ! (through ! refl (fld ! refl (stop !)))) refl (tt, tt) $ nothing ! $ move ! (4 ∷ 1 ∷ 0 ∷ []) $
     use3 𝓛 (raw (𝓣.C _ (vptr b (o + 0) ∷ vint w64 0 ∷ vint w64 new ∷ []) (λ u. mean 𝓛 (found after u))))
-    (via 𝓤 _ (exchanged 𝓛 R ok b o t s 0 new taken) (exchanges 𝓛 𝓜 𝓡 (code.calls-thread_local_lock::word::exchange 𝓡.env wired) (block_ptr b (o + 0)) 0 new (lit< tt) are.1.0.1 after)) $
+    (via 𝓤 _ (exchanged 𝓛 R ok b o t s 0 new taken) (exchanges 𝓛 𝓜 𝓡 (code.calls-thread_local_word::word::exchange 𝓡.env wired) (block_ptr b (o + 0)) 0 new (lit< tt) are.1.0.1 after)) $
     Calls-last ! (fm 𝓛 𝓜 𝓡) (found after) (and_then ! (get ! refl) (and_then ! (lit ! tt) (and_then ! (get ! refl) (no_more !)))) (λ u. finds ! after (λ n fits.
     lands_last ! refl (tt, record { fits = fits }) $ exec ! 𝓣.C 𝓣.Λ Ev (tail fn.body) (at_ret Ev Post) $ sets ! (of_opd ! (get ! refl)) refl (tt, record { fits = fits }) $
     sets ! (bin ! (get ! refl) (lit ! tt) tt) refl (tt, tt) $

@@ -1,36 +1,20 @@
 -- `drop` looks at the word, stores FREE, which leaves the right to the value, and wakes one that may sleep.
-use Rattle.std.proofs.Common.{◌≡◌, T, ℕ, ◌+◌, ◌^◌, List, [], ◌∷◌, sym, refl, ap, subst, lit<, w64}
-use mir.Syntax.{Body, ty_unit, dcons, dnil, a_type}
-use mir.Val.{Val, has_ty, WT, vunit, vint}
-use mir.MapTy.{inst_fn}
-use base.Logic.{SProp, wand, id⊢, via, apply∗, guard_i}
-use base.Fml.{Lft, Share, Fml, ftrue, fsep, feq, flft, fbor, finv}
-use types.Logic.{sem}
-use types.Kit.{‵, raw, ◌⊛◌, some, given, later, mean, at_ret, ◌$◌, ◌∵◌, !, qed, by, move, keep, drop, split, join, fsplit, fjoin, fpick, fpack, pick, learn, use1, use2, use3, await, rewrite, feq_i, feq_l, flt_i}
-use types.Run.{stop, fld, addr, lit, unit_lit, of_opd, no_more, and_then, first, blocks, exec, Calls-last, returns, enter}
-use types.ByLocal.{alloc_all, pass_all, free_all, look_at, get, get_in, through, sets, sets_last, lands_last, is, env}
-use types.Part.{agg, sub, whole}
-use contract.Running.{tables}
-use contract.Monad.{fact, fact_use}
-use contract.Shared.{Lends-one}
-use denote.Exit.{no}
-use denote.RattleType.{RattleType, owns}
-use denote.Signature.{types_at, plain, named_lft}
-use denote.RawPtr.{Ptr, InBlock, block_ptr, ptr_val, block_of, count_of, at_block}
-use denote.Steps.{nothing, only, heard}
-use denote.Param.{param, bounded}
+use Rattle.thread_local_lock.proofs.Names.{◌≡◌, T, ℕ, ◌+◌, ◌^◌, List, [], ◌∷◌, sym, refl, ap, subst, lit<, w64, dcons, dnil, a_type, Val, has_ty, WT, vunit, vint, inst_fn, SProp, wand, id⊢, via, apply∗, guard_i, Lft, Share, Fml, ftrue, fsep, flft, fbor, finv, sem, ‵, raw, ◌⊛◌, some, given, later, mean, at_ret, ◌$◌, ◌∵◌, !, qed, by, move, keep, drop, split, join, fsplit, fjoin, fpick, fpack, pick, learn, use1, use2, use3, await, rewrite, feq_i, feq_l, flt_i, stop, fld, addr, lit, unit_lit, of_opd, no_more, and_then, first, blocks, exec, Calls-last, returns, enter, alloc_all, pass_all, free_all, look_at, get, get_in, through, sets, sets_last, lands_last, env, agg, sub, whole, tables, fact, fact_use, Lends-one, no, RattleType, owns, types_at, plain, named_lft, Ptr, InBlock, block_ptr, block_of, count_of, at_block, nothing, heard, param, bounded, Stays, stay_dropped, walk_of, Goes-dropped, proved, leaves, fm, found, finds, stored, has_stored, tail}
+use mir.Syntax.{Body, ty_unit}
+use base.Fml.{feq}
+use types.ByLocal.{is}
+use denote.RawPtr.{ptr_val}
+use denote.Steps.{only}
 use denote.Triple.Call.{calls_at_last}
 use denote.Triple.Spec.{triple_of}
-use denote.Triple.Walked.{Stays, stay_dropped, walk_of, Goes-dropped}
-use Rattle.std.proofs.raw_atomic.Walks.{proved, leaves}
-use Rattle.std.proofs.raw_atomic.Calls.{fm, seq_cst, found, finds, stored, has_stored, loads, stores}
+use Rattle.std.proofs.raw_atomic.Calls.{seq_cst, loads, stores}
 use Rattle.thread_local_lock.specs.Locking.{Fitting, fitting, invariant, guard_owns}
 use Rattle.thread_local_lock.specs.contracts.lock.LockGuard as guard
 use Rattle.thread_local_lock.specs.contracts.lock.wake_if as waker
 use Rattle.thread_local_lock.proofs.lock.wake_if.Met as waker_met
 use Rattle.thread_local_lock.specs.contracts.lock.LockGuard.drop.{ended, clauses}
 use Rattle.thread_local_lock.specs.contracts.lock.LockGuard.drop.Key.{name as #self}
-use Rattle.thread_local_lock.proofs.Steps.{tail, looked, released}
+use Rattle.thread_local_lock.proofs.Steps.{looked, released}
 use Rattle.thread_local_lock.proofs.Fields.{guard_of, typed, told}
 use Rattle.thread_local_lock.proofs.Guards.{placed}
 use Rattle.thread_local_lock.proofs.lock.LockGuard.drop.Statement.{statement}

@@ -1,40 +1,17 @@
 -- `deref` lends the value that the guard has the right to.
-use Rattle.std.proofs.Common.{◌≡◌, ℕ, ◌+◌, List, [], ◌∷◌, ◌++◌, sym, refl, ap, ◌∙◌}
-use mir.Syntax.{dcons, dnil, a_type, named}
-use mir.Val.{Val, vptr}
-use mir.MapTy.{inst_fn}
-use base.Logic.{SProp, emp, guard_i}
-use base.Fml.{Lft, Fml, ftrue, fsep, flft, fhide, Incl-refl}
-use types.Logic.{sem}
-use types.Kit.{‵, raw, ◌⊛◌, given, at_ret, ◌$◌, ◌∵◌, !, qed, by, move, keep, split, join, fsplit, fjoin, learn, use0, use1, rewrite, feq_i}
-use types.Run.{stop, fld, hop, addr, of_opd, first, blocks, exec, returns, enter}
-use types.ByLocal.{alloc_all, pass_all, free_all, look_at, get, through, sets, sets_last, env}
-use types.Part.{sub, whole, look_in}
-use contract.Running.{tables}
-use contract.Monad.{fact, fact_i, fact_use}
+use Rattle.thread_local_lock.proofs.Names.{◌≡◌, ℕ, ◌+◌, List, [], ◌∷◌, ◌++◌, sym, refl, ap, ◌∙◌, dcons, dnil, a_type, named, Val, vptr, inst_fn, SProp, emp, guard_i, Lft, Fml, ftrue, fsep, flft, sem, ‵, raw, ◌⊛◌, given, at_ret, ◌$◌, ◌∵◌, !, qed, by, move, keep, split, join, fsplit, fjoin, learn, use0, use1, rewrite, feq_i, stop, fld, hop, addr, of_opd, first, blocks, exec, returns, enter, alloc_all, pass_all, free_all, look_at, get, through, sets, sets_last, env, sub, whole, look_in, tables, fact, fact_i, fact_use, yes, RattleType, owns, types_at, plain, named_lft, Ptr, InBlock, block_ptr, block_of, count_of, at_block, nothing, peeks, unhide, Is, shows, cell_at, param, bounded, param_laws, RefOf, shr_vals, shr_Tells, Stays, stay_dropped, walk_of, Goes-dropped, proved, leaves, tail}
+use base.Fml.{fhide, Incl-refl}
 use contract.BorrowLft.{⊑_meet}
-use denote.Exit.{yes}
-use denote.RattleType.{RattleType, owns}
-use denote.Signature.{types_at, plain, named_lft}
-use denote.RawPtr.{Ptr, InBlock, block_ptr, block_of, count_of, at_block}
-use denote.Steps.{nothing, peeks, looks, shuts}
-use denote.Opens.{unhide}
-use denote.Laws.{Is, shows}
-use denote.Memory.{cell_at, hidden_shr, shared_of}
-use denote.Param.{param, bounded}
-use denote.Param.Laws.{param_laws}
-use denote.Builtin.{RefOf}
-use denote.Ref.{ShrRef, shr_vals, shr_Tells}
+use denote.Steps.{looks, shuts}
+use denote.Memory.{hidden_shr, shared_of}
+use denote.Ref.{ShrRef}
 use denote.SharingLaws.{shortens}
 use denote.Struct.Lending.{lent_out}
-use denote.Triple.Walked.{Stays, stay_dropped, walk_of, Goes-dropped}
-use Rattle.std.proofs.raw_atomic.Walks.{proved, leaves}
 use Rattle.std.specs.contracts.marker.PhantomData as marker
 use Rattle.thread_local_lock.specs.Locking.{offset, guard_shares}
 use Rattle.thread_local_lock.specs.contracts.lock.LockGuard as guard
 use Rattle.thread_local_lock.specs.contracts.lock.lends.LockGuardDeref.deref.{ended, clauses}
 use Rattle.thread_local_lock.specs.contracts.lock.lends.LockGuardDeref.deref.Key.{name as #self}
-use Rattle.thread_local_lock.proofs.Steps.{tail}
 use Rattle.thread_local_lock.proofs.Fields.{guard_of, Words, told, opened}
 use Rattle.thread_local_lock.proofs.Guards.{seen}
 use Rattle.thread_local_lock.proofs.lock.lends.LockGuardDeref.deref.Statement.{statement}

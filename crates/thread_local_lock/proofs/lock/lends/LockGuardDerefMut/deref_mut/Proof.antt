@@ -1,40 +1,16 @@
 -- `deref_mut` lends the value, and the guard follows it.
-use Rattle.std.proofs.Common.{◌≡◌, ℕ, ◌+◌, List, [], ◌∷◌, sym, refl, ap, ◌∙◌}
-use mir.Syntax.{dcons, dnil, a_type, named}
-use mir.Val.{Val, vptr}
-use mir.MapTy.{inst_fn}
-use base.Fraction.{full_share}
-use base.Logic.{SProp, emp, guard_i}
-use base.Fml.{Lft, GName, Share, Fml, ftrue, fsep, fobs, fbor, flft}
-use types.Logic.{sem}
+use Rattle.thread_local_lock.proofs.Names.{◌≡◌, ℕ, ◌+◌, List, [], ◌∷◌, sym, refl, ap, ◌∙◌, dcons, dnil, a_type, named, Val, vptr, inst_fn, full_share, SProp, emp, guard_i, Lft, GName, Share, Fml, ftrue, fsep, fbor, flft, sem, ‵, raw, ◌⊛◌, some, given, later, at_ret, ◌$◌, ◌∵◌, !, qed, by, move, keep, split, split3, join, fsplit, fsplit3, fjoin, fjoin3, fpick, fpack, pick, learn, use0, use1, use2, use3, await, rewrite, feq_i, stop, fld, hop, addr, of_opd, first, blocks, exec, returns, enter, alloc_all, pass_all, free_all, look_at, get, through, sets, sets_last, env, open_ref, sub, whole, look_in, tables, fact, fact_i, fact_use, no, RattleType, owns, types_at, plain, named_lft, Ptr, InBlock, block_ptr, block_of, count_of, at_block, nothing, peeks, Is, shows, cell_at, part_at, mem, param, bounded, RefMutOf, mut_vals, mut_Tells, follows, Stays, stay_dropped, walk_of, Goes-spent_ref, proved, leaves, tail}
+use base.Fml.{fobs}
 use types.SemTy.{Body}
-use types.Kit.{‵, raw, ◌⊛◌, some, given, later, at_ret, ◌$◌, ◌∵◌, !, qed, by, move, keep, split, split3, join, fsplit, fsplit3, fjoin, fjoin3, fpick, fpack, pick, learn, use0, use1, use2, use3, await, rewrite, feq_i}
-use types.Run.{stop, fld, hop, addr, of_opd, first, blocks, exec, returns, enter}
-use types.ByLocal.{alloc_all, pass_all, free_all, look_at, get, through, sets, sets_last, env}
-use types.Mut.{open_ref, close_ref}
-use types.Part.{sub, whole, look_in}
-use contract.Running.{tables}
-use contract.Monad.{fact, fact_i, fact_use}
-use denote.Exit.{no}
-use denote.RattleType.{RattleType, owns}
-use denote.Signature.{types_at, plain, named_lft}
-use denote.RawPtr.{Ptr, InBlock, block_ptr, block_of, count_of, at_block}
-use denote.Steps.{nothing, peeks}
-use denote.Laws.{Is, shows}
-use denote.Memory.{cell_at, part_at, part_of, mem}
-use denote.Param.{param, bounded}
-use denote.Builtin.{RefMutOf}
-use denote.Ref.{MutBor, mut_vals, mut_Tells}
-use denote.Follow.{follows}
+use types.Mut.{close_ref}
+use denote.Memory.{part_of}
+use denote.Ref.{MutBor}
 use denote.Struct.OwningLaws.{part_out, part_in}
-use denote.Triple.Walked.{Stays, stay_dropped, walk_of, Goes-spent_ref}
-use Rattle.std.proofs.raw_atomic.Walks.{proved, leaves}
 use Rattle.thread_local_lock.specs.Guarded.{guard_with_value}
 use Rattle.thread_local_lock.specs.Locking.{Fitting, offset, guard_owns}
 use Rattle.thread_local_lock.specs.contracts.lock.LockGuard as guard
 use Rattle.thread_local_lock.specs.contracts.lock.lends.LockGuardDerefMut.deref_mut.{ended, clauses}
 use Rattle.thread_local_lock.specs.contracts.lock.lends.LockGuardDerefMut.deref_mut.Key.{name as #self}
-use Rattle.thread_local_lock.proofs.Steps.{tail}
 use Rattle.thread_local_lock.proofs.Fields.{guard_of, Words, told}
 use Rattle.thread_local_lock.proofs.Guards.{placed}
 use Rattle.thread_local_lock.proofs.Handed.{hands_value}

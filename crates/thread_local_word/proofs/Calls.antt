@@ -33,9 +33,9 @@ use Rattle.std.specs.contracts.sync.atomic.raw.park as park
 use Rattle.std.proofs.sync.atomic.raw.park.Symbol as park_is
 use Rattle.std.proofs.sync.atomic.raw.park.Met as park_met
 use Rattle.std.proofs.raw_atomic.Calls.{fm, stored, marker, marker_laws, dict, picked, found, called, answers}
-use Rattle.thread_local_lock.specs.contracts.word.exchange as step
-use Rattle.thread_local_lock.proofs.word.exchange.Symbol as step_is
-use Rattle.thread_local_lock.proofs.word.exchange.Met as step_met
+use Rattle.thread_local_word.specs.contracts.word.exchange as step
+use Rattle.thread_local_word.proofs.word.exchange.Symbol as step_is
+use Rattle.thread_local_word.proofs.word.exchange.Met as step_met
 
 module _ {M : Type 1} {𝓤 : Ura M} (𝓛 : Logic 𝓤) (𝓜 : Model 𝓤 𝓛.H) (𝓡 : Running 𝓤 𝓛.H 𝓜) where
   open 𝓛 use {H, A}

@@ -39,13 +39,14 @@ use Rattle.std.specs.contracts.result.Result.{the_row as ResultOf}
 use Rattle.std.specs.contracts.sync.atomic.raw.compare_exchange as callee
 use Rattle.std.proofs.sync.atomic.raw.compare_exchange.Met.{met}
 use Rattle.std.proofs.result.Result.TheLaws.{the_row_laws as result_laws}
-use Rattle.thread_local_lock.specs.contracts.word.word_of as reader
-use Rattle.thread_local_lock.proofs.word.word_of.Met as reader_met
-use Rattle.thread_local_lock.specs.contracts.word.exchange.{ended, clauses}
-use Rattle.thread_local_lock.specs.contracts.word.exchange.Key.{name as #self}
-use Rattle.thread_local_lock.proofs.word.exchange.Statement.{statement}
-use Rattle.thread_local_lock.proofs.word.exchange.Code as code
-use Rattle.thread_local_lock.proofs.Steps.{tail, order_made}
+use Rattle.thread_local_word.specs.contracts.word.word_of as reader
+use Rattle.thread_local_word.proofs.word.word_of.Met as reader_met
+use Rattle.thread_local_word.specs.contracts.word.exchange.{ended, clauses}
+use Rattle.thread_local_word.specs.contracts.word.exchange.Key.{name as #self}
+use Rattle.thread_local_word.proofs.word.exchange.Statement.{statement}
+use Rattle.thread_local_word.proofs.word.exchange.Code as code
+use Rattle.thread_local_word.proofs.Bodies.{tail}
+use Rattle.thread_local_word.proofs.Ordered.{order_made}
 
 abbrev step : ℕ → ℕ → ℕ → ℕ
 step old new n = either (eqb n old) new n
@@ -86,7 +87,7 @@ exchange_spec 𝓤 𝓛 𝓜 𝓡 wired Y laws g d met' =
     let gv = (((result_laws u64 u64 word_laws word_laws).lawful 𝓛).typed r (v ∷ []) is).0 in let j : read.Ghost = ((tt, tt, tt, (r, tt), (v ∷ [], tt)), tt) in
     lands_last ! refl gv $ exec ! 𝓣.C 𝓣.Λ Ev (tail fn.body) (at_ret Ev Post) $ sets ! (of_opd ! (get ! refl)) refl gv $
     nothing ! $ move ! (1 ∷ 0 ∷ []) $ fjoin ! $ nothing ! $ join ! $ nothing ! $ move ! (1 ∷ 0 ∷ []) $ join ! $ use1 𝓛 (raw (read.pre j)) (id⊢ 𝓤 (read.pre j)) $
-    calls_at ! (fm 𝓛 𝓜 𝓡) read (reader_met.met 𝓤 𝓛 𝓜 𝓡 (code.calls-thread_local_lock::word::word_of 𝓡.env wired)) j (and_then ! (get ! refl) (no_more !)) (λ u.
+    calls_at ! (fm 𝓛 𝓜 𝓡) read (reader_met.met 𝓤 𝓛 𝓜 𝓡 (code.calls-thread_local_word::word::word_of 𝓡.env wired)) j (and_then ! (get ! refl) (no_more !)) (λ u.
     use1 𝓛 (later (some (λ (n : ℕ). (‵ ftrue ⊛ ‵ (u64.own_val n (u ∷ []))) ⊛ some (λ (_ : Unit {0} × Unit {0}). ‵ (fsep ftrue ftrue) ⊛ raw (fact 𝓤 (n ≡ word_found r)))))) (id⊢ 𝓤 (read.post j u)) $
     await ! tt $ pick ! (λ n. split ! $ split ! $ drop ! $ fsplit ! $ feq_l ! (λ e. flt_l ! (λ fits. pick ! (λ _. split ! $ drop ! $ heard ! (n ≡ word_found r) (λ same.
     lands_as ! (ap only e) refl (tt, record { fits = fits }) $ rewrite ! 0 (λ (m : ℕ). ‵ (g.after m)) (sym same) refl $
