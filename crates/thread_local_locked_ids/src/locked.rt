@@ -1,5 +1,5 @@
 //! The ids of a table, for all its threads.
-ghost use Rattle.std.specs.Prelude.{◌≡◌, ℕ, IfOk};
+ghost use Rattle.std.specs.Prelude.{◌≡◌, ℕ, ◌-◌, ◌^◌, ◌<◌, IfOk};
 
 use crate::{HeldId, Ids};
 use std::marker::Model;
@@ -29,9 +29,10 @@ impl LockedIds {
         }
     }
 
-    /// Takes the least id that isn't held. May wait.
+    /// Takes the least id that isn't held, as `Ids::take` does. May wait, and may take memory.
     pub fn take<R: Wait>(&self, rt: &R) -> Result<HeldId, LocalError>
-        ensures { IfOk result (λ taken. taken.right.table ≡ self.now) }
+        ensures right { IfOk result (λ taken. taken.right.table ≡ self.now) }
+        ensures in_range { IfOk result (λ taken. taken.id < 2 ^ 63 - 1) }
     {
         self.ids.lock(rt).take()
     }
