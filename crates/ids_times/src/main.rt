@@ -2,12 +2,10 @@
 //! The argument is the number of pairs, of which each of four threads does a fourth. With none it measures nothing.
 #![tactic(auto)]
 
-use std::env;
-use std::io;
 use std::sync::{Mutex, Wait};
-use std::thread;
 use std::thread::Threads;
 use std::time::{Clock, Instant};
+use std::{env, io, thread};
 use thread_local_locked_ids::{Ids, LockedIds};
 use thread_local_thread_id::ThreadIdManager;
 
@@ -55,7 +53,11 @@ impl Shared for Mutex<ThreadIdManager> {
 }
 
 /// The nanoseconds for a pair, alone and with four threads.
-fn times<S: Shared, R: Clock + Threads + Wait + Sync>(ids: &S, rt: &R, pairs: u64) -> io::Result<(u128, u128)> {
+fn times<S: Shared, R: Clock + Threads + Wait + Sync>(
+    ids: &S,
+    rt: &R,
+    pairs: u64,
+) -> io::Result<(u128, u128)> {
     let start = Instant::now(rt)?;
     ids.take_and_give(rt, pairs);
     let alone = start.elapsed(rt)?;
@@ -71,5 +73,9 @@ fn by_four<S: Shared, R: Threads + Wait + Sync>(ids: &S, rt: &R, pairs: u64) {
 }
 
 fn by_two<S: Shared, R: Threads + Wait + Sync>(ids: &S, rt: &R, pairs: u64) {
-    thread::join(rt, || ids.take_and_give(rt, pairs), || ids.take_and_give(rt, pairs));
+    thread::join(
+        rt,
+        || ids.take_and_give(rt, pairs),
+        || ids.take_and_give(rt, pairs),
+    );
 }

@@ -38,7 +38,7 @@ const TRIES: u64 = 100;
 
 /// A value that one thread at a time writes through a `&`. A contract sees the tag of its value.
 ///
-/// A guard that is forgotten leaves the lock taken for good.
+/// A guard that is forgotten leaves the lock taken, until an owner's `get_mut`.
 pub struct Lock<V: Fits> {
     word: u64,
     value: V,
@@ -62,7 +62,7 @@ pub struct LockGuard<'a, V: Fits> {
     marker: PhantomData<&'a V>,
     pub ghost tag: { ℕ },
     pub ghost value: { V } by { V.code },
-    // What a `&mut` to the lock follows, where the guard was made of one.
+    /// What a `&mut` to the lock follows, where `get_mut` made the guard of it.
     pub ghost name: { ℕ },
 }
 
@@ -81,13 +81,13 @@ impl<V: Fits> Lock<V> {
         Lock { word: FREE, value }
     }
 
-    /// The value, of which nothing is known: a guard may have been forgotten.
+    /// The value, of which nothing is known, since a guard may have been forgotten.
     pub fn into_inner(self) -> V {
         let Self { word: _, value } = self;
         value
     }
 
-    /// Takes the lock if it is free.
+    /// Takes the lock if it is free. It never waits.
     pub fn try_lock(&self) -> Option<LockGuard<'_, V>>
         ensures tag { IfSome result (λ guard. (guard.tag ≡ self.now) × (V.tag guard.value ≡ self.now)) }
         ensures fits { IfSome result (λ guard. V.fits guard.value) }
@@ -95,7 +95,7 @@ impl<V: Fits> Lock<V> {
         self.take(TAKEN)
     }
 
-    /// Takes the lock. May wait: it tries for a while, and then sleeps in between.
+    /// Takes the lock. May wait: it tries for a while, and then sleeps in between. It takes no memory.
     pub fn lock<R: Wait>(&self, rt: &R) -> LockGuard<'_, V>
         ensures tag { (result.tag ≡ self.now) × (V.tag result.value ≡ self.now) }
         ensures fits { V.fits result.value }
@@ -145,7 +145,7 @@ impl<V: Fits> Lock<V> {
 }
 
 impl<V: Fits> LockGuard<'_, V> {
-    /// Leaves the lock taken for good, as a guard does that is forgotten.
+    /// Leaves the lock taken, as a guard does that is forgotten.
     pub fn leave_taken(self) {
         let Self { lock: _, marker: _ } = self;
     }

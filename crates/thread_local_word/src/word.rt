@@ -1,4 +1,4 @@
-//! The compare and exchange of a lock's word, which answers the word as it was.
+//! The compare and exchange of a word, which answers the word as it was.
 ghost use Rattle.std.specs.Prelude.{◌≡◌, ◌==◌};
 ghost use types.Logic.{sem};
 ghost use prog.Atomic.{either};
@@ -8,6 +8,7 @@ use std::sync::atomic::Ordering::SeqCst;
 use std::sync::atomic::raw;
 use std::sync::atomic::raw::Outcome;
 
+/// The word that a compare and exchange found.
 fn word_of(seen: Result<u64, u64>) -> u64
     ensures { result ≡ word_found seen }
 {
@@ -17,6 +18,7 @@ fn word_of(seen: Result<u64, u64>) -> u64
     }
 }
 
+/// Writes `new` where the word is `old`, in one step, and answers the word as it was.
 pub unsafe fn exchange<O: Outcome>(word: *const u64, old: u64, new: u64) -> u64
     requires* { asks 𝓛 word (λ n. either (n == old) new n) always O.after }
     ensures* { sem 𝓛 (O.after result) }
