@@ -1,0 +1,530 @@
+#!/usr/bin/env python3
+"""Runs random schedules of the table's model and checks every clause of the theorem after every event.
+
+    tools/schedules.py                      a clause that fails is printed with its schedule
+    tools/schedules.py --wrong              tries each wrong body in turn: some clause must fail for it
+    tools/schedules.py --seed 7 --runs 2000 --events 120
+
+The definitions stand in table_model.py, under the names of the specs. Each clause of the theorem is a
+function here. Nothing is proved: this finds a clause that is false, or that says too little, before a proof
+is tried.
+"""
+
+import argparse
+import random
+import sys
+from dataclasses import dataclass, replace
+
+import table_model as model
+from table_model import BUCKETS, IDS, Core, Slot, View, bucket_of, held_count, is_held, is_reserved, least, live_local, live_walk, new_core, new_sheet
+
+
+@dataclass
+class Moment:
+    """An event of a schedule, with what was counted along it."""
+
+    capacity: int  # that the table was made with
+    before: Core
+    event: tuple
+    after: Core
+    most: int  # the greatest number of ids held at once since the table was made or cleared
+    bound: int  # each take so far came while fewer ids than this were held
+    cleared: bool  # whether the table was cleared so far
+
+
+# ---- clauses on every event ----------------------------------------------------------------------------
+
+
+def live(core):
+    return [(n, it) for n, it in enumerate(core.locals) if it is not None]
+
+
+def walking(core):
+    return [(n, it) for n, it in enumerate(core.walks) if it is not None]
+
+
+def is_granted_take(m):
+    return m.event[0] == "Take" and model.is_enabled(m.before, m.event) and not model.is_refused(m.before, m.event)
+
+
+def is_clear(m):
+    return m.event == ("Owner", ("Clear",)) and model.is_enabled(m.before, m.event)
+
+
+def clause_moves(m):
+    return model.shadow(m.after) == model.moved(model.shadow(m.before), model.move_of(m.before, m.event))
+
+
+def clause_allowed(m):
+    return model.is_allowed(model.shadow(m.before), model.move_of(m.before, m.event))
+
+
+def clause_idle(m):
+    return model.is_enabled(m.before, m.event) or m.after == m.before
+
+
+def clause_ended(m):
+    return not m.before.ended or m.after == m.before
+
+
+def clause_least(m):
+    """A granted take makes a Local with the least id that isn't held, and with no call behind it."""
+    if not is_granted_take(m):
+        return True
+    made = live_local(m.after, len(m.before.locals))
+    return made is not None and made.id == least(model.shadow(m.before).held) and made.calls == () and made.answers == ()
+
+
+def clause_unshared(m):
+    ids = [it.id for _, it in live(m.after)]
+    return len(ids) == len(set(ids)) and all(is_held(model.shadow(m.after).held, k) for k in ids)
+
+
+def clause_first_values_stay(m):
+    old, new = model.shadow(m.before).values, model.shadow(m.after).values
+    return model.is_exclusive(m.event) or all(a is None or a == b for a, b in zip(old, new))
+
+
+def clause_owner_walk(m):
+    return model.owner_walk(m.after.table) == model.walk(model.shadow(m.after).values)
+
+
+def clause_flagged(m):
+    return all(not it.flag or it.written is not None for named in m.after.table.words if named for it in named.slots)
+
+
+def clause_answers(m):
+    return all(it.answers == model.answers(it.start, it.calls) for _, it in live(m.after))
+
+
+def clause_start(m):
+    if not is_granted_take(m):
+        return True
+    made, sheet = live_local(m.after, len(m.before.locals)), model.shadow(m.before)
+    value = sheet.values[made.id]
+    return made.start == View(value, is_reserved(sheet.capacity, made.id) or value is not None)
+
+
+def clause_history(m):
+    for n, it in live(m.before):
+        then = live_local(m.after, n)
+        if then is not None:
+            if (then.id, then.start) != (it.id, it.start):
+                return False
+            if then.calls != it.calls and then.calls[:-1] != it.calls:
+                return False
+    return True
+
+
+def clause_cleared(m):
+    return not is_clear(m) or model.shadow(m.after) == new_sheet()
+
+
+def clause_after_clear(m):
+    if not is_clear(m):
+        return True
+    made = live_local(model.happens(m.after, ("Take", False, 0)), len(m.after.locals))
+    return made is not None and made.id == 0 and made.start == View(None, False)
+
+
+def clause_peak(m):
+    return len(m.after.held) == m.most
+
+
+def clause_below_peak(m):
+    return all(it.id < len(m.after.held) for _, it in live(m.after))
+
+
+def clause_slots(m):
+    return model.slots(m.after.table) <= max(2 * max(m.capacity, len(m.after.held)) - 1, 0)
+
+
+def clause_private(m):
+    return all(it.doing[0] != "Private" or 2 ** bucket_of(it.id) <= len(m.after.held) for _, it in live(m.after))
+
+
+def clause_published(m):
+    return len(model.walk(model.shadow(m.after).values)) <= len(m.after.held)
+
+
+def clause_refusals(m):
+    """A take is refused only where no room is left and memory was refused, or where no id is left."""
+    if m.event[0] != "Take" or not model.is_refused(m.before, m.event):
+        return True
+    core = m.before
+    return held_count(core.held) == IDS or (all(core.held) and len(core.held) == core.room and m.event[1])
+
+
+def clause_within_capacity(m):
+    sheet = model.shadow(m.before)
+    return not (m.event[0] == "Take" and held_count(sheet.held) < sheet.capacity and model.is_refused(m.before, m.event))
+
+
+def clause_reserved(m):
+    if m.event[0] == "OfLocal" and model.is_refused(m.before, m.event):
+        return not is_reserved(model.shadow(m.before).capacity, m.before.locals[m.event[1]].id)
+    return all(("Memory",) not in it.answers for _, it in live(m.after) if is_reserved(model.shadow(m.after).capacity, it.id))
+
+
+def clause_answered(m):
+    """Want of memory is answered by the step that was refused memory, and by no other."""
+    for n, it in live(m.before):
+        then = live_local(m.after, n)
+        told = then is not None and then.answers != it.answers and then.answers[-1] == ("Memory",)
+        if told != (m.event[0] == "OfLocal" and m.event[1] == n and model.is_refused(m.before, m.event)):
+            return False
+    return True
+
+
+def clause_headline_new(m):
+    return m.capacity != 0 or model.slots(m.after.table) <= max(2 * m.bound - 1, 0)
+
+
+def clause_headline_capacity(m):
+    return m.cleared or m.bound > m.capacity or not model.is_refused(m.before, m.event)
+
+
+def clause_words(m):
+    old, new = m.before.table.words, m.after.table.words
+    return model.is_exclusive(m.event) or all(a is None or (b is not None and a.number == b.number) for a, b in zip(old, new))
+
+
+def clause_walk_complete(m):
+    for _, it in walking(m.after):
+        if model.is_complete(it) and any(v is not None and (k, v) not in it.given for k, v in enumerate(it.first)):
+            return False
+    return True
+
+
+def clause_walk_published(m):
+    values = model.shadow(m.after).values
+    return all(values[k] == v for _, it in walking(m.after) for k, v in it.given)
+
+
+def clause_walk_ascending(m):
+    return all(a > b for _, it in walking(m.after) for (a, _), (b, _) in zip(it.given, it.given[1:]))
+
+
+def clause_walk_reads(m):
+    return all(a > b for _, it in walking(m.after) for a, b in zip(it.read, it.read[1:]))
+
+
+def clause_walk_loads(m):
+    return all(it.loads <= BUCKETS + len(it.given) for _, it in walking(m.after))
+
+
+def clause_walk_first(m):
+    """A walk's first sight is what was published at its first load."""
+    for n, it in walking(m.before):
+        then = live_walk(m.after, n)
+        if then is not None:
+            first = model.shadow(m.before).values if (it.loads, then.loads) == (0, 1) else it.first
+            if then.first != first:
+                return False
+    return True
+
+
+def clause_walk_history(m):
+    """A walk's record only grows, and its steps are the only ones that make it grow."""
+    for n, it in walking(m.before):
+        then = live_walk(m.after, n)
+        if then is not None:
+            if then.given != it.given and then.given[1:] != it.given:
+                return False
+            if then.read != it.read and then.read[1:] != it.read:
+                return False
+            if not it.loads <= then.loads <= it.loads + 1:
+                return False
+    return True
+
+
+CLAUSES = {name[len("clause_") :]: it for name, it in list(globals().items()) if name.startswith("clause_")}
+
+
+# ---- the story -----------------------------------------------------------------------------------------
+
+
+def publishes(number, value, missing):
+    """The steps of a Local's first publishing call, where its bucket is missing or stands."""
+    steps = [("BeginGetOr", ("Ok", value)), ("LoadWord",)]
+    steps += [("MakeBucket", False), ("InstallBucket",)] if missing else [("LookAtFlag",)]
+    return [("OfLocal", number, it) for it in steps + [("WriteValue",), ("SetFlag",)]]
+
+
+def story():
+    """Four Locals publish in a new table, a walk gives the four, and the next Local finds the first again."""
+    four = ["a", "b", "c", "d"]
+    core = model.run(new_core(), [("Take", False, 0)] * 4)
+    for k in range(4):
+        core = model.run(core, publishes(k, four[k], k in (0, 1, 3)))
+    if model.walk(model.shadow(core).values) != four or model.shadow(core).values[:4] != tuple(four):
+        return "four values"
+    if model.slots(core.table) != 7:
+        return "seven slots"
+    core = model.happens(core, ("BeginWalk",))
+    for _ in range(200):
+        core = model.run(core, [("OfWalk", 0, "Load"), ("OfWalk", 0, "Look")])
+    it = live_walk(core, 0)
+    if it is None or not model.is_complete(it) or list(reversed(it.given)) != list(enumerate(four)):
+        return "the walk gives the four"
+    core = model.run(core, [("EndWalk", 0)] + [("GiveBack", k) for k in range(4)] + [("Take", False, 0)])
+    it = live_local(core, 4)
+    if it is None or it.id != 0 or it.start.value != "a":
+        return "the next finds the first value"
+    core = model.happens(core, ("GiveBack", 4))
+    if not model.is_enabled(core, ("Owner", ("IterMut", Rewriter(0)))) or model.owner_walk(core.table) != four:
+        return "the owner's walk gives the four"
+    core = model.happens(core, ("Owner", ("Clear",)))
+    return None if model.shadow(core) == new_sheet() else "clear leaves the sheet of new"
+
+
+# ---- random schedules ----------------------------------------------------------------------------------
+
+
+class Rewriter:
+    """What an owner writes: another value at each id."""
+
+    def __init__(self, mark):
+        self.mark = mark
+
+    def __call__(self, identity, value):
+        return f"{value}/{self.mark}"
+
+    def __repr__(self):
+        return f"Rewriter({self.mark})"
+
+
+def any_step(chance, mark):
+    create = ("Ok", f"v{mark}") if chance.random() < 0.75 else ("Err", f"e{mark}")
+    begins = [("BeginGet",), ("BeginGetOr", create), ("BeginGetOr", create)]
+    goes_on = [("LoadWord",), ("LookAtFlag",), ("InstallBucket",), ("WriteValue",), ("SetFlag",), ("Reply",)]
+    return chance.choice(begins + goes_on * 2 + [("MakeBucket", chance.random() < 0.3)] * 2)
+
+
+def random_event(chance, core, mark):
+    """An event of any kind, of a Local or a walk that lives if there is one."""
+    numbers, walks = [n for n, _ in live(core)], [n for n, _ in walking(core)]
+    number = chance.choice(numbers) if numbers and chance.random() < 0.97 else chance.randrange(len(core.locals) + 1)
+    walk_number = chance.choice(walks) if walks else chance.randrange(len(core.walks) + 1)
+    kind = chance.random()
+    if kind < 0.06:
+        return ("Take", chance.random() < 0.4, chance.choice([0, 0, 1, 2]))
+    if kind < 0.70:
+        return ("OfLocal", number, any_step(chance, mark))
+    if kind < 0.74:
+        return ("GiveBack", number)
+    if kind < 0.745:
+        return ("Forget", number)
+    if kind < 0.76:
+        return ("BeginWalk",)
+    if kind < 0.955:
+        return ("OfWalk", walk_number, chance.choice(["Load", "Look"]))
+    if kind < 0.96:
+        return ("EndWalk", walk_number)
+    return ("Owner", owner_call(chance, mark))
+
+
+def owner_call(chance, mark):
+    if chance.random() < 0.05:
+        return (chance.choice(["IntoIter", "DropTable"]),)
+    return chance.choice([("IterMut", Rewriter(mark)), ("Slots",), ("Clear",)])
+
+
+def quiet_events(chance, core):
+    """Events that let every Local and walk end, so that exclusive calls get their turn."""
+    steps = [("LoadWord",), ("LookAtFlag",), ("MakeBucket", False), ("InstallBucket",), ("WriteValue",), ("SetFlag",), ("Reply",)]
+    events = []
+    for n, _ in live(core):
+        events += [("OfLocal", n, it) for _ in range(6) for it in steps]
+        events.append(("GiveBack", n) if chance.random() < 0.9 else ("Forget", n))
+    for n, _ in walking(core):
+        events += [("OfWalk", n, name) for _ in range(chance.choice([0, 40])) for name in ("Load", "Look")] + [("EndWalk", n)]
+    return events + [("Owner", owner_call(chance, "quiet")) for _ in range(chance.randrange(4))]
+
+
+def kind_of(event):
+    last = event[-1]
+    return event[0] + (":" + (last if isinstance(last, str) else last[0]) if event[0] in ("OfLocal", "OfWalk", "Owner") else "")
+
+
+def one_schedule(seed, length, seen):
+    """Runs one schedule and returns the first clause that fails, with the events up to there."""
+    chance = random.Random(seed)
+    capacity = chance.choice([0, 0, 0, 1, 2, 3, 4, IDS])
+    core = model.made_core(capacity, chance.choice([0, 0, 1, 3]))
+    most, bound, cleared, events, waiting = 0, 0, False, [], []
+    for mark in range(length):
+        if not waiting and chance.random() < 0.012:
+            waiting = quiet_events(chance, core)
+        event = waiting.pop(0) if waiting else random_event(chance, core, mark)
+        for _ in range(3):  # mostly an event that is enabled
+            if not model.is_enabled(core, event) and not waiting and chance.random() < 0.9:
+                event = random_event(chance, core, mark)
+        events.append(event)
+        if event[0] == "Take":
+            bound = max(bound, held_count(core.held) + 1)
+        after = model.happens(core, event)
+        if model.is_enabled(core, event):
+            name = ("refused " if model.is_refused(core, event) else "") + kind_of(event)
+            seen[name] = seen.get(name, 0) + 1
+            if event == ("Owner", ("Clear",)):
+                cleared, most = True, 0
+        most = max(most, held_count(after.held))
+        moment = Moment(capacity, core, event, after, most, bound, cleared)
+        for name, clause in CLAUSES.items():
+            try:
+                well = clause(moment)
+            except Exception as error:  # a wrong body may leave a state that a clause can't read
+                well, name = False, f"{name} ({type(error).__name__}: {error})"
+            if not well:
+                return name, events
+        core = after
+        if core.ended and chance.random() < 0.2:
+            break
+    return None, events
+
+
+def try_runs(seed, runs, length):
+    seen = {}
+    for k in range(runs):
+        failed, events = one_schedule(seed * 1_000_003 + k, length, seen)
+        if failed:
+            return failed, events, seen, k + 1
+    return None, [], seen, runs
+
+
+# ---- wrong bodies --------------------------------------------------------------------------------------
+
+
+def wrong_bodies():
+    """For each wrong body the definitions that it replaces."""
+    right = {name: getattr(model, name) for name in ("take", "write_value", "install_bucket", "reply", "walk_load")}
+
+    def fresh_id(core, refused, growth):
+        identity = len(core.held)
+        if not model.is_granted(core, refused) or identity >= IDS:
+            return core
+        after = right["take"](replace(core, held=(True,) * identity), refused, growth)
+        return replace(after, held=core.held + (True,))
+
+    def loser_stores(table, local):
+        if local.doing[0] == "Private":
+            b = bucket_of(local.id)
+            return right["install_bucket"](model.with_word(table, b, None), local)
+
+    def flag_first(table, local):
+        after = right["write_value"](table, local)
+        if after is not None and after[1].doing[0] == "Written":
+            return model.with_slot(table, local.id, Slot(None, True)), after[1]
+        return after
+
+    def write_last(table, local):
+        if local.doing[0] == "Written":
+            value = local.doing[1]
+            told = model.ended_call(local, ("GetOr", ("Ok", value), False), ("Value", value), ("Holding", value), ("Gets", 0))
+            return model.with_slot(table, local.id, Slot(value, True)), told
+
+    def overwrites(table, local):
+        after = right["reply"](table, local)
+        if after is not None and local.doing[0] == "Started" and local.doing[1][0] == "Ok":
+            return model.with_slot(table, local.id, Slot(local.doing[1][1], True)), after[1]
+        return after
+
+    def stops_early(table, it):
+        after = right["walk_load"](table, it)
+        return after if after is None or model.stands(table, it.bucket) else replace(after, bucket=BUCKETS)
+
+    def installs_two(table, local):
+        after = right["install_bucket"](table, local)
+        b = bucket_of(local.id) + 1
+        if after is not None and b < BUCKETS and not model.stands(table, b):
+            return model.with_word(after[0], b, model.fresh_bucket(b, table.made)), after[1]
+        return after
+
+    def empties_slot(core, refused, growth):
+        after = right["take"](core, refused, growth)
+        return after if after is core else replace(after, table=model.with_slot(after.table, least(core.held), Slot()))
+
+    def error_publishes(table, local):
+        after = right["write_value"](table, local)
+        if after is not None and local.doing[1][0] == "Err":
+            return model.with_slot(table, local.id, Slot(local.doing[1][1], True)), after[1]
+        return after
+
+    def leaves_last(table):
+        return [model.value_of(it) for named in table.words[: BUCKETS - 1] if named for it in named.slots if it.flag]
+
+    def keeps_held(core, number):
+        return model.forget(core, number)
+
+    def never(*_):
+        return None
+
+    def steps(**it):
+        return {"LOCAL_STEPS": {**model.LOCAL_STEPS, **it}}
+
+    return {
+        "take gives a fresh id": {"take": fresh_id},
+        "the loser stores its bucket over the winner's": steps(InstallBucket=loser_stores),
+        "the flag is set before the write": steps(WriteValue=flag_first, SetFlag=write_last),
+        "give back doesn't free the id": {"give_back": keeps_held},
+        "publishing is never enabled": steps(SetFlag=never),
+        "give back is never enabled": {"give_back": never},
+        "no walk is ever enabled": {"begin_walk": never},
+        "no exclusive call is ever enabled": {"is_alone": lambda core: False},
+        "a publishing where a value stands overwrites it": steps(Reply=overwrites),
+        "get answers nothing": {"found": lambda learnt: (None,) if learnt[0] in ("Missing", "Vacant", "Holding") else None},
+        "the walk stops at the first empty word": {"WALK_STEPS": {**model.WALK_STEPS, "Load": stops_early}},
+        "take refuses below the room": {"is_granted": lambda core, refused: not (model.is_exhausted(core) or refused)},
+        "install installs the next bucket too": steps(InstallBucket=installs_two),
+        "clear keeps values": {"cleared": lambda core: replace(new_core(), table=core.table)},
+        "a reused id's slot is emptied by the take": {"take": empties_slot},
+        "the closure's error publishes": steps(WriteValue=error_publishes),
+        "the exclusive walk leaves out the last bucket": {"owner_walk": leaves_last},
+    }
+
+
+def try_wrong_bodies(seed, runs, length):
+    """Says for each wrong body which clauses fail first, and whether the story breaks. Returns those that nothing refuses."""
+    left = []
+    for name, body in wrong_bodies().items():
+        kept = {key: getattr(model, key) for key in body}
+        for key, it in body.items():
+            setattr(model, key, it)
+        try:
+            told = story()
+            failed, _, _, count = try_runs(seed, runs, length)
+        finally:
+            for key, it in kept.items():
+                setattr(model, key, it)
+        by = ([f"clause {failed}, schedule {count}"] if failed else []) + ([f"the story: {told}"] if told else [])
+        print(f"{name}: " + ("refused by " + " and by ".join(by) if by else "NOT REFUSED"))
+        left += [] if by else [name]
+    return left
+
+
+def main():
+    words = argparse.ArgumentParser(description=__doc__.splitlines()[0])
+    words.add_argument("--seed", type=int, default=1)
+    words.add_argument("--runs", type=int, default=2000)
+    words.add_argument("--events", type=int, default=250)
+    words.add_argument("--wrong", action="store_true")
+    given = words.parse_args()
+    if given.wrong:
+        sys.exit(1 if try_wrong_bodies(given.seed, given.runs, given.events) else 0)
+    failed, events, seen, count = try_runs(given.seed, given.runs, given.events)
+    for name in sorted(seen):
+        print(f"  {seen[name]:8} {name}")
+    if failed:
+        print(f"clause {failed} fails in schedule {count}, after:")
+        for event in events:
+            print("   ", event)
+    elif story():
+        print(f"the story fails: {story()}")
+    else:
+        print(f"{count} schedules of up to {given.events} events: all {len(CLAUSES)} clauses and the story hold")
+    sys.exit(1 if failed or story() else 0)
+
+
+if __name__ == "__main__":
+    main()

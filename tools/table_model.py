@@ -1,0 +1,585 @@
+"""The table's model, under the names of the specs, with few buckets so that all ids can be held.
+
+Each event of a schedule is a tuple: ("Take", refused, growth), ("OfLocal", number, step), ("GiveBack", number),
+("Forget", number), ("BeginWalk",), ("OfWalk", number, step), ("EndWalk", number), ("Owner", call).
+"""
+
+from dataclasses import dataclass, replace
+
+BUCKETS = 3
+IDS = 2**BUCKETS - 1
+
+
+# ---- places, held ids, capacity ------------------------------------------------------------------------
+
+
+def bucket_of(identity):
+    return (identity + 1).bit_length() - 1
+
+
+def index_of(identity):
+    return identity - (2 ** bucket_of(identity) - 1)
+
+
+def id_at(bucket, index):
+    return index + (2**bucket - 1)
+
+
+def is_held(held, identity):
+    return identity < len(held) and held[identity]
+
+
+def least(held):
+    return next((k for k, it in enumerate(held) if not it), len(held))
+
+
+def with_least(held):
+    k = least(held)
+    return held[:k] + (True,) + held[k + 1 :]
+
+
+def without(held, identity):
+    return tuple(it and k != identity for k, it in enumerate(held))
+
+
+def held_count(held):
+    return sum(held)
+
+
+def binary_digits(n):
+    return 0 if n == 0 else bucket_of(n - 1) + 1
+
+
+def reserved(capacity):
+    return 2 ** binary_digits(capacity) - 1
+
+
+def is_reserved(capacity, identity):
+    return identity < reserved(capacity)
+
+
+# ---- sheet and moves -----------------------------------------------------------------------------------
+
+
+@dataclass(frozen=True)
+class Sheet:
+    held: tuple
+    values: tuple  # by id, None where there is no value
+    capacity: int
+
+
+def new_sheet():
+    return Sheet((), (None,) * IDS, 0)
+
+
+def moved(sheet, move):
+    match move:
+        case ("Take",):
+            return replace(sheet, held=with_least(sheet.held))
+        case ("Give", identity):
+            return replace(sheet, held=without(sheet.held, identity))
+        case ("Publish", identity, value):
+            return replace(sheet, values=with_value(sheet.values, identity, value))
+        case ("Rewrite", others):
+            return replace(sheet, values=tuple(others(k, v) if v is not None else None for k, v in enumerate(sheet.values)))
+        case ("Clear",):
+            return new_sheet()
+        case ("Stay",):
+            return sheet
+
+
+def is_allowed(sheet, move):
+    match move:
+        case ("Give", identity):
+            return is_held(sheet.held, identity)
+        case ("Publish", identity, _):
+            return is_held(sheet.held, identity) and sheet.values[identity] is None
+    return True
+
+
+def with_value(values, identity, value):
+    return values[:identity] + (value,) + values[identity + 1 :]
+
+
+def walk(values):
+    return [v for v in values if v is not None]
+
+
+# ---- views and answers ---------------------------------------------------------------------------------
+
+
+@dataclass(frozen=True)
+class View:
+    value: object
+    known: bool
+
+
+def answer(view, call):
+    """A call is ("Get",) or ("GetOr", create, refused), where create is ("Ok", value) or ("Err", error)."""
+    if call[0] == "Get":
+        return ("Found", view.value)
+    _, create, refused = call
+    if view.value is not None:
+        return ("Value", view.value)
+    if refused and not view.known:
+        return ("Memory",)
+    return ("Value", create[1]) if create[0] == "Ok" else ("Create", create[1])
+
+
+def view_after(view, call):
+    if call[0] == "Get" or view.value is not None:
+        return view
+    _, create, refused = call
+    if refused and not view.known:
+        return view
+    return View(create[1] if create[0] == "Ok" else None, True)
+
+
+def answers(view, calls):
+    given = []
+    for call in calls:
+        given.append(answer(view, call))
+        view = view_after(view, call)
+    return tuple(given)
+
+
+# ---- the core ------------------------------------------------------------------------------------------
+
+
+@dataclass(frozen=True)
+class Slot:
+    written: object = None
+    flag: bool = False
+
+
+@dataclass(frozen=True)
+class Bucket:
+    number: int
+    slots: tuple
+
+
+def fresh_bucket(bucket, number):
+    return Bucket(number, (Slot(),) * 2**bucket)
+
+
+@dataclass(frozen=True)
+class Table:
+    words: tuple  # for each bucket None, or the bucket that its word names
+    made: int
+
+
+def slot_in(table, bucket, index):
+    word = table.words[bucket]
+    return word.slots[index] if word is not None else Slot()
+
+
+def value_of(slot):
+    return slot.written if slot.flag else None
+
+
+def slot_at(table, identity):
+    return slot_in(table, bucket_of(identity), index_of(identity))
+
+
+def published(table, identity):
+    return value_of(slot_at(table, identity))
+
+
+def stands(table, bucket):
+    return table.words[bucket] is not None
+
+
+def with_word(table, bucket, named):
+    return replace(table, words=table.words[:bucket] + (named,) + table.words[bucket + 1 :])
+
+
+def with_slot(table, identity, slot):
+    b, i = bucket_of(identity), index_of(identity)
+    named = table.words[b]
+    if named is None:
+        return table
+    return with_word(table, b, replace(named, slots=named.slots[:i] + (slot,) + named.slots[i + 1 :]))
+
+
+def slots(table):
+    return sum(2**b for b in range(BUCKETS) if stands(table, b))
+
+
+@dataclass(frozen=True)
+class Local:
+    id: int
+    learnt: tuple  # Unknown, Missing, Standing, Vacant, Holding value
+    doing: tuple  # Gets count, Started create, Private create number, Written value
+    start: View
+    calls: tuple = ()
+    answers: tuple = ()
+
+
+@dataclass(frozen=True)
+class Walk:
+    bucket: int = 0
+    index: int = 0
+    looks: bool = False
+    first: tuple = (None,) * IDS
+    given: tuple = ()  # newest first, pairs of id and value
+    read: tuple = ()
+    loads: int = 0
+
+
+@dataclass(frozen=True)
+class Core:
+    held: tuple
+    room: int
+    capacity: int
+    table: Table
+    locals: tuple = ()
+    walks: tuple = ()
+    ended: bool = False
+
+
+def made_core(capacity, extra):
+    digits = binary_digits(capacity)
+    words = tuple(fresh_bucket(b, b) if b < digits else None for b in range(BUCKETS))
+    return Core((), capacity + extra, capacity, Table(words, digits))
+
+
+def new_core():
+    return made_core(0, 0)
+
+
+def shadow(core):
+    return Sheet(core.held, tuple(published(core.table, k) for k in range(IDS)), core.capacity)
+
+
+# ---- events --------------------------------------------------------------------------------------------
+# Each step answers None where it isn't enabled.
+
+
+def is_full(core):
+    """Every id below the peak is held, and the peak is all the room that there is."""
+    return least(core.held) == core.room
+
+
+def is_exhausted(core):
+    return least(core.held) == IDS
+
+
+def is_granted(core, refused):
+    return not (is_exhausted(core) or (is_full(core) and refused))
+
+
+def view_at(core, identity):
+    value = published(core.table, identity)
+    return View(value, is_reserved(core.capacity, identity) or value is not None)
+
+
+def take(core, refused, growth):
+    if not is_granted(core, refused):
+        return core
+    identity = least(core.held)
+    held = with_least(core.held)
+    fresh = Local(identity, ("Unknown",), ("Gets", 0), view_at(core, identity))
+    return replace(core, held=held, room=max(core.room, len(held)) + growth, locals=core.locals + (fresh,))
+
+
+def ended_call(local, call, told, learnt, doing):
+    return replace(local, calls=local.calls + (call,), answers=local.answers + (told,), learnt=learnt, doing=doing)
+
+
+def is_calling(doing):
+    return doing[0] == "Started" or (doing[0] == "Gets" and doing[1] > 0)
+
+
+def begin_get(table, local):
+    match local.doing:
+        case ("Gets", count):
+            return table, replace(local, doing=("Gets", count + 1))
+
+
+def begin_get_or(table, local, create):
+    match local.doing:
+        case ("Gets", 0):
+            return table, replace(local, doing=("Started", create))
+
+
+def load_word(table, local):
+    if is_calling(local.doing) and local.learnt[0] in ("Unknown", "Missing"):
+        return table, replace(local, learnt=("Standing",) if stands(table, bucket_of(local.id)) else ("Missing",))
+
+
+def look_at_flag(table, local):
+    if is_calling(local.doing) and local.learnt[0] == "Standing":
+        value = published(table, local.id)
+        return table, replace(local, learnt=("Vacant",) if value is None else ("Holding", value))
+
+
+def make_bucket(table, local, refused):
+    match local.doing, local.learnt:
+        case ("Started", create), ("Missing",):
+            if refused:
+                return table, ended_call(local, ("GetOr", create, True), ("Memory",), ("Missing",), ("Gets", 0))
+            return replace(table, made=table.made + 1), replace(local, doing=("Private", create, table.made))
+
+
+def install_bucket(table, local):
+    match local.doing:
+        case ("Private", create, number):
+            b = bucket_of(local.id)
+            after = table if stands(table, b) else with_word(table, b, fresh_bucket(b, number))
+            return after, replace(local, learnt=("Vacant",), doing=("Started", create))
+
+
+def write_value(table, local):
+    match local.doing, local.learnt:
+        case ("Started", ("Ok", value)), ("Vacant",):
+            slot = replace(slot_at(table, local.id), written=value)
+            return with_slot(table, local.id, slot), replace(local, doing=("Written", value))
+        case ("Started", ("Err", error)), ("Vacant",):
+            return table, ended_call(local, ("GetOr", ("Err", error), False), ("Create", error), ("Vacant",), ("Gets", 0))
+
+
+def set_flag(table, local):
+    match local.doing:
+        case ("Written", value):
+            slot = replace(slot_at(table, local.id), flag=True)
+            call = ("GetOr", ("Ok", value), False)
+            return with_slot(table, local.id, slot), ended_call(local, call, ("Value", value), ("Holding", value), ("Gets", 0))
+
+
+def found(learnt):
+    match learnt:
+        case ("Missing",) | ("Vacant",):
+            return (None,)
+        case ("Holding", value):
+            return (value,)
+
+
+def reply(table, local):
+    match local.doing:
+        case ("Gets", count) if count > 0 and found(local.learnt) is not None:
+            return table, ended_call(local, ("Get",), ("Found", found(local.learnt)[0]), local.learnt, ("Gets", count - 1))
+        case ("Started", create) if local.learnt[0] == "Holding":
+            value = local.learnt[1]
+            return table, ended_call(local, ("GetOr", create, False), ("Value", value), local.learnt, ("Gets", 0))
+
+
+LOCAL_STEPS = {
+    "BeginGet": begin_get,
+    "BeginGetOr": begin_get_or,
+    "LoadWord": load_word,
+    "LookAtFlag": look_at_flag,
+    "MakeBucket": make_bucket,
+    "InstallBucket": install_bucket,
+    "WriteValue": write_value,
+    "SetFlag": set_flag,
+    "Reply": reply,
+}
+
+
+def live_local(core, number):
+    return core.locals[number] if number < len(core.locals) else None
+
+
+def with_local(core, number, local):
+    return replace(core, locals=core.locals[:number] + (local,) + core.locals[number + 1 :])
+
+
+def local_step(core, number, step):
+    local = live_local(core, number)
+    if local is None:
+        return None
+    after = LOCAL_STEPS[step[0]](core.table, local, *step[1:])
+    if after is None:
+        return None
+    return with_local(replace(core, table=after[0]), number, after[1])
+
+
+def give_back(core, number):
+    local = live_local(core, number)
+    if local is not None and local.doing == ("Gets", 0):
+        return with_local(replace(core, held=without(core.held, local.id)), number, None)
+
+
+def forget(core, number):
+    local = live_local(core, number)
+    if local is not None and local.doing == ("Gets", 0):
+        return with_local(core, number, None)
+
+
+def cursor(walking):
+    return id_at(walking.bucket, walking.index)
+
+
+def is_complete(walking):
+    return walking.bucket >= BUCKETS
+
+
+def at_next_bucket(walking):
+    return replace(walking, bucket=walking.bucket + 1, index=0, looks=False)
+
+
+def at_place(walking):
+    """At the end of the bucket the walk goes on with the next, else it looks."""
+    return at_next_bucket(walking) if walking.index == 2**walking.bucket else replace(walking, looks=True)
+
+
+def walk_load(table, walking):
+    if walking.looks or is_complete(walking):
+        return None
+    first = tuple(published(table, k) for k in range(IDS)) if walking.loads == 0 else walking.first
+    loaded = replace(walking, loads=walking.loads + 1, first=first)
+    return at_place(loaded) if stands(table, walking.bucket) else at_next_bucket(loaded)
+
+
+def walk_look(table, walking):
+    if not walking.looks:
+        return None
+    here = cursor(walking)
+    value = value_of(slot_in(table, walking.bucket, walking.index))
+    looked = replace(walking, read=(here,) + walking.read, index=walking.index + 1)
+    if value is None:
+        return at_place(looked)
+    return replace(looked, given=((here, value),) + walking.given, looks=False)
+
+
+WALK_STEPS = {"Load": walk_load, "Look": walk_look}
+
+
+def live_walk(core, number):
+    return core.walks[number] if number < len(core.walks) else None
+
+
+def with_walk(core, number, walking):
+    return replace(core, walks=core.walks[:number] + (walking,) + core.walks[number + 1 :])
+
+
+def begin_walk(core):
+    return replace(core, walks=core.walks + (Walk(),))
+
+
+def walk_step(core, number, step):
+    walking = live_walk(core, number)
+    if walking is None:
+        return None
+    after = WALK_STEPS[step](core.table, walking)
+    return None if after is None else with_walk(core, number, after)
+
+
+def end_walk(core, number):
+    return None if live_walk(core, number) is None else with_walk(core, number, None)
+
+
+def is_alone(core):
+    return all(it is None for it in core.locals) and all(it is None for it in core.walks)
+
+
+def owner_walk(table):
+    given = []
+    for b in range(BUCKETS):
+        if stands(table, b):
+            given += [value_of(it) for it in table.words[b].slots if it.flag]
+    return given
+
+
+def rewritten(table, others):
+    words = tuple(
+        None
+        if named is None
+        else replace(
+            named,
+            slots=tuple(replace(it, written=others(id_at(b, i), it.written)) if it.flag else it for i, it in enumerate(named.slots)),
+        )
+        for b, named in enumerate(table.words)
+    )
+    return replace(table, words=words)
+
+
+def cleared(core):
+    return new_core()
+
+
+def owner_call(core, call):
+    if not is_alone(core):
+        return None
+    match call:
+        case ("IterMut", others):
+            return replace(core, table=rewritten(core.table, others))
+        case ("Slots",):
+            return core
+        case ("Clear",):
+            return cleared(core)
+        case ("IntoIter",) | ("DropTable",):
+            return replace(core, ended=True)
+
+
+def step(core, event):
+    """The core after an event that is enabled, else None."""
+    if core.ended:
+        return None
+    match event:
+        case ("Take", refused, growth):
+            return take(core, refused, growth)
+        case ("OfLocal", number, it):
+            return local_step(core, number, it)
+        case ("GiveBack", number):
+            return give_back(core, number)
+        case ("Forget", number):
+            return forget(core, number)
+        case ("BeginWalk",):
+            return begin_walk(core)
+        case ("OfWalk", number, it):
+            return walk_step(core, number, it)
+        case ("EndWalk", number):
+            return end_walk(core, number)
+        case ("Owner", call):
+            return owner_call(core, call)
+
+
+def happens(core, event):
+    after = step(core, event)
+    return core if after is None else after
+
+
+def is_enabled(core, event):
+    return step(core, event) is not None
+
+
+def run(core, events):
+    for event in events:
+        core = happens(core, event)
+    return core
+
+
+def is_exclusive(event):
+    return event[0] == "Owner"
+
+
+def is_refused(core, event):
+    """The event ends in want of memory or of ids."""
+    if not is_enabled(core, event):
+        return False
+    match event:
+        case ("Take", refused, _):
+            return not is_granted(core, refused)
+        case ("OfLocal", _, ("MakeBucket", refused)):
+            return refused
+    return False
+
+
+def move_of(core, event):
+    """The move that an event is."""
+    if not is_enabled(core, event):
+        return ("Stay",)
+    match event:
+        case ("Take", refused, _):
+            return ("Take",) if is_granted(core, refused) else ("Stay",)
+        case ("OfLocal", number, ("SetFlag",)):
+            local = core.locals[number]
+            return ("Publish", local.id, local.doing[1])
+        case ("GiveBack", number):
+            return ("Give", core.locals[number].id)
+        case ("Owner", ("IterMut", others)):
+            return ("Rewrite", others)
+        case ("Owner", ("Clear",)):
+            return ("Clear",)
+    return ("Stay",)
