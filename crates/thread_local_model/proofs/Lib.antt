@@ -1,2 +1,5 @@
 pub mod PlaceLaws
 pub mod HeldLaws
+pub mod WalkLaws
+pub mod CapacityLaws
+pub mod SlotsLaws

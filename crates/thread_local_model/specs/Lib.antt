@@ -2,3 +2,6 @@ pub mod Place
 pub mod Held
 pub mod Walk
 pub mod Buckets
+pub mod Capacity
+pub mod Sheet
+pub mod Answers

@@ -1,4 +1,4 @@
-use Rattle.std.specs.Prelude.{ℕ, zero, suc, ◌-◌, ◌^◌, ◌==◌, if◌then◌else◌, List, [], ◌++◌, Option, Some, option_to_list}
+use Rattle.std.specs.Prelude.{ℕ, zero, suc, ◌-◌, ◌^◌, ◌==◌, if◌then◌else◌, List, [], ◌++◌, Option, Some, option_map, option_to_list}
 
 -- the values of a map at the ids below n, by ascending id
 unfoldable pub walk_below : {V : Type 0} → (ℕ → Option V) → ℕ → List V
@@ -12,3 +12,7 @@ walk values = walk_below values (2 ^ 63 - 1)
 -- the map with this value at this id, and every other id as it was
 abbrev pub with_value : {V : Type 0} → (ℕ → Option V) → ℕ → V → ℕ → Option V
 with_value values id v j = if id == j then Some v else values j
+
+-- the map that has each value together with its id
+abbrev pub paired : {V : Type 0} → (ℕ → Option V) → ℕ → Option (ℕ × V)
+paired values id = option_map (λ v. (id, v)) (values id)

@@ -3,5 +3,8 @@
 //! The definitions stand in specs/. Each function here has an empty body: its contract is a set of laws.
 #![tactic(auto)]
 
+pub mod capacity;
 pub mod held;
 pub mod place;
+pub mod slots;
+pub mod walk;

@@ -1,0 +1,82 @@
+use Rattle.std.proofs.Common.{◌≡◌, ℕ, zero, suc, ◌+◌, ◌-◌, ◌*◌, ◌^◌, ◌<◌, ◌≤◌, IsTrue, refl, arith, pow_mono, add-one, ⊎_elim}
+use Rattle.std.specs.Prelude.{nat_lt, ◌↔◌}
+use Rattle.std.proofs.lemmas.Bool.{cases_lt, ltb-true, lt-ltb, le-ltb, cond-true}
+use Rattle.std.proofs.Math.Nat.{two-pow-succ}
+use Rattle.thread_local_model.specs.Place.{bucket_of}
+use Rattle.thread_local_model.specs.Capacity.{binary_digits, reserved_slots, is_reserved}
+use Rattle.thread_local_model.specs.Buckets.{slots, slots_below}
+use Rattle.thread_local_model.proofs.PlaceLaws as place
+use Rattle.thread_local_model.proofs.SlotsLaws.{slots_below-further}
+
+pub no_digits : binary_digits 0 ≡ 0
+unfolding binary_digits
+no_digits = refl
+
+pub below_digits : (n : ℕ) → n < 2 ^ binary_digits n
+unfolding binary_digits
+below_digits zero = omega arith
+below_digits (suc n) =
+    let e = place.equation n in
+    let i = place.inside n in
+    let twice : 2 ^ (bucket_of n + 1) ≡ 2 ^ bucket_of n + 2 ^ bucket_of n = rw add-one (two-pow-succ (bucket_of n)) in
+    omega arith
+
+pub digits_below : (n : ℕ) → 0 < n → 2 ^ binary_digits n ≤ 2 * n
+unfolding binary_digits
+digits_below zero h = absurd (omega arith)
+digits_below (suc n) h =
+    let e = place.equation n in
+    let twice : 2 ^ (bucket_of n + 1) ≡ 2 ^ bucket_of n + 2 ^ bucket_of n = rw add-one (two-pow-succ (bucket_of n)) in
+    omega arith
+
+pub few_digits : (n : ℕ) → n < 2 ^ 63 → binary_digits n ≤ 63
+unfolding binary_digits
+few_digits zero h = omega arith
+few_digits (suc n) h = omega (arith, place.bucket_of-below n (omega arith))
+
+pub capacity-reserved_slots : (capacity : ℕ) → capacity ≤ reserved_slots capacity
+unfolding reserved_slots
+capacity-reserved_slots capacity = omega (arith, below_digits capacity)
+
+-- an id lies in one of the first k buckets where it is below their slots
+pub in_first : (k id : ℕ) → id < 2 ^ k - 1 → bucket_of id < k
+in_first k id h =
+    ⊎_elim (λ below. below)
+    (λ above.
+    let e = place.equation id in
+    let up : 2 ^ k ≤ 2 ^ bucket_of id = pow_mono above in
+    absurd (omega arith))
+    (cases_lt (bucket_of id) k)
+
+pub below_first : (k id : ℕ) → bucket_of id < k → id < 2 ^ k - 1
+below_first k id h =
+    let e = place.equation id in
+    let i = place.inside id in
+    let up : 2 ^ suc (bucket_of id) ≤ 2 ^ k = pow_mono h in
+    let twice = two-pow-succ (bucket_of id) in
+    omega arith
+
+pub reserved_buckets : (capacity id : ℕ) → IsTrue (is_reserved capacity id) ↔ (bucket_of id < binary_digits capacity)
+unfolding reserved_slots
+reserved_buckets capacity id = (
+  (λ t. in_first (binary_digits capacity) id (ltb-true id (2 ^ binary_digits capacity - 1) t)),
+  (λ h. lt-ltb id (2 ^ binary_digits capacity - 1) (below_first (binary_digits capacity) id h)),
+)
+
+-- the first n buckets have 2 ^ n - 1 slots
+first_slots : (k n : ℕ) → n ≤ k → slots_below (λ b. nat_lt b k) n + 1 ≡ 2 ^ n
+unfolding slots_below
+first_slots k zero h = omega arith
+first_slots k (suc n) h =
+    let ih = first_slots k n (omega arith) in
+    let here = cond-true (nat_lt n k) (2 ^ n) 0 (lt-ltb n k h) in
+    let twice = two-pow-succ n in
+    omega arith
+
+pub slots-reserved : (capacity : ℕ) → capacity < 2 ^ 63 → slots (λ bucket. nat_lt bucket (binary_digits capacity)) ≡ reserved_slots capacity
+unfolding slots reserved_slots
+slots-reserved capacity h =
+    let k = binary_digits capacity in
+    let first = first_slots k k (omega arith) in
+    let rest = slots_below-further (λ b. nat_lt b k) k 63 (few_digits capacity h) (λ b low high. le-ltb b k low) in
+    omega arith

@@ -1,0 +1,79 @@
+use Rattle.std.proofs.Common.{◌≡◌, ℕ, zero, suc, ◌<◌, ⊎_elim, List, [], ◌∷◌, ◌++◌, length, get_or, map, Option, Some, None, refl, ap, sym, ◌∙◌, arith}
+use Rattle.std.specs.Prelude.{Contains, option_to_list, option_map}
+use Rattle.std.specs.List.Sorted.{IsStrictlyIncreasing}
+use Rattle.std.proofs.lemmas.Bool.{cases_order}
+use Rattle.std.proofs.lemmas.List.{append-nil, map-append}
+use Rattle.std.proofs.lemmas.List.Elements.{Contains-append_left, Contains-append_right, Contains-append_cases}
+use Rattle.std.proofs.lemmas.Grind.{common_steps}
+use Rattle.thread_local_model.specs.Walk.{walk_below, paired}
+
+-- the values of pairs that grow by a pair with this value
+values-push : {V : Type 0} (pairs : List (ℕ × V)) (vs : List V) (id : ℕ) (o : Option V) → map (λ pair. pair.1) pairs ≡ vs
+    → map (λ pair. pair.1) (pairs ++ option_to_list (option_map (λ v. (id, v)) o)) ≡ vs ++ option_to_list o
+values-push pairs vs id None h = rw (append-nil, append-nil) h
+values-push pairs vs id (Some v) h = map-append (λ pair. pair.1) pairs ((id, v) ∷ []) ∙ ap (λ xs. xs ++ v ∷ []) h
+
+-- the values of the pairs are those of the map
+pub map-walk_below : {V : Type 0} (values : ℕ → Option V) (n : ℕ) → map (λ pair. pair.1) (walk_below (paired values) n) ≡ walk_below values n
+unfolding walk_below
+map-walk_below values zero = refl
+map-walk_below values (suc n) = values-push (walk_below (paired values) n) (walk_below values n) n (values n) (map-walk_below values n)
+
+-- every id of the pairs is below n, and each is below the next
+record IsAscendingBelow (ids : List ℕ) (n : ℕ) : Type 0 where
+  increasing : IsStrictlyIncreasing ids
+  below : (k : ℕ) → k < length ids → get_or ids k 0 < n
+
+ascends-push : (ids : List ℕ) (n : ℕ) → IsAscendingBelow ids n → IsAscendingBelow (ids ++ n ∷ []) (suc n)
+ascends-push ids n h = record {
+  increasing = λ k l. grind (arith, common_steps, h.increasing k, h.below k);
+  below = λ k l. grind (arith, common_steps, h.below k);
+}
+
+ids-push : {V : Type 0} (pairs : List (ℕ × V)) (n : ℕ) (o : Option V) → IsAscendingBelow (map (λ pair. pair.0) pairs) n
+    → IsAscendingBelow (map (λ pair. pair.0) (pairs ++ option_to_list (option_map (λ v. (n, v)) o))) (suc n)
+ids-push pairs n None h = rw append-nil (record { increasing = h.increasing; below = λ k l. omega (arith, h.below k l) })
+ids-push pairs n (Some v) h = rw (map-append (λ (pair : ℕ × _). pair.0) pairs ((n, v) ∷ [])) (ascends-push (map (λ pair. pair.0) pairs) n h)
+
+ascends : {V : Type 0} (values : ℕ → Option V) (n : ℕ) → IsAscendingBelow (map (λ pair. pair.0) (walk_below (paired values) n)) n
+unfolding walk_below
+ascends values zero = record { increasing = λ k l. absurd (omega arith); below = λ k l. absurd (omega arith) }
+ascends values (suc n) = ids-push (walk_below (paired values) n) n (values n) (ascends values n)
+
+pub strictly_ascends : {V : Type 0} (values : ℕ → Option V) (n : ℕ) → IsStrictlyIncreasing (map (λ pair. pair.0) (walk_below (paired values) n))
+strictly_ascends values n = (ascends values n).increasing
+
+-- the only element of a list of one
+only : {X : Type 0} (x y : X) → Contains (x ∷ []) y → x ≡ y
+only x y (zero, l, e) = e
+only x y (suc k, l, e) = absurd (omega (arith, l))
+
+-- what is in the one pair of an id
+in_one : {V : Type 0} (n id : ℕ) (v : V) (o : Option V) → Contains {X = ℕ × V} (option_to_list (option_map (λ w. (n, w)) o)) (id, v) → (n ≡ id) × (o ≡ Some v)
+in_one n id v None h = absurd (omega (arith, h.1))
+in_one n id v (Some w) h = (ap (λ pair. pair.0) (only (n, w) (id, v) h), ap (λ pair. Some pair.1) (only (n, w) (id, v) h))
+
+pub listed : {V : Type 0} (values : ℕ → Option V) (n id : ℕ) (v : V) → Contains (walk_below (paired values) n) (id, v) → (id < n) × (values id ≡ Some v)
+unfolding walk_below
+listed values zero id v h = absurd (omega (arith, h.1))
+listed values (suc n) id v h =
+    ⊎_elim
+    (λ before. let ih = listed values n id v before in (omega (arith, ih.0), ih.1))
+    (λ last. let here = in_one n id v (values n) last in (omega (arith, here.0), ap values (sym here.0) ∙ here.1))
+    (Contains-append_cases (walk_below (paired values) n) (option_to_list (paired values n)) (id, v) h)
+
+-- the pair of an id that has a value
+its_pair : {V : Type 0} (id : ℕ) (v : V) (o : Option V) → o ≡ Some v → Contains {X = ℕ × V} (option_to_list (option_map (λ w. (id, w)) o)) (id, v)
+its_pair id v None h = cc
+its_pair id v (Some w) h = let same : w ≡ v = cc in (0, omega arith, ap (λ x. (id, x)) same)
+
+pub in_list : {V : Type 0} (values : ℕ → Option V) (n id : ℕ) (v : V) → id < n → values id ≡ Some v → Contains (walk_below (paired values) n) (id, v)
+unfolding walk_below
+in_list values zero id v l h = absurd (omega arith)
+in_list values (suc n) id v l h =
+    ⊎_elim
+    (λ here. Contains-append_right (walk_below (paired values) n) (option_to_list (paired values n)) (id, v) (rw (← here) (its_pair id v (values id) h)))
+    (⊎_elim
+    (λ below. Contains-append_left (walk_below (paired values) n) (option_to_list (paired values n)) (id, v) (in_list values n id v below h))
+    (λ above. absurd (omega arith)))
+    (cases_order id n)

@@ -1,0 +1,53 @@
+use Rattle.std.specs.Prelude.{Bool, true, false, not, ◌&&◌, List, [], ◌∷◌, Option, Some, None, Result, Ok, Err}
+
+-- what a Local knows of its slot: the value, if there is one, and whether the bucket is known to stand
+pub record View (V : Type 0) : Type 0 where
+  pub value : Option V
+  pub known : Bool
+
+-- A call of a Local: `get`, or one of the `get_or` family, with what its closure would answer and whether
+-- memory for a bucket would be refused.
+pub data Call (V E : Type 0) : Type 0 where
+  Get : Call V E
+  GetOr : (create : Result V E) → (refused : Bool) → Call V E
+
+-- what a call answers: what a get found, a value, want of memory, or the closure's own error
+pub data Answer (V E : Type 0) : Type 0 where
+  Found : (value : Option V) → Answer V E
+  Answered : (value : V) → Answer V E
+  Refused : Answer V E
+  Failed : (error : E) → Answer V E
+
+-- what the `get_or` family answers at a slot, by whether a bucket is wanted and refused
+abbrev pub answer_or : {V E : Type 0} → Option V → Bool → Result V E → Answer V E
+answer_or (Some v) refused create = Answered v
+answer_or None true create = Refused
+answer_or None false (Ok v) = Answered v
+answer_or None false (Err e) = Failed e
+
+-- what a call answers at a view
+abbrev pub answer : {V E : Type 0} → View V → Call V E → Answer V E
+answer view Get = Found view.value
+answer view (GetOr create refused) = answer_or view.value (refused && not view.known) create
+
+-- the view that the `get_or` family leaves
+abbrev pub view_after_or : {V E : Type 0} → View V → Option V → Bool → Result V E → View V
+view_after_or view (Some v) refused create = view
+view_after_or view None true create = view
+view_after_or view None false (Ok v) = record { value = Some v; known = true }
+view_after_or view None false (Err e) = record { value = None; known = true }
+
+-- the view after a call
+abbrev pub view_after : {V E : Type 0} → View V → Call V E → View V
+view_after view Get = view
+view_after view (GetOr create refused) = view_after_or view view.value (refused && not view.known) create
+
+-- the answers to calls that come one after another, from a view
+abbrev pub answers : {V E : Type 0} → View V → List (Call V E) → List (Answer V E)
+answers view [] = []
+answers view (call ∷ calls) = answer view call ∷ answers (view_after view call) calls
+
+-- the view after calls that come one after another
+abbrev pub view_after_all : {V E : Type 0} → View V → List (Call V E) → View V
+view_after_all view [] = view
+view_after_all view (call ∷ calls) = view_after_all (view_after view call) calls

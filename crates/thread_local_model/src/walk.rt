@@ -1,0 +1,11 @@
+ghost use Rattle.std.specs.Prelude.{◌≡◌, ℕ, ◌-◌, ◌^◌, ◌<◌, ◌↔◌, List, map, Contains, Option, Some};
+ghost use Rattle.std.specs.List.Sorted.{IsStrictlyIncreasing};
+ghost use Rattle.thread_local_model.specs.Walk.{walk, paired};
+
+/// A walk gives exactly the values of the map at the ids below 2^63 - 1, each once, by ascending id.
+pub fn walk_lists_the_map<V>()
+    ensures values { (values : ℕ → Option V) → map (λ pair. pair.1) (walk (paired values)) ≡ walk values }
+    ensures exact { (values : ℕ → Option V) (id : ℕ) (v : V)
+        → Contains (walk (paired values)) (id, v) ↔ ((id < 2 ^ 63 - 1) × (values id ≡ Some v)) }
+    ensures ascending { (values : ℕ → Option V) → IsStrictlyIncreasing (map (λ pair. pair.0) (walk (paired values))) }
+{}
