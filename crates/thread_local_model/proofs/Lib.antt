@@ -3,3 +3,4 @@ pub mod HeldLaws
 pub mod WalkLaws
 pub mod CapacityLaws
 pub mod SlotsLaws
+pub mod AnswersLaws

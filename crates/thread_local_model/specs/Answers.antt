@@ -1,4 +1,4 @@
-use Rattle.std.specs.Prelude.{Bool, true, false, not, ◌&&◌, List, [], ◌∷◌, Option, Some, None, Result, Ok, Err}
+use Rattle.std.specs.Prelude.{◌≡◌, Bool, true, false, not, ◌&&◌, List, [], ◌∷◌, Option, Some, None, Result, Ok, Err}
 
 -- what a Local knows of its slot: the value, if there is one, and whether the bucket is known to stand
 pub record View (V : Type 0) : Type 0 where
@@ -51,3 +51,8 @@ answers view (call ∷ calls) = answer view call ∷ answers (view_after view ca
 abbrev pub view_after_all : {V E : Type 0} → View V → List (Call V E) → View V
 view_after_all view [] = view
 view_after_all view (call ∷ calls) = view_after_all (view_after view call) calls
+
+-- at a view this call answers this, and leaves this view
+pub record Says {V E : Type 0} (view : View V) (call : Call V E) (told : Answer V E) (left : View V) : Type 0 where
+  pub answered : answer view call ≡ told
+  pub leaves : view_after view call ≡ left

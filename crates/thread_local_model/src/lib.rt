@@ -3,6 +3,7 @@
 //! The definitions stand in specs/. Each function here has an empty body: its contract is a set of laws.
 #![tactic(auto)]
 
+pub mod answers;
 pub mod capacity;
 pub mod held;
 pub mod place;

@@ -1,0 +1,36 @@
+use Rattle.std.proofs.Common.{◌≡◌, Bool, true, false, not, ◌&&◌, List, [], ◌∷◌, ◌++◌, Option, Some, None, Result, Ok, Err, refl, ap}
+use Rattle.thread_local_model.specs.Answers.{View, Call, Get, GetOr, Answer, Found, Answered, Refused, Failed, answer, view_after, answers, view_after_all, Says}
+
+pub get : {V E : Type 0} (view : View V) → Says {E = E} view Get (Found view.value) view
+get view = record { answered = refl; leaves = refl }
+
+-- where the view has a value, that is answered, and the view stays
+pub held : {V E : Type 0} (view : View V) (v : V) (create : Result V E) (refused : Bool) → view.value ≡ Some v → Says view (GetOr create refused) (Answered v) view
+held view v create refused h = record { answered = rw h refl; leaves = rw h refl }
+
+-- where it has none, and the bucket isn't known to stand, memory may be refused, and the view stays
+pub refused : {V E : Type 0} (view : View V) (create : Result V E) → view.value ≡ None → view.known ≡ false → Says view (GetOr create true) Refused view
+refused view create h k = record { answered = rw (h, k) refl; leaves = rw (h, k) refl }
+
+-- where it has none, and memory isn't refused, the closure's value is answered and seen from then on
+pub created : {V E : Type 0} (view : View V) (v : V) → view.value ≡ None → Says {E = E} view (GetOr (Ok v) false) (Answered v) (record { value = Some v; known = true })
+created view v h = record { answered = rw h refl; leaves = rw h refl }
+
+-- where it has none, and memory isn't refused, the closure's error is answered, and the bucket is known to stand
+pub failed : {V E : Type 0} (view : View V) (e : E) → view.value ≡ None → Says view (GetOr (Err e) false) (Failed e) (record { value = None; known = true })
+failed view e h = record { answered = rw h refl; leaves = rw h refl }
+
+-- where the bucket is known to stand, no memory is asked for
+pub known : {V E : Type 0} (view : View V) (create : Result V E) → view.known ≡ true → answer view (GetOr create true) ≡ answer view (GetOr create false)
+known view create k = rw k refl
+
+-- one call more is answered at the view that the calls before it leave
+pub answers-push : {V E : Type 0} (view : View V) (calls : List (Call V E)) (call : Call V E)
+    → answers view (calls ++ call ∷ []) ≡ answers view calls ++ answer (view_after_all view calls) call ∷ []
+answers-push view [] call = refl
+answers-push view (first ∷ calls) call = ap (λ rest. answer view first ∷ rest) (answers-push (view_after view first) calls call)
+
+pub view_after_all-push : {V E : Type 0} (view : View V) (calls : List (Call V E)) (call : Call V E)
+    → view_after_all view (calls ++ call ∷ []) ≡ view_after (view_after_all view calls) call
+view_after_all-push view [] call = refl
+view_after_all-push view (first ∷ calls) call = view_after_all-push (view_after view first) calls call

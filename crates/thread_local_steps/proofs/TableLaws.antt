@@ -1,0 +1,155 @@
+use Rattle.std.proofs.Common.{◌≡◌, ℕ, ◌+◌, ◌^◌, ◌<◌, ◌⊎◌, Bool, true, false, cond, eqb, IsTrue, Option, Some, None, is_some, refl, ap, sym, ◌∙◌, arith, ⊎_elim, inl, inr}
+use Rattle.std.proofs.lemmas.Bool.{cases_eq, cases_Bool, cond_both, eqb-true, eqb-false, eq-eqb, ne_eqb, false≢true}
+use Rattle.thread_local_model.specs.Place.{bucket_of, index_of}
+use Rattle.thread_local_model.proofs.PlaceLaws as place
+use Rattle.thread_local_steps.specs.Table.{Slot, empty_slot, value_of, Bucket, fresh_bucket, Table, slot_of, slot_at, published, stands, with_bucket, with_slot_of, with_slot}
+use Rattle.thread_local_steps.specs.Local.{offered}
+use Rattle.thread_local_steps.specs.Fits.{named}
+use Rattle.std.specs.Prelude.{option_map}
+
+pub same_function : {A B : Type 0} (f g : A → B) → ((x : A) → f x ≡ g x) → f ≡ g
+same_function f g h = λ i x. h x i
+
+-- an id is told by its place
+pub same_id : (id other : ℕ) → bucket_of id ≡ bucket_of other → index_of id ≡ index_of other → id ≡ other
+same_id id other b i =
+    let e = place.equation id in
+    let f = place.equation other in
+    let power : 2 ^ bucket_of id ≡ 2 ^ bucket_of other = ap (λ k. 2 ^ k) b in
+    omega arith
+
+-- one slot of what a word names is changed, and the others are as they were
+slot_of-with_slot_of_same : {V : Type 0} (word : Option (Bucket V)) (index : ℕ) (slot : Slot V) → IsTrue (is_some word) → slot_of (with_slot_of word index slot) index ≡ slot
+slot_of-with_slot_of_same None index slot t = cc
+slot_of-with_slot_of_same (Some bucket) index slot t = rw (eq-eqb index index refl) refl
+
+slot_of-with_slot_of_other : {V : Type 0} (word : Option (Bucket V)) (index i : ℕ) (slot : Slot V) → (index ≡ i → ⊥) → slot_of (with_slot_of word index slot) i ≡ slot_of word i
+slot_of-with_slot_of_other None index i slot apart = refl
+slot_of-with_slot_of_other (Some bucket) index i slot apart = rw (ne_eqb index i apart) refl
+
+-- the slot of an id is changed, and those of other ids are as they were
+pub slot_at-with_slot_same : {V : Type 0} (table : Table V) (id : ℕ) (slot : Slot V) → IsTrue (stands table (bucket_of id)) → slot_at (with_slot table id slot) id ≡ slot
+unfolding slot_at with_slot stands
+slot_at-with_slot_same table id slot t =
+    rw (eq-eqb (bucket_of id) (bucket_of id) refl) (slot_of-with_slot_of_same (table.words (bucket_of id)) (index_of id) slot t)
+
+pub slot_at-with_slot_other : {V : Type 0} (table : Table V) (id other : ℕ) (slot : Slot V) → (id ≡ other → ⊥) → slot_at (with_slot table id slot) other ≡ slot_at table other
+unfolding slot_at with_slot
+slot_at-with_slot_other table id other slot apart =
+    ⊎_elim
+    (λ same.
+    rw (eq-eqb (bucket_of id) (bucket_of other) same)
+    (slot_of-with_slot_of_other (table.words (bucket_of other)) (index_of id) (index_of other) slot (λ i. apart (same_id id other same i))))
+    (λ elsewhere. rw (ne_eqb (bucket_of id) (bucket_of other) elsewhere) refl)
+    (cases_eq (bucket_of id) (bucket_of other))
+
+-- a changed slot leaves each word naming the bucket that it named
+some-with_slot_of : {V : Type 0} (word : Option (Bucket V)) (index : ℕ) (slot : Slot V) → is_some (with_slot_of word index slot) ≡ is_some word
+some-with_slot_of None index slot = refl
+some-with_slot_of (Some bucket) index slot = refl
+
+some-cond : {A : Type 0} (b : Bool) (x y : Option A) → is_some x ≡ is_some y → is_some (cond b x y) ≡ is_some y
+some-cond true x y h = h
+some-cond false x y h = refl
+
+pub stands-with_slot : {V : Type 0} (table : Table V) (id bucket : ℕ) (slot : Slot V) → stands (with_slot table id slot) bucket ≡ stands table bucket
+unfolding stands with_slot
+stands-with_slot table id bucket slot =
+    some-cond (eqb (bucket_of id) bucket) (with_slot_of (table.words bucket) (index_of id) slot) (table.words bucket) (some-with_slot_of (table.words bucket) (index_of id) slot)
+
+-- an empty word has empty slots
+slot_of-none : {V : Type 0} (word : Option (Bucket V)) (index : ℕ) → is_some word ≡ false → slot_of word index ≡ empty_slot
+slot_of-none None index none = refl
+slot_of-none (Some bucket) index none = cc
+
+pub slot_at-none : {V : Type 0} (table : Table V) (id : ℕ) → stands table (bucket_of id) ≡ false → slot_at table id ≡ empty_slot
+unfolding slot_at stands
+slot_at-none table id none = slot_of-none (table.words (bucket_of id)) (index_of id) none
+
+-- a bucket that comes has empty slots, as if its word were still empty
+pub slot_at-with_bucket : {V : Type 0} (table : Table V) (bucket number id : ℕ) → stands table bucket ≡ false → slot_at (with_bucket table bucket number) id ≡ slot_at table id
+unfolding slot_at with_bucket stands
+slot_at-with_bucket table bucket number id none =
+    ⊎_elim
+    (λ here. rw (eq-eqb bucket (bucket_of id) here) (sym (slot_of-none (table.words (bucket_of id)) (index_of id) (ap (λ b. is_some (table.words b)) (sym here) ∙ none))))
+    (λ apart. rw (ne_eqb bucket (bucket_of id) apart) refl)
+    (cases_eq bucket (bucket_of id))
+
+pub stands-with_bucket : {V : Type 0} (table : Table V) (bucket number other : ℕ) → stands (with_bucket table bucket number) other ≡ cond (eqb bucket other) true (stands table other)
+unfolding stands with_bucket
+stands-with_bucket table bucket number other =
+    ⊎_elim
+    (λ here. rw (eq-eqb bucket other here) refl)
+    (λ apart. rw (ne_eqb bucket other apart) refl)
+    (cases_eq bucket other)
+
+-- what an offer leaves: every slot as it was, the bucket stands, and so does each that stood
+pub slot_at-offered : {V : Type 0} (table : Table V) (bucket number id : ℕ) → slot_at (offered table bucket number) id ≡ slot_at table id
+slot_at-offered {V} table bucket number id =
+    cond_both {A = Table _} (stands table bucket) table (with_bucket table bucket number) (λ t. slot_at t id ≡ slot_at table id) (λ _. refl) (slot_at-with_bucket table bucket number id)
+
+pub stands-offered : {V : Type 0} (table : Table V) (bucket number other : ℕ) → stands (offered table bucket number) other ≡ cond (eqb bucket other) true (stands table other)
+stands-offered table bucket number other =
+    cond_both {A = Table _} (stands table bucket) table (with_bucket table bucket number) (λ t. stands t other ≡ cond (eqb bucket other) true (stands table other))
+    (λ t.
+    ⊎_elim
+    (λ here. rw (eq-eqb bucket other here) (ap (stands table) (sym here) ∙ t))
+    (λ apart. rw (ne_eqb bucket other apart) refl)
+    (cases_eq bucket other))
+    (λ _. stands-with_bucket table bucket number other)
+
+pub published-slot_at : {V : Type 0} (old new : Table V) (id : ℕ) → slot_at new id ≡ slot_at old id → published new id ≡ published old id
+unfolding published
+published-slot_at old new id same = ap value_of same
+
+-- a value is published only where the bucket stands
+pub published_stands : {V : Type 0} (table : Table V) (id : ℕ) (v : V) → published table id ≡ Some v → IsTrue (stands table (bucket_of id))
+unfolding published
+published_stands table id v h =
+    ⊎_elim (λ t. t)
+    (λ none. let e = ap value_of (slot_at-none table id none) in absurd cc)
+    (cases_Bool (stands table (bucket_of id)))
+
+-- what a slot shows, by its flag
+pub published_unset : {V : Type 0} (table : Table V) (id : ℕ) → (slot_at table id).flag ≡ false → published table id ≡ None
+unfolding published
+published_unset table id h = rw h refl
+
+-- a bucket that is made and not yet offered changes no slot and no word
+pub slot_at-made : {V : Type 0} (table : Table V) (made id : ℕ) → slot_at (record table { made = made }) id ≡ slot_at table id
+unfolding slot_at
+slot_at-made table made id = refl
+
+pub stands-made : {V : Type 0} (table : Table V) (made bucket : ℕ) → stands (record table { made = made }) bucket ≡ stands table bucket
+unfolding stands
+stands-made table made bucket = refl
+
+pub named-made : {V : Type 0} (table : Table V) (made bucket : ℕ) → named (record table { made = made }) bucket ≡ named table bucket
+unfolding named
+named-made table made bucket = refl
+
+-- a word names what it named once a slot is changed
+named-with_slot_of : {V : Type 0} (word : Option (Bucket V)) (index : ℕ) (slot : Slot V) → option_map (λ here. here.number) (with_slot_of word index slot) ≡ option_map (λ here. here.number) word
+named-with_slot_of None index slot = refl
+named-with_slot_of (Some bucket) index slot = refl
+
+named-cond : {V : Type 0} (b : Bool) (x y : Option (Bucket V)) → option_map (λ here. here.number) x ≡ option_map (λ here. here.number) y
+    → option_map (λ here. here.number) (cond b x y) ≡ option_map (λ here. here.number) y
+named-cond true x y h = h
+named-cond false x y h = refl
+
+pub named-with_slot : {V : Type 0} (table : Table V) (id bucket : ℕ) (slot : Slot V) → named (with_slot table id slot) bucket ≡ named table bucket
+unfolding named with_slot
+named-with_slot table id bucket slot =
+    named-cond (eqb (bucket_of id) bucket) (with_slot_of (table.words bucket) (index_of id) slot) (table.words bucket) (named-with_slot_of (table.words bucket) (index_of id) slot)
+
+-- and once a bucket is offered to a word, if it named one
+named-with_bucket : {V : Type 0} (table : Table V) (bucket number other : ℕ) → (bucket ≡ other → ⊥) → named (with_bucket table bucket number) other ≡ named table other
+unfolding named with_bucket
+named-with_bucket table bucket number other apart = rw (ne_eqb bucket other apart) refl
+
+pub named-offered : {V : Type 0} (table : Table V) (bucket number other : ℕ) → IsTrue (stands table other) → named (offered table bucket number) other ≡ named table other
+named-offered table bucket number other t =
+    cond_both {A = Table _} (stands table bucket) table (with_bucket table bucket number) (λ after. named after other ≡ named table other)
+    (λ _. refl)
+    (λ none. named-with_bucket table bucket number other (λ same. false≢true (sym none ∙ ap (stands table) same ∙ t)))

@@ -1,0 +1,5 @@
+pub mod Table
+pub mod Local
+pub mod SharedWalk
+pub mod OwnerWalk
+pub mod Fits

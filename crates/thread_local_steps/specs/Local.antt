@@ -1,0 +1,144 @@
+use Rattle.std.specs.Prelude.{ℕ, zero, suc, ◌+◌, Bool, true, false, List, [], ◌∷◌, ◌++◌, Option, Some, None, Result, Ok, Err, if◌then◌else◌}
+use Rattle.thread_local_model.specs.Place.{bucket_of}
+use Rattle.thread_local_model.specs.Answers.{View, Call, Get, GetOr, Answer, Found, Answered, Refused, Failed}
+use Rattle.thread_local_steps.specs.Table.{Slot, Table, slot_at, published, stands, with_bucket, with_slot}
+
+-- What a Local has learnt of its slot: nothing yet; that its word was empty; that its bucket stands; that the
+-- bucket stands and the slot is empty; or the value that the slot holds.
+pub data Learnt (V : Type 0) : Type 0 where
+  Unknown : Learnt V
+  Missing : Learnt V
+  Standing : Learnt V
+  Vacant : Learnt V
+  Holding : (value : V) → Learnt V
+
+-- What a Local does: any number of gets are under way, or one publishing call. That has begun, with what its
+-- closure would answer; or it has made a bucket of its own, of this number; or it has written its value.
+pub data Doing (V E : Type 0) : Type 0 where
+  Gets : (count : ℕ) → Doing V E
+  Started : (create : Result V E) → Doing V E
+  Private : (create : Result V E) → (number : ℕ) → Doing V E
+  Written : (value : V) → Doing V E
+
+-- a Local that lives: its id, what it has learnt and does, the view at its start, and its calls that have ended
+-- with their answers, in their order
+pub record Local (V E : Type 0) : Type 0 where
+  pub id : ℕ
+  pub learnt : Learnt V
+  pub doing : Doing V E
+  pub start : View V
+  pub calls : List (Call V E)
+  pub answers : List (Answer V E)
+
+-- a Local that was just made
+abbrev pub fresh_local : {V E : Type 0} → ℕ → View V → Local V E
+fresh_local id start = record { id = id; learnt = Unknown; doing = Gets 0; start = start; calls = []; answers = [] }
+
+-- a step of a Local's call, with what is chosen: what the closure would answer, whether memory is refused
+pub data LocalStep (V E : Type 0) : Type 0 where
+  BeginGet : LocalStep V E
+  BeginGetOr : (create : Result V E) → LocalStep V E
+  LoadWord : LocalStep V E
+  LookAtFlag : LocalStep V E
+  MakeBucket : (refused : Bool) → LocalStep V E
+  InstallBucket : LocalStep V E
+  WriteValue : LocalStep V E
+  SetFlag : LocalStep V E
+  Reply : LocalStep V E
+
+-- the Local once a call has ended
+abbrev pub after_call : {V E : Type 0} → Local V E → Call V E → Answer V E → Learnt V → Doing V E → Local V E
+after_call local call answer learnt doing = record local { learnt = learnt; doing = doing; calls = local.calls ++ call ∷ []; answers = local.answers ++ answer ∷ [] }
+
+-- whether a call is under way that may load its word and look at its flag
+abbrev pub is_calling : {V E : Type 0} → Doing V E → Bool
+is_calling (Gets zero) = false
+is_calling (Gets (suc count)) = true
+is_calling (Started create) = true
+is_calling (Private create number) = false
+is_calling (Written value) = false
+
+-- Each step below gives what becomes of the table and of the Local, or None where it isn't enabled.
+
+-- a get begins, beside any others
+abbrev pub begin_get : {V E : Type 0} → Table V → Local V E → Doing V E → Option (Table V × Local V E)
+begin_get table local (Gets count) = Some (table, record local { doing = Gets (suc count) })
+begin_get table local doing = None
+
+-- a publishing call begins, where no call is under way
+abbrev pub begin_get_or : {V E : Type 0} → Table V → Local V E → Result V E → Doing V E → Option (Table V × Local V E)
+begin_get_or table local create (Gets zero) = Some (table, record local { doing = Started create })
+begin_get_or table local create doing = None
+
+-- what is learnt by a load of the word, where that is not known to name a bucket
+abbrev pub loaded : {V : Type 0} → Learnt V → Bool → Option (Learnt V)
+loaded Unknown stands = Some (if stands then Standing else Missing)
+loaded Missing stands = Some (if stands then Standing else Missing)
+loaded learnt stands = None
+
+-- what is learnt by a look at a slot whose bucket stands
+abbrev pub looked : {V : Type 0} → Learnt V → Option V → Option (Learnt V)
+looked Standing None = Some Vacant
+looked Standing (Some v) = Some (Holding v)
+looked learnt shown = None
+
+-- the table as it was, and the Local with what it has learnt now
+abbrev pub learns : {V E : Type 0} → Table V → Local V E → Option (Learnt V) → Option (Table V × Local V E)
+learns table local None = None
+learns table local (Some learnt) = Some (table, record local { learnt = learnt })
+
+-- a call loads its word
+abbrev pub load_word : {V E : Type 0} → Table V → Local V E → Bool → Option (Table V × Local V E)
+load_word table local false = None
+load_word table local true = learns table local (loaded local.learnt (stands table (bucket_of local.id)))
+
+-- a call looks at its flag, and at the value where the flag is set
+abbrev pub look_at_flag : {V E : Type 0} → Table V → Local V E → Bool → Option (Table V × Local V E)
+look_at_flag table local false = None
+look_at_flag table local true = learns table local (looked local.learnt (published table local.id))
+
+-- a publishing call that found its word empty makes a bucket, or ends where memory is refused
+abbrev pub make_bucket : {V E : Type 0} → Table V → Local V E → Bool → Doing V E → Learnt V → Option (Table V × Local V E)
+make_bucket table local true (Started create) Missing = Some (table, after_call local (GetOr create true) Refused Missing (Gets 0))
+make_bucket table local false (Started create) Missing = Some (record table { made = suc table.made }, record local { doing = Private create table.made })
+make_bucket table local refused doing learnt = None
+
+-- the table once a bucket of this number was offered to a word: a word that names a bucket goes on naming it
+abbrev pub offered : {V : Type 0} → Table V → ℕ → ℕ → Table V
+offered table bucket number = if stands table bucket then table else with_bucket table bucket number
+
+-- a call offers its own bucket to its word, and uses the one that stands then
+abbrev pub install_bucket : {V E : Type 0} → Table V → Local V E → Doing V E → Option (Table V × Local V E)
+install_bucket table local (Private create number) = Some (offered table (bucket_of local.id) number, record local { learnt = Vacant; doing = Started create })
+install_bucket table local doing = None
+
+-- a call writes what its closure answered, or ends with the closure's error
+abbrev pub write_value : {V E : Type 0} → Table V → Local V E → Doing V E → Learnt V → Option (Table V × Local V E)
+write_value table local (Started (Ok v)) Vacant = Some (with_slot table local.id (record (slot_at table local.id) { written = Some v }), record local { learnt = Vacant; doing = Written v })
+write_value table local (Started (Err e)) Vacant = Some (table, after_call local (GetOr (Err e) false) (Failed e) Vacant (Gets 0))
+write_value table local doing learnt = None
+
+-- a call that has written sets its flag, and so publishes and ends
+abbrev pub set_flag : {V E : Type 0} → Table V → Local V E → Doing V E → Option (Table V × Local V E)
+set_flag table local (Written v) = Some (with_slot table local.id (record (slot_at table local.id) { flag = true }), after_call local (GetOr (Ok v) false) (Answered v) (Holding v) (Gets 0))
+set_flag table local doing = None
+
+-- a get ends with what was learnt, and so does a publishing call that found a value
+abbrev pub reply : {V E : Type 0} → Table V → Local V E → Doing V E → Learnt V → Option (Table V × Local V E)
+reply table local (Gets (suc count)) Missing = Some (table, after_call local Get (Found None) Missing (Gets count))
+reply table local (Gets (suc count)) Vacant = Some (table, after_call local Get (Found None) Vacant (Gets count))
+reply table local (Gets (suc count)) (Holding v) = Some (table, after_call local Get (Found (Some v)) (Holding v) (Gets count))
+reply table local (Started create) (Holding v) = Some (table, after_call local (GetOr create false) (Answered v) (Holding v) (Gets 0))
+reply table local doing learnt = None
+
+-- what a step makes of the table and of the Local, None where it isn't enabled
+unfoldable pub local_step : {V E : Type 0} → Table V → Local V E → LocalStep V E → Option (Table V × Local V E)
+local_step table local BeginGet = begin_get table local local.doing
+local_step table local (BeginGetOr create) = begin_get_or table local create local.doing
+local_step table local LoadWord = load_word table local (is_calling local.doing)
+local_step table local LookAtFlag = look_at_flag table local (is_calling local.doing)
+local_step table local (MakeBucket refused) = make_bucket table local refused local.doing local.learnt
+local_step table local InstallBucket = install_bucket table local local.doing
+local_step table local WriteValue = write_value table local local.doing local.learnt
+local_step table local SetFlag = set_flag table local local.doing
+local_step table local Reply = reply table local local.doing local.learnt

@@ -1,0 +1,31 @@
+use Rattle.std.specs.Prelude.{ℕ, zero, suc, ◌^◌, List, [], ◌++◌, Option, Some, None, option_map, if◌then◌else◌}
+use Rattle.thread_local_model.specs.Place.{id_at}
+use Rattle.thread_local_model.specs.Walk.{walk_below}
+use Rattle.thread_local_steps.specs.Table.{Slot, Bucket, Table, value_of}
+
+-- what an owner finds in what a word names, by ascending index: the values of the slots whose flag is set
+abbrev pub values_in : {V : Type 0} → Option (Bucket V) → ℕ → List V
+values_in None bucket = []
+values_in (Some here) bucket = walk_below (λ index. value_of (here.slots index)) (2 ^ bucket)
+
+-- what an owner finds in the buckets below n, one after another
+unfoldable pub owner_walk_below : {V : Type 0} → Table V → ℕ → List V
+owner_walk_below table zero = []
+owner_walk_below table (suc bucket) = owner_walk_below table bucket ++ values_in (table.words bucket) bucket
+
+-- what an owner's walk gives: it goes through all 63 words
+unfoldable pub owner_walk : {V : Type 0} → Table V → List V
+owner_walk table = owner_walk_below table 63
+
+-- a slot once the owner put another value in place of what its flag shows
+abbrev pub rewritten_slot : {V : Type 0} → (V → V) → Slot V → Slot V
+rewritten_slot other slot = if slot.flag then record { written = option_map other slot.written; flag = slot.flag } else slot
+
+-- what a word names once the owner put other values in place
+abbrev pub rewritten_bucket : {V : Type 0} → (ℕ → V → V) → Option (Bucket V) → Option (Bucket V)
+rewritten_bucket others None = None
+rewritten_bucket others (Some here) = Some (record here { slots = λ index. rewritten_slot (others index) (here.slots index) })
+
+-- the table once the owner put another value at each id that has one
+unfoldable pub rewritten : {V : Type 0} → Table V → (ℕ → V → V) → Table V
+rewritten table others = record table { words = λ bucket. rewritten_bucket (λ index. others (id_at bucket index)) (table.words bucket) }

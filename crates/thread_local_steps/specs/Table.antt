@@ -1,0 +1,70 @@
+use Rattle.std.specs.Prelude.{ℕ, Bool, true, false, Option, Some, None, is_some, ◌==◌, nat_lt, if◌then◌else◌}
+use Rattle.thread_local_model.specs.Place.{bucket_of, index_of}
+use Rattle.thread_local_model.specs.Capacity.{binary_digits}
+use Rattle.thread_local_model.specs.Walk.{with_value}
+
+-- a slot: what is written in it, if anything, and whether its flag is set
+pub record Slot (V : Type 0) : Type 0 where
+  pub written : Option V
+  pub flag : Bool
+
+-- a slot as it is made
+abbrev pub empty_slot : {V : Type 0} → Slot V
+empty_slot = record { written = None; flag = false }
+
+-- what a slot shows to others: what is written, where the flag is set
+abbrev pub value_of : {V : Type 0} → Slot V → Option V
+value_of slot = if slot.flag then slot.written else None
+
+-- a bucket: its number, counted as buckets were made, and its slots by their index
+pub record Bucket (V : Type 0) : Type 0 where
+  pub number : ℕ
+  pub slots : ℕ → Slot V
+
+-- a bucket as it is made
+abbrev pub fresh_bucket : {V : Type 0} → ℕ → Bucket V
+fresh_bucket number = record { number = number; slots = λ _. empty_slot }
+
+-- the bucket words, each empty or naming a bucket, and how many buckets were made so far
+pub record Table (V : Type 0) : Type 0 where
+  pub words : ℕ → Option (Bucket V)
+  pub made : ℕ
+
+-- the slot at an index of what a word names; as it would be made, where the word is empty
+abbrev pub slot_of : {V : Type 0} → Option (Bucket V) → ℕ → Slot V
+slot_of None index = empty_slot
+slot_of (Some bucket) index = bucket.slots index
+
+-- the slot of an id
+unfoldable pub slot_at : {V : Type 0} → Table V → ℕ → Slot V
+slot_at table id = slot_of (table.words (bucket_of id)) (index_of id)
+
+-- the value that is published at an id: what is written in its slot, where the bucket stands and the flag is set
+unfoldable pub published : {V : Type 0} → Table V → ℕ → Option V
+published table id = value_of (slot_at table id)
+
+-- whether a bucket stands
+unfoldable pub stands : {V : Type 0} → Table V → ℕ → Bool
+stands table bucket = is_some (table.words bucket)
+
+-- the table of a capacity: a bucket for each of its binary digits, from bucket 0 up
+unfoldable pub made_table : {V : Type 0} → ℕ → Table V
+made_table capacity = record {
+  words = λ bucket. if nat_lt bucket (binary_digits capacity) then Some (fresh_bucket bucket) else None;
+  made = binary_digits capacity;
+}
+
+-- the table once a word names a bucket as it is made
+unfoldable pub with_bucket : {V : Type 0} → Table V → ℕ → ℕ → Table V
+with_bucket table bucket number = record table { words = with_value table.words bucket (fresh_bucket number) }
+
+-- what a word names once the slot at an index is this one
+abbrev pub with_slot_of : {V : Type 0} → Option (Bucket V) → ℕ → Slot V → Option (Bucket V)
+with_slot_of None index slot = None
+with_slot_of (Some bucket) index slot = Some (record bucket { slots = λ i. if index == i then slot else bucket.slots i })
+
+-- the table once the slot of an id is this one
+unfoldable pub with_slot : {V : Type 0} → Table V → ℕ → Slot V → Table V
+with_slot table id slot = record table {
+  words = λ bucket. if bucket_of id == bucket then with_slot_of (table.words bucket) (index_of id) slot else table.words bucket;
+}

@@ -1,0 +1,6 @@
+ghost use Rattle.std.specs.Prelude.{◌≡◌, ℕ};
+
+/// Nothing yet.
+pub fn nothing()
+    ensures { (n : ℕ) → n ≡ n }
+{}
