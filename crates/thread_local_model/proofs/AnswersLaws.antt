@@ -1,5 +1,5 @@
-use Rattle.std.proofs.Common.{◌≡◌, Bool, true, false, not, ◌&&◌, List, [], ◌∷◌, ◌++◌, Option, Some, None, Result, Ok, Err, refl, ap}
-use Rattle.thread_local_model.specs.Answers.{View, Call, Get, GetOr, Answer, Found, Answered, Refused, Failed, answer, view_after, answers, view_after_all, Says}
+use Rattle.std.proofs.Common.{◌≡◌, Bool, true, false, List, [], ◌∷◌, ◌++◌, Some, None, Result, Ok, Err, refl, ap}
+use Rattle.thread_local_model.specs.Answers.{View, Call, Get, GetOr, Found, Answered, Refused, Failed, answer, view_after, answers, view_after_all, Says}
 
 pub get : {V E : Type 0} (view : View V) → Says {E = E} view Get (Found view.value) view
 get view = record { answered = refl; leaves = refl }

@@ -1,11 +1,11 @@
-use Rattle.std.proofs.Common.{◌≡◌, ℕ, zero, suc, ◌<◌, ⊎_elim, List, [], ◌∷◌, ◌++◌, length, get_or, map, Option, Some, None, refl, ap, sym, ◌∙◌, arith}
+use Rattle.std.proofs.Common.{◌≡◌, ℕ, zero, suc, ◌+◌, ◌≤◌, length, length-append, add-zero, add-suc, append_assoc, ◌<◌, ⊎_elim, List, [], ◌∷◌, ◌++◌, map, Option, Some, None, refl, ap, sym, ◌∙◌, arith}
 use Rattle.std.specs.Prelude.{Contains, option_to_list, option_map}
 use Rattle.std.specs.List.Sorted.{IsStrictlyIncreasing}
 use Rattle.std.proofs.lemmas.Bool.{cases_order}
 use Rattle.std.proofs.lemmas.List.{append-nil, map-append}
 use Rattle.std.proofs.lemmas.List.Elements.{Contains-append_left, Contains-append_right, Contains-append_cases}
 use Rattle.std.proofs.lemmas.Grind.{common_steps}
-use Rattle.thread_local_model.specs.Walk.{walk_below, paired}
+use Rattle.thread_local_model.specs.Walk.{walk_below, paired, IsAscendingBelow}
 
 -- the values of pairs that grow by a pair with this value
 values-push : {V : Type 0} (pairs : List (ℕ × V)) (vs : List V) (id : ℕ) (o : Option V) → map (λ pair. pair.1) pairs ≡ vs
@@ -19,12 +19,8 @@ unfolding walk_below
 map-walk_below values zero = refl
 map-walk_below values (suc n) = values-push (walk_below (paired values) n) (walk_below values n) n (values n) (map-walk_below values n)
 
--- every id of the pairs is below n, and each is below the next
-record IsAscendingBelow (ids : List ℕ) (n : ℕ) : Type 0 where
-  increasing : IsStrictlyIncreasing ids
-  below : (k : ℕ) → k < length ids → get_or ids k 0 < n
-
-ascends-push : (ids : List ℕ) (n : ℕ) → IsAscendingBelow ids n → IsAscendingBelow (ids ++ n ∷ []) (suc n)
+-- one id more, at their bound
+pub ascends-push : (ids : List ℕ) (n : ℕ) → IsAscendingBelow ids n → IsAscendingBelow (ids ++ n ∷ []) (suc n)
 ascends-push ids n h = record {
   increasing = λ k l. grind (arith, common_steps, h.increasing k, h.below k);
   below = λ k l. grind (arith, common_steps, h.below k);
@@ -44,14 +40,14 @@ pub strictly_ascends : {V : Type 0} (values : ℕ → Option V) (n : ℕ) → Is
 strictly_ascends values n = (ascends values n).increasing
 
 -- the only element of a list of one
-only : {X : Type 0} (x y : X) → Contains (x ∷ []) y → x ≡ y
-only x y (zero, l, e) = e
-only x y (suc k, l, e) = absurd (omega (arith, l))
+pub Contains-one : {X : Type 0} (x y : X) → Contains (x ∷ []) y → x ≡ y
+Contains-one x y (zero, l, e) = e
+Contains-one x y (suc k, l, e) = absurd (omega (arith, l))
 
 -- what is in the one pair of an id
 in_one : {V : Type 0} (n id : ℕ) (v : V) (o : Option V) → Contains {X = ℕ × V} (option_to_list (option_map (λ w. (n, w)) o)) (id, v) → (n ≡ id) × (o ≡ Some v)
 in_one n id v None h = absurd (omega (arith, h.1))
-in_one n id v (Some w) h = (ap (λ pair. pair.0) (only (n, w) (id, v) h), ap (λ pair. Some pair.1) (only (n, w) (id, v) h))
+in_one n id v (Some w) h = (ap (λ pair. pair.0) (Contains-one (n, w) (id, v) h), ap (λ pair. Some pair.1) (Contains-one (n, w) (id, v) h))
 
 pub listed : {V : Type 0} (values : ℕ → Option V) (n id : ℕ) (v : V) → Contains (walk_below (paired values) n) (id, v) → (id < n) × (values id ≡ Some v)
 unfolding walk_below
@@ -77,3 +73,37 @@ in_list values (suc n) id v l h =
     (λ below. Contains-append_left (walk_below (paired values) n) (option_to_list (paired values n)) (id, v) (in_list values n id v below h))
     (λ above. absurd (omega arith)))
     (cases_order id n)
+
+-- a walk goes by its values alone, and in two parts as in one
+pub walk_below-same : {V : Type 0} (values others : ℕ → Option V) (n : ℕ) → ((id : ℕ) → id < n → values id ≡ others id) → walk_below values n ≡ walk_below others n
+unfolding walk_below
+walk_below-same values others zero h = refl
+walk_below-same values others (suc n) h =
+    ap (λ vs. vs ++ option_to_list (values n)) (walk_below-same values others n (λ id l. h id (omega arith)))
+    ∙ ap (λ o. walk_below others n ++ option_to_list o) (h n (omega arith))
+
+pub walk_below-none : {V : Type 0} (values : ℕ → Option V) (n : ℕ) → ((id : ℕ) → id < n → values id ≡ None) → walk_below values n ≡ []
+unfolding walk_below
+walk_below-none values zero h = refl
+walk_below-none values (suc n) h =
+    ap (λ vs. vs ++ option_to_list (values n)) (walk_below-none values n (λ id l. h id (omega arith))) ∙ ap option_to_list (h n (omega arith))
+
+pub walk_below-add : {V : Type 0} (values : ℕ → Option V) (m n : ℕ) → walk_below values (m + n) ≡ walk_below values m ++ walk_below (λ i. values (m + i)) n
+unfolding walk_below
+walk_below-add values m zero = rw add-zero (sym (append-nil (walk_below values m)))
+walk_below-add values m (suc n) =
+    rw add-suc
+    (ap (λ vs. vs ++ option_to_list (values (m + n))) (walk_below-add values m n)
+    ∙ append_assoc (walk_below values m) (walk_below (λ i. values (m + i)) n) (option_to_list (values (m + n))))
+
+at_most_one : {A : Type 0} (o : Option A) → length (option_to_list o) ≤ 1
+at_most_one None = omega arith
+at_most_one (Some x) = omega arith
+
+-- a walk gives no more values than there are ids
+pub length-walk_below : {V : Type 0} (values : ℕ → Option V) (n : ℕ) → length (walk_below values n) ≤ n
+unfolding walk_below
+length-walk_below values zero = omega arith
+length-walk_below values (suc n) =
+    let ih = length-walk_below values n in
+    rw (length-append (walk_below values n) (option_to_list (values n))) (omega (arith, at_most_one (values n)))

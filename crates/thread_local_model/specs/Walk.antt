@@ -1,4 +1,5 @@
-use Rattle.std.specs.Prelude.{ℕ, zero, suc, ◌-◌, ◌^◌, ◌==◌, if◌then◌else◌, List, [], ◌++◌, Option, Some, option_map, option_to_list}
+use Rattle.std.specs.Prelude.{ℕ, zero, suc, ◌-◌, ◌^◌, ◌<◌, length, slice_index, ◌==◌, if◌then◌else◌, List, [], ◌++◌, Option, Some, option_map, option_to_list}
+use Rattle.std.specs.List.Sorted.{IsStrictlyIncreasing}
 
 -- the values of a map at the ids below n, by ascending id
 unfoldable pub walk_below : {V : Type 0} → (ℕ → Option V) → ℕ → List V
@@ -16,3 +17,8 @@ with_value values id v j = if id == j then Some v else values j
 -- the map that has each value together with its id
 abbrev pub paired : {V : Type 0} → (ℕ → Option V) → ℕ → Option (ℕ × V)
 paired values id = option_map (λ v. (id, v)) (values id)
+
+-- ids that ascend strictly, all below n
+pub record IsAscendingBelow (ids : List ℕ) (n : ℕ) : Type 0 where
+  pub increasing : IsStrictlyIncreasing ids
+  pub below : (k : ℕ) → k < length ids → slice_index ids k < n

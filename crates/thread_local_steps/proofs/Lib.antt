@@ -1,2 +1,4 @@
 pub mod TableLaws
 pub mod LocalLaws
+pub mod WalkStepLaws
+pub mod OwnerLaws

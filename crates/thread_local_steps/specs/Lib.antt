@@ -3,3 +3,4 @@ pub mod Local
 pub mod SharedWalk
 pub mod OwnerWalk
 pub mod Fits
+pub mod WalkFits
