@@ -1,0 +1,64 @@
+use Rattle.std.specs.Prelude.{ℕ, zero, suc, ◌+◌, Bool, true, false, ◌&&◌, ◌||◌, [], Option, None, is_some, is_none, ◌==◌, if◌then◌else◌}
+use Rattle.thread_local_model.specs.Held.{Manager}
+use Rattle.thread_local_model.specs.Buckets.{slots}
+use Rattle.thread_local_model.specs.Capacity.{is_reserved}
+use Rattle.thread_local_model.specs.Answers.{View}
+use Rattle.thread_local_model.specs.Sheet.{Sheet}
+use Rattle.thread_local_steps.specs.Table.{Table, made_table, published, stands}
+use Rattle.thread_local_steps.specs.Local.{Local}
+use Rattle.thread_local_steps.specs.SharedWalk.{SharedWalk}
+
+-- A table's core: the manager of ids; the capacity; the table of buckets; each Local that lives and each walk that
+-- is under way, by the number in which it came, and how many came so far; and whether the table has ended.
+pub record Core (V E : Type 0) : Type 0 where
+  pub manager : Manager
+  pub capacity : ℕ
+  pub table : Table V
+  pub locals : ℕ → Option (Local V E)
+  pub taken : ℕ
+  pub walks : ℕ → Option (SharedWalk V)
+  pub walked : ℕ
+  pub ended : Bool
+
+-- the core of a table made with a capacity, whose manager has this much more room
+abbrev pub made_core : {V E : Type 0} → ℕ → ℕ → Core V E
+made_core capacity extra = record {
+  manager = record { held = []; room = capacity + extra };
+  capacity = capacity;
+  table = made_table capacity;
+  locals = λ _. None;
+  taken = 0;
+  walks = λ _. None;
+  walked = 0;
+  ended = false;
+}
+
+-- the core of a table from `new`
+abbrev pub new_core : {V E : Type 0} → Core V E
+new_core = made_core 0 0
+
+-- what users see of a core: the held ids, what is published at each id, and the capacity
+abbrev pub shadow : {V E : Type 0} → Core V E → Sheet V
+shadow core = record { held = core.manager.held; values = published core.table; capacity = core.capacity }
+
+-- how many slots the buckets have that words name
+abbrev pub installed_slots : {V E : Type 0} → Core V E → ℕ
+installed_slots core = slots (stands core.table)
+
+-- what a Local that takes an id knows of its slot: the bucket is known to stand where the id is reserved, or where
+-- there is a value
+abbrev pub first_view : {V : Type 0} → Sheet V → ℕ → View V
+first_view sheet id = record { value = sheet.values id; known = is_reserved sheet.capacity id || is_some (sheet.values id) }
+
+-- numbered things, with this one or none at a number
+abbrev pub put : {A : Type 0} → (ℕ → Option A) → ℕ → Option A → ℕ → Option A
+put all number it n = if number == n then it else all n
+
+-- whether there are none below a number
+abbrev pub none_below : {A : Type 0} → (ℕ → Option A) → ℕ → Bool
+none_below all zero = true
+none_below all (suc n) = none_below all n && is_none (all n)
+
+-- whether somebody has the table alone: no Local lives, and no walk is under way
+abbrev pub is_alone : {V E : Type 0} → Core V E → Bool
+is_alone core = none_below core.locals core.taken && none_below core.walks core.walked

@@ -1,0 +1,4 @@
+pub mod Core
+pub mod Events
+pub mod Schedule
+pub mod Story

@@ -1,0 +1,70 @@
+use Rattle.std.specs.Prelude.{◌≡◌, ℕ, ◌<◌, max, Bool, true, false, not, ◌&&◌, List, [], ◌∷◌, Option, Some, None, option_map, IsTrue, ⊤, if◌then◌else◌}
+use Rattle.thread_local_model.specs.Held.{held_count}
+use Rattle.thread_local_model.specs.Sheet.{Move, Take, Give, Publish, Rewrite, Clear}
+use Rattle.thread_local_steps.specs.Local.{Local, LocalStep, MakeBucket}
+use Rattle.thread_local_steps.specs.Fits.{value_set}
+use Rattle.thread_local_schedule.specs.Core.{Core}
+use Rattle.thread_local_schedule.specs.Events.{Event, TakeId, OfLocal, GiveBack, Forget, BeginWalk, OfWalk, EndWalk, Owner, OwnerCall, IterMut, Slots, ClearTable, IntoIter, DropTable, is_granted, is_enabled, happens, run}
+
+-- what a step of a Local publishes
+abbrev pub publishing : {V E : Type 0} → Option (Local V E) → LocalStep V E → Option (Move V)
+publishing None step = None
+publishing (Some local) step = option_map (λ value. Publish local.id value) (value_set local.doing step)
+
+-- the move that an enabled event is, if it is one: a granted take, the step that sets a flag, a give back, an
+-- owner's `iter_mut` and `clear`
+abbrev pub move_of : {V E : Type 0} → Core V E → Event V E → Option (Move V)
+move_of core (TakeId refused growth) = if is_granted core.manager refused then Some Take else None
+move_of core (OfLocal number step) = publishing (core.locals number) step
+move_of core (GiveBack number) = option_map (λ local. Give local.id) (core.locals number)
+move_of core (Owner (IterMut others)) = Some (Rewrite others)
+move_of core (Owner ClearTable) = Some Clear
+move_of core event = None
+
+-- the move that an event is: one that isn't enabled is none
+abbrev pub move : {V E : Type 0} → Core V E → Event V E → Option (Move V)
+move core event = if is_enabled core event then move_of core event else None
+
+-- whether an event is a take, an owner's call, a clear
+abbrev pub is_take : {V E : Type 0} → Event V E → Bool
+is_take (TakeId refused growth) = true
+is_take event = false
+
+abbrev pub is_exclusive : {V E : Type 0} → Event V E → Bool
+is_exclusive (Owner call) = true
+is_exclusive event = false
+
+abbrev pub is_clear : {V E : Type 0} → Event V E → Bool
+is_clear (Owner ClearTable) = true
+is_clear event = false
+
+-- whether an enabled event ends in a refusal: a take that gets no id, a bucket that gets no memory
+abbrev pub refuses : {V E : Type 0} → Core V E → Event V E → Bool
+refuses core (TakeId refused growth) = not (is_granted core.manager refused)
+refuses core (OfLocal number (MakeBucket refused)) = refused
+refuses core event = false
+
+-- whether an event ends in a refusal
+abbrev pub is_refused : {V E : Type 0} → Core V E → Event V E → Bool
+is_refused core event = is_enabled core event && refuses core event
+
+-- the most ids held at one moment since the table was made or cleared: this many before these events
+abbrev pub most_held : {V E : Type 0} → ℕ → Core V E → List (Event V E) → ℕ
+most_held most core [] = most
+most_held most core (event ∷ events) =
+    most_held (if is_enabled core event && is_clear event then 0 else max most (held_count (happens core event).manager.held)) (happens core event) events
+
+-- each take of a schedule comes while fewer than this many ids are held
+abbrev pub TakesBelow : {V E : Type 0} → ℕ → Core V E → List (Event V E) → Type 0
+TakesBelow bound core [] = ⊤
+TakesBelow bound core (event ∷ events) = (IsTrue (is_take event) → held_count core.manager.held < bound) × TakesBelow bound (happens core event) events
+
+-- no event of a schedule ends in a refusal
+abbrev pub NothingRefused : {V E : Type 0} → Core V E → List (Event V E) → Type 0
+NothingRefused core [] = ⊤
+NothingRefused core (event ∷ events) = (is_refused core event ≡ false) × NothingRefused (happens core event) events
+
+-- no event of a schedule clears the table
+abbrev pub NeverCleared : {V E : Type 0} → List (Event V E) → Type 0
+NeverCleared [] = ⊤
+NeverCleared (event ∷ events) = (is_clear event ≡ false) × NeverCleared events

@@ -1,0 +1,1 @@
+use Rattle.std.specs.Prelude.{ℕ}
