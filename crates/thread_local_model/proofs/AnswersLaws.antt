@@ -1,5 +1,5 @@
-use Rattle.std.proofs.Common.{◌≡◌, Bool, true, false, List, [], ◌∷◌, ◌++◌, Some, None, Result, Ok, Err, refl, ap}
-use Rattle.thread_local_model.specs.Answers.{View, Call, Get, GetOr, Found, Answered, Refused, Failed, answer, view_after, answers, view_after_all, Says}
+use Rattle.std.proofs.Common.{◌≡◌, not, ◌&&◌, Option, Bool, true, false, List, [], ◌∷◌, ◌++◌, Some, None, Result, Ok, Err, IsTrue, refl, ap}
+use Rattle.thread_local_model.specs.Answers.{View, Call, Get, GetOr, Found, Answered, Refused, Failed, view_after_or, answer, view_after, answers, view_after_all, Says}
 
 pub get : {V E : Type 0} (view : View V) → Says {E = E} view Get (Found view.value) view
 get view = record { answered = refl; leaves = refl }
@@ -34,3 +34,14 @@ pub view_after_all-push : {V E : Type 0} (view : View V) (calls : List (Call V E
     → view_after_all view (calls ++ call ∷ []) ≡ view_after (view_after_all view calls) call
 view_after_all-push view [] call = refl
 view_after_all-push view (first ∷ calls) call = view_after_all-push (view_after view first) calls call
+
+-- a bucket that is known to stand stays known
+known_or : {V E : Type 0} (view : View V) (o : Option V) (refused : Bool) (create : Result V E) → IsTrue view.known → IsTrue (view_after_or view o refused create).known
+known_or view (Some v) refused create k = k
+known_or view None true create k = k
+known_or view None false (Ok v) k = refl
+known_or view None false (Err e) k = refl
+
+pub known_stays : {V E : Type 0} (view : View V) (call : Call V E) → IsTrue view.known → IsTrue (view_after view call).known
+known_stays view Get k = k
+known_stays view (GetOr create memory) k = known_or view view.value (memory && not view.known) create k

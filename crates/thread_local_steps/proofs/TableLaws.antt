@@ -2,10 +2,11 @@ use Rattle.std.proofs.Common.{◌≡◌, ℕ, ◌+◌, ◌^◌, ◌<◌, ◌⊎�
 use Rattle.std.proofs.lemmas.Bool.{cases_eq, cases_Bool, cond_both, eqb-true, eqb-false, eq-eqb, ne_eqb, false≢true}
 use Rattle.thread_local_model.specs.Place.{bucket_of, index_of}
 use Rattle.thread_local_model.proofs.PlaceLaws as place
-use Rattle.thread_local_steps.specs.Table.{Slot, empty_slot, value_of, Bucket, fresh_bucket, Table, slot_of, slot_at, published, stands, with_bucket, with_slot_of, with_slot}
+use Rattle.thread_local_steps.specs.Table.{Slot, empty_slot, value_of, Bucket, fresh_bucket, Table, slot_of, slot_at, published, stands, with_bucket, with_slot_of, with_slot, made_table}
+use Rattle.thread_local_model.specs.Capacity.{binary_digits}
 use Rattle.thread_local_steps.specs.Local.{offered}
 use Rattle.thread_local_steps.specs.Fits.{named}
-use Rattle.std.specs.Prelude.{option_map}
+use Rattle.std.specs.Prelude.{option_map, nat_lt}
 
 pub same_function : {A B : Type 0} (f g : A → B) → ((x : A) → f x ≡ g x) → f ≡ g
 same_function f g h = λ i x. h x i
@@ -153,3 +154,20 @@ named-offered table bucket number other t =
     cond_both {A = Table _} (stands table bucket) table (with_bucket table bucket number) (λ after. named after other ≡ named table other)
     (λ _. refl)
     (λ none. named-with_bucket table bucket number other (λ same. false≢true (sym none ∙ ap (stands table) same ∙ t)))
+
+-- the table of a capacity has a bucket for each binary digit, and nothing is in its slots
+slot_of-made : {V : Type 0} (b : Bool) (number index : ℕ) → slot_of {V = V} (cond b (Some (fresh_bucket number)) None) index ≡ empty_slot
+slot_of-made true number index = refl
+slot_of-made false number index = refl
+
+pub slot_at-made_table : {V : Type 0} (capacity id : ℕ) → slot_at {V = V} (made_table capacity) id ≡ empty_slot
+unfolding slot_at made_table
+slot_at-made_table capacity id = slot_of-made (nat_lt (bucket_of id) (binary_digits capacity)) (bucket_of id) (index_of id)
+
+some-made : {A : Type 0} (b : Bool) (x : A) → is_some (cond b (Some x) None) ≡ b
+some-made true x = refl
+some-made false x = refl
+
+pub stands-made_table : (T : Type 0) (capacity bucket : ℕ) → stands {V = T} (made_table capacity) bucket ≡ nat_lt bucket (binary_digits capacity)
+unfolding stands made_table
+stands-made_table T capacity bucket = some-made {A = Bucket T} (nat_lt bucket (binary_digits capacity)) (fresh_bucket bucket)

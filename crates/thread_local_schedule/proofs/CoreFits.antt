@@ -1,0 +1,49 @@
+use Rattle.std.proofs.Common.{◌≡◌, ℕ, ◌^◌, ◌-◌, ◌<◌, ◌≤◌, max, Bool, List, length, Option, Some, None, IsTrue}
+use Rattle.thread_local_model.specs.Held.{Manager, is_held}
+use Rattle.thread_local_model.specs.Capacity.{binary_digits, is_reserved}
+use Rattle.thread_local_steps.specs.Table.{Table, published, stands}
+use Rattle.thread_local_steps.specs.Local.{Local}
+use Rattle.thread_local_steps.specs.SharedWalk.{SharedWalk}
+use Rattle.thread_local_steps.specs.Fits.{AllWritten, LocalFits, view_now}
+use Rattle.thread_local_steps.specs.WalkFits.{WalkFits}
+use Rattle.thread_local_schedule.specs.Core.{Core}
+
+-- The invariant of a core, kept by every event, in its parts.
+
+-- the peak and the capacity have room, and are numbers of ids
+pub record ManagerFits (manager : Manager) (capacity : ℕ) : Type 0 where
+  pub peak_room : length manager.held ≤ manager.room
+  pub capacity_room : capacity ≤ manager.room
+  pub peak_ids : length manager.held ≤ 2 ^ 63 - 1
+  pub capacity_ids : capacity < 2 ^ 63
+
+-- flags are set only over written values, the buckets that stand are small, the reserved ones stand, and what is
+-- published lies below the peak
+pub record TableFits {V : Type 0} (table : Table V) (capacity peak : ℕ) : Type 0 where
+  pub written : AllWritten table
+  pub small : (bucket : ℕ) → IsTrue (stands table bucket) → 2 ^ bucket ≤ max capacity peak
+  pub reserved : (bucket : ℕ) → bucket < binary_digits capacity → IsTrue (stands table bucket)
+  pub below : (id : ℕ) (v : V) → published table id ≡ Some v → id < peak
+
+-- a Local fits its table, its id is held, and where that is reserved its bucket is known to stand
+pub record LiveFits {V E : Type 0} (table : Table V) (held : List Bool) (capacity : ℕ) (local : Local V E) : Type 0 where
+  pub local_fits : LocalFits table local
+  pub id_held : IsTrue (is_held held local.id)
+  pub known : IsTrue (is_reserved capacity local.id) → IsTrue (view_now local).known
+
+-- so does each Local that lives, and no two have one id
+pub record LocalsFit {V E : Type 0} (table : Table V) (held : List Bool) (capacity : ℕ) (locals : ℕ → Option (Local V E)) (taken : ℕ) : Type 0 where
+  pub each : (n : ℕ) (local : Local V E) → locals n ≡ Some local → LiveFits table held capacity local
+  pub unshared : (m n : ℕ) (a b : Local V E) → locals m ≡ Some a → locals n ≡ Some b → a.id ≡ b.id → m ≡ n
+  pub none_from : (n : ℕ) → taken ≤ n → locals n ≡ None
+
+-- each walk that is under way fits
+pub record WalksFit {V : Type 0} (table : Table V) (walks : ℕ → Option (SharedWalk V)) (walked : ℕ) : Type 0 where
+  pub each : (n : ℕ) (walk : SharedWalk V) → walks n ≡ Some walk → WalkFits table walk
+  pub none_from : (n : ℕ) → walked ≤ n → walks n ≡ None
+
+pub record CoreFits {V E : Type 0} (core : Core V E) : Type 0 where
+  pub manager : ManagerFits core.manager core.capacity
+  pub table : TableFits core.table core.capacity (length core.manager.held)
+  pub locals : LocalsFit core.table core.manager.held core.capacity core.locals core.taken
+  pub walks : WalksFit core.table core.walks core.walked

@@ -1,0 +1,42 @@
+use Rattle.std.proofs.Common.{◌≡◌, ℕ, zero, suc, ◌+◌, ◌<◌, ◌≤◌, max, Bool, true, false, cond, eqb, IsTrue, List, [], ◌∷◌, length, refl, arith}
+use Rattle.thread_local_model.specs.Held.{is_held, least, with_least, held_count}
+use Rattle.thread_local_model.proofs.HeldLaws.{held_count-with_least}
+
+-- a held id lies below the peak
+pub held_below : (held : List Bool) (id : ℕ) → IsTrue (is_held held id) → id < length held
+held_below [] id h = cc
+held_below (h ∷ held) zero t = omega arith
+held_below (h ∷ held) (suc id) t = omega (arith, held_below held id t)
+
+-- no more ids are held than lie below the peak
+pub held_count-le : (held : List Bool) → held_count held ≤ length held
+held_count-le [] = omega arith
+held_count-le (true ∷ held) = omega (arith, held_count-le held)
+held_count-le (false ∷ held) = omega (arith, held_count-le held)
+
+-- the least id that isn't held is at most the peak, and is the peak where each id below that is held
+pub least-le : (held : List Bool) → least held ≤ length held
+least-le [] = omega arith
+least-le (true ∷ held) = omega (arith, least-le held)
+least-le (false ∷ held) = omega arith
+
+pub least-le-held_count : (held : List Bool) → least held ≤ held_count held
+least-le-held_count [] = omega arith
+least-le-held_count (true ∷ held) = omega (arith, least-le-held_count held)
+least-le-held_count (false ∷ held) = omega arith
+
+-- the peak once a further id is held
+pub peak_after : (held : List Bool) → length (with_least held) ≡ max (length held) (suc (least held))
+peak_after [] = refl
+peak_after (true ∷ held) = omega (arith, peak_after held)
+peak_after (false ∷ held) = omega arith
+
+-- once the least id that wasn't held is, the peak is the greater of the old one and of the number that is held now
+pub peak_counts : (held : List Bool) → length (with_least held) ≡ max (length held) (held_count (with_least held))
+peak_counts held =
+    let after = peak_after held in
+    let more = held_count-with_least held in
+    let some = least-le-held_count held in
+    let within = held_count-le (with_least held) in
+    let low = least-le held in
+    omega arith

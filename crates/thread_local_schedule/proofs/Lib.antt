@@ -1,0 +1,3 @@
+pub mod HeldCounts
+pub mod CoreFits
+pub mod Kept
