@@ -42,7 +42,7 @@ pub put_other : {A : Type 0} (all : ℕ → Option A) (number : ℕ) (it : Optio
 put_other all number it n apart = rw (ne_eqb number n apart) refl
 
 -- what is still there once one was taken away
-still : {A : Type 0} (all : ℕ → Option A) (number n : ℕ) (x : A) → put all number None n ≡ Some x → (number ≡ n → ⊥) × (all n ≡ Some x)
+pub still : {A : Type 0} (all : ℕ → Option A) (number n : ℕ) (x : A) → put all number None n ≡ Some x → (number ≡ n → ⊥) × (all n ≡ Some x)
 still all number n x e = ⊎_elim (λ at. absurd cc) (λ apart. apart) (put_cases all number None n x e)
 
 -- the Locals once one is put in the place of another with its id
@@ -175,7 +175,7 @@ added values own (Some w) id v e =
     (cases_eq own id)
 
 -- what a map has at an id it still has with a value more, where that comes at an id that had none
-kept_value : {V : Type 0} (values : ℕ → Option V) (own : ℕ) (set : Option V) (id : ℕ) (v : V) → IfSome set (λ _. values own ≡ None) → values id ≡ Some v → with_value_if values own set id ≡ Some v
+pub kept_value : {V : Type 0} (values : ℕ → Option V) (own : ℕ) (set : Option V) (id : ℕ) (v : V) → IfSome set (λ _. values own ≡ None) → values id ≡ Some v → with_value_if values own set id ≡ Some v
 kept_value values own None id v none e = e
 kept_value values own (Some w) id v none e =
     ⊎_elim
@@ -230,15 +230,15 @@ stepped-fits core number local set after at s h =
         (⊎_elim (λ l. l) (λ above. let none = h.locals.none_from number above in absurd cc) (cases_lt number core.taken))
         (record {
           local_fits = s.fits;
-          id_held = subst (λ id. IsTrue (is_held held id)) (sym s.id) live.id_held;
-          known = λ reserved. known_after local after.1 s.start s.calls (live.known (subst (λ id. IsTrue (is_reserved core.capacity id)) s.id reserved));
+          id_held = subst (λ id. IsTrue (is_held held id)) (sym s.goes_on.id) live.id_held;
+          known = λ reserved. known_after local after.1 s.goes_on.start s.goes_on.calls (live.known (subst (λ id. IsTrue (is_reserved core.capacity id)) s.goes_on.id reserved));
         })
         (λ n other apart e.
         let there = h.locals.each n other e in
         let differ : local.id ≡ other.id → ⊥ = λ same. apart (h.locals.unshared number n local other at e same) in
         (
             record { local_fits = other_fits core.table after.0 local.id other s.changes differ there.local_fits; id_held = there.id_held; known = there.known },
-            (λ same. differ (sym s.id ∙ same)),
+            (λ same. differ (sym s.goes_on.id ∙ same)),
             ))
         h.locals.unshared
         h.locals.none_from;

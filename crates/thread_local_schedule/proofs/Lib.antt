@@ -1,3 +1,4 @@
 pub mod HeldCounts
 pub mod CoreFits
 pub mod Kept
+pub mod Says

@@ -55,9 +55,7 @@ stays table local learnt doing written h l d = record {
   changes = same_table table local.id written;
   shown = λ id. refl;
   empty = tt;
-  id = refl;
-  start = refl;
-  calls = inl refl;
+  goes_on = record { id = refl; start = refl; calls = inl refl };
 }
 
 -- a Local fits once a call has ended with the answer that its view gives, where the view that the call leaves fits
@@ -80,9 +78,7 @@ ends table local call told left learnt doing written h says fits = record {
   changes = same_table table local.id written;
   shown = λ id. refl;
   empty = tt;
-  id = refl;
-  start = refl;
-  calls = inr (call, refl);
+  goes_on = record { id = refl; start = refl; calls = inr (call, refl) };
 }
 
 begin_get-fits : {V E : Type 0} (table : Table V) (local : Local V E) (doing : Doing V E) → AllWritten table → LocalFits table local
@@ -174,9 +170,7 @@ offers table after local learnt doing written h only l d = record {
   };
   shown = λ id. published-slot_at table after id (only.same id);
   empty = tt;
-  id = refl;
-  start = refl;
-  calls = inl refl;
+  goes_on = record { id = refl; start = refl; calls = inl refl };
 }
 
 make_bucket-fits : {V E : Type 0} (table : Table V) (local : Local V E) (refused : Bool) (doing : Doing V E) (learnt : Learnt V) → AllWritten table → LocalFits table local
@@ -274,9 +268,7 @@ write_value-fits table local (Started (Ok v)) Vacant written h l =
         (λ apart. shown_other table id other slot apart)
         (cases_eq id other);
       empty = tt;
-      id = refl;
-      start = refl;
-      calls = inl refl;
+      goes_on = record { id = refl; start = refl; calls = inl refl };
     }
 write_value-fits table local (Started (Err e)) Vacant written h l =
     let none = published_unset table local.id l.1 in
@@ -304,9 +296,7 @@ set_flag-fits table local (Written v) written h d =
         (λ apart. rw (ne_eqb id other apart) (shown_other table id other slot apart))
         (cases_eq id other);
       empty = none;
-      id = refl;
-      start = refl;
-      calls = inr (GetOr (Ok v) false, refl);
+      goes_on = record { id = refl; start = refl; calls = inr (GetOr (Ok v) false, refl) };
     }
 set_flag-fits table local _ written h d = tt
 

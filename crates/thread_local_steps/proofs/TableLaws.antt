@@ -171,3 +171,12 @@ some-made false x = refl
 pub stands-made_table : (T : Type 0) (capacity bucket : ℕ) → stands {V = T} (made_table capacity) bucket ≡ nat_lt bucket (binary_digits capacity)
 unfolding stands made_table
 stands-made_table T capacity bucket = some-made {A = Bucket T} (nat_lt bucket (binary_digits capacity)) (fresh_bucket bucket)
+
+-- a word that names a bucket is not empty
+some-mapped : {A B : Type 0} (f : A → B) (o : Option A) (b : B) → option_map f o ≡ Some b → IsTrue (is_some o)
+some-mapped f None b e = cc
+some-mapped f (Some a) b e = refl
+
+pub named_stands : {V : Type 0} (table : Table V) (bucket k : ℕ) → named table bucket ≡ Some k → IsTrue (stands table bucket)
+unfolding named stands
+named_stands table bucket k e = some-mapped (λ here. here.number) (table.words bucket) k e

@@ -1,6 +1,6 @@
 use Rattle.std.proofs.Common.{◌≡◌, ℕ, zero, suc, ◌+◌, ◌-◌, ◌^◌, ◌<◌, ◌≤◌, ◌⊎◌, Bool, true, false, cond, eqb, List, [], ◌∷◌, ◌++◌, length, map, Option, Some, None, IsTrue, IfSome, refl, ap, sym, ◌∙◌, subst, arith, ⊎_elim, inl, inr, pow_pos, length-append}
 use Rattle.std.specs.Prelude.{Contains, nat_lt}
-use Rattle.std.proofs.lemmas.Bool.{cond_both, cases_order, cases_lt, eqb-true, eqb-false, ltb-true, false≢true}
+use Rattle.std.proofs.lemmas.Bool.{cond_both, cases_order, cases_lt, eqb-true, eqb-false, ltb-true, ltb-false, false≢true}
 use Rattle.std.proofs.lemmas.List.{map-append}
 use Rattle.std.proofs.lemmas.List.Elements.{Contains-append_left, Contains-append_right, Contains-append_cases}
 use Rattle.std.proofs.Math.Nat.{two-pow-succ}
@@ -10,8 +10,8 @@ use Rattle.thread_local_model.proofs.PlaceLaws as place
 use Rattle.thread_local_model.proofs.WalkLaws.{ascends-push, Contains-one}
 use Rattle.thread_local_steps.proofs.TableLaws.{published_stands}
 use Rattle.thread_local_steps.specs.Table.{Table, slot_of, slot_at, value_of, published, stands}
-use Rattle.thread_local_steps.specs.SharedWalk.{SharedWalk, fresh_walk, cursor, at_next_bucket, at_place, after_load, walk_load, after_look, walk_look, WalkStep, Load, Look, walk_step}
-use Rattle.thread_local_steps.specs.WalkFits.{RecordFits, WalkFits}
+use Rattle.thread_local_steps.specs.SharedWalk.{SharedWalk, fresh_walk, cursor, is_complete, at_next_bucket, at_place, after_load, walk_load, after_look, walk_look, WalkStep, Load, Look, walk_step}
+use Rattle.thread_local_steps.specs.WalkFits.{RecordFits, WalkFits, with_pair, Loads, Looks, Adds}
 
 -- a bound on ascending ids may grow
 ascends_within : (ids : List ℕ) (m n : ℕ) → m ≤ n → IsAscendingBelow ids m → IsAscendingBelow ids n
@@ -228,3 +228,56 @@ fresh_walk-fits table = record {
   unloaded = λ e. refl;
   loads = refl;
 }
+
+-- what each step adds to the record: moving the cursor adds nothing
+at_place-loads : {V : Type 0} (table : Table V) (before walk : SharedWalk V) → Loads table before walk → Loads table before (at_place walk)
+at_place-loads table before walk h =
+    cond_both {A = SharedWalk _} (eqb walk.index (2 ^ walk.bucket)) (at_next_bucket walk) (record walk { looks = true }) (Loads table before)
+    (λ _. record { first = h.first; given = h.given; read = h.read; loads = h.loads })
+    (λ _. record { first = h.first; given = h.given; read = h.read; loads = h.loads })
+
+at_place-looks : {V : Type 0} (table : Table V) (before walk : SharedWalk V) → Looks table before walk → Looks table before (at_place walk)
+at_place-looks table before walk h =
+    cond_both {A = SharedWalk _} (eqb walk.index (2 ^ walk.bucket)) (at_next_bucket walk) (record walk { looks = true }) (Looks table before)
+    (λ _. record { first = h.first; given = h.given; read = h.read; loads = h.loads })
+    (λ _. record { first = h.first; given = h.given; read = h.read; loads = h.loads })
+
+walk_load-adds : {V : Type 0} (table : Table V) (walk : SharedWalk V) (looks : Bool) → IfSome (walk_load table walk looks) (Loads table walk)
+walk_load-adds table walk true = tt
+walk_load-adds table walk false =
+    let loaded = after_load table walk in
+    cond_both {A = Option (SharedWalk _)} (nat_lt walk.bucket 63) (Some (cond (stands table walk.bucket) (at_place loaded) (at_next_bucket loaded))) None (λ o. IfSome o (Loads table walk))
+    (λ _.
+    cond_both {A = SharedWalk _} (stands table walk.bucket) (at_place loaded) (at_next_bucket loaded) (Loads table walk)
+    (λ _. at_place-loads table walk loaded (record { first = refl; given = refl; read = refl; loads = refl }))
+    (λ _. record { first = refl; given = refl; read = refl; loads = refl }))
+    (λ _. tt)
+
+after_look-adds : {V : Type 0} (table : Table V) (walk : SharedWalk V) (shown : Option V) → published table (cursor walk) ≡ shown → Looks table walk (after_look walk shown)
+after_look-adds table walk None e =
+    at_place-looks table walk (record walk { index = suc walk.index; read = walk.read ++ cursor walk ∷ [] })
+    (record { first = refl; given = ap (with_pair walk.given (cursor walk)) (sym e); read = refl; loads = refl })
+after_look-adds table walk (Some v) e = record { first = refl; given = ap (with_pair walk.given (cursor walk)) (sym e); read = refl; loads = refl }
+
+walk_look-adds : {V : Type 0} (table : Table V) (walk : SharedWalk V) (looks : Bool) → walk.looks ≡ looks → WalkFits table walk → IfSome (walk_look table walk looks) (Looks table walk)
+walk_look-adds table walk false e h = tt
+walk_look-adds table walk true e h =
+    after_look-adds table walk (value_of (slot_of (table.words walk.bucket) walk.index)) (shown_at_cursor table walk.bucket walk.index (h.looking e).0)
+
+pub walk_step-adds : {V : Type 0} (table : Table V) (walk : SharedWalk V) (step : WalkStep) → WalkFits table walk → IfSome (walk_step table walk step) (Adds table step walk)
+unfolding walk_step
+walk_step-adds table walk Load h = walk_load-adds table walk walk.looks
+walk_step-adds table walk Look h = walk_look-adds table walk walk.looks refl h
+
+is_past : (within : Bool) → IsTrue (cond within false true) → within ≡ false
+is_past true t = absurd (false≢true t)
+is_past false t = refl
+
+-- a complete walk has passed every id
+pub complete_cursor : {V : Type 0} (table : Table V) (walk : SharedWalk V) → WalkFits table walk → IsTrue (is_complete walk) → cursor walk ≡ 2 ^ 63 - 1
+complete_cursor table walk h t =
+    let past : 63 ≤ walk.bucket = ltb-false walk.bucket 63 (is_past (nat_lt walk.bucket 63) t) in
+    let b = h.buckets in
+    let last : walk.bucket ≡ 63 = omega arith in
+    let power : 2 ^ walk.bucket ≡ 2 ^ 63 = ap (λ k. 2 ^ k) last in
+    omega (arith, h.complete last)

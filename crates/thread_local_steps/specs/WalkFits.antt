@@ -1,7 +1,7 @@
-use Rattle.std.specs.Prelude.{◌≡◌, ℕ, ◌+◌, ◌^◌, ◌<◌, ◌≤◌, Bool, List, length, map, Contains, Option, Some, IsTrue, if◌then◌else◌}
+use Rattle.std.specs.Prelude.{◌≡◌, ℕ, suc, ◌+◌, ◌^◌, ◌<◌, ◌≤◌, List, [], ◌∷◌, ◌++◌, length, map, Contains, Option, Some, None, IsTrue, ◌==◌, if◌then◌else◌}
 use Rattle.thread_local_model.specs.Walk.{IsAscendingBelow}
 use Rattle.thread_local_steps.specs.Table.{Table, published}
-use Rattle.thread_local_steps.specs.SharedWalk.{SharedWalk, cursor}
+use Rattle.thread_local_steps.specs.SharedWalk.{SharedWalk, cursor, WalkStep, Load, Look}
 
 -- What is known of a walk's record at a cursor: what it saw at first is still published, and so is what it gave;
 -- ids were given and read by ascending id, below the cursor; and what it saw at first below the cursor was given.
@@ -22,3 +22,27 @@ pub record WalkFits {V : Type 0} (table : Table V) (walk : SharedWalk V) : Type 
   pub complete : walk.bucket ≡ 63 → walk.index ≡ 0
   pub unloaded : walk.loads ≡ 0 → walk.index ≡ 0
   pub loads : walk.loads ≡ walk.bucket + length walk.given + (if walk.looks then 1 else 0)
+
+-- the pairs with one more, if there is a value
+abbrev pub with_pair : {V : Type 0} → List (ℕ × V) → ℕ → Option V → List (ℕ × V)
+with_pair pairs id None = pairs
+with_pair pairs id (Some v) = pairs ++ (id, v) ∷ []
+
+-- what a load adds to a walk's record: what is published is kept if it is the first, and the load is counted
+pub record Loads {V : Type 0} (table : Table V) (before after : SharedWalk V) : Type 0 where
+  pub first : after.first ≡ (if before.loads == 0 then published table else before.first)
+  pub given : after.given ≡ before.given
+  pub read : after.read ≡ before.read
+  pub loads : after.loads ≡ suc before.loads
+
+-- what a look adds: the slot at the cursor is read, and its value is given where it shows one
+pub record Looks {V : Type 0} (table : Table V) (before after : SharedWalk V) : Type 0 where
+  pub first : after.first ≡ before.first
+  pub given : after.given ≡ with_pair before.given (cursor before) (published table (cursor before))
+  pub read : after.read ≡ before.read ++ cursor before ∷ []
+  pub loads : after.loads ≡ before.loads
+
+-- what a step adds
+abbrev pub Adds : {V : Type 0} → Table V → WalkStep → SharedWalk V → SharedWalk V → Type 0
+Adds table Load before after = Loads table before after
+Adds table Look before after = Looks table before after

@@ -1,0 +1,218 @@
+use Rattle.std.proofs.Common.{◌≡◌, ℕ, zero, suc, ◌+◌, ◌^◌, ◌<◌, ◌≤◌, ◌⊎◌, max, Bool, true, false, not, ◌&&◌, cond, eqb, List, [], length, Option, Some, None, is_some, IsTrue, IfSome, refl, ap, sym, ◌∙◌, subst, arith, ⊎_elim, inl, inr}
+use Rattle.std.specs.Prelude.{option_map, unwrap_or}
+use Rattle.std.proofs.lemmas.Option.{none-some}
+use Rattle.std.proofs.lemmas.Bool.{cases_eq, cond_both, false≢true}
+use Rattle.thread_local_model.specs.Held.{is_held, held_count, with_least, without, least}
+use Rattle.thread_local_model.specs.Sheet.{Sheet, new_sheet, Move, Take, Publish, moved, moved_if, IsAllowed}
+use Rattle.thread_local_model.proofs.HeldLaws as ids
+use Rattle.thread_local_steps.specs.Table.{Table, published, stands, made_table, slot_at}
+use Rattle.thread_local_steps.specs.Local.{Local, LocalStep, Doing, Gets, local_step}
+use Rattle.thread_local_steps.specs.SharedWalk.{SharedWalk, fresh_walk, WalkStep, walk_step}
+use Rattle.thread_local_steps.specs.OwnerWalk.{rewritten}
+use Rattle.thread_local_steps.specs.Fits.{StepFits, GoesOn, value_set, with_value_if, named}
+use Rattle.thread_local_steps.proofs.TableLaws.{same_function, slot_at-made_table, published_unset, named_stands}
+use Rattle.thread_local_steps.proofs.LocalLaws.{local_step-fits}
+use Rattle.thread_local_steps.proofs.OwnerLaws.{published-rewritten}
+use Rattle.thread_local_schedule.specs.Core.{Core, new_core, shadow, put, is_alone}
+use Rattle.thread_local_schedule.specs.Events.{Event, TakeId, OfLocal, GiveBack, Forget, BeginWalk, OfWalk, EndWalk, Owner, OwnerCall, IterMut, Slots, ClearTable, IntoIter, DropTable, is_granted, take_id, with_step, of_local, gives_back, give_back, forgets, forget, begin_walk, with_walk_step, of_walk, end_walk, owner_call, step_of, step, is_enabled, happens}
+use Rattle.thread_local_schedule.specs.Schedule.{publishing, move_of, move, is_exclusive, is_clear}
+use Rattle.thread_local_schedule.proofs.HeldCounts.{peak_counts, held_count-le}
+use Rattle.thread_local_schedule.proofs.CoreFits.{CoreFits}
+use Rattle.thread_local_schedule.proofs.Kept.{put_cases, still, no_locals, kept_value}
+
+-- what an event that is enabled says of the core before it and after it
+pub record EventSays {V E : Type 0} (core : Core V E) (event : Event V E) (after : Core V E) : Type 0 where
+  pub moves : shadow after ≡ moved_if (shadow core) (move_of core event)
+  pub allowed : IfSome (move_of core event) (IsAllowed (shadow core))
+  pub stays : is_exclusive event ≡ false → (id : ℕ) (v : V) → published core.table id ≡ Some v → published after.table id ≡ Some v
+  pub names : is_exclusive event ≡ false → (bucket k : ℕ) → named core.table bucket ≡ Some k → named after.table bucket ≡ Some k
+  pub goes_on : (n : ℕ) (before then : Local V E) → core.locals n ≡ Some before → after.locals n ≡ Some then → GoesOn before then
+  pub peak : length after.manager.held ≡ cond (is_clear event) 0 (max (length core.manager.held) (held_count after.manager.held))
+
+-- a Local that an event leaves goes on
+same_goes_on : {V E : Type 0} (before then : Local V E) → Some before ≡ Some then → GoesOn before then
+same_goes_on before then e = let same : before ≡ then = cc in subst (GoesOn before) same (record { id = refl; start = refl; calls = inl refl })
+
+-- an event that leaves the ids, the table and the Locals, but for one that may live no longer
+leaves : {V E : Type 0} (core : Core V E) (event : Event V E) (after : Core V E) → shadow after ≡ shadow core → move_of core event ≡ None → after.table ≡ core.table
+    → after.manager ≡ core.manager → is_clear event ≡ false → ((n : ℕ) (then : Local V E) → after.locals n ≡ Some then → core.locals n ≡ Some then) → EventSays core event after
+leaves core event after same none table manager clear locals = record {
+  moves = rw none same;
+  allowed = rw none tt;
+  stays = λ _ id v e. ap (λ t. published t id) table ∙ e;
+  names = λ _ bucket k e. ap (λ t. named t bucket) table ∙ e;
+  goes_on = λ n before then e f. same_goes_on before then (sym e ∙ locals n then f);
+  peak = rw (clear, manager) (omega (arith, held_count-le core.manager.held));
+}
+
+-- a take
+take_id-says : {V E : Type 0} (core : Core V E) (refused : Bool) (growth : ℕ) (granted : Bool) → is_granted core.manager refused ≡ granted → CoreFits core
+    → EventSays core (TakeId refused growth) (cond granted (take_id core growth) core)
+take_id-says core refused growth true e h = record {
+  moves = rw e refl;
+  allowed = rw e tt;
+  stays = λ _ id v p. p;
+  names = λ _ bucket k p. p;
+  goes_on = λ n before then p q.
+    ⊎_elim
+    (λ at. let none = h.locals.none_from core.taken (omega arith) in let same = ap core.locals at.0 in cc)
+    (λ apart. same_goes_on before then (sym p ∙ apart.1))
+    (put_cases core.locals core.taken _ n then q);
+  peak = peak_counts core.manager.held;
+}
+take_id-says core refused growth false e h = leaves core (TakeId refused growth) core refl (rw e refl) refl refl refl (λ n then p. p)
+
+-- what is published moves as a step says
+published_moves : {V E : Type 0} (core : Core V E) (table : Table V) (id : ℕ) (set : Option V) → ((j : ℕ) → published table j ≡ with_value_if (published core.table) id set j)
+    → record (shadow core) { values = published table } ≡ moved_if (shadow core) (option_map (λ v. Publish id v) set)
+published_moves core table id None shown = ap (λ values. record (shadow core) { values = values }) (same_function (published table) (published core.table) shown)
+published_moves core table id (Some v) shown = ap (λ values. record (shadow core) { values = values }) (same_function (published table) (with_value_if (published core.table) id (Some v)) shown)
+
+publishing_allowed : {V : Type 0} (sheet : Sheet V) (id : ℕ) (set : Option V) → IsTrue (is_held sheet.held id) → IfSome set (λ _. sheet.values id ≡ None)
+    → IfSome (option_map (λ v. Publish id v) set) (IsAllowed sheet)
+publishing_allowed sheet id None t empty = tt
+publishing_allowed sheet id (Some v) t empty = (empty, t)
+
+-- a step of a Local
+stepped-says : {V E : Type 0} (core : Core V E) (number : ℕ) (step : LocalStep V E) (local : Local V E) (after : Table V × Local V E) → core.locals number ≡ Some local
+    → StepFits core.table local (value_set local.doing step) after → CoreFits core
+    → EventSays core (OfLocal number step) (record core { table = after.0; locals = put core.locals number (Some after.1) })
+stepped-says core number step local after at s h =
+    let set = value_set local.doing step in
+    record {
+      moves = rw at (published_moves core after.0 local.id set s.shown);
+      allowed = rw at (publishing_allowed (shadow core) local.id set (h.locals.each number local at).id_held s.empty);
+      stays = λ _ id v e. s.shown id ∙ kept_value (published core.table) local.id set id v s.empty e;
+      names = λ _ bucket k e. (s.changes.naming bucket (named_stands core.table bucket k e)).1 ∙ e;
+      goes_on = λ n before then e f.
+        ⊎_elim
+        (λ here.
+        let same : Some local ≡ Some before = sym at ∙ ap core.locals here.0 ∙ e in
+        let first : local ≡ before = cc in
+        let last : after.1 ≡ then = (let here_too = here.1 in cc) in
+        subst (λ b. GoesOn b then) first (subst (GoesOn local) last s.goes_on))
+        (λ apart. same_goes_on before then (sym e ∙ apart.1))
+        (put_cases core.locals number (Some after.1) n then f);
+      peak = omega (arith, held_count-le core.manager.held);
+    }
+
+with_step-says : {V E : Type 0} (core : Core V E) (number : ℕ) (step : LocalStep V E) (local : Local V E) (o : Option (Table V × Local V E)) → core.locals number ≡ Some local
+    → CoreFits core → IfSome o (StepFits core.table local (value_set local.doing step)) → IfSome (with_step core number o) (EventSays core (OfLocal number step))
+with_step-says core number step local None at h s = tt
+with_step-says core number step local (Some after) at h s = stepped-says core number step local after at s h
+
+of_local-says : {V E : Type 0} (core : Core V E) (number : ℕ) (step : LocalStep V E) (o : Option (Local V E)) → core.locals number ≡ o → CoreFits core
+    → IfSome (of_local core number step o) (EventSays core (OfLocal number step))
+of_local-says core number step None at h = tt
+of_local-says core number step (Some local) at h =
+    with_step-says core number step local (local_step core.table local step) at h
+    (local_step-fits core.table local step h.table.written (h.locals.each number local at).local_fits)
+
+-- a Local that gives its id back, or is forgotten
+gives_back-says : {V E : Type 0} (core : Core V E) (number : ℕ) (local : Local V E) (doing : Doing V E) → core.locals number ≡ Some local → CoreFits core
+    → IfSome (gives_back core number local doing) (EventSays core (GiveBack number))
+gives_back-says core number local (Gets zero) at h =
+    let live = h.locals.each number local at in
+    record {
+      moves = rw at refl;
+      allowed = rw at live.id_held;
+      stays = λ _ id v e. e;
+      names = λ _ bucket k e. e;
+      goes_on = λ n before then e f. same_goes_on before then (sym e ∙ (still core.locals number n then f).1);
+      peak = omega (arith, ids.length-without core.manager.held local.id, held_count-le (without core.manager.held local.id));
+    }
+gives_back-says core number local _ at h = tt
+
+give_back-says : {V E : Type 0} (core : Core V E) (number : ℕ) (o : Option (Local V E)) → core.locals number ≡ o → CoreFits core → IfSome (give_back core number o) (EventSays core (GiveBack number))
+give_back-says core number None at h = tt
+give_back-says core number (Some local) at h = gives_back-says core number local local.doing at h
+
+forgets-says : {V E : Type 0} (core : Core V E) (number : ℕ) (doing : Doing V E) → IfSome (forgets core number doing) (EventSays core (Forget number))
+forgets-says core number (Gets zero) = leaves core (Forget number) (record core { locals = put core.locals number None }) refl refl refl refl refl (λ n then f. (still core.locals number n then f).1)
+forgets-says core number _ = tt
+
+forget-says : {V E : Type 0} (core : Core V E) (number : ℕ) (o : Option (Local V E)) → IfSome (forget core number o) (EventSays core (Forget number))
+forget-says core number None = tt
+forget-says core number (Some local) = forgets-says core number local.doing
+
+-- a walk's events
+with_walk_step-says : {V E : Type 0} (core : Core V E) (number : ℕ) (step : WalkStep) (o : Option (SharedWalk V)) → IfSome (with_walk_step core number o) (EventSays core (OfWalk number step))
+with_walk_step-says core number step None = tt
+with_walk_step-says core number step (Some walk) = leaves core (OfWalk number step) (record core { walks = put core.walks number (Some walk) }) refl refl refl refl refl (λ n then f. f)
+
+of_walk-says : {V E : Type 0} (core : Core V E) (number : ℕ) (step : WalkStep) (o : Option (SharedWalk V)) → IfSome (of_walk core number step o) (EventSays core (OfWalk number step))
+of_walk-says core number step None = tt
+of_walk-says core number step (Some walk) = with_walk_step-says core number step (walk_step core.table walk step)
+
+end_walk-says : {V E : Type 0} (core : Core V E) (number : ℕ) (o : Option (SharedWalk V)) → IfSome (end_walk core number o) (EventSays core (EndWalk number))
+end_walk-says core number None = tt
+end_walk-says core number (Some walk) = leaves core (EndWalk number) (record core { walks = put core.walks number None }) refl refl refl refl refl (λ n then f. f)
+
+-- nothing is published in a table as it is made
+pub none_made : (T : Type 0) (capacity : ℕ) → published {V = T} (made_table capacity) ≡ (λ _. None)
+none_made T capacity =
+    same_function (published {V = T} (made_table capacity)) (λ _. None) (λ id. published_unset (made_table capacity) id (ap (λ slot. slot.flag) (slot_at-made_table {V = T} capacity id)))
+
+-- an owner's call, where no Local lives
+no_local_goes_on : {V E : Type 0} (core : Core V E) (n : ℕ) (before then : Local V E) → CoreFits core → IsTrue (is_alone core) → core.locals n ≡ Some before → GoesOn before then
+no_local_goes_on core n before then h e at = absurd (none-some before (sym (no_locals core h e n) ∙ at))
+
+owner_call-says : {V E : Type 0} (core : Core V E) (alone : Bool) (call : OwnerCall V) → is_alone core ≡ alone → CoreFits core → IfSome (owner_call core alone call) (EventSays core (Owner call))
+owner_call-says core false call e h = tt
+owner_call-says core true (IterMut others) e h = record {
+  moves = ap (λ values. record (shadow core) { values = values })
+    (same_function (published (rewritten core.table others)) (λ id. option_map (others id) (published core.table id)) (published-rewritten core.table others));
+  allowed = tt;
+  stays = λ ex. absurd (false≢true (sym ex));
+  names = λ ex. absurd (false≢true (sym ex));
+  goes_on = λ n before then at f. no_local_goes_on core n before then h e at;
+  peak = omega (arith, held_count-le core.manager.held);
+}
+owner_call-says core true Slots e h = leaves core (Owner Slots) core refl refl refl refl refl (λ n then f. f)
+owner_call-says core true ClearTable e h = record {
+  moves = ap (λ values. record { held = []; values = values; capacity = 0 }) (none_made _ 0);
+  allowed = tt;
+  stays = λ ex. absurd (false≢true (sym ex));
+  names = λ ex. absurd (false≢true (sym ex));
+  goes_on = λ n before then at f. no_local_goes_on core n before then h e at;
+  peak = refl;
+}
+owner_call-says core true IntoIter e h = leaves core (Owner IntoIter) (record core { ended = true }) refl refl refl refl refl (λ n then f. f)
+owner_call-says core true DropTable e h = leaves core (Owner DropTable) (record core { ended = true }) refl refl refl refl refl (λ n then f. f)
+
+step_of-says : {V E : Type 0} (core : Core V E) (event : Event V E) → CoreFits core → IfSome (step_of core event) (EventSays core event)
+step_of-says core (TakeId refused growth) h = take_id-says core refused growth (is_granted core.manager refused) refl h
+step_of-says core (OfLocal number step) h = of_local-says core number step (core.locals number) refl h
+step_of-says core (GiveBack number) h = give_back-says core number (core.locals number) refl h
+step_of-says core (Forget number) h = forget-says core number (core.locals number)
+step_of-says core BeginWalk h = leaves core BeginWalk (record core { walks = put core.walks core.walked (Some fresh_walk); walked = suc core.walked }) refl refl refl refl refl (λ n then f. f)
+step_of-says core (OfWalk number step) h = of_walk-says core number step (core.walks number)
+step_of-says core (EndWalk number) h = end_walk-says core number (core.walks number)
+step_of-says core (Owner call) h = owner_call-says core (is_alone core) call refl h
+
+-- what every event says of the core after it, whether it is enabled or not
+pub record Says {V E : Type 0} (core : Core V E) (event : Event V E) (enabled : Bool) (after : Core V E) : Type 0 where
+  pub moves : shadow after ≡ moved_if (shadow core) (cond enabled (move_of core event) None)
+  pub allowed : IfSome (cond enabled (move_of core event) None) (IsAllowed (shadow core))
+  pub stays : is_exclusive event ≡ false → (id : ℕ) (v : V) → published core.table id ≡ Some v → published after.table id ≡ Some v
+  pub names : is_exclusive event ≡ false → (bucket k : ℕ) → named core.table bucket ≡ Some k → named after.table bucket ≡ Some k
+  pub goes_on : (n : ℕ) (before then : Local V E) → core.locals n ≡ Some before → after.locals n ≡ Some then → GoesOn before then
+  pub peak : length after.manager.held ≡ cond (enabled && is_clear event) 0 (max (length core.manager.held) (held_count after.manager.held))
+
+says_of : {V E : Type 0} (core : Core V E) (event : Event V E) (o : Option (Core V E)) → IfSome o (EventSays core event) → Says core event (is_some o) (unwrap_or o core)
+says_of core event None s = record {
+  moves = refl;
+  allowed = tt;
+  stays = λ _ id v p. p;
+  names = λ _ bucket k p. p;
+  goes_on = λ n before then p f. same_goes_on before then (sym p ∙ f);
+  peak = omega (arith, held_count-le core.manager.held);
+}
+says_of core event (Some after) s = record { moves = s.moves; allowed = s.allowed; stays = s.stays; names = s.names; goes_on = s.goes_on; peak = s.peak }
+
+pub event_says : {V E : Type 0} (core : Core V E) (event : Event V E) → CoreFits core → Says core event (is_enabled core event) (happens core event)
+unfolding is_enabled happens step
+event_says core event h =
+    cond_both {A = Option (Core _ _)} core.ended None (step_of core event) (λ o. Says core event (is_some o) (unwrap_or o core))
+    (λ _. says_of core event None tt)
+    (λ _. says_of core event (step_of core event) (step_of-says core event h))
