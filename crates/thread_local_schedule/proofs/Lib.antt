@@ -2,3 +2,4 @@ pub mod HeldCounts
 pub mod CoreFits
 pub mod Kept
 pub mod Says
+pub mod Story
