@@ -1,5 +1,6 @@
-use Rattle.std.proofs.Common.{◌≡◌, not, ◌&&◌, Option, Bool, true, false, List, [], ◌∷◌, ◌++◌, Some, None, Result, Ok, Err, IsTrue, refl, ap}
-use Rattle.thread_local_model.specs.Answers.{View, Call, Get, GetOr, Found, Answered, Refused, Failed, view_after_or, answer, view_after, answers, view_after_all, Says}
+use Rattle.std.proofs.Common.{◌≡◌, not, ◌&&◌, Option, Bool, true, false, List, [], ◌∷◌, ◌++◌, Some, None, Result, Ok, Err, IsTrue, zero, suc, arith, refl, ap}
+use Rattle.std.specs.Prelude.{Contains}
+use Rattle.thread_local_model.specs.Answers.{View, Call, Get, GetOr, Found, Answered, Refused, Failed, view_after_or, answer_or, answer, view_after, answers, view_after_all, Says}
 
 pub get : {V E : Type 0} (view : View V) → Says {E = E} view Get (Found view.value) view
 get view = record { answered = refl; leaves = refl }
@@ -45,3 +46,24 @@ known_or view None false (Err e) k = refl
 pub known_stays : {V E : Type 0} (view : View V) (call : Call V E) → IsTrue view.known → IsTrue (view_after view call).known
 known_stays view Get k = k
 known_stays view (GetOr create memory) k = known_or view view.value (memory && not view.known) create k
+
+pub known_after_all : {V E : Type 0} (view : View V) (calls : List (Call V E)) → IsTrue view.known → IsTrue (view_after_all view calls).known
+known_after_all view [] k = k
+known_after_all view (call ∷ calls) k = known_after_all (view_after view call) calls (known_stays view call k)
+
+-- where it is known to stand no call is refused
+never_or : {V E : Type 0} (o : Option V) (memory : Bool) (create : Result V E) → answer_or o (memory && false) create ≡ Refused → ⊥
+never_or (Some v) memory create e = cc
+never_or None true (Ok v) e = cc
+never_or None true (Err x) e = cc
+never_or None false (Ok v) e = cc
+never_or None false (Err x) e = cc
+
+never_refused : {V E : Type 0} (view : View V) (call : Call V E) → IsTrue view.known → answer view call ≡ Refused → ⊥
+never_refused view Get k e = cc
+never_refused view (GetOr create memory) k e = never_or view.value memory create (rw k at e)
+
+pub none_refused : {V E : Type 0} (view : View V) (calls : List (Call V E)) → IsTrue view.known → Contains (answers view calls) Refused → ⊥
+none_refused view [] k (n, l, e) = omega arith
+none_refused view (call ∷ calls) k (zero, l, e) = never_refused view call k e
+none_refused view (call ∷ calls) k (suc n, l, e) = none_refused (view_after view call) calls (known_stays view call k) (n, omega arith, e)

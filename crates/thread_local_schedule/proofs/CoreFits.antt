@@ -4,7 +4,7 @@ use Rattle.thread_local_model.specs.Capacity.{binary_digits, is_reserved}
 use Rattle.thread_local_steps.specs.Table.{Table, published, stands}
 use Rattle.thread_local_steps.specs.Local.{Local}
 use Rattle.thread_local_steps.specs.SharedWalk.{SharedWalk}
-use Rattle.thread_local_steps.specs.Fits.{AllWritten, LocalFits, view_now}
+use Rattle.thread_local_steps.specs.Fits.{AllWritten, LocalFits}
 use Rattle.thread_local_steps.specs.WalkFits.{WalkFits}
 use Rattle.thread_local_schedule.specs.Core.{Core}
 
@@ -25,11 +25,11 @@ pub record TableFits {V : Type 0} (table : Table V) (capacity peak : ℕ) : Type
   pub reserved : (bucket : ℕ) → bucket < binary_digits capacity → IsTrue (stands table bucket)
   pub below : (id : ℕ) (v : V) → published table id ≡ Some v → id < peak
 
--- a Local fits its table, its id is held, and where that is reserved its bucket is known to stand
+-- a Local fits its table, its id is held, and where that is reserved its bucket is known to stand from the start
 pub record LiveFits {V E : Type 0} (table : Table V) (held : List Bool) (capacity : ℕ) (local : Local V E) : Type 0 where
   pub local_fits : LocalFits table local
   pub id_held : IsTrue (is_held held local.id)
-  pub known : IsTrue (is_reserved capacity local.id) → IsTrue (view_now local).known
+  pub known : IsTrue (is_reserved capacity local.id) → IsTrue local.start.known
 
 -- so does each Local that lives, and no two have one id
 pub record LocalsFit {V E : Type 0} (table : Table V) (held : List Bool) (capacity : ℕ) (locals : ℕ → Option (Local V E)) (taken : ℕ) : Type 0 where

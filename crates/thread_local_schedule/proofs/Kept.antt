@@ -6,11 +6,9 @@ use Rattle.std.proofs.Math.Nat.{two-pow-succ}
 use Rattle.thread_local_model.specs.Place.{bucket_of}
 use Rattle.thread_local_model.specs.Capacity.{binary_digits, is_reserved}
 use Rattle.thread_local_model.specs.Held.{Manager, is_held, least, with_least, without}
-use Rattle.thread_local_model.specs.Answers.{View, Call, view_after, view_after_all}
 use Rattle.thread_local_model.proofs.PlaceLaws as place
 use Rattle.thread_local_model.proofs.CapacityLaws as reserve
 use Rattle.thread_local_model.proofs.HeldLaws as ids
-use Rattle.thread_local_model.proofs.AnswersLaws.{view_after_all-push, known_stays}
 use Rattle.thread_local_steps.specs.Table.{Table, made_table, slot_at, published, stands}
 use Rattle.thread_local_steps.specs.Local.{Local, LocalStep, Unknown, Doing, Gets, Started, Private, Written, fresh_local, local_step}
 use Rattle.thread_local_steps.specs.SharedWalk.{SharedWalk, fresh_walk, WalkStep, walk_step}
@@ -184,22 +182,11 @@ kept_value values own (Some w) id v none e =
     (cases_eq own id)
 
 -- the bucket of a held id has no more slots than the peak
-own_small : (held : List Bool) (id : ℕ) → IsTrue (is_held held id) → 2 ^ bucket_of id ≤ length held
+pub own_small : (held : List Bool) (id : ℕ) → IsTrue (is_held held id) → 2 ^ bucket_of id ≤ length held
 own_small held id t =
     let e = place.equation id in
     let l = held_below held id t in
     omega arith
-
--- a bucket that was known to stand is known to stand after a step
-known_after : {V E : Type 0} (local after : Local V E) → after.start ≡ local.start → (after.calls ≡ local.calls) ⊎ ((call : Call V E) × (after.calls ≡ local.calls ++ call ∷ []))
-    → IsTrue (view_now local).known → IsTrue (view_now after).known
-known_after local after start calls k =
-    ⊎_elim
-    (λ same. ap (λ v. (view_after_all v after.calls).known) start ∙ ap (λ cs. (view_after_all local.start cs).known) same ∙ k)
-    (λ more.
-    ap (λ v. (view_after_all v after.calls).known) start ∙ ap (λ cs. (view_after_all local.start cs).known) more.1
-    ∙ ap (λ v. v.known) (view_after_all-push local.start local.calls more.0) ∙ known_stays (view_now local) more.0 k)
-    calls
 
 step-TableFits : {V E : Type 0} (core : Core V E) (local : Local V E) (set : Option V) (after : Table V × Local V E) → IsTrue (is_held core.manager.held local.id)
     → StepFits core.table local set after → TableFits core.table core.capacity (length core.manager.held) → TableFits after.0 core.capacity (length core.manager.held)
@@ -231,7 +218,7 @@ stepped-fits core number local set after at s h =
         (record {
           local_fits = s.fits;
           id_held = subst (λ id. IsTrue (is_held held id)) (sym s.goes_on.id) live.id_held;
-          known = λ reserved. known_after local after.1 s.goes_on.start s.goes_on.calls (live.known (subst (λ id. IsTrue (is_reserved core.capacity id)) s.goes_on.id reserved));
+          known = λ reserved. ap (λ view. view.known) s.goes_on.start ∙ live.known (subst (λ id. IsTrue (is_reserved core.capacity id)) s.goes_on.id reserved);
         })
         (λ n other apart e.
         let there = h.locals.each n other e in

@@ -1,9 +1,10 @@
-use Rattle.std.specs.Prelude.{◌≡◌, ℕ, ◌<◌, max, Bool, true, false, not, ◌&&◌, List, [], ◌∷◌, Option, Some, None, option_map, IsTrue, ⊤, if◌then◌else◌}
+use Rattle.std.specs.Prelude.{◌≡◌, ℕ, ◌^◌, ◌<◌, length, max, Bool, true, false, not, ◌&&◌, List, [], ◌∷◌, Option, Some, None, option_map, IsTrue, ⊤, if◌then◌else◌}
+use Rattle.thread_local_model.specs.Place.{bucket_of}
 use Rattle.thread_local_model.specs.Held.{held_count}
 use Rattle.thread_local_model.specs.Sheet.{Move, Take, Give, Publish, Rewrite, Clear}
-use Rattle.thread_local_steps.specs.Local.{Local, LocalStep, MakeBucket}
+use Rattle.thread_local_steps.specs.Local.{Local, LocalStep, MakeBucket, Doing, Private}
 use Rattle.thread_local_steps.specs.Fits.{value_set}
-use Rattle.thread_local_schedule.specs.Core.{Core}
+use Rattle.thread_local_schedule.specs.Core.{Core, made_core}
 use Rattle.thread_local_schedule.specs.Events.{Event, TakeId, OfLocal, GiveBack, Forget, BeginWalk, OfWalk, EndWalk, Owner, OwnerCall, IterMut, Slots, ClearTable, IntoIter, DropTable, is_granted, is_enabled, happens, run}
 
 -- what a step of a Local publishes
@@ -48,6 +49,31 @@ refuses core event = false
 abbrev pub is_refused : {V E : Type 0} → Core V E → Event V E → Bool
 is_refused core event = is_enabled core event && refuses core event
 
+-- whether an event gives an id to a Local: a take that is enabled and isn't refused
+abbrev pub is_granted_take : {V E : Type 0} → Core V E → Event V E → Bool
+is_granted_take core event = is_take event && is_enabled core event && not (refuses core event)
+
+-- the Local that comes with an event that gives an id to one
+abbrev pub newcomer : {V E : Type 0} → Core V E → Event V E → Option (Local V E)
+newcomer core event = (happens core event).locals core.taken
+
+-- the manager's peak
+abbrev pub peak : {V E : Type 0} → Core V E → ℕ
+peak core = length core.manager.held
+
+-- how many slots a bucket has that a call has made and not offered yet
+abbrev pub private_slots : {V E : Type 0} → ℕ → Doing V E → ℕ
+private_slots id (Private create number) = 2 ^ bucket_of id
+private_slots id doing = 0
+
+-- the core of a table from `new`, or made with a capacity below 2^63, after some schedule
+pub record IsReached {V E : Type 0} (core : Core V E) : Type 0 where
+  pub capacity : ℕ
+  pub extra : ℕ
+  pub events : List (Event V E)
+  pub bounded : capacity < 2 ^ 63
+  pub leads : run (made_core capacity extra) events ≡ core
+
 -- the most ids held at one moment since the table was made or cleared: this many before these events
 abbrev pub most_held : {V E : Type 0} → ℕ → Core V E → List (Event V E) → ℕ
 most_held most core [] = most
@@ -58,6 +84,11 @@ most_held most core (event ∷ events) =
 abbrev pub TakesBelow : {V E : Type 0} → ℕ → Core V E → List (Event V E) → Type 0
 TakesBelow bound core [] = ⊤
 TakesBelow bound core (event ∷ events) = (IsTrue (is_take event) → held_count core.manager.held < bound) × TakesBelow bound (happens core event) events
+
+-- no event of a schedule gives an id to a Local
+abbrev pub NoneTaken : {V E : Type 0} → Core V E → List (Event V E) → Type 0
+NoneTaken core [] = ⊤
+NoneTaken core (event ∷ events) = (is_granted_take core event ≡ false) × NoneTaken (happens core event) events
 
 -- no event of a schedule ends in a refusal
 abbrev pub NothingRefused : {V E : Type 0} → Core V E → List (Event V E) → Type 0

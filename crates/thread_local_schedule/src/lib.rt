@@ -1,9 +1,10 @@
-//! The theorems on a table over every schedule of atomic steps.
+//! Theorems on a table's model over every schedule of atomic steps.
+//!
+//! The definitions stand in specs/: the core, the events that may come, and what a schedule is. Each function
+//! here has an empty body: its contract is a set of theorems, for every list of events, from a table of `new`
+//! and from one of each capacity, whatever the values and the closures' errors are.
 #![tactic(auto)]
 
-ghost use Rattle.std.specs.Prelude.{◌≡◌, ℕ};
+pub mod schedule;
 
-/// Nothing yet.
-pub fn nothing()
-    ensures { (n : ℕ) → n ≡ n }
-{}
+pub use schedule::{every_schedule, every_walk};

@@ -1,0 +1,133 @@
+use Rattle.std.proofs.Common.{◌≡◌, ℕ, zero, suc, ◌+◌, ◌-◌, ◌*◌, ◌^◌, ◌<◌, ◌≤◌, max, Bool, true, false, not, ◌&&◌, cond, List, [], ◌∷◌, length, Option, Some, None, is_some, IsTrue, IfSome, IsSomeAnd, refl, ap, sym, ◌∙◌, subst, arith, ⊎_elim}
+use Rattle.std.specs.Prelude.{option_map, unwrap_or}
+use Rattle.std.proofs.lemmas.Bool.{cases_Bool, cond_both, lt-ltb, false≢true, and_parts, and_left, and_right, not-true}
+use Rattle.thread_local_model.specs.Held.{held_count, with_least, without, least}
+use Rattle.thread_local_model.specs.Sheet.{Sheet, new_sheet, Move, Take, Give, Publish, Keep, Rewrite, Clear, moved_if}
+use Rattle.thread_local_model.specs.Capacity.{is_reserved, reserved_slots}
+use Rattle.thread_local_model.proofs.HeldLaws as ids
+use Rattle.thread_local_model.proofs.CapacityLaws as reserve
+use Rattle.thread_local_steps.specs.Table.{published}
+use Rattle.thread_local_steps.specs.Local.{Local, LocalStep, BeginGet, BeginGetOr, LoadWord, LookAtFlag, MakeBucket, InstallBucket, WriteValue, SetFlag, Reply}
+use Rattle.thread_local_steps.specs.Fits.{value_set}
+use Rattle.thread_local_schedule.specs.Core.{Core, made_core, new_core, shadow, installed_slots}
+use Rattle.thread_local_schedule.specs.Events.{Event, TakeId, OfLocal, GiveBack, Forget, BeginWalk, OfWalk, EndWalk, Owner, IterMut, Slots, ClearTable, IntoIter, DropTable, is_granted, step_of, step, is_enabled, happens, run}
+use Rattle.thread_local_schedule.specs.Schedule.{publishing, move, move_of, is_take, is_clear, refuses, is_refused, is_granted_take, newcomer, peak, TakesBelow, NoneTaken, NothingRefused, NeverCleared}
+use Rattle.thread_local_schedule.proofs.HeldCounts.{held_below, held_count-le, least-le-held_count, peak_after}
+use Rattle.thread_local_schedule.proofs.CoreFits.{CoreFits}
+use Rattle.thread_local_schedule.proofs.Kept.{made_core-fits, happens-fits, run-fits}
+use Rattle.thread_local_schedule.proofs.Says.{event_says}
+use Rattle.thread_local_schedule.proofs.Clauses.{installed_bound, run_capacity, within_capacity, none_enabled, reserved}
+
+-- a move makes the peak grow only where it is a take, and then to no more than one above the ids that were held
+moved_peak : {V : Type 0} (sheet : Sheet V) (o : Option (Move V)) → length (moved_if sheet o).held ≤ max (length sheet.held) (suc (held_count sheet.held))
+moved_peak sheet None = omega arith
+moved_peak sheet (Some Take) = omega (arith, peak_after sheet.held, least-le-held_count sheet.held)
+moved_peak sheet (Some (Give id)) = omega (arith, ids.length-without sheet.held id)
+moved_peak sheet (Some (Publish id v)) = omega arith
+moved_peak sheet (Some (Keep id v)) = omega arith
+moved_peak sheet (Some (Rewrite others)) = omega arith
+moved_peak sheet (Some Clear) = omega arith
+
+same_peak : {V : Type 0} (sheet : Sheet V) (o : Option (Move V)) → (o ≡ Some Take → ⊥) → length (moved_if sheet o).held ≤ length sheet.held
+same_peak sheet None h = omega arith
+same_peak sheet (Some Take) h = absurd (h refl)
+same_peak sheet (Some (Give id)) h = omega (arith, ids.length-without sheet.held id)
+same_peak sheet (Some (Publish id v)) h = omega arith
+same_peak sheet (Some (Keep id v)) h = omega arith
+same_peak sheet (Some (Rewrite others)) h = omega arith
+same_peak sheet (Some Clear) h = omega arith
+
+-- of the moves, a step of a Local is at most one that publishes, and a give back at most one that gives
+not_mapped : {A B : Type 0} (o : Option A) (f : A → B) (b : B) → ((a : A) → f a ≡ b → ⊥) → option_map f o ≡ Some b → ⊥
+not_mapped None f b other e = cc
+not_mapped (Some a) f b other e = let same : f a ≡ b = cc in other a same
+
+not_published : {V E : Type 0} (o : Option (Local V E)) (step : LocalStep V E) (m : Move V) → ((id : ℕ) (v : V) → Publish id v ≡ m → ⊥) → publishing o step ≡ Some m → ⊥
+not_published None step m other e = cc
+not_published (Some local) step m other e = not_mapped (value_set local.doing step) (λ v. Publish local.id v) m (λ v. other local.id v) e
+
+-- an event that is no take is not the move of one, and one that is no clear is not that of a clear
+no_take : {V E : Type 0} (core : Core V E) (event : Event V E) → is_take event ≡ false → move_of core event ≡ Some Take → ⊥
+no_take core (TakeId refused growth) f e = cc
+no_take core (OfLocal number step) f e = not_published (core.locals number) step Take (λ id v same. cc) e
+no_take core (GiveBack number) f e = not_mapped (core.locals number) (λ local. Give local.id) Take (λ local same. cc) e
+no_take core (Owner (IterMut others)) f e = cc
+no_take core (Owner ClearTable) f e = cc
+no_take core _ f e = cc
+
+no_clear : {V E : Type 0} (core : Core V E) (event : Event V E) → is_clear event ≡ false → move_of core event ≡ Some Clear → ⊥
+no_clear core (TakeId refused growth) f e = cond_both {A = Option (Move _)} (is_granted core.manager refused) (Some Take) None (λ o. o ≡ Some Clear → ⊥) (λ _ x. cc) (λ _ x. cc) e
+no_clear core (OfLocal number step) f e = not_published (core.locals number) step Clear (λ id v same. cc) e
+no_clear core (GiveBack number) f e = not_mapped (core.locals number) (λ local. Give local.id) Clear (λ local same. cc) e
+no_clear core (Owner (IterMut others)) f e = cc
+no_clear core (Owner ClearTable) f e = cc
+no_clear core _ f e = cc
+
+not_if : {A : Type 0} (b : Bool) (o : Option A) (a : A) → (o ≡ Some a → ⊥) → cond b o None ≡ Some a → ⊥
+not_if true o a h e = h e
+not_if false o a h e = cc
+
+-- so where each take comes while fewer than p ids are held, the peak stays within p
+event_peak : {V E : Type 0} (p : ℕ) (core : Core V E) (event : Event V E) → CoreFits core → (IsTrue (is_take event) → held_count core.manager.held < p) → peak core ≤ p → peak (happens core event) ≤ p
+event_peak p core event h few l =
+    let after = ap (λ sheet. length sheet.held) (event_says core event h).moves in
+    ⊎_elim
+    (λ t. omega (arith, moved_peak (shadow core) (move core event), few t))
+    (λ f. omega (arith, same_peak (shadow core) (move core event) (not_if (is_enabled core event) (move_of core event) Take (no_take core event f))))
+    (cases_Bool (is_take event))
+
+run_peak : {V E : Type 0} (p : ℕ) (core : Core V E) (events : List (Event V E)) → CoreFits core → TakesBelow p core events → peak core ≤ p → peak (run core events) ≤ p
+unfolding run
+run_peak p core [] h few l = l
+run_peak p core (event ∷ events) h few l = run_peak p (happens core event) events (happens-fits core event h) few.1 (event_peak p core event h few.0 l)
+
+pub bounded : {V E : Type 0} (p : ℕ) (events : List (Event V E)) → TakesBelow p new_core events → installed_slots (run new_core events) ≤ 2 * p - 1
+bounded p events few =
+    let made = made_core-fits 0 0 (omega arith) in
+    installed_bound (run new_core events) p (run-fits new_core events made) (omega (arith, run_capacity new_core events 0 made (omega arith))) (run_peak p new_core events made few (omega arith))
+
+-- the capacity stays until a clear
+same_capacity : {V : Type 0} (sheet : Sheet V) (o : Option (Move V)) → (o ≡ Some Clear → ⊥) → (moved_if sheet o).capacity ≡ sheet.capacity
+same_capacity sheet None h = refl
+same_capacity sheet (Some Take) h = refl
+same_capacity sheet (Some (Give id)) h = refl
+same_capacity sheet (Some (Publish id v)) h = refl
+same_capacity sheet (Some (Keep id v)) h = refl
+same_capacity sheet (Some (Rewrite others)) h = refl
+same_capacity sheet (Some Clear) h = absurd (h refl)
+
+capacity_stays : {V E : Type 0} (core : Core V E) (event : Event V E) → CoreFits core → is_clear event ≡ false → (happens core event).capacity ≡ core.capacity
+capacity_stays core event h f =
+    ap (λ sheet. sheet.capacity) (event_says core event h).moves
+    ∙ same_capacity (shadow core) (move core event) (not_if (is_enabled core event) (move_of core event) Clear (no_clear core event f))
+
+-- a step of a Local that doesn't live is not enabled
+step_of_none : {V E : Type 0} (core : Core V E) (n : ℕ) (step : LocalStep V E) → core.locals n ≡ None → is_enabled core (OfLocal n step) ≡ false
+unfolding is_enabled step
+step_of_none core n step none = none_enabled core.ended (step_of core (OfLocal n step)) (rw none refl)
+
+-- within the capacity no event is refused
+asks_nothing : {V E : Type 0} (core : Core V E) (n : ℕ) (refused : Bool) (o : Option (Local V E)) → core.locals n ≡ o → CoreFits core → peak core ≤ core.capacity
+    → is_refused core (OfLocal n (MakeBucket refused)) ≡ false
+asks_nothing core n refused None at h l = and_left (is_enabled core (OfLocal n (MakeBucket refused))) refused (step_of_none core n (MakeBucket refused) at)
+asks_nothing core n refused (Some local) at h l =
+    let below = held_below core.manager.held local.id (h.locals.each n local at).id_held in
+    reserved core n local refused h at (lt-ltb local.id (reserved_slots core.capacity) (omega (arith, reserve.capacity-reserved_slots core.capacity)))
+
+granted : {V E : Type 0} (core : Core V E) (event : Event V E) → CoreFits core → peak core ≤ core.capacity → (IsTrue (is_take event) → held_count core.manager.held < core.capacity)
+    → is_refused core event ≡ false
+granted core (TakeId refused growth) h l few = within_capacity core refused growth h (few refl)
+granted core (OfLocal number (MakeBucket refused)) h l few = asks_nothing core number refused (core.locals number) refl h l
+granted core event h l few = and_right (is_enabled core event) (refuses core event) refl
+
+nothing_refused : {V E : Type 0} (n p : ℕ) (core : Core V E) (events : List (Event V E)) → CoreFits core → core.capacity ≡ n → p ≤ n → peak core ≤ p → TakesBelow p core events → NeverCleared events
+    → NothingRefused core events
+nothing_refused n p core [] h c l top few never = tt
+nothing_refused n p core (event ∷ events) h c l top few never = (
+    (granted core event h (omega arith) (λ t. omega (arith, few.0 t))),
+    (nothing_refused n p (happens core event) events (happens-fits core event h) (capacity_stays core event h never.0 ∙ c) l (event_peak p core event h few.0 top) few.1 never.1),
+    )
+
+pub refuses_nothing : {V E : Type 0} (capacity extra p : ℕ) (events : List (Event V E)) → capacity < 2 ^ 63 → p ≤ capacity → TakesBelow p (made_core capacity extra) events → NeverCleared events
+    → NothingRefused (made_core capacity extra) events
+refuses_nothing capacity extra p events l le few never = nothing_refused capacity p (made_core capacity extra) events (made_core-fits capacity extra l) refl le (omega arith) few never

@@ -1,0 +1,115 @@
+use Rattle.std.proofs.Common.{refl, ap, arith}
+use Rattle.thread_local_schedule.proofs.Clauses as clause
+use Rattle.thread_local_schedule.proofs.AfterClear as later
+use Rattle.thread_local_schedule.proofs.Headline as headline
+use Rattle.thread_local_schedule.proofs.Story as story
+use Rattle.thread_local_steps.proofs.OwnerLaws.{owner_walk-walk}
+use Rattle.thread_local_schedule.specs.Core.{new_core, made_core}
+use Rattle.thread_local_schedule.proofs.Kept.{made_core-fits}
+use Rattle.thread_local_schedule.proofs.HeldCounts.{held_below}
+use Rattle.thread_local_schedule.proofs.schedule.every_schedule.Goals as goal
+
+pub returns-clause-moves : goal.returns-clause-moves
+returns-clause-moves g c = λ core event r. (clause.says core event r).moves
+
+pub returns-clause-allowed : goal.returns-clause-allowed
+returns-clause-allowed g c = λ core event r. (clause.says core event r).allowed
+
+pub returns-clause-idle : goal.returns-clause-idle
+returns-clause-idle g c = clause.idle
+
+pub returns-clause-ended : goal.returns-clause-ended
+returns-clause-ended g c = clause.ended
+
+pub returns-clause-least : goal.returns-clause-least
+returns-clause-least g c = λ core event r. clause.least_taken core event
+
+pub returns-clause-unshared : goal.returns-clause-unshared
+returns-clause-unshared g c = λ core m n a b r. (clause.fits core r).locals.unshared m n a b
+
+pub returns-clause-held : goal.returns-clause-held
+returns-clause-held g c = λ core n local r at. ((clause.fits core r).locals.each n local at).id_held
+
+pub returns-clause-first_values_stay : goal.returns-clause-first_values_stay
+returns-clause-first_values_stay g c = λ core event id v r quiet. (clause.says core event r).stays quiet id v
+
+pub returns-clause-owner_walk : goal.returns-clause-owner_walk
+returns-clause-owner_walk g c = λ core r. owner_walk-walk core.table
+
+pub returns-clause-flagged : goal.returns-clause-flagged
+returns-clause-flagged g c = λ core bucket index r. clause.flagged core.table bucket index (clause.fits core r).table.written
+
+pub returns-clause-words : goal.returns-clause-words
+returns-clause-words g c = λ core event bucket number r quiet. (clause.says core event r).names quiet bucket number
+
+pub returns-clause-start : goal.returns-clause-start
+returns-clause-start g c = λ core event r. clause.start core event
+
+pub returns-clause-answers : goal.returns-clause-answers
+returns-clause-answers g c = λ core n local r at. ((clause.fits core r).locals.each n local at).local_fits.answered
+
+pub returns-clause-goes_on : goal.returns-clause-goes_on
+returns-clause-goes_on g c = λ core event n before after r. (clause.says core event r).goes_on n before after
+
+pub returns-clause-cleared : goal.returns-clause-cleared
+returns-clause-cleared g c = clause.cleared
+
+pub returns-clause-after_clear : goal.returns-clause-after_clear
+returns-clause-after_clear g c = later.after_clear
+
+pub returns-clause-peak : goal.returns-clause-peak
+returns-clause-peak g c = λ capacity extra events l. clause.peak_run (made_core capacity extra) events 0 (made_core-fits capacity extra l) refl
+
+pub returns-clause-below_peak : goal.returns-clause-below_peak
+returns-clause-below_peak g c = λ core n local r at. held_below core.manager.held local.id ((clause.fits core r).locals.each n local at).id_held
+
+pub returns-clause-slots_of_new : goal.returns-clause-slots_of_new
+returns-clause-slots_of_new g c = clause.slots_of_new
+
+pub returns-clause-no_slots : goal.returns-clause-no_slots
+returns-clause-no_slots g c = λ events none. omega (arith, clause.slots_of_new events)
+
+pub returns-clause-slots_of_capacity : goal.returns-clause-slots_of_capacity
+returns-clause-slots_of_capacity g c = clause.slots_of_capacity
+
+pub returns-clause-private_slots : goal.returns-clause-private_slots
+returns-clause-private_slots g c = λ core n local r at. clause.private_bound core.manager.held local.id local.doing ((clause.fits core r).locals.each n local at).id_held
+
+pub returns-clause-published : goal.returns-clause-published
+returns-clause-published g c = λ core r. clause.published_bound core (clause.fits core r)
+
+pub returns-clause-refused_take : goal.returns-clause-refused_take
+returns-clause-refused_take g c = λ core refused growth r. clause.refused_take core refused growth (clause.fits core r)
+
+pub returns-clause-within_capacity : goal.returns-clause-within_capacity
+returns-clause-within_capacity g c = λ core refused growth r. clause.within_capacity core refused growth (clause.fits core r)
+
+pub returns-clause-reserved : goal.returns-clause-reserved
+returns-clause-reserved g c = λ core n local refused r. clause.reserved core n local refused (clause.fits core r)
+
+pub returns-clause-reserved_answers : goal.returns-clause-reserved_answers
+returns-clause-reserved_answers g c = λ core n local r. clause.reserved_answers core n local (clause.fits core r)
+
+pub returns-clause-bounded : goal.returns-clause-bounded
+returns-clause-bounded g c = headline.bounded
+
+pub returns-clause-refuses_nothing : goal.returns-clause-refuses_nothing
+returns-clause-refuses_nothing g c = headline.refuses_nothing
+
+pub returns-clause-four_values : goal.returns-clause-four_values
+returns-clause-four_values g c = story.four_values _ _
+
+pub returns-clause-seven_slots : goal.returns-clause-seven_slots
+returns-clause-seven_slots g c = story.first_slots _ _
+
+pub returns-clause-walk_of_four : goal.returns-clause-walk_of_four
+returns-clause-walk_of_four g c = story.walk_gives _ _
+
+pub returns-clause-next_of_four : goal.returns-clause-next_of_four
+returns-clause-next_of_four g c = story.next_gets _ _
+
+pub returns-clause-owner_of_four : goal.returns-clause-owner_of_four
+returns-clause-owner_of_four g c = story.owner_gets _ _
+
+pub returns-clause-clear_of_four : goal.returns-clause-clear_of_four
+returns-clause-clear_of_four g c = story.clear_of_four _ _
