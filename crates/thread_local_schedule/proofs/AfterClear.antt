@@ -1,15 +1,14 @@
-use Rattle.std.proofs.Common.{◌≡◌, ℕ, Bool, true, false, not, ◌&&◌, cond, List, [], ◌∷◌, Option, Some, None, is_some, IsTrue, IfSome, IsSomeAnd, refl, ap, sym, ◌∙◌, subst, ⊎_elim}
-use Rattle.std.specs.Prelude.{option_map, unwrap_or}
-use Rattle.std.proofs.lemmas.Bool.{cases_Bool, cond_both, false≢true}
+use Rattle.std.proofs.Common.{◌≡◌, ℕ, Bool, true, false, not, ◌&&◌, cond, List, [], ◌∷◌, Option, Some, None, is_some, IsTrue, IsSomeAnd, refl, ap, sym, ◌∙◌, ⊎_elim}
+use Rattle.std.specs.Prelude.{unwrap_or}
+use Rattle.std.proofs.lemmas.Bool.{cases_Bool, false≢true}
 use Rattle.thread_local_model.specs.Held.{least}
 use Rattle.thread_local_model.specs.Capacity.{binary_digits, reserved_slots}
-use Rattle.thread_local_model.specs.Sheet.{Sheet, new_sheet, Move, Take, moved_if}
-use Rattle.thread_local_steps.specs.Local.{Local}
+use Rattle.thread_local_model.specs.Sheet.{new_sheet, Move, Take, moved_if}
 use Rattle.thread_local_steps.specs.SharedWalk.{SharedWalk, WalkStep, walk_step}
-use Rattle.thread_local_schedule.specs.Core.{Core, new_core, shadow, first_view, put, is_alone}
-use Rattle.thread_local_schedule.specs.Events.{Event, TakeId, OfLocal, GiveBack, Forget, BeginWalk, OfWalk, EndWalk, Owner, OwnerCall, IterMut, Slots, ClearTable, IntoIter, DropTable, is_granted, take_id, with_walk_step, of_walk, end_walk, owner_call, step_of, step, is_enabled, happens, run}
-use Rattle.thread_local_schedule.specs.Schedule.{publishing, move, move_of, refuses, is_granted_take, newcomer, IsReached, NoneTaken}
-use Rattle.thread_local_schedule.proofs.CoreFits.{CoreFits}
+use Rattle.thread_local_core.specs.Core.{Core, shadow, first_view, is_alone}
+use Rattle.thread_local_schedule.specs.Events.{Event, TakeId, OfLocal, GiveBack, Forget, BeginWalk, OfWalk, EndWalk, Owner, OwnerCall, IterMut, ClearTable, is_granted, with_walk_step, of_walk, end_walk, owner_call, step_of, step, is_enabled, happens, run}
+use Rattle.thread_local_schedule.specs.Schedule.{publishing, move, move_of, is_granted_take, newcomer, IsReached, NoneTaken}
+use Rattle.thread_local_core.specs.CoreFits.{CoreFits}
 use Rattle.thread_local_schedule.proofs.Kept.{happens-fits}
 use Rattle.thread_local_schedule.proofs.Says.{event_says}
 use Rattle.thread_local_schedule.proofs.Clauses.{fits, cleared, idle, enabled_step, goes, new_local, some_and}

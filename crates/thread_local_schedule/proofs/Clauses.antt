@@ -1,33 +1,28 @@
-use Rattle.std.proofs.Common.{◌≡◌, ℕ, zero, suc, ◌+◌, ◌-◌, ◌*◌, ◌^◌, ◌<◌, ◌≤◌, ◌⊎◌, max, Bool, true, false, not, ◌&&◌, cond, eqb, List, [], ◌∷◌, ◌++◌, append-nil, length, Option, Some, None, is_some, IsTrue, IfSome, IsSomeAnd, refl, ap, sym, ◌∙◌, subst, arith, ⊎_elim, inl, inr}
-use Rattle.std.specs.Prelude.{unwrap_or, option_map, Contains}
-use Rattle.std.proofs.lemmas.Option.{none-some}
-use Rattle.std.proofs.lemmas.Bool.{cases_eq, cases_lt, cases_Bool, cond_both, eqb-true, eqb-false, eq-eqb, ne_eqb, lt-ltb, ltb-true, false≢true, and_parts, and_cases, and_left, and_right, and_from, not-true, not-false}
-use Rattle.thread_local_model.specs.Place.{bucket_of, index_of, id_at}
-use Rattle.thread_local_model.specs.Held.{Manager, is_held, least, with_least, held_count, HoldsAllBelow}
-use Rattle.thread_local_model.specs.Capacity.{is_reserved, reserved_slots}
-use Rattle.thread_local_model.specs.Walk.{walk, walk_below}
-use Rattle.thread_local_model.specs.Buckets.{slots}
-use Rattle.thread_local_model.specs.Sheet.{Sheet, new_sheet, Move, Take, Give, Publish, Keep, Rewrite, Clear, moved, moved_if}
-use Rattle.thread_local_model.specs.Answers.{Refused, answers}
-use Rattle.thread_local_model.proofs.PlaceLaws as place
-use Rattle.thread_local_model.proofs.HeldLaws as ids
-use Rattle.thread_local_model.proofs.CapacityLaws as reserve
-use Rattle.thread_local_model.proofs.SlotsLaws.{slots_bounded}
-use Rattle.thread_local_model.proofs.WalkLaws.{walk_below-add, walk_below-none, length-walk_below}
-use Rattle.thread_local_model.proofs.AnswersLaws.{none_refused, known_after_all}
-use Rattle.thread_local_steps.specs.Table.{Table, Bucket, slot_at, slot_of, published, stands}
-use Rattle.thread_local_steps.specs.Local.{Local, Doing, Gets, Started, Private, Written, Learnt, Missing, MakeBucket, make_bucket, fresh_local, local_step}
-use Rattle.thread_local_steps.specs.SharedWalk.{SharedWalk, WalkStep, walk_step, is_complete}
+use Rattle.std.proofs.Common.{◌≡◌, ℕ, ◌-◌, ◌*◌, ◌^◌, ◌<◌, ◌≤◌, ◌⊎◌, max, Bool, true, false, not, ◌&&◌, cond, List, [], ◌∷◌, length, Option, Some, None, is_some, IsTrue, IfSome, IsSomeAnd, refl, ap, sym, ◌∙◌, subst, arith, ⊎_elim, inl, inr}
+use Rattle.std.specs.Prelude.{unwrap_or, Contains}
+use Rattle.std.proofs.lemmas.Bool.{eqb-true, ne_eqb, false≢true, and_parts, and_cases, and_left, and_right, not-true, not-false}
+use Rattle.thread_local_model.specs.Held.{Manager, least, held_count, HoldsAllBelow}
+use Rattle.thread_local_model.specs.Capacity.{is_reserved}
+use Rattle.thread_local_model.specs.Walk.{walk}
+use Rattle.thread_local_model.specs.Sheet.{new_sheet, Clear, moved_if}
+use Rattle.thread_local_model.specs.Answers.{Refused}
+use Rattle.thread_local_model.proofs.AnswersLaws.{none_refused}
+use Rattle.thread_local_steps.specs.Table.{Table}
+use Rattle.thread_local_steps.specs.Local.{Local, Doing, Started, Learnt, Missing, MakeBucket, make_bucket, fresh_local, local_step}
+use Rattle.thread_local_steps.specs.SharedWalk.{SharedWalk, WalkStep, walk_step}
 use Rattle.thread_local_steps.specs.WalkFits.{Adds}
-use Rattle.thread_local_steps.proofs.WalkStepLaws.{walk_step-adds, complete_cursor}
-use Rattle.thread_local_steps.specs.Fits.{IsWritten, AllWritten, IsLearnt, view_now}
-use Rattle.thread_local_schedule.specs.Core.{Core, made_core, new_core, shadow, installed_slots, first_view, put}
-use Rattle.thread_local_schedule.specs.Events.{Event, TakeId, OfLocal, GiveBack, Forget, BeginWalk, OfWalk, EndWalk, Owner, IterMut, Slots, ClearTable, IntoIter, DropTable, is_exhausted, is_full, is_granted, take_id, with_walk_step, step_of, step, is_enabled, happens, run}
-use Rattle.thread_local_schedule.specs.Schedule.{move, move_of, is_take, is_clear, refuses, is_refused, is_granted_take, newcomer, peak, private_slots, IsReached, most_held, TakesBelow, NoneTaken, NothingRefused, NeverCleared}
-use Rattle.thread_local_schedule.proofs.HeldCounts.{held_below, held_count-le, least-le, least-le-held_count, peak_after}
-use Rattle.thread_local_schedule.proofs.CoreFits.{ManagerFits, CoreFits}
-use Rattle.thread_local_schedule.proofs.Kept.{put_same, own_small, made_core-fits, happens-fits, run-fits}
+use Rattle.thread_local_steps.proofs.WalkStepLaws.{walk_step-adds}
+use Rattle.thread_local_core.specs.Core.{Core, made_core, new_core, shadow, installed_slots, first_view, peak}
+use Rattle.thread_local_schedule.specs.Events.{Event, TakeId, OfLocal, OfWalk, Owner, ClearTable, is_exhausted, is_full, is_granted, take_id, with_walk_step, step_of, step, is_enabled, happens, run}
+use Rattle.thread_local_schedule.specs.Schedule.{move, is_clear, is_refused, is_granted_take, newcomer, IsReached, most_held}
+use Rattle.thread_local_core.proofs.HeldCounts.{least-le, least-le-held_count}
+use Rattle.thread_local_core.specs.CoreFits.{ManagerFits, CoreFits}
+use Rattle.thread_local_schedule.proofs.Kept.{happens-fits, run-fits}
 use Rattle.thread_local_schedule.proofs.Says.{Says, event_says}
+use Rattle.thread_local_core.proofs.Parts.{put_same, made_core-fits}
+use Rattle.thread_local_core.proofs.CoreLaws.{installed_bound, never_missing}
+use Rattle.thread_local_core.proofs.SheetLaws.{moved_capacity}
+use Rattle.thread_local_model.proofs.HeldLaws as ids
 
 -- the invariant holds wherever a schedule leads
 pub fits : {V E : Type 0} (core : Core V E) → IsReached core → CoreFits core
@@ -74,10 +69,6 @@ pub new_local : {V E : Type 0} (core : Core V E) (event : Event V E) → IsTrue 
     → newcomer core event ≡ Some (fresh_local (least core.manager.held) (first_view (shadow core) (least core.manager.held)))
 new_local core event t = let done = taken core event t in ap (λ after. after.locals core.taken) done.1 ∙ put_same core.locals core.taken _
 
-pub none_if : {A : Type 0} (o : Option A) → ((x : A) → o ≡ Some x → ⊥) → o ≡ None
-none_if None h = refl
-none_if (Some x) h = absurd (h x refl)
-
 pub some_and : {A : Type 0} (o : Option A) (x : A) (P : A → Type 0) → o ≡ Some x → P x → IsSomeAnd o P
 some_and o x P e p = subst (λ q. IsSomeAnd q P) (sym e) p
 
@@ -87,17 +78,6 @@ least_taken core event t = some_and (newcomer core event) _ (λ local. local.id 
 pub start : {V E : Type 0} (core : Core V E) (event : Event V E) → IsTrue (is_granted_take core event)
     → IsSomeAnd (newcomer core event) (λ local. (local.start ≡ first_view (shadow core) local.id) × (local.calls ≡ []))
 start core event t = some_and (newcomer core event) _ (λ local. (local.start ≡ first_view (shadow core) local.id) × (local.calls ≡ [])) (new_local core event t) (refl, refl)
-
--- a flagged slot of what a word names holds what was written
-written_in : {V : Type 0} (word : Option (Bucket V)) (index : ℕ) → IsWritten (slot_of word index) → IfSome word (λ here. IsWritten (here.slots index))
-written_in None index w = tt
-written_in (Some here) index w = w
-
-pub flagged : {V : Type 0} (table : Table V) (bucket index : ℕ) → AllWritten table → index < 2 ^ bucket → IfSome (table.words bucket) (λ here. IsWritten (here.slots index))
-unfolding slot_at
-flagged table bucket index written l =
-    let at = place.place-id_at bucket index l in
-    written_in (table.words bucket) index (subst (λ i. IsWritten (slot_of (table.words bucket) i)) at.1 (subst (λ b. IsWritten (slot_of (table.words b) (index_of (id_at bucket index)))) at.0 (written (id_at bucket index))))
 
 -- a clear that is enabled leaves the sheet of `new`
 pub cleared : {V E : Type 0} (core : Core V E) → IsReached core → IsTrue (is_enabled core (Owner ClearTable)) → shadow (happens core (Owner ClearTable)) ≡ new_sheet
@@ -111,27 +91,12 @@ peak_run core (event ∷ events) most h e =
     peak_run (happens core event) events _ (happens-fits core event h)
     ((event_says core event h).peak ∙ ap (λ n. cond (is_enabled core event && is_clear event) 0 (max n (held_count (happens core event).manager.held))) e)
 
--- the capacity is that with which the table was made, or none
-moved_capacity : {V : Type 0} (sheet : Sheet V) (o : Option (Move V)) → (moved_if sheet o).capacity ≤ sheet.capacity
-moved_capacity sheet None = omega arith
-moved_capacity sheet (Some Take) = omega arith
-moved_capacity sheet (Some (Give id)) = omega arith
-moved_capacity sheet (Some (Publish id v)) = omega arith
-moved_capacity sheet (Some (Keep id v)) = omega arith
-moved_capacity sheet (Some (Rewrite others)) = omega arith
-moved_capacity sheet (Some Clear) = omega arith
-
 pub run_capacity : {V E : Type 0} (core : Core V E) (events : List (Event V E)) (n : ℕ) → CoreFits core → core.capacity ≤ n → (run core events).capacity ≤ n
 unfolding run
 run_capacity core [] n h l = l
 run_capacity core (event ∷ events) n h l =
     let same = ap (λ sheet. sheet.capacity) (event_says core event h).moves in
     run_capacity (happens core event) events n (happens-fits core event h) (omega (arith, same, moved_capacity (shadow core) (move core event)))
-
--- the slots that are installed are bounded by the capacity and the peak
-pub installed_bound : {V E : Type 0} (core : Core V E) (m : ℕ) → CoreFits core → core.capacity ≤ m → peak core ≤ m → installed_slots core ≤ 2 * m - 1
-unfolding slots
-installed_bound core m h c p = slots_bounded (stands core.table) m 63 (λ b t. omega (arith, h.table.small b t))
 
 pub slots_of_capacity : {V E : Type 0} (capacity extra : ℕ) (events : List (Event V E)) → capacity < 2 ^ 63
     → installed_slots (run (made_core capacity extra) events) ≤ 2 * max capacity (peak (run (made_core capacity extra) events)) - 1
@@ -142,27 +107,6 @@ slots_of_capacity capacity extra events l =
 
 pub slots_of_new : {V E : Type 0} (events : List (Event V E)) → installed_slots (run new_core events) ≤ 2 * peak (run new_core events) - 1
 slots_of_new events = omega (arith, slots_of_capacity 0 0 events (omega arith))
-
--- a bucket of its own has no more slots than the peak
-pub private_bound : {V E : Type 0} (held : List Bool) (id : ℕ) (doing : Doing V E) → IsTrue (is_held held id) → private_slots id doing ≤ length held
-private_bound held id (Private create number) t = own_small held id t
-private_bound held id _ t = omega arith
-
--- a map that has values only below n has none from there on
-absent : {V : Type 0} (values : ℕ → Option V) (n id : ℕ) → ((v : V) → values id ≡ Some v → id < n) → n ≤ id → values id ≡ None
-absent values n id below l = none_if (values id) (λ v e. omega (arith, below v e))
-
--- no more values are published than the peak
-pub published_bound : {V E : Type 0} (core : Core V E) → CoreFits core → length (walk (shadow core).values) ≤ peak core
-unfolding walk
-published_bound core h =
-    let n = peak core in
-    let rest = 2 ^ 63 - 1 - n in
-    let whole : n + rest ≡ 2 ^ 63 - 1 = omega (arith, h.manager.peak_ids) in
-    let values = published core.table in
-    let none = walk_below-none (λ i. values (n + i)) rest (λ i l. absent values n (n + i) (h.table.below (n + i)) (omega arith)) in
-    let same = ap (walk_below values) (sym whole) ∙ walk_below-add values n rest ∙ ap (λ vs. walk_below values n ++ vs) none ∙ append-nil (walk_below values n) in
-    subst (λ vs. length vs ≤ n) (sym same) (length-walk_below values n)
 
 -- a take that is refused finds every id held, or no room and no memory
 not_granted : (manager : Manager) (refused : Bool) → length manager.held ≤ manager.room → is_granted manager refused ≡ false
@@ -194,13 +138,6 @@ within manager capacity refused h l =
 pub within_capacity : {V E : Type 0} (core : Core V E) (refused : Bool) (growth : ℕ) → CoreFits core → held_count (shadow core).held < (shadow core).capacity
     → is_refused core (TakeId refused growth) ≡ false
 within_capacity core refused growth h l = rw (within core.manager core.capacity refused h.manager l) (and_right (is_enabled core (TakeId refused growth)) false refl)
-
--- a Local of a reserved id never learns that its word is empty, and so never asks for memory
-never_missing : {V E : Type 0} (core : Core V E) (n : ℕ) (local : Local V E) → CoreFits core → core.locals n ≡ Some local → IsTrue (is_reserved core.capacity local.id) → local.learnt ≡ Missing → ⊥
-never_missing core n local h at reserved e =
-    let live = h.locals.each n local at in
-    let missing = subst (IsLearnt core.table local.id (view_now local)) e live.local_fits.view.learnt_so in
-    false≢true (sym missing.1 ∙ known_after_all local.start local.calls (live.known reserved))
 
 makes_none : {V E : Type 0} (table : Table V) (local : Local V E) (refused : Bool) (doing : Doing V E) (learnt : Learnt V) → (learnt ≡ Missing → ⊥) → make_bucket table local refused doing learnt ≡ None
 makes_none table local true (Started create) Missing h = absurd (h refl)
@@ -242,19 +179,3 @@ adds core n step before after h t at e =
     added core n step (walk_step core.table before step) before after (walk_step-adds core.table before step (h.walks.each n before at))
     (rw at at (enabled_step core (OfWalk n step) t))
     (rw at at (ap (λ later. later.walks n) (sym (goes core (OfWalk n step) t)) ∙ e))
-
--- a complete walk has given whatever it saw at first
-pub complete : {V E : Type 0} (core : Core V E) (n : ℕ) (walk : SharedWalk V) → CoreFits core → core.walks n ≡ Some walk → IsTrue (is_complete walk)
-    → (id : ℕ) (v : V) → walk.first id ≡ Some v → Contains {X = ℕ × V} walk.given (id, v)
-complete core n walk h at done id v e =
-    let fits = h.walks.each n walk at in
-    let low = h.table.below id v (fits.fits.first_stays id v e) in
-    fits.fits.passed id v e (omega (arith, h.manager.peak_ids, complete_cursor core.table walk fits done))
-
-pub loads : {V E : Type 0} (core : Core V E) (n : ℕ) (walk : SharedWalk V) → CoreFits core → core.walks n ≡ Some walk → walk.loads ≤ 63 + length walk.given
-loads core n walk h at =
-    let fits = h.walks.each n walk at in
-    ⊎_elim
-    (λ t. let l = rw t at fits.loads in omega (arith, (fits.looking t).1))
-    (λ f. let l = rw f at fits.loads in omega (arith, fits.buckets))
-    (cases_Bool walk.looks)

@@ -1,41 +1,23 @@
-use Rattle.std.proofs.Common.{◌≡◌, ℕ, zero, suc, ◌+◌, ◌-◌, ◌*◌, ◌^◌, ◌<◌, ◌≤◌, max, Bool, true, false, not, ◌&&◌, cond, List, [], ◌∷◌, length, Option, Some, None, is_some, IsTrue, IfSome, IsSomeAnd, refl, ap, sym, ◌∙◌, subst, arith, ⊎_elim}
-use Rattle.std.specs.Prelude.{option_map, unwrap_or}
-use Rattle.std.proofs.lemmas.Bool.{cases_Bool, cond_both, lt-ltb, false≢true, and_parts, and_left, and_right, not-true}
-use Rattle.thread_local_model.specs.Held.{held_count, with_least, without, least}
-use Rattle.thread_local_model.specs.Sheet.{Sheet, new_sheet, Move, Take, Give, Publish, Keep, Rewrite, Clear, moved_if}
-use Rattle.thread_local_model.specs.Capacity.{is_reserved, reserved_slots}
-use Rattle.thread_local_model.proofs.HeldLaws as ids
-use Rattle.thread_local_model.proofs.CapacityLaws as reserve
-use Rattle.thread_local_steps.specs.Table.{published}
-use Rattle.thread_local_steps.specs.Local.{Local, LocalStep, BeginGet, BeginGetOr, LoadWord, LookAtFlag, MakeBucket, InstallBucket, WriteValue, SetFlag, Reply}
+use Rattle.std.proofs.Common.{◌≡◌, ℕ, ◌-◌, ◌*◌, ◌^◌, ◌<◌, ◌≤◌, Bool, true, false, cond, List, [], ◌∷◌, length, Option, Some, None, IsTrue, refl, ap, ◌∙◌, arith, ⊎_elim}
+use Rattle.std.specs.Prelude.{option_map}
+use Rattle.std.proofs.lemmas.Bool.{cases_Bool, cond_both, lt-ltb, and_left, and_right}
+use Rattle.thread_local_model.specs.Held.{held_count}
+use Rattle.thread_local_model.specs.Sheet.{Move, Take, Give, Publish, Clear}
+use Rattle.thread_local_model.specs.Capacity.{reserved_slots}
+use Rattle.thread_local_steps.specs.Local.{Local, LocalStep, MakeBucket}
 use Rattle.thread_local_steps.specs.Fits.{value_set}
-use Rattle.thread_local_schedule.specs.Core.{Core, made_core, new_core, shadow, installed_slots}
-use Rattle.thread_local_schedule.specs.Events.{Event, TakeId, OfLocal, GiveBack, Forget, BeginWalk, OfWalk, EndWalk, Owner, IterMut, Slots, ClearTable, IntoIter, DropTable, is_granted, step_of, step, is_enabled, happens, run}
-use Rattle.thread_local_schedule.specs.Schedule.{publishing, move, move_of, is_take, is_clear, refuses, is_refused, is_granted_take, newcomer, peak, TakesBelow, NoneTaken, NothingRefused, NeverCleared}
-use Rattle.thread_local_schedule.proofs.HeldCounts.{held_below, held_count-le, least-le-held_count, peak_after}
-use Rattle.thread_local_schedule.proofs.CoreFits.{CoreFits}
-use Rattle.thread_local_schedule.proofs.Kept.{made_core-fits, happens-fits, run-fits}
+use Rattle.thread_local_core.specs.Core.{Core, made_core, new_core, shadow, installed_slots, peak}
+use Rattle.thread_local_schedule.specs.Events.{Event, TakeId, OfLocal, GiveBack, Owner, IterMut, ClearTable, is_granted, step_of, step, is_enabled, happens, run}
+use Rattle.thread_local_schedule.specs.Schedule.{publishing, move, move_of, is_take, is_clear, refuses, is_refused, TakesBelow, NothingRefused, NeverCleared}
+use Rattle.thread_local_core.proofs.HeldCounts.{held_below}
+use Rattle.thread_local_core.specs.CoreFits.{CoreFits}
+use Rattle.thread_local_schedule.proofs.Kept.{happens-fits, run-fits}
 use Rattle.thread_local_schedule.proofs.Says.{event_says}
-use Rattle.thread_local_schedule.proofs.Clauses.{installed_bound, run_capacity, within_capacity, none_enabled, reserved}
-
--- a move makes the peak grow only where it is a take, and then to no more than one above the ids that were held
-moved_peak : {V : Type 0} (sheet : Sheet V) (o : Option (Move V)) → length (moved_if sheet o).held ≤ max (length sheet.held) (suc (held_count sheet.held))
-moved_peak sheet None = omega arith
-moved_peak sheet (Some Take) = omega (arith, peak_after sheet.held, least-le-held_count sheet.held)
-moved_peak sheet (Some (Give id)) = omega (arith, ids.length-without sheet.held id)
-moved_peak sheet (Some (Publish id v)) = omega arith
-moved_peak sheet (Some (Keep id v)) = omega arith
-moved_peak sheet (Some (Rewrite others)) = omega arith
-moved_peak sheet (Some Clear) = omega arith
-
-same_peak : {V : Type 0} (sheet : Sheet V) (o : Option (Move V)) → (o ≡ Some Take → ⊥) → length (moved_if sheet o).held ≤ length sheet.held
-same_peak sheet None h = omega arith
-same_peak sheet (Some Take) h = absurd (h refl)
-same_peak sheet (Some (Give id)) h = omega (arith, ids.length-without sheet.held id)
-same_peak sheet (Some (Publish id v)) h = omega arith
-same_peak sheet (Some (Keep id v)) h = omega arith
-same_peak sheet (Some (Rewrite others)) h = omega arith
-same_peak sheet (Some Clear) h = omega arith
+use Rattle.thread_local_schedule.proofs.Clauses.{run_capacity, within_capacity, none_enabled, reserved}
+use Rattle.thread_local_core.proofs.Parts.{made_core-fits}
+use Rattle.thread_local_core.proofs.CoreLaws.{installed_bound}
+use Rattle.thread_local_core.proofs.SheetLaws.{moved_peak, same_peak, same_capacity}
+use Rattle.thread_local_model.proofs.CapacityLaws as reserve
 
 -- of the moves, a step of a Local is at most one that publishes, and a give back at most one that gives
 not_mapped : {A B : Type 0} (o : Option A) (f : A → B) (b : B) → ((a : A) → f a ≡ b → ⊥) → option_map f o ≡ Some b → ⊥
@@ -85,16 +67,6 @@ pub bounded : {V E : Type 0} (p : ℕ) (events : List (Event V E)) → TakesBelo
 bounded p events few =
     let made = made_core-fits 0 0 (omega arith) in
     installed_bound (run new_core events) p (run-fits new_core events made) (omega (arith, run_capacity new_core events 0 made (omega arith))) (run_peak p new_core events made few (omega arith))
-
--- the capacity stays until a clear
-same_capacity : {V : Type 0} (sheet : Sheet V) (o : Option (Move V)) → (o ≡ Some Clear → ⊥) → (moved_if sheet o).capacity ≡ sheet.capacity
-same_capacity sheet None h = refl
-same_capacity sheet (Some Take) h = refl
-same_capacity sheet (Some (Give id)) h = refl
-same_capacity sheet (Some (Publish id v)) h = refl
-same_capacity sheet (Some (Keep id v)) h = refl
-same_capacity sheet (Some (Rewrite others)) h = refl
-same_capacity sheet (Some Clear) h = absurd (h refl)
 
 capacity_stays : {V E : Type 0} (core : Core V E) (event : Event V E) → CoreFits core → is_clear event ≡ false → (happens core event).capacity ≡ core.capacity
 capacity_stays core event h f =

@@ -1,24 +1,25 @@
-use Rattle.std.proofs.Common.{◌≡◌, ℕ, zero, suc, ◌+◌, ◌^◌, ◌<◌, ◌≤◌, ◌⊎◌, max, Bool, true, false, not, ◌&&◌, cond, eqb, List, [], length, Option, Some, None, is_some, IsTrue, IfSome, refl, ap, sym, ◌∙◌, subst, arith, ⊎_elim, inl, inr}
+use Rattle.std.proofs.Common.{◌≡◌, ℕ, zero, suc, max, Bool, true, false, ◌&&◌, cond, [], length, Option, Some, None, is_some, IsTrue, IfSome, refl, ap, sym, ◌∙◌, subst, arith, ⊎_elim}
 use Rattle.std.specs.Prelude.{option_map, unwrap_or}
 use Rattle.std.proofs.lemmas.Option.{none-some}
-use Rattle.std.proofs.lemmas.Bool.{cases_eq, cond_both, false≢true}
-use Rattle.thread_local_model.specs.Held.{is_held, held_count, with_least, without, least}
-use Rattle.thread_local_model.specs.Sheet.{Sheet, new_sheet, Move, Take, Publish, moved, moved_if, IsAllowed}
-use Rattle.thread_local_model.proofs.HeldLaws as ids
-use Rattle.thread_local_steps.specs.Table.{Table, published, stands, made_table, slot_at}
+use Rattle.std.proofs.lemmas.Bool.{cond_both, false≢true}
+use Rattle.thread_local_model.specs.Held.{held_count, without}
+use Rattle.thread_local_model.specs.Sheet.{moved_if, IsAllowed}
+use Rattle.thread_local_steps.specs.Table.{Table, published}
 use Rattle.thread_local_steps.specs.Local.{Local, LocalStep, Doing, Gets, local_step}
 use Rattle.thread_local_steps.specs.SharedWalk.{SharedWalk, fresh_walk, WalkStep, walk_step}
 use Rattle.thread_local_steps.specs.OwnerWalk.{rewritten}
-use Rattle.thread_local_steps.specs.Fits.{StepFits, GoesOn, value_set, with_value_if, named}
-use Rattle.thread_local_steps.proofs.TableLaws.{same_function, slot_at-made_table, published_unset, named_stands}
+use Rattle.thread_local_steps.specs.Fits.{StepFits, GoesOn, value_set, named}
+use Rattle.thread_local_steps.proofs.TableLaws.{same_function, named_stands}
 use Rattle.thread_local_steps.proofs.LocalLaws.{local_step-fits}
 use Rattle.thread_local_steps.proofs.OwnerLaws.{published-rewritten}
-use Rattle.thread_local_schedule.specs.Core.{Core, new_core, shadow, put, is_alone}
-use Rattle.thread_local_schedule.specs.Events.{Event, TakeId, OfLocal, GiveBack, Forget, BeginWalk, OfWalk, EndWalk, Owner, OwnerCall, IterMut, Slots, ClearTable, IntoIter, DropTable, is_granted, take_id, with_step, of_local, gives_back, give_back, forgets, forget, begin_walk, with_walk_step, of_walk, end_walk, owner_call, step_of, step, is_enabled, happens}
-use Rattle.thread_local_schedule.specs.Schedule.{publishing, move_of, move, is_exclusive, is_clear}
-use Rattle.thread_local_schedule.proofs.HeldCounts.{peak_counts, held_count-le}
-use Rattle.thread_local_schedule.proofs.CoreFits.{CoreFits}
-use Rattle.thread_local_schedule.proofs.Kept.{put_cases, still, no_locals, kept_value}
+use Rattle.thread_local_core.specs.Core.{Core, shadow, put, is_alone}
+use Rattle.thread_local_schedule.specs.Events.{Event, TakeId, OfLocal, GiveBack, Forget, BeginWalk, OfWalk, EndWalk, Owner, OwnerCall, IterMut, Slots, ClearTable, IntoIter, DropTable, is_granted, take_id, with_step, of_local, gives_back, give_back, forgets, forget, with_walk_step, of_walk, end_walk, owner_call, step_of, step, is_enabled, happens}
+use Rattle.thread_local_schedule.specs.Schedule.{move_of, is_exclusive, is_clear}
+use Rattle.thread_local_core.proofs.HeldCounts.{peak_counts, held_count-le}
+use Rattle.thread_local_core.specs.CoreFits.{CoreFits}
+use Rattle.thread_local_core.proofs.Parts.{put_cases, still, kept_value, no_locals}
+use Rattle.thread_local_core.proofs.CoreLaws.{same_goes_on, published_moves, publishing_allowed, none_made}
+use Rattle.thread_local_model.proofs.HeldLaws as ids
 
 -- what an event that is enabled says of the core before it and after it
 pub record EventSays {V E : Type 0} (core : Core V E) (event : Event V E) (after : Core V E) : Type 0 where
@@ -28,10 +29,6 @@ pub record EventSays {V E : Type 0} (core : Core V E) (event : Event V E) (after
   pub names : is_exclusive event ≡ false → (bucket k : ℕ) → named core.table bucket ≡ Some k → named after.table bucket ≡ Some k
   pub goes_on : (n : ℕ) (before then : Local V E) → core.locals n ≡ Some before → after.locals n ≡ Some then → GoesOn before then
   pub peak : length after.manager.held ≡ cond (is_clear event) 0 (max (length core.manager.held) (held_count after.manager.held))
-
--- a Local that an event leaves goes on
-same_goes_on : {V E : Type 0} (before then : Local V E) → Some before ≡ Some then → GoesOn before then
-same_goes_on before then e = let same : before ≡ then = cc in subst (GoesOn before) same (record { id = refl; start = refl; calls = inl refl })
 
 -- an event that leaves the ids, the table and the Locals, but for one that may live no longer
 leaves : {V E : Type 0} (core : Core V E) (event : Event V E) (after : Core V E) → shadow after ≡ shadow core → move_of core event ≡ None → after.table ≡ core.table
@@ -61,17 +58,6 @@ take_id-says core refused growth true e h = record {
   peak = peak_counts core.manager.held;
 }
 take_id-says core refused growth false e h = leaves core (TakeId refused growth) core refl (rw e refl) refl refl refl (λ n then p. p)
-
--- what is published moves as a step says
-published_moves : {V E : Type 0} (core : Core V E) (table : Table V) (id : ℕ) (set : Option V) → ((j : ℕ) → published table j ≡ with_value_if (published core.table) id set j)
-    → record (shadow core) { values = published table } ≡ moved_if (shadow core) (option_map (λ v. Publish id v) set)
-published_moves core table id None shown = ap (λ values. record (shadow core) { values = values }) (same_function (published table) (published core.table) shown)
-published_moves core table id (Some v) shown = ap (λ values. record (shadow core) { values = values }) (same_function (published table) (with_value_if (published core.table) id (Some v)) shown)
-
-publishing_allowed : {V : Type 0} (sheet : Sheet V) (id : ℕ) (set : Option V) → IsTrue (is_held sheet.held id) → IfSome set (λ _. sheet.values id ≡ None)
-    → IfSome (option_map (λ v. Publish id v) set) (IsAllowed sheet)
-publishing_allowed sheet id None t empty = tt
-publishing_allowed sheet id (Some v) t empty = (empty, t)
 
 -- a step of a Local
 stepped-says : {V E : Type 0} (core : Core V E) (number : ℕ) (step : LocalStep V E) (local : Local V E) (after : Table V × Local V E) → core.locals number ≡ Some local
@@ -147,11 +133,6 @@ of_walk-says core number step (Some walk) = with_walk_step-says core number step
 end_walk-says : {V E : Type 0} (core : Core V E) (number : ℕ) (o : Option (SharedWalk V)) → IfSome (end_walk core number o) (EventSays core (EndWalk number))
 end_walk-says core number None = tt
 end_walk-says core number (Some walk) = leaves core (EndWalk number) (record core { walks = put core.walks number None }) refl refl refl refl refl (λ n then f. f)
-
--- nothing is published in a table as it is made
-pub none_made : (T : Type 0) (capacity : ℕ) → published {V = T} (made_table capacity) ≡ (λ _. None)
-none_made T capacity =
-    same_function (published {V = T} (made_table capacity)) (λ _. None) (λ id. published_unset (made_table capacity) id (ap (λ slot. slot.flag) (slot_at-made_table {V = T} capacity id)))
 
 -- an owner's call, where no Local lives
 no_local_goes_on : {V E : Type 0} (core : Core V E) (n : ℕ) (before then : Local V E) → CoreFits core → IsTrue (is_alone core) → core.locals n ≡ Some before → GoesOn before then

@@ -2,9 +2,7 @@ use Rattle.std.proofs.Common.{◌≡◌, ℕ, zero, suc, [], ◌∷◌, length, 
 use Rattle.std.specs.Prelude.{slice_get}
 use Rattle.thread_local_model.specs.Sheet.{new_sheet}
 use Rattle.thread_local_steps.proofs.TableLaws.{same_function}
-use Rattle.thread_local_schedule.proofs.Kept.{made_core-fits, run-fits}
-use Rattle.thread_local_schedule.proofs.Says.{none_made}
-use Rattle.thread_local_schedule.proofs.Clauses.{none_if}
+use Rattle.thread_local_schedule.proofs.Kept.{run-fits}
 use Rattle.thread_local_model.specs.Place.{place, next_place, bucket_of, index_of}
 use Rattle.thread_local_model.specs.Capacity.{binary_digits, reserved_slots}
 use Rattle.thread_local_model.specs.Buckets.{slots, slots_below}
@@ -14,9 +12,11 @@ use Rattle.thread_local_steps.specs.SharedWalk.{walk_step, is_complete}
 use Rattle.thread_local_steps.specs.OwnerWalk.{owner_walk, owner_walk_below}
 use Rattle.thread_local_model.specs.Walk.{walk_below}
 use Rattle.thread_local_model.specs.Answers.{Found}
-use Rattle.thread_local_schedule.specs.Core.{new_core, shadow, installed_slots}
+use Rattle.thread_local_core.specs.Core.{new_core, shadow, installed_slots}
 use Rattle.thread_local_schedule.specs.Events.{Owner, IterMut, ClearTable, step, happens, run, is_enabled}
 use Rattle.thread_local_schedule.specs.Story.{four_publish, after_publishing, after_walking, after_next, after_all}
+use Rattle.thread_local_core.proofs.Parts.{made_core-fits}
+use Rattle.thread_local_core.proofs.CoreLaws.{none_if, none_made}
 
 -- the definitions by which the story computes
 by_steps : ℕ

@@ -1,4 +1,3 @@
-pub mod Core
 pub mod Events
 pub mod Schedule
 pub mod Story

@@ -1,11 +1,10 @@
-use Rattle.std.specs.Prelude.{◌≡◌, ℕ, ◌^◌, ◌<◌, length, max, Bool, true, false, not, ◌&&◌, List, [], ◌∷◌, Option, Some, None, option_map, IsTrue, ⊤, if◌then◌else◌}
-use Rattle.thread_local_model.specs.Place.{bucket_of}
+use Rattle.std.specs.Prelude.{◌≡◌, ℕ, ◌^◌, ◌<◌, max, Bool, true, false, not, ◌&&◌, List, [], ◌∷◌, Option, Some, None, option_map, IsTrue, ⊤, if◌then◌else◌}
 use Rattle.thread_local_model.specs.Held.{held_count}
 use Rattle.thread_local_model.specs.Sheet.{Move, Take, Give, Publish, Rewrite, Clear}
-use Rattle.thread_local_steps.specs.Local.{Local, LocalStep, MakeBucket, Doing, Private}
+use Rattle.thread_local_steps.specs.Local.{Local, LocalStep, MakeBucket}
 use Rattle.thread_local_steps.specs.Fits.{value_set}
-use Rattle.thread_local_schedule.specs.Core.{Core, made_core}
-use Rattle.thread_local_schedule.specs.Events.{Event, TakeId, OfLocal, GiveBack, Forget, BeginWalk, OfWalk, EndWalk, Owner, OwnerCall, IterMut, Slots, ClearTable, IntoIter, DropTable, is_granted, is_enabled, happens, run}
+use Rattle.thread_local_core.specs.Core.{Core, made_core}
+use Rattle.thread_local_schedule.specs.Events.{Event, TakeId, OfLocal, GiveBack, Owner, IterMut, ClearTable, is_granted, is_enabled, happens, run}
 
 -- what a step of a Local publishes
 abbrev pub publishing : {V E : Type 0} → Option (Local V E) → LocalStep V E → Option (Move V)
@@ -56,15 +55,6 @@ is_granted_take core event = is_take event && is_enabled core event && not (refu
 -- the Local that comes with an event that gives an id to one
 abbrev pub newcomer : {V E : Type 0} → Core V E → Event V E → Option (Local V E)
 newcomer core event = (happens core event).locals core.taken
-
--- the manager's peak
-abbrev pub peak : {V E : Type 0} → Core V E → ℕ
-peak core = length core.manager.held
-
--- how many slots a bucket has that a call has made and not offered yet
-abbrev pub private_slots : {V E : Type 0} → ℕ → Doing V E → ℕ
-private_slots id (Private create number) = 2 ^ bucket_of id
-private_slots id doing = 0
 
 -- the core of a table from `new`, or made with a capacity below 2^63, after some schedule
 pub record IsReached {V E : Type 0} (core : Core V E) : Type 0 where

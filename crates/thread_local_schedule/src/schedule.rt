@@ -10,9 +10,9 @@ ghost use Rattle.thread_local_steps.specs.OwnerWalk.{owner_walk};
 ghost use Rattle.thread_local_steps.specs.SharedWalk.{SharedWalk, WalkStep, is_complete};
 ghost use Rattle.thread_local_steps.specs.Fits.{IsWritten, GoesOn, named};
 ghost use Rattle.thread_local_steps.specs.WalkFits.{Adds};
-ghost use Rattle.thread_local_schedule.specs.Core.{Core, made_core, new_core, shadow, installed_slots, first_view};
+ghost use Rattle.thread_local_core.specs.Core.{Core, made_core, new_core, shadow, installed_slots, first_view, peak, private_slots};
 ghost use Rattle.thread_local_schedule.specs.Events.{Event, TakeId, OfLocal, OfWalk, Owner, IterMut, ClearTable, is_enabled, happens, run};
-ghost use Rattle.thread_local_schedule.specs.Schedule.{move, is_exclusive, is_refused, is_granted_take, newcomer, peak, private_slots, IsReached, most_held, TakesBelow, NoneTaken, NothingRefused, NeverCleared};
+ghost use Rattle.thread_local_schedule.specs.Schedule.{move, is_exclusive, is_refused, is_granted_take, newcomer, IsReached, most_held, TakesBelow, NoneTaken, NothingRefused, NeverCleared};
 ghost use Rattle.thread_local_schedule.specs.Story.{after_publishing, after_walking, after_next, after_all};
 
 /// What holds of a table over every schedule.

@@ -1,13 +1,13 @@
-use Rattle.std.proofs.Common.{◌≡◌, ℕ, zero, suc, ◌⊎◌, Bool, true, false, cond, eqb, not, ◌&&◌, List, [], ◌∷◌, ◌++◌, Option, Some, None, Result, Ok, Err, IsTrue, is_some, IfSome, refl, ap, sym, ◌∙◌, subst, ⊎_elim, inl, inr}
-use Rattle.std.proofs.lemmas.Bool.{cases_eq, cases_Bool, cond_both, eq-eqb, ne_eqb, false_from_ne_true, false≢true}
+use Rattle.std.proofs.Common.{◌≡◌, ℕ, zero, suc, ◌⊎◌, Bool, true, false, cond, eqb, [], ◌∷◌, ◌++◌, Option, Some, None, Result, Ok, Err, IsTrue, is_some, IfSome, refl, ap, sym, ◌∙◌, subst, ⊎_elim, inl, inr}
+use Rattle.std.proofs.lemmas.Bool.{cases_eq, cond_both, eq-eqb, ne_eqb, false_from_ne_true, false≢true}
 use Rattle.thread_local_model.specs.Place.{bucket_of}
-use Rattle.thread_local_model.specs.Answers.{View, Call, Get, GetOr, Answer, Found, Answered, Refused, Failed, Says, answer, view_after, answers, view_after_all}
+use Rattle.thread_local_model.specs.Answers.{View, Call, Get, GetOr, Answer, Found, Answered, Refused, Failed, Says, answers}
 use Rattle.thread_local_model.proofs.AnswersLaws as says
 use Rattle.thread_local_model.proofs.AnswersLaws.{answers-push, view_after_all-push}
 use Rattle.thread_local_steps.specs.Table.{Slot, Table, slot_at, published, stands, value_of, with_slot}
 use Rattle.thread_local_steps.specs.Local.{Learnt, Unknown, Missing, Standing, Vacant, Holding, Doing, Gets, Started, Private, Written, Local, after_call, is_calling, begin_get, begin_get_or, loaded, looked, learns, load_word, look_at_flag, make_bucket, offered, install_bucket, write_value, set_flag, reply, local_step, LocalStep, BeginGet, BeginGetOr, LoadWord, LookAtFlag, MakeBucket, InstallBucket, WriteValue, SetFlag, Reply}
-use Rattle.thread_local_steps.specs.Fits.{IsWritten, AllWritten, view_now, IsLearnt, IsDoing, ViewFits, LocalFits, named, ChangesOnly, value_written, value_set, with_value_if, StepFits}
-use Rattle.thread_local_steps.proofs.TableLaws.{slot_at-none, published_unset, published_stands, slot_at-offered, stands-offered, published-slot_at, slot_at-with_slot_same, slot_at-with_slot_other, stands-with_slot, slot_at-made, stands-made, named-made, named-offered, named-with_slot}
+use Rattle.thread_local_steps.specs.Fits.{IsWritten, AllWritten, view_now, IsLearnt, IsDoing, ViewFits, LocalFits, named, ChangesOnly, value_written, value_set, StepFits}
+use Rattle.thread_local_steps.proofs.TableLaws.{slot_at-none, published_unset, slot_at-offered, stands-offered, published-slot_at, slot_at-with_slot_same, slot_at-with_slot_other, stands-with_slot, slot_at-made, stands-made, named-made, named-offered, named-with_slot}
 
 learnt_carried : {V : Type 0} (old new : Table V) (id : ℕ) (view : View V) (learnt : Learnt V)
     → slot_at new id ≡ slot_at old id → (IsTrue (stands old (bucket_of id)) → IsTrue (stands new (bucket_of id)))

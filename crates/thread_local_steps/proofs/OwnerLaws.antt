@@ -1,13 +1,13 @@
-use Rattle.std.proofs.Common.{◌≡◌, ℕ, zero, suc, ◌+◌, ◌-◌, ◌^◌, ◌<◌, Bool, true, false, cond, List, [], ◌++◌, Option, Some, None, IsTrue, is_some, refl, ap, sym, ◌∙◌, subst, arith, pow_pos, add_comm}
+use Rattle.std.proofs.Common.{◌≡◌, ℕ, zero, suc, ◌+◌, ◌-◌, ◌^◌, Bool, true, false, ◌++◌, Option, Some, None, is_some, refl, ap, sym, ◌∙◌, subst, arith, pow_pos, add_comm}
 use Rattle.std.specs.Prelude.{option_map}
 use Rattle.std.proofs.Math.Nat.{two-pow-succ}
 use Rattle.thread_local_model.specs.Place.{bucket_of, index_of, id_at}
 use Rattle.thread_local_model.specs.Walk.{walk, walk_below}
 use Rattle.thread_local_model.proofs.PlaceLaws as place
 use Rattle.thread_local_model.proofs.WalkLaws.{walk_below-same, walk_below-none, walk_below-add}
-use Rattle.thread_local_steps.specs.Table.{Slot, Bucket, Table, value_of, slot_of, slot_at, published, stands}
+use Rattle.thread_local_steps.specs.Table.{Bucket, Table, value_of, slot_of, slot_at, published, stands}
 use Rattle.thread_local_steps.specs.OwnerWalk.{values_in, owner_walk_below, owner_walk, rewritten_slot, rewritten_bucket, rewritten}
-use Rattle.thread_local_steps.specs.Fits.{IsWritten, AllWritten, named}
+use Rattle.thread_local_steps.specs.Fits.{IsWritten, AllWritten}
 use Rattle.thread_local_steps.proofs.WalkStepLaws.{shown_at_cursor}
 
 -- what an owner finds in what a word names is what its slots show, in their order

@@ -1,9 +1,9 @@
-use Rattle.std.specs.Prelude.{◌≡◌, ℕ, ◌⊎◌, Bool, true, false, List, [], ◌∷◌, ◌++◌, Option, Some, None, option_map, IsTrue, is_some, IfSome, ⊤}
+use Rattle.std.specs.Prelude.{◌≡◌, ℕ, ◌⊎◌, false, [], ◌∷◌, ◌++◌, Option, Some, None, option_map, IsTrue, is_some, IfSome, ⊤}
 use Rattle.thread_local_model.specs.Place.{bucket_of}
 use Rattle.thread_local_model.specs.Walk.{with_value}
 use Rattle.thread_local_model.specs.Answers.{View, Call, answers, view_after_all}
-use Rattle.thread_local_steps.specs.Table.{Slot, Bucket, Table, slot_at, published, stands}
-use Rattle.thread_local_steps.specs.Local.{Learnt, Unknown, Missing, Standing, Vacant, Holding, Doing, Gets, Started, Private, Written, Local, LocalStep, BeginGet, SetFlag}
+use Rattle.thread_local_steps.specs.Table.{Slot, Table, slot_at, published, stands}
+use Rattle.thread_local_steps.specs.Local.{Learnt, Unknown, Missing, Standing, Vacant, Holding, Doing, Gets, Started, Private, Written, Local, LocalStep, SetFlag}
 
 -- a slot whose flag is set holds the value that was written
 abbrev pub IsWritten : {V : Type 0} → Slot V → Type 0

@@ -1,7 +1,7 @@
-use Rattle.std.specs.Prelude.{ℕ, zero, suc, ◌+◌, Bool, true, false, List, [], ◌∷◌, ◌++◌, Option, Some, None, Result, Ok, Err, if◌then◌else◌}
+use Rattle.std.specs.Prelude.{ℕ, zero, suc, Bool, true, false, List, [], ◌∷◌, ◌++◌, Option, Some, None, Result, Ok, Err, if◌then◌else◌}
 use Rattle.thread_local_model.specs.Place.{bucket_of}
 use Rattle.thread_local_model.specs.Answers.{View, Call, Get, GetOr, Answer, Found, Answered, Refused, Failed}
-use Rattle.thread_local_steps.specs.Table.{Slot, Table, slot_at, published, stands, with_bucket, with_slot}
+use Rattle.thread_local_steps.specs.Table.{Table, slot_at, published, stands, with_bucket, with_slot}
 
 -- What a Local has learnt of its slot: nothing yet; that its word was empty; that its bucket stands; that the
 -- bucket stands and the slot is empty; or the value that the slot holds.

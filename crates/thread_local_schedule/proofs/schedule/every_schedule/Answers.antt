@@ -1,12 +1,13 @@
-use Rattle.std.proofs.Common.{refl, ap, arith}
+use Rattle.std.proofs.Common.{refl, arith}
+use Rattle.thread_local_core.proofs.CoreLaws as known
 use Rattle.thread_local_schedule.proofs.Clauses as clause
 use Rattle.thread_local_schedule.proofs.AfterClear as later
 use Rattle.thread_local_schedule.proofs.Headline as headline
 use Rattle.thread_local_schedule.proofs.Story as story
 use Rattle.thread_local_steps.proofs.OwnerLaws.{owner_walk-walk}
-use Rattle.thread_local_schedule.specs.Core.{new_core, made_core}
-use Rattle.thread_local_schedule.proofs.Kept.{made_core-fits}
-use Rattle.thread_local_schedule.proofs.HeldCounts.{held_below}
+use Rattle.thread_local_core.specs.Core.{made_core}
+use Rattle.thread_local_core.proofs.Parts.{made_core-fits}
+use Rattle.thread_local_core.proofs.HeldCounts.{held_below}
 use Rattle.thread_local_schedule.proofs.schedule.every_schedule.Goals as goal
 
 pub returns-clause-moves : goal.returns-clause-moves
@@ -37,7 +38,7 @@ pub returns-clause-owner_walk : goal.returns-clause-owner_walk
 returns-clause-owner_walk g c = λ core r. owner_walk-walk core.table
 
 pub returns-clause-flagged : goal.returns-clause-flagged
-returns-clause-flagged g c = λ core bucket index r. clause.flagged core.table bucket index (clause.fits core r).table.written
+returns-clause-flagged g c = λ core bucket index r. known.flagged core.table bucket index (clause.fits core r).table.written
 
 pub returns-clause-words : goal.returns-clause-words
 returns-clause-words g c = λ core event bucket number r quiet. (clause.says core event r).names quiet bucket number
@@ -73,10 +74,10 @@ pub returns-clause-slots_of_capacity : goal.returns-clause-slots_of_capacity
 returns-clause-slots_of_capacity g c = clause.slots_of_capacity
 
 pub returns-clause-private_slots : goal.returns-clause-private_slots
-returns-clause-private_slots g c = λ core n local r at. clause.private_bound core.manager.held local.id local.doing ((clause.fits core r).locals.each n local at).id_held
+returns-clause-private_slots g c = λ core n local r at. known.private_bound core.manager.held local.id local.doing ((clause.fits core r).locals.each n local at).id_held
 
 pub returns-clause-published : goal.returns-clause-published
-returns-clause-published g c = λ core r. clause.published_bound core (clause.fits core r)
+returns-clause-published g c = λ core r. known.published_bound core (clause.fits core r)
 
 pub returns-clause-refused_take : goal.returns-clause-refused_take
 returns-clause-refused_take g c = λ core refused growth r. clause.refused_take core refused growth (clause.fits core r)

@@ -1,4 +1,4 @@
-use Rattle.std.proofs.Common.{arith}
+use Rattle.thread_local_core.proofs.CoreLaws as known
 use Rattle.thread_local_schedule.proofs.Clauses as clause
 use Rattle.thread_local_schedule.proofs.schedule.every_walk.Goals as goal
 
@@ -6,7 +6,7 @@ pub returns-clause-adds : goal.returns-clause-adds
 returns-clause-adds g c = λ core n step before after r. clause.adds core n step before after (clause.fits core r)
 
 pub returns-clause-complete : goal.returns-clause-complete
-returns-clause-complete g c = λ core n walk r at done id v e. clause.complete core n walk (clause.fits core r) at done id v e
+returns-clause-complete g c = λ core n walk r at done id v e. known.complete core n walk (clause.fits core r) at done id v e
 
 pub returns-clause-published : goal.returns-clause-published
 returns-clause-published g c = λ core n walk r at. ((clause.fits core r).walks.each n walk at).fits.given_stays
@@ -18,4 +18,4 @@ pub returns-clause-reads_once : goal.returns-clause-reads_once
 returns-clause-reads_once g c = λ core n walk r at. ((clause.fits core r).walks.each n walk at).fits.read_ascend.increasing
 
 pub returns-clause-loads : goal.returns-clause-loads
-returns-clause-loads g c = λ core n walk r at. clause.loads core n walk (clause.fits core r) at
+returns-clause-loads g c = λ core n walk r at. known.loads core n walk (clause.fits core r) at

@@ -1,4 +1,4 @@
-use Rattle.std.proofs.Common.{◌≡◌, ℕ, zero, suc, ◌+◌, ◌<◌, ◌≤◌, max, Bool, true, false, cond, eqb, IsTrue, List, [], ◌∷◌, length, refl, arith}
+use Rattle.std.proofs.Common.{◌≡◌, ℕ, zero, suc, ◌<◌, ◌≤◌, max, Bool, true, false, IsTrue, List, [], ◌∷◌, length, refl, arith}
 use Rattle.thread_local_model.specs.Held.{is_held, least, with_least, held_count}
 use Rattle.thread_local_model.proofs.HeldLaws.{held_count-with_least}
 

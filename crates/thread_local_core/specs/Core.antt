@@ -1,11 +1,12 @@
-use Rattle.std.specs.Prelude.{ℕ, zero, suc, ◌+◌, Bool, true, false, ◌&&◌, ◌||◌, [], Option, None, is_some, is_none, ◌==◌, if◌then◌else◌}
+use Rattle.std.specs.Prelude.{ℕ, zero, suc, ◌+◌, ◌^◌, length, Bool, true, false, ◌&&◌, ◌||◌, [], Option, None, is_some, is_none, ◌==◌, if◌then◌else◌}
+use Rattle.thread_local_model.specs.Place.{bucket_of}
 use Rattle.thread_local_model.specs.Held.{Manager}
 use Rattle.thread_local_model.specs.Buckets.{slots}
 use Rattle.thread_local_model.specs.Capacity.{is_reserved}
 use Rattle.thread_local_model.specs.Answers.{View}
 use Rattle.thread_local_model.specs.Sheet.{Sheet}
 use Rattle.thread_local_steps.specs.Table.{Table, made_table, published, stands}
-use Rattle.thread_local_steps.specs.Local.{Local}
+use Rattle.thread_local_steps.specs.Local.{Local, Doing, Private}
 use Rattle.thread_local_steps.specs.SharedWalk.{SharedWalk}
 
 -- A table's core: the manager of ids; the capacity; the table of buckets; each Local that lives and each walk that
@@ -62,3 +63,12 @@ none_below all (suc n) = none_below all n && is_none (all n)
 -- whether somebody has the table alone: no Local lives, and no walk is under way
 abbrev pub is_alone : {V E : Type 0} → Core V E → Bool
 is_alone core = none_below core.locals core.taken && none_below core.walks core.walked
+
+-- the manager's peak
+abbrev pub peak : {V E : Type 0} → Core V E → ℕ
+peak core = length core.manager.held
+
+-- how many slots a bucket has that a call has made and not offered yet
+abbrev pub private_slots : {V E : Type 0} → ℕ → Doing V E → ℕ
+private_slots id (Private create number) = 2 ^ bucket_of id
+private_slots id doing = 0

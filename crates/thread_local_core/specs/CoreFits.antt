@@ -6,7 +6,7 @@ use Rattle.thread_local_steps.specs.Local.{Local}
 use Rattle.thread_local_steps.specs.SharedWalk.{SharedWalk}
 use Rattle.thread_local_steps.specs.Fits.{AllWritten, LocalFits}
 use Rattle.thread_local_steps.specs.WalkFits.{WalkFits}
-use Rattle.thread_local_schedule.specs.Core.{Core}
+use Rattle.thread_local_core.specs.Core.{Core}
 
 -- The invariant of a core, kept by every event, in its parts.
 

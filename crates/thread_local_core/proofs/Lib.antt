@@ -1,0 +1,4 @@
+pub mod HeldCounts
+pub mod SheetLaws
+pub mod Parts
+pub mod CoreLaws

@@ -1,0 +1,10 @@
+use Rattle.std.proofs.Common.{[], ap}
+use Rattle.thread_local_core.proofs.Parts.{made_core-fits}
+use Rattle.thread_local_core.proofs.CoreLaws.{none_made}
+use Rattle.thread_local_core.proofs.made.made_cores_fit.Goals as goal
+
+pub returns-clause-fits : goal.returns-clause-fits
+returns-clause-fits g c = made_core-fits
+
+pub returns-clause-sheet : goal.returns-clause-sheet
+returns-clause-sheet g c = λ capacity extra. ap (λ values. record { held = []; values = values; capacity = capacity }) (none_made _ capacity)
