@@ -51,23 +51,23 @@ pub locals_put : {V E : Type 0} (table : Table V) (held : List Bool) (capacity :
     → LocalsFit table held capacity (put locals number (Some local)) taken
 locals_put table held capacity locals taken number local l here others unshared none = record {
   each = λ n x e.
-    ⊎_elim
-    (λ at. let same : local ≡ x = cc in subst (LiveFits table held capacity) same here)
-    (λ at. (others n x at.0 at.1).0)
-    (put_cases locals number (Some local) n x e);
+      ⊎_elim
+      (λ at. let same : local ≡ x = cc in subst (LiveFits table held capacity) same here)
+      (λ at. (others n x at.0 at.1).0)
+      (put_cases locals number (Some local) n x e);
   unshared = λ m n a b e f same.
-    ⊎_elim
-    (λ at.
-    ⊎_elim
-    (λ too. sym at.0 ∙ too.0)
-    (λ apart. let here : local ≡ a = cc in absurd ((others n b apart.0 apart.1).1 (ap (λ x. x.id) here ∙ same)))
-    (put_cases locals number (Some local) n b f))
-    (λ apart.
-    ⊎_elim
-    (λ at. let here : local ≡ b = cc in absurd ((others m a apart.0 apart.1).1 (ap (λ x. x.id) here ∙ sym same)))
-    (λ too. unshared m n a b apart.1 too.1 same)
-    (put_cases locals number (Some local) n b f))
-    (put_cases locals number (Some local) m a e);
+      ⊎_elim
+      (λ at.
+      ⊎_elim
+      (λ too. sym at.0 ∙ too.0)
+      (λ apart. let here : local ≡ a = cc in absurd ((others n b apart.0 apart.1).1 (ap (λ x. x.id) here ∙ same)))
+      (put_cases locals number (Some local) n b f))
+      (λ apart.
+      ⊎_elim
+      (λ at. let here : local ≡ b = cc in absurd ((others m a apart.0 apart.1).1 (ap (λ x. x.id) here ∙ sym same)))
+      (λ too. unshared m n a b apart.1 too.1 same)
+      (put_cases locals number (Some local) n b f))
+      (put_cases locals number (Some local) m a e);
   none_from = λ n above. put_other locals number (Some local) n (λ e. absurd (omega arith)) ∙ none n above;
 }
 
@@ -81,10 +81,10 @@ locals_removed table held capacity locals taken number others unshared none = re
   each = λ n x e. let at = still locals number n x e in others n x at.0 at.1;
   unshared = λ m n a b e f. unshared m n a b (still locals number m a e).1 (still locals number n b f).1;
   none_from = λ n above.
-    ⊎_elim
-    (λ at. ap (put locals number None) (sym at) ∙ put_same locals number None)
-    (λ apart. put_other locals number None n apart ∙ none n above)
-    (cases_eq number n);
+      ⊎_elim
+      (λ at. ap (put locals number None) (sym at) ∙ put_same locals number None)
+      (λ apart. put_other locals number None n apart ∙ none n above)
+      (cases_eq number n);
 }
 
 pub given-ManagerFits : (manager : Manager) (capacity id : ℕ) → ManagerFits manager capacity → ManagerFits (record manager { held = without manager.held id }) capacity
@@ -121,10 +121,10 @@ fresh-LiveFits core held id h t = record {
     view = record {
       value = refl;
       known = λ known.
-        ⊎_elim
-        (λ reserved. h.reserved (bucket_of id) ((reserve.reserved_buckets core.capacity id).0 reserved))
-        (λ some. let here = some_value (published core.table id) some in published_stands core.table id here.0 here.1)
-        (or_cases (is_reserved core.capacity id) (is_some (published core.table id)) known);
+          ⊎_elim
+          (λ reserved. h.reserved (bucket_of id) ((reserve.reserved_buckets core.capacity id).0 reserved))
+          (λ some. let here = some_value (published core.table id) some in published_stands core.table id here.0 here.1)
+          (or_cases (is_reserved core.capacity id) (is_some (published core.table id)) known);
       learnt_so = tt;
       doing_so = tt;
     };
@@ -163,16 +163,16 @@ pub step-TableFits : {V E : Type 0} (core : Core V E) (local : Local V E) (set :
 step-TableFits core local set after t s h = record {
   written = s.changes.written;
   small = λ b stood.
-    ⊎_elim
-    (λ before. h.small b before)
-    (λ own. let l = own_small core.manager.held local.id t in let same : 2 ^ bucket_of local.id ≡ 2 ^ b = ap (λ k. 2 ^ k) own in omega arith)
-    (s.changes.installed b stood);
+      ⊎_elim
+      (λ before. h.small b before)
+      (λ own. let l = own_small core.manager.held local.id t in let same : 2 ^ bucket_of local.id ≡ 2 ^ b = ap (λ k. 2 ^ k) own in omega arith)
+      (s.changes.installed b stood);
   reserved = λ b l. (s.changes.naming b (h.reserved b l)).0;
   below = λ id v e.
-    ⊎_elim
-    (λ before. h.below id v before)
-    (λ own. subst (λ k. k < length core.manager.held) own (held_below core.manager.held local.id t))
-    (added (published core.table) local.id set id v (sym (s.shown id) ∙ e));
+      ⊎_elim
+      (λ before. h.below id v before)
+      (λ own. subst (λ k. k < length core.manager.held) own (held_below core.manager.held local.id t))
+      (added (published core.table) local.id set id v (sym (s.shown id) ∙ e));
 }
 
 pub stepped-fits : {V E : Type 0} (core : Core V E) (number : ℕ) (local : Local V E) (set : Option V) (after : Table V × Local V E) → core.locals number ≡ Some local
@@ -184,21 +184,20 @@ stepped-fits core number local set after at s h =
       manager = h.manager;
       table = step-TableFits core local set after live.id_held s h.table;
       locals = locals_put after.0 held core.capacity core.locals core.taken number after.1
-        (⊎_elim (λ l. l) (λ above. let none = h.locals.none_from number above in absurd cc) (cases_lt number core.taken))
-        (record {
-          local_fits = s.fits;
-          id_held = subst (λ id. IsTrue (is_held held id)) (sym s.goes_on.id) live.id_held;
-          known = λ reserved. ap (λ view. view.known) s.goes_on.start ∙ live.known (subst (λ id. IsTrue (is_reserved core.capacity id)) s.goes_on.id reserved);
-        })
-        (λ n other apart e.
-        let there = h.locals.each n other e in
-        let differ : local.id ≡ other.id → ⊥ = λ same. apart (h.locals.unshared number n local other at e same) in
-        (
+          (⊎_elim (λ l. l) (λ above. let none = h.locals.none_from number above in absurd cc) (cases_lt number core.taken))
+          (record {
+            local_fits = s.fits;
+            id_held = subst (λ id. IsTrue (is_held held id)) (sym s.goes_on.id) live.id_held;
+            known = λ reserved. ap (λ view. view.known) s.goes_on.start ∙ live.known (subst (λ id. IsTrue (is_reserved core.capacity id)) s.goes_on.id reserved);
+          })
+          (λ n other apart e.
+          let there = h.locals.each n other e in
+          let differ : local.id ≡ other.id → ⊥ = λ same. apart (h.locals.unshared number n local other at e same) in (
             record { local_fits = other_fits core.table after.0 local.id other s.changes differ there.local_fits; id_held = there.id_held; known = there.known },
             (λ same. differ (sym s.goes_on.id ∙ same)),
-            ))
-        h.locals.unshared
-        h.locals.none_from;
+          ))
+          h.locals.unshared
+          h.locals.none_from;
       walks = record {
         each = λ n walk e. walk_carried core.table after.0 walk (λ id v p. s.shown id ∙ kept_value (published core.table) local.id set id v s.empty p) (h.walks.each n walk e);
         none_from = h.walks.none_from;

@@ -10,7 +10,7 @@ use Rattle.thread_local_schedule.specs.Events.{Event, TakeId, OfLocal, GiveBack,
 use Rattle.thread_local_schedule.specs.Schedule.{publishing, move, move_of, is_granted_take, newcomer, IsReached, NoneTaken}
 use Rattle.thread_local_core.specs.CoreFits.{CoreFits}
 use Rattle.thread_local_schedule.proofs.Kept.{happens-fits}
-use Rattle.thread_local_schedule.proofs.Says.{event_says}
+use Rattle.thread_local_schedule.proofs.EventSays.{event_says}
 use Rattle.thread_local_schedule.proofs.Clauses.{fits, cleared, idle, enabled_step, goes, new_local, some_and}
 
 -- as after a clear: no Local lives, and the sheet is that of `new`
@@ -78,10 +78,10 @@ no_local core (Owner call) n none t e = owner_locals core n (is_alone core) call
 fresh_kept : {V E : Type 0} (core : Core V E) (event : Event V E) → CoreFits core → IsFresh core → is_granted_take core event ≡ false → IsFresh (happens core event)
 fresh_kept core event h f e = record {
   none = λ n.
-    ⊎_elim
-    (λ t. ap (λ after. after.locals n) (goes core event t) ∙ no_local core event n f.none t e)
-    (λ off. ap (λ after. after.locals n) (idle core event off) ∙ f.none n)
-    (cases_Bool (is_enabled core event));
+      ⊎_elim
+      (λ t. ap (λ after. after.locals n) (goes core event t) ∙ no_local core event n f.none t e)
+      (λ off. ap (λ after. after.locals n) (idle core event off) ∙ f.none n)
+      (cases_Bool (is_enabled core event));
   sheet = (event_says core event h).moves ∙ ap (λ sheet. moved_if sheet (move core event)) f.sheet ∙ still_new core event f.none e;
 }
 

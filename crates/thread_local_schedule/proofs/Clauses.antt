@@ -1,7 +1,7 @@
-use Rattle.std.proofs.Common.{◌≡◌, ℕ, ◌-◌, ◌*◌, ◌^◌, ◌<◌, ◌≤◌, ◌⊎◌, max, Bool, true, false, not, ◌&&◌, cond, List, [], ◌∷◌, length, Option, Some, None, is_some, IsTrue, IfSome, IsSomeAnd, refl, ap, sym, ◌∙◌, subst, arith, ⊎_elim, inl, inr}
+use Rattle.std.proofs.Common.{◌≡◌, ℕ, ◌-◌, ◌*◌, ◌^◌, ◌<◌, ◌≤◌, ◌⊎◌, max, Bool, true, false, not, ◌&&◌, cond, List, [], ◌∷◌, Option, Some, None, is_some, IsTrue, IfSome, IsSomeAnd, refl, ap, sym, ◌∙◌, subst, arith}
 use Rattle.std.specs.Prelude.{unwrap_or, Contains}
-use Rattle.std.proofs.lemmas.Bool.{eqb-true, ne_eqb, false≢true, and_parts, and_cases, and_left, and_right, not-true, not-false}
-use Rattle.thread_local_model.specs.Held.{Manager, least, held_count, HoldsAllBelow}
+use Rattle.std.proofs.lemmas.Bool.{false≢true, and_parts, and_left, and_right, not-true, not-false}
+use Rattle.thread_local_model.specs.Held.{least, held_count, HoldsAllBelow}
 use Rattle.thread_local_model.specs.Capacity.{is_reserved}
 use Rattle.thread_local_model.specs.Walk.{walk}
 use Rattle.thread_local_model.specs.Sheet.{new_sheet, Clear, moved_if}
@@ -13,16 +13,15 @@ use Rattle.thread_local_steps.specs.SharedWalk.{SharedWalk, WalkStep, walk_step}
 use Rattle.thread_local_steps.specs.WalkFits.{Adds}
 use Rattle.thread_local_steps.proofs.WalkStepLaws.{walk_step-adds}
 use Rattle.thread_local_core.specs.Core.{Core, made_core, new_core, shadow, installed_slots, first_view, peak}
-use Rattle.thread_local_schedule.specs.Events.{Event, TakeId, OfLocal, OfWalk, Owner, ClearTable, is_exhausted, is_full, is_granted, take_id, with_walk_step, step_of, step, is_enabled, happens, run}
+use Rattle.thread_local_schedule.specs.Events.{Event, TakeId, OfLocal, OfWalk, Owner, ClearTable, is_granted, take_id, with_walk_step, step_of, step, is_enabled, happens, run}
 use Rattle.thread_local_schedule.specs.Schedule.{move, is_clear, is_refused, is_granted_take, newcomer, IsReached, most_held}
-use Rattle.thread_local_core.proofs.HeldCounts.{least-le, least-le-held_count}
-use Rattle.thread_local_core.specs.CoreFits.{ManagerFits, CoreFits}
+use Rattle.thread_local_core.specs.CoreFits.{CoreFits}
 use Rattle.thread_local_schedule.proofs.Kept.{happens-fits, run-fits}
-use Rattle.thread_local_schedule.proofs.Says.{Says, event_says}
+use Rattle.thread_local_schedule.proofs.EventSays.{Says, event_says}
 use Rattle.thread_local_core.proofs.Parts.{put_same, made_core-fits}
 use Rattle.thread_local_core.proofs.CoreLaws.{installed_bound, never_missing}
 use Rattle.thread_local_core.proofs.SheetLaws.{moved_capacity}
-use Rattle.thread_local_model.proofs.HeldLaws as ids
+use Rattle.thread_local_schedule.proofs.Takes.{not_granted, within}
 
 -- the invariant holds wherever a schedule leads
 pub fits : {V E : Type 0} (core : Core V E) → IsReached core → CoreFits core
@@ -108,32 +107,11 @@ slots_of_capacity capacity extra events l =
 pub slots_of_new : {V E : Type 0} (events : List (Event V E)) → installed_slots (run new_core events) ≤ 2 * peak (run new_core events) - 1
 slots_of_new events = omega (arith, slots_of_capacity 0 0 events (omega arith))
 
--- a take that is refused finds every id held, or no room and no memory
-not_granted : (manager : Manager) (refused : Bool) → length manager.held ≤ manager.room → is_granted manager refused ≡ false
-    → HoldsAllBelow (2 ^ 63 - 1) manager.held ⊎ (HoldsAllBelow (length manager.held) manager.held × (length manager.held ≡ manager.room) × IsTrue refused)
-not_granted manager refused room none =
-    let low = least-le manager.held in
-    let lower = ids.least_lower manager.held in
-    ⊎_elim
-    (λ all. let e = eqb-true (least manager.held) (2 ^ 63 - 1) (not-false (is_exhausted manager) all) in inl (subst (λ n. HoldsAllBelow n manager.held) e lower))
-    (λ some.
-    let both = and_parts (is_full manager) refused (not-false (is_full manager && refused) some) in
-    let e = eqb-true (least manager.held) manager.room both.0 in
-    let top : least manager.held ≡ length manager.held = omega arith in
-    inr (subst (λ n. HoldsAllBelow n manager.held) top lower, omega arith, both.1))
-    (and_cases (not (is_exhausted manager)) (not (is_full manager && refused)) none)
-
 pub refused_take : {V E : Type 0} (core : Core V E) (refused : Bool) (growth : ℕ) → CoreFits core → IsTrue (is_refused core (TakeId refused growth))
     → HoldsAllBelow (2 ^ 63 - 1) (shadow core).held ⊎ (HoldsAllBelow (peak core) (shadow core).held × (peak core ≡ core.manager.room) × IsTrue refused)
 refused_take core refused growth h t =
     not_granted core.manager refused h.manager.peak_room
     (not-true (is_granted core.manager refused) (and_parts (is_enabled core (TakeId refused growth)) (not (is_granted core.manager refused)) t).1)
-
--- while fewer ids than the capacity are held, every take is granted
-within : (manager : Manager) (capacity : ℕ) (refused : Bool) → ManagerFits manager capacity → held_count manager.held < capacity → is_granted manager refused ≡ true
-within manager capacity refused h l =
-    let low = least-le-held_count manager.held in
-    rw (ne_eqb (least manager.held) (2 ^ 63 - 1) (λ e. omega (arith, h.capacity_ids)), ne_eqb (least manager.held) manager.room (λ e. omega (arith, h.capacity_room))) refl
 
 pub within_capacity : {V E : Type 0} (core : Core V E) (refused : Bool) (growth : ℕ) → CoreFits core → held_count (shadow core).held < (shadow core).capacity
     → is_refused core (TakeId refused growth) ≡ false

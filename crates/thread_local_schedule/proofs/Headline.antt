@@ -12,7 +12,7 @@ use Rattle.thread_local_schedule.specs.Schedule.{publishing, move, move_of, is_t
 use Rattle.thread_local_core.proofs.HeldCounts.{held_below}
 use Rattle.thread_local_core.specs.CoreFits.{CoreFits}
 use Rattle.thread_local_schedule.proofs.Kept.{happens-fits, run-fits}
-use Rattle.thread_local_schedule.proofs.Says.{event_says}
+use Rattle.thread_local_schedule.proofs.EventSays.{event_says}
 use Rattle.thread_local_schedule.proofs.Clauses.{run_capacity, within_capacity, none_enabled, reserved}
 use Rattle.thread_local_core.proofs.Parts.{made_core-fits}
 use Rattle.thread_local_core.proofs.CoreLaws.{installed_bound}
@@ -96,9 +96,9 @@ nothing_refused : {V E : Type 0} (n p : ℕ) (core : Core V E) (events : List (E
     → NothingRefused core events
 nothing_refused n p core [] h c l top few never = tt
 nothing_refused n p core (event ∷ events) h c l top few never = (
-    (granted core event h (omega arith) (λ t. omega (arith, few.0 t))),
-    (nothing_refused n p (happens core event) events (happens-fits core event h) (capacity_stays core event h never.0 ∙ c) l (event_peak p core event h few.0 top) few.1 never.1),
-    )
+  (granted core event h (omega arith) (λ t. omega (arith, few.0 t))),
+  (nothing_refused n p (happens core event) events (happens-fits core event h) (capacity_stays core event h never.0 ∙ c) l (event_peak p core event h few.0 top) few.1 never.1),
+)
 
 pub refuses_nothing : {V E : Type 0} (capacity extra p : ℕ) (events : List (Event V E)) → capacity < 2 ^ 63 → p ≤ capacity → TakesBelow p (made_core capacity extra) events → NeverCleared events
     → NothingRefused (made_core capacity extra) events

@@ -1,28 +1,21 @@
-use Rattle.std.proofs.Common.{◌≡◌, ℕ, zero, suc, ◌-◌, ◌^◌, Bool, true, false, not, ◌&&◌, cond, List, [], ◌∷◌, length, Option, Some, None, IfSome, refl, ap, sym, ◌∙◌, arith}
-use Rattle.std.proofs.lemmas.Bool.{cond_both, ne_eqb, eqb-false, false≢true, and_parts, not-true}
+use Rattle.std.proofs.Common.{◌≡◌, ℕ, suc, Bool, true, false, cond, List, [], ◌∷◌, length, Option, Some, None, IfSome, refl, ap, sym, ◌∙◌, arith}
+use Rattle.std.proofs.lemmas.Bool.{cond_both, ne_eqb, false≢true}
 use Rattle.std.specs.Prelude.{unwrap_or}
-use Rattle.thread_local_model.specs.Held.{Manager, is_held, least, with_least, without}
+use Rattle.thread_local_model.specs.Held.{is_held, least, with_least, without}
 use Rattle.thread_local_steps.specs.Table.{Table}
-use Rattle.thread_local_steps.specs.Local.{Local, LocalStep, Doing, Gets, fresh_local, local_step}
+use Rattle.thread_local_steps.specs.Local.{Local, LocalStep, fresh_local, local_step}
 use Rattle.thread_local_steps.specs.SharedWalk.{SharedWalk, fresh_walk, WalkStep, walk_step}
 use Rattle.thread_local_steps.specs.Fits.{StepFits, value_set}
 use Rattle.thread_local_steps.specs.WalkFits.{WalkFits}
 use Rattle.thread_local_steps.proofs.LocalLaws.{local_step-fits}
 use Rattle.thread_local_steps.proofs.WalkStepLaws.{walk_step-fits, fresh_walk-fits}
 use Rattle.thread_local_core.specs.Core.{Core, shadow, first_view, is_alone}
-use Rattle.thread_local_schedule.specs.Events.{Event, TakeId, OfLocal, GiveBack, Forget, BeginWalk, OfWalk, EndWalk, Owner, OwnerCall, IterMut, Slots, ClearTable, IntoIter, DropTable, is_exhausted, is_full, is_granted, taken_from, take_id, with_step, of_local, gives_back, give_back, forgets, forget, begin_walk, with_walk_step, of_walk, end_walk, owner_call, step_of, step, happens, run}
-use Rattle.thread_local_core.proofs.HeldCounts.{least-le, peak_after}
-use Rattle.thread_local_core.specs.CoreFits.{ManagerFits, CoreFits}
+use Rattle.thread_local_schedule.specs.Events.{Event, TakeId, OfLocal, GiveBack, Forget, BeginWalk, OfWalk, EndWalk, Owner, OwnerCall, IterMut, Slots, ClearTable, IntoIter, DropTable, is_exhausted, is_granted, take_id, with_step, of_local, give_back, forget, begin_walk, with_walk_step, of_walk, end_walk, owner_call, step_of, step, happens, run, is_idle, without_local, given_to}
+use Rattle.thread_local_core.proofs.HeldCounts.{peak_after}
+use Rattle.thread_local_core.specs.CoreFits.{CoreFits}
 use Rattle.thread_local_core.proofs.Parts.{locals_put, locals_removed, given-ManagerFits, peak-TableFits, held_stays, least_held, fresh-LiveFits, stepped-fits, walks_put, came_before, no_locals, no_walks, rewritten-TableFits, made_core-fits}
+use Rattle.thread_local_schedule.proofs.Takes.{granted_some, taken-ManagerFits}
 use Rattle.thread_local_model.proofs.HeldLaws as ids
-
--- the manager's part once an id is taken, or given back
-taken-ManagerFits : (manager : Manager) (capacity growth : ℕ) → is_exhausted manager ≡ false → ManagerFits manager capacity → ManagerFits (taken_from manager growth) capacity
-taken-ManagerFits manager capacity growth some h =
-    let free = eqb-false (least manager.held) (2 ^ 63 - 1) some in
-    let after = peak_after manager.held in
-    let low = least-le manager.held in
-    record { peak_room = omega arith; capacity_room = omega (arith, h.capacity_room); peak_ids = omega (arith, h.peak_ids); capacity_ids = h.capacity_ids }
 
 pub take_id-fits : {V E : Type 0} (core : Core V E) (growth : ℕ) → is_exhausted core.manager ≡ false → CoreFits core → CoreFits (take_id core growth)
 take_id-fits core growth some h =
@@ -32,16 +25,15 @@ take_id-fits core growth some h =
       manager = taken-ManagerFits core.manager core.capacity growth some h.manager;
       table = peak-TableFits core.table core.capacity (length held) (length (with_least held)) (omega arith) h.table;
       locals = locals_put core.table (with_least held) core.capacity core.locals (suc core.taken) core.taken (fresh_local (least held) (first_view (shadow core) (least held)))
-        (omega arith)
-        (fresh-LiveFits core (with_least held) (least held) h.table (least_held held))
-        (λ n other apart e.
-        let live = h.locals.each n other e in
-        (
+          (omega arith)
+          (fresh-LiveFits core (with_least held) (least held) h.table (least_held held))
+          (λ n other apart e.
+          let live = h.locals.each n other e in (
             record { local_fits = live.local_fits; id_held = held_stays held other.id live.id_held; known = live.known },
             (λ same. false≢true (sym (ids.least_free held) ∙ ap (is_held held) same ∙ live.id_held)),
-            ))
-        h.locals.unshared
-        (λ n above. h.locals.none_from n (omega arith));
+          ))
+          h.locals.unshared
+          (λ n above. h.locals.none_from n (omega arith));
       walks = h.walks;
     }
 
@@ -59,45 +51,49 @@ of_local-fits core number step (Some local) at h =
     (local_step-fits core.table local step h.table.written (h.locals.each number local at).local_fits)
 
 -- a Local that gives its id back, or is forgotten
-gives_back-fits : {V E : Type 0} (core : Core V E) (number : ℕ) (local : Local V E) (doing : Doing V E) → core.locals number ≡ Some local → CoreFits core
-    → IfSome (gives_back core number local doing) CoreFits
-gives_back-fits core number local (Gets zero) at h =
+given_back-fits : {V E : Type 0} (core : Core V E) (number : ℕ) (local : Local V E) → core.locals number ≡ Some local → CoreFits core
+    → CoreFits (record (without_local core number) { manager = given_to core.manager local.id })
+given_back-fits core number local at h =
     let held = core.manager.held in
     let same = ids.length-without held local.id in
     record {
       manager = given-ManagerFits core.manager core.capacity local.id h.manager;
       table = peak-TableFits core.table core.capacity (length held) (length (without held local.id)) (omega arith) h.table;
       locals = locals_removed core.table (without held local.id) core.capacity core.locals core.taken number
-        (λ n other apart e.
-        let live = h.locals.each n other e in
-        let differ : local.id ≡ other.id → ⊥ = λ same. apart (h.locals.unshared number n local other at e same) in
-        record {
-          local_fits = live.local_fits;
-          id_held = ids.is_held-without held local.id other.id ∙ ap (λ b. cond b false (is_held held other.id)) (ne_eqb local.id other.id differ) ∙ live.id_held;
-          known = live.known;
-        })
-        h.locals.unshared
-        h.locals.none_from;
+          (λ n other apart e.
+          let live = h.locals.each n other e in
+          let differ : local.id ≡ other.id → ⊥ = λ same. apart (h.locals.unshared number n local other at e same) in
+          record {
+            local_fits = live.local_fits;
+            id_held = ids.is_held-without held local.id other.id ∙ ap (λ b. cond b false (is_held held other.id)) (ne_eqb local.id other.id differ) ∙ live.id_held;
+            known = live.known;
+          })
+          h.locals.unshared
+          h.locals.none_from;
       walks = h.walks;
     }
-gives_back-fits core number local _ at h = tt
 
-give_back-fits : {V E : Type 0} (core : Core V E) (number : ℕ) (o : Option (Local V E)) → core.locals number ≡ o → CoreFits core → IfSome (give_back core number o) CoreFits
-give_back-fits core number None at h = tt
-give_back-fits core number (Some local) at h = gives_back-fits core number local local.doing at h
-
-forgets-fits : {V E : Type 0} (core : Core V E) (number : ℕ) (doing : Doing V E) → CoreFits core → IfSome (forgets core number doing) CoreFits
-forgets-fits core number (Gets zero) h = record {
+forgotten-fits : {V E : Type 0} (core : Core V E) (number : ℕ) → CoreFits core → CoreFits (without_local core number)
+forgotten-fits core number h = record {
   manager = h.manager;
   table = h.table;
   locals = locals_removed core.table core.manager.held core.capacity core.locals core.taken number (λ n other apart e. h.locals.each n other e) h.locals.unshared h.locals.none_from;
   walks = h.walks;
 }
-forgets-fits core number _ h = tt
+
+-- what holds where a test does
+pub if_enabled : {A : Type 0} (P : A → Type 0) (b : Bool) (x : A) → P x → IfSome (cond b (Some x) None) P
+if_enabled P true x p = p
+if_enabled P false x p = tt
+
+give_back-fits : {V E : Type 0} (core : Core V E) (number : ℕ) (o : Option (Local V E)) → core.locals number ≡ o → CoreFits core → IfSome (give_back core number o) CoreFits
+give_back-fits core number None at h = tt
+give_back-fits core number (Some local) at h =
+    if_enabled CoreFits (is_idle local.doing) (record (without_local core number) { manager = given_to core.manager local.id }) (given_back-fits core number local at h)
 
 forget-fits : {V E : Type 0} (core : Core V E) (number : ℕ) (o : Option (Local V E)) → CoreFits core → IfSome (forget core number o) CoreFits
 forget-fits core number None h = tt
-forget-fits core number (Some local) h = forgets-fits core number local.doing h
+forget-fits core number (Some local) h = if_enabled CoreFits (is_idle local.doing) (without_local core number) (forgotten-fits core number h)
 
 begin_walk-fits : {V E : Type 0} (core : Core V E) → CoreFits core → IfSome (begin_walk core) CoreFits
 begin_walk-fits core h = record {
@@ -150,7 +146,7 @@ owner_call-fits core true DropTable e h = record { manager = h.manager; table = 
 take-fits : {V E : Type 0} (core : Core V E) (refused : Bool) (growth : ℕ) → CoreFits core → CoreFits (cond (is_granted core.manager refused) (take_id core growth) core)
 take-fits core refused growth h =
     cond_both {A = Core _ _} (is_granted core.manager refused) (take_id core growth) core CoreFits
-    (λ t. take_id-fits core growth (not-true (is_exhausted core.manager) (and_parts (not (is_exhausted core.manager)) (not (is_full core.manager && refused)) t).0) h)
+    (λ t. take_id-fits core growth (granted_some core.manager refused t) h)
     (λ _. h)
 
 step_of-fits : {V E : Type 0} (core : Core V E) (event : Event V E) → CoreFits core → IfSome (step_of core event) CoreFits

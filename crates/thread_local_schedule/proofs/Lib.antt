@@ -1,6 +1,8 @@
+pub mod FourLocals
+pub mod Takes
+pub mod EventSays
 pub mod Kept
-pub mod Says
-pub mod Story
 pub mod Clauses
 pub mod Headline
 pub mod AfterClear
+pub mod FourValues

@@ -64,24 +64,29 @@ abbrev pub of_local : {V E : Type 0} → Core V E → ℕ → LocalStep V E → 
 of_local core number step None = None
 of_local core number step (Some local) = with_step core number (local_step core.table local step)
 
--- a Local with no call under way gives its id back
-abbrev pub gives_back : {V E : Type 0} → Core V E → ℕ → Local V E → Doing V E → Option (Core V E)
-gives_back core number local (Gets zero) =
-    Some (record core { manager = record core.manager { held = without core.manager.held local.id }; locals = put core.locals number None })
-gives_back core number local doing = None
+-- whether a Local has no call under way
+abbrev pub is_idle : {V E : Type 0} → Doing V E → Bool
+is_idle (Gets zero) = true
+is_idle doing = false
 
+-- the core once a Local lives no longer
+abbrev pub without_local : {V E : Type 0} → Core V E → ℕ → Core V E
+without_local core number = record core { locals = put core.locals number None }
+
+-- the manager once an id is held no longer
+abbrev pub given_to : Manager → ℕ → Manager
+given_to manager id = record manager { held = without manager.held id }
+
+-- a Local with no call under way gives its id back
 abbrev pub give_back : {V E : Type 0} → Core V E → ℕ → Option (Local V E) → Option (Core V E)
 give_back core number None = None
-give_back core number (Some local) = gives_back core number local local.doing
+give_back core number (Some local) =
+    if is_idle local.doing then Some (record (without_local core number) { manager = given_to core.manager local.id }) else None
 
--- a Local with no call under way is forgotten: it lives no longer, and its id stays held
-abbrev pub forgets : {V E : Type 0} → Core V E → ℕ → Doing V E → Option (Core V E)
-forgets core number (Gets zero) = Some (record core { locals = put core.locals number None })
-forgets core number doing = None
-
+-- a Local with no call under way is forgotten: its id stays held
 abbrev pub forget : {V E : Type 0} → Core V E → ℕ → Option (Local V E) → Option (Core V E)
 forget core number None = None
-forget core number (Some local) = forgets core number local.doing
+forget core number (Some local) = if is_idle local.doing then Some (without_local core number) else None
 
 -- a walk begins
 abbrev pub begin_walk : {V E : Type 0} → Core V E → Option (Core V E)

@@ -57,7 +57,7 @@ pub fn every_schedule<V, E>()
     ensures after_clear { (core : Core V E) (events : List (Event V E)) (event : Event V E) → IsReached core → IsTrue (is_enabled core (Owner ClearTable))
         → NoneTaken (happens core (Owner ClearTable)) events → IsTrue (is_granted_take (run (happens core (Owner ClearTable)) events) event)
         → IsSomeAnd (newcomer (run (happens core (Owner ClearTable)) events) event)
-            (λ local. (local.id ≡ 0) × (local.start ≡ record { value = None; known = false })) }
+        (λ local. (local.id ≡ 0) × (local.start ≡ record { value = None; known = false })) }
 
     // The peak is the most ids held at one moment, and each id lies below it.
     ensures peak { (capacity extra : ℕ) (events : List (Event V E)) → capacity < 2 ^ 63
@@ -77,7 +77,7 @@ pub fn every_schedule<V, E>()
     // refused. Within the capacity none is, and no publishing at a reserved id.
     ensures refused_take { (core : Core V E) (refused : _) (growth : ℕ) → IsReached core → IsTrue (is_refused core (TakeId refused growth))
         → HoldsAllBelow (2 ^ 63 - 1) (shadow core).held
-            ⊎ (HoldsAllBelow (peak core) (shadow core).held × (peak core ≡ core.manager.room) × IsTrue refused) }
+        ⊎ (HoldsAllBelow (peak core) (shadow core).held × (peak core ≡ core.manager.room) × IsTrue refused) }
     ensures within_capacity { (core : Core V E) (refused : _) (growth : ℕ) → IsReached core
         → held_count (shadow core).held < (shadow core).capacity → is_refused core (TakeId refused growth) ≡ false }
     ensures reserved { (core : Core V E) (n : ℕ) (local : Local V E) (refused : _) → IsReached core → core.locals n ≡ Some local

@@ -1,3 +1,4 @@
+pub mod FirstPublishing
 pub mod TableLaws
 pub mod LocalLaws
 pub mod WalkStepLaws

@@ -64,8 +64,8 @@ call_fits : {V E : Type 0} (table old : Table V) (local : Local V E) (call : Cal
     → LocalFits table (after_call local call told learnt doing)
 call_fits table old local call told left learnt doing h says fits = record {
   answered =
-    ap (λ xs. xs ++ told ∷ []) h.answered ∙ ap (λ x. answers local.start local.calls ++ x ∷ []) (sym says.answered)
-    ∙ sym (answers-push local.start local.calls call);
+      ap (λ xs. xs ++ told ∷ []) h.answered ∙ ap (λ x. answers local.start local.calls ++ x ∷ []) (sym says.answered)
+      ∙ sym (answers-push local.start local.calls call);
   view = subst (λ view. ViewFits table local.id view learnt doing) (sym (view_after_all-push local.start local.calls call ∙ says.leaves)) fits;
 }
 
@@ -201,12 +201,12 @@ offered_only table id number = record {
   naming = λ bucket t. (
     (stands-offered table (bucket_of id) number bucket ∙ cond_both (eqb (bucket_of id) bucket) true (stands table bucket) (λ b. b ≡ true) (λ _. refl) (λ _. t)),
     (named-offered table (bucket_of id) number bucket t),
-    );
+  );
   installed = λ bucket t.
-    ⊎_elim
-    (λ here. inr here)
-    (λ apart. inl (sym (stands-offered table (bucket_of id) number bucket ∙ ap (λ b. cond b true (stands table bucket)) (ne_eqb (bucket_of id) bucket apart)) ∙ t))
-    (cases_eq (bucket_of id) bucket);
+      ⊎_elim
+      (λ here. inr here)
+      (λ apart. inl (sym (stands-offered table (bucket_of id) number bucket ∙ ap (λ b. cond b true (stands table bucket)) (ne_eqb (bucket_of id) bucket apart)) ∙ t))
+      (cases_eq (bucket_of id) bucket);
 }
 
 install_bucket-fits : {V E : Type 0} (table : Table V) (local : Local V E) (doing : Doing V E) → AllWritten table → LocalFits table local
@@ -226,10 +226,10 @@ slot_changes table id slot t written here = record {
   naming = λ bucket s. (stands-with_slot table id bucket slot ∙ s, named-with_slot table id bucket slot);
   installed = λ bucket s. inl (sym (stands-with_slot table id bucket slot) ∙ s);
   written = λ other.
-    ⊎_elim
-    (λ same. subst (λ j. IsWritten (slot_at (with_slot table id slot) j)) same (subst IsWritten (sym (slot_at-with_slot_same table id slot t)) here))
-    (λ apart. subst IsWritten (sym (slot_at-with_slot_other table id other slot apart)) (written other))
-    (cases_eq id other);
+      ⊎_elim
+      (λ same. subst (λ j. IsWritten (slot_at (with_slot table id slot) j)) same (subst IsWritten (sym (slot_at-with_slot_same table id slot t)) here))
+      (λ apart. subst IsWritten (sym (slot_at-with_slot_other table id other slot apart)) (written other))
+      (cases_eq id other);
 }
 
 -- what the changed slot shows, and what the others do
@@ -248,7 +248,7 @@ write_value-fits table local (Started (Ok v)) Vacant written h l =
     let after = with_slot table id slot in
     let standing : IsTrue (stands after (bucket_of id)) = stands-with_slot table id (bucket_of id) slot ∙ l.0 in
     let here : slot_at after id ≡ record { written = Some v; flag = false } =
-        slot_at-with_slot_same table id slot l.0 ∙ ap (λ b. record { written = Some v; flag = b }) l.1 in
+    slot_at-with_slot_same table id slot l.0 ∙ ap (λ b. record { written = Some v; flag = b }) l.1 in
     let none = published_unset table id l.1 in
     let none_after = published_unset after id (ap (λ s. s.flag) here) in
     record {
@@ -263,10 +263,10 @@ write_value-fits table local (Started (Ok v)) Vacant written h l =
       };
       changes = slot_changes table id slot l.0 written (λ t. refl);
       shown = λ other.
-        ⊎_elim
-        (λ same. subst (λ j. published after j ≡ published table j) same (none_after ∙ sym none))
-        (λ apart. shown_other table id other slot apart)
-        (cases_eq id other);
+          ⊎_elim
+          (λ same. subst (λ j. published after j ≡ published table j) same (none_after ∙ sym none))
+          (λ apart. shown_other table id other slot apart)
+          (cases_eq id other);
       empty = tt;
       goes_on = record { id = refl; start = refl; calls = inl refl };
     }
@@ -287,14 +287,14 @@ set_flag-fits table local (Written v) written h d =
     let some : published after id ≡ Some v = shown_same table id slot d.0 ∙ ap (λ s. s.written) d.1 in
     record {
       fits = call_fits after table local (GetOr (Ok v) false) (Answered v) (record { value = Some v; known = true }) (Holding v) (Gets 0) h
-        (says.created (view_now local) v (h.view.value ∙ none))
-        (record { value = sym some; known = λ t. standing; learnt_so = some; doing_so = tt });
+          (says.created (view_now local) v (h.view.value ∙ none))
+          (record { value = sym some; known = λ t. standing; learnt_so = some; doing_so = tt });
       changes = slot_changes table id slot d.0 written (λ t. ap (λ s. is_some s.written) d.1);
       shown = λ other.
-        ⊎_elim
-        (λ same. rw (eq-eqb id other same) (ap (published after) (sym same) ∙ some))
-        (λ apart. rw (ne_eqb id other apart) (shown_other table id other slot apart))
-        (cases_eq id other);
+          ⊎_elim
+          (λ same. rw (eq-eqb id other same) (ap (published after) (sym same) ∙ some))
+          (λ apart. rw (ne_eqb id other apart) (shown_other table id other slot apart))
+          (cases_eq id other);
       empty = none;
       goes_on = record { id = refl; start = refl; calls = inr (GetOr (Ok v) false, refl) };
     }

@@ -1,10 +1,10 @@
 use Rattle.std.proofs.Common.{◌≡◌, ℕ, ◌^◌, Bool, true, false, cond, eqb, IsTrue, Option, Some, None, is_some, refl, ap, sym, ◌∙◌, arith, ⊎_elim}
-use Rattle.std.proofs.lemmas.Bool.{cases_eq, cases_Bool, cond_both, eq-eqb, ne_eqb, false≢true}
+use Rattle.std.proofs.lemmas.Bool.{cases_eq, cases_Bool, eq-eqb, ne_eqb, false≢true}
 use Rattle.thread_local_model.specs.Place.{bucket_of, index_of}
 use Rattle.thread_local_model.proofs.PlaceLaws as place
 use Rattle.thread_local_steps.specs.Table.{Slot, empty_slot, value_of, Bucket, fresh_bucket, Table, slot_of, slot_at, published, stands, with_bucket, with_slot_of, with_slot, made_table}
 use Rattle.thread_local_model.specs.Capacity.{binary_digits}
-use Rattle.thread_local_steps.specs.Local.{offered}
+use Rattle.thread_local_steps.specs.Local.{offer, offered}
 use Rattle.thread_local_steps.specs.Fits.{named}
 use Rattle.std.specs.Prelude.{option_map, nat_lt}
 
@@ -84,20 +84,25 @@ stands-with_bucket table bucket number other =
     (λ apart. rw (ne_eqb bucket other apart) refl)
     (cases_eq bucket other)
 
--- what an offer leaves: every slot as it was, the bucket stands, and so does each that stood
-pub slot_at-offered : {V : Type 0} (table : Table V) (bucket number id : ℕ) → slot_at (offered table bucket number) id ≡ slot_at table id
-slot_at-offered {V} table bucket number id =
-    cond_both {A = Table _} (stands table bucket) table (with_bucket table bucket number) (λ t. slot_at t id ≡ slot_at table id) (λ _. refl) (slot_at-with_bucket table bucket number id)
+-- what an offer leaves: every slot as it was, and the bucket stands, and each that stood
+slot_at-offer : {V : Type 0} (table : Table V) (bucket number id : ℕ) (b : Bool) → stands table bucket ≡ b → slot_at (offer table bucket number b) id ≡ slot_at table id
+slot_at-offer table bucket number id true t = refl
+slot_at-offer table bucket number id false f = slot_at-with_bucket table bucket number id f
 
-pub stands-offered : {V : Type 0} (table : Table V) (bucket number other : ℕ) → stands (offered table bucket number) other ≡ cond (eqb bucket other) true (stands table other)
-stands-offered table bucket number other =
-    cond_both {A = Table _} (stands table bucket) table (with_bucket table bucket number) (λ t. stands t other ≡ cond (eqb bucket other) true (stands table other))
-    (λ t.
+pub slot_at-offered : {V : Type 0} (table : Table V) (bucket number id : ℕ) → slot_at (offered table bucket number) id ≡ slot_at table id
+slot_at-offered table bucket number id = slot_at-offer table bucket number id (stands table bucket) refl
+
+stands-offer : {V : Type 0} (table : Table V) (bucket number other : ℕ) (b : Bool) → stands table bucket ≡ b
+    → stands (offer table bucket number b) other ≡ cond (eqb bucket other) true (stands table other)
+stands-offer table bucket number other true t =
     ⊎_elim
     (λ here. rw (eq-eqb bucket other here) (ap (stands table) (sym here) ∙ t))
     (λ apart. rw (ne_eqb bucket other apart) refl)
-    (cases_eq bucket other))
-    (λ _. stands-with_bucket table bucket number other)
+    (cases_eq bucket other)
+stands-offer table bucket number other false f = stands-with_bucket table bucket number other
+
+pub stands-offered : {V : Type 0} (table : Table V) (bucket number other : ℕ) → stands (offered table bucket number) other ≡ cond (eqb bucket other) true (stands table other)
+stands-offered table bucket number other = stands-offer table bucket number other (stands table bucket) refl
 
 pub published-slot_at : {V : Type 0} (old new : Table V) (id : ℕ) → slot_at new id ≡ slot_at old id → published new id ≡ published old id
 unfolding published
@@ -149,11 +154,13 @@ named-with_bucket : {V : Type 0} (table : Table V) (bucket number other : ℕ) �
 unfolding named with_bucket
 named-with_bucket table bucket number other apart = rw (ne_eqb bucket other apart) refl
 
+named-offer : {V : Type 0} (table : Table V) (bucket number other : ℕ) (b : Bool) → stands table bucket ≡ b → IsTrue (stands table other)
+    → named (offer table bucket number b) other ≡ named table other
+named-offer table bucket number other true t stood = refl
+named-offer table bucket number other false f stood = named-with_bucket table bucket number other (λ same. false≢true (sym f ∙ ap (stands table) same ∙ stood))
+
 pub named-offered : {V : Type 0} (table : Table V) (bucket number other : ℕ) → IsTrue (stands table other) → named (offered table bucket number) other ≡ named table other
-named-offered table bucket number other t =
-    cond_both {A = Table _} (stands table bucket) table (with_bucket table bucket number) (λ after. named after other ≡ named table other)
-    (λ _. refl)
-    (λ none. named-with_bucket table bucket number other (λ same. false≢true (sym none ∙ ap (stands table) same ∙ t)))
+named-offered table bucket number other stood = named-offer table bucket number other (stands table bucket) refl stood
 
 -- the table of a capacity has a bucket for each binary digit, and nothing is in its slots
 slot_of-made : {V : Type 0} (b : Bool) (number index : ℕ) → slot_of {V = V} (cond b (Some (fresh_bucket number)) None) index ≡ empty_slot

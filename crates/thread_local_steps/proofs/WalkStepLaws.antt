@@ -10,7 +10,7 @@ use Rattle.thread_local_model.proofs.PlaceLaws as place
 use Rattle.thread_local_model.proofs.WalkLaws.{ascends-push, Contains-one}
 use Rattle.thread_local_steps.proofs.TableLaws.{published_stands}
 use Rattle.thread_local_steps.specs.Table.{Table, slot_of, slot_at, value_of, published, stands}
-use Rattle.thread_local_steps.specs.SharedWalk.{SharedWalk, fresh_walk, cursor, is_complete, at_next_bucket, at_place, after_load, walk_load, after_look, walk_look, WalkStep, Load, Look, walk_step}
+use Rattle.thread_local_steps.specs.SharedWalk.{SharedWalk, fresh_walk, cursor, is_complete, at_next_bucket, at_place, after_load, on_word, walk_load, after_look, walk_look, WalkStep, Load, Look, walk_step}
 use Rattle.thread_local_steps.specs.WalkFits.{RecordFits, WalkFits, with_pair, Loads, Looks, Adds}
 
 -- a bound on ascending ids may grow
@@ -51,10 +51,10 @@ passes table first given read m n h none r = record {
   given_ascend = ascends_within (map (λ pair. pair.0) given) m n h r.given_ascend;
   read_ascend = ascends_within read m n h r.read_ascend;
   passed = λ id v e l.
-    ⊎_elim
-    (λ below. r.passed id v e below)
-    (λ above. absurd (none id v above l (r.first_stays id v e)))
-    (cases_lt id m);
+      ⊎_elim
+      (λ below. r.passed id v e below)
+      (λ above. absurd (none id v above l (r.first_stays id v e)))
+      (cases_lt id m);
 }
 
 -- a slot that is read and shows nothing, and one that shows a value, which is given
@@ -62,7 +62,7 @@ reads : {V : Type 0} (table : Table V) (first : ℕ → Option V) (given : List 
     → RecordFits table first given read n → RecordFits table first given (read ++ n ∷ []) (suc n)
 reads table first given read n none r =
     let on = passes table first given read n (suc n) (omega arith)
-        (λ id v low high e. let same : id ≡ n = omega arith in absurd (let f = ap (published table) same in cc)) r in
+    (λ id v low high e. let same : id ≡ n = omega arith in absurd (let f = ap (published table) same in cc)) r in
     record {
       first_stays = r.first_stays;
       given_stays = r.given_stays;
@@ -76,20 +76,20 @@ gives : {V : Type 0} (table : Table V) (first : ℕ → Option V) (given : List 
 gives table first given read n v some r = record {
   first_stays = r.first_stays;
   given_stays = λ id w e.
-    ⊎_elim
-    (λ before. r.given_stays id w before)
-    (λ last. let same = Contains-one (n, v) (id, w) last in ap (λ pair. published table pair.0) (sym same) ∙ some ∙ ap (λ pair. Some pair.1) same)
-    (Contains-append_cases given ((n, v) ∷ []) (id, w) e);
+      ⊎_elim
+      (λ before. r.given_stays id w before)
+      (λ last. let same = Contains-one (n, v) (id, w) last in ap (λ pair. published table pair.0) (sym same) ∙ some ∙ ap (λ pair. Some pair.1) same)
+      (Contains-append_cases given ((n, v) ∷ []) (id, w) e);
   given_ascend = rw (map-append (λ (pair : ℕ × _). pair.0) given ((n, v) ∷ [])) (ascends-push (map (λ pair. pair.0) given) n r.given_ascend);
   read_ascend = ascends-push read n r.read_ascend;
   passed = λ id w e l.
-    ⊎_elim
-    (λ below. Contains-append_left given ((n, v) ∷ []) (id, w) (r.passed id w e below))
-    (λ above.
-    let same : n ≡ id = omega arith in
-    let value : Some v ≡ Some w = sym some ∙ ap (published table) same ∙ r.first_stays id w e in
-    Contains-append_right given ((n, v) ∷ []) (id, w) (0, omega arith, let here : v ≡ w = cc in cc))
-    (cases_lt id n);
+      ⊎_elim
+      (λ below. Contains-append_left given ((n, v) ∷ []) (id, w) (r.passed id w e below))
+      (λ above.
+      let same : n ≡ id = omega arith in
+      let value : Some v ≡ Some w = sym some ∙ ap (published table) same ∙ r.first_stays id w e in
+      Contains-append_right given ((n, v) ∷ []) (id, w) (0, omega arith, let here : v ≡ w = cc in cc))
+      (cases_lt id n);
 }
 
 -- the cursor at the start of a bucket lies at the end of the one before
@@ -156,23 +156,23 @@ none_missing table bucket index id v none i low high e =
     let at : bucket ≡ bucket_of id = (place.only_place id bucket (id + 1 - 2 ^ bucket) (omega arith) (omega arith)).0 in
     false≢true (sym none ∙ ap (stands table) at ∙ published_stands table id v e)
 
-walk_load-fits : {V : Type 0} (table : Table V) (walk : SharedWalk V) (looks : Bool) → walk.looks ≡ looks → WalkFits table walk → IfSome (walk_load table walk looks) (WalkFits table)
-walk_load-fits table walk true e h = tt
-walk_load-fits {V} table walk false e h =
-    let loaded = after_load table walk in
-    let record_fits = after_load-fits table walk h in
-    let l : walk.loads ≡ walk.bucket + length walk.given + 0 = rw e at h.loads in
-    let i = h.within in
+on_word-fits : {V : Type 0} (table : Table V) (walk : SharedWalk V) (named : Bool) → stands table walk.bucket ≡ named → RecordFits table walk.first walk.given walk.read (cursor walk)
+    → walk.bucket < 63 → walk.index ≤ 2 ^ walk.bucket → walk.loads ≡ suc walk.bucket + length walk.given → WalkFits table (on_word walk named)
+on_word-fits table walk true t r b i l = at_place-fits table walk r b i l
+on_word-fits table walk false f r b i l =
     let some = pow_pos walk.bucket in
     let next = next_cursor walk.bucket in
-    cond_both {A = Option (SharedWalk _)} (nat_lt walk.bucket 63) (Some (cond (stands table walk.bucket) (at_place loaded) (at_next_bucket loaded))) None (λ o. IfSome o (WalkFits table))
-    (λ t.
-    let b = ltb-true walk.bucket 63 t in
-    cond_both {A = SharedWalk _} (stands table walk.bucket) (at_place loaded) (at_next_bucket loaded) (WalkFits table)
-    (λ _. at_place-fits table loaded record_fits b i (omega arith))
-    (λ none. at_next_bucket-fits table loaded
-        (passes table loaded.first walk.given walk.read (cursor walk) (id_at (suc walk.bucket) 0) (omega arith) (λ id v. none_missing table walk.bucket walk.index id v none i) record_fits)
-        b (omega arith)))
+    at_next_bucket-fits table walk
+    (passes table walk.first walk.given walk.read (cursor walk) (id_at (suc walk.bucket) 0) (omega arith) (λ id v. none_missing table walk.bucket walk.index id v f i) r)
+    b l
+
+walk_load-fits : {V : Type 0} (table : Table V) (walk : SharedWalk V) (looks : Bool) → walk.looks ≡ looks → WalkFits table walk → IfSome (walk_load table walk looks) (WalkFits table)
+walk_load-fits table walk true e h = tt
+walk_load-fits table walk false e h =
+    let loaded = after_load table walk in
+    let l : walk.loads ≡ walk.bucket + length walk.given + 0 = rw e at h.loads in
+    cond_both {A = Option (SharedWalk _)} (nat_lt walk.bucket 63) (Some (on_word loaded (stands table walk.bucket))) None (λ o. IfSome o (WalkFits table))
+    (λ t. on_word-fits table loaded (stands table walk.bucket) refl (after_load-fits table walk h) (ltb-true walk.bucket 63 t) h.within (omega arith))
     (λ _. tt)
 
 -- what the slot at the cursor shows is what is published at its id
@@ -242,15 +242,16 @@ at_place-looks table before walk h =
     (λ _. record { first = h.first; given = h.given; read = h.read; loads = h.loads })
     (λ _. record { first = h.first; given = h.given; read = h.read; loads = h.loads })
 
+on_word-loads : {V : Type 0} (table : Table V) (before walk : SharedWalk V) (named : Bool) → Loads table before walk → Loads table before (on_word walk named)
+on_word-loads table before walk true h = at_place-loads table before walk h
+on_word-loads table before walk false h = record { first = h.first; given = h.given; read = h.read; loads = h.loads }
+
 walk_load-adds : {V : Type 0} (table : Table V) (walk : SharedWalk V) (looks : Bool) → IfSome (walk_load table walk looks) (Loads table walk)
 walk_load-adds table walk true = tt
 walk_load-adds table walk false =
     let loaded = after_load table walk in
-    cond_both {A = Option (SharedWalk _)} (nat_lt walk.bucket 63) (Some (cond (stands table walk.bucket) (at_place loaded) (at_next_bucket loaded))) None (λ o. IfSome o (Loads table walk))
-    (λ _.
-    cond_both {A = SharedWalk _} (stands table walk.bucket) (at_place loaded) (at_next_bucket loaded) (Loads table walk)
-    (λ _. at_place-loads table walk loaded (record { first = refl; given = refl; read = refl; loads = refl }))
-    (λ _. record { first = refl; given = refl; read = refl; loads = refl }))
+    cond_both {A = Option (SharedWalk _)} (nat_lt walk.bucket 63) (Some (on_word loaded (stands table walk.bucket))) None (λ o. IfSome o (Loads table walk))
+    (λ _. on_word-loads table walk loaded (stands table walk.bucket) (record { first = refl; given = refl; read = refl; loads = refl }))
     (λ _. tt)
 
 after_look-adds : {V : Type 0} (table : Table V) (walk : SharedWalk V) (shown : Option V) → published table (cursor walk) ≡ shown → Looks table walk (after_look walk shown)

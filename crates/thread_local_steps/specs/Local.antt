@@ -1,4 +1,4 @@
-use Rattle.std.specs.Prelude.{ℕ, zero, suc, Bool, true, false, List, [], ◌∷◌, ◌++◌, Option, Some, None, Result, Ok, Err, if◌then◌else◌}
+use Rattle.std.specs.Prelude.{ℕ, zero, suc, Bool, true, false, List, [], ◌∷◌, ◌++◌, Option, Some, None, option_and_then, Result, Ok, Err, if◌then◌else◌}
 use Rattle.thread_local_model.specs.Place.{bucket_of}
 use Rattle.thread_local_model.specs.Answers.{View, Call, Get, GetOr, Answer, Found, Answered, Refused, Failed}
 use Rattle.thread_local_steps.specs.Table.{Table, slot_at, published, stands, with_bucket, with_slot}
@@ -103,9 +103,13 @@ make_bucket table local true (Started create) Missing = Some (table, after_call 
 make_bucket table local false (Started create) Missing = Some (record table { made = suc table.made }, record local { doing = Private create table.made })
 make_bucket table local refused doing learnt = None
 
--- the table once a bucket of this number was offered to a word: a word that names a bucket goes on naming it
+-- the table once a bucket was offered to a word, by whether that names one: it goes on naming it, or names this one
+abbrev pub offer : {V : Type 0} → Table V → ℕ → ℕ → Bool → Table V
+offer table bucket number true = table
+offer table bucket number false = with_bucket table bucket number
+
 abbrev pub offered : {V : Type 0} → Table V → ℕ → ℕ → Table V
-offered table bucket number = if stands table bucket then table else with_bucket table bucket number
+offered table bucket number = offer table bucket number (stands table bucket)
 
 -- a call offers its own bucket to its word, and uses the one that stands then
 abbrev pub install_bucket : {V E : Type 0} → Table V → Local V E → Doing V E → Option (Table V × Local V E)
@@ -142,3 +146,8 @@ local_step table local InstallBucket = install_bucket table local local.doing
 local_step table local WriteValue = write_value table local local.doing local.learnt
 local_step table local SetFlag = set_flag table local local.doing
 local_step table local Reply = reply table local local.doing local.learnt
+
+-- what steps make of the table and of the Local, one after another, None where one isn't enabled
+unfoldable pub local_steps : {V E : Type 0} → Table V → Local V E → List (LocalStep V E) → Option (Table V × Local V E)
+local_steps table local [] = Some (table, local)
+local_steps table local (step ∷ steps) = option_and_then (λ after. local_steps after.0 after.1 steps) (local_step table local step)

@@ -38,13 +38,15 @@ at_place walk = if walk.index == 2 ^ walk.bucket then at_next_bucket walk else r
 abbrev pub after_load : {V : Type 0} → Table V → SharedWalk V → SharedWalk V
 after_load table walk = record walk { loads = suc walk.loads; first = if walk.loads == 0 then published table else walk.first }
 
--- the walk loads the word at its cursor, and passes over a bucket that doesn't stand
+-- where the walk goes on once it has loaded a word, by whether that names a bucket: an empty one is passed over
+abbrev pub on_word : {V : Type 0} → SharedWalk V → Bool → SharedWalk V
+on_word walk true = at_place walk
+on_word walk false = at_next_bucket walk
+
+-- the walk loads the word at its cursor
 abbrev pub walk_load : {V : Type 0} → Table V → SharedWalk V → Bool → Option (SharedWalk V)
 walk_load table walk true = None
-walk_load table walk false =
-    if nat_lt walk.bucket 63
-    then Some (if stands table walk.bucket then at_place (after_load table walk) else at_next_bucket (after_load table walk))
-    else None
+walk_load table walk false = if nat_lt walk.bucket 63 then Some (on_word (after_load table walk) (stands table walk.bucket)) else None
 
 -- the walk once it has looked at the slot at its cursor, by what that shows
 abbrev pub after_look : {V : Type 0} → SharedWalk V → Option V → SharedWalk V

@@ -3,4 +3,5 @@
 //! The definitions stand in specs/. Each function here has an empty body: its contract is a set of laws.
 #![tactic(auto)]
 
-pub mod steps;
+pub mod locals;
+pub mod walks;

@@ -3,7 +3,8 @@ use Rattle.thread_local_core.proofs.CoreLaws as known
 use Rattle.thread_local_schedule.proofs.Clauses as clause
 use Rattle.thread_local_schedule.proofs.AfterClear as later
 use Rattle.thread_local_schedule.proofs.Headline as headline
-use Rattle.thread_local_schedule.proofs.Story as story
+use Rattle.thread_local_schedule.proofs.FourLocals as story
+use Rattle.thread_local_schedule.proofs.FourValues as four
 use Rattle.thread_local_steps.proofs.OwnerLaws.{owner_walk-walk}
 use Rattle.thread_local_core.specs.Core.{made_core}
 use Rattle.thread_local_core.proofs.Parts.{made_core-fits}
@@ -98,7 +99,7 @@ pub returns-clause-refuses_nothing : goal.returns-clause-refuses_nothing
 returns-clause-refuses_nothing g c = headline.refuses_nothing
 
 pub returns-clause-four_values : goal.returns-clause-four_values
-returns-clause-four_values g c = story.four_values _ _
+returns-clause-four_values g c = four.four_values _ _
 
 pub returns-clause-seven_slots : goal.returns-clause-seven_slots
 returns-clause-seven_slots g c = story.first_slots _ _
@@ -113,4 +114,4 @@ pub returns-clause-owner_of_four : goal.returns-clause-owner_of_four
 returns-clause-owner_of_four g c = story.owner_gets _ _
 
 pub returns-clause-clear_of_four : goal.returns-clause-clear_of_four
-returns-clause-clear_of_four g c = story.clear_of_four _ _
+returns-clause-clear_of_four g c = four.clear_of_four _ _

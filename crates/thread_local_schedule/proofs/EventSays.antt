@@ -1,11 +1,11 @@
-use Rattle.std.proofs.Common.{◌≡◌, ℕ, zero, suc, max, Bool, true, false, ◌&&◌, cond, [], length, Option, Some, None, is_some, IsTrue, IfSome, refl, ap, sym, ◌∙◌, subst, arith, ⊎_elim}
+use Rattle.std.proofs.Common.{◌≡◌, ℕ, suc, max, Bool, true, false, ◌&&◌, cond, [], length, Option, Some, None, is_some, IsTrue, IfSome, refl, ap, sym, ◌∙◌, subst, arith, ⊎_elim}
 use Rattle.std.specs.Prelude.{option_map, unwrap_or}
 use Rattle.std.proofs.lemmas.Option.{none-some}
 use Rattle.std.proofs.lemmas.Bool.{cond_both, false≢true}
 use Rattle.thread_local_model.specs.Held.{held_count, without}
 use Rattle.thread_local_model.specs.Sheet.{moved_if, IsAllowed}
 use Rattle.thread_local_steps.specs.Table.{Table, published}
-use Rattle.thread_local_steps.specs.Local.{Local, LocalStep, Doing, Gets, local_step}
+use Rattle.thread_local_steps.specs.Local.{Local, LocalStep, local_step}
 use Rattle.thread_local_steps.specs.SharedWalk.{SharedWalk, fresh_walk, WalkStep, walk_step}
 use Rattle.thread_local_steps.specs.OwnerWalk.{rewritten}
 use Rattle.thread_local_steps.specs.Fits.{StepFits, GoesOn, value_set, named}
@@ -13,12 +13,13 @@ use Rattle.thread_local_steps.proofs.TableLaws.{same_function, named_stands}
 use Rattle.thread_local_steps.proofs.LocalLaws.{local_step-fits}
 use Rattle.thread_local_steps.proofs.OwnerLaws.{published-rewritten}
 use Rattle.thread_local_core.specs.Core.{Core, shadow, put, is_alone}
-use Rattle.thread_local_schedule.specs.Events.{Event, TakeId, OfLocal, GiveBack, Forget, BeginWalk, OfWalk, EndWalk, Owner, OwnerCall, IterMut, Slots, ClearTable, IntoIter, DropTable, is_granted, take_id, with_step, of_local, gives_back, give_back, forgets, forget, with_walk_step, of_walk, end_walk, owner_call, step_of, step, is_enabled, happens}
+use Rattle.thread_local_schedule.specs.Events.{Event, TakeId, OfLocal, GiveBack, Forget, BeginWalk, OfWalk, EndWalk, Owner, OwnerCall, IterMut, Slots, ClearTable, IntoIter, DropTable, is_granted, take_id, with_step, of_local, give_back, forget, with_walk_step, of_walk, end_walk, owner_call, step_of, step, is_enabled, happens, is_idle, without_local, given_to}
 use Rattle.thread_local_schedule.specs.Schedule.{move_of, is_exclusive, is_clear}
 use Rattle.thread_local_core.proofs.HeldCounts.{peak_counts, held_count-le}
 use Rattle.thread_local_core.specs.CoreFits.{CoreFits}
 use Rattle.thread_local_core.proofs.Parts.{put_cases, still, kept_value, no_locals}
 use Rattle.thread_local_core.proofs.CoreLaws.{same_goes_on, published_moves, publishing_allowed, none_made}
+use Rattle.thread_local_schedule.proofs.Kept.{if_enabled}
 use Rattle.thread_local_model.proofs.HeldLaws as ids
 
 -- what an event that is enabled says of the core before it and after it
@@ -51,10 +52,10 @@ take_id-says core refused growth true e h = record {
   stays = λ _ id v p. p;
   names = λ _ bucket k p. p;
   goes_on = λ n before then p q.
-    ⊎_elim
-    (λ at. let none = h.locals.none_from core.taken (omega arith) in let same = ap core.locals at.0 in cc)
-    (λ apart. same_goes_on before then (sym p ∙ apart.1))
-    (put_cases core.locals core.taken _ n then q);
+      ⊎_elim
+      (λ at. let none = h.locals.none_from core.taken (omega arith) in let same = ap core.locals at.0 in cc)
+      (λ apart. same_goes_on before then (sym p ∙ apart.1))
+      (put_cases core.locals core.taken _ n then q);
   peak = peak_counts core.manager.held;
 }
 take_id-says core refused growth false e h = leaves core (TakeId refused growth) core refl (rw e refl) refl refl refl (λ n then p. p)
@@ -71,14 +72,14 @@ stepped-says core number step local after at s h =
       stays = λ _ id v e. s.shown id ∙ kept_value (published core.table) local.id set id v s.empty e;
       names = λ _ bucket k e. (s.changes.naming bucket (named_stands core.table bucket k e)).1 ∙ e;
       goes_on = λ n before then e f.
-        ⊎_elim
-        (λ here.
-        let same : Some local ≡ Some before = sym at ∙ ap core.locals here.0 ∙ e in
-        let first : local ≡ before = cc in
-        let last : after.1 ≡ then = (let here_too = here.1 in cc) in
-        subst (λ b. GoesOn b then) first (subst (GoesOn local) last s.goes_on))
-        (λ apart. same_goes_on before then (sym e ∙ apart.1))
-        (put_cases core.locals number (Some after.1) n then f);
+          ⊎_elim
+          (λ here.
+          let same : Some local ≡ Some before = sym at ∙ ap core.locals here.0 ∙ e in
+          let first : local ≡ before = cc in
+          let last : after.1 ≡ then = (let here_too = here.1 in cc) in
+          subst (λ b. GoesOn b then) first (subst (GoesOn local) last s.goes_on))
+          (λ apart. same_goes_on before then (sym e ∙ apart.1))
+          (put_cases core.locals number (Some after.1) n then f);
       peak = omega (arith, held_count-le core.manager.held);
     }
 
@@ -95,9 +96,9 @@ of_local-says core number step (Some local) at h =
     (local_step-fits core.table local step h.table.written (h.locals.each number local at).local_fits)
 
 -- a Local that gives its id back, or is forgotten
-gives_back-says : {V E : Type 0} (core : Core V E) (number : ℕ) (local : Local V E) (doing : Doing V E) → core.locals number ≡ Some local → CoreFits core
-    → IfSome (gives_back core number local doing) (EventSays core (GiveBack number))
-gives_back-says core number local (Gets zero) at h =
+given_back-says : {V E : Type 0} (core : Core V E) (number : ℕ) (local : Local V E) → core.locals number ≡ Some local → CoreFits core
+    → EventSays core (GiveBack number) (record (without_local core number) { manager = given_to core.manager local.id })
+given_back-says core number local at h =
     let live = h.locals.each number local at in
     record {
       moves = rw at refl;
@@ -107,19 +108,17 @@ gives_back-says core number local (Gets zero) at h =
       goes_on = λ n before then e f. same_goes_on before then (sym e ∙ (still core.locals number n then f).1);
       peak = omega (arith, ids.length-without core.manager.held local.id, held_count-le (without core.manager.held local.id));
     }
-gives_back-says core number local _ at h = tt
 
 give_back-says : {V E : Type 0} (core : Core V E) (number : ℕ) (o : Option (Local V E)) → core.locals number ≡ o → CoreFits core → IfSome (give_back core number o) (EventSays core (GiveBack number))
 give_back-says core number None at h = tt
-give_back-says core number (Some local) at h = gives_back-says core number local local.doing at h
-
-forgets-says : {V E : Type 0} (core : Core V E) (number : ℕ) (doing : Doing V E) → IfSome (forgets core number doing) (EventSays core (Forget number))
-forgets-says core number (Gets zero) = leaves core (Forget number) (record core { locals = put core.locals number None }) refl refl refl refl refl (λ n then f. (still core.locals number n then f).1)
-forgets-says core number _ = tt
+give_back-says core number (Some local) at h =
+    if_enabled (EventSays core (GiveBack number)) (is_idle local.doing) (record (without_local core number) { manager = given_to core.manager local.id }) (given_back-says core number local at h)
 
 forget-says : {V E : Type 0} (core : Core V E) (number : ℕ) (o : Option (Local V E)) → IfSome (forget core number o) (EventSays core (Forget number))
 forget-says core number None = tt
-forget-says core number (Some local) = forgets-says core number local.doing
+forget-says core number (Some local) =
+    if_enabled (EventSays core (Forget number)) (is_idle local.doing) (without_local core number)
+    (leaves core (Forget number) (without_local core number) refl refl refl refl refl (λ n then f. (still core.locals number n then f).1))
 
 -- a walk's events
 with_walk_step-says : {V E : Type 0} (core : Core V E) (number : ℕ) (step : WalkStep) (o : Option (SharedWalk V)) → IfSome (with_walk_step core number o) (EventSays core (OfWalk number step))
@@ -142,7 +141,7 @@ owner_call-says : {V E : Type 0} (core : Core V E) (alone : Bool) (call : OwnerC
 owner_call-says core false call e h = tt
 owner_call-says core true (IterMut others) e h = record {
   moves = ap (λ values. record (shadow core) { values = values })
-    (same_function (published (rewritten core.table others)) (λ id. option_map (others id) (published core.table id)) (published-rewritten core.table others));
+      (same_function (published (rewritten core.table others)) (λ id. option_map (others id) (published core.table id)) (published-rewritten core.table others));
   allowed = tt;
   stays = λ ex. absurd (false≢true (sym ex));
   names = λ ex. absurd (false≢true (sym ex));

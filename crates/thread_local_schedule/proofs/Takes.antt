@@ -1,0 +1,40 @@
+use Rattle.std.proofs.Common.{◌≡◌, ℕ, ◌-◌, ◌^◌, Bool, true, false, not, ◌&&◌, length, refl, arith, ◌<◌, ◌≤◌, ◌⊎◌, IsTrue, subst, ⊎_elim, inl, inr}
+use Rattle.std.proofs.lemmas.Bool.{ne_eqb, eqb-false, and_parts, not-true, eqb-true, and_cases, not-false}
+use Rattle.thread_local_model.specs.Held.{Manager, least, held_count, HoldsAllBelow}
+use Rattle.thread_local_schedule.specs.Events.{is_exhausted, is_full, is_granted, taken_from}
+use Rattle.thread_local_core.proofs.HeldCounts.{least-le, peak_after, least-le-held_count}
+use Rattle.thread_local_core.specs.CoreFits.{ManagerFits}
+use Rattle.thread_local_model.proofs.HeldLaws as ids
+
+-- a take that is refused finds every id held, or no room and no memory
+pub not_granted : (manager : Manager) (refused : Bool) → length manager.held ≤ manager.room → is_granted manager refused ≡ false
+    → HoldsAllBelow (2 ^ 63 - 1) manager.held ⊎ (HoldsAllBelow (length manager.held) manager.held × (length manager.held ≡ manager.room) × IsTrue refused)
+not_granted manager refused room none =
+    let low = least-le manager.held in
+    let lower = ids.least_lower manager.held in
+    ⊎_elim
+    (λ all. let e = eqb-true (least manager.held) (2 ^ 63 - 1) (not-false (is_exhausted manager) all) in inl (subst (λ n. HoldsAllBelow n manager.held) e lower))
+    (λ some.
+    let both = and_parts (is_full manager) refused (not-false (is_full manager && refused) some) in
+    let e = eqb-true (least manager.held) manager.room both.0 in
+    let top : least manager.held ≡ length manager.held = omega arith in
+    inr (subst (λ n. HoldsAllBelow n manager.held) top lower, omega arith, both.1))
+    (and_cases (not (is_exhausted manager)) (not (is_full manager && refused)) none)
+
+-- while fewer ids than the capacity are held, every take is granted
+pub within : (manager : Manager) (capacity : ℕ) (refused : Bool) → ManagerFits manager capacity → held_count manager.held < capacity → is_granted manager refused ≡ true
+within manager capacity refused h l =
+    let low = least-le-held_count manager.held in
+    rw (ne_eqb (least manager.held) (2 ^ 63 - 1) (λ e. omega (arith, h.capacity_ids)), ne_eqb (least manager.held) manager.room (λ e. omega (arith, h.capacity_room))) refl
+
+-- a take that is granted finds an id that isn't held
+pub granted_some : (manager : Manager) (refused : Bool) → IsTrue (is_granted manager refused) → is_exhausted manager ≡ false
+granted_some manager refused t = not-true (is_exhausted manager) (and_parts (not (is_exhausted manager)) (not (is_full manager && refused)) t).0
+
+-- the manager's part once an id is taken, or given back
+pub taken-ManagerFits : (manager : Manager) (capacity growth : ℕ) → is_exhausted manager ≡ false → ManagerFits manager capacity → ManagerFits (taken_from manager growth) capacity
+taken-ManagerFits manager capacity growth some h =
+    let free = eqb-false (least manager.held) (2 ^ 63 - 1) some in
+    let after = peak_after manager.held in
+    let low = least-le manager.held in
+    record { peak_room = omega arith; capacity_room = omega (arith, h.capacity_room); peak_ids = omega (arith, h.peak_ids); capacity_ids = h.capacity_ids }

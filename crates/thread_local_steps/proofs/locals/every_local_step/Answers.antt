@@ -1,0 +1,12 @@
+use Rattle.thread_local_steps.proofs.FirstPublishing as first
+use Rattle.thread_local_steps.proofs.LocalLaws as laws
+use Rattle.thread_local_steps.proofs.locals.every_local_step.Goals as goal
+
+pub returns-clause-fits : goal.returns-clause-fits
+returns-clause-fits g c = laws.local_step-fits
+
+pub returns-clause-others : goal.returns-clause-others
+returns-clause-others g c = laws.other_fits
+
+pub returns-clause-publishes : goal.returns-clause-publishes
+returns-clause-publishes g c = first.publishes _ _

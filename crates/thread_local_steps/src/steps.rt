@@ -1,6 +1,0 @@
-ghost use Rattle.std.specs.Prelude.{◌≡◌, ℕ};
-
-/// Nothing yet.
-pub fn nothing()
-    ensures { (n : ℕ) → n ≡ n }
-{}
