@@ -1,3 +1,4 @@
+pub mod OptionLaws
 pub mod HeldCounts
 pub mod SheetLaws
 pub mod Parts

@@ -1,7 +1,8 @@
-use Rattle.std.proofs.Common.{◌≡◌, suc, ◌≤◌, max, length, Option, Some, None, refl, arith}
+use Rattle.std.proofs.Common.{◌≡◌, suc, ◌≤◌, max, length, Option, Some, None, refl, arith, Bool, true, false, not, ◌&&◌, cond, IsTrue, sym}
 use Rattle.thread_local_model.specs.Held.{held_count}
-use Rattle.thread_local_model.specs.Sheet.{Sheet, Move, Take, Give, Publish, Keep, Rewrite, Clear, moved_if}
+use Rattle.thread_local_model.specs.Sheet.{Sheet, Move, Take, Give, Publish, Keep, Rewrite, Clear, moved_if, new_sheet}
 use Rattle.thread_local_core.proofs.HeldCounts.{least-le-held_count, peak_after}
+use Rattle.std.proofs.lemmas.Bool.{false≢true}
 use Rattle.thread_local_model.proofs.HeldLaws as ids
 
 -- a move makes the peak grow only where it is a take, and then to no more than one above the ids that were held
@@ -42,3 +43,18 @@ moved_capacity sheet (Some (Publish id v)) = omega arith
 moved_capacity sheet (Some (Keep id v)) = omega arith
 moved_capacity sheet (Some (Rewrite others)) = omega arith
 moved_capacity sheet (Some Clear) = omega arith
+
+-- no move but a take changes such a sheet
+pub settled : {V : Type 0} (b : Bool) (o : Option (Move V)) → moved_if new_sheet o ≡ new_sheet → moved_if new_sheet (cond b o None) ≡ new_sheet
+settled true o e = e
+settled false o e = refl
+
+pub untaken : {V : Type 0} (enabled granted : Bool) → (enabled && not (not granted)) ≡ false → moved_if {V = V} new_sheet (cond enabled (cond granted (Some Take) None) None) ≡ new_sheet
+untaken true true e = absurd (false≢true (sym e))
+untaken true false e = refl
+untaken false granted e = refl
+
+pub not_taken : (enabled granted : Bool) → IsTrue enabled → (enabled && not (not granted)) ≡ false → granted ≡ false
+not_taken true true t e = absurd (false≢true (sym e))
+not_taken true false t e = refl
+not_taken false granted t e = absurd (false≢true t)

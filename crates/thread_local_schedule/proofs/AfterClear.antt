@@ -1,9 +1,9 @@
-use Rattle.std.proofs.Common.{◌≡◌, ℕ, Bool, true, false, not, ◌&&◌, cond, List, [], ◌∷◌, Option, Some, None, is_some, IsTrue, IsSomeAnd, refl, ap, sym, ◌∙◌, ⊎_elim}
+use Rattle.std.proofs.Common.{◌≡◌, ℕ, Bool, true, false, List, [], ◌∷◌, Option, Some, None, is_some, IsTrue, IsSomeAnd, refl, ap, ◌∙◌, ⊎_elim}
 use Rattle.std.specs.Prelude.{unwrap_or}
 use Rattle.std.proofs.lemmas.Bool.{cases_Bool, false≢true}
 use Rattle.thread_local_model.specs.Held.{least}
 use Rattle.thread_local_model.specs.Capacity.{binary_digits, reserved_slots}
-use Rattle.thread_local_model.specs.Sheet.{new_sheet, Move, Take, moved_if}
+use Rattle.thread_local_model.specs.Sheet.{new_sheet, moved_if}
 use Rattle.thread_local_steps.specs.SharedWalk.{SharedWalk, WalkStep, walk_step}
 use Rattle.thread_local_core.specs.Core.{Core, shadow, first_view, is_alone}
 use Rattle.thread_local_schedule.specs.Events.{Event, TakeId, OfLocal, GiveBack, Forget, BeginWalk, OfWalk, EndWalk, Owner, OwnerCall, IterMut, ClearTable, is_granted, with_walk_step, of_walk, end_walk, owner_call, step_of, step, is_enabled, happens, run}
@@ -11,22 +11,14 @@ use Rattle.thread_local_schedule.specs.Schedule.{publishing, move, move_of, is_g
 use Rattle.thread_local_core.specs.CoreFits.{CoreFits}
 use Rattle.thread_local_schedule.proofs.Kept.{happens-fits}
 use Rattle.thread_local_schedule.proofs.EventSays.{event_says}
-use Rattle.thread_local_schedule.proofs.Clauses.{fits, cleared, idle, enabled_step, goes, new_local, some_and}
+use Rattle.thread_local_schedule.proofs.Clauses.{fits, cleared, idle, enabled_step, goes, new_local}
+use Rattle.thread_local_core.proofs.OptionLaws.{some_and}
+use Rattle.thread_local_core.proofs.SheetLaws.{settled, untaken, not_taken}
 
 -- as after a clear: no Local lives, and the sheet is that of `new`
 record IsFresh {V E : Type 0} (core : Core V E) : Type 0 where
   none : (n : ℕ) → core.locals n ≡ None
   sheet : shadow core ≡ new_sheet
-
--- no move but a take changes such a sheet
-settled : {V : Type 0} (b : Bool) (o : Option (Move V)) → moved_if new_sheet o ≡ new_sheet → moved_if new_sheet (cond b o None) ≡ new_sheet
-settled true o e = e
-settled false o e = refl
-
-untaken : {V : Type 0} (enabled granted : Bool) → (enabled && not (not granted)) ≡ false → moved_if {V = V} new_sheet (cond enabled (cond granted (Some Take) None) None) ≡ new_sheet
-untaken true true e = absurd (false≢true (sym e))
-untaken true false e = refl
-untaken false granted e = refl
 
 owner_settled : {V E : Type 0} (core : Core V E) (call : OwnerCall V) → moved_if new_sheet (move_of core (Owner call)) ≡ new_sheet
 owner_settled core (IterMut others) = refl
@@ -58,11 +50,6 @@ walk_locals core n number step (Some walk) none = step_locals core n number (wal
 end_locals : {V E : Type 0} (core : Core V E) (n number : ℕ) (o : Option (SharedWalk V)) → core.locals n ≡ None → (unwrap_or (end_walk core number o) core).locals n ≡ None
 end_locals core n number None none = none
 end_locals core n number (Some walk) none = none
-
-not_taken : (enabled granted : Bool) → IsTrue enabled → (enabled && not (not granted)) ≡ false → granted ≡ false
-not_taken true true t e = absurd (false≢true (sym e))
-not_taken true false t e = refl
-not_taken false granted t e = absurd (false≢true t)
 
 no_local : {V E : Type 0} (core : Core V E) (event : Event V E) (n : ℕ) → ((n : ℕ) → core.locals n ≡ None) → IsTrue (is_enabled core event) → is_granted_take core event ≡ false
     → (unwrap_or (step_of core event) core).locals n ≡ None

@@ -7,13 +7,12 @@ use Rattle.thread_local_model.specs.Walk.{walk}
 use Rattle.thread_local_model.specs.Sheet.{new_sheet, Clear, moved_if}
 use Rattle.thread_local_model.specs.Answers.{Refused}
 use Rattle.thread_local_model.proofs.AnswersLaws.{none_refused}
-use Rattle.thread_local_steps.specs.Table.{Table}
-use Rattle.thread_local_steps.specs.Local.{Local, Doing, Started, Learnt, Missing, MakeBucket, make_bucket, fresh_local, local_step}
+use Rattle.thread_local_steps.specs.Local.{Local, MakeBucket, fresh_local, local_step}
 use Rattle.thread_local_steps.specs.SharedWalk.{SharedWalk, WalkStep, walk_step}
 use Rattle.thread_local_steps.specs.WalkFits.{Adds}
 use Rattle.thread_local_steps.proofs.WalkStepLaws.{walk_step-adds}
-use Rattle.thread_local_core.specs.Core.{Core, made_core, new_core, shadow, installed_slots, first_view, peak}
-use Rattle.thread_local_schedule.specs.Events.{Event, TakeId, OfLocal, OfWalk, Owner, ClearTable, is_granted, take_id, with_walk_step, step_of, step, is_enabled, happens, run}
+use Rattle.thread_local_core.specs.Core.{Core, made_core, new_core, shadow, installed_slots, first_view, peak, is_alone}
+use Rattle.thread_local_schedule.specs.Events.{Event, TakeId, OfLocal, OfWalk, Owner, ClearTable, is_granted, take_id, with_walk_step, step_of, step, is_enabled, happens, run, IntoIter, DropTable, owner_call}
 use Rattle.thread_local_schedule.specs.Schedule.{move, is_clear, is_refused, is_granted_take, newcomer, IsReached, most_held}
 use Rattle.thread_local_core.specs.CoreFits.{CoreFits}
 use Rattle.thread_local_schedule.proofs.Kept.{happens-fits, run-fits}
@@ -22,6 +21,7 @@ use Rattle.thread_local_core.proofs.Parts.{put_same, made_core-fits}
 use Rattle.thread_local_core.proofs.CoreLaws.{installed_bound, never_missing}
 use Rattle.thread_local_core.proofs.SheetLaws.{moved_capacity}
 use Rattle.thread_local_schedule.proofs.Takes.{not_granted, within}
+use Rattle.thread_local_core.proofs.OptionLaws.{stays, some_step, some_and, none_enabled, makes_none}
 
 -- the invariant holds wherever a schedule leads
 pub fits : {V E : Type 0} (core : Core V E) → IsReached core → CoreFits core
@@ -30,11 +30,7 @@ fits core r = subst CoreFits r.leads (run-fits (made_core r.capacity r.extra) r.
 pub says : {V E : Type 0} (core : Core V E) (event : Event V E) → IsReached core → Says core event (is_enabled core event) (happens core event)
 says core event r = event_says core event (fits core r)
 
--- an event that isn't enabled changes nothing
-stays : {A : Type 0} (o : Option A) (a : A) → is_some o ≡ false → unwrap_or o a ≡ a
-stays None a none = refl
-stays (Some x) a none = cc
-
+-- an event that isn't enabled changes nothing, and none is once the table has ended
 pub idle : {V E : Type 0} (core : Core V E) (event : Event V E) → is_enabled core event ≡ false → happens core event ≡ core
 unfolding is_enabled happens
 idle core event none = stays (step core event) core none
@@ -43,11 +39,7 @@ pub ended : {V E : Type 0} (core : Core V E) (event : Event V E) → core.ended 
 unfolding is_enabled step
 ended core event e = rw e refl
 
--- an enabled event leads to what its step says
-some_step : {A : Type 0} (b : Bool) (o : Option A) → IsTrue (is_some (cond b None o)) → (b ≡ false) × IsTrue (is_some o)
-some_step true o t = absurd (false≢true t)
-some_step false o t = (refl, t)
-
+-- an event that is enabled leads to what its step says
 pub enabled_step : {V E : Type 0} (core : Core V E) (event : Event V E) → IsTrue (is_enabled core event) → IsTrue (is_some (step_of core event))
 unfolding is_enabled step
 enabled_step core event t = (some_step core.ended (step_of core event) t).1
@@ -67,9 +59,6 @@ taken core _ t = absurd (false≢true t)
 pub new_local : {V E : Type 0} (core : Core V E) (event : Event V E) → IsTrue (is_granted_take core event)
     → newcomer core event ≡ Some (fresh_local (least core.manager.held) (first_view (shadow core) (least core.manager.held)))
 new_local core event t = let done = taken core event t in ap (λ after. after.locals core.taken) done.1 ∙ put_same core.locals core.taken _
-
-pub some_and : {A : Type 0} (o : Option A) (x : A) (P : A → Type 0) → o ≡ Some x → P x → IsSomeAnd o P
-some_and o x P e p = subst (λ q. IsSomeAnd q P) (sym e) p
 
 pub least_taken : {V E : Type 0} (core : Core V E) (event : Event V E) → IsTrue (is_granted_take core event) → IsSomeAnd (newcomer core event) (λ local. local.id ≡ least (shadow core).held)
 least_taken core event t = some_and (newcomer core event) _ (λ local. local.id ≡ least core.manager.held) (new_local core event t) refl
@@ -117,15 +106,6 @@ pub within_capacity : {V E : Type 0} (core : Core V E) (refused : Bool) (growth 
     → is_refused core (TakeId refused growth) ≡ false
 within_capacity core refused growth h l = rw (within core.manager core.capacity refused h.manager l) (and_right (is_enabled core (TakeId refused growth)) false refl)
 
-makes_none : {V E : Type 0} (table : Table V) (local : Local V E) (refused : Bool) (doing : Doing V E) (learnt : Learnt V) → (learnt ≡ Missing → ⊥) → make_bucket table local refused doing learnt ≡ None
-makes_none table local true (Started create) Missing h = absurd (h refl)
-makes_none table local false (Started create) Missing h = absurd (h refl)
-makes_none table local refused _ _ h = refl
-
-pub none_enabled : {A : Type 0} (b : Bool) (o : Option A) → o ≡ None → is_some (cond b None o) ≡ false
-none_enabled true o e = refl
-none_enabled false o e = ap is_some e
-
 reserved_idle : {V E : Type 0} (core : Core V E) (n : ℕ) (local : Local V E) (refused : Bool) → CoreFits core → core.locals n ≡ Some local → IsTrue (is_reserved core.capacity local.id)
     → is_enabled core (OfLocal n (MakeBucket refused)) ≡ false
 unfolding is_enabled step local_step
@@ -157,3 +137,15 @@ adds core n step before after h t at e =
     added core n step (walk_step core.table before step) before after (walk_step-adds core.table before step (h.walks.each n before at))
     (rw at at (enabled_step core (OfWalk n step) t))
     (rw at at (ap (λ later. later.walks n) (sym (goes core (OfWalk n step) t)) ∙ e))
+
+-- a table that is consumed or dropped has ended
+ends : {V E : Type 0} (core : Core V E) (alone : Bool) → (IsTrue (is_some (owner_call core alone IntoIter)) → (unwrap_or (owner_call core alone IntoIter) core).ended ≡ true)
+    × (IsTrue (is_some (owner_call core alone DropTable)) → (unwrap_or (owner_call core alone DropTable) core).ended ≡ true)
+ends core true = (λ _. refl, λ _. refl)
+ends core false = (λ t. absurd (false≢true t), λ t. absurd (false≢true t))
+
+pub into_iter_ends : {V E : Type 0} (core : Core V E) → IsTrue (is_enabled core (Owner IntoIter)) → (happens core (Owner IntoIter)).ended ≡ true
+into_iter_ends core t = ap (λ after. after.ended) (goes core (Owner IntoIter) t) ∙ (ends core (is_alone core)).0 (enabled_step core (Owner IntoIter) t)
+
+pub drop_ends : {V E : Type 0} (core : Core V E) → IsTrue (is_enabled core (Owner DropTable)) → (happens core (Owner DropTable)).ended ≡ true
+drop_ends core t = ap (λ after. after.ended) (goes core (Owner DropTable) t) ∙ (ends core (is_alone core)).1 (enabled_step core (Owner DropTable) t)

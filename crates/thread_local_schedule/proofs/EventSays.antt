@@ -1,7 +1,7 @@
 use Rattle.std.proofs.Common.{◌≡◌, ℕ, suc, max, Bool, true, false, ◌&&◌, cond, [], length, Option, Some, None, is_some, IsTrue, IfSome, refl, ap, sym, ◌∙◌, subst, arith, ⊎_elim}
 use Rattle.std.specs.Prelude.{option_map, unwrap_or}
 use Rattle.std.proofs.lemmas.Option.{none-some}
-use Rattle.std.proofs.lemmas.Bool.{cond_both, false≢true}
+use Rattle.std.proofs.lemmas.Bool.{cond_both, false≢true, eqb-false}
 use Rattle.thread_local_model.specs.Held.{held_count, without}
 use Rattle.thread_local_model.specs.Sheet.{moved_if, IsAllowed}
 use Rattle.thread_local_steps.specs.Table.{Table, published}
@@ -14,12 +14,12 @@ use Rattle.thread_local_steps.proofs.LocalLaws.{local_step-fits}
 use Rattle.thread_local_steps.proofs.OwnerLaws.{published-rewritten}
 use Rattle.thread_local_core.specs.Core.{Core, shadow, put, is_alone}
 use Rattle.thread_local_schedule.specs.Events.{Event, TakeId, OfLocal, GiveBack, Forget, BeginWalk, OfWalk, EndWalk, Owner, OwnerCall, IterMut, Slots, ClearTable, IntoIter, DropTable, is_granted, take_id, with_step, of_local, give_back, forget, with_walk_step, of_walk, end_walk, owner_call, step_of, step, is_enabled, happens, is_idle, without_local, given_to}
-use Rattle.thread_local_schedule.specs.Schedule.{move_of, is_exclusive, is_clear}
+use Rattle.thread_local_schedule.specs.Schedule.{move_of, is_exclusive, is_clear, is_of}
 use Rattle.thread_local_core.proofs.HeldCounts.{peak_counts, held_count-le}
 use Rattle.thread_local_core.specs.CoreFits.{CoreFits}
-use Rattle.thread_local_core.proofs.Parts.{put_cases, still, kept_value, no_locals}
+use Rattle.thread_local_core.proofs.Parts.{put_cases, still, kept_value, no_locals, put_other}
 use Rattle.thread_local_core.proofs.CoreLaws.{same_goes_on, published_moves, publishing_allowed, none_made}
-use Rattle.thread_local_schedule.proofs.Kept.{if_enabled}
+use Rattle.thread_local_core.proofs.OptionLaws.{if_enabled}
 use Rattle.thread_local_model.proofs.HeldLaws as ids
 
 -- what an event that is enabled says of the core before it and after it
@@ -29,17 +29,20 @@ pub record EventSays {V E : Type 0} (core : Core V E) (event : Event V E) (after
   pub stays : is_exclusive event ≡ false → (id : ℕ) (v : V) → published core.table id ≡ Some v → published after.table id ≡ Some v
   pub names : is_exclusive event ≡ false → (bucket k : ℕ) → named core.table bucket ≡ Some k → named after.table bucket ≡ Some k
   pub goes_on : (n : ℕ) (before then : Local V E) → core.locals n ≡ Some before → after.locals n ≡ Some then → GoesOn before then
+  pub others : (n : ℕ) (local : Local V E) → is_of n event ≡ false → core.locals n ≡ Some local → after.locals n ≡ Some local
   pub peak : length after.manager.held ≡ cond (is_clear event) 0 (max (length core.manager.held) (held_count after.manager.held))
 
 -- an event that leaves the ids, the table and the Locals, but for one that may live no longer
 leaves : {V E : Type 0} (core : Core V E) (event : Event V E) (after : Core V E) → shadow after ≡ shadow core → move_of core event ≡ None → after.table ≡ core.table
-    → after.manager ≡ core.manager → is_clear event ≡ false → ((n : ℕ) (then : Local V E) → after.locals n ≡ Some then → core.locals n ≡ Some then) → EventSays core event after
-leaves core event after same none table manager clear locals = record {
+    → after.manager ≡ core.manager → is_clear event ≡ false → ((n : ℕ) (then : Local V E) → after.locals n ≡ Some then → core.locals n ≡ Some then)
+    → ((n : ℕ) (local : Local V E) → is_of n event ≡ false → core.locals n ≡ Some local → after.locals n ≡ Some local) → EventSays core event after
+leaves core event after same none table manager clear locals others = record {
   moves = rw none same;
   allowed = rw none tt;
   stays = λ _ id v e. ap (λ t. published t id) table ∙ e;
   names = λ _ bucket k e. ap (λ t. named t bucket) table ∙ e;
   goes_on = λ n before then e f. same_goes_on before then (sym e ∙ locals n then f);
+  others = others;
   peak = rw (clear, manager) (omega (arith, held_count-le core.manager.held));
 }
 
@@ -56,9 +59,10 @@ take_id-says core refused growth true e h = record {
       (λ at. let none = h.locals.none_from core.taken (omega arith) in let same = ap core.locals at.0 in cc)
       (λ apart. same_goes_on before then (sym p ∙ apart.1))
       (put_cases core.locals core.taken _ n then q);
+  others = λ n local _ at. put_other core.locals core.taken _ n (λ same. none-some local (sym (h.locals.none_from core.taken (omega arith)) ∙ ap core.locals same ∙ at)) ∙ at;
   peak = peak_counts core.manager.held;
 }
-take_id-says core refused growth false e h = leaves core (TakeId refused growth) core refl (rw e refl) refl refl refl (λ n then p. p)
+take_id-says core refused growth false e h = leaves core (TakeId refused growth) core refl (rw e refl) refl refl refl (λ n then p. p) (λ n local _ at. at)
 
 -- a step of a Local
 stepped-says : {V E : Type 0} (core : Core V E) (number : ℕ) (step : LocalStep V E) (local : Local V E) (after : Table V × Local V E) → core.locals number ≡ Some local
@@ -80,6 +84,7 @@ stepped-says core number step local after at s h =
           subst (λ b. GoesOn b then) first (subst (GoesOn local) last s.goes_on))
           (λ apart. same_goes_on before then (sym e ∙ apart.1))
           (put_cases core.locals number (Some after.1) n then f);
+      others = λ n other f e. put_other core.locals number (Some after.1) n (eqb-false number n f) ∙ e;
       peak = omega (arith, held_count-le core.manager.held);
     }
 
@@ -106,6 +111,7 @@ given_back-says core number local at h =
       stays = λ _ id v e. e;
       names = λ _ bucket k e. e;
       goes_on = λ n before then e f. same_goes_on before then (sym e ∙ (still core.locals number n then f).1);
+      others = λ n other f e. put_other core.locals number None n (eqb-false number n f) ∙ e;
       peak = omega (arith, ids.length-without core.manager.held local.id, held_count-le (without core.manager.held local.id));
     }
 
@@ -118,12 +124,13 @@ forget-says : {V E : Type 0} (core : Core V E) (number : ℕ) (o : Option (Local
 forget-says core number None = tt
 forget-says core number (Some local) =
     if_enabled (EventSays core (Forget number)) (is_idle local.doing) (without_local core number)
-    (leaves core (Forget number) (without_local core number) refl refl refl refl refl (λ n then f. (still core.locals number n then f).1))
+    (leaves core (Forget number) (without_local core number) refl refl refl refl refl (λ n then f. (still core.locals number n then f).1)
+    (λ n local f at. put_other core.locals number None n (eqb-false number n f) ∙ at))
 
 -- a walk's events
 with_walk_step-says : {V E : Type 0} (core : Core V E) (number : ℕ) (step : WalkStep) (o : Option (SharedWalk V)) → IfSome (with_walk_step core number o) (EventSays core (OfWalk number step))
 with_walk_step-says core number step None = tt
-with_walk_step-says core number step (Some walk) = leaves core (OfWalk number step) (record core { walks = put core.walks number (Some walk) }) refl refl refl refl refl (λ n then f. f)
+with_walk_step-says core number step (Some walk) = leaves core (OfWalk number step) (record core { walks = put core.walks number (Some walk) }) refl refl refl refl refl (λ n then f. f) (λ n local _ at. at)
 
 of_walk-says : {V E : Type 0} (core : Core V E) (number : ℕ) (step : WalkStep) (o : Option (SharedWalk V)) → IfSome (of_walk core number step o) (EventSays core (OfWalk number step))
 of_walk-says core number step None = tt
@@ -131,7 +138,7 @@ of_walk-says core number step (Some walk) = with_walk_step-says core number step
 
 end_walk-says : {V E : Type 0} (core : Core V E) (number : ℕ) (o : Option (SharedWalk V)) → IfSome (end_walk core number o) (EventSays core (EndWalk number))
 end_walk-says core number None = tt
-end_walk-says core number (Some walk) = leaves core (EndWalk number) (record core { walks = put core.walks number None }) refl refl refl refl refl (λ n then f. f)
+end_walk-says core number (Some walk) = leaves core (EndWalk number) (record core { walks = put core.walks number None }) refl refl refl refl refl (λ n then f. f) (λ n local _ at. at)
 
 -- an owner's call, where no Local lives
 no_local_goes_on : {V E : Type 0} (core : Core V E) (n : ℕ) (before then : Local V E) → CoreFits core → IsTrue (is_alone core) → core.locals n ≡ Some before → GoesOn before then
@@ -146,26 +153,28 @@ owner_call-says core true (IterMut others) e h = record {
   stays = λ ex. absurd (false≢true (sym ex));
   names = λ ex. absurd (false≢true (sym ex));
   goes_on = λ n before then at f. no_local_goes_on core n before then h e at;
+  others = λ n local _ at. absurd (none-some local (sym (no_locals core h e n) ∙ at));
   peak = omega (arith, held_count-le core.manager.held);
 }
-owner_call-says core true Slots e h = leaves core (Owner Slots) core refl refl refl refl refl (λ n then f. f)
+owner_call-says core true Slots e h = leaves core (Owner Slots) core refl refl refl refl refl (λ n then f. f) (λ n local _ at. at)
 owner_call-says core true ClearTable e h = record {
   moves = ap (λ values. record { held = []; values = values; capacity = 0 }) (none_made _ 0);
   allowed = tt;
   stays = λ ex. absurd (false≢true (sym ex));
   names = λ ex. absurd (false≢true (sym ex));
   goes_on = λ n before then at f. no_local_goes_on core n before then h e at;
+  others = λ n local _ at. absurd (none-some local (sym (no_locals core h e n) ∙ at));
   peak = refl;
 }
-owner_call-says core true IntoIter e h = leaves core (Owner IntoIter) (record core { ended = true }) refl refl refl refl refl (λ n then f. f)
-owner_call-says core true DropTable e h = leaves core (Owner DropTable) (record core { ended = true }) refl refl refl refl refl (λ n then f. f)
+owner_call-says core true IntoIter e h = leaves core (Owner IntoIter) (record core { ended = true }) refl refl refl refl refl (λ n then f. f) (λ n local _ at. at)
+owner_call-says core true DropTable e h = leaves core (Owner DropTable) (record core { ended = true }) refl refl refl refl refl (λ n then f. f) (λ n local _ at. at)
 
 step_of-says : {V E : Type 0} (core : Core V E) (event : Event V E) → CoreFits core → IfSome (step_of core event) (EventSays core event)
 step_of-says core (TakeId refused growth) h = take_id-says core refused growth (is_granted core.manager refused) refl h
 step_of-says core (OfLocal number step) h = of_local-says core number step (core.locals number) refl h
 step_of-says core (GiveBack number) h = give_back-says core number (core.locals number) refl h
 step_of-says core (Forget number) h = forget-says core number (core.locals number)
-step_of-says core BeginWalk h = leaves core BeginWalk (record core { walks = put core.walks core.walked (Some fresh_walk); walked = suc core.walked }) refl refl refl refl refl (λ n then f. f)
+step_of-says core BeginWalk h = leaves core BeginWalk (record core { walks = put core.walks core.walked (Some fresh_walk); walked = suc core.walked }) refl refl refl refl refl (λ n then f. f) (λ n local _ at. at)
 step_of-says core (OfWalk number step) h = of_walk-says core number step (core.walks number)
 step_of-says core (EndWalk number) h = end_walk-says core number (core.walks number)
 step_of-says core (Owner call) h = owner_call-says core (is_alone core) call refl h
@@ -177,6 +186,7 @@ pub record Says {V E : Type 0} (core : Core V E) (event : Event V E) (enabled : 
   pub stays : is_exclusive event ≡ false → (id : ℕ) (v : V) → published core.table id ≡ Some v → published after.table id ≡ Some v
   pub names : is_exclusive event ≡ false → (bucket k : ℕ) → named core.table bucket ≡ Some k → named after.table bucket ≡ Some k
   pub goes_on : (n : ℕ) (before then : Local V E) → core.locals n ≡ Some before → after.locals n ≡ Some then → GoesOn before then
+  pub others : (n : ℕ) (local : Local V E) → is_of n event ≡ false → core.locals n ≡ Some local → after.locals n ≡ Some local
   pub peak : length after.manager.held ≡ cond (enabled && is_clear event) 0 (max (length core.manager.held) (held_count after.manager.held))
 
 says_of : {V E : Type 0} (core : Core V E) (event : Event V E) (o : Option (Core V E)) → IfSome o (EventSays core event) → Says core event (is_some o) (unwrap_or o core)
@@ -186,9 +196,10 @@ says_of core event None s = record {
   stays = λ _ id v p. p;
   names = λ _ bucket k p. p;
   goes_on = λ n before then p f. same_goes_on before then (sym p ∙ f);
+  others = λ n local _ at. at;
   peak = omega (arith, held_count-le core.manager.held);
 }
-says_of core event (Some after) s = record { moves = s.moves; allowed = s.allowed; stays = s.stays; names = s.names; goes_on = s.goes_on; peak = s.peak }
+says_of core event (Some after) s = record { moves = s.moves; allowed = s.allowed; stays = s.stays; names = s.names; goes_on = s.goes_on; others = s.others; peak = s.peak }
 
 pub event_says : {V E : Type 0} (core : Core V E) (event : Event V E) → CoreFits core → Says core event (is_enabled core event) (happens core event)
 unfolding is_enabled happens step

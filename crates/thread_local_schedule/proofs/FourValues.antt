@@ -1,21 +1,26 @@
-use Rattle.std.proofs.Common.{◌≡◌, ℕ, zero, suc, [], ◌∷◌, None, IsTrue, refl, ap, arith}
+use Rattle.std.proofs.Common.{◌≡◌, ℕ, zero, suc, [], ◌∷◌, None, IsTrue, refl, ap, arith, subst, sym}
 use Rattle.std.specs.Prelude.{slice_get}
 use Rattle.thread_local_model.specs.Sheet.{new_sheet}
 use Rattle.thread_local_steps.proofs.TableLaws.{same_function}
 use Rattle.thread_local_schedule.proofs.Kept.{run-fits}
 use Rattle.thread_local_steps.specs.Table.{published}
 use Rattle.thread_local_core.specs.Core.{new_core, shadow}
-use Rattle.thread_local_schedule.specs.Events.{Owner, ClearTable, happens, is_enabled}
+use Rattle.thread_local_schedule.specs.Events.{Owner, ClearTable, happens, is_enabled, run}
 use Rattle.thread_local_schedule.specs.Story.{four_publish, after_publishing, after_all}
 use Rattle.thread_local_core.proofs.Parts.{made_core-fits}
 use Rattle.thread_local_core.proofs.CoreLaws.{none_if, none_made}
 use Rattle.thread_local_schedule.proofs.FourLocals.{by_steps, four_held, clears}
+use Rattle.thread_local_core.specs.CoreFits.{CoreFits}
 
 module _ (T F : Type 0) (a b c d : T) where
   -- four are held, so nothing is published above id 3
+  reached : after_publishing {V = T} {E = F} a b c d ≡ run new_core (four_publish a b c d)
+  unfolding after_publishing
+  reached = refl
+
   none_above : (id : ℕ) → published (after_publishing {V = T} {E = F} a b c d).table (suc (suc (suc (suc id)))) ≡ None
   none_above id =
-      let h = run-fits {V = T} {E = F} new_core (four_publish a b c d) (made_core-fits 0 0 (omega arith)) in
+      let h = subst CoreFits (sym reached) (run-fits new_core (four_publish a b c d) (made_core-fits 0 0 (omega arith))) in
       none_if (published (after_publishing {V = T} {E = F} a b c d).table (suc (suc (suc (suc id)))))
       (λ v e. let low = h.table.below (suc (suc (suc (suc id)))) v e in omega (arith, four_held T F a b c d))
 

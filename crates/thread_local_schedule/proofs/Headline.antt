@@ -1,5 +1,4 @@
-use Rattle.std.proofs.Common.{◌≡◌, ℕ, ◌-◌, ◌*◌, ◌^◌, ◌<◌, ◌≤◌, Bool, true, false, cond, List, [], ◌∷◌, length, Option, Some, None, IsTrue, refl, ap, ◌∙◌, arith, ⊎_elim}
-use Rattle.std.specs.Prelude.{option_map}
+use Rattle.std.proofs.Common.{◌≡◌, ℕ, ◌-◌, ◌*◌, ◌^◌, ◌<◌, ◌≤◌, Bool, false, List, [], ◌∷◌, length, Option, Some, None, IsTrue, refl, ap, ◌∙◌, arith, ⊎_elim}
 use Rattle.std.proofs.lemmas.Bool.{cases_Bool, cond_both, lt-ltb, and_left, and_right}
 use Rattle.thread_local_model.specs.Held.{held_count}
 use Rattle.thread_local_model.specs.Sheet.{Move, Take, Give, Publish, Clear}
@@ -13,17 +12,14 @@ use Rattle.thread_local_core.proofs.HeldCounts.{held_below}
 use Rattle.thread_local_core.specs.CoreFits.{CoreFits}
 use Rattle.thread_local_schedule.proofs.Kept.{happens-fits, run-fits}
 use Rattle.thread_local_schedule.proofs.EventSays.{event_says}
-use Rattle.thread_local_schedule.proofs.Clauses.{run_capacity, within_capacity, none_enabled, reserved}
+use Rattle.thread_local_schedule.proofs.Clauses.{run_capacity, within_capacity, reserved}
 use Rattle.thread_local_core.proofs.Parts.{made_core-fits}
 use Rattle.thread_local_core.proofs.CoreLaws.{installed_bound}
 use Rattle.thread_local_core.proofs.SheetLaws.{moved_peak, same_peak, same_capacity}
+use Rattle.thread_local_core.proofs.OptionLaws.{not_mapped, not_if, none_enabled}
 use Rattle.thread_local_model.proofs.CapacityLaws as reserve
 
--- of the moves, a step of a Local is at most one that publishes, and a give back at most one that gives
-not_mapped : {A B : Type 0} (o : Option A) (f : A → B) (b : B) → ((a : A) → f a ≡ b → ⊥) → option_map f o ≡ Some b → ⊥
-not_mapped None f b other e = cc
-not_mapped (Some a) f b other e = let same : f a ≡ b = cc in other a same
-
+-- of the moves, a step of a Local is at most one that publishes
 not_published : {V E : Type 0} (o : Option (Local V E)) (step : LocalStep V E) (m : Move V) → ((id : ℕ) (v : V) → Publish id v ≡ m → ⊥) → publishing o step ≡ Some m → ⊥
 not_published None step m other e = cc
 not_published (Some local) step m other e = not_mapped (value_set local.doing step) (λ v. Publish local.id v) m (λ v. other local.id v) e
@@ -44,10 +40,6 @@ no_clear core (GiveBack number) f e = not_mapped (core.locals number) (λ local.
 no_clear core (Owner (IterMut others)) f e = cc
 no_clear core (Owner ClearTable) f e = cc
 no_clear core _ f e = cc
-
-not_if : {A : Type 0} (b : Bool) (o : Option A) (a : A) → (o ≡ Some a → ⊥) → cond b o None ≡ Some a → ⊥
-not_if true o a h e = h e
-not_if false o a h e = cc
 
 -- so where each take comes while fewer than p ids are held, the peak stays within p
 event_peak : {V E : Type 0} (p : ℕ) (core : Core V E) (event : Event V E) → CoreFits core → (IsTrue (is_take event) → held_count core.manager.held < p) → peak core ≤ p → peak (happens core event) ≤ p

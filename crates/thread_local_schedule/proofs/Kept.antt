@@ -15,6 +15,7 @@ use Rattle.thread_local_core.proofs.HeldCounts.{peak_after}
 use Rattle.thread_local_core.specs.CoreFits.{CoreFits}
 use Rattle.thread_local_core.proofs.Parts.{locals_put, locals_removed, given-ManagerFits, peak-TableFits, held_stays, least_held, fresh-LiveFits, stepped-fits, walks_put, came_before, no_locals, no_walks, rewritten-TableFits, made_core-fits}
 use Rattle.thread_local_schedule.proofs.Takes.{granted_some, taken-ManagerFits}
+use Rattle.thread_local_core.proofs.OptionLaws.{if_enabled, unwrapped}
 use Rattle.thread_local_model.proofs.HeldLaws as ids
 
 pub take_id-fits : {V E : Type 0} (core : Core V E) (growth : ℕ) → is_exhausted core.manager ≡ false → CoreFits core → CoreFits (take_id core growth)
@@ -80,11 +81,6 @@ forgotten-fits core number h = record {
   locals = locals_removed core.table core.manager.held core.capacity core.locals core.taken number (λ n other apart e. h.locals.each n other e) h.locals.unshared h.locals.none_from;
   walks = h.walks;
 }
-
--- what holds where a test does
-pub if_enabled : {A : Type 0} (P : A → Type 0) (b : Bool) (x : A) → P x → IfSome (cond b (Some x) None) P
-if_enabled P true x p = p
-if_enabled P false x p = tt
 
 give_back-fits : {V E : Type 0} (core : Core V E) (number : ℕ) (o : Option (Local V E)) → core.locals number ≡ o → CoreFits core → IfSome (give_back core number o) CoreFits
 give_back-fits core number None at h = tt
@@ -158,10 +154,6 @@ step_of-fits core BeginWalk h = begin_walk-fits core h
 step_of-fits core (OfWalk number step) h = of_walk-fits core number step (core.walks number) refl h
 step_of-fits core (EndWalk number) h = end_walk-fits core number (core.walks number) refl h
 step_of-fits core (Owner call) h = owner_call-fits core (is_alone core) call refl h
-
-unwrapped : {A : Type 0} (P : A → Type 0) (o : Option A) (a : A) → IfSome o P → P a → P (unwrap_or o a)
-unwrapped P None a s h = h
-unwrapped P (Some x) a s h = s
 
 -- every event keeps the invariant
 pub happens-fits : {V E : Type 0} (core : Core V E) (event : Event V E) → CoreFits core → CoreFits (happens core event)

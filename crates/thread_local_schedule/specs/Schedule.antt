@@ -1,10 +1,10 @@
-use Rattle.std.specs.Prelude.{◌≡◌, ℕ, ◌^◌, ◌<◌, max, Bool, true, false, not, ◌&&◌, List, [], ◌∷◌, Option, Some, None, option_map, IsTrue, ⊤, if◌then◌else◌}
+use Rattle.std.specs.Prelude.{◌≡◌, ℕ, ◌^◌, ◌<◌, max, Bool, true, false, not, ◌&&◌, List, [], ◌∷◌, Option, Some, None, option_map, IsTrue, ⊤, ◌==◌, if◌then◌else◌}
 use Rattle.thread_local_model.specs.Held.{held_count}
 use Rattle.thread_local_model.specs.Sheet.{Move, Take, Give, Publish, Rewrite, Clear}
 use Rattle.thread_local_steps.specs.Local.{Local, LocalStep, MakeBucket}
 use Rattle.thread_local_steps.specs.Fits.{value_set}
 use Rattle.thread_local_core.specs.Core.{Core, made_core}
-use Rattle.thread_local_schedule.specs.Events.{Event, TakeId, OfLocal, GiveBack, Owner, IterMut, ClearTable, is_granted, is_enabled, happens, run}
+use Rattle.thread_local_schedule.specs.Events.{Event, TakeId, OfLocal, GiveBack, Forget, Owner, IterMut, ClearTable, is_granted, is_enabled, happens, run}
 
 -- what a step of a Local publishes
 abbrev pub publishing : {V E : Type 0} → Option (Local V E) → LocalStep V E → Option (Move V)
@@ -37,6 +37,13 @@ is_exclusive event = false
 abbrev pub is_clear : {V E : Type 0} → Event V E → Bool
 is_clear (Owner ClearTable) = true
 is_clear event = false
+
+-- whether an event is a step, the give back or the forgetting of this Local
+abbrev pub is_of : {V E : Type 0} → ℕ → Event V E → Bool
+is_of n (OfLocal number step) = number == n
+is_of n (GiveBack number) = number == n
+is_of n (Forget number) = number == n
+is_of n event = false
 
 -- whether an enabled event ends in a refusal: a take that gets no id, a bucket that gets no memory
 abbrev pub refuses : {V E : Type 0} → Core V E → Event V E → Bool

@@ -17,37 +17,37 @@ abbrev pub publishes_beside : {V E : Type 0} → ℕ → V → List (Event V E)
 publishes_beside number value = steps_of number (BeginGetOr (Ok value) ∷ LoadWord ∷ LookAtFlag ∷ WriteValue ∷ SetFlag ∷ [])
 
 -- four Locals are taken, and then publish one after another, with no refusal
-abbrev pub four_publish : {V E : Type 0} → V → V → V → V → List (Event V E)
+unfoldable pub four_publish : {V E : Type 0} → V → V → V → V → List (Event V E)
 four_publish a b c d =
     TakeId false 0 ∷ TakeId false 0 ∷ TakeId false 0 ∷ TakeId false 0 ∷ []
     ++ publishes_first 0 a ++ publishes_first 1 b ++ publishes_beside 2 c ++ publishes_first 3 d
 
 -- a walk goes on, by a load or a look, whichever comes next, this many times
-abbrev pub walk_on : {V E : Type 0} → ℕ → ℕ → List (Event V E)
+unfoldable pub walk_on : {V E : Type 0} → ℕ → ℕ → List (Event V E)
 walk_on number zero = []
 walk_on number (suc n) = OfWalk number Load ∷ OfWalk number Look ∷ walk_on number n
 
 -- a walk begins and is run to its end
-abbrev pub whole_walk : {V E : Type 0} → List (Event V E)
+unfoldable pub whole_walk : {V E : Type 0} → List (Event V E)
 whole_walk = BeginWalk ∷ walk_on 0 70
 
 -- the four give their ids back
-abbrev pub four_give_back : {V E : Type 0} → List (Event V E)
+unfoldable pub four_give_back : {V E : Type 0} → List (Event V E)
 four_give_back = GiveBack 0 ∷ GiveBack 1 ∷ GiveBack 2 ∷ GiveBack 3 ∷ []
 
 -- the core of a new table after each part of that
-abbrev pub after_publishing : {V E : Type 0} → V → V → V → V → Core V E
+unfoldable pub after_publishing : {V E : Type 0} → V → V → V → V → Core V E
 after_publishing a b c d = run new_core (four_publish a b c d)
 
-abbrev pub after_walking : {V E : Type 0} → V → V → V → V → Core V E
+unfoldable pub after_walking : {V E : Type 0} → V → V → V → V → Core V E
 after_walking a b c d = run (after_publishing a b c d) whole_walk
 
-abbrev pub after_giving_back : {V E : Type 0} → V → V → V → V → Core V E
+unfoldable pub after_giving_back : {V E : Type 0} → V → V → V → V → Core V E
 after_giving_back a b c d = run (after_walking a b c d) (EndWalk 0 ∷ four_give_back)
 
--- the next Local is taken, gets what its slot holds, and gives its id back
-abbrev pub after_next : {V E : Type 0} → V → V → V → V → Core V E
-after_next a b c d = run (after_giving_back a b c d) (TakeId false 0 ∷ steps_of 4 (BeginGet ∷ LoadWord ∷ LookAtFlag ∷ Reply ∷ []))
+-- the next Local is taken, gets what its slot holds, offers another value, and gives its id back
+unfoldable pub after_next : {V E : Type 0} → V → V → V → V → Core V E
+after_next a b c d = run (after_giving_back a b c d) (TakeId false 0 ∷ steps_of 4 (BeginGet ∷ LoadWord ∷ LookAtFlag ∷ Reply ∷ BeginGetOr (Ok b) ∷ Reply ∷ []))
 
-abbrev pub after_all : {V E : Type 0} → V → V → V → V → Core V E
+unfoldable pub after_all : {V E : Type 0} → V → V → V → V → Core V E
 after_all a b c d = run (after_next a b c d) (GiveBack 4 ∷ [])

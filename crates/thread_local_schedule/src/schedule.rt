@@ -1,130 +1,170 @@
-ghost use Rattle.std.specs.Prelude.{◌≡◌, ℕ, ◌+◌, ◌-◌, ◌*◌, ◌^◌, ◌<◌, ◌≤◌, ◌⊎◌, max, true, false, List, [], ◌∷◌, length, map, Contains, Option, Some, None, slice_get, IsTrue, IfSome, IsSomeAnd};
+ghost use Rattle.std.specs.Prelude.{◌≡◌, ℕ, ◌+◌, ◌-◌, ◌*◌, ◌^◌, ◌<◌, ◌≤◌, ◌⊎◌, max, Bool, true, false, List, [], ◌∷◌, length, map, Contains, Option, Some, None, slice_get, IsTrue, IfSome, IsSomeAnd};
 ghost use Rattle.std.specs.List.Sorted.{IsStrictlyIncreasing};
 ghost use Rattle.thread_local_model.specs.Held.{is_held, least, held_count, HoldsAllBelow};
 ghost use Rattle.thread_local_model.specs.Walk.{walk};
 ghost use Rattle.thread_local_model.specs.Capacity.{is_reserved};
 ghost use Rattle.thread_local_model.specs.Sheet.{new_sheet, moved_if, IsAllowed};
-ghost use Rattle.thread_local_model.specs.Answers.{Found, Refused, answers};
+ghost use Rattle.thread_local_model.specs.Answers.{Found, Answered, Refused, answers};
 ghost use Rattle.thread_local_steps.specs.Local.{Local, MakeBucket};
-ghost use Rattle.thread_local_steps.specs.OwnerWalk.{owner_walk};
 ghost use Rattle.thread_local_steps.specs.SharedWalk.{SharedWalk, WalkStep, is_complete};
+ghost use Rattle.thread_local_steps.specs.OwnerWalk.{owner_walk};
 ghost use Rattle.thread_local_steps.specs.Fits.{IsWritten, GoesOn, named};
 ghost use Rattle.thread_local_steps.specs.WalkFits.{Adds};
 ghost use Rattle.thread_local_core.specs.Core.{Core, made_core, new_core, shadow, installed_slots, first_view, peak, private_slots};
-ghost use Rattle.thread_local_schedule.specs.Events.{Event, TakeId, OfLocal, OfWalk, Owner, IterMut, ClearTable, is_enabled, happens, run};
-ghost use Rattle.thread_local_schedule.specs.Schedule.{move, is_exclusive, is_refused, is_granted_take, newcomer, IsReached, most_held, TakesBelow, NoneTaken, NothingRefused, NeverCleared};
+ghost use Rattle.thread_local_schedule.specs.Events.{Event, TakeId, OfLocal, OfWalk, Owner, IterMut, ClearTable, IntoIter, DropTable, is_enabled, happens, run};
+ghost use Rattle.thread_local_schedule.specs.Schedule.{move, is_exclusive, is_of, is_refused, is_granted_take, newcomer, IsReached, most_held, TakesBelow, NoneTaken, NothingRefused, NeverCleared};
 ghost use Rattle.thread_local_schedule.specs.Story.{after_publishing, after_walking, after_next, after_all};
 
-/// What holds of a table over every schedule.
+/// What holds of a table over every schedule of atomic steps, from a table of `new` and from one of each capacity
+/// below 2^63: each `Local` gets the least id not held; a slot's first published value stays until an owner has
+/// the table alone; that owner walks exactly the published values, each once, by ascending id; and with at most p
+/// ids held at once a table from `new` has installed at most 2p - 1 slots, and one of a capacity of p or more
+/// refuses nothing.
+///
+/// A clause that begins with a core that is reached holds after every event of every schedule.
 pub fn every_schedule<V, E>()
-    // The sheet that users see goes by its moves. An event that isn't enabled changes nothing.
+    // The sheet that users see goes by its moves, and an event that isn't enabled changes nothing.
     ensures moves { (core : Core V E) (event : Event V E) → IsReached core
         → shadow (happens core event) ≡ moved_if (shadow core) (move core event) }
-    ensures allowed { (core : Core V E) (event : Event V E) → IsReached core → IfSome (move core event) (IsAllowed (shadow core)) }
-    ensures idle { (core : Core V E) (event : Event V E) → is_enabled core event ≡ false → happens core event ≡ core }
-    ensures ended { (core : Core V E) (event : Event V E) → core.ended ≡ true → is_enabled core event ≡ false }
+    ensures allowed { (core : Core V E) (event : Event V E) → IsReached core
+        → IfSome (move core event) (IsAllowed (shadow core)) }
+    ensures idle { (core : Core V E) (event : Event V E)
+        → is_enabled core event ≡ false → happens core event ≡ core }
 
-    // Each Local gets the least id that isn't held, and no two that live share one.
-    ensures least { (core : Core V E) (event : Event V E) → IsReached core → IsTrue (is_granted_take core event)
+    // Each Local gets the least id that isn't held. Its id is held while it lives, by no other Local.
+    ensures least { (core : Core V E) (event : Event V E) → IsReached core
+        → IsTrue (is_granted_take core event)
         → IsSomeAnd (newcomer core event) (λ local. local.id ≡ least (shadow core).held) }
+    ensures held { (core : Core V E) (n : ℕ) (local : Local V E) → IsReached core
+        → core.locals n ≡ Some local → IsTrue (is_held (shadow core).held local.id) }
     ensures unshared { (core : Core V E) (m n : ℕ) (a b : Local V E) → IsReached core
         → core.locals m ≡ Some a → core.locals n ≡ Some b → a.id ≡ b.id → m ≡ n }
-    ensures held { (core : Core V E) (n : ℕ) (local : Local V E) → IsReached core → core.locals n ≡ Some local
-        → IsTrue (is_held (shadow core).held local.id) }
 
-    // A slot's first published value stays until an owner's call. An owner's walk gives the published values.
-    ensures first_values_stay { (core : Core V E) (event : Event V E) (id : ℕ) (v : V) → IsReached core → is_exclusive event ≡ false
+    // A slot's first published value stays until an owner's call, and an owner's walk gives the published values.
+    ensures first_values_stay { (core : Core V E) (event : Event V E) (id : ℕ) (v : V) → IsReached core
+        → is_exclusive event ≡ false
         → (shadow core).values id ≡ Some v → (shadow (happens core event)).values id ≡ Some v }
-    ensures owner_walk { (core : Core V E) → IsReached core → owner_walk core.table ≡ walk (shadow core).values }
+    ensures owner_walk { (core : Core V E) → IsReached core
+        → owner_walk core.table ≡ walk (shadow core).values }
 
-    // A slot whose flag is set holds the value that was written. A word that names a bucket goes on naming it.
+    // A slot whose flag is set holds what was written, and a word that names a bucket names it until an owner's call.
     ensures flagged { (core : Core V E) (bucket index : ℕ) → IsReached core → index < 2 ^ bucket
         → IfSome (core.table.words bucket) (λ here. IsWritten (here.slots index)) }
-    ensures words { (core : Core V E) (event : Event V E) (bucket number : ℕ) → IsReached core → is_exclusive event ≡ false
+    ensures words { (core : Core V E) (event : Event V E) (bucket number : ℕ) → IsReached core
+        → is_exclusive event ≡ false
         → named core.table bucket ≡ Some number → named (happens core event).table bucket ≡ Some number }
 
-    // A Local's answers are those of what its slot held when its id was taken, and of its own calls.
-    ensures start { (core : Core V E) (event : Event V E) → IsReached core → IsTrue (is_granted_take core event)
-        → IsSomeAnd (newcomer core event) (λ local. (local.start ≡ first_view (shadow core) local.id) × (local.calls ≡ [])) }
-    ensures answers { (core : Core V E) (n : ℕ) (local : Local V E) → IsReached core → core.locals n ≡ Some local
-        → local.answers ≡ answers local.start local.calls }
+    // A Local begins with what its slot holds when its id is taken. Its answers are those of that view and of its
+    // own calls, which only its own events add to, one at a time.
+    ensures start { (core : Core V E) (event : Event V E) → IsReached core
+        → IsTrue (is_granted_take core event)
+        → IsSomeAnd (newcomer core event)
+        (λ local. (local.start ≡ first_view (shadow core) local.id) × (local.calls ≡ [])) }
+    ensures answers { (core : Core V E) (n : ℕ) (local : Local V E) → IsReached core
+        → core.locals n ≡ Some local → local.answers ≡ answers local.start local.calls }
     ensures goes_on { (core : Core V E) (event : Event V E) (n : ℕ) (before after : Local V E) → IsReached core
         → core.locals n ≡ Some before → (happens core event).locals n ≡ Some after → GoesOn before after }
+    ensures others { (core : Core V E) (event : Event V E) (n : ℕ) (local : Local V E) → IsReached core
+        → is_of n event ≡ false
+        → core.locals n ≡ Some local → (happens core event).locals n ≡ Some local }
 
     // After `clear` the sheet is that of `new`, and the next Local gets id 0 and finds nothing.
     ensures cleared { (core : Core V E) → IsReached core → IsTrue (is_enabled core (Owner ClearTable))
         → shadow (happens core (Owner ClearTable)) ≡ new_sheet }
-    ensures after_clear { (core : Core V E) (events : List (Event V E)) (event : Event V E) → IsReached core → IsTrue (is_enabled core (Owner ClearTable))
-        → NoneTaken (happens core (Owner ClearTable)) events → IsTrue (is_granted_take (run (happens core (Owner ClearTable)) events) event)
-        → IsSomeAnd (newcomer (run (happens core (Owner ClearTable)) events) event)
+    ensures after_clear { (core : Core V E) (events : List (Event V E)) (event : Event V E) → IsReached core
+        → IsTrue (is_enabled core (Owner ClearTable))
+        → let cleared = happens core (Owner ClearTable) in
+        NoneTaken cleared events → IsTrue (is_granted_take (run cleared events) event)
+        → IsSomeAnd (newcomer (run cleared events) event)
         (λ local. (local.id ≡ 0) × (local.start ≡ record { value = None; known = false })) }
 
-    // The peak is the most ids held at one moment, and each id lies below it.
+    // After `into_iter` or the drop no event is enabled.
+    ensures into_iter_ends { (core : Core V E) → IsTrue (is_enabled core (Owner IntoIter))
+        → (happens core (Owner IntoIter)).ended ≡ true }
+    ensures drop_ends { (core : Core V E) → IsTrue (is_enabled core (Owner DropTable))
+        → (happens core (Owner DropTable)).ended ≡ true }
+    ensures ended { (core : Core V E) (event : Event V E)
+        → core.ended ≡ true → is_enabled core event ≡ false }
+
+    // The peak is the most ids held at one moment, and each id that is given lies below it.
     ensures peak { (capacity extra : ℕ) (events : List (Event V E)) → capacity < 2 ^ 63
         → peak (run (made_core capacity extra) events) ≡ most_held 0 (made_core capacity extra) events }
-    ensures below_peak { (core : Core V E) (n : ℕ) (local : Local V E) → IsReached core → core.locals n ≡ Some local → local.id < peak core }
+    ensures below_peak { (core : Core V E) (n : ℕ) (local : Local V E) → IsReached core
+        → core.locals n ≡ Some local → local.id < peak core }
 
-    // The slots that are installed, made and not offered yet, and published are bounded by the peak.
-    ensures slots_of_new { (events : List (Event V E)) → installed_slots (run new_core events) ≤ 2 * peak (run new_core events) - 1 }
-    ensures no_slots { (events : List (Event V E)) → peak (run new_core events) ≡ 0 → installed_slots (run new_core events) ≡ 0 }
+    // The slots that are installed, those made and not offered yet, and the values are bounded by the peak.
+    ensures slots_of_new { (events : List (Event V E))
+        → installed_slots (run new_core events) ≤ 2 * peak (run new_core events) - 1 }
+    ensures no_slots { (events : List (Event V E))
+        → peak (run new_core events) ≡ 0 → installed_slots (run new_core events) ≡ 0 }
     ensures slots_of_capacity { (capacity extra : ℕ) (events : List (Event V E)) → capacity < 2 ^ 63
-        → installed_slots (run (made_core capacity extra) events) ≤ 2 * max capacity (peak (run (made_core capacity extra) events)) - 1 }
-    ensures private_slots { (core : Core V E) (n : ℕ) (local : Local V E) → IsReached core → core.locals n ≡ Some local
-        → private_slots local.id local.doing ≤ peak core }
+        → installed_slots (run (made_core capacity extra) events)
+        ≤ 2 * max capacity (peak (run (made_core capacity extra) events)) - 1 }
+    ensures private_slots { (core : Core V E) (n : ℕ) (local : Local V E) → IsReached core
+        → core.locals n ≡ Some local → private_slots local.id local.doing ≤ peak core }
     ensures published { (core : Core V E) → IsReached core → length (walk (shadow core).values) ≤ peak core }
 
-    // A take is refused only where all ids are held, or where all below the peak are, no room is left, and memory is
-    // refused. Within the capacity none is, and no publishing at a reserved id.
-    ensures refused_take { (core : Core V E) (refused : _) (growth : ℕ) → IsReached core → IsTrue (is_refused core (TakeId refused growth))
+    // A take is refused only where all ids are held, or where all below the peak are, no room is left and memory is
+    // refused. Within the capacity no take is, and no publishing at a reserved id.
+    ensures refused_take { (core : Core V E) (refused : Bool) (growth : ℕ) → IsReached core
+        → IsTrue (is_refused core (TakeId refused growth))
         → HoldsAllBelow (2 ^ 63 - 1) (shadow core).held
         ⊎ (HoldsAllBelow (peak core) (shadow core).held × (peak core ≡ core.manager.room) × IsTrue refused) }
-    ensures within_capacity { (core : Core V E) (refused : _) (growth : ℕ) → IsReached core
-        → held_count (shadow core).held < (shadow core).capacity → is_refused core (TakeId refused growth) ≡ false }
-    ensures reserved { (core : Core V E) (n : ℕ) (local : Local V E) (refused : _) → IsReached core → core.locals n ≡ Some local
-        → IsTrue (is_reserved (shadow core).capacity local.id) → is_refused core (OfLocal n (MakeBucket refused)) ≡ false }
-    ensures reserved_answers { (core : Core V E) (n : ℕ) (local : Local V E) → IsReached core → core.locals n ≡ Some local
-        → IsTrue (is_reserved (shadow core).capacity local.id) → Contains local.answers Refused → ⊥ }
+    ensures within_capacity { (core : Core V E) (refused : Bool) (growth : ℕ) → IsReached core
+        → held_count (shadow core).held < (shadow core).capacity
+        → is_refused core (TakeId refused growth) ≡ false }
+    ensures reserved { (core : Core V E) (n : ℕ) (local : Local V E) (refused : Bool) → IsReached core
+        → core.locals n ≡ Some local → IsTrue (is_reserved (shadow core).capacity local.id)
+        → is_refused core (OfLocal n (MakeBucket refused)) ≡ false }
+    ensures reserved_answers { (core : Core V E) (n : ℕ) (local : Local V E) → IsReached core
+        → core.locals n ≡ Some local → IsTrue (is_reserved (shadow core).capacity local.id)
+        → Contains local.answers Refused → ⊥ }
 
     // Where each take comes while fewer than p ids are held, a table from `new` has installed at most 2p - 1 slots,
-    // and one made with a capacity of p or more, and never cleared, refuses nothing.
-    ensures bounded { (p : ℕ) (events : List (Event V E)) → TakesBelow p new_core events → installed_slots (run new_core events) ≤ 2 * p - 1 }
-    ensures refuses_nothing { (capacity extra p : ℕ) (events : List (Event V E)) → capacity < 2 ^ 63 → p ≤ capacity
-        → TakesBelow p (made_core capacity extra) events → NeverCleared events → NothingRefused (made_core capacity extra) events }
+    // and one of a capacity of p or more that is never cleared refuses nothing.
+    ensures bounded { (p : ℕ) (events : List (Event V E)) → TakesBelow p new_core events
+        → installed_slots (run new_core events) ≤ 2 * p - 1 }
+    ensures refuses_nothing { (capacity extra p : ℕ) (events : List (Event V E)) → capacity < 2 ^ 63
+        → p ≤ capacity → TakesBelow p (made_core capacity extra) events → NeverCleared events
+        → NothingRefused (made_core capacity extra) events }
 
-    // Four Locals publish in a new table. A walk gives the four values, the next Local finds the first, an owner's
-    // walk gives the four, and `clear` leaves the sheet of `new`.
-    ensures four_values { (a b c d : V) → (shadow (after_publishing {E = E} a b c d)).values ≡ slice_get (a ∷ b ∷ c ∷ d ∷ []) }
+    // Four Locals publish in a new table. A walk gives the four values; the next Local finds the first and keeps it;
+    // an owner's walk gives the four; and `clear` leaves the sheet of `new`.
+    ensures four_values { (a b c d : V)
+        → (shadow (after_publishing {E = E} a b c d)).values ≡ slice_get (a ∷ b ∷ c ∷ d ∷ []) }
     ensures seven_slots { (a b c d : V) → installed_slots (after_publishing {E = E} a b c d) ≡ 7 }
     ensures walk_of_four { (a b c d : V) → IsSomeAnd ((after_walking {E = E} a b c d).walks 0)
         (λ walk. IsTrue (is_complete walk) × (walk.given ≡ (0, a) ∷ (1, b) ∷ (2, c) ∷ (3, d) ∷ [])) }
     ensures next_of_four { (a b c d : V) → IsSomeAnd ((after_next {E = E} a b c d).locals 4)
-        (λ local. (local.id ≡ 0) × (local.start.value ≡ Some a) × (local.answers ≡ Found (Some a) ∷ [])) }
-    ensures owner_of_four { (a b c d : V) (others : ℕ → V → V) → IsTrue (is_enabled (after_all {E = E} a b c d) (Owner (IterMut others)))
+        (λ local. (local.id ≡ 0) × (local.start.value ≡ Some a)
+        × (local.answers ≡ Found (Some a) ∷ Answered a ∷ [])) }
+    ensures owner_of_four { (a b c d : V) (others : ℕ → V → V)
+        → IsTrue (is_enabled (after_all {E = E} a b c d) (Owner (IterMut others)))
         × (owner_walk (after_all {E = E} a b c d).table ≡ a ∷ b ∷ c ∷ d ∷ []) }
-    ensures clear_of_four { (a b c d : V) → IsTrue (is_enabled (after_all {E = E} a b c d) (Owner ClearTable))
+    ensures clear_of_four { (a b c d : V)
+        → IsTrue (is_enabled (after_all {E = E} a b c d) (Owner ClearTable))
         × (shadow (happens (after_all {E = E} a b c d) (Owner ClearTable)) ≡ new_sheet) }
 {}
 
-/// What holds of a shared walk over every schedule, whatever comes between its steps.
+/// What holds of a shared walk over every schedule, whatever comes between its steps: a complete one gives every
+/// value that was published at its first load, and only published ones, by strictly ascending id; it reads each
+/// slot at most once, and loads words at most 63 times and once more for each value given.
 pub fn every_walk<V, E>()
-    // Its record: what was published at its first load, what it gave, what it read, and how often it loaded a word.
+    // Its record: what was published at its first load, what it gave and read, and how often it loaded a word.
     ensures adds { (core : Core V E) (n : ℕ) (step : WalkStep) (before after : SharedWalk V) → IsReached core
-        → IsTrue (is_enabled core (OfWalk n step)) → core.walks n ≡ Some before → (happens core (OfWalk n step)).walks n ≡ Some after
+        → IsTrue (is_enabled core (OfWalk n step))
+        → core.walks n ≡ Some before → (happens core (OfWalk n step)).walks n ≡ Some after
         → Adds core.table step before after }
-
-    // A complete walk gives every value that was published at its first load.
-    ensures complete { (core : Core V E) (n : ℕ) (walk : SharedWalk V) → IsReached core → core.walks n ≡ Some walk → IsTrue (is_complete walk)
+    ensures complete { (core : Core V E) (n : ℕ) (walk : SharedWalk V) → IsReached core
+        → core.walks n ≡ Some walk → IsTrue (is_complete walk)
         → (id : ℕ) (v : V) → walk.first id ≡ Some v → Contains walk.given (id, v) }
-
-    // It gives only published values, by strictly ascending id, and reads each slot at most once.
-    ensures published { (core : Core V E) (n : ℕ) (walk : SharedWalk V) → IsReached core → core.walks n ≡ Some walk
+    ensures published { (core : Core V E) (n : ℕ) (walk : SharedWalk V) → IsReached core
+        → core.walks n ≡ Some walk
         → (id : ℕ) (v : V) → Contains walk.given (id, v) → (shadow core).values id ≡ Some v }
-    ensures ascending { (core : Core V E) (n : ℕ) (walk : SharedWalk V) → IsReached core → core.walks n ≡ Some walk
-        → IsStrictlyIncreasing (map (λ pair. pair.0) walk.given) }
-    ensures reads_once { (core : Core V E) (n : ℕ) (walk : SharedWalk V) → IsReached core → core.walks n ≡ Some walk
-        → IsStrictlyIncreasing walk.read }
-
-    // It loads words at most 63 times and once for each value given.
-    ensures loads { (core : Core V E) (n : ℕ) (walk : SharedWalk V) → IsReached core → core.walks n ≡ Some walk
-        → walk.loads ≤ 63 + length walk.given }
+    ensures ascending { (core : Core V E) (n : ℕ) (walk : SharedWalk V) → IsReached core
+        → core.walks n ≡ Some walk → IsStrictlyIncreasing (map (λ pair. pair.0) walk.given) }
+    ensures reads_once { (core : Core V E) (n : ℕ) (walk : SharedWalk V) → IsReached core
+        → core.walks n ≡ Some walk → IsStrictlyIncreasing walk.read }
+    ensures loads { (core : Core V E) (n : ℕ) (walk : SharedWalk V) → IsReached core
+        → core.walks n ≡ Some walk → walk.loads ≤ 63 + length walk.given }
 {}

@@ -1,4 +1,4 @@
-pub mod FirstPublishing
+pub mod FirstCalls
 pub mod TableLaws
 pub mod LocalLaws
 pub mod WalkStepLaws

@@ -151,3 +151,10 @@ local_step table local Reply = reply table local local.doing local.learnt
 unfoldable pub local_steps : {V E : Type 0} → Table V → Local V E → List (LocalStep V E) → Option (Table V × Local V E)
 local_steps table local [] = Some (table, local)
 local_steps table local (step ∷ steps) = option_and_then (λ after. local_steps after.0 after.1 steps) (local_step table local step)
+
+-- five calls, one after another: refused memory, ended by the closure's error, publishing, a get, and one more offer
+abbrev pub five_calls : {V E : Type 0} → V → V → E → List (LocalStep V E)
+five_calls v w e =
+    BeginGetOr (Ok v) ∷ LoadWord ∷ MakeBucket true ∷ []
+    ++ BeginGetOr (Err e) ∷ MakeBucket false ∷ InstallBucket ∷ WriteValue ∷ []
+    ++ BeginGetOr (Ok v) ∷ WriteValue ∷ SetFlag ∷ BeginGet ∷ Reply ∷ BeginGetOr (Ok w) ∷ Reply ∷ []

@@ -1,7 +1,7 @@
-ghost use Rattle.std.specs.Prelude.{◌≡◌, ℕ, ◌∷◌, [], Ok, Some, None, false, IfSome, IsSomeAnd};
-ghost use Rattle.thread_local_model.specs.Answers.{Answered};
+ghost use Rattle.std.specs.Prelude.{◌≡◌, ℕ, ◌∷◌, [], Some, None, false, IfSome, IsSomeAnd};
+ghost use Rattle.thread_local_model.specs.Answers.{Found, Answered, Refused, Failed};
 ghost use Rattle.thread_local_steps.specs.Table.{Table, made_table, published};
-ghost use Rattle.thread_local_steps.specs.Local.{Local, LocalStep, BeginGetOr, LoadWord, MakeBucket, InstallBucket, WriteValue, SetFlag, fresh_local, local_step, local_steps};
+ghost use Rattle.thread_local_steps.specs.Local.{Local, LocalStep, fresh_local, local_step, local_steps, five_calls};
 ghost use Rattle.thread_local_steps.specs.Fits.{AllWritten, LocalFits, ChangesOnly, StepFits, value_set};
 
 /// What each step of a `Local` keeps, whatever other `Local`s did before it.
@@ -13,10 +13,9 @@ pub fn every_local_step<V, E>()
     ensures others { (old new : Table V) (id : ℕ) (local : Local V E)
         → ChangesOnly old new id → (id ≡ local.id → ⊥) → LocalFits old local → LocalFits new local }
 
-    // In a new table a Local with no refusal publishes what its closure answers.
-    ensures publishes { (v : V)
-        → IsSomeAnd
-        (local_steps (made_table 0) (fresh_local {E = E} 0 (record { value = None; known = false }))
-        (BeginGetOr (Ok v) ∷ LoadWord ∷ MakeBucket false ∷ InstallBucket ∷ WriteValue ∷ SetFlag ∷ []))
-        (λ after. (published after.0 0 ≡ Some v) × (after.1.answers ≡ Answered v ∷ [])) }
+    // In a new table a Local is refused memory, hands on an error, publishes, and answers that value from then on.
+    ensures answers { (v w : V) (e : E)
+        → IsSomeAnd (local_steps (made_table 0) (fresh_local 0 (record { value = None; known = false })) (five_calls v w e))
+        (λ after. (published after.0 0 ≡ Some v)
+        × (after.1.answers ≡ Refused ∷ Failed e ∷ Answered v ∷ Found (Some v) ∷ Answered v ∷ [])) }
 {}

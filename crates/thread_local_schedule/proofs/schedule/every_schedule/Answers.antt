@@ -20,17 +20,14 @@ returns-clause-allowed g c = λ core event r. (clause.says core event r).allowed
 pub returns-clause-idle : goal.returns-clause-idle
 returns-clause-idle g c = clause.idle
 
-pub returns-clause-ended : goal.returns-clause-ended
-returns-clause-ended g c = clause.ended
-
 pub returns-clause-least : goal.returns-clause-least
 returns-clause-least g c = λ core event r. clause.least_taken core event
 
-pub returns-clause-unshared : goal.returns-clause-unshared
-returns-clause-unshared g c = λ core m n a b r. (clause.fits core r).locals.unshared m n a b
-
 pub returns-clause-held : goal.returns-clause-held
 returns-clause-held g c = λ core n local r at. ((clause.fits core r).locals.each n local at).id_held
+
+pub returns-clause-unshared : goal.returns-clause-unshared
+returns-clause-unshared g c = λ core m n a b r. (clause.fits core r).locals.unshared m n a b
 
 pub returns-clause-first_values_stay : goal.returns-clause-first_values_stay
 returns-clause-first_values_stay g c = λ core event id v r quiet. (clause.says core event r).stays quiet id v
@@ -53,11 +50,23 @@ returns-clause-answers g c = λ core n local r at. ((clause.fits core r).locals.
 pub returns-clause-goes_on : goal.returns-clause-goes_on
 returns-clause-goes_on g c = λ core event n before after r. (clause.says core event r).goes_on n before after
 
+pub returns-clause-others : goal.returns-clause-others
+returns-clause-others g c = λ core event n local r. (clause.says core event r).others n local
+
 pub returns-clause-cleared : goal.returns-clause-cleared
 returns-clause-cleared g c = clause.cleared
 
 pub returns-clause-after_clear : goal.returns-clause-after_clear
 returns-clause-after_clear g c = later.after_clear
+
+pub returns-clause-into_iter_ends : goal.returns-clause-into_iter_ends
+returns-clause-into_iter_ends g c = clause.into_iter_ends
+
+pub returns-clause-drop_ends : goal.returns-clause-drop_ends
+returns-clause-drop_ends g c = clause.drop_ends
+
+pub returns-clause-ended : goal.returns-clause-ended
+returns-clause-ended g c = clause.ended
 
 pub returns-clause-peak : goal.returns-clause-peak
 returns-clause-peak g c = λ capacity extra events l. clause.peak_run (made_core capacity extra) events 0 (made_core-fits capacity extra l) refl

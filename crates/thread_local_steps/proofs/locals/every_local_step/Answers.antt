@@ -1,4 +1,4 @@
-use Rattle.thread_local_steps.proofs.FirstPublishing as first
+use Rattle.thread_local_steps.proofs.FirstCalls as first
 use Rattle.thread_local_steps.proofs.LocalLaws as laws
 use Rattle.thread_local_steps.proofs.locals.every_local_step.Goals as goal
 
@@ -8,5 +8,5 @@ returns-clause-fits g c = laws.local_step-fits
 pub returns-clause-others : goal.returns-clause-others
 returns-clause-others g c = laws.other_fits
 
-pub returns-clause-publishes : goal.returns-clause-publishes
-returns-clause-publishes g c = first.publishes _ _
+pub returns-clause-answers : goal.returns-clause-answers
+returns-clause-answers g c = first.answers_come _ _

@@ -1,0 +1,46 @@
+use Rattle.std.proofs.Common.{◌≡◌, Bool, true, false, cond, Option, Some, None, IsTrue, refl, ap, is_some, IfSome, IsSomeAnd, sym, subst}
+use Rattle.std.specs.Prelude.{option_map, unwrap_or}
+use Rattle.std.proofs.lemmas.Bool.{false≢true}
+use Rattle.thread_local_steps.specs.Local.{Local, Doing, Started, Learnt, Missing, make_bucket}
+use Rattle.thread_local_steps.specs.Table.{Table}
+
+-- what is mapped to another value, or is behind a test, is not this one
+pub not_mapped : {A B : Type 0} (o : Option A) (f : A → B) (b : B) → ((a : A) → f a ≡ b → ⊥) → option_map f o ≡ Some b → ⊥
+not_mapped None f b other e = cc
+not_mapped (Some a) f b other e = let same : f a ≡ b = cc in other a same
+
+pub not_if : {A : Type 0} (b : Bool) (o : Option A) (a : A) → (o ≡ Some a → ⊥) → cond b o None ≡ Some a → ⊥
+not_if true o a h e = h e
+not_if false o a h e = cc
+
+-- where there is none, the other stays
+pub stays : {A : Type 0} (o : Option A) (a : A) → is_some o ≡ false → unwrap_or o a ≡ a
+stays None a none = refl
+stays (Some x) a none = cc
+
+-- where there is one behind a test, the test fails and it is there
+pub some_step : {A : Type 0} (b : Bool) (o : Option A) → IsTrue (is_some (cond b None o)) → (b ≡ false) × IsTrue (is_some o)
+some_step true o t = absurd (false≢true t)
+some_step false o t = (refl, t)
+
+pub some_and : {A : Type 0} (o : Option A) (x : A) (P : A → Type 0) → o ≡ Some x → P x → IsSomeAnd o P
+some_and o x P e p = subst (λ q. IsSomeAnd q P) (sym e) p
+
+-- a Local that hasn't learnt that its word is empty makes no bucket
+pub makes_none : {V E : Type 0} (table : Table V) (local : Local V E) (refused : Bool) (doing : Doing V E) (learnt : Learnt V) → (learnt ≡ Missing → ⊥) → make_bucket table local refused doing learnt ≡ None
+makes_none table local true (Started create) Missing h = absurd (h refl)
+makes_none table local false (Started create) Missing h = absurd (h refl)
+makes_none table local refused _ _ h = refl
+
+pub none_enabled : {A : Type 0} (b : Bool) (o : Option A) → o ≡ None → is_some (cond b None o) ≡ false
+none_enabled true o e = refl
+none_enabled false o e = ap is_some e
+
+-- what holds of what a test lets through, and of what is there or else of the other
+pub if_enabled : {A : Type 0} (P : A → Type 0) (b : Bool) (x : A) → P x → IfSome (cond b (Some x) None) P
+if_enabled P true x p = p
+if_enabled P false x p = tt
+
+pub unwrapped : {A : Type 0} (P : A → Type 0) (o : Option A) (a : A) → IfSome o P → P a → P (unwrap_or o a)
+unwrapped P None a s h = h
+unwrapped P (Some x) a s h = s
