@@ -3,7 +3,7 @@
 
     tools/schedules.py                      a clause that fails is printed with its schedule
     tools/schedules.py --wrong              tries each wrong body in turn: some clause must fail for it
-    tools/schedules.py --seed 7 --runs 2000 --events 120
+    tools/schedules.py --buckets 4 --seed 7 --runs 2000 --events 120
 
 The definitions stand in table_model.py, under the names of the specs. Each clause of the theorem is a
 function here. Nothing is proved: this finds a clause that is false, or that says too little, before a proof
@@ -16,7 +16,7 @@ import sys
 from dataclasses import dataclass, replace
 
 import table_model as model
-from table_model import BUCKETS, IDS, Core, Slot, View, bucket_of, held_count, is_held, is_reserved, least, live_local, live_walk, new_core, new_sheet
+from table_model import Core, Slot, View, bucket_of, held_count, is_held, is_reserved, least, live_local, live_walk, new_core, new_sheet
 
 
 @dataclass
@@ -44,11 +44,11 @@ def walking(core):
 
 
 def is_granted_take(m):
-    return m.event[0] == "Take" and model.is_enabled(m.before, m.event) and not model.is_refused(m.before, m.event)
+    return m.event[0] == "TakeId" and model.is_enabled(m.before, m.event) and not model.is_refused(m.before, m.event)
 
 
 def is_clear(m):
-    return m.event == ("Owner", ("Clear",)) and model.is_enabled(m.before, m.event)
+    return m.event == ("Owner", ("ClearTable",)) and model.is_enabled(m.before, m.event)
 
 
 def clause_moves(m):
@@ -116,6 +116,17 @@ def clause_history(m):
     return True
 
 
+def clause_others(m):
+    """Only a Local's own events change it."""
+    own = m.event[1] if m.event[0] in ("OfLocal", "GiveBack", "Forget") else None
+    return all(n == own or live_local(m.after, n) == it for n, it in live(m.before))
+
+
+def clause_ends(m):
+    ends = m.event in (("Owner", ("IntoIter",)), ("Owner", ("DropTable",))) and model.is_enabled(m.before, m.event)
+    return m.after.ended == (m.before.ended or ends)
+
+
 def clause_cleared(m):
     return not is_clear(m) or model.shadow(m.after) == new_sheet()
 
@@ -123,7 +134,7 @@ def clause_cleared(m):
 def clause_after_clear(m):
     if not is_clear(m):
         return True
-    made = live_local(model.happens(m.after, ("Take", False, 0)), len(m.after.locals))
+    made = live_local(model.happens(m.after, ("TakeId", False, 0)), len(m.after.locals))
     return made is not None and made.id == 0 and made.start == View(None, False)
 
 
@@ -133,6 +144,10 @@ def clause_peak(m):
 
 def clause_below_peak(m):
     return all(it.id < len(m.after.held) for _, it in live(m.after))
+
+
+def clause_room(m):
+    return len(m.after.held) <= m.after.room
 
 
 def clause_slots(m):
@@ -149,28 +164,28 @@ def clause_published(m):
 
 def clause_refusals(m):
     """A take is refused only where no room is left and memory was refused, or where no id is left."""
-    if m.event[0] != "Take" or not model.is_refused(m.before, m.event):
+    if m.event[0] != "TakeId" or not model.is_refused(m.before, m.event):
         return True
     core = m.before
-    return held_count(core.held) == IDS or (all(core.held) and len(core.held) == core.room and m.event[1])
+    return held_count(core.held) == model.IDS or (all(core.held) and len(core.held) == core.room and m.event[1])
 
 
 def clause_within_capacity(m):
     sheet = model.shadow(m.before)
-    return not (m.event[0] == "Take" and held_count(sheet.held) < sheet.capacity and model.is_refused(m.before, m.event))
+    return not (m.event[0] == "TakeId" and held_count(sheet.held) < sheet.capacity and model.is_refused(m.before, m.event))
 
 
 def clause_reserved(m):
     if m.event[0] == "OfLocal" and model.is_refused(m.before, m.event):
         return not is_reserved(model.shadow(m.before).capacity, m.before.locals[m.event[1]].id)
-    return all(("Memory",) not in it.answers for _, it in live(m.after) if is_reserved(model.shadow(m.after).capacity, it.id))
+    return all(("Refused",) not in it.answers for _, it in live(m.after) if is_reserved(model.shadow(m.after).capacity, it.id))
 
 
 def clause_answered(m):
     """Want of memory is answered by the step that was refused memory, and by no other."""
     for n, it in live(m.before):
         then = live_local(m.after, n)
-        told = then is not None and then.answers != it.answers and then.answers[-1] == ("Memory",)
+        told = then is not None and then.answers != it.answers and then.answers[-1] == ("Refused",)
         if told != (m.event[0] == "OfLocal" and m.event[1] == n and model.is_refused(m.before, m.event)):
             return False
     return True
@@ -210,7 +225,7 @@ def clause_walk_reads(m):
 
 
 def clause_walk_loads(m):
-    return all(it.loads <= BUCKETS + len(it.given) for _, it in walking(m.after))
+    return all(it.loads <= model.BUCKETS + len(it.given) for _, it in walking(m.after))
 
 
 def clause_walk_first(m):
@@ -254,7 +269,7 @@ def publishes(number, value, missing):
 def story():
     """Four Locals publish in a new table, a walk gives the four, and the next Local finds the first again."""
     four = ["a", "b", "c", "d"]
-    core = model.run(new_core(), [("Take", False, 0)] * 4)
+    core = model.run(new_core(), [("TakeId", False, 0)] * 4)
     for k in range(4):
         core = model.run(core, publishes(k, four[k], k in (0, 1, 3)))
     if model.walk(model.shadow(core).values) != four or model.shadow(core).values[:4] != tuple(four):
@@ -267,14 +282,16 @@ def story():
     it = live_walk(core, 0)
     if it is None or not model.is_complete(it) or list(reversed(it.given)) != list(enumerate(four)):
         return "the walk gives the four"
-    core = model.run(core, [("EndWalk", 0)] + [("GiveBack", k) for k in range(4)] + [("Take", False, 0)])
+    core = model.run(core, [("EndWalk", 0)] + [("GiveBack", k) for k in range(4)] + [("TakeId", False, 0)])
+    calls = [("BeginGet",), ("LoadWord",), ("LookAtFlag",), ("Reply",), ("BeginGetOr", ("Ok", "b")), ("Reply",)]
+    core = model.run(core, [("OfLocal", 4, it) for it in calls])
     it = live_local(core, 4)
-    if it is None or it.id != 0 or it.start.value != "a":
+    if it is None or it.id != 0 or it.start.value != "a" or it.answers != (("Found", "a"), ("Answered", "a")):
         return "the next finds the first value"
     core = model.happens(core, ("GiveBack", 4))
     if not model.is_enabled(core, ("Owner", ("IterMut", Rewriter(0)))) or model.owner_walk(core.table) != four:
         return "the owner's walk gives the four"
-    core = model.happens(core, ("Owner", ("Clear",)))
+    core = model.happens(core, ("Owner", ("ClearTable",)))
     return None if model.shadow(core) == new_sheet() else "clear leaves the sheet of new"
 
 
@@ -308,7 +325,7 @@ def random_event(chance, core, mark):
     walk_number = chance.choice(walks) if walks else chance.randrange(len(core.walks) + 1)
     kind = chance.random()
     if kind < 0.06:
-        return ("Take", chance.random() < 0.4, chance.choice([0, 0, 1, 2]))
+        return ("TakeId", chance.random() < 0.4, chance.choice([0, 0, 1, 2]))
     if kind < 0.70:
         return ("OfLocal", number, any_step(chance, mark))
     if kind < 0.74:
@@ -327,7 +344,7 @@ def random_event(chance, core, mark):
 def owner_call(chance, mark):
     if chance.random() < 0.05:
         return (chance.choice(["IntoIter", "DropTable"]),)
-    return chance.choice([("IterMut", Rewriter(mark)), ("Slots",), ("Clear",)])
+    return chance.choice([("IterMut", Rewriter(mark)), ("Slots",), ("ClearTable",)])
 
 
 def quiet_events(chance, core):
@@ -350,7 +367,7 @@ def kind_of(event):
 def one_schedule(seed, length, seen):
     """Runs one schedule and returns the first clause that fails, with the events up to there."""
     chance = random.Random(seed)
-    capacity = chance.choice([0, 0, 0, 1, 2, 3, 4, IDS])
+    capacity = chance.choice([0, 0, 0, 1, 2, 3, 4, model.IDS])
     core = model.made_core(capacity, chance.choice([0, 0, 1, 3]))
     most, bound, cleared, events, waiting = 0, 0, False, [], []
     for mark in range(length):
@@ -361,13 +378,13 @@ def one_schedule(seed, length, seen):
             if not model.is_enabled(core, event) and not waiting and chance.random() < 0.9:
                 event = random_event(chance, core, mark)
         events.append(event)
-        if event[0] == "Take":
+        if event[0] == "TakeId":
             bound = max(bound, held_count(core.held) + 1)
         after = model.happens(core, event)
         if model.is_enabled(core, event):
             name = ("refused " if model.is_refused(core, event) else "") + kind_of(event)
             seen[name] = seen.get(name, 0) + 1
-            if event == ("Owner", ("Clear",)):
+            if event == ("Owner", ("ClearTable",)):
                 cleared, most = True, 0
         most = max(most, held_count(after.held))
         moment = Moment(capacity, core, event, after, most, bound, cleared)
@@ -402,7 +419,7 @@ def wrong_bodies():
 
     def fresh_id(core, refused, growth):
         identity = len(core.held)
-        if not model.is_granted(core, refused) or identity >= IDS:
+        if not model.is_granted(core, refused) or identity >= model.IDS:
             return core
         after = right["take"](replace(core, held=(True,) * identity), refused, growth)
         return replace(after, held=core.held + (True,))
@@ -421,7 +438,7 @@ def wrong_bodies():
     def write_last(table, local):
         if local.doing[0] == "Written":
             value = local.doing[1]
-            told = model.ended_call(local, ("GetOr", ("Ok", value), False), ("Value", value), ("Holding", value), ("Gets", 0))
+            told = model.ended_call(local, ("GetOr", ("Ok", value), False), ("Answered", value), ("Holding", value), ("Gets", 0))
             return model.with_slot(table, local.id, Slot(value, True)), told
 
     def overwrites(table, local):
@@ -432,12 +449,12 @@ def wrong_bodies():
 
     def stops_early(table, it):
         after = right["walk_load"](table, it)
-        return after if after is None or model.stands(table, it.bucket) else replace(after, bucket=BUCKETS)
+        return after if after is None or model.stands(table, it.bucket) else replace(after, bucket=model.BUCKETS)
 
     def installs_two(table, local):
         after = right["install_bucket"](table, local)
         b = bucket_of(local.id) + 1
-        if after is not None and b < BUCKETS and not model.stands(table, b):
+        if after is not None and b < model.BUCKETS and not model.stands(table, b):
             return model.with_word(after[0], b, model.fresh_bucket(b, table.made)), after[1]
         return after
 
@@ -452,7 +469,7 @@ def wrong_bodies():
         return after
 
     def leaves_last(table):
-        return [model.value_of(it) for named in table.words[: BUCKETS - 1] if named for it in named.slots if it.flag]
+        return [model.value_of(it) for named in table.words[: model.BUCKETS - 1] if named for it in named.slots if it.flag]
 
     def keeps_held(core, number):
         return model.forget(core, number)
@@ -508,8 +525,10 @@ def main():
     words.add_argument("--seed", type=int, default=1)
     words.add_argument("--runs", type=int, default=2000)
     words.add_argument("--events", type=int, default=250)
+    words.add_argument("--buckets", type=int, default=3)
     words.add_argument("--wrong", action="store_true")
     given = words.parse_args()
+    model.set_buckets(given.buckets)
     if given.wrong:
         sys.exit(1 if try_wrong_bodies(given.seed, given.runs, given.events) else 0)
     failed, events, seen, count = try_runs(given.seed, given.runs, given.events)

@@ -1,13 +1,18 @@
 """The table's model, under the names of the specs, with few buckets so that all ids can be held.
 
-Each event of a schedule is a tuple: ("Take", refused, growth), ("OfLocal", number, step), ("GiveBack", number),
+Each event of a schedule is a tuple: ("TakeId", refused, growth), ("OfLocal", number, step), ("GiveBack", number),
 ("Forget", number), ("BeginWalk",), ("OfWalk", number, step), ("EndWalk", number), ("Owner", call).
 """
 
-from dataclasses import dataclass, replace
+from dataclasses import dataclass, field, replace
 
 BUCKETS = 3
 IDS = 2**BUCKETS - 1
+
+
+def set_buckets(buckets):
+    global BUCKETS, IDS
+    BUCKETS, IDS = buckets, 2**buckets - 1
 
 
 # ---- places, held ids, capacity ------------------------------------------------------------------------
@@ -50,12 +55,12 @@ def binary_digits(n):
     return 0 if n == 0 else bucket_of(n - 1) + 1
 
 
-def reserved(capacity):
+def reserved_slots(capacity):
     return 2 ** binary_digits(capacity) - 1
 
 
 def is_reserved(capacity, identity):
-    return identity < reserved(capacity)
+    return identity < reserved_slots(capacity)
 
 
 # ---- sheet and moves -----------------------------------------------------------------------------------
@@ -120,10 +125,10 @@ def answer(view, call):
         return ("Found", view.value)
     _, create, refused = call
     if view.value is not None:
-        return ("Value", view.value)
+        return ("Answered", view.value)
     if refused and not view.known:
-        return ("Memory",)
-    return ("Value", create[1]) if create[0] == "Ok" else ("Create", create[1])
+        return ("Refused",)
+    return ("Answered", create[1]) if create[0] == "Ok" else ("Failed", create[1])
 
 
 def view_after(view, call):
@@ -220,7 +225,7 @@ class Walk:
     bucket: int = 0
     index: int = 0
     looks: bool = False
-    first: tuple = (None,) * IDS
+    first: tuple = field(default_factory=lambda: (None,) * IDS)
     given: tuple = ()  # newest first, pairs of id and value
     read: tuple = ()
     loads: int = 0
@@ -268,9 +273,9 @@ def is_granted(core, refused):
     return not (is_exhausted(core) or (is_full(core) and refused))
 
 
-def view_at(core, identity):
-    value = published(core.table, identity)
-    return View(value, is_reserved(core.capacity, identity) or value is not None)
+def first_view(sheet, identity):
+    value = sheet.values[identity]
+    return View(value, is_reserved(sheet.capacity, identity) or value is not None)
 
 
 def take(core, refused, growth):
@@ -278,7 +283,7 @@ def take(core, refused, growth):
         return core
     identity = least(core.held)
     held = with_least(core.held)
-    fresh = Local(identity, ("Unknown",), ("Gets", 0), view_at(core, identity))
+    fresh = Local(identity, ("Unknown",), ("Gets", 0), first_view(shadow(core), identity))
     return replace(core, held=held, room=max(core.room, len(held)) + growth, locals=core.locals + (fresh,))
 
 
@@ -317,7 +322,7 @@ def make_bucket(table, local, refused):
     match local.doing, local.learnt:
         case ("Started", create), ("Missing",):
             if refused:
-                return table, ended_call(local, ("GetOr", create, True), ("Memory",), ("Missing",), ("Gets", 0))
+                return table, ended_call(local, ("GetOr", create, True), ("Refused",), ("Missing",), ("Gets", 0))
             return replace(table, made=table.made + 1), replace(local, doing=("Private", create, table.made))
 
 
@@ -335,7 +340,7 @@ def write_value(table, local):
             slot = replace(slot_at(table, local.id), written=value)
             return with_slot(table, local.id, slot), replace(local, doing=("Written", value))
         case ("Started", ("Err", error)), ("Vacant",):
-            return table, ended_call(local, ("GetOr", ("Err", error), False), ("Create", error), ("Vacant",), ("Gets", 0))
+            return table, ended_call(local, ("GetOr", ("Err", error), False), ("Failed", error), ("Vacant",), ("Gets", 0))
 
 
 def set_flag(table, local):
@@ -343,7 +348,7 @@ def set_flag(table, local):
         case ("Written", value):
             slot = replace(slot_at(table, local.id), flag=True)
             call = ("GetOr", ("Ok", value), False)
-            return with_slot(table, local.id, slot), ended_call(local, call, ("Value", value), ("Holding", value), ("Gets", 0))
+            return with_slot(table, local.id, slot), ended_call(local, call, ("Answered", value), ("Holding", value), ("Gets", 0))
 
 
 def found(learnt):
@@ -360,7 +365,7 @@ def reply(table, local):
             return table, ended_call(local, ("Get",), ("Found", found(local.learnt)[0]), local.learnt, ("Gets", count - 1))
         case ("Started", create) if local.learnt[0] == "Holding":
             value = local.learnt[1]
-            return table, ended_call(local, ("GetOr", create, False), ("Value", value), local.learnt, ("Gets", 0))
+            return table, ended_call(local, ("GetOr", create, False), ("Answered", value), local.learnt, ("Gets", 0))
 
 
 LOCAL_STEPS = {
@@ -394,15 +399,19 @@ def local_step(core, number, step):
     return with_local(replace(core, table=after[0]), number, after[1])
 
 
+def is_idle(doing):
+    return doing == ("Gets", 0)
+
+
 def give_back(core, number):
     local = live_local(core, number)
-    if local is not None and local.doing == ("Gets", 0):
+    if local is not None and is_idle(local.doing):
         return with_local(replace(core, held=without(core.held, local.id)), number, None)
 
 
 def forget(core, number):
     local = live_local(core, number)
-    if local is not None and local.doing == ("Gets", 0):
+    if local is not None and is_idle(local.doing):
         return with_local(core, number, None)
 
 
@@ -506,7 +515,7 @@ def owner_call(core, call):
             return replace(core, table=rewritten(core.table, others))
         case ("Slots",):
             return core
-        case ("Clear",):
+        case ("ClearTable",):
             return cleared(core)
         case ("IntoIter",) | ("DropTable",):
             return replace(core, ended=True)
@@ -517,7 +526,7 @@ def step(core, event):
     if core.ended:
         return None
     match event:
-        case ("Take", refused, growth):
+        case ("TakeId", refused, growth):
             return take(core, refused, growth)
         case ("OfLocal", number, it):
             return local_step(core, number, it)
@@ -559,7 +568,7 @@ def is_refused(core, event):
     if not is_enabled(core, event):
         return False
     match event:
-        case ("Take", refused, _):
+        case ("TakeId", refused, _):
             return not is_granted(core, refused)
         case ("OfLocal", _, ("MakeBucket", refused)):
             return refused
@@ -571,7 +580,7 @@ def move_of(core, event):
     if not is_enabled(core, event):
         return ("Stay",)
     match event:
-        case ("Take", refused, _):
+        case ("TakeId", refused, _):
             return ("Take",) if is_granted(core, refused) else ("Stay",)
         case ("OfLocal", number, ("SetFlag",)):
             local = core.locals[number]
@@ -580,6 +589,6 @@ def move_of(core, event):
             return ("Give", core.locals[number].id)
         case ("Owner", ("IterMut", others)):
             return ("Rewrite", others)
-        case ("Owner", ("Clear",)):
+        case ("Owner", ("ClearTable",)):
             return ("Clear",)
     return ("Stay",)
