@@ -4,5 +4,4 @@ pub mod EventSays
 pub mod Kept
 pub mod Clauses
 pub mod Headline
-pub mod AfterClear
 pub mod FourValues

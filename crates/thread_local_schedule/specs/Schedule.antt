@@ -25,15 +25,17 @@ move_of core event = None
 abbrev pub move : {V E : Type 0} → Core V E → Event V E → Option (Move V)
 move core event = if is_enabled core event then move_of core event else None
 
--- whether an event is a take, an owner's call, a clear
+-- whether an event is a take
 abbrev pub is_take : {V E : Type 0} → Event V E → Bool
 is_take (TakeId refused growth) = true
 is_take event = false
 
+-- whether an event is an owner's call
 abbrev pub is_exclusive : {V E : Type 0} → Event V E → Bool
 is_exclusive (Owner call) = true
 is_exclusive event = false
 
+-- whether an event is a clear
 abbrev pub is_clear : {V E : Type 0} → Event V E → Bool
 is_clear (Owner ClearTable) = true
 is_clear event = false
@@ -71,16 +73,21 @@ pub record IsReached {V E : Type 0} (core : Core V E) : Type 0 where
   pub bounded : capacity < 2 ^ 63
   pub leads : run (made_core capacity extra) events ≡ core
 
+-- the most ids held at one moment, once an event has come: this many before it
+abbrev pub most_after : {V E : Type 0} → ℕ → Core V E → Event V E → ℕ
+most_after most core event =
+    if is_enabled core event && is_clear event then 0 else max most (held_count (happens core event).manager.held)
+
 -- the most ids held at one moment since the table was made or cleared: this many before these events
 abbrev pub most_held : {V E : Type 0} → ℕ → Core V E → List (Event V E) → ℕ
 most_held most core [] = most
-most_held most core (event ∷ events) =
-    most_held (if is_enabled core event && is_clear event then 0 else max most (held_count (happens core event).manager.held)) (happens core event) events
+most_held most core (event ∷ events) = most_held (most_after most core event) (happens core event) events
 
 -- each take of a schedule comes while fewer than this many ids are held
 abbrev pub TakesBelow : {V E : Type 0} → ℕ → Core V E → List (Event V E) → Type 0
 TakesBelow bound core [] = ⊤
-TakesBelow bound core (event ∷ events) = (IsTrue (is_take event) → held_count core.manager.held < bound) × TakesBelow bound (happens core event) events
+TakesBelow bound core (event ∷ events) =
+    (IsTrue (is_take event) → held_count core.manager.held < bound) × TakesBelow bound (happens core event) events
 
 -- no event of a schedule gives an id to a Local
 abbrev pub NoneTaken : {V E : Type 0} → Core V E → List (Event V E) → Type 0

@@ -9,10 +9,12 @@ abbrev pub steps_of : {V E : Type 0} → ℕ → List (LocalStep V E) → List (
 steps_of number [] = []
 steps_of number (step ∷ steps) = OfLocal number step ∷ steps_of number steps
 
--- a publishing call whose bucket is missing, and one whose bucket stands
+-- a publishing call whose bucket is missing
 abbrev pub publishes_first : {V E : Type 0} → ℕ → V → List (Event V E)
-publishes_first number value = steps_of number (BeginGetOr (Ok value) ∷ LoadWord ∷ MakeBucket false ∷ InstallBucket ∷ WriteValue ∷ SetFlag ∷ [])
+publishes_first number value =
+    steps_of number (BeginGetOr (Ok value) ∷ LoadWord ∷ MakeBucket false ∷ InstallBucket ∷ WriteValue ∷ SetFlag ∷ [])
 
+-- a publishing call whose bucket stands
 abbrev pub publishes_beside : {V E : Type 0} → ℕ → V → List (Event V E)
 publishes_beside number value = steps_of number (BeginGetOr (Ok value) ∷ LoadWord ∷ LookAtFlag ∷ WriteValue ∷ SetFlag ∷ [])
 
@@ -35,19 +37,26 @@ whole_walk = BeginWalk ∷ walk_on 0 70
 unfoldable pub four_give_back : {V E : Type 0} → List (Event V E)
 four_give_back = GiveBack 0 ∷ GiveBack 1 ∷ GiveBack 2 ∷ GiveBack 3 ∷ []
 
--- the core of a new table after each part of that
+-- a new table once four have published
 unfoldable pub after_publishing : {V E : Type 0} → V → V → V → V → Core V E
 after_publishing a b c d = run new_core (four_publish a b c d)
 
+-- then once a walk has run to its end
 unfoldable pub after_walking : {V E : Type 0} → V → V → V → V → Core V E
 after_walking a b c d = run (after_publishing a b c d) whole_walk
 
+-- then once the walk is over and the four have given their ids back
 unfoldable pub after_giving_back : {V E : Type 0} → V → V → V → V → Core V E
 after_giving_back a b c d = run (after_walking a b c d) (EndWalk 0 ∷ four_give_back)
 
--- the next Local is taken, gets what its slot holds, offers another value, and gives its id back
-unfoldable pub after_next : {V E : Type 0} → V → V → V → V → Core V E
-after_next a b c d = run (after_giving_back a b c d) (TakeId false 0 ∷ steps_of 4 (BeginGet ∷ LoadWord ∷ LookAtFlag ∷ Reply ∷ BeginGetOr (Ok b) ∷ Reply ∷ []))
+-- the steps of the next Local: a get, and a publishing call with another value
+abbrev pub next_calls : {V E : Type 0} → V → List (Event V E)
+next_calls other = steps_of 4 (BeginGet ∷ LoadWord ∷ LookAtFlag ∷ Reply ∷ BeginGetOr (Ok other) ∷ Reply ∷ [])
 
+-- then once a Local was taken and has made its calls
+unfoldable pub after_next : {V E : Type 0} → V → V → V → V → Core V E
+after_next a b c d = run (after_giving_back a b c d) (TakeId false 0 ∷ next_calls b)
+
+-- then once that gave its id back too
 unfoldable pub after_all : {V E : Type 0} → V → V → V → V → Core V E
 after_all a b c d = run (after_next a b c d) (GiveBack 4 ∷ [])

@@ -86,11 +86,13 @@ pub fn every_schedule<V, E>()
     ensures ended { (core : Core V E) (event : Event V E)
         → core.ended ≡ true → is_enabled core event ≡ false }
 
-    // The peak is the most ids held at one moment, and each id that is given lies below it.
+    // The peak is the most ids held at one moment. Each id that is given lies below it, and there is room for it.
     ensures peak { (capacity extra : ℕ) (events : List (Event V E)) → capacity < 2 ^ 63
         → peak (run (made_core capacity extra) events) ≡ most_held 0 (made_core capacity extra) events }
     ensures below_peak { (core : Core V E) (n : ℕ) (local : Local V E) → IsReached core
         → core.locals n ≡ Some local → local.id < peak core }
+
+    ensures room { (core : Core V E) → IsReached core → peak core ≤ core.manager.room }
 
     // The slots that are installed, those made and not offered yet, and the values are bounded by the peak.
     ensures slots_of_new { (events : List (Event V E))

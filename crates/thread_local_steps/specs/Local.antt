@@ -1,7 +1,7 @@
 use Rattle.std.specs.Prelude.{ℕ, zero, suc, Bool, true, false, List, [], ◌∷◌, ◌++◌, Option, Some, None, option_and_then, Result, Ok, Err, if◌then◌else◌}
 use Rattle.thread_local_model.specs.Place.{bucket_of}
 use Rattle.thread_local_model.specs.Answers.{View, Call, Get, GetOr, Answer, Found, Answered, Refused, Failed}
-use Rattle.thread_local_steps.specs.Table.{Table, slot_at, published, stands, with_bucket, with_slot}
+use Rattle.thread_local_steps.specs.Table.{Table, published, stands, with_bucket, with_written, with_flag}
 
 -- What a Local has learnt of its slot: nothing yet; that its word was empty; that its bucket stands; that the
 -- bucket stands and the slot is empty; or the value that the slot holds.
@@ -48,7 +48,8 @@ pub data LocalStep (V E : Type 0) : Type 0 where
 
 -- the Local once a call has ended
 abbrev pub after_call : {V E : Type 0} → Local V E → Call V E → Answer V E → Learnt V → Doing V E → Local V E
-after_call local call answer learnt doing = record local { learnt = learnt; doing = doing; calls = local.calls ++ call ∷ []; answers = local.answers ++ answer ∷ [] }
+after_call local call answer learnt doing =
+    record local { learnt = learnt; doing = doing; calls = local.calls ++ call ∷ []; answers = local.answers ++ answer ∷ [] }
 
 -- whether a call is under way that may load its word and look at its flag
 abbrev pub is_calling : {V E : Type 0} → Doing V E → Bool
@@ -99,8 +100,10 @@ look_at_flag table local true = learns table local (looked local.learnt (publish
 
 -- a publishing call that found its word empty makes a bucket, or ends where memory is refused
 abbrev pub make_bucket : {V E : Type 0} → Table V → Local V E → Bool → Doing V E → Learnt V → Option (Table V × Local V E)
-make_bucket table local true (Started create) Missing = Some (table, after_call local (GetOr create true) Refused Missing (Gets 0))
-make_bucket table local false (Started create) Missing = Some (record table { made = suc table.made }, record local { doing = Private create table.made })
+make_bucket table local true (Started create) Missing =
+    Some (table, after_call local (GetOr create true) Refused Missing (Gets 0))
+make_bucket table local false (Started create) Missing =
+    Some (record table { made = suc table.made }, record local { doing = Private create table.made })
 make_bucket table local refused doing learnt = None
 
 -- the table once a bucket was offered to a word, by whether that names one: it goes on naming it, or names this one
@@ -108,23 +111,27 @@ abbrev pub offer : {V : Type 0} → Table V → ℕ → ℕ → Bool → Table V
 offer table bucket number true = table
 offer table bucket number false = with_bucket table bucket number
 
+-- the table once a bucket was offered to a word
 abbrev pub offered : {V : Type 0} → Table V → ℕ → ℕ → Table V
 offered table bucket number = offer table bucket number (stands table bucket)
 
 -- a call offers its own bucket to its word, and uses the one that stands then
 abbrev pub install_bucket : {V E : Type 0} → Table V → Local V E → Doing V E → Option (Table V × Local V E)
-install_bucket table local (Private create number) = Some (offered table (bucket_of local.id) number, record local { learnt = Vacant; doing = Started create })
+install_bucket table local (Private create number) =
+    Some (offered table (bucket_of local.id) number, record local { learnt = Vacant; doing = Started create })
 install_bucket table local doing = None
 
 -- a call writes what its closure answered, or ends with the closure's error
 abbrev pub write_value : {V E : Type 0} → Table V → Local V E → Doing V E → Learnt V → Option (Table V × Local V E)
-write_value table local (Started (Ok v)) Vacant = Some (with_slot table local.id (record (slot_at table local.id) { written = Some v }), record local { learnt = Vacant; doing = Written v })
-write_value table local (Started (Err e)) Vacant = Some (table, after_call local (GetOr (Err e) false) (Failed e) Vacant (Gets 0))
+write_value table local (Started (Ok v)) Vacant = Some (with_written table local.id v, record local { learnt = Vacant; doing = Written v })
+write_value table local (Started (Err e)) Vacant =
+    Some (table, after_call local (GetOr (Err e) false) (Failed e) Vacant (Gets 0))
 write_value table local doing learnt = None
 
 -- a call that has written sets its flag, and so publishes and ends
 abbrev pub set_flag : {V E : Type 0} → Table V → Local V E → Doing V E → Option (Table V × Local V E)
-set_flag table local (Written v) = Some (with_slot table local.id (record (slot_at table local.id) { flag = true }), after_call local (GetOr (Ok v) false) (Answered v) (Holding v) (Gets 0))
+set_flag table local (Written v) =
+    Some (with_flag table local.id, after_call local (GetOr (Ok v) false) (Answered v) (Holding v) (Gets 0))
 set_flag table local doing = None
 
 -- a get ends with what was learnt, and so does a publishing call that found a value

@@ -52,7 +52,12 @@ walk_load table walk false = if nat_lt walk.bucket 63 then Some (on_word (after_
 abbrev pub after_look : {V : Type 0} → SharedWalk V → Option V → SharedWalk V
 after_look walk None = at_place (record walk { index = suc walk.index; read = walk.read ++ cursor walk ∷ [] })
 after_look walk (Some v) =
-    record walk { index = suc walk.index; looks = false; read = walk.read ++ cursor walk ∷ []; given = walk.given ++ (cursor walk, v) ∷ [] }
+    record walk {
+      index = suc walk.index;
+      looks = false;
+      read = walk.read ++ cursor walk ∷ [];
+      given = walk.given ++ (cursor walk, v) ∷ [];
+    }
 
 -- the walk looks at the flag of the slot at its cursor
 abbrev pub walk_look : {V : Type 0} → Table V → SharedWalk V → Bool → Option (SharedWalk V)

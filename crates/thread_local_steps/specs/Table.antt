@@ -1,4 +1,4 @@
-use Rattle.std.specs.Prelude.{ℕ, Bool, false, Option, Some, None, is_some, ◌==◌, nat_lt, if◌then◌else◌}
+use Rattle.std.specs.Prelude.{ℕ, Bool, true, false, Option, Some, None, is_some, ◌==◌, nat_lt, if◌then◌else◌}
 use Rattle.thread_local_model.specs.Place.{bucket_of, index_of}
 use Rattle.thread_local_model.specs.Capacity.{binary_digits}
 use Rattle.thread_local_model.specs.Walk.{with_value}
@@ -68,3 +68,11 @@ unfoldable pub with_slot : {V : Type 0} → Table V → ℕ → Slot V → Table
 with_slot table id slot = record table {
   words = λ bucket. if bucket_of id == bucket then with_slot_of (table.words bucket) (index_of id) slot else table.words bucket;
 }
+
+-- the table once a value is written at an id, its flag as before
+abbrev pub with_written : {V : Type 0} → Table V → ℕ → V → Table V
+with_written table id v = with_slot table id (record (slot_at table id) { written = Some v })
+
+-- the table once the flag at an id is set
+abbrev pub with_flag : {V : Type 0} → Table V → ℕ → Table V
+with_flag table id = with_slot table id (record (slot_at table id) { flag = true })

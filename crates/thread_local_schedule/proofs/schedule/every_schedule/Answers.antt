@@ -1,7 +1,6 @@
 use Rattle.std.proofs.Common.{refl, arith}
 use Rattle.thread_local_core.proofs.CoreLaws as known
 use Rattle.thread_local_schedule.proofs.Clauses as clause
-use Rattle.thread_local_schedule.proofs.AfterClear as later
 use Rattle.thread_local_schedule.proofs.Headline as headline
 use Rattle.thread_local_schedule.proofs.FourLocals as story
 use Rattle.thread_local_schedule.proofs.FourValues as four
@@ -57,7 +56,7 @@ pub returns-clause-cleared : goal.returns-clause-cleared
 returns-clause-cleared g c = clause.cleared
 
 pub returns-clause-after_clear : goal.returns-clause-after_clear
-returns-clause-after_clear g c = later.after_clear
+returns-clause-after_clear g c = clause.after_clear
 
 pub returns-clause-into_iter_ends : goal.returns-clause-into_iter_ends
 returns-clause-into_iter_ends g c = clause.into_iter_ends
@@ -73,6 +72,9 @@ returns-clause-peak g c = λ capacity extra events l. clause.peak_run (made_core
 
 pub returns-clause-below_peak : goal.returns-clause-below_peak
 returns-clause-below_peak g c = λ core n local r at. held_below core.manager.held local.id ((clause.fits core r).locals.each n local at).id_held
+
+pub returns-clause-room : goal.returns-clause-room
+returns-clause-room g c = λ core r. (clause.fits core r).manager.peak_room
 
 pub returns-clause-slots_of_new : goal.returns-clause-slots_of_new
 returns-clause-slots_of_new g c = clause.slots_of_new
