@@ -1,6 +1,6 @@
 use Rattle.std.proofs.Common.{◌≡◌, ℕ, zero, suc, ◌<◌, ◌≤◌, max, Bool, true, false, IsTrue, List, [], ◌∷◌, length, refl, arith}
 use Rattle.thread_local_model.specs.Held.{is_held, least, with_least, held_count}
-use Rattle.thread_local_model.proofs.HeldLaws.{held_count-with_least}
+use Rattle.thread_local_model.proofs.HeldLaws.{held_count-with_least, least_bounded}
 
 -- a held id lies below the peak
 pub held_below : (held : List Bool) (id : ℕ) → IsTrue (is_held held id) → id < length held
@@ -14,12 +14,7 @@ held_count-le [] = omega arith
 held_count-le (true ∷ held) = omega (arith, held_count-le held)
 held_count-le (false ∷ held) = omega (arith, held_count-le held)
 
--- the least id that isn't held is at most the peak, and is the peak where each id below that is held
-pub least-le : (held : List Bool) → least held ≤ length held
-least-le [] = omega arith
-least-le (true ∷ held) = omega (arith, least-le held)
-least-le (false ∷ held) = omega arith
-
+-- the least id that isn't held is at most how many are held
 pub least-le-held_count : (held : List Bool) → least held ≤ held_count held
 least-le-held_count [] = omega arith
 least-le-held_count (true ∷ held) = omega (arith, least-le-held_count held)
@@ -38,5 +33,5 @@ peak_counts held =
     let more = held_count-with_least held in
     let some = least-le-held_count held in
     let within = held_count-le (with_least held) in
-    let low = least-le held in
+    let low = least_bounded held in
     omega arith

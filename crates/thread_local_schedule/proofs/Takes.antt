@@ -2,7 +2,7 @@ use Rattle.std.proofs.Common.{◌≡◌, ℕ, ◌-◌, ◌^◌, Bool, true, fals
 use Rattle.std.proofs.lemmas.Bool.{ne_eqb, eqb-false, and_parts, not-true, eqb-true, and_cases, not-false}
 use Rattle.thread_local_model.specs.Held.{Manager, least, held_count, HoldsAllBelow}
 use Rattle.thread_local_schedule.specs.Events.{is_exhausted, is_full, is_granted, taken_from}
-use Rattle.thread_local_core.proofs.HeldCounts.{least-le, peak_after, least-le-held_count}
+use Rattle.thread_local_core.proofs.HeldCounts.{peak_after, least-le-held_count}
 use Rattle.thread_local_core.specs.CoreFits.{ManagerFits}
 use Rattle.thread_local_model.proofs.HeldLaws as ids
 
@@ -10,7 +10,7 @@ use Rattle.thread_local_model.proofs.HeldLaws as ids
 pub not_granted : (manager : Manager) (refused : Bool) → length manager.held ≤ manager.room → is_granted manager refused ≡ false
     → HoldsAllBelow (2 ^ 63 - 1) manager.held ⊎ (HoldsAllBelow (length manager.held) manager.held × (length manager.held ≡ manager.room) × IsTrue refused)
 not_granted manager refused room none =
-    let low = least-le manager.held in
+    let low = ids.least_bounded manager.held in
     let lower = ids.least_lower manager.held in
     ⊎_elim
     (λ all. let e = eqb-true (least manager.held) (2 ^ 63 - 1) (not-false (is_exhausted manager) all) in inl (subst (λ n. HoldsAllBelow n manager.held) e lower))
@@ -36,5 +36,5 @@ pub taken-ManagerFits : (manager : Manager) (capacity growth : ℕ) → is_exhau
 taken-ManagerFits manager capacity growth some h =
     let free = eqb-false (least manager.held) (2 ^ 63 - 1) some in
     let after = peak_after manager.held in
-    let low = least-le manager.held in
+    let low = ids.least_bounded manager.held in
     record { peak_room = omega arith; capacity_room = omega (arith, h.capacity_room); peak_ids = omega (arith, h.peak_ids); capacity_ids = h.capacity_ids }
