@@ -41,6 +41,10 @@ pub if_enabled : {A : Type 0} (P : A → Type 0) (b : Bool) (x : A) → P x → 
 if_enabled P true x p = p
 if_enabled P false x p = tt
 
+pub if_mapped : {A B : Type 0} {P : A → Type 0} (Q : B → Type 0) (f : A → B) (o : Option A) → IfSome o P → ((x : A) → P x → Q (f x)) → IfSome (option_map f o) Q
+if_mapped Q f None p h = tt
+if_mapped Q f (Some x) p h = h x p
+
 pub unwrapped : {A : Type 0} (P : A → Type 0) (o : Option A) (a : A) → IfSome o P → P a → P (unwrap_or o a)
 unwrapped P None a s h = h
 unwrapped P (Some x) a s h = s

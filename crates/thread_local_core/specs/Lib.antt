@@ -1,2 +1,3 @@
+pub use Rattle.thread_local_model.specs.Sheet
 pub mod Core
 pub mod CoreFits

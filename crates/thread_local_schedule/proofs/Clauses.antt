@@ -1,5 +1,5 @@
 use Rattle.std.proofs.Common.{◌≡◌, ℕ, ◌-◌, ◌*◌, ◌^◌, ◌<◌, ◌≤◌, ◌⊎◌, max, Bool, true, false, not, ◌&&◌, cond, List, [], ◌∷◌, Option, Some, None, is_some, IsTrue, IfSome, IsSomeAnd, refl, ap, sym, ◌∙◌, subst, arith, ⊎_elim}
-use Rattle.std.specs.Prelude.{unwrap_or, Contains}
+use Rattle.std.specs.Prelude.{unwrap_or, Contains, option_map}
 use Rattle.std.proofs.lemmas.Bool.{false≢true, and_parts, and_left, and_right, not-true, not-false, cases_Bool}
 use Rattle.thread_local_model.specs.Held.{least, held_count, HoldsAllBelow}
 use Rattle.thread_local_model.specs.Capacity.{is_reserved, binary_digits, reserved_slots}
@@ -12,7 +12,7 @@ use Rattle.thread_local_steps.specs.SharedWalk.{SharedWalk, WalkStep, walk_step}
 use Rattle.thread_local_steps.specs.WalkFits.{Adds}
 use Rattle.thread_local_steps.proofs.WalkStepLaws.{walk_step-adds}
 use Rattle.thread_local_core.specs.Core.{Core, made_core, new_core, shadow, installed_slots, first_view, peak, is_alone}
-use Rattle.thread_local_schedule.specs.Events.{Event, TakeId, OfLocal, OfWalk, Owner, ClearTable, is_granted, take_id, with_walk_step, step_of, step, is_enabled, happens, run, IntoIter, DropTable, owner_call, GiveBack, Forget, BeginWalk, EndWalk, OwnerCall, IterMut, of_walk, end_walk}
+use Rattle.thread_local_schedule.specs.Events.{Event, TakeId, OfLocal, OfWalk, Owner, ClearTable, is_granted, take_id, step_of, step, is_enabled, happens, run, IntoIter, DropTable, owner_call, GiveBack, Forget, BeginWalk, EndWalk, OwnerCall, IterMut, of_walk, end_walk, with_walk}
 use Rattle.thread_local_schedule.specs.Schedule.{move, is_clear, is_refused, is_granted_take, newcomer, IsReached, most_held, publishing, move_of, NoneTaken}
 use Rattle.thread_local_core.specs.CoreFits.{CoreFits}
 use Rattle.thread_local_schedule.proofs.Kept.{happens-fits, run-fits}
@@ -124,7 +124,7 @@ reserved_answers core n local h at here c =
 
 -- a step of a walk adds to its record as it says
 added : {V E : Type 0} (core : Core V E) (n : ℕ) (step : WalkStep) (o : Option (SharedWalk V)) (before after : SharedWalk V) → IfSome o (Adds core.table step before)
-    → IsTrue (is_some (with_walk_step core n o)) → (unwrap_or (with_walk_step core n o) core).walks n ≡ Some after → Adds core.table step before after
+    → IsTrue (is_some (option_map (with_walk core n) o)) → (unwrap_or (option_map (with_walk core n) o) core).walks n ≡ Some after → Adds core.table step before after
 added core n step None before after a t e = absurd (false≢true t)
 added core n step (Some walk) before after a t e =
     let put : Some walk ≡ Some after = sym (put_same core.walks n (Some walk)) ∙ e in
@@ -174,13 +174,13 @@ owner_locals core n true (IterMut others) none = none
 owner_locals core n true ClearTable none = refl
 owner_locals core n true _ none = none
 
-step_locals : {V E : Type 0} (core : Core V E) (n : ℕ) (number : ℕ) (o : Option (SharedWalk V)) → core.locals n ≡ None → (unwrap_or (with_walk_step core number o) core).locals n ≡ None
-step_locals core n number None none = none
-step_locals core n number (Some walk) none = none
+mapped_locals : {V E : Type 0} (core : Core V E) (n number : ℕ) (o : Option (SharedWalk V)) → core.locals n ≡ None → (unwrap_or (option_map (with_walk core number) o) core).locals n ≡ None
+mapped_locals core n number None none = none
+mapped_locals core n number (Some walk) none = none
 
 walk_locals : {V E : Type 0} (core : Core V E) (n number : ℕ) (step : WalkStep) (o : Option (SharedWalk V)) → core.locals n ≡ None → (unwrap_or (of_walk core number step o) core).locals n ≡ None
 walk_locals core n number step None none = none
-walk_locals core n number step (Some walk) none = step_locals core n number (walk_step core.table walk step) none
+walk_locals core n number step (Some walk) none = mapped_locals core n number (walk_step core.table walk step) none
 
 end_locals : {V E : Type 0} (core : Core V E) (n number : ℕ) (o : Option (SharedWalk V)) → core.locals n ≡ None → (unwrap_or (end_walk core number o) core).locals n ≡ None
 end_locals core n number None none = none

@@ -13,13 +13,14 @@ use Rattle.thread_local_steps.proofs.TableLaws.{same_function, named_stands}
 use Rattle.thread_local_steps.proofs.LocalLaws.{local_step-fits}
 use Rattle.thread_local_steps.proofs.OwnerLaws.{published-rewritten}
 use Rattle.thread_local_core.specs.Core.{Core, shadow, put, is_alone}
-use Rattle.thread_local_schedule.specs.Events.{Event, TakeId, OfLocal, GiveBack, Forget, BeginWalk, OfWalk, EndWalk, Owner, OwnerCall, IterMut, Slots, ClearTable, IntoIter, DropTable, is_granted, take_id, with_step, of_local, give_back, forget, with_walk_step, of_walk, end_walk, owner_call, step_of, step, is_enabled, happens, is_idle, without_local, given_to}
+use Rattle.thread_local_schedule.specs.Events.{Event, TakeId, OfLocal, GiveBack, Forget, BeginWalk, OfWalk, EndWalk, Owner, OwnerCall, IterMut, Slots, ClearTable, IntoIter, DropTable, is_granted, take_id, with_step, of_local, give_back, forget, of_walk, end_walk, owner_call, step_of, step, is_enabled, happens, is_idle, without_local, given_to, with_walk}
 use Rattle.thread_local_schedule.specs.Schedule.{move_of, is_exclusive, is_clear, is_of}
 use Rattle.thread_local_core.proofs.HeldCounts.{peak_counts, held_count-le}
 use Rattle.thread_local_core.specs.CoreFits.{CoreFits}
 use Rattle.thread_local_core.proofs.Parts.{put_cases, still, kept_value, no_locals, put_other}
 use Rattle.thread_local_core.proofs.CoreLaws.{same_goes_on, published_moves, publishing_allowed, none_made}
-use Rattle.thread_local_core.proofs.OptionLaws.{if_enabled}
+use Rattle.thread_local_core.proofs.OptionLaws.{if_enabled, if_mapped}
+use Rattle.thread_local_steps.proofs.WalkStepLaws.{walk_step-fits}
 use Rattle.thread_local_model.proofs.HeldLaws as ids
 
 -- what an event that is enabled says of the core before it and after it
@@ -88,17 +89,13 @@ stepped-says core number step local after at s h =
       peak = omega (arith, held_count-le core.manager.held);
     }
 
-with_step-says : {V E : Type 0} (core : Core V E) (number : ℕ) (step : LocalStep V E) (local : Local V E) (o : Option (Table V × Local V E)) → core.locals number ≡ Some local
-    → CoreFits core → IfSome o (StepFits core.table local (value_set local.doing step)) → IfSome (with_step core number o) (EventSays core (OfLocal number step))
-with_step-says core number step local None at h s = tt
-with_step-says core number step local (Some after) at h s = stepped-says core number step local after at s h
-
 of_local-says : {V E : Type 0} (core : Core V E) (number : ℕ) (step : LocalStep V E) (o : Option (Local V E)) → core.locals number ≡ o → CoreFits core
     → IfSome (of_local core number step o) (EventSays core (OfLocal number step))
 of_local-says core number step None at h = tt
 of_local-says core number step (Some local) at h =
-    with_step-says core number step local (local_step core.table local step) at h
+    if_mapped (EventSays core (OfLocal number step)) (with_step core number) (local_step core.table local step)
     (local_step-fits core.table local step h.table.written (h.locals.each number local at).local_fits)
+    (λ after s. stepped-says core number step local after at s h)
 
 -- a Local that gives its id back, or is forgotten
 given_back-says : {V E : Type 0} (core : Core V E) (number : ℕ) (local : Local V E) → core.locals number ≡ Some local → CoreFits core
@@ -128,13 +125,12 @@ forget-says core number (Some local) =
     (λ n local f at. put_other core.locals number None n (eqb-false number n f) ∙ at))
 
 -- a walk's events
-with_walk_step-says : {V E : Type 0} (core : Core V E) (number : ℕ) (step : WalkStep) (o : Option (SharedWalk V)) → IfSome (with_walk_step core number o) (EventSays core (OfWalk number step))
-with_walk_step-says core number step None = tt
-with_walk_step-says core number step (Some walk) = leaves core (OfWalk number step) (record core { walks = put core.walks number (Some walk) }) refl refl refl refl refl (λ n then f. f) (λ n local _ at. at)
-
-of_walk-says : {V E : Type 0} (core : Core V E) (number : ℕ) (step : WalkStep) (o : Option (SharedWalk V)) → IfSome (of_walk core number step o) (EventSays core (OfWalk number step))
-of_walk-says core number step None = tt
-of_walk-says core number step (Some walk) = with_walk_step-says core number step (walk_step core.table walk step)
+of_walk-says : {V E : Type 0} (core : Core V E) (number : ℕ) (step : WalkStep) (o : Option (SharedWalk V)) → core.walks number ≡ o → CoreFits core
+    → IfSome (of_walk core number step o) (EventSays core (OfWalk number step))
+of_walk-says core number step None at h = tt
+of_walk-says core number step (Some walk) at h =
+    if_mapped (EventSays core (OfWalk number step)) (with_walk core number) (walk_step core.table walk step) (walk_step-fits core.table walk step (h.walks.each number walk at))
+    (λ after _. leaves core (OfWalk number step) (with_walk core number after) refl refl refl refl refl (λ n then f. f) (λ n local _ at. at))
 
 end_walk-says : {V E : Type 0} (core : Core V E) (number : ℕ) (o : Option (SharedWalk V)) → IfSome (end_walk core number o) (EventSays core (EndWalk number))
 end_walk-says core number None = tt
@@ -174,8 +170,8 @@ step_of-says core (TakeId refused growth) h = take_id-says core refused growth (
 step_of-says core (OfLocal number step) h = of_local-says core number step (core.locals number) refl h
 step_of-says core (GiveBack number) h = give_back-says core number (core.locals number) refl h
 step_of-says core (Forget number) h = forget-says core number (core.locals number)
-step_of-says core BeginWalk h = leaves core BeginWalk (record core { walks = put core.walks core.walked (Some fresh_walk); walked = suc core.walked }) refl refl refl refl refl (λ n then f. f) (λ n local _ at. at)
-step_of-says core (OfWalk number step) h = of_walk-says core number step (core.walks number)
+step_of-says core BeginWalk h = leaves core BeginWalk (record (with_walk core core.walked fresh_walk) { walked = suc core.walked }) refl refl refl refl refl (λ n then f. f) (λ n local _ at. at)
+step_of-says core (OfWalk number step) h = of_walk-says core number step (core.walks number) refl h
 step_of-says core (EndWalk number) h = end_walk-says core number (core.walks number)
 step_of-says core (Owner call) h = owner_call-says core (is_alone core) call refl h
 

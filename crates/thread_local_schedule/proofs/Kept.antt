@@ -2,20 +2,18 @@ use Rattle.std.proofs.Common.{◌≡◌, ℕ, suc, Bool, true, false, cond, List
 use Rattle.std.proofs.lemmas.Bool.{cond_both, ne_eqb, false≢true}
 use Rattle.std.specs.Prelude.{unwrap_or}
 use Rattle.thread_local_model.specs.Held.{is_held, least, with_least, without}
-use Rattle.thread_local_steps.specs.Table.{Table}
 use Rattle.thread_local_steps.specs.Local.{Local, LocalStep, fresh_local, local_step}
 use Rattle.thread_local_steps.specs.SharedWalk.{SharedWalk, fresh_walk, WalkStep, walk_step}
-use Rattle.thread_local_steps.specs.Fits.{StepFits, value_set}
-use Rattle.thread_local_steps.specs.WalkFits.{WalkFits}
+use Rattle.thread_local_steps.specs.Fits.{value_set}
 use Rattle.thread_local_steps.proofs.LocalLaws.{local_step-fits}
 use Rattle.thread_local_steps.proofs.WalkStepLaws.{walk_step-fits, fresh_walk-fits}
 use Rattle.thread_local_core.specs.Core.{Core, shadow, first_view, is_alone}
-use Rattle.thread_local_schedule.specs.Events.{Event, TakeId, OfLocal, GiveBack, Forget, BeginWalk, OfWalk, EndWalk, Owner, OwnerCall, IterMut, Slots, ClearTable, IntoIter, DropTable, is_exhausted, is_granted, take_id, with_step, of_local, give_back, forget, begin_walk, with_walk_step, of_walk, end_walk, owner_call, step_of, step, happens, run, is_idle, without_local, given_to}
+use Rattle.thread_local_schedule.specs.Events.{Event, TakeId, OfLocal, GiveBack, Forget, BeginWalk, OfWalk, EndWalk, Owner, OwnerCall, IterMut, Slots, ClearTable, IntoIter, DropTable, is_exhausted, is_granted, take_id, with_step, of_local, give_back, forget, begin_walk, of_walk, end_walk, owner_call, step_of, step, happens, run, is_idle, without_local, given_to, with_walk}
 use Rattle.thread_local_core.proofs.HeldCounts.{peak_after}
 use Rattle.thread_local_core.specs.CoreFits.{CoreFits}
 use Rattle.thread_local_core.proofs.Parts.{locals_put, locals_removed, given-ManagerFits, peak-TableFits, held_stays, least_held, fresh-LiveFits, stepped-fits, walks_put, came_before, no_locals, no_walks, rewritten-TableFits, made_core-fits}
 use Rattle.thread_local_schedule.proofs.Takes.{granted_some, taken-ManagerFits}
-use Rattle.thread_local_core.proofs.OptionLaws.{if_enabled, unwrapped}
+use Rattle.thread_local_core.proofs.OptionLaws.{if_enabled, unwrapped, if_mapped}
 use Rattle.thread_local_model.proofs.HeldLaws as ids
 
 pub take_id-fits : {V E : Type 0} (core : Core V E) (growth : ℕ) → is_exhausted core.manager ≡ false → CoreFits core → CoreFits (take_id core growth)
@@ -38,18 +36,14 @@ take_id-fits core growth some h =
       walks = h.walks;
     }
 
--- a step that is enabled
-with_step-fits : {V E : Type 0} (core : Core V E) (number : ℕ) (local : Local V E) (set : Option V) (o : Option (Table V × Local V E)) → core.locals number ≡ Some local
-    → CoreFits core → IfSome o (StepFits core.table local set) → IfSome (with_step core number o) CoreFits
-with_step-fits core number local set None at h s = tt
-with_step-fits core number local set (Some after) at h s = stepped-fits core number local set after at s h
-
+-- a step of a Local
 of_local-fits : {V E : Type 0} (core : Core V E) (number : ℕ) (step : LocalStep V E) (o : Option (Local V E)) → core.locals number ≡ o → CoreFits core
     → IfSome (of_local core number step o) CoreFits
 of_local-fits core number step None at h = tt
 of_local-fits core number step (Some local) at h =
-    with_step-fits core number local (value_set local.doing step) (local_step core.table local step) at h
+    if_mapped CoreFits (with_step core number) (local_step core.table local step)
     (local_step-fits core.table local step h.table.written (h.locals.each number local at).local_fits)
+    (λ after s. stepped-fits core number local (value_set local.doing step) after at s h)
 
 -- a Local that gives its id back, or is forgotten
 given_back-fits : {V E : Type 0} (core : Core V E) (number : ℕ) (local : Local V E) → core.locals number ≡ Some local → CoreFits core
@@ -99,19 +93,16 @@ begin_walk-fits core h = record {
   walks = walks_put core.table core.walks core.walked (suc core.walked) core.walked (Some fresh_walk) (omega arith) (omega arith) (fresh_walk-fits core.table) h.walks;
 }
 
-with_walk_step-fits : {V E : Type 0} (core : Core V E) (number : ℕ) (walk : SharedWalk V) (o : Option (SharedWalk V)) → core.walks number ≡ Some walk → CoreFits core
-    → IfSome o (WalkFits core.table) → IfSome (with_walk_step core number o) CoreFits
-with_walk_step-fits core number walk None at h fits = tt
-with_walk_step-fits core number walk (Some after) at h fits = record {
-  manager = h.manager;
-  table = h.table;
-  locals = h.locals;
-  walks = walks_put core.table core.walks core.walked core.walked number (Some after) (omega arith) (came_before core.table core.walks core.walked number walk h.walks at) fits h.walks;
-}
-
 of_walk-fits : {V E : Type 0} (core : Core V E) (number : ℕ) (step : WalkStep) (o : Option (SharedWalk V)) → core.walks number ≡ o → CoreFits core → IfSome (of_walk core number step o) CoreFits
 of_walk-fits core number step None at h = tt
-of_walk-fits core number step (Some walk) at h = with_walk_step-fits core number walk (walk_step core.table walk step) at h (walk_step-fits core.table walk step (h.walks.each number walk at))
+of_walk-fits core number step (Some walk) at h =
+    if_mapped CoreFits (with_walk core number) (walk_step core.table walk step) (walk_step-fits core.table walk step (h.walks.each number walk at))
+    (λ after fits. record {
+      manager = h.manager;
+      table = h.table;
+      locals = h.locals;
+      walks = walks_put core.table core.walks core.walked core.walked number (Some after) (omega arith) (came_before core.table core.walks core.walked number walk h.walks at) fits h.walks;
+    })
 
 end_walk-fits : {V E : Type 0} (core : Core V E) (number : ℕ) (o : Option (SharedWalk V)) → core.walks number ≡ o → CoreFits core → IfSome (end_walk core number o) CoreFits
 end_walk-fits core number None at h = tt

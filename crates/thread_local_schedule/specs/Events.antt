@@ -1,4 +1,4 @@
-use Rattle.std.specs.Prelude.{ℕ, zero, suc, ◌+◌, ◌-◌, ◌^◌, max, Bool, true, false, not, ◌&&◌, List, [], ◌∷◌, length, Option, Some, None, is_some, unwrap_or, ◌==◌, if◌then◌else◌}
+use Rattle.std.specs.Prelude.{ℕ, zero, suc, ◌+◌, ◌-◌, ◌^◌, max, Bool, true, false, not, ◌&&◌, List, [], ◌∷◌, length, Option, Some, None, is_some, option_map, unwrap_or, ◌==◌, if◌then◌else◌}
 use Rattle.thread_local_model.specs.Held.{Manager, least, with_least, without}
 use Rattle.thread_local_steps.specs.Local.{Doing, Gets, Local, fresh_local, LocalStep, local_step}
 use Rattle.thread_local_steps.specs.Table.{Table}
@@ -54,15 +54,14 @@ take_id core growth =
 
 -- Each event below gives the core after it, or None where it isn't enabled.
 
--- a Local and its table after a step
-abbrev pub with_step : {V E : Type 0} → Core V E → ℕ → Option (Table V × Local V E) → Option (Core V E)
-with_step core number None = None
-with_step core number (Some after) = Some (record core { table = after.0; locals = put core.locals number (Some after.1) })
+-- the core once a Local and its table are as a step leaves them
+abbrev pub with_step : {V E : Type 0} → Core V E → ℕ → Table V × Local V E → Core V E
+with_step core number after = record core { table = after.0; locals = put core.locals number (Some after.1) }
 
 -- a step of a Local that lives
 abbrev pub of_local : {V E : Type 0} → Core V E → ℕ → LocalStep V E → Option (Local V E) → Option (Core V E)
 of_local core number step None = None
-of_local core number step (Some local) = with_step core number (local_step core.table local step)
+of_local core number step (Some local) = option_map (with_step core number) (local_step core.table local step)
 
 -- whether a Local has no call under way
 abbrev pub is_idle : {V E : Type 0} → Doing V E → Bool
@@ -88,19 +87,18 @@ abbrev pub forget : {V E : Type 0} → Core V E → ℕ → Option (Local V E) �
 forget core number None = None
 forget core number (Some local) = if is_idle local.doing then Some (without_local core number) else None
 
+-- the core once a walk is this one
+abbrev pub with_walk : {V E : Type 0} → Core V E → ℕ → SharedWalk V → Core V E
+with_walk core number walk = record core { walks = put core.walks number (Some walk) }
+
 -- a walk begins
 abbrev pub begin_walk : {V E : Type 0} → Core V E → Option (Core V E)
-begin_walk core = Some (record core { walks = put core.walks core.walked (Some fresh_walk); walked = suc core.walked })
-
--- a walk after a step
-abbrev pub with_walk_step : {V E : Type 0} → Core V E → ℕ → Option (SharedWalk V) → Option (Core V E)
-with_walk_step core number None = None
-with_walk_step core number (Some walk) = Some (record core { walks = put core.walks number (Some walk) })
+begin_walk core = Some (record (with_walk core core.walked fresh_walk) { walked = suc core.walked })
 
 -- a step of a walk that is under way
 abbrev pub of_walk : {V E : Type 0} → Core V E → ℕ → WalkStep → Option (SharedWalk V) → Option (Core V E)
 of_walk core number step None = None
-of_walk core number step (Some walk) = with_walk_step core number (walk_step core.table walk step)
+of_walk core number step (Some walk) = option_map (with_walk core number) (walk_step core.table walk step)
 
 -- a walk is under way no longer
 abbrev pub end_walk : {V E : Type 0} → Core V E → ℕ → Option (SharedWalk V) → Option (Core V E)

@@ -84,9 +84,7 @@ ends table local call told left learnt doing written h says fits = record {
 begin_get-fits : {V E : Type 0} (table : Table V) (local : Local V E) (doing : Doing V E) → AllWritten table → LocalFits table local
     → IfSome (begin_get table local doing) (StepFits table local None)
 begin_get-fits table local (Gets count) written h = stays table local local.learnt (Gets (suc count)) written h h.view.learnt_so tt
-begin_get-fits table local (Started create) written h = tt
-begin_get-fits table local (Private create number) written h = tt
-begin_get-fits table local (Written v) written h = tt
+begin_get-fits table local _ written h = tt
 
 begin_get_or-fits : {V E : Type 0} (table : Table V) (local : Local V E) (create : Result V E) (doing : Doing V E) → AllWritten table → LocalFits table local
     → IfSome (begin_get_or table local create doing) (StepFits table local None)

@@ -49,14 +49,14 @@ some-with_slot_of : {V : Type 0} (word : Option (Bucket V)) (index : ℕ) (slot 
 some-with_slot_of None index slot = refl
 some-with_slot_of (Some bucket) index slot = refl
 
-some-cond : {A : Type 0} (b : Bool) (x y : Option A) → is_some x ≡ is_some y → is_some (cond b x y) ≡ is_some y
-some-cond true x y h = h
-some-cond false x y h = refl
+same-cond : {A B : Type 0} (f : A → B) (b : Bool) (x y : A) → f x ≡ f y → f (cond b x y) ≡ f y
+same-cond f true x y h = h
+same-cond f false x y h = refl
 
 pub stands-with_slot : {V : Type 0} (table : Table V) (id bucket : ℕ) (slot : Slot V) → stands (with_slot table id slot) bucket ≡ stands table bucket
 unfolding stands with_slot
 stands-with_slot table id bucket slot =
-    some-cond (eqb (bucket_of id) bucket) (with_slot_of (table.words bucket) (index_of id) slot) (table.words bucket) (some-with_slot_of (table.words bucket) (index_of id) slot)
+    same-cond is_some (eqb (bucket_of id) bucket) (with_slot_of (table.words bucket) (index_of id) slot) (table.words bucket) (some-with_slot_of (table.words bucket) (index_of id) slot)
 
 -- an empty word has empty slots
 slot_of-none : {V : Type 0} (word : Option (Bucket V)) (index : ℕ) → is_some word ≡ false → slot_of word index ≡ empty_slot
@@ -139,15 +139,10 @@ named-with_slot_of : {V : Type 0} (word : Option (Bucket V)) (index : ℕ) (slot
 named-with_slot_of None index slot = refl
 named-with_slot_of (Some bucket) index slot = refl
 
-named-cond : {V : Type 0} (b : Bool) (x y : Option (Bucket V)) → option_map (λ here. here.number) x ≡ option_map (λ here. here.number) y
-    → option_map (λ here. here.number) (cond b x y) ≡ option_map (λ here. here.number) y
-named-cond true x y h = h
-named-cond false x y h = refl
-
 pub named-with_slot : {V : Type 0} (table : Table V) (id bucket : ℕ) (slot : Slot V) → named (with_slot table id slot) bucket ≡ named table bucket
 unfolding named with_slot
 named-with_slot table id bucket slot =
-    named-cond (eqb (bucket_of id) bucket) (with_slot_of (table.words bucket) (index_of id) slot) (table.words bucket) (named-with_slot_of (table.words bucket) (index_of id) slot)
+    same-cond (λ word. option_map (λ here. here.number) word) (eqb (bucket_of id) bucket) (with_slot_of (table.words bucket) (index_of id) slot) (table.words bucket) (named-with_slot_of (table.words bucket) (index_of id) slot)
 
 -- and once a bucket is offered to a word, if it named one
 named-with_bucket : {V : Type 0} (table : Table V) (bucket number other : ℕ) → (bucket ≡ other → ⊥) → named (with_bucket table bucket number) other ≡ named table other

@@ -230,20 +230,11 @@ fresh_walk-fits table = record {
 }
 
 -- what each step adds to the record: moving the cursor adds nothing
-at_place-loads : {V : Type 0} (table : Table V) (before walk : SharedWalk V) → Loads table before walk → Loads table before (at_place walk)
-at_place-loads table before walk h =
-    cond_both {A = SharedWalk _} (eqb walk.index (2 ^ walk.bucket)) (at_next_bucket walk) (record walk { looks = true }) (Loads table before)
-    (λ _. record { first = h.first; given = h.given; read = h.read; loads = h.loads })
-    (λ _. record { first = h.first; given = h.given; read = h.read; loads = h.loads })
-
-at_place-looks : {V : Type 0} (table : Table V) (before walk : SharedWalk V) → Looks table before walk → Looks table before (at_place walk)
-at_place-looks table before walk h =
-    cond_both {A = SharedWalk _} (eqb walk.index (2 ^ walk.bucket)) (at_next_bucket walk) (record walk { looks = true }) (Looks table before)
-    (λ _. record { first = h.first; given = h.given; read = h.read; loads = h.loads })
-    (λ _. record { first = h.first; given = h.given; read = h.read; loads = h.loads })
+at_place-keeps : {V : Type 0} (P : SharedWalk V → Type 0) (walk : SharedWalk V) → P (at_next_bucket walk) → P (record walk { looks = true }) → P (at_place walk)
+at_place-keeps P walk next here = cond_both {A = SharedWalk _} (eqb walk.index (2 ^ walk.bucket)) (at_next_bucket walk) (record walk { looks = true }) P (λ _. next) (λ _. here)
 
 on_word-loads : {V : Type 0} (table : Table V) (before walk : SharedWalk V) (named : Bool) → Loads table before walk → Loads table before (on_word walk named)
-on_word-loads table before walk true h = at_place-loads table before walk h
+on_word-loads table before walk true h = at_place-keeps (Loads table before) walk (record { first = h.first; given = h.given; read = h.read; loads = h.loads }) (record { first = h.first; given = h.given; read = h.read; loads = h.loads })
 on_word-loads table before walk false h = record { first = h.first; given = h.given; read = h.read; loads = h.loads }
 
 walk_load-adds : {V : Type 0} (table : Table V) (walk : SharedWalk V) (looks : Bool) → IfSome (walk_load table walk looks) (Loads table walk)
@@ -256,8 +247,9 @@ walk_load-adds table walk false =
 
 after_look-adds : {V : Type 0} (table : Table V) (walk : SharedWalk V) (shown : Option V) → published table (cursor walk) ≡ shown → Looks table walk (after_look walk shown)
 after_look-adds table walk None e =
-    at_place-looks table walk (record walk { index = suc walk.index; read = walk.read ++ cursor walk ∷ [] })
-    (record { first = refl; given = ap (with_pair walk.given (cursor walk)) (sym e); read = refl; loads = refl })
+    let given = ap (with_pair walk.given (cursor walk)) (sym e) in
+    at_place-keeps (Looks table walk) (record walk { index = suc walk.index; read = walk.read ++ cursor walk ∷ [] })
+    (record { first = refl; given = given; read = refl; loads = refl }) (record { first = refl; given = given; read = refl; loads = refl })
 after_look-adds table walk (Some v) e = record { first = refl; given = ap (with_pair walk.given (cursor walk)) (sym e); read = refl; loads = refl }
 
 walk_look-adds : {V : Type 0} (table : Table V) (walk : SharedWalk V) (looks : Bool) → walk.looks ≡ looks → WalkFits table walk → IfSome (walk_look table walk looks) (Looks table walk)

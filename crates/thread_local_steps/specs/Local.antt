@@ -53,11 +53,9 @@ after_call local call answer learnt doing =
 
 -- whether a call is under way that may load its word and look at its flag
 abbrev pub is_calling : {V E : Type 0} → Doing V E → Bool
-is_calling (Gets zero) = false
 is_calling (Gets (suc count)) = true
 is_calling (Started create) = true
-is_calling (Private create number) = false
-is_calling (Written value) = false
+is_calling doing = false
 
 -- Each step below gives what becomes of the table and of the Local, or None where it isn't enabled.
 
