@@ -21,6 +21,7 @@ use Rattle.thread_local_steps.proofs.TableLaws.{same_function, slot_at-made_tabl
 use Rattle.thread_local_core.proofs.Parts.{own_small}
 use Rattle.thread_local_model.proofs.PlaceLaws as place
 
+-- there is none where none can be
 pub none_if : {A : Type 0} (o : Option A) → ((x : A) → o ≡ Some x → ⊥) → o ≡ None
 none_if None h = refl
 none_if (Some x) h = absurd (h x refl)
@@ -77,6 +78,7 @@ complete core n walk h at done id v e =
     let low = h.table.below id v (fits.fits.first_stays id v e) in
     fits.fits.passed id v e (omega (arith, h.manager.peak_ids, complete_cursor core.table walk fits done))
 
+-- a walk has loaded at most 63 words, and once more for each value given
 pub loads : {V E : Type 0} (core : Core V E) (n : ℕ) (walk : SharedWalk V) → CoreFits core → core.walks n ≡ Some walk → walk.loads ≤ 63 + length walk.given
 loads core n walk h at =
     let fits = h.walks.each n walk at in

@@ -34,7 +34,7 @@ same_capacity sheet (Some (Keep id v)) h = refl
 same_capacity sheet (Some (Rewrite others)) h = refl
 same_capacity sheet (Some Clear) h = absurd (h refl)
 
--- the capacity is that with which the table was made, or none
+-- no move makes the capacity grow
 pub moved_capacity : {V : Type 0} (sheet : Sheet V) (o : Option (Move V)) → (moved_if sheet o).capacity ≤ sheet.capacity
 moved_capacity sheet None = omega arith
 moved_capacity sheet (Some Take) = omega arith
@@ -44,7 +44,7 @@ moved_capacity sheet (Some (Keep id v)) = omega arith
 moved_capacity sheet (Some (Rewrite others)) = omega arith
 moved_capacity sheet (Some Clear) = omega arith
 
--- no move but a take changes such a sheet
+-- no move but a take changes the sheet of `new`, and a take that isn't granted is no move
 pub settled : {V : Type 0} (b : Bool) (o : Option (Move V)) → moved_if new_sheet o ≡ new_sheet → moved_if new_sheet (cond b o None) ≡ new_sheet
 settled true o e = e
 settled false o e = refl

@@ -27,6 +27,7 @@ use Rattle.thread_local_core.proofs.OptionLaws.{stays, some_step, some_and, none
 pub fits : {V E : Type 0} (core : Core V E) → IsReached core → CoreFits core
 fits core r = subst CoreFits r.leads (run-fits (made_core r.capacity r.extra) r.events (made_core-fits r.capacity r.extra r.bounded))
 
+-- and each event says what it does
 pub says : {V E : Type 0} (core : Core V E) (event : Event V E) → IsReached core → Says core event (is_enabled core event) (happens core event)
 says core event r = event_says core event (fits core r)
 
@@ -86,6 +87,7 @@ run_capacity core (event ∷ events) n h l =
     let same = ap (λ sheet. sheet.capacity) (event_says core event h).moves in
     run_capacity (happens core event) events n (happens-fits core event h) (omega (arith, same, moved_capacity (shadow core) (move core event)))
 
+-- so the installed slots are bounded by the capacity and the peak
 pub slots_of_capacity : {V E : Type 0} (capacity extra : ℕ) (events : List (Event V E)) → capacity < 2 ^ 63
     → installed_slots (run (made_core capacity extra) events) ≤ 2 * max capacity (peak (run (made_core capacity extra) events)) - 1
 slots_of_capacity capacity extra events l =
@@ -96,6 +98,7 @@ slots_of_capacity capacity extra events l =
 pub slots_of_new : {V E : Type 0} (events : List (Event V E)) → installed_slots (run new_core events) ≤ 2 * peak (run new_core events) - 1
 slots_of_new events = omega (arith, slots_of_capacity 0 0 events (omega arith))
 
+-- refusals come only where they may
 pub refused_take : {V E : Type 0} (core : Core V E) (refused : Bool) (growth : ℕ) → CoreFits core → IsTrue (is_refused core (TakeId refused growth))
     → HoldsAllBelow (2 ^ 63 - 1) (shadow core).held ⊎ (HoldsAllBelow (peak core) (shadow core).held × (peak core ≡ core.manager.room) × IsTrue refused)
 refused_take core refused growth h t =
