@@ -367,7 +367,7 @@ def kind_of(event):
 def one_schedule(seed, length, seen):
     """Runs one schedule and returns the first clause that fails, with the events up to there."""
     chance = random.Random(seed)
-    capacity = chance.choice([0, 0, 0, 1, 2, 3, 4, model.IDS])
+    capacity = min(chance.choice([0, 0, 0, 1, 2, 3, 4, model.IDS]), model.IDS)
     core = model.made_core(capacity, chance.choice([0, 0, 1, 3]))
     most, bound, cleared, events, waiting = 0, 0, False, [], []
     for mark in range(length):
