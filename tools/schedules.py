@@ -267,7 +267,12 @@ def publishes(number, value, missing):
 
 
 def story():
-    """Four Locals publish in a new table, a walk gives the four, and the next Local finds the first again."""
+    """Four Locals publish in a new table, a walk gives the four, and the next Local finds the first again.
+
+    Returns the part that breaks, if one does. It wants a table with room for four.
+    """
+    if model.IDS < 4:
+        return None
     four = ["a", "b", "c", "d"]
     core = model.run(new_core(), [("TakeId", False, 0)] * 4)
     for k in range(4):
