@@ -1,0 +1,6 @@
+-- What a `&` to a cell holds names the token of the thread that may use it.
+use Rattle.std.proofs.Common.{[], inr, false}
+use Rattle.thread_local_judged.proofs.judged.RefCellJudge.judge.Goals as goal
+
+pub returns : goal.returns
+returns g c = record { judged = inr (λ h. ((h tt 0 0 [] ([], 0, 0, 0)).1.0 0 false)) }
