@@ -1,0 +1,8 @@
+//! The raw memory of a table's buckets: blocks of slots, and words that are null or lead to a block.
+#![tactic(auto)]
+
+mod block;
+mod slot;
+
+pub use block::Block;
+pub use slot::Slot;
