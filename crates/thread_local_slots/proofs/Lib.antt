@@ -1,0 +1,4 @@
+pub mod Lent
+pub mod Rested
+pub mod Sent
+mod Tokens

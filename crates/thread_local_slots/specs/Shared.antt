@@ -1,0 +1,209 @@
+-- What threads share of a word and of the slots that it leads to.
+-- Each time a word is shared it takes a turn: a life, and fresh names. One invariant holds the word with all its slots, for all that life.
+--     a standing block    where it lies, a lifetime of its own beside the turn's, and a name for each slot, which tracks the slot's value
+--     tokens              each turn has three of every id, one holder each:
+--                         pass    it lies with the slot, but where a claim took it before the block stood and left its right
+--                         vacant    it lies with the slot once a value is published, and till then with whoever may publish
+--                         filled    the other way round
+--     holds, stands       what the one who claims a slot has of it, and what stays with the slot, by the value that is published
+-- Where a `&` to a value names no thread, a published value is shared for good. Where it may name one, whoever claims the slot has the borrow.
+use Rattle.std.specs.Prelude.{◌≡◌, ℕ, zero, suc, ◌+◌, ◌^◌, Bool, true, false, List, [], ◌∷◌, length, Option, None, Some}
+use Rattle.std.specs.Coded.{coded_option}
+use mathlib.Core.Logic.{inl, inr}
+use base.Stored.{Gv, Coded, gnil, gcons, coded×, coded_ℕ, coded_list, coded_bool, coded_via}
+use base.Fml.{Lft, GName, Share, Fml, ftrue, ffalse, fsep, fex, fall, flft, fdead, fobs, fauth, fres, fbor, flent}
+use base.Before.{before}
+use denote.RattleType.{RattleType}
+use denote.Memory.{shared_of}
+use denote.RawPtr.{Ptr, block_ptr, null_ptr, block_of, count_of, InBlock, Testable, coded_ptr}
+use denote.Sharing.{said, beside, some, ends, always}
+use Rattle.std.specs.Sync.RawAtomic.{word}
+use Rattle.std.specs.Sync.RawAtomic.Pointer.{cell}
+use Rattle.thread_local_model.specs.Place.{id_at}
+use Rattle.thread_local_rights.specs.Rights.{right_owns}
+use Rattle.thread_local_judged.specs.Judged.{Shareable, Judged}
+use Rattle.thread_local_blocks.specs.Slots.{fact, flag_of, heap_token, stride, block_ty, Fits, value_at, rim, place}
+
+-- what a contract sees of a word that is shared: its table, its bucket, and whether the bucket is reserved
+pub record Named : Type 0 where
+  pub table : ℕ
+  pub bucket : ℕ
+  pub reserved : Bool
+
+abbrev pub named_coded : Coded Named
+named_coded = coded_via (coded× coded_ℕ (coded× coded_ℕ coded_bool)) (λ (d : Named). (d.table, (d.bucket, d.reserved))) (λ x y e i. record { table = (e i).0; bucket = (e i).1.0; reserved = (e i).1.1 })
+
+-- the life and the names of one sharing
+pub record Turn : Type 0 where
+  pub life : Lft
+  pub pass : GName
+  pub vacant : GName
+  pub filled : GName
+  pub which : GName
+
+-- the block that a word leads to, its own lifetime, and the names of its slots
+pub record Standing : Type 0 where
+  pub at : Ptr
+  pub own : ℕ
+  pub names : List ℕ
+
+abbrev pub standing_coded : Coded Standing
+standing_coded = coded_via (coded× coded_ptr (coded× coded_ℕ (coded_list coded_ℕ))) (λ (s : Standing). (s.at, (s.own, s.names))) (λ x y e i. record { at = (e i).0; own = (e i).1.0; names = (e i).1.1 })
+
+-- what the name `which` says once a block stands
+abbrev pub mark : Standing → Gv
+mark s = gcons gnil (standing_coded.code s)
+
+-- who has a slot: nobody, a claim, or a claim from before the block stood
+pub data Who : Type 0 where
+  free : Who
+  claimed : Who
+  early : Who
+
+module _ (R : RattleType) where
+  -- how the name of a slot says its value
+  abbrev pub value_code : Option R.Denot → Gv
+  value_code = (coded_option R.coded).code
+
+  -- the slot's value is x for good
+  abbrev pub pinned : GName → R.Denot → Fml
+  pinned η x = fres η (value_code (Some x))
+
+  -- the place of a slot's value, under the name that tracks it
+  abbrev pub value_of : ℕ → ℕ → GName → Fml
+  value_of b e η = fex (Option R.Denot) (λ c. fsep (place R c b (value_at R e)) (fauth η (value_code c)))
+
+  module _ (t : Turn) (b ν : ℕ) where
+    -- how long what is lent of a block at b lasts
+    abbrev pub age : Lft
+    age = ν ∷ t.life
+
+    -- a `&` to the value of the slot at e
+    abbrev pub shared_value : ℕ → R.Denot → Fml
+    shared_value e x = shared_of R x b (value_at R e) age
+
+    -- the same, for whoever shows that it names no thread
+    abbrev pub opened : ℕ → R.Denot → Fml
+    opened e x = fall (Shareable R) (λ _. shared_value e x)
+
+    -- the published value, for the one who claims the slot
+    abbrev pub by : ℕ → GName → R.Denot → Judged R → Fml
+    by e η x (inl _) = shared_value e x
+    by e η x (inr _) = fbor age (value_of b e η)
+
+    -- what the one who claims the slot k has of it
+    abbrev pub holds : ℕ → ℕ → GName → Option R.Denot → Fml
+    holds k e η None = fsep (right_owns t.vacant k) (fsep (fobs η (value_code None)) (fbor age (value_of b e η)))
+    holds k e η (Some x) = fsep (right_owns t.filled k) (fsep (pinned η x) (fex (Judged R) (by e η x)))
+
+    -- what stays with the slot
+    abbrev pub stands : ℕ → ℕ → GName → Option R.Denot → Fml
+    stands k e η None = right_owns t.filled k
+    stands k e η (Some x) = fsep (right_owns t.vacant k) (fsep (pinned η x) (opened e x))
+
+    -- what lies with the slot, by who has it
+    abbrev pub had : ℕ → ℕ → ℕ → GName → Option R.Denot → Who → Fml
+    had table k e η v free = fsep (right_owns t.pass k) (holds k e η v)
+    had table k e η v claimed = fsep (right_owns table k) (right_owns t.pass k)
+    had table k e η v early = fsep (right_owns table k) (holds k e η None)
+
+    -- a slot whose value is v
+    abbrev pub slot_as : ℕ → ℕ → ℕ → GName → Option R.Denot × Who → Fml
+    slot_as table k e η s = fsep (word b (e + 0) (flag_of s.0)) (fsep (stands k e η s.0) (had table k e η s.0 s.1))
+
+    abbrev pub slot : ℕ → ℕ → ℕ → GName → Fml
+    slot table k e η = fsep (rim R b e) (fsep (flent age (value_of b e η)) (fex (Option R.Denot × Who) (slot_as table k e η)))
+
+  -- one slot for each name, from the key k and the place e on
+  abbrev pub each_slot : (ℕ → ℕ → GName → Fml) → List ℕ → ℕ → ℕ → Fml
+  each_slot F [] k e = ftrue
+  each_slot F (η ∷ names) k e = fsep (F k e η) (each_slot F names (suc k) (e + stride R))
+
+  -- a slot's tokens and its right, while there is no block for it
+  abbrev pub waiting : Bool → GName → GName → ℕ → Fml
+  waiting true table pass k = right_owns table k
+  waiting false table pass k = right_owns pass k
+
+  abbrev pub unborn : ℕ → Turn → ℕ → Fml
+  unborn table t k = fsep (right_owns t.vacant k) (fsep (right_owns t.filled k) (fex Bool (λ early. waiting early table t.pass k)))
+
+  -- the same of n slots from the key k on
+  abbrev pub all_unborn : ℕ → Turn → ℕ → ℕ → Fml
+  all_unborn table t zero k = ftrue
+  all_unborn table t (suc n) k = fsep (unborn table t k) (all_unborn table t n (suc k))
+
+  -- at rest, what lies at the place of a slot's value: it, or what is due since the sharing has ended
+  abbrev pub due : ℕ → ℕ → Option R.Denot → Lft × GName → Fml
+  due b e None s = fsep (fdead s.0) (flent s.0 (value_of b e s.1))
+  due b e (Some x) s = fsep (pinned s.1 x) (fsep (fdead s.0) (flent s.0 (value_of b e s.1)))
+
+  abbrev pub rests : Bool → ℕ → ℕ → Option R.Denot → Fml
+  rests false b e v = place R v b (value_at R e)
+  rests true b e v = fex (Lft × GName) (due b e v)
+
+  -- a slot at rest
+  abbrev pub slot_rests_as : ℕ → ℕ → Option R.Denot × Bool → Fml
+  slot_rests_as b e s = fsep (word b (e + 0) (flag_of s.0)) (rests s.1 b e s.0)
+
+  abbrev pub slot_rests : ℕ → ℕ → Fml
+  slot_rests b e = fsep (rim R b e) (fex (Option R.Denot × Bool) (slot_rests_as b e))
+
+  abbrev pub slots_rest : ℕ → ℕ → ℕ → Fml
+  slots_rest zero b e = ftrue
+  slots_rest (suc n) b e = fsep (slot_rests b e) (slots_rest n b (e + stride R))
+
+  -- a block of n slots may lie there
+  abbrev pub Sized : ℕ → Ptr → Type 0
+  Sized n p = InBlock p × Testable p × Fits R n
+
+  module _ (d : Named) where
+    -- how many slots the bucket has
+    abbrev pub len : ℕ
+    len = 2 ^ d.bucket
+
+    -- the id of its first slot
+    abbrev pub first : ℕ
+    first = id_at d.bucket 0
+
+    module _ (t : Turn) where
+      -- the name `which` says nothing yet
+      abbrev pub pending : Fml
+      pending = fsep (fobs t.which gnil) (fauth t.which gnil)
+
+      abbrev pub settled : Standing → Fml
+      settled s = fsep (fauth t.which (mark s)) (fres t.which (mark s))
+
+      -- a part of its own lifetime's token, its slots, and the right to free it
+      abbrev pub standing : Ptr → Standing × Share → Fml
+      standing p s = fsep (fact ((s.0.at ≡ p) × (length s.0.names ≡ len) × Sized len p)) (fsep (settled s.0) (fsep (flft (s.0.own ∷ []) s.1)
+          (fsep (each_slot (slot t (block_of p) s.0.own d.table) s.0.names first (count_of p)) (heap_token (block_ty R len) p))))
+
+      -- what lies beside the pointer
+      abbrev pub beside_pointer : Ptr → Fml
+      beside_pointer null_ptr = fsep (fact (d.reserved ≡ false)) (fsep pending (all_unborn d.table t len first))
+      beside_pointer (block_ptr b o) = fex (Standing × Share) (standing (block_ptr b o))
+
+      abbrev pub invariant : ℕ → ℕ → Fml
+      invariant b o = fex Ptr (λ p. fsep (cell b o p) (beside_pointer p))
+
+      -- the turn lasts, and what it holds
+      abbrev pub kept : ℕ → ℕ → Lft → Fml
+      kept b o = beside (ends t.life) (always (fbor t.life (invariant b o)))
+
+      -- what a load hands out of a block that stands: which it is, and that it lasts
+      abbrev pub row : Standing → Lft → Fml
+      row s κ = fsep (fact ((length s.names ≡ len) × Sized len s.at)) (fsep (fres t.which (mark s)) (before κ (s.own ∷ t.life)))
+
+    -- what a word at rest owns beside its pointer
+    abbrev pub at_rest : Ptr → Fml
+    at_rest null_ptr = fact (d.reserved ≡ false)
+    at_rest (block_ptr b o) = fsep (fact (Sized len (block_ptr b o))) (fsep (slots_rest len b o) (heap_token (block_ty R len) (block_ptr b o)))
+
+    -- a word at rest whose fields are these
+    abbrev pub word_owns : (Ptr → Fml) → Fml
+    word_owns fields = fsep (fact (Judged R)) (fex Ptr (λ p. fsep (fields p) (at_rest p)))
+
+    -- what a `&` to the word at a place holds
+    abbrev pub word_shares : Ptr → Lft → Fml
+    word_shares (block_ptr b o) = beside (said (fact (Judged R))) (some Turn (λ t. kept t b (o + 0)))
+    word_shares null_ptr = said ffalse
