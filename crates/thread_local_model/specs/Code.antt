@@ -1,7 +1,12 @@
-use Rattle.std.specs.Prelude.{List, Option, refl}
-use Rattle.std.specs.Coded.{Coded, coded_list, coded_option, code_by}
+use Rattle.std.specs.Prelude.{List, Option, refl, ℕ}
+use Rattle.std.specs.Coded.{Coded, coded_list, coded_option, coded_ℕ, coded×, code_by}
 use Rattle.thread_local_model.specs.Buckets.{Contents}
+use Rattle.thread_local_model.specs.Owned.{Owned}
 
 -- how a proof tells contents apart: by their rows
 abbrev pub contents_coded : {V : Type 0} → Coded V → Coded (Contents V)
 contents_coded {V} c = code_by (List (List (Option V))) (coded_list (coded_list (coded_option c))) (λ s. s.rows) (λ rows. record { rows = rows }) (λ _. refl)
+
+-- how it tells an owner's buckets apart: by contents and reserved slots
+abbrev pub owned_coded : {V : Type 0} → Coded V → Coded (Owned V)
+owned_coded {V} c = code_by (Contents V × ℕ) (coded× (contents_coded c) coded_ℕ) (λ o. (o.contents, o.reserved)) (λ p. record { contents = p.0; reserved = p.1 }) (λ _. refl)

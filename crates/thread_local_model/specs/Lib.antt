@@ -6,4 +6,5 @@ pub mod Rows
 pub mod Capacity
 pub mod Sheet
 pub mod Answers
+pub mod Owned
 pub mod Code
