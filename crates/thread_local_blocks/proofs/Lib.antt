@@ -1,3 +1,4 @@
 pub mod Names
 pub mod Slots
 pub mod Fields
+pub mod Words

@@ -3,6 +3,8 @@
 
 mod block;
 mod slot;
+mod word;
 
 pub use block::Block;
 pub use slot::Slot;
+pub use word::Word;
