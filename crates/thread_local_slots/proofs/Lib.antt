@@ -1,4 +1,7 @@
+pub mod Fields
 pub mod Lent
 pub mod Rested
+pub mod Loads
+pub mod Pointers
 pub mod Sent
-mod Tokens
+pub mod Tokens

@@ -13,7 +13,7 @@ use Rattle.std.proofs.Crossing.{frees}
 use Rattle.thread_local_rights.proofs.Elements.{right_keyless}
 use Rattle.thread_local_judged.specs.Judged.{Judged}
 use Rattle.thread_local_blocks.specs.Slots.{heap_token, stride, value_at, place, block_ty}
-use Rattle.thread_local_slots.specs.Shared.{Named, Turn, Standing, Who, free, claimed, early, value_of, by, holds, stands, had, slot, each_slot, waiting, all_unborn, rests, slots_rest, beside_pointer, kept, row, at_rest, len, first}
+use Rattle.thread_local_slots.specs.Shared.{Named, Turn, Standing, Who, free, claimed, early, value_of, by, holds, stands, had, slot, each_slot, waiting, all_unborn, rests, slots_rest, beside_pointer, kept, row, row_owns, at_rest, len, first}
 
 pub chain_keyless : (νs : List Lft) (κ α : Lft) → Keyless (chain νs κ α)
 chain_keyless [] κ α = λ _. tt
@@ -85,3 +85,6 @@ module _ (R : RattleType) (s : IsSend R) where
   pub at_rest_keyless : (d : Named) (p : Ptr) → Keyless (at_rest R d p)
   at_rest_keyless d null_ptr = λ _. tt
   at_rest_keyless d (block_ptr b o) = ((λ _. tt), (slots_rest_keyless (len R d) b o, token_keyless (block_ty R (len R d)) (block_ptr b o)))
+
+  pub found_keyless : (d : Named) (β : Lft) (p : Ptr) → Keyless (row_owns R d β p)
+  found_keyless d β p = λ z. ((λ _. tt), (kept_keyless d z.0 z.2 z.3 β, row_keyless d z.0 z.1 β))

@@ -54,6 +54,10 @@ standing_coded = coded_via (coded× coded_ptr (coded× coded_ℕ (coded_list cod
 abbrev pub mark : Standing → Gv
 mark s = gcons gnil (standing_coded.code s)
 
+-- a sharing, a block that stands under it, and where the word lies
+abbrev pub Found : Type 0
+Found = Turn × Standing × ℕ × ℕ
+
 -- who has a slot: nobody, a claim, or a claim from before the block stood
 pub data Who : Type 0 where
   free : Who
@@ -207,3 +211,11 @@ module _ (R : RattleType) where
     abbrev pub word_shares : Ptr → Lft → Fml
     word_shares (block_ptr b o) = beside (said (fact (Judged R))) (some Turn (λ t. kept t b (o + 0)))
     word_shares null_ptr = said ffalse
+
+  module _ (d : Named) where
+    abbrev pub row_as : Lft → Ptr → Found → Fml
+    row_as β p z = fsep (fact ((z.1.at ≡ p) × Judged R)) (fsep (kept d z.0 z.2 z.3 β) (row d z.0 z.1 β))
+
+    -- what a load hands out, as a value: the word is shared, and the block at p stands
+    abbrev pub row_owns : Lft → Ptr → Fml
+    row_owns β p = fex Found (row_as β p)

@@ -1,6 +1,8 @@
 //! A word that threads share, with the slots that it leads to.
 #![tactic(auto)]
 
+pub mod row;
 pub mod word;
 
+pub use row::Row;
 pub use word::SharedWord;

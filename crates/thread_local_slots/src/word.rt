@@ -1,12 +1,16 @@
 //! A word that threads share: null, or a block of slots.
+ghost use Rattle.std.specs.Prelude.{◌≡◌, true, IfSome, IsSome};
 ghost use Rattle.thread_local_slots.specs.Shared.{Named, named_coded, word_owns, word_shares};
 
-use std::marker::{Move, Owns};
+use crate::row::Row;
+use std::marker::{Brand, Move, Owns, PhantomData};
+use std::sync::atomic::Ordering::SeqCst;
+use std::sync::atomic::raw::ptr;
 use thread_local_blocks::Slot;
 
 /// A word that threads share: null, or a block of slots. A contract sees its table, its bucket and whether the bucket is reserved.
 pub struct SharedWord<T> {
-    at: *mut Slot<T>,
+    pub at: *mut Slot<T>,
 }
 
 impl<T> Owns for SharedWord<T> {
@@ -19,6 +23,25 @@ impl<T> Owns for SharedWord<T> {
 
 impl<T> Move for SharedWord<T> {
     ghost own_val = { λ d vs. word_owns T.row d (λ p. Fields.own_val (record { at = p }) vs) };
+}
+
+impl<T> SharedWord<T> {
+    /// The row of the bucket's slots, for as long as the word is borrowed, or nothing where the bucket is missing. A reserved bucket always
+    /// stands. It is one atomic load: it takes no memory, and never waits.
+    pub fn load(&self) -> Option<Row<'_, T>>
+        ensures of { IfSome result (λ row. row.of ≡ self.now) }
+        ensures reserved { self.now.reserved ≡ true → IsSome result }
+    {
+        let at = unsafe { ptr::load::<u64, Brand>(&raw const self.at as *const *mut u64, SeqCst) };
+        if at.is_null() {
+            None
+        } else {
+            Some(Row {
+                at: at as *mut Slot<T>,
+                marker: PhantomData,
+            })
+        }
+    }
 }
 
 unsafe impl<T: Send> Send for SharedWord<T> {}
