@@ -1,0 +1,78 @@
+-- One word among the others, and the value of one slot among those of its block and of the others. Assumes `Logic`.
+use Rattle.thread_local_loan.proofs.Names.{◌≡◌, ℕ, zero, suc, ◌+◌, ◌*◌, ◌<◌, List, [], ◌∷◌, length, set, get_or, refl, sym, arith, Option, Ura, SProp, ent, sep, wand, all, all_e, apply∗, never_e, Fml, Logic, sem, ‵, raw, ◌⊛◌, ◌$◌, ◌∵◌, !, qed, move, split, frame, each, assume, use1, use2, rewrite, done, RattleType, Ptr, null_ptr, block_of, count_of}
+use Rattle.thread_local_blocks.specs.Slots.{stride, along, slot_at}
+use Rattle.thread_local_blocks.proofs.Slots.{along_at, Reset}
+use Rattle.thread_local_loan.specs.Lent.{valued, framed, frames, values_at}
+
+abbrev pub pointer : List Ptr → ℕ → Ptr
+pointer ps k = get_or ps k null_ptr
+
+abbrev pub in_row : {X : Type 0} → List (List (Option X)) → ℕ → List (Option X)
+in_row rs k = get_or rs k []
+
+module _ {M : Type 1} {𝓤 : Ura M} (𝓛 : Logic 𝓤) (R : RattleType) where
+  open 𝓛 use {H, A}
+
+  abbrev Pr : Type 2
+  Pr = SProp 𝓤
+
+  abbrev ◌⊢◌ : Pr → Pr → Type 1
+  P ⊢ Q = ent 𝓤 P Q
+
+  abbrev ◌∗◌ : Pr → Pr → Pr
+  P ∗ Q = sep 𝓤 P Q
+
+  abbrev ◌-∗◌ : Pr → Pr → Pr
+  P -∗ Q = wand 𝓤 P Q
+
+  abbrev ⟦◌⟧ : Fml → Pr
+  ⟦ P ⟧ = sem 𝓛 P
+
+  infix 26 ◌⊢◌
+  infixr 35 ◌∗◌
+  infixr 30 ◌-∗◌
+  abbrev Slots : Type 0
+  Slots = List (Option R.Denot)
+
+  -- ---- a word
+  abbrev pub Frame : ℕ → ℕ → List Ptr → List Slots → ℕ → ℕ → Pr
+  Frame b e ps rs k e' = ⟦ framed R b e' (pointer ps k) (in_row rs k) ⟧ -∗ ⟦ frames R b e ps rs ⟧
+
+  pub frame_out : (b : ℕ) (ps : List Ptr) (rs : List Slots) (k e e' : ℕ) → e' ≡ k * 8 + e → k < length rs → ⟦ frames R b e ps rs ⟧ ⊢ ⟦ framed R b e' (pointer ps k) (in_row rs k) ⟧ ∗ Frame b e ps rs k e'
+  frame_out b ps [] k e e' is near = absurd (omega arith)
+  frame_out b [] (r ∷ rs) k e e' is near = never_e 𝓤 _
+  frame_out b (p ∷ ps) (r ∷ rs) zero e e' is near = let same : e ≡ e' = omega arith in qed 𝓛 (‵ (framed R b e p r) ∷ ‵ (frames R b (e + 8) ps rs) ∷ []) ∵ rewrite ! 0 (λ (i : ℕ). ‵ (framed R b i p r)) same refl $ frame ! $
+      assume ! (‵ (framed R b e' p r)) $ rewrite ! 0 (λ (i : ℕ). ‵ (framed R b i p r)) (sym same) refl $ done !
+  frame_out b (p ∷ ps) (r ∷ rs) (suc k) e e' is near = qed 𝓛 (‵ (framed R b e p r) ∷ ‵ (frames R b (e + 8) ps rs) ∷ []) ∵ move ! (1 ∷ []) $
+      use1 𝓛 (‵ (framed R b e' (pointer ps k) (in_row rs k)) ⊛ raw (Frame b (e + 8) ps rs k e')) (frame_out b ps rs k (e + 8) e' (omega arith) (omega arith)) $ split ! $ frame ! $
+      assume ! (‵ (framed R b e' (pointer ps k) (in_row rs k))) $ move ! (0 ∷ 1 ∷ []) $ use2 𝓛 (‵ (frames R b (e + 8) ps rs)) (apply∗ 𝓤 ⟦ framed R b e' (pointer ps k) (in_row rs k) ⟧ ⟦ frames R b (e + 8) ps rs ⟧) $ move ! (1 ∷ 0 ∷ []) $ done !
+
+  -- ---- the values of a block
+  abbrev pub Block : List Ptr → List Slots → ℕ → Slots → Pr
+  Block ps rs k r = ⟦ along R (valued R (block_of (pointer ps k))) r (count_of (pointer ps k)) ⟧ -∗ ⟦ values_at R ps (set rs k r) ⟧
+
+  block_out : (ps : List Ptr) (rs : List Slots) (k : ℕ) → k < length rs → ⟦ values_at R ps rs ⟧ ⊢ ⟦ along R (valued R (block_of (pointer ps k))) (in_row rs k) (count_of (pointer ps k)) ⟧ ∗ all 𝓤 (Block ps rs k)
+  block_out ps [] k near = absurd (omega arith)
+  block_out [] (r ∷ rs) k near = never_e 𝓤 _
+  block_out (p ∷ ps) (r ∷ rs) zero near = qed 𝓛 (‵ (along R (valued R (block_of p)) r (count_of p)) ∷ ‵ (values_at R ps rs) ∷ []) ∵ frame ! $
+      each ! (Block (p ∷ ps) (r ∷ rs) 0) (λ q. assume ! (‵ (along R (valued R (block_of p)) q (count_of p))) $ done !)
+  block_out (p ∷ ps) (r ∷ rs) (suc k) near = qed 𝓛 (‵ (along R (valued R (block_of p)) r (count_of p)) ∷ ‵ (values_at R ps rs) ∷ []) ∵ move ! (1 ∷ []) $
+      use1 𝓛 (‵ (along R (valued R (block_of (pointer ps k))) (in_row rs k) (count_of (pointer ps k))) ⊛ raw (all 𝓤 (Block ps rs k))) (block_out ps rs k (omega arith)) $ split ! $ frame ! $
+      each ! (Block (p ∷ ps) (r ∷ rs) (suc k)) (λ q. use1 𝓛 (raw (Block ps rs k q)) (all_e 𝓤 (Block ps rs k) q) $ assume ! (‵ (along R (valued R (block_of (pointer ps k))) q (count_of (pointer ps k)))) $
+      use2 𝓛 (‵ (values_at R ps (set rs k q))) (apply∗ 𝓤 ⟦ along R (valued R (block_of (pointer ps k))) q (count_of (pointer ps k)) ⟧ ⟦ values_at R ps (set rs k q) ⟧) $ move ! (1 ∷ 0 ∷ []) $ done !)
+
+  -- ---- the value of a slot
+  module _ (ps : List Ptr) (rs : List Slots) (k i e : ℕ) (is : e ≡ i * stride R + count_of (pointer ps k)) (near : k < length rs) (inside : i < length (in_row rs k)) where
+    abbrev b : ℕ
+    b = block_of (pointer ps k)
+
+    abbrev pub Value : Option R.Denot → Pr
+    Value c = ⟦ valued R b c e ⟧ -∗ ⟦ values_at R ps (set rs k (set (in_row rs k) i c)) ⟧
+
+    pub value_out : ⟦ values_at R ps rs ⟧ ⊢ ⟦ valued R b (slot_at (in_row rs k) i) e ⟧ ∗ all 𝓤 Value
+    value_out = let r : Slots = in_row rs k in let o : ℕ = count_of (pointer ps k) in let G = valued R b in qed 𝓛 (‵ (values_at R ps rs) ∷ []) ∵
+        use1 𝓛 (‵ (along R G r o) ⊛ raw (all 𝓤 (Block ps rs k))) (block_out ps rs k near) $ split ! $
+        use1 𝓛 (‵ (G (slot_at r i) e) ⊛ raw (all 𝓤 (Reset 𝓛 R G r i o e))) (along_at 𝓛 R G r i o e is inside) $ split ! $ frame ! $
+        each ! Value (λ c. let r' : Slots = set r i c in use1 𝓛 (raw (Reset 𝓛 R G r i o e c)) (all_e 𝓤 (Reset 𝓛 R G r i o e) c) $ assume ! (‵ (G c e)) $
+        use2 𝓛 (‵ (along R G r' o)) (apply∗ 𝓤 ⟦ G c e ⟧ ⟦ along R G r' o ⟧) $ move ! (1 ∷ []) $ use1 𝓛 (raw (Block ps rs k r')) (all_e 𝓤 (Block ps rs k) r') $ move ! (1 ∷ 0 ∷ []) $
+        use2 𝓛 (‵ (values_at R ps (set rs k r'))) (apply∗ 𝓤 ⟦ along R G r' o ⟧ ⟦ values_at R ps (set rs k r') ⟧) $ done !)

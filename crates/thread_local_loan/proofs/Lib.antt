@@ -1,0 +1,7 @@
+mod Names
+mod Frames
+mod Shapes
+mod Giving
+mod Fields
+mod Left
+mod Blocks

@@ -1,0 +1,72 @@
+-- `is_published` reads a word, and a flag of the block that it leads to.
+use Rattle.thread_local_loan.proofs.Names.{drop, apply∗, sem, all, all_e, split3, is, size_word, length, set, None, is_some, T, has_ty, WT, ty_int, word, cell, ◌≤◌, ◌≡◌, ℕ, ◌+◌, ◌*◌, ◌^◌, ◌<◌, List, [], ◌∷◌, sym, refl, ap, ◌∙◌, subst, arith, w64, Bool, Option, a_type, named, Val, vint, vptr, inst_fn, full_share, SProp, emp, Fml, ftrue, fsep, flft, ‵, raw, ◌⊛◌, given, at_ret, ◌$◌, ◌∵◌, !, qed, by, move, keep, use0, use1, use2, split, join, fsplit, fsplit3, fjoin, fjoin3, fpick, fpack, learn, rewrite, feq_i, stop, fld, load, lit, of_opd, bin, first, blocks, exec, returns, enter, look, alloc_all, pass_all, free_all, look_at, get, through, sets, sets_last, env, sub, look_in, whole, bor_open, obor_close, tables, fact_i, yes, RattleType, owns, types_at, plain, named_lft, Ptr, block_ptr, block_of, count_of, at_block, InBlock, nothing, heard, opens, closes, peeks, Is, shows, cell_at, param, layouts, usize, mut_vals, mut_Tells, uint_vals, uint_Tells, Stays, stay_dropped, stay_ref, walk_of, Goes-dropped, Goes-ref, proved, leaves}
+use contract.Monad.{fact}
+use mir.Val.{vbool}
+use Rattle.std.proofs.Common.{eqb}
+use Rattle.std.proofs.lemmas.List.{set-get_or}
+use Rattle.std.proofs.alloc.Shapes.{after}
+use Rattle.thread_local_model.specs.Buckets.{row, IsTable}
+use Rattle.thread_local_model.specs.Place.{id_at}
+use Rattle.thread_local_model.specs.Rows.{slot}
+use Rattle.thread_local_blocks.specs.Slots.{flag_of, slot_at, stride, along}
+use Rattle.thread_local_blocks.proofs.Slots.{along_at, Reset, within}
+use Rattle.thread_local_blocks.proofs.Fields.{uncapped}
+use Rattle.thread_local_loan.specs.Lent.{Lending, lending, framed, frames, flagged, Leads, IsLeft}
+use Rattle.thread_local_loan.specs.contracts.loan.Loan as loan
+use Rattle.thread_local_loan.specs.contracts.loan.Loan.is_published.{ended, clauses}
+use Rattle.thread_local_loan.specs.contracts.loan.Loan.is_published.Key.{name as #self}
+use Rattle.thread_local_loan.proofs.Fields.{Words, told, loan_val, leads_in, flagged_so}
+use Rattle.thread_local_loan.proofs.Frames.{pointer, in_row, Frame, frame_out}
+use Rattle.thread_local_loan.proofs.loan.Loan.is_published.Statement.{statement}
+use Rattle.thread_local_loan.proofs.loan.Loan.is_published.Code as code
+
+pub is_published_spec : {M : Type 1} → statement M
+is_published_spec 𝓤 𝓛 𝓜 𝓡 wired X L =
+    let H = 𝓛.H in let 𝓣 = tables 𝓤 H 𝓜 𝓡 𝓡.env in let R : RattleType = param 0 X in let En = ended X in let c₀ = clauses X 𝓛 𝓜.mem 𝓡.returns in
+    let inst = layouts (a_type ∷ []) (X, tt) in let fn = inst_fn inst code.function in
+    let mine = plain (λ κs. loan.the_row (named_lft 3 1 tt κs) R) in
+    let hs : Stays En.signature.params En.kept = (stay_ref (0 ∷ []) tt mine, (stay_dropped (plain (λ _. usize)) yes, (stay_dropped (plain (λ _. usize)) yes, tt))) in let goes = Goes-dropped 𝓛 3 (plain (λ _. usize)) yes (λ κs x f. refl) in
+    proved 𝓛 En hs c₀ 𝓜 𝓡 (Goes-ref 𝓛 3 0 tt mine, (goes, (goes, tt))) (#self inst) fn (code.unfolded 𝓤 H 𝓜 𝓡 wired (X, tt))
+    (λ κs. (mut_vals, (uint_vals w64, (uint_vals w64, tt)))) (λ κs. (mut_Tells (named 0) κs.0 (loan.the_row (named_lft 3 1 tt κs) R), (uint_Tells w64, (uint_Tells w64, tt)))) (λ κs qs bounds a gh are.
+    let ℓ = named_lft 3 1 tt κs in let Lo : RattleType = loan.the_row ℓ R in let D : RattleType = Words ℓ R in
+    let b : ℕ = a.0.ref_ptr.0 in let o : ℕ = a.0.ref_ptr.1 in let h : Lo.Denot = a.0.now in let k : ℕ = a.1.0 in let i : ℕ = a.1.1.0 in
+    let y : (walk_of 𝓛 En hs c₀).Ghost = ((κs, qs, bounds, a, (vptr b o ∷ [], (vint w64 k ∷ [], (vint w64 i ∷ [], tt)))), gh) in let Post : Val → SProp 𝓤 = (walk_of 𝓛 En hs c₀).post y in
+    let others : Fml = fsep (flft κs.1.0 qs.1.0) (fsep (flft κs.1.1.0 qs.1.1.0) ftrue) in
+    let InTable : Type 0 = k < 63 in let InBucket : Type 0 = i < length (row h.contents k) in let Ahead : Type 0 = h.given ≤ id_at k i in
+    qed 𝓛 (((‵ (flft κs.0 qs.0) ⊛ ‵ others) ⊛ ‵ (owns (types_at En.signature.params κs) a y.0.4)) ∷ raw (fact 𝓤 _) ∷ (raw (fact 𝓤 InTable) ⊛ raw (fact 𝓤 InBucket) ⊛ raw (fact 𝓤 Ahead)) ∷ []) ∵
+    keep ! (2 ∷ 0 ∷ []) $ split3 ! $ heard ! InTable (λ small. heard ! InBucket (λ inside. heard ! Ahead (λ ahead. split ! $ split ! $ move ! (2 ∷ []) $ fsplit ! $ fsplit3 ! $ keep ! (1 ∷ 2 ∷ 4 ∷ 5 ∷ []) $
+    enter ! 𝓣.C 𝓣.Λ fn (vptr b o ∷ vint w64 k ∷ vint w64 i ∷ []) Post $ alloc_all ! (λ l. pass_all ! refl ((tt, tt), ((tt, record { fits = are.1.0.1 }), ((tt, record { fits = are.1.1.0.1 }), tt))) $ let Ev = env fn.locals l in
+    opens ! tt Lo b o (λ ts. move ! (1 ∷ []) $ fsplit ! $ peeks ! D (Is D) (shows 𝓛 D) (h.words, (tt, tt)) ts (λ is_so. move ! (1 ∷ []) $ fpick ! (λ s. fsplit ! $ fpick ! (λ so. drop ! $ fsplit ! $
+    -- [the frames; the values; the fields; the loan's cell; its open borrow, in three entries; the other tokens]
+    let at : h.words ≡ block_ptr (block_of h.words) (count_of h.words) = at_block h.words so.0 in let wb : ℕ = block_of h.words in let wo : ℕ = count_of h.words in let e : ℕ = k * 8 + wo in
+    let rs = s.1.rows in let p : Ptr = pointer s.0 k in let r = in_row rs k in let ev : ts ≡ loan_val (block_ptr wb wo) ∷ [] = told ℓ R h.words ts is_so ∙ ap (λ (q : Ptr). loan_val q ∷ []) at in
+    let near : i < length r = subst (λ n. i < n) (sym (so.1.long k)) inside in let sb : ℕ = block_of p in let e' : ℕ = i * stride R + count_of p in let c : Option X.Denot = slot_at r i in let n : ℕ = flag_of c in let F = flagged R sb in
+    move ! (7 ∷ []) $ fsplit ! $ move ! (2 ∷ 0 ∷ []) $ bor_open ! tt $ move ! (1 ∷ []) $
+    use1 𝓛 (‵ (framed R wb e p r) ⊛ raw (Frame 𝓛 R wb wo s.0 rs k e)) (frame_out 𝓛 R wb s.0 rs k wo e refl (subst (λ n. k < n) (sym so.1.rows) small)) $ split ! $ fsplit3 ! $ move ! (1 ∷ []) $ fpick ! (λ lead. drop ! $
+    let leads = leads_in R p r lead (omega arith) in let place : p ≡ block_ptr sb (count_of p) = at_block p leads.0 in let low : k * 8 < 2 ^ 64 = omega arith in let below : i * stride R < 2 ^ 63 = within 𝓛 R i (length r) (omega arith) leads.1 in let fits : i * stride R < 2 ^ 64 = omega arith in
+    move ! (1 ∷ []) $ use1 𝓛 (‵ (F c e') ⊛ raw (all 𝓤 (Reset 𝓛 R F r i (count_of p) e'))) (along_at 𝓛 R F r i (count_of p) e' refl near) $ split ! $
+    use1 𝓛 (given (T (has_ty (ty_int w64) (vint w64 n)) × WT (vint w64 n)) (‵ (word sb (e' + 0) n))) (𝓛.laws.at_wt full_share (ty_int w64) sb (e' + 0) (vint w64 n)) $ learn ! (λ typed.
+    -- [the flag; its way back; the word; the way back; the open frames; a token; the values; the fields; the loan's cell; its open borrow, in three entries]
+    rewrite ! 8 (λ (ws : List Val). ‵ (cell_at full_share Lo.mir ws b o)) ev refl $ rewrite ! 2 (λ (q : Ptr). ‵ (cell wb e q)) place refl $
+    first ! $ blocks ! $ sets ! (of_opd ! (load ! (through ! refl (fld ! refl (stop !))) (look_in ! 8 (sub ! 0 refl (whole !))))) refl (tt, tt) $
+    sets ! (bin ! (get ! refl) (lit ! tt) (record { fits = low })) refl (tt, record { fits = low }) $
+    sets ! (bin ! (get ! refl) (get ! refl) tt) refl (tt, tt) $
+    sets ! (of_opd ! (load ! (through ! refl (stop !)) (look ! 2 refl))) refl (tt, tt) $
+    sets ! (is ! (bin ! (get ! refl) (size_word !) (record { fits = subst (λ (j : ℕ). j < 2 ^ 64) (sym (uncapped i (stride R) fits)) fits })) (ap (vint w64) (uncapped i (stride R) fits))) refl (tt, record { fits = fits }) $
+    sets ! (bin ! (get ! refl) (get ! refl) tt) refl (tt, tt) $
+    sets ! (of_opd ! (load ! (through ! refl (fld ! refl (stop !))) (look ! 0 refl))) refl typed $
+    sets_last ! (bin ! (get ! refl) (lit ! tt) tt) refl (tt, tt) $ exec ! 𝓣.C 𝓣.Λ Ev (after 1 fn.body) (at_ret Ev Post) $
+    sets ! (of_opd ! (get ! refl)) refl (tt, tt) $
+    move ! (1 ∷ []) $ use1 𝓛 (raw (Reset 𝓛 R F r i (count_of p) e' c)) (all_e 𝓤 (Reset 𝓛 R F r i (count_of p) e') c) $ move ! (1 ∷ 0 ∷ []) $ use2 𝓛 (‵ (along R F (set r i c) (count_of p))) (apply∗ 𝓤 (sem 𝓛 (F c e')) (sem 𝓛 (along R F (set r i c) (count_of p)))) $
+    rewrite ! 0 (λ (z : List (Option X.Denot)). ‵ (along R F z (count_of p))) (set-get_or r i None) refl $ move ! (1 ∷ []) $ rewrite ! 0 (λ (q : Ptr). ‵ (cell wb e q)) (sym place) refl $
+    nothing ! $ fpack ! (Leads R p r) (λ _. ftrue) lead $ move ! (1 ∷ 0 ∷ 2 ∷ []) $ fjoin3 ! $ use2 𝓛 (‵ (frames R wb wo s.0 rs)) (apply∗ 𝓤 (sem 𝓛 (framed R wb e p r)) (sem 𝓛 (frames R wb wo s.0 rs))) $
+    move ! (1 ∷ 0 ∷ []) $ obor_close ! tt $ move ! (0 ∷ 3 ∷ []) $ fjoin ! $ nothing ! $ fpack ! (InBlock h.words × IsLeft s.1 h.contents h.given) (λ _. ftrue) so $ fjoin ! $
+    fpack ! (Lending R) (lending R ℓ.lft h.words h.name h.contents h.given) s $
+    -- [what the loan owns; two tokens; the fields; the loan's cell; its open borrow, in three entries]
+    move ! (3 ∷ 0 ∷ []) $ fjoin ! $ rewrite ! 3 (λ (ws : List Val). ‵ (cell_at full_share Lo.mir ws b o)) (sym ev) refl $ move ! (3 ∷ 0 ∷ 4 ∷ 5 ∷ 6 ∷ []) $ closes ! tt Lo h ts b o $
+    feq_i ! (List Val) (vptr b o ∷ []) (vptr b o ∷ []) refl $ fjoin3 ! $ nothing ! $ nothing ! $ fjoin ! $ nothing ! $ fjoin ! $ move ! (1 ∷ 0 ∷ []) $ fjoin ! $ move ! (2 ∷ 3 ∷ []) $ fjoin ! $ move ! (2 ∷ 0 ∷ []) $ join ! $
+    let yes_or_no : Bool = eqb n 1 in let Told : Type 0 = yes_or_no ≡ is_some (slot h.contents k i) in
+    use0 𝓛 (raw (fact 𝓤 (IsTable h.contents))) (fact_i 𝓤 (IsTable h.contents) (emp 𝓤) so.1.table) $
+    use0 𝓛 (raw (fact 𝓤 Told)) (fact_i 𝓤 Told (emp 𝓤) (flagged_so c ∙ sym (ap is_some (so.1.ahead k i ahead)))) $ join ! $ use0 𝓛 (raw (fact 𝓤 (h ≡ h))) (fact_i 𝓤 (h ≡ h) (emp 𝓤) refl) $ join ! $
+    feq_i ! (List Val) (vbool yes_or_no ∷ []) (vbool yes_or_no ∷ []) refl $
+    returns ! (look_at ! 0 refl) $ free_all ! refl $ keep ! (2 ∷ 3 ∷ 0 ∷ 1 ∷ []) $ by ! (leaves 𝓛 En hs c₀ y (vbool yes_or_no) yes_or_no (h, (tt, (tt, tt))) (tt, (tt, (tt, tt)))))))))))))))

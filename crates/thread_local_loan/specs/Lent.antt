@@ -1,0 +1,83 @@
+-- What a loan of a table's words owns: for as long as the words are lent, a borrow of the words and the flags, which stay as they are, and another
+-- of the values that it hasn't given. The rest of the words, as the right to free a block, waits for both to come back.
+use Rattle.std.specs.Prelude.{◌≡◌, ℕ, ◌+◌, ◌^◌, ◌<◌, ◌≤◌, Bool, List, [], ◌∷◌, length, map, is_some, Option, Some, None}
+use base.Fraction.{full_share}
+use base.Fml.{Lft, GName, Fml, ftrue, ffalse, fsep, fex, froom, fobs, fbor}
+use mir.Raw.{raw}
+use types.SemTy.{SemTy, Body}
+use denote.RattleType.{RattleType}
+use denote.Memory.{lone, part_at}
+use denote.RawPtr.{Ptr, null_ptr, block_of, count_of, InBlock}
+use Rattle.std.specs.Sync.RawAtomic.{word}
+use Rattle.std.specs.Sync.RawAtomic.Pointer.{cell}
+use Rattle.thread_local_model.specs.Place.{id_at}
+use Rattle.thread_local_model.specs.Buckets.{Contents, row, IsTable}
+use Rattle.thread_local_model.specs.Rows.{slot}
+use Rattle.thread_local_model.specs.Code.{contents_coded}
+use Rattle.thread_local_blocks.specs.Slots.{fact, flag_of, along, value_at, rim, Fits}
+
+-- which slots have a value
+abbrev pub shape : {X : Type 0} → List (List (Option X)) → List (List Bool)
+shape = map (map is_some)
+
+-- what a loan has left of the whole contents: all from the id `given` on
+pub record IsLeft {X : Type 0} (whole left : Contents X) (given : ℕ) : Type 0 where
+  pub table : IsTable left
+  pub rows : length whole.rows ≡ 63
+  pub long : (bucket : ℕ) → length (row whole bucket) ≡ length (row left bucket)
+  pub ahead : (bucket index : ℕ) → given ≤ id_at bucket index → slot left bucket index ≡ slot whole bucket index
+
+module _ (R : RattleType) where
+  -- of a slot: its flag
+  abbrev pub flagged : ℕ → Option R.Denot → ℕ → Fml
+  flagged b c e = word b (e + 0) (flag_of c)
+
+  -- its value
+  abbrev pub valued : ℕ → Option R.Denot → ℕ → Fml
+  valued b None e = ftrue
+  valued b (Some x) e = part_at R full_share x b (value_at R e)
+
+  -- and the rest
+  abbrev pub bare : ℕ → Option R.Denot → ℕ → Fml
+  bare b None e = fsep (froom (raw (lone R.mir)) b (value_at R e)) (rim R b e)
+  bare b (Some x) e = rim R b e
+
+  -- where a word leads
+  abbrev pub Leads : Ptr → List (Option R.Denot) → Type 0
+  Leads p [] = p ≡ null_ptr
+  Leads p (c ∷ cs) = InBlock p × (count_of p < 2 ^ 63) × Fits R (length (c ∷ cs))
+
+  -- a word and the flags of its block
+  abbrev pub framed : ℕ → ℕ → Ptr → List (Option R.Denot) → Fml
+  framed b e p cs = fsep (cell b e p) (fsep (fact (Leads p cs)) (along R (flagged (block_of p)) cs (count_of p)))
+
+  -- the words side by side
+  abbrev pub frames : ℕ → ℕ → List Ptr → List (List (Option R.Denot)) → Fml
+  frames b e [] [] = ftrue
+  frames b e [] (r ∷ rs) = ffalse
+  frames b e (p ∷ ps) [] = ffalse
+  frames b e (p ∷ ps) (r ∷ rs) = fsep (framed b e p r) (frames b (e + 8) ps rs)
+
+  -- the values in their blocks
+  abbrev pub values_at : List Ptr → List (List (Option R.Denot)) → Fml
+  values_at [] [] = ftrue
+  values_at [] (r ∷ rs) = ffalse
+  values_at (p ∷ ps) [] = ffalse
+  values_at (p ∷ ps) (r ∷ rs) = fsep (along R (valued (block_of p)) r (count_of p)) (values_at ps rs)
+
+  -- the values of contents that have a value in just these slots
+  abbrev pub Values : List Ptr → List (List Bool) → SemTy
+  Values ps has = record { rep = Contents R.Denot; coded = contents_coded R.coded; size = 0; own_at = λ w _ _. fsep (fact (shape w.rows ≡ has)) (values_at ps w.rows) }
+
+  abbrev pub lent_values : Lft → List Ptr → GName → Contents R.Denot → Fml
+  lent_values κ ps name left = fsep (fobs name ((contents_coded R.coded).code left)) (fbor κ (Body (Values ps (shape left.rows)) 0 0 name))
+
+  -- where the blocks lie, and what the words had when they were lent
+  abbrev pub Lending : Type 0
+  Lending = List Ptr × Contents R.Denot
+
+  abbrev pub lending : Lft → Ptr → GName → Contents R.Denot → ℕ → Lending → Fml
+  lending κ p name left given s = fsep (fact (InBlock p × IsLeft s.1 left given)) (fsep (fbor κ (frames (block_of p) (count_of p) s.0 s.1.rows)) (lent_values κ s.0 name left))
+
+abbrev pub loan_owns : Lft → (R : RattleType) → Ptr → GName → Contents R.Denot → ℕ → Fml
+loan_owns κ R p name left given = fex (Lending R) (lending R κ p name left given)

@@ -1,0 +1,85 @@
+//! The values of a table's words, lent one by one.
+ghost use Rattle.std.specs.Prelude.{◌≡◌, ◌≤◌, ◌<◌, ◌+◌, ℕ, length, None, Some, is_some, IsSome};
+ghost use base.Fml.{GName, ftrue};
+ghost use Rattle.thread_local_model.specs.Place.{id_at};
+ghost use Rattle.thread_local_model.specs.Buckets.{Contents, row, stands, IsTable};
+ghost use Rattle.thread_local_model.specs.Rows.{slot, with_slot};
+ghost use Rattle.thread_local_model.specs.Code.{contents_coded};
+ghost use Rattle.thread_local_loan.specs.Lent.{loan_owns};
+
+use std::marker::{Model, PhantomData};
+use thread_local_blocks::Slot;
+
+/// A table's words, lent to a walk that writes. It gives the values by ascending place, each at most once.
+///
+/// A contract sees what it still has. The flag of a slot whose value it gave stays set, so it answers only for the slots from `given` on.
+#[derive(Drop)]
+pub struct Loan<'a, T> {
+    words: *const *mut Slot<T>,
+    marker: PhantomData<&'a mut T>,
+    /// What the table's contents follow.
+    pub ghost name: { GName },
+    /// What it still has.
+    pub ghost contents: { Contents T } by { contents_coded T.code },
+    /// The id after the last one whose value it gave.
+    pub ghost given: { ℕ },
+}
+
+impl<'a, T> Model for Loan<'a, T> {
+    ghost also_owns = { λ l. loan_owns 'a T.row l.words l.name l.contents l.given };
+
+    ghost also_shares = { λ _ _ _. ftrue };
+}
+
+impl<'a, T> Loan<'a, T> {
+    /// Whether the bucket stands. It takes no memory.
+    #[inline]
+    pub fn stands(&mut self, bucket: usize) -> bool
+        requires { bucket < 63 }
+        ensures same { self.new ≡ self.old }
+        ensures value { result ≡ stands self.old.contents bucket }
+        ensures table { IsTable self.old.contents }
+    {
+        let block = unsafe { *self.words.add(bucket) };
+        !block.is_null()
+    }
+
+    /// Whether a slot from `given` on has a value. It takes no memory.
+    #[inline]
+    pub fn is_published(&mut self, bucket: usize, index: usize) -> bool
+        requires in_table { bucket < 63 }
+        requires in_bucket { index < length (row self.old.contents bucket) }
+        requires ahead { self.old.given ≤ id_at bucket index }
+        ensures same { self.new ≡ self.old }
+        ensures value { result ≡ is_some (slot self.old.contents bucket index) }
+        ensures table { IsTable self.old.contents }
+    {
+        unsafe {
+            let block = *self.words.add(bucket);
+            let slot = block.add(index);
+            (*slot).flag == 1
+        }
+    }
+
+    /// Gives the value of a slot for as long as the words are lent. It takes no memory.
+    #[inline]
+    pub fn give(&mut self, bucket: usize, index: usize) -> &'a mut T
+        requires in_table { bucket < 63 }
+        requires in_bucket { index < length (row self.old.contents bucket) }
+        requires ahead { self.old.given ≤ id_at bucket index }
+        requires published { IsSome (slot self.old.contents bucket index) }
+        ensures value { slot self.old.contents bucket index ≡ Some result.now }
+        ensures contents { self.new.contents ≡ with_slot self.old.contents bucket index None }
+        ensures given { self.new.given ≡ id_at bucket index + 1 }
+    {
+        unsafe {
+            let block = *self.words.add(bucket);
+            let slot = block.add(index);
+            &mut (*slot).value
+        }
+    }
+}
+
+unsafe impl<T: Send> Send for Loan<'_, T> {}
+
+unsafe impl<T: Sync> Sync for Loan<'_, T> {}
