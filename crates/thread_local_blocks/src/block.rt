@@ -78,3 +78,5 @@ impl<T, A: Allocator> Block<T, A> {
         }
     }
 }
+
+unsafe impl<T: Send, A: Allocator + Send> Send for Block<T, A> {}

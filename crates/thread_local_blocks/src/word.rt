@@ -10,6 +10,8 @@ use std::alloc::Global;
 use std::marker::{Model, PhantomData};
 use std::ptr::null_mut;
 
+mod lends;
+
 /// A word that is null, or leads to a block of slots, with the right to free it. It has no slots where it is null.
 pub struct Word<T> {
     pub at: *mut Slot<T>,
@@ -100,3 +102,5 @@ impl<T> Word<T> {
         }
     }
 }
+
+unsafe impl<T: Send> Send for Word<T> {}
