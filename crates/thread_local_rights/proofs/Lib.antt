@@ -1,3 +1,3 @@
 pub mod Elements
 mod Facts
-mod Tokens
+pub mod Tokens

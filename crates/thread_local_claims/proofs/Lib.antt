@@ -1,0 +1,9 @@
+mod Early
+mod Fields
+mod Inside
+mod Lending
+mod Moves
+mod Names
+mod Sent
+mod Steps
+mod Surrender
