@@ -1,5 +1,5 @@
 //! A word that leads to a block, for one owner.
-ghost use Rattle.std.specs.Prelude.{◌≡◌, ◌<◌, List, [], length, Option, Some, None, is_some, IsSome, nat_lt, slice_set};
+ghost use Rattle.std.specs.Prelude.{◌≡◌, ◌⊎◌, ◌<◌, List, [], length, Option, Some, None, is_some, IsSome, nat_lt, slice_set};
 ghost use base.Stored.{coded_list};
 ghost use Rattle.std.specs.Coded.{coded_option};
 ghost use Rattle.thread_local_blocks.specs.Slots.{word_owns, heap_token, slot_at};
@@ -100,6 +100,48 @@ impl<T> Word<T> {
             (*slot).flag = 0;
             (&raw mut (*slot).value).read()
         }
+    }
+}
+
+impl<T: Drop> Word<T> {
+    /// Leaves the slot empty, and drops its value if one lies there.
+    fn empty_slot(&mut self, index: usize)
+        requires { index < length self.old.slots }
+        ensures { self.new.slots ≡ slice_set self.old.slots index None }
+    {
+        if self.is_published(index) {
+            drop(self.take(index));
+        }
+    }
+
+    /// Drops the values of the block, if there is one, and frees it. `len` is how many slots a block has.
+    pub fn release(&mut self, len: usize, alloc: &Global)
+        requires { (self.old.slots ≡ []) ⊎ (length self.old.slots ≡ len) }
+        ensures { self.new.slots ≡ [] }
+    {
+        if !self.stands() {
+            return;
+        }
+        'slots: for index in 0..len {
+            self.empty_slot(index);
+        }
+        self.lift(alloc).release(alloc, len);
+    }
+}
+
+/// A word that is null.
+impl<T> Default for Word<T> {
+    ghost is_default = { λ word. word.slots ≡ [] };
+
+    fn default() -> Self {
+        Word::null()
+    }
+}
+
+/// Dropping a word frees nothing: who has words frees their blocks first, since a word doesn't know how many slots its block has.
+impl<T> Drop for Word<T> {
+    fn drop(self) {
+        let Self { at: _ } = self;
     }
 }
 
