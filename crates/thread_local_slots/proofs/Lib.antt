@@ -5,3 +5,4 @@ pub mod Loads
 pub mod Pointers
 pub mod Sent
 pub mod Tokens
+pub mod Words

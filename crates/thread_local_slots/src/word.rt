@@ -1,12 +1,15 @@
 //! A word that threads share: null, or a block of slots.
-ghost use Rattle.std.specs.Prelude.{◌≡◌, true, IfSome, IsSome};
+ghost use Rattle.std.specs.Prelude.{◌≡◌, true, false, IfSome, IsSome};
+ghost use Rattle.thread_local_judged.specs.Judged.{Judged};
 ghost use Rattle.thread_local_slots.specs.Shared.{Named, named_coded, word_owns, word_shares};
 
 use crate::row::Row;
 use std::marker::{Brand, Move, Owns, PhantomData};
+use std::ptr::null_mut;
 use std::sync::atomic::Ordering::SeqCst;
 use std::sync::atomic::raw::ptr;
 use thread_local_blocks::Slot;
+use thread_local_rights::Rights;
 
 /// A word that threads share: null, or a block of slots. A contract sees its table, its bucket and whether the bucket is reserved.
 pub struct SharedWord<T> {
@@ -26,6 +29,17 @@ impl<T> Move for SharedWord<T> {
 }
 
 impl<T> SharedWord<T> {
+    /// A word with no block, for a bucket that isn't reserved. It takes no memory.
+    pub fn null(bucket: usize, rights: &Rights) -> SharedWord<T>
+        requires judged { Judged T.row }
+        ensures table { result.table ≡ rights.now.table }
+        ensures bucket { result.bucket ≡ bucket }
+        ensures reserved { result.reserved ≡ false }
+    {
+        let _ = (bucket, rights);
+        SharedWord { at: null_mut() }
+    }
+
     /// The row of the bucket's slots, for as long as the word is borrowed, or nothing where the bucket is missing. A reserved bucket always
     /// stands. It is one atomic load: it takes no memory, and never waits.
     pub fn load(&self) -> Option<Row<'_, T>>
