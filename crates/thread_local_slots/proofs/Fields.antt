@@ -5,6 +5,11 @@ use base.Before.{before}
 use types.Na.{before_dup}
 use types.Tokens.{res_dup}
 use denote.Ref.{NamedLft}
+use denote.Builtin.{u64}
+use denote.Param.Laws.{Laws, of_field}
+use denote.Param.Shared.{copy_shared}
+use denote.Struct.Field.{u64-field}
+use denote.Struct.Laws.{u64-laws, u64-copy}
 use denote.Shadow.{makes_shadow}
 use denote.Struct.Struct.{Struct}
 use denote.Struct.Owning.{shape}
@@ -22,6 +27,9 @@ pointer_good null_ptr = (tt, record { fits = lit< tt })
 pub row_good : (p : Ptr) → T (has_ty (ty_struct [] (tcons ty_ptr (tcons (ty_struct [] tnil) tnil))) (row_val p)) × WT (row_val p)
 row_good (block_ptr b o) = (tt, (tt, (tt, tt)))
 row_good null_ptr = (tt, (record { fits = lit< tt }, (tt, tt)))
+
+pub word_laws : Laws u64
+word_laws = of_field u64-field u64-laws refl (copy_shared u64-field u64-copy)
 
 module _ (a : NamedLft) (R : RattleType) where
   abbrev pub Words : RattleType

@@ -7,3 +7,4 @@ pub mod Pointers
 pub mod Sent
 pub mod Tokens
 pub mod Words
+mod Pairs

@@ -119,6 +119,9 @@ module _ {M : Type 1} {𝓤 : Ura M} (𝓛 : Logic 𝓤) (R : RattleType) (t : T
     as_many : many ≡ n
     as_many = let c : Option R.Denot = None in let long : length (replicate n c) ≡ n = length-replicate n c in omega arith
 
+    pub placed : (p : Ptr) → ⟦ Blank p ⟧ ⊢ guard 𝓤 (InBlock p) ⟦ Blank p ⟧
+    placed p = qed 𝓛 (‵ (Blank p) ∷ []) ∵ fsplit ! $ fpick ! (λ so. drop ! $ check ! so.0 $ nothing ! $ fpack ! (InBlock p × Fits R many) (λ _. ftrue) so $ fjoin ! $ done !)
+
     abbrev pub Out : Ptr → Standing → Pr
     Out p s = guard 𝓤 (Lies p s) ⟦ private p s ⟧
 

@@ -9,10 +9,6 @@ use contract.Shared.{Lends-one}
 use denote.Signature.{named_lft}
 use denote.RawPtr.{tests_null}
 use denote.Opens.{unhide}
-use denote.Param.Laws.{Laws, of_field}
-use denote.Param.Shared.{copy_shared}
-use denote.Struct.Field.{u64-field}
-use denote.Struct.Laws.{u64-laws, u64-copy}
 use Rattle.std.proofs.option.Made.{Some-of, none_of}
 use Rattle.std.proofs.raw_atomic.Calls.{seq_cst}
 use Rattle.std.proofs.raw_atomic.PtrCalls as calls
@@ -25,13 +21,10 @@ use Rattle.thread_local_slots.specs.contracts.word.SharedWord as word
 use Rattle.thread_local_slots.specs.contracts.row.Row as Row
 use Rattle.thread_local_slots.specs.contracts.word.SharedWord.load.{ended, clauses}
 use Rattle.thread_local_slots.specs.contracts.word.SharedWord.load.Key.{name as #self}
-use Rattle.thread_local_slots.proofs.Fields.{row_val, row_good, pointer_good, Words, made}
+use Rattle.thread_local_slots.proofs.Fields.{row_val, row_good, pointer_good, Words, made, word_laws}
 use Rattle.thread_local_slots.proofs.Loads.{glimpse, reaches, reads}
 use Rattle.thread_local_slots.proofs.word.SharedWord.load.Statement.{statement}
 use Rattle.thread_local_slots.proofs.word.SharedWord.load.Code as code
-
-word_laws : Laws u64
-word_laws = of_field u64-field u64-laws refl (copy_shared u64-field u64-copy)
 
 pub load_spec : {M : Type 1} → statement M
 load_spec 𝓤 𝓛 𝓜 𝓡 wired T L =
