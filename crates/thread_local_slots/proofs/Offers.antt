@@ -1,6 +1,6 @@
 -- A private block is lent for a lifetime of its own beside a turn's life. Where it is installed, its slots are born under the turn, each with
 -- what waited for it; else its lifetime ends, and the block is its maker's again. Assumes `Logic`.
-use Rattle.std.proofs.Common.{◌≡◌, ℕ, zero, suc, ◌+◌, ◌*◌, Bool, true, false, List, [], ◌∷◌, ◌++◌, length, replicate, refl, sym, ap, ◌∙◌, subst, lit<, arith, Option, None, Some}
+use Rattle.std.proofs.Common.{◌≡◌, ℕ, zero, suc, ◌+◌, ◌*◌, Bool, true, false, List, [], ◌∷◌, length, replicate, refl, sym, ap, subst, lit<, arith, Option, None}
 use Rattle.std.proofs.lemmas.List.{length-replicate}
 use Rattle.std.specs.Coded.{coded_option}
 use seplogic.Ra.Ura.{Ura}
@@ -8,13 +8,13 @@ use mir.Syntax.{Ty, ty_array}
 use mir.Raw.{raw as bare_ty}
 use base.Fraction.{full_share, left, right}
 use base.Stored.{gnil}
-use base.Logic.{SProp, ent, sep, ex, guard, emp, id⊢, upd, upd_i, guard_i}
-use base.Fml.{Lft, GName, Share, Fml, ftrue, ffalse, fsep, fex, flft, fdead, fobs, fauth, fres, fbor, flent, finv, froom}
+use base.Logic.{SProp, ent, sep, ex, guard, upd, upd_i, guard_i}
+use base.Fml.{Lft, GName, Share, Fml, ftrue, ffalse, fsep, flft, fdead, fobs, fauth, fres, fbor, flent, froom}
 use contract.BorrowLft.{meet_⊑_left}
 use contract.Monad.{fact_use}
 use types.Logic.{Logic, sem}
 use types.Kit.{‵, raw, ◌⊛◌, some, given, later, ◌$◌, ◌∵◌, !, qed, by, move, keep, drop, use0, use1, use2, use3, split, split3, join, fsplit, fsplit3, fjoin, fjoin3, fpick, fpack, pick, learn, check, show, frame, assume, suffices, settle, await, updating, now, rewrite, done}
-use types.Tokens.{name_new, name_agree, res_dup, lft_new, lft_end, bor_new, lent_back}
+use types.Tokens.{name_new, name_agree, lft_new, lft_end, bor_new, lent_back}
 use denote.RattleType.{RattleType}
 use denote.RawPtr.{Ptr, block_ptr, null_ptr, block_of, count_of, InBlock, Testable}
 use denote.Steps.{nothing}
@@ -26,7 +26,7 @@ use Rattle.std.proofs.GlobalToken.{dealloc_token-Testable}
 use Rattle.thread_local_rights.specs.Rights.{right_owns}
 use Rattle.thread_local_blocks.specs.Slots as blocks
 use Rattle.thread_local_blocks.specs.Slots.{fact, slot_ty, stride, block_ty, value_at, rim, place, along, block_owns, empty_slots, heap_token, Fits}
-use Rattle.thread_local_slots.specs.Shared.{Named, Turn, Standing, Who, free, early, mark, value_code, value_of, age, slot_as, slot, each_slot, waiting, unborn, all_unborn, Sized, len, first, pending, settled, standing, beside_pointer, invariant}
+use Rattle.thread_local_slots.specs.Shared.{Named, Turn, Standing, Who, free, early, mark, value_code, value_of, age, slot_as, slot, each_slot, waiting, all_unborn, Sized, len, first, standing, beside_pointer, invariant}
 use Rattle.thread_local_slots.proofs.Pointers.{Compared, opened_to_compare, alike_null}
 use Rattle.thread_local_slots.proofs.Loads.{part, glimpse, parted}
 

@@ -1,8 +1,8 @@
 -- `offer` lends the block for a lifetime of its own, and ends that lifetime if another block came first.
-use Rattle.thread_local_blocks.proofs.Names.{◌≡◌, ℕ, ◌+◌, ◌^◌, false, sem, List, [], ◌∷◌, refl, sym, ap, lit<, w64, Option, None, Some, Body, a_type, named, Val, vptr, vcons, vnil, inst_fn, SProp, wand, emp, via, id⊢, apply∗, guard, guard_i, Lft, Share, Fml, ftrue, fsep, flft, fbor, ‵, raw, ◌⊛◌, some, given, later, mean, at_ret, any_q, ◌$◌, ◌∵◌, !, qed, by, move, keep, drop, split, join, fsplit, fsplit3, fjoin, fjoin3, fpick, fpack, pick, learn, rewrite, use0, use1, use2, use3, await, stop, fld, addr, lit, of_opd, no_more, and_then, first, blocks, exec, switches_on, returns, enter, alloc_all, pass_all, free_all, look_at, get, get_in, get_tag, through, sets, sets_last, lands_last, env, is, agg, sub, whole, live, vrt, in_variant, tables, fact, fact_i, fact_use, yes, no, RattleType, owns, types_at, plain, Ptr, block_ptr, null_ptr, block_of, count_of, at_block, InBlock, ptr_val, nothing, heard, param, layout, layouts, RefOf, u64, shr_vals, shr_Tells, Stays, stay_dropped, walk_of, Goes-dropped, proved, leaves, fm, after, param_laws}
+use Rattle.thread_local_blocks.proofs.Names.{◌≡◌, ℕ, ◌+◌, ◌^◌, false, sem, List, [], ◌∷◌, refl, sym, ap, lit<, Option, None, Some, Body, a_type, named, Val, vptr, vcons, vnil, inst_fn, SProp, wand, emp, via, apply∗, Lft, Share, Fml, ftrue, fsep, flft, fbor, ‵, raw, ◌⊛◌, some, given, later, mean, at_ret, any_q, ◌$◌, ◌∵◌, !, qed, by, move, keep, drop, split, join, fsplit, fsplit3, fjoin, fjoin3, fpick, fpack, pick, learn, rewrite, use0, use1, use2, use3, await, stop, fld, addr, lit, of_opd, no_more, and_then, first, blocks, exec, switches_on, returns, enter, alloc_all, pass_all, free_all, look_at, get, get_in, get_tag, through, sets, sets_last, lands_last, env, is, agg, sub, whole, live, vrt, in_variant, tables, fact, fact_i, yes, no, RattleType, owns, types_at, plain, Ptr, block_ptr, null_ptr, block_of, count_of, at_block, InBlock, ptr_val, nothing, heard, param, layout, layouts, RefOf, u64, shr_vals, shr_Tells, Stays, stay_dropped, walk_of, Goes-dropped, proved, leaves, fm, after}
 use Rattle.std.proofs.Common.{IfSome}
 use mir.Val.{vnull}
-use base.Logic.{snd∗, never, fst∗}
+use base.Logic.{snd∗, never}
 use base.Fml.{finv, ffalse}
 use base.Before.{before}
 use prog.Wp.{Wp, after_seq, at_return}
@@ -13,7 +13,6 @@ use denote.Signature.{named_lft}
 use denote.RawPtr.{in_a_block}
 use denote.Opens.{unhide}
 use denote.Struct.Tuple.{Tuple}
-use denote.Param.Laws.{Laws}
 use Rattle.std.proofs.ResultValues.{and_tt}
 use Rattle.std.proofs.option.Made.{Some-of, none_of}
 use Rattle.std.proofs.alloc.Shapes.{head, arm_body}
@@ -26,17 +25,17 @@ use Rattle.std.specs.declared.result.Result.TheVariants.{Ok, Err}
 use Rattle.std.specs.contracts.alloc.Global as heap
 use Rattle.std.specs.contracts.impls.GlobalAllocator.TheImpl.{ghosts}
 use Rattle.thread_local_judged.specs.Judged.{Judged}
-use Rattle.thread_local_blocks.specs.Slots.{fact as said_fact, block_owns, empty_slots, Fits}
+use Rattle.thread_local_blocks.specs.Slots.{fact as said_fact, block_owns, empty_slots}
 use Rattle.thread_local_blocks.specs.contracts.block.Block as block
 use Rattle.thread_local_blocks.proofs.Fields as fields
-use Rattle.thread_local_slots.specs.Shared.{Named, Turn, Standing, Sized, len, invariant, row, Found, row_as, row_owns}
+use Rattle.thread_local_slots.specs.Shared.{Named, Standing, Sized, len, invariant, row, Found, row_as}
 use Rattle.thread_local_slots.specs.contracts.word.SharedWord as word
 use Rattle.thread_local_slots.specs.contracts.row.Row as Row
 use Rattle.thread_local_slots.specs.contracts.word.SharedWord.offer.{ended, clauses}
 use Rattle.thread_local_slots.specs.contracts.word.SharedWord.offer.Key.{name as #self}
 use Rattle.thread_local_slots.proofs.Fields.{row_val, row_good, Words, made, word_laws}
 use Rattle.thread_local_slots.proofs.Pairs.{both, pair_in}
-use Rattle.thread_local_slots.proofs.Loads.{part, glimpse, reaches}
+use Rattle.thread_local_slots.proofs.Loads.{glimpse, reaches}
 use Rattle.thread_local_slots.proofs.Offers as steps
 use Rattle.thread_local_slots.proofs.word.SharedWord.offer.Statement.{statement}
 use Rattle.thread_local_slots.proofs.word.SharedWord.offer.Code as code

@@ -1,0 +1,90 @@
+//! A block that its maker alone sees.
+ghost use Rattle.std.specs.Prelude.{◌≡◌, ◌<◌, IfOk};
+
+use crate::row::Row;
+use crate::word::SharedWord;
+use std::alloc::{AllocError, Global};
+use std::marker::Model;
+use thread_local_blocks::Block;
+
+/// A bucket's block before it is installed: all its slots are empty. A contract sees its bucket.
+pub struct Private<T> {
+    pub(crate) block: Block<T, Global>,
+    pub(crate) alloc: Global,
+    pub(crate) bucket: usize,
+}
+
+impl<T> Model for Private<T> {
+    ghost use Rattle.std.specs.Prelude.{◌≡◌, ℕ, ◌^◌, ◌<◌};
+    ghost use Rattle.thread_local_blocks.specs.Slots.{empty_slots};
+
+    ghost Value = { ℕ };
+
+    ghost view = { λ p. p.bucket };
+
+    ghost invariant = { λ p. (p.block.heap ≡ p.alloc) × (p.block.slots ≡ empty_slots (2 ^ p.bucket)) × (p.block.left ≡ 0) × (p.bucket < 63) };
+}
+
+impl<T> Private<T> {
+    /// A block for the bucket. It asks for memory once, and is refused where there is none, or the block would be too large.
+    pub fn new(alloc: Global, bucket: usize) -> Result<Private<T>, AllocError>
+        requires { bucket < 63 }
+        ensures { IfOk result (λ private. private ≡ bucket) }
+    {
+        let block = Block::new(&alloc, 1 << bucket)?;
+        Ok(Private {
+            block,
+            alloc,
+            bucket,
+        })
+    }
+
+    /// Frees the block.
+    pub fn free(self) {
+        let Self {
+            block,
+            alloc,
+            bucket,
+        } = self;
+        block.release(&alloc, 1 << bucket);
+    }
+}
+
+impl<T> Private<T> {
+    fn offer_to<'a>(self, word: &'a SharedWord<T>) -> Row<'a, T>
+        requires { self ≡ word.now.bucket }
+        ensures { result.of ≡ word.now }
+    {
+        let Self {
+            block,
+            alloc,
+            bucket,
+        } = self;
+        let (row, back) = word.offer(block);
+        if let Some(block) = back {
+            drop(Private {
+                block,
+                alloc,
+                bucket,
+            });
+        }
+        row
+    }
+}
+
+impl<T> SharedWord<T> {
+    /// Lets the word lead to the block, if it led nowhere, by one compare and exchange. Answers the row of the block to which the word leads
+    /// from then on, whoever installed it. A block that came second is freed. It takes no memory, and never waits.
+    pub fn install(&self, private: Private<T>) -> Row<'_, T>
+        requires { private ≡ self.now.bucket }
+        ensures { result.of ≡ self.now }
+    {
+        private.offer_to(self)
+    }
+}
+
+impl<T> Drop for Private<T> {
+    fn drop(self) {
+        self.free();
+    }
+}
