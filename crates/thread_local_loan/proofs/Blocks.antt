@@ -10,11 +10,11 @@ use Rattle.std.proofs.GlobalToken.{dealloc_token-Testable}
 use Rattle.thread_local_blocks.specs.Slots.{fact, slot_ty, stride, block_ty, Fits, slot, along, heap_token, word_owns}
 use Rattle.thread_local_loan.specs.Lent.{flagged, valued, bare, Leads}
 
-abbrev first_of : List Bool → Bool
+abbrev pub first_of : List Bool → Bool
 first_of [] = false
 first_of (y ∷ ys) = y
 
-abbrev rest_of : List Bool → List Bool
+abbrev pub rest_of : List Bool → List Bool
 rest_of [] = []
 rest_of (y ∷ ys) = ys
 

@@ -5,3 +5,6 @@ mod Giving
 mod Fields
 mod Left
 mod Blocks
+mod Taking
+mod Refills
+mod Crosses

@@ -16,7 +16,7 @@ pub use types.ByLocal.{alloc_all, pass_all, free_all, look_at, get, get_in, thro
 pub use types.Part.{sub, look_in, whole}
 pub use types.Mut.{open_ref}
 pub use types.Tokens.{bor_open, obor_close}
-pub use types.SemTy.{Body}
+pub use types.SemTy.{SemTy, Body}
 pub use contract.Running.{tables}
 pub use contract.Monad.{fact_i, fact_use}
 pub use denote.Exit.{yes, no}

@@ -1,1 +1,3 @@
 pub mod Lent
+pub mod Refilled
+pub mod Given

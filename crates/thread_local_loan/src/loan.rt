@@ -5,7 +5,9 @@ ghost use Rattle.thread_local_model.specs.Place.{id_at};
 ghost use Rattle.thread_local_model.specs.Buckets.{Contents, row, stands, IsTable};
 ghost use Rattle.thread_local_model.specs.Rows.{slot, with_slot};
 ghost use Rattle.thread_local_model.specs.Code.{contents_coded};
+ghost use types.Logic.{sem};
 ghost use Rattle.thread_local_loan.specs.Lent.{loan_owns};
+ghost use Rattle.thread_local_loan.specs.Given.{ends_with_item};
 
 use std::marker::{Model, PhantomData};
 use thread_local_blocks::Slot;
@@ -68,6 +70,7 @@ impl<'a, T> Loan<'a, T> {
         requires in_bucket { index < length (row self.old.contents bucket) }
         requires ahead { self.old.given ≤ id_at bucket index }
         requires published { IsSome (slot self.old.contents bucket index) }
+        ensures* ends { sem 𝓛 (ends_with_item T.row self.old.name result.ghost_name self.new.name bucket index) }
         ensures value { slot self.old.contents bucket index ≡ Some result.now }
         ensures contents { self.new.contents ≡ with_slot self.old.contents bucket index None }
         ensures given { self.new.given ≡ id_at bucket index + 1 }

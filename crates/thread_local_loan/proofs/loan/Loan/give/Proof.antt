@@ -1,6 +1,7 @@
 -- `give` finds a slot's value as `is_published` finds its flag, and cuts it out of those that the loan has left.
 use Rattle.thread_local_loan.proofs.Names.{drop, apply∗, sem, split3, Some, IsSome, pick, some, later, await, fobs, addr, Body, MutBor, mem, is, size_word, length, None, cell, ◌≤◌, ◌≡◌, ℕ, ◌+◌, ◌*◌, ◌^◌, ◌<◌, List, [], ◌∷◌, sym, refl, ap, ◌∙◌, subst, arith, w64, a_type, named, Val, vint, vptr, inst_fn, full_share, SProp, emp, GName, Fml, ftrue, fsep, flft, fbor, ‵, raw, ◌⊛◌, at_ret, ◌$◌, ◌∵◌, !, qed, by, move, keep, use0, use1, use2, split, join, fsplit, fsplit3, fjoin, fjoin3, fpick, fpack, rewrite, feq_i, stop, fld, load, lit, of_opd, bin, first, blocks, exec, returns, enter, look, alloc_all, pass_all, free_all, look_at, get, through, sets, sets_last, env, sub, look_in, whole, bor_open, obor_close, tables, fact_i, yes, RattleType, owns, types_at, plain, named_lft, Ptr, block_ptr, block_of, count_of, at_block, InBlock, nothing, heard, opens, closes, peeks, Is, shows, cell_at, param, layouts, usize, mut_vals, mut_Tells, uint_vals, uint_Tells, Stays, stay_dropped, stay_ref, walk_of, Goes-dropped, Goes-ref, proved, leaves}
 use contract.Monad.{fact}
+use denote.Follow.{both_by}
 use types.Follow.{after₂}
 use Rattle.std.proofs.alloc.Shapes.{after}
 use Rattle.thread_local_model.specs.Buckets.{Contents, row}
@@ -21,6 +22,7 @@ use Rattle.thread_local_loan.proofs.loan.Loan.give.Statement.{statement}
 use Rattle.thread_local_loan.proofs.loan.Loan.give.Code as code
 
 pub give_spec : {M : Type 1} → statement M
+unfolding both_by
 give_spec 𝓤 𝓛 𝓜 𝓡 wired X L =
     let H = 𝓛.H in let 𝓣 = tables 𝓤 H 𝓜 𝓡 𝓡.env in let R : RattleType = param 0 X in let En = ended X in let c₀ = clauses X 𝓛 𝓜.mem 𝓡.returns in
     let inst = layouts (a_type ∷ []) (X, tt) in let fn = inst_fn inst code.function in
@@ -72,4 +74,5 @@ give_spec 𝓤 𝓛 𝓜 𝓡 wired X L =
     use0 𝓛 (raw (fact 𝓤 (h'.given ≡ id_at k i + 1))) (fact_i 𝓤 (h'.given ≡ id_at k i + 1) (emp 𝓤) refl) $
     let Less : Type 0 = left ≡ with_slot h.contents k i None in use0 𝓛 (raw (fact 𝓤 Less)) (fact_i 𝓤 Less (emp 𝓤) refl) $ join ! $
     let Gave : Type 0 = slot h.contents k i ≡ Some x in use0 𝓛 (raw (fact 𝓤 Gave)) (fact_i 𝓤 Gave (emp 𝓤) had) $ join ! $
+    move ! (4 ∷ 0 ∷ []) $ join ! $
     returns ! (look_at ! 0 refl) $ free_all ! refl $ keep ! (2 ∷ 3 ∷ 1 ∷ 0 ∷ []) $ by ! (leaves 𝓛 En hs c₀ y (vptr sb v) item (h', (tt, (tt, tt))) (tt, (tt, (tt, tt))))))))))))))))
