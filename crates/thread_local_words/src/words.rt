@@ -1,0 +1,136 @@
+//! The words of a table, seen as its contents.
+ghost use Rattle.std.specs.Prelude.{◌≡◌, ◌^◌, ◌<◌, true, false, [], length, Some, None, is_some, OnOk, OnErr, IsSome};
+ghost use Rattle.thread_local_model.specs.Buckets.{row, stands, no_contents, IsTable};
+ghost use Rattle.thread_local_model.specs.Rows.{slot, with_row, with_slot, empty_row};
+
+use crate::row_of_words::RowOfWords;
+use std::alloc::{AllocError, Global};
+use std::marker::Model;
+
+mod lends;
+
+/// The words of a table, one for each of its 63 buckets, and the heap that their blocks come from. Contracts see the contents.
+///
+/// Dropping it drops every value and frees every block.
+pub struct Words<T> {
+    words: RowOfWords<T>,
+    alloc: Global,
+}
+
+impl<T> Model for Words<T> {
+    ghost use Rattle.thread_local_model.specs.Buckets.{Contents, IsTable};
+    ghost use Rattle.thread_local_model.specs.Code.{contents_coded};
+    ghost use Rattle.thread_local_words.specs.Rows.{seen};
+
+    ghost Value = { Contents T };
+
+    ghost coded = { contents_coded T.code };
+
+    ghost view = { λ w. seen w.words };
+
+    ghost invariant = { λ w. IsTable (seen w.words) };
+}
+
+impl<T> Words<T> {
+    /// No bucket. It takes no memory.
+    pub fn new(alloc: Global) -> Words<T>
+        ensures { result ≡ no_contents }
+    {
+        Words {
+            words: RowOfWords::null(),
+            alloc,
+        }
+    }
+
+    /// Whether the bucket stands.
+    #[inline]
+    pub fn stands(&mut self, bucket: usize) -> bool
+        requires { bucket < 63 }
+        ensures value { result ≡ stands self.old bucket }
+        ensures whole { result ≡ true → length (row self.old bucket) ≡ 2 ^ bucket }
+        ensures absent { result ≡ false → row self.old bucket ≡ [] }
+        ensures table { IsTable self.old }
+        ensures same { self.new ≡ self.old }
+    {
+        self.words.stands(bucket)
+    }
+
+    /// Makes the bucket, with all its slots empty. It asks for memory once. `Err` is want of memory, and nothing changed.
+    pub fn install(&mut self, bucket: usize) -> Result<(), AllocError>
+        requires in_table { bucket < 63 }
+        requires absent { row self.old bucket ≡ [] }
+        ensures ok { OnOk result (self.new ≡ with_row self.old bucket (empty_row bucket)) }
+        ensures err { OnErr result (self.new ≡ self.old) }
+        ensures table { IsTable self.old }
+    {
+        let alloc = self.alloc;
+        self.words.install(bucket, &alloc)
+    }
+
+    /// Whether a value is published in the slot.
+    #[inline]
+    pub fn is_published(&mut self, bucket: usize, index: usize) -> bool
+        requires in_table { bucket < 63 }
+        requires in_bucket { index < length (row self.old bucket) }
+        ensures value { result ≡ is_some (slot self.old bucket index) }
+        ensures table { IsTable self.old }
+        ensures same { self.new ≡ self.old }
+    {
+        self.words.is_published(bucket, index)
+    }
+
+    /// Publishes a value in an empty slot.
+    #[inline]
+    pub fn publish(&mut self, bucket: usize, index: usize, value: T)
+        requires in_table { bucket < 63 }
+        requires in_bucket { index < length (row self.old bucket) }
+        requires empty { slot self.old bucket index ≡ None }
+        ensures after { self.new ≡ with_slot self.old bucket index (Some value) }
+    {
+        self.words.publish(bucket, index, value);
+    }
+
+    /// Takes the value out of a slot.
+    #[inline]
+    pub fn take(&mut self, bucket: usize, index: usize) -> T
+        requires in_table { bucket < 63 }
+        requires in_bucket { index < length (row self.old bucket) }
+        requires published { IsSome (slot self.old bucket index) }
+        ensures value { slot self.old bucket index ≡ Some result }
+        ensures after { self.new ≡ with_slot self.old bucket index None }
+    {
+        self.words.take(bucket, index)
+    }
+}
+
+impl<T: Drop> Words<T> {
+    /// Drops the values of a bucket and frees it. A bucket that doesn't stand stays so.
+    pub fn release(&mut self, bucket: usize)
+        requires { bucket < 63 }
+        ensures after { self.new ≡ with_row self.old bucket [] }
+        ensures table { IsTable self.old }
+    {
+        let alloc = self.alloc;
+        self.words.release(bucket, &alloc);
+    }
+
+    /// Drops every value and frees every block.
+    pub fn release_all(&mut self)
+        ensures { self.new ≡ no_contents }
+    {
+        let _ = &self.words;
+        'buckets: for bucket in 0..63 {
+            self.release(bucket);
+        }
+    }
+}
+
+impl<T: Drop> Drop for Words<T> {
+    fn drop(mut self) {
+        self.release_all();
+        let Self { words, alloc: _ } = self;
+        drop(words);
+    }
+}
+
+unsafe impl<T: Send> Send for Words<T> {}
