@@ -14,7 +14,7 @@ use denote.Shadow.{makes_shadow}
 use denote.Struct.Struct.{Struct}
 use denote.Struct.Owning.{shape}
 use Rattle.thread_local_judged.specs.Judged.{Judged}
-use Rattle.thread_local_slots.specs.Shared.{Named, Turn, Standing, Sized, len, invariant, kept, row, Found, row_as, row_owns}
+use Rattle.thread_local_sharing.specs.Shared.{Named, Turn, Standing, Sized, len, invariant, kept, row, Found, row_as, row_owns}
 use Rattle.thread_local_slots.specs.contracts.row.Row as Row
 
 abbrev pub row_val : Ptr → Val

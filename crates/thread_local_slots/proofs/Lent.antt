@@ -28,10 +28,10 @@ use Rattle.std.specs.Sync.RawAtomic.Pointer.{cell}
 use Rattle.std.proofs.cell.Inside.{spread, gather}
 use Rattle.thread_local_judged.specs.Judged.{Judged}
 use Rattle.thread_local_blocks.specs.Slots.{fact}
-use Rattle.thread_local_slots.specs.Shared.{Named, Turn, Standing, mark, slot, each_slot, slots_rest, Sized, len, first, all_unborn, pending, standing, beside_pointer, invariant, kept, at_rest, word_shares}
+use Rattle.thread_local_sharing.specs.Shared.{Named, Turn, Standing, mark, slot, each_slot, slots_rest, Sized, len, first, all_unborn, pending, standing, beside_pointer, invariant, kept, at_rest, word_shares}
 use Rattle.thread_local_slots.specs.contracts.word.SharedWord as C
-use Rattle.thread_local_slots.proofs.Tokens.{tokens_from, tokens_new}
-use Rattle.thread_local_slots.proofs.Rested.{all_tokens, all_wait, wakes_slots, rests_slots}
+use Rattle.thread_local_sharing.proofs.Tokens.{tokens_from, tokens_new}
+use Rattle.thread_local_sharing.proofs.Rested.{all_tokens, all_wait, wakes_slots, rests_slots}
 
 abbrev pub pointer : Member
 pointer = record { row = RawPtr; ty = ty_ptr }

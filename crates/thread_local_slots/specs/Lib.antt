@@ -1,1 +1,1 @@
-pub mod Shared
+pub use Rattle.thread_local_sharing.specs.Shared

@@ -1,5 +1,5 @@
 //! The slots of a bucket that stands while threads share it.
-ghost use Rattle.thread_local_slots.specs.Shared.{Named, named_coded, row_owns};
+ghost use Rattle.thread_local_sharing.specs.Shared.{Named, named_coded, row_owns};
 ghost use denote.Sharing.{said};
 
 use std::marker::{Model, PhantomData};

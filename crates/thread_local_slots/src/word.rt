@@ -2,7 +2,7 @@
 ghost use Rattle.std.specs.Prelude.{◌≡◌, ◌^◌, true, false, IfSome, IsSome};
 ghost use Rattle.thread_local_blocks.specs.Slots.{empty_slots};
 ghost use Rattle.thread_local_judged.specs.Judged.{Judged};
-ghost use Rattle.thread_local_slots.specs.Shared.{Named, named_coded, word_owns, word_shares};
+ghost use Rattle.thread_local_sharing.specs.Shared.{Named, named_coded, word_owns, word_shares};
 
 use crate::row::Row;
 use std::alloc::Global;

@@ -12,7 +12,7 @@ use denote.Param.Laws.{Laws}
 use Rattle.std.proofs.cell.BorrowLemmas.{by_one}
 use Rattle.thread_local_judged.specs.Judged.{Judged}
 use Rattle.thread_local_blocks.specs.Slots.{fact}
-use Rattle.thread_local_slots.specs.Shared.{Turn, invariant, kept, word_shares}
+use Rattle.thread_local_sharing.specs.Shared.{Turn, invariant, kept, word_shares}
 use Rattle.thread_local_slots.proofs.Lent.{P, lends_by}
 use Rattle.thread_local_slots.proofs.word.SharedWord.TheLaw.Statement.{statement}
 

@@ -16,13 +16,13 @@ use Rattle.std.proofs.raw_atomic.PtrCalls.{seq_cst_good}
 use Rattle.std.specs.contracts.option.Option as Opt
 use Rattle.thread_local_judged.specs.Judged.{Judged}
 use Rattle.thread_local_blocks.specs.Slots.{fact as said_fact}
-use Rattle.thread_local_slots.specs.Shared.{Named, Sized, len, invariant, row, Found, row_as}
+use Rattle.thread_local_sharing.specs.Shared.{Named, Sized, len, invariant, row, Found, row_as}
 use Rattle.thread_local_slots.specs.contracts.word.SharedWord as word
 use Rattle.thread_local_slots.specs.contracts.row.Row as Row
 use Rattle.thread_local_slots.specs.contracts.word.SharedWord.load.{ended, clauses}
 use Rattle.thread_local_slots.specs.contracts.word.SharedWord.load.Key.{name as #self}
 use Rattle.thread_local_slots.proofs.Fields.{row_val, row_good, pointer_good, Words, made, word_laws}
-use Rattle.thread_local_slots.proofs.Loads.{glimpse, reaches, reads}
+use Rattle.thread_local_sharing.proofs.Loads.{glimpse, reaches, reads}
 use Rattle.thread_local_slots.proofs.word.SharedWord.load.Statement.{statement}
 use Rattle.thread_local_slots.proofs.word.SharedWord.load.Code as code
 

@@ -3,7 +3,7 @@ use Rattle.thread_local_blocks.proofs.Names.{◌≡◌, ℕ, [], ◌∷◌, refl
 use denote.Laws.{Typed}
 use Rattle.thread_local_rights.specs.contracts.right.Rights as rights
 use Rattle.thread_local_judged.specs.Judged.{Judged}
-use Rattle.thread_local_slots.specs.Shared.{Named, at_rest}
+use Rattle.thread_local_sharing.specs.Shared.{Named, at_rest}
 use Rattle.thread_local_slots.specs.contracts.word.SharedWord as word
 use Rattle.thread_local_slots.specs.contracts.word.SharedWord.null.{ended, clauses}
 use Rattle.thread_local_slots.specs.contracts.word.SharedWord.null.Key.{name as #self}

@@ -28,15 +28,15 @@ use Rattle.thread_local_judged.specs.Judged.{Judged}
 use Rattle.thread_local_blocks.specs.Slots.{fact as said_fact, block_owns, empty_slots}
 use Rattle.thread_local_blocks.specs.contracts.block.Block as block
 use Rattle.thread_local_blocks.proofs.Fields as fields
-use Rattle.thread_local_slots.specs.Shared.{Named, Standing, Sized, len, invariant, row, Found, row_as}
+use Rattle.thread_local_sharing.specs.Shared.{Named, Standing, Sized, len, invariant, row, Found, row_as}
 use Rattle.thread_local_slots.specs.contracts.word.SharedWord as word
 use Rattle.thread_local_slots.specs.contracts.row.Row as Row
 use Rattle.thread_local_slots.specs.contracts.word.SharedWord.offer.{ended, clauses}
 use Rattle.thread_local_slots.specs.contracts.word.SharedWord.offer.Key.{name as #self}
 use Rattle.thread_local_slots.proofs.Fields.{row_val, row_good, Words, made, word_laws}
 use Rattle.thread_local_slots.proofs.Pairs.{both, pair_in}
-use Rattle.thread_local_slots.proofs.Loads.{glimpse, reaches}
-use Rattle.thread_local_slots.proofs.Offers as steps
+use Rattle.thread_local_sharing.proofs.Loads.{glimpse, reaches}
+use Rattle.thread_local_sharing.proofs.Offers as steps
 use Rattle.thread_local_slots.proofs.word.SharedWord.offer.Statement.{statement}
 use Rattle.thread_local_slots.proofs.word.SharedWord.offer.Code as code
 

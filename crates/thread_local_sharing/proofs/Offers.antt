@@ -26,9 +26,9 @@ use Rattle.std.proofs.GlobalToken.{dealloc_token-Testable}
 use Rattle.thread_local_rights.specs.Rights.{right_owns}
 use Rattle.thread_local_blocks.specs.Slots as blocks
 use Rattle.thread_local_blocks.specs.Slots.{fact, slot_ty, stride, block_ty, value_at, rim, place, along, block_owns, empty_slots, heap_token, Fits}
-use Rattle.thread_local_slots.specs.Shared.{Named, Turn, Standing, Who, free, early, mark, value_code, value_of, age, slot_as, slot, each_slot, waiting, all_unborn, Sized, len, first, standing, beside_pointer, invariant}
-use Rattle.thread_local_slots.proofs.Pointers.{Compared, opened_to_compare, alike_null}
-use Rattle.thread_local_slots.proofs.Loads.{part, glimpse, parted}
+use Rattle.thread_local_sharing.specs.Shared.{Named, Turn, Standing, Who, free, early, mark, value_code, value_of, age, slot_as, slot, each_slot, waiting, all_unborn, Sized, len, first, standing, beside_pointer, invariant}
+use Rattle.thread_local_sharing.proofs.Pointers.{Compared, opened_to_compare, alike_null}
+use Rattle.thread_local_sharing.proofs.Loads.{part, glimpse, parted}
 
 module _ {M : Type 1} {𝓤 : Ura M} (𝓛 : Logic 𝓤) (R : RattleType) (t : Turn) where
   open 𝓛 use {H, A}

@@ -13,7 +13,7 @@ use Rattle.std.proofs.Crossing.{frees}
 use Rattle.thread_local_rights.proofs.Elements.{right_keyless}
 use Rattle.thread_local_judged.specs.Judged.{Judged}
 use Rattle.thread_local_blocks.specs.Slots.{heap_token, stride, value_at, place, block_ty}
-use Rattle.thread_local_slots.specs.Shared.{Named, Turn, Standing, Who, free, claimed, early, value_of, by, holds, stands, had, slot, each_slot, waiting, all_unborn, rests, slots_rest, beside_pointer, kept, row, row_owns, at_rest, len, first}
+use Rattle.thread_local_sharing.specs.Shared.{Named, Turn, Standing, Who, free, claimed, early, value_of, by, holds, stands, had, slot, each_slot, waiting, all_unborn, rests, slots_rest, beside_pointer, kept, row, row_owns, at_rest, len, first}
 
 pub chain_keyless : (νs : List Lft) (κ α : Lft) → Keyless (chain νs κ α)
 chain_keyless [] κ α = λ _. tt

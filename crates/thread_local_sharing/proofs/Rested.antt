@@ -23,8 +23,8 @@ use Rattle.std.proofs.cell.BorrowLemmas.{by_one}
 use Rattle.thread_local_rights.specs.Rights.{right_owns}
 use Rattle.thread_local_judged.specs.Judged.{Shareable, Judged}
 use Rattle.thread_local_blocks.specs.Slots.{stride, value_at, place}
-use Rattle.thread_local_slots.specs.Shared.{Turn, Who, free, value_code, pinned, value_of, age, shared_value, opened, by as lent_by, stands, had, slot_as, slot, each_slot, waiting, all_unborn, due, rests, slot_rests_as, slot_rests, slots_rest}
-use Rattle.thread_local_slots.proofs.Tokens.{tokens_from, token_off}
+use Rattle.thread_local_sharing.specs.Shared.{Turn, Who, free, value_code, pinned, value_of, age, shared_value, opened, by as lent_by, stands, had, slot_as, slot, each_slot, waiting, all_unborn, due, rests, slot_rests_as, slot_rests, slots_rest}
+use Rattle.thread_local_sharing.proofs.Tokens.{tokens_from, token_off}
 
 module _ {M : Type 1} {𝓤 : Ura M} (𝓛 : Logic 𝓤) where
   open 𝓛 use {H, A}

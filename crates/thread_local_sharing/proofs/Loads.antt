@@ -15,8 +15,8 @@ use denote.Steps.{nothing}
 use denote.SharingLaws.{ends_shr_laws}
 use Rattle.std.specs.Sync.RawAtomic.Pointer.{cell, asks_ptr}
 use Rattle.thread_local_blocks.specs.Slots.{fact}
-use Rattle.thread_local_slots.specs.Shared.{Named, Turn, Standing, mark, Sized, len, first, all_unborn, standing, beside_pointer, invariant, row}
-use Rattle.thread_local_slots.proofs.Pointers.{Lies, opened}
+use Rattle.thread_local_sharing.specs.Shared.{Named, Turn, Standing, mark, Sized, len, first, all_unborn, standing, beside_pointer, invariant, row}
+use Rattle.thread_local_sharing.proofs.Pointers.{Lies, opened}
 
 module _ {M : Type 1} {𝓤 : Ura M} (𝓛 : Logic 𝓤) (R : RattleType) (d : Named) (t : Turn) where
   open 𝓛 use {H, A}

@@ -50,6 +50,12 @@ pub record Standing : Type 0 where
 abbrev pub standing_coded : Coded Standing
 standing_coded = coded_via (coded× coded_ptr (coded× coded_ℕ (coded_list coded_ℕ))) (λ (s : Standing). (s.at, (s.own, s.names))) (λ x y e i. record { at = (e i).0; own = (e i).1.0; names = (e i).1.1 })
 
+-- the name of the slot at an index
+abbrev pub name_at : List ℕ → ℕ → ℕ
+name_at [] i = 0
+name_at (η ∷ names) zero = η
+name_at (η ∷ names) (suc i) = name_at names i
+
 -- what the name `which` says once a block stands
 abbrev pub mark : Standing → Gv
 mark s = gcons gnil (standing_coded.code s)
