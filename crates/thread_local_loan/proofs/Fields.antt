@@ -8,8 +8,8 @@ use denote.Shadow.{makes_shadow}
 use denote.Struct.Struct.{Struct}
 use denote.Struct.Owning.{shape}
 use Rattle.std.proofs.lemmas.Bool.{lt-ltb, false≢true}
-use Rattle.std.proofs.Common.{eqb, is_some, IsSome, Some, None}
-use Rattle.thread_local_blocks.specs.Slots.{Fits, flag_of}
+use Rattle.std.proofs.Common.{IsSome, Some, None}
+use Rattle.thread_local_blocks.specs.Slots.{Fits}
 use Rattle.thread_local_loan.specs.Lent.{Leads}
 use Rattle.thread_local_loan.specs.contracts.loan.Loan as loan
 
@@ -53,10 +53,6 @@ module _ (R : RattleType) where
   pub leads_in : (p : Ptr) (cs : List (Option R.Denot)) → Leads R p cs → 0 < length cs → InBlock p × Fits R (length cs)
   leads_in p [] e some = absurd (omega arith)
   leads_in p (c ∷ cs) at some = (at.0, at.2)
-
-pub flagged_so : {X : Type 0} (c : Option X) → eqb (flag_of c) 1 ≡ is_some c
-flagged_so None = refl
-flagged_so (Some x) = refl
 
 abbrev pub value_in : {X : Type 0} (c : Option X) → IsSome c → X
 value_in None e = absurd (false≢true e)

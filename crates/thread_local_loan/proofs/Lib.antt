@@ -7,4 +7,6 @@ mod Left
 mod Blocks
 mod Taking
 mod Refills
+mod Opened
+mod Lending
 mod Crosses

@@ -6,11 +6,15 @@ ghost use Rattle.thread_local_model.specs.Buckets.{Contents, row, stands, IsTabl
 ghost use Rattle.thread_local_model.specs.Rows.{slot, with_slot};
 ghost use Rattle.thread_local_model.specs.Code.{contents_coded};
 ghost use types.Logic.{sem};
+ghost use Rattle.std.specs.Borrow.{follows};
+ghost use Rattle.thread_local_words.specs.contracts.words.Words.{the_row as words_row};
 ghost use Rattle.thread_local_loan.specs.Lent.{loan_owns};
 ghost use Rattle.thread_local_loan.specs.Given.{ends_with_item};
+ghost use Rattle.thread_local_loan.specs.Refilled.{refilled};
 
 use std::marker::{Model, PhantomData};
 use thread_local_blocks::Slot;
+use thread_local_words::Words;
 
 /// A table's words, lent to a walk that writes. It gives the values by ascending place, each at most once.
 ///
@@ -34,6 +38,19 @@ impl<'a, T> Model for Loan<'a, T> {
 }
 
 impl<'a, T> Loan<'a, T> {
+    /// Lends a table's words. It takes no memory.
+    pub fn lend(words: &'a mut Words<T>) -> Loan<'a, T>
+        ensures* writes_back { sem 𝓛 (follows (words_row T.row) (words_row T.row) words.entry.ghost_name result.name (refilled words.old)) }
+        ensures contents { result.contents ≡ words.old }
+        ensures given { result.given ≡ 0 }
+        ensures table { IsTable words.old }
+    {
+        Loan {
+            words: words as *mut Words<T> as *const *mut Slot<T>,
+            marker: PhantomData,
+        }
+    }
+
     /// Whether the bucket stands. It takes no memory.
     #[inline]
     pub fn stands(&mut self, bucket: usize) -> bool
@@ -59,7 +76,7 @@ impl<'a, T> Loan<'a, T> {
         unsafe {
             let block = *self.words.add(bucket);
             let slot = block.add(index);
-            (*slot).flag == 1
+            (*slot).flag != 0
         }
     }
 
@@ -77,8 +94,8 @@ impl<'a, T> Loan<'a, T> {
     {
         unsafe {
             let block = *self.words.add(bucket);
-            let slot = block.add(index);
-            &mut (*slot).value
+            let item = block.add(index);
+            &mut (*item).value
         }
     }
 }
