@@ -1,0 +1,79 @@
+use Rattle.std.proofs.Common.{◌≡◌, ◌<◌, ◌^◌, ℕ, true, cond, eqb, length, Some, None, subst, sym, ap, ◌∙◌, arith, inl, inr, refl}
+use Rattle.std.specs.Prelude.{unwrap_or, IsSome}
+use mathlib.Core.Path.{fun_ext}
+use Rattle.thread_local_model.specs.Place.{id_at}
+use Rattle.thread_local_model.specs.Buckets.{Contents, row, stands, IsTable}
+use Rattle.thread_local_model.specs.Owned.{Owned}
+use Rattle.thread_local_model.specs.Rows.{slot, with_slot}
+use Rattle.thread_local_model.specs.Sheet.{moved}
+use Rattle.thread_local_contents.specs.Owner.{with_bucket, with_published, sheet_of, offer}
+use Rattle.thread_local_contents.proofs.StandingLaws.{row-absent, whole-with_bucket}
+use Rattle.thread_local_contents.proofs.InsertingLaws.{ends, answers, published_moves, published_stands}
+use Rattle.thread_local_buckets.specs.Inserting.{owned_with}
+use Rattle.thread_local_buckets.proofs.buckets.Buckets.insert.Goals as goal
+
+-- what holds of every insertion
+record Inserts {V : Type 0} (c : Contents V) (b i : ℕ) (value : V) : Type 0 where
+  moves : sheet_of (with_published c b i (unwrap_or (slot c b i) value)) ≡ moved (sheet_of c) (offer (slot c b i) (id_at b i) value)
+  stand : (written : V) (bucket : ℕ) → stands (with_published c b i written) bucket ≡ cond (eqb b bucket) true (stands c bucket)
+
+inserts : {V : Type 0} (o now : Owned V) (b i : ℕ) (value : V) → o ≡ now → IsTable o.contents → b < 63 → i < 2 ^ b → Inserts now.contents b i value
+inserts o now b i value same t low inside =
+    let P : Owned _ → Type 0 = λ s. Inserts s.contents b i value in
+    subst P same (record { moves = published_moves o.contents b t low i value inside; stand = published_stands o.contents b t low i })
+
+-- what the buckets end as, whatever is written: the bucket stands, and its slot has what was written
+left_as : {V : Type 0} (o now : Owned V) (d e : Contents V) (b i : ℕ) (value : V) → o ≡ now → IsTable o.contents → b < 63 → d ≡ with_bucket o.contents b
+    → (IsSome (slot d b i) → e ≡ d) → (slot d b i ≡ None → e ≡ with_slot d b i (Some value))
+    → (w : V) → record { contents = with_slot e b i (Some w); reserved = o.reserved } ≡ owned_with now b i w
+left_as o now d e b i value same t low stood kept published w =
+    let within : b < length o.contents.rows = omega (arith, t.buckets) in
+    ap (λ (k : Contents _). let s : Owned _ = record { contents = k; reserved = o.reserved } in s) (ends o.contents b within (row-absent o.contents b) d e i value stood kept published w)
+    ∙ ap (λ (s : Owned _). owned_with s b i w) same
+
+-- what is answered: what stands there
+answered : {V : Type 0} (o now : Owned V) (d e : Contents V) (b i : ℕ) (value there : V) → o ≡ now → IsTable o.contents → b < 63 → i < 2 ^ b → d ≡ with_bucket o.contents b
+    → (IsSome (slot d b i) → e ≡ d) → (slot d b i ≡ None → e ≡ with_slot d b i (Some value)) → slot e b i ≡ Some there → there ≡ unwrap_or (slot now.contents b i) value
+answered o now d e b i value there same t low inside stood kept published found =
+    let within : b < length o.contents.rows = omega (arith, t.buckets) in
+    let whole : length (row d b) ≡ 2 ^ b = ap (λ (k : Contents _). length (row k b)) stood ∙ whole-with_bucket o.contents b t low in
+    answers o.contents b within (row-absent o.contents b) d e i value there stood (omega arith) kept published found
+    ∙ ap (λ (s : Owned _). unwrap_or (slot s.contents b i) value) same
+
+pub returns-in-Ok : goal.returns-in-Ok
+returns-in-Ok g c =
+    let b = c.args.thread.bucket in
+    let i = c.args.thread.index in
+    let t = c.self.invariant.table in
+    let low : b < 63 = c.args.thread.in_table in
+    let inside : i < 2 ^ b = c.args.thread.in_bucket in
+    let first : Owned _ = record { contents = c.self.inside.words; reserved = c.self.inside.reserved } in
+    let so = inserts first c.args.self.now b i c.args.value c.self.view_is t low inside in (
+      ap (λ (f : _ → _). inl (c.get_mut.result.ghost_name, f)) (fun_ext (left_as first c.args.self.now c.stand.new.words c.offer.new.words b i c.args.value c.self.view_is t low c.in-Ok.ensures.ok c.offer.ensures.kept c.offer.ensures.published)),
+      record {
+        writes_back = tt;
+        answers = answered first c.args.self.now c.stand.new.words c.offer.new.words b i c.args.value c.get_mut.result.now c.self.view_is t low inside c.in-Ok.ensures.ok c.offer.ensures.kept c.offer.ensures.published c.get_mut.ensures.value;
+        moves = so.moves;
+        stands = so.stand;
+        err = tt;
+        refused = tt;
+      },
+    )
+
+pub returns-in-Err : goal.returns-in-Err
+returns-in-Err g c =
+    let b = c.args.thread.bucket in
+    let i = c.args.thread.index in
+    let t = c.self.invariant.table in
+    let first : Owned _ = record { contents = c.self.inside.words; reserved = c.self.inside.reserved } in
+    let so = inserts first c.args.self.now b i c.args.value c.self.view_is t c.args.thread.in_table c.args.thread.in_bucket in (
+      ap (λ (k : Contents _). let s : Owned _ = record { contents = k; reserved = c.self.inside.reserved } in inr s) c.in-Err.ensures.err ∙ ap (λ (s : Owned _). inr s) c.self.view_is,
+      record {
+        writes_back = tt;
+        answers = tt;
+        moves = so.moves;
+        stands = so.stand;
+        err = refl;
+        refused = sym (ap (λ (s : Owned _). stands s.contents b) c.self.view_is) ∙ c.in-Err.ensures.refused;
+      },
+    )

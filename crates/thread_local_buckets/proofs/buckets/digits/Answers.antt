@@ -1,0 +1,17 @@
+use Rattle.std.proofs.Common.{ℕ, zero, suc, ◌≡◌, ◌+◌, ◌-◌, sym, ap, ◌∙◌, refl, arith}
+use Rattle.thread_local_model.specs.Place.{bucket_of}
+use Rattle.thread_local_model.specs.Capacity.{binary_digits}
+use Rattle.thread_local_model.proofs.CapacityLaws.{no_digits}
+use Rattle.thread_local_buckets.proofs.buckets.digits.Goals as goal
+
+-- a number above 0 has one digit more than the number of its predecessor's bucket
+digits-above : (n : ℕ) → (n ≡ 0 → ⊥) → bucket_of (n - 1) + 1 ≡ binary_digits n
+unfolding binary_digits
+digits-above zero h = absurd (h refl)
+digits-above (suc n) h = let e : suc n - 1 ≡ n = omega arith in ap (λ k. bucket_of k + 1) e
+
+pub returns-then-number-eq0-clause-value : goal.returns-then-number-eq0-clause-value
+returns-then-number-eq0-clause-value c = sym (ap binary_digits c.if-number-eq0.true ∙ no_digits)
+
+pub returns-clause-value : goal.returns-clause-value
+returns-clause-value c = ap (λ k. k + 1) c.new.ensures.bucket ∙ digits-above c.args.number c.if-number-eq0.false

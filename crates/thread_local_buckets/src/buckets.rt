@@ -1,0 +1,180 @@
+ghost use Rattle.std.specs.Prelude.{◌≡◌, ℕ, ◌^◌, ◌<◌, ◌≤◌, [], length, true, false, Option, Err, OnErr, IfOk, IfErr, nat_lt, unwrap_or, ◌==◌, if◌then◌else◌};
+ghost use Rattle.std.specs.Borrow.{sem};
+ghost use Rattle.thread_local_model.specs.Place.{id_at};
+ghost use Rattle.thread_local_model.specs.Buckets.{row, stands, slots, values, no_contents, IsTable};
+ghost use Rattle.thread_local_model.specs.Rows.{slot};
+ghost use Rattle.thread_local_model.specs.Capacity.{binary_digits, reserved_slots};
+ghost use Rattle.thread_local_model.specs.Sheet.{moved};
+ghost use Rattle.thread_local_model.specs.Walk.{walk};
+ghost use Rattle.thread_local_contents.specs.Owner.{with_bucket, with_published, sheet_of, offer};
+
+use crate::cursor::RawIter;
+use crate::iter::IntoIter;
+use crate::steps::{BUCKETS, bucket_size, count, offer, stand};
+use std::alloc::{AllocError, Global};
+use std::marker::Model;
+use thread_local_thread_id::Thread;
+use thread_local_words::Words;
+
+/// Why buckets couldn't be had for a capacity.
+#[derive(Clone, Copy, Debug, PartialEq, Eq)]
+pub enum CapacityError {
+    /// The capacity is 2^63 or more.
+    TooLarge,
+    /// There was no memory for a bucket.
+    Memory(AllocError),
+}
+
+/// The buckets of a table, for an owner who has them alone: a map from ids to values.
+///
+/// Contracts see the contents, a row of slots for each of the 63 buckets, empty where the bucket doesn't stand; and
+/// the number of reserved slots, whose buckets stand.
+#[derive(Drop)]
+pub struct Buckets<T> {
+    words: Words<T>,
+    // How many of the first slots were reserved.
+    reserved: usize,
+}
+
+impl<T> Model for Buckets<T> {
+    ghost use Rattle.thread_local_model.specs.Owned.{Owned, IsOwned};
+    ghost use Rattle.thread_local_model.specs.Code.{owned_coded};
+
+    ghost Value = { Owned T };
+
+    ghost coded = { owned_coded T.code };
+
+    ghost view = { λ b. record { contents = b.words; reserved = b.reserved } };
+
+    ghost invariant = { λ b. IsOwned (record { contents = b.words; reserved = b.reserved }) };
+}
+
+impl<T> Buckets<T> {
+    ghost use Rattle.thread_local_buckets.specs.Inserting.{LendsInserted};
+
+    /// No value and no bucket. It takes no memory.
+    pub fn new(alloc: Global) -> Buckets<T>
+        ensures contents { result.contents ≡ no_contents }
+        ensures reserved { result.reserved ≡ 0 }
+    {
+        Buckets {
+            words: Words::new(alloc),
+            reserved: 0,
+        }
+    }
+
+    /// No value, and the first buckets, one for each binary digit of the capacity, whose slots are reserved. A
+    /// capacity of 2^63 or more is refused before memory is asked for.
+    pub fn with_capacity(alloc: Global, capacity: usize) -> Result<Buckets<T>, CapacityError>
+    where
+        T: Drop,
+        ensures empty { IfOk result (λ buckets. (id : ℕ) → values buckets.contents id ≡ None) }
+        ensures stands { IfOk result (λ buckets. (bucket : ℕ) → stands buckets.contents bucket ≡ nat_lt bucket (binary_digits capacity)) }
+        ensures slots { IfOk result (λ buckets. slots (stands buckets.contents) ≡ reserved_slots capacity) }
+        ensures reserved { IfOk result (λ buckets. buckets.reserved ≡ reserved_slots capacity) }
+        ensures too_large { 2 ^ 63 ≤ capacity → result ≡ Err CapacityError.TooLarge }
+        ensures not_too_large { result ≡ Err CapacityError.TooLarge → 2 ^ 63 ≤ capacity }
+    {
+        if capacity >= 1 << 63 {
+            return Err(CapacityError::TooLarge);
+        }
+        let first = digits(capacity);
+        let mut words = Words::new(alloc);
+        for bucket in 0..first {
+            if let Err(error) = stand(&mut words, bucket) {
+                return Err(CapacityError::Memory(error));
+            }
+        }
+        Ok(Buckets {
+            words,
+            reserved: bucket_size(first) - 1,
+        })
+    }
+
+    /// Publishes a value in the slot of a place, whose bucket is made where it doesn't stand, and answers it. Where
+    /// a value stands there, that one is kept and answered, and the new one is dropped. `Err` is want of memory for
+    /// the bucket: it gives the value back, and nothing has changed.
+    pub fn insert(&mut self, thread: Thread, value: T) -> Result<&mut T, T>
+    where
+        T: Drop,
+        ensures* writes_back { sem 𝓛 (LendsInserted T.row self.entry thread.bucket thread.index result) }
+        ensures answers { IfOk result (λ there. there.now ≡ unwrap_or (slot self.old.contents thread.bucket thread.index) value) }
+
+        // Where nothing is written through the answer, the map is as after a publishing, or after the keeping of what
+        // stands there. No other bucket is made, whatever is written.
+        ensures moves { sheet_of (with_published self.old.contents thread.bucket thread.index (unwrap_or (slot self.old.contents thread.bucket thread.index) value))
+            ≡ moved (sheet_of self.old.contents) (offer (slot self.old.contents thread.bucket thread.index) (id_at thread.bucket thread.index) value) }
+        ensures stands { (written : T) (bucket : ℕ) → stands (with_published self.old.contents thread.bucket thread.index written) bucket
+            ≡ (if thread.bucket == bucket then true else stands self.old.contents bucket) }
+
+        ensures err { IfErr result (λ back. back ≡ value) }
+        ensures refused { OnErr result (stands self.old.contents thread.bucket ≡ false) }
+    {
+        match stand(&mut self.words, thread.bucket) {
+            Ok(()) => {
+                offer(&mut self.words, thread.bucket, thread.index, value);
+                Ok(self.words.get_mut(thread.bucket, thread.index))
+            }
+            Err(_) => Err(value),
+        }
+    }
+
+    /// How many slots the buckets that stand have together.
+    pub fn slots(&mut self) -> usize
+        ensures value { result ≡ slots (stands self.old.contents) }
+        ensures same { self.new ≡ self.old }
+    {
+        let mut slots = 0;
+        for bucket in 0..BUCKETS {
+            if self.words.stands(bucket) {
+                slots += bucket_size(bucket);
+            }
+        }
+        slots
+    }
+
+    /// Drops every value and frees every bucket: what is left is as from `new`.
+    pub fn clear(&mut self)
+    where
+        T: Drop,
+        ensures contents { self.new.contents ≡ no_contents }
+        ensures reserved { self.new.reserved ≡ 0 }
+    {
+        self.words.release_all();
+        self.reserved = 0;
+    }
+}
+
+impl<T: Drop> IntoIterator for Buckets<T> {
+    type Item = T;
+
+    type IntoIter = IntoIter<T>;
+
+    ghost into_iter_gives = { λ buckets walked. walked ≡ walk (values buckets.contents) };
+
+    /// The values by ascending id, each moved out. It takes no memory.
+    fn into_iter(self) -> IntoIter<T> {
+        let Buckets {
+            mut words,
+            reserved: _,
+        } = self;
+        let left = count(&mut words);
+        IntoIter {
+            words,
+            raw: RawIter::new(),
+            left,
+        }
+    }
+}
+
+// How many binary digits a number has.
+fn digits(number: usize) -> usize
+    requires { number < 2 ^ 63 }
+    ensures value { result ≡ binary_digits number }
+    ensures bounded { result ≤ 63 }
+{
+    if number == 0 {
+        return 0;
+    }
+    Thread::new(number - 1).bucket + 1
+}

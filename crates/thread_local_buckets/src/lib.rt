@@ -1,0 +1,10 @@
+//! The buckets of a table, for an owner who has them alone: a map from ids to values.
+#![tactic(auto)]
+
+pub mod buckets;
+mod cursor;
+pub mod iter;
+mod steps;
+
+pub use buckets::{Buckets, CapacityError};
+pub use iter::IntoIter;

@@ -1,0 +1,6 @@
+pub mod RowLaws
+pub mod ValueLaws
+pub mod TakingLaws
+pub mod StandingLaws
+pub mod FillingLaws
+pub mod InsertingLaws

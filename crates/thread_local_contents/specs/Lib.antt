@@ -1,0 +1,2 @@
+pub mod Owner
+pub mod Counting

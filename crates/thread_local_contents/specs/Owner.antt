@@ -1,0 +1,25 @@
+use Rattle.std.specs.Prelude.{ℕ, ◌<◌, ◌≡◌, [], Option, Some, None, if◌then◌else◌}
+use Rattle.thread_local_model.specs.Buckets.{Contents, stands, values}
+use Rattle.thread_local_model.specs.Rows.{with_row, with_slot, empty_row}
+use Rattle.thread_local_model.specs.Sheet.{Sheet, Move, Publish, Keep}
+
+-- the contents with this bucket standing: as they are where it stands, and else with its slots empty
+abbrev pub with_bucket : {V : Type 0} → Contents V → ℕ → Contents V
+with_bucket contents bucket = if stands contents bucket then contents else with_row contents bucket (empty_row bucket)
+
+-- the contents with this bucket standing, and this value in one of its slots
+abbrev pub with_published : {V : Type 0} → Contents V → ℕ → ℕ → V → Contents V
+with_published contents bucket index v = with_slot (with_bucket contents bucket) bucket index (Some v)
+
+-- an owner's contents as a table's users see them, who hold no ids
+abbrev pub sheet_of : {V : Type 0} → Contents V → Sheet V
+sheet_of contents = record { held = []; values = values contents; capacity = 0 }
+
+-- what offering a value at an id does: it is published where there is none, and else the one there is kept
+abbrev pub offer : {V : Type 0} → Option V → ℕ → V → Move V
+offer None id v = Publish id v
+offer (Some kept) id v = Keep id v
+
+-- no value stands at an id below n
+abbrev pub NoneBelow : {V : Type 0} → (ℕ → Option V) → ℕ → Type 0
+NoneBelow values n = (id : ℕ) → id < n → values id ≡ None

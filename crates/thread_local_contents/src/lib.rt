@@ -1,0 +1,2 @@
+//! The laws of what an owner's calls do to the buckets: what stands and what is published after each change.
+#![tactic(auto)]
