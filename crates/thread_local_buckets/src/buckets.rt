@@ -2,6 +2,7 @@ ghost use Rattle.std.specs.Prelude.{◌≡◌, ℕ, ◌^◌, ◌<◌, ◌≤◌,
 ghost use Rattle.std.specs.Borrow.{sem};
 ghost use Rattle.thread_local_model.specs.Place.{id_at};
 ghost use Rattle.thread_local_model.specs.Buckets.{row, stands, slots, values, no_contents, IsTable};
+ghost use Rattle.thread_local_model.specs.Owned.{IsOwned};
 ghost use Rattle.thread_local_model.specs.Rows.{slot};
 ghost use Rattle.thread_local_model.specs.Capacity.{binary_digits, reserved_slots};
 ghost use Rattle.thread_local_model.specs.Sheet.{moved};
@@ -131,6 +132,25 @@ impl<T> Buckets<T> {
             }
         }
         slots
+    }
+
+    /// The words and the number of reserved slots, for what is shared among threads.
+    pub fn into_parts(self) -> (Words<T>, usize)
+        ensures words { result.0 ≡ self.contents }
+        ensures reserved { result.1 ≡ self.reserved }
+        ensures owned { IsOwned self }
+    {
+        let Buckets { words, reserved } = self;
+        (words, reserved)
+    }
+
+    /// An owner's buckets again, of their words and the number of reserved slots.
+    pub fn from_parts(words: Words<T>, reserved: usize) -> Buckets<T>
+        requires { IsOwned (record { contents = words; reserved = reserved }) }
+        ensures contents { result.contents ≡ words }
+        ensures reserved { result.reserved ≡ reserved }
+    {
+        Buckets { words, reserved }
     }
 
     /// Drops every value and frees every bucket: what is left is as from `new`.
