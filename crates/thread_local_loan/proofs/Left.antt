@@ -1,7 +1,9 @@
 -- What a loan has left once it gave the value of a slot.
 use Rattle.thread_local_loan.proofs.Names.{◌≡◌, ℕ, zero, suc, ◌+◌, ◌≤◌, List, [], ◌∷◌, length, length-set, set, get_or, refl, sym, ap, ◌∙◌, subst, arith, Option, None}
 use Rattle.std.proofs.lemmas.List.{get_or-set_other}
-use Rattle.std.specs.Prelude.{◌⊎◌, ◌^◌}
+use Rattle.std.proofs.Common.{inl, inr, true, false}
+use Rattle.std.proofs.lemmas.Bool.{lt-ltb, ltb-true, true≢false}
+use Rattle.std.specs.Prelude.{nat_lt, ◌⊎◌, ◌^◌}
 use Rattle.thread_local_model.specs.Place.{id_at}
 use Rattle.thread_local_model.specs.Buckets.{Contents, row, IsTable}
 use Rattle.thread_local_model.specs.Rows.{with_slot}
@@ -35,3 +37,13 @@ left_after whole left given k i so ahead = record {
   long = λ bucket. so.long bucket ∙ sym (row_long left k i None bucket);
   ahead = λ bucket index later. slot_other left.rows k i bucket index None None (λ e e'. let same : id_at bucket index ≡ id_at k i = λ t. id_at (e t) (e' t) in absurd (omega arith)) ∙ so.ahead bucket index (omega arith);
 }
+
+-- a bucket that stands has all its slots
+pub whole_row : (n m : ℕ) → (n ≡ 0) ⊎ (n ≡ m) → nat_lt 0 n ≡ true → n ≡ m
+whole_row n m (inl e) stands = absurd (let some = ltb-true 0 n stands in omega arith)
+whole_row n m (inr e) stands = e
+
+-- one that doesn't has none
+pub no_row : {A : Type 0} (r : List A) → nat_lt 0 (length r) ≡ false → r ≡ []
+no_row [] absent = refl
+no_row (x ∷ xs) absent = absurd (true≢false (sym (lt-ltb 0 (length (x ∷ xs)) (omega arith)) ∙ absent))

@@ -1,5 +1,5 @@
 //! The values of a table's words, lent one by one.
-ghost use Rattle.std.specs.Prelude.{◌≡◌, ◌≤◌, ◌<◌, ◌+◌, ℕ, length, None, Some, is_some, IsSome};
+ghost use Rattle.std.specs.Prelude.{true, false, [], ◌^◌, ◌≡◌, ◌≤◌, ◌<◌, ◌+◌, ℕ, length, None, Some, is_some, IsSome};
 ghost use base.Fml.{GName, ftrue};
 ghost use Rattle.thread_local_model.specs.Place.{id_at};
 ghost use Rattle.thread_local_model.specs.Buckets.{Contents, row, stands, IsTable};
@@ -57,6 +57,8 @@ impl<'a, T> Loan<'a, T> {
         requires { bucket < 63 }
         ensures same { self.new ≡ self.old }
         ensures value { result ≡ stands self.old.contents bucket }
+        ensures whole { result ≡ true → length (row self.old.contents bucket) ≡ 2 ^ bucket }
+        ensures absent { result ≡ false → row self.old.contents bucket ≡ [] }
         ensures table { IsTable self.old.contents }
     {
         let block = unsafe { *self.words.add(bucket) };

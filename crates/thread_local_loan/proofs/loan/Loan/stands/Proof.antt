@@ -5,11 +5,13 @@ use mir.Val.{vbool, vnull, ptr_same}
 use denote.RawPtr.{ptr_val}
 use Rattle.std.specs.Prelude.{not, nat_lt}
 use Rattle.std.proofs.alloc.Shapes.{after}
-use Rattle.thread_local_model.specs.Buckets.{IsTable, stands}
+use Rattle.thread_local_model.specs.Buckets.{row, IsTable, stands}
 use Rattle.thread_local_loan.specs.Lent.{Lending, lending, framed, frames, Leads, IsLeft}
 use Rattle.thread_local_loan.specs.contracts.loan.Loan as loan
 use Rattle.thread_local_loan.specs.contracts.loan.Loan.stands.{ended, clauses}
 use Rattle.thread_local_loan.specs.contracts.loan.Loan.stands.Key.{name as #self}
+use Rattle.std.proofs.Common.{true, false, length}
+use Rattle.thread_local_loan.proofs.Left.{no_row, whole_row}
 use Rattle.thread_local_loan.proofs.Fields.{Words, told, loan_val, pointer_good, testable, leads}
 use Rattle.thread_local_loan.proofs.Frames.{pointer, in_row, Frame, frame_out}
 use Rattle.thread_local_loan.proofs.loan.Loan.stands.Statement.{statement}
@@ -53,7 +55,10 @@ stands_spec 𝓤 𝓛 𝓜 𝓡 wired X L =
     move ! (3 ∷ 0 ∷ []) $ fjoin ! $ rewrite ! 3 (λ (ws : List Val). ‵ (cell_at full_share Lo.mir ws b o)) (sym ev) refl $ move ! (3 ∷ 0 ∷ 4 ∷ 5 ∷ 6 ∷ []) $ closes ! tt Lo h ts b o $
     feq_i ! (List Val) (vptr b o ∷ []) (vptr b o ∷ []) refl $ fjoin3 ! $ nothing ! $ nothing ! $ fjoin ! $ move ! (1 ∷ 0 ∷ []) $ fjoin ! $ move ! (2 ∷ 3 ∷ []) $ fjoin ! $ move ! (2 ∷ 0 ∷ []) $ join ! $
     let yes_or_no : Bool = not (ptr_same (ptr_val p) vnull) in let Told : Type 0 = yes_or_no ≡ stands h.contents k in
+    let told : Told = leads R p r lead ∙ ap (nat_lt 0) (so.1.long k) in let slots = row h.contents k in let Whole : Type 0 = yes_or_no ≡ true → length slots ≡ 2 ^ k in let Absent : Type 0 = yes_or_no ≡ false → slots ≡ [] in
     use0 𝓛 (raw (fact 𝓤 (IsTable h.contents))) (fact_i 𝓤 (IsTable h.contents) (emp 𝓤) so.1.table) $
-    use0 𝓛 (raw (fact 𝓤 Told)) (fact_i 𝓤 Told (emp 𝓤) (leads R p r lead ∙ ap (nat_lt 0) (so.1.long k))) $ join ! $ use0 𝓛 (raw (fact 𝓤 (h ≡ h))) (fact_i 𝓤 (h ≡ h) (emp 𝓤) refl) $ join ! $
+    use0 𝓛 (raw (fact 𝓤 Absent)) (fact_i 𝓤 Absent (emp 𝓤) (λ e. no_row slots (sym told ∙ e))) $ join ! $
+    use0 𝓛 (raw (fact 𝓤 Whole)) (fact_i 𝓤 Whole (emp 𝓤) (λ e. whole_row (length slots) (2 ^ k) (so.1.table.whole k) (sym told ∙ e))) $ join ! $
+    use0 𝓛 (raw (fact 𝓤 Told)) (fact_i 𝓤 Told (emp 𝓤) told) $ join ! $ use0 𝓛 (raw (fact 𝓤 (h ≡ h))) (fact_i 𝓤 (h ≡ h) (emp 𝓤) refl) $ join ! $
     feq_i ! (List Val) (vbool yes_or_no ∷ []) (vbool yes_or_no ∷ []) refl $
     returns ! (look_at ! 0 refl) $ free_all ! refl $ keep ! (2 ∷ 3 ∷ 0 ∷ 1 ∷ []) $ by ! (leaves 𝓛 En hs c y (vbool yes_or_no) yes_or_no (h, (tt, tt)) (tt, (tt, tt)))))))))))
