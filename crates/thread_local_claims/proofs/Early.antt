@@ -1,7 +1,7 @@
 -- What whoever has the pass of a slot finds in the word's invariant: a slot that isn't born, or one that is. Assumes `Logic`.
 use Rattle.std.proofs.Common.{◌≡◌, ℕ, zero, suc, ◌+◌, ◌*◌, ◌<◌, Bool, true, false, [], ◌∷◌, length, refl, sym, subst, arith, Option, None}
 use seplogic.Ra.Ura.{Ura}
-use base.Logic.{SProp, ent, sep, wand, upd, upd_i, apply∗}
+use base.Logic.{SProp, ent, sep, wand, upd, upd_i, id⊢, apply∗}
 use base.Fml.{Share, Fml, ftrue, fsep, fbor}
 use types.Logic.{Logic, sem}
 use types.Kit.{‵, raw, ◌⊛◌, given, frame, assume, suffices, ◌$◌, ◌∵◌, !, qed, by, move, keep, split, split3, rewrite, group, fsplit, fsplit3, fjoin, fjoin3, fpick, fpack, learn, use1, use2, use3, done}
@@ -12,7 +12,7 @@ use Rattle.thread_local_rights.specs.Rights.{right_owns}
 use Rattle.thread_local_rights.proofs.Elements.{right_once}
 use Rattle.thread_local_blocks.specs.Slots.{stride}
 use Rattle.thread_local_slots.specs.Shared.{Named, Turn, Standing, Who, free, unborn, all_unborn, waiting, len, first, Sized, pending, standing, beside_pointer, invariant}
-use Rattle.thread_local_claims.specs.Claims.{name_at}
+use Rattle.thread_local_claims.specs.Claims.{name_at, waits}
 use Rattle.thread_local_claims.proofs.Inside.{in_block, quietly}
 use Rattle.thread_local_claims.proofs.Moves as moves
 use Rattle.thread_local_claims.proofs.Steps as steps
@@ -115,3 +115,16 @@ module _ {M : Type 1} {𝓤 : Ura M} (𝓛 : Logic 𝓤) (R : RattleType) where
     -- with no step of the machine
     pub leaves : (q : Share) → A.inv (fbor t.life I) ∗ A.lft t.life q ∗ ⟦ Pass ⟧ ⊢ H.⇛ (⟦ Right ⟧ ∗ A.lft t.life q)
     leaves q = quietly 𝓛 t.life q I ⟦ Pass ⟧ ⟦ Right ⟧ (by_word ⟦ Pass ⟧ Swapped unborn_leaves born_leaves)
+
+    abbrev pub All : Fml
+    All = all_unborn R d.table t (len R d) (first R d)
+
+    -- whoever finds the word null leaves its right, and has the pass
+    pub comes : (looked : Bool) → ⟦ All ⟧ ∗ ⟦ waits looked d.table t.pass k ⟧ ⊢ ⟦ All ⟧ ∗ ⟦ Pass ⟧
+    comes true = id⊢ 𝓤 _
+    comes false = qed 𝓛 (‵ All ∷ ‵ Right ∷ []) ∵ use1 𝓛 (‵ Unborn ⊛ raw (⟦ Unborn ⟧ -∗ ⟦ All ⟧)) (unborn_out d.table t (len R d) (first R d) i k low at_k) $ split ! $ fsplit3 ! $ move ! (2 ∷ []) $ fpick ! (λ w. by ! (swaps w))
+      where
+        swaps : (w : Bool) → ⟦ waiting R w d.table t.pass k ⟧ ∗ ⟦ right_owns t.vacant k ⟧ ∗ ⟦ right_owns t.filled k ⟧ ∗ (⟦ Unborn ⟧ -∗ ⟦ All ⟧) ∗ ⟦ Right ⟧ ⊢ ⟦ All ⟧ ∗ ⟦ Pass ⟧
+        swaps false = qed 𝓛 (‵ Pass ∷ ‵ (right_owns t.vacant k) ∷ ‵ (right_owns t.filled k) ∷ raw (⟦ Unborn ⟧ -∗ ⟦ All ⟧) ∷ ‵ Right ∷ []) ∵ move ! (4 ∷ []) $ fpack ! Bool (λ early. waiting R early d.table t.pass k) true $ move ! (2 ∷ 3 ∷ 0 ∷ []) $ fjoin3 ! $
+            move ! (0 ∷ 2 ∷ []) $ use2 𝓛 (‵ All) (apply∗ 𝓤 ⟦ Unborn ⟧ ⟦ All ⟧) $ done !
+        swaps true = qed 𝓛 (‵ Right ∷ ‵ (right_owns t.vacant k) ∷ ‵ (right_owns t.filled k) ∷ raw (⟦ Unborn ⟧ -∗ ⟦ All ⟧) ∷ ‵ Right ∷ []) ∵ keep ! (0 ∷ 4 ∷ []) $ by ! (right_once 𝓛 d.table k (⟦ All ⟧ ∗ ⟦ Pass ⟧))

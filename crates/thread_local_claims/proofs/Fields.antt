@@ -1,5 +1,5 @@
 -- The data fields of a claim. Assumes `Logic`.
-use Rattle.std.proofs.Common.{◌≡◌, ℕ, ◌^◌, ◌<◌, Bool, T, w64, List, [], ◌∷◌, ◌++◌, refl, ◌∙◌, lit<}
+use Rattle.std.proofs.Common.{◌≡◌, ℕ, ◌^◌, ◌<◌, Bool, true, false, Option, None, Some, T, w64, List, [], ◌∷◌, ◌++◌, refl, ◌∙◌, lit<}
 use seplogic.Ra.Ura.{Ura}
 use mir.Syntax.{Ty, ty_ptr, ty_int, ty_bool, ty_struct, tcons, tnil}
 use mir.Val.{Val, vint, vbool, vstruct, vcons, vnil, of_list, has_ty, WT}
@@ -16,6 +16,7 @@ use denote.Struct.Laws.{RawPtr-copy, usize-copy, bool-copy, field_copy}
 use denote.Struct.Struct.{Struct}
 use denote.Struct.Owning.{shape}
 use Rattle.std.specs.contracts.marker.PhantomData as marker
+use Rattle.thread_local_claims.specs.Claims.{is_some}
 use Rattle.thread_local_claims.specs.declared.claim.Claim as claim_value
 use Rattle.thread_local_claims.specs.contracts.claim.Claim as claim
 
@@ -29,6 +30,13 @@ pub record Kept : Type 0 where
 
 abbrev pub kept_of : {X : Type 0} → claim_value.Claim X → Kept
 kept_of c = record { word = c.word; slot = c.slot; index = c.index; found = c.found; published = c.published }
+
+abbrev pub moved_to : Kept → Ptr → Kept
+moved_to c p = record c { slot = p }
+
+pub some_of : {X : Type 0} (v : Option X) → is_some v ≡ true → (x : X) × (v ≡ Some x)
+some_of None e = let no : false ≡ true = e in cc
+some_of (Some x) e = (x, refl)
 
 abbrev pub value_of : Kept → Val
 value_of c = vstruct (vcons (ptr_val c.word) (vcons (ptr_val c.slot) (vcons (vint w64 c.index) (vcons (vbool c.found) (vcons (vbool c.published) (vcons (vstruct vnil) vnil))))))

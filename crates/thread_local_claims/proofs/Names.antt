@@ -1,7 +1,7 @@
 -- The names of the logic that the walks by hand use, in one place.
 pub use Rattle.std.proofs.Common.{◌≡◌, ℕ, ◌+◌, [], ◌∷◌, refl, lit<, w64, List, ◌^◌, ◌&&◌, T, true, ◌++◌, sym, subst, ◌∙◌, ap}
 pub use mir.Syntax.{dcons, dnil, a_type, named}
-pub use mir.Val.{Val, vint, vptr, vcons, vnil, vunit, vstruct, has_ty, WT}
+pub use mir.Val.{Val, vbool, vint, vptr, vcons, vnil, vunit, vstruct, has_ty, WT}
 pub use mir.MapTy.{inst_fn}
 pub use base.Logic.{SProp, wand, emp, via, apply∗, ent, id⊢, guard_i}
 pub use base.Fml.{Lft, Share, Fml, ftrue, fsep, flft, fbor, finv, GName}

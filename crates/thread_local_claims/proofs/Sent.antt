@@ -11,7 +11,11 @@ use Rattle.thread_local_rights.proofs.Elements.{right_keyless}
 use Rattle.thread_local_blocks.specs.Slots.{stride, value_at}
 use Rattle.thread_local_slots.specs.Shared.{Named, Turn, age, by, holds}
 use Rattle.thread_local_slots.proofs.Sent.{value_keyless, kept_keyless, row_keyless}
-use Rattle.thread_local_claims.specs.Claims.{name_at, Place, has, claim_owns}
+use Rattle.thread_local_claims.specs.Claims.{name_at, Place, has, claim_owns, waits}
+
+waits_keyless : (looked : Bool) (table pass : GName) (id : ℕ) → Keyless (waits looked table pass id)
+waits_keyless false table pass id = right_keyless table id
+waits_keyless true table pass id = right_keyless pass id
 
 module _ (R : RattleType) (sent : IsSend R) where
   by_keyless : (t : Turn) (b ν e : ℕ) (η : GName) (x : R.Denot) (j : Judged R) → Keyless (by R t b ν e η x j)
@@ -23,7 +27,7 @@ module _ (R : RattleType) (sent : IsSend R) where
   holds_keyless t b ν k e η (Some x) = (right_keyless t.filled k, (tt, λ j. by_keyless t b ν e η x j))
 
   has_keyless : (d : Named) (t : Turn) (β : Lft) (c : Place) (v : Option R.Denot) (k : Bool) → Keyless (has R d t β c v k)
-  has_keyless d t β c v false = ((λ _. tt), right_keyless t.pass c.id)
+  has_keyless d t β c v false = ((λ _. tt), waits_keyless c.looked d.table t.pass c.id)
   has_keyless d t β c v true = λ s. ((λ _. tt), (row_keyless R sent d t s β, holds_keyless t (block_of s.at) s.own c.id (c.index * stride R + count_of s.at) (name_at s.names c.index) v))
 
   pub claim_keyless : (β : Lft) (w : Ptr) (table : ℕ) (c : Place) (v : Option R.Denot) (found published : Bool) → Keyless (claim_owns R β w table c v found published)

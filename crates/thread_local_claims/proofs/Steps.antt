@@ -1,19 +1,20 @@
 -- The steps of a claim, under the invariant of the word: with no step of the machine, and with one on the slot's flag. Assumes `Logic`.
-use Rattle.std.proofs.Common.{◌≡◌, ℕ, ◌+◌, ◌*◌, ◌<◌, [], ◌∷◌, length, refl, Option}
+use Rattle.std.proofs.Common.{◌≡◌, ℕ, ◌+◌, ◌*◌, ◌<◌, Bool, true, false, [], ◌∷◌, length, refl, ap, Option, None}
 use seplogic.Ra.Ura.{Ura}
 use base.Logic.{SProp, ent, sep, wand, ex, guard, upd_i, apply∗}
-use base.Fml.{GName, Share, Fml, fsep, fres, fbor, flft, flent}
+use base.Fml.{GName, Share, Fml, fsep, fres, fbor, flft, flent, ftrue, fex}
 use types.Logic.{Logic, sem}
-use types.Kit.{‵, raw, ◌⊛◌, given, some, show, frame, assume, suffices, ◌$◌, ◌∵◌, !, qed, move, split, split3, pick, rewrite, group, fsplit3, fjoin3, fpick, fpack, learn, use1, use2, use3, done}
+use types.Kit.{‵, raw, ◌⊛◌, given, some, show, check, frame, assume, suffices, ◌$◌, ◌∵◌, !, qed, by, move, split, split3, pick, rewrite, group, fsplit3, fjoin, fjoin3, fpick, fpack, learn, use1, use2, use3, done}
 use denote.RattleType.{RattleType}
+use denote.Steps.{nothing}
 use denote.RawPtr.{block_ptr, block_of, count_of}
 use Rattle.std.specs.Sync.RawAtomic.{word, asks, always}
 use Rattle.thread_local_word.proofs.Opened.{Lies, Again}
 use Rattle.thread_local_word.proofs.Opened as word_opened
 use Rattle.thread_local_rights.specs.Rights.{right_owns}
-use Rattle.thread_local_blocks.specs.Slots.{flag_of, rim, stride}
-use Rattle.thread_local_slots.specs.Shared.{Named, Turn, Standing, Who, free, mark, age, value_of, slot_as, slot, first, invariant, stands, had, holds}
-use Rattle.thread_local_claims.specs.Claims.{name_at}
+use Rattle.thread_local_blocks.specs.Slots.{fact, flag_of, rim, stride}
+use Rattle.thread_local_slots.specs.Shared.{Named, Turn, Standing, Who, free, claimed, mark, age, value_of, slot_as, slot, first, invariant, stands, had, holds}
+use Rattle.thread_local_claims.specs.Claims.{name_at, waits, IsTold}
 use Rattle.thread_local_claims.proofs.Inside.{quietly, slot_in}
 use Rattle.thread_local_claims.proofs.Moves as moves
 
@@ -103,3 +104,21 @@ module _ {M : Type 1} {𝓤 : Ura M} (𝓛 : Logic 𝓤) (R : RattleType) (d : N
         move ! (1 ∷ 2 ∷ 6 ∷ []) $ use3 𝓛 (some (λ (y : Option R.Denot × Who). given (f (flag_of z.0) ≡ flag_of y.0) (‵ (Stands y.0) ⊛ ‵ (Had y.0 y.1) ⊛ ‵ (after (flag_of z.0))))) (law z.0 z.1) $ pick ! (λ y. learn ! (λ same. split3 ! $
         -- [what stands; who has it; what is gained; the word; the rim; the loan; the way back]
         move ! (3 ∷ []) $ rewrite ! 0 (λ (n : ℕ). ‵ (word b (e + 0) n)) same refl $ move ! (4 ∷ 5 ∷ 0 ∷ 1 ∷ 2 ∷ []) $ group ! 5 $ use1 𝓛 (‵ Slot) (slot_made y) $ move ! (0 ∷ 2 ∷ []) $ use2 𝓛 (‵ I) (apply∗ 𝓤 ⟦ Slot ⟧ ⟦ I ⟧) $ done !))))
+
+  -- what a claim finds: its flag, and what the slot holds
+  abbrev pub Found : Bool → ℕ → Fml
+  Found looked n = fex (Option R.Denot) (λ u. fsep (fact (IsTold looked n u)) (Holds u))
+
+  -- a look at the flag takes what the slot holds, for the right or for the pass
+  pub arrives : (q : Share) (looked : Bool) → A.inv (fbor t.life I) ∗ (A.lft t.life q ∗ (⟦ Which ⟧ ∗ ⟦ waits looked d.table t.pass k ⟧)) ⊢ asks 𝓛 (block_ptr b (e + 0)) (λ n. n) always (λ n. fsep (flft t.life q) (Found looked n))
+  arrives q looked = stepped q (λ n. n) (Found looked) (waits looked d.table t.pass k) (law looked)
+    where
+      found : (l : Bool) (v u : Option R.Denot) → IsTold l (flag_of v) u → ⟦ Stands v ⟧ ∗ ⟦ Had v claimed ⟧ ∗ ⟦ Holds u ⟧ ⊢ ex 𝓤 (Turned q (λ n. n) (Found l) v)
+      found l v u told = qed 𝓛 (‵ (Stands v) ∷ ‵ (Had v claimed) ∷ ‵ (Holds u) ∷ []) ∵ show ! (Turned q (λ n. n) (Found l) v) (v, claimed) $ check ! refl $ frame ! $ frame ! $
+          nothing ! $ fpack ! (IsTold l (flag_of v) u) (λ _. ftrue) told $ fjoin ! $ fpack ! (Option R.Denot) (λ u'. fsep (fact (IsTold l (flag_of v) u')) (Holds u')) u $ done !
+
+      law : (l : Bool) (v : Option R.Denot) (w : Who) → ⟦ Stands v ⟧ ∗ ⟦ Had v w ⟧ ∗ ⟦ waits l d.table t.pass k ⟧ ⊢ ex 𝓤 (Turned q (λ n. n) (Found l) v)
+      law false v w = qed 𝓛 (‵ (Stands v) ∷ ‵ (Had v w) ∷ ‵ Right ∷ []) ∵ move ! (1 ∷ 2 ∷ []) $ use2 𝓛 (‵ (Had v claimed) ⊛ ‵ (Holds v)) (moves.claims 𝓛 R t b s.own d.table k e η v w) $ split ! $ move ! (2 ∷ 0 ∷ 1 ∷ []) $
+          by ! (found false v v (refl, (λ no. let n : false ≡ true = no in cc)))
+      law true v w = qed 𝓛 (‵ (Stands v) ∷ ‵ (Had v w) ∷ ‵ (right_owns t.pass k) ∷ []) ∵ use3 𝓛 (given (v ≡ None) (‵ (Stands v) ⊛ ‵ (Had v claimed) ⊛ ‵ (Holds None))) (moves.early_claims 𝓛 R t b s.own d.table k e η v w) $ learn ! (λ none. split3 ! $
+          by ! (found true v None (ap flag_of none, (λ _. refl))))

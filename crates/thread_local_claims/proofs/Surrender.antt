@@ -13,7 +13,7 @@ use denote.RawPtr.{Ptr, block_of, count_of}
 use Rattle.thread_local_rights.specs.Rights.{right_owns}
 use Rattle.thread_local_blocks.specs.Slots.{stride}
 use Rattle.thread_local_slots.specs.Shared.{Named, Turn, invariant}
-use Rattle.thread_local_claims.specs.Claims.{Place, IsOf, has, claim_owns}
+use Rattle.thread_local_claims.specs.Claims.{Place, IsOf, has, claim_owns, waits}
 use Rattle.thread_local_claims.proofs.Early as early
 use Rattle.thread_local_claims.proofs.Steps as steps
 
@@ -47,9 +47,12 @@ module _ {M : Type 1} {𝓤 : Ura M} (𝓛 : Logic 𝓤) (R : RattleType) (β : 
     abbrev Right : Fml
     Right = right_owns d.table c.id
 
+    waited : (looked : Bool) → A.inv J ∗ A.lft t.life q ∗ ⟦ waits looked d.table t.pass c.id ⟧ ⊢ H.⇛ (⟦ Right ⟧ ∗ A.lft t.life q)
+    waited true = early.leaves 𝓛 R d t (block_of w) (count_of w + 0) c.index c.id of.4 of.3 q
+    waited false = qed 𝓛 (‵ (finv J) ∷ ‵ (flft t.life q) ∷ ‵ Right ∷ []) ∵ updating ! $ now ! $ keep ! (2 ∷ 1 ∷ []) $ done !
+
     gives : (k : Bool) → A.inv J ∗ A.lft t.life q ∗ ⟦ has R d t β c v k ⟧ ⊢ H.⇛ (⟦ Right ⟧ ∗ A.lft t.life q)
-    gives false = qed 𝓛 (‵ (finv J) ∷ ‵ (flft t.life q) ∷ ‵ (has R d t β c v false) ∷ []) ∵ move ! (2 ∷ []) $ fsplit ! $ drop ! $ move ! (1 ∷ 2 ∷ 0 ∷ []) $
-        by ! (early.leaves 𝓛 R d t (block_of w) (count_of w + 0) c.index c.id of.4 of.3 q)
+    gives false = qed 𝓛 (‵ (finv J) ∷ ‵ (flft t.life q) ∷ ‵ (has R d t β c v false) ∷ []) ∵ move ! (2 ∷ []) $ fsplit ! $ drop ! $ move ! (1 ∷ 2 ∷ 0 ∷ []) $ by ! (waited c.looked)
     gives true = qed 𝓛 (‵ (finv J) ∷ ‵ (flft t.life q) ∷ ‵ (has R d t β c v true) ∷ []) ∵ move ! (2 ∷ []) $ fpick ! (λ s. fsplit ! $ fpick ! (λ at. drop ! $ fsplit ! $ fsplit3 ! $ fpick ! (λ sized. drop ! $
         -- [what is known of the block; it lasts; what the slot holds; the invariant; the token]
         let wb : ℕ = block_of w in let wo : ℕ = count_of w + 0 in let l : c.index < length s.names = subst (λ (n : ℕ). c.index < n) (sym sized.0) of.4 in let b : ℕ = block_of s.at in let e : ℕ = c.index * stride R + count_of s.at in

@@ -2,14 +2,14 @@
 -- A claim has the right to an id, under one sharing of the id's word. While the bucket is missing, its right lies with the word, and it has the pass of its slot.
 -- Once the bucket stands it has what the slot holds.
 use Rattle.std.specs.Prelude.{◌≡◌, ℕ, zero, suc, ◌+◌, ◌*◌, ◌<◌, Bool, true, false, List, [], ◌∷◌, Option, None, Some}
-use base.Fml.{Lft, Fml, fsep, fex}
+use base.Fml.{Lft, GName, Fml, fsep, fex}
 use denote.RattleType.{RattleType}
 use denote.Memory.{shared_of}
 use denote.RawPtr.{Ptr, InBlock, block_ptr, block_of, count_of}
 use denote.Sharing.{said, beside, within, nothing}
 use Rattle.thread_local_rights.specs.Rights.{right_owns}
 use Rattle.thread_local_judged.specs.Judged.{Judged}
-use Rattle.thread_local_blocks.specs.Slots.{fact, stride, value_at}
+use Rattle.thread_local_blocks.specs.Slots.{fact, flag_of, stride, value_at}
 use Rattle.thread_local_slots.specs.Shared.{Named, Turn, Standing, holds, first, len, kept, row}
 
 -- the name at an index
@@ -22,15 +22,27 @@ abbrev pub is_some : {X : Type 0} → Option X → Bool
 is_some None = false
 is_some (Some x) = true
 
--- what a claim is, apart from its type's values: its id, the index of its slot, where the slot lies once it stands, and whether it does
+-- what a claim is, apart from its type's values: its id, the index of its slot, where the slot lies once it stands, whether it has looked
+-- for the bucket, whether it has found it, and whether the bucket is reserved
 pub record Place : Type 0 where
   pub id : ℕ
   pub index : ℕ
   pub slot : Ptr
+  pub looked : Bool
   pub stands : Bool
+  pub reserved : Bool
 
-abbrev pub place_of : ℕ → ℕ → Ptr → Bool → Place
-place_of id index slot stands = record { id = id; index = index; slot = slot; stands = stands }
+abbrev pub place_of : ℕ → ℕ → Ptr → Bool → Bool → Bool → Place
+place_of id index slot looked stands reserved = record { id = id; index = index; slot = slot; looked = looked; stands = stands; reserved = reserved }
+
+-- what a claim has before it has found the bucket: its right, and once it has looked in vain, the pass of its slot
+abbrev pub waits : Bool → GName → GName → ℕ → Fml
+waits false table pass id = right_owns table id
+waits true table pass id = right_owns pass id
+
+-- a claim that came before the bucket finds its slot empty
+abbrev pub IsTold : {X : Type 0} → Bool → ℕ → Option X → Type 0
+IsTold looked flag v = (flag ≡ flag_of v) × (looked ≡ true → v ≡ None)
 
 module _ (R : RattleType) where
   -- the slot lies at its index in the block
@@ -43,7 +55,7 @@ module _ (R : RattleType) where
     has_slot s = fsep (fact (IsAt s c)) (fsep (row R d t s β) (holds R t (block_of s.at) s.own c.id (c.index * stride R + count_of s.at) (name_at s.names c.index) v))
 
     abbrev pub has : Bool → Fml
-    has false = fsep (fact (v ≡ None)) (right_owns t.pass c.id)
+    has false = fsep (fact (v ≡ None)) (waits c.looked d.table t.pass c.id)
     has true = fex Standing has_slot
 
   -- what a claim keeps at run time is true of it
@@ -52,7 +64,7 @@ module _ (R : RattleType) where
 
   -- the id is the one at the index
   abbrev pub IsOf : Ptr → ℕ → Place → Named → Type 0
-  IsOf w table c d = InBlock w × Judged R × (d.table ≡ table) × (c.id ≡ c.index + first R d) × (c.index < len R d)
+  IsOf w table c d = InBlock w × Judged R × (d.table ≡ table) × (c.id ≡ c.index + first R d) × (c.index < len R d) × (d.reserved ≡ c.reserved)
 
   module _ (β : Lft) (w : Ptr) (table : ℕ) (c : Place) (v : Option R.Denot) where
     -- a claim of one sharing
