@@ -198,26 +198,3 @@ fn digits(number: usize) -> usize
     }
     Thread::new(number - 1).bucket + 1
 }
-
-impl<T> Buckets<T> {
-    ghost use Rattle.thread_local_model.specs.Owned.{IsOwned};
-
-    /// The words, and the number of reserved slots.
-    pub fn into_parts(self) -> (Words<T>, usize)
-        ensures words { result.0 ≡ self.contents }
-        ensures reserved { result.1 ≡ self.reserved }
-        ensures owned { IsOwned self }
-    {
-        let Self { words, reserved } = self;
-        (words, reserved)
-    }
-
-    /// The buckets of these words, in which each bucket that has a reserved slot stands.
-    pub fn from_parts(words: Words<T>, reserved: usize) -> Buckets<T>
-        requires { IsOwned (record { contents = words; reserved = reserved }) }
-        ensures words { result.contents ≡ words }
-        ensures reserved { result.reserved ≡ reserved }
-    {
-        Buckets { words, reserved }
-    }
-}
