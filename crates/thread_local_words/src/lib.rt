@@ -2,6 +2,8 @@
 #![tactic(auto)]
 
 pub mod row_of_words;
+#[cfg(test)]
+mod tests;
 pub mod words;
 
 pub use words::Words;
