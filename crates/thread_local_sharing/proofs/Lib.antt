@@ -1,5 +1,6 @@
 pub mod Inside
 pub mod Loads
+pub mod Looks
 pub mod Offers
 pub mod Pointers
 pub mod Rested

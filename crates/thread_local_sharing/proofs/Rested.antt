@@ -121,7 +121,7 @@ module _ {M : Type 1} {𝓤 : Ura M} (𝓛 : Logic 𝓤) where
             qed 𝓛 ((‵ (pinned R η x) ⊛ ‵ (fbor κ V)) ∷ raw (lfts 𝓛 ts) ∷ []) ∵ updating ! $ use2 𝓛 (later (‵ (fbor κ Q) ⊛ raw (lfts 𝓛 ts))) (by_one 𝓛 κ ts sp (⟦ pinned R η x ⟧ ∗ A.bor κ V) (A.bor κ Q) (pins x)) $ await ! tt $
             use1 𝓛 (later (‵ (shared_value R t b ν e x) ⊛ raw (lfts 𝓛 ts))) (L.shares 𝓛 x κ ts b o inc sp) $ await ! tt $ now ! $ done !
 
-        opens_by : (x : R.Denot) → ⟦ shared_value R t b ν e x ⟧ ⊢ ⟦ opened R t b ν e x ⟧
+        pub opens_by : (x : R.Denot) → ⟦ shared_value R t b ν e x ⟧ ⊢ ⟦ opened R t b ν e x ⟧
         opens_by x = qed 𝓛 (‵ (shared_value R t b ν e x) ∷ []) ∵ each ! (λ (_ : Shareable R). ⟦ shared_value R t b ν e x ⟧) (λ _. done !)
 
         opens_never : (x : R.Denot) → (Shareable R → ⊥) → emp 𝓤 ⊢ ⟦ opened R t b ν e x ⟧

@@ -4,12 +4,15 @@ use base.Fml.{fbor, finv}
 use base.Before.{before}
 use types.Na.{before_dup}
 use types.Tokens.{res_dup}
-use denote.Ref.{NamedLft}
+use denote.Copied.{Struct-Copied}
+use denote.Opens.{Opens}
+use denote.Ref.{NamedLft, ShrRef}
+use Rattle.std.specs.contracts.marker.PhantomData as marker
 use denote.Builtin.{u64}
 use denote.Param.Laws.{Laws, of_field}
 use denote.Param.Shared.{copy_shared}
 use denote.Struct.Field.{u64-field}
-use denote.Struct.Laws.{u64-laws, u64-copy}
+use denote.Struct.Laws.{u64-laws, u64-copy, RawPtr-copy, field_copy}
 use denote.Shadow.{makes_shadow}
 use denote.Struct.Struct.{Struct}
 use denote.Struct.Owning.{shape}
@@ -40,6 +43,9 @@ module _ (a : NamedLft) (R : RattleType) where
 
   pub made : {M : Type 1} {𝓤 : Ura M} (𝓛 : Logic 𝓤) (p : Ptr) → ent 𝓤 (emp 𝓤) (sem 𝓛 (Words.own_val (p, (record {}, tt)) (row_val p ∷ [])))
   made 𝓛 p = makes_shadow 𝓛 (Words.own_val (p, (record {}, tt)) (row_val p ∷ [])) (λ vss. (tt, (tt, ((λ uss. (tt, tt)), tt)))) ((ptr_val p ∷ [], (vstruct vnil ∷ [], tt)), (refl, (refl, ((tt, (refl, tt)), tt))))
+
+  pub opened : {M : Type 1} {𝓤 : Ura M} (𝓛 : Logic 𝓤) → Opens 𝓛 Words
+  opened {M} {𝓤 = 𝓤} 𝓛 = (Struct-Copied 𝓛 (shape (Row.the_type a R)) (refl, (refl, tt)) (RawPtr-copy.copied M 𝓤 𝓛, ((field_copy (marker.the_type (ShrRef a.mir a.lft R)) tt).copied M 𝓤 𝓛, tt))).opens
 
 module _ {M : Type 1} {𝓤 : Ura M} (𝓛 : Logic 𝓤) (R : RattleType) (d : Named) where
   pub kept_dup : (t : Turn) (b o : ℕ) (β : Lft) → ent 𝓤 (sem 𝓛 (kept R d t b o β)) (sep 𝓤 (sem 𝓛 (kept R d t b o β)) (sem 𝓛 (kept R d t b o β)))
