@@ -1,0 +1,4 @@
+pub mod Fit
+pub mod Seen
+pub mod Lent
+pub mod Parts
