@@ -38,6 +38,7 @@ impl<T, A: Allocator> Block<T, A> {
     }
 
     /// One more slot, which is empty.
+    #[inline]
     fn push(&mut self, index: usize)
         requires { (index ≡ length self.old.slots) × (0 < self.old.left) }
         ensures { (self.new.heap ≡ self.old.heap) × (self.new.slots ≡ self.old.slots ++ None ∷ []) × (self.new.left + 1 ≡ self.old.left) }

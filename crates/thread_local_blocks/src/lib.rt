@@ -3,6 +3,8 @@
 
 mod block;
 mod slot;
+#[cfg(test)]
+mod tests;
 mod word;
 
 pub use block::Block;

@@ -31,6 +31,7 @@ impl<T> Word<T> {
     }
 
     /// Whether the word leads to a block.
+    #[inline]
     pub fn stands(&mut self) -> bool
         ensures value { result ≡ nat_lt 0 (length self.old.slots) }
         ensures same { self.new ≡ self.old }
@@ -64,6 +65,7 @@ impl<T> Word<T> {
     }
 
     /// Whether a value lies in the slot.
+    #[inline]
     pub fn is_published(&mut self, index: usize) -> bool
         requires { index < length self.old.slots }
         ensures value { result ≡ is_some (slot_at self.old.slots index) }
@@ -76,6 +78,7 @@ impl<T> Word<T> {
     }
 
     /// Puts a value into an empty slot, and then sets its flag.
+    #[inline]
     pub fn publish(&mut self, index: usize, value: T)
         requires in_block { index < length self.old.slots }
         requires empty { slot_at self.old.slots index ≡ None }
@@ -89,6 +92,7 @@ impl<T> Word<T> {
     }
 
     /// Clears the flag of a slot, and then moves its value out.
+    #[inline]
     pub fn take(&mut self, index: usize) -> T
         requires in_block { index < length self.old.slots }
         requires published { IsSome (slot_at self.old.slots index) }
@@ -105,6 +109,7 @@ impl<T> Word<T> {
 
 impl<T: Drop> Word<T> {
     /// Leaves the slot empty, and drops its value if one lies there.
+    #[inline]
     fn empty_slot(&mut self, index: usize)
         requires { index < length self.old.slots }
         ensures { self.new.slots ≡ slice_set self.old.slots index None }

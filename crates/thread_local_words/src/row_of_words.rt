@@ -27,6 +27,7 @@ impl<T> RowOfWords<T> {
     }
 
     /// Whether the bucket stands.
+    #[inline]
     pub(crate) fn stands(&mut self, bucket: usize) -> bool
         requires { bucket < 63 }
         ensures value { result ≡ stands (seen self.old) bucket }
@@ -48,6 +49,7 @@ impl<T> RowOfWords<T> {
     }
 
     /// Whether a value is published in the slot.
+    #[inline]
     pub(crate) fn is_published(&mut self, bucket: usize, index: usize) -> bool
         requires in_table { bucket < 63 }
         requires in_bucket { index < length (row (seen self.old) bucket) }
@@ -58,6 +60,7 @@ impl<T> RowOfWords<T> {
     }
 
     /// Publishes a value in an empty slot.
+    #[inline]
     pub(crate) fn publish(&mut self, bucket: usize, index: usize, value: T)
         requires in_table { bucket < 63 }
         requires in_bucket { index < length (row (seen self.old) bucket) }
@@ -68,6 +71,7 @@ impl<T> RowOfWords<T> {
     }
 
     /// Takes the value out of a slot.
+    #[inline]
     pub(crate) fn take(&mut self, bucket: usize, index: usize) -> T
         requires in_table { bucket < 63 }
         requires in_bucket { index < length (row (seen self.old) bucket) }

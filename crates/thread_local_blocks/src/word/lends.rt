@@ -10,6 +10,7 @@ use super::Word;
 
 impl<T> Word<T> {
     /// The value in a slot, for writing.
+    #[inline]
     pub fn get_mut(&mut self, index: usize) -> &mut T
         requires in_block { index < length self.old.slots }
         requires published { IsSome (slot_at self.old.slots index) }

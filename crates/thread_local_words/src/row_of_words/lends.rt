@@ -13,6 +13,7 @@ use thread_local_blocks::Word;
 
 impl<T> RowOfWords<T> {
     /// The word of a bucket.
+    #[inline]
     pub fn word_mut(&mut self, bucket: usize) -> &mut Word<T>
         requires { bucket < 63 }
         ensures* writes_back { sem 𝓛 (follows (the_row T.row) (word_row T.row) self.entry.ghost_name result.ghost_name (with_word self.old bucket)) }
@@ -22,6 +23,7 @@ impl<T> RowOfWords<T> {
     }
 
     /// The value in a slot, for writing.
+    #[inline]
     pub(crate) fn get_mut(&mut self, bucket: usize, index: usize) -> &mut T
         requires in_table { bucket < 63 }
         requires in_bucket { index < length (row (seen self.old) bucket) }
