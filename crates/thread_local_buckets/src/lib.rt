@@ -8,3 +8,6 @@ mod steps;
 
 pub use buckets::{Buckets, CapacityError};
 pub use iter::IntoIter;
+
+#[cfg(test)]
+mod tests;
