@@ -135,3 +135,11 @@ module _ {V : Type 0} (c : Contents V) (b : ℕ) (t : IsTable c) (low : b < 63) 
 
   pub published_stands : (i : ℕ) (w : V) (j : ℕ) → stands (with_published c b i w) j ≡ cond (eqb b j) true (stands c j)
   published_stands i w j = stands-with_published c b in_table (row-absent c b) i w j
+
+  -- the slot then has what was written
+  pub published_slot : (i : ℕ) (w : V) → i < 2 ^ b → slot (with_published c b i w) b i ≡ Some w
+  published_slot i w inside =
+      let whole = whole-with_bucket c b t low in
+      sym (values-id_at (with_published c b i w) b i inside)
+      ∙ values-with_published c b in_table (row-absent c b) i w inside (omega arith) (id_at b i)
+      ∙ cond-true (eqb (id_at b i) (id_at b i)) (Some w) (values c (id_at b i)) (eq-eqb (id_at b i) (id_at b i) refl)

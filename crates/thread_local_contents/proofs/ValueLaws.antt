@@ -61,3 +61,6 @@ values-no_contents V id = ap (λ (r : List (Option V)). get_or r (index_of id) N
 
 pub stands-no_contents : (V : Type 0) (b : ℕ) → stands (no_contents {V = V}) b ≡ false
 stands-no_contents V b = ap (λ (r : List (Option V)). nat_lt 0 (length r)) (row-no_contents V b)
+
+pub slot-no_contents : (V : Type 0) (b i : ℕ) → slot (no_contents {V = V}) b i ≡ None
+slot-no_contents V b i = ap (λ (r : List (Option V)). get_or r i None) (row-no_contents V b)
