@@ -109,6 +109,13 @@ impl Ids {
         self.manager.free(id);
     }
 
+    /// The rights of the ids that aren't held, which name the table.
+    pub fn rights(&self) -> &Rights
+        ensures { result.now.table ≡ self.now.table }
+    {
+        &self.rights
+    }
+
     /// Whether an id is held.
     pub fn is_held(&self, id: usize) -> bool
         ensures { result ≡ is_held self.now.held id }

@@ -1,5 +1,5 @@
 //! The buckets of a table, shared among threads.
-ghost use Rattle.std.specs.Prelude.{◌≡◌, ◌<◌, IfSome, IsSome};
+ghost use Rattle.std.specs.Prelude.{◌≡◌, ◌^◌, ◌<◌, true, false, None, IfSome, IsSome};
 ghost use Rattle.thread_local_model.specs.Owned.{IsOwned};
 ghost use Rattle.thread_local_model.specs.Place.{id_at};
 ghost use Rattle.thread_local_judged.specs.Judged.{Judged};
@@ -9,7 +9,8 @@ ghost use Rattle.thread_local_shared.specs.Parts.{parts_own, parts_share};
 use crate::parts::Parts;
 use std::marker::{Move, Owns};
 use thread_local_buckets::Buckets;
-use thread_local_rights::Rights;
+use thread_local_claims::Claim;
+use thread_local_rights::{Right, Rights};
 use thread_local_slots::{Private, Row, SharedWord};
 use thread_local_words::Words;
 
@@ -104,6 +105,21 @@ impl<T> Shared<T> {
         ensures { result.of ≡ word_of self.now bucket }
     {
         self.word(bucket).install(private)
+    }
+
+    /// The slot of an id, for as long as the buckets are borrowed, in the hands of whoever has the right to the id: the bucket's word is loaded,
+    /// and where the bucket stands the slot's flag is looked at. It takes no memory, and never waits. The bucket of a reserved slot is found.
+    pub fn claim(&self, bucket: usize, index: usize, right: Right) -> Claim<'_, T>
+        requires in_table { bucket < 63 }
+        requires in_bucket { index < 2 ^ bucket }
+        requires table { right.table ≡ self.now.table }
+        requires id { right.id ≡ id_at bucket index }
+        ensures right { (result.table ≡ right.table) × (result.id ≡ right.id) }
+        ensures looked { result.looked ≡ true }
+        ensures missing { result.stands ≡ false → result.value ≡ None }
+        ensures reserved { id_at bucket 0 < self.now.reserved → result.stands ≡ true }
+    {
+        Claim::arrive(self.word(bucket), index, right)
     }
 
     /// How many of the first slots are reserved.
