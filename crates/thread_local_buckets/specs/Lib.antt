@@ -1,2 +1,4 @@
 pub mod Cursor
 pub mod Inserting
+pub mod IterMut
+pub mod LendingValues

@@ -11,9 +11,11 @@ ghost use Rattle.thread_local_contents.specs.Owner.{with_bucket, with_published,
 
 use crate::cursor::RawIter;
 use crate::iter::IntoIter;
+use crate::iter_mut::IterMut;
 use crate::steps::{BUCKETS, bucket_size, count, offer, stand};
 use std::alloc::{AllocError, Global};
 use std::marker::Model;
+use thread_local_loan::Loan;
 use thread_local_thread_id::Thread;
 use thread_local_words::Words;
 
@@ -52,6 +54,7 @@ impl<T> Model for Buckets<T> {
 
 impl<T> Buckets<T> {
     ghost use Rattle.thread_local_buckets.specs.Inserting.{LendsInserted};
+    ghost use Rattle.thread_local_buckets.specs.IterMut.{iter_mut_rest};
 
     /// No value and no bucket. It takes no memory.
     pub fn new(alloc: Global) -> Buckets<T>
@@ -151,6 +154,18 @@ impl<T> Buckets<T> {
         ensures reserved { result.reserved ≡ reserved }
     {
         Buckets { words, reserved }
+    }
+
+    /// The values by ascending id, each lent as `&mut`. It takes no memory.
+    pub fn iter_mut(&mut self) -> IterMut<'_, T>
+        ensures rest { iter_mut_rest result ≡ walk (values self.old.contents) }
+    {
+        let left = count(&mut self.words);
+        IterMut {
+            loan: Loan::lend(&mut self.words),
+            raw: RawIter::new(),
+            left,
+        }
     }
 
     /// Drops every value and frees every bucket: what is left is as from `new`.

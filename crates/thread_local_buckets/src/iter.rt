@@ -3,6 +3,7 @@ ghost use Rattle.std.specs.Iterator.{YieldsFirst, UpTo, item_count};
 ghost use Rattle.std.specs.Iterator.SizeHint.{IsWithinCount};
 
 use crate::cursor::{RawIter, seek};
+pub use crate::iter_mut::IterMut;
 use std::fmt;
 use std::iter::FusedIterator;
 use std::marker::Model;

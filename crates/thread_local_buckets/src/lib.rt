@@ -4,10 +4,12 @@
 pub mod buckets;
 mod cursor;
 pub mod iter;
+mod iter_mut;
+mod lent;
 mod steps;
 
 pub use buckets::{Buckets, CapacityError};
-pub use iter::IntoIter;
+pub use iter::{IntoIter, IterMut};
 
 #[cfg(test)]
 mod tests;

@@ -1,0 +1,80 @@
+ghost use Rattle.std.specs.Prelude.{◌≡◌, length, Some, IfSome};
+ghost use Rattle.std.specs.Iterator.{YieldsFirstMut, UpTo, item_count};
+ghost use Rattle.std.specs.Iterator.SizeHint.{IsWithinCount};
+ghost use Rattle.thread_local_buckets.specs.IterMut.{iter_mut_rest};
+
+use crate::cursor::RawIter;
+use crate::lent::seek_lent;
+use std::fmt;
+use std::iter::FusedIterator;
+use std::marker::Model;
+use thread_local_loan::Loan;
+
+/// The values of a table's buckets, by ascending id, each lent as `&mut`. Contracts see those still to come, and the
+/// name of their loan.
+///
+/// It never takes memory.
+#[derive(Drop)]
+pub struct IterMut<'a, T> {
+    pub(crate) loan: Loan<'a, T>,
+    pub(crate) raw: RawIter,
+    pub(crate) left: usize,
+}
+
+impl<'a, T> Model for IterMut<'a, T> {
+    ghost use Rattle.std.specs.Prelude.{List, ◌≤◌};
+    ghost use base.Fml.{GName};
+    ghost use Rattle.thread_local_model.specs.Buckets.{values};
+    ghost use Rattle.thread_local_model.specs.Place.{id_at};
+    ghost use Rattle.thread_local_model.specs.Walk.{walk};
+
+    ghost Value = { List T × GName };
+
+    ghost use Rattle.thread_local_buckets.specs.Cursor.{IsWalk};
+
+    ghost view = { λ it. (walk (values it.loan.contents), it.loan.name) };
+
+    ghost invariant = { λ it. IsWalk it.loan.contents it.raw it.left × (it.loan.given ≤ id_at it.raw.bucket it.raw.index) };
+}
+
+impl<'a, T> Iterator for IterMut<'a, T> {
+    type Item = &'a mut T;
+
+    ghost next_gives = { YieldsFirstMut iter_mut_rest };
+
+    ghost remaining = { item_count iter_mut_rest };
+
+    fn next(&mut self) -> Option<&'a mut T> {
+        if self.left == 0 {
+            return None;
+        }
+        seek_lent(&mut self.loan, &mut self.raw);
+        let item = self.loan.give(self.raw.bucket, self.raw.index);
+        self.raw.yielded += 1;
+        self.raw.index += 1;
+        self.left -= 1;
+        Some(item)
+    }
+
+    fn size_hint(&self) -> (usize, Option<usize>)
+        ensures exact { result ≡ (length (iter_mut_rest self.now), Some (length (iter_mut_rest self.now))) }
+        ensures lower { IsWithinCount result.0 (item_count iter_mut_rest self.now) }
+        ensures upper { IfSome result.1 (UpTo (item_count iter_mut_rest self.now)) }
+    {
+        (self.left, Some(self.left))
+    }
+}
+
+impl<T> ExactSizeIterator for IterMut<'_, T> {
+    fn len(&self) -> usize {
+        self.left
+    }
+}
+
+impl<T> FusedIterator for IterMut<'_, T> {}
+
+impl<T: fmt::Debug> fmt::Debug for IterMut<'_, T> {
+    fn fmt<W: fmt::Write>(&self, f: &mut fmt::Formatter<W>) -> fmt::Result {
+        f.debug_struct("IterMut").field("raw", &self.raw).finish()
+    }
+}
