@@ -27,7 +27,7 @@ use Rattle.std.proofs.cell.BorrowLemmas.{by_one, unnest_before}
 use Rattle.thread_local_judged.specs.Judged.{Shareable, Judged}
 use Rattle.thread_local_rights.specs.Rights.{right_owns}
 use Rattle.thread_local_blocks.specs.Slots.{fact, stride, value_at, place}
-use Rattle.thread_local_slots.specs.Shared.{Named, Turn, Standing, value_code, pinned, value_of, age, shared_value, holds, first, len, kept, row}
+use Rattle.thread_local_slots.specs.Shared.{Named, Turn, Standing, value_code, pinned, value_of, age, kept, row}
 use Rattle.thread_local_slots.specs.Shared as slots
 use Rattle.thread_local_claims.specs.Claims.{name_at, Place, IsAt, has_slot, has, IsKept, IsOf, has_at, claim_owns, shown, claim_shares}
 

@@ -1,5 +1,5 @@
 -- The steps of a claim, under the invariant of the word: with no step of the machine, and with one on the slot's flag. Assumes `Logic`.
-use Rattle.std.proofs.Common.{◌≡◌, ℕ, ◌+◌, ◌*◌, ◌<◌, Bool, true, false, [], ◌∷◌, length, refl, ap, Option, None}
+use Rattle.std.proofs.Common.{◌≡◌, ℕ, ◌+◌, ◌*◌, ◌<◌, Bool, true, false, [], ◌∷◌, length, refl, ap, Option, None, Some}
 use seplogic.Ra.Ura.{Ura}
 use base.Logic.{SProp, ent, sep, wand, ex, guard, upd_i, apply∗}
 use base.Fml.{GName, Share, Fml, fsep, fres, fbor, flft, flent, ftrue, fex}
@@ -122,3 +122,8 @@ module _ {M : Type 1} {𝓤 : Ura M} (𝓛 : Logic 𝓤) (R : RattleType) (d : N
           by ! (found false v v (refl, (λ no. let n : false ≡ true = no in cc)))
       law true v w = qed 𝓛 (‵ (Stands v) ∷ ‵ (Had v w) ∷ ‵ (right_owns t.pass k) ∷ []) ∵ use3 𝓛 (given (v ≡ None) (‵ (Stands v) ⊛ ‵ (Had v claimed) ⊛ ‵ (Holds None))) (moves.early_claims 𝓛 R t b s.own d.table k e η v w) $ learn ! (λ none. split3 ! $
           by ! (found true v None (ap flag_of none, (λ _. refl))))
+
+  -- a store of the flag publishes a value
+  pub publishes : (q : Share) (x : R.Denot) → A.inv (fbor t.life I) ∗ (A.lft t.life q ∗ (⟦ Which ⟧ ∗ ⟦ moves.Offer 𝓛 R t b s.own d.table k e η x ⟧)) ⊢ asks 𝓛 (block_ptr b (e + 0)) (λ _. 1) always (λ _. fsep (flft t.life q) (right_owns t.filled k))
+  publishes q x = let Filled : ℕ → Fml = λ _. right_owns t.filled k in let Offered : Fml = moves.Offer 𝓛 R t b s.own d.table k e η x in stepped q (λ _. 1) Filled Offered (λ v w. qed 𝓛 (‵ (Stands v) ∷ ‵ (Had v w) ∷ ‵ Offered ∷ []) ∵
+      use3 𝓛 (‵ (Stands (Some x)) ⊛ ‵ (Had (Some x) claimed) ⊛ ‵ (right_owns t.filled k)) (moves.publishes 𝓛 R t b s.own d.table k e η v w x) $ split3 ! $ show ! (Turned q (λ _. 1) Filled v) (Some x, claimed) $ check ! refl $ done !)

@@ -1,42 +1,73 @@
 //! Safe callers at concrete types.
-ghost use Rattle.std.specs.Prelude.{◌≡◌};
+ghost use Rattle.std.specs.Prelude.{◌≡◌, ◌<◌, ◌^◌, true, Some, MatchOption};
+ghost use Rattle.thread_local_model.specs.Place.{id_at};
 
 use crate::claim::Claim;
 use std::cell::{Cell, RefCell};
 use thread_local_rights::Right;
+use thread_local_slots::SharedWord;
+
+/// Publishes the value unless the slot holds one.
+fn offered<'a, T: Send + Drop>(claim: Claim<'a, T>, value: T) -> Claim<'a, T>
+    requires { claim.stands ≡ true }
+    ensures { MatchOption claim.entry.value (result.value ≡ Some value) (λ x. result.value ≡ Some x) }
+{
+    if claim.get().is_some() {
+        claim
+    } else {
+        claim.publish(value)
+    }
+}
 
 fn number(claim: Claim<'_, u32>) -> Right
+    requires { claim.stands ≡ true }
     ensures { result.id ≡ claim.entry.id }
 {
     claim.leave()
 }
 
-fn text(claim: Claim<'_, String>) -> Right
-    ensures { result.id ≡ claim.entry.id }
+fn text<'a>(claim: Claim<'a, String>, value: String) -> Claim<'a, String>
+    requires { claim.stands ≡ true }
 {
-    claim.leave()
+    offered(claim, value)
 }
 
-fn boxed(claim: Claim<'_, Box<u32>>) -> Right
-    ensures { result.id ≡ claim.entry.id }
+fn boxed<'a>(claim: Claim<'a, Box<u32>>, value: Box<u32>) -> Claim<'a, Box<u32>>
+    requires { claim.stands ≡ true }
 {
-    claim.leave()
+    offered(claim, value)
 }
 
-fn cell(claim: Claim<'_, Cell<u64>>) -> Right
-    ensures { result.id ≡ claim.entry.id }
+fn cell<'a>(claim: Claim<'a, Cell<u64>>) -> Claim<'a, Cell<u64>>
+    requires { claim.stands ≡ true }
 {
-    claim.leave()
+    let claim = offered(claim, Cell::new(7));
+    if let Some(value) = claim.get() {
+        value.set(value.get() / 2);
+    }
+    claim
 }
 
-fn ref_cell(claim: Claim<'_, RefCell<String>>) -> Right
-    ensures { result.id ≡ claim.entry.id }
+fn ref_cell<'a>(
+    claim: Claim<'a, RefCell<String>>,
+    value: RefCell<String>,
+) -> Claim<'a, RefCell<String>>
+    requires { claim.stands ≡ true }
 {
-    claim.leave()
+    offered(claim, value)
 }
 
-fn generic<T: Send>(claim: Claim<'_, T>) -> Right
-    ensures { result.id ≡ claim.entry.id }
+/// Comes and goes.
+fn visit<T: Send>(word: &SharedWord<T>, index: usize, right: Right) -> Right
+    requires table { right.table ≡ word.now.table }
+    requires id { right.id ≡ id_at word.now.bucket index }
+    requires within { index < 2 ^ word.now.bucket }
+    ensures { (result.table ≡ right.table) × (result.id ≡ right.id) }
 {
-    claim.leave()
+    let claim = Claim::arrive(word, index, right);
+    if claim.stands() {
+        claim.leave()
+    } else {
+        claim.again().leave()
+    }
 }

@@ -131,6 +131,34 @@ impl<'a, T> Claim<'a, T> {
         }
     }
 
+    /// Publishes a value in a slot that holds none: the value is written, and then the flag is set.
+    pub fn publish(self, value: T) -> Claim<'a, T>
+        requires stands { self.stands ≡ true }
+        requires empty { self.value ≡ None }
+        ensures right { (result.table ≡ self.entry.table) × (result.id ≡ self.entry.id) }
+        ensures stands { result.stands ≡ true }
+        ensures value { result.value ≡ Some value }
+    {
+        let Self {
+            word,
+            slot,
+            index,
+            found: _,
+            published: _,
+            marker: _,
+        } = self;
+        unsafe { (&raw const (*slot).value as *mut T).write(value) };
+        unsafe { raw::store::<Brand>(&raw const (*slot).flag, PUBLISHED, SeqCst) };
+        Claim {
+            word,
+            slot,
+            index,
+            found: true,
+            published: true,
+            marker: PhantomData,
+        }
+    }
+
     /// The value that the slot holds, for as long as the claim is borrowed. It makes no atomic step.
     pub fn get(&self) -> Option<&T>
         ensures { MatchOption result (self.now.value ≡ None) (λ x. self.now.value ≡ Some x.now) }
