@@ -143,3 +143,6 @@ module _ {V : Type 0} (c : Contents V) (b : ℕ) (t : IsTable c) (low : b < 63) 
       sym (values-id_at (with_published c b i w) b i inside)
       ∙ values-with_published c b in_table (row-absent c b) i w inside (omega arith) (id_at b i)
       ∙ cond-true (eqb (id_at b i) (id_at b i)) (Some w) (values c (id_at b i)) (eq-eqb (id_at b i) (id_at b i) refl)
+
+  pub published_values : (i : ℕ) (w : V) (id : ℕ) → i < 2 ^ b → values (with_published c b i w) id ≡ with_value (values c) (id_at b i) w id
+  published_values i w id inside = let whole = whole-with_bucket c b t low in values-with_published c b in_table (row-absent c b) i w inside (omega arith) id
