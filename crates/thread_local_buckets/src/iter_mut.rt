@@ -1,8 +1,11 @@
 ghost use Rattle.std.specs.Prelude.{◌≡◌, length, Some, IfSome};
 ghost use Rattle.std.specs.Iterator.{YieldsFirstMut, UpTo, item_count};
 ghost use Rattle.std.specs.Iterator.SizeHint.{IsWithinCount};
+ghost use Rattle.thread_local_model.specs.Buckets.{values};
+ghost use Rattle.thread_local_model.specs.Walk.{walk};
 ghost use Rattle.thread_local_buckets.specs.IterMut.{iter_mut_rest};
 
+use crate::buckets::Buckets;
 use crate::cursor::RawIter;
 use crate::lent::seek_lent;
 use std::fmt;
@@ -35,6 +38,19 @@ impl<'a, T> Model for IterMut<'a, T> {
     ghost view = { λ it. (walk (values it.loan.contents), it.loan.name) };
 
     ghost invariant = { λ it. IsWalk it.loan.contents it.raw it.left × (it.loan.given ≤ id_at it.raw.bucket it.raw.index) };
+}
+
+impl<'a, T> IntoIterator for &'a mut Buckets<T> {
+    type Item = &'a mut T;
+
+    type IntoIter = IterMut<'a, T>;
+
+    ghost into_iter_gives = { λ buckets walked. iter_mut_rest walked ≡ walk (values buckets.now.contents) };
+
+    /// The values by ascending id, each lent as `&mut`. It takes no memory.
+    fn into_iter(self) -> IterMut<'a, T> {
+        self.iter_mut()
+    }
 }
 
 impl<'a, T> Iterator for IterMut<'a, T> {
