@@ -2,5 +2,7 @@
 #![tactic(auto)]
 
 mod loan;
+#[cfg(test)]
+mod tests;
 
 pub use loan::Loan;
