@@ -27,9 +27,9 @@ use Rattle.std.proofs.cell.BorrowLemmas.{by_one, unnest_before}
 use Rattle.thread_local_judged.specs.Judged.{Shareable, Judged}
 use Rattle.thread_local_rights.specs.Rights.{right_owns}
 use Rattle.thread_local_blocks.specs.Slots.{fact, stride, value_at, place}
-use Rattle.thread_local_slots.specs.Shared.{Named, Turn, Standing, value_code, pinned, value_of, age, kept, row}
+use Rattle.thread_local_slots.specs.Shared.{name_at, Named, Turn, Standing, value_code, pinned, value_of, age, kept, row}
 use Rattle.thread_local_slots.specs.Shared as slots
-use Rattle.thread_local_claims.specs.Claims.{name_at, Place, IsAt, has_slot, has, IsKept, IsOf, has_at, claim_owns, shown, claim_shares}
+use Rattle.thread_local_claims.specs.Claims.{Place, IsAt, has_slot, has, IsKept, IsOf, has_at, claim_owns, shown, claim_shares}
 
 shown_laws : (β : Lft) (R : RattleType) → RowLaws R → (p : Ptr) (v : Option R.Denot) → ShrLaws (shown R β p v)
 shown_laws β R L p None = nothing_shr_laws

@@ -1,6 +1,5 @@
 mod Early
 mod Fields
-mod Inside
 mod Lending
 mod Moves
 mod Names

@@ -9,9 +9,9 @@ use denote.RawPtr.{Ptr, block_of, count_of}
 use Rattle.thread_local_judged.specs.Judged.{Judged}
 use Rattle.thread_local_rights.proofs.Elements.{right_keyless}
 use Rattle.thread_local_blocks.specs.Slots.{stride, value_at}
-use Rattle.thread_local_slots.specs.Shared.{Named, Turn, age, by, holds}
+use Rattle.thread_local_slots.specs.Shared.{name_at, Named, Turn, age, by, holds}
 use Rattle.thread_local_slots.proofs.Sent.{value_keyless, kept_keyless, row_keyless}
-use Rattle.thread_local_claims.specs.Claims.{name_at, Place, has, claim_owns, waits}
+use Rattle.thread_local_claims.specs.Claims.{Place, has, claim_owns, waits}
 
 waits_keyless : (looked : Bool) (table pass : GName) (id : ℕ) → Keyless (waits looked table pass id)
 waits_keyless false table pass id = right_keyless table id

@@ -1,7 +1,7 @@
 -- What a claim owns, and what a `&` to it shows.
 -- A claim has the right to an id, under one sharing of the id's word. While the bucket is missing, its right lies with the word, and it has the pass of its slot.
 -- Once the bucket stands it has what the slot holds.
-use Rattle.std.specs.Prelude.{◌≡◌, ℕ, zero, suc, ◌+◌, ◌*◌, ◌<◌, Bool, true, false, List, [], ◌∷◌, Option, None, Some}
+use Rattle.std.specs.Prelude.{◌≡◌, ℕ, ◌+◌, ◌*◌, ◌<◌, Bool, true, false, Option, None, Some}
 use base.Fml.{Lft, GName, Fml, fsep, fex}
 use denote.RattleType.{RattleType}
 use denote.Memory.{shared_of}
@@ -10,13 +10,7 @@ use denote.Sharing.{said, beside, within, nothing}
 use Rattle.thread_local_rights.specs.Rights.{right_owns}
 use Rattle.thread_local_judged.specs.Judged.{Judged}
 use Rattle.thread_local_blocks.specs.Slots.{fact, flag_of, stride, value_at}
-use Rattle.thread_local_slots.specs.Shared.{Named, Turn, Standing, holds, first, len, kept, row}
-
--- the name at an index
-abbrev pub name_at : List ℕ → ℕ → ℕ
-name_at [] i = 0
-name_at (η ∷ names) zero = η
-name_at (η ∷ names) (suc i) = name_at names i
+use Rattle.thread_local_sharing.specs.Shared.{name_at, Named, Turn, Standing, holds, first, len, kept, row}
 
 abbrev pub is_some : {X : Type 0} → Option X → Bool
 is_some None = false
