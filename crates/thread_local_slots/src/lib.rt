@@ -3,6 +3,8 @@
 
 pub mod private;
 pub mod row;
+#[cfg(test)]
+mod tests;
 pub mod word;
 
 pub use private::Private;
