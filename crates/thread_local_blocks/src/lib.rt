@@ -2,6 +2,7 @@
 #![tactic(auto)]
 
 mod block;
+mod leaving;
 mod slot;
 #[cfg(test)]
 mod tests;

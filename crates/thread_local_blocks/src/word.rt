@@ -5,6 +5,7 @@ ghost use Rattle.std.specs.Coded.{coded_option};
 ghost use Rattle.thread_local_blocks.specs.Slots.{word_owns, heap_token, slot_at};
 
 use crate::block::Block;
+use crate::leaving::Leaving;
 use crate::slot::Slot;
 use std::alloc::Global;
 use std::marker::{Model, PhantomData};
@@ -108,17 +109,6 @@ impl<T> Word<T> {
 }
 
 impl<T: Drop> Word<T> {
-    /// Leaves the slot empty, and drops its value if one lies there.
-    #[inline]
-    fn empty_slot(&mut self, index: usize)
-        requires { index < length self.old.slots }
-        ensures { self.new.slots ≡ slice_set self.old.slots index None }
-    {
-        if self.is_published(index) {
-            drop(self.take(index));
-        }
-    }
-
     /// Drops the values of the block, if there is one, and frees it. `len` is how many slots a block has.
     pub fn release(&mut self, len: usize, alloc: &Global)
         requires { (self.old.slots ≡ []) ⊎ (length self.old.slots ≡ len) }
@@ -127,10 +117,11 @@ impl<T: Drop> Word<T> {
         if !self.stands() {
             return;
         }
+        let mut leaving = Leaving::of(self.lift(alloc));
         'slots: for index in 0..len {
-            self.empty_slot(index);
+            leaving.drop_next(index);
         }
-        self.lift(alloc).release(alloc, len);
+        leaving.free(alloc, len);
     }
 }
 

@@ -1,0 +1,96 @@
+//! A block that is given up, slot by slot.
+ghost use Rattle.std.specs.Prelude.{◌≡◌, ℕ, ◌+◌, ◌<◌, List, [], length, Option, Some, is_some, IsSome, if◌then◌else◌};
+ghost use base.Stored.{coded_list};
+ghost use Rattle.std.specs.Coded.{coded_option};
+ghost use Rattle.thread_local_blocks.specs.Slots.{slot_at};
+ghost use Rattle.thread_local_blocks.specs.Vacated.{leaving_owns, rest};
+
+use crate::block::Block;
+use crate::slot::Slot;
+use std::alloc::Allocator;
+use std::marker::{Model, PhantomData};
+use std::mem::{align_of, size_of};
+
+/// A block that is given up: its first `gone` slots are room again, whatever their flags say, and the others are slots still.
+///
+/// A flag isn't cleared where its value is dropped, so for values whose drop does nothing the pass over them does nothing either.
+pub struct Leaving<T, A: Allocator> {
+    pub(crate) at: *mut Slot<T>,
+    pub(crate) marker: PhantomData<A>,
+    pub(crate) ghost heap: { A },
+    pub(crate) ghost slots: { List (Option T) } by { coded_list (coded_option T.code) },
+    pub(crate) ghost gone: { ℕ },
+}
+
+impl<T, A: Allocator> Model for Leaving<T, A> {
+    ghost also_owns = { λ l. leaving_owns T.row (A.dealloc_token l.heap) l.at l.gone l.slots };
+}
+
+impl<T, A: Allocator> Leaving<T, A> {
+    /// All of a block, whatever its slots hold.
+    pub(crate) fn of(block: Block<T, A>) -> Leaving<T, A>
+        requires { block.left ≡ 0 }
+        ensures { (result.heap ≡ block.heap) × (result.slots ≡ block.slots) × (result.gone ≡ 0) }
+    {
+        let Block { at, marker: _ } = block;
+        Leaving {
+            at,
+            marker: PhantomData,
+        }
+    }
+
+    /// Whether a value lies in the next slot. One where none lies is given up.
+    #[inline]
+    fn is_next_published(&mut self, index: usize) -> bool
+        requires { (index ≡ self.old.gone) × (0 < length self.old.slots) }
+        ensures value { result ≡ is_some (slot_at self.old.slots 0) }
+        ensures after { (self.new.heap ≡ self.old.heap) × (self.new.slots ≡ (if result then self.old.slots else rest self.old.slots))
+            × (self.new.gone ≡ (if result then self.old.gone else self.old.gone + 1)) }
+    {
+        unsafe {
+            let slot = self.at.add(index);
+            (*slot).flag != 0
+        }
+    }
+
+    /// Moves the value of the next slot out, and gives the slot up.
+    #[inline]
+    fn move_next(&mut self, index: usize) -> T
+        requires in_block { (index ≡ self.old.gone) × (0 < length self.old.slots) }
+        requires published { IsSome (slot_at self.old.slots 0) }
+        ensures value { slot_at self.old.slots 0 ≡ Some result }
+        ensures after { (self.new.heap ≡ self.old.heap) × (self.new.slots ≡ rest self.old.slots) × (self.new.gone ≡ self.old.gone + 1) }
+    {
+        unsafe {
+            let slot = self.at.add(index);
+            (&raw mut (*slot).value).read()
+        }
+    }
+
+    /// Frees the block, once all its slots are given up.
+    pub(crate) fn free(self, alloc: &A, len: usize)
+        requires { (self.heap ≡ alloc.now) × (self.slots ≡ []) × (self.gone ≡ len) }
+    {
+        let Self { at, marker: _ } = self;
+        unsafe {
+            alloc.deallocate(
+                at as *mut u8,
+                len * size_of::<Slot<T>>(),
+                align_of::<Slot<T>>(),
+            );
+        }
+    }
+}
+
+impl<T: Drop, A: Allocator> Leaving<T, A> {
+    /// Gives the next slot up, and drops its value if one lies there.
+    #[inline]
+    pub(crate) fn drop_next(&mut self, index: usize)
+        requires { (index ≡ self.old.gone) × (0 < length self.old.slots) }
+        ensures { (self.new.heap ≡ self.old.heap) × (self.new.slots ≡ rest self.old.slots) × (self.new.gone ≡ self.old.gone + 1) }
+    {
+        if self.is_next_published(index) {
+            drop(self.move_next(index));
+        }
+    }
+}
