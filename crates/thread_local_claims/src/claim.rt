@@ -66,6 +66,7 @@ impl<'a, T> Claim<'a, T> {
         ensures right { (result.table ≡ self.entry.table) × (result.id ≡ self.entry.id) }
         ensures looked { result.looked ≡ true }
         ensures empty { result.value ≡ None }
+        ensures reserved { (result.reserved ≡ self.entry.reserved) × (result.reserved ≡ true → result.stands ≡ true) }
     {
         self.find()
     }
