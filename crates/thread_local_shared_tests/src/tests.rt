@@ -1,0 +1,151 @@
+ghost use Rattle.std.specs.Prelude.{◌≡◌, ◌-◌, ◌^◌, ◌<◌};
+
+use crate::steps::{claim, publish};
+use std::alloc::{AllocError, Global};
+use std::cell::Cell;
+use std::sync::Arc;
+use std::sync::atomic::AtomicU64;
+use std::sync::atomic::Ordering::SeqCst;
+use std::test::Fail;
+use std::thread;
+use std::thread::Threads;
+use thread_local_buckets::Buckets;
+use thread_local_judged::{Judge, judge_sync};
+use thread_local_locked_ids::{HeldId, Ids};
+use thread_local_rights::Rights;
+use thread_local_shared::Shared;
+use thread_local_slots::Private;
+use thread_local_thread_id::Thread;
+
+/// Adds to the number at an id, and answers what was there.
+fn add(shared: &Shared<Cell<u64>>, held: HeldId, more: u64) -> (HeldId, Option<u64>)
+    requires table { held.right.table ≡ shared.now.table }
+    requires in_range { held.id < 2 ^ 63 - 1 }
+    ensures right { (result.0.right.table ≡ shared.now.table) × (result.0.id ≡ held.id) }
+{
+    let id = held.id;
+    let claim = claim(shared, held);
+    let found = match claim.get() {
+        Some(cell) => {
+            let found = cell.get();
+            cell.set(found.wrapping_add(more));
+            Some(found)
+        }
+        None => None,
+    };
+    let right = claim.leave();
+    (HeldId { id, right }, found)
+}
+
+/// What a walker finds at an id.
+fn look(shared: &Shared<u32>, id: usize) -> Option<u32>
+    requires { id < 2 ^ 63 - 1 }
+{
+    let thread = Thread::new(id);
+    let row = shared.load(thread.bucket)?;
+    row.get(thread.index).copied()
+}
+
+/// What the one who claims an id finds, and what a walker finds in another thread meanwhile.
+fn look_while_claimed<R: Threads>(
+    rt: &R,
+    shared: &Shared<u32>,
+    held: HeldId,
+) -> (Option<u32>, Option<u32>)
+    requires table { held.right.table ≡ shared.now.table }
+    requires in_range { held.id < 2 ^ 63 - 1 }
+{
+    let id = held.id;
+    let claim = claim(shared, held);
+    let (seen, _) = thread::join(rt, || look(shared, id), || ());
+    let own = claim.get().copied();
+    claim.leave();
+    (own, seen)
+}
+
+#[test]
+fn a_number_is_handed_on_from_thread_to_thread(rt: HostRuntime) -> Result<(), Fail> {
+    let mut ids = Ids::new(rt.alloc());
+    Cell::<u64>::judge();
+    let shared = Shared::new(Buckets::new(rt.alloc()), ids.rights());
+    let held = ids.take()?;
+    let alloc = rt.alloc();
+    let there = &shared;
+    let (first, _) = thread::join(&rt, || publish(there, held, alloc, Cell::new(7)), || ());
+    assert!(rt; first.1);
+    let held = first.0;
+    let (second, _) = thread::join(&rt, || add(there, held, 5), || ());
+    assert_eq!(rt; second.1, Some(7));
+    let mut values = shared.into_buckets().into_iter();
+    assert_eq!(rt; values.next().map(|cell| cell.get()), Some(12));
+    assert!(rt; values.next().is_none());
+    Ok(())
+}
+
+#[test]
+fn a_walker_sees_a_value_that_is_claimed(rt: HostRuntime) -> Result<(), Fail> {
+    let mut ids = Ids::new(rt.alloc());
+    let mut buckets = Buckets::new(rt.alloc());
+    assert!(rt; buckets.insert(Thread::new(0), 9).is_ok());
+    let mut shared = Shared::new(buckets, ids.rights());
+    let held = ids.take()?;
+    assert_eq!(rt; look_while_claimed(&rt, &shared, held), (Some(9), Some(9)));
+    assert_eq!(rt; look(&shared, 1), None);
+    assert!(rt; shared.owner().insert(Thread::new(1), 4).is_ok());
+    assert_eq!(rt;
+        (look(&shared, 0), look(&shared, 1), look(&shared, 2)),
+        (Some(9), Some(4), None)
+    );
+    Ok(())
+}
+
+/// Offers a private block for a bucket.
+fn offer(shared: &Shared<u64>, alloc: Global, bucket: usize) -> Result<(), AllocError>
+    requires { bucket < 63 }
+{
+    let private = Private::new(alloc, bucket)?;
+    shared.install(bucket, private);
+    Ok(())
+}
+
+#[test]
+fn blocks_that_come_second_are_freed(rt: HostRuntime) -> Result<(), Fail> {
+    let rights = Rights::new();
+    let shared = Shared::new(Buckets::new(rt.alloc()), &rights);
+    for _ in 0..1001 {
+        offer(&shared, rt.alloc(), 20)?;
+    }
+    assert_eq!(rt; shared.into_buckets().slots(), 1_048_576);
+    Ok(())
+}
+
+struct Counted {
+    drops: Arc<AtomicU64, Global>,
+}
+
+impl Drop for Counted {
+    fn drop(self) {
+        let Self { drops } = self;
+        drops.fetch_add(1, SeqCst);
+    }
+}
+
+#[test]
+fn each_value_is_dropped_once(rt: HostRuntime) -> Result<(), Fail> {
+    let drops = Arc::new(rt.alloc(), AtomicU64::new(0))?;
+    let rights = Rights::new();
+    let mut buckets = Buckets::new(rt.alloc());
+    for id in 0..100 {
+        let value = Counted {
+            drops: Arc::try_clone(&drops)?,
+        };
+        assert!(rt; buckets.insert(Thread::new(id), value).is_ok());
+    }
+    judge_sync::<Counted>();
+    let shared = Shared::new(buckets, &rights);
+    assert!(rt; shared.load(3).is_some());
+    assert_eq!(rt; drops.load(SeqCst), 0);
+    drop(shared);
+    assert_eq!(rt; drops.load(SeqCst), 100);
+    Ok(())
+}
