@@ -1,11 +1,9 @@
 -- `get` is one load of the flag: where it is set, it lends the value for as long as the row lasts.
-use Rattle.thread_local_blocks.proofs.Names.{Ura, Logic, ◌≡◌, ℕ, zero, suc, ◌+◌, ◌*◌, ◌^◌, ◌<◌, ◌≤◌, mul-le-mul_right, List, [], ◌∷◌, length, refl, sym, ap, ◌∙◌, subst, arith, lit<, w64, true, false, Option, None, Some, a_type, named, Val, vint, vptr, vcons, vnil, inst_fn, SProp, ent, wand, ex, emp, via, id⊢, apply∗, Lft, Share, Fml, ftrue, fsep, fex, flft, fbor, sem, ‵, raw, ◌⊛◌, some, later, mean, at_ret, any_q, ◌$◌, ◌∵◌, !, qed, by, move, keep, drop, split, split3, join, fsplit, fsplit3, fjoin, fpick, pick, use0, use1, use2, use3, await, rewrite, feq_i, stop, fld, hop, load, addr, lit, size_word, of_opd, bin, no_more, and_then, first, blocks, exec, branches, returns, enter, alloc_all, pass_all, free_all, look_at, get, through, sets, sets_last, lands_last, env, is, agg, sub, look_in, whole, live, tables, fact, fact_i, yes, RattleType, owns, types_at, plain, Ptr, block_ptr, block_of, count_of, at_block, InBlock, nothing, heard, peeks, Is, shows, cell_at, param, layouts, RefOf, usize, shr_vals, shr_Tells, uint_vals, uint_Tells, Stays, stay_dropped, walk_of, Goes-dropped, proved, leaves, fm, after, param_laws}
-use Rattle.std.proofs.lemmas.Bool.{eqb-true}
+use Rattle.thread_local_blocks.proofs.Names.{Ura, Logic, ◌≡◌, ℕ, zero, suc, ◌+◌, ◌*◌, ◌^◌, ◌<◌, ◌≤◌, mul-le-mul_right, List, [], ◌∷◌, length, refl, sym, ap, ◌∙◌, subst, arith, lit<, w64, None, Some, a_type, named, Val, vint, vptr, vcons, vnil, inst_fn, SProp, ent, wand, via, id⊢, apply∗, Lft, Share, Fml, ftrue, fsep, fex, flft, fbor, sem, ‵, raw, ◌⊛◌, some, later, mean, at_ret, any_q, ◌$◌, ◌∵◌, !, qed, by, move, keep, drop, split, split3, join, fsplit, fsplit3, fjoin, fpick, pick, use0, use1, use2, use3, await, rewrite, feq_i, stop, fld, load, addr, lit, size_word, of_opd, bin, no_more, and_then, first, blocks, exec, branches, returns, enter, alloc_all, pass_all, free_all, look_at, get, through, sets, sets_last, lands_last, env, is, agg, sub, look_in, whole, live, tables, fact, yes, RattleType, owns, types_at, plain, Ptr, block_ptr, block_of, count_of, at_block, InBlock, nothing, heard, peeks, Is, shows, cell_at, param, layouts, RefOf, usize, shr_vals, shr_Tells, uint_vals, uint_Tells, Stays, stay_dropped, walk_of, Goes-dropped, proved, leaves, fm, after, param_laws}
 use lib.Dec.{eqb}
 use Rattle.std.proofs.Common.{not}
 use mir.Syntax.{Body, seq, assign, place, rv_opd, copy, aggregate, int, w8}
-use base.Fml.{finv, fres, fhide}
-use base.Before.{before}
+use base.Fml.{fres, fhide}
 use prog.Wp.{Wp, after_seq, at_return}
 use types.Run.{Calls-last}
 use contract.Shared.{Lends-one}
@@ -20,10 +18,9 @@ use Rattle.std.specs.contracts.marker.PhantomData as marker
 use Rattle.std.specs.contracts.option.Option as Opt
 use Rattle.std.proofs.option.Made.{Some-of, none_of}
 use Rattle.std.proofs.raw_atomic.Calls.{found, finds, loads, seq_cst}
-use Rattle.thread_local_judged.specs.Judged.{Judged, Shareable}
-use Rattle.thread_local_blocks.specs.Slots.{fact as said_fact, stride, value_at, Fits}
+use Rattle.thread_local_blocks.specs.Slots.{stride, value_at, Fits}
 use Rattle.thread_local_blocks.proofs.Fields.{uncapped}
-use Rattle.thread_local_sharing.specs.Shared.{Named, Turn, Standing, Sized, mark, len, first as first_id, invariant, Found, row_owns}
+use Rattle.thread_local_sharing.specs.Shared.{Named, Turn, Standing, mark, first as first_id, invariant, row_owns}
 use Rattle.thread_local_sharing.proofs.Looks as steps
 use Rattle.thread_local_sharing.proofs.Looks.{by_flag}
 use Rattle.thread_local_slots.specs.contracts.row.Row as Row
