@@ -47,15 +47,16 @@ pub(crate) fn offer<T: Drop>(words: &mut Words<T>, bucket: usize, index: usize, 
     }
 }
 
-// How many values the bucket has.
-fn count_in_bucket<T>(words: &mut Words<T>, bucket: usize) -> usize
+// How many values the bucket has, whose size the caller knows.
+fn count_in_bucket<T>(words: &mut Words<T>, bucket: usize, size: usize) -> usize
     requires in_table { bucket < 63 }
     requires whole { length (row words.old bucket) ≡ 2 ^ bucket }
+    requires size { size ≡ 2 ^ bucket }
     ensures same { words.new ≡ words.old }
     ensures counted { count_below (values words.old) (id_at bucket 0) + result ≡ count_below (values words.old) (id_at (bucket + 1) 0) }
 {
     let mut count = 0;
-    for index in 0..bucket_size(bucket) {
+    for index in 0..size {
         if words.is_published(bucket, index) {
             count += 1;
         }
@@ -70,10 +71,13 @@ pub(crate) fn count<T>(words: &mut Words<T>) -> usize
     ensures fits { result < 2 ^ 63 }
 {
     let mut count = 0;
+    // A size that is doubled, and not one that is shifted anew: the loop over a bucket then has an end that is a mere number.
+    let mut size = 1;
     for bucket in 0..BUCKETS {
         if words.stands(bucket) {
-            count += count_in_bucket(words, bucket);
+            count += count_in_bucket(words, bucket, size);
         }
+        size *= 2;
     }
     count
 }

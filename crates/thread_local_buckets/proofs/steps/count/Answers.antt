@@ -1,4 +1,5 @@
-use Rattle.std.proofs.Common.{◌≡◌, ◌+◌, ◌-◌, ◌^◌, ◌≤◌, sym, ◌∙◌, ap, subst, ℕ, refl, arith, []}
+use Rattle.std.proofs.Common.{◌≡◌, ◌+◌, ◌-◌, ◌^◌, ◌≤◌, ◌*◌, sym, ◌∙◌, ap, subst, suc, ℕ, refl, arith, pow_mono, add-one, []}
+use Rattle.std.proofs.Math.Nat.{two-pow-succ}
 use Rattle.thread_local_model.specs.Place.{id_at}
 use Rattle.thread_local_model.specs.Buckets.{Contents, values, row}
 use Rattle.thread_local_contents.specs.Counting.{count_below}
@@ -13,7 +14,7 @@ counted_at_first : {V : Type 0} (now first : Contents V) (b n : ℕ) → now ≡
 counted_at_first now first b n same counted = subst (λ (w : Contents _). count_below (values w) (id_at b 0) + n ≡ count_below (values w) (id_at (b + 1) 0)) same counted
 
 pub loop-bucket-init : goal.loop-bucket-init
-loop-bucket-init g c = record { counted = sym (count_below-zero (values c.args.words.now)); same = refl }
+loop-bucket-init g c = record { counted = sym (count_below-zero (values c.args.words.now)); size = refl; same = refl }
 
 pub overflow_add-count : goal.overflow_add-count
 overflow_add-count g c =
@@ -22,20 +23,31 @@ overflow_add-count g c =
     let fits = count_below-fits (values c.args.words.now) (c.loop-bucket.bucket + 1) (omega arith) in
     omega (arith, here, kept.counted)
 
+pub overflow_mul-size : goal.overflow_mul-size
+overflow_mul-size g c =
+    let up : 2 ^ suc c.loop-bucket.bucket ≤ 2 ^ 63 = pow_mono c.loop-bucket-test.true in
+    let twice = two-pow-succ c.loop-bucket.bucket in
+    let size = c.loop-bucket.invariant.size in
+    omega arith
+
 pub loop-bucket-preserved : goal.loop-bucket-preserved
 loop-bucket-preserved g c =
     let kept = c.loop-bucket.invariant in
+    let twice : 2 ^ (c.loop-bucket.bucket + 1) ≡ 2 ^ c.loop-bucket.bucket + 2 ^ c.loop-bucket.bucket = rw add-one (two-pow-succ c.loop-bucket.bucket) in
+    let size : c.loop-bucket.size * 2 ≡ 2 ^ (c.loop-bucket.bucket + 1) = omega (arith, kept.size) in
     elim c.if-stands.branch [
       | then-stands w ↦
           let here = counted_at_first _ c.args.words.now c.loop-bucket.bucket _ (c.stands.ensures.same ∙ kept.same) w.count_in_bucket-count.ensures.counted in
           record {
             counted = omega (arith, here, kept.counted, w.count-is);
+            size = size;
             same = w.words-is ∙ w.count_in_bucket-count.ensures.same ∙ c.stands.ensures.same ∙ kept.same;
           }
       | else-stands w ↦
           let absent : row c.args.words.now c.loop-bucket.bucket ≡ [] = sym (ap (λ (w : Contents _). row w c.loop-bucket.bucket) kept.same) ∙ c.stands.ensures.absent w.if-stands.false in
           record {
             counted = w.count-is ∙ kept.counted ∙ sym (count_below-absent c.args.words.now c.loop-bucket.bucket absent);
+            size = size;
             same = w.words-is ∙ c.stands.ensures.same ∙ kept.same;
           }
     ]

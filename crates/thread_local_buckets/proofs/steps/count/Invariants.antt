@@ -1,4 +1,4 @@
-use Rattle.std.proofs.Common.{◌≡◌}
+use Rattle.std.proofs.Common.{◌≡◌, ◌^◌}
 use Rattle.thread_local_model.specs.Place.{id_at}
 use Rattle.thread_local_model.specs.Buckets.{values}
 use Rattle.thread_local_contents.specs.Counting.{count_below}
@@ -8,5 +8,6 @@ use Rattle.thread_local_buckets.proofs.steps.count.Given as goal
 abbrev pub invariant-loop-bucket : goal.invariant-loop-bucket
 invariant-loop-bucket g l = record {
   counted : l.count ≡ count_below (values l.initial.words) (id_at l.bucket 0);
+  size : l.size ≡ 2 ^ l.bucket;
   same : l.words ≡ l.initial.words;
 }

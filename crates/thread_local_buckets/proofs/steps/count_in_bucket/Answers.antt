@@ -13,13 +13,13 @@ overflow_add-count g c =
     let bound = count_below-le (values c.args.words.now) (id_at c.args.bucket c.loop-index.index) in
     let up : 2 ^ suc c.args.bucket ≤ 2 ^ 63 = pow_mono c.requires.in_table in
     let twice = two-pow-succ c.args.bucket in
+    let size = c.requires.size in
     omega arith
 
 pub loop-index-preserved : goal.loop-index-preserved
 loop-index-preserved g c =
     let kept = c.loop-index.invariant in
-    let size = c.bucket_size-index-end.ensures in
-    let inside : c.loop-index.index < 2 ^ c.args.bucket = omega arith in
+    let inside : c.loop-index.index < 2 ^ c.args.bucket = omega (arith, c.requires.size) in
     let more = count_below-slot c.args.words.now c.args.bucket c.loop-index.index inside in
     let found : is_some (slot c.args.words.now c.args.bucket c.loop-index.index) ≡ c.is_published.result =
     sym (ap (λ (w : Contents _). is_some (slot w c.args.bucket c.loop-index.index)) kept.same) ∙ sym c.is_published.ensures.value in
