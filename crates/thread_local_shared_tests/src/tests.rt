@@ -119,6 +119,32 @@ fn blocks_that_come_second_are_freed(rt: HostRuntime) -> Result<(), Fail> {
     Ok(())
 }
 
+// The calls that come after both offers go on with the first's block.
+#[test]
+fn the_second_of_two_blocks_gives_way(rt: HostRuntime) -> Result<(), Fail> {
+    let mut ids = Ids::new(rt.alloc());
+    let shared = Shared::new(Buckets::new(rt.alloc()), ids.rights());
+    let _first = ids.take()?;
+    let second = ids.take()?;
+    let third = ids.take()?;
+    let one = Private::new(rt.alloc(), 1)?;
+    let other = Private::new(rt.alloc(), 1)?;
+    shared.install(1, one);
+    let (_second, published) = publish(&shared, second, rt.alloc(), 1u32);
+    assert!(rt; published);
+    shared.install(1, other);
+    assert_eq!(rt; look(&shared, 1), Some(1));
+    let (_third, published) = publish(&shared, third, rt.alloc(), 2);
+    assert!(rt; published);
+    let mut buckets = shared.into_buckets();
+    assert_eq!(rt; buckets.slots(), 2);
+    let mut values = buckets.into_iter();
+    for wanted in [Some(1), Some(2), None] {
+        assert_eq!(rt; values.next(), wanted);
+    }
+    Ok(())
+}
+
 struct Counted {
     drops: Arc<AtomicU64, Global>,
 }

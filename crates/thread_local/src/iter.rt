@@ -1,0 +1,3 @@
+//! Walks over the values of a table, by ascending id.
+
+pub use thread_local_buckets::{IntoIter, IterMut};
