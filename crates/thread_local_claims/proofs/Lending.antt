@@ -17,8 +17,8 @@ use types.Na.{before_dup, before_shorten}
 use denote.RattleType.{RattleType, RowLaws}
 use denote.Memory.{part_at, shared_of}
 use denote.RawPtr.{InBlock, Ptr, block_of, count_of}
-use denote.Sharing.{ShrLaws, said, nothing, beside}
-use denote.SharingLaws.{within_shr_laws, said_shr_laws, nothing_shr_laws, beside_shr_laws, contraction}
+use denote.Sharing.{ShrLaws, said, nothing, beside, some as any}
+use denote.SharingLaws.{within_shr_laws, said_shr_laws, nothing_shr_laws, beside_shr_laws, some_shr_laws, held_shr_laws, contraction, shortens}
 use denote.Shares.{Shares}
 use denote.Steps.{nothing as anything}
 use Rattle.std.specs.Coded.{coded_option}
@@ -29,12 +29,17 @@ use Rattle.thread_local_rights.specs.Rights.{right_owns}
 use Rattle.thread_local_blocks.specs.Slots.{fact, stride, value_at, place}
 use Rattle.thread_local_slots.specs.Shared.{name_at, Named, Turn, Standing, value_code, pinned, value_of, age, kept, row}
 use Rattle.thread_local_slots.specs.Shared as slots
-use Rattle.thread_local_claims.specs.Claims.{Place, IsAt, has_slot, has, IsKept, IsOf, has_at, claim_owns, shown, claim_shares}
+use Rattle.thread_local_claims.specs.Claims.{Place, IsAt, has_slot, has, IsKept, IsOf, has_at, claim_owns, lasts, shown, claim_shares}
+
+lasts_laws : (β : Lft) (R : RattleType) → RowLaws R → (b e : ℕ) (x : R.Denot) (j : Judged R) → ShrLaws (lasts R β b e x j)
+lasts_laws β R L b e x (inl j) = held_shr_laws β (shared_of R x b e) (L x b e)
+lasts_laws β R L b e x (inr j) = nothing_shr_laws
 
 shown_laws : (β : Lft) (R : RattleType) → RowLaws R → (p : Ptr) (v : Option R.Denot) → ShrLaws (shown R β p v)
 shown_laws β R L p None = nothing_shr_laws
-shown_laws β R L p (Some x) = let S : Lft → Fml = shared_of R x (block_of p) (value_at R (count_of p)) in
-    beside_shr_laws (said (fact (InBlock p))) (denote.Sharing.within β S) (said_shr_laws (fact (InBlock p)) (λ _. tt)) (within_shr_laws β S (L x (block_of p) (value_at R (count_of p))))
+shown_laws β R L p (Some x) = let b : ℕ = block_of p in let e : ℕ = value_at R (count_of p) in let S : Lft → Fml = shared_of R x b e in let W : Lft → Fml = denote.Sharing.within β S in
+    let F : Judged R → Lft → Fml = lasts R β b e x in beside_shr_laws (said (fact (InBlock p))) (beside W (any (Judged R) F)) (said_shr_laws (fact (InBlock p)) (λ _. tt))
+    (beside_shr_laws W (any (Judged R) F) (within_shr_laws β S (L x b e)) (some_shr_laws (Judged R) F (lasts_laws β R L b e x)))
 
 pub claim_laws : (β : Lft) (R : RattleType) → RowLaws R → (c : Place) (v : Option R.Denot) (found published : Bool) → ShrLaws (claim_shares R β c v found published)
 claim_laws β R L c v found published = beside_shr_laws (said (fact (IsKept R c found published v))) (shown R β c.slot v) (said_shr_laws (fact (IsKept R c found published v)) (λ _. tt)) (shown_laws β R L c.slot v)
@@ -75,13 +80,13 @@ module _ {M : Type 1} {𝓤 : Ura M} (𝓛 : Logic 𝓤) where
     abbrev e : ℕ
     e = value_at R (count_of c.slot)
 
-    -- the value is shared already, or it is borrowed
-    abbrev pub Seen : Bool → Fml
-    Seen true = shared_of R x b e ν
-    Seen false = fbor ν (part_at R full_share x b e)
+    -- the value is shared for as long as the word is borrowed, or it is borrowed with the claim
+    abbrev pub Seen : Judged R → Fml
+    Seen (inl j) = shared_of R x b e β
+    Seen (inr j) = fbor ν (part_at R full_share x b e)
 
     abbrev pub Saw : Fml
-    Saw = fex Bool Seen
+    Saw = fex (Judged R) Seen
 
     stood : (z : Named × Turn) (k : Bool) → ⟦ has R z.0 z.1 β c v k ⟧ ⊢ ex 𝓤 (λ (s : Standing). guard 𝓤 (k ≡ true) ⟦ has_slot R z.0 z.1 β c v s ⟧)
     stood z false = qed 𝓛 (‵ (has R z.0 z.1 β c v false) ∷ []) ∵ fsplit ! $ fpick ! (λ no. let n : v ≡ None = no in cc)
@@ -139,15 +144,15 @@ module _ {M : Type 1} {𝓤 : Ura M} (𝓛 : Logic 𝓤) where
           fpack ! (Option R.Denot) (λ c'. fsep (place R c' sb (value_at R se)) (fauth η (value_code R c'))) o $ done !
 
       -- the value's borrow, once its place is known to hold it
-      lends_value : (q : Share) → ⟦ fbor ν Value ⟧ ∗ A.lft ν q ∗ ⟦ Pinned ⟧ ⊢ H.⇛ (⟦ Saw ⟧ ∗ A.lft ν q)
+      lends_value : (σ : Shareable R → ⊥) (q : Share) → ⟦ fbor ν Value ⟧ ∗ A.lft ν q ∗ ⟦ Pinned ⟧ ⊢ H.⇛ (⟦ Saw ⟧ ∗ A.lft ν q)
       unfolding fseps
-      lends_value q = qed 𝓛 (‵ (fbor ν Value) ∷ ‵ (flft ν q) ∷ ‵ Pinned ∷ []) ∵ updating ! $ bor_open ! tt $ move ! (1 ∷ []) $ fpick ! (λ o. fsplit ! $ move ! (3 ∷ 1 ∷ []) $
+      lends_value σ q = qed 𝓛 (‵ (fbor ν Value) ∷ ‵ (flft ν q) ∷ ‵ Pinned ∷ []) ∵ updating ! $ bor_open ! tt $ move ! (1 ∷ []) $ fpick ! (λ o. fsplit ! $ move ! (3 ∷ 1 ∷ []) $
           -- [what is known; the name; the place; the open borrow]
           use2 𝓛 (given (value_code R (Some x) ≡ value_code R o) (‵ Pinned ⊛ ‵ (fauth η (value_code R o)))) (𝓛.names.res_agree η (value_code R (Some x)) (value_code R o)) $ learn ! (λ same. split ! $ drop ! $
           use1 𝓛 (‵ (fwand (fsep (fdead ν) (fseps (place R o sb (value_at R se) ∷ []))) (fupd Value))) (value_back o) $ move ! (1 ∷ []) $ anything ! $ move ! (1 ∷ 0 ∷ []) $ fjoin ! $
           move ! (2 ∷ 0 ∷ 1 ∷ []) $ obor_alter ! tt (place R o sb (value_at R se) ∷ []) $ use1 𝓛 (‵ (fbor ν (place R o sb (value_at R se))) ⊛ ‵ ftrue) (id⊢ 𝓤 _) $ split ! $
           let is_x : o ≡ Some x = sym ((coded_option R.coded).inj (Some x) o same) in rewrite ! 0 (λ (o' : Option R.Denot). ‵ (fbor ν (place R o' sb (value_at R se)))) is_x refl $
-          rewrite ! 0 (λ (y : ℕ × ℕ). ‵ (fbor ν (part_at R full_share x y.0 y.1))) there refl $ fpack ! Bool Seen false $ now ! $ keep ! (0 ∷ 2 ∷ []) $ done !))
+          rewrite ! 0 (λ (y : ℕ × ℕ). ‵ (fbor ν (part_at R full_share x y.0 y.1))) there refl $ fpack ! (Judged R) Seen (inr σ) $ now ! $ keep ! (0 ∷ 2 ∷ []) $ done !))
 
       way_back : (σ : Shareable R → ⊥) → ⟦ Kept ⟧ ∗ ⟦ Row ⟧ ∗ ⟦ Filled ⟧ ∗ ⟦ Pinned ⟧ ⊢ ⟦ fwand (fsep (fdead ν) (fseps (fbor life Value ∷ []))) (fupd C) ⟧
       unfolding fseps
@@ -157,12 +162,12 @@ module _ {M : Type 1} {𝓤 : Ura M} (𝓛 : Logic 𝓤) where
       lends_by : (q : Share) (j : Judged R) → A.obor ν q C ∗ ⟦ Kept ⟧ ∗ ⟦ Row ⟧ ∗ ⟦ Filled ⟧ ∗ ⟦ Pinned ⟧ ∗ ⟦ By j ⟧ ⊢ H.⇛ (⟦ Saw ⟧ ∗ A.lft ν q)
       unfolding fseps
       lends_by q (inl σ) = qed 𝓛 (‵ (fobor ν q C) ∷ ‵ Kept ∷ ‵ Row ∷ ‵ Filled ∷ ‵ Pinned ∷ ‵ (By (inl σ)) ∷ []) ∵ updating ! $ move ! (2 ∷ []) $ fsplit ! $ move ! (1 ∷ []) $ fsplit ! $ move ! (1 ∷ []) $
-          use1 𝓛 (‵ (before β life) ⊛ ‵ (before β life)) (before_dup 𝓛 β life) $ split ! $ use1 𝓛 (‵ (before ν life)) (before_shorten 𝓛 β ν life inc) $
-          -- [ν ends before; β does; what is known of the block; its size; the open borrow; kept; filled; pinned; by]
+          use1 𝓛 (‵ (before β life) ⊛ ‵ (before β life)) (before_dup 𝓛 β life) $ split ! $
+          -- [β ends before, twice; what is known of the block; its size; the open borrow; kept; filled; pinned; by]
           move ! (2 ∷ 1 ∷ []) $ fjoin ! $ move ! (2 ∷ 0 ∷ []) $ fjoin ! $
           move ! (6 ∷ []) $ use1 𝓛 (‵ (By (inl σ)) ⊛ ‵ (By (inl σ))) (contraction 𝓛 (shared_of R x sb (value_at R se)) (L x sb (value_at R se)) life) $ split ! $
-          -- [by; by; the row; ν ends before; the open borrow; kept; filled; pinned]
-          move ! (3 ∷ 0 ∷ []) $ use2 𝓛 (‵ (shared_of R x sb (value_at R se) ν)) ((L x sb (value_at R se)).mono M 𝓤 𝓛 ν life) $ rewrite ! 0 (λ (y : ℕ × ℕ). ‵ (shared_of R x y.0 y.1 ν)) there refl $ fpack ! Bool Seen true $
+          -- [by; by; the row; β ends before; the open borrow; kept; filled; pinned]
+          move ! (3 ∷ 0 ∷ []) $ use2 𝓛 (‵ (shared_of R x sb (value_at R se) β)) ((L x sb (value_at R se)).mono M 𝓤 𝓛 β life) $ rewrite ! 0 (λ (y : ℕ × ℕ). ‵ (shared_of R x y.0 y.1 β)) there refl $ fpack ! (Judged R) Seen (inl σ) $
           move ! (4 ∷ 2 ∷ 5 ∷ 6 ∷ 1 ∷ []) $ group ! 5 $ use1 𝓛 (‵ C) (again (inl σ)) $ move ! (2 ∷ 0 ∷ []) $ obor_close ! tt $ now ! $ keep ! (2 ∷ 1 ∷ []) $ done !
       lends_by q (inr σ) = qed 𝓛 (‵ (fobor ν q C) ∷ ‵ Kept ∷ ‵ Row ∷ ‵ Filled ∷ ‵ Pinned ∷ ‵ (By (inr σ)) ∷ []) ∵ updating ! $ move ! (2 ∷ []) $ fsplit ! $ move ! (1 ∷ []) $ fsplit ! $ move ! (1 ∷ []) $
           use1 𝓛 (‵ (before β life) ⊛ ‵ (before β life)) (before_dup 𝓛 β life) $ split ! $ use1 𝓛 (‵ (before ν life)) (before_shorten 𝓛 β ν life inc) $ move ! (2 ∷ 1 ∷ []) $ fjoin ! $ move ! (2 ∷ 0 ∷ []) $ fjoin ! $
@@ -170,7 +175,7 @@ module _ {M : Type 1} {𝓤 : Ura M} (𝓛 : Logic 𝓤) where
           move ! (5 ∷ []) $ use1 𝓛 (‵ Pinned ⊛ ‵ Pinned) (𝓛.names.res_dup η (value_code R (Some x))) $ split ! $ move ! (5 ∷ 2 ∷ 6 ∷ 0 ∷ []) $ group ! 4 $
           use1 𝓛 (‵ (fwand (fsep (fdead ν) (fseps (fbor life Value ∷ []))) (fupd C))) (way_back σ) $ anything ! $ move ! (5 ∷ 0 ∷ []) $ fjoin ! $ move ! (4 ∷ 0 ∷ 1 ∷ []) $ obor_alter ! tt (fbor life Value ∷ []) $
           use1 𝓛 (‵ (fbor ν (fbor life Value)) ⊛ ‵ ftrue) (id⊢ 𝓤 _) $ split ! $ move ! (4 ∷ 0 ∷ 2 ∷ []) $ use3 𝓛 (later (‵ (fbor ν Value) ⊛ ‵ (flft ν q))) (unnest_before 𝓛 ν life q Value) $ await ! tt $ split ! $
-          move ! (0 ∷ 1 ∷ 3 ∷ []) $ use3 𝓛 (later (‵ Saw ⊛ ‵ (flft ν q))) (lends_value q) $ await ! tt $ split ! $ now ! $ keep ! (0 ∷ 1 ∷ []) $ done !
+          move ! (0 ∷ 1 ∷ 3 ∷ []) $ use3 𝓛 (later (‵ Saw ⊛ ‵ (flft ν q))) (lends_value σ q) $ await ! tt $ split ! $ now ! $ keep ! (0 ∷ 1 ∷ []) $ done !
 
     lends_at : (q : Share) → ⟦ fbor ν C ⟧ ∗ A.lft ν q ⊢ H.⇛ ((⟦ fact (IsKept R c found published v) ⟧ ∗ ⟦ fact (InBlock c.slot) ⟧ ∗ ⟦ Saw ⟧) ∗ A.lft ν q)
     lends_at q = qed 𝓛 (‵ (fbor ν C) ∷ ‵ (flft ν q) ∷ []) ∵ updating ! $ bor_open ! tt $ move ! (1 ∷ []) $ fsplit ! $ fpick ! (λ told. move ! (1 ∷ []) $ fpick ! (λ z. fsplit ! $ fpick ! (λ of. move ! (1 ∷ []) $ fsplit ! $ move ! (1 ∷ []) $
@@ -184,10 +189,25 @@ module _ {M : Type 1} {𝓤 : Ura M} (𝓛 : Logic 𝓤) where
     told_of : (v : Option R.Denot) → ⟦ claim_owns R β w table c v found published ⟧ ⊢ monad.fact 𝓤 (IsKept R c found published v)
     told_of v = qed 𝓛 (‵ (claim_owns R β w table c v found published) ∷ []) ∵ fsplit ! $ fpick ! (λ told. by ! (fact_i 𝓤 (IsKept R c found published v) _ told))
 
-    finish : (x : R.Denot) (ν : Lft) (b e : ℕ) (inc : Incl ν β) (ts : Toks) → Incl (span ts) l → Incl (span ts) ν → (j : Bool) → block_of c.slot ≡ b → value_at R (count_of c.slot) ≡ e
-        → ⟦ Seen β R L w table c x found published ν inc j ⟧ ∗ lfts 𝓛 ts ⊢ H.⇛ (⟦ shared_of R x (block_of c.slot) (value_at R (count_of c.slot)) ν ⟧ ∗ lfts 𝓛 ts)
-    finish x ν b e inc ts sl sν true p q = 𝓛.laws.⇛_intro _
-    finish x ν b e inc ts sl sν false p q = shares x ν ts (block_of c.slot) (value_at R (count_of c.slot)) sl sν
+    module _ (x : R.Denot) (κ : Lft) where
+      abbrev ν : Lft
+      ν = κ ++ β
+
+      abbrev S : Lft → Fml
+      S = shared_of R x (block_of c.slot) (value_at R (count_of c.slot))
+
+      abbrev Lasts : Judged R → Fml
+      Lasts j = lasts R β (block_of c.slot) (value_at R (count_of c.slot)) x j κ
+
+      abbrev pub Lent : Fml
+      Lent = fsep (S ν) (fex (Judged R) Lasts)
+
+      finish : (inc : Incl ν β) (ts : Toks) → Incl (span ts) l → Incl (span ts) ν → (j : Judged R) → ⟦ Seen β R L w table c x found published ν inc j ⟧ ∗ lfts 𝓛 ts ⊢ H.⇛ (⟦ Lent ⟧ ∗ lfts 𝓛 ts)
+      finish inc ts sl sν (inl j) = qed 𝓛 (‵ (S β) ∷ raw (lfts 𝓛 ts) ∷ []) ∵ updating ! $ use1 𝓛 (‵ (S β) ⊛ ‵ (S β)) (contraction 𝓛 S (L x (block_of c.slot) (value_at R (count_of c.slot))) β) $ split ! $
+          fpack ! (Judged R) Lasts (inl j) $ move ! (1 ∷ []) $ use1 𝓛 (‵ (S ν)) (shortens 𝓛 S (L x (block_of c.slot) (value_at R (count_of c.slot))) β ν inc) $ fjoin ! $ now ! $ done !
+      finish inc ts sl sν (inr j) = qed 𝓛 (‵ (fbor ν (part_at R full_share x (block_of c.slot) (value_at R (count_of c.slot)))) ∷ raw (lfts 𝓛 ts) ∷ []) ∵ updating ! $
+          use2 𝓛 (later (‵ (S ν) ⊛ raw (lfts 𝓛 ts))) (shares x ν ts (block_of c.slot) (value_at R (count_of c.slot)) sl sν) $ await ! tt $ split ! $
+          anything ! $ fpack ! (Judged R) Lasts (inr j) $ move ! (1 ∷ 0 ∷ []) $ fjoin ! $ now ! $ done !
 
     none_at : (κ : Lft) (q : Share) → A.bor κ (claim_owns R β w table c None found published) ∗ A.lft κ q ⊢ H.⇛ (⟦ fact (IsKept R c found published None) ⟧ ∗ A.lft κ q)
     none_at κ q = let P : Fml = claim_owns R β w table c None found published in let Φ : Type 0 = IsKept R c found published None in qed 𝓛 (‵ (fbor κ P) ∷ ‵ (flft κ q) ∷ []) ∵ updating ! $ bor_open ! tt $ move ! (1 ∷ []) $
@@ -196,11 +216,11 @@ module _ {M : Type 1} {𝓤 : Ura M} (𝓛 : Logic 𝓤) where
     -- a `&` to a claim is a `&` to the value that it holds
     pub lends_claim : (v : Option R.Denot) → Lends 𝓛 (claim_owns R β w table c v found published) (claim_shares R β c v found published) l
     lends_claim (Some x) = λ κ ts inc sp. let ν : Lft = κ ++ β in let P : Fml = claim_owns R β w table c (Some x) found published in let Told : Fml = fact (IsKept R c found published (Some x)) in let In : Fml = fact (InBlock c.slot) in
-        let b : ℕ = block_of c.slot in let e : ℕ = value_at R (count_of c.slot) in let sm : Incl (span ts) ν = ⊑_meet (span ts) κ β sp (Incl-trans inc le) in
+        let sm : Incl (span ts) ν = ⊑_meet (span ts) κ β sp (Incl-trans inc le) in
         let within : Incl ν β = meet_⊑_right κ β in let Got : Pr = ⟦ Told ⟧ ∗ ⟦ In ⟧ ∗ ⟦ Saw β R L w table c x found published ν within ⟧ in
         qed 𝓛 (‵ (fbor κ P) ∷ raw (lfts 𝓛 ts) ∷ []) ∵ updating ! $ use1 𝓛 (‵ (fbor ν P)) (𝓛.bors.bor_shorten κ ν P (meet_⊑_left κ β)) $
         use2 𝓛 (later ((‵ Told ⊛ ‵ In ⊛ ‵ (Saw β R L w table c x found published ν within)) ⊛ raw (lfts 𝓛 ts))) (by_one 𝓛 ν ts sm (A.bor ν P) Got (lends_at β R L w table c x found published ν within)) $ await ! tt $
-        split ! $ split3 ! $ move ! (2 ∷ []) $ fpick ! (λ j. move ! (0 ∷ 3 ∷ []) $ use2 𝓛 (later (‵ (shared_of R x b e ν) ⊛ raw (lfts 𝓛 ts))) (finish x ν b e within ts inc sm j refl refl) $ await ! tt $ split ! $
+        split ! $ split3 ! $ move ! (2 ∷ []) $ fpick ! (λ j. move ! (0 ∷ 3 ∷ []) $ use2 𝓛 (later (‵ (Lent x κ) ⊛ raw (lfts 𝓛 ts))) (finish x κ within ts inc sm j) $ await ! tt $ split ! $
         -- [what is shared; the tokens; what is kept; the block]
         move ! (3 ∷ 0 ∷ []) $ fjoin ! $ move ! (2 ∷ 0 ∷ []) $ fjoin ! $ now ! $ keep ! (0 ∷ 1 ∷ []) $ done !)
     lends_claim None = λ κ ts inc sp. let P : Fml = claim_owns R β w table c None found published in let Told : Fml = fact (IsKept R c found published None) in

@@ -2,11 +2,12 @@
 -- A claim has the right to an id, under one sharing of the id's word. While the bucket is missing, its right lies with the word, and it has the pass of its slot.
 -- Once the bucket stands it has what the slot holds.
 use Rattle.std.specs.Prelude.{◌≡◌, ℕ, ◌+◌, ◌*◌, ◌<◌, Bool, true, false, Option, None, Some}
+use mathlib.Core.Logic.{inl, inr}
 use base.Fml.{Lft, GName, Fml, fsep, fex}
 use denote.RattleType.{RattleType}
 use denote.Memory.{shared_of}
 use denote.RawPtr.{Ptr, InBlock, block_ptr, block_of, count_of}
-use denote.Sharing.{said, beside, within, nothing}
+use denote.Sharing.{said, beside, within, some, held, nothing}
 use Rattle.thread_local_rights.specs.Rights.{right_owns}
 use Rattle.thread_local_judged.specs.Judged.{Judged}
 use Rattle.thread_local_blocks.specs.Slots.{fact, flag_of, stride, value_at}
@@ -68,10 +69,15 @@ module _ (R : RattleType) where
     abbrev pub claim_owns : Bool → Bool → Fml
     claim_owns found published = fsep (fact (IsKept c found published v)) (fex (Named × Turn) has_at)
 
+  -- a `&` to the value for as long as the word is borrowed, where it names no thread
+  abbrev pub lasts : Lft → ℕ → ℕ → R.Denot → Judged R → Lft → Fml
+  lasts β b e x (inl _) = held β (shared_of R x b e)
+  lasts β b e x (inr _) = nothing
+
   -- what a `&` to a claim shows: a `&` to the value, if it holds one
   abbrev pub shown : Lft → Ptr → Option R.Denot → Lft → Fml
   shown β p None = nothing
-  shown β p (Some x) = beside (said (fact (InBlock p))) (within β (shared_of R x (block_of p) (value_at R (count_of p))))
+  shown β p (Some x) = beside (said (fact (InBlock p))) (beside (within β (shared_of R x (block_of p) (value_at R (count_of p)))) (some (Judged R) (lasts β (block_of p) (value_at R (count_of p)) x)))
 
   abbrev pub claim_shares : Lft → Place → Option R.Denot → Bool → Bool → Lft → Fml
   claim_shares β c v found published = beside (said (fact (IsKept c found published v))) (shown β c.slot v)

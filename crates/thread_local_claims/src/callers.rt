@@ -71,3 +71,20 @@ fn visit<T: Send>(word: &SharedWord<T>, index: usize, right: Right) -> Right
         claim.again().leave()
     }
 }
+
+/// What the look lent outlives the claim.
+fn seen<'a, T: Send + Sync>(claim: Claim<'a, T>) -> (Right, Option<&'a T>)
+    requires { claim.stands ≡ true }
+    ensures right { result.0.id ≡ claim.entry.id }
+    ensures value { MatchOption result.1 (claim.entry.value ≡ None) (λ x. claim.entry.value ≡ Some x.now) }
+{
+    let value = claim.look();
+    (claim.leave(), value)
+}
+
+fn number_seen<'a>(claim: Claim<'a, u32>) -> (Right, Option<&'a u32>)
+    requires { claim.stands ≡ true }
+    ensures { MatchOption result.1 (claim.entry.value ≡ None) (λ x. claim.entry.value ≡ Some x.now) }
+{
+    seen(claim)
+}

@@ -14,6 +14,8 @@ use thread_local_blocks::Slot;
 use thread_local_rights::Right;
 use thread_local_slots::SharedWord;
 
+mod look;
+
 /// The flag of a slot whose value is published.
 const PUBLISHED: u64 = 1;
 
