@@ -1,43 +1,98 @@
-//! Measures an owner's buckets and the manager of ids. The argument is the number of rounds, of which the least time counts: a line for
-//! each workload has its name and the nanoseconds for one operation. With no argument it measures nothing.
+//! Times the calls of an owner's buckets and of the id manager: a line for each workload, with its name and the nanoseconds of one
+//! operation, the least of several rounds. The argument is the number of rounds. With none each workload runs once, on few ids, and
+//! its name alone is printed.
 #![tactic(auto)]
 
-mod workloads;
+mod ids;
+mod values;
 
-use std::{env, io};
-use workloads::{WORKLOADS, Workload};
+use std::alloc::Global;
+use std::io;
+use std::time::{Clock, Duration};
+
+/// What one round of a workload made: how many operations, and in what time.
+#[derive(Drop)]
+pub struct Round {
+    pub operations: u64,
+    pub time: Duration,
+}
+
+/// What is timed.
+#[derive(Clone, Copy)]
+enum Workload {
+    Insert,
+    IterMut,
+    IntoIter,
+    Clear,
+    IdsFew,
+    IdsMany,
+}
+
+impl Workload {
+    const ALL: [Workload; 6] = [
+        Workload::Insert,
+        Workload::IterMut,
+        Workload::IntoIter,
+        Workload::Clear,
+        Workload::IdsFew,
+        Workload::IdsMany,
+    ];
+
+    fn name(self) -> &'static str {
+        match self {
+            Workload::Insert => "insert",
+            Workload::IterMut => "iter_mut",
+            Workload::IntoIter => "into_iter",
+            Workload::Clear => "clear",
+            Workload::IdsFew => "ids_few",
+            Workload::IdsMany => "ids_many",
+        }
+    }
+
+    /// Runs the workload once: on many ids, or on few.
+    fn round<R: Clock>(self, rt: &R, alloc: Global, many: bool) -> io::Result<Round> {
+        let values: u32 = if many { 1 << 20 } else { 100 };
+        let few: u64 = if many { 10_000_000 } else { 100 };
+        let held: u32 = if many { 100_000 } else { 100 };
+        let pairs: u64 = if many { 5_000_000 } else { 100 };
+        match self {
+            Workload::Insert => values::insert(rt, alloc, values),
+            Workload::IterMut => values::iter_mut(rt, alloc, values),
+            Workload::IntoIter => values::into_iter(rt, alloc, values),
+            Workload::Clear => values::clear(rt, alloc, values),
+            Workload::IdsFew => ids::few(rt, alloc, few),
+            Workload::IdsMany => ids::many(rt, alloc, held, pairs),
+        }
+    }
+}
 
 fn main(rt: HostRuntime) -> io::Result<()> {
-    let Some(Ok(rounds)) = env::args(&rt)?.nth(1).map(|word| word.parse::<u32>()) else {
-        return Ok(());
-    };
-    for workload in WORKLOADS {
-        measure(workload, &rt, rounds)?;
+    let rounds = std::env::args(&rt)?
+        .nth(1)
+        .and_then(|word| word.parse::<u64>().ok());
+    for workload in Workload::ALL {
+        let name = workload.name();
+        match rounds {
+            None => {
+                workload.round(&rt, rt.alloc(), false)?;
+                println!(rt; "{name}")?;
+            }
+            Some(rounds) => {
+                let picoseconds = least(workload, &rt, rt.alloc(), rounds)?;
+                println!(rt; "{name} {}.{:03}", picoseconds / 1000, picoseconds % 1000)?;
+            }
+        }
     }
     Ok(())
 }
 
-/// Prints the workload's name and the least time of the rounds for one operation, unless memory or the clock is refused.
-fn measure(workload: Workload, rt: &HostRuntime, rounds: u32) -> io::Result<()> {
+/// The picoseconds of one operation, in the round that took the least.
+fn least<R: Clock>(workload: Workload, rt: &R, alloc: Global, rounds: u64) -> io::Result<u128> {
     let mut least = u128::MAX;
-    let mut sum = 0u64;
     for _ in 0..rounds {
-        let Some((nanos, found)) = workload.run(rt.alloc(), rt) else {
-            return Ok(());
-        };
-        least = least.min(nanos);
-        sum = sum.wrapping_add(found);
+        let Round { operations, time } = workload.round(rt, alloc, true)?;
+        let picoseconds = time.as_nanos().saturating_mul(1000) / u128::from(operations.max(1));
+        least = least.min(picoseconds);
     }
-    let thousandths = least / (workload.operations() / 1000);
-    println!(rt;
-        "{} {}.{:03}",
-        workload.name(),
-        thousandths / 1000,
-        thousandths % 1000
-    )?;
-    // What was computed is used, so that no step is left out.
-    if sum == 1 {
-        println!(rt; "the sum is 1")?;
-    }
-    Ok(())
+    Ok(least)
 }
