@@ -2,3 +2,4 @@ pub mod Cursor
 pub mod Inserting
 pub mod IterMut
 pub mod LendingValues
+pub mod Writing

@@ -1,4 +1,4 @@
-ghost use Rattle.std.specs.Prelude.{◌≡◌, ℕ, ◌^◌, ◌<◌, ◌≤◌, [], length, true, false, Option, Err, OnErr, IfOk, IfErr, nat_lt, unwrap_or, ◌==◌, if◌then◌else◌};
+ghost use Rattle.std.specs.Prelude.{◌≡◌, ℕ, ◌^◌, ◌<◌, ◌≤◌, [], length, true, false, Option, Err, OnErr, IfOk, IfErr, nat_lt, unwrap_or, Some, MatchOption, ◌==◌, if◌then◌else◌};
 ghost use Rattle.std.specs.Borrow.{sem};
 ghost use Rattle.thread_local_model.specs.Place.{id_at};
 ghost use Rattle.thread_local_model.specs.Buckets.{row, stands, slots, values, no_contents, IsTable};
@@ -6,13 +6,13 @@ ghost use Rattle.thread_local_model.specs.Owned.{IsOwned};
 ghost use Rattle.thread_local_model.specs.Rows.{slot};
 ghost use Rattle.thread_local_model.specs.Capacity.{binary_digits, reserved_slots};
 ghost use Rattle.thread_local_model.specs.Sheet.{moved};
-ghost use Rattle.thread_local_model.specs.Walk.{walk};
+ghost use Rattle.thread_local_model.specs.Walk.{walk, with_value};
 ghost use Rattle.thread_local_contents.specs.Owner.{with_bucket, with_published, sheet_of, offer};
 
 use crate::cursor::RawIter;
 use crate::iter::IntoIter;
 use crate::iter_mut::IterMut;
-use crate::steps::{BUCKETS, bucket_size, count, offer, stand};
+use crate::steps::{BUCKETS, bucket_size, count, holds, offer, stand};
 use std::alloc::{AllocError, Global};
 use std::marker::Model;
 use thread_local_loan::Loan;
@@ -55,6 +55,7 @@ impl<T> Model for Buckets<T> {
 impl<T> Buckets<T> {
     ghost use Rattle.thread_local_buckets.specs.Inserting.{LendsInserted};
     ghost use Rattle.thread_local_buckets.specs.IterMut.{iter_mut_rest};
+    ghost use Rattle.thread_local_buckets.specs.Writing.{LendsSlot};
 
     /// No value and no bucket. It takes no memory.
     pub fn new(alloc: Global) -> Buckets<T>
@@ -120,6 +121,22 @@ impl<T> Buckets<T> {
                 Ok(self.words.get_mut(thread.bucket, thread.index))
             }
             Err(_) => Err(value),
+        }
+    }
+
+    /// The value in the slot of a place, for writing, or None where none is published. It takes no memory.
+    pub fn get_mut(&mut self, thread: Thread) -> Option<&mut T>
+        ensures* writes_back { sem 𝓛 (LendsSlot T.row self.entry thread.bucket thread.index result) }
+        ensures value { MatchOption result (slot self.old.contents thread.bucket thread.index ≡ None) (λ there. slot self.old.contents thread.bucket thread.index ≡ Some there.now) }
+
+        // Whatever is written through the answer, the map has it there, and every other value as it was.
+        ensures map { (written : T) (id : ℕ) → values (with_published self.old.contents thread.bucket thread.index written) id
+            ≡ with_value (values self.old.contents) (id_at thread.bucket thread.index) written id }
+    {
+        if holds(&mut self.words, thread.bucket, thread.index) {
+            Some(self.words.get_mut(thread.bucket, thread.index))
+        } else {
+            None
         }
     }
 

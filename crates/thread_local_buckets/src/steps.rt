@@ -1,5 +1,5 @@
 // Steps of an owner's calls on the words, and how many values they hold.
-ghost use Rattle.std.specs.Prelude.{◌≡◌, ◌+◌, ◌-◌, ◌^◌, ◌<◌, ◌≤◌, [], false, length, Some, None, IsSome, OnOk, OnErr};
+ghost use Rattle.std.specs.Prelude.{◌≡◌, ◌+◌, ◌-◌, ◌^◌, ◌<◌, ◌≤◌, [], true, false, length, Some, None, is_some, IsSome, OnOk, OnErr};
 ghost use Rattle.thread_local_model.specs.Place.{id_at};
 ghost use Rattle.thread_local_model.specs.Buckets.{row, stands, values, IsTable};
 ghost use Rattle.thread_local_model.specs.Rows.{slot, with_slot};
@@ -45,6 +45,18 @@ pub(crate) fn offer<T: Drop>(words: &mut Words<T>, bucket: usize, index: usize, 
     if !words.is_published(bucket, index) {
         words.publish(bucket, index, value);
     }
+}
+
+// Whether a value is published in the slot of a place.
+pub(crate) fn holds<T>(words: &mut Words<T>, bucket: usize, index: usize) -> bool
+    requires in_table { bucket < 63 }
+    requires in_bucket { index < 2 ^ bucket }
+    ensures same { words.new ≡ words.old }
+    ensures value { result ≡ is_some (slot words.old bucket index) }
+    ensures within { result ≡ true → index < length (row words.old bucket) }
+    ensures stands { result ≡ true → stands words.old bucket ≡ true }
+{
+    words.stands(bucket) && words.is_published(bucket, index)
 }
 
 // How many values the bucket has, whose size the caller knows.

@@ -1,0 +1,62 @@
+use Rattle.std.proofs.Common.{◌≡◌, ◌<◌, ◌^◌, ℕ, true, false, Option, Some, None, subst, sym, ap, ◌∙◌, inl, inr, refl}
+use Rattle.std.specs.Prelude.{is_some}
+use Rattle.std.proofs.lemmas.Bool.{cond-true}
+use mathlib.Core.Path.{fun_ext}
+use Rattle.thread_local_model.specs.Place.{id_at}
+use Rattle.thread_local_model.specs.Buckets.{Contents, stands, values, IsTable}
+use Rattle.thread_local_model.specs.Owned.{Owned}
+use Rattle.thread_local_model.specs.Rows.{slot, with_slot, with_row, empty_row}
+use Rattle.thread_local_model.specs.Walk.{with_value}
+use Rattle.thread_local_contents.specs.Owner.{with_published}
+use Rattle.thread_local_contents.proofs.InsertingLaws.{published_values}
+use Rattle.thread_local_buckets.specs.Inserting.{owned_with}
+use Rattle.thread_local_buckets.proofs.buckets.Buckets.get_mut.Goals as goal
+
+-- the map that is written to has what was written, and is else as it was
+map_of : {V : Type 0} (o now : Owned V) (b i : ℕ) → o ≡ now → IsTable o.contents → b < 63 → i < 2 ^ b
+    → (w : V) (id : ℕ) → values (with_published now.contents b i w) id ≡ with_value (values now.contents) (id_at b i) w id
+map_of o now b i same t low inside w id =
+    let P : Owned _ → Type 0 = λ s. values (with_published s.contents b i w) id ≡ with_value (values s.contents) (id_at b i) w id in
+    subst P same (published_values o.contents b t low i w id inside)
+
+-- what the buckets end as, whatever is written: the slot has what was written
+left_as : {V : Type 0} (o now : Owned V) (d : Contents V) (b i : ℕ) → o ≡ now → d ≡ o.contents → stands o.contents b ≡ true
+    → (w : V) → record { contents = with_slot d b i (Some w); reserved = o.reserved } ≡ owned_with now b i w
+left_as o now d b i same looked stood w =
+    ap (λ (k : Contents _). let s : Owned _ = record { contents = with_slot k b i (Some w); reserved = o.reserved } in s) (looked ∙ sym (cond-true (stands o.contents b) o.contents (with_row o.contents b (empty_row b)) stood))
+    ∙ ap (λ (s : Owned _). owned_with s b i w) same
+
+none_of : {V : Type 0} (x : Option V) → is_some x ≡ false → x ≡ None
+none_of None h = refl
+none_of (Some x) h = cc
+
+nothing_at : {V : Type 0} (o now : Owned V) (b i : ℕ) → o ≡ now → is_some (slot o.contents b i) ≡ false → slot now.contents b i ≡ None
+nothing_at o now b i same none = ap (λ (s : Owned _). slot s.contents b i) (sym same) ∙ none_of (slot o.contents b i) none
+
+pub returns-then-holds : goal.returns-then-holds
+returns-then-holds g c =
+    let b = c.args.thread.bucket in
+    let i = c.args.thread.index in
+    let t = c.self.invariant.table in
+    let first : Owned _ = record { contents = c.self.inside.words; reserved = c.self.inside.reserved } in (
+      ap (λ (f : _ → _). inl (c.get_mut.result.ghost_name, f)) (fun_ext (left_as first c.args.self.now c.holds.new.words b i c.self.view_is c.holds.ensures.same (c.holds.ensures.stands c.if-holds.true))),
+      record {
+        writes_back = tt;
+        value = ap (λ (s : Owned _). slot s.contents b i) (sym c.self.view_is) ∙ ap (λ (k : Contents _). slot k b i) (sym c.holds.ensures.same) ∙ c.get_mut.ensures.value;
+        map = map_of first c.args.self.now b i c.self.view_is t c.args.thread.in_table c.args.thread.in_bucket;
+      },
+    )
+
+pub returns-else-holds : goal.returns-else-holds
+returns-else-holds g c =
+    let b = c.args.thread.bucket in
+    let i = c.args.thread.index in
+    let t = c.self.invariant.table in
+    let first : Owned _ = record { contents = c.self.inside.words; reserved = c.self.inside.reserved } in (
+      ap (λ (k : Contents _). let s : Owned _ = record { contents = k; reserved = c.self.inside.reserved } in inr s) c.holds.ensures.same ∙ ap (λ (s : Owned _). inr s) c.self.view_is,
+      record {
+        writes_back = tt;
+        value = nothing_at first c.args.self.now b i c.self.view_is (sym c.holds.ensures.value ∙ c.if-holds.false);
+        map = map_of first c.args.self.now b i c.self.view_is t c.args.thread.in_table c.args.thread.in_bucket;
+      },
+    )
