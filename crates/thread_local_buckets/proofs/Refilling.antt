@@ -1,5 +1,5 @@
-use Rattle.std.proofs.Common.{◌≡◌, ℕ, zero, suc, ◌^◌, ◌⊎◌, List, [], ◌∷◌, length, get_or, refl, sym, ap, ◌∙◌, subst, Option, Some, None, nat_lt, Bool, IsTrue}
-use Rattle.thread_local_model.specs.Buckets.{Contents, row, stands, IsTable}
+use Rattle.std.proofs.Common.{◌≡◌, ℕ, zero, suc, ◌^◌, ◌⊎◌, List, [], ◌∷◌, length, get_or, refl, sym, ap, ◌∙◌, subst, Option, nat_lt, IsTrue}
+use Rattle.thread_local_model.specs.Buckets.{Contents, row}
 use Rattle.thread_local_model.specs.Owned.{Owned, IsOwned}
 use Rattle.thread_local_loan.specs.Refilled.{refilled_row, refilled_rows, refilled}
 use Rattle.thread_local_buckets.specs.LendingValues.{owned_refilled}

@@ -1,4 +1,6 @@
-ghost use Rattle.std.specs.Prelude.{◌≡◌, IfOk};
+ghost use Rattle.std.specs.Prelude.{◌≡◌, IfOk, IsSome};
+ghost use Rattle.thread_local_model.specs.Rows.{slot};
+ghost use Rattle.thread_local_contents.specs.Owner.{with_published};
 
 use crate::Buckets;
 use std::alloc::Global;
@@ -26,6 +28,16 @@ fn written(alloc: Global) -> Result<u32, u32>
     *there += 1;
     let there = buckets.insert(Thread::new(0), 9)?;
     Ok(*there)
+}
+
+// Writes one value of a map: it stands there afterwards, and every other is as it was.
+fn write_at(buckets: &mut Buckets<u32>, thread: Thread, value: u32)
+    requires { IsSome (slot buckets.old.contents thread.bucket thread.index) }
+    ensures { buckets.new.contents ≡ with_published buckets.old.contents thread.bucket thread.index value }
+{
+    if let Some(there) = buckets.get_mut(thread) {
+        *there = value;
+    }
 }
 
 #[test]

@@ -1,7 +1,7 @@
 use Rattle.std.proofs.Common.{◌≡◌, ◌+◌, ◌*◌, ◌^◌, ◌≤◌, sym, ◌∙◌, ap, subst, suc, arith, pow_mono, add-one, [], refl}
 use Rattle.std.proofs.Math.Nat.{two-pow-succ}
 use Rattle.thread_local_model.specs.Place.{id_at}
-use Rattle.thread_local_model.specs.Buckets.{Contents, values, row}
+use Rattle.thread_local_model.specs.Buckets.{values, row}
 use Rattle.thread_local_loan.specs.declared.loan.Loan.{Loan}
 use Rattle.thread_local_contents.specs.Owner.{NoneBelow}
 use Rattle.thread_local_contents.proofs.TakingLaws.{id_at-next, NoneBelow-end, NoneBelow-absent, walk-met}

@@ -1,4 +1,4 @@
-use Rattle.std.proofs.Common.{◌≡◌, sym, ap, ◌∙◌, subst}
+use Rattle.std.proofs.Common.{sym, ap, ◌∙◌, subst}
 use Rattle.thread_local_model.specs.Buckets.{Contents, values}
 use Rattle.thread_local_model.specs.Owned.{Owned, IsOwned}
 use Rattle.thread_local_model.specs.Walk.{walk}

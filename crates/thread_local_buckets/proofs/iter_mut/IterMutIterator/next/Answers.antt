@@ -1,4 +1,4 @@
-use Rattle.std.proofs.Common.{◌≡◌, ◌+◌, ◌≤◌, ℕ, length, subst, sym, ◌∙◌, ap, arith, None}
+use Rattle.std.proofs.Common.{◌≡◌, ◌+◌, ℕ, length, subst, sym, ◌∙◌, ap, arith, None}
 use Rattle.thread_local_model.specs.Buckets.{Contents, values}
 use Rattle.thread_local_model.specs.Rows.{slot, with_slot}
 use Rattle.thread_local_model.specs.Walk.{walk}
