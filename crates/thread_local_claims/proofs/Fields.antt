@@ -1,5 +1,5 @@
 -- The data fields of a claim. Assumes `Logic`.
-use Rattle.std.proofs.Common.{◌≡◌, ℕ, ◌^◌, ◌<◌, Bool, true, false, Option, None, Some, T, w64, List, [], ◌∷◌, ◌++◌, refl, ◌∙◌, lit<}
+use Rattle.std.proofs.Common.{◌≡◌, ℕ, ◌*◌, ◌^◌, ◌<◌, ◌≤◌, arith, mul-le-mul_right, Bool, true, false, Option, None, Some, T, w64, List, [], ◌∷◌, ◌++◌, refl, ◌∙◌, lit<}
 use seplogic.Ra.Ura.{Ura}
 use mir.Syntax.{Ty, ty_ptr, ty_int, ty_bool, ty_struct, tcons, tnil}
 use mir.Val.{Val, vint, vbool, vstruct, vcons, vnil, of_list, has_ty, WT}
@@ -72,3 +72,7 @@ typed_at null_ptr null_ptr i f q fits = (tt, (record { fits = lit< tt }, (record
 
 pub typed : (c : Kept) → c.index < 2 ^ 64 → T (has_ty claim_ty (value_of c)) × WT (value_of c)
 typed c fits = typed_at c.word c.slot c.index c.found c.published fits
+
+-- a place within a block is at a number that fits
+pub small_product : (i n s : ℕ) → i < n → n * s < 2 ^ 63 → i * s < 2 ^ 64
+small_product i n s near fits = let le : i * s ≤ n * s = mul-le-mul_right s (omega arith) in omega arith

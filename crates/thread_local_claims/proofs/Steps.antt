@@ -52,7 +52,7 @@ module _ {M : Type 1} {𝓤 : Ura M} (𝓛 : Logic 𝓤) (R : RattleType) (d : N
   abbrev Had : Option R.Denot → Who → Fml
   Had = general.Had 𝓛 R d t wb wo s i k e b low at_k at_e at_b
 
-  abbrev Holds : Option R.Denot → Fml
+  abbrev pub Holds : Option R.Denot → Fml
   Holds = general.Holds 𝓛 R d t wb wo s i k e b low at_k at_e at_b
 
   abbrev Left : Option R.Denot → Pr → Who → Pr
@@ -68,6 +68,11 @@ module _ {M : Type 1} {𝓤 : Ura M} (𝓛 : Logic 𝓤) (R : RattleType) (d : N
   pub releases : (q : Share) (u : Option R.Denot) → A.inv (fbor t.life I) ∗ A.lft t.life q ∗ ⟦ Which ⟧ ∗ ⟦ Holds u ⟧ ⊢ H.⇛ (⟦ Right ⟧ ∗ A.lft t.life q)
   releases q u = general.moved 𝓛 R d t wb wo s i k e b low at_k at_e at_b q ⟦ Holds u ⟧ ⟦ Right ⟧ (λ v w. qed 𝓛 (‵ (Stands v) ∷ ‵ (Had v w) ∷ ‵ (Holds u) ∷ []) ∵
       use3 𝓛 (given (v ≡ u) (‵ (Stands v) ⊛ ‵ (Had v free) ⊛ ‵ Right)) (moves.releases 𝓛 R t b s.own d.table k e η v u w) $ learn ! (λ same. show ! (Left v ⟦ Right ⟧) free $ split3 ! $ done !))
+
+  -- what came before the block finds its slot empty
+  pub comes_in : (q : Share) → A.inv (fbor t.life I) ∗ A.lft t.life q ∗ ⟦ Which ⟧ ∗ ⟦ right_owns t.pass k ⟧ ⊢ H.⇛ (⟦ Holds None ⟧ ∗ A.lft t.life q)
+  comes_in q = general.moved 𝓛 R d t wb wo s i k e b low at_k at_e at_b q ⟦ right_owns t.pass k ⟧ ⟦ Holds None ⟧ (λ v w. qed 𝓛 (‵ (Stands v) ∷ ‵ (Had v w) ∷ ‵ (right_owns t.pass k) ∷ []) ∵
+      use3 𝓛 (given (v ≡ None) (‵ (Stands v) ⊛ ‵ (Had v claimed) ⊛ ‵ (Holds None))) (moves.early_claims 𝓛 R t b s.own d.table k e η v w) $ learn ! (λ none. show ! (Left v ⟦ Holds None ⟧) claimed $ split3 ! $ done !))
 
   -- what a claim finds: its flag, and what the slot holds
   abbrev pub Found : Bool → ℕ → Fml

@@ -1,11 +1,11 @@
 //! Safe callers at concrete types.
-ghost use Rattle.std.specs.Prelude.{◌≡◌, ◌<◌, ◌^◌, true, Some, MatchOption};
-ghost use Rattle.thread_local_model.specs.Place.{id_at};
+ghost use Rattle.std.specs.Prelude.{◌≡◌, ◌<◌, ◌^◌, true, false, Some, MatchOption};
+ghost use Rattle.thread_local_model.specs.Place.{bucket_of, id_at};
 
 use crate::claim::Claim;
 use std::cell::{Cell, RefCell};
 use thread_local_rights::Right;
-use thread_local_slots::SharedWord;
+use thread_local_slots::{Private, SharedWord};
 
 /// Publishes the value unless the slot holds one.
 fn offered<'a, T: Send + Drop>(claim: Claim<'a, T>, value: T) -> Claim<'a, T>
@@ -87,4 +87,23 @@ fn number_seen<'a>(claim: Claim<'a, u32>) -> (Right, Option<&'a u32>)
     ensures { MatchOption result.1 (claim.entry.value ≡ None) (λ x. claim.entry.value ≡ Some x.now) }
 {
     seen(claim)
+}
+
+/// Installs the bucket that was missing, and publishes the value.
+fn settled<'a, T: Send>(claim: Claim<'a, T>, private: Private<T>, value: T) -> Claim<'a, T>
+    requires looked { claim.looked ≡ true }
+    requires missing { claim.stands ≡ false }
+    requires bucket { private ≡ bucket_of claim.id }
+    ensures { result.value ≡ Some value }
+{
+    claim.install(private).publish(value)
+}
+
+fn settled_number<'a>(claim: Claim<'a, u32>, private: Private<u32>) -> Claim<'a, u32>
+    requires looked { claim.looked ≡ true }
+    requires missing { claim.stands ≡ false }
+    requires bucket { private ≡ bucket_of claim.id }
+    ensures { result.value ≡ Some 7 }
+{
+    settled(claim, private, 7)
 }

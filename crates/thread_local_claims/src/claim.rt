@@ -14,6 +14,7 @@ use thread_local_blocks::Slot;
 use thread_local_rights::Right;
 use thread_local_slots::SharedWord;
 
+mod install;
 mod look;
 
 /// The flag of a slot whose value is published.

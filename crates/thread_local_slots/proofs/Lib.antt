@@ -6,5 +6,5 @@ pub use Rattle.thread_local_sharing.proofs.Sent
 pub use Rattle.thread_local_sharing.proofs.Tokens
 pub mod Fields
 pub mod Lent
-mod Pairs
+pub mod Pairs
 pub mod Words

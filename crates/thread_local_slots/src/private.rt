@@ -1,5 +1,6 @@
 //! A block that its maker alone sees.
-ghost use Rattle.std.specs.Prelude.{◌≡◌, ◌<◌, IfOk};
+ghost use Rattle.std.specs.Prelude.{◌≡◌, ◌^◌, ◌<◌, IfOk};
+ghost use Rattle.thread_local_blocks.specs.Slots.{empty_slots};
 
 use crate::row::Row;
 use crate::word::SharedWord;
@@ -47,6 +48,32 @@ impl<T> Private<T> {
             bucket,
         } = self;
         block.release(&alloc, 1 << bucket);
+    }
+
+    /// The block, what frees it, and its bucket, each alone.
+    pub fn into_parts(self) -> (Block<T, Global>, Global, usize)
+        ensures block { (result.0.heap ≡ result.1) × (result.0.slots ≡ empty_slots (2 ^ self)) × (result.0.left ≡ 0) }
+        ensures bucket { (result.2 ≡ self) × (self < 63) }
+    {
+        let Self {
+            block,
+            alloc,
+            bucket,
+        } = self;
+        (block, alloc, bucket)
+    }
+
+    /// The block of a bucket, again with what frees it.
+    pub fn from_parts(block: Block<T, Global>, alloc: Global, bucket: usize) -> Private<T>
+        requires block { (block.heap ≡ alloc) × (block.slots ≡ empty_slots (2 ^ bucket)) × (block.left ≡ 0) }
+        requires bucket { bucket < 63 }
+        ensures { result ≡ bucket }
+    {
+        Private {
+            block,
+            alloc,
+            bucket,
+        }
     }
 }
 

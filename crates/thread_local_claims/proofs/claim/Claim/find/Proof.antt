@@ -30,7 +30,7 @@ use Rattle.thread_local_claims.specs.contracts.claim.Claim.find.{ended, clauses}
 use Rattle.thread_local_claims.specs.contracts.claim.Claim.find.Key.{name as #self}
 use Rattle.thread_local_claims.proofs.Early.{comes}
 use Rattle.thread_local_claims.proofs.Steps as steps
-use Rattle.thread_local_claims.proofs.Fields.{Kept, kept_of, value_of, Words, fields_of, told, made, typed}
+use Rattle.thread_local_claims.proofs.Fields.{Kept, kept_of, value_of, Words, fields_of, told, made, typed, small_product}
 use Rattle.thread_local_claims.proofs.claim.Claim.find.Statement.{statement}
 use Rattle.thread_local_claims.proofs.claim.Claim.find.Code as code
 
@@ -43,10 +43,6 @@ flag_is v n e = ap (λ m. eqb m 1) e ∙ cases v
     cases : {X : Type 0} (v : Option X) → eqb (flag_of v) 1 ≡ is_some v
     cases None = refl
     cases (Some x) = refl
-
--- a place within a block is at a number that fits
-small_product : (i n s : ℕ) → i < n → n * s < 2 ^ 63 → i * s < 2 ^ 64
-small_product i n s near fits = let le : i * s ≤ n * s = mul-le-mul_right s (omega arith) in omega arith
 
 pub find_spec : {M : Type 1} → statement M
 find_spec 𝓤 𝓛 𝓜 𝓡 wired X L =
