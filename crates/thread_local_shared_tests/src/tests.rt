@@ -1,8 +1,9 @@
 ghost use Rattle.std.specs.Prelude.{◌≡◌, ◌-◌, ◌^◌, ◌<◌};
+ghost use Rattle.thread_local_judged.specs.Judged.{Judged};
 
 use crate::steps::{claim, publish};
 use std::alloc::{AllocError, Global};
-use std::cell::Cell;
+use std::cell::{Cell, RefCell};
 use std::sync::atomic::AtomicU64;
 use std::sync::atomic::Ordering::SeqCst;
 use std::sync::{Arc, Wait};
@@ -15,7 +16,7 @@ use thread_local_locked_ids::{HeldId, Ids, LockedIds};
 use thread_local_rights::Rights;
 use thread_local_shared::Shared;
 use thread_local_slots::Private;
-use thread_local_thread_id::Thread;
+use thread_local_thread_id::{LocalError, Thread};
 
 /// Adds to the number at an id, and answers what was there.
 fn add(shared: &Shared<Cell<u64>>, held: HeldId, more: u64) -> (HeldId, Option<u64>)
@@ -180,6 +181,43 @@ fn each_value_is_dropped_once(rt: HostRuntime) -> Result<(), Fail> {
     assert_eq!(rt; drops.load(SeqCst), 0);
     drop(shared);
     assert_eq!(rt; drops.load(SeqCst), 100);
+    Ok(())
+}
+
+/// Publishes a value in shared buckets of its own, and takes it back out of them.
+fn handed_back<T: Send + Drop>(alloc: Global, value: T) -> Result<Option<T>, LocalError>
+    requires judged { Judged T.row }
+{
+    let mut ids = Ids::new(alloc);
+    let shared = Shared::new(Buckets::new(alloc), ids.rights());
+    let held = ids.take()?;
+    let (_held, _published) = publish(&shared, held, alloc, value);
+    let mut values = shared.into_buckets().into_iter();
+    Ok(values.next())
+}
+
+#[test]
+fn values_of_any_type_come_back(rt: HostRuntime) -> Result<(), Fail> {
+    assert_eq!(rt; handed_back(rt.alloc(), 7u32)?, Some(7));
+    assert_eq!(rt;
+        handed_back(rt.alloc(), Box::new(rt.alloc(), 7u32)?)?.map(|boxed| *boxed),
+        Some(7)
+    );
+    judge_sync::<String>();
+    let text = handed_back(rt.alloc(), String::from_str(rt.alloc(), "seven")?)?;
+    assert_eq!(rt; text.as_deref(), Some("seven"));
+    Cell::<u64>::judge();
+    let cell = handed_back(rt.alloc(), Cell::new(7u64))?;
+    assert_eq!(rt; cell.map(|cell| cell.get()), Some(7));
+    RefCell::<String>::judge();
+    let text = handed_back(
+        rt.alloc(),
+        RefCell::new(String::from_str(rt.alloc(), "seven")?),
+    )?;
+    assert_eq!(rt;
+        text.map(|cell| cell.into_inner()).as_deref(),
+        Some("seven")
+    );
     Ok(())
 }
 

@@ -54,6 +54,23 @@ fn the_first_value_stays(rt: HostRuntime) -> Result<(), Fail> {
     Ok(())
 }
 
+#[test]
+fn one_value_is_written(rt: HostRuntime) -> Result<(), Fail> {
+    let mut buckets = Buckets::new(rt.alloc());
+    assert_eq!(rt; put(&mut buckets, 0, 1), Some(1));
+    assert_eq!(rt; put(&mut buckets, 2, 2), Some(2));
+    if let Some(value) = buckets.get_mut(Thread::new(2)) {
+        *value = 7;
+    }
+    assert!(rt; buckets.get_mut(Thread::new(1)).is_none());
+    assert!(rt; buckets.get_mut(Thread::new(1234)).is_none());
+    let mut walk = buckets.into_iter();
+    assert_eq!(rt; walk.next(), Some(1));
+    assert_eq!(rt; walk.next(), Some(7));
+    assert_eq!(rt; walk.next(), None);
+    Ok(())
+}
+
 // Inserts a value and answers what stands at the id. Where memory is refused the value comes back and no bucket is new, and the same
 // call succeeds; else the answer is `None`.
 fn put(buckets: &mut Buckets<usize>, id: u32, value: usize) -> Option<usize> {
