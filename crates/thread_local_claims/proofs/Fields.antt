@@ -1,5 +1,5 @@
 -- The data fields of a claim. Assumes `Logic`.
-use Rattle.std.proofs.Common.{◌≡◌, ℕ, ◌*◌, ◌^◌, ◌<◌, ◌≤◌, arith, mul-le-mul_right, Bool, true, false, Option, None, Some, T, w64, List, [], ◌∷◌, ◌++◌, refl, ◌∙◌, lit<}
+use Rattle.std.proofs.Common.{◌≡◌, ℕ, ◌*◌, ◌^◌, ◌<◌, ◌≤◌, arith, mul-le-mul_right, Bool, true, false, Option, None, Some, is_some, T, w64, List, [], ◌∷◌, ◌++◌, refl, ◌∙◌, lit<}
 use seplogic.Ra.Ura.{Ura}
 use mir.Syntax.{Ty, ty_ptr, ty_int, ty_bool, ty_struct, tcons, tnil}
 use mir.Val.{Val, vint, vbool, vstruct, vcons, vnil, of_list, has_ty, WT}
@@ -16,7 +16,6 @@ use denote.Struct.Laws.{RawPtr-copy, usize-copy, bool-copy, field_copy}
 use denote.Struct.Struct.{Struct}
 use denote.Struct.Owning.{shape}
 use Rattle.std.specs.contracts.marker.PhantomData as marker
-use Rattle.thread_local_claims.specs.Claims.{is_some}
 use Rattle.thread_local_claims.specs.declared.claim.Claim as claim_value
 use Rattle.thread_local_claims.specs.contracts.claim.Claim as claim
 

@@ -1,7 +1,7 @@
 -- What a claim owns, and what a `&` to it shows.
 -- A claim has the right to an id, under one sharing of the id's word. While the bucket is missing, its right lies with the word, and it has the pass of its slot.
 -- Once the bucket stands it has what the slot holds.
-use Rattle.std.specs.Prelude.{◌≡◌, ℕ, ◌+◌, ◌*◌, ◌<◌, Bool, true, false, Option, None, Some}
+use Rattle.std.specs.Prelude.{◌≡◌, ℕ, ◌+◌, ◌*◌, ◌<◌, Bool, true, false, Option, None, Some, is_some}
 use mathlib.Core.Logic.{inl, inr}
 use base.Fml.{Lft, GName, Fml, fsep, fex}
 use denote.RattleType.{RattleType}
@@ -12,10 +12,6 @@ use Rattle.thread_local_rights.specs.Rights.{right_owns}
 use Rattle.thread_local_judged.specs.Judged.{Judged}
 use Rattle.thread_local_blocks.specs.Slots.{fact, flag_of, stride, value_at}
 use Rattle.thread_local_sharing.specs.Shared.{name_at, Named, Turn, Standing, holds, first, len, kept, row}
-
-abbrev pub is_some : {X : Type 0} → Option X → Bool
-is_some None = false
-is_some (Some x) = true
 
 -- what a claim is, apart from its type's values: its id, the index of its slot, where the slot lies once it stands, whether it has looked
 -- for the bucket, whether it has found it, and whether the bucket is reserved

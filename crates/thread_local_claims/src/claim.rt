@@ -1,9 +1,9 @@
 //! Claims of slots.
-ghost use Rattle.std.specs.Prelude.{◌≡◌, ◌<◌, ◌^◌, ℕ, Bool, true, false, Option, None, Some, MatchOption};
+ghost use Rattle.std.specs.Prelude.{◌≡◌, ◌<◌, ◌^◌, ℕ, Bool, true, false, Option, None, Some, is_some, MatchOption};
 ghost use base.Stored.{coded_bool};
 ghost use Rattle.std.specs.Coded.{coded_option};
 ghost use Rattle.thread_local_model.specs.Place.{id_at};
-ghost use Rattle.thread_local_claims.specs.Claims.{is_some, place_of, claim_owns, claim_shares};
+ghost use Rattle.thread_local_claims.specs.Claims.{place_of, claim_owns, claim_shares};
 
 use std::marker::{Brand, Model, PhantomData};
 use std::ptr::null;

@@ -1,6 +1,5 @@
 //! What a walker finds at a claim's own slot.
-ghost use Rattle.std.specs.Prelude.{◌≡◌, true, None, Some, MatchOption};
-ghost use Rattle.thread_local_claims.specs.Claims.{is_some};
+ghost use Rattle.std.specs.Prelude.{◌≡◌, true, None, Some, is_some, MatchOption};
 
 use crate::claim::Claim;
 

@@ -1,6 +1,6 @@
 -- `is_published` reads a field.
 use Rattle.thread_local_claims.proofs.Names.{◌≡◌, ℕ, List, [], ◌∷◌, sym, refl, dnil, a_type, named, Val, vptr, vbool, inst_fn, SProp, emp, Lft, Fml, ftrue, fsep, flft, ‵, raw, ◌⊛◌, ◌$◌, ◌∵◌, !, qed, by, move, keep, drop, split, join, fsplit, fjoin, fpick, use0, use1, rewrite, feq_i, stop, fld, of_opd, returns, enter, alloc_all, pass_all, free_all, look_at, through, sets, env, sub, whole, look_in, tables, fact, fact_i, yes, RattleType, owns, types_at, plain, named_lft, Ptr, nothing, peeks, unhide, Is, shows, cell_at, param, bounded, param_laws, RefOf, shr_vals, shr_Tells, Stays, stay_dropped, walk_of, Goes-dropped, proved, leaves}
-use Rattle.std.proofs.Common.{Option}
+use Rattle.std.proofs.Common.{Option, is_some}
 use base.Fml.{fhide}
 use types.Run.{load}
 use denote.Steps.{looks, shuts}
@@ -8,7 +8,7 @@ use denote.Memory.{hidden_shr}
 use denote.Ref.{ShrRef}
 use denote.Struct.Lending.{lent_out}
 use Rattle.std.specs.contracts.marker.PhantomData as marker
-use Rattle.thread_local_claims.specs.Claims.{is_some, place_of, claim_shares}
+use Rattle.thread_local_claims.specs.Claims.{place_of, claim_shares}
 use Rattle.thread_local_claims.specs.contracts.claim.Claim as claim
 use Rattle.thread_local_claims.specs.contracts.claim.Claim.is_published.{ended, clauses}
 use Rattle.thread_local_claims.specs.contracts.claim.Claim.is_published.Key.{name as #self}

@@ -1,6 +1,6 @@
 -- `value` shows the value that the slot holds.
 use Rattle.thread_local_claims.proofs.Names.{◌≡◌, ℕ, List, [], ◌∷◌, ◌++◌, sym, refl, ap, ◌∙◌, true, dnil, a_type, named, Val, vptr, inst_fn, SProp, emp, Lft, Fml, ftrue, fsep, flft, ‵, raw, ◌⊛◌, at_ret, ◌$◌, ◌∵◌, !, qed, by, move, keep, drop, split, join, fsplit, fjoin, fpick, use0, use1, rewrite, feq_i, stop, fld, hop, addr, of_opd, first, blocks, exec, returns, enter, alloc_all, pass_all, free_all, look_at, get, through, sets, sets_last, env, sub, whole, look_in, tables, fact, fact_i, yes, RattleType, owns, types_at, plain, named_lft, Ptr, block_ptr, block_of, count_of, at_block, nothing, heard, peeks, unhide, Is, shows, cell_at, param, bounded, param_laws, RefOf, shr_vals, shr_Tells, Stays, stay_dropped, walk_of, Goes-dropped, proved, leaves, tail}
-use Rattle.std.proofs.Common.{Option, Some}
+use Rattle.std.proofs.Common.{Option, Some, is_some}
 use base.Fml.{fhide, Incl-refl}
 use contract.BorrowLft.{⊑_meet}
 use denote.Steps.{looks, shuts}
@@ -10,7 +10,7 @@ use denote.SharingLaws.{shortens}
 use denote.Struct.Lending.{lent_out}
 use Rattle.std.specs.contracts.marker.PhantomData as marker
 use Rattle.thread_local_blocks.specs.Slots.{value_at}
-use Rattle.thread_local_claims.specs.Claims.{is_some, place_of, shown, claim_shares}
+use Rattle.thread_local_claims.specs.Claims.{place_of, shown, claim_shares}
 use Rattle.thread_local_claims.specs.contracts.claim.Claim as claim
 use Rattle.thread_local_claims.specs.contracts.claim.Claim.value.{ended, clauses}
 use Rattle.thread_local_claims.specs.contracts.claim.Claim.value.Key.{name as #self}
