@@ -10,9 +10,9 @@ use thread_local_blocks::Block;
 
 /// A bucket's block before it is installed: all its slots are empty. A contract sees its bucket.
 pub struct Private<T> {
-    pub(crate) block: Block<T, Global>,
-    pub(crate) alloc: Global,
-    pub(crate) bucket: usize,
+    block: Block<T, Global>,
+    alloc: Global,
+    bucket: usize,
 }
 
 impl<T> Model for Private<T> {
@@ -77,28 +77,6 @@ impl<T> Private<T> {
     }
 }
 
-impl<T> Private<T> {
-    fn offer_to<'a>(self, word: &'a SharedWord<T>) -> Row<'a, T>
-        requires { self ≡ word.now.bucket }
-        ensures { result.of ≡ word.now }
-    {
-        let Self {
-            block,
-            alloc,
-            bucket,
-        } = self;
-        let (row, back) = word.offer(block);
-        if let Some(block) = back {
-            drop(Private {
-                block,
-                alloc,
-                bucket,
-            });
-        }
-        row
-    }
-}
-
 impl<T> SharedWord<T> {
     /// Lets the word lead to the block, if it led nowhere, by one compare and exchange. Answers the row of the block to which the word leads
     /// from then on, whoever installed it. A block that came second is freed. It takes no memory, and never waits.
@@ -106,7 +84,12 @@ impl<T> SharedWord<T> {
         requires { private ≡ self.now.bucket }
         ensures { result.of ≡ self.now }
     {
-        private.offer_to(self)
+        let (block, alloc, bucket) = private.into_parts();
+        let (row, back) = self.offer(block);
+        if let Some(block) = back {
+            Private::from_parts(block, alloc, bucket).free();
+        }
+        row
     }
 }
 
