@@ -27,8 +27,8 @@ use Rattle.std.proofs.cell.BorrowLemmas.{by_one, unnest_before}
 use Rattle.thread_local_judged.specs.Judged.{Shareable, Judged}
 use Rattle.thread_local_rights.specs.Rights.{right_owns}
 use Rattle.thread_local_blocks.specs.Slots.{fact, stride, value_at, place}
-use Rattle.thread_local_slots.specs.Shared.{name_at, Named, Turn, Standing, value_code, pinned, value_of, age, kept, row}
-use Rattle.thread_local_slots.specs.Shared as slots
+use Rattle.thread_local_sharing.specs.Shared.{name_at, Named, Turn, Standing, value_code, pinned, value_of, age, kept, row}
+use Rattle.thread_local_sharing.specs.Shared as slots
 use Rattle.thread_local_claims.specs.Claims.{Place, IsAt, has_slot, has, IsKept, IsOf, has_at, claim_owns, lasts, shown, claim_shares}
 
 lasts_laws : (β : Lft) (R : RattleType) → RowLaws R → (b e : ℕ) (x : R.Denot) (j : Judged R) → ShrLaws (lasts R β b e x j)

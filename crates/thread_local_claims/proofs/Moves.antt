@@ -11,7 +11,7 @@ use denote.RattleType.{RattleType}
 use Rattle.std.specs.Coded.{coded_option}
 use Rattle.thread_local_rights.specs.Rights.{right_owns}
 use Rattle.thread_local_rights.proofs.Elements.{right_once}
-use Rattle.thread_local_slots.specs.Shared.{Turn, Who, free, claimed, early, value_code, pinned, opened, holds, stands, had}
+use Rattle.thread_local_sharing.specs.Shared.{Turn, Who, free, claimed, early, value_code, pinned, opened, holds, stands, had}
 
 some_alike : {X : Type 0} {x y : X} → ◌≡◌ {A = Option X} (Some x) (Some y) → x ≡ y
 some_alike {X} {x} e = ap {A = Option X} (λ o. elim o as (λ _. X) [ Some z ↦ z | None ↦ x ]) e

@@ -9,8 +9,8 @@ use denote.RawPtr.{Ptr, block_of, count_of}
 use Rattle.thread_local_judged.specs.Judged.{Judged}
 use Rattle.thread_local_rights.proofs.Elements.{right_keyless}
 use Rattle.thread_local_blocks.specs.Slots.{stride, value_at}
-use Rattle.thread_local_slots.specs.Shared.{name_at, Named, Turn, age, by, holds}
-use Rattle.thread_local_slots.proofs.Sent.{value_keyless, kept_keyless, row_keyless}
+use Rattle.thread_local_sharing.specs.Shared.{name_at, Named, Turn, age, by, holds}
+use Rattle.thread_local_sharing.proofs.Sent.{value_keyless, kept_keyless, row_keyless}
 use Rattle.thread_local_claims.specs.Claims.{Place, has, claim_owns, waits}
 
 waits_keyless : (looked : Bool) (table pass : GName) (id : ℕ) → Keyless (waits looked table pass id)

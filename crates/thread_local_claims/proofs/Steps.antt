@@ -11,7 +11,7 @@ use denote.RawPtr.{block_ptr, block_of, count_of}
 use Rattle.std.specs.Sync.RawAtomic.{asks, always}
 use Rattle.thread_local_rights.specs.Rights.{right_owns}
 use Rattle.thread_local_blocks.specs.Slots.{fact, flag_of, stride}
-use Rattle.thread_local_slots.specs.Shared.{name_at, Named, Turn, Standing, Who, free, claimed, first}
+use Rattle.thread_local_sharing.specs.Shared.{name_at, Named, Turn, Standing, Who, free, claimed, first}
 use Rattle.thread_local_claims.specs.Claims.{waits, IsTold}
 use Rattle.thread_local_sharing.proofs.Steps as general
 use Rattle.thread_local_claims.proofs.Moves as moves

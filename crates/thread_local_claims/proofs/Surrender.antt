@@ -12,7 +12,7 @@ use denote.RattleType.{RattleType}
 use denote.RawPtr.{Ptr, block_of, count_of}
 use Rattle.thread_local_rights.specs.Rights.{right_owns}
 use Rattle.thread_local_blocks.specs.Slots.{stride}
-use Rattle.thread_local_slots.specs.Shared.{Named, Turn, invariant}
+use Rattle.thread_local_sharing.specs.Shared.{Named, Turn, invariant}
 use Rattle.thread_local_claims.specs.Claims.{Place, IsOf, has, claim_owns, waits}
 use Rattle.thread_local_claims.proofs.Early as early
 use Rattle.thread_local_claims.proofs.Steps as steps

@@ -6,7 +6,7 @@ use Rattle.std.proofs.lemmas.List.{length-map, get_or_past}
 use mathlib.Core.Logic.{inl, inr}
 use Rattle.thread_local_model.specs.Place.{id_at}
 use Rattle.thread_local_model.specs.Owned.{Owned, IsOwned}
-use Rattle.thread_local_slots.specs.Shared.{Named}
+use Rattle.thread_local_sharing.specs.Shared.{Named}
 use Rattle.thread_local_shared.specs.Fit.{Fit}
 use Rattle.thread_local_shared.specs.Seen.{Seen, word_of, word_at, seen, AreWords}
 

@@ -17,8 +17,8 @@ use Rattle.std.specs.declared.alloc.Global.{Global}
 use Rattle.std.specs.contracts.impls.GlobalAllocator.TheImpl.{ghosts}
 use Rattle.std.proofs.GlobalToken.{dealloc_token-Testable}
 use Rattle.thread_local_blocks.specs.Slots.{heap_token, stride, block_ty, slot_ty, Fits, value_at, place, slot, along, word_owns}
-use Rattle.thread_local_slots.specs.Shared.{Named, slot_rests_as, slot_rests, slots_rest, Sized, len, at_rest}
-use Rattle.thread_local_slots.proofs.Rested.{redeems}
+use Rattle.thread_local_sharing.specs.Shared.{Named, slot_rests_as, slot_rests, slots_rest, Sized, len, at_rest}
+use Rattle.thread_local_sharing.proofs.Rested.{redeems}
 use Rattle.thread_local_shared.specs.Fit.{Fit}
 
 module _ {M : Type 1} {𝓤 : Ura M} (𝓛 : Logic 𝓤) (R : RattleType) (L : Laws R) where

@@ -25,7 +25,7 @@ use Rattle.thread_local_judged.specs.Judged.{Judged}
 use Rattle.thread_local_blocks.specs.Slots.{heap_token, word_owns}
 use Rattle.thread_local_blocks.specs.contracts.word.Word as plain
 use Rattle.thread_local_blocks.proofs.word.Word.TheLaws as plain'
-use Rattle.thread_local_slots.specs.Shared.{Named, at_rest}
+use Rattle.thread_local_sharing.specs.Shared.{Named, at_rest}
 use Rattle.thread_local_slots.specs.contracts.word.SharedWord as shared
 use Rattle.thread_local_words.specs.Rows.{seen as contents_of}
 use Rattle.thread_local_words.specs.contracts.row_of_words.RowOfWords as row_of_words

@@ -2,7 +2,7 @@
 use Rattle.std.specs.Prelude.{◌≡◌, ℕ, ◌<◌, false, List, nat_lt, slice_index_or, refl}
 use Rattle.std.specs.Coded.{Coded, coded_ℕ, coded×, code_by}
 use Rattle.thread_local_model.specs.Place.{id_at}
-use Rattle.thread_local_slots.specs.Shared.{Named}
+use Rattle.thread_local_sharing.specs.Shared.{Named}
 
 -- the name of the table, and how many of its first slots are reserved: their buckets stand
 pub record Seen : Type 0 where

@@ -1,1 +1,0 @@
-pub use Rattle.thread_local_sharing.specs.Shared

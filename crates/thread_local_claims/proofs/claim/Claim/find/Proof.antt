@@ -21,9 +21,9 @@ use Rattle.thread_local_rights.specs.Rights.{right_owns}
 use Rattle.thread_local_blocks.specs.Slots.{stride, flag_of}
 use Rattle.thread_local_blocks.specs.Slots as blocks_specs
 use Rattle.thread_local_blocks.proofs.Fields.{uncapped}
-use Rattle.thread_local_slots.specs.Shared.{Named, Turn, Standing, Sized, mark, len, invariant, row}
+use Rattle.thread_local_sharing.specs.Shared.{Named, Turn, Standing, Sized, mark, len, invariant, row}
 use Rattle.thread_local_slots.proofs.Fields.{pointer_good}
-use Rattle.thread_local_slots.proofs.Loads.{glimpse, reaches, reads}
+use Rattle.thread_local_sharing.proofs.Loads.{glimpse, reaches, reads}
 use Rattle.thread_local_claims.specs.Claims.{Place, place_of, IsOf, IsKept, IsAt, waits, has, has_slot, has_at}
 use Rattle.thread_local_claims.specs.contracts.claim.Claim as claim
 use Rattle.thread_local_claims.specs.contracts.claim.Claim.find.{ended, clauses}

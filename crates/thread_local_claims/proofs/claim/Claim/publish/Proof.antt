@@ -21,9 +21,9 @@ use Rattle.std.specs.Coded.{coded_option}
 use Rattle.thread_local_judged.specs.Judged.{Judged}
 use Rattle.thread_local_rights.specs.Rights.{right_owns}
 use Rattle.thread_local_blocks.specs.Slots.{stride, value_at, place}
-use Rattle.thread_local_slots.specs.Shared.{name_at, Named, Turn, Standing, Sized, mark, len, value_code, value_of as place_of_value, pinned, age, opened, by as lent_by, invariant}
+use Rattle.thread_local_sharing.specs.Shared.{name_at, Named, Turn, Standing, Sized, mark, len, value_code, value_of as place_of_value, pinned, age, opened, by as lent_by, invariant}
 use Rattle.thread_local_slots.proofs.Fields.{pointer_good}
-use Rattle.thread_local_slots.proofs.Rested.{publishes}
+use Rattle.thread_local_sharing.proofs.Rested.{publishes}
 use Rattle.thread_local_claims.specs.Claims.{Place, place_of, IsOf, IsKept, IsAt, has, has_slot, has_at}
 use Rattle.thread_local_claims.specs.contracts.claim.Claim as claim
 use Rattle.thread_local_claims.specs.contracts.claim.Claim.publish.{ended, clauses}
