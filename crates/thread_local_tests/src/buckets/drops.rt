@@ -12,22 +12,23 @@ use thread_local::buckets::Buckets;
 use thread_local::thread_id::Thread;
 
 struct Counted<'a> {
+    number: u32,
     drops: &'a AtomicU64,
 }
 
 impl Drop for Counted<'_> {
     fn drop(self) {
-        let Counted { drops } = self;
+        let Counted { number: _, drops } = self;
         drops.fetch_add(1, SeqCst);
     }
 }
 
-// Counted values at the ids 0, 1 and 2.
+// Counted values 0, 1 and 2, each at its own number's id.
 fn three(alloc: Global, drops: &AtomicU64) -> Buckets<Counted<'_>> {
     let mut buckets = Buckets::new(alloc);
-    for id in 0..3u32 {
+    for number in 0..3u32 {
         let _kept = buckets
-            .insert(Thread::new(id as usize), Counted { drops })
+            .insert(Thread::new(number as usize), Counted { number, drops })
             .is_ok();
     }
     buckets
@@ -37,13 +38,16 @@ fn three(alloc: Global, drops: &AtomicU64) -> Buckets<Counted<'_>> {
 fn a_table_drops_its_values(rt: HostRuntime) -> Result<(), Fail> {
     let drops = AtomicU64::new(0);
     let mut buckets = Buckets::new(rt.alloc());
-    assert!(rt;
-        buckets
-            .insert(Thread::new(1234), Counted { drops: &drops })
-            .is_ok()
-    );
+    let value = Counted {
+        number: 7,
+        drops: &drops,
+    };
+    assert!(rt; buckets.insert(Thread::new(1234), value).is_ok());
     assert_eq!(rt; buckets.slots(), 1024);
-    assert!(rt; buckets.iter_mut().next().is_some());
+    assert_eq!(rt;
+        buckets.iter_mut().next().map(|value| value.number),
+        Some(7)
+    );
     assert_eq!(rt; drops.load(SeqCst), 0);
     drop(buckets);
     assert_eq!(rt; drops.load(SeqCst), 1);
@@ -54,13 +58,19 @@ fn a_table_drops_its_values(rt: HostRuntime) -> Result<(), Fail> {
 fn a_second_value_is_dropped(rt: HostRuntime) -> Result<(), Fail> {
     let drops = AtomicU64::new(0);
     let mut buckets = Buckets::new(rt.alloc());
-    for before in [0, 1] {
-        assert!(rt;
+    for number in [0, 1u32] {
+        let value = Counted {
+            number,
+            drops: &drops,
+        };
+        assert_eq!(rt;
             buckets
-                .insert(Thread::new(0), Counted { drops: &drops })
-                .is_ok()
+                .insert(Thread::new(0), value)
+                .ok()
+                .map(|stands| stands.number),
+            Some(0)
         );
-        assert_eq!(rt; drops.load(SeqCst), before);
+        assert_eq!(rt; drops.load(SeqCst), u64::from(number));
     }
     drop(buckets);
     assert_eq!(rt; drops.load(SeqCst), 2);
@@ -87,9 +97,9 @@ fn a_walk_drops_what_it_has_not_given(rt: HostRuntime) -> Result<(), Fail> {
     let drops = AtomicU64::new(0);
     let mut walk = three(rt.alloc(), &drops).into_iter();
     let first = walk.next();
-    assert!(rt; first.is_some());
     drop(walk);
     assert_eq!(rt; drops.load(SeqCst), 2);
+    assert_eq!(rt; first.as_ref().map(|value| value.number), Some(0));
     drop(first);
     assert_eq!(rt; drops.load(SeqCst), 3);
     Ok(())

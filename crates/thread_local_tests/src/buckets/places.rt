@@ -119,7 +119,7 @@ fn a_refused_capacity_says_so(rt: HostRuntime) -> Result<(), Fail> {
 #[test]
 fn blocks_are_freed(rt: HostRuntime) -> Result<(), Fail> {
     for _ in 0..1000 {
-        let mut buckets = Buckets::<u32>::with_capacity(rt.alloc(), 1048575)?;
+        let mut buckets = Buckets::<u64>::with_capacity(rt.alloc(), 1048575)?;
         assert_eq!(rt; buckets.slots(), 1048575);
     }
     Ok(())

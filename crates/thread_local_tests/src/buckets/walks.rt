@@ -71,6 +71,19 @@ fn an_empty_table_gives_nothing(rt: HostRuntime) -> Result<(), Fail> {
     Ok(())
 }
 
+// Takes what may go to another thread.
+fn crosses<S: Send>(value: S) -> S {
+    value
+}
+
+#[test]
+fn walks_may_go_to_another_thread(rt: HostRuntime) -> Result<(), Fail> {
+    let mut buckets = crosses(three(rt.alloc(), [0, 1, 2]));
+    assert_eq!(rt; crosses(buckets.iter_mut()).len(), 3);
+    gives(&rt, &mut crosses(buckets.into_iter()), [1, 2, 3]);
+    Ok(())
+}
+
 #[test]
 fn what_a_walk_writes_stays(rt: HostRuntime) -> Result<(), Fail> {
     let mut buckets = three(rt.alloc(), [0, 1, 2]);
