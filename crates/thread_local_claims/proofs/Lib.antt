@@ -1,8 +1,2 @@
-mod Early
 mod Fields
-mod Lending
-mod Moves
 mod Names
-mod Sent
-mod Steps
-mod Surrender

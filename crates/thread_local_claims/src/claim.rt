@@ -3,7 +3,7 @@ ghost use Rattle.std.specs.Prelude.{◌≡◌, ◌<◌, ◌^◌, ℕ, Bool, true
 ghost use base.Stored.{coded_bool};
 ghost use Rattle.std.specs.Coded.{coded_option};
 ghost use Rattle.thread_local_model.specs.Place.{id_at};
-ghost use Rattle.thread_local_claims.specs.Claims.{place_of, claim_owns, claim_shares};
+ghost use Rattle.thread_local_claiming.specs.Claims.{place_of, claim_owns, claim_shares};
 
 use std::marker::{Brand, Model, PhantomData};
 use std::ptr::null;

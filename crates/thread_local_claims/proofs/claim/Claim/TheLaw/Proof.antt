@@ -12,8 +12,8 @@ use denote.Struct.Laws.{RawPtr-copy, usize-copy, bool-copy, field_copy}
 use denote.Struct.Lending.{of_Lends}
 use Rattle.std.specs.contracts.marker.PhantomData as P
 use Rattle.thread_local_claims.specs.contracts.claim.Claim as C
-use Rattle.thread_local_claims.specs.Claims.{place_of}
-use Rattle.thread_local_claims.proofs.Lending.{claim_laws, lends_claim}
+use Rattle.thread_local_claiming.specs.Claims.{place_of}
+use Rattle.thread_local_claiming.proofs.Lending.{claim_laws, lends_claim}
 use Rattle.thread_local_claims.proofs.claim.Claim.TheLaw.Statement.{statement}
 
 pub shares : (a : NamedLft) (T : RattleType) (L : Laws T) → statement a T L

@@ -6,7 +6,7 @@ use denote.Ref.{NamedLft}
 use denote.Param.Send.{IsSync, Common}
 use Rattle.thread_local_judged.specs.Judged.{Judged}
 use Rattle.thread_local_blocks.specs.Slots.{value_at}
-use Rattle.thread_local_claims.specs.Claims.{lasts, shown}
+use Rattle.thread_local_claiming.specs.Claims.{lasts, shown}
 use Rattle.thread_local_claims.specs.contracts.claim.Claim.{the_row}
 use Rattle.thread_local_claims.proofs.Fields.{Words}
 

@@ -24,12 +24,12 @@ use Rattle.thread_local_blocks.proofs.Fields.{uncapped}
 use Rattle.thread_local_sharing.specs.Shared.{Named, Turn, Standing, Sized, mark, len, invariant, row}
 use Rattle.thread_local_slots.proofs.Fields.{pointer_good}
 use Rattle.thread_local_sharing.proofs.Loads.{glimpse, reaches, reads}
-use Rattle.thread_local_claims.specs.Claims.{Place, place_of, IsOf, IsKept, IsAt, waits, has, has_slot, has_at}
+use Rattle.thread_local_claiming.specs.Claims.{Place, place_of, IsOf, IsKept, IsAt, waits, has, has_slot, has_at}
 use Rattle.thread_local_claims.specs.contracts.claim.Claim as claim
 use Rattle.thread_local_claims.specs.contracts.claim.Claim.find.{ended, clauses}
 use Rattle.thread_local_claims.specs.contracts.claim.Claim.find.Key.{name as #self}
-use Rattle.thread_local_claims.proofs.Early.{comes}
-use Rattle.thread_local_claims.proofs.Steps as steps
+use Rattle.thread_local_claiming.proofs.Early.{comes}
+use Rattle.thread_local_claiming.proofs.Steps as steps
 use Rattle.thread_local_claims.proofs.Fields.{Kept, kept_of, value_of, Words, fields_of, told, made, typed, small_product}
 use Rattle.thread_local_claims.proofs.claim.Claim.find.Statement.{statement}
 use Rattle.thread_local_claims.proofs.claim.Claim.find.Code as code

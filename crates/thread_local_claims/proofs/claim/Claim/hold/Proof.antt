@@ -18,7 +18,7 @@ use Rattle.thread_local_rights.proofs.Tokens.{token, told as right_told}
 use Rattle.thread_local_rights.proofs.right.Right.lay_down.Met as layer_met
 use Rattle.thread_local_sharing.specs.Shared.{Named, Turn}
 use Rattle.thread_local_slots.specs.contracts.word.SharedWord as word
-use Rattle.thread_local_claims.specs.Claims.{Place, place_of, IsOf, IsKept, has_at}
+use Rattle.thread_local_claiming.specs.Claims.{Place, place_of, IsOf, IsKept, has_at}
 use Rattle.thread_local_claims.specs.contracts.claim.Claim as claim
 use Rattle.thread_local_claims.specs.contracts.claim.Claim.hold.{ended, clauses}
 use Rattle.thread_local_claims.specs.contracts.claim.Claim.hold.Key.{name as #self}

@@ -14,7 +14,7 @@ use denote.Struct.Lending.{lent_out}
 use Rattle.std.specs.contracts.marker.PhantomData as marker
 use Rattle.thread_local_judged.specs.Judged.{Shareable, Judged}
 use Rattle.thread_local_blocks.specs.Slots.{value_at}
-use Rattle.thread_local_claims.specs.Claims.{place_of, lasts, shown, claim_shares}
+use Rattle.thread_local_claiming.specs.Claims.{place_of, lasts, shown, claim_shares}
 use Rattle.thread_local_claims.specs.contracts.claim.Claim as claim
 use Rattle.thread_local_claims.specs.contracts.claim.Claim.lasting.{ended, clauses}
 use Rattle.thread_local_claims.specs.contracts.claim.Claim.lasting.Key.{name as #self}

@@ -9,12 +9,12 @@ use Rattle.thread_local_rights.specs.contracts.right.Right as right
 use Rattle.thread_local_rights.specs.contracts.right.Right.take_up as taker
 use Rattle.thread_local_rights.proofs.Tokens.{token, told as right_told}
 use Rattle.thread_local_rights.proofs.right.Right.take_up.Met as taker_met
-use Rattle.thread_local_claims.specs.Claims.{place_of}
+use Rattle.thread_local_claiming.specs.Claims.{place_of}
 use Rattle.thread_local_claims.specs.contracts.claim.Claim as claim
 use Rattle.thread_local_claims.specs.contracts.claim.Claim.leave.{ended, clauses}
 use Rattle.thread_local_claims.specs.contracts.claim.Claim.leave.Key.{name as #self}
 use Rattle.thread_local_claims.proofs.Fields.{kept_of, value_of, told, typed}
-use Rattle.thread_local_claims.proofs.Surrender.{surrenders}
+use Rattle.thread_local_claiming.proofs.Surrender.{surrenders}
 use Rattle.thread_local_claims.proofs.claim.Claim.leave.Statement.{statement}
 use Rattle.thread_local_claims.proofs.claim.Claim.leave.Code as code
 

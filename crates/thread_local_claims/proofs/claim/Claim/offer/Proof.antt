@@ -36,11 +36,11 @@ use Rattle.thread_local_sharing.proofs.Loads.{glimpse, reaches}
 use Rattle.thread_local_sharing.proofs.Offers as offers
 use Rattle.thread_local_slots.proofs.Fields.{word_laws}
 use Rattle.thread_local_slots.proofs.Pairs.{both, pair_in}
-use Rattle.thread_local_claims.specs.Claims.{Place, place_of, IsOf, IsKept, IsAt, waits, has, has_slot, has_at}
+use Rattle.thread_local_claiming.specs.Claims.{Place, place_of, IsOf, IsKept, IsAt, waits, has, has_slot, has_at}
 use Rattle.thread_local_claims.specs.contracts.claim.Claim as claim
 use Rattle.thread_local_claims.specs.contracts.claim.Claim.offer.{ended, clauses}
 use Rattle.thread_local_claims.specs.contracts.claim.Claim.offer.Key.{name as #self}
-use Rattle.thread_local_claims.proofs.Steps as steps
+use Rattle.thread_local_claiming.proofs.Steps as steps
 use Rattle.thread_local_claims.proofs.Fields.{Kept, kept_of, value_of, Words, fields_of, told, made, typed, small_product}
 use Rattle.thread_local_claims.proofs.claim.Claim.offer.Statement.{statement}
 use Rattle.thread_local_claims.proofs.claim.Claim.offer.Code as code

@@ -24,11 +24,11 @@ use Rattle.thread_local_blocks.specs.Slots.{stride, value_at, place}
 use Rattle.thread_local_sharing.specs.Shared.{name_at, Named, Turn, Standing, Sized, mark, len, value_code, value_of as place_of_value, pinned, age, opened, by as lent_by, invariant}
 use Rattle.thread_local_slots.proofs.Fields.{pointer_good}
 use Rattle.thread_local_sharing.proofs.Rested.{publishes}
-use Rattle.thread_local_claims.specs.Claims.{Place, place_of, IsOf, IsKept, IsAt, has, has_slot, has_at}
+use Rattle.thread_local_claiming.specs.Claims.{Place, place_of, IsOf, IsKept, IsAt, has, has_slot, has_at}
 use Rattle.thread_local_claims.specs.contracts.claim.Claim as claim
 use Rattle.thread_local_claims.specs.contracts.claim.Claim.publish.{ended, clauses}
 use Rattle.thread_local_claims.specs.contracts.claim.Claim.publish.Key.{name as #self}
-use Rattle.thread_local_claims.proofs.Steps as steps
+use Rattle.thread_local_claiming.proofs.Steps as steps
 use Rattle.thread_local_claims.proofs.Fields.{Kept, kept_of, value_of, Words, fields_of, told, made, typed}
 use Rattle.thread_local_claims.proofs.claim.Claim.publish.Statement.{statement}
 use Rattle.thread_local_claims.proofs.claim.Claim.publish.Code as code

@@ -8,7 +8,7 @@ use denote.Memory.{hidden_shr}
 use denote.Ref.{ShrRef}
 use denote.Struct.Lending.{lent_out}
 use Rattle.std.specs.contracts.marker.PhantomData as marker
-use Rattle.thread_local_claims.specs.Claims.{place_of, claim_shares}
+use Rattle.thread_local_claiming.specs.Claims.{place_of, claim_shares}
 use Rattle.thread_local_claims.specs.contracts.claim.Claim as claim
 use Rattle.thread_local_claims.specs.contracts.claim.Claim.stands.{ended, clauses}
 use Rattle.thread_local_claims.specs.contracts.claim.Claim.stands.Key.{name as #self}

@@ -10,7 +10,7 @@ use denote.SharingLaws.{shortens}
 use denote.Struct.Lending.{lent_out}
 use Rattle.std.specs.contracts.marker.PhantomData as marker
 use Rattle.thread_local_blocks.specs.Slots.{value_at}
-use Rattle.thread_local_claims.specs.Claims.{place_of, shown, claim_shares}
+use Rattle.thread_local_claiming.specs.Claims.{place_of, shown, claim_shares}
 use Rattle.thread_local_claims.specs.contracts.claim.Claim as claim
 use Rattle.thread_local_claims.specs.contracts.claim.Claim.value.{ended, clauses}
 use Rattle.thread_local_claims.specs.contracts.claim.Claim.value.Key.{name as #self}

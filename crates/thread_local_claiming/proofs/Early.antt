@@ -12,9 +12,9 @@ use Rattle.thread_local_rights.specs.Rights.{right_owns}
 use Rattle.thread_local_rights.proofs.Elements.{right_once}
 use Rattle.thread_local_blocks.specs.Slots.{stride}
 use Rattle.thread_local_sharing.specs.Shared.{name_at, Named, Turn, Standing, Who, free, unborn, all_unborn, waiting, len, first, Sized, pending, standing, beside_pointer, invariant}
-use Rattle.thread_local_claims.specs.Claims.{waits}
+use Rattle.thread_local_claiming.specs.Claims.{waits}
 use Rattle.thread_local_sharing.proofs.Inside.{in_block, quietly}
-use Rattle.thread_local_claims.proofs.Moves as moves
+use Rattle.thread_local_claiming.proofs.Moves as moves
 use Rattle.thread_local_sharing.proofs.Steps as steps
 
 module _ {M : Type 1} {𝓤 : Ura M} (𝓛 : Logic 𝓤) (R : RattleType) where

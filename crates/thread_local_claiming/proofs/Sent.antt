@@ -11,7 +11,7 @@ use Rattle.thread_local_rights.proofs.Elements.{right_keyless}
 use Rattle.thread_local_blocks.specs.Slots.{stride, value_at}
 use Rattle.thread_local_sharing.specs.Shared.{name_at, Named, Turn, age, by, holds}
 use Rattle.thread_local_sharing.proofs.Sent.{value_keyless, kept_keyless, row_keyless}
-use Rattle.thread_local_claims.specs.Claims.{Place, has, claim_owns, waits}
+use Rattle.thread_local_claiming.specs.Claims.{Place, has, claim_owns, waits}
 
 waits_keyless : (looked : Bool) (table pass : GName) (id : ℕ) → Keyless (waits looked table pass id)
 waits_keyless false table pass id = right_keyless table id

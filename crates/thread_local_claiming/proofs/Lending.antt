@@ -29,7 +29,7 @@ use Rattle.thread_local_rights.specs.Rights.{right_owns}
 use Rattle.thread_local_blocks.specs.Slots.{fact, stride, value_at, place}
 use Rattle.thread_local_sharing.specs.Shared.{name_at, Named, Turn, Standing, value_code, pinned, value_of, age, kept, row}
 use Rattle.thread_local_sharing.specs.Shared as slots
-use Rattle.thread_local_claims.specs.Claims.{Place, IsAt, has_slot, has, IsKept, IsOf, has_at, claim_owns, lasts, shown, claim_shares}
+use Rattle.thread_local_claiming.specs.Claims.{Place, IsAt, has_slot, has, IsKept, IsOf, has_at, claim_owns, lasts, shown, claim_shares}
 
 lasts_laws : (β : Lft) (R : RattleType) → RowLaws R → (b e : ℕ) (x : R.Denot) (j : Judged R) → ShrLaws (lasts R β b e x j)
 lasts_laws β R L b e x (inl j) = held_shr_laws β (shared_of R x b e) (L x b e)

@@ -12,9 +12,9 @@ use Rattle.std.specs.Sync.RawAtomic.{asks, always}
 use Rattle.thread_local_rights.specs.Rights.{right_owns}
 use Rattle.thread_local_blocks.specs.Slots.{fact, flag_of, stride}
 use Rattle.thread_local_sharing.specs.Shared.{name_at, Named, Turn, Standing, Who, free, claimed, first}
-use Rattle.thread_local_claims.specs.Claims.{waits, IsTold}
+use Rattle.thread_local_claiming.specs.Claims.{waits, IsTold}
 use Rattle.thread_local_sharing.proofs.Steps as general
-use Rattle.thread_local_claims.proofs.Moves as moves
+use Rattle.thread_local_claiming.proofs.Moves as moves
 
 module _ {M : Type 1} {𝓤 : Ura M} (𝓛 : Logic 𝓤) (R : RattleType) (d : Named) (t : Turn) (wb wo : ℕ) (s : Standing) (i k e b : ℕ) (low : i < length s.names) (at_k : k ≡ i + first R d) (at_e : e ≡ i * stride R + count_of s.at) (at_b : block_of s.at ≡ b) where
   open 𝓛 use {H, A}

@@ -13,9 +13,9 @@ use denote.RawPtr.{Ptr, block_of, count_of}
 use Rattle.thread_local_rights.specs.Rights.{right_owns}
 use Rattle.thread_local_blocks.specs.Slots.{stride}
 use Rattle.thread_local_sharing.specs.Shared.{Named, Turn, invariant}
-use Rattle.thread_local_claims.specs.Claims.{Place, IsOf, has, claim_owns, waits}
-use Rattle.thread_local_claims.proofs.Early as early
-use Rattle.thread_local_claims.proofs.Steps as steps
+use Rattle.thread_local_claiming.specs.Claims.{Place, IsOf, has, claim_owns, waits}
+use Rattle.thread_local_claiming.proofs.Early as early
+use Rattle.thread_local_claiming.proofs.Steps as steps
 
 module _ {M : Type 1} {𝓤 : Ura M} (𝓛 : Logic 𝓤) (R : RattleType) (β : Lft) (w : Ptr) (table : ℕ) (c : Place) (v : Option R.Denot) where
   open 𝓛 use {H, A}

@@ -1,0 +1,6 @@
+pub mod Early
+pub mod Lending
+pub mod Moves
+pub mod Sent
+pub mod Steps
+pub mod Surrender
