@@ -28,17 +28,16 @@ pub fn publish<T: Drop>(shared: &Shared<T>, held: HeldId, alloc: Global, value: 
     ensures right { (result.0.right.table ≡ shared.now.table) × (result.0.id ≡ held.id) }
 {
     let id = held.id;
-    let bucket = Thread::new(id).bucket;
     let claim = claim(shared, held);
     if claim.stands() {
         return publish_claimed(claim, id, value);
     }
-    let Ok(private) = Private::new(alloc, bucket) else {
+    let Ok(private) = Private::new(alloc, Thread::new(id).bucket) else {
         let right = claim.leave();
         return (HeldId { id, right }, false);
     };
-    shared.install(bucket, private);
-    publish_claimed(claim.again(), id, value)
+    let right = claim.install(private).publish(value).leave();
+    (HeldId { id, right }, true)
 }
 
 /// Publishes a value in a slot that stands and is empty, and answers whether it did.

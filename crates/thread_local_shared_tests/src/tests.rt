@@ -1,7 +1,7 @@
 ghost use Rattle.std.specs.Prelude.{◌≡◌, ◌-◌, ◌^◌, ◌<◌};
 ghost use Rattle.thread_local_judged.specs.Judged.{Judged};
 
-use crate::steps::{claim, publish};
+use crate::steps::{claim, publish, publish_claimed};
 use std::alloc::{AllocError, Global};
 use std::cell::{Cell, RefCell};
 use std::sync::atomic::AtomicU64;
@@ -150,6 +150,34 @@ fn the_second_of_two_blocks_gives_way(rt: HostRuntime) -> Result<(), Fail> {
     assert_eq!(rt; values.next(), Some(1));
     assert_eq!(rt; values.next(), Some(2));
     assert_eq!(rt; values.next(), None);
+    Ok(())
+}
+
+/// Claims an id before its bucket stands, and publishes a value once another has installed it. Answers whether it did.
+fn publish_late(shared: &Shared<u32>, held: HeldId, private: Private<u32>, value: u32) -> bool
+    requires table { held.right.table ≡ shared.now.table }
+    requires in_range { held.id < 2 ^ 63 - 1 }
+    requires fits { private ≡ 1 }
+{
+    let id = held.id;
+    let early = claim(shared, held);
+    if early.stands() {
+        early.leave();
+        return false;
+    }
+    install(shared, private);
+    publish_claimed(early.again(), id, value).1
+}
+
+#[test]
+fn an_early_claim_finds_its_bucket_later(rt: HostRuntime) -> Result<(), Fail> {
+    let mut ids = Ids::new(rt.alloc());
+    let shared = Shared::new(Buckets::new(rt.alloc()), ids.rights());
+    let _first = ids.take()?;
+    let second = ids.take()?;
+    let private = Private::new(rt.alloc(), 1)?;
+    assert!(rt; publish_late(&shared, second, private, 5));
+    assert_eq!(rt; look(&shared, 1), Some(5));
     Ok(())
 }
 
