@@ -11,6 +11,10 @@ use Rattle.std.specs.declared.alloc.Allocator.{Ghosts}
 use Rattle.thread_local_blocks.specs.Slots.{slot_ty, stride, block_ty}
 use Rattle.thread_local_blocks.specs.contracts.block.Block as block
 
+pub ptr_good : (p : Ptr) → T (has_ty ty_ptr (ptr_val p)) × WT (ptr_val p)
+ptr_good (block_ptr b o) = (tt, tt)
+ptr_good null_ptr = (tt, record { fits = lit< tt })
+
 abbrev pub block_val : Ptr → Val
 block_val p = vstruct (vcons (ptr_val p) (vcons (vstruct vnil) vnil))
 

@@ -1,4 +1,4 @@
--- A block, and a word with its block, may go to another thread where their values may.
+-- A block may go to another thread where its values may.
 use Rattle.std.proofs.Common.{ℕ, List, [], ◌∷◌}
 use Rattle.std.specs.Prelude.{Option, Some, None}
 use mir.Syntax.{Ty}
@@ -9,7 +9,7 @@ use denote.RattleType.{RattleType}
 use denote.RawPtr.{Ptr}
 use denote.Param.Send.{IsSend, part_keyless}
 use Rattle.std.proofs.Crossing.{frees}
-use Rattle.thread_local_blocks.specs.Slots.{heap_token, place, slot, along, block_owns, word_owns}
+use Rattle.thread_local_blocks.specs.Slots.{heap_token, place, slot, along, block_owns}
 
 pub token_keyless : (τ : Ty) (p : Ptr) → Keyless (heap_token τ p)
 token_keyless τ p = λ a. frees.frees a τ p
@@ -28,7 +28,3 @@ module _ (R : RattleType) (s : IsSend R) where
 
   pub block_keyless : (token : Ty → Ptr → Fml) → ((τ : Ty) (p : Ptr) → Keyless (token τ p)) → (p : Ptr) (cs : List (Option R.Denot)) (left : ℕ) → Keyless (block_owns R token p cs left)
   block_keyless token freed p cs left = ((λ _. tt), (along_keyless (slot R _) (slot_keyless _) cs _, (tt, freed _ p)))
-
-  pub word_keyless : (p : Ptr) (cs : List (Option R.Denot)) → Keyless (word_owns R heap_token p cs)
-  word_keyless p [] = λ _. tt
-  word_keyless p (c ∷ cs) = block_keyless heap_token token_keyless p (c ∷ cs) 0

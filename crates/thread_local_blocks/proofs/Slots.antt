@@ -1,9 +1,22 @@
 -- A slot among the others of its block, and a block that is made or taken apart. Assumes `Logic`.
-use Rattle.thread_local_blocks.proofs.Names.{◌≡◌, ℕ, zero, suc, ◌+◌, ◌*◌, ◌^◌, ◌<◌, ◌≤◌, List, [], ◌∷◌, ◌++◌, length, length-append, length-set, set, refl, sym, ap, ◌∙◌, subst, arith, w64, mul-le-mul_right, suc-mul, zero-mul, Option, None, Ura, Ty, ty_int, ty_array, tcons, tnil, bare, vint, SProp, ent, sep, wand, all, all_e, guard, apply∗, Fml, ftrue, fsep, froom, Logic, sem, ‵, raw, ◌⊛◌, ◌$◌, ◌∵◌, !, qed, by, move, drop, split, fsplit, fsplit3, fjoin, fjoin3, fpick, fpack, check, frame, each, assume, use0, use1, use2, rewrite, done, RattleType, Ptr, block_ptr, block_of, count_of, InBlock, lone, nothing, word}
-use Rattle.std.proofs.lemmas.List.{length-replicate}
+use Rattle.thread_local_blocks.proofs.Names.{◌≡◌, ℕ, zero, suc, ◌+◌, ◌*◌, ◌^◌, ◌<◌, ◌≤◌, List, [], ◌∷◌, ◌++◌, length, length-append, length-set, set, refl, sym, ap, ◌∙◌, subst, lit<, arith, w64, mul-le-mul_right, suc-mul, zero-mul, Option, Some, None, Ura, Ty, ty_int, ty_array, tcons, tnil, bare, vint, SProp, ent, sep, wand, all, all_e, guard, apply∗, Fml, ftrue, fsep, froom, Logic, sem, ‵, raw, ◌⊛◌, ◌$◌, ◌∵◌, !, qed, by, move, drop, split, fsplit, fsplit3, fjoin, fjoin3, fpick, fpack, check, frame, each, assume, use1, use2, rewrite, done, RattleType, Ptr, block_ptr, block_of, count_of, InBlock, lone, nothing, word}
+use Rattle.std.specs.Prelude.{not, is_some, IsSome}
+use Rattle.std.proofs.Common.{true≢false}
 use prog.Memory.{size, up}
 use prog.RawLaws.{size-raw, align-raw}
-use Rattle.thread_local_blocks.specs.Slots.{empty_slots, slot_at, slot_ty, stride, block_ty, Fits, rooms, rim, slot, along, block_owns}
+use Rattle.thread_local_blocks.specs.Slots.{flag_of, slot_at, slot_ty, stride, block_ty, Fits, rooms, rim, slot, along, block_owns}
+
+pub flag_fits : {X : Type 0} (c : Option X) → flag_of c < 2 ^ 64
+flag_fits None = lit< tt
+flag_fits (Some x) = lit< tt
+
+pub flag_told : {X : Type 0} (c : Option X) → not (lib.Dec.eqb (flag_of c) 0) ≡ is_some c
+flag_told None = refl
+flag_told (Some x) = refl
+
+pub value_of : {X : Type 0} (c : Option X) → IsSome c → (x : X) × (c ≡ Some x)
+value_of None i = absurd (true≢false (sym i))
+value_of (Some x) i = (x, refl)
 
 module _ {M : Type 1} {𝓤 : Ura M} (𝓛 : Logic 𝓤) (R : RattleType) where
   open 𝓛 use {H}
@@ -63,13 +76,6 @@ module _ {M : Type 1} {𝓤 : Ura M} (𝓛 : Logic 𝓤) (R : RattleType) where
     along_more [] c e e' is = let z = zero-mul s in let same : e' ≡ e = omega arith in qed 𝓛 (‵ ftrue ∷ ‵ (G c e') ∷ []) ∵ rewrite ! 1 (λ (i : ℕ). ‵ (G c i)) same refl $ move ! (1 ∷ 0 ∷ []) $ done !
     along_more (h ∷ cs) c e e' is = let z = suc-mul (length cs) s in qed 𝓛 (‵ (along R G (h ∷ cs) e) ∷ ‵ (G c e') ∷ []) ∵ fsplit ! $ frame ! $ by ! (along_more cs c (e + s) e' (omega arith))
 
-  -- empty slots, side by side, are room for as many
-  along_rooms : (b n e : ℕ) → ⟦ along R (slot R b) (empty_slots n) e ⟧ ⊢ H.room (ty_array τ n) b e
-  along_rooms b zero e = qed 𝓛 (‵ ftrue ∷ []) ∵ drop ! $ use0 𝓛 (‵ (froom (ty_array τ 0) b e)) (𝓛.laws.room_nil τ b e) $ done !
-  along_rooms b (suc n) e = let next : e + s ≡ e + size τ = ap (λ (z : ℕ). e + z) (sym (size-raw (slot_ty R))) in
-      qed 𝓛 (‵ (slot R b None e) ∷ ‵ (along R (slot R b) (empty_slots n) (e + s)) ∷ []) ∵ use1 𝓛 (‵ (froom τ b e)) (vacates b e) $ move ! (1 ∷ []) $ use1 𝓛 (‵ (froom (ty_array τ n) b (e + s))) (along_rooms b n (e + s)) $
-      rewrite ! 0 (λ (i : ℕ). ‵ (froom (ty_array τ n) b i)) next refl $ move ! (1 ∷ 0 ∷ []) $ by ! (𝓛.laws.room_cons τ n b e)
-
   pub within : (i n : ℕ) → i ≤ n → Fits R n → i * s < 2 ^ 63
   within i n le fits = let a : i * s ≤ n * s = mul-le-mul_right s le in omega arith
 
@@ -96,7 +102,7 @@ module _ {M : Type 1} {𝓤 : Ura M} (𝓛 : Logic 𝓤) (R : RattleType) where
     slot_back p cs left j c = qed 𝓛 (‵ (slot R (block_of p) c (j * s + count_of p)) ∷ raw (all 𝓤 (Back p cs left j)) ∷ []) ∵ move ! (1 ∷ []) $ use1 𝓛 (raw (Back p cs left j c)) (all_e 𝓤 (Back p cs left j) c) $ move ! (1 ∷ 0 ∷ []) $
         by ! (apply∗ 𝓤 ⟦ slot R (block_of p) c (j * s + count_of p) ⟧ ⟦ Owns p (set cs j c) left ⟧)
 
-    -- ---- a block that is made, slot by slot, and one that is freed
+    -- ---- a block that is made, slot by slot
     pub fresh : (b o n : ℕ) → Fits R n → H.room (block_ty R n) b o ∗ ⟦ token (block_ty R n) (block_ptr b o) ⟧ ⊢ ⟦ Owns (block_ptr b o) [] n ⟧
     fresh b o n fits = let p : Ptr = block_ptr b o in let z = zero-mul s in let same : n ≡ 0 + n = omega arith in
         qed 𝓛 (‵ (froom (ty_array τ n) b o) ∷ ‵ (token (block_ty R n) p) ∷ []) ∵ rewrite ! 0 (λ (i : ℕ). ‵ (froom (ty_array τ n) b i)) (let r : o ≡ 0 * s + o = omega arith in r) refl $
@@ -116,9 +122,3 @@ module _ {M : Type 1} {𝓤 : Ura M} (𝓛 : Logic 𝓤) (R : RattleType) where
         assume ! (‵ (word b (e + 0) 0)) $ move ! (0 ∷ 1 ∷ 3 ∷ []) $ fjoin3 ! $ move ! (4 ∷ 0 ∷ []) $
         use2 𝓛 (‵ (along R (slot R b) (cs ++ None ∷ []) o)) (along_more (slot R b) cs None o e is) $ move ! (2 ∷ []) $ rewrite ! 0 (λ (i : ℕ). ‵ (froom (ty_array τ left) b i)) next refl $ move ! (3 ∷ []) $ rewrite ! 0 (λ (z : ℕ). ‵ (token (block_ty R z) p)) same refl $
         move ! (3 ∷ 2 ∷ 1 ∷ 0 ∷ []) $ drop ! $ fjoin3 ! $ nothing ! $ fpack ! (InBlock p × Fits R (m + left)) (λ _. ftrue) (so.0, subst (Fits R) same so.1) $ done !)
-
-    -- a block whose slots are all empty is room, with the right to free it
-    pub gathers : (b o n : ℕ) → ⟦ Owns (block_ptr b o) (empty_slots n) 0 ⟧ ⊢ guard 𝓤 (Fits R n) (H.room (block_ty R n) b o ∗ ⟦ token (block_ty R n) (block_ptr b o) ⟧)
-    gathers b o n = let p : Ptr = block_ptr b o in let same : length (empty_slots {X = R.Denot} n) + 0 ≡ n = (let r = length-replicate {A = Option R.Denot} n None in omega arith) in
-        qed 𝓛 (‵ (Owns p (empty_slots n) 0) ∷ []) ∵ fsplit3 ! $ fpick ! (λ so. drop ! $ check ! (subst (Fits R) same so.1) $ use1 𝓛 (‵ (froom (ty_array τ n) b o)) (along_rooms b n o) $
-        move ! (1 ∷ []) $ fsplit ! $ drop ! $ rewrite ! 0 (λ (m : ℕ). ‵ (token (block_ty R m) p)) same refl $ move ! (1 ∷ 0 ∷ []) $ done !)

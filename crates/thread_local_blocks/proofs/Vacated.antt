@@ -1,6 +1,7 @@
 -- A block whose slots are given up, from the first on. Assumes `Logic`.
-use Rattle.thread_local_blocks.proofs.Names.{◌≡◌, ℕ, Bool, zero, suc, ◌+◌, ◌*◌, ◌^◌, ◌<◌, List, [], ◌∷◌, ◌++◌, length, refl, ap, ◌∙◌, subst, arith, w64, suc-mul, zero-mul, Option, Some, None, Ura, Ty, ty_int, ty_array, bare, vint, Val, SProp, ent, emp, sep, guard, apply∗, Fml, ftrue, fsep, froom, Logic, sem, ‵, ◌⊛◌, ◌$◌, ◌∵◌, !, qed, by, move, drop, split, fsplit, fsplit3, fjoin, fjoin3, fpick, fpack, check, frame, use0, use1, use2, rewrite, done, RattleType, Is, Ptr, block_ptr, block_of, count_of, InBlock, ptr_val, nothing, lone, word, vstruct, vnil, of_list}
-use Rattle.std.specs.Prelude.{not, if◌then◌else◌}
+use Rattle.thread_local_blocks.proofs.Names.{◌≡◌, ℕ, Bool, zero, suc, ◌+◌, ◌*◌, ◌^◌, ◌<◌, List, [], ◌∷◌, ◌++◌, length, sym, refl, ap, ◌∙◌, subst, arith, w64, suc-mul, zero-mul, Option, Some, None, Ura, Ty, ty_int, ty_array, bare, vint, Val, SProp, ent, emp, sep, guard, apply∗, Fml, ftrue, fsep, froom, Logic, sem, ‵, ◌⊛◌, given, learn, ◌$◌, ◌∵◌, !, qed, by, move, drop, split, fsplit, fsplit3, fjoin, fjoin3, fpick, fpack, check, frame, use0, use1, use2, rewrite, done, RattleType, Is, Ptr, block_ptr, block_of, count_of, InBlock, ptr_val, nothing, lone, word, vstruct, vnil, of_list}
+use Rattle.std.specs.Prelude.{not, take, drop as but_first, if◌then◌else◌}
+use Rattle.std.proofs.lemmas.List.{take-append-drop}
 use lib.Dec.{eqb}
 use prog.Memory.{size}
 use prog.RawLaws.{size-raw}
@@ -8,7 +9,7 @@ use denote.Shadow.{makes_shadow}
 use denote.Struct.Struct.{Struct}
 use denote.Struct.Owning.{shape}
 use Rattle.std.specs.declared.alloc.Allocator.{Ghosts}
-use Rattle.thread_local_blocks.specs.Slots.{fact, flag_of, slot_at, slot_ty, stride, block_ty, value_at, Fits, rooms, rim, slot, along, block_owns}
+use Rattle.thread_local_blocks.specs.Slots.{fact, flag_of, empty_slots, slot_at, slot_ty, stride, block_ty, value_at, Fits, rooms, rim, slot, along, block_owns}
 use Rattle.thread_local_blocks.specs.Vacated.{leaving_owns, rest}
 use Rattle.thread_local_blocks.specs.contracts.leaving.Leaving as leaving
 use Rattle.thread_local_blocks.proofs.Fields.{block_val}
@@ -72,13 +73,6 @@ module _ {M : Type 1} {𝓤 : Ura M} (𝓛 : Logic 𝓤) (R : RattleType) where
     Others p k cs = fsep (fact (InBlock p × Fits R (k + length cs))) (fsep (froom (ty_array τ k) (block_of p) (count_of p))
         (fsep (along R (slot R (block_of p)) (rest cs) (k * s + count_of p + s)) (token (block_ty R (k + length cs)) p)))
 
-    -- a whole block
-    pub starts : (p : Ptr) (cs : List C) → ⟦ block_owns R token p cs 0 ⟧ ⊢ ⟦ Owns p 0 cs ⟧
-    starts p cs = let b : ℕ = block_of p in let o : ℕ = count_of p in let z = zero-mul s in let long : length cs + 0 ≡ 0 + length cs = omega arith in
-        qed 𝓛 (‵ (block_owns R token p cs 0) ∷ []) ∵ fsplit3 ! $ fpick ! (λ so. drop ! $ move ! (1 ∷ []) $ fsplit ! $ drop ! $ rewrite ! 0 (λ (m : ℕ). ‵ (token (block_ty R m) p)) long refl $ move ! (1 ∷ 0 ∷ []) $
-        rewrite ! 0 (λ (i : ℕ). ‵ (along R (slot R b) cs i)) (let r : o ≡ 0 * s + o = omega arith in r) refl $ use0 𝓛 (‵ (froom (ty_array τ 0) b o)) (𝓛.laws.room_nil τ b o) $ fjoin3 ! $
-        nothing ! $ fpack ! (InBlock p × Fits R (0 + length cs)) (λ _. ftrue) (so.0, subst (Fits R) long so.1) $ done !)
-
     -- the next slot, and the others
     pub next_slot : (p : Ptr) (k : ℕ) (cs : List C) → 0 < length cs
         → ⟦ Owns p k cs ⟧ ⊢ guard 𝓤 (InBlock p × (k * s < 2 ^ 63)) (⟦ slot R (block_of p) (slot_at cs 0) (k * s + count_of p) ⟧ ∗ ⟦ Others p k cs ⟧)
@@ -112,6 +106,25 @@ module _ {M : Type 1} {𝓤 : Ura M} (𝓛 : Logic 𝓤) (R : RattleType) where
     looked p k (None ∷ cs) near = qed 𝓛 (‵ (slot R (block_of p) None (k * s + count_of p)) ∷ ‵ (Others p k (None ∷ cs)) ∷ []) ∵ use1 𝓛 (‵ (froom τ (block_of p) (k * s + count_of p))) (vacates 𝓛 R (block_of p) (k * s + count_of p)) $
         by ! (passes p k (None ∷ cs) near)
     looked p k (Some x ∷ cs) near = stays p k (Some x ∷ cs) near
+
+    -- a whole block
+    starts : (p : Ptr) (cs : List C) → ⟦ block_owns R token p cs 0 ⟧ ⊢ ⟦ Owns p 0 cs ⟧
+    starts p cs = let b : ℕ = block_of p in let o : ℕ = count_of p in let z = zero-mul s in let long : length cs + 0 ≡ 0 + length cs = omega arith in
+        qed 𝓛 (‵ (block_owns R token p cs 0) ∷ []) ∵ fsplit3 ! $ fpick ! (λ so. drop ! $ move ! (1 ∷ []) $ fsplit ! $ drop ! $ rewrite ! 0 (λ (m : ℕ). ‵ (token (block_ty R m) p)) long refl $ move ! (1 ∷ 0 ∷ []) $
+        rewrite ! 0 (λ (i : ℕ). ‵ (along R (slot R b) cs i)) (let r : o ≡ 0 * s + o = omega arith in r) refl $ use0 𝓛 (‵ (froom (ty_array τ 0) b o)) (𝓛.laws.room_nil τ b o) $ fjoin3 ! $
+        nothing ! $ fpack ! (InBlock p × Fits R (0 + length cs)) (λ _. ftrue) (so.0, subst (Fits R) long so.1) $ done !)
+
+    -- and the first slots, which are empty, are given up
+    gives_up : (p : Ptr) (k n : ℕ) (cs : List C) → ⟦ Owns p k (empty_slots n ++ cs) ⟧ ⊢ ⟦ Owns p (k + n) cs ⟧
+    gives_up p k zero cs = let same : k ≡ k + 0 = omega arith in qed 𝓛 (‵ (Owns p k cs) ∷ []) ∵ rewrite ! 0 (λ (m : ℕ). ‵ (Owns p m cs)) same refl $ done !
+    gives_up p k (suc n) cs = let b : ℕ = block_of p in let e : ℕ = k * s + count_of p in let ds : List C = None ∷ (empty_slots n ++ cs) in let near : 0 < length ds = omega arith in let same : k + 1 + n ≡ k + suc n = omega arith in
+        qed 𝓛 (‵ (Owns p k ds) ∷ []) ∵ use1 𝓛 (given (InBlock p × (k * s < 2 ^ 63)) (‵ (slot R b None e) ⊛ ‵ (Others p k ds))) (next_slot p k ds near) $ learn ! (λ so. split ! $
+        use2 𝓛 (‵ (Owns p (k + 1) (empty_slots n ++ cs))) (looked p k ds near) $ use1 𝓛 (‵ (Owns p (k + 1 + n) cs)) (gives_up p (k + 1) n cs) $ rewrite ! 0 (λ (m : ℕ). ‵ (Owns p m cs)) same refl $ done !)
+
+    pub starts_at : (p : Ptr) (n : ℕ) (cs : List C) → take n cs ≡ empty_slots n → ⟦ block_owns R token p cs 0 ⟧ ⊢ ⟦ Owns p n (but_first n cs) ⟧
+    starts_at p n cs empty = let same : 0 + n ≡ n = omega arith in let parts : cs ≡ empty_slots n ++ but_first n cs = sym (take-append-drop n cs) ∙ ap (λ (fs : List C). fs ++ but_first n cs) empty in
+        qed 𝓛 (‵ (block_owns R token p cs 0) ∷ []) ∵ use1 𝓛 (‵ (Owns p 0 cs)) (starts p cs) $ rewrite ! 0 (λ (fs : List C). ‵ (Owns p 0 fs)) parts refl $
+        use1 𝓛 (‵ (Owns p (0 + n) (but_first n cs))) (gives_up p 0 n (but_first n cs)) $ rewrite ! 0 (λ (m : ℕ). ‵ (Owns p m (but_first n cs))) same refl $ done !
 
     -- all slots are given up
     pub all_gone : (b o n : ℕ) → ⟦ Owns (block_ptr b o) n [] ⟧ ⊢ guard 𝓤 (Fits R n) (H.room (block_ty R n) b o ∗ ⟦ token (block_ty R n) (block_ptr b o) ⟧)

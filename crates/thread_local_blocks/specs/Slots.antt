@@ -1,7 +1,7 @@
--- What a slot, a block of slots and a word own.
+-- What a slot and a block of slots own.
 -- A slot is a flag and room for a value: the flag is 0 where nothing lies there, and 1 where a value does. A block is slots side by side,
--- with the right to free it. A word is null, or leads to a block.
-use Rattle.std.specs.Prelude.{◌≡◌, ℕ, ◌+◌, ◌*◌, ◌^◌, ◌<◌, List, [], ◌∷◌, length, replicate, Option, Some, None, slice_index_or}
+-- with the right to free it.
+use Rattle.std.specs.Prelude.{ℕ, ◌+◌, ◌*◌, ◌^◌, ◌<◌, List, [], ◌∷◌, length, replicate, Option, Some, None, slice_index_or}
 use base.Fraction.{full_share}
 use base.Fml.{Fml, ftrue, fsep, fex, fwand, froom}
 use mir.Syntax.{Ty, w64, ty_int, ty_array, ty_struct, tcons, tnil}
@@ -9,7 +9,7 @@ use mir.Raw.{raw}
 use prog.Memory.{up, align, size}
 use denote.RattleType.{RattleType}
 use denote.Memory.{lone, part_at}
-use denote.RawPtr.{Ptr, null_ptr, block_of, count_of, InBlock}
+use denote.RawPtr.{Ptr, block_of, count_of, InBlock}
 use Rattle.std.specs.Sync.RawAtomic.{word}
 use Rattle.std.specs.declared.alloc.Global.{Global}
 use Rattle.std.specs.contracts.impls.GlobalAllocator.TheImpl.{ghosts}
@@ -77,13 +77,7 @@ module _ (R : RattleType) where
   along F [] e = ftrue
   along F (c ∷ cs) e = fsep (F c e) (along F cs (e + stride))
 
-  module _ (token : Ty → Ptr → Fml) where
-    -- a block at a place: its first slots, room for `left` more, and the right to free it
-    abbrev pub block_owns : Ptr → List (Option R.Denot) → ℕ → Fml
-    block_owns p cs left = fsep (fact (InBlock p × Fits (length cs + left))) (fsep (along (slot (block_of p)) cs (count_of p))
-        (fsep (froom (ty_array (raw slot_ty) left) (block_of p) (length cs * stride + count_of p)) (token (block_ty (length cs + left)) p)))
-
-    -- a word that leads to this place: null where there are no slots, and else a block of these
-    abbrev pub word_owns : Ptr → List (Option R.Denot) → Fml
-    word_owns p [] = fact (p ≡ null_ptr)
-    word_owns p (c ∷ cs) = block_owns p (c ∷ cs) 0
+  -- a block at a place: its first slots, room for `left` more, and the right to free it
+  abbrev pub block_owns : (Ty → Ptr → Fml) → Ptr → List (Option R.Denot) → ℕ → Fml
+  block_owns token p cs left = fsep (fact (InBlock p × Fits (length cs + left))) (fsep (along (slot (block_of p)) cs (count_of p))
+      (fsep (froom (ty_array (raw slot_ty) left) (block_of p) (length cs * stride + count_of p)) (token (block_ty (length cs + left)) p)))

@@ -4,6 +4,7 @@ ghost use base.Stored.{coded_list};
 ghost use Rattle.std.specs.Coded.{coded_option};
 ghost use Rattle.thread_local_blocks.specs.Slots.{block_owns, Fits, empty_slots};
 
+use crate::leaving::Leaving;
 use crate::slot::{Slot, fits};
 use std::alloc::{AllocError, Allocator};
 use std::marker::{Model, PhantomData};
@@ -69,14 +70,7 @@ impl<T, A: Allocator> Block<T, A> {
     pub fn release(self, alloc: &A, len: usize)
         requires { (self.heap ≡ alloc.now) × (self.slots ≡ empty_slots len) × (self.left ≡ 0) }
     {
-        let Self { at, marker: _ } = self;
-        unsafe {
-            alloc.deallocate(
-                at as *mut u8,
-                len * size_of::<Slot<T>>(),
-                align_of::<Slot<T>>(),
-            );
-        }
+        Leaving::of(self, len).free(alloc, len);
     }
 }
 

@@ -1,8 +1,8 @@
 //! A block that is given up, slot by slot.
-ghost use Rattle.std.specs.Prelude.{◌≡◌, ℕ, ◌+◌, ◌<◌, List, [], length, Option, Some, is_some, IsSome, if◌then◌else◌};
+ghost use Rattle.std.specs.Prelude.{◌≡◌, ℕ, ◌+◌, ◌<◌, List, [], length, take, drop, Option, Some, is_some, IsSome, if◌then◌else◌};
 ghost use base.Stored.{coded_list};
 ghost use Rattle.std.specs.Coded.{coded_option};
-ghost use Rattle.thread_local_blocks.specs.Slots.{slot_at};
+ghost use Rattle.thread_local_blocks.specs.Slots.{slot_at, empty_slots};
 ghost use Rattle.thread_local_blocks.specs.Vacated.{leaving_owns, rest};
 
 use crate::block::Block;
@@ -15,11 +15,11 @@ use std::mem::{align_of, size_of};
 ///
 /// A flag isn't cleared where its value is dropped, so for values whose drop does nothing the pass over them does nothing either.
 pub struct Leaving<T, A: Allocator> {
-    pub(crate) at: *mut Slot<T>,
-    pub(crate) marker: PhantomData<A>,
-    pub(crate) ghost heap: { A },
-    pub(crate) ghost slots: { List (Option T) } by { coded_list (coded_option T.code) },
-    pub(crate) ghost gone: { ℕ },
+    at: *mut Slot<T>,
+    marker: PhantomData<A>,
+    pub ghost heap: { A },
+    pub ghost slots: { List (Option T) } by { coded_list (coded_option T.code) },
+    pub ghost gone: { ℕ },
 }
 
 impl<T, A: Allocator> Model for Leaving<T, A> {
@@ -27,11 +27,14 @@ impl<T, A: Allocator> Model for Leaving<T, A> {
 }
 
 impl<T, A: Allocator> Leaving<T, A> {
-    /// All of a block, whatever its slots hold.
-    pub(crate) fn of(block: Block<T, A>) -> Leaving<T, A>
-        requires { block.left ≡ 0 }
-        ensures { (result.heap ≡ block.heap) × (result.slots ≡ block.slots) × (result.gone ≡ 0) }
+    /// A block whose first `gone` slots are empty. They are given up at once.
+    #[inline]
+    pub fn of(block: Block<T, A>, gone: usize) -> Leaving<T, A>
+        requires whole { block.left ≡ 0 }
+        requires empty { take gone block.slots ≡ empty_slots gone }
+        ensures { (result.heap ≡ block.heap) × (result.slots ≡ drop gone block.slots) × (result.gone ≡ gone) }
     {
+        let _ = gone;
         let Block { at, marker: _ } = block;
         Leaving {
             at,
@@ -68,7 +71,7 @@ impl<T, A: Allocator> Leaving<T, A> {
     }
 
     /// Frees the block, once all its slots are given up.
-    pub(crate) fn free(self, alloc: &A, len: usize)
+    pub fn free(self, alloc: &A, len: usize)
         requires { (self.heap ≡ alloc.now) × (self.slots ≡ []) × (self.gone ≡ len) }
     {
         let Self { at, marker: _ } = self;
@@ -85,7 +88,7 @@ impl<T, A: Allocator> Leaving<T, A> {
 impl<T: Drop, A: Allocator> Leaving<T, A> {
     /// Gives the next slot up, and drops its value if one lies there.
     #[inline]
-    pub(crate) fn drop_next(&mut self, index: usize)
+    pub fn drop_next(&mut self, index: usize)
         requires { (index ≡ self.old.gone) × (0 < length self.old.slots) }
         ensures { (self.new.heap ≡ self.old.heap) × (self.new.slots ≡ rest self.old.slots) × (self.new.gone ≡ self.old.gone + 1) }
     {

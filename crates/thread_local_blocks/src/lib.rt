@@ -1,4 +1,4 @@
-//! The raw memory of a table's buckets: blocks of slots, and words that are null or lead to a block.
+//! The raw memory of a table's buckets: blocks of slots, and how they are given up.
 #![tactic(auto)]
 
 mod block;
@@ -6,8 +6,7 @@ mod leaving;
 mod slot;
 #[cfg(test)]
 mod tests;
-mod word;
 
 pub use block::Block;
+pub use leaving::Leaving;
 pub use slot::Slot;
-pub use word::Word;

@@ -7,10 +7,11 @@ use denote.RattleType.{Denots}
 use denote.Struct.Members.{rows_of, parts_at}
 use denote.Struct.Parts.{PartsBack, Struct-parts}
 use denote.Struct.OwningLaws.{part_out, part_in}
-use Rattle.thread_local_blocks.specs.Slots.{along, heap_token, word_owns}
-use Rattle.thread_local_blocks.specs.declared.word.Word.{Word}
-use Rattle.thread_local_blocks.specs.contracts.word.Word as word
-use Rattle.thread_local_blocks.proofs.Words.{Words}
+use Rattle.thread_local_blocks.specs.Slots.{along, heap_token}
+use Rattle.thread_local_owned_word.specs.Words.{word_owns}
+use Rattle.thread_local_owned_word.specs.declared.word.Word.{Word}
+use Rattle.thread_local_owned_word.specs.contracts.word.Word as word
+use Rattle.thread_local_owned_word.proofs.Words.{Words}
 use Rattle.thread_local_loan.specs.Lent.{shape, flagged, valued, Leads, frames, values_at}
 use Rattle.thread_local_loan.proofs.Blocks.{rested, word_apart, word_whole}
 

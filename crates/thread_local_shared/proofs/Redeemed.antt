@@ -16,7 +16,8 @@ use denote.Param.Laws.{Laws}
 use Rattle.std.specs.declared.alloc.Global.{Global}
 use Rattle.std.specs.contracts.impls.GlobalAllocator.TheImpl.{ghosts}
 use Rattle.std.proofs.GlobalToken.{dealloc_token-Testable}
-use Rattle.thread_local_blocks.specs.Slots.{heap_token, stride, block_ty, slot_ty, Fits, value_at, place, slot, along, word_owns}
+use Rattle.thread_local_blocks.specs.Slots.{heap_token, stride, block_ty, slot_ty, Fits, value_at, place, slot, along}
+use Rattle.thread_local_owned_word.specs.Words.{word_owns}
 use Rattle.thread_local_sharing.specs.Shared.{Named, slot_rests_as, slot_rests, slots_rest, Sized, len, at_rest}
 use Rattle.thread_local_sharing.proofs.Rested.{redeems}
 use Rattle.thread_local_shared.specs.Fit.{Fit}

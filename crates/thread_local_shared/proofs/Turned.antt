@@ -22,9 +22,10 @@ use Rattle.std.specs.contracts.alloc.Global as heap
 use Rattle.thread_local_model.specs.Buckets.{IsTable}
 use Rattle.thread_local_model.specs.Owned.{Owned, IsOwned}
 use Rattle.thread_local_judged.specs.Judged.{Judged}
-use Rattle.thread_local_blocks.specs.Slots.{heap_token, word_owns}
-use Rattle.thread_local_blocks.specs.contracts.word.Word as plain
-use Rattle.thread_local_blocks.proofs.word.Word.TheLaws as plain'
+use Rattle.thread_local_blocks.specs.Slots.{heap_token}
+use Rattle.thread_local_owned_word.specs.Words.{word_owns}
+use Rattle.thread_local_owned_word.specs.contracts.word.Word as plain
+use Rattle.thread_local_owned_word.proofs.word.Word.TheLaws as plain'
 use Rattle.thread_local_sharing.specs.Shared.{Named, at_rest}
 use Rattle.thread_local_slots.specs.contracts.word.SharedWord as shared
 use Rattle.thread_local_words.specs.Rows.{seen as contents_of}

@@ -5,7 +5,8 @@ ghost use Rattle.thread_local_model.specs.Rows.{slot, with_row, with_slot, empty
 ghost use Rattle.thread_local_words.specs.Rows.{seen};
 
 use std::alloc::{AllocError, Global};
-use thread_local_blocks::{Block, Word};
+use thread_local_blocks::Block;
+use thread_local_owned_word::Word;
 
 mod lends;
 

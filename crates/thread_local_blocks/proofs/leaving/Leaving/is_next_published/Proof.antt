@@ -9,7 +9,7 @@ use Rattle.thread_local_blocks.specs.contracts.leaving.Leaving as leaving
 use Rattle.thread_local_blocks.specs.contracts.leaving.Leaving.is_next_published.{ended, clauses}
 use Rattle.thread_local_blocks.specs.contracts.leaving.Leaving.is_next_published.Key.{name as #self}
 use Rattle.thread_local_blocks.proofs.Fields.{block_val, uncapped}
-use Rattle.thread_local_blocks.proofs.Words.{flag_fits, flag_told}
+use Rattle.thread_local_blocks.proofs.Slots.{flag_fits, flag_told}
 use Rattle.thread_local_blocks.proofs.Vacated.{told, Others, next_slot, looked}
 use Rattle.thread_local_blocks.proofs.leaving.Leaving.is_next_published.Statement.{statement}
 use Rattle.thread_local_blocks.proofs.leaving.Leaving.is_next_published.Code as code

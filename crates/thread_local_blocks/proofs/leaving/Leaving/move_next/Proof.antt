@@ -7,7 +7,7 @@ use Rattle.thread_local_blocks.specs.contracts.leaving.Leaving as leaving
 use Rattle.thread_local_blocks.specs.contracts.leaving.Leaving.move_next.{ended, clauses}
 use Rattle.thread_local_blocks.specs.contracts.leaving.Leaving.move_next.Key.{name as #self}
 use Rattle.thread_local_blocks.proofs.Fields.{block_val, uncapped}
-use Rattle.thread_local_blocks.proofs.Words.{value_of}
+use Rattle.thread_local_blocks.proofs.Slots.{value_of}
 use Rattle.thread_local_blocks.proofs.Vacated.{told, Others, next_slot, moved_out, passes}
 use Rattle.thread_local_blocks.proofs.leaving.Leaving.move_next.Statement.{statement}
 use Rattle.thread_local_blocks.proofs.leaving.Leaving.move_next.Code as code

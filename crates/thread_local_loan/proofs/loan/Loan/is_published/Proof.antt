@@ -9,14 +9,13 @@ use Rattle.thread_local_model.specs.Buckets.{row, IsTable}
 use Rattle.thread_local_model.specs.Place.{id_at}
 use Rattle.thread_local_model.specs.Rows.{slot}
 use Rattle.thread_local_blocks.specs.Slots.{flag_of, slot_at, stride, along}
-use Rattle.thread_local_blocks.proofs.Slots.{along_at, Reset, within}
+use Rattle.thread_local_blocks.proofs.Slots.{along_at, Reset, within, flag_told}
 use Rattle.thread_local_blocks.proofs.Fields.{uncapped}
 use Rattle.thread_local_loan.specs.Lent.{Lending, lending, framed, frames, flagged, Leads, IsLeft}
 use Rattle.thread_local_loan.specs.contracts.loan.Loan as loan
 use Rattle.thread_local_loan.specs.contracts.loan.Loan.is_published.{ended, clauses}
 use Rattle.thread_local_loan.specs.contracts.loan.Loan.is_published.Key.{name as #self}
 use Rattle.thread_local_loan.proofs.Fields.{Words, told, loan_val, leads_in}
-use Rattle.thread_local_blocks.proofs.Words.{flag_told}
 use Rattle.thread_local_loan.proofs.Frames.{pointer, in_row, Frame, frame_out}
 use Rattle.thread_local_loan.proofs.loan.Loan.is_published.Statement.{statement}
 use Rattle.thread_local_loan.proofs.loan.Loan.is_published.Code as code
