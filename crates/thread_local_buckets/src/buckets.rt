@@ -32,6 +32,8 @@ pub enum CapacityError {
 ///
 /// Contracts see the contents, a row of slots for each of the 63 buckets, empty where the bucket doesn't stand; and
 /// the number of reserved slots, whose buckets stand.
+///
+/// No call waits, and only `with_capacity` and `insert` ask for memory.
 #[derive(Drop)]
 pub struct Buckets<T> {
     words: Words<T>,
@@ -69,7 +71,8 @@ impl<T> Buckets<T> {
     }
 
     /// No value, and the first buckets, one for each binary digit of the capacity, whose slots are reserved. A
-    /// capacity of 2^63 or more is refused before memory is asked for.
+    /// capacity of 2^63 or more is refused before memory is asked for. Where a bucket is refused, those made before it
+    /// are freed.
     pub fn with_capacity(alloc: Global, capacity: usize) -> Result<Buckets<T>, CapacityError>
     where
         T: Drop,

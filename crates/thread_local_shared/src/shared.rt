@@ -17,6 +17,8 @@ use thread_local_words::Words;
 mod lends;
 
 /// The buckets of a table that threads share through a `&`. A contract sees the name of the table and the number of its reserved slots.
+///
+/// No call waits or takes memory. Dropping it drops every value and frees every block.
 pub struct Shared<T> {
     words: Words<T>,
     reserved: usize,

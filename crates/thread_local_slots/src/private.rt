@@ -9,6 +9,8 @@ use std::marker::Model;
 use thread_local_blocks::Block;
 
 /// A bucket's block before it is installed: all its slots are empty. A contract sees its bucket.
+///
+/// No call waits, and only `new` asks for memory.
 pub struct Private<T> {
     block: Block<T, Global>,
     alloc: Global,

@@ -11,7 +11,7 @@ mod lends;
 
 /// The words of a table, one for each of its 63 buckets, and the heap that their blocks come from. Contracts see the contents.
 ///
-/// Dropping it drops every value and frees every block.
+/// No call waits, and only `install` asks for memory. Dropping it drops every value and frees every block.
 pub struct Words<T> {
     words: RowOfWords<T>,
     alloc: Global,
