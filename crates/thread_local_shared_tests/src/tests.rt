@@ -4,6 +4,7 @@ ghost use Rattle.thread_local_judged.specs.Judged.{Judged};
 use crate::steps::{claim, publish, publish_claimed};
 use std::alloc::{AllocError, Global};
 use std::cell::{Cell, RefCell};
+use std::mem::forget;
 use std::sync::atomic::AtomicU64;
 use std::sync::atomic::Ordering::SeqCst;
 use std::sync::{Arc, Wait};
@@ -11,6 +12,7 @@ use std::test::Fail;
 use std::thread;
 use std::thread::Threads;
 use thread_local_buckets::Buckets;
+use thread_local_claims::Claim;
 use thread_local_judged::{Judge, judge_sync};
 use thread_local_locked_ids::{HeldId, Ids, LockedIds};
 use thread_local_rights::Rights;
@@ -120,14 +122,14 @@ fn blocks_that_come_second_are_freed(rt: HostRuntime) -> Result<(), Fail> {
     Ok(())
 }
 
-/// Installs a block of bucket 1.
-fn install(shared: &Shared<u32>, private: Private<u32>)
+/// Installs a block of bucket 1, and answers what its first slot has then.
+fn install(shared: &Shared<u32>, private: Private<u32>) -> Option<u32>
     requires { private ≡ 1 }
 {
-    shared.install(1, private);
+    shared.install(1, private).get(0).copied()
 }
 
-// The calls that come after both offers go on with the first's block.
+// The second offer, and what comes after both, goes on with the first's block.
 #[test]
 fn the_second_of_two_blocks_gives_way(rt: HostRuntime) -> Result<(), Fail> {
     let mut ids = Ids::new(rt.alloc());
@@ -137,10 +139,10 @@ fn the_second_of_two_blocks_gives_way(rt: HostRuntime) -> Result<(), Fail> {
     let third = ids.take()?;
     let one = Private::new(rt.alloc(), 1)?;
     let other = Private::new(rt.alloc(), 1)?;
-    install(&shared, one);
+    assert_eq!(rt; install(&shared, one), None);
     let (_second, published) = publish(&shared, second, rt.alloc(), 1u32);
     assert!(rt; published);
-    install(&shared, other);
+    assert_eq!(rt; install(&shared, other), Some(1));
     assert_eq!(rt; look(&shared, 1), Some(1));
     let (_third, published) = publish(&shared, third, rt.alloc(), 2);
     assert!(rt; published);
@@ -209,6 +211,164 @@ fn each_value_is_dropped_once(rt: HostRuntime) -> Result<(), Fail> {
     assert_eq!(rt; drops.load(SeqCst), 0);
     drop(shared);
     assert_eq!(rt; drops.load(SeqCst), 100);
+    Ok(())
+}
+
+/// Publishes a counted value at each of so many ids, and offers another there, which gives way. Answers how often it did.
+fn publish_counted<R: Wait>(
+    shared: &Shared<Counted>,
+    ids: &LockedIds,
+    rt: &R,
+    alloc: Global,
+    drops: &Arc<AtomicU64, Global>,
+    count: u64,
+) -> u64
+    requires { ids.now ≡ shared.now.table }
+{
+    let mut published = 0u64;
+    for _ in 0..count {
+        let Ok(one) = Arc::try_clone(drops) else {
+            return published;
+        };
+        let Ok(other) = Arc::try_clone(drops) else {
+            return published;
+        };
+        let Ok(held) = ids.take(rt) else {
+            return published;
+        };
+        let (held, first) = publish(shared, held, alloc, Counted { drops: one });
+        let (_held, second) = publish(shared, held, alloc, Counted { drops: other });
+        if first && !second {
+            published = published.saturating_add(1);
+        }
+    }
+    published
+}
+
+#[test]
+fn each_published_value_is_dropped_once(rt: HostRuntime) -> Result<(), Fail> {
+    let drops = Arc::new(rt.alloc(), AtomicU64::new(0))?;
+    let ids = Ids::new(rt.alloc());
+    judge_sync::<Counted>();
+    let shared = Shared::new(Buckets::new(rt.alloc()), ids.rights());
+    let ids = LockedIds::new(ids);
+    assert_eq!(rt;
+        publish_counted(&shared, &ids, &rt, rt.alloc(), &drops, 100),
+        100
+    );
+    assert_eq!(rt; drops.load(SeqCst), 100);
+    let mut values = shared.into_buckets().into_iter();
+    assert!(rt; values.next().is_some());
+    assert_eq!(rt; drops.load(SeqCst), 101);
+    drop(values);
+    assert_eq!(rt; drops.load(SeqCst), 200);
+    Ok(())
+}
+
+/// A claim that is given up when this is dropped.
+struct Kept<'a, T> {
+    claim: Claim<'a, T>,
+}
+
+impl<T: Drop> Kept<'_, T> {
+    /// Publishes a value if the slot stands and is empty, and answers whether it did.
+    fn publish(self, value: T) -> bool {
+        let Self { claim } = self;
+        if !claim.stands() || claim.get().is_some() {
+            claim.leave();
+            return false;
+        }
+        claim.publish(value).leave();
+        true
+    }
+}
+
+impl<T> Drop for Kept<'_, T> {
+    fn drop(self) {
+        let Self { claim } = self;
+        claim.leave();
+    }
+}
+
+// The first is forgotten where a value stands, the second before its bucket does, which the third then makes.
+#[test]
+fn a_forgotten_claim_costs_its_own_slot(rt: HostRuntime) -> Result<(), Fail> {
+    let mut ids = Ids::new(rt.alloc());
+    let mut buckets = Buckets::new(rt.alloc());
+    assert!(rt; buckets.insert(Thread::new(0), 5u32).is_ok());
+    let shared = Shared::new(buckets, ids.rights());
+    let first = ids.take()?;
+    let second = ids.take()?;
+    let third = ids.take()?;
+    let claimed = Kept {
+        claim: claim(&shared, first),
+    };
+    assert_eq!(rt; claimed.claim.get().copied(), Some(5));
+    forget(claimed);
+    forget(Kept {
+        claim: claim(&shared, second),
+    });
+    let (_third, published) = publish(&shared, third, rt.alloc(), 6);
+    assert!(rt; published);
+    assert_eq!(rt;
+        (look(&shared, 0), look(&shared, 1), look(&shared, 2)),
+        (Some(5), None, Some(6))
+    );
+    let mut values = shared.into_buckets().into_iter();
+    assert_eq!(rt; values.next(), Some(5));
+    assert_eq!(rt; values.next(), Some(6));
+    assert_eq!(rt; values.next(), None);
+    Ok(())
+}
+
+#[test]
+fn a_claim_goes_to_another_thread(rt: HostRuntime) -> Result<(), Fail> {
+    let mut ids = Ids::new(rt.alloc());
+    Cell::<u64>::judge();
+    let shared = Shared::new(Buckets::with_capacity(rt.alloc(), 1)?, ids.rights());
+    let claimed = Kept {
+        claim: claim(&shared, ids.take()?),
+    };
+    let (published, _) = thread::join(&rt, || claimed.publish(Cell::new(7u64)), || ());
+    assert!(rt; published);
+    let value = shared.into_buckets().into_iter().next();
+    assert_eq!(rt; value.map(|cell| cell.get()), Some(7));
+    Ok(())
+}
+
+/// What a claim holds, which another thread made.
+fn found(claim: &Claim<'_, u32>) -> Option<u32> {
+    claim.get().copied()
+}
+
+#[test]
+fn threads_share_a_claim(rt: HostRuntime) -> Result<(), Fail> {
+    let mut ids = Ids::new(rt.alloc());
+    let mut buckets = Buckets::new(rt.alloc());
+    assert!(rt; buckets.insert(Thread::new(0), 5u32).is_ok());
+    let shared = Shared::new(buckets, ids.rights());
+    let claim = claim(&shared, ids.take()?);
+    let both = thread::join(&rt, || found(&claim), || found(&claim));
+    assert_eq!(rt; both, (Some(5), Some(5)));
+    claim.leave();
+    Ok(())
+}
+
+#[test]
+fn reserved_buckets_stand(rt: HostRuntime) -> Result<(), Fail> {
+    let mut ids = Ids::new(rt.alloc());
+    let shared = Shared::new(Buckets::with_capacity(rt.alloc(), 4)?, ids.rights());
+    assert_eq!(rt; shared.reserved(), 7);
+    for bucket in 0..4usize {
+        assert_eq!(rt; shared.load(bucket).is_some(), bucket < 3);
+    }
+    let claim = claim(&shared, ids.take()?);
+    assert!(rt; claim.stands());
+    assert!(rt; claim.get().is_none());
+    claim.publish(1u32).leave();
+    let mut buckets = shared.into_buckets();
+    assert_eq!(rt; buckets.slots(), 7);
+    assert_eq!(rt; buckets.into_iter().next(), Some(1));
     Ok(())
 }
 
