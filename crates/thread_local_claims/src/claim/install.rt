@@ -49,7 +49,7 @@ impl<'a, T> Claim<'a, T> {
             marker: _,
         } = self;
         let at = block.at;
-        match unsafe {
+        let (standing, back) = match unsafe {
             ptr::compare_exchange::<u64, Brand>(
                 &raw const (*word).at as *const *mut u64,
                 null_mut(),
@@ -60,33 +60,19 @@ impl<'a, T> Claim<'a, T> {
         } {
             Ok(_) => {
                 let Block { at: _, marker: _ } = block;
-                let slot = unsafe { (at as *const Slot<T>).add(index) };
-                (
-                    Claim {
-                        word,
-                        slot,
-                        index,
-                        found: true,
-                        published: false,
-                        marker: PhantomData,
-                    },
-                    None,
-                )
+                (at, None)
             }
-            Err(first) => {
-                let slot = unsafe { (first as *const Slot<T>).add(index) };
-                (
-                    Claim {
-                        word,
-                        slot,
-                        index,
-                        found: true,
-                        published: false,
-                        marker: PhantomData,
-                    },
-                    Some(block),
-                )
-            }
-        }
+            Err(first) => (first as *mut Slot<T>, Some(block)),
+        };
+        let slot = unsafe { (standing as *const Slot<T>).add(index) };
+        let claim = Claim {
+            word,
+            slot,
+            index,
+            found: true,
+            published: false,
+            marker: PhantomData,
+        };
+        (claim, back)
     }
 }

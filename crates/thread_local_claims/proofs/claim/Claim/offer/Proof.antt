@@ -10,7 +10,7 @@ use types.Na.{before_dup}
 use types.Run.{bin, size_word, Calls-last, true_lit, false_lit}
 use contract.Shared.{Lends-one}
 use denote.Signature.{named_lft}
-use denote.RawPtr.{in_a_block}
+use denote.RawPtr.{RawPtr, in_a_block}
 use denote.Param.{bounded}
 use denote.Struct.Tuple.{Tuple}
 use Rattle.std.proofs.ResultValues.{and_tt}
@@ -58,7 +58,7 @@ offer_spec 𝓤 𝓛 𝓜 𝓡 wired X L =
     (λ κs. ((λ x. value_of (kept_of x) ∷ []), ((λ x. fields.block_val x.at ∷ []), tt))) (λ κs. ((λ x vs so. (told (named_lft 2 0 tt κs) R (kept_of x) vs so.0).0), ((λ x vs so. fields.told R Z ghosts x.at vs so.0), tt))) (λ κs qs bounds a gh are.
     let h = a.0 in let β : Lft = κs.0 in let q : Share = qs.0 in let others : Fml = fsep (flft κs.1.0 qs.1.0) ftrue in let ℓ = named_lft 2 0 tt κs in let G : RattleType = claim.the_row ℓ R in let u₀ : Val = value_of (kept_of h) in
     let x : Bl.Denot = a.1.0 in let p : Ptr = x.at in let nb : ℕ = block_of p in let no' : ℕ = count_of p in let new : Ptr = block_ptr nb no' in let bv : Val = fields.block_val p in
-    let Res : Type 0 = G.Denot × Back.Denot in let Out : RattleType = Tuple (G ∷ Back ∷ []) in
+    let Res : Type 0 = G.Denot × Back.Denot in let Out : RattleType = Tuple (G ∷ Back ∷ []) in let Pair : RattleType = Tuple (RawPtr ∷ Back ∷ []) in
     let F₁ : Res → Type 0 = λ r. (r.0.table ≡ h.table) × (r.0.id ≡ h.id) in let F₂ : Res → Type 0 = λ r. (r.0.stands ≡ true) × (r.0.value ≡ None) in let F₃ : Res → Type 0 = λ r. IfSome r.1 (λ back. (back.heap ≡ x.heap) × (back.slots ≡ x.slots) × (back.left ≡ 0)) in
     let Made : Type 0 = (x.slots ≡ empty_slots (2 ^ bucket_of h.id)) × (x.left ≡ 0) in let none : Option X.Denot = None in
     let w : Ptr = h.word in let wb : ℕ = block_of w in let wo : ℕ = count_of w in let i : ℕ = h.index in let pl : Place = place_of h.id i h.slot h.looked h.stands h.reserved in let fits : i < 2 ^ 64 = (told ℓ R (kept_of h) (u₀ ∷ []) are.0.0).1 in
@@ -102,16 +102,18 @@ offer_spec 𝓤 𝓛 𝓜 𝓡 wired X L =
     -- [what the slot holds; the life's token; the row; the invariant; the way back; before; the other tokens]
     move ! (1 ∷ 4 ∷ []) $ use2 𝓛 (later (‵ (flft β q))) (apply∗ 𝓤 (𝓛.A.lft t.life s) (H.⇛ (𝓛.A.lft β q))) $ await ! tt $
     first ! $ switches_on ! (get_tag ! (vrt ! refl (fld ! refl (stop !))) (whole !)) $ exec ! 𝓣.C 𝓣.Λ Ev (arm_body 0 arms) Then $
+    let nothing_good : Good (layout Back) (live 0 vnil) = (tt, (record { fits = lit< tt }, tt)) in let pair_good : Good (layout Pair) (both (vptr pb o) (live 0 vnil)) = (tt, (tt, (nothing_good.1, tt))) in
+    sets ! (agg ! (and_then ! (lit ! tt) (no_more !))) refl nothing_good $ sets_last ! (agg ! (and_then ! (get ! refl) (and_then ! (get ! refl) (no_more !)))) refl pair_good $
+    exec ! 𝓣.C 𝓣.Λ Ev (after 6 fn.body) (at_ret Ev Post) $ sets ! (of_opd ! (get ! refl)) refl pair_good $ sets ! (of_opd ! (get_in ! (fld ! refl (stop !)) (sub ! 0 refl (whole !)))) refl (tt, tt) $ sets ! (of_opd ! (get_in ! (fld ! refl (stop !)) (sub ! 1 refl (whole !)))) refl nothing_good $
     first ! $ blocks ! $ sets ! (of_opd ! (get ! refl)) refl (tt, tt) $
     sets ! (is ! (bin ! (get ! refl) (size_word !) (record { fits = subst (λ (k : ℕ). k < 2 ^ 64) (sym (uncapped i (stride R) small)) small })) (ap (vint w64) (uncapped i (stride R) small))) refl (tt, record { fits = small }) $
-    sets_last ! (bin ! (get ! refl) (get ! refl) tt) refl (tt, tt) $ exec ! 𝓣.C 𝓣.Λ Ev (after 1 (arm_body 0 arms)) Then $ sets ! (of_opd ! (get ! refl)) refl (tt, tt) $
+    sets_last ! (bin ! (get ! refl) (get ! refl) tt) refl (tt, tt) $ exec ! 𝓣.C 𝓣.Λ Ev (after 10 fn.body) (at_ret Ev Post) $ sets ! (of_opd ! (get ! refl)) refl (tt, tt) $
     let m : Kept = record { word = block_ptr wb wo; slot = block_ptr pb el; index = i; found = true; published = false } in let pl' : Place = place_of h.id i (block_ptr pb el) true true h.reserved in let kept_good = typed m fits in
     sets ! (agg ! (no_more !)) refl (tt, tt) $
     sets ! (agg ! (and_then ! (get ! refl) (and_then ! (get ! refl) (and_then ! (get ! refl) (and_then ! (true_lit !) (and_then ! (false_lit !) (and_then ! (get ! refl) (no_more !)))))))) refl kept_good $
-    sets ! (agg ! (and_then ! (lit ! tt) (no_more !))) refl (tt, (record { fits = lit< tt }, tt)) $
-    let v : Val = both (value_of m) (live 0 vnil) in let good : Good (layout Out) v = (tt, (kept_good.1, ((record { fits = lit< tt }, tt), tt))) in
-    sets_last ! (agg ! (and_then ! (get ! refl) (and_then ! (get ! refl) (no_more !)))) refl good $
-    exec ! 𝓣.C 𝓣.Λ Ev (after 6 fn.body) (at_ret Ev Post) $ sets ! (of_opd ! (get ! refl)) refl good $
+    sets ! (of_opd ! (get ! refl)) refl kept_good $ sets ! (of_opd ! (get ! refl)) refl nothing_good $
+    let v : Val = both (value_of m) (live 0 vnil) in let good : Good (layout Out) v = (tt, (kept_good.1, (nothing_good.1, tt))) in
+    sets ! (agg ! (and_then ! (get ! refl) (and_then ! (get ! refl) (no_more !)))) refl good $
     -- [the token; what the slot holds; the row; the invariant; before; the other tokens]
     move ! (2 ∷ 1 ∷ []) $ fjoin ! $ nothing ! $ fpack ! (IsAt R s' pl') (λ _. ftrue) refl $ fjoin ! $ fpack ! Standing (has_slot R d t β pl' none) s' $
     move ! (3 ∷ 2 ∷ []) $ fjoin ! $ fjoin ! $ nothing ! $ fpack ! (IsOf R (block_ptr wb wo) h.table pl' d) (λ _. ftrue) (tt, of.1, of.2, of.3, of.4, of.5) $ fjoin ! $
@@ -142,15 +144,18 @@ offer_spec 𝓤 𝓛 𝓜 𝓡 wired X L =
     let back : Val = live 1 (vcons bv vnil) in let block_good = fields.block_good p in let held : Good (layout Back) back = (and_tt _ block_good.0, (record { fits = lit< tt }, (block_good.1, tt))) in
     first ! $ switches_on ! (get_tag ! (vrt ! refl (fld ! refl (stop !))) (whole !)) $ exec ! 𝓣.C 𝓣.Λ Ev (arm_body 1 arms) Then $
     sets ! (is ! (of_opd ! (get_in ! (vrt ! refl (fld ! refl (stop !))) (in_variant ! 1 0 refl refl (whole !)))) (ap ptr_val found)) refl (tt, tt) $
+    let pair_good : Good (layout Pair) (both (vptr pb o) back) = (and_tt _ held.0, (tt, (held.1, tt))) in
+    sets ! (of_opd ! (get ! refl)) refl (tt, tt) $ sets ! (of_opd ! (get ! refl)) refl block_good $ sets ! (agg ! (and_then ! (lit ! tt) (and_then ! (get ! refl) (no_more !)))) refl held $ sets_last ! (agg ! (and_then ! (get ! refl) (and_then ! (get ! refl) (no_more !)))) refl pair_good $
+    exec ! 𝓣.C 𝓣.Λ Ev (after 6 fn.body) (at_ret Ev Post) $ sets ! (of_opd ! (get ! refl)) refl pair_good $ sets ! (of_opd ! (get_in ! (fld ! refl (stop !)) (sub ! 0 refl (whole !)))) refl (tt, tt) $ sets ! (of_opd ! (get_in ! (fld ! refl (stop !)) (sub ! 1 refl (whole !)))) refl held $
     first ! $ blocks ! $ sets ! (of_opd ! (get ! refl)) refl (tt, tt) $
     sets ! (is ! (bin ! (get ! refl) (size_word !) (record { fits = subst (λ (k : ℕ). k < 2 ^ 64) (sym (uncapped i (stride R) small)) small })) (ap (vint w64) (uncapped i (stride R) small))) refl (tt, record { fits = small }) $
-    sets_last ! (bin ! (get ! refl) (get ! refl) tt) refl (tt, tt) $ exec ! 𝓣.C 𝓣.Λ Ev (after 2 (arm_body 1 arms)) Then $ sets ! (of_opd ! (get ! refl)) refl (tt, tt) $
+    sets_last ! (bin ! (get ! refl) (get ! refl) tt) refl (tt, tt) $ exec ! 𝓣.C 𝓣.Λ Ev (after 10 fn.body) (at_ret Ev Post) $ sets ! (of_opd ! (get ! refl)) refl (tt, tt) $
     let m : Kept = record { word = block_ptr wb wo; slot = block_ptr pb el; index = i; found = true; published = false } in let pl' : Place = place_of h.id i (block_ptr pb el) true true h.reserved in let kept_good = typed m fits in
     sets ! (agg ! (no_more !)) refl (tt, tt) $
     sets ! (agg ! (and_then ! (get ! refl) (and_then ! (get ! refl) (and_then ! (get ! refl) (and_then ! (true_lit !) (and_then ! (false_lit !) (and_then ! (get ! refl) (no_more !)))))))) refl kept_good $
-    sets ! (of_opd ! (get ! refl)) refl block_good $ sets ! (agg ! (and_then ! (lit ! tt) (and_then ! (get ! refl) (no_more !)))) refl held $
+    sets ! (of_opd ! (get ! refl)) refl kept_good $ sets ! (of_opd ! (get ! refl)) refl held $
     let v : Val = both (value_of m) back in let good : Good (layout Out) v = (and_tt _ held.0, (kept_good.1, (held.1, tt))) in
-    sets_last ! (agg ! (and_then ! (get ! refl) (and_then ! (get ! refl) (no_more !)))) refl good $ exec ! 𝓣.C 𝓣.Λ Ev (after 6 fn.body) (at_ret Ev Post) $ sets ! (of_opd ! (get ! refl)) refl good $
+    sets ! (agg ! (and_then ! (get ! refl) (and_then ! (get ! refl) (no_more !)))) refl good $
     -- [the token; what the slot holds; the row; the invariant; before; the other tokens]
     move ! (2 ∷ 1 ∷ []) $ fjoin ! $ nothing ! $ fpack ! (IsAt R s' pl') (λ _. ftrue) refl $ fjoin ! $ fpack ! Standing (has_slot R d t β pl' none) s' $
     move ! (3 ∷ 2 ∷ []) $ fjoin ! $ fjoin ! $ nothing ! $ fpack ! (IsOf R (block_ptr wb wo) h.table pl' d) (λ _. ftrue) (tt, of.1, of.2, of.3, of.4, of.5) $ fjoin ! $
