@@ -1,8 +1,8 @@
 -- A look at a slot's flag, by whoever shows that a `&` to a value names no thread: where the flag is set, it lends the value. Assumes `Logic`.
-use Rattle.std.proofs.Common.{◌≡◌, ℕ, zero, suc, ◌+◌, ◌*◌, ◌<◌, List, [], ◌∷◌, length, refl, Option, Some, None}
+use Rattle.std.proofs.Common.{◌≡◌, ℕ, zero, suc, ◌+◌, ◌*◌, ◌<◌, [], ◌∷◌, length, refl, Option, Some, None}
 use seplogic.Ra.Ura.{Ura}
-use base.Logic.{SProp, ent, sep, ex, all_e, id⊢}
-use base.Fml.{Lft, GName, Share, Fml, ftrue, fsep, fex, fbor, flft, fres, finv}
+use base.Logic.{SProp, ent, sep, ex, all_e}
+use base.Fml.{Lft, Share, Fml, ftrue, fsep, fex, fbor, flft, fres}
 use types.Logic.{Logic, sem}
 use types.Kit.{‵, raw, ◌⊛◌, check, show, ◌$◌, ◌∵◌, !, qed, move, split, fsplit3, fjoin3, fpack, use1, done}
 use denote.RattleType.{RattleType}
@@ -12,8 +12,8 @@ use denote.SharingLaws.{contraction}
 use denote.Param.Laws.{Laws}
 use Rattle.std.specs.Sync.RawAtomic.{asks, always}
 use Rattle.thread_local_judged.specs.Judged.{Shareable}
-use Rattle.thread_local_blocks.specs.Slots.{flag_of, stride, value_at}
-use Rattle.thread_local_sharing.specs.Shared.{name_at, Named, Turn, Standing, Who, mark, shared_value, opened, pinned, first, invariant}
+use Rattle.thread_local_blocks.specs.Slots.{stride, value_at}
+use Rattle.thread_local_sharing.specs.Shared.{name_at, Named, Turn, Standing, Who, mark, shared_value, opened, first, invariant}
 use Rattle.thread_local_sharing.proofs.Rested.{opens_by}
 use Rattle.thread_local_sharing.proofs.Steps.{Stands, Had, Turned, stepped}
 
