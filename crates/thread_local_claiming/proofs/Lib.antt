@@ -1,4 +1,5 @@
 pub mod Early
+pub mod Installs
 pub mod Lending
 pub mod Moves
 pub mod Sent

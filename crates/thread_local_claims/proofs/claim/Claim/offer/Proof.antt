@@ -1,9 +1,9 @@
 -- `offer` lends the block for a lifetime of its own, and ends that lifetime if another block came first. Either way the claim finds its slot empty.
-use Rattle.thread_local_blocks.proofs.Names.{◌≡◌, ℕ, ◌+◌, ◌-◌, ◌*◌, ◌<◌, ◌^◌, true, false, Bool, sem, List, [], ◌∷◌, length, refl, sym, ap, ◌∙◌, subst, lit<, w64, arith, Option, None, Some, Body, a_type, Val, vint, vptr, vcons, vnil, inst_fn, dnil, SProp, wand, emp, via, apply∗, Lft, Share, Fml, ftrue, fsep, flft, fbor, ‵, raw, ◌⊛◌, some, given, later, mean, at_ret, any_q, ◌$◌, ◌∵◌, !, qed, by, move, keep, drop, split, join, fsplit, fsplit3, fjoin, fpick, fpack, pick, learn, rewrite, use0, use1, use2, use3, await, group, stop, fld, addr, lit, of_opd, no_more, and_then, first, blocks, exec, switches_on, returns, enter, alloc_all, pass_all, free_all, look_at, get, get_in, get_tag, through, sets, sets_last, lands_last, env, is, agg, sub, whole, live, vrt, in_variant, tables, fact, fact_i, no, RattleType, owns, types_at, plain, Ptr, block_ptr, null_ptr, block_of, count_of, at_block, InBlock, ptr_val, nothing, heard, param, layout, Stays, stay_dropped, walk_of, Goes-dropped, proved, leaves, fm, after, u64}
+use Rattle.thread_local_blocks.proofs.Names.{◌≡◌, ℕ, ◌+◌, ◌-◌, ◌*◌, ◌<◌, ◌^◌, true, false, Bool, sem, List, [], ◌∷◌, refl, sym, ap, ◌∙◌, subst, lit<, w64, arith, Option, None, Some, Body, a_type, Val, vint, vptr, vcons, vnil, inst_fn, dnil, SProp, wand, emp, via, apply∗, Lft, Share, Fml, ftrue, fsep, flft, fbor, ‵, raw, ◌⊛◌, some, given, later, mean, at_ret, any_q, ◌$◌, ◌∵◌, !, qed, by, move, keep, drop, split, split3, join, fsplit, fsplit3, fjoin, fpick, pick, learn, rewrite, use0, use1, use2, use3, await, group, stop, fld, addr, lit, of_opd, no_more, and_then, first, blocks, exec, switches_on, returns, enter, alloc_all, pass_all, free_all, look_at, get, get_in, get_tag, through, sets, sets_last, lands_last, env, is, agg, sub, whole, live, vrt, in_variant, tables, fact, fact_i, no, RattleType, owns, types_at, plain, Ptr, block_ptr, null_ptr, block_of, count_of, at_block, InBlock, ptr_val, nothing, heard, param, layout, Stays, stay_dropped, walk_of, Goes-dropped, proved, leaves, fm, after, u64}
 use Rattle.std.proofs.Common.{IfSome}
 use mir.Val.{vnull}
 use base.Logic.{snd∗, never}
-use base.Fml.{fres, finv, ffalse}
+use base.Fml.{finv, ffalse}
 use base.Before.{before}
 use prog.Wp.{Wp, after_seq, at_return}
 use types.Na.{before_dup}
@@ -26,21 +26,20 @@ use Rattle.std.specs.contracts.alloc.Global as heap
 use Rattle.std.specs.contracts.impls.GlobalAllocator.TheImpl.{ghosts}
 use Rattle.thread_local_model.specs.Place.{bucket_of, id_at}
 use Rattle.thread_local_model.proofs.PlaceLaws.{place-id_at}
-use Rattle.thread_local_rights.specs.Rights.{right_owns}
 use Rattle.thread_local_blocks.specs.Slots.{fact as said_fact, stride, block_owns, empty_slots}
 use Rattle.thread_local_blocks.specs.contracts.block.Block as block
 use Rattle.thread_local_blocks.proofs.Fields as fields
 use Rattle.thread_local_blocks.proofs.Fields.{uncapped}
-use Rattle.thread_local_sharing.specs.Shared.{Named, Turn, Standing, Sized, mark, len, invariant, row}
-use Rattle.thread_local_sharing.proofs.Loads.{glimpse, reaches}
+use Rattle.thread_local_sharing.specs.Shared.{Named, Turn, Standing, Sized, len, invariant}
+use Rattle.thread_local_sharing.proofs.Loads.{glimpse}
 use Rattle.thread_local_sharing.proofs.Offers as offers
 use Rattle.thread_local_slots.proofs.Fields.{word_laws}
 use Rattle.thread_local_slots.proofs.Pairs.{both, pair_in}
-use Rattle.thread_local_claiming.specs.Claims.{Place, place_of, IsOf, IsKept, IsAt, has, has_slot, has_at}
+use Rattle.thread_local_claiming.specs.Claims.{Place, place_of, IsOf, has, claim_owns}
 use Rattle.thread_local_claims.specs.contracts.claim.Claim as claim
 use Rattle.thread_local_claims.specs.contracts.claim.Claim.offer.{ended, clauses}
 use Rattle.thread_local_claims.specs.contracts.claim.Claim.offer.Key.{name as #self}
-use Rattle.thread_local_claiming.proofs.Steps as steps
+use Rattle.thread_local_claiming.proofs.Installs.{installs}
 use Rattle.thread_local_claims.proofs.Fields.{Kept, kept_of, value_of, Words, fields_of, told, made, typed, small_product}
 use Rattle.thread_local_claims.proofs.claim.Claim.offer.Statement.{statement}
 use Rattle.thread_local_claims.proofs.claim.Claim.offer.Code as code
@@ -69,38 +68,35 @@ offer_spec 𝓤 𝓛 𝓜 𝓡 wired X L =
     -- [what the claim owns; the token; the other tokens; the block]
     fsplit ! $ drop ! $ fpick ! (λ z. fsplit ! $ fpick ! (λ of. drop ! $ fsplit ! $ move ! (1 ∷ []) $ let d : Named = z.0 in let t : Turn = z.1 in let at : w ≡ block_ptr wb wo = at_block w of.0 in
     rewrite ! 0 (λ (k : Bool × Bool). ‵ (has R d t β (place_of h.id i h.slot k.1 h.stands h.reserved) h.value k.0)) (λ j. (gone j, came j)) refl $ fsplit ! $ drop ! $
-    let J : Fml = fbor t.life (invariant R d t wb (wo + 0)) in let Pass : Fml = right_owns t.pass h.id in let Blank : Ptr → Fml = λ u. block_owns R (ghosts.dealloc_token x.heap) u (empty_slots (len R d)) 0 in
+    let J : Fml = fbor t.life (invariant R d t wb (wo + 0)) in let Blank : Ptr → Fml = λ u. block_owns R (ghosts.dealloc_token x.heap) u (empty_slots (len R d)) 0 in
+    let Owned : ℕ → ℕ → Fml = λ pb o. claim_owns R β (block_ptr wb wo) h.table (place_of h.id i (block_ptr pb (i * stride R + o)) true true h.reserved) none true false in let is_of : IsOf R (block_ptr wb wo) h.table pl d = (tt, of.1, of.2, of.3, of.4, of.5) in
     let lies_at : h.id ≡ id_at d.bucket i = at_index h.id i (2 ^ d.bucket - 1) of.3 in let same : bucket_of h.id ≡ d.bucket = ap bucket_of lies_at ∙ (place-id_at d.bucket i of.4).0 in
-    move ! (1 ∷ []) $ fsplit ! $ use1 𝓛 (‵ (before β t.life) ⊛ ‵ (before β t.life)) (before_dup 𝓛 β t.life) $ split ! $ use1 𝓛 (‵ (before β t.life) ⊛ ‵ (before β t.life)) (before_dup 𝓛 β t.life) $ split ! $
-    -- [before, thrice; the invariant; the pass; the token; the other tokens; the block]
-    move ! (0 ∷ 5 ∷ []) $ use2 𝓛 (later (some (λ (s : Share). ‵ (flft t.life s) ⊛ raw (wand 𝓤 (𝓛.A.lft t.life s) (H.⇛ (𝓛.A.lft β q)))))) (Lends-one 𝓛 𝓜 𝓡 β t.life q) $ await ! tt $ pick ! (λ s. split ! $
-    -- [the life's token; the way back; before, twice; the invariant; the pass; the other tokens; the block]
-    move ! (4 ∷ []) $ use1 𝓛 (‵ (finv J) ⊛ ‵ (finv J)) (𝓛.invs.inv_dup J) $ split ! $ use1 𝓛 (‵ (finv J) ⊛ ‵ (finv J)) (𝓛.invs.inv_dup J) $ split ! $
-    move ! (9 ∷ []) $ rewrite ! 0 (λ (m : ℕ). ‵ (block_owns R (ghosts.dealloc_token x.heap) p x.slots m)) blank.1 refl $
+    move ! (1 ∷ []) $ fsplit ! $ use1 𝓛 (‵ (before β t.life) ⊛ ‵ (before β t.life)) (before_dup 𝓛 β t.life) $ split ! $
+    -- [before, twice; the invariant; the pass; the token; the other tokens; the block]
+    move ! (0 ∷ 4 ∷ []) $ use2 𝓛 (later (some (λ (s : Share). ‵ (flft t.life s) ⊛ raw (wand 𝓤 (𝓛.A.lft t.life s) (H.⇛ (𝓛.A.lft β q)))))) (Lends-one 𝓛 𝓜 𝓡 β t.life q) $ await ! tt $ pick ! (λ s. split ! $
+    -- [the life's token; the way back; before; the invariant; the pass; the other tokens; the block]
+    move ! (3 ∷ []) $ use1 𝓛 (‵ (finv J) ⊛ ‵ (finv J)) (𝓛.invs.inv_dup J) $ split ! $ move ! (4 ∷ 1 ∷ []) $ fjoin ! $
+    -- [the sharing lasts; the invariant; the life's token; the way back; the pass; the other tokens; the block]
+    move ! (6 ∷ []) $ rewrite ! 0 (λ (m : ℕ). ‵ (block_owns R (ghosts.dealloc_token x.heap) p x.slots m)) blank.1 refl $
     rewrite ! 0 (λ (cs : List (Option X.Denot)). ‵ (block_owns R (ghosts.dealloc_token x.heap) p cs 0)) (blank.0 ∙ ap (λ (n : ℕ). empty_slots (2 ^ n)) same) refl $
     use1 𝓛 (given (InBlock p) (‵ (Blank p))) (offers.placed 𝓛 R t d x.heap p) $ learn ! (λ lies. let e : p ≡ new = at_block p lies in rewrite ! 0 (λ (u : Ptr). ‵ (Blank u)) e refl $
     use1 𝓛 (later (some (λ (zn : Standing). given (offers.Lies 𝓛 R t d x.heap new zn) (‵ (offers.private 𝓛 R t d x.heap new zn))))) (offers.lend_out 𝓛 R t d x.heap new) $ await ! tt $ pick ! (λ zn. learn ! (λ so.
     let won₀ : Ptr → Fml = offers.won 𝓛 R t d x.heap wb (wo + 0) s nb no' zn so in let lost₀ : Ptr → Fml = offers.lost 𝓛 R t d x.heap wb (wo + 0) s nb no' zn so in let won : Ptr → Fml = λ u. fsep (flft t.life s) (won₀ u) in let lost : Ptr → Fml = λ u. fsep (flft t.life s) (lost₀ u) in
-    -- [the private block; the invariant, thrice; the life's token; the way back; before, twice; the pass; the other tokens]
+    -- [the private block; the sharing lasts; the invariant; the life's token; the way back; the pass; the other tokens]
     sets ! (is ! (of_opd ! (get_in ! (fld ! refl (stop !)) (sub ! 0 refl (whole !)))) (ap ptr_val at)) refl (tt, tt) $ sets ! (of_opd ! (get_in ! (fld ! refl (stop !)) (sub ! 2 refl (whole !)))) refl (tt, record { fits = fits }) $
     sets ! (is ! (of_opd ! (get_in ! (fld ! refl (stop !)) (sub ! 0 refl (whole !)))) (ap ptr_val e)) refl (tt, tt) $
-    first ! $ blocks ! $ sets ! (addr ! (through ! refl (fld ! refl (stop !)))) refl (tt, tt) $ sets ! (of_opd ! (get ! refl)) refl (tt, tt) $ sets ! (agg ! (and_then ! (lit ! tt) (no_more !))) refl seq_cst_good $ sets ! (agg ! (and_then ! (lit ! tt) (no_more !))) refl seq_cst_good $ move ! (1 ∷ 4 ∷ 0 ∷ []) $
+    first ! $ blocks ! $ sets ! (addr ! (through ! refl (fld ! refl (stop !)))) refl (tt, tt) $ sets ! (of_opd ! (get ! refl)) refl (tt, tt) $ sets ! (agg ! (and_then ! (lit ! tt) (no_more !))) refl seq_cst_good $ sets ! (agg ! (and_then ! (lit ! tt) (no_more !))) refl seq_cst_good $ move ! (2 ∷ 3 ∷ 0 ∷ []) $
     use3 𝓛 (raw (𝓣.C _ (vptr wb (wo + 0) ∷ vnull ∷ vptr nb no' ∷ seq_cst ∷ seq_cst ∷ []) (λ u. mean 𝓛 (calls.answered 𝓛 won lost u))))
     (via 𝓤 _ (offers.offers 𝓛 R t d x.heap wb (wo + 0) s nb no' zn so) (calls.exchanges 𝓛 𝓜 𝓡 (code.calls-std::sync::atomic::raw::ptr::compare_exchange 𝓡.env wired) u64 word_laws (block_ptr wb (wo + 0)) null_ptr new won lost)) $
     let arms : Body = head (after 5 fn.body) in let Then = any_q (after_seq 𝓤 H (Wp 𝓤 H 𝓣.C 𝓣.Λ Ev (after 6 fn.body) (at_return 𝓤 H Ev Post)) (at_return 𝓤 H Ev Post)) in
     Calls-last ! (fm 𝓛 𝓜 𝓡) (calls.answered 𝓛 won lost) (and_then ! (get ! refl) (and_then ! (lit ! tt) (and_then ! (get ! refl) (and_then ! (get ! refl) (and_then ! (get ! refl) (no_more !)))))) (λ u. calls.hears ! won lost
     (λ u₁. lands_last ! refl (calls.answer_good (Ok u₁)) $ exec ! 𝓣.C 𝓣.Λ Ev (after 4 fn.body) (at_ret Ev Post) $ sets ! (of_opd ! (get ! refl)) refl (calls.answer_good (Ok u₁)) $ fsplit ! $
-    -- [the life's token; the part; the invariant, twice; the way back; before, twice; the pass; the other tokens]
-    move ! (1 ∷ 5 ∷ []) $ use2 𝓛 (later (‵ (said_fact ((zn.at ≡ new) × Sized R (len R d) new)) ⊛ ‵ (row R d t zn β))) (reaches 𝓛 R d t β new (zn, _)) $ await ! tt $ split ! $ fpick ! (λ there. drop ! $
-    let s' : Standing = record zn { at = new } in let pb : ℕ = nb in let o : ℕ = no' in let el : ℕ = i * stride R + o in rewrite ! 0 (λ (k : Standing). ‵ (row R d t k β)) (λ j. record zn { at = there.0 j }) refl $
-    -- [the row; the life's token; the invariant, twice; the way back; before; the pass; the other tokens]
-    fsplit ! $ fpick ! (λ sized. move ! (1 ∷ []) $ fsplit ! $ use1 𝓛 (‵ (fres t.which (mark s')) ⊛ ‵ (fres t.which (mark s'))) (𝓛.names.res_dup t.which (mark s')) $ split ! $ move ! (1 ∷ 2 ∷ []) $ fjoin ! $ move ! (2 ∷ []) $
-    fpack ! ((length s'.names ≡ len R d) × Sized R (len R d) s'.at) (λ _. ftrue) sized $ move ! (0 ∷ 1 ∷ []) $ fjoin ! $
-    -- [the row; which block it is; the life's token; the invariant, twice; the way back; before; the pass; the other tokens]
-    let low : i < length s'.names = subst (λ (n : ℕ). i < n) (sym sized.0) of.4 in let small : i * stride R < 2 ^ 64 = small_product i (len R d) (stride R) of.4 there.1.2 in let Empty : Fml = steps.Holds 𝓛 R d t wb (wo + 0) s' i h.id el pb low of.3 refl refl none in
-    move ! (3 ∷ 2 ∷ 1 ∷ 7 ∷ []) $ group ! 4 $ use1 𝓛 (later (‵ Empty ⊛ ‵ (flft t.life s))) (steps.comes_in 𝓛 R d t wb (wo + 0) s' i h.id el pb low of.3 refl refl s) $ await ! tt $ split ! $
-    -- [what the slot holds; the life's token; the row; the invariant; the way back; before; the other tokens]
-    move ! (1 ∷ 4 ∷ []) $ use2 𝓛 (later (‵ (flft β q))) (apply∗ 𝓤 (𝓛.A.lft t.life s) (H.⇛ (𝓛.A.lft β q))) $ await ! tt $
+    -- [the life's token; the part; the sharing lasts; the way back; the pass; the other tokens]
+    let pb : ℕ = nb in let o : ℕ = no' in let el : ℕ = i * stride R + o in move ! (1 ∷ 2 ∷ 0 ∷ 4 ∷ []) $ group ! 4 $
+    use1 𝓛 (later (‵ (said_fact (Sized R (len R d) new)) ⊛ ‵ (flft t.life s) ⊛ ‵ (Owned pb o))) (installs 𝓛 R d t β wb wo pb o h.id i h.reserved h.table s (zn, _) is_of) $ await ! tt $ split3 ! $ fpick ! (λ there. drop ! $
+    -- [the life's token; the claim; the way back; the other tokens]
+    let small : i * stride R < 2 ^ 64 = small_product i (len R d) (stride R) of.4 there.2 in
+    move ! (0 ∷ 2 ∷ []) $ use2 𝓛 (later (‵ (flft β q))) (apply∗ 𝓤 (𝓛.A.lft t.life s) (H.⇛ (𝓛.A.lft β q))) $ await ! tt $
     first ! $ switches_on ! (get_tag ! (vrt ! refl (fld ! refl (stop !))) (whole !)) $ exec ! 𝓣.C 𝓣.Λ Ev (arm_body 0 arms) Then $
     let nothing_good : Good (layout Back) (live 0 vnil) = (tt, (record { fits = lit< tt }, tt)) in let pair_good : Good (layout Pair) (both (vptr pb o) (live 0 vnil)) = (tt, (tt, (nothing_good.1, tt))) in
     sets ! (agg ! (and_then ! (lit ! tt) (no_more !))) refl nothing_good $ sets_last ! (agg ! (and_then ! (get ! refl) (and_then ! (get ! refl) (no_more !)))) refl pair_good $
@@ -108,39 +104,30 @@ offer_spec 𝓤 𝓛 𝓜 𝓡 wired X L =
     first ! $ blocks ! $ sets ! (of_opd ! (get ! refl)) refl (tt, tt) $
     sets ! (is ! (bin ! (get ! refl) (size_word !) (record { fits = subst (λ (k : ℕ). k < 2 ^ 64) (sym (uncapped i (stride R) small)) small })) (ap (vint w64) (uncapped i (stride R) small))) refl (tt, record { fits = small }) $
     sets_last ! (bin ! (get ! refl) (get ! refl) tt) refl (tt, tt) $ exec ! 𝓣.C 𝓣.Λ Ev (after 10 fn.body) (at_ret Ev Post) $ sets ! (of_opd ! (get ! refl)) refl (tt, tt) $
-    let m : Kept = record { word = block_ptr wb wo; slot = block_ptr pb el; index = i; found = true; published = false } in let pl' : Place = place_of h.id i (block_ptr pb el) true true h.reserved in let kept_good = typed m fits in
+    let m : Kept = record { word = block_ptr wb wo; slot = block_ptr pb el; index = i; found = true; published = false } in let kept_good = typed m fits in
     sets ! (agg ! (no_more !)) refl (tt, tt) $
     sets ! (agg ! (and_then ! (get ! refl) (and_then ! (get ! refl) (and_then ! (get ! refl) (and_then ! (true_lit !) (and_then ! (false_lit !) (and_then ! (get ! refl) (no_more !)))))))) refl kept_good $
     sets ! (of_opd ! (get ! refl)) refl kept_good $ sets ! (of_opd ! (get ! refl)) refl nothing_good $
     let v : Val = both (value_of m) (live 0 vnil) in let good : Good (layout Out) v = (tt, (kept_good.1, (nothing_good.1, tt))) in
     sets ! (agg ! (and_then ! (get ! refl) (and_then ! (get ! refl) (no_more !)))) refl good $
-    -- [the token; what the slot holds; the row; the invariant; before; the other tokens]
-    move ! (2 ∷ 1 ∷ []) $ fjoin ! $ nothing ! $ fpack ! (IsAt R s' pl') (λ _. ftrue) refl $ fjoin ! $ fpack ! Standing (has_slot R d t β pl' none) s' $
-    move ! (3 ∷ 2 ∷ []) $ fjoin ! $ fjoin ! $ nothing ! $ fpack ! (IsOf R (block_ptr wb wo) h.table pl' d) (λ _. ftrue) (tt, of.1, of.2, of.3, of.4, of.5) $ fjoin ! $
-    fpack ! (Named × Turn) (has_at R β (block_ptr wb wo) h.table pl' none) z $ nothing ! $ fpack ! (IsKept R pl' true false none) (λ _. ftrue) (refl, refl) $ fjoin ! $
+    -- [the token; the claim; the other tokens]
+    move ! (1 ∷ []) $
     use0 𝓛 (‵ ((Words ℓ R).own_val (fields_of ℓ R m) (value_of m ∷ []))) (made ℓ R 𝓛 m fits) $ fjoin ! $
     let r : G.Denot = record { word = block_ptr wb wo; slot = block_ptr pb el; index = i; found = true; published = false; marker = record {}; table = h.table; id = h.id; looked = true; stands = true; reserved = h.reserved; value = none } in
     use0 𝓛 (‵ (Back.own_val None (live 0 vnil ∷ []))) (none_of 𝓛 Bl) $ move ! (1 ∷ 0 ∷ []) $ pair_in G Back ! r None (value_of m) (live 0 vnil) $ move ! (1 ∷ 2 ∷ []) $ join ! $ move ! (1 ∷ []) $
     use0 𝓛 (raw (fact 𝓤 (F₃ (r, None)))) (fact_i 𝓤 (F₃ (r, None)) (emp 𝓤) tt) $ use0 𝓛 (raw (fact 𝓤 (F₂ (r, None)))) (fact_i 𝓤 (F₂ (r, None)) (emp 𝓤) (refl, refl)) $ join ! $ use0 𝓛 (raw (fact 𝓤 (F₁ (r, None)))) (fact_i 𝓤 (F₁ (r, None)) (emp 𝓤) (refl, refl)) $ join ! $
-    nothing ! $ nothing ! $ fjoin ! $ nothing ! $ fjoin ! $ returns ! (look_at ! 0 refl) $ free_all ! refl $ keep ! (3 ∷ 0 ∷ 2 ∷ 1 ∷ []) $ by ! (leaves 𝓛 En hs c y v (r, None) (tt, (tt, tt)) (tt, (tt, tt))))))
+    nothing ! $ nothing ! $ fjoin ! $ nothing ! $ fjoin ! $ returns ! (look_at ! 0 refl) $ free_all ! refl $ keep ! (3 ∷ 0 ∷ 2 ∷ 1 ∷ []) $ by ! (leaves 𝓛 En hs c y v (r, None) (tt, (tt, tt)) (tt, (tt, tt)))))
     (λ u₁. lands_last ! refl (calls.answer_good (Err u₁)) $ exec ! 𝓣.C 𝓣.Λ Ev (after 4 fn.body) (at_ret Ev Post) $ sets ! (of_opd ! (get ! refl)) refl (calls.answer_good (Err u₁)) $ fsplit ! $
-    -- [the life's token; what came back; the invariant, twice; the way back; before, twice; the pass; the other tokens]
+    -- [the life's token; what came back; the sharing lasts; the way back; the pass; the other tokens]
     move ! (1 ∷ []) $ fsplit ! $ use1 𝓛 (later (‵ (Blank new))) (offers.take_back 𝓛 R t d x.heap new zn so) $ await ! tt $ move ! (1 ∷ []) $
     in_a_block ! u₁ (glimpse 𝓛 R d t ffalse ftrue) (snd∗ 𝓤 (sem 𝓛 (said_fact (d.reserved ≡ false))) (never 𝓤)) (λ pb o found. let first_at : Ptr = block_ptr pb o in fsplit ! $ fpick ! (λ zz.
-    -- [the part; nothing; the block; the life's token; the invariant, twice; the way back; before, twice; the pass; the other tokens]
-    move ! (0 ∷ 7 ∷ []) $ use2 𝓛 (later (‵ (said_fact ((zz.0.at ≡ first_at) × Sized R (len R d) first_at)) ⊛ ‵ (row R d t zz.0 β))) (reaches 𝓛 R d t β first_at zz) $ await ! tt $ split ! $ fpick ! (λ there. drop ! $
-    let s' : Standing = record zz.0 { at = first_at } in let el : ℕ = i * stride R + o in rewrite ! 0 (λ (k : Standing). ‵ (row R d t k β)) (λ j. record zz.0 { at = there.0 j }) refl $
-    -- [the row; nothing; the block; the life's token; the invariant, twice; the way back; before; the pass; the other tokens]
-    move ! (0 ∷ 3 ∷ 4 ∷ 5 ∷ 6 ∷ 7 ∷ 8 ∷ 9 ∷ 2 ∷ []) $
-    -- [the row; the life's token; the invariant, twice; the way back; before; the pass; the other tokens]
-    fsplit ! $ fpick ! (λ sized. move ! (1 ∷ []) $ fsplit ! $ use1 𝓛 (‵ (fres t.which (mark s')) ⊛ ‵ (fres t.which (mark s'))) (𝓛.names.res_dup t.which (mark s')) $ split ! $ move ! (1 ∷ 2 ∷ []) $ fjoin ! $ move ! (2 ∷ []) $
-    fpack ! ((length s'.names ≡ len R d) × Sized R (len R d) s'.at) (λ _. ftrue) sized $ move ! (0 ∷ 1 ∷ []) $ fjoin ! $
-    -- [the row; which block it is; the life's token; the invariant, twice; the way back; before; the pass; the other tokens]
-    let low : i < length s'.names = subst (λ (n : ℕ). i < n) (sym sized.0) of.4 in let small : i * stride R < 2 ^ 64 = small_product i (len R d) (stride R) of.4 there.1.2 in let Empty : Fml = steps.Holds 𝓛 R d t wb (wo + 0) s' i h.id el pb low of.3 refl refl none in
-    move ! (3 ∷ 2 ∷ 1 ∷ 7 ∷ []) $ group ! 4 $ use1 𝓛 (later (‵ Empty ⊛ ‵ (flft t.life s))) (steps.comes_in 𝓛 R d t wb (wo + 0) s' i h.id el pb low of.3 refl refl s) $ await ! tt $ split ! $
-    -- [what the slot holds; the life's token; the row; the invariant; the way back; before; the other tokens]
-    move ! (1 ∷ 4 ∷ []) $ use2 𝓛 (later (‵ (flft β q))) (apply∗ 𝓤 (𝓛.A.lft t.life s) (H.⇛ (𝓛.A.lft β q))) $ await ! tt $
-    -- [the token; what the slot holds; the row; the invariant; before; the other tokens; the block; nothing]
+    -- [the part; nothing; the block; the life's token; the sharing lasts; the way back; the pass; the other tokens]
+    let el : ℕ = i * stride R + o in move ! (0 ∷ 4 ∷ 3 ∷ 6 ∷ []) $ group ! 4 $
+    use1 𝓛 (later (‵ (said_fact (Sized R (len R d) first_at)) ⊛ ‵ (flft t.life s) ⊛ ‵ (Owned pb o))) (installs 𝓛 R d t β wb wo pb o h.id i h.reserved h.table s zz is_of) $ await ! tt $ split3 ! $ fpick ! (λ there. drop ! $
+    -- [the life's token; the claim; nothing; the block; the way back; the other tokens]
+    let small : i * stride R < 2 ^ 64 = small_product i (len R d) (stride R) of.4 there.2 in
+    move ! (0 ∷ 4 ∷ []) $ use2 𝓛 (later (‵ (flft β q))) (apply∗ 𝓤 (𝓛.A.lft t.life s) (H.⇛ (𝓛.A.lft β q))) $ await ! tt $
+    -- [the token; the claim; nothing; the block; the other tokens]
     let back : Val = live 1 (vcons bv vnil) in let block_good = fields.block_good p in let held : Good (layout Back) back = (and_tt _ block_good.0, (record { fits = lit< tt }, (block_good.1, tt))) in
     first ! $ switches_on ! (get_tag ! (vrt ! refl (fld ! refl (stop !))) (whole !)) $ exec ! 𝓣.C 𝓣.Λ Ev (arm_body 1 arms) Then $
     sets ! (is ! (of_opd ! (get_in ! (vrt ! refl (fld ! refl (stop !))) (in_variant ! 1 0 refl refl (whole !)))) (ap ptr_val found)) refl (tt, tt) $
@@ -150,16 +137,14 @@ offer_spec 𝓤 𝓛 𝓜 𝓡 wired X L =
     first ! $ blocks ! $ sets ! (of_opd ! (get ! refl)) refl (tt, tt) $
     sets ! (is ! (bin ! (get ! refl) (size_word !) (record { fits = subst (λ (k : ℕ). k < 2 ^ 64) (sym (uncapped i (stride R) small)) small })) (ap (vint w64) (uncapped i (stride R) small))) refl (tt, record { fits = small }) $
     sets_last ! (bin ! (get ! refl) (get ! refl) tt) refl (tt, tt) $ exec ! 𝓣.C 𝓣.Λ Ev (after 10 fn.body) (at_ret Ev Post) $ sets ! (of_opd ! (get ! refl)) refl (tt, tt) $
-    let m : Kept = record { word = block_ptr wb wo; slot = block_ptr pb el; index = i; found = true; published = false } in let pl' : Place = place_of h.id i (block_ptr pb el) true true h.reserved in let kept_good = typed m fits in
+    let m : Kept = record { word = block_ptr wb wo; slot = block_ptr pb el; index = i; found = true; published = false } in let kept_good = typed m fits in
     sets ! (agg ! (no_more !)) refl (tt, tt) $
     sets ! (agg ! (and_then ! (get ! refl) (and_then ! (get ! refl) (and_then ! (get ! refl) (and_then ! (true_lit !) (and_then ! (false_lit !) (and_then ! (get ! refl) (no_more !)))))))) refl kept_good $
     sets ! (of_opd ! (get ! refl)) refl kept_good $ sets ! (of_opd ! (get ! refl)) refl held $
     let v : Val = both (value_of m) back in let good : Good (layout Out) v = (and_tt _ held.0, (kept_good.1, (held.1, tt))) in
     sets ! (agg ! (and_then ! (get ! refl) (and_then ! (get ! refl) (no_more !)))) refl good $
-    -- [the token; what the slot holds; the row; the invariant; before; the other tokens]
-    move ! (2 ∷ 1 ∷ []) $ fjoin ! $ nothing ! $ fpack ! (IsAt R s' pl') (λ _. ftrue) refl $ fjoin ! $ fpack ! Standing (has_slot R d t β pl' none) s' $
-    move ! (3 ∷ 2 ∷ []) $ fjoin ! $ fjoin ! $ nothing ! $ fpack ! (IsOf R (block_ptr wb wo) h.table pl' d) (λ _. ftrue) (tt, of.1, of.2, of.3, of.4, of.5) $ fjoin ! $
-    fpack ! (Named × Turn) (has_at R β (block_ptr wb wo) h.table pl' none) z $ nothing ! $ fpack ! (IsKept R pl' true false none) (λ _. ftrue) (refl, refl) $ fjoin ! $
+    -- [the token; the claim; nothing; the block; the other tokens]
+    move ! (1 ∷ 0 ∷ 4 ∷ 3 ∷ []) $
     use0 𝓛 (‵ ((Words ℓ R).own_val (fields_of ℓ R m) (value_of m ∷ []))) (made ℓ R 𝓛 m fits) $ fjoin ! $
     let r : G.Denot = record { word = block_ptr wb wo; slot = block_ptr pb el; index = i; found = true; published = false; marker = record {}; table = h.table; id = h.id; looked = true; stands = true; reserved = h.reserved; value = none } in
     -- [the claim; the token; the other tokens; the block; nothing]
@@ -168,4 +153,4 @@ offer_spec 𝓤 𝓛 𝓜 𝓡 wired X L =
     use0 𝓛 (‵ ((fields.Words R Z ghosts).own_val (p, (record {}, tt)) (bv ∷ []))) (fields.made R Z ghosts 𝓛 p) $ fjoin ! $ use1 𝓛 (‵ (Back.own_val (Some x) (back ∷ []))) (Some-of 𝓛 Bl x bv) $ move ! (1 ∷ 0 ∷ []) $
     pair_in G Back ! r (Some x) (value_of m) back $ move ! (1 ∷ 2 ∷ []) $ join ! $ move ! (1 ∷ []) $
     use0 𝓛 (raw (fact 𝓤 (F₃ (r, Some x)))) (fact_i 𝓤 (F₃ (r, Some x)) (emp 𝓤) (refl, refl, blank.1)) $ use0 𝓛 (raw (fact 𝓤 (F₂ (r, Some x)))) (fact_i 𝓤 (F₂ (r, Some x)) (emp 𝓤) (refl, refl)) $ join ! $ use0 𝓛 (raw (fact 𝓤 (F₁ (r, Some x)))) (fact_i 𝓤 (F₁ (r, Some x)) (emp 𝓤) (refl, refl)) $ join ! $
-    nothing ! $ nothing ! $ fjoin ! $ nothing ! $ fjoin ! $ returns ! (look_at ! 0 refl) $ free_all ! refl $ keep ! (3 ∷ 0 ∷ 2 ∷ 1 ∷ []) $ by ! (leaves 𝓛 En hs c y v (r, Some x) (tt, (tt, tt)) (tt, (tt, tt))))))))))))))))))))
+    nothing ! $ nothing ! $ fjoin ! $ nothing ! $ fjoin ! $ returns ! (look_at ! 0 refl) $ free_all ! refl $ keep ! (3 ∷ 0 ∷ 2 ∷ 1 ∷ []) $ by ! (leaves 𝓛 En hs c y v (r, Some x) (tt, (tt, tt)) (tt, (tt, tt)))))))))))))))))))
