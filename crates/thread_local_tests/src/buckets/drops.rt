@@ -1,6 +1,7 @@
 //! Each value is dropped once, where the contracts leave it to be dropped.
 
-use std::alloc::Global;
+use super::insert;
+use std::alloc::{AllocError, Global};
 use std::fs;
 use std::fs::{Files, OpenOptions};
 use std::io::Write;
@@ -24,14 +25,12 @@ impl Drop for Counted<'_> {
 }
 
 // Counted values 0, 1 and 2, each at its own number's id.
-fn three(alloc: Global, drops: &AtomicU64) -> Buckets<Counted<'_>> {
+fn three(alloc: Global, drops: &AtomicU64) -> Result<Buckets<Counted<'_>>, AllocError> {
     let mut buckets = Buckets::new(alloc);
     for number in 0..3u32 {
-        let _kept = buckets
-            .insert(Thread::new(number as usize), Counted { number, drops })
-            .is_ok();
+        insert(&mut buckets, number, Counted { number, drops })?;
     }
-    buckets
+    Ok(buckets)
 }
 
 #[test]
@@ -42,7 +41,7 @@ fn a_table_drops_its_values(rt: HostRuntime) -> Result<(), Fail> {
         number: 7,
         drops: &drops,
     };
-    assert!(rt; buckets.insert(Thread::new(1234), value).is_ok());
+    insert(&mut buckets, 1234, value)?;
     assert_eq!(rt; buckets.slots(), 1024);
     assert_eq!(rt;
         buckets.iter_mut().next().map(|value| value.number),
@@ -63,13 +62,10 @@ fn a_second_value_is_dropped(rt: HostRuntime) -> Result<(), Fail> {
             number,
             drops: &drops,
         };
-        assert_eq!(rt;
-            buckets
-                .insert(Thread::new(0), value)
-                .ok()
-                .map(|stands| stands.number),
-            Some(0)
-        );
+        match buckets.insert(Thread::new(0), value) {
+            Ok(stands) => assert_eq!(rt; stands.number, 0),
+            Err(_) => return Err(AllocError)?,
+        }
         assert_eq!(rt; drops.load(SeqCst), u64::from(number));
     }
     drop(buckets);
@@ -80,7 +76,7 @@ fn a_second_value_is_dropped(rt: HostRuntime) -> Result<(), Fail> {
 #[test]
 fn clear_drops_each_value(rt: HostRuntime) -> Result<(), Fail> {
     let drops = AtomicU64::new(0);
-    let mut buckets = three(rt.alloc(), &drops);
+    let mut buckets = three(rt.alloc(), &drops)?;
     buckets.clear();
     assert_eq!(rt; drops.load(SeqCst), 3);
     drop(buckets);
@@ -91,11 +87,11 @@ fn clear_drops_each_value(rt: HostRuntime) -> Result<(), Fail> {
 #[test]
 fn a_walk_drops_what_it_has_not_given(rt: HostRuntime) -> Result<(), Fail> {
     let drops = AtomicU64::new(0);
-    drop(three(rt.alloc(), &drops).into_iter());
+    drop(three(rt.alloc(), &drops)?.into_iter());
     assert_eq!(rt; drops.load(SeqCst), 3);
 
     let drops = AtomicU64::new(0);
-    let mut walk = three(rt.alloc(), &drops).into_iter();
+    let mut walk = three(rt.alloc(), &drops)?.into_iter();
     let first = walk.next();
     drop(walk);
     assert_eq!(rt; drops.load(SeqCst), 2);
@@ -108,7 +104,7 @@ fn a_walk_drops_what_it_has_not_given(rt: HostRuntime) -> Result<(), Fail> {
 #[test]
 fn a_forgotten_walk_drops_nothing(rt: HostRuntime) -> Result<(), Fail> {
     let drops = AtomicU64::new(0);
-    let mut walk = three(rt.alloc(), &drops).into_iter();
+    let mut walk = three(rt.alloc(), &drops)?.into_iter();
     let first = walk.next();
     assert!(rt; first.is_some());
     forget(walk);
@@ -144,11 +140,7 @@ fn values_without_bytes_are_dropped_once(rt: HostRuntime) -> Result<(), Fail> {
     fs::write(&rt, NOTES, "")?;
     let mut buckets = Buckets::new(rt.alloc());
     for id in [0, 5, 5, 70u32] {
-        assert!(rt;
-            buckets
-                .insert(Thread::new(id as usize), Noted { rt })
-                .is_ok()
-        );
+        insert(&mut buckets, id, Noted { rt })?;
     }
     assert_eq!(rt; buckets.slots(), 1 + 4 + 64);
     assert_eq!(rt; fs::read(&rt, NOTES)?.len(), 1);

@@ -1,5 +1,7 @@
 //! Which buckets stand, and which value a slot has.
 
+use super::insert;
+use std::alloc::AllocError;
 use std::cell::Cell;
 use std::test::Fail;
 use thread_local::buckets::{Buckets, CapacityError};
@@ -92,7 +94,6 @@ fn put(buckets: &mut Buckets<usize>, id: u32, value: usize) -> Option<usize> {
     }
 }
 
-// `rt try --test --fail-alloc N` refuses the Nth request for memory.
 #[test]
 fn a_refused_insert_hands_the_value_back(rt: HostRuntime) -> Result<(), Fail> {
     let mut buckets = Buckets::new(rt.alloc());
@@ -128,15 +129,11 @@ fn blocks_are_freed(rt: HostRuntime) -> Result<(), Fail> {
 #[test]
 fn values_of_each_kind(rt: HostRuntime) -> Result<(), Fail> {
     let mut numbers = Buckets::new(rt.alloc());
-    assert!(rt; numbers.insert(Thread::new(0), 5u32).is_ok());
+    insert(&mut numbers, 0, 5u32)?;
     assert_eq!(rt; numbers.into_iter().next(), Some(5));
 
     let mut texts = Buckets::new(rt.alloc());
-    assert!(rt;
-        texts
-            .insert(Thread::new(2), String::from_str(rt.alloc(), "five")?)
-            .is_ok()
-    );
+    insert(&mut texts, 2, String::from_str(rt.alloc(), "five")?)?;
     for text in texts.iter_mut() {
         text.push_str(" and six")?;
     }
@@ -144,16 +141,13 @@ fn values_of_each_kind(rt: HostRuntime) -> Result<(), Fail> {
     assert_eq!(rt; text.as_deref(), Some("five and six"));
 
     let mut boxes = Buckets::new(rt.alloc());
-    assert!(rt;
-        boxes
-            .insert(Thread::new(4), Box::new(rt.alloc(), 7u32)?)
-            .is_ok()
-    );
+    insert(&mut boxes, 4, Box::new(rt.alloc(), 7u32)?)?;
     assert_eq!(rt; boxes.into_iter().next().map(|b| *b), Some(7));
 
     let mut cells = Buckets::new(rt.alloc());
-    if let Ok(cell) = cells.insert(Thread::new(1), Cell::new(8u64)) {
-        cell.set(9);
+    match cells.insert(Thread::new(1), Cell::new(8u64)) {
+        Ok(cell) => cell.set(9),
+        Err(_) => return Err(AllocError)?,
     }
     assert_eq!(rt; cells.into_iter().next().map(|cell| cell.get()), Some(9));
     Ok(())
@@ -163,11 +157,7 @@ fn values_of_each_kind(rt: HostRuntime) -> Result<(), Fail> {
 fn a_large_value(rt: HostRuntime) -> Result<(), Fail> {
     let mut buckets = Buckets::new(rt.alloc());
     for id in 0..3u32 {
-        assert!(rt;
-            buckets
-                .insert(Thread::new(id as usize), [u64::from(id); 512])
-                .is_ok()
-        );
+        insert(&mut buckets, id, [u64::from(id); 512])?;
     }
     assert_eq!(rt; buckets.slots(), 3);
     for value in buckets.iter_mut() {

@@ -1,20 +1,20 @@
 //! What the walks of an owner give, in which order, how many are still to come, and what they print.
 
-use std::alloc::Global;
+use super::insert;
+use std::alloc::{AllocError, Global};
 use std::mem::forget;
 use std::process::Abort;
 use std::test::Fail;
 use thread_local::buckets::Buckets;
 use thread_local::iter::IntoIter;
-use thread_local::thread_id::Thread;
 
 // The values 1, 2, 3 at three ids.
-fn three(alloc: Global, ids: [u32; 3]) -> Buckets<u32> {
+fn three(alloc: Global, ids: [u32; 3]) -> Result<Buckets<u32>, AllocError> {
     let mut buckets = Buckets::new(alloc);
     for (id, value) in ids.into_iter().zip([1, 2, 3]) {
-        let _kept = buckets.insert(Thread::new(id as usize), value).is_ok();
+        insert(&mut buckets, id, value)?;
     }
-    buckets
+    Ok(buckets)
 }
 
 // Three values, counted down, and then nothing for good.
@@ -53,7 +53,7 @@ fn lends(rt: &impl Abort, buckets: &mut Buckets<u32>, values: [u32; 3]) {
 #[test]
 fn walks_go_by_ascending_id(rt: HostRuntime) -> Result<(), Fail> {
     for ids in [[0, 1, 2], [0, 1234, 100000]] {
-        let mut buckets = three(rt.alloc(), ids);
+        let mut buckets = three(rt.alloc(), ids)?;
         lends(&rt, &mut buckets, [1, 2, 3]);
         gives(&rt, &mut buckets.into_iter(), [1, 2, 3]);
     }
@@ -78,7 +78,7 @@ fn crosses<S: Send>(value: S) -> S {
 
 #[test]
 fn walks_may_go_to_another_thread(rt: HostRuntime) -> Result<(), Fail> {
-    let mut buckets = crosses(three(rt.alloc(), [0, 1, 2]));
+    let mut buckets = crosses(three(rt.alloc(), [0, 1, 2])?);
     assert_eq!(rt; crosses(buckets.iter_mut()).len(), 3);
     gives(&rt, &mut crosses(buckets.into_iter()), [1, 2, 3]);
     Ok(())
@@ -86,7 +86,7 @@ fn walks_may_go_to_another_thread(rt: HostRuntime) -> Result<(), Fail> {
 
 #[test]
 fn what_a_walk_writes_stays(rt: HostRuntime) -> Result<(), Fail> {
-    let mut buckets = three(rt.alloc(), [0, 1, 2]);
+    let mut buckets = three(rt.alloc(), [0, 1, 2])?;
     for value in buckets.iter_mut() {
         *value = value.saturating_mul(10);
     }
@@ -109,7 +109,7 @@ fn first_of_forgotten(buckets: &mut Buckets<u32>) -> Option<u32> {
 
 #[test]
 fn a_walk_that_stops_early_changes_nothing(rt: HostRuntime) -> Result<(), Fail> {
-    let mut buckets = three(rt.alloc(), [0, 1, 2]);
+    let mut buckets = three(rt.alloc(), [0, 1, 2])?;
     assert_eq!(rt; first(&mut buckets), Some(1));
     lends(&rt, &mut buckets, [1, 2, 3]);
     assert_eq!(rt; first_of_forgotten(&mut buckets), Some(1));
@@ -120,7 +120,7 @@ fn a_walk_that_stops_early_changes_nothing(rt: HostRuntime) -> Result<(), Fail> 
 #[test]
 fn walks_print_their_cursor(rt: HostRuntime) -> Result<(), Fail> {
     let mut buckets = Buckets::new(rt.alloc());
-    assert!(rt; buckets.insert(Thread::new(0), 5u32).is_ok());
+    insert(&mut buckets, 0, 5u32)?;
     {
         let mut walk = buckets.iter_mut();
         let text = format!(in rt.alloc(); "{walk:?}")?;
