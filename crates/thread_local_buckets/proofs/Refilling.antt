@@ -1,7 +1,9 @@
-use Rattle.std.proofs.Common.{◌≡◌, ℕ, zero, suc, ◌^◌, ◌⊎◌, List, [], ◌∷◌, length, get_or, refl, sym, ap, ◌∙◌, subst, Option, nat_lt, IsTrue}
-use Rattle.thread_local_model.specs.Buckets.{Contents, row}
+use Rattle.std.proofs.Common.{◌≡◌, ℕ, zero, suc, ◌^◌, ◌⊎◌, List, [], ◌∷◌, length, get_or, refl, sym, ap, ◌∙◌, subst, Option, Some, None, nat_lt, IsTrue}
+use Rattle.std.specs.Prelude.{is_some}
+use Rattle.thread_local_model.specs.Place.{bucket_of, index_of}
+use Rattle.thread_local_model.specs.Buckets.{Contents, row, stands, values}
 use Rattle.thread_local_model.specs.Owned.{Owned, IsOwned}
-use Rattle.thread_local_loan.specs.Refilled.{refilled_row, refilled_rows, refilled}
+use Rattle.thread_local_loan.specs.Refilled.{refilled_slot, refilled_row, refilled_rows, refilled}
 use Rattle.thread_local_buckets.specs.LendingValues.{owned_refilled}
 
 module _ {V : Type 0} where
@@ -22,11 +24,36 @@ module _ {V : Type 0} where
   refilled-long (r ∷ rs) (w ∷ ws) (suc b) = refilled-long rs ws b
 
   -- buckets whose values were written are an owner's still
-  pub IsOwned-refilled : (owned : Owned V) (w : Contents V) → IsOwned owned → IsOwned (owned_refilled owned w)
-  IsOwned-refilled owned w so = let rs = owned.contents.rows in let long : (b : ℕ) → length (row (refilled owned.contents w) b) ≡ length (row owned.contents b) = refilled-long rs w.rows in record {
+  pub IsOwned-refilled : (owned w : Owned V) → IsOwned owned → IsOwned (owned_refilled owned w)
+  IsOwned-refilled owned with so = let rs = owned.contents.rows in let w : Contents V = with.contents in let long : (b : ℕ) → length (row (refilled owned.contents w) b) ≡ length (row owned.contents b) = refilled-long rs w.rows in record {
     table = record {
       buckets = length-refilled_rows rs w.rows ∙ so.table.buckets;
       whole = λ b. subst (λ n. (n ≡ 0) ⊎ (n ≡ 2 ^ b)) (sym (long b)) (so.table.whole b);
     };
     standing = λ b inside below. subst (λ n. IsTrue (nat_lt 0 n)) (sym (long b)) (so.standing b inside below);
   }
+
+  refilled_slot-some : (c : Option V) (w : Option V) → is_some (refilled_slot c w) ≡ is_some c
+  refilled_slot-some None w = refl
+  refilled_slot-some (Some x) None = refl
+  refilled_slot-some (Some x) (Some y) = refl
+
+  refilled_row-some : (cs ws : List (Option V)) (i : ℕ) → is_some (get_or (refilled_row cs ws) i None) ≡ is_some (get_or cs i None)
+  refilled_row-some [] ws i = refl
+  refilled_row-some (c ∷ cs) [] i = refl
+  refilled_row-some (c ∷ cs) (w ∷ ws) zero = refilled_slot-some c w
+  refilled_row-some (c ∷ cs) (w ∷ ws) (suc i) = refilled_row-some cs ws i
+
+  refilled_rows-some : (rs ws : List (List (Option V))) (b i : ℕ) → is_some (get_or (get_or (refilled_rows rs ws) b []) i None) ≡ is_some (get_or (get_or rs b []) i None)
+  refilled_rows-some [] ws b i = refl
+  refilled_rows-some (r ∷ rs) [] b i = refl
+  refilled_rows-some (r ∷ rs) (w ∷ ws) zero i = refilled_row-some r w i
+  refilled_rows-some (r ∷ rs) (w ∷ ws) (suc b) i = refilled_rows-some rs ws b i
+
+  -- the same buckets stand, whatever was written
+  pub refilled-stands : (owned w : Owned V) (b : ℕ) → stands (owned_refilled owned w).contents b ≡ stands owned.contents b
+  refilled-stands owned w b = ap (nat_lt 0) (refilled-long owned.contents.rows w.contents.rows b)
+
+  -- and the same ids have a value
+  pub refilled-published : (owned w : Owned V) (id : ℕ) → is_some (values (owned_refilled owned w).contents id) ≡ is_some (values owned.contents id)
+  refilled-published owned w id = refilled_rows-some owned.contents.rows w.contents.rows (bucket_of id) (index_of id)

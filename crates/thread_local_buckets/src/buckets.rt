@@ -1,8 +1,8 @@
-ghost use Rattle.std.specs.Prelude.{◌≡◌, ℕ, ◌^◌, ◌<◌, ◌≤◌, [], length, true, false, Option, Err, OnErr, IfOk, IfErr, nat_lt, unwrap_or, Some, MatchOption, ◌==◌, if◌then◌else◌};
+ghost use Rattle.std.specs.Prelude.{◌≡◌, ℕ, ◌^◌, ◌<◌, ◌≤◌, [], length, true, false, Option, Err, OnErr, IfOk, IfErr, nat_lt, unwrap_or, Some, is_some, MatchOption, ◌==◌, if◌then◌else◌};
 ghost use Rattle.std.specs.Borrow.{sem};
 ghost use Rattle.thread_local_model.specs.Place.{id_at};
 ghost use Rattle.thread_local_model.specs.Buckets.{row, stands, slots, values, no_contents, IsTable};
-ghost use Rattle.thread_local_model.specs.Owned.{IsOwned};
+ghost use Rattle.thread_local_model.specs.Owned.{Owned, IsOwned};
 ghost use Rattle.thread_local_model.specs.Rows.{slot};
 ghost use Rattle.thread_local_model.specs.Capacity.{binary_digits, reserved_slots};
 ghost use Rattle.thread_local_model.specs.Sheet.{moved};
@@ -15,9 +15,10 @@ use crate::iter_mut::IterMut;
 use crate::steps::{BUCKETS, bucket_size, count, holds, offer, stand};
 use std::alloc::{AllocError, Global};
 use std::marker::Model;
-use thread_local_loan::Loan;
 use thread_local_thread_id::Thread;
 use thread_local_words::Words;
+
+mod lends;
 
 /// Why buckets couldn't be had for a capacity.
 #[derive(Clone, Copy, Debug, PartialEq, Eq)]
@@ -56,7 +57,8 @@ impl<T> Model for Buckets<T> {
 
 impl<T> Buckets<T> {
     ghost use Rattle.thread_local_buckets.specs.Inserting.{LendsInserted};
-    ghost use Rattle.thread_local_buckets.specs.IterMut.{iter_mut_rest};
+    ghost use Rattle.thread_local_buckets.specs.IterMut.{iter_mut_rest, iter_mut_name};
+    ghost use Rattle.thread_local_buckets.specs.LendingValues.{LendsValues, owned_refilled};
     ghost use Rattle.thread_local_buckets.specs.Writing.{LendsSlot};
 
     /// No value and no bucket. It takes no memory.
@@ -178,11 +180,16 @@ impl<T> Buckets<T> {
 
     /// The values by ascending id, each lent as `&mut`. It takes no memory.
     pub fn iter_mut(&mut self) -> IterMut<'_, T>
+        ensures* writes_back { sem 𝓛 (LendsValues T.row self.entry (iter_mut_name result)) }
         ensures rest { iter_mut_rest result ≡ walk (values self.old.contents) }
+
+        // Whatever is written through the items, the same buckets stand, and the same ids have a value.
+        ensures stands { (written : Owned T) (bucket : ℕ) → stands (owned_refilled self.old written).contents bucket ≡ stands self.old.contents bucket }
+        ensures published { (written : Owned T) (id : ℕ) → is_some (values (owned_refilled self.old written).contents id) ≡ is_some (values self.old.contents id) }
     {
         let left = count(&mut self.words);
         IterMut {
-            loan: Loan::lend(&mut self.words),
+            loan: self.lend(),
             raw: RawIter::new(),
             left,
         }

@@ -1,9 +1,11 @@
 ghost use Rattle.std.specs.Prelude.{◌≡◌, length, Some, IfSome};
+ghost use types.Logic.{sem};
 ghost use Rattle.std.specs.Iterator.{YieldsFirstMut, UpTo, item_count};
 ghost use Rattle.std.specs.Iterator.SizeHint.{IsWithinCount};
 ghost use Rattle.thread_local_model.specs.Buckets.{values};
 ghost use Rattle.thread_local_model.specs.Walk.{walk};
-ghost use Rattle.thread_local_buckets.specs.IterMut.{iter_mut_rest};
+ghost use Rattle.thread_local_buckets.specs.IterMut.{iter_mut_rest, iter_mut_name};
+ghost use Rattle.thread_local_buckets.specs.LendingValues.{LendsValues};
 
 use crate::buckets::Buckets;
 use crate::cursor::RawIter;
@@ -48,7 +50,10 @@ impl<'a, T> IntoIterator for &'a mut Buckets<T> {
     ghost into_iter_gives = { λ buckets walked. iter_mut_rest walked ≡ walk (values buckets.now.contents) };
 
     /// The values by ascending id, each lent as `&mut`. It takes no memory.
-    fn into_iter(self) -> IterMut<'a, T> {
+    fn into_iter(self) -> IterMut<'a, T>
+        ensures* writes_back { sem 𝓛 (LendsValues T.row self.entry (iter_mut_name result)) }
+        ensures into_iter_gives { iter_mut_rest result ≡ walk (values self.old.contents) }
+    {
         self.iter_mut()
     }
 }

@@ -39,7 +39,7 @@ module _ (R : RattleType) where
     values_cross (p ∷ ps) (r ∷ rs) = (along_cross (valued R (block_of p)) (value_crosses (block_of p)) r (count_of p), values_cross ps rs)
 
     owned_crosses : (κ : Lft) (p : Ptr) (name : GName) (left : Contents R.Denot) (given : ℕ) → Keyless (loan_owns κ R p name left given)
-    owned_crosses κ p name left given = λ z. ((λ _. tt), (frames_cross (block_of p) (count_of p) z.0 z.1.rows, (tt, (λ w. (((λ _. tt), values_cross z.0 w.rows), tt)))))
+    owned_crosses κ p name left given = λ z. ((λ _. tt), (frames_cross (block_of p) (count_of p) z.0 z.1.rows, (tt, (λ w. (((λ _. tt), values_cross z.0 w.contents.rows), tt)))))
 
 pub loan_send : (a : NamedLft) (V : RattleType) → IsSend V → IsSend (loan.the_row a V)
 loan_send a V s =

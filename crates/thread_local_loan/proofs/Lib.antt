@@ -1,12 +1,12 @@
-mod Names
+pub mod Names
 mod Frames
 mod Shapes
 mod Giving
-mod Fields
+pub mod Fields
 mod Left
 mod Blocks
 mod Taking
 mod Refills
 mod Opened
-mod Lending
+pub mod Lending
 mod Crosses

@@ -13,7 +13,8 @@ use Rattle.std.specs.Sync.RawAtomic.Pointer.{cell}
 use Rattle.thread_local_model.specs.Place.{id_at}
 use Rattle.thread_local_model.specs.Buckets.{Contents, row, IsTable}
 use Rattle.thread_local_model.specs.Rows.{slot}
-use Rattle.thread_local_model.specs.Code.{contents_coded}
+use Rattle.thread_local_model.specs.Owned.{Owned}
+use Rattle.thread_local_model.specs.Code.{owned_coded}
 use Rattle.thread_local_blocks.specs.Slots.{fact, flag_of, along, value_at, rim, Fits}
 
 -- which slots have a value
@@ -26,6 +27,10 @@ pub record IsLeft {X : Type 0} (whole left : Contents X) (given : ℕ) : Type 0 
   pub rows : length whole.rows ≡ 63
   pub long : (bucket : ℕ) → length (row whole bucket) ≡ length (row left bucket)
   pub ahead : (bucket index : ℕ) → given ≤ id_at bucket index → slot left bucket index ≡ slot whole bucket index
+
+-- what a loan's name stands for: an owner's buckets with these contents, whose reserved slots the loan doesn't have
+abbrev pub lent_as : {X : Type 0} → Contents X → Owned X
+lent_as contents = record { contents = contents; reserved = 0 }
 
 module _ (R : RattleType) where
   -- of a slot: its flag
@@ -67,10 +72,10 @@ module _ (R : RattleType) where
 
   -- the values of contents that have a value in just these slots
   abbrev pub Values : List Ptr → List (List Bool) → SemTy
-  Values ps has = record { rep = Contents R.Denot; coded = contents_coded R.coded; size = 0; own_at = λ w _ _. fsep (fact (shape w.rows ≡ has)) (values_at ps w.rows) }
+  Values ps has = record { rep = Owned R.Denot; coded = owned_coded R.coded; size = 0; own_at = λ w _ _. fsep (fact (shape w.contents.rows ≡ has)) (values_at ps w.contents.rows) }
 
   abbrev pub lent_values : Lft → List Ptr → GName → Contents R.Denot → Fml
-  lent_values κ ps name left = fsep (fobs name ((contents_coded R.coded).code left)) (fbor κ (Body (Values ps (shape left.rows)) 0 0 name))
+  lent_values κ ps name left = fsep (fobs name ((owned_coded R.coded).code (lent_as left))) (fbor κ (Body (Values ps (shape left.rows)) 0 0 name))
 
   -- where the blocks lie, and what the words had when they were lent
   abbrev pub Lending : Type 0

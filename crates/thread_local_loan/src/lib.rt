@@ -2,7 +2,5 @@
 #![tactic(auto)]
 
 mod loan;
-#[cfg(test)]
-mod tests;
 
 pub use loan::Loan;

@@ -6,24 +6,21 @@ ghost use Rattle.thread_local_model.specs.Buckets.{Contents, row, stands, IsTabl
 ghost use Rattle.thread_local_model.specs.Rows.{slot, with_slot};
 ghost use Rattle.thread_local_model.specs.Code.{contents_coded};
 ghost use types.Logic.{sem};
-ghost use Rattle.std.specs.Borrow.{follows};
-ghost use Rattle.thread_local_words.specs.contracts.words.Words.{the_row as words_row};
 ghost use Rattle.thread_local_loan.specs.Lent.{loan_owns};
 ghost use Rattle.thread_local_loan.specs.Given.{ends_with_item};
-ghost use Rattle.thread_local_loan.specs.Refilled.{refilled};
 
 use std::marker::{Model, PhantomData};
 use thread_local_blocks::Slot;
-use thread_local_words::Words;
 
-/// A table's words, lent to a walk that writes. It gives the values by ascending place, each at most once.
+/// The words of an owner's buckets, lent to a walk that writes. It gives the values by ascending place, each at most once.
 ///
 /// A contract sees what it still has. The flag of a slot whose value it gave stays set, so it answers only for the slots from `given` on.
 #[derive(Drop)]
 pub struct Loan<'a, T> {
-    words: *const *mut Slot<T>,
-    marker: PhantomData<&'a mut T>,
-    /// What the table's contents follow.
+    /// Where the words lie.
+    pub words: *const *mut Slot<T>,
+    pub marker: PhantomData<&'a mut T>,
+    /// What the owner's buckets follow.
     pub ghost name: { GName },
     /// What it still has.
     pub ghost contents: { Contents T } by { contents_coded T.code },
@@ -38,19 +35,6 @@ impl<'a, T> Model for Loan<'a, T> {
 }
 
 impl<'a, T> Loan<'a, T> {
-    /// Lends a table's words. It takes no memory.
-    pub fn lend(words: &'a mut Words<T>) -> Loan<'a, T>
-        ensures* writes_back { sem 𝓛 (follows (words_row T.row) (words_row T.row) words.entry.ghost_name result.name (refilled words.old)) }
-        ensures contents { result.contents ≡ words.old }
-        ensures given { result.given ≡ 0 }
-        ensures table { IsTable words.old }
-    {
-        Loan {
-            words: words as *mut Words<T> as *const *mut Slot<T>,
-            marker: PhantomData,
-        }
-    }
-
     /// Whether the bucket stands. It takes no memory.
     #[inline]
     pub fn stands(&mut self, bucket: usize) -> bool
