@@ -1,4 +1,5 @@
-ghost use Rattle.std.specs.Prelude.{◌≡◌, IfOk, IsSome};
+ghost use Rattle.std.specs.Prelude.{◌≡◌, ℕ, IfOk, IsSome, is_some};
+ghost use Rattle.thread_local_model.specs.Buckets.{values};
 ghost use Rattle.thread_local_model.specs.Rows.{slot};
 ghost use Rattle.thread_local_contents.specs.Owner.{with_published};
 
@@ -36,6 +37,25 @@ fn write_at(buckets: &mut Buckets<u32>, thread: Thread, value: u32)
     ensures { buckets.new.contents ≡ with_published buckets.old.contents thread.bucket thread.index value }
 {
     if let Some(there) = buckets.get_mut(thread) {
+        *there = value;
+    }
+}
+
+// Writes every value of a map: the same ids have a value, and as many slots are reserved.
+fn write_all(buckets: &mut Buckets<u32>, value: u32)
+    ensures published { (id : ℕ) → is_some (values buckets.new.contents id) ≡ is_some (values buckets.old.contents id) }
+    ensures reserved { buckets.new.reserved ≡ buckets.old.reserved }
+{
+    for there in buckets.iter_mut() {
+        *there = value;
+    }
+}
+
+// Writes the value that a walk gives first.
+fn write_first(buckets: &mut Buckets<u32>, value: u32)
+    ensures published { (id : ℕ) → is_some (values buckets.new.contents id) ≡ is_some (values buckets.old.contents id) }
+{
+    if let Some(there) = buckets.iter_mut().next() {
         *there = value;
     }
 }
