@@ -1,4 +1,3 @@
-pub mod Cursor
 pub mod Inserting
 pub mod IterMut
 pub mod LendingValues

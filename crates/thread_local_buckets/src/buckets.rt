@@ -9,7 +9,7 @@ ghost use Rattle.thread_local_model.specs.Sheet.{moved};
 ghost use Rattle.thread_local_model.specs.Walk.{walk, with_value};
 ghost use Rattle.thread_local_contents.specs.Owner.{with_bucket, with_published, sheet_of, offer};
 
-use crate::cursor::RawIter;
+use thread_local_cursor::RawIter;
 use crate::iter::IntoIter;
 use crate::iter_mut::IterMut;
 use crate::steps::{BUCKETS, bucket_size, count, holds, offer, stand};

@@ -2,7 +2,7 @@ ghost use Rattle.std.specs.Prelude.{◌≡◌, length, Some, IfSome};
 ghost use Rattle.std.specs.Iterator.{YieldsFirst, UpTo, item_count};
 ghost use Rattle.std.specs.Iterator.SizeHint.{IsWithinCount};
 
-use crate::cursor::{RawIter, seek};
+use thread_local_cursor::{RawIter, seek};
 pub use crate::iter_mut::IterMut;
 use std::fmt;
 use std::iter::FusedIterator;
@@ -26,7 +26,7 @@ impl<T> Model for IntoIter<T> {
 
     ghost Value = { List T };
 
-    ghost use Rattle.thread_local_buckets.specs.Cursor.{IsWalk};
+    ghost use Rattle.thread_local_cursor.specs.Cursor.{IsWalk};
 
     ghost view = { λ it. walk (values it.words) };
 

@@ -8,8 +8,7 @@ ghost use Rattle.thread_local_buckets.specs.IterMut.{iter_mut_rest, iter_mut_nam
 ghost use Rattle.thread_local_buckets.specs.LendingValues.{LendsValues};
 
 use crate::buckets::Buckets;
-use crate::cursor::RawIter;
-use crate::lent::seek_lent;
+use thread_local_cursor::{RawIter, seek};
 use std::fmt;
 use std::iter::FusedIterator;
 use std::marker::Model;
@@ -35,7 +34,7 @@ impl<'a, T> Model for IterMut<'a, T> {
 
     ghost Value = { List T × GName };
 
-    ghost use Rattle.thread_local_buckets.specs.Cursor.{IsWalk};
+    ghost use Rattle.thread_local_cursor.specs.Cursor.{IsWalk};
 
     ghost view = { λ it. (walk (values it.loan.contents), it.loan.name) };
 
@@ -69,7 +68,7 @@ impl<'a, T> Iterator for IterMut<'a, T> {
         if self.left == 0 {
             return None;
         }
-        seek_lent(&mut self.loan, &mut self.raw);
+        seek(&mut self.loan, &mut self.raw);
         let item = self.loan.give(self.raw.bucket, self.raw.index);
         self.raw.yielded += 1;
         self.raw.index += 1;

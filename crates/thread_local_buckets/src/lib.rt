@@ -2,10 +2,8 @@
 #![tactic(auto)]
 
 pub mod buckets;
-mod cursor;
 pub mod iter;
 mod iter_mut;
-mod lent;
 mod steps;
 
 pub use buckets::{Buckets, CapacityError};

@@ -2,7 +2,7 @@ use Rattle.std.proofs.Common.{◌≡◌, ◌+◌, ℕ, length, subst, sym, ◌�
 use Rattle.thread_local_model.specs.Buckets.{Contents, values}
 use Rattle.thread_local_model.specs.Rows.{slot, with_slot}
 use Rattle.thread_local_model.specs.Walk.{walk}
-use Rattle.thread_local_buckets.proofs.Walking.{Goes, goes}
+use Rattle.thread_local_cursor.proofs.Walking.{Goes, goes}
 use Rattle.thread_local_buckets.proofs.iter.IntoIterIterator.next.Goals as goal
 
 -- what is taken from words that are the same as before
@@ -16,7 +16,7 @@ goes_on g c =
     let yielded = c.seek.ensures.yielded in
     goes c.self.inside.words c.take-value.new.self c.seek.new.raw c.self.inside.left c.take-value.result c.seek.ensures.at
     (ap (λ (w : Contents _). slot w c.seek.new.raw.bucket c.seek.new.raw.index) (sym same) ∙ c.take-value.ensures.value)
-    (from_same c.self.inside.words c.seek.new.words c.take-value.new.self c.seek.new.raw.bucket c.seek.new.raw.index same c.take-value.ensures.after)
+    (from_same c.self.inside.words c.seek.new.places c.take-value.new.self c.seek.new.raw.bucket c.seek.new.raw.index same c.take-value.ensures.after)
     c.self.invariant.counted (omega arith)
 
 pub invariant_of-self : goal.invariant_of-self

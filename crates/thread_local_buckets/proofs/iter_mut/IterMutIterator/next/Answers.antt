@@ -3,21 +3,21 @@ use Rattle.thread_local_model.specs.Buckets.{Contents, values}
 use Rattle.thread_local_model.specs.Rows.{slot, with_slot}
 use Rattle.thread_local_model.specs.Walk.{walk}
 use Rattle.thread_local_loan.specs.declared.loan.Loan.{Loan}
-use Rattle.thread_local_buckets.proofs.Walking.{Goes, goes}
+use Rattle.thread_local_cursor.proofs.Walking.{Goes, goes}
 use Rattle.thread_local_buckets.proofs.iter_mut.IterMutIterator.next.Goals as goal
 
 -- what is given of a loan that is the same as before
 from_same : {V : Type 0} (l m : Loan V) (e : Contents V) (b i : ℕ) → m ≡ l → e ≡ with_slot m.contents b i None → e ≡ with_slot l.contents b i None
 from_same l m e b i same after = let P : Loan _ → Type 0 = λ w. e ≡ with_slot w.contents b i None in subst P same after
 
-goes_on : (g : _) (c : goal.After-self-3-1 g) → Goes c.self.inside.loan.contents c.give-item.new.self.contents c.seek_lent.new.raw c.self.inside.left c.give-item.result.now
+goes_on : (g : _) (c : goal.After-self-3-1 g) → Goes c.self.inside.loan.contents c.give-item.new.self.contents c.seek.new.raw c.self.inside.left c.give-item.result.now
 goes_on g c =
-    let same = c.seek_lent.ensures.same in
+    let same = c.seek.ensures.same in
     let fits = c.self.invariant.0.fits in
-    let yielded = c.seek_lent.ensures.yielded in
-    goes c.self.inside.loan.contents c.give-item.new.self.contents c.seek_lent.new.raw c.self.inside.left c.give-item.result.now c.seek_lent.ensures.at
-    (ap (λ (l : Loan _). slot l.contents c.seek_lent.new.raw.bucket c.seek_lent.new.raw.index) (sym same) ∙ c.give-item.ensures.value)
-    (from_same c.self.inside.loan c.seek_lent.new.loan c.give-item.new.self.contents c.seek_lent.new.raw.bucket c.seek_lent.new.raw.index same c.give-item.ensures.contents)
+    let yielded = c.seek.ensures.yielded in
+    goes c.self.inside.loan.contents c.give-item.new.self.contents c.seek.new.raw c.self.inside.left c.give-item.result.now c.seek.ensures.at
+    (ap (λ (l : Loan _). slot l.contents c.seek.new.raw.bucket c.seek.new.raw.index) (sym same) ∙ c.give-item.ensures.value)
+    (from_same c.self.inside.loan c.seek.new.places c.give-item.new.self.contents c.seek.new.raw.bucket c.seek.new.raw.index same c.give-item.ensures.contents)
     c.self.invariant.0.counted (omega arith)
 
 pub invariant_of-self : goal.invariant_of-self

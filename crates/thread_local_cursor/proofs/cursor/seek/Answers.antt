@@ -2,11 +2,10 @@ use Rattle.std.proofs.Common.{◌≡◌, ◌+◌, ◌*◌, ◌^◌, ◌≤◌, s
 use Rattle.std.proofs.Math.Nat.{two-pow-succ}
 use Rattle.thread_local_model.specs.Place.{id_at}
 use Rattle.thread_local_model.specs.Buckets.{values, row}
-use Rattle.thread_local_loan.specs.declared.loan.Loan.{Loan}
 use Rattle.thread_local_contents.specs.Owner.{NoneBelow}
 use Rattle.thread_local_contents.proofs.TakingLaws.{id_at-next, NoneBelow-end, NoneBelow-absent, walk-met}
-use Rattle.thread_local_buckets.proofs.lent.seek_lent.Goals as goal
-use Rattle.thread_local_buckets.proofs.lent.seek_lent.Goals.{then-stands+else-index-raw, else-stands}
+use Rattle.thread_local_cursor.proofs.cursor.seek.Goals as goal
+use Rattle.thread_local_cursor.proofs.cursor.seek.Goals.{then-stands+else-index-raw, else-stands}
 
 pub overflow_mul-raw : goal.overflow_mul-raw
 overflow_mul-raw g c =
@@ -20,30 +19,30 @@ loop-bucket-preserved g c =
     let kept = c.loop-bucket.invariant in
     let twice : 2 ^ (c.loop-bucket.bucket + 1) ≡ 2 ^ c.loop-bucket.bucket + 2 ^ c.loop-bucket.bucket = rw add-one (two-pow-succ c.loop-bucket.bucket) in
     let size : c.loop-bucket.raw.bucket_size * 2 ≡ 2 ^ (c.loop-bucket.bucket + 1) = omega (arith, kept.size) in
-    let first = c.args.loan.now.contents in
-    let ahead : c.args.loan.now.given ≤ id_at (c.loop-bucket.bucket + 1) 0 = omega (arith, kept.ahead, kept.within, kept.size, id_at-next c.loop-bucket.bucket) in
+    let first = (g.P.Places.contents c.args.places.now) in
+    let ahead : g.P.Places.given c.args.places.now ≤ id_at (c.loop-bucket.bucket + 1) 0 = omega (arith, kept.ahead, kept.within, kept.size, id_at-next c.loop-bucket.bucket) in
     elim c.if-stands.branch [
       | then-stands+else-index-raw w ↦
-          let P : Loan _ → Type 0 = λ l. NoneBelow (values l.contents) (id_at c.loop-bucket.bucket w.first_lent-index.result) in
-          let none = subst P (c.stands.ensures.same ∙ kept.same) w.first_lent-index.ensures.behind in
-          let last : w.first_lent-index.result ≡ 2 ^ c.loop-bucket.bucket = omega (arith, kept.size, w.first_lent-index.ensures.within, w.if-index-raw.false) in
+          let P : g.row.P.Denot → Type 0 = λ l. NoneBelow (values (g.P.Places.contents l)) (id_at c.loop-bucket.bucket w.first_published-index.result) in
+          let none = subst P (c.stands.ensures.same ∙ kept.same) w.first_published-index.ensures.behind in
+          let last : w.first_published-index.result ≡ 2 ^ c.loop-bucket.bucket = omega (arith, kept.size, w.first_published-index.ensures.within, w.if-index-raw.false) in
           record {
             here = refl;
             size = size;
             within = omega arith;
-            behind = NoneBelow-end first c.loop-bucket.bucket w.first_lent-index.result last none;
-            same = w.loan-is ∙ w.first_lent-index.ensures.same ∙ c.stands.ensures.same ∙ kept.same;
+            behind = NoneBelow-end first c.loop-bucket.bucket w.first_published-index.result last none;
+            same = w.places-is ∙ w.first_published-index.ensures.same ∙ c.stands.ensures.same ∙ kept.same;
             ahead = ahead;
             yielded = kept.yielded;
           }
       | else-stands w ↦
-          let absent : row first c.loop-bucket.bucket ≡ [] = sym (ap (λ (l : Loan _). row l.contents c.loop-bucket.bucket) kept.same) ∙ c.stands.ensures.absent w.if-stands.false in
+          let absent : row first c.loop-bucket.bucket ≡ [] = sym (ap (λ l. row (g.P.Places.contents l) c.loop-bucket.bucket) kept.same) ∙ c.stands.ensures.absent w.if-stands.false in
           record {
             here = refl;
             size = size;
             within = omega arith;
             behind = NoneBelow-absent first c.loop-bucket.bucket c.loop-bucket.raw.index kept.behind absent;
-            same = w.loan-is ∙ c.stands.ensures.same ∙ kept.same;
+            same = w.places-is ∙ c.stands.ensures.same ∙ kept.same;
             ahead = ahead;
             yielded = kept.yielded;
           }
@@ -51,5 +50,5 @@ loop-bucket-preserved g c =
 
 pub unreachable-requires : goal.unreachable-requires
 unreachable-requires g c =
-    let none = walk-met c.args.loan.now.contents c.loop-bucket.bucket c.loop-bucket.raw.index c.loop-bucket-test.false c.loop-bucket.invariant.behind in
+    let none = walk-met (g.P.Places.contents c.args.places.now) c.loop-bucket.bucket c.loop-bucket.raw.index c.loop-bucket-test.false c.loop-bucket.invariant.behind in
     omega (arith, none, c.requires.some)

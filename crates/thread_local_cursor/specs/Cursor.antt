@@ -4,7 +4,7 @@ use Rattle.thread_local_model.specs.Buckets.{Contents, row, values}
 use Rattle.thread_local_model.specs.Rows.{slot}
 use Rattle.thread_local_model.specs.Walk.{walk}
 use Rattle.thread_local_contents.specs.Owner.{NoneBelow}
-use Rattle.thread_local_buckets.specs.declared.cursor.RawIter.{RawIter}
+use Rattle.thread_local_cursor.specs.declared.cursor.RawIter.{RawIter}
 
 -- a walk is at a place, or behind the last of a bucket, and no value stands before it
 pub record IsAt {V : Type 0} (contents : Contents V) (raw : RawIter) : Type 0 where

@@ -3,8 +3,8 @@ use Rattle.thread_local_model.specs.Buckets.{Contents, values}
 use Rattle.thread_local_model.specs.Walk.{walk}
 use Rattle.thread_local_model.specs.Rows.{slot, with_slot}
 use Rattle.thread_local_contents.proofs.TakingLaws.{taking}
-use Rattle.thread_local_buckets.specs.declared.cursor.RawIter.{RawIter}
-use Rattle.thread_local_buckets.specs.Cursor.{IsAtValue, IsWalk}
+use Rattle.thread_local_cursor.specs.declared.cursor.RawIter.{RawIter}
+use Rattle.thread_local_cursor.specs.Cursor.{IsAtValue, IsWalk}
 
 -- the walk past a value that it gave
 abbrev pub past : RawIter → RawIter
