@@ -1,6 +1,5 @@
 use Rattle.std.specs.Borrow.{follows, MutBor, Fml, RattleType}
 use base.Fml.{GName}
-use Rattle.thread_local_model.specs.Buckets.{Contents}
 use Rattle.thread_local_model.specs.Owned.{Owned}
 use Rattle.thread_local_loan.specs.Refilled.{refilled}
 use Rattle.thread_local_buckets.specs.contracts.buckets.Buckets.{the_row}

@@ -9,12 +9,12 @@ ghost use Rattle.thread_local_model.specs.Sheet.{moved};
 ghost use Rattle.thread_local_model.specs.Walk.{walk, with_value};
 ghost use Rattle.thread_local_contents.specs.Owner.{with_bucket, with_published, sheet_of, offer};
 
-use thread_local_cursor::RawIter;
 use crate::iter::IntoIter;
 use crate::iter_mut::IterMut;
 use crate::steps::{BUCKETS, bucket_size, count, holds, offer, stand};
 use std::alloc::{AllocError, Global};
 use std::marker::Model;
+use thread_local_cursor::RawIter;
 use thread_local_thread_id::Thread;
 use thread_local_words::Words;
 

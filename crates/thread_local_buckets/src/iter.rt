@@ -2,11 +2,11 @@ ghost use Rattle.std.specs.Prelude.{◌≡◌, length, Some, IfSome};
 ghost use Rattle.std.specs.Iterator.{YieldsFirst, UpTo, item_count};
 ghost use Rattle.std.specs.Iterator.SizeHint.{IsWithinCount};
 
-use thread_local_cursor::{RawIter, seek};
 pub use crate::iter_mut::IterMut;
 use std::fmt;
 use std::iter::FusedIterator;
 use std::marker::Model;
+use thread_local_cursor::{RawIter, seek};
 use thread_local_words::Words;
 
 /// The values of a table's buckets, by ascending id, each moved out. It is seen as the list of those still to come.

@@ -8,10 +8,10 @@ ghost use Rattle.thread_local_buckets.specs.IterMut.{iter_mut_rest, iter_mut_nam
 ghost use Rattle.thread_local_buckets.specs.LendingValues.{LendsValues};
 
 use crate::buckets::Buckets;
-use thread_local_cursor::{RawIter, seek};
 use std::fmt;
 use std::iter::FusedIterator;
 use std::marker::Model;
+use thread_local_cursor::{RawIter, seek};
 use thread_local_loan::Loan;
 
 /// The values of a table's buckets, by ascending id, each lent as `&mut`. Contracts see those still to come, and the

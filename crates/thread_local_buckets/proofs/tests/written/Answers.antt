@@ -1,4 +1,4 @@
-use Rattle.std.proofs.Common.{◌≡◌, ◌+◌, ◌<◌, ◌^◌, ℕ, sym, ap, ◌∙◌, Option, Some, None, refl, subst, arith}
+use Rattle.std.proofs.Common.{◌≡◌, ◌+◌, ◌<◌, ◌^◌, ℕ, sym, ap, ◌∙◌, Option, subst, arith}
 use Rattle.std.specs.Prelude.{unwrap_or}
 use Rattle.thread_local_model.specs.Buckets.{Contents, no_contents, IsTable}
 use Rattle.thread_local_model.specs.Rows.{slot}

@@ -1,4 +1,4 @@
-use Rattle.std.proofs.Common.{◌≡◌, refl, ap, ◌∙◌, subst}
+use Rattle.std.proofs.Common.{◌≡◌, refl, ap, ◌∙◌}
 use Rattle.thread_local_model.specs.Buckets.{Contents, values}
 use Rattle.thread_local_model.specs.Owned.{Owned}
 use Rattle.thread_local_model.specs.Walk.{walk}
@@ -9,7 +9,7 @@ use Rattle.thread_local_buckets.proofs.buckets.Buckets.iter_mut.Goals as goal
 pub returns : goal.returns
 returns g c =
     let counted : record { contents = c.count-left.new.words; reserved = c.self.inside.reserved } ≡ c.args.self.now =
-        ap (λ (words : Contents _). let s : Owned _ = record { contents = words; reserved = c.self.inside.reserved } in s) c.count-left.ensures.same ∙ c.self.view_is in (
+    ap (λ (words : Contents _). let s : Owned _ = record { contents = words; reserved = c.self.inside.reserved } in s) c.count-left.ensures.same ∙ c.self.view_is in (
       (refl, λ w. ap (λ (s : Owned _). owned_refilled s w) counted),
       record {
         writes_back = tt;
