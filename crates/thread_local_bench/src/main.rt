@@ -1,9 +1,10 @@
 //! Times the calls of an owner's buckets and of the id manager: a line for each workload, with its name and the nanoseconds of one
 //! operation, the least of several rounds. The argument is the number of rounds. With none each workload runs once, on few ids, and
-//! its name alone is printed.
+//! its name alone is printed. With `locks N` it compares two locks over N pairs of taking and giving.
 #![tactic(auto)]
 
 mod ids;
+mod lock;
 mod values;
 
 use std::alloc::Global;
@@ -67,9 +68,15 @@ impl Workload {
 }
 
 fn main(rt: HostRuntime) -> io::Result<()> {
-    let rounds = std::env::args(&rt)?
-        .nth(1)
-        .and_then(|word| word.parse::<u64>().ok());
+    let mut words = std::env::args(&rt)?.skip(1);
+    let first = words.next();
+    if let (Some("locks"), Some(Ok(pairs))) = (
+        first.as_ref().map(|word| word.as_str()),
+        words.next().map(|word| word.parse::<u64>()),
+    ) {
+        return lock::compare(&rt, rt.alloc(), pairs);
+    }
+    let rounds = first.and_then(|word| word.parse::<u64>().ok());
     for workload in Workload::ALL {
         let name = workload.name();
         match rounds {

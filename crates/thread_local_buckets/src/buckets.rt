@@ -14,7 +14,7 @@ use crate::iter_mut::IterMut;
 use crate::steps::{BUCKETS, bucket_size, count, holds, offer, stand};
 use std::alloc::{AllocError, Global};
 use std::marker::Model;
-use thread_local_cursor::RawIter;
+use thread_local_contents::RawIter;
 use thread_local_thread_id::Thread;
 use thread_local_words::Words;
 

@@ -6,7 +6,7 @@ pub use crate::iter_mut::IterMut;
 use std::fmt;
 use std::iter::FusedIterator;
 use std::marker::Model;
-use thread_local_cursor::{RawIter, seek};
+use thread_local_contents::{RawIter, seek};
 use thread_local_words::Words;
 
 /// The values of a table's buckets, by ascending id, each moved out. It is seen as the list of those still to come.
@@ -26,7 +26,7 @@ impl<T> Model for IntoIter<T> {
 
     ghost Value = { List T };
 
-    ghost use Rattle.thread_local_cursor.specs.Cursor.{IsWalk};
+    ghost use Rattle.thread_local_contents.specs.Cursor.{IsWalk};
 
     ghost view = { λ it. walk (values it.words) };
 

@@ -11,7 +11,7 @@ use crate::buckets::Buckets;
 use std::fmt;
 use std::iter::FusedIterator;
 use std::marker::Model;
-use thread_local_cursor::{RawIter, seek};
+use thread_local_contents::{RawIter, seek};
 use thread_local_loan::Loan;
 
 /// The values of a table's buckets, by ascending id, each lent as `&mut`. Contracts see those still to come, and the
@@ -34,7 +34,7 @@ impl<'a, T> Model for IterMut<'a, T> {
 
     ghost Value = { List T × GName };
 
-    ghost use Rattle.thread_local_cursor.specs.Cursor.{IsWalk};
+    ghost use Rattle.thread_local_contents.specs.Cursor.{IsWalk};
 
     ghost view = { λ it. (walk (values it.loan.contents), it.loan.name) };
 

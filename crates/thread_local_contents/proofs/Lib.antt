@@ -4,3 +4,4 @@ pub mod TakingLaws
 pub mod StandingLaws
 pub mod FillingLaws
 pub mod InsertingLaws
+pub mod NextValue

@@ -1,5 +1,8 @@
-//! The laws of what an owner's calls do to the buckets: what stands and what is published after each change.
+//! The contents of an owner's buckets: the laws of what his calls do to them, and how a walk finds its next value.
 #![tactic(auto)]
 
+pub mod cursor;
 pub mod inserting;
 pub mod walking;
+
+pub use cursor::{Places, RawIter, seek};

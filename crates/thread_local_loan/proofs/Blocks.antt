@@ -8,7 +8,7 @@ use Rattle.std.proofs.lemmas.Bool.{true≢false, false≢true}
 use Rattle.std.proofs.lemmas.List.{length-map}
 use Rattle.std.proofs.GlobalToken.{dealloc_token-Testable}
 use Rattle.thread_local_blocks.specs.Slots.{fact, slot_ty, stride, block_ty, Fits, slot, along, heap_token}
-use Rattle.thread_local_owned_word.specs.Words.{word_owns}
+use Rattle.thread_local_words.specs.Leads.{word_owns}
 use Rattle.thread_local_loan.specs.Lent.{flagged, valued, bare, Leads}
 
 abbrev pub first_of : List Bool → Bool

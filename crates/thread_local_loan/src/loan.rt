@@ -11,6 +11,7 @@ ghost use Rattle.thread_local_loan.specs.Given.{ends_with_item};
 
 use std::marker::{Model, PhantomData};
 use thread_local_blocks::Slot;
+use thread_local_contents::Places;
 
 /// The words of an owner's buckets, lent to a walk that writes. It gives the values by ascending place, each at most once.
 ///
@@ -83,6 +84,24 @@ impl<'a, T> Loan<'a, T> {
             let item = block.add(index);
             &mut (*item).value
         }
+    }
+}
+
+impl<T> Places for Loan<'_, T> {
+    type Value = T;
+
+    ghost contents = { λ loan. loan.contents };
+
+    ghost given = { λ loan. loan.given };
+
+    #[inline]
+    fn stands(&mut self, bucket: usize) -> bool {
+        self.stands(bucket)
+    }
+
+    #[inline]
+    fn is_published(&mut self, bucket: usize, index: usize) -> bool {
+        self.is_published(bucket, index)
     }
 }
 

@@ -25,8 +25,8 @@ pub use denote.Plain.{uint_vals, uint_Tells}
 pub use denote.Triple.Walked.{Stays, stay_dropped, walk_of, Goes-dropped, Goes-spent_ref}
 pub use Rattle.std.proofs.raw_atomic.Walks.{proved, leaves, proved_at}
 pub use Rattle.std.proofs.raw_atomic.Calls.{fm, found, finds, stored, has_stored}
-pub use Rattle.thread_local_word.proofs.Bodies.{tail}
-pub use Rattle.thread_local_word.proofs.Calls.{exchanges}
+pub use Rattle.thread_local_atomic_word.proofs.Bodies.{tail}
+pub use Rattle.thread_local_atomic_word.proofs.Calls.{exchanges}
 pub use prog.Wp.{WpFn}
 pub use denote.Laws.{Is, shows}
 pub use denote.Triple.Entry.{alive}

@@ -12,7 +12,7 @@ use denote.Steps.{nothing}
 use denote.RawPtr.{block_ptr}
 use Rattle.std.specs.Sync.RawAtomic.{word, asks, always}
 use Rattle.thread_local_lock.specs.Locking.{Sharing, with_word, invariant}
-use Rattle.thread_local_word.proofs.Opened.{Lies, opened}
+use Rattle.thread_local_atomic_word.proofs.Opened.{Lies, opened}
 
 module _ {M : Type 1} {𝓤 : Ura M} (𝓛 : Logic 𝓤) (R : RattleType) (ok : R.Denot → Type 0) (b o : ℕ) (t : Sharing) (q : Share) where
   open 𝓛 use {A}

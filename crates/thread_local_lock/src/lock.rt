@@ -8,7 +8,7 @@ use std::sync::Wait;
 use std::sync::atomic::Ordering::SeqCst;
 use std::sync::atomic::raw;
 use std::thread;
-use thread_local_word::exchange;
+use thread_local_atomic_word::exchange;
 
 mod lends;
 

@@ -2,10 +2,10 @@
 ghost use Rattle.std.specs.Prelude.{◌≡◌, ◌-◌, ◌^◌, ◌<◌, true, false, None};
 
 use std::alloc::Global;
-use thread_local_claims::Claim;
+use thread_local_claim::Claim;
 use thread_local_locked_ids::HeldId;
-use thread_local_shared::Shared;
-use thread_local_slots::Private;
+use thread_local_shared_buckets::Shared;
+use thread_local_shared_word::Private;
 use thread_local_thread_id::Thread;
 
 /// The slot of an id that is held.

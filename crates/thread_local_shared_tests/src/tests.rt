@@ -12,12 +12,12 @@ use std::test::Fail;
 use std::thread;
 use std::thread::Threads;
 use thread_local_buckets::Buckets;
-use thread_local_claims::Claim;
+use thread_local_claim::Claim;
 use thread_local_judged::{Judge, judge_sync};
 use thread_local_locked_ids::{HeldId, Ids, LockedIds};
 use thread_local_rights::Rights;
-use thread_local_shared::Shared;
-use thread_local_slots::Private;
+use thread_local_shared_buckets::Shared;
+use thread_local_shared_word::Private;
 use thread_local_thread_id::{LocalError, Thread};
 
 /// Adds to the number at an id, and answers what was there.

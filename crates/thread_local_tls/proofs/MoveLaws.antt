@@ -1,7 +1,7 @@
 use Rattle.std.proofs.Common.{◌≡◌, ℕ, ◌+◌, ◌<◌, zero, suc, false, Some, slice_get, subst, Bool, List, [], ◌∷◌, ◌++◌, length, get_or, take, drop, refl, ap, sym, ◌∙◌, add-one, append_assoc}
 use Rattle.std.proofs.lemmas.List.{take_more}
 use Rattle.std.proofs.Math.Seq.{drop-cons}
-use Rattle.thread_local.specs.Held.{is_held}
+use Rattle.thread_local_model.specs.Held.{is_held}
 use Rattle.thread_local_tls.specs.Moves.{after, held_after, ids_given, MayMove, MayRun}
 use Rattle.thread_local_tls.specs.declared.moves.Move.{Move}
 use Rattle.thread_local_tls.specs.declared.moves.Move.TheVariants.{Take, Give}

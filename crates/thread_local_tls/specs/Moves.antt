@@ -1,5 +1,5 @@
 use Rattle.std.specs.Prelude.{ℕ, Bool, List, [], ◌∷◌, IsTrue}
-use Rattle.thread_local.specs.Held.{is_held, least, with_least, without}
+use Rattle.thread_local_model.specs.Held.{is_held, least, with_least, without}
 use Rattle.thread_local_tls.specs.declared.moves.Move.{Move}
 use Rattle.thread_local_tls.specs.declared.moves.Move.TheVariants.{Take, Give}
 

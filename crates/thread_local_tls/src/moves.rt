@@ -1,9 +1,9 @@
 ghost use Rattle.std.specs.Prelude.{◌≡◌, ℕ, ◌-◌, ◌^◌, false, [], take, slice_get, IfOk, IsErrOf};
-ghost use Rattle.thread_local.specs.Held.{is_held, HoldsAllBelow};
+ghost use Rattle.thread_local_model.specs.Held.{is_held, HoldsAllBelow};
 ghost use Rattle.thread_local_tls.specs.Moves.{held_after, ids_given, MayRun};
 
 use std::alloc::{AllocError, Global};
-use thread_local::thread_id::{LocalError, ThreadIdManager};
+use thread_local_thread_id::{LocalError, ThreadIdManager};
 
 /// A step of `tls ids`.
 #[derive(Clone, Copy, Debug, PartialEq, Eq)]

@@ -4,10 +4,10 @@ use Rattle.std.specs.Prelude.{slice_index_or}
 use Rattle.std.proofs.lemmas.List.{map-set, length-replicate}
 use Rattle.thread_local_model.specs.Buckets.{Contents, row, no_contents, IsTable}
 use Rattle.thread_local_model.specs.Rows.{with_row, with_slot}
-use Rattle.thread_local_owned_word.specs.declared.word.Word.{Word}
+use Rattle.thread_local_words.specs.declared.word.Word.{Word}
 use Rattle.thread_local_words.specs.declared.row_of_words.RowOfWords.{RowOfWords}
 use Rattle.thread_local_words.specs.Rows.{null_word, with_word, with_value, slots_of, seen}
-use Rattle.thread_local_owned_word.specs.Lent.{with_slot_value}
+use Rattle.thread_local_words.specs.LentValue.{with_slot_value}
 
 module _ {X : Type 0} where
   abbrev as_contents : List (List (Option X)) → Contents X

@@ -4,6 +4,10 @@
 pub mod row_of_words;
 #[cfg(test)]
 mod tests;
+mod word;
+#[cfg(test)]
+mod word_tests;
 pub mod words;
 
+pub use word::Word;
 pub use words::Words;

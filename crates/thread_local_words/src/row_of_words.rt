@@ -6,7 +6,7 @@ ghost use Rattle.thread_local_words.specs.Rows.{seen};
 
 use std::alloc::{AllocError, Global};
 use thread_local_blocks::Block;
-use thread_local_owned_word::Word;
+use crate::word::Word;
 
 mod lends;
 

@@ -6,6 +6,7 @@ ghost use Rattle.thread_local_model.specs.Rows.{slot, with_row, with_slot, empty
 use crate::row_of_words::RowOfWords;
 use std::alloc::{AllocError, Global};
 use std::marker::Model;
+use thread_local_contents::Places;
 
 mod lends;
 
@@ -130,6 +131,24 @@ impl<T: Drop> Drop for Words<T> {
         self.release_all();
         let Self { words, alloc: _ } = self;
         drop(words);
+    }
+}
+
+impl<T> Places for Words<T> {
+    type Value = T;
+
+    ghost contents = { λ words. words };
+
+    ghost given = { λ _. 0 };
+
+    #[inline]
+    fn stands(&mut self, bucket: usize) -> bool {
+        self.stands(bucket)
+    }
+
+    #[inline]
+    fn is_published(&mut self, bucket: usize, index: usize) -> bool {
+        self.is_published(bucket, index)
     }
 }
 

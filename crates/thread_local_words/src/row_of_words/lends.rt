@@ -2,14 +2,14 @@
 ghost use Rattle.std.specs.Prelude.{◌≡◌, ◌<◌, length, slice_index_or, Some, IsSome};
 ghost use types.Logic.{sem};
 ghost use Rattle.std.specs.Borrow.{follows};
-ghost use Rattle.thread_local_owned_word.specs.contracts.word.Word.{the_row as word_row};
+ghost use Rattle.thread_local_words.specs.contracts.word.Word.{the_row as word_row};
 ghost use Rattle.thread_local_words.specs.contracts.row_of_words.RowOfWords.{the_row};
 ghost use Rattle.thread_local_model.specs.Buckets.{row};
 ghost use Rattle.thread_local_model.specs.Rows.{slot};
 ghost use Rattle.thread_local_words.specs.Rows.{null_word, with_word, with_value, seen};
 
 use super::RowOfWords;
-use thread_local_owned_word::Word;
+use crate::word::Word;
 
 impl<T> RowOfWords<T> {
     /// The word of a bucket.

@@ -2,7 +2,7 @@ use Rattle.std.proofs.Common.{◌≡◌, ◌+◌, ℕ, length, subst, sym, ◌�
 use Rattle.thread_local_model.specs.Buckets.{Contents, values}
 use Rattle.thread_local_model.specs.Rows.{slot, with_slot}
 use Rattle.thread_local_model.specs.Walk.{walk}
-use Rattle.thread_local_cursor.proofs.Walking.{Goes, goes}
+use Rattle.thread_local_contents.proofs.NextValue.{Goes, goes}
 use Rattle.thread_local_buckets.proofs.iter.IntoIterIterator.next.Goals as goal
 
 -- what is taken from words that are the same as before

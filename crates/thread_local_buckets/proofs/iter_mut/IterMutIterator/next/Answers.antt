@@ -3,7 +3,7 @@ use Rattle.thread_local_model.specs.Buckets.{Contents, values}
 use Rattle.thread_local_model.specs.Rows.{slot, with_slot}
 use Rattle.thread_local_model.specs.Walk.{walk}
 use Rattle.thread_local_loan.specs.declared.loan.Loan.{Loan}
-use Rattle.thread_local_cursor.proofs.Walking.{Goes, goes}
+use Rattle.thread_local_contents.proofs.NextValue.{Goes, goes}
 use Rattle.thread_local_buckets.proofs.iter_mut.IterMutIterator.next.Goals as goal
 
 -- what is given of a loan that is the same as before

@@ -26,7 +26,7 @@ mark_spec 𝓤 𝓛 𝓜 𝓡 wired X L g d _ =
     let after : ℕ → Fml = λ n. fsep (flft t.0 s) (gained 𝓛 R ok b o t s 1 n) in
     first ! $ blocks ! $ sets ! (addr ! (through ! refl (fld ! refl (stop !)))) refl (tt, tt) $ nothing ! $ move ! (3 ∷ 1 ∷ 0 ∷ []) $
     use3 𝓛 (raw (𝓣.C _ (vptr b (o + 0) ∷ vint w64 1 ∷ vint w64 2 ∷ []) (λ u. mean 𝓛 (found after u))))
-    (via 𝓤 _ (exchanged 𝓛 R ok b o t s 1 2 (suc-ne-zero 1)) (exchanges 𝓛 𝓜 𝓡 (code.calls-thread_local_word::word::exchange 𝓡.env wired) (block_ptr b (o + 0)) 1 2 (lit< tt) (lit< tt) after)) $
+    (via 𝓤 _ (exchanged 𝓛 R ok b o t s 1 2 (suc-ne-zero 1)) (exchanges 𝓛 𝓜 𝓡 (code.calls-thread_local_atomic_word::word::exchange 𝓡.env wired) (block_ptr b (o + 0)) 1 2 (lit< tt) (lit< tt) after)) $
     Calls-last ! (fm 𝓛 𝓜 𝓡) (found after) (and_then ! (get ! refl) (and_then ! (lit ! tt) (and_then ! (lit ! tt) (no_more !)))) (λ u. finds ! after (λ n fits.
     lands_last ! refl (tt, record { fits = fits }) $ exec ! 𝓣.C 𝓣.Λ Ev (tail fn.body) (at_ret Ev Post) $ sets ! (of_opd ! (unit_lit !)) refl (tt, tt) $
     fsplit ! $ move ! (1 ∷ []) $ drop ! $ move ! (0 ∷ 1 ∷ []) $ use2 𝓛 (later (‵ (flft κ q))) (apply∗ 𝓤 (𝓛.A.lft t.0 s) (H.⇛ (𝓛.A.lft κ q))) $ await ! tt $ join ! $

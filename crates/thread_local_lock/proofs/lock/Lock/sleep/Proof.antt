@@ -7,7 +7,7 @@ use Rattle.thread_local_lock.specs.contracts.lock.Lock as lock
 use Rattle.thread_local_lock.specs.contracts.lock.Lock.sleep.{ended, clauses}
 use Rattle.thread_local_lock.specs.contracts.lock.Lock.sleep.Key.{name as #self}
 use Rattle.thread_local_lock.proofs.Steps.{looked}
-use Rattle.thread_local_word.proofs.Calls.{lent, parks}
+use Rattle.thread_local_atomic_word.proofs.Calls.{lent, parks}
 use Rattle.thread_local_lock.proofs.lock.Lock.sleep.Statement.{statement}
 use Rattle.thread_local_lock.proofs.lock.Lock.sleep.Code as code
 

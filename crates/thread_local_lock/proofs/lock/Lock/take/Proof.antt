@@ -39,7 +39,7 @@ take_spec 𝓤 𝓛 𝓜 𝓡 wired X L g d _ =
     let after : ℕ → Fml = λ n. fsep (flft t.0 s) (gained 𝓛 R ok b o t s 0 n) in
     first ! $ blocks ! $ sets ! (addr ! (through ! refl (fld ! refl (stop !)))) refl (tt, tt) $ nothing ! $ move ! (4 ∷ 1 ∷ 0 ∷ []) $
     use3 𝓛 (raw (𝓣.C _ (vptr b (o + 0) ∷ vint w64 0 ∷ vint w64 new ∷ []) (λ u. mean 𝓛 (found after u))))
-    (via 𝓤 _ (exchanged 𝓛 R ok b o t s 0 new taken) (exchanges 𝓛 𝓜 𝓡 (code.calls-thread_local_word::word::exchange 𝓡.env wired) (block_ptr b (o + 0)) 0 new (lit< tt) are.1.0.1 after)) $
+    (via 𝓤 _ (exchanged 𝓛 R ok b o t s 0 new taken) (exchanges 𝓛 𝓜 𝓡 (code.calls-thread_local_atomic_word::word::exchange 𝓡.env wired) (block_ptr b (o + 0)) 0 new (lit< tt) are.1.0.1 after)) $
     Calls-last ! (fm 𝓛 𝓜 𝓡) (found after) (and_then ! (get ! refl) (and_then ! (lit ! tt) (and_then ! (get ! refl) (no_more !)))) (λ u. finds ! after (λ n fits.
     lands_last ! refl (tt, record { fits = fits }) $ exec ! 𝓣.C 𝓣.Λ Ev (tail fn.body) (at_ret Ev Post) $ sets ! (of_opd ! (get ! refl)) refl (tt, record { fits = fits }) $
     sets ! (bin ! (get ! refl) (lit ! tt) tt) refl (tt, tt) $

@@ -1,0 +1,130 @@
+-- What whoever has the pass of a slot finds in the word's invariant: a slot that isn't born, or one that is. Assumes `Logic`.
+use Rattle.std.proofs.Common.{◌≡◌, ℕ, zero, suc, ◌+◌, ◌*◌, ◌<◌, Bool, true, false, [], ◌∷◌, length, refl, sym, subst, arith, Option, None}
+use seplogic.Ra.Ura.{Ura}
+use base.Logic.{SProp, ent, sep, wand, upd, upd_i, id⊢, apply∗}
+use base.Fml.{Share, Fml, ftrue, fsep, fbor}
+use types.Logic.{Logic, sem}
+use types.Kit.{‵, raw, ◌⊛◌, given, frame, assume, suffices, ◌$◌, ◌∵◌, !, qed, by, move, keep, split, split3, rewrite, group, fsplit, fsplit3, fjoin, fjoin3, fpick, fpack, learn, use1, use2, use3, done}
+use denote.RattleType.{RattleType}
+use denote.RawPtr.{Ptr, block_ptr, null_ptr, block_of, count_of}
+use Rattle.std.specs.Sync.RawAtomic.Pointer.{cell}
+use Rattle.thread_local_rights.specs.Rights.{right_owns}
+use Rattle.thread_local_rights.proofs.Elements.{right_once}
+use Rattle.thread_local_blocks.specs.Slots.{stride}
+use Rattle.thread_local_shared_word_logic.specs.Shared.{name_at, Named, Turn, Standing, Who, free, unborn, all_unborn, waiting, len, first, Sized, pending, standing, beside_pointer, invariant}
+use Rattle.thread_local_claim_logic.specs.Claims.{waits}
+use Rattle.thread_local_shared_word_logic.proofs.Inside.{in_block, quietly}
+use Rattle.thread_local_claim_logic.proofs.Moves as moves
+use Rattle.thread_local_shared_word_logic.proofs.Steps as steps
+
+module _ {M : Type 1} {𝓤 : Ura M} (𝓛 : Logic 𝓤) (R : RattleType) where
+  open 𝓛 use {H, A}
+
+  abbrev Pr : Type 2
+  Pr = SProp 𝓤
+
+  abbrev ◌⊢◌ : Pr → Pr → Type 1
+  P ⊢ Q = ent 𝓤 P Q
+
+  abbrev ◌∗◌ : Pr → Pr → Pr
+  P ∗ Q = sep 𝓤 P Q
+
+  abbrev ◌-∗◌ : Pr → Pr → Pr
+  P -∗ Q = wand 𝓤 P Q
+
+  abbrev ⟦◌⟧ : Fml → Pr
+  ⟦ P ⟧ = sem 𝓛 P
+
+  infix 26 ◌⊢◌
+  infixr 35 ◌∗◌
+  infixr 30 ◌-∗◌
+  -- one slot out of those that aren't born
+  unborn_out : (table : ℕ) (t : Turn) (n k i k' : ℕ) → i < n → k' ≡ i + k → ⟦ all_unborn R table t n k ⟧ ⊢ ⟦ unborn R table t k' ⟧ ∗ (⟦ unborn R table t k' ⟧ -∗ ⟦ all_unborn R table t n k ⟧)
+  unborn_out table t zero k i k' l p = absurd (omega arith)
+  unborn_out table t (suc n) k zero k' l p = let U : ℕ → Fml = λ z. unborn R table t z in let same : k ≡ k' = omega arith in
+      qed 𝓛 (‵ (all_unborn R table t (suc n) k) ∷ []) ∵ fsplit ! $ rewrite ! 0 (λ (z : ℕ). ‵ (U z)) same refl $ frame ! $ assume ! (‵ (U k')) $ rewrite ! 0 (λ (z : ℕ). ‵ (U z)) (sym same) refl $ fjoin ! $ done !
+  unborn_out table t (suc n) k (suc i) k' l p = let Rest : Fml = all_unborn R table t n (suc k) in let One : Fml = unborn R table t k' in
+      qed 𝓛 (‵ (all_unborn R table t (suc n) k) ∷ []) ∵ fsplit ! $ move ! (1 ∷ []) $ use1 𝓛 (‵ One ⊛ raw (⟦ One ⟧ -∗ ⟦ Rest ⟧)) (unborn_out table t n (suc k) i k' (omega arith) (omega arith)) $ split ! $ frame ! $
+      assume ! (‵ One) $ use2 𝓛 (‵ Rest) (apply∗ 𝓤 ⟦ One ⟧ ⟦ Rest ⟧) $ move ! (1 ∷ 0 ∷ []) $ fjoin ! $ done !
+
+  module _ (d : Named) (t : Turn) (wb wo i k : ℕ) (low : i < len R d) (at_k : k ≡ i + first R d) where
+    abbrev pub I : Fml
+    I = invariant R d t wb wo
+
+    abbrev pub Unborn : Fml
+    Unborn = unborn R d.table t k
+
+    abbrev pub place_in : Standing → ℕ
+    place_in s = i * stride R + count_of s.at
+
+    abbrev pub Slot : (s : Standing) → i < length s.names → Fml
+    Slot s l = steps.Slot 𝓛 R d t wb wo s i k (place_in s) (block_of s.at) l at_k refl refl
+
+    abbrev Word : Ptr → Fml
+    Word p = fsep (cell wb wo p) (beside_pointer R d t p)
+
+    module _ (X Z : Pr) (null : ⟦ Unborn ⟧ ∗ (⟦ Unborn ⟧ -∗ ⟦ I ⟧) ∗ X ⊢ Z) (block : (s : Standing) (l : i < length s.names) → ⟦ Slot s l ⟧ ∗ (⟦ Slot s l ⟧ -∗ ⟦ I ⟧) ∗ X ⊢ Z) where
+      in_word : (p : Ptr) → ⟦ Word p ⟧ ∗ X ⊢ Z
+      in_word null_ptr = let All : Fml = all_unborn R d.table t (len R d) (first R d) in let Free : Type 0 = d.reserved ≡ false in
+          qed 𝓛 (‵ (Word null_ptr) ∷ raw X ∷ []) ∵ fsplit ! $ move ! (1 ∷ []) $ fsplit ! $ fpick ! (λ h. move ! (1 ∷ []) $ fsplit ! $ move ! (1 ∷ []) $
+          use1 𝓛 (‵ Unborn ⊛ raw (⟦ Unborn ⟧ -∗ ⟦ All ⟧)) (unborn_out d.table t (len R d) (first R d) i k low at_k) $ split ! $
+          -- [the slot; the way back; what is pending; nothing; the pointer; X]
+          move ! (1 ∷ 2 ∷ 3 ∷ 4 ∷ []) $ group ! 4 $ use1 𝓛 (raw (⟦ Unborn ⟧ -∗ ⟦ I ⟧)) (null_back h) $ move ! (1 ∷ 0 ∷ 2 ∷ []) $ by ! null)
+        where
+          null_back : d.reserved ≡ false → (⟦ Unborn ⟧ -∗ ⟦ all_unborn R d.table t (len R d) (first R d) ⟧) ∗ ⟦ pending R d t ⟧ ∗ ⟦ ftrue ⟧ ∗ ⟦ cell wb wo null_ptr ⟧ ⊢ (⟦ Unborn ⟧ -∗ ⟦ I ⟧)
+          null_back h = let All : Fml = all_unborn R d.table t (len R d) (first R d) in qed 𝓛 (raw (⟦ Unborn ⟧ -∗ ⟦ All ⟧) ∷ ‵ (pending R d t) ∷ ‵ ftrue ∷ ‵ (cell wb wo null_ptr) ∷ []) ∵ assume ! (‵ Unborn) $
+              use2 𝓛 (‵ All) (apply∗ 𝓤 ⟦ Unborn ⟧ ⟦ All ⟧) $ move ! (1 ∷ 0 ∷ []) $ fjoin ! $ move ! (1 ∷ []) $ fpack ! (d.reserved ≡ false) (λ _. ftrue) h $ fjoin ! $ move ! (1 ∷ 0 ∷ []) $ fjoin ! $ fpack ! Ptr Word null_ptr $ done !
+      in_word (block_ptr x y) = let p : Ptr = block_ptr x y in qed 𝓛 (‵ (Word p) ∷ raw X ∷ []) ∵ fsplit ! $ move ! (1 ∷ []) $ fpick ! (λ z. fsplit ! $ fpick ! (λ h. let l : i < length z.0.names = subst (λ (n : ℕ). i < n) (sym h.1) low in
+          fpack ! ((z.0.at ≡ p) × (length z.0.names ≡ len R d) × Sized R (len R d) p) (λ _. ftrue) h $ fjoin ! $ let Whole : Fml = standing R d t p z in
+          use1 𝓛 (‵ (Slot z.0 l) ⊛ raw (⟦ Slot z.0 l ⟧ -∗ ⟦ Whole ⟧)) (in_block 𝓛 R d t wb wo z.0 i k (place_in z.0) (block_of z.0.at) l at_k refl refl p z.1) $ split ! $ move ! (1 ∷ 2 ∷ []) $ group ! 2 $
+          use1 𝓛 (raw (⟦ Slot z.0 l ⟧ -∗ ⟦ I ⟧)) (block_back x y z l) $ move ! (1 ∷ 0 ∷ 2 ∷ []) $ by ! (block z.0 l)))
+        where
+          block_back : (x y : ℕ) (z : Standing × Share) (l : i < length z.0.names) → (⟦ Slot z.0 l ⟧ -∗ ⟦ standing R d t (block_ptr x y) z ⟧) ∗ ⟦ cell wb wo (block_ptr x y) ⟧ ⊢ (⟦ Slot z.0 l ⟧ -∗ ⟦ I ⟧)
+          block_back x y z l = let S : Fml = Slot z.0 l in let Whole : Fml = standing R d t (block_ptr x y) z in qed 𝓛 (raw (⟦ S ⟧ -∗ ⟦ Whole ⟧) ∷ ‵ (cell wb wo (block_ptr x y)) ∷ []) ∵ assume ! (‵ S) $
+              use2 𝓛 (‵ Whole) (apply∗ 𝓤 ⟦ S ⟧ ⟦ Whole ⟧) $ fpack ! (Standing × Share) (standing R d t (block_ptr x y)) z $ move ! (1 ∷ 0 ∷ []) $ fjoin ! $ fpack ! Ptr Word (block_ptr x y) $ done !
+
+      -- the two cases of a word
+      pub by_word : ⟦ I ⟧ ∗ X ⊢ Z
+      by_word = qed 𝓛 (‵ I ∷ raw X ∷ []) ∵ fpick ! (λ p. by ! (in_word p))
+
+    abbrev Right : Fml
+    Right = right_owns d.table k
+
+    abbrev Pass : Fml
+    Pass = right_owns t.pass k
+
+    abbrev Swapped : Pr
+    Swapped = upd 𝓤 (⟦ I ⟧ ∗ ⟦ Right ⟧)
+
+    -- the right comes out for the pass
+    unborn_leaves : ⟦ Unborn ⟧ ∗ (⟦ Unborn ⟧ -∗ ⟦ I ⟧) ∗ ⟦ Pass ⟧ ⊢ Swapped
+    unborn_leaves = qed 𝓛 (‵ Unborn ∷ raw (⟦ Unborn ⟧ -∗ ⟦ I ⟧) ∷ ‵ Pass ∷ []) ∵ fsplit3 ! $ move ! (2 ∷ []) $ fpick ! (λ w. by ! (swaps w))
+      where
+        swaps : (w : Bool) → ⟦ waiting R w d.table t.pass k ⟧ ∗ ⟦ right_owns t.vacant k ⟧ ∗ ⟦ right_owns t.filled k ⟧ ∗ (⟦ Unborn ⟧ -∗ ⟦ I ⟧) ∗ ⟦ Pass ⟧ ⊢ Swapped
+        swaps true = qed 𝓛 (‵ Right ∷ ‵ (right_owns t.vacant k) ∷ ‵ (right_owns t.filled k) ∷ raw (⟦ Unborn ⟧ -∗ ⟦ I ⟧) ∷ ‵ Pass ∷ []) ∵ suffices ! _ (upd_i 𝓤 (⟦ I ⟧ ∗ ⟦ Right ⟧)) $ move ! (4 ∷ []) $
+            fpack ! Bool (λ early. waiting R early d.table t.pass k) false $ move ! (2 ∷ 3 ∷ 0 ∷ []) $ fjoin3 ! $ move ! (0 ∷ 2 ∷ []) $ use2 𝓛 (‵ I) (apply∗ 𝓤 ⟦ Unborn ⟧ ⟦ I ⟧) $ done !
+        swaps false = qed 𝓛 (‵ Pass ∷ ‵ (right_owns t.vacant k) ∷ ‵ (right_owns t.filled k) ∷ raw (⟦ Unborn ⟧ -∗ ⟦ I ⟧) ∷ ‵ Pass ∷ []) ∵ keep ! (0 ∷ 4 ∷ []) $ by ! (right_once 𝓛 t.pass k Swapped)
+
+    born_leaves : (s : Standing) (l : i < length s.names) → ⟦ Slot s l ⟧ ∗ (⟦ Slot s l ⟧ -∗ ⟦ I ⟧) ∗ ⟦ Pass ⟧ ⊢ Swapped
+    born_leaves s l = let b : ℕ = block_of s.at in let e : ℕ = place_in s in let S : Option R.Denot → Fml = steps.Stands 𝓛 R d t wb wo s i k e b l at_k refl refl in let D : Option R.Denot → Who → Fml = steps.Had 𝓛 R d t wb wo s i k e b l at_k refl refl in
+        qed 𝓛 (‵ (Slot s l) ∷ raw (⟦ Slot s l ⟧ -∗ ⟦ I ⟧) ∷ ‵ Pass ∷ []) ∵ suffices ! _ (upd_i 𝓤 (⟦ I ⟧ ∗ ⟦ Right ⟧)) $ fsplit3 ! $ move ! (2 ∷ []) $ fpick ! (λ z. fsplit3 ! $
+        -- [the flag; what stands; who has it; the rim; the loan; the way back; the pass]
+        move ! (1 ∷ 2 ∷ 6 ∷ []) $ use3 𝓛 (given (z.0 ≡ None) (‵ (S z.0) ⊛ ‵ (D z.0 free) ⊛ ‵ Right)) (moves.early_leaves 𝓛 R t b s.own d.table k e (name_at s.names i) z.0 z.1) $ learn ! (λ none. split3 ! $
+        move ! (4 ∷ 5 ∷ 3 ∷ 0 ∷ 1 ∷ []) $ group ! 5 $ use1 𝓛 (‵ (Slot s l)) (steps.slot_made 𝓛 R d t wb wo s i k e b l at_k refl refl (z.0, free)) $ move ! (0 ∷ 2 ∷ []) $ use2 𝓛 (‵ I) (apply∗ 𝓤 ⟦ Slot s l ⟧ ⟦ I ⟧) $ done !))
+
+    -- with no step of the machine
+    pub leaves : (q : Share) → A.inv (fbor t.life I) ∗ A.lft t.life q ∗ ⟦ Pass ⟧ ⊢ H.⇛ (⟦ Right ⟧ ∗ A.lft t.life q)
+    leaves q = quietly 𝓛 t.life q I ⟦ Pass ⟧ ⟦ Right ⟧ (by_word ⟦ Pass ⟧ Swapped unborn_leaves born_leaves)
+
+    abbrev pub All : Fml
+    All = all_unborn R d.table t (len R d) (first R d)
+
+    -- whoever finds the word null leaves its right, and has the pass
+    pub comes : (looked : Bool) → ⟦ All ⟧ ∗ ⟦ waits looked d.table t.pass k ⟧ ⊢ ⟦ All ⟧ ∗ ⟦ Pass ⟧
+    comes true = id⊢ 𝓤 _
+    comes false = qed 𝓛 (‵ All ∷ ‵ Right ∷ []) ∵ use1 𝓛 (‵ Unborn ⊛ raw (⟦ Unborn ⟧ -∗ ⟦ All ⟧)) (unborn_out d.table t (len R d) (first R d) i k low at_k) $ split ! $ fsplit3 ! $ move ! (2 ∷ []) $ fpick ! (λ w. by ! (swaps w))
+      where
+        swaps : (w : Bool) → ⟦ waiting R w d.table t.pass k ⟧ ∗ ⟦ right_owns t.vacant k ⟧ ∗ ⟦ right_owns t.filled k ⟧ ∗ (⟦ Unborn ⟧ -∗ ⟦ All ⟧) ∗ ⟦ Right ⟧ ⊢ ⟦ All ⟧ ∗ ⟦ Pass ⟧
+        swaps false = qed 𝓛 (‵ Pass ∷ ‵ (right_owns t.vacant k) ∷ ‵ (right_owns t.filled k) ∷ raw (⟦ Unborn ⟧ -∗ ⟦ All ⟧) ∷ ‵ Right ∷ []) ∵ move ! (4 ∷ []) $ fpack ! Bool (λ early. waiting R early d.table t.pass k) true $ move ! (2 ∷ 3 ∷ 0 ∷ []) $ fjoin3 ! $
+            move ! (0 ∷ 2 ∷ []) $ use2 𝓛 (‵ All) (apply∗ 𝓤 ⟦ Unborn ⟧ ⟦ All ⟧) $ done !
+        swaps true = qed 𝓛 (‵ Right ∷ ‵ (right_owns t.vacant k) ∷ ‵ (right_owns t.filled k) ∷ raw (⟦ Unborn ⟧ -∗ ⟦ All ⟧) ∷ ‵ Right ∷ []) ∵ keep ! (0 ∷ 4 ∷ []) $ by ! (right_once 𝓛 d.table k (⟦ All ⟧ ∗ ⟦ Pass ⟧))

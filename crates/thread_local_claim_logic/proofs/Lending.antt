@@ -1,0 +1,227 @@
+-- A `&` to a claim: a `&` to the value that it holds. Assumes `Logic`.
+use Rattle.std.proofs.Common.{◌≡◌, ℕ, ◌+◌, ◌*◌, Bool, true, false, [], ◌∷◌, ◌++◌, refl, sym, subst, Option, None, Some}
+use mathlib.Core.Logic.{inl, inr}
+use seplogic.Ra.Ura.{Ura}
+use base.Fraction.{full_share}
+use base.Logic.{SProp, ent, sep, ex, guard, upd_i, id⊢, guard_i}
+use base.Fml.{Lft, GName, Share, Incl, Fml, ftrue, fsep, fseps, fex, fwand, fupd, fdead, fauth, fbor, fobor, flft, Incl-trans}
+use base.Before.{before}
+use contract.Monad.{fact_i, fact_use}
+use contract.Monad as monad
+use contract.BorrowLft.{meet_⊑_left, meet_⊑_right, ⊑_meet}
+use ghost.Rules.{Toks, span}
+use types.Logic.{Logic, sem, lfts}
+use types.Kit.{‵, raw, ◌⊛◌, given, some, later, check, group, ◌$◌, ◌∵◌, !, qed, by, move, keep, drop, use1, use2, use3, split, split3, join, fsplit, fsplit3, fjoin, fjoin3, fpick, fpack, pick, learn, show, rewrite, assume, suffices, await, updating, now, done}
+use types.Tokens.{bor_open, obor_close, obor_alter}
+use types.Na.{before_dup, before_shorten}
+use denote.RattleType.{RattleType, RowLaws}
+use denote.Memory.{part_at, shared_of}
+use denote.RawPtr.{InBlock, Ptr, block_of, count_of}
+use denote.Sharing.{ShrLaws, said, nothing, beside, some as any}
+use denote.SharingLaws.{within_shr_laws, said_shr_laws, nothing_shr_laws, beside_shr_laws, some_shr_laws, held_shr_laws, contraction, shortens}
+use denote.Shares.{Shares}
+use denote.Steps.{nothing as anything}
+use Rattle.std.specs.Coded.{coded_option}
+use denote.Struct.Lending.{Lends}
+use Rattle.std.proofs.cell.BorrowLemmas.{by_one, unnest_before}
+use Rattle.thread_local_judged.specs.Judged.{Shareable, Judged}
+use Rattle.thread_local_rights.specs.Rights.{right_owns}
+use Rattle.thread_local_blocks.specs.Slots.{fact, stride, value_at, place}
+use Rattle.thread_local_shared_word_logic.specs.Shared.{name_at, Named, Turn, Standing, value_code, pinned, value_of, age, kept, row}
+use Rattle.thread_local_shared_word_logic.specs.Shared as slots
+use Rattle.thread_local_claim_logic.specs.Claims.{Place, IsAt, has_slot, has, IsKept, IsOf, has_at, claim_owns, lasts, shown, claim_shares}
+
+lasts_laws : (β : Lft) (R : RattleType) → RowLaws R → (b e : ℕ) (x : R.Denot) (j : Judged R) → ShrLaws (lasts R β b e x j)
+lasts_laws β R L b e x (inl j) = held_shr_laws β (shared_of R x b e) (L x b e)
+lasts_laws β R L b e x (inr j) = nothing_shr_laws
+
+shown_laws : (β : Lft) (R : RattleType) → RowLaws R → (p : Ptr) (v : Option R.Denot) → ShrLaws (shown R β p v)
+shown_laws β R L p None = nothing_shr_laws
+shown_laws β R L p (Some x) = let b : ℕ = block_of p in let e : ℕ = value_at R (count_of p) in let S : Lft → Fml = shared_of R x b e in let W : Lft → Fml = denote.Sharing.within β S in
+    let F : Judged R → Lft → Fml = lasts R β b e x in beside_shr_laws (said (fact (InBlock p))) (beside W (any (Judged R) F)) (said_shr_laws (fact (InBlock p)) (λ _. tt))
+    (beside_shr_laws W (any (Judged R) F) (within_shr_laws β S (L x b e)) (some_shr_laws (Judged R) F (lasts_laws β R L b e x)))
+
+pub claim_laws : (β : Lft) (R : RattleType) → RowLaws R → (c : Place) (v : Option R.Denot) (found published : Bool) → ShrLaws (claim_shares R β c v found published)
+claim_laws β R L c v found published = beside_shr_laws (said (fact (IsKept R c found published v))) (shown R β c.slot v) (said_shr_laws (fact (IsKept R c found published v)) (λ _. tt)) (shown_laws β R L c.slot v)
+
+module _ {M : Type 1} {𝓤 : Ura M} (𝓛 : Logic 𝓤) where
+  open 𝓛 use {H, A}
+
+  abbrev Pr : Type 2
+  Pr = SProp 𝓤
+
+  abbrev ◌⊢◌ : Pr → Pr → Type 1
+  P ⊢ Q = ent 𝓤 P Q
+
+  abbrev ◌∗◌ : Pr → Pr → Pr
+  P ∗ Q = sep 𝓤 P Q
+
+  abbrev ⟦◌⟧ : Fml → Pr
+  ⟦ P ⟧ = sem 𝓛 P
+
+  infix 26 ◌⊢◌
+  infixr 35 ◌∗◌
+  module _ (β : Lft) (R : RattleType) (L : RowLaws R) (w : Ptr) (table : ℕ) (c : Place) (x : R.Denot) (found published : Bool) (ν : Lft) (inc : Incl ν β) where
+    abbrev v : Option R.Denot
+    v = Some x
+
+    abbrev C : Fml
+    C = claim_owns R β w table c v found published
+
+    abbrev At : Named × Turn → Fml
+    At = has_at R β w table c v
+
+    abbrev wo : ℕ
+    wo = count_of w + 0
+
+    abbrev b : ℕ
+    b = block_of c.slot
+
+    abbrev e : ℕ
+    e = value_at R (count_of c.slot)
+
+    -- the value is shared for as long as the word is borrowed, or it is borrowed with the claim
+    abbrev pub Seen : Judged R → Fml
+    Seen (inl j) = shared_of R x b e β
+    Seen (inr j) = fbor ν (part_at R full_share x b e)
+
+    abbrev pub Saw : Fml
+    Saw = fex (Judged R) Seen
+
+    stood : (z : Named × Turn) (k : Bool) → ⟦ has R z.0 z.1 β c v k ⟧ ⊢ ex 𝓤 (λ (s : Standing). guard 𝓤 (k ≡ true) ⟦ has_slot R z.0 z.1 β c v s ⟧)
+    stood z false = qed 𝓛 (‵ (has R z.0 z.1 β c v false) ∷ []) ∵ fsplit ! $ fpick ! (λ no. let n : v ≡ None = no in cc)
+    stood z true = qed 𝓛 (‵ (has R z.0 z.1 β c v true) ∷ []) ∵ fpick ! (λ s. show ! (λ (s : Standing). guard 𝓤 (true ≡ true) ⟦ has_slot R z.0 z.1 β c v s ⟧) s $ check ! refl $ done !)
+
+    module _ (told : IsKept R c found published v) (z : Named × Turn) (of : IsOf R w table c z.0) (s : Standing) (at : IsAt R s c) (is : c.stands ≡ true) where
+      abbrev d : Named
+      d = z.0
+
+      abbrev t : Turn
+      t = z.1
+
+      abbrev sb : ℕ
+      sb = block_of s.at
+
+      abbrev se : ℕ
+      se = c.index * stride R + count_of s.at
+
+      abbrev η : GName
+      η = name_at s.names c.index
+
+      abbrev life : Lft
+      life = age R t sb s.own
+
+      abbrev Value : Fml
+      Value = value_of R sb se η
+
+      abbrev By : Judged R → Fml
+      By j = slots.by R t sb s.own se η x j
+
+      abbrev Row : Fml
+      Row = row R d t s β
+
+      abbrev Kept : Fml
+      Kept = kept R d t (block_of w) wo β
+
+      abbrev Filled : Fml
+      Filled = right_owns t.filled c.id
+
+      abbrev Pinned : Fml
+      Pinned = pinned R η x
+
+      -- the claim again
+      again : (j : Judged R) → ⟦ Kept ⟧ ∗ ⟦ Row ⟧ ∗ ⟦ Filled ⟧ ∗ ⟦ Pinned ⟧ ∗ ⟦ By j ⟧ ⊢ ⟦ C ⟧
+      again j = qed 𝓛 (‵ Kept ∷ ‵ Row ∷ ‵ Filled ∷ ‵ Pinned ∷ ‵ (By j) ∷ []) ∵ move ! (4 ∷ []) $ fpack ! (Judged R) By j $ move ! (3 ∷ 4 ∷ 0 ∷ []) $ fjoin3 ! $ move ! (2 ∷ 0 ∷ []) $ fjoin ! $
+          anything ! $ fpack ! (IsAt R s c) (λ _. ftrue) at $ fjoin ! $ fpack ! Standing (has_slot R d t β c v) s $ rewrite ! 0 (λ (k : Bool). ‵ (has R d t β c v k)) (sym is) refl $ move ! (1 ∷ 0 ∷ []) $ fjoin ! $
+          anything ! $ fpack ! (IsOf R w table c d) (λ _. ftrue) of $ fjoin ! $ fpack ! (Named × Turn) At z $ anything ! $ fpack ! (IsKept R c found published v) (λ _. ftrue) told $ fjoin ! $ done !
+
+      there : ◌≡◌ {A = ℕ × ℕ} (sb, value_at R se) (b, e)
+      there = λ i. (block_of (sym at i), value_at R (count_of (sym at i)))
+
+      value_back : (o : Option R.Denot) → ⟦ fauth η (value_code R o) ⟧ ⊢ ⟦ fwand (fsep (fdead ν) (fseps (place R o sb (value_at R se) ∷ []))) (fupd Value) ⟧
+      unfolding fseps
+      value_back o = let Of : Fml = place R o sb (value_at R se) in qed 𝓛 (‵ (fauth η (value_code R o)) ∷ []) ∵ assume ! (‵ (fsep (fdead ν) (fsep Of ftrue))) $ suffices ! ⟦ Value ⟧ (upd_i 𝓤 ⟦ Value ⟧) $ fsplit3 ! $ keep ! (1 ∷ 3 ∷ []) $ fjoin ! $
+          fpack ! (Option R.Denot) (λ c'. fsep (place R c' sb (value_at R se)) (fauth η (value_code R c'))) o $ done !
+
+      -- the value's borrow, once its place is known to hold it
+      lends_value : (σ : Shareable R → ⊥) (q : Share) → ⟦ fbor ν Value ⟧ ∗ A.lft ν q ∗ ⟦ Pinned ⟧ ⊢ H.⇛ (⟦ Saw ⟧ ∗ A.lft ν q)
+      unfolding fseps
+      lends_value σ q = qed 𝓛 (‵ (fbor ν Value) ∷ ‵ (flft ν q) ∷ ‵ Pinned ∷ []) ∵ updating ! $ bor_open ! tt $ move ! (1 ∷ []) $ fpick ! (λ o. fsplit ! $ move ! (3 ∷ 1 ∷ []) $
+          -- [what is known; the name; the place; the open borrow]
+          use2 𝓛 (given (value_code R (Some x) ≡ value_code R o) (‵ Pinned ⊛ ‵ (fauth η (value_code R o)))) (𝓛.names.res_agree η (value_code R (Some x)) (value_code R o)) $ learn ! (λ same. split ! $ drop ! $
+          use1 𝓛 (‵ (fwand (fsep (fdead ν) (fseps (place R o sb (value_at R se) ∷ []))) (fupd Value))) (value_back o) $ move ! (1 ∷ []) $ anything ! $ move ! (1 ∷ 0 ∷ []) $ fjoin ! $
+          move ! (2 ∷ 0 ∷ 1 ∷ []) $ obor_alter ! tt (place R o sb (value_at R se) ∷ []) $ use1 𝓛 (‵ (fbor ν (place R o sb (value_at R se))) ⊛ ‵ ftrue) (id⊢ 𝓤 _) $ split ! $
+          let is_x : o ≡ Some x = sym ((coded_option R.coded).inj (Some x) o same) in rewrite ! 0 (λ (o' : Option R.Denot). ‵ (fbor ν (place R o' sb (value_at R se)))) is_x refl $
+          rewrite ! 0 (λ (y : ℕ × ℕ). ‵ (fbor ν (part_at R full_share x y.0 y.1))) there refl $ fpack ! (Judged R) Seen (inr σ) $ now ! $ keep ! (0 ∷ 2 ∷ []) $ done !))
+
+      way_back : (σ : Shareable R → ⊥) → ⟦ Kept ⟧ ∗ ⟦ Row ⟧ ∗ ⟦ Filled ⟧ ∗ ⟦ Pinned ⟧ ⊢ ⟦ fwand (fsep (fdead ν) (fseps (fbor life Value ∷ []))) (fupd C) ⟧
+      unfolding fseps
+      way_back σ = qed 𝓛 (‵ Kept ∷ ‵ Row ∷ ‵ Filled ∷ ‵ Pinned ∷ []) ∵ assume ! (‵ (fsep (fdead ν) (fsep (fbor life Value) ftrue))) $ suffices ! ⟦ C ⟧ (upd_i 𝓤 ⟦ C ⟧) $ fsplit3 ! $ move ! (3 ∷ 4 ∷ 5 ∷ 6 ∷ 1 ∷ []) $ group ! 5 $
+          use1 𝓛 (‵ C) (again (inr σ)) $ keep ! (0 ∷ []) $ done !
+
+      lends_by : (q : Share) (j : Judged R) → A.obor ν q C ∗ ⟦ Kept ⟧ ∗ ⟦ Row ⟧ ∗ ⟦ Filled ⟧ ∗ ⟦ Pinned ⟧ ∗ ⟦ By j ⟧ ⊢ H.⇛ (⟦ Saw ⟧ ∗ A.lft ν q)
+      unfolding fseps
+      lends_by q (inl σ) = qed 𝓛 (‵ (fobor ν q C) ∷ ‵ Kept ∷ ‵ Row ∷ ‵ Filled ∷ ‵ Pinned ∷ ‵ (By (inl σ)) ∷ []) ∵ updating ! $ move ! (2 ∷ []) $ fsplit ! $ move ! (1 ∷ []) $ fsplit ! $ move ! (1 ∷ []) $
+          use1 𝓛 (‵ (before β life) ⊛ ‵ (before β life)) (before_dup 𝓛 β life) $ split ! $
+          -- [β ends before, twice; what is known of the block; its size; the open borrow; kept; filled; pinned; by]
+          move ! (2 ∷ 1 ∷ []) $ fjoin ! $ move ! (2 ∷ 0 ∷ []) $ fjoin ! $
+          move ! (6 ∷ []) $ use1 𝓛 (‵ (By (inl σ)) ⊛ ‵ (By (inl σ))) (contraction 𝓛 (shared_of R x sb (value_at R se)) (L x sb (value_at R se)) life) $ split ! $
+          -- [by; by; the row; β ends before; the open borrow; kept; filled; pinned]
+          move ! (3 ∷ 0 ∷ []) $ use2 𝓛 (‵ (shared_of R x sb (value_at R se) β)) ((L x sb (value_at R se)).mono M 𝓤 𝓛 β life) $ rewrite ! 0 (λ (y : ℕ × ℕ). ‵ (shared_of R x y.0 y.1 β)) there refl $ fpack ! (Judged R) Seen (inl σ) $
+          move ! (4 ∷ 2 ∷ 5 ∷ 6 ∷ 1 ∷ []) $ group ! 5 $ use1 𝓛 (‵ C) (again (inl σ)) $ move ! (2 ∷ 0 ∷ []) $ obor_close ! tt $ now ! $ keep ! (2 ∷ 1 ∷ []) $ done !
+      lends_by q (inr σ) = qed 𝓛 (‵ (fobor ν q C) ∷ ‵ Kept ∷ ‵ Row ∷ ‵ Filled ∷ ‵ Pinned ∷ ‵ (By (inr σ)) ∷ []) ∵ updating ! $ move ! (2 ∷ []) $ fsplit ! $ move ! (1 ∷ []) $ fsplit ! $ move ! (1 ∷ []) $
+          use1 𝓛 (‵ (before β life) ⊛ ‵ (before β life)) (before_dup 𝓛 β life) $ split ! $ use1 𝓛 (‵ (before ν life)) (before_shorten 𝓛 β ν life inc) $ move ! (2 ∷ 1 ∷ []) $ fjoin ! $ move ! (2 ∷ 0 ∷ []) $ fjoin ! $
+          -- [the row; ν ends before; the open borrow; kept; filled; pinned; by]
+          move ! (5 ∷ []) $ use1 𝓛 (‵ Pinned ⊛ ‵ Pinned) (𝓛.names.res_dup η (value_code R (Some x))) $ split ! $ move ! (5 ∷ 2 ∷ 6 ∷ 0 ∷ []) $ group ! 4 $
+          use1 𝓛 (‵ (fwand (fsep (fdead ν) (fseps (fbor life Value ∷ []))) (fupd C))) (way_back σ) $ anything ! $ move ! (5 ∷ 0 ∷ []) $ fjoin ! $ move ! (4 ∷ 0 ∷ 1 ∷ []) $ obor_alter ! tt (fbor life Value ∷ []) $
+          use1 𝓛 (‵ (fbor ν (fbor life Value)) ⊛ ‵ ftrue) (id⊢ 𝓤 _) $ split ! $ move ! (4 ∷ 0 ∷ 2 ∷ []) $ use3 𝓛 (later (‵ (fbor ν Value) ⊛ ‵ (flft ν q))) (unnest_before 𝓛 ν life q Value) $ await ! tt $ split ! $
+          move ! (0 ∷ 1 ∷ 3 ∷ []) $ use3 𝓛 (later (‵ Saw ⊛ ‵ (flft ν q))) (lends_value σ q) $ await ! tt $ split ! $ now ! $ keep ! (0 ∷ 1 ∷ []) $ done !
+
+    lends_at : (q : Share) → ⟦ fbor ν C ⟧ ∗ A.lft ν q ⊢ H.⇛ ((⟦ fact (IsKept R c found published v) ⟧ ∗ ⟦ fact (InBlock c.slot) ⟧ ∗ ⟦ Saw ⟧) ∗ A.lft ν q)
+    lends_at q = qed 𝓛 (‵ (fbor ν C) ∷ ‵ (flft ν q) ∷ []) ∵ updating ! $ bor_open ! tt $ move ! (1 ∷ []) $ fsplit ! $ fpick ! (λ told. move ! (1 ∷ []) $ fpick ! (λ z. fsplit ! $ fpick ! (λ of. move ! (1 ∷ []) $ fsplit ! $ move ! (1 ∷ []) $
+        use1 𝓛 (some (λ (s : Standing). given (c.stands ≡ true) (‵ (has_slot R z.0 z.1 β c v s)))) (stood z c.stands) $ pick ! (λ s. learn ! (λ is. fsplit ! $ fpick ! (λ at. drop ! $ fsplit ! $ move ! (1 ∷ []) $ fsplit3 ! $
+        -- [filled; pinned; by; the row; kept; nothing; nothing; the open borrow]
+        move ! (2 ∷ []) $ fpick ! (λ j. move ! (7 ∷ 4 ∷ 3 ∷ 1 ∷ 2 ∷ 0 ∷ []) $ group ! 6 $ use1 𝓛 (later (‵ Saw ⊛ ‵ (flft ν q))) (lends_by told z of s at is q j) $ await ! tt $ split ! $
+        anything ! $ fpack ! (InBlock c.slot) (λ _. ftrue) (subst InBlock (sym at) tt) $ move ! (0 ∷ 1 ∷ []) $ join ! $ anything ! $ fpack ! (IsKept R c found published v) (λ _. ftrue) told $ join ! $ join ! $ now ! $ keep ! (0 ∷ []) $ done !)))))))
+
+  module _ (β : Lft) (R : RattleType) (L : RowLaws R) (l : Lft) (le : Incl l β) (shares : Shares 𝓛 R l) (w : Ptr) (table : ℕ) (c : Place) (found published : Bool) where
+    -- a claim keeps what is true of it
+    told_of : (v : Option R.Denot) → ⟦ claim_owns R β w table c v found published ⟧ ⊢ monad.fact 𝓤 (IsKept R c found published v)
+    told_of v = qed 𝓛 (‵ (claim_owns R β w table c v found published) ∷ []) ∵ fsplit ! $ fpick ! (λ told. by ! (fact_i 𝓤 (IsKept R c found published v) _ told))
+
+    module _ (x : R.Denot) (κ : Lft) where
+      abbrev ν : Lft
+      ν = κ ++ β
+
+      abbrev S : Lft → Fml
+      S = shared_of R x (block_of c.slot) (value_at R (count_of c.slot))
+
+      abbrev Lasts : Judged R → Fml
+      Lasts j = lasts R β (block_of c.slot) (value_at R (count_of c.slot)) x j κ
+
+      abbrev pub Lent : Fml
+      Lent = fsep (S ν) (fex (Judged R) Lasts)
+
+      finish : (inc : Incl ν β) (ts : Toks) → Incl (span ts) l → Incl (span ts) ν → (j : Judged R) → ⟦ Seen β R L w table c x found published ν inc j ⟧ ∗ lfts 𝓛 ts ⊢ H.⇛ (⟦ Lent ⟧ ∗ lfts 𝓛 ts)
+      finish inc ts sl sν (inl j) = qed 𝓛 (‵ (S β) ∷ raw (lfts 𝓛 ts) ∷ []) ∵ updating ! $ use1 𝓛 (‵ (S β) ⊛ ‵ (S β)) (contraction 𝓛 S (L x (block_of c.slot) (value_at R (count_of c.slot))) β) $ split ! $
+          fpack ! (Judged R) Lasts (inl j) $ move ! (1 ∷ []) $ use1 𝓛 (‵ (S ν)) (shortens 𝓛 S (L x (block_of c.slot) (value_at R (count_of c.slot))) β ν inc) $ fjoin ! $ now ! $ done !
+      finish inc ts sl sν (inr j) = qed 𝓛 (‵ (fbor ν (part_at R full_share x (block_of c.slot) (value_at R (count_of c.slot)))) ∷ raw (lfts 𝓛 ts) ∷ []) ∵ updating ! $
+          use2 𝓛 (later (‵ (S ν) ⊛ raw (lfts 𝓛 ts))) (shares x ν ts (block_of c.slot) (value_at R (count_of c.slot)) sl sν) $ await ! tt $ split ! $
+          anything ! $ fpack ! (Judged R) Lasts (inr j) $ move ! (1 ∷ 0 ∷ []) $ fjoin ! $ now ! $ done !
+
+    none_at : (κ : Lft) (q : Share) → A.bor κ (claim_owns R β w table c None found published) ∗ A.lft κ q ⊢ H.⇛ (⟦ fact (IsKept R c found published None) ⟧ ∗ A.lft κ q)
+    none_at κ q = let P : Fml = claim_owns R β w table c None found published in let Φ : Type 0 = IsKept R c found published None in qed 𝓛 (‵ (fbor κ P) ∷ ‵ (flft κ q) ∷ []) ∵ updating ! $ bor_open ! tt $ move ! (1 ∷ []) $
+        use1 𝓛 (given Φ (‵ P)) (fact_use 𝓤 _ (told_of None) (guard_i 𝓤 Φ ⟦ P ⟧)) $ learn ! (λ told. move ! (1 ∷ 0 ∷ []) $ obor_close ! tt $ drop ! $ anything ! $ fpack ! Φ (λ _. ftrue) told $ now ! $ done !)
+
+    -- a `&` to a claim is a `&` to the value that it holds
+    pub lends_claim : (v : Option R.Denot) → Lends 𝓛 (claim_owns R β w table c v found published) (claim_shares R β c v found published) l
+    lends_claim (Some x) = λ κ ts inc sp. let ν : Lft = κ ++ β in let P : Fml = claim_owns R β w table c (Some x) found published in let Told : Fml = fact (IsKept R c found published (Some x)) in let In : Fml = fact (InBlock c.slot) in
+        let sm : Incl (span ts) ν = ⊑_meet (span ts) κ β sp (Incl-trans inc le) in
+        let within : Incl ν β = meet_⊑_right κ β in let Got : Pr = ⟦ Told ⟧ ∗ ⟦ In ⟧ ∗ ⟦ Saw β R L w table c x found published ν within ⟧ in
+        qed 𝓛 (‵ (fbor κ P) ∷ raw (lfts 𝓛 ts) ∷ []) ∵ updating ! $ use1 𝓛 (‵ (fbor ν P)) (𝓛.bors.bor_shorten κ ν P (meet_⊑_left κ β)) $
+        use2 𝓛 (later ((‵ Told ⊛ ‵ In ⊛ ‵ (Saw β R L w table c x found published ν within)) ⊛ raw (lfts 𝓛 ts))) (by_one 𝓛 ν ts sm (A.bor ν P) Got (lends_at β R L w table c x found published ν within)) $ await ! tt $
+        split ! $ split3 ! $ move ! (2 ∷ []) $ fpick ! (λ j. move ! (0 ∷ 3 ∷ []) $ use2 𝓛 (later (‵ (Lent x κ) ⊛ raw (lfts 𝓛 ts))) (finish x κ within ts inc sm j) $ await ! tt $ split ! $
+        -- [what is shared; the tokens; what is kept; the block]
+        move ! (3 ∷ 0 ∷ []) $ fjoin ! $ move ! (2 ∷ 0 ∷ []) $ fjoin ! $ now ! $ keep ! (0 ∷ 1 ∷ []) $ done !)
+    lends_claim None = λ κ ts inc sp. let P : Fml = claim_owns R β w table c None found published in let Told : Fml = fact (IsKept R c found published None) in
+        qed 𝓛 (‵ (fbor κ P) ∷ raw (lfts 𝓛 ts) ∷ []) ∵ updating ! $ use2 𝓛 (later (‵ Told ⊛ raw (lfts 𝓛 ts))) (by_one 𝓛 κ ts sp (A.bor κ P) ⟦ Told ⟧ (none_at κ)) $ await ! tt $ split ! $ anything ! $ move ! (1 ∷ 0 ∷ []) $ fjoin ! $ now ! $ done !

@@ -1,0 +1,67 @@
+-- A claim is given up for its right. Assumes `Logic`.
+use Rattle.std.proofs.Common.{ℕ, ◌+◌, ◌*◌, ◌<◌, Bool, true, false, [], ◌∷◌, length, refl, sym, subst, Option}
+use seplogic.Ra.Ura.{Ura}
+use base.Logic.{SProp, ent, sep, wand, apply∗}
+use base.Fml.{Lft, Share, Fml, fbor, flft, finv}
+use prog.Model.{Model}
+use contract.Running.{Running}
+use contract.Shared.{Lends-one}
+use types.Logic.{Logic, sem}
+use types.Kit.{‵, raw, ◌⊛◌, some, later, ◌$◌, ◌∵◌, !, qed, by, move, keep, drop, split, pick, rewrite, fsplit, fsplit3, fpick, await, updating, now, use2, use3, done}
+use denote.RattleType.{RattleType}
+use denote.RawPtr.{Ptr, block_of, count_of}
+use Rattle.thread_local_rights.specs.Rights.{right_owns}
+use Rattle.thread_local_blocks.specs.Slots.{stride}
+use Rattle.thread_local_shared_word_logic.specs.Shared.{Named, Turn, invariant}
+use Rattle.thread_local_claim_logic.specs.Claims.{Place, IsOf, has, claim_owns, waits}
+use Rattle.thread_local_claim_logic.proofs.Early as early
+use Rattle.thread_local_claim_logic.proofs.Steps as steps
+
+module _ {M : Type 1} {𝓤 : Ura M} (𝓛 : Logic 𝓤) (R : RattleType) (β : Lft) (w : Ptr) (table : ℕ) (c : Place) (v : Option R.Denot) where
+  open 𝓛 use {H, A}
+
+  abbrev Pr : Type 2
+  Pr = SProp 𝓤
+
+  abbrev ◌⊢◌ : Pr → Pr → Type 1
+  P ⊢ Q = ent 𝓤 P Q
+
+  abbrev ◌∗◌ : Pr → Pr → Pr
+  P ∗ Q = sep 𝓤 P Q
+
+  abbrev ⟦◌⟧ : Fml → Pr
+  ⟦ P ⟧ = sem 𝓛 P
+
+  infix 26 ◌⊢◌
+  infixr 35 ◌∗◌
+  module _ (z : Named × Turn) (of : IsOf R w table c z.0) (q : Share) where
+    abbrev d : Named
+    d = z.0
+
+    abbrev t : Turn
+    t = z.1
+
+    abbrev J : Fml
+    J = fbor t.life (invariant R d t (block_of w) (count_of w + 0))
+
+    abbrev Right : Fml
+    Right = right_owns d.table c.id
+
+    waited : (looked : Bool) → A.inv J ∗ A.lft t.life q ∗ ⟦ waits looked d.table t.pass c.id ⟧ ⊢ H.⇛ (⟦ Right ⟧ ∗ A.lft t.life q)
+    waited true = early.leaves 𝓛 R d t (block_of w) (count_of w + 0) c.index c.id of.4 of.3 q
+    waited false = qed 𝓛 (‵ (finv J) ∷ ‵ (flft t.life q) ∷ ‵ Right ∷ []) ∵ updating ! $ now ! $ keep ! (2 ∷ 1 ∷ []) $ done !
+
+    gives : (k : Bool) → A.inv J ∗ A.lft t.life q ∗ ⟦ has R d t β c v k ⟧ ⊢ H.⇛ (⟦ Right ⟧ ∗ A.lft t.life q)
+    gives false = qed 𝓛 (‵ (finv J) ∷ ‵ (flft t.life q) ∷ ‵ (has R d t β c v false) ∷ []) ∵ move ! (2 ∷ []) $ fsplit ! $ drop ! $ move ! (1 ∷ 2 ∷ 0 ∷ []) $ by ! (waited c.looked)
+    gives true = qed 𝓛 (‵ (finv J) ∷ ‵ (flft t.life q) ∷ ‵ (has R d t β c v true) ∷ []) ∵ move ! (2 ∷ []) $ fpick ! (λ s. fsplit ! $ fpick ! (λ at. drop ! $ fsplit ! $ fsplit3 ! $ fpick ! (λ sized. drop ! $
+        -- [what is known of the block; it lasts; what the slot holds; the invariant; the token]
+        let wb : ℕ = block_of w in let wo : ℕ = count_of w + 0 in let l : c.index < length s.names = subst (λ (n : ℕ). c.index < n) (sym sized.0) of.4 in let b : ℕ = block_of s.at in let e : ℕ = c.index * stride R + count_of s.at in
+        keep ! (3 ∷ 4 ∷ 0 ∷ 2 ∷ []) $ by ! (steps.releases 𝓛 R d t wb wo s c.index c.id e b l of.3 refl refl q v))))
+
+  -- the right of a claim, for what it owns
+  pub surrenders : {𝓜 : Model 𝓤 H} (𝓡 : Running 𝓤 H 𝓜) (found published : Bool) (q : Share) → ⟦ claim_owns R β w table c v found published ⟧ ∗ A.lft β q ⊢ H.⇛ (⟦ right_owns table c.id ⟧ ∗ A.lft β q)
+  surrenders {𝓜} 𝓡 found published q = qed 𝓛 (‵ (claim_owns R β w table c v found published) ∷ ‵ (flft β q) ∷ []) ∵ updating ! $ fsplit ! $ drop ! $ fpick ! (λ z. fsplit ! $ fpick ! (λ of. drop ! $ fsplit ! $ fsplit ! $ let life : Lft = z.1.life in
+      -- [the sharing lasts; the invariant; what the claim has; the token]
+      move ! (0 ∷ 3 ∷ []) $ use2 𝓛 (later (some (λ (r : Share). ‵ (flft life r) ⊛ raw (wand 𝓤 (A.lft life r) (H.⇛ (A.lft β q)))))) (Lends-one 𝓛 𝓜 𝓡 β life q) $ await ! tt $ pick ! (λ r. split ! $
+      move ! (2 ∷ 0 ∷ 3 ∷ []) $ use3 𝓛 (later (‵ (right_owns z.0.table c.id) ⊛ ‵ (flft life r))) (gives z of r c.stands) $ await ! tt $ split ! $ rewrite ! 0 (λ (n : ℕ). ‵ (right_owns n c.id)) of.2 refl $
+      move ! (1 ∷ 2 ∷ []) $ use2 𝓛 (later (‵ (flft β q))) (apply∗ 𝓤 (A.lft life r) (H.⇛ (A.lft β q))) $ await ! tt $ now ! $ move ! (1 ∷ 0 ∷ []) $ done !)))

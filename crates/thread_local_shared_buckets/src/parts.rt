@@ -1,0 +1,51 @@
+//! How the words of a table lie while they are shared, and at rest.
+ghost use Rattle.std.specs.Prelude.{◌≡◌, ◌<◌};
+ghost use Rattle.thread_local_shared_buckets.specs.Seen.{Seen, seen_coded, seen, word_of, AreWords};
+
+use std::alloc::Global;
+use std::marker::Model;
+use thread_local_shared_word::SharedWord;
+
+/// A word for each of the 63 buckets.
+pub(crate) struct SharedRow<T> {
+    words: [SharedWord<T>; 63],
+}
+
+/// The words of a table's buckets. They lie as an owner's words do, beside the heap that their blocks come from.
+pub(crate) struct SharedWords<T> {
+    words: SharedRow<T>,
+    alloc: Global,
+}
+
+/// The words of a table's buckets, and how many of the first slots are reserved. They lie as an owner's buckets do.
+pub(crate) struct Parts<T> {
+    words: SharedWords<T>,
+    reserved: usize,
+}
+
+impl<T> Model for Parts<T> {
+    ghost Value = { Seen };
+
+    ghost coded = { seen_coded };
+
+    ghost view = { λ s. seen s.words.words.words s.reserved };
+
+    ghost invariant = { λ s. AreWords s.words.words.words s.reserved };
+}
+
+impl<T> Parts<T> {
+    /// The word of a bucket.
+    pub(crate) fn word(&self, bucket: usize) -> &SharedWord<T>
+        requires { bucket < 63 }
+        ensures { result.now ≡ word_of self.now bucket }
+    {
+        &self.words.words.words[bucket]
+    }
+
+    /// How many of the first slots are reserved.
+    pub(crate) fn reserved(&self) -> usize
+        ensures { result ≡ self.now.reserved }
+    {
+        self.reserved
+    }
+}

@@ -1,0 +1,43 @@
+//! The slots of a bucket that stands while threads share it.
+ghost use Rattle.std.specs.Prelude.{◌^◌, ◌<◌};
+ghost use Rattle.thread_local_shared_word_logic.specs.Shared.{Named, named_coded, row_owns};
+ghost use denote.Sharing.{said};
+
+use std::marker::{Brand, Model, PhantomData};
+use std::sync::atomic::Ordering::SeqCst;
+use std::sync::atomic::raw;
+use thread_local_blocks::Slot;
+
+/// The slots of a bucket, for as long as its word is borrowed. A contract sees of which word they are.
+#[derive(Drop)]
+pub struct Row<'a, T> {
+    pub at: *mut Slot<T>,
+    pub marker: PhantomData<&'a T>,
+    pub ghost of: { Named } by { named_coded },
+}
+
+impl<'a, T> Model for Row<'a, T> {
+    ghost also_owns = { λ r. row_owns T.row r.of 'a r.at };
+
+    ghost also_shares = { λ r _ κ. said (row_owns T.row r.of 'a r.at) κ };
+}
+
+impl<'a, T: Sync> Row<'a, T> {
+    /// The value of the slot, if one is published, for as long as the word is borrowed, whoever claims the slot meanwhile. It is one atomic
+    /// load of the slot's flag: it takes no memory, and never waits.
+    pub fn get(&self, index: usize) -> Option<&'a T>
+        requires { index < 2 ^ self.now.of.bucket }
+    {
+        let slot = unsafe { self.at.add(index) };
+        let flag = unsafe { raw::load::<Brand>(&raw const (*slot).flag, SeqCst) };
+        if flag == 0 {
+            None
+        } else {
+            Some(unsafe { &(*slot).value })
+        }
+    }
+}
+
+unsafe impl<T: Send> Send for Row<'_, T> {}
+
+unsafe impl<T: Send> Sync for Row<'_, T> {}
