@@ -11,7 +11,8 @@ use Rattle.thread_local_model.proofs.SlotsLaws.{slots_bounded}
 use Rattle.thread_local_model.proofs.WalkLaws.{walk_below-add, walk_below-none, length-walk_below}
 use Rattle.thread_local_model.proofs.AnswersLaws.{known_after_all}
 use Rattle.thread_local_steps.specs.Table.{Table, Bucket, slot_at, slot_of, published, stands, made_table}
-use Rattle.thread_local_steps.specs.Local.{Local, Doing, Private, Missing}
+use Rattle.thread_local_model.specs.Learnt.{Missing}
+use Rattle.thread_local_steps.specs.Local.{Local, Doing, Private}
 use Rattle.thread_local_steps.specs.SharedWalk.{SharedWalk, is_complete}
 use Rattle.thread_local_steps.proofs.WalkStepLaws.{complete_cursor}
 use Rattle.thread_local_steps.specs.Fits.{IsWritten, AllWritten, IsLearnt, view_now, GoesOn, with_value_if}

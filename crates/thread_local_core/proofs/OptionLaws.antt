@@ -1,7 +1,8 @@
 use Rattle.std.proofs.Common.{◌≡◌, Bool, true, false, cond, Option, Some, None, IsTrue, refl, ap, is_some, IfSome, IsSomeAnd, sym, subst}
 use Rattle.std.specs.Prelude.{option_map, unwrap_or}
 use Rattle.std.proofs.lemmas.Bool.{false≢true}
-use Rattle.thread_local_steps.specs.Local.{Local, Doing, Started, Learnt, Missing, make_bucket}
+use Rattle.thread_local_model.specs.Learnt.{Learnt, Missing}
+use Rattle.thread_local_steps.specs.Local.{Local, Doing, Started, make_bucket}
 use Rattle.thread_local_steps.specs.Table.{Table}
 
 -- what is mapped to another value, or is behind a test, is not this one

@@ -6,27 +6,8 @@ ghost use Rattle.thread_local_model.specs.Held.{is_held, least, with_least, with
 use std::alloc::Global;
 use std::marker::Model;
 use thread_local_lock::Fits;
-use thread_local_rights::{Right, Rights};
+use thread_local_rights::{HeldId, Rights};
 use thread_local_thread_id::{LocalError, ThreadIdManager};
-
-/// An id that is held, with the right to it. One that is dropped or forgotten is held for good.
-#[derive(Drop)]
-pub struct HeldId {
-    pub id: usize,
-    pub right: Right,
-    pub ghost own: { right.id ≡ id },
-}
-
-impl HeldId {
-    /// The id and its right.
-    pub fn into_parts(self) -> (usize, Right)
-        ensures id { result.0 ≡ self.id }
-        ensures right { result.1 ≡ self.right }
-    {
-        let Self { id, right } = self;
-        (id, right)
-    }
-}
 
 /// Gives out the least id that isn't held, with the right to it, and takes both back.
 ///

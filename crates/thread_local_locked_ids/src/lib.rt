@@ -6,5 +6,5 @@ pub mod locked;
 #[cfg(test)]
 mod tests;
 
-pub use ids::{HeldId, Ids};
+pub use ids::Ids;
 pub use locked::LockedIds;

@@ -1,10 +1,11 @@
 //! The ids of a table, for all its threads.
 ghost use Rattle.std.specs.Prelude.{◌≡◌, ℕ, ◌-◌, ◌^◌, ◌<◌, IfOk};
 
-use crate::{HeldId, Ids};
+use crate::Ids;
 use std::marker::Model;
 use std::sync::Wait;
 use thread_local_lock::Lock;
+use thread_local_rights::HeldId;
 use thread_local_thread_id::LocalError;
 
 /// The ids of a table under a lock. Contracts see the table.

@@ -1,6 +1,6 @@
 ghost use Rattle.std.specs.Prelude.{◌≡◌, ◌≢◌, ℕ, IfOk};
 
-use crate::{HeldId, Ids, LockedIds};
+use crate::{Ids, LockedIds};
 use std::mem::{forget, swap};
 use std::sync::Wait;
 use std::sync::atomic::AtomicBool;
@@ -8,6 +8,7 @@ use std::sync::atomic::Ordering::SeqCst;
 use std::test::Fail;
 use std::thread;
 use std::thread::Threads;
+use thread_local_rights::HeldId;
 use thread_local_thread_id::LocalError;
 
 /// Two ids of one table are two.

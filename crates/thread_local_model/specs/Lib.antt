@@ -6,5 +6,6 @@ pub mod Rows
 pub mod Capacity
 pub mod Sheet
 pub mod Answers
+pub mod Learnt
 pub mod Owned
 pub mod Code

@@ -3,7 +3,7 @@ ghost use Rattle.std.specs.Prelude.{◌≡◌, ◌-◌, ◌^◌, ◌<◌, true, 
 
 use std::alloc::Global;
 use thread_local_claim::Claim;
-use thread_local_locked_ids::HeldId;
+use thread_local_rights::HeldId;
 use thread_local_shared_buckets::Shared;
 use thread_local_shared_word::Private;
 use thread_local_thread_id::Thread;

@@ -3,7 +3,8 @@ use Rattle.thread_local_model.specs.Place.{bucket_of}
 use Rattle.thread_local_model.specs.Walk.{with_value}
 use Rattle.thread_local_model.specs.Answers.{View, Call, answers, view_after_all}
 use Rattle.thread_local_steps.specs.Table.{Slot, Table, slot_at, published, stands}
-use Rattle.thread_local_steps.specs.Local.{Learnt, Unknown, Missing, Standing, Vacant, Holding, Doing, Gets, Started, Private, Written, Local, LocalStep, SetFlag}
+use Rattle.thread_local_model.specs.Learnt.{Learnt, Unknown, Missing, Standing, Vacant, Holding}
+use Rattle.thread_local_steps.specs.Local.{Doing, Gets, Started, Private, Written, Local, LocalStep, SetFlag}
 
 -- a slot whose flag is set holds the value that was written
 abbrev pub IsWritten : {V : Type 0} → Slot V → Type 0

@@ -1,16 +1,8 @@
 use Rattle.std.specs.Prelude.{ℕ, zero, suc, Bool, true, false, List, [], ◌∷◌, ◌++◌, Option, Some, None, option_and_then, Result, Ok, Err, if◌then◌else◌}
 use Rattle.thread_local_model.specs.Place.{bucket_of}
 use Rattle.thread_local_model.specs.Answers.{View, Call, Get, GetOr, Answer, Found, Answered, Refused, Failed}
+use Rattle.thread_local_model.specs.Learnt.{Learnt, Unknown, Missing, Standing, Vacant, Holding, loaded, looked}
 use Rattle.thread_local_steps.specs.Table.{Table, published, stands, with_bucket, with_written, with_flag}
-
--- What a Local has learnt of its slot: nothing yet; that its word was empty; that its bucket stands; that the
--- bucket stands and the slot is empty; or the value that the slot holds.
-pub data Learnt (V : Type 0) : Type 0 where
-  Unknown : Learnt V
-  Missing : Learnt V
-  Standing : Learnt V
-  Vacant : Learnt V
-  Holding : (value : V) → Learnt V
 
 -- What a Local does: any number of gets are under way, or one publishing call. That has begun, with what its
 -- closure would answer; or it has made a bucket of its own, of this number; or it has written its value.
@@ -68,18 +60,6 @@ begin_get table local doing = None
 abbrev pub begin_get_or : {V E : Type 0} → Table V → Local V E → Result V E → Doing V E → Option (Table V × Local V E)
 begin_get_or table local create (Gets zero) = Some (table, record local { doing = Started create })
 begin_get_or table local create doing = None
-
--- what is learnt by a load of the word, where that is not known to name a bucket
-abbrev pub loaded : {V : Type 0} → Learnt V → Bool → Option (Learnt V)
-loaded Unknown stands = Some (if stands then Standing else Missing)
-loaded Missing stands = Some (if stands then Standing else Missing)
-loaded learnt stands = None
-
--- what is learnt by a look at a slot whose bucket stands
-abbrev pub looked : {V : Type 0} → Learnt V → Option V → Option (Learnt V)
-looked Standing None = Some Vacant
-looked Standing (Some v) = Some (Holding v)
-looked learnt shown = None
 
 -- the table as it was, and the Local with what it has learnt now
 abbrev pub learns : {V E : Type 0} → Table V → Local V E → Option (Learnt V) → Option (Table V × Local V E)

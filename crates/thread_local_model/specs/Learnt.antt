@@ -1,0 +1,48 @@
+use Rattle.std.specs.Prelude.{◌≡◌, ℕ, zero, suc, Bool, Option, Some, None, refl, if◌then◌else◌}
+use Rattle.std.specs.Coded.{Coded, coded_option, coded_ℕ, coded×, code_by}
+
+-- What somebody who has the right to an id has learnt of the id's slot: nothing yet; that its word was empty; that its bucket stands;
+-- that the bucket stands and the slot is empty; or the value that the slot holds.
+pub data Learnt (V : Type 0) : Type 0 where
+  Unknown : Learnt V
+  Missing : Learnt V
+  Standing : Learnt V
+  Vacant : Learnt V
+  Holding : (value : V) → Learnt V
+
+-- what is learnt by a load of the word, where that is not known to name a bucket
+abbrev pub loaded : {V : Type 0} → Learnt V → Bool → Option (Learnt V)
+loaded Unknown stands = Some (if stands then Standing else Missing)
+loaded Missing stands = Some (if stands then Standing else Missing)
+loaded learnt stands = None
+
+-- what is learnt by a look at a slot whose bucket stands
+abbrev pub looked : {V : Type 0} → Learnt V → Option V → Option (Learnt V)
+looked Standing None = Some Vacant
+looked Standing (Some v) = Some (Holding v)
+looked learnt shown = None
+
+-- how a proof tells apart what is learnt: by a number and the value, if there is one
+abbrev number_of : {V : Type 0} → Learnt V → ℕ × Option V
+number_of Unknown = (0, None)
+number_of Missing = (1, None)
+number_of Standing = (2, None)
+number_of Vacant = (3, None)
+number_of (Holding v) = (4, Some v)
+
+abbrev learnt_of : {V : Type 0} → ℕ → Option V → Learnt V
+learnt_of n (Some v) = Holding v
+learnt_of zero None = Unknown
+learnt_of (suc zero) None = Missing
+learnt_of (suc (suc zero)) None = Standing
+learnt_of (suc (suc (suc n))) None = Vacant
+
+abbrev same_again : {V : Type 0} → (l : Learnt V) → learnt_of (number_of l).0 (number_of l).1 ≡ l
+same_again Unknown = refl
+same_again Missing = refl
+same_again Standing = refl
+same_again Vacant = refl
+same_again (Holding v) = refl
+
+abbrev pub learnt_coded : {V : Type 0} → Coded V → Coded (Learnt V)
+learnt_coded {V} c = code_by (ℕ × Option V) (coded× coded_ℕ (coded_option c)) number_of (λ p. learnt_of p.0 p.1) same_again
