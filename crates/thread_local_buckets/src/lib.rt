@@ -7,6 +7,3 @@ mod iter_mut;
 
 pub use buckets::{Buckets, CapacityError};
 pub use iter::{IntoIter, IterMut};
-
-#[cfg(test)]
-mod tests;

@@ -6,7 +6,7 @@ use Rattle.thread_local_contents.specs.Owner.{with_published}
 use Rattle.thread_local_contents.proofs.ValueLaws.{slot-no_contents}
 use Rattle.thread_local_contents.proofs.FillingLaws.{IsTable-no_contents}
 use Rattle.thread_local_contents.proofs.InsertingLaws.{published_slot}
-use Rattle.thread_local_buckets.proofs.tests.written.Goals as goal
+use Rattle.thread_local_owner_tests.proofs.buckets.callers.written.Goals as goal
 
 -- nothing stands in new buckets
 nothing_stands : (c : Contents ℕ) (b i v : ℕ) → c ≡ no_contents → unwrap_or (value_in c b i) v ≡ v

@@ -4,14 +4,15 @@
 //! says so.
 
 use std::alloc::AllocError;
-use thread_local::buckets::Buckets;
-use thread_local::thread_id::Thread;
+use thread_local_buckets::Buckets;
+use thread_local_thread_id::Thread;
 
+mod callers;
 mod drops;
 mod places;
 mod walks;
 
-// Inserts a value, or says that memory was refused.
+/// Inserts a value, or says that memory was refused.
 fn insert<T: Drop>(buckets: &mut Buckets<T>, id: u32, value: T) -> Result<(), AllocError> {
     match buckets.insert(Thread::new(id as usize), value) {
         Ok(_) => Ok(()),

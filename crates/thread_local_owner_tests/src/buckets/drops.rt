@@ -9,8 +9,8 @@ use std::mem::forget;
 use std::sync::atomic::AtomicU64;
 use std::sync::atomic::Ordering::SeqCst;
 use std::test::Fail;
-use thread_local::buckets::Buckets;
-use thread_local::thread_id::Thread;
+use thread_local_buckets::Buckets;
+use thread_local_thread_id::Thread;
 
 struct Counted<'a> {
     number: u32,
@@ -24,7 +24,7 @@ impl Drop for Counted<'_> {
     }
 }
 
-// Counted values 0, 1 and 2, each at its own number's id.
+/// Counted values 0, 1 and 2, each at its own number's id.
 fn three(alloc: Global, drops: &AtomicU64) -> Result<Buckets<Counted<'_>>, AllocError> {
     let mut buckets = Buckets::new(alloc);
     for number in 0..3u32 {
@@ -114,7 +114,7 @@ fn a_forgotten_walk_drops_nothing(rt: HostRuntime) -> Result<(), Fail> {
     Ok(())
 }
 
-// A value without bytes. Each drop writes one byte to a file, since there is no room for a counter.
+/// A value without bytes. Each drop writes one byte to a file, since there is no room for a counter.
 struct Noted<R: Files + Drop> {
     rt: R,
 }

@@ -1,8 +1,9 @@
+//! Blocks of slots: how large a slot is, and which blocks are refused.
 ghost use Rattle.std.specs.Prelude.{◌<◌};
 
-use crate::{Block, Slot};
 use std::alloc::Global;
 use std::mem::size_of;
+use thread_local_blocks::{Block, Slot};
 
 /// Whether there is no block of so many slots.
 fn is_refused(alloc: Global, len: usize) -> bool

@@ -1,15 +1,16 @@
+//! Callers whose own contracts follow from those of the calls.
 ghost use Rattle.std.specs.Prelude.{◌≡◌, ℕ, IfOk, IsSome, is_some};
 ghost use Rattle.thread_local_model.specs.Buckets.{values};
 ghost use Rattle.thread_local_model.specs.Rows.{value_in};
 ghost use Rattle.thread_local_contents.specs.Owner.{with_published};
 
-use crate::Buckets;
 use std::alloc::Global;
 use std::cell::Cell;
 use std::test::Fail;
+use thread_local_buckets::Buckets;
 use thread_local_thread_id::Thread;
 
-// A caller at any type: a value that is inserted is what the walk gives first.
+/// A caller at any type: a value that is inserted is what the walk gives first.
 fn inserted_and_taken<T: Send + Drop>(alloc: Global, value: T) -> Result<Option<T>, T> {
     let mut buckets = Buckets::new(alloc);
     match buckets.insert(Thread::new(2), value) {
@@ -20,7 +21,7 @@ fn inserted_and_taken<T: Send + Drop>(alloc: Global, value: T) -> Result<Option<
     Ok(walk.next())
 }
 
-// Writes through what `insert` answers.
+/// Writes through what `insert` answers.
 fn written(alloc: Global) -> Result<u32, u32>
     ensures { IfOk result (λ there. there ≡ 5) }
 {
@@ -31,7 +32,7 @@ fn written(alloc: Global) -> Result<u32, u32>
     Ok(*there)
 }
 
-// Writes one value of a map: it stands there afterwards, and every other is as it was.
+/// Writes one value of a map: it stands there afterwards, and every other is as it was.
 fn write_at(buckets: &mut Buckets<u32>, thread: Thread, value: u32)
     requires { IsSome (value_in buckets.old.contents thread.bucket thread.index) }
     ensures { buckets.new.contents ≡ with_published buckets.old.contents thread.bucket thread.index value }
@@ -41,7 +42,7 @@ fn write_at(buckets: &mut Buckets<u32>, thread: Thread, value: u32)
     }
 }
 
-// Writes every value of a map: the same ids have a value, and as many slots are reserved.
+/// Writes every value of a map: the same ids have a value, and as many slots are reserved.
 fn write_all(buckets: &mut Buckets<u32>, value: u32)
     ensures published { (id : ℕ) → is_some (values buckets.new.contents id) ≡ is_some (values buckets.old.contents id) }
     ensures reserved { buckets.new.reserved ≡ buckets.old.reserved }
@@ -51,7 +52,7 @@ fn write_all(buckets: &mut Buckets<u32>, value: u32)
     }
 }
 
-// Writes the value that a walk gives first.
+/// Writes the value that a walk gives first.
 fn write_first(buckets: &mut Buckets<u32>, value: u32)
     ensures published { (id : ℕ) → is_some (values buckets.new.contents id) ≡ is_some (values buckets.old.contents id) }
 {

@@ -5,10 +5,9 @@ use std::alloc::{AllocError, Global};
 use std::mem::forget;
 use std::process::Abort;
 use std::test::Fail;
-use thread_local::buckets::Buckets;
-use thread_local::iter::IntoIter;
+use thread_local_buckets::{Buckets, IntoIter};
 
-// The values 1, 2, 3 at three ids.
+/// The values 1, 2, 3 at three ids.
 fn three(alloc: Global, ids: [u32; 3]) -> Result<Buckets<u32>, AllocError> {
     let mut buckets = Buckets::new(alloc);
     for (id, value) in ids.into_iter().zip([1, 2, 3]) {
@@ -17,7 +16,7 @@ fn three(alloc: Global, ids: [u32; 3]) -> Result<Buckets<u32>, AllocError> {
     Ok(buckets)
 }
 
-// Three values, counted down, and then nothing for good.
+/// Three values, counted down, and then nothing for good.
 fn gives(rt: &impl Abort, walk: &mut IntoIter<u32>, values: [u32; 3]) {
     let mut left = 3usize;
     for value in values {
@@ -33,7 +32,7 @@ fn gives(rt: &impl Abort, walk: &mut IntoIter<u32>, values: [u32; 3]) {
     }
 }
 
-// The same of a walk that lends.
+/// The same of a walk that lends.
 fn lends(rt: &impl Abort, buckets: &mut Buckets<u32>, values: [u32; 3]) {
     let mut walk = buckets.iter_mut();
     let mut left = 3usize;
@@ -71,7 +70,7 @@ fn an_empty_table_gives_nothing(rt: HostRuntime) -> Result<(), Fail> {
     Ok(())
 }
 
-// Takes what may go to another thread.
+/// Takes what may go to another thread.
 fn crosses<S: Send>(value: S) -> S {
     value
 }
@@ -99,7 +98,7 @@ fn first(buckets: &mut Buckets<u32>) -> Option<u32> {
     walk.next().map(|there| *there)
 }
 
-// The same, and the walk is forgotten.
+/// The same, and the walk is forgotten.
 fn first_of_forgotten(buckets: &mut Buckets<u32>) -> Option<u32> {
     let mut walk = buckets.iter_mut();
     let first = walk.next().map(|there| *there);

@@ -1,11 +1,12 @@
+//! A word that leads to a block.
 ghost use Rattle.std.specs.Prelude.{◌≡◌, IfOk};
 
-use crate::Word;
 use std::alloc::{AllocError, Global};
 use std::cell::Cell;
 use std::mem::size_of;
 use std::test::Fail;
 use thread_local_blocks::Block;
+use thread_local_words::Word;
 
 /// Puts a value into a block, takes it out again, and frees the block.
 fn there_and_back<T: Send + Drop>(alloc: Global, value: T) -> Result<T, AllocError>

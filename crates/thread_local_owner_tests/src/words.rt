@@ -1,9 +1,11 @@
+//! The words of a table: values come back at any type, and each is dropped once.
 ghost use Rattle.std.specs.Prelude.{◌≡◌, IfOk};
 
-use crate::Words;
 use std::alloc::{AllocError, Global};
 use std::cell::Cell;
 use std::test::Fail;
+use thread_local_thread_id::Thread;
+use thread_local_words::Words;
 
 /// Publishes two values, takes the first, and drops the rest.
 fn there_and_back<T: Send + Drop>(alloc: Global, first: T, second: T) -> Result<T, AllocError>
@@ -11,8 +13,20 @@ fn there_and_back<T: Send + Drop>(alloc: Global, first: T, second: T) -> Result<
 {
     let mut words = Words::new(alloc);
     words.install(3)?;
-    words.publish(3, 5, first);
-    words.publish(3, 7, second);
+    words.publish(
+        Thread {
+            bucket: 3,
+            index: 5,
+        },
+        first,
+    );
+    words.publish(
+        Thread {
+            bucket: 3,
+            index: 7,
+        },
+        second,
+    );
     Ok(words.take(3, 5))
 }
 
@@ -22,8 +36,17 @@ fn written_over<T: Send + Drop>(alloc: Global, first: T, second: T) -> Result<T,
 {
     let mut words = Words::new(alloc);
     words.install(4)?;
-    words.publish(4, 0, first);
-    *words.get_mut(4, 0) = second;
+    words.publish(
+        Thread {
+            bucket: 4,
+            index: 0,
+        },
+        first,
+    );
+    *words.get_mut(Thread {
+        bucket: 4,
+        index: 0,
+    }) = second;
     Ok(words.take(4, 0))
 }
 
@@ -74,9 +97,26 @@ fn values_are_written_over(rt: HostRuntime) -> Result<(), Fail> {
     let alloc = rt.alloc();
     let mut words = Words::new(alloc);
     words.install(2)?;
-    words.publish(2, 3, String::from_str(alloc, "one")?);
-    *words.get_mut(2, 3) = String::from_str(alloc, "two")?;
-    assert_eq!(rt; words.get_mut(2, 3).as_str(), "two");
+    words.publish(
+        Thread {
+            bucket: 2,
+            index: 3,
+        },
+        String::from_str(alloc, "one")?,
+    );
+    *words.get_mut(Thread {
+        bucket: 2,
+        index: 3,
+    }) = String::from_str(alloc, "two")?;
+    assert_eq!(rt;
+        words
+            .get_mut(Thread {
+                bucket: 2,
+                index: 3
+            })
+            .as_str(),
+        "two"
+    );
     assert_eq!(rt;
         (words.is_published(2, 3), words.is_published(2, 2)),
         (true, false)
@@ -100,11 +140,41 @@ where
     words.install(0)?;
     words.install(1)?;
     words.install(2)?;
-    words.publish(0, 0, make());
-    words.publish(1, 0, make());
-    words.publish(1, 1, make());
-    words.publish(2, 1, make());
-    words.publish(2, 3, make());
+    words.publish(
+        Thread {
+            bucket: 0,
+            index: 0,
+        },
+        make(),
+    );
+    words.publish(
+        Thread {
+            bucket: 1,
+            index: 0,
+        },
+        make(),
+    );
+    words.publish(
+        Thread {
+            bucket: 1,
+            index: 1,
+        },
+        make(),
+    );
+    words.publish(
+        Thread {
+            bucket: 2,
+            index: 1,
+        },
+        make(),
+    );
+    words.publish(
+        Thread {
+            bucket: 2,
+            index: 3,
+        },
+        make(),
+    );
     drop(words.take(1, 0));
     let taken = count();
     words.release(2);

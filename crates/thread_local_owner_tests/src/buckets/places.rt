@@ -4,8 +4,8 @@ use super::insert;
 use std::alloc::AllocError;
 use std::cell::Cell;
 use std::test::Fail;
-use thread_local::buckets::{Buckets, CapacityError};
-use thread_local::thread_id::Thread;
+use thread_local_buckets::{Buckets, CapacityError};
+use thread_local_thread_id::Thread;
 
 #[test]
 fn a_capacity_reserves_whole_buckets(rt: HostRuntime) -> Result<(), Fail> {
@@ -73,8 +73,8 @@ fn one_value_is_written(rt: HostRuntime) -> Result<(), Fail> {
     Ok(())
 }
 
-// Inserts a value and answers what stands at the id. Where memory is refused the value comes back and no bucket is new, and the same
-// call succeeds; else the answer is `None`.
+/// Inserts a value and answers what stands at the id. Where memory is refused the value comes back and no bucket is new, and the same
+/// call succeeds; else the answer is `None`.
 fn put(buckets: &mut Buckets<usize>, id: u32, value: usize) -> Option<usize> {
     let slots = buckets.slots();
     match buckets.insert(Thread::new(id as usize), value) {

@@ -1,0 +1,11 @@
+//! Tests of an owner's buckets, and of what they are made of.
+#![tactic(auto)]
+
+#[cfg(test)]
+mod blocks;
+#[cfg(test)]
+mod buckets;
+#[cfg(test)]
+mod word;
+#[cfg(test)]
+mod words;
