@@ -184,7 +184,7 @@ impl<T> Buckets<T> {
 
         // Whatever is written through the items, the same buckets stand, and the same ids have a value.
         ensures would_stand { (written : Owned T) (bucket : ℕ) → stands (owned_refilled self.old written).contents bucket ≡ stands self.old.contents bucket }
-        ensures would_publish { (written : Owned T) (id : ℕ) → is_some (values (owned_refilled self.old written).contents id) ≡ is_some (values self.old.contents id) }
+        ensures would_be_published { (written : Owned T) (id : ℕ) → is_some (values (owned_refilled self.old written).contents id) ≡ is_some (values self.old.contents id) }
     {
         let left = self.words.count_values();
         IterMut {
@@ -228,7 +228,7 @@ impl<T: Drop> IntoIterator for Buckets<T> {
     }
 }
 
-// How many binary digits a number has.
+/// How many binary digits a number has.
 fn digits(number: usize) -> usize
     requires { number < 2 ^ 63 }
     ensures value { result ≡ binary_digits number }

@@ -59,7 +59,7 @@ impl RawIter {
     }
 }
 
-// The index of the first value of the bucket from an index on, or the bucket's size where there is none.
+/// The index of the first value of the bucket from an index on, or the bucket's size where there is none.
 #[inline]
 fn first_published<P: Places>(places: &mut P, bucket: usize, from: usize, size: usize) -> usize
     requires in_table { bucket < 63 }

@@ -1,16 +1,17 @@
-//! The 63 words side by side.
+//! The words side by side.
 ghost use Rattle.std.specs.Prelude.{◌≡◌};
 ghost use Rattle.thread_local_model.specs.Buckets.{no_contents, IsTable};
 ghost use Rattle.thread_local_words.specs.Rows.{contents_of};
 
 use crate::word::Word;
+use thread_local_thread_id::BUCKETS;
 
 mod lends;
 
-/// A word for each of the 63 buckets.
+/// A word for each bucket.
 #[derive(Drop)]
 pub struct RowOfWords<T> {
-    pub(crate) words: [Word<T>; 63],
+    pub(crate) words: [Word<T>; BUCKETS],
 }
 
 impl<T> RowOfWords<T> {

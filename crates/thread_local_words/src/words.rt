@@ -14,9 +14,9 @@ mod counting;
 mod lends;
 mod placing;
 
-/// The words of a table, one for each of its 63 buckets, and the heap that their blocks come from. Contracts see the contents.
+/// The words of a table, one for each of its buckets, and the heap that their blocks come from. Contracts see the contents.
 ///
-/// No call waits, and only `install` asks for memory. Dropping it drops every value and frees every block.
+/// No call waits, and only `install` and `ensure_bucket` ask for memory. Dropping it drops every value and frees every block.
 pub struct Words<T> {
     words: RowOfWords<T>,
     alloc: Global,
@@ -93,7 +93,9 @@ impl<T> Words<T> {
         requires empty { value_in self.old thread.bucket thread.index ≡ None }
         ensures after { self.new ≡ with_slot self.old thread.bucket thread.index (Some value) }
     {
-        self.words.word_mut(thread.bucket).publish(thread.index, value);
+        self.words
+            .word_mut(thread.bucket)
+            .publish(thread.index, value);
     }
 
     /// Takes the value out of a slot.

@@ -15,6 +15,6 @@ returns g c =
         writes_back = tt;
         rest = ap (λ (words : Contents _). walk (values words)) c.lend.ensures.contents ∙ ap (λ (s : Owned _). walk (values s.contents)) counted;
         would_stand = refilled-stands c.args.self.now;
-        would_publish = refilled-published c.args.self.now;
+        would_be_published = refilled-published c.args.self.now;
       },
     )

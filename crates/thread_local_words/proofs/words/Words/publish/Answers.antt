@@ -15,5 +15,5 @@ invariant_of-self g c =
 pub returns : goal.returns
 returns g c = record {
   after = slot_changes c.self.inside.words c.args.thread.bucket c.word_mut.result.now c.publish.new.self c.args.thread.index (Some c.args.value) c.word_mut.ensures.value c.publish.ensures
-    ∙ ap (λ (z : Contents g.row.T.Denot). with_slot z c.args.thread.bucket c.args.thread.index (Some c.args.value)) c.self.view_is;
+      ∙ ap (λ (z : Contents g.row.T.Denot). with_slot z c.args.thread.bucket c.args.thread.index (Some c.args.value)) c.self.view_is;
 }
