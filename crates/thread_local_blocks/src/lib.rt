@@ -4,8 +4,6 @@
 mod block;
 mod leaving;
 mod slot;
-#[cfg(test)]
-mod tests;
 
 pub use block::Block;
 pub use leaving::Leaving;

@@ -14,6 +14,7 @@ pub struct Slot<T> {
 /// What no block's size reaches.
 const SIZE_LIMIT: usize = 1 << 63;
 
+/// How many bytes a slot takes.
 fn slot_size<T>() -> usize
     ensures { result ≡ capped (stride T.row) }
 {

@@ -1,5 +1,5 @@
 -- A word is cut into what stays as it is, the values and the rest, and made whole of any values in the same slots. Assumes `Logic`.
-use Rattle.thread_local_loan.proofs.Names.{◌≡◌, ℕ, ◌+◌, ◌*◌, List, [], ◌∷◌, length, map, refl, sym, ap, ◌∙◌, subst, arith, Bool, false, is_some, Option, Some, None, Ura, SProp, ent, sep, id⊢, Fml, ftrue, fsep, froom, Logic, sem, ‵, ◌⊛◌, given, ◌$◌, ◌∵◌, !, qed, by, move, keep, drop, split3, fsplit, fsplit3, fjoin, fjoin3, fpick, fpack, learn, check, use1, use3, rewrite, done, guard, guard_i, fact_use, RattleType, Ptr, null_ptr, block_of, count_of, InBlock, nothing}
+use Rattle.thread_local_blocks.proofs.Names.{◌≡◌, ℕ, ◌+◌, ◌*◌, List, [], ◌∷◌, length, map, refl, sym, ap, ◌∙◌, subst, arith, Bool, false, is_some, Option, Some, None, Ura, SProp, ent, sep, id⊢, Fml, ftrue, fsep, froom, Logic, sem, ‵, ◌⊛◌, given, ◌$◌, ◌∵◌, !, qed, by, move, keep, drop, split3, fsplit, fsplit3, fjoin, fjoin3, fpick, fpack, learn, check, use1, use3, rewrite, done, guard, guard_i, fact_use, RattleType, Ptr, null_ptr, block_of, count_of, InBlock, nothing}
 use contract.Monad.{fact as said}
 use denote.RawPtr.{Testable}
 use mir.Syntax.{ty_array}

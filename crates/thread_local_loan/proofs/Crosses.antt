@@ -1,5 +1,5 @@
 -- A loan may cross threads as its values may.
-use Rattle.thread_local_loan.proofs.Names.{ℕ, ◌+◌, List, [], ◌∷◌, Option, Some, None, full_share, Fml, RattleType, Ptr, block_of, count_of}
+use Rattle.thread_local_blocks.proofs.Names.{ℕ, ◌+◌, List, [], ◌∷◌, Option, Some, None, full_share, Fml, RattleType, Ptr, block_of, count_of}
 use base.Fml.{Lft, GName}
 use base.Shift.{Keyless}
 use denote.Exit.{Exit, unchanged, leaves, hidden, under}

@@ -1,5 +1,5 @@
 -- The data fields of a loan, and where a word leads. Assumes `Logic`.
-use Rattle.thread_local_loan.proofs.Names.{◌≡◌, ◌^◌, ◌<◌, T, true, List, [], ◌∷◌, ◌++◌, length, refl, ap, ◌∙◌, sym, subst, lit<, arith, Ura, ty_ptr, ty_struct, tcons, tnil, Val, vstruct, vcons, vnil, of_list, has_ty, WT, ent, emp, Logic, sem, RattleType, Is, Ptr, InBlock, block_ptr, null_ptr, ptr_val, count_of, Option}
+use Rattle.thread_local_blocks.proofs.Names.{◌≡◌, ◌^◌, ◌<◌, T, true, List, [], ◌∷◌, ◌++◌, length, refl, ap, ◌∙◌, sym, subst, lit<, arith, Ura, ty_ptr, ty_struct, tcons, tnil, Val, vstruct, vcons, vnil, of_list, has_ty, WT, ent, emp, Logic, sem, RattleType, Is, Ptr, InBlock, block_ptr, null_ptr, ptr_val, count_of, Option}
 use Rattle.std.specs.Prelude.{nat_lt, not}
 use mir.Val.{vnull, ptr_same, ptr_eq_ok}
 use denote.RawPtr.{tests_null}
@@ -54,10 +54,10 @@ module _ (R : RattleType) where
   leads_in p [] e some = absurd (omega arith)
   leads_in p (c ∷ cs) at some = (at.0, at.2)
 
-abbrev pub value_in : {X : Type 0} (c : Option X) → IsSome c → X
-value_in None e = absurd (false≢true e)
-value_in (Some x) e = x
+abbrev pub the_value : {X : Type 0} (c : Option X) → IsSome c → X
+the_value None e = absurd (false≢true e)
+the_value (Some x) e = x
 
-pub value_is : {X : Type 0} (c : Option X) (is : IsSome c) → c ≡ Some (value_in c is)
-value_is None e = absurd (false≢true e)
-value_is (Some x) e = refl
+pub the_value_is : {X : Type 0} (c : Option X) (is : IsSome c) → c ≡ Some (the_value c is)
+the_value_is None e = absurd (false≢true e)
+the_value_is (Some x) e = refl

@@ -1,5 +1,5 @@
 -- One word among the others, and the value of one slot among those of its block and of the others. Assumes `Logic`.
-use Rattle.thread_local_loan.proofs.Names.{◌≡◌, ℕ, zero, suc, ◌+◌, ◌*◌, ◌<◌, List, [], ◌∷◌, length, set, get_or, refl, sym, arith, Option, Ura, SProp, ent, sep, wand, all, all_e, apply∗, never_e, Fml, Logic, sem, ‵, raw, ◌⊛◌, ◌$◌, ◌∵◌, !, qed, move, split, frame, each, assume, use1, use2, rewrite, done, RattleType, Ptr, null_ptr, block_of, count_of}
+use Rattle.thread_local_blocks.proofs.Names.{◌≡◌, ℕ, zero, suc, ◌+◌, ◌*◌, ◌<◌, List, [], ◌∷◌, length, set, get_or, refl, sym, arith, Option, Ura, SProp, ent, sep, wand, all, all_e, apply∗, never_e, Fml, Logic, sem, ‵, raw, ◌⊛◌, ◌$◌, ◌∵◌, !, qed, move, split, frame, each, assume, use1, use2, rewrite, done, RattleType, Ptr, null_ptr, block_of, count_of}
 use Rattle.thread_local_blocks.specs.Slots.{stride, along, slot_at}
 use Rattle.thread_local_blocks.proofs.Slots.{along_at, Reset}
 use Rattle.thread_local_loan.specs.Lent.{valued, framed, frames, values_at}

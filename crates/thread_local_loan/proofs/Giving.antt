@@ -1,7 +1,7 @@
 -- The value of one slot is cut out of those that a loan has left. Assumes `Logic`.
-use Rattle.thread_local_loan.proofs.Names.{◌≡◌, ℕ, ◌+◌, ◌*◌, ◌<◌, List, [], ◌∷◌, length, refl, sym, ap, subst, ◌∙◌, false, is_some, Option, Some, None, Ura, SProp, ent, sep, ex, all, all_e, emp, apply∗, Lft, Share, GName, ftrue, flft, fbor, fobs, Logic, sem, ‵, raw, ◌⊛◌, some, later, ◌$◌, ◌∵◌, !, qed, move, keep, drop, split, split3, fsplit, fjoin, fpick, fpack, pick, show, use1, use2, await, updating, now, rewrite, group, done, open_ref, Body, RattleType, Ptr, block_of, count_of, mem, part_at, full_share, nothing}
+use Rattle.thread_local_blocks.proofs.Names.{◌≡◌, ℕ, ◌+◌, ◌*◌, ◌<◌, List, [], ◌∷◌, length, refl, sym, ap, subst, ◌∙◌, false, is_some, Option, Some, None, Ura, SProp, ent, sep, ex, all, all_e, emp, apply∗, Lft, Share, GName, ftrue, flft, fbor, fobs, Logic, sem, ‵, raw, ◌⊛◌, some, later, ◌$◌, ◌∵◌, !, qed, move, keep, drop, split, split3, fsplit, fjoin, fpick, fpack, pick, show, use1, use2, await, updating, now, rewrite, group, done, open_ref, RattleType, Ptr, block_of, count_of, mem, part_at, full_share, nothing}
 use types.Follow.{after₂, takes_two}
-use types.SemTy.{SemTy}
+use types.SemTy.{SemTy, Body}
 use Rattle.thread_local_model.specs.Buckets.{Contents}
 use Rattle.thread_local_model.specs.Owned.{Owned}
 use Rattle.thread_local_model.specs.Code.{owned_coded}

@@ -1,4 +1,3 @@
-pub mod Names
 mod Frames
 mod Shapes
 mod Giving

@@ -1,5 +1,5 @@
 -- Contents that have a value in the same slots refill these to themselves.
-use Rattle.thread_local_loan.proofs.Names.{◌≡◌, List, [], ◌∷◌, length, refl, ap, arith, is_some, Option, Some, None}
+use Rattle.thread_local_blocks.proofs.Names.{◌≡◌, List, [], ◌∷◌, length, refl, ap, arith, is_some, Option, Some, None}
 use Rattle.std.proofs.lemmas.Bool.{true≢false, false≢true}
 use Rattle.thread_local_model.specs.Buckets.{Contents}
 use Rattle.thread_local_loan.specs.Lent.{shape}

@@ -1,5 +1,5 @@
 -- Which slots have a value, once a value is taken out and once it is put back.
-use Rattle.thread_local_loan.proofs.Names.{◌≡◌, ℕ, zero, suc, ◌<◌, List, [], ◌∷◌, length, length-set, set, get_or, map, refl, sym, ap, ◌∙◌, subst, Bool, true, false, is_some, Option, Some, None}
+use Rattle.thread_local_blocks.proofs.Names.{◌≡◌, ℕ, zero, suc, ◌<◌, List, [], ◌∷◌, length, length-set, set, get_or, map, refl, sym, ap, ◌∙◌, subst, Bool, true, false, is_some, Option, Some, None}
 use Rattle.std.proofs.lemmas.List.{set-set, set-get_or, get_or-set_same, map-set, length-map}
 use Rattle.thread_local_loan.specs.Lent.{shape}
 

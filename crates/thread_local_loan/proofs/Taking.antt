@@ -1,5 +1,5 @@
 -- Words side by side are cut into the words with their flags, the values and the rest, and are whole again with any values in the same slots. Assumes `Logic`.
-use Rattle.thread_local_loan.proofs.Names.{id⊢, ◌≡◌, ℕ, zero, ◌+◌, List, [], ◌∷◌, length, map, refl, sym, ap, arith, full_share, Bool, Option, Ura, SProp, ent, sep, wand, all, all_e, emp, apply∗, Fml, ftrue, fsep, Logic, sem, ‵, raw, ◌⊛◌, given, ◌$◌, ◌∵◌, !, qed, by, move, keep, drop, split, split3, fsplit, fsplit3, fjoin, fjoin3, fpick, fpack, learn, frame, each, assume, use1, use2, use3, rewrite, feq_l, feq_i, done, RattleType, Ptr, ptr_val, ty_ptr, Val, Member, mem, part_at, cell_at, cell, nothing, block_of, count_of, join}
+use Rattle.thread_local_blocks.proofs.Names.{id⊢, ◌≡◌, ℕ, zero, ◌+◌, List, [], ◌∷◌, length, map, refl, sym, ap, arith, full_share, Bool, Option, Ura, SProp, ent, sep, wand, all, all_e, emp, apply∗, Fml, ftrue, fsep, Logic, sem, ‵, raw, ◌⊛◌, given, ◌$◌, ◌∵◌, !, qed, by, move, keep, drop, split, split3, fsplit, fsplit3, fjoin, fjoin3, fpick, fpack, learn, frame, each, assume, use1, use2, use3, rewrite, feq_l, feq_i, done, RattleType, Ptr, ptr_val, ty_ptr, Val, Member, mem, part_at, cell_at, cell, nothing, block_of, count_of, join}
 use types.Share.{parts}
 use denote.RawPtr.{RawPtr, rawptr_Lawful}
 use denote.Memory.{part_of, shares}

@@ -2,11 +2,7 @@
 #![tactic(auto)]
 
 pub mod row_of_words;
-#[cfg(test)]
-mod tests;
 mod word;
-#[cfg(test)]
-mod word_tests;
 pub mod words;
 
 pub use word::Word;

@@ -1,4 +1,4 @@
-// How buckets lend their words to a walk that writes.
+//! How buckets lend their words to a walk that writes.
 ghost use Rattle.std.specs.Prelude.{◌≡◌};
 ghost use types.Logic.{sem};
 ghost use Rattle.thread_local_buckets.specs.LendingValues.{LendsValues};
@@ -9,7 +9,7 @@ use thread_local_blocks::Slot;
 use thread_local_loan::Loan;
 
 impl<T> Buckets<T> {
-    // It takes no memory.
+    /// The words, lent for as long as the buckets are. It takes no memory.
     pub(super) fn lend(&mut self) -> Loan<'_, T>
         ensures* writes_back { sem 𝓛 (LendsValues T.row self.entry result.name) }
         ensures contents { result.contents ≡ self.old.contents }

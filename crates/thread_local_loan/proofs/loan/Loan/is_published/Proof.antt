@@ -1,5 +1,5 @@
 -- `is_published` reads a word, and a flag of the block that it leads to.
-use Rattle.thread_local_loan.proofs.Names.{drop, apply∗, sem, all, all_e, split3, is, size_word, length, set, None, is_some, T, has_ty, WT, ty_int, word, cell, ◌≤◌, ◌≡◌, ℕ, ◌+◌, ◌*◌, ◌^◌, ◌<◌, List, [], ◌∷◌, sym, refl, ap, ◌∙◌, subst, arith, w64, Bool, Option, a_type, named, Val, vint, vptr, inst_fn, full_share, SProp, emp, Fml, ftrue, fsep, flft, ‵, raw, ◌⊛◌, given, at_ret, ◌$◌, ◌∵◌, !, qed, by, move, keep, use0, use1, use2, split, join, fsplit, fsplit3, fjoin, fjoin3, fpick, fpack, learn, rewrite, feq_i, stop, fld, load, lit, of_opd, bin, first, blocks, exec, returns, enter, look, alloc_all, pass_all, free_all, look_at, get, through, sets, sets_last, env, sub, look_in, whole, bor_open, obor_close, tables, fact_i, yes, RattleType, owns, types_at, plain, named_lft, Ptr, block_ptr, block_of, count_of, at_block, InBlock, nothing, heard, opens, closes, peeks, Is, shows, cell_at, param, layouts, usize, mut_vals, mut_Tells, uint_vals, uint_Tells, Stays, stay_dropped, stay_ref, walk_of, Goes-dropped, Goes-ref, proved, leaves}
+use Rattle.thread_local_blocks.proofs.Names.{drop, apply∗, sem, all, all_e, split3, is, size_word, length, set, None, is_some, T, has_ty, WT, ty_int, word, cell, ◌≤◌, ◌≡◌, ℕ, ◌+◌, ◌*◌, ◌^◌, ◌<◌, List, [], ◌∷◌, sym, refl, ap, ◌∙◌, subst, arith, w64, Bool, Option, a_type, named, Val, vint, vptr, inst_fn, full_share, SProp, emp, Fml, ftrue, fsep, flft, ‵, raw, ◌⊛◌, given, at_ret, ◌$◌, ◌∵◌, !, qed, by, move, keep, use0, use1, use2, split, join, fsplit, fsplit3, fjoin, fjoin3, fpick, fpack, learn, rewrite, feq_i, stop, fld, load, lit, of_opd, bin, first, blocks, exec, returns, enter, look, alloc_all, pass_all, free_all, look_at, get, through, sets, sets_last, env, sub, look_in, whole, bor_open, obor_close, tables, fact_i, yes, RattleType, owns, types_at, plain, named_lft, Ptr, block_ptr, block_of, count_of, at_block, InBlock, nothing, heard, opens, closes, peeks, Is, shows, cell_at, param, layouts, usize, mut_vals, mut_Tells, uint_vals, uint_Tells, Stays, stay_dropped, stay_ref, walk_of, Goes-dropped, Goes-ref, proved, leaves}
 use contract.Monad.{fact}
 use mir.Val.{vbool}
 use Rattle.std.proofs.Common.{eqb, not}
@@ -7,7 +7,7 @@ use Rattle.std.proofs.lemmas.List.{set-get_or}
 use Rattle.std.proofs.alloc.Shapes.{after}
 use Rattle.thread_local_model.specs.Buckets.{row, IsTable}
 use Rattle.thread_local_model.specs.Place.{id_at}
-use Rattle.thread_local_model.specs.Rows.{slot}
+use Rattle.thread_local_model.specs.Rows.{value_in}
 use Rattle.thread_local_blocks.specs.Slots.{flag_of, slot_at, stride, along}
 use Rattle.thread_local_blocks.proofs.Slots.{along_at, Reset, within, flag_told}
 use Rattle.thread_local_blocks.proofs.Fields.{uncapped}
@@ -65,7 +65,7 @@ is_published_spec 𝓤 𝓛 𝓜 𝓡 wired X L =
     -- [what the loan owns; two tokens; the fields; the loan's cell; its open borrow, in three entries]
     move ! (3 ∷ 0 ∷ []) $ fjoin ! $ rewrite ! 3 (λ (ws : List Val). ‵ (cell_at full_share Lo.mir ws b o)) (sym ev) refl $ move ! (3 ∷ 0 ∷ 4 ∷ 5 ∷ 6 ∷ []) $ closes ! tt Lo h ts b o $
     feq_i ! (List Val) (vptr b o ∷ []) (vptr b o ∷ []) refl $ fjoin3 ! $ nothing ! $ nothing ! $ fjoin ! $ nothing ! $ fjoin ! $ move ! (1 ∷ 0 ∷ []) $ fjoin ! $ move ! (2 ∷ 3 ∷ []) $ fjoin ! $ move ! (2 ∷ 0 ∷ []) $ join ! $
-    let yes_or_no : Bool = not (eqb n 0) in let Told : Type 0 = yes_or_no ≡ is_some (slot h.contents k i) in
+    let yes_or_no : Bool = not (eqb n 0) in let Told : Type 0 = yes_or_no ≡ is_some (value_in h.contents k i) in
     use0 𝓛 (raw (fact 𝓤 (IsTable h.contents))) (fact_i 𝓤 (IsTable h.contents) (emp 𝓤) so.1.table) $
     use0 𝓛 (raw (fact 𝓤 Told)) (fact_i 𝓤 Told (emp 𝓤) (flag_told c ∙ sym (ap is_some (so.1.ahead k i ahead)))) $ join ! $ use0 𝓛 (raw (fact 𝓤 (h ≡ h))) (fact_i 𝓤 (h ≡ h) (emp 𝓤) refl) $ join ! $
     feq_i ! (List Val) (vbool yes_or_no ∷ []) (vbool yes_or_no ∷ []) refl $

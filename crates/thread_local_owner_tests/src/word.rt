@@ -1,0 +1,50 @@
+//! A word that leads to a block.
+ghost use Rattle.std.specs.Prelude.{◌≡◌, IfOk};
+
+use std::alloc::{AllocError, Global};
+use std::cell::Cell;
+use std::mem::size_of;
+use std::test::Fail;
+use thread_local_blocks::Block;
+use thread_local_words::Word;
+
+/// Puts a value into a block, takes it out again, and frees the block.
+fn there_and_back<T: Send + Drop>(alloc: Global, value: T) -> Result<T, AllocError>
+    ensures { IfOk result (λ x. x ≡ value) }
+{
+    let mut word = Word::null();
+    word.lay(Block::new(&alloc, 4)?);
+    word.publish(2, value);
+    let value = word.take(2);
+    word.release(4, &alloc);
+    Ok(value)
+}
+
+/// Whether there is a block, whether it has a value, and what is there once it was written over.
+fn seen_at_a_cell(alloc: Global) -> Result<(bool, bool, u64), AllocError> {
+    let mut word = Word::null();
+    word.lay(Block::new(&alloc, 1)?);
+    word.publish(0, Cell::new(1u64));
+    word.get_mut(0).set(2);
+    let seen = (word.stands(), word.is_published(0), word.take(0).get());
+    word.release(1, &alloc);
+    Ok(seen)
+}
+
+#[test]
+fn a_value_comes_back_at_any_type(rt: HostRuntime) -> Result<(), Fail> {
+    let alloc = rt.alloc();
+    assert_eq!(rt; there_and_back(alloc, 1u32)?, 1);
+    assert_eq!(rt;
+        there_and_back(alloc, String::from_str(alloc, "one")?)?.as_str(),
+        "one"
+    );
+    assert_eq!(rt; *there_and_back(alloc, Box::new(alloc, 1u32)?)?, 1);
+    assert_eq!(rt; seen_at_a_cell(alloc)?, (true, true, 2));
+    Ok(())
+}
+
+#[test]
+fn a_word_is_a_pointer(rt: HostRuntime) {
+    assert_eq!(rt; size_of::<Word<u64>>(), 8);
+}

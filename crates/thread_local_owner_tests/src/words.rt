@@ -1,0 +1,191 @@
+//! The words of a table: values come back at any type, and each is dropped once.
+ghost use Rattle.std.specs.Prelude.{◌≡◌, IfOk};
+
+use std::alloc::{AllocError, Global};
+use std::cell::Cell;
+use std::test::Fail;
+use thread_local_thread_id::Thread;
+use thread_local_words::Words;
+
+/// Publishes two values, takes the first, and drops the rest.
+fn there_and_back<T: Send + Drop>(alloc: Global, first: T, second: T) -> Result<T, AllocError>
+    ensures { IfOk result (λ x. x ≡ first) }
+{
+    let mut words = Words::new(alloc);
+    words.install(3)?;
+    words.publish(
+        Thread {
+            bucket: 3,
+            index: 5,
+        },
+        first,
+    );
+    words.publish(
+        Thread {
+            bucket: 3,
+            index: 7,
+        },
+        second,
+    );
+    Ok(words.take(3, 5))
+}
+
+/// Publishes a value and writes another over it.
+fn written_over<T: Send + Drop>(alloc: Global, first: T, second: T) -> Result<T, AllocError>
+    ensures { IfOk result (λ x. x ≡ second) }
+{
+    let mut words = Words::new(alloc);
+    words.install(4)?;
+    words.publish(
+        Thread {
+            bucket: 4,
+            index: 0,
+        },
+        first,
+    );
+    *words.get_mut(Thread {
+        bucket: 4,
+        index: 0,
+    }) = second;
+    Ok(words.take(4, 0))
+}
+
+/// A value that counts its drops.
+struct Counted<'a> {
+    drops: &'a Cell<u64>,
+}
+
+impl Drop for Counted<'_> {
+    fn drop(self) {
+        let Self { drops } = self;
+        drops.set(drops.get().saturating_add(1));
+    }
+}
+
+#[test]
+fn values_come_back_at_any_type(rt: HostRuntime) -> Result<(), Fail> {
+    let alloc = rt.alloc();
+    assert_eq!(rt; there_and_back(alloc, 1u32, 2)?, 1);
+    let text = there_and_back(
+        alloc,
+        String::from_str(alloc, "one")?,
+        String::from_str(alloc, "two")?,
+    )?;
+    assert_eq!(rt; text.as_str(), "one");
+    let boxed = there_and_back(alloc, Box::new(alloc, 1u32)?, Box::new(alloc, 2)?)?;
+    assert_eq!(rt; *boxed, 1);
+    let cell = there_and_back(alloc, Cell::new(1u64), Cell::new(2))?;
+    assert_eq!(rt; cell.get(), 1);
+    there_and_back(alloc, (), ())?;
+    let large = there_and_back(alloc, [7u8; 4096], [0; 4096])?;
+    assert_eq!(rt; large[4095], 7);
+    Ok(())
+}
+
+#[test]
+fn a_block_that_is_too_large_is_refused(rt: HostRuntime) -> Result<(), Fail> {
+    let mut words = Words::<u64>::new(rt.alloc());
+    assert!(rt; words.install(62).is_err());
+    assert!(rt; !words.stands(62));
+    words.install(10)?;
+    assert!(rt; words.stands(10));
+    Ok(())
+}
+
+#[test]
+fn values_are_written_over(rt: HostRuntime) -> Result<(), Fail> {
+    let alloc = rt.alloc();
+    let mut words = Words::new(alloc);
+    words.install(2)?;
+    words.publish(
+        Thread {
+            bucket: 2,
+            index: 3,
+        },
+        String::from_str(alloc, "one")?,
+    );
+    *words.get_mut(Thread {
+        bucket: 2,
+        index: 3,
+    }) = String::from_str(alloc, "two")?;
+    assert_eq!(rt;
+        words
+            .get_mut(Thread {
+                bucket: 2,
+                index: 3
+            })
+            .as_str(),
+        "two"
+    );
+    assert_eq!(rt;
+        (words.is_published(2, 3), words.is_published(2, 2)),
+        (true, false)
+    );
+    assert_eq!(rt; (words.stands(2), words.stands(1)), (true, false));
+    Ok(())
+}
+
+/// Fills three buckets but for one slot, and answers how many drops there are after a take, after a release, and when all has ended.
+fn drops_counted<T: Drop, F: Fn() -> T, G: Fn() -> u64>(
+    alloc: Global,
+    make: F,
+    count: G,
+) -> Result<(u64, u64), AllocError>
+where
+    F: Drop,
+    G: Drop,
+    requires { (F.pre make) × (G.pre count) }
+{
+    let mut words = Words::new(alloc);
+    words.install(0)?;
+    words.install(1)?;
+    words.install(2)?;
+    words.publish(
+        Thread {
+            bucket: 0,
+            index: 0,
+        },
+        make(),
+    );
+    words.publish(
+        Thread {
+            bucket: 1,
+            index: 0,
+        },
+        make(),
+    );
+    words.publish(
+        Thread {
+            bucket: 1,
+            index: 1,
+        },
+        make(),
+    );
+    words.publish(
+        Thread {
+            bucket: 2,
+            index: 1,
+        },
+        make(),
+    );
+    words.publish(
+        Thread {
+            bucket: 2,
+            index: 3,
+        },
+        make(),
+    );
+    drop(words.take(1, 0));
+    let taken = count();
+    words.release(2);
+    let released = count();
+    Ok((taken, released))
+}
+
+#[test]
+fn each_value_is_dropped_once(rt: HostRuntime) -> Result<(), Fail> {
+    let drops = Cell::new(0u64);
+    let seen = drops_counted(rt.alloc(), || Counted { drops: &drops }, || drops.get())?;
+    assert_eq!(rt; (seen, drops.get()), ((1, 3), 5));
+    Ok(())
+}
