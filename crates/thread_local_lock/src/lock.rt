@@ -30,8 +30,8 @@ const TAKEN: u64 = 1;
 /// The word of a lock that is taken and for which a thread may sleep.
 const AWAITED: u64 = 2;
 
-/// How long a thread sleeps, in nanoseconds, unless it is woken. A thread that went to sleep just before a release may miss the wake.
-const NAP: u64 = 1_000_000;
+/// How many seconds a thread sleeps, unless it is woken.
+const FOR_EVER: u64 = i64::MAX as u64;
 
 /// How often a thread tries again, and yields in between, before it sleeps.
 const TRIES: u64 = 100;
@@ -108,7 +108,7 @@ impl<V: Fits> Lock<V> {
         }
         for _ in rt.forever() {
             self.mark();
-            self.sleep(rt, NAP);
+            self.sleep(rt, FOR_EVER);
             if let Some(guard) = self.take(AWAITED) {
                 return guard;
             }
@@ -138,9 +138,9 @@ impl<V: Fits> Lock<V> {
         unsafe { exchange::<Brand>(&raw const self.word, TAKEN, AWAITED) };
     }
 
-    /// Sleeps for so long at most, unless the lock has been released since `mark`.
-    fn sleep<R: Wait>(&self, rt: &R, nanos: u64) {
-        unsafe { raw::park::<Brand, R>(rt, &raw const self.word, AWAITED, 0, nanos) };
+    /// Sleeps until a release wakes it, unless the lock has been released since `mark`.
+    fn sleep<R: Wait>(&self, rt: &R, secs: u64) {
+        unsafe { raw::park::<Brand, R>(rt, &raw const self.word, AWAITED, secs, 0) };
     }
 }
 
@@ -164,8 +164,7 @@ impl<V: Fits> Drop for LockGuard<'_, V> {
     {
         let Self { lock, marker: _ } = self;
         let word = unsafe { &raw const (*lock).word };
-        let seen = unsafe { raw::load::<Brand>(word, SeqCst) };
-        unsafe { raw::store::<Brand>(word, FREE, SeqCst) };
+        let seen = unsafe { raw::swap::<Brand>(word, FREE, SeqCst) };
         unsafe { wake_if(word, seen) };
     }
 }
