@@ -18,7 +18,7 @@ sleep_spec 𝓤 𝓛 𝓜 𝓡 wired X Z L laws g d g' d' _ may =
     let self = RefOf (0 ∷ []) tt (plain (λ _. Row)) (λ _. tt) in let waits = RefOf (1 ∷ []) tt (plain (λ _. W)) (λ _. tt) in let number = plain (λ _. u64) in let hs : Stays En.signature.params En.kept = (stay_dropped self yes, (stay_dropped waits yes, (stay_dropped number yes, tt))) in
     proved 𝓛 En hs c 𝓜 𝓡 (Goes-dropped 𝓛 4 self yes (λ κs x f. refl), (Goes-dropped 𝓛 4 waits yes (λ κs x f. refl), (Goes-dropped 𝓛 4 number yes (λ κs x f. refl), tt))) (#self inst) fn closed
     (λ κs. (shr_vals, (shr_vals, (uint_vals w64, tt)))) (λ κs. (shr_Tells (named 0) κs.0 Row, (shr_Tells (named 1) κs.1.0 W, (uint_Tells w64, tt)))) (λ κs qs bounds a gh are.
-    let b : ℕ = a.0.ref_ptr.0 in let o : ℕ = a.0.ref_ptr.1 in let κ : Lft = κs.0 in let q : Share = qs.0 in let ok = Fitting g.tag g.fits a.0.now in
+    let b : ℕ = a.0.ref_ptr.0 in let o : ℕ = a.0.ref_ptr.1 in let κ : Lft = κs.0 in let q : Share = qs.0 in let ok = Fitting g.tag g.fits a.0.now.tag in
     let rt = a.1.0 in let secs : ℕ = a.1.1.0 in let ρ : Lft = κs.1.0 in let r : Share = qs.1.0 in let υ : Lft = κs.1.1.1.0 in let u : Share = qs.1.1.1.0 in let hv : Val = vptr rt.ref_ptr.0 rt.ref_ptr.1 in
     let y : (walk_of 𝓛 En hs c).Ghost = ((κs, qs, bounds, a, (vptr b o ∷ [], (hv ∷ [], (vint w64 secs ∷ [], tt)))), gh) in let Post : Val → SProp 𝓤 = (walk_of 𝓛 En hs c).post y in
     qed 𝓛 (((‵ (flft κ q) ⊛ ‵ (flft ρ r) ⊛ ‵ (fsep (flft κs.1.1.0 qs.1.1.0) (fsep (flft υ u) ftrue))) ⊛ ‵ (owns (types_at En.signature.params κs) a y.0.4)) ∷ raw (fact 𝓤 _) ∷ raw (fact 𝓤 (υ ⊑ Z.lives)) ∷ ‵ ftrue ∷ []) ∵
