@@ -26,6 +26,7 @@ pub(crate) fn compare<R: Clock + Threads + Wait + Sync + Print>(
 
 /// Ids that several threads take and give back.
 trait Shared: Sync {
+    /// Takes an id and gives it back so many times.
     fn take_and_give<R: Wait>(&self, rt: &R, pairs: u64);
 }
 
@@ -40,7 +41,7 @@ impl Shared for LockedIds {
 }
 
 impl Shared for Mutex<ThreadIdManager> {
-    // Nothing is known of what std's lock keeps, so the id is tested before it is freed.
+    /// Nothing is known of what std's lock keeps, so the id is tested before it is freed.
     fn take_and_give<R: Wait>(&self, rt: &R, pairs: u64) {
         for _ in 0..pairs {
             let taken = self.lock(rt).alloc();
@@ -70,10 +71,12 @@ fn times<S: Shared, R: Clock + Threads + Wait + Sync>(
     Ok((alone.as_nanos() / pairs, four.as_nanos() / pairs))
 }
 
+/// Does this many pairs on each of four threads.
 fn by_four<S: Shared, R: Threads + Wait + Sync>(ids: &S, rt: &R, pairs: u64) {
     thread::join(rt, || by_two(ids, rt, pairs), || by_two(ids, rt, pairs));
 }
 
+/// Does this many pairs on each of two threads.
 fn by_two<S: Shared, R: Threads + Wait + Sync>(ids: &S, rt: &R, pairs: u64) {
     thread::join(
         rt,

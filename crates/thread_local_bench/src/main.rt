@@ -39,6 +39,7 @@ impl Workload {
         Workload::IdsMany,
     ];
 
+    /// The workload's name, as it is printed.
     fn name(self) -> &'static str {
         match self {
             Workload::Insert => "insert",
@@ -67,6 +68,7 @@ impl Workload {
     }
 }
 
+/// Reads the arguments, and runs the workloads or compares the locks.
 fn main(rt: HostRuntime) -> io::Result<()> {
     let mut words = std::env::args(&rt)?.skip(1);
     let first = words.next();

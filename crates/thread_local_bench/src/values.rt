@@ -61,6 +61,7 @@ pub(crate) fn clear<R: Clock>(rt: &R, alloc: Global, values: u32) -> io::Result<
     })
 }
 
+/// A table with a value at each of the first ids, as many as given.
 fn filled(alloc: Global, values: u32) -> Result<Buckets<u64>, AllocError> {
     let mut buckets = Buckets::new(alloc);
     for id in 0..values {

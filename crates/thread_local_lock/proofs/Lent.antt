@@ -27,12 +27,12 @@ use denote.Written.{Laid}
 use denote.Written.Laws.{Laid-in}
 use Rattle.std.specs.Sync.RawAtomic.{word}
 use Rattle.std.proofs.cell.BorrowLemmas.{flag}
-use Rattle.thread_local_lock.specs.Locking.{Fitting, fact, offset, Sharing, named_value, fitting, with_word, invariant, kept, guarding, lock_shares, guard_owns}
+use Rattle.thread_local_lock.specs.Locking.{LockView, Fitting, fact, offset, Sharing, named_value, fitting, with_word, invariant, kept, guarding, lock_shares, guard_owns}
 use Rattle.thread_local_lock.specs.declared.lock.Fits.{Ghosts}
 use Rattle.thread_local_lock.specs.contracts.lock.Lock as C
 use Rattle.thread_local_lock.proofs.Words.{word_out, word_in}
 
-module _ {M : Type 1} {𝓤 : Ura M} (𝓛 : Logic 𝓤) (m : Member) (g : Ghosts m.row.Denot) (d : ℕ) (L : Lawful 𝓛 (row_of m)) (b o : ℕ) (κ : Lft) where
+module _ {M : Type 1} {𝓤 : Ura M} (𝓛 : Logic 𝓤) (m : Member) (g : Ghosts m.row.Denot) (d : LockView) (L : Lawful 𝓛 (row_of m)) (b o : ℕ) (κ : Lft) where
   open 𝓛 use {H, A}
 
   abbrev Pr : Type 2
@@ -57,7 +57,7 @@ module _ {M : Type 1} {𝓤 : Ura M} (𝓛 : Logic 𝓤) (m : Member) (g : Ghost
   R = row_of m
 
   abbrev ok : R.Denot → Type 0
-  ok = Fitting g.tag g.fits d
+  ok = Fitting g.tag g.fits d.tag
 
   abbrev ks : List Member
   ks = flag ∷ m ∷ []
@@ -173,7 +173,7 @@ module _ {M : Type 1} {𝓤 : Ura M} (𝓛 : Logic 𝓤) (m : Member) (g : Ghost
     abbrev Whole : Fml
     Whole = Body (mem Lock) b o δ
 
-    abbrev code : ℕ → Gv
+    abbrev code : LockView → Gv
     code = Lock.coded.code
 
     whole_typed : (s : ℕ × R.Denot) → ⟦ Fields s ⟧ ∗ ⟦ fact (Rest s) ⟧ ⊢ ⟦ part_at Lock full_share d b o ⟧
@@ -193,16 +193,16 @@ module _ {M : Type 1} {𝓤 : Ura M} (𝓛 : Logic 𝓤) (m : Member) (g : Ghost
         use1 𝓛 (‵ (word b (o + 0) s.0)) (word_out 𝓛 b (o + 0) s.0) $ show ! Parts s $ keep ! (0 ∷ 1 ∷ 3 ∷ []) $ done !))
 
     abbrev Turns : GName → Pr
-    Turns γ' = all 𝓤 (λ (w : ℕ). A.auth γ' (code w) -∗ A.auth δ (code d))
+    Turns γ' = all 𝓤 (λ (w : LockView). A.auth γ' (code w) -∗ A.auth δ (code d))
 
     way_home : (γ γ' : GName) → Back ∗ A.auth γ' (code d) ∗ Turns γ' ⊢ ⟦ fwand (fsep (fdead κ) (fseps (I γ ∷ Named γ ∷ []))) (fupd Whole) ⟧
     unfolding fseps
     way_home γ γ' = qed 𝓛 (raw Back ∷ ‵ (fauth γ' (code d)) ∷ raw (Turns γ') ∷ []) ∵ assume ! (‵ (fsep (fdead κ) (fseps (I γ ∷ Named γ ∷ [])))) $ suffices ! ⟦ Whole ⟧ (upd_i 𝓤 ⟦ Whole ⟧) $
         fsplit ! $ drop ! $ fsplit3 ! $ fpick ! (λ n. fsplit ! $ move ! (1 ∷ []) $ use1 𝓛 (‵ (told γ n)) (ends_with γ n) $ move ! (2 ∷ []) $ fpick ! (λ x. fsplit ! $
         -- [the value; its name; what γ says; the word; nothing; the way back; the name that turns; how it does]
-        move ! (7 ∷ []) $ use1 𝓛 (raw (A.auth γ' (code d) -∗ A.auth δ (code d))) (all_e 𝓤 (λ (w : ℕ). A.auth γ' (code w) -∗ A.auth δ (code d)) d) $ move ! (7 ∷ 0 ∷ []) $
+        move ! (7 ∷ []) $ use1 𝓛 (raw (A.auth γ' (code d) -∗ A.auth δ (code d))) (all_e 𝓤 (λ (w : LockView). A.auth γ' (code w) -∗ A.auth δ (code d)) d) $ move ! (7 ∷ 0 ∷ []) $
         use2 𝓛 (‵ (fauth δ (code d))) (apply∗ 𝓤 (A.auth γ' (code d)) (A.auth δ (code d))) $ move ! (3 ∷ 4 ∷ 1 ∷ 2 ∷ 6 ∷ []) $ group ! 5 $ use1 𝓛 (‵ (Fields (n, x)) ⊛ ‵ (fact (Rest (n, x)))) (again γ n x) $ split ! $ use2 𝓛 (‵ (part_at Lock full_share d b o)) (whole_typed (n, x)) $ fjoin ! $
-        fpack ! ℕ (λ t. fsep ((mem Lock).own_at t b o) (fauth δ (code t))) d $ keep ! (0 ∷ []) $ done !))
+        fpack ! LockView (λ t. fsep ((mem Lock).own_at t b o) (fauth δ (code t))) d $ keep ! (0 ∷ []) $ done !))
 
     abbrev pub Opened : R.Denot → Share → GName → Pr
     Opened x q γ' = ⟦ guard_owns κ R ok (block_ptr b o) x ⟧ ∗ A.lft κ q ∗ ⟦ follows Lock Lock δ γ' (λ _. d) ⟧

@@ -2,7 +2,8 @@
 -- Shared for α, an invariant holds the borrow of the word and, where the word is 0, the right to the value: the borrow of the value
 -- under the name γ, which tracks it, and that the value fits. A guard has that right, and gives it back with a value that fits.
 -- Where the lock isn't shared, γ says that a value fits if the word is 0. So a guard that was forgotten does no harm.
-use Rattle.std.specs.Prelude.{◌≡◌, ℕ, zero, suc, ◌+◌}
+use Rattle.std.specs.Prelude.{◌≡◌, ℕ, zero, suc, ◌+◌, refl}
+use Rattle.std.specs.Coded.{Coded, coded_ℕ, code_by}
 use base.Fml.{Lft, GName, Fml, ftrue, ffalse, fsep, fex, fobs, fbor}
 use prog.Memory.{up, align}
 use types.SemTy.{Body}
@@ -11,6 +12,13 @@ use denote.Memory.{lone, mem, shared_of}
 use denote.RawPtr.{Ptr, block_ptr, null_ptr}
 use denote.Sharing.{said, beside, some, ends, always, within}
 use Rattle.std.specs.Sync.RawAtomic.{word}
+
+-- what a lock is seen as: what of its value never changes
+pub record LockView : Type 0 where
+  pub tag : ℕ
+
+abbrev pub lock_coded : Coded LockView
+lock_coded = code_by ℕ coded_ℕ (λ lock. lock.tag) (λ tag. record { tag = tag }) (λ _. refl)
 
 -- the value fits, under this tag
 abbrev pub Fitting : {X : Type 0} → (X → ℕ) → (X → Type 0) → ℕ → X → Type 0

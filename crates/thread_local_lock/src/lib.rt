@@ -2,7 +2,5 @@
 #![tactic(auto)]
 
 pub mod lock;
-#[cfg(test)]
-mod tests;
 
 pub use lock::{Fits, Lock, LockGuard};

@@ -1,7 +1,6 @@
 //! A lock of one word. Whenever it is free its value fits, under a tag that never changes.
 ghost use Rattle.std.specs.Prelude.{◌≡◌, ◌≢◌, ℕ, ◌<◌, IfSome};
-ghost use Rattle.std.specs.Coded.{coded_ℕ};
-ghost use Rattle.thread_local_lock.specs.Locking.{lock_owns, lock_shares, guard_owns, guard_shares, Fitting};
+ghost use Rattle.thread_local_lock.specs.Locking.{LockView, lock_coded, lock_owns, lock_shares, guard_owns, guard_shares, Fitting};
 
 use std::marker::{Brand, Model, Move, Owns, PhantomData};
 use std::sync::Wait;
@@ -30,8 +29,8 @@ const TAKEN: u64 = 1;
 /// The word of a lock that is taken and for which a thread may sleep.
 const AWAITED: u64 = 2;
 
-/// How long a thread sleeps, in nanoseconds, unless it is woken. A thread that went to sleep just before a release may miss the wake.
-const NAP: u64 = 1_000_000;
+/// How many seconds a thread sleeps, unless it is woken.
+const FOR_EVER: u64 = i64::MAX as u64;
 
 /// How often a thread tries again, and yields in between, before it sleeps.
 const TRIES: u64 = 100;
@@ -45,15 +44,15 @@ pub struct Lock<V: Fits> {
 }
 
 impl<V: Fits> Owns for Lock<V> {
-    ghost Value = { ℕ };
+    ghost Value = { LockView };
 
-    ghost coded = { coded_ℕ };
+    ghost coded = { lock_coded };
 
-    ghost shr_at = { λ tag p κ. lock_shares V.row (Fitting V.tag V.fits tag) p κ };
+    ghost shr_at = { λ lock p κ. lock_shares V.row (Fitting V.tag V.fits lock.tag) p κ };
 }
 
 impl<V: Fits> Move for Lock<V> {
-    ghost own_val = { λ tag vs. lock_owns V.row (Fitting V.tag V.fits tag) (λ n x. Fields.own_val (record { word = n; value = x }) vs) };
+    ghost own_val = { λ lock vs. lock_owns V.row (Fitting V.tag V.fits lock.tag) (λ n x. Fields.own_val (record { word = n; value = x }) vs) };
 }
 
 /// The right to a lock's value. Dropping it releases the lock, for which the value has to fit again.
@@ -76,7 +75,7 @@ impl<V: Fits> Lock<V> {
     /// A free lock. It takes no memory.
     pub fn new(value: V) -> Lock<V>
         requires { V.fits value }
-        ensures { result ≡ V.tag value }
+        ensures { result.tag ≡ V.tag value }
     {
         Lock { word: FREE, value }
     }
@@ -89,7 +88,7 @@ impl<V: Fits> Lock<V> {
 
     /// Takes the lock if it is free. It never waits.
     pub fn try_lock(&self) -> Option<LockGuard<'_, V>>
-        ensures tag { IfSome result (λ guard. (guard.tag ≡ self.now) × (V.tag guard.value ≡ self.now)) }
+        ensures tag { IfSome result (λ guard. (guard.tag ≡ self.now.tag) × (V.tag guard.value ≡ self.now.tag)) }
         ensures fits { IfSome result (λ guard. V.fits guard.value) }
     {
         self.take(TAKEN)
@@ -97,7 +96,7 @@ impl<V: Fits> Lock<V> {
 
     /// Takes the lock. May wait: it tries for a while, and then sleeps in between. It takes no memory.
     pub fn lock<R: Wait>(&self, rt: &R) -> LockGuard<'_, V>
-        ensures tag { (result.tag ≡ self.now) × (V.tag result.value ≡ self.now) }
+        ensures tag { (result.tag ≡ self.now.tag) × (V.tag result.value ≡ self.now.tag) }
         ensures fits { V.fits result.value }
     {
         for _ in 0..TRIES {
@@ -108,7 +107,7 @@ impl<V: Fits> Lock<V> {
         }
         for _ in rt.forever() {
             self.mark();
-            self.sleep(rt, NAP);
+            self.sleep(rt, FOR_EVER);
             if let Some(guard) = self.take(AWAITED) {
                 return guard;
             }
@@ -119,7 +118,7 @@ impl<V: Fits> Lock<V> {
     /// Takes the lock if it is free, and writes `word`.
     fn take(&self, word: u64) -> Option<LockGuard<'_, V>>
         requires { word ≢ 0 }
-        ensures tag { IfSome result (λ guard. (guard.tag ≡ self.now) × (V.tag guard.value ≡ self.now)) }
+        ensures tag { IfSome result (λ guard. (guard.tag ≡ self.now.tag) × (V.tag guard.value ≡ self.now.tag)) }
         ensures fits { IfSome result (λ guard. V.fits guard.value) }
     {
         let found = unsafe { exchange::<Brand>(&raw const self.word, FREE, word) };
@@ -138,9 +137,9 @@ impl<V: Fits> Lock<V> {
         unsafe { exchange::<Brand>(&raw const self.word, TAKEN, AWAITED) };
     }
 
-    /// Sleeps for so long at most, unless the lock has been released since `mark`.
-    fn sleep<R: Wait>(&self, rt: &R, nanos: u64) {
-        unsafe { raw::park::<Brand, R>(rt, &raw const self.word, AWAITED, 0, nanos) };
+    /// Sleeps until a release wakes it, unless the lock has been released since `mark`.
+    fn sleep<R: Wait>(&self, rt: &R, secs: u64) {
+        unsafe { raw::park::<Brand, R>(rt, &raw const self.word, AWAITED, secs, 0) };
     }
 }
 
@@ -164,8 +163,7 @@ impl<V: Fits> Drop for LockGuard<'_, V> {
     {
         let Self { lock, marker: _ } = self;
         let word = unsafe { &raw const (*lock).word };
-        let seen = unsafe { raw::load::<Brand>(word, SeqCst) };
-        unsafe { raw::store::<Brand>(word, FREE, SeqCst) };
+        let seen = unsafe { raw::swap::<Brand>(word, FREE, SeqCst) };
         unsafe { wake_if(word, seen) };
     }
 }

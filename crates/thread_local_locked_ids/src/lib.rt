@@ -3,8 +3,6 @@
 
 pub mod ids;
 pub mod locked;
-#[cfg(test)]
-mod tests;
 
 pub use ids::Ids;
 pub use locked::LockedIds;

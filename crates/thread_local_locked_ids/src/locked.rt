@@ -1,5 +1,5 @@
 //! The ids of a table, for all its threads.
-ghost use Rattle.std.specs.Prelude.{◌≡◌, ℕ, ◌-◌, ◌^◌, ◌<◌, IfOk};
+ghost use Rattle.std.specs.Prelude.{◌≡◌, ◌-◌, ◌^◌, ◌<◌, IfOk};
 
 use crate::Ids;
 use std::marker::Model;
@@ -15,15 +15,17 @@ pub struct LockedIds {
 }
 
 impl Model for LockedIds {
-    ghost Value = { ℕ };
+    ghost use Rattle.thread_local_locked_ids.specs.Locked.{LockedIdsView, locked_ids_view};
 
-    ghost view = { λ inside. inside.ids };
+    ghost Value = { LockedIdsView };
+
+    ghost view = { locked_ids_view };
 }
 
 impl LockedIds {
     /// Lets several threads take ids and give them back. It takes no memory.
     pub fn new(ids: Ids) -> LockedIds
-        ensures { result ≡ ids.table }
+        ensures table { result.table ≡ ids.table }
     {
         LockedIds {
             ids: Lock::new(ids),
@@ -32,7 +34,7 @@ impl LockedIds {
 
     /// Takes the least id that isn't held, as `Ids::take` does. May wait, and may take memory.
     pub fn take<R: Wait>(&self, rt: &R) -> Result<HeldId, LocalError>
-        ensures right { IfOk result (λ taken. taken.right.table ≡ self.now) }
+        ensures right { IfOk result (λ taken. taken.right.table ≡ self.now.table) }
         ensures in_range { IfOk result (λ taken. taken.id < 2 ^ 63 - 1) }
     {
         self.ids.lock(rt).take()
@@ -40,13 +42,8 @@ impl LockedIds {
 
     /// Takes an id of this table back. May wait, and takes no memory.
     pub fn give<R: Wait>(&self, rt: &R, held: HeldId)
-        requires { held.right.table ≡ self.now }
+        requires { held.right.table ≡ self.now.table }
     {
         self.ids.lock(rt).give(held);
-    }
-
-    /// The ids as they are.
-    pub fn into_inner(self) -> Ids {
-        self.ids.into_inner()
     }
 }

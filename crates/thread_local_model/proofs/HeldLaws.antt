@@ -1,9 +1,9 @@
-use Rattle.std.proofs.Common.{◌≡◌, ℕ, zero, suc, ◌+◌, ◌≤◌, ap, Bool, true, false, cond, List, [], ◌∷◌, length, refl, arith, eqb, IsTrue}
+use Rattle.std.proofs.Common.{◌≡◌, ℕ, zero, suc, ◌+◌, ◌-◌, ◌^◌, ◌<◌, ◌≤◌, ap, Bool, true, false, cond, List, [], ◌∷◌, length, refl, arith, eqb, IsTrue}
 use Rattle.std.proofs.Math.Dec.{eqb-suc-suc}
 use Rattle.std.proofs.lemmas.Bool.{ne_eqb, cond_both}
 use Rattle.std.proofs.lemmas.Bool.Decides.{nat_tests}
 use Rattle.std.proofs.lemmas.Grind.{common_steps}
-use Rattle.thread_local_model.specs.Held.{is_held, least, with_least, without, held_count, HoldsAllBelow}
+use Rattle.thread_local_model.specs.Held.{is_held, least, with_least, without, held_count, HoldsAllBelow, Manager, Takes, Gives}
 
 pub least_free : (held : List Bool) → is_held held (least held) ≡ false
 least_free [] = refl
@@ -68,3 +68,30 @@ held_count-without (true ∷ held) zero h = omega arith
 held_count-without (false ∷ held) zero h = cc
 held_count-without (true ∷ held) (suc given) h = omega (arith, held_count-without held given h)
 held_count-without (false ∷ held) (suc given) h = held_count-without held given h
+
+-- a manager whose least free id becomes held, in a room that is large enough
+pub takes : (old new : Manager) (id : ℕ) → id ≡ least old.held → id < 2 ^ 63 - 1 → new.held ≡ with_least old.held
+    → old.room ≤ new.room → length new.held ≤ new.room → new.room ≤ 2 ^ 63 - 1 → Takes old new id
+takes old new id first in_range held room peak_in_room room_in_range = record {
+  least = first;
+  in_range = in_range;
+  held = held;
+  at = λ other. rw (held, first) (is_held-with_least old.held other);
+  peak = rw (held, first) (length-with_least old.held);
+  room = room;
+  peak_in_room = peak_in_room;
+  room_in_range = room_in_range;
+}
+
+-- a manager of which an id that is held becomes free
+pub gives : (old new : Manager) (id : ℕ) → IsTrue (is_held old.held id) → new.held ≡ without old.held id → new.room ≡ old.room
+    → length new.held ≤ new.room → new.room ≤ 2 ^ 63 - 1 → Gives old new id
+gives old new id was_held held room peak_in_room room_in_range = record {
+  was_held = was_held;
+  held = held;
+  at = λ other. rw held (is_held-without old.held id other);
+  peak = rw held (length-without old.held id);
+  room = room;
+  peak_in_room = peak_in_room;
+  room_in_range = room_in_range;
+}

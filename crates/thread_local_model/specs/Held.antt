@@ -1,4 +1,4 @@
-use Rattle.std.specs.Prelude.{ℕ, suc, ◌<◌, Bool, true, false, List, [], ◌∷◌, slice_index_or, slice_set, IsTrue}
+use Rattle.std.specs.Prelude.{◌≡◌, ℕ, suc, ◌+◌, ◌-◌, ◌^◌, ◌<◌, ◌≤◌, ◌==◌, Bool, true, false, List, [], ◌∷◌, length, slice_index_or, slice_set, IsTrue, if◌then◌else◌}
 
 -- What a table's manager of ids is seen as. The list has a truth value for each id below the peak, true
 -- where the id is held. The room is the number of ids whose return needs no further memory.
@@ -35,3 +35,37 @@ held_count (true ∷ held) = suc (held_count held)
 -- every id below n is held
 abbrev pub HoldsAllBelow : ℕ → List Bool → Type 0
 HoldsAllBelow n held = (id : ℕ) → id < n → IsTrue (is_held held id)
+
+-- What taking an id makes of a manager. The id is the least that wasn't held, and is held from now on; no other id changes. The peak
+-- grows by one where every id below it was held, and the room doesn't fall.
+pub record Takes (old new : Manager) (id : ℕ) : Type 0 where
+  pub least : id ≡ least old.held
+  pub in_range : id < 2 ^ 63 - 1
+  pub held : new.held ≡ with_least old.held
+  pub at : (other : ℕ) → is_held new.held other ≡ (if id == other then true else is_held old.held other)
+  pub peak : length new.held ≡ (if id == length old.held then length old.held + 1 else length old.held)
+  pub room : old.room ≤ new.room
+  pub peak_in_room : length new.held ≤ new.room
+  pub room_in_range : new.room ≤ 2 ^ 63 - 1
+
+-- What giving an id back makes of a manager. The id was held, and isn't any more; no other id changes, nor do the peak and the room.
+pub record Gives (old new : Manager) (id : ℕ) : Type 0 where
+  pub was_held : IsTrue (is_held old.held id)
+  pub held : new.held ≡ without old.held id
+  pub at : (other : ℕ) → is_held new.held other ≡ (if id == other then false else is_held old.held other)
+  pub peak : length new.held ≡ length old.held
+  pub room : new.room ≡ old.room
+  pub peak_in_room : length new.held ≤ new.room
+  pub room_in_range : new.room ≤ 2 ^ 63 - 1
+
+-- The next id needs memory: every id below the peak is held, and there is no room for one more, though an id is left.
+pub record NeedsMemory (manager : Manager) : Type 0 where
+  pub full : HoldsAllBelow (length manager.held) manager.held
+  pub no_room : length manager.held ≡ manager.room
+  pub in_range : manager.room < 2 ^ 63 - 1
+
+-- No id is left: every one is held, and so the peak and the room are as large as can be.
+pub record IsExhausted (manager : Manager) : Type 0 where
+  pub full : HoldsAllBelow (2 ^ 63 - 1) manager.held
+  pub peak : length manager.held ≡ 2 ^ 63 - 1
+  pub room : manager.room ≡ 2 ^ 63 - 1

@@ -1,12 +1,10 @@
-//! Tests of the places of ids, of an owner's buckets, and of what these are made of.
+//! Tests of an owner's buckets, and of what these are made of.
 #![tactic(auto)]
 
 #[cfg(test)]
 mod blocks;
 #[cfg(test)]
 mod buckets;
-#[cfg(test)]
-mod places;
 #[cfg(test)]
 mod word;
 #[cfg(test)]

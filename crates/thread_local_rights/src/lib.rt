@@ -3,8 +3,6 @@
 
 pub mod held;
 pub mod right;
-#[cfg(test)]
-mod tests;
 
 pub use held::HeldId;
 pub use right::{Right, Rights};

@@ -1,6 +1,6 @@
 ghost use Rattle.std.specs.Prelude.{◌≡◌, ℕ, ◌+◌, ◌-◌, ◌^◌, ◌<◌, ◌≤◌, ◌==◌, max, Bool, true, false, [], length, IsTrue, OnOk, OnErr, IfOk, if◌then◌else◌};
 ghost use Rattle.std.specs.Prelude.{alloc_error};
-ghost use Rattle.thread_local_model.specs.Held.{is_held, least, with_least, without, HoldsAllBelow};
+ghost use Rattle.thread_local_model.specs.Held.{is_held, least, with_least, Takes, Gives, NeedsMemory, IsExhausted};
 
 use std::alloc::{AllocError, Global};
 use std::marker::Model;
@@ -62,21 +62,9 @@ impl ThreadIdManager {
     /// Takes the least id that isn't held. It asks for memory only where every id below the peak is held and
     /// there is no room for one more.
     pub fn alloc(&mut self) -> Result<usize, LocalError>
-        ensures least { IfOk result (λ id. id ≡ least self.old.held) }
-        ensures in_range { IfOk result (λ id. id < 2 ^ 63 - 1) }
-        ensures held { OnOk result (self.new.held ≡ with_least self.old.held) }
-        ensures at { IfOk result (λ taken. (id : ℕ) → is_held self.new.held id ≡ (if taken == id then true else is_held self.old.held id)) }
-
-        // The peak grows by one where every id below it was held, and the room doesn't fall.
-        ensures peak { OnOk result (length self.new.held
-            ≡ (if least self.old.held == length self.old.held then length self.old.held + 1 else length self.old.held)) }
-        ensures room { self.old.room ≤ self.new.room }
-        ensures within { length self.new.held ≤ self.new.room }
-        ensures bounded { self.new.room ≤ 2 ^ 63 - 1 }
-
-        ensures memory { result ≡ Err (LocalError.Memory alloc_error)
-            → HoldsAllBelow (length self.old.held) self.old.held × (length self.old.held ≡ self.old.room) }
-        ensures exhausted { result ≡ Err LocalError.Exhausted → HoldsAllBelow (2 ^ 63 - 1) self.old.held }
+        ensures ok { IfOk result (λ id. Takes self.old self.new id) }
+        ensures memory { result ≡ Err (LocalError.Memory alloc_error) → NeedsMemory self.old }
+        ensures exhausted { result ≡ Err LocalError.Exhausted → IsExhausted self.old }
         ensures err { OnErr result (self.new ≡ self.old) }
     {
         let id = self.least_free();
@@ -85,7 +73,7 @@ impl ThreadIdManager {
         Ok(id)
     }
 
-    // The least id that isn't held.
+    /// The least id that isn't held.
     fn least_free(&self) -> usize
         ensures least { result ≡ least self.now.held }
         ensures in_room { result ≤ self.now.room }
@@ -98,18 +86,14 @@ impl ThreadIdManager {
         self.peak
     }
 
-    // Makes room for the return of the id, where there is none.
+    /// Makes room for the return of the id, where there is none. It takes memory then.
     fn make_room(&mut self, id: usize) -> Result<(), LocalError>
         requires { id ≡ least self.old.held }
         ensures held { self.new.held ≡ self.old.held }
         ensures room { self.old.room ≤ self.new.room }
-        ensures within { length self.new.held ≤ self.new.room }
-        ensures bounded { self.new.room ≤ 2 ^ 63 - 1 }
         ensures ok { OnOk result ((id < self.new.room) × (id < 2 ^ 63 - 1)) }
-
-        ensures memory { result ≡ Err (LocalError.Memory alloc_error)
-            → HoldsAllBelow (length self.old.held) self.old.held × (length self.old.held ≡ self.old.room) }
-        ensures exhausted { result ≡ Err LocalError.Exhausted → HoldsAllBelow (2 ^ 63 - 1) self.old.held }
+        ensures memory { result ≡ Err (LocalError.Memory alloc_error) → NeedsMemory self.old }
+        ensures exhausted { result ≡ Err LocalError.Exhausted → IsExhausted self.old }
         ensures err { OnErr result (self.new ≡ self.old) }
     {
         if id < self.held.len() {
@@ -124,14 +108,14 @@ impl ThreadIdManager {
         Ok(())
     }
 
-    // Marks the id as held.
+    /// Marks the id as held. It takes no memory.
     fn hold(&mut self, id: usize)
         requires least { id ≡ least self.old.held }
         requires room { id < self.old.room }
         ensures held { self.new.held ≡ with_least self.old.held }
         ensures room { self.new.room ≡ self.old.room }
-        ensures within { length self.new.held ≤ self.new.room }
-        ensures bounded { self.new.room ≤ 2 ^ 63 - 1 }
+        ensures peak_in_room { length self.new.held ≤ self.new.room }
+        ensures room_in_range { self.new.room ≤ 2 ^ 63 - 1 }
     {
         self.held[id] = true;
         self.free_from = id + 1;
@@ -143,8 +127,8 @@ impl ThreadIdManager {
     /// Whether an id is held.
     pub fn is_held(&self, id: usize) -> bool
         ensures held { result ≡ is_held self.now.held id }
-        ensures within { length self.now.held ≤ self.now.room }
-        ensures bounded { self.now.room ≤ 2 ^ 63 - 1 }
+        ensures peak_in_room { length self.now.held ≤ self.now.room }
+        ensures room_in_range { self.now.room ≤ 2 ^ 63 - 1 }
     {
         self.held.get(id).copied().unwrap_or(false)
     }
@@ -152,10 +136,7 @@ impl ThreadIdManager {
     /// Takes an id back. The caller shows that it is held. It takes no memory.
     pub fn free(&mut self, id: usize)
         requires { IsTrue (is_held self.old.held id) }
-        ensures held { self.new.held ≡ without self.old.held id }
-        ensures at { (other : ℕ) → is_held self.new.held other ≡ (if id == other then false else is_held self.old.held other) }
-        ensures peak { length self.new.held ≡ length self.old.held }
-        ensures room { self.new.room ≡ self.old.room }
+        ensures { Gives self.old self.new id }
     {
         self.held[id] = false;
         let (from, to) = widened(self.free_from, self.free_to, id);
@@ -164,7 +145,7 @@ impl ThreadIdManager {
     }
 }
 
-// The least range that has the numbers from `from` up to `to`, and this one.
+/// The least range that has the numbers from `from` up to `to`, and this one.
 fn widened(from: usize, to: usize, number: usize) -> (usize, usize)
     requires { number < 2 ^ 63 }
     ensures has { (result.0 ≤ number) × (number < result.1) }
@@ -177,6 +158,3 @@ fn widened(from: usize, to: usize, number: usize) -> (usize, usize)
         (number, number + 1)
     }
 }
-
-#[cfg(test)]
-mod tests;

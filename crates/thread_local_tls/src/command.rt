@@ -12,8 +12,8 @@ use std::alloc::Global;
 use std::io::Write;
 
 /// Runs the command that the words name, and answers the status that the program ends with. The output goes
-/// to `out`, after the last word was accepted, and the line of a fault to `err`. It takes memory for the moves
-/// and for the ids.
+/// to `out`, after all words were read, and the line of a fault to `err`. That `out` gets these bytes and nothing
+/// else is said of a writer whose bytes a contract can name. It takes memory for the moves and for the ids.
 pub fn run<O: Write, E: Write>(alloc: Global, words: &[String], out: &mut O, err: &mut E) -> u8
     ensures status { result ≤ 2 }
     ensures done { result ≡ 0 → Answers (texts words.now) (O.contents out.old) (O.contents out.new) }
@@ -25,7 +25,7 @@ pub fn run<O: Write, E: Write>(alloc: Global, words: &[String], out: &mut O, err
     }
 }
 
-// Runs the command and writes its output.
+/// Runs the command and writes its output. It takes memory for the moves and for the ids.
 fn answer<O: Write>(alloc: Global, words: &[String], out: &mut O) -> Result<(), Fault>
     ensures done { OnOk result (Answers (texts words.now) (O.contents out.old) (O.contents out.new)) }
     ensures misuse { IsErrOf result Fault.Usage → IsMisuse (texts words.now) × Keeps (O.contents out.old) (O.contents out.new) }
@@ -35,7 +35,7 @@ fn answer<O: Write>(alloc: Global, words: &[String], out: &mut O) -> Result<(), 
     print(&ids, out)
 }
 
-// Writes a line for each id.
+/// Writes a line for each id, and flushes the writer.
 fn print<O: Write>(ids: &[usize], out: &mut O) -> Result<(), Fault>
     ensures written { OnOk result (Appends (O.contents out.old) (O.contents out.new) (lines_of ids.now)) }
     ensures fault { IsErrOf result Fault.Usage → ⊥ }

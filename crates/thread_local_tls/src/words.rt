@@ -21,7 +21,7 @@ pub fn command(alloc: Global, words: &[String]) -> Result<Vec<Move>, Fault>
     }
 }
 
-// The moves that the words spell.
+/// The moves that the words spell. It takes memory for them.
 fn moves(alloc: Global, words: &[String]) -> Result<Vec<Move>, Fault>
     ensures ok { IfOk result (λ moves. moves_of (texts words.now) ≡ Some moves.items) }
     ensures usage { IsErrOf result Fault.Usage → moves_of (texts words.now) ≡ None }
@@ -39,7 +39,7 @@ fn moves(alloc: Global, words: &[String]) -> Result<Vec<Move>, Fault>
     Ok(moves)
 }
 
-// The first move that the words spell, and the words after it.
+/// The first move that the words spell, and the words after it. It takes no memory.
 fn first_move(words: &[String]) -> Option<(Move, &[String])>
     ensures none { IsNone result → 0 < length words.now → moves_of (texts words.now) ≡ None }
     ensures some { IfSome result (λ first. moves_of (texts words.now) ≡ move_then first.0 (moves_of (texts first.1.now))) }
@@ -67,6 +67,7 @@ fn number(word: &str) -> Option<usize>
     word.parse().ok()
 }
 
+/// Whether each byte is an ASCII digit.
 fn is_digits(word: &str) -> bool
     ensures { result ≡ list_all is_ascii_digit word.now }
 {

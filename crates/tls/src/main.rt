@@ -8,6 +8,7 @@ use std::process::ExitCode;
 use std::rt::Env;
 use thread_local_tls::{Fault, run};
 
+/// Answers the command line, on standard output and standard error.
 fn main(rt: HostRuntime) -> ExitCode {
     let mut err = rt.stderr();
     match words(&rt) {
@@ -16,7 +17,7 @@ fn main(rt: HostRuntime) -> ExitCode {
     }
 }
 
-// The arguments without the program's name.
+/// The arguments without the program's name. It takes memory for them.
 fn words<R: Env + AllocGlobal>(rt: &R) -> Result<Vec<String>, Fault> {
     match env::args(rt) {
         Ok(args) => Ok(args.skip(1).collect(rt.alloc())?),

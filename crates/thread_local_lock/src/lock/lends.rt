@@ -39,7 +39,7 @@ impl<V: Fits> Lock<V> {
     /// leaves the lock free.
     pub fn get_mut(&mut self) -> LockGuard<'_, V>
         ensures* same { sem 𝓛 (follows (lock_row V.row V.Fits) (lock_row V.row V.Fits) self.entry.ghost_name result.name (λ _. self.old)) }
-        ensures tag { result.tag ≡ self.old }
+        ensures tag { result.tag ≡ self.old.tag }
     {
         self.word = TAKEN;
         LockGuard {

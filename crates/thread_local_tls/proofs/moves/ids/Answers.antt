@@ -8,7 +8,7 @@ loop-step-preserved c =
     elim c.match-step.branch [
       | in-Take+in_ok-id-in-Take+else-is_err w ↦
           IsRunTo-more c.args.moves.now c.loop-step.step-index _ _ c.loop-step.manager.held _ c.loop-step.ids.items _ (search rules) w.in-Take.is c.loop-step.invariant tt
-          (ap (λ m. m.held) w.manager-is ∙ w.in_ok-id-in-Take.ensures.held)
+          (ap (λ m. m.held) w.manager-is ∙ w.in_ok-id-in-Take.ensures.ok.held)
           (ap (λ v. v.items) w.ids-is ∙ search rules)
       | in-Give+else-not-is_held w ↦
           IsRunTo-more c.args.moves.now c.loop-step.step-index _ _ c.loop-step.manager.held _ c.loop-step.ids.items _ (search rules) w.in-Give.is c.loop-step.invariant

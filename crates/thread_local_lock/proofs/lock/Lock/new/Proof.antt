@@ -32,4 +32,4 @@ new_spec 𝓤 𝓛 𝓜 𝓡 wired X L g d _ =
     enter ! 𝓣.C 𝓣.Λ fn (vy ∷ []) Post $ alloc_all ! (λ l. pass_all ! refl (fy, tt) $ sets ! (of_opd ! (get ! refl)) refl fy $
     sets ! (agg ! (and_then ! (lit ! tt) (and_then ! (get ! refl) (no_more !)))) refl typed $
     use0 𝓛 (raw (fact 𝓤 (tag ≡ tag))) (fact_i 𝓤 (tag ≡ tag) (emp 𝓤) refl) $ nothing ! $ nothing ! $ fjoin ! $
-    returns ! (look_at ! 0 refl) $ free_all ! refl $ keep ! (3 ∷ 0 ∷ 2 ∷ 1 ∷ []) $ by ! (leaves 𝓛 En hs c z v tag (tt, tt) (tt, tt)))))
+    returns ! (look_at ! 0 refl) $ free_all ! refl $ keep ! (3 ∷ 0 ∷ 2 ∷ 1 ∷ []) $ by ! (leaves 𝓛 En hs c z v (record { tag = tag }) (tt, tt) (tt, tt)))))

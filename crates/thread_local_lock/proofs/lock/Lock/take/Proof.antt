@@ -26,7 +26,7 @@ take_spec 𝓤 𝓛 𝓜 𝓡 wired X L g d _ =
     proved 𝓛 En hs c 𝓜 𝓡 (Goes-dropped 𝓛 2 self yes (λ κs x f. refl), (Goes-dropped 𝓛 2 number yes (λ κs x f. refl), tt)) (#self inst) fn closed
     (λ κs. (shr_vals, (uint_vals w64, tt))) (λ κs. (shr_Tells (named 0) κs.0 Row, (uint_Tells w64, tt))) (λ κs qs bounds a gh are.
     let b : ℕ = a.0.ref_ptr.0 in let o : ℕ = a.0.ref_ptr.1 in let κ : Lft = κs.0 in let q : Share = qs.0 in let new : ℕ = a.1.0 in let p : Ptr = block_ptr b o in
-    let tag : ℕ = a.0.now in let ok = Fitting g.tag g.fits tag in let others : Fml = fsep (flft κs.1.0 qs.1.0) ftrue in let ℓ = named_lft 2 0 tt κs in let G : RattleType = guard.the_row ℓ R g in
+    let tag : ℕ = a.0.now.tag in let ok = Fitting g.tag g.fits tag in let others : Fml = fsep (flft κs.1.0 qs.1.0) ftrue in let ℓ = named_lft 2 0 tt κs in let G : RattleType = guard.the_row ℓ R g in
     let Tag : Option G.Denot → Type 0 = λ r. IfSome r (λ h. (h.tag ≡ tag) × (g.tag h.value ≡ tag)) in let Fit : Option G.Denot → Type 0 = λ r. IfSome r (λ h. g.fits h.value) in
     let y : (walk_of 𝓛 En hs c).Ghost = ((κs, qs, bounds, a, (vptr b o ∷ [], (vint w64 new ∷ [], tt))), gh) in let Post : Val → SProp 𝓤 = (walk_of 𝓛 En hs c).post y in
     qed 𝓛 (((‵ (flft κ q) ⊛ ‵ others) ⊛ ‵ (owns (types_at En.signature.params κs) a y.0.4)) ∷ raw (fact 𝓤 _) ∷ raw (fact 𝓤 (new ≢ 0)) ∷ []) ∵

@@ -1,5 +1,5 @@
--- `drop` looks at the word, stores FREE, which leaves the right to the value, and wakes one that may sleep.
-use Rattle.thread_local_lock.proofs.Names.{◌≡◌, T, ℕ, ◌+◌, ◌^◌, List, [], ◌∷◌, sym, refl, ap, subst, lit<, w64, dcons, dnil, a_type, Val, has_ty, WT, vunit, vint, inst_fn, SProp, wand, id⊢, via, apply∗, guard_i, Lft, Share, Fml, ftrue, fsep, flft, fbor, finv, sem, ‵, raw, ◌⊛◌, some, given, later, mean, at_ret, ◌$◌, ◌∵◌, !, qed, by, move, keep, drop, split, join, fsplit, fjoin, fpick, fpack, pick, learn, use1, use2, use3, await, rewrite, feq_i, feq_l, flt_i, stop, fld, addr, lit, unit_lit, of_opd, no_more, and_then, first, blocks, exec, Calls-last, returns, enter, alloc_all, pass_all, free_all, look_at, get, get_in, through, sets, sets_last, lands_last, env, agg, sub, whole, tables, fact, fact_use, Lends-one, no, RattleType, owns, types_at, plain, named_lft, Ptr, InBlock, block_ptr, block_of, count_of, at_block, nothing, heard, param, bounded, Stays, stay_dropped, walk_of, Goes-dropped, proved, leaves, fm, found, finds, stored, has_stored, tail}
+-- `drop` exchanges the word for FREE, which leaves the right to the value, and wakes one that may sleep.
+use Rattle.thread_local_lock.proofs.Names.{◌≡◌, T, ℕ, ◌+◌, ◌^◌, List, [], ◌∷◌, sym, refl, ap, subst, lit<, w64, dcons, dnil, a_type, Val, has_ty, WT, vunit, vint, inst_fn, SProp, wand, id⊢, via, apply∗, guard_i, Lft, Share, Fml, ftrue, fsep, flft, fbor, sem, ‵, raw, ◌⊛◌, some, given, later, mean, at_ret, ◌$◌, ◌∵◌, !, qed, by, move, keep, drop, split, join, fsplit, fjoin, fpick, fpack, pick, learn, use1, use2, use3, await, rewrite, feq_i, feq_l, flt_i, stop, fld, addr, lit, unit_lit, of_opd, no_more, and_then, first, blocks, exec, Calls-last, returns, enter, alloc_all, pass_all, free_all, look_at, get, get_in, through, sets, sets_last, lands_last, env, agg, sub, whole, tables, fact, fact_use, Lends-one, no, RattleType, owns, types_at, plain, named_lft, Ptr, InBlock, block_ptr, block_of, count_of, at_block, nothing, heard, param, bounded, Stays, stay_dropped, walk_of, Goes-dropped, proved, leaves, fm, found, finds, tail}
 use mir.Syntax.{Body, ty_unit}
 use base.Fml.{feq}
 use types.ByLocal.{is}
@@ -7,14 +7,14 @@ use denote.RawPtr.{ptr_val}
 use denote.Steps.{only}
 use denote.Triple.Call.{calls_at_last}
 use denote.Triple.Spec.{triple_of}
-use Rattle.std.proofs.raw_atomic.Calls.{seq_cst, loads, stores}
+use Rattle.std.proofs.raw_atomic.Calls.{seq_cst, swaps}
 use Rattle.thread_local_lock.specs.Locking.{Fitting, fitting, invariant, guard_owns}
 use Rattle.thread_local_lock.specs.contracts.lock.LockGuard as guard
 use Rattle.thread_local_lock.specs.contracts.lock.wake_if as waker
 use Rattle.thread_local_lock.proofs.lock.wake_if.Met as waker_met
 use Rattle.thread_local_lock.specs.contracts.lock.LockGuard.drop.{ended, clauses}
 use Rattle.thread_local_lock.specs.contracts.lock.LockGuard.drop.Key.{name as #self}
-use Rattle.thread_local_lock.proofs.Steps.{looked, released}
+use Rattle.thread_local_lock.proofs.Steps.{released}
 use Rattle.thread_local_lock.proofs.Fields.{guard_of, typed, told}
 use Rattle.thread_local_lock.proofs.Guards.{placed}
 use Rattle.thread_local_lock.proofs.lock.LockGuard.drop.Statement.{statement}
@@ -34,23 +34,18 @@ drop_spec 𝓤 𝓛 𝓜 𝓡 wired X L g d d' _ _ =
     use1 𝓛 (given (InBlock p) (‵ (guard_owns β R ok p x))) (fact_use 𝓤 _ (placed 𝓛 β R ok p x) (guard_i 𝓤 (InBlock p) (sem 𝓛 (guard_owns β R ok p x)))) $ learn ! (λ inb. let at : p ≡ block_ptr b o = at_block p inb in
     rewrite ! 0 (λ (z : Ptr). ‵ (guard_owns β R ok z x)) at refl $
     enter ! 𝓣.C 𝓣.Λ fn (guard_of p ∷ []) Post $ alloc_all ! (λ l. pass_all ! refl (typed p inb, tt) $ let Ev = env fn.locals l in
-    fpick ! (λ t. let J : Fml = fbor t.0 (invariant R ok b o t) in fsplit ! $ fsplit ! $ move ! (1 ∷ []) $ use1 𝓛 (‵ (finv J) ⊛ ‵ (finv J)) (𝓛.invs.inv_dup J) $ split ! $ move ! (2 ∷ 4 ∷ []) $
+    fpick ! (λ t. let J : Fml = fbor t.0 (invariant R ok b o t) in fsplit ! $ fsplit ! $ move ! (0 ∷ 3 ∷ []) $
     use2 𝓛 (later (some (λ (s : Share). ‵ (flft t.0 s) ⊛ raw (wand 𝓤 (𝓛.A.lft t.0 s) (H.⇛ (𝓛.A.lft β q)))))) (Lends-one 𝓛 𝓜 𝓡 β t.0 q) $ await ! tt $ pick ! (λ s. split ! $
-    -- [α's token, and the way back; the invariant, twice; the right to the value; the other tokens]
-    let Done : Body → Body = λ k. tail (tail k) in let third : Body = Done fn.body in let fifth : Body = Done third in let seventh : Body = Done fifth in let at-word : Ptr = block_ptr b (o + 0) in let out : Fml = fsep (flft t.0 s) ftrue in
+    -- [α's token, and the way back; the invariant; the right to the value; the other tokens]
+    let Done : Body → Body = λ k. tail (tail k) in let third : Body = Done fn.body in let fifth : Body = Done third in let at-word : Ptr = block_ptr b (o + 0) in let out : Fml = fsep (flft t.0 s) ftrue in
     sets ! (is ! (of_opd ! (get_in ! (fld ! refl (stop !)) (sub ! 0 refl (whole !)))) (ap ptr_val at)) refl (tt, tt) $
     first ! $ blocks ! $ sets_last ! (addr ! (through ! refl (fld ! refl (stop !)))) refl (tt, tt) $ exec ! 𝓣.C 𝓣.Λ Ev third (at_ret Ev Post) $ sets ! (of_opd ! (get ! refl)) refl (tt, tt) $
-    nothing ! $ move ! (3 ∷ 1 ∷ 0 ∷ []) $ use3 𝓛 (raw (𝓣.C _ (ptr_val at-word ∷ seq_cst ∷ []) (λ v. mean 𝓛 (found (λ _. out) v))))
-    (via 𝓤 _ (looked 𝓛 R ok b o t s) (loads 𝓛 𝓜 𝓡 (code.calls-std::sync::atomic::raw::load 𝓡.env wired) at-word (λ _. out))) $
+    move ! (3 ∷ []) $ nothing ! $ fpack ! (ok x) (λ _. ftrue) (fit, same) $ fjoin ! $ fpack ! X.Denot (fitting R ok b o t) x $
+    move ! (3 ∷ 1 ∷ 0 ∷ []) $ use3 𝓛 (raw (𝓣.C _ (ptr_val at-word ∷ vint w64 0 ∷ seq_cst ∷ []) (λ v. mean 𝓛 (found (λ _. out) v))))
+    (via 𝓤 _ (released 𝓛 R ok b o t s) (swaps 𝓛 𝓜 𝓡 (code.calls-std::sync::atomic::raw::swap 𝓡.env wired) at-word 0 (lit< tt) (λ _. out))) $
     first ! $ blocks ! $ sets ! (agg ! (and_then ! (lit ! tt) (no_more !))) refl (tt, (record { fits = lit< tt }, tt)) $
-    Calls-last ! (fm 𝓛 𝓜 𝓡) (found (λ _. out)) (and_then ! (get ! refl) (and_then ! (get ! refl) (no_more !))) (λ v. finds ! (λ _. out) (λ n fits.
+    Calls-last ! (fm 𝓛 𝓜 𝓡) (found (λ _. out)) (and_then ! (get ! refl) (and_then ! (lit ! tt) (and_then ! (get ! refl) (no_more !)))) (λ v. finds ! (λ _. out) (λ n fits.
     lands_last ! refl (tt, record { fits = fits }) $ exec ! 𝓣.C 𝓣.Λ Ev fifth (at_ret Ev Post) $ sets ! (of_opd ! (get ! refl)) refl (tt, record { fits = fits }) $
-    fsplit ! $ move ! (1 ∷ []) $ drop ! $ move ! (3 ∷ []) $ nothing ! $ fpack ! (ok x) (λ _. ftrue) (fit, same) $ fjoin ! $ fpack ! X.Denot (fitting R ok b o t) x $
-    move ! (3 ∷ 1 ∷ 0 ∷ []) $ use3 𝓛 (raw (𝓣.C _ (ptr_val at-word ∷ vint w64 0 ∷ seq_cst ∷ []) (λ v. mean 𝓛 (stored out v))))
-    (via 𝓤 _ (released 𝓛 R ok b o t s) (stores 𝓛 𝓜 𝓡 (code.calls-std::sync::atomic::raw::store 𝓡.env wired) at-word 0 (lit< tt) out)) $
-    first ! $ blocks ! $ sets ! (agg ! (and_then ! (lit ! tt) (no_more !))) refl (tt, (record { fits = lit< tt }, tt)) $
-    Calls-last ! (fm 𝓛 𝓜 𝓡) (stored out) (and_then ! (get ! refl) (and_then ! (lit ! tt) (and_then ! (get ! refl) (no_more !)))) (λ v. has_stored ! out (
-    lands_last ! refl (tt, tt) $ exec ! 𝓣.C 𝓣.Λ Ev seventh (at_ret Ev Post) $
     fsplit ! $ move ! (0 ∷ 2 ∷ []) $ use2 𝓛 (later (‵ (flft β q))) (apply∗ 𝓤 (𝓛.A.lft t.0 s) (H.⇛ (𝓛.A.lft β q))) $ await ! tt $ move ! (0 ∷ 2 ∷ []) $ join ! $
     -- [the tokens]
     let j : wakes.Ghost = ((tt, tt, tt, (at-word, (n, tt)), (ptr_val at-word ∷ [], (vint w64 n ∷ [], tt))), tt) in
@@ -59,6 +54,6 @@ drop_spec 𝓤 𝓛 𝓜 𝓡 wired X L g d d' _ _ =
     calls_at_last ! (fm 𝓛 𝓜 𝓡) wakes (waker_met.met 𝓤 𝓛 𝓜 𝓡 (code.calls-thread_local_lock::lock::wake_if 𝓡.env wired)) j (and_then ! (get ! refl) (and_then ! (get ! refl) (no_more !))) (λ u.
     use1 𝓛 (later (some (λ (r : Unit {0}). (‵ ftrue ⊛ ‵ (feq (List Val) (u ∷ []) (vunit ∷ []))) ⊛ some (λ (_ : Unit {0} × (Unit {0} × Unit {0})). ‵ (fsep ftrue (fsep ftrue ftrue)) ⊛ ‵ ftrue)))) (id⊢ 𝓤 (wakes.post j u)) $
     await ! tt $ pick ! (λ r. split ! $ split ! $ drop ! $ feq_l ! (λ e. pick ! (λ _. split ! $ drop ! $ drop ! $
-    lands_last ! refl (subst (λ (w : Val). T (has_ty ty_unit w) × WT w) (sym (ap only e)) (tt, tt)) $ exec ! 𝓣.C 𝓣.Λ Ev (tail seventh) (at_ret Ev Post) $ sets ! (of_opd ! (unit_lit !)) refl (tt, tt) $
+    lands_last ! refl (subst (λ (w : Val). T (has_ty ty_unit w) × WT w) (sym (ap only e)) (tt, tt)) $ exec ! 𝓣.C 𝓣.Λ Ev (Done fifth) (at_ret Ev Post) $ sets ! (of_opd ! (unit_lit !)) refl (tt, tt) $
     nothing ! $ feq_i ! (List Val) (vunit ∷ []) (vunit ∷ []) refl $ nothing ! $ nothing ! $ fjoin ! $
-    returns ! (look_at ! 0 refl) $ free_all ! refl $ keep ! (3 ∷ 0 ∷ 1 ∷ 2 ∷ []) $ by ! (leaves 𝓛 En hs c y vunit tt (tt, tt) (tt, tt)))))))))))))))))
+    returns ! (look_at ! 0 refl) $ free_all ! refl $ keep ! (3 ∷ 0 ∷ 1 ∷ 2 ∷ []) $ by ! (leaves 𝓛 En hs c y vunit tt (tt, tt) (tt, tt)))))))))))))))

@@ -5,4 +5,4 @@ use Rattle.thread_local_locked_ids.proofs.ids.Ids.take.Goals as goal
 
 -- the right to the least id isn't out, since that id isn't held
 pub take-right-requires : goal.take-right-requires
-take-right-requires c = let held = c.self.inside.manager.held in c.self.invariant c.in_ok-id.id ∙ ap (is_held held) c.in_ok-id.ensures.least ∙ least_free held
+take-right-requires c = let held = c.self.inside.manager.held in c.self.invariant c.in_ok-id.id ∙ ap (is_held held) c.in_ok-id.ensures.ok.least ∙ least_free held

@@ -1,8 +1,9 @@
-use Rattle.thread_local_model.proofs.HeldLaws.{is_held-with_least, length-with_least}
+use Rattle.std.proofs.Common.{◌∙◌, ap, rules}
+use Rattle.thread_local_model.specs.Held.{with_least}
+use Rattle.thread_local_model.proofs.HeldLaws.{takes}
 use Rattle.thread_local_thread_id.proofs.manager.ThreadIdManager.alloc.Goals as goal
 
-pub returns-clause-at : goal.returns-clause-at
-returns-clause-at c = λ id. rw (c.hold.ensures.held, c.in_ok-make_room.ensures.held, c.least_free-id.ensures.least) (is_held-with_least c.args.self.now.held id)
-
-pub returns-clause-peak : goal.returns-clause-peak
-returns-clause-peak c = rw (c.hold.ensures.held, c.in_ok-make_room.ensures.held) (length-with_least c.args.self.now.held)
+pub returns-clause-ok : goal.returns-clause-ok
+returns-clause-ok c =
+    let held = c.hold.ensures.held ∙ ap with_least c.in_ok-make_room.ensures.held in
+    takes c.args.self.now _ _ c.least_free-id.ensures.least c.in_ok-make_room.ensures.ok.1 held (search rules) c.hold.ensures.peak_in_room c.hold.ensures.room_in_range

@@ -16,14 +16,21 @@ within c =
     (omega (arith, least_bounded c.args.self.now.held), rw (← c.self.view_is) (length-front c.self.inside.held.items c.self.inside.peak))
 
 pub returns-then-id-ge-IDS-clause-exhausted : goal.returns-then-id-ge-IDS-clause-exhausted
-returns-then-id-ge-IDS-clause-exhausted c = λ _ k h. lower (goal.at.returns-then-id-ge-IDS-clause-exhausted c).Else-id-len k (omega arith)
+returns-then-id-ge-IDS-clause-exhausted c = λ _.
+    let at = (goal.at.returns-then-id-ge-IDS-clause-exhausted c).Else-id-len in
+    let w = within at in
+    let room : c.args.self.now.room ≡ length c.self.inside.held.items = sym (ap (λ m. m.room) c.self.view_is) in
+    let bound = c.self.invariant.room in
+    record { full = λ k h. lower at k (omega arith); peak = omega arith; room = omega arith }
 
 pub returns-then-is_err-clause-memory : goal.returns-then-is_err-clause-memory
 returns-then-is_err-clause-memory c = λ _.
-    let w = within (goal.at.returns-then-is_err-clause-memory c).Else-id-len in
+    let at = (goal.at.returns-then-is_err-clause-memory c).Else-id-len in
+    let w = within at in
     let len = c.self.inside.held.ok.0 in
     let room : c.args.self.now.room ≡ length c.self.inside.held.items = sym (ap (λ m. m.room) c.self.view_is) in
-    (λ k h. lower (goal.at.returns-then-is_err-clause-memory c).Else-id-len k (omega arith), omega arith)
+    let below = c.if-id-ge-IDS.false in
+    record { full = λ k h. lower at k (omega arith); no_room = omega arith; in_range = omega arith }
 
 pub returns-clause-ok : goal.returns-clause-ok
 returns-clause-ok c =

@@ -1,10 +1,10 @@
 ghost use Rattle.std.specs.Prelude.{◌≡◌, ◌≢◌, ℕ, ◌≤◌};
 
-use crate::{Fits, Lock};
 use std::sync::Wait;
 use std::test::Fail;
 use std::thread;
 use std::thread::Threads;
+use thread_local_lock::{Fits, Lock};
 
 /// How many goods a shelf has, of which there is room for `room`.
 #[derive(Clone, Copy, PartialEq, Eq, Debug)]
@@ -61,7 +61,7 @@ fn look(shelf: &mut Lock<Shelf>) -> u64
 
 /// An owner makes the value fit again.
 fn mend(shelf: &mut Lock<Shelf>, room: u64)
-    requires { shelf.old ≡ room }
+    requires { shelf.old.tag ≡ room }
     ensures { shelf.new ≡ shelf.old }
 {
     let mut guard = shelf.get_mut();

@@ -1,9 +1,9 @@
 ghost use Rattle.std.specs.Prelude.{◌≡◌, false};
 ghost use Rattle.thread_local_rights.specs.Rights.{is_out};
 
-use crate::{Right, Rights};
 use std::mem;
 use std::test::Fail;
+use thread_local_rights::{Right, Rights};
 
 /// Where a right may stand: in a struct and in an enum.
 #[derive(Drop)]

@@ -1,6 +1,5 @@
 ghost use Rattle.std.specs.Prelude.{◌≡◌, ◌≢◌, ℕ, IfOk};
 
-use crate::{Ids, LockedIds};
 use std::mem::{forget, swap};
 use std::sync::Wait;
 use std::sync::atomic::AtomicBool;
@@ -8,6 +7,7 @@ use std::sync::atomic::Ordering::SeqCst;
 use std::test::Fail;
 use std::thread;
 use std::thread::Threads;
+use thread_local_locked_ids::{Ids, LockedIds};
 use thread_local_rights::HeldId;
 use thread_local_thread_id::LocalError;
 
@@ -72,9 +72,9 @@ fn threads_hold_unlike_ids(rt: HostRuntime) -> Result<(), Fail> {
     for shared in [a.0, a.1, b.0, b.1] {
         assert_eq!(rt; shared, Ok(0));
     }
-    let ids = ids.into_inner();
+    // None of the ids is held, so the next are the first.
     for id in 0..4 {
-        assert!(rt; !ids.is_held(id));
+        assert_eq!(rt; ids.take(&rt)?.id, id);
     }
     Ok(())
 }
@@ -102,15 +102,9 @@ fn held_ids_are_swapped_moved_and_forgotten(rt: HostRuntime) -> Result<(), Fail>
     let again = ids.take(&rt)?;
     assert_eq!(rt; again.id, 0);
     ids.give(&rt, again);
-    let ids = ids.into_inner();
-    assert_eq!(rt;
-        (
-            ids.is_held(0),
-            ids.is_held(1),
-            ids.is_held(2),
-            ids.is_held(3)
-        ),
-        (false, false, true, false)
-    );
+    // The forgotten id is held, and no other.
+    for id in [0, 1, 3] {
+        assert_eq!(rt; ids.take(&rt)?.id, id);
+    }
     Ok(())
 }

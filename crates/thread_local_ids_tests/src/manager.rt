@@ -1,8 +1,8 @@
-use super::*;
 use std::process::Abort;
 use std::test::Fail;
+use thread_local_thread_id::{LocalError, ThreadIdManager};
 
-// Takes an id; where memory is refused, nothing has changed and the same call succeeds.
+/// Takes an id; where memory is refused, nothing has changed and the same call succeeds.
 fn take(
     rt: &impl Abort,
     manager: &mut ThreadIdManager,

@@ -1,0 +1,13 @@
+//! Tests of places, ids and their rights, and of the lock over them.
+#![tactic(auto)]
+
+#[cfg(test)]
+mod ids;
+#[cfg(test)]
+mod lock;
+#[cfg(test)]
+mod manager;
+#[cfg(test)]
+mod place;
+#[cfg(test)]
+mod rights;
