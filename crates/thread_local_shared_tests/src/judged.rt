@@ -1,8 +1,9 @@
+//! Types that are judged.
 ghost use Rattle.thread_local_judged.specs.Judged.{Judged};
 
-use crate::{Judge, judge_sync};
 use std::cell::{Cell, RefCell};
 use std::test::Fail;
+use thread_local_judged::{Judge, judge_sync};
 
 /// Stands for a call that asks for the fact.
 fn offered<T: Send>(value: T) -> T
