@@ -16,8 +16,8 @@ use denote.Struct.Laws.{RawPtr-copy, usize-copy, bool-copy, field_copy}
 use denote.Struct.Struct.{Struct}
 use denote.Struct.Owning.{shape}
 use Rattle.std.specs.contracts.marker.PhantomData as marker
-use Rattle.thread_local_claim.specs.declared.claim.Claim as claim_value
-use Rattle.thread_local_claim.specs.contracts.claim.Claim as claim
+use Rattle.thread_local_claim.specs.declared.claimed.ClaimedSlot as claim_value
+use Rattle.thread_local_claim.specs.contracts.claimed.ClaimedSlot as claim
 
 -- what a claim keeps at run time
 pub record Kept : Type 0 where
@@ -27,15 +27,11 @@ pub record Kept : Type 0 where
   pub found : Bool
   pub published : Bool
 
-abbrev pub kept_of : {X : Type 0} → claim_value.Claim X → Kept
+abbrev pub kept_of : {X : Type 0} → claim_value.ClaimedSlot X → Kept
 kept_of c = record { word = c.word; slot = c.slot; index = c.index; found = c.found; published = c.published }
 
 abbrev pub moved_to : Kept → Ptr → Kept
 moved_to c p = record c { slot = p }
-
-pub some_of : {X : Type 0} (v : Option X) → is_some v ≡ true → (x : X) × (v ≡ Some x)
-some_of None e = let no : false ≡ true = e in cc
-some_of (Some x) e = (x, refl)
 
 abbrev pub value_of : Kept → Val
 value_of c = vstruct (vcons (ptr_val c.word) (vcons (ptr_val c.slot) (vcons (vint w64 c.index) (vcons (vbool c.found) (vcons (vbool c.published) (vcons (vstruct vnil) vnil))))))

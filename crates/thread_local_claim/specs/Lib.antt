@@ -1,0 +1,2 @@
+pub use Rattle.thread_local_claim_logic.specs.Known
+pub mod Views

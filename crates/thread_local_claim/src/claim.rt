@@ -1,215 +1,165 @@
 //! Claims of slots.
-ghost use Rattle.std.specs.Prelude.{◌≡◌, ◌<◌, ◌^◌, ℕ, Bool, true, false, Option, None, Some, is_some, MatchOption};
-ghost use base.Stored.{coded_bool};
-ghost use Rattle.std.specs.Coded.{coded_option};
-ghost use Rattle.thread_local_model.specs.Place.{id_at};
-ghost use Rattle.thread_local_claim_logic.specs.Claims.{place_of, claim_owns, claim_shares};
+ghost use Rattle.std.specs.Prelude.{◌≡◌, ◌≢◌, ◌-◌, ◌^◌, ◌<◌, ◌⊎◌, true, MatchBool, MatchOption};
+ghost use Rattle.thread_local_model.specs.Learnt.{Missing, Vacant, Holding};
+ghost use Rattle.thread_local_model.specs.Place.{bucket_of};
+ghost use Rattle.thread_local_claim_logic.specs.Known.{IsKnown};
 
-use std::marker::{Brand, Model, PhantomData};
-use std::ptr::null;
-use std::sync::atomic::Ordering::SeqCst;
-use std::sync::atomic::raw;
-use std::sync::atomic::raw::ptr;
-use thread_local_blocks::Slot;
-use thread_local_rights::Right;
-use thread_local_shared_word::SharedWord;
+use crate::claimed::ClaimedSlot;
+use crate::replaced::replace_with;
+use std::marker::Model;
+use thread_local_rights::HeldId;
+use thread_local_shared_word::{Private, SharedWord};
+use thread_local_thread_id::Thread;
 
-mod install;
-mod look;
-
-/// The flag of a slot whose value is published.
-const PUBLISHED: u64 = 1;
-
-/// The slot of an id, in the hands of whoever has the right to the id.
+/// The slot of an id, in the hands of whoever has the right to the id. Contracts see its table, its id, whether its bucket is reserved, and
+/// what it has learnt of the slot: that the bucket was missing, that the slot is vacant, or the value that the slot holds.
 ///
-/// A claim that is forgotten costs its slot and nothing else: the id stays out.
+/// No call waits or takes memory.
 pub struct Claim<'a, T> {
-    word: *const SharedWord<T>,
-    slot: *const Slot<T>,
-    index: usize,
-    found: bool,
-    published: bool,
-    marker: PhantomData<&'a T>,
-    pub ghost table: { ℕ },
-    pub ghost id: { ℕ },
-    /// Whether it has looked for the bucket.
-    pub ghost looked: { Bool } by { coded_bool },
-    /// Whether it has found the bucket.
-    pub ghost stands: { Bool } by { coded_bool },
-    /// Whether the bucket is reserved.
-    pub ghost reserved: { Bool } by { coded_bool },
-    pub ghost value: { Option T } by { coded_option T.code },
+    slot: ClaimedSlot<'a, T>,
+    id: usize,
 }
 
 impl<'a, T> Model for Claim<'a, T> {
-    ghost also_owns = { λ c. claim_owns T.row 'a c.word c.table (place_of c.id c.index c.slot c.looked c.stands c.reserved) c.value c.found c.published };
+    ghost use Rattle.std.specs.Prelude.{◌≡◌, ◌-◌, ◌^◌, ◌<◌};
+    ghost use Rattle.thread_local_claim_logic.specs.Known.{IsKnown};
+    ghost use Rattle.thread_local_claim.specs.Views.{ClaimView, claim_view_coded};
 
-    ghost also_shares = { λ c _ κ. claim_shares T.row 'a (place_of c.id c.index c.slot c.looked c.stands c.reserved) c.value c.found c.published κ };
+    ghost Value = { ClaimView T };
+
+    ghost coded = { claim_view_coded T.code };
+
+    ghost view = { λ c. record { table = c.slot.table; id = c.slot.id; reserved = c.slot.reserved; learnt = c.slot.learnt } };
+
+    ghost invariant = { λ c. (c.slot.id ≡ c.id) × (c.id < 2 ^ 63 - 1) × IsKnown c.slot.learnt };
 }
 
 impl<'a, T> Claim<'a, T> {
-    /// The slot at an index of the bucket, claimed by the right to its id. It is one atomic load of the word, and one of the slot's flag where
-    /// the bucket stands: it takes no memory, and never waits.
-    pub fn arrive(word: &'a SharedWord<T>, index: usize, right: Right) -> Claim<'a, T>
-        requires table { right.table ≡ word.now.table }
-        requires id { right.id ≡ id_at word.now.bucket index }
-        requires within { index < 2 ^ word.now.bucket }
-        ensures right { (result.table ≡ right.table) × (result.id ≡ right.id) }
-        ensures looked { result.looked ≡ true }
-        ensures missing { result.stands ≡ false → result.value ≡ None }
-        ensures reserved { (result.reserved ≡ word.now.reserved) × (result.reserved ≡ true → result.stands ≡ true) }
+    /// Claims the slot of an id that is held, under the word of the id's bucket. It is one atomic load of the word, and one of the slot's flag
+    /// where the bucket stands. A reserved bucket is found.
+    pub fn arrive(word: &'a SharedWord<T>, held: HeldId) -> Claim<'a, T>
+        requires table { held.right.table ≡ word.now.table }
+        requires bucket { bucket_of held.id ≡ word.now.bucket }
+        ensures right { (result.table ≡ held.right.table) × (result.id ≡ held.id) }
+        ensures learnt { IsKnown result.learnt }
+        ensures reserved { (result.reserved ≡ word.now.reserved) × (result.reserved ≡ true → result.learnt ≢ Missing) }
     {
-        Claim::hold(word, index, right).find()
+        let (id, right) = held.into_parts();
+        let thread = Thread::new(id);
+        Claim {
+            slot: ClaimedSlot::hold(word, thread.index, right).find(),
+            id,
+        }
     }
 
     /// Looks again for a bucket that was missing. Whoever installed it since, the slot is empty. It loads what `arrive` does.
-    pub fn again(self) -> Claim<'a, T>
-        requires looked { self.looked ≡ true }
-        requires missing { self.stands ≡ false }
-        ensures right { (result.table ≡ self.entry.table) × (result.id ≡ self.entry.id) }
-        ensures looked { result.looked ≡ true }
-        ensures empty { result.value ≡ None }
-        ensures reserved { (result.reserved ≡ self.entry.reserved) × (result.reserved ≡ true → result.stands ≡ true) }
+    pub fn again(&mut self)
+        requires { self.old.learnt ≡ Missing }
+        ensures right { (self.new.table ≡ self.old.table) × (self.new.id ≡ self.old.id) }
+        ensures learnt { (self.new.learnt ≡ Missing) ⊎ (self.new.learnt ≡ Vacant) }
+        ensures reserved { (self.new.reserved ≡ self.old.reserved) × (self.new.reserved ≡ true → self.new.learnt ≡ Vacant) }
     {
-        self.find()
+        replace_with(&mut self.slot, (), found_again)
     }
 
-    /// The right to an id, and where to look for its slot.
-    fn hold(word: &'a SharedWord<T>, index: usize, right: Right) -> Claim<'a, T>
-        requires table { right.table ≡ word.now.table }
-        requires id { right.id ≡ id_at word.now.bucket index }
-        requires within { index < 2 ^ word.now.bucket }
-        ensures right { (result.table ≡ right.table) × (result.id ≡ right.id) }
-        ensures unknown { (result.looked ≡ false) × (result.stands ≡ false) }
-        ensures reserved { result.reserved ≡ word.now.reserved }
+    /// Installs a block of the claim's bucket, which was missing, by one compare and exchange. Where another came first, that one stays, and
+    /// this one goes back to the heap. Either way the claim's slot is there, and empty.
+    pub fn install(&mut self, private: Private<T>)
+        requires missing { self.old.learnt ≡ Missing }
+        requires bucket { private.bucket ≡ bucket_of self.old.id }
+        ensures right { (self.new.table ≡ self.old.table) × (self.new.id ≡ self.old.id) }
+        ensures learnt { self.new.learnt ≡ Vacant }
+        ensures reserved { self.new.reserved ≡ self.old.reserved }
     {
-        right.lay_down();
-        Claim {
-            word,
-            slot: null(),
-            index,
-            found: false,
-            published: false,
-            marker: PhantomData,
-        }
+        replace_with(&mut self.slot, private, installed)
     }
 
-    /// Looks for the bucket, and takes what the slot holds where it stands.
-    fn find(self) -> Claim<'a, T>
-        requires { self.stands ≡ false }
-        ensures right { (result.table ≡ self.entry.table) × (result.id ≡ self.entry.id) × (result.looked ≡ true) }
-        ensures missing { result.stands ≡ false → result.value ≡ None }
-        ensures empty { self.entry.looked ≡ true → result.value ≡ None }
-        ensures reserved { (result.reserved ≡ self.entry.reserved) × (result.reserved ≡ true → result.stands ≡ true) }
+    /// Publishes a value in a slot that is vacant: the value is written, and then the flag is set, by one atomic store.
+    pub fn publish(&mut self, value: T)
+        requires { self.old.learnt ≡ Vacant }
+        ensures right { (self.new.table ≡ self.old.table) × (self.new.id ≡ self.old.id) }
+        ensures learnt { self.new.learnt ≡ Holding value }
+        ensures reserved { self.new.reserved ≡ self.old.reserved }
     {
-        let Self {
-            word,
-            slot: _,
-            index,
-            found: _,
-            published: _,
-            marker: _,
-        } = self;
-        let at = unsafe {
-            ptr::load::<u64, Brand>(&raw const (*word).at as *const *mut u64, SeqCst)
-        };
-        if at.is_null() {
-            return Claim {
-                word,
-                slot: null(),
-                index,
-                found: false,
-                published: false,
-                marker: PhantomData,
-            };
-        }
-        let slot = unsafe { (at as *const Slot<T>).add(index) };
-        let flag = unsafe { raw::load::<Brand>(&raw const (*slot).flag, SeqCst) };
-        Claim {
-            word,
-            slot,
-            index,
-            found: true,
-            published: flag == PUBLISHED,
-            marker: PhantomData,
-        }
+        replace_with(&mut self.slot, value, published)
     }
 
-    /// Publishes a value in a slot that holds none: the value is written, and then the flag is set.
-    pub fn publish(self, value: T) -> Claim<'a, T>
-        requires stands { self.stands ≡ true }
-        requires empty { self.value ≡ None }
-        ensures right { (result.table ≡ self.entry.table) × (result.id ≡ self.entry.id) }
-        ensures stands { result.stands ≡ true }
-        ensures value { result.value ≡ Some value }
+    /// Whether the bucket was missing when the claim looked for it last.
+    pub fn is_missing(&self) -> bool
+        ensures { MatchBool result (self.now.learnt ≡ Missing) (self.now.learnt ≢ Missing) }
     {
-        let Self {
-            word,
-            slot,
-            index,
-            found: _,
-            published: _,
-            marker: _,
-        } = self;
-        unsafe { (&raw const (*slot).value as *mut T).write(value) };
-        unsafe { raw::store::<Brand>(&raw const (*slot).flag, PUBLISHED, SeqCst) };
-        Claim {
-            word,
-            slot,
-            index,
-            found: true,
-            published: true,
-            marker: PhantomData,
-        }
+        !self.slot.is_found()
     }
 
     /// The value that the slot holds, for as long as the claim is borrowed. It makes no atomic step.
     pub fn get(&self) -> Option<&T>
-        ensures { MatchOption result (self.now.value ≡ None) (λ x. self.now.value ≡ Some x.now) }
+        ensures { MatchOption result ((self.now.learnt ≡ Missing) ⊎ (self.now.learnt ≡ Vacant)) (λ x. self.now.learnt ≡ Holding x.now) }
     {
-        if self.is_published() {
-            Some(self.value())
+        if self.slot.is_published() {
+            Some(self.slot.value())
         } else {
             None
         }
     }
 
-    /// Whether the bucket has been found.
-    pub fn stands(&self) -> bool
-        ensures { result ≡ self.now.stands }
+    /// Gives the claim up, and the id back. It makes no atomic step.
+    pub fn leave(self) -> HeldId
+        ensures { (result.right.table ≡ self.entry.table) × (result.id ≡ self.entry.id) }
     {
-        self.found
-    }
-
-    fn is_published(&self) -> bool
-        ensures { result ≡ is_some self.now.value }
-    {
-        self.published
-    }
-
-    fn value(&self) -> &T
-        requires { is_some self.now.value ≡ true }
-        ensures { self.now.value ≡ Some result.now }
-    {
-        unsafe { &(*self.slot).value }
-    }
-
-    /// Gives the claim up, and the right back.
-    pub fn leave(self) -> Right
-        ensures right { (result.table ≡ self.entry.table) × (result.id ≡ self.entry.id) }
-    {
-        let Self {
-            word: _,
-            slot: _,
-            index: _,
-            found: _,
-            published: _,
-            marker: _,
-        } = self;
-        Right::take_up()
+        let Self { slot, id } = self;
+        HeldId {
+            id,
+            right: slot.leave(),
+        }
     }
 }
 
-unsafe impl<T: Send> Send for Claim<'_, T> {}
+impl<'a, T: Sync> Claim<'a, T> {
+    /// What a walker finds in the slot, for as long as the word is borrowed: the claim's own value, if it holds one. It makes no atomic step.
+    pub fn look(&self) -> Option<&'a T>
+        ensures { MatchOption result ((self.now.learnt ≡ Missing) ⊎ (self.now.learnt ≡ Vacant)) (λ x. self.now.learnt ≡ Holding x.now) }
+    {
+        if self.slot.is_published() {
+            Some(self.slot.lasting())
+        } else {
+            None
+        }
+    }
+}
 
-unsafe impl<T: Sync> Sync for Claim<'_, T> {}
+/// The slot after one more look for its bucket.
+fn found_again<'a, T>(slot: ClaimedSlot<'a, T>, _: ()) -> (ClaimedSlot<'a, T>, ())
+    requires { slot.learnt ≡ Missing }
+    ensures right { (result.0.table ≡ slot.entry.table) × (result.0.id ≡ slot.entry.id) }
+    ensures learnt { (result.0.learnt ≡ Missing) ⊎ (result.0.learnt ≡ Vacant) }
+    ensures known { IsKnown result.0.learnt }
+    ensures reserved { (result.0.reserved ≡ slot.entry.reserved) × (result.0.reserved ≡ true → result.0.learnt ≢ Missing) }
+{
+    (slot.find(), ())
+}
+
+/// The slot once its bucket is there: the private block, unless another came first, and then this one goes back to the heap.
+fn installed<'a, T>(slot: ClaimedSlot<'a, T>, private: Private<T>) -> (ClaimedSlot<'a, T>, ())
+    requires missing { slot.learnt ≡ Missing }
+    requires bucket { private.bucket ≡ bucket_of slot.id }
+    ensures right { (result.0.table ≡ slot.entry.table) × (result.0.id ≡ slot.entry.id) }
+    ensures learnt { result.0.learnt ≡ Vacant }
+    ensures reserved { result.0.reserved ≡ slot.entry.reserved }
+{
+    let (block, alloc, bucket) = private.into_parts();
+    let (slot, back) = slot.offer(block);
+    if let Some(block) = back {
+        Private::from_parts(block, alloc, bucket).free();
+    }
+    (slot, ())
+}
+
+/// The slot with a value.
+fn published<'a, T>(slot: ClaimedSlot<'a, T>, value: T) -> (ClaimedSlot<'a, T>, ())
+    requires { slot.learnt ≡ Vacant }
+    ensures right { (result.0.table ≡ slot.entry.table) × (result.0.id ≡ slot.entry.id) }
+    ensures learnt { result.0.learnt ≡ Holding value }
+    ensures reserved { result.0.reserved ≡ slot.entry.reserved }
+{
+    (slot.publish(value), ())
+}

@@ -11,7 +11,7 @@ use Rattle.std.specs.Sync.RawAtomic.Pointer.{cell}
 use Rattle.thread_local_rights.specs.Rights.{right_owns}
 use Rattle.thread_local_rights.proofs.Elements.{right_once}
 use Rattle.thread_local_blocks.specs.Slots.{stride}
-use Rattle.thread_local_shared_word_logic.specs.Shared.{name_at, Named, Turn, Standing, Who, free, unborn, all_unborn, waiting, len, first, Sized, pending, standing, beside_pointer, invariant}
+use Rattle.thread_local_shared_word_logic.specs.Shared.{name_at, WordView, Turn, Standing, Who, free, unborn, all_unborn, waiting, len, first, Sized, pending, standing, beside_pointer, invariant}
 use Rattle.thread_local_claim_logic.specs.Claims.{waits}
 use Rattle.thread_local_shared_word_logic.proofs.Inside.{in_block, quietly}
 use Rattle.thread_local_claim_logic.proofs.Moves as moves
@@ -47,7 +47,7 @@ module _ {M : Type 1} {𝓤 : Ura M} (𝓛 : Logic 𝓤) (R : RattleType) where
       qed 𝓛 (‵ (all_unborn R table t (suc n) k) ∷ []) ∵ fsplit ! $ move ! (1 ∷ []) $ use1 𝓛 (‵ One ⊛ raw (⟦ One ⟧ -∗ ⟦ Rest ⟧)) (unborn_out table t n (suc k) i k' (omega arith) (omega arith)) $ split ! $ frame ! $
       assume ! (‵ One) $ use2 𝓛 (‵ Rest) (apply∗ 𝓤 ⟦ One ⟧ ⟦ Rest ⟧) $ move ! (1 ∷ 0 ∷ []) $ fjoin ! $ done !
 
-  module _ (d : Named) (t : Turn) (wb wo i k : ℕ) (low : i < len R d) (at_k : k ≡ i + first R d) where
+  module _ (d : WordView) (t : Turn) (wb wo i k : ℕ) (low : i < len R d) (at_k : k ≡ i + first R d) where
     abbrev pub I : Fml
     I = invariant R d t wb wo
 
@@ -106,7 +106,7 @@ module _ {M : Type 1} {𝓤 : Ura M} (𝓛 : Logic 𝓤) (R : RattleType) where
         swaps false = qed 𝓛 (‵ Pass ∷ ‵ (right_owns t.vacant k) ∷ ‵ (right_owns t.filled k) ∷ raw (⟦ Unborn ⟧ -∗ ⟦ I ⟧) ∷ ‵ Pass ∷ []) ∵ keep ! (0 ∷ 4 ∷ []) $ by ! (right_once 𝓛 t.pass k Swapped)
 
     born_leaves : (s : Standing) (l : i < length s.names) → ⟦ Slot s l ⟧ ∗ (⟦ Slot s l ⟧ -∗ ⟦ I ⟧) ∗ ⟦ Pass ⟧ ⊢ Swapped
-    born_leaves s l = let b : ℕ = block_of s.at in let e : ℕ = place_in s in let S : Option R.Denot → Fml = steps.Stands 𝓛 R d t wb wo s i k e b l at_k refl refl in let D : Option R.Denot → Who → Fml = steps.Had 𝓛 R d t wb wo s i k e b l at_k refl refl in
+    born_leaves s l = let b : ℕ = block_of s.at in let e : ℕ = place_in s in let S : Option R.Denot → Fml = steps.Stays 𝓛 R d t wb wo s i k e b l at_k refl refl in let D : Option R.Denot → Who → Fml = steps.Had 𝓛 R d t wb wo s i k e b l at_k refl refl in
         qed 𝓛 (‵ (Slot s l) ∷ raw (⟦ Slot s l ⟧ -∗ ⟦ I ⟧) ∷ ‵ Pass ∷ []) ∵ suffices ! _ (upd_i 𝓤 (⟦ I ⟧ ∗ ⟦ Right ⟧)) $ fsplit3 ! $ move ! (2 ∷ []) $ fpick ! (λ z. fsplit3 ! $
         -- [the flag; what stands; who has it; the rim; the loan; the way back; the pass]
         move ! (1 ∷ 2 ∷ 6 ∷ []) $ use3 𝓛 (given (z.0 ≡ None) (‵ (S z.0) ⊛ ‵ (D z.0 free) ⊛ ‵ Right)) (moves.early_leaves 𝓛 R t b s.own d.table k e (name_at s.names i) z.0 z.1) $ learn ! (λ none. split3 ! $

@@ -27,8 +27,10 @@ use Rattle.std.proofs.cell.BorrowLemmas.{by_one, unnest_before}
 use Rattle.thread_local_judged.specs.Judged.{Shareable, Judged}
 use Rattle.thread_local_rights.specs.Rights.{right_owns}
 use Rattle.thread_local_blocks.specs.Slots.{fact, stride, value_at, place}
-use Rattle.thread_local_shared_word_logic.specs.Shared.{name_at, Named, Turn, Standing, value_code, pinned, value_of, age, kept, row}
+use Rattle.thread_local_shared_word_logic.specs.Shared.{name_at, WordView, Turn, Standing, value_code, pinned, value_of, age, kept, loaded}
 use Rattle.thread_local_shared_word_logic.specs.Shared as slots
+use Rattle.thread_local_model.specs.Learnt.{Learnt, Unknown, Missing, Standing as Stood, Vacant, Holding}
+use Rattle.thread_local_claim_logic.specs.Known.{value_held}
 use Rattle.thread_local_claim_logic.specs.Claims.{Place, IsAt, has_slot, has, IsKept, IsOf, has_at, claim_owns, lasts, shown, claim_shares}
 
 lasts_laws : (β : Lft) (R : RattleType) → RowLaws R → (b e : ℕ) (x : R.Denot) (j : Judged R) → ShrLaws (lasts R β b e x j)
@@ -41,8 +43,8 @@ shown_laws β R L p (Some x) = let b : ℕ = block_of p in let e : ℕ = value_a
     let F : Judged R → Lft → Fml = lasts R β b e x in beside_shr_laws (said (fact (InBlock p))) (beside W (any (Judged R) F)) (said_shr_laws (fact (InBlock p)) (λ _. tt))
     (beside_shr_laws W (any (Judged R) F) (within_shr_laws β S (L x b e)) (some_shr_laws (Judged R) F (lasts_laws β R L b e x)))
 
-pub claim_laws : (β : Lft) (R : RattleType) → RowLaws R → (c : Place) (v : Option R.Denot) (found published : Bool) → ShrLaws (claim_shares R β c v found published)
-claim_laws β R L c v found published = beside_shr_laws (said (fact (IsKept R c found published v))) (shown R β c.slot v) (said_shr_laws (fact (IsKept R c found published v)) (λ _. tt)) (shown_laws β R L c.slot v)
+pub claim_laws : (β : Lft) (R : RattleType) → RowLaws R → (p : Ptr) (l : Learnt R.Denot) (found published : Bool) → ShrLaws (claim_shares R β p l found published)
+claim_laws β R L p l found published = beside_shr_laws (said (fact (IsKept R found published l))) (shown R β p (value_held l)) (said_shr_laws (fact (IsKept R found published l)) (λ _. tt)) (shown_laws β R L p (value_held l))
 
 module _ {M : Type 1} {𝓤 : Ura M} (𝓛 : Logic 𝓤) where
   open 𝓛 use {H, A}
@@ -65,11 +67,14 @@ module _ {M : Type 1} {𝓤 : Ura M} (𝓛 : Logic 𝓤) where
     abbrev v : Option R.Denot
     v = Some x
 
-    abbrev C : Fml
-    C = claim_owns R β w table c v found published
+    abbrev l : Learnt R.Denot
+    l = Holding x
 
-    abbrev At : Named × Turn → Fml
-    At = has_at R β w table c v
+    abbrev C : Fml
+    C = claim_owns R β w table c l found published
+
+    abbrev At : WordView × Turn → Fml
+    At = has_at R β w table c l
 
     abbrev wo : ℕ
     wo = count_of w + 0
@@ -88,12 +93,8 @@ module _ {M : Type 1} {𝓤 : Ura M} (𝓛 : Logic 𝓤) where
     abbrev pub Saw : Fml
     Saw = fex (Judged R) Seen
 
-    stood : (z : Named × Turn) (k : Bool) → ⟦ has R z.0 z.1 β c v k ⟧ ⊢ ex 𝓤 (λ (s : Standing). guard 𝓤 (k ≡ true) ⟦ has_slot R z.0 z.1 β c v s ⟧)
-    stood z false = qed 𝓛 (‵ (has R z.0 z.1 β c v false) ∷ []) ∵ fsplit ! $ fpick ! (λ no. let n : v ≡ None = no in cc)
-    stood z true = qed 𝓛 (‵ (has R z.0 z.1 β c v true) ∷ []) ∵ fpick ! (λ s. show ! (λ (s : Standing). guard 𝓤 (true ≡ true) ⟦ has_slot R z.0 z.1 β c v s ⟧) s $ check ! refl $ done !)
-
-    module _ (told : IsKept R c found published v) (z : Named × Turn) (of : IsOf R w table c z.0) (s : Standing) (at : IsAt R s c) (is : c.stands ≡ true) where
-      abbrev d : Named
+    module _ (told : IsKept R found published l) (z : WordView × Turn) (of : IsOf R w table c z.0) (s : Standing) (at : IsAt R s c) where
+      abbrev d : WordView
       d = z.0
 
       abbrev t : Turn
@@ -118,7 +119,7 @@ module _ {M : Type 1} {𝓤 : Ura M} (𝓛 : Logic 𝓤) where
       By j = slots.by R t sb s.own se η x j
 
       abbrev Row : Fml
-      Row = row R d t s β
+      Row = loaded R d t s β
 
       abbrev Kept : Fml
       Kept = kept R d t (block_of w) wo β
@@ -132,8 +133,8 @@ module _ {M : Type 1} {𝓤 : Ura M} (𝓛 : Logic 𝓤) where
       -- the claim again
       again : (j : Judged R) → ⟦ Kept ⟧ ∗ ⟦ Row ⟧ ∗ ⟦ Filled ⟧ ∗ ⟦ Pinned ⟧ ∗ ⟦ By j ⟧ ⊢ ⟦ C ⟧
       again j = qed 𝓛 (‵ Kept ∷ ‵ Row ∷ ‵ Filled ∷ ‵ Pinned ∷ ‵ (By j) ∷ []) ∵ move ! (4 ∷ []) $ fpack ! (Judged R) By j $ move ! (3 ∷ 4 ∷ 0 ∷ []) $ fjoin3 ! $ move ! (2 ∷ 0 ∷ []) $ fjoin ! $
-          anything ! $ fpack ! (IsAt R s c) (λ _. ftrue) at $ fjoin ! $ fpack ! Standing (has_slot R d t β c v) s $ rewrite ! 0 (λ (k : Bool). ‵ (has R d t β c v k)) (sym is) refl $ move ! (1 ∷ 0 ∷ []) $ fjoin ! $
-          anything ! $ fpack ! (IsOf R w table c d) (λ _. ftrue) of $ fjoin ! $ fpack ! (Named × Turn) At z $ anything ! $ fpack ! (IsKept R c found published v) (λ _. ftrue) told $ fjoin ! $ done !
+          anything ! $ fpack ! (IsAt R s c) (λ _. ftrue) at $ fjoin ! $ fpack ! Standing (has_slot R d t β c v) s $ move ! (1 ∷ 0 ∷ []) $ fjoin ! $
+          anything ! $ fpack ! (IsOf R w table c d) (λ _. ftrue) of $ fjoin ! $ fpack ! (WordView × Turn) At z $ anything ! $ fpack ! (IsKept R found published l) (λ _. ftrue) told $ fjoin ! $ done !
 
       there : ◌≡◌ {A = ℕ × ℕ} (sb, value_at R se) (b, e)
       there = λ i. (block_of (sym at i), value_at R (count_of (sym at i)))
@@ -177,17 +178,17 @@ module _ {M : Type 1} {𝓤 : Ura M} (𝓛 : Logic 𝓤) where
           use1 𝓛 (‵ (fbor ν (fbor life Value)) ⊛ ‵ ftrue) (id⊢ 𝓤 _) $ split ! $ move ! (4 ∷ 0 ∷ 2 ∷ []) $ use3 𝓛 (later (‵ (fbor ν Value) ⊛ ‵ (flft ν q))) (unnest_before 𝓛 ν life q Value) $ await ! tt $ split ! $
           move ! (0 ∷ 1 ∷ 3 ∷ []) $ use3 𝓛 (later (‵ Saw ⊛ ‵ (flft ν q))) (lends_value σ q) $ await ! tt $ split ! $ now ! $ keep ! (0 ∷ 1 ∷ []) $ done !
 
-    lends_at : (q : Share) → ⟦ fbor ν C ⟧ ∗ A.lft ν q ⊢ H.⇛ ((⟦ fact (IsKept R c found published v) ⟧ ∗ ⟦ fact (InBlock c.slot) ⟧ ∗ ⟦ Saw ⟧) ∗ A.lft ν q)
+    lends_at : (q : Share) → ⟦ fbor ν C ⟧ ∗ A.lft ν q ⊢ H.⇛ ((⟦ fact (IsKept R found published l) ⟧ ∗ ⟦ fact (InBlock c.slot) ⟧ ∗ ⟦ Saw ⟧) ∗ A.lft ν q)
     lends_at q = qed 𝓛 (‵ (fbor ν C) ∷ ‵ (flft ν q) ∷ []) ∵ updating ! $ bor_open ! tt $ move ! (1 ∷ []) $ fsplit ! $ fpick ! (λ told. move ! (1 ∷ []) $ fpick ! (λ z. fsplit ! $ fpick ! (λ of. move ! (1 ∷ []) $ fsplit ! $ move ! (1 ∷ []) $
-        use1 𝓛 (some (λ (s : Standing). given (c.stands ≡ true) (‵ (has_slot R z.0 z.1 β c v s)))) (stood z c.stands) $ pick ! (λ s. learn ! (λ is. fsplit ! $ fpick ! (λ at. drop ! $ fsplit ! $ move ! (1 ∷ []) $ fsplit3 ! $
+        fpick ! (λ s. fsplit ! $ fpick ! (λ at. drop ! $ fsplit ! $ move ! (1 ∷ []) $ fsplit3 ! $
         -- [filled; pinned; by; the row; kept; nothing; nothing; the open borrow]
-        move ! (2 ∷ []) $ fpick ! (λ j. move ! (7 ∷ 4 ∷ 3 ∷ 1 ∷ 2 ∷ 0 ∷ []) $ group ! 6 $ use1 𝓛 (later (‵ Saw ⊛ ‵ (flft ν q))) (lends_by told z of s at is q j) $ await ! tt $ split ! $
-        anything ! $ fpack ! (InBlock c.slot) (λ _. ftrue) (subst InBlock (sym at) tt) $ move ! (0 ∷ 1 ∷ []) $ join ! $ anything ! $ fpack ! (IsKept R c found published v) (λ _. ftrue) told $ join ! $ join ! $ now ! $ keep ! (0 ∷ []) $ done !)))))))
+        move ! (2 ∷ []) $ fpick ! (λ j. move ! (7 ∷ 4 ∷ 3 ∷ 1 ∷ 2 ∷ 0 ∷ []) $ group ! 6 $ use1 𝓛 (later (‵ Saw ⊛ ‵ (flft ν q))) (lends_by told z of s at q j) $ await ! tt $ split ! $
+        anything ! $ fpack ! (InBlock c.slot) (λ _. ftrue) (subst InBlock (sym at) tt) $ move ! (0 ∷ 1 ∷ []) $ join ! $ anything ! $ fpack ! (IsKept R found published l) (λ _. ftrue) told $ join ! $ join ! $ now ! $ keep ! (0 ∷ []) $ done !))))))
 
   module _ (β : Lft) (R : RattleType) (L : RowLaws R) (l : Lft) (le : Incl l β) (shares : Shares 𝓛 R l) (w : Ptr) (table : ℕ) (c : Place) (found published : Bool) where
     -- a claim keeps what is true of it
-    told_of : (v : Option R.Denot) → ⟦ claim_owns R β w table c v found published ⟧ ⊢ monad.fact 𝓤 (IsKept R c found published v)
-    told_of v = qed 𝓛 (‵ (claim_owns R β w table c v found published) ∷ []) ∵ fsplit ! $ fpick ! (λ told. by ! (fact_i 𝓤 (IsKept R c found published v) _ told))
+    told_of : (t : Learnt R.Denot) → ⟦ claim_owns R β w table c t found published ⟧ ⊢ monad.fact 𝓤 (IsKept R found published t)
+    told_of t = qed 𝓛 (‵ (claim_owns R β w table c t found published) ∷ []) ∵ fsplit ! $ fpick ! (λ told. by ! (fact_i 𝓤 (IsKept R found published t) _ told))
 
     module _ (x : R.Denot) (κ : Lft) where
       abbrev ν : Lft
@@ -209,13 +210,24 @@ module _ {M : Type 1} {𝓤 : Ura M} (𝓛 : Logic 𝓤) where
           use2 𝓛 (later (‵ (S ν) ⊛ raw (lfts 𝓛 ts))) (shares x ν ts (block_of c.slot) (value_at R (count_of c.slot)) sl sν) $ await ! tt $ split ! $
           anything ! $ fpack ! (Judged R) Lasts (inr j) $ move ! (1 ∷ 0 ∷ []) $ fjoin ! $ now ! $ done !
 
-    none_at : (κ : Lft) (q : Share) → A.bor κ (claim_owns R β w table c None found published) ∗ A.lft κ q ⊢ H.⇛ (⟦ fact (IsKept R c found published None) ⟧ ∗ A.lft κ q)
-    none_at κ q = let P : Fml = claim_owns R β w table c None found published in let Φ : Type 0 = IsKept R c found published None in qed 𝓛 (‵ (fbor κ P) ∷ ‵ (flft κ q) ∷ []) ∵ updating ! $ bor_open ! tt $ move ! (1 ∷ []) $
-        use1 𝓛 (given Φ (‵ P)) (fact_use 𝓤 _ (told_of None) (guard_i 𝓤 Φ ⟦ P ⟧)) $ learn ! (λ told. move ! (1 ∷ 0 ∷ []) $ obor_close ! tt $ drop ! $ anything ! $ fpack ! Φ (λ _. ftrue) told $ now ! $ done !)
+    module _ (t : Learnt R.Denot) where
+      abbrev P : Fml
+      P = claim_owns R β w table c t found published
+
+      abbrev Φ : Type 0
+      Φ = IsKept R found published t
+
+      keeps_at : (κ : Lft) (q : Share) → A.bor κ P ∗ A.lft κ q ⊢ H.⇛ (⟦ fact Φ ⟧ ∗ A.lft κ q)
+      keeps_at κ q = qed 𝓛 (‵ (fbor κ P) ∷ ‵ (flft κ q) ∷ []) ∵ updating ! $ bor_open ! tt $ move ! (1 ∷ []) $
+          use1 𝓛 (given Φ (‵ P)) (fact_use 𝓤 _ (told_of t) (guard_i 𝓤 Φ ⟦ P ⟧)) $ learn ! (λ told. move ! (1 ∷ 0 ∷ []) $ obor_close ! tt $ drop ! $ anything ! $ fpack ! Φ (λ _. ftrue) told $ now ! $ done !)
+
+      -- a claim that holds no value shows none
+      shows_none : Lends 𝓛 P (beside (said (fact Φ)) nothing) l
+      shows_none = λ κ ts inc sp. qed 𝓛 (‵ (fbor κ P) ∷ raw (lfts 𝓛 ts) ∷ []) ∵ updating ! $ use2 𝓛 (later (‵ (fact Φ) ⊛ raw (lfts 𝓛 ts))) (by_one 𝓛 κ ts sp (A.bor κ P) ⟦ fact Φ ⟧ (keeps_at κ)) $ await ! tt $ split ! $ anything ! $ move ! (1 ∷ 0 ∷ []) $ fjoin ! $ now ! $ done !
 
     -- a `&` to a claim is a `&` to the value that it holds
-    pub lends_claim : (v : Option R.Denot) → Lends 𝓛 (claim_owns R β w table c v found published) (claim_shares R β c v found published) l
-    lends_claim (Some x) = λ κ ts inc sp. let ν : Lft = κ ++ β in let P : Fml = claim_owns R β w table c (Some x) found published in let Told : Fml = fact (IsKept R c found published (Some x)) in let In : Fml = fact (InBlock c.slot) in
+    pub lends_claim : (t : Learnt R.Denot) → Lends 𝓛 (claim_owns R β w table c t found published) (claim_shares R β c.slot t found published) l
+    lends_claim (Holding x) = λ κ ts inc sp. let ν : Lft = κ ++ β in let P : Fml = claim_owns R β w table c (Holding x) found published in let Told : Fml = fact (IsKept R found published (Holding x)) in let In : Fml = fact (InBlock c.slot) in
         let sm : Incl (span ts) ν = ⊑_meet (span ts) κ β sp (Incl-trans inc le) in
         let within : Incl ν β = meet_⊑_right κ β in let Got : Pr = ⟦ Told ⟧ ∗ ⟦ In ⟧ ∗ ⟦ Saw β R L w table c x found published ν within ⟧ in
         qed 𝓛 (‵ (fbor κ P) ∷ raw (lfts 𝓛 ts) ∷ []) ∵ updating ! $ use1 𝓛 (‵ (fbor ν P)) (𝓛.bors.bor_shorten κ ν P (meet_⊑_left κ β)) $
@@ -223,5 +235,7 @@ module _ {M : Type 1} {𝓤 : Ura M} (𝓛 : Logic 𝓤) where
         split ! $ split3 ! $ move ! (2 ∷ []) $ fpick ! (λ j. move ! (0 ∷ 3 ∷ []) $ use2 𝓛 (later (‵ (Lent x κ) ⊛ raw (lfts 𝓛 ts))) (finish x κ within ts inc sm j) $ await ! tt $ split ! $
         -- [what is shared; the tokens; what is kept; the block]
         move ! (3 ∷ 0 ∷ []) $ fjoin ! $ move ! (2 ∷ 0 ∷ []) $ fjoin ! $ now ! $ keep ! (0 ∷ 1 ∷ []) $ done !)
-    lends_claim None = λ κ ts inc sp. let P : Fml = claim_owns R β w table c None found published in let Told : Fml = fact (IsKept R c found published None) in
-        qed 𝓛 (‵ (fbor κ P) ∷ raw (lfts 𝓛 ts) ∷ []) ∵ updating ! $ use2 𝓛 (later (‵ Told ⊛ raw (lfts 𝓛 ts))) (by_one 𝓛 κ ts sp (A.bor κ P) ⟦ Told ⟧ (none_at κ)) $ await ! tt $ split ! $ anything ! $ move ! (1 ∷ 0 ∷ []) $ fjoin ! $ now ! $ done !
+    lends_claim Unknown = shows_none Unknown
+    lends_claim Missing = shows_none Missing
+    lends_claim Stood = shows_none Stood
+    lends_claim Vacant = shows_none Vacant

@@ -1,5 +1,6 @@
 pub mod Early
 pub mod Installs
+pub mod Learning
 pub mod Lending
 pub mod Moves
 pub mod Sent

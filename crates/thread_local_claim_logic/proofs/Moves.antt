@@ -11,7 +11,7 @@ use denote.RattleType.{RattleType}
 use Rattle.std.specs.Coded.{coded_option}
 use Rattle.thread_local_rights.specs.Rights.{right_owns}
 use Rattle.thread_local_rights.proofs.Elements.{right_once}
-use Rattle.thread_local_shared_word_logic.specs.Shared.{Turn, Who, free, claimed, early, value_code, pinned, opened, holds, stands, had}
+use Rattle.thread_local_shared_word_logic.specs.Shared.{Turn, Who, free, claimed, early, value_code, pinned, opened, holds, stays, had}
 
 some_alike : {X : Type 0} {x y : X} → ◌≡◌ {A = Option X} (Some x) (Some y) → x ≡ y
 some_alike {X} {x} e = ap {A = Option X} (λ o. elim o as (λ _. X) [ Some z ↦ z | None ↦ x ]) e
@@ -40,8 +40,8 @@ module _ {M : Type 1} {𝓤 : Ura M} (𝓛 : Logic 𝓤) (R : RattleType) (t : T
   abbrev pub Holds : Option R.Denot → Fml
   Holds v = holds R t b ν k e η v
 
-  abbrev pub Stands : Option R.Denot → Fml
-  Stands v = stands R t b ν k e η v
+  abbrev pub Stays : Option R.Denot → Fml
+  Stays v = stays R t b ν k e η v
 
   abbrev pub Had : Option R.Denot → Who → Fml
   Had v w = had R t b ν table k e η v w
@@ -63,18 +63,18 @@ module _ {M : Type 1} {𝓤 : Ura M} (𝓛 : Logic 𝓤) (R : RattleType) (t : T
   claims v early = qed 𝓛 (‵ (Had v early) ∷ ‵ Right ∷ []) ∵ fsplit ! $ keep ! (0 ∷ 2 ∷ []) $ by ! (twice table _)
 
   -- whoever came before the block stood finds its slot empty, claims it
-  pub early_claims : (v : Option R.Denot) (w : Who) → ⟦ Stands v ⟧ ∗ ⟦ Had v w ⟧ ∗ ⟦ Pass ⟧ ⊢ guard 𝓤 (v ≡ None) (⟦ Stands v ⟧ ∗ ⟦ Had v claimed ⟧ ∗ ⟦ Holds None ⟧)
-  early_claims v free = qed 𝓛 (‵ (Stands v) ∷ ‵ (Had v free) ∷ ‵ Pass ∷ []) ∵ drop ! $ fsplit ! $ keep ! (0 ∷ 2 ∷ []) $ by ! (twice t.pass _)
-  early_claims v claimed = qed 𝓛 (‵ (Stands v) ∷ ‵ (Had v claimed) ∷ ‵ Pass ∷ []) ∵ drop ! $ fsplit ! $ keep ! (1 ∷ 2 ∷ []) $ by ! (twice t.pass _)
-  early_claims (Some x) early = qed 𝓛 (‵ (Stands (Some x)) ∷ ‵ (Had (Some x) early) ∷ ‵ Pass ∷ []) ∵ fsplit3 ! $ move ! (3 ∷ []) $ fsplit ! $ move ! (1 ∷ []) $ fsplit3 ! $ keep ! (0 ∷ 4 ∷ []) $ by ! (twice t.vacant _)
-  early_claims None early = qed 𝓛 (‵ (Stands None) ∷ ‵ (Had None early) ∷ ‵ Pass ∷ []) ∵ check ! refl $ move ! (1 ∷ []) $ fsplit ! $ move ! (0 ∷ 3 ∷ []) $ fjoin ! $ move ! (2 ∷ 0 ∷ 1 ∷ []) $ done !
+  pub early_claims : (v : Option R.Denot) (w : Who) → ⟦ Stays v ⟧ ∗ ⟦ Had v w ⟧ ∗ ⟦ Pass ⟧ ⊢ guard 𝓤 (v ≡ None) (⟦ Stays v ⟧ ∗ ⟦ Had v claimed ⟧ ∗ ⟦ Holds None ⟧)
+  early_claims v free = qed 𝓛 (‵ (Stays v) ∷ ‵ (Had v free) ∷ ‵ Pass ∷ []) ∵ drop ! $ fsplit ! $ keep ! (0 ∷ 2 ∷ []) $ by ! (twice t.pass _)
+  early_claims v claimed = qed 𝓛 (‵ (Stays v) ∷ ‵ (Had v claimed) ∷ ‵ Pass ∷ []) ∵ drop ! $ fsplit ! $ keep ! (1 ∷ 2 ∷ []) $ by ! (twice t.pass _)
+  early_claims (Some x) early = qed 𝓛 (‵ (Stays (Some x)) ∷ ‵ (Had (Some x) early) ∷ ‵ Pass ∷ []) ∵ fsplit3 ! $ move ! (3 ∷ []) $ fsplit ! $ move ! (1 ∷ []) $ fsplit3 ! $ keep ! (0 ∷ 4 ∷ []) $ by ! (twice t.vacant _)
+  early_claims None early = qed 𝓛 (‵ (Stays None) ∷ ‵ (Had None early) ∷ ‵ Pass ∷ []) ∵ check ! refl $ move ! (1 ∷ []) $ fsplit ! $ move ! (0 ∷ 3 ∷ []) $ fjoin ! $ move ! (2 ∷ 0 ∷ 1 ∷ []) $ done !
 
   -- or takes its right back and leaves it
-  pub early_leaves : (v : Option R.Denot) (w : Who) → ⟦ Stands v ⟧ ∗ ⟦ Had v w ⟧ ∗ ⟦ Pass ⟧ ⊢ guard 𝓤 (v ≡ None) (⟦ Stands v ⟧ ∗ ⟦ Had v free ⟧ ∗ ⟦ Right ⟧)
-  early_leaves v free = qed 𝓛 (‵ (Stands v) ∷ ‵ (Had v free) ∷ ‵ Pass ∷ []) ∵ drop ! $ fsplit ! $ keep ! (0 ∷ 2 ∷ []) $ by ! (twice t.pass _)
-  early_leaves v claimed = qed 𝓛 (‵ (Stands v) ∷ ‵ (Had v claimed) ∷ ‵ Pass ∷ []) ∵ drop ! $ fsplit ! $ keep ! (1 ∷ 2 ∷ []) $ by ! (twice t.pass _)
-  early_leaves (Some x) early = qed 𝓛 (‵ (Stands (Some x)) ∷ ‵ (Had (Some x) early) ∷ ‵ Pass ∷ []) ∵ fsplit3 ! $ move ! (3 ∷ []) $ fsplit ! $ move ! (1 ∷ []) $ fsplit3 ! $ keep ! (0 ∷ 4 ∷ []) $ by ! (twice t.vacant _)
-  early_leaves None early = qed 𝓛 (‵ (Stands None) ∷ ‵ (Had None early) ∷ ‵ Pass ∷ []) ∵ check ! refl $ move ! (1 ∷ []) $ fsplit ! $ move ! (3 ∷ 1 ∷ []) $ fjoin ! $ move ! (2 ∷ 0 ∷ 1 ∷ []) $ done !
+  pub early_leaves : (v : Option R.Denot) (w : Who) → ⟦ Stays v ⟧ ∗ ⟦ Had v w ⟧ ∗ ⟦ Pass ⟧ ⊢ guard 𝓤 (v ≡ None) (⟦ Stays v ⟧ ∗ ⟦ Had v free ⟧ ∗ ⟦ Right ⟧)
+  early_leaves v free = qed 𝓛 (‵ (Stays v) ∷ ‵ (Had v free) ∷ ‵ Pass ∷ []) ∵ drop ! $ fsplit ! $ keep ! (0 ∷ 2 ∷ []) $ by ! (twice t.pass _)
+  early_leaves v claimed = qed 𝓛 (‵ (Stays v) ∷ ‵ (Had v claimed) ∷ ‵ Pass ∷ []) ∵ drop ! $ fsplit ! $ keep ! (1 ∷ 2 ∷ []) $ by ! (twice t.pass _)
+  early_leaves (Some x) early = qed 𝓛 (‵ (Stays (Some x)) ∷ ‵ (Had (Some x) early) ∷ ‵ Pass ∷ []) ∵ fsplit3 ! $ move ! (3 ∷ []) $ fsplit ! $ move ! (1 ∷ []) $ fsplit3 ! $ keep ! (0 ∷ 4 ∷ []) $ by ! (twice t.vacant _)
+  early_leaves None early = qed 𝓛 (‵ (Stays None) ∷ ‵ (Had None early) ∷ ‵ Pass ∷ []) ∵ check ! refl $ move ! (1 ∷ []) $ fsplit ! $ move ! (3 ∷ 1 ∷ []) $ fjoin ! $ move ! (2 ∷ 0 ∷ 1 ∷ []) $ done !
 
   -- two that know a slot's value know the same
   pub pinned_alike : (x y : R.Denot) → ⟦ pinned R η x ⟧ ∗ ⟦ pinned R η y ⟧ ⊢ guard 𝓤 (x ≡ y) (⟦ pinned R η x ⟧ ∗ ⟦ pinned R η y ⟧)
@@ -83,22 +83,22 @@ module _ {M : Type 1} {𝓤 : Ura M} (𝓛 : Logic 𝓤) (R : RattleType) (t : T
       learn ! (λ same. check ! (some_alike ((coded_option R.coded).inj (Some x) (Some y) same)) $ split ! $ done !)
 
   -- whoever claims a slot knows what it holds, and that it is claimed
-  pub known : (v u : Option R.Denot) (w : Who) → ⟦ Stands v ⟧ ∗ ⟦ Had v w ⟧ ∗ ⟦ Holds u ⟧ ⊢ guard 𝓤 (v ≡ u) (⟦ Stands v ⟧ ∗ ⟦ Had v claimed ⟧ ∗ ⟦ Holds u ⟧)
-  known (Some x) (Some y) early = qed 𝓛 (‵ (Stands (Some x)) ∷ ‵ (Had (Some x) early) ∷ ‵ (Holds (Some y)) ∷ []) ∵ fsplit3 ! $ move ! (3 ∷ []) $ fsplit ! $ move ! (1 ∷ []) $ fsplit3 ! $ keep ! (0 ∷ 4 ∷ []) $ by ! (twice t.vacant _)
-  known None None early = qed 𝓛 (‵ (Stands None) ∷ ‵ (Had None early) ∷ ‵ (Holds None) ∷ []) ∵ drop ! $ fsplit ! $ move ! (1 ∷ []) $ fsplit3 ! $ move ! (4 ∷ []) $ fsplit3 ! $ keep ! (0 ∷ 3 ∷ []) $ by ! (twice t.vacant _)
-  known (Some x) (Some y) free = qed 𝓛 (‵ (Stands (Some x)) ∷ ‵ (Had (Some x) free) ∷ ‵ (Holds (Some y)) ∷ []) ∵ drop ! $ fsplit ! $ move ! (1 ∷ []) $ fsplit3 ! $ move ! (4 ∷ []) $ fsplit3 ! $ keep ! (0 ∷ 3 ∷ []) $ by ! (twice t.filled _)
-  known (Some x) (Some y) claimed = qed 𝓛 (‵ (Stands (Some x)) ∷ ‵ (Had (Some x) claimed) ∷ ‵ (Holds (Some y)) ∷ []) ∵ fsplit3 ! $ move ! (4 ∷ []) $ fsplit3 ! $ move ! (4 ∷ 1 ∷ []) $
+  pub known : (v u : Option R.Denot) (w : Who) → ⟦ Stays v ⟧ ∗ ⟦ Had v w ⟧ ∗ ⟦ Holds u ⟧ ⊢ guard 𝓤 (v ≡ u) (⟦ Stays v ⟧ ∗ ⟦ Had v claimed ⟧ ∗ ⟦ Holds u ⟧)
+  known (Some x) (Some y) early = qed 𝓛 (‵ (Stays (Some x)) ∷ ‵ (Had (Some x) early) ∷ ‵ (Holds (Some y)) ∷ []) ∵ fsplit3 ! $ move ! (3 ∷ []) $ fsplit ! $ move ! (1 ∷ []) $ fsplit3 ! $ keep ! (0 ∷ 4 ∷ []) $ by ! (twice t.vacant _)
+  known None None early = qed 𝓛 (‵ (Stays None) ∷ ‵ (Had None early) ∷ ‵ (Holds None) ∷ []) ∵ drop ! $ fsplit ! $ move ! (1 ∷ []) $ fsplit3 ! $ move ! (4 ∷ []) $ fsplit3 ! $ keep ! (0 ∷ 3 ∷ []) $ by ! (twice t.vacant _)
+  known (Some x) (Some y) free = qed 𝓛 (‵ (Stays (Some x)) ∷ ‵ (Had (Some x) free) ∷ ‵ (Holds (Some y)) ∷ []) ∵ drop ! $ fsplit ! $ move ! (1 ∷ []) $ fsplit3 ! $ move ! (4 ∷ []) $ fsplit3 ! $ keep ! (0 ∷ 3 ∷ []) $ by ! (twice t.filled _)
+  known (Some x) (Some y) claimed = qed 𝓛 (‵ (Stays (Some x)) ∷ ‵ (Had (Some x) claimed) ∷ ‵ (Holds (Some y)) ∷ []) ∵ fsplit3 ! $ move ! (4 ∷ []) $ fsplit3 ! $ move ! (4 ∷ 1 ∷ []) $
       use2 𝓛 (given (x ≡ y) (‵ (pinned R η x) ⊛ ‵ (pinned R η y))) (pinned_alike x y) $ learn ! (λ same. check ! (ap Some same) $ split ! $
       -- [the two; filled; by; vacant; opened; had]
       move ! (4 ∷ 0 ∷ 5 ∷ []) $ fjoin3 ! $ move ! (2 ∷ 1 ∷ 3 ∷ []) $ fjoin3 ! $ move ! (1 ∷ 2 ∷ 0 ∷ []) $ done !)
-  known (Some x) None w = qed 𝓛 (‵ (Stands (Some x)) ∷ ‵ (Had (Some x) w) ∷ ‵ (Holds None) ∷ []) ∵ fsplit3 ! $ move ! (4 ∷ []) $ fsplit3 ! $ keep ! (0 ∷ 3 ∷ []) $ by ! (twice t.vacant _)
-  known None (Some y) w = qed 𝓛 (‵ (Stands None) ∷ ‵ (Had None w) ∷ ‵ (Holds (Some y)) ∷ []) ∵ move ! (2 ∷ []) $ fsplit3 ! $ keep ! (0 ∷ 3 ∷ []) $ by ! (twice t.filled _)
-  known None None free = qed 𝓛 (‵ (Stands None) ∷ ‵ (Had None free) ∷ ‵ (Holds None) ∷ []) ∵ drop ! $ fsplit ! $ move ! (1 ∷ []) $ fsplit3 ! $ move ! (4 ∷ []) $ fsplit3 ! $ keep ! (0 ∷ 3 ∷ []) $ by ! (twice t.vacant _)
-  known None None claimed = qed 𝓛 (‵ (Stands None) ∷ ‵ (Had None claimed) ∷ ‵ (Holds None) ∷ []) ∵ check ! refl $ done !
+  known (Some x) None w = qed 𝓛 (‵ (Stays (Some x)) ∷ ‵ (Had (Some x) w) ∷ ‵ (Holds None) ∷ []) ∵ fsplit3 ! $ move ! (4 ∷ []) $ fsplit3 ! $ keep ! (0 ∷ 3 ∷ []) $ by ! (twice t.vacant _)
+  known None (Some y) w = qed 𝓛 (‵ (Stays None) ∷ ‵ (Had None w) ∷ ‵ (Holds (Some y)) ∷ []) ∵ move ! (2 ∷ []) $ fsplit3 ! $ keep ! (0 ∷ 3 ∷ []) $ by ! (twice t.filled _)
+  known None None free = qed 𝓛 (‵ (Stays None) ∷ ‵ (Had None free) ∷ ‵ (Holds None) ∷ []) ∵ drop ! $ fsplit ! $ move ! (1 ∷ []) $ fsplit3 ! $ move ! (4 ∷ []) $ fsplit3 ! $ keep ! (0 ∷ 3 ∷ []) $ by ! (twice t.vacant _)
+  known None None claimed = qed 𝓛 (‵ (Stays None) ∷ ‵ (Had None claimed) ∷ ‵ (Holds None) ∷ []) ∵ check ! refl $ done !
 
   -- a claim is given back
-  pub releases : (v u : Option R.Denot) (w : Who) → ⟦ Stands v ⟧ ∗ ⟦ Had v w ⟧ ∗ ⟦ Holds u ⟧ ⊢ guard 𝓤 (v ≡ u) (⟦ Stands v ⟧ ∗ ⟦ Had v free ⟧ ∗ ⟦ Right ⟧)
-  releases v u w = qed 𝓛 (‵ (Stands v) ∷ ‵ (Had v w) ∷ ‵ (Holds u) ∷ []) ∵ use3 𝓛 (given (v ≡ u) (‵ (Stands v) ⊛ ‵ (Had v claimed) ⊛ ‵ (Holds u))) (known v u w) $ learn ! (λ same. check ! same $ split3 ! $
+  pub releases : (v u : Option R.Denot) (w : Who) → ⟦ Stays v ⟧ ∗ ⟦ Had v w ⟧ ∗ ⟦ Holds u ⟧ ⊢ guard 𝓤 (v ≡ u) (⟦ Stays v ⟧ ∗ ⟦ Had v free ⟧ ∗ ⟦ Right ⟧)
+  releases v u w = qed 𝓛 (‵ (Stays v) ∷ ‵ (Had v w) ∷ ‵ (Holds u) ∷ []) ∵ use3 𝓛 (given (v ≡ u) (‵ (Stays v) ⊛ ‵ (Had v claimed) ⊛ ‵ (Holds u))) (known v u w) $ learn ! (λ same. check ! same $ split3 ! $
       move ! (1 ∷ []) $ fsplit ! $ move ! (3 ∷ []) $ rewrite ! 0 (λ (z : Option R.Denot). ‵ (Holds z)) (sym same) refl $ move ! (2 ∷ 0 ∷ []) $ fjoin ! $ move ! (2 ∷ 0 ∷ 1 ∷ []) $ done !)
 
   -- what a publishing leaves with the slot
@@ -106,8 +106,8 @@ module _ {M : Type 1} {𝓤 : Ura M} (𝓛 : Logic 𝓤) (R : RattleType) (t : T
   Offer x = fsep (right_owns t.vacant k) (fsep (pinned R η x) (opened R t b ν e x))
 
   -- a value is published in a slot that is claimed and holds none
-  pub publishes : (v : Option R.Denot) (w : Who) (x : R.Denot) → ⟦ Stands v ⟧ ∗ ⟦ Had v w ⟧ ∗ ⟦ Offer x ⟧ ⊢ ⟦ Stands (Some x) ⟧ ∗ ⟦ Had (Some x) claimed ⟧ ∗ ⟦ right_owns t.filled k ⟧
-  publishes (Some z) w x = qed 𝓛 (‵ (Stands (Some z)) ∷ ‵ (Had (Some z) w) ∷ ‵ (Offer x) ∷ []) ∵ fsplit3 ! $ move ! (4 ∷ []) $ fsplit3 ! $ keep ! (0 ∷ 3 ∷ []) $ by ! (twice t.vacant _)
-  publishes None free x = qed 𝓛 (‵ (Stands None) ∷ ‵ (Had None free) ∷ ‵ (Offer x) ∷ []) ∵ drop ! $ fsplit ! $ move ! (1 ∷ []) $ fsplit3 ! $ move ! (4 ∷ []) $ fsplit3 ! $ keep ! (0 ∷ 3 ∷ []) $ by ! (twice t.vacant _)
-  publishes None early x = qed 𝓛 (‵ (Stands None) ∷ ‵ (Had None early) ∷ ‵ (Offer x) ∷ []) ∵ drop ! $ fsplit ! $ move ! (1 ∷ []) $ fsplit3 ! $ move ! (4 ∷ []) $ fsplit3 ! $ keep ! (0 ∷ 3 ∷ []) $ by ! (twice t.vacant _)
-  publishes None claimed x = qed 𝓛 (‵ (Stands None) ∷ ‵ (Had None claimed) ∷ ‵ (Offer x) ∷ []) ∵ move ! (2 ∷ 1 ∷ 0 ∷ []) $ done !
+  pub publishes : (v : Option R.Denot) (w : Who) (x : R.Denot) → ⟦ Stays v ⟧ ∗ ⟦ Had v w ⟧ ∗ ⟦ Offer x ⟧ ⊢ ⟦ Stays (Some x) ⟧ ∗ ⟦ Had (Some x) claimed ⟧ ∗ ⟦ right_owns t.filled k ⟧
+  publishes (Some z) w x = qed 𝓛 (‵ (Stays (Some z)) ∷ ‵ (Had (Some z) w) ∷ ‵ (Offer x) ∷ []) ∵ fsplit3 ! $ move ! (4 ∷ []) $ fsplit3 ! $ keep ! (0 ∷ 3 ∷ []) $ by ! (twice t.vacant _)
+  publishes None free x = qed 𝓛 (‵ (Stays None) ∷ ‵ (Had None free) ∷ ‵ (Offer x) ∷ []) ∵ drop ! $ fsplit ! $ move ! (1 ∷ []) $ fsplit3 ! $ move ! (4 ∷ []) $ fsplit3 ! $ keep ! (0 ∷ 3 ∷ []) $ by ! (twice t.vacant _)
+  publishes None early x = qed 𝓛 (‵ (Stays None) ∷ ‵ (Had None early) ∷ ‵ (Offer x) ∷ []) ∵ drop ! $ fsplit ! $ move ! (1 ∷ []) $ fsplit3 ! $ move ! (4 ∷ []) $ fsplit3 ! $ keep ! (0 ∷ 3 ∷ []) $ by ! (twice t.vacant _)
+  publishes None claimed x = qed 𝓛 (‵ (Stays None) ∷ ‵ (Had None claimed) ∷ ‵ (Offer x) ∷ []) ∵ move ! (2 ∷ 1 ∷ 0 ∷ []) $ done !

@@ -11,12 +11,12 @@ use denote.RawPtr.{block_ptr, block_of, count_of}
 use Rattle.std.specs.Sync.RawAtomic.{asks, always}
 use Rattle.thread_local_rights.specs.Rights.{right_owns}
 use Rattle.thread_local_blocks.specs.Slots.{fact, flag_of, stride}
-use Rattle.thread_local_shared_word_logic.specs.Shared.{name_at, Named, Turn, Standing, Who, free, claimed, first}
+use Rattle.thread_local_shared_word_logic.specs.Shared.{name_at, WordView, Turn, Standing, Who, free, claimed, first}
 use Rattle.thread_local_claim_logic.specs.Claims.{waits, IsTold}
 use Rattle.thread_local_shared_word_logic.proofs.Steps as general
 use Rattle.thread_local_claim_logic.proofs.Moves as moves
 
-module _ {M : Type 1} {𝓤 : Ura M} (𝓛 : Logic 𝓤) (R : RattleType) (d : Named) (t : Turn) (wb wo : ℕ) (s : Standing) (i k e b : ℕ) (low : i < length s.names) (at_k : k ≡ i + first R d) (at_e : e ≡ i * stride R + count_of s.at) (at_b : block_of s.at ≡ b) where
+module _ {M : Type 1} {𝓤 : Ura M} (𝓛 : Logic 𝓤) (R : RattleType) (d : WordView) (t : Turn) (wb wo : ℕ) (s : Standing) (i k e b : ℕ) (low : i < length s.names) (at_k : k ≡ i + first R d) (at_e : e ≡ i * stride R + count_of s.at) (at_b : block_of s.at ≡ b) where
   open 𝓛 use {H, A}
 
   abbrev Pr : Type 2
@@ -46,8 +46,8 @@ module _ {M : Type 1} {𝓤 : Ura M} (𝓛 : Logic 𝓤) (R : RattleType) (d : N
   abbrev Which : Fml
   Which = general.Which 𝓛 R d t wb wo s i k e b low at_k at_e at_b
 
-  abbrev Stands : Option R.Denot → Fml
-  Stands = general.Stands 𝓛 R d t wb wo s i k e b low at_k at_e at_b
+  abbrev Stays : Option R.Denot → Fml
+  Stays = general.Stays 𝓛 R d t wb wo s i k e b low at_k at_e at_b
 
   abbrev Had : Option R.Denot → Who → Fml
   Had = general.Had 𝓛 R d t wb wo s i k e b low at_k at_e at_b
@@ -66,13 +66,13 @@ module _ {M : Type 1} {𝓤 : Ura M} (𝓛 : Logic 𝓤) (R : RattleType) (d : N
 
   -- what a claim has is given back for its right
   pub releases : (q : Share) (u : Option R.Denot) → A.inv (fbor t.life I) ∗ A.lft t.life q ∗ ⟦ Which ⟧ ∗ ⟦ Holds u ⟧ ⊢ H.⇛ (⟦ Right ⟧ ∗ A.lft t.life q)
-  releases q u = general.moved 𝓛 R d t wb wo s i k e b low at_k at_e at_b q ⟦ Holds u ⟧ ⟦ Right ⟧ (λ v w. qed 𝓛 (‵ (Stands v) ∷ ‵ (Had v w) ∷ ‵ (Holds u) ∷ []) ∵
-      use3 𝓛 (given (v ≡ u) (‵ (Stands v) ⊛ ‵ (Had v free) ⊛ ‵ Right)) (moves.releases 𝓛 R t b s.own d.table k e η v u w) $ learn ! (λ same. show ! (Left v ⟦ Right ⟧) free $ split3 ! $ done !))
+  releases q u = general.moved 𝓛 R d t wb wo s i k e b low at_k at_e at_b q ⟦ Holds u ⟧ ⟦ Right ⟧ (λ v w. qed 𝓛 (‵ (Stays v) ∷ ‵ (Had v w) ∷ ‵ (Holds u) ∷ []) ∵
+      use3 𝓛 (given (v ≡ u) (‵ (Stays v) ⊛ ‵ (Had v free) ⊛ ‵ Right)) (moves.releases 𝓛 R t b s.own d.table k e η v u w) $ learn ! (λ same. show ! (Left v ⟦ Right ⟧) free $ split3 ! $ done !))
 
   -- what came before the block finds its slot empty
   pub comes_in : (q : Share) → A.inv (fbor t.life I) ∗ A.lft t.life q ∗ ⟦ Which ⟧ ∗ ⟦ right_owns t.pass k ⟧ ⊢ H.⇛ (⟦ Holds None ⟧ ∗ A.lft t.life q)
-  comes_in q = general.moved 𝓛 R d t wb wo s i k e b low at_k at_e at_b q ⟦ right_owns t.pass k ⟧ ⟦ Holds None ⟧ (λ v w. qed 𝓛 (‵ (Stands v) ∷ ‵ (Had v w) ∷ ‵ (right_owns t.pass k) ∷ []) ∵
-      use3 𝓛 (given (v ≡ None) (‵ (Stands v) ⊛ ‵ (Had v claimed) ⊛ ‵ (Holds None))) (moves.early_claims 𝓛 R t b s.own d.table k e η v w) $ learn ! (λ none. show ! (Left v ⟦ Holds None ⟧) claimed $ split3 ! $ done !))
+  comes_in q = general.moved 𝓛 R d t wb wo s i k e b low at_k at_e at_b q ⟦ right_owns t.pass k ⟧ ⟦ Holds None ⟧ (λ v w. qed 𝓛 (‵ (Stays v) ∷ ‵ (Had v w) ∷ ‵ (right_owns t.pass k) ∷ []) ∵
+      use3 𝓛 (given (v ≡ None) (‵ (Stays v) ⊛ ‵ (Had v claimed) ⊛ ‵ (Holds None))) (moves.early_claims 𝓛 R t b s.own d.table k e η v w) $ learn ! (λ none. show ! (Left v ⟦ Holds None ⟧) claimed $ split3 ! $ done !))
 
   -- what a claim finds: its flag, and what the slot holds
   abbrev pub Found : Bool → ℕ → Fml
@@ -82,17 +82,17 @@ module _ {M : Type 1} {𝓤 : Ura M} (𝓛 : Logic 𝓤) (R : RattleType) (d : N
   pub arrives : (q : Share) (looked : Bool) → A.inv (fbor t.life I) ∗ (A.lft t.life q ∗ (⟦ Which ⟧ ∗ ⟦ waits looked d.table t.pass k ⟧)) ⊢ asks 𝓛 (block_ptr b (e + 0)) (λ n. n) always (λ n. fsep (flft t.life q) (Found looked n))
   arrives q looked = general.stepped 𝓛 R d t wb wo s i k e b low at_k at_e at_b q (λ n. n) (Found looked) (waits looked d.table t.pass k) (law looked)
     where
-      found : (l : Bool) (v u : Option R.Denot) → IsTold l (flag_of v) u → ⟦ Stands v ⟧ ∗ ⟦ Had v claimed ⟧ ∗ ⟦ Holds u ⟧ ⊢ ex 𝓤 (Turned q (λ n. n) (Found l) v)
-      found l v u told = qed 𝓛 (‵ (Stands v) ∷ ‵ (Had v claimed) ∷ ‵ (Holds u) ∷ []) ∵ show ! (Turned q (λ n. n) (Found l) v) (v, claimed) $ check ! refl $ frame ! $ frame ! $
+      found : (l : Bool) (v u : Option R.Denot) → IsTold l (flag_of v) u → ⟦ Stays v ⟧ ∗ ⟦ Had v claimed ⟧ ∗ ⟦ Holds u ⟧ ⊢ ex 𝓤 (Turned q (λ n. n) (Found l) v)
+      found l v u told = qed 𝓛 (‵ (Stays v) ∷ ‵ (Had v claimed) ∷ ‵ (Holds u) ∷ []) ∵ show ! (Turned q (λ n. n) (Found l) v) (v, claimed) $ check ! refl $ frame ! $ frame ! $
           nothing ! $ fpack ! (IsTold l (flag_of v) u) (λ _. ftrue) told $ fjoin ! $ fpack ! (Option R.Denot) (λ u'. fsep (fact (IsTold l (flag_of v) u')) (Holds u')) u $ done !
 
-      law : (l : Bool) (v : Option R.Denot) (w : Who) → ⟦ Stands v ⟧ ∗ ⟦ Had v w ⟧ ∗ ⟦ waits l d.table t.pass k ⟧ ⊢ ex 𝓤 (Turned q (λ n. n) (Found l) v)
-      law false v w = qed 𝓛 (‵ (Stands v) ∷ ‵ (Had v w) ∷ ‵ Right ∷ []) ∵ move ! (1 ∷ 2 ∷ []) $ use2 𝓛 (‵ (Had v claimed) ⊛ ‵ (Holds v)) (moves.claims 𝓛 R t b s.own d.table k e η v w) $ split ! $ move ! (2 ∷ 0 ∷ 1 ∷ []) $
+      law : (l : Bool) (v : Option R.Denot) (w : Who) → ⟦ Stays v ⟧ ∗ ⟦ Had v w ⟧ ∗ ⟦ waits l d.table t.pass k ⟧ ⊢ ex 𝓤 (Turned q (λ n. n) (Found l) v)
+      law false v w = qed 𝓛 (‵ (Stays v) ∷ ‵ (Had v w) ∷ ‵ Right ∷ []) ∵ move ! (1 ∷ 2 ∷ []) $ use2 𝓛 (‵ (Had v claimed) ⊛ ‵ (Holds v)) (moves.claims 𝓛 R t b s.own d.table k e η v w) $ split ! $ move ! (2 ∷ 0 ∷ 1 ∷ []) $
           by ! (found false v v (refl, (λ no. let n : false ≡ true = no in cc)))
-      law true v w = qed 𝓛 (‵ (Stands v) ∷ ‵ (Had v w) ∷ ‵ (right_owns t.pass k) ∷ []) ∵ use3 𝓛 (given (v ≡ None) (‵ (Stands v) ⊛ ‵ (Had v claimed) ⊛ ‵ (Holds None))) (moves.early_claims 𝓛 R t b s.own d.table k e η v w) $ learn ! (λ none. split3 ! $
+      law true v w = qed 𝓛 (‵ (Stays v) ∷ ‵ (Had v w) ∷ ‵ (right_owns t.pass k) ∷ []) ∵ use3 𝓛 (given (v ≡ None) (‵ (Stays v) ⊛ ‵ (Had v claimed) ⊛ ‵ (Holds None))) (moves.early_claims 𝓛 R t b s.own d.table k e η v w) $ learn ! (λ none. split3 ! $
           by ! (found true v None (ap flag_of none, (λ _. refl))))
 
   -- a store of the flag publishes a value
   pub publishes : (q : Share) (x : R.Denot) → A.inv (fbor t.life I) ∗ (A.lft t.life q ∗ (⟦ Which ⟧ ∗ ⟦ moves.Offer 𝓛 R t b s.own d.table k e η x ⟧)) ⊢ asks 𝓛 (block_ptr b (e + 0)) (λ _. 1) always (λ _. fsep (flft t.life q) (right_owns t.filled k))
-  publishes q x = let Filled : ℕ → Fml = λ _. right_owns t.filled k in let Offered : Fml = moves.Offer 𝓛 R t b s.own d.table k e η x in general.stepped 𝓛 R d t wb wo s i k e b low at_k at_e at_b q (λ _. 1) Filled Offered (λ v w. qed 𝓛 (‵ (Stands v) ∷ ‵ (Had v w) ∷ ‵ Offered ∷ []) ∵
-      use3 𝓛 (‵ (Stands (Some x)) ⊛ ‵ (Had (Some x) claimed) ⊛ ‵ (right_owns t.filled k)) (moves.publishes 𝓛 R t b s.own d.table k e η v w x) $ split3 ! $ show ! (Turned q (λ _. 1) Filled v) (Some x, claimed) $ check ! refl $ done !)
+  publishes q x = let Filled : ℕ → Fml = λ _. right_owns t.filled k in let Offered : Fml = moves.Offer 𝓛 R t b s.own d.table k e η x in general.stepped 𝓛 R d t wb wo s i k e b low at_k at_e at_b q (λ _. 1) Filled Offered (λ v w. qed 𝓛 (‵ (Stays v) ∷ ‵ (Had v w) ∷ ‵ Offered ∷ []) ∵
+      use3 𝓛 (‵ (Stays (Some x)) ⊛ ‵ (Had (Some x) claimed) ⊛ ‵ (right_owns t.filled k)) (moves.publishes 𝓛 R t b s.own d.table k e η v w x) $ split3 ! $ show ! (Turned q (λ _. 1) Filled v) (Some x, claimed) $ check ! refl $ done !)

@@ -2,8 +2,10 @@
 -- A claim has the right to an id, under one sharing of the id's word. While the bucket is missing, its right lies with the word, and it has the pass of its slot.
 -- Once the bucket stands it has what the slot holds.
 use Rattle.std.specs.Prelude.{◌≡◌, ℕ, ◌+◌, ◌*◌, ◌<◌, Bool, true, false, Option, None, Some, is_some}
+use Rattle.thread_local_model.specs.Learnt.{Learnt, Unknown, Missing, Standing as Stood, Vacant, Holding}
+use Rattle.thread_local_claim_logic.specs.Known.{is_found, value_held}
 use mathlib.Core.Logic.{inl, inr}
-use base.Fml.{Lft, GName, Fml, fsep, fex}
+use base.Fml.{Lft, GName, Fml, ffalse, fsep, fex}
 use denote.RattleType.{RattleType}
 use denote.Memory.{shared_of}
 use denote.RawPtr.{Ptr, InBlock, block_ptr, block_of, count_of}
@@ -11,20 +13,18 @@ use denote.Sharing.{said, beside, within, some, held, nothing}
 use Rattle.thread_local_rights.specs.Rights.{right_owns}
 use Rattle.thread_local_judged.specs.Judged.{Judged}
 use Rattle.thread_local_blocks.specs.Slots.{fact, flag_of, stride, value_at}
-use Rattle.thread_local_shared_word_logic.specs.Shared.{name_at, Named, Turn, Standing, holds, first, len, kept, row}
+use Rattle.thread_local_shared_word_logic.specs.Shared.{name_at, WordView, Turn, Standing, holds, first, len, kept, loaded}
 
--- what a claim is, apart from its type's values: its id, the index of its slot, where the slot lies once it stands, whether it has looked
--- for the bucket, whether it has found it, and whether the bucket is reserved
+-- what a claim is, apart from its type's values: its id, the index of its slot, where the slot lies once it is found, and whether the
+-- bucket is reserved
 pub record Place : Type 0 where
   pub id : ℕ
   pub index : ℕ
   pub slot : Ptr
-  pub looked : Bool
-  pub stands : Bool
   pub reserved : Bool
 
-abbrev pub place_of : ℕ → ℕ → Ptr → Bool → Bool → Bool → Place
-place_of id index slot looked stands reserved = record { id = id; index = index; slot = slot; looked = looked; stands = stands; reserved = reserved }
+abbrev pub place_of : ℕ → ℕ → Ptr → Bool → Place
+place_of id index slot reserved = record { id = id; index = index; slot = slot; reserved = reserved }
 
 -- what a claim has before it has found the bucket: its right, and once it has looked in vain, the pass of its slot
 abbrev pub waits : Bool → GName → GName → ℕ → Fml
@@ -40,30 +40,34 @@ module _ (R : RattleType) where
   abbrev pub IsAt : Standing → Place → Type 0
   IsAt s c = c.slot ≡ block_ptr (block_of s.at) (c.index * stride R + count_of s.at)
 
-  module _ (d : Named) (t : Turn) (β : Lft) (c : Place) (v : Option R.Denot) where
-    -- what a claim has of a block that stands
-    abbrev pub has_slot : Standing → Fml
-    has_slot s = fsep (fact (IsAt s c)) (fsep (row R d t s β) (holds R t (block_of s.at) s.own c.id (c.index * stride R + count_of s.at) (name_at s.names c.index) v))
+  module _ (d : WordView) (t : Turn) (β : Lft) (c : Place) where
+    -- what a claim has of a block that stands, where the slot holds v
+    abbrev pub has_slot : Option R.Denot → Standing → Fml
+    has_slot v s = fsep (fact (IsAt s c)) (fsep (loaded R d t s β) (holds R t (block_of s.at) s.own c.id (c.index * stride R + count_of s.at) (name_at s.names c.index) v))
 
-    abbrev pub has : Bool → Fml
-    has false = fsep (fact (v ≡ None)) (waits c.looked d.table t.pass c.id)
-    has true = fex Standing has_slot
+    -- what it has, by what it has learnt; no claim knows of its bucket and not of its slot
+    abbrev pub has : Learnt R.Denot → Fml
+    has Unknown = right_owns d.table c.id
+    has Missing = right_owns t.pass c.id
+    has Stood = ffalse
+    has Vacant = fex Standing (has_slot None)
+    has (Holding x) = fex Standing (has_slot (Some x))
 
   -- what a claim keeps at run time is true of it
-  abbrev pub IsKept : Place → Bool → Bool → Option R.Denot → Type 0
-  IsKept c found published v = (found ≡ c.stands) × (published ≡ is_some v)
+  abbrev pub IsKept : Bool → Bool → Learnt R.Denot → Type 0
+  IsKept found published l = (found ≡ is_found l) × (published ≡ is_some (value_held l))
 
   -- the id is the one at the index
-  abbrev pub IsOf : Ptr → ℕ → Place → Named → Type 0
+  abbrev pub IsOf : Ptr → ℕ → Place → WordView → Type 0
   IsOf w table c d = InBlock w × Judged R × (d.table ≡ table) × (c.id ≡ c.index + first R d) × (c.index < len R d) × (d.reserved ≡ c.reserved)
 
-  module _ (β : Lft) (w : Ptr) (table : ℕ) (c : Place) (v : Option R.Denot) where
+  module _ (β : Lft) (w : Ptr) (table : ℕ) (c : Place) (l : Learnt R.Denot) where
     -- a claim of one sharing
-    abbrev pub has_at : Named × Turn → Fml
-    has_at z = fsep (fact (IsOf w table c z.0)) (fsep (kept R z.0 z.1 (block_of w) (count_of w + 0) β) (has z.0 z.1 β c v c.stands))
+    abbrev pub has_at : WordView × Turn → Fml
+    has_at z = fsep (fact (IsOf w table c z.0)) (fsep (kept R z.0 z.1 (block_of w) (count_of w + 0) β) (has z.0 z.1 β c l))
 
     abbrev pub claim_owns : Bool → Bool → Fml
-    claim_owns found published = fsep (fact (IsKept c found published v)) (fex (Named × Turn) has_at)
+    claim_owns found published = fsep (fact (IsKept found published l)) (fex (WordView × Turn) has_at)
 
   -- a `&` to the value for as long as the word is borrowed, where it names no thread
   abbrev pub lasts : Lft → ℕ → ℕ → R.Denot → Judged R → Lft → Fml
@@ -75,5 +79,5 @@ module _ (R : RattleType) where
   shown β p None = nothing
   shown β p (Some x) = beside (said (fact (InBlock p))) (beside (within β (shared_of R x (block_of p) (value_at R (count_of p)))) (some (Judged R) (lasts β (block_of p) (value_at R (count_of p)) x)))
 
-  abbrev pub claim_shares : Lft → Place → Option R.Denot → Bool → Bool → Lft → Fml
-  claim_shares β c v found published = beside (said (fact (IsKept c found published v))) (shown β c.slot v)
+  abbrev pub claim_shares : Lft → Ptr → Learnt R.Denot → Bool → Bool → Lft → Fml
+  claim_shares β p l found published = beside (said (fact (IsKept found published l))) (shown β p (value_held l))

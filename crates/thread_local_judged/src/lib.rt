@@ -2,7 +2,5 @@
 #![tactic(auto)]
 
 pub mod judged;
-#[cfg(test)]
-mod tests;
 
 pub use judged::{Judge, judge_sync, judged_alike, never_refuted};

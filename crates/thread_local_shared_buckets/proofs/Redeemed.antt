@@ -18,7 +18,7 @@ use Rattle.std.specs.contracts.impls.GlobalAllocator.TheImpl.{ghosts}
 use Rattle.std.proofs.GlobalToken.{dealloc_token-Testable}
 use Rattle.thread_local_blocks.specs.Slots.{heap_token, stride, block_ty, slot_ty, Fits, value_at, place, slot, along}
 use Rattle.thread_local_words.specs.Leads.{word_owns}
-use Rattle.thread_local_shared_word_logic.specs.Shared.{Named, slot_rests_as, slot_rests, slots_rest, Sized, len, at_rest}
+use Rattle.thread_local_shared_word_logic.specs.Shared.{WordView, slot_rests_as, slot_rests, slots_rest, Sized, len, at_rest}
 use Rattle.thread_local_shared_word_logic.proofs.Rested.{redeems}
 use Rattle.thread_local_shared_buckets.specs.Fit.{Fit}
 
@@ -74,7 +74,7 @@ module _ {M : Type 1} {𝓤 : Ura M} (𝓛 : Logic 𝓤) (R : RattleType) (L : L
       use1 𝓛 (given (Testable p) (‵ token)) (fact_use 𝓤 (Testable p) (dealloc_token-Testable 𝓛 a τ p) (guard_i 𝓤 (Testable p) ⟦ token ⟧)) $ learn ! (λ so. check ! so $
       fpack ! Global (λ h. ghosts.dealloc_token h τ p) a $ done !))
 
-  module _ (d : Named) where
+  module _ (d : WordView) where
     abbrev n : ℕ
     n = len R d
 

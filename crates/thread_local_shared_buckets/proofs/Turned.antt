@@ -26,7 +26,7 @@ use Rattle.thread_local_blocks.specs.Slots.{heap_token}
 use Rattle.thread_local_words.specs.Leads.{word_owns}
 use Rattle.thread_local_words.specs.contracts.word.Word as plain
 use Rattle.thread_local_words.proofs.word.Word.TheLaws as plain'
-use Rattle.thread_local_shared_word_logic.specs.Shared.{Named, at_rest}
+use Rattle.thread_local_shared_word_logic.specs.Shared.{WordView, at_rest}
 use Rattle.thread_local_shared_word.specs.contracts.word.SharedWord as shared
 use Rattle.thread_local_words.specs.Rows.{contents_of}
 use Rattle.thread_local_words.specs.contracts.row_of_words.RowOfWords as row_of_words
@@ -38,9 +38,9 @@ use Rattle.thread_local_shared_buckets.specs.contracts.parts.SharedWords as all_
 use Rattle.thread_local_shared_buckets.specs.contracts.parts.SharedRow as shared_row
 use Rattle.thread_local_buckets.proofs.buckets.Buckets.TheLaws as buckets'
 use Rattle.thread_local_shared_buckets.specs.contracts.shared.Shared as whole
-use Rattle.thread_local_shared_buckets.specs.Lent.{seen_with}
+use Rattle.thread_local_shared_buckets.specs.Lent.{view_with}
 use Rattle.thread_local_shared_buckets.specs.Fit.{Fit}
-use Rattle.thread_local_shared_buckets.specs.Seen.{Seen, seen, AreWords}
+use Rattle.thread_local_shared_buckets.specs.TableView.{TableView, view_of, AreWords}
 use Rattle.thread_local_shared_buckets.proofs.Lists.{Fits, fits_long, owned_of, are_owned, fit_all, table_words, all_words-length, table_named, table_seen}
 use Rattle.thread_local_shared_buckets.proofs.Redeemed.{redeems_word, rests_word}
 
@@ -77,66 +77,66 @@ module _ {M : Type 1} {𝓤 : Ura M} (𝓛 : Logic 𝓤) (R : RattleType) (L : L
   abbrev Data : Ptr → List Val → Fml
   Data p vs = (Struct (record { name = []; args = []; types = []; fields = denote.RawPtr.RawPtr ∷ [] })).own_val (p, tt) vs
 
-  abbrev Inside : Named → List Val → Ptr → Fml
+  abbrev Inside : WordView → List Val → Ptr → Fml
   Inside d vs p = fsep (Data p vs) (at_rest R d p)
 
   -- ---- one word
-  abbrev Turned : Named → List Val → W.Denot → Pr
+  abbrev Turned : WordView → List Val → W.Denot → Pr
   Turned d vs w = guard 𝓤 (Fit d w.slots) ⟦ W.own_val w vs ⟧
 
-  redeems_one : (d : Named) (vs : List Val) → ⟦ S.own_val d vs ⟧ ⊢ H.⇛ (ex 𝓤 (Turned d vs))
+  redeems_one : (d : WordView) (vs : List Val) → ⟦ S.own_val d vs ⟧ ⊢ H.⇛ (ex 𝓤 (Turned d vs))
   redeems_one d vs = qed 𝓛 (‵ (S.own_val d vs) ∷ []) ∵ updating ! $ fsplit3 ! $ drop ! $ drop ! $ fpick ! (λ p. fsplit ! $ move ! (1 ∷ []) $
       use1 𝓛 (later (some (λ (cs : List C). given (Fit d cs) (‵ (word_owns R heap_token p cs))))) (redeems_word 𝓛 R L d p) $ await ! tt $ pick ! (λ cs. learn ! (λ fit.
       now ! $ show ! (Turned d vs) (record { at = p; slots = cs }) $ check ! fit $ move ! (1 ∷ 0 ∷ []) $ fjoin ! $ done !)))
 
-  judged_one : (d : Named) (vs : List Val) → ⟦ S.own_val d vs ⟧ ⊢ guard 𝓤 (Judged R) ⟦ S.own_val d vs ⟧
+  judged_one : (d : WordView) (vs : List Val) → ⟦ S.own_val d vs ⟧ ⊢ guard 𝓤 (Judged R) ⟦ S.own_val d vs ⟧
   judged_one d vs = qed 𝓛 (‵ (S.own_val d vs) ∷ []) ∵ fsplit3 ! $ move ! (1 ∷ []) $ fpick ! (λ j. check ! j $ drop ! $ nothing ! $ fpack ! (Judged R) (λ _. ftrue) j $ move ! (1 ∷ 0 ∷ []) $ fjoin3 ! $ done !)
 
-  rests_one : Judged R → (d : Named) (w : W.Denot) (vs : List Val) → Fit d w.slots → ⟦ W.own_val w vs ⟧ ⊢ ⟦ S.own_val d vs ⟧
+  rests_one : Judged R → (d : WordView) (w : W.Denot) (vs : List Val) → Fit d w.slots → ⟦ W.own_val w vs ⟧ ⊢ ⟦ S.own_val d vs ⟧
   rests_one j d w vs fit = qed 𝓛 (‵ (W.own_val w vs) ∷ []) ∵ peeks ! W (Is W) (shows 𝓛 W) w vs (λ is. fsplit ! $ move ! (1 ∷ []) $ use1 𝓛 (‵ (at_rest R d w.at)) (rests_word 𝓛 R L d w.at w.slots fit) $ move ! (1 ∷ 0 ∷ []) $ fjoin ! $
       fpack ! Ptr (Inside d vs) w.at $ nothing ! $ fpack ! (Judged R) (λ _. ftrue) j $ nothing ! $ fpack ! (Typed S.mir vs) (λ _. ftrue) (((plain'.the_row_laws R L).lawful 𝓛).typed w vs is) $ fjoin3 ! $ done !)
 
   -- ---- one after another
-  abbrev All : List Named → List Val → List W.Denot → Pr
+  abbrev All : List WordView → List Val → List W.Denot → Pr
   All ds us ws = guard 𝓤 (Fits slots ds ws) ⟦ each W.Denot W.own_val ws us ⟧
 
-  each_redeems : (ds : List Named) (us : List Val) → ⟦ each Named S.own_val ds us ⟧ ⊢ H.⇛ (ex 𝓤 (All ds us))
+  each_redeems : (ds : List WordView) (us : List Val) → ⟦ each WordView S.own_val ds us ⟧ ⊢ H.⇛ (ex 𝓤 (All ds us))
   each_redeems [] [] = qed 𝓛 (‵ ftrue ∷ []) ∵ updating ! $ now ! $ show ! (All [] []) [] $ check ! tt $ done !
   each_redeems [] (u ∷ us) = never_e 𝓤 _
   each_redeems (d ∷ ds) [] = never_e 𝓤 _
-  each_redeems (d ∷ ds) (u ∷ us) = qed 𝓛 (‵ (each Named S.own_val (d ∷ ds) (u ∷ us)) ∷ []) ∵ updating ! $ fsplit ! $
+  each_redeems (d ∷ ds) (u ∷ us) = qed 𝓛 (‵ (each WordView S.own_val (d ∷ ds) (u ∷ us)) ∷ []) ∵ updating ! $ fsplit ! $
       use1 𝓛 (later (some (λ (w : W.Denot). given (Fit d w.slots) (‵ (W.own_val w (u ∷ [])))))) (redeems_one d (u ∷ [])) $ await ! tt $ pick ! (λ w. learn ! (λ fit. move ! (1 ∷ []) $
       use1 𝓛 (later (some (λ (ws : List W.Denot). given (Fits slots ds ws) (‵ (each W.Denot W.own_val ws us))))) (each_redeems ds us) $ await ! tt $ pick ! (λ ws. learn ! (λ fits.
       now ! $ show ! (All (d ∷ ds) (u ∷ us)) (w ∷ ws) $ check ! (fit, fits) $ move ! (1 ∷ 0 ∷ []) $ fjoin ! $ done !))))
 
-  each_rests : Judged R → (ds : List Named) (ws : List W.Denot) (us : List Val) → Fits slots ds ws → ⟦ each W.Denot W.own_val ws us ⟧ ⊢ ⟦ each Named S.own_val ds us ⟧
+  each_rests : Judged R → (ds : List WordView) (ws : List W.Denot) (us : List Val) → Fits slots ds ws → ⟦ each W.Denot W.own_val ws us ⟧ ⊢ ⟦ each WordView S.own_val ds us ⟧
   each_rests j [] [] [] f = id⊢ 𝓤 _
   each_rests j [] [] (u ∷ us) f = never_e 𝓤 _
   each_rests j [] (w ∷ ws) us f = absurd f
   each_rests j (d ∷ ds) [] us f = absurd f
   each_rests j (d ∷ ds) (w ∷ ws) [] f = never_e 𝓤 _
   each_rests j (d ∷ ds) (w ∷ ws) (u ∷ us) f = qed 𝓛 (‵ (each W.Denot W.own_val (w ∷ ws) (u ∷ us)) ∷ []) ∵ fsplit ! $ use1 𝓛 (‵ (S.own_val d (u ∷ []))) (rests_one j d w (u ∷ []) f.0) $ move ! (1 ∷ []) $
-      use1 𝓛 (‵ (each Named S.own_val ds us)) (each_rests j ds ws us f.1) $ move ! (1 ∷ 0 ∷ []) $ fjoin ! $ done !
+      use1 𝓛 (‵ (each WordView S.own_val ds us)) (each_rests j ds ws us f.1) $ move ! (1 ∷ 0 ∷ []) $ fjoin ! $ done !
 
-  each_judged : (ds : List Named) (us : List Val) → length ds ≡ 63 → ⟦ each Named S.own_val ds us ⟧ ⊢ guard 𝓤 (Judged R) ⟦ each Named S.own_val ds us ⟧
+  each_judged : (ds : List WordView) (us : List Val) → length ds ≡ 63 → ⟦ each WordView S.own_val ds us ⟧ ⊢ guard 𝓤 (Judged R) ⟦ each WordView S.own_val ds us ⟧
   each_judged [] us long = absurd (omega arith)
   each_judged (d ∷ ds) [] long = never_e 𝓤 _
-  each_judged (d ∷ ds) (u ∷ us) long = qed 𝓛 (‵ (each Named S.own_val (d ∷ ds) (u ∷ us)) ∷ []) ∵ fsplit ! $ use1 𝓛 (given (Judged R) (‵ (S.own_val d (u ∷ [])))) (judged_one d (u ∷ [])) $ learn ! (λ j. check ! j $ fjoin ! $ done !)
+  each_judged (d ∷ ds) (u ∷ us) long = qed 𝓛 (‵ (each WordView S.own_val (d ∷ ds) (u ∷ us)) ∷ []) ∵ fsplit ! $ use1 𝓛 (given (Judged R) (‵ (S.own_val d (u ∷ [])))) (judged_one d (u ∷ [])) $ learn ! (λ j. check ! j $ fjoin ! $ done !)
 
   -- ---- the array
-  abbrev Arrays : List Named → List Val → List W.Denot → Pr
+  abbrev Arrays : List WordView → List Val → List W.Denot → Pr
   Arrays ds vs ws = guard 𝓤 (Judged R × (length ds ≡ 63) × Fits slots ds ws) ⟦ (Array W 63).own_val ws vs ⟧
 
-  array_redeems : (ds : List Named) (vs : List Val) → ⟦ (Array S 63).own_val ds vs ⟧ ⊢ H.⇛ (ex 𝓤 (Arrays ds vs))
+  array_redeems : (ds : List WordView) (vs : List Val) → ⟦ (Array S 63).own_val ds vs ⟧ ⊢ H.⇛ (ex 𝓤 (Arrays ds vs))
   array_redeems ds vs = qed 𝓛 (‵ ((Array S 63).own_val ds vs) ∷ []) ∵ updating ! $ fpick ! (λ us. fsplit ! $ fsplit ! $ feq_l ! (λ e. feq_l ! (λ long.
-      use1 𝓛 (given (Judged R) (‵ (each Named S.own_val ds us))) (each_judged ds us long) $ learn ! (λ j.
+      use1 𝓛 (given (Judged R) (‵ (each WordView S.own_val ds us))) (each_judged ds us long) $ learn ! (λ j.
       use1 𝓛 (later (some (λ (ws : List W.Denot). given (Fits slots ds ws) (‵ (each W.Denot W.own_val ws us))))) (each_redeems ds us) $ await ! tt $ pick ! (λ ws. learn ! (λ f.
       now ! $ show ! (Arrays ds vs) ws $ check ! (j, long, f) $ feq_i ! ℕ (length ws) 63 (fits_long slots ds ws f ∙ long) $ feq_i ! (List Val) vs (array_val us ∷ []) e $ fjoin ! $ fjoin ! $
       fpack ! (List Val) (λ zs. fsep (shape 63 ws vs zs) (each W.Denot W.own_val ws zs)) us $ done !))))))
 
-  array_rests : Judged R → (ds : List Named) (ws : List W.Denot) (vs : List Val) → length ds ≡ 63 → Fits slots ds ws → ⟦ (Array W 63).own_val ws vs ⟧ ⊢ ⟦ (Array S 63).own_val ds vs ⟧
-  array_rests j ds ws vs long f = qed 𝓛 (‵ ((Array W 63).own_val ws vs) ∷ []) ∵ fpick ! (λ us. fsplit ! $ fsplit ! $ feq_l ! (λ e. drop ! $ use1 𝓛 (‵ (each Named S.own_val ds us)) (each_rests j ds ws us f) $
-      feq_i ! ℕ (length ds) 63 long $ feq_i ! (List Val) vs (array_val us ∷ []) e $ fjoin ! $ fjoin ! $ fpack ! (List Val) (λ zs. fsep (shape 63 ds vs zs) (each Named S.own_val ds zs)) us $ done !))
+  array_rests : Judged R → (ds : List WordView) (ws : List W.Denot) (vs : List Val) → length ds ≡ 63 → Fits slots ds ws → ⟦ (Array W 63).own_val ws vs ⟧ ⊢ ⟦ (Array S 63).own_val ds vs ⟧
+  array_rests j ds ws vs long f = qed 𝓛 (‵ ((Array W 63).own_val ws vs) ∷ []) ∵ fpick ! (λ us. fsplit ! $ fsplit ! $ feq_l ! (λ e. drop ! $ use1 𝓛 (‵ (each WordView S.own_val ds us)) (each_rests j ds ws us f) $
+      feq_i ! ℕ (length ds) 63 long $ feq_i ! (List Val) vs (array_val us ∷ []) e $ fjoin ! $ fjoin ! $ fpack ! (List Val) (λ zs. fsep (shape 63 ds vs zs) (each WordView S.own_val ds zs)) us $ done !))
 
   -- ---- the words of a table, and its buckets
   abbrev pub Shared : RattleType
@@ -167,15 +167,15 @@ module _ {M : Type 1} {𝓤 : Ura M} (𝓛 : Logic 𝓤) (R : RattleType) (L : L
   abbrev OwnedOf : Owner.Denot → Type 0
   OwnedOf y = (x : (buckets.TheInside.the_row R).Denot) × ((record { contents = x.words; reserved = x.reserved } ≡ y) × IsOwned (record { contents = x.words; reserved = x.reserved }))
 
-  abbrev SharedOf : Seen → Type 0
-  SharedOf s = (x : (all_shared.TheInside.the_row R).Denot) × ((seen x.words.words.words x.reserved ≡ s) × AreWords x.words.words.words x.reserved)
+  abbrev SharedOf : TableView → Type 0
+  SharedOf s = (x : (all_shared.TheInside.the_row R).Denot) × ((view_of x.words.words.words x.reserved ≡ s) × AreWords x.words.words.words x.reserved)
 
-  abbrev pub Out : Seen → List Val → Owner.Denot → Pr
+  abbrev pub Out : TableView → List Val → Owner.Denot → Pr
   Out s vs y = guard 𝓤 (Judged R × (y.reserved ≡ s.reserved)) ⟦ Owner.own_val y vs ⟧
 
-  pub turns_plain : (s : Seen) (vs : List Val) → ⟦ Shared.own_val s vs ⟧ ⊢ H.⇛ (ex 𝓤 (Out s vs))
+  pub turns_plain : (s : TableView) (vs : List Val) → ⟦ Shared.own_val s vs ⟧ ⊢ H.⇛ (ex 𝓤 (Out s vs))
   turns_plain s vs = qed 𝓛 (‵ (Shared.own_val s vs) ∷ []) ∵ updating ! $ fpick ! (λ h. fsplit ! $ fpick ! (λ vss. fsplit3 ! $ move ! (1 ∷ []) $ fpick ! (λ uss. fsplit3 ! $ move ! (1 ∷ []) $ fpick ! (λ tss. fsplit3 ! $ move ! (1 ∷ []) $
-      let ds : List Named = h.0.words.words.words in let n : ℕ = h.0.reserved in
+      let ds : List WordView = h.0.words.words.words in let n : ℕ = h.0.reserved in
       use1 𝓛 (later (some (λ (ws : List W.Denot). given (Judged R × (length ds ≡ 63) × Fits slots ds ws) (‵ ((Array W 63).own_val ws tss.0))))) (array_redeems ds tss.0) $ await ! tt $ pick ! (λ ws. learn ! (λ g.
       let y : Owned R.Denot = owned_of slots ws n in let owned : IsOwned y = are_owned slots ds ws n g.1 h.1.1 g.2 in
       -- [the array; its value; nothing; the words' value; the heap; the struct's value; the number; nothing]
@@ -184,10 +184,10 @@ module _ {M : Type 1} {𝓤 : Ura M} (𝓛 : Logic 𝓤) (R : RattleType) (L : L
       fpack ! (WordsOf y.contents) (λ a. fsep ((words.TheInside.the_row R).own_val a.0 vss.0) ftrue) (record { words = record { words = ws }; alloc = h.0.words.alloc }, (refl, owned.table)) $
       move ! (1 ∷ 0 ∷ []) $ fjoin3 ! $ fpack ! (Valss (Plain ∷ usize ∷ [])) (within (shape_with (Plain ∷ usize ∷ [])) (y.contents, (n, tt)) vs) vss $ fjoin ! $
       fpack ! (OwnedOf y) (λ a. fsep ((buckets.TheInside.the_row R).own_val a.0 vs) ftrue) (record { words = y.contents; reserved = n }, (refl, owned)) $
-      now ! $ show ! (Out s vs) y $ check ! (g.0, ap (λ (z : Seen). z.reserved) h.1.0) $ done !))))))
+      now ! $ show ! (Out s vs) y $ check ! (g.0, ap (λ (z : TableView). z.reserved) h.1.0) $ done !))))))
 
-  pub turns_shared : Judged R → (s : Seen) (y : Owner.Denot) (vs : List Val) → s.reserved ≡ y.reserved → ⟦ Owner.own_val y vs ⟧ ⊢ ⟦ Shared.own_val s vs ⟧
-  turns_shared j s y vs same = let ds : List Named = table_words s in qed 𝓛 (‵ (Owner.own_val y vs) ∷ []) ∵ fpick ! (λ h. fsplit ! $ fpick ! (λ vss. fsplit3 ! $ move ! (1 ∷ []) $ fpick ! (λ h'. fsplit ! $ fpick ! (λ uss. fsplit3 ! $ move ! (1 ∷ []) $ fpick ! (λ tss. fsplit3 ! $ move ! (1 ∷ []) $
+  pub turns_shared : Judged R → (s : TableView) (y : Owner.Denot) (vs : List Val) → s.reserved ≡ y.reserved → ⟦ Owner.own_val y vs ⟧ ⊢ ⟦ Shared.own_val s vs ⟧
+  turns_shared j s y vs same = let ds : List WordView = table_words s in qed 𝓛 (‵ (Owner.own_val y vs) ∷ []) ∵ fpick ! (λ h. fsplit ! $ fpick ! (λ vss. fsplit3 ! $ move ! (1 ∷ []) $ fpick ! (λ h'. fsplit ! $ fpick ! (λ uss. fsplit3 ! $ move ! (1 ∷ []) $ fpick ! (λ tss. fsplit3 ! $ move ! (1 ∷ []) $
       let ws : List W.Denot = h'.0.words.words in let e : h.0.reserved ≡ s.reserved = ap (λ (o : Owned R.Denot). o.reserved) h.1.0 ∙ sym same in
       let owned : IsOwned (owned_of slots ws s.reserved) = subst (λ (o : Owned R.Denot). IsOwned o) (λ i. record { contents = sym h'.1.0 i; reserved = e i }) h.1.1 in
       use1 𝓛 (‵ ((Array S 63).own_val ds tss.0)) (array_rests j ds ws tss.0 (all_words-length s 63 0) (fit_all slots s ws owned)) $
@@ -202,18 +202,18 @@ module _ {M : Type 1} {𝓤 : Ura M} (𝓛 : Logic 𝓤) (R : RattleType) (L : L
   abbrev pub Row : RattleType
   Row = whole.the_row R
 
-  abbrev pub Lies : Seen → ℕ → ℕ → Owner.Denot → Pr
+  abbrev pub Lies : TableView → ℕ → ℕ → Owner.Denot → Pr
   Lies s b o y = guard 𝓤 (Judged R × (y.reserved ≡ s.reserved)) ⟦ part_at Owner full_share y b o ⟧
 
-  pub lies_plain : (s : Seen) (b o : ℕ) → ⟦ part_at Row full_share s b o ⟧ ⊢ H.⇛ (ex 𝓤 (Lies s b o))
+  pub lies_plain : (s : TableView) (b o : ℕ) → ⟦ part_at Row full_share s b o ⟧ ⊢ H.⇛ (ex 𝓤 (Lies s b o))
   unfolding part_of
   lies_plain s b o = qed 𝓛 (‵ (part_at Row full_share s b o) ∷ []) ∵ updating ! $ fpick ! (λ vs. fsplit3 ! $ move ! (2 ∷ []) $
       use1 𝓛 (later (some (λ (y : Owner.Denot). given (Judged R × (y.reserved ≡ s.reserved)) (‵ (Owner.own_val y vs))))) (turns_plain s vs) $ await ! tt $ pick ! (λ y. learn ! (λ so.
       move ! (1 ∷ 0 ∷ []) $ fjoin ! $ fpack ! (List Val) (λ us. fsep (cell_at full_share Owner.mir us b o) (Owner.own_val y us)) vs $ now ! $ show ! (Lies s b o) y $ check ! so $ keep ! (0 ∷ []) $ done !)))
 
-  pub lies_shared : Judged R → (s : Seen) (b o : ℕ) (y : Owner.Denot) → ⟦ part_at Owner full_share y b o ⟧ ⊢ ⟦ part_at Row full_share (seen_with s y) b o ⟧
+  pub lies_shared : Judged R → (s : TableView) (b o : ℕ) (y : Owner.Denot) → ⟦ part_at Owner full_share y b o ⟧ ⊢ ⟦ part_at Row full_share (view_with s y) b o ⟧
   unfolding part_of
-  lies_shared j s b o y = let s' : Seen = seen_with s y in qed 𝓛 (‵ (part_at Owner full_share y b o) ∷ []) ∵ fpick ! (λ vs. fsplit ! $ move ! (1 ∷ []) $ peeks ! Owner (Is Owner) (shows 𝓛 Owner) y vs (λ is.
+  lies_shared j s b o y = let s' : TableView = view_with s y in qed 𝓛 (‵ (part_at Owner full_share y b o) ∷ []) ∵ fpick ! (λ vs. fsplit ! $ move ! (1 ∷ []) $ peeks ! Owner (Is Owner) (shows 𝓛 Owner) y vs (λ is.
       use1 𝓛 (‵ (Shared.own_val s' vs)) (turns_shared j s' y vs refl) $ nothing ! $ fpack ! (Typed Row.mir vs) (λ _. ftrue) (((buckets'.the_row_laws R L).lawful 𝓛).typed y vs is) $ fjoin ! $ move ! (1 ∷ 0 ∷ []) $ fjoin ! $
       fpack ! (List Val) (λ us. fsep (cell_at full_share Row.mir us b o) (Row.own_val s' us)) vs $ done !))
 
@@ -225,14 +225,14 @@ module _ {M : Type 1} {𝓤 : Ura M} (𝓛 : Logic 𝓤) (R : RattleType) (L : L
 
   pub makes_shared : Judged R → (table : ℕ) (c : Plain.Denot) (n : ℕ) (v : Val) → n < 2 ^ 64 → IsOwned (record { contents = c; reserved = n }) → Typed Row.mir (pair_val v n ∷ [])
       → ⟦ Plain.own_val c (v ∷ []) ⟧ ⊢ ⟦ Row.own_val (record { table = table; reserved = n }) (pair_val v n ∷ []) ⟧
-  makes_shared j table c n v fits owned typed = let vs : List Val = pair_val v n ∷ [] in let y : Owner.Denot = record { contents = c; reserved = n } in let s : Seen = record { table = table; reserved = n } in
+  makes_shared j table c n v fits owned typed = let vs : List Val = pair_val v n ∷ [] in let y : Owner.Denot = record { contents = c; reserved = n } in let s : TableView = record { table = table; reserved = n } in
       qed 𝓛 (‵ (Plain.own_val c (v ∷ [])) ∷ []) ∵ use1 𝓛 (‵ (Owner.own_val y vs)) (makes_owner c n v fits owned) $ use1 𝓛 (‵ (Shared.own_val s vs)) (turns_shared j s y vs refl) $
       nothing ! $ fpack ! (Typed Row.mir vs) (λ _. ftrue) typed $ fjoin ! $ done !
 
-  abbrev pub Given : Seen → Val → Plain.Denot → Pr
+  abbrev pub Given : TableView → Val → Plain.Denot → Pr
   Given s v c = guard 𝓤 (IsOwned (record { contents = c; reserved = s.reserved })) ⟦ Plain.own_val c (v ∷ []) ⟧
 
-  pub takes_words : (s : Seen) (v u : Val) → ⟦ Row.own_val s (vstruct (vcons v (vcons u vnil)) ∷ []) ⟧ ⊢ H.⇛ (ex 𝓤 (Given s v))
+  pub takes_words : (s : TableView) (v u : Val) → ⟦ Row.own_val s (vstruct (vcons v (vcons u vnil)) ∷ []) ⟧ ⊢ H.⇛ (ex 𝓤 (Given s v))
   takes_words s v u = let vs : List Val = vstruct (vcons v (vcons u vnil)) ∷ [] in qed 𝓛 (‵ (Row.own_val s vs) ∷ []) ∵ updating ! $ fsplit ! $ move ! (1 ∷ []) $
       use1 𝓛 (later (some (λ (y : Owner.Denot). given (Judged R × (y.reserved ≡ s.reserved)) (‵ (Owner.own_val y vs))))) (turns_plain s vs) $ await ! tt $ pick ! (λ y. learn ! (λ so.
       fpick ! (λ h. fsplit ! $ fpick ! (λ vss. fsplit3 ! $ feq_l ! (λ e. peeks ! Plain (Is Plain) (shows 𝓛 Plain) h.0.words vss.0 (λ is.

@@ -1,4 +1,4 @@
 pub mod Fit
-pub mod Seen
+pub mod TableView
 pub mod Lent
 pub mod Parts

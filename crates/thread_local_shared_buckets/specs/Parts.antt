@@ -5,12 +5,12 @@ use base.Fml.{Lft, Fml, ffalse}
 use denote.RattleType.{RattleType}
 use denote.RawPtr.{Ptr, block_ptr, null_ptr}
 use denote.Sharing.{said}
-use Rattle.thread_local_shared_buckets.specs.Seen.{Seen}
+use Rattle.thread_local_shared_buckets.specs.TableView.{TableView}
 use Rattle.thread_local_shared_buckets.specs.contracts.parts.Parts.{the_row}
 
-abbrev pub parts_own : (R : RattleType) → Seen → List Val → Fml
+abbrev pub parts_own : (R : RattleType) → TableView → List Val → Fml
 parts_own R s vs = (the_row R).own_val s vs
 
-abbrev pub parts_share : (R : RattleType) → Seen → Ptr → Lft → Fml
+abbrev pub parts_share : (R : RattleType) → TableView → Ptr → Lft → Fml
 parts_share R s (block_ptr b o) κ = (the_row R).shr_at s b o κ
 parts_share R s null_ptr κ = said ffalse κ

@@ -1,7 +1,6 @@
 //! The buckets of a table, shared among threads.
 #![tactic(auto)]
 
-mod callers;
 mod parts;
 pub mod shared;
 

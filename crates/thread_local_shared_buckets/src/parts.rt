@@ -1,6 +1,6 @@
 //! How the words of a table lie while they are shared, and at rest.
 ghost use Rattle.std.specs.Prelude.{◌≡◌, ◌<◌};
-ghost use Rattle.thread_local_shared_buckets.specs.Seen.{Seen, seen_coded, seen, word_of, AreWords};
+ghost use Rattle.thread_local_shared_buckets.specs.TableView.{TableView, table_view_coded, view_of, word_of, AreWords};
 
 use std::alloc::Global;
 use std::marker::Model;
@@ -24,11 +24,11 @@ pub(crate) struct Parts<T> {
 }
 
 impl<T> Model for Parts<T> {
-    ghost Value = { Seen };
+    ghost Value = { TableView };
 
-    ghost coded = { seen_coded };
+    ghost coded = { table_view_coded };
 
-    ghost view = { λ s. seen s.words.words.words s.reserved };
+    ghost view = { λ s. view_of s.words.words.words s.reserved };
 
     ghost invariant = { λ s. AreWords s.words.words.words s.reserved };
 }
@@ -48,4 +48,12 @@ impl<T> Parts<T> {
     {
         self.reserved
     }
+}
+
+/// What threads may send and share.
+fn crosses<X: Send + Sync>(_: &X) {}
+
+/// Has the check show that the words cross between threads where the values do, which the laws of `Shared` cite. At run time it does nothing.
+fn words_cross<T: Send>(parts: &Parts<T>) {
+    crosses(parts);
 }

@@ -1,17 +1,20 @@
 //! The buckets of a table, shared among threads.
-ghost use Rattle.std.specs.Prelude.{◌≡◌, ◌^◌, ◌<◌, true, false, None, IfSome, IsSome};
+ghost use Rattle.std.specs.Prelude.{◌≡◌, ◌≢◌, ◌<◌, IfSome, IsSome};
+ghost use Rattle.thread_local_model.specs.Learnt.{Missing};
 ghost use Rattle.thread_local_model.specs.Owned.{IsOwned};
-ghost use Rattle.thread_local_model.specs.Place.{id_at};
+ghost use Rattle.thread_local_model.specs.Place.{bucket_of, id_at};
 ghost use Rattle.thread_local_judged.specs.Judged.{Judged};
-ghost use Rattle.thread_local_shared_buckets.specs.Seen.{Seen, seen_coded, word_of};
+ghost use Rattle.thread_local_claim.specs.Known.{IsKnown};
+ghost use Rattle.thread_local_shared_buckets.specs.TableView.{TableView, table_view_coded, word_of};
 ghost use Rattle.thread_local_shared_buckets.specs.Parts.{parts_own, parts_share};
 
 use crate::parts::Parts;
 use std::marker::{Move, Owns};
 use thread_local_buckets::Buckets;
 use thread_local_claim::Claim;
-use thread_local_rights::{Right, Rights};
-use thread_local_shared_word::{Private, Row, SharedWord};
+use thread_local_rights::{HeldId, Rights};
+use thread_local_shared_word::{Row, SharedWord};
+use thread_local_thread_id::Thread;
 use thread_local_words::Words;
 
 mod lends;
@@ -25,9 +28,9 @@ pub struct Shared<T> {
 }
 
 impl<T> Owns for Shared<T> {
-    ghost Value = { Seen };
+    ghost Value = { TableView };
 
-    ghost coded = { seen_coded };
+    ghost coded = { table_view_coded };
 
     ghost shr_at = { λ s p κ. parts_share T.row s p κ };
 }
@@ -99,29 +102,23 @@ impl<T> Shared<T> {
         self.word(bucket).load()
     }
 
-    /// Lets the bucket be the private block, if it was missing, by one compare and exchange. Answers the row of the block that is the bucket
-    /// from then on, whoever installed it. A block that came second is freed. It takes no memory, and never waits.
-    pub fn install(&self, bucket: usize, private: Private<T>) -> Row<'_, T>
-        requires in_table { bucket < 63 }
-        requires fits { private ≡ bucket }
-        ensures { result.of ≡ word_of self.now bucket }
+    /// Claims the slot of an id that is held, for as long as the buckets are borrowed: the bucket's word is loaded, and where the bucket stands the
+    /// slot's flag is looked at. It takes no memory, and never waits. The bucket of a reserved slot is found.
+    pub fn claim(&self, held: HeldId) -> Claim<'_, T>
+        requires { held.right.table ≡ self.now.table }
+        ensures right { (result.table ≡ self.now.table) × (result.id ≡ held.id) }
+        ensures learnt { IsKnown result.learnt }
+        ensures reserved { id_at (bucket_of held.id) 0 < self.now.reserved → result.learnt ≢ Missing }
     {
-        self.word(bucket).install(private)
+        let thread = Thread::new(held.id);
+        Claim::arrive(self.word(thread.bucket), held)
     }
 
-    /// The slot of an id, for as long as the buckets are borrowed, in the hands of whoever has the right to the id: the bucket's word is loaded,
-    /// and where the bucket stands the slot's flag is looked at. It takes no memory, and never waits. The bucket of a reserved slot is found.
-    pub fn claim(&self, bucket: usize, index: usize, right: Right) -> Claim<'_, T>
-        requires in_table { bucket < 63 }
-        requires in_bucket { index < 2 ^ bucket }
-        requires table { right.table ≡ self.now.table }
-        requires id { right.id ≡ id_at bucket index }
-        ensures right { (result.table ≡ right.table) × (result.id ≡ right.id) }
-        ensures looked { result.looked ≡ true }
-        ensures missing { result.stands ≡ false → result.value ≡ None }
-        ensures reserved { id_at bucket 0 < self.now.reserved → result.stands ≡ true }
+    /// Shows that the type of the values is judged, as whoever shared the buckets did. At run time it does nothing.
+    pub fn judged(&self)
+        ensures judged { Judged T.row }
     {
-        Claim::arrive(self.word(bucket), index, right)
+        self.word(0).judged();
     }
 
     /// How many of the first slots are reserved.

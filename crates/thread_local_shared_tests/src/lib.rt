@@ -1,7 +1,19 @@
-//! Tests of the buckets that threads share.
+//! Tests of what threads share: words, claims and buckets.
 #![tactic(auto)]
 
 #[cfg(test)]
-mod steps;
+mod callers;
 #[cfg(test)]
-mod tests;
+mod claims;
+#[cfg(test)]
+mod drops;
+#[cfg(test)]
+mod handing;
+#[cfg(test)]
+mod installs;
+#[cfg(test)]
+mod judged;
+#[cfg(test)]
+mod races;
+#[cfg(test)]
+mod steps;

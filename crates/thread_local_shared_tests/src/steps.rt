@@ -1,5 +1,5 @@
 //! What a test does with one id of a table.
-ghost use Rattle.std.specs.Prelude.{◌≡◌, ◌-◌, ◌^◌, ◌<◌, true, false, None};
+ghost use Rattle.std.specs.Prelude.{◌≡◌, ◌-◌, ◌^◌, ◌<◌};
 
 use std::alloc::Global;
 use thread_local_claim::Claim;
@@ -8,47 +8,41 @@ use thread_local_shared_buckets::Shared;
 use thread_local_shared_word::Private;
 use thread_local_thread_id::Thread;
 
-/// The slot of an id that is held.
-pub fn claim<T>(shared: &Shared<T>, held: HeldId) -> Claim<'_, T>
-    requires table { held.right.table ≡ shared.now.table }
-    requires in_range { held.id < 2 ^ 63 - 1 }
-    ensures right { (result.table ≡ shared.now.table) × (result.id ≡ held.id) }
-    ensures looked { result.looked ≡ true }
-    ensures missing { result.stands ≡ false → result.value ≡ None }
-{
-    let (id, right) = held.into_parts();
-    let thread = Thread::new(id);
-    shared.claim(thread.bucket, thread.index, right)
-}
-
 /// Publishes a value at an id, whose bucket is made where it is missing, and answers whether it did.
 pub fn publish<T: Drop>(shared: &Shared<T>, held: HeldId, alloc: Global, value: T) -> (HeldId, bool)
-    requires table { held.right.table ≡ shared.now.table }
-    requires in_range { held.id < 2 ^ 63 - 1 }
-    ensures right { (result.0.right.table ≡ shared.now.table) × (result.0.id ≡ held.id) }
+    requires { held.right.table ≡ shared.now.table }
+    ensures { (result.0.right.table ≡ shared.now.table) × (result.0.id ≡ held.id) }
 {
-    let id = held.id;
-    let claim = claim(shared, held);
-    if claim.stands() {
-        return publish_claimed(claim, id, value);
+    let bucket = Thread::new(held.id).bucket;
+    let mut claim = shared.claim(held);
+    if !claim.is_missing() {
+        return publish_claimed(claim, value);
     }
-    let Ok(private) = Private::new(alloc, Thread::new(id).bucket) else {
-        let right = claim.leave();
-        return (HeldId { id, right }, false);
+    let Ok(private) = Private::new(alloc, bucket) else {
+        return (claim.leave(), false);
     };
-    let right = claim.install(private).publish(value).leave();
-    (HeldId { id, right }, true)
+    claim.install(private);
+    claim.publish(value);
+    (claim.leave(), true)
 }
 
-/// Publishes a value in a slot that stands and is empty, and answers whether it did.
-pub fn publish_claimed<T: Drop>(claim: Claim<'_, T>, id: usize, value: T) -> (HeldId, bool)
-    requires { claim.id ≡ id }
-    ensures right { (result.0.right.table ≡ claim.entry.table) × (result.0.id ≡ id) }
+/// Publishes a value in a slot that is vacant, and answers whether it did.
+pub fn publish_claimed<T: Drop>(claim: Claim<'_, T>, value: T) -> (HeldId, bool)
+    ensures { (result.0.right.table ≡ claim.entry.table) × (result.0.id ≡ claim.entry.id) }
 {
-    if !claim.stands() || claim.get().is_some() {
-        let right = claim.leave();
-        return (HeldId { id, right }, false);
+    let mut claim = claim;
+    if claim.is_missing() || claim.get().is_some() {
+        return (claim.leave(), false);
     }
-    let right = claim.publish(value).leave();
-    (HeldId { id, right }, true)
+    claim.publish(value);
+    (claim.leave(), true)
+}
+
+/// What a walker finds at an id.
+pub fn look(shared: &Shared<u32>, id: usize) -> Option<u32>
+    requires { id < 2 ^ 63 - 1 }
+{
+    let thread = Thread::new(id);
+    let row = shared.load(thread.bucket)?;
+    row.get(thread.index).copied()
 }

@@ -17,7 +17,7 @@ use denote.Shadow.{makes_shadow}
 use denote.Struct.Struct.{Struct}
 use denote.Struct.Owning.{shape}
 use Rattle.thread_local_judged.specs.Judged.{Judged}
-use Rattle.thread_local_shared_word_logic.specs.Shared.{Named, Turn, Standing, Sized, len, invariant, kept, row, Found, row_as, row_owns}
+use Rattle.thread_local_shared_word_logic.specs.Shared.{WordView, Turn, Standing, Sized, len, invariant, kept, loaded, Found, row_as, row_owns}
 use Rattle.thread_local_shared_word.specs.contracts.row.Row as Row
 
 abbrev pub row_val : Ptr → Val
@@ -47,16 +47,16 @@ module _ (a : NamedLft) (R : RattleType) where
   pub opened : {M : Type 1} {𝓤 : Ura M} (𝓛 : Logic 𝓤) → Opens 𝓛 Words
   opened {M} {𝓤 = 𝓤} 𝓛 = (Struct-Copied 𝓛 (shape (Row.the_type a R)) (refl, (refl, tt)) (RawPtr-copy.copied M 𝓤 𝓛, ((field_copy (marker.the_type (ShrRef a.mir a.lft R)) tt).copied M 𝓤 𝓛, tt))).opens
 
-module _ {M : Type 1} {𝓤 : Ura M} (𝓛 : Logic 𝓤) (R : RattleType) (d : Named) where
+module _ {M : Type 1} {𝓤 : Ura M} (𝓛 : Logic 𝓤) (R : RattleType) (d : WordView) where
   pub kept_dup : (t : Turn) (b o : ℕ) (β : Lft) → ent 𝓤 (sem 𝓛 (kept R d t b o β)) (sep 𝓤 (sem 𝓛 (kept R d t b o β)) (sem 𝓛 (kept R d t b o β)))
   kept_dup t b o β = let J : Fml = finv (fbor t.life (invariant R d t b o)) in qed 𝓛 (‵ (kept R d t b o β) ∷ []) ∵ fsplit ! $ use1 𝓛 (‵ (before β t.life) ⊛ ‵ (before β t.life)) (before_dup 𝓛 β t.life) $ split ! $ move ! (2 ∷ []) $
       use1 𝓛 (‵ J ⊛ ‵ J) (𝓛.invs.inv_dup (fbor t.life (invariant R d t b o))) $ split ! $ move ! (2 ∷ 0 ∷ []) $ fjoin ! $ frame ! $ move ! (1 ∷ 0 ∷ []) $ fjoin ! $ done !
 
-  pub row_dup : (t : Turn) (s : Standing) (β : Lft) → ent 𝓤 (sem 𝓛 (row R d t s β)) (sep 𝓤 (sem 𝓛 (row R d t s β)) (sem 𝓛 (row R d t s β)))
-  row_dup t s β = let κ : Lft = s.own ∷ t.life in let Fits : Type 0 = (length s.names ≡ len R d) × Sized R (len R d) s.at in qed 𝓛 (‵ (row R d t s β) ∷ []) ∵ fsplit3 ! $ fpick ! (λ so. drop ! $ res_dup ! $ move ! (2 ∷ []) $
+  pub row_dup : (t : Turn) (s : Standing) (β : Lft) → ent 𝓤 (sem 𝓛 (loaded R d t s β)) (sep 𝓤 (sem 𝓛 (loaded R d t s β)) (sem 𝓛 (loaded R d t s β)))
+  row_dup t s β = let κ : Lft = s.own ∷ t.life in let Fits : Type 0 = (length s.names ≡ len R d) × Sized R (len R d) s.at in qed 𝓛 (‵ (loaded R d t s β) ∷ []) ∵ fsplit3 ! $ fpick ! (λ so. drop ! $ res_dup ! $ move ! (2 ∷ []) $
       use1 𝓛 (‵ (before β κ) ⊛ ‵ (before β κ)) (before_dup 𝓛 β κ) $ split ! $ move ! (2 ∷ 0 ∷ []) $ nothing ! $ fpack ! Fits (λ _. ftrue) so $ fjoin3 ! $ frame ! $ move ! (1 ∷ 0 ∷ []) $ nothing ! $ fpack ! Fits (λ _. ftrue) so $ fjoin3 ! $ done !)
 
   pub found_dup : (β : Lft) (p : Ptr) → ent 𝓤 (sem 𝓛 (row_owns R d β p)) (sep 𝓤 (sem 𝓛 (row_owns R d β p)) (sem 𝓛 (row_owns R d β p)))
-  found_dup β p = qed 𝓛 (‵ (row_owns R d β p) ∷ []) ∵ fpick ! (λ z. let K : Fml = kept R d z.0 z.2 z.3 β in let W : Fml = row R d z.0 z.1 β in fsplit3 ! $ fpick ! (λ so. drop ! $
+  found_dup β p = qed 𝓛 (‵ (row_owns R d β p) ∷ []) ∵ fpick ! (λ z. let K : Fml = kept R d z.0 z.2 z.3 β in let W : Fml = loaded R d z.0 z.1 β in fsplit3 ! $ fpick ! (λ so. drop ! $
       use1 𝓛 (‵ K ⊛ ‵ K) (kept_dup z.0 z.2 z.3 β) $ split ! $ move ! (2 ∷ []) $ use1 𝓛 (‵ W ⊛ ‵ W) (row_dup z.0 z.1 β) $ split ! $ move ! (2 ∷ 0 ∷ []) $ nothing ! $ fpack ! ((z.1.at ≡ p) × Judged R) (λ _. ftrue) so $ fjoin3 ! $
       fpack ! Found (row_as R d β p) z $ frame ! $ move ! (1 ∷ 0 ∷ []) $ nothing ! $ fpack ! ((z.1.at ≡ p) × Judged R) (λ _. ftrue) so $ fjoin3 ! $ fpack ! Found (row_as R d β p) z $ done !))

@@ -28,7 +28,7 @@ use Rattle.std.specs.Sync.RawAtomic.Pointer.{cell}
 use Rattle.std.proofs.cell.Inside.{spread, gather}
 use Rattle.thread_local_judged.specs.Judged.{Judged}
 use Rattle.thread_local_blocks.specs.Slots.{fact}
-use Rattle.thread_local_shared_word_logic.specs.Shared.{Named, Turn, Standing, mark, slot, each_slot, slots_rest, Sized, len, first, all_unborn, pending, standing, beside_pointer, invariant, kept, at_rest, word_shares}
+use Rattle.thread_local_shared_word_logic.specs.Shared.{WordView, Turn, Standing, mark, shared_slot, each_slot, slots_rest, Sized, len, first, all_unborn, pending, standing, beside_pointer, invariant, kept, at_rest, word_shares}
 use Rattle.thread_local_shared_word.specs.contracts.word.SharedWord as C
 use Rattle.thread_local_shared_word_logic.proofs.Tokens.{tokens_from, tokens_new}
 use Rattle.thread_local_shared_word_logic.proofs.Rested.{all_tokens, all_wait, wakes_slots, rests_slots}
@@ -62,7 +62,7 @@ module _ {M : Type 1} {𝓤 : Ura M} (𝓛 : Logic 𝓤) where
     pub cell_in : ⟦ cell b o p ⟧ ⊢ ⟦ part_at RawPtr full_share p b o ⟧
     cell_in = qed 𝓛 (‵ (cell b o p) ∷ []) ∵ feq_i ! (List Val) (ptr_val p ∷ []) (ptr_val p ∷ []) refl $ move ! (1 ∷ 0 ∷ []) $ gather pointer ! p (ptr_val p) b o $ done !
 
-  module _ (R : RattleType) (L : Laws R) (d : Named) where
+  module _ (R : RattleType) (L : Laws R) (d : WordView) where
     -- once the turn is over
     pub rests : (t : Turn) (p : Ptr) → A.dead t.life ∗ ⟦ beside_pointer R d t p ⟧ ⊢ ⟦ at_rest R d p ⟧
     rests t null_ptr = qed 𝓛 (‵ (fdead t.life) ∷ ‵ (beside_pointer R d t null_ptr) ∷ []) ∵ move ! (1 ∷ []) $ fsplit ! $ keep ! (0 ∷ []) $ done !
@@ -98,7 +98,7 @@ module _ {M : Type 1} {𝓤 : Ura M} (𝓛 : Logic 𝓤) where
       wakes μ r inc sp j (block_ptr b o) = let p : Ptr = block_ptr b o in fresh p μ r (λ n. qed 𝓛 (‵ (pending R d (turn n)) ∷ ‵ (all_tokens 𝓛 (turn n) (first R d)) ∷ ‵ (at_rest R d p) ∷ ‵ (flft μ r) ∷ []) ∵ updating ! $
           let t : Turn = turn n in lft_new ! tt (λ ν. move ! (0 ∷ 4 ∷ []) $ join ! $ move ! (3 ∷ []) $ fsplit3 ! $ fpick ! (λ so. drop ! $ move ! (0 ∷ 4 ∷ 2 ∷ []) $
           -- [the slots; the tokens; the lifetimes; the right to free; pending]
-          use3 𝓛 (later (some (λ (names : List ℕ). given (length names ≡ len R d) (‵ (each_slot R (slot R t b ν d.table) names (first R d) o) ⊛ (‵ (flft (ν ∷ []) full_share) ⊛ ‵ (flft μ r))))))
+          use3 𝓛 (later (some (λ (names : List ℕ). given (length names ≡ len R d) (‵ (each_slot R (shared_slot R t b ν d.table) names (first R d) o) ⊛ (‵ (flft (ν ∷ []) full_share) ⊛ ‵ (flft μ r))))))
           (wakes_slots 𝓛 t R L b ν ((ν ∷ [], full_share) ∷ (μ, r) ∷ []) (Incl-trans (meet_⊑_right (ν ∷ []) μ) inc) (meet_within (ν ∷ []) κ μ sp) j d.table (len R d) (first R d) o) $ await ! tt $ pick ! (λ names. learn ! (λ long. split ! $ move ! (1 ∷ []) $ split ! $
           -- [its own token; μ's token; the slots; the right to free; pending]
           let s : Standing = record { at = p; own = ν; names = names } in move ! (4 ∷ []) $ fsplit ! $ name_set ! tt (mark s) $ use1 𝓛 (‵ (fres t.which (mark s))) (𝓛.names.obs-res t.which (mark s)) $ move ! (1 ∷ 0 ∷ []) $ fjoin ! $

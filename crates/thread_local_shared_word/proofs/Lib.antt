@@ -1,4 +1,3 @@
 pub mod Fields
 pub mod Lent
-pub mod Pairs
 pub mod Words

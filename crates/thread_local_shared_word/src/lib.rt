@@ -3,8 +3,6 @@
 
 pub mod private;
 pub mod row;
-#[cfg(test)]
-mod tests;
 pub mod word;
 
 pub use private::Private;

@@ -2,8 +2,6 @@
 ghost use Rattle.std.specs.Prelude.{◌≡◌, ◌^◌, ◌<◌, IfOk};
 ghost use Rattle.thread_local_blocks.specs.Slots.{empty_slots};
 
-use crate::row::Row;
-use crate::word::SharedWord;
 use std::alloc::{AllocError, Global};
 use std::marker::Model;
 use thread_local_blocks::Block;
@@ -18,12 +16,15 @@ pub struct Private<T> {
 }
 
 impl<T> Model for Private<T> {
-    ghost use Rattle.std.specs.Prelude.{◌≡◌, ℕ, ◌^◌, ◌<◌};
+    ghost use Rattle.std.specs.Prelude.{◌≡◌, ◌^◌, ◌<◌};
     ghost use Rattle.thread_local_blocks.specs.Slots.{empty_slots};
+    ghost use Rattle.thread_local_shared_word.specs.Views.{PrivateView, private_view_coded};
 
-    ghost Value = { ℕ };
+    ghost Value = { PrivateView };
 
-    ghost view = { λ p. p.bucket };
+    ghost coded = { private_view_coded };
+
+    ghost view = { λ p. record { bucket = p.bucket } };
 
     ghost invariant = { λ p. (p.block.heap ≡ p.alloc) × (p.block.slots ≡ empty_slots (2 ^ p.bucket)) × (p.block.left ≡ 0) × (p.bucket < 63) };
 }
@@ -32,7 +33,7 @@ impl<T> Private<T> {
     /// A block for the bucket. It asks for memory once, and is refused where there is none, or the block would be too large.
     pub fn new(alloc: Global, bucket: usize) -> Result<Private<T>, AllocError>
         requires { bucket < 63 }
-        ensures { IfOk result (λ private. private ≡ bucket) }
+        ensures { IfOk result (λ private. private.bucket ≡ bucket) }
     {
         let block = Block::new(&alloc, 1 << bucket)?;
         Ok(Private {
@@ -54,8 +55,8 @@ impl<T> Private<T> {
 
     /// The block, what frees it, and its bucket, each alone.
     pub fn into_parts(self) -> (Block<T, Global>, Global, usize)
-        ensures block { (result.0.heap ≡ result.1) × (result.0.slots ≡ empty_slots (2 ^ self)) × (result.0.left ≡ 0) }
-        ensures bucket { (result.2 ≡ self) × (self < 63) }
+        ensures block { (result.0.heap ≡ result.1) × (result.0.slots ≡ empty_slots (2 ^ self.bucket)) × (result.0.left ≡ 0) }
+        ensures bucket { (result.2 ≡ self.bucket) × (self.bucket < 63) }
     {
         let Self {
             block,
@@ -69,29 +70,13 @@ impl<T> Private<T> {
     pub fn from_parts(block: Block<T, Global>, alloc: Global, bucket: usize) -> Private<T>
         requires block { (block.heap ≡ alloc) × (block.slots ≡ empty_slots (2 ^ bucket)) × (block.left ≡ 0) }
         requires bucket { bucket < 63 }
-        ensures { result ≡ bucket }
+        ensures { result.bucket ≡ bucket }
     {
         Private {
             block,
             alloc,
             bucket,
         }
-    }
-}
-
-impl<T> SharedWord<T> {
-    /// Lets the word lead to the block, if it led nowhere, by one compare and exchange. Answers the row of the block to which the word leads
-    /// from then on, whoever installed it. A block that came second is freed. It takes no memory, and never waits.
-    pub fn install(&self, private: Private<T>) -> Row<'_, T>
-        requires { private ≡ self.now.bucket }
-        ensures { result.of ≡ self.now }
-    {
-        let (block, alloc, bucket) = private.into_parts();
-        let (row, back) = self.offer(block);
-        if let Some(block) = back {
-            Private::from_parts(block, alloc, bucket).free();
-        }
-        row
     }
 }
 

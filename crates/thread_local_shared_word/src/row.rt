@@ -1,6 +1,6 @@
 //! The slots of a bucket that stands while threads share it.
 ghost use Rattle.std.specs.Prelude.{◌^◌, ◌<◌};
-ghost use Rattle.thread_local_shared_word_logic.specs.Shared.{Named, named_coded, row_owns};
+ghost use Rattle.thread_local_shared_word_logic.specs.Shared.{WordView, word_view_coded, row_owns};
 ghost use denote.Sharing.{said};
 
 use std::marker::{Brand, Model, PhantomData};
@@ -13,7 +13,7 @@ use thread_local_blocks::Slot;
 pub struct Row<'a, T> {
     pub at: *mut Slot<T>,
     pub marker: PhantomData<&'a T>,
-    pub ghost of: { Named } by { named_coded },
+    pub ghost of: { WordView } by { word_view_coded },
 }
 
 impl<'a, T> Model for Row<'a, T> {

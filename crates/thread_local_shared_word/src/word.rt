@@ -1,16 +1,14 @@
 //! A word that threads share: null, or a block of slots.
 ghost use Rattle.std.specs.Prelude.{◌≡◌, ◌^◌, true, false, IfSome, IsSome};
-ghost use Rattle.thread_local_blocks.specs.Slots.{empty_slots};
 ghost use Rattle.thread_local_judged.specs.Judged.{Judged};
-ghost use Rattle.thread_local_shared_word_logic.specs.Shared.{Named, named_coded, word_owns, word_shares};
+ghost use Rattle.thread_local_shared_word_logic.specs.Shared.{WordView, word_view_coded, word_owns, word_shares};
 
 use crate::row::Row;
-use std::alloc::Global;
 use std::marker::{Brand, Move, Owns, PhantomData};
 use std::ptr::null_mut;
 use std::sync::atomic::Ordering::SeqCst;
 use std::sync::atomic::raw::ptr;
-use thread_local_blocks::{Block, Slot};
+use thread_local_blocks::Slot;
 use thread_local_rights::Rights;
 
 /// A word that threads share: null, or a block of slots. A contract sees its table, its bucket and whether the bucket is reserved.
@@ -19,9 +17,9 @@ pub struct SharedWord<T> {
 }
 
 impl<T> Owns for SharedWord<T> {
-    ghost Value = { Named };
+    ghost Value = { WordView };
 
-    ghost coded = { named_coded };
+    ghost coded = { word_view_coded };
 
     ghost shr_at = { λ d p κ. word_shares T.row d p κ };
 }
@@ -58,44 +56,11 @@ impl<T> SharedWord<T> {
             })
         }
     }
-}
 
-impl<T> SharedWord<T> {
-    // Where the word leads nowhere, it leads to the block from then on. Else the block comes back.
-    pub(crate) fn offer(&self, block: Block<T, Global>) -> (Row<'_, T>, Option<Block<T, Global>>)
-        requires made { (block.slots ≡ empty_slots (2 ^ self.now.bucket)) × (block.left ≡ 0) }
-        ensures of { result.0.of ≡ self.now }
-        ensures back { IfSome result.1 (λ back. (back.heap ≡ block.heap) × (back.slots ≡ block.slots) × (back.left ≡ 0)) }
-    {
-        let at = block.at;
-        match unsafe {
-            ptr::compare_exchange::<u64, Brand>(
-                &raw const self.at as *const *mut u64,
-                null_mut(),
-                at as *mut u64,
-                SeqCst,
-                SeqCst,
-            )
-        } {
-            Ok(_) => {
-                let Block { at: _, marker: _ } = block;
-                (
-                    Row {
-                        at,
-                        marker: PhantomData,
-                    },
-                    None,
-                )
-            }
-            Err(first) => (
-                Row {
-                    at: first as *mut Slot<T>,
-                    marker: PhantomData,
-                },
-                Some(block),
-            ),
-        }
-    }
+    /// Shows that the type of the values is judged, as whoever made the word did. At run time it does nothing.
+    pub fn judged(&self)
+        ensures judged { Judged T.row }
+    {}
 }
 
 unsafe impl<T: Send> Send for SharedWord<T> {}

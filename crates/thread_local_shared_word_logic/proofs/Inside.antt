@@ -12,7 +12,7 @@ use denote.RawPtr.{Ptr, block_ptr, null_ptr, block_of, count_of}
 use denote.Steps.{nothing}
 use Rattle.thread_local_blocks.specs.Slots.{stride}
 use Rattle.std.specs.Sync.RawAtomic.Pointer.{cell}
-use Rattle.thread_local_shared_word_logic.specs.Shared.{name_at, Named, Turn, Standing, standing_coded, mark, each_slot, slot, len, first, Sized, standing, beside_pointer, invariant}
+use Rattle.thread_local_shared_word_logic.specs.Shared.{name_at, WordView, Turn, Standing, standing_coded, mark, each_slot, shared_slot, len, first, Sized, standing, beside_pointer, invariant}
 
 step : (i s e : ℕ) → suc i * s + e ≡ i * s + (e + s)
 step i s e = omega arith
@@ -70,7 +70,7 @@ module _ {M : Type 1} {𝓤 : Ura M} (𝓛 : Logic 𝓤) where
         use1 𝓛 (‵ One ⊛ raw (⟦ One ⟧ -∗ ⟦ Rest ⟧)) (slot_out names (suc k) (e + stride R) i k' e' (omega arith) (omega arith) (q ∙ step i (stride R) e)) $ split ! $ frame ! $ assume ! (‵ One) $
         use2 𝓛 (‵ Rest) (apply∗ 𝓤 ⟦ One ⟧ ⟦ Rest ⟧) $ move ! (1 ∷ 0 ∷ []) $ fjoin ! $ done !
 
-  module _ (R : RattleType) (d : Named) (t : Turn) (wb wo : ℕ) (s : Standing) (i k e b : ℕ) (low : i < length s.names) (at_k : k ≡ i + first R d) (at_e : e ≡ i * stride R + count_of s.at) (at_b : block_of s.at ≡ b) where
+  module _ (R : RattleType) (d : WordView) (t : Turn) (wb wo : ℕ) (s : Standing) (i k e b : ℕ) (low : i < length s.names) (at_k : k ≡ i + first R d) (at_e : e ≡ i * stride R + count_of s.at) (at_b : block_of s.at ≡ b) where
     abbrev pub I : Fml
     I = invariant R d t wb wo
 
@@ -78,17 +78,17 @@ module _ {M : Type 1} {𝓤 : Ura M} (𝓛 : Logic 𝓤) where
     Which = fres t.which (mark s)
 
     abbrev pub Slot : Fml
-    Slot = slot R t b s.own d.table k e (name_at s.names i)
+    Slot = shared_slot R t b s.own d.table k e (name_at s.names i)
 
     abbrev Word : Ptr → Fml
     Word p = fsep (cell wb wo p) (beside_pointer R d t p)
 
     pub in_block : (p : Ptr) (r : Share) → ⟦ standing R d t p (s, r) ⟧ ⊢ ⟦ Slot ⟧ ∗ (⟦ Slot ⟧ -∗ ⟦ standing R d t p (s, r) ⟧)
-    in_block p r = let Row : ℕ → Fml = λ z. each_slot R (slot R t z s.own d.table) s.names (first R d) (count_of p) in
+    in_block p r = let Row : ℕ → Fml = λ z. each_slot R (shared_slot R t z s.own d.table) s.names (first R d) (count_of p) in
         qed 𝓛 (‵ (standing R d t p (s, r)) ∷ []) ∵ fsplit ! $ fpick ! (λ h. move ! (1 ∷ []) $ fsplit ! $ move ! (1 ∷ []) $ fsplit ! $ move ! (1 ∷ []) $ fsplit ! $
         -- [the slots; the right to free; the token; the name; nothing]
         let there : block_of p ≡ b = sym (ap block_of h.0) ∙ at_b in rewrite ! 0 (λ (z : ℕ). ‵ (Row z)) there refl $
-        use1 𝓛 (‵ Slot ⊛ raw (⟦ Slot ⟧ -∗ ⟦ Row b ⟧)) (slot_out R (slot R t b s.own d.table) s.names (first R d) (count_of p) i k e low at_k (at_e ∙ ap (λ (z : Ptr). i * stride R + count_of z) h.0)) $ split ! $ frame ! $
+        use1 𝓛 (‵ Slot ⊛ raw (⟦ Slot ⟧ -∗ ⟦ Row b ⟧)) (slot_out R (shared_slot R t b s.own d.table) s.names (first R d) (count_of p) i k e low at_k (at_e ∙ ap (λ (z : Ptr). i * stride R + count_of z) h.0)) $ split ! $ frame ! $
         assume ! (‵ Slot) $ use2 𝓛 (‵ (Row b)) (apply∗ 𝓤 ⟦ Slot ⟧ ⟦ Row b ⟧) $ rewrite ! 0 (λ (z : ℕ). ‵ (Row z)) (sym there) refl $ fjoin ! $ move ! (1 ∷ 0 ∷ []) $ fjoin ! $ move ! (1 ∷ 0 ∷ []) $ fjoin ! $
         move ! (1 ∷ []) $ fpack ! ((s.at ≡ p) × (length s.names ≡ len R d) × Sized R (len R d) p) (λ _. ftrue) h $ fjoin ! $ done !)
 

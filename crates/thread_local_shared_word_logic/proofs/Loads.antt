@@ -15,10 +15,10 @@ use denote.Steps.{nothing}
 use denote.SharingLaws.{ends_shr_laws}
 use Rattle.std.specs.Sync.RawAtomic.Pointer.{cell, asks_ptr}
 use Rattle.thread_local_blocks.specs.Slots.{fact}
-use Rattle.thread_local_shared_word_logic.specs.Shared.{Named, Turn, Standing, mark, Sized, len, first, all_unborn, standing, beside_pointer, invariant, row}
+use Rattle.thread_local_shared_word_logic.specs.Shared.{WordView, Turn, Standing, mark, Sized, len, first, all_unborn, standing, beside_pointer, invariant, loaded}
 use Rattle.thread_local_shared_word_logic.proofs.Pointers.{Lies, opened}
 
-module _ {M : Type 1} {𝓤 : Ura M} (𝓛 : Logic 𝓤) (R : RattleType) (d : Named) (t : Turn) where
+module _ {M : Type 1} {𝓤 : Ura M} (𝓛 : Logic 𝓤) (R : RattleType) (d : WordView) (t : Turn) where
   open 𝓛 use {H, A}
 
   abbrev Pr : Type 2
@@ -52,7 +52,7 @@ module _ {M : Type 1} {𝓤 : Ura M} (𝓛 : Logic 𝓤) (R : RattleType) (d : N
       move ! (1 ∷ 0 ∷ []) $ nothing ! $ fpack ! ((z.0.at ≡ p) × (length z.0.names ≡ len R d) × Sized R (len R d) p) (λ _. ftrue) so $ fjoin3 ! $ done !)
 
   -- the part is given up for good, and the block lasts as long as the reader's lifetime
-  pub reaches : (κ : Lft) (p : Ptr) (z : Standing × Share) → ⟦ part p z ⟧ ∗ ⟦ before κ t.life ⟧ ⊢ H.⇛ (⟦ fact ((z.0.at ≡ p) × Sized R (len R d) p) ⟧ ∗ ⟦ row R d t z.0 κ ⟧)
+  pub reaches : (κ : Lft) (p : Ptr) (z : Standing × Share) → ⟦ part p z ⟧ ∗ ⟦ before κ t.life ⟧ ⊢ H.⇛ (⟦ fact ((z.0.at ≡ p) × Sized R (len R d) p) ⟧ ∗ ⟦ loaded R d t z.0 κ ⟧)
   reaches κ p z = let ν : Lft = z.0.own ∷ [] in let α : Lft = t.life in
       qed 𝓛 (‵ (part p z) ∷ ‵ (before κ α) ∷ []) ∵ updating ! $ fsplit3 ! $ fpick ! (λ so. drop ! $ move ! (1 ∷ []) $ bor_new ! tt α $ bor_fracture ! tt (λ q. flft ν q) z.1 $ move ! (1 ∷ []) $ drop ! $
       use0 𝓛 (‵ (before (ν ++ α) (ν ++ α))) (before-Incl 𝓛 (ν ++ α) (ν ++ α) (Incl-refl (ν ++ α))) $ move ! (1 ∷ 0 ∷ []) $ use2 𝓛 (‵ (before α (ν ++ α))) (before_lent 𝓛 α ν (ν ++ α)) $ move ! (2 ∷ 0 ∷ []) $

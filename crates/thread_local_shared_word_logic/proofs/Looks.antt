@@ -13,16 +13,16 @@ use denote.Param.Laws.{Laws}
 use Rattle.std.specs.Sync.RawAtomic.{asks, always}
 use Rattle.thread_local_judged.specs.Judged.{Shareable}
 use Rattle.thread_local_blocks.specs.Slots.{stride, value_at}
-use Rattle.thread_local_shared_word_logic.specs.Shared.{name_at, Named, Turn, Standing, Who, mark, shared_value, opened, first, invariant}
+use Rattle.thread_local_shared_word_logic.specs.Shared.{name_at, WordView, Turn, Standing, Who, mark, shared_value, opened, first, invariant}
 use Rattle.thread_local_shared_word_logic.proofs.Rested.{opens_by}
-use Rattle.thread_local_shared_word_logic.proofs.Steps.{Stands, Had, Turned, stepped}
+use Rattle.thread_local_shared_word_logic.proofs.Steps.{Stays, Had, Turned, stepped}
 
 -- what a look takes away, by the flag that it found
 abbrev pub by_flag : {X : Type 0} → (X → Fml) → ℕ → Fml
 by_flag F zero = ftrue
 by_flag {X} F (suc n) = fex X F
 
-module _ {M : Type 1} {𝓤 : Ura M} (𝓛 : Logic 𝓤) (R : RattleType) (L : Laws R) (j : Shareable R) (d : Named) (t : Turn) (wb wo : ℕ) (s : Standing) (i k e b : ℕ) (low : i < length s.names) (at_k : k ≡ i + first R d) (at_e : e ≡ i * stride R + count_of s.at) (at_b : block_of s.at ≡ b) where
+module _ {M : Type 1} {𝓤 : Ura M} (𝓛 : Logic 𝓤) (R : RattleType) (L : Laws R) (j : Shareable R) (d : WordView) (t : Turn) (wb wo : ℕ) (s : Standing) (i k e b : ℕ) (low : i < length s.names) (at_k : k ≡ i + first R d) (at_e : e ≡ i * stride R + count_of s.at) (at_b : block_of s.at ≡ b) where
   open 𝓛 use {A}
 
   abbrev ◌⊢◌ : SProp 𝓤 → SProp 𝓤 → Type 1
@@ -42,11 +42,11 @@ module _ {M : Type 1} {𝓤 : Ura M} (𝓛 : Logic 𝓤) (R : RattleType) (L : L
   abbrev pub seen : ℕ → Fml
   seen = by_flag lent
 
-  looked : (q : Share) (v : Option R.Denot) (w : Who) → ⟦ Stands 𝓛 R d t wb wo s i k e b low at_k at_e at_b v ⟧ ∗ ⟦ Had 𝓛 R d t wb wo s i k e b low at_k at_e at_b v w ⟧ ∗ ⟦ ftrue ⟧ ⊢ ex 𝓤 (Turned 𝓛 R d t wb wo s i k e b low at_k at_e at_b q (λ n. n) seen v)
+  looked : (q : Share) (v : Option R.Denot) (w : Who) → ⟦ Stays 𝓛 R d t wb wo s i k e b low at_k at_e at_b v ⟧ ∗ ⟦ Had 𝓛 R d t wb wo s i k e b low at_k at_e at_b v w ⟧ ∗ ⟦ ftrue ⟧ ⊢ ex 𝓤 (Turned 𝓛 R d t wb wo s i k e b low at_k at_e at_b q (λ n. n) seen v)
   looked q None w = let F = Turned 𝓛 R d t wb wo s i k e b low at_k at_e at_b q (λ n. n) seen None in
-      qed 𝓛 (‵ (Stands 𝓛 R d t wb wo s i k e b low at_k at_e at_b None) ∷ ‵ (Had 𝓛 R d t wb wo s i k e b low at_k at_e at_b None w) ∷ ‵ ftrue ∷ []) ∵ show ! F (None, w) $ check ! refl $ done !
+      qed 𝓛 (‵ (Stays 𝓛 R d t wb wo s i k e b low at_k at_e at_b None) ∷ ‵ (Had 𝓛 R d t wb wo s i k e b low at_k at_e at_b None w) ∷ ‵ ftrue ∷ []) ∵ show ! F (None, w) $ check ! refl $ done !
   looked q (Some x) w = let F = Turned 𝓛 R d t wb wo s i k e b low at_k at_e at_b q (λ n. n) seen (Some x) in let S : Lft → Fml = shared_of R x b (value_at R e) in
-      qed 𝓛 (‵ (Stands 𝓛 R d t wb wo s i k e b low at_k at_e at_b (Some x)) ∷ ‵ (Had 𝓛 R d t wb wo s i k e b low at_k at_e at_b (Some x) w) ∷ ‵ ftrue ∷ []) ∵ fsplit3 ! $ move ! (2 ∷ []) $
+      qed 𝓛 (‵ (Stays 𝓛 R d t wb wo s i k e b low at_k at_e at_b (Some x)) ∷ ‵ (Had 𝓛 R d t wb wo s i k e b low at_k at_e at_b (Some x) w) ∷ ‵ ftrue ∷ []) ∵ fsplit3 ! $ move ! (2 ∷ []) $
       use1 𝓛 (‵ (lent x)) (all_e 𝓤 (λ (_ : Shareable R). ⟦ lent x ⟧) j) $ use1 𝓛 (‵ (lent x) ⊛ ‵ (lent x)) (contraction 𝓛 S (L.shr_laws x b (value_at R e)) (s.own ∷ t.life)) $ split ! $
       use1 𝓛 (‵ (opened R t b s.own e x)) (opens_by 𝓛 t R L b s.own e (name_at s.names i) x) $ move ! (2 ∷ 3 ∷ 0 ∷ []) $ fjoin3 ! $ move ! (1 ∷ []) $ fpack ! R.Denot lent x $
       show ! F (Some x, w) $ check ! refl $ types.Kit.keep ! (1 ∷ 2 ∷ 0 ∷ []) $ done !

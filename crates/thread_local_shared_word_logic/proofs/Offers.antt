@@ -26,7 +26,7 @@ use Rattle.std.proofs.GlobalToken.{dealloc_token-Testable}
 use Rattle.thread_local_rights.specs.Rights.{right_owns}
 use Rattle.thread_local_blocks.specs.Slots as blocks
 use Rattle.thread_local_blocks.specs.Slots.{fact, slot_ty, stride, block_ty, value_at, rim, place, along, block_owns, empty_slots, heap_token, Fits}
-use Rattle.thread_local_shared_word_logic.specs.Shared.{Named, Turn, Standing, Who, free, early, mark, value_code, value_of, age, slot_as, slot, each_slot, waiting, all_unborn, Sized, len, first, standing, beside_pointer, invariant}
+use Rattle.thread_local_shared_word_logic.specs.Shared.{WordView, Turn, Standing, Who, free, early, mark, value_code, value_of, age, shared_slot_as, shared_slot, each_slot, waiting, all_unborn, Sized, len, first, standing, beside_pointer, invariant}
 use Rattle.thread_local_shared_word_logic.proofs.Pointers.{Compared, opened_to_compare, alike_null}
 use Rattle.thread_local_shared_word_logic.proofs.Loads.{part, glimpse, parted}
 
@@ -83,20 +83,20 @@ module _ {M : Type 1} {𝓤 : Ura M} (𝓛 : Logic 𝓤) (R : RattleType) (t : T
         move ! (2 ∷ 0 ∷ []) $ use2 𝓛 (later (‵ (blocks.slot R b None e))) (takes_one k e η) $ await ! tt $ move ! (2 ∷ 1 ∷ []) $
         use2 𝓛 (later (‵ (along R (blocks.slot R b) (empty_slots (length names)) (e + stride R)))) (takes_all names (suc k) (e + stride R)) $ await ! tt $ move ! (1 ∷ 0 ∷ []) $ fjoin ! $ now ! $ done !
 
-    born_one : (table k e : ℕ) (η : GName) (w : Bool) → ⟦ right_owns t.vacant k ⟧ ∗ ⟦ right_owns t.filled k ⟧ ∗ ⟦ waiting R w table t.pass k ⟧ ∗ ⟦ bare k e η ⟧ ⊢ ⟦ slot R t b ν table k e η ⟧
+    born_one : (table k e : ℕ) (η : GName) (w : Bool) → ⟦ right_owns t.vacant k ⟧ ∗ ⟦ right_owns t.filled k ⟧ ∗ ⟦ waiting R w table t.pass k ⟧ ∗ ⟦ bare k e η ⟧ ⊢ ⟦ shared_slot R t b ν table k e η ⟧
     born_one table k e η true = qed 𝓛 (‵ (right_owns t.vacant k) ∷ ‵ (right_owns t.filled k) ∷ ‵ (right_owns table k) ∷ ‵ (bare k e η) ∷ []) ∵ move ! (3 ∷ []) $ fsplit3 ! $ move ! (2 ∷ []) $ fsplit3 ! $
         -- [the flag; its name; the borrow; the rim; the way to its end; vacant; filled; the right]
-        move ! (5 ∷ 1 ∷ 2 ∷ []) $ fjoin3 ! $ move ! (5 ∷ 0 ∷ []) $ fjoin ! $ move ! (1 ∷ 4 ∷ 0 ∷ []) $ fjoin3 ! $ fpack ! (Option R.Denot × Who) (slot_as R t b ν table k e η) (None, early) $ move ! (1 ∷ 2 ∷ 0 ∷ []) $ fjoin3 ! $ done !
+        move ! (5 ∷ 1 ∷ 2 ∷ []) $ fjoin3 ! $ move ! (5 ∷ 0 ∷ []) $ fjoin ! $ move ! (1 ∷ 4 ∷ 0 ∷ []) $ fjoin3 ! $ fpack ! (Option R.Denot × Who) (shared_slot_as R t b ν table k e η) (None, early) $ move ! (1 ∷ 2 ∷ 0 ∷ []) $ fjoin3 ! $ done !
     born_one table k e η false = qed 𝓛 (‵ (right_owns t.vacant k) ∷ ‵ (right_owns t.filled k) ∷ ‵ (right_owns t.pass k) ∷ ‵ (bare k e η) ∷ []) ∵ move ! (3 ∷ []) $ fsplit3 ! $ move ! (2 ∷ []) $ fsplit3 ! $
-        move ! (5 ∷ 1 ∷ 2 ∷ []) $ fjoin3 ! $ move ! (5 ∷ 0 ∷ []) $ fjoin ! $ move ! (1 ∷ 4 ∷ 0 ∷ []) $ fjoin3 ! $ fpack ! (Option R.Denot × Who) (slot_as R t b ν table k e η) (None, free) $ move ! (1 ∷ 2 ∷ 0 ∷ []) $ fjoin3 ! $ done !
+        move ! (5 ∷ 1 ∷ 2 ∷ []) $ fjoin3 ! $ move ! (5 ∷ 0 ∷ []) $ fjoin ! $ move ! (1 ∷ 4 ∷ 0 ∷ []) $ fjoin3 ! $ fpack ! (Option R.Denot × Who) (shared_slot_as R t b ν table k e η) (None, free) $ move ! (1 ∷ 2 ∷ 0 ∷ []) $ fjoin3 ! $ done !
 
-    born_all : (table : ℕ) (names : List ℕ) (k e : ℕ) → ⟦ all_unborn R table t (length names) k ⟧ ∗ ⟦ each_slot R bare names k e ⟧ ⊢ ⟦ each_slot R (slot R t b ν table) names k e ⟧
+    born_all : (table : ℕ) (names : List ℕ) (k e : ℕ) → ⟦ all_unborn R table t (length names) k ⟧ ∗ ⟦ each_slot R bare names k e ⟧ ⊢ ⟦ each_slot R (shared_slot R t b ν table) names k e ⟧
     born_all table [] k e = qed 𝓛 (‵ ftrue ∷ ‵ ftrue ∷ []) ∵ drop ! $ done !
     born_all table (η ∷ names) k e = qed 𝓛 (‵ (all_unborn R table t (length (η ∷ names)) k) ∷ ‵ (each_slot R bare (η ∷ names) k e) ∷ []) ∵ fsplit ! $ fsplit3 ! $ move ! (2 ∷ []) $ fpick ! (λ w. move ! (4 ∷ []) $ fsplit ! $
         -- [the slot; the other slots; what waits; vacant; filled; the others that are unborn]
-        move ! (3 ∷ 4 ∷ 2 ∷ 0 ∷ []) $ types.Kit.group ! 4 $ use1 𝓛 (‵ (slot R t b ν table k e η)) (born_one table k e η w) $ frame ! $ move ! (1 ∷ 0 ∷ []) $ by ! (born_all table names (suc k) (e + stride R)))
+        move ! (3 ∷ 4 ∷ 2 ∷ 0 ∷ []) $ types.Kit.group ! 4 $ use1 𝓛 (‵ (shared_slot R t b ν table k e η)) (born_one table k e η w) $ frame ! $ move ! (1 ∷ 0 ∷ []) $ by ! (born_all table names (suc k) (e + stride R)))
 
-  module _ (d : Named) (a : Global) where
+  module _ (d : WordView) (a : Global) where
     abbrev n : ℕ
     n = len R d
 
@@ -167,7 +167,7 @@ module _ {M : Type 1} {𝓤 : Ura M} (𝓛 : Logic 𝓤) (R : RattleType) (t : T
           use1 𝓛 (‵ (fres γ m)) (𝓛.names.obs-res γ m) $ move ! (1 ∷ 0 ∷ []) $ fjoin ! $ move ! (3 ∷ []) $ fsplit3 ! $
           -- [its own token; the slots; the right to free; settled; what waits; the pointer]
           move ! (4 ∷ []) $ rewrite ! 0 (λ (k : ℕ). ‵ (all_unborn R d.table t k (first R d))) (sym so.1) refl $ move ! (0 ∷ 2 ∷ []) $
-          use2 𝓛 (‵ (each_slot R (slot R t nb s.own d.table) s.names (first R d) no)) (born_all nb s.own d.table s.names (first R d) no) $ move ! (2 ∷ []) $ fpack ! Global (λ z. ghosts.dealloc_token z τ new) a $ move ! (1 ∷ 0 ∷ []) $ fjoin ! $
+          use2 𝓛 (‵ (each_slot R (shared_slot R t nb s.own d.table) s.names (first R d) no)) (born_all nb s.own d.table s.names (first R d) no) $ move ! (2 ∷ []) $ fpack ! Global (λ z. ghosts.dealloc_token z τ new) a $ move ! (1 ∷ 0 ∷ []) $ fjoin ! $
           move ! (2 ∷ 1 ∷ 0 ∷ []) $ fjoin3 ! $ nothing ! $ fpack ! (Lies new s) (λ _. ftrue) so $ fjoin ! $
           use1 𝓛 (‵ (standing R d t new (s, left full_share)) ⊛ ‵ (part 𝓛 R d t new (s, right full_share))) (parted 𝓛 R d t new (s, full_share)) $ split ! $
           fpack ! (Standing × Share) (standing R d t new) (s, left full_share) $ move ! (2 ∷ 0 ∷ []) $ fjoin ! $ fpack ! Ptr Held new $ done !

@@ -23,7 +23,7 @@ use Rattle.std.proofs.cell.BorrowLemmas.{by_one}
 use Rattle.thread_local_rights.specs.Rights.{right_owns}
 use Rattle.thread_local_judged.specs.Judged.{Shareable, Judged}
 use Rattle.thread_local_blocks.specs.Slots.{stride, value_at, place}
-use Rattle.thread_local_shared_word_logic.specs.Shared.{Turn, Who, free, value_code, pinned, value_of, age, shared_value, opened, by as lent_by, stands, had, slot_as, slot, each_slot, waiting, all_unborn, due, rests, slot_rests_as, slot_rests, slots_rest}
+use Rattle.thread_local_shared_word_logic.specs.Shared.{Turn, Who, free, value_code, pinned, value_of, age, shared_value, opened, by as lent_by, stays, had, shared_slot_as, shared_slot, each_slot, waiting, all_unborn, due, rests, slot_rests_as, slot_rests, slots_rest}
 use Rattle.thread_local_shared_word_logic.proofs.Tokens.{tokens_from, token_off}
 
 module _ {M : Type 1} {𝓤 : Ura M} (𝓛 : Logic 𝓤) where
@@ -141,7 +141,7 @@ module _ {M : Type 1} {𝓤 : Ura M} (𝓛 : Logic 𝓤) where
       -- what comes of a slot beside its flag and its rim
       module _ (table k e : ℕ) (X : Pr) where
         abbrev pub Born : Option R.Denot → GName → Pr
-        Born v η = ⟦ flent κ (value_of R b e η) ⟧ ∗ ⟦ stands R t b ν k e η v ⟧ ∗ ⟦ had R t b ν table k e η v free ⟧ ∗ X
+        Born v η = ⟦ flent κ (value_of R b e η) ⟧ ∗ ⟦ stays R t b ν k e η v ⟧ ∗ ⟦ had R t b ν table k e η v free ⟧ ∗ X
 
       born : (ts : Toks) → Incl (span ts) R.lives → Incl (span ts) κ → Judged R → (table k e : ℕ) (v : Option R.Denot)
           → ⟦ place R v b (value_at R e) ⟧ ∗ ⟦ tokens k ⟧ ∗ lfts 𝓛 ts ⊢ H.⇛ (ex 𝓤 (Born table k e (lfts 𝓛 ts) v))
@@ -162,40 +162,40 @@ module _ {M : Type 1} {𝓤 : Ura M} (𝓛 : Logic 𝓤) where
 
       -- a slot that lay at rest comes under the turn
       wakes_slot : (ts : Toks) → Incl (span ts) R.lives → Incl (span ts) κ → Judged R → (table k e : ℕ)
-          → ⟦ slot_rests R b e ⟧ ∗ ⟦ tokens k ⟧ ∗ lfts 𝓛 ts ⊢ H.⇛ (ex 𝓤 (λ (η : GName). ⟦ slot R t b ν table k e η ⟧ ∗ lfts 𝓛 ts))
+          → ⟦ slot_rests R b e ⟧ ∗ ⟦ tokens k ⟧ ∗ lfts 𝓛 ts ⊢ H.⇛ (ex 𝓤 (λ (η : GName). ⟦ shared_slot R t b ν table k e η ⟧ ∗ lfts 𝓛 ts))
       wakes_slot ts inc sp j table k e = qed 𝓛 (‵ (slot_rests R b e) ∷ ‵ (tokens k) ∷ raw (lfts 𝓛 ts) ∷ []) ∵ updating ! $ fsplit ! $ move ! (1 ∷ []) $ fpick ! (λ s. fsplit ! $ move ! (1 ∷ []) $
           use1 𝓛 (later (‵ (place R s.0 b (value_at R e)))) (redeems R L b e s.1 s.0) $ await ! tt $ move ! (0 ∷ 3 ∷ 4 ∷ []) $
           let F : GName → Pr = Born table k e (lfts 𝓛 ts) s.0 in
-          use3 𝓛 (later (some (λ (η : GName). ‵ (flent κ (value_of R b e η)) ⊛ ‵ (stands R t b ν k e η s.0) ⊛ ‵ (had R t b ν table k e η s.0 free) ⊛ raw (lfts 𝓛 ts)))) (born ts inc sp j table k e s.0) $ await ! tt $ pick ! (λ η. split3 ! $ move ! (2 ∷ []) $ split ! $
+          use3 𝓛 (later (some (λ (η : GName). ‵ (flent κ (value_of R b e η)) ⊛ ‵ (stays R t b ν k e η s.0) ⊛ ‵ (had R t b ν table k e η s.0 free) ⊛ raw (lfts 𝓛 ts)))) (born ts inc sp j table k e s.0) $ await ! tt $ pick ! (λ η. split3 ! $ move ! (2 ∷ []) $ split ! $
           -- [had; the lifetimes; the way to the end; stands; the flag; the rim]
-          move ! (4 ∷ 3 ∷ 0 ∷ []) $ fjoin3 ! $ fpack ! (Option R.Denot × Who) (slot_as R t b ν table k e η) (s.0, free) $ move ! (3 ∷ 2 ∷ 0 ∷ []) $ fjoin3 ! $
-          now ! $ show ! (λ (μ : GName). ⟦ slot R t b ν table k e μ ⟧ ∗ lfts 𝓛 ts) η $ done !))
+          move ! (4 ∷ 3 ∷ 0 ∷ []) $ fjoin3 ! $ fpack ! (Option R.Denot × Who) (shared_slot_as R t b ν table k e η) (s.0, free) $ move ! (3 ∷ 2 ∷ 0 ∷ []) $ fjoin3 ! $
+          now ! $ show ! (λ (μ : GName). ⟦ shared_slot R t b ν table k e μ ⟧ ∗ lfts 𝓛 ts) η $ done !))
 
       abbrev pub Woken : Toks → ℕ → ℕ → ℕ → ℕ → List ℕ → Pr
-      Woken ts table n k e names = guard 𝓤 (length names ≡ n) (⟦ each_slot R (slot R t b ν table) names k e ⟧ ∗ lfts 𝓛 ts)
+      Woken ts table n k e names = guard 𝓤 (length names ≡ n) (⟦ each_slot R (shared_slot R t b ν table) names k e ⟧ ∗ lfts 𝓛 ts)
 
       pub wakes_slots : (ts : Toks) → Incl (span ts) R.lives → Incl (span ts) κ → Judged R → (table n k e : ℕ)
           → ⟦ slots_rest R n b e ⟧ ∗ ⟦ all_tokens k ⟧ ∗ lfts 𝓛 ts ⊢ H.⇛ (ex 𝓤 (Woken ts table n k e))
       wakes_slots ts inc sp j table zero k e = qed 𝓛 (‵ ftrue ∷ ‵ (all_tokens k) ∷ raw (lfts 𝓛 ts) ∷ []) ∵ updating ! $ now ! $ show ! (Woken ts table 0 k e) [] $ check ! refl $ keep ! (0 ∷ 2 ∷ []) $ done !
       wakes_slots ts inc sp j table (suc n) k e = qed 𝓛 (‵ (slots_rest R (suc n) b e) ∷ ‵ (all_tokens k) ∷ raw (lfts 𝓛 ts) ∷ []) ∵ updating ! $ fsplit ! $ move ! (2 ∷ []) $
           use1 𝓛 (‵ (tokens k) ⊛ ‵ (all_tokens (suc k))) (tokens_step k) $ split ! $ move ! (2 ∷ 0 ∷ 4 ∷ []) $
-          use3 𝓛 (later (some (λ (η : GName). ‵ (slot R t b ν table k e η) ⊛ raw (lfts 𝓛 ts)))) (wakes_slot ts inc sp j table k e) $ await ! tt $ pick ! (λ η. split ! $ move ! (3 ∷ 2 ∷ 1 ∷ []) $
-          use3 𝓛 (later (some (λ (names : List ℕ). given (length names ≡ n) (‵ (each_slot R (slot R t b ν table) names (suc k) (e + stride R)) ⊛ raw (lfts 𝓛 ts))))) (wakes_slots ts inc sp j table n (suc k) (e + stride R)) $ await ! tt $ pick ! (λ names. learn ! (λ long. split ! $
+          use3 𝓛 (later (some (λ (η : GName). ‵ (shared_slot R t b ν table k e η) ⊛ raw (lfts 𝓛 ts)))) (wakes_slot ts inc sp j table k e) $ await ! tt $ pick ! (λ η. split ! $ move ! (3 ∷ 2 ∷ 1 ∷ []) $
+          use3 𝓛 (later (some (λ (names : List ℕ). given (length names ≡ n) (‵ (each_slot R (shared_slot R t b ν table) names (suc k) (e + stride R)) ⊛ raw (lfts 𝓛 ts))))) (wakes_slots ts inc sp j table n (suc k) (e + stride R)) $ await ! tt $ pick ! (λ names. learn ! (λ long. split ! $
           move ! (2 ∷ 0 ∷ []) $ fjoin ! $ now ! $ show ! (Woken ts table (suc n) k e) (η ∷ names) $ check ! (ap suc long) $ done !)))
 
-      owed : (k e : ℕ) (η : GName) (v : Option R.Denot) → A.dead κ ∗ ⟦ flent κ (value_of R b e η) ⟧ ∗ ⟦ stands R t b ν k e η v ⟧ ⊢ ⟦ rests R true b e v ⟧
+      owed : (k e : ℕ) (η : GName) (v : Option R.Denot) → A.dead κ ∗ ⟦ flent κ (value_of R b e η) ⟧ ∗ ⟦ stays R t b ν k e η v ⟧ ⊢ ⟦ rests R true b e v ⟧
       owed k e η None = qed 𝓛 (‵ (fdead κ) ∷ ‵ (flent κ (value_of R b e η)) ∷ ‵ (right_owns t.filled k) ∷ []) ∵ fjoin ! $ fpack ! (Lft × GName) (due R b e None) (κ, η) $ keep ! (0 ∷ []) $ done !
-      owed k e η (Some x) = qed 𝓛 (‵ (fdead κ) ∷ ‵ (flent κ (value_of R b e η)) ∷ ‵ (stands R t b ν k e η (Some x)) ∷ []) ∵ fjoin ! $ move ! (1 ∷ []) $ fsplit3 ! $ move ! (1 ∷ 3 ∷ []) $ fjoin ! $
+      owed k e η (Some x) = qed 𝓛 (‵ (fdead κ) ∷ ‵ (flent κ (value_of R b e η)) ∷ ‵ (stays R t b ν k e η (Some x)) ∷ []) ∵ fjoin ! $ move ! (1 ∷ []) $ fsplit3 ! $ move ! (1 ∷ 3 ∷ []) $ fjoin ! $
           fpack ! (Lft × GName) (due R b e (Some x)) (κ, η) $ keep ! (0 ∷ []) $ done !
 
       -- a slot goes to rest once the turn is over
-      rests_slot : (table k e : ℕ) (η : GName) → A.dead κ ∗ ⟦ slot R t b ν table k e η ⟧ ⊢ ⟦ slot_rests R b e ⟧
-      rests_slot table k e η = qed 𝓛 (‵ (fdead κ) ∷ ‵ (slot R t b ν table k e η) ∷ []) ∵ move ! (1 ∷ []) $ fsplit3 ! $ move ! (2 ∷ []) $ fpick ! (λ s. fsplit3 ! $
+      rests_slot : (table k e : ℕ) (η : GName) → A.dead κ ∗ ⟦ shared_slot R t b ν table k e η ⟧ ⊢ ⟦ slot_rests R b e ⟧
+      rests_slot table k e η = qed 𝓛 (‵ (fdead κ) ∷ ‵ (shared_slot R t b ν table k e η) ∷ []) ∵ move ! (1 ∷ []) $ fsplit3 ! $ move ! (2 ∷ []) $ fpick ! (λ s. fsplit3 ! $
           -- [the flag; stands; had; the rim; the way to the end; dead]
           move ! (5 ∷ 4 ∷ 1 ∷ []) $ use3 𝓛 (‵ (rests R true b e s.0)) (owed k e η s.0) $ move ! (1 ∷ 0 ∷ []) $ fjoin ! $ fpack ! (Option R.Denot × Bool) (slot_rests_as R b e) (s.0, true) $
           move ! (2 ∷ 0 ∷ []) $ fjoin ! $ keep ! (0 ∷ []) $ done !)
 
-      pub rests_slots : (table : ℕ) (names : List ℕ) (k e : ℕ) → A.dead κ ∗ ⟦ each_slot R (slot R t b ν table) names k e ⟧ ⊢ ⟦ slots_rest R (length names) b e ⟧
+      pub rests_slots : (table : ℕ) (names : List ℕ) (k e : ℕ) → A.dead κ ∗ ⟦ each_slot R (shared_slot R t b ν table) names k e ⟧ ⊢ ⟦ slots_rest R (length names) b e ⟧
       rests_slots table [] k e = qed 𝓛 (‵ (fdead κ) ∷ ‵ ftrue ∷ []) ∵ drop ! $ done !
-      rests_slots table (η ∷ names) k e = qed 𝓛 (‵ (fdead κ) ∷ ‵ (each_slot R (slot R t b ν table) (η ∷ names) k e) ∷ []) ∵ use1 𝓛 (‵ (fdead κ) ⊛ ‵ (fdead κ)) (𝓛.lfts.dead_dup κ) $ split ! $ move ! (2 ∷ []) $ fsplit ! $
+      rests_slots table (η ∷ names) k e = qed 𝓛 (‵ (fdead κ) ∷ ‵ (each_slot R (shared_slot R t b ν table) (η ∷ names) k e) ∷ []) ∵ use1 𝓛 (‵ (fdead κ) ⊛ ‵ (fdead κ)) (𝓛.lfts.dead_dup κ) $ split ! $ move ! (2 ∷ []) $ fsplit ! $
           move ! (2 ∷ 0 ∷ []) $ use2 𝓛 (‵ (slot_rests R b e)) (rests_slot table k e η) $ frame ! $ move ! (1 ∷ 0 ∷ []) $ by ! (rests_slots table names (suc k) (e + stride R))

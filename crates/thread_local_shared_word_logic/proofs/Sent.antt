@@ -13,7 +13,7 @@ use Rattle.std.proofs.Crossing.{frees}
 use Rattle.thread_local_rights.proofs.Elements.{right_keyless}
 use Rattle.thread_local_judged.specs.Judged.{Judged}
 use Rattle.thread_local_blocks.specs.Slots.{heap_token, stride, value_at, place, block_ty}
-use Rattle.thread_local_shared_word_logic.specs.Shared.{Named, Turn, Standing, Who, free, claimed, early, value_of, by, holds, stands, had, slot, each_slot, waiting, all_unborn, rests, slots_rest, beside_pointer, kept, row, row_owns, at_rest, len, first}
+use Rattle.thread_local_shared_word_logic.specs.Shared.{WordView, Turn, Standing, Who, free, claimed, early, value_of, by, holds, stays, had, shared_slot, each_slot, waiting, all_unborn, rests, slots_rest, beside_pointer, kept, loaded, row_owns, at_rest, len, first}
 
 pub chain_keyless : (νs : List Lft) (κ α : Lft) → Keyless (chain νs κ α)
 chain_keyless [] κ α = λ _. tt
@@ -39,7 +39,7 @@ module _ (R : RattleType) (s : IsSend R) where
     holds_keyless k e η None = (right_keyless t.vacant k, (tt, value_keyless b e η))
     holds_keyless k e η (Some x) = (right_keyless t.filled k, (tt, by_keyless e η x))
 
-    pub stands_keyless : (k e : ℕ) (η : GName) (v : Option R.Denot) → Keyless (stands R t b ν k e η v)
+    pub stands_keyless : (k e : ℕ) (η : GName) (v : Option R.Denot) → Keyless (stays R t b ν k e η v)
     stands_keyless k e η None = right_keyless t.filled k
     stands_keyless k e η (Some x) = (right_keyless t.vacant k, (tt, λ j. j x b (value_at R e) (ν ∷ t.life)))
 
@@ -48,10 +48,10 @@ module _ (R : RattleType) (s : IsSend R) where
     had_keyless table k e η v claimed = (right_keyless table k, right_keyless t.pass k)
     had_keyless table k e η v early = (right_keyless table k, holds_keyless k e η None)
 
-    slot_keyless : (table k e : ℕ) (η : GName) → Keyless (slot R t b ν table k e η)
+    slot_keyless : (table k e : ℕ) (η : GName) → Keyless (shared_slot R t b ν table k e η)
     slot_keyless table k e η = (((tt, (tt, tt)), tt), (value_keyless b e η, λ z. (tt, (stands_keyless k e η z.0, had_keyless table k e η z.0 z.1))))
 
-    each_keyless : (table : ℕ) (names : List ℕ) (k e : ℕ) → Keyless (each_slot R (slot R t b ν table) names k e)
+    each_keyless : (table : ℕ) (names : List ℕ) (k e : ℕ) → Keyless (each_slot R (shared_slot R t b ν table) names k e)
     each_keyless table [] k e = tt
     each_keyless table (η ∷ names) k e = (slot_keyless table k e η, each_keyless table names (suc k) (e + stride R))
 
@@ -63,14 +63,14 @@ module _ (R : RattleType) (s : IsSend R) where
   unborn_keyless table t zero k = tt
   unborn_keyless table t (suc n) k = ((right_keyless t.vacant k, (right_keyless t.filled k, λ w. waiting_keyless w table t.pass k)), unborn_keyless table t n (suc k))
 
-  beside_keyless : (d : Named) (t : Turn) (p : Ptr) → Keyless (beside_pointer R d t p)
+  beside_keyless : (d : WordView) (t : Turn) (p : Ptr) → Keyless (beside_pointer R d t p)
   beside_keyless d t null_ptr = ((λ _. tt), ((tt, tt), unborn_keyless d.table t (len R d) (first R d)))
   beside_keyless d t (block_ptr b o) = λ z. ((λ _. tt), ((tt, tt), (tt, (each_keyless t b z.0.own d.table z.0.names (first R d) o, token_keyless (block_ty R (len R d)) (block_ptr b o)))))
 
-  pub kept_keyless : (d : Named) (t : Turn) (b o : ℕ) (κ : Lft) → Keyless (kept R d t b o κ)
+  pub kept_keyless : (d : WordView) (t : Turn) (b o : ℕ) (κ : Lft) → Keyless (kept R d t b o κ)
   kept_keyless d t b o κ = ((λ νs. chain_keyless νs κ t.life), λ p. (tt, beside_keyless d t p))
 
-  pub row_keyless : (d : Named) (t : Turn) (z : Standing) (κ : Lft) → Keyless (row R d t z κ)
+  pub row_keyless : (d : WordView) (t : Turn) (z : Standing) (κ : Lft) → Keyless (loaded R d t z κ)
   row_keyless d t z κ = ((λ _. tt), (tt, λ νs. chain_keyless νs κ (z.own ∷ t.life)))
 
   rests_keyless : (owed : Bool) (b e : ℕ) (v : Option R.Denot) → Keyless (rests R owed b e v)
@@ -82,9 +82,9 @@ module _ (R : RattleType) (s : IsSend R) where
   slots_rest_keyless zero b e = tt
   slots_rest_keyless (suc n) b e = ((((tt, (tt, tt)), tt), λ z. (tt, rests_keyless z.1 b e z.0)), slots_rest_keyless n b (e + stride R))
 
-  pub at_rest_keyless : (d : Named) (p : Ptr) → Keyless (at_rest R d p)
+  pub at_rest_keyless : (d : WordView) (p : Ptr) → Keyless (at_rest R d p)
   at_rest_keyless d null_ptr = λ _. tt
   at_rest_keyless d (block_ptr b o) = ((λ _. tt), (slots_rest_keyless (len R d) b o, token_keyless (block_ty R (len R d)) (block_ptr b o)))
 
-  pub found_keyless : (d : Named) (β : Lft) (p : Ptr) → Keyless (row_owns R d β p)
+  pub found_keyless : (d : WordView) (β : Lft) (p : Ptr) → Keyless (row_owns R d β p)
   found_keyless d β p = λ z. ((λ _. tt), (kept_keyless d z.0 z.2 z.3 β, row_keyless d z.0 z.1 β))

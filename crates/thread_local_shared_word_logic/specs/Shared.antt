@@ -2,11 +2,41 @@
 -- Each time a word is shared it takes a turn: a life, and fresh names. One invariant holds the word with all its slots, for all that life.
 --     a standing block    where it lies, a lifetime of its own beside the turn's, and a name for each slot, which tracks the slot's value
 --     tokens              each turn has three of every id, one holder each:
---                         pass    it lies with the slot, but where a claim took it before the block stood and left its right
+--                         pass      it lies with the slot, but where a claim took it before the block stood and left its right
 --                         vacant    it lies with the slot once a value is published, and till then with whoever may publish
 --                         filled    the other way round
---     holds, stands       what the one who claims a slot has of it, and what stays with the slot, by the value that is published
+--     holds, stays        what the one who claims a slot has of it, and what stays with the slot, by the value that is published
 -- Where a `&` to a value names no thread, a published value is shared for good. Where it may name one, whoever claims the slot has the borrow.
+--
+-- The letters, which stand for the same everywhere below and in the proofs:
+--     R         the type of the values that slots hold           x    one such value
+--     v         what a slot holds: a value, or none              j    whether a `&` to a value names no thread
+--     d         the view of a word: its table, bucket, reserved  t    a turn: the life and the names of one sharing
+--     b, o      where the word lies, or where its block does: the allocation, and the offset in it
+--     e         the offset of a slot in its block                k    the id that the slot is for
+--     p         the pointer in the word: null, or to a block     s    the block that stands, or what a slot holds and who has it
+--     ν         the lifetime of its own of a standing block      η    the name under which a slot's value is tracked
+--     κ, β      the lifetime for which something is lent: κ of any `&`, β of the word's own
+--     n         a number of slots                                z    several of these at once
+--
+-- Words from other files:
+--     fact φ              φ holds, and nothing is owned
+--     right_owns γ k      the one token at the key k under the name γ; under a table's name it is the right to the id k
+--     flag_of v           the flag of a slot that holds v: 0 for none, and else 1
+--     stride R            how many bytes a slot takes
+--     value_at R e        where the value lies of the slot at e
+--     place R v b e       the value v at b and e, or the room for one
+--     rim R b e           the way back: the parts of the slot at e, given back empty, make its room
+--     heap_token τ p      the right to free what the heap gave for the type τ at p
+--     Shareable R         a `&` to a value of R names no thread
+--     Judged R            it is known whether that is so
+--     word b e n          the number n lies in the atomic word at b and e          cell b o p    the pointer p lies in the one at b and o
+--     shared_of R x b e κ a `&` for κ to the value x, which lies at b and e
+--     fobs, fauth, fres   a name: it said this once; what it says now; it says this for good
+--     flft κ q            a part of κ's token: κ hasn't ended                      fdead κ       κ has ended
+--     fbor κ P            P is lent out until κ ends                               flent κ P     P comes back once κ has ended
+--     before κ α          κ ends before α does
+
 use Rattle.std.specs.Prelude.{◌≡◌, ℕ, zero, suc, ◌+◌, ◌^◌, Bool, true, false, List, [], ◌∷◌, length, Option, None, Some}
 use Rattle.std.specs.Coded.{coded_option}
 use mathlib.Core.Logic.{inl, inr}
@@ -24,14 +54,17 @@ use Rattle.thread_local_rights.specs.Rights.{right_owns}
 use Rattle.thread_local_judged.specs.Judged.{Shareable, Judged}
 use Rattle.thread_local_blocks.specs.Slots.{fact, flag_of, heap_token, stride, block_ty, Fits, value_at, rim, place}
 
+-- 1. What is known of a word, of a sharing and of a block.
+
 -- what a contract sees of a word that is shared: its table, its bucket, and whether the bucket is reserved
-pub record Named : Type 0 where
+pub record WordView : Type 0 where
   pub table : ℕ
   pub bucket : ℕ
   pub reserved : Bool
 
-abbrev pub named_coded : Coded Named
-named_coded = coded_via (coded× coded_ℕ (coded× coded_ℕ coded_bool)) (λ (d : Named). (d.table, (d.bucket, d.reserved))) (λ x y e i. record { table = (e i).0; bucket = (e i).1.0; reserved = (e i).1.1 })
+-- how a proof tells such views apart
+abbrev pub word_view_coded : Coded WordView
+word_view_coded = coded_via (coded× coded_ℕ (coded× coded_ℕ coded_bool)) (λ (d : WordView). (d.table, (d.bucket, d.reserved))) (λ x y e i. record { table = (e i).0; bucket = (e i).1.0; reserved = (e i).1.1 })
 
 -- the life and the names of one sharing
 pub record Turn : Type 0 where
@@ -47,6 +80,7 @@ pub record Standing : Type 0 where
   pub own : ℕ
   pub names : List ℕ
 
+-- how a proof tells such blocks apart
 abbrev pub standing_coded : Coded Standing
 standing_coded = coded_via (coded× coded_ptr (coded× coded_ℕ (coded_list coded_ℕ))) (λ (s : Standing). (s.at, (s.own, s.names))) (λ x y e i. record { at = (e i).0; own = (e i).1.0; names = (e i).1.1 })
 
@@ -71,6 +105,8 @@ pub data Who : Type 0 where
   early : Who
 
 module _ (R : RattleType) where
+  -- 2. A slot under one sharing: its value, what its claim has, and what stays with it.
+
   -- how the name of a slot says its value
   abbrev pub value_code : Option R.Denot → Gv
   value_code = (coded_option R.coded).code
@@ -107,9 +143,9 @@ module _ (R : RattleType) where
     holds k e η (Some x) = fsep (right_owns t.filled k) (fsep (pinned η x) (fex (Judged R) (by e η x)))
 
     -- what stays with the slot
-    abbrev pub stands : ℕ → ℕ → GName → Option R.Denot → Fml
-    stands k e η None = right_owns t.filled k
-    stands k e η (Some x) = fsep (right_owns t.vacant k) (fsep (pinned η x) (opened e x))
+    abbrev pub stays : ℕ → ℕ → GName → Option R.Denot → Fml
+    stays k e η None = right_owns t.filled k
+    stays k e η (Some x) = fsep (right_owns t.vacant k) (fsep (pinned η x) (opened e x))
 
     -- what lies with the slot, by who has it
     abbrev pub had : ℕ → ℕ → ℕ → GName → Option R.Denot → Who → Fml
@@ -118,22 +154,26 @@ module _ (R : RattleType) where
     had table k e η v early = fsep (right_owns table k) (holds k e η None)
 
     -- a slot whose value is v
-    abbrev pub slot_as : ℕ → ℕ → ℕ → GName → Option R.Denot × Who → Fml
-    slot_as table k e η s = fsep (word b (e + 0) (flag_of s.0)) (fsep (stands k e η s.0) (had table k e η s.0 s.1))
+    abbrev pub shared_slot_as : ℕ → ℕ → ℕ → GName → Option R.Denot × Who → Fml
+    shared_slot_as table k e η s = fsep (word b (e + 0) (flag_of s.0)) (fsep (stays k e η s.0) (had table k e η s.0 s.1))
 
-    abbrev pub slot : ℕ → ℕ → ℕ → GName → Fml
-    slot table k e η = fsep (rim R b e) (fsep (flent age (value_of b e η)) (fex (Option R.Denot × Who) (slot_as table k e η)))
+    -- a slot, with the loan of its value's place
+    abbrev pub shared_slot : ℕ → ℕ → ℕ → GName → Fml
+    shared_slot table k e η = fsep (rim R b e) (fsep (flent age (value_of b e η)) (fex (Option R.Denot × Who) (shared_slot_as table k e η)))
+
+  -- 3. The slots of a bucket: of a block that stands, and before there is one.
 
   -- one slot for each name, from the key k and the place e on
   abbrev pub each_slot : (ℕ → ℕ → GName → Fml) → List ℕ → ℕ → ℕ → Fml
   each_slot F [] k e = ftrue
   each_slot F (η ∷ names) k e = fsep (F k e η) (each_slot F names (suc k) (e + stride R))
 
-  -- a slot's tokens and its right, while there is no block for it
+  -- while there is no block for a slot: the right of a claim that came early and took the pass, or else the pass
   abbrev pub waiting : Bool → GName → GName → ℕ → Fml
   waiting true table pass k = right_owns table k
   waiting false table pass k = right_owns pass k
 
+  -- the tokens of a slot that isn't born, and the right or the pass: what its claim left of the two
   abbrev pub unborn : ℕ → Turn → ℕ → Fml
   unborn table t k = fsep (right_owns t.vacant k) (fsep (right_owns t.filled k) (fex Bool (λ early. waiting early table t.pass k)))
 
@@ -142,11 +182,14 @@ module _ (R : RattleType) where
   all_unborn table t zero k = ftrue
   all_unborn table t (suc n) k = fsep (unborn table t k) (all_unborn table t n (suc k))
 
+  -- 4. A slot at rest, when the word isn't shared.
+
   -- at rest, what lies at the place of a slot's value: it, or what is due since the sharing has ended
   abbrev pub due : ℕ → ℕ → Option R.Denot → Lft × GName → Fml
   due b e None s = fsep (fdead s.0) (flent s.0 (value_of b e s.1))
   due b e (Some x) s = fsep (pinned s.1 x) (fsep (fdead s.0) (flent s.0 (value_of b e s.1)))
 
+  -- which of the two it is
   abbrev pub rests : Bool → ℕ → ℕ → Option R.Denot → Fml
   rests false b e v = place R v b (value_at R e)
   rests true b e v = fex (Lft × GName) (due b e v)
@@ -155,9 +198,11 @@ module _ (R : RattleType) where
   abbrev pub slot_rests_as : ℕ → ℕ → Option R.Denot × Bool → Fml
   slot_rests_as b e s = fsep (word b (e + 0) (flag_of s.0)) (rests s.1 b e s.0)
 
+  -- the same of some value
   abbrev pub slot_rests : ℕ → ℕ → Fml
   slot_rests b e = fsep (rim R b e) (fex (Option R.Denot × Bool) (slot_rests_as b e))
 
+  -- the same of n slots side by side
   abbrev pub slots_rest : ℕ → ℕ → ℕ → Fml
   slots_rest zero b e = ftrue
   slots_rest (suc n) b e = fsep (slot_rests b e) (slots_rest n b (e + stride R))
@@ -166,7 +211,8 @@ module _ (R : RattleType) where
   abbrev pub Sized : ℕ → Ptr → Type 0
   Sized n p = InBlock p × Testable p × Fits R n
 
-  module _ (d : Named) where
+  -- 5. The word: its invariant while it is shared, and what it owns at rest.
+  module _ (d : WordView) where
     -- how many slots the bucket has
     abbrev pub len : ℕ
     len = 2 ^ d.bucket
@@ -180,19 +226,21 @@ module _ (R : RattleType) where
       abbrev pub pending : Fml
       pending = fsep (fobs t.which gnil) (fauth t.which gnil)
 
+      -- it says for good which block stands
       abbrev pub settled : Standing → Fml
       settled s = fsep (fauth t.which (mark s)) (fres t.which (mark s))
 
-      -- a part of its own lifetime's token, its slots, and the right to free it
+      -- beside a pointer p to a block: the name says which it is, and here are a part of its own lifetime's token, its slots, and the right to free it
       abbrev pub standing : Ptr → Standing × Share → Fml
       standing p s = fsep (fact ((s.0.at ≡ p) × (length s.0.names ≡ len) × Sized len p)) (fsep (settled s.0) (fsep (flft (s.0.own ∷ []) s.1)
-          (fsep (each_slot (slot t (block_of p) s.0.own d.table) s.0.names first (count_of p)) (heap_token (block_ty R len) p))))
+          (fsep (each_slot (shared_slot t (block_of p) s.0.own d.table) s.0.names first (count_of p)) (heap_token (block_ty R len) p))))
 
       -- what lies beside the pointer
       abbrev pub beside_pointer : Ptr → Fml
       beside_pointer null_ptr = fsep (fact (d.reserved ≡ false)) (fsep pending (all_unborn d.table t len first))
       beside_pointer (block_ptr b o) = fex (Standing × Share) (standing (block_ptr b o))
 
+      -- the word with what lies beside its pointer
       abbrev pub invariant : ℕ → ℕ → Fml
       invariant b o = fex Ptr (λ p. fsep (cell b o p) (beside_pointer p))
 
@@ -201,8 +249,8 @@ module _ (R : RattleType) where
       kept b o = beside (ends t.life) (always (fbor t.life (invariant b o)))
 
       -- what a load hands out of a block that stands: which it is, and that it lasts
-      abbrev pub row : Standing → Lft → Fml
-      row s κ = fsep (fact ((length s.names ≡ len) × Sized len s.at)) (fsep (fres t.which (mark s)) (before κ (s.own ∷ t.life)))
+      abbrev pub loaded : Standing → Lft → Fml
+      loaded s κ = fsep (fact ((length s.names ≡ len) × Sized len s.at)) (fsep (fres t.which (mark s)) (before κ (s.own ∷ t.life)))
 
     -- what a word at rest owns beside its pointer
     abbrev pub at_rest : Ptr → Fml
@@ -218,10 +266,12 @@ module _ (R : RattleType) where
     word_shares (block_ptr b o) = beside (said (fact (Judged R))) (some Turn (λ t. kept t b (o + 0)))
     word_shares null_ptr = said ffalse
 
-  module _ (d : Named) where
+  -- 6. What a load hands out, as a value.
+  module _ (d : WordView) where
+    -- the word is shared, and this block stands
     abbrev pub row_as : Lft → Ptr → Found → Fml
-    row_as β p z = fsep (fact ((z.1.at ≡ p) × Judged R)) (fsep (kept d z.0 z.2 z.3 β) (row d z.0 z.1 β))
+    row_as β p z = fsep (fact ((z.1.at ≡ p) × Judged R)) (fsep (kept d z.0 z.2 z.3 β) (loaded d z.0 z.1 β))
 
-    -- what a load hands out, as a value: the word is shared, and the block at p stands
+    -- the same of some block at p
     abbrev pub row_owns : Lft → Ptr → Fml
     row_owns β p = fex Found (row_as β p)

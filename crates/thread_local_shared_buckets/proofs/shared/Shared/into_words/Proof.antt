@@ -26,7 +26,7 @@ use Rattle.std.proofs.cell.Inside.{Good}
 use Rattle.thread_local_model.specs.Owned.{IsOwned}
 use Rattle.thread_local_words.specs.contracts.words.Words as words
 use Rattle.thread_local_words.proofs.words.Words.TheLaws as words'
-use Rattle.thread_local_shared_buckets.specs.Seen.{Seen}
+use Rattle.thread_local_shared_buckets.specs.TableView.{TableView}
 use Rattle.thread_local_shared_buckets.specs.contracts.shared.Shared as shared
 use Rattle.thread_local_shared_buckets.specs.contracts.shared.Shared.into_words.{ended, clauses}
 use Rattle.thread_local_shared_buckets.specs.contracts.shared.Shared.into_words.Key.{name as #self}
@@ -39,7 +39,7 @@ into_words_spec 𝓤 𝓛 𝓜 𝓡 wired T L =
     let H = 𝓛.H in let 𝓣 = tables 𝓤 H 𝓜 𝓡 𝓡.env in let R : RattleType = param 0 T in let LR : Laws R = param_laws 0 T L in let Sh : RattleType = shared.the_row R in let Ws : RattleType = words.the_row R in
     let En = ended T in let c = clauses T 𝓛 𝓜.mem 𝓡.returns in let inst = layouts (a_type ∷ []) (T, tt) in let fn = inst_fn inst code.function in let self = plain (λ _. Sh) in let hs : Stays En.signature.params En.kept = (stay_dropped self no, tt) in
     proved_at 𝓛 En hs c 𝓜 𝓡 (Goes-dropped 𝓛 1 self no (λ κs x f. refl), tt) (#self inst) fn (code.unfolded 𝓤 H 𝓜 𝓡 wired (T, tt)) (λ z are.
-    let s : Seen = z.0.3.0 in let vs : List Val = z.0.4.0 in let known = are.0.1 in let fields = known.1.0 in let there = fields.1.1.0 in
+    let s : TableView = z.0.3.0 in let vs : List Val = z.0.4.0 in let known = are.0.1 in let fields = known.1.0 in let there = fields.1.1.0 in
     let v : Val = vstruct (of_list (there.0.0 ++ (there.0.1.0 ++ []))) in let u : Val = vint w64 known.0.0.reserved in let V : Val = vstruct (vcons v (vcons u vnil)) in
     let whole_is : vs ≡ V ∷ [] = fields.1.0 ∙ (λ i. vstruct (of_list (there.1.0 i ++ (fields.1.1.1.0.0 i ++ []))) ∷ []) in let typed : Typed Sh.mir (V ∷ []) = subst (Typed Sh.mir) whole_is are.0.0.0 in
     let Post : Val → SProp 𝓤 = (walk_of 𝓛 En hs c).post z in let Run : List Val → SProp 𝓤 = λ ws. WpFn 𝓤 H 𝓣.C 𝓣.Λ fn ws Post in let Owned : Ws.Denot → Type 0 = λ w. IsOwned (record { contents = w; reserved = s.reserved }) in

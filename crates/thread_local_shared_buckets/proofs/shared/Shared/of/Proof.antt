@@ -30,7 +30,7 @@ use Rattle.thread_local_judged.specs.Judged.{Judged}
 use Rattle.thread_local_rights.specs.contracts.right.Rights as rights
 use Rattle.thread_local_words.specs.contracts.words.Words as words
 use Rattle.thread_local_words.proofs.words.Words.TheLaws as words'
-use Rattle.thread_local_shared_buckets.specs.Seen.{Seen}
+use Rattle.thread_local_shared_buckets.specs.TableView.{TableView}
 use Rattle.thread_local_shared_buckets.specs.contracts.shared.Shared as shared
 use Rattle.thread_local_shared_buckets.specs.contracts.shared.Shared.of.{ended, clauses}
 use Rattle.thread_local_shared_buckets.specs.contracts.shared.Shared.of.Key.{name as #self}
@@ -44,7 +44,7 @@ of_spec 𝓤 𝓛 𝓜 𝓡 wired T L =
     let En = ended T in let c = clauses T 𝓛 𝓜.mem 𝓡.returns in let inst = layouts (a_type ∷ []) (T, tt) in let fn = inst_fn inst code.function in
     let self = plain (λ _. Ws) in let number = plain (λ _. usize) in let ref = RefOf (0 ∷ []) tt (plain (λ _. rights.the_row)) (λ _. tt) in let hs : Stays En.signature.params En.kept = (stay_dropped self no, (stay_dropped number yes, (stay_dropped ref yes, tt))) in
     proved_at 𝓛 En hs c 𝓜 𝓡 (Goes-dropped 𝓛 2 self no (λ κs x f. refl), (Goes-dropped 𝓛 2 number yes (λ κs x f. refl), (Goes-dropped 𝓛 2 ref yes (λ κs x f. refl), tt))) (#self inst) fn (code.unfolded 𝓤 H 𝓜 𝓡 wired (T, tt)) (λ z are.
-    let w : Ws.Denot = z.0.3.0 in let n : ℕ = z.0.3.1.0 in let table : ℕ = z.0.3.1.1.0.now.table in let s : Seen = record { table = table; reserved = n } in
+    let w : Ws.Denot = z.0.3.0 in let n : ℕ = z.0.3.1.0 in let table : ℕ = z.0.3.1.1.0.now.table in let s : TableView = record { table = table; reserved = n } in
     let got = one (layout Ws) z.0.4.0 (((words'.the_row_laws R LR).lawful 𝓛).typed w z.0.4.0 are.0) in let v : Val = got.0 in let fine : Good (layout Ws) v = got.2 in
     let ref_is = shr_Tells (named 0) z.0.0.0 rights.the_row z.0.3.1.1.0 z.0.4.1.1.0 are.1.1.0 in
     let Post : Val → SProp 𝓤 = (walk_of 𝓛 En hs c).post z in let Run : List Val → SProp 𝓤 = λ ws. WpFn 𝓤 H 𝓣.C 𝓣.Λ fn ws Post in

@@ -20,7 +20,7 @@ use Rattle.std.proofs.option.Made.{Some-of, none_of}
 use Rattle.std.proofs.raw_atomic.Calls.{found, finds, loads, seq_cst}
 use Rattle.thread_local_blocks.specs.Slots.{stride, value_at, Fits}
 use Rattle.thread_local_blocks.proofs.Fields.{uncapped}
-use Rattle.thread_local_shared_word_logic.specs.Shared.{Named, Turn, Standing, mark, first as first_id, invariant, row_owns}
+use Rattle.thread_local_shared_word_logic.specs.Shared.{WordView, Turn, Standing, mark, first as first_id, invariant, row_owns}
 use Rattle.thread_local_shared_word_logic.proofs.Looks as steps
 use Rattle.thread_local_shared_word_logic.proofs.Looks.{by_flag}
 use Rattle.thread_local_shared_word.specs.contracts.row.Row as Row
@@ -51,7 +51,7 @@ get_spec {M} 𝓤 𝓛 𝓜 𝓡 wired T L =
     proved 𝓛 En hs c 𝓜 𝓡 (Goes-dropped 𝓛 3 self yes (λ κs x f. refl), (Goes-dropped 𝓛 3 (plain (λ _. usize)) yes (λ κs x f. refl), tt)) (#self inst) fn (code.unfolded 𝓤 H 𝓜 𝓡 wired (T, tt))
     (λ κs. (shr_vals, (uint_vals w64, tt))) (λ κs. (shr_Tells (named 0) κs.0 (Row.the_row (named_lft 3 1 tt κs) R), (uint_Tells w64, tt))) (λ κs qs bounds a gh are.
     let ℓ = named_lft 3 1 tt κs in let D : RattleType = Words ℓ R in let b : ℕ = a.0.ref_ptr.0 in let o : ℕ = a.0.ref_ptr.1 in let κ : Lft = κs.0 in let β : Lft = κs.1.0 in let q : Share = qs.1.0 in
-    let h = a.0.now in let p : Ptr = h.at in let d : Named = h.of in let i : ℕ = a.1.0 in let rest : Fml = fsep (flft κs.1.1.0 qs.1.1.0) ftrue in let pb : ℕ = block_of p in let e : ℕ = i * stride R + count_of p in let G : RattleType = ShrRef (named 1) β R in
+    let h = a.0.now in let p : Ptr = h.at in let d : WordView = h.of in let i : ℕ = a.1.0 in let rest : Fml = fsep (flft κs.1.1.0 qs.1.1.0) ftrue in let pb : ℕ = block_of p in let e : ℕ = i * stride R + count_of p in let G : RattleType = ShrRef (named 1) β R in
     let y : (walk_of 𝓛 En hs c).Ghost = ((κs, qs, bounds, a, (vptr b o ∷ [], (vint w64 i ∷ [], tt))), gh) in let Post : Val → SProp 𝓤 = (walk_of 𝓛 En hs c).post y in
     qed 𝓛 (((‵ (flft κ qs.0) ⊛ ‵ (flft β q) ⊛ ‵ rest) ⊛ ‵ (owns (types_at En.signature.params κs) a y.0.4)) ∷ raw (fact 𝓤 _) ∷ raw (fact 𝓤 (IsSync R)) ∷ raw (fact 𝓤 (i < 2 ^ d.bucket)) ∷ []) ∵
     keep ! (2 ∷ 3 ∷ 0 ∷ []) $ heard ! (IsSync R) (λ sync. heard ! (i < 2 ^ d.bucket) (λ near. split ! $ split3 ! $ move ! (3 ∷ []) $ fsplit3 ! $ fsplit ! $ keep ! (1 ∷ 4 ∷ 5 ∷ 6 ∷ []) $

@@ -16,7 +16,7 @@ use Rattle.std.proofs.raw_atomic.PtrCalls.{seq_cst_good}
 use Rattle.std.specs.contracts.option.Option as Opt
 use Rattle.thread_local_judged.specs.Judged.{Judged}
 use Rattle.thread_local_blocks.specs.Slots.{fact as said_fact}
-use Rattle.thread_local_shared_word_logic.specs.Shared.{Named, Sized, len, invariant, row, Found, row_as}
+use Rattle.thread_local_shared_word_logic.specs.Shared.{WordView, Sized, len, invariant, loaded, Found, row_as}
 use Rattle.thread_local_shared_word.specs.contracts.word.SharedWord as word
 use Rattle.thread_local_shared_word.specs.contracts.row.Row as Row
 use Rattle.thread_local_shared_word.specs.contracts.word.SharedWord.load.{ended, clauses}
@@ -32,7 +32,7 @@ load_spec 𝓤 𝓛 𝓜 𝓡 wired T L =
     let inst = layouts (a_type ∷ []) (T, tt) in let fn = inst_fn inst code.function in let W : RattleType = word.the_row R in
     let self = RefOf (0 ∷ []) tt (plain (λ _. W)) (λ _. tt) in let hs : Stays En.signature.params En.kept = (stay_dropped self yes, tt) in
     proved 𝓛 En hs c 𝓜 𝓡 (Goes-dropped 𝓛 2 self yes (λ κs x f. refl), tt) (#self inst) fn (code.unfolded 𝓤 H 𝓜 𝓡 wired (T, tt)) (λ κs. (shr_vals, tt)) (λ κs. (shr_Tells (named 0) κs.0 W, tt)) (λ κs qs bounds a gh are.
-    let b : ℕ = a.0.ref_ptr.0 in let o : ℕ = a.0.ref_ptr.1 in let κ : Lft = κs.0 in let q : Share = qs.0 in let d : Named = a.0.now in let others : Fml = fsep (flft κs.1.0 qs.1.0) ftrue in
+    let b : ℕ = a.0.ref_ptr.0 in let o : ℕ = a.0.ref_ptr.1 in let κ : Lft = κs.0 in let q : Share = qs.0 in let d : WordView = a.0.now in let others : Fml = fsep (flft κs.1.0 qs.1.0) ftrue in
     let ℓ = named_lft 2 0 tt κs in let G : RattleType = Row.the_row ℓ R in let Of : Option G.Denot → Type 0 = λ r. IfSome r (λ row. row.of ≡ d) in let There : Option G.Denot → Type 0 = λ r. d.reserved ≡ true → IsSome r in
     let y : (walk_of 𝓛 En hs c).Ghost = ((κs, qs, bounds, a, (vptr b o ∷ [], tt)), gh) in let Post : Val → SProp 𝓤 = (walk_of 𝓛 En hs c).post y in
     qed 𝓛 (((‵ (flft κ q) ⊛ ‵ others) ⊛ ‵ (owns (types_at En.signature.params κs) a y.0.4)) ∷ raw ((c κs a).requires gh) ∷ []) ∵
@@ -57,7 +57,7 @@ load_spec 𝓤 𝓛 𝓜 𝓡 wired T L =
     returns ! (look_at ! 0 refl) $ free_all ! refl $ keep ! (3 ∷ 0 ∷ 2 ∷ 1 ∷ []) $ by ! (leaves 𝓛 En hs c y (live 0 vnil) None (tt, tt) (tt, tt))) (λ wrong. absurd wrong)))
     (λ pb po. let p : Ptr = block_ptr pb po in lands_last ! refl (pointer_good p) $ exec ! 𝓣.C 𝓣.Λ Ev (after 1 fn.body) (at_ret Ev Post) $ fsplit ! $ move ! (0 ∷ 2 ∷ []) $ use2 𝓛 (later (‵ (flft κ q))) (apply∗ 𝓤 (𝓛.A.lft t.life s) (H.⇛ (𝓛.A.lft κ q))) $ await ! tt $
     -- [κ's token; what was seen; the invariant; before, twice; the other tokens]
-    move ! (1 ∷ []) $ fsplit ! $ fpick ! (λ z. move ! (0 ∷ 4 ∷ []) $ use2 𝓛 (later (‵ (said_fact ((z.0.at ≡ p) × Sized R (len R d) p)) ⊛ ‵ (row R d t z.0 κ))) (reaches 𝓛 R d t κ p z) $ await ! tt $ split ! $ fpick ! (λ so. drop ! $
+    move ! (1 ∷ []) $ fsplit ! $ fpick ! (λ z. move ! (0 ∷ 4 ∷ []) $ use2 𝓛 (later (‵ (said_fact ((z.0.at ≡ p) × Sized R (len R d) p)) ⊛ ‵ (loaded R d t z.0 κ))) (reaches 𝓛 R d t κ p z) $ await ! tt $ split ! $ fpick ! (λ so. drop ! $
     -- [the row; nothing; κ's token; the invariant; before; the other tokens]
     move ! (4 ∷ 3 ∷ []) $ fjoin ! $ nothing ! $ fpack ! ((z.0.at ≡ p) × Judged R) (λ _. ftrue) (so.0, j) $ fjoin3 ! $ fpack ! Found (row_as R d κ p) (t, z.0, b, o + 0) $
     sets ! (of_opd ! (get ! refl)) refl (tt, tt) $ sets ! (bin ! (get ! refl) (lit ! tt) (tests_null p so.1.1)) refl (tt, tt) $ first ! $ branches ! (get ! refl) (λ wrong. absurd wrong) (λ _.

@@ -3,7 +3,7 @@ use Rattle.thread_local_blocks.proofs.Names.{◌≡◌, ℕ, [], ◌∷◌, refl
 use denote.Laws.{Typed}
 use Rattle.thread_local_rights.specs.contracts.right.Rights as rights
 use Rattle.thread_local_judged.specs.Judged.{Judged}
-use Rattle.thread_local_shared_word_logic.specs.Shared.{Named, at_rest}
+use Rattle.thread_local_shared_word_logic.specs.Shared.{WordView, at_rest}
 use Rattle.thread_local_shared_word.specs.contracts.word.SharedWord as word
 use Rattle.thread_local_shared_word.specs.contracts.word.SharedWord.null.{ended, clauses}
 use Rattle.thread_local_shared_word.specs.contracts.word.SharedWord.null.Key.{name as #self}
@@ -17,7 +17,7 @@ null_spec 𝓤 𝓛 𝓜 𝓡 wired T L =
     let number = plain (λ _. usize) in let all = RefOf (0 ∷ []) tt (plain (λ _. rights.the_row)) (λ _. tt) in let hs : Stays En.signature.params En.kept = (stay_dropped number yes, (stay_dropped all yes, tt)) in
     proved 𝓛 En hs c 𝓜 𝓡 (Goes-dropped 𝓛 2 number yes (λ κs x f. refl), (Goes-dropped 𝓛 2 all yes (λ κs x f. refl), tt)) (#self inst) fn (code.unfolded 𝓤 H 𝓜 𝓡 wired (T, tt))
     (λ κs. (uint_vals w64, (shr_vals, tt))) (λ κs. (uint_Tells w64, (shr_Tells (named 0) κs.0 rights.the_row, tt))) (λ κs qs bounds a gh are.
-    let n : ℕ = a.0 in let b : ℕ = a.1.0.ref_ptr.0 in let o : ℕ = a.1.0.ref_ptr.1 in let p : Ptr = null_ptr in let d : Named = record { table = a.1.0.now.table; bucket = n; reserved = false } in
+    let n : ℕ = a.0 in let b : ℕ = a.1.0.ref_ptr.0 in let o : ℕ = a.1.0.ref_ptr.1 in let p : Ptr = null_ptr in let d : WordView = record { table = a.1.0.now.table; bucket = n; reserved = false } in
     let y : (walk_of 𝓛 En hs c).Ghost = ((κs, qs, bounds, a, (vint w64 n ∷ [], (vptr b o ∷ [], tt))), gh) in let Post : Val → SProp 𝓤 = (walk_of 𝓛 En hs c).post y in
     qed 𝓛 ((raw (alive 𝓛 En.signature κs qs) ⊛ ‵ (owns (types_at En.signature.params κs) a y.0.4)) ∷ raw (fact 𝓤 _) ∷ raw (fact 𝓤 (Judged R)) ∷ []) ∵
     keep ! (2 ∷ 0 ∷ []) $ heard ! (Judged R) (λ j. split ! $ keep ! (0 ∷ []) $

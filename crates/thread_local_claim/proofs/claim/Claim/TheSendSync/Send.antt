@@ -1,9 +1,0 @@
-use denote.RattleType.{RattleType}
-use denote.Ref.{NamedLft}
-use denote.Param.Send.{IsSend}
-use Rattle.thread_local_claim_logic.specs.Claims.{place_of}
-use Rattle.thread_local_claim.specs.contracts.claim.Claim.{the_row}
-use Rattle.thread_local_claim_logic.proofs.Sent.{claim_keyless}
-
-pub send : (a : NamedLft) (T : RattleType) → IsSend T → IsSend (the_row a T)
-send a T s = record { owned = λ d vs. ((λ vss. (tt, (tt, (tt, ((tt, tt), (tt, (tt, ((λ uss. (tt, tt)), tt)))))))), claim_keyless T s a.lft d.word d.table (place_of d.id d.index d.slot d.looked d.stands d.reserved) d.value d.found d.published); leaving = λ k f vs. tt }

@@ -1,0 +1,175 @@
+//! Slots that are claimed, as they lie.
+ghost use Rattle.std.specs.Prelude.{◌≡◌, ◌≢◌, ◌<◌, ◌^◌, ◌⊎◌, ℕ, Bool, true, is_some};
+ghost use base.Stored.{coded_bool};
+ghost use Rattle.thread_local_model.specs.Learnt.{Learnt, learnt_coded, Unknown, Missing, Vacant, Holding};
+ghost use Rattle.thread_local_model.specs.Place.{id_at};
+ghost use Rattle.thread_local_claim_logic.specs.Known.{IsKnown, IsUnfound, is_found, value_held};
+ghost use Rattle.thread_local_claim_logic.specs.Claims.{place_of, claim_owns, claim_shares};
+
+use std::marker::{Brand, Model, PhantomData};
+use std::ptr::null;
+use std::sync::atomic::Ordering::SeqCst;
+use std::sync::atomic::raw;
+use std::sync::atomic::raw::ptr;
+use thread_local_blocks::Slot;
+use thread_local_rights::Right;
+use thread_local_shared_word::SharedWord;
+
+mod install;
+mod look;
+
+/// The flag of a slot whose value is published.
+const PUBLISHED: u64 = 1;
+
+/// The slot of an id that is claimed. Contracts see its table, its id, whether its bucket is reserved, and what it has learnt of the slot.
+pub(crate) struct ClaimedSlot<'a, T> {
+    word: *const SharedWord<T>,
+    slot: *const Slot<T>,
+    index: usize,
+    found: bool,
+    published: bool,
+    marker: PhantomData<&'a T>,
+    pub ghost table: { ℕ },
+    pub ghost id: { ℕ },
+    /// Whether the bucket is reserved.
+    pub ghost reserved: { Bool } by { coded_bool },
+    pub ghost learnt: { Learnt T } by { learnt_coded T.code },
+}
+
+impl<'a, T> Model for ClaimedSlot<'a, T> {
+    ghost also_owns = { λ c. claim_owns T.row 'a c.word c.table (place_of c.id c.index c.slot c.reserved) c.learnt c.found c.published };
+
+    ghost also_shares = { λ c _ κ. claim_shares T.row 'a c.slot c.learnt c.found c.published κ };
+}
+
+impl<'a, T> ClaimedSlot<'a, T> {
+    /// The right to an id, and where to look for its slot.
+    pub(crate) fn hold(word: &'a SharedWord<T>, index: usize, right: Right) -> ClaimedSlot<'a, T>
+        requires table { right.table ≡ word.now.table }
+        requires id { right.id ≡ id_at word.now.bucket index }
+        requires within { index < 2 ^ word.now.bucket }
+        ensures right { (result.table ≡ right.table) × (result.id ≡ right.id) }
+        ensures unknown { result.learnt ≡ Unknown }
+        ensures reserved { result.reserved ≡ word.now.reserved }
+    {
+        right.lay_down();
+        ClaimedSlot {
+            word,
+            slot: null(),
+            index,
+            found: false,
+            published: false,
+            marker: PhantomData,
+        }
+    }
+
+    /// Looks for the bucket, and takes what the slot holds where it stands: one atomic load of the word, and one of the slot's flag. A claim that
+    /// was there before its bucket finds the slot empty.
+    pub(crate) fn find(self) -> ClaimedSlot<'a, T>
+        requires { IsUnfound self.learnt }
+        ensures right { (result.table ≡ self.entry.table) × (result.id ≡ self.entry.id) }
+        ensures known { IsKnown result.learnt }
+        ensures empty { self.entry.learnt ≡ Missing → (result.learnt ≡ Missing) ⊎ (result.learnt ≡ Vacant) }
+        ensures reserved { (result.reserved ≡ self.entry.reserved) × (result.reserved ≡ true → result.learnt ≢ Missing) }
+    {
+        let Self {
+            word,
+            slot: _,
+            index,
+            found: _,
+            published: _,
+            marker: _,
+        } = self;
+        let at = unsafe {
+            ptr::load::<u64, Brand>(&raw const (*word).at as *const *mut u64, SeqCst)
+        };
+        if at.is_null() {
+            return ClaimedSlot {
+                word,
+                slot: null(),
+                index,
+                found: false,
+                published: false,
+                marker: PhantomData,
+            };
+        }
+        let slot = unsafe { (at as *const Slot<T>).add(index) };
+        let flag = unsafe { raw::load::<Brand>(&raw const (*slot).flag, SeqCst) };
+        ClaimedSlot {
+            word,
+            slot,
+            index,
+            found: true,
+            published: flag == PUBLISHED,
+            marker: PhantomData,
+        }
+    }
+
+    /// Publishes a value in a slot that holds none: the value is written, and then the flag is set.
+    pub(crate) fn publish(self, value: T) -> ClaimedSlot<'a, T>
+        requires { self.learnt ≡ Vacant }
+        ensures right { (result.table ≡ self.entry.table) × (result.id ≡ self.entry.id) }
+        ensures value { result.learnt ≡ Holding value }
+        ensures reserved { result.reserved ≡ self.entry.reserved }
+    {
+        let Self {
+            word,
+            slot,
+            index,
+            found: _,
+            published: _,
+            marker: _,
+        } = self;
+        unsafe { (&raw const (*slot).value as *mut T).write(value) };
+        unsafe { raw::store::<Brand>(&raw const (*slot).flag, PUBLISHED, SeqCst) };
+        ClaimedSlot {
+            word,
+            slot,
+            index,
+            found: true,
+            published: true,
+            marker: PhantomData,
+        }
+    }
+
+    /// Whether the bucket has been found.
+    pub(crate) fn is_found(&self) -> bool
+        ensures { result ≡ is_found self.now.learnt }
+    {
+        self.found
+    }
+
+    /// Whether the slot holds a value.
+    pub(crate) fn is_published(&self) -> bool
+        ensures { result ≡ is_some (value_held self.now.learnt) }
+    {
+        self.published
+    }
+
+    /// The value that the slot holds, for as long as the claim is borrowed.
+    pub(crate) fn value(&self) -> &T
+        requires { is_some (value_held self.now.learnt) ≡ true }
+        ensures { self.now.learnt ≡ Holding result.now }
+    {
+        unsafe { &(*self.slot).value }
+    }
+
+    /// Gives the claim up, and the right back. It makes no atomic step.
+    pub(crate) fn leave(self) -> Right
+        ensures right { (result.table ≡ self.entry.table) × (result.id ≡ self.entry.id) }
+    {
+        let Self {
+            word: _,
+            slot: _,
+            index: _,
+            found: _,
+            published: _,
+            marker: _,
+        } = self;
+        Right::take_up()
+    }
+}
+
+unsafe impl<T: Send> Send for ClaimedSlot<'_, T> {}
+
+unsafe impl<T: Sync> Sync for ClaimedSlot<'_, T> {}

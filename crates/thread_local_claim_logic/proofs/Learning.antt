@@ -1,0 +1,47 @@
+-- What a claim has, by what it has learnt. Assumes `Logic`.
+use Rattle.std.proofs.Common.{◌≡◌, ℕ, Bool, true, refl, ap, ◌∙◌, eqb, Option, None, Some, is_some}
+use seplogic.Ra.Ura.{Ura}
+use base.Logic.{ent, id⊢}
+use base.Fml.{Lft, fex}
+use types.Logic.{Logic, sem}
+use denote.RattleType.{RattleType}
+use Rattle.thread_local_model.specs.Learnt.{Learnt, Unknown, Missing, Standing as Stood, Vacant, Holding}
+use Rattle.thread_local_blocks.specs.Slots.{flag_of}
+use Rattle.thread_local_shared_word_logic.specs.Shared.{WordView, Turn, Standing}
+use Rattle.thread_local_claim_logic.specs.Known.{IsKnown, IsUnfound, is_found, in_vain, value_held, found_as}
+use Rattle.thread_local_claim_logic.specs.Claims.{Place, has_slot, has, waits, IsKept}
+
+pub known_as : {X : Type 0} (v : Option X) → IsKnown (found_as v)
+known_as None = tt
+known_as (Some x) = tt
+
+pub not_missing : {X : Type 0} (v : Option X) → found_as v ≡ Missing → ⊥
+not_missing None e = cc
+not_missing (Some x) e = cc
+
+-- a claim that holds a value has learnt which
+pub holding : {X : Type 0} (l : Learnt X) → is_some (value_held l) ≡ true → (x : X) × (l ≡ Holding x)
+holding (Holding x) e = (x, refl)
+holding Unknown e = cc
+holding Missing e = cc
+holding Stood e = cc
+holding Vacant e = cc
+
+-- the flag tells whether the slot holds a value
+pub kept_as : (R : RattleType) (v : Option R.Denot) (n : ℕ) → n ≡ flag_of v → IsKept R true (eqb n 1) (found_as v)
+kept_as R None n e = (refl, ap (λ m. eqb m 1) e)
+kept_as R (Some x) n e = (refl, ap (λ m. eqb m 1) e)
+
+module _ {M : Type 1} {𝓤 : Ura M} (𝓛 : Logic 𝓤) (R : RattleType) (d : WordView) (t : Turn) (β : Lft) (c : Place) where
+  -- before it has found its bucket: its right or the pass
+  pub unfound : (l : Learnt R.Denot) → IsUnfound l → ent 𝓤 (sem 𝓛 (has R d t β c l)) (sem 𝓛 (waits (in_vain l) d.table t.pass c.id))
+  unfound Unknown h = id⊢ 𝓤 _
+  unfound Missing h = id⊢ 𝓤 _
+  unfound Stood h = absurd h
+  unfound Vacant h = absurd h
+  unfound (Holding x) h = absurd h
+
+  -- once it has: what the slot holds
+  pub found : (v : Option R.Denot) → ent 𝓤 (sem 𝓛 (fex Standing (has_slot R d t β c v))) (sem 𝓛 (has R d t β c (found_as v)))
+  found None = id⊢ 𝓤 _
+  found (Some x) = id⊢ 𝓤 _

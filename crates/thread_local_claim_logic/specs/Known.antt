@@ -1,0 +1,48 @@
+-- What a claim has learnt of its slot, in the model's words.
+use Rattle.std.specs.Prelude.{Bool, true, false, Option, None, Some, ⊤}
+use Rattle.thread_local_model.specs.Learnt.{Learnt, Unknown, Missing, Standing, Vacant, Holding}
+
+-- it has looked for its bucket in vain, or it has seen its slot: each claim that a call hands out has
+abbrev pub IsKnown : {V : Type 0} → Learnt V → Type 0
+IsKnown Unknown = ⊥
+IsKnown Missing = ⊤
+IsKnown Standing = ⊥
+IsKnown Vacant = ⊤
+IsKnown (Holding v) = ⊤
+
+-- it has not found its bucket
+abbrev pub IsUnfound : {V : Type 0} → Learnt V → Type 0
+IsUnfound Unknown = ⊤
+IsUnfound Missing = ⊤
+IsUnfound Standing = ⊥
+IsUnfound Vacant = ⊥
+IsUnfound (Holding v) = ⊥
+
+-- whether it has seen its slot
+abbrev pub is_found : {V : Type 0} → Learnt V → Bool
+is_found Unknown = false
+is_found Missing = false
+is_found Standing = false
+is_found Vacant = true
+is_found (Holding v) = true
+
+-- whether it has looked for its bucket in vain
+abbrev pub in_vain : {V : Type 0} → Learnt V → Bool
+in_vain Unknown = false
+in_vain Missing = true
+in_vain Standing = false
+in_vain Vacant = false
+in_vain (Holding v) = false
+
+-- the value that it holds, if it does
+abbrev pub value_held : {V : Type 0} → Learnt V → Option V
+value_held Unknown = None
+value_held Missing = None
+value_held Standing = None
+value_held Vacant = None
+value_held (Holding v) = Some v
+
+-- what is learnt of a slot that holds this
+abbrev pub found_as : {V : Type 0} → Option V → Learnt V
+found_as None = Vacant
+found_as (Some v) = Holding v

@@ -1,0 +1,4 @@
+//! Callers at concrete types and generic ones, which are proved and not run.
+mod buckets;
+mod claims;
+mod words;

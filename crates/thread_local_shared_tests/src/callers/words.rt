@@ -1,0 +1,55 @@
+//! Words at concrete types.
+ghost use Rattle.std.specs.Prelude.{◌≡◌, ◌^◌, ◌<◌};
+ghost use Rattle.thread_local_judged.specs.Judged.{Judged};
+
+use std::cell::{Cell, RefCell};
+use thread_local_judged::{Judge, judge_sync};
+use thread_local_rights::Rights;
+use thread_local_shared_word::{Row, SharedWord};
+
+fn number(rights: &Rights) -> SharedWord<u32> {
+    SharedWord::null(3, rights)
+}
+
+fn text(rights: &Rights) -> SharedWord<String> {
+    judge_sync::<String>();
+    SharedWord::null(3, rights)
+}
+
+fn boxed(rights: &Rights) -> SharedWord<Box<u32>> {
+    SharedWord::null(3, rights)
+}
+
+fn cell(rights: &Rights) -> SharedWord<Cell<u64>> {
+    Cell::<u64>::judge();
+    SharedWord::null(3, rights)
+}
+
+fn shared_text(rights: &Rights) -> SharedWord<RefCell<String>> {
+    RefCell::<String>::judge();
+    SharedWord::null(3, rights)
+}
+
+fn judged<T: Send>(rights: &Rights) -> SharedWord<T>
+    requires { Judged T.row }
+{
+    SharedWord::null(3, rights)
+}
+
+fn synced<T: Send + Sync>(rights: &Rights) -> SharedWord<T> {
+    judged(rights)
+}
+
+fn seen(row: &Row<'_, String>, index: usize) -> bool
+    requires { index < 2 ^ row.now.of.bucket }
+{
+    row.get(index).is_some()
+}
+
+fn crosses<S: Send + Sync>(value: S) -> S {
+    value
+}
+
+fn text_crosses(word: SharedWord<RefCell<String>>) -> SharedWord<RefCell<String>> {
+    crosses(word)
+}

@@ -1,0 +1,114 @@
+//! Claims that are forgotten, sent or shared, and those of reserved buckets.
+use crate::steps::{look, publish, publish_claimed};
+use std::cell::Cell;
+use std::mem::forget;
+use std::test::Fail;
+use std::thread;
+use thread_local_buckets::Buckets;
+use thread_local_claim::Claim;
+use thread_local_judged::Judge;
+use thread_local_locked_ids::Ids;
+use thread_local_shared_buckets::Shared;
+use thread_local_thread_id::Thread;
+
+/// A claim that is given up when this is dropped.
+struct Kept<'a, T> {
+    claim: Claim<'a, T>,
+}
+
+impl<T: Drop> Kept<'_, T> {
+    /// Publishes a value if the slot is vacant, and answers whether it did.
+    fn publish(self, value: T) -> bool {
+        let Self { claim } = self;
+        publish_claimed(claim, value).1
+    }
+}
+
+impl<T> Drop for Kept<'_, T> {
+    fn drop(self) {
+        let Self { claim } = self;
+        claim.leave();
+    }
+}
+
+// The first is forgotten where a value stands, the second before its bucket does, which the third then makes.
+#[test]
+fn a_forgotten_claim_costs_its_own_slot(rt: HostRuntime) -> Result<(), Fail> {
+    let mut ids = Ids::new(rt.alloc());
+    let mut buckets = Buckets::new(rt.alloc());
+    assert!(rt; buckets.insert(Thread::new(0), 5u32).is_ok());
+    let shared = Shared::new(buckets, ids.rights());
+    let first = ids.take()?;
+    let second = ids.take()?;
+    let third = ids.take()?;
+    let claimed = Kept {
+        claim: shared.claim(first),
+    };
+    assert_eq!(rt; claimed.claim.get().copied(), Some(5));
+    forget(claimed);
+    forget(Kept {
+        claim: shared.claim(second),
+    });
+    let (_third, published) = publish(&shared, third, rt.alloc(), 6);
+    assert!(rt; published);
+    assert_eq!(rt;
+        (look(&shared, 0), look(&shared, 1), look(&shared, 2)),
+        (Some(5), None, Some(6))
+    );
+    let mut values = shared.into_buckets().into_iter();
+    assert_eq!(rt; values.next(), Some(5));
+    assert_eq!(rt; values.next(), Some(6));
+    assert_eq!(rt; values.next(), None);
+    Ok(())
+}
+
+#[test]
+fn a_claim_goes_to_another_thread(rt: HostRuntime) -> Result<(), Fail> {
+    let mut ids = Ids::new(rt.alloc());
+    Cell::<u64>::judge();
+    let shared = Shared::new(Buckets::with_capacity(rt.alloc(), 1)?, ids.rights());
+    let claimed = Kept {
+        claim: shared.claim(ids.take()?),
+    };
+    let (published, _) = thread::join(&rt, || claimed.publish(Cell::new(7u64)), || ());
+    assert!(rt; published);
+    let value = shared.into_buckets().into_iter().next();
+    assert_eq!(rt; value.map(|cell| cell.get()), Some(7));
+    Ok(())
+}
+
+/// What a claim holds, which another thread made.
+fn found(claim: &Claim<'_, u32>) -> Option<u32> {
+    claim.get().copied()
+}
+
+#[test]
+fn threads_share_a_claim(rt: HostRuntime) -> Result<(), Fail> {
+    let mut ids = Ids::new(rt.alloc());
+    let mut buckets = Buckets::new(rt.alloc());
+    assert!(rt; buckets.insert(Thread::new(0), 5u32).is_ok());
+    let shared = Shared::new(buckets, ids.rights());
+    let claim = shared.claim(ids.take()?);
+    let both = thread::join(&rt, || found(&claim), || found(&claim));
+    assert_eq!(rt; both, (Some(5), Some(5)));
+    claim.leave();
+    Ok(())
+}
+
+#[test]
+fn reserved_buckets_stand(rt: HostRuntime) -> Result<(), Fail> {
+    let mut ids = Ids::new(rt.alloc());
+    let shared = Shared::new(Buckets::with_capacity(rt.alloc(), 4)?, ids.rights());
+    assert_eq!(rt; shared.reserved(), 7);
+    for bucket in 0..4usize {
+        assert_eq!(rt; shared.load(bucket).is_some(), bucket < 3);
+    }
+    let claim = shared.claim(ids.take()?);
+    assert!(rt; !claim.is_missing());
+    assert!(rt; claim.get().is_none());
+    assert!(rt; publish_claimed(claim, 1u32).1);
+    let mut buckets = shared.into_buckets();
+    assert_eq!(rt; buckets.slots(), 7);
+    assert_eq!(rt; buckets.into_iter().next(), Some(1));
+    Ok(())
+}

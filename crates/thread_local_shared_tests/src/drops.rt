@@ -1,0 +1,97 @@
+//! Each value is dropped once.
+ghost use Rattle.std.specs.Prelude.{◌≡◌};
+
+use crate::steps::publish;
+use std::alloc::Global;
+use std::sync::atomic::AtomicU64;
+use std::sync::atomic::Ordering::SeqCst;
+use std::sync::{Arc, Wait};
+use std::test::Fail;
+use thread_local_buckets::Buckets;
+use thread_local_judged::judge_sync;
+use thread_local_locked_ids::{Ids, LockedIds};
+use thread_local_rights::Rights;
+use thread_local_shared_buckets::Shared;
+use thread_local_thread_id::Thread;
+
+struct Counted {
+    drops: Arc<AtomicU64, Global>,
+}
+
+impl Drop for Counted {
+    fn drop(self) {
+        let Self { drops } = self;
+        drops.fetch_add(1, SeqCst);
+    }
+}
+
+#[test]
+fn each_value_is_dropped_once(rt: HostRuntime) -> Result<(), Fail> {
+    let drops = Arc::new(rt.alloc(), AtomicU64::new(0))?;
+    let rights = Rights::new();
+    let mut buckets = Buckets::new(rt.alloc());
+    for id in 0..100 {
+        let value = Counted {
+            drops: Arc::try_clone(&drops)?,
+        };
+        assert!(rt; buckets.insert(Thread::new(id), value).is_ok());
+    }
+    judge_sync::<Counted>();
+    let shared = Shared::new(buckets, &rights);
+    assert!(rt; shared.load(3).is_some());
+    assert_eq!(rt; drops.load(SeqCst), 0);
+    drop(shared);
+    assert_eq!(rt; drops.load(SeqCst), 100);
+    Ok(())
+}
+
+/// Publishes a counted value at each of so many ids, and offers another there, which gives way. Answers how often it did.
+fn publish_counted<R: Wait>(
+    shared: &Shared<Counted>,
+    ids: &LockedIds,
+    rt: &R,
+    alloc: Global,
+    drops: &Arc<AtomicU64, Global>,
+    count: u64,
+) -> u64
+    requires { ids.now ≡ shared.now.table }
+{
+    let mut published = 0u64;
+    for _ in 0..count {
+        let Ok(one) = Arc::try_clone(drops) else {
+            return published;
+        };
+        let Ok(other) = Arc::try_clone(drops) else {
+            return published;
+        };
+        let Ok(held) = ids.take(rt) else {
+            return published;
+        };
+        let (held, first) = publish(shared, held, alloc, Counted { drops: one });
+        let (_held, second) = publish(shared, held, alloc, Counted { drops: other });
+        if first && !second {
+            published = published.saturating_add(1);
+        }
+    }
+    published
+}
+
+#[test]
+fn each_published_value_is_dropped_once(rt: HostRuntime) -> Result<(), Fail> {
+    let drops = Arc::new(rt.alloc(), AtomicU64::new(0))?;
+    let ids = Ids::new(rt.alloc());
+    judge_sync::<Counted>();
+    let shared = Shared::new(Buckets::new(rt.alloc()), ids.rights());
+    let ids = LockedIds::new(ids);
+    assert_eq!(rt;
+        publish_counted(&shared, &ids, &rt, rt.alloc(), &drops, 100),
+        100
+    );
+    assert_eq!(rt; drops.load(SeqCst), 100);
+    let mut values = shared.into_buckets().into_iter();
+    assert!(rt; values.next().is_some());
+    assert_eq!(rt; drops.load(SeqCst), 101);
+    drop(values);
+    assert_eq!(rt; drops.load(SeqCst), 200);
+    Ok(())
+}

@@ -1,0 +1,201 @@
+//! Blocks are installed, and those that come second give way.
+ghost use Rattle.std.specs.Prelude.{◌≡◌, ◌<◌};
+ghost use Rattle.thread_local_model.specs.Place.{bucket_of};
+
+use crate::steps::{look, publish_claimed};
+use std::alloc::Global;
+use std::cell::{Cell, RefCell};
+use std::sync::Wait;
+use std::test::Fail;
+use thread_local_buckets::Buckets;
+use thread_local_claim::Claim;
+use thread_local_judged::judge_sync;
+use thread_local_locked_ids::{Ids, LockedIds};
+use thread_local_rights::HeldId;
+use thread_local_shared_buckets::Shared;
+use thread_local_shared_word::Private;
+use thread_local_thread_id::Thread;
+
+/// A claim, with the bucket of its slot.
+struct Early<'a, T> {
+    claim: Claim<'a, T>,
+    bucket: usize,
+    ghost fits: { bucket ≡ bucket_of claim.id },
+    ghost in_table: { bucket < 63 },
+}
+
+impl<T> Early<'_, T> {
+    /// The claim alone.
+    fn into_claim(self) -> Claim<'_, T>
+        ensures { result.id ≡ self.entry.claim.id }
+    {
+        let Self { claim, bucket: _ } = self;
+        claim
+    }
+
+    /// Offers a block of the claim's bucket, if that was missing, and answers whether it did.
+    fn offer(self, alloc: Global) -> bool {
+        let Self { claim, bucket } = self;
+        let mut claim = claim;
+        if !claim.is_missing() {
+            claim.leave();
+            return false;
+        }
+        let Ok(private) = Private::new(alloc, bucket) else {
+            claim.leave();
+            return false;
+        };
+        claim.install(private);
+        claim.leave();
+        true
+    }
+}
+
+impl<T> Drop for Early<'_, T> {
+    fn drop(self) {
+        let Self { claim, bucket: _ } = self;
+        claim.leave();
+    }
+}
+
+/// Claims an id that is held.
+fn early<T>(shared: &Shared<T>, held: HeldId) -> Early<'_, T>
+    requires { held.right.table ≡ shared.now.table }
+{
+    let bucket = Thread::new(held.id).bucket;
+    Early {
+        claim: shared.claim(held),
+        bucket,
+    }
+}
+
+/// Slots of 16 KiB: a thousand blocks of 1024 such slots don't fit into memory.
+type Large = [u64; 2048];
+
+/// Takes so many ids and claims them, and then offers a block by each claim. Answers how often it did.
+fn offer_by_all<R: Wait>(shared: &Shared<Large>, ids: &LockedIds, rt: &R, alloc: &Global, count: u64) -> u64
+    requires { ids.now ≡ shared.now.table }
+{
+    let mut offered = 0u64;
+    let Ok(heap) = alloc.clone() else {
+        return offered;
+    };
+    let mut claims = Vec::new(heap);
+    for _ in 0..count {
+        let Ok(held) = ids.take(rt) else {
+            return offered;
+        };
+        if claims.push(early(shared, held)).is_err() {
+            return offered;
+        }
+    }
+    while let Some(claim) = claims.pop() {
+        let Ok(heap) = alloc.clone() else {
+            return offered;
+        };
+        if claim.offer(heap) {
+            offered = offered.saturating_add(1);
+        }
+    }
+    offered
+}
+
+// A thousand claims find bucket 10 missing, and each then offers a block for it.
+#[test]
+fn blocks_that_come_second_are_freed(rt: HostRuntime) -> Result<(), Fail> {
+    let mut ids = Ids::new(rt.alloc());
+    for _ in 0..1023 {
+        let _held = ids.take()?;
+    }
+    judge_sync::<Large>();
+    let shared = Shared::new(Buckets::new(rt.alloc()), ids.rights());
+    let ids = LockedIds::new(ids);
+    let alloc = rt.alloc();
+    assert_eq!(rt; offer_by_all(&shared, &ids, &rt, &alloc, 1001), 1001);
+    assert_eq!(rt; shared.into_buckets().slots(), 1024);
+    Ok(())
+}
+
+/// Installs a block of bucket 1 by a claim, if that found the bucket missing, and answers what its first slot has then.
+fn install<'a>(claim: Claim<'a, u32>, shared: &Shared<u32>, private: Private<u32>) -> (Claim<'a, u32>, Option<u32>)
+    requires { private.bucket ≡ bucket_of claim.id }
+    ensures { (result.0.table ≡ claim.entry.table) × (result.0.id ≡ claim.entry.id) }
+{
+    let mut claim = claim;
+    if claim.is_missing() {
+        claim.install(private);
+    }
+    (claim, look(shared, 1))
+}
+
+// The second offer, and what comes after both, goes on with the first's block.
+#[test]
+fn the_second_of_two_blocks_gives_way(rt: HostRuntime) -> Result<(), Fail> {
+    let mut ids = Ids::new(rt.alloc());
+    let shared = Shared::new(Buckets::new(rt.alloc()), ids.rights());
+    let _first = ids.take()?;
+    let second = early(&shared, ids.take()?);
+    let third = early(&shared, ids.take()?);
+    let second_block = Private::new(rt.alloc(), second.bucket)?;
+    let third_block = Private::new(rt.alloc(), third.bucket)?;
+    let (second, before) = install(second.into_claim(), &shared, second_block);
+    assert_eq!(rt; before, None);
+    assert!(rt; publish_claimed(second, 1).1);
+    let (third, after) = install(third.into_claim(), &shared, third_block);
+    assert_eq!(rt; after, Some(1));
+    assert!(rt; publish_claimed(third, 2).1);
+    let mut buckets = shared.into_buckets();
+    assert_eq!(rt; buckets.slots(), 2);
+    let mut values = buckets.into_iter();
+    assert_eq!(rt; values.next(), Some(1));
+    assert_eq!(rt; values.next(), Some(2));
+    assert_eq!(rt; values.next(), None);
+    Ok(())
+}
+
+/// Looks again with a claim that found its bucket missing, and publishes a value. Answers whether it did.
+fn publish_late(claim: Claim<'_, u32>, value: u32) -> bool {
+    let mut claim = claim;
+    if !claim.is_missing() {
+        claim.leave();
+        return false;
+    }
+    claim.again();
+    publish_claimed(claim, value).1
+}
+
+#[test]
+fn an_early_claim_finds_its_bucket_later(rt: HostRuntime) -> Result<(), Fail> {
+    let mut ids = Ids::new(rt.alloc());
+    let shared = Shared::new(Buckets::new(rt.alloc()), ids.rights());
+    let _first = ids.take()?;
+    let second = early(&shared, ids.take()?);
+    let third = early(&shared, ids.take()?);
+    assert!(rt; third.offer(rt.alloc()));
+    assert!(rt; publish_late(second.into_claim(), 5));
+    assert_eq!(rt; look(&shared, 1), Some(5));
+    Ok(())
+}
+
+/// Whether there is memory for the bucket's block.
+fn made<T>(alloc: Global, bucket: usize) -> bool
+    requires { bucket < 63 }
+{
+    match Private::<T>::new(alloc, bucket) {
+        Ok(private) => {
+            private.free();
+            true
+        }
+        Err(_) => false,
+    }
+}
+
+#[test]
+fn a_private_block_is_made_at_any_type(rt: HostRuntime) {
+    let alloc = rt.alloc();
+    assert!(rt; made::<u32>(alloc, 3));
+    assert!(rt; made::<String>(alloc, 0));
+    assert!(rt; made::<Cell<u64>>(alloc, 5));
+    assert!(rt; made::<RefCell<String>>(alloc, 5));
+    assert!(rt; !made::<u64>(alloc, 62));
+}
