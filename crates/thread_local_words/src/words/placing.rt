@@ -40,7 +40,8 @@ impl<T: Drop> Words<T> {
     pub fn publish_or_drop(&mut self, thread: Thread, value: T)
         requires in_bucket { thread.index < length (row self.old thread.bucket) }
         ensures kept { IsSome (value_in self.old thread.bucket thread.index) → self.new ≡ self.old }
-        ensures published { value_in self.old thread.bucket thread.index ≡ None → self.new ≡ with_slot self.old thread.bucket thread.index (Some value) }
+        ensures published { value_in self.old thread.bucket thread.index ≡ None
+            → self.new ≡ with_slot self.old thread.bucket thread.index (Some value) }
     {
         if !self.is_published(thread.bucket, thread.index) {
             self.publish(thread, value);
