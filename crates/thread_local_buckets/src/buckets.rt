@@ -111,9 +111,12 @@ impl<T> Buckets<T> {
 
         // Where nothing is written through the answer, the map is as after a publishing, or after the keeping of what
         // stands there. No other bucket is made, whatever is written.
-        ensures would_move { sheet_of (with_published self.old.contents thread.bucket thread.index (unwrap_or (value_in self.old.contents thread.bucket thread.index) value))
-            ≡ moved (sheet_of self.old.contents) (publish_or_keep (value_in self.old.contents thread.bucket thread.index) (id_at thread.bucket thread.index) value) }
-        ensures would_stand { (written : T) (bucket : ℕ) → stands (with_published self.old.contents thread.bucket thread.index written) bucket
+        ensures would_move { sheet_of
+            (with_published self.old.contents thread.bucket thread.index (unwrap_or (value_in self.old.contents thread.bucket thread.index) value))
+            ≡ moved (sheet_of self.old.contents)
+            (publish_or_keep (value_in self.old.contents thread.bucket thread.index) (id_at thread.bucket thread.index) value) }
+        ensures would_stand { (written : T) (bucket : ℕ)
+            → stands (with_published self.old.contents thread.bucket thread.index written) bucket
             ≡ (if thread.bucket == bucket then true else stands self.old.contents bucket) }
 
         ensures err { IfErr result (λ back. back ≡ value) }
@@ -131,7 +134,8 @@ impl<T> Buckets<T> {
     /// The value in the slot of a place, for writing, or None where none is published. It takes no memory.
     pub fn get_mut(&mut self, thread: Thread) -> Option<&mut T>
         ensures* writes_back { sem 𝓛 (LendsSlot T.row self.entry thread.bucket thread.index result) }
-        ensures value { MatchOption result (value_in self.old.contents thread.bucket thread.index ≡ None) (λ there. value_in self.old.contents thread.bucket thread.index ≡ Some there.now) }
+        ensures value { MatchOption result (value_in self.old.contents thread.bucket thread.index ≡ None)
+            (λ there. value_in self.old.contents thread.bucket thread.index ≡ Some there.now) }
 
         // Whatever is written through the answer, the map has it there, and every other value as it was.
         ensures would_map { (written : T) (id : ℕ) → values (with_published self.old.contents thread.bucket thread.index written) id
@@ -183,8 +187,10 @@ impl<T> Buckets<T> {
         ensures rest { iter_mut_rest result ≡ walk (values self.old.contents) }
 
         // Whatever is written through the items, the same buckets stand, and the same ids have a value.
-        ensures would_stand { (written : Owned T) (bucket : ℕ) → stands (owned_refilled self.old written).contents bucket ≡ stands self.old.contents bucket }
-        ensures would_be_published { (written : Owned T) (id : ℕ) → is_some (values (owned_refilled self.old written).contents id) ≡ is_some (values self.old.contents id) }
+        ensures would_stand { (written : Owned T) (bucket : ℕ)
+            → stands (owned_refilled self.old written).contents bucket ≡ stands self.old.contents bucket }
+        ensures would_be_published { (written : Owned T) (id : ℕ)
+            → is_some (values (owned_refilled self.old written).contents id) ≡ is_some (values self.old.contents id) }
     {
         let left = self.words.count_values();
         IterMut {

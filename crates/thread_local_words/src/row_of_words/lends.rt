@@ -16,7 +16,8 @@ impl<T> RowOfWords<T> {
     #[inline]
     pub fn word_mut(&mut self, bucket: usize) -> &mut Word<T>
         requires { bucket < 63 }
-        ensures* writes_back { sem 𝓛 (follows (the_row T.row) (word_row T.row) self.entry.ghost_name result.ghost_name (with_word self.old bucket)) }
+        ensures* writes_back { sem 𝓛 (follows (the_row T.row) (word_row T.row) self.entry.ghost_name result.ghost_name
+            (with_word self.old bucket)) }
         ensures value { result.now ≡ slice_index_or self.old.words bucket null_word }
     {
         &mut self.words[bucket]
@@ -28,7 +29,8 @@ impl<T> RowOfWords<T> {
         requires in_table { bucket < 63 }
         requires in_bucket { index < length (row (contents_of self.old) bucket) }
         requires published { IsSome (value_in (contents_of self.old) bucket index) }
-        ensures* writes_back { sem 𝓛 (follows (the_row T.row) T.row self.entry.ghost_name result.ghost_name (words_with_value self.old bucket index)) }
+        ensures* writes_back { sem 𝓛 (follows (the_row T.row) T.row self.entry.ghost_name result.ghost_name
+            (words_with_value self.old bucket index)) }
         ensures value { value_in (contents_of self.old) bucket index ≡ Some result.now }
     {
         self.word_mut(bucket).get_mut(index)

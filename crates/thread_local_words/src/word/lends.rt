@@ -14,7 +14,8 @@ impl<T> Word<T> {
     pub fn get_mut(&mut self, index: usize) -> &mut T
         requires in_block { index < length self.old.slots }
         requires published { IsSome (slot_at self.old.slots index) }
-        ensures* writes_back { sem 𝓛 (follows (the_row T.row) T.row self.entry.ghost_name result.ghost_name (with_slot_value self.old index)) }
+        ensures* writes_back { sem 𝓛 (follows (the_row T.row) T.row self.entry.ghost_name result.ghost_name
+            (with_slot_value self.old index)) }
         ensures value { slot_at self.old.slots index ≡ Some result.now }
     {
         unsafe {

@@ -15,7 +15,8 @@ impl<T> Words<T> {
     pub fn get_mut(&mut self, thread: Thread) -> &mut T
         requires in_bucket { thread.index < length (row self.old thread.bucket) }
         requires published { IsSome (value_in self.old thread.bucket thread.index) }
-        ensures* writes_back { sem 𝓛 (follows (the_row T.row) T.row self.entry.ghost_name result.ghost_name (λ x. with_slot self.old thread.bucket thread.index (Some x))) }
+        ensures* writes_back { sem 𝓛 (follows (the_row T.row) T.row self.entry.ghost_name result.ghost_name
+            (λ x. with_slot self.old thread.bucket thread.index (Some x))) }
         ensures value { value_in self.old thread.bucket thread.index ≡ Some result.now }
     {
         self.words.get_mut(thread.bucket, thread.index)

@@ -9,7 +9,7 @@ use std::alloc::AllocError;
 use thread_local_thread_id::Thread;
 
 impl<T> Words<T> {
-    /// Makes the bucket where it doesn't stand. It asks for memory once where it makes the bucket, and else not. `Err` is want of memory, and nothing changed.
+    /// Makes the bucket where it doesn't stand, and only then asks for memory. `Err` is want of memory, and nothing changed.
     pub fn ensure_bucket(&mut self, bucket: usize) -> Result<(), AllocError>
         requires { bucket < 63 }
         ensures ok { OnOk result (self.new ≡ with_bucket self.old bucket) }
@@ -40,7 +40,8 @@ impl<T: Drop> Words<T> {
     pub fn publish_or_drop(&mut self, thread: Thread, value: T)
         requires in_bucket { thread.index < length (row self.old thread.bucket) }
         ensures kept { IsSome (value_in self.old thread.bucket thread.index) → self.new ≡ self.old }
-        ensures published { value_in self.old thread.bucket thread.index ≡ None → self.new ≡ with_slot self.old thread.bucket thread.index (Some value) }
+        ensures published { value_in self.old thread.bucket thread.index ≡ None
+            → self.new ≡ with_slot self.old thread.bucket thread.index (Some value) }
     {
         if !self.is_published(thread.bucket, thread.index) {
             self.publish(thread, value);
