@@ -224,7 +224,7 @@ fn publish_counted<R: Wait>(
     drops: &Arc<AtomicU64, Global>,
     count: u64,
 ) -> u64
-    requires { ids.now ≡ shared.now.table }
+    requires { ids.now.table ≡ shared.now.table }
 {
     let mut published = 0u64;
     for _ in 0..count {
@@ -418,7 +418,7 @@ fn publish_own<R: Wait>(
     alloc: &Global,
     count: u64,
 ) -> u64
-    requires { ids.now ≡ shared.now.table }
+    requires { ids.now.table ≡ shared.now.table }
 {
     let mut published = 0u64;
     for _ in 0..count {
@@ -443,15 +443,15 @@ fn publish_by_two<R: Wait + Threads + Sync>(
     rt: &R,
     alloc: &Global,
 ) -> u64
-    requires { ids.now ≡ shared.now.table }
+    requires { ids.now.table ≡ shared.now.table }
 {
     let (a, b) = thread::join(
         rt,
         ||
-            requires { ids.now ≡ shared.now.table }
+            requires { ids.now.table ≡ shared.now.table }
         { publish_own(shared, ids, rt, alloc, 16) },
         ||
-            requires { ids.now ≡ shared.now.table }
+            requires { ids.now.table ≡ shared.now.table }
         { publish_own(shared, ids, rt, alloc, 16) },
     );
     a.saturating_add(b)
@@ -464,15 +464,15 @@ fn publish_by_four<R: Wait + Threads + Sync>(
     rt: &R,
     alloc: &Global,
 ) -> u64
-    requires { ids.now ≡ shared.now.table }
+    requires { ids.now.table ≡ shared.now.table }
 {
     let (a, b) = thread::join(
         rt,
         ||
-            requires { ids.now ≡ shared.now.table }
+            requires { ids.now.table ≡ shared.now.table }
         { publish_by_two(shared, ids, rt, alloc) },
         ||
-            requires { ids.now ≡ shared.now.table }
+            requires { ids.now.table ≡ shared.now.table }
         { publish_by_two(shared, ids, rt, alloc) },
     );
     a.saturating_add(b)
@@ -485,15 +485,15 @@ fn publish_by_eight<R: Wait + Threads + Sync>(
     rt: &R,
     alloc: &Global,
 ) -> u64
-    requires { ids.now ≡ shared.now.table }
+    requires { ids.now.table ≡ shared.now.table }
 {
     let (a, b) = thread::join(
         rt,
         ||
-            requires { ids.now ≡ shared.now.table }
+            requires { ids.now.table ≡ shared.now.table }
         { publish_by_four(shared, ids, rt, alloc) },
         ||
-            requires { ids.now ≡ shared.now.table }
+            requires { ids.now.table ≡ shared.now.table }
         { publish_by_four(shared, ids, rt, alloc) },
     );
     a.saturating_add(b)
