@@ -1,13 +1,15 @@
 #!/usr/bin/env python3
 """Runs random schedules of the table's model and checks every clause of the theorem after every event.
 
-    tools/schedules.py                      a clause that fails is printed with its schedule
-    tools/schedules.py --wrong              tries each wrong body in turn: some clause must fail for it
+    tools/schedules.py                      a clause that fails is printed with its schedule; under three minutes
+    tools/schedules.py --short              the same on fewer schedules; under 20 seconds
+    tools/schedules.py --wrong              tries each wrong body in turn: some clause must fail for it; under ten minutes
+    tools/schedules.py --wrong --short      the same on fewer schedules; about a minute
     tools/schedules.py --buckets 4 --seed 7 --runs 2000 --events 120
 
 The definitions stand in table_model.py, under the names of the specs. Each clause of the theorem is a
 function here. Nothing is proved: this finds a clause that is false, or that says too little, before a proof
-is tried.
+is tried. The runs take one processor.
 """
 
 import argparse
@@ -528,15 +530,17 @@ def try_wrong_bodies(seed, runs, length):
 def main():
     words = argparse.ArgumentParser(description=__doc__.splitlines()[0])
     words.add_argument("--seed", type=int, default=1)
-    words.add_argument("--runs", type=int, default=2000)
+    words.add_argument("--runs", type=int, help="how many schedules: 2000 (under three minutes), or 100 with --short")
+    words.add_argument("--short", action="store_true", help="fewer schedules: under 20 seconds")
     words.add_argument("--events", type=int, default=250)
     words.add_argument("--buckets", type=int, default=3)
-    words.add_argument("--wrong", action="store_true")
+    words.add_argument("--wrong", action="store_true", help="tries each wrong body in turn: under ten minutes")
     given = words.parse_args()
+    runs = given.runs or (100 if given.short else 2000)
     model.set_buckets(given.buckets)
     if given.wrong:
-        sys.exit(1 if try_wrong_bodies(given.seed, given.runs, given.events) else 0)
-    failed, events, seen, count = try_runs(given.seed, given.runs, given.events)
+        sys.exit(1 if try_wrong_bodies(given.seed, runs, given.events) else 0)
+    failed, events, seen, count = try_runs(given.seed, runs, given.events)
     for name in sorted(seen):
         print(f"  {seen[name]:8} {name}")
     if failed:

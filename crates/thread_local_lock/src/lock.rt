@@ -137,7 +137,7 @@ impl<V: Fits> Lock<V> {
         unsafe { exchange::<Brand>(&raw const self.word, TAKEN, AWAITED) };
     }
 
-    /// Sleeps until a release wakes it, unless the lock has been released since `mark`.
+    /// Sleeps until a release wakes it, or for so many seconds, unless the lock has been released since `mark`.
     fn sleep<R: Wait>(&self, rt: &R, secs: u64) {
         unsafe { raw::park::<Brand, R>(rt, &raw const self.word, AWAITED, secs, 0) };
     }

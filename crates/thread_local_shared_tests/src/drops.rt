@@ -54,7 +54,7 @@ fn publish_counted<R: Wait>(
     drops: &Arc<AtomicU64, Global>,
     count: u64,
 ) -> u64
-    requires { ids.now ≡ shared.now.table }
+    requires { ids.now.table ≡ shared.now.table }
 {
     let mut published = 0u64;
     for _ in 0..count {

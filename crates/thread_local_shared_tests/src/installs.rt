@@ -74,7 +74,7 @@ type Large = [u64; 2048];
 
 /// Takes so many ids and claims them, and then offers a block by each claim. Answers how often it did.
 fn offer_by_all<R: Wait>(shared: &Shared<Large>, ids: &LockedIds, rt: &R, alloc: &Global, count: u64) -> u64
-    requires { ids.now ≡ shared.now.table }
+    requires { ids.now.table ≡ shared.now.table }
 {
     let mut offered = 0u64;
     let Ok(heap) = alloc.clone() else {

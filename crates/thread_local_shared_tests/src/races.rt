@@ -19,7 +19,7 @@ fn publish_own<R: Wait>(
     alloc: &Global,
     count: u64,
 ) -> u64
-    requires { ids.now ≡ shared.now.table }
+    requires { ids.now.table ≡ shared.now.table }
 {
     let mut published = 0u64;
     for _ in 0..count {
@@ -44,15 +44,15 @@ fn publish_by_two<R: Wait + Threads + Sync>(
     rt: &R,
     alloc: &Global,
 ) -> u64
-    requires { ids.now ≡ shared.now.table }
+    requires { ids.now.table ≡ shared.now.table }
 {
     let (a, b) = thread::join(
         rt,
         ||
-            requires { ids.now ≡ shared.now.table }
+            requires { ids.now.table ≡ shared.now.table }
         { publish_own(shared, ids, rt, alloc, 16) },
         ||
-            requires { ids.now ≡ shared.now.table }
+            requires { ids.now.table ≡ shared.now.table }
         { publish_own(shared, ids, rt, alloc, 16) },
     );
     a.saturating_add(b)
@@ -65,15 +65,15 @@ fn publish_by_four<R: Wait + Threads + Sync>(
     rt: &R,
     alloc: &Global,
 ) -> u64
-    requires { ids.now ≡ shared.now.table }
+    requires { ids.now.table ≡ shared.now.table }
 {
     let (a, b) = thread::join(
         rt,
         ||
-            requires { ids.now ≡ shared.now.table }
+            requires { ids.now.table ≡ shared.now.table }
         { publish_by_two(shared, ids, rt, alloc) },
         ||
-            requires { ids.now ≡ shared.now.table }
+            requires { ids.now.table ≡ shared.now.table }
         { publish_by_two(shared, ids, rt, alloc) },
     );
     a.saturating_add(b)
@@ -86,15 +86,15 @@ fn publish_by_eight<R: Wait + Threads + Sync>(
     rt: &R,
     alloc: &Global,
 ) -> u64
-    requires { ids.now ≡ shared.now.table }
+    requires { ids.now.table ≡ shared.now.table }
 {
     let (a, b) = thread::join(
         rt,
         ||
-            requires { ids.now ≡ shared.now.table }
+            requires { ids.now.table ≡ shared.now.table }
         { publish_by_four(shared, ids, rt, alloc) },
         ||
-            requires { ids.now ≡ shared.now.table }
+            requires { ids.now.table ≡ shared.now.table }
         { publish_by_four(shared, ids, rt, alloc) },
     );
     a.saturating_add(b)

@@ -4,7 +4,7 @@ use std::fmt;
 use std::io::Write;
 
 /// Why the program ends with a status other than 0.
-#[derive(Clone, Copy, Debug, PartialEq, Eq)]
+#[derive(Clone, Copy)]
 pub enum Fault {
     /// The arguments are wrong.
     Usage,

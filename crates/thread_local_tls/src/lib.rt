@@ -9,6 +9,3 @@ mod words;
 pub use command::run;
 pub use fault::Fault;
 pub use moves::{IdsError, Move, ids};
-
-#[cfg(test)]
-mod tests;

@@ -6,7 +6,7 @@ use std::alloc::{AllocError, Global};
 use thread_local_thread_id::{LocalError, ThreadIdManager};
 
 /// A step of `tls ids`.
-#[derive(Clone, Copy, Debug, PartialEq, Eq)]
+#[derive(Clone, Copy)]
 pub enum Move {
     /// Take the least id that isn't held.
     Take,
@@ -15,7 +15,7 @@ pub enum Move {
 }
 
 /// Why a list of moves was not run to its end.
-#[derive(Clone, Copy, Debug, PartialEq, Eq)]
+#[derive(Clone, Copy)]
 pub enum IdsError {
     /// An id could not be had, or there was no memory for the answer.
     Local(LocalError),

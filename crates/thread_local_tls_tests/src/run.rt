@@ -1,11 +1,11 @@
-use super::*;
 use std::alloc::{AllocError, Global};
 use std::io;
 use std::io::Write;
 use std::process::Abort;
 use std::test::Fail;
+use thread_local_tls::run;
 
-// A writer over memory that fails at its write with this number, counted from 0.
+/// A writer over memory that fails at its write with this number, counted from 0.
 #[derive(Drop)]
 struct Memory {
     bytes: Vec<u8>,
@@ -45,6 +45,7 @@ impl Write for Memory {
 
 const USAGE: &str = "usage: tls ids WORDS.. | tls tally WORKERS NUMBERS\n";
 
+/// The words of a line.
 fn words(alloc: Global, line: &str) -> Result<Vec<String>, AllocError> {
     let mut words = Vec::new(alloc);
     for word in line.split_whitespace() {
@@ -53,7 +54,7 @@ fn words(alloc: Global, line: &str) -> Result<Vec<String>, AllocError> {
     Ok(words)
 }
 
-// Runs the line, and compares what is written and the status.
+/// Runs the line, and compares what is written and the status.
 fn expect(
     rt: &impl Abort,
     alloc: Global,
@@ -150,17 +151,5 @@ fn a_fault_that_cannot_be_told_keeps_its_status(rt: HostRuntime) -> Result<(), F
     let mut err = Memory::new(rt.alloc(), 0);
     assert_eq!(rt; run(rt.alloc(), &words, &mut out, &mut err), 2);
     assert!(rt; out.bytes.is_empty());
-    Ok(())
-}
-
-#[test]
-fn moves_run_in_order(rt: HostRuntime) -> Result<(), Fail> {
-    let moves = [Move::Take, Move::Take, Move::Give(0), Move::Take];
-    match ids(rt.alloc(), &moves) {
-        Ok(given) => assert_eq!(rt; given.as_slice(), [0, 1, 0].as_slice()),
-        Err(_) => assert!(rt; false, "the moves may be run"),
-    }
-    let stuck = [Move::Take, Move::Give(1), Move::Take];
-    assert!(rt; matches!(ids(rt.alloc(), &stuck), Err(IdsError::NotHeld)));
     Ok(())
 }
