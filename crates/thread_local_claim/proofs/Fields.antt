@@ -1,5 +1,5 @@
 -- The data fields of a claim. Assumes `Logic`.
-use Rattle.std.proofs.Common.{◌≡◌, ℕ, ◌*◌, ◌^◌, ◌<◌, ◌≤◌, arith, mul-le-mul_right, Bool, true, false, Option, None, Some, is_some, T, w64, List, [], ◌∷◌, ◌++◌, refl, ◌∙◌, lit<}
+use Rattle.std.proofs.Common.{◌≡◌, ℕ, ◌*◌, ◌^◌, ◌<◌, ◌≤◌, arith, mul-le-mul_right, Bool, T, w64, List, [], ◌∷◌, ◌++◌, refl, ◌∙◌, lit<}
 use seplogic.Ra.Ura.{Ura}
 use mir.Syntax.{Ty, ty_ptr, ty_int, ty_bool, ty_struct, tcons, tnil}
 use mir.Val.{Val, vint, vbool, vstruct, vcons, vnil, of_list, has_ty, WT}

@@ -62,8 +62,8 @@ impl<'a, T> Claim<'a, T> {
         replace_with(&mut self.slot, (), found_again)
     }
 
-    /// Installs a block of the claim's bucket, which was missing, by one compare and exchange. Where another came first, that one stays, and
-    /// this one goes back to the heap. Either way the claim's slot is there, and empty.
+    /// Installs a block of the claim's bucket, which was missing, by one compare and exchange. Where another came first, that one stays. Either
+    /// way the claim's slot is there, and empty. That a block which came second is freed is tested, and no contract says so.
     pub fn install(&mut self, private: Private<T>)
         requires missing { self.old.learnt ≡ Missing }
         requires bucket { private.bucket ≡ bucket_of self.old.id }
@@ -138,7 +138,7 @@ fn found_again<'a, T>(slot: ClaimedSlot<'a, T>, _: ()) -> (ClaimedSlot<'a, T>, (
     (slot.find(), ())
 }
 
-/// The slot once its bucket is there: the private block, unless another came first, and then this one goes back to the heap.
+/// The slot once its bucket is there: the private block, unless another came first.
 fn installed<'a, T>(slot: ClaimedSlot<'a, T>, private: Private<T>) -> (ClaimedSlot<'a, T>, ())
     requires missing { slot.learnt ≡ Missing }
     requires bucket { private.bucket ≡ bucket_of slot.id }

@@ -1,7 +1,11 @@
 //! A value that is taken out of its place for a while.
 
 /// Takes the value out for `with`, and leaves what `with` gives back. Nothing unwinds, so nobody meets the place while it is empty.
-pub(crate) fn replace_with<V, X, R, F: FnOnce(V, X) -> (V, R)>(place: &mut V, given: X, with: F) -> R
+pub(crate) fn replace_with<V, X, R, F: FnOnce(V, X) -> (V, R)>(
+    place: &mut V,
+    given: X,
+    with: F,
+) -> R
     requires { F.pre with place.old given }
     ensures { F.post with place.old given (place.new, result) }
 {

@@ -1,5 +1,5 @@
 //! Values are handed on, from thread to thread and back out of the buckets.
-ghost use Rattle.std.specs.Prelude.{◌≡◌};
+ghost use Rattle.std.specs.Prelude.{◌≡◌, ◌-◌, ◌^◌, ◌<◌};
 ghost use Rattle.thread_local_judged.specs.Judged.{Judged};
 
 use crate::steps::{look, publish};
@@ -38,7 +38,8 @@ fn look_while_claimed<R: Threads>(
     shared: &Shared<u32>,
     held: HeldId,
 ) -> (Option<u32>, Option<u32>)
-    requires { held.right.table ≡ shared.now.table }
+    requires table { held.right.table ≡ shared.now.table }
+    requires in_range { held.id < 2 ^ 63 - 1 }
 {
     let id = held.id;
     let claim = shared.claim(held);

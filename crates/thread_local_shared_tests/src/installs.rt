@@ -24,30 +24,38 @@ struct Early<'a, T> {
     ghost in_table: { bucket < 63 },
 }
 
-impl<T> Early<'_, T> {
+impl<'a, T> Early<'a, T> {
     /// The claim alone.
-    fn into_claim(self) -> Claim<'_, T>
-        ensures { result.id ≡ self.entry.claim.id }
-    {
+    fn into_claim(self) -> Claim<'a, T> {
         let Self { claim, bucket: _ } = self;
         claim
     }
 
-    /// Offers a block of the claim's bucket, if that was missing, and answers whether it did.
-    fn offer(self, alloc: Global) -> bool {
+    /// Offers a block of the claim's bucket, if that was missing, and answers the claim if it did.
+    fn offered(self, alloc: Global) -> Option<Claim<'a, T>> {
         let Self { claim, bucket } = self;
         let mut claim = claim;
         if !claim.is_missing() {
             claim.leave();
-            return false;
+            return None;
         }
         let Ok(private) = Private::new(alloc, bucket) else {
             claim.leave();
-            return false;
+            return None;
         };
         claim.install(private);
-        claim.leave();
-        true
+        Some(claim)
+    }
+
+    /// The same, and gives the claim up. Answers whether it did.
+    fn offer(self, alloc: Global) -> bool {
+        match self.offered(alloc) {
+            Some(claim) => {
+                claim.leave();
+                true
+            }
+            None => false,
+        }
     }
 }
 
@@ -59,7 +67,7 @@ impl<T> Drop for Early<'_, T> {
 }
 
 /// Claims an id that is held.
-fn early<T>(shared: &Shared<T>, held: HeldId) -> Early<'_, T>
+fn claim_early<T>(shared: &Shared<T>, held: HeldId) -> Early<'_, T>
     requires { held.right.table ≡ shared.now.table }
 {
     let bucket = Thread::new(held.id).bucket;
@@ -69,11 +77,20 @@ fn early<T>(shared: &Shared<T>, held: HeldId) -> Early<'_, T>
     }
 }
 
-/// Slots of 16 KiB: a thousand blocks of 1024 such slots don't fit into memory.
-type Large = [u64; 2048];
+/// Takes 16 KiB: a thousand blocks of 1024 such slots don't fit into memory.
+#[derive(Drop)]
+struct Large {
+    words: [u64; 2048],
+}
 
 /// Takes so many ids and claims them, and then offers a block by each claim. Answers how often it did.
-fn offer_by_all<R: Wait>(shared: &Shared<Large>, ids: &LockedIds, rt: &R, alloc: &Global, count: u64) -> u64
+fn offer_by_all<R: Wait>(
+    shared: &Shared<Large>,
+    ids: &LockedIds,
+    rt: &R,
+    alloc: &Global,
+    count: u64,
+) -> u64
     requires { ids.now.table ≡ shared.now.table }
 {
     let mut offered = 0u64;
@@ -85,11 +102,14 @@ fn offer_by_all<R: Wait>(shared: &Shared<Large>, ids: &LockedIds, rt: &R, alloc:
         let Ok(held) = ids.take(rt) else {
             return offered;
         };
-        if claims.push(early(shared, held)).is_err() {
+        if claims.push(claim_early(shared, held)).is_err() {
             return offered;
         }
     }
-    while let Some(claim) = claims.pop() {
+    for _ in 0..count {
+        let Some(claim) = claims.pop() else {
+            return offered;
+        };
         let Ok(heap) = alloc.clone() else {
             return offered;
         };
@@ -116,33 +136,19 @@ fn blocks_that_come_second_are_freed(rt: HostRuntime) -> Result<(), Fail> {
     Ok(())
 }
 
-/// Installs a block of bucket 1 by a claim, if that found the bucket missing, and answers what its first slot has then.
-fn install<'a>(claim: Claim<'a, u32>, shared: &Shared<u32>, private: Private<u32>) -> (Claim<'a, u32>, Option<u32>)
-    requires { private.bucket ≡ bucket_of claim.id }
-    ensures { (result.0.table ≡ claim.entry.table) × (result.0.id ≡ claim.entry.id) }
-{
-    let mut claim = claim;
-    if claim.is_missing() {
-        claim.install(private);
-    }
-    (claim, look(shared, 1))
-}
-
 // The second offer, and what comes after both, goes on with the first's block.
 #[test]
 fn the_second_of_two_blocks_gives_way(rt: HostRuntime) -> Result<(), Fail> {
     let mut ids = Ids::new(rt.alloc());
     let shared = Shared::new(Buckets::new(rt.alloc()), ids.rights());
     let _first = ids.take()?;
-    let second = early(&shared, ids.take()?);
-    let third = early(&shared, ids.take()?);
-    let second_block = Private::new(rt.alloc(), second.bucket)?;
-    let third_block = Private::new(rt.alloc(), third.bucket)?;
-    let (second, before) = install(second.into_claim(), &shared, second_block);
-    assert_eq!(rt; before, None);
+    let second = claim_early(&shared, ids.take()?);
+    let third = claim_early(&shared, ids.take()?);
+    let second = second.offered(rt.alloc()).expect(&rt, "an offer");
+    assert_eq!(rt; look(&shared, 1), None);
     assert!(rt; publish_claimed(second, 1).1);
-    let (third, after) = install(third.into_claim(), &shared, third_block);
-    assert_eq!(rt; after, Some(1));
+    let third = third.offered(rt.alloc()).expect(&rt, "an offer");
+    assert_eq!(rt; look(&shared, 1), Some(1));
     assert!(rt; publish_claimed(third, 2).1);
     let mut buckets = shared.into_buckets();
     assert_eq!(rt; buckets.slots(), 2);
@@ -169,8 +175,8 @@ fn an_early_claim_finds_its_bucket_later(rt: HostRuntime) -> Result<(), Fail> {
     let mut ids = Ids::new(rt.alloc());
     let shared = Shared::new(Buckets::new(rt.alloc()), ids.rights());
     let _first = ids.take()?;
-    let second = early(&shared, ids.take()?);
-    let third = early(&shared, ids.take()?);
+    let second = claim_early(&shared, ids.take()?);
+    let third = claim_early(&shared, ids.take()?);
     assert!(rt; third.offer(rt.alloc()));
     assert!(rt; publish_late(second.into_claim(), 5));
     assert_eq!(rt; look(&shared, 1), Some(5));

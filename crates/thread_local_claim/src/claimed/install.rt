@@ -15,7 +15,10 @@ use thread_local_blocks::{Block, Slot};
 impl<'a, T> ClaimedSlot<'a, T> {
     /// Where the word leads nowhere, it leads to the block from then on. Else the block comes back. Either way the claim's slot is there, and
     /// empty. It is one compare and exchange.
-    pub(crate) fn offer(self, block: Block<T, Global>) -> (ClaimedSlot<'a, T>, Option<Block<T, Global>>)
+    pub(crate) fn offer(
+        self,
+        block: Block<T, Global>,
+    ) -> (ClaimedSlot<'a, T>, Option<Block<T, Global>>)
         requires missing { self.learnt ≡ Missing }
         requires made { (block.slots ≡ empty_slots (2 ^ bucket_of self.id)) × (block.left ≡ 0) }
         ensures right { (result.0.table ≡ self.entry.table) × (result.0.id ≡ self.entry.id) }

@@ -10,7 +10,8 @@ use super::Shared;
 use thread_local_buckets::Buckets;
 
 impl<T> Shared<T> {
-    /// The buckets, for an owner. What is due since they were shared is taken back first. It takes no memory.
+    /// The buckets, for an owner. What is due since they were shared is taken back first. It takes no memory. Of what the owner leaves, the
+    /// contract says how many slots are reserved, and no more.
     pub fn owner(&mut self) -> &mut Buckets<T>
         ensures* writes_back { sem 𝓛 (follows (the_row T.row) (owner_row T.row) self.entry.ghost_name result.ghost_name (view_with self.old)) }
         ensures reserved { result.now.reserved ≡ self.old.reserved }
