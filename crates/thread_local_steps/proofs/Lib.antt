@@ -1,5 +1,7 @@
 pub mod FirstCalls
 pub mod TableLaws
 pub mod LocalLaws
+pub mod CallsLaws
+pub mod NumbersLaws
 pub mod WalkStepLaws
 pub mod OwnerLaws

@@ -145,7 +145,7 @@ named-with_slot table id bucket slot =
     same-cond (λ word. option_map (λ here. here.number) word) (eqb (bucket_of id) bucket) (with_slot_of (table.words bucket) (index_of id) slot) (table.words bucket) (named-with_slot_of (table.words bucket) (index_of id) slot)
 
 -- and once a bucket is offered to a word, if it named one
-named-with_bucket : {V : Type 0} (table : Table V) (bucket number other : ℕ) → (bucket ≡ other → ⊥) → named (with_bucket table bucket number) other ≡ named table other
+pub named-with_bucket : {V : Type 0} (table : Table V) (bucket number other : ℕ) → (bucket ≡ other → ⊥) → named (with_bucket table bucket number) other ≡ named table other
 unfolding named with_bucket
 named-with_bucket table bucket number other apart = rw (ne_eqb bucket other apart) refl
 

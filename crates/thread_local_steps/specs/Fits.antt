@@ -74,11 +74,10 @@ abbrev pub with_value_if : {V : Type 0} → (ℕ → Option V) → ℕ → Optio
 with_value_if values id None = values
 with_value_if values id (Some v) = with_value values id v
 
--- a Local goes on: its id and its first view stay, and at most one call more has ended
-pub record GoesOn {V E : Type 0} (before after : Local V E) : Type 0 where
+-- a Local keeps its id and its first view
+pub record IsSameLocal {V E : Type 0} (before after : Local V E) : Type 0 where
   pub id : after.id ≡ before.id
   pub start : after.start ≡ before.start
-  pub calls : (after.calls ≡ before.calls) ⊎ ((call : Call V E) × (after.calls ≡ before.calls ++ call ∷ []))
 
 -- What a step makes of a Local and its table. It publishes this value, where nothing was published, or none.
 pub record StepFits {V E : Type 0} (table : Table V) (local : Local V E) (set : Option V) (after : Table V × Local V E) : Type 0 where
@@ -86,4 +85,4 @@ pub record StepFits {V E : Type 0} (table : Table V) (local : Local V E) (set : 
   pub changes : ChangesOnly table after.0 local.id
   pub shown : (id : ℕ) → published after.0 id ≡ with_value_if (published table) local.id set id
   pub empty : IfSome set (λ _. published table local.id ≡ None)
-  pub goes_on : GoesOn local after.1
+  pub same : IsSameLocal local after.1

@@ -5,4 +5,6 @@ pub mod Local
 pub mod SharedWalk
 pub mod OwnerWalk
 pub mod Fits
+pub mod Calls
+pub mod Numbers
 pub mod WalkFits

@@ -3,6 +3,8 @@ ghost use Rattle.thread_local_model.specs.Answers.{Found, Answered, Refused, Fai
 ghost use Rattle.thread_local_steps.specs.Table.{Table, made_table, published};
 ghost use Rattle.thread_local_steps.specs.Local.{Local, LocalStep, fresh_local, local_step, local_steps, five_calls};
 ghost use Rattle.thread_local_steps.specs.Fits.{AllWritten, LocalFits, ChangesOnly, StepFits, value_set};
+ghost use Rattle.thread_local_steps.specs.Calls.{GoesOn};
+ghost use Rattle.thread_local_steps.specs.Numbers.{NumbersGo};
 
 /// What each step of a `Local` keeps, whatever other `Local`s did before it.
 pub fn every_local_step<V, E>()
@@ -10,6 +12,11 @@ pub fn every_local_step<V, E>()
     ensures fits { (table : Table V) (local : Local V E) (step : LocalStep V E)
         → AllWritten table → LocalFits table local
         → IfSome (local_step table local step) (StepFits table local (value_set local.doing step)) }
+    // It does to the calls under way and to the numbers of buckets what it says, and loses none.
+    ensures calls { (table : Table V) (local : Local V E) (step : LocalStep V E)
+        → IfSome (local_step table local step) (λ after. GoesOn step local after.1) }
+    ensures numbers { (table : Table V) (local : Local V E) (step : LocalStep V E)
+        → IfSome (local_step table local step) (NumbersGo table local) }
     ensures others { (old new : Table V) (id : ℕ) (local : Local V E)
         → ChangesOnly old new id → (id ≡ local.id → ⊥) → LocalFits old local → LocalFits new local }
 
