@@ -15,7 +15,7 @@ use Rattle.thread_local_model.specs.Learnt.{Missing}
 use Rattle.thread_local_steps.specs.Local.{Local, Doing, Private}
 use Rattle.thread_local_steps.specs.SharedWalk.{SharedWalk, is_complete}
 use Rattle.thread_local_steps.proofs.WalkStepLaws.{complete_cursor}
-use Rattle.thread_local_steps.specs.Fits.{IsWritten, AllWritten, IsLearnt, view_now, GoesOn, with_value_if}
+use Rattle.thread_local_steps.specs.Fits.{IsWritten, AllWritten, IsLearnt, view_now, with_value_if}
 use Rattle.thread_local_core.specs.Core.{Core, shadow, installed_slots, peak, private_slots}
 use Rattle.thread_local_core.specs.CoreFits.{CoreFits}
 use Rattle.thread_local_steps.proofs.TableLaws.{same_function, slot_at-made_table, published_unset}
@@ -87,10 +87,6 @@ loads core n walk h at =
     (λ t. let l = rw t at fits.loads in omega (arith, (fits.looking t).1))
     (λ f. let l = rw f at fits.loads in omega (arith, fits.buckets))
     (cases_Bool walk.looks)
-
--- a Local that an event leaves goes on
-pub same_goes_on : {V E : Type 0} (before then : Local V E) → Some before ≡ Some then → GoesOn before then
-same_goes_on before then e = let same : before ≡ then = cc in subst (GoesOn before) same (record { id = refl; start = refl; calls = inl refl })
 
 -- what is published moves as a step says
 pub published_moves : {V E : Type 0} (core : Core V E) (table : Table V) (id : ℕ) (set : Option V) → ((j : ℕ) → published table j ≡ with_value_if (published core.table) id set j)
