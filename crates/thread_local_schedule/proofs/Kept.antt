@@ -4,7 +4,7 @@ use Rattle.std.specs.Prelude.{unwrap_or}
 use Rattle.thread_local_model.specs.Held.{is_held, least, with_least, without}
 use Rattle.thread_local_steps.specs.Local.{Local, LocalStep, fresh_local, local_step}
 use Rattle.thread_local_steps.specs.SharedWalk.{SharedWalk, fresh_walk, WalkStep, walk_step}
-use Rattle.thread_local_steps.specs.Fits.{value_set}
+use Rattle.thread_local_steps.specs.Fits.{StepFits, value_set}
 use Rattle.thread_local_steps.specs.Numbers.{NumbersGo}
 use Rattle.thread_local_steps.proofs.LocalLaws.{local_step-fits}
 use Rattle.thread_local_steps.proofs.NumbersLaws.{local_step-numbers}
@@ -46,7 +46,7 @@ of_local-fits : {V E : Type 0} (core : Core V E) (number : ℕ) (step : LocalSte
 of_local-fits core number step None at h = tt
 of_local-fits core number step (Some local) at h =
     if_mapped CoreFits (with_step core number) (local_step core.table local step)
-    (if_both (local_step core.table local step) (local_step-fits core.table local step h.table.written (h.locals.each number local at).local_fits) (local_step-numbers core.table local step))
+    (if_both (StepFits core.table local (value_set local.doing step)) (NumbersGo core.table local) (local_step core.table local step) (local_step-fits core.table local step h.table.written (h.locals.each number local at).local_fits) (local_step-numbers core.table local step))
     (λ after s. stepped-fits core number local (value_set local.doing step) after at s.0 s.1 h)
 
 -- a Local that gives its id back, or is forgotten

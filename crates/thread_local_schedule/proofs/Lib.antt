@@ -3,5 +3,7 @@ pub mod Takes
 pub mod EventSays
 pub mod Kept
 pub mod Clauses
+pub mod Enabled
+pub mod WalkEvents
 pub mod Headline
 pub mod FourValues

@@ -7,6 +7,8 @@ pub use Rattle.thread_local_steps.specs.Local
 pub use Rattle.thread_local_steps.specs.SharedWalk
 pub use Rattle.thread_local_steps.specs.OwnerWalk
 pub use Rattle.thread_local_steps.specs.Fits
+pub use Rattle.thread_local_steps.specs.Calls
+pub use Rattle.thread_local_steps.specs.Numbers
 pub use Rattle.thread_local_steps.specs.WalkFits
 pub use Rattle.thread_local_core.specs.Core
 pub mod Events

@@ -4,7 +4,7 @@ use Rattle.thread_local_model.specs.Sheet.{Move, Take, Give, Publish, Rewrite, C
 use Rattle.thread_local_steps.specs.Local.{Local, LocalStep, MakeBucket}
 use Rattle.thread_local_steps.specs.Fits.{value_set}
 use Rattle.thread_local_core.specs.Core.{Core, made_core}
-use Rattle.thread_local_schedule.specs.Events.{Event, TakeId, OfLocal, GiveBack, Forget, Owner, IterMut, ClearTable, is_granted, is_enabled, happens, run}
+use Rattle.thread_local_schedule.specs.Events.{Event, TakeId, OfLocal, GiveBack, Forget, OfWalk, EndWalk, Owner, IterMut, ClearTable, is_granted, is_enabled, happens, run}
 
 -- what a step of a Local publishes
 abbrev pub publishing : {V E : Type 0} → Option (Local V E) → LocalStep V E → Option (Move V)
@@ -46,6 +46,17 @@ is_of n (OfLocal number step) = number == n
 is_of n (GiveBack number) = number == n
 is_of n (Forget number) = number == n
 is_of n event = false
+
+-- whether an event is a step or the end of this walk
+abbrev pub is_of_walk : {V E : Type 0} → ℕ → Event V E → Bool
+is_of_walk n (OfWalk number step) = number == n
+is_of_walk n (EndWalk number) = number == n
+is_of_walk n event = false
+
+-- no Local lives, and no walk is under way
+pub record IsUnused {V E : Type 0} (core : Core V E) : Type 0 where
+  pub locals : (n : ℕ) → core.locals n ≡ None
+  pub walks : (n : ℕ) → core.walks n ≡ None
 
 -- whether an enabled event ends in a refusal: a take that gets no id, a bucket that gets no memory
 abbrev pub refuses : {V E : Type 0} → Core V E → Event V E → Bool
