@@ -1,4 +1,4 @@
-use Rattle.std.proofs.Common.{◌≡◌, ℕ, ◌<◌, ◌≤◌, ◌⊎◌, Bool, true, false, cond, Option, Some, None, IsTrue, refl, ap, sym, ◌∙◌, subst, arith, ⊎_elim, inl, inr}
+use Rattle.std.proofs.Common.{◌≡◌, ℕ, ◌<◌, ◌⊎◌, Bool, true, false, cond, Option, Some, None, IsTrue, refl, ap, sym, ◌∙◌, arith, ⊎_elim, inl, inr}
 use Rattle.std.specs.Prelude.{option_map, nat_lt}
 use Rattle.std.proofs.lemmas.Bool.{ltb-true}
 use Rattle.thread_local_model.specs.Capacity.{binary_digits}
@@ -78,7 +78,7 @@ made-NumbersFit {V} {E} capacity = record {
 
 -- A step of a Local: a word that it names anew takes the call's own bucket, and a bucket that it makes has the next number.
 module _ {V E : Type 0} (table : Table V) (locals : ℕ → Option (Local V E)) (number : ℕ) (local : Local V E) (after : Table V × Local V E) (at : locals number ≡ Some local)
-  (go : NumbersGo table local after) (h : NumbersFit table locals) where
+    (go : NumbersGo table local after) (h : NumbersFit table locals) where
   -- what a Local has as its own after the step it had before, or it is the next bucket that is made
   own_was : (n : ℕ) (then : Local V E) (k : ℕ) → put locals number (Some after.1) n ≡ Some then → own_number then.doing ≡ Some k
       → ((was : Local V E) × (locals n ≡ Some was) × (own_number was.doing ≡ Some k)) ⊎ ((number ≡ n) × (k ≡ table.made) × (table.made < after.0.made))

@@ -1,18 +1,14 @@
-use Rattle.std.proofs.Common.{◌≡◌, ℕ, ◌-◌, ◌*◌, ◌^◌, ◌<◌, ◌≤◌, ◌⊎◌, max, Bool, true, false, not, ◌&&◌, cond, List, [], ◌∷◌, Option, Some, None, is_some, IsTrue, IfSome, IsSomeAnd, refl, ap, sym, ◌∙◌, subst, arith, ⊎_elim}
-use Rattle.std.specs.Prelude.{unwrap_or, Contains, option_map}
-use Rattle.std.proofs.lemmas.Bool.{false≢true, and_parts, and_left, and_right, not-true, not-false, cases_Bool, cond_both}
+use Rattle.std.proofs.Common.{◌≡◌, ℕ, ◌-◌, ◌*◌, ◌^◌, ◌<◌, ◌≤◌, ◌⊎◌, max, Bool, true, false, not, ◌&&◌, cond, List, [], ◌∷◌, Some, None, is_some, IsTrue, IsSomeAnd, refl, ap, sym, ◌∙◌, subst, arith}
+use Rattle.std.specs.Prelude.{unwrap_or, Contains}
+use Rattle.std.proofs.lemmas.Bool.{false≢true, and_parts, and_left, and_right, not-true, not-false, cond_both}
 use Rattle.thread_local_model.specs.Held.{is_held, least, held_count, HoldsAllBelow}
 use Rattle.thread_local_model.specs.Capacity.{is_reserved, binary_digits, reserved_slots}
-use Rattle.thread_local_model.specs.Walk.{walk}
 use Rattle.thread_local_model.specs.Sheet.{new_sheet, Clear, moved_if}
 use Rattle.thread_local_model.specs.Answers.{Refused}
 use Rattle.thread_local_model.proofs.AnswersLaws.{none_refused}
 use Rattle.thread_local_steps.specs.Local.{Local, MakeBucket, fresh_local, local_step}
-use Rattle.thread_local_steps.specs.SharedWalk.{SharedWalk, WalkStep, walk_step}
-use Rattle.thread_local_steps.specs.WalkFits.{Adds}
-use Rattle.thread_local_steps.proofs.WalkStepLaws.{walk_step-adds}
 use Rattle.thread_local_core.specs.Core.{Core, made_core, new_core, shadow, installed_slots, first_view, peak, is_alone}
-use Rattle.thread_local_schedule.specs.Events.{Event, TakeId, OfLocal, OfWalk, Owner, ClearTable, is_granted, take_id, step_of, step, is_enabled, happens, run, IntoIter, DropTable, owner_call, GiveBack, Forget, BeginWalk, EndWalk, OwnerCall, IterMut, of_walk, end_walk, with_walk}
+use Rattle.thread_local_schedule.specs.Events.{Event, TakeId, OfLocal, Owner, ClearTable, is_granted, take_id, step_of, step, is_enabled, happens, run, IntoIter, DropTable, owner_call, GiveBack, Forget, OwnerCall, IterMut}
 use Rattle.thread_local_schedule.specs.Schedule.{move, is_clear, is_refused, is_granted_take, newcomer, IsReached, most_held, publishing, move_of, NoneTaken}
 use Rattle.thread_local_core.specs.CoreFits.{CoreFits}
 use Rattle.thread_local_schedule.proofs.Kept.{happens-fits, run-fits}
@@ -21,7 +17,7 @@ use Rattle.thread_local_core.proofs.HeldCounts.{held_below}
 use Rattle.thread_local_core.proofs.PutLaws.{put_same}
 use Rattle.thread_local_core.proofs.Parts.{made_core-fits}
 use Rattle.thread_local_core.proofs.CoreLaws.{installed_bound, never_missing, none_if}
-use Rattle.thread_local_core.proofs.SheetLaws.{moved_capacity, settled, untaken, not_taken}
+use Rattle.thread_local_core.proofs.SheetLaws.{moved_capacity, settled, untaken}
 use Rattle.thread_local_schedule.proofs.Takes.{not_granted, within}
 use Rattle.thread_local_core.proofs.OptionLaws.{stays, some_step, some_and, none_enabled, makes_none}
 

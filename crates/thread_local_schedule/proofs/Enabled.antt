@@ -1,12 +1,11 @@
-use Rattle.std.proofs.Common.{◌≡◌, ℕ, zero, suc, Bool, true, false, ◌&&◌, cond, Option, Some, None, is_some, is_none, IsTrue, IfSome, IsSomeAnd, refl, ap, sym, ◌∙◌, subst, arith}
+use Rattle.std.proofs.Common.{◌≡◌, ℕ, zero, suc, Bool, true, false, cond, Option, Some, None, is_some, IsTrue, IfSome, IsSomeAnd, refl, ap, sym, ◌∙◌, subst, arith}
 use Rattle.std.specs.Prelude.{unwrap_or, option_map}
-use Rattle.std.proofs.lemmas.Bool.{false≢true, and_parts, not-true, not-false}
-use Rattle.thread_local_model.specs.Held.{is_held}
+use Rattle.std.proofs.lemmas.Bool.{false≢true, and_parts, not-true}
 use Rattle.thread_local_steps.specs.Table.{Table}
 use Rattle.thread_local_steps.specs.Local.{Doing, Gets, Started, Private, Written, Local, LocalStep, local_step}
 use Rattle.thread_local_steps.specs.Calls.{gets_of, closure_of, HasNoCall, GoesOn}
 use Rattle.thread_local_steps.proofs.CallsLaws.{local_step-goes}
-use Rattle.thread_local_core.specs.Core.{Core, new_core, shadow, none_below, is_alone}
+use Rattle.thread_local_core.specs.Core.{Core, new_core, none_below, is_alone}
 use Rattle.thread_local_core.specs.CoreFits.{CoreFits}
 use Rattle.thread_local_core.proofs.PutLaws.{put_same}
 use Rattle.thread_local_core.proofs.Parts.{no_locals, no_walks}

@@ -1,17 +1,17 @@
-use Rattle.std.proofs.Common.{◌≡◌, ℕ, suc, Bool, true, false, cond, Option, Some, None, is_some, IsTrue, IfSome, IsSomeAnd, refl, ap, sym, ◌∙◌, subst, arith, ⊎_elim}
+use Rattle.std.proofs.Common.{◌≡◌, ℕ, Bool, true, false, cond, Option, Some, None, is_some, IsTrue, IfSome, IsSomeAnd, refl, ap, sym, ◌∙◌, subst, arith, ⊎_elim}
 use Rattle.std.specs.Prelude.{option_map, unwrap_or}
 use Rattle.std.proofs.lemmas.Option.{none-some}
-use Rattle.std.proofs.lemmas.Bool.{false≢true, eqb-false, cond_both, cases_Bool}
-use Rattle.thread_local_steps.specs.Table.{Table, stands}
+use Rattle.std.proofs.lemmas.Bool.{false≢true, eqb-false, cond_both}
+use Rattle.thread_local_steps.specs.Table.{Table}
 use Rattle.thread_local_steps.specs.Local.{Local, LocalStep, local_step}
-use Rattle.thread_local_steps.specs.SharedWalk.{SharedWalk, fresh_walk, is_complete, WalkStep, Load, Look, walk_step, walk_load, walk_look, next_step}
+use Rattle.thread_local_steps.specs.SharedWalk.{SharedWalk, fresh_walk, is_complete, WalkStep, Load, Look, walk_step, next_step}
 use Rattle.thread_local_steps.specs.WalkFits.{Adds}
 use Rattle.thread_local_steps.proofs.WalkStepLaws.{walk_step-adds}
-use Rattle.thread_local_core.specs.Core.{Core, put, is_alone}
+use Rattle.thread_local_core.specs.Core.{Core, is_alone}
 use Rattle.thread_local_core.specs.CoreFits.{CoreFits}
 use Rattle.thread_local_core.proofs.PutLaws.{put_cases, put_same, put_other, still}
 use Rattle.thread_local_core.proofs.Parts.{no_walks}
-use Rattle.thread_local_core.proofs.OptionLaws.{if_enabled, if_mapped}
+use Rattle.thread_local_core.proofs.OptionLaws.{if_enabled}
 use Rattle.thread_local_schedule.specs.Events.{Event, TakeId, OfLocal, GiveBack, Forget, BeginWalk, OfWalk, EndWalk, Owner, OwnerCall, IterMut, Slots, ClearTable, IntoIter, DropTable, is_granted, take_id, with_step, of_local, give_back, forget, begin_walk, of_walk, end_walk, with_walk, owner_call, is_idle, without_local, given_to, step_of, step, is_enabled, happens}
 use Rattle.thread_local_schedule.specs.Schedule.{is_of_walk}
 use Rattle.thread_local_schedule.proofs.Clauses.{goes, enabled_step}

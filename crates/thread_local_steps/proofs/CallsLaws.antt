@@ -1,10 +1,10 @@
 use Rattle.std.proofs.Common.{◌≡◌, ℕ, zero, suc, Bool, true, false, [], ◌∷◌, ◌++◌, Option, Some, None, Result, Ok, Err, IfSome, IsSomeAnd, refl, ap, sym, subst, inl, inr}
-use Rattle.thread_local_model.specs.Answers.{Call, Get, GetOr, Answer}
+use Rattle.thread_local_model.specs.Answers.{Get, GetOr, Answer}
 use Rattle.thread_local_model.specs.Learnt.{Learnt, Missing, Vacant, Holding, loaded, looked}
 use Rattle.thread_local_steps.specs.Table.{Table, published, stands}
 use Rattle.thread_local_model.specs.Place.{bucket_of}
 use Rattle.thread_local_steps.specs.Local.{Doing, Gets, Started, Private, Written, Local, after_call, is_calling, begin_get, begin_get_or, learns, load_word, look_at_flag, make_bucket, install_bucket, write_value, set_flag, reply, local_step, LocalStep, BeginGet, BeginGetOr, LoadWord, LookAtFlag, MakeBucket, InstallBucket, WriteValue, SetFlag, Reply}
-use Rattle.thread_local_steps.specs.Calls.{gets_of, closure_of, CallsStay, GetEnds, PublishingEnds, CallsGo, GoesOn}
+use Rattle.thread_local_steps.specs.Calls.{gets_of, closure_of, CallsStay, PublishingEnds, CallsGo, GoesOn}
 
 -- a Local that does the same, or goes on with the call that it has begun
 goes : {V E : Type 0} (step : LocalStep V E) (local : Local V E) (learnt : Learnt V) (doing : Doing V E) → CallsGo step local (record local { learnt = learnt; doing = doing })

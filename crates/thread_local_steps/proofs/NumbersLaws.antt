@@ -1,10 +1,10 @@
-use Rattle.std.proofs.Common.{◌≡◌, ℕ, zero, suc, ◌≤◌, ◌⊎◌, Bool, true, false, cond, eqb, Option, Some, None, Result, Ok, Err, IfSome, refl, ap, sym, ◌∙◌, arith, ⊎_elim, inl, inr}
+use Rattle.std.proofs.Common.{◌≡◌, ℕ, zero, suc, ◌⊎◌, Bool, true, false, Option, Some, None, Result, Ok, Err, IfSome, refl, ap, sym, ◌∙◌, arith, ⊎_elim, inl, inr}
 use Rattle.std.proofs.lemmas.Bool.{cases_eq, eq-eqb}
 use Rattle.std.specs.Prelude.{option_map}
 use Rattle.thread_local_model.specs.Place.{bucket_of}
 use Rattle.thread_local_model.specs.Learnt.{Learnt, Missing, Vacant, Holding, loaded, looked}
 use Rattle.thread_local_steps.specs.Table.{Table, Slot, published, stands, with_bucket, with_slot}
-use Rattle.thread_local_steps.specs.Local.{Doing, Gets, Started, Private, Written, Local, is_calling, begin_get, begin_get_or, learns, load_word, look_at_flag, make_bucket, offer, offered, install_bucket, write_value, set_flag, reply, local_step, LocalStep, BeginGet, BeginGetOr, LoadWord, LookAtFlag, MakeBucket, InstallBucket, WriteValue, SetFlag, Reply}
+use Rattle.thread_local_steps.specs.Local.{Doing, Gets, Started, Private, Written, Local, is_calling, begin_get, begin_get_or, learns, load_word, look_at_flag, make_bucket, offer, install_bucket, write_value, set_flag, reply, local_step, LocalStep, BeginGet, BeginGetOr, LoadWord, LookAtFlag, MakeBucket, InstallBucket, WriteValue, SetFlag, Reply}
 use Rattle.thread_local_steps.specs.OwnerWalk.{rewritten, rewritten_bucket}
 use Rattle.thread_local_model.specs.Place.{id_at}
 use Rattle.thread_local_steps.specs.Fits.{named}

@@ -1,4 +1,4 @@
-use Rattle.std.specs.Prelude.{◌≡◌, ℕ, suc, ◌⊎◌, Bool, true, false, [], ◌∷◌, ◌++◌, Option, Some, None, IsSomeAnd, Result, Ok, Err}
+use Rattle.std.specs.Prelude.{◌≡◌, ℕ, suc, ◌⊎◌, Bool, true, false, [], ◌∷◌, ◌++◌, Option, Some, None, IsSomeAnd, Result, Ok}
 use Rattle.thread_local_model.specs.Answers.{Get, GetOr, Refused}
 use Rattle.thread_local_steps.specs.Local.{Doing, Gets, Started, Private, Written, Local, LocalStep, BeginGet, BeginGetOr, MakeBucket, WriteValue, SetFlag, Reply}
 

@@ -1,7 +1,7 @@
-use Rattle.std.specs.Prelude.{ℕ, zero, suc, Bool, true, false, List, [], ◌∷◌, ◌++◌, Option, Some, None, option_and_then, Result, Ok, Err, if◌then◌else◌}
+use Rattle.std.specs.Prelude.{ℕ, zero, suc, Bool, true, false, List, [], ◌∷◌, ◌++◌, Option, Some, None, option_and_then, Result, Ok, Err}
 use Rattle.thread_local_model.specs.Place.{bucket_of}
 use Rattle.thread_local_model.specs.Answers.{View, Call, Get, GetOr, Answer, Found, Answered, Refused, Failed}
-use Rattle.thread_local_model.specs.Learnt.{Learnt, Unknown, Missing, Standing, Vacant, Holding, loaded, looked}
+use Rattle.thread_local_model.specs.Learnt.{Learnt, Unknown, Missing, Vacant, Holding, loaded, looked}
 use Rattle.thread_local_steps.specs.Table.{Table, published, stands, with_bucket, with_written, with_flag}
 
 -- What a Local does: any number of gets are under way, or one publishing call. That has begun, with what its
