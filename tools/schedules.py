@@ -3,6 +3,7 @@
 
     tools/schedules.py                      a clause that fails is printed with its schedule
     tools/schedules.py --wrong              tries each wrong body in turn: some clause must fail for it
+    tools/schedules.py --show 7             prints a schedule as a table, a line for each event
     tools/schedules.py --buckets 4 --seed 7 --runs 2000 --events 120
 
 The definitions stand in table_model.py, under the names of the specs. Each clause of the theorem is a
@@ -793,6 +794,144 @@ def try_wrong_bodies(seed, runs, length):
     return left
 
 
+# ---- a schedule to look at ------------------------------------------------------------------------------
+
+
+def step_text(step):
+    name = step[0]
+    if name == "BeginGetOr":
+        return f"BeginGetOr {step[1][1]}"
+    return name + (" refused" if step == ("MakeBucket", True) else "")
+
+
+def event_text(event):
+    match event:
+        case ("TakeId", refused, _):
+            return "TakeId"
+        case ("OfLocal", number, it):
+            return f"Local {number}: {step_text(it)}"
+        case ("OfWalk", number, name):
+            return f"walk {number}: {name}"
+        case ("BeginWalk",):
+            return "BeginWalk"
+        case (name, number):
+            return f"{name} {number}"
+
+
+def answer_text(told):
+    return told[0] if told == ("Refused",) else f"{told[0]} {told[1]}"
+
+
+def local_change(before, after):
+    """What a step made of a Local: what it has learnt, what it does, and what it answered."""
+    if before == after:
+        return ""
+    if before is None:
+        return f"id {after.id}"
+    if after is None:
+        return "lives no longer"
+    said = []
+    if after.learnt != before.learnt:
+        said.append(" ".join(str(it) for it in after.learnt))
+    if after.doing != before.doing:
+        gets, create = under_way(after.doing)
+        said += {
+            "Private": [f"own bucket {after.doing[-1]}"],
+            "Written": ["has written"],
+            "Started": [] if before.doing[0] == "Private" else [f"publishing {create and create[1]}"],
+            "Gets": [f"{gets} gets"] if gets else [],
+        }[after.doing[0]]
+    return ", ".join(said + ["answers " + answer_text(it) for it in after.answers[len(before.answers) :]])
+
+
+def walk_change(before, after):
+    """What a step made of a walk: where it is, and what it gave."""
+    if before == after:
+        return ""
+    if after is None:
+        return "ended"
+    gave = "" if before is None or after.given == before.given else f"gives {after.given[0][1]}, "
+    if model.is_complete(after):
+        return gave + "complete"
+    return gave + (f"looks at id {model.cursor(after)} next" if after.looks else f"at word {after.bucket}")
+
+
+def slot_text(slot):
+    return ("flag set" if slot.flag else "written") if slot.written is not None else "empty"
+
+
+def table_change(before, after):
+    """What a step changed of the table that threads share."""
+    said = []
+    for bucket, (old, new) in enumerate(zip(before.words, after.words)):
+        if old is None and new is not None:
+            said.append(f"word {bucket} names bucket {new.number}")
+        elif old is not None and new is not None:
+            changed = [k for k, (a, b) in enumerate(zip(old.slots, new.slots)) if a != b]
+            said += [f"slot {model.id_at(bucket, k)}: {slot_text(new.slots[k])}" for k in changed]
+    return ", ".join(said)
+
+
+def offer_text(core, event):
+    """What a call finds that comes second: the word names the first one's bucket and goes on naming it."""
+    if event[0] != "OfLocal" or event[2] != ("InstallBucket",):
+        return ""
+    bucket = bucket_of(live_local(core, event[1]).id)
+    named = core.table.words[bucket]
+    return "" if named is None else f"word {bucket} names bucket {named.number} still"
+
+
+def sheet_text(sheet):
+    held = " ".join(str(k) for k, it in enumerate(sheet.held) if it)
+    values = " ".join(f"{k}:{v}" for k, v in enumerate(sheet.values) if v is not None)
+    return f"held {held or 'none'}; " + (f"published {values}" if values else "nothing published")
+
+
+def race(seed):
+    """Three Locals are taken, the last two publish at ids of one bucket, and a walk passes: the events in some order."""
+    chance, core, begun = random.Random(seed), new_core(), set()
+    events = [("TakeId", False, 0)] * 3
+    core = model.run(core, events)
+    steps = [("LoadWord",), ("LookAtFlag",), ("MakeBucket", False), ("InstallBucket",), ("WriteValue",), ("SetFlag",), ("Reply",)]
+    while True:
+        menu = []
+        for n in (1, 2):
+            if n not in begun:
+                menu.append(("OfLocal", n, ("BeginGetOr", ("Ok", "-ab"[n]))))
+            else:
+                missing = live_local(core, n).learnt == ("Missing",)  # to load such a word again teaches nothing
+                menu += [it for it in (("OfLocal", n, step) for step in steps[missing:]) if model.is_enabled(core, it)]
+        it = live_walk(core, 0)
+        if not core.walks:
+            menu.append(("BeginWalk",))
+        elif it is not None:
+            menu.append(("EndWalk", 0) if model.is_complete(it) else ("OfWalk", 0, "Look" if it.looks else "Load"))
+        if not menu:
+            return events
+        event = chance.choice(menu)
+        if event[0] == "OfLocal" and event[2][0] == "BeginGetOr":
+            begun.add(event[1])
+        events.append(event)
+        core = model.happens(core, event)
+
+
+
+def show(seed):
+    """Prints a schedule as a table: a line for each event, with what it made of each Local, the walk and the table, and the sheet."""
+    core, rows = new_core(), [["event", "Local 0", "Local 1", "Local 2", "walk 0", "the table", "the sheet after it"]]
+    for event in race(seed):
+        after = model.happens(core, event)
+        locals_ = [local_change(live_local(core, n), live_local(after, n)) for n in range(3)]
+        it = walk_change(live_walk(core, 0), live_walk(after, 0))
+        changed = offer_text(core, event) or table_change(core.table, after.table)
+        rows.append([event_text(event), *locals_, it, changed, sheet_text(model.shadow(after))])
+        core = after
+    widths = [max(len(row[k]) for row in rows) for k in range(len(rows[0]))]
+    rows.insert(1, ["-" * it for it in widths])
+    for row in rows:
+        print("| " + " | ".join(it.ljust(width) for it, width in zip(row, widths)) + " |")
+
+
 def main():
     words = argparse.ArgumentParser(description=__doc__.splitlines()[0])
     words.add_argument("--seed", type=int, default=1)
@@ -800,7 +939,11 @@ def main():
     words.add_argument("--events", type=int, default=250)
     words.add_argument("--buckets", type=int, default=3)
     words.add_argument("--wrong", action="store_true")
+    words.add_argument("--show", type=int, metavar="SEED", help="print a schedule in which two Locals race for one bucket")
     given = words.parse_args()
+    if given.show is not None:
+        model.set_buckets(2)
+        return show(given.show)
     model.set_buckets(given.buckets)
     if given.wrong:
         sys.exit(1 if try_wrong_bodies(given.seed, given.runs, given.events) else 0)
