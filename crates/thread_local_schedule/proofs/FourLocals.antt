@@ -4,8 +4,8 @@ use Rattle.thread_local_model.specs.Capacity.{binary_digits, reserved_slots}
 use Rattle.thread_local_model.specs.Buckets.{slots, slots_below}
 use Rattle.thread_local_steps.specs.Table.{slot_at, published, stands, with_bucket, with_slot, made_table}
 use Rattle.thread_local_steps.specs.Local.{local_step}
-use Rattle.thread_local_steps.specs.SharedWalk.{walk_step, is_complete}
-use Rattle.thread_local_steps.specs.OwnerWalk.{owner_walk, owner_walk_below}
+use Rattle.thread_local_walk_steps.specs.SharedWalk.{walk_step, is_complete}
+use Rattle.thread_local_walk_steps.specs.OwnerWalk.{owner_walk, owner_walk_below}
 use Rattle.thread_local_model.specs.Walk.{walk_below}
 use Rattle.thread_local_model.specs.Answers.{Found, Answered}
 use Rattle.thread_local_core.specs.Core.{peak, installed_slots}

@@ -3,5 +3,3 @@ pub mod TableLaws
 pub mod LocalLaws
 pub mod CallsLaws
 pub mod NumbersLaws
-pub mod WalkStepLaws
-pub mod OwnerLaws

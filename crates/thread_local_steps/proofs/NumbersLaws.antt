@@ -5,7 +5,6 @@ use Rattle.thread_local_model.specs.Place.{bucket_of}
 use Rattle.thread_local_model.specs.Learnt.{Learnt, Missing, Vacant, Holding, loaded, looked}
 use Rattle.thread_local_steps.specs.Table.{Table, Slot, published, stands, with_bucket, with_slot}
 use Rattle.thread_local_steps.specs.Local.{Doing, Gets, Started, Private, Written, Local, is_calling, begin_get, begin_get_or, learns, load_word, look_at_flag, make_bucket, offer, install_bucket, write_value, set_flag, reply, local_step, LocalStep, BeginGet, BeginGetOr, LoadWord, LookAtFlag, MakeBucket, InstallBucket, WriteValue, SetFlag, Reply}
-use Rattle.thread_local_steps.specs.OwnerWalk.{rewritten, rewritten_bucket}
 use Rattle.thread_local_model.specs.Place.{id_at}
 use Rattle.thread_local_steps.specs.Fits.{named}
 use Rattle.thread_local_steps.specs.Numbers.{own_number, NumbersGo}
@@ -124,16 +123,3 @@ local_step-numbers table local InstallBucket = install_bucket-numbers table loca
 local_step-numbers table local WriteValue = write_value-numbers table local local.doing local.learnt
 local_step-numbers table local SetFlag = set_flag-numbers table local local.doing
 local_step-numbers table local Reply = reply-numbers table local local.doing local.learnt
-
--- an owner's writes change no name
-named-rewritten_bucket : {V : Type 0} (others : ℕ → V → V) (word : Option _) → option_map (λ here. here.number) (rewritten_bucket others word) ≡ option_map (λ here. here.number) word
-named-rewritten_bucket others None = refl
-named-rewritten_bucket others (Some here) = refl
-
-pub named-rewritten : {V : Type 0} (table : Table V) (others : ℕ → V → V) (bucket : ℕ) → named (rewritten table others) bucket ≡ named table bucket
-unfolding named rewritten
-named-rewritten table others bucket = named-rewritten_bucket (λ index. others (id_at bucket index)) (table.words bucket)
-
-pub made-rewritten : {V : Type 0} (table : Table V) (others : ℕ → V → V) → (rewritten table others).made ≡ table.made
-unfolding rewritten
-made-rewritten table others = refl

@@ -5,7 +5,7 @@ use Rattle.thread_local_schedule.proofs.Enabled as may
 use Rattle.thread_local_schedule.proofs.Headline as headline
 use Rattle.thread_local_schedule.proofs.FourLocals as story
 use Rattle.thread_local_schedule.proofs.FourValues as four
-use Rattle.thread_local_steps.proofs.OwnerLaws.{owner_walk-walk}
+use Rattle.thread_local_walk_steps.proofs.OwnerLaws.{owner_walk-walk}
 use Rattle.thread_local_core.specs.Core.{made_core}
 use Rattle.thread_local_core.proofs.Parts.{made_core-fits}
 use Rattle.thread_local_core.proofs.HeldCounts.{held_below}
