@@ -688,6 +688,10 @@ def more_wrong_bodies():
         after = right["local_step"](core, number, step)
         return after if after is None else replace(after, walks=tuple(it and model.Walk() for it in after.walks))
 
+    def ends_table(core, number, step):
+        after = right["local_step"](core, number, step)
+        return after if after is None else replace(after, ended=True)
+
     def begins_complete(core):
         fresh = model.Walk(bucket=model.BUCKETS) if core.walks else model.Walk()
         return replace(core, walks=core.walks + (fresh,))
@@ -756,6 +760,7 @@ def more_wrong_bodies():
         "clear comes while Locals live": owner_beside(["ClearTable"], beside_locals),
         "iter_mut and the drop come while Locals live": owner_beside(["IterMut", "DropTable"], beside_locals),
         "a Local's step restarts every walk": {"local_step": restarts_walks},
+        "a Local's step ends the table": {"local_step": ends_table},
         "later walks begin complete": {"begin_walk": begins_complete},
         "one walk's end ends all": {"end_walk": ends_all},
         "a walk stands still after two loads": {"WALK_STEPS": {**model.WALK_STEPS, "Load": load_waits}},

@@ -32,11 +32,11 @@ pub absent : {V : Type 0} (values : ℕ → Option V) (n id : ℕ) → ((v : V) 
 absent values n id below l = none_if (values id) (λ v e. omega (arith, below v e))
 
 -- a flagged slot of what a word names holds what was written
-pub written_in : {V : Type 0} (word : Option (Bucket V)) (index : ℕ) → IsWritten (slot_of word index) → IfSome word (λ here. IsWritten (here.slots index))
+pub written_in : {V : Type 0} (word : Option (Bucket V)) (index : ℕ) → IsWritten (slot_of word index) → IfSome word (λ here. IsWritten (here.slot index))
 written_in None index w = tt
 written_in (Some here) index w = w
 
-pub flagged : {V : Type 0} (table : Table V) (bucket index : ℕ) → AllWritten table → index < 2 ^ bucket → IfSome (table.words bucket) (λ here. IsWritten (here.slots index))
+pub flagged : {V : Type 0} (table : Table V) (bucket index : ℕ) → AllWritten table → index < 2 ^ bucket → IfSome (table.words bucket) (λ here. IsWritten (here.slot index))
 unfolding slot_at
 flagged table bucket index written l =
     let at = place.place-id_at bucket index l in

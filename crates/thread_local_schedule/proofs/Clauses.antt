@@ -9,7 +9,7 @@ use Rattle.thread_local_model.proofs.AnswersLaws.{none_refused}
 use Rattle.thread_local_steps.specs.Local.{Local, MakeBucket, fresh_local, local_step}
 use Rattle.thread_local_core.specs.Core.{Core, made_core, new_core, shadow, installed_slots, first_view, peak, is_alone}
 use Rattle.thread_local_schedule.specs.Events.{Event, TakeId, OfLocal, Owner, ClearTable, is_granted, take_id, step_of, step, is_enabled, happens, run, IntoIter, DropTable, owner_call, GiveBack, Forget, OwnerCall, IterMut}
-use Rattle.thread_local_schedule.specs.Schedule.{move, is_clear, is_refused, is_granted_take, newcomer, IsReached, most_held, publishing, move_of, NoneTaken}
+use Rattle.thread_local_schedule.specs.Schedule.{move, is_clear, is_refused, is_granted_take, newcomer, IsReached, most_after_all, publishing, move_of, NoneTaken}
 use Rattle.thread_local_core.specs.CoreFits.{CoreFits}
 use Rattle.thread_local_schedule.proofs.Kept.{happens-fits, run-fits}
 use Rattle.thread_local_schedule.proofs.EventSays.{Says, event_says}
@@ -81,7 +81,7 @@ pub cleared : {V E : Type 0} (core : Core V E) → IsReached core → IsTrue (is
 cleared core r t = (says core (Owner ClearTable) r).moves ∙ ap (λ b. moved_if (shadow core) (cond b (Some Clear) None)) t
 
 -- the peak goes as the number of held ids says
-pub peak_run : {V E : Type 0} (core : Core V E) (events : List (Event V E)) (most : ℕ) → CoreFits core → peak core ≡ most → peak (run core events) ≡ most_held most core events
+pub peak_run : {V E : Type 0} (core : Core V E) (events : List (Event V E)) (most : ℕ) → CoreFits core → peak core ≡ most → peak (run core events) ≡ most_after_all most core events
 unfolding run
 peak_run core [] most h e = e
 peak_run core (event ∷ events) most h e =
@@ -128,7 +128,7 @@ pub reserved : {V E : Type 0} (core : Core V E) (n : ℕ) (local : Local V E) (r
 reserved core n local refused h at here = and_left (is_enabled core (OfLocal n (MakeBucket refused))) refused (reserved_idle core n local refused h at here)
 
 pub reserved_answers : {V E : Type 0} (core : Core V E) (n : ℕ) (local : Local V E) → CoreFits core → core.locals n ≡ Some local → IsTrue (is_reserved core.capacity local.id)
-    → Contains local.answers Refused → ⊥
+    → Contains local.answered Refused → ⊥
 reserved_answers core n local h at here c =
     let live = h.locals.each n local at in
     none_refused local.start local.calls (live.known here) (subst (λ told. Contains told Refused) live.local_fits.answered c)

@@ -13,4 +13,3 @@ pub use Rattle.thread_local_walk_steps.specs.WalkFits
 pub use Rattle.thread_local_core.specs.Core
 pub mod Events
 pub mod Schedule
-pub mod Story

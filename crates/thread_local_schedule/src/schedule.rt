@@ -14,8 +14,7 @@ ghost use Rattle.thread_local_steps.specs.Numbers.{own_number};
 ghost use Rattle.thread_local_walk_steps.specs.WalkFits.{Adds};
 ghost use Rattle.thread_local_core.specs.Core.{Core, made_core, new_core, shadow, installed_slots, first_view, peak, private_slots};
 ghost use Rattle.thread_local_schedule.specs.Events.{Event, TakeId, OfLocal, GiveBack, Forget, BeginWalk, OfWalk, EndWalk, OwnerCall, Owner, IterMut, ClearTable, IntoIter, DropTable, is_enabled, happens, run};
-ghost use Rattle.thread_local_schedule.specs.Schedule.{move, is_exclusive, is_of, is_of_walk, IsUnused, is_refused, is_granted_take, newcomer, IsReached, most_held, TakesBelow, NoneTaken, NothingRefused, NeverCleared};
-ghost use Rattle.thread_local_schedule.specs.Story.{after_publishing, after_walking, after_next, after_all};
+ghost use Rattle.thread_local_schedule.specs.Schedule.{move, is_exclusive, ends_table, is_of, is_of_walk, IsUnused, is_refused, is_granted_take, newcomer, IsReached, most_held, TakesBelow, NoneTaken, NothingRefused, NeverCleared};
 
 /// What holds of a table over every schedule of atomic steps, from a table of `new` and from one of each capacity
 /// below 2^63: each `Local` gets the least id not held; a slot's first published value stays until an owner has
@@ -82,7 +81,7 @@ pub fn every_schedule<V, E>()
 
     // A slot whose flag is set holds what was written.
     ensures flagged { (core : Core V E) (bucket index : ℕ) → IsReached core → index < 2 ^ bucket
-        → IfSome (core.table.words bucket) (λ here. IsWritten (here.slots index)) }
+        → IfSome (core.table.words bucket) (λ here. IsWritten (here.slot index)) }
 
     // A Local begins with what its slot holds when its id is taken. Its answers are those of that view and of its
     // own calls. A call that has begun is under way until it is recorded, once, as it began; no other is recorded.
@@ -91,7 +90,7 @@ pub fn every_schedule<V, E>()
         → IsSomeAnd (newcomer core event)
         (λ local. (local.start ≡ first_view (shadow core) local.id) × (local.calls ≡ [])) }
     ensures answers { (core : Core V E) (n : ℕ) (local : Local V E) → IsReached core
-        → core.locals n ≡ Some local → local.answers ≡ answers local.start local.calls }
+        → core.locals n ≡ Some local → local.answered ≡ answers local.start local.calls }
     ensures goes_on { (core : Core V E) (n : ℕ) (step : LocalStep V E) (before : Local V E)
         → IsTrue (is_enabled core (OfLocal n step)) → core.locals n ≡ Some before
         → IsSomeAnd ((happens core (OfLocal n step)).locals n) (GoesOn step before) }
@@ -111,17 +110,19 @@ pub fn every_schedule<V, E>()
         → IsSomeAnd (newcomer (run cleared events) event)
         (λ local. (local.id ≡ 0) × (local.start ≡ record { value = None; known = false })) }
 
-    // After `into_iter` or the drop no event is enabled.
+    // After `into_iter` or the drop no event is enabled, and nothing else ends a table.
     ensures into_iter_ends { (core : Core V E) → IsTrue (is_enabled core (Owner IntoIter))
         → (happens core (Owner IntoIter)).ended ≡ true }
     ensures drop_ends { (core : Core V E) → IsTrue (is_enabled core (Owner DropTable))
         → (happens core (Owner DropTable)).ended ≡ true }
     ensures ended { (core : Core V E) (event : Event V E)
         → core.ended ≡ true → is_enabled core event ≡ false }
+    ensures stays_open { (core : Core V E) (event : Event V E)
+        → core.ended ≡ false → ends_table event ≡ false → (happens core event).ended ≡ false }
 
     // The peak is the most ids held at one moment. Each id that is given lies below it, and there is room for it.
     ensures peak { (capacity extra : ℕ) (events : List (Event V E)) → capacity < 2 ^ 63
-        → peak (run (made_core capacity extra) events) ≡ most_held 0 (made_core capacity extra) events }
+        → peak (run (made_core capacity extra) events) ≡ most_held (made_core capacity extra) events }
     ensures below_peak { (core : Core V E) (n : ℕ) (local : Local V E) → IsReached core
         → core.locals n ≡ Some local → local.id < peak core }
     ensures ids { (core : Core V E) (n : ℕ) (local : Local V E) → IsReached core
@@ -156,7 +157,7 @@ pub fn every_schedule<V, E>()
         → is_refused core (OfLocal n (MakeBucket refused)) ≡ false }
     ensures reserved_answers { (core : Core V E) (n : ℕ) (local : Local V E) → IsReached core
         → core.locals n ≡ Some local → IsTrue (is_reserved (shadow core).capacity local.id)
-        → Contains local.answers Refused → ⊥ }
+        → Contains local.answered Refused → ⊥ }
 
     // Where each take comes while fewer than p ids are held, a table from `new` has installed at most 2p - 1 slots,
     // and one of a capacity of p or more that is never cleared refuses nothing.
@@ -165,23 +166,6 @@ pub fn every_schedule<V, E>()
     ensures refuses_nothing { (capacity extra p : ℕ) (events : List (Event V E)) → capacity < 2 ^ 63
         → p ≤ capacity → TakesBelow p (made_core capacity extra) events → NeverCleared events
         → NothingRefused (made_core capacity extra) events }
-
-    // Four Locals publish in a new table. A walk gives the four values; the next Local finds the first and keeps it;
-    // an owner's walk gives the four; and `clear` leaves the sheet of `new`.
-    ensures four_values { (a b c d : V)
-        → (shadow (after_publishing {E = E} a b c d)).values ≡ slice_get (a ∷ b ∷ c ∷ d ∷ []) }
-    ensures seven_slots { (a b c d : V) → installed_slots (after_publishing {E = E} a b c d) ≡ 7 }
-    ensures walk_of_four { (a b c d : V) → IsSomeAnd ((after_walking {E = E} a b c d).walks 0)
-        (λ walk. IsTrue (is_complete walk) × (walk.given ≡ (0, a) ∷ (1, b) ∷ (2, c) ∷ (3, d) ∷ [])) }
-    ensures next_of_four { (a b c d : V) → IsSomeAnd ((after_next {E = E} a b c d).locals 4)
-        (λ local. (local.id ≡ 0) × (local.start.value ≡ Some a)
-        × (local.answers ≡ Found (Some a) ∷ Answered a ∷ [])) }
-    ensures owner_of_four { (a b c d : V) (others : ℕ → V → V)
-        → IsTrue (is_enabled (after_all {E = E} a b c d) (Owner (IterMut others)))
-        × (owner_walk (after_all {E = E} a b c d).table ≡ a ∷ b ∷ c ∷ d ∷ []) }
-    ensures clear_of_four { (a b c d : V)
-        → IsTrue (is_enabled (after_all {E = E} a b c d) (Owner ClearTable))
-        × (shadow (happens (after_all {E = E} a b c d) (Owner ClearTable)) ≡ new_sheet) }
 {}
 
 /// What holds of the words over every schedule: a word that names a bucket names that one until an owner's call, no
@@ -206,33 +190,33 @@ pub fn every_walk<V, E>()
     // Each walk begins fresh. No event but its own steps and its end changes it, and it goes on until it is complete.
     ensures begins { (core : Core V E)
         → IsTrue (is_enabled core BeginWalk) → (happens core BeginWalk).walks core.walked ≡ Some fresh_walk }
-    ensures comes { (core : Core V E) (event : Event V E) (n : ℕ) (walk : SharedWalk V) → IsReached core
-        → core.walks n ≡ None → (happens core event).walks n ≡ Some walk → walk ≡ fresh_walk }
-    ensures others { (core : Core V E) (event : Event V E) (n : ℕ) (walk : SharedWalk V) → IsReached core
+    ensures comes { (core : Core V E) (event : Event V E) (n : ℕ) (shared : SharedWalk V) → IsReached core
+        → core.walks n ≡ None → (happens core event).walks n ≡ Some shared → shared ≡ fresh_walk }
+    ensures others { (core : Core V E) (event : Event V E) (n : ℕ) (shared : SharedWalk V) → IsReached core
         → is_of_walk n event ≡ false
-        → core.walks n ≡ Some walk → (happens core event).walks n ≡ Some walk }
-    ensures goes_on { (core : Core V E) (n : ℕ) (walk : SharedWalk V)
-        → core.ended ≡ false → core.walks n ≡ Some walk → is_complete walk ≡ false
-        → IsTrue (is_enabled core (OfWalk n (next_step walk))) }
+        → core.walks n ≡ Some shared → (happens core event).walks n ≡ Some shared }
+    ensures goes_on { (core : Core V E) (n : ℕ) (shared : SharedWalk V)
+        → core.ended ≡ false → core.walks n ≡ Some shared → is_complete shared ≡ false
+        → IsTrue (is_enabled core (OfWalk n (next_step shared))) }
     ensures ends { (core : Core V E) (n : ℕ)
         → IsTrue (is_enabled core (EndWalk n)) → (happens core (EndWalk n)).walks n ≡ None }
-    ensures may_end { (core : Core V E) (n : ℕ) (walk : SharedWalk V)
-        → core.ended ≡ false → core.walks n ≡ Some walk → IsTrue (is_enabled core (EndWalk n)) }
+    ensures may_end { (core : Core V E) (n : ℕ) (shared : SharedWalk V)
+        → core.ended ≡ false → core.walks n ≡ Some shared → IsTrue (is_enabled core (EndWalk n)) }
 
     // Its record: what was published at its first load, what it gave and read, and how often it loaded a word.
     ensures adds { (core : Core V E) (n : ℕ) (step : WalkStep) (before : SharedWalk V) → IsReached core
         → IsTrue (is_enabled core (OfWalk n step)) → core.walks n ≡ Some before
         → IsSomeAnd ((happens core (OfWalk n step)).walks n) (Adds core.table step before) }
-    ensures complete { (core : Core V E) (n : ℕ) (walk : SharedWalk V) → IsReached core
-        → core.walks n ≡ Some walk → IsTrue (is_complete walk)
-        → (id : ℕ) (v : V) → walk.first id ≡ Some v → Contains walk.given (id, v) }
-    ensures published { (core : Core V E) (n : ℕ) (walk : SharedWalk V) → IsReached core
-        → core.walks n ≡ Some walk
-        → (id : ℕ) (v : V) → Contains walk.given (id, v) → (shadow core).values id ≡ Some v }
-    ensures ascending { (core : Core V E) (n : ℕ) (walk : SharedWalk V) → IsReached core
-        → core.walks n ≡ Some walk → IsStrictlyIncreasing (map (λ pair. pair.0) walk.given) }
-    ensures reads_once { (core : Core V E) (n : ℕ) (walk : SharedWalk V) → IsReached core
-        → core.walks n ≡ Some walk → IsStrictlyIncreasing walk.read }
-    ensures loads { (core : Core V E) (n : ℕ) (walk : SharedWalk V) → IsReached core
-        → core.walks n ≡ Some walk → walk.loads ≤ 63 + length walk.given }
+    ensures complete { (core : Core V E) (n : ℕ) (shared : SharedWalk V) → IsReached core
+        → core.walks n ≡ Some shared → IsTrue (is_complete shared)
+        → (id : ℕ) (v : V) → shared.first id ≡ Some v → Contains shared.given (id, v) }
+    ensures published { (core : Core V E) (n : ℕ) (shared : SharedWalk V) → IsReached core
+        → core.walks n ≡ Some shared
+        → (id : ℕ) (v : V) → Contains shared.given (id, v) → (shadow core).values id ≡ Some v }
+    ensures ascending { (core : Core V E) (n : ℕ) (shared : SharedWalk V) → IsReached core
+        → core.walks n ≡ Some shared → IsStrictlyIncreasing (map (λ pair. pair.0) shared.given) }
+    ensures reads_once { (core : Core V E) (n : ℕ) (shared : SharedWalk V) → IsReached core
+        → core.walks n ≡ Some shared → IsStrictlyIncreasing shared.read }
+    ensures loads { (core : Core V E) (n : ℕ) (shared : SharedWalk V) → IsReached core
+        → core.walks n ≡ Some shared → shared.loads ≤ 63 + length shared.given }
 {}

@@ -1,14 +1,14 @@
-use Rattle.std.proofs.Common.{◌≡◌, ℕ, zero, suc, ◌⊎◌, Bool, true, false, Option, Some, None, Result, Ok, Err, IfSome, refl, ap, sym, ◌∙◌, arith, ⊎_elim, inl, inr}
+use Rattle.std.proofs.Common.{◌≡◌, ℕ, zero, suc, ◌⊎◌, Bool, cond, true, false, Option, Some, None, Result, Ok, Err, IfSome, refl, ap, sym, ◌∙◌, arith, ⊎_elim, inl, inr}
 use Rattle.std.proofs.lemmas.Bool.{cases_eq, eq-eqb}
 use Rattle.std.specs.Prelude.{option_map}
 use Rattle.thread_local_model.specs.Place.{bucket_of}
 use Rattle.thread_local_model.specs.Learnt.{Learnt, Missing, Vacant, Holding, loaded, looked}
-use Rattle.thread_local_steps.specs.Table.{Table, Slot, published, stands, with_bucket, with_slot}
-use Rattle.thread_local_steps.specs.Local.{Doing, Gets, Started, Private, Written, Local, is_calling, begin_get, begin_get_or, learns, load_word, look_at_flag, make_bucket, offer, install_bucket, write_value, set_flag, reply, local_step, LocalStep, BeginGet, BeginGetOr, LoadWord, LookAtFlag, MakeBucket, InstallBucket, WriteValue, SetFlag, Reply}
+use Rattle.thread_local_steps.specs.Table.{Table, Slot, published, stands, with_fresh_bucket, with_slot}
+use Rattle.thread_local_steps.specs.Local.{Doing, Gets, Started, Private, Written, Local, is_calling, begin_get, begin_get_or, learns, load_word, look_at_flag, make_bucket, install_bucket, write_value, set_flag, reply, local_step, LocalStep, BeginGet, BeginGetOr, LoadWord, LookAtFlag, MakeBucket, InstallBucket, WriteValue, SetFlag, Reply}
 use Rattle.thread_local_model.specs.Place.{id_at}
 use Rattle.thread_local_steps.specs.Fits.{named}
 use Rattle.thread_local_steps.specs.Numbers.{own_number, NumbersGo}
-use Rattle.thread_local_steps.proofs.TableLaws.{named-made, named-with_bucket, named-with_slot}
+use Rattle.thread_local_steps.proofs.TableLaws.{named-made, named-with_fresh_bucket, named-with_slot}
 
 -- a step that makes no bucket, changes no name, and leaves the call no bucket that it hadn't
 same_numbers : {V E : Type 0} (table after : Table V) (local then : Local V E) → after.made ≡ table.made → ((bucket : ℕ) → named after bucket ≡ named table bucket)
@@ -62,26 +62,26 @@ make_bucket-numbers table local false (Started create) Missing = record {
 make_bucket-numbers table local refused _ _ = tt
 
 -- a word that an offer leaves naming a bucket named it before, or is the word of the offer
-named-with_bucket_same : {V : Type 0} (table : Table V) (bucket number : ℕ) → named (with_bucket table bucket number) bucket ≡ Some number
-unfolding named with_bucket
+named-with_bucket_same : {V : Type 0} (table : Table V) (bucket number : ℕ) → named (with_fresh_bucket table bucket number) bucket ≡ Some number
+unfolding named with_fresh_bucket
 named-with_bucket_same table bucket number = rw (eq-eqb bucket bucket refl) refl
 
-made-with_bucket : {V : Type 0} (table : Table V) (bucket number : ℕ) → (with_bucket table bucket number).made ≡ table.made
-unfolding with_bucket
-made-with_bucket table bucket number = refl
+made-with_fresh_bucket : {V : Type 0} (table : Table V) (bucket number : ℕ) → (with_fresh_bucket table bucket number).made ≡ table.made
+unfolding with_fresh_bucket
+made-with_fresh_bucket table bucket number = refl
 
-named_by_offer : {V : Type 0} (table : Table V) (bucket number : ℕ) (b : Bool) (other k : ℕ) → named (offer table bucket number b) other ≡ Some k
+named_by_offer : {V : Type 0} (table : Table V) (bucket number : ℕ) (b : Bool) (other k : ℕ) → named (cond b table (with_fresh_bucket table bucket number)) other ≡ Some k
     → (named table other ≡ Some k) ⊎ ((Some number ≡ Some k) × (bucket ≡ other))
 named_by_offer table bucket number true other k e = inl e
 named_by_offer table bucket number false other k e =
     ⊎_elim
-    (λ here. inr (sym (named-with_bucket_same table bucket number) ∙ ap (named (with_bucket table bucket number)) here ∙ e, here))
-    (λ apart. inl (sym (named-with_bucket table bucket number other apart) ∙ e))
+    (λ here. inr (sym (named-with_bucket_same table bucket number) ∙ ap (named (with_fresh_bucket table bucket number)) here ∙ e, here))
+    (λ apart. inl (sym (named-with_fresh_bucket table bucket number other apart) ∙ e))
     (cases_eq bucket other)
 
-made-offer : {V : Type 0} (table : Table V) (bucket number : ℕ) (b : Bool) → (offer table bucket number b).made ≡ table.made
+made-offer : {V : Type 0} (table : Table V) (bucket number : ℕ) (b : Bool) → (cond b table (with_fresh_bucket table bucket number)).made ≡ table.made
 made-offer table bucket number true = refl
-made-offer table bucket number false = made-with_bucket table bucket number
+made-offer table bucket number false = made-with_fresh_bucket table bucket number
 
 install_bucket-numbers : {V E : Type 0} (table : Table V) (local : Local V E) (doing : Doing V E) → local.doing ≡ doing → IfSome (install_bucket table local doing) (NumbersGo table local)
 install_bucket-numbers table local (Private create number) at = record {

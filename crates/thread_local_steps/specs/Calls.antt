@@ -53,7 +53,7 @@ pub record PublishingEnds {V E : Type 0} (refused : Bool) (before after : Local 
 -- the publishing call ends as refused memory, and so it answers
 pub record MemoryRefused {V E : Type 0} (before after : Local V E) : Type 0 where
   pub ends : PublishingEnds true before after
-  pub answered : after.answers ≡ before.answers ++ Refused ∷ []
+  pub answered : after.answered ≡ before.answered ++ Refused ∷ []
 
 -- What a step does to the calls of its Local: one begins, none begins or ends, or one ends and is recorded.
 abbrev pub CallsGo : {V E : Type 0} → LocalStep V E → Local V E → Local V E → Type 0

@@ -1,4 +1,4 @@
-use Rattle.std.specs.Prelude.{◌≡◌, ℕ, ◌⊎◌, false, Option, Some, None, option_map, IsTrue, is_some, IfSome, ⊤}
+use Rattle.std.specs.Prelude.{◌≡◌, ◌≢◌, ℕ, ◌⊎◌, false, Option, Some, None, option_map, IsTrue, is_some, IfSome, ⊤}
 use Rattle.thread_local_model.specs.Place.{bucket_of}
 use Rattle.thread_local_model.specs.Walk.{with_value}
 use Rattle.thread_local_model.specs.Answers.{View, answers, view_after_all}
@@ -44,7 +44,7 @@ pub record ViewFits {V E : Type 0} (table : Table V) (id : ℕ) (view : View V) 
 -- What is known of a Local beside its table: its answers are those of its first view and its calls, and its view
 -- now fits.
 pub record LocalFits {V E : Type 0} (table : Table V) (local : Local V E) : Type 0 where
-  pub answered : local.answers ≡ answers local.start local.calls
+  pub answered : local.answered ≡ answers local.start local.calls
   pub view : ViewFits table local.id (view_now local) local.learnt local.doing
 
 -- the number of the bucket that a word names, if it names one
@@ -54,7 +54,7 @@ named table bucket = option_map (λ here. here.number) (table.words bucket)
 -- Between two tables only the slot of an id may differ, and only its bucket may be new: a word that names a bucket
 -- goes on naming it.
 pub record ChangesOnly {V : Type 0} (old new : Table V) (id : ℕ) : Type 0 where
-  pub others : (other : ℕ) → (id ≡ other → ⊥) → slot_at new other ≡ slot_at old other
+  pub others : (other : ℕ) → id ≢ other → slot_at new other ≡ slot_at old other
   pub naming : (bucket : ℕ) → IsTrue (stands old bucket) → IsTrue (stands new bucket) × (named new bucket ≡ named old bucket)
   pub installed : (bucket : ℕ) → IsTrue (stands new bucket) → IsTrue (stands old bucket) ⊎ (bucket_of id ≡ bucket)
   pub written : AllWritten new

@@ -1,4 +1,4 @@
-ghost use Rattle.std.specs.Prelude.{◌≡◌, ℕ, ◌∷◌, [], Some, None, false, IfSome, IsSomeAnd};
+ghost use Rattle.std.specs.Prelude.{◌≡◌, ◌≢◌, ℕ, ◌∷◌, [], Some, None, false, IfSome, IsSomeAnd};
 ghost use Rattle.thread_local_model.specs.Answers.{Found, Answered, Refused, Failed};
 ghost use Rattle.thread_local_steps.specs.Table.{Table, made_table, published};
 ghost use Rattle.thread_local_steps.specs.Local.{Local, LocalStep, fresh_local, local_step, local_steps, five_calls};
@@ -18,11 +18,11 @@ pub fn every_local_step<V, E>()
     ensures numbers { (table : Table V) (local : Local V E) (step : LocalStep V E)
         → IfSome (local_step table local step) (NumbersGo table local) }
     ensures others { (old new : Table V) (id : ℕ) (local : Local V E)
-        → ChangesOnly old new id → (id ≡ local.id → ⊥) → LocalFits old local → LocalFits new local }
+        → ChangesOnly old new id → id ≢ local.id → LocalFits old local → LocalFits new local }
 
     // In a new table a Local is refused memory, hands on an error, publishes, and answers that value from then on.
     ensures answers { (v w : V) (e : E)
         → IsSomeAnd (local_steps (made_table 0) (fresh_local 0 (record { value = None; known = false })) (five_calls v w e))
         (λ after. (published after.0 0 ≡ Some v)
-        × (after.1.answers ≡ Refused ∷ Failed e ∷ Answered v ∷ Found (Some v) ∷ Answered v ∷ [])) }
+        × (after.1.answered ≡ Refused ∷ Failed e ∷ Answered v ∷ Found (Some v) ∷ Answered v ∷ [])) }
 {}

@@ -2,9 +2,8 @@ use Rattle.std.proofs.Common.{refl, arith}
 use Rattle.thread_local_core.proofs.CoreLaws as known
 use Rattle.thread_local_schedule.proofs.Clauses as clause
 use Rattle.thread_local_schedule.proofs.Enabled as may
+use Rattle.thread_local_schedule.proofs.Open as ending
 use Rattle.thread_local_schedule.proofs.Headline as headline
-use Rattle.thread_local_schedule.proofs.FourLocals as story
-use Rattle.thread_local_schedule.proofs.FourValues as four
 use Rattle.thread_local_walk_steps.proofs.OwnerLaws.{owner_walk-walk}
 use Rattle.thread_local_core.specs.Core.{made_core}
 use Rattle.thread_local_core.proofs.Parts.{made_core-fits}
@@ -101,6 +100,9 @@ returns-clause-drop_ends g c = clause.drop_ends
 pub returns-clause-ended : goal.returns-clause-ended
 returns-clause-ended g c = clause.ended
 
+pub returns-clause-stays_open : goal.returns-clause-stays_open
+returns-clause-stays_open g c = ending.stays_open
+
 pub returns-clause-peak : goal.returns-clause-peak
 returns-clause-peak g c = λ capacity extra events l. clause.peak_run (made_core capacity extra) events 0 (made_core-fits capacity extra l) refl
 
@@ -148,21 +150,3 @@ returns-clause-bounded g c = headline.bounded
 
 pub returns-clause-refuses_nothing : goal.returns-clause-refuses_nothing
 returns-clause-refuses_nothing g c = headline.refuses_nothing
-
-pub returns-clause-four_values : goal.returns-clause-four_values
-returns-clause-four_values g c = four.four_values _ _
-
-pub returns-clause-seven_slots : goal.returns-clause-seven_slots
-returns-clause-seven_slots g c = story.first_slots _ _
-
-pub returns-clause-walk_of_four : goal.returns-clause-walk_of_four
-returns-clause-walk_of_four g c = story.walk_gives _ _
-
-pub returns-clause-next_of_four : goal.returns-clause-next_of_four
-returns-clause-next_of_four g c = story.next_gets _ _
-
-pub returns-clause-owner_of_four : goal.returns-clause-owner_of_four
-returns-clause-owner_of_four g c = story.owner_gets _ _
-
-pub returns-clause-clear_of_four : goal.returns-clause-clear_of_four
-returns-clause-clear_of_four g c = four.clear_of_four _ _
