@@ -1,11 +1,9 @@
 use Rattle.std.proofs.Common.{◌≡◌, ℕ, zero, suc, ◌⊎◌, Bool, cond, true, false, Option, Some, None, Result, Ok, Err, IfSome, refl, ap, sym, ◌∙◌, arith, ⊎_elim, inl, inr}
 use Rattle.std.proofs.lemmas.Bool.{cases_eq, eq-eqb}
-use Rattle.std.specs.Prelude.{option_map}
 use Rattle.thread_local_model.specs.Place.{bucket_of}
 use Rattle.thread_local_model.specs.Learnt.{Learnt, Missing, Vacant, Holding, loaded, looked}
 use Rattle.thread_local_steps.specs.Table.{Table, Slot, published, stands, with_fresh_bucket, with_slot}
 use Rattle.thread_local_steps.specs.Local.{Doing, Gets, Started, Private, Written, Local, is_calling, begin_get, begin_get_or, learns, load_word, look_at_flag, make_bucket, install_bucket, write_value, set_flag, reply, local_step, LocalStep, BeginGet, BeginGetOr, LoadWord, LookAtFlag, MakeBucket, InstallBucket, WriteValue, SetFlag, Reply}
-use Rattle.thread_local_model.specs.Place.{id_at}
 use Rattle.thread_local_steps.specs.Fits.{named}
 use Rattle.thread_local_steps.specs.Numbers.{own_number, NumbersGo}
 use Rattle.thread_local_steps.proofs.TableLaws.{named-made, named-with_fresh_bucket, named-with_slot}
