@@ -1,10 +1,11 @@
 #!/usr/bin/env python3
 """Runs random schedules of the table's model and checks every clause of the theorem after every event.
 
-    tools/schedules.py                      a clause that fails is printed with its schedule; under three minutes
+    tools/schedules.py                      a clause that fails is printed with its schedule; under five minutes
     tools/schedules.py --short              the same on fewer schedules; under 20 seconds
-    tools/schedules.py --wrong              tries each wrong body in turn: some clause must fail for it; under ten minutes
-    tools/schedules.py --wrong --short      the same on fewer schedules; about a minute
+    tools/schedules.py --wrong              tries each wrong body in turn: some clause must fail for it
+    tools/schedules.py --wrong --short      the same on fewer schedules
+    tools/schedules.py --show 7             prints a schedule as a table, a line for each event
     tools/schedules.py --buckets 4 --seed 7 --runs 2000 --events 120
 
 The definitions stand in table_model.py, under the names of the specs. Each clause of the theorem is a
@@ -253,6 +254,152 @@ def clause_walk_history(m):
             if not it.loads <= then.loads <= it.loads + 1:
                 return False
     return True
+
+
+# ---- clauses on who may do what, on calls, numbers and walks ---------------------------------------------
+
+
+def is_by_itself(core):
+    return not live(core) and not walking(core)
+
+
+def under_way(doing):
+    """The calls of a Local that are under way: how many gets, and what the closure of a publishing call would answer."""
+    match doing:
+        case ("Gets", count):
+            return count, None
+        case ("Started", create) | ("Private", create, _):
+            return 0, create
+        case ("Written", value):
+            return 0, ("Ok", value)
+
+
+def has_no_call(local):
+    return local is not None and under_way(local.doing) == (0, None)
+
+
+def own_number(local):
+    return local.doing[2] if local.doing[0] == "Private" else None
+
+
+def clause_takes(m):
+    return m.after.ended or all(model.is_enabled(m.after, ("TakeId", refused, 0)) for refused in (False, True))
+
+
+def clause_walks_begin(m):
+    return m.after.ended or model.is_enabled(m.after, ("BeginWalk",))
+
+
+def clause_alone(m):
+    calls = [("IterMut", Rewriter(0)), ("Slots",), ("ClearTable",), ("IntoIter",), ("DropTable",)]
+    may = not m.after.ended and is_by_itself(m.after)
+    return all(model.is_enabled(m.after, ("Owner", it)) == may for it in calls)
+
+
+def clause_leaves(m):
+    """A Local may give its id back, or be forgotten, just where no call of it is under way."""
+    numbers = range(len(m.after.locals) + 1)
+    return all(
+        model.is_enabled(m.after, (name, n)) == (not m.after.ended and has_no_call(live_local(m.after, n)))
+        for n in numbers
+        for name in ("GiveBack", "Forget")
+    )
+
+
+def clause_left(m):
+    """After either it lives no longer, and after a forget its id is held still."""
+    if m.event[0] not in ("GiveBack", "Forget") or not model.is_enabled(m.before, m.event):
+        return True
+    local = live_local(m.before, m.event[1])
+    held = m.event[0] == "GiveBack" or is_held(model.shadow(m.after).held, local.id)
+    return live_local(m.after, m.event[1]) is None and held
+
+
+def clause_refusal(m):
+    return m.event[0] != "TakeId" or not model.is_refused(m.before, m.event) or m.after == m.before
+
+
+def clause_cleared_core(m):
+    return not is_clear(m) or m.after == new_core()
+
+
+def clause_comes(m):
+    """A Local comes by a granted take and by nothing else, under the next number."""
+    new = [n for n, _ in live(m.after) if live_local(m.before, n) is None]
+    return new == ([len(m.before.locals)] if is_granted_take(m) else [])
+
+
+def calls_go(step, before, after):
+    """What each step does to the calls of its Local: one begins, none begins or ends, or one ends and is recorded."""
+    gets, create = under_way(before.doing)
+    now, record = under_way(after.doing), after.calls[len(before.calls) :]
+    if after.calls[: len(before.calls)] != before.calls:
+        return False
+    if step[0] == "BeginGet":
+        return now == (gets + 1, create) and record == ()
+    if step[0] == "BeginGetOr":
+        return create is None and now == (gets, step[1]) and record == ()
+    goes_on = now == (gets, create) and record == ()
+    get_ends = gets > 0 and now == (gets - 1, create) and record == (("Get",),)
+    refused = step == ("MakeBucket", True)
+    offer_ends = create is not None and now == (gets, None) and record == (("GetOr", create, refused),)
+    told = after.answers[len(before.answers) :] == (("Refused",),)
+    match step[0]:
+        case "MakeBucket":
+            return offer_ends and told if refused else goes_on
+        case "LoadWord" | "LookAtFlag" | "InstallBucket":
+            return goes_on
+        case "WriteValue":
+            return goes_on or offer_ends
+        case "SetFlag":
+            return offer_ends
+        case "Reply":
+            return get_ends or offer_ends
+
+
+def clause_goes_on(m):
+    if m.event[0] != "OfLocal" or not model.is_enabled(m.before, m.event):
+        return True
+    before, after = live_local(m.before, m.event[1]), live_local(m.after, m.event[1])
+    return after is not None and (after.id, after.start) == (before.id, before.start) and calls_go(m.event[2], before, after)
+
+
+def clause_numbers(m):
+    """Two words name two buckets, and a bucket of a call's own is named by no word and is of no other call."""
+    named = [it.number for it in m.after.table.words if it is not None]
+    own = [own_number(it) for _, it in live(m.after) if own_number(it) is not None]
+    return len(set(named + own)) == len(named + own)
+
+
+def clause_ids(m):
+    return all(it.id < model.IDS for _, it in live(m.after))
+
+
+def clause_walks_come(m):
+    """A walk begins fresh, and comes by its beginning alone."""
+    begins = m.event == ("BeginWalk",) and model.is_enabled(m.before, m.event)
+    new = [(n, it) for n, it in walking(m.after) if live_walk(m.before, n) is None]
+    return new == ([(len(m.before.walks), model.Walk())] if begins else [])
+
+
+def clause_walks_apart(m):
+    """No event but a walk's own steps and its end changes it; after its end it is under way no longer."""
+    own = m.event[1] if m.event[0] in ("OfWalk", "EndWalk") else None
+    ended = m.event[0] != "EndWalk" or live_walk(m.after, own) is None
+    return ended and all(n == own or live_walk(m.after, n) == it for n, it in walking(m.before))
+
+
+def clause_walks_go_on(m):
+    """A walk that isn't complete has a step that is enabled, and goes on after it."""
+    enabled = all(
+        model.is_complete(it) or model.is_enabled(m.after, ("OfWalk", n, "Look" if it.looks else "Load")) for n, it in walking(m.after)
+    )
+    stepped = m.event[0] == "OfWalk" and live_walk(m.before, m.event[1]) is not None
+    return enabled and (not stepped or live_walk(m.after, m.event[1]) is not None)
+
+
+def clause_walks_end(m):
+    return all(model.is_enabled(m.after, ("EndWalk", n)) for n, _ in walking(m.after))
 
 
 CLAUSES = {name[len("clause_") :]: it for name, it in list(globals().items()) if name.startswith("clause_")}
@@ -508,10 +655,137 @@ def wrong_bodies():
     }
 
 
+def more_wrong_bodies():
+    """Wrong bodies on who may do what, on calls, numbers and walks."""
+    right = {name: getattr(model, name) for name in ("take", "step", "local_step", "forget", "end_walk", "begin_walk", "owner_call")}
+
+    def gives_back_early(core, number):
+        local = live_local(core, number)
+        return None if local is None else model.with_local(replace(core, held=model.without(core.held, local.id)), number, None)
+
+    def forgets_early(core, number):
+        return None if live_local(core, number) is None else model.with_local(core, number, None)
+
+    def forgets_nothing(core, number):
+        return None if right["forget"](core, number) is None else core
+
+    def owner_beside(names, beside):
+        def owner_call(core, call):
+            alone = beside(core) if call[0] in names else model.is_alone(core)
+            kept, model.is_alone = model.is_alone, lambda _: alone
+            try:
+                return right["owner_call"](core, call)
+            finally:
+                model.is_alone = kept
+
+        return {"owner_call": owner_call}
+
+    def beside_walks(core):
+        return not live(core)
+
+    def beside_locals(core):
+        return not walking(core)
+
+    def restarts_walks(core, number, step):
+        after = right["local_step"](core, number, step)
+        return after if after is None else replace(after, walks=tuple(it and model.Walk() for it in after.walks))
+
+    def ends_table(core, number, step):
+        after = right["local_step"](core, number, step)
+        return after if after is None else replace(after, ended=True)
+
+    def begins_complete(core):
+        fresh = model.Walk(bucket=model.BUCKETS) if core.walks else model.Walk()
+        return replace(core, walks=core.walks + (fresh,))
+
+    def ends_all(core, number):
+        after = right["end_walk"](core, number)
+        return after if after is None else replace(after, walks=(None,) * len(after.walks))
+
+    def takes_where(may):
+        return {"take": lambda core, refused, growth: right["take"](core, refused, growth) if may(core) else None}
+
+    def grows_room(core, refused, growth):
+        after = right["take"](core, refused, growth)
+        return replace(core, room=core.room + 1) if after is core else after
+
+    def keeps_room(core):
+        return replace(new_core(), room=core.room)
+
+    def offers_over_gets(table, local, create):
+        return (table, replace(local, doing=("Started", create))) if local.doing[0] == "Gets" else None
+
+    def gets_over_offer(table, local):
+        count = local.doing[1] if local.doing[0] == "Gets" else 0
+        return table, replace(local, doing=("Gets", count + 1))
+
+    def unrecorded(name, kind):
+        """The step of that name ends a call of that kind with no record."""
+        it = model.LOCAL_STEPS[name]
+
+        def ends(table, local, *chosen):
+            after = it(table, local, *chosen)
+            if after is None or after[1].calls == local.calls or after[1].calls[-1][0] != kind:
+                return after
+            return after[0], replace(after[1], calls=local.calls, answers=local.answers)
+
+        return steps(**{name: ends})
+
+    def others_answer(table, local):
+        after = model.reply(table, local)
+        if after is None or local.doing[0] != "Started":
+            return after
+        return after[0], replace(after[1], calls=local.calls + (("GetOr", ("Ok", local.learnt[1]), False),))
+
+    def refused_unasked(table, local):
+        after = model.write_value(table, local)
+        if after is None or after[1].calls == local.calls:
+            return after
+        return after[0], replace(after[1], calls=local.calls + (("GetOr", local.doing[1], True),))
+
+    def shares_number(table, local, refused):
+        after = model.make_bucket(table, local, refused)
+        return after if after is None else (replace(after[0], made=table.made), after[1])
+
+    def steps(**it):
+        return {"LOCAL_STEPS": {**model.LOCAL_STEPS, **it}}
+
+    def load_waits(table, it):
+        return None if it.loads > 1 else model.walk_load(table, it)
+
+    return {
+        "give back comes in the middle of a call": {"give_back": gives_back_early},
+        "forget comes in the middle of a call": {"forget": forgets_early},
+        "forget leaves the Local living": {"forget": forgets_nothing},
+        "into_iter comes while a walk runs": owner_beside(["IntoIter"], beside_walks),
+        "clear comes while a walk runs": owner_beside(["ClearTable"], beside_walks),
+        "clear comes while Locals live": owner_beside(["ClearTable"], beside_locals),
+        "iter_mut and the drop come while Locals live": owner_beside(["IterMut", "DropTable"], beside_locals),
+        "a Local's step restarts every walk": {"local_step": restarts_walks},
+        "a Local's step ends the table": {"local_step": ends_table},
+        "later walks begin complete": {"begin_walk": begins_complete},
+        "one walk's end ends all": {"end_walk": ends_all},
+        "a walk stands still after two loads": {"WALK_STEPS": {**model.WALK_STEPS, "Load": load_waits}},
+        "no take while a walk runs": takes_where(lambda core: not walking(core)),
+        "no take while five are held": takes_where(lambda core: held_count(core.held) < 5),
+        "a refused take grows room": {"take": grows_room},
+        "clear keeps the room": {"cleared": keeps_room},
+        "a publishing call begins over gets, which vanish": steps(BeginGetOr=offers_over_gets),
+        "a get begins over a publishing call": steps(BeginGet=gets_over_offer),
+        "a get ends with no record": unrecorded("Reply", "Get"),
+        "a publishing call that finds a value ends with no record": unrecorded("Reply", "GetOr"),
+        "a refused publishing call ends with no record": unrecorded("MakeBucket", "GetOr"),
+        "a failed publishing call ends with no record": unrecorded("WriteValue", "GetOr"),
+        "a call ends with another closure's answer": steps(Reply=others_answer),
+        "a call that was refused nothing is recorded as refused": steps(WriteValue=refused_unasked),
+        "buckets share one number": steps(MakeBucket=shares_number),
+    }
+
+
 def try_wrong_bodies(seed, runs, length):
     """Says for each wrong body which clauses fail first, and whether the story breaks. Returns those that nothing refuses."""
     left = []
-    for name, body in wrong_bodies().items():
+    for name, body in {**wrong_bodies(), **more_wrong_bodies()}.items():
         kept = {key: getattr(model, key) for key in body}
         for key, it in body.items():
             setattr(model, key, it)
@@ -527,6 +801,144 @@ def try_wrong_bodies(seed, runs, length):
     return left
 
 
+# ---- a schedule to look at ------------------------------------------------------------------------------
+
+
+def step_text(step):
+    name = step[0]
+    if name == "BeginGetOr":
+        return f"BeginGetOr {step[1][1]}"
+    return name + (" refused" if step == ("MakeBucket", True) else "")
+
+
+def event_text(event):
+    match event:
+        case ("TakeId", refused, _):
+            return "TakeId"
+        case ("OfLocal", number, it):
+            return f"Local {number}: {step_text(it)}"
+        case ("OfWalk", number, name):
+            return f"walk {number}: {name}"
+        case ("BeginWalk",):
+            return "BeginWalk"
+        case (name, number):
+            return f"{name} {number}"
+
+
+def answer_text(told):
+    return told[0] if told == ("Refused",) else f"{told[0]} {told[1]}"
+
+
+def local_change(before, after):
+    """What a step made of a Local: what it has learnt, what it does, and what it answered."""
+    if before == after:
+        return ""
+    if before is None:
+        return f"id {after.id}"
+    if after is None:
+        return "lives no longer"
+    said = []
+    if after.learnt != before.learnt:
+        said.append(" ".join(str(it) for it in after.learnt))
+    if after.doing != before.doing:
+        gets, create = under_way(after.doing)
+        said += {
+            "Private": [f"own bucket {after.doing[-1]}"],
+            "Written": ["has written"],
+            "Started": [] if before.doing[0] == "Private" else [f"publishing {create and create[1]}"],
+            "Gets": [f"{gets} gets"] if gets else [],
+        }[after.doing[0]]
+    return ", ".join(said + ["answers " + answer_text(it) for it in after.answers[len(before.answers) :]])
+
+
+def walk_change(before, after):
+    """What a step made of a walk: where it is, and what it gave."""
+    if before == after:
+        return ""
+    if after is None:
+        return "ended"
+    gave = "" if before is None or after.given == before.given else f"gives {after.given[0][1]}, "
+    if model.is_complete(after):
+        return gave + "complete"
+    return gave + (f"looks at id {model.cursor(after)} next" if after.looks else f"at word {after.bucket}")
+
+
+def slot_text(slot):
+    return ("flag set" if slot.flag else "written") if slot.written is not None else "empty"
+
+
+def table_change(before, after):
+    """What a step changed of the table that threads share."""
+    said = []
+    for bucket, (old, new) in enumerate(zip(before.words, after.words)):
+        if old is None and new is not None:
+            said.append(f"word {bucket} names bucket {new.number}")
+        elif old is not None and new is not None:
+            changed = [k for k, (a, b) in enumerate(zip(old.slots, new.slots)) if a != b]
+            said += [f"slot {model.id_at(bucket, k)}: {slot_text(new.slots[k])}" for k in changed]
+    return ", ".join(said)
+
+
+def offer_text(core, event):
+    """What a call finds that comes second: the word names the first one's bucket and goes on naming it."""
+    if event[0] != "OfLocal" or event[2] != ("InstallBucket",):
+        return ""
+    bucket = bucket_of(live_local(core, event[1]).id)
+    named = core.table.words[bucket]
+    return "" if named is None else f"word {bucket} names bucket {named.number} still"
+
+
+def sheet_text(sheet):
+    held = " ".join(str(k) for k, it in enumerate(sheet.held) if it)
+    values = " ".join(f"{k}:{v}" for k, v in enumerate(sheet.values) if v is not None)
+    return f"held {held or 'none'}; " + (f"published {values}" if values else "nothing published")
+
+
+def race(seed):
+    """Three Locals are taken, the last two publish at ids of one bucket, and a walk passes: the events in some order."""
+    chance, core, begun = random.Random(seed), new_core(), set()
+    events = [("TakeId", False, 0)] * 3
+    core = model.run(core, events)
+    steps = [("LoadWord",), ("LookAtFlag",), ("MakeBucket", False), ("InstallBucket",), ("WriteValue",), ("SetFlag",), ("Reply",)]
+    while True:
+        menu = []
+        for n in (1, 2):
+            if n not in begun:
+                menu.append(("OfLocal", n, ("BeginGetOr", ("Ok", "-ab"[n]))))
+            else:
+                missing = live_local(core, n).learnt == ("Missing",)  # to load such a word again teaches nothing
+                menu += [it for it in (("OfLocal", n, step) for step in steps[missing:]) if model.is_enabled(core, it)]
+        it = live_walk(core, 0)
+        if not core.walks:
+            menu.append(("BeginWalk",))
+        elif it is not None:
+            menu.append(("EndWalk", 0) if model.is_complete(it) else ("OfWalk", 0, "Look" if it.looks else "Load"))
+        if not menu:
+            return events
+        event = chance.choice(menu)
+        if event[0] == "OfLocal" and event[2][0] == "BeginGetOr":
+            begun.add(event[1])
+        events.append(event)
+        core = model.happens(core, event)
+
+
+
+def show(seed):
+    """Prints a schedule as a table: a line for each event, with what it made of each Local, the walk and the table, and the sheet."""
+    core, rows = new_core(), [["event", "Local 0", "Local 1", "Local 2", "walk 0", "the table", "the sheet after it"]]
+    for event in race(seed):
+        after = model.happens(core, event)
+        locals_ = [local_change(live_local(core, n), live_local(after, n)) for n in range(3)]
+        it = walk_change(live_walk(core, 0), live_walk(after, 0))
+        changed = offer_text(core, event) or table_change(core.table, after.table)
+        rows.append([event_text(event), *locals_, it, changed, sheet_text(model.shadow(after))])
+        core = after
+    widths = [max(len(row[k]) for row in rows) for k in range(len(rows[0]))]
+    rows.insert(1, ["-" * it for it in widths])
+    for row in rows:
+        print("| " + " | ".join(it.ljust(width) for it, width in zip(row, widths)) + " |")
+
+
 def main():
     words = argparse.ArgumentParser(description=__doc__.splitlines()[0])
     words.add_argument("--seed", type=int, default=1)
@@ -534,8 +946,12 @@ def main():
     words.add_argument("--short", action="store_true", help="fewer schedules: under 20 seconds")
     words.add_argument("--events", type=int, default=250)
     words.add_argument("--buckets", type=int, default=3)
-    words.add_argument("--wrong", action="store_true", help="tries each wrong body in turn: under ten minutes")
+    words.add_argument("--wrong", action="store_true", help="tries each wrong body in turn")
+    words.add_argument("--show", type=int, metavar="SEED", help="print a schedule in which two Locals race for one bucket")
     given = words.parse_args()
+    if given.show is not None:
+        model.set_buckets(2)
+        return show(given.show)
     runs = given.runs or (100 if given.short else 2000)
     model.set_buckets(given.buckets)
     if given.wrong:

@@ -1,3 +1,4 @@
-//! What holds of a table over every schedule of atomic steps, as the contracts of two functions without parameters.
+//! What holds of a table over every schedule of atomic steps, as the contracts of four functions without parameters.
 
-pub use thread_local_schedule::{every_schedule, every_walk};
+pub use thread_local_schedule::{every_schedule, every_walk, every_word};
+pub use thread_local_story::four_locals;

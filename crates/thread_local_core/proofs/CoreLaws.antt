@@ -1,4 +1,4 @@
-use Rattle.std.proofs.Common.{◌≡◌, ℕ, ◌+◌, ◌-◌, ◌*◌, ◌^◌, ◌<◌, ◌≤◌, Bool, List, ◌++◌, append-nil, length, Option, Some, None, IsTrue, IfSome, refl, ap, sym, ◌∙◌, subst, arith, ⊎_elim, inl}
+use Rattle.std.proofs.Common.{◌≡◌, ℕ, ◌+◌, ◌-◌, ◌*◌, ◌^◌, ◌<◌, ◌≤◌, Bool, List, ◌++◌, append-nil, length, Option, Some, None, IsTrue, IfSome, refl, ap, sym, ◌∙◌, subst, arith, ⊎_elim}
 use Rattle.std.specs.Prelude.{option_map, Contains}
 use Rattle.std.proofs.lemmas.Bool.{cases_Bool, false≢true}
 use Rattle.thread_local_model.specs.Place.{index_of, id_at}
@@ -13,9 +13,9 @@ use Rattle.thread_local_model.proofs.AnswersLaws.{known_after_all}
 use Rattle.thread_local_steps.specs.Table.{Table, Bucket, slot_at, slot_of, published, stands, made_table}
 use Rattle.thread_local_model.specs.Learnt.{Missing}
 use Rattle.thread_local_steps.specs.Local.{Local, Doing, Private}
-use Rattle.thread_local_steps.specs.SharedWalk.{SharedWalk, is_complete}
-use Rattle.thread_local_steps.proofs.WalkStepLaws.{complete_cursor}
-use Rattle.thread_local_steps.specs.Fits.{IsWritten, AllWritten, IsLearnt, view_now, GoesOn, with_value_if}
+use Rattle.thread_local_walk_steps.specs.SharedWalk.{SharedWalk, is_complete}
+use Rattle.thread_local_walk_steps.proofs.WalkStepLaws.{complete_cursor}
+use Rattle.thread_local_steps.specs.Fits.{IsWritten, AllWritten, IsLearnt, view_now, with_value_if}
 use Rattle.thread_local_core.specs.Core.{Core, shadow, installed_slots, peak, private_slots}
 use Rattle.thread_local_core.specs.CoreFits.{CoreFits}
 use Rattle.thread_local_steps.proofs.TableLaws.{same_function, slot_at-made_table, published_unset}
@@ -32,11 +32,11 @@ pub absent : {V : Type 0} (values : ℕ → Option V) (n id : ℕ) → ((v : V) 
 absent values n id below l = none_if (values id) (λ v e. omega (arith, below v e))
 
 -- a flagged slot of what a word names holds what was written
-pub written_in : {V : Type 0} (word : Option (Bucket V)) (index : ℕ) → IsWritten (slot_of word index) → IfSome word (λ here. IsWritten (here.slots index))
+pub written_in : {V : Type 0} (word : Option (Bucket V)) (index : ℕ) → IsWritten (slot_of word index) → IfSome word (λ here. IsWritten (here.slot index))
 written_in None index w = tt
 written_in (Some here) index w = w
 
-pub flagged : {V : Type 0} (table : Table V) (bucket index : ℕ) → AllWritten table → index < 2 ^ bucket → IfSome (table.words bucket) (λ here. IsWritten (here.slots index))
+pub flagged : {V : Type 0} (table : Table V) (bucket index : ℕ) → AllWritten table → index < 2 ^ bucket → IfSome (table.words bucket) (λ here. IsWritten (here.slot index))
 unfolding slot_at
 flagged table bucket index written l =
     let at = place.place-id_at bucket index l in
@@ -87,10 +87,6 @@ loads core n walk h at =
     (λ t. let l = rw t at fits.loads in omega (arith, (fits.looking t).1))
     (λ f. let l = rw f at fits.loads in omega (arith, fits.buckets))
     (cases_Bool walk.looks)
-
--- a Local that an event leaves goes on
-pub same_goes_on : {V E : Type 0} (before then : Local V E) → Some before ≡ Some then → GoesOn before then
-same_goes_on before then e = let same : before ≡ then = cc in subst (GoesOn before) same (record { id = refl; start = refl; calls = inl refl })
 
 -- what is published moves as a step says
 pub published_moves : {V E : Type 0} (core : Core V E) (table : Table V) (id : ℕ) (set : Option V) → ((j : ℕ) → published table j ≡ with_value_if (published core.table) id set j)

@@ -49,3 +49,7 @@ if_mapped Q f (Some x) p h = h x p
 pub unwrapped : {A : Type 0} (P : A → Type 0) (o : Option A) (a : A) → IfSome o P → P a → P (unwrap_or o a)
 unwrapped P None a s h = h
 unwrapped P (Some x) a s h = s
+
+pub if_both : {A : Type 0} (P Q : A → Type 0) (o : Option A) → IfSome o P → IfSome o Q → IfSome o (λ x. P x × Q x)
+if_both P Q None p q = tt
+if_both P Q (Some x) p q = (p, q)

@@ -8,39 +8,23 @@ use Rattle.thread_local_model.specs.Capacity.{binary_digits, is_reserved}
 use Rattle.thread_local_model.specs.Held.{Manager, is_held, least, with_least, without}
 use Rattle.thread_local_steps.specs.Table.{Table, made_table, published}
 use Rattle.thread_local_steps.specs.Local.{Local, fresh_local}
-use Rattle.thread_local_steps.specs.SharedWalk.{SharedWalk}
-use Rattle.thread_local_steps.specs.OwnerWalk.{rewritten}
+use Rattle.thread_local_walk_steps.specs.SharedWalk.{SharedWalk}
+use Rattle.thread_local_walk_steps.specs.OwnerWalk.{rewritten}
 use Rattle.thread_local_steps.specs.Fits.{StepFits, with_value_if}
-use Rattle.thread_local_steps.specs.WalkFits.{WalkFits}
+use Rattle.thread_local_walk_steps.specs.WalkFits.{WalkFits}
 use Rattle.thread_local_steps.proofs.TableLaws.{published_stands, slot_at-made_table, stands-made_table, published_unset}
 use Rattle.thread_local_steps.proofs.LocalLaws.{other_fits}
-use Rattle.thread_local_steps.proofs.WalkStepLaws.{walk_carried}
-use Rattle.thread_local_steps.proofs.OwnerLaws.{published-rewritten, AllWritten-rewritten, stands-rewritten}
+use Rattle.thread_local_walk_steps.proofs.WalkStepLaws.{walk_carried}
+use Rattle.thread_local_walk_steps.proofs.OwnerLaws.{published-rewritten, AllWritten-rewritten, stands-rewritten}
 use Rattle.thread_local_core.specs.Core.{Core, made_core, shadow, first_view, put, none_below, is_alone, peak}
 use Rattle.thread_local_core.proofs.HeldCounts.{held_below}
+use Rattle.thread_local_core.proofs.PutLaws.{put_cases, put_same, put_other, still}
+use Rattle.thread_local_core.proofs.Numbers.{stepped-NumbersFit, made-NumbersFit}
+use Rattle.thread_local_steps.specs.Numbers.{NumbersGo}
 use Rattle.thread_local_core.specs.CoreFits.{ManagerFits, TableFits, LiveFits, LocalsFit, WalksFit, CoreFits}
 use Rattle.thread_local_model.proofs.PlaceLaws as place
 use Rattle.thread_local_model.proofs.CapacityLaws as reserve
 use Rattle.thread_local_model.proofs.HeldLaws as ids
-
--- what is found at a number once another thing was put at one
-pub put_cases : {A : Type 0} (all : ℕ → Option A) (number : ℕ) (it : Option A) (n : ℕ) (x : A) → put all number it n ≡ Some x
-    → ((number ≡ n) × (it ≡ Some x)) ⊎ ((number ≡ n → ⊥) × (all n ≡ Some x))
-put_cases all number it n x e =
-    ⊎_elim
-    (λ same. inl (same, sym (ap (λ b. cond b it (all n)) (eq-eqb number n same)) ∙ e))
-    (λ apart. inr (apart, sym (ap (λ b. cond b it (all n)) (ne_eqb number n apart)) ∙ e))
-    (cases_eq number n)
-
-pub put_same : {A : Type 0} (all : ℕ → Option A) (number : ℕ) (it : Option A) → put all number it number ≡ it
-put_same all number it = rw (eq-eqb number number refl) refl
-
-pub put_other : {A : Type 0} (all : ℕ → Option A) (number : ℕ) (it : Option A) (n : ℕ) → (number ≡ n → ⊥) → put all number it n ≡ all n
-put_other all number it n apart = rw (ne_eqb number n apart) refl
-
--- what is still there once one was taken away
-pub still : {A : Type 0} (all : ℕ → Option A) (number n : ℕ) (x : A) → put all number None n ≡ Some x → (number ≡ n → ⊥) × (all n ≡ Some x)
-still all number n x e = ⊎_elim (λ at. absurd cc) (λ apart. apart) (put_cases all number None n x e)
 
 -- the Locals once one is put in the place of another with its id
 pub locals_put : {V E : Type 0} (table : Table V) (held : List Bool) (capacity : ℕ) (locals : ℕ → Option (Local V E)) (taken number : ℕ) (local : Local V E)
@@ -176,8 +160,8 @@ step-TableFits core local set after t s h = record {
 }
 
 pub stepped-fits : {V E : Type 0} (core : Core V E) (number : ℕ) (local : Local V E) (set : Option V) (after : Table V × Local V E) → core.locals number ≡ Some local
-    → StepFits core.table local set after → CoreFits core → CoreFits (record core { table = after.0; locals = put core.locals number (Some after.1) })
-stepped-fits core number local set after at s h =
+    → StepFits core.table local set after → NumbersGo core.table local after → CoreFits core → CoreFits (record core { table = after.0; locals = put core.locals number (Some after.1) })
+stepped-fits core number local set after at s go h =
     let live = h.locals.each number local at in
     let held = core.manager.held in
     record {
@@ -187,14 +171,14 @@ stepped-fits core number local set after at s h =
           (⊎_elim (λ l. l) (λ above. let none = h.locals.none_from number above in absurd cc) (cases_lt number core.taken))
           (record {
             local_fits = s.fits;
-            id_held = subst (λ id. IsTrue (is_held held id)) (sym s.goes_on.id) live.id_held;
-            known = λ reserved. ap (λ view. view.known) s.goes_on.start ∙ live.known (subst (λ id. IsTrue (is_reserved core.capacity id)) s.goes_on.id reserved);
+            id_held = subst (λ id. IsTrue (is_held held id)) (sym s.same.id) live.id_held;
+            known = λ reserved. ap (λ view. view.known) s.same.start ∙ live.known (subst (λ id. IsTrue (is_reserved core.capacity id)) s.same.id reserved);
           })
           (λ n other apart e.
           let there = h.locals.each n other e in
           let differ : local.id ≡ other.id → ⊥ = λ same. apart (h.locals.unshared number n local other at e same) in (
             record { local_fits = other_fits core.table after.0 local.id other s.changes differ there.local_fits; id_held = there.id_held; known = there.known },
-            (λ same. differ (sym s.goes_on.id ∙ same)),
+            (λ same. differ (sym s.same.id ∙ same)),
           ))
           h.locals.unshared
           h.locals.none_from;
@@ -202,6 +186,7 @@ stepped-fits core number local set after at s h =
         each = λ n walk e. walk_carried core.table after.0 walk (λ id v p. s.shown id ∙ kept_value (published core.table) local.id set id v s.empty p) (h.walks.each n walk e);
         none_from = h.walks.none_from;
       };
+      numbers = stepped-NumbersFit core.table core.locals number local after at go h.numbers;
     }
 
 -- the walks once one is put in the place of another, or a further one begins
@@ -281,4 +266,5 @@ made_core-fits {V} {E} capacity extra l = record {
   };
   locals = record { each = λ n local e. cc; unshared = λ m n a b e f same. cc; none_from = λ n above. refl };
   walks = record { each = λ n walk e. cc; none_from = λ n above. refl };
+  numbers = made-NumbersFit capacity;
 }

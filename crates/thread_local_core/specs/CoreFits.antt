@@ -1,11 +1,13 @@
+use Rattle.std.specs.Prelude.{◌≢◌}
 use Rattle.std.proofs.Common.{◌≡◌, ℕ, ◌^◌, ◌-◌, ◌<◌, ◌≤◌, max, Bool, List, length, Option, Some, None, IsTrue}
 use Rattle.thread_local_model.specs.Held.{Manager, is_held}
 use Rattle.thread_local_model.specs.Capacity.{binary_digits, is_reserved}
 use Rattle.thread_local_steps.specs.Table.{Table, published, stands}
 use Rattle.thread_local_steps.specs.Local.{Local}
-use Rattle.thread_local_steps.specs.SharedWalk.{SharedWalk}
-use Rattle.thread_local_steps.specs.Fits.{AllWritten, LocalFits}
-use Rattle.thread_local_steps.specs.WalkFits.{WalkFits}
+use Rattle.thread_local_walk_steps.specs.SharedWalk.{SharedWalk}
+use Rattle.thread_local_steps.specs.Fits.{AllWritten, LocalFits, named}
+use Rattle.thread_local_steps.specs.Numbers.{own_number}
+use Rattle.thread_local_walk_steps.specs.WalkFits.{WalkFits}
 use Rattle.thread_local_core.specs.Core.{Core}
 
 -- The invariant of a core, kept by every event, in its parts.
@@ -42,8 +44,18 @@ pub record WalksFit {V : Type 0} (table : Table V) (walks : ℕ → Option (Shar
   pub each : (n : ℕ) (walk : SharedWalk V) → walks n ≡ Some walk → WalkFits table walk
   pub none_from : (n : ℕ) → walked ≤ n → walks n ≡ None
 
+-- the buckets that words name and those of calls' own have numbers that were given, and no two have one
+pub record NumbersFit {V E : Type 0} (table : Table V) (locals : ℕ → Option (Local V E)) : Type 0 where
+  pub named_made : (bucket number : ℕ) → named table bucket ≡ Some number → number < table.made
+  pub named_apart : (a b number : ℕ) → named table a ≡ Some number → named table b ≡ Some number → a ≡ b
+  pub own_made : (n : ℕ) (local : Local V E) (number : ℕ) → locals n ≡ Some local → own_number local.doing ≡ Some number → number < table.made
+  pub own_unnamed : (n : ℕ) (local : Local V E) (number bucket : ℕ) → locals n ≡ Some local → own_number local.doing ≡ Some number → named table bucket ≢ Some number
+  pub own_apart : (m n : ℕ) (a b : Local V E) (number : ℕ) → locals m ≡ Some a → locals n ≡ Some b
+      → own_number a.doing ≡ Some number → own_number b.doing ≡ Some number → m ≡ n
+
 pub record CoreFits {V E : Type 0} (core : Core V E) : Type 0 where
   pub manager : ManagerFits core.manager core.capacity
   pub table : TableFits core.table core.capacity (length core.manager.held)
   pub locals : LocalsFit core.table core.manager.held core.capacity core.locals core.taken
   pub walks : WalksFit core.table core.walks core.walked
+  pub numbers : NumbersFit core.table core.locals

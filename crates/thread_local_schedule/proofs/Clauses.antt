@@ -1,31 +1,33 @@
-use Rattle.std.proofs.Common.{◌≡◌, ℕ, ◌-◌, ◌*◌, ◌^◌, ◌<◌, ◌≤◌, ◌⊎◌, max, Bool, true, false, not, ◌&&◌, cond, List, [], ◌∷◌, Option, Some, None, is_some, IsTrue, IfSome, IsSomeAnd, refl, ap, sym, ◌∙◌, subst, arith, ⊎_elim}
-use Rattle.std.specs.Prelude.{unwrap_or, Contains, option_map}
-use Rattle.std.proofs.lemmas.Bool.{false≢true, and_parts, and_left, and_right, not-true, not-false, cases_Bool}
-use Rattle.thread_local_model.specs.Held.{least, held_count, HoldsAllBelow}
+use Rattle.std.proofs.Common.{◌≡◌, ℕ, ◌-◌, ◌*◌, ◌^◌, ◌<◌, ◌≤◌, ◌⊎◌, max, Bool, true, false, not, ◌&&◌, cond, List, [], ◌∷◌, Some, None, is_some, IsTrue, IsSomeAnd, refl, ap, sym, ◌∙◌, subst, arith}
+use Rattle.std.specs.Prelude.{unwrap_or, Contains}
+use Rattle.std.proofs.lemmas.Bool.{false≢true, and_parts, and_left, and_right, not-true, not-false, cond_both}
+use Rattle.thread_local_model.specs.Held.{is_held, least, held_count, HoldsAllBelow}
 use Rattle.thread_local_model.specs.Capacity.{is_reserved, binary_digits, reserved_slots}
-use Rattle.thread_local_model.specs.Walk.{walk}
 use Rattle.thread_local_model.specs.Sheet.{new_sheet, Clear, moved_if}
 use Rattle.thread_local_model.specs.Answers.{Refused}
 use Rattle.thread_local_model.proofs.AnswersLaws.{none_refused}
 use Rattle.thread_local_steps.specs.Local.{Local, MakeBucket, fresh_local, local_step}
-use Rattle.thread_local_steps.specs.SharedWalk.{SharedWalk, WalkStep, walk_step}
-use Rattle.thread_local_steps.specs.WalkFits.{Adds}
-use Rattle.thread_local_steps.proofs.WalkStepLaws.{walk_step-adds}
 use Rattle.thread_local_core.specs.Core.{Core, made_core, new_core, shadow, installed_slots, first_view, peak, is_alone}
-use Rattle.thread_local_schedule.specs.Events.{Event, TakeId, OfLocal, OfWalk, Owner, ClearTable, is_granted, take_id, step_of, step, is_enabled, happens, run, IntoIter, DropTable, owner_call, GiveBack, Forget, BeginWalk, EndWalk, OwnerCall, IterMut, of_walk, end_walk, with_walk}
-use Rattle.thread_local_schedule.specs.Schedule.{move, is_clear, is_refused, is_granted_take, newcomer, IsReached, most_held, publishing, move_of, NoneTaken}
+use Rattle.thread_local_schedule.specs.Events.{Event, TakeId, OfLocal, Owner, ClearTable, is_granted, take_id, step_of, step, is_enabled, happens, run, IntoIter, DropTable, owner_call, GiveBack, Forget, OwnerCall, IterMut}
+use Rattle.thread_local_schedule.specs.Schedule.{move, is_clear, is_refused, is_granted_take, newcomer, IsReached, most_after_all, publishing, move_of, NoneTaken}
 use Rattle.thread_local_core.specs.CoreFits.{CoreFits}
 use Rattle.thread_local_schedule.proofs.Kept.{happens-fits, run-fits}
 use Rattle.thread_local_schedule.proofs.EventSays.{Says, event_says}
-use Rattle.thread_local_core.proofs.Parts.{put_same, made_core-fits}
-use Rattle.thread_local_core.proofs.CoreLaws.{installed_bound, never_missing}
-use Rattle.thread_local_core.proofs.SheetLaws.{moved_capacity, settled, untaken, not_taken}
+use Rattle.thread_local_core.proofs.HeldCounts.{held_below}
+use Rattle.thread_local_core.proofs.PutLaws.{put_same}
+use Rattle.thread_local_core.proofs.Parts.{made_core-fits}
+use Rattle.thread_local_core.proofs.CoreLaws.{installed_bound, never_missing, none_if}
+use Rattle.thread_local_core.proofs.SheetLaws.{moved_capacity, settled, untaken}
 use Rattle.thread_local_schedule.proofs.Takes.{not_granted, within}
 use Rattle.thread_local_core.proofs.OptionLaws.{stays, some_step, some_and, none_enabled, makes_none}
 
 -- the invariant holds wherever a schedule leads
 pub fits : {V E : Type 0} (core : Core V E) → IsReached core → CoreFits core
 fits core r = subst CoreFits r.leads (run-fits (made_core r.capacity r.extra) r.events (made_core-fits r.capacity r.extra r.bounded))
+
+-- so each id that is given lies below the last
+pub ids : {V E : Type 0} (core : Core V E) (n : ℕ) (local : Local V E) → CoreFits core → core.locals n ≡ Some local → local.id < 2 ^ 63 - 1
+ids core n local h at = omega (arith, h.manager.peak_ids, held_below core.manager.held local.id (h.locals.each n local at).id_held)
 
 -- and each event says what it does
 pub says : {V E : Type 0} (core : Core V E) (event : Event V E) → IsReached core → Says core event (is_enabled core event) (happens core event)
@@ -68,12 +70,18 @@ pub start : {V E : Type 0} (core : Core V E) (event : Event V E) → IsTrue (is_
     → IsSomeAnd (newcomer core event) (λ local. (local.start ≡ first_view (shadow core) local.id) × (local.calls ≡ []))
 start core event t = some_and (newcomer core event) _ (λ local. (local.start ≡ first_view (shadow core) local.id) × (local.calls ≡ [])) (new_local core event t) (refl, refl)
 
+-- to be forgotten is no move, so the id stays held
+pub still_held : {V E : Type 0} (core : Core V E) (n : ℕ) (local : Local V E) → IsReached core → core.locals n ≡ Some local → IsTrue (is_held (shadow (happens core (Forget n))).held local.id)
+still_held core n local r at =
+    let same : shadow (happens core (Forget n)) ≡ shadow core = (says core (Forget n) r).moves ∙ cond_both (is_enabled core (Forget n)) None None (λ o. moved_if (shadow core) o ≡ shadow core) (λ _. refl) (λ _. refl) in
+    rw (ap (λ sheet. sheet.held) same) ((fits core r).locals.each n local at).id_held
+
 -- a clear that is enabled leaves the sheet of `new`
 pub cleared : {V E : Type 0} (core : Core V E) → IsReached core → IsTrue (is_enabled core (Owner ClearTable)) → shadow (happens core (Owner ClearTable)) ≡ new_sheet
 cleared core r t = (says core (Owner ClearTable) r).moves ∙ ap (λ b. moved_if (shadow core) (cond b (Some Clear) None)) t
 
 -- the peak goes as the number of held ids says
-pub peak_run : {V E : Type 0} (core : Core V E) (events : List (Event V E)) (most : ℕ) → CoreFits core → peak core ≡ most → peak (run core events) ≡ most_held most core events
+pub peak_run : {V E : Type 0} (core : Core V E) (events : List (Event V E)) (most : ℕ) → CoreFits core → peak core ≡ most → peak (run core events) ≡ most_after_all most core events
 unfolding run
 peak_run core [] most h e = e
 peak_run core (event ∷ events) most h e =
@@ -120,26 +128,10 @@ pub reserved : {V E : Type 0} (core : Core V E) (n : ℕ) (local : Local V E) (r
 reserved core n local refused h at here = and_left (is_enabled core (OfLocal n (MakeBucket refused))) refused (reserved_idle core n local refused h at here)
 
 pub reserved_answers : {V E : Type 0} (core : Core V E) (n : ℕ) (local : Local V E) → CoreFits core → core.locals n ≡ Some local → IsTrue (is_reserved core.capacity local.id)
-    → Contains local.answers Refused → ⊥
+    → Contains local.answered Refused → ⊥
 reserved_answers core n local h at here c =
     let live = h.locals.each n local at in
     none_refused local.start local.calls (live.known here) (subst (λ told. Contains told Refused) live.local_fits.answered c)
-
--- a step of a walk adds to its record as it says
-added : {V E : Type 0} (core : Core V E) (n : ℕ) (step : WalkStep) (o : Option (SharedWalk V)) (before after : SharedWalk V) → IfSome o (Adds core.table step before)
-    → IsTrue (is_some (option_map (with_walk core n) o)) → (unwrap_or (option_map (with_walk core n) o) core).walks n ≡ Some after → Adds core.table step before after
-added core n step None before after a t e = absurd (false≢true t)
-added core n step (Some walk) before after a t e =
-    let put : Some walk ≡ Some after = sym (put_same core.walks n (Some walk)) ∙ e in
-    let same : walk ≡ after = cc in
-    subst (Adds core.table step before) same a
-
-pub adds : {V E : Type 0} (core : Core V E) (n : ℕ) (step : WalkStep) (before after : SharedWalk V) → CoreFits core → IsTrue (is_enabled core (OfWalk n step))
-    → core.walks n ≡ Some before → (happens core (OfWalk n step)).walks n ≡ Some after → Adds core.table step before after
-adds core n step before after h t at e =
-    added core n step (walk_step core.table before step) before after (walk_step-adds core.table before step (h.walks.each n before at))
-    (rw at at (enabled_step core (OfWalk n step) t))
-    (rw at at (ap (λ later. later.walks n) (sym (goes core (OfWalk n step) t)) ∙ e))
 
 -- a table that is consumed or dropped has ended
 ends : {V E : Type 0} (core : Core V E) (alone : Bool) → (IsTrue (is_some (owner_call core alone IntoIter)) → (unwrap_or (owner_call core alone IntoIter) core).ended ≡ true)
@@ -170,43 +162,16 @@ still_new core (GiveBack number) none e = settled (is_enabled core (GiveBack num
 still_new core (Owner call) none e = settled (is_enabled core (Owner call)) (move_of core (Owner call)) (owner_settled core call)
 still_new core event none e = settled (is_enabled core event) None refl
 
--- and no event but a take makes a Local
-owner_locals : {V E : Type 0} (core : Core V E) (n : ℕ) (alone : Bool) (call : OwnerCall V) → core.locals n ≡ None → (unwrap_or (owner_call core alone call) core).locals n ≡ None
-owner_locals core n false call none = none
-owner_locals core n true (IterMut others) none = none
-owner_locals core n true ClearTable none = refl
-owner_locals core n true _ none = none
-
-mapped_locals : {V E : Type 0} (core : Core V E) (n number : ℕ) (o : Option (SharedWalk V)) → core.locals n ≡ None → (unwrap_or (option_map (with_walk core number) o) core).locals n ≡ None
-mapped_locals core n number None none = none
-mapped_locals core n number (Some walk) none = none
-
-walk_locals : {V E : Type 0} (core : Core V E) (n number : ℕ) (step : WalkStep) (o : Option (SharedWalk V)) → core.locals n ≡ None → (unwrap_or (of_walk core number step o) core).locals n ≡ None
-walk_locals core n number step None none = none
-walk_locals core n number step (Some walk) none = mapped_locals core n number (walk_step core.table walk step) none
-
-end_locals : {V E : Type 0} (core : Core V E) (n number : ℕ) (o : Option (SharedWalk V)) → core.locals n ≡ None → (unwrap_or (end_walk core number o) core).locals n ≡ None
-end_locals core n number None none = none
-end_locals core n number (Some walk) none = none
-
-no_local : {V E : Type 0} (core : Core V E) (event : Event V E) (n : ℕ) → ((n : ℕ) → core.locals n ≡ None) → IsTrue (is_enabled core event) → is_granted_take core event ≡ false
-    → (unwrap_or (step_of core event) core).locals n ≡ None
-no_local core (TakeId refused growth) n none t e = rw (not_taken (is_enabled core (TakeId refused growth)) (is_granted core.manager refused) t e) (none n)
-no_local core (OfLocal number step) n none t e = rw (none number) (none n)
-no_local core (GiveBack number) n none t e = rw (none number) (none n)
-no_local core (Forget number) n none t e = rw (none number) (none n)
-no_local core BeginWalk n none t e = none n
-no_local core (OfWalk number step) n none t e = walk_locals core n number step (core.walks number) (none n)
-no_local core (EndWalk number) n none t e = end_locals core n number (core.walks number) (none n)
-no_local core (Owner call) n none t e = owner_locals core n (is_alone core) call (none n)
+-- a Local comes by a take that is granted, and by nothing else
+pub comes : {V E : Type 0} (core : Core V E) (event : Event V E) (n : ℕ) (local : Local V E) → CoreFits core → core.locals n ≡ None → (happens core event).locals n ≡ Some local
+    → IsTrue (is_granted_take core event) × (n ≡ core.taken)
+comes core event n local h none at =
+    let says = (event_says core event h).comes n local none at in
+    (rw (says.1, says.0, says.2) refl, says.3)
 
 fresh_kept : {V E : Type 0} (core : Core V E) (event : Event V E) → CoreFits core → IsFresh core → is_granted_take core event ≡ false → IsFresh (happens core event)
 fresh_kept core event h f e = record {
-  none = λ n.
-      ⊎_elim
-      (λ t. ap (λ after. after.locals n) (goes core event t) ∙ no_local core event n f.none t e)
-      (λ off. ap (λ after. after.locals n) (idle core event off) ∙ f.none n)
-      (cases_Bool (is_enabled core event));
+  none = λ n. none_if ((happens core event).locals n) (λ local at. false≢true (sym e ∙ (comes core event n local h (f.none n) at).0));
   sheet = (event_says core event h).moves ∙ ap (λ sheet. moved_if sheet (move core event)) f.sheet ∙ still_new core event f.none e;
 }
 

@@ -1,4 +1,4 @@
-use Rattle.std.proofs.Common.{◌≡◌, ℕ, suc, max, Bool, true, false, ◌&&◌, cond, [], length, Option, Some, None, is_some, IsTrue, IfSome, refl, ap, sym, ◌∙◌, subst, arith, ⊎_elim}
+use Rattle.std.proofs.Common.{◌≡◌, ℕ, suc, max, Bool, true, false, not, ◌&&◌, cond, [], length, Option, Some, None, is_some, IsTrue, IfSome, refl, ap, sym, ◌∙◌, arith, ⊎_elim}
 use Rattle.std.specs.Prelude.{option_map, unwrap_or}
 use Rattle.std.proofs.lemmas.Option.{none-some}
 use Rattle.std.proofs.lemmas.Bool.{cond_both, false≢true, eqb-false}
@@ -6,21 +6,22 @@ use Rattle.thread_local_model.specs.Held.{held_count, without}
 use Rattle.thread_local_model.specs.Sheet.{moved_if, IsAllowed}
 use Rattle.thread_local_steps.specs.Table.{Table, published}
 use Rattle.thread_local_steps.specs.Local.{Local, LocalStep, local_step}
-use Rattle.thread_local_steps.specs.SharedWalk.{SharedWalk, fresh_walk, WalkStep, walk_step}
-use Rattle.thread_local_steps.specs.OwnerWalk.{rewritten}
-use Rattle.thread_local_steps.specs.Fits.{StepFits, GoesOn, value_set, named}
+use Rattle.thread_local_walk_steps.specs.SharedWalk.{SharedWalk, fresh_walk, WalkStep, walk_step}
+use Rattle.thread_local_walk_steps.specs.OwnerWalk.{rewritten}
+use Rattle.thread_local_steps.specs.Fits.{StepFits, value_set, named}
 use Rattle.thread_local_steps.proofs.TableLaws.{same_function, named_stands}
 use Rattle.thread_local_steps.proofs.LocalLaws.{local_step-fits}
-use Rattle.thread_local_steps.proofs.OwnerLaws.{published-rewritten}
+use Rattle.thread_local_walk_steps.proofs.OwnerLaws.{published-rewritten}
 use Rattle.thread_local_core.specs.Core.{Core, shadow, put, is_alone}
 use Rattle.thread_local_schedule.specs.Events.{Event, TakeId, OfLocal, GiveBack, Forget, BeginWalk, OfWalk, EndWalk, Owner, OwnerCall, IterMut, Slots, ClearTable, IntoIter, DropTable, is_granted, take_id, with_step, of_local, give_back, forget, of_walk, end_walk, owner_call, step_of, step, is_enabled, happens, is_idle, without_local, given_to, with_walk}
-use Rattle.thread_local_schedule.specs.Schedule.{move_of, is_exclusive, is_clear, is_of}
+use Rattle.thread_local_schedule.specs.Schedule.{move_of, is_take, refuses, is_exclusive, is_clear, is_of}
 use Rattle.thread_local_core.proofs.HeldCounts.{peak_counts, held_count-le}
 use Rattle.thread_local_core.specs.CoreFits.{CoreFits}
-use Rattle.thread_local_core.proofs.Parts.{put_cases, still, kept_value, no_locals, put_other}
-use Rattle.thread_local_core.proofs.CoreLaws.{same_goes_on, published_moves, publishing_allowed, none_made}
+use Rattle.thread_local_core.proofs.PutLaws.{put_cases, still, put_other}
+use Rattle.thread_local_core.proofs.Parts.{kept_value, no_locals}
+use Rattle.thread_local_core.proofs.CoreLaws.{published_moves, publishing_allowed, none_made}
 use Rattle.thread_local_core.proofs.OptionLaws.{if_enabled, if_mapped}
-use Rattle.thread_local_steps.proofs.WalkStepLaws.{walk_step-fits}
+use Rattle.thread_local_walk_steps.proofs.WalkStepLaws.{walk_step-fits}
 use Rattle.thread_local_model.proofs.HeldLaws as ids
 
 -- what an event that is enabled says of the core before it and after it
@@ -29,7 +30,7 @@ pub record EventSays {V E : Type 0} (core : Core V E) (event : Event V E) (after
   pub allowed : IfSome (move_of core event) (IsAllowed (shadow core))
   pub stays : is_exclusive event ≡ false → (id : ℕ) (v : V) → published core.table id ≡ Some v → published after.table id ≡ Some v
   pub names : is_exclusive event ≡ false → (bucket k : ℕ) → named core.table bucket ≡ Some k → named after.table bucket ≡ Some k
-  pub goes_on : (n : ℕ) (before then : Local V E) → core.locals n ≡ Some before → after.locals n ≡ Some then → GoesOn before then
+  pub comes : (n : ℕ) (local : Local V E) → core.locals n ≡ None → after.locals n ≡ Some local → IsTrue (is_take event) × IsTrue (not (refuses core event)) × (n ≡ core.taken)
   pub others : (n : ℕ) (local : Local V E) → is_of n event ≡ false → core.locals n ≡ Some local → after.locals n ≡ Some local
   pub peak : length after.manager.held ≡ cond (is_clear event) 0 (max (length core.manager.held) (held_count after.manager.held))
 
@@ -42,7 +43,7 @@ leaves core event after same none table manager clear locals others = record {
   allowed = rw none tt;
   stays = λ _ id v e. ap (λ t. published t id) table ∙ e;
   names = λ _ bucket k e. ap (λ t. named t bucket) table ∙ e;
-  goes_on = λ n before then e f. same_goes_on before then (sym e ∙ locals n then f);
+  comes = λ n local none at. absurd (none-some local (sym none ∙ locals n local at));
   others = others;
   peak = rw (clear, manager) (omega (arith, held_count-le core.manager.held));
 }
@@ -55,11 +56,11 @@ take_id-says core refused growth true e h = record {
   allowed = rw e tt;
   stays = λ _ id v p. p;
   names = λ _ bucket k p. p;
-  goes_on = λ n before then p q.
+  comes = λ n local none at.
       ⊎_elim
-      (λ at. let none = h.locals.none_from core.taken (omega arith) in let same = ap core.locals at.0 in cc)
-      (λ apart. same_goes_on before then (sym p ∙ apart.1))
-      (put_cases core.locals core.taken _ n then q);
+      (λ here. (refl, rw e refl, sym here.0))
+      (λ apart. absurd (none-some local (sym none ∙ apart.1)))
+      (put_cases core.locals core.taken _ n local at);
   others = λ n local _ at. put_other core.locals core.taken _ n (λ same. none-some local (sym (h.locals.none_from core.taken (omega arith)) ∙ ap core.locals same ∙ at)) ∙ at;
   peak = peak_counts core.manager.held;
 }
@@ -76,15 +77,11 @@ stepped-says core number step local after at s h =
       allowed = rw at (publishing_allowed (shadow core) local.id set (h.locals.each number local at).id_held s.empty);
       stays = λ _ id v e. s.shown id ∙ kept_value (published core.table) local.id set id v s.empty e;
       names = λ _ bucket k e. (s.changes.naming bucket (named_stands core.table bucket k e)).1 ∙ e;
-      goes_on = λ n before then e f.
+      comes = λ n other none e.
           ⊎_elim
-          (λ here.
-          let same : Some local ≡ Some before = sym at ∙ ap core.locals here.0 ∙ e in
-          let first : local ≡ before = cc in
-          let last : after.1 ≡ then = (let here_too = here.1 in cc) in
-          subst (λ b. GoesOn b then) first (subst (GoesOn local) last s.goes_on))
-          (λ apart. same_goes_on before then (sym e ∙ apart.1))
-          (put_cases core.locals number (Some after.1) n then f);
+          (λ here. absurd (none-some local (sym none ∙ ap core.locals (sym here.0) ∙ at)))
+          (λ apart. absurd (none-some other (sym none ∙ apart.1)))
+          (put_cases core.locals number (Some after.1) n other e);
       others = λ n other f e. put_other core.locals number (Some after.1) n (eqb-false number n f) ∙ e;
       peak = omega (arith, held_count-le core.manager.held);
     }
@@ -107,7 +104,7 @@ given_back-says core number local at h =
       allowed = rw at live.id_held;
       stays = λ _ id v e. e;
       names = λ _ bucket k e. e;
-      goes_on = λ n before then e f. same_goes_on before then (sym e ∙ (still core.locals number n then f).1);
+      comes = λ n other none e. absurd (none-some other (sym none ∙ (still core.locals number n other e).1));
       others = λ n other f e. put_other core.locals number None n (eqb-false number n f) ∙ e;
       peak = omega (arith, ids.length-without core.manager.held local.id, held_count-le (without core.manager.held local.id));
     }
@@ -137,9 +134,6 @@ end_walk-says core number None = tt
 end_walk-says core number (Some walk) = leaves core (EndWalk number) (record core { walks = put core.walks number None }) refl refl refl refl refl (λ n then f. f) (λ n local _ at. at)
 
 -- an owner's call, where no Local lives
-no_local_goes_on : {V E : Type 0} (core : Core V E) (n : ℕ) (before then : Local V E) → CoreFits core → IsTrue (is_alone core) → core.locals n ≡ Some before → GoesOn before then
-no_local_goes_on core n before then h e at = absurd (none-some before (sym (no_locals core h e n) ∙ at))
-
 owner_call-says : {V E : Type 0} (core : Core V E) (alone : Bool) (call : OwnerCall V) → is_alone core ≡ alone → CoreFits core → IfSome (owner_call core alone call) (EventSays core (Owner call))
 owner_call-says core false call e h = tt
 owner_call-says core true (IterMut others) e h = record {
@@ -148,7 +142,7 @@ owner_call-says core true (IterMut others) e h = record {
   allowed = tt;
   stays = λ ex. absurd (false≢true (sym ex));
   names = λ ex. absurd (false≢true (sym ex));
-  goes_on = λ n before then at f. no_local_goes_on core n before then h e at;
+  comes = λ n local none at. absurd (none-some local (sym none ∙ at));
   others = λ n local _ at. absurd (none-some local (sym (no_locals core h e n) ∙ at));
   peak = omega (arith, held_count-le core.manager.held);
 }
@@ -158,7 +152,7 @@ owner_call-says core true ClearTable e h = record {
   allowed = tt;
   stays = λ ex. absurd (false≢true (sym ex));
   names = λ ex. absurd (false≢true (sym ex));
-  goes_on = λ n before then at f. no_local_goes_on core n before then h e at;
+  comes = λ n local none at. cc;
   others = λ n local _ at. absurd (none-some local (sym (no_locals core h e n) ∙ at));
   peak = refl;
 }
@@ -181,7 +175,8 @@ pub record Says {V E : Type 0} (core : Core V E) (event : Event V E) (enabled : 
   pub allowed : IfSome (cond enabled (move_of core event) None) (IsAllowed (shadow core))
   pub stays : is_exclusive event ≡ false → (id : ℕ) (v : V) → published core.table id ≡ Some v → published after.table id ≡ Some v
   pub names : is_exclusive event ≡ false → (bucket k : ℕ) → named core.table bucket ≡ Some k → named after.table bucket ≡ Some k
-  pub goes_on : (n : ℕ) (before then : Local V E) → core.locals n ≡ Some before → after.locals n ≡ Some then → GoesOn before then
+  pub comes : (n : ℕ) (local : Local V E) → core.locals n ≡ None → after.locals n ≡ Some local
+      → IsTrue enabled × IsTrue (is_take event) × IsTrue (not (refuses core event)) × (n ≡ core.taken)
   pub others : (n : ℕ) (local : Local V E) → is_of n event ≡ false → core.locals n ≡ Some local → after.locals n ≡ Some local
   pub peak : length after.manager.held ≡ cond (enabled && is_clear event) 0 (max (length core.manager.held) (held_count after.manager.held))
 
@@ -191,11 +186,11 @@ says_of core event None s = record {
   allowed = tt;
   stays = λ _ id v p. p;
   names = λ _ bucket k p. p;
-  goes_on = λ n before then p f. same_goes_on before then (sym p ∙ f);
+  comes = λ n local none at. absurd (none-some local (sym none ∙ at));
   others = λ n local _ at. at;
   peak = omega (arith, held_count-le core.manager.held);
 }
-says_of core event (Some after) s = record { moves = s.moves; allowed = s.allowed; stays = s.stays; names = s.names; goes_on = s.goes_on; others = s.others; peak = s.peak }
+says_of core event (Some after) s = record { moves = s.moves; allowed = s.allowed; stays = s.stays; names = s.names; comes = λ n local none at. (let t = s.comes n local none at in (refl, t.0, t.1, t.2)); others = s.others; peak = s.peak }
 
 pub event_says : {V E : Type 0} (core : Core V E) (event : Event V E) → CoreFits core → Says core event (is_enabled core event) (happens core event)
 unfolding is_enabled happens step

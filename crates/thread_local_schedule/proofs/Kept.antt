@@ -3,17 +3,20 @@ use Rattle.std.proofs.lemmas.Bool.{cond_both, ne_eqb, false≢true}
 use Rattle.std.specs.Prelude.{unwrap_or}
 use Rattle.thread_local_model.specs.Held.{is_held, least, with_least, without}
 use Rattle.thread_local_steps.specs.Local.{Local, LocalStep, fresh_local, local_step}
-use Rattle.thread_local_steps.specs.SharedWalk.{SharedWalk, fresh_walk, WalkStep, walk_step}
-use Rattle.thread_local_steps.specs.Fits.{value_set}
+use Rattle.thread_local_walk_steps.specs.SharedWalk.{SharedWalk, fresh_walk, WalkStep, walk_step}
+use Rattle.thread_local_steps.specs.Fits.{StepFits, value_set}
+use Rattle.thread_local_steps.specs.Numbers.{NumbersGo}
 use Rattle.thread_local_steps.proofs.LocalLaws.{local_step-fits}
-use Rattle.thread_local_steps.proofs.WalkStepLaws.{walk_step-fits, fresh_walk-fits}
+use Rattle.thread_local_steps.proofs.NumbersLaws.{local_step-numbers}
+use Rattle.thread_local_core.proofs.Numbers.{taken-NumbersFit, removed-NumbersFit, rewritten-NumbersFit}
+use Rattle.thread_local_walk_steps.proofs.WalkStepLaws.{walk_step-fits, fresh_walk-fits}
 use Rattle.thread_local_core.specs.Core.{Core, shadow, first_view, is_alone}
 use Rattle.thread_local_schedule.specs.Events.{Event, TakeId, OfLocal, GiveBack, Forget, BeginWalk, OfWalk, EndWalk, Owner, OwnerCall, IterMut, Slots, ClearTable, IntoIter, DropTable, is_exhausted, is_granted, take_id, with_step, of_local, give_back, forget, begin_walk, of_walk, end_walk, owner_call, step_of, step, happens, run, is_idle, without_local, given_to, with_walk}
 use Rattle.thread_local_core.proofs.HeldCounts.{peak_after}
 use Rattle.thread_local_core.specs.CoreFits.{CoreFits}
 use Rattle.thread_local_core.proofs.Parts.{locals_put, locals_removed, given-ManagerFits, peak-TableFits, held_stays, least_held, fresh-LiveFits, stepped-fits, walks_put, came_before, no_locals, no_walks, rewritten-TableFits, made_core-fits}
 use Rattle.thread_local_schedule.proofs.Takes.{granted_some, taken-ManagerFits}
-use Rattle.thread_local_core.proofs.OptionLaws.{if_enabled, unwrapped, if_mapped}
+use Rattle.thread_local_core.proofs.OptionLaws.{if_enabled, unwrapped, if_mapped, if_both}
 use Rattle.thread_local_model.proofs.HeldLaws as ids
 
 pub take_id-fits : {V E : Type 0} (core : Core V E) (growth : ℕ) → is_exhausted core.manager ≡ false → CoreFits core → CoreFits (take_id core growth)
@@ -34,6 +37,7 @@ take_id-fits core growth some h =
           h.locals.unshared
           (λ n above. h.locals.none_from n (omega arith));
       walks = h.walks;
+      numbers = taken-NumbersFit core.table core.locals core.taken (least held) (first_view (shadow core) (least held)) h.numbers;
     }
 
 -- a step of a Local
@@ -42,8 +46,8 @@ of_local-fits : {V E : Type 0} (core : Core V E) (number : ℕ) (step : LocalSte
 of_local-fits core number step None at h = tt
 of_local-fits core number step (Some local) at h =
     if_mapped CoreFits (with_step core number) (local_step core.table local step)
-    (local_step-fits core.table local step h.table.written (h.locals.each number local at).local_fits)
-    (λ after s. stepped-fits core number local (value_set local.doing step) after at s h)
+    (if_both (StepFits core.table local (value_set local.doing step)) (NumbersGo core.table local) (local_step core.table local step) (local_step-fits core.table local step h.table.written (h.locals.each number local at).local_fits) (local_step-numbers core.table local step))
+    (λ after s. stepped-fits core number local (value_set local.doing step) after at s.0 s.1 h)
 
 -- a Local that gives its id back, or is forgotten
 given_back-fits : {V E : Type 0} (core : Core V E) (number : ℕ) (local : Local V E) → core.locals number ≡ Some local → CoreFits core
@@ -66,6 +70,7 @@ given_back-fits core number local at h =
           h.locals.unshared
           h.locals.none_from;
       walks = h.walks;
+      numbers = removed-NumbersFit core.table core.locals number h.numbers;
     }
 
 forgotten-fits : {V E : Type 0} (core : Core V E) (number : ℕ) → CoreFits core → CoreFits (without_local core number)
@@ -74,6 +79,7 @@ forgotten-fits core number h = record {
   table = h.table;
   locals = locals_removed core.table core.manager.held core.capacity core.locals core.taken number (λ n other apart e. h.locals.each n other e) h.locals.unshared h.locals.none_from;
   walks = h.walks;
+  numbers = removed-NumbersFit core.table core.locals number h.numbers;
 }
 
 give_back-fits : {V E : Type 0} (core : Core V E) (number : ℕ) (o : Option (Local V E)) → core.locals number ≡ o → CoreFits core → IfSome (give_back core number o) CoreFits
@@ -91,6 +97,7 @@ begin_walk-fits core h = record {
   table = h.table;
   locals = h.locals;
   walks = walks_put core.table core.walks core.walked (suc core.walked) core.walked (Some fresh_walk) (omega arith) (omega arith) (fresh_walk-fits core.table) h.walks;
+  numbers = h.numbers;
 }
 
 of_walk-fits : {V E : Type 0} (core : Core V E) (number : ℕ) (step : WalkStep) (o : Option (SharedWalk V)) → core.walks number ≡ o → CoreFits core → IfSome (of_walk core number step o) CoreFits
@@ -102,6 +109,7 @@ of_walk-fits core number step (Some walk) at h =
       table = h.table;
       locals = h.locals;
       walks = walks_put core.table core.walks core.walked core.walked number (Some after) (omega arith) (came_before core.table core.walks core.walked number walk h.walks at) fits h.walks;
+      numbers = h.numbers;
     })
 
 end_walk-fits : {V E : Type 0} (core : Core V E) (number : ℕ) (o : Option (SharedWalk V)) → core.walks number ≡ o → CoreFits core → IfSome (end_walk core number o) CoreFits
@@ -111,6 +119,7 @@ end_walk-fits core number (Some walk) at h = record {
   table = h.table;
   locals = h.locals;
   walks = walks_put core.table core.walks core.walked core.walked number None (omega arith) (came_before core.table core.walks core.walked number walk h.walks at) tt h.walks;
+  numbers = h.numbers;
 }
 
 owner_call-fits : {V E : Type 0} (core : Core V E) (alone : Bool) (call : OwnerCall V) → is_alone core ≡ alone → CoreFits core → IfSome (owner_call core alone call) CoreFits
@@ -124,11 +133,12 @@ owner_call-fits core true (IterMut others) e h = record {
     none_from = h.locals.none_from;
   };
   walks = record { each = λ n walk at. let none = no_walks core h e n in absurd cc; none_from = h.walks.none_from };
+  numbers = rewritten-NumbersFit core.table others core.locals h.numbers;
 }
 owner_call-fits core true Slots e h = h
 owner_call-fits core true ClearTable e h = made_core-fits 0 0 (omega arith)
-owner_call-fits core true IntoIter e h = record { manager = h.manager; table = h.table; locals = h.locals; walks = h.walks }
-owner_call-fits core true DropTable e h = record { manager = h.manager; table = h.table; locals = h.locals; walks = h.walks }
+owner_call-fits core true IntoIter e h = record { manager = h.manager; table = h.table; locals = h.locals; walks = h.walks; numbers = h.numbers }
+owner_call-fits core true DropTable e h = record { manager = h.manager; table = h.table; locals = h.locals; walks = h.walks; numbers = h.numbers }
 
 take-fits : {V E : Type 0} (core : Core V E) (refused : Bool) (growth : ℕ) → CoreFits core → CoreFits (cond (is_granted core.manager refused) (take_id core growth) core)
 take-fits core refused growth h =

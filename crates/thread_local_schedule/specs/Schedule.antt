@@ -4,7 +4,7 @@ use Rattle.thread_local_model.specs.Sheet.{Move, Take, Give, Publish, Rewrite, C
 use Rattle.thread_local_steps.specs.Local.{Local, LocalStep, MakeBucket}
 use Rattle.thread_local_steps.specs.Fits.{value_set}
 use Rattle.thread_local_core.specs.Core.{Core, made_core}
-use Rattle.thread_local_schedule.specs.Events.{Event, TakeId, OfLocal, GiveBack, Forget, Owner, IterMut, ClearTable, is_granted, is_enabled, happens, run}
+use Rattle.thread_local_schedule.specs.Events.{Event, TakeId, OfLocal, GiveBack, Forget, OfWalk, EndWalk, Owner, IterMut, ClearTable, IntoIter, DropTable, is_granted, is_enabled, happens, run}
 
 -- what a step of a Local publishes
 abbrev pub publishing : {V E : Type 0} → Option (Local V E) → LocalStep V E → Option (Move V)
@@ -40,12 +40,29 @@ abbrev pub is_clear : {V E : Type 0} → Event V E → Bool
 is_clear (Owner ClearTable) = true
 is_clear event = false
 
+-- whether an event ends the table: `into_iter`, and the drop
+abbrev pub ends_table : {V E : Type 0} → Event V E → Bool
+ends_table (Owner IntoIter) = true
+ends_table (Owner DropTable) = true
+ends_table event = false
+
 -- whether an event is a step, the give back or the forgetting of this Local
 abbrev pub is_of : {V E : Type 0} → ℕ → Event V E → Bool
 is_of n (OfLocal number step) = number == n
 is_of n (GiveBack number) = number == n
 is_of n (Forget number) = number == n
 is_of n event = false
+
+-- whether an event is a step or the end of this walk
+abbrev pub is_of_walk : {V E : Type 0} → ℕ → Event V E → Bool
+is_of_walk n (OfWalk number step) = number == n
+is_of_walk n (EndWalk number) = number == n
+is_of_walk n event = false
+
+-- no Local lives, and no walk is under way
+pub record IsUnused {V E : Type 0} (core : Core V E) : Type 0 where
+  pub locals : (n : ℕ) → core.locals n ≡ None
+  pub walks : (n : ℕ) → core.walks n ≡ None
 
 -- whether an enabled event ends in a refusal: a take that gets no id, a bucket that gets no memory
 abbrev pub refuses : {V E : Type 0} → Core V E → Event V E → Bool
@@ -78,10 +95,14 @@ abbrev pub most_after : {V E : Type 0} → ℕ → Core V E → Event V E → �
 most_after most core event =
     if is_enabled core event && is_clear event then 0 else max most (held_count (happens core event).manager.held)
 
--- the most ids held at one moment since the table was made or cleared: this many before these events
-abbrev pub most_held : {V E : Type 0} → ℕ → Core V E → List (Event V E) → ℕ
-most_held most core [] = most
-most_held most core (event ∷ events) = most_held (most_after most core event) (happens core event) events
+-- the most ids held at one moment, once these events have come: this many before them
+abbrev pub most_after_all : {V E : Type 0} → ℕ → Core V E → List (Event V E) → ℕ
+most_after_all most core [] = most
+most_after_all most core (event ∷ events) = most_after_all (most_after most core event) (happens core event) events
+
+-- the most ids held at one moment since a table in which none was held was made, or cleared by these events
+abbrev pub most_held : {V E : Type 0} → Core V E → List (Event V E) → ℕ
+most_held core events = most_after_all 0 core events
 
 -- each take of a schedule comes while fewer than this many ids are held
 abbrev pub TakesBelow : {V E : Type 0} → ℕ → Core V E → List (Event V E) → Type 0

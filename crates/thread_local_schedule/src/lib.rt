@@ -7,4 +7,4 @@
 
 pub mod schedule;
 
-pub use schedule::{every_schedule, every_walk};
+pub use schedule::{every_schedule, every_walk, every_word};

@@ -1,19 +1,20 @@
-ghost use Rattle.std.specs.Prelude.{◌≡◌, ℕ, ◌+◌, ◌-◌, ◌*◌, ◌^◌, ◌<◌, ◌≤◌, ◌⊎◌, max, Bool, true, false, List, [], ◌∷◌, length, map, Contains, Option, Some, None, slice_get, IsTrue, IfSome, IsSomeAnd};
+ghost use Rattle.std.specs.Prelude.{◌≡◌, ◌≢◌, ℕ, ◌+◌, ◌-◌, ◌*◌, ◌^◌, ◌<◌, ◌≤◌, ◌⊎◌, max, Bool, true, false, List, [], ◌∷◌, length, map, Contains, Option, Some, None, slice_get, IsTrue, IfSome, IsSomeAnd};
 ghost use Rattle.std.specs.List.Sorted.{IsStrictlyIncreasing};
 ghost use Rattle.thread_local_model.specs.Held.{is_held, least, held_count, HoldsAllBelow};
 ghost use Rattle.thread_local_model.specs.Walk.{walk};
 ghost use Rattle.thread_local_model.specs.Capacity.{is_reserved};
 ghost use Rattle.thread_local_model.specs.Sheet.{new_sheet, moved_if, IsAllowed};
 ghost use Rattle.thread_local_model.specs.Answers.{Found, Answered, Refused, answers};
-ghost use Rattle.thread_local_steps.specs.Local.{Local, MakeBucket};
-ghost use Rattle.thread_local_steps.specs.SharedWalk.{SharedWalk, WalkStep, is_complete};
-ghost use Rattle.thread_local_steps.specs.OwnerWalk.{owner_walk};
-ghost use Rattle.thread_local_steps.specs.Fits.{IsWritten, GoesOn, named};
-ghost use Rattle.thread_local_steps.specs.WalkFits.{Adds};
+ghost use Rattle.thread_local_steps.specs.Local.{Local, LocalStep, MakeBucket};
+ghost use Rattle.thread_local_walk_steps.specs.SharedWalk.{SharedWalk, fresh_walk, WalkStep, next_step, is_complete};
+ghost use Rattle.thread_local_walk_steps.specs.OwnerWalk.{owner_walk};
+ghost use Rattle.thread_local_steps.specs.Fits.{IsWritten, named};
+ghost use Rattle.thread_local_steps.specs.Calls.{HasNoCall, GoesOn};
+ghost use Rattle.thread_local_steps.specs.Numbers.{own_number};
+ghost use Rattle.thread_local_walk_steps.specs.WalkFits.{Adds};
 ghost use Rattle.thread_local_core.specs.Core.{Core, made_core, new_core, shadow, installed_slots, first_view, peak, private_slots};
-ghost use Rattle.thread_local_schedule.specs.Events.{Event, TakeId, OfLocal, OfWalk, Owner, IterMut, ClearTable, IntoIter, DropTable, is_enabled, happens, run};
-ghost use Rattle.thread_local_schedule.specs.Schedule.{move, is_exclusive, is_of, is_refused, is_granted_take, newcomer, IsReached, most_held, TakesBelow, NoneTaken, NothingRefused, NeverCleared};
-ghost use Rattle.thread_local_schedule.specs.Story.{after_publishing, after_walking, after_next, after_all};
+ghost use Rattle.thread_local_schedule.specs.Events.{Event, TakeId, OfLocal, GiveBack, Forget, BeginWalk, OfWalk, EndWalk, OwnerCall, Owner, IterMut, ClearTable, IntoIter, DropTable, is_enabled, happens, run};
+ghost use Rattle.thread_local_schedule.specs.Schedule.{move, is_exclusive, ends_table, is_of, is_of_walk, IsUnused, is_refused, is_granted_take, newcomer, IsReached, most_held, TakesBelow, NoneTaken, NothingRefused, NeverCleared};
 
 /// What holds of a table over every schedule of atomic steps, from a table of `new` and from one of each capacity
 /// below 2^63: each `Local` gets the least id not held; a slot's first published value stays until an owner has
@@ -31,7 +32,38 @@ pub fn every_schedule<V, E>()
     ensures idle { (core : Core V E) (event : Event V E)
         → is_enabled core event ≡ false → happens core event ≡ core }
 
-    // Each Local gets the least id that isn't held. Its id is held while it lives, by no other Local.
+    // While the table hasn't ended a take and the beginning of a walk are enabled, whatever is under way, and an
+    // owner's call just where no Local lives and no walk is under way.
+    ensures takes { (core : Core V E) (refused : Bool) (growth : ℕ)
+        → core.ended ≡ false → IsTrue (is_enabled core (TakeId refused growth)) }
+    ensures walks_begin { (core : Core V E)
+        → core.ended ≡ false → IsTrue (is_enabled core BeginWalk) }
+    ensures alone { (core : Core V E) (call : OwnerCall V) → IsReached core
+        → IsTrue (is_enabled core (Owner call)) → IsUnused core }
+    ensures owners_call { (core : Core V E) (call : OwnerCall V)
+        → core.ended ≡ false → IsUnused core → IsTrue (is_enabled core (Owner call)) }
+
+    // A Local gives its id back, or is forgotten, just where no call of it is under way. Then it lives no longer, and
+    // the id of a forgotten one is held still.
+    ensures gives_back { (core : Core V E) (n : ℕ)
+        → IsTrue (is_enabled core (GiveBack n)) → IsSomeAnd (core.locals n) HasNoCall }
+    ensures given_back { (core : Core V E) (n : ℕ)
+        → IsTrue (is_enabled core (GiveBack n)) → (happens core (GiveBack n)).locals n ≡ None }
+    ensures forgets { (core : Core V E) (n : ℕ)
+        → IsTrue (is_enabled core (Forget n)) → IsSomeAnd (core.locals n) HasNoCall }
+    ensures forgotten { (core : Core V E) (n : ℕ)
+        → IsTrue (is_enabled core (Forget n)) → (happens core (Forget n)).locals n ≡ None }
+    ensures still_held { (core : Core V E) (n : ℕ) (local : Local V E) → IsReached core
+        → core.locals n ≡ Some local → IsTrue (is_held (shadow (happens core (Forget n))).held local.id) }
+    ensures may_leave { (core : Core V E) (n : ℕ) (local : Local V E)
+        → core.ended ≡ false → core.locals n ≡ Some local → HasNoCall local
+        → IsTrue (is_enabled core (GiveBack n)) × IsTrue (is_enabled core (Forget n)) }
+
+    // Each Local gets the least id that isn't held. Its id is held while it lives, by no other Local. A Local comes by
+    // a granted take and by nothing else.
+    ensures comes { (core : Core V E) (event : Event V E) (n : ℕ) (local : Local V E) → IsReached core
+        → core.locals n ≡ None → (happens core event).locals n ≡ Some local
+        → IsTrue (is_granted_take core event) × (n ≡ core.taken) }
     ensures least { (core : Core V E) (event : Event V E) → IsReached core
         → IsTrue (is_granted_take core event)
         → IsSomeAnd (newcomer core event) (λ local. local.id ≡ least (shadow core).held) }
@@ -47,28 +79,28 @@ pub fn every_schedule<V, E>()
     ensures owner_walk { (core : Core V E) → IsReached core
         → owner_walk core.table ≡ walk (shadow core).values }
 
-    // A slot whose flag is set holds what was written, and a word that names a bucket names it until an owner's call.
+    // A slot whose flag is set holds what was written.
     ensures flagged { (core : Core V E) (bucket index : ℕ) → IsReached core → index < 2 ^ bucket
-        → IfSome (core.table.words bucket) (λ here. IsWritten (here.slots index)) }
-    ensures words { (core : Core V E) (event : Event V E) (bucket number : ℕ) → IsReached core
-        → is_exclusive event ≡ false
-        → named core.table bucket ≡ Some number → named (happens core event).table bucket ≡ Some number }
+        → IfSome (core.table.words bucket) (λ here. IsWritten (here.slot index)) }
 
     // A Local begins with what its slot holds when its id is taken. Its answers are those of that view and of its
-    // own calls, which only its own events add to, one at a time.
+    // own calls. A call that has begun is under way until it is recorded, once, as it began; no other is recorded.
     ensures start { (core : Core V E) (event : Event V E) → IsReached core
         → IsTrue (is_granted_take core event)
         → IsSomeAnd (newcomer core event)
         (λ local. (local.start ≡ first_view (shadow core) local.id) × (local.calls ≡ [])) }
     ensures answers { (core : Core V E) (n : ℕ) (local : Local V E) → IsReached core
-        → core.locals n ≡ Some local → local.answers ≡ answers local.start local.calls }
-    ensures goes_on { (core : Core V E) (event : Event V E) (n : ℕ) (before after : Local V E) → IsReached core
-        → core.locals n ≡ Some before → (happens core event).locals n ≡ Some after → GoesOn before after }
+        → core.locals n ≡ Some local → local.answered ≡ answers local.start local.calls }
+    ensures goes_on { (core : Core V E) (n : ℕ) (step : LocalStep V E) (before : Local V E)
+        → IsTrue (is_enabled core (OfLocal n step)) → core.locals n ≡ Some before
+        → IsSomeAnd ((happens core (OfLocal n step)).locals n) (GoesOn step before) }
     ensures others { (core : Core V E) (event : Event V E) (n : ℕ) (local : Local V E) → IsReached core
         → is_of n event ≡ false
         → core.locals n ≡ Some local → (happens core event).locals n ≡ Some local }
 
-    // After `clear` the sheet is that of `new`, and the next Local gets id 0 and finds nothing.
+    // After `clear` the core is that of `new`, and so is the sheet, and the next Local gets id 0 and finds nothing.
+    ensures cleared_core { (core : Core V E) → IsTrue (is_enabled core (Owner ClearTable))
+        → happens core (Owner ClearTable) ≡ new_core }
     ensures cleared { (core : Core V E) → IsReached core → IsTrue (is_enabled core (Owner ClearTable))
         → shadow (happens core (Owner ClearTable)) ≡ new_sheet }
     ensures after_clear { (core : Core V E) (events : List (Event V E)) (event : Event V E) → IsReached core
@@ -78,20 +110,23 @@ pub fn every_schedule<V, E>()
         → IsSomeAnd (newcomer (run cleared events) event)
         (λ local. (local.id ≡ 0) × (local.start ≡ record { value = None; known = false })) }
 
-    // After `into_iter` or the drop no event is enabled.
+    // After `into_iter` or the drop no event is enabled, and nothing else ends a table.
     ensures into_iter_ends { (core : Core V E) → IsTrue (is_enabled core (Owner IntoIter))
         → (happens core (Owner IntoIter)).ended ≡ true }
     ensures drop_ends { (core : Core V E) → IsTrue (is_enabled core (Owner DropTable))
         → (happens core (Owner DropTable)).ended ≡ true }
     ensures ended { (core : Core V E) (event : Event V E)
         → core.ended ≡ true → is_enabled core event ≡ false }
+    ensures stays_open { (core : Core V E) (event : Event V E)
+        → core.ended ≡ false → ends_table event ≡ false → (happens core event).ended ≡ false }
 
     // The peak is the most ids held at one moment. Each id that is given lies below it, and there is room for it.
     ensures peak { (capacity extra : ℕ) (events : List (Event V E)) → capacity < 2 ^ 63
-        → peak (run (made_core capacity extra) events) ≡ most_held 0 (made_core capacity extra) events }
+        → peak (run (made_core capacity extra) events) ≡ most_held (made_core capacity extra) events }
     ensures below_peak { (core : Core V E) (n : ℕ) (local : Local V E) → IsReached core
         → core.locals n ≡ Some local → local.id < peak core }
-
+    ensures ids { (core : Core V E) (n : ℕ) (local : Local V E) → IsReached core
+        → core.locals n ≡ Some local → local.id < 2 ^ 63 - 1 }
     ensures room { (core : Core V E) → IsReached core → peak core ≤ core.manager.room }
 
     // The slots that are installed, those made and not offered yet, and the values are bounded by the peak.
@@ -107,11 +142,13 @@ pub fn every_schedule<V, E>()
     ensures published { (core : Core V E) → IsReached core → length (walk (shadow core).values) ≤ peak core }
 
     // A take is refused only where all ids are held, or where all below the peak are, no room is left and memory is
-    // refused. Within the capacity no take is, and no publishing at a reserved id.
+    // refused, and then everything is as it was. Within the capacity no take is, and no publishing at a reserved id.
     ensures refused_take { (core : Core V E) (refused : Bool) (growth : ℕ) → IsReached core
         → IsTrue (is_refused core (TakeId refused growth))
         → HoldsAllBelow (2 ^ 63 - 1) (shadow core).held
         ⊎ (HoldsAllBelow (peak core) (shadow core).held × (peak core ≡ core.manager.room) × IsTrue refused) }
+    ensures refusal { (core : Core V E) (refused : Bool) (growth : ℕ)
+        → IsTrue (is_refused core (TakeId refused growth)) → happens core (TakeId refused growth) ≡ core }
     ensures within_capacity { (core : Core V E) (refused : Bool) (growth : ℕ) → IsReached core
         → held_count (shadow core).held < (shadow core).capacity
         → is_refused core (TakeId refused growth) ≡ false }
@@ -120,7 +157,7 @@ pub fn every_schedule<V, E>()
         → is_refused core (OfLocal n (MakeBucket refused)) ≡ false }
     ensures reserved_answers { (core : Core V E) (n : ℕ) (local : Local V E) → IsReached core
         → core.locals n ≡ Some local → IsTrue (is_reserved (shadow core).capacity local.id)
-        → Contains local.answers Refused → ⊥ }
+        → Contains local.answered Refused → ⊥ }
 
     // Where each take comes while fewer than p ids are held, a table from `new` has installed at most 2p - 1 slots,
     // and one of a capacity of p or more that is never cleared refuses nothing.
@@ -129,44 +166,57 @@ pub fn every_schedule<V, E>()
     ensures refuses_nothing { (capacity extra p : ℕ) (events : List (Event V E)) → capacity < 2 ^ 63
         → p ≤ capacity → TakesBelow p (made_core capacity extra) events → NeverCleared events
         → NothingRefused (made_core capacity extra) events }
+{}
 
-    // Four Locals publish in a new table. A walk gives the four values; the next Local finds the first and keeps it;
-    // an owner's walk gives the four; and `clear` leaves the sheet of `new`.
-    ensures four_values { (a b c d : V)
-        → (shadow (after_publishing {E = E} a b c d)).values ≡ slice_get (a ∷ b ∷ c ∷ d ∷ []) }
-    ensures seven_slots { (a b c d : V) → installed_slots (after_publishing {E = E} a b c d) ≡ 7 }
-    ensures walk_of_four { (a b c d : V) → IsSomeAnd ((after_walking {E = E} a b c d).walks 0)
-        (λ walk. IsTrue (is_complete walk) × (walk.given ≡ (0, a) ∷ (1, b) ∷ (2, c) ∷ (3, d) ∷ [])) }
-    ensures next_of_four { (a b c d : V) → IsSomeAnd ((after_next {E = E} a b c d).locals 4)
-        (λ local. (local.id ≡ 0) × (local.start.value ≡ Some a)
-        × (local.answers ≡ Found (Some a) ∷ Answered a ∷ [])) }
-    ensures owner_of_four { (a b c d : V) (others : ℕ → V → V)
-        → IsTrue (is_enabled (after_all {E = E} a b c d) (Owner (IterMut others)))
-        × (owner_walk (after_all {E = E} a b c d).table ≡ a ∷ b ∷ c ∷ d ∷ []) }
-    ensures clear_of_four { (a b c d : V)
-        → IsTrue (is_enabled (after_all {E = E} a b c d) (Owner ClearTable))
-        × (shadow (happens (after_all {E = E} a b c d) (Owner ClearTable)) ≡ new_sheet) }
+/// What holds of the words over every schedule: a word that names a bucket names that one until an owner's call, no
+/// two words name one bucket, and a bucket that a call has made and not offered yet is that call's alone.
+pub fn every_word<V, E>()
+    ensures stays { (core : Core V E) (event : Event V E) (bucket number : ℕ) → IsReached core
+        → is_exclusive event ≡ false
+        → named core.table bucket ≡ Some number → named (happens core event).table bucket ≡ Some number }
+    ensures apart { (core : Core V E) (a b number : ℕ) → IsReached core
+        → named core.table a ≡ Some number → named core.table b ≡ Some number → a ≡ b }
+    ensures unnamed { (core : Core V E) (n : ℕ) (local : Local V E) (number bucket : ℕ) → IsReached core
+        → core.locals n ≡ Some local → own_number local.doing ≡ Some number → named core.table bucket ≢ Some number }
+    ensures one_call { (core : Core V E) (m n : ℕ) (a b : Local V E) (number : ℕ) → IsReached core
+        → core.locals m ≡ Some a → core.locals n ≡ Some b
+        → own_number a.doing ≡ Some number → own_number b.doing ≡ Some number → m ≡ n }
 {}
 
 /// What holds of a shared walk over every schedule, whatever comes between its steps: a complete one gives every
 /// value that was published at its first load, and only published ones, by strictly ascending id; it reads each
 /// slot at most once, and loads words at most 63 times and once more for each value given.
 pub fn every_walk<V, E>()
+    // Each walk begins fresh. No event but its own steps and its end changes it, and it goes on until it is complete.
+    ensures begins { (core : Core V E)
+        → IsTrue (is_enabled core BeginWalk) → (happens core BeginWalk).walks core.walked ≡ Some fresh_walk }
+    ensures comes { (core : Core V E) (event : Event V E) (n : ℕ) (shared : SharedWalk V) → IsReached core
+        → core.walks n ≡ None → (happens core event).walks n ≡ Some shared → shared ≡ fresh_walk }
+    ensures others { (core : Core V E) (event : Event V E) (n : ℕ) (shared : SharedWalk V) → IsReached core
+        → is_of_walk n event ≡ false
+        → core.walks n ≡ Some shared → (happens core event).walks n ≡ Some shared }
+    ensures goes_on { (core : Core V E) (n : ℕ) (shared : SharedWalk V)
+        → core.ended ≡ false → core.walks n ≡ Some shared → is_complete shared ≡ false
+        → IsTrue (is_enabled core (OfWalk n (next_step shared))) }
+    ensures ends { (core : Core V E) (n : ℕ)
+        → IsTrue (is_enabled core (EndWalk n)) → (happens core (EndWalk n)).walks n ≡ None }
+    ensures may_end { (core : Core V E) (n : ℕ) (shared : SharedWalk V)
+        → core.ended ≡ false → core.walks n ≡ Some shared → IsTrue (is_enabled core (EndWalk n)) }
+
     // Its record: what was published at its first load, what it gave and read, and how often it loaded a word.
-    ensures adds { (core : Core V E) (n : ℕ) (step : WalkStep) (before after : SharedWalk V) → IsReached core
-        → IsTrue (is_enabled core (OfWalk n step))
-        → core.walks n ≡ Some before → (happens core (OfWalk n step)).walks n ≡ Some after
-        → Adds core.table step before after }
-    ensures complete { (core : Core V E) (n : ℕ) (walk : SharedWalk V) → IsReached core
-        → core.walks n ≡ Some walk → IsTrue (is_complete walk)
-        → (id : ℕ) (v : V) → walk.first id ≡ Some v → Contains walk.given (id, v) }
-    ensures published { (core : Core V E) (n : ℕ) (walk : SharedWalk V) → IsReached core
-        → core.walks n ≡ Some walk
-        → (id : ℕ) (v : V) → Contains walk.given (id, v) → (shadow core).values id ≡ Some v }
-    ensures ascending { (core : Core V E) (n : ℕ) (walk : SharedWalk V) → IsReached core
-        → core.walks n ≡ Some walk → IsStrictlyIncreasing (map (λ pair. pair.0) walk.given) }
-    ensures reads_once { (core : Core V E) (n : ℕ) (walk : SharedWalk V) → IsReached core
-        → core.walks n ≡ Some walk → IsStrictlyIncreasing walk.read }
-    ensures loads { (core : Core V E) (n : ℕ) (walk : SharedWalk V) → IsReached core
-        → core.walks n ≡ Some walk → walk.loads ≤ 63 + length walk.given }
+    ensures adds { (core : Core V E) (n : ℕ) (step : WalkStep) (before : SharedWalk V) → IsReached core
+        → IsTrue (is_enabled core (OfWalk n step)) → core.walks n ≡ Some before
+        → IsSomeAnd ((happens core (OfWalk n step)).walks n) (Adds core.table step before) }
+    ensures complete { (core : Core V E) (n : ℕ) (shared : SharedWalk V) → IsReached core
+        → core.walks n ≡ Some shared → IsTrue (is_complete shared)
+        → (id : ℕ) (v : V) → shared.first id ≡ Some v → Contains shared.given (id, v) }
+    ensures published { (core : Core V E) (n : ℕ) (shared : SharedWalk V) → IsReached core
+        → core.walks n ≡ Some shared
+        → (id : ℕ) (v : V) → Contains shared.given (id, v) → (shadow core).values id ≡ Some v }
+    ensures ascending { (core : Core V E) (n : ℕ) (shared : SharedWalk V) → IsReached core
+        → core.walks n ≡ Some shared → IsStrictlyIncreasing (map (λ pair. pair.0) shared.given) }
+    ensures reads_once { (core : Core V E) (n : ℕ) (shared : SharedWalk V) → IsReached core
+        → core.walks n ≡ Some shared → IsStrictlyIncreasing shared.read }
+    ensures loads { (core : Core V E) (n : ℕ) (shared : SharedWalk V) → IsReached core
+        → core.walks n ≡ Some shared → shared.loads ≤ 63 + length shared.given }
 {}

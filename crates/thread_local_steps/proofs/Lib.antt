@@ -1,5 +1,5 @@
 pub mod FirstCalls
 pub mod TableLaws
 pub mod LocalLaws
-pub mod WalkStepLaws
-pub mod OwnerLaws
+pub mod CallsLaws
+pub mod NumbersLaws

@@ -56,7 +56,7 @@ stays table local learnt doing written h l d = record {
   changes = same_table table local.id written;
   shown = λ id. refl;
   empty = tt;
-  goes_on = record { id = refl; start = refl; calls = inl refl };
+  same = record { id = refl; start = refl };
 }
 
 -- a Local fits once a call has ended with the answer that its view gives, where the view that the call leaves fits
@@ -79,7 +79,7 @@ ends table local call told left learnt doing written h says fits = record {
   changes = same_table table local.id written;
   shown = λ id. refl;
   empty = tt;
-  goes_on = record { id = refl; start = refl; calls = inr (call, refl) };
+  same = record { id = refl; start = refl };
 }
 
 begin_get-fits : {V E : Type 0} (table : Table V) (local : Local V E) (doing : Doing V E) → AllWritten table → LocalFits table local
@@ -169,7 +169,7 @@ offers table after local learnt doing written h only l d = record {
   };
   shown = λ id. published-slot_at table after id (only.same id);
   empty = tt;
-  goes_on = record { id = refl; start = refl; calls = inl refl };
+  same = record { id = refl; start = refl };
 }
 
 make_bucket-fits : {V E : Type 0} (table : Table V) (local : Local V E) (refused : Bool) (doing : Doing V E) (learnt : Learnt V) → AllWritten table → LocalFits table local
@@ -267,7 +267,7 @@ write_value-fits table local (Started (Ok v)) Vacant written h l =
           (λ apart. shown_other table id other slot apart)
           (cases_eq id other);
       empty = tt;
-      goes_on = record { id = refl; start = refl; calls = inl refl };
+      same = record { id = refl; start = refl };
     }
 write_value-fits table local (Started (Err e)) Vacant written h l =
     let none = published_unset table local.id l.1 in
@@ -295,7 +295,7 @@ set_flag-fits table local (Written v) written h d =
           (λ apart. rw (ne_eqb id other apart) (shown_other table id other slot apart))
           (cases_eq id other);
       empty = none;
-      goes_on = record { id = refl; start = refl; calls = inr (GetOr (Ok v) false, refl) };
+      same = record { id = refl; start = refl };
     }
 set_flag-fits table local _ written h d = tt
 

@@ -2,9 +2,9 @@ use Rattle.std.proofs.Common.{◌≡◌, ℕ, ◌^◌, Bool, true, false, cond, 
 use Rattle.std.proofs.lemmas.Bool.{cases_eq, cases_Bool, eq-eqb, ne_eqb, false≢true}
 use Rattle.thread_local_model.specs.Place.{bucket_of, index_of}
 use Rattle.thread_local_model.proofs.PlaceLaws as place
-use Rattle.thread_local_steps.specs.Table.{Slot, empty_slot, value_of, Bucket, fresh_bucket, Table, slot_of, slot_at, published, stands, with_bucket, with_slot_of, with_slot, made_table}
+use Rattle.thread_local_steps.specs.Table.{Slot, empty_slot, value_of, Bucket, fresh_bucket, Table, slot_of, slot_at, published, stands, with_fresh_bucket, with_slot_of, with_slot, made_table}
 use Rattle.thread_local_model.specs.Capacity.{binary_digits}
-use Rattle.thread_local_steps.specs.Local.{offer, offered}
+use Rattle.thread_local_steps.specs.Local.{offered}
 use Rattle.thread_local_steps.specs.Fits.{named}
 use Rattle.std.specs.Prelude.{option_map, nat_lt}
 
@@ -68,38 +68,38 @@ unfolding slot_at stands
 slot_at-none table id none = slot_of-none (table.words (bucket_of id)) (index_of id) none
 
 -- a bucket that comes has empty slots, as if its word were still empty
-pub slot_at-with_bucket : {V : Type 0} (table : Table V) (bucket number id : ℕ) → stands table bucket ≡ false → slot_at (with_bucket table bucket number) id ≡ slot_at table id
-unfolding slot_at with_bucket stands
-slot_at-with_bucket table bucket number id none =
+pub slot_at-with_fresh_bucket : {V : Type 0} (table : Table V) (bucket number id : ℕ) → stands table bucket ≡ false → slot_at (with_fresh_bucket table bucket number) id ≡ slot_at table id
+unfolding slot_at with_fresh_bucket stands
+slot_at-with_fresh_bucket table bucket number id none =
     ⊎_elim
     (λ here. rw (eq-eqb bucket (bucket_of id) here) (sym (slot_of-none (table.words (bucket_of id)) (index_of id) (ap (λ b. is_some (table.words b)) (sym here) ∙ none))))
     (λ apart. rw (ne_eqb bucket (bucket_of id) apart) refl)
     (cases_eq bucket (bucket_of id))
 
-pub stands-with_bucket : {V : Type 0} (table : Table V) (bucket number other : ℕ) → stands (with_bucket table bucket number) other ≡ cond (eqb bucket other) true (stands table other)
-unfolding stands with_bucket
-stands-with_bucket table bucket number other =
+pub stands-with_fresh_bucket : {V : Type 0} (table : Table V) (bucket number other : ℕ) → stands (with_fresh_bucket table bucket number) other ≡ cond (eqb bucket other) true (stands table other)
+unfolding stands with_fresh_bucket
+stands-with_fresh_bucket table bucket number other =
     ⊎_elim
     (λ here. rw (eq-eqb bucket other here) refl)
     (λ apart. rw (ne_eqb bucket other apart) refl)
     (cases_eq bucket other)
 
 -- what an offer leaves: every slot as it was, and the bucket stands, and each that stood
-slot_at-offer : {V : Type 0} (table : Table V) (bucket number id : ℕ) (b : Bool) → stands table bucket ≡ b → slot_at (offer table bucket number b) id ≡ slot_at table id
+slot_at-offer : {V : Type 0} (table : Table V) (bucket number id : ℕ) (b : Bool) → stands table bucket ≡ b → slot_at (cond b table (with_fresh_bucket table bucket number)) id ≡ slot_at table id
 slot_at-offer table bucket number id true t = refl
-slot_at-offer table bucket number id false f = slot_at-with_bucket table bucket number id f
+slot_at-offer table bucket number id false f = slot_at-with_fresh_bucket table bucket number id f
 
 pub slot_at-offered : {V : Type 0} (table : Table V) (bucket number id : ℕ) → slot_at (offered table bucket number) id ≡ slot_at table id
 slot_at-offered table bucket number id = slot_at-offer table bucket number id (stands table bucket) refl
 
 stands-offer : {V : Type 0} (table : Table V) (bucket number other : ℕ) (b : Bool) → stands table bucket ≡ b
-    → stands (offer table bucket number b) other ≡ cond (eqb bucket other) true (stands table other)
+    → stands (cond b table (with_fresh_bucket table bucket number)) other ≡ cond (eqb bucket other) true (stands table other)
 stands-offer table bucket number other true t =
     ⊎_elim
     (λ here. rw (eq-eqb bucket other here) (ap (stands table) (sym here) ∙ t))
     (λ apart. rw (ne_eqb bucket other apart) refl)
     (cases_eq bucket other)
-stands-offer table bucket number other false f = stands-with_bucket table bucket number other
+stands-offer table bucket number other false f = stands-with_fresh_bucket table bucket number other
 
 pub stands-offered : {V : Type 0} (table : Table V) (bucket number other : ℕ) → stands (offered table bucket number) other ≡ cond (eqb bucket other) true (stands table other)
 stands-offered table bucket number other = stands-offer table bucket number other (stands table bucket) refl
@@ -145,14 +145,14 @@ named-with_slot table id bucket slot =
     same-cond (λ word. option_map (λ here. here.number) word) (eqb (bucket_of id) bucket) (with_slot_of (table.words bucket) (index_of id) slot) (table.words bucket) (named-with_slot_of (table.words bucket) (index_of id) slot)
 
 -- and once a bucket is offered to a word, if it named one
-named-with_bucket : {V : Type 0} (table : Table V) (bucket number other : ℕ) → (bucket ≡ other → ⊥) → named (with_bucket table bucket number) other ≡ named table other
-unfolding named with_bucket
-named-with_bucket table bucket number other apart = rw (ne_eqb bucket other apart) refl
+pub named-with_fresh_bucket : {V : Type 0} (table : Table V) (bucket number other : ℕ) → (bucket ≡ other → ⊥) → named (with_fresh_bucket table bucket number) other ≡ named table other
+unfolding named with_fresh_bucket
+named-with_fresh_bucket table bucket number other apart = rw (ne_eqb bucket other apart) refl
 
 named-offer : {V : Type 0} (table : Table V) (bucket number other : ℕ) (b : Bool) → stands table bucket ≡ b → IsTrue (stands table other)
-    → named (offer table bucket number b) other ≡ named table other
+    → named (cond b table (with_fresh_bucket table bucket number)) other ≡ named table other
 named-offer table bucket number other true t stood = refl
-named-offer table bucket number other false f stood = named-with_bucket table bucket number other (λ same. false≢true (sym f ∙ ap (stands table) same ∙ stood))
+named-offer table bucket number other false f stood = named-with_fresh_bucket table bucket number other (λ same. false≢true (sym f ∙ ap (stands table) same ∙ stood))
 
 pub named-offered : {V : Type 0} (table : Table V) (bucket number other : ℕ) → IsTrue (stands table other) → named (offered table bucket number) other ≡ named table other
 named-offered table bucket number other stood = named-offer table bucket number other (stands table bucket) refl stood

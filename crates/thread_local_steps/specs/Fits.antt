@@ -1,7 +1,7 @@
-use Rattle.std.specs.Prelude.{◌≡◌, ℕ, ◌⊎◌, false, [], ◌∷◌, ◌++◌, Option, Some, None, option_map, IsTrue, is_some, IfSome, ⊤}
+use Rattle.std.specs.Prelude.{◌≡◌, ◌≢◌, ℕ, ◌⊎◌, false, Option, Some, None, option_map, IsTrue, is_some, IfSome, ⊤}
 use Rattle.thread_local_model.specs.Place.{bucket_of}
 use Rattle.thread_local_model.specs.Walk.{with_value}
-use Rattle.thread_local_model.specs.Answers.{View, Call, answers, view_after_all}
+use Rattle.thread_local_model.specs.Answers.{View, answers, view_after_all}
 use Rattle.thread_local_steps.specs.Table.{Slot, Table, slot_at, published, stands}
 use Rattle.thread_local_model.specs.Learnt.{Learnt, Unknown, Missing, Standing, Vacant, Holding}
 use Rattle.thread_local_steps.specs.Local.{Doing, Gets, Started, Private, Written, Local, LocalStep, SetFlag}
@@ -44,7 +44,7 @@ pub record ViewFits {V E : Type 0} (table : Table V) (id : ℕ) (view : View V) 
 -- What is known of a Local beside its table: its answers are those of its first view and its calls, and its view
 -- now fits.
 pub record LocalFits {V E : Type 0} (table : Table V) (local : Local V E) : Type 0 where
-  pub answered : local.answers ≡ answers local.start local.calls
+  pub answered : local.answered ≡ answers local.start local.calls
   pub view : ViewFits table local.id (view_now local) local.learnt local.doing
 
 -- the number of the bucket that a word names, if it names one
@@ -54,7 +54,7 @@ named table bucket = option_map (λ here. here.number) (table.words bucket)
 -- Between two tables only the slot of an id may differ, and only its bucket may be new: a word that names a bucket
 -- goes on naming it.
 pub record ChangesOnly {V : Type 0} (old new : Table V) (id : ℕ) : Type 0 where
-  pub others : (other : ℕ) → (id ≡ other → ⊥) → slot_at new other ≡ slot_at old other
+  pub others : (other : ℕ) → id ≢ other → slot_at new other ≡ slot_at old other
   pub naming : (bucket : ℕ) → IsTrue (stands old bucket) → IsTrue (stands new bucket) × (named new bucket ≡ named old bucket)
   pub installed : (bucket : ℕ) → IsTrue (stands new bucket) → IsTrue (stands old bucket) ⊎ (bucket_of id ≡ bucket)
   pub written : AllWritten new
@@ -74,11 +74,10 @@ abbrev pub with_value_if : {V : Type 0} → (ℕ → Option V) → ℕ → Optio
 with_value_if values id None = values
 with_value_if values id (Some v) = with_value values id v
 
--- a Local goes on: its id and its first view stay, and at most one call more has ended
-pub record GoesOn {V E : Type 0} (before after : Local V E) : Type 0 where
+-- a Local keeps its id and its first view
+pub record IsSameLocal {V E : Type 0} (before after : Local V E) : Type 0 where
   pub id : after.id ≡ before.id
   pub start : after.start ≡ before.start
-  pub calls : (after.calls ≡ before.calls) ⊎ ((call : Call V E) × (after.calls ≡ before.calls ++ call ∷ []))
 
 -- What a step makes of a Local and its table. It publishes this value, where nothing was published, or none.
 pub record StepFits {V E : Type 0} (table : Table V) (local : Local V E) (set : Option V) (after : Table V × Local V E) : Type 0 where
@@ -86,4 +85,4 @@ pub record StepFits {V E : Type 0} (table : Table V) (local : Local V E) (set : 
   pub changes : ChangesOnly table after.0 local.id
   pub shown : (id : ℕ) → published after.0 id ≡ with_value_if (published table) local.id set id
   pub empty : IfSome set (λ _. published table local.id ≡ None)
-  pub goes_on : GoesOn local after.1
+  pub same : IsSameLocal local after.1

@@ -1,8 +1,8 @@
 use Rattle.std.specs.Prelude.{ℕ, zero, suc, Bool, true, false, List, [], ◌∷◌, ◌++◌, Option, Some, None, option_and_then, Result, Ok, Err, if◌then◌else◌}
 use Rattle.thread_local_model.specs.Place.{bucket_of}
 use Rattle.thread_local_model.specs.Answers.{View, Call, Get, GetOr, Answer, Found, Answered, Refused, Failed}
-use Rattle.thread_local_model.specs.Learnt.{Learnt, Unknown, Missing, Standing, Vacant, Holding, loaded, looked}
-use Rattle.thread_local_steps.specs.Table.{Table, published, stands, with_bucket, with_written, with_flag}
+use Rattle.thread_local_model.specs.Learnt.{Learnt, Unknown, Missing, Vacant, Holding, loaded, looked}
+use Rattle.thread_local_steps.specs.Table.{Table, published, stands, with_fresh_bucket, with_written, with_flag}
 
 -- What a Local does: any number of gets are under way, or one publishing call. That has begun, with what its
 -- closure would answer; or it has made a bucket of its own, of this number; or it has written its value.
@@ -20,11 +20,11 @@ pub record Local (V E : Type 0) : Type 0 where
   pub doing : Doing V E
   pub start : View V
   pub calls : List (Call V E)
-  pub answers : List (Answer V E)
+  pub answered : List (Answer V E)
 
 -- a Local that was just made
 abbrev pub fresh_local : {V E : Type 0} → ℕ → View V → Local V E
-fresh_local id start = record { id = id; learnt = Unknown; doing = Gets 0; start = start; calls = []; answers = [] }
+fresh_local id start = record { id = id; learnt = Unknown; doing = Gets 0; start = start; calls = []; answered = [] }
 
 -- a step of a Local's call, with what is chosen: what the closure would answer, whether memory is refused
 pub data LocalStep (V E : Type 0) : Type 0 where
@@ -41,7 +41,7 @@ pub data LocalStep (V E : Type 0) : Type 0 where
 -- the Local once a call has ended
 abbrev pub after_call : {V E : Type 0} → Local V E → Call V E → Answer V E → Learnt V → Doing V E → Local V E
 after_call local call answer learnt doing =
-    record local { learnt = learnt; doing = doing; calls = local.calls ++ call ∷ []; answers = local.answers ++ answer ∷ [] }
+    record local { learnt = learnt; doing = doing; calls = local.calls ++ call ∷ []; answered = local.answered ++ answer ∷ [] }
 
 -- whether a call is under way that may load its word and look at its flag
 abbrev pub is_calling : {V E : Type 0} → Doing V E → Bool
@@ -84,14 +84,9 @@ make_bucket table local false (Started create) Missing =
     Some (record table { made = suc table.made }, record local { doing = Private create table.made })
 make_bucket table local refused doing learnt = None
 
--- the table once a bucket was offered to a word, by whether that names one: it goes on naming it, or names this one
-abbrev pub offer : {V : Type 0} → Table V → ℕ → ℕ → Bool → Table V
-offer table bucket number true = table
-offer table bucket number false = with_bucket table bucket number
-
--- the table once a bucket was offered to a word
+-- the table once a bucket was offered to a word: one that names a bucket goes on naming that
 abbrev pub offered : {V : Type 0} → Table V → ℕ → ℕ → Table V
-offered table bucket number = offer table bucket number (stands table bucket)
+offered table bucket number = if stands table bucket then table else with_fresh_bucket table bucket number
 
 -- a call offers its own bucket to its word, and uses the one that stands then
 abbrev pub install_bucket : {V E : Type 0} → Table V → Local V E → Doing V E → Option (Table V × Local V E)
@@ -137,7 +132,7 @@ unfoldable pub local_steps : {V E : Type 0} → Table V → Local V E → List (
 local_steps table local [] = Some (table, local)
 local_steps table local (step ∷ steps) = option_and_then (λ after. local_steps after.0 after.1 steps) (local_step table local step)
 
--- five calls, one after another: refused memory, ended by the closure's error, publishing, a get, and one more offer
+-- five calls, one after another: refused memory, ended by the closure's error, publishing, a get, and one more publishing call
 abbrev pub five_calls : {V E : Type 0} → V → V → E → List (LocalStep V E)
 five_calls v w e =
     BeginGetOr (Ok v) ∷ LoadWord ∷ MakeBucket true ∷ []

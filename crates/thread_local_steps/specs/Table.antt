@@ -19,11 +19,11 @@ value_of slot = if slot.flag then slot.written else None
 -- a bucket: its number, counted as buckets were made, and its slots by their index
 pub record Bucket (V : Type 0) : Type 0 where
   pub number : ℕ
-  pub slots : ℕ → Slot V
+  pub slot : ℕ → Slot V
 
 -- a bucket as it is made
 abbrev pub fresh_bucket : {V : Type 0} → ℕ → Bucket V
-fresh_bucket number = record { number = number; slots = λ _. empty_slot }
+fresh_bucket number = record { number = number; slot = λ _. empty_slot }
 
 -- the bucket words, each empty or naming a bucket, and how many buckets were made so far
 pub record Table (V : Type 0) : Type 0 where
@@ -33,7 +33,7 @@ pub record Table (V : Type 0) : Type 0 where
 -- the slot at an index of what a word names; as it would be made, where the word is empty
 abbrev pub slot_of : {V : Type 0} → Option (Bucket V) → ℕ → Slot V
 slot_of None index = empty_slot
-slot_of (Some bucket) index = bucket.slots index
+slot_of (Some bucket) index = bucket.slot index
 
 -- the slot of an id
 unfoldable pub slot_at : {V : Type 0} → Table V → ℕ → Slot V
@@ -55,13 +55,13 @@ made_table capacity = record {
 }
 
 -- the table once a word names a bucket as it is made
-unfoldable pub with_bucket : {V : Type 0} → Table V → ℕ → ℕ → Table V
-with_bucket table bucket number = record table { words = with_value table.words bucket (fresh_bucket number) }
+unfoldable pub with_fresh_bucket : {V : Type 0} → Table V → ℕ → ℕ → Table V
+with_fresh_bucket table bucket number = record table { words = with_value table.words bucket (fresh_bucket number) }
 
 -- what a word names once the slot at an index is this one
 abbrev pub with_slot_of : {V : Type 0} → Option (Bucket V) → ℕ → Slot V → Option (Bucket V)
 with_slot_of None index slot = None
-with_slot_of (Some bucket) index slot = Some (record bucket { slots = λ i. if index == i then slot else bucket.slots i })
+with_slot_of (Some bucket) index slot = Some (record bucket { slot = λ i. if index == i then slot else bucket.slot i })
 
 -- the table once the slot of an id is this one
 unfoldable pub with_slot : {V : Type 0} → Table V → ℕ → Slot V → Table V

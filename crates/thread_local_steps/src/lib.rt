@@ -1,7 +1,6 @@
-//! The steps of a table's `Local`s and walks, one at a time, and what each keeps.
+//! The steps of a table's `Local`s, one at a time, and what each keeps.
 //!
 //! The definitions stand in specs/. Each function here has an empty body: its contract is a set of laws.
 #![tactic(auto)]
 
 pub mod locals;
-pub mod walks;

@@ -1,10 +1,10 @@
 use Rattle.std.proofs.Common.{refl, arith}
 use Rattle.thread_local_core.proofs.CoreLaws as known
 use Rattle.thread_local_schedule.proofs.Clauses as clause
+use Rattle.thread_local_schedule.proofs.Enabled as may
+use Rattle.thread_local_schedule.proofs.Open as ending
 use Rattle.thread_local_schedule.proofs.Headline as headline
-use Rattle.thread_local_schedule.proofs.FourLocals as story
-use Rattle.thread_local_schedule.proofs.FourValues as four
-use Rattle.thread_local_steps.proofs.OwnerLaws.{owner_walk-walk}
+use Rattle.thread_local_walk_steps.proofs.OwnerLaws.{owner_walk-walk}
 use Rattle.thread_local_core.specs.Core.{made_core}
 use Rattle.thread_local_core.proofs.Parts.{made_core-fits}
 use Rattle.thread_local_core.proofs.HeldCounts.{held_below}
@@ -18,6 +18,39 @@ returns-clause-allowed g c = λ core event r. (clause.says core event r).allowed
 
 pub returns-clause-idle : goal.returns-clause-idle
 returns-clause-idle g c = clause.idle
+
+pub returns-clause-takes : goal.returns-clause-takes
+returns-clause-takes g c = may.takes
+
+pub returns-clause-walks_begin : goal.returns-clause-walks_begin
+returns-clause-walks_begin g c = may.walks_begin
+
+pub returns-clause-alone : goal.returns-clause-alone
+returns-clause-alone g c = λ core call r. may.alone core call (clause.fits core r)
+
+pub returns-clause-owners_call : goal.returns-clause-owners_call
+returns-clause-owners_call g c = may.owner_may
+
+pub returns-clause-gives_back : goal.returns-clause-gives_back
+returns-clause-gives_back g c = λ core n t. (may.gives_back core n t).0
+
+pub returns-clause-given_back : goal.returns-clause-given_back
+returns-clause-given_back g c = λ core n t. (may.gives_back core n t).1
+
+pub returns-clause-forgets : goal.returns-clause-forgets
+returns-clause-forgets g c = λ core n t. (may.forgotten core n t).0
+
+pub returns-clause-forgotten : goal.returns-clause-forgotten
+returns-clause-forgotten g c = λ core n t. (may.forgotten core n t).1
+
+pub returns-clause-still_held : goal.returns-clause-still_held
+returns-clause-still_held g c = λ core n local r at. clause.still_held core n local r at
+
+pub returns-clause-may_leave : goal.returns-clause-may_leave
+returns-clause-may_leave g c = may.may_leave
+
+pub returns-clause-comes : goal.returns-clause-comes
+returns-clause-comes g c = λ core event n local r. clause.comes core event n local (clause.fits core r)
 
 pub returns-clause-least : goal.returns-clause-least
 returns-clause-least g c = λ core event r. clause.least_taken core event
@@ -37,9 +70,6 @@ returns-clause-owner_walk g c = λ core r. owner_walk-walk core.table
 pub returns-clause-flagged : goal.returns-clause-flagged
 returns-clause-flagged g c = λ core bucket index r. known.flagged core.table bucket index (clause.fits core r).table.written
 
-pub returns-clause-words : goal.returns-clause-words
-returns-clause-words g c = λ core event bucket number r quiet. (clause.says core event r).names quiet bucket number
-
 pub returns-clause-start : goal.returns-clause-start
 returns-clause-start g c = λ core event r. clause.start core event
 
@@ -47,10 +77,13 @@ pub returns-clause-answers : goal.returns-clause-answers
 returns-clause-answers g c = λ core n local r at. ((clause.fits core r).locals.each n local at).local_fits.answered
 
 pub returns-clause-goes_on : goal.returns-clause-goes_on
-returns-clause-goes_on g c = λ core event n before after r. (clause.says core event r).goes_on n before after
+returns-clause-goes_on g c = may.goes_on
 
 pub returns-clause-others : goal.returns-clause-others
 returns-clause-others g c = λ core event n local r. (clause.says core event r).others n local
+
+pub returns-clause-cleared_core : goal.returns-clause-cleared_core
+returns-clause-cleared_core g c = may.cleared_core
 
 pub returns-clause-cleared : goal.returns-clause-cleared
 returns-clause-cleared g c = clause.cleared
@@ -67,11 +100,17 @@ returns-clause-drop_ends g c = clause.drop_ends
 pub returns-clause-ended : goal.returns-clause-ended
 returns-clause-ended g c = clause.ended
 
+pub returns-clause-stays_open : goal.returns-clause-stays_open
+returns-clause-stays_open g c = ending.stays_open
+
 pub returns-clause-peak : goal.returns-clause-peak
 returns-clause-peak g c = λ capacity extra events l. clause.peak_run (made_core capacity extra) events 0 (made_core-fits capacity extra l) refl
 
 pub returns-clause-below_peak : goal.returns-clause-below_peak
 returns-clause-below_peak g c = λ core n local r at. held_below core.manager.held local.id ((clause.fits core r).locals.each n local at).id_held
+
+pub returns-clause-ids : goal.returns-clause-ids
+returns-clause-ids g c = λ core n local r at. clause.ids core n local (clause.fits core r) at
 
 pub returns-clause-room : goal.returns-clause-room
 returns-clause-room g c = λ core r. (clause.fits core r).manager.peak_room
@@ -94,6 +133,9 @@ returns-clause-published g c = λ core r. known.published_bound core (clause.fit
 pub returns-clause-refused_take : goal.returns-clause-refused_take
 returns-clause-refused_take g c = λ core refused growth r. clause.refused_take core refused growth (clause.fits core r)
 
+pub returns-clause-refusal : goal.returns-clause-refusal
+returns-clause-refusal g c = may.refusal
+
 pub returns-clause-within_capacity : goal.returns-clause-within_capacity
 returns-clause-within_capacity g c = λ core refused growth r. clause.within_capacity core refused growth (clause.fits core r)
 
@@ -108,21 +150,3 @@ returns-clause-bounded g c = headline.bounded
 
 pub returns-clause-refuses_nothing : goal.returns-clause-refuses_nothing
 returns-clause-refuses_nothing g c = headline.refuses_nothing
-
-pub returns-clause-four_values : goal.returns-clause-four_values
-returns-clause-four_values g c = four.four_values _ _
-
-pub returns-clause-seven_slots : goal.returns-clause-seven_slots
-returns-clause-seven_slots g c = story.first_slots _ _
-
-pub returns-clause-walk_of_four : goal.returns-clause-walk_of_four
-returns-clause-walk_of_four g c = story.walk_gives _ _
-
-pub returns-clause-next_of_four : goal.returns-clause-next_of_four
-returns-clause-next_of_four g c = story.next_gets _ _
-
-pub returns-clause-owner_of_four : goal.returns-clause-owner_of_four
-returns-clause-owner_of_four g c = story.owner_gets _ _
-
-pub returns-clause-clear_of_four : goal.returns-clause-clear_of_four
-returns-clause-clear_of_four g c = four.clear_of_four _ _

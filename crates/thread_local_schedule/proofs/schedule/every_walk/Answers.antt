@@ -1,9 +1,28 @@
 use Rattle.thread_local_core.proofs.CoreLaws as known
 use Rattle.thread_local_schedule.proofs.Clauses as clause
+use Rattle.thread_local_schedule.proofs.WalkEvents as event
 use Rattle.thread_local_schedule.proofs.schedule.every_walk.Goals as goal
 
+pub returns-clause-begins : goal.returns-clause-begins
+returns-clause-begins g c = event.begins
+
+pub returns-clause-comes : goal.returns-clause-comes
+returns-clause-comes g c = λ core now n walk r. (event.walks_say core now (clause.fits core r)).comes n walk
+
+pub returns-clause-others : goal.returns-clause-others
+returns-clause-others g c = λ core now n walk r. (event.walks_say core now (clause.fits core r)).others n walk
+
+pub returns-clause-goes_on : goal.returns-clause-goes_on
+returns-clause-goes_on g c = event.goes_on
+
+pub returns-clause-ends : goal.returns-clause-ends
+returns-clause-ends g c = event.ends
+
+pub returns-clause-may_end : goal.returns-clause-may_end
+returns-clause-may_end g c = event.may_end
+
 pub returns-clause-adds : goal.returns-clause-adds
-returns-clause-adds g c = λ core n step before after r. clause.adds core n step before after (clause.fits core r)
+returns-clause-adds g c = λ core n step before r. event.adds core n step before (clause.fits core r)
 
 pub returns-clause-complete : goal.returns-clause-complete
 returns-clause-complete g c = λ core n walk r at done id v e. known.complete core n walk (clause.fits core r) at done id v e

@@ -69,6 +69,10 @@ pub data WalkStep : Type 0 where
   Load : WalkStep
   Look : WalkStep
 
+-- the step that a walk makes next
+abbrev pub next_step : {V : Type 0} → SharedWalk V → WalkStep
+next_step walk = if walk.looks then Look else Load
+
 -- what a step makes of the walk, None where it isn't enabled
 unfoldable pub walk_step : {V : Type 0} → Table V → SharedWalk V → WalkStep → Option (SharedWalk V)
 walk_step table walk Load = walk_load table walk walk.looks

@@ -2,19 +2,19 @@ use Rattle.std.proofs.Common.{◌≡◌, true, ℕ, [], ◌∷◌, Some, IsTrue,
 use Rattle.thread_local_model.specs.Place.{place, next_place, bucket_of, index_of}
 use Rattle.thread_local_model.specs.Capacity.{binary_digits, reserved_slots}
 use Rattle.thread_local_model.specs.Buckets.{slots, slots_below}
-use Rattle.thread_local_steps.specs.Table.{slot_at, published, stands, with_bucket, with_slot, made_table}
+use Rattle.thread_local_steps.specs.Table.{slot_at, published, stands, with_fresh_bucket, with_slot, made_table}
 use Rattle.thread_local_steps.specs.Local.{local_step}
-use Rattle.thread_local_steps.specs.SharedWalk.{walk_step, is_complete}
-use Rattle.thread_local_steps.specs.OwnerWalk.{owner_walk, owner_walk_below}
+use Rattle.thread_local_walk_steps.specs.SharedWalk.{walk_step, is_complete}
+use Rattle.thread_local_walk_steps.specs.OwnerWalk.{owner_walk, owner_walk_below}
 use Rattle.thread_local_model.specs.Walk.{walk_below}
 use Rattle.thread_local_model.specs.Answers.{Found, Answered}
 use Rattle.thread_local_core.specs.Core.{peak, installed_slots}
 use Rattle.thread_local_schedule.specs.Events.{Owner, IterMut, ClearTable, step, happens, run, is_enabled}
-use Rattle.thread_local_schedule.specs.Story.{walk_on, whole_walk, four_publish, four_give_back, after_publishing, after_walking, after_giving_back, after_next, after_all}
+use Rattle.thread_local_story.specs.Story.{walk_on, whole_walk, four_publish, four_give_back, after_publishing, after_walking, after_giving_back, after_next, after_all}
 
 -- the definitions by which the story computes
 unfoldable pub by_steps : ℕ
-unfolding walk_on whole_walk four_publish four_give_back after_publishing after_walking after_giving_back after_next after_all run happens step is_enabled local_step walk_step slot_at published stands with_bucket with_slot made_table binary_digits reserved_slots bucket_of index_of place next_place slots slots_below walk_below owner_walk owner_walk_below
+unfolding walk_on whole_walk four_publish four_give_back after_publishing after_walking after_giving_back after_next after_all run happens step is_enabled local_step walk_step slot_at published stands with_fresh_bucket with_slot made_table binary_digits reserved_slots bucket_of index_of place next_place slots slots_below walk_below owner_walk owner_walk_below
 by_steps = 0
 
 module _ (T F : Type 0) (a b c d : T) where
@@ -26,7 +26,7 @@ module _ (T F : Type 0) (a b c d : T) where
   unfolding by_steps
   walk_gives = (refl, refl)
 
-  pub next_gets : IsSomeAnd ((after_next {V = T} {E = F} a b c d).locals 4) (λ local. (local.id ≡ 0) × (local.start.value ≡ Some a) × (local.answers ≡ Found (Some a) ∷ Answered a ∷ []))
+  pub next_gets : IsSomeAnd ((after_next {V = T} {E = F} a b c d).locals 4) (λ local. (local.id ≡ 0) × (local.start.value ≡ Some a) × (local.answered ≡ Found (Some a) ∷ Answered a ∷ []))
   unfolding by_steps
   next_gets = (refl, refl, refl)
 

@@ -6,9 +6,9 @@ use Rattle.thread_local_model.specs.Walk.{walk, walk_below}
 use Rattle.thread_local_model.proofs.PlaceLaws as place
 use Rattle.thread_local_model.proofs.WalkLaws.{walk_below-same, walk_below-none, walk_below-add}
 use Rattle.thread_local_steps.specs.Table.{Bucket, Table, value_of, slot_of, slot_at, published, stands}
-use Rattle.thread_local_steps.specs.OwnerWalk.{values_in, owner_walk_below, owner_walk, rewritten_slot, rewritten_bucket, rewritten}
-use Rattle.thread_local_steps.specs.Fits.{IsWritten, AllWritten}
-use Rattle.thread_local_steps.proofs.WalkStepLaws.{shown_at_cursor}
+use Rattle.thread_local_walk_steps.specs.OwnerWalk.{values_in, owner_walk_below, owner_walk, rewritten_slot, rewritten_bucket, rewritten}
+use Rattle.thread_local_steps.specs.Fits.{IsWritten, AllWritten, named}
+use Rattle.thread_local_walk_steps.proofs.WalkStepLaws.{shown_at_cursor}
 
 -- what an owner finds in what a word names is what its slots show, in their order
 values_in-walk_below : {V : Type 0} (word : Option (Bucket V)) (bucket : ℕ) → values_in word bucket ≡ walk_below (λ index. value_of (slot_of word index)) (2 ^ bucket)
@@ -76,3 +76,16 @@ some-rewritten_bucket others (Some here) = refl
 pub stands-rewritten : {V : Type 0} (table : Table V) (others : ℕ → V → V) (bucket : ℕ) → stands (rewritten table others) bucket ≡ stands table bucket
 unfolding stands rewritten
 stands-rewritten table others bucket = some-rewritten_bucket (λ index. others (id_at bucket index)) (table.words bucket)
+
+-- an owner's writes change no name
+named-rewritten_bucket : {V : Type 0} (others : ℕ → V → V) (word : Option _) → option_map (λ here. here.number) (rewritten_bucket others word) ≡ option_map (λ here. here.number) word
+named-rewritten_bucket others None = refl
+named-rewritten_bucket others (Some here) = refl
+
+pub named-rewritten : {V : Type 0} (table : Table V) (others : ℕ → V → V) (bucket : ℕ) → named (rewritten table others) bucket ≡ named table bucket
+unfolding named rewritten
+named-rewritten table others bucket = named-rewritten_bucket (λ index. others (id_at bucket index)) (table.words bucket)
+
+pub made-rewritten : {V : Type 0} (table : Table V) (others : ℕ → V → V) → (rewritten table others).made ≡ table.made
+unfolding rewritten
+made-rewritten table others = refl

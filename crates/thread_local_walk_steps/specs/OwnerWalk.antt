@@ -6,7 +6,7 @@ use Rattle.thread_local_steps.specs.Table.{Slot, Bucket, Table, value_of}
 -- what an owner finds in what a word names, by ascending index: the values of the slots whose flag is set
 abbrev pub values_in : {V : Type 0} → Option (Bucket V) → ℕ → List V
 values_in None bucket = []
-values_in (Some here) bucket = walk_below (λ index. value_of (here.slots index)) (2 ^ bucket)
+values_in (Some here) bucket = walk_below (λ index. value_of (here.slot index)) (2 ^ bucket)
 
 -- what an owner finds in the buckets below n, one after another
 unfoldable pub owner_walk_below : {V : Type 0} → Table V → ℕ → List V
@@ -24,7 +24,7 @@ rewritten_slot other slot = if slot.flag then record { written = option_map othe
 -- what a word names once the owner put other values in place
 abbrev pub rewritten_bucket : {V : Type 0} → (ℕ → V → V) → Option (Bucket V) → Option (Bucket V)
 rewritten_bucket others None = None
-rewritten_bucket others (Some here) = Some (record here { slots = λ index. rewritten_slot (others index) (here.slots index) })
+rewritten_bucket others (Some here) = Some (record here { slot = λ index. rewritten_slot (others index) (here.slot index) })
 
 -- the table once the owner put another value at each id that has one
 unfoldable pub rewritten : {V : Type 0} → Table V → (ℕ → V → V) → Table V

@@ -1,0 +1,158 @@
+use Rattle.std.proofs.Common.{◌≡◌, ℕ, Bool, true, false, cond, Option, Some, None, is_some, IsTrue, IfSome, IsSomeAnd, refl, ap, sym, ◌∙◌, subst, arith, ⊎_elim}
+use Rattle.std.specs.Prelude.{option_map, unwrap_or}
+use Rattle.std.proofs.lemmas.Option.{none-some}
+use Rattle.std.proofs.lemmas.Bool.{false≢true, eqb-false, cond_both}
+use Rattle.thread_local_steps.specs.Table.{Table}
+use Rattle.thread_local_steps.specs.Local.{Local, LocalStep, local_step}
+use Rattle.thread_local_walk_steps.specs.SharedWalk.{SharedWalk, fresh_walk, is_complete, WalkStep, Load, Look, walk_step, next_step}
+use Rattle.thread_local_walk_steps.specs.WalkFits.{Adds}
+use Rattle.thread_local_walk_steps.proofs.WalkStepLaws.{walk_step-adds}
+use Rattle.thread_local_core.specs.Core.{Core, is_alone}
+use Rattle.thread_local_core.specs.CoreFits.{CoreFits}
+use Rattle.thread_local_core.proofs.PutLaws.{put_cases, put_same, put_other, still}
+use Rattle.thread_local_core.proofs.Parts.{no_walks}
+use Rattle.thread_local_core.proofs.OptionLaws.{if_enabled}
+use Rattle.thread_local_schedule.specs.Events.{Event, TakeId, OfLocal, GiveBack, Forget, BeginWalk, OfWalk, EndWalk, Owner, OwnerCall, IterMut, Slots, ClearTable, IntoIter, DropTable, is_granted, take_id, with_step, of_local, give_back, forget, begin_walk, of_walk, end_walk, with_walk, owner_call, is_idle, without_local, given_to, step_of, step, is_enabled, happens}
+use Rattle.thread_local_schedule.specs.Schedule.{is_of_walk}
+use Rattle.thread_local_schedule.proofs.Clauses.{goes, enabled_step}
+use Rattle.thread_local_schedule.proofs.Enabled.{may}
+
+-- what an event that is enabled says of the walks
+pub record WalksSay {V E : Type 0} (core : Core V E) (event : Event V E) (after : Core V E) : Type 0 where
+  pub others : (n : ℕ) (walk : SharedWalk V) → is_of_walk n event ≡ false → core.walks n ≡ Some walk → after.walks n ≡ Some walk
+  pub comes : (n : ℕ) (walk : SharedWalk V) → core.walks n ≡ None → after.walks n ≡ Some walk → walk ≡ fresh_walk
+
+-- an event that leaves the walks
+leaves : {V E : Type 0} (core : Core V E) (event : Event V E) (after : Core V E) → ((n : ℕ) → after.walks n ≡ core.walks n) → WalksSay core event after
+leaves core event after same = record { others = λ n walk _ at. same n ∙ at; comes = λ n walk none at. absurd (none-some walk (sym none ∙ sym (same n) ∙ at)) }
+
+of_local-says : {V E : Type 0} (core : Core V E) (number : ℕ) (step : LocalStep V E) (o : Option (Local V E)) → IfSome (of_local core number step o) (WalksSay core (OfLocal number step))
+of_local-says core number step None = tt
+of_local-says core number step (Some local) = mapped (local_step core.table local step)
+  where
+    mapped : (o : Option (Table _ × Local _ _)) → IfSome (option_map (with_step core number) o) (WalksSay core (OfLocal number step))
+    mapped None = tt
+    mapped (Some after) = leaves core (OfLocal number step) (with_step core number after) (λ n. refl)
+
+give_back-says : {V E : Type 0} (core : Core V E) (number : ℕ) (o : Option (Local V E)) → IfSome (give_back core number o) (WalksSay core (GiveBack number))
+give_back-says core number None = tt
+give_back-says core number (Some local) =
+    let after = record (without_local core number) { manager = given_to core.manager local.id } in
+    if_enabled (WalksSay core (GiveBack number)) (is_idle local.doing) after (leaves core (GiveBack number) after (λ n. refl))
+
+forget-says : {V E : Type 0} (core : Core V E) (number : ℕ) (o : Option (Local V E)) → IfSome (forget core number o) (WalksSay core (Forget number))
+forget-says core number None = tt
+forget-says core number (Some local) =
+    if_enabled (WalksSay core (Forget number)) (is_idle local.doing) (without_local core number) (leaves core (Forget number) (without_local core number) (λ n. refl))
+
+-- a walk that begins comes under a number that none has
+begin_walk-says : {V E : Type 0} (core : Core V E) → CoreFits core → IfSome (begin_walk core) (WalksSay core BeginWalk)
+begin_walk-says core h = record {
+  others = λ n walk _ at.
+      put_other core.walks core.walked _ n (λ same. none-some walk (sym (h.walks.none_from core.walked (omega arith)) ∙ ap core.walks same ∙ at)) ∙ at;
+  comes = λ n walk none at.
+      ⊎_elim
+      (λ here. let same : fresh_walk ≡ walk = (let some = here.1 in cc) in sym same)
+      (λ apart. absurd (none-some walk (sym none ∙ apart.1)))
+      (put_cases core.walks core.walked (Some fresh_walk) n walk at);
+}
+
+of_walk-says : {V E : Type 0} (core : Core V E) (number : ℕ) (step : WalkStep) (o : Option (SharedWalk V)) → core.walks number ≡ o → IfSome (of_walk core number step o) (WalksSay core (OfWalk number step))
+of_walk-says core number step None at = tt
+of_walk-says core number step (Some walk) at = mapped (walk_step core.table walk step)
+  where
+    mapped : (o : Option (SharedWalk _)) → IfSome (option_map (with_walk core number) o) (WalksSay core (OfWalk number step))
+    mapped None = tt
+    mapped (Some after) = record {
+      others = λ n other f e. put_other core.walks number (Some after) n (eqb-false number n f) ∙ e;
+      comes = λ n other none e.
+          ⊎_elim
+          (λ here. absurd (none-some walk (sym none ∙ ap core.walks (sym here.0) ∙ at)))
+          (λ apart. absurd (none-some other (sym none ∙ apart.1)))
+          (put_cases core.walks number (Some after) n other e);
+    }
+
+end_walk-says : {V E : Type 0} (core : Core V E) (number : ℕ) (o : Option (SharedWalk V)) → IfSome (end_walk core number o) (WalksSay core (EndWalk number))
+end_walk-says core number None = tt
+end_walk-says core number (Some walk) = record {
+  others = λ n other f e. put_other core.walks number None n (eqb-false number n f) ∙ e;
+  comes = λ n other none e. absurd (none-some other (sym none ∙ (still core.walks number n other e).1));
+}
+
+owner_call-says : {V E : Type 0} (core : Core V E) (alone : Bool) (call : OwnerCall V) → is_alone core ≡ alone → CoreFits core → IfSome (owner_call core alone call) (WalksSay core (Owner call))
+owner_call-says core false call e h = tt
+owner_call-says core true (IterMut others) e h = leaves core (Owner (IterMut others)) _ (λ n. refl)
+owner_call-says core true Slots e h = leaves core (Owner Slots) core (λ n. refl)
+owner_call-says core true ClearTable e h = leaves core (Owner ClearTable) _ (λ n. sym (no_walks core h e n))
+owner_call-says core true IntoIter e h = leaves core (Owner IntoIter) _ (λ n. refl)
+owner_call-says core true DropTable e h = leaves core (Owner DropTable) _ (λ n. refl)
+
+step_of-says : {V E : Type 0} (core : Core V E) (event : Event V E) → CoreFits core → IfSome (step_of core event) (WalksSay core event)
+step_of-says core (TakeId refused growth) h =
+    leaves core (TakeId refused growth) _
+    (λ n. cond_both (is_granted core.manager refused) (take_id core growth) core (λ after. after.walks n ≡ core.walks n) (λ _. refl) (λ _. refl))
+step_of-says core (OfLocal number step) h = of_local-says core number step (core.locals number)
+step_of-says core (GiveBack number) h = give_back-says core number (core.locals number)
+step_of-says core (Forget number) h = forget-says core number (core.locals number)
+step_of-says core BeginWalk h = begin_walk-says core h
+step_of-says core (OfWalk number step) h = of_walk-says core number step (core.walks number) refl
+step_of-says core (EndWalk number) h = end_walk-says core number (core.walks number)
+step_of-says core (Owner call) h = owner_call-says core (is_alone core) call refl h
+
+says_of : {V E : Type 0} (core : Core V E) (event : Event V E) (o : Option (Core V E)) → IfSome o (WalksSay core event) → WalksSay core event (unwrap_or o core)
+says_of core event None s = leaves core event core (λ n. refl)
+says_of core event (Some after) s = s
+
+pub walks_say : {V E : Type 0} (core : Core V E) (event : Event V E) → CoreFits core → WalksSay core event (happens core event)
+unfolding happens step
+walks_say core event h =
+    cond_both {A = Option (Core _ _)} core.ended None (step_of core event) (λ o. WalksSay core event (unwrap_or o core))
+    (λ _. leaves core event core (λ n. refl))
+    (λ _. says_of core event (step_of core event) (step_of-says core event h))
+
+-- a walk begins fresh
+pub begins : {V E : Type 0} (core : Core V E) → IsTrue (is_enabled core BeginWalk) → (happens core BeginWalk).walks core.walked ≡ Some fresh_walk
+begins core t = ap (λ after. after.walks core.walked) (goes core BeginWalk t) ∙ put_same core.walks core.walked (Some fresh_walk)
+
+-- a step of a walk adds to its record as it says
+added : {V E : Type 0} (core : Core V E) (n : ℕ) (step : WalkStep) (o : Option (SharedWalk V)) (before : SharedWalk V) → IfSome o (Adds core.table step before)
+    → IsTrue (is_some (option_map (with_walk core n) o)) → IsSomeAnd ((unwrap_or (option_map (with_walk core n) o) core).walks n) (Adds core.table step before)
+added core n step None before a t = absurd (false≢true t)
+added core n step (Some walk) before a t = rw (put_same core.walks n (Some walk)) a
+
+pub adds : {V E : Type 0} (core : Core V E) (n : ℕ) (step : WalkStep) (before : SharedWalk V) → CoreFits core → IsTrue (is_enabled core (OfWalk n step))
+    → core.walks n ≡ Some before → IsSomeAnd ((happens core (OfWalk n step)).walks n) (Adds core.table step before)
+adds core n step before h t at =
+    rw (goes core (OfWalk n step) t)
+    (rw at (added core n step (walk_step core.table before step) before (walk_step-adds core.table before step (h.walks.each n before at)) (subst (λ o. IsTrue (is_some (of_walk core n step o))) at (enabled_step core (OfWalk n step) t))))
+
+-- a walk that isn't complete goes on
+loads : {V : Type 0} (table : Table V) (walk : SharedWalk V) (looks : Bool) → walk.looks ≡ looks → is_complete walk ≡ false → IsTrue (is_some (walk_step table walk (cond looks Look Load)))
+unfolding walk_step
+loads table walk true e f = rw e refl
+loads table walk false e f = rw e (below _ _ f)
+  where
+    below : {A : Type 0} (b : Bool) (x : A) → cond b false true ≡ false → IsTrue (is_some (cond b (Some x) None))
+    below true x f = refl
+    below false x f = absurd (false≢true (sym f))
+
+stepped_on : {V E : Type 0} (core : Core V E) (n : ℕ) (o : Option (SharedWalk V)) → IsTrue (is_some o) → IsTrue (is_some (option_map (with_walk core n) o))
+stepped_on core n None t = absurd (false≢true t)
+stepped_on core n (Some walk) t = refl
+
+pub goes_on : {V E : Type 0} (core : Core V E) (n : ℕ) (walk : SharedWalk V) → core.ended ≡ false → core.walks n ≡ Some walk → is_complete walk ≡ false
+    → IsTrue (is_enabled core (OfWalk n (next_step walk)))
+goes_on core n walk going at f =
+    may core (OfWalk n (next_step walk)) going
+    (subst (λ o. IsTrue (is_some (of_walk core n (next_step walk) o))) (sym at) (stepped_on core n (walk_step core.table walk (next_step walk)) (loads core.table walk walk.looks refl f)))
+
+-- the end of a walk
+ended : {V E : Type 0} (core : Core V E) (n : ℕ) (o : Option (SharedWalk V)) → IsTrue (is_some (end_walk core n o)) → (unwrap_or (end_walk core n o) core).walks n ≡ None
+ended core n None t = absurd (false≢true t)
+ended core n (Some walk) t = put_same core.walks n None
+
+pub ends : {V E : Type 0} (core : Core V E) (n : ℕ) → IsTrue (is_enabled core (EndWalk n)) → (happens core (EndWalk n)).walks n ≡ None
+ends core n t = ap (λ after. after.walks n) (goes core (EndWalk n) t) ∙ ended core n (core.walks n) (enabled_step core (EndWalk n) t)
+
+pub may_end : {V E : Type 0} (core : Core V E) (n : ℕ) (walk : SharedWalk V) → core.ended ≡ false → core.walks n ≡ Some walk → IsTrue (is_enabled core (EndWalk n))
+may_end core n walk going at = may core (EndWalk n) going (rw at refl)

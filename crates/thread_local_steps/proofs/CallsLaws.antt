@@ -1,0 +1,102 @@
+use Rattle.std.proofs.Common.{◌≡◌, ℕ, zero, suc, Bool, true, false, [], ◌∷◌, ◌++◌, Option, Some, None, Result, Ok, Err, IfSome, IsSomeAnd, refl, ap, sym, subst, inl, inr}
+use Rattle.thread_local_model.specs.Answers.{Get, GetOr, Answer}
+use Rattle.thread_local_model.specs.Learnt.{Learnt, Missing, Vacant, Holding, loaded, looked}
+use Rattle.thread_local_steps.specs.Table.{Table, published, stands}
+use Rattle.thread_local_model.specs.Place.{bucket_of}
+use Rattle.thread_local_steps.specs.Local.{Doing, Gets, Started, Private, Written, Local, after_call, is_calling, begin_get, begin_get_or, learns, load_word, look_at_flag, make_bucket, install_bucket, write_value, set_flag, reply, local_step, LocalStep, BeginGet, BeginGetOr, LoadWord, LookAtFlag, MakeBucket, InstallBucket, WriteValue, SetFlag, Reply}
+use Rattle.thread_local_steps.specs.Calls.{gets_of, closure_of, CallsStay, PublishingEnds, CallsGo, GoesOn}
+
+-- a Local that does the same, or goes on with the call that it has begun
+goes : {V E : Type 0} (step : LocalStep V E) (local : Local V E) (learnt : Learnt V) (doing : Doing V E) → CallsGo step local (record local { learnt = learnt; doing = doing })
+    → GoesOn step local (record local { learnt = learnt; doing = doing })
+goes step local learnt doing calls = record { id = refl; start = refl; calls = calls }
+
+stay : {V E : Type 0} (local : Local V E) (learnt : Learnt V) (doing : Doing V E) → gets_of doing ≡ gets_of local.doing → closure_of doing ≡ closure_of local.doing
+    → CallsStay local (record local { learnt = learnt; doing = doing })
+stay local learnt doing gets closure = record { gets = gets; closure = closure; calls = refl }
+
+-- a publishing call ends
+publishing_ends : {V E : Type 0} (local : Local V E) (create : Result V E) (refused : Bool) (told : Answer V E) (learnt : Learnt V) → gets_of local.doing ≡ 0
+    → closure_of local.doing ≡ Some create → PublishingEnds refused local (after_call local (GetOr create refused) told learnt (Gets 0))
+publishing_ends local create refused told learnt gets closure = record {
+  none = refl;
+  gets = sym gets;
+  calls = subst (λ o. IsSomeAnd o (λ c. local.calls ++ GetOr create refused ∷ [] ≡ local.calls ++ GetOr c refused ∷ [])) (sym closure) refl;
+}
+
+get_ends : {V E : Type 0} (local : Local V E) (count : ℕ) (told : Answer V E) (learnt : Learnt V) → local.doing ≡ Gets (suc count)
+    → GoesOn Reply local (after_call local Get told learnt (Gets count))
+get_ends local count told learnt e = record { id = refl; start = refl; calls = inl (record { gets = ap gets_of e; closure = sym (ap closure_of e); calls = refl }) }
+
+begin_get-goes : {V E : Type 0} (table : Table V) (local : Local V E) (doing : Doing V E) → local.doing ≡ doing → IfSome (begin_get table local doing) (λ after. GoesOn BeginGet local after.1)
+begin_get-goes table local (Gets count) e =
+    goes BeginGet local local.learnt (Gets (suc count)) (record { gets = ap suc (sym (ap gets_of e)); closure = sym (ap closure_of e); calls = refl })
+begin_get-goes table local _ e = tt
+
+begin_get_or-goes : {V E : Type 0} (table : Table V) (local : Local V E) (create : Result V E) (doing : Doing V E) → local.doing ≡ doing
+    → IfSome (begin_get_or table local create doing) (λ after. GoesOn (BeginGetOr create) local after.1)
+begin_get_or-goes table local create (Gets zero) e =
+    goes (BeginGetOr create) local local.learnt (Started create) (record { none = ap closure_of e; gets = sym (ap gets_of e); closure = refl; calls = refl })
+begin_get_or-goes table local create _ e = tt
+
+learns-goes : {V E : Type 0} (step : LocalStep V E) (table : Table V) (local : Local V E) (o : Option (Learnt V))
+    → ((after : Local V E) → CallsStay local after → CallsGo step local after) → IfSome (learns table local o) (λ after. GoesOn step local after.1)
+learns-goes step table local None go = tt
+learns-goes step table local (Some learnt) go = record { id = refl; start = refl; calls = go (record local { learnt = learnt }) (record { gets = refl; closure = refl; calls = refl }) }
+
+load_word-goes : {V E : Type 0} (table : Table V) (local : Local V E) (b : Bool) → IfSome (load_word table local b) (λ after. GoesOn LoadWord local after.1)
+load_word-goes table local false = tt
+load_word-goes table local true = learns-goes LoadWord table local (loaded local.learnt (stands table (bucket_of local.id))) (λ after c. c)
+
+look_at_flag-goes : {V E : Type 0} (table : Table V) (local : Local V E) (b : Bool) → IfSome (look_at_flag table local b) (λ after. GoesOn LookAtFlag local after.1)
+look_at_flag-goes table local false = tt
+look_at_flag-goes table local true = learns-goes LookAtFlag table local (looked local.learnt (published table local.id)) (λ after c. c)
+
+make_bucket-goes : {V E : Type 0} (table : Table V) (local : Local V E) (refused : Bool) (doing : Doing V E) (learnt : Learnt V) → local.doing ≡ doing
+    → IfSome (make_bucket table local refused doing learnt) (λ after. GoesOn (MakeBucket refused) local after.1)
+make_bucket-goes table local true (Started create) Missing e =
+    record { id = refl; start = refl; calls = record { ends = publishing_ends local create true _ Missing (ap gets_of e) (ap closure_of e); answered = refl } }
+make_bucket-goes table local false (Started create) Missing e =
+    goes (MakeBucket false) local local.learnt (Private create table.made) (stay local local.learnt (Private create table.made) (sym (ap gets_of e)) (sym (ap closure_of e)))
+make_bucket-goes table local refused _ _ e = tt
+
+install_bucket-goes : {V E : Type 0} (table : Table V) (local : Local V E) (doing : Doing V E) → local.doing ≡ doing
+    → IfSome (install_bucket table local doing) (λ after. GoesOn InstallBucket local after.1)
+install_bucket-goes table local (Private create number) e =
+    goes InstallBucket local Vacant (Started create) (stay local Vacant (Started create) (sym (ap gets_of e)) (sym (ap closure_of e)))
+install_bucket-goes table local _ e = tt
+
+write_value-goes : {V E : Type 0} (table : Table V) (local : Local V E) (doing : Doing V E) (learnt : Learnt V) → local.doing ≡ doing
+    → IfSome (write_value table local doing learnt) (λ after. GoesOn WriteValue local after.1)
+write_value-goes table local (Started (Ok v)) Vacant e =
+    goes WriteValue local Vacant (Written v) (inl (stay local Vacant (Written v) (sym (ap gets_of e)) (sym (ap closure_of e))))
+write_value-goes table local (Started (Err x)) Vacant e =
+    record { id = refl; start = refl; calls = inr (publishing_ends local (Err x) false _ Vacant (ap gets_of e) (ap closure_of e)) }
+write_value-goes table local _ _ e = tt
+
+set_flag-goes : {V E : Type 0} (table : Table V) (local : Local V E) (doing : Doing V E) → local.doing ≡ doing
+    → IfSome (set_flag table local doing) (λ after. GoesOn SetFlag local after.1)
+set_flag-goes table local (Written v) e = record { id = refl; start = refl; calls = publishing_ends local (Ok v) false _ (Holding v) (ap gets_of e) (ap closure_of e) }
+set_flag-goes table local _ e = tt
+
+reply-goes : {V E : Type 0} (table : Table V) (local : Local V E) (doing : Doing V E) (learnt : Learnt V) → local.doing ≡ doing
+    → IfSome (reply table local doing learnt) (λ after. GoesOn Reply local after.1)
+reply-goes table local (Gets (suc count)) Missing e = get_ends local count _ Missing e
+reply-goes table local (Gets (suc count)) Vacant e = get_ends local count _ Vacant e
+reply-goes table local (Gets (suc count)) (Holding v) e = get_ends local count _ (Holding v) e
+reply-goes table local (Started create) (Holding v) e =
+    record { id = refl; start = refl; calls = inr (publishing_ends local create false _ (Holding v) (ap gets_of e) (ap closure_of e)) }
+reply-goes table local _ _ e = tt
+
+-- no step loses a call or makes one up
+pub local_step-goes : {V E : Type 0} (table : Table V) (local : Local V E) (step : LocalStep V E) → IfSome (local_step table local step) (λ after. GoesOn step local after.1)
+unfolding local_step
+local_step-goes table local BeginGet = begin_get-goes table local local.doing refl
+local_step-goes table local (BeginGetOr create) = begin_get_or-goes table local create local.doing refl
+local_step-goes table local LoadWord = load_word-goes table local (is_calling local.doing)
+local_step-goes table local LookAtFlag = look_at_flag-goes table local (is_calling local.doing)
+local_step-goes table local (MakeBucket refused) = make_bucket-goes table local refused local.doing local.learnt refl
+local_step-goes table local InstallBucket = install_bucket-goes table local local.doing refl
+local_step-goes table local WriteValue = write_value-goes table local local.doing local.learnt refl
+local_step-goes table local SetFlag = set_flag-goes table local local.doing refl
+local_step-goes table local Reply = reply-goes table local local.doing local.learnt refl

@@ -1,0 +1,72 @@
+use Rattle.std.specs.Prelude.{◌≡◌, ℕ, suc, ◌⊎◌, Bool, true, false, [], ◌∷◌, ◌++◌, Option, Some, None, IsSomeAnd, Result, Ok}
+use Rattle.thread_local_model.specs.Answers.{Get, GetOr, Refused}
+use Rattle.thread_local_steps.specs.Local.{Doing, Gets, Started, Private, Written, Local, LocalStep, BeginGet, BeginGetOr, MakeBucket, WriteValue, SetFlag, Reply}
+
+-- how many gets are under way
+abbrev pub gets_of : {V E : Type 0} → Doing V E → ℕ
+gets_of (Gets count) = count
+gets_of doing = 0
+
+-- what the closure of the publishing call would answer, if one is under way
+abbrev pub closure_of : {V E : Type 0} → Doing V E → Option (Result V E)
+closure_of (Gets count) = None
+closure_of (Started create) = Some create
+closure_of (Private create number) = Some create
+closure_of (Written v) = Some (Ok v)
+
+-- no call of this Local is under way
+pub record HasNoCall {V E : Type 0} (local : Local V E) : Type 0 where
+  pub gets : gets_of local.doing ≡ 0
+  pub closure : closure_of local.doing ≡ None
+
+-- one more get is under way
+pub record GetBegins {V E : Type 0} (before after : Local V E) : Type 0 where
+  pub gets : gets_of after.doing ≡ suc (gets_of before.doing)
+  pub closure : closure_of after.doing ≡ closure_of before.doing
+  pub calls : after.calls ≡ before.calls
+
+-- a publishing call is under way, with this closure, where none was
+pub record PublishingBegins {V E : Type 0} (create : Result V E) (before after : Local V E) : Type 0 where
+  pub none : closure_of before.doing ≡ None
+  pub gets : gets_of after.doing ≡ gets_of before.doing
+  pub closure : closure_of after.doing ≡ Some create
+  pub calls : after.calls ≡ before.calls
+
+-- no call begins or ends
+pub record CallsStay {V E : Type 0} (before after : Local V E) : Type 0 where
+  pub gets : gets_of after.doing ≡ gets_of before.doing
+  pub closure : closure_of after.doing ≡ closure_of before.doing
+  pub calls : after.calls ≡ before.calls
+
+-- one get fewer is under way, and a get is recorded
+pub record GetEnds {V E : Type 0} (before after : Local V E) : Type 0 where
+  pub gets : gets_of before.doing ≡ suc (gets_of after.doing)
+  pub closure : closure_of after.doing ≡ closure_of before.doing
+  pub calls : after.calls ≡ before.calls ++ Get ∷ []
+
+-- the publishing call is under way no longer, and it is recorded with its closure, as refused memory or not
+pub record PublishingEnds {V E : Type 0} (refused : Bool) (before after : Local V E) : Type 0 where
+  pub none : closure_of after.doing ≡ None
+  pub gets : gets_of after.doing ≡ gets_of before.doing
+  pub calls : IsSomeAnd (closure_of before.doing) (λ create. after.calls ≡ before.calls ++ GetOr create refused ∷ [])
+
+-- the publishing call ends as refused memory, and so it answers
+pub record MemoryRefused {V E : Type 0} (before after : Local V E) : Type 0 where
+  pub ends : PublishingEnds true before after
+  pub answered : after.answered ≡ before.answered ++ Refused ∷ []
+
+-- What a step does to the calls of its Local: one begins, none begins or ends, or one ends and is recorded.
+abbrev pub CallsGo : {V E : Type 0} → LocalStep V E → Local V E → Local V E → Type 0
+CallsGo BeginGet before after = GetBegins before after
+CallsGo (BeginGetOr create) before after = PublishingBegins create before after
+CallsGo (MakeBucket true) before after = MemoryRefused before after
+CallsGo WriteValue before after = CallsStay before after ⊎ PublishingEnds false before after
+CallsGo SetFlag before after = PublishingEnds false before after
+CallsGo Reply before after = GetEnds before after ⊎ PublishingEnds false before after
+CallsGo step before after = CallsStay before after
+
+-- a Local goes on by a step: its id and its first view stay, and its calls are what the step makes of them
+pub record GoesOn {V E : Type 0} (step : LocalStep V E) (before after : Local V E) : Type 0 where
+  pub id : after.id ≡ before.id
+  pub start : after.start ≡ before.start
+  pub calls : CallsGo step before after

@@ -1,0 +1,2 @@
+pub mod FourLocals
+pub mod FourValues

@@ -1,0 +1,2 @@
+pub mod WalkStepLaws
+pub mod OwnerLaws
