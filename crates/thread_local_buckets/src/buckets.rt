@@ -3,19 +3,18 @@ ghost use Rattle.std.specs.Borrow.{sem};
 ghost use Rattle.thread_local_model.specs.Place.{id_at};
 ghost use Rattle.thread_local_model.specs.Buckets.{row, stands, slots, values, no_contents, IsTable};
 ghost use Rattle.thread_local_model.specs.Owned.{Owned, IsOwned};
-ghost use Rattle.thread_local_model.specs.Rows.{slot};
+ghost use Rattle.thread_local_model.specs.Rows.{value_in};
 ghost use Rattle.thread_local_model.specs.Capacity.{binary_digits, reserved_slots};
 ghost use Rattle.thread_local_model.specs.Sheet.{moved};
 ghost use Rattle.thread_local_model.specs.Walk.{walk, with_value};
-ghost use Rattle.thread_local_contents.specs.Owner.{with_bucket, with_published, sheet_of, offer};
+ghost use Rattle.thread_local_contents.specs.Owner.{with_bucket, with_published, sheet_of, publish_or_keep};
 
 use crate::iter::IntoIter;
 use crate::iter_mut::IterMut;
-use crate::steps::{BUCKETS, bucket_size, count, holds, offer, stand};
 use std::alloc::{AllocError, Global};
 use std::marker::Model;
 use thread_local_contents::RawIter;
-use thread_local_thread_id::Thread;
+use thread_local_thread_id::{BUCKETS, Thread, bucket_size};
 use thread_local_words::Words;
 
 mod lends;
@@ -91,7 +90,7 @@ impl<T> Buckets<T> {
         let first = digits(capacity);
         let mut words = Words::new(alloc);
         for bucket in 0..first {
-            if let Err(error) = stand(&mut words, bucket) {
+            if let Err(error) = words.ensure_bucket(bucket) {
                 return Err(CapacityError::Memory(error));
             }
         }
@@ -108,22 +107,22 @@ impl<T> Buckets<T> {
     where
         T: Drop,
         ensures* writes_back { sem 𝓛 (LendsInserted T.row self.entry thread.bucket thread.index result) }
-        ensures answers { IfOk result (λ there. there.now ≡ unwrap_or (slot self.old.contents thread.bucket thread.index) value) }
+        ensures answers { IfOk result (λ there. there.now ≡ unwrap_or (value_in self.old.contents thread.bucket thread.index) value) }
 
         // Where nothing is written through the answer, the map is as after a publishing, or after the keeping of what
         // stands there. No other bucket is made, whatever is written.
-        ensures moves { sheet_of (with_published self.old.contents thread.bucket thread.index (unwrap_or (slot self.old.contents thread.bucket thread.index) value))
-            ≡ moved (sheet_of self.old.contents) (offer (slot self.old.contents thread.bucket thread.index) (id_at thread.bucket thread.index) value) }
-        ensures stands { (written : T) (bucket : ℕ) → stands (with_published self.old.contents thread.bucket thread.index written) bucket
+        ensures would_move { sheet_of (with_published self.old.contents thread.bucket thread.index (unwrap_or (value_in self.old.contents thread.bucket thread.index) value))
+            ≡ moved (sheet_of self.old.contents) (publish_or_keep (value_in self.old.contents thread.bucket thread.index) (id_at thread.bucket thread.index) value) }
+        ensures would_stand { (written : T) (bucket : ℕ) → stands (with_published self.old.contents thread.bucket thread.index written) bucket
             ≡ (if thread.bucket == bucket then true else stands self.old.contents bucket) }
 
         ensures err { IfErr result (λ back. back ≡ value) }
         ensures refused { OnErr result (stands self.old.contents thread.bucket ≡ false) }
     {
-        match stand(&mut self.words, thread.bucket) {
+        match self.words.ensure_bucket(thread.bucket) {
             Ok(()) => {
-                offer(&mut self.words, thread.bucket, thread.index, value);
-                Ok(self.words.get_mut(thread.bucket, thread.index))
+                self.words.publish_or_drop(thread, value);
+                Ok(self.words.get_mut(thread))
             }
             Err(_) => Err(value),
         }
@@ -132,14 +131,14 @@ impl<T> Buckets<T> {
     /// The value in the slot of a place, for writing, or None where none is published. It takes no memory.
     pub fn get_mut(&mut self, thread: Thread) -> Option<&mut T>
         ensures* writes_back { sem 𝓛 (LendsSlot T.row self.entry thread.bucket thread.index result) }
-        ensures value { MatchOption result (slot self.old.contents thread.bucket thread.index ≡ None) (λ there. slot self.old.contents thread.bucket thread.index ≡ Some there.now) }
+        ensures value { MatchOption result (value_in self.old.contents thread.bucket thread.index ≡ None) (λ there. value_in self.old.contents thread.bucket thread.index ≡ Some there.now) }
 
         // Whatever is written through the answer, the map has it there, and every other value as it was.
-        ensures map { (written : T) (id : ℕ) → values (with_published self.old.contents thread.bucket thread.index written) id
+        ensures would_map { (written : T) (id : ℕ) → values (with_published self.old.contents thread.bucket thread.index written) id
             ≡ with_value (values self.old.contents) (id_at thread.bucket thread.index) written id }
     {
-        if holds(&mut self.words, thread.bucket, thread.index) {
-            Some(self.words.get_mut(thread.bucket, thread.index))
+        if self.words.holds_value(thread) {
+            Some(self.words.get_mut(thread))
         } else {
             None
         }
@@ -184,10 +183,10 @@ impl<T> Buckets<T> {
         ensures rest { iter_mut_rest result ≡ walk (values self.old.contents) }
 
         // Whatever is written through the items, the same buckets stand, and the same ids have a value.
-        ensures stands { (written : Owned T) (bucket : ℕ) → stands (owned_refilled self.old written).contents bucket ≡ stands self.old.contents bucket }
-        ensures published { (written : Owned T) (id : ℕ) → is_some (values (owned_refilled self.old written).contents id) ≡ is_some (values self.old.contents id) }
+        ensures would_stand { (written : Owned T) (bucket : ℕ) → stands (owned_refilled self.old written).contents bucket ≡ stands self.old.contents bucket }
+        ensures would_publish { (written : Owned T) (id : ℕ) → is_some (values (owned_refilled self.old written).contents id) ≡ is_some (values self.old.contents id) }
     {
-        let left = count(&mut self.words);
+        let left = self.words.count_values();
         IterMut {
             loan: self.lend(),
             raw: RawIter::new(),
@@ -220,7 +219,7 @@ impl<T: Drop> IntoIterator for Buckets<T> {
             mut words,
             reserved: _,
         } = self;
-        let left = count(&mut words);
+        let left = words.count_values();
         IntoIter {
             words,
             raw: RawIter::new(),

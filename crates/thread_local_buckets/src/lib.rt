@@ -4,7 +4,6 @@
 pub mod buckets;
 pub mod iter;
 mod iter_mut;
-mod steps;
 
 pub use buckets::{Buckets, CapacityError};
 pub use iter::{IntoIter, IterMut};

@@ -1,6 +1,6 @@
 ghost use Rattle.std.specs.Prelude.{◌≡◌, ℕ, IfOk, IsSome, is_some};
 ghost use Rattle.thread_local_model.specs.Buckets.{values};
-ghost use Rattle.thread_local_model.specs.Rows.{slot};
+ghost use Rattle.thread_local_model.specs.Rows.{value_in};
 ghost use Rattle.thread_local_contents.specs.Owner.{with_published};
 
 use crate::Buckets;
@@ -33,7 +33,7 @@ fn written(alloc: Global) -> Result<u32, u32>
 
 // Writes one value of a map: it stands there afterwards, and every other is as it was.
 fn write_at(buckets: &mut Buckets<u32>, thread: Thread, value: u32)
-    requires { IsSome (slot buckets.old.contents thread.bucket thread.index) }
+    requires { IsSome (value_in buckets.old.contents thread.bucket thread.index) }
     ensures { buckets.new.contents ≡ with_published buckets.old.contents thread.bucket thread.index value }
 {
     if let Some(there) = buckets.get_mut(thread) {

@@ -7,10 +7,10 @@ use mathlib.Core.Path.{fun_ext}
 use Rattle.thread_local_model.specs.Place.{id_at}
 use Rattle.thread_local_model.specs.Buckets.{Contents, row, stands, values, IsTable}
 use Rattle.thread_local_model.specs.Owned.{IsOwned}
-use Rattle.thread_local_model.specs.Rows.{slot, with_row, with_slot, empty_row}
+use Rattle.thread_local_model.specs.Rows.{value_in, with_row, with_slot, empty_row}
 use Rattle.thread_local_model.specs.Walk.{with_value}
 use Rattle.thread_local_model.specs.Sheet.{Sheet, moved}
-use Rattle.thread_local_contents.specs.Owner.{with_bucket, with_published, sheet_of, offer}
+use Rattle.thread_local_contents.specs.Owner.{with_bucket, with_published, sheet_of, publish_or_keep}
 use Rattle.thread_local_contents.proofs.RowLaws.{row-with_row-same, rows-with_row, slot-empty_row, length-empty_row, length-row-with_slot, IsTable-with_row, IsTable-with_slot}
 use Rattle.thread_local_contents.proofs.ValueLaws.{values-id_at, values-with_slot-same, values-with_slot-other, values-with_empty_row}
 use Rattle.thread_local_contents.proofs.StandingLaws.{stands-made, row-absent, whole-with_bucket}
@@ -38,9 +38,9 @@ module _ {V : Type 0} where
     pub rows-with_bucket : length (with_bucket c b).rows ≡ length c.rows
     rows-with_bucket = by_standing c b (λ d. length d.rows ≡ length c.rows) (λ _. refl) (λ _. rows-with_row c b (empty_row b))
 
-    pub slot-with_bucket : (i : ℕ) → slot (with_bucket c b) b i ≡ slot c b i
+    pub slot-with_bucket : (i : ℕ) → value_in (with_bucket c b) b i ≡ value_in c b i
     slot-with_bucket i =
-        by_standing c b (λ d. slot d b i ≡ slot c b i) (λ _. refl)
+        by_standing c b (λ d. value_in d b i ≡ value_in c b i) (λ _. refl)
         (λ none.
         ap (λ (r : List (Option V)). get_or r i None) (row-with_row-same c b (empty_row b) low) ∙ slot-empty_row V b i
         ∙ sym (ap (λ (r : List (Option V)). get_or r i None) (absent none)))
@@ -58,28 +58,28 @@ module _ {V : Type 0} where
         (λ _. stands-made c b j low)
 
     -- all that inserting does: whichever stands there, what is left once it is written over
-    pub ends : (d e : Contents V) (i : ℕ) (value : V) → d ≡ with_bucket c b → (IsSome (slot d b i) → e ≡ d) → (slot d b i ≡ None → e ≡ with_slot d b i (Some value))
+    pub ends : (d e : Contents V) (i : ℕ) (value : V) → d ≡ with_bucket c b → (IsSome (value_in d b i) → e ≡ d) → (value_in d b i ≡ None → e ≡ with_slot d b i (Some value))
         → (w : V) → with_slot e b i (Some w) ≡ with_published c b i w
     ends d e i value stood kept published w =
         let within : b < length d.rows = omega (arith, ap (λ (d : Contents V). length d.rows) stood, rows-with_bucket) in
-        go (slot d b i) kept published within ∙ ap (λ (d : Contents V). with_slot d b i (Some w)) stood
+        go (value_in d b i) kept published within ∙ ap (λ (d : Contents V). with_slot d b i (Some w)) stood
       where
         go : (o : Option V) → (IsSome o → e ≡ d) → (o ≡ None → e ≡ with_slot d b i (Some value)) → b < length d.rows → with_slot e b i (Some w) ≡ with_slot d b i (Some w)
         go (Some x) kept published h = ap (λ (d : Contents V). with_slot d b i (Some w)) (kept refl)
         go None kept published h = ap (λ (d : Contents V). with_slot d b i (Some w)) (published refl) ∙ with_slot-twice d b i (Some value) (Some w) h
 
     -- what stands there then
-    pub answers : (d e : Contents V) (i : ℕ) (value there : V) → d ≡ with_bucket c b → i < length (row d b) → (IsSome (slot d b i) → e ≡ d) → (slot d b i ≡ None → e ≡ with_slot d b i (Some value))
-        → slot e b i ≡ Some there → there ≡ unwrap_or (slot c b i) value
+    pub answers : (d e : Contents V) (i : ℕ) (value there : V) → d ≡ with_bucket c b → i < length (row d b) → (IsSome (value_in d b i) → e ≡ d) → (value_in d b i ≡ None → e ≡ with_slot d b i (Some value))
+        → value_in e b i ≡ Some there → there ≡ unwrap_or (value_in c b i) value
     answers d e i value there stood inside kept published found =
         let within : b < length d.rows = omega (arith, ap (λ (d : Contents V). length d.rows) stood, rows-with_bucket) in
-        let before : slot d b i ≡ slot c b i = ap (λ (d : Contents V). slot d b i) stood ∙ slot-with_bucket i in
-        go (slot d b i) refl kept published within ∙ ap (λ (o : Option V). unwrap_or o value) before
+        let before : value_in d b i ≡ value_in c b i = ap (λ (d : Contents V). value_in d b i) stood ∙ slot-with_bucket i in
+        go (value_in d b i) refl kept published within ∙ ap (λ (o : Option V). unwrap_or o value) before
       where
-        go : (o : Option V) → o ≡ slot d b i → (IsSome o → e ≡ d) → (o ≡ None → e ≡ with_slot d b i (Some value)) → b < length d.rows → there ≡ unwrap_or o value
-        go (Some x) is kept published h = let same : Some there ≡ Some x = sym found ∙ ap (λ (d : Contents V). slot d b i) (kept refl) ∙ sym is in cc
+        go : (o : Option V) → o ≡ value_in d b i → (IsSome o → e ≡ d) → (o ≡ None → e ≡ with_slot d b i (Some value)) → b < length d.rows → there ≡ unwrap_or o value
+        go (Some x) is kept published h = let same : Some there ≡ Some x = sym found ∙ ap (λ (d : Contents V). value_in d b i) (kept refl) ∙ sym is in cc
         go None is kept published h =
-            let same : Some there ≡ Some value = sym found ∙ ap (λ (d : Contents V). slot d b i) (published refl)
+            let same : Some there ≡ Some value = sym found ∙ ap (λ (d : Contents V). value_in d b i) (published refl)
             ∙ ap (λ (r : List (Option V)). get_or r i None) (row-with_row-same d b (set (row d b) i (Some value)) h) ∙ get_or-set_same (row d b) i (Some value) None inside in
             cc
 
@@ -102,10 +102,10 @@ module _ {V : Type 0} where
 
     -- of the sheet it is a publishing, or the keeping of what stands
     pub moves : (i : ℕ) (value : V) → i < 2 ^ b → i < length (row (with_bucket c b) b)
-        → sheet_of (with_published c b i (unwrap_or (slot c b i) value)) ≡ moved (sheet_of c) (offer (slot c b i) (id_at b i) value)
-    moves i value inside in_row = go (slot c b i) refl
+        → sheet_of (with_published c b i (unwrap_or (value_in c b i) value)) ≡ moved (sheet_of c) (publish_or_keep (value_in c b i) (id_at b i) value)
+    moves i value inside in_row = go (value_in c b i) refl
       where
-        go : (o : Option V) → slot c b i ≡ o → sheet_of (with_published c b i (unwrap_or o value)) ≡ moved (sheet_of c) (offer o (id_at b i) value)
+        go : (o : Option V) → value_in c b i ≡ o → sheet_of (with_published c b i (unwrap_or o value)) ≡ moved (sheet_of c) (publish_or_keep o (id_at b i) value)
         go None is = ap (λ (f : ℕ → Option V). let s : Sheet V = record { held = []; values = f; capacity = 0 } in s) (fun_ext (values-with_published i value inside in_row))
         go (Some x) is =
             ap (λ (f : ℕ → Option V). let s : Sheet V = record { held = []; values = f; capacity = 0 } in s)
@@ -130,14 +130,14 @@ module _ {V : Type 0} (c : Contents V) (b : ℕ) (t : IsTable c) (low : b < 63) 
       standing_on true h = refl
       standing_on false h = h
 
-  pub published_moves : (i : ℕ) (value : V) → i < 2 ^ b → sheet_of (with_published c b i (unwrap_or (slot c b i) value)) ≡ moved (sheet_of c) (offer (slot c b i) (id_at b i) value)
+  pub published_moves : (i : ℕ) (value : V) → i < 2 ^ b → sheet_of (with_published c b i (unwrap_or (value_in c b i) value)) ≡ moved (sheet_of c) (publish_or_keep (value_in c b i) (id_at b i) value)
   published_moves i value inside = moves c b in_table (row-absent c b) i value inside (omega (arith, whole-with_bucket c b t low))
 
   pub published_stands : (i : ℕ) (w : V) (j : ℕ) → stands (with_published c b i w) j ≡ cond (eqb b j) true (stands c j)
   published_stands i w j = stands-with_published c b in_table (row-absent c b) i w j
 
   -- the slot then has what was written
-  pub published_slot : (i : ℕ) (w : V) → i < 2 ^ b → slot (with_published c b i w) b i ≡ Some w
+  pub published_slot : (i : ℕ) (w : V) → i < 2 ^ b → value_in (with_published c b i w) b i ≡ Some w
   published_slot i w inside =
       let whole = whole-with_bucket c b t low in
       sym (values-id_at (with_published c b i w) b i inside)

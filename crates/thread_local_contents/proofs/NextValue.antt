@@ -1,7 +1,7 @@
 use Rattle.std.proofs.Common.{◌≡◌, ℕ, ◌+◌, ◌-◌, ◌^◌, ◌<◌, length, ◌∷◌, Some, None, ap, arith}
 use Rattle.thread_local_model.specs.Buckets.{Contents, values}
 use Rattle.thread_local_model.specs.Walk.{walk}
-use Rattle.thread_local_model.specs.Rows.{slot, with_slot}
+use Rattle.thread_local_model.specs.Rows.{value_in, with_slot}
 use Rattle.thread_local_contents.proofs.TakingLaws.{taking}
 use Rattle.thread_local_contents.specs.declared.cursor.RawIter.{RawIter}
 use Rattle.thread_local_contents.specs.Cursor.{IsAtValue, IsWalk}
@@ -15,7 +15,7 @@ pub record Goes {V : Type 0} (before after : Contents V) (raw : RawIter) (left :
   pub walked : walk (values before) ≡ v ∷ walk (values after)
   pub on : IsWalk after (past raw) (left - 1)
 
-pub goes : {V : Type 0} (before after : Contents V) (raw : RawIter) (left : ℕ) (v : V) → IsAtValue before raw → slot before raw.bucket raw.index ≡ Some v
+pub goes : {V : Type 0} (before after : Contents V) (raw : RawIter) (left : ℕ) (v : V) → IsAtValue before raw → value_in before raw.bucket raw.index ≡ Some v
     → after ≡ with_slot before raw.bucket raw.index None → left ≡ length (walk (values before)) → raw.yielded + left < 2 ^ 63 → Goes before after raw left v
 goes before after raw left v at here gone counted fits =
     let size = at.size in

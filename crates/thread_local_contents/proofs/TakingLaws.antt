@@ -7,7 +7,7 @@ use Rattle.std.proofs.Math.Nat.{two-pow-succ}
 use Rattle.thread_local_model.specs.Place.{bucket_of, id_at}
 use Rattle.thread_local_model.specs.Walk.{walk, walk_below}
 use Rattle.thread_local_model.specs.Buckets.{Contents, row, values}
-use Rattle.thread_local_model.specs.Rows.{slot, with_slot}
+use Rattle.thread_local_model.specs.Rows.{value_in, with_slot}
 use Rattle.thread_local_model.proofs.PlaceLaws as place
 use Rattle.thread_local_model.proofs.CapacityLaws.{in_first, below_first}
 use Rattle.thread_local_model.proofs.WalkLaws.{walk_below-same, walk_below-none, walk_below-add, length-walk_below}
@@ -112,14 +112,14 @@ empty (Some v) h = cc
 
 module _ {V : Type 0} where
   -- an empty slot is passed over
-  pub NoneBelow-slot : (c : Contents V) (b i : ℕ) → i < 2 ^ b → NoneBelow (values c) (id_at b i) → is_some (slot c b i) ≡ false → NoneBelow (values c) (id_at b (i + 1))
+  pub NoneBelow-slot : (c : Contents V) (b i : ℕ) → i < 2 ^ b → NoneBelow (values c) (id_at b i) → is_some (value_in c b i) ≡ false → NoneBelow (values c) (id_at b (i + 1))
   NoneBelow-slot c b i inside none here =
       let next : id_at b i + 1 ≡ id_at b (i + 1) = omega arith in
       let P : ℕ → Type 0 = NoneBelow (values c) in
-      subst P next (NoneBelow-more (values c) (id_at b i) none (values-id_at c b i inside ∙ empty (slot c b i) here))
+      subst P next (NoneBelow-more (values c) (id_at b i) none (values-id_at c b i inside ∙ empty (value_in c b i) here))
 
   -- a slot counts where it has a value
-  pub count_below-slot : (c : Contents V) (b i : ℕ) → i < 2 ^ b → count_below (values c) (id_at b (i + 1)) ≡ count_below (values c) (id_at b i) + cond (is_some (slot c b i)) 1 0
+  pub count_below-slot : (c : Contents V) (b i : ℕ) → i < 2 ^ b → count_below (values c) (id_at b (i + 1)) ≡ count_below (values c) (id_at b i) + cond (is_some (value_in c b i)) 1 0
   count_below-slot c b i inside =
       let next : id_at b (i + 1) ≡ suc (id_at b i) = omega arith in
       ap (count_below (values c)) next ∙ count_below-more (values c) (id_at b i) ∙ ap (λ (o : Option V). count_below (values c) (id_at b i) + cond (is_some o) 1 0) (values-id_at c b i inside)
@@ -168,7 +168,7 @@ module _ {V : Type 0} where
       (cases_lt b (length c.rows))
 
   pub taking : (c d : Contents V) (b i : ℕ) (v : V) → b < 63 → i < 2 ^ b → length (row c b) ≡ 2 ^ b → NoneBelow (values c) (id_at b i)
-      → slot c b i ≡ Some v → d ≡ with_slot c b i None → Takes c d b i v
+      → value_in c b i ≡ Some v → d ≡ with_slot c b i None → Takes c d b i v
   taking c d b i v low inside whole none here after =
       let rows = in_rows c b whole in
       let gone : values (with_slot c b i None) (id_at b i) ≡ None = values-with_slot-same c b i None rows inside (omega arith) in

@@ -5,16 +5,16 @@ use Rattle.std.proofs.lemmas.Bool.{cases_eq}
 use Rattle.std.specs.Prelude.{nat_lt}
 use Rattle.thread_local_model.specs.Place.{bucket_of, index_of, id_at}
 use Rattle.thread_local_model.specs.Buckets.{Contents, row, stands, values, no_contents}
-use Rattle.thread_local_model.specs.Rows.{slot, with_row, with_slot, empty_row}
+use Rattle.thread_local_model.specs.Rows.{value_in, with_row, with_slot, empty_row}
 use Rattle.thread_local_model.proofs.PlaceLaws as place
 use Rattle.thread_local_contents.proofs.RowLaws.{row-with_row-same, row-with_row-other, row-no_contents, slot-empty_row}
 
 module _ {V : Type 0} where
   -- the value at a place's id is what its slot has
-  pub values-id_at : (c : Contents V) (b i : ℕ) → i < 2 ^ b → values c (id_at b i) ≡ slot c b i
+  pub values-id_at : (c : Contents V) (b i : ℕ) → i < 2 ^ b → values c (id_at b i) ≡ value_in c b i
   values-id_at c b i h =
       let p = place.place-id_at b i h in
-      ap (λ k. slot c k (index_of (id_at b i))) p.0 ∙ ap (slot c b) p.1
+      ap (λ k. value_in c k (index_of (id_at b i))) p.0 ∙ ap (value_in c b) p.1
 
   -- a change of one slot changes the value at its id, and no other
   pub values-with_slot-same : (c : Contents V) (b i : ℕ) (o : Option V) → b < length c.rows → i < 2 ^ b → i < length (row c b) → values (with_slot c b i o) (id_at b i) ≡ o
@@ -28,7 +28,7 @@ module _ {V : Type 0} where
       ⊎_elim
       (λ (here : bucket_of id ≡ b).
       let apart : index_of id ≢ i = λ e. ne (sym (place.id_at-place id) ∙ ap (λ k. id_at k (index_of id)) here ∙ ap (id_at b) e) in
-      let P : ℕ → Type 0 = λ k. slot (with_slot c b i o) k (index_of id) ≡ slot c k (index_of id) in
+      let P : ℕ → Type 0 = λ k. value_in (with_slot c b i o) k (index_of id) ≡ value_in c k (index_of id) in
       subst P (sym here)
       (ap (λ (r : List (Option V)). get_or r (index_of id) None) (row-with_row-same c b (set (row c b) i o) hb)
       ∙ get_or-set_other (row c b) i (index_of id) o None apart))
@@ -40,7 +40,7 @@ module _ {V : Type 0} where
   values-with_empty_row c b id hb absent =
       ⊎_elim
       (λ (here : bucket_of id ≡ b).
-      let P : ℕ → Type 0 = λ k. slot (with_row c b (empty_row b)) k (index_of id) ≡ slot c k (index_of id) in
+      let P : ℕ → Type 0 = λ k. value_in (with_row c b (empty_row b)) k (index_of id) ≡ value_in c k (index_of id) in
       subst P (sym here)
       (ap (λ (r : List (Option V)). get_or r (index_of id) None) (row-with_row-same c b (empty_row b) hb)
       ∙ slot-empty_row V b (index_of id)
@@ -62,5 +62,5 @@ values-no_contents V id = ap (λ (r : List (Option V)). get_or r (index_of id) N
 pub stands-no_contents : (V : Type 0) (b : ℕ) → stands (no_contents {V = V}) b ≡ false
 stands-no_contents V b = ap (λ (r : List (Option V)). nat_lt 0 (length r)) (row-no_contents V b)
 
-pub slot-no_contents : (V : Type 0) (b i : ℕ) → slot (no_contents {V = V}) b i ≡ None
+pub slot-no_contents : (V : Type 0) (b i : ℕ) → value_in (no_contents {V = V}) b i ≡ None
 slot-no_contents V b i = ap (λ (r : List (Option V)). get_or r i None) (row-no_contents V b)

@@ -1,7 +1,7 @@
 use Rattle.std.specs.Prelude.{◌≡◌, ℕ, ◌+◌, ◌^◌, ◌<◌, ◌≤◌, length, IsSome}
 use Rattle.thread_local_model.specs.Place.{id_at}
 use Rattle.thread_local_model.specs.Buckets.{Contents, row, values}
-use Rattle.thread_local_model.specs.Rows.{slot}
+use Rattle.thread_local_model.specs.Rows.{value_in}
 use Rattle.thread_local_model.specs.Walk.{walk}
 use Rattle.thread_local_contents.specs.Owner.{NoneBelow}
 use Rattle.thread_local_contents.specs.declared.cursor.RawIter.{RawIter}
@@ -20,7 +20,7 @@ pub record IsAtValue {V : Type 0} (contents : Contents V) (raw : RawIter) : Type
   pub inside : raw.index < raw.bucket_size
   pub behind : NoneBelow (values contents) (id_at raw.bucket raw.index)
   pub whole : length (row contents raw.bucket) ≡ raw.bucket_size
-  pub value : IsSome (slot contents raw.bucket raw.index)
+  pub value : IsSome (value_in contents raw.bucket raw.index)
 
 -- a walk has this many values to come, none of them before its place
 pub record IsWalk {V : Type 0} (contents : Contents V) (raw : RawIter) (left : ℕ) : Type 0 where

@@ -16,9 +16,9 @@ abbrev pub sheet_of : {V : Type 0} → Contents V → Sheet V
 sheet_of contents = record { held = []; values = values contents; capacity = 0 }
 
 -- what offering a value at an id does: it is published where there is none, and else the one there is kept
-abbrev pub offer : {V : Type 0} → Option V → ℕ → V → Move V
-offer None id v = Publish id v
-offer (Some kept) id v = Keep id v
+abbrev pub publish_or_keep : {V : Type 0} → Option V → ℕ → V → Move V
+publish_or_keep None id v = Publish id v
+publish_or_keep (Some kept) id v = Keep id v
 
 -- no value stands at an id below n
 abbrev pub NoneBelow : {V : Type 0} → (ℕ → Option V) → ℕ → Type 0

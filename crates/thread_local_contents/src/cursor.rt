@@ -1,13 +1,12 @@
 ghost use Rattle.std.specs.Prelude.{◌≡◌, ◌^◌, ◌<◌, ◌≤◌, true, false, [], ℕ, length, is_some, IsSome};
 ghost use Rattle.thread_local_model.specs.Place.{id_at};
 ghost use Rattle.thread_local_model.specs.Buckets.{Contents, row, stands, values};
-ghost use Rattle.thread_local_model.specs.Rows.{slot};
+ghost use Rattle.thread_local_model.specs.Rows.{value_in};
 ghost use Rattle.thread_local_model.specs.Walk.{walk};
 ghost use Rattle.thread_local_contents.specs.Owner.{NoneBelow};
 ghost use Rattle.thread_local_contents.specs.Cursor.{IsAt, IsAtValue};
 
-// How many buckets a table has.
-const BUCKETS: usize = 63;
+use thread_local_thread_id::BUCKETS;
 
 /// What a walk looks at: which buckets stand, and which of their slots have a value. A look takes no memory.
 pub trait Places {
@@ -34,7 +33,7 @@ pub trait Places {
         requires in_bucket { index < length (row (contents self.old) bucket) }
         requires ahead { given self.old ≤ id_at bucket index }
         ensures same { self.new ≡ self.old }
-        ensures value { result ≡ is_some (slot (contents self.old) bucket index) };
+        ensures value { result ≡ is_some (value_in (contents self.old) bucket index) };
 }
 
 /// How many values a walk gave, and the place that it looks at next.
@@ -73,7 +72,7 @@ fn first_published<P: Places>(places: &mut P, bucket: usize, from: usize, size: 
     ensures within { result ≤ size }
     ensures further { from ≤ result }
     ensures behind { NoneBelow (values (P.contents places.old)) (id_at bucket result) }
-    ensures found { result < size → IsSome (slot (P.contents places.old) bucket result) }
+    ensures found { result < size → IsSome (value_in (P.contents places.old) bucket result) }
 {
     for index in from..size {
         if places.is_published(bucket, index) {

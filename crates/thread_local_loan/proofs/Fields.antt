@@ -54,10 +54,10 @@ module _ (R : RattleType) where
   leads_in p [] e some = absurd (omega arith)
   leads_in p (c ∷ cs) at some = (at.0, at.2)
 
-abbrev pub value_in : {X : Type 0} (c : Option X) → IsSome c → X
-value_in None e = absurd (false≢true e)
-value_in (Some x) e = x
+abbrev pub the_value : {X : Type 0} (c : Option X) → IsSome c → X
+the_value None e = absurd (false≢true e)
+the_value (Some x) e = x
 
-pub value_is : {X : Type 0} (c : Option X) (is : IsSome c) → c ≡ Some (value_in c is)
-value_is None e = absurd (false≢true e)
-value_is (Some x) e = refl
+pub the_value_is : {X : Type 0} (c : Option X) (is : IsSome c) → c ≡ Some (the_value c is)
+the_value_is None e = absurd (false≢true e)
+the_value_is (Some x) e = refl

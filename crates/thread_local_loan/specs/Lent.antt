@@ -12,7 +12,7 @@ use Rattle.std.specs.Sync.RawAtomic.{word}
 use Rattle.std.specs.Sync.RawAtomic.Pointer.{cell}
 use Rattle.thread_local_model.specs.Place.{id_at}
 use Rattle.thread_local_model.specs.Buckets.{Contents, row, IsTable}
-use Rattle.thread_local_model.specs.Rows.{slot}
+use Rattle.thread_local_model.specs.Rows.{value_in}
 use Rattle.thread_local_model.specs.Owned.{Owned}
 use Rattle.thread_local_model.specs.Code.{owned_coded}
 use Rattle.thread_local_blocks.specs.Slots.{fact, flag_of, along, value_at, rim, Fits}
@@ -26,7 +26,7 @@ pub record IsLeft {X : Type 0} (whole left : Contents X) (given : ℕ) : Type 0 
   pub table : IsTable left
   pub rows : length whole.rows ≡ 63
   pub long : (bucket : ℕ) → length (row whole bucket) ≡ length (row left bucket)
-  pub ahead : (bucket index : ℕ) → given ≤ id_at bucket index → slot left bucket index ≡ slot whole bucket index
+  pub ahead : (bucket index : ℕ) → given ≤ id_at bucket index → value_in left bucket index ≡ value_in whole bucket index
 
 -- what a loan's name stands for: an owner's buckets with these contents, whose reserved slots the loan doesn't have
 abbrev pub lent_as : {X : Type 0} → Contents X → Owned X

@@ -3,7 +3,7 @@ ghost use Rattle.std.specs.Prelude.{true, false, [], ◌^◌, ◌≡◌, ◌≤�
 ghost use base.Fml.{GName, ftrue};
 ghost use Rattle.thread_local_model.specs.Place.{id_at};
 ghost use Rattle.thread_local_model.specs.Buckets.{Contents, row, stands, IsTable};
-ghost use Rattle.thread_local_model.specs.Rows.{slot, with_slot};
+ghost use Rattle.thread_local_model.specs.Rows.{value_in, with_slot};
 ghost use Rattle.thread_local_model.specs.Code.{contents_coded};
 ghost use types.Logic.{sem};
 ghost use Rattle.thread_local_loan.specs.Lent.{loan_owns};
@@ -57,7 +57,7 @@ impl<'a, T> Loan<'a, T> {
         requires in_bucket { index < length (row self.old.contents bucket) }
         requires ahead { self.old.given ≤ id_at bucket index }
         ensures same { self.new ≡ self.old }
-        ensures value { result ≡ is_some (slot self.old.contents bucket index) }
+        ensures value { result ≡ is_some (value_in self.old.contents bucket index) }
         ensures table { IsTable self.old.contents }
     {
         unsafe {
@@ -73,9 +73,9 @@ impl<'a, T> Loan<'a, T> {
         requires in_table { bucket < 63 }
         requires in_bucket { index < length (row self.old.contents bucket) }
         requires ahead { self.old.given ≤ id_at bucket index }
-        requires published { IsSome (slot self.old.contents bucket index) }
+        requires published { IsSome (value_in self.old.contents bucket index) }
         ensures* ends { sem 𝓛 (ends_with_item T.row self.old.name result.ghost_name self.new.name bucket index) }
-        ensures value { slot self.old.contents bucket index ≡ Some result.now }
+        ensures value { value_in self.old.contents bucket index ≡ Some result.now }
         ensures contents { self.new.contents ≡ with_slot self.old.contents bucket index None }
         ensures given { self.new.given ≡ id_at bucket index + 1 }
     {

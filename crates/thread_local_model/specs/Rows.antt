@@ -2,8 +2,8 @@ use Rattle.std.specs.Prelude.{ℕ, ◌^◌, List, Option, None, replicate, slice
 use Rattle.thread_local_model.specs.Buckets.{Contents, row}
 
 -- the value in a slot, if one is published there
-abbrev pub slot : {V : Type 0} → Contents V → ℕ → ℕ → Option V
-slot contents bucket index = slice_index_or (row contents bucket) index None
+abbrev pub value_in : {V : Type 0} → Contents V → ℕ → ℕ → Option V
+value_in contents bucket index = slice_index_or (row contents bucket) index None
 
 -- the contents with this row in place of a bucket's
 abbrev pub with_row : {V : Type 0} → Contents V → ℕ → List (Option V) → Contents V

@@ -28,7 +28,7 @@ use Rattle.thread_local_words.specs.contracts.word.Word as plain
 use Rattle.thread_local_words.proofs.word.Word.TheLaws as plain'
 use Rattle.thread_local_shared_word_logic.specs.Shared.{Named, at_rest}
 use Rattle.thread_local_shared_word.specs.contracts.word.SharedWord as shared
-use Rattle.thread_local_words.specs.Rows.{seen as contents_of}
+use Rattle.thread_local_words.specs.Rows.{contents_of}
 use Rattle.thread_local_words.specs.contracts.row_of_words.RowOfWords as row_of_words
 use Rattle.thread_local_words.specs.contracts.words.Words as words
 use Rattle.thread_local_words.proofs.words.Words.TheLaws as words'

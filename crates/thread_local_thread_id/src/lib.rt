@@ -5,4 +5,4 @@ pub mod manager;
 pub mod place;
 
 pub use manager::{LocalError, ThreadIdManager};
-pub use place::Thread;
+pub use place::{BUCKETS, Thread, bucket_size};

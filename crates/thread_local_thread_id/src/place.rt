@@ -1,6 +1,17 @@
 ghost use Rattle.std.specs.Prelude.{◌≡◌, ◌-◌, ◌^◌, ◌<◌};
 ghost use Rattle.thread_local_model.specs.Place.{bucket_of, index_of, id_at};
 
+/// How many buckets a table has.
+pub const BUCKETS: usize = 63;
+
+/// How many slots a bucket has. A table's buckets are those below 63.
+pub fn bucket_size(bucket: usize) -> usize
+    requires { bucket < 64 }
+    ensures { result ≡ 2 ^ bucket }
+{
+    1 << bucket
+}
+
 /// The place of an id in a table: its bucket, and its index in the bucket. It takes no memory and never waits.
 ///
 /// Unlike in the Rust crate it is public, and says by its type that its fields are the place of an id.
@@ -24,7 +35,7 @@ impl Thread {
         let bucket = (id + 1).ilog2() as usize;
         Thread {
             bucket,
-            index: id - ((1 << bucket) - 1),
+            index: id - (bucket_size(bucket) - 1),
         }
     }
 
@@ -42,7 +53,7 @@ impl Thread {
     pub fn bucket_size(&self) -> usize
         ensures { result ≡ 2 ^ self.now.bucket }
     {
-        1 << self.bucket
+        bucket_size(self.bucket)
     }
 }
 

@@ -1,4 +1,4 @@
 pub mod WordSteps
 pub mod LentValue
 pub mod Lent
-pub mod Seen
+pub mod ContentsOf

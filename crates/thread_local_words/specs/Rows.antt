@@ -17,9 +17,9 @@ abbrev pub slots_of : {X : Type 0} → Word X → List (Option X)
 slots_of word = word.slots
 
 -- the contents that words lead to
-abbrev pub seen : {X : Type 0} → RowOfWords X → Contents X
-seen words = record { rows = map slots_of words.words }
+abbrev pub contents_of : {X : Type 0} → RowOfWords X → Contents X
+contents_of words = record { rows = map slots_of words.words }
 
 -- the words with another value in a slot
-abbrev pub with_value : {X : Type 0} → RowOfWords X → ℕ → ℕ → X → RowOfWords X
-with_value words bucket index x = with_word words bucket (with_slot_value (slice_index_or words.words bucket null_word) index x)
+abbrev pub words_with_value : {X : Type 0} → RowOfWords X → ℕ → ℕ → X → RowOfWords X
+words_with_value words bucket index x = with_word words bucket (with_slot_value (slice_index_or words.words bucket null_word) index x)

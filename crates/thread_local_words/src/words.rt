@@ -1,14 +1,18 @@
 //! The words of a table, seen as its contents.
 ghost use Rattle.std.specs.Prelude.{◌≡◌, ◌^◌, ◌<◌, true, false, [], length, Some, None, is_some, OnOk, OnErr, IsSome};
 ghost use Rattle.thread_local_model.specs.Buckets.{row, stands, no_contents, IsTable};
-ghost use Rattle.thread_local_model.specs.Rows.{slot, with_row, with_slot, empty_row};
+ghost use Rattle.thread_local_model.specs.Rows.{value_in, with_row, with_slot, empty_row};
 
 use crate::row_of_words::RowOfWords;
 use std::alloc::{AllocError, Global};
 use std::marker::Model;
+use thread_local_blocks::Block;
 use thread_local_contents::Places;
+use thread_local_thread_id::{BUCKETS, Thread, bucket_size};
 
+mod counting;
 mod lends;
+mod placing;
 
 /// The words of a table, one for each of its 63 buckets, and the heap that their blocks come from. Contracts see the contents.
 ///
@@ -21,15 +25,15 @@ pub struct Words<T> {
 impl<T> Model for Words<T> {
     ghost use Rattle.thread_local_model.specs.Buckets.{Contents, IsTable};
     ghost use Rattle.thread_local_model.specs.Code.{contents_coded};
-    ghost use Rattle.thread_local_words.specs.Rows.{seen};
+    ghost use Rattle.thread_local_words.specs.Rows.{contents_of};
 
     ghost Value = { Contents T };
 
     ghost coded = { contents_coded T.code };
 
-    ghost view = { λ w. seen w.words };
+    ghost view = { λ w. contents_of w.words };
 
-    ghost invariant = { λ w. IsTable (seen w.words) };
+    ghost invariant = { λ w. IsTable (contents_of w.words) };
 }
 
 impl<T> Words<T> {
@@ -53,7 +57,7 @@ impl<T> Words<T> {
         ensures table { IsTable self.old }
         ensures same { self.new ≡ self.old }
     {
-        self.words.stands(bucket)
+        self.words.word_mut(bucket).stands()
     }
 
     /// Makes the bucket, with all its slots empty. It asks for memory once. `Err` is want of memory, and nothing changed.
@@ -65,7 +69,9 @@ impl<T> Words<T> {
         ensures table { IsTable self.old }
     {
         let alloc = self.alloc;
-        self.words.install(bucket, &alloc)
+        let block = Block::new(&alloc, bucket_size(bucket))?;
+        self.words.word_mut(bucket).lay(block);
+        Ok(())
     }
 
     /// Whether a value is published in the slot.
@@ -73,22 +79,21 @@ impl<T> Words<T> {
     pub fn is_published(&mut self, bucket: usize, index: usize) -> bool
         requires in_table { bucket < 63 }
         requires in_bucket { index < length (row self.old bucket) }
-        ensures value { result ≡ is_some (slot self.old bucket index) }
+        ensures value { result ≡ is_some (value_in self.old bucket index) }
         ensures table { IsTable self.old }
         ensures same { self.new ≡ self.old }
     {
-        self.words.is_published(bucket, index)
+        self.words.word_mut(bucket).is_published(index)
     }
 
-    /// Publishes a value in an empty slot.
+    /// Publishes a value in the slot of a place, which is empty.
     #[inline]
-    pub fn publish(&mut self, bucket: usize, index: usize, value: T)
-        requires in_table { bucket < 63 }
-        requires in_bucket { index < length (row self.old bucket) }
-        requires empty { slot self.old bucket index ≡ None }
-        ensures after { self.new ≡ with_slot self.old bucket index (Some value) }
+    pub fn publish(&mut self, thread: Thread, value: T)
+        requires in_bucket { thread.index < length (row self.old thread.bucket) }
+        requires empty { value_in self.old thread.bucket thread.index ≡ None }
+        ensures after { self.new ≡ with_slot self.old thread.bucket thread.index (Some value) }
     {
-        self.words.publish(bucket, index, value);
+        self.words.word_mut(thread.bucket).publish(thread.index, value);
     }
 
     /// Takes the value out of a slot.
@@ -96,11 +101,11 @@ impl<T> Words<T> {
     pub fn take(&mut self, bucket: usize, index: usize) -> T
         requires in_table { bucket < 63 }
         requires in_bucket { index < length (row self.old bucket) }
-        requires published { IsSome (slot self.old bucket index) }
-        ensures value { slot self.old bucket index ≡ Some result }
+        requires published { IsSome (value_in self.old bucket index) }
+        ensures value { value_in self.old bucket index ≡ Some result }
         ensures after { self.new ≡ with_slot self.old bucket index None }
     {
-        self.words.take(bucket, index)
+        self.words.word_mut(bucket).take(index)
     }
 }
 
@@ -112,7 +117,9 @@ impl<T: Drop> Words<T> {
         ensures table { IsTable self.old }
     {
         let alloc = self.alloc;
-        self.words.release(bucket, &alloc);
+        self.words
+            .word_mut(bucket)
+            .release(bucket_size(bucket), &alloc);
     }
 
     /// Drops every value and frees every block.
@@ -120,7 +127,7 @@ impl<T: Drop> Words<T> {
         ensures { self.new ≡ no_contents }
     {
         let _ = &self.words;
-        'buckets: for bucket in 0..63 {
+        'buckets: for bucket in 0..BUCKETS {
             self.release(bucket);
         }
     }
@@ -151,5 +158,3 @@ impl<T> Places for Words<T> {
         self.is_published(bucket, index)
     }
 }
-
-unsafe impl<T: Send> Send for Words<T> {}

@@ -5,8 +5,8 @@ ghost use Rattle.std.specs.Borrow.{follows};
 ghost use Rattle.thread_local_words.specs.contracts.word.Word.{the_row as word_row};
 ghost use Rattle.thread_local_words.specs.contracts.row_of_words.RowOfWords.{the_row};
 ghost use Rattle.thread_local_model.specs.Buckets.{row};
-ghost use Rattle.thread_local_model.specs.Rows.{slot};
-ghost use Rattle.thread_local_words.specs.Rows.{null_word, with_word, with_value, seen};
+ghost use Rattle.thread_local_model.specs.Rows.{value_in};
+ghost use Rattle.thread_local_words.specs.Rows.{null_word, with_word, words_with_value, contents_of};
 
 use super::RowOfWords;
 use crate::word::Word;
@@ -26,10 +26,10 @@ impl<T> RowOfWords<T> {
     #[inline]
     pub(crate) fn get_mut(&mut self, bucket: usize, index: usize) -> &mut T
         requires in_table { bucket < 63 }
-        requires in_bucket { index < length (row (seen self.old) bucket) }
-        requires published { IsSome (slot (seen self.old) bucket index) }
-        ensures* writes_back { sem 𝓛 (follows (the_row T.row) T.row self.entry.ghost_name result.ghost_name (with_value self.old bucket index)) }
-        ensures value { slot (seen self.old) bucket index ≡ Some result.now }
+        requires in_bucket { index < length (row (contents_of self.old) bucket) }
+        requires published { IsSome (value_in (contents_of self.old) bucket index) }
+        ensures* writes_back { sem 𝓛 (follows (the_row T.row) T.row self.entry.ghost_name result.ghost_name (words_with_value self.old bucket index)) }
+        ensures value { value_in (contents_of self.old) bucket index ≡ Some result.now }
     {
         self.word_mut(bucket).get_mut(index)
     }

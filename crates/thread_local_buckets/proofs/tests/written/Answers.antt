@@ -1,7 +1,7 @@
 use Rattle.std.proofs.Common.{◌≡◌, ◌+◌, ◌<◌, ◌^◌, ℕ, sym, ap, ◌∙◌, Option, subst, arith}
 use Rattle.std.specs.Prelude.{unwrap_or}
 use Rattle.thread_local_model.specs.Buckets.{Contents, no_contents, IsTable}
-use Rattle.thread_local_model.specs.Rows.{slot}
+use Rattle.thread_local_model.specs.Rows.{value_in}
 use Rattle.thread_local_contents.specs.Owner.{with_published}
 use Rattle.thread_local_contents.proofs.ValueLaws.{slot-no_contents}
 use Rattle.thread_local_contents.proofs.FillingLaws.{IsTable-no_contents}
@@ -9,8 +9,8 @@ use Rattle.thread_local_contents.proofs.InsertingLaws.{published_slot}
 use Rattle.thread_local_buckets.proofs.tests.written.Goals as goal
 
 -- nothing stands in new buckets
-nothing_stands : (c : Contents ℕ) (b i v : ℕ) → c ≡ no_contents → unwrap_or (slot c b i) v ≡ v
-nothing_stands c b i v new = ap (λ (d : Contents ℕ). unwrap_or (slot d b i) v) new ∙ ap (λ (o : Option ℕ). unwrap_or o v) (slot-no_contents ℕ b i)
+nothing_stands : (c : Contents ℕ) (b i v : ℕ) → c ≡ no_contents → unwrap_or (value_in c b i) v ≡ v
+nothing_stands c b i v new = ap (λ (d : Contents ℕ). unwrap_or (value_in d b i) v) new ∙ ap (λ (o : Option ℕ). unwrap_or o v) (slot-no_contents ℕ b i)
 
 pub overflow_add-there : goal.overflow_add-there
 overflow_add-there c =
@@ -18,11 +18,11 @@ overflow_add-there c =
     omega arith
 
 -- what was written stands, and is kept
-written_stands : (c : Contents ℕ) (b i k j n other : ℕ) → c ≡ no_contents → b < 63 → i < 2 ^ b → k ≡ b → j ≡ i → unwrap_or (slot (with_published c b i n) k j) other ≡ n
+written_stands : (c : Contents ℕ) (b i k j n other : ℕ) → c ≡ no_contents → b < 63 → i < 2 ^ b → k ≡ b → j ≡ i → unwrap_or (value_in (with_published c b i n) k j) other ≡ n
 written_stands c b i k j n other new low inside same_bucket same_index =
     let t : IsTable c = (let P : Contents ℕ → Type 0 = IsTable in subst P (sym new) (IsTable-no_contents ℕ)) in
-    ap (λ m. unwrap_or (slot (with_published c b i n) m j) other) same_bucket
-    ∙ ap (λ m. unwrap_or (slot (with_published c b i n) b m) other) same_index
+    ap (λ m. unwrap_or (value_in (with_published c b i n) m j) other) same_bucket
+    ∙ ap (λ m. unwrap_or (value_in (with_published c b i n) b m) other) same_index
     ∙ ap (λ (o : Option ℕ). unwrap_or o other) (published_slot c b t low i n inside)
 
 pub returns : goal.returns

@@ -5,7 +5,7 @@ use mathlib.Core.Path.{fun_ext}
 use Rattle.thread_local_model.specs.Place.{id_at}
 use Rattle.thread_local_model.specs.Buckets.{Contents, stands, values, IsTable}
 use Rattle.thread_local_model.specs.Owned.{Owned}
-use Rattle.thread_local_model.specs.Rows.{slot, with_slot, with_row, empty_row}
+use Rattle.thread_local_model.specs.Rows.{value_in, with_slot, with_row, empty_row}
 use Rattle.thread_local_model.specs.Walk.{with_value}
 use Rattle.thread_local_contents.specs.Owner.{with_published}
 use Rattle.thread_local_contents.proofs.InsertingLaws.{published_values}
@@ -30,33 +30,33 @@ none_of : {V : Type 0} (x : Option V) → is_some x ≡ false → x ≡ None
 none_of None h = refl
 none_of (Some x) h = cc
 
-nothing_at : {V : Type 0} (o now : Owned V) (b i : ℕ) → o ≡ now → is_some (slot o.contents b i) ≡ false → slot now.contents b i ≡ None
-nothing_at o now b i same none = ap (λ (s : Owned _). slot s.contents b i) (sym same) ∙ none_of (slot o.contents b i) none
+nothing_at : {V : Type 0} (o now : Owned V) (b i : ℕ) → o ≡ now → is_some (value_in o.contents b i) ≡ false → value_in now.contents b i ≡ None
+nothing_at o now b i same none = ap (λ (s : Owned _). value_in s.contents b i) (sym same) ∙ none_of (value_in o.contents b i) none
 
-pub returns-then-holds : goal.returns-then-holds
-returns-then-holds g c =
+pub returns-then-holds_value : goal.returns-then-holds_value
+returns-then-holds_value g c =
     let b = c.args.thread.bucket in
     let i = c.args.thread.index in
     let t = c.self.invariant.table in
     let first : Owned _ = record { contents = c.self.inside.words; reserved = c.self.inside.reserved } in (
-      ap (λ (f : _ → _). inl (c.get_mut.result.ghost_name, f)) (fun_ext (left_as first c.args.self.now c.holds.new.words b i c.self.view_is c.holds.ensures.same (c.holds.ensures.stands c.if-holds.true))),
+      ap (λ (f : _ → _). inl (c.get_mut.result.ghost_name, f)) (fun_ext (left_as first c.args.self.now c.holds_value.new.self b i c.self.view_is c.holds_value.ensures.same (c.holds_value.ensures.stands c.if-holds_value.true))),
       record {
         writes_back = tt;
-        value = ap (λ (s : Owned _). slot s.contents b i) (sym c.self.view_is) ∙ ap (λ (k : Contents _). slot k b i) (sym c.holds.ensures.same) ∙ c.get_mut.ensures.value;
-        map = map_of first c.args.self.now b i c.self.view_is t c.args.thread.in_table c.args.thread.in_bucket;
+        value = ap (λ (s : Owned _). value_in s.contents b i) (sym c.self.view_is) ∙ ap (λ (k : Contents _). value_in k b i) (sym c.holds_value.ensures.same) ∙ c.get_mut.ensures.value;
+        would_map = map_of first c.args.self.now b i c.self.view_is t c.args.thread.in_table c.args.thread.in_bucket;
       },
     )
 
-pub returns-else-holds : goal.returns-else-holds
-returns-else-holds g c =
+pub returns-else-holds_value : goal.returns-else-holds_value
+returns-else-holds_value g c =
     let b = c.args.thread.bucket in
     let i = c.args.thread.index in
     let t = c.self.invariant.table in
     let first : Owned _ = record { contents = c.self.inside.words; reserved = c.self.inside.reserved } in (
-      ap (λ (k : Contents _). let s : Owned _ = record { contents = k; reserved = c.self.inside.reserved } in inr s) c.holds.ensures.same ∙ ap (λ (s : Owned _). inr s) c.self.view_is,
+      ap (λ (k : Contents _). let s : Owned _ = record { contents = k; reserved = c.self.inside.reserved } in inr s) c.holds_value.ensures.same ∙ ap (λ (s : Owned _). inr s) c.self.view_is,
       record {
         writes_back = tt;
-        value = nothing_at first c.args.self.now b i c.self.view_is (sym c.holds.ensures.value ∙ c.if-holds.false);
-        map = map_of first c.args.self.now b i c.self.view_is t c.args.thread.in_table c.args.thread.in_bucket;
+        value = nothing_at first c.args.self.now b i c.self.view_is (sym c.holds_value.ensures.value ∙ c.if-holds_value.false);
+        would_map = map_of first c.args.self.now b i c.self.view_is t c.args.thread.in_table c.args.thread.in_bucket;
       },
     )

@@ -4,9 +4,9 @@ use mathlib.Core.Path.{fun_ext}
 use Rattle.thread_local_model.specs.Place.{id_at}
 use Rattle.thread_local_model.specs.Buckets.{Contents, row, stands, IsTable}
 use Rattle.thread_local_model.specs.Owned.{Owned}
-use Rattle.thread_local_model.specs.Rows.{slot, with_slot}
+use Rattle.thread_local_model.specs.Rows.{value_in, with_slot}
 use Rattle.thread_local_model.specs.Sheet.{moved}
-use Rattle.thread_local_contents.specs.Owner.{with_bucket, with_published, sheet_of, offer}
+use Rattle.thread_local_contents.specs.Owner.{with_bucket, with_published, sheet_of, publish_or_keep}
 use Rattle.thread_local_contents.proofs.StandingLaws.{row-absent, whole-with_bucket}
 use Rattle.thread_local_contents.proofs.InsertingLaws.{ends, answers, published_moves, published_stands}
 use Rattle.thread_local_buckets.specs.Inserting.{owned_with}
@@ -14,7 +14,7 @@ use Rattle.thread_local_buckets.proofs.buckets.Buckets.insert.Goals as goal
 
 -- what holds of every insertion
 record Inserts {V : Type 0} (c : Contents V) (b i : ℕ) (value : V) : Type 0 where
-  moves : sheet_of (with_published c b i (unwrap_or (slot c b i) value)) ≡ moved (sheet_of c) (offer (slot c b i) (id_at b i) value)
+  moves : sheet_of (with_published c b i (unwrap_or (value_in c b i) value)) ≡ moved (sheet_of c) (publish_or_keep (value_in c b i) (id_at b i) value)
   stand : (written : V) (bucket : ℕ) → stands (with_published c b i written) bucket ≡ cond (eqb b bucket) true (stands c bucket)
 
 inserts : {V : Type 0} (o now : Owned V) (b i : ℕ) (value : V) → o ≡ now → IsTable o.contents → b < 63 → i < 2 ^ b → Inserts now.contents b i value
@@ -24,7 +24,7 @@ inserts o now b i value same t low inside =
 
 -- what the buckets end as, whatever is written: the bucket stands, and its slot has what was written
 left_as : {V : Type 0} (o now : Owned V) (d e : Contents V) (b i : ℕ) (value : V) → o ≡ now → IsTable o.contents → b < 63 → d ≡ with_bucket o.contents b
-    → (IsSome (slot d b i) → e ≡ d) → (slot d b i ≡ None → e ≡ with_slot d b i (Some value))
+    → (IsSome (value_in d b i) → e ≡ d) → (value_in d b i ≡ None → e ≡ with_slot d b i (Some value))
     → (w : V) → record { contents = with_slot e b i (Some w); reserved = o.reserved } ≡ owned_with now b i w
 left_as o now d e b i value same t low stood kept published w =
     let within : b < length o.contents.rows = omega (arith, t.buckets) in
@@ -33,12 +33,12 @@ left_as o now d e b i value same t low stood kept published w =
 
 -- what is answered: what stands there
 answered : {V : Type 0} (o now : Owned V) (d e : Contents V) (b i : ℕ) (value there : V) → o ≡ now → IsTable o.contents → b < 63 → i < 2 ^ b → d ≡ with_bucket o.contents b
-    → (IsSome (slot d b i) → e ≡ d) → (slot d b i ≡ None → e ≡ with_slot d b i (Some value)) → slot e b i ≡ Some there → there ≡ unwrap_or (slot now.contents b i) value
+    → (IsSome (value_in d b i) → e ≡ d) → (value_in d b i ≡ None → e ≡ with_slot d b i (Some value)) → value_in e b i ≡ Some there → there ≡ unwrap_or (value_in now.contents b i) value
 answered o now d e b i value there same t low inside stood kept published found =
     let within : b < length o.contents.rows = omega (arith, t.buckets) in
     let whole : length (row d b) ≡ 2 ^ b = ap (λ (k : Contents _). length (row k b)) stood ∙ whole-with_bucket o.contents b t low in
     answers o.contents b within (row-absent o.contents b) d e i value there stood (omega arith) kept published found
-    ∙ ap (λ (s : Owned _). unwrap_or (slot s.contents b i) value) same
+    ∙ ap (λ (s : Owned _). unwrap_or (value_in s.contents b i) value) same
 
 pub returns-in-Ok : goal.returns-in-Ok
 returns-in-Ok g c =
@@ -49,12 +49,12 @@ returns-in-Ok g c =
     let inside : i < 2 ^ b = c.args.thread.in_bucket in
     let first : Owned _ = record { contents = c.self.inside.words; reserved = c.self.inside.reserved } in
     let so = inserts first c.args.self.now b i c.args.value c.self.view_is t low inside in (
-      ap (λ (f : _ → _). inl (c.get_mut.result.ghost_name, f)) (fun_ext (left_as first c.args.self.now c.stand.new.words c.offer.new.words b i c.args.value c.self.view_is t low c.in-Ok.ensures.ok c.offer.ensures.kept c.offer.ensures.published)),
+      ap (λ (f : _ → _). inl (c.get_mut.result.ghost_name, f)) (fun_ext (left_as first c.args.self.now c.ensure_bucket.new.self c.publish_or_drop.new.self b i c.args.value c.self.view_is t low c.in-Ok.ensures.ok c.publish_or_drop.ensures.kept c.publish_or_drop.ensures.published)),
       record {
         writes_back = tt;
-        answers = answered first c.args.self.now c.stand.new.words c.offer.new.words b i c.args.value c.get_mut.result.now c.self.view_is t low inside c.in-Ok.ensures.ok c.offer.ensures.kept c.offer.ensures.published c.get_mut.ensures.value;
-        moves = so.moves;
-        stands = so.stand;
+        answers = answered first c.args.self.now c.ensure_bucket.new.self c.publish_or_drop.new.self b i c.args.value c.get_mut.result.now c.self.view_is t low inside c.in-Ok.ensures.ok c.publish_or_drop.ensures.kept c.publish_or_drop.ensures.published c.get_mut.ensures.value;
+        would_move = so.moves;
+        would_stand = so.stand;
         err = tt;
         refused = tt;
       },
@@ -71,8 +71,8 @@ returns-in-Err g c =
       record {
         writes_back = tt;
         answers = tt;
-        moves = so.moves;
-        stands = so.stand;
+        would_move = so.moves;
+        would_stand = so.stand;
         err = refl;
         refused = sym (ap (λ (s : Owned _). stands s.contents b) c.self.view_is) ∙ c.in-Err.ensures.refused;
       },

@@ -1,6 +1,6 @@
 use Rattle.std.proofs.Common.{◌≡◌, ◌+◌, ℕ, length, subst, sym, ◌∙◌, ap, arith, None}
 use Rattle.thread_local_model.specs.Buckets.{Contents, values}
-use Rattle.thread_local_model.specs.Rows.{slot, with_slot}
+use Rattle.thread_local_model.specs.Rows.{value_in, with_slot}
 use Rattle.thread_local_model.specs.Walk.{walk}
 use Rattle.thread_local_contents.proofs.NextValue.{Goes, goes}
 use Rattle.thread_local_buckets.proofs.iter.IntoIterIterator.next.Goals as goal
@@ -15,7 +15,7 @@ goes_on g c =
     let fits = c.self.invariant.fits in
     let yielded = c.seek.ensures.yielded in
     goes c.self.inside.words c.take-value.new.self c.seek.new.raw c.self.inside.left c.take-value.result c.seek.ensures.at
-    (ap (λ (w : Contents _). slot w c.seek.new.raw.bucket c.seek.new.raw.index) (sym same) ∙ c.take-value.ensures.value)
+    (ap (λ (w : Contents _). value_in w c.seek.new.raw.bucket c.seek.new.raw.index) (sym same) ∙ c.take-value.ensures.value)
     (from_same c.self.inside.words c.seek.new.places c.take-value.new.self c.seek.new.raw.bucket c.seek.new.raw.index same c.take-value.ensures.after)
     c.self.invariant.counted (omega arith)
 

@@ -1,6 +1,6 @@
 use Rattle.std.proofs.Common.{◌≡◌, ◌+◌, ℕ, length, subst, sym, ◌∙◌, ap, arith, None}
 use Rattle.thread_local_model.specs.Buckets.{Contents, values}
-use Rattle.thread_local_model.specs.Rows.{slot, with_slot}
+use Rattle.thread_local_model.specs.Rows.{value_in, with_slot}
 use Rattle.thread_local_model.specs.Walk.{walk}
 use Rattle.thread_local_loan.specs.declared.loan.Loan.{Loan}
 use Rattle.thread_local_contents.proofs.NextValue.{Goes, goes}
@@ -16,7 +16,7 @@ goes_on g c =
     let fits = c.self.invariant.0.fits in
     let yielded = c.seek.ensures.yielded in
     goes c.self.inside.loan.contents c.give-item.new.self.contents c.seek.new.raw c.self.inside.left c.give-item.result.now c.seek.ensures.at
-    (ap (λ (l : Loan _). slot l.contents c.seek.new.raw.bucket c.seek.new.raw.index) (sym same) ∙ c.give-item.ensures.value)
+    (ap (λ (l : Loan _). value_in l.contents c.seek.new.raw.bucket c.seek.new.raw.index) (sym same) ∙ c.give-item.ensures.value)
     (from_same c.self.inside.loan c.seek.new.places c.give-item.new.self.contents c.seek.new.raw.bucket c.seek.new.raw.index same c.give-item.ensures.contents)
     c.self.invariant.0.counted (omega arith)
 

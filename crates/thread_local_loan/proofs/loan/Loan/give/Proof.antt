@@ -6,7 +6,7 @@ use types.Follow.{after₂}
 use Rattle.std.proofs.alloc.Shapes.{after}
 use Rattle.thread_local_model.specs.Buckets.{Contents, row}
 use Rattle.thread_local_model.specs.Place.{id_at}
-use Rattle.thread_local_model.specs.Rows.{slot, with_slot}
+use Rattle.thread_local_model.specs.Rows.{value_in, with_slot}
 use Rattle.thread_local_blocks.specs.Slots.{stride, value_at}
 use Rattle.thread_local_blocks.proofs.Slots.{within}
 use Rattle.thread_local_blocks.proofs.Fields.{uncapped}
@@ -14,7 +14,7 @@ use Rattle.thread_local_loan.specs.Lent.{Lending, lending, framed, frames, Leads
 use Rattle.thread_local_loan.specs.contracts.loan.Loan as loan
 use Rattle.thread_local_loan.specs.contracts.loan.Loan.give.{ended, clauses}
 use Rattle.thread_local_loan.specs.contracts.loan.Loan.give.Key.{name as #self}
-use Rattle.thread_local_loan.proofs.Fields.{Words, told, loan_val, leads_in, value_in, value_is}
+use Rattle.thread_local_loan.proofs.Fields.{Words, told, loan_val, leads_in, the_value, the_value_is}
 use Rattle.thread_local_loan.proofs.Left.{left_after}
 use Rattle.thread_local_loan.proofs.Giving.{gives, less, whole_of}
 use Rattle.thread_local_loan.proofs.Frames.{pointer, in_row, Frame, frame_out}
@@ -34,7 +34,7 @@ give_spec 𝓤 𝓛 𝓜 𝓡 wired X L =
     let b : ℕ = a.0.ref_ptr.0 in let o : ℕ = a.0.ref_ptr.1 in let h : Lo.Denot = a.0.now in let k : ℕ = a.1.0 in let i : ℕ = a.1.1.0 in
     let y : (walk_of 𝓛 En hs c₀).Ghost = ((κs, qs, bounds, a, (vptr b o ∷ [], (vint w64 k ∷ [], (vint w64 i ∷ [], tt)))), gh) in let Post : Val → SProp 𝓤 = (walk_of 𝓛 En hs c₀).post y in
     let others : Fml = fsep (flft κs.1.0 qs.1.0) (fsep (flft κs.1.1.0 qs.1.1.0) ftrue) in
-    let InTable : Type 0 = k < 63 in let InBucket : Type 0 = i < length (row h.contents k) in let Ahead : Type 0 = h.given ≤ id_at k i in let Published : Type 0 = IsSome (slot h.contents k i) in
+    let InTable : Type 0 = k < 63 in let InBucket : Type 0 = i < length (row h.contents k) in let Ahead : Type 0 = h.given ≤ id_at k i in let Published : Type 0 = IsSome (value_in h.contents k i) in
     qed 𝓛 (((‵ (flft κs.0 qs.0) ⊛ ‵ others) ⊛ ‵ (owns (types_at En.signature.params κs) a y.0.4)) ∷ raw (fact 𝓤 _) ∷ (raw (fact 𝓤 InTable) ⊛ raw (fact 𝓤 InBucket) ⊛ raw (fact 𝓤 Ahead) ⊛ raw (fact 𝓤 Published)) ∷ []) ∵
     keep ! (2 ∷ 0 ∷ []) $ split3 ! $ heard ! InTable (λ small. heard ! InBucket (λ inside. split ! $ heard ! Ahead (λ ahead. heard ! Published (λ published. split ! $ split ! $ move ! (2 ∷ []) $ fsplit ! $ fsplit3 ! $ keep ! (1 ∷ 2 ∷ 4 ∷ 5 ∷ []) $
     enter ! 𝓣.C 𝓣.Λ fn (vptr b o ∷ vint w64 k ∷ vint w64 i ∷ []) Post $ alloc_all ! (λ l. pass_all ! refl ((tt, tt), ((tt, record { fits = are.1.0.1 }), ((tt, record { fits = are.1.1.0.1 }), tt))) $ let Ev = env fn.locals l in
@@ -42,8 +42,8 @@ give_spec 𝓤 𝓛 𝓜 𝓡 wired X L =
     -- [the frames; the values; the fields; the loan's cell; its open borrow, in three entries; the other tokens]
     let at : h.words ≡ block_ptr (block_of h.words) (count_of h.words) = at_block h.words so.0 in let wb : ℕ = block_of h.words in let wo : ℕ = count_of h.words in let e : ℕ = k * 8 + wo in
     let rs = s.1.rows in let p : Ptr = pointer s.0 k in let r = in_row rs k in let ev : ts ≡ loan_val (block_ptr wb wo) ∷ [] = told ℓ R h.words ts is_so ∙ ap (λ (q : Ptr). loan_val q ∷ []) at in
-    let near : i < length r = subst (λ n. i < n) (sym (so.1.long k)) inside in let sb : ℕ = block_of p in let e' : ℕ = i * stride R + count_of p in let v : ℕ = value_at R e' in let x : X.Denot = value_in (slot h.contents k i) published in
-    let had : slot h.contents k i ≡ Some x = value_is (slot h.contents k i) published in let kept : k < length h.contents.rows = subst (λ n. k < n) (sym so.1.table.buckets) small in
+    let near : i < length r = subst (λ n. i < n) (sym (so.1.long k)) inside in let sb : ℕ = block_of p in let e' : ℕ = i * stride R + count_of p in let v : ℕ = value_at R e' in let x : X.Denot = the_value (value_in h.contents k i) published in
+    let had : value_in h.contents k i ≡ Some x = the_value_is (value_in h.contents k i) published in let kept : k < length h.contents.rows = subst (λ n. k < n) (sym so.1.table.buckets) small in
     move ! (7 ∷ []) $ fsplit ! $ move ! (2 ∷ 0 ∷ []) $ bor_open ! tt $ move ! (1 ∷ []) $
     use1 𝓛 (‵ (framed R wb e p r) ⊛ raw (Frame 𝓛 R wb wo s.0 rs k e)) (frame_out 𝓛 R wb s.0 rs k wo e refl (subst (λ n. k < n) (sym so.1.rows) small)) $ split ! $ fsplit3 ! $ move ! (1 ∷ []) $ fpick ! (λ lead. drop ! $
     let leads = leads_in R p r lead (omega arith) in let place : p ≡ block_ptr sb (count_of p) = at_block p leads.0 in let low : k * 8 < 2 ^ 64 = omega arith in let below : i * stride R < 2 ^ 63 = within 𝓛 R i (length r) (omega arith) leads.1 in let fits : i * stride R < 2 ^ 64 = omega arith in
@@ -73,6 +73,6 @@ give_spec 𝓤 𝓛 𝓜 𝓡 wired X L =
     -- [the item; the tokens; what the parameters own; what follows]
     use0 𝓛 (raw (fact 𝓤 (h'.given ≡ id_at k i + 1))) (fact_i 𝓤 (h'.given ≡ id_at k i + 1) (emp 𝓤) refl) $
     let Less : Type 0 = left ≡ with_slot h.contents k i None in use0 𝓛 (raw (fact 𝓤 Less)) (fact_i 𝓤 Less (emp 𝓤) refl) $ join ! $
-    let Gave : Type 0 = slot h.contents k i ≡ Some x in use0 𝓛 (raw (fact 𝓤 Gave)) (fact_i 𝓤 Gave (emp 𝓤) had) $ join ! $
+    let Gave : Type 0 = value_in h.contents k i ≡ Some x in use0 𝓛 (raw (fact 𝓤 Gave)) (fact_i 𝓤 Gave (emp 𝓤) had) $ join ! $
     move ! (4 ∷ 0 ∷ []) $ join ! $
     returns ! (look_at ! 0 refl) $ free_all ! refl $ keep ! (2 ∷ 3 ∷ 1 ∷ 0 ∷ []) $ by ! (leaves 𝓛 En hs c₀ y (vptr sb v) item (h', (tt, (tt, tt))) (tt, (tt, (tt, tt))))))))))))))))

@@ -7,7 +7,7 @@ use Rattle.std.proofs.lemmas.List.{set-get_or}
 use Rattle.std.proofs.alloc.Shapes.{after}
 use Rattle.thread_local_model.specs.Buckets.{row, IsTable}
 use Rattle.thread_local_model.specs.Place.{id_at}
-use Rattle.thread_local_model.specs.Rows.{slot}
+use Rattle.thread_local_model.specs.Rows.{value_in}
 use Rattle.thread_local_blocks.specs.Slots.{flag_of, slot_at, stride, along}
 use Rattle.thread_local_blocks.proofs.Slots.{along_at, Reset, within, flag_told}
 use Rattle.thread_local_blocks.proofs.Fields.{uncapped}
@@ -65,7 +65,7 @@ is_published_spec 𝓤 𝓛 𝓜 𝓡 wired X L =
     -- [what the loan owns; two tokens; the fields; the loan's cell; its open borrow, in three entries]
     move ! (3 ∷ 0 ∷ []) $ fjoin ! $ rewrite ! 3 (λ (ws : List Val). ‵ (cell_at full_share Lo.mir ws b o)) (sym ev) refl $ move ! (3 ∷ 0 ∷ 4 ∷ 5 ∷ 6 ∷ []) $ closes ! tt Lo h ts b o $
     feq_i ! (List Val) (vptr b o ∷ []) (vptr b o ∷ []) refl $ fjoin3 ! $ nothing ! $ nothing ! $ fjoin ! $ nothing ! $ fjoin ! $ move ! (1 ∷ 0 ∷ []) $ fjoin ! $ move ! (2 ∷ 3 ∷ []) $ fjoin ! $ move ! (2 ∷ 0 ∷ []) $ join ! $
-    let yes_or_no : Bool = not (eqb n 0) in let Told : Type 0 = yes_or_no ≡ is_some (slot h.contents k i) in
+    let yes_or_no : Bool = not (eqb n 0) in let Told : Type 0 = yes_or_no ≡ is_some (value_in h.contents k i) in
     use0 𝓛 (raw (fact 𝓤 (IsTable h.contents))) (fact_i 𝓤 (IsTable h.contents) (emp 𝓤) so.1.table) $
     use0 𝓛 (raw (fact 𝓤 Told)) (fact_i 𝓤 Told (emp 𝓤) (flag_told c ∙ sym (ap is_some (so.1.ahead k i ahead)))) $ join ! $ use0 𝓛 (raw (fact 𝓤 (h ≡ h))) (fact_i 𝓤 (h ≡ h) (emp 𝓤) refl) $ join ! $
     feq_i ! (List Val) (vbool yes_or_no ∷ []) (vbool yes_or_no ∷ []) refl $

@@ -1,5 +1,4 @@
-use Rattle.std.proofs.Common.{◌+◌, ◌-◌, ◌*◌, ◌^◌, ◌%◌, arith}
-use Rattle.std.proofs.lemmas.Nat.{one_shl}
+use Rattle.std.proofs.Common.{◌+◌, ◌-◌, ◌^◌, arith}
 use Rattle.thread_local_model.proofs.PlaceLaws.{only_place}
 use Rattle.thread_local_thread_id.proofs.place.Thread.new.Goals as goal
 
@@ -11,5 +10,5 @@ returns-clause-bucket c =
 pub returns-clause-index : goal.returns-clause-index
 returns-clause-index c =
     let power = c.ilog2-bucket.ensures in
-    let shifted = one_shl c.ilog2-bucket.result 64 power.bound in
-    (only_place c.args.id c.ilog2-bucket.result (c.args.id - (1 * 2 ^ c.ilog2-bucket.result % 2 ^ 64 - 1)) (omega arith) (omega arith)).1
+    let size = c.bucket_size.ensures in
+    (only_place c.args.id c.ilog2-bucket.result (c.args.id - (c.bucket_size.result - 1)) (omega arith) (omega arith)).1

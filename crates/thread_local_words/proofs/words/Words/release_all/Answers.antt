@@ -1,5 +1,5 @@
 use Rattle.std.proofs.Common.{arith}
-use Rattle.thread_local_words.proofs.Seen.{all_absent}
+use Rattle.thread_local_words.proofs.ContentsOf.{all_absent}
 use Rattle.thread_local_words.proofs.words.Words.release_all.Goals as goal
 
 pub returns : goal.returns

@@ -4,8 +4,8 @@ use Rattle.thread_local_model.specs.Place.{id_at}
 use Rattle.thread_local_model.specs.Buckets.{Contents, values, row}
 use Rattle.thread_local_contents.specs.Counting.{count_below}
 use Rattle.thread_local_contents.proofs.TakingLaws.{count_below-zero, count_below-absent, count_below-fits, count_below-walk}
-use Rattle.thread_local_buckets.proofs.steps.count.Goals as goal
-use Rattle.thread_local_buckets.proofs.steps.count.Goals.{then-stands, else-stands}
+use Rattle.thread_local_words.proofs.words.Words.count_values.Goals as goal
+use Rattle.thread_local_words.proofs.words.Words.count_values.Goals.{then-stands, else-stands}
 
 -- what is counted in a bucket, seen of the words at first
 counted_at_first : {V : Type 0} (now first : Contents V) (b n : ℕ) → now ≡ first
@@ -14,13 +14,13 @@ counted_at_first : {V : Type 0} (now first : Contents V) (b n : ℕ) → now ≡
 counted_at_first now first b n same counted = subst (λ (w : Contents _). count_below (values w) (id_at b 0) + n ≡ count_below (values w) (id_at (b + 1) 0)) same counted
 
 pub loop-bucket-init : goal.loop-bucket-init
-loop-bucket-init g c = record { counted = sym (count_below-zero (values c.args.words.now)); size = refl; same = refl }
+loop-bucket-init g c = record { counted = sym (count_below-zero (values c.args.self.now)); size = refl; same = refl }
 
 pub overflow_add-count : goal.overflow_add-count
 overflow_add-count g c =
     let kept = c.loop-bucket.invariant in
-    let here = counted_at_first _ c.args.words.now c.loop-bucket.bucket _ (c.stands.ensures.same ∙ kept.same) c.count_in_bucket-count.ensures.counted in
-    let fits = count_below-fits (values c.args.words.now) (c.loop-bucket.bucket + 1) (omega arith) in
+    let here = counted_at_first _ c.args.self.now c.loop-bucket.bucket _ (c.stands.ensures.same ∙ kept.same) c.count_in_bucket-count.ensures.counted in
+    let fits = count_below-fits (values c.args.self.now) (c.loop-bucket.bucket + 1) (omega arith) in
     omega (arith, here, kept.counted)
 
 pub overflow_mul-size : goal.overflow_mul-size
@@ -37,18 +37,18 @@ loop-bucket-preserved g c =
     let size : c.loop-bucket.size * 2 ≡ 2 ^ (c.loop-bucket.bucket + 1) = omega (arith, kept.size) in
     elim c.if-stands.branch [
       | then-stands w ↦
-          let here = counted_at_first _ c.args.words.now c.loop-bucket.bucket _ (c.stands.ensures.same ∙ kept.same) w.count_in_bucket-count.ensures.counted in
+          let here = counted_at_first _ c.args.self.now c.loop-bucket.bucket _ (c.stands.ensures.same ∙ kept.same) w.count_in_bucket-count.ensures.counted in
           record {
             counted = omega (arith, here, kept.counted, w.count-is);
             size = size;
-            same = w.words-is ∙ w.count_in_bucket-count.ensures.same ∙ c.stands.ensures.same ∙ kept.same;
+            same = w.self-is ∙ w.count_in_bucket-count.ensures.same ∙ c.stands.ensures.same ∙ kept.same;
           }
       | else-stands w ↦
-          let absent : row c.args.words.now c.loop-bucket.bucket ≡ [] = sym (ap (λ (w : Contents _). row w c.loop-bucket.bucket) kept.same) ∙ c.stands.ensures.absent w.if-stands.false in
+          let absent : row c.args.self.now c.loop-bucket.bucket ≡ [] = sym (ap (λ (w : Contents _). row w c.loop-bucket.bucket) kept.same) ∙ c.stands.ensures.absent w.if-stands.false in
           record {
-            counted = w.count-is ∙ kept.counted ∙ sym (count_below-absent c.args.words.now c.loop-bucket.bucket absent);
+            counted = w.count-is ∙ kept.counted ∙ sym (count_below-absent c.args.self.now c.loop-bucket.bucket absent);
             size = size;
-            same = w.words-is ∙ c.stands.ensures.same ∙ kept.same;
+            same = w.self-is ∙ c.stands.ensures.same ∙ kept.same;
           }
     ]
 
@@ -58,9 +58,9 @@ all_counted words bucket count low high counted = let end : id_at bucket 0 ≡ 2
 
 pub returns-clause-counted : goal.returns-clause-counted
 returns-clause-counted g c =
-    all_counted c.args.words.now c.loop-bucket.bucket c.loop-bucket.count (omega arith) c.loop-bucket-test.false c.loop-bucket.invariant.counted ∙ count_below-walk (values c.args.words.now)
+    all_counted c.args.self.now c.loop-bucket.bucket c.loop-bucket.count (omega arith) c.loop-bucket-test.false c.loop-bucket.invariant.counted ∙ count_below-walk (values c.args.self.now)
 
 pub returns-clause-fits : goal.returns-clause-fits
 returns-clause-fits g c =
-    let fits = count_below-fits (values c.args.words.now) c.loop-bucket.bucket (omega arith) in
+    let fits = count_below-fits (values c.args.self.now) c.loop-bucket.bucket (omega arith) in
     omega (arith, c.loop-bucket.invariant.counted)

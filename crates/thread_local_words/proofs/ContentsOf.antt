@@ -1,0 +1,57 @@
+-- The contents that words lead to, as one of them changes.
+use Rattle.std.proofs.Common.{◌≡◌, ℕ, zero, suc, ◌<◌, List, [], ◌∷◌, map, length, replicate, set, refl, sym, ap, ◌∙◌, arith, Option, Some}
+use Rattle.std.specs.Prelude.{slice_index_or}
+use Rattle.std.proofs.lemmas.List.{map-set}
+use Rattle.thread_local_model.specs.Buckets.{Contents, row, no_contents}
+use Rattle.thread_local_model.specs.Rows.{with_row, with_slot}
+use Rattle.thread_local_words.specs.declared.word.Word.{Word}
+use Rattle.thread_local_words.specs.declared.row_of_words.RowOfWords.{RowOfWords}
+use Rattle.thread_local_words.specs.Rows.{null_word, with_word, words_with_value, slots_of, contents_of}
+use Rattle.thread_local_words.specs.LentValue.{with_slot_value}
+
+module _ {X : Type 0} where
+  abbrev as_contents : List (List (Option X)) → Contents X
+  as_contents rows = record { rows = rows }
+
+  slots_at : (ws : List (Word X)) (b : ℕ) → slice_index_or (map slots_of ws) b [] ≡ slots_of (slice_index_or ws b null_word)
+  slots_at [] b = refl
+  slots_at (w ∷ ws) zero = refl
+  slots_at (w ∷ ws) (suc b) = slots_at ws b
+
+  -- a bucket's row is the slots of its word
+  pub row_of_word : (s : RowOfWords X) (b : ℕ) → row (contents_of s) b ≡ slots_of (slice_index_or s.words b null_word)
+  row_of_word s b = slots_at s.words b
+
+  pub row_changes : (s : RowOfWords X) (b : ℕ) (w : Word X) (cs : List (Option X)) → w.slots ≡ cs → contents_of (with_word s b w) ≡ with_row (contents_of s) b cs
+  row_changes s b w cs e = ap as_contents (map-set slots_of s.words b w ∙ ap (λ (ds : List (Option X)). set (map slots_of s.words) b ds) e)
+
+  pub slot_changes : (s : RowOfWords X) (b : ℕ) (old w : Word X) (i : ℕ) (h : Option X) → old ≡ slice_index_or s.words b null_word → w.slots ≡ set old.slots i h → contents_of (with_word s b w) ≡ with_slot (contents_of s) b i h
+  slot_changes s b old w i h was is = row_changes s b w (set (row (contents_of s) b) i h) (is ∙ ap (λ (cs : List (Option X)). set cs i h) (ap slots_of was ∙ sym (row_of_word s b)))
+
+  nulls : (ws : List (Word X)) (n : ℕ) → length ws ≡ n → ((i : ℕ) (d : Word X) → i < n → (slice_index_or ws i d).slots ≡ []) → map slots_of ws ≡ replicate n []
+  nulls [] zero e each = refl
+  nulls [] (suc n) e each = absurd (omega arith)
+  nulls (w ∷ ws) zero e each = absurd (omega arith)
+  nulls (w ∷ ws) (suc n) e each = ap (λ (cs : List (Option X)). cs ∷ map slots_of ws) (each 0 w (omega arith)) ∙
+      ap (λ (rows : List (List (Option X))). [] ∷ rows) (nulls ws n (let r : length ws ≡ n = omega arith in r) (λ i d near. each (suc i) d (omega arith)))
+
+  -- words that are all null lead to no contents
+  pub no_contents_of : (s : RowOfWords X) → length s.words ≡ 63 → ((i : ℕ) (d : Word X) → i < 63 → (slice_index_or s.words i d).slots ≡ []) → contents_of s ≡ no_contents
+  no_contents_of s long each = ap as_contents (nulls s.words 63 long each)
+
+  abbrev no_slots : List (Option X)
+  no_slots = []
+
+  pub value_changes : (s : RowOfWords X) (b i : ℕ) (x : X) → contents_of (words_with_value s b i x) ≡ with_slot (contents_of s) b i (Some x)
+  value_changes s b i x = let old : Word X = slice_index_or s.words b null_word in slot_changes s b old (with_slot_value old i x) i (Some x) refl refl
+
+  absent : (rows : List (List (Option X))) (n : ℕ) → length rows ≡ n → ((k : ℕ) → k < n → slice_index_or rows k no_slots ≡ no_slots) → rows ≡ replicate n no_slots
+  absent [] zero e each = refl
+  absent [] (suc n) e each = absurd (omega arith)
+  absent (r ∷ rs) zero e each = absurd (omega arith)
+  absent (r ∷ rs) (suc n) e each = ap (λ (cs : List (Option X)). cs ∷ rs) (each 0 (omega arith)) ∙
+      ap (λ (rows : List (List (Option X))). no_slots ∷ rows) (absent rs n (let r : length rs ≡ n = omega arith in r) (λ k near. each (suc k) (omega arith)))
+
+  -- contents of which every bucket is absent
+  pub all_absent : (s : Contents X) → length s.rows ≡ 63 → ((k : ℕ) → k < 63 → row s k ≡ []) → s ≡ no_contents
+  all_absent s long each = ap as_contents (absent s.rows 63 long each)

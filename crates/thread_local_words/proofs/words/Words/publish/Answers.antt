@@ -1,0 +1,19 @@
+use Rattle.std.proofs.Common.{sym, ap, ◌∙◌, subst, Some}
+use Rattle.thread_local_model.specs.Buckets.{Contents, IsTable}
+use Rattle.thread_local_model.specs.Rows.{with_slot}
+use Rattle.thread_local_contents.proofs.RowLaws.{IsTable-with_slot}
+use Rattle.thread_local_words.specs.Rows.{contents_of}
+use Rattle.thread_local_words.proofs.ContentsOf.{slot_changes}
+use Rattle.thread_local_words.proofs.words.Words.publish.Goals as goal
+
+pub invariant_of-self : goal.invariant_of-self
+invariant_of-self g c =
+    let s = c.self.inside.words in
+    let changed = slot_changes s c.args.thread.bucket c.word_mut.result.now c.publish.new.self c.args.thread.index (Some c.args.value) c.word_mut.ensures.value c.publish.ensures in
+    subst (λ (z : Contents g.row.T.Denot). IsTable z) (sym changed) (IsTable-with_slot (contents_of s) c.args.thread.bucket c.args.thread.index (Some c.args.value) c.self.invariant)
+
+pub returns : goal.returns
+returns g c = record {
+  after = slot_changes c.self.inside.words c.args.thread.bucket c.word_mut.result.now c.publish.new.self c.args.thread.index (Some c.args.value) c.word_mut.ensures.value c.publish.ensures
+    ∙ ap (λ (z : Contents g.row.T.Denot). with_slot z c.args.thread.bucket c.args.thread.index (Some c.args.value)) c.self.view_is;
+}
