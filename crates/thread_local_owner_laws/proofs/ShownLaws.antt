@@ -1,0 +1,175 @@
+-- what a table shows to an owner, row by row, and what its events do to that
+use Rattle.std.proofs.Common.{◌≡◌, ℕ, ◌-◌, ◌^◌, ◌<◌, ◌≤◌, ◌⊎◌, inl, inr, true, false, cond, eqb, List, [], length, set, get_or, Option, Some, None, is_some, IsTrue, refl, ap, sym, ◌∙◌, subst, arith, ⊎_elim, pow_pos, length-set}
+use Rattle.std.specs.Prelude.{nat_lt, option_map}
+use Rattle.std.proofs.lemmas.Bool.{cases_eq, cases_lt, eq-eqb, ne_eqb, lt-ltb, le-ltb}
+use Rattle.std.proofs.lemmas.List.{ext_get_or, get_or-set_same, get_or-set_other, get_or_past, length-replicate, get_or-replicate}
+use Rattle.std.proofs.lemmas.List.FromFn.{length-map-range_with_len, get_or-map-range_with_len}
+use Rattle.thread_local_model.specs.Place.{bucket_of, index_of}
+use Rattle.thread_local_model.specs.Buckets.{Contents, row, stands as stands_for_owner, values, no_contents, IsTable}
+use Rattle.thread_local_model.specs.Rows.{with_row, with_slot as with_owners_slot, empty_row}
+use Rattle.thread_local_model.specs.Capacity.{binary_digits}
+use Rattle.thread_local_model.specs.Walk.{walk}
+use Rattle.thread_local_model.proofs.PlaceLaws as place
+use Rattle.thread_local_model.proofs.WalkLaws.{walk_below-same}
+use Rattle.thread_local_contents.specs.Owner.{with_bucket, with_published}
+use Rattle.thread_local_contents.proofs.RowLaws.{row-with_row-same, row-with_row-other}
+use Rattle.thread_local_contents.proofs.FillingLaws.{contents-empty}
+use Rattle.thread_local_steps.specs.Table.{Slot, Bucket, fresh_bucket, Table, value_of, slot_of, slot_at, published, stands, made_table, with_fresh_bucket, with_slot_of, with_slot, with_flag}
+use Rattle.thread_local_walk_steps.specs.OwnerWalk.{owner_walk, rewritten}
+use Rattle.thread_local_steps.proofs.TableLaws.{stands-made_table, slot_at-made_table}
+use Rattle.thread_local_walk_steps.proofs.OwnerLaws.{owner_walk-walk, published-rewritten, stands-rewritten}
+use Rattle.thread_local_owner_laws.specs.Shown.{shown_row, shown}
+
+module _ {V : Type 0} where
+  -- the rows of what is shown are those of the words
+  pub rows-shown : (table : Table V) → length (shown table).rows ≡ 63
+  unfolding shown
+  rows-shown table = length-map-range_with_len (λ bucket. shown_row (table.words bucket) bucket) 0 63
+
+  pub row-shown : (table : Table V) (b : ℕ) → b < 63 → row (shown table) b ≡ shown_row (table.words b) b
+  unfolding shown
+  row-shown table b low = get_or-map-range_with_len (λ bucket. shown_row (table.words bucket) bucket) 0 63 b b [] low (omega arith)
+
+  row-past : (table : Table V) (b : ℕ) → 63 ≤ b → row (shown table) b ≡ []
+  row-past table b high = get_or_past (shown table).rows b [] (omega (arith, rows-shown table, high))
+
+  -- a bucket that stands has all its slots, and shows what they do
+  length-shown_row : (here : Bucket V) (b : ℕ) → length (shown_row (Some here) b) ≡ 2 ^ b
+  length-shown_row here b = length-map-range_with_len (λ index. value_of (here.slot index)) 0 (2 ^ b)
+
+  shown-at : (word : Option (Bucket V)) (b i : ℕ) → i < 2 ^ b → get_or (shown_row word b) i None ≡ value_of (slot_of word i)
+  shown-at None b i inside = refl
+  shown-at (Some here) b i inside = get_or-map-range_with_len (λ index. value_of (here.slot index)) 0 (2 ^ b) i i None inside (omega arith)
+
+  whole : (word : Option (Bucket V)) (b : ℕ) → (length (shown_row word b) ≡ 0) ⊎ (length (shown_row word b) ≡ 2 ^ b)
+  whole None b = inl refl
+  whole (Some here) b = inr (length-shown_row here b)
+
+  pub IsTable-shown : (table : Table V) → IsTable (shown table)
+  IsTable-shown table = record {
+    buckets = rows-shown table;
+    whole = λ b.
+        ⊎_elim
+        (λ low. subst (λ (r : List (Option V)). (length r ≡ 0) ⊎ (length r ≡ 2 ^ b)) (sym (row-shown table b low)) (whole (table.words b) b))
+        (λ high. inl (ap length (row-past table b high)))
+        (cases_lt b 63);
+  }
+
+  standing : (word : Option (Bucket V)) (b : ℕ) → nat_lt 0 (length (shown_row word b)) ≡ is_some word
+  standing None b = refl
+  standing (Some here) b = let some = pow_pos b in lt-ltb 0 (length (shown_row (Some here) b)) (omega (arith, length-shown_row here b))
+
+  pub stands-shown : (table : Table V) (b : ℕ) → b < 63 → stands_for_owner (shown table) b ≡ stands table b
+  unfolding stands
+  stands-shown table b low = ap (λ (r : List (Option V)). nat_lt 0 (length r)) (row-shown table b low) ∙ standing (table.words b) b
+
+  pub values-shown : (table : Table V) (id : ℕ) → id < 2 ^ 63 - 1 → values (shown table) id ≡ published table id
+  unfolding published slot_at
+  values-shown table id below =
+      ap (λ (r : List (Option V)). get_or r (index_of id) None) (row-shown table (bucket_of id) (place.bucket_of-below id below))
+      ∙ shown-at (table.words (bucket_of id)) (bucket_of id) (index_of id) (place.inside id)
+
+  pub owner_walk-shown : (table : Table V) → owner_walk table ≡ walk (values (shown table))
+  unfolding walk
+  owner_walk-shown table = owner_walk-walk table ∙ walk_below-same (published table) (values (shown table)) (2 ^ 63 - 1) (λ id below. sym (values-shown table id below))
+
+  -- contents of 63 equal rows are the same
+  same_contents : (c d : Contents V) → length c.rows ≡ 63 → length d.rows ≡ 63 → ((b : ℕ) → b < 63 → row c b ≡ row d b) → c ≡ d
+  same_contents c d m n h =
+      ap (λ (rows : List (List (Option V))). let e : Contents V = record { rows = rows } in e)
+      (ext_get_or [] c.rows d.rows (m ∙ sym n) (λ i inside. h i (omega (arith, m, inside))))
+
+  -- a fresh bucket shows no value
+  fresh : (number b : ℕ) → shown_row (Some (fresh_bucket {V = V} number)) b ≡ empty_row b
+  fresh number b =
+      ext_get_or None (shown_row (Some (fresh_bucket {V = V} number)) b) (empty_row b)
+      (length-shown_row (fresh_bucket number) b ∙ sym (length-replicate (2 ^ b) None))
+      (λ i inside.
+      let low : i < 2 ^ b = omega (arith, inside, length-shown_row (fresh_bucket {V = V} number) b) in
+      shown-at (Some (fresh_bucket number)) b i low ∙ sym (get_or-replicate (2 ^ b) i None None low))
+
+  pub shown-with_fresh_bucket : (table : Table V) (b number : ℕ) → b < 63 → stands table b ≡ false → shown (with_fresh_bucket table b number) ≡ with_bucket (shown table) b
+  unfolding with_fresh_bucket
+  shown-with_fresh_bucket table b number low none =
+      let absent : stands_for_owner (shown table) b ≡ false = stands-shown table b low ∙ none in
+      let within : b < length (shown table).rows = omega (arith, low, rows-shown table) in
+      same_contents (shown (with_fresh_bucket table b number)) (with_row (shown table) b (empty_row b)) (rows-shown (with_fresh_bucket table b number)) (length-set (shown table).rows b (empty_row b) ∙ rows-shown table)
+      (λ j below.
+      row-shown (with_fresh_bucket table b number) j below
+      ∙ ⊎_elim
+      (λ (here : b ≡ j).
+      let P : ℕ → Type 0 = λ k. shown_row (cond (eqb b k) (Some (fresh_bucket number)) (table.words k)) k ≡ row (with_row (shown table) b (empty_row b)) k in
+      subst P here (rw (eq-eqb b b refl) (fresh number b ∙ sym (row-with_row-same (shown table) b (empty_row b) within))))
+      (λ apart. rw (ne_eqb b j apart) (sym (row-shown table j below) ∙ sym (row-with_row-other (shown table) b j (empty_row b) (λ e. apart (sym e)))))
+      (cases_eq b j))
+      ∙ sym (ap (λ t. cond t (shown table) (with_row (shown table) b (empty_row b))) absent)
+
+  -- a slot that is changed changes one entry of the row
+  shown_row-with_slot_of : (word : Option (Bucket V)) (b i : ℕ) (slot : Slot V) (v : V) → IsTrue (is_some word) → i < 2 ^ b → value_of slot ≡ Some v
+      → shown_row (with_slot_of word i slot) b ≡ set (shown_row word b) i (Some v)
+  shown_row-with_slot_of None b i slot v t inside shows = cc
+  shown_row-with_slot_of (Some here) b i slot v t inside shows =
+      let after : Bucket V = record here { slot = λ k. cond (eqb i k) slot (here.slot k) } in
+      ext_get_or None (shown_row (Some after) b) (set (shown_row (Some here) b) i (Some v))
+      (length-shown_row after b ∙ sym (length-set (shown_row (Some here) b) i (Some v) ∙ length-shown_row here b))
+      (λ j low.
+      let below : j < 2 ^ b = omega (arith, low, length-shown_row after b) in
+      shown-at (Some after) b j below
+      ∙ ⊎_elim
+      (λ (same : i ≡ j).
+      let P : ℕ → Type 0 = λ k. value_of (cond (eqb i k) slot (here.slot k)) ≡ get_or (set (shown_row (Some here) b) i (Some v)) k None in
+      subst P same (rw (eq-eqb i i refl) (shows ∙ sym (get_or-set_same (shown_row (Some here) b) i (Some v) None (omega (arith, inside, length-shown_row here b))))))
+      (λ apart. rw (ne_eqb i j apart) (sym (shown-at (Some here) b j below) ∙ sym (get_or-set_other (shown_row (Some here) b) i j (Some v) None (λ e. apart (sym e)))))
+      (cases_eq i j))
+
+  pub shown-with_flag : (table : Table V) (id : ℕ) (v : V) → id < 2 ^ 63 - 1 → IsTrue (stands table (bucket_of id)) → (slot_at table id).written ≡ Some v
+      → shown (with_flag table id) ≡ with_published (shown table) (bucket_of id) (index_of id) v
+  unfolding with_slot stands
+  shown-with_flag table id v below t written =
+      let b = bucket_of id in
+      let i = index_of id in
+      let low = place.bucket_of-below id below in
+      let slot : Slot V = record (slot_at table id) { flag = true } in
+      let within : b < length (shown table).rows = omega (arith, low, rows-shown table) in
+      same_contents (shown (with_flag table id)) (with_owners_slot (shown table) b i (Some v)) (rows-shown (with_flag table id)) (length-set (shown table).rows b (set (row (shown table) b) i (Some v)) ∙ rows-shown table)
+      (λ j beneath.
+      row-shown (with_flag table id) j beneath
+      ∙ ⊎_elim
+      (λ (here : b ≡ j).
+      let P : ℕ → Type 0 = λ k. shown_row (cond (eqb b k) (with_slot_of (table.words k) i slot) (table.words k)) k ≡ row (with_owners_slot (shown table) b i (Some v)) k in
+      subst P here
+      (rw (eq-eqb b b refl)
+      (shown_row-with_slot_of (table.words b) b i slot v t (place.inside id) written
+      ∙ sym (ap (λ (r : List (Option V)). set r i (Some v)) (row-shown table b low))
+      ∙ sym (row-with_row-same (shown table) b (set (row (shown table) b) i (Some v)) within))))
+      (λ apart. rw (ne_eqb b j apart) (sym (row-shown table j beneath) ∙ sym (row-with_row-other (shown table) b j (set (row (shown table) b) i (Some v)) (λ e. apart (sym e)))))
+      (cases_eq b j))
+      ∙ sym (ap (λ s. with_owners_slot (cond s (shown table) (with_row (shown table) b (empty_row b))) b i (Some v)) (stands-shown table b low ∙ t))
+
+  pub values-shown-rewritten : (table : Table V) (others : ℕ → V → V) (id : ℕ) → id < 2 ^ 63 - 1 → values (shown (rewritten table others)) id ≡ option_map (others id) (values (shown table) id)
+  values-shown-rewritten table others id below =
+      values-shown (rewritten table others) id below ∙ published-rewritten table others id ∙ sym (ap (option_map (others id)) (values-shown table id below))
+
+  pub stands-shown-rewritten : (table : Table V) (others : ℕ → V → V) (b : ℕ) → b < 63 → stands_for_owner (shown (rewritten table others)) b ≡ stands_for_owner (shown table) b
+  stands-shown-rewritten table others b low = stands-shown (rewritten table others) b low ∙ stands-rewritten table others b ∙ sym (stands-shown table b low)
+
+-- the table of a capacity shows its buckets, with no value
+pub stands-shown-made : (V : Type 0) (capacity b : ℕ) → b < 63 → stands_for_owner (shown (made_table {V = V} capacity)) b ≡ nat_lt b (binary_digits capacity)
+stands-shown-made V capacity b low = stands-shown (made_table capacity) b low ∙ stands-made_table V capacity b
+
+pub values-shown-made : (V : Type 0) (capacity id : ℕ) → id < 2 ^ 63 - 1 → values (shown (made_table {V = V} capacity)) id ≡ None
+unfolding published
+values-shown-made V capacity id below = values-shown (made_table capacity) id below ∙ ap value_of (slot_at-made_table capacity id)
+
+none_below : (n b : ℕ) → n ≡ 0 → nat_lt b n ≡ false
+none_below n b none = le-ltb b n (omega arith)
+
+no_row : {V : Type 0} (word : Option (Bucket V)) (b : ℕ) → is_some word ≡ false → shown_row word b ≡ []
+no_row None b none = refl
+no_row (Some here) b none = cc
+
+pub shown-new : (V : Type 0) → shown (made_table {V = V} 0) ≡ no_contents
+unfolding stands binary_digits
+shown-new V =
+    contents-empty (shown (made_table 0)) 63 (rows-shown (made_table 0)) (omega arith)
+    (λ b low. row-shown (made_table 0) b low ∙ no_row ((made_table {V = V} 0).words b) b (stands-made_table V 0 b ∙ none_below 0 b refl))

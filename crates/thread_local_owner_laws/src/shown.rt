@@ -1,0 +1,38 @@
+ghost use Rattle.std.specs.Prelude.{◌≡◌, ℕ, ◌-◌, ◌^◌, ◌<◌, false, Some, option_map, IsTrue, None, nat_lt};
+ghost use Rattle.thread_local_model.specs.Capacity.{binary_digits};
+ghost use Rattle.thread_local_model.specs.Place.{bucket_of, index_of};
+ghost use Rattle.thread_local_model.specs.Buckets.{stands as stands_for_owner, values, no_contents, IsTable};
+ghost use Rattle.thread_local_model.specs.Walk.{walk};
+ghost use Rattle.thread_local_contents.specs.Owner.{with_bucket, with_published};
+ghost use Rattle.thread_local_steps.specs.Table.{Table, slot_at, published, stands, made_table, with_fresh_bucket, with_flag};
+ghost use Rattle.thread_local_walk_steps.specs.OwnerWalk.{owner_walk, rewritten};
+ghost use Rattle.thread_local_owner_laws.specs.Shown.{shown};
+
+/// What the table shows to an owner: the buckets that its words name, and the values that its flags show. An owner's walk of the one is the
+/// walk of the other.
+pub fn a_table_shows_its_contents<V>()
+    ensures table { (table : Table V) → IsTable (shown table) }
+    ensures stands { (table : Table V) (bucket : ℕ) → bucket < 63 → stands_for_owner (shown table) bucket ≡ stands table bucket }
+    ensures values { (table : Table V) (id : ℕ) → id < 2 ^ 63 - 1 → values (shown table) id ≡ published table id }
+    ensures walk { (table : Table V) → owner_walk table ≡ walk (values (shown table)) }
+{}
+
+/// The events change what an owner sees as an owner's calls do: an installed bucket and a flag that is set are an `insert`, an owner's writes
+/// leave each bucket standing and write over the values, and a table of `new` shows what new buckets have.
+pub fn events_change_contents_as_calls_do<V>()
+    ensures installed { (table : Table V) (bucket number : ℕ) → bucket < 63 → stands table bucket ≡ false
+        → shown (with_fresh_bucket table bucket number) ≡ with_bucket (shown table) bucket }
+    ensures published { (table : Table V) (id : ℕ) (v : V) → id < 2 ^ 63 - 1 → IsTrue (stands table (bucket_of id))
+        → (slot_at table id).written ≡ Some v
+        → shown (with_flag table id) ≡ with_published (shown table) (bucket_of id) (index_of id) v }
+    ensures rewritten { (table : Table V) (others : ℕ → V → V) (id : ℕ) → id < 2 ^ 63 - 1
+        → values (shown (rewritten table others)) id ≡ option_map (others id) (values (shown table) id) }
+    ensures rewritten_stands { (table : Table V) (others : ℕ → V → V) (bucket : ℕ) → bucket < 63
+        → stands_for_owner (shown (rewritten table others)) bucket ≡ stands_for_owner (shown table) bucket }
+
+    // A table of `new` shows what new buckets have, and one of a capacity what `with_capacity` makes.
+    ensures new { shown (made_table {V = V} 0) ≡ no_contents }
+    ensures made_stands { (capacity bucket : ℕ) → bucket < 63
+        → stands_for_owner (shown (made_table {V = V} capacity)) bucket ≡ nat_lt bucket (binary_digits capacity) }
+    ensures made_empty { (capacity id : ℕ) → id < 2 ^ 63 - 1 → values (shown (made_table {V = V} capacity)) id ≡ None }
+{}
