@@ -1,13 +1,10 @@
 -- `flags` reads two fields.
-use Rattle.thread_local_claim.proofs.Names.{◌≡◌, ℕ, List, [], ◌∷◌, sym, refl, dnil, a_type, named, Val, vptr, vbool, inst_fn, SProp, emp, Lft, Fml, ftrue, fsep, flft, ‵, raw, ◌⊛◌, ◌$◌, ◌∵◌, !, qed, by, move, keep, drop, split, join, fsplit, fjoin, fpick, use0, use1, rewrite, feq_i, stop, fld, of_opd, returns, enter, alloc_all, pass_all, free_all, look_at, through, sets, env, sub, whole, look_in, tables, fact, fact_i, yes, RattleType, owns, types_at, plain, named_lft, Ptr, nothing, peeks, unhide, Is, shows, cell_at, param, bounded, param_laws, RefOf, agg, get, shr_vals, shr_Tells, Stays, stay_dropped, walk_of, Goes-dropped, proved, leaves}
-use Rattle.std.proofs.Common.{Bool, is_some}
+use Rattle.thread_local_blocks.proofs.Names.{◌≡◌, ℕ, List, [], ◌∷◌, sym, refl, dnil, a_type, named, Val, vptr, vbool, inst_fn, SProp, emp, Lft, Fml, ftrue, fsep, flft, ‵, raw, ◌⊛◌, ◌$◌, ◌∵◌, !, qed, by, move, keep, drop, split, join, fsplit, fjoin, fpick, use0, use1, rewrite, feq_i, stop, fld, of_opd, returns, enter, alloc_all, pass_all, free_all, look_at, through, sets, env, sub, whole, look_in, tables, fact, fact_i, yes, RattleType, owns, types_at, plain, named_lft, Ptr, nothing, peeks, unhide, Is, shows, cell_at, param, bounded, param_laws, RefOf, agg, get, shr_vals, shr_Tells, Stays, stay_dropped, walk_of, Goes-dropped, proved, leaves, Bool, is_some, load, no_more, and_then, bool}
 use base.Fml.{fhide}
-use types.Run.{load, no_more, and_then}
 use denote.Steps.{looks, shuts}
 use denote.Memory.{hidden_shr}
 use denote.Ref.{ShrRef}
 use denote.Struct.Lending.{lent_out}
-use denote.Builtin.{bool}
 use Rattle.std.specs.contracts.marker.PhantomData as marker
 use Rattle.thread_local_model.specs.Learnt.{Learnt}
 use Rattle.thread_local_claim_logic.specs.Known.{is_found, value_held}
