@@ -147,7 +147,7 @@ fn installed<'a, T>(slot: ClaimedSlot<'a, T>, private: Private<T>) -> (ClaimedSl
     ensures reserved { result.0.reserved ≡ slot.entry.reserved }
 {
     let (block, alloc, bucket) = private.into_parts();
-    let (slot, back) = slot.offer(block);
+    let (slot, back) = slot.exchange(block);
     if let Some(block) = back {
         Private::from_parts(block, alloc, bucket).free();
     }

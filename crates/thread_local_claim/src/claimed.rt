@@ -136,14 +136,22 @@ impl<'a, T> ClaimedSlot<'a, T> {
     pub(crate) fn is_found(&self) -> bool
         ensures { result ≡ is_found self.now.learnt }
     {
-        self.found
+        self.flags().0
     }
 
     /// Whether the slot holds a value.
     pub(crate) fn is_published(&self) -> bool
         ensures { result ≡ is_some (value_held self.now.learnt) }
     {
-        self.published
+        self.flags().1
+    }
+
+    /// Whether the bucket has been found, and whether the slot holds a value.
+    fn flags(&self) -> (bool, bool)
+        ensures found { result.0 ≡ is_found self.now.learnt }
+        ensures published { result.1 ≡ is_some (value_held self.now.learnt) }
+    {
+        (self.found, self.published)
     }
 
     /// The value that the slot holds, for as long as the claim is borrowed.

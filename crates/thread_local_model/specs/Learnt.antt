@@ -11,16 +11,16 @@ pub data Learnt (V : Type 0) : Type 0 where
   Holding : (value : V) → Learnt V
 
 -- what is learnt by a load of the word, where that is not known to name a bucket
-abbrev pub loaded : {V : Type 0} → Learnt V → Bool → Option (Learnt V)
-loaded Unknown stands = Some (if stands then Standing else Missing)
-loaded Missing stands = Some (if stands then Standing else Missing)
-loaded learnt stands = None
+abbrev pub learnt_by_load : {V : Type 0} → Learnt V → Bool → Option (Learnt V)
+learnt_by_load Unknown stands = Some (if stands then Standing else Missing)
+learnt_by_load Missing stands = Some (if stands then Standing else Missing)
+learnt_by_load learnt stands = None
 
 -- what is learnt by a look at a slot whose bucket stands
-abbrev pub looked : {V : Type 0} → Learnt V → Option V → Option (Learnt V)
-looked Standing None = Some Vacant
-looked Standing (Some v) = Some (Holding v)
-looked learnt shown = None
+abbrev pub learnt_by_look : {V : Type 0} → Learnt V → Option V → Option (Learnt V)
+learnt_by_look Standing None = Some Vacant
+learnt_by_look Standing (Some v) = Some (Holding v)
+learnt_by_look learnt shown = None
 
 -- how a proof tells apart what is learnt: by a number and the value, if there is one
 abbrev number_of : {V : Type 0} → Learnt V → ℕ × Option V

@@ -5,10 +5,11 @@ ghost use Rattle.thread_local_shared_buckets.specs.TableView.{TableView, table_v
 use std::alloc::Global;
 use std::marker::Model;
 use thread_local_shared_word::SharedWord;
+use thread_local_thread_id::BUCKETS;
 
 /// A word for each of the 63 buckets.
 pub(crate) struct SharedRow<T> {
-    words: [SharedWord<T>; 63],
+    words: [SharedWord<T>; BUCKETS],
 }
 
 /// The words of a table's buckets. They lie as an owner's words do, beside the heap that their blocks come from.

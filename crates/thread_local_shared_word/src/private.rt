@@ -5,6 +5,7 @@ ghost use Rattle.thread_local_blocks.specs.Slots.{empty_slots};
 use std::alloc::{AllocError, Global};
 use std::marker::Model;
 use thread_local_blocks::Block;
+use thread_local_thread_id::bucket_size;
 
 /// A bucket's block before it is installed: all its slots are empty. A contract sees its bucket.
 ///
@@ -35,7 +36,7 @@ impl<T> Private<T> {
         requires { bucket < 63 }
         ensures { IfOk result (λ private. private.bucket ≡ bucket) }
     {
-        let block = Block::new(&alloc, 1 << bucket)?;
+        let block = Block::new(&alloc, bucket_size(bucket))?;
         Ok(Private {
             block,
             alloc,
@@ -50,7 +51,7 @@ impl<T> Private<T> {
             alloc,
             bucket,
         } = self;
-        block.release(&alloc, 1 << bucket);
+        block.release(&alloc, bucket_size(bucket));
     }
 
     /// The block, what frees it, and its bucket, each alone.

@@ -1,6 +1,6 @@
 use Rattle.std.proofs.Common.{◌≡◌, ℕ, zero, suc, Bool, true, false, [], ◌∷◌, ◌++◌, Option, Some, None, Result, Ok, Err, IfSome, IsSomeAnd, refl, ap, sym, subst, inl, inr}
 use Rattle.thread_local_model.specs.Answers.{Get, GetOr, Answer}
-use Rattle.thread_local_model.specs.Learnt.{Learnt, Missing, Vacant, Holding, loaded, looked}
+use Rattle.thread_local_model.specs.Learnt.{Learnt, Missing, Vacant, Holding, learnt_by_load, learnt_by_look}
 use Rattle.thread_local_steps.specs.Table.{Table, published, stands}
 use Rattle.thread_local_model.specs.Place.{bucket_of}
 use Rattle.thread_local_steps.specs.Local.{Doing, Gets, Started, Private, Written, Local, after_call, is_calling, begin_get, begin_get_or, learns, load_word, look_at_flag, make_bucket, install_bucket, write_value, set_flag, reply, local_step, LocalStep, BeginGet, BeginGetOr, LoadWord, LookAtFlag, MakeBucket, InstallBucket, WriteValue, SetFlag, Reply}
@@ -46,11 +46,11 @@ learns-goes step table local (Some learnt) go = record { id = refl; start = refl
 
 load_word-goes : {V E : Type 0} (table : Table V) (local : Local V E) (b : Bool) → IfSome (load_word table local b) (λ after. GoesOn LoadWord local after.1)
 load_word-goes table local false = tt
-load_word-goes table local true = learns-goes LoadWord table local (loaded local.learnt (stands table (bucket_of local.id))) (λ after c. c)
+load_word-goes table local true = learns-goes LoadWord table local (learnt_by_load local.learnt (stands table (bucket_of local.id))) (λ after c. c)
 
 look_at_flag-goes : {V E : Type 0} (table : Table V) (local : Local V E) (b : Bool) → IfSome (look_at_flag table local b) (λ after. GoesOn LookAtFlag local after.1)
 look_at_flag-goes table local false = tt
-look_at_flag-goes table local true = learns-goes LookAtFlag table local (looked local.learnt (published table local.id)) (λ after c. c)
+look_at_flag-goes table local true = learns-goes LookAtFlag table local (learnt_by_look local.learnt (published table local.id)) (λ after c. c)
 
 make_bucket-goes : {V E : Type 0} (table : Table V) (local : Local V E) (refused : Bool) (doing : Doing V E) (learnt : Learnt V) → local.doing ≡ doing
     → IfSome (make_bucket table local refused doing learnt) (λ after. GoesOn (MakeBucket refused) local after.1)

@@ -5,7 +5,7 @@ use Rattle.thread_local_model.specs.Answers.{View, Call, Get, GetOr, Answer, Fou
 use Rattle.thread_local_model.proofs.AnswersLaws as says
 use Rattle.thread_local_model.proofs.AnswersLaws.{answers-push, view_after_all-push}
 use Rattle.thread_local_steps.specs.Table.{Slot, Table, slot_at, published, stands, value_of, with_slot}
-use Rattle.thread_local_model.specs.Learnt.{Learnt, Unknown, Missing, Standing, Vacant, Holding, loaded, looked}
+use Rattle.thread_local_model.specs.Learnt.{Learnt, Unknown, Missing, Standing, Vacant, Holding, learnt_by_load, learnt_by_look}
 use Rattle.thread_local_steps.specs.Local.{Doing, Gets, Started, Private, Written, Local, after_call, is_calling, begin_get, begin_get_or, learns, load_word, look_at_flag, make_bucket, offered, install_bucket, write_value, set_flag, reply, local_step, LocalStep, BeginGet, BeginGetOr, LoadWord, LookAtFlag, MakeBucket, InstallBucket, WriteValue, SetFlag, Reply}
 use Rattle.thread_local_steps.specs.Fits.{IsWritten, AllWritten, view_now, IsLearnt, IsDoing, ViewFits, LocalFits, named, ChangesOnly, value_written, value_set, StepFits}
 use Rattle.thread_local_steps.proofs.TableLaws.{slot_at-none, published_unset, slot_at-offered, stands-offered, published-slot_at, slot_at-with_slot_same, slot_at-with_slot_other, stands-with_slot, slot_at-made, stands-made, named-made, named-offered, named-with_slot}
@@ -105,17 +105,17 @@ standing_so table id view known true s = s
 standing_so table id view known false s =
     (ap (λ slot. slot.flag) (slot_at-none table id s), false_from_ne_true view.known (λ t. false≢true (sym s ∙ known t)))
 
-loaded_so : {V : Type 0} (table : Table V) (id : ℕ) (view : View V) (learnt : Learnt V) → (IsTrue view.known → IsTrue (stands table (bucket_of id)))
-    → IfSome (loaded learnt (stands table (bucket_of id))) (IsLearnt table id view)
-loaded_so table id view Unknown known = standing_so table id view known (stands table (bucket_of id)) refl
-loaded_so table id view Missing known = standing_so table id view known (stands table (bucket_of id)) refl
-loaded_so table id view _ known = tt
+learnt_by_load_so : {V : Type 0} (table : Table V) (id : ℕ) (view : View V) (learnt : Learnt V) → (IsTrue view.known → IsTrue (stands table (bucket_of id)))
+    → IfSome (learnt_by_load learnt (stands table (bucket_of id))) (IsLearnt table id view)
+learnt_by_load_so table id view Unknown known = standing_so table id view known (stands table (bucket_of id)) refl
+learnt_by_load_so table id view Missing known = standing_so table id view known (stands table (bucket_of id)) refl
+learnt_by_load_so table id view _ known = tt
 
 load_word-fits : {V E : Type 0} (table : Table V) (local : Local V E) (b : Bool) → AllWritten table → LocalFits table local
     → IfSome (load_word table local b) (StepFits table local None)
 load_word-fits table local false written h = tt
 load_word-fits table local true written h =
-    learns-fits table local (loaded local.learnt (stands table (bucket_of local.id))) written h (loaded_so table local.id (view_now local) local.learnt h.view.known)
+    learns-fits table local (learnt_by_load local.learnt (stands table (bucket_of local.id))) written h (learnt_by_load_so table local.id (view_now local) local.learnt h.view.known)
 
 -- a slot that shows nothing has its flag unset
 unset : {V : Type 0} (flag : Bool) (shown : Option V) → (IsTrue flag → IsTrue (is_some shown)) → cond flag shown None ≡ None → flag ≡ false
@@ -128,18 +128,18 @@ unfolding published
 flag_unset table id written e = unset (slot_at table id).flag (slot_at table id).written (written id) e
 
 -- what a look teaches is so
-looked_so : {V : Type 0} (table : Table V) (id : ℕ) (view : View V) (learnt : Learnt V) (shown : Option V) → AllWritten table
-    → published table id ≡ shown → IsLearnt table id view learnt → IfSome (looked learnt shown) (IsLearnt table id view)
-looked_so table id view Standing None written e l = (l, flag_unset table id written e)
-looked_so table id view Standing (Some v) written e l = e
-looked_so table id view _ shown written e l = tt
+learnt_by_look_so : {V : Type 0} (table : Table V) (id : ℕ) (view : View V) (learnt : Learnt V) (shown : Option V) → AllWritten table
+    → published table id ≡ shown → IsLearnt table id view learnt → IfSome (learnt_by_look learnt shown) (IsLearnt table id view)
+learnt_by_look_so table id view Standing None written e l = (l, flag_unset table id written e)
+learnt_by_look_so table id view Standing (Some v) written e l = e
+learnt_by_look_so table id view _ shown written e l = tt
 
 look_at_flag-fits : {V E : Type 0} (table : Table V) (local : Local V E) (b : Bool) → AllWritten table → LocalFits table local
     → IfSome (look_at_flag table local b) (StepFits table local None)
 look_at_flag-fits table local false written h = tt
 look_at_flag-fits table local true written h =
-    learns-fits table local (looked local.learnt (published table local.id)) written h
-    (looked_so table local.id (view_now local) local.learnt (published table local.id) written refl h.view.learnt_so)
+    learns-fits table local (learnt_by_look local.learnt (published table local.id)) written h
+    (learnt_by_look_so table local.id (view_now local) local.learnt (published table local.id) written refl h.view.learnt_so)
 
 -- no slot changes, a word that names a bucket goes on naming it, and only the bucket of an id may come
 record OffersOnly {V : Type 0} (old new : Table V) (id : ℕ) : Type 0 where

@@ -1,7 +1,7 @@
 use Rattle.std.proofs.Common.{◌≡◌, ℕ, zero, suc, ◌⊎◌, Bool, cond, true, false, Option, Some, None, Result, Ok, Err, IfSome, refl, ap, sym, ◌∙◌, arith, ⊎_elim, inl, inr}
 use Rattle.std.proofs.lemmas.Bool.{cases_eq, eq-eqb}
 use Rattle.thread_local_model.specs.Place.{bucket_of}
-use Rattle.thread_local_model.specs.Learnt.{Learnt, Missing, Vacant, Holding, loaded, looked}
+use Rattle.thread_local_model.specs.Learnt.{Learnt, Missing, Vacant, Holding, learnt_by_load, learnt_by_look}
 use Rattle.thread_local_steps.specs.Table.{Table, Slot, published, stands, with_fresh_bucket, with_slot}
 use Rattle.thread_local_steps.specs.Local.{Doing, Gets, Started, Private, Written, Local, is_calling, begin_get, begin_get_or, learns, load_word, look_at_flag, make_bucket, install_bucket, write_value, set_flag, reply, local_step, LocalStep, BeginGet, BeginGetOr, LoadWord, LookAtFlag, MakeBucket, InstallBucket, WriteValue, SetFlag, Reply}
 use Rattle.thread_local_steps.specs.Fits.{named}
@@ -43,11 +43,11 @@ learns-numbers table local (Some learnt) = same_numbers table table local (recor
 
 load_word-numbers : {V E : Type 0} (table : Table V) (local : Local V E) (b : Bool) → IfSome (load_word table local b) (NumbersGo table local)
 load_word-numbers table local false = tt
-load_word-numbers table local true = learns-numbers table local (loaded local.learnt (stands table (bucket_of local.id)))
+load_word-numbers table local true = learns-numbers table local (learnt_by_load local.learnt (stands table (bucket_of local.id)))
 
 look_at_flag-numbers : {V E : Type 0} (table : Table V) (local : Local V E) (b : Bool) → IfSome (look_at_flag table local b) (NumbersGo table local)
 look_at_flag-numbers table local false = tt
-look_at_flag-numbers table local true = learns-numbers table local (looked local.learnt (published table local.id))
+look_at_flag-numbers table local true = learns-numbers table local (learnt_by_look local.learnt (published table local.id))
 
 make_bucket-numbers : {V E : Type 0} (table : Table V) (local : Local V E) (refused : Bool) (doing : Doing V E) (learnt : Learnt V)
     → IfSome (make_bucket table local refused doing learnt) (NumbersGo table local)

@@ -1,7 +1,7 @@
 use Rattle.std.specs.Prelude.{ℕ, zero, suc, Bool, true, false, List, [], ◌∷◌, ◌++◌, Option, Some, None, option_and_then, Result, Ok, Err, if◌then◌else◌}
 use Rattle.thread_local_model.specs.Place.{bucket_of}
 use Rattle.thread_local_model.specs.Answers.{View, Call, Get, GetOr, Answer, Found, Answered, Refused, Failed}
-use Rattle.thread_local_model.specs.Learnt.{Learnt, Unknown, Missing, Vacant, Holding, loaded, looked}
+use Rattle.thread_local_model.specs.Learnt.{Learnt, Unknown, Missing, Vacant, Holding, learnt_by_load, learnt_by_look}
 use Rattle.thread_local_steps.specs.Table.{Table, published, stands, with_fresh_bucket, with_written, with_flag}
 
 -- What a Local does: any number of gets are under way, or one publishing call. That has begun, with what its
@@ -69,12 +69,12 @@ learns table local (Some learnt) = Some (table, record local { learnt = learnt }
 -- a call loads its word
 abbrev pub load_word : {V E : Type 0} → Table V → Local V E → Bool → Option (Table V × Local V E)
 load_word table local false = None
-load_word table local true = learns table local (loaded local.learnt (stands table (bucket_of local.id)))
+load_word table local true = learns table local (learnt_by_load local.learnt (stands table (bucket_of local.id)))
 
 -- a call looks at its flag, and at the value where the flag is set
 abbrev pub look_at_flag : {V E : Type 0} → Table V → Local V E → Bool → Option (Table V × Local V E)
 look_at_flag table local false = None
-look_at_flag table local true = learns table local (looked local.learnt (published table local.id))
+look_at_flag table local true = learns table local (learnt_by_look local.learnt (published table local.id))
 
 -- a publishing call that found its word empty makes a bucket, or ends where memory is refused
 abbrev pub make_bucket : {V E : Type 0} → Table V → Local V E → Bool → Doing V E → Learnt V → Option (Table V × Local V E)

@@ -1,4 +1,4 @@
-//! A claim that found its bucket missing offers a block for it.
+//! A claim that found its bucket missing installs a block for it.
 ghost use Rattle.std.specs.Prelude.{◌≡◌, ◌^◌, IfSome};
 ghost use Rattle.thread_local_blocks.specs.Slots.{empty_slots};
 ghost use Rattle.thread_local_model.specs.Learnt.{Missing, Vacant};
@@ -15,7 +15,7 @@ use thread_local_blocks::{Block, Slot};
 impl<'a, T> ClaimedSlot<'a, T> {
     /// Where the word leads nowhere, it leads to the block from then on. Else the block comes back. Either way the claim's slot is there, and
     /// empty. It is one compare and exchange.
-    pub(crate) fn offer(
+    pub(crate) fn exchange(
         self,
         block: Block<T, Global>,
     ) -> (ClaimedSlot<'a, T>, Option<Block<T, Global>>)

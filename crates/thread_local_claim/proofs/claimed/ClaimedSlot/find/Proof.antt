@@ -1,19 +1,15 @@
 -- `find` is a load of the word, which takes the pass for the right where the bucket is missing, and else a load of the slot's flag, which takes what the slot holds.
-use Rattle.thread_local_claim.proofs.Names.{◌≡◌, ℕ, ◌+◌, ◌^◌, [], ◌∷◌, refl, sym, ap, ◌∙◌, subst, w64, true, a_type, Val, vptr, vint, inst_fn, SProp, wand, emp, via, id⊢, apply∗, Lft, Share, Fml, ftrue, fsep, flft, fbor, finv, sem, ‵, raw, ◌⊛◌, some, later, mean, at_ret, ◌$◌, ◌∵◌, !, qed, by, move, keep, drop, split, join, fsplit, fjoin, fpick, fpack, pick, use0, use1, use2, use3, await, rewrite, group, fld, stop, addr, lit, of_opd, no_more, and_then, first, blocks, exec, Calls-last, returns, enter, alloc_all, pass_all, free_all, look_at, get, get_in, through, sets, sets_last, lands_last, env, agg, sub, whole, tables, fact, fact_i, no, RattleType, owns, types_at, plain, named_lft, Ptr, block_ptr, block_of, count_of, at_block, nothing, heard, param, bounded, Stays, stay_dropped, walk_of, Goes-dropped, proved, leaves, fm, found, finds, Lends-one}
-use Rattle.std.proofs.Common.{◌*◌, ◌<◌, ◌≢◌, ◌⊎◌, inl, inr, length, eqb, Bool, false}
-use mir.Syntax.{dnil}
+use Rattle.thread_local_blocks.proofs.Names.{◌≡◌, ℕ, ◌+◌, ◌^◌, [], ◌∷◌, refl, sym, ap, ◌∙◌, subst, w64, true, a_type, Val, vptr, vint, inst_fn, SProp, wand, emp, via, id⊢, apply∗, Lft, Share, Fml, ftrue, fsep, flft, fbor, finv, sem, ‵, raw, ◌⊛◌, some, later, mean, at_ret, ◌$◌, ◌∵◌, !, qed, by, move, keep, drop, split, join, fsplit, fjoin, fpick, fpack, pick, use0, use1, use2, use3, await, rewrite, group, fld, stop, addr, lit, of_opd, no_more, and_then, first, blocks, exec, Calls-last, returns, enter, alloc_all, pass_all, free_all, look_at, get, get_in, through, sets, sets_last, lands_last, env, agg, sub, whole, tables, fact, fact_i, no, RattleType, owns, types_at, plain, named_lft, Ptr, block_ptr, block_of, count_of, at_block, nothing, heard, param, bounded, Stays, stay_dropped, walk_of, Goes-dropped, proved, leaves, fm, found, finds, Lends-one, ◌*◌, ◌<◌, ◌≢◌, length, Bool, false, dnil, bin, branches, size_word, is, null_ptr, ptr_val, u64, after}
+use Rattle.std.proofs.Common.{◌⊎◌, inl, inr, eqb}
 use base.Fml.{fres}
 use base.Before.{before}
-use types.Run.{bin, branches, skips, returns_within, size_word, true_lit, false_lit}
-use types.ByLocal.{is}
+use types.Run.{skips, returns_within, true_lit, false_lit}
 use types.Na.{before_dup}
-use denote.RawPtr.{null_ptr, ptr_val, tests_null}
-use denote.Builtin.{u64}
+use denote.RawPtr.{tests_null}
 use denote.Param.Laws.{Laws, of_field}
 use denote.Param.Shared.{copy_shared}
 use denote.Struct.Field.{u64-field}
 use denote.Struct.Laws.{u64-laws, u64-copy}
-use Rattle.std.proofs.alloc.Shapes.{after}
 use Rattle.std.proofs.raw_atomic.Calls.{seq_cst, loads}
 use Rattle.std.proofs.raw_atomic.PtrCalls as calls
 use Rattle.std.proofs.raw_atomic.PtrCalls.{seq_cst_good}

@@ -1,12 +1,7 @@
 -- `hold` puts the right with what the word's sharing keeps.
-use Rattle.thread_local_claim.proofs.Names.{◌≡◌, ℕ, ◌^◌, List, [], ◌∷◌, refl, sym, ap, ◌∙◌, w64, a_type, named, Val, vptr, vint, vunit, inst_fn, SProp, emp, id⊢, Lft, Share, Fml, ftrue, fsep, flft, ‵, raw, ◌⊛◌, some, later, ◌$◌, ◌∵◌, !, qed, by, move, keep, drop, split, join, fsplit, fjoin, fpick, fpack, pick, use0, use1, await, rewrite, feq_l, stop, addr, lit, no_more, and_then, returns, enter, alloc_all, pass_all, free_all, look_at, get, through, sets, env, agg, tables, fact, fact_i, yes, RattleType, owns, types_at, plain, named_lft, Ptr, block_ptr, nothing, heard, unhide, param, bounded, RefOf, shr_vals, shr_Tells, uint_vals, uint_Tells, Stays, stay_dropped, walk_of, Goes-dropped, proved, leaves, fm}
-use Rattle.std.proofs.Common.{◌<◌, false, arith}
-use mir.Syntax.{dnil}
+use Rattle.thread_local_blocks.proofs.Names.{◌≡◌, ℕ, ◌^◌, List, [], ◌∷◌, refl, sym, ap, ◌∙◌, w64, a_type, named, Val, vptr, vint, vunit, inst_fn, SProp, emp, id⊢, Lft, Share, Fml, ftrue, fsep, flft, ‵, raw, ◌⊛◌, some, later, ◌$◌, ◌∵◌, !, qed, by, move, keep, drop, split, join, fsplit, fjoin, fpick, fpack, pick, use0, use1, await, rewrite, feq_l, stop, addr, lit, no_more, and_then, returns, enter, alloc_all, pass_all, free_all, look_at, get, through, sets, env, agg, tables, fact, fact_i, yes, RattleType, owns, types_at, plain, named_lft, Ptr, block_ptr, nothing, heard, unhide, param, bounded, RefOf, shr_vals, shr_Tells, uint_vals, uint_Tells, Stays, stay_dropped, walk_of, Goes-dropped, proved, leaves, fm, ◌<◌, false, arith, dnil, lands_as, usize, null_ptr}
 use base.Fml.{feq}
 use types.Run.{false_lit}
-use types.ByLocal.{lands_as}
-use denote.Builtin.{usize}
-use denote.RawPtr.{null_ptr}
 use denote.Steps.{only}
 use denote.Triple.Call.{calls_at}
 use denote.Triple.Spec.{triple_of}

@@ -1,11 +1,7 @@
 -- `lasting` shows the value that the slot holds for as long as the word is borrowed, since a `&` to it names no thread.
-use Rattle.thread_local_claim.proofs.Names.{◌≡◌, ℕ, List, [], ◌∷◌, sym, refl, ap, ◌∙◌, true, dnil, a_type, named, Val, vptr, inst_fn, SProp, emp, Lft, Fml, ftrue, fsep, flft, ‵, raw, ◌⊛◌, at_ret, ◌$◌, ◌∵◌, !, qed, by, move, keep, drop, split, join, fsplit, fjoin, fpick, use0, use1, rewrite, feq_i, stop, fld, hop, addr, of_opd, first, blocks, exec, returns, enter, alloc_all, pass_all, free_all, look_at, get, through, sets, sets_last, env, sub, whole, look_in, tables, fact, fact_i, yes, RattleType, owns, types_at, plain, named_lft, Ptr, block_ptr, block_of, count_of, at_block, nothing, heard, peeks, unhide, Is, shows, cell_at, param, bounded, param_laws, RefOf, shr_vals, shr_Tells, Stays, stay_dropped, walk_of, Goes-dropped, proved, leaves, tail}
-use Rattle.std.proofs.Common.{is_some}
+use Rattle.thread_local_blocks.proofs.Names.{◌≡◌, ℕ, List, [], ◌∷◌, sym, refl, ap, ◌∙◌, true, dnil, a_type, named, Val, vptr, inst_fn, SProp, emp, Lft, Fml, ftrue, fsep, flft, ‵, raw, ◌⊛◌, at_ret, ◌$◌, ◌∵◌, !, qed, by, move, keep, drop, split, join, fsplit, fjoin, fpick, use0, use1, rewrite, feq_i, stop, fld, hop, addr, of_opd, first, blocks, exec, returns, enter, alloc_all, pass_all, free_all, look_at, get, through, sets, sets_last, env, sub, whole, look_in, tables, fact, fact_i, yes, RattleType, owns, types_at, plain, named_lft, Ptr, block_ptr, block_of, count_of, at_block, nothing, heard, peeks, unhide, Is, shows, cell_at, param, bounded, param_laws, RefOf, shr_vals, shr_Tells, Stays, stay_dropped, walk_of, Goes-dropped, proved, leaves, is_some, Ura, ent, id⊢, Logic, sem}
 use mathlib.Core.Logic.{inl, inr}
-use seplogic.Ra.Ura.{Ura}
-use base.Logic.{ent, id⊢}
 use base.Fml.{fhide}
-use types.Logic.{Logic, sem}
 use denote.Steps.{looks, shuts}
 use denote.Memory.{hidden_shr, shared_of}
 use denote.Ref.{ShrRef}
@@ -14,6 +10,7 @@ use denote.Struct.Lending.{lent_out}
 use Rattle.std.specs.contracts.marker.PhantomData as marker
 use Rattle.thread_local_judged.specs.Judged.{Shareable, Judged}
 use Rattle.thread_local_blocks.specs.Slots.{value_at}
+use Rattle.thread_local_atomic_word.proofs.Bodies.{tail}
 use Rattle.thread_local_model.specs.Learnt.{Learnt, Holding}
 use Rattle.thread_local_claim_logic.specs.Known.{value_held}
 use Rattle.thread_local_claim_logic.proofs.Learning.{holding}

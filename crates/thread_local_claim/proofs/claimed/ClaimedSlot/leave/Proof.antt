@@ -1,6 +1,5 @@
 -- `leave` is a step on the word's invariant: what the claim has goes back for its right.
-use Rattle.thread_local_claim.proofs.Names.{◌≡◌, List, [], ◌∷◌, refl, ap, dnil, a_type, Val, inst_fn, SProp, emp, id⊢, Lft, Share, Fml, ftrue, fsep, flft, ‵, raw, ◌⊛◌, some, later, ◌$◌, ◌∵◌, !, qed, by, move, keep, drop, split, join, fsplit, fjoin, pick, use0, use1, use2, await, rewrite, no_more, returns, enter, alloc_all, pass_all, free_all, look_at, env, tables, fact, fact_i, no, RattleType, owns, types_at, plain, named_lft, nothing, heard, peeks, param, bounded, Stays, stay_dropped, walk_of, Goes-dropped, proved, leaves, fm, Is, shows}
-use types.ByLocal.{lands_as}
+use Rattle.thread_local_blocks.proofs.Names.{◌≡◌, List, [], ◌∷◌, refl, ap, dnil, a_type, Val, inst_fn, SProp, emp, id⊢, Lft, Share, Fml, ftrue, fsep, flft, ‵, raw, ◌⊛◌, some, later, ◌$◌, ◌∵◌, !, qed, by, move, keep, drop, split, join, fsplit, fjoin, pick, use0, use1, use2, await, rewrite, no_more, returns, enter, alloc_all, pass_all, free_all, look_at, env, tables, fact, fact_i, no, RattleType, owns, types_at, plain, named_lft, nothing, heard, peeks, param, bounded, Stays, stay_dropped, walk_of, Goes-dropped, proved, leaves, fm, Is, shows, lands_as}
 use denote.Steps.{only}
 use denote.Triple.Call.{calls_at}
 use denote.Triple.Spec.{triple_of}

@@ -1,4 +1,4 @@
--- `offer` lends the block for a lifetime of its own, and ends that lifetime if another block came first. Either way the claim finds its slot empty.
+-- `exchange` lends the block for a lifetime of its own, and ends that lifetime if another block came first. Either way the claim finds its slot empty.
 use Rattle.thread_local_blocks.proofs.Names.{◌≡◌, ℕ, ◌+◌, ◌-◌, ◌*◌, ◌<◌, ◌^◌, true, false, sem, List, [], ◌∷◌, refl, sym, ap, ◌∙◌, subst, lit<, w64, arith, Option, None, Some, Body, a_type, Val, vint, vptr, vcons, vnil, inst_fn, dnil, SProp, wand, emp, via, apply∗, Lft, Share, Fml, ftrue, fsep, flft, fbor, ‵, raw, ◌⊛◌, some, given, later, mean, at_ret, any_q, ◌$◌, ◌∵◌, !, qed, by, move, keep, drop, split, split3, join, fsplit, fsplit3, fjoin, fpick, pick, learn, rewrite, use0, use1, use2, use3, await, group, stop, fld, addr, lit, of_opd, no_more, and_then, first, blocks, exec, switches_on, returns, enter, alloc_all, pass_all, free_all, look_at, get, get_in, get_tag, through, sets, sets_last, lands_last, env, is, agg, sub, whole, live, vrt, in_variant, tables, fact, fact_i, no, RattleType, owns, types_at, plain, Ptr, block_ptr, null_ptr, block_of, count_of, at_block, InBlock, ptr_val, nothing, heard, param, layout, Stays, stay_dropped, walk_of, Goes-dropped, proved, leaves, fm, after, u64}
 use Rattle.std.proofs.Common.{IfSome}
 use mir.Val.{vnull}
@@ -38,18 +38,18 @@ use Rattle.thread_local_claim.proofs.Pairs.{both, pair_in}
 use Rattle.thread_local_model.specs.Learnt.{Learnt, Missing, Vacant}
 use Rattle.thread_local_claim_logic.specs.Claims.{Place, place_of, IsOf, has, claim_owns}
 use Rattle.thread_local_claim.specs.contracts.claimed.ClaimedSlot as claim
-use Rattle.thread_local_claim.specs.contracts.claimed.ClaimedSlot.offer.{ended, clauses}
-use Rattle.thread_local_claim.specs.contracts.claimed.ClaimedSlot.offer.Key.{name as #self}
+use Rattle.thread_local_claim.specs.contracts.claimed.ClaimedSlot.exchange.{ended, clauses}
+use Rattle.thread_local_claim.specs.contracts.claimed.ClaimedSlot.exchange.Key.{name as #self}
 use Rattle.thread_local_claim_logic.proofs.Installs.{installs}
 use Rattle.thread_local_claim.proofs.Fields.{Kept, kept_of, value_of, Words, fields_of, told, made, typed, small_product}
-use Rattle.thread_local_claim.proofs.claimed.ClaimedSlot.offer.Statement.{statement}
-use Rattle.thread_local_claim.proofs.claimed.ClaimedSlot.offer.Code as code
+use Rattle.thread_local_claim.proofs.claimed.ClaimedSlot.exchange.Statement.{statement}
+use Rattle.thread_local_claim.proofs.claimed.ClaimedSlot.exchange.Code as code
 
 at_index : (k i n : ℕ) → k ≡ i + (0 + n) → k ≡ i + n
 at_index k i n e = omega arith
 
-pub offer_spec : {M : Type 1} → statement M
-offer_spec 𝓤 𝓛 𝓜 𝓡 wired X L =
+pub exchange_spec : {M : Type 1} → statement M
+exchange_spec 𝓤 𝓛 𝓜 𝓡 wired X L =
     let H = 𝓛.H in let 𝓣 = tables 𝓤 H 𝓜 𝓡 𝓡.env in let R : RattleType = param 0 X in let En = ended X in let c = clauses X 𝓛 𝓜.mem 𝓡.returns in
     let inst = bounded (a_type ∷ []) (X, tt) dnil in let fn = inst_fn inst code.function in let closed = code.unfolded 𝓤 H 𝓜 𝓡 wired (X, tt) in
     let Z : RattleType = heap.the_row in let Bl : RattleType = block.the_row R Z ghosts in let Back : RattleType = Opt.the_row Bl in
