@@ -1,4 +1,5 @@
-//! What holds of a table over every schedule of atomic steps, as the contracts of four functions without parameters.
+//! What holds of a table over every schedule of atomic steps, as the contracts of functions without parameters.
 
+pub use thread_local_bounds::{every_bound, every_end};
 pub use thread_local_schedule::{every_schedule, every_walk, every_word};
 pub use thread_local_story::four_locals;

@@ -1,46 +1,35 @@
-use Rattle.std.proofs.Common.{◌≡◌, ℕ, ◌-◌, ◌*◌, ◌^◌, ◌<◌, ◌≤◌, ◌⊎◌, max, Bool, true, false, not, ◌&&◌, cond, List, [], ◌∷◌, Some, None, is_some, IsTrue, IsSomeAnd, refl, ap, sym, ◌∙◌, subst, arith}
-use Rattle.std.specs.Prelude.{unwrap_or, Contains}
-use Rattle.std.proofs.lemmas.Bool.{false≢true, and_parts, and_left, and_right, not-true, not-false, cond_both}
-use Rattle.thread_local_model.specs.Held.{is_held, least, held_count, HoldsAllBelow}
-use Rattle.thread_local_model.specs.Capacity.{is_reserved, binary_digits, reserved_slots}
+use Rattle.std.proofs.Common.{◌≡◌, ℕ, ◌-◌, ◌^◌, ◌⊎◌, Bool, true, false, not, cond, List, [], ◌∷◌, Some, None, is_some, IsTrue, IsSomeAnd, refl, ap, sym, ◌∙◌, subst}
+use Rattle.std.specs.Prelude.{unwrap_or}
+use Rattle.std.proofs.lemmas.Bool.{false≢true, and_parts, not-true, not-false, cond_both}
+use Rattle.thread_local_model.specs.Held.{is_held, least, HoldsAllBelow}
+use Rattle.thread_local_model.specs.Capacity.{binary_digits, reserved_slots}
 use Rattle.thread_local_model.specs.Sheet.{new_sheet, Clear, moved_if}
-use Rattle.thread_local_model.specs.Answers.{Refused}
-use Rattle.thread_local_model.proofs.AnswersLaws.{none_refused}
-use Rattle.thread_local_steps.specs.Local.{Local, MakeBucket, fresh_local, local_step}
-use Rattle.thread_local_core.specs.Core.{Core, made_core, new_core, shadow, installed_slots, first_view, peak, is_alone}
-use Rattle.thread_local_schedule.specs.Events.{Event, TakeId, OfLocal, Owner, ClearTable, is_granted, take_id, step_of, step, is_enabled, happens, run, IntoIter, DropTable, owner_call, GiveBack, Forget, OwnerCall, IterMut}
-use Rattle.thread_local_schedule.specs.Schedule.{move, is_clear, is_refused, is_granted_take, newcomer, IsReached, most_after_all, publishing, move_of, NoneTaken}
+use Rattle.thread_local_steps.specs.Local.{Local, fresh_local}
+use Rattle.thread_local_core.specs.Core.{Core, made_core, shadow, first_view, peak, is_alone}
+use Rattle.thread_local_schedule.specs.Events.{Event, TakeId, OfLocal, Owner, ClearTable, is_granted, take_id, step_of, step, is_enabled, happens, run, owner_call, GiveBack, Forget, OwnerCall, IterMut}
+use Rattle.thread_local_schedule.specs.Schedule.{move, is_refused, is_granted_take, newcomer, IsReached, publishing, move_of, NoneTaken}
 use Rattle.thread_local_core.specs.CoreFits.{CoreFits}
 use Rattle.thread_local_schedule.proofs.Kept.{happens-fits, run-fits}
 use Rattle.thread_local_schedule.proofs.EventSays.{Says, event_says}
-use Rattle.thread_local_core.proofs.HeldCounts.{held_below}
 use Rattle.thread_local_core.proofs.PutLaws.{put_same}
 use Rattle.thread_local_core.proofs.Parts.{made_core-fits}
-use Rattle.thread_local_core.proofs.CoreLaws.{installed_bound, never_missing, none_if}
-use Rattle.thread_local_core.proofs.SheetLaws.{moved_capacity, settled, untaken}
-use Rattle.thread_local_schedule.proofs.Takes.{not_granted, within}
-use Rattle.thread_local_core.proofs.OptionLaws.{stays, some_step, some_and, none_enabled, makes_none}
+use Rattle.thread_local_core.proofs.CoreLaws.{none_if}
+use Rattle.thread_local_core.proofs.SheetLaws.{settled, untaken}
+use Rattle.thread_local_schedule.proofs.Takes.{not_granted}
+use Rattle.thread_local_core.proofs.OptionLaws.{stays, some_step, some_and}
 
 -- the invariant holds wherever a schedule leads
 pub fits : {V E : Type 0} (core : Core V E) → IsReached core → CoreFits core
 fits core r = subst CoreFits r.leads (run-fits (made_core r.capacity r.extra) r.events (made_core-fits r.capacity r.extra r.bounded))
 
--- so each id that is given lies below the last
-pub ids : {V E : Type 0} (core : Core V E) (n : ℕ) (local : Local V E) → CoreFits core → core.locals n ≡ Some local → local.id < 2 ^ 63 - 1
-ids core n local h at = omega (arith, h.manager.peak_ids, held_below core.manager.held local.id (h.locals.each n local at).id_held)
-
 -- and each event says what it does
 pub says : {V E : Type 0} (core : Core V E) (event : Event V E) → IsReached core → Says core event (is_enabled core event) (happens core event)
 says core event r = event_says core event (fits core r)
 
--- an event that isn't enabled changes nothing, and none is once the table has ended
+-- an event that isn't enabled changes nothing
 pub idle : {V E : Type 0} (core : Core V E) (event : Event V E) → is_enabled core event ≡ false → happens core event ≡ core
 unfolding is_enabled happens
 idle core event none = stays (step core event) core none
-
-pub ended : {V E : Type 0} (core : Core V E) (event : Event V E) → core.ended ≡ true → is_enabled core event ≡ false
-unfolding is_enabled step
-ended core event e = rw e refl
 
 -- an event that is enabled leads to what its step says
 pub enabled_step : {V E : Type 0} (core : Core V E) (event : Event V E) → IsTrue (is_enabled core event) → IsTrue (is_some (step_of core event))
@@ -80,70 +69,12 @@ still_held core n local r at =
 pub cleared : {V E : Type 0} (core : Core V E) → IsReached core → IsTrue (is_enabled core (Owner ClearTable)) → shadow (happens core (Owner ClearTable)) ≡ new_sheet
 cleared core r t = (says core (Owner ClearTable) r).moves ∙ ap (λ b. moved_if (shadow core) (cond b (Some Clear) None)) t
 
--- the peak goes as the number of held ids says
-pub peak_run : {V E : Type 0} (core : Core V E) (events : List (Event V E)) (most : ℕ) → CoreFits core → peak core ≡ most → peak (run core events) ≡ most_after_all most core events
-unfolding run
-peak_run core [] most h e = e
-peak_run core (event ∷ events) most h e =
-    peak_run (happens core event) events _ (happens-fits core event h)
-    ((event_says core event h).peak ∙ ap (λ n. cond (is_enabled core event && is_clear event) 0 (max n (held_count (happens core event).manager.held))) e)
-
-pub run_capacity : {V E : Type 0} (core : Core V E) (events : List (Event V E)) (n : ℕ) → CoreFits core → core.capacity ≤ n → (run core events).capacity ≤ n
-unfolding run
-run_capacity core [] n h l = l
-run_capacity core (event ∷ events) n h l =
-    let same = ap (λ sheet. sheet.capacity) (event_says core event h).moves in
-    run_capacity (happens core event) events n (happens-fits core event h) (omega (arith, same, moved_capacity (shadow core) (move core event)))
-
--- so the installed slots are bounded by the capacity and the peak
-pub slots_of_capacity : {V E : Type 0} (capacity extra : ℕ) (events : List (Event V E)) → capacity < 2 ^ 63
-    → installed_slots (run (made_core capacity extra) events) ≤ 2 * max capacity (peak (run (made_core capacity extra) events)) - 1
-slots_of_capacity capacity extra events l =
-    let made = made_core-fits capacity extra l in
-    installed_bound (run (made_core capacity extra) events) (max capacity (peak (run (made_core capacity extra) events))) (run-fits (made_core capacity extra) events made)
-    (omega (arith, run_capacity (made_core capacity extra) events capacity made (omega arith))) (omega arith)
-
-pub slots_of_new : {V E : Type 0} (events : List (Event V E)) → installed_slots (run new_core events) ≤ 2 * peak (run new_core events) - 1
-slots_of_new events = omega (arith, slots_of_capacity 0 0 events (omega arith))
-
 -- refusals come only where they may
 pub refused_take : {V E : Type 0} (core : Core V E) (refused : Bool) (growth : ℕ) → CoreFits core → IsTrue (is_refused core (TakeId refused growth))
     → HoldsAllBelow (2 ^ 63 - 1) (shadow core).held ⊎ (HoldsAllBelow (peak core) (shadow core).held × (peak core ≡ core.manager.room) × IsTrue refused)
 refused_take core refused growth h t =
     not_granted core.manager refused h.manager.peak_room
     (not-true (is_granted core.manager refused) (and_parts (is_enabled core (TakeId refused growth)) (not (is_granted core.manager refused)) t).1)
-
-pub within_capacity : {V E : Type 0} (core : Core V E) (refused : Bool) (growth : ℕ) → CoreFits core → held_count (shadow core).held < (shadow core).capacity
-    → is_refused core (TakeId refused growth) ≡ false
-within_capacity core refused growth h l = rw (within core.manager core.capacity refused h.manager l) (and_right (is_enabled core (TakeId refused growth)) false refl)
-
-reserved_idle : {V E : Type 0} (core : Core V E) (n : ℕ) (local : Local V E) (refused : Bool) → CoreFits core → core.locals n ≡ Some local → IsTrue (is_reserved core.capacity local.id)
-    → is_enabled core (OfLocal n (MakeBucket refused)) ≡ false
-unfolding is_enabled step local_step
-reserved_idle core n local refused h at reserved =
-    none_enabled core.ended (step_of core (OfLocal n (MakeBucket refused))) (rw (at, makes_none core.table local refused local.doing local.learnt (never_missing core n local h at reserved)) refl)
-
-pub reserved : {V E : Type 0} (core : Core V E) (n : ℕ) (local : Local V E) (refused : Bool) → CoreFits core → core.locals n ≡ Some local → IsTrue (is_reserved core.capacity local.id)
-    → is_refused core (OfLocal n (MakeBucket refused)) ≡ false
-reserved core n local refused h at here = and_left (is_enabled core (OfLocal n (MakeBucket refused))) refused (reserved_idle core n local refused h at here)
-
-pub reserved_answers : {V E : Type 0} (core : Core V E) (n : ℕ) (local : Local V E) → CoreFits core → core.locals n ≡ Some local → IsTrue (is_reserved core.capacity local.id)
-    → Contains local.answered Refused → ⊥
-reserved_answers core n local h at here c =
-    let live = h.locals.each n local at in
-    none_refused local.start local.calls (live.known here) (subst (λ told. Contains told Refused) live.local_fits.answered c)
-
--- a table that is consumed or dropped has ended
-ends : {V E : Type 0} (core : Core V E) (alone : Bool) → (IsTrue (is_some (owner_call core alone IntoIter)) → (unwrap_or (owner_call core alone IntoIter) core).ended ≡ true)
-    × (IsTrue (is_some (owner_call core alone DropTable)) → (unwrap_or (owner_call core alone DropTable) core).ended ≡ true)
-ends core true = (λ _. refl, λ _. refl)
-ends core false = (λ t. absurd (false≢true t), λ t. absurd (false≢true t))
-
-pub into_iter_ends : {V E : Type 0} (core : Core V E) → IsTrue (is_enabled core (Owner IntoIter)) → (happens core (Owner IntoIter)).ended ≡ true
-into_iter_ends core t = ap (λ after. after.ended) (goes core (Owner IntoIter) t) ∙ (ends core (is_alone core)).0 (enabled_step core (Owner IntoIter) t)
-
-pub drop_ends : {V E : Type 0} (core : Core V E) → IsTrue (is_enabled core (Owner DropTable)) → (happens core (Owner DropTable)).ended ≡ true
-drop_ends core t = ap (λ after. after.ended) (goes core (Owner DropTable) t) ∙ (ends core (is_alone core)).1 (enabled_step core (Owner DropTable) t)
 
 -- as after a clear: no Local lives, and the sheet is that of `new`
 record IsFresh {V E : Type 0} (core : Core V E) : Type 0 where

@@ -4,5 +4,3 @@ pub mod Kept
 pub mod Clauses
 pub mod Enabled
 pub mod WalkEvents
-pub mod Open
-pub mod Headline

@@ -1,8 +1,8 @@
-use Rattle.std.proofs.Common.{◌≡◌, ℕ, ◌-◌, ◌^◌, Bool, true, false, not, ◌&&◌, length, refl, arith, ◌<◌, ◌≤◌, ◌⊎◌, IsTrue, subst, ⊎_elim, inl, inr}
-use Rattle.std.proofs.lemmas.Bool.{ne_eqb, eqb-false, and_parts, not-true, eqb-true, and_cases, not-false}
-use Rattle.thread_local_model.specs.Held.{Manager, least, held_count, HoldsAllBelow}
+use Rattle.std.proofs.Common.{◌≡◌, ℕ, ◌-◌, ◌^◌, Bool, false, not, ◌&&◌, length, arith, ◌≤◌, ◌⊎◌, IsTrue, subst, ⊎_elim, inl, inr}
+use Rattle.std.proofs.lemmas.Bool.{eqb-false, and_parts, not-true, eqb-true, and_cases, not-false}
+use Rattle.thread_local_model.specs.Held.{Manager, least, HoldsAllBelow}
 use Rattle.thread_local_schedule.specs.Events.{is_exhausted, is_full, is_granted, taken_from}
-use Rattle.thread_local_core.proofs.HeldCounts.{peak_after, least-le-held_count}
+use Rattle.thread_local_core.proofs.HeldCounts.{peak_after}
 use Rattle.thread_local_core.specs.CoreFits.{ManagerFits}
 use Rattle.thread_local_model.proofs.HeldLaws as ids
 
@@ -20,12 +20,6 @@ not_granted manager refused room none =
     let top : least manager.held ≡ length manager.held = omega arith in
     inr (subst (λ n. HoldsAllBelow n manager.held) top lower, omega arith, both.1))
     (and_cases (not (is_exhausted manager)) (not (is_full manager && refused)) none)
-
--- while fewer ids than the capacity are held, every take is granted
-pub within : (manager : Manager) (capacity : ℕ) (refused : Bool) → ManagerFits manager capacity → held_count manager.held < capacity → is_granted manager refused ≡ true
-within manager capacity refused h l =
-    let low = least-le-held_count manager.held in
-    rw (ne_eqb (least manager.held) (2 ^ 63 - 1) (λ e. omega (arith, h.capacity_ids)), ne_eqb (least manager.held) manager.room (λ e. omega (arith, h.capacity_room))) refl
 
 -- a take that is granted finds an id that isn't held
 pub granted_some : (manager : Manager) (refused : Bool) → IsTrue (is_granted manager refused) → is_exhausted manager ≡ false

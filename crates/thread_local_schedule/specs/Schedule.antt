@@ -1,5 +1,4 @@
-use Rattle.std.specs.Prelude.{◌≡◌, ℕ, ◌^◌, ◌<◌, max, Bool, true, false, not, ◌&&◌, List, [], ◌∷◌, Option, Some, None, option_map, IsTrue, ⊤, ◌==◌, if◌then◌else◌}
-use Rattle.thread_local_model.specs.Held.{held_count}
+use Rattle.std.specs.Prelude.{◌≡◌, ℕ, ◌^◌, ◌<◌, Bool, true, false, not, ◌&&◌, List, [], ◌∷◌, Option, Some, None, option_map, ⊤, ◌==◌, if◌then◌else◌}
 use Rattle.thread_local_model.specs.Sheet.{Move, Take, Give, Publish, Rewrite, Clear}
 use Rattle.thread_local_steps.specs.Local.{Local, LocalStep, MakeBucket}
 use Rattle.thread_local_steps.specs.Fits.{value_set}
@@ -90,37 +89,7 @@ pub record IsReached {V E : Type 0} (core : Core V E) : Type 0 where
   pub bounded : capacity < 2 ^ 63
   pub leads : run (made_core capacity extra) events ≡ core
 
--- the most ids held at one moment, once an event has come: this many before it
-abbrev pub most_after : {V E : Type 0} → ℕ → Core V E → Event V E → ℕ
-most_after most core event =
-    if is_enabled core event && is_clear event then 0 else max most (held_count (happens core event).manager.held)
-
--- the most ids held at one moment, once these events have come: this many before them
-abbrev pub most_after_all : {V E : Type 0} → ℕ → Core V E → List (Event V E) → ℕ
-most_after_all most core [] = most
-most_after_all most core (event ∷ events) = most_after_all (most_after most core event) (happens core event) events
-
--- the most ids held at one moment since a table in which none was held was made, or cleared by these events
-abbrev pub most_held : {V E : Type 0} → Core V E → List (Event V E) → ℕ
-most_held core events = most_after_all 0 core events
-
--- each take of a schedule comes while fewer than this many ids are held
-abbrev pub TakesBelow : {V E : Type 0} → ℕ → Core V E → List (Event V E) → Type 0
-TakesBelow bound core [] = ⊤
-TakesBelow bound core (event ∷ events) =
-    (IsTrue (is_take event) → held_count core.manager.held < bound) × TakesBelow bound (happens core event) events
-
 -- no event of a schedule gives an id to a Local
 abbrev pub NoneTaken : {V E : Type 0} → Core V E → List (Event V E) → Type 0
 NoneTaken core [] = ⊤
 NoneTaken core (event ∷ events) = (is_granted_take core event ≡ false) × NoneTaken (happens core event) events
-
--- no event of a schedule ends in a refusal
-abbrev pub NothingRefused : {V E : Type 0} → Core V E → List (Event V E) → Type 0
-NothingRefused core [] = ⊤
-NothingRefused core (event ∷ events) = (is_refused core event ≡ false) × NothingRefused (happens core event) events
-
--- no event of a schedule clears the table
-abbrev pub NeverCleared : {V E : Type 0} → List (Event V E) → Type 0
-NeverCleared [] = ⊤
-NeverCleared (event ∷ events) = (is_clear event ≡ false) × NeverCleared events

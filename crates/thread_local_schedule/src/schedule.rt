@@ -1,26 +1,23 @@
-ghost use Rattle.std.specs.Prelude.{◌≡◌, ◌≢◌, ℕ, ◌+◌, ◌-◌, ◌*◌, ◌^◌, ◌<◌, ◌≤◌, ◌⊎◌, max, Bool, true, false, List, [], ◌∷◌, length, map, Contains, Option, Some, None, slice_get, IsTrue, IfSome, IsSomeAnd};
+ghost use Rattle.std.specs.Prelude.{◌≡◌, ◌≢◌, ℕ, ◌+◌, ◌-◌, ◌^◌, ◌<◌, ◌≤◌, ◌⊎◌, Bool, false, List, [], length, map, Contains, Some, None, IsTrue, IfSome, IsSomeAnd};
 ghost use Rattle.std.specs.List.Sorted.{IsStrictlyIncreasing};
-ghost use Rattle.thread_local_model.specs.Held.{is_held, least, held_count, HoldsAllBelow};
+ghost use Rattle.thread_local_model.specs.Held.{is_held, least, HoldsAllBelow};
 ghost use Rattle.thread_local_model.specs.Walk.{walk};
-ghost use Rattle.thread_local_model.specs.Capacity.{is_reserved};
 ghost use Rattle.thread_local_model.specs.Sheet.{new_sheet, moved_if, IsAllowed};
-ghost use Rattle.thread_local_model.specs.Answers.{Found, Answered, Refused, answers};
-ghost use Rattle.thread_local_steps.specs.Local.{Local, LocalStep, MakeBucket};
+ghost use Rattle.thread_local_model.specs.Answers.{answers};
+ghost use Rattle.thread_local_steps.specs.Local.{Local, LocalStep};
 ghost use Rattle.thread_local_walk_steps.specs.SharedWalk.{SharedWalk, fresh_walk, WalkStep, next_step, is_complete};
 ghost use Rattle.thread_local_walk_steps.specs.OwnerWalk.{owner_walk};
 ghost use Rattle.thread_local_steps.specs.Fits.{IsWritten, named};
 ghost use Rattle.thread_local_steps.specs.Calls.{HasNoCall, GoesOn};
 ghost use Rattle.thread_local_steps.specs.Numbers.{own_number};
 ghost use Rattle.thread_local_walk_steps.specs.WalkFits.{Adds};
-ghost use Rattle.thread_local_core.specs.Core.{Core, made_core, new_core, shadow, installed_slots, first_view, peak, private_slots};
-ghost use Rattle.thread_local_schedule.specs.Events.{Event, TakeId, OfLocal, GiveBack, Forget, BeginWalk, OfWalk, EndWalk, OwnerCall, Owner, IterMut, ClearTable, IntoIter, DropTable, is_enabled, happens, run};
-ghost use Rattle.thread_local_schedule.specs.Schedule.{move, is_exclusive, ends_table, is_of, is_of_walk, IsUnused, is_refused, is_granted_take, newcomer, IsReached, most_held, TakesBelow, NoneTaken, NothingRefused, NeverCleared};
+ghost use Rattle.thread_local_core.specs.Core.{Core, new_core, shadow, first_view, peak};
+ghost use Rattle.thread_local_schedule.specs.Events.{Event, TakeId, OfLocal, GiveBack, Forget, BeginWalk, OfWalk, EndWalk, OwnerCall, Owner, ClearTable, is_enabled, happens, run};
+ghost use Rattle.thread_local_schedule.specs.Schedule.{move, is_exclusive, is_of, is_of_walk, IsUnused, is_refused, is_granted_take, newcomer, IsReached, NoneTaken};
 
 /// What holds of a table over every schedule of atomic steps, from a table of `new` and from one of each capacity
 /// below 2^63: each `Local` gets the least id not held; a slot's first published value stays until an owner has
-/// the table alone; that owner walks exactly the published values, each once, by ascending id; and with at most p
-/// ids held at once a table from `new` has installed at most 2p - 1 slots, and one of a capacity of p or more
-/// refuses nothing.
+/// the table alone; and that owner walks exactly the published values, each once, by ascending id.
 ///
 /// A clause that begins with a core that is reached holds after every event of every schedule.
 pub fn every_schedule<V, E>()
@@ -110,62 +107,14 @@ pub fn every_schedule<V, E>()
         → IsSomeAnd (newcomer (run cleared events) event)
         (λ local. (local.id ≡ 0) × (local.start ≡ record { value = None; known = false })) }
 
-    // After `into_iter` or the drop no event is enabled, and nothing else ends a table.
-    ensures into_iter_ends { (core : Core V E) → IsTrue (is_enabled core (Owner IntoIter))
-        → (happens core (Owner IntoIter)).ended ≡ true }
-    ensures drop_ends { (core : Core V E) → IsTrue (is_enabled core (Owner DropTable))
-        → (happens core (Owner DropTable)).ended ≡ true }
-    ensures ended { (core : Core V E) (event : Event V E)
-        → core.ended ≡ true → is_enabled core event ≡ false }
-    ensures stays_open { (core : Core V E) (event : Event V E)
-        → core.ended ≡ false → ends_table event ≡ false → (happens core event).ended ≡ false }
-
-    // The peak is the most ids held at one moment. Each id that is given lies below it, and there is room for it.
-    ensures peak { (capacity extra : ℕ) (events : List (Event V E)) → capacity < 2 ^ 63
-        → peak (run (made_core capacity extra) events) ≡ most_held (made_core capacity extra) events }
-    ensures below_peak { (core : Core V E) (n : ℕ) (local : Local V E) → IsReached core
-        → core.locals n ≡ Some local → local.id < peak core }
-    ensures ids { (core : Core V E) (n : ℕ) (local : Local V E) → IsReached core
-        → core.locals n ≡ Some local → local.id < 2 ^ 63 - 1 }
-    ensures room { (core : Core V E) → IsReached core → peak core ≤ core.manager.room }
-
-    // The slots that are installed, those made and not offered yet, and the values are bounded by the peak.
-    ensures slots_of_new { (events : List (Event V E))
-        → installed_slots (run new_core events) ≤ 2 * peak (run new_core events) - 1 }
-    ensures no_slots { (events : List (Event V E))
-        → peak (run new_core events) ≡ 0 → installed_slots (run new_core events) ≡ 0 }
-    ensures slots_of_capacity { (capacity extra : ℕ) (events : List (Event V E)) → capacity < 2 ^ 63
-        → installed_slots (run (made_core capacity extra) events)
-        ≤ 2 * max capacity (peak (run (made_core capacity extra) events)) - 1 }
-    ensures private_slots { (core : Core V E) (n : ℕ) (local : Local V E) → IsReached core
-        → core.locals n ≡ Some local → private_slots local.id local.doing ≤ peak core }
-    ensures published { (core : Core V E) → IsReached core → length (walk (shadow core).values) ≤ peak core }
-
     // A take is refused only where all ids are held, or where all below the peak are, no room is left and memory is
-    // refused, and then everything is as it was. Within the capacity no take is, and no publishing at a reserved id.
+    // refused, and then everything is as it was.
     ensures refused_take { (core : Core V E) (refused : Bool) (growth : ℕ) → IsReached core
         → IsTrue (is_refused core (TakeId refused growth))
         → HoldsAllBelow (2 ^ 63 - 1) (shadow core).held
         ⊎ (HoldsAllBelow (peak core) (shadow core).held × (peak core ≡ core.manager.room) × IsTrue refused) }
     ensures refusal { (core : Core V E) (refused : Bool) (growth : ℕ)
         → IsTrue (is_refused core (TakeId refused growth)) → happens core (TakeId refused growth) ≡ core }
-    ensures within_capacity { (core : Core V E) (refused : Bool) (growth : ℕ) → IsReached core
-        → held_count (shadow core).held < (shadow core).capacity
-        → is_refused core (TakeId refused growth) ≡ false }
-    ensures reserved { (core : Core V E) (n : ℕ) (local : Local V E) (refused : Bool) → IsReached core
-        → core.locals n ≡ Some local → IsTrue (is_reserved (shadow core).capacity local.id)
-        → is_refused core (OfLocal n (MakeBucket refused)) ≡ false }
-    ensures reserved_answers { (core : Core V E) (n : ℕ) (local : Local V E) → IsReached core
-        → core.locals n ≡ Some local → IsTrue (is_reserved (shadow core).capacity local.id)
-        → Contains local.answered Refused → ⊥ }
-
-    // Where each take comes while fewer than p ids are held, a table from `new` has installed at most 2p - 1 slots,
-    // and one of a capacity of p or more that is never cleared refuses nothing.
-    ensures bounded { (p : ℕ) (events : List (Event V E)) → TakesBelow p new_core events
-        → installed_slots (run new_core events) ≤ 2 * p - 1 }
-    ensures refuses_nothing { (capacity extra p : ℕ) (events : List (Event V E)) → capacity < 2 ^ 63
-        → p ≤ capacity → TakesBelow p (made_core capacity extra) events → NeverCleared events
-        → NothingRefused (made_core capacity extra) events }
 {}
 
 /// What holds of the words over every schedule: a word that names a bucket names that one until an owner's call, no

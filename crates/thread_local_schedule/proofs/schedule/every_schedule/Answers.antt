@@ -1,13 +1,7 @@
-use Rattle.std.proofs.Common.{refl, arith}
 use Rattle.thread_local_core.proofs.CoreLaws as known
 use Rattle.thread_local_schedule.proofs.Clauses as clause
 use Rattle.thread_local_schedule.proofs.Enabled as may
-use Rattle.thread_local_schedule.proofs.Open as ending
-use Rattle.thread_local_schedule.proofs.Headline as headline
 use Rattle.thread_local_walk_steps.proofs.OwnerLaws.{owner_walk-walk}
-use Rattle.thread_local_core.specs.Core.{made_core}
-use Rattle.thread_local_core.proofs.Parts.{made_core-fits}
-use Rattle.thread_local_core.proofs.HeldCounts.{held_below}
 use Rattle.thread_local_schedule.proofs.schedule.every_schedule.Goals as goal
 
 pub returns-clause-moves : goal.returns-clause-moves
@@ -91,62 +85,8 @@ returns-clause-cleared g c = clause.cleared
 pub returns-clause-after_clear : goal.returns-clause-after_clear
 returns-clause-after_clear g c = clause.after_clear
 
-pub returns-clause-into_iter_ends : goal.returns-clause-into_iter_ends
-returns-clause-into_iter_ends g c = clause.into_iter_ends
-
-pub returns-clause-drop_ends : goal.returns-clause-drop_ends
-returns-clause-drop_ends g c = clause.drop_ends
-
-pub returns-clause-ended : goal.returns-clause-ended
-returns-clause-ended g c = clause.ended
-
-pub returns-clause-stays_open : goal.returns-clause-stays_open
-returns-clause-stays_open g c = ending.stays_open
-
-pub returns-clause-peak : goal.returns-clause-peak
-returns-clause-peak g c = λ capacity extra events l. clause.peak_run (made_core capacity extra) events 0 (made_core-fits capacity extra l) refl
-
-pub returns-clause-below_peak : goal.returns-clause-below_peak
-returns-clause-below_peak g c = λ core n local r at. held_below core.manager.held local.id ((clause.fits core r).locals.each n local at).id_held
-
-pub returns-clause-ids : goal.returns-clause-ids
-returns-clause-ids g c = λ core n local r at. clause.ids core n local (clause.fits core r) at
-
-pub returns-clause-room : goal.returns-clause-room
-returns-clause-room g c = λ core r. (clause.fits core r).manager.peak_room
-
-pub returns-clause-slots_of_new : goal.returns-clause-slots_of_new
-returns-clause-slots_of_new g c = clause.slots_of_new
-
-pub returns-clause-no_slots : goal.returns-clause-no_slots
-returns-clause-no_slots g c = λ events none. omega (arith, clause.slots_of_new events)
-
-pub returns-clause-slots_of_capacity : goal.returns-clause-slots_of_capacity
-returns-clause-slots_of_capacity g c = clause.slots_of_capacity
-
-pub returns-clause-private_slots : goal.returns-clause-private_slots
-returns-clause-private_slots g c = λ core n local r at. known.private_bound core.manager.held local.id local.doing ((clause.fits core r).locals.each n local at).id_held
-
-pub returns-clause-published : goal.returns-clause-published
-returns-clause-published g c = λ core r. known.published_bound core (clause.fits core r)
-
 pub returns-clause-refused_take : goal.returns-clause-refused_take
 returns-clause-refused_take g c = λ core refused growth r. clause.refused_take core refused growth (clause.fits core r)
 
 pub returns-clause-refusal : goal.returns-clause-refusal
 returns-clause-refusal g c = may.refusal
-
-pub returns-clause-within_capacity : goal.returns-clause-within_capacity
-returns-clause-within_capacity g c = λ core refused growth r. clause.within_capacity core refused growth (clause.fits core r)
-
-pub returns-clause-reserved : goal.returns-clause-reserved
-returns-clause-reserved g c = λ core n local refused r. clause.reserved core n local refused (clause.fits core r)
-
-pub returns-clause-reserved_answers : goal.returns-clause-reserved_answers
-returns-clause-reserved_answers g c = λ core n local r. clause.reserved_answers core n local (clause.fits core r)
-
-pub returns-clause-bounded : goal.returns-clause-bounded
-returns-clause-bounded g c = headline.bounded
-
-pub returns-clause-refuses_nothing : goal.returns-clause-refuses_nothing
-returns-clause-refuses_nothing g c = headline.refuses_nothing

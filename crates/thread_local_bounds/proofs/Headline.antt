@@ -7,12 +7,13 @@ use Rattle.thread_local_steps.specs.Local.{Local, LocalStep, MakeBucket}
 use Rattle.thread_local_steps.specs.Fits.{value_set}
 use Rattle.thread_local_core.specs.Core.{Core, made_core, new_core, shadow, installed_slots, peak}
 use Rattle.thread_local_schedule.specs.Events.{Event, TakeId, OfLocal, GiveBack, Owner, IterMut, ClearTable, is_granted, step_of, step, is_enabled, happens, run}
-use Rattle.thread_local_schedule.specs.Schedule.{publishing, move, move_of, is_take, is_clear, refuses, is_refused, TakesBelow, NothingRefused, NeverCleared}
+use Rattle.thread_local_schedule.specs.Schedule.{publishing, move, move_of, is_take, is_clear, refuses, is_refused}
 use Rattle.thread_local_core.proofs.HeldCounts.{held_below}
 use Rattle.thread_local_core.specs.CoreFits.{CoreFits}
 use Rattle.thread_local_schedule.proofs.Kept.{happens-fits, run-fits}
 use Rattle.thread_local_schedule.proofs.EventSays.{event_says}
-use Rattle.thread_local_schedule.proofs.Clauses.{run_capacity, within_capacity, reserved}
+use Rattle.thread_local_bounds.specs.Bounds.{TakesBelow, NothingRefused, NeverCleared}
+use Rattle.thread_local_bounds.proofs.PeakLaws.{run_capacity, within_capacity, reserved}
 use Rattle.thread_local_core.proofs.Parts.{made_core-fits}
 use Rattle.thread_local_core.proofs.CoreLaws.{installed_bound}
 use Rattle.thread_local_core.proofs.SheetLaws.{moved_peak, same_peak, same_capacity}

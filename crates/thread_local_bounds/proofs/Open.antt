@@ -1,12 +1,13 @@
-use Rattle.std.proofs.Common.{◌≡◌, ℕ, Bool, true, false, Option, Some, None, IfSome, refl}
+use Rattle.std.proofs.Common.{◌≡◌, ℕ, Bool, true, false, Option, Some, None, IfSome, refl, is_some, IsTrue, ap, ◌∙◌}
 use Rattle.std.specs.Prelude.{option_map, unwrap_or}
-use Rattle.std.proofs.lemmas.Bool.{cond_both}
+use Rattle.std.proofs.lemmas.Bool.{cond_both, false≢true}
 use Rattle.thread_local_steps.specs.Local.{Local, LocalStep, local_step}
 use Rattle.thread_local_walk_steps.specs.SharedWalk.{SharedWalk, WalkStep, walk_step}
 use Rattle.thread_local_core.specs.Core.{Core, is_alone}
 use Rattle.thread_local_core.proofs.OptionLaws.{if_enabled, unwrapped}
-use Rattle.thread_local_schedule.specs.Events.{Event, TakeId, OfLocal, GiveBack, Forget, BeginWalk, OfWalk, EndWalk, Owner, OwnerCall, IterMut, Slots, ClearTable, IntoIter, DropTable, is_granted, take_id, with_step, of_local, give_back, forget, of_walk, end_walk, with_walk, owner_call, is_idle, without_local, given_to, step_of, step, happens}
+use Rattle.thread_local_schedule.specs.Events.{Event, TakeId, OfLocal, GiveBack, Forget, BeginWalk, OfWalk, EndWalk, Owner, OwnerCall, IterMut, Slots, ClearTable, IntoIter, DropTable, is_granted, take_id, with_step, of_local, give_back, forget, of_walk, end_walk, with_walk, owner_call, is_idle, without_local, given_to, step_of, step, happens, is_enabled}
 use Rattle.thread_local_schedule.specs.Schedule.{ends_table}
+use Rattle.thread_local_schedule.proofs.Clauses.{goes, enabled_step}
 
 -- a table that hasn't ended
 abbrev pub IsOpen : {V E : Type 0} → Core V E → Type 0
@@ -64,3 +65,20 @@ stays_open core event e f =
     cond_both {A = Option (Core _ _)} core.ended None (step_of core event) (λ o. IsOpen (unwrap_or o core))
     (λ _. e)
     (λ _. unwrapped IsOpen (step_of core event) core (step_of-open core event e f) e)
+
+-- a table that is consumed or dropped has ended
+ends : {V E : Type 0} (core : Core V E) (alone : Bool) → (IsTrue (is_some (owner_call core alone IntoIter)) → (unwrap_or (owner_call core alone IntoIter) core).ended ≡ true)
+    × (IsTrue (is_some (owner_call core alone DropTable)) → (unwrap_or (owner_call core alone DropTable) core).ended ≡ true)
+ends core true = (λ _. refl, λ _. refl)
+ends core false = (λ t. absurd (false≢true t), λ t. absurd (false≢true t))
+
+pub into_iter_ends : {V E : Type 0} (core : Core V E) → IsTrue (is_enabled core (Owner IntoIter)) → (happens core (Owner IntoIter)).ended ≡ true
+into_iter_ends core t = ap (λ after. after.ended) (goes core (Owner IntoIter) t) ∙ (ends core (is_alone core)).0 (enabled_step core (Owner IntoIter) t)
+
+pub drop_ends : {V E : Type 0} (core : Core V E) → IsTrue (is_enabled core (Owner DropTable)) → (happens core (Owner DropTable)).ended ≡ true
+drop_ends core t = ap (λ after. after.ended) (goes core (Owner DropTable) t) ∙ (ends core (is_alone core)).1 (enabled_step core (Owner DropTable) t)
+
+-- and where a table has ended no event is enabled
+pub ended : {V E : Type 0} (core : Core V E) (event : Event V E) → core.ended ≡ true → is_enabled core event ≡ false
+unfolding is_enabled step
+ended core event e = rw e refl

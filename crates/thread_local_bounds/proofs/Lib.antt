@@ -1,0 +1,3 @@
+pub mod PeakLaws
+pub mod Headline
+pub mod Open

@@ -1,0 +1,35 @@
+use Rattle.std.specs.Prelude.{◌≡◌, ℕ, ◌<◌, max, false, ◌&&◌, List, [], ◌∷◌, IsTrue, ⊤, if◌then◌else◌}
+use Rattle.thread_local_model.specs.Held.{held_count}
+use Rattle.thread_local_core.specs.Core.{Core}
+use Rattle.thread_local_schedule.specs.Events.{Event, is_enabled, happens}
+use Rattle.thread_local_schedule.specs.Schedule.{is_take, is_clear, is_refused}
+
+-- the most ids held at one moment, once an event has come: this many before it
+abbrev pub most_after : {V E : Type 0} → ℕ → Core V E → Event V E → ℕ
+most_after most core event =
+    if is_enabled core event && is_clear event then 0 else max most (held_count (happens core event).manager.held)
+
+-- the most ids held at one moment, once these events have come: this many before them
+abbrev pub most_after_all : {V E : Type 0} → ℕ → Core V E → List (Event V E) → ℕ
+most_after_all most core [] = most
+most_after_all most core (event ∷ events) = most_after_all (most_after most core event) (happens core event) events
+
+-- the most ids held at one moment since a table in which none was held was made, or cleared by these events
+abbrev pub most_held : {V E : Type 0} → Core V E → List (Event V E) → ℕ
+most_held core events = most_after_all 0 core events
+
+-- each take of a schedule comes while fewer than this many ids are held
+abbrev pub TakesBelow : {V E : Type 0} → ℕ → Core V E → List (Event V E) → Type 0
+TakesBelow bound core [] = ⊤
+TakesBelow bound core (event ∷ events) =
+    (IsTrue (is_take event) → held_count core.manager.held < bound) × TakesBelow bound (happens core event) events
+
+-- no event of a schedule ends in a refusal
+abbrev pub NothingRefused : {V E : Type 0} → Core V E → List (Event V E) → Type 0
+NothingRefused core [] = ⊤
+NothingRefused core (event ∷ events) = (is_refused core event ≡ false) × NothingRefused (happens core event) events
+
+-- no event of a schedule clears the table
+abbrev pub NeverCleared : {V E : Type 0} → List (Event V E) → Type 0
+NeverCleared [] = ⊤
+NeverCleared (event ∷ events) = (is_clear event ≡ false) × NeverCleared events

@@ -1,0 +1,2 @@
+pub use Rattle.thread_local_schedule.specs.Schedule
+pub mod Bounds

@@ -1,0 +1,56 @@
+ghost use Rattle.std.specs.Prelude.{◌≡◌, ℕ, ◌-◌, ◌*◌, ◌^◌, ◌<◌, ◌≤◌, max, Bool, false, List, length, Contains, Some, IsTrue};
+ghost use Rattle.thread_local_model.specs.Held.{held_count};
+ghost use Rattle.thread_local_model.specs.Walk.{walk};
+ghost use Rattle.thread_local_model.specs.Capacity.{is_reserved};
+ghost use Rattle.thread_local_model.specs.Answers.{Refused};
+ghost use Rattle.thread_local_steps.specs.Local.{Local, MakeBucket};
+ghost use Rattle.thread_local_core.specs.Core.{Core, made_core, new_core, shadow, installed_slots, peak, private_slots};
+ghost use Rattle.thread_local_schedule.specs.Events.{Event, TakeId, OfLocal, run};
+ghost use Rattle.thread_local_schedule.specs.Schedule.{is_refused, IsReached};
+ghost use Rattle.thread_local_bounds.specs.Bounds.{most_held, TakesBelow, NothingRefused, NeverCleared};
+
+/// What bounds a table over every schedule: with at most p ids held at once a table from `new` has installed at
+/// most 2p - 1 slots, and one of a capacity of p or more refuses nothing.
+///
+/// A clause that begins with a core that is reached holds after every event of every schedule.
+pub fn every_bound<V, E>()
+    // The peak is the most ids held at one moment. Each id that is given lies below it, and there is room for it.
+    ensures peak { (capacity extra : ℕ) (events : List (Event V E)) → capacity < 2 ^ 63
+        → peak (run (made_core capacity extra) events) ≡ most_held (made_core capacity extra) events }
+    ensures below_peak { (core : Core V E) (n : ℕ) (local : Local V E) → IsReached core
+        → core.locals n ≡ Some local → local.id < peak core }
+    ensures ids { (core : Core V E) (n : ℕ) (local : Local V E) → IsReached core
+        → core.locals n ≡ Some local → local.id < 2 ^ 63 - 1 }
+    ensures room { (core : Core V E) → IsReached core → peak core ≤ core.manager.room }
+
+    // The slots that are installed, those made and not offered yet, and the values are bounded by the peak.
+    ensures slots_of_new { (events : List (Event V E))
+        → installed_slots (run new_core events) ≤ 2 * peak (run new_core events) - 1 }
+    ensures no_slots { (events : List (Event V E))
+        → peak (run new_core events) ≡ 0 → installed_slots (run new_core events) ≡ 0 }
+    ensures slots_of_capacity { (capacity extra : ℕ) (events : List (Event V E)) → capacity < 2 ^ 63
+        → installed_slots (run (made_core capacity extra) events)
+        ≤ 2 * max capacity (peak (run (made_core capacity extra) events)) - 1 }
+    ensures private_slots { (core : Core V E) (n : ℕ) (local : Local V E) → IsReached core
+        → core.locals n ≡ Some local → private_slots local.id local.doing ≤ peak core }
+    ensures published { (core : Core V E) → IsReached core → length (walk (shadow core).values) ≤ peak core }
+
+    // Within the capacity no take is refused, and no publishing at a reserved id.
+    ensures within_capacity { (core : Core V E) (refused : Bool) (growth : ℕ) → IsReached core
+        → held_count (shadow core).held < (shadow core).capacity
+        → is_refused core (TakeId refused growth) ≡ false }
+    ensures reserved { (core : Core V E) (n : ℕ) (local : Local V E) (refused : Bool) → IsReached core
+        → core.locals n ≡ Some local → IsTrue (is_reserved (shadow core).capacity local.id)
+        → is_refused core (OfLocal n (MakeBucket refused)) ≡ false }
+    ensures reserved_answers { (core : Core V E) (n : ℕ) (local : Local V E) → IsReached core
+        → core.locals n ≡ Some local → IsTrue (is_reserved (shadow core).capacity local.id)
+        → Contains local.answered Refused → ⊥ }
+
+    // Where each take comes while fewer than p ids are held, a table from `new` has installed at most 2p - 1 slots,
+    // and one of a capacity of p or more that is never cleared refuses nothing.
+    ensures bounded { (p : ℕ) (events : List (Event V E)) → TakesBelow p new_core events
+        → installed_slots (run new_core events) ≤ 2 * p - 1 }
+    ensures refuses_nothing { (capacity extra p : ℕ) (events : List (Event V E)) → capacity < 2 ^ 63
+        → p ≤ capacity → TakesBelow p (made_core capacity extra) events → NeverCleared events
+        → NothingRefused (made_core capacity extra) events }
+{}

@@ -1,0 +1,11 @@
+//! Theorems on what bounds a table's model over every schedule of atomic steps, and on what ends it.
+//!
+//! Each function here has an empty body: its contract is a set of theorems, for every list of events, from a table
+//! of `new` and from one of each capacity, whatever the values and the closures' errors are.
+#![tactic(auto)]
+
+pub mod bounds;
+pub mod ends;
+
+pub use bounds::every_bound;
+pub use ends::every_end;
