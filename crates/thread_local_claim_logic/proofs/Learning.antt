@@ -1,5 +1,5 @@
 -- What a claim has, by what it has learnt. Assumes `Logic`.
-use Rattle.std.proofs.Common.{◌≡◌, ℕ, Bool, true, refl, ap, ◌∙◌, eqb, Option, None, Some, is_some}
+use Rattle.std.proofs.Common.{◌≡◌, ℕ, true, refl, ap, eqb, Option, None, Some, is_some}
 use seplogic.Ra.Ura.{Ura}
 use base.Logic.{ent, id⊢}
 use base.Fml.{Lft, fex}
@@ -8,7 +8,7 @@ use denote.RattleType.{RattleType}
 use Rattle.thread_local_model.specs.Learnt.{Learnt, Unknown, Missing, Standing as Stood, Vacant, Holding}
 use Rattle.thread_local_blocks.specs.Slots.{flag_of}
 use Rattle.thread_local_shared_word_logic.specs.Shared.{WordView, Turn, Standing}
-use Rattle.thread_local_claim_logic.specs.Known.{IsKnown, IsUnfound, is_found, in_vain, value_held, found_as}
+use Rattle.thread_local_claim_logic.specs.Known.{IsKnown, IsUnfound, in_vain, value_held, found_as}
 use Rattle.thread_local_claim_logic.specs.Claims.{Place, has_slot, has, waits, IsKept}
 
 pub known_as : {X : Type 0} (v : Option X) → IsKnown (found_as v)

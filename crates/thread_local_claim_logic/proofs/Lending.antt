@@ -1,9 +1,9 @@
 -- A `&` to a claim: a `&` to the value that it holds. Assumes `Logic`.
-use Rattle.std.proofs.Common.{◌≡◌, ℕ, ◌+◌, ◌*◌, Bool, true, false, [], ◌∷◌, ◌++◌, refl, sym, subst, Option, None, Some}
+use Rattle.std.proofs.Common.{◌≡◌, ℕ, ◌+◌, ◌*◌, Bool, [], ◌∷◌, ◌++◌, refl, sym, subst, Option, None, Some}
 use mathlib.Core.Logic.{inl, inr}
 use seplogic.Ra.Ura.{Ura}
 use base.Fraction.{full_share}
-use base.Logic.{SProp, ent, sep, ex, guard, upd_i, id⊢, guard_i}
+use base.Logic.{SProp, ent, sep, upd_i, id⊢, guard_i}
 use base.Fml.{Lft, GName, Share, Incl, Fml, ftrue, fsep, fseps, fex, fwand, fupd, fdead, fauth, fbor, fobor, flft, Incl-trans}
 use base.Before.{before}
 use contract.Monad.{fact_i, fact_use}
@@ -11,7 +11,7 @@ use contract.Monad as monad
 use contract.BorrowLft.{meet_⊑_left, meet_⊑_right, ⊑_meet}
 use ghost.Rules.{Toks, span}
 use types.Logic.{Logic, sem, lfts}
-use types.Kit.{‵, raw, ◌⊛◌, given, some, later, check, group, ◌$◌, ◌∵◌, !, qed, by, move, keep, drop, use1, use2, use3, split, split3, join, fsplit, fsplit3, fjoin, fjoin3, fpick, fpack, pick, learn, show, rewrite, assume, suffices, await, updating, now, done}
+use types.Kit.{‵, raw, ◌⊛◌, given, later, group, ◌$◌, ◌∵◌, !, qed, by, move, keep, drop, use1, use2, use3, split, split3, join, fsplit, fsplit3, fjoin, fjoin3, fpick, fpack, learn, rewrite, assume, suffices, await, updating, now, done}
 use types.Tokens.{bor_open, obor_close, obor_alter}
 use types.Na.{before_dup, before_shorten}
 use denote.RattleType.{RattleType, RowLaws}
@@ -31,7 +31,7 @@ use Rattle.thread_local_shared_word_logic.specs.Shared.{name_at, WordView, Turn,
 use Rattle.thread_local_shared_word_logic.specs.Shared as slots
 use Rattle.thread_local_model.specs.Learnt.{Learnt, Unknown, Missing, Standing as Stood, Vacant, Holding}
 use Rattle.thread_local_claim_logic.specs.Known.{value_held}
-use Rattle.thread_local_claim_logic.specs.Claims.{Place, IsAt, has_slot, has, IsKept, IsOf, has_at, claim_owns, lasts, shown, claim_shares}
+use Rattle.thread_local_claim_logic.specs.Claims.{Place, IsAt, has_slot, IsKept, IsOf, has_at, claim_owns, lasts, shown, claim_shares}
 
 lasts_laws : (β : Lft) (R : RattleType) → RowLaws R → (b e : ℕ) (x : R.Denot) (j : Judged R) → ShrLaws (lasts R β b e x j)
 lasts_laws β R L b e x (inl j) = held_shr_laws β (shared_of R x b e) (L x b e)
