@@ -1,3 +1,5 @@
 pub mod PeakLaws
 pub mod Headline
 pub mod Open
+pub mod FourLocals
+pub mod FourValues

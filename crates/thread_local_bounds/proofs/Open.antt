@@ -2,7 +2,7 @@ use Rattle.std.proofs.Common.{◌≡◌, ℕ, Bool, true, false, Option, Some, N
 use Rattle.std.specs.Prelude.{option_map, unwrap_or}
 use Rattle.std.proofs.lemmas.Bool.{cond_both, false≢true}
 use Rattle.thread_local_steps.specs.Local.{Local, LocalStep, local_step}
-use Rattle.thread_local_walk_steps.specs.SharedWalk.{SharedWalk, WalkStep, walk_step}
+use Rattle.thread_local_core.specs.SharedWalk.{SharedWalk, WalkStep, walk_step}
 use Rattle.thread_local_core.specs.Core.{Core, is_alone}
 use Rattle.thread_local_core.proofs.OptionLaws.{if_enabled, unwrapped}
 use Rattle.thread_local_schedule.specs.Events.{Event, TakeId, OfLocal, GiveBack, Forget, BeginWalk, OfWalk, EndWalk, Owner, OwnerCall, IterMut, Slots, ClearTable, IntoIter, DropTable, is_granted, take_id, with_step, of_local, give_back, forget, of_walk, end_walk, with_walk, owner_call, is_idle, without_local, given_to, step_of, step, happens, is_enabled}

@@ -1,2 +1,3 @@
 pub use Rattle.thread_local_schedule.specs.Schedule
 pub mod Bounds
+pub mod Story

@@ -1,4 +1,5 @@
-//! Theorems on what bounds a table's model over every schedule of atomic steps, and on what ends it.
+//! Theorems on what bounds a table's model over every schedule of atomic steps, and on what ends it; and one schedule from `new` to `clear`,
+//! in which the events that the theorems speak of do come.
 //!
 //! Each function here has an empty body: its contract is a set of theorems, for every list of events, from a table
 //! of `new` and from one of each capacity, whatever the values and the closures' errors are.
@@ -6,6 +7,8 @@
 
 pub mod bounds;
 pub mod ends;
+pub mod story;
 
 pub use bounds::every_bound;
 pub use ends::every_end;
+pub use story::four_locals;

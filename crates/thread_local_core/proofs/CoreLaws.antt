@@ -13,8 +13,8 @@ use Rattle.thread_local_model.proofs.AnswersLaws.{known_after_all}
 use Rattle.thread_local_steps.specs.Table.{Table, Bucket, slot_at, slot_of, published, stands, made_table}
 use Rattle.thread_local_model.specs.Learnt.{Missing}
 use Rattle.thread_local_steps.specs.Local.{Local, Doing, Private}
-use Rattle.thread_local_walk_steps.specs.SharedWalk.{SharedWalk, is_complete}
-use Rattle.thread_local_walk_steps.proofs.WalkStepLaws.{complete_cursor}
+use Rattle.thread_local_core.specs.SharedWalk.{SharedWalk, is_complete}
+use Rattle.thread_local_core.proofs.WalkStepLaws.{complete_cursor}
 use Rattle.thread_local_steps.specs.Fits.{IsWritten, AllWritten, IsLearnt, view_now, with_value_if}
 use Rattle.thread_local_core.specs.Core.{Core, shadow, installed_slots, peak, private_slots}
 use Rattle.thread_local_core.specs.CoreFits.{CoreFits}

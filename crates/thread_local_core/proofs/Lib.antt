@@ -1,3 +1,5 @@
+pub mod WalkStepLaws
+pub mod OwnerLaws
 pub mod OptionLaws
 pub mod HeldCounts
 pub mod SheetLaws

@@ -5,10 +5,10 @@ use Rattle.thread_local_model.specs.Capacity.{binary_digits}
 use Rattle.thread_local_steps.specs.Table.{Table, Bucket, fresh_bucket, made_table}
 use Rattle.thread_local_steps.specs.Local.{Local, fresh_local}
 use Rattle.thread_local_model.specs.Answers.{View}
-use Rattle.thread_local_walk_steps.specs.OwnerWalk.{rewritten}
+use Rattle.thread_local_core.specs.OwnerWalk.{rewritten}
 use Rattle.thread_local_steps.specs.Fits.{named}
 use Rattle.thread_local_steps.specs.Numbers.{own_number, NumbersGo}
-use Rattle.thread_local_walk_steps.proofs.OwnerLaws.{named-rewritten, made-rewritten}
+use Rattle.thread_local_core.proofs.OwnerLaws.{named-rewritten, made-rewritten}
 use Rattle.thread_local_core.specs.Core.{put}
 use Rattle.thread_local_core.specs.CoreFits.{NumbersFit}
 use Rattle.thread_local_core.proofs.PutLaws.{put_cases, still}

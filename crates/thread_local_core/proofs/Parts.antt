@@ -8,14 +8,14 @@ use Rattle.thread_local_model.specs.Capacity.{binary_digits, is_reserved}
 use Rattle.thread_local_model.specs.Held.{Manager, is_held, least, with_least, without}
 use Rattle.thread_local_steps.specs.Table.{Table, made_table, published}
 use Rattle.thread_local_steps.specs.Local.{Local, fresh_local}
-use Rattle.thread_local_walk_steps.specs.SharedWalk.{SharedWalk}
-use Rattle.thread_local_walk_steps.specs.OwnerWalk.{rewritten}
+use Rattle.thread_local_core.specs.SharedWalk.{SharedWalk}
+use Rattle.thread_local_core.specs.OwnerWalk.{rewritten}
 use Rattle.thread_local_steps.specs.Fits.{StepFits, with_value_if}
-use Rattle.thread_local_walk_steps.specs.WalkFits.{WalkFits}
+use Rattle.thread_local_core.specs.WalkFits.{WalkFits}
 use Rattle.thread_local_steps.proofs.TableLaws.{published_stands, slot_at-made_table, stands-made_table, published_unset}
 use Rattle.thread_local_steps.proofs.LocalLaws.{other_fits}
-use Rattle.thread_local_walk_steps.proofs.WalkStepLaws.{walk_carried}
-use Rattle.thread_local_walk_steps.proofs.OwnerLaws.{published-rewritten, AllWritten-rewritten, stands-rewritten}
+use Rattle.thread_local_core.proofs.WalkStepLaws.{walk_carried}
+use Rattle.thread_local_core.proofs.OwnerLaws.{published-rewritten, AllWritten-rewritten, stands-rewritten}
 use Rattle.thread_local_core.specs.Core.{Core, made_core, shadow, first_view, put, none_below, is_alone, peak}
 use Rattle.thread_local_core.proofs.HeldCounts.{held_below}
 use Rattle.thread_local_core.proofs.PutLaws.{put_cases, put_same, put_other, still}

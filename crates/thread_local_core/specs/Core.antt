@@ -7,7 +7,7 @@ use Rattle.thread_local_model.specs.Answers.{View}
 use Rattle.thread_local_model.specs.Sheet.{Sheet}
 use Rattle.thread_local_steps.specs.Table.{Table, made_table, published, stands}
 use Rattle.thread_local_steps.specs.Local.{Local, Doing, Private}
-use Rattle.thread_local_walk_steps.specs.SharedWalk.{SharedWalk}
+use Rattle.thread_local_core.specs.SharedWalk.{SharedWalk}
 
 -- A table's core: the manager of ids; the capacity; the table of buckets; each Local that lives and each walk that
 -- is under way, by the number in which it came, and how many came so far; and whether the table has ended.

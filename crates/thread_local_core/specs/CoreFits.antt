@@ -4,10 +4,10 @@ use Rattle.thread_local_model.specs.Held.{Manager, is_held}
 use Rattle.thread_local_model.specs.Capacity.{binary_digits, is_reserved}
 use Rattle.thread_local_steps.specs.Table.{Table, published, stands}
 use Rattle.thread_local_steps.specs.Local.{Local}
-use Rattle.thread_local_walk_steps.specs.SharedWalk.{SharedWalk}
+use Rattle.thread_local_core.specs.SharedWalk.{SharedWalk}
 use Rattle.thread_local_steps.specs.Fits.{AllWritten, LocalFits, named}
 use Rattle.thread_local_steps.specs.Numbers.{own_number}
-use Rattle.thread_local_walk_steps.specs.WalkFits.{WalkFits}
+use Rattle.thread_local_core.specs.WalkFits.{WalkFits}
 use Rattle.thread_local_core.specs.Core.{Core}
 
 -- The invariant of a core, kept by every event, in its parts.

@@ -15,9 +15,9 @@ use Rattle.thread_local_contents.specs.Owner.{with_bucket, with_published}
 use Rattle.thread_local_contents.proofs.RowLaws.{row-with_row-same, row-with_row-other}
 use Rattle.thread_local_contents.proofs.FillingLaws.{contents-empty}
 use Rattle.thread_local_steps.specs.Table.{Slot, Bucket, fresh_bucket, Table, value_of, slot_of, slot_at, published, stands, made_table, with_fresh_bucket, with_slot_of, with_slot, with_flag}
-use Rattle.thread_local_walk_steps.specs.OwnerWalk.{owner_walk, rewritten}
+use Rattle.thread_local_core.specs.OwnerWalk.{owner_walk, rewritten}
 use Rattle.thread_local_steps.proofs.TableLaws.{stands-made_table, slot_at-made_table}
-use Rattle.thread_local_walk_steps.proofs.OwnerLaws.{owner_walk-walk, published-rewritten, stands-rewritten}
+use Rattle.thread_local_core.proofs.OwnerLaws.{owner_walk-walk, published-rewritten, stands-rewritten}
 use Rattle.thread_local_owner_laws.specs.Shown.{shown_row, shown}
 
 module _ {V : Type 0} where

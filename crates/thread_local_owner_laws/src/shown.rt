@@ -5,7 +5,7 @@ ghost use Rattle.thread_local_model.specs.Buckets.{stands as stands_for_owner, v
 ghost use Rattle.thread_local_model.specs.Walk.{walk};
 ghost use Rattle.thread_local_contents.specs.Owner.{with_bucket, with_published};
 ghost use Rattle.thread_local_steps.specs.Table.{Table, slot_at, published, stands, made_table, with_fresh_bucket, with_flag};
-ghost use Rattle.thread_local_walk_steps.specs.OwnerWalk.{owner_walk, rewritten};
+ghost use Rattle.thread_local_core.specs.OwnerWalk.{owner_walk, rewritten};
 ghost use Rattle.thread_local_owner_laws.specs.Shown.{shown};
 
 /// What the table shows to an owner: the buckets that its words name, and the values that its flags show. An owner's walk of the one is the

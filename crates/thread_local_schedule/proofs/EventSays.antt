@@ -6,12 +6,12 @@ use Rattle.thread_local_model.specs.Held.{held_count, without}
 use Rattle.thread_local_model.specs.Sheet.{moved_if, IsAllowed}
 use Rattle.thread_local_steps.specs.Table.{Table, published}
 use Rattle.thread_local_steps.specs.Local.{Local, LocalStep, local_step}
-use Rattle.thread_local_walk_steps.specs.SharedWalk.{SharedWalk, fresh_walk, WalkStep, walk_step}
-use Rattle.thread_local_walk_steps.specs.OwnerWalk.{rewritten}
+use Rattle.thread_local_core.specs.SharedWalk.{SharedWalk, fresh_walk, WalkStep, walk_step}
+use Rattle.thread_local_core.specs.OwnerWalk.{rewritten}
 use Rattle.thread_local_steps.specs.Fits.{StepFits, value_set, named}
 use Rattle.thread_local_steps.proofs.TableLaws.{same_function, named_stands}
 use Rattle.thread_local_steps.proofs.LocalLaws.{local_step-fits}
-use Rattle.thread_local_walk_steps.proofs.OwnerLaws.{published-rewritten}
+use Rattle.thread_local_core.proofs.OwnerLaws.{published-rewritten}
 use Rattle.thread_local_core.specs.Core.{Core, shadow, put, is_alone}
 use Rattle.thread_local_schedule.specs.Events.{Event, TakeId, OfLocal, GiveBack, Forget, BeginWalk, OfWalk, EndWalk, Owner, OwnerCall, IterMut, Slots, ClearTable, IntoIter, DropTable, is_granted, take_id, with_step, of_local, give_back, forget, of_walk, end_walk, owner_call, step_of, step, is_enabled, happens, is_idle, without_local, given_to, with_walk}
 use Rattle.thread_local_schedule.specs.Schedule.{move_of, is_take, refuses, is_exclusive, is_clear, is_of}
@@ -21,7 +21,7 @@ use Rattle.thread_local_core.proofs.PutLaws.{put_cases, still, put_other}
 use Rattle.thread_local_core.proofs.Parts.{kept_value, no_locals}
 use Rattle.thread_local_core.proofs.CoreLaws.{published_moves, publishing_allowed, none_made}
 use Rattle.thread_local_core.proofs.OptionLaws.{if_enabled, if_mapped}
-use Rattle.thread_local_walk_steps.proofs.WalkStepLaws.{walk_step-fits}
+use Rattle.thread_local_core.proofs.WalkStepLaws.{walk_step-fits}
 use Rattle.thread_local_model.proofs.HeldLaws as ids
 
 -- what an event that is enabled says of the core before it and after it

@@ -4,9 +4,9 @@ use Rattle.std.proofs.lemmas.Option.{none-some}
 use Rattle.std.proofs.lemmas.Bool.{false≢true, eqb-false, cond_both}
 use Rattle.thread_local_steps.specs.Table.{Table}
 use Rattle.thread_local_steps.specs.Local.{Local, LocalStep, local_step}
-use Rattle.thread_local_walk_steps.specs.SharedWalk.{SharedWalk, fresh_walk, is_complete, WalkStep, Load, Look, walk_step, next_step}
-use Rattle.thread_local_walk_steps.specs.WalkFits.{Adds}
-use Rattle.thread_local_walk_steps.proofs.WalkStepLaws.{walk_step-adds}
+use Rattle.thread_local_core.specs.SharedWalk.{SharedWalk, fresh_walk, is_complete, WalkStep, Load, Look, walk_step, next_step}
+use Rattle.thread_local_core.specs.WalkFits.{Adds}
+use Rattle.thread_local_core.proofs.WalkStepLaws.{walk_step-adds}
 use Rattle.thread_local_core.specs.Core.{Core, is_alone}
 use Rattle.thread_local_core.specs.CoreFits.{CoreFits}
 use Rattle.thread_local_core.proofs.PutLaws.{put_cases, put_same, put_other, still}

@@ -2,8 +2,8 @@ use Rattle.std.specs.Prelude.{ℕ, zero, suc, ◌+◌, ◌-◌, ◌^◌, max, Bo
 use Rattle.thread_local_model.specs.Held.{Manager, least, with_least, without}
 use Rattle.thread_local_steps.specs.Local.{Doing, Gets, Local, fresh_local, LocalStep, local_step}
 use Rattle.thread_local_steps.specs.Table.{Table}
-use Rattle.thread_local_walk_steps.specs.SharedWalk.{SharedWalk, fresh_walk, WalkStep, walk_step}
-use Rattle.thread_local_walk_steps.specs.OwnerWalk.{rewritten}
+use Rattle.thread_local_core.specs.SharedWalk.{SharedWalk, fresh_walk, WalkStep, walk_step}
+use Rattle.thread_local_core.specs.OwnerWalk.{rewritten}
 use Rattle.thread_local_core.specs.Core.{Core, new_core, shadow, first_view, put, is_alone}
 
 -- what somebody does who has the table alone

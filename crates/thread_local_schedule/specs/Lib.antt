@@ -4,12 +4,12 @@ pub use Rattle.thread_local_model.specs.Capacity
 pub use Rattle.thread_local_model.specs.Sheet
 pub use Rattle.thread_local_model.specs.Answers
 pub use Rattle.thread_local_steps.specs.Local
-pub use Rattle.thread_local_walk_steps.specs.SharedWalk
-pub use Rattle.thread_local_walk_steps.specs.OwnerWalk
+pub use Rattle.thread_local_core.specs.SharedWalk
+pub use Rattle.thread_local_core.specs.OwnerWalk
 pub use Rattle.thread_local_steps.specs.Fits
 pub use Rattle.thread_local_steps.specs.Calls
 pub use Rattle.thread_local_steps.specs.Numbers
-pub use Rattle.thread_local_walk_steps.specs.WalkFits
+pub use Rattle.thread_local_core.specs.WalkFits
 pub use Rattle.thread_local_core.specs.Core
 pub mod Events
 pub mod Schedule

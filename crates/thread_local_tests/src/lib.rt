@@ -1,4 +1,8 @@
-//! Examples that use `thread_local` as its users do.
+//! Examples that use `thread_local` as its users do, and tests of the program `tls`.
 #![tactic(auto)]
 
 pub mod examples;
+#[cfg(test)]
+mod moves;
+#[cfg(test)]
+mod run;

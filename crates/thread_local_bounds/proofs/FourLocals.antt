@@ -4,13 +4,13 @@ use Rattle.thread_local_model.specs.Capacity.{binary_digits, reserved_slots}
 use Rattle.thread_local_model.specs.Buckets.{slots, slots_below}
 use Rattle.thread_local_steps.specs.Table.{slot_at, published, stands, with_fresh_bucket, with_slot, made_table}
 use Rattle.thread_local_steps.specs.Local.{local_step}
-use Rattle.thread_local_walk_steps.specs.SharedWalk.{walk_step, is_complete}
-use Rattle.thread_local_walk_steps.specs.OwnerWalk.{owner_walk, owner_walk_below}
+use Rattle.thread_local_core.specs.SharedWalk.{walk_step, is_complete}
+use Rattle.thread_local_core.specs.OwnerWalk.{owner_walk, owner_walk_below}
 use Rattle.thread_local_model.specs.Walk.{walk_below}
 use Rattle.thread_local_model.specs.Answers.{Found, Answered}
 use Rattle.thread_local_core.specs.Core.{peak, installed_slots}
 use Rattle.thread_local_schedule.specs.Events.{Owner, IterMut, ClearTable, step, happens, run, is_enabled}
-use Rattle.thread_local_story.specs.Story.{walk_on, whole_walk, four_publish, four_give_back, after_publishing, after_walking, after_giving_back, after_next, after_all}
+use Rattle.thread_local_bounds.specs.Story.{walk_on, whole_walk, four_publish, four_give_back, after_publishing, after_walking, after_giving_back, after_next, after_all}
 
 -- the definitions by which the story computes
 unfoldable pub by_steps : ℕ

@@ -1,9 +1,9 @@
 ghost use Rattle.std.specs.Prelude.{◌≡◌, ℕ, ◌-◌, ◌^◌, Some, option_map, IsTrue, IfSome};
 ghost use Rattle.thread_local_model.specs.Walk.{walk};
 ghost use Rattle.thread_local_steps.specs.Table.{Table, published};
-ghost use Rattle.thread_local_walk_steps.specs.SharedWalk.{SharedWalk, WalkStep, fresh_walk, cursor, is_complete, walk_step};
-ghost use Rattle.thread_local_walk_steps.specs.WalkFits.{WalkFits, Adds};
-ghost use Rattle.thread_local_walk_steps.specs.OwnerWalk.{owner_walk, rewritten};
+ghost use Rattle.thread_local_core.specs.SharedWalk.{SharedWalk, WalkStep, fresh_walk, cursor, is_complete, walk_step};
+ghost use Rattle.thread_local_core.specs.WalkFits.{WalkFits, Adds};
+ghost use Rattle.thread_local_core.specs.OwnerWalk.{owner_walk, rewritten};
 
 /// What each step of a shared walk keeps, whatever was published since.
 pub fn every_walk_step<V>()

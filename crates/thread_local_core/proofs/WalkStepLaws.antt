@@ -10,8 +10,8 @@ use Rattle.thread_local_model.proofs.PlaceLaws as place
 use Rattle.thread_local_model.proofs.WalkLaws.{ascends-push, Contains-one}
 use Rattle.thread_local_steps.proofs.TableLaws.{published_stands}
 use Rattle.thread_local_steps.specs.Table.{Table, slot_of, slot_at, value_of, published, stands}
-use Rattle.thread_local_walk_steps.specs.SharedWalk.{SharedWalk, fresh_walk, cursor, is_complete, at_next_bucket, at_place, after_load, on_word, walk_load, after_look, walk_look, WalkStep, Load, Look, walk_step}
-use Rattle.thread_local_walk_steps.specs.WalkFits.{RecordFits, WalkFits, with_pair, Loads, Looks, Adds}
+use Rattle.thread_local_core.specs.SharedWalk.{SharedWalk, fresh_walk, cursor, is_complete, at_next_bucket, at_place, after_load, on_word, walk_load, after_look, walk_look, WalkStep, Load, Look, walk_step}
+use Rattle.thread_local_core.specs.WalkFits.{RecordFits, WalkFits, with_pair, Loads, Looks, Adds}
 
 -- a bound on ascending ids may grow
 ascends_within : (ids : List ℕ) (m n : ℕ) → m ≤ n → IsAscendingBelow ids m → IsAscendingBelow ids n

@@ -6,9 +6,9 @@ use Rattle.thread_local_model.specs.Walk.{walk, walk_below}
 use Rattle.thread_local_model.proofs.PlaceLaws as place
 use Rattle.thread_local_model.proofs.WalkLaws.{walk_below-same, walk_below-none, walk_below-add}
 use Rattle.thread_local_steps.specs.Table.{Bucket, Table, value_of, slot_of, slot_at, published, stands}
-use Rattle.thread_local_walk_steps.specs.OwnerWalk.{values_in, owner_walk_below, owner_walk, rewritten_slot, rewritten_bucket, rewritten}
+use Rattle.thread_local_core.specs.OwnerWalk.{values_in, owner_walk_below, owner_walk, rewritten_slot, rewritten_bucket, rewritten}
 use Rattle.thread_local_steps.specs.Fits.{IsWritten, AllWritten, named}
-use Rattle.thread_local_walk_steps.proofs.WalkStepLaws.{shown_at_cursor}
+use Rattle.thread_local_core.proofs.WalkStepLaws.{shown_at_cursor}
 
 -- what an owner finds in what a word names is what its slots show, in their order
 values_in-walk_below : {V : Type 0} (word : Option (Bucket V)) (bucket : ℕ) → values_in word bucket ≡ walk_below (λ index. value_of (slot_of word index)) (2 ^ bucket)

@@ -1,5 +1,5 @@
-use Rattle.thread_local_walk_steps.proofs.WalkStepLaws as laws
-use Rattle.thread_local_walk_steps.proofs.walks.every_walk_step.Goals as goal
+use Rattle.thread_local_core.proofs.WalkStepLaws as laws
+use Rattle.thread_local_core.proofs.walks.every_walk_step.Goals as goal
 
 pub returns-clause-begins : goal.returns-clause-begins
 returns-clause-begins g c = laws.fresh_walk-fits

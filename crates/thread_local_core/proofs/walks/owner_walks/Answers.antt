@@ -1,5 +1,5 @@
-use Rattle.thread_local_walk_steps.proofs.OwnerLaws as laws
-use Rattle.thread_local_walk_steps.proofs.walks.owner_walks.Goals as goal
+use Rattle.thread_local_core.proofs.OwnerLaws as laws
+use Rattle.thread_local_core.proofs.walks.owner_walks.Goals as goal
 
 pub returns-clause-walk : goal.returns-clause-walk
 returns-clause-walk g c = laws.owner_walk-walk

@@ -1,6 +1,6 @@
 use Rattle.std.specs.Prelude.{ℕ, zero, suc, false, List, [], ◌∷◌, ◌++◌, Ok}
 use Rattle.thread_local_steps.specs.Local.{LocalStep, BeginGet, BeginGetOr, LoadWord, LookAtFlag, MakeBucket, InstallBucket, WriteValue, SetFlag, Reply}
-use Rattle.thread_local_walk_steps.specs.SharedWalk.{Load, Look}
+use Rattle.thread_local_core.specs.SharedWalk.{Load, Look}
 use Rattle.thread_local_core.specs.Core.{Core, new_core}
 use Rattle.thread_local_schedule.specs.Events.{Event, TakeId, OfLocal, GiveBack, BeginWalk, OfWalk, EndWalk, run}
 

@@ -1,7 +1,7 @@
 use Rattle.std.specs.Prelude.{◌≡◌, ℕ, suc, ◌+◌, ◌^◌, ◌<◌, ◌≤◌, List, [], ◌∷◌, ◌++◌, length, map, Contains, Option, Some, None, IsTrue, ◌==◌, if◌then◌else◌}
 use Rattle.thread_local_model.specs.Walk.{IsAscendingBelow}
 use Rattle.thread_local_steps.specs.Table.{Table, published}
-use Rattle.thread_local_walk_steps.specs.SharedWalk.{SharedWalk, cursor, WalkStep, Load, Look}
+use Rattle.thread_local_core.specs.SharedWalk.{SharedWalk, cursor, WalkStep, Load, Look}
 
 -- What is known of a walk's record at a cursor: what it saw at first is still published, and so is what it gave;
 -- ids were given and read by ascending id, below the cursor; and what it saw at first below the cursor was given.

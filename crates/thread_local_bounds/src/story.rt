@@ -1,11 +1,11 @@
 ghost use Rattle.std.specs.Prelude.{◌≡◌, ℕ, [], ◌∷◌, Some, slice_get, IsTrue, IsSomeAnd};
 ghost use Rattle.thread_local_model.specs.Sheet.{new_sheet};
 ghost use Rattle.thread_local_model.specs.Answers.{Found, Answered};
-ghost use Rattle.thread_local_walk_steps.specs.SharedWalk.{is_complete};
-ghost use Rattle.thread_local_walk_steps.specs.OwnerWalk.{owner_walk};
+ghost use Rattle.thread_local_core.specs.SharedWalk.{is_complete};
+ghost use Rattle.thread_local_core.specs.OwnerWalk.{owner_walk};
 ghost use Rattle.thread_local_core.specs.Core.{shadow, installed_slots};
 ghost use Rattle.thread_local_schedule.specs.Events.{Owner, IterMut, ClearTable, is_enabled, happens};
-ghost use Rattle.thread_local_story.specs.Story.{after_publishing, after_walking, after_next, after_all};
+ghost use Rattle.thread_local_bounds.specs.Story.{after_publishing, after_walking, after_next, after_all};
 
 /// What one schedule does: four `Local`s publish in a new table. A walk gives the four values; the next `Local`
 /// finds the first and keeps it; an owner's walk gives the four; and `clear` leaves the sheet of `new`.

@@ -1,6 +1,6 @@
-use Rattle.thread_local_story.proofs.FourLocals as story
-use Rattle.thread_local_story.proofs.FourValues as four
-use Rattle.thread_local_story.proofs.story.four_locals.Goals as goal
+use Rattle.thread_local_bounds.proofs.FourLocals as story
+use Rattle.thread_local_bounds.proofs.FourValues as four
+use Rattle.thread_local_bounds.proofs.story.four_locals.Goals as goal
 
 pub returns-clause-four_values : goal.returns-clause-four_values
 returns-clause-four_values g c = four.four_values _ _

@@ -6,10 +6,10 @@ use Rattle.thread_local_schedule.proofs.Kept.{run-fits}
 use Rattle.thread_local_steps.specs.Table.{published}
 use Rattle.thread_local_core.specs.Core.{new_core, shadow}
 use Rattle.thread_local_schedule.specs.Events.{Owner, ClearTable, happens, is_enabled, run}
-use Rattle.thread_local_story.specs.Story.{four_publish, after_publishing, after_all}
+use Rattle.thread_local_bounds.specs.Story.{four_publish, after_publishing, after_all}
 use Rattle.thread_local_core.proofs.Parts.{made_core-fits}
 use Rattle.thread_local_core.proofs.CoreLaws.{none_if, none_made}
-use Rattle.thread_local_story.proofs.FourLocals.{by_steps, four_held, clears}
+use Rattle.thread_local_bounds.proofs.FourLocals.{by_steps, four_held, clears}
 use Rattle.thread_local_core.specs.CoreFits.{CoreFits}
 
 module _ (T F : Type 0) (a b c d : T) where

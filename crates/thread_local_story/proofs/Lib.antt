@@ -1,2 +1,0 @@
-pub mod FourLocals
-pub mod FourValues

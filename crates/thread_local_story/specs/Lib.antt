@@ -1,2 +1,0 @@
-pub use Rattle.thread_local_schedule.specs.Schedule
-pub mod Story

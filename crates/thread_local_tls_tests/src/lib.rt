@@ -1,7 +1,0 @@
-//! Tests of what the program `tls` does.
-#![tactic(auto)]
-
-#[cfg(test)]
-mod moves;
-#[cfg(test)]
-mod run;

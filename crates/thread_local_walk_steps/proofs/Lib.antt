@@ -1,2 +1,0 @@
-pub mod WalkStepLaws
-pub mod OwnerLaws
