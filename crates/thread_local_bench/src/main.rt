@@ -1,14 +1,16 @@
-//! Times the calls of an owner's buckets and of the id manager: a line for each workload, with its name and the nanoseconds of one
+//! Times the calls of a table, of an owner's buckets and of the id manager: a line for each workload, with its name and the nanoseconds of one
 //! operation, the least of several rounds. The argument is the number of rounds. With none each workload runs once, on few ids, and
 //! its name alone is printed. With `locks N` it compares two locks over N pairs of taking and giving.
 #![tactic(auto)]
 
 mod ids;
 mod lock;
+mod table;
 mod values;
 
 use std::alloc::Global;
 use std::io;
+use std::sync::Wait;
 use std::time::{Clock, Duration};
 
 /// What one round of a workload made: how many operations, and in what time.
@@ -21,6 +23,11 @@ pub struct Round {
 /// What is timed.
 #[derive(Clone, Copy)]
 enum Workload {
+    GetHit,
+    GetOrHit,
+    NewFirstDrop,
+    LocalAndDrop,
+    Publish,
     Insert,
     IterMut,
     IntoIter,
@@ -30,7 +37,12 @@ enum Workload {
 }
 
 impl Workload {
-    const ALL: [Workload; 6] = [
+    const ALL: [Workload; 11] = [
+        Workload::GetHit,
+        Workload::GetOrHit,
+        Workload::NewFirstDrop,
+        Workload::LocalAndDrop,
+        Workload::Publish,
         Workload::Insert,
         Workload::IterMut,
         Workload::IntoIter,
@@ -42,6 +54,11 @@ impl Workload {
     /// The workload's name, as it is printed.
     fn name(self) -> &'static str {
         match self {
+            Workload::GetHit => "get_hit",
+            Workload::GetOrHit => "get_or_hit",
+            Workload::NewFirstDrop => "new_first_drop",
+            Workload::LocalAndDrop => "local_and_drop",
+            Workload::Publish => "publish",
             Workload::Insert => "insert",
             Workload::IterMut => "iter_mut",
             Workload::IntoIter => "into_iter",
@@ -52,12 +69,20 @@ impl Workload {
     }
 
     /// Runs the workload once: on many ids, or on few.
-    fn round<R: Clock>(self, rt: &R, alloc: Global, many: bool) -> io::Result<Round> {
+    fn round<R: Clock + Wait>(self, rt: &R, alloc: Global, many: bool) -> io::Result<Round> {
         let values: u32 = if many { 1 << 20 } else { 100 };
+        let reserved: u32 = if many { (1 << 20) - 1 } else { 100 };
+        let hits: u64 = if many { 50_000_000 } else { 100 };
+        let tables: u64 = if many { 1_000_000 } else { 100 };
         let few: u64 = if many { 10_000_000 } else { 100 };
         let held: u32 = if many { 100_000 } else { 100 };
         let pairs: u64 = if many { 5_000_000 } else { 100 };
         match self {
+            Workload::GetHit => table::get_hit(rt, alloc, hits, u64::from(many)),
+            Workload::GetOrHit => table::get_or_hit(rt, alloc, hits, u64::from(many)),
+            Workload::NewFirstDrop => table::new_first_drop(rt, alloc, tables),
+            Workload::LocalAndDrop => table::local_and_drop(rt, alloc, few),
+            Workload::Publish => table::publish(rt, alloc, reserved),
             Workload::Insert => values::insert(rt, alloc, values),
             Workload::IterMut => values::iter_mut(rt, alloc, values),
             Workload::IntoIter => values::into_iter(rt, alloc, values),
@@ -96,7 +121,7 @@ fn main(rt: HostRuntime) -> io::Result<()> {
 }
 
 /// The picoseconds of one operation, in the round that took the least.
-fn least<R: Clock>(workload: Workload, rt: &R, alloc: Global, rounds: u64) -> io::Result<u128> {
+fn least<R: Clock + Wait>(workload: Workload, rt: &R, alloc: Global, rounds: u64) -> io::Result<u128> {
     let mut least = u128::MAX;
     for _ in 0..rounds {
         let Round { operations, time } = workload.round(rt, alloc, true)?;

@@ -84,6 +84,13 @@ impl<'a, T> Claim<'a, T> {
         replace_with(&mut self.slot, value, published)
     }
 
+    /// The id whose slot it is.
+    pub fn id(&self) -> usize
+        ensures { result ≡ self.now.id }
+    {
+        self.id
+    }
+
     /// Whether the bucket was missing when the claim looked for it last.
     pub fn is_missing(&self) -> bool
         ensures { MatchBool result (self.now.learnt ≡ Missing) (self.now.learnt ≢ Missing) }

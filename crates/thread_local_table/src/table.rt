@@ -1,0 +1,125 @@
+//! The table that threads share.
+ghost use Rattle.std.specs.Prelude.{◌≡◌};
+ghost use Rattle.thread_local_judged.specs.Judged.{Judged};
+
+use crate::local::Local;
+use crate::seat::Seat;
+use crate::table_core::Core;
+use std::alloc::Global;
+use std::default::MadeWith;
+use std::marker::Model;
+use std::sync::Wait;
+use thread_local_buckets::{Buckets, IntoIter, IterMut};
+use thread_local_judged::Judge;
+use thread_local_locked_ids::Ids;
+use thread_local_thread_id::LocalError;
+
+mod lends;
+
+/// One object that keeps a separate value for each thread that uses it.
+///
+/// A thread asks for a `Local`, which holds the least id not held, and finds or makes that id's value through it. Values outlive
+/// their `Local`s, and stay in place until somebody has the table alone: that owner walks over all of them by ascending id.
+/// Threads share a table through a `&`; it crosses between threads for every `T: Send`.
+///
+/// Contracts see a name, which no other table has, and the number of reserved slots. Dropping a table drops every value.
+#[derive(Drop)]
+pub struct ThreadLocal<T> {
+    core: Core<T>,
+}
+
+impl<T> Model for ThreadLocal<T> {
+    ghost use Rattle.thread_local_shared_buckets.specs.TableView.{TableView, table_view_coded};
+
+    ghost Value = { TableView };
+
+    ghost coded = { table_view_coded };
+
+    ghost view = { λ table. table.core };
+}
+
+impl<T> ThreadLocal<T> {
+    /// A table with no value, no bucket and no id held. It takes no memory. The type of the values is judged: the check finds that at
+    /// most types, and `Judge` and `judge_sync` show it at others.
+    pub fn new(alloc: Global) -> ThreadLocal<T>
+        requires judged { Judged T.row }
+        ensures reserved { result.reserved ≡ 0 }
+    {
+        ThreadLocal {
+            core: Core::new(alloc, Buckets::new(alloc), Ids::new(alloc)),
+        }
+    }
+
+    /// A place in the table, with the least id that isn't held. It takes the id under the table's lock, and looks once whether a value
+    /// stands there, so that `get` needs no look. May wait. It asks for memory only where every id below the most ids that were held
+    /// at once is held and there is no room for one more: want of it is `Memory`. `Exhausted` means that all 2^63 - 1 ids are held.
+    /// Rust's crate finds the running thread by itself.
+    pub fn local<'a, R: Wait>(&'a self, rt: &'a R) -> Result<Local<'a, T, R>, LocalError> {
+        let held = self.core.take(rt)?;
+        Ok(Local::new(rt, Seat::new(&self.core, held)))
+    }
+
+    /// How many slots the buckets that stand have together. It never waits, and takes no memory.
+    pub fn slots(&mut self) -> usize
+        ensures same { self.new ≡ self.old }
+    {
+        self.core.owner().slots()
+    }
+
+    /// The values by ascending id, each lent as `&mut`, for somebody who has the table alone. It never waits, and takes no memory. What it
+    /// gives is the walk of the buckets that `buckets_mut` lends.
+    pub fn iter_mut(&mut self) -> IterMut<'_, T> {
+        self.core.owner().iter_mut()
+    }
+
+    /// The buckets, for an owner, by value: their contracts say what is in them. The ids are gone. It takes no memory, and never waits.
+    pub fn into_buckets(self) -> Buckets<T>
+        ensures { result.reserved ≡ self.reserved }
+    {
+        let Self { core } = self;
+        core.into_buckets()
+    }
+
+    /// Drops every value, frees every bucket and forgets every id, held ones of forgotten `Local`s among them: what is left is as from
+    /// `new`, and has another name. It never waits, and takes no memory.
+    pub fn clear(&mut self)
+    where
+        T: Drop,
+        ensures reserved { self.new.reserved ≡ 0 }
+    {
+        let alloc = self.core.alloc();
+        self.core.judged();
+        *self = ThreadLocal::new(alloc);
+    }
+}
+
+impl<T: Judge> MadeWith<Global> for ThreadLocal<T> {
+    ghost is_made_with = { λ table. table.reserved ≡ 0 };
+
+    fn made_with(alloc: Global) -> ThreadLocal<T> {
+        T::judge();
+        ThreadLocal::new(alloc)
+    }
+}
+
+impl<T: Drop> IntoIterator for ThreadLocal<T> {
+    type Item = T;
+
+    type IntoIter = IntoIter<T>;
+
+    /// The values by ascending id, each moved out. It never waits, and takes no memory.
+    fn into_iter(self) -> IntoIter<T> {
+        self.into_buckets().into_iter()
+    }
+}
+
+impl<'a, T> IntoIterator for &'a mut ThreadLocal<T> {
+    type Item = &'a mut T;
+
+    type IntoIter = IterMut<'a, T>;
+
+    /// The values by ascending id, each lent as `&mut`. It never waits, and takes no memory.
+    fn into_iter(self) -> IterMut<'a, T> {
+        self.iter_mut()
+    }
+}

@@ -1,0 +1,21 @@
+//! How a table lends its buckets to an owner, apart from the file that declares it, since this clause names its row.
+ghost use Rattle.std.specs.Prelude.{◌≡◌};
+ghost use types.Logic.{sem};
+ghost use Rattle.std.specs.Borrow.{follows};
+ghost use Rattle.thread_local_buckets.specs.contracts.buckets.Buckets.{the_row as owner_row};
+ghost use Rattle.thread_local_shared_buckets.specs.Lent.{view_with};
+ghost use Rattle.thread_local_table.specs.contracts.table.ThreadLocal.{the_row};
+
+use super::ThreadLocal;
+use thread_local_buckets::Buckets;
+
+impl<T> ThreadLocal<T> {
+    /// The buckets, for somebody who has the table alone: their contracts say what is in them and what a call leaves. It never waits, and
+    /// takes no memory. Rust's crate has no such call.
+    pub fn buckets_mut(&mut self) -> &mut Buckets<T>
+        ensures* writes_back { sem 𝓛 (follows (the_row T.row) (owner_row T.row) self.entry.ghost_name result.ghost_name (view_with self.old)) }
+        ensures reserved { result.now.reserved ≡ self.old.reserved }
+    {
+        self.core.owner()
+    }
+}

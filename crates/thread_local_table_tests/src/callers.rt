@@ -1,0 +1,91 @@
+//! Callers at concrete types and generic ones, which are proved and not run.
+ghost use Rattle.std.specs.Prelude.{◌≡◌, IfOk, None, true, OnErr};
+ghost use Rattle.thread_local_judged.specs.Judged.{Judged};
+
+use std::alloc::{AllocError, Global};
+use std::cell::{Cell, RefCell};
+use std::default::MadeWith;
+use std::sync::Wait;
+use thread_local_judged::{Judge, judge_sync};
+use thread_local_table::{Local, ThreadLocal};
+
+fn crosses<X: Send + Sync>(_: &X) {}
+
+fn is_sent<X: Send>(_: &X) {}
+
+/// The second value of two is the first one's.
+fn first_of_two<R: Wait>(local: &mut Local<'_, u32, R>, first: u32, second: u32) -> Result<u32, AllocError>
+    requires { local.old.value ≡ None }
+    ensures { IfOk result (λ got. got ≡ first) }
+{
+    local.get_or(|| first)?;
+    Ok(*local.get_or(|| second)?)
+}
+
+/// Where a value is held, a closure that can't be called is taken.
+fn held<R: Wait>(local: &mut Local<'_, u32, R>, value: u32) -> Result<u32, AllocError>
+    requires { local.old.value ≡ None }
+    ensures { IfOk result (λ got. got ≡ value) }
+{
+    local.get_or(|| value)?;
+    Ok(*local.get_or(|| unreachable!())?)
+}
+
+/// A reserved place is not refused memory.
+fn never_refused<R: Wait>(local: &mut Local<'_, u32, R>, value: u32) -> bool
+    ensures { result ≡ true }
+{
+    if local.is_reserved() {
+        local.get_or(|| value).is_ok()
+    } else {
+        true
+    }
+}
+
+fn number(alloc: Global) -> ThreadLocal<u32>
+    ensures { result.reserved ≡ 0 }
+{
+    let table = ThreadLocal::new(alloc);
+    crosses(&table);
+    table
+}
+
+fn text(alloc: Global) -> ThreadLocal<String> {
+    judge_sync::<String>();
+    let table = ThreadLocal::new(alloc);
+    crosses(&table);
+    table
+}
+
+fn cell(alloc: Global) -> ThreadLocal<Cell<u64>> {
+    Cell::<u64>::judge();
+    let table = ThreadLocal::new(alloc);
+    crosses(&table);
+    table
+}
+
+fn ref_cell(alloc: Global) -> ThreadLocal<RefCell<String>> {
+    let table = ThreadLocal::made_with(alloc);
+    crosses(&table);
+    table
+}
+
+fn generic<T: Send>(alloc: Global) -> ThreadLocal<T>
+    requires judged { Judged T.row }
+{
+    let table = ThreadLocal::new(alloc);
+    crosses(&table);
+    table
+}
+
+fn sync<T: Send + Sync>(alloc: Global) -> ThreadLocal<T> {
+    ThreadLocal::new(alloc)
+}
+
+fn generic_local<T: Send, R: Wait + Sync>(local: Local<'_, T, R>) {
+    is_sent(&local);
+}
+
+fn ref_cell_local<R: Wait + Sync>(local: Local<'_, RefCell<String>, R>) {
+    is_sent(&local);
+}

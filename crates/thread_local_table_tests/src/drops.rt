@@ -1,0 +1,70 @@
+//! Values are dropped with their table, once each.
+
+use std::alloc::Global;
+use std::sync::atomic::AtomicU64;
+use std::sync::atomic::Ordering::SeqCst;
+use std::sync::{Arc, Wait};
+use std::test::Fail;
+use thread_local_judged::judge_sync;
+use thread_local_table::ThreadLocal;
+
+/// A value that counts its drop.
+struct Counted {
+    drops: Arc<AtomicU64, Global>,
+}
+
+impl Drop for Counted {
+    fn drop(self) {
+        let Self { drops } = self;
+        drops.fetch_add(1, SeqCst);
+    }
+}
+
+/// One more `Local` is held at once in each call, and publishes a counted value. Answers whether all did.
+fn publish_counted<R: Wait>(
+    table: &ThreadLocal<Counted>,
+    rt: &R,
+    drops: &Arc<AtomicU64, Global>,
+    more: u64,
+) -> bool {
+    let Ok(mut local) = table.local(rt) else {
+        return false;
+    };
+    let Ok(drops_too) = Arc::try_clone(drops) else {
+        return false;
+    };
+    if local.get_or(|| Counted { drops: drops_too }).is_err() {
+        return false;
+    }
+    match more.checked_sub(1) {
+        None => true,
+        Some(rest) => publish_counted(table, rt, drops, rest),
+    }
+}
+
+#[test]
+fn a_value_is_dropped_with_its_table(rt: HostRuntime) -> Result<(), Fail> {
+    let drops = Arc::new(rt.alloc(), AtomicU64::new(0))?;
+    judge_sync::<Counted>();
+    let table = ThreadLocal::new(rt.alloc());
+    assert!(rt; publish_counted(&table, &rt, &drops, 0));
+    assert_eq!(rt; drops.load(SeqCst), 0);
+    drop(table);
+    assert_eq!(rt; drops.load(SeqCst), 1);
+    Ok(())
+}
+
+#[test]
+fn a_walk_that_ends_early_drops_the_values_that_it_has_not_given(rt: HostRuntime) -> Result<(), Fail> {
+    let drops = Arc::new(rt.alloc(), AtomicU64::new(0))?;
+    judge_sync::<Counted>();
+    let table = ThreadLocal::new(rt.alloc());
+    assert!(rt; publish_counted(&table, &rt, &drops, 2));
+    let mut values = table.into_iter();
+    let first = values.next();
+    drop(values);
+    assert_eq!(rt; drops.load(SeqCst), 2);
+    drop(first);
+    assert_eq!(rt; drops.load(SeqCst), 3);
+    Ok(())
+}

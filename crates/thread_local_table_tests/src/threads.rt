@@ -1,0 +1,158 @@
+//! Threads use one table, and `Local`s move between them.
+
+use std::sync::Wait;
+use std::sync::atomic::Ordering::SeqCst;
+use std::sync::atomic::{AtomicBool, AtomicU32};
+use std::test::Fail;
+use std::thread;
+use std::thread::Threads;
+use thread_local_table::{Local, ThreadLocal};
+
+/// How often a thread looks for a mark before it gives up.
+const LOOKS: u64 = 100_000_000;
+
+/// What `get`, `get_or` and `get` answer, where the closure answers how often it was called before.
+fn found_made_found<R: Wait>(local: &mut Local<'_, u32, R>, calls: &AtomicU32) -> (Option<u32>, Option<u32>, Option<u32>) {
+    let before = local.get().copied();
+    let made = local.get_or(|| calls.fetch_add(1, SeqCst)).ok().copied();
+    (before, made, local.get().copied())
+}
+
+/// The same of a `Local` of its own.
+fn of_its_own<R: Wait>(table: &ThreadLocal<u32>, rt: &R, calls: &AtomicU32) -> (Option<u32>, Option<u32>, Option<u32>) {
+    match table.local(rt) {
+        Ok(mut local) => found_made_found(&mut local, calls),
+        Err(_) => (None, None, None),
+    }
+}
+
+#[test]
+fn each_thread_has_its_own_value(rt: HostRuntime) -> Result<(), Fail> {
+    let table = ThreadLocal::<u32>::new(rt.alloc());
+    let calls = AtomicU32::new(0);
+    let mut local = table.local(&rt)?;
+    assert_eq!(rt; found_made_found(&mut local, &calls), (None, Some(0), Some(0)));
+    let (second, _) = thread::join(&rt, || of_its_own(&table, &rt, &calls), || ());
+    assert_eq!(rt; second, (None, Some(1), Some(1)));
+    assert_eq!(rt; local.get(), Some(&0));
+    assert_eq!(rt; *local.get_or(|| calls.fetch_add(1, SeqCst))?, 0);
+    Ok(())
+}
+
+/// Publishes 3, and hands the `Local` back.
+fn publish_three<'a, R: Wait>(mut local: Local<'a, u32, R>) -> Local<'a, u32, R> {
+    let _published = local.get_or(|| 3).is_ok();
+    local
+}
+
+#[test]
+fn a_local_moves_to_another_thread_and_back(rt: HostRuntime) -> Result<(), Fail> {
+    let table = ThreadLocal::<u32>::new(rt.alloc());
+    let local = table.local(&rt)?;
+    let (local, _) = thread::join(&rt, || publish_three(local), || ());
+    assert_eq!(rt; local.get(), Some(&3));
+    Ok(())
+}
+
+/// Publishes a number.
+fn publish<R: Wait>(mut local: Local<'_, u32, R>, number: u32) -> bool {
+    local.get_or(|| number).is_ok()
+}
+
+#[test]
+fn values_of_three_threads_are_walked_in_the_order_of_ids(rt: HostRuntime) -> Result<(), Fail> {
+    let mut table = ThreadLocal::<u32>::new(rt.alloc());
+    {
+        let first = table.local(&rt)?;
+        let second = table.local(&rt)?;
+        let third = table.local(&rt)?;
+        let (published, others) = thread::join(
+            &rt,
+            || publish(third, 3),
+            || thread::join(&rt, || publish(second, 2), || publish(first, 1)),
+        );
+        assert_eq!(rt; (published, others), (true, (true, true)));
+    }
+    let mut values = table.iter_mut();
+    for value in [1, 2, 3] {
+        assert_eq!(rt; values.next().map(|there| *there), Some(value));
+    }
+    assert!(rt; values.next().is_none());
+    Ok(())
+}
+
+/// Looks for a mark until it is set, or gives up.
+fn is_seen(mark: &AtomicBool) -> bool {
+    for _ in 0..LOOKS {
+        if mark.load(SeqCst) {
+            return true;
+        }
+    }
+    false
+}
+
+/// Publishes while its closure waits for the second's value. Answers the value, and whether the closure saw the mark.
+fn publish_around<R: Wait>(table: &ThreadLocal<u32>, rt: &R, begun: &AtomicBool, answered: &AtomicBool) -> (Option<u32>, bool) {
+    let Ok(mut local) = table.local(rt) else {
+        return (None, false);
+    };
+    let mut seen = false;
+    let got = local
+        .get_or(|| {
+            begun.store(true, SeqCst);
+            seen = is_seen(answered);
+            1
+        })
+        .ok()
+        .copied();
+    (got, seen)
+}
+
+/// Publishes once the first's closure has begun.
+fn publish_within<R: Wait>(table: &ThreadLocal<u32>, rt: &R, begun: &AtomicBool, answered: &AtomicBool) -> (Option<u32>, bool) {
+    let seen = is_seen(begun);
+    let Ok(mut local) = table.local(rt) else {
+        return (None, seen);
+    };
+    let got = local.get_or(|| 2).ok().copied();
+    answered.store(true, SeqCst);
+    (got, seen)
+}
+
+#[test]
+fn no_lock_is_held_while_a_closure_runs(rt: HostRuntime) -> Result<(), Fail> {
+    let table = ThreadLocal::<u32>::new(rt.alloc());
+    let begun = AtomicBool::new(false);
+    let answered = AtomicBool::new(false);
+    let (first, second) = thread::join(
+        &rt,
+        || publish_around(&table, &rt, &begun, &answered),
+        || publish_within(&table, &rt, &begun, &answered),
+    );
+    assert_eq!(rt; first, (Some(1), true));
+    assert_eq!(rt; second, (Some(2), true));
+    Ok(())
+}
+
+/// Publishes what a `Local` publishes that the closure makes.
+fn publish_through_another<R: Wait>(table: &ThreadLocal<u32>, rt: &R) -> Option<u32> {
+    let mut local = table.local(rt).ok()?;
+    let got = local.get_or(|| match table.local(rt) {
+        Ok(mut inner) => match inner.get_or(|| 6) {
+            Ok(value) => value.wrapping_add(1),
+            Err(_) => 0,
+        },
+        Err(_) => 0,
+    });
+    got.ok().copied()
+}
+
+#[test]
+fn a_closure_may_use_another_local_of_the_table(rt: HostRuntime) -> Result<(), Fail> {
+    let mut table = ThreadLocal::<u32>::new(rt.alloc());
+    assert_eq!(rt; publish_through_another(&table, &rt), Some(7));
+    let mut values = table.iter_mut();
+    assert_eq!(rt; values.next().map(|there| *there), Some(7));
+    assert_eq!(rt; values.next().map(|there| *there), Some(6));
+    Ok(())
+}
