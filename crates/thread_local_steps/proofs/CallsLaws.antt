@@ -1,9 +1,9 @@
 use Rattle.std.proofs.Common.{◌≡◌, ℕ, zero, suc, Bool, true, false, [], ◌∷◌, ◌++◌, Option, Some, None, Result, Ok, Err, IfSome, IsSomeAnd, refl, ap, sym, subst, inl, inr}
-use Rattle.thread_local_model.specs.Answers.{Get, GetOr, Answer}
-use Rattle.thread_local_model.specs.Learnt.{Learnt, Missing, Vacant, Holding, learnt_by_load, learnt_by_look}
-use Rattle.thread_local_steps.specs.Table.{Table, published, stands}
+use Rattle.thread_local_model.specs.Answers.{Get, GetOr, Answer, Answered}
+use Rattle.thread_local_model.specs.Learnt.{Learnt, Missing, Vacant, Holding, learnt_by_load, learnt_by_look, learnt_by_install, learnt_by_publish}
+use Rattle.thread_local_steps.specs.Table.{Table, published, stands, with_flag}
 use Rattle.thread_local_model.specs.Place.{bucket_of}
-use Rattle.thread_local_steps.specs.Local.{Doing, Gets, Started, Private, Written, Local, after_call, is_calling, begin_get, begin_get_or, learns, load_word, look_at_flag, make_bucket, install_bucket, write_value, set_flag, reply, local_step, LocalStep, BeginGet, BeginGetOr, LoadWord, LookAtFlag, MakeBucket, InstallBucket, WriteValue, SetFlag, Reply}
+use Rattle.thread_local_steps.specs.Local.{Doing, Gets, Started, Private, Written, Local, after_call, is_calling, begin_get, begin_get_or, learns, load_word, look_at_flag, make_bucket, offered, install_bucket, write_value, set_flag, reply, local_step, LocalStep, BeginGet, BeginGetOr, LoadWord, LookAtFlag, MakeBucket, InstallBucket, WriteValue, SetFlag, Reply}
 use Rattle.thread_local_steps.specs.Calls.{gets_of, closure_of, CallsStay, PublishingEnds, CallsGo, GoesOn}
 
 -- a Local that does the same, or goes on with the call that it has begun
@@ -39,10 +39,17 @@ begin_get_or-goes table local create (Gets zero) e =
     goes (BeginGetOr create) local local.learnt (Started create) (record { none = ap closure_of e; gets = sym (ap gets_of e); closure = refl; calls = refl })
 begin_get_or-goes table local create _ e = tt
 
+-- what holds whatever is learnt holds where something is
+pub whatever_is_learnt : {V E : Type 0} (table : Table V) (local : Local V E) (o : Option (Learnt V)) (P : Table V × Local V E → Type 0)
+    → ((learnt : Learnt V) → P (table, record local { learnt = learnt })) → IfSome (learns table local o) P
+whatever_is_learnt table local None P p = tt
+whatever_is_learnt table local (Some learnt) P p = p learnt
+
 learns-goes : {V E : Type 0} (step : LocalStep V E) (table : Table V) (local : Local V E) (o : Option (Learnt V))
     → ((after : Local V E) → CallsStay local after → CallsGo step local after) → IfSome (learns table local o) (λ after. GoesOn step local after.1)
-learns-goes step table local None go = tt
-learns-goes step table local (Some learnt) go = record { id = refl; start = refl; calls = go (record local { learnt = learnt }) (record { gets = refl; closure = refl; calls = refl }) }
+learns-goes step table local o go =
+    whatever_is_learnt table local o (λ after. GoesOn step local after.1)
+    (λ learnt. record { id = refl; start = refl; calls = go (record local { learnt = learnt }) (record { gets = refl; closure = refl; calls = refl }) })
 
 load_word-goes : {V E : Type 0} (table : Table V) (local : Local V E) (b : Bool) → IfSome (load_word table local b) (λ after. GoesOn LoadWord local after.1)
 load_word-goes table local false = tt
@@ -63,7 +70,8 @@ make_bucket-goes table local refused _ _ e = tt
 install_bucket-goes : {V E : Type 0} (table : Table V) (local : Local V E) (doing : Doing V E) → local.doing ≡ doing
     → IfSome (install_bucket table local doing) (λ after. GoesOn InstallBucket local after.1)
 install_bucket-goes table local (Private create number) e =
-    goes InstallBucket local Vacant (Started create) (stay local Vacant (Started create) (sym (ap gets_of e)) (sym (ap closure_of e)))
+    whatever_is_learnt (offered table (bucket_of local.id) number) (record local { doing = Started create }) (learnt_by_install local.learnt) (λ after. GoesOn InstallBucket local after.1)
+    (λ learnt. goes InstallBucket local learnt (Started create) (stay local learnt (Started create) (sym (ap gets_of e)) (sym (ap closure_of e))))
 install_bucket-goes table local _ e = tt
 
 write_value-goes : {V E : Type 0} (table : Table V) (local : Local V E) (doing : Doing V E) (learnt : Learnt V) → local.doing ≡ doing
@@ -76,7 +84,9 @@ write_value-goes table local _ _ e = tt
 
 set_flag-goes : {V E : Type 0} (table : Table V) (local : Local V E) (doing : Doing V E) → local.doing ≡ doing
     → IfSome (set_flag table local doing) (λ after. GoesOn SetFlag local after.1)
-set_flag-goes table local (Written v) e = record { id = refl; start = refl; calls = publishing_ends local (Ok v) false _ (Holding v) (ap gets_of e) (ap closure_of e) }
+set_flag-goes table local (Written v) e =
+    whatever_is_learnt (with_flag table local.id) (after_call local (GetOr (Ok v) false) (Answered v) local.learnt (Gets 0)) (learnt_by_publish local.learnt v)
+    (λ after. GoesOn SetFlag local after.1) (λ learnt. record { id = refl; start = refl; calls = publishing_ends local (Ok v) false _ learnt (ap gets_of e) (ap closure_of e) })
 set_flag-goes table local _ e = tt
 
 reply-goes : {V E : Type 0} (table : Table V) (local : Local V E) (doing : Doing V E) (learnt : Learnt V) → local.doing ≡ doing

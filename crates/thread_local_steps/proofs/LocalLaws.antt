@@ -4,8 +4,8 @@ use Rattle.thread_local_model.specs.Place.{bucket_of}
 use Rattle.thread_local_model.specs.Answers.{View, Call, Get, GetOr, Answer, Found, Answered, Refused, Failed, Says, answers}
 use Rattle.thread_local_model.proofs.AnswersLaws as says
 use Rattle.thread_local_model.proofs.AnswersLaws.{answers-push, view_after_all-push}
-use Rattle.thread_local_steps.specs.Table.{Slot, Table, slot_at, published, stands, value_of, with_slot}
-use Rattle.thread_local_model.specs.Learnt.{Learnt, Unknown, Missing, Standing, Vacant, Holding, learnt_by_load, learnt_by_look}
+use Rattle.thread_local_steps.specs.Table.{Slot, Table, slot_at, published, stands, value_of, with_slot, with_flag}
+use Rattle.thread_local_model.specs.Learnt.{Learnt, Unknown, Missing, Standing, Vacant, Holding, learnt_by_load, learnt_by_look, learnt_by_install, learnt_by_publish}
 use Rattle.thread_local_steps.specs.Local.{Doing, Gets, Started, Private, Written, Local, after_call, is_calling, begin_get, begin_get_or, learns, load_word, look_at_flag, make_bucket, offered, install_bucket, write_value, set_flag, reply, local_step, LocalStep, BeginGet, BeginGetOr, LoadWord, LookAtFlag, MakeBucket, InstallBucket, WriteValue, SetFlag, Reply}
 use Rattle.thread_local_steps.specs.Fits.{IsWritten, AllWritten, view_now, IsLearnt, IsDoing, ViewFits, LocalFits, named, ChangesOnly, value_written, value_set, StepFits}
 use Rattle.thread_local_steps.proofs.TableLaws.{slot_at-none, published_unset, slot_at-offered, stands-offered, published-slot_at, slot_at-with_slot_same, slot_at-with_slot_other, stands-with_slot, slot_at-made, stands-made, named-made, named-offered, named-with_slot}
@@ -208,13 +208,20 @@ offered_only table id number = record {
       (cases_eq (bucket_of id) bucket);
 }
 
-install_bucket-fits : {V E : Type 0} (table : Table V) (local : Local V E) (doing : Doing V E) → AllWritten table → LocalFits table local
-    → IsDoing table local.id doing → IfSome (install_bucket table local doing) (StepFits table local None)
-install_bucket-fits table local (Private create number) written h d =
+-- what an install teaches is so
+install-fits : {V E : Type 0} (table : Table V) (local : Local V E) (create : Result V E) (number : ℕ) (learnt : Learnt V) → AllWritten table → LocalFits table local
+    → (slot_at table local.id).flag ≡ false
+    → IfSome (learns (offered table (bucket_of local.id) number) (record local { doing = Started create }) (learnt_by_install learnt)) (StepFits table local None)
+install-fits table local create number Missing written h d =
     let b = bucket_of local.id in
     offers table (offered table b number) local Vacant (Started create) written h (offered_only table local.id number)
     ((stands-offered table b number b ∙ ap (λ here. cond here true (stands table b)) (eq-eqb b b refl)), ap (λ slot. slot.flag) (slot_at-offered table b number local.id) ∙ d)
     tt
+install-fits table local create number _ written h d = tt
+
+install_bucket-fits : {V E : Type 0} (table : Table V) (local : Local V E) (doing : Doing V E) → AllWritten table → LocalFits table local
+    → IsDoing table local.id doing → IfSome (install_bucket table local doing) (StepFits table local None)
+install_bucket-fits table local (Private create number) written h d = install-fits table local create number local.learnt written h d
 install_bucket-fits table local _ written h d = tt
 
 -- one slot changes, to one whose flag is set only where a value is written
@@ -275,9 +282,10 @@ write_value-fits table local (Started (Err e)) Vacant written h l =
     (record { value = sym none; known = λ t. l.0; learnt_so = l; doing_so = tt })
 write_value-fits table local _ _ written h l = tt
 
-set_flag-fits : {V E : Type 0} (table : Table V) (local : Local V E) (doing : Doing V E) → AllWritten table → LocalFits table local
-    → IsDoing table local.id doing → IfSome (set_flag table local doing) (StepFits table local (value_written doing))
-set_flag-fits table local (Written v) written h d =
+-- what a publishing teaches is so
+publish-fits : {V E : Type 0} (table : Table V) (local : Local V E) (v : V) (learnt : Learnt V) → AllWritten table → LocalFits table local → IsDoing {E = E} table local.id (Written v)
+    → IfSome (learns (with_flag table local.id) (after_call local (GetOr (Ok v) false) (Answered v) local.learnt (Gets 0)) (learnt_by_publish learnt v)) (StepFits table local (Some v))
+publish-fits table local v Vacant written h d =
     let id = local.id in
     let slot = record (slot_at table id) { flag = true } in
     let after = with_slot table id slot in
@@ -297,6 +305,11 @@ set_flag-fits table local (Written v) written h d =
       empty = none;
       same = record { id = refl; start = refl };
     }
+publish-fits table local v _ written h d = tt
+
+set_flag-fits : {V E : Type 0} (table : Table V) (local : Local V E) (doing : Doing V E) → AllWritten table → LocalFits table local
+    → IsDoing table local.id doing → IfSome (set_flag table local doing) (StepFits table local (value_written doing))
+set_flag-fits table local (Written v) written h d = publish-fits table local v local.learnt written h d
 set_flag-fits table local _ written h d = tt
 
 -- a get that ends with the value of the view

@@ -1,7 +1,7 @@
 use Rattle.std.specs.Prelude.{ℕ, zero, suc, Bool, true, false, List, [], ◌∷◌, ◌++◌, Option, Some, None, option_and_then, Result, Ok, Err, if◌then◌else◌}
 use Rattle.thread_local_model.specs.Place.{bucket_of}
 use Rattle.thread_local_model.specs.Answers.{View, Call, Get, GetOr, Answer, Found, Answered, Refused, Failed}
-use Rattle.thread_local_model.specs.Learnt.{Learnt, Unknown, Missing, Vacant, Holding, learnt_by_load, learnt_by_look}
+use Rattle.thread_local_model.specs.Learnt.{Learnt, Unknown, Missing, Vacant, Holding, learnt_by_load, learnt_by_look, learnt_by_install, learnt_by_publish}
 use Rattle.thread_local_steps.specs.Table.{Table, published, stands, with_fresh_bucket, with_written, with_flag}
 
 -- What a Local does: any number of gets are under way, or one publishing call. That has begun, with what its
@@ -61,7 +61,7 @@ abbrev pub begin_get_or : {V E : Type 0} → Table V → Local V E → Result V 
 begin_get_or table local create (Gets zero) = Some (table, record local { doing = Started create })
 begin_get_or table local create doing = None
 
--- the table as it was, and the Local with what it has learnt now
+-- the table, and the Local with what it has learnt now
 abbrev pub learns : {V E : Type 0} → Table V → Local V E → Option (Learnt V) → Option (Table V × Local V E)
 learns table local None = None
 learns table local (Some learnt) = Some (table, record local { learnt = learnt })
@@ -91,7 +91,7 @@ offered table bucket number = if stands table bucket then table else with_fresh_
 -- a call offers its own bucket to its word, and uses the one that stands then
 abbrev pub install_bucket : {V E : Type 0} → Table V → Local V E → Doing V E → Option (Table V × Local V E)
 install_bucket table local (Private create number) =
-    Some (offered table (bucket_of local.id) number, record local { learnt = Vacant; doing = Started create })
+    learns (offered table (bucket_of local.id) number) (record local { doing = Started create }) (learnt_by_install local.learnt)
 install_bucket table local doing = None
 
 -- a call writes what its closure answered, or ends with the closure's error
@@ -104,7 +104,7 @@ write_value table local doing learnt = None
 -- a call that has written sets its flag, and so publishes and ends
 abbrev pub set_flag : {V E : Type 0} → Table V → Local V E → Doing V E → Option (Table V × Local V E)
 set_flag table local (Written v) =
-    Some (with_flag table local.id, after_call local (GetOr (Ok v) false) (Answered v) (Holding v) (Gets 0))
+    learns (with_flag table local.id) (after_call local (GetOr (Ok v) false) (Answered v) local.learnt (Gets 0)) (learnt_by_publish local.learnt v)
 set_flag table local doing = None
 
 -- a get ends with what was learnt, and so does a publishing call that found a value
