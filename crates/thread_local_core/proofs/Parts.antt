@@ -6,6 +6,7 @@ use Rattle.std.proofs.Math.Nat.{two-pow-succ}
 use Rattle.thread_local_model.specs.Place.{bucket_of}
 use Rattle.thread_local_model.specs.Capacity.{binary_digits, is_reserved}
 use Rattle.thread_local_model.specs.Held.{Manager, is_held, least, with_least, without}
+use Rattle.thread_local_model.specs.Answers.{first_view}
 use Rattle.thread_local_steps.specs.Table.{Table, made_table, published}
 use Rattle.thread_local_steps.specs.Local.{Local, fresh_local}
 use Rattle.thread_local_core.specs.SharedWalk.{SharedWalk}
@@ -16,7 +17,7 @@ use Rattle.thread_local_steps.proofs.TableLaws.{published_stands, slot_at-made_t
 use Rattle.thread_local_steps.proofs.LocalLaws.{other_fits}
 use Rattle.thread_local_core.proofs.WalkStepLaws.{walk_carried}
 use Rattle.thread_local_core.proofs.OwnerLaws.{published-rewritten, AllWritten-rewritten, stands-rewritten}
-use Rattle.thread_local_core.specs.Core.{Core, made_core, shadow, first_view, put, none_below, is_alone, peak}
+use Rattle.thread_local_core.specs.Core.{Core, made_core, shadow, put, none_below, is_alone, peak}
 use Rattle.thread_local_core.proofs.HeldCounts.{held_below}
 use Rattle.thread_local_core.proofs.PutLaws.{put_cases, put_same, put_other, still}
 use Rattle.thread_local_core.proofs.Numbers.{stepped-NumbersFit, made-NumbersFit}

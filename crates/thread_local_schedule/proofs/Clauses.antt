@@ -4,8 +4,9 @@ use Rattle.std.proofs.lemmas.Bool.{false≢true, and_parts, not-true, not-false,
 use Rattle.thread_local_model.specs.Held.{is_held, least, HoldsAllBelow}
 use Rattle.thread_local_model.specs.Capacity.{binary_digits, reserved_slots}
 use Rattle.thread_local_model.specs.Sheet.{new_sheet, Clear, moved_if}
+use Rattle.thread_local_model.specs.Answers.{first_view}
 use Rattle.thread_local_steps.specs.Local.{Local, fresh_local}
-use Rattle.thread_local_core.specs.Core.{Core, made_core, shadow, first_view, peak, is_alone}
+use Rattle.thread_local_core.specs.Core.{Core, made_core, shadow, peak, is_alone}
 use Rattle.thread_local_schedule.specs.Events.{Event, TakeId, OfLocal, Owner, ClearTable, is_granted, take_id, step_of, step, is_enabled, happens, run, owner_call, GiveBack, Forget, OwnerCall, IterMut}
 use Rattle.thread_local_schedule.specs.Schedule.{move, is_refused, is_granted_take, newcomer, IsReached, publishing, move_of, NoneTaken}
 use Rattle.thread_local_core.specs.CoreFits.{CoreFits}

@@ -2,6 +2,7 @@ use Rattle.std.proofs.Common.{◌≡◌, ℕ, suc, Bool, true, false, cond, List
 use Rattle.std.proofs.lemmas.Bool.{cond_both, ne_eqb, false≢true}
 use Rattle.std.specs.Prelude.{unwrap_or}
 use Rattle.thread_local_model.specs.Held.{is_held, least, with_least, without}
+use Rattle.thread_local_model.specs.Answers.{first_view}
 use Rattle.thread_local_steps.specs.Local.{Local, LocalStep, fresh_local, local_step}
 use Rattle.thread_local_core.specs.SharedWalk.{SharedWalk, fresh_walk, WalkStep, walk_step}
 use Rattle.thread_local_steps.specs.Fits.{StepFits, value_set}
@@ -10,7 +11,7 @@ use Rattle.thread_local_steps.proofs.LocalLaws.{local_step-fits}
 use Rattle.thread_local_steps.proofs.NumbersLaws.{local_step-numbers}
 use Rattle.thread_local_core.proofs.Numbers.{taken-NumbersFit, removed-NumbersFit, rewritten-NumbersFit}
 use Rattle.thread_local_core.proofs.WalkStepLaws.{walk_step-fits, fresh_walk-fits}
-use Rattle.thread_local_core.specs.Core.{Core, shadow, first_view, is_alone}
+use Rattle.thread_local_core.specs.Core.{Core, shadow, is_alone}
 use Rattle.thread_local_schedule.specs.Events.{Event, TakeId, OfLocal, GiveBack, Forget, BeginWalk, OfWalk, EndWalk, Owner, OwnerCall, IterMut, Slots, ClearTable, IntoIter, DropTable, is_exhausted, is_granted, take_id, with_step, of_local, give_back, forget, begin_walk, of_walk, end_walk, owner_call, step_of, step, happens, run, is_idle, without_local, given_to, with_walk}
 use Rattle.thread_local_core.proofs.HeldCounts.{peak_after}
 use Rattle.thread_local_core.specs.CoreFits.{CoreFits}

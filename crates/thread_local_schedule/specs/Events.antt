@@ -1,10 +1,11 @@
 use Rattle.std.specs.Prelude.{ℕ, zero, suc, ◌+◌, ◌-◌, ◌^◌, max, Bool, true, false, not, ◌&&◌, List, [], ◌∷◌, length, Option, Some, None, is_some, option_map, unwrap_or, ◌==◌, if◌then◌else◌}
 use Rattle.thread_local_model.specs.Held.{Manager, least, with_least, without}
+use Rattle.thread_local_model.specs.Answers.{first_view}
 use Rattle.thread_local_steps.specs.Local.{Doing, Gets, Local, fresh_local, LocalStep, local_step}
 use Rattle.thread_local_steps.specs.Table.{Table}
 use Rattle.thread_local_core.specs.SharedWalk.{SharedWalk, fresh_walk, WalkStep, walk_step}
 use Rattle.thread_local_core.specs.OwnerWalk.{rewritten}
-use Rattle.thread_local_core.specs.Core.{Core, new_core, shadow, first_view, put, is_alone}
+use Rattle.thread_local_core.specs.Core.{Core, new_core, shadow, put, is_alone}
 
 -- what somebody does who has the table alone
 pub data OwnerCall (V : Type 0) : Type 0 where

@@ -3,7 +3,7 @@ ghost use Rattle.std.specs.List.Sorted.{IsStrictlyIncreasing};
 ghost use Rattle.thread_local_model.specs.Held.{is_held, least, HoldsAllBelow};
 ghost use Rattle.thread_local_model.specs.Walk.{walk};
 ghost use Rattle.thread_local_model.specs.Sheet.{new_sheet, moved_if, IsAllowed};
-ghost use Rattle.thread_local_model.specs.Answers.{answers};
+ghost use Rattle.thread_local_model.specs.Answers.{answers, first_view};
 ghost use Rattle.thread_local_steps.specs.Local.{Local, LocalStep};
 ghost use Rattle.thread_local_core.specs.SharedWalk.{SharedWalk, fresh_walk, WalkStep, next_step, is_complete};
 ghost use Rattle.thread_local_core.specs.OwnerWalk.{owner_walk};
@@ -11,7 +11,7 @@ ghost use Rattle.thread_local_steps.specs.Fits.{IsWritten, named};
 ghost use Rattle.thread_local_steps.specs.Calls.{HasNoCall, GoesOn};
 ghost use Rattle.thread_local_steps.specs.Numbers.{own_number};
 ghost use Rattle.thread_local_core.specs.WalkFits.{Adds};
-ghost use Rattle.thread_local_core.specs.Core.{Core, new_core, shadow, first_view, peak};
+ghost use Rattle.thread_local_core.specs.Core.{Core, new_core, shadow, peak};
 ghost use Rattle.thread_local_schedule.specs.Events.{Event, TakeId, OfLocal, GiveBack, Forget, BeginWalk, OfWalk, EndWalk, OwnerCall, Owner, ClearTable, is_enabled, happens, run};
 ghost use Rattle.thread_local_schedule.specs.Schedule.{move, is_exclusive, is_of, is_of_walk, IsUnused, is_refused, is_granted_take, newcomer, IsReached, NoneTaken};
 
