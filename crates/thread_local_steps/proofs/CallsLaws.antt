@@ -4,7 +4,7 @@ use Rattle.thread_local_model.specs.Answers.{Get, GetOr, Answer}
 use Rattle.thread_local_model.specs.Learnt.{Learnt, Missing, Vacant, Holding, learnt_by_load, learnt_by_look}
 use Rattle.thread_local_steps.specs.Table.{Table, published, stands}
 use Rattle.thread_local_model.specs.Place.{bucket_of}
-use Rattle.thread_local_steps.specs.Local.{Doing, Gets, Started, Private, Written, Local, after_call, is_calling, doing_with_get, doing_with_get_or, begin_call, learns, load_word, look_at_flag, closure_at_missing, make_bucket, install_bucket, closure_at_vacant, write_value, set_flag, Ending, ending_of, reply, local_step, LocalStep, BeginGet, BeginGetOr, LoadWord, LookAtFlag, MakeBucket, InstallBucket, WriteValue, SetFlag, Reply}
+use Rattle.thread_local_steps.specs.Local.{Doing, Gets, Started, Private, Written, Local, after_call, is_calling, doing_with_get, doing_with_get_or, begin_call, learns, load_word, look_at_flag, closure_at_missing, make_bucket, install_bucket, closure_at_vacant, write_value, set_flag, ending_of, reply, local_step, LocalStep, BeginGet, BeginGetOr, LoadWord, LookAtFlag, MakeBucket, InstallBucket, WriteValue, SetFlag, Reply}
 use Rattle.thread_local_steps.specs.Calls.{gets_of, closure_of, CallsStay, PublishingEnds, CallsGo, GoesOn}
 
 -- a Local that does the same, or goes on with the call that it has begun

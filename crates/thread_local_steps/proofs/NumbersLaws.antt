@@ -4,7 +4,7 @@ use Rattle.std.proofs.lemmas.Bool.{cases_eq, eq-eqb}
 use Rattle.thread_local_model.specs.Place.{bucket_of}
 use Rattle.thread_local_model.specs.Learnt.{Learnt, Missing, Vacant, Holding, learnt_by_load, learnt_by_look}
 use Rattle.thread_local_steps.specs.Table.{Table, Slot, published, stands, with_fresh_bucket, with_slot}
-use Rattle.thread_local_steps.specs.Local.{Doing, Gets, Started, Private, Written, Local, is_calling, doing_with_get, doing_with_get_or, begin_call, learns, load_word, look_at_flag, closure_at_missing, make_bucket, install_bucket, closure_at_vacant, write_value, set_flag, Ending, ending_of, reply, local_step, LocalStep, BeginGet, BeginGetOr, LoadWord, LookAtFlag, MakeBucket, InstallBucket, WriteValue, SetFlag, Reply}
+use Rattle.thread_local_steps.specs.Local.{Doing, Gets, Started, Private, Written, Local, is_calling, doing_with_get, doing_with_get_or, begin_call, learns, load_word, look_at_flag, closure_at_missing, make_bucket, install_bucket, closure_at_vacant, write_value, set_flag, ending_of, reply, local_step, LocalStep, BeginGet, BeginGetOr, LoadWord, LookAtFlag, MakeBucket, InstallBucket, WriteValue, SetFlag, Reply}
 use Rattle.thread_local_steps.specs.Fits.{named}
 use Rattle.thread_local_steps.specs.Numbers.{own_number, NumbersGo}
 use Rattle.thread_local_steps.proofs.TableLaws.{named-made, named-with_fresh_bucket, named-with_slot}

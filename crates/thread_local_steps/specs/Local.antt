@@ -49,8 +49,8 @@ is_calling (Gets (suc count)) = true
 is_calling (Started create) = true
 is_calling doing = false
 
--- Each step below gives what becomes of the table and of the Local. Where a step needs something of what the Local
--- does or has learnt, that is None where the step isn't enabled.
+-- Each step below gives what becomes of the table and of the Local. What it needs of what the Local does and has
+-- learnt is found by the definition before it, which is None where the step isn't enabled.
 
 -- what a Local does once a get has begun, beside any others
 abbrev pub doing_with_get : {V E : Type 0} → Doing V E → Option (Doing V E)
@@ -122,7 +122,7 @@ pub record Ending (V E : Type 0) : Type 0 where
   pub answer : Answer V E
   pub doing : Doing V E
 
--- a get ends so once enough was learnt, and a publishing call that found a value
+-- how a get ends that has learnt enough, and a publishing call that found a value
 abbrev pub ending_of : {V E : Type 0} → Doing V E → Learnt V → Option (Ending V E)
 ending_of (Gets (suc count)) Missing = Some (record { call = Get; answer = Found None; doing = Gets count })
 ending_of (Gets (suc count)) Vacant = Some (record { call = Get; answer = Found None; doing = Gets count })
@@ -130,7 +130,7 @@ ending_of (Gets (suc count)) (Holding v) = Some (record { call = Get; answer = F
 ending_of (Started create) (Holding v) = Some (record { call = GetOr create false; answer = Answered v; doing = Gets 0 })
 ending_of doing learnt = None
 
--- the table as it was, and the Local once its call has ended so
+-- a call ends: the table as it was, and the Local with the call and its answer
 abbrev pub reply : {V E : Type 0} → Table V → Local V E → Ending V E → Table V × Local V E
 reply table local ending = (table, after_call local ending.call ending.answer local.learnt ending.doing)
 
