@@ -2,7 +2,7 @@ use Rattle.std.proofs.Common.{◌≡◌, Bool, true, false, cond, Option, Some, 
 use Rattle.std.specs.Prelude.{option_map, unwrap_or}
 use Rattle.std.proofs.lemmas.Bool.{false≢true}
 use Rattle.thread_local_model.specs.Learnt.{Learnt, Missing}
-use Rattle.thread_local_steps.specs.Local.{Local, Doing, Started, make_bucket}
+use Rattle.thread_local_steps.specs.Local.{Local, Doing, Started, closure_at_missing, make_bucket}
 use Rattle.thread_local_steps.specs.Table.{Table}
 
 -- what is mapped to another value, or is behind a test, is not this one
@@ -28,9 +28,8 @@ pub some_and : {A : Type 0} (o : Option A) (x : A) (P : A → Type 0) → o ≡ 
 some_and o x P e p = subst (λ q. IsSomeAnd q P) (sym e) p
 
 -- a Local that hasn't learnt that its word is empty makes no bucket
-pub makes_none : {V E : Type 0} (table : Table V) (local : Local V E) (refused : Bool) (doing : Doing V E) (learnt : Learnt V) → (learnt ≡ Missing → ⊥) → make_bucket table local refused doing learnt ≡ None
-makes_none table local true (Started create) Missing h = absurd (h refl)
-makes_none table local false (Started create) Missing h = absurd (h refl)
+pub makes_none : {V E : Type 0} (table : Table V) (local : Local V E) (refused : Bool) (doing : Doing V E) (learnt : Learnt V) → (learnt ≡ Missing → ⊥) → option_map (make_bucket table local refused) (closure_at_missing doing learnt) ≡ None
+makes_none table local refused (Started create) Missing h = absurd (h refl)
 makes_none table local refused _ _ h = refl
 
 pub none_enabled : {A : Type 0} (b : Bool) (o : Option A) → o ≡ None → is_some (cond b None o) ≡ false

@@ -2,9 +2,10 @@ use Rattle.std.proofs.Common.{◌≡◌, ℕ, Bool, true, false, cond, Option, S
 use Rattle.std.specs.Prelude.{option_map, unwrap_or}
 use Rattle.std.proofs.lemmas.Option.{none-some}
 use Rattle.std.proofs.lemmas.Bool.{false≢true, eqb-false, cond_both}
+use Rattle.thread_local_model.specs.Cursor.{is_complete}
 use Rattle.thread_local_steps.specs.Table.{Table}
 use Rattle.thread_local_steps.specs.Local.{Local, LocalStep, local_step}
-use Rattle.thread_local_core.specs.SharedWalk.{SharedWalk, fresh_walk, is_complete, WalkStep, Load, Look, walk_step, next_step}
+use Rattle.thread_local_core.specs.SharedWalk.{SharedWalk, fresh_walk, WalkStep, Load, Look, walk_step, next_step}
 use Rattle.thread_local_core.specs.WalkFits.{Adds}
 use Rattle.thread_local_core.proofs.WalkStepLaws.{walk_step-adds}
 use Rattle.thread_local_core.specs.Core.{Core, is_alone}
@@ -127,7 +128,7 @@ adds core n step before h t at =
     (rw at (added core n step (walk_step core.table before step) before (walk_step-adds core.table before step (h.walks.each n before at)) (subst (λ o. IsTrue (is_some (of_walk core n step o))) at (enabled_step core (OfWalk n step) t))))
 
 -- a walk that isn't complete goes on
-loads : {V : Type 0} (table : Table V) (walk : SharedWalk V) (looks : Bool) → walk.looks ≡ looks → is_complete walk ≡ false → IsTrue (is_some (walk_step table walk (cond looks Look Load)))
+loads : {V : Type 0} (table : Table V) (walk : SharedWalk V) (looks : Bool) → walk.cursor.looks ≡ looks → is_complete walk.cursor ≡ false → IsTrue (is_some (walk_step table walk (cond looks Look Load)))
 unfolding walk_step
 loads table walk true e f = rw e refl
 loads table walk false e f = rw e (below _ _ f)
@@ -140,11 +141,11 @@ stepped_on : {V E : Type 0} (core : Core V E) (n : ℕ) (o : Option (SharedWalk 
 stepped_on core n None t = absurd (false≢true t)
 stepped_on core n (Some walk) t = refl
 
-pub goes_on : {V E : Type 0} (core : Core V E) (n : ℕ) (walk : SharedWalk V) → core.ended ≡ false → core.walks n ≡ Some walk → is_complete walk ≡ false
+pub goes_on : {V E : Type 0} (core : Core V E) (n : ℕ) (walk : SharedWalk V) → core.ended ≡ false → core.walks n ≡ Some walk → is_complete walk.cursor ≡ false
     → IsTrue (is_enabled core (OfWalk n (next_step walk)))
 goes_on core n walk going at f =
     may core (OfWalk n (next_step walk)) going
-    (subst (λ o. IsTrue (is_some (of_walk core n (next_step walk) o))) (sym at) (stepped_on core n (walk_step core.table walk (next_step walk)) (loads core.table walk walk.looks refl f)))
+    (subst (λ o. IsTrue (is_some (of_walk core n (next_step walk) o))) (sym at) (stepped_on core n (walk_step core.table walk (next_step walk)) (loads core.table walk walk.cursor.looks refl f)))
 
 -- the end of a walk
 ended : {V E : Type 0} (core : Core V E) (n : ℕ) (o : Option (SharedWalk V)) → IsTrue (is_some (end_walk core n o)) → (unwrap_or (end_walk core n o) core).walks n ≡ None

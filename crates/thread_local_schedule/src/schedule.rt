@@ -2,10 +2,11 @@ ghost use Rattle.std.specs.Prelude.{◌≡◌, ◌≢◌, ℕ, ◌+◌, ◌-◌,
 ghost use Rattle.std.specs.List.Sorted.{IsStrictlyIncreasing};
 ghost use Rattle.thread_local_model.specs.Held.{is_held, least, HoldsAllBelow};
 ghost use Rattle.thread_local_model.specs.Walk.{walk};
+ghost use Rattle.thread_local_model.specs.Cursor.{is_complete};
 ghost use Rattle.thread_local_model.specs.Sheet.{new_sheet, moved_if, IsAllowed};
 ghost use Rattle.thread_local_model.specs.Answers.{answers, first_view};
 ghost use Rattle.thread_local_steps.specs.Local.{Local, LocalStep};
-ghost use Rattle.thread_local_core.specs.SharedWalk.{SharedWalk, fresh_walk, WalkStep, next_step, is_complete};
+ghost use Rattle.thread_local_core.specs.SharedWalk.{SharedWalk, fresh_walk, WalkStep, next_step};
 ghost use Rattle.thread_local_core.specs.OwnerWalk.{owner_walk};
 ghost use Rattle.thread_local_steps.specs.Fits.{IsWritten, named};
 ghost use Rattle.thread_local_steps.specs.Calls.{HasNoCall, GoesOn};
@@ -145,7 +146,7 @@ pub fn every_walk<V, E>()
         → is_of_walk n event ≡ false
         → core.walks n ≡ Some shared → (happens core event).walks n ≡ Some shared }
     ensures goes_on { (core : Core V E) (n : ℕ) (shared : SharedWalk V)
-        → core.ended ≡ false → core.walks n ≡ Some shared → is_complete shared ≡ false
+        → core.ended ≡ false → core.walks n ≡ Some shared → is_complete shared.cursor ≡ false
         → IsTrue (is_enabled core (OfWalk n (next_step shared))) }
     ensures ends { (core : Core V E) (n : ℕ)
         → IsTrue (is_enabled core (EndWalk n)) → (happens core (EndWalk n)).walks n ≡ None }
@@ -157,7 +158,7 @@ pub fn every_walk<V, E>()
         → IsTrue (is_enabled core (OfWalk n step)) → core.walks n ≡ Some before
         → IsSomeAnd ((happens core (OfWalk n step)).walks n) (Adds core.table step before) }
     ensures complete { (core : Core V E) (n : ℕ) (shared : SharedWalk V) → IsReached core
-        → core.walks n ≡ Some shared → IsTrue (is_complete shared)
+        → core.walks n ≡ Some shared → IsTrue (is_complete shared.cursor)
         → (id : ℕ) (v : V) → shared.first id ≡ Some v → Contains shared.given (id, v) }
     ensures published { (core : Core V E) (n : ℕ) (shared : SharedWalk V) → IsReached core
         → core.walks n ≡ Some shared
