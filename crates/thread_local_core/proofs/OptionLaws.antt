@@ -1,5 +1,5 @@
 use Rattle.std.proofs.Common.{◌≡◌, Bool, true, false, cond, Option, Some, None, IsTrue, refl, ap, is_some, IfSome, IsSomeAnd, sym, subst}
-use Rattle.std.specs.Prelude.{option_map, unwrap_or}
+use Rattle.std.specs.Prelude.{option_map, option_and_then, unwrap_or}
 use Rattle.std.proofs.lemmas.Bool.{false≢true}
 use Rattle.thread_local_model.specs.Learnt.{Learnt, Missing}
 use Rattle.thread_local_steps.specs.Local.{Local, Doing, Started, closure_at_missing, make_bucket}
@@ -44,6 +44,20 @@ if_enabled P false x p = tt
 pub if_mapped : {A B : Type 0} {P : A → Type 0} (Q : B → Type 0) (f : A → B) (o : Option A) → IfSome o P → ((x : A) → P x → Q (f x)) → IfSome (option_map f o) Q
 if_mapped Q f None p h = tt
 if_mapped Q f (Some x) p h = h x p
+
+-- what holds of what is made of a thing that is there
+pub if_there : {A B : Type 0} (Q : B → Type 0) (f : A → B) (o : Option A) → ((x : A) → o ≡ Some x → Q (f x)) → IfSome (option_map f o) Q
+if_there Q f None h = tt
+if_there Q f (Some x) h = h x refl
+
+pub if_then : {A B : Type 0} (Q : B → Type 0) (f : A → Option B) (o : Option A) → ((x : A) → o ≡ Some x → IfSome (f x) Q) → IfSome (option_and_then f o) Q
+if_then Q f None h = tt
+if_then Q f (Some x) h = h x refl
+
+-- where there is one by a test alone, the test holds and it is that one
+pub tested : {A : Type 0} (b : Bool) (x other : A) → IsTrue (is_some (cond b (Some x) None)) → IsTrue b × (unwrap_or (cond b (Some x) None) other ≡ x)
+tested true x other t = (refl, refl)
+tested false x other t = absurd (false≢true t)
 
 pub unwrapped : {A : Type 0} (P : A → Type 0) (o : Option A) (a : A) → IfSome o P → P a → P (unwrap_or o a)
 unwrapped P None a s h = h

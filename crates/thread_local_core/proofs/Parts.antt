@@ -5,7 +5,7 @@ use Rattle.std.proofs.lemmas.Option.{none-some}
 use Rattle.std.proofs.Math.Nat.{two-pow-succ}
 use Rattle.thread_local_model.specs.Place.{bucket_of}
 use Rattle.thread_local_model.specs.Capacity.{binary_digits, is_reserved}
-use Rattle.thread_local_model.specs.Held.{Manager, is_held, least, with_least, without}
+use Rattle.thread_local_model.specs.Held.{Manager, is_held, least, with_least, without, given_to}
 use Rattle.thread_local_model.specs.Answers.{first_view}
 use Rattle.thread_local_steps.specs.Table.{Table, made_table, published}
 use Rattle.thread_local_steps.specs.Local.{Local, fresh_local}
@@ -72,7 +72,7 @@ locals_removed table held capacity locals taken number others unshared none = re
       (cases_eq number n);
 }
 
-pub given-ManagerFits : (manager : Manager) (capacity id : ℕ) → ManagerFits manager capacity → ManagerFits (record manager { held = without manager.held id }) capacity
+pub given-ManagerFits : (manager : Manager) (capacity id : ℕ) → ManagerFits manager capacity → ManagerFits (given_to manager id) capacity
 given-ManagerFits manager capacity id h =
     let same = ids.length-without manager.held id in
     record { peak_room = omega (arith, h.peak_room); capacity_room = h.capacity_room; peak_ids = omega (arith, h.peak_ids); capacity_ids = h.capacity_ids }

@@ -14,7 +14,7 @@ ghost use Rattle.thread_local_steps.specs.Numbers.{own_number};
 ghost use Rattle.thread_local_core.specs.WalkFits.{Adds};
 ghost use Rattle.thread_local_core.specs.Core.{Core, new_core, shadow, peak};
 ghost use Rattle.thread_local_schedule.specs.Events.{Event, TakeId, OfLocal, GiveBack, Forget, BeginWalk, OfWalk, EndWalk, OwnerCall, Owner, ClearTable, is_enabled, happens, run};
-ghost use Rattle.thread_local_schedule.specs.Schedule.{move, is_exclusive, is_of, is_of_walk, IsUnused, is_refused, is_granted_take, newcomer, IsReached, NoneTaken};
+ghost use Rattle.thread_local_schedule.specs.Schedule.{move, is_exclusive, is_of, is_of_walk, IsAlone, is_refused, is_granted_take, newcomer, IsReached, NoneTaken};
 
 /// What holds of a table over every schedule of atomic steps, from a table of `new` and from one of each capacity
 /// below 2^63: each `Local` gets the least id not held; a slot's first published value stays until an owner has
@@ -37,9 +37,9 @@ pub fn every_schedule<V, E>()
     ensures walks_begin { (core : Core V E)
         → core.ended ≡ false → IsTrue (is_enabled core BeginWalk) }
     ensures alone { (core : Core V E) (call : OwnerCall V) → IsReached core
-        → IsTrue (is_enabled core (Owner call)) → IsUnused core }
+        → IsTrue (is_enabled core (Owner call)) → IsAlone core }
     ensures owners_call { (core : Core V E) (call : OwnerCall V)
-        → core.ended ≡ false → IsUnused core → IsTrue (is_enabled core (Owner call)) }
+        → core.ended ≡ false → IsAlone core → IsTrue (is_enabled core (Owner call)) }
 
     // A Local gives its id back, or is forgotten, just where no call of it is under way. Then it lives no longer, and
     // the id of a forgotten one is held still.
