@@ -5,7 +5,7 @@ use Rattle.std.proofs.lemmas.Option.{none-some}
 use Rattle.std.proofs.Math.Nat.{two-pow-succ}
 use Rattle.thread_local_model.specs.Place.{bucket_of}
 use Rattle.thread_local_model.specs.Capacity.{binary_digits, is_reserved}
-use Rattle.thread_local_model.specs.Held.{Manager, is_held, least, with_least, without, given_to}
+use Rattle.thread_local_model.specs.Held.{Manager, is_held, least, with_least, given_to}
 use Rattle.thread_local_model.specs.Answers.{first_view}
 use Rattle.thread_local_steps.specs.Table.{Table, made_table, published}
 use Rattle.thread_local_steps.specs.Local.{Local, fresh_local}

@@ -4,7 +4,7 @@ use Rattle.std.proofs.lemmas.Option.{none-some}
 use Rattle.std.proofs.lemmas.Bool.{false≢true, eqb-false, cond_both}
 use Rattle.thread_local_model.specs.Cursor.{is_complete}
 use Rattle.thread_local_steps.specs.Table.{Table}
-use Rattle.thread_local_steps.specs.Local.{Local, LocalStep, local_step}
+use Rattle.thread_local_steps.specs.Local.{LocalStep, local_step}
 use Rattle.thread_local_core.specs.SharedWalk.{SharedWalk, fresh_walk, WalkStep, Load, Look, walk_step, next_step}
 use Rattle.thread_local_core.specs.WalkFits.{Adds}
 use Rattle.thread_local_core.proofs.WalkStepLaws.{walk_step-adds}

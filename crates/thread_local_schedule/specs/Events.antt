@@ -1,5 +1,5 @@
-use Rattle.std.specs.Prelude.{ℕ, zero, suc, ◌+◌, ◌-◌, ◌^◌, max, Bool, true, false, not, ◌&&◌, List, [], ◌∷◌, length, Option, Some, None, is_some, option_map, unwrap_or, ◌==◌, if◌then◌else◌, option_and_then}
-use Rattle.thread_local_model.specs.Held.{Manager, least, with_least, without, is_granted, taken_from, given_to}
+use Rattle.std.specs.Prelude.{ℕ, zero, suc, Bool, true, false, List, [], ◌∷◌, Option, Some, None, is_some, option_map, option_and_then, unwrap_or, if◌then◌else◌}
+use Rattle.thread_local_model.specs.Held.{least, is_granted, taken_from, given_to}
 use Rattle.thread_local_model.specs.Answers.{first_view}
 use Rattle.thread_local_steps.specs.Local.{Doing, Gets, Local, fresh_local, LocalStep, local_step}
 use Rattle.thread_local_steps.specs.Table.{Table}
