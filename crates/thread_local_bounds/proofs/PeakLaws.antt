@@ -53,7 +53,7 @@ slots_of_new events = omega (arith, slots_of_capacity 0 0 events (omega arith))
 within : (manager : Manager) (capacity : ℕ) (refused : Bool) → ManagerFits manager capacity → held_count manager.held < capacity → is_granted manager refused ≡ true
 within manager capacity refused h l =
     let low = least-le-held_count manager.held in
-    rw (ne_eqb (least manager.held) (2 ^ 63 - 1) (λ e. omega (arith, h.capacity_ids)), ne_eqb (least manager.held) manager.room (λ e. omega (arith, h.capacity_room))) refl
+    rw (ne_eqb (least manager.held) (2 ^ 63 - 1) (λ e. omega (arith, h.capacity_ids)), ne_eqb (least manager.held) manager.room (λ e. omega (arith, h.capacity_room)), and_right refused false refl) refl
 
 pub within_capacity : {V E : Type 0} (core : Core V E) (refused : Bool) (growth : ℕ) → CoreFits core → held_count (shadow core).held < (shadow core).capacity
     → is_refused core (TakeId refused growth) ≡ false

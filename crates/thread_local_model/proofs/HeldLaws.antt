@@ -1,6 +1,6 @@
 use Rattle.std.proofs.Common.{◌≡◌, ℕ, zero, suc, ◌+◌, ◌-◌, ◌^◌, ◌<◌, ◌≤◌, max, ap, ◌∙◌, Bool, true, false, not, ◌&&◌, cond, List, [], ◌∷◌, length, refl, arith, eqb, IsTrue, ⊎_elim}
 use Rattle.std.proofs.Math.Dec.{eqb-suc-suc}
-use Rattle.std.proofs.lemmas.Bool.{ne_eqb, eq-eqb, eqb-true, eqb-false, cond_both, cases_lt, both_ways, and_right}
+use Rattle.std.proofs.lemmas.Bool.{ne_eqb, eq-eqb, eqb-true, eqb-false, cond_both, cases_lt, both_ways}
 use Rattle.std.proofs.lemmas.Bool.Decides.{nat_tests}
 use Rattle.std.proofs.lemmas.Grind.{common_steps}
 use Rattle.thread_local_model.specs.Held.{is_held, least, with_least, without, held_count, HoldsAllBelow, Manager, is_exhausted, is_full, is_granted, taken_from, given_to, Takes, Gives, NeedsMemory, IsExhausted}
@@ -115,26 +115,19 @@ least_above held n full =
 pub takes-granted : (old new : Manager) (id : ℕ) → Takes old new id → IsTrue (is_granted old false)
 takes-granted old new id taken =
     let low = taken.in_range in
-    rw (ne_eqb (least old.held) (2 ^ 63 - 1) (λ same. omega (arith, taken.least)), and_right (is_full old) false refl) refl
+    rw (ne_eqb (least old.held) (2 ^ 63 - 1) (λ same. omega (arith, taken.least))) refl
 
 -- with memory a take is refused where all ids are held, and without it also where the room is full
-no_ids : (exhausted full : Bool) → (not exhausted && not (full && false)) ≡ false → exhausted ≡ true
-no_ids true full none = refl
-no_ids false true none = cc
-no_ids false false none = cc
+no_ids : (exhausted : Bool) → (not exhausted && true) ≡ false → exhausted ≡ true
+no_ids true none = refl
+no_ids false none = cc
 
-no_memory : (exhausted full : Bool) → IsTrue (not exhausted && not (full && false)) → (not exhausted && not (full && true)) ≡ false → (exhausted ≡ false) × (full ≡ true)
+no_memory : (exhausted full : Bool) → IsTrue (not exhausted && true) → (not exhausted && not full) ≡ false → (exhausted ≡ false) × (full ≡ true)
 no_memory true full some none = cc
 no_memory false true some none = (refl, refl)
 no_memory false false some none = cc
 
 -- the next id needs memory just where a take is granted with memory and not without it
-pub needs-refused : (manager : Manager) → length manager.held ≤ manager.room → NeedsMemory manager → IsTrue (is_granted manager false) × (is_granted manager true ≡ false)
-needs-refused manager within needs =
-    let top : least manager.held ≡ length manager.held = omega (arith, least_bounded manager.held, least_above manager.held (length manager.held) needs.full) in
-    let room : least manager.held ≡ manager.room = omega (arith, needs.no_room) in
-    rw (ne_eqb (least manager.held) (2 ^ 63 - 1) (λ same. omega (arith, needs.in_range)), eq-eqb (least manager.held) manager.room room) (refl, refl)
-
 pub refused-needs : (manager : Manager) → length manager.held ≤ manager.room → manager.room ≤ 2 ^ 63 - 1
     → IsTrue (is_granted manager false) × (is_granted manager true ≡ false) → NeedsMemory manager
 refused-needs manager within range refused =
@@ -143,6 +136,12 @@ refused-needs manager within range refused =
     let left = eqb-false (least manager.held) (2 ^ 63 - 1) parts.0 in
     let room = eqb-true (least manager.held) manager.room parts.1 in
     record { full = λ id below. least_lower manager.held id (omega arith); no_room = omega arith; in_range = omega arith }
+
+pub needs-refused : (manager : Manager) → length manager.held ≤ manager.room → NeedsMemory manager → IsTrue (is_granted manager false) × (is_granted manager true ≡ false)
+needs-refused manager within needs =
+    let top : least manager.held ≡ length manager.held = omega (arith, least_bounded manager.held, least_above manager.held (length manager.held) needs.full) in
+    let room : least manager.held ≡ manager.room = omega (arith, needs.no_room) in
+    rw (ne_eqb (least manager.held) (2 ^ 63 - 1) (λ same. omega (arith, needs.in_range)), eq-eqb (least manager.held) manager.room room) (refl, refl)
 
 -- no id is left just where a take isn't granted with memory
 pub exhausted-refused : (manager : Manager) → IsExhausted manager → is_granted manager false ≡ false
@@ -153,5 +152,5 @@ exhausted-refused manager none =
 pub refused-exhausted : (manager : Manager) → length manager.held ≤ manager.room → manager.room ≤ 2 ^ 63 - 1 → is_granted manager false ≡ false → IsExhausted manager
 refused-exhausted manager within range refused =
     let low = least_bounded manager.held in
-    let top = eqb-true (least manager.held) (2 ^ 63 - 1) (no_ids (is_exhausted manager) (is_full manager) refused) in
+    let top = eqb-true (least manager.held) (2 ^ 63 - 1) (no_ids (is_exhausted manager) refused) in
     record { full = λ id below. least_lower manager.held id (omega arith); peak = omega arith; room = omega arith }

@@ -46,7 +46,7 @@ is_full manager = least manager.held == manager.room
 
 -- whether a take gets an id, by whether memory is refused
 abbrev pub is_granted : Manager → Bool → Bool
-is_granted manager refused = not (is_exhausted manager) && not (is_full manager && refused)
+is_granted manager refused = not (is_exhausted manager) && not (refused && is_full manager)
 
 -- the manager once the least id that wasn't held is, and room has grown as far as is needed and this much more
 abbrev pub taken_from : Manager → ℕ → Manager
@@ -56,8 +56,8 @@ taken_from manager growth = record { held = with_least manager.held; room = max 
 abbrev pub given_to : Manager → ℕ → Manager
 given_to manager id = record manager { held = without manager.held id }
 
--- What taking an id makes of a manager. The id is the least that wasn't held, and is held from now on; no other id changes. The peak
--- grows by one where every id below it was held, and the room doesn't fall.
+-- What taking an id makes of a manager: what is taken from it, by some growth. So the id is the least that wasn't held, and is held from
+-- now on; no other id changes. The peak grows by one where every id below it was held, and the room doesn't fall.
 pub record Takes (old new : Manager) (id : ℕ) : Type 0 where
   pub least : id ≡ least old.held
   pub in_range : id < 2 ^ 63 - 1

@@ -14,15 +14,15 @@ not_granted manager refused room none =
     ⊎_elim
     (λ all. let e = eqb-true (least manager.held) (2 ^ 63 - 1) (not-false (is_exhausted manager) all) in inl (subst (λ n. HoldsAllBelow n manager.held) e lower))
     (λ some.
-    let both = and_parts (is_full manager) refused (not-false (is_full manager && refused) some) in
-    let e = eqb-true (least manager.held) manager.room both.0 in
+    let both = and_parts refused (is_full manager) (not-false (refused && is_full manager) some) in
+    let e = eqb-true (least manager.held) manager.room both.1 in
     let top : least manager.held ≡ length manager.held = omega arith in
-    inr (subst (λ n. HoldsAllBelow n manager.held) top lower, omega arith, both.1))
-    (and_cases (not (is_exhausted manager)) (not (is_full manager && refused)) none)
+    inr (subst (λ n. HoldsAllBelow n manager.held) top lower, omega arith, both.0))
+    (and_cases (not (is_exhausted manager)) (not (refused && is_full manager)) none)
 
 -- a take that is granted finds an id that isn't held
 pub granted_some : (manager : Manager) (refused : Bool) → IsTrue (is_granted manager refused) → is_exhausted manager ≡ false
-granted_some manager refused t = not-true (is_exhausted manager) (and_parts (not (is_exhausted manager)) (not (is_full manager && refused)) t).0
+granted_some manager refused t = not-true (is_exhausted manager) (and_parts (not (is_exhausted manager)) (not (refused && is_full manager)) t).0
 
 -- the manager's part once an id is taken, or given back
 pub taken-ManagerFits : (manager : Manager) (capacity growth : ℕ) → is_exhausted manager ≡ false → ManagerFits manager capacity → ManagerFits (taken_from manager growth) capacity
