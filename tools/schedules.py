@@ -686,6 +686,10 @@ def more_wrong_bodies():
     def beside_locals(core):
         return not walking(core)
 
+    def leaves_open(core, call):
+        after = right["owner_call"](core, call)
+        return core if after is not None and call == ("IntoIter",) else after
+
     def restarts_walks(core, number, step):
         after = right["local_step"](core, number, step)
         return after if after is None else replace(after, walks=tuple(it and model.Walk() for it in after.walks))
@@ -761,6 +765,7 @@ def more_wrong_bodies():
         "clear comes while a walk runs": owner_beside(["ClearTable"], beside_walks),
         "clear comes while Locals live": owner_beside(["ClearTable"], beside_locals),
         "iter_mut and the drop come while Locals live": owner_beside(["IterMut", "DropTable"], beside_locals),
+        "into_iter leaves the table open": {"owner_call": leaves_open},
         "a Local's step restarts every walk": {"local_step": restarts_walks},
         "a Local's step ends the table": {"local_step": ends_table},
         "later walks begin complete": {"begin_walk": begins_complete},

@@ -327,8 +327,8 @@ def make_bucket(table, local, refused):
 
 
 def install_bucket(table, local):
-    match local.doing:
-        case ("Private", create, number):
+    match local.doing, local.learnt:
+        case ("Private", create, number), ("Missing",):
             b = bucket_of(local.id)
             after = table if stands(table, b) else with_word(table, b, fresh_bucket(b, number))
             return after, replace(local, learnt=("Vacant",), doing=("Started", create))
@@ -344,8 +344,8 @@ def write_value(table, local):
 
 
 def set_flag(table, local):
-    match local.doing:
-        case ("Written", value):
+    match local.doing, local.learnt:
+        case ("Written", value), ("Vacant",):
             slot = replace(slot_at(table, local.id), flag=True)
             call = ("GetOr", ("Ok", value), False)
             return with_slot(table, local.id, slot), ended_call(local, call, ("Answered", value), ("Holding", value), ("Gets", 0))

@@ -4,7 +4,8 @@ use Rattle.thread_local_model.specs.Capacity.{binary_digits, reserved_slots}
 use Rattle.thread_local_model.specs.Buckets.{slots, slots_below}
 use Rattle.thread_local_steps.specs.Table.{slot_at, published, stands, with_fresh_bucket, with_slot, made_table}
 use Rattle.thread_local_steps.specs.Local.{local_step}
-use Rattle.thread_local_core.specs.SharedWalk.{walk_step, is_complete}
+use Rattle.thread_local_model.specs.Cursor.{is_complete}
+use Rattle.thread_local_core.specs.SharedWalk.{walk_step}
 use Rattle.thread_local_core.specs.OwnerWalk.{owner_walk, owner_walk_below}
 use Rattle.thread_local_model.specs.Walk.{walk_below}
 use Rattle.thread_local_model.specs.Answers.{Found, Answered}
@@ -22,7 +23,7 @@ module _ (T F : Type 0) (a b c d : T) where
   unfolding by_steps
   first_slots = refl
 
-  pub walk_gives : IsSomeAnd ((after_walking {V = T} {E = F} a b c d).walks 0) (λ walk. IsTrue (is_complete walk) × (walk.given ≡ (0, a) ∷ (1, b) ∷ (2, c) ∷ (3, d) ∷ []))
+  pub walk_gives : IsSomeAnd ((after_walking {V = T} {E = F} a b c d).walks 0) (λ walk. IsTrue (is_complete walk.cursor) × (walk.given ≡ (0, a) ∷ (1, b) ∷ (2, c) ∷ (3, d) ∷ []))
   unfolding by_steps
   walk_gives = (refl, refl)
 

@@ -1,12 +1,12 @@
 use Rattle.std.proofs.Common.{◌≡◌, ℕ, ◌-◌, ◌*◌, ◌^◌, ◌<◌, ◌≤◌, Bool, false, List, [], ◌∷◌, length, Option, Some, None, IsTrue, refl, ap, ◌∙◌, arith, ⊎_elim}
 use Rattle.std.proofs.lemmas.Bool.{cases_Bool, cond_both, lt-ltb, and_left, and_right}
-use Rattle.thread_local_model.specs.Held.{held_count}
+use Rattle.thread_local_model.specs.Held.{held_count, is_granted}
 use Rattle.thread_local_model.specs.Sheet.{Move, Take, Give, Publish, Clear}
 use Rattle.thread_local_model.specs.Capacity.{reserved_slots}
 use Rattle.thread_local_steps.specs.Local.{Local, LocalStep, MakeBucket}
 use Rattle.thread_local_steps.specs.Fits.{value_set}
 use Rattle.thread_local_core.specs.Core.{Core, made_core, new_core, shadow, installed_slots, peak}
-use Rattle.thread_local_schedule.specs.Events.{Event, TakeId, OfLocal, GiveBack, Owner, IterMut, ClearTable, is_granted, step_of, step, is_enabled, happens, run}
+use Rattle.thread_local_schedule.specs.Events.{Event, TakeId, OfLocal, GiveBack, Owner, IterMut, ClearTable, step_of, step, is_enabled, happens, run}
 use Rattle.thread_local_schedule.specs.Schedule.{publishing, move, move_of, is_take, is_clear, refuses, is_refused}
 use Rattle.thread_local_core.proofs.HeldCounts.{held_below}
 use Rattle.thread_local_core.specs.CoreFits.{CoreFits}

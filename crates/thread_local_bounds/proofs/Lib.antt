@@ -1,5 +1,4 @@
 pub mod PeakLaws
 pub mod Headline
-pub mod Open
 pub mod FourLocals
 pub mod FourValues

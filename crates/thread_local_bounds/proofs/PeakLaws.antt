@@ -1,13 +1,13 @@
 use Rattle.std.proofs.Common.{◌≡◌, ℕ, ◌-◌, ◌*◌, ◌^◌, ◌<◌, ◌≤◌, max, Bool, true, false, ◌&&◌, cond, List, [], ◌∷◌, Some, IsTrue, refl, ap, ◌∙◌, subst, arith}
-use Rattle.std.specs.Prelude.{Contains}
+use Rattle.std.specs.Prelude.{◌≢◌, Contains}
 use Rattle.std.proofs.lemmas.Bool.{and_left, and_right, ne_eqb}
-use Rattle.thread_local_model.specs.Held.{least, held_count, Manager}
+use Rattle.thread_local_model.specs.Held.{Manager, least, held_count, is_granted}
 use Rattle.thread_local_model.specs.Capacity.{is_reserved}
-use Rattle.thread_local_model.specs.Answers.{Refused}
+use Rattle.thread_local_model.specs.Answers.{Answer, Refused, answers}
 use Rattle.thread_local_model.proofs.AnswersLaws.{none_refused}
 use Rattle.thread_local_steps.specs.Local.{Local, MakeBucket, local_step}
 use Rattle.thread_local_core.specs.Core.{Core, made_core, new_core, shadow, installed_slots, peak}
-use Rattle.thread_local_schedule.specs.Events.{Event, TakeId, OfLocal, is_granted, step_of, step, is_enabled, happens, run}
+use Rattle.thread_local_schedule.specs.Events.{Event, TakeId, OfLocal, step_of, step, is_enabled, happens, run}
 use Rattle.thread_local_schedule.specs.Schedule.{move, is_clear, is_refused}
 use Rattle.thread_local_core.specs.CoreFits.{CoreFits, ManagerFits}
 use Rattle.thread_local_schedule.proofs.Kept.{happens-fits, run-fits}
@@ -53,7 +53,7 @@ slots_of_new events = omega (arith, slots_of_capacity 0 0 events (omega arith))
 within : (manager : Manager) (capacity : ℕ) (refused : Bool) → ManagerFits manager capacity → held_count manager.held < capacity → is_granted manager refused ≡ true
 within manager capacity refused h l =
     let low = least-le-held_count manager.held in
-    rw (ne_eqb (least manager.held) (2 ^ 63 - 1) (λ e. omega (arith, h.capacity_ids)), ne_eqb (least manager.held) manager.room (λ e. omega (arith, h.capacity_room))) refl
+    rw (ne_eqb (least manager.held) (2 ^ 63 - 1) (λ e. omega (arith, h.capacity_ids)), ne_eqb (least manager.held) manager.room (λ e. omega (arith, h.capacity_room)), and_right refused false refl) refl
 
 pub within_capacity : {V E : Type 0} (core : Core V E) (refused : Bool) (growth : ℕ) → CoreFits core → held_count (shadow core).held < (shadow core).capacity
     → is_refused core (TakeId refused growth) ≡ false
@@ -69,8 +69,9 @@ pub reserved : {V E : Type 0} (core : Core V E) (n : ℕ) (local : Local V E) (r
     → is_refused core (OfLocal n (MakeBucket refused)) ≡ false
 reserved core n local refused h at here = and_left (is_enabled core (OfLocal n (MakeBucket refused))) refused (reserved_idle core n local refused h at here)
 
-pub reserved_answers : {V E : Type 0} (core : Core V E) (n : ℕ) (local : Local V E) → CoreFits core → core.locals n ≡ Some local → IsTrue (is_reserved core.capacity local.id)
-    → Contains local.answered Refused → ⊥
-reserved_answers core n local h at here c =
+pub reserved_answers : {V E : Type 0} (core : Core V E) (n : ℕ) (local : Local V E) (told : Answer V E) → CoreFits core → core.locals n ≡ Some local → IsTrue (is_reserved core.capacity local.id)
+    → Contains local.answered told → told ≢ Refused
+reserved_answers core n local told h at here c refused =
     let live = h.locals.each n local at in
-    none_refused local.start local.calls (live.known here) (subst (λ told. Contains told Refused) live.local_fits.answered c)
+    none_refused local.start local.calls (live.known here)
+    (subst (λ answer. Contains (answers local.start local.calls) answer) refused (subst (λ all. Contains all told) live.local_fits.answered c))

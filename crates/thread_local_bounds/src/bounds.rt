@@ -1,8 +1,8 @@
-ghost use Rattle.std.specs.Prelude.{◌≡◌, ℕ, ◌-◌, ◌*◌, ◌^◌, ◌<◌, ◌≤◌, max, Bool, false, List, length, Contains, Some, IsTrue};
+ghost use Rattle.std.specs.Prelude.{◌≡◌, ◌≢◌, ℕ, ◌-◌, ◌*◌, ◌^◌, ◌<◌, ◌≤◌, max, Bool, false, List, length, Contains, Some, IsTrue};
 ghost use Rattle.thread_local_model.specs.Held.{held_count};
 ghost use Rattle.thread_local_model.specs.Walk.{walk};
 ghost use Rattle.thread_local_model.specs.Capacity.{is_reserved};
-ghost use Rattle.thread_local_model.specs.Answers.{Refused};
+ghost use Rattle.thread_local_model.specs.Answers.{Answer, Refused};
 ghost use Rattle.thread_local_steps.specs.Local.{Local, MakeBucket};
 ghost use Rattle.thread_local_core.specs.Core.{Core, made_core, new_core, shadow, installed_slots, peak, private_slots};
 ghost use Rattle.thread_local_schedule.specs.Events.{Event, TakeId, OfLocal, run};
@@ -42,9 +42,9 @@ pub fn every_bound<V, E>()
     ensures reserved { (core : Core V E) (n : ℕ) (local : Local V E) (refused : Bool) → IsReached core
         → core.locals n ≡ Some local → IsTrue (is_reserved (shadow core).capacity local.id)
         → is_refused core (OfLocal n (MakeBucket refused)) ≡ false }
-    ensures reserved_answers { (core : Core V E) (n : ℕ) (local : Local V E) → IsReached core
+    ensures reserved_answers { (core : Core V E) (n : ℕ) (local : Local V E) (told : Answer V E) → IsReached core
         → core.locals n ≡ Some local → IsTrue (is_reserved (shadow core).capacity local.id)
-        → Contains local.answered Refused → ⊥ }
+        → Contains local.answered told → told ≢ Refused }
 
     // Where each take comes while fewer than p ids are held, a table from `new` has installed at most 2p - 1 slots,
     // and one of a capacity of p or more that is never cleared refuses nothing.

@@ -1,4 +1,4 @@
-//! Theorems on what bounds a table's model over every schedule of atomic steps, and on what ends it; and one schedule from `new` to `clear`,
+//! Theorems on what bounds a table's model over every schedule of atomic steps; and one schedule from `new` to `clear`,
 //! in which the events that the theorems speak of do come.
 //!
 //! Each function here has an empty body: its contract is a set of theorems, for every list of events, from a table
@@ -6,9 +6,7 @@
 #![tactic(auto)]
 
 pub mod bounds;
-pub mod ends;
 pub mod story;
 
 pub use bounds::every_bound;
-pub use ends::every_end;
 pub use story::four_locals;

@@ -1,7 +1,7 @@
 ghost use Rattle.std.specs.Prelude.{◌≡◌, ℕ, [], ◌∷◌, Some, slice_get, IsTrue, IsSomeAnd};
 ghost use Rattle.thread_local_model.specs.Sheet.{new_sheet};
 ghost use Rattle.thread_local_model.specs.Answers.{Found, Answered};
-ghost use Rattle.thread_local_core.specs.SharedWalk.{is_complete};
+ghost use Rattle.thread_local_model.specs.Cursor.{is_complete};
 ghost use Rattle.thread_local_core.specs.OwnerWalk.{owner_walk};
 ghost use Rattle.thread_local_core.specs.Core.{shadow, installed_slots};
 ghost use Rattle.thread_local_schedule.specs.Events.{Owner, IterMut, ClearTable, is_enabled, happens};
@@ -14,7 +14,7 @@ pub fn four_locals<V, E>()
         → (shadow (after_publishing {E = E} a b c d)).values ≡ slice_get (a ∷ b ∷ c ∷ d ∷ []) }
     ensures seven_slots { (a b c d : V) → installed_slots (after_publishing {E = E} a b c d) ≡ 7 }
     ensures walk_of_four { (a b c d : V) → IsSomeAnd ((after_walking {E = E} a b c d).walks 0)
-        (λ shared. IsTrue (is_complete shared) × (shared.given ≡ (0, a) ∷ (1, b) ∷ (2, c) ∷ (3, d) ∷ [])) }
+        (λ shared. IsTrue (is_complete shared.cursor) × (shared.given ≡ (0, a) ∷ (1, b) ∷ (2, c) ∷ (3, d) ∷ [])) }
     ensures next_of_four { (a b c d : V) → IsSomeAnd ((after_next {E = E} a b c d).locals 4)
         (λ local. (local.id ≡ 0) × (local.start.value ≡ Some a)
         × (local.answered ≡ Found (Some a) ∷ Answered a ∷ [])) }

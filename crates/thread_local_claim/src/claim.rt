@@ -1,6 +1,6 @@
 //! Claims of slots.
-ghost use Rattle.std.specs.Prelude.{◌≡◌, ◌≢◌, ◌-◌, ◌^◌, ◌<◌, ◌⊎◌, true, MatchBool, MatchOption};
-ghost use Rattle.thread_local_model.specs.Learnt.{Missing, Vacant, Holding};
+ghost use Rattle.std.specs.Prelude.{◌≡◌, ◌≢◌, ◌-◌, ◌^◌, ◌<◌, ◌⊎◌, true, Some, MatchBool, MatchOption};
+ghost use Rattle.thread_local_model.specs.Learnt.{Unknown, Missing, Vacant, Holding, Finds, learnt_by_install, learnt_by_publish};
 ghost use Rattle.thread_local_model.specs.Place.{bucket_of};
 ghost use Rattle.thread_local_claim_logic.specs.Known.{IsKnown};
 
@@ -41,6 +41,7 @@ impl<'a, T> Claim<'a, T> {
         requires table { held.right.table ≡ word.now.table }
         requires bucket { bucket_of held.id ≡ word.now.bucket }
         ensures right { (result.table ≡ held.right.table) × (result.id ≡ held.id) }
+        ensures found { Finds Unknown result.learnt }
         ensures learnt { IsKnown result.learnt }
         ensures reserved { (result.reserved ≡ word.now.reserved) × (result.reserved ≡ true → result.learnt ≢ Missing) }
     {
@@ -56,6 +57,7 @@ impl<'a, T> Claim<'a, T> {
     pub fn again(&mut self)
         requires { self.old.learnt ≡ Missing }
         ensures right { (self.new.table ≡ self.old.table) × (self.new.id ≡ self.old.id) }
+        ensures found { Finds self.old.learnt self.new.learnt }
         ensures learnt { (self.new.learnt ≡ Missing) ⊎ (self.new.learnt ≡ Vacant) }
         ensures reserved { (self.new.reserved ≡ self.old.reserved) × (self.new.reserved ≡ true → self.new.learnt ≡ Vacant) }
     {
@@ -68,7 +70,7 @@ impl<'a, T> Claim<'a, T> {
         requires missing { self.old.learnt ≡ Missing }
         requires bucket { private.bucket ≡ bucket_of self.old.id }
         ensures right { (self.new.table ≡ self.old.table) × (self.new.id ≡ self.old.id) }
-        ensures learnt { self.new.learnt ≡ Vacant }
+        ensures learnt { learnt_by_install self.old.learnt ≡ Some self.new.learnt }
         ensures reserved { self.new.reserved ≡ self.old.reserved }
     {
         replace_with(&mut self.slot, private, installed)
@@ -78,7 +80,7 @@ impl<'a, T> Claim<'a, T> {
     pub fn publish(&mut self, value: T)
         requires { self.old.learnt ≡ Vacant }
         ensures right { (self.new.table ≡ self.old.table) × (self.new.id ≡ self.old.id) }
-        ensures learnt { self.new.learnt ≡ Holding value }
+        ensures learnt { learnt_by_publish self.old.learnt value ≡ Some self.new.learnt }
         ensures reserved { self.new.reserved ≡ self.old.reserved }
     {
         replace_with(&mut self.slot, value, published)
@@ -138,6 +140,7 @@ impl<'a, T: Sync> Claim<'a, T> {
 fn found_again<'a, T>(slot: ClaimedSlot<'a, T>, _: ()) -> (ClaimedSlot<'a, T>, ())
     requires { slot.learnt ≡ Missing }
     ensures right { (result.0.table ≡ slot.entry.table) × (result.0.id ≡ slot.entry.id) }
+    ensures found { Finds slot.entry.learnt result.0.learnt }
     ensures learnt { (result.0.learnt ≡ Missing) ⊎ (result.0.learnt ≡ Vacant) }
     ensures known { IsKnown result.0.learnt }
     ensures reserved { (result.0.reserved ≡ slot.entry.reserved) × (result.0.reserved ≡ true → result.0.learnt ≢ Missing) }

@@ -1,7 +1,7 @@
 //! Slots that are claimed, as they lie.
 ghost use Rattle.std.specs.Prelude.{◌≡◌, ◌≢◌, ◌<◌, ◌^◌, ◌⊎◌, ℕ, Bool, true, is_some};
 ghost use base.Stored.{coded_bool};
-ghost use Rattle.thread_local_model.specs.Learnt.{Learnt, learnt_coded, Unknown, Missing, Vacant, Holding};
+ghost use Rattle.thread_local_model.specs.Learnt.{Learnt, learnt_coded, Unknown, Missing, Vacant, Holding, Finds};
 ghost use Rattle.thread_local_model.specs.Place.{id_at};
 ghost use Rattle.thread_local_claim_logic.specs.Known.{IsKnown, IsUnfound, is_found, value_held};
 ghost use Rattle.thread_local_claim_logic.specs.Claims.{place_of, claim_owns, claim_shares};
@@ -71,6 +71,7 @@ impl<'a, T> ClaimedSlot<'a, T> {
         ensures known { IsKnown result.learnt }
         ensures empty { self.entry.learnt ≡ Missing → (result.learnt ≡ Missing) ⊎ (result.learnt ≡ Vacant) }
         ensures reserved { (result.reserved ≡ self.entry.reserved) × (result.reserved ≡ true → result.learnt ≢ Missing) }
+        ensures found { Finds self.entry.learnt result.learnt }
     {
         let Self {
             word,

@@ -1,11 +1,11 @@
 -- What a claim has, by what it has learnt. Assumes `Logic`.
-use Rattle.std.proofs.Common.{◌≡◌, ℕ, true, refl, ap, eqb, Option, None, Some, is_some}
+use Rattle.std.proofs.Common.{◌≡◌, ℕ, true, false, refl, ap, eqb, Option, None, Some, is_some}
 use seplogic.Ra.Ura.{Ura}
 use base.Logic.{ent, id⊢}
 use base.Fml.{Lft, fex}
 use types.Logic.{Logic, sem}
 use denote.RattleType.{RattleType}
-use Rattle.thread_local_model.specs.Learnt.{Learnt, Unknown, Missing, Standing as Stood, Vacant, Holding}
+use Rattle.thread_local_model.specs.Learnt.{Learnt, Unknown, Missing, Standing as Stood, Vacant, Holding, learnt_by_look, Finds}
 use Rattle.thread_local_blocks.specs.Slots.{flag_of}
 use Rattle.thread_local_shared_word_logic.specs.Shared.{WordView, Turn, Standing}
 use Rattle.thread_local_claim_logic.specs.Known.{IsKnown, IsUnfound, in_vain, value_held, found_as}
@@ -18,6 +18,25 @@ known_as (Some x) = tt
 pub not_missing : {X : Type 0} (v : Option X) → found_as v ≡ Missing → ⊥
 not_missing None e = cc
 not_missing (Some x) e = cc
+
+-- a load that finds the word empty, and a look at the slot after one that doesn't, are what a find is
+pub finds_nothing : {X : Type 0} (l : Learnt X) → IsUnfound l → Finds l Missing
+finds_nothing Unknown h = record { stands = false; shown = None; learnt = refl }
+finds_nothing Missing h = record { stands = false; shown = None; learnt = refl }
+finds_nothing Stood h = absurd h
+finds_nothing Vacant h = absurd h
+finds_nothing (Holding x) h = absurd h
+
+looked_at : {X : Type 0} (v : Option X) → learnt_by_look Stood v ≡ Some (found_as v)
+looked_at None = refl
+looked_at (Some x) = refl
+
+pub finds_slot : {X : Type 0} (l : Learnt X) → IsUnfound l → (v : Option X) → Finds l (found_as v)
+finds_slot Unknown h v = record { stands = true; shown = v; learnt = looked_at v }
+finds_slot Missing h v = record { stands = true; shown = v; learnt = looked_at v }
+finds_slot Stood h v = absurd h
+finds_slot Vacant h v = absurd h
+finds_slot (Holding x) h v = absurd h
 
 -- a claim that holds a value has learnt which
 pub holding : {X : Type 0} (l : Learnt X) → is_some (value_held l) ≡ true → (x : X) × (l ≡ Holding x)

@@ -13,7 +13,8 @@ use Rattle.thread_local_model.proofs.AnswersLaws.{known_after_all}
 use Rattle.thread_local_steps.specs.Table.{Table, Bucket, slot_at, slot_of, published, stands, made_table}
 use Rattle.thread_local_model.specs.Learnt.{Missing}
 use Rattle.thread_local_steps.specs.Local.{Local, Doing, Private}
-use Rattle.thread_local_core.specs.SharedWalk.{SharedWalk, is_complete}
+use Rattle.thread_local_model.specs.Cursor.{is_complete}
+use Rattle.thread_local_core.specs.SharedWalk.{SharedWalk}
 use Rattle.thread_local_core.proofs.WalkStepLaws.{complete_cursor}
 use Rattle.thread_local_steps.specs.Fits.{IsWritten, AllWritten, IsLearnt, view_now, with_value_if}
 use Rattle.thread_local_core.specs.Core.{Core, shadow, installed_slots, peak, private_slots}
@@ -72,7 +73,7 @@ never_missing core n local h at reserved e =
     false≢true (sym missing.1 ∙ known_after_all local.start local.calls (live.known reserved))
 
 -- a complete walk has given whatever it saw at first
-pub complete : {V E : Type 0} (core : Core V E) (n : ℕ) (walk : SharedWalk V) → CoreFits core → core.walks n ≡ Some walk → IsTrue (is_complete walk)
+pub complete : {V E : Type 0} (core : Core V E) (n : ℕ) (walk : SharedWalk V) → CoreFits core → core.walks n ≡ Some walk → IsTrue (is_complete walk.cursor)
     → (id : ℕ) (v : V) → walk.first id ≡ Some v → Contains {X = ℕ × V} walk.given (id, v)
 complete core n walk h at done id v e =
     let fits = h.walks.each n walk at in
@@ -84,9 +85,9 @@ pub loads : {V E : Type 0} (core : Core V E) (n : ℕ) (walk : SharedWalk V) →
 loads core n walk h at =
     let fits = h.walks.each n walk at in
     ⊎_elim
-    (λ t. let l = rw t at fits.loads in omega (arith, (fits.looking t).1))
-    (λ f. let l = rw f at fits.loads in omega (arith, fits.buckets))
-    (cases_Bool walk.looks)
+    (λ t. let l = rw t at fits.loads in omega (arith, fits.cursor.looks_in_table t))
+    (λ f. let l = rw f at fits.loads in omega (arith, fits.cursor.in_table))
+    (cases_Bool walk.cursor.looks)
 
 -- what is published moves as a step says
 pub published_moves : {V E : Type 0} (core : Core V E) (table : Table V) (id : ℕ) (set : Option V) → ((j : ℕ) → published table j ≡ with_value_if (published core.table) id set j)

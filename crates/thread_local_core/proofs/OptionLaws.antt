@@ -1,8 +1,8 @@
 use Rattle.std.proofs.Common.{◌≡◌, Bool, true, false, cond, Option, Some, None, IsTrue, refl, ap, is_some, IfSome, IsSomeAnd, sym, subst}
-use Rattle.std.specs.Prelude.{option_map, unwrap_or}
+use Rattle.std.specs.Prelude.{option_map, option_and_then, unwrap_or}
 use Rattle.std.proofs.lemmas.Bool.{false≢true}
 use Rattle.thread_local_model.specs.Learnt.{Learnt, Missing}
-use Rattle.thread_local_steps.specs.Local.{Local, Doing, Started, make_bucket}
+use Rattle.thread_local_steps.specs.Local.{Local, Doing, Started, closure_at_missing, make_bucket}
 use Rattle.thread_local_steps.specs.Table.{Table}
 
 -- what is mapped to another value, or is behind a test, is not this one
@@ -28,9 +28,8 @@ pub some_and : {A : Type 0} (o : Option A) (x : A) (P : A → Type 0) → o ≡ 
 some_and o x P e p = subst (λ q. IsSomeAnd q P) (sym e) p
 
 -- a Local that hasn't learnt that its word is empty makes no bucket
-pub makes_none : {V E : Type 0} (table : Table V) (local : Local V E) (refused : Bool) (doing : Doing V E) (learnt : Learnt V) → (learnt ≡ Missing → ⊥) → make_bucket table local refused doing learnt ≡ None
-makes_none table local true (Started create) Missing h = absurd (h refl)
-makes_none table local false (Started create) Missing h = absurd (h refl)
+pub makes_none : {V E : Type 0} (table : Table V) (local : Local V E) (refused : Bool) (doing : Doing V E) (learnt : Learnt V) → (learnt ≡ Missing → ⊥) → option_map (make_bucket table local refused) (closure_at_missing doing learnt) ≡ None
+makes_none table local refused (Started create) Missing h = absurd (h refl)
 makes_none table local refused _ _ h = refl
 
 pub none_enabled : {A : Type 0} (b : Bool) (o : Option A) → o ≡ None → is_some (cond b None o) ≡ false
@@ -45,6 +44,20 @@ if_enabled P false x p = tt
 pub if_mapped : {A B : Type 0} {P : A → Type 0} (Q : B → Type 0) (f : A → B) (o : Option A) → IfSome o P → ((x : A) → P x → Q (f x)) → IfSome (option_map f o) Q
 if_mapped Q f None p h = tt
 if_mapped Q f (Some x) p h = h x p
+
+-- what holds of what is made of a thing that is there
+pub if_there : {A B : Type 0} (Q : B → Type 0) (f : A → B) (o : Option A) → ((x : A) → o ≡ Some x → Q (f x)) → IfSome (option_map f o) Q
+if_there Q f None h = tt
+if_there Q f (Some x) h = h x refl
+
+pub if_then : {A B : Type 0} (Q : B → Type 0) (f : A → Option B) (o : Option A) → ((x : A) → o ≡ Some x → IfSome (f x) Q) → IfSome (option_and_then f o) Q
+if_then Q f None h = tt
+if_then Q f (Some x) h = h x refl
+
+-- where there is one by a test alone, the test holds and it is that one
+pub tested : {A : Type 0} (b : Bool) (x other : A) → IsTrue (is_some (cond b (Some x) None)) → IsTrue b × (unwrap_or (cond b (Some x) None) other ≡ x)
+tested true x other t = (refl, refl)
+tested false x other t = absurd (false≢true t)
 
 pub unwrapped : {A : Type 0} (P : A → Type 0) (o : Option A) (a : A) → IfSome o P → P a → P (unwrap_or o a)
 unwrapped P None a s h = h

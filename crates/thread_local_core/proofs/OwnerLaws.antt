@@ -8,7 +8,7 @@ use Rattle.thread_local_model.proofs.WalkLaws.{walk_below-same, walk_below-none,
 use Rattle.thread_local_steps.specs.Table.{Bucket, Table, value_of, slot_of, slot_at, published, stands}
 use Rattle.thread_local_core.specs.OwnerWalk.{values_in, owner_walk_below, owner_walk, rewritten_slot, rewritten_bucket, rewritten}
 use Rattle.thread_local_steps.specs.Fits.{IsWritten, AllWritten, named}
-use Rattle.thread_local_core.proofs.WalkStepLaws.{shown_at_cursor}
+use Rattle.thread_local_core.proofs.WalkStepLaws.{shown_at_place}
 
 -- what an owner finds in what a word names is what its slots show, in their order
 values_in-walk_below : {V : Type 0} (word : Option (Bucket V)) (bucket : ℕ) → values_in word bucket ≡ walk_below (λ index. value_of (slot_of word index)) (2 ^ bucket)
@@ -20,7 +20,7 @@ one_bucket : {V : Type 0} (table : Table V) (n : ℕ) → values_in (table.words
 one_bucket table n =
     values_in-walk_below (table.words n) n
     ∙ walk_below-same (λ index. value_of (slot_of (table.words n) index)) (λ i. published table (2 ^ n - 1 + i)) (2 ^ n)
-    (λ i l. sym (shown_at_cursor table n i l) ∙ ap (published table) (add_comm i (2 ^ n - 1)))
+    (λ i l. sym (shown_at_place table n i l) ∙ ap (published table) (add_comm i (2 ^ n - 1)))
 
 -- what an owner finds in the buckets below n is the walk of what is published at theirs
 owner_walk_below-walk_below : {V : Type 0} (table : Table V) (n : ℕ) → owner_walk_below table n ≡ walk_below (published table) (2 ^ n - 1)

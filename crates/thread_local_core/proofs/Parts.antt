@@ -5,7 +5,8 @@ use Rattle.std.proofs.lemmas.Option.{none-some}
 use Rattle.std.proofs.Math.Nat.{two-pow-succ}
 use Rattle.thread_local_model.specs.Place.{bucket_of}
 use Rattle.thread_local_model.specs.Capacity.{binary_digits, is_reserved}
-use Rattle.thread_local_model.specs.Held.{Manager, is_held, least, with_least, without}
+use Rattle.thread_local_model.specs.Held.{Manager, is_held, least, with_least, given_to}
+use Rattle.thread_local_model.specs.Answers.{first_view}
 use Rattle.thread_local_steps.specs.Table.{Table, made_table, published}
 use Rattle.thread_local_steps.specs.Local.{Local, fresh_local}
 use Rattle.thread_local_core.specs.SharedWalk.{SharedWalk}
@@ -16,7 +17,7 @@ use Rattle.thread_local_steps.proofs.TableLaws.{published_stands, slot_at-made_t
 use Rattle.thread_local_steps.proofs.LocalLaws.{other_fits}
 use Rattle.thread_local_core.proofs.WalkStepLaws.{walk_carried}
 use Rattle.thread_local_core.proofs.OwnerLaws.{published-rewritten, AllWritten-rewritten, stands-rewritten}
-use Rattle.thread_local_core.specs.Core.{Core, made_core, shadow, first_view, put, none_below, is_alone, peak}
+use Rattle.thread_local_core.specs.Core.{Core, made_core, shadow, put, none_below, is_alone, peak}
 use Rattle.thread_local_core.proofs.HeldCounts.{held_below}
 use Rattle.thread_local_core.proofs.PutLaws.{put_cases, put_same, put_other, still}
 use Rattle.thread_local_core.proofs.Numbers.{stepped-NumbersFit, made-NumbersFit}
@@ -71,7 +72,7 @@ locals_removed table held capacity locals taken number others unshared none = re
       (cases_eq number n);
 }
 
-pub given-ManagerFits : (manager : Manager) (capacity id : ℕ) → ManagerFits manager capacity → ManagerFits (record manager { held = without manager.held id }) capacity
+pub given-ManagerFits : (manager : Manager) (capacity id : ℕ) → ManagerFits manager capacity → ManagerFits (given_to manager id) capacity
 given-ManagerFits manager capacity id h =
     let same = ids.length-without manager.held id in
     record { peak_room = omega (arith, h.peak_room); capacity_room = h.capacity_room; peak_ids = omega (arith, h.peak_ids); capacity_ids = h.capacity_ids }

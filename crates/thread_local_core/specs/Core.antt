@@ -1,9 +1,7 @@
-use Rattle.std.specs.Prelude.{ℕ, zero, suc, ◌+◌, ◌^◌, length, Bool, true, false, ◌&&◌, ◌||◌, [], Option, None, is_some, is_none, ◌==◌, if◌then◌else◌}
+use Rattle.std.specs.Prelude.{ℕ, zero, suc, ◌+◌, ◌^◌, length, Bool, true, false, ◌&&◌, [], Option, None, is_none, ◌==◌, if◌then◌else◌}
 use Rattle.thread_local_model.specs.Place.{bucket_of}
 use Rattle.thread_local_model.specs.Held.{Manager}
 use Rattle.thread_local_model.specs.Buckets.{slots}
-use Rattle.thread_local_model.specs.Capacity.{is_reserved}
-use Rattle.thread_local_model.specs.Answers.{View}
 use Rattle.thread_local_model.specs.Sheet.{Sheet}
 use Rattle.thread_local_steps.specs.Table.{Table, made_table, published, stands}
 use Rattle.thread_local_steps.specs.Local.{Local, Doing, Private}
@@ -45,11 +43,6 @@ shadow core = record { held = core.manager.held; values = published core.table; 
 -- how many slots the buckets have that words name
 abbrev pub installed_slots : {V E : Type 0} → Core V E → ℕ
 installed_slots core = slots (stands core.table)
-
--- what a Local that takes an id knows of its slot: the bucket is known to stand where the id is reserved, or where
--- there is a value
-abbrev pub first_view : {V : Type 0} → Sheet V → ℕ → View V
-first_view sheet id = record { value = sheet.values id; known = is_reserved sheet.capacity id || is_some (sheet.values id) }
 
 -- numbered things, with this one or none at a number
 abbrev pub put : {A : Type 0} → (ℕ → Option A) → ℕ → Option A → ℕ → Option A

@@ -1,32 +1,26 @@
-use Rattle.std.specs.Prelude.{◌≡◌, ℕ, suc, ◌+◌, ◌^◌, ◌<◌, ◌≤◌, List, [], ◌∷◌, ◌++◌, length, map, Contains, Option, Some, None, IsTrue, ◌==◌, if◌then◌else◌}
+use Rattle.std.specs.Prelude.{◌≡◌, ℕ, suc, ◌+◌, ◌<◌, List, [], ◌∷◌, ◌++◌, length, map, Contains, Option, Some, ◌==◌, if◌then◌else◌}
 use Rattle.thread_local_model.specs.Walk.{IsAscendingBelow}
+use Rattle.thread_local_model.specs.Cursor.{cursor_id, CursorFits}
 use Rattle.thread_local_steps.specs.Table.{Table, published}
-use Rattle.thread_local_core.specs.SharedWalk.{SharedWalk, cursor, WalkStep, Load, Look}
+use Rattle.thread_local_core.specs.SharedWalk.{SharedWalk, with_pair, WalkStep, Load, Look}
 
--- What is known of a walk's record at a cursor: what it saw at first is still published, and so is what it gave;
--- ids were given and read by ascending id, below the cursor; and what it saw at first below the cursor was given.
-pub record RecordFits {V : Type 0} (table : Table V) (first : ℕ → Option V) (given : List (ℕ × V)) (read : List ℕ) (cursor : ℕ) : Type 0 where
+-- What is known of a walk's record, where `ahead` is the first id that it hasn't passed: what it saw at first is
+-- still published, and so is what it gave; ids were given and read by ascending id, below that; and what it saw at
+-- first below it was given.
+pub record RecordFits {V : Type 0} (table : Table V) (first : ℕ → Option V) (given : List (ℕ × V)) (read : List ℕ) (ahead : ℕ) : Type 0 where
   pub first_stays : (id : ℕ) (v : V) → first id ≡ Some v → published table id ≡ Some v
   pub given_stays : (id : ℕ) (v : V) → Contains {X = ℕ × V} given (id, v) → published table id ≡ Some v
-  pub given_ascend : IsAscendingBelow (map (λ pair. pair.0) given) cursor
-  pub read_ascend : IsAscendingBelow read cursor
-  pub passed : (id : ℕ) (v : V) → first id ≡ Some v → id < cursor → Contains {X = ℕ × V} given (id, v)
+  pub given_ascend : IsAscendingBelow (map (λ pair. pair.0) given) ahead
+  pub read_ascend : IsAscendingBelow read ahead
+  pub passed : (id : ℕ) (v : V) → first id ≡ Some v → id < ahead → Contains {X = ℕ × V} given (id, v)
 
--- What is known of a walk: its record fits, its cursor lies in its bucket or at its end, and each word was loaded
--- once and once more for each value given.
+-- What is known of a walk: its record and its cursor fit, and each word was loaded once and once more for each
+-- value given.
 pub record WalkFits {V : Type 0} (table : Table V) (walk : SharedWalk V) : Type 0 where
-  pub fits : RecordFits table walk.first walk.given walk.read (cursor walk)
-  pub within : walk.index ≤ 2 ^ walk.bucket
-  pub buckets : walk.bucket ≤ 63
-  pub looking : IsTrue walk.looks → (walk.index < 2 ^ walk.bucket) × (walk.bucket < 63)
-  pub complete : walk.bucket ≡ 63 → walk.index ≡ 0
-  pub unloaded : walk.loads ≡ 0 → walk.index ≡ 0
-  pub loads : walk.loads ≡ walk.bucket + length walk.given + (if walk.looks then 1 else 0)
-
--- the pairs with one more, if there is a value
-abbrev pub with_pair : {V : Type 0} → List (ℕ × V) → ℕ → Option V → List (ℕ × V)
-with_pair pairs id None = pairs
-with_pair pairs id (Some v) = pairs ++ (id, v) ∷ []
+  pub fits : RecordFits table walk.first walk.given walk.read (cursor_id walk.cursor)
+  pub cursor : CursorFits walk.cursor
+  pub unloaded : walk.loads ≡ 0 → walk.cursor.index ≡ 0
+  pub loads : walk.loads ≡ walk.cursor.bucket + length walk.given + (if walk.cursor.looks then 1 else 0)
 
 -- what a load adds to a walk's record: what is published is kept if it is the first, and the load is counted
 pub record Loads {V : Type 0} (table : Table V) (before after : SharedWalk V) : Type 0 where
@@ -38,8 +32,8 @@ pub record Loads {V : Type 0} (table : Table V) (before after : SharedWalk V) : 
 -- what a look adds: the slot at the cursor is read, and its value is given where it shows one
 pub record Looks {V : Type 0} (table : Table V) (before after : SharedWalk V) : Type 0 where
   pub first : after.first ≡ before.first
-  pub given : after.given ≡ with_pair before.given (cursor before) (published table (cursor before))
-  pub read : after.read ≡ before.read ++ cursor before ∷ []
+  pub given : after.given ≡ with_pair before.given (cursor_id before.cursor) (published table (cursor_id before.cursor))
+  pub read : after.read ≡ before.read ++ cursor_id before.cursor ∷ []
   pub loads : after.loads ≡ before.loads
 
 -- what a step adds

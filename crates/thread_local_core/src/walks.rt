@@ -1,7 +1,8 @@
 ghost use Rattle.std.specs.Prelude.{◌≡◌, ℕ, ◌-◌, ◌^◌, Some, option_map, IsTrue, IfSome};
 ghost use Rattle.thread_local_model.specs.Walk.{walk};
+ghost use Rattle.thread_local_model.specs.Cursor.{cursor_id, is_complete};
 ghost use Rattle.thread_local_steps.specs.Table.{Table, published};
-ghost use Rattle.thread_local_core.specs.SharedWalk.{SharedWalk, WalkStep, fresh_walk, cursor, is_complete, walk_step};
+ghost use Rattle.thread_local_core.specs.SharedWalk.{SharedWalk, WalkStep, fresh_walk, walk_step};
 ghost use Rattle.thread_local_core.specs.WalkFits.{WalkFits, Adds};
 ghost use Rattle.thread_local_core.specs.OwnerWalk.{owner_walk, rewritten};
 
@@ -18,7 +19,7 @@ pub fn every_walk_step<V>()
         → ((id : ℕ) (v : V) → published old id ≡ Some v → published new id ≡ Some v)
         → WalkFits old walk → WalkFits new walk }
     ensures complete { (table : Table V) (walk : SharedWalk V)
-        → WalkFits table walk → IsTrue (is_complete walk) → cursor walk ≡ 2 ^ 63 - 1 }
+        → WalkFits table walk → IsTrue (is_complete walk.cursor) → cursor_id walk.cursor ≡ 2 ^ 63 - 1 }
 {}
 
 /// An owner's walk gives what is published, by ascending id, and its writes change that and nothing else.

@@ -59,3 +59,20 @@ fn a_returned_id_needs_no_memory(rt: HostRuntime) -> Result<(), Fail> {
     assert_eq!(rt; manager.alloc()?, 33);
     Ok(())
 }
+
+#[test]
+fn room_that_was_made_is_enough(rt: HostRuntime) -> Result<(), Fail> {
+    let mut manager = ThreadIdManager::with_room(rt.alloc(), 3)?;
+    // No memory is asked for here, so a refusal would be a fault of the manager's.
+    for id in 0..3usize {
+        assert_eq!(rt; manager.alloc()?, id);
+    }
+    assert!(rt; !manager.is_held(3));
+    let mut empty = ThreadIdManager::with_room(rt.alloc(), 0)?;
+    assert!(rt; !empty.is_held(0));
+    assert_eq!(rt; take(&rt, &mut empty, &[])?, 0);
+    for ids in [9223372036854775807, usize::MAX] {
+        assert!(rt; ThreadIdManager::with_room(rt.alloc(), ids).is_err(), "{ids}");
+    }
+    Ok(())
+}

@@ -1,9 +1,9 @@
 //! The ids of a table, each with its right.
-ghost use Rattle.std.specs.Prelude.{◌≡◌, [], OnErr, IfOk};
+ghost use Rattle.std.specs.Prelude.{◌≡◌, ◌-◌, ◌^◌, ◌≤◌, min, [], IsOk, OnErr, IfOk};
 ghost use Rattle.std.specs.Prelude.{alloc_error};
 ghost use Rattle.thread_local_model.specs.Held.{is_held, Takes, Gives, NeedsMemory, IsExhausted};
 
-use std::alloc::Global;
+use std::alloc::{AllocError, Global};
 use std::marker::Model;
 use thread_local_lock::Fits;
 use thread_local_rights::{HeldId, Rights};
@@ -46,6 +46,20 @@ impl Ids {
             manager: ThreadIdManager::new(alloc),
             rights: Rights::new(),
         }
+    }
+
+    /// The ids of a new table, none of them held, and room for so many, or for every id where that is less. It asks
+    /// for memory once, and for no ids not at all.
+    pub fn with_room(alloc: Global, ids: usize) -> Result<Ids, AllocError>
+        ensures held { IfOk result (λ table. table.manager.held ≡ []) }
+        ensures room { IfOk result (λ table. min ids (2 ^ 63 - 1) ≤ table.manager.room) }
+        ensures room_in_range { IfOk result (λ table. table.manager.room ≤ 2 ^ 63 - 1) }
+        ensures no_ids { ids ≡ 0 → IsOk result }
+    {
+        Ok(Ids {
+            manager: ThreadIdManager::with_room(alloc, ids)?,
+            rights: Rights::new(),
+        })
     }
 
     /// Takes the least id that isn't held, and the right to it. It asks for memory only where every id below the peak is held and

@@ -4,3 +4,4 @@ pub mod WalkLaws
 pub mod CapacityLaws
 pub mod SlotsLaws
 pub mod AnswersLaws
+pub mod CursorLaws

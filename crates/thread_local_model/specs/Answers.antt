@@ -1,9 +1,25 @@
-use Rattle.std.specs.Prelude.{◌≡◌, Bool, true, false, not, ◌&&◌, List, [], ◌∷◌, Option, Some, None, Result, Ok, Err}
+use Rattle.std.specs.Prelude.{◌≡◌, ℕ, Bool, true, false, not, ◌&&◌, ◌||◌, List, [], ◌∷◌, Option, Some, None, is_some, Result, Ok, Err}
+use Rattle.thread_local_model.specs.Capacity.{is_reserved}
+use Rattle.thread_local_model.specs.Sheet.{Sheet}
+use Rattle.thread_local_model.specs.Learnt.{Learnt, Unknown, Missing, Standing, Vacant, Holding}
 
 -- what a Local knows of its slot: the value, if there is one, and whether the bucket is known to stand
 pub record View (V : Type 0) : Type 0 where
   pub value : Option V
   pub known : Bool
+
+-- what a Local that takes an id knows of its slot: the bucket is known to stand where the id is reserved, or where
+-- there is a value
+abbrev pub first_view : {V : Type 0} → Sheet V → ℕ → View V
+first_view sheet id = record { value = sheet.values id; known = is_reserved sheet.capacity id || is_some (sheet.values id) }
+
+-- the view of what is learnt of a slot: the value that it holds, and whether the bucket was found
+abbrev pub view_of : {V : Type 0} → Learnt V → View V
+view_of Unknown = record { value = None; known = false }
+view_of Missing = record { value = None; known = false }
+view_of Standing = record { value = None; known = true }
+view_of Vacant = record { value = None; known = true }
+view_of (Holding v) = record { value = Some v; known = true }
 
 -- A call of a Local: `get`, or one of the `get_or` family, with what its closure would answer and whether
 -- memory for a bucket would be refused.

@@ -1,4 +1,4 @@
-use Rattle.std.specs.Prelude.{◌≡◌, ℕ, suc, ◌+◌, ◌-◌, ◌^◌, ◌<◌, ◌≤◌, ◌==◌, Bool, true, false, List, [], ◌∷◌, length, slice_index_or, slice_set, IsTrue, if◌then◌else◌}
+use Rattle.std.specs.Prelude.{◌≡◌, ℕ, suc, ◌+◌, ◌-◌, ◌^◌, ◌<◌, ◌≤◌, ◌==◌, max, Bool, true, false, not, ◌&&◌, List, [], ◌∷◌, length, slice_index_or, slice_set, IsTrue, if◌then◌else◌}
 
 -- What a table's manager of ids is seen as. The list has a truth value for each id below the peak, true
 -- where the id is held. The room is the number of ids whose return needs no further memory.
@@ -36,11 +36,33 @@ held_count (true ∷ held) = suc (held_count held)
 abbrev pub HoldsAllBelow : ℕ → List Bool → Type 0
 HoldsAllBelow n held = (id : ℕ) → id < n → IsTrue (is_held held id)
 
--- What taking an id makes of a manager. The id is the least that wasn't held, and is held from now on; no other id changes. The peak
--- grows by one where every id below it was held, and the room doesn't fall.
+-- whether all ids are held
+abbrev pub is_exhausted : Manager → Bool
+is_exhausted manager = least manager.held == 2 ^ 63 - 1
+
+-- whether each id that has room is held
+abbrev pub is_full : Manager → Bool
+is_full manager = least manager.held == manager.room
+
+-- whether a take gets an id, by whether memory is refused
+abbrev pub is_granted : Manager → Bool → Bool
+is_granted manager refused = not (is_exhausted manager) && not (refused && is_full manager)
+
+-- the manager once the least id that wasn't held is, and room has grown as far as is needed and this much more
+abbrev pub taken_from : Manager → ℕ → Manager
+taken_from manager growth = record { held = with_least manager.held; room = max manager.room (length (with_least manager.held)) + growth }
+
+-- the manager once an id is held no longer
+abbrev pub given_to : Manager → ℕ → Manager
+given_to manager id = record manager { held = without manager.held id }
+
+-- What taking an id makes of a manager: what is taken from it, by some growth. So the id is the least that wasn't held, and is held from
+-- now on; no other id changes. The peak grows by one where every id below it was held, and the room doesn't fall.
 pub record Takes (old new : Manager) (id : ℕ) : Type 0 where
   pub least : id ≡ least old.held
   pub in_range : id < 2 ^ 63 - 1
+  pub growth : ℕ
+  pub taken : new ≡ taken_from old growth
   pub held : new.held ≡ with_least old.held
   pub at : (other : ℕ) → is_held new.held other ≡ (if id == other then true else is_held old.held other)
   pub peak : length new.held ≡ (if id == length old.held then length old.held + 1 else length old.held)
@@ -51,6 +73,7 @@ pub record Takes (old new : Manager) (id : ℕ) : Type 0 where
 -- What giving an id back makes of a manager. The id was held, and isn't any more; no other id changes, nor do the peak and the room.
 pub record Gives (old new : Manager) (id : ℕ) : Type 0 where
   pub was_held : IsTrue (is_held old.held id)
+  pub given : new ≡ given_to old id
   pub held : new.held ≡ without old.held id
   pub at : (other : ℕ) → is_held new.held other ≡ (if id == other then false else is_held old.held other)
   pub peak : length new.held ≡ length old.held

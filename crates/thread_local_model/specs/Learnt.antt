@@ -1,4 +1,4 @@
-use Rattle.std.specs.Prelude.{◌≡◌, ℕ, zero, suc, Bool, Option, Some, None, refl, if◌then◌else◌}
+use Rattle.std.specs.Prelude.{◌≡◌, ℕ, zero, suc, Bool, true, false, Option, Some, None, option_and_then, refl, if◌then◌else◌}
 use Rattle.std.specs.Coded.{Coded, coded_option, coded_ℕ, coded×, code_by}
 
 -- What somebody who has the right to an id has learnt of the id's slot: nothing yet; that its word was empty; that its bucket stands;
@@ -21,6 +21,28 @@ abbrev pub learnt_by_look : {V : Type 0} → Learnt V → Option V → Option (L
 learnt_by_look Standing None = Some Vacant
 learnt_by_look Standing (Some v) = Some (Holding v)
 learnt_by_look learnt shown = None
+
+-- what is learnt by a load of the word and, where that names a bucket, a look at the slot then
+abbrev pub learnt_by_find : {V : Type 0} → Learnt V → Bool → Option V → Option (Learnt V)
+learnt_by_find learnt false shown = learnt_by_load learnt false
+learnt_by_find learnt true shown = option_and_then (λ loaded. learnt_by_look loaded shown) (learnt_by_load learnt true)
+
+-- what is learnt by offering a bucket to a word that was empty: some bucket stands then, and the slot is empty
+abbrev pub learnt_by_install : {V : Type 0} → Learnt V → Option (Learnt V)
+learnt_by_install Missing = Some Vacant
+learnt_by_install learnt = None
+
+-- what is learnt by publishing a value in a slot that was empty
+abbrev pub learnt_by_publish : {V : Type 0} → Learnt V → V → Option (Learnt V)
+learnt_by_publish Vacant value = Some (Holding value)
+learnt_by_publish learnt value = None
+
+-- A load of the word and, where that names a bucket, a look at the slot lead from what was learnt before to what is
+-- learnt after. Whether the word names a bucket, and what the slot shows, is found by them.
+pub record Finds {V : Type 0} (before after : Learnt V) : Type 0 where
+  pub stands : Bool
+  pub shown : Option V
+  pub learnt : learnt_by_find before stands shown ≡ Some after
 
 -- how a proof tells apart what is learnt: by a number and the value, if there is one
 abbrev number_of : {V : Type 0} → Learnt V → ℕ × Option V

@@ -7,5 +7,6 @@ pub mod Capacity
 pub mod Sheet
 pub mod Answers
 pub mod Learnt
+pub mod Cursor
 pub mod Owned
 pub mod Code

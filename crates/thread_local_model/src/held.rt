@@ -1,5 +1,5 @@
-ghost use Rattle.std.specs.Prelude.{◌≡◌, ℕ, ◌+◌, ◌<◌, ◌≤◌, ◌==◌, Bool, true, false, List, length, IsTrue, if◌then◌else◌};
-ghost use Rattle.thread_local_model.specs.Held.{is_held, least, with_least, without, held_count, HoldsAllBelow};
+ghost use Rattle.std.specs.Prelude.{◌≡◌, ℕ, ◌+◌, ◌-◌, ◌^◌, ◌<◌, ◌≤◌, ◌↔◌, ◌==◌, Bool, true, false, List, length, IsTrue, if◌then◌else◌};
+ghost use Rattle.thread_local_model.specs.Held.{Manager, is_held, least, with_least, without, held_count, HoldsAllBelow, is_granted, Takes, NeedsMemory, IsExhausted};
 
 /// The least id that isn't held is just that: it isn't held, and every lower id is.
 pub fn least_is_least()
@@ -23,4 +23,14 @@ pub fn giving_changes_that_id()
     ensures peak { (held : List Bool) (given : ℕ) → length (without held given) ≡ length held }
     ensures count { (held : List Bool) (given : ℕ) → IsTrue (is_held held given)
         → held_count (without held given) + 1 ≡ held_count held }
+{}
+
+/// An id is taken where a take is granted, and the two refusals are the two ways in which none is: the next id needs memory just where a
+/// take is granted with memory and not without it, and no id is left just where none is granted with memory either.
+pub fn takes_are_granted()
+    ensures taken { (old new : Manager) (id : ℕ) → Takes old new id → IsTrue (is_granted old false) }
+    ensures memory { (manager : Manager) → length manager.held ≤ manager.room → manager.room ≤ 2 ^ 63 - 1
+        → NeedsMemory manager ↔ (IsTrue (is_granted manager false) × (is_granted manager true ≡ false)) }
+    ensures exhausted { (manager : Manager) → length manager.held ≤ manager.room → manager.room ≤ 2 ^ 63 - 1
+        → IsExhausted manager ↔ (is_granted manager false ≡ false) }
 {}

@@ -5,6 +5,7 @@
 
 pub mod answers;
 pub mod capacity;
+pub mod cursor;
 pub mod held;
 pub mod place;
 pub mod slots;

@@ -1,12 +1,13 @@
-use Rattle.std.proofs.Common.{◌≡◌, ℕ, ◌-◌, ◌^◌, ◌⊎◌, Bool, true, false, not, cond, List, [], ◌∷◌, Some, None, is_some, IsTrue, IsSomeAnd, refl, ap, sym, ◌∙◌, subst}
+use Rattle.std.proofs.Common.{◌≡◌, ℕ, ◌-◌, ◌^◌, ◌⊎◌, Bool, false, not, cond, List, [], ◌∷◌, Some, None, is_some, IsTrue, IsSomeAnd, refl, ap, sym, ◌∙◌, subst}
 use Rattle.std.specs.Prelude.{unwrap_or}
 use Rattle.std.proofs.lemmas.Bool.{false≢true, and_parts, not-true, not-false, cond_both}
-use Rattle.thread_local_model.specs.Held.{is_held, least, HoldsAllBelow}
+use Rattle.thread_local_model.specs.Held.{is_held, least, HoldsAllBelow, is_granted}
 use Rattle.thread_local_model.specs.Capacity.{binary_digits, reserved_slots}
 use Rattle.thread_local_model.specs.Sheet.{new_sheet, Clear, moved_if}
+use Rattle.thread_local_model.specs.Answers.{first_view}
 use Rattle.thread_local_steps.specs.Local.{Local, fresh_local}
-use Rattle.thread_local_core.specs.Core.{Core, made_core, shadow, first_view, peak, is_alone}
-use Rattle.thread_local_schedule.specs.Events.{Event, TakeId, OfLocal, Owner, ClearTable, is_granted, take_id, step_of, step, is_enabled, happens, run, owner_call, GiveBack, Forget, OwnerCall, IterMut}
+use Rattle.thread_local_core.specs.Core.{Core, made_core, shadow, peak, is_alone, new_core}
+use Rattle.thread_local_schedule.specs.Events.{Event, TakeId, OfLocal, Owner, ClearTable, take_id, step_of, step, is_enabled, happens, run, GiveBack, Forget, OwnerCall, IterMut, after_owner}
 use Rattle.thread_local_schedule.specs.Schedule.{move, is_refused, is_granted_take, newcomer, IsReached, publishing, move_of, NoneTaken}
 use Rattle.thread_local_core.specs.CoreFits.{CoreFits}
 use Rattle.thread_local_schedule.proofs.Kept.{happens-fits, run-fits}
@@ -16,7 +17,7 @@ use Rattle.thread_local_core.proofs.Parts.{made_core-fits}
 use Rattle.thread_local_core.proofs.CoreLaws.{none_if}
 use Rattle.thread_local_core.proofs.SheetLaws.{settled, untaken}
 use Rattle.thread_local_schedule.proofs.Takes.{not_granted}
-use Rattle.thread_local_core.proofs.OptionLaws.{stays, some_step, some_and}
+use Rattle.thread_local_core.proofs.OptionLaws.{stays, some_step, some_and, tested}
 
 -- the invariant holds wherever a schedule leads
 pub fits : {V E : Type 0} (core : Core V E) → IsReached core → CoreFits core
@@ -39,6 +40,10 @@ enabled_step core event t = (some_step core.ended (step_of core event) t).1
 pub goes : {V E : Type 0} (core : Core V E) (event : Event V E) → IsTrue (is_enabled core event) → happens core event ≡ unwrap_or (step_of core event) core
 unfolding is_enabled happens step
 goes core event t = let open_table = (some_step core.ended (step_of core event) t).0 in rw open_table refl
+
+-- so is an owner's call
+pub owner_goes : {V E : Type 0} (core : Core V E) (call : OwnerCall V) → IsTrue (is_enabled core (Owner call)) → happens core (Owner call) ≡ after_owner core call
+owner_goes core call t = goes core (Owner call) t ∙ (tested (is_alone core) (after_owner core call) core (enabled_step core (Owner call) t)).1
 
 -- a granted take makes a Local with the least id that isn't held, whose first view is what its slot shows
 pub taken : {V E : Type 0} (core : Core V E) (event : Event V E) → IsTrue (is_granted_take core event)
@@ -65,7 +70,10 @@ still_held core n local r at =
     let same : shadow (happens core (Forget n)) ≡ shadow core = (says core (Forget n) r).moves ∙ cond_both (is_enabled core (Forget n)) None None (λ o. moved_if (shadow core) o ≡ shadow core) (λ _. refl) (λ _. refl) in
     rw (ap (λ sheet. sheet.held) same) ((fits core r).locals.each n local at).id_held
 
--- a clear that is enabled leaves the sheet of `new`
+-- a clear that is enabled leaves the core of `new`, and so its sheet
+pub cleared_core : {V E : Type 0} (core : Core V E) → IsTrue (is_enabled core (Owner ClearTable)) → happens core (Owner ClearTable) ≡ new_core
+cleared_core core t = owner_goes core ClearTable t
+
 pub cleared : {V E : Type 0} (core : Core V E) → IsReached core → IsTrue (is_enabled core (Owner ClearTable)) → shadow (happens core (Owner ClearTable)) ≡ new_sheet
 cleared core r t = (says core (Owner ClearTable) r).moves ∙ ap (λ b. moved_if (shadow core) (cond b (Some Clear) None)) t
 
@@ -112,12 +120,8 @@ run_fresh core [] h f none = f
 run_fresh core (event ∷ events) h f none = run_fresh (happens core event) events (happens-fits core event h) (fresh_kept core event h f none.0) none.1
 
 -- a clear leaves no Local
-cleared_locals : {V E : Type 0} (core : Core V E) (n : ℕ) (alone : Bool) → IsTrue (is_some (owner_call core alone ClearTable)) → (unwrap_or (owner_call core alone ClearTable) core).locals n ≡ None
-cleared_locals core n true t = refl
-cleared_locals core n false t = absurd (false≢true t)
-
 cleared_fresh : {V E : Type 0} (core : Core V E) → IsReached core → IsTrue (is_enabled core (Owner ClearTable)) → IsFresh (happens core (Owner ClearTable))
-cleared_fresh core r t = record { none = λ n. ap (λ after. after.locals n) (goes core (Owner ClearTable) t) ∙ cleared_locals core n (is_alone core) (enabled_step core (Owner ClearTable) t); sheet = cleared core r t }
+cleared_fresh core r t = record { none = λ n. ap (λ after. after.locals n) (cleared_core core t); sheet = cleared core r t }
 
 -- at id 0 of a new table nothing is known to stand
 new_view : (T : Type 0) → first_view {V = T} new_sheet 0 ≡ record { value = None; known = false }

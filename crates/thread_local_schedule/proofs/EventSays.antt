@@ -2,26 +2,25 @@ use Rattle.std.proofs.Common.{◌≡◌, ℕ, suc, max, Bool, true, false, not, 
 use Rattle.std.specs.Prelude.{option_map, unwrap_or}
 use Rattle.std.proofs.lemmas.Option.{none-some}
 use Rattle.std.proofs.lemmas.Bool.{cond_both, false≢true, eqb-false}
-use Rattle.thread_local_model.specs.Held.{held_count, without}
+use Rattle.thread_local_model.specs.Held.{held_count, without, is_granted}
 use Rattle.thread_local_model.specs.Sheet.{moved_if, IsAllowed}
 use Rattle.thread_local_steps.specs.Table.{Table, published}
 use Rattle.thread_local_steps.specs.Local.{Local, LocalStep, local_step}
-use Rattle.thread_local_core.specs.SharedWalk.{SharedWalk, fresh_walk, WalkStep, walk_step}
+use Rattle.thread_local_core.specs.SharedWalk.{fresh_walk, WalkStep, walk_step}
 use Rattle.thread_local_core.specs.OwnerWalk.{rewritten}
 use Rattle.thread_local_steps.specs.Fits.{StepFits, value_set, named}
 use Rattle.thread_local_steps.proofs.TableLaws.{same_function, named_stands}
 use Rattle.thread_local_steps.proofs.LocalLaws.{local_step-fits}
 use Rattle.thread_local_core.proofs.OwnerLaws.{published-rewritten}
-use Rattle.thread_local_core.specs.Core.{Core, shadow, put, is_alone}
-use Rattle.thread_local_schedule.specs.Events.{Event, TakeId, OfLocal, GiveBack, Forget, BeginWalk, OfWalk, EndWalk, Owner, OwnerCall, IterMut, Slots, ClearTable, IntoIter, DropTable, is_granted, take_id, with_step, of_local, give_back, forget, of_walk, end_walk, owner_call, step_of, step, is_enabled, happens, is_idle, without_local, given_to, with_walk}
+use Rattle.thread_local_core.specs.Core.{Core, shadow, is_alone}
+use Rattle.thread_local_schedule.specs.Events.{Event, TakeId, OfLocal, GiveBack, Forget, BeginWalk, OfWalk, EndWalk, Owner, OwnerCall, IterMut, Slots, ClearTable, IntoIter, DropTable, take_id, with_step, of_local, is_idle, without_local, with_id_given, give_back, forget, with_walk, of_walk, without_walk, after_owner, step_of, step, is_enabled, happens}
 use Rattle.thread_local_schedule.specs.Schedule.{move_of, is_take, refuses, is_exclusive, is_clear, is_of}
 use Rattle.thread_local_core.proofs.HeldCounts.{peak_counts, held_count-le}
 use Rattle.thread_local_core.specs.CoreFits.{CoreFits}
 use Rattle.thread_local_core.proofs.PutLaws.{put_cases, still, put_other}
 use Rattle.thread_local_core.proofs.Parts.{kept_value, no_locals}
 use Rattle.thread_local_core.proofs.CoreLaws.{published_moves, publishing_allowed, none_made}
-use Rattle.thread_local_core.proofs.OptionLaws.{if_enabled, if_mapped}
-use Rattle.thread_local_core.proofs.WalkStepLaws.{walk_step-fits}
+use Rattle.thread_local_core.proofs.OptionLaws.{if_enabled, if_mapped, if_there, if_then}
 use Rattle.thread_local_model.proofs.HeldLaws as ids
 
 -- what an event that is enabled says of the core before it and after it
@@ -69,7 +68,7 @@ take_id-says core refused growth false e h = leaves core (TakeId refused growth)
 -- a step of a Local
 stepped-says : {V E : Type 0} (core : Core V E) (number : ℕ) (step : LocalStep V E) (local : Local V E) (after : Table V × Local V E) → core.locals number ≡ Some local
     → StepFits core.table local (value_set local.doing step) after → CoreFits core
-    → EventSays core (OfLocal number step) (record core { table = after.0; locals = put core.locals number (Some after.1) })
+    → EventSays core (OfLocal number step) (with_step core number after)
 stepped-says core number step local after at s h =
     let set = value_set local.doing step in
     record {
@@ -86,17 +85,16 @@ stepped-says core number step local after at s h =
       peak = omega (arith, held_count-le core.manager.held);
     }
 
-of_local-says : {V E : Type 0} (core : Core V E) (number : ℕ) (step : LocalStep V E) (o : Option (Local V E)) → core.locals number ≡ o → CoreFits core
-    → IfSome (of_local core number step o) (EventSays core (OfLocal number step))
-of_local-says core number step None at h = tt
-of_local-says core number step (Some local) at h =
+of_local-says : {V E : Type 0} (core : Core V E) (number : ℕ) (step : LocalStep V E) → CoreFits core → IfSome (of_local core number step) (EventSays core (OfLocal number step))
+of_local-says core number step h =
+    if_then (EventSays core (OfLocal number step)) _ (core.locals number) (λ local at.
     if_mapped (EventSays core (OfLocal number step)) (with_step core number) (local_step core.table local step)
     (local_step-fits core.table local step h.table.written (h.locals.each number local at).local_fits)
-    (λ after s. stepped-says core number step local after at s h)
+    (λ after s. stepped-says core number step local after at s h))
 
 -- a Local that gives its id back, or is forgotten
 given_back-says : {V E : Type 0} (core : Core V E) (number : ℕ) (local : Local V E) → core.locals number ≡ Some local → CoreFits core
-    → EventSays core (GiveBack number) (record (without_local core number) { manager = given_to core.manager local.id })
+    → EventSays core (GiveBack number) (with_id_given core number local.id)
 given_back-says core number local at h =
     let live = h.locals.each number local at in
     record {
@@ -109,34 +107,28 @@ given_back-says core number local at h =
       peak = omega (arith, ids.length-without core.manager.held local.id, held_count-le (without core.manager.held local.id));
     }
 
-give_back-says : {V E : Type 0} (core : Core V E) (number : ℕ) (o : Option (Local V E)) → core.locals number ≡ o → CoreFits core → IfSome (give_back core number o) (EventSays core (GiveBack number))
-give_back-says core number None at h = tt
-give_back-says core number (Some local) at h =
-    if_enabled (EventSays core (GiveBack number)) (is_idle local.doing) (record (without_local core number) { manager = given_to core.manager local.id }) (given_back-says core number local at h)
+give_back-says : {V E : Type 0} (core : Core V E) (number : ℕ) → CoreFits core → IfSome (give_back core number) (EventSays core (GiveBack number))
+give_back-says core number h =
+    if_then (EventSays core (GiveBack number)) _ (core.locals number) (λ local at.
+    if_enabled (EventSays core (GiveBack number)) (is_idle local.doing) (with_id_given core number local.id) (given_back-says core number local at h))
 
-forget-says : {V E : Type 0} (core : Core V E) (number : ℕ) (o : Option (Local V E)) → IfSome (forget core number o) (EventSays core (Forget number))
-forget-says core number None = tt
-forget-says core number (Some local) =
+forget-says : {V E : Type 0} (core : Core V E) (number : ℕ) → IfSome (forget core number) (EventSays core (Forget number))
+forget-says core number =
+    if_then (EventSays core (Forget number)) _ (core.locals number) (λ local at.
     if_enabled (EventSays core (Forget number)) (is_idle local.doing) (without_local core number)
     (leaves core (Forget number) (without_local core number) refl refl refl refl refl (λ n then f. (still core.locals number n then f).1)
-    (λ n local f at. put_other core.locals number None n (eqb-false number n f) ∙ at))
+    (λ n other f e. put_other core.locals number None n (eqb-false number n f) ∙ e)))
 
 -- a walk's events
-of_walk-says : {V E : Type 0} (core : Core V E) (number : ℕ) (step : WalkStep) (o : Option (SharedWalk V)) → core.walks number ≡ o → CoreFits core
-    → IfSome (of_walk core number step o) (EventSays core (OfWalk number step))
-of_walk-says core number step None at h = tt
-of_walk-says core number step (Some walk) at h =
-    if_mapped (EventSays core (OfWalk number step)) (with_walk core number) (walk_step core.table walk step) (walk_step-fits core.table walk step (h.walks.each number walk at))
-    (λ after _. leaves core (OfWalk number step) (with_walk core number after) refl refl refl refl refl (λ n then f. f) (λ n local _ at. at))
-
-end_walk-says : {V E : Type 0} (core : Core V E) (number : ℕ) (o : Option (SharedWalk V)) → IfSome (end_walk core number o) (EventSays core (EndWalk number))
-end_walk-says core number None = tt
-end_walk-says core number (Some walk) = leaves core (EndWalk number) (record core { walks = put core.walks number None }) refl refl refl refl refl (λ n then f. f) (λ n local _ at. at)
+of_walk-says : {V E : Type 0} (core : Core V E) (number : ℕ) (step : WalkStep) → CoreFits core → IfSome (of_walk core number step) (EventSays core (OfWalk number step))
+of_walk-says core number step h =
+    if_then (EventSays core (OfWalk number step)) _ (core.walks number) (λ walk at.
+    if_there (EventSays core (OfWalk number step)) (with_walk core number) (walk_step core.table walk step)
+    (λ after _. leaves core (OfWalk number step) (with_walk core number after) refl refl refl refl refl (λ n then f. f) (λ n local _ at. at)))
 
 -- an owner's call, where no Local lives
-owner_call-says : {V E : Type 0} (core : Core V E) (alone : Bool) (call : OwnerCall V) → is_alone core ≡ alone → CoreFits core → IfSome (owner_call core alone call) (EventSays core (Owner call))
-owner_call-says core false call e h = tt
-owner_call-says core true (IterMut others) e h = record {
+after_owner-says : {V E : Type 0} (core : Core V E) (call : OwnerCall V) → is_alone core ≡ true → CoreFits core → EventSays core (Owner call) (after_owner core call)
+after_owner-says core (IterMut others) e h = record {
   moves = ap (λ values. record (shadow core) { values = values })
       (same_function (published (rewritten core.table others)) (λ id. option_map (others id) (published core.table id)) (published-rewritten core.table others));
   allowed = tt;
@@ -146,8 +138,8 @@ owner_call-says core true (IterMut others) e h = record {
   others = λ n local _ at. absurd (none-some local (sym (no_locals core h e n) ∙ at));
   peak = omega (arith, held_count-le core.manager.held);
 }
-owner_call-says core true Slots e h = leaves core (Owner Slots) core refl refl refl refl refl (λ n then f. f) (λ n local _ at. at)
-owner_call-says core true ClearTable e h = record {
+after_owner-says core Slots e h = leaves core (Owner Slots) core refl refl refl refl refl (λ n then f. f) (λ n local _ at. at)
+after_owner-says core ClearTable e h = record {
   moves = ap (λ values. record { held = []; values = values; capacity = 0 }) (none_made _ 0);
   allowed = tt;
   stays = λ ex. absurd (false≢true (sym ex));
@@ -156,18 +148,21 @@ owner_call-says core true ClearTable e h = record {
   others = λ n local _ at. absurd (none-some local (sym (no_locals core h e n) ∙ at));
   peak = refl;
 }
-owner_call-says core true IntoIter e h = leaves core (Owner IntoIter) (record core { ended = true }) refl refl refl refl refl (λ n then f. f) (λ n local _ at. at)
-owner_call-says core true DropTable e h = leaves core (Owner DropTable) (record core { ended = true }) refl refl refl refl refl (λ n then f. f) (λ n local _ at. at)
+after_owner-says core IntoIter e h = leaves core (Owner IntoIter) (record core { ended = true }) refl refl refl refl refl (λ n then f. f) (λ n local _ at. at)
+after_owner-says core DropTable e h = leaves core (Owner DropTable) (record core { ended = true }) refl refl refl refl refl (λ n then f. f) (λ n local _ at. at)
 
 step_of-says : {V E : Type 0} (core : Core V E) (event : Event V E) → CoreFits core → IfSome (step_of core event) (EventSays core event)
 step_of-says core (TakeId refused growth) h = take_id-says core refused growth (is_granted core.manager refused) refl h
-step_of-says core (OfLocal number step) h = of_local-says core number step (core.locals number) refl h
-step_of-says core (GiveBack number) h = give_back-says core number (core.locals number) refl h
-step_of-says core (Forget number) h = forget-says core number (core.locals number)
+step_of-says core (OfLocal number step) h = of_local-says core number step h
+step_of-says core (GiveBack number) h = give_back-says core number h
+step_of-says core (Forget number) h = forget-says core number
 step_of-says core BeginWalk h = leaves core BeginWalk (record (with_walk core core.walked fresh_walk) { walked = suc core.walked }) refl refl refl refl refl (λ n then f. f) (λ n local _ at. at)
-step_of-says core (OfWalk number step) h = of_walk-says core number step (core.walks number) refl h
-step_of-says core (EndWalk number) h = end_walk-says core number (core.walks number)
-step_of-says core (Owner call) h = owner_call-says core (is_alone core) call refl h
+step_of-says core (OfWalk number step) h = of_walk-says core number step h
+step_of-says core (EndWalk number) h =
+    if_there (EventSays core (EndWalk number)) _ (core.walks number) (λ walk at.
+    leaves core (EndWalk number) (without_walk core number) refl refl refl refl refl (λ n then f. f) (λ n local _ at. at))
+step_of-says core (Owner call) h =
+    cond_both {A = Option (Core _ _)} (is_alone core) (Some (after_owner core call)) None (λ o. IfSome o (EventSays core (Owner call))) (λ e. after_owner-says core call e h) (λ _. tt)
 
 -- what every event says of the core after it, whether it is enabled or not
 pub record Says {V E : Type 0} (core : Core V E) (event : Event V E) (enabled : Bool) (after : Core V E) : Type 0 where

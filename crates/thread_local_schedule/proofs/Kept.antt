@@ -1,7 +1,8 @@
-use Rattle.std.proofs.Common.{◌≡◌, ℕ, suc, Bool, true, false, cond, List, [], ◌∷◌, length, Option, Some, None, IfSome, refl, ap, sym, ◌∙◌, arith}
+use Rattle.std.proofs.Common.{◌≡◌, ℕ, suc, Bool, true, false, cond, List, [], ◌∷◌, length, Option, Some, None, IfSome, ap, sym, ◌∙◌, arith}
 use Rattle.std.proofs.lemmas.Bool.{cond_both, ne_eqb, false≢true}
 use Rattle.std.specs.Prelude.{unwrap_or}
-use Rattle.thread_local_model.specs.Held.{is_held, least, with_least, without}
+use Rattle.thread_local_model.specs.Held.{is_held, least, with_least, without, is_exhausted, is_granted}
+use Rattle.thread_local_model.specs.Answers.{first_view}
 use Rattle.thread_local_steps.specs.Local.{Local, LocalStep, fresh_local, local_step}
 use Rattle.thread_local_core.specs.SharedWalk.{SharedWalk, fresh_walk, WalkStep, walk_step}
 use Rattle.thread_local_steps.specs.Fits.{StepFits, value_set}
@@ -10,13 +11,13 @@ use Rattle.thread_local_steps.proofs.LocalLaws.{local_step-fits}
 use Rattle.thread_local_steps.proofs.NumbersLaws.{local_step-numbers}
 use Rattle.thread_local_core.proofs.Numbers.{taken-NumbersFit, removed-NumbersFit, rewritten-NumbersFit}
 use Rattle.thread_local_core.proofs.WalkStepLaws.{walk_step-fits, fresh_walk-fits}
-use Rattle.thread_local_core.specs.Core.{Core, shadow, first_view, is_alone}
-use Rattle.thread_local_schedule.specs.Events.{Event, TakeId, OfLocal, GiveBack, Forget, BeginWalk, OfWalk, EndWalk, Owner, OwnerCall, IterMut, Slots, ClearTable, IntoIter, DropTable, is_exhausted, is_granted, take_id, with_step, of_local, give_back, forget, begin_walk, of_walk, end_walk, owner_call, step_of, step, happens, run, is_idle, without_local, given_to, with_walk}
+use Rattle.thread_local_core.specs.Core.{Core, shadow, is_alone}
+use Rattle.thread_local_schedule.specs.Events.{Event, TakeId, OfLocal, GiveBack, Forget, BeginWalk, OfWalk, EndWalk, Owner, OwnerCall, IterMut, Slots, ClearTable, IntoIter, DropTable, take_id, with_step, of_local, give_back, forget, begin_walk, of_walk, step_of, step, happens, run, is_idle, without_local, with_walk, with_id_given, without_walk, after_owner}
 use Rattle.thread_local_core.proofs.HeldCounts.{peak_after}
 use Rattle.thread_local_core.specs.CoreFits.{CoreFits}
 use Rattle.thread_local_core.proofs.Parts.{locals_put, locals_removed, given-ManagerFits, peak-TableFits, held_stays, least_held, fresh-LiveFits, stepped-fits, walks_put, came_before, no_locals, no_walks, rewritten-TableFits, made_core-fits}
 use Rattle.thread_local_schedule.proofs.Takes.{granted_some, taken-ManagerFits}
-use Rattle.thread_local_core.proofs.OptionLaws.{if_enabled, unwrapped, if_mapped, if_both}
+use Rattle.thread_local_core.proofs.OptionLaws.{if_enabled, unwrapped, if_mapped, if_both, if_there, if_then}
 use Rattle.thread_local_model.proofs.HeldLaws as ids
 
 pub take_id-fits : {V E : Type 0} (core : Core V E) (growth : ℕ) → is_exhausted core.manager ≡ false → CoreFits core → CoreFits (take_id core growth)
@@ -41,17 +42,16 @@ take_id-fits core growth some h =
     }
 
 -- a step of a Local
-of_local-fits : {V E : Type 0} (core : Core V E) (number : ℕ) (step : LocalStep V E) (o : Option (Local V E)) → core.locals number ≡ o → CoreFits core
-    → IfSome (of_local core number step o) CoreFits
-of_local-fits core number step None at h = tt
-of_local-fits core number step (Some local) at h =
+of_local-fits : {V E : Type 0} (core : Core V E) (number : ℕ) (step : LocalStep V E) → CoreFits core → IfSome (of_local core number step) CoreFits
+of_local-fits core number step h =
+    if_then CoreFits _ (core.locals number) (λ local at.
     if_mapped CoreFits (with_step core number) (local_step core.table local step)
     (if_both (StepFits core.table local (value_set local.doing step)) (NumbersGo core.table local) (local_step core.table local step) (local_step-fits core.table local step h.table.written (h.locals.each number local at).local_fits) (local_step-numbers core.table local step))
-    (λ after s. stepped-fits core number local (value_set local.doing step) after at s.0 s.1 h)
+    (λ after s. stepped-fits core number local (value_set local.doing step) after at s.0 s.1 h))
 
 -- a Local that gives its id back, or is forgotten
 given_back-fits : {V E : Type 0} (core : Core V E) (number : ℕ) (local : Local V E) → core.locals number ≡ Some local → CoreFits core
-    → CoreFits (record (without_local core number) { manager = given_to core.manager local.id })
+    → CoreFits (with_id_given core number local.id)
 given_back-fits core number local at h =
     let held = core.manager.held in
     let same = ids.length-without held local.id in
@@ -82,15 +82,16 @@ forgotten-fits core number h = record {
   numbers = removed-NumbersFit core.table core.locals number h.numbers;
 }
 
-give_back-fits : {V E : Type 0} (core : Core V E) (number : ℕ) (o : Option (Local V E)) → core.locals number ≡ o → CoreFits core → IfSome (give_back core number o) CoreFits
-give_back-fits core number None at h = tt
-give_back-fits core number (Some local) at h =
-    if_enabled CoreFits (is_idle local.doing) (record (without_local core number) { manager = given_to core.manager local.id }) (given_back-fits core number local at h)
+give_back-fits : {V E : Type 0} (core : Core V E) (number : ℕ) → CoreFits core → IfSome (give_back core number) CoreFits
+give_back-fits core number h =
+    if_then CoreFits _ (core.locals number) (λ local at.
+    if_enabled CoreFits (is_idle local.doing) (with_id_given core number local.id) (given_back-fits core number local at h))
 
-forget-fits : {V E : Type 0} (core : Core V E) (number : ℕ) (o : Option (Local V E)) → CoreFits core → IfSome (forget core number o) CoreFits
-forget-fits core number None h = tt
-forget-fits core number (Some local) h = if_enabled CoreFits (is_idle local.doing) (without_local core number) (forgotten-fits core number h)
+forget-fits : {V E : Type 0} (core : Core V E) (number : ℕ) → CoreFits core → IfSome (forget core number) CoreFits
+forget-fits core number h =
+    if_then CoreFits _ (core.locals number) (λ local at. if_enabled CoreFits (is_idle local.doing) (without_local core number) (forgotten-fits core number h))
 
+-- a walk that begins, that makes a step, or that ends
 begin_walk-fits : {V E : Type 0} (core : Core V E) → CoreFits core → IfSome (begin_walk core) CoreFits
 begin_walk-fits core h = record {
   manager = h.manager;
@@ -100,9 +101,9 @@ begin_walk-fits core h = record {
   numbers = h.numbers;
 }
 
-of_walk-fits : {V E : Type 0} (core : Core V E) (number : ℕ) (step : WalkStep) (o : Option (SharedWalk V)) → core.walks number ≡ o → CoreFits core → IfSome (of_walk core number step o) CoreFits
-of_walk-fits core number step None at h = tt
-of_walk-fits core number step (Some walk) at h =
+of_walk-fits : {V E : Type 0} (core : Core V E) (number : ℕ) (step : WalkStep) → CoreFits core → IfSome (of_walk core number step) CoreFits
+of_walk-fits core number step h =
+    if_then CoreFits _ (core.walks number) (λ walk at.
     if_mapped CoreFits (with_walk core number) (walk_step core.table walk step) (walk_step-fits core.table walk step (h.walks.each number walk at))
     (λ after fits. record {
       manager = h.manager;
@@ -110,11 +111,10 @@ of_walk-fits core number step (Some walk) at h =
       locals = h.locals;
       walks = walks_put core.table core.walks core.walked core.walked number (Some after) (omega arith) (came_before core.table core.walks core.walked number walk h.walks at) fits h.walks;
       numbers = h.numbers;
-    })
+    }))
 
-end_walk-fits : {V E : Type 0} (core : Core V E) (number : ℕ) (o : Option (SharedWalk V)) → core.walks number ≡ o → CoreFits core → IfSome (end_walk core number o) CoreFits
-end_walk-fits core number None at h = tt
-end_walk-fits core number (Some walk) at h = record {
+walk_ended-fits : {V E : Type 0} (core : Core V E) (number : ℕ) (walk : SharedWalk V) → core.walks number ≡ Some walk → CoreFits core → CoreFits (without_walk core number)
+walk_ended-fits core number walk at h = record {
   manager = h.manager;
   table = h.table;
   locals = h.locals;
@@ -122,9 +122,8 @@ end_walk-fits core number (Some walk) at h = record {
   numbers = h.numbers;
 }
 
-owner_call-fits : {V E : Type 0} (core : Core V E) (alone : Bool) (call : OwnerCall V) → is_alone core ≡ alone → CoreFits core → IfSome (owner_call core alone call) CoreFits
-owner_call-fits core false call e h = tt
-owner_call-fits core true (IterMut others) e h = record {
+after_owner-fits : {V E : Type 0} (core : Core V E) (call : OwnerCall V) → is_alone core ≡ true → CoreFits core → CoreFits (after_owner core call)
+after_owner-fits core (IterMut others) e h = record {
   manager = h.manager;
   table = rewritten-TableFits core.table others core.capacity (length core.manager.held) h.table;
   locals = record {
@@ -135,10 +134,10 @@ owner_call-fits core true (IterMut others) e h = record {
   walks = record { each = λ n walk at. let none = no_walks core h e n in absurd cc; none_from = h.walks.none_from };
   numbers = rewritten-NumbersFit core.table others core.locals h.numbers;
 }
-owner_call-fits core true Slots e h = h
-owner_call-fits core true ClearTable e h = made_core-fits 0 0 (omega arith)
-owner_call-fits core true IntoIter e h = record { manager = h.manager; table = h.table; locals = h.locals; walks = h.walks; numbers = h.numbers }
-owner_call-fits core true DropTable e h = record { manager = h.manager; table = h.table; locals = h.locals; walks = h.walks; numbers = h.numbers }
+after_owner-fits core Slots e h = h
+after_owner-fits core ClearTable e h = made_core-fits 0 0 (omega arith)
+after_owner-fits core IntoIter e h = record { manager = h.manager; table = h.table; locals = h.locals; walks = h.walks; numbers = h.numbers }
+after_owner-fits core DropTable e h = record { manager = h.manager; table = h.table; locals = h.locals; walks = h.walks; numbers = h.numbers }
 
 take-fits : {V E : Type 0} (core : Core V E) (refused : Bool) (growth : ℕ) → CoreFits core → CoreFits (cond (is_granted core.manager refused) (take_id core growth) core)
 take-fits core refused growth h =
@@ -148,13 +147,14 @@ take-fits core refused growth h =
 
 step_of-fits : {V E : Type 0} (core : Core V E) (event : Event V E) → CoreFits core → IfSome (step_of core event) CoreFits
 step_of-fits core (TakeId refused growth) h = take-fits core refused growth h
-step_of-fits core (OfLocal number step) h = of_local-fits core number step (core.locals number) refl h
-step_of-fits core (GiveBack number) h = give_back-fits core number (core.locals number) refl h
-step_of-fits core (Forget number) h = forget-fits core number (core.locals number) h
+step_of-fits core (OfLocal number step) h = of_local-fits core number step h
+step_of-fits core (GiveBack number) h = give_back-fits core number h
+step_of-fits core (Forget number) h = forget-fits core number h
 step_of-fits core BeginWalk h = begin_walk-fits core h
-step_of-fits core (OfWalk number step) h = of_walk-fits core number step (core.walks number) refl h
-step_of-fits core (EndWalk number) h = end_walk-fits core number (core.walks number) refl h
-step_of-fits core (Owner call) h = owner_call-fits core (is_alone core) call refl h
+step_of-fits core (OfWalk number step) h = of_walk-fits core number step h
+step_of-fits core (EndWalk number) h = if_there CoreFits _ (core.walks number) (λ walk at. walk_ended-fits core number walk at h)
+step_of-fits core (Owner call) h =
+    cond_both {A = Option (Core _ _)} (is_alone core) (Some (after_owner core call)) None (λ o. IfSome o CoreFits) (λ e. after_owner-fits core call e h) (λ _. tt)
 
 -- every event keeps the invariant
 pub happens-fits : {V E : Type 0} (core : Core V E) (event : Event V E) → CoreFits core → CoreFits (happens core event)

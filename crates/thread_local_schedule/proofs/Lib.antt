@@ -4,3 +4,4 @@ pub mod Kept
 pub mod Clauses
 pub mod Enabled
 pub mod WalkEvents
+pub mod Open

@@ -1,7 +1,6 @@
 use Rattle.std.proofs.Common.{◌≡◌, ℕ, ◌-◌, ◌^◌, Bool, false, not, ◌&&◌, length, arith, ◌≤◌, ◌⊎◌, IsTrue, subst, ⊎_elim, inl, inr}
 use Rattle.std.proofs.lemmas.Bool.{eqb-false, and_parts, not-true, eqb-true, and_cases, not-false}
-use Rattle.thread_local_model.specs.Held.{Manager, least, HoldsAllBelow}
-use Rattle.thread_local_schedule.specs.Events.{is_exhausted, is_full, is_granted, taken_from}
+use Rattle.thread_local_model.specs.Held.{Manager, least, HoldsAllBelow, is_exhausted, is_full, is_granted, taken_from}
 use Rattle.thread_local_core.proofs.HeldCounts.{peak_after}
 use Rattle.thread_local_core.specs.CoreFits.{ManagerFits}
 use Rattle.thread_local_model.proofs.HeldLaws as ids
@@ -15,15 +14,15 @@ not_granted manager refused room none =
     ⊎_elim
     (λ all. let e = eqb-true (least manager.held) (2 ^ 63 - 1) (not-false (is_exhausted manager) all) in inl (subst (λ n. HoldsAllBelow n manager.held) e lower))
     (λ some.
-    let both = and_parts (is_full manager) refused (not-false (is_full manager && refused) some) in
-    let e = eqb-true (least manager.held) manager.room both.0 in
+    let both = and_parts refused (is_full manager) (not-false (refused && is_full manager) some) in
+    let e = eqb-true (least manager.held) manager.room both.1 in
     let top : least manager.held ≡ length manager.held = omega arith in
-    inr (subst (λ n. HoldsAllBelow n manager.held) top lower, omega arith, both.1))
-    (and_cases (not (is_exhausted manager)) (not (is_full manager && refused)) none)
+    inr (subst (λ n. HoldsAllBelow n manager.held) top lower, omega arith, both.0))
+    (and_cases (not (is_exhausted manager)) (not (refused && is_full manager)) none)
 
 -- a take that is granted finds an id that isn't held
 pub granted_some : (manager : Manager) (refused : Bool) → IsTrue (is_granted manager refused) → is_exhausted manager ≡ false
-granted_some manager refused t = not-true (is_exhausted manager) (and_parts (not (is_exhausted manager)) (not (is_full manager && refused)) t).0
+granted_some manager refused t = not-true (is_exhausted manager) (and_parts (not (is_exhausted manager)) (not (refused && is_full manager)) t).0
 
 -- the manager's part once an id is taken, or given back
 pub taken-ManagerFits : (manager : Manager) (capacity growth : ℕ) → is_exhausted manager ≡ false → ManagerFits manager capacity → ManagerFits (taken_from manager growth) capacity

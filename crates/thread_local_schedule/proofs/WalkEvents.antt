@@ -1,18 +1,20 @@
 use Rattle.std.proofs.Common.{◌≡◌, ℕ, Bool, true, false, cond, Option, Some, None, is_some, IsTrue, IfSome, IsSomeAnd, refl, ap, sym, ◌∙◌, subst, arith, ⊎_elim}
-use Rattle.std.specs.Prelude.{option_map, unwrap_or}
+use Rattle.std.specs.Prelude.{option_map, option_and_then, unwrap_or}
 use Rattle.std.proofs.lemmas.Option.{none-some}
 use Rattle.std.proofs.lemmas.Bool.{false≢true, eqb-false, cond_both}
+use Rattle.thread_local_model.specs.Cursor.{is_complete}
 use Rattle.thread_local_steps.specs.Table.{Table}
-use Rattle.thread_local_steps.specs.Local.{Local, LocalStep, local_step}
-use Rattle.thread_local_core.specs.SharedWalk.{SharedWalk, fresh_walk, is_complete, WalkStep, Load, Look, walk_step, next_step}
+use Rattle.thread_local_steps.specs.Local.{LocalStep, local_step}
+use Rattle.thread_local_core.specs.SharedWalk.{SharedWalk, fresh_walk, WalkStep, Load, Look, walk_step, next_step}
 use Rattle.thread_local_core.specs.WalkFits.{Adds}
 use Rattle.thread_local_core.proofs.WalkStepLaws.{walk_step-adds}
 use Rattle.thread_local_core.specs.Core.{Core, is_alone}
 use Rattle.thread_local_core.specs.CoreFits.{CoreFits}
 use Rattle.thread_local_core.proofs.PutLaws.{put_cases, put_same, put_other, still}
 use Rattle.thread_local_core.proofs.Parts.{no_walks}
-use Rattle.thread_local_core.proofs.OptionLaws.{if_enabled}
-use Rattle.thread_local_schedule.specs.Events.{Event, TakeId, OfLocal, GiveBack, Forget, BeginWalk, OfWalk, EndWalk, Owner, OwnerCall, IterMut, Slots, ClearTable, IntoIter, DropTable, is_granted, take_id, with_step, of_local, give_back, forget, begin_walk, of_walk, end_walk, with_walk, owner_call, is_idle, without_local, given_to, step_of, step, is_enabled, happens}
+use Rattle.thread_local_core.proofs.OptionLaws.{if_enabled, if_there, if_then}
+use Rattle.thread_local_model.specs.Held.{is_granted}
+use Rattle.thread_local_schedule.specs.Events.{Event, TakeId, OfLocal, GiveBack, Forget, BeginWalk, OfWalk, EndWalk, Owner, OwnerCall, IterMut, Slots, ClearTable, IntoIter, DropTable, take_id, with_step, of_local, is_idle, without_local, with_id_given, give_back, forget, with_walk, begin_walk, of_walk, without_walk, after_owner, step_of, step, is_enabled, happens}
 use Rattle.thread_local_schedule.specs.Schedule.{is_of_walk}
 use Rattle.thread_local_schedule.proofs.Clauses.{goes, enabled_step}
 use Rattle.thread_local_schedule.proofs.Enabled.{may}
@@ -26,24 +28,21 @@ pub record WalksSay {V E : Type 0} (core : Core V E) (event : Event V E) (after 
 leaves : {V E : Type 0} (core : Core V E) (event : Event V E) (after : Core V E) → ((n : ℕ) → after.walks n ≡ core.walks n) → WalksSay core event after
 leaves core event after same = record { others = λ n walk _ at. same n ∙ at; comes = λ n walk none at. absurd (none-some walk (sym none ∙ sym (same n) ∙ at)) }
 
-of_local-says : {V E : Type 0} (core : Core V E) (number : ℕ) (step : LocalStep V E) (o : Option (Local V E)) → IfSome (of_local core number step o) (WalksSay core (OfLocal number step))
-of_local-says core number step None = tt
-of_local-says core number step (Some local) = mapped (local_step core.table local step)
-  where
-    mapped : (o : Option (Table _ × Local _ _)) → IfSome (option_map (with_step core number) o) (WalksSay core (OfLocal number step))
-    mapped None = tt
-    mapped (Some after) = leaves core (OfLocal number step) (with_step core number after) (λ n. refl)
+of_local-says : {V E : Type 0} (core : Core V E) (number : ℕ) (step : LocalStep V E) → IfSome (of_local core number step) (WalksSay core (OfLocal number step))
+of_local-says core number step =
+    if_then (WalksSay core (OfLocal number step)) _ (core.locals number) (λ local at.
+    if_there (WalksSay core (OfLocal number step)) (with_step core number) (local_step core.table local step)
+    (λ after _. leaves core (OfLocal number step) (with_step core number after) (λ n. refl)))
 
-give_back-says : {V E : Type 0} (core : Core V E) (number : ℕ) (o : Option (Local V E)) → IfSome (give_back core number o) (WalksSay core (GiveBack number))
-give_back-says core number None = tt
-give_back-says core number (Some local) =
-    let after = record (without_local core number) { manager = given_to core.manager local.id } in
-    if_enabled (WalksSay core (GiveBack number)) (is_idle local.doing) after (leaves core (GiveBack number) after (λ n. refl))
+give_back-says : {V E : Type 0} (core : Core V E) (number : ℕ) → IfSome (give_back core number) (WalksSay core (GiveBack number))
+give_back-says core number =
+    if_then (WalksSay core (GiveBack number)) _ (core.locals number) (λ local at.
+    if_enabled (WalksSay core (GiveBack number)) (is_idle local.doing) (with_id_given core number local.id) (leaves core (GiveBack number) (with_id_given core number local.id) (λ n. refl)))
 
-forget-says : {V E : Type 0} (core : Core V E) (number : ℕ) (o : Option (Local V E)) → IfSome (forget core number o) (WalksSay core (Forget number))
-forget-says core number None = tt
-forget-says core number (Some local) =
-    if_enabled (WalksSay core (Forget number)) (is_idle local.doing) (without_local core number) (leaves core (Forget number) (without_local core number) (λ n. refl))
+forget-says : {V E : Type 0} (core : Core V E) (number : ℕ) → IfSome (forget core number) (WalksSay core (Forget number))
+forget-says core number =
+    if_then (WalksSay core (Forget number)) _ (core.locals number) (λ local at.
+    if_enabled (WalksSay core (Forget number)) (is_idle local.doing) (without_local core number) (leaves core (Forget number) (without_local core number) (λ n. refl)))
 
 -- a walk that begins comes under a number that none has
 begin_walk-says : {V E : Type 0} (core : Core V E) → CoreFits core → IfSome (begin_walk core) (WalksSay core BeginWalk)
@@ -57,47 +56,44 @@ begin_walk-says core h = record {
       (put_cases core.walks core.walked (Some fresh_walk) n walk at);
 }
 
-of_walk-says : {V E : Type 0} (core : Core V E) (number : ℕ) (step : WalkStep) (o : Option (SharedWalk V)) → core.walks number ≡ o → IfSome (of_walk core number step o) (WalksSay core (OfWalk number step))
-of_walk-says core number step None at = tt
-of_walk-says core number step (Some walk) at = mapped (walk_step core.table walk step)
-  where
-    mapped : (o : Option (SharedWalk _)) → IfSome (option_map (with_walk core number) o) (WalksSay core (OfWalk number step))
-    mapped None = tt
-    mapped (Some after) = record {
+of_walk-says : {V E : Type 0} (core : Core V E) (number : ℕ) (step : WalkStep) → IfSome (of_walk core number step) (WalksSay core (OfWalk number step))
+of_walk-says core number step =
+    if_then (WalksSay core (OfWalk number step)) _ (core.walks number) (λ walk at.
+    if_there (WalksSay core (OfWalk number step)) (with_walk core number) (walk_step core.table walk step)
+    (λ after _. record {
       others = λ n other f e. put_other core.walks number (Some after) n (eqb-false number n f) ∙ e;
       comes = λ n other none e.
           ⊎_elim
           (λ here. absurd (none-some walk (sym none ∙ ap core.walks (sym here.0) ∙ at)))
           (λ apart. absurd (none-some other (sym none ∙ apart.1)))
           (put_cases core.walks number (Some after) n other e);
-    }
+    }))
 
-end_walk-says : {V E : Type 0} (core : Core V E) (number : ℕ) (o : Option (SharedWalk V)) → IfSome (end_walk core number o) (WalksSay core (EndWalk number))
-end_walk-says core number None = tt
-end_walk-says core number (Some walk) = record {
+end_walk-says : {V E : Type 0} (core : Core V E) (number : ℕ) → WalksSay core (EndWalk number) (without_walk core number)
+end_walk-says core number = record {
   others = λ n other f e. put_other core.walks number None n (eqb-false number n f) ∙ e;
   comes = λ n other none e. absurd (none-some other (sym none ∙ (still core.walks number n other e).1));
 }
 
-owner_call-says : {V E : Type 0} (core : Core V E) (alone : Bool) (call : OwnerCall V) → is_alone core ≡ alone → CoreFits core → IfSome (owner_call core alone call) (WalksSay core (Owner call))
-owner_call-says core false call e h = tt
-owner_call-says core true (IterMut others) e h = leaves core (Owner (IterMut others)) _ (λ n. refl)
-owner_call-says core true Slots e h = leaves core (Owner Slots) core (λ n. refl)
-owner_call-says core true ClearTable e h = leaves core (Owner ClearTable) _ (λ n. sym (no_walks core h e n))
-owner_call-says core true IntoIter e h = leaves core (Owner IntoIter) _ (λ n. refl)
-owner_call-says core true DropTable e h = leaves core (Owner DropTable) _ (λ n. refl)
+after_owner-says : {V E : Type 0} (core : Core V E) (call : OwnerCall V) → is_alone core ≡ true → CoreFits core → WalksSay core (Owner call) (after_owner core call)
+after_owner-says core (IterMut others) e h = leaves core (Owner (IterMut others)) _ (λ n. refl)
+after_owner-says core Slots e h = leaves core (Owner Slots) core (λ n. refl)
+after_owner-says core ClearTable e h = leaves core (Owner ClearTable) _ (λ n. sym (no_walks core h e n))
+after_owner-says core IntoIter e h = leaves core (Owner IntoIter) _ (λ n. refl)
+after_owner-says core DropTable e h = leaves core (Owner DropTable) _ (λ n. refl)
 
 step_of-says : {V E : Type 0} (core : Core V E) (event : Event V E) → CoreFits core → IfSome (step_of core event) (WalksSay core event)
 step_of-says core (TakeId refused growth) h =
     leaves core (TakeId refused growth) _
     (λ n. cond_both (is_granted core.manager refused) (take_id core growth) core (λ after. after.walks n ≡ core.walks n) (λ _. refl) (λ _. refl))
-step_of-says core (OfLocal number step) h = of_local-says core number step (core.locals number)
-step_of-says core (GiveBack number) h = give_back-says core number (core.locals number)
-step_of-says core (Forget number) h = forget-says core number (core.locals number)
+step_of-says core (OfLocal number step) h = of_local-says core number step
+step_of-says core (GiveBack number) h = give_back-says core number
+step_of-says core (Forget number) h = forget-says core number
 step_of-says core BeginWalk h = begin_walk-says core h
-step_of-says core (OfWalk number step) h = of_walk-says core number step (core.walks number) refl
-step_of-says core (EndWalk number) h = end_walk-says core number (core.walks number)
-step_of-says core (Owner call) h = owner_call-says core (is_alone core) call refl h
+step_of-says core (OfWalk number step) h = of_walk-says core number step
+step_of-says core (EndWalk number) h = if_there (WalksSay core (EndWalk number)) _ (core.walks number) (λ walk at. end_walk-says core number)
+step_of-says core (Owner call) h =
+    cond_both {A = Option (Core _ _)} (is_alone core) (Some (after_owner core call)) None (λ o. IfSome o (WalksSay core (Owner call))) (λ e. after_owner-says core call e h) (λ _. tt)
 
 says_of : {V E : Type 0} (core : Core V E) (event : Event V E) (o : Option (Core V E)) → IfSome o (WalksSay core event) → WalksSay core event (unwrap_or o core)
 says_of core event None s = leaves core event core (λ n. refl)
@@ -124,10 +120,10 @@ pub adds : {V E : Type 0} (core : Core V E) (n : ℕ) (step : WalkStep) (before 
     → core.walks n ≡ Some before → IsSomeAnd ((happens core (OfWalk n step)).walks n) (Adds core.table step before)
 adds core n step before h t at =
     rw (goes core (OfWalk n step) t)
-    (rw at (added core n step (walk_step core.table before step) before (walk_step-adds core.table before step (h.walks.each n before at)) (subst (λ o. IsTrue (is_some (of_walk core n step o))) at (enabled_step core (OfWalk n step) t))))
+    (rw at (added core n step (walk_step core.table before step) before (walk_step-adds core.table before step (h.walks.each n before at)) (subst (λ o. IsTrue (is_some (option_and_then (λ w. option_map (with_walk core n) (walk_step core.table w step)) o))) at (enabled_step core (OfWalk n step) t))))
 
 -- a walk that isn't complete goes on
-loads : {V : Type 0} (table : Table V) (walk : SharedWalk V) (looks : Bool) → walk.looks ≡ looks → is_complete walk ≡ false → IsTrue (is_some (walk_step table walk (cond looks Look Load)))
+loads : {V : Type 0} (table : Table V) (walk : SharedWalk V) (looks : Bool) → walk.cursor.looks ≡ looks → is_complete walk.cursor ≡ false → IsTrue (is_some (walk_step table walk (cond looks Look Load)))
 unfolding walk_step
 loads table walk true e f = rw e refl
 loads table walk false e f = rw e (below _ _ f)
@@ -140,14 +136,14 @@ stepped_on : {V E : Type 0} (core : Core V E) (n : ℕ) (o : Option (SharedWalk 
 stepped_on core n None t = absurd (false≢true t)
 stepped_on core n (Some walk) t = refl
 
-pub goes_on : {V E : Type 0} (core : Core V E) (n : ℕ) (walk : SharedWalk V) → core.ended ≡ false → core.walks n ≡ Some walk → is_complete walk ≡ false
+pub goes_on : {V E : Type 0} (core : Core V E) (n : ℕ) (walk : SharedWalk V) → core.ended ≡ false → core.walks n ≡ Some walk → is_complete walk.cursor ≡ false
     → IsTrue (is_enabled core (OfWalk n (next_step walk)))
 goes_on core n walk going at f =
     may core (OfWalk n (next_step walk)) going
-    (subst (λ o. IsTrue (is_some (of_walk core n (next_step walk) o))) (sym at) (stepped_on core n (walk_step core.table walk (next_step walk)) (loads core.table walk walk.looks refl f)))
+    (subst (λ o. IsTrue (is_some (option_and_then (λ w. option_map (with_walk core n) (walk_step core.table w (next_step walk))) o))) (sym at) (stepped_on core n (walk_step core.table walk (next_step walk)) (loads core.table walk walk.cursor.looks refl f)))
 
 -- the end of a walk
-ended : {V E : Type 0} (core : Core V E) (n : ℕ) (o : Option (SharedWalk V)) → IsTrue (is_some (end_walk core n o)) → (unwrap_or (end_walk core n o) core).walks n ≡ None
+ended : {V E : Type 0} (core : Core V E) (n : ℕ) (o : Option (SharedWalk V)) → IsTrue (is_some (option_map (λ walk. without_walk core n) o)) → (unwrap_or (option_map (λ walk. without_walk core n) o) core).walks n ≡ None
 ended core n None t = absurd (false≢true t)
 ended core n (Some walk) t = put_same core.walks n None
 

@@ -1,10 +1,11 @@
-use Rattle.std.specs.Prelude.{ℕ, zero, suc, ◌+◌, ◌-◌, ◌^◌, max, Bool, true, false, not, ◌&&◌, List, [], ◌∷◌, length, Option, Some, None, is_some, option_map, unwrap_or, ◌==◌, if◌then◌else◌}
-use Rattle.thread_local_model.specs.Held.{Manager, least, with_least, without}
+use Rattle.std.specs.Prelude.{ℕ, zero, suc, Bool, true, false, List, [], ◌∷◌, Option, Some, None, is_some, option_map, option_and_then, unwrap_or, if◌then◌else◌}
+use Rattle.thread_local_model.specs.Held.{least, is_granted, taken_from, given_to}
+use Rattle.thread_local_model.specs.Answers.{first_view}
 use Rattle.thread_local_steps.specs.Local.{Doing, Gets, Local, fresh_local, LocalStep, local_step}
 use Rattle.thread_local_steps.specs.Table.{Table}
 use Rattle.thread_local_core.specs.SharedWalk.{SharedWalk, fresh_walk, WalkStep, walk_step}
 use Rattle.thread_local_core.specs.OwnerWalk.{rewritten}
-use Rattle.thread_local_core.specs.Core.{Core, new_core, shadow, first_view, put, is_alone}
+use Rattle.thread_local_core.specs.Core.{Core, new_core, shadow, put, is_alone}
 
 -- what somebody does who has the table alone
 pub data OwnerCall (V : Type 0) : Type 0 where
@@ -26,23 +27,9 @@ pub data Event (V E : Type 0) : Type 0 where
   EndWalk : (number : ℕ) → Event V E
   Owner : (call : OwnerCall V) → Event V E
 
--- whether all ids are held
-abbrev pub is_exhausted : Manager → Bool
-is_exhausted manager = least manager.held == 2 ^ 63 - 1
+-- What events make of a core.
 
--- whether each id that has room is held
-abbrev pub is_full : Manager → Bool
-is_full manager = least manager.held == manager.room
-
--- whether a take gets an id, by whether memory is refused
-abbrev pub is_granted : Manager → Bool → Bool
-is_granted manager refused = not (is_exhausted manager) && not (is_full manager && refused)
-
--- the manager once the least id that wasn't held is, and room has grown as far as is needed and this much more
-abbrev pub taken_from : Manager → ℕ → Manager
-taken_from manager growth = record { held = with_least manager.held; room = max manager.room (length (with_least manager.held)) + growth }
-
--- a Local takes the least id that isn't held
+-- the core once a Local has taken the least id that isn't held
 abbrev pub take_id : {V E : Type 0} → Core V E → ℕ → Core V E
 take_id core growth =
     let id = least core.manager.held in
@@ -52,79 +39,84 @@ take_id core growth =
       taken = suc core.taken;
     }
 
--- Each event below gives the core after it, or None where it isn't enabled.
-
 -- the core once a Local and its table are as a step leaves them
 abbrev pub with_step : {V E : Type 0} → Core V E → ℕ → Table V × Local V E → Core V E
 with_step core number after = record core { table = after.0; locals = put core.locals number (Some after.1) }
 
--- a step of a Local that lives
-abbrev pub of_local : {V E : Type 0} → Core V E → ℕ → LocalStep V E → Option (Local V E) → Option (Core V E)
-of_local core number step None = None
-of_local core number step (Some local) = option_map (with_step core number) (local_step core.table local step)
+-- the core once a Local lives no longer
+abbrev pub without_local : {V E : Type 0} → Core V E → ℕ → Core V E
+without_local core number = record core { locals = put core.locals number None }
+
+-- the core once a Local lives no longer and its id is held no longer
+abbrev pub with_id_given : {V E : Type 0} → Core V E → ℕ → ℕ → Core V E
+with_id_given core number id = record (without_local core number) { manager = given_to core.manager id }
+
+-- the core once a walk is this one
+abbrev pub with_walk : {V E : Type 0} → Core V E → ℕ → SharedWalk V → Core V E
+with_walk core number walk = record core { walks = put core.walks number (Some walk) }
+
+-- the core once a walk is under way no longer
+abbrev pub without_walk : {V E : Type 0} → Core V E → ℕ → Core V E
+without_walk core number = record core { walks = put core.walks number None }
+
+-- the core after an owner's call: `iter_mut` puts other values in place, `clear` leaves a table as from `new`, and
+-- `into_iter` and the drop end the table
+abbrev pub after_owner : {V E : Type 0} → Core V E → OwnerCall V → Core V E
+after_owner core (IterMut others) = record core { table = rewritten core.table others }
+after_owner core Slots = core
+after_owner core ClearTable = new_core
+after_owner core IntoIter = record core { ended = true }
+after_owner core DropTable = record core { ended = true }
 
 -- whether a Local has no call under way
 abbrev pub is_idle : {V E : Type 0} → Doing V E → Bool
 is_idle (Gets zero) = true
 is_idle doing = false
 
--- the core once a Local lives no longer
-abbrev pub without_local : {V E : Type 0} → Core V E → ℕ → Core V E
-without_local core number = record core { locals = put core.locals number None }
+-- Each event below gives the core after it, or None where it isn't enabled.
 
--- the manager once an id is held no longer
-abbrev pub given_to : Manager → ℕ → Manager
-given_to manager id = record manager { held = without manager.held id }
+-- a Local that lives makes a step
+abbrev pub of_local : {V E : Type 0} → Core V E → ℕ → LocalStep V E → Option (Core V E)
+of_local core number step =
+    option_and_then (λ local. option_map (with_step core number) (local_step core.table local step)) (core.locals number)
 
 -- a Local with no call under way gives its id back
-abbrev pub give_back : {V E : Type 0} → Core V E → ℕ → Option (Local V E) → Option (Core V E)
-give_back core number None = None
-give_back core number (Some local) =
-    if is_idle local.doing then Some (record (without_local core number) { manager = given_to core.manager local.id }) else None
+abbrev pub give_back : {V E : Type 0} → Core V E → ℕ → Option (Core V E)
+give_back core number =
+    option_and_then (λ local. if is_idle local.doing then Some (with_id_given core number local.id) else None) (core.locals number)
 
 -- a Local with no call under way is forgotten: its id stays held
-abbrev pub forget : {V E : Type 0} → Core V E → ℕ → Option (Local V E) → Option (Core V E)
-forget core number None = None
-forget core number (Some local) = if is_idle local.doing then Some (without_local core number) else None
-
--- the core once a walk is this one
-abbrev pub with_walk : {V E : Type 0} → Core V E → ℕ → SharedWalk V → Core V E
-with_walk core number walk = record core { walks = put core.walks number (Some walk) }
+abbrev pub forget : {V E : Type 0} → Core V E → ℕ → Option (Core V E)
+forget core number =
+    option_and_then (λ local. if is_idle local.doing then Some (without_local core number) else None) (core.locals number)
 
 -- a walk begins
 abbrev pub begin_walk : {V E : Type 0} → Core V E → Option (Core V E)
 begin_walk core = Some (record (with_walk core core.walked fresh_walk) { walked = suc core.walked })
 
--- a step of a walk that is under way
-abbrev pub of_walk : {V E : Type 0} → Core V E → ℕ → WalkStep → Option (SharedWalk V) → Option (Core V E)
-of_walk core number step None = None
-of_walk core number step (Some walk) = option_map (with_walk core number) (walk_step core.table walk step)
+-- a walk that is under way makes a step
+abbrev pub of_walk : {V E : Type 0} → Core V E → ℕ → WalkStep → Option (Core V E)
+of_walk core number step =
+    option_and_then (λ walk. option_map (with_walk core number) (walk_step core.table walk step)) (core.walks number)
 
--- a walk is under way no longer
-abbrev pub end_walk : {V E : Type 0} → Core V E → ℕ → Option (SharedWalk V) → Option (Core V E)
-end_walk core number None = None
-end_walk core number (Some walk) = Some (record core { walks = put core.walks number None })
+-- a walk that is under way ends
+abbrev pub end_walk : {V E : Type 0} → Core V E → ℕ → Option (Core V E)
+end_walk core number = option_map (λ walk. without_walk core number) (core.walks number)
 
--- what an owner does, by whether the table is its own: `iter_mut` puts other values in place, `clear` leaves a table
--- as from `new`, and `into_iter` and the drop end the table
-abbrev pub owner_call : {V E : Type 0} → Core V E → Bool → OwnerCall V → Option (Core V E)
-owner_call core false call = None
-owner_call core true (IterMut others) = Some (record core { table = rewritten core.table others })
-owner_call core true Slots = Some core
-owner_call core true ClearTable = Some new_core
-owner_call core true IntoIter = Some (record core { ended = true })
-owner_call core true DropTable = Some (record core { ended = true })
+-- an owner's call comes where somebody has the table alone
+abbrev pub owner_call : {V E : Type 0} → Core V E → OwnerCall V → Option (Core V E)
+owner_call core call = if is_alone core then Some (after_owner core call) else None
 
 -- the core after an event of a table that hasn't ended
 abbrev pub step_of : {V E : Type 0} → Core V E → Event V E → Option (Core V E)
 step_of core (TakeId refused growth) = Some (if is_granted core.manager refused then take_id core growth else core)
-step_of core (OfLocal number step) = of_local core number step (core.locals number)
-step_of core (GiveBack number) = give_back core number (core.locals number)
-step_of core (Forget number) = forget core number (core.locals number)
+step_of core (OfLocal number step) = of_local core number step
+step_of core (GiveBack number) = give_back core number
+step_of core (Forget number) = forget core number
 step_of core BeginWalk = begin_walk core
-step_of core (OfWalk number step) = of_walk core number step (core.walks number)
-step_of core (EndWalk number) = end_walk core number (core.walks number)
-step_of core (Owner call) = owner_call core (is_alone core) call
+step_of core (OfWalk number step) = of_walk core number step
+step_of core (EndWalk number) = end_walk core number
+step_of core (Owner call) = owner_call core call
 
 -- the core after an event, None where the event isn't enabled: once a table has ended, none is
 unfoldable pub step : {V E : Type 0} → Core V E → Event V E → Option (Core V E)

@@ -1,5 +1,6 @@
 pub use Rattle.thread_local_model.specs.Held
 pub use Rattle.thread_local_model.specs.Walk
+pub use Rattle.thread_local_model.specs.Cursor
 pub use Rattle.thread_local_model.specs.Capacity
 pub use Rattle.thread_local_model.specs.Sheet
 pub use Rattle.thread_local_model.specs.Answers

@@ -1,9 +1,10 @@
 use Rattle.std.specs.Prelude.{◌≡◌, ℕ, ◌^◌, ◌<◌, Bool, true, false, not, ◌&&◌, List, [], ◌∷◌, Option, Some, None, option_map, ⊤, ◌==◌, if◌then◌else◌}
+use Rattle.thread_local_model.specs.Held.{is_granted}
 use Rattle.thread_local_model.specs.Sheet.{Move, Take, Give, Publish, Rewrite, Clear}
 use Rattle.thread_local_steps.specs.Local.{Local, LocalStep, MakeBucket}
 use Rattle.thread_local_steps.specs.Fits.{value_set}
 use Rattle.thread_local_core.specs.Core.{Core, made_core}
-use Rattle.thread_local_schedule.specs.Events.{Event, TakeId, OfLocal, GiveBack, Forget, OfWalk, EndWalk, Owner, IterMut, ClearTable, IntoIter, DropTable, is_granted, is_enabled, happens, run}
+use Rattle.thread_local_schedule.specs.Events.{Event, TakeId, OfLocal, GiveBack, Forget, OfWalk, EndWalk, Owner, IterMut, ClearTable, IntoIter, DropTable, is_enabled, happens, run}
 
 -- what a step of a Local publishes
 abbrev pub publishing : {V E : Type 0} → Option (Local V E) → LocalStep V E → Option (Move V)
@@ -59,7 +60,7 @@ is_of_walk n (EndWalk number) = number == n
 is_of_walk n event = false
 
 -- no Local lives, and no walk is under way
-pub record IsUnused {V E : Type 0} (core : Core V E) : Type 0 where
+pub record IsAlone {V E : Type 0} (core : Core V E) : Type 0 where
   pub locals : (n : ℕ) → core.locals n ≡ None
   pub walks : (n : ℕ) → core.walks n ≡ None
 

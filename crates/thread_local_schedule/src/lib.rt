@@ -5,6 +5,8 @@
 //! and from one of each capacity, whatever the values and the closures' errors are.
 #![tactic(auto)]
 
+pub mod ends;
 pub mod schedule;
 
+pub use ends::every_end;
 pub use schedule::{every_schedule, every_walk, every_word};

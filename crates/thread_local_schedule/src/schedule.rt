@@ -2,18 +2,19 @@ ghost use Rattle.std.specs.Prelude.{◌≡◌, ◌≢◌, ℕ, ◌+◌, ◌-◌,
 ghost use Rattle.std.specs.List.Sorted.{IsStrictlyIncreasing};
 ghost use Rattle.thread_local_model.specs.Held.{is_held, least, HoldsAllBelow};
 ghost use Rattle.thread_local_model.specs.Walk.{walk};
+ghost use Rattle.thread_local_model.specs.Cursor.{is_complete};
 ghost use Rattle.thread_local_model.specs.Sheet.{new_sheet, moved_if, IsAllowed};
-ghost use Rattle.thread_local_model.specs.Answers.{answers};
+ghost use Rattle.thread_local_model.specs.Answers.{answers, first_view};
 ghost use Rattle.thread_local_steps.specs.Local.{Local, LocalStep};
-ghost use Rattle.thread_local_core.specs.SharedWalk.{SharedWalk, fresh_walk, WalkStep, next_step, is_complete};
+ghost use Rattle.thread_local_core.specs.SharedWalk.{SharedWalk, fresh_walk, WalkStep, next_step};
 ghost use Rattle.thread_local_core.specs.OwnerWalk.{owner_walk};
 ghost use Rattle.thread_local_steps.specs.Fits.{IsWritten, named};
 ghost use Rattle.thread_local_steps.specs.Calls.{HasNoCall, GoesOn};
 ghost use Rattle.thread_local_steps.specs.Numbers.{own_number};
 ghost use Rattle.thread_local_core.specs.WalkFits.{Adds};
-ghost use Rattle.thread_local_core.specs.Core.{Core, new_core, shadow, first_view, peak};
+ghost use Rattle.thread_local_core.specs.Core.{Core, new_core, shadow, peak};
 ghost use Rattle.thread_local_schedule.specs.Events.{Event, TakeId, OfLocal, GiveBack, Forget, BeginWalk, OfWalk, EndWalk, OwnerCall, Owner, ClearTable, is_enabled, happens, run};
-ghost use Rattle.thread_local_schedule.specs.Schedule.{move, is_exclusive, is_of, is_of_walk, IsUnused, is_refused, is_granted_take, newcomer, IsReached, NoneTaken};
+ghost use Rattle.thread_local_schedule.specs.Schedule.{move, is_exclusive, is_of, is_of_walk, IsAlone, is_refused, is_granted_take, newcomer, IsReached, NoneTaken};
 
 /// What holds of a table over every schedule of atomic steps, from a table of `new` and from one of each capacity
 /// below 2^63: each `Local` gets the least id not held; a slot's first published value stays until an owner has
@@ -36,9 +37,9 @@ pub fn every_schedule<V, E>()
     ensures walks_begin { (core : Core V E)
         → core.ended ≡ false → IsTrue (is_enabled core BeginWalk) }
     ensures alone { (core : Core V E) (call : OwnerCall V) → IsReached core
-        → IsTrue (is_enabled core (Owner call)) → IsUnused core }
+        → IsTrue (is_enabled core (Owner call)) → IsAlone core }
     ensures owners_call { (core : Core V E) (call : OwnerCall V)
-        → core.ended ≡ false → IsUnused core → IsTrue (is_enabled core (Owner call)) }
+        → core.ended ≡ false → IsAlone core → IsTrue (is_enabled core (Owner call)) }
 
     // A Local gives its id back, or is forgotten, just where no call of it is under way. Then it lives no longer, and
     // the id of a forgotten one is held still.
@@ -145,7 +146,7 @@ pub fn every_walk<V, E>()
         → is_of_walk n event ≡ false
         → core.walks n ≡ Some shared → (happens core event).walks n ≡ Some shared }
     ensures goes_on { (core : Core V E) (n : ℕ) (shared : SharedWalk V)
-        → core.ended ≡ false → core.walks n ≡ Some shared → is_complete shared ≡ false
+        → core.ended ≡ false → core.walks n ≡ Some shared → is_complete shared.cursor ≡ false
         → IsTrue (is_enabled core (OfWalk n (next_step shared))) }
     ensures ends { (core : Core V E) (n : ℕ)
         → IsTrue (is_enabled core (EndWalk n)) → (happens core (EndWalk n)).walks n ≡ None }
@@ -157,7 +158,7 @@ pub fn every_walk<V, E>()
         → IsTrue (is_enabled core (OfWalk n step)) → core.walks n ≡ Some before
         → IsSomeAnd ((happens core (OfWalk n step)).walks n) (Adds core.table step before) }
     ensures complete { (core : Core V E) (n : ℕ) (shared : SharedWalk V) → IsReached core
-        → core.walks n ≡ Some shared → IsTrue (is_complete shared)
+        → core.walks n ≡ Some shared → IsTrue (is_complete shared.cursor)
         → (id : ℕ) (v : V) → shared.first id ≡ Some v → Contains shared.given (id, v) }
     ensures published { (core : Core V E) (n : ℕ) (shared : SharedWalk V) → IsReached core
         → core.walks n ≡ Some shared

@@ -1,6 +1,6 @@
 //! The buckets of a table, shared among threads.
 ghost use Rattle.std.specs.Prelude.{◌≡◌, ◌≢◌, ◌<◌, IfSome, IsSome};
-ghost use Rattle.thread_local_model.specs.Learnt.{Missing};
+ghost use Rattle.thread_local_model.specs.Learnt.{Unknown, Missing, Finds};
 ghost use Rattle.thread_local_model.specs.Owned.{IsOwned};
 ghost use Rattle.thread_local_model.specs.Place.{bucket_of, id_at};
 ghost use Rattle.thread_local_judged.specs.Judged.{Judged};
@@ -107,6 +107,7 @@ impl<T> Shared<T> {
     pub fn claim(&self, held: HeldId) -> Claim<'_, T>
         requires { held.right.table ≡ self.now.table }
         ensures right { (result.table ≡ self.now.table) × (result.id ≡ held.id) }
+        ensures found { Finds Unknown result.learnt }
         ensures learnt { IsKnown result.learnt }
         ensures reserved { id_at (bucket_of held.id) 0 < self.now.reserved → result.learnt ≢ Missing }
     {

@@ -1,9 +1,10 @@
-use Rattle.std.proofs.Common.{◌≡◌, ℕ, zero, suc, Bool, true, false, [], ◌∷◌, ◌++◌, Option, Some, None, Result, Ok, Err, IfSome, IsSomeAnd, refl, ap, sym, subst, inl, inr}
-use Rattle.thread_local_model.specs.Answers.{Get, GetOr, Answer}
-use Rattle.thread_local_model.specs.Learnt.{Learnt, Missing, Vacant, Holding, learnt_by_load, learnt_by_look}
-use Rattle.thread_local_steps.specs.Table.{Table, published, stands}
+use Rattle.std.proofs.Common.{◌≡◌, ℕ, zero, suc, Bool, true, false, [], ◌∷◌, ◌++◌, Option, Some, None, Result, Ok, Err, IfSome, IsSomeAnd, refl, ap, sym, subst, inl, inr, cond}
+use Rattle.thread_local_model.specs.Answers.{Get, GetOr, Answer, Answered}
+use Rattle.thread_local_model.specs.Learnt.{Learnt, Missing, Vacant, Holding, learnt_by_load, learnt_by_look, learnt_by_install, learnt_by_publish}
+use Rattle.thread_local_steps.specs.Table.{Table, published, stands, with_flag}
 use Rattle.thread_local_model.specs.Place.{bucket_of}
-use Rattle.thread_local_steps.specs.Local.{Doing, Gets, Started, Private, Written, Local, after_call, is_calling, begin_get, begin_get_or, learns, load_word, look_at_flag, make_bucket, install_bucket, write_value, set_flag, reply, local_step, LocalStep, BeginGet, BeginGetOr, LoadWord, LookAtFlag, MakeBucket, InstallBucket, WriteValue, SetFlag, Reply}
+use Rattle.thread_local_steps.specs.Local.{Doing, Gets, Started, Private, Written, Local, after_call, is_calling, learns, load_word, look_at_flag, make_bucket, offered, install_bucket, write_value, set_flag, reply, local_step, LocalStep, BeginGet, BeginGetOr, LoadWord, LookAtFlag, MakeBucket, InstallBucket, WriteValue, SetFlag, Reply, doing_with_get, doing_with_get_or, begin_call, closure_at_missing, closure_at_vacant, ending_of}
+use Rattle.std.specs.Prelude.{option_map}
 use Rattle.thread_local_steps.specs.Calls.{gets_of, closure_of, CallsStay, PublishingEnds, CallsGo, GoesOn}
 
 -- a Local that does the same, or goes on with the call that it has begun
@@ -28,32 +29,39 @@ get_ends : {V E : Type 0} (local : Local V E) (count : ℕ) (told : Answer V E) 
     → GoesOn Reply local (after_call local Get told learnt (Gets count))
 get_ends local count told learnt e = record { id = refl; start = refl; calls = inl (record { gets = ap gets_of e; closure = sym (ap closure_of e); calls = refl }) }
 
-begin_get-goes : {V E : Type 0} (table : Table V) (local : Local V E) (doing : Doing V E) → local.doing ≡ doing → IfSome (begin_get table local doing) (λ after. GoesOn BeginGet local after.1)
+begin_get-goes : {V E : Type 0} (table : Table V) (local : Local V E) (doing : Doing V E) → local.doing ≡ doing → IfSome (option_map (begin_call table local) (doing_with_get doing)) (λ after. GoesOn BeginGet local after.1)
 begin_get-goes table local (Gets count) e =
     goes BeginGet local local.learnt (Gets (suc count)) (record { gets = ap suc (sym (ap gets_of e)); closure = sym (ap closure_of e); calls = refl })
 begin_get-goes table local _ e = tt
 
 begin_get_or-goes : {V E : Type 0} (table : Table V) (local : Local V E) (create : Result V E) (doing : Doing V E) → local.doing ≡ doing
-    → IfSome (begin_get_or table local create doing) (λ after. GoesOn (BeginGetOr create) local after.1)
+    → IfSome (option_map (begin_call table local) (doing_with_get_or create doing)) (λ after. GoesOn (BeginGetOr create) local after.1)
 begin_get_or-goes table local create (Gets zero) e =
     goes (BeginGetOr create) local local.learnt (Started create) (record { none = ap closure_of e; gets = sym (ap gets_of e); closure = refl; calls = refl })
 begin_get_or-goes table local create _ e = tt
 
+-- what holds whatever is learnt holds where something is
+pub whatever_is_learnt : {V E : Type 0} (table : Table V) (local : Local V E) (o : Option (Learnt V)) (P : Table V × Local V E → Type 0)
+    → ((learnt : Learnt V) → P (table, record local { learnt = learnt })) → IfSome (learns table local o) P
+whatever_is_learnt table local None P p = tt
+whatever_is_learnt table local (Some learnt) P p = p learnt
+
 learns-goes : {V E : Type 0} (step : LocalStep V E) (table : Table V) (local : Local V E) (o : Option (Learnt V))
     → ((after : Local V E) → CallsStay local after → CallsGo step local after) → IfSome (learns table local o) (λ after. GoesOn step local after.1)
-learns-goes step table local None go = tt
-learns-goes step table local (Some learnt) go = record { id = refl; start = refl; calls = go (record local { learnt = learnt }) (record { gets = refl; closure = refl; calls = refl }) }
+learns-goes step table local o go =
+    whatever_is_learnt table local o (λ after. GoesOn step local after.1)
+    (λ learnt. record { id = refl; start = refl; calls = go (record local { learnt = learnt }) (record { gets = refl; closure = refl; calls = refl }) })
 
-load_word-goes : {V E : Type 0} (table : Table V) (local : Local V E) (b : Bool) → IfSome (load_word table local b) (λ after. GoesOn LoadWord local after.1)
+load_word-goes : {V E : Type 0} (table : Table V) (local : Local V E) (b : Bool) → IfSome (cond b (load_word table local) None) (λ after. GoesOn LoadWord local after.1)
 load_word-goes table local false = tt
 load_word-goes table local true = learns-goes LoadWord table local (learnt_by_load local.learnt (stands table (bucket_of local.id))) (λ after c. c)
 
-look_at_flag-goes : {V E : Type 0} (table : Table V) (local : Local V E) (b : Bool) → IfSome (look_at_flag table local b) (λ after. GoesOn LookAtFlag local after.1)
+look_at_flag-goes : {V E : Type 0} (table : Table V) (local : Local V E) (b : Bool) → IfSome (cond b (look_at_flag table local) None) (λ after. GoesOn LookAtFlag local after.1)
 look_at_flag-goes table local false = tt
 look_at_flag-goes table local true = learns-goes LookAtFlag table local (learnt_by_look local.learnt (published table local.id)) (λ after c. c)
 
 make_bucket-goes : {V E : Type 0} (table : Table V) (local : Local V E) (refused : Bool) (doing : Doing V E) (learnt : Learnt V) → local.doing ≡ doing
-    → IfSome (make_bucket table local refused doing learnt) (λ after. GoesOn (MakeBucket refused) local after.1)
+    → IfSome (option_map (make_bucket table local refused) (closure_at_missing doing learnt)) (λ after. GoesOn (MakeBucket refused) local after.1)
 make_bucket-goes table local true (Started create) Missing e =
     record { id = refl; start = refl; calls = record { ends = publishing_ends local create true _ Missing (ap gets_of e) (ap closure_of e); answered = refl } }
 make_bucket-goes table local false (Started create) Missing e =
@@ -63,11 +71,12 @@ make_bucket-goes table local refused _ _ e = tt
 install_bucket-goes : {V E : Type 0} (table : Table V) (local : Local V E) (doing : Doing V E) → local.doing ≡ doing
     → IfSome (install_bucket table local doing) (λ after. GoesOn InstallBucket local after.1)
 install_bucket-goes table local (Private create number) e =
-    goes InstallBucket local Vacant (Started create) (stay local Vacant (Started create) (sym (ap gets_of e)) (sym (ap closure_of e)))
+    whatever_is_learnt (offered table (bucket_of local.id) number) (record local { doing = Started create }) (learnt_by_install local.learnt) (λ after. GoesOn InstallBucket local after.1)
+    (λ learnt. goes InstallBucket local learnt (Started create) (stay local learnt (Started create) (sym (ap gets_of e)) (sym (ap closure_of e))))
 install_bucket-goes table local _ e = tt
 
 write_value-goes : {V E : Type 0} (table : Table V) (local : Local V E) (doing : Doing V E) (learnt : Learnt V) → local.doing ≡ doing
-    → IfSome (write_value table local doing learnt) (λ after. GoesOn WriteValue local after.1)
+    → IfSome (option_map (write_value table local) (closure_at_vacant doing learnt)) (λ after. GoesOn WriteValue local after.1)
 write_value-goes table local (Started (Ok v)) Vacant e =
     goes WriteValue local Vacant (Written v) (inl (stay local Vacant (Written v) (sym (ap gets_of e)) (sym (ap closure_of e))))
 write_value-goes table local (Started (Err x)) Vacant e =
@@ -76,16 +85,18 @@ write_value-goes table local _ _ e = tt
 
 set_flag-goes : {V E : Type 0} (table : Table V) (local : Local V E) (doing : Doing V E) → local.doing ≡ doing
     → IfSome (set_flag table local doing) (λ after. GoesOn SetFlag local after.1)
-set_flag-goes table local (Written v) e = record { id = refl; start = refl; calls = publishing_ends local (Ok v) false _ (Holding v) (ap gets_of e) (ap closure_of e) }
+set_flag-goes table local (Written v) e =
+    whatever_is_learnt (with_flag table local.id) (after_call local (GetOr (Ok v) false) (Answered v) local.learnt (Gets 0)) (learnt_by_publish local.learnt v)
+    (λ after. GoesOn SetFlag local after.1) (λ learnt. record { id = refl; start = refl; calls = publishing_ends local (Ok v) false _ learnt (ap gets_of e) (ap closure_of e) })
 set_flag-goes table local _ e = tt
 
 reply-goes : {V E : Type 0} (table : Table V) (local : Local V E) (doing : Doing V E) (learnt : Learnt V) → local.doing ≡ doing
-    → IfSome (reply table local doing learnt) (λ after. GoesOn Reply local after.1)
-reply-goes table local (Gets (suc count)) Missing e = get_ends local count _ Missing e
-reply-goes table local (Gets (suc count)) Vacant e = get_ends local count _ Vacant e
-reply-goes table local (Gets (suc count)) (Holding v) e = get_ends local count _ (Holding v) e
+    → IfSome (option_map (reply table local) (ending_of doing learnt)) (λ after. GoesOn Reply local after.1)
+reply-goes table local (Gets (suc count)) Missing e = get_ends local count _ local.learnt e
+reply-goes table local (Gets (suc count)) Vacant e = get_ends local count _ local.learnt e
+reply-goes table local (Gets (suc count)) (Holding v) e = get_ends local count _ local.learnt e
 reply-goes table local (Started create) (Holding v) e =
-    record { id = refl; start = refl; calls = inr (publishing_ends local create false _ (Holding v) (ap gets_of e) (ap closure_of e)) }
+    record { id = refl; start = refl; calls = inr (publishing_ends local create false _ local.learnt (ap gets_of e) (ap closure_of e)) }
 reply-goes table local _ _ e = tt
 
 -- no step loses a call or makes one up

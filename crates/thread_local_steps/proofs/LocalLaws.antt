@@ -1,12 +1,13 @@
 use Rattle.std.proofs.Common.{◌≡◌, ℕ, zero, suc, ◌⊎◌, Bool, true, false, cond, eqb, [], ◌∷◌, ◌++◌, Option, Some, None, Result, Ok, Err, IsTrue, is_some, IfSome, refl, ap, sym, ◌∙◌, subst, ⊎_elim, inl, inr}
+use Rattle.std.specs.Prelude.{option_map}
 use Rattle.std.proofs.lemmas.Bool.{cases_eq, cond_both, eq-eqb, ne_eqb, false_from_ne_true, false≢true}
 use Rattle.thread_local_model.specs.Place.{bucket_of}
 use Rattle.thread_local_model.specs.Answers.{View, Call, Get, GetOr, Answer, Found, Answered, Refused, Failed, Says, answers}
 use Rattle.thread_local_model.proofs.AnswersLaws as says
 use Rattle.thread_local_model.proofs.AnswersLaws.{answers-push, view_after_all-push}
-use Rattle.thread_local_steps.specs.Table.{Slot, Table, slot_at, published, stands, value_of, with_slot}
-use Rattle.thread_local_model.specs.Learnt.{Learnt, Unknown, Missing, Standing, Vacant, Holding, learnt_by_load, learnt_by_look}
-use Rattle.thread_local_steps.specs.Local.{Doing, Gets, Started, Private, Written, Local, after_call, is_calling, begin_get, begin_get_or, learns, load_word, look_at_flag, make_bucket, offered, install_bucket, write_value, set_flag, reply, local_step, LocalStep, BeginGet, BeginGetOr, LoadWord, LookAtFlag, MakeBucket, InstallBucket, WriteValue, SetFlag, Reply}
+use Rattle.thread_local_steps.specs.Table.{Slot, Table, slot_at, published, stands, value_of, with_slot, with_flag}
+use Rattle.thread_local_model.specs.Learnt.{Learnt, Unknown, Missing, Standing, Vacant, Holding, learnt_by_load, learnt_by_look, learnt_by_install, learnt_by_publish}
+use Rattle.thread_local_steps.specs.Local.{Doing, Gets, Started, Private, Written, Local, after_call, is_calling, learns, load_word, look_at_flag, make_bucket, offered, install_bucket, write_value, set_flag, reply, local_step, LocalStep, BeginGet, BeginGetOr, LoadWord, LookAtFlag, MakeBucket, InstallBucket, WriteValue, SetFlag, Reply, doing_with_get, doing_with_get_or, begin_call, closure_at_missing, closure_at_vacant, ending_of}
 use Rattle.thread_local_steps.specs.Fits.{IsWritten, AllWritten, view_now, IsLearnt, IsDoing, ViewFits, LocalFits, named, ChangesOnly, value_written, value_set, StepFits}
 use Rattle.thread_local_steps.proofs.TableLaws.{slot_at-none, published_unset, slot_at-offered, stands-offered, published-slot_at, slot_at-with_slot_same, slot_at-with_slot_other, stands-with_slot, slot_at-made, stands-made, named-made, named-offered, named-with_slot}
 
@@ -83,12 +84,12 @@ ends table local call told left learnt doing written h says fits = record {
 }
 
 begin_get-fits : {V E : Type 0} (table : Table V) (local : Local V E) (doing : Doing V E) → AllWritten table → LocalFits table local
-    → IfSome (begin_get table local doing) (StepFits table local None)
+    → IfSome (option_map (begin_call table local) (doing_with_get doing)) (StepFits table local None)
 begin_get-fits table local (Gets count) written h = stays table local local.learnt (Gets (suc count)) written h h.view.learnt_so tt
 begin_get-fits table local _ written h = tt
 
 begin_get_or-fits : {V E : Type 0} (table : Table V) (local : Local V E) (create : Result V E) (doing : Doing V E) → AllWritten table → LocalFits table local
-    → IfSome (begin_get_or table local create doing) (StepFits table local None)
+    → IfSome (option_map (begin_call table local) (doing_with_get_or create doing)) (StepFits table local None)
 begin_get_or-fits table local create (Gets zero) written h = stays table local local.learnt (Started create) written h h.view.learnt_so tt
 begin_get_or-fits table local create _ written h = tt
 
@@ -112,7 +113,7 @@ learnt_by_load_so table id view Missing known = standing_so table id view known 
 learnt_by_load_so table id view _ known = tt
 
 load_word-fits : {V E : Type 0} (table : Table V) (local : Local V E) (b : Bool) → AllWritten table → LocalFits table local
-    → IfSome (load_word table local b) (StepFits table local None)
+    → IfSome (cond b (load_word table local) None) (StepFits table local None)
 load_word-fits table local false written h = tt
 load_word-fits table local true written h =
     learns-fits table local (learnt_by_load local.learnt (stands table (bucket_of local.id))) written h (learnt_by_load_so table local.id (view_now local) local.learnt h.view.known)
@@ -135,7 +136,7 @@ learnt_by_look_so table id view Standing (Some v) written e l = e
 learnt_by_look_so table id view _ shown written e l = tt
 
 look_at_flag-fits : {V E : Type 0} (table : Table V) (local : Local V E) (b : Bool) → AllWritten table → LocalFits table local
-    → IfSome (look_at_flag table local b) (StepFits table local None)
+    → IfSome (cond b (look_at_flag table local) None) (StepFits table local None)
 look_at_flag-fits table local false written h = tt
 look_at_flag-fits table local true written h =
     learns-fits table local (learnt_by_look local.learnt (published table local.id)) written h
@@ -174,7 +175,7 @@ offers table after local learnt doing written h only l d = record {
 
 make_bucket-fits : {V E : Type 0} (table : Table V) (local : Local V E) (refused : Bool) (doing : Doing V E) (learnt : Learnt V) → AllWritten table → LocalFits table local
     → IsLearnt table local.id (view_now local) learnt → IsDoing table local.id doing
-    → IfSome (make_bucket table local refused doing learnt) (StepFits table local None)
+    → IfSome (option_map (make_bucket table local refused) (closure_at_missing doing learnt)) (StepFits table local None)
 make_bucket-fits table local true (Started create) Missing written h l d =
     let none = h.view.value ∙ published_unset table local.id l.0 in
     ends table local (GetOr create true) Refused (view_now local) Missing (Gets 0) written h (says.refused (view_now local) create none l.1)
@@ -208,13 +209,20 @@ offered_only table id number = record {
       (cases_eq (bucket_of id) bucket);
 }
 
-install_bucket-fits : {V E : Type 0} (table : Table V) (local : Local V E) (doing : Doing V E) → AllWritten table → LocalFits table local
-    → IsDoing table local.id doing → IfSome (install_bucket table local doing) (StepFits table local None)
-install_bucket-fits table local (Private create number) written h d =
+-- what an install teaches is so
+install-fits : {V E : Type 0} (table : Table V) (local : Local V E) (create : Result V E) (number : ℕ) (learnt : Learnt V) → AllWritten table → LocalFits table local
+    → (slot_at table local.id).flag ≡ false
+    → IfSome (learns (offered table (bucket_of local.id) number) (record local { doing = Started create }) (learnt_by_install learnt)) (StepFits table local None)
+install-fits table local create number Missing written h d =
     let b = bucket_of local.id in
     offers table (offered table b number) local Vacant (Started create) written h (offered_only table local.id number)
     ((stands-offered table b number b ∙ ap (λ here. cond here true (stands table b)) (eq-eqb b b refl)), ap (λ slot. slot.flag) (slot_at-offered table b number local.id) ∙ d)
     tt
+install-fits table local create number _ written h d = tt
+
+install_bucket-fits : {V E : Type 0} (table : Table V) (local : Local V E) (doing : Doing V E) → AllWritten table → LocalFits table local
+    → IsDoing table local.id doing → IfSome (install_bucket table local doing) (StepFits table local None)
+install_bucket-fits table local (Private create number) written h d = install-fits table local create number local.learnt written h d
 install_bucket-fits table local _ written h d = tt
 
 -- one slot changes, to one whose flag is set only where a value is written
@@ -240,7 +248,7 @@ shown_other : {V : Type 0} (table : Table V) (id other : ℕ) (slot : Slot V) �
 shown_other table id other slot apart = published-slot_at table (with_slot table id slot) other (slot_at-with_slot_other table id other slot apart)
 
 write_value-fits : {V E : Type 0} (table : Table V) (local : Local V E) (doing : Doing V E) (learnt : Learnt V) → AllWritten table → LocalFits table local
-    → IsLearnt table local.id (view_now local) learnt → IfSome (write_value table local doing learnt) (StepFits table local None)
+    → IsLearnt table local.id (view_now local) learnt → IfSome (option_map (write_value table local) (closure_at_vacant doing learnt)) (StepFits table local None)
 write_value-fits table local (Started (Ok v)) Vacant written h l =
     let id = local.id in
     let slot = record (slot_at table id) { written = Some v } in
@@ -275,9 +283,10 @@ write_value-fits table local (Started (Err e)) Vacant written h l =
     (record { value = sym none; known = λ t. l.0; learnt_so = l; doing_so = tt })
 write_value-fits table local _ _ written h l = tt
 
-set_flag-fits : {V E : Type 0} (table : Table V) (local : Local V E) (doing : Doing V E) → AllWritten table → LocalFits table local
-    → IsDoing table local.id doing → IfSome (set_flag table local doing) (StepFits table local (value_written doing))
-set_flag-fits table local (Written v) written h d =
+-- what a publishing teaches is so
+publish-fits : {V E : Type 0} (table : Table V) (local : Local V E) (v : V) (learnt : Learnt V) → AllWritten table → LocalFits table local → IsDoing {E = E} table local.id (Written v)
+    → IfSome (learns (with_flag table local.id) (after_call local (GetOr (Ok v) false) (Answered v) local.learnt (Gets 0)) (learnt_by_publish learnt v)) (StepFits table local (Some v))
+publish-fits table local v Vacant written h d =
     let id = local.id in
     let slot = record (slot_at table id) { flag = true } in
     let after = with_slot table id slot in
@@ -297,25 +306,29 @@ set_flag-fits table local (Written v) written h d =
       empty = none;
       same = record { id = refl; start = refl };
     }
+publish-fits table local v _ written h d = tt
+
+set_flag-fits : {V E : Type 0} (table : Table V) (local : Local V E) (doing : Doing V E) → AllWritten table → LocalFits table local
+    → IsDoing table local.id doing → IfSome (set_flag table local doing) (StepFits table local (value_written doing))
+set_flag-fits table local (Written v) written h d = publish-fits table local v local.learnt written h d
 set_flag-fits table local _ written h d = tt
 
 -- a get that ends with the value of the view
-get_ends : {V E : Type 0} (table : Table V) (local : Local V E) (found : Option V) (learnt : Learnt V) (count : ℕ) → AllWritten table → LocalFits table local
-    → IsLearnt table local.id (view_now local) learnt → published table local.id ≡ found
-    → StepFits table local None (table, after_call local Get (Found found) learnt (Gets count))
-get_ends table local found learnt count written h l e =
-    ends table local Get (Found found) (view_now local) learnt (Gets count) written h
+get_ends : {V E : Type 0} (table : Table V) (local : Local V E) (found : Option V) (count : ℕ) → AllWritten table → LocalFits table local → published table local.id ≡ found
+    → StepFits table local None (table, after_call local Get (Found found) local.learnt (Gets count))
+get_ends table local found count written h e =
+    ends table local Get (Found found) (view_now local) local.learnt (Gets count) written h
     (record { answered = ap Found (h.view.value ∙ e); leaves = refl })
-    (record { value = h.view.value; known = h.view.known; learnt_so = l; doing_so = tt })
+    (record { value = h.view.value; known = h.view.known; learnt_so = h.view.learnt_so; doing_so = tt })
 
 reply-fits : {V E : Type 0} (table : Table V) (local : Local V E) (doing : Doing V E) (learnt : Learnt V) → AllWritten table → LocalFits table local
-    → IsLearnt table local.id (view_now local) learnt → IfSome (reply table local doing learnt) (StepFits table local None)
-reply-fits table local (Gets (suc count)) Missing written h l = get_ends table local None Missing count written h l (published_unset table local.id l.0)
-reply-fits table local (Gets (suc count)) Vacant written h l = get_ends table local None Vacant count written h l (published_unset table local.id l.1)
-reply-fits table local (Gets (suc count)) (Holding v) written h l = get_ends table local (Some v) (Holding v) count written h l l
+    → IsLearnt table local.id (view_now local) learnt → IfSome (option_map (reply table local) (ending_of doing learnt)) (StepFits table local None)
+reply-fits table local (Gets (suc count)) Missing written h l = get_ends table local None count written h (published_unset table local.id l.0)
+reply-fits table local (Gets (suc count)) Vacant written h l = get_ends table local None count written h (published_unset table local.id l.1)
+reply-fits table local (Gets (suc count)) (Holding v) written h l = get_ends table local (Some v) count written h l
 reply-fits table local (Started create) (Holding v) written h l =
-    ends table local (GetOr create false) (Answered v) (view_now local) (Holding v) (Gets 0) written h (says.held (view_now local) v create false (h.view.value ∙ l))
-    (record { value = h.view.value; known = h.view.known; learnt_so = l; doing_so = tt })
+    ends table local (GetOr create false) (Answered v) (view_now local) local.learnt (Gets 0) written h (says.held (view_now local) v create false (h.view.value ∙ l))
+    (record { value = h.view.value; known = h.view.known; learnt_so = h.view.learnt_so; doing_so = tt })
 reply-fits table local _ _ written h l = tt
 
 -- every step that is enabled leaves the Local fitting, and changes only its slot

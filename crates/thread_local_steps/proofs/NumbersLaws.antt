@@ -1,11 +1,14 @@
 use Rattle.std.proofs.Common.{◌≡◌, ℕ, zero, suc, ◌⊎◌, Bool, cond, true, false, Option, Some, None, Result, Ok, Err, IfSome, refl, ap, sym, ◌∙◌, arith, ⊎_elim, inl, inr}
+use Rattle.std.specs.Prelude.{option_map}
 use Rattle.std.proofs.lemmas.Bool.{cases_eq, eq-eqb}
 use Rattle.thread_local_model.specs.Place.{bucket_of}
-use Rattle.thread_local_model.specs.Learnt.{Learnt, Missing, Vacant, Holding, learnt_by_load, learnt_by_look}
-use Rattle.thread_local_steps.specs.Table.{Table, Slot, published, stands, with_fresh_bucket, with_slot}
-use Rattle.thread_local_steps.specs.Local.{Doing, Gets, Started, Private, Written, Local, is_calling, begin_get, begin_get_or, learns, load_word, look_at_flag, make_bucket, install_bucket, write_value, set_flag, reply, local_step, LocalStep, BeginGet, BeginGetOr, LoadWord, LookAtFlag, MakeBucket, InstallBucket, WriteValue, SetFlag, Reply}
+use Rattle.thread_local_model.specs.Answers.{GetOr, Answered}
+use Rattle.thread_local_model.specs.Learnt.{Learnt, Missing, Vacant, Holding, learnt_by_load, learnt_by_look, learnt_by_install, learnt_by_publish}
+use Rattle.thread_local_steps.specs.Table.{Table, Slot, published, stands, with_fresh_bucket, with_slot, with_flag}
+use Rattle.thread_local_steps.specs.Local.{Doing, Gets, Started, Private, Written, Local, after_call, is_calling, learns, load_word, look_at_flag, make_bucket, offered, install_bucket, write_value, set_flag, reply, local_step, LocalStep, BeginGet, BeginGetOr, LoadWord, LookAtFlag, MakeBucket, InstallBucket, WriteValue, SetFlag, Reply, doing_with_get, doing_with_get_or, begin_call, closure_at_missing, closure_at_vacant, ending_of}
 use Rattle.thread_local_steps.specs.Fits.{named}
 use Rattle.thread_local_steps.specs.Numbers.{own_number, NumbersGo}
+use Rattle.thread_local_steps.proofs.CallsLaws.{whatever_is_learnt}
 use Rattle.thread_local_steps.proofs.TableLaws.{named-made, named-with_fresh_bucket, named-with_slot}
 
 -- a step that makes no bucket, changes no name, and leaves the call no bucket that it hadn't
@@ -29,28 +32,28 @@ none_own-with_slot : {V E : Type 0} (table : Table V) (id : ℕ) (slot : Slot V)
 none_own-with_slot table id slot local then none =
     same_numbers table (with_slot table id slot) local then (made-with_slot table id slot) (λ bucket. named-with_slot table id bucket slot) (λ number e. cc)
 
-begin_get-numbers : {V E : Type 0} (table : Table V) (local : Local V E) (doing : Doing V E) → IfSome (begin_get table local doing) (NumbersGo table local)
+begin_get-numbers : {V E : Type 0} (table : Table V) (local : Local V E) (doing : Doing V E) → IfSome (option_map (begin_call table local) (doing_with_get doing)) (NumbersGo table local)
 begin_get-numbers table local (Gets count) = none_own table local _ refl
 begin_get-numbers table local _ = tt
 
-begin_get_or-numbers : {V E : Type 0} (table : Table V) (local : Local V E) (create : Result V E) (doing : Doing V E) → IfSome (begin_get_or table local create doing) (NumbersGo table local)
+begin_get_or-numbers : {V E : Type 0} (table : Table V) (local : Local V E) (create : Result V E) (doing : Doing V E) → IfSome (option_map (begin_call table local) (doing_with_get_or create doing)) (NumbersGo table local)
 begin_get_or-numbers table local create (Gets zero) = none_own table local _ refl
 begin_get_or-numbers table local create _ = tt
 
 learns-numbers : {V E : Type 0} (table : Table V) (local : Local V E) (o : Option (Learnt V)) → IfSome (learns table local o) (NumbersGo table local)
-learns-numbers table local None = tt
-learns-numbers table local (Some learnt) = same_numbers table table local (record local { learnt = learnt }) refl (λ bucket. refl) (λ number e. e)
+learns-numbers table local o =
+    whatever_is_learnt table local o (NumbersGo table local) (λ learnt. same_numbers table table local (record local { learnt = learnt }) refl (λ bucket. refl) (λ number e. e))
 
-load_word-numbers : {V E : Type 0} (table : Table V) (local : Local V E) (b : Bool) → IfSome (load_word table local b) (NumbersGo table local)
+load_word-numbers : {V E : Type 0} (table : Table V) (local : Local V E) (b : Bool) → IfSome (cond b (load_word table local) None) (NumbersGo table local)
 load_word-numbers table local false = tt
 load_word-numbers table local true = learns-numbers table local (learnt_by_load local.learnt (stands table (bucket_of local.id)))
 
-look_at_flag-numbers : {V E : Type 0} (table : Table V) (local : Local V E) (b : Bool) → IfSome (look_at_flag table local b) (NumbersGo table local)
+look_at_flag-numbers : {V E : Type 0} (table : Table V) (local : Local V E) (b : Bool) → IfSome (cond b (look_at_flag table local) None) (NumbersGo table local)
 look_at_flag-numbers table local false = tt
 look_at_flag-numbers table local true = learns-numbers table local (learnt_by_look local.learnt (published table local.id))
 
 make_bucket-numbers : {V E : Type 0} (table : Table V) (local : Local V E) (refused : Bool) (doing : Doing V E) (learnt : Learnt V)
-    → IfSome (make_bucket table local refused doing learnt) (NumbersGo table local)
+    → IfSome (option_map (make_bucket table local refused) (closure_at_missing doing learnt)) (NumbersGo table local)
 make_bucket-numbers table local true (Started create) Missing = none_own table local _ refl
 make_bucket-numbers table local false (Started create) Missing = record {
   made = omega arith;
@@ -82,27 +85,31 @@ made-offer table bucket number true = refl
 made-offer table bucket number false = made-with_fresh_bucket table bucket number
 
 install_bucket-numbers : {V E : Type 0} (table : Table V) (local : Local V E) (doing : Doing V E) → local.doing ≡ doing → IfSome (install_bucket table local doing) (NumbersGo table local)
-install_bucket-numbers table local (Private create number) at = record {
-  made = omega (arith, made-offer table (bucket_of local.id) number (stands table (bucket_of local.id)));
-  named_before = λ bucket k e.
-      ⊎_elim
-      (λ before. inl before)
-      (λ own. inr (ap own_number at ∙ own.0, own.1, refl))
-      (named_by_offer table (bucket_of local.id) number (stands table (bucket_of local.id)) bucket k e);
-  own_before = λ k e. cc;
-}
+install_bucket-numbers table local (Private create number) at =
+    whatever_is_learnt (offered table (bucket_of local.id) number) (record local { doing = Started create }) (learnt_by_install local.learnt) (NumbersGo table local)
+    (λ learnt. record {
+      made = omega (arith, made-offer table (bucket_of local.id) number (stands table (bucket_of local.id)));
+      named_before = λ bucket k e.
+          ⊎_elim
+          (λ before. inl before)
+          (λ own. inr (ap own_number at ∙ own.0, own.1, refl))
+          (named_by_offer table (bucket_of local.id) number (stands table (bucket_of local.id)) bucket k e);
+      own_before = λ k e. cc;
+    })
 install_bucket-numbers table local _ at = tt
 
-write_value-numbers : {V E : Type 0} (table : Table V) (local : Local V E) (doing : Doing V E) (learnt : Learnt V) → IfSome (write_value table local doing learnt) (NumbersGo table local)
+write_value-numbers : {V E : Type 0} (table : Table V) (local : Local V E) (doing : Doing V E) (learnt : Learnt V) → IfSome (option_map (write_value table local) (closure_at_vacant doing learnt)) (NumbersGo table local)
 write_value-numbers table local (Started (Ok v)) Vacant = none_own-with_slot table local.id _ local _ refl
 write_value-numbers table local (Started (Err e)) Vacant = none_own table local _ refl
 write_value-numbers table local _ _ = tt
 
 set_flag-numbers : {V E : Type 0} (table : Table V) (local : Local V E) (doing : Doing V E) → IfSome (set_flag table local doing) (NumbersGo table local)
-set_flag-numbers table local (Written v) = none_own-with_slot table local.id _ local _ refl
+set_flag-numbers table local (Written v) =
+    whatever_is_learnt (with_flag table local.id) (after_call local (GetOr (Ok v) false) (Answered v) local.learnt (Gets 0)) (learnt_by_publish local.learnt v)
+    (NumbersGo table local) (λ learnt. none_own-with_slot table local.id _ local _ refl)
 set_flag-numbers table local _ = tt
 
-reply-numbers : {V E : Type 0} (table : Table V) (local : Local V E) (doing : Doing V E) (learnt : Learnt V) → IfSome (reply table local doing learnt) (NumbersGo table local)
+reply-numbers : {V E : Type 0} (table : Table V) (local : Local V E) (doing : Doing V E) (learnt : Learnt V) → IfSome (option_map (reply table local) (ending_of doing learnt)) (NumbersGo table local)
 reply-numbers table local (Gets (suc count)) Missing = none_own table local _ refl
 reply-numbers table local (Gets (suc count)) Vacant = none_own table local _ refl
 reply-numbers table local (Gets (suc count)) (Holding v) = none_own table local _ refl

@@ -1,7 +1,7 @@
-use Rattle.std.specs.Prelude.{ℕ, zero, suc, Bool, true, false, List, [], ◌∷◌, ◌++◌, Option, Some, None, option_and_then, Result, Ok, Err, if◌then◌else◌}
+use Rattle.std.specs.Prelude.{ℕ, zero, suc, Bool, true, false, List, [], ◌∷◌, ◌++◌, Option, Some, None, option_map, option_and_then, Result, Ok, Err, if◌then◌else◌}
 use Rattle.thread_local_model.specs.Place.{bucket_of}
 use Rattle.thread_local_model.specs.Answers.{View, Call, Get, GetOr, Answer, Found, Answered, Refused, Failed}
-use Rattle.thread_local_model.specs.Learnt.{Learnt, Unknown, Missing, Vacant, Holding, learnt_by_load, learnt_by_look}
+use Rattle.thread_local_model.specs.Learnt.{Learnt, Unknown, Missing, Vacant, Holding, learnt_by_load, learnt_by_look, learnt_by_install, learnt_by_publish}
 use Rattle.thread_local_steps.specs.Table.{Table, published, stands, with_fresh_bucket, with_written, with_flag}
 
 -- What a Local does: any number of gets are under way, or one publishing call. That has begun, with what its
@@ -49,40 +49,46 @@ is_calling (Gets (suc count)) = true
 is_calling (Started create) = true
 is_calling doing = false
 
--- Each step below gives what becomes of the table and of the Local, or None where it isn't enabled.
+-- Each step below gives what becomes of the table and of the Local. What it needs of what the Local does and has
+-- learnt is found by the definition before it, which is None where the step isn't enabled.
 
--- a get begins, beside any others
-abbrev pub begin_get : {V E : Type 0} → Table V → Local V E → Doing V E → Option (Table V × Local V E)
-begin_get table local (Gets count) = Some (table, record local { doing = Gets (suc count) })
-begin_get table local doing = None
+-- what a Local does once a get has begun, beside any others
+abbrev pub doing_with_get : {V E : Type 0} → Doing V E → Option (Doing V E)
+doing_with_get (Gets count) = Some (Gets (suc count))
+doing_with_get doing = None
 
--- a publishing call begins, where no call is under way
-abbrev pub begin_get_or : {V E : Type 0} → Table V → Local V E → Result V E → Doing V E → Option (Table V × Local V E)
-begin_get_or table local create (Gets zero) = Some (table, record local { doing = Started create })
-begin_get_or table local create doing = None
+-- what it does once a publishing call has begun, where no call was under way
+abbrev pub doing_with_get_or : {V E : Type 0} → Result V E → Doing V E → Option (Doing V E)
+doing_with_get_or create (Gets zero) = Some (Started create)
+doing_with_get_or create doing = None
 
--- the table as it was, and the Local with what it has learnt now
+-- a call begins: the table as it was, and the Local with what it does now
+abbrev pub begin_call : {V E : Type 0} → Table V → Local V E → Doing V E → Table V × Local V E
+begin_call table local doing = (table, record local { doing = doing })
+
+-- the table, and the Local with what it has learnt now
 abbrev pub learns : {V E : Type 0} → Table V → Local V E → Option (Learnt V) → Option (Table V × Local V E)
 learns table local None = None
 learns table local (Some learnt) = Some (table, record local { learnt = learnt })
 
 -- a call loads its word
-abbrev pub load_word : {V E : Type 0} → Table V → Local V E → Bool → Option (Table V × Local V E)
-load_word table local false = None
-load_word table local true = learns table local (learnt_by_load local.learnt (stands table (bucket_of local.id)))
+abbrev pub load_word : {V E : Type 0} → Table V → Local V E → Option (Table V × Local V E)
+load_word table local = learns table local (learnt_by_load local.learnt (stands table (bucket_of local.id)))
 
 -- a call looks at its flag, and at the value where the flag is set
-abbrev pub look_at_flag : {V E : Type 0} → Table V → Local V E → Bool → Option (Table V × Local V E)
-look_at_flag table local false = None
-look_at_flag table local true = learns table local (learnt_by_look local.learnt (published table local.id))
+abbrev pub look_at_flag : {V E : Type 0} → Table V → Local V E → Option (Table V × Local V E)
+look_at_flag table local = learns table local (learnt_by_look local.learnt (published table local.id))
 
--- a publishing call that found its word empty makes a bucket, or ends where memory is refused
-abbrev pub make_bucket : {V E : Type 0} → Table V → Local V E → Bool → Doing V E → Learnt V → Option (Table V × Local V E)
-make_bucket table local true (Started create) Missing =
-    Some (table, after_call local (GetOr create true) Refused Missing (Gets 0))
-make_bucket table local false (Started create) Missing =
-    Some (record table { made = suc table.made }, record local { doing = Private create table.made })
-make_bucket table local refused doing learnt = None
+-- the closure of a publishing call that found its word empty
+abbrev pub closure_at_missing : {V E : Type 0} → Doing V E → Learnt V → Option (Result V E)
+closure_at_missing (Started create) Missing = Some create
+closure_at_missing doing learnt = None
+
+-- such a call makes a bucket, or ends where memory is refused
+abbrev pub make_bucket : {V E : Type 0} → Table V → Local V E → Bool → Result V E → Table V × Local V E
+make_bucket table local true create = (table, after_call local (GetOr create true) Refused Missing (Gets 0))
+make_bucket table local false create =
+    (record table { made = suc table.made }, record local { doing = Private create table.made })
 
 -- the table once a bucket was offered to a word: one that names a bucket goes on naming that
 abbrev pub offered : {V : Type 0} → Table V → ℕ → ℕ → Table V
@@ -91,41 +97,55 @@ offered table bucket number = if stands table bucket then table else with_fresh_
 -- a call offers its own bucket to its word, and uses the one that stands then
 abbrev pub install_bucket : {V E : Type 0} → Table V → Local V E → Doing V E → Option (Table V × Local V E)
 install_bucket table local (Private create number) =
-    Some (offered table (bucket_of local.id) number, record local { learnt = Vacant; doing = Started create })
+    learns (offered table (bucket_of local.id) number) (record local { doing = Started create }) (learnt_by_install local.learnt)
 install_bucket table local doing = None
 
--- a call writes what its closure answered, or ends with the closure's error
-abbrev pub write_value : {V E : Type 0} → Table V → Local V E → Doing V E → Learnt V → Option (Table V × Local V E)
-write_value table local (Started (Ok v)) Vacant = Some (with_written table local.id v, record local { learnt = Vacant; doing = Written v })
-write_value table local (Started (Err e)) Vacant =
-    Some (table, after_call local (GetOr (Err e) false) (Failed e) Vacant (Gets 0))
-write_value table local doing learnt = None
+-- the closure of a publishing call that found its slot empty
+abbrev pub closure_at_vacant : {V E : Type 0} → Doing V E → Learnt V → Option (Result V E)
+closure_at_vacant (Started create) Vacant = Some create
+closure_at_vacant doing learnt = None
+
+-- such a call writes what its closure answers, or ends with the closure's error
+abbrev pub write_value : {V E : Type 0} → Table V → Local V E → Result V E → Table V × Local V E
+write_value table local (Ok v) = (with_written table local.id v, record local { learnt = Vacant; doing = Written v })
+write_value table local (Err e) = (table, after_call local (GetOr (Err e) false) (Failed e) Vacant (Gets 0))
 
 -- a call that has written sets its flag, and so publishes and ends
 abbrev pub set_flag : {V E : Type 0} → Table V → Local V E → Doing V E → Option (Table V × Local V E)
 set_flag table local (Written v) =
-    Some (with_flag table local.id, after_call local (GetOr (Ok v) false) (Answered v) (Holding v) (Gets 0))
+    learns (with_flag table local.id) (after_call local (GetOr (Ok v) false) (Answered v) local.learnt (Gets 0)) (learnt_by_publish local.learnt v)
 set_flag table local doing = None
 
--- a get ends with what was learnt, and so does a publishing call that found a value
-abbrev pub reply : {V E : Type 0} → Table V → Local V E → Doing V E → Learnt V → Option (Table V × Local V E)
-reply table local (Gets (suc count)) Missing = Some (table, after_call local Get (Found None) Missing (Gets count))
-reply table local (Gets (suc count)) Vacant = Some (table, after_call local Get (Found None) Vacant (Gets count))
-reply table local (Gets (suc count)) (Holding v) = Some (table, after_call local Get (Found (Some v)) (Holding v) (Gets count))
-reply table local (Started create) (Holding v) = Some (table, after_call local (GetOr create false) (Answered v) (Holding v) (Gets 0))
-reply table local doing learnt = None
+-- a call that ends with what was learnt, its answer, and what the Local does then
+pub record Ending (V E : Type 0) : Type 0 where
+  pub call : Call V E
+  pub answer : Answer V E
+  pub doing : Doing V E
+
+-- how a get ends that has learnt enough, and a publishing call that found a value
+abbrev pub ending_of : {V E : Type 0} → Doing V E → Learnt V → Option (Ending V E)
+ending_of (Gets (suc count)) Missing = Some (record { call = Get; answer = Found None; doing = Gets count })
+ending_of (Gets (suc count)) Vacant = Some (record { call = Get; answer = Found None; doing = Gets count })
+ending_of (Gets (suc count)) (Holding v) = Some (record { call = Get; answer = Found (Some v); doing = Gets count })
+ending_of (Started create) (Holding v) = Some (record { call = GetOr create false; answer = Answered v; doing = Gets 0 })
+ending_of doing learnt = None
+
+-- a call ends: the table as it was, and the Local with the call and its answer
+abbrev pub reply : {V E : Type 0} → Table V → Local V E → Ending V E → Table V × Local V E
+reply table local ending = (table, after_call local ending.call ending.answer local.learnt ending.doing)
 
 -- what a step makes of the table and of the Local, None where it isn't enabled
 unfoldable pub local_step : {V E : Type 0} → Table V → Local V E → LocalStep V E → Option (Table V × Local V E)
-local_step table local BeginGet = begin_get table local local.doing
-local_step table local (BeginGetOr create) = begin_get_or table local create local.doing
-local_step table local LoadWord = load_word table local (is_calling local.doing)
-local_step table local LookAtFlag = look_at_flag table local (is_calling local.doing)
-local_step table local (MakeBucket refused) = make_bucket table local refused local.doing local.learnt
+local_step table local BeginGet = option_map (begin_call table local) (doing_with_get local.doing)
+local_step table local (BeginGetOr create) = option_map (begin_call table local) (doing_with_get_or create local.doing)
+local_step table local LoadWord = if is_calling local.doing then load_word table local else None
+local_step table local LookAtFlag = if is_calling local.doing then look_at_flag table local else None
+local_step table local (MakeBucket refused) =
+    option_map (make_bucket table local refused) (closure_at_missing local.doing local.learnt)
 local_step table local InstallBucket = install_bucket table local local.doing
-local_step table local WriteValue = write_value table local local.doing local.learnt
+local_step table local WriteValue = option_map (write_value table local) (closure_at_vacant local.doing local.learnt)
 local_step table local SetFlag = set_flag table local local.doing
-local_step table local Reply = reply table local local.doing local.learnt
+local_step table local Reply = option_map (reply table local) (ending_of local.doing local.learnt)
 
 -- what steps make of the table and of the Local, one after another, None where one isn't enabled
 unfoldable pub local_steps : {V E : Type 0} → Table V → Local V E → List (LocalStep V E) → Option (Table V × Local V E)

@@ -5,12 +5,13 @@ use std::process::Abort;
 use std::test::Fail;
 use thread_local_tls::run;
 
-/// A writer over memory that fails at its write with this number, counted from 0.
+/// A writer over memory that fails at its write with this number, counted from 0, and at each flush where so set.
 #[derive(Drop)]
 struct Memory {
     bytes: Vec<u8>,
     writes: usize,
     fails_at: usize,
+    flush_fails: bool,
 }
 
 impl Memory {
@@ -19,6 +20,7 @@ impl Memory {
             bytes: Vec::new(alloc),
             writes: 0,
             fails_at,
+            flush_fails: false,
         }
     }
 
@@ -35,6 +37,26 @@ impl Write for Memory {
             return Err(io::Error::from(io::ErrorKind::Other));
         }
         self.bytes.extend_from_slice(buf)?;
+        Ok(buf.len())
+    }
+
+    fn flush(&mut self) -> io::Result<()> {
+        if self.flush_fails {
+            return Err(io::Error::from(io::ErrorKind::Other));
+        }
+        Ok(())
+    }
+}
+
+/// A writer that counts bytes, and so never asks for memory.
+#[derive(Drop)]
+struct Counted {
+    bytes: usize,
+}
+
+impl Write for Counted {
+    fn write(&mut self, buf: &[u8]) -> io::Result<usize> {
+        self.bytes = self.bytes.saturating_add(buf.len());
         Ok(buf.len())
     }
 
@@ -141,6 +163,38 @@ fn a_failed_write_is_told(rt: HostRuntime) -> Result<(), Fail> {
         assert_eq!(rt; err.bytes.as_slice(), b"tls: write failed\n".as_slice());
     }
     assert!(rt; false, "each run met a failing write");
+    Ok(())
+}
+
+#[test]
+fn a_failed_flush_is_told(rt: HostRuntime) -> Result<(), Fail> {
+    let words = words(rt.alloc(), "ids take take")?;
+    let mut out = Memory::sound(rt.alloc());
+    out.flush_fails = true;
+    let mut err = Memory::sound(rt.alloc());
+    assert_eq!(rt; run(rt.alloc(), &words, &mut out, &mut err), 1);
+    assert_eq!(rt; out.bytes.as_slice(), b"0\n1\n".as_slice());
+    assert_eq!(rt; err.bytes.as_slice(), b"tls: write failed\n".as_slice());
+    Ok(())
+}
+
+/// `rt try --test --fail-alloc N` refuses the Nth request for memory: the words, the moves, the ids and the manager ask for some. The run
+/// then writes nothing, also where ids were had before.
+#[test]
+fn a_run_that_is_refused_memory_writes_nothing(rt: HostRuntime) -> Result<(), Fail> {
+    let words = words(
+        rt.alloc(),
+        "ids take take take take take take take take take take",
+    )?;
+    let mut out = Counted { bytes: 0 };
+    let mut err = Counted { bytes: 0 };
+    match run(rt.alloc(), &words, &mut out, &mut err) {
+        0 => assert_eq!(rt; (out.bytes, err.bytes), (20, 0)),
+        status => {
+            assert_eq!(rt; status, 1);
+            assert_eq!(rt; (out.bytes, err.bytes), (0, "tls: out of memory\n".len()));
+        }
+    }
     Ok(())
 }
 

@@ -1,4 +1,4 @@
-ghost use Rattle.std.specs.Prelude.{◌≡◌, ℕ, ◌+◌, ◌-◌, ◌^◌, ◌<◌, ◌≤◌, ◌==◌, max, Bool, true, false, [], length, IsTrue, OnOk, OnErr, IfOk, if◌then◌else◌};
+ghost use Rattle.std.specs.Prelude.{◌≡◌, ℕ, ◌+◌, ◌-◌, ◌^◌, ◌<◌, ◌≤◌, ◌==◌, min, max, Bool, true, false, [], length, IsTrue, IsOk, OnOk, OnErr, IfOk, if◌then◌else◌};
 ghost use Rattle.std.specs.Prelude.{alloc_error};
 ghost use Rattle.thread_local_model.specs.Held.{is_held, least, with_least, Takes, Gives, NeedsMemory, IsExhausted};
 
@@ -57,6 +57,19 @@ impl ThreadIdManager {
             free_from: 0,
             free_to: 0,
         }
+    }
+
+    /// A manager with no id held, and room for so many, or for every id where that is less. It asks for memory once,
+    /// and for no ids not at all.
+    pub fn with_room(alloc: Global, ids: usize) -> Result<ThreadIdManager, AllocError>
+        ensures held { IfOk result (λ manager. manager.held ≡ []) }
+        ensures room { IfOk result (λ manager. min ids (2 ^ 63 - 1) ≤ manager.room) }
+        ensures room_in_range { IfOk result (λ manager. manager.room ≤ 2 ^ 63 - 1) }
+        ensures no_ids { ids ≡ 0 → IsOk result }
+    {
+        let mut manager = ThreadIdManager::new(alloc);
+        manager.held.resize(ids.min(IDS), false)?;
+        Ok(manager)
     }
 
     /// Takes the least id that isn't held. It asks for memory only where every id below the peak is held and

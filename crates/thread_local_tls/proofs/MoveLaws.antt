@@ -1,8 +1,9 @@
-use Rattle.std.proofs.Common.{◌≡◌, ℕ, ◌+◌, ◌<◌, zero, suc, false, Some, slice_get, subst, Bool, List, [], ◌∷◌, ◌++◌, length, get_or, take, drop, refl, ap, sym, ◌∙◌, add-one, append_assoc}
+use Rattle.std.proofs.Common.{◌≡◌, ℕ, ◌+◌, ◌-◌, ◌^◌, ◌<◌, zero, suc, false, Some, slice_get, subst, Bool, List, [], ◌∷◌, ◌++◌, length, get_or, take, drop, refl, ap, sym, ◌∙◌, add-one, append_assoc}
 use Rattle.std.proofs.lemmas.List.{take_more}
+use Rattle.std.proofs.lemmas.Option.{slice_get-get_or}
 use Rattle.std.proofs.Math.Seq.{drop-cons}
-use Rattle.thread_local_model.specs.Held.{is_held}
-use Rattle.thread_local_tls.specs.Moves.{after, held_after, ids_given, MayMove, MayRun}
+use Rattle.thread_local_model.specs.Held.{is_held, HoldsAllBelow}
+use Rattle.thread_local_tls.specs.Moves.{after, held_after, ids_given, MayMove, MayRun, GivesWhatIsNotHeld, RunsOutOfIds}
 use Rattle.thread_local_tls.specs.declared.moves.Move.{Move}
 use Rattle.thread_local_tls.specs.declared.moves.Move.TheVariants.{Take, Give}
 
@@ -40,11 +41,36 @@ IsRunTo-more moves n d move held new ids more below at run may new_is more_is =
       may = rw front (MayRun-push [] (take n moves) move run.may (rw (← run.held_is) may));
     }
 
+-- the moves that were run end at a give of an id that isn't held
+pub stops_at_give : (moves : List Move) (n id : ℕ) (d : Move) (held : List Bool) (ids : List ℕ) → n < length moves → get_or moves n d ≡ Give id
+    → IsRunTo moves n held ids → is_held held id ≡ false → GivesWhatIsNotHeld moves
+stops_at_give moves n id d held ids below at run free = record {
+  number = n;
+  id = id;
+  gives = slice_get-get_or moves n d below ∙ ap Some at;
+  may_run_before = run.may;
+  is_free = rw (← run.held_is) free;
+}
+
+-- the moves that were run end at a take where every id is held
+pub stops_at_take : (moves : List Move) (n : ℕ) (d : Move) (held : List Bool) (ids : List ℕ) → n < length moves → get_or moves n d ≡ Take
+    → IsRunTo moves n held ids → HoldsAllBelow (2 ^ 63 - 1) held → RunsOutOfIds moves
+stops_at_take moves n d held ids below at run full = record {
+  number = n;
+  takes = slice_get-get_or moves n d below ∙ ap Some at;
+  may_run_before = run.may;
+  all_held = subst (HoldsAllBelow (2 ^ 63 - 1)) run.held_is full;
+}
+
 some_same : {X : Type 0} {x y : X} → Some x ≡ Some y → x ≡ y
 some_same e = cc
 
+-- where the moves before it may be run, one that gives back an id that isn't held may not
+stuck : (held : List Bool) (moves : List Move) (n id : ℕ) → slice_get moves n ≡ Some (Give id) → is_held (held_after held (take n moves)) id ≡ false → MayRun held moves → ⊥
+stuck held [] n id at free may = cc
+stuck held (move ∷ moves) zero id at free may = let may_move = subst (MayMove held) (some_same at) may.0 in cc
+stuck held (move ∷ moves) (suc n) id at free may = stuck (after held move) moves n id at free may.1
+
 -- moves of which one gives back an id that isn't held can't be run
-pub may_not_run : (held : List Bool) (moves : List Move) (n id : ℕ) → slice_get moves n ≡ Some (Give id) → is_held (held_after held (take n moves)) id ≡ false → MayRun held moves → ⊥
-may_not_run held [] n id at free may = cc
-may_not_run held (move ∷ moves) zero id at free may = let may_move = subst (MayMove held) (some_same at) may.0 in cc
-may_not_run held (move ∷ moves) (suc n) id at free may = may_not_run (after held move) moves n id at free may.1
+pub may_not_run : (moves : List Move) → GivesWhatIsNotHeld moves → MayRun [] moves → ⊥
+may_not_run moves stops may = stuck [] moves stops.number stops.id stops.gives stops.is_free may

@@ -1,8 +1,7 @@
-use Rattle.std.specs.Prelude.{◌≡◌, ℕ, List, [], Option, Some, codes}
-use Rattle.std.specs.Io.KnownBytes.{Appends}
-use Rattle.thread_local_tls.specs.Moves.{ids_given, MayRun}
-use Rattle.thread_local_tls.specs.Words.{command_of, lines_of}
-use Rattle.thread_local_tls.specs.declared.moves.Move.{Move}
+use Rattle.std.specs.Prelude.{ℕ, ◌⊎◌, List, [], Option, codes}
+use Rattle.std.specs.Io.KnownBytes.{Appends, Keeps}
+use Rattle.thread_local_tls.specs.Moves.{ids_given}
+use Rattle.thread_local_tls.specs.Words.{IsRunnable, lines_of}
 use Rattle.thread_local_tls.specs.declared.fault.Fault.{Fault}
 use Rattle.thread_local_tls.specs.declared.fault.Fault.TheVariants.{Usage, Memory, Write}
 use Rattle.thread_local_tls.specs.declared.moves.IdsError.{IdsError}
@@ -26,5 +25,10 @@ fault_of (Local error) = Memory
 fault_of NotHeld = Usage
 
 -- the words spell moves that may be run, and a line for each id that they give is written
-abbrev pub Answers : List (List ℕ) → Option (List ℕ) → Option (List ℕ) → Type 0
-Answers words old new = (moves : List Move) × (command_of words ≡ Some moves) × MayRun [] moves × Appends old new (lines_of (ids_given [] moves))
+pub record Answers (words : List (List ℕ)) (old new : Option (List ℕ)) : Type 0 where
+  pub runnable : IsRunnable words
+  pub written : Appends old new (lines_of (ids_given [] runnable.moves))
+
+-- what is known where memory was refused or a write failed: nothing is written, or the words spell moves that may be run
+abbrev pub IsHindered : List (List ℕ) → Option (List ℕ) → Option (List ℕ) → Type 0
+IsHindered words old new = Keeps old new ⊎ IsRunnable words

@@ -1,5 +1,5 @@
-use Rattle.std.specs.Prelude.{ℕ, Bool, List, [], ◌∷◌, IsTrue}
-use Rattle.thread_local_model.specs.Held.{is_held, least, with_least, without}
+use Rattle.std.specs.Prelude.{◌≡◌, ℕ, ◌-◌, ◌^◌, Bool, false, List, [], ◌∷◌, take, slice_get, Some, IsTrue}
+use Rattle.thread_local_model.specs.Held.{is_held, least, with_least, without, HoldsAllBelow}
 use Rattle.thread_local_tls.specs.declared.moves.Move.{Move}
 use Rattle.thread_local_tls.specs.declared.moves.Move.TheVariants.{Take, Give}
 
@@ -28,3 +28,18 @@ MayMove held (Give id) = IsTrue (is_held held id)
 abbrev pub MayRun : List Bool → List Move → Type 0
 MayRun held [] = Unit {0}
 MayRun held (move ∷ moves) = MayMove held move × MayRun (after held move) moves
+
+-- a move gives back an id that isn't held, and the moves before it may be run
+pub record GivesWhatIsNotHeld (moves : List Move) : Type 0 where
+  pub number : ℕ
+  pub id : ℕ
+  pub gives : slice_get moves number ≡ Some (Give id)
+  pub may_run_before : MayRun [] (take number moves)
+  pub is_free : is_held (held_after [] (take number moves)) id ≡ false
+
+-- a move takes an id where every one is held, and the moves before it may be run
+pub record RunsOutOfIds (moves : List Move) : Type 0 where
+  pub number : ℕ
+  pub takes : slice_get moves number ≡ Some Take
+  pub may_run_before : MayRun [] (take number moves)
+  pub all_held : HoldsAllBelow (2 ^ 63 - 1) (held_after [] (take number moves))

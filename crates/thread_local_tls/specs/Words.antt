@@ -1,4 +1,4 @@
-use Rattle.std.specs.Prelude.{ℕ, ◌^◌, ◌&&◌, ◌++◌, List, [], ◌∷◌, length, nat_lt, map, flat_map, Option, Some, None, option_map, option_and_then, MatchOption, if◌then◌else◌, codes, bytes_eq, decimal, String, string_bytes}
+use Rattle.std.specs.Prelude.{◌≡◌, ℕ, ◌^◌, ◌&&◌, ◌++◌, List, [], ◌∷◌, length, nat_lt, map, flat_map, Option, Some, None, option_map, option_and_then, MatchOption, if◌then◌else◌, codes, bytes_eq, decimal, String, string_bytes}
 use Rattle.std.specs.Char.{is_ascii_digit}
 use Rattle.std.specs.List.{list_all}
 use Rattle.std.specs.declared.alloc.Global.{Global}
@@ -34,6 +34,12 @@ moves_of (word ∷ next ∷ words) =
 abbrev pub command_of : List (List ℕ) → Option (List Move)
 command_of [] = None
 command_of (command ∷ words) = if bytes_eq command (codes "ids") && nat_lt 0 (length words) then moves_of words else None
+
+-- the words spell moves that may be run
+pub record IsRunnable (words : List (List ℕ)) : Type 0 where
+  pub moves : List Move
+  pub spelled : command_of words ≡ Some moves
+  pub may_run : MayRun [] moves
 
 -- the words spell no command, or one that gives back an id that isn't held
 abbrev pub IsMisuse : List (List ℕ) → Type 0

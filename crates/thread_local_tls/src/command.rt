@@ -1,9 +1,7 @@
-ghost use Rattle.std.specs.Prelude.{◌≡◌, ◌≤◌, List, [], IfSome, OnOk, OnErr, IfOk, IsErrOf, MatchResult};
+ghost use Rattle.std.specs.Prelude.{◌≡◌, ◌≤◌, OnOk, IfErr, IsErrOf};
 ghost use Rattle.std.specs.Io.KnownBytes.{Appends, Keeps};
-ghost use Rattle.thread_local_tls.specs.declared.moves.Move.{Move};
-ghost use Rattle.thread_local_tls.specs.Moves.{ids_given, MayRun};
-ghost use Rattle.thread_local_tls.specs.Words.{texts, command_of, lines_of, IsMisuse};
-ghost use Rattle.thread_local_tls.specs.Faults.{Answers};
+ghost use Rattle.thread_local_tls.specs.Words.{texts, lines_of, IsMisuse, IsRunnable};
+ghost use Rattle.thread_local_tls.specs.Faults.{Answers, IsHindered};
 
 use crate::fault::Fault;
 use crate::moves::ids;
@@ -18,6 +16,7 @@ pub fn run<O: Write, E: Write>(alloc: Global, words: &[String], out: &mut O, err
     ensures status { result ≤ 2 }
     ensures done { result ≡ 0 → Answers (texts words.now) (O.contents out.old) (O.contents out.new) }
     ensures misuse { result ≡ 2 → IsMisuse (texts words.now) × Keeps (O.contents out.old) (O.contents out.new) }
+    ensures hindered { result ≡ 1 → IsHindered (texts words.now) (O.contents out.old) (O.contents out.new) }
 {
     match answer(alloc, words, out) {
         Ok(()) => 0,
@@ -29,6 +28,8 @@ pub fn run<O: Write, E: Write>(alloc: Global, words: &[String], out: &mut O, err
 fn answer<O: Write>(alloc: Global, words: &[String], out: &mut O) -> Result<(), Fault>
     ensures done { OnOk result (Answers (texts words.now) (O.contents out.old) (O.contents out.new)) }
     ensures misuse { IsErrOf result Fault.Usage → IsMisuse (texts words.now) × Keeps (O.contents out.old) (O.contents out.new) }
+    ensures memory { IsErrOf result Fault.Memory → Keeps (O.contents out.old) (O.contents out.new) }
+    ensures write { IsErrOf result Fault.Write → IsRunnable (texts words.now) }
 {
     let moves = command(alloc, words)?;
     let ids = ids(alloc, &moves)?;
@@ -38,7 +39,7 @@ fn answer<O: Write>(alloc: Global, words: &[String], out: &mut O) -> Result<(), 
 /// Writes a line for each id, and flushes the writer.
 fn print<O: Write>(ids: &[usize], out: &mut O) -> Result<(), Fault>
     ensures written { OnOk result (Appends (O.contents out.old) (O.contents out.new) (lines_of ids.now)) }
-    ensures fault { IsErrOf result Fault.Usage → ⊥ }
+    ensures fault { IfErr result (λ fault. fault ≡ Fault.Write) }
 {
     for id in ids {
         if writeln!(out, "{id}").is_err() {

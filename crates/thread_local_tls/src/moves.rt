@@ -1,6 +1,5 @@
-ghost use Rattle.std.specs.Prelude.{◌≡◌, ℕ, ◌-◌, ◌^◌, false, [], take, slice_get, IfOk, IsErrOf};
-ghost use Rattle.thread_local_model.specs.Held.{is_held, HoldsAllBelow};
-ghost use Rattle.thread_local_tls.specs.Moves.{held_after, ids_given, MayRun};
+ghost use Rattle.std.specs.Prelude.{◌≡◌, [], IfOk, IsErrOf};
+ghost use Rattle.thread_local_tls.specs.Moves.{ids_given, MayRun, GivesWhatIsNotHeld, RunsOutOfIds};
 
 use std::alloc::{AllocError, Global};
 use thread_local_thread_id::{LocalError, ThreadIdManager};
@@ -38,10 +37,8 @@ impl From<LocalError> for IdsError {
 /// memory for the manager and for the answer: want of it is answered as `Local(Memory(..))`.
 pub fn ids(alloc: Global, moves: &[Move]) -> Result<Vec<usize>, IdsError>
     ensures ok { IfOk result (λ ids. (ids.items ≡ ids_given [] moves.now) × MayRun [] moves.now) }
-    ensures not_held { IsErrOf result IdsError.NotHeld → (n : ℕ) × (id : ℕ) × (slice_get moves.now n ≡ Some (Move.Give id))
-        × MayRun [] (take n moves.now) × (is_held (held_after [] (take n moves.now)) id ≡ false) }
-    ensures exhausted { IsErrOf result (IdsError.Local LocalError.Exhausted) → (n : ℕ) × (slice_get moves.now n ≡ Some Move.Take)
-        × MayRun [] (take n moves.now) × HoldsAllBelow (2 ^ 63 - 1) (held_after [] (take n moves.now)) }
+    ensures not_held { IsErrOf result IdsError.NotHeld → GivesWhatIsNotHeld moves.now }
+    ensures exhausted { IsErrOf result (IdsError.Local LocalError.Exhausted) → RunsOutOfIds moves.now }
 {
     let mut manager = ThreadIdManager::new(alloc);
     let mut ids = Vec::new(alloc);

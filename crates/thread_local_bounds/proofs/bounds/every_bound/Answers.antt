@@ -42,7 +42,7 @@ pub returns-clause-reserved : goal.returns-clause-reserved
 returns-clause-reserved g c = λ core n local refused r. bound.reserved core n local refused (clause.fits core r)
 
 pub returns-clause-reserved_answers : goal.returns-clause-reserved_answers
-returns-clause-reserved_answers g c = λ core n local r. bound.reserved_answers core n local (clause.fits core r)
+returns-clause-reserved_answers g c = λ core n local told r. bound.reserved_answers core n local told (clause.fits core r)
 
 pub returns-clause-bounded : goal.returns-clause-bounded
 returns-clause-bounded g c = headline.bounded

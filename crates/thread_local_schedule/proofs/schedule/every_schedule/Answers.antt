@@ -77,7 +77,7 @@ pub returns-clause-others : goal.returns-clause-others
 returns-clause-others g c = λ core event n local r. (clause.says core event r).others n local
 
 pub returns-clause-cleared_core : goal.returns-clause-cleared_core
-returns-clause-cleared_core g c = may.cleared_core
+returns-clause-cleared_core g c = clause.cleared_core
 
 pub returns-clause-cleared : goal.returns-clause-cleared
 returns-clause-cleared g c = clause.cleared

@@ -20,9 +20,9 @@ use Rattle.thread_local_blocks.proofs.Fields.{uncapped}
 use Rattle.thread_local_shared_word_logic.specs.Shared.{WordView, Turn, Standing, Sized, mark, len, invariant, loaded}
 use Rattle.thread_local_shared_word.proofs.Fields.{pointer_good}
 use Rattle.thread_local_shared_word_logic.proofs.Loads.{glimpse, reaches, reads}
-use Rattle.thread_local_model.specs.Learnt.{Learnt, Missing, Vacant}
+use Rattle.thread_local_model.specs.Learnt.{Learnt, Missing, Vacant, Finds}
 use Rattle.thread_local_claim_logic.specs.Known.{IsKnown, IsUnfound, in_vain, found_as}
-use Rattle.thread_local_claim_logic.proofs.Learning.{known_as, not_missing, kept_as, unfound, found as found_in}
+use Rattle.thread_local_claim_logic.proofs.Learning.{known_as, not_missing, kept_as, finds_nothing, finds_slot, unfound, found as found_in}
 use Rattle.thread_local_claim_logic.specs.Claims.{Place, place_of, IsOf, IsKept, IsAt, waits, has, has_slot, has_at}
 use Rattle.thread_local_claim.specs.contracts.claimed.ClaimedSlot as claim
 use Rattle.thread_local_claim.specs.contracts.claimed.ClaimedSlot.find.{ended, clauses}
@@ -45,7 +45,7 @@ find_spec 𝓤 𝓛 𝓜 𝓡 wired X L =
     (λ κs. ((λ x. value_of (kept_of x) ∷ []), tt)) (λ κs. ((λ x vs so. (told (named_lft 2 0 tt κs) R (kept_of x) vs so.0).0), tt)) (λ κs qs bounds a gh are.
     let h = a.0 in let β : Lft = κs.0 in let q : Share = qs.0 in let others : Fml = fsep (flft κs.1.0 qs.1.0) ftrue in let ℓ = named_lft 2 0 tt κs in let G : RattleType = claim.the_row ℓ R in let u₀ : Val = value_of (kept_of h) in
     let F₁ : G.Denot → Type 0 = λ r. (r.table ≡ h.table) × (r.id ≡ h.id) in let F₂ : G.Denot → Type 0 = λ r. IsKnown r.learnt in let F₃ : G.Denot → Type 0 = λ r. h.learnt ≡ Missing → (r.learnt ≡ Missing) ⊎ (r.learnt ≡ Vacant) in
-    let F₄ : G.Denot → Type 0 = λ r. (r.reserved ≡ h.reserved) × (r.reserved ≡ true → r.learnt ≢ Missing) in let l₀ : Learnt X.Denot = h.learnt in let gone : Learnt X.Denot = Missing in
+    let F₄ : G.Denot → Type 0 = λ r. (r.reserved ≡ h.reserved) × (r.reserved ≡ true → r.learnt ≢ Missing) in let l₀ : Learnt X.Denot = h.learnt in let F₅ : G.Denot → Type 0 = λ r. Finds l₀ r.learnt in let gone : Learnt X.Denot = Missing in
     let w : Ptr = h.word in let wb : ℕ = block_of w in let wo : ℕ = count_of w in let i : ℕ = h.index in let pl : Place = place_of h.id i h.slot h.reserved in let fits : i < 2 ^ 64 = (told ℓ R (kept_of h) (u₀ ∷ []) are.0.0).1 in
     let y : (walk_of 𝓛 En hs c).Ghost = ((κs, qs, bounds, a, (u₀ ∷ [], tt)), gh) in let Post : Val → SProp 𝓤 = (walk_of 𝓛 En hs c).post y in
     qed 𝓛 (((‵ (flft β q) ⊛ ‵ others) ⊛ ‵ (owns (types_at En.signature.params κs) a y.0.4)) ∷ raw (fact 𝓤 _) ∷ raw (fact 𝓤 (IsUnfound l₀)) ∷ []) ∵
@@ -76,7 +76,7 @@ find_spec 𝓤 𝓛 𝓜 𝓡 wired X L =
     move ! (4 ∷ 2 ∷ []) $ fjoin ! $ fjoin ! $ nothing ! $ fpack ! (IsOf R (block_ptr wb wo) h.table pl' d) (λ _. ftrue) (tt, of.1, of.2, of.3, of.4, of.5) $ fjoin ! $
     fpack ! (WordView × Turn) (has_at R β (block_ptr wb wo) h.table pl' gone) z $ nothing ! $ fpack ! (IsKept R false false gone) (λ _. ftrue) (refl, refl) $ fjoin ! $
     use0 𝓛 (‵ ((Words ℓ R).own_val (fields_of ℓ R m) (value_of m ∷ []))) (made ℓ R 𝓛 m fits) $ fjoin ! $ move ! (1 ∷ 4 ∷ []) $ join ! $ move ! (1 ∷ []) $
-    use0 𝓛 (raw (fact 𝓤 (F₄ r))) (fact_i 𝓤 (F₄ r) (emp 𝓤) (refl, (λ is. let never : true ≡ false = sym is ∙ sym of.5 ∙ free in cc))) $ use0 𝓛 (raw (fact 𝓤 (F₃ r))) (fact_i 𝓤 (F₃ r) (emp 𝓤) (λ _. inl refl)) $ join ! $ use0 𝓛 (raw (fact 𝓤 (F₂ r))) (fact_i 𝓤 (F₂ r) (emp 𝓤) tt) $ join ! $
+    use0 𝓛 (raw (fact 𝓤 (F₅ r))) (fact_i 𝓤 (F₅ r) (emp 𝓤) (finds_nothing l₀ unseen)) $ use0 𝓛 (raw (fact 𝓤 (F₄ r))) (fact_i 𝓤 (F₄ r) (emp 𝓤) (refl, (λ is. let never : true ≡ false = sym is ∙ sym of.5 ∙ free in cc))) $ join ! $ use0 𝓛 (raw (fact 𝓤 (F₃ r))) (fact_i 𝓤 (F₃ r) (emp 𝓤) (λ _. inl refl)) $ join ! $ use0 𝓛 (raw (fact 𝓤 (F₂ r))) (fact_i 𝓤 (F₂ r) (emp 𝓤) tt) $ join ! $
     use0 𝓛 (raw (fact 𝓤 (F₁ r))) (fact_i 𝓤 (F₁ r) (emp 𝓤) (refl, refl)) $ join ! $ nothing ! $ nothing ! $ fjoin ! $ returns_within ! Post refl (look_at ! 0 refl) $ free_all ! refl $ keep ! (3 ∷ 0 ∷ 2 ∷ 1 ∷ []) $ by ! (leaves 𝓛 En hs c y (value_of m) r (tt, tt) (tt, tt))) (λ wrong. absurd wrong)))
     (λ pb po. let p : Ptr = block_ptr pb po in let e : ℕ = i * stride R + po in
     lands_last ! refl (pointer_good p) $ exec ! 𝓣.C 𝓣.Λ Ev (after 3 fn.body) (at_ret Ev Post) $ fsplit ! $ move ! (1 ∷ []) $ fsplit ! $ fpick ! (λ zz. move ! (0 ∷ 6 ∷ []) $
@@ -105,5 +105,5 @@ find_spec 𝓤 𝓛 𝓜 𝓡 wired X L =
     fpack ! (WordView × Turn) (has_at R β (block_ptr wb wo) h.table pl' (found_as x)) z $ nothing ! $ fpack ! (IsKept R true is (found_as x)) (λ _. ftrue) (kept_as R x n known.0) $ fjoin ! $
     use0 𝓛 (‵ ((Words ℓ R).own_val (fields_of ℓ R m) (value_of m ∷ []))) (made ℓ R 𝓛 m fits) $ fjoin ! $ move ! (1 ∷ 2 ∷ []) $ join ! $ move ! (1 ∷ []) $
     let r : G.Denot = record { word = block_ptr wb wo; slot = block_ptr pb e; index = i; found = true; published = is; marker = record {}; table = h.table; id = h.id; reserved = h.reserved; learnt = found_as x } in
-    use0 𝓛 (raw (fact 𝓤 (F₄ r))) (fact_i 𝓤 (F₄ r) (emp 𝓤) (refl, (λ _. not_missing x))) $ use0 𝓛 (raw (fact 𝓤 (F₃ r))) (fact_i 𝓤 (F₃ r) (emp 𝓤) (λ was. inr (ap found_as (known.1 (ap in_vain was))))) $ join ! $ use0 𝓛 (raw (fact 𝓤 (F₂ r))) (fact_i 𝓤 (F₂ r) (emp 𝓤) (known_as x)) $ join ! $
+    use0 𝓛 (raw (fact 𝓤 (F₅ r))) (fact_i 𝓤 (F₅ r) (emp 𝓤) (finds_slot l₀ unseen x)) $ use0 𝓛 (raw (fact 𝓤 (F₄ r))) (fact_i 𝓤 (F₄ r) (emp 𝓤) (refl, (λ _. not_missing x))) $ join ! $ use0 𝓛 (raw (fact 𝓤 (F₃ r))) (fact_i 𝓤 (F₃ r) (emp 𝓤) (λ was. inr (ap found_as (known.1 (ap in_vain was))))) $ join ! $ use0 𝓛 (raw (fact 𝓤 (F₂ r))) (fact_i 𝓤 (F₂ r) (emp 𝓤) (known_as x)) $ join ! $
     use0 𝓛 (raw (fact 𝓤 (F₁ r))) (fact_i 𝓤 (F₁ r) (emp 𝓤) (refl, refl)) $ join ! $ nothing ! $ nothing ! $ fjoin ! $ returns ! (look_at ! 0 refl) $ free_all ! refl $ keep ! (3 ∷ 0 ∷ 2 ∷ 1 ∷ []) $ by ! (leaves 𝓛 En hs c y (value_of m) r (tt, tt) (tt, tt))))))))))))))))))

@@ -1,5 +1,5 @@
-use Rattle.thread_local_bounds.proofs.Open as ending
-use Rattle.thread_local_bounds.proofs.ends.every_end.Goals as goal
+use Rattle.thread_local_schedule.proofs.Open as ending
+use Rattle.thread_local_schedule.proofs.ends.every_end.Goals as goal
 
 pub returns-clause-into_iter_ends : goal.returns-clause-into_iter_ends
 returns-clause-into_iter_ends g c = ending.into_iter_ends

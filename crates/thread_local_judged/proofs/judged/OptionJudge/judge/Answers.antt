@@ -1,0 +1,10 @@
+use denote.Param.{param}
+use Rattle.thread_local_judged.proofs.Everywhere.{known}
+use Rattle.thread_local_judged.proofs.Optional.{optional}
+use Rattle.thread_local_judged.proofs.judged.OptionJudge.judge.Goals as goal
+
+pub returns-clause-everywhere : goal.returns-clause-everywhere
+returns-clause-everywhere g c = optional (param 0 g.row.T) c.judge.ensures.everywhere
+
+pub returns-clause-judged : goal.returns-clause-judged
+returns-clause-judged g c = known (returns-clause-everywhere g c)
