@@ -1,5 +1,4 @@
 pub use Rattle.thread_local_model.specs.Answers
 pub use Rattle.thread_local_model.specs.Learnt
-pub mod Views
 pub mod Seats
 pub mod Text

@@ -1,5 +1,5 @@
 //! A thread's place in a table, which it has until it drops it.
-ghost use Rattle.std.specs.Prelude.{◌≡◌, ⊤, true, false, None, Ok, Err, OnOk, IfOk, option_map, MatchResult, alloc_error, Result};
+ghost use Rattle.std.specs.Prelude.{◌≡◌, ◌≢◌, ⊤, true, false, None, Ok, Err, OnOk, IfOk, option_map, MatchResult, alloc_error, Result};
 ghost use Rattle.thread_local_model.specs.Answers.{Get, GetOr, Found, Refused, Failed, answer};
 ghost use Rattle.thread_local_table.specs.Seats.{IsAnswered, IsFilled, Fails, IsRefused};
 
@@ -23,7 +23,7 @@ pub struct Local<'a, T, R: Wait> {
 
 impl<'a, T, R: Wait> Model for Local<'a, T, R> {
     ghost use Rattle.thread_local_model.specs.Answers.{View};
-    ghost use Rattle.thread_local_table.specs.Views.{view_coded};
+    ghost use Rattle.thread_local_model.specs.Code.{view_coded};
 
     ghost Value = { View T };
 
@@ -75,6 +75,7 @@ impl<'a, T, R: Wait> Local<'a, T, R> {
         ensures ok { OnOk result (IsFilled E (λ value. F.post create (Ok value)) self.old self.new) }
         ensures create { (error : E) → result ≡ Err (TryError.Create error) → Fails (λ e. F.post create (Err e)) self.old self.new error }
         ensures memory { result ≡ Err (TryError.Memory alloc_error) → IsRefused E self.old self.new }
+        ensures granted { self.old.known ≡ true → result ≢ Err (TryError.Memory alloc_error) }
     {
         self.seat.try_fill(create)
     }
@@ -86,6 +87,7 @@ impl<'a, T, R: Wait> Local<'a, T, R> {
         ensures ok { IfOk result (λ there. IsAnswered E (λ value. F.post create (Ok value)) self.old there.now) }
         ensures create { (error : E) → result ≡ Err (TryError.Create error) → (answer self.old (GetOr (Err error) false) ≡ Failed error) × F.post create (Err error) }
         ensures memory { result ≡ Err (TryError.Memory alloc_error) → (made : Result T E) → answer self.old (GetOr made true) ≡ Refused }
+        ensures granted { self.old.known ≡ true → result ≢ Err (TryError.Memory alloc_error) }
     {
         self.seat.try_fill(create)?;
         Ok(self.seat.value())

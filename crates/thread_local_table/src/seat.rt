@@ -1,5 +1,5 @@
 //! A thread's place in a table.
-ghost use Rattle.std.specs.Prelude.{◌≡◌, ◌≢◌, ◌-◌, ◌^◌, ◌<◌, ◌⊎◌, ⊤, is_some, true, None, Some, Ok, Err, OnOk, OnErr, IfOk, Result, false, alloc_error, option_map};
+ghost use Rattle.std.specs.Prelude.{◌≡◌, ◌≢◌, ◌-◌, ◌^◌, ◌<◌, ◌⊎◌, ⊤, is_some, true, None, Some, Ok, Err, OnOk, OnErr, IfOk, IsOk, Result, false, alloc_error, option_map};
 ghost use Rattle.thread_local_model.specs.Learnt.{Missing, Vacant};
 ghost use Rattle.thread_local_model.specs.Answers.{Get, GetOr, Found, Refused, Failed, answer};
 ghost use Rattle.thread_local_table.specs.Seats.{vacant, holding, IsAnswered, IsFilled, Fails, IsRefused};
@@ -30,8 +30,8 @@ pub struct Seat<'a, T> {
 }
 
 impl<'a, T> Model for Seat<'a, T> {
-    ghost use Rattle.thread_local_model.specs.Answers.{View};
-    ghost use Rattle.thread_local_table.specs.Views.{view_of, view_coded};
+    ghost use Rattle.thread_local_model.specs.Answers.{View, view_of};
+    ghost use Rattle.thread_local_model.specs.Code.{view_coded};
     ghost use Rattle.thread_local_table.specs.Seats.{IsSeated};
 
     ghost Value = { View T };
@@ -125,6 +125,7 @@ impl<'a, T> Seat<'a, T> {
         requires { self.old.value ≡ None → F.pre create }
         ensures ok { OnOk result (IsFilled ⊤ (F.post create) self.old self.new) }
         ensures err { OnErr result (IsRefused ⊤ self.old self.new) }
+        ensures granted { self.old.known ≡ true → IsOk result }
     {
         if !self.is_filled() {
             self.find_bucket()?;
@@ -140,6 +141,7 @@ impl<'a, T> Seat<'a, T> {
         ensures ok { OnOk result (IsFilled E (λ v. F.post create (Ok v)) self.old self.new) }
         ensures create { (error : E) → result ≡ Err (TryError.Create error) → Fails (λ e. F.post create (Err e)) self.old self.new error }
         ensures memory { result ≡ Err (TryError.Memory alloc_error) → IsRefused E self.old self.new }
+        ensures granted { self.old.known ≡ true → result ≢ Err (TryError.Memory alloc_error) }
     {
         if self.is_filled() {
             return Ok(());
@@ -163,6 +165,7 @@ impl<'a, T> Seat<'a, T> {
         ensures ok { IfOk result (λ there. IsAnswered E (λ value. F.post create (Ok value)) self.old there.now) }
         ensures create { (error : E) → result ≡ Err (TryError.Create error) → (answer self.old (GetOr (Err error) false) ≡ Failed error) × F.post create (Err error) }
         ensures memory { result ≡ Err (TryError.Memory alloc_error) → (made : Result T E) → answer self.old (GetOr made true) ≡ Refused }
+        ensures granted { self.old.known ≡ true → result ≢ Err (TryError.Memory alloc_error) }
     {
         self.try_fill(create)?;
         Ok(self.value())

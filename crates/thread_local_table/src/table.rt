@@ -1,5 +1,6 @@
 //! The table that threads share.
-ghost use Rattle.std.specs.Prelude.{◌≡◌};
+ghost use Rattle.std.specs.Prelude.{◌≡◌, ◌≤◌, ◌^◌, Err, IfOk};
+ghost use Rattle.thread_local_model.specs.Capacity.{reserved_slots};
 ghost use Rattle.thread_local_judged.specs.Judged.{Judged};
 
 use crate::local::Local;
@@ -9,7 +10,7 @@ use std::alloc::Global;
 use std::default::MadeWith;
 use std::marker::Model;
 use std::sync::Wait;
-use thread_local_buckets::{Buckets, IntoIter, IterMut};
+use thread_local_buckets::{Buckets, CapacityError, IntoIter, IterMut};
 use thread_local_judged::Judge;
 use thread_local_locked_ids::Ids;
 use thread_local_thread_id::LocalError;
@@ -47,6 +48,31 @@ impl<T> ThreadLocal<T> {
     {
         ThreadLocal {
             core: Core::new(alloc, Buckets::new(alloc), Ids::new(alloc)),
+        }
+    }
+
+    /// A table with no value and no id held, with room for that many ids and with the first buckets, one for each binary digit of the
+    /// capacity, whose slots are reserved: at that many ids nothing is refused memory later on. `TooLarge` means 2^63 or more, and comes
+    /// before memory is asked for. `Memory` is want of memory for the ids or for a bucket, and what was had before is freed.
+    pub fn with_capacity(alloc: Global, capacity: usize) -> Result<ThreadLocal<T>, CapacityError>
+    where
+        T: Drop,
+        requires judged { Judged T.row }
+        ensures reserved { IfOk result (λ table. table.reserved ≡ reserved_slots capacity) }
+        ensures too_large { 2 ^ 63 ≤ capacity → result ≡ Err CapacityError.TooLarge }
+        ensures not_too_large { result ≡ Err CapacityError.TooLarge → 2 ^ 63 ≤ capacity }
+    {
+        if capacity >= 1 << 63 {
+            return Err(CapacityError::TooLarge);
+        }
+        match Ids::with_room(alloc, capacity) {
+            Ok(ids) => {
+                let buckets = Buckets::with_capacity(alloc, capacity)?;
+                Ok(ThreadLocal {
+                    core: Core::new(alloc, buckets, ids),
+                })
+            }
+            Err(error) => Err(CapacityError::Memory(error)),
         }
     }
 

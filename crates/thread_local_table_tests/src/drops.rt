@@ -20,26 +20,27 @@ impl Drop for Counted {
     }
 }
 
-/// One more `Local` is held at once in each call, and publishes a counted value. Answers whether all did.
+/// So many `Local`s are held at once, and each publishes a counted value. Answers whether none was refused.
 fn publish_counted<R: Wait>(
     table: &ThreadLocal<Counted>,
     rt: &R,
+    alloc: Global,
     drops: &Arc<AtomicU64, Global>,
-    more: u64,
+    count: u64,
 ) -> bool {
-    let Ok(mut local) = table.local(rt) else {
-        return false;
-    };
-    let Ok(drops_too) = Arc::try_clone(drops) else {
-        return false;
-    };
-    if local.get_or(|| Counted { drops: drops_too }).is_err() {
-        return false;
+    let mut locals = Vec::new(alloc);
+    for _ in 0..count {
+        let Ok(mut local) = table.local(rt) else {
+            return false;
+        };
+        let Ok(drops) = Arc::try_clone(drops) else {
+            return false;
+        };
+        if local.get_or(|| Counted { drops }).is_err() || locals.push(local).is_err() {
+            return false;
+        }
     }
-    match more.checked_sub(1) {
-        None => true,
-        Some(rest) => publish_counted(table, rt, drops, rest),
-    }
+    true
 }
 
 #[test]
@@ -47,7 +48,7 @@ fn a_value_is_dropped_with_its_table(rt: HostRuntime) -> Result<(), Fail> {
     let drops = Arc::new(rt.alloc(), AtomicU64::new(0))?;
     judge_sync::<Counted>();
     let table = ThreadLocal::new(rt.alloc());
-    assert!(rt; publish_counted(&table, &rt, &drops, 0));
+    assert!(rt; publish_counted(&table, &rt, rt.alloc(), &drops, 1));
     assert_eq!(rt; drops.load(SeqCst), 0);
     drop(table);
     assert_eq!(rt; drops.load(SeqCst), 1);
@@ -59,7 +60,7 @@ fn a_walk_that_ends_early_drops_the_values_that_it_has_not_given(rt: HostRuntime
     let drops = Arc::new(rt.alloc(), AtomicU64::new(0))?;
     judge_sync::<Counted>();
     let table = ThreadLocal::new(rt.alloc());
-    assert!(rt; publish_counted(&table, &rt, &drops, 2));
+    assert!(rt; publish_counted(&table, &rt, rt.alloc(), &drops, 3));
     let mut values = table.into_iter();
     let first = values.next();
     drop(values);

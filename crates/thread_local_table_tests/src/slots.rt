@@ -1,21 +1,22 @@
 //! How large a table grows.
-ghost use Rattle.std.specs.Prelude.{◌≡◌};
-
+use std::alloc::Global;
 use std::sync::Wait;
 use std::test::Fail;
+use thread_local_buckets::CapacityError;
 use thread_local_table::ThreadLocal;
-use thread_local_thread_id::LocalError;
 
-/// One more `Local` is held at once in each call, and publishes. Answers whether all did.
-fn publish_held<R: Wait>(table: &ThreadLocal<u32>, rt: &R, more: u32) -> Result<bool, LocalError> {
-    let mut local = table.local(rt)?;
-    if local.get_or(|| more).is_err() {
-        return Ok(false);
+/// So many `Local`s are held at once, and each publishes its number. Answers whether none was refused.
+fn publish_held<R: Wait>(table: &ThreadLocal<u32>, rt: &R, alloc: Global, count: u32) -> bool {
+    let mut locals = Vec::new(alloc);
+    for number in 0..count {
+        let Ok(mut local) = table.local(rt) else {
+            return false;
+        };
+        if local.get_or(|| number).is_err() || locals.push(local).is_err() {
+            return false;
+        }
     }
-    match more.checked_sub(1) {
-        None => Ok(true),
-        Some(rest) => publish_held(table, rt, rest),
-    }
+    true
 }
 
 #[test]
@@ -32,7 +33,7 @@ fn locals_one_after_another_use_one_slot(rt: HostRuntime) -> Result<(), Fail> {
 #[test]
 fn four_locals_held_at_once_use_seven_slots(rt: HostRuntime) -> Result<(), Fail> {
     let mut table = ThreadLocal::<u32>::new(rt.alloc());
-    assert_eq!(rt; publish_held(&table, &rt, 3), Ok(true));
+    assert!(rt; publish_held(&table, &rt, rt.alloc(), 4));
     assert_eq!(rt; table.slots(), 7);
     Ok(())
 }
@@ -49,5 +50,41 @@ fn a_new_table_has_no_slots_and_no_values(rt: HostRuntime) -> Result<(), Fail> {
     let mut values = table.into_iter();
     assert_eq!(rt; values.len(), 0);
     assert!(rt; values.next().is_none());
+    Ok(())
+}
+
+#[test]
+fn a_capacity_reserves_the_slots_of_its_binary_digits(rt: HostRuntime) -> Result<(), Fail> {
+    for (capacity, slots) in [(0, 0), (1, 1), (3, 3), (4, 7), (7, 7), (8, 15)] {
+        match ThreadLocal::<u32>::with_capacity(rt.alloc(), capacity) {
+            Ok(mut table) => assert_eq!(rt; table.slots(), slots),
+            Err(_) => assert!(rt; false, "there is memory"),
+        }
+    }
+    Ok(())
+}
+
+#[test]
+fn a_capacity_may_be_too_large(rt: HostRuntime) -> Result<(), Fail> {
+    let too_large = ThreadLocal::<u32>::with_capacity(rt.alloc(), 9223372036854775808);
+    assert!(rt; matches!(too_large, Err(CapacityError::TooLarge)));
+    let refused = ThreadLocal::<u32>::with_capacity(rt.alloc(), 9223372036854775807);
+    assert!(rt; matches!(refused, Err(CapacityError::Memory(_))));
+    Ok(())
+}
+
+#[test]
+fn places_below_the_reserved_slots_are_reserved(rt: HostRuntime) -> Result<(), Fail> {
+    let Ok(table) = ThreadLocal::<u32>::with_capacity(rt.alloc(), 4) else {
+        return Err(Fail);
+    };
+    let mut locals = Vec::new(rt.alloc());
+    for id in 0..8 {
+        let local = table.local(&rt)?;
+        assert_eq!(rt; local.is_reserved(), id < 7);
+        locals.push(local)?;
+    }
+    let other = ThreadLocal::<u32>::new(rt.alloc());
+    assert!(rt; !other.local(&rt)?.is_reserved());
     Ok(())
 }

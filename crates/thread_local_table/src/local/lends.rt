@@ -1,6 +1,6 @@
 //! The calls of a `Local` that say what they leave beside the reference that they answer, apart from the file that declares it, since
 //! their clauses name its row.
-ghost use Rattle.std.specs.Prelude.{◌≡◌, ⊤, true, None, Result, [], MatchResult};
+ghost use Rattle.std.specs.Prelude.{◌≡◌, ⊤, true, None, IsOk, Result, [], MatchResult};
 ghost use types.Logic.{sem};
 ghost use denote.Follow.{follows_so};
 ghost use mathlib.Core.Option.{none};
@@ -21,6 +21,7 @@ impl<'a, T, R: Wait> Local<'a, T, R> {
         ensures* leaves { sem 𝓛 (follows_so (the_row (record { mir = named 1; lft = [] }) T.row R.row) (the_row (record { mir = named 1; lft = [] }) T.row R.row) self.entry.ghost_name none (λ _ _. ⊤)
             (λ left. MatchResult result (λ there. Fills ⊤ (F.post create) self.old left there.now) (λ _. IsRefused ⊤ self.old left))) }
         ensures answers { MatchResult result (λ there. IsAnswered ⊤ (F.post create) self.old there.now) (λ _. (made : Result T ⊤) → answer self.old (GetOr made true) ≡ Refused) }
+        ensures granted { self.old.known ≡ true → IsOk result }
     {
         self.seat.fill(create)?;
         Ok(self.seat.value())
@@ -33,6 +34,7 @@ impl<'a, T, R: Wait> Local<'a, T, R> {
         ensures* leaves { sem 𝓛 (follows_so (the_row (record { mir = named 1; lft = [] }) T.row R.row) (the_row (record { mir = named 1; lft = [] }) T.row R.row) self.entry.ghost_name none (λ _ _. ⊤)
             (λ left. MatchResult result (λ there. Fills ⊤ T.is_default self.old left there.now) (λ _. IsRefused ⊤ self.old left))) }
         ensures answers { MatchResult result (λ there. IsAnswered ⊤ T.is_default self.old there.now) (λ _. (made : Result T ⊤) → answer self.old (GetOr made true) ≡ Refused) }
+        ensures granted { self.old.known ≡ true → IsOk result }
     {
         self.seat.fill(|| T::default())?;
         Ok(self.seat.value())
