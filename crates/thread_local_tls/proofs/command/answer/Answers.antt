@@ -20,7 +20,7 @@ is_not_held : (error : IdsError) → fault_of error ≡ Usage → error ≡ NotH
 is_not_held (Local error) e = cc
 is_not_held NotHeld e = refl
 
--- and none is a write that failed
+-- no error of the moves is a write that failed
 is_no_write : (error : IdsError) → fault_of error ≡ Write → ⊥
 is_no_write (Local error) e = cc
 is_no_write NotHeld e = cc
@@ -31,7 +31,7 @@ answers : (words : List (List ℕ)) (old new : Option (List ℕ)) (ids : List �
 answers words old new ids (Ok x) runnable given written = record { runnable = runnable; written = subst (λ l. Appends old new (lines_of l)) given written }
 answers words old new ids (Err e) runnable given written = tt
 
--- where each error is this one, the error is it
+-- a fault that printing ends with is a write that failed
 fault_is : (result : Result (Unit {0}) Fault) (fault : Fault) → IfErr result (λ f. f ≡ Write) → result ≡ Err fault → fault ≡ Write
 fault_is (Ok x) fault h is = cc
 fault_is (Err e) fault h is = cc
