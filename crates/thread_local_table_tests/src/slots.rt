@@ -56,10 +56,8 @@ fn a_new_table_has_no_slots_and_no_values(rt: HostRuntime) -> Result<(), Fail> {
 #[test]
 fn a_capacity_reserves_the_slots_of_its_binary_digits(rt: HostRuntime) -> Result<(), Fail> {
     for (capacity, slots) in [(0, 0), (1, 1), (3, 3), (4, 7), (7, 7), (8, 15)] {
-        match ThreadLocal::<u32>::with_capacity(rt.alloc(), capacity) {
-            Ok(mut table) => assert_eq!(rt; table.slots(), slots),
-            Err(_) => assert!(rt; false, "there is memory"),
-        }
+        let mut table = ThreadLocal::<u32>::with_capacity(rt.alloc(), capacity)?;
+        assert_eq!(rt; table.slots(), slots);
     }
     Ok(())
 }
@@ -75,9 +73,7 @@ fn a_capacity_may_be_too_large(rt: HostRuntime) -> Result<(), Fail> {
 
 #[test]
 fn places_below_the_reserved_slots_are_reserved(rt: HostRuntime) -> Result<(), Fail> {
-    let Ok(table) = ThreadLocal::<u32>::with_capacity(rt.alloc(), 4) else {
-        return Err(Fail);
-    };
+    let table = ThreadLocal::<u32>::with_capacity(rt.alloc(), 4)?;
     let mut locals = Vec::new(rt.alloc());
     for id in 0..8 {
         let local = table.local(&rt)?;
