@@ -1,6 +1,8 @@
 //! What a `Local` finds at its id, and what it publishes there.
 
+use std::alloc::AllocError;
 use std::mem::swap;
+use std::sync::Wait;
 use std::test::Fail;
 use thread_local_table::{ThreadLocal, TryError};
 
@@ -101,20 +103,27 @@ fn a_negative_number_is_shown(rt: HostRuntime) -> Result<(), Fail> {
     Ok(())
 }
 
+/// Three `Local`s publish 1, 2 and 3, the last in another table, and the seats of the latter two are swapped. Answers what the first found.
+fn swap_the_latter_two<'a, R: Wait>(
+    table: &'a ThreadLocal<u32>,
+    other: &'a ThreadLocal<u32>,
+    rt: &'a R,
+) -> Result<Option<u32>, AllocError> {
+    let mut first = table.local(rt).map_err(|_| AllocError)?;
+    let mut second = table.local(rt).map_err(|_| AllocError)?;
+    first.get_or(|| 1)?;
+    second.get_or(|| 2)?;
+    let mut third = other.local(rt).map_err(|_| AllocError)?;
+    third.get_or(|| 3)?;
+    swap(third.seat_mut(), second.seat_mut());
+    Ok(first.get().copied())
+}
+
 #[test]
 fn swapped_seats_go_back_to_their_tables(rt: HostRuntime) -> Result<(), Fail> {
     let table = ThreadLocal::<u32>::new(rt.alloc());
     let other = ThreadLocal::<u32>::new(rt.alloc());
-    {
-        let mut first = table.local(&rt)?;
-        let mut second = table.local(&rt)?;
-        assert_eq!(rt; *first.get_or(|| 1)?, 1);
-        assert_eq!(rt; *second.get_or(|| 2)?, 2);
-        assert_eq!(rt; first.get(), Some(&1));
-        let mut third = other.local(&rt)?;
-        assert_eq!(rt; *third.get_or(|| 3)?, 3);
-        swap(third.seat_mut(), second.seat_mut());
-    }
+    assert_eq!(rt; swap_the_latter_two(&table, &other, &rt), Ok(Some(1)));
     let first = table.local(&rt)?;
     let second = table.local(&rt)?;
     let third = other.local(&rt)?;

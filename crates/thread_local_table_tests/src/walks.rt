@@ -61,7 +61,10 @@ fn values_are_changed_in_place(rt: HostRuntime) -> Result<(), Fail> {
 fn a_walk_that_ends_early_leaves_the_values(rt: HostRuntime) -> Result<(), Fail> {
     let mut table = ThreadLocal::<u32>::new(rt.alloc());
     assert_eq!(rt; publish_three(&table, &rt), Ok(true));
-    assert!(rt; table.iter_mut().next().is_some());
+    {
+        let mut values = table.iter_mut();
+        assert_eq!(rt; values.next().map(|there| *there), Some(1));
+    }
     let mut values = table.iter_mut();
     assert_eq!(rt; values.len(), 3);
     for value in [1, 2, 3] {
