@@ -1,4 +1,4 @@
-use Rattle.std.proofs.Common.{◌≡◌, ◌≢◌, Option, Some, None, is_some, true, refl}
+use Rattle.std.proofs.Common.{◌≡◌, Option, Some, None, is_some, true, refl}
 use Rattle.thread_local_model.specs.Answers.{View}
 use Rattle.thread_local_table.specs.Seats.{IsFilled}
 

@@ -1,6 +1,6 @@
-use Rattle.std.proofs.Common.{◌≡◌, ◌≢◌, ◌<◌, ◌-◌, ◌^◌, ℕ, ◌+◌, subst, sym, arith}
-use Rattle.thread_local_model.specs.Place.{bucket_of, index_of, id_at}
-use Rattle.thread_local_model.specs.Learnt.{Learnt, Missing}
+use Rattle.std.proofs.Common.{◌≡◌, ◌≢◌, ◌<◌, ◌-◌, ◌^◌, ℕ, subst, sym, arith}
+use Rattle.thread_local_model.specs.Place.{bucket_of, id_at}
+use Rattle.thread_local_model.specs.Learnt.{Missing}
 use Rattle.thread_local_model.proofs.PlaceLaws.{id_at-place}
 use Rattle.thread_local_claim.specs.Known.{IsKnown}
 use Rattle.thread_local_claim.specs.Views.{ClaimView}

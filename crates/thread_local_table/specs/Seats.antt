@@ -1,5 +1,5 @@
 -- What ties a seat to its table, and what the calls of a seat say.
-use Rattle.std.specs.Prelude.{◌≡◌, ◌≢◌, ◌<◌, ◌-◌, ◌^◌, ℕ, true, false, Some, None, Result, Ok, Err}
+use Rattle.std.specs.Prelude.{◌≡◌, ◌≢◌, ◌<◌, ◌-◌, ◌^◌, true, false, Some, None, Result, Ok, Err}
 use Rattle.thread_local_model.specs.Answers.{View, GetOr, Answered, Refused, Failed, Says, answer}
 use Rattle.thread_local_model.specs.Learnt.{Missing}
 use Rattle.thread_local_claim.specs.Known.{IsKnown}
