@@ -121,7 +121,12 @@ fn main(rt: HostRuntime) -> io::Result<()> {
 }
 
 /// The picoseconds of one operation, in the round that took the least.
-fn least<R: Clock + Wait>(workload: Workload, rt: &R, alloc: Global, rounds: u64) -> io::Result<u128> {
+fn least<R: Clock + Wait>(
+    workload: Workload,
+    rt: &R,
+    alloc: Global,
+    rounds: u64,
+) -> io::Result<u128> {
     let mut least = u128::MAX;
     for _ in 0..rounds {
         let Round { operations, time } = workload.round(rt, alloc, true)?;

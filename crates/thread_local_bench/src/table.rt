@@ -10,7 +10,10 @@ use thread_local_judged::Judge;
 use thread_local_table::{Local, ThreadLocal};
 
 /// A `Local`, where one can be had.
-fn taken<'a, T, R: Wait>(table: &'a ThreadLocal<T>, rt: &'a R) -> Result<Local<'a, T, R>, AllocError> {
+fn taken<'a, T, R: Wait>(
+    table: &'a ThreadLocal<T>,
+    rt: &'a R,
+) -> Result<Local<'a, T, R>, AllocError> {
     table.local(rt).map_err(|_| AllocError)
 }
 
@@ -27,7 +30,12 @@ fn counted(counts: ThreadLocal<Cell<u64>>, operations: u64, time: Duration) -> R
 }
 
 /// Finds the value and adds to it. Which of two `Local`s is asked is known at run time alone, so that no compiler finds it once for all.
-pub(crate) fn get_hit<R: Clock + Wait>(rt: &R, alloc: Global, times: u64, mask: u64) -> io::Result<Round> {
+pub(crate) fn get_hit<R: Clock + Wait>(
+    rt: &R,
+    alloc: Global,
+    times: u64,
+    mask: u64,
+) -> io::Result<Round> {
     Cell::<u64>::judge();
     let table = ThreadLocal::new(alloc);
     let time = {
@@ -47,8 +55,20 @@ pub(crate) fn get_hit<R: Clock + Wait>(rt: &R, alloc: Global, times: u64, mask: 
     Ok(counted(table, times, time))
 }
 
+/// Adds one to the value that `get_or` answers.
+fn add<R: Wait>(local: &mut Local<'_, Cell<u64>, R>) {
+    if let Ok(count) = local.get_or(|| Cell::new(0)) {
+        count.set(count.get().wrapping_add(1));
+    }
+}
+
 /// The same by `get_or`.
-pub(crate) fn get_or_hit<R: Clock + Wait>(rt: &R, alloc: Global, times: u64, mask: u64) -> io::Result<Round> {
+pub(crate) fn get_or_hit<R: Clock + Wait>(
+    rt: &R,
+    alloc: Global,
+    times: u64,
+    mask: u64,
+) -> io::Result<Round> {
     Cell::<u64>::judge();
     let table = ThreadLocal::new(alloc);
     let time = {
@@ -58,9 +78,10 @@ pub(crate) fn get_or_hit<R: Clock + Wait>(rt: &R, alloc: Global, times: u64, mas
         second.get_or(|| Cell::new(0u64))?;
         let start = Instant::now(rt)?;
         for number in 0..times {
-            let local = if number & mask == 0 { &mut first } else { &mut second };
-            if let Ok(count) = local.get_or(|| Cell::new(0)) {
-                count.set(count.get().wrapping_add(1));
+            if number & mask == 0 {
+                add(&mut first);
+            } else {
+                add(&mut second);
             }
         }
         start.elapsed(rt)?
@@ -69,7 +90,11 @@ pub(crate) fn get_or_hit<R: Clock + Wait>(rt: &R, alloc: Global, times: u64, mas
 }
 
 /// Makes a table and a `Local`, publishes its first value, and drops all.
-pub(crate) fn new_first_drop<R: Clock + Wait>(rt: &R, alloc: Global, times: u64) -> io::Result<Round> {
+pub(crate) fn new_first_drop<R: Clock + Wait>(
+    rt: &R,
+    alloc: Global,
+    times: u64,
+) -> io::Result<Round> {
     let start = Instant::now(rt)?;
     for number in 0..times {
         let table = ThreadLocal::<u64>::new(alloc);
@@ -84,7 +109,11 @@ pub(crate) fn new_first_drop<R: Clock + Wait>(rt: &R, alloc: Global, times: u64)
 }
 
 /// Takes a `Local` of a table and drops it.
-pub(crate) fn local_and_drop<R: Clock + Wait>(rt: &R, alloc: Global, times: u64) -> io::Result<Round> {
+pub(crate) fn local_and_drop<R: Clock + Wait>(
+    rt: &R,
+    alloc: Global,
+    times: u64,
+) -> io::Result<Round> {
     let table = ThreadLocal::<u64>::new(alloc);
     let start = Instant::now(rt)?;
     for _ in 0..times {
