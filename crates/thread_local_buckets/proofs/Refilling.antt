@@ -1,27 +1,15 @@
-use Rattle.std.proofs.Common.{◌≡◌, ℕ, zero, suc, ◌^◌, ◌⊎◌, List, [], ◌∷◌, length, get_or, refl, sym, ap, ◌∙◌, subst, Option, Some, None, nat_lt, IsTrue}
+use Rattle.std.proofs.Common.{◌≡◌, ℕ, ◌^◌, ◌⊎◌, List, [], length, get_or, refl, sym, ap, ◌∙◌, subst, Option, Some, None, nat_lt, IsTrue}
 use Rattle.std.specs.Prelude.{is_some}
 use Rattle.thread_local_model.specs.Place.{bucket_of, index_of}
 use Rattle.thread_local_model.specs.Buckets.{Contents, row, stands, values}
 use Rattle.thread_local_model.specs.Owned.{Owned, IsOwned}
-use Rattle.thread_local_loan.specs.Refilled.{refilled_slot, refilled_row, refilled_rows, refilled}
+use Rattle.thread_local_contents.specs.Refilled.{refilled_slot, refilled_rows, refilled}
+use Rattle.thread_local_contents.proofs.RefilledLaws.{length-refilled_row, length-refilled_rows, refilled_row-at, refilled_rows-at}
 use Rattle.thread_local_buckets.specs.LendingValues.{owned_refilled}
 
 module _ {V : Type 0} where
-  length-refilled_row : (cs ws : List (Option V)) → length (refilled_row cs ws) ≡ length cs
-  length-refilled_row [] ws = refl
-  length-refilled_row (c ∷ cs) [] = refl
-  length-refilled_row (c ∷ cs) (w ∷ ws) = ap suc (length-refilled_row cs ws)
-
-  length-refilled_rows : (rs ws : List (List (Option V))) → length (refilled_rows rs ws) ≡ length rs
-  length-refilled_rows [] ws = refl
-  length-refilled_rows (r ∷ rs) [] = refl
-  length-refilled_rows (r ∷ rs) (w ∷ ws) = ap suc (length-refilled_rows rs ws)
-
   refilled-long : (rs ws : List (List (Option V))) (b : ℕ) → length (get_or (refilled_rows rs ws) b []) ≡ length (get_or rs b [])
-  refilled-long [] ws b = refl
-  refilled-long (r ∷ rs) [] b = refl
-  refilled-long (r ∷ rs) (w ∷ ws) zero = length-refilled_row r w
-  refilled-long (r ∷ rs) (w ∷ ws) (suc b) = refilled-long rs ws b
+  refilled-long rs ws b = ap length (refilled_rows-at rs ws b) ∙ length-refilled_row (get_or rs b []) (get_or ws b [])
 
   -- buckets whose values were written are an owner's still
   pub IsOwned-refilled : (owned w : Owned V) → IsOwned owned → IsOwned (owned_refilled owned w)
@@ -38,17 +26,11 @@ module _ {V : Type 0} where
   refilled_slot-some (Some x) None = refl
   refilled_slot-some (Some x) (Some y) = refl
 
-  refilled_row-some : (cs ws : List (Option V)) (i : ℕ) → is_some (get_or (refilled_row cs ws) i None) ≡ is_some (get_or cs i None)
-  refilled_row-some [] ws i = refl
-  refilled_row-some (c ∷ cs) [] i = refl
-  refilled_row-some (c ∷ cs) (w ∷ ws) zero = refilled_slot-some c w
-  refilled_row-some (c ∷ cs) (w ∷ ws) (suc i) = refilled_row-some cs ws i
-
   refilled_rows-some : (rs ws : List (List (Option V))) (b i : ℕ) → is_some (get_or (get_or (refilled_rows rs ws) b []) i None) ≡ is_some (get_or (get_or rs b []) i None)
-  refilled_rows-some [] ws b i = refl
-  refilled_rows-some (r ∷ rs) [] b i = refl
-  refilled_rows-some (r ∷ rs) (w ∷ ws) zero i = refilled_row-some r w i
-  refilled_rows-some (r ∷ rs) (w ∷ ws) (suc b) i = refilled_rows-some rs ws b i
+  refilled_rows-some rs ws b i =
+      ap (λ (r : List (Option V)). is_some (get_or r i None)) (refilled_rows-at rs ws b)
+      ∙ ap is_some (refilled_row-at (get_or rs b []) (get_or ws b []) i)
+      ∙ refilled_slot-some (get_or (get_or rs b []) i None) (get_or (get_or ws b []) i None)
 
   -- the same buckets stand, whatever was written
   pub refilled-stands : (owned w : Owned V) (b : ℕ) → stands (owned_refilled owned w).contents b ≡ stands owned.contents b

@@ -1,7 +1,7 @@
 use Rattle.std.specs.Borrow.{follows, MutBor, Fml, RattleType}
 use base.Fml.{GName}
 use Rattle.thread_local_model.specs.Owned.{Owned}
-use Rattle.thread_local_loan.specs.Refilled.{refilled}
+use Rattle.thread_local_contents.specs.Refilled.{refilled}
 use Rattle.thread_local_buckets.specs.contracts.buckets.Buckets.{the_row}
 
 -- an owner's buckets with other values in the same slots

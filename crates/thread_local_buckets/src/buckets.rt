@@ -1,10 +1,10 @@
-ghost use Rattle.std.specs.Prelude.{◌≡◌, ℕ, ◌^◌, ◌<◌, ◌≤◌, [], length, true, false, Option, Err, OnErr, IfOk, IfErr, nat_lt, unwrap_or, Some, is_some, MatchOption, ◌==◌, if◌then◌else◌};
+ghost use Rattle.std.specs.Prelude.{◌≡◌, ℕ, ◌^◌, ◌<◌, ◌≤◌, [], length, true, false, Option, Err, OnErr, IfOk, IfErr, unwrap_or, Some, is_some, MatchOption, ◌==◌, if◌then◌else◌};
 ghost use Rattle.std.specs.Borrow.{sem};
 ghost use Rattle.thread_local_model.specs.Place.{id_at};
 ghost use Rattle.thread_local_model.specs.Buckets.{row, stands, slots, values, no_contents, IsTable};
 ghost use Rattle.thread_local_model.specs.Owned.{Owned, IsOwned};
 ghost use Rattle.thread_local_model.specs.Rows.{value_in};
-ghost use Rattle.thread_local_model.specs.Capacity.{binary_digits, reserved_slots};
+ghost use Rattle.thread_local_model.specs.Capacity.{binary_digits, reserves_bucket, reserved_slots};
 ghost use Rattle.thread_local_model.specs.Sheet.{moved};
 ghost use Rattle.thread_local_model.specs.Walk.{walk, with_value};
 ghost use Rattle.thread_local_contents.specs.Owner.{with_bucket, with_published, sheet_of, publish_or_keep};
@@ -78,7 +78,7 @@ impl<T> Buckets<T> {
     where
         T: Drop,
         ensures empty { IfOk result (λ buckets. (id : ℕ) → values buckets.contents id ≡ None) }
-        ensures stands { IfOk result (λ buckets. (bucket : ℕ) → stands buckets.contents bucket ≡ nat_lt bucket (binary_digits capacity)) }
+        ensures stands { IfOk result (λ buckets. (bucket : ℕ) → stands buckets.contents bucket ≡ reserves_bucket capacity bucket) }
         ensures slots { IfOk result (λ buckets. slots (stands buckets.contents) ≡ reserved_slots capacity) }
         ensures reserved { IfOk result (λ buckets. buckets.reserved ≡ reserved_slots capacity) }
         ensures too_large { 2 ^ 63 ≤ capacity → result ≡ Err CapacityError.TooLarge }

@@ -6,7 +6,7 @@ use Rattle.thread_local_model.specs.Place.{id_at}
 use Rattle.thread_local_model.specs.Buckets.{Contents, row, stands, values, no_contents, slots, IsTable}
 use Rattle.thread_local_model.specs.Rows.{with_row, empty_row}
 use Rattle.thread_local_model.specs.Owned.{IsOwned}
-use Rattle.thread_local_model.specs.Capacity.{binary_digits, reserved_slots}
+use Rattle.thread_local_model.specs.Capacity.{binary_digits, reserves_bucket, reserved_slots}
 use Rattle.thread_local_model.proofs.CapacityLaws.{slots-reserved}
 use Rattle.thread_local_contents.specs.Owner.{with_bucket}
 use Rattle.thread_local_contents.proofs.RowLaws.{row-no_contents, IsTable-with_row, length-empty_row}
@@ -59,7 +59,7 @@ pub IsOwned-filled : {V : Type 0} (c : Contents V) (n : ℕ) → IsFilled c n �
 IsOwned-filled c n h = record { table = h.table; standing = λ b low first. h.standing b ∙ lt-ltb b n (below_reserved b n first) }
 
 pub slots-filled : {V : Type 0} (c : Contents V) (capacity : ℕ) → capacity < 2 ^ 63 → IsFilled c (binary_digits capacity) → slots (stands c) ≡ reserved_slots capacity
-slots-filled c capacity h filled = slots-same (stands c) (λ b. nat_lt b (binary_digits capacity)) filled.standing ∙ slots-reserved capacity h
+slots-filled c capacity h filled = slots-same (stands c) (reserves_bucket capacity) filled.standing ∙ slots-reserved capacity h
 
 pub reserved-digits : (capacity : ℕ) → 2 ^ binary_digits capacity - 1 ≡ reserved_slots capacity
 unfolding reserved_slots

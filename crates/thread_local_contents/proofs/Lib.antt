@@ -5,3 +5,4 @@ pub mod StandingLaws
 pub mod FillingLaws
 pub mod InsertingLaws
 pub mod NextValue
+pub mod RefilledLaws

@@ -1,3 +1,4 @@
 pub mod Owner
 pub mod Counting
 pub mod Cursor
+pub mod Refilled

@@ -1,7 +1,7 @@
 use Rattle.std.proofs.Common.{◌≡◌, ℕ, ◌<◌, ◌⊎◌, Bool, true, false, cond, Option, Some, None, IsTrue, refl, ap, sym, ◌∙◌, arith, ⊎_elim, inl, inr}
-use Rattle.std.specs.Prelude.{option_map, nat_lt}
+use Rattle.std.specs.Prelude.{option_map}
 use Rattle.std.proofs.lemmas.Bool.{ltb-true}
-use Rattle.thread_local_model.specs.Capacity.{binary_digits}
+use Rattle.thread_local_model.specs.Capacity.{binary_digits, reserves_bucket}
 use Rattle.thread_local_steps.specs.Table.{Table, Bucket, fresh_bucket, made_table}
 use Rattle.thread_local_steps.specs.Local.{Local, fresh_local}
 use Rattle.thread_local_model.specs.Answers.{View}
@@ -57,9 +57,9 @@ named_by_digits : (T : Type 0) (b : Bool) (bucket number : ℕ) → option_map (
 named_by_digits T true bucket number e = (refl, cc)
 named_by_digits T false bucket number e = cc
 
-named-made_table : (T : Type 0) (capacity bucket number : ℕ) → named {V = T} (made_table capacity) bucket ≡ Some number → IsTrue (nat_lt bucket (binary_digits capacity)) × (bucket ≡ number)
+named-made_table : (T : Type 0) (capacity bucket number : ℕ) → named {V = T} (made_table capacity) bucket ≡ Some number → IsTrue (reserves_bucket capacity bucket) × (bucket ≡ number)
 unfolding named made_table
-named-made_table T capacity bucket number e = named_by_digits T (nat_lt bucket (binary_digits capacity)) bucket number e
+named-made_table T capacity bucket number e = named_by_digits T (reserves_bucket capacity bucket) bucket number e
 
 made-made_table : (T : Type 0) (capacity : ℕ) → (made_table {V = T} capacity).made ≡ binary_digits capacity
 unfolding made_table

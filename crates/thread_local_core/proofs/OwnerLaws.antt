@@ -40,12 +40,12 @@ unfolding owner_walk walk
 owner_walk-walk table = owner_walk_below-walk_below table 63
 
 -- an owner's writes change what a slot shows, and what is shown alone
-value_of-rewritten_slot : {V : Type 0} (other : V → V) (written : Option V) (flag : Bool)
+pub value_of-rewritten_slot : {V : Type 0} (other : V → V) (written : Option V) (flag : Bool)
     → value_of (rewritten_slot other (record { written = written; flag = flag })) ≡ option_map other (value_of (record { written = written; flag = flag }))
 value_of-rewritten_slot other written true = refl
 value_of-rewritten_slot other written false = refl
 
-slot_of-rewritten_bucket : {V : Type 0} (others : ℕ → V → V) (word : Option (Bucket V)) (index : ℕ) → slot_of (rewritten_bucket others word) index ≡ rewritten_slot (others index) (slot_of word index)
+pub slot_of-rewritten_bucket : {V : Type 0} (others : ℕ → V → V) (word : Option (Bucket V)) (index : ℕ) → slot_of (rewritten_bucket others word) index ≡ rewritten_slot (others index) (slot_of word index)
 slot_of-rewritten_bucket others None index = refl
 slot_of-rewritten_bucket others (Some here) index = refl
 

@@ -1,5 +1,5 @@
 use Rattle.std.proofs.Common.{◌≡◌, ℕ, zero, suc, ◌^◌, ◌<◌, ◌≤◌, ◌⊎◌, Bool, true, cond, eqb, List, length, Option, Some, None, is_some, is_none, IsTrue, IfSome, refl, ap, sym, ◌∙◌, subst, arith, ⊎_elim, inl, inr, pow_mono}
-use Rattle.std.proofs.lemmas.Bool.{cases_eq, cases_lt, cond_both, eq-eqb, ne_eqb, ltb-true, lt-ltb, false≢true, or_cases, or_left, and_parts}
+use Rattle.std.proofs.lemmas.Bool.{cases_eq, cases_lt, cond_both, eq-eqb, ne_eqb, ltb-true, false≢true, or_cases, or_left, and_parts}
 use Rattle.std.specs.Prelude.{option_map}
 use Rattle.std.proofs.lemmas.Option.{none-some}
 use Rattle.std.proofs.Math.Nat.{two-pow-succ}
@@ -262,7 +262,7 @@ made_core-fits {V} {E} capacity extra l = record {
   table = record {
     written = λ id t. absurd (false≢true (sym (ap (λ slot. slot.flag) (slot_at-made_table capacity id)) ∙ t));
     small = λ b t. omega (arith, made_small capacity b (ltb-true b (binary_digits capacity) (sym (stands-made_table _ capacity b) ∙ t)));
-    reserved = λ b low. stands-made_table _ capacity b ∙ lt-ltb b (binary_digits capacity) low;
+    reserved = λ b t. stands-made_table _ capacity b ∙ t;
     below = λ id v e. absurd (none-some v (sym (published_unset (made_table capacity) id (ap (λ slot. slot.flag) (slot_at-made_table capacity id))) ∙ e));
   };
   locals = record { each = λ n local e. cc; unshared = λ m n a b e f same. cc; none_from = λ n above. refl };

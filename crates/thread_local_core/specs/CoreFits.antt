@@ -1,7 +1,7 @@
 use Rattle.std.specs.Prelude.{◌≢◌}
 use Rattle.std.proofs.Common.{◌≡◌, ℕ, ◌^◌, ◌-◌, ◌<◌, ◌≤◌, max, Bool, List, length, Option, Some, None, IsTrue}
 use Rattle.thread_local_model.specs.Held.{Manager, is_held}
-use Rattle.thread_local_model.specs.Capacity.{binary_digits, is_reserved}
+use Rattle.thread_local_model.specs.Capacity.{reserves_bucket, is_reserved}
 use Rattle.thread_local_steps.specs.Table.{Table, published, stands}
 use Rattle.thread_local_steps.specs.Local.{Local}
 use Rattle.thread_local_core.specs.SharedWalk.{SharedWalk}
@@ -24,7 +24,7 @@ pub record ManagerFits (manager : Manager) (capacity : ℕ) : Type 0 where
 pub record TableFits {V : Type 0} (table : Table V) (capacity peak : ℕ) : Type 0 where
   pub written : AllWritten table
   pub small : (bucket : ℕ) → IsTrue (stands table bucket) → 2 ^ bucket ≤ max capacity peak
-  pub reserved : (bucket : ℕ) → bucket < binary_digits capacity → IsTrue (stands table bucket)
+  pub reserved : (bucket : ℕ) → IsTrue (reserves_bucket capacity bucket) → IsTrue (stands table bucket)
   pub below : (id : ℕ) (v : V) → published table id ≡ Some v → id < peak
 
 -- a Local fits its table, its id is held, and where that is reserved its bucket is known to stand from the start

@@ -12,7 +12,7 @@ use Rattle.thread_local_model.specs.Code.{owned_coded}
 use Rattle.thread_local_words.specs.declared.word.Word.{Word}
 use Rattle.thread_local_words.specs.contracts.words.Words as words
 use Rattle.thread_local_loan.specs.Lent.{shape, IsLeft, Lending, lending, loan_owns, frames, Values, values_at, lent_as}
-use Rattle.thread_local_loan.specs.Refilled.{refilled}
+use Rattle.thread_local_contents.specs.Refilled.{refilled}
 use Rattle.thread_local_loan.proofs.Opened.{open_words, close_words, Laid, Inside, view, good, remade}
 use Rattle.thread_local_loan.proofs.Refills.{refilled_same}
 use Rattle.thread_local_loan.proofs.Shapes.{row_long, long}

@@ -3,7 +3,7 @@ use Rattle.thread_local_blocks.proofs.Names.{◌≡◌, List, [], ◌∷◌, len
 use Rattle.std.proofs.lemmas.Bool.{true≢false, false≢true}
 use Rattle.thread_local_model.specs.Buckets.{Contents}
 use Rattle.thread_local_loan.specs.Lent.{shape}
-use Rattle.thread_local_loan.specs.Refilled.{refilled_slot, refilled_row, refilled_rows, refilled}
+use Rattle.thread_local_contents.specs.Refilled.{refilled_slot, refilled_row, refilled_rows, refilled}
 use Rattle.thread_local_loan.proofs.Blocks.{has, first_of, rest_of}
 use Rattle.thread_local_loan.proofs.Taking.{first_row, rest_of_rows}
 

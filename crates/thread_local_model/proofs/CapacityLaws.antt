@@ -3,7 +3,7 @@ use Rattle.std.specs.Prelude.{nat_lt, ◌↔◌}
 use Rattle.std.proofs.lemmas.Bool.{cases_lt, ltb-true, lt-ltb, le-ltb, cond-true}
 use Rattle.std.proofs.Math.Nat.{two-pow-succ}
 use Rattle.thread_local_model.specs.Place.{bucket_of}
-use Rattle.thread_local_model.specs.Capacity.{binary_digits, reserved_slots, is_reserved}
+use Rattle.thread_local_model.specs.Capacity.{binary_digits, reserves_bucket, reserved_slots, is_reserved}
 use Rattle.thread_local_model.specs.Buckets.{slots, slots_below}
 use Rattle.thread_local_model.proofs.PlaceLaws as place
 use Rattle.thread_local_model.proofs.SlotsLaws.{slots_below-further}
@@ -56,11 +56,11 @@ below_first k id h =
     let twice = two-pow-succ (bucket_of id) in
     omega arith
 
-pub reserved_buckets : (capacity id : ℕ) → IsTrue (is_reserved capacity id) ↔ (bucket_of id < binary_digits capacity)
+pub reserved_buckets : (capacity id : ℕ) → IsTrue (is_reserved capacity id) ↔ IsTrue (reserves_bucket capacity (bucket_of id))
 unfolding reserved_slots
 reserved_buckets capacity id = (
-  (λ t. in_first (binary_digits capacity) id (ltb-true id (2 ^ binary_digits capacity - 1) t)),
-  (λ h. lt-ltb id (2 ^ binary_digits capacity - 1) (below_first (binary_digits capacity) id h)),
+  (λ t. lt-ltb (bucket_of id) (binary_digits capacity) (in_first (binary_digits capacity) id (ltb-true id (2 ^ binary_digits capacity - 1) t))),
+  (λ t. lt-ltb id (2 ^ binary_digits capacity - 1) (below_first (binary_digits capacity) id (ltb-true (bucket_of id) (binary_digits capacity) t))),
 )
 
 -- the first n buckets have 2 ^ n - 1 slots
@@ -73,7 +73,7 @@ first_slots k (suc n) h =
     let twice = two-pow-succ n in
     omega arith
 
-pub slots-reserved : (capacity : ℕ) → capacity < 2 ^ 63 → slots (λ bucket. nat_lt bucket (binary_digits capacity)) ≡ reserved_slots capacity
+pub slots-reserved : (capacity : ℕ) → capacity < 2 ^ 63 → slots (reserves_bucket capacity) ≡ reserved_slots capacity
 unfolding slots reserved_slots
 slots-reserved capacity h =
     let k = binary_digits capacity in

@@ -1,6 +1,6 @@
-ghost use Rattle.std.specs.Prelude.{◌≡◌, ℕ, ◌+◌, ◌-◌, ◌*◌, ◌^◌, ◌<◌, ◌≤◌, ◌↔◌, IsTrue, nat_lt};
+ghost use Rattle.std.specs.Prelude.{◌≡◌, ℕ, ◌+◌, ◌-◌, ◌*◌, ◌^◌, ◌<◌, ◌≤◌, ◌↔◌, IsTrue};
 ghost use Rattle.thread_local_model.specs.Place.{bucket_of};
-ghost use Rattle.thread_local_model.specs.Capacity.{binary_digits, reserved_slots, is_reserved};
+ghost use Rattle.thread_local_model.specs.Capacity.{binary_digits, reserves_bucket, reserved_slots, is_reserved};
 ghost use Rattle.thread_local_model.specs.Buckets.{slots};
 
 /// A number with k binary digits lies below 2^k and, but for 0, from 2^(k - 1) up. A capacity reserves the
@@ -12,7 +12,7 @@ pub fn capacity_reserves_its_digits()
     ensures bounded { (n : ℕ) → n < 2 ^ 63 → binary_digits n ≤ 63 }
     ensures enough { (capacity : ℕ) → capacity ≤ reserved_slots capacity }
 
-    // An id lies below the reserved slots where its bucket is one of the first k.
-    ensures buckets { (capacity id : ℕ) → IsTrue (is_reserved capacity id) ↔ (bucket_of id < binary_digits capacity) }
-    ensures slots { (capacity : ℕ) → capacity < 2 ^ 63 → slots (λ bucket. nat_lt bucket (binary_digits capacity)) ≡ reserved_slots capacity }
+    // An id lies below the reserved slots just where its bucket is reserved.
+    ensures buckets { (capacity id : ℕ) → IsTrue (is_reserved capacity id) ↔ IsTrue (reserves_bucket capacity (bucket_of id)) }
+    ensures slots { (capacity : ℕ) → capacity < 2 ^ 63 → slots (reserves_bucket capacity) ≡ reserved_slots capacity }
 {}

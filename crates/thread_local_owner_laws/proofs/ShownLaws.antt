@@ -1,23 +1,25 @@
 -- what a table shows to an owner, row by row, and what its events do to that
 use Rattle.std.proofs.Common.{◌≡◌, ℕ, ◌-◌, ◌^◌, ◌<◌, ◌≤◌, ◌⊎◌, inl, inr, true, false, cond, eqb, List, [], length, set, get_or, Option, Some, None, is_some, IsTrue, refl, ap, sym, ◌∙◌, subst, arith, ⊎_elim, pow_pos, length-set}
-use Rattle.std.specs.Prelude.{nat_lt, option_map}
+use Rattle.std.specs.Prelude.{nat_lt, option_map, unwrap_or}
 use Rattle.std.proofs.lemmas.Bool.{cases_eq, cases_lt, eq-eqb, ne_eqb, lt-ltb, le-ltb}
 use Rattle.std.proofs.lemmas.List.{ext_get_or, get_or-set_same, get_or-set_other, get_or_past, length-replicate, get_or-replicate}
 use Rattle.std.proofs.lemmas.List.FromFn.{length-map-range_with_len, get_or-map-range_with_len}
-use Rattle.thread_local_model.specs.Place.{bucket_of, index_of}
+use Rattle.thread_local_model.specs.Place.{bucket_of, index_of, id_at}
 use Rattle.thread_local_model.specs.Buckets.{Contents, row, stands as stands_for_owner, values, no_contents, IsTable}
 use Rattle.thread_local_model.specs.Rows.{with_row, with_slot as with_owners_slot, empty_row}
-use Rattle.thread_local_model.specs.Capacity.{binary_digits}
+use Rattle.thread_local_model.specs.Capacity.{binary_digits, reserves_bucket}
 use Rattle.thread_local_model.specs.Walk.{walk}
 use Rattle.thread_local_model.proofs.PlaceLaws as place
 use Rattle.thread_local_model.proofs.WalkLaws.{walk_below-same}
 use Rattle.thread_local_contents.specs.Owner.{with_bucket, with_published}
 use Rattle.thread_local_contents.proofs.RowLaws.{row-with_row-same, row-with_row-other}
+use Rattle.thread_local_contents.specs.Refilled.{refilled_slot, refilled_row, refilled}
 use Rattle.thread_local_contents.proofs.FillingLaws.{contents-empty}
+use Rattle.thread_local_contents.proofs.RefilledLaws.{length-refilled_row, length-refilled_rows, refilled_row-at, refilled_rows-at}
 use Rattle.thread_local_steps.specs.Table.{Slot, Bucket, fresh_bucket, Table, value_of, slot_of, slot_at, published, stands, made_table, with_fresh_bucket, with_slot_of, with_slot, with_flag}
-use Rattle.thread_local_core.specs.OwnerWalk.{owner_walk, rewritten}
+use Rattle.thread_local_core.specs.OwnerWalk.{owner_walk, rewritten_slot, rewritten_bucket, rewritten}
 use Rattle.thread_local_steps.proofs.TableLaws.{stands-made_table, slot_at-made_table}
-use Rattle.thread_local_core.proofs.OwnerLaws.{owner_walk-walk, published-rewritten, stands-rewritten}
+use Rattle.thread_local_core.proofs.OwnerLaws.{owner_walk-walk, value_of-rewritten_slot, slot_of-rewritten_bucket, published-rewritten, stands-rewritten}
 use Rattle.thread_local_owner_laws.specs.Shown.{shown_row, shown}
 
 module _ {V : Type 0} where
@@ -153,8 +155,71 @@ module _ {V : Type 0} where
   pub stands-shown-rewritten : (table : Table V) (others : ℕ → V → V) (b : ℕ) → b < 63 → stands_for_owner (shown (rewritten table others)) b ≡ stands_for_owner (shown table) b
   stands-shown-rewritten table others b low = stands-shown (rewritten table others) b low ∙ stands-rewritten table others b ∙ sym (stands-shown table b low)
 
+  -- an owner's writes refill what is shown
+  shown_row-refilled : (others : ℕ → V → V) (word : Option (Bucket V)) (b : ℕ) (ws : List (Option V))
+      → ((i : ℕ) → i < 2 ^ b → option_map (others i) (value_of (slot_of word i)) ≡ refilled_slot (value_of (slot_of word i)) (get_or ws i None))
+      → shown_row (rewritten_bucket others word) b ≡ refilled_row (shown_row word b) ws
+  shown_row-refilled others None b ws h = refl
+  shown_row-refilled others (Some here) b ws h =
+      let after : Bucket V = record here { slot = λ i. rewritten_slot (others i) (here.slot i) } in
+      ext_get_or None (shown_row (Some after) b) (refilled_row (shown_row (Some here) b) ws)
+      (length-shown_row after b ∙ sym (length-refilled_row (shown_row (Some here) b) ws ∙ length-shown_row here b))
+      (λ i low.
+      let below : i < 2 ^ b = omega (arith, low, length-shown_row after b) in
+      shown-at (Some after) b i below
+      ∙ value_of-rewritten_slot (others i) (here.slot i).written (here.slot i).flag
+      ∙ h i below
+      ∙ sym (ap (λ o. refilled_slot o (get_or ws i None)) (shown-at (Some here) b i below))
+      ∙ sym (refilled_row-at (shown_row (Some here) b) ws i))
+
+  shown-refilled : (table : Table V) (others : ℕ → V → V) (written : Contents V)
+      → ((b i : ℕ) → b < 63 → i < 2 ^ b → option_map (others (id_at b i)) (value_of (slot_of (table.words b) i)) ≡ refilled_slot (value_of (slot_of (table.words b) i)) (get_or (row written b) i None))
+      → shown (rewritten table others) ≡ refilled (shown table) written
+  unfolding rewritten
+  shown-refilled table others written h =
+      same_contents (shown (rewritten table others)) (refilled (shown table) written) (rows-shown (rewritten table others)) (length-refilled_rows (shown table).rows written.rows ∙ rows-shown table)
+      (λ b low.
+      row-shown (rewritten table others) b low
+      ∙ shown_row-refilled (λ i. others (id_at b i)) (table.words b) b (row written b) (λ i inside. h b i low inside)
+      ∙ sym (ap (λ (r : List (Option V)). refilled_row r (row written b)) (row-shown table b low))
+      ∙ sym (refilled_rows-at (shown table).rows written.rows b))
+
+  -- by what they wrote
+  by_itself : (f : V → V) (o : Option V) → option_map f o ≡ refilled_slot o (option_map f o)
+  by_itself f None = refl
+  by_itself f (Some x) = refl
+
+  pub rewritten-refills : (table : Table V) (others : ℕ → V → V) → shown (rewritten table others) ≡ refilled (shown table) (shown (rewritten table others))
+  unfolding rewritten
+  rewritten-refills table others =
+      shown-refilled table others (shown (rewritten table others))
+      (λ b i low inside.
+      let slot = slot_of (table.words b) i in
+      let shows : get_or (row (shown (rewritten table others)) b) i None ≡ option_map (others (id_at b i)) (value_of slot) =
+      ap (λ (r : List (Option V)). get_or r i None) (row-shown (rewritten table others) b low)
+      ∙ shown-at ((rewritten table others).words b) b i inside
+      ∙ ap value_of (slot_of-rewritten_bucket (λ j. others (id_at b j)) (table.words b) i)
+      ∙ value_of-rewritten_slot (others (id_at b i)) slot.written slot.flag in
+      by_itself (others (id_at b i)) (value_of slot) ∙ sym (ap (refilled_slot (value_of slot)) shows))
+
+  -- and each refilling is what they leave that write its values
+  by_its_values : (o w : Option V) → option_map (unwrap_or w) o ≡ refilled_slot o w
+  by_its_values None w = refl
+  by_its_values (Some x) None = refl
+  by_its_values (Some x) (Some y) = refl
+
+  pub refilled-rewrites : (table : Table V) (written : Contents V) → shown (rewritten table (λ id. unwrap_or (values written id))) ≡ refilled (shown table) written
+  refilled-rewrites table written =
+      shown-refilled table (λ id. unwrap_or (values written id)) written
+      (λ b i low inside.
+      let at = place.place-id_at b i inside in
+      let slot = slot_of (table.words b) i in
+      let there : values written (id_at b i) ≡ get_or (row written b) i None =
+      ap (λ (k : ℕ). get_or (row written k) (index_of (id_at b i)) None) at.0 ∙ ap (λ (k : ℕ). get_or (row written b) k None) at.1 in
+      ap (λ (w : Option V). option_map (unwrap_or w) (value_of slot)) there ∙ by_its_values (value_of slot) (get_or (row written b) i None))
+
 -- the table of a capacity shows its buckets, with no value
-pub stands-shown-made : (V : Type 0) (capacity b : ℕ) → b < 63 → stands_for_owner (shown (made_table {V = V} capacity)) b ≡ nat_lt b (binary_digits capacity)
+pub stands-shown-made : (V : Type 0) (capacity b : ℕ) → b < 63 → stands_for_owner (shown (made_table {V = V} capacity)) b ≡ reserves_bucket capacity b
 stands-shown-made V capacity b low = stands-shown (made_table capacity) b low ∙ stands-made_table V capacity b
 
 pub values-shown-made : (V : Type 0) (capacity id : ℕ) → id < 2 ^ 63 - 1 → values (shown (made_table {V = V} capacity)) id ≡ None

@@ -1,9 +1,10 @@
-ghost use Rattle.std.specs.Prelude.{◌≡◌, ℕ, ◌-◌, ◌^◌, ◌<◌, false, Some, option_map, IsTrue, None, nat_lt};
-ghost use Rattle.thread_local_model.specs.Capacity.{binary_digits};
+ghost use Rattle.std.specs.Prelude.{◌≡◌, ℕ, ◌-◌, ◌^◌, ◌<◌, false, Some, option_map, IsTrue, None, unwrap_or};
+ghost use Rattle.thread_local_model.specs.Capacity.{reserves_bucket};
 ghost use Rattle.thread_local_model.specs.Place.{bucket_of, index_of};
-ghost use Rattle.thread_local_model.specs.Buckets.{stands as stands_for_owner, values, no_contents, IsTable};
+ghost use Rattle.thread_local_model.specs.Buckets.{Contents, stands as stands_for_owner, values, no_contents, IsTable};
 ghost use Rattle.thread_local_model.specs.Walk.{walk};
 ghost use Rattle.thread_local_contents.specs.Owner.{with_bucket, with_published};
+ghost use Rattle.thread_local_contents.specs.Refilled.{refilled};
 ghost use Rattle.thread_local_steps.specs.Table.{Table, slot_at, published, stands, made_table, with_fresh_bucket, with_flag};
 ghost use Rattle.thread_local_core.specs.OwnerWalk.{owner_walk, rewritten};
 ghost use Rattle.thread_local_owner_laws.specs.Shown.{shown};
@@ -30,9 +31,15 @@ pub fn events_change_contents_as_calls_do<V>()
     ensures rewritten_stands { (table : Table V) (others : ℕ → V → V) (bucket : ℕ) → bucket < 63
         → stands_for_owner (shown (rewritten table others)) bucket ≡ stands_for_owner (shown table) bucket }
 
+    // These writes are those of `iter_mut`: what they leave is a refilling, and each refilling is left by them.
+    ensures rewritten_refills { (table : Table V) (others : ℕ → V → V)
+        → shown (rewritten table others) ≡ refilled (shown table) (shown (rewritten table others)) }
+    ensures refilled_rewrites { (table : Table V) (written : Contents V)
+        → shown (rewritten table (λ id. unwrap_or (values written id))) ≡ refilled (shown table) written }
+
     // A table of `new` shows what new buckets have, and one of a capacity what `with_capacity` makes.
     ensures new { shown (made_table {V = V} 0) ≡ no_contents }
     ensures made_stands { (capacity bucket : ℕ) → bucket < 63
-        → stands_for_owner (shown (made_table {V = V} capacity)) bucket ≡ nat_lt bucket (binary_digits capacity) }
+        → stands_for_owner (shown (made_table {V = V} capacity)) bucket ≡ reserves_bucket capacity bucket }
     ensures made_empty { (capacity id : ℕ) → id < 2 ^ 63 - 1 → values (shown (made_table {V = V} capacity)) id ≡ None }
 {}

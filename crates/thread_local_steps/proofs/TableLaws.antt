@@ -3,10 +3,10 @@ use Rattle.std.proofs.lemmas.Bool.{cases_eq, cases_Bool, eq-eqb, ne_eqb, false�
 use Rattle.thread_local_model.specs.Place.{bucket_of, index_of}
 use Rattle.thread_local_model.proofs.PlaceLaws as place
 use Rattle.thread_local_steps.specs.Table.{Slot, empty_slot, value_of, Bucket, fresh_bucket, Table, slot_of, slot_at, published, stands, with_fresh_bucket, with_slot_of, with_slot, made_table}
-use Rattle.thread_local_model.specs.Capacity.{binary_digits}
+use Rattle.thread_local_model.specs.Capacity.{reserves_bucket}
 use Rattle.thread_local_steps.specs.Local.{offered}
 use Rattle.thread_local_steps.specs.Fits.{named}
-use Rattle.std.specs.Prelude.{option_map, nat_lt}
+use Rattle.std.specs.Prelude.{option_map}
 
 pub same_function : {A B : Type 0} (f g : A → B) → ((x : A) → f x ≡ g x) → f ≡ g
 same_function f g h = λ i x. h x i
@@ -164,15 +164,15 @@ slot_of-made false number index = refl
 
 pub slot_at-made_table : {V : Type 0} (capacity id : ℕ) → slot_at {V = V} (made_table capacity) id ≡ empty_slot
 unfolding slot_at made_table
-slot_at-made_table capacity id = slot_of-made (nat_lt (bucket_of id) (binary_digits capacity)) (bucket_of id) (index_of id)
+slot_at-made_table capacity id = slot_of-made (reserves_bucket capacity (bucket_of id)) (bucket_of id) (index_of id)
 
 some-made : {A : Type 0} (b : Bool) (x : A) → is_some (cond b (Some x) None) ≡ b
 some-made true x = refl
 some-made false x = refl
 
-pub stands-made_table : (T : Type 0) (capacity bucket : ℕ) → stands {V = T} (made_table capacity) bucket ≡ nat_lt bucket (binary_digits capacity)
+pub stands-made_table : (T : Type 0) (capacity bucket : ℕ) → stands {V = T} (made_table capacity) bucket ≡ reserves_bucket capacity bucket
 unfolding stands made_table
-stands-made_table T capacity bucket = some-made {A = Bucket T} (nat_lt bucket (binary_digits capacity)) (fresh_bucket bucket)
+stands-made_table T capacity bucket = some-made {A = Bucket T} (reserves_bucket capacity bucket) (fresh_bucket bucket)
 
 -- a word that names a bucket is not empty
 some-mapped : {A B : Type 0} (f : A → B) (o : Option A) (b : B) → option_map f o ≡ Some b → IsTrue (is_some o)

@@ -1,6 +1,6 @@
-use Rattle.std.specs.Prelude.{ℕ, Bool, true, false, Option, Some, None, is_some, ◌==◌, nat_lt, if◌then◌else◌}
+use Rattle.std.specs.Prelude.{ℕ, Bool, true, false, Option, Some, None, is_some, ◌==◌, if◌then◌else◌}
 use Rattle.thread_local_model.specs.Place.{bucket_of, index_of}
-use Rattle.thread_local_model.specs.Capacity.{binary_digits}
+use Rattle.thread_local_model.specs.Capacity.{binary_digits, reserves_bucket}
 use Rattle.thread_local_model.specs.Walk.{with_value}
 
 -- a slot: what is written in it, if anything, and whether its flag is set
@@ -47,10 +47,10 @@ published table id = value_of (slot_at table id)
 unfoldable pub stands : {V : Type 0} → Table V → ℕ → Bool
 stands table bucket = is_some (table.words bucket)
 
--- the table of a capacity: a bucket for each of its binary digits, from bucket 0 up
+-- the table of a capacity: just the buckets that it reserves, numbered from 0 up
 unfoldable pub made_table : {V : Type 0} → ℕ → Table V
 made_table capacity = record {
-  words = λ bucket. if nat_lt bucket (binary_digits capacity) then Some (fresh_bucket bucket) else None;
+  words = λ bucket. if reserves_bucket capacity bucket then Some (fresh_bucket bucket) else None;
   made = binary_digits capacity;
 }
 

@@ -13,6 +13,12 @@ returns-clause-rewritten g c = laws.values-shown-rewritten
 pub returns-clause-rewritten_stands : goal.returns-clause-rewritten_stands
 returns-clause-rewritten_stands g c = laws.stands-shown-rewritten
 
+pub returns-clause-rewritten_refills : goal.returns-clause-rewritten_refills
+returns-clause-rewritten_refills g c = laws.rewritten-refills
+
+pub returns-clause-refilled_rewrites : goal.returns-clause-refilled_rewrites
+returns-clause-refilled_rewrites g c = laws.refilled-rewrites
+
 pub returns-clause-new : goal.returns-clause-new
 returns-clause-new g c = laws.shown-new _
 

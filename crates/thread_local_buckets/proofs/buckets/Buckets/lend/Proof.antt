@@ -18,7 +18,7 @@ use Rattle.thread_local_model.specs.Owned.{Owned}
 use Rattle.thread_local_words.specs.contracts.words.Words as words
 use Rattle.thread_local_words.proofs.words.Words.TheLaws as words_laws
 use Rattle.thread_local_loan.specs.Lent.{loan_owns}
-use Rattle.thread_local_loan.specs.Refilled.{refilled}
+use Rattle.thread_local_contents.specs.Refilled.{refilled}
 use Rattle.thread_local_loan.specs.contracts.loan.Loan as loan
 use Rattle.thread_local_loan.proofs.Fields.{Words, loan_val, made}
 use Rattle.thread_local_loan.proofs.Lending.{lends}
