@@ -1,11 +1,38 @@
-//! Per-object thread-local storage: one object keeps a value for each thread that uses it.
+//! Per-object thread-local storage: one object keeps a separate value for each thread that uses it.
 //!
-//! So far it has the ids that such an object gives out, its buckets for an owner who has them alone, and the theorems over every schedule.
+//! A thread asks a `ThreadLocal` for a `Local`, its place in the table with an id of its own, and finds or makes its value through it.
+//! Values stay when a `Local` is dropped, and whoever has the table alone walks over all of them.
+//!
+//! ```text
+//! /// Counts so many times in a counter of its own, which is a plain cell. None means that memory or an id was refused.
+//! pub fn count<R: Wait>(counters: &ThreadLocal<Cell<u64>>, rt: &R, times: u64) -> Option<()> {
+//!     let mut local = counters.local(rt).ok()?;
+//!     let counter = local.get_or(|| Cell::new(0)).ok()?;
+//!     for _ in 0..times {
+//!         counter.set(counter.get().saturating_add(1));
+//!     }
+//!     Some(())
+//! }
+//!
+//! /// The sum of all counters, for somebody who has the table alone.
+//! pub fn total(counters: ThreadLocal<Cell<u64>>) -> u64 {
+//!     let mut sum = 0u64;
+//!     for counter in counters {
+//!         sum = sum.saturating_add(counter.get());
+//!     }
+//!     sum
+//! }
+//! ```
+//!
+//! Besides it has the ids that a table gives out, the buckets of an owner who has them alone, and the theorems over every schedule.
 #![tactic(auto)]
 
 pub mod buckets;
 pub mod iter;
+pub mod local;
 pub mod schedule;
+pub mod table;
 pub mod thread_id;
 
 pub use iter::{IntoIter, IterMut};
+pub use table::ThreadLocal;

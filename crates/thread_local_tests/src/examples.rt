@@ -1,10 +1,43 @@
-ghost use Rattle.std.specs.Prelude.{◌≡◌, IfOk, length};
+//! Programs of a few lines, as users of `thread_local` write them.
+ghost use Rattle.std.specs.Prelude.{◌≡◌, IfOk, None, length};
 ghost use Rattle.thread_local_model.specs.Buckets.{values};
 ghost use Rattle.thread_local_model.specs.Walk.{walk};
 
-use std::alloc::Global;
+use std::alloc::{AllocError, Global};
+use std::cell::Cell;
+use std::sync::Wait;
+use thread_local::ThreadLocal;
 use thread_local::buckets::Buckets;
+use thread_local::local::Local;
 use thread_local::thread_id::{LocalError, ThreadIdManager};
+
+/// Counts so many times in a counter of its own, which is a plain cell. None means that memory or an id was refused.
+pub fn count<R: Wait>(counters: &ThreadLocal<Cell<u64>>, rt: &R, times: u64) -> Option<()> {
+    let mut local = counters.local(rt).ok()?;
+    let counter = local.get_or(|| Cell::new(0)).ok()?;
+    for _ in 0..times {
+        counter.set(counter.get().saturating_add(1));
+    }
+    Some(())
+}
+
+/// The sum of all counters, for somebody who has the table alone.
+pub fn total(counters: ThreadLocal<Cell<u64>>) -> u64 {
+    let mut sum = 0u64;
+    for counter in counters {
+        sum = sum.saturating_add(counter.get());
+    }
+    sum
+}
+
+/// The second closure is not called: a slot keeps its first value.
+pub fn first_stays<R: Wait>(local: &mut Local<'_, u64, R>, first: u64) -> Result<u64, AllocError>
+    requires { local.old.value ≡ None }
+    ensures { IfOk result (λ value. value ≡ first) }
+{
+    local.get_or(|| first)?;
+    Ok(*local.get_or(|| unreachable!())?)
+}
 
 /// How many ids have a count, and the sum of their counts.
 pub fn summed(counts: Buckets<u64>) -> (usize, u64)
@@ -34,7 +67,32 @@ pub fn taken_again(alloc: Global) -> Result<usize, LocalError>
 mod tests {
     use super::*;
     use std::test::Fail;
+    use std::thread;
+    use thread_local::table::Judge;
     use thread_local::thread_id::Thread;
+
+    #[test]
+    fn threads_count_and_their_owner_sums(rt: HostRuntime) -> Result<(), Fail> {
+        Cell::<u64>::judge();
+        let counters = ThreadLocal::new(rt.alloc());
+        let counted = thread::join(
+            &rt,
+            || count(&counters, &rt, 1000),
+            || count(&counters, &rt, 234),
+        );
+        assert_eq!(rt; counted, (Some(()), Some(())));
+        assert_eq!(rt; total(counters), 1234);
+        Ok(())
+    }
+
+    #[test]
+    fn a_second_closure_is_not_called(rt: HostRuntime) -> Result<(), Fail> {
+        let table = ThreadLocal::<u64>::new(rt.alloc());
+        let mut local = table.local(&rt)?;
+        assert_eq!(rt; local.get(), None);
+        assert_eq!(rt; first_stays(&mut local, 7)?, 7);
+        Ok(())
+    }
 
     #[test]
     fn counts_are_summed(rt: HostRuntime) -> Result<(), Fail> {
