@@ -20,7 +20,10 @@ fn main(rt: HostRuntime) -> ExitCode {
 /// The arguments without the program's name. It takes memory for them.
 fn words<R: Env + AllocGlobal>(rt: &R) -> Result<Vec<String>, Fault> {
     match env::args(rt) {
-        Ok(args) => Ok(args.skip(1).collect(rt.alloc())?),
+        Ok(mut args) => {
+            let _ = args.next();
+            Ok(args.collect(rt.alloc())?)
+        }
         Err(error) if error.kind() == ErrorKind::OutOfMemory => Err(Fault::Memory),
         Err(_) => Err(Fault::Usage),
     }
