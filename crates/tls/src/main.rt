@@ -20,10 +20,7 @@ fn main(rt: HostRuntime) -> ExitCode {
 /// The arguments without the program's name. It takes memory for them.
 fn words<R: Env + AllocGlobal>(rt: &R) -> Result<Vec<String>, Fault> {
     match env::args(rt) {
-        Ok(mut args) => {
-            let _ = args.next();
-            Ok(args.collect(rt.alloc())?)
-        }
+        Ok(args) => Ok(args.skip(1).collect(rt.alloc())?),
         Err(error) if error.kind() == ErrorKind::OutOfMemory => Err(Fault::Memory),
         Err(_) => Err(Fault::Usage),
     }
