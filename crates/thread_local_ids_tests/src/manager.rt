@@ -72,7 +72,10 @@ fn room_that_was_made_is_enough(rt: HostRuntime) -> Result<(), Fail> {
     assert!(rt; !empty.is_held(0));
     assert_eq!(rt; take(&rt, &mut empty, &[])?, 0);
     for ids in [9223372036854775807, usize::MAX] {
-        assert!(rt; ThreadIdManager::with_room(rt.alloc(), ids).is_err(), "{ids}");
+        assert!(rt;
+            ThreadIdManager::with_room(rt.alloc(), ids).is_err(),
+            "{ids}"
+        );
     }
     Ok(())
 }

@@ -28,18 +28,113 @@ impl<T> Judge for RefCell<T> {
     fn judge() {}
 }
 
-// For types that threads may share.
-macro_rules! judge_shared {
-    ($($shared:ty),*) => {
-        $(impl Judge for $shared {
-            fn judge() {
-                judge_sync::<$shared>();
-            }
-        })*
-    };
+impl Judge for u8 {
+    fn judge() {
+        judge_sync::<u8>();
+    }
 }
 
-judge_shared!(u8, u16, u32, u64, u128, usize, i8, i16, i32, i64, i128, isize, f32, f64, bool, char, (), String);
+impl Judge for u16 {
+    fn judge() {
+        judge_sync::<u16>();
+    }
+}
+
+impl Judge for u32 {
+    fn judge() {
+        judge_sync::<u32>();
+    }
+}
+
+impl Judge for u64 {
+    fn judge() {
+        judge_sync::<u64>();
+    }
+}
+
+impl Judge for u128 {
+    fn judge() {
+        judge_sync::<u128>();
+    }
+}
+
+impl Judge for usize {
+    fn judge() {
+        judge_sync::<usize>();
+    }
+}
+
+impl Judge for i8 {
+    fn judge() {
+        judge_sync::<i8>();
+    }
+}
+
+impl Judge for i16 {
+    fn judge() {
+        judge_sync::<i16>();
+    }
+}
+
+impl Judge for i32 {
+    fn judge() {
+        judge_sync::<i32>();
+    }
+}
+
+impl Judge for i64 {
+    fn judge() {
+        judge_sync::<i64>();
+    }
+}
+
+impl Judge for i128 {
+    fn judge() {
+        judge_sync::<i128>();
+    }
+}
+
+impl Judge for isize {
+    fn judge() {
+        judge_sync::<isize>();
+    }
+}
+
+impl Judge for f32 {
+    fn judge() {
+        judge_sync::<f32>();
+    }
+}
+
+impl Judge for f64 {
+    fn judge() {
+        judge_sync::<f64>();
+    }
+}
+
+impl Judge for bool {
+    fn judge() {
+        judge_sync::<bool>();
+    }
+}
+
+impl Judge for char {
+    fn judge() {
+        judge_sync::<char>();
+    }
+}
+
+impl Judge for () {
+    fn judge() {
+        judge_sync::<()>();
+    }
+}
+
+impl Judge for String {
+    fn judge() {
+        judge_sync::<String>();
+    }
+}
 
 impl<T: Judge> Judge for Box<T> {
     fn judge() {

@@ -70,7 +70,10 @@ impl<'a, T, R: Wait> Local<'a, T, R> {
 
     /// Has a value in the slot, as `get_or_try`, and answers none: its contract says what it leaves, which that of a call that answers
     /// a reference can't where the error has a type of the caller's.
-    pub fn try_fill<F: FnOnce() -> Result<T, E> + Drop, E>(&mut self, create: F) -> Result<(), TryError<E>>
+    pub fn try_fill<F: FnOnce() -> Result<T, E> + Drop, E>(
+        &mut self,
+        create: F,
+    ) -> Result<(), TryError<E>>
         requires { self.old.value ≡ None → F.pre create }
         ensures ok { OnOk result (IsFilled E (λ value. F.post create (Ok value)) self.old self.new) }
         ensures create { (error : E) → result ≡ Err (TryError.Create error) → Fails (λ e. F.post create (Err e)) self.old self.new error }
@@ -82,7 +85,10 @@ impl<'a, T, R: Wait> Local<'a, T, R> {
 
     /// The value. Where the slot is empty its bucket is found or made, and then the closure is called and its value is published. Its
     /// error is handed on as `Create`, and nothing is published. `Memory` is want of memory for the bucket, and the closure isn't called.
-    pub fn get_or_try<F: FnOnce() -> Result<T, E> + Drop, E>(&mut self, create: F) -> Result<&T, TryError<E>>
+    pub fn get_or_try<F: FnOnce() -> Result<T, E> + Drop, E>(
+        &mut self,
+        create: F,
+    ) -> Result<&T, TryError<E>>
         requires { self.old.value ≡ None → F.pre create }
         ensures ok { IfOk result (λ there. IsAnswered E (λ value. F.post create (Ok value)) self.old there.now) }
         ensures create { (error : E) → result ≡ Err (TryError.Create error) → (answer self.old (GetOr (Err error) false) ≡ Failed error) × F.post create (Err error) }

@@ -136,7 +136,10 @@ impl<'a, T> Seat<'a, T> {
 
     /// Has a value in the slot, as `get_or_try`, and answers none: its contract says what it leaves, which that of a call that answers
     /// a reference can't where the error has a type of the caller's.
-    pub fn try_fill<F: FnOnce() -> Result<T, E> + Drop, E>(&mut self, create: F) -> Result<(), TryError<E>>
+    pub fn try_fill<F: FnOnce() -> Result<T, E> + Drop, E>(
+        &mut self,
+        create: F,
+    ) -> Result<(), TryError<E>>
         requires { self.old.value ≡ None → F.pre create }
         ensures ok { OnOk result (IsFilled E (λ v. F.post create (Ok v)) self.old self.new) }
         ensures create { (error : E) → result ≡ Err (TryError.Create error) → Fails (λ e. F.post create (Err e)) self.old self.new error }
@@ -160,7 +163,10 @@ impl<'a, T> Seat<'a, T> {
 
     /// The value. Where the slot is empty its bucket is found or made, and then the closure is called and its value is published. Its
     /// error is handed on as `Create`, and nothing is published. `Memory` is want of memory for the bucket, and the closure isn't called.
-    pub fn get_or_try<F: FnOnce() -> Result<T, E> + Drop, E>(&mut self, create: F) -> Result<&T, TryError<E>>
+    pub fn get_or_try<F: FnOnce() -> Result<T, E> + Drop, E>(
+        &mut self,
+        create: F,
+    ) -> Result<&T, TryError<E>>
         requires { self.old.value ≡ None → F.pre create }
         ensures ok { IfOk result (λ there. IsAnswered E (λ value. F.post create (Ok value)) self.old there.now) }
         ensures create { (error : E) → result ≡ Err (TryError.Create error) → (answer self.old (GetOr (Err error) false) ≡ Failed error) × F.post create (Err error) }
@@ -184,12 +190,6 @@ impl<'a, T: fmt::Debug> fmt::Debug for Seat<'a, T> {
     ghost debug_output = { λ seat. local_text T.debug_output seat.value };
 
     fn fmt<W: fmt::Write>(&self, f: &mut fmt::Formatter<W>) -> fmt::Result {
-        if f.alternate() {
-            f.debug_struct("ThreadLocal")
-                .field("local_data", &self.get())
-                .finish()
-        } else {
-            write!(f, "ThreadLocal {{ local_data: {:?} }}", self.get())
-        }
+        write!(f, "ThreadLocal {{ local_data: {:?} }}", self.get())
     }
 }

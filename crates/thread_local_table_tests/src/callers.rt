@@ -14,7 +14,11 @@ fn crosses<X: Send + Sync>(_: &X) {}
 fn is_sent<X: Send>(_: &X) {}
 
 /// The second value of two is the first one's.
-fn first_of_two<R: Wait>(local: &mut Local<'_, u32, R>, first: u32, second: u32) -> Result<u32, AllocError>
+fn first_of_two<R: Wait>(
+    local: &mut Local<'_, u32, R>,
+    first: u32,
+    second: u32,
+) -> Result<u32, AllocError>
     requires { local.old.value ≡ None }
     ensures { IfOk result (λ got. got ≡ first) }
 {

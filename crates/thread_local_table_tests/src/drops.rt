@@ -56,7 +56,9 @@ fn a_value_is_dropped_with_its_table(rt: HostRuntime) -> Result<(), Fail> {
 }
 
 #[test]
-fn a_walk_that_ends_early_drops_the_values_that_it_has_not_given(rt: HostRuntime) -> Result<(), Fail> {
+fn a_walk_that_ends_early_drops_the_values_that_it_has_not_given(
+    rt: HostRuntime,
+) -> Result<(), Fail> {
     let drops = Arc::new(rt.alloc(), AtomicU64::new(0))?;
     judge_sync::<Counted>();
     let table = ThreadLocal::new(rt.alloc());

@@ -8,6 +8,8 @@ mod drops;
 #[cfg(test)]
 mod forgotten;
 #[cfg(test)]
+mod refused;
+#[cfg(test)]
 mod slots;
 #[cfg(test)]
 mod threads;

@@ -12,14 +12,21 @@ use thread_local_table::{Local, ThreadLocal};
 const LOOKS: u64 = 100_000_000;
 
 /// What `get`, `get_or` and `get` answer, where the closure answers how often it was called before.
-fn found_made_found<R: Wait>(local: &mut Local<'_, u32, R>, calls: &AtomicU32) -> (Option<u32>, Option<u32>, Option<u32>) {
+fn found_made_found<R: Wait>(
+    local: &mut Local<'_, u32, R>,
+    calls: &AtomicU32,
+) -> (Option<u32>, Option<u32>, Option<u32>) {
     let before = local.get().copied();
     let made = local.get_or(|| calls.fetch_add(1, SeqCst)).ok().copied();
     (before, made, local.get().copied())
 }
 
 /// The same of a `Local` of its own.
-fn of_its_own<R: Wait>(table: &ThreadLocal<u32>, rt: &R, calls: &AtomicU32) -> (Option<u32>, Option<u32>, Option<u32>) {
+fn of_its_own<R: Wait>(
+    table: &ThreadLocal<u32>,
+    rt: &R,
+    calls: &AtomicU32,
+) -> (Option<u32>, Option<u32>, Option<u32>) {
     match table.local(rt) {
         Ok(mut local) => found_made_found(&mut local, calls),
         Err(_) => (None, None, None),
@@ -31,7 +38,10 @@ fn each_thread_has_its_own_value(rt: HostRuntime) -> Result<(), Fail> {
     let table = ThreadLocal::<u32>::new(rt.alloc());
     let calls = AtomicU32::new(0);
     let mut local = table.local(&rt)?;
-    assert_eq!(rt; found_made_found(&mut local, &calls), (None, Some(0), Some(0)));
+    assert_eq!(rt;
+        found_made_found(&mut local, &calls),
+        (None, Some(0), Some(0))
+    );
     let (second, _) = thread::join(&rt, || of_its_own(&table, &rt, &calls), || ());
     assert_eq!(rt; second, (None, Some(1), Some(1)));
     assert_eq!(rt; local.get(), Some(&0));
@@ -92,7 +102,12 @@ fn is_seen(mark: &AtomicBool) -> bool {
 }
 
 /// Publishes while its closure waits for the second's value. Answers the value, and whether the closure saw the mark.
-fn publish_around<R: Wait>(table: &ThreadLocal<u32>, rt: &R, begun: &AtomicBool, answered: &AtomicBool) -> (Option<u32>, bool) {
+fn publish_around<R: Wait>(
+    table: &ThreadLocal<u32>,
+    rt: &R,
+    begun: &AtomicBool,
+    answered: &AtomicBool,
+) -> (Option<u32>, bool) {
     let Ok(mut local) = table.local(rt) else {
         return (None, false);
     };
@@ -109,7 +124,12 @@ fn publish_around<R: Wait>(table: &ThreadLocal<u32>, rt: &R, begun: &AtomicBool,
 }
 
 /// Publishes once the first's closure has begun.
-fn publish_within<R: Wait>(table: &ThreadLocal<u32>, rt: &R, begun: &AtomicBool, answered: &AtomicBool) -> (Option<u32>, bool) {
+fn publish_within<R: Wait>(
+    table: &ThreadLocal<u32>,
+    rt: &R,
+    begun: &AtomicBool,
+    answered: &AtomicBool,
+) -> (Option<u32>, bool) {
     let seen = is_seen(begun);
     let Ok(mut local) = table.local(rt) else {
         return (None, seen);

@@ -75,16 +75,6 @@ fn an_error_leaves_the_slot_empty_and_its_bucket_standing(rt: HostRuntime) -> Re
 }
 
 #[test]
-fn errors_come_one_after_another(rt: HostRuntime) -> Result<(), Fail> {
-    let table = ThreadLocal::<u32>::new(rt.alloc());
-    let mut local = table.local(&rt)?;
-    assert!(rt; matches!(local.get_or_try(|| Err("a")), Err(TryError::Create("a"))));
-    assert!(rt; matches!(local.get_or_try(|| Err("b")), Err(TryError::Create("b"))));
-    assert_eq!(rt; *local.get_or(|| 9)?, 9);
-    Ok(())
-}
-
-#[test]
 fn a_default_is_published(rt: HostRuntime) -> Result<(), Fail> {
     let table = ThreadLocal::<u32>::new(rt.alloc());
     let mut local = table.local(&rt)?;
