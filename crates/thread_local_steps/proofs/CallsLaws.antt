@@ -3,8 +3,8 @@ use Rattle.thread_local_model.specs.Answers.{Get, GetOr, Answer, Answered}
 use Rattle.thread_local_model.specs.Learnt.{Learnt, Missing, Vacant, Holding, learnt_by_load, learnt_by_look, learnt_by_install, learnt_by_publish}
 use Rattle.thread_local_steps.specs.Table.{Table, published, stands, with_flag}
 use Rattle.thread_local_model.specs.Place.{bucket_of}
-use Rattle.thread_local_steps.specs.Local.{Doing, Gets, Started, Private, Written, Local, after_call, is_calling, learns, load_word, look_at_flag, make_bucket, offered, install_bucket, write_value, set_flag, reply, local_step, LocalStep, BeginGet, BeginGetOr, LoadWord, LookAtFlag, MakeBucket, InstallBucket, WriteValue, SetFlag, Reply, doing_with_get, doing_with_get_or, begin_call, closure_at_missing, closure_at_vacant, ending_of}
-use Rattle.std.specs.Prelude.{option_map}
+use Rattle.thread_local_steps.specs.Local.{Doing, Gets, Started, Private, Written, Local, after_call, is_calling, learns, load_word, look_at_flag, make_bucket, offered, install_bucket, write_value, set_flag, reply, local_step, LocalStep, BeginGet, BeginGetOr, LoadWord, LookAtFlag, MakeBucket, InstallBucket, WriteValue, SetFlag, Reply, doing_with_get, doing_with_get_or, begin_call, closure_at_missing, closure_at_vacant, ending_of, private_bucket, value_written}
+use Rattle.std.specs.Prelude.{option_map, option_and_then}
 use Rattle.thread_local_steps.specs.Calls.{gets_of, closure_of, CallsStay, PublishingEnds, CallsGo, GoesOn}
 
 -- a Local that does the same, or goes on with the call that it has begun
@@ -69,7 +69,7 @@ make_bucket-goes table local false (Started create) Missing e =
 make_bucket-goes table local refused _ _ e = tt
 
 install_bucket-goes : {V E : Type 0} (table : Table V) (local : Local V E) (doing : Doing V E) → local.doing ≡ doing
-    → IfSome (install_bucket table local doing) (λ after. GoesOn InstallBucket local after.1)
+    → IfSome (option_and_then (install_bucket table local) (private_bucket doing)) (λ after. GoesOn InstallBucket local after.1)
 install_bucket-goes table local (Private create number) e =
     whatever_is_learnt (offered table (bucket_of local.id) number) (record local { doing = Started create }) (learnt_by_install local.learnt) (λ after. GoesOn InstallBucket local after.1)
     (λ learnt. goes InstallBucket local learnt (Started create) (stay local learnt (Started create) (sym (ap gets_of e)) (sym (ap closure_of e))))
@@ -84,7 +84,7 @@ write_value-goes table local (Started (Err x)) Vacant e =
 write_value-goes table local _ _ e = tt
 
 set_flag-goes : {V E : Type 0} (table : Table V) (local : Local V E) (doing : Doing V E) → local.doing ≡ doing
-    → IfSome (set_flag table local doing) (λ after. GoesOn SetFlag local after.1)
+    → IfSome (option_and_then (set_flag table local) (value_written doing)) (λ after. GoesOn SetFlag local after.1)
 set_flag-goes table local (Written v) e =
     whatever_is_learnt (with_flag table local.id) (after_call local (GetOr (Ok v) false) (Answered v) local.learnt (Gets 0)) (learnt_by_publish local.learnt v)
     (λ after. GoesOn SetFlag local after.1) (λ learnt. record { id = refl; start = refl; calls = publishing_ends local (Ok v) false _ learnt (ap gets_of e) (ap closure_of e) })

@@ -1,5 +1,5 @@
 use Rattle.std.proofs.Common.{◌≡◌, ℕ, zero, suc, ◌⊎◌, Bool, true, false, cond, eqb, [], ◌∷◌, ◌++◌, Option, Some, None, Result, Ok, Err, IsTrue, is_some, IfSome, refl, ap, sym, ◌∙◌, subst, ⊎_elim, inl, inr}
-use Rattle.std.specs.Prelude.{option_map}
+use Rattle.std.specs.Prelude.{option_map, option_and_then}
 use Rattle.std.proofs.lemmas.Bool.{cases_eq, cond_both, eq-eqb, ne_eqb, false_from_ne_true, false≢true}
 use Rattle.thread_local_model.specs.Place.{bucket_of}
 use Rattle.thread_local_model.specs.Answers.{View, Call, Get, GetOr, Answer, Found, Answered, Refused, Failed, Says, answers}
@@ -7,8 +7,8 @@ use Rattle.thread_local_model.proofs.AnswersLaws as says
 use Rattle.thread_local_model.proofs.AnswersLaws.{answers-push, view_after_all-push}
 use Rattle.thread_local_steps.specs.Table.{Slot, Table, slot_at, published, stands, value_of, with_slot, with_flag}
 use Rattle.thread_local_model.specs.Learnt.{Learnt, Unknown, Missing, Standing, Vacant, Holding, learnt_by_load, learnt_by_look, learnt_by_install, learnt_by_publish}
-use Rattle.thread_local_steps.specs.Local.{Doing, Gets, Started, Private, Written, Local, after_call, is_calling, learns, load_word, look_at_flag, make_bucket, offered, install_bucket, write_value, set_flag, reply, local_step, LocalStep, BeginGet, BeginGetOr, LoadWord, LookAtFlag, MakeBucket, InstallBucket, WriteValue, SetFlag, Reply, doing_with_get, doing_with_get_or, begin_call, closure_at_missing, closure_at_vacant, ending_of}
-use Rattle.thread_local_steps.specs.Fits.{IsWritten, AllWritten, view_now, IsLearnt, IsDoing, ViewFits, LocalFits, named, ChangesOnly, value_written, value_set, StepFits}
+use Rattle.thread_local_steps.specs.Local.{Doing, Gets, Started, Private, Written, Local, after_call, is_calling, learns, load_word, look_at_flag, make_bucket, offered, install_bucket, write_value, set_flag, reply, local_step, LocalStep, BeginGet, BeginGetOr, LoadWord, LookAtFlag, MakeBucket, InstallBucket, WriteValue, SetFlag, Reply, doing_with_get, doing_with_get_or, begin_call, closure_at_missing, closure_at_vacant, ending_of, private_bucket, value_written}
+use Rattle.thread_local_steps.specs.Fits.{IsWritten, AllWritten, view_now, IsLearnt, IsDoing, ViewFits, LocalFits, named, ChangesOnly, value_set, StepFits}
 use Rattle.thread_local_steps.proofs.TableLaws.{slot_at-none, published_unset, slot_at-offered, stands-offered, published-slot_at, slot_at-with_slot_same, slot_at-with_slot_other, stands-with_slot, slot_at-made, stands-made, named-made, named-offered, named-with_slot}
 
 learnt_carried : {V : Type 0} (old new : Table V) (id : ℕ) (view : View V) (learnt : Learnt V)
@@ -221,7 +221,7 @@ install-fits table local create number Missing written h d =
 install-fits table local create number _ written h d = tt
 
 install_bucket-fits : {V E : Type 0} (table : Table V) (local : Local V E) (doing : Doing V E) → AllWritten table → LocalFits table local
-    → IsDoing table local.id doing → IfSome (install_bucket table local doing) (StepFits table local None)
+    → IsDoing table local.id doing → IfSome (option_and_then (install_bucket table local) (private_bucket doing)) (StepFits table local None)
 install_bucket-fits table local (Private create number) written h d = install-fits table local create number local.learnt written h d
 install_bucket-fits table local _ written h d = tt
 
@@ -309,7 +309,7 @@ publish-fits table local v Vacant written h d =
 publish-fits table local v _ written h d = tt
 
 set_flag-fits : {V E : Type 0} (table : Table V) (local : Local V E) (doing : Doing V E) → AllWritten table → LocalFits table local
-    → IsDoing table local.id doing → IfSome (set_flag table local doing) (StepFits table local (value_written doing))
+    → IsDoing table local.id doing → IfSome (option_and_then (set_flag table local) (value_written doing)) (StepFits table local (value_written doing))
 set_flag-fits table local (Written v) written h d = publish-fits table local v local.learnt written h d
 set_flag-fits table local _ written h d = tt
 

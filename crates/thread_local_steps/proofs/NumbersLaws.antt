@@ -1,11 +1,11 @@
 use Rattle.std.proofs.Common.{◌≡◌, ℕ, zero, suc, ◌⊎◌, Bool, cond, true, false, Option, Some, None, Result, Ok, Err, IfSome, refl, ap, sym, ◌∙◌, arith, ⊎_elim, inl, inr}
-use Rattle.std.specs.Prelude.{option_map}
+use Rattle.std.specs.Prelude.{option_map, option_and_then}
 use Rattle.std.proofs.lemmas.Bool.{cases_eq, eq-eqb}
 use Rattle.thread_local_model.specs.Place.{bucket_of}
 use Rattle.thread_local_model.specs.Answers.{GetOr, Answered}
 use Rattle.thread_local_model.specs.Learnt.{Learnt, Missing, Vacant, Holding, learnt_by_load, learnt_by_look, learnt_by_install, learnt_by_publish}
 use Rattle.thread_local_steps.specs.Table.{Table, Slot, published, stands, with_fresh_bucket, with_slot, with_flag}
-use Rattle.thread_local_steps.specs.Local.{Doing, Gets, Started, Private, Written, Local, after_call, is_calling, learns, load_word, look_at_flag, make_bucket, offered, install_bucket, write_value, set_flag, reply, local_step, LocalStep, BeginGet, BeginGetOr, LoadWord, LookAtFlag, MakeBucket, InstallBucket, WriteValue, SetFlag, Reply, doing_with_get, doing_with_get_or, begin_call, closure_at_missing, closure_at_vacant, ending_of}
+use Rattle.thread_local_steps.specs.Local.{Doing, Gets, Started, Private, Written, Local, after_call, is_calling, learns, load_word, look_at_flag, make_bucket, offered, install_bucket, write_value, set_flag, reply, local_step, LocalStep, BeginGet, BeginGetOr, LoadWord, LookAtFlag, MakeBucket, InstallBucket, WriteValue, SetFlag, Reply, doing_with_get, doing_with_get_or, begin_call, closure_at_missing, closure_at_vacant, ending_of, private_bucket, value_written}
 use Rattle.thread_local_steps.specs.Fits.{named}
 use Rattle.thread_local_steps.specs.Numbers.{own_number, NumbersGo}
 use Rattle.thread_local_steps.proofs.CallsLaws.{whatever_is_learnt}
@@ -84,7 +84,7 @@ made-offer : {V : Type 0} (table : Table V) (bucket number : ℕ) (b : Bool) →
 made-offer table bucket number true = refl
 made-offer table bucket number false = made-with_fresh_bucket table bucket number
 
-install_bucket-numbers : {V E : Type 0} (table : Table V) (local : Local V E) (doing : Doing V E) → local.doing ≡ doing → IfSome (install_bucket table local doing) (NumbersGo table local)
+install_bucket-numbers : {V E : Type 0} (table : Table V) (local : Local V E) (doing : Doing V E) → local.doing ≡ doing → IfSome (option_and_then (install_bucket table local) (private_bucket doing)) (NumbersGo table local)
 install_bucket-numbers table local (Private create number) at =
     whatever_is_learnt (offered table (bucket_of local.id) number) (record local { doing = Started create }) (learnt_by_install local.learnt) (NumbersGo table local)
     (λ learnt. record {
@@ -103,7 +103,7 @@ write_value-numbers table local (Started (Ok v)) Vacant = none_own-with_slot tab
 write_value-numbers table local (Started (Err e)) Vacant = none_own table local _ refl
 write_value-numbers table local _ _ = tt
 
-set_flag-numbers : {V E : Type 0} (table : Table V) (local : Local V E) (doing : Doing V E) → IfSome (set_flag table local doing) (NumbersGo table local)
+set_flag-numbers : {V E : Type 0} (table : Table V) (local : Local V E) (doing : Doing V E) → IfSome (option_and_then (set_flag table local) (value_written doing)) (NumbersGo table local)
 set_flag-numbers table local (Written v) =
     whatever_is_learnt (with_flag table local.id) (after_call local (GetOr (Ok v) false) (Answered v) local.learnt (Gets 0)) (learnt_by_publish local.learnt v)
     (NumbersGo table local) (λ learnt. none_own-with_slot table local.id _ local _ refl)

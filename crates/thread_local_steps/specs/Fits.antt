@@ -4,7 +4,7 @@ use Rattle.thread_local_model.specs.Walk.{with_value}
 use Rattle.thread_local_model.specs.Answers.{View, answers, view_after_all}
 use Rattle.thread_local_steps.specs.Table.{Slot, Table, slot_at, published, stands}
 use Rattle.thread_local_model.specs.Learnt.{Learnt, Unknown, Missing, Standing, Vacant, Holding}
-use Rattle.thread_local_steps.specs.Local.{Doing, Gets, Started, Private, Written, Local, LocalStep, SetFlag}
+use Rattle.thread_local_steps.specs.Local.{Doing, Gets, Started, Private, Written, Local, LocalStep, SetFlag, value_written}
 
 -- a slot whose flag is set holds the value that was written
 abbrev pub IsWritten : {V : Type 0} → Slot V → Type 0
@@ -58,11 +58,6 @@ pub record ChangesOnly {V : Type 0} (old new : Table V) (id : ℕ) : Type 0 wher
   pub naming : (bucket : ℕ) → IsTrue (stands old bucket) → IsTrue (stands new bucket) × (named new bucket ≡ named old bucket)
   pub installed : (bucket : ℕ) → IsTrue (stands new bucket) → IsTrue (stands old bucket) ⊎ (bucket_of id ≡ bucket)
   pub written : AllWritten new
-
--- the value that a call has written, if it has
-abbrev pub value_written : {V E : Type 0} → Doing V E → Option V
-value_written (Written v) = Some v
-value_written doing = None
 
 -- the value that a step publishes, if it publishes one
 abbrev pub value_set : {V E : Type 0} → Doing V E → LocalStep V E → Option V

@@ -94,11 +94,20 @@ make_bucket table local false create =
 abbrev pub offered : {V : Type 0} → Table V → ℕ → ℕ → Table V
 offered table bucket number = if stands table bucket then table else with_fresh_bucket table bucket number
 
--- a call offers its own bucket to its word, and uses the one that stands then
-abbrev pub install_bucket : {V E : Type 0} → Table V → Local V E → Doing V E → Option (Table V × Local V E)
-install_bucket table local (Private create number) =
-    learns (offered table (bucket_of local.id) number) (record local { doing = Started create }) (learnt_by_install local.learnt)
-install_bucket table local doing = None
+-- the bucket of its own that a publishing call has made, with what its closure would answer
+pub record PrivateBucket (V E : Type 0) : Type 0 where
+  pub create : Result V E
+  pub number : ℕ
+
+-- the bucket that a call has made and not offered yet
+abbrev pub private_bucket : {V E : Type 0} → Doing V E → Option (PrivateBucket V E)
+private_bucket (Private create number) = Some (record { create = create; number = number })
+private_bucket doing = None
+
+-- such a call offers its bucket to its word, and uses the one that stands then
+abbrev pub install_bucket : {V E : Type 0} → Table V → Local V E → PrivateBucket V E → Option (Table V × Local V E)
+install_bucket table local made =
+    learns (offered table (bucket_of local.id) made.number) (record local { doing = Started made.create }) (learnt_by_install local.learnt)
 
 -- the closure of a publishing call that found its slot empty
 abbrev pub closure_at_vacant : {V E : Type 0} → Doing V E → Learnt V → Option (Result V E)
@@ -110,11 +119,15 @@ abbrev pub write_value : {V E : Type 0} → Table V → Local V E → Result V E
 write_value table local (Ok v) = (with_written table local.id v, record local { learnt = Vacant; doing = Written v })
 write_value table local (Err e) = (table, after_call local (GetOr (Err e) false) (Failed e) Vacant (Gets 0))
 
--- a call that has written sets its flag, and so publishes and ends
-abbrev pub set_flag : {V E : Type 0} → Table V → Local V E → Doing V E → Option (Table V × Local V E)
-set_flag table local (Written v) =
+-- the value that a call has written, if it has
+abbrev pub value_written : {V E : Type 0} → Doing V E → Option V
+value_written (Written v) = Some v
+value_written doing = None
+
+-- such a call sets its flag, and so publishes and ends
+abbrev pub set_flag : {V E : Type 0} → Table V → Local V E → V → Option (Table V × Local V E)
+set_flag table local v =
     learns (with_flag table local.id) (after_call local (GetOr (Ok v) false) (Answered v) local.learnt (Gets 0)) (learnt_by_publish local.learnt v)
-set_flag table local doing = None
 
 -- a call that ends with what was learnt, its answer, and what the Local does then
 pub record Ending (V E : Type 0) : Type 0 where
@@ -142,9 +155,9 @@ local_step table local LoadWord = if is_calling local.doing then load_word table
 local_step table local LookAtFlag = if is_calling local.doing then look_at_flag table local else None
 local_step table local (MakeBucket refused) =
     option_map (make_bucket table local refused) (closure_at_missing local.doing local.learnt)
-local_step table local InstallBucket = install_bucket table local local.doing
+local_step table local InstallBucket = option_and_then (install_bucket table local) (private_bucket local.doing)
 local_step table local WriteValue = option_map (write_value table local) (closure_at_vacant local.doing local.learnt)
-local_step table local SetFlag = set_flag table local local.doing
+local_step table local SetFlag = option_and_then (set_flag table local) (value_written local.doing)
 local_step table local Reply = option_map (reply table local) (ending_of local.doing local.learnt)
 
 -- what steps make of the table and of the Local, one after another, None where one isn't enabled

@@ -93,3 +93,7 @@ fn generic_local<T: Send, R: Wait + Sync>(local: Local<'_, T, R>) {
 fn ref_cell_local<R: Wait + Sync>(local: Local<'_, RefCell<String>, R>) {
     is_sent(&local);
 }
+
+fn shared_local<T: Send + Sync, R: Wait + Sync>(local: &Local<'_, T, R>) {
+    crosses(local);
+}

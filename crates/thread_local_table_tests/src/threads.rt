@@ -64,33 +64,6 @@ fn a_local_moves_to_another_thread_and_back(rt: HostRuntime) -> Result<(), Fail>
     Ok(())
 }
 
-/// Publishes a number.
-fn publish<R: Wait>(mut local: Local<'_, u32, R>, number: u32) -> bool {
-    local.get_or(|| number).is_ok()
-}
-
-#[test]
-fn values_of_three_threads_are_walked_in_the_order_of_ids(rt: HostRuntime) -> Result<(), Fail> {
-    let mut table = ThreadLocal::<u32>::new(rt.alloc());
-    {
-        let first = table.local(&rt)?;
-        let second = table.local(&rt)?;
-        let third = table.local(&rt)?;
-        let (published, others) = thread::join(
-            &rt,
-            || publish(third, 3),
-            || thread::join(&rt, || publish(second, 2), || publish(first, 1)),
-        );
-        assert_eq!(rt; (published, others), (true, (true, true)));
-    }
-    let mut values = table.iter_mut();
-    for value in [1, 2, 3] {
-        assert_eq!(rt; values.next().map(|there| *there), Some(value));
-    }
-    assert!(rt; values.next().is_none());
-    Ok(())
-}
-
 /// Looks for a mark until it is set, or gives up.
 fn is_seen(mark: &AtomicBool) -> bool {
     for _ in 0..LOOKS {
@@ -167,12 +140,35 @@ fn publish_through_another<R: Wait>(table: &ThreadLocal<u32>, rt: &R) -> Option<
     got.ok().copied()
 }
 
+/// Does so once the first's closure has begun.
+fn publish_through_another_within<R: Wait>(
+    table: &ThreadLocal<u32>,
+    rt: &R,
+    begun: &AtomicBool,
+    answered: &AtomicBool,
+) -> (Option<u32>, bool) {
+    let seen = is_seen(begun);
+    let got = publish_through_another(table, rt);
+    answered.store(true, SeqCst);
+    (got, seen)
+}
+
 #[test]
 fn a_closure_may_use_another_local_of_the_table(rt: HostRuntime) -> Result<(), Fail> {
     let mut table = ThreadLocal::<u32>::new(rt.alloc());
-    assert_eq!(rt; publish_through_another(&table, &rt), Some(7));
+    let begun = AtomicBool::new(false);
+    let answered = AtomicBool::new(false);
+    let (first, second) = thread::join(
+        &rt,
+        || publish_around(&table, &rt, &begun, &answered),
+        || publish_through_another_within(&table, &rt, &begun, &answered),
+    );
+    assert_eq!(rt; first, (Some(1), true));
+    assert_eq!(rt; second, (Some(7), true));
     let mut values = table.iter_mut();
-    assert_eq!(rt; values.next().map(|there| *there), Some(7));
-    assert_eq!(rt; values.next().map(|there| *there), Some(6));
+    for value in [1, 7, 6] {
+        assert_eq!(rt; values.next().map(|there| *there), Some(value));
+    }
+    assert!(rt; values.next().is_none());
     Ok(())
 }

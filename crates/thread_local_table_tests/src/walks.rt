@@ -2,7 +2,9 @@
 
 use std::sync::Wait;
 use std::test::Fail;
-use thread_local_table::ThreadLocal;
+use std::thread;
+use std::thread::Threads;
+use thread_local_table::{Local, ThreadLocal};
 use thread_local_thread_id::LocalError;
 
 /// Three `Local`s that are held at once publish 1, 2 and 3. Answers whether they did.
@@ -13,10 +15,25 @@ fn publish_three<R: Wait>(table: &ThreadLocal<u32>, rt: &R) -> Result<bool, Loca
     Ok(first.get_or(|| 1).is_ok() && second.get_or(|| 2).is_ok() && third.get_or(|| 3).is_ok())
 }
 
+/// Publishes a number.
+fn publish<R: Wait>(mut local: Local<'_, u32, R>, number: u32) -> bool {
+    local.get_or(|| number).is_ok()
+}
+
 #[test]
-fn values_are_walked_by_ascending_id(rt: HostRuntime) -> Result<(), Fail> {
+fn values_of_three_threads_are_walked_in_the_order_of_ids(rt: HostRuntime) -> Result<(), Fail> {
     let mut table = ThreadLocal::<u32>::new(rt.alloc());
-    assert_eq!(rt; publish_three(&table, &rt), Ok(true));
+    {
+        let first = table.local(&rt)?;
+        let second = table.local(&rt)?;
+        let third = table.local(&rt)?;
+        let (published, others) = thread::join(
+            &rt,
+            || publish(third, 3),
+            || thread::join(&rt, || publish(second, 2), || publish(first, 1)),
+        );
+        assert_eq!(rt; (published, others), (true, (true, true)));
+    }
     {
         let mut values = table.iter_mut();
         for (left, value) in [(3, 1), (2, 2), (1, 3)] {
