@@ -28,11 +28,13 @@
 #![tactic(auto)]
 
 pub mod buckets;
+pub mod cached;
 pub mod iter;
 pub mod local;
 pub mod schedule;
 pub mod table;
 pub mod thread_id;
 
+pub use cached::{CachedIntoIter, CachedIterMut, CachedThreadLocal};
 pub use iter::{IntoIter, IterMut};
 pub use table::ThreadLocal;

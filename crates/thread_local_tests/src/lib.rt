@@ -1,6 +1,8 @@
 //! Examples that use `thread_local` as its users do, and tests of the program `tls`.
 #![tactic(auto)]
 
+#[cfg(test)]
+mod cached;
 pub mod examples;
 #[cfg(test)]
 mod moves;

@@ -1,0 +1,179 @@
+//! The table under the name of a faster form that it had once. Deprecated: `ThreadLocal` is as fast, and does what this does and more.
+ghost use Rattle.std.specs.Prelude.{◌≡◌, length, Some, IfSome};
+ghost use Rattle.std.specs.Iterator.{YieldsFirst, YieldsFirstMut, UpTo, item_count};
+ghost use Rattle.std.specs.Iterator.SizeHint.{IsWithinCount};
+ghost use Rattle.thread_local_buckets.specs.IterMut.{iter_mut_rest};
+ghost use Rattle.thread_local_judged.specs.Judged.{Judged};
+
+use std::alloc::Global;
+use std::default::MadeWith;
+use std::marker::Model;
+use std::sync::Wait;
+use thread_local_buckets::{IntoIter, IterMut};
+use thread_local_judged::Judge;
+use thread_local_table::{Local, ThreadLocal};
+use thread_local_thread_id::LocalError;
+
+/// A table of which less is offered. Deprecated: use `ThreadLocal`. Each call is that of the table, and says what the table's says.
+#[derive(Drop)]
+pub struct CachedThreadLocal<T> {
+    table: ThreadLocal<T>,
+}
+
+impl<T> Model for CachedThreadLocal<T> {
+    ghost use Rattle.thread_local_shared_buckets.specs.TableView.{TableView, table_view_coded};
+
+    ghost Value = { TableView };
+
+    ghost coded = { table_view_coded };
+
+    ghost view = { λ cached. cached.table };
+}
+
+impl<T> CachedThreadLocal<T> {
+    /// A table with no value, no bucket and no id held. It takes no memory, and never waits. The type of the values is judged, as
+    /// `ThreadLocal::new` asks.
+    pub fn new(alloc: Global) -> CachedThreadLocal<T>
+        requires judged { Judged T.row }
+        ensures reserved { result.reserved ≡ 0 }
+    {
+        CachedThreadLocal {
+            table: ThreadLocal::new(alloc),
+        }
+    }
+
+    /// A place in the table, as `ThreadLocal::local`. May wait, and may take memory.
+    pub fn local<'a, R: Wait>(&'a self, rt: &'a R) -> Result<Local<'a, T, R>, LocalError> {
+        self.table.local(rt)
+    }
+
+    /// The values by ascending id, each lent as `&mut`. It never waits, and takes no memory.
+    pub fn iter_mut(&mut self) -> CachedIterMut<'_, T> {
+        CachedIterMut {
+            walk: self.table.iter_mut(),
+        }
+    }
+
+    /// Empties the table, as `ThreadLocal::clear`. It never waits, and takes no memory.
+    pub fn clear(&mut self)
+    where
+        T: Drop,
+        ensures reserved { self.new.reserved ≡ 0 }
+    {
+        self.table.clear();
+    }
+}
+
+impl<T: Judge> MadeWith<Global> for CachedThreadLocal<T> {
+    ghost is_made_with = { λ cached. cached.reserved ≡ 0 };
+
+    fn made_with(alloc: Global) -> CachedThreadLocal<T> {
+        T::judge();
+        CachedThreadLocal::new(alloc)
+    }
+}
+
+impl<T: Drop> IntoIterator for CachedThreadLocal<T> {
+    type Item = T;
+
+    type IntoIter = CachedIntoIter<T>;
+
+    /// The values by ascending id, each moved out. It never waits, and takes no memory.
+    fn into_iter(self) -> CachedIntoIter<T> {
+        CachedIntoIter {
+            walk: self.table.into_iter(),
+        }
+    }
+}
+
+impl<'a, T> IntoIterator for &'a mut CachedThreadLocal<T> {
+    type Item = &'a mut T;
+
+    type IntoIter = CachedIterMut<'a, T>;
+
+    /// The values by ascending id, each lent as `&mut`. It never waits, and takes no memory.
+    fn into_iter(self) -> CachedIterMut<'a, T> {
+        self.iter_mut()
+    }
+}
+
+/// The walk of `CachedThreadLocal::iter_mut`. Contracts see the values still to come, and the name of their loan.
+#[derive(Drop)]
+pub struct CachedIterMut<'a, T> {
+    walk: IterMut<'a, T>,
+}
+
+impl<'a, T> Model for CachedIterMut<'a, T> {
+    ghost use Rattle.std.specs.Prelude.{List};
+    ghost use base.Fml.{GName};
+
+    ghost Value = { List T × GName };
+
+    ghost view = { λ it. it.walk };
+}
+
+impl<'a, T> Iterator for CachedIterMut<'a, T> {
+    type Item = &'a mut T;
+
+    ghost next_gives = { YieldsFirstMut iter_mut_rest };
+
+    ghost remaining = { item_count iter_mut_rest };
+
+    fn next(&mut self) -> Option<&'a mut T> {
+        self.walk.next()
+    }
+
+    fn size_hint(&self) -> (usize, Option<usize>)
+        ensures exact { result ≡ (length (iter_mut_rest self.now), Some (length (iter_mut_rest self.now))) }
+        ensures lower { IsWithinCount result.0 (item_count iter_mut_rest self.now) }
+        ensures upper { IfSome result.1 (UpTo (item_count iter_mut_rest self.now)) }
+    {
+        self.walk.size_hint()
+    }
+}
+
+impl<T> ExactSizeIterator for CachedIterMut<'_, T> {
+    fn len(&self) -> usize {
+        self.walk.len()
+    }
+}
+
+/// The walk of `CachedThreadLocal` by value. Contracts see the values still to come.
+#[derive(Drop)]
+pub struct CachedIntoIter<T> {
+    walk: IntoIter<T>,
+}
+
+impl<T> Model for CachedIntoIter<T> {
+    ghost use Rattle.std.specs.Prelude.{List};
+
+    ghost Value = { List T };
+
+    ghost view = { λ it. it.walk };
+}
+
+impl<T: Drop> Iterator for CachedIntoIter<T> {
+    type Item = T;
+
+    ghost next_gives = { YieldsFirst (λ rest. rest) };
+
+    ghost remaining = { item_count (λ rest. rest) };
+
+    fn next(&mut self) -> Option<T> {
+        self.walk.next()
+    }
+
+    fn size_hint(&self) -> (usize, Option<usize>)
+        ensures exact { result ≡ (length self.now, Some (length self.now)) }
+        ensures lower { IsWithinCount result.0 (item_count (λ rest. rest) self.now) }
+        ensures upper { IfSome result.1 (UpTo (item_count (λ rest. rest) self.now)) }
+    {
+        self.walk.size_hint()
+    }
+}
+
+impl<T: Drop> ExactSizeIterator for CachedIntoIter<T> {
+    fn len(&self) -> usize {
+        self.walk.len()
+    }
+}
