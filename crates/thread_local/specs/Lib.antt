@@ -1,2 +1,3 @@
 pub use Rattle.thread_local_model.specs.Place
 pub use Rattle.thread_local_model.specs.Held
+mod Bytes

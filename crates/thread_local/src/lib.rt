@@ -32,6 +32,7 @@ pub mod cached;
 pub mod iter;
 pub mod local;
 pub mod schedule;
+pub mod scratch;
 pub mod table;
 pub mod thread_id;
 

@@ -8,3 +8,5 @@ pub mod examples;
 mod moves;
 #[cfg(test)]
 mod run;
+#[cfg(test)]
+mod scratch;
