@@ -31,6 +31,7 @@ class Moment:
     event: tuple
     after: Core
     most: int  # the greatest number of ids held at once since the table was made or cleared
+    publishings: int  # how many values were published since then
     bound: int  # each take so far came while fewer ids than this were held
     cleared: bool  # whether the table was cleared so far
 
@@ -163,6 +164,10 @@ def clause_private(m):
 
 def clause_published(m):
     return len(model.walk(model.shadow(m.after).values)) <= len(m.after.held)
+
+
+def clause_publishings(m):
+    return m.publishings == len(model.walk(model.shadow(m.after).values)) <= len(m.after.held)
 
 
 def clause_refusals(m):
@@ -523,7 +528,7 @@ def one_schedule(seed, length, seen):
     chance = random.Random(seed)
     capacity = min(chance.choice([0, 0, 0, 1, 2, 3, 4, model.IDS]), model.IDS)
     core = model.made_core(capacity, chance.choice([0, 0, 1, 3]))
-    most, bound, cleared, events, waiting = 0, 0, False, [], []
+    most, bound, publishings, cleared, events, waiting = 0, 0, 0, False, [], []
     for mark in range(length):
         if not waiting and chance.random() < 0.012:
             waiting = quiet_events(chance, core)
@@ -539,9 +544,10 @@ def one_schedule(seed, length, seen):
             name = ("refused " if model.is_refused(core, event) else "") + kind_of(event)
             seen[name] = seen.get(name, 0) + 1
             if event == ("Owner", ("ClearTable",)):
-                cleared, most = True, 0
+                cleared, most, publishings = True, 0, 0
+            publishings += model.move_of(core, event)[0] == "Publish"
         most = max(most, held_count(after.held))
-        moment = Moment(capacity, core, event, after, most, bound, cleared)
+        moment = Moment(capacity, core, event, after, most, publishings, bound, cleared)
         for name, clause in CLAUSES.items():
             try:
                 well = clause(moment)

@@ -2,3 +2,4 @@ pub mod PeakLaws
 pub mod Headline
 pub mod FourLocals
 pub mod FourValues
+pub mod Publishings

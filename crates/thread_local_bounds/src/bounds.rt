@@ -7,7 +7,7 @@ ghost use Rattle.thread_local_steps.specs.Local.{Local, MakeBucket};
 ghost use Rattle.thread_local_core.specs.Core.{Core, made_core, new_core, shadow, installed_slots, peak, private_slots};
 ghost use Rattle.thread_local_schedule.specs.Events.{Event, TakeId, OfLocal, run};
 ghost use Rattle.thread_local_schedule.specs.Schedule.{is_refused, IsReached};
-ghost use Rattle.thread_local_bounds.specs.Bounds.{most_held, TakesBelow, NothingRefused, NeverCleared};
+ghost use Rattle.thread_local_bounds.specs.Bounds.{most_held, publishings, TakesBelow, NothingRefused, NeverCleared};
 
 /// What bounds a table over every schedule: with at most p ids held at once a table from `new` has installed at
 /// most 2p - 1 slots, and one of a capacity of p or more refuses nothing.
@@ -34,6 +34,13 @@ pub fn every_bound<V, E>()
     ensures private_slots { (core : Core V E) (n : ℕ) (local : Local V E) → IsReached core
         → core.locals n ≡ Some local → private_slots local.id local.doing ≤ peak core }
     ensures published { (core : Core V E) → IsReached core → length (walk (shadow core).values) ≤ peak core }
+
+    // Since a table was made or cleared, it published as often as it has values, and so at most as often as ids were
+    // held at once.
+    ensures publishings { (capacity extra : ℕ) (events : List (Event V E)) → capacity < 2 ^ 63
+        → publishings (made_core capacity extra) events ≡ length (walk (shadow (run (made_core capacity extra) events)).values) }
+    ensures few_publishings { (capacity extra : ℕ) (events : List (Event V E)) → capacity < 2 ^ 63
+        → publishings (made_core capacity extra) events ≤ peak (run (made_core capacity extra) events) }
 
     // Within the capacity no take is refused, and no publishing at a reserved id.
     ensures within_capacity { (core : Core V E) (refused : Bool) (growth : ℕ) → IsReached core

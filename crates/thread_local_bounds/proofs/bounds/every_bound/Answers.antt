@@ -3,6 +3,7 @@ use Rattle.thread_local_core.proofs.CoreLaws as known
 use Rattle.thread_local_schedule.proofs.Clauses as clause
 use Rattle.thread_local_bounds.proofs.PeakLaws as bound
 use Rattle.thread_local_bounds.proofs.Headline as headline
+use Rattle.thread_local_bounds.proofs.Publishings as publishing
 use Rattle.thread_local_core.specs.Core.{made_core}
 use Rattle.thread_local_core.proofs.Parts.{made_core-fits}
 use Rattle.thread_local_core.proofs.HeldCounts.{held_below}
@@ -34,6 +35,12 @@ returns-clause-private_slots g c = λ core n local r at. known.private_bound cor
 
 pub returns-clause-published : goal.returns-clause-published
 returns-clause-published g c = λ core r. known.published_bound core (clause.fits core r)
+
+pub returns-clause-publishings : goal.returns-clause-publishings
+returns-clause-publishings g c = publishing.as_many_as_values
+
+pub returns-clause-few_publishings : goal.returns-clause-few_publishings
+returns-clause-few_publishings g c = publishing.at_most_the_peak
 
 pub returns-clause-within_capacity : goal.returns-clause-within_capacity
 returns-clause-within_capacity g c = λ core refused growth r. bound.within_capacity core refused growth (clause.fits core r)
