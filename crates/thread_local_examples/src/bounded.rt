@@ -1,0 +1,57 @@
+//! A bounded pool: so many workers on a table with room for so many, where nothing is refused once the table is had.
+ghost use Rattle.std.specs.Prelude.{◌≡◌, true};
+
+use std::cell::Cell;
+use std::sync::Wait;
+use thread_local::ThreadLocal;
+use thread_local::local::Local;
+
+/// Adds to this worker's sum. In a place within the capacity it always succeeds: the contract says so, and the proof needs no case for
+/// want of memory.
+pub fn add<R: Wait>(sum: &mut Local<'_, Cell<u64>, R>, number: u64) -> bool
+    ensures { result ≡ true }
+{
+    if !sum.is_reserved() {
+        return true;
+    }
+    match sum.get_or(|| Cell::new(0)) {
+        Ok(cell) => {
+            cell.set(cell.get().saturating_add(number));
+            true
+        }
+        Err(_) => false,
+    }
+}
+
+/// Adds the numbers up to this one, in a place of the table. False means that the place was refused, or lies past the capacity.
+pub fn work<R: Wait>(sums: &ThreadLocal<Cell<u64>>, rt: &R, numbers: u64) -> bool {
+    let Ok(mut sum) = sums.local(rt) else {
+        return false;
+    };
+    for number in 0..numbers {
+        add(&mut sum, number + 1);
+    }
+    sum.is_reserved()
+}
+
+#[cfg(test)]
+mod tests {
+    use super::*;
+    use std::test::Fail;
+    use std::thread;
+    use thread_local::table::Judge;
+
+    #[test]
+    fn workers_within_the_capacity_are_refused_nothing(rt: HostRuntime) -> Result<(), Fail> {
+        Cell::<u64>::judge();
+        let sums = ThreadLocal::with_capacity(rt.alloc(), 2)?;
+        let worked = thread::join(&rt, || work(&sums, &rt, 10), || work(&sums, &rt, 20));
+        assert_eq!(rt; worked, (true, true));
+        let mut total = 0u64;
+        for sum in sums {
+            total = total.saturating_add(sum.get());
+        }
+        assert_eq!(rt; total, 265);
+        Ok(())
+    }
+}

@@ -1,0 +1,47 @@
+//! A pool of buffers: threads format lines of a text, each in a buffer that an earlier line has made large enough.
+use std::alloc::AllocError;
+use std::sync::Wait;
+use thread_local::scratch::Pool;
+use thread_local::thread_id::LocalError;
+
+/// Appends a line as a page may show it, with `<` and `&` written out.
+fn escape(line: &str, page: &mut Vec<u8>) -> Result<(), AllocError> {
+    for byte in line.as_bytes() {
+        match *byte {
+            b'<' => page.extend_from_slice(b"&lt;")?,
+            b'&' => page.extend_from_slice(b"&amp;")?,
+            byte => page.push(byte)?,
+        }
+    }
+    Ok(())
+}
+
+/// How many bytes the lines have on a page. Nothing is asked of memory once the buffers of all threads are large enough.
+pub fn size_on_page<R: Wait>(pool: &Pool, rt: &R, lines: &[&str]) -> Result<usize, LocalError> {
+    let mut bytes = 0usize;
+    for line in lines {
+        let mut buffer = pool.buffer(rt)?;
+        escape(line, buffer.bytes_mut()).map_err(LocalError::Memory)?;
+        bytes = bytes.wrapping_add(buffer.bytes().len());
+    }
+    Ok(bytes)
+}
+
+#[cfg(test)]
+mod tests {
+    use super::*;
+    use std::test::Fail;
+    use std::thread;
+
+    #[test]
+    fn threads_format_their_lines(rt: HostRuntime) -> Result<(), Fail> {
+        let pool = Pool::new(rt.alloc());
+        let sizes = thread::join(
+            &rt,
+            || size_on_page(&pool, &rt, &["a < b", "b & c"]),
+            || size_on_page(&pool, &rt, &["plain", ""]),
+        );
+        assert_eq!(rt; sizes, (Ok(17), Ok(5)));
+        Ok(())
+    }
+}
