@@ -1,0 +1,1 @@
+pub use Rattle.thread_local_model.specs.Cursor
