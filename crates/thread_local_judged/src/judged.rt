@@ -1,13 +1,14 @@
 //! The fact, its laws, and who hands it out.
 ghost use Rattle.std.specs.Prelude.{◌≡◌};
-ghost use Rattle.thread_local_judged.specs.Judged.{Judged, JudgedEverywhere};
+ghost use Rattle.thread_local_judged.specs.Judged.{Shareable, Judged, JudgedEverywhere};
 
 use std::cell::{Cell, RefCell};
 
-/// Shows the fact for a type that threads may share. At run time it does nothing.
+/// Shows the fact for a type that threads may share, and that a `&` to its values names no thread. At run time it does nothing.
 ///
-/// At a generic `T: Sync` and at most types the check finds the fact without it.
+/// At a generic `T: Sync` and at most types the check finds both without it.
 pub fn judge_sync<T: Sync>()
+    ensures shareable { Shareable T.row }
     ensures judged { Judged T.row }
     ensures everywhere { JudgedEverywhere T.row }
 {}

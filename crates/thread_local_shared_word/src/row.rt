@@ -1,5 +1,6 @@
 //! The slots of a bucket that stands while threads share it.
 ghost use Rattle.std.specs.Prelude.{◌^◌, ◌<◌};
+ghost use Rattle.thread_local_judged.specs.Judged.{Shareable};
 ghost use Rattle.thread_local_shared_word_logic.specs.Shared.{WordView, word_view_coded, row_owns};
 ghost use denote.Sharing.{said};
 
@@ -22,11 +23,13 @@ impl<'a, T> Model for Row<'a, T> {
     ghost also_shares = { λ r _ κ. said (row_owns T.row r.of 'a r.at) κ };
 }
 
-impl<'a, T: Sync> Row<'a, T> {
+impl<'a, T> Row<'a, T> {
     /// The value of the slot, if one is published, for as long as the word is borrowed, whoever claims the slot meanwhile. It is one atomic
-    /// load of the slot's flag: it takes no memory, and never waits.
+    /// load of the slot's flag: it takes no memory, and never waits. That threads may share a value is asked as a fact, and not by a bound,
+    /// since a walk's `next` is a trait's method, which isn't given its impl's bounds.
     pub fn get(&self, index: usize) -> Option<&'a T>
-        requires { index < 2 ^ self.now.of.bucket }
+        requires shareable { Shareable T.row }
+        requires inside { index < 2 ^ self.now.of.bucket }
     {
         let slot = unsafe { self.at.add(index) };
         let flag = unsafe { raw::load::<Brand>(&raw const (*slot).flag, SeqCst) };

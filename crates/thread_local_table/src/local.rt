@@ -1,6 +1,8 @@
 //! A thread's place in a table, which it has until it drops it.
 ghost use Rattle.std.specs.Prelude.{◌≡◌, ◌≢◌, ⊤, true, false, None, Ok, Err, OnOk, IfOk, option_map, MatchResult, alloc_error, Result};
 ghost use Rattle.thread_local_model.specs.Answers.{Get, GetOr, Found, Refused, Failed, answer};
+ghost use Rattle.thread_local_model.specs.Cursor.{fresh_cursor};
+ghost use Rattle.thread_local_shared_walk.specs.Walks.{owed_value};
 ghost use Rattle.thread_local_table.specs.Seats.{IsAnswered, IsFilled, Fails, IsRefused};
 
 use crate::seat::{Seat, TryError};
@@ -8,6 +10,7 @@ use std::alloc::AllocError;
 use std::fmt;
 use std::marker::Model;
 use std::sync::Wait;
+use thread_local_shared_walk::Iter;
 
 mod lends;
 
@@ -97,6 +100,18 @@ impl<'a, T, R: Wait> Local<'a, T, R> {
     {
         self.seat.try_fill(create)?;
         Ok(self.seat.value())
+    }
+}
+
+impl<'a, T: Sync, R: Wait> Local<'a, T, R> {
+    /// The values of the table by ascending id, each lent as `&`, while others may publish more. Where the slot holds a value, a walk that goes
+    /// on to its None gives it. It never waits, and takes no memory. Rust's crate has no such call.
+    pub fn iter(&self) -> Iter<'_, T>
+        ensures begins { result.cursor ≡ fresh_cursor }
+        ensures own { owed_value result.own ≡ self.now.value }
+        ensures shown { result.shown ≡ true }
+    {
+        self.seat.iter()
     }
 }
 

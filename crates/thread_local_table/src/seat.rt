@@ -2,6 +2,8 @@
 ghost use Rattle.std.specs.Prelude.{◌≡◌, ◌≢◌, ◌-◌, ◌^◌, ◌<◌, ◌⊎◌, ⊤, is_some, true, None, Some, Ok, Err, OnOk, OnErr, IfOk, IsOk, Result, false, alloc_error, option_map};
 ghost use Rattle.thread_local_model.specs.Learnt.{Missing, Vacant};
 ghost use Rattle.thread_local_model.specs.Answers.{Get, GetOr, Found, Refused, Failed, answer};
+ghost use Rattle.thread_local_model.specs.Cursor.{fresh_cursor};
+ghost use Rattle.thread_local_shared_walk.specs.Walks.{owed_value};
 ghost use Rattle.thread_local_table.specs.Seats.{vacant, holding, IsAnswered, IsFilled, Fails, IsRefused};
 
 use crate::table_core::Core;
@@ -11,6 +13,7 @@ use std::marker::Model;
 use std::sync::Wait;
 use thread_local_claim::Claim;
 use thread_local_rights::HeldId;
+use thread_local_shared_walk::Iter;
 
 mod lends;
 
@@ -181,6 +184,21 @@ impl<'a, T> Seat<'a, T> {
     pub(crate) fn leave<R: Wait>(self, rt: &R) {
         let Self { core, claim } = self;
         core.give(rt, claim.leave());
+    }
+}
+
+impl<'a, T: Sync> Seat<'a, T> {
+    /// The values of the table by ascending id, each lent as `&`, while others may publish more. Where the slot holds a value, a walk that goes
+    /// on to its None gives it. It never waits, and takes no memory. Rust's crate has no such call.
+    pub fn iter(&self) -> Iter<'_, T>
+        ensures begins { result.cursor ≡ fresh_cursor }
+        ensures own { owed_value result.own ≡ self.now.value }
+        ensures shown { result.shown ≡ true }
+    {
+        match self.claim.look() {
+            Some(value) => self.core.walk_with(self.claim.id(), value),
+            None => self.core.walk(),
+        }
     }
 }
 

@@ -1,7 +1,8 @@
 //! The table that threads share.
-ghost use Rattle.std.specs.Prelude.{◌≡◌, ◌≤◌, ◌^◌, Err, IfOk};
+ghost use Rattle.std.specs.Prelude.{◌≡◌, ◌≤◌, ◌^◌, true, false, None, Err, IfOk};
 ghost use Rattle.thread_local_model.specs.Capacity.{reserved_slots};
 ghost use Rattle.thread_local_judged.specs.Judged.{Judged};
+ghost use Rattle.thread_local_shared_walk.specs.Walks.{fresh};
 
 use crate::local::Local;
 use crate::seat::Seat;
@@ -13,6 +14,7 @@ use std::sync::Wait;
 use thread_local_buckets::{Buckets, CapacityError, IntoIter, IterMut};
 use thread_local_judged::Judge;
 use thread_local_locked_ids::Ids;
+use thread_local_shared_walk::Iter;
 use thread_local_thread_id::LocalError;
 
 mod lends;
@@ -119,6 +121,16 @@ impl<T> ThreadLocal<T> {
     }
 }
 
+impl<T: Sync> ThreadLocal<T> {
+    /// The values by ascending id, each lent as `&`, while threads may publish more: one that is published behind the walk isn't given, and
+    /// one before it may be. It never waits, and takes no memory.
+    pub fn iter(&self) -> Iter<'_, T>
+        ensures { result ≡ fresh None true }
+    {
+        self.core.walk()
+    }
+}
+
 impl<T: Judge> MadeWith<Global> for ThreadLocal<T> {
     ghost is_made_with = { λ table. table.reserved ≡ 0 };
 
@@ -147,5 +159,19 @@ impl<'a, T> IntoIterator for &'a mut ThreadLocal<T> {
     /// The values by ascending id, each lent as `&mut`. It never waits, and takes no memory.
     fn into_iter(self) -> IterMut<'a, T> {
         self.iter_mut()
+    }
+}
+
+impl<'a, T: Sync> IntoIterator for &'a ThreadLocal<T> {
+    type Item = &'a T;
+
+    type IntoIter = Iter<'a, T>;
+
+    ghost into_iter_gives = { λ table walk. walk ≡ fresh None false };
+
+    /// The values by ascending id, each lent as `&`, as by `iter`. That threads may share them, which the walk's `next` asks for, is shown where
+    /// the walk is used: at most types and at a generic `T: Sync` the check finds it, and `judge_sync` shows it at others.
+    fn into_iter(self) -> Iter<'a, T> {
+        self.core.unshown_walk()
     }
 }

@@ -1,9 +1,10 @@
 //! What the places in a table share.
-ghost use Rattle.std.specs.Prelude.{◌≡◌, ◌≢◌, ◌-◌, ◌^◌, ◌<◌, IfOk};
+ghost use Rattle.std.specs.Prelude.{◌≡◌, ◌≢◌, ◌-◌, ◌^◌, ◌<◌, true, false, None, Some, IfOk};
 ghost use Rattle.thread_local_judged.specs.Judged.{Judged};
 ghost use Rattle.thread_local_model.specs.Learnt.{Missing};
 ghost use Rattle.thread_local_model.specs.Place.{bucket_of, id_at};
 ghost use Rattle.thread_local_claim.specs.Known.{IsKnown};
+ghost use Rattle.thread_local_shared_walk.specs.Walks.{fresh};
 
 use std::alloc::{AllocError, Global};
 use std::marker::Model;
@@ -13,6 +14,7 @@ use thread_local_claim::Claim;
 use thread_local_locked_ids::{Ids, LockedIds};
 use thread_local_rights::HeldId;
 use thread_local_shared_buckets::Shared;
+use thread_local_shared_walk::Iter;
 use thread_local_shared_word::Private;
 use thread_local_thread_id::{LocalError, Thread};
 
@@ -103,6 +105,13 @@ impl<T> Core<T> {
         self.buckets.judged();
     }
 
+    /// A walk over the values, of which it isn't shown that threads may share them. It takes no memory, and never waits.
+    pub(crate) fn unshown_walk(&self) -> Iter<'_, T>
+        ensures { result ≡ fresh None false }
+    {
+        Iter::unshown(&self.buckets)
+    }
+
     /// The buckets, for an owner, by value. The ids are gone. It takes no memory.
     pub(crate) fn into_buckets(self) -> Buckets<T>
         ensures { result.reserved ≡ self.reserved }
@@ -113,5 +122,22 @@ impl<T> Core<T> {
             alloc: _,
         } = self;
         buckets.into_buckets()
+    }
+}
+
+impl<T: Sync> Core<T> {
+    /// A walk over the values. It takes no memory, and never waits.
+    pub(crate) fn walk(&self) -> Iter<'_, T>
+        ensures { result ≡ fresh None true }
+    {
+        Iter::new(&self.buckets)
+    }
+
+    /// The same for whoever has the id, and holds this value there.
+    pub(crate) fn walk_with<'a>(&'a self, id: usize, value: &'a T) -> Iter<'a, T>
+        requires { id < 2 ^ 63 - 1 }
+        ensures { result ≡ fresh (Some (record { id = id; value = value.now })) true }
+    {
+        Iter::with_own(&self.buckets, id, value)
     }
 }

@@ -16,4 +16,6 @@ mod threads;
 #[cfg(test)]
 mod values;
 #[cfg(test)]
+mod walk_callers;
+#[cfg(test)]
 mod walks;

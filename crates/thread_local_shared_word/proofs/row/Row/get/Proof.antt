@@ -12,7 +12,7 @@ use denote.Steps.{looks, shuts}
 use denote.Memory.{hidden_shr, shared_of}
 use denote.Opens.{unhide, hide}
 use denote.Ref.{ShrRef}
-use denote.Param.Send.{IsSync}
+use Rattle.thread_local_judged.specs.Judged.{Shareable}
 use denote.Struct.Lending.{lent_out}
 use Rattle.std.specs.contracts.marker.PhantomData as marker
 use Rattle.std.specs.contracts.option.Option as Opt
@@ -53,8 +53,8 @@ get_spec {M} 𝓤 𝓛 𝓜 𝓡 wired T L =
     let ℓ = named_lft 3 1 tt κs in let D : RattleType = Words ℓ R in let b : ℕ = a.0.ref_ptr.0 in let o : ℕ = a.0.ref_ptr.1 in let κ : Lft = κs.0 in let β : Lft = κs.1.0 in let q : Share = qs.1.0 in
     let h = a.0.now in let p : Ptr = h.at in let d : WordView = h.of in let i : ℕ = a.1.0 in let rest : Fml = fsep (flft κs.1.1.0 qs.1.1.0) ftrue in let pb : ℕ = block_of p in let e : ℕ = i * stride R + count_of p in let G : RattleType = ShrRef (named 1) β R in
     let y : (walk_of 𝓛 En hs c).Ghost = ((κs, qs, bounds, a, (vptr b o ∷ [], (vint w64 i ∷ [], tt))), gh) in let Post : Val → SProp 𝓤 = (walk_of 𝓛 En hs c).post y in
-    qed 𝓛 (((‵ (flft κ qs.0) ⊛ ‵ (flft β q) ⊛ ‵ rest) ⊛ ‵ (owns (types_at En.signature.params κs) a y.0.4)) ∷ raw (fact 𝓤 _) ∷ raw (fact 𝓤 (IsSync R)) ∷ raw (fact 𝓤 (i < 2 ^ d.bucket)) ∷ []) ∵
-    keep ! (2 ∷ 3 ∷ 0 ∷ []) $ heard ! (IsSync R) (λ sync. heard ! (i < 2 ^ d.bucket) (λ near. split ! $ split3 ! $ move ! (3 ∷ []) $ fsplit3 ! $ fsplit ! $ keep ! (1 ∷ 4 ∷ 5 ∷ 6 ∷ []) $
+    qed 𝓛 (((‵ (flft κ qs.0) ⊛ ‵ (flft β q) ⊛ ‵ rest) ⊛ ‵ (owns (types_at En.signature.params κs) a y.0.4)) ∷ raw (fact 𝓤 _) ∷ raw (fact 𝓤 (Shareable R)) ∷ raw (fact 𝓤 (i < 2 ^ d.bucket)) ∷ []) ∵
+    keep ! (2 ∷ 3 ∷ 0 ∷ []) $ heard ! (Shareable R) (λ shareable. heard ! (i < 2 ^ d.bucket) (λ near. split ! $ split3 ! $ move ! (3 ∷ []) $ fsplit3 ! $ fsplit ! $ keep ! (1 ∷ 4 ∷ 5 ∷ 6 ∷ []) $
     enter ! 𝓣.C 𝓣.Λ fn (vptr b o ∷ vint w64 i ∷ []) Post $ alloc_all ! (λ l. pass_all ! refl ((tt, tt), ((tt, record { fits = are.1.0.1 }), tt)) $ let Ev = env fn.locals l in
     use1 𝓛 (‵ (hidden_shr D κ (p, (record {}, tt)) b o) ⊛ ‵ (fhide (row_owns R d β p)))
     (lent_out 𝓛 (Row.struct ℓ R) (Row.the_codes T.Denot R.coded (marker.the_row (ShrRef ℓ.mir ℓ.lft R)).coded) (Row.the_heap β R) (Row.the_lent β R) κ h b o) $
@@ -63,7 +63,7 @@ get_spec {M} 𝓤 𝓛 𝓜 𝓡 wired T L =
     let inb : InBlock p = subst InBlock so.0 long.1.0 in let at : p ≡ block_ptr pb (count_of p) = at_block p inb in
     let smaller : i * stride R < 2 ^ 64 = fits_word (i * stride R) (near_start R i (2 ^ d.bucket) near long.1.2) in
     let low : i < length sd.names = subst (λ (n : ℕ). i < n) (sym long.0) near in let at_e : e ≡ i * stride R + count_of sd.at = ap (λ (u : Ptr). i * stride R + count_of u) (sym so.0) in let at_b : block_of sd.at ≡ pb = ap block_of so.0 in
-    let lent = steps.lent 𝓛 R LR sync.shared d t z.2 z.3 sd i (i + first_id R d) e pb low refl at_e at_b in
+    let lent = steps.lent 𝓛 R LR shareable d t z.2 z.3 sd i (i + first_id R d) e pb low refl at_e at_b in
     move ! (2 ∷ 6 ∷ []) $ use2 𝓛 (later (some (λ (s : Share). ‵ (flft t.life s) ⊛ raw (wand 𝓤 (𝓛.A.lft t.life s) (H.⇛ (𝓛.A.lft β q)))))) (Lends-one 𝓛 𝓜 𝓡 β t.life q) $ await ! tt $ pick ! (λ s. split ! $
     -- [the life's token; the way back; which; before the block's own; the invariant; the fields; κ's token; the others]
     move ! (5 ∷ 6 ∷ []) $ first ! $ blocks ! $
@@ -79,7 +79,7 @@ get_spec {M} 𝓤 𝓛 𝓜 𝓡 wired T L =
     first ! $ blocks ! $ sets ! (addr ! (through ! refl (fld ! refl (stop !)))) refl (tt, tt) $ sets ! (agg ! (and_then ! (lit ! tt) (no_more !))) refl (tt, (record { fits = lit< tt }, tt)) $
     nothing ! $ move ! (5 ∷ 0 ∷ []) $ join ! $ move ! (6 ∷ 3 ∷ 0 ∷ []) $ let out : ℕ → Fml = λ n. fsep (flft t.life s) (by_flag lent n) in
     use3 𝓛 (raw (𝓣.C _ (vptr pb (e + 0) ∷ seq_cst ∷ []) (λ v. mean 𝓛 (found out v))))
-    (via 𝓤 _ (steps.looks 𝓛 R LR sync.shared d t z.2 z.3 sd i (i + first_id R d) e pb low refl at_e at_b s) (loads 𝓛 𝓜 𝓡 (code.calls-std::sync::atomic::raw::load 𝓡.env wired) (block_ptr pb (e + 0)) out)) $
+    (via 𝓤 _ (steps.looks 𝓛 R LR shareable d t z.2 z.3 sd i (i + first_id R d) e pb low refl at_e at_b s) (loads 𝓛 𝓜 𝓡 (code.calls-std::sync::atomic::raw::load 𝓡.env wired) (block_ptr pb (e + 0)) out)) $
     Calls-last ! (fm 𝓛 𝓜 𝓡) (found out) (and_then ! (get ! refl) (and_then ! (get ! refl) (no_more !))) (λ v. finds ! out (λ n fits.
     lands_last ! refl (tt, record { fits = fits }) $ exec ! 𝓣.C 𝓣.Λ Ev (after 3 fn.body) (at_ret Ev Post) $ sets ! (of_opd ! (get ! refl)) refl (tt, record { fits = fits }) $
     fsplit ! $ move ! (0 ∷ 4 ∷ []) $ use2 𝓛 (later (‵ (flft β q))) (apply∗ 𝓤 (𝓛.A.lft t.life s) (H.⇛ (𝓛.A.lft β q))) $ await ! tt $

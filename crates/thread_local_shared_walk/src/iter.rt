@@ -1,0 +1,131 @@
+//! The walk over the values of buckets that threads share.
+ghost use Rattle.std.specs.Prelude.{◌≡◌, ◌-◌, ◌^◌, ◌<◌, ◌⊎◌, true, false, None, Some, IfSome, is_some, option_map};
+ghost use Rattle.std.specs.Iterator.{UpTo};
+ghost use Rattle.std.specs.Iterator.SizeHint.{IsWithinCount};
+ghost use Rattle.thread_local_judged.specs.Judged.{Shareable};
+ghost use Rattle.thread_local_shared_walk.specs.Walks.{WalkView, fresh, Goes, CanGo, ids_left};
+
+use crate::shown::Shown;
+use crate::steps::{Own, advance};
+use std::fmt;
+use std::iter::FusedIterator;
+use std::marker::Model;
+use thread_local_contents::RawIter;
+use thread_local_shared_buckets::Shared;
+use thread_local_thread_id::Thread;
+
+/// The values of buckets that threads share, by ascending id, each lent as `&`, while others may publish more. A value that is published
+/// behind the walk isn't given, and one before it may be.
+///
+/// It is seen as the model's cursor, and the own value of whoever walks that it has still to give. It never waits, and takes no memory.
+#[derive(Drop)]
+pub struct Iter<'a, T> {
+    buckets: &'a Shared<T>,
+    raw: RawIter,
+    own: Option<Own<'a, T>>,
+    shown: Option<Shown<'a, T>>,
+}
+
+impl<'a, T> Model for Iter<'a, T> {
+    ghost use Rattle.std.specs.Prelude.{option_map, is_some};
+    ghost use Rattle.thread_local_shared_walk.specs.Walks.{WalkView, walk_view_coded};
+    ghost use Rattle.thread_local_shared_walk.specs.Places.{resting, owed, IsWalk};
+
+    ghost Value = { WalkView T };
+
+    ghost coded = { walk_view_coded T.code };
+
+    ghost view = { λ it. record { cursor = resting it.raw; own = option_map owed it.own; shown = is_some it.shown } };
+
+    ghost invariant = { λ it. IsWalk it.raw it.own };
+}
+
+impl<'a, T> Iter<'a, T> {
+    /// A walk of which it isn't shown that threads may share the values: whoever calls `next` shows it.
+    pub fn unshown(buckets: &'a Shared<T>) -> Iter<'a, T>
+        ensures { result ≡ fresh None false }
+    {
+        Iter {
+            buckets,
+            raw: RawIter::new(),
+            own: None,
+            shown: None,
+        }
+    }
+}
+
+impl<'a, T: Sync> Iter<'a, T> {
+    /// A walk.
+    pub fn new(buckets: &'a Shared<T>) -> Iter<'a, T>
+        ensures { result ≡ fresh None true }
+    {
+        Iter {
+            buckets,
+            raw: RawIter::new(),
+            own: None,
+            shown: Some(Shown::new()),
+        }
+    }
+
+    /// A walk for whoever has the id, and holds this value there. It gives that value at the id, and loads no flag there.
+    pub fn with_own(buckets: &'a Shared<T>, id: usize, value: &'a T) -> Iter<'a, T>
+        requires { id < 2 ^ 63 - 1 }
+        ensures { result ≡ fresh (Some (record { id = id; value = value.now })) true }
+    {
+        Iter {
+            buckets,
+            raw: RawIter::new(),
+            own: Some(Own {
+                thread: Thread::new(id),
+                value,
+            }),
+            shown: Some(Shown::new()),
+        }
+    }
+}
+
+/// Shows that threads may share the values, where it was shown before or their type says so. At run time it does nothing.
+#[inline]
+fn tell<T>(shown: &Option<Shown<'_, T>>)
+    requires can_go { (is_some shown.now ≡ true) ⊎ Shareable T.row }
+    ensures shareable { Shareable T.row }
+{
+    match shown {
+        Some(shown) => shown.tell(),
+        None => {}
+    }
+}
+
+impl<'a, T: Sync> Iterator for Iter<'a, T> {
+    type Item = &'a T;
+
+    ghost can_next = { CanGo T.row };
+
+    ghost next_gives = { Goes };
+
+    ghost remaining = { ids_left };
+
+    /// The value of the next slot in which a look finds one. It loads the word of the bucket that it is in again, and of each that it comes
+    /// to, and the flag of each slot that it comes to but the own one's.
+    fn next(&mut self) -> Option<&'a T> {
+        tell(&self.shown);
+        advance(self.buckets, &mut self.raw, &mut self.own)
+    }
+
+    /// No value and no bound: others publish meanwhile.
+    fn size_hint(&self) -> (usize, Option<usize>)
+        ensures hint { result ≡ (0, None) }
+        ensures lower { IsWithinCount result.0 (ids_left self.now) }
+        ensures upper { IfSome result.1 (UpTo (ids_left self.now)) }
+    {
+        (0, None)
+    }
+}
+
+impl<T: Sync> FusedIterator for Iter<'_, T> {}
+
+impl<T: fmt::Debug> fmt::Debug for Iter<'_, T> {
+    fn fmt<W: fmt::Write>(&self, f: &mut fmt::Formatter<W>) -> fmt::Result {
+        f.debug_struct("Iter").field("raw", &self.raw).finish()
+    }
+}

@@ -1,0 +1,158 @@
+//! How a walk finds its next value.
+ghost use Rattle.std.specs.Prelude.{◌≡◌, ◌≢◌, ◌-◌, ◌^◌, ◌<◌, ◌≤◌, true, false, None, Some, IfSome, IfNone, MatchOption, MatchBool, option_map};
+ghost use Rattle.thread_local_judged.specs.Judged.{Shareable};
+ghost use Rattle.thread_local_shared_walk.specs.Places.{resting, next_bucket, past, at_index, search_end, owed, lies_in, IsWalk};
+ghost use Rattle.thread_local_shared_walk.specs.Walks.{Gives, Ends};
+
+use thread_local_contents::RawIter;
+use thread_local_shared_buckets::Shared;
+use thread_local_shared_word::Row;
+use thread_local_thread_id::{BUCKETS, Thread};
+
+/// The own value of whoever walks, and its place.
+#[derive(Drop)]
+pub(crate) struct Own<'a, T> {
+    pub(crate) thread: Thread,
+    pub(crate) value: &'a T,
+}
+
+/// Moves on to the next bucket.
+#[inline]
+fn pass(raw: &mut RawIter)
+    requires in_table { raw.old.bucket < 63 }
+    requires size { raw.old.bucket_size ≡ 2 ^ raw.old.bucket }
+    ensures { raw.new ≡ next_bucket raw.old }
+{
+    raw.bucket += 1;
+    raw.bucket_size *= 2;
+    raw.index = 0;
+}
+
+/// Whether the own value lies in a bucket.
+#[inline]
+fn is_in<T>(own: &Option<Own<'_, T>>, bucket: usize) -> bool
+    ensures { result ≡ lies_in own.now bucket }
+{
+    match own {
+        Some(own) => own.thread.bucket == bucket,
+        None => false,
+    }
+}
+
+/// Gives the own value where it lies in the bucket, and else moves on to the next bucket.
+#[inline]
+fn give_own<'a, T>(raw: &mut RawIter, own: &mut Option<Own<'a, T>>) -> Option<&'a T>
+    requires in_table { raw.old.bucket < 63 }
+    requires size { raw.old.bucket_size ≡ 2 ^ raw.old.bucket }
+    requires yielded { raw.old.yielded < 2 ^ 63 }
+    ensures none { IfNone result ((lies_in own.old raw.old.bucket ≡ false) × (raw.new ≡ next_bucket raw.old) × (own.new ≡ own.old)) }
+    ensures some { IfSome result (λ x. (lies_in own.old raw.old.bucket ≡ true) × (own.new ≡ None) × IfSome own.old (λ o. (x.now ≡ o.value.now) × (raw.new ≡ past raw.old o.thread.index))) }
+{
+    if !is_in(own, raw.bucket) {
+        pass(raw);
+        return None;
+    }
+    let Own { thread, value } = own.take()?;
+    raw.index = thread.index + 1;
+    raw.yielded += 1;
+    Some(value)
+}
+
+/// The first value of the row from the walk's index on, but before an end. Each look is one atomic load.
+#[inline]
+fn search<'a, T>(row: &Row<'a, T>, raw: &mut RawIter, end: usize) -> Option<&'a T>
+    requires shareable { Shareable T.row }
+    requires of { row.now.of.bucket ≡ raw.old.bucket }
+    requires end { end ≤ 2 ^ raw.old.bucket }
+    requires from { raw.old.index ≤ end }
+    requires yielded { raw.old.yielded < 2 ^ 63 }
+    ensures none { IfNone result (raw.new ≡ at_index raw.old end) }
+    ensures some { IfSome result (λ _. (raw.old.index < raw.new.index) × (raw.new.index ≤ end) × (raw.new ≡ past raw.old (raw.new.index - 1))) }
+{
+    for index in raw.index..end {
+        if let Some(value) = row.get(index) {
+            raw.index = index + 1;
+            raw.yielded += 1;
+            return Some(value);
+        }
+    }
+    raw.index = end;
+    None
+}
+
+/// Where the search of a bucket ends: at the own value, if it lies there, and else at the bucket's end.
+#[inline]
+fn search_end<T>(raw: &RawIter, own: &Option<Own<'_, T>>) -> usize
+    ensures { result ≡ search_end raw.now own.now }
+{
+    match own {
+        Some(own) => {
+            if own.thread.bucket == raw.bucket {
+                own.thread.index
+            } else {
+                raw.bucket_size
+            }
+        }
+        None => raw.bucket_size,
+    }
+}
+
+/// What the walk gives of a bucket that stands, from its index on: a value that is found, or the own one. Where there is none, it moves on.
+#[inline]
+fn in_row<'a, T>(row: &Row<'a, T>, raw: &mut RawIter, own: &mut Option<Own<'a, T>>) -> Option<&'a T>
+    requires shareable { Shareable T.row }
+    requires of { row.now.of.bucket ≡ raw.old.bucket }
+    requires in_table { raw.old.bucket < 63 }
+    requires walk { IsWalk raw.old own.old }
+    ensures walk { IsWalk raw.new own.new }
+    ensures none { IfNone result ((own.new ≡ own.old) × (raw.new ≡ next_bucket raw.old)) }
+    ensures some { IfSome result (λ x. Gives (resting raw.old) (option_map owed own.old) x.now (resting raw.new) (option_map owed own.new)) }
+{
+    let end = search_end(raw, own);
+    if let Some(value) = search(row, raw, end) {
+        return Some(value);
+    }
+    give_own(raw, own)
+}
+
+/// The same of a bucket whose word was loaded. Where the own value lies in it, it stands.
+#[inline]
+fn in_bucket<'a, T>(
+    row: Option<Row<'a, T>>,
+    raw: &mut RawIter,
+    own: &mut Option<Own<'a, T>>,
+) -> Option<&'a T>
+    requires shareable { Shareable T.row }
+    requires of { IfSome row (λ row. row.of.bucket ≡ raw.old.bucket) }
+    requires in_table { raw.old.bucket < 63 }
+    requires walk { IsWalk raw.old own.old }
+    ensures walk { IsWalk raw.new own.new }
+    ensures none { IfNone result ((own.new ≡ own.old) × (raw.new ≡ next_bucket raw.old)) }
+    ensures some { IfSome result (λ x. Gives (resting raw.old) (option_map owed own.old) x.now (resting raw.new) (option_map owed own.new)) }
+{
+    match row {
+        Some(row) => in_row(&row, raw, own),
+        None => give_own(raw, own),
+    }
+}
+
+/// What the walk gives next. It loads the word of the bucket that it is in, and of each further one that it comes to.
+#[inline]
+pub(crate) fn advance<'a, T>(
+    buckets: &'a Shared<T>,
+    raw: &mut RawIter,
+    own: &mut Option<Own<'a, T>>,
+) -> Option<&'a T>
+    requires shareable { Shareable T.row }
+    requires walk { IsWalk raw.old own.old }
+    ensures walk { IsWalk raw.new own.new }
+    ensures goes { MatchOption result (Ends (resting raw.old) (option_map owed own.old) (resting raw.new) (option_map owed own.new)) (λ x. Gives (resting raw.old) (option_map owed own.old) x.now (resting raw.new) (option_map owed own.new)) }
+{
+    for bucket in raw.bucket..BUCKETS {
+        let row = buckets.load(bucket);
+        if let Some(value) = in_bucket(row, raw, own) {
+            return Some(value);
+        }
+    }
+    None
+}
