@@ -1,4 +1,5 @@
 //! Callers at concrete types and generic ones, which are proved and not run.
 mod buckets;
 mod claims;
+mod judged;
 mod words;

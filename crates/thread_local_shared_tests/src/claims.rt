@@ -1,5 +1,5 @@
 //! Claims that are forgotten, sent or shared, and those of reserved buckets.
-use crate::steps::{look, publish, publish_claimed};
+use crate::steps::{first_three, look, publish, publish_claimed};
 use std::cell::Cell;
 use std::mem::forget;
 use std::test::Fail;
@@ -44,21 +44,19 @@ fn a_forgotten_claim_costs_its_own_slot(rt: HostRuntime) -> Result<(), Fail> {
     let claimed = Kept {
         claim: shared.claim(first),
     };
-    assert_eq!(rt; claimed.claim.get().copied(), Some(5));
+    let found = claimed.claim.get().copied();
     forget(claimed);
     forget(Kept {
         claim: shared.claim(second),
     });
     let (_third, published) = publish(&shared, third, rt.alloc(), 6);
-    assert!(rt; published);
+    assert_eq!(rt; (found, published), (Some(5), true));
+    let seen = [look(&shared, 0), look(&shared, 1), look(&shared, 2)];
+    assert_eq!(rt; seen, [Some(5), None, Some(6)]);
     assert_eq!(rt;
-        (look(&shared, 0), look(&shared, 1), look(&shared, 2)),
-        (Some(5), None, Some(6))
+        first_three(shared.into_buckets()),
+        [Some(5), Some(6), None]
     );
-    let mut values = shared.into_buckets().into_iter();
-    assert_eq!(rt; values.next(), Some(5));
-    assert_eq!(rt; values.next(), Some(6));
-    assert_eq!(rt; values.next(), None);
     Ok(())
 }
 
@@ -99,16 +97,20 @@ fn threads_share_a_claim(rt: HostRuntime) -> Result<(), Fail> {
 fn reserved_buckets_stand(rt: HostRuntime) -> Result<(), Fail> {
     let mut ids = Ids::new(rt.alloc());
     let shared = Shared::new(Buckets::with_capacity(rt.alloc(), 4)?, ids.rights());
-    assert_eq!(rt; shared.reserved(), 7);
-    for bucket in 0..4usize {
-        assert_eq!(rt; shared.load(bucket).is_some(), bucket < 3);
-    }
+    let stand = [
+        shared.load(0).is_some(),
+        shared.load(2).is_some(),
+        shared.load(3).is_some(),
+    ];
+    assert_eq!(rt; (shared.reserved(), stand), (7, [true, true, false]));
     let claim = shared.claim(ids.take()?);
-    assert!(rt; !claim.is_missing());
-    assert!(rt; claim.get().is_none());
-    assert!(rt; publish_claimed(claim, 1u32).1);
+    let is_vacant = !claim.is_missing() && claim.get().is_none();
+    let published = publish_claimed(claim, 1).1;
     let mut buckets = shared.into_buckets();
-    assert_eq!(rt; buckets.slots(), 7);
-    assert_eq!(rt; buckets.into_iter().next(), Some(1));
+    let slots = buckets.slots();
+    assert_eq!(rt;
+        (is_vacant, published, slots, first_three(buckets)),
+        (true, true, 7, [Some(1), None, None])
+    );
     Ok(())
 }

@@ -38,10 +38,9 @@ fn each_value_is_dropped_once(rt: HostRuntime) -> Result<(), Fail> {
     }
     judge_sync::<Counted>();
     let shared = Shared::new(buckets, &rights);
-    assert!(rt; shared.load(3).is_some());
-    assert_eq!(rt; drops.load(SeqCst), 0);
+    let before = drops.load(SeqCst);
     drop(shared);
-    assert_eq!(rt; drops.load(SeqCst), 100);
+    assert_eq!(rt; (before, drops.load(SeqCst)), (0, 100));
     Ok(())
 }
 
@@ -83,15 +82,15 @@ fn each_published_value_is_dropped_once(rt: HostRuntime) -> Result<(), Fail> {
     judge_sync::<Counted>();
     let shared = Shared::new(Buckets::new(rt.alloc()), ids.rights());
     let ids = LockedIds::new(ids);
-    assert_eq!(rt;
-        publish_counted(&shared, &ids, &rt, rt.alloc(), &drops, 100),
-        100
-    );
-    assert_eq!(rt; drops.load(SeqCst), 100);
+    let published = publish_counted(&shared, &ids, &rt, rt.alloc(), &drops, 100);
+    let given_way = drops.load(SeqCst);
     let mut values = shared.into_buckets().into_iter();
-    assert!(rt; values.next().is_some());
-    assert_eq!(rt; drops.load(SeqCst), 101);
+    drop(values.next());
+    let taken = drops.load(SeqCst);
     drop(values);
-    assert_eq!(rt; drops.load(SeqCst), 200);
+    assert_eq!(rt;
+        [published, given_way, taken, drops.load(SeqCst)],
+        [100, 100, 101, 200]
+    );
     Ok(())
 }

@@ -13,7 +13,7 @@ use thread_local_judged::{Judge, judge_sync};
 use thread_local_locked_ids::Ids;
 use thread_local_rights::HeldId;
 use thread_local_shared_buckets::Shared;
-use thread_local_thread_id::{LocalError, Thread};
+use thread_local_thread_id::Thread;
 
 /// Adds to the number at an id, and answers what was there.
 fn add(shared: &Shared<Cell<u64>>, held: HeldId, more: u64) -> (HeldId, Option<u64>)
@@ -58,13 +58,14 @@ fn a_number_is_handed_on_from_thread_to_thread(rt: HostRuntime) -> Result<(), Fa
     let alloc = rt.alloc();
     let there = &shared;
     let (first, _) = thread::join(&rt, || publish(there, held, alloc, Cell::new(7)), || ());
-    assert!(rt; first.1);
-    let held = first.0;
+    let (held, published) = first;
     let (second, _) = thread::join(&rt, || add(there, held, 5), || ());
-    assert_eq!(rt; second.1, Some(7));
-    let mut values = shared.into_buckets().into_iter();
-    assert_eq!(rt; values.next().map(|cell| cell.get()), Some(12));
-    assert!(rt; values.next().is_none());
+    let found = second.1;
+    let left = shared.into_buckets().into_iter().next();
+    assert_eq!(rt;
+        (published, found, left.map(|cell| cell.get())),
+        (true, Some(7), Some(12))
+    );
     Ok(())
 }
 
@@ -75,49 +76,51 @@ fn a_walker_sees_a_value_that_is_claimed(rt: HostRuntime) -> Result<(), Fail> {
     assert!(rt; buckets.insert(Thread::new(0), 9).is_ok());
     let mut shared = Shared::new(buckets, ids.rights());
     let held = ids.take()?;
-    assert_eq!(rt; look_while_claimed(&rt, &shared, held), (Some(9), Some(9)));
-    assert_eq!(rt; look(&shared, 1), None);
+    let (own, seen) = look_while_claimed(&rt, &shared, held);
+    assert_eq!(rt; [own, seen, look(&shared, 1)], [Some(9), Some(9), None]);
     assert!(rt; shared.owner().insert(Thread::new(1), 4).is_ok());
-    assert_eq!(rt;
-        (look(&shared, 0), look(&shared, 1), look(&shared, 2)),
-        (Some(9), Some(4), None)
-    );
+    let seen = [look(&shared, 0), look(&shared, 1), look(&shared, 2)];
+    assert_eq!(rt; seen, [Some(9), Some(4), None]);
     Ok(())
 }
 
-/// Publishes a value in shared buckets of its own, and takes it back out of them.
-fn handed_back<T: Send + Drop>(alloc: Global, value: T) -> Result<Option<T>, LocalError>
+/// Publishes a value in shared buckets of its own, and takes it back out of them. Answers whether it comes back as it was.
+fn comes_back<T: Send + Drop, F: FnOnce(T) -> bool + Drop>(
+    alloc: Global,
+    value: T,
+    is_it: F,
+) -> bool
     requires judged { Judged T.row }
+    requires callable { (x : T) → F.pre is_it x }
 {
     let mut ids = Ids::new(alloc);
     let shared = Shared::new(Buckets::new(alloc), ids.rights());
-    let held = ids.take()?;
+    let Ok(held) = ids.take() else {
+        return false;
+    };
     let (_held, _published) = publish(&shared, held, alloc, value);
-    let mut values = shared.into_buckets().into_iter();
-    Ok(values.next())
+    match shared.into_buckets().into_iter().next() {
+        Some(value) => is_it(value),
+        None => false,
+    }
 }
 
 #[test]
 fn values_of_any_type_come_back(rt: HostRuntime) -> Result<(), Fail> {
-    assert_eq!(rt; handed_back(rt.alloc(), 7u32)?, Some(7));
-    assert_eq!(rt;
-        handed_back(rt.alloc(), Box::new(rt.alloc(), 7u32)?)?.map(|boxed| *boxed),
-        Some(7)
-    );
+    let alloc = rt.alloc();
+    let boxed = Box::new(alloc, 7u32)?;
+    let text = String::from_str(alloc, "seven")?;
+    let held = RefCell::new(String::from_str(alloc, "seven")?);
     judge_sync::<String>();
-    let text = handed_back(rt.alloc(), String::from_str(rt.alloc(), "seven")?)?;
-    assert_eq!(rt; text.as_deref(), Some("seven"));
     Cell::<u64>::judge();
-    let cell = handed_back(rt.alloc(), Cell::new(7u64))?;
-    assert_eq!(rt; cell.map(|cell| cell.get()), Some(7));
     RefCell::<String>::judge();
-    let text = handed_back(
-        rt.alloc(),
-        RefCell::new(String::from_str(rt.alloc(), "seven")?),
-    )?;
-    assert_eq!(rt;
-        text.map(|cell| cell.into_inner()).as_deref(),
-        Some("seven")
-    );
+    let come_back = [
+        comes_back(alloc, 7u32, |number| number == 7),
+        comes_back(alloc, boxed, |boxed| *boxed == 7),
+        comes_back(alloc, text, |text| text.as_str() == "seven"),
+        comes_back(alloc, Cell::new(7u64), |cell| cell.get() == 7),
+        comes_back(alloc, held, |held| held.into_inner().as_str() == "seven"),
+    ];
+    assert_eq!(rt; come_back, [true; 5]);
     Ok(())
 }

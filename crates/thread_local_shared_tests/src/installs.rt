@@ -2,7 +2,7 @@
 ghost use Rattle.std.specs.Prelude.{◌≡◌, ◌<◌};
 ghost use Rattle.thread_local_model.specs.Place.{bucket_of};
 
-use crate::steps::{look, publish_claimed};
+use crate::steps::{first_three, look, publish_claimed};
 use std::alloc::Global;
 use std::cell::{Cell, RefCell};
 use std::sync::Wait;
@@ -145,17 +145,18 @@ fn the_second_of_two_blocks_gives_way(rt: HostRuntime) -> Result<(), Fail> {
     let second = claim_early(&shared, ids.take()?);
     let third = claim_early(&shared, ids.take()?);
     let second = second.offered(rt.alloc()).expect(&rt, "an offer");
-    assert_eq!(rt; look(&shared, 1), None);
-    assert!(rt; publish_claimed(second, 1).1);
+    let before = look(&shared, 1);
+    let first = publish_claimed(second, 1).1;
     let third = third.offered(rt.alloc()).expect(&rt, "an offer");
-    assert_eq!(rt; look(&shared, 1), Some(1));
-    assert!(rt; publish_claimed(third, 2).1);
+    let after = look(&shared, 1);
+    let published = [first, publish_claimed(third, 2).1];
+    assert_eq!(rt; (before, after, published), (None, Some(1), [true; 2]));
     let mut buckets = shared.into_buckets();
-    assert_eq!(rt; buckets.slots(), 2);
-    let mut values = buckets.into_iter();
-    assert_eq!(rt; values.next(), Some(1));
-    assert_eq!(rt; values.next(), Some(2));
-    assert_eq!(rt; values.next(), None);
+    let slots = buckets.slots();
+    assert_eq!(rt;
+        (slots, first_three(buckets)),
+        (2, [Some(1), Some(2), None])
+    );
     Ok(())
 }
 
@@ -177,9 +178,12 @@ fn an_early_claim_finds_its_bucket_later(rt: HostRuntime) -> Result<(), Fail> {
     let _first = ids.take()?;
     let second = claim_early(&shared, ids.take()?);
     let third = claim_early(&shared, ids.take()?);
-    assert!(rt; third.offer(rt.alloc()));
-    assert!(rt; publish_late(second.into_claim(), 5));
-    assert_eq!(rt; look(&shared, 1), Some(5));
+    let offered = third.offer(rt.alloc());
+    let published = publish_late(second.into_claim(), 5);
+    assert_eq!(rt;
+        (offered, published, look(&shared, 1)),
+        (true, true, Some(5))
+    );
     Ok(())
 }
 
@@ -199,9 +203,12 @@ fn made<T>(alloc: Global, bucket: usize) -> bool
 #[test]
 fn a_private_block_is_made_at_any_type(rt: HostRuntime) {
     let alloc = rt.alloc();
-    assert!(rt; made::<u32>(alloc, 3));
-    assert!(rt; made::<String>(alloc, 0));
-    assert!(rt; made::<Cell<u64>>(alloc, 5));
-    assert!(rt; made::<RefCell<String>>(alloc, 5));
-    assert!(rt; !made::<u64>(alloc, 62));
+    let are_made = [
+        made::<u32>(alloc, 3),
+        made::<String>(alloc, 0),
+        made::<Cell<u64>>(alloc, 5),
+        made::<RefCell<String>>(alloc, 5),
+        made::<u64>(alloc, 62),
+    ];
+    assert_eq!(rt; are_made, [true, true, true, true, false]);
 }

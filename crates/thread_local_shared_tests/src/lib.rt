@@ -12,8 +12,6 @@ mod handing;
 #[cfg(test)]
 mod installs;
 #[cfg(test)]
-mod judged;
-#[cfg(test)]
 mod races;
 #[cfg(test)]
 mod steps;

@@ -2,6 +2,7 @@
 ghost use Rattle.std.specs.Prelude.{◌≡◌, ◌-◌, ◌^◌, ◌<◌};
 
 use std::alloc::Global;
+use thread_local_buckets::Buckets;
 use thread_local_claim::Claim;
 use thread_local_rights::HeldId;
 use thread_local_shared_buckets::Shared;
@@ -36,6 +37,12 @@ pub fn publish_claimed<T: Drop>(claim: Claim<'_, T>, value: T) -> (HeldId, bool)
     }
     claim.publish(value);
     (claim.leave(), true)
+}
+
+/// What an owner's walk gives first, second and third.
+pub fn first_three(buckets: Buckets<u32>) -> [Option<u32>; 3] {
+    let mut values = buckets.into_iter();
+    [values.next(), values.next(), values.next()]
 }
 
 /// What a walker finds at an id.
