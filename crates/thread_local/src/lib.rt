@@ -37,5 +37,5 @@ pub mod table;
 pub mod thread_id;
 
 pub use cached::{CachedIntoIter, CachedIterMut, CachedThreadLocal};
-pub use iter::{IntoIter, IterMut};
+pub use iter::{IntoIter, Iter, IterMut};
 pub use table::ThreadLocal;

@@ -4,3 +4,4 @@
 pub mod bounded;
 pub mod cache;
 pub mod formatting;
+pub mod registry;

@@ -10,3 +10,5 @@ mod moves;
 mod run;
 #[cfg(test)]
 mod scratch;
+#[cfg(test)]
+mod written_rule;
