@@ -6,3 +6,5 @@ pub mod examples;
 mod moves;
 #[cfg(test)]
 mod run;
+#[cfg(test)]
+mod tally;
