@@ -51,13 +51,12 @@ fn start_and_join<R: Threads + Wait + Sync, G: Gate + Sync>(
     thread::scope(thread::scope_env(), rt, |scope| {
         let mut started = Vec::new(alloc);
         for worker in 0..workers {
-            match scope.spawn(move || add(rt, sums, worker, workers, numbers, gate)) {
-                Ok(handle) => {
-                    if started.push(handle).is_err() {
-                        return Err(LocalError::Memory(AllocError));
-                    }
-                }
-                Err(_) => return Err(LocalError::Memory(AllocError)),
+            let Ok(handle) = scope.spawn(move || add(rt, sums, worker, workers, numbers, gate))
+            else {
+                return Err(LocalError::Memory(AllocError));
+            };
+            if started.push(handle).is_err() {
+                return Err(LocalError::Memory(AllocError));
             }
         }
         for handle in started {

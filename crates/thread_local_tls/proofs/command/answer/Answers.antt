@@ -1,4 +1,4 @@
-use Rattle.std.proofs.Common.{◌≡◌, ℕ, List, Option, Result, Ok, Err, OnOk, inr, sym, ◌∙◌}
+use Rattle.std.proofs.Common.{ℕ, List, Option, Result, Ok, Err, OnOk, inr, sym, ◌∙◌}
 use Rattle.thread_local_thread_id.specs.declared.manager.LocalError.{LocalError}
 use Rattle.thread_local_tls.specs.Words.{texts, IsTally}
 use Rattle.thread_local_tls.specs.Faults.{Answers, IsToldAndWritten}
