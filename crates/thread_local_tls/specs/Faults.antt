@@ -1,7 +1,7 @@
-use Rattle.std.specs.Prelude.{ℕ, ◌⊎◌, List, [], ◌∷◌, Option, Result, Ok, codes}
+use Rattle.std.specs.Prelude.{ℕ, ◌⊎◌, List, [], ◌∷◌, Option, Result, Ok, MatchOption, codes}
 use Rattle.std.specs.Io.KnownBytes.{Appends, Keeps}
 use Rattle.thread_local_tls.specs.Moves.{ids_given}
-use Rattle.thread_local_tls.specs.Words.{IsRunnable, IsTally, lines_of}
+use Rattle.thread_local_tls.specs.Words.{IsRunnable, MayBeRun, tally_of, lines_of}
 use Rattle.thread_local_thread_id.specs.declared.manager.LocalError.{LocalError}
 use Rattle.thread_local_tls.specs.declared.fault.Fault.{Fault}
 use Rattle.thread_local_tls.specs.declared.fault.Fault.TheVariants.{Usage, Memory, Write}
@@ -36,15 +36,10 @@ pub record IsToldAndWritten (told : Result ℕ LocalError → Type 0) (old new :
   pub is_told : told (Ok total)
   pub written : Appends old new (lines_of (total ∷ []))
 
--- the words spell a tally within the limits, and its total is written
-pub record AnswersTally (told : ℕ → ℕ → Result ℕ LocalError → Type 0) (words : List (List ℕ)) (old new : Option (List ℕ)) : Type 0 where
-  pub tally : IsTally words
-  pub answered : IsToldAndWritten (told tally.workers tally.numbers) old new
-
--- the words spell what may be run, and its answer is written
+-- what is written answers the words: the total that was told where they spell a tally, and else the ids of the moves that they spell
 abbrev pub Answers : (ℕ → ℕ → Result ℕ LocalError → Type 0) → List (List ℕ) → Option (List ℕ) → Option (List ℕ) → Type 0
-Answers told words old new = AnswersIds words old new ⊎ AnswersTally told words old new
+Answers told words old new = MatchOption (tally_of words) (AnswersIds words old new) (λ tally. IsToldAndWritten (told tally.0 tally.1) old new)
 
 -- what is known where memory was refused or a write failed: nothing is written, or the words spell what may be run
 abbrev pub IsHindered : List (List ℕ) → Option (List ℕ) → Option (List ℕ) → Type 0
-IsHindered words old new = Keeps old new ⊎ (IsRunnable words ⊎ IsTally words)
+IsHindered words old new = Keeps old new ⊎ MayBeRun words

@@ -51,11 +51,9 @@ pub record IsRunnable (words : List (List ℕ)) : Type 0 where
   pub spelled : moves_named words ≡ Some moves
   pub may_run : MayRun [] moves
 
--- the words spell a tally within the limits
-pub record IsTally (words : List (List ℕ)) : Type 0 where
-  pub workers : ℕ
-  pub numbers : ℕ
-  pub spelled : tally_of words ≡ Some (workers, numbers)
+-- the words spell what may be run: a tally within the limits, or else such moves
+abbrev pub MayBeRun : List (List ℕ) → Type 0
+MayBeRun words = MatchOption (tally_of words) (IsRunnable words) (λ tally. Unit {0})
 
 -- the words spell no moves, or moves that give back an id that isn't held
 abbrev pub MayNotRun : List (List ℕ) → Type 0

@@ -1,6 +1,6 @@
-ghost use Rattle.std.specs.Prelude.{◌≡◌, ◌≤◌, ◌⊎◌, None, Some, OnOk, IfErr, IsErrOf};
+ghost use Rattle.std.specs.Prelude.{◌≡◌, ◌≤◌, None, Some, OnOk, IfErr, IsErrOf};
 ghost use Rattle.std.specs.Io.KnownBytes.{Appends, Keeps};
-ghost use Rattle.thread_local_tls.specs.Words.{texts, tally_of, lines_of, MayNotRun, IsMisuse, IsRunnable, IsTally};
+ghost use Rattle.thread_local_tls.specs.Words.{texts, tally_of, lines_of, MayNotRun, IsMisuse, IsRunnable, MayBeRun};
 ghost use Rattle.thread_local_tls.specs.Limits.{IsWithinLimits};
 ghost use Rattle.thread_local_tls.specs.Faults.{Answers, AnswersIds, IsToldAndWritten, IsHindered};
 
@@ -45,7 +45,7 @@ fn answer<T: FnOnce(usize, u64) -> Result<u64, LocalError> + Drop, O: Write>(
     ensures done { OnOk result (Answers (T.post tally) (texts words.now) (O.contents out.old) (O.contents out.new)) }
     ensures misuse { IsErrOf result Fault.Usage → IsMisuse (texts words.now) × Keeps (O.contents out.old) (O.contents out.new) }
     ensures memory { IsErrOf result Fault.Memory → Keeps (O.contents out.old) (O.contents out.new) }
-    ensures write { IsErrOf result Fault.Write → IsRunnable (texts words.now) ⊎ IsTally (texts words.now) }
+    ensures write { IsErrOf result Fault.Write → MayBeRun (texts words.now) }
 {
     match tally_of(words) {
         Some((workers, numbers)) => answer_tally(workers, numbers, tally, out),
