@@ -1,16 +1,18 @@
-//! Times the calls of a table, of an owner's buckets and of the id manager: a line for each workload, with its name and the nanoseconds of one
-//! operation, the least of several rounds. The argument is the number of rounds. With none each workload runs once, on few ids, and
-//! its name alone is printed. With `locks N` it compares two locks over N pairs of taking and giving.
+//! Times the calls of a table, alone and by threads, of an owner's buckets and of the id manager: a line for each workload, with its name
+//! and the nanoseconds of one operation, the least of several rounds. The argument is the number of rounds. With none each workload runs
+//! once, on few ids, and its name alone is printed. With `locks N` it compares two locks over N pairs of taking and giving.
 #![tactic(auto)]
 
 mod ids;
 mod lock;
 mod table;
 mod values;
+mod workers;
 
 use std::alloc::Global;
 use std::io;
 use std::sync::Wait;
+use std::thread::Threads;
 use std::time::{Clock, Duration};
 
 /// What one round of a workload made: how many operations, and in what time.
@@ -34,10 +36,12 @@ enum Workload {
     Clear,
     IdsFew,
     IdsMany,
+    TallyFourThreads,
+    ThreadComeAndGo,
 }
 
 impl Workload {
-    const ALL: [Workload; 11] = [
+    const ALL: [Workload; 13] = [
         Workload::GetHit,
         Workload::GetOrHit,
         Workload::NewFirstDrop,
@@ -49,6 +53,8 @@ impl Workload {
         Workload::Clear,
         Workload::IdsFew,
         Workload::IdsMany,
+        Workload::TallyFourThreads,
+        Workload::ThreadComeAndGo,
     ];
 
     /// The workload's name, as it is printed.
@@ -65,11 +71,18 @@ impl Workload {
             Workload::Clear => "clear",
             Workload::IdsFew => "ids_few",
             Workload::IdsMany => "ids_many",
+            Workload::TallyFourThreads => "tally_4_threads",
+            Workload::ThreadComeAndGo => "thread_come_and_go",
         }
     }
 
     /// Runs the workload once: on many ids, or on few.
-    fn round<R: Clock + Wait>(self, rt: &R, alloc: Global, many: bool) -> io::Result<Round> {
+    fn round<R: Clock + Threads + Wait + Sync>(
+        self,
+        rt: &R,
+        alloc: Global,
+        many: bool,
+    ) -> io::Result<Round> {
         let values: u32 = if many { 1 << 20 } else { 100 };
         let reserved: u32 = if many { (1 << 20) - 1 } else { 100 };
         let hits: u64 = if many { 50_000_000 } else { 100 };
@@ -77,6 +90,8 @@ impl Workload {
         let few: u64 = if many { 10_000_000 } else { 100 };
         let held: u32 = if many { 100_000 } else { 100 };
         let pairs: u64 = if many { 5_000_000 } else { 100 };
+        let numbers: u64 = if many { 4_000_000 } else { 100 };
+        let threads: u64 = if many { 2_000 } else { 10 };
         match self {
             Workload::GetHit => table::get_hit(rt, alloc, hits, u64::from(many)),
             Workload::GetOrHit => table::get_or_hit(rt, alloc, hits, u64::from(many)),
@@ -89,6 +104,8 @@ impl Workload {
             Workload::Clear => values::clear(rt, alloc, values),
             Workload::IdsFew => ids::few(rt, alloc, few),
             Workload::IdsMany => ids::many(rt, alloc, held, pairs),
+            Workload::TallyFourThreads => workers::tally_4_threads(rt, alloc, numbers),
+            Workload::ThreadComeAndGo => workers::thread_come_and_go(rt, alloc, threads),
         }
     }
 }
@@ -121,7 +138,7 @@ fn main(rt: HostRuntime) -> io::Result<()> {
 }
 
 /// The picoseconds of one operation, in the round that took the least.
-fn least<R: Clock + Wait>(
+fn least<R: Clock + Threads + Wait + Sync>(
     workload: Workload,
     rt: &R,
     alloc: Global,

@@ -11,4 +11,6 @@ mod run;
 #[cfg(test)]
 mod scratch;
 #[cfg(test)]
+mod tally;
+#[cfg(test)]
 mod written_rule;

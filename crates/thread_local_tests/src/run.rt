@@ -1,8 +1,14 @@
+ghost use Rattle.thread_local_tls.specs.Limits.{IsWithinLimits};
+
 use std::alloc::{AllocError, Global};
 use std::io;
 use std::io::Write;
 use std::process::Abort;
+use std::sync::Wait;
 use std::test::Fail;
+use std::thread::Threads;
+use thread_local_tally::{Open, tally};
+use thread_local_thread_id::LocalError;
 use thread_local_tls::run;
 
 /// A writer over memory that fails at its write with this number, counted from 0, and at each flush where so set.
@@ -48,15 +54,35 @@ impl Write for Memory {
     }
 }
 
-/// A writer that counts bytes, and so never asks for memory.
+/// A writer with room of its own, which never asks for memory.
 #[derive(Drop)]
-struct Counted {
-    bytes: usize,
+struct Room {
+    bytes: [u8; 32],
+    len: usize,
 }
 
-impl Write for Counted {
+impl Room {
+    fn new() -> Room {
+        Room {
+            bytes: [0; 32],
+            len: 0,
+        }
+    }
+
+    /// What was written.
+    fn text(&self) -> &[u8] {
+        self.bytes.get(..self.len).unwrap_or(&[])
+    }
+}
+
+impl Write for Room {
     fn write(&mut self, buf: &[u8]) -> io::Result<usize> {
-        self.bytes = self.bytes.saturating_add(buf.len());
+        for byte in buf {
+            if let Some(place) = self.bytes.get_mut(self.len) {
+                *place = *byte;
+                self.len = self.len.saturating_add(1);
+            }
+        }
         Ok(buf.len())
     }
 
@@ -76,9 +102,28 @@ fn words(alloc: Global, line: &str) -> Result<Vec<String>, AllocError> {
     Ok(words)
 }
 
+/// Runs the words with the program's workers.
+fn answer<R: Threads + Wait + Sync, O: Write, E: Write>(
+    rt: &R,
+    alloc: Global,
+    words: &[String],
+    out: &mut O,
+    err: &mut E,
+) -> u8 {
+    run(
+        alloc,
+        words,
+        |workers: usize, numbers: u64| -> Result<u64, LocalError>
+            requires { IsWithinLimits workers numbers }
+        { tally(rt, alloc, workers, numbers, &Open) },
+        out,
+        err,
+    )
+}
+
 /// Runs the line, and compares what is written and the status.
-fn expect(
-    rt: &impl Abort,
+fn expect<R: Abort + Threads + Wait + Sync>(
+    rt: &R,
     alloc: Global,
     line: &str,
     output: &str,
@@ -89,7 +134,7 @@ fn expect(
     let mut err = Memory::sound(alloc);
     let words = words(alloc, line)?;
     assert_eq!(rt;
-        run(alloc, &words, &mut out, &mut err),
+        answer(rt, alloc, &words, &mut out, &mut err),
         status,
         "the status of '{line}'"
     );
@@ -124,6 +169,22 @@ fn prints_the_least_ids(rt: HostRuntime) -> Result<(), Fail> {
 }
 
 #[test]
+fn prints_the_total_of_all_workers(rt: HostRuntime) -> Result<(), Fail> {
+    let lines = [
+        ("tally 5 10", "55\n"),
+        ("tally 1 0", "0\n"),
+        ("tally 64 1000000", "500000500000\n"),
+        ("tally 3 7", "28\n"),
+        ("tally 64 1", "1\n"),
+        ("tally 0005 00010", "55\n"),
+    ];
+    for (line, output) in lines {
+        expect(&rt, rt.alloc(), line, output, "", 0)?;
+    }
+    Ok(())
+}
+
+#[test]
 fn wrong_arguments_print_the_usage(rt: HostRuntime) -> Result<(), Fail> {
     let lines = [
         "",
@@ -137,6 +198,12 @@ fn wrong_arguments_print_the_usage(rt: HostRuntime) -> Result<(), Fail> {
         "tally 0 10",
         "tally 65 10",
         "tally 5 1000001",
+        "tally",
+        "tally 5",
+        "tally 5 10 1",
+        "tally +5 10",
+        "tally 5 ten",
+        "tally 18446744073709551616 10",
     ];
     for line in lines {
         expect(&rt, rt.alloc(), line, "", USAGE, 2)?;
@@ -144,25 +211,41 @@ fn wrong_arguments_print_the_usage(rt: HostRuntime) -> Result<(), Fail> {
     Ok(())
 }
 
-#[test]
-fn a_failed_write_is_told(rt: HostRuntime) -> Result<(), Fail> {
-    let words = words(rt.alloc(), "ids take take take give 1 take")?;
-    let mut faults = 0usize;
+/// Runs the line once for each write that may fail, until a run meets no failure.
+fn expect_each_write_told<R: Abort + Threads + Wait + Sync>(
+    rt: &R,
+    alloc: Global,
+    line: &str,
+    output: &str,
+) -> Result<(), AllocError> {
+    let words = words(alloc, line)?;
     for fails_at in 0..100 {
-        let mut out = Memory::new(rt.alloc(), fails_at);
-        let mut err = Memory::sound(rt.alloc());
-        let status = run(rt.alloc(), &words, &mut out, &mut err);
+        let mut out = Memory::new(alloc, fails_at);
+        let mut err = Memory::sound(alloc);
+        let status = answer(rt, alloc, &words, &mut out, &mut err);
         if out.writes <= fails_at {
             assert_eq!(rt; status, 0);
-            assert_eq!(rt; out.bytes.as_slice(), b"0\n1\n2\n1\n".as_slice());
-            assert!(rt; 1 < faults, "a first and a later write failed");
+            assert_eq!(rt; out.bytes.as_slice(), output.as_bytes());
+            assert!(rt; 0 < fails_at, "a write of '{line}' failed");
             return Ok(());
         }
-        faults = faults.saturating_add(1);
-        assert_eq!(rt; status, 1, "write {fails_at}");
+        assert_eq!(rt; status, 1, "write {fails_at} of '{line}'");
         assert_eq!(rt; err.bytes.as_slice(), b"tls: write failed\n".as_slice());
     }
     assert!(rt; false, "each run met a failing write");
+    Ok(())
+}
+
+#[test]
+fn a_failed_write_is_told(rt: HostRuntime) -> Result<(), Fail> {
+    let lines = [
+        ("ids take take", "0\n1\n"),
+        ("ids take take take give 1 take", "0\n1\n2\n1\n"),
+        ("tally 3 10", "55\n"),
+    ];
+    for (line, output) in lines {
+        expect_each_write_told(&rt, rt.alloc(), line, output)?;
+    }
     Ok(())
 }
 
@@ -172,29 +255,58 @@ fn a_failed_flush_is_told(rt: HostRuntime) -> Result<(), Fail> {
     let mut out = Memory::sound(rt.alloc());
     out.flush_fails = true;
     let mut err = Memory::sound(rt.alloc());
-    assert_eq!(rt; run(rt.alloc(), &words, &mut out, &mut err), 1);
+    assert_eq!(rt; answer(&rt, rt.alloc(), &words, &mut out, &mut err), 1);
     assert_eq!(rt; out.bytes.as_slice(), b"0\n1\n".as_slice());
     assert_eq!(rt; err.bytes.as_slice(), b"tls: write failed\n".as_slice());
     Ok(())
 }
 
-/// `rt try --test --fail-alloc N` refuses the Nth request for memory: the words, the moves, the ids and the manager ask for some. The run
-/// then writes nothing, also where ids were had before.
-#[test]
-fn a_run_that_is_refused_memory_writes_nothing(rt: HostRuntime) -> Result<(), Fail> {
-    let words = words(
-        rt.alloc(),
-        "ids take take take take take take take take take take",
-    )?;
-    let mut out = Counted { bytes: 0 };
-    let mut err = Counted { bytes: 0 };
-    match run(rt.alloc(), &words, &mut out, &mut err) {
-        0 => assert_eq!(rt; (out.bytes, err.bytes), (20, 0)),
+/// Runs the line, one of whose requests for memory may be refused, for which its words ask first. It then writes nothing, also where ids were had
+/// or workers were started before. Run a test that calls this with `rt try --test --fail-alloc N -- NAME`, for each N until a run meets no refusal.
+fn expect_refusal_told<R: Abort + Threads + Wait + Sync>(
+    rt: &R,
+    alloc: Global,
+    line: &str,
+    output: &str,
+) {
+    let Ok(words) = words(alloc, line) else {
+        return;
+    };
+    let mut out = Room::new();
+    let mut err = Room::new();
+    match answer(rt, alloc, &words, &mut out, &mut err) {
+        0 => {
+            assert_eq!(rt; out.text(), output.as_bytes());
+            assert!(rt; err.text().is_empty());
+        }
         status => {
             assert_eq!(rt; status, 1);
-            assert_eq!(rt; (out.bytes, err.bytes), (0, "tls: out of memory\n".len()));
+            assert!(rt; out.text().is_empty());
+            assert_eq!(rt; err.text(), b"tls: out of memory\n".as_slice());
         }
     }
+}
+
+#[test]
+fn refused_ids_write_nothing(rt: HostRuntime) -> Result<(), Fail> {
+    expect_refusal_told(&rt, rt.alloc(), "ids take take", "0\n1\n");
+    Ok(())
+}
+
+#[test]
+fn refused_ids_write_nothing_after_many(rt: HostRuntime) -> Result<(), Fail> {
+    expect_refusal_told(
+        &rt,
+        rt.alloc(),
+        "ids take take take take take take take take take take",
+        "0\n1\n2\n3\n4\n5\n6\n7\n8\n9\n",
+    );
+    Ok(())
+}
+
+#[test]
+fn a_refused_tally_writes_nothing(rt: HostRuntime) -> Result<(), Fail> {
+    expect_refusal_told(&rt, rt.alloc(), "tally 3 10", "55\n");
     Ok(())
 }
 
@@ -203,7 +315,7 @@ fn a_fault_that_cannot_be_told_keeps_its_status(rt: HostRuntime) -> Result<(), F
     let words = words(rt.alloc(), "ids give 0")?;
     let mut out = Memory::sound(rt.alloc());
     let mut err = Memory::new(rt.alloc(), 0);
-    assert_eq!(rt; run(rt.alloc(), &words, &mut out, &mut err), 2);
+    assert_eq!(rt; answer(&rt, rt.alloc(), &words, &mut out, &mut err), 2);
     assert!(rt; out.bytes.is_empty());
     Ok(())
 }

@@ -3,6 +3,7 @@ use Rattle.std.specs.Char.{is_ascii_digit}
 use Rattle.std.specs.List.{list_all}
 use Rattle.std.specs.declared.alloc.Global.{Global}
 use Rattle.std.specs.Str.Parse.{digits_value}
+use Rattle.thread_local_tls.specs.Limits.{limited}
 use Rattle.thread_local_tls.specs.Moves.{MayRun}
 use Rattle.thread_local_tls.specs.declared.moves.Move.{Move}
 use Rattle.thread_local_tls.specs.declared.moves.Move.TheVariants.{Take, Give}
@@ -31,20 +32,37 @@ moves_of (word ∷ next ∷ words) =
     else (if bytes_eq word (codes "give") then option_and_then (λ id. move_then (Give id) (moves_of words)) (number_of next) else None)
 
 -- the moves of a command line: `ids`, and then at least one move
-abbrev pub command_of : List (List ℕ) → Option (List Move)
-command_of [] = None
-command_of (command ∷ words) = if bytes_eq command (codes "ids") && nat_lt 0 (length words) then moves_of words else None
+abbrev pub moves_named : List (List ℕ) → Option (List Move)
+moves_named [] = None
+moves_named (command ∷ words) = if bytes_eq command (codes "ids") && nat_lt 0 (length words) then moves_of words else None
+
+-- the workers and the numbers of a command line: `tally`, and then two numbers within the limits
+abbrev pub tally_of : List (List ℕ) → Option (ℕ × ℕ)
+tally_of [] = None
+tally_of (command ∷ []) = None
+tally_of (command ∷ workers ∷ []) = None
+tally_of (command ∷ workers ∷ numbers ∷ []) =
+    if bytes_eq command (codes "tally") then option_and_then (λ w. option_and_then (λ n. limited w n) (number_of numbers)) (number_of workers) else None
+tally_of (command ∷ workers ∷ numbers ∷ more ∷ words) = None
 
 -- the words spell moves that may be run
 pub record IsRunnable (words : List (List ℕ)) : Type 0 where
   pub moves : List Move
-  pub spelled : command_of words ≡ Some moves
+  pub spelled : moves_named words ≡ Some moves
   pub may_run : MayRun [] moves
 
--- the words spell no command, or one that gives back an id that isn't held
-abbrev pub IsMisuse : List (List ℕ) → Type 0
-IsMisuse words = MatchOption (command_of words) (Unit {0}) (λ moves. ¬ MayRun [] moves)
+-- the words spell what may be run: a tally within the limits, or else such moves
+abbrev pub MayBeRun : List (List ℕ) → Type 0
+MayBeRun words = MatchOption (tally_of words) (IsRunnable words) (λ tally. Unit {0})
 
--- a line for each id
+-- the words spell no moves, or moves that give back an id that isn't held
+abbrev pub MayNotRun : List (List ℕ) → Type 0
+MayNotRun words = MatchOption (moves_named words) (Unit {0}) (λ moves. ¬ MayRun [] moves)
+
+-- the words spell no moves that may be run, and no tally within the limits
+abbrev pub IsMisuse : List (List ℕ) → Type 0
+IsMisuse words = MayNotRun words × (tally_of words ≡ None)
+
+-- a line for each number
 abbrev pub lines_of : List ℕ → List ℕ
-lines_of ids = flat_map (λ id. decimal id ++ 10 ∷ []) ids
+lines_of numbers = flat_map (λ number. decimal number ++ 10 ∷ []) numbers

@@ -1,48 +1,93 @@
-ghost use Rattle.std.specs.Prelude.{◌≡◌, ◌≤◌, OnOk, IfErr, IsErrOf};
+ghost use Rattle.std.specs.Prelude.{◌≡◌, ◌≤◌, None, Some, OnOk, IfErr, IsErrOf};
 ghost use Rattle.std.specs.Io.KnownBytes.{Appends, Keeps};
-ghost use Rattle.thread_local_tls.specs.Words.{texts, lines_of, IsMisuse, IsRunnable};
-ghost use Rattle.thread_local_tls.specs.Faults.{Answers, IsHindered};
+ghost use Rattle.thread_local_tls.specs.Words.{texts, tally_of, lines_of, MayNotRun, IsMisuse, IsRunnable, MayBeRun};
+ghost use Rattle.thread_local_tls.specs.Limits.{IsWithinLimits};
+ghost use Rattle.thread_local_tls.specs.Faults.{Answers, AnswersIds, IsToldAndWritten, IsHindered};
 
 use crate::fault::Fault;
 use crate::moves::ids;
-use crate::words::command;
+use crate::words::{moves_named, tally_of};
 use std::alloc::Global;
 use std::io::Write;
+use thread_local_thread_id::LocalError;
 
 /// Runs the command that the words name, and answers the status that the program ends with. The output goes
-/// to `out`, after all words were read, and the line of a fault to `err`. That `out` gets these bytes and nothing
-/// else is said of a writer whose bytes a contract can name. It takes memory for the moves and for the ids.
-pub fn run<O: Write, E: Write>(alloc: Global, words: &[String], out: &mut O, err: &mut E) -> u8
+/// to `out`, after all words were read and the command was run, and the line of a fault to `err`. That `out` gets these bytes and nothing
+/// else is said of a writer whose bytes a contract can name. It takes memory for the moves and for the ids. What adds up for a tally is handed in,
+/// and called where the words spell one within the limits: the call waits where that does.
+pub fn run<T: FnOnce(usize, u64) -> Result<u64, LocalError> + Drop, O: Write, E: Write>(
+    alloc: Global,
+    words: &[String],
+    tally: T,
+    out: &mut O,
+    err: &mut E,
+) -> u8
+    requires tally { (workers numbers : _) → tally_of (texts words.now) ≡ Some (workers, numbers) → IsWithinLimits workers numbers → T.pre tally workers numbers }
     ensures status { result ≤ 2 }
-    ensures done { result ≡ 0 → Answers (texts words.now) (O.contents out.old) (O.contents out.new) }
+    ensures done { result ≡ 0 → Answers (T.post tally) (texts words.now) (O.contents out.old) (O.contents out.new) }
     ensures misuse { result ≡ 2 → IsMisuse (texts words.now) × Keeps (O.contents out.old) (O.contents out.new) }
     ensures hindered { result ≡ 1 → IsHindered (texts words.now) (O.contents out.old) (O.contents out.new) }
 {
-    match answer(alloc, words, out) {
+    match answer(alloc, words, tally, out) {
         Ok(()) => 0,
         Err(fault) => fault.report(err),
     }
 }
 
-/// Runs the command and writes its output. It takes memory for the moves and for the ids.
-fn answer<O: Write>(alloc: Global, words: &[String], out: &mut O) -> Result<(), Fault>
-    ensures done { OnOk result (Answers (texts words.now) (O.contents out.old) (O.contents out.new)) }
+/// Runs the command and writes its output.
+fn answer<T: FnOnce(usize, u64) -> Result<u64, LocalError> + Drop, O: Write>(
+    alloc: Global,
+    words: &[String],
+    tally: T,
+    out: &mut O,
+) -> Result<(), Fault>
+    requires tally { (workers numbers : _) → tally_of (texts words.now) ≡ Some (workers, numbers) → IsWithinLimits workers numbers → T.pre tally workers numbers }
+    ensures done { OnOk result (Answers (T.post tally) (texts words.now) (O.contents out.old) (O.contents out.new)) }
     ensures misuse { IsErrOf result Fault.Usage → IsMisuse (texts words.now) × Keeps (O.contents out.old) (O.contents out.new) }
+    ensures memory { IsErrOf result Fault.Memory → Keeps (O.contents out.old) (O.contents out.new) }
+    ensures write { IsErrOf result Fault.Write → MayBeRun (texts words.now) }
+{
+    match tally_of(words) {
+        Some((workers, numbers)) => answer_tally(workers, numbers, tally, out),
+        None => answer_ids(alloc, words, out),
+    }
+}
+
+/// Has the numbers added up, and writes the total.
+fn answer_tally<T: FnOnce(usize, u64) -> Result<u64, LocalError> + Drop, O: Write>(
+    workers: usize,
+    numbers: u64,
+    tally: T,
+    out: &mut O,
+) -> Result<(), Fault>
+    requires { T.pre tally workers numbers }
+    ensures done { OnOk result (IsToldAndWritten (T.post tally workers numbers) (O.contents out.old) (O.contents out.new)) }
+    ensures no_misuse { IsErrOf result Fault.Usage → ⊥ }
+    ensures memory { IsErrOf result Fault.Memory → Keeps (O.contents out.old) (O.contents out.new) }
+{
+    let total = tally(workers, numbers)?;
+    print(&[total as usize], out)
+}
+
+/// Runs the moves that the words spell, and writes the ids. It takes memory for both.
+fn answer_ids<O: Write>(alloc: Global, words: &[String], out: &mut O) -> Result<(), Fault>
+    ensures done { OnOk result (AnswersIds (texts words.now) (O.contents out.old) (O.contents out.new)) }
+    ensures misuse { IsErrOf result Fault.Usage → MayNotRun (texts words.now) × Keeps (O.contents out.old) (O.contents out.new) }
     ensures memory { IsErrOf result Fault.Memory → Keeps (O.contents out.old) (O.contents out.new) }
     ensures write { IsErrOf result Fault.Write → IsRunnable (texts words.now) }
 {
-    let moves = command(alloc, words)?;
+    let moves = moves_named(alloc, words)?;
     let ids = ids(alloc, &moves)?;
     print(&ids, out)
 }
 
-/// Writes a line for each id, and flushes the writer.
-fn print<O: Write>(ids: &[usize], out: &mut O) -> Result<(), Fault>
-    ensures written { OnOk result (Appends (O.contents out.old) (O.contents out.new) (lines_of ids.now)) }
+/// Writes a line for each number, and flushes the writer.
+fn print<O: Write>(numbers: &[usize], out: &mut O) -> Result<(), Fault>
+    ensures written { OnOk result (Appends (O.contents out.old) (O.contents out.new) (lines_of numbers.now)) }
     ensures fault { IfErr result (λ fault. fault ≡ Fault.Write) }
 {
-    for id in ids {
-        if writeln!(out, "{id}").is_err() {
+    for number in numbers {
+        if writeln!(out, "{number}").is_err() {
             return Err(Fault::Write);
         }
     }

@@ -2,6 +2,7 @@ use crate::moves::IdsError;
 use std::alloc::{AllocError, AllocFailed};
 use std::fmt;
 use std::io::Write;
+use thread_local_thread_id::LocalError;
 
 /// Why the program ends with a status other than 0.
 #[derive(Clone, Copy)]
@@ -70,6 +71,17 @@ impl From<AllocError> for Fault {
     ghost from_gives = { λ _ fault. fault ≡ Memory };
 
     fn from(_: AllocError) -> Fault {
+        Fault::Memory
+    }
+}
+
+impl From<LocalError> for Fault {
+    ghost use Rattle.std.specs.Prelude.{◌≡◌};
+    ghost use Rattle.thread_local_tls.specs.declared.fault.Fault.TheVariants.{Memory};
+
+    ghost from_gives = { λ _ fault. fault ≡ Memory };
+
+    fn from(_: LocalError) -> Fault {
         Fault::Memory
     }
 }

@@ -1,16 +1,17 @@
 ghost use Rattle.std.specs.Prelude.{◌≡◌, ◌<◌, length, None, Some, IsNone, IfSome, IfOk, IsErrOf};
 ghost use Rattle.std.specs.Char.{is_ascii_digit};
 ghost use Rattle.std.specs.List.{list_all};
-ghost use Rattle.thread_local_tls.specs.Words.{texts, number_of, moves_of, move_then, command_of};
+ghost use Rattle.thread_local_tls.specs.Words.{texts, number_of, moves_of, move_then, moves_named, tally_of};
+ghost use Rattle.thread_local_tls.specs.Limits.{limited, IsWithinLimits};
 
 use crate::fault::Fault;
 use crate::moves::Move;
 use std::alloc::Global;
 
-/// The moves of a command line, without the program's name. It takes memory for them.
-pub fn command(alloc: Global, words: &[String]) -> Result<Vec<Move>, Fault>
-    ensures ok { IfOk result (λ moves. command_of (texts words.now) ≡ Some moves.items) }
-    ensures usage { IsErrOf result Fault.Usage → command_of (texts words.now) ≡ None }
+/// The moves of a command line of `ids`, without the program's name. It takes memory for them.
+pub fn moves_named(alloc: Global, words: &[String]) -> Result<Vec<Move>, Fault>
+    ensures ok { IfOk result (λ moves. moves_named (texts words.now) ≡ Some moves.items) }
+    ensures usage { IsErrOf result Fault.Usage → moves_named (texts words.now) ≡ None }
     ensures no_write { IsErrOf result Fault.Write → ⊥ }
 {
     match words.split_first() {
@@ -55,6 +56,35 @@ fn first_move(words: &[String]) -> Option<(Move, &[String])>
         return Some((Move::Give(id), after));
     }
     None
+}
+
+/// The workers and the numbers of a command line of `tally`, without the program's name: None where it is no tally, or one that isn't within
+/// the limits. It takes no memory.
+pub fn tally_of(words: &[String]) -> Option<(usize, u64)>
+    ensures value { result ≡ tally_of (texts words.now) }
+    ensures limits { IfSome result (λ tally. IsWithinLimits tally.0 tally.1) }
+{
+    let [command, workers, numbers] = words else {
+        return None;
+    };
+    if command.as_str() != "tally" {
+        return None;
+    }
+    let workers = number(workers.as_str())?;
+    let numbers = number(numbers.as_str())?;
+    limited(workers, numbers as u64)
+}
+
+/// The workers and the numbers of a tally, if they are within the limits.
+fn limited(workers: usize, numbers: u64) -> Option<(usize, u64)>
+    ensures value { result ≡ limited workers numbers }
+    ensures limits { IfSome result (λ tally. IsWithinLimits tally.0 tally.1) }
+{
+    if 1 <= workers && workers <= 64 && numbers <= 1_000_000 {
+        Some((workers, numbers))
+    } else {
+        None
+    }
 }
 
 /// A number: one or more ASCII digits with a value below 2^64. Leading zeros are allowed, signs aren't.

@@ -1,27 +1,26 @@
-//! The program `tls`: hands its arguments and its streams over.
+//! The program `tls`, with both commands: hands its arguments, its streams and its workers over.
 #![tactic(auto)]
 
-use std::alloc::Global;
-use std::env;
-use std::io::ErrorKind;
+ghost use Rattle.thread_local_tls.specs.Limits.{IsWithinLimits};
+
 use std::process::ExitCode;
-use std::rt::Env;
-use thread_local_tls::{Fault, run};
+use thread_local_tally::{Open, tally};
+use thread_local_thread_id::LocalError;
+use thread_local_tls::{read_arguments, run};
 
 /// Answers the command line, on standard output and standard error.
 fn main(rt: HostRuntime) -> ExitCode {
     let mut err = rt.stderr();
-    match words(&rt) {
-        Ok(words) => ExitCode::from(run(rt.alloc(), &words, &mut rt.stdout(), &mut err)),
+    match read_arguments(&rt) {
+        Ok(words) => ExitCode::from(run(
+            rt.alloc(),
+            &words,
+            |workers: usize, numbers: u64| -> Result<u64, LocalError>
+                requires { IsWithinLimits workers numbers }
+            { tally(&rt, rt.alloc(), workers, numbers, &Open) },
+            &mut rt.stdout(),
+            &mut err,
+        )),
         Err(fault) => ExitCode::from(fault.report(&mut err)),
-    }
-}
-
-/// The arguments without the program's name. It takes memory for them.
-fn words<R: Env + AllocGlobal>(rt: &R) -> Result<Vec<String>, Fault> {
-    match env::args(rt) {
-        Ok(args) => Ok(args.skip(1).collect(rt.alloc())?),
-        Err(error) if error.kind() == ErrorKind::OutOfMemory => Err(Fault::Memory),
-        Err(_) => Err(Fault::Usage),
     }
 }

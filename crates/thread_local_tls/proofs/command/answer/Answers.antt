@@ -1,100 +1,18 @@
-use Rattle.std.proofs.Common.{◌≡◌, Option, Some, None, List, [], ℕ, Ok, Err, OnOk, IfErr, MatchOption, Result, refl, sym, ap, ◌∙◌, subst}
-use Rattle.std.proofs.KnownBytes.{Keeps-refl}
-use Rattle.std.proofs.lemmas.Result.{err_from_is_err_and}
-use Rattle.std.specs.Io.KnownBytes.{Appends}
-use Rattle.thread_local_tls.specs.Words.{texts, command_of, lines_of, IsMisuse, IsRunnable}
-use Rattle.thread_local_tls.specs.Moves.{ids_given, MayRun}
-use Rattle.thread_local_tls.specs.Faults.{Answers, fault_of}
-use Rattle.thread_local_tls.specs.declared.moves.Move.{Move}
+use Rattle.std.proofs.Common.{◌≡◌, ℕ, List, Option, Some, Result, Ok, Err, OnOk, MatchOption, sym, ◌∙◌, subst}
+use Rattle.thread_local_thread_id.specs.declared.manager.LocalError.{LocalError}
+use Rattle.thread_local_tls.specs.Words.{texts, tally_of}
+use Rattle.thread_local_tls.specs.Faults.{Answers, AnswersIds, IsToldAndWritten}
 use Rattle.thread_local_tls.specs.declared.fault.Fault.{Fault}
-use Rattle.thread_local_tls.specs.declared.fault.Fault.TheVariants.{Usage, Memory, Write}
-use Rattle.thread_local_tls.specs.declared.moves.IdsError.{IdsError}
-use Rattle.thread_local_tls.specs.declared.moves.IdsError.TheVariants.{Local, NotHeld}
-use Rattle.thread_local_tls.proofs.MoveLaws.{may_not_run}
-use Rattle.thread_local_tls.proofs.command.answer.Given.{Over}
 use Rattle.thread_local_tls.proofs.command.answer.Goals as goal
-use Rattle.thread_local_tls.proofs.command.answer.Goals.{After-drop-moves-2}
 
--- only one error of the moves is a misuse
-is_not_held : (error : IdsError) → fault_of error ≡ Usage → error ≡ NotHeld
-is_not_held (Local error) e = cc
-is_not_held NotHeld e = refl
+-- a total that was told and written answers the words of its tally
+answers : (told : ℕ → ℕ → Result ℕ LocalError → Type 0) (words : List (List ℕ)) (old new : Option (List ℕ)) (result : Result (Unit {0}) Fault) (tally : ℕ × ℕ)
+    → tally_of words ≡ Some tally → OnOk result (IsToldAndWritten (told tally.0 tally.1) old new) → OnOk result (Answers told words old new)
+answers told words old new (Ok x) tally spelled answered =
+    subst (λ o. MatchOption o (AnswersIds words old new) (λ t. IsToldAndWritten (told t.0 t.1) old new)) (sym spelled) answered
+answers told words old new (Err e) tally spelled answered = tt
 
--- no error of the moves is a write that failed
-is_no_write : (error : IdsError) → fault_of error ≡ Write → ⊥
-is_no_write (Local error) e = cc
-is_no_write NotHeld e = cc
-
--- lines that were written for the ids of the words' moves answer the words
-answers : (words : List (List ℕ)) (old new : Option (List ℕ)) (ids : List ℕ) (result : Result (Unit {0}) Fault) (runnable : IsRunnable words)
-    → ids ≡ ids_given [] runnable.moves → OnOk result (Appends old new (lines_of ids)) → OnOk result (Answers words old new)
-answers words old new ids (Ok x) runnable given written = record { runnable = runnable; written = subst (λ l. Appends old new (lines_of l)) given written }
-answers words old new ids (Err e) runnable given written = tt
-
--- a fault that printing ends with is a write that failed
-fault_is : (result : Result (Unit {0}) Fault) (fault : Fault) → IfErr result (λ f. f ≡ Write) → result ≡ Err fault → fault ≡ Write
-fault_is (Ok x) fault h is = cc
-fault_is (Err e) fault h is = cc
-
--- moves that can't be run are a misuse
-misuse : (words : List (List ℕ)) (moves : List Move) → command_of words ≡ Some moves → (MayRun [] moves → ⊥) → IsMisuse words
-misuse words moves read stuck = subst (λ o. MatchOption o (Unit {0}) (λ ms. MayRun [] ms → ⊥)) (sym read) stuck
-
--- where the words spell no command, they are a misuse
-no_command : (words : List (List ℕ)) → command_of words ≡ None → IsMisuse words
-no_command words none = subst (λ o. MatchOption o (Unit {0}) (λ ms. MayRun [] ms → ⊥)) (sym none) tt
-
-same_error : {X : Type 0} {E : Type 0} {r : Result X E} {x y : E} → r ≡ Err x → r ≡ Err y → x ≡ y
-same_error p q = cc
-
-pub returns-in_err-moves-clause-misuse : goal.returns-in_err-moves-clause-misuse
-returns-in_err-moves-clause-misuse g c = λ is.
-    let p = err_from_is_err_and c.from_residual.result c.from_residual.ensures.1 in
-    (no_command (texts c.args.words.now) (c.command.ensures.usage (c.in_err-moves.was ∙ ap Err (sym p.2 ∙ same_error p.1 is))), Keeps-refl (g.O.Write.contents c.args.out.now))
-
-pub returns-in_err-moves-clause-memory : goal.returns-in_err-moves-clause-memory
-returns-in_err-moves-clause-memory g c = λ _. Keeps-refl (g.O.Write.contents c.args.out.now)
-
-pub returns-in_err-moves-clause-write : goal.returns-in_err-moves-clause-write
-returns-in_err-moves-clause-write g c = λ is.
-    let p = err_from_is_err_and c.from_residual.result c.from_residual.ensures.1 in
-    absurd (c.command.ensures.no_write (c.in_err-moves.was ∙ ap Err (sym p.2 ∙ same_error p.1 is)))
-
-pub returns-in_err-ids-clause-misuse : goal.returns-in_err-ids-clause-misuse
-returns-in_err-ids-clause-misuse g c = λ is.
-    let p = err_from_is_err_and c.from_residual-in_err-ids.result c.from_residual-in_err-ids.ensures.1 in
-    let not_held = is_not_held c.in_err-ids.field-0.0 (sym p.2 ∙ same_error p.1 is) in
-    let stuck = c.in_err-ids.ensures.not_held (ap Err not_held) in (
-      misuse (texts c.args.words.now) c.deref.result.now (c.in_ok-moves.ensures.ok ∙ ap Some (sym c.deref.ensures.value)) (may_not_run c.deref.result.now stuck),
-      Keeps-refl (g.O.Write.contents c.args.out.now),
-    )
-
-pub returns-in_err-ids-clause-memory : goal.returns-in_err-ids-clause-memory
-returns-in_err-ids-clause-memory g c = λ _. Keeps-refl (g.O.Write.contents c.args.out.now)
-
-pub returns-in_err-ids-clause-write : goal.returns-in_err-ids-clause-write
-returns-in_err-ids-clause-write g c = λ is.
-    let p = err_from_is_err_and c.from_residual-in_err-ids.result c.from_residual-in_err-ids.ensures.1 in
-    absurd (is_no_write c.in_err-ids.field-0.0 (sym p.2 ∙ same_error p.1 is))
-
--- the moves that were run are those that the words spell
-abbrev runnable : (g : Over) (c : After-drop-moves-2 g) → IsRunnable (texts c.args.words.now)
-runnable g c = record {
-  moves = c.deref.result.now;
-  spelled = c.in_ok-moves.ensures.ok ∙ ap Some (sym c.deref.ensures.value);
-  may_run = c.in_ok-ids.ensures.ok.1;
-}
-
-pub returns-clause-done : goal.returns-clause-done
-returns-clause-done g c =
-    answers (texts c.args.words.now) (g.O.Write.contents c.args.out.now) (g.O.Write.contents c.print.new.out) c.deref-2.result.now c.print.result (runnable g c)
-    (c.deref-2.ensures.value ∙ c.in_ok-ids.ensures.ok.0) c.print.ensures.written
-
-pub returns-clause-misuse : goal.returns-clause-misuse
-returns-clause-misuse g c = λ is. let told = fault_is c.print.result Usage c.print.ensures.fault is in cc
-
-pub returns-clause-memory : goal.returns-clause-memory
-returns-clause-memory g c = λ is. let told = fault_is c.print.result Memory c.print.ensures.fault is in cc
-
-pub returns-clause-write : goal.returns-clause-write
-returns-clause-write g c = λ _. runnable g c
+pub returns-in-Some-clause-done : goal.returns-in-Some-clause-done
+returns-in-Some-clause-done g c =
+    answers _ (texts c.args.words.now) (g.O.Write.contents c.args.out.now) (g.O.Write.contents c.answer_tally.new.out) c.answer_tally.result
+    (c.in-Some.workers, c.in-Some.numbers) (sym c.tally_of.ensures.value ∙ c.in-Some.is) c.answer_tally.ensures.done

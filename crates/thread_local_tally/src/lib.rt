@@ -1,0 +1,8 @@
+//! Workers that add numbers up in a table, each in a cell of its own.
+#![tactic(auto)]
+
+mod gate;
+mod workers;
+
+pub use gate::{Gate, Open};
+pub use workers::tally;

@@ -1,0 +1,95 @@
+//! Workers that add at the same time.
+
+use crate::examples::{count, total};
+use std::cell::Cell;
+use std::sync::atomic::Ordering::SeqCst;
+use std::sync::atomic::{AtomicBool, AtomicU64};
+use std::test::Fail;
+use std::thread;
+use thread_local::ThreadLocal;
+use thread_local::table::Judge;
+use thread_local_tally::{Gate, tally};
+
+/// How often a worker looks for the other's mark before it gives up.
+const LOOKS: u64 = 100_000_000;
+
+/// A gate at which each of two workers waits for the other.
+#[derive(Drop)]
+struct Meeting {
+    first: AtomicBool,
+    second: AtomicBool,
+    given_up: AtomicU64,
+}
+
+/// Whether a mark is seen before so many looks.
+fn is_seen(mark: &AtomicBool) -> bool {
+    for _ in 0..LOOKS {
+        if mark.load(SeqCst) {
+            return true;
+        }
+    }
+    false
+}
+
+impl Gate for Meeting {
+    fn pass(&self, worker: usize) {
+        let (own, other) = if worker == 0 {
+            (&self.first, &self.second)
+        } else {
+            (&self.second, &self.first)
+        };
+        own.store(true, SeqCst);
+        if !is_seen(other) {
+            self.given_up.fetch_add(1, SeqCst);
+        }
+    }
+}
+
+#[test]
+fn workers_add_at_the_same_time(rt: HostRuntime) -> Result<(), Fail> {
+    let gate = Meeting {
+        first: AtomicBool::new(false),
+        second: AtomicBool::new(false),
+        given_up: AtomicU64::new(0),
+    };
+    assert_eq!(rt; tally(&rt, rt.alloc(), 2, 10, &gate), Ok(55));
+    assert_eq!(rt; gate.given_up.load(SeqCst), 0);
+    Ok(())
+}
+
+/// A gate that counts who passes.
+#[derive(Drop)]
+struct Counted {
+    passed: AtomicU64,
+}
+
+impl Gate for Counted {
+    fn pass(&self, worker: usize) {
+        self.passed.fetch_add(1 << (worker % 64), SeqCst);
+    }
+}
+
+#[test]
+fn each_worker_passes_the_gate_once(rt: HostRuntime) -> Result<(), Fail> {
+    let gate = Counted {
+        passed: AtomicU64::new(0),
+    };
+    assert_eq!(rt; tally(&rt, rt.alloc(), 5, 10, &gate), Ok(55));
+    assert_eq!(rt; gate.passed.load(SeqCst), 0b11111);
+    Ok(())
+}
+
+#[test]
+fn five_threads_count_to_five(rt: HostRuntime) -> Result<(), Fail> {
+    Cell::<u64>::judge();
+    let counters = ThreadLocal::new(rt.alloc());
+    let shared = &counters;
+    let handle = &rt;
+    thread::scope(thread::scope_env(), &rt, |scope| {
+        for _ in 0..5 {
+            let _started = scope.spawn(move || count(shared, handle, 1)).is_ok();
+        }
+    });
+    assert_eq!(rt; total(counters), 5);
+    Ok(())
+}

@@ -1,0 +1,15 @@
+//! The words that the program was called with.
+
+use crate::fault::Fault;
+use std::env;
+use std::io::ErrorKind;
+use std::rt::Env;
+
+/// The arguments without the program's name. It takes memory for them: want of it is `Memory`, and a word that is no UTF-8 is `Usage`.
+pub fn read_arguments<R: Env + AllocGlobal>(rt: &R) -> Result<Vec<String>, Fault> {
+    match env::args(rt) {
+        Ok(args) => Ok(args.skip(1).collect(rt.alloc())?),
+        Err(error) if error.kind() == ErrorKind::OutOfMemory => Err(Fault::Memory),
+        Err(_) => Err(Fault::Usage),
+    }
+}
