@@ -1,7 +1,8 @@
 //! Per-object thread-local storage: one object keeps a separate value for each thread that uses it.
 //!
 //! A thread asks a `ThreadLocal` for a `Local`, its place in the table with an id of its own, and finds or makes its value through it.
-//! Values stay when a `Local` is dropped, and whoever has the table alone walks over all of them.
+//! Values stay when a `Local` is dropped. Whoever has the table alone walks over all of them, and where threads may share the values,
+//! anybody walks over those that are published, while others publish more.
 //!
 //! ```text
 //! /// Counts so many times in a counter of its own, which is a plain cell. None means that memory or an id was refused.

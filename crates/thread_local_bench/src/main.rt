@@ -31,6 +31,7 @@ enum Workload {
     LocalAndDrop,
     Publish,
     Insert,
+    Iter,
     IterMut,
     IntoIter,
     Clear,
@@ -41,13 +42,14 @@ enum Workload {
 }
 
 impl Workload {
-    const ALL: [Workload; 13] = [
+    const ALL: [Workload; 14] = [
         Workload::GetHit,
         Workload::GetOrHit,
         Workload::NewFirstDrop,
         Workload::LocalAndDrop,
         Workload::Publish,
         Workload::Insert,
+        Workload::Iter,
         Workload::IterMut,
         Workload::IntoIter,
         Workload::Clear,
@@ -66,6 +68,7 @@ impl Workload {
             Workload::LocalAndDrop => "local_and_drop",
             Workload::Publish => "publish",
             Workload::Insert => "insert",
+            Workload::Iter => "iter",
             Workload::IterMut => "iter_mut",
             Workload::IntoIter => "into_iter",
             Workload::Clear => "clear",
@@ -99,6 +102,7 @@ impl Workload {
             Workload::LocalAndDrop => table::local_and_drop(rt, alloc, few),
             Workload::Publish => table::publish(rt, alloc, reserved),
             Workload::Insert => values::insert(rt, alloc, values),
+            Workload::Iter => table::iter(rt, alloc, values),
             Workload::IterMut => values::iter_mut(rt, alloc, values),
             Workload::IntoIter => values::into_iter(rt, alloc, values),
             Workload::Clear => values::clear(rt, alloc, values),

@@ -126,25 +126,62 @@ pub(crate) fn local_and_drop<R: Clock + Wait>(
     })
 }
 
+/// `Local`s of a table, as many as given, which are held at once.
+fn all_taken<'a, R: Wait>(
+    table: &'a ThreadLocal<u64>,
+    rt: &'a R,
+    alloc: Global,
+    values: u32,
+) -> Result<Vec<Local<'a, u64, R>>, AllocError> {
+    let mut locals = Vec::with_capacity(alloc, values as usize)?;
+    for _ in 0..values {
+        locals.push(taken(table, rt)?)?;
+    }
+    Ok(locals)
+}
+
+/// Each `Local` publishes its number.
+fn publish_all<R: Wait>(locals: &mut Vec<Local<'_, u64, R>>) -> Result<(), AllocError> {
+    let mut number = 0u64;
+    for local in locals {
+        local.get_or(|| number)?;
+        number = number.wrapping_add(1);
+    }
+    Ok(())
+}
+
 /// Publishes a value at each reserved id of a table, whose `Local`s were taken before.
 pub(crate) fn publish<R: Clock + Wait>(rt: &R, alloc: Global, values: u32) -> io::Result<Round> {
     let Ok(table) = ThreadLocal::<u64>::with_capacity(alloc, values as usize) else {
         return Err(io::Error::from(AllocError));
     };
-    let mut locals = Vec::with_capacity(alloc, values as usize)?;
-    for _ in 0..values {
-        locals.push(taken(&table, rt)?)?;
-    }
-    let mut number = 0u64;
+    let mut locals = all_taken(&table, rt, alloc, values)?;
     let start = Instant::now(rt)?;
-    for local in &mut locals {
-        local.get_or(|| number)?;
-        number = number.wrapping_add(1);
-    }
+    publish_all(&mut locals)?;
     let time = start.elapsed(rt)?;
     drop(locals);
     Ok(Round {
         operations: u64::from(values),
+        time,
+    })
+}
+
+/// Reads each value of a table that threads may share. Their sum is looked at, so that no compiler leaves the walk out.
+pub(crate) fn iter<R: Clock + Wait>(rt: &R, alloc: Global, values: u32) -> io::Result<Round> {
+    let table = ThreadLocal::<u64>::new(alloc);
+    {
+        let mut locals = all_taken(&table, rt, alloc, values)?;
+        publish_all(&mut locals)?;
+    }
+    let mut sum = 0u64;
+    let start = Instant::now(rt)?;
+    for value in &table {
+        sum = sum.wrapping_add(*value);
+    }
+    let time = start.elapsed(rt)?;
+    let wanted = u64::from(values).wrapping_mul(u64::from(values).wrapping_sub(1)) / 2;
+    Ok(Round {
+        operations: if sum == wanted { u64::from(values) } else { 0 },
         time,
     })
 }

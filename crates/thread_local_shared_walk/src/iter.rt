@@ -3,6 +3,7 @@ ghost use Rattle.std.specs.Prelude.{◌≡◌, ◌-◌, ◌^◌, ◌<◌, ◌⊎
 ghost use Rattle.std.specs.Iterator.{UpTo};
 ghost use Rattle.std.specs.Iterator.SizeHint.{IsWithinCount};
 ghost use Rattle.thread_local_judged.specs.Judged.{Shareable};
+ghost use Rattle.thread_local_shared_walk.specs.Places.{owed};
 ghost use Rattle.thread_local_shared_walk.specs.Walks.{WalkView, fresh, Goes, CanGo, ids_left};
 
 use crate::shown::Shown;
@@ -41,16 +42,27 @@ impl<'a, T> Model for Iter<'a, T> {
 }
 
 impl<'a, T> Iter<'a, T> {
-    /// A walk of which it isn't shown that threads may share the values: whoever calls `next` shows it.
-    pub fn unshown(buckets: &'a Shared<T>) -> Iter<'a, T>
-        ensures { result ≡ fresh None false }
+    /// A walk at the first slot.
+    fn begun(
+        buckets: &'a Shared<T>,
+        own: Option<Own<'a, T>>,
+        shown: Option<Shown<'a, T>>,
+    ) -> Iter<'a, T>
+        ensures { result ≡ fresh (option_map owed own.entry) (is_some shown.entry) }
     {
         Iter {
             buckets,
             raw: RawIter::new(),
-            own: None,
-            shown: None,
+            own,
+            shown,
         }
+    }
+
+    /// A walk of which it isn't shown that threads may share the values: whoever calls `next` shows it.
+    pub fn unshown(buckets: &'a Shared<T>) -> Iter<'a, T>
+        ensures { result ≡ fresh None false }
+    {
+        Iter::begun(buckets, None, None)
     }
 }
 
@@ -59,12 +71,7 @@ impl<'a, T: Sync> Iter<'a, T> {
     pub fn new(buckets: &'a Shared<T>) -> Iter<'a, T>
         ensures { result ≡ fresh None true }
     {
-        Iter {
-            buckets,
-            raw: RawIter::new(),
-            own: None,
-            shown: Some(Shown::new()),
-        }
+        Iter::begun(buckets, None, Some(Shown::new()))
     }
 
     /// A walk for whoever has the id, and holds this value there. It gives that value at the id, and loads no flag there.
@@ -72,15 +79,11 @@ impl<'a, T: Sync> Iter<'a, T> {
         requires { id < 2 ^ 63 - 1 }
         ensures { result ≡ fresh (Some (record { id = id; value = value.now })) true }
     {
-        Iter {
-            buckets,
-            raw: RawIter::new(),
-            own: Some(Own {
-                thread: Thread::new(id),
-                value,
-            }),
-            shown: Some(Shown::new()),
-        }
+        let own = Own {
+            thread: Thread::new(id),
+            value,
+        };
+        Iter::begun(buckets, Some(own), Some(Shown::new()))
     }
 }
 

@@ -10,6 +10,8 @@ mod forgotten;
 #[cfg(test)]
 mod refused;
 #[cfg(test)]
+mod shared_walks;
+#[cfg(test)]
 mod slots;
 #[cfg(test)]
 mod threads;

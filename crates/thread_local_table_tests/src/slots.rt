@@ -43,6 +43,10 @@ fn a_new_table_has_no_slots_and_no_values(rt: HostRuntime) -> Result<(), Fail> {
     let mut table = ThreadLocal::<u32>::new(rt.alloc());
     assert_eq!(rt; table.slots(), 0);
     {
+        let mut values = table.iter();
+        assert!(rt; values.next().is_none());
+    }
+    {
         let mut values = table.iter_mut();
         assert_eq!(rt; values.len(), 0);
         assert!(rt; values.next().is_none());

@@ -1,4 +1,4 @@
-//! An owner's walks over the values of a table.
+//! Walks over the values of a table.
 
 use std::sync::Wait;
 use std::test::Fail;
@@ -33,6 +33,14 @@ fn values_of_three_threads_are_walked_in_the_order_of_ids(rt: HostRuntime) -> Re
             || thread::join(&rt, || publish(second, 2), || publish(first, 1)),
         );
         assert_eq!(rt; (published, others), (true, (true, true)));
+    }
+    {
+        let mut values = table.iter();
+        for value in [1, 2, 3] {
+            assert_eq!(rt; values.next(), Some(&value));
+        }
+        assert!(rt; values.next().is_none());
+        assert!(rt; values.next().is_none());
     }
     {
         let mut values = table.iter_mut();
