@@ -1,6 +1,7 @@
 //! The slots of a bucket that stands while threads share it.
-ghost use Rattle.std.specs.Prelude.{◌^◌, ◌<◌};
-ghost use Rattle.thread_local_shared_word_logic.specs.Shared.{WordView, word_view_coded, row_owns};
+ghost use Rattle.std.specs.Prelude.{ℕ, ◌^◌, ◌<◌, List, option_map};
+ghost use types.Logic.{sem};
+ghost use Rattle.thread_local_shared_word_logic.specs.Shared.{WordView, word_view_coded, row_owns, published_at};
 ghost use denote.Sharing.{said};
 
 use std::marker::{Brand, Model, PhantomData};
@@ -8,18 +9,20 @@ use std::sync::atomic::Ordering::SeqCst;
 use std::sync::atomic::raw;
 use thread_local_blocks::Slot;
 
-/// The slots of a bucket, for as long as its word is borrowed. A contract sees of which word they are.
+/// The slots of a bucket, for as long as its word is borrowed. A contract sees of which word they are, and the name of each: under it is known
+/// what the slot holds.
 #[derive(Drop)]
 pub struct Row<'a, T> {
     pub at: *mut Slot<T>,
     pub marker: PhantomData<&'a T>,
     pub ghost of: { WordView } by { word_view_coded },
+    pub ghost names: { List ℕ },
 }
 
 impl<'a, T> Model for Row<'a, T> {
-    ghost also_owns = { λ r. row_owns T.row r.of 'a r.at };
+    ghost also_owns = { λ r. row_owns T.row r.of r.names 'a r.at };
 
-    ghost also_shares = { λ r _ κ. said (row_owns T.row r.of 'a r.at) κ };
+    ghost also_shares = { λ r _ κ. said (row_owns T.row r.of r.names 'a r.at) κ };
 }
 
 impl<'a, T: Sync> Row<'a, T> {
@@ -27,6 +30,7 @@ impl<'a, T: Sync> Row<'a, T> {
     /// load of the slot's flag: it takes no memory, and never waits.
     pub fn get(&self, index: usize) -> Option<&'a T>
         requires { index < 2 ^ self.now.of.bucket }
+        ensures* published { sem 𝓛 (published_at T.row self.now.names index (option_map (λ value. value.now) result)) }
     {
         let slot = unsafe { self.at.add(index) };
         let flag = unsafe { raw::load::<Brand>(&raw const (*slot).flag, SeqCst) };
