@@ -2,6 +2,7 @@
 ghost use Rattle.std.specs.Prelude.{◌≡◌, ◌<◌};
 ghost use Rattle.thread_local_model.specs.Place.{bucket_of};
 
+use crate::memory::take_all_but;
 use crate::steps::{first_three, look, publish_claimed};
 use std::alloc::Global;
 use std::cell::{Cell, RefCell};
@@ -77,10 +78,10 @@ fn claim_early<T>(shared: &Shared<T>, held: HeldId) -> Early<'_, T>
     }
 }
 
-/// Takes 16 KiB: a thousand blocks of 1024 such slots don't fit into memory.
+/// Takes 8 KiB, so a block of 1024 such slots takes 8 MiB.
 #[derive(Drop)]
 struct Large {
-    words: [u64; 2048],
+    words: [u64; 1024],
 }
 
 /// Takes so many ids and claims them, and then offers a block by each claim. Answers how often it did.
@@ -120,7 +121,7 @@ fn offer_by_all<R: Wait>(
     offered
 }
 
-// A thousand claims find bucket 10 missing, and each then offers a block for it.
+// A thousand claims find bucket 10 missing, and each then offers a block for it, where not even a hundred and thirty blocks can be had at a time.
 #[test]
 fn blocks_that_come_second_are_freed(rt: HostRuntime) -> Result<(), Fail> {
     let mut ids = Ids::new(rt.alloc());
@@ -131,8 +132,10 @@ fn blocks_that_come_second_are_freed(rt: HostRuntime) -> Result<(), Fail> {
     let shared = Shared::new(Buckets::new(rt.alloc()), ids.rights());
     let ids = LockedIds::new(ids);
     let alloc = rt.alloc();
-    assert_eq!(rt; offer_by_all(&shared, &ids, &rt, &alloc, 1001), 1001);
-    assert_eq!(rt; shared.into_buckets().slots(), 1024);
+    let taken = take_all_but(alloc, 1 << 30)?;
+    let offered = offer_by_all(&shared, &ids, &rt, &alloc, 1000);
+    drop(taken);
+    assert_eq!(rt; (offered, shared.into_buckets().slots()), (1000, 1024));
     Ok(())
 }
 

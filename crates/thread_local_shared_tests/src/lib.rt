@@ -12,6 +12,10 @@ mod handing;
 #[cfg(test)]
 mod installs;
 #[cfg(test)]
+mod looks;
+#[cfg(test)]
+mod memory;
+#[cfg(test)]
 mod races;
 #[cfg(test)]
 mod steps;

@@ -56,7 +56,7 @@ module _ {M : Type 1} {𝓤 : Ura M} (𝓛 : Logic 𝓤) (R : RattleType) (d : W
   row_dup t s β = let κ : Lft = s.own ∷ t.life in let Fits : Type 0 = (length s.names ≡ len R d) × Sized R (len R d) s.at in qed 𝓛 (‵ (loaded R d t s β) ∷ []) ∵ fsplit3 ! $ fpick ! (λ so. drop ! $ res_dup ! $ move ! (2 ∷ []) $
       use1 𝓛 (‵ (before β κ) ⊛ ‵ (before β κ)) (before_dup 𝓛 β κ) $ split ! $ move ! (2 ∷ 0 ∷ []) $ nothing ! $ fpack ! Fits (λ _. ftrue) so $ fjoin3 ! $ frame ! $ move ! (1 ∷ 0 ∷ []) $ nothing ! $ fpack ! Fits (λ _. ftrue) so $ fjoin3 ! $ done !)
 
-  pub found_dup : (β : Lft) (p : Ptr) → ent 𝓤 (sem 𝓛 (row_owns R d β p)) (sep 𝓤 (sem 𝓛 (row_owns R d β p)) (sem 𝓛 (row_owns R d β p)))
-  found_dup β p = qed 𝓛 (‵ (row_owns R d β p) ∷ []) ∵ fpick ! (λ z. let K : Fml = kept R d z.0 z.2 z.3 β in let W : Fml = loaded R d z.0 z.1 β in fsplit3 ! $ fpick ! (λ so. drop ! $
-      use1 𝓛 (‵ K ⊛ ‵ K) (kept_dup z.0 z.2 z.3 β) $ split ! $ move ! (2 ∷ []) $ use1 𝓛 (‵ W ⊛ ‵ W) (row_dup z.0 z.1 β) $ split ! $ move ! (2 ∷ 0 ∷ []) $ nothing ! $ fpack ! ((z.1.at ≡ p) × Judged R) (λ _. ftrue) so $ fjoin3 ! $
-      fpack ! Found (row_as R d β p) z $ frame ! $ move ! (1 ∷ 0 ∷ []) $ nothing ! $ fpack ! ((z.1.at ≡ p) × Judged R) (λ _. ftrue) so $ fjoin3 ! $ fpack ! Found (row_as R d β p) z $ done !))
+  pub found_dup : (names : List ℕ) (β : Lft) (p : Ptr) → ent 𝓤 (sem 𝓛 (row_owns R d names β p)) (sep 𝓤 (sem 𝓛 (row_owns R d names β p)) (sem 𝓛 (row_owns R d names β p)))
+  found_dup names β p = qed 𝓛 (‵ (row_owns R d names β p) ∷ []) ∵ fpick ! (λ z. let K : Fml = kept R d z.0 z.2 z.3 β in let W : Fml = loaded R d z.0 z.1 β in fsplit3 ! $ fpick ! (λ so. drop ! $
+      use1 𝓛 (‵ K ⊛ ‵ K) (kept_dup z.0 z.2 z.3 β) $ split ! $ move ! (2 ∷ []) $ use1 𝓛 (‵ W ⊛ ‵ W) (row_dup z.0 z.1 β) $ split ! $ move ! (2 ∷ 0 ∷ []) $ nothing ! $ fpack ! ((z.1.at ≡ p) × (z.1.names ≡ names) × Judged R) (λ _. ftrue) so $ fjoin3 ! $
+      fpack ! Found (row_as R d names β p) z $ frame ! $ move ! (1 ∷ 0 ∷ []) $ nothing ! $ fpack ! ((z.1.at ≡ p) × (z.1.names ≡ names) × Judged R) (λ _. ftrue) so $ fjoin3 ! $ fpack ! Found (row_as R d names β p) z $ done !))

@@ -1,7 +1,8 @@
 //! The slots of a bucket that stands while threads share it.
-ghost use Rattle.std.specs.Prelude.{◌^◌, ◌<◌};
+ghost use Rattle.std.specs.Prelude.{ℕ, ◌^◌, ◌<◌, List, option_map};
+ghost use types.Logic.{sem};
 ghost use Rattle.thread_local_judged.specs.Judged.{Shareable};
-ghost use Rattle.thread_local_shared_word_logic.specs.Shared.{WordView, word_view_coded, row_owns};
+ghost use Rattle.thread_local_shared_word_logic.specs.Shared.{WordView, word_view_coded, row_owns, published_at};
 ghost use denote.Sharing.{said};
 
 use std::marker::{Brand, Model, PhantomData};
@@ -9,18 +10,20 @@ use std::sync::atomic::Ordering::SeqCst;
 use std::sync::atomic::raw;
 use thread_local_blocks::Slot;
 
-/// The slots of a bucket, for as long as its word is borrowed. A contract sees of which word they are.
+/// The slots of a bucket, for as long as its word is borrowed. A contract sees of which word they are, and the name of each: under it is known
+/// what the slot holds.
 #[derive(Drop)]
 pub struct Row<'a, T> {
     pub at: *mut Slot<T>,
     pub marker: PhantomData<&'a T>,
     pub ghost of: { WordView } by { word_view_coded },
+    pub ghost names: { List ℕ },
 }
 
 impl<'a, T> Model for Row<'a, T> {
-    ghost also_owns = { λ r. row_owns T.row r.of 'a r.at };
+    ghost also_owns = { λ r. row_owns T.row r.of r.names 'a r.at };
 
-    ghost also_shares = { λ r _ κ. said (row_owns T.row r.of 'a r.at) κ };
+    ghost also_shares = { λ r _ κ. said (row_owns T.row r.of r.names 'a r.at) κ };
 }
 
 impl<'a, T> Row<'a, T> {
@@ -30,6 +33,7 @@ impl<'a, T> Row<'a, T> {
     pub fn get(&self, index: usize) -> Option<&'a T>
         requires shareable { Shareable T.row }
         requires inside { index < 2 ^ self.now.of.bucket }
+        ensures* published { sem 𝓛 (published_at T.row self.now.names index (option_map (λ value. value.now) result)) }
     {
         let slot = unsafe { self.at.add(index) };
         let flag = unsafe { raw::load::<Brand>(&raw const (*slot).flag, SeqCst) };

@@ -4,7 +4,8 @@ use seplogic.Ra.Ura.{Ura}
 use base.Logic.{SProp, ent, sep, ex, all_e}
 use base.Fml.{Lft, Share, Fml, ftrue, fsep, fex, fbor, flft, fres}
 use types.Logic.{Logic, sem}
-use types.Kit.{‵, raw, ◌⊛◌, check, show, ◌$◌, ◌∵◌, !, qed, move, split, fsplit3, fjoin3, fpack, use1, done}
+use types.Kit.{‵, raw, ◌⊛◌, check, show, ◌$◌, ◌∵◌, !, qed, move, split, fsplit3, fjoin, fjoin3, fpack, use1, done}
+use types.Tokens.{res_dup}
 use denote.RattleType.{RattleType}
 use denote.Memory.{shared_of}
 use denote.RawPtr.{block_ptr, block_of, count_of}
@@ -13,7 +14,7 @@ use denote.Param.Laws.{Laws}
 use Rattle.std.specs.Sync.RawAtomic.{asks, always}
 use Rattle.thread_local_judged.specs.Judged.{Shareable}
 use Rattle.thread_local_blocks.specs.Slots.{stride, value_at}
-use Rattle.thread_local_shared_word_logic.specs.Shared.{name_at, WordView, Turn, Standing, Who, mark, shared_value, opened, first, invariant}
+use Rattle.thread_local_shared_word_logic.specs.Shared.{name_at, WordView, Turn, Standing, Who, mark, pinned, shared_value, opened, first, invariant}
 use Rattle.thread_local_shared_word_logic.proofs.Rested.{opens_by}
 use Rattle.thread_local_shared_word_logic.proofs.Steps.{Stays, Had, Turned, stepped}
 
@@ -36,8 +37,9 @@ module _ {M : Type 1} {𝓤 : Ura M} (𝓛 : Logic 𝓤) (R : RattleType) (L : L
 
   infix 26 ◌⊢◌
   infixr 35 ◌∗◌
+  -- the value is the one that the slot holds for good, and is shared
   abbrev pub lent : R.Denot → Fml
-  lent x = shared_value R t b s.own e x
+  lent x = fsep (pinned R (name_at s.names i) x) (shared_value R t b s.own e x)
 
   abbrev pub seen : ℕ → Fml
   seen = by_flag lent
@@ -45,10 +47,11 @@ module _ {M : Type 1} {𝓤 : Ura M} (𝓛 : Logic 𝓤) (R : RattleType) (L : L
   looked : (q : Share) (v : Option R.Denot) (w : Who) → ⟦ Stays 𝓛 R d t wb wo s i k e b low at_k at_e at_b v ⟧ ∗ ⟦ Had 𝓛 R d t wb wo s i k e b low at_k at_e at_b v w ⟧ ∗ ⟦ ftrue ⟧ ⊢ ex 𝓤 (Turned 𝓛 R d t wb wo s i k e b low at_k at_e at_b q (λ n. n) seen v)
   looked q None w = let F = Turned 𝓛 R d t wb wo s i k e b low at_k at_e at_b q (λ n. n) seen None in
       qed 𝓛 (‵ (Stays 𝓛 R d t wb wo s i k e b low at_k at_e at_b None) ∷ ‵ (Had 𝓛 R d t wb wo s i k e b low at_k at_e at_b None w) ∷ ‵ ftrue ∷ []) ∵ show ! F (None, w) $ check ! refl $ done !
-  looked q (Some x) w = let F = Turned 𝓛 R d t wb wo s i k e b low at_k at_e at_b q (λ n. n) seen (Some x) in let S : Lft → Fml = shared_of R x b (value_at R e) in
-      qed 𝓛 (‵ (Stays 𝓛 R d t wb wo s i k e b low at_k at_e at_b (Some x)) ∷ ‵ (Had 𝓛 R d t wb wo s i k e b low at_k at_e at_b (Some x) w) ∷ ‵ ftrue ∷ []) ∵ fsplit3 ! $ move ! (2 ∷ []) $
-      use1 𝓛 (‵ (lent x)) (all_e 𝓤 (λ (_ : Shareable R). ⟦ lent x ⟧) j) $ use1 𝓛 (‵ (lent x) ⊛ ‵ (lent x)) (contraction 𝓛 S (L.shr_laws x b (value_at R e)) (s.own ∷ t.life)) $ split ! $
-      use1 𝓛 (‵ (opened R t b s.own e x)) (opens_by 𝓛 t R L b s.own e (name_at s.names i) x) $ move ! (2 ∷ 3 ∷ 0 ∷ []) $ fjoin3 ! $ move ! (1 ∷ []) $ fpack ! R.Denot lent x $
+  looked q (Some x) w = let F = Turned 𝓛 R d t wb wo s i k e b low at_k at_e at_b q (λ n. n) seen (Some x) in let S : Lft → Fml = shared_of R x b (value_at R e) in let shared : R.Denot → Fml = shared_value R t b s.own e in
+      qed 𝓛 (‵ (Stays 𝓛 R d t wb wo s i k e b low at_k at_e at_b (Some x)) ∷ ‵ (Had 𝓛 R d t wb wo s i k e b low at_k at_e at_b (Some x) w) ∷ ‵ ftrue ∷ []) ∵ fsplit3 ! $ move ! (1 ∷ []) $ res_dup ! $ move ! (3 ∷ []) $
+      use1 𝓛 (‵ (shared x)) (all_e 𝓤 (λ (_ : Shareable R). ⟦ shared x ⟧) j) $ use1 𝓛 (‵ (shared x) ⊛ ‵ (shared x)) (contraction 𝓛 S (L.shr_laws x b (value_at R e)) (s.own ∷ t.life)) $ split ! $
+      -- [what is shared, twice; the pin, twice; the token; what else is had]
+      use1 𝓛 (‵ (opened R t b s.own e x)) (opens_by 𝓛 t R L b s.own e (name_at s.names i) x) $ move ! (4 ∷ 2 ∷ 0 ∷ []) $ fjoin3 ! $ move ! (2 ∷ 1 ∷ []) $ fjoin ! $ fpack ! R.Denot lent x $
       show ! F (Some x, w) $ check ! refl $ types.Kit.keep ! (1 ∷ 2 ∷ 0 ∷ []) $ done !
 
   pub looks : (q : Share) → A.inv (fbor t.life (invariant R d t wb wo)) ∗ (A.lft t.life q ∗ (⟦ fres t.which (mark s) ⟧ ∗ ⟦ ftrue ⟧)) ⊢ asks 𝓛 (block_ptr b (e + 0)) (λ n. n) always (λ n. fsep (flft t.life q) (seen n))

@@ -86,5 +86,5 @@ module _ (R : RattleType) (s : IsSend R) where
   at_rest_keyless d null_ptr = λ _. tt
   at_rest_keyless d (block_ptr b o) = ((λ _. tt), (slots_rest_keyless (len R d) b o, token_keyless (block_ty R (len R d)) (block_ptr b o)))
 
-  pub found_keyless : (d : WordView) (β : Lft) (p : Ptr) → Keyless (row_owns R d β p)
-  found_keyless d β p = λ z. ((λ _. tt), (kept_keyless d z.0 z.2 z.3 β, row_keyless d z.0 z.1 β))
+  pub found_keyless : (d : WordView) (names : List ℕ) (β : Lft) (p : Ptr) → Keyless (row_owns R d names β p)
+  found_keyless d names β p = λ z. ((λ _. tt), (kept_keyless d z.0 z.2 z.3 β, row_keyless d z.0 z.1 β))

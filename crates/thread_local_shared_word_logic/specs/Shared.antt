@@ -266,12 +266,17 @@ module _ (R : RattleType) where
     word_shares (block_ptr b o) = beside (said (fact (Judged R))) (some Turn (λ t. kept t b (o + 0)))
     word_shares null_ptr = said ffalse
 
-  -- 6. What a load hands out, as a value.
-  module _ (d : WordView) where
-    -- the word is shared, and this block stands
+  -- 6. What a load hands out, as a value, and what a look says of the value that it finds.
+  module _ (d : WordView) (names : List ℕ) where
+    -- the word is shared, and this block stands, whose slots have these names
     abbrev pub row_as : Lft → Ptr → Found → Fml
-    row_as β p z = fsep (fact ((z.1.at ≡ p) × Judged R)) (fsep (kept d z.0 z.2 z.3 β) (loaded d z.0 z.1 β))
+    row_as β p z = fsep (fact ((z.1.at ≡ p) × (z.1.names ≡ names) × Judged R)) (fsep (kept d z.0 z.2 z.3 β) (loaded d z.0 z.1 β))
 
     -- the same of some block at p
     abbrev pub row_owns : Lft → Ptr → Fml
     row_owns β p = fex Found (row_as β p)
+
+  -- a value that is found at the index of a row is the one that the slot of this name holds for good
+  abbrev pub published_at : List ℕ → ℕ → Option R.Denot → Fml
+  published_at names i None = ftrue
+  published_at names i (Some x) = pinned (name_at names i) x

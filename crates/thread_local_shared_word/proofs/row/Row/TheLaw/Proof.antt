@@ -27,6 +27,6 @@ lends_twice {𝓤 = 𝓤} 𝓛 P twice l κ ts inc sp = let Back = 𝓛.H.⇛ (s
 
 pub shares : (a : NamedLft) (T : RattleType) (L : Laws T) → statement a T L
 shares a T L = of_Lends (C.struct a T) (C.the_codes T.Denot T.coded (P.the_row (ShrRef a.mir a.lft T)).coded) (C.the_heap a.lft T) (C.the_lent a.lft T)
-    (λ d p. record { contraction = λ M 𝓤 𝓛 κ. found_dup 𝓛 T d.of a.lft d.at; mono = λ M 𝓤 𝓛 κ' κ. snd∗ 𝓤 (sem 𝓛 (before κ' κ)) (sem 𝓛 (row_owns T d.of a.lft d.at)) })
+    (λ d p. record { contraction = λ M 𝓤 𝓛 κ. found_dup 𝓛 T d.of d.names a.lft d.at; mono = λ M 𝓤 𝓛 κ' κ. snd∗ 𝓤 (sem 𝓛 (before κ' κ)) (sem 𝓛 (row_owns T d.of d.names a.lft d.at)) })
     (copy_shared RawPtr-field RawPtr-copy, (copy_shared (P.the_field (ShrRef a.mir a.lft T)) (field_copy (P.the_type (ShrRef a.mir a.lft T)) tt), tt))
-    (λ M 𝓤 𝓛 d p. lends_twice 𝓛 (row_owns T d.of a.lft d.at) (found_dup 𝓛 T d.of a.lft d.at) (C.the_row a T).lives)
+    (λ M 𝓤 𝓛 d p. lends_twice 𝓛 (row_owns T d.of d.names a.lft d.at) (found_dup 𝓛 T d.of d.names a.lft d.at) (C.the_row a T).lives)

@@ -20,7 +20,7 @@ use Rattle.std.proofs.option.Made.{Some-of, none_of}
 use Rattle.std.proofs.raw_atomic.Calls.{found, finds, loads, seq_cst}
 use Rattle.thread_local_blocks.specs.Slots.{stride, value_at, Fits}
 use Rattle.thread_local_blocks.proofs.Fields.{uncapped}
-use Rattle.thread_local_shared_word_logic.specs.Shared.{WordView, Turn, Standing, mark, first as first_id, invariant, row_owns}
+use Rattle.thread_local_shared_word_logic.specs.Shared.{WordView, Turn, Standing, name_at, mark, pinned, first as first_id, invariant, row_owns}
 use Rattle.thread_local_shared_word_logic.proofs.Looks as steps
 use Rattle.thread_local_shared_word_logic.proofs.Looks.{by_flag}
 use Rattle.thread_local_shared_word.specs.contracts.row.Row as Row
@@ -56,7 +56,7 @@ get_spec {M} 𝓤 𝓛 𝓜 𝓡 wired T L =
     qed 𝓛 (((‵ (flft κ qs.0) ⊛ ‵ (flft β q) ⊛ ‵ rest) ⊛ ‵ (owns (types_at En.signature.params κs) a y.0.4)) ∷ raw (fact 𝓤 _) ∷ raw (fact 𝓤 (Shareable R)) ∷ raw (fact 𝓤 (i < 2 ^ d.bucket)) ∷ []) ∵
     keep ! (2 ∷ 3 ∷ 0 ∷ []) $ heard ! (Shareable R) (λ shareable. heard ! (i < 2 ^ d.bucket) (λ near. split ! $ split3 ! $ move ! (3 ∷ []) $ fsplit3 ! $ fsplit ! $ keep ! (1 ∷ 4 ∷ 5 ∷ 6 ∷ []) $
     enter ! 𝓣.C 𝓣.Λ fn (vptr b o ∷ vint w64 i ∷ []) Post $ alloc_all ! (λ l. pass_all ! refl ((tt, tt), ((tt, record { fits = are.1.0.1 }), tt)) $ let Ev = env fn.locals l in
-    use1 𝓛 (‵ (hidden_shr D κ (p, (record {}, tt)) b o) ⊛ ‵ (fhide (row_owns R d β p)))
+    use1 𝓛 (‵ (hidden_shr D κ (p, (record {}, tt)) b o) ⊛ ‵ (fhide (row_owns R d h.names β p)))
     (lent_out 𝓛 (Row.struct ℓ R) (Row.the_codes T.Denot R.coded (marker.the_row (ShrRef ℓ.mir ℓ.lft R)).coded) (Row.the_heap β R) (Row.the_lent β R) κ h b o) $
     split ! $ move ! (1 ∷ []) $ unhide ! $ fpick ! (λ z. let t : Turn = z.0 in let sd : Standing = z.1 in let J : Fml = fbor t.life (invariant R d t z.2 z.3) in let Which : Fml = fres t.which (mark sd) in fsplit3 ! $ fpick ! (λ so. drop ! $ fsplit ! $ move ! (2 ∷ []) $ fsplit3 ! $ fpick ! (λ long. drop ! $
     -- [which; before the block's own; before; the invariant; the fields; κ's token; β's; the others]
@@ -88,11 +88,11 @@ get_spec {M} 𝓤 𝓛 𝓜 𝓡 wired T L =
     (λ _. sets_last ! (agg ! (and_then ! (lit ! tt) (no_more !))) refl (tt, (record { fits = lit< tt }, tt)) $ exec ! 𝓣.C 𝓣.Λ Ev (after 7 fn.body) (at_ret Ev Post) $ sets ! (of_opd ! (get ! refl)) refl (tt, (record { fits = lit< tt }, tt)) $
     nothing ! $ use0 𝓛 (‵ ((Opt.the_row G).own_val None (live 0 vnil ∷ []))) (none_of 𝓛 G) $ nothing ! $ nothing ! $ fjoin ! $ nothing ! $ fjoin ! $
     returns ! (look_at ! 0 refl) $ free_all ! refl $ keep ! (3 ∷ 0 ∷ 1 ∷ 2 ∷ []) $ by ! (leaves 𝓛 En hs c y (live 0 vnil) None (tt, (tt, tt)) (tt, (tt, tt))))
-    (λ set. move ! (1 ∷ []) $ use1 𝓛 (‵ (fex R.Denot lent)) (was_set 𝓛 lent n set) $ fpick ! (λ x. let at_value : ℕ = value_at R e in let S : Lft → Fml = shared_of R x pb at_value in
-    move ! (3 ∷ 0 ∷ []) $ use2 𝓛 (‵ (S β)) ((LR.shr_laws x pb at_value).mono M 𝓤 𝓛 β (sd.own ∷ t.life)) $ hide ! $
+    (λ set. move ! (1 ∷ []) $ use1 𝓛 (‵ (fex R.Denot lent)) (was_set 𝓛 lent n set) $ fpick ! (λ x. let at_value : ℕ = value_at R e in let S : Lft → Fml = shared_of R x pb at_value in fsplit ! $
+    rewrite ! 0 (λ (names : List ℕ). ‵ (pinned R (name_at names i) x)) so.1 refl $ move ! (4 ∷ 1 ∷ []) $ use2 𝓛 (‵ (S β)) ((LR.shr_laws x pb at_value).mono M 𝓤 𝓛 β (sd.own ∷ t.life)) $ hide ! $
     let Then = any_q (after_seq 𝓤 H (Wp 𝓤 H 𝓣.C 𝓣.Λ Ev (after 7 fn.body) (at_return 𝓤 H Ev Post)) (at_return 𝓤 H Ev Post)) in let r : G.Denot = record { ref_ptr = (pb, at_value); now = x } in let v₁ : Val = live 1 (vcons (vptr pb at_value) vnil) in
     first ! $ blocks ! $ sets_last ! (addr ! (through ! refl (fld ! refl (stop !)))) refl (tt, tt) $ exec ! 𝓣.C 𝓣.Λ Ev wraps Then $ sets ! (of_opd ! (get ! refl)) refl (tt, tt) $
     sets_last ! (agg ! (and_then ! (lit ! tt) (and_then ! (get ! refl) (no_more !)))) refl (tt, (record { fits = lit< tt }, (tt, tt))) $ exec ! 𝓣.C 𝓣.Λ Ev (after 7 fn.body) (at_ret Ev Post) $ sets ! (of_opd ! (get ! refl)) refl (tt, (record { fits = lit< tt }, (tt, tt))) $
     feq_i ! (List Val) (vptr pb at_value ∷ []) (vptr pb at_value ∷ []) refl $ fjoin ! $ use1 𝓛 (‵ ((Opt.the_row G).own_val (Some r) (v₁ ∷ []))) (Some-of 𝓛 G r (vptr pb at_value)) $
-    nothing ! $ move ! (1 ∷ 0 ∷ []) $ nothing ! $ nothing ! $ fjoin ! $ nothing ! $ fjoin ! $
+    nothing ! $ nothing ! $ fjoin ! $ nothing ! $ fjoin ! $
     returns ! (look_at ! 0 refl) $ free_all ! refl $ keep ! (3 ∷ 0 ∷ 1 ∷ 2 ∷ []) $ by ! (leaves 𝓛 En hs c y v₁ (Some r) (tt, (tt, tt)) (tt, (tt, tt)))))))))))))))))

@@ -59,9 +59,9 @@ load_spec 𝓤 𝓛 𝓜 𝓡 wired T L =
     -- [κ's token; what was seen; the invariant; before, twice; the other tokens]
     move ! (1 ∷ []) $ fsplit ! $ fpick ! (λ z. move ! (0 ∷ 4 ∷ []) $ use2 𝓛 (later (‵ (said_fact ((z.0.at ≡ p) × Sized R (len R d) p)) ⊛ ‵ (loaded R d t z.0 κ))) (reaches 𝓛 R d t κ p z) $ await ! tt $ split ! $ fpick ! (λ so. drop ! $
     -- [the row; nothing; κ's token; the invariant; before; the other tokens]
-    move ! (4 ∷ 3 ∷ []) $ fjoin ! $ nothing ! $ fpack ! ((z.0.at ≡ p) × Judged R) (λ _. ftrue) (so.0, j) $ fjoin3 ! $ fpack ! Found (row_as R d κ p) (t, z.0, b, o + 0) $
+    move ! (4 ∷ 3 ∷ []) $ fjoin ! $ nothing ! $ fpack ! ((z.0.at ≡ p) × (z.0.names ≡ z.0.names) × Judged R) (λ _. ftrue) (so.0, refl, j) $ fjoin3 ! $ fpack ! Found (row_as R d z.0.names κ p) (t, z.0, b, o + 0) $
     sets ! (of_opd ! (get ! refl)) refl (tt, tt) $ sets ! (bin ! (get ! refl) (lit ! tt) (tests_null p so.1.1)) refl (tt, tt) $ first ! $ branches ! (get ! refl) (λ wrong. absurd wrong) (λ _.
-    let r : G.Denot = record { at = p; marker = record {}; of = d } in let v : Val = live 1 (vcons (row_val p) vnil) in
+    let r : G.Denot = record { at = p; marker = record {}; of = d; names = z.0.names } in let v : Val = live 1 (vcons (row_val p) vnil) in
     sets ! (of_opd ! (get ! refl)) refl (tt, tt) $ sets ! (agg ! (no_more !)) refl (tt, tt) $ sets ! (agg ! (and_then ! (get ! refl) (and_then ! (get ! refl) (no_more !)))) refl (row_good p) $
     sets_last ! (agg ! (and_then ! (lit ! tt) (and_then ! (get ! refl) (no_more !)))) refl (tt, (record { fits = lit< tt }, ((tt, (tt, tt)), tt))) $ exec ! 𝓣.C 𝓣.Λ Ev (after 4 fn.body) (at_ret Ev Post) $
     sets ! (of_opd ! (get ! refl)) refl (tt, (record { fits = lit< tt }, ((tt, (tt, tt)), tt))) $
