@@ -4,5 +4,6 @@
 //! The definitions stand in specs/. Each function here has an empty body: its contract is a set of laws.
 #![tactic(auto)]
 
+pub mod cleared;
 pub mod made;
 pub mod walks;
