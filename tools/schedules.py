@@ -33,7 +33,6 @@ class Moment:
     most: int  # the greatest number of ids held at once since the table was made or cleared
     publishings: int  # how many values were published since then
     bound: int  # each take so far came while fewer ids than this were held
-    cleared: bool  # whether the table was cleared so far
 
 
 # ---- clauses on every event ----------------------------------------------------------------------------
@@ -132,14 +131,31 @@ def clause_ends(m):
 
 
 def clause_cleared(m):
-    return not is_clear(m) or model.shadow(m.after) == new_sheet()
+    return not is_clear(m) or model.shadow(m.after) == replace(new_sheet(), capacity=model.shadow(m.before).capacity)
+
+
+def clause_cleared_stands(m):
+    digits = model.binary_digits(m.before.capacity)
+    return not is_clear(m) or all(model.stands(m.after.table, b) == (b < digits) for b in range(model.BUCKETS))
+
+
+def clause_cleared_slots(m):
+    return not is_clear(m) or all(model.slot_at(m.after.table, k) == Slot() for k in range(model.IDS))
+
+
+def clause_slots_of_cleared(m):
+    return not is_clear(m) or model.slots(m.after.table) == model.reserved_slots(m.capacity)
 
 
 def clause_after_clear(m):
     if not is_clear(m):
         return True
     made = live_local(model.happens(m.after, ("TakeId", False, 0)), len(m.after.locals))
-    return made is not None and made.id == 0 and made.start == View(None, False)
+    return made is not None and made.id == 0 and made.start == View(None, is_reserved(m.capacity, 0))
+
+
+def clause_capacity(m):
+    return model.shadow(m.after).capacity == m.capacity
 
 
 def clause_peak(m):
@@ -204,12 +220,19 @@ def clause_headline_new(m):
 
 
 def clause_headline_capacity(m):
-    return m.cleared or m.bound > m.capacity or not model.is_refused(m.before, m.event)
+    return m.bound > m.capacity or not model.is_refused(m.before, m.event)
 
 
 def clause_words(m):
     old, new = m.before.table.words, m.after.table.words
     return model.is_exclusive(m.event) or all(a is None or (b is not None and a.number == b.number) for a, b in zip(old, new))
+
+
+def clause_reserved_words(m):
+    """The word of a reserved bucket names that bucket for good."""
+    digits = model.binary_digits(m.capacity)
+    old, new = m.before.table.words[:digits], m.after.table.words[:digits]
+    return all(a is None or (b is not None and a.number == b.number) for a, b in zip(old, new))
 
 
 def clause_walk_complete(m):
@@ -325,7 +348,8 @@ def clause_refusal(m):
 
 
 def clause_cleared_core(m):
-    return not is_clear(m) or m.after == new_core()
+    """A clear changes the held ids and the table, and nothing else."""
+    return not is_clear(m) or m.after == replace(m.before, held=(), table=m.after.table)
 
 
 def clause_comes(m):
@@ -528,7 +552,7 @@ def one_schedule(seed, length, seen):
     chance = random.Random(seed)
     capacity = min(chance.choice([0, 0, 0, 1, 2, 3, 4, model.IDS]), model.IDS)
     core = model.made_core(capacity, chance.choice([0, 0, 1, 3]))
-    most, bound, publishings, cleared, events, waiting = 0, 0, 0, False, [], []
+    most, bound, publishings, events, waiting = 0, 0, 0, [], []
     for mark in range(length):
         if not waiting and chance.random() < 0.012:
             waiting = quiet_events(chance, core)
@@ -544,10 +568,10 @@ def one_schedule(seed, length, seen):
             name = ("refused " if model.is_refused(core, event) else "") + kind_of(event)
             seen[name] = seen.get(name, 0) + 1
             if event == ("Owner", ("ClearTable",)):
-                cleared, most, publishings = True, 0, 0
+                most, publishings = 0, 0
             publishings += model.move_of(core, event)[0] == "Publish"
         most = max(most, held_count(after.held))
-        moment = Moment(capacity, core, event, after, most, publishings, bound, cleared)
+        moment = Moment(capacity, core, event, after, most, publishings, bound)
         for name, clause in CLAUSES.items():
             try:
                 well = clause(moment)
@@ -654,7 +678,7 @@ def wrong_bodies():
         "the walk stops at the first empty word": {"WALK_STEPS": {**model.WALK_STEPS, "Load": stops_early}},
         "take refuses below the room": {"is_granted": lambda core, refused: not (model.is_exhausted(core) or refused)},
         "install installs the next bucket too": steps(InstallBucket=installs_two),
-        "clear keeps values": {"cleared": lambda core: replace(new_core(), table=core.table)},
+        "clear keeps values": {"cleared": lambda core: replace(core, held=())},
         "a reused id's slot is emptied by the take": {"take": empties_slot},
         "the closure's error publishes": steps(WriteValue=error_publishes),
         "the exclusive walk leaves out the last bucket": {"owner_walk": leaves_last},
@@ -663,7 +687,7 @@ def wrong_bodies():
 
 def more_wrong_bodies():
     """Wrong bodies on who may do what, on calls, numbers and walks."""
-    right = {name: getattr(model, name) for name in ("take", "step", "local_step", "forget", "end_walk", "begin_walk", "owner_call")}
+    right = {name: getattr(model, name) for name in ("take", "step", "local_step", "forget", "end_walk", "begin_walk", "owner_call", "cleared")}
 
     def gives_back_early(core, number):
         local = live_local(core, number)
@@ -719,7 +743,25 @@ def more_wrong_bodies():
         after = right["take"](core, refused, growth)
         return replace(core, room=core.room + 1) if after is core else after
 
-    def keeps_room(core):
+    def drops_room(core):
+        return replace(right["cleared"](core), room=core.capacity)
+
+    def frees_reserved(core):
+        return replace(right["cleared"](core), table=model.cleared_table(core.table, 0))
+
+    def keeps_flag(core):
+        after = right["cleared"](core)
+        return replace(after, table=model.with_slot(after.table, 0, Slot(None, model.slot_at(core.table, 0).flag)))
+
+    def keeps_ids(core):
+        return replace(right["cleared"](core), held=core.held)
+
+    def renames_reserved(core):
+        fresh = model.made_core(core.capacity, 0).table
+        words = tuple(it and replace(it, number=it.number + core.table.made) for it in fresh.words)
+        return replace(right["cleared"](core), table=model.Table(words, core.table.made + fresh.made))
+
+    def forgets_capacity(core):
         return replace(new_core(), room=core.room)
 
     def offers_over_gets(table, local, create):
@@ -780,7 +822,12 @@ def more_wrong_bodies():
         "no take while a walk runs": takes_where(lambda core: not walking(core)),
         "no take while five are held": takes_where(lambda core: held_count(core.held) < 5),
         "a refused take grows room": {"take": grows_room},
-        "clear keeps the room": {"cleared": keeps_room},
+        "clear lets the room go": {"cleared": drops_room},
+        "clear frees the reserved buckets": {"cleared": frees_reserved},
+        "clear leaves a flag set in a reserved bucket": {"cleared": keeps_flag},
+        "clear keeps ids held": {"cleared": keeps_ids},
+        "clear frees the reserved buckets and makes them again": {"cleared": renames_reserved},
+        "clear forgets the capacity": {"cleared": forgets_capacity},
         "a publishing call begins over gets, which vanish": steps(BeginGetOr=offers_over_gets),
         "a get begins over a publishing call": steps(BeginGet=gets_over_offer),
         "a get ends with no record": unrecorded("Reply", "Get"),

@@ -88,7 +88,7 @@ def moved(sheet, move):
         case ("Rewrite", others):
             return replace(sheet, values=tuple(others(k, v) if v is not None else None for k, v in enumerate(sheet.values)))
         case ("Clear",):
-            return new_sheet()
+            return replace(new_sheet(), capacity=sheet.capacity)
         case ("Stay",):
             return sheet
 
@@ -503,8 +503,17 @@ def rewritten(table, others):
     return replace(table, words=words)
 
 
+def cleared_table(table, capacity):
+    digits = binary_digits(capacity)
+    words = tuple(
+        None if b >= digits or named is None else fresh_bucket(b, named.number)
+        for b, named in enumerate(table.words)
+    )
+    return replace(table, words=words)
+
+
 def cleared(core):
-    return new_core()
+    return replace(core, held=(), table=cleared_table(core.table, core.capacity))
 
 
 def owner_call(core, call):

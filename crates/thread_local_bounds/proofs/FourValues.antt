@@ -8,7 +8,8 @@ use Rattle.thread_local_core.specs.Core.{new_core, shadow}
 use Rattle.thread_local_schedule.specs.Events.{Owner, ClearTable, happens, is_enabled, run}
 use Rattle.thread_local_bounds.specs.Story.{four_publish, after_publishing, after_all}
 use Rattle.thread_local_core.proofs.Parts.{made_core-fits}
-use Rattle.thread_local_core.proofs.CoreLaws.{none_if, none_made}
+use Rattle.thread_local_core.proofs.CoreLaws.{none_if}
+use Rattle.thread_local_core.proofs.ClearedLaws.{none_cleared}
 use Rattle.thread_local_bounds.proofs.FourLocals.{by_steps, four_held, clears}
 use Rattle.thread_local_core.specs.CoreFits.{CoreFits}
 
@@ -37,4 +38,4 @@ module _ (T F : Type 0) (a b c d : T) where
 
   pub clear_of_four : IsTrue (is_enabled (after_all {V = T} {E = F} a b c d) (Owner ClearTable)) × (shadow (happens (after_all {V = T} {E = F} a b c d) (Owner ClearTable)) ≡ new_sheet)
   unfolding by_steps
-  clear_of_four = (clears T F a b c d, ap (λ values. record { held = []; values = values; capacity = 0 }) (none_made T 0))
+  clear_of_four = (clears T F a b c d, ap (λ values. record { held = []; values = values; capacity = 0 }) (none_cleared (after_all {V = T} {E = F} a b c d).table 0))

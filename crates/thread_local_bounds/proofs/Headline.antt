@@ -1,22 +1,22 @@
 use Rattle.std.proofs.Common.{◌≡◌, ℕ, ◌-◌, ◌*◌, ◌^◌, ◌<◌, ◌≤◌, Bool, false, List, [], ◌∷◌, length, Option, Some, None, IsTrue, refl, ap, ◌∙◌, arith, ⊎_elim}
-use Rattle.std.proofs.lemmas.Bool.{cases_Bool, cond_both, lt-ltb, and_left, and_right}
-use Rattle.thread_local_model.specs.Held.{held_count, is_granted}
-use Rattle.thread_local_model.specs.Sheet.{Move, Take, Give, Publish, Clear}
+use Rattle.std.proofs.lemmas.Bool.{cases_Bool, lt-ltb, and_left, and_right}
+use Rattle.thread_local_model.specs.Held.{held_count}
+use Rattle.thread_local_model.specs.Sheet.{Move, Take, Give, Publish}
 use Rattle.thread_local_model.specs.Capacity.{reserved_slots}
 use Rattle.thread_local_steps.specs.Local.{Local, LocalStep, MakeBucket}
 use Rattle.thread_local_steps.specs.Fits.{value_set}
 use Rattle.thread_local_core.specs.Core.{Core, made_core, new_core, shadow, installed_slots, peak}
 use Rattle.thread_local_schedule.specs.Events.{Event, TakeId, OfLocal, GiveBack, Owner, IterMut, ClearTable, step_of, step, is_enabled, happens, run}
-use Rattle.thread_local_schedule.specs.Schedule.{publishing, move, move_of, is_take, is_clear, refuses, is_refused}
+use Rattle.thread_local_schedule.specs.Schedule.{publishing, move, move_of, is_take, refuses, is_refused}
 use Rattle.thread_local_core.proofs.HeldCounts.{held_below}
 use Rattle.thread_local_core.specs.CoreFits.{CoreFits}
 use Rattle.thread_local_schedule.proofs.Kept.{happens-fits, run-fits}
 use Rattle.thread_local_schedule.proofs.EventSays.{event_says}
-use Rattle.thread_local_bounds.specs.Bounds.{TakesBelow, NothingRefused, NeverCleared}
-use Rattle.thread_local_bounds.proofs.PeakLaws.{run_capacity, within_capacity, reserved}
+use Rattle.thread_local_bounds.specs.Bounds.{TakesBelow, NothingRefused}
+use Rattle.thread_local_bounds.proofs.PeakLaws.{capacity_stays, run_capacity, within_capacity, reserved}
 use Rattle.thread_local_core.proofs.Parts.{made_core-fits}
 use Rattle.thread_local_core.proofs.CoreLaws.{installed_bound}
-use Rattle.thread_local_core.proofs.SheetLaws.{moved_peak, same_peak, same_capacity}
+use Rattle.thread_local_core.proofs.SheetLaws.{moved_peak, same_peak}
 use Rattle.thread_local_core.proofs.OptionLaws.{not_mapped, not_if, none_enabled}
 use Rattle.thread_local_model.proofs.CapacityLaws as reserve
 
@@ -25,7 +25,7 @@ not_published : {V E : Type 0} (o : Option (Local V E)) (step : LocalStep V E) (
 not_published None step m other e = cc
 not_published (Some local) step m other e = not_mapped (value_set local.doing step) (λ v. Publish local.id v) m (λ v. other local.id v) e
 
--- an event that is no take is not the move of one, and one that is no clear is not that of a clear
+-- an event that is no take is not the move of one
 no_take : {V E : Type 0} (core : Core V E) (event : Event V E) → is_take event ≡ false → move_of core event ≡ Some Take → ⊥
 no_take core (TakeId refused growth) f e = cc
 no_take core (OfLocal number step) f e = not_published (core.locals number) step Take (λ id v same. cc) e
@@ -33,14 +33,6 @@ no_take core (GiveBack number) f e = not_mapped (core.locals number) (λ local. 
 no_take core (Owner (IterMut others)) f e = cc
 no_take core (Owner ClearTable) f e = cc
 no_take core _ f e = cc
-
-no_clear : {V E : Type 0} (core : Core V E) (event : Event V E) → is_clear event ≡ false → move_of core event ≡ Some Clear → ⊥
-no_clear core (TakeId refused growth) f e = cond_both {A = Option (Move _)} (is_granted core.manager refused) (Some Take) None (λ o. o ≡ Some Clear → ⊥) (λ _ x. cc) (λ _ x. cc) e
-no_clear core (OfLocal number step) f e = not_published (core.locals number) step Clear (λ id v same. cc) e
-no_clear core (GiveBack number) f e = not_mapped (core.locals number) (λ local. Give local.id) Clear (λ local same. cc) e
-no_clear core (Owner (IterMut others)) f e = cc
-no_clear core (Owner ClearTable) f e = cc
-no_clear core _ f e = cc
 
 -- so where each take comes while fewer than p ids are held, the peak stays within p
 event_peak : {V E : Type 0} (p : ℕ) (core : Core V E) (event : Event V E) → CoreFits core → (IsTrue (is_take event) → held_count core.manager.held < p) → peak core ≤ p → peak (happens core event) ≤ p
@@ -59,12 +51,7 @@ run_peak p core (event ∷ events) h few l = run_peak p (happens core event) eve
 pub bounded : {V E : Type 0} (p : ℕ) (events : List (Event V E)) → TakesBelow p new_core events → installed_slots (run new_core events) ≤ 2 * p - 1
 bounded p events few =
     let made = made_core-fits 0 0 (omega arith) in
-    installed_bound (run new_core events) p (run-fits new_core events made) (omega (arith, run_capacity new_core events 0 made (omega arith))) (run_peak p new_core events made few (omega arith))
-
-capacity_stays : {V E : Type 0} (core : Core V E) (event : Event V E) → CoreFits core → is_clear event ≡ false → (happens core event).capacity ≡ core.capacity
-capacity_stays core event h f =
-    ap (λ sheet. sheet.capacity) (event_says core event h).moves
-    ∙ same_capacity (shadow core) (move core event) (not_if (is_enabled core event) (move_of core event) Clear (no_clear core event f))
+    installed_bound (run new_core events) p (run-fits new_core events made) (omega (arith, run_capacity new_core events made)) (run_peak p new_core events made few (omega arith))
 
 -- a step of a Local that doesn't live is not enabled
 step_of_none : {V E : Type 0} (core : Core V E) (n : ℕ) (step : LocalStep V E) → core.locals n ≡ None → is_enabled core (OfLocal n step) ≡ false
@@ -85,14 +72,13 @@ granted core (TakeId refused growth) h l few = within_capacity core refused grow
 granted core (OfLocal number (MakeBucket refused)) h l few = asks_nothing core number refused (core.locals number) refl h l
 granted core event h l few = and_right (is_enabled core event) (refuses core event) refl
 
-nothing_refused : {V E : Type 0} (n p : ℕ) (core : Core V E) (events : List (Event V E)) → CoreFits core → core.capacity ≡ n → p ≤ n → peak core ≤ p → TakesBelow p core events → NeverCleared events
-    → NothingRefused core events
-nothing_refused n p core [] h c l top few never = tt
-nothing_refused n p core (event ∷ events) h c l top few never = (
+nothing_refused : {V E : Type 0} (n p : ℕ) (core : Core V E) (events : List (Event V E)) → CoreFits core → core.capacity ≡ n → p ≤ n → peak core ≤ p → TakesBelow p core events → NothingRefused core events
+nothing_refused n p core [] h c l top few = tt
+nothing_refused n p core (event ∷ events) h c l top few = (
   (granted core event h (omega arith) (λ t. omega (arith, few.0 t))),
-  (nothing_refused n p (happens core event) events (happens-fits core event h) (capacity_stays core event h never.0 ∙ c) l (event_peak p core event h few.0 top) few.1 never.1),
+  (nothing_refused n p (happens core event) events (happens-fits core event h) (capacity_stays core event h ∙ c) l (event_peak p core event h few.0 top) few.1),
 )
 
-pub refuses_nothing : {V E : Type 0} (capacity extra p : ℕ) (events : List (Event V E)) → capacity < 2 ^ 63 → p ≤ capacity → TakesBelow p (made_core capacity extra) events → NeverCleared events
+pub refuses_nothing : {V E : Type 0} (capacity extra p : ℕ) (events : List (Event V E)) → capacity < 2 ^ 63 → p ≤ capacity → TakesBelow p (made_core capacity extra) events
     → NothingRefused (made_core capacity extra) events
-refuses_nothing capacity extra p events l le few never = nothing_refused capacity p (made_core capacity extra) events (made_core-fits capacity extra l) refl le (omega arith) few never
+refuses_nothing capacity extra p events l le few = nothing_refused capacity p (made_core capacity extra) events (made_core-fits capacity extra l) refl le (omega arith) few

@@ -2,22 +2,27 @@ use Rattle.std.proofs.Common.{◌≡◌, ℕ, ◌-◌, ◌*◌, ◌^◌, ◌<◌
 use Rattle.std.specs.Prelude.{◌≢◌, Contains}
 use Rattle.std.proofs.lemmas.Bool.{and_left, and_right, ne_eqb}
 use Rattle.thread_local_model.specs.Held.{Manager, least, held_count, is_granted}
-use Rattle.thread_local_model.specs.Capacity.{is_reserved}
+use Rattle.thread_local_model.specs.Capacity.{reserves_bucket, reserved_slots, is_reserved}
+use Rattle.thread_local_model.specs.Buckets.{slots}
 use Rattle.thread_local_model.specs.Answers.{Answer, Refused, answers}
 use Rattle.thread_local_model.proofs.AnswersLaws.{none_refused}
+use Rattle.thread_local_steps.specs.Table.{stands}
 use Rattle.thread_local_steps.specs.Local.{Local, MakeBucket, local_step}
+use Rattle.thread_local_steps.proofs.TableLaws.{same_function}
 use Rattle.thread_local_core.specs.Core.{Core, made_core, new_core, shadow, installed_slots, peak}
-use Rattle.thread_local_schedule.specs.Events.{Event, TakeId, OfLocal, step_of, step, is_enabled, happens, run}
-use Rattle.thread_local_schedule.specs.Schedule.{move, is_clear, is_refused}
+use Rattle.thread_local_schedule.specs.Events.{Event, TakeId, OfLocal, Owner, ClearTable, step_of, step, is_enabled, happens, run}
+use Rattle.thread_local_schedule.specs.Schedule.{move, is_clear, is_refused, IsReached}
 use Rattle.thread_local_core.specs.CoreFits.{CoreFits, ManagerFits}
 use Rattle.thread_local_schedule.proofs.Kept.{happens-fits, run-fits}
 use Rattle.thread_local_schedule.proofs.EventSays.{event_says}
 use Rattle.thread_local_core.proofs.HeldCounts.{held_below, least-le-held_count}
 use Rattle.thread_local_core.proofs.Parts.{made_core-fits}
 use Rattle.thread_local_core.proofs.CoreLaws.{installed_bound, never_missing}
-use Rattle.thread_local_core.proofs.SheetLaws.{moved_capacity}
+use Rattle.thread_local_core.proofs.SheetLaws.{same_capacity}
 use Rattle.thread_local_core.proofs.OptionLaws.{none_enabled, makes_none}
 use Rattle.thread_local_bounds.specs.Bounds.{most_after_all}
+use Rattle.thread_local_schedule.proofs.Clauses as clause
+use Rattle.thread_local_model.proofs.CapacityLaws as reserve
 
 -- each id that is given lies below the last
 pub ids : {V E : Type 0} (core : Core V E) (n : ℕ) (local : Local V E) → CoreFits core → core.locals n ≡ Some local → local.id < 2 ^ 63 - 1
@@ -31,12 +36,14 @@ peak_run core (event ∷ events) most h e =
     peak_run (happens core event) events _ (happens-fits core event h)
     ((event_says core event h).peak ∙ ap (λ n. cond (is_enabled core event && is_clear event) 0 (max n (held_count (happens core event).manager.held))) e)
 
-pub run_capacity : {V E : Type 0} (core : Core V E) (events : List (Event V E)) (n : ℕ) → CoreFits core → core.capacity ≤ n → (run core events).capacity ≤ n
+-- the capacity is for good
+pub capacity_stays : {V E : Type 0} (core : Core V E) (event : Event V E) → CoreFits core → (happens core event).capacity ≡ core.capacity
+capacity_stays core event h = ap (λ sheet. sheet.capacity) (event_says core event h).moves ∙ same_capacity (shadow core) (move core event)
+
+pub run_capacity : {V E : Type 0} (core : Core V E) (events : List (Event V E)) → CoreFits core → (run core events).capacity ≡ core.capacity
 unfolding run
-run_capacity core [] n h l = l
-run_capacity core (event ∷ events) n h l =
-    let same = ap (λ sheet. sheet.capacity) (event_says core event h).moves in
-    run_capacity (happens core event) events n (happens-fits core event h) (omega (arith, same, moved_capacity (shadow core) (move core event)))
+run_capacity core [] h = refl
+run_capacity core (event ∷ events) h = run_capacity (happens core event) events (happens-fits core event h) ∙ capacity_stays core event h
 
 -- so the installed slots are bounded by the capacity and the peak
 pub slots_of_capacity : {V E : Type 0} (capacity extra : ℕ) (events : List (Event V E)) → capacity < 2 ^ 63
@@ -44,7 +51,7 @@ pub slots_of_capacity : {V E : Type 0} (capacity extra : ℕ) (events : List (Ev
 slots_of_capacity capacity extra events l =
     let made = made_core-fits capacity extra l in
     installed_bound (run (made_core capacity extra) events) (max capacity (peak (run (made_core capacity extra) events))) (run-fits (made_core capacity extra) events made)
-    (omega (arith, run_capacity (made_core capacity extra) events capacity made (omega arith))) (omega arith)
+    (omega (arith, run_capacity (made_core capacity extra) events made)) (omega arith)
 
 pub slots_of_new : {V E : Type 0} (events : List (Event V E)) → installed_slots (run new_core events) ≤ 2 * peak (run new_core events) - 1
 slots_of_new events = omega (arith, slots_of_capacity 0 0 events (omega arith))
@@ -75,3 +82,9 @@ reserved_answers core n local told h at here c refused =
     let live = h.locals.each n local at in
     none_refused local.start local.calls (live.known here)
     (subst (λ answer. Contains (answers local.start local.calls) answer) refused (subst (λ all. Contains all told) live.local_fits.answered c))
+
+-- after a clear just the reserved slots are installed
+pub slots_of_cleared : {V E : Type 0} (core : Core V E) → IsReached core → IsTrue (is_enabled core (Owner ClearTable)) → installed_slots (happens core (Owner ClearTable)) ≡ reserved_slots core.capacity
+slots_of_cleared core r t =
+    ap slots (same_function (stands (happens core (Owner ClearTable)).table) (reserves_bucket core.capacity) (λ bucket. clause.cleared_stands core bucket r t))
+    ∙ reserve.slots-reserved core.capacity (clause.fits core r).manager.capacity_ids

@@ -44,8 +44,3 @@ TakesBelow bound core (event ∷ events) =
 abbrev pub NothingRefused : {V E : Type 0} → Core V E → List (Event V E) → Type 0
 NothingRefused core [] = ⊤
 NothingRefused core (event ∷ events) = (is_refused core event ≡ false) × NothingRefused (happens core event) events
-
--- no event of a schedule clears the table
-abbrev pub NeverCleared : {V E : Type 0} → List (Event V E) → Type 0
-NeverCleared [] = ⊤
-NeverCleared (event ∷ events) = (is_clear event ≡ false) × NeverCleared events

@@ -1,13 +1,13 @@
 ghost use Rattle.std.specs.Prelude.{◌≡◌, ◌≢◌, ℕ, ◌-◌, ◌*◌, ◌^◌, ◌<◌, ◌≤◌, max, Bool, false, List, length, Contains, Some, IsTrue};
 ghost use Rattle.thread_local_model.specs.Held.{held_count};
 ghost use Rattle.thread_local_model.specs.Walk.{walk};
-ghost use Rattle.thread_local_model.specs.Capacity.{is_reserved};
+ghost use Rattle.thread_local_model.specs.Capacity.{reserved_slots, is_reserved};
 ghost use Rattle.thread_local_model.specs.Answers.{Answer, Refused};
 ghost use Rattle.thread_local_steps.specs.Local.{Local, MakeBucket};
 ghost use Rattle.thread_local_core.specs.Core.{Core, made_core, new_core, shadow, installed_slots, peak, private_slots};
-ghost use Rattle.thread_local_schedule.specs.Events.{Event, TakeId, OfLocal, run};
+ghost use Rattle.thread_local_schedule.specs.Events.{Event, TakeId, OfLocal, Owner, ClearTable, is_enabled, happens, run};
 ghost use Rattle.thread_local_schedule.specs.Schedule.{is_refused, IsReached};
-ghost use Rattle.thread_local_bounds.specs.Bounds.{most_held, publishings, TakesBelow, NothingRefused, NeverCleared};
+ghost use Rattle.thread_local_bounds.specs.Bounds.{most_held, publishings, TakesBelow, NothingRefused};
 
 /// What bounds a table over every schedule: with at most p ids held at once a table from `new` has installed at
 /// most 2p - 1 slots, and one of a capacity of p or more refuses nothing.
@@ -23,6 +23,10 @@ pub fn every_bound<V, E>()
         → core.locals n ≡ Some local → local.id < 2 ^ 63 - 1 }
     ensures room { (core : Core V E) → IsReached core → peak core ≤ core.manager.room }
 
+    // The capacity is for good.
+    ensures capacity { (capacity extra : ℕ) (events : List (Event V E)) → capacity < 2 ^ 63
+        → (shadow (run (made_core capacity extra) events)).capacity ≡ capacity }
+
     // The slots that are installed, those made and not offered yet, and the values are bounded by the peak.
     ensures slots_of_new { (events : List (Event V E))
         → installed_slots (run new_core events) ≤ 2 * peak (run new_core events) - 1 }
@@ -31,6 +35,8 @@ pub fn every_bound<V, E>()
     ensures slots_of_capacity { (capacity extra : ℕ) (events : List (Event V E)) → capacity < 2 ^ 63
         → installed_slots (run (made_core capacity extra) events)
         ≤ 2 * max capacity (peak (run (made_core capacity extra) events)) - 1 }
+    ensures slots_of_cleared { (core : Core V E) → IsReached core → IsTrue (is_enabled core (Owner ClearTable))
+        → installed_slots (happens core (Owner ClearTable)) ≡ reserved_slots (shadow core).capacity }
     ensures private_slots { (core : Core V E) (n : ℕ) (local : Local V E) → IsReached core
         → core.locals n ≡ Some local → private_slots local.id local.doing ≤ peak core }
     ensures published { (core : Core V E) → IsReached core → length (walk (shadow core).values) ≤ peak core }
@@ -42,7 +48,7 @@ pub fn every_bound<V, E>()
     ensures few_publishings { (capacity extra : ℕ) (events : List (Event V E)) → capacity < 2 ^ 63
         → publishings (made_core capacity extra) events ≤ peak (run (made_core capacity extra) events) }
 
-    // Within the capacity no take is refused, and no publishing at a reserved id.
+    // Within the capacity no take is refused, and no publishing at a reserved id, also once the table was cleared.
     ensures within_capacity { (core : Core V E) (refused : Bool) (growth : ℕ) → IsReached core
         → held_count (shadow core).held < (shadow core).capacity
         → is_refused core (TakeId refused growth) ≡ false }
@@ -54,10 +60,10 @@ pub fn every_bound<V, E>()
         → Contains local.answered told → told ≢ Refused }
 
     // Where each take comes while fewer than p ids are held, a table from `new` has installed at most 2p - 1 slots,
-    // and one of a capacity of p or more that is never cleared refuses nothing.
+    // and one of a capacity of p or more refuses nothing, however often either is cleared.
     ensures bounded { (p : ℕ) (events : List (Event V E)) → TakesBelow p new_core events
         → installed_slots (run new_core events) ≤ 2 * p - 1 }
     ensures refuses_nothing { (capacity extra p : ℕ) (events : List (Event V E)) → capacity < 2 ^ 63
-        → p ≤ capacity → TakesBelow p (made_core capacity extra) events → NeverCleared events
+        → p ≤ capacity → TakesBelow p (made_core capacity extra) events
         → NothingRefused (made_core capacity extra) events }
 {}

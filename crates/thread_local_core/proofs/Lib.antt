@@ -1,5 +1,6 @@
 pub mod WalkStepLaws
 pub mod OwnerLaws
+pub mod ClearedLaws
 pub mod OptionLaws
 pub mod HeldCounts
 pub mod SheetLaws

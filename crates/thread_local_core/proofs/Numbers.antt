@@ -6,22 +6,24 @@ use Rattle.thread_local_steps.specs.Table.{Table, Bucket, fresh_bucket, made_tab
 use Rattle.thread_local_steps.specs.Local.{Local, fresh_local}
 use Rattle.thread_local_model.specs.Answers.{View}
 use Rattle.thread_local_core.specs.OwnerWalk.{rewritten}
+use Rattle.thread_local_core.specs.Cleared.{cleared}
 use Rattle.thread_local_steps.specs.Fits.{named}
 use Rattle.thread_local_steps.specs.Numbers.{own_number, NumbersGo}
 use Rattle.thread_local_core.proofs.OwnerLaws.{named-rewritten, made-rewritten}
+use Rattle.thread_local_core.proofs.ClearedLaws.{made-cleared, named_before_clear}
 use Rattle.thread_local_core.specs.Core.{put}
 use Rattle.thread_local_core.specs.CoreFits.{NumbersFit}
 use Rattle.thread_local_core.proofs.PutLaws.{put_cases, still}
 
--- numbers stay apart where no name changes and each bucket of a call's own was its own before
-carried : {V E : Type 0} (old new : Table V) (locals later : ℕ → Option (Local V E)) → new.made ≡ old.made → ((bucket : ℕ) → named new bucket ≡ named old bucket)
+-- numbers stay apart where each name was there before and each bucket of a call's own was its own before
+carried : {V E : Type 0} (old new : Table V) (locals later : ℕ → Option (Local V E)) → new.made ≡ old.made → ((bucket k : ℕ) → named new bucket ≡ Some k → named old bucket ≡ Some k)
     → ((n : ℕ) (local : Local V E) (k : ℕ) → later n ≡ Some local → own_number local.doing ≡ Some k → (was : Local V E) × (locals n ≡ Some was) × (own_number was.doing ≡ Some k))
     → NumbersFit old locals → NumbersFit new later
 carried old new locals later made names own h = record {
-  named_made = λ bucket k e. omega (arith, made, h.named_made bucket k (sym (names bucket) ∙ e));
-  named_apart = λ a b k e f. h.named_apart a b k (sym (names a) ∙ e) (sym (names b) ∙ f);
+  named_made = λ bucket k e. omega (arith, made, h.named_made bucket k (names bucket k e));
+  named_apart = λ a b k e f. h.named_apart a b k (names a k e) (names b k f);
   own_made = λ n local k at e. let was = own n local k at e in omega (arith, made, h.own_made n was.0 k was.1 was.2);
-  own_unnamed = λ n local k bucket at e f. let was = own n local k at e in h.own_unnamed n was.0 k bucket was.1 was.2 (sym (names bucket) ∙ f);
+  own_unnamed = λ n local k bucket at e f. let was = own n local k at e in h.own_unnamed n was.0 k bucket was.1 was.2 (names bucket k f);
   own_apart = λ m n a b k at in_b e f.
       let first = own m a k at e in
       let second = own n b k in_b f in
@@ -32,7 +34,7 @@ carried old new locals later made names own h = record {
 pub taken-NumbersFit : {V E : Type 0} (table : Table V) (locals : ℕ → Option (Local V E)) (number id : ℕ) (view : View V) → NumbersFit table locals
     → NumbersFit table (put locals number (Some (fresh_local id view)))
 taken-NumbersFit table locals number id view h =
-    carried table table locals (put locals number (Some (fresh_local id view))) refl (λ bucket. refl)
+    carried table table locals (put locals number (Some (fresh_local id view))) refl (λ bucket k e. e)
     (λ n local k at e.
     ⊎_elim
     (λ here.
@@ -45,11 +47,15 @@ taken-NumbersFit table locals number id view h =
 
 pub removed-NumbersFit : {V E : Type 0} (table : Table V) (locals : ℕ → Option (Local V E)) (number : ℕ) → NumbersFit table locals → NumbersFit table (put locals number None)
 removed-NumbersFit table locals number h =
-    carried table table locals (put locals number None) refl (λ bucket. refl) (λ n local k at e. (local, (still locals number n local at).1, e)) h
+    carried table table locals (put locals number None) refl (λ bucket k e. e) (λ n local k at e. (local, (still locals number n local at).1, e)) h
 
 pub rewritten-NumbersFit : {V E : Type 0} (table : Table V) (others : ℕ → V → V) (locals : ℕ → Option (Local V E)) → NumbersFit table locals → NumbersFit (rewritten table others) locals
 rewritten-NumbersFit table others locals h =
-    carried table (rewritten table others) locals locals (made-rewritten table others) (named-rewritten table others) (λ n local k at e. (local, at, e)) h
+    carried table (rewritten table others) locals locals (made-rewritten table others) (λ bucket k e. sym (named-rewritten table others bucket) ∙ e) (λ n local k at e. (local, at, e)) h
+
+pub cleared-NumbersFit : {V E : Type 0} (table : Table V) (capacity : ℕ) (locals : ℕ → Option (Local V E)) → NumbersFit table locals → NumbersFit (cleared table capacity) locals
+cleared-NumbersFit table capacity locals h =
+    carried table (cleared table capacity) locals locals (made-cleared table capacity) (named_before_clear table capacity) (λ n local k at e. (local, at, e)) h
 
 -- each bucket of a table as it is made has the number of its word
 named_by_digits : (T : Type 0) (b : Bool) (bucket number : ℕ) → option_map (λ here. here.number) (cond {A = Option (Bucket T)} b (Some (fresh_bucket bucket)) None) ≡ Some number

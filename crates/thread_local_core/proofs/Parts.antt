@@ -1,26 +1,28 @@
-use Rattle.std.proofs.Common.{◌≡◌, ℕ, zero, suc, ◌^◌, ◌<◌, ◌≤◌, ◌⊎◌, Bool, true, cond, eqb, List, length, Option, Some, None, is_some, is_none, IsTrue, IfSome, refl, ap, sym, ◌∙◌, subst, arith, ⊎_elim, inl, inr, pow_mono}
+use Rattle.std.proofs.Common.{◌≡◌, ℕ, zero, suc, ◌^◌, ◌<◌, ◌≤◌, ◌⊎◌, Bool, true, cond, eqb, List, [], length, Option, Some, None, is_some, is_none, IsTrue, IfSome, refl, ap, sym, ◌∙◌, subst, arith, ⊎_elim, inl, inr, pow_mono}
 use Rattle.std.proofs.lemmas.Bool.{cases_eq, cases_lt, cond_both, eq-eqb, ne_eqb, ltb-true, false≢true, or_cases, or_left, and_parts}
 use Rattle.std.specs.Prelude.{option_map}
 use Rattle.std.proofs.lemmas.Option.{none-some}
 use Rattle.std.proofs.Math.Nat.{two-pow-succ}
 use Rattle.thread_local_model.specs.Place.{bucket_of}
-use Rattle.thread_local_model.specs.Capacity.{binary_digits, is_reserved}
+use Rattle.thread_local_model.specs.Capacity.{binary_digits, reserves_bucket, is_reserved}
 use Rattle.thread_local_model.specs.Held.{Manager, is_held, least, with_least, given_to}
 use Rattle.thread_local_model.specs.Answers.{first_view}
-use Rattle.thread_local_steps.specs.Table.{Table, made_table, published}
+use Rattle.thread_local_steps.specs.Table.{Table, empty_slot, slot_at, made_table, published, stands}
 use Rattle.thread_local_steps.specs.Local.{Local, fresh_local}
 use Rattle.thread_local_core.specs.SharedWalk.{SharedWalk}
 use Rattle.thread_local_core.specs.OwnerWalk.{rewritten}
+use Rattle.thread_local_core.specs.Cleared.{cleared}
 use Rattle.thread_local_steps.specs.Fits.{StepFits, with_value_if}
 use Rattle.thread_local_core.specs.WalkFits.{WalkFits}
 use Rattle.thread_local_steps.proofs.TableLaws.{published_stands, slot_at-made_table, stands-made_table, published_unset}
 use Rattle.thread_local_steps.proofs.LocalLaws.{other_fits}
 use Rattle.thread_local_core.proofs.WalkStepLaws.{walk_carried}
 use Rattle.thread_local_core.proofs.OwnerLaws.{published-rewritten, AllWritten-rewritten, stands-rewritten}
+use Rattle.thread_local_core.proofs.ClearedLaws.{slot_at-cleared, stands-cleared}
 use Rattle.thread_local_core.specs.Core.{Core, made_core, shadow, put, none_below, is_alone, peak}
 use Rattle.thread_local_core.proofs.HeldCounts.{held_below}
 use Rattle.thread_local_core.proofs.PutLaws.{put_cases, put_same, put_other, still}
-use Rattle.thread_local_core.proofs.Numbers.{stepped-NumbersFit, made-NumbersFit}
+use Rattle.thread_local_core.proofs.Numbers.{stepped-NumbersFit, made-NumbersFit, rewritten-NumbersFit, cleared-NumbersFit}
 use Rattle.thread_local_steps.specs.Numbers.{NumbersGo}
 use Rattle.thread_local_core.specs.CoreFits.{ManagerFits, TableFits, LiveFits, LocalsFit, WalksFit, CoreFits}
 use Rattle.thread_local_model.proofs.PlaceLaws as place
@@ -230,6 +232,17 @@ no_walks core h alone n =
     let both = and_parts (none_below core.locals core.taken) (none_below core.walks core.walked) alone in
     ⊎_elim (λ l. none_at core.walks core.walked n both.1 l) (λ above. h.walks.none_from n above) (cases_lt n core.walked)
 
+-- so they fit whatever the table and the held ids are
+no_locals-fit : {V E : Type 0} (core : Core V E) (table : Table V) (held : List Bool) → IsTrue (is_alone core) → CoreFits core → LocalsFit table held core.capacity core.locals core.taken
+no_locals-fit core table held alone h = record {
+  each = λ n local at. let none = no_locals core h alone n in absurd cc;
+  unshared = h.locals.unshared;
+  none_from = h.locals.none_from;
+}
+
+no_walks-fit : {V E : Type 0} (core : Core V E) (table : Table V) → IsTrue (is_alone core) → CoreFits core → WalksFit table core.walks core.walked
+no_walks-fit core table alone h = record { each = λ n walk at. let none = no_walks core h alone n in absurd cc; none_from = h.walks.none_from }
+
 pub mapped : {A : Type 0} (other : A → A) (o : Option A) (v : A) → option_map other o ≡ Some v → (w : A) × (o ≡ Some w)
 mapped other None v e = cc
 mapped other (Some w) v e = (w, refl)
@@ -255,17 +268,42 @@ made_small capacity bucket l =
     (λ none. let zero_digits : binary_digits capacity ≡ binary_digits 0 = (let e : capacity ≡ 0 = omega arith in ap binary_digits e) in absurd (omega (arith, reserve.no_digits)))
     (cases_lt 0 capacity)
 
+-- the table's part once all slots are empty and just the reserved buckets stand
+empty-TableFits : {V : Type 0} (table : Table V) (capacity : ℕ) → ((id : ℕ) → slot_at table id ≡ empty_slot) → ((bucket : ℕ) → stands table bucket ≡ reserves_bucket capacity bucket)
+    → TableFits table capacity 0
+empty-TableFits table capacity empty standing = record {
+  written = λ id t. absurd (false≢true (sym (ap (λ slot. slot.flag) (empty id)) ∙ t));
+  small = λ b t. omega (arith, made_small capacity b (ltb-true b (binary_digits capacity) (sym (standing b) ∙ t)));
+  reserved = λ b t. standing b ∙ t;
+  below = λ id v e. absurd (none-some v (sym (published_unset table id (ap (λ slot. slot.flag) (empty id))) ∙ e));
+}
+
 -- a table as it is made
 pub made_core-fits : {V E : Type 0} (capacity extra : ℕ) → capacity < 2 ^ 63 → CoreFits {V = V} {E = E} (made_core capacity extra)
 made_core-fits {V} {E} capacity extra l = record {
   manager = record { peak_room = omega arith; capacity_room = omega arith; peak_ids = omega arith; capacity_ids = l };
-  table = record {
-    written = λ id t. absurd (false≢true (sym (ap (λ slot. slot.flag) (slot_at-made_table capacity id)) ∙ t));
-    small = λ b t. omega (arith, made_small capacity b (ltb-true b (binary_digits capacity) (sym (stands-made_table _ capacity b) ∙ t)));
-    reserved = λ b t. stands-made_table _ capacity b ∙ t;
-    below = λ id v e. absurd (none-some v (sym (published_unset (made_table capacity) id (ap (λ slot. slot.flag) (slot_at-made_table capacity id))) ∙ e));
-  };
+  table = empty-TableFits (made_table capacity) capacity (slot_at-made_table capacity) (stands-made_table V capacity);
   locals = record { each = λ n local e. cc; unshared = λ m n a b e f same. cc; none_from = λ n above. refl };
   walks = record { each = λ n walk e. cc; none_from = λ n above. refl };
   numbers = made-NumbersFit capacity;
+}
+
+-- a table that somebody has alone, once other values are put in place
+pub rewritten-fits : {V E : Type 0} (core : Core V E) (others : ℕ → V → V) → IsTrue (is_alone core) → CoreFits core → CoreFits (record core { table = rewritten core.table others })
+rewritten-fits core others alone h = record {
+  manager = h.manager;
+  table = rewritten-TableFits core.table others core.capacity (length core.manager.held) h.table;
+  locals = no_locals-fit core (rewritten core.table others) core.manager.held alone h;
+  walks = no_walks-fit core (rewritten core.table others) alone h;
+  numbers = rewritten-NumbersFit core.table others core.locals h.numbers;
+}
+
+-- and once it is cleared
+pub cleared-fits : {V E : Type 0} (core : Core V E) → IsTrue (is_alone core) → CoreFits core → CoreFits (record core { manager = record core.manager { held = [] }; table = cleared core.table core.capacity })
+cleared-fits core alone h = record {
+  manager = record { peak_room = omega arith; capacity_room = h.manager.capacity_room; peak_ids = omega arith; capacity_ids = h.manager.capacity_ids };
+  table = empty-TableFits (cleared core.table core.capacity) core.capacity (slot_at-cleared core.table core.capacity) (λ b. stands-cleared core.table core.capacity b (h.table.reserved b));
+  locals = no_locals-fit core (cleared core.table core.capacity) [] alone h;
+  walks = no_walks-fit core (cleared core.table core.capacity) alone h;
+  numbers = cleared-NumbersFit core.table core.capacity core.locals h.numbers;
 }

@@ -29,7 +29,7 @@ moved sheet (Give id) = record sheet { held = without sheet.held id }
 moved sheet (Publish id value) = record sheet { values = with_value sheet.values id value }
 moved sheet (Keep id offered) = sheet
 moved sheet (Rewrite others) = record sheet { values = λ id. option_map (others id) (sheet.values id) }
-moved sheet Clear = new_sheet
+moved sheet Clear = record new_sheet { capacity = sheet.capacity }
 
 -- the sheet after a move, or as it was where there was none
 abbrev pub moved_if : {V : Type 0} → Sheet V → Option (Move V) → Sheet V

@@ -1,13 +1,14 @@
 -- what a table shows to an owner, row by row, and what its events do to that
-use Rattle.std.proofs.Common.{◌≡◌, ℕ, ◌-◌, ◌^◌, ◌<◌, ◌≤◌, ◌⊎◌, inl, inr, true, false, cond, eqb, List, [], length, set, get_or, Option, Some, None, is_some, IsTrue, refl, ap, sym, ◌∙◌, subst, arith, ⊎_elim, pow_pos, length-set}
+use Rattle.std.proofs.Common.{◌≡◌, ℕ, ◌-◌, ◌^◌, ◌<◌, ◌≤◌, ◌⊎◌, inl, inr, Bool, true, false, cond, eqb, List, [], length, set, get_or, Option, Some, None, is_some, IsTrue, refl, ap, sym, ◌∙◌, subst, arith, ⊎_elim, pow_pos, length-set}
 use Rattle.std.specs.Prelude.{nat_lt, option_map, unwrap_or}
-use Rattle.std.proofs.lemmas.Bool.{cases_eq, cases_lt, eq-eqb, ne_eqb, lt-ltb, le-ltb}
+use Rattle.std.proofs.lemmas.Bool.{cases_eq, cases_lt, eq-eqb, ne_eqb, lt-ltb, le-ltb, false≢true}
 use Rattle.std.proofs.lemmas.List.{ext_get_or, get_or-set_same, get_or-set_other, get_or_past, length-replicate, get_or-replicate}
 use Rattle.std.proofs.lemmas.List.FromFn.{length-map-range_with_len, get_or-map-range_with_len}
 use Rattle.thread_local_model.specs.Place.{bucket_of, index_of, id_at}
 use Rattle.thread_local_model.specs.Buckets.{Contents, row, stands as stands_for_owner, values, no_contents, IsTable}
 use Rattle.thread_local_model.specs.Rows.{with_row, with_slot as with_owners_slot, empty_row}
-use Rattle.thread_local_model.specs.Capacity.{binary_digits, reserves_bucket}
+use Rattle.thread_local_model.specs.Capacity.{binary_digits, reserves_bucket, is_reserved}
+use Rattle.thread_local_model.proofs.CapacityLaws as reserve
 use Rattle.thread_local_model.specs.Walk.{walk}
 use Rattle.thread_local_model.proofs.PlaceLaws as place
 use Rattle.thread_local_model.proofs.WalkLaws.{walk_below-same}
@@ -17,6 +18,7 @@ use Rattle.thread_local_contents.specs.Refilled.{refilled_slot, refilled_row, re
 use Rattle.thread_local_contents.proofs.FillingLaws.{contents-empty}
 use Rattle.thread_local_contents.proofs.RefilledLaws.{length-refilled_row, length-refilled_rows, refilled_row-at, refilled_rows-at}
 use Rattle.thread_local_steps.specs.Table.{Slot, Bucket, fresh_bucket, Table, value_of, slot_of, slot_at, published, stands, made_table, with_fresh_bucket, with_slot_of, with_slot, with_flag}
+use Rattle.thread_local_core.specs.Cleared.{emptied_bucket, cleared}
 use Rattle.thread_local_core.specs.OwnerWalk.{owner_walk, rewritten_slot, rewritten_bucket, rewritten}
 use Rattle.thread_local_steps.proofs.TableLaws.{stands-made_table, slot_at-made_table}
 use Rattle.thread_local_core.proofs.OwnerLaws.{owner_walk-walk, value_of-rewritten_slot, slot_of-rewritten_bucket, published-rewritten, stands-rewritten}
@@ -238,3 +240,49 @@ unfolding stands binary_digits
 shown-new V =
     contents-empty (shown (made_table 0)) 63 (rows-shown (made_table 0)) (omega arith)
     (λ b low. row-shown (made_table 0) b low ∙ no_row ((made_table {V = V} 0).words b) b (stands-made_table V 0 b ∙ none_below 0 b refl))
+
+-- a table that is cleared shows the reserved buckets, with all slots empty, and no other
+row_of-emptied : {V : Type 0} (reserved : Bool) (word : Option (Bucket V)) (b : ℕ) → (IsTrue reserved → IsTrue (is_some word))
+    → shown_row (cond reserved (emptied_bucket word) None) b ≡ cond reserved (empty_row b) []
+row_of-emptied true None b stood = absurd (false≢true (stood refl))
+row_of-emptied true (Some here) b stood = fresh here.number b
+row_of-emptied false word b stood = refl
+
+row_of-made : {V : Type 0} (reserved : Bool) (number b : ℕ) → shown_row {V = V} (cond reserved (Some (fresh_bucket number)) None) b ≡ cond reserved (empty_row b) []
+row_of-made true number b = fresh number b
+row_of-made false number b = refl
+
+row-cleared : {V : Type 0} (table : Table V) (capacity b : ℕ) → (IsTrue (reserves_bucket capacity b) → IsTrue (stands table b)) → b < 63
+    → row (shown (cleared table capacity)) b ≡ cond (reserves_bucket capacity b) (empty_row b) []
+unfolding cleared stands
+row-cleared table capacity b stood low = row-shown (cleared table capacity) b low ∙ row_of-emptied (reserves_bucket capacity b) (table.words b) b stood
+
+row-made : (V : Type 0) (capacity b : ℕ) → b < 63 → row (shown (made_table {V = V} capacity)) b ≡ cond (reserves_bucket capacity b) (empty_row b) []
+unfolding made_table
+row-made V capacity b low = row-shown (made_table capacity) b low ∙ row_of-made (reserves_bucket capacity b) b b
+
+same_test : (a b : Bool) → (IsTrue a → IsTrue b) → (IsTrue b → IsTrue a) → a ≡ b
+same_test true b f g = sym (f refl)
+same_test false true f g = absurd (false≢true (g refl))
+same_test false false f g = refl
+
+-- a bucket is reserved where its first id is
+reserved_first : (capacity b : ℕ) → reserves_bucket capacity b ≡ is_reserved capacity (id_at b 0)
+reserved_first capacity b =
+    let at = (place.place-id_at b 0 (pow_pos b)).0 in
+    let both = reserve.reserved_buckets capacity (id_at b 0) in
+    same_test (reserves_bucket capacity b) (is_reserved capacity (id_at b 0))
+    (λ t. both.1 (subst (λ k. IsTrue (reserves_bucket capacity k)) (sym at) t))
+    (λ t. subst (λ k. IsTrue (reserves_bucket capacity k)) at (both.0 t))
+
+pub shown-cleared_row : {V : Type 0} (table : Table V) (capacity b : ℕ) → (IsTrue (reserves_bucket capacity b) → IsTrue (stands table b)) → b < 63
+    → row (shown (cleared table capacity)) b ≡ cond (is_reserved capacity (id_at b 0)) (empty_row b) []
+shown-cleared_row table capacity b stood low =
+    row-cleared table capacity b stood low ∙ ap (λ reserved. cond reserved (empty_row b) []) (reserved_first capacity b)
+
+-- so it shows what a table does that is made with the capacity
+pub shown-cleared : {V : Type 0} (table : Table V) (capacity : ℕ) → ((b : ℕ) → IsTrue (reserves_bucket capacity b) → IsTrue (stands table b))
+    → shown (cleared table capacity) ≡ shown (made_table capacity)
+shown-cleared table capacity stood =
+    same_contents (shown (cleared table capacity)) (shown (made_table capacity)) (rows-shown (cleared table capacity)) (rows-shown (made_table capacity))
+    (λ b low. row-cleared table capacity b (stood b) low ∙ sym (row-made _ capacity b low))

@@ -1,12 +1,14 @@
-ghost use Rattle.std.specs.Prelude.{◌≡◌, ℕ, ◌-◌, ◌^◌, ◌<◌, false, Some, option_map, IsTrue, None, unwrap_or};
-ghost use Rattle.thread_local_model.specs.Capacity.{reserves_bucket};
-ghost use Rattle.thread_local_model.specs.Place.{bucket_of, index_of};
-ghost use Rattle.thread_local_model.specs.Buckets.{Contents, stands as stands_for_owner, values, no_contents, IsTable};
+ghost use Rattle.std.specs.Prelude.{◌≡◌, ℕ, ◌-◌, ◌^◌, ◌<◌, false, [], Some, option_map, IsTrue, None, unwrap_or, if◌then◌else◌};
+ghost use Rattle.thread_local_model.specs.Capacity.{reserves_bucket, is_reserved};
+ghost use Rattle.thread_local_model.specs.Place.{bucket_of, index_of, id_at};
+ghost use Rattle.thread_local_model.specs.Buckets.{Contents, row, stands as stands_for_owner, values, no_contents, IsTable};
+ghost use Rattle.thread_local_model.specs.Rows.{empty_row};
 ghost use Rattle.thread_local_model.specs.Walk.{walk};
 ghost use Rattle.thread_local_contents.specs.Owner.{with_bucket, with_published};
 ghost use Rattle.thread_local_contents.specs.Refilled.{refilled};
 ghost use Rattle.thread_local_steps.specs.Table.{Table, slot_at, published, stands, made_table, with_fresh_bucket, with_flag};
 ghost use Rattle.thread_local_core.specs.OwnerWalk.{owner_walk, rewritten};
+ghost use Rattle.thread_local_core.specs.Cleared.{cleared};
 ghost use Rattle.thread_local_owner_laws.specs.Shown.{shown};
 
 /// What the table shows to an owner: the buckets that its words name, and the values that its flags show. An owner's walk of the one is the
@@ -19,7 +21,8 @@ pub fn a_table_shows_its_contents<V>()
 {}
 
 /// The events change what an owner sees as an owner's calls do: an installed bucket and a flag that is set are an `insert`, an owner's writes
-/// leave each bucket standing and write over the values, and a table of `new` shows what new buckets have.
+/// leave each bucket standing and write over the values, a clear leaves the reserved buckets with all slots empty, and a table of `new` shows
+/// what new buckets have.
 pub fn events_change_contents_as_calls_do<V>()
     ensures installed { (table : Table V) (bucket number : ℕ) → bucket < 63 → stands table bucket ≡ false
         → shown (with_fresh_bucket table bucket number) ≡ with_bucket (shown table) bucket }
@@ -36,6 +39,15 @@ pub fn events_change_contents_as_calls_do<V>()
         → shown (rewritten table others) ≡ refilled (shown table) (shown (rewritten table others)) }
     ensures refilled_rewrites { (table : Table V) (written : Contents V)
         → shown (rewritten table (λ id. unwrap_or (values written id))) ≡ refilled (shown table) written }
+
+    // A table that is cleared, where the reserved buckets stood, shows these with all slots empty, and no other: what a table shows that was
+    // made with the capacity.
+    ensures cleared { (table : Table V) (capacity : ℕ)
+        → ((bucket : ℕ) → IsTrue (reserves_bucket capacity bucket) → IsTrue (stands table bucket))
+        → shown (cleared table capacity) ≡ shown (made_table capacity) }
+    ensures cleared_row { (table : Table V) (capacity bucket : ℕ)
+        → (IsTrue (reserves_bucket capacity bucket) → IsTrue (stands table bucket)) → bucket < 63
+        → row (shown (cleared table capacity)) bucket ≡ (if is_reserved capacity (id_at bucket 0) then empty_row bucket else []) }
 
     // A table of `new` shows what new buckets have, and one of a capacity what `with_capacity` makes.
     ensures new { shown (made_table {V = V} 0) ≡ no_contents }

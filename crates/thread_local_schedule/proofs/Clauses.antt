@@ -1,19 +1,22 @@
-use Rattle.std.proofs.Common.{◌≡◌, ℕ, ◌-◌, ◌^◌, ◌⊎◌, Bool, false, not, cond, List, [], ◌∷◌, Some, None, is_some, IsTrue, IsSomeAnd, refl, ap, sym, ◌∙◌, subst}
+use Rattle.std.proofs.Common.{◌≡◌, ℕ, ◌-◌, ◌^◌, ◌⊎◌, Bool, true, false, not, ◌||◌, cond, List, [], ◌∷◌, Some, None, is_some, IsTrue, IsSomeAnd, refl, ap, sym, ◌∙◌, subst}
 use Rattle.std.specs.Prelude.{unwrap_or}
 use Rattle.std.proofs.lemmas.Bool.{false≢true, and_parts, not-true, not-false, cond_both}
 use Rattle.thread_local_model.specs.Held.{is_held, least, HoldsAllBelow, is_granted}
-use Rattle.thread_local_model.specs.Capacity.{binary_digits, reserved_slots}
-use Rattle.thread_local_model.specs.Sheet.{new_sheet, Clear, moved_if}
-use Rattle.thread_local_model.specs.Answers.{first_view}
+use Rattle.thread_local_model.specs.Capacity.{reserves_bucket, is_reserved}
+use Rattle.thread_local_model.specs.Sheet.{Sheet, new_sheet, Clear, moved_if}
+use Rattle.thread_local_model.specs.Answers.{View, first_view}
+use Rattle.thread_local_steps.specs.Table.{empty_slot, slot_at, stands}
 use Rattle.thread_local_steps.specs.Local.{Local, fresh_local}
-use Rattle.thread_local_core.specs.Core.{Core, made_core, shadow, peak, is_alone, new_core}
+use Rattle.thread_local_core.specs.Cleared.{cleared}
+use Rattle.thread_local_core.specs.Core.{Core, made_core, shadow, peak, is_alone}
 use Rattle.thread_local_schedule.specs.Events.{Event, TakeId, OfLocal, Owner, ClearTable, take_id, step_of, step, is_enabled, happens, run, GiveBack, Forget, OwnerCall, IterMut, after_owner}
 use Rattle.thread_local_schedule.specs.Schedule.{move, is_refused, is_granted_take, newcomer, IsReached, publishing, move_of, NoneTaken}
 use Rattle.thread_local_core.specs.CoreFits.{CoreFits}
 use Rattle.thread_local_schedule.proofs.Kept.{happens-fits, run-fits}
 use Rattle.thread_local_schedule.proofs.EventSays.{Says, event_says}
 use Rattle.thread_local_core.proofs.PutLaws.{put_same}
-use Rattle.thread_local_core.proofs.Parts.{made_core-fits}
+use Rattle.thread_local_core.proofs.Parts.{made_core-fits, no_locals}
+use Rattle.thread_local_core.proofs.ClearedLaws.{slot_at-cleared, stands-cleared}
 use Rattle.thread_local_core.proofs.CoreLaws.{none_if}
 use Rattle.thread_local_core.proofs.SheetLaws.{settled, untaken}
 use Rattle.thread_local_schedule.proofs.Takes.{not_granted}
@@ -70,12 +73,23 @@ still_held core n local r at =
     let same : shadow (happens core (Forget n)) ≡ shadow core = (says core (Forget n) r).moves ∙ cond_both (is_enabled core (Forget n)) None None (λ o. moved_if (shadow core) o ≡ shadow core) (λ _. refl) (λ _. refl) in
     rw (ap (λ sheet. sheet.held) same) ((fits core r).locals.each n local at).id_held
 
--- a clear that is enabled leaves the core of `new`, and so its sheet
-pub cleared_core : {V E : Type 0} (core : Core V E) → IsTrue (is_enabled core (Owner ClearTable)) → happens core (Owner ClearTable) ≡ new_core
+-- a clear that is enabled leaves no id held and the table cleared, and so the sheet of `new` with the capacity
+pub cleared_core : {V E : Type 0} (core : Core V E) → IsTrue (is_enabled core (Owner ClearTable))
+    → happens core (Owner ClearTable) ≡ record core { manager = record { held = []; room = core.manager.room }; table = cleared core.table core.capacity }
 cleared_core core t = owner_goes core ClearTable t
 
-pub cleared : {V E : Type 0} (core : Core V E) → IsReached core → IsTrue (is_enabled core (Owner ClearTable)) → shadow (happens core (Owner ClearTable)) ≡ new_sheet
-cleared core r t = (says core (Owner ClearTable) r).moves ∙ ap (λ b. moved_if (shadow core) (cond b (Some Clear) None)) t
+pub cleared_sheet : {V E : Type 0} (core : Core V E) → IsReached core → IsTrue (is_enabled core (Owner ClearTable))
+    → shadow (happens core (Owner ClearTable)) ≡ record new_sheet { capacity = (shadow core).capacity }
+cleared_sheet core r t = (says core (Owner ClearTable) r).moves ∙ ap (λ b. moved_if (shadow core) (cond b (Some Clear) None)) t
+
+-- just the reserved buckets stand then
+pub cleared_stands : {V E : Type 0} (core : Core V E) (bucket : ℕ) → IsReached core → IsTrue (is_enabled core (Owner ClearTable))
+    → stands (happens core (Owner ClearTable)).table bucket ≡ reserves_bucket core.capacity bucket
+cleared_stands core bucket r t = ap (λ after. stands after.table bucket) (cleared_core core t) ∙ stands-cleared core.table core.capacity bucket ((fits core r).table.reserved bucket)
+
+-- and every slot is as it was made
+pub cleared_slots : {V E : Type 0} (core : Core V E) (id : ℕ) → IsTrue (is_enabled core (Owner ClearTable)) → slot_at (happens core (Owner ClearTable)).table id ≡ empty_slot
+cleared_slots core id t = ap (λ after. slot_at after.table id) (cleared_core core t) ∙ slot_at-cleared core.table core.capacity id
 
 -- refusals come only where they may
 pub refused_take : {V E : Type 0} (core : Core V E) (refused : Bool) (growth : ℕ) → CoreFits core → IsTrue (is_refused core (TakeId refused growth))
@@ -84,22 +98,27 @@ refused_take core refused growth h t =
     not_granted core.manager refused h.manager.peak_room
     (not-true (is_granted core.manager refused) (and_parts (is_enabled core (TakeId refused growth)) (not (is_granted core.manager refused)) t).1)
 
--- as after a clear: no Local lives, and the sheet is that of `new`
-record IsFresh {V E : Type 0} (core : Core V E) : Type 0 where
+-- the sheet of a table with this capacity, in which no id is held and no id has a value
+abbrev unused : {V : Type 0} → ℕ → Sheet V
+unused capacity = record new_sheet { capacity = capacity }
+
+-- as after a clear: no Local lives, and the sheet is such a one
+record IsFresh {V E : Type 0} (capacity : ℕ) (core : Core V E) : Type 0 where
   none : (n : ℕ) → core.locals n ≡ None
-  sheet : shadow core ≡ new_sheet
+  sheet : shadow core ≡ unused capacity
 
-owner_settled : {V E : Type 0} (core : Core V E) (call : OwnerCall V) → moved_if new_sheet (move_of core (Owner call)) ≡ new_sheet
-owner_settled core (IterMut others) = refl
-owner_settled core ClearTable = refl
-owner_settled core _ = refl
+owner_settled : {V E : Type 0} (capacity : ℕ) (core : Core V E) (call : OwnerCall V) → moved_if (unused capacity) (move_of core (Owner call)) ≡ unused capacity
+owner_settled capacity core (IterMut others) = refl
+owner_settled capacity core ClearTable = refl
+owner_settled capacity core _ = refl
 
-still_new : {V E : Type 0} (core : Core V E) (event : Event V E) → ((n : ℕ) → core.locals n ≡ None) → is_granted_take core event ≡ false → moved_if new_sheet (move core event) ≡ new_sheet
-still_new core (TakeId refused growth) none e = untaken (is_enabled core (TakeId refused growth)) (is_granted core.manager refused) e
-still_new core (OfLocal number step) none e = settled (is_enabled core (OfLocal number step)) (publishing (core.locals number) step) (rw (none number) refl)
-still_new core (GiveBack number) none e = settled (is_enabled core (GiveBack number)) (move_of core (GiveBack number)) (rw (none number) refl)
-still_new core (Owner call) none e = settled (is_enabled core (Owner call)) (move_of core (Owner call)) (owner_settled core call)
-still_new core event none e = settled (is_enabled core event) None refl
+still_new : {V E : Type 0} (capacity : ℕ) (core : Core V E) (event : Event V E) → ((n : ℕ) → core.locals n ≡ None) → is_granted_take core event ≡ false
+    → moved_if (unused capacity) (move core event) ≡ unused capacity
+still_new capacity core (TakeId refused growth) none e = untaken (unused capacity) (is_enabled core (TakeId refused growth)) (is_granted core.manager refused) e
+still_new capacity core (OfLocal number step) none e = settled (unused capacity) (is_enabled core (OfLocal number step)) (publishing (core.locals number) step) (rw (none number) refl)
+still_new capacity core (GiveBack number) none e = settled (unused capacity) (is_enabled core (GiveBack number)) (move_of core (GiveBack number)) (rw (none number) refl)
+still_new capacity core (Owner call) none e = settled (unused capacity) (is_enabled core (Owner call)) (move_of core (Owner call)) (owner_settled capacity core call)
+still_new capacity core event none e = settled (unused capacity) (is_enabled core event) None refl
 
 -- a Local comes by a take that is granted, and by nothing else
 pub comes : {V E : Type 0} (core : Core V E) (event : Event V E) (n : ℕ) (local : Local V E) → CoreFits core → core.locals n ≡ None → (happens core event).locals n ≡ Some local
@@ -108,32 +127,40 @@ comes core event n local h none at =
     let says = (event_says core event h).comes n local none at in
     (rw (says.1, says.0, says.2) refl, says.3)
 
-fresh_kept : {V E : Type 0} (core : Core V E) (event : Event V E) → CoreFits core → IsFresh core → is_granted_take core event ≡ false → IsFresh (happens core event)
-fresh_kept core event h f e = record {
+fresh_kept : {V E : Type 0} (capacity : ℕ) (core : Core V E) (event : Event V E) → CoreFits core → IsFresh capacity core → is_granted_take core event ≡ false → IsFresh capacity (happens core event)
+fresh_kept capacity core event h f e = record {
   none = λ n. none_if ((happens core event).locals n) (λ local at. false≢true (sym e ∙ (comes core event n local h (f.none n) at).0));
-  sheet = (event_says core event h).moves ∙ ap (λ sheet. moved_if sheet (move core event)) f.sheet ∙ still_new core event f.none e;
+  sheet = (event_says core event h).moves ∙ ap (λ sheet. moved_if sheet (move core event)) f.sheet ∙ still_new capacity core event f.none e;
 }
 
-run_fresh : {V E : Type 0} (core : Core V E) (events : List (Event V E)) → CoreFits core → IsFresh core → NoneTaken core events → IsFresh (run core events)
+run_fresh : {V E : Type 0} (capacity : ℕ) (core : Core V E) (events : List (Event V E)) → CoreFits core → IsFresh capacity core → NoneTaken core events → IsFresh capacity (run core events)
 unfolding run
-run_fresh core [] h f none = f
-run_fresh core (event ∷ events) h f none = run_fresh (happens core event) events (happens-fits core event h) (fresh_kept core event h f none.0) none.1
+run_fresh capacity core [] h f none = f
+run_fresh capacity core (event ∷ events) h f none = run_fresh capacity (happens core event) events (happens-fits core event h) (fresh_kept capacity core event h f none.0) none.1
 
--- a clear leaves no Local
-cleared_fresh : {V E : Type 0} (core : Core V E) → IsReached core → IsTrue (is_enabled core (Owner ClearTable)) → IsFresh (happens core (Owner ClearTable))
-cleared_fresh core r t = record { none = λ n. ap (λ after. after.locals n) (cleared_core core t); sheet = cleared core r t }
+-- a clear comes where no Local lives
+cleared_fresh : {V E : Type 0} (core : Core V E) → IsReached core → IsTrue (is_enabled core (Owner ClearTable)) → IsFresh core.capacity (happens core (Owner ClearTable))
+cleared_fresh core r t = record {
+  none = λ n.
+      ap (λ after. after.locals n) (cleared_core core t)
+      ∙ no_locals core (fits core r) (tested (is_alone core) (after_owner core ClearTable) core (enabled_step core (Owner ClearTable) t)).0 n;
+  sheet = cleared_sheet core r t;
+}
 
--- at id 0 of a new table nothing is known to stand
-new_view : (T : Type 0) → first_view {V = T} new_sheet 0 ≡ record { value = None; known = false }
-unfolding reserved_slots binary_digits
-new_view T = refl
+or_false : (b : Bool) → (b || false) ≡ b
+or_false true = refl
+or_false false = refl
 
--- so the next Local gets id 0 and finds nothing
+-- what is known at id 0 of such a sheet
+first_of_unused : (T : Type 0) (capacity : ℕ) → first_view {V = T} (unused capacity) 0 ≡ record { value = None; known = is_reserved capacity 0 }
+first_of_unused T capacity = ap (λ known. let view : View T = record { value = None; known = known } in view) (or_false (is_reserved capacity 0))
+
+-- so the next Local gets id 0 and finds nothing there, and knows its bucket where that is reserved
 pub after_clear : {V E : Type 0} (core : Core V E) (events : List (Event V E)) (event : Event V E) → IsReached core → IsTrue (is_enabled core (Owner ClearTable))
     → NoneTaken (happens core (Owner ClearTable)) events → IsTrue (is_granted_take (run (happens core (Owner ClearTable)) events) event)
-    → IsSomeAnd (newcomer (run (happens core (Owner ClearTable)) events) event) (λ local. (local.id ≡ 0) × (local.start ≡ record { value = None; known = false }))
+    → IsSomeAnd (newcomer (run (happens core (Owner ClearTable)) events) event) (λ local. (local.id ≡ 0) × (local.start ≡ record { value = None; known = is_reserved (shadow core).capacity 0 }))
 after_clear core events event r t none taken =
     let later = run (happens core (Owner ClearTable)) events in
-    let f = run_fresh (happens core (Owner ClearTable)) events (happens-fits core (Owner ClearTable) (fits core r)) (cleared_fresh core r t) none in
-    some_and (newcomer later event) _ (λ local. (local.id ≡ 0) × (local.start ≡ record { value = None; known = false })) (new_local later event taken)
-    (ap (λ sheet. least sheet.held) f.sheet, ap (λ sheet. first_view sheet (least sheet.held)) f.sheet ∙ new_view _)
+    let f = run_fresh core.capacity (happens core (Owner ClearTable)) events (happens-fits core (Owner ClearTable) (fits core r)) (cleared_fresh core r t) none in
+    some_and (newcomer later event) _ (λ local. (local.id ≡ 0) × (local.start ≡ record { value = None; known = is_reserved core.capacity 0 })) (new_local later event taken)
+    (ap (λ sheet. least sheet.held) f.sheet, ap (λ sheet. first_view sheet (least sheet.held)) f.sheet ∙ first_of_unused _ core.capacity)

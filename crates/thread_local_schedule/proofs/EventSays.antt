@@ -4,6 +4,7 @@ use Rattle.std.proofs.lemmas.Option.{none-some}
 use Rattle.std.proofs.lemmas.Bool.{cond_both, false≢true, eqb-false}
 use Rattle.thread_local_model.specs.Held.{held_count, without, is_granted}
 use Rattle.thread_local_model.specs.Sheet.{moved_if, IsAllowed}
+use Rattle.thread_local_model.specs.Capacity.{reserves_bucket}
 use Rattle.thread_local_steps.specs.Table.{Table, published}
 use Rattle.thread_local_steps.specs.Local.{Local, LocalStep, local_step}
 use Rattle.thread_local_core.specs.SharedWalk.{fresh_walk, WalkStep, walk_step}
@@ -11,7 +12,8 @@ use Rattle.thread_local_core.specs.OwnerWalk.{rewritten}
 use Rattle.thread_local_steps.specs.Fits.{StepFits, value_set, named}
 use Rattle.thread_local_steps.proofs.TableLaws.{same_function, named_stands}
 use Rattle.thread_local_steps.proofs.LocalLaws.{local_step-fits}
-use Rattle.thread_local_core.proofs.OwnerLaws.{published-rewritten}
+use Rattle.thread_local_core.proofs.OwnerLaws.{published-rewritten, named-rewritten}
+use Rattle.thread_local_core.proofs.ClearedLaws.{none_cleared, named-cleared}
 use Rattle.thread_local_core.specs.Core.{Core, shadow, is_alone}
 use Rattle.thread_local_schedule.specs.Events.{Event, TakeId, OfLocal, GiveBack, Forget, BeginWalk, OfWalk, EndWalk, Owner, OwnerCall, IterMut, Slots, ClearTable, IntoIter, DropTable, take_id, with_step, of_local, is_idle, without_local, with_id_given, give_back, forget, with_walk, of_walk, without_walk, after_owner, step_of, step, is_enabled, happens}
 use Rattle.thread_local_schedule.specs.Schedule.{move_of, is_take, refuses, is_exclusive, is_clear, is_of}
@@ -19,7 +21,7 @@ use Rattle.thread_local_core.proofs.HeldCounts.{peak_counts, held_count-le}
 use Rattle.thread_local_core.specs.CoreFits.{CoreFits}
 use Rattle.thread_local_core.proofs.PutLaws.{put_cases, still, put_other}
 use Rattle.thread_local_core.proofs.Parts.{kept_value, no_locals}
-use Rattle.thread_local_core.proofs.CoreLaws.{published_moves, publishing_allowed, none_made}
+use Rattle.thread_local_core.proofs.CoreLaws.{published_moves, publishing_allowed}
 use Rattle.thread_local_core.proofs.OptionLaws.{if_enabled, if_mapped, if_there, if_then}
 use Rattle.thread_local_model.proofs.HeldLaws as ids
 
@@ -29,6 +31,7 @@ pub record EventSays {V E : Type 0} (core : Core V E) (event : Event V E) (after
   pub allowed : IfSome (move_of core event) (IsAllowed (shadow core))
   pub stays : is_exclusive event ≡ false → (id : ℕ) (v : V) → published core.table id ≡ Some v → published after.table id ≡ Some v
   pub names : is_exclusive event ≡ false → (bucket k : ℕ) → named core.table bucket ≡ Some k → named after.table bucket ≡ Some k
+  pub reserved_stays : (bucket : ℕ) → IsTrue (reserves_bucket core.capacity bucket) → (k : ℕ) → named core.table bucket ≡ Some k → named after.table bucket ≡ Some k
   pub comes : (n : ℕ) (local : Local V E) → core.locals n ≡ None → after.locals n ≡ Some local → IsTrue (is_take event) × IsTrue (not (refuses core event)) × (n ≡ core.taken)
   pub others : (n : ℕ) (local : Local V E) → is_of n event ≡ false → core.locals n ≡ Some local → after.locals n ≡ Some local
   pub peak : length after.manager.held ≡ cond (is_clear event) 0 (max (length core.manager.held) (held_count after.manager.held))
@@ -42,6 +45,7 @@ leaves core event after same none table manager clear locals others = record {
   allowed = rw none tt;
   stays = λ _ id v e. ap (λ t. published t id) table ∙ e;
   names = λ _ bucket k e. ap (λ t. named t bucket) table ∙ e;
+  reserved_stays = λ bucket _ k e. ap (λ t. named t bucket) table ∙ e;
   comes = λ n local none at. absurd (none-some local (sym none ∙ locals n local at));
   others = others;
   peak = rw (clear, manager) (omega (arith, held_count-le core.manager.held));
@@ -55,6 +59,7 @@ take_id-says core refused growth true e h = record {
   allowed = rw e tt;
   stays = λ _ id v p. p;
   names = λ _ bucket k p. p;
+  reserved_stays = λ bucket _ k p. p;
   comes = λ n local none at.
       ⊎_elim
       (λ here. (refl, rw e refl, sym here.0))
@@ -76,6 +81,7 @@ stepped-says core number step local after at s h =
       allowed = rw at (publishing_allowed (shadow core) local.id set (h.locals.each number local at).id_held s.empty);
       stays = λ _ id v e. s.shown id ∙ kept_value (published core.table) local.id set id v s.empty e;
       names = λ _ bucket k e. (s.changes.naming bucket (named_stands core.table bucket k e)).1 ∙ e;
+      reserved_stays = λ bucket _ k e. (s.changes.naming bucket (named_stands core.table bucket k e)).1 ∙ e;
       comes = λ n other none e.
           ⊎_elim
           (λ here. absurd (none-some local (sym none ∙ ap core.locals (sym here.0) ∙ at)))
@@ -102,6 +108,7 @@ given_back-says core number local at h =
       allowed = rw at live.id_held;
       stays = λ _ id v e. e;
       names = λ _ bucket k e. e;
+      reserved_stays = λ bucket _ k e. e;
       comes = λ n other none e. absurd (none-some other (sym none ∙ (still core.locals number n other e).1));
       others = λ n other f e. put_other core.locals number None n (eqb-false number n f) ∙ e;
       peak = omega (arith, ids.length-without core.manager.held local.id, held_count-le (without core.manager.held local.id));
@@ -134,17 +141,19 @@ after_owner-says core (IterMut others) e h = record {
   allowed = tt;
   stays = λ ex. absurd (false≢true (sym ex));
   names = λ ex. absurd (false≢true (sym ex));
+  reserved_stays = λ bucket _ k p. named-rewritten core.table others bucket ∙ p;
   comes = λ n local none at. absurd (none-some local (sym none ∙ at));
   others = λ n local _ at. absurd (none-some local (sym (no_locals core h e n) ∙ at));
   peak = omega (arith, held_count-le core.manager.held);
 }
 after_owner-says core Slots e h = leaves core (Owner Slots) core refl refl refl refl refl (λ n then f. f) (λ n local _ at. at)
 after_owner-says core ClearTable e h = record {
-  moves = ap (λ values. record { held = []; values = values; capacity = 0 }) (none_made _ 0);
+  moves = ap (λ values. record { held = []; values = values; capacity = core.capacity }) (none_cleared core.table core.capacity);
   allowed = tt;
   stays = λ ex. absurd (false≢true (sym ex));
   names = λ ex. absurd (false≢true (sym ex));
-  comes = λ n local none at. cc;
+  reserved_stays = λ bucket reserved k p. named-cleared core.table core.capacity bucket reserved ∙ p;
+  comes = λ n local none at. absurd (none-some local (sym none ∙ at));
   others = λ n local _ at. absurd (none-some local (sym (no_locals core h e n) ∙ at));
   peak = refl;
 }
@@ -170,6 +179,7 @@ pub record Says {V E : Type 0} (core : Core V E) (event : Event V E) (enabled : 
   pub allowed : IfSome (cond enabled (move_of core event) None) (IsAllowed (shadow core))
   pub stays : is_exclusive event ≡ false → (id : ℕ) (v : V) → published core.table id ≡ Some v → published after.table id ≡ Some v
   pub names : is_exclusive event ≡ false → (bucket k : ℕ) → named core.table bucket ≡ Some k → named after.table bucket ≡ Some k
+  pub reserved_stays : (bucket : ℕ) → IsTrue (reserves_bucket core.capacity bucket) → (k : ℕ) → named core.table bucket ≡ Some k → named after.table bucket ≡ Some k
   pub comes : (n : ℕ) (local : Local V E) → core.locals n ≡ None → after.locals n ≡ Some local
       → IsTrue enabled × IsTrue (is_take event) × IsTrue (not (refuses core event)) × (n ≡ core.taken)
   pub others : (n : ℕ) (local : Local V E) → is_of n event ≡ false → core.locals n ≡ Some local → after.locals n ≡ Some local
@@ -181,11 +191,12 @@ says_of core event None s = record {
   allowed = tt;
   stays = λ _ id v p. p;
   names = λ _ bucket k p. p;
+  reserved_stays = λ bucket _ k p. p;
   comes = λ n local none at. absurd (none-some local (sym none ∙ at));
   others = λ n local _ at. at;
   peak = omega (arith, held_count-le core.manager.held);
 }
-says_of core event (Some after) s = record { moves = s.moves; allowed = s.allowed; stays = s.stays; names = s.names; comes = λ n local none at. (let t = s.comes n local none at in (refl, t.0, t.1, t.2)); others = s.others; peak = s.peak }
+says_of core event (Some after) s = record { moves = s.moves; allowed = s.allowed; stays = s.stays; names = s.names; reserved_stays = s.reserved_stays; comes = λ n local none at. (let t = s.comes n local none at in (refl, t.0, t.1, t.2)); others = s.others; peak = s.peak }
 
 pub event_says : {V E : Type 0} (core : Core V E) (event : Event V E) → CoreFits core → Says core event (is_enabled core event) (happens core event)
 unfolding is_enabled happens step

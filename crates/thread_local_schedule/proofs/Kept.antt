@@ -9,13 +9,13 @@ use Rattle.thread_local_steps.specs.Fits.{StepFits, value_set}
 use Rattle.thread_local_steps.specs.Numbers.{NumbersGo}
 use Rattle.thread_local_steps.proofs.LocalLaws.{local_step-fits}
 use Rattle.thread_local_steps.proofs.NumbersLaws.{local_step-numbers}
-use Rattle.thread_local_core.proofs.Numbers.{taken-NumbersFit, removed-NumbersFit, rewritten-NumbersFit}
+use Rattle.thread_local_core.proofs.Numbers.{taken-NumbersFit, removed-NumbersFit}
 use Rattle.thread_local_core.proofs.WalkStepLaws.{walk_step-fits, fresh_walk-fits}
 use Rattle.thread_local_core.specs.Core.{Core, shadow, is_alone}
 use Rattle.thread_local_schedule.specs.Events.{Event, TakeId, OfLocal, GiveBack, Forget, BeginWalk, OfWalk, EndWalk, Owner, OwnerCall, IterMut, Slots, ClearTable, IntoIter, DropTable, take_id, with_step, of_local, give_back, forget, begin_walk, of_walk, step_of, step, happens, run, is_idle, without_local, with_walk, with_id_given, without_walk, after_owner}
 use Rattle.thread_local_core.proofs.HeldCounts.{peak_after}
 use Rattle.thread_local_core.specs.CoreFits.{CoreFits}
-use Rattle.thread_local_core.proofs.Parts.{locals_put, locals_removed, given-ManagerFits, peak-TableFits, held_stays, least_held, fresh-LiveFits, stepped-fits, walks_put, came_before, no_locals, no_walks, rewritten-TableFits, made_core-fits}
+use Rattle.thread_local_core.proofs.Parts.{locals_put, locals_removed, given-ManagerFits, peak-TableFits, held_stays, least_held, fresh-LiveFits, stepped-fits, walks_put, came_before, rewritten-fits, cleared-fits}
 use Rattle.thread_local_schedule.proofs.Takes.{granted_some, taken-ManagerFits}
 use Rattle.thread_local_core.proofs.OptionLaws.{if_enabled, unwrapped, if_mapped, if_both, if_there, if_then}
 use Rattle.thread_local_model.proofs.HeldLaws as ids
@@ -123,19 +123,9 @@ walk_ended-fits core number walk at h = record {
 }
 
 after_owner-fits : {V E : Type 0} (core : Core V E) (call : OwnerCall V) → is_alone core ≡ true → CoreFits core → CoreFits (after_owner core call)
-after_owner-fits core (IterMut others) e h = record {
-  manager = h.manager;
-  table = rewritten-TableFits core.table others core.capacity (length core.manager.held) h.table;
-  locals = record {
-    each = λ n local at. let none = no_locals core h e n in absurd cc;
-    unshared = h.locals.unshared;
-    none_from = h.locals.none_from;
-  };
-  walks = record { each = λ n walk at. let none = no_walks core h e n in absurd cc; none_from = h.walks.none_from };
-  numbers = rewritten-NumbersFit core.table others core.locals h.numbers;
-}
+after_owner-fits core (IterMut others) e h = rewritten-fits core others e h
 after_owner-fits core Slots e h = h
-after_owner-fits core ClearTable e h = made_core-fits 0 0 (omega arith)
+after_owner-fits core ClearTable e h = cleared-fits core e h
 after_owner-fits core IntoIter e h = record { manager = h.manager; table = h.table; locals = h.locals; walks = h.walks; numbers = h.numbers }
 after_owner-fits core DropTable e h = record { manager = h.manager; table = h.table; locals = h.locals; walks = h.walks; numbers = h.numbers }
 

@@ -33,7 +33,7 @@ of_walk-open core number step e =
 after_owner-open : {V E : Type 0} (core : Core V E) (call : OwnerCall V) → core.ended ≡ false → ends_table {V = V} {E = E} (Owner call) ≡ false → IsOpen (after_owner core call)
 after_owner-open core (IterMut others) e f = e
 after_owner-open core Slots e f = e
-after_owner-open core ClearTable e f = refl
+after_owner-open core ClearTable e f = e
 after_owner-open core IntoIter e f = cc
 after_owner-open core DropTable e f = cc
 

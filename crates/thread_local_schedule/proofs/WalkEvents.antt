@@ -11,7 +11,6 @@ use Rattle.thread_local_core.proofs.WalkStepLaws.{walk_step-adds}
 use Rattle.thread_local_core.specs.Core.{Core, is_alone}
 use Rattle.thread_local_core.specs.CoreFits.{CoreFits}
 use Rattle.thread_local_core.proofs.PutLaws.{put_cases, put_same, put_other, still}
-use Rattle.thread_local_core.proofs.Parts.{no_walks}
 use Rattle.thread_local_core.proofs.OptionLaws.{if_enabled, if_there, if_then}
 use Rattle.thread_local_model.specs.Held.{is_granted}
 use Rattle.thread_local_schedule.specs.Events.{Event, TakeId, OfLocal, GiveBack, Forget, BeginWalk, OfWalk, EndWalk, Owner, OwnerCall, IterMut, Slots, ClearTable, IntoIter, DropTable, take_id, with_step, of_local, is_idle, without_local, with_id_given, give_back, forget, with_walk, begin_walk, of_walk, without_walk, after_owner, step_of, step, is_enabled, happens}
@@ -75,12 +74,12 @@ end_walk-says core number = record {
   comes = λ n other none e. absurd (none-some other (sym none ∙ (still core.walks number n other e).1));
 }
 
-after_owner-says : {V E : Type 0} (core : Core V E) (call : OwnerCall V) → is_alone core ≡ true → CoreFits core → WalksSay core (Owner call) (after_owner core call)
-after_owner-says core (IterMut others) e h = leaves core (Owner (IterMut others)) _ (λ n. refl)
-after_owner-says core Slots e h = leaves core (Owner Slots) core (λ n. refl)
-after_owner-says core ClearTable e h = leaves core (Owner ClearTable) _ (λ n. sym (no_walks core h e n))
-after_owner-says core IntoIter e h = leaves core (Owner IntoIter) _ (λ n. refl)
-after_owner-says core DropTable e h = leaves core (Owner DropTable) _ (λ n. refl)
+after_owner-says : {V E : Type 0} (core : Core V E) (call : OwnerCall V) → WalksSay core (Owner call) (after_owner core call)
+after_owner-says core (IterMut others) = leaves core (Owner (IterMut others)) _ (λ n. refl)
+after_owner-says core Slots = leaves core (Owner Slots) core (λ n. refl)
+after_owner-says core ClearTable = leaves core (Owner ClearTable) _ (λ n. refl)
+after_owner-says core IntoIter = leaves core (Owner IntoIter) _ (λ n. refl)
+after_owner-says core DropTable = leaves core (Owner DropTable) _ (λ n. refl)
 
 step_of-says : {V E : Type 0} (core : Core V E) (event : Event V E) → CoreFits core → IfSome (step_of core event) (WalksSay core event)
 step_of-says core (TakeId refused growth) h =
@@ -93,7 +92,7 @@ step_of-says core BeginWalk h = begin_walk-says core h
 step_of-says core (OfWalk number step) h = of_walk-says core number step
 step_of-says core (EndWalk number) h = if_there (WalksSay core (EndWalk number)) _ (core.walks number) (λ walk at. end_walk-says core number)
 step_of-says core (Owner call) h =
-    cond_both {A = Option (Core _ _)} (is_alone core) (Some (after_owner core call)) None (λ o. IfSome o (WalksSay core (Owner call))) (λ e. after_owner-says core call e h) (λ _. tt)
+    cond_both {A = Option (Core _ _)} (is_alone core) (Some (after_owner core call)) None (λ o. IfSome o (WalksSay core (Owner call))) (λ _. after_owner-says core call) (λ _. tt)
 
 says_of : {V E : Type 0} (core : Core V E) (event : Event V E) (o : Option (Core V E)) → IfSome o (WalksSay core event) → WalksSay core event (unwrap_or o core)
 says_of core event None s = leaves core event core (λ n. refl)

@@ -5,7 +5,8 @@ use Rattle.thread_local_steps.specs.Local.{Doing, Gets, Local, fresh_local, Loca
 use Rattle.thread_local_steps.specs.Table.{Table}
 use Rattle.thread_local_core.specs.SharedWalk.{SharedWalk, fresh_walk, WalkStep, walk_step}
 use Rattle.thread_local_core.specs.OwnerWalk.{rewritten}
-use Rattle.thread_local_core.specs.Core.{Core, new_core, shadow, put, is_alone}
+use Rattle.thread_local_core.specs.Cleared.{cleared}
+use Rattle.thread_local_core.specs.Core.{Core, shadow, put, is_alone}
 
 -- what somebody does who has the table alone
 pub data OwnerCall (V : Type 0) : Type 0 where
@@ -59,12 +60,13 @@ with_walk core number walk = record core { walks = put core.walks number (Some w
 abbrev pub without_walk : {V E : Type 0} → Core V E → ℕ → Core V E
 without_walk core number = record core { walks = put core.walks number None }
 
--- the core after an owner's call: `iter_mut` puts other values in place, `clear` leaves a table as from `new`, and
--- `into_iter` and the drop end the table
+-- the core after an owner's call: `iter_mut` puts other values in place; `clear` leaves no id held and the table
+-- cleared, with the room and the capacity as they were; and `into_iter` and the drop end the table
 abbrev pub after_owner : {V E : Type 0} → Core V E → OwnerCall V → Core V E
 after_owner core (IterMut others) = record core { table = rewritten core.table others }
 after_owner core Slots = core
-after_owner core ClearTable = new_core
+after_owner core ClearTable =
+    record core { manager = record core.manager { held = [] }; table = cleared core.table core.capacity }
 after_owner core IntoIter = record core { ended = true }
 after_owner core DropTable = record core { ended = true }
 

@@ -4,9 +4,11 @@ pub use Rattle.thread_local_model.specs.Cursor
 pub use Rattle.thread_local_model.specs.Capacity
 pub use Rattle.thread_local_model.specs.Sheet
 pub use Rattle.thread_local_model.specs.Answers
+pub use Rattle.thread_local_steps.specs.Table
 pub use Rattle.thread_local_steps.specs.Local
 pub use Rattle.thread_local_core.specs.SharedWalk
 pub use Rattle.thread_local_core.specs.OwnerWalk
+pub use Rattle.thread_local_core.specs.Cleared
 pub use Rattle.thread_local_steps.specs.Fits
 pub use Rattle.thread_local_steps.specs.Calls
 pub use Rattle.thread_local_steps.specs.Numbers

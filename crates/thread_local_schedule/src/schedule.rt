@@ -3,16 +3,19 @@ ghost use Rattle.std.specs.List.Sorted.{IsStrictlyIncreasing};
 ghost use Rattle.thread_local_model.specs.Held.{is_held, least, HoldsAllBelow};
 ghost use Rattle.thread_local_model.specs.Walk.{walk};
 ghost use Rattle.thread_local_model.specs.Cursor.{is_complete};
+ghost use Rattle.thread_local_model.specs.Capacity.{reserves_bucket, is_reserved};
 ghost use Rattle.thread_local_model.specs.Sheet.{new_sheet, moved_if, IsAllowed};
 ghost use Rattle.thread_local_model.specs.Answers.{answers, first_view};
+ghost use Rattle.thread_local_steps.specs.Table.{empty_slot, slot_at, stands};
 ghost use Rattle.thread_local_steps.specs.Local.{Local, LocalStep};
 ghost use Rattle.thread_local_core.specs.SharedWalk.{SharedWalk, fresh_walk, WalkStep, next_step};
 ghost use Rattle.thread_local_core.specs.OwnerWalk.{owner_walk};
+ghost use Rattle.thread_local_core.specs.Cleared.{cleared};
 ghost use Rattle.thread_local_steps.specs.Fits.{IsWritten, named};
 ghost use Rattle.thread_local_steps.specs.Calls.{HasNoCall, GoesOn};
 ghost use Rattle.thread_local_steps.specs.Numbers.{own_number};
 ghost use Rattle.thread_local_core.specs.WalkFits.{Adds};
-ghost use Rattle.thread_local_core.specs.Core.{Core, new_core, shadow, peak};
+ghost use Rattle.thread_local_core.specs.Core.{Core, shadow, peak};
 ghost use Rattle.thread_local_schedule.specs.Events.{Event, TakeId, OfLocal, GiveBack, Forget, BeginWalk, OfWalk, EndWalk, OwnerCall, Owner, ClearTable, is_enabled, happens, run};
 ghost use Rattle.thread_local_schedule.specs.Schedule.{move, is_exclusive, is_of, is_of_walk, IsAlone, is_refused, is_granted_take, newcomer, IsReached, NoneTaken};
 
@@ -96,17 +99,26 @@ pub fn every_schedule<V, E>()
         → is_of n event ≡ false
         → core.locals n ≡ Some local → (happens core event).locals n ≡ Some local }
 
-    // After `clear` the core is that of `new`, and so is the sheet, and the next Local gets id 0 and finds nothing.
+    // After `clear` no id is held and the table is cleared, and nothing else has changed. So the sheet is that of `new`
+    // with the same capacity, just the reserved buckets stand, and every slot is as it was made. The next Local gets
+    // id 0, finds nothing, and knows its bucket to stand just where id 0 is reserved.
     ensures cleared_core { (core : Core V E) → IsTrue (is_enabled core (Owner ClearTable))
-        → happens core (Owner ClearTable) ≡ new_core }
+        → happens core (Owner ClearTable) ≡ record core {
+          manager = record { held = []; room = core.manager.room };
+          table = cleared core.table core.capacity;
+        } }
     ensures cleared { (core : Core V E) → IsReached core → IsTrue (is_enabled core (Owner ClearTable))
-        → shadow (happens core (Owner ClearTable)) ≡ new_sheet }
+        → shadow (happens core (Owner ClearTable)) ≡ record new_sheet { capacity = (shadow core).capacity } }
+    ensures cleared_stands { (core : Core V E) (bucket : ℕ) → IsReached core → IsTrue (is_enabled core (Owner ClearTable))
+        → stands (happens core (Owner ClearTable)).table bucket ≡ reserves_bucket (shadow core).capacity bucket }
+    ensures cleared_slots { (core : Core V E) (id : ℕ) → IsTrue (is_enabled core (Owner ClearTable))
+        → slot_at (happens core (Owner ClearTable)).table id ≡ empty_slot }
     ensures after_clear { (core : Core V E) (events : List (Event V E)) (event : Event V E) → IsReached core
         → IsTrue (is_enabled core (Owner ClearTable))
-        → let cleared = happens core (Owner ClearTable) in
-        NoneTaken cleared events → IsTrue (is_granted_take (run cleared events) event)
-        → IsSomeAnd (newcomer (run cleared events) event)
-        (λ local. (local.id ≡ 0) × (local.start ≡ record { value = None; known = false })) }
+        → let after = happens core (Owner ClearTable) in
+        NoneTaken after events → IsTrue (is_granted_take (run after events) event)
+        → IsSomeAnd (newcomer (run after events) event)
+        (λ local. (local.id ≡ 0) × (local.start ≡ record { value = None; known = is_reserved (shadow core).capacity 0 })) }
 
     // A take is refused only where all ids are held, or where all below the peak are, no room is left and memory is
     // refused, and then everything is as it was.
@@ -118,11 +130,17 @@ pub fn every_schedule<V, E>()
         → IsTrue (is_refused core (TakeId refused growth)) → happens core (TakeId refused growth) ≡ core }
 {}
 
-/// What holds of the words over every schedule: a word that names a bucket names that one until an owner's call, no
-/// two words name one bucket, and a bucket that a call has made and not offered yet is that call's alone.
+/// What holds of the words over every schedule: a word that names a bucket names that one until an owner's call, and
+/// the word of a reserved bucket names one for good; no two words name one bucket, and a bucket that a call has made
+/// and not offered yet is that call's alone.
 pub fn every_word<V, E>()
     ensures stays { (core : Core V E) (event : Event V E) (bucket number : ℕ) → IsReached core
         → is_exclusive event ≡ false
+        → named core.table bucket ≡ Some number → named (happens core event).table bucket ≡ Some number }
+    ensures reserved_stands { (core : Core V E) (bucket : ℕ) → IsReached core
+        → IsTrue (reserves_bucket (shadow core).capacity bucket) → IsTrue (stands core.table bucket) }
+    ensures reserved_stays { (core : Core V E) (event : Event V E) (bucket number : ℕ) → IsReached core
+        → IsTrue (reserves_bucket (shadow core).capacity bucket)
         → named core.table bucket ≡ Some number → named (happens core event).table bucket ≡ Some number }
     ensures apart { (core : Core V E) (a b number : ℕ) → IsReached core
         → named core.table a ≡ Some number → named core.table b ≡ Some number → a ≡ b }

@@ -21,6 +21,9 @@ returns-clause-ids g c = λ core n local r at. bound.ids core n local (clause.fi
 pub returns-clause-room : goal.returns-clause-room
 returns-clause-room g c = λ core r. (clause.fits core r).manager.peak_room
 
+pub returns-clause-capacity : goal.returns-clause-capacity
+returns-clause-capacity g c = λ capacity extra events l. bound.run_capacity (made_core capacity extra) events (made_core-fits capacity extra l)
+
 pub returns-clause-slots_of_new : goal.returns-clause-slots_of_new
 returns-clause-slots_of_new g c = bound.slots_of_new
 
@@ -29,6 +32,9 @@ returns-clause-no_slots g c = λ events none. omega (arith, bound.slots_of_new e
 
 pub returns-clause-slots_of_capacity : goal.returns-clause-slots_of_capacity
 returns-clause-slots_of_capacity g c = bound.slots_of_capacity
+
+pub returns-clause-slots_of_cleared : goal.returns-clause-slots_of_cleared
+returns-clause-slots_of_cleared g c = bound.slots_of_cleared
 
 pub returns-clause-private_slots : goal.returns-clause-private_slots
 returns-clause-private_slots g c = λ core n local r at. known.private_bound core.manager.held local.id local.doing ((clause.fits core r).locals.each n local at).id_held

@@ -19,6 +19,12 @@ returns-clause-rewritten_refills g c = laws.rewritten-refills
 pub returns-clause-refilled_rewrites : goal.returns-clause-refilled_rewrites
 returns-clause-refilled_rewrites g c = laws.refilled-rewrites
 
+pub returns-clause-cleared : goal.returns-clause-cleared
+returns-clause-cleared g c = laws.shown-cleared
+
+pub returns-clause-cleared_row : goal.returns-clause-cleared_row
+returns-clause-cleared_row g c = laws.shown-cleared_row
+
 pub returns-clause-new : goal.returns-clause-new
 returns-clause-new g c = laws.shown-new _
 
