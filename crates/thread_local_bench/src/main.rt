@@ -34,10 +34,11 @@ enum Workload {
     Clear,
     IdsFew,
     IdsMany,
+    IdsHighest,
 }
 
 impl Workload {
-    const ALL: [Workload; 11] = [
+    const ALL: [Workload; 12] = [
         Workload::GetHit,
         Workload::GetOrHit,
         Workload::NewFirstDrop,
@@ -49,6 +50,7 @@ impl Workload {
         Workload::Clear,
         Workload::IdsFew,
         Workload::IdsMany,
+        Workload::IdsHighest,
     ];
 
     /// The workload's name, as it is printed.
@@ -65,6 +67,7 @@ impl Workload {
             Workload::Clear => "clear",
             Workload::IdsFew => "ids_few",
             Workload::IdsMany => "ids_many",
+            Workload::IdsHighest => "ids_highest",
         }
     }
 
@@ -89,6 +92,7 @@ impl Workload {
             Workload::Clear => values::clear(rt, alloc, values),
             Workload::IdsFew => ids::few(rt, alloc, few),
             Workload::IdsMany => ids::many(rt, alloc, held, pairs),
+            Workload::IdsHighest => ids::highest(rt, alloc, held, pairs),
         }
     }
 }

@@ -1,8 +1,11 @@
-use Rattle.std.proofs.Common.{◌≡◌, ◌≢◌, ℕ, zero, suc, ◌+◌, ◌<◌, ◌≤◌, Bool, true, false, List, [], ◌∷◌, length, take, set, get_or, ◌++◌, refl, ap, sym, ◌∙◌, arith, ⊎_elim, IsTrue}
-use Rattle.std.proofs.lemmas.List.{get_or-set_other, get_or-set_same, get_or_default}
-use Rattle.std.proofs.lemmas.Bool.{both_ways, true_from_ne_false, cases_eq, cases_lt}
-use Rattle.thread_local_model.proofs.HeldLaws.{least_lower}
-use Rattle.thread_local_model.specs.Held.{is_held, least, with_least, HoldsAllBelow}
+use Rattle.std.proofs.Common.{◌≡◌, ◌≢◌, ℕ, zero, suc, ◌+◌, ◌-◌, ◌*◌, ◌^◌, ◌<◌, ◌≤◌, Bool, true, false, List, [], ◌∷◌, length, take, set, get_or, ◌++◌, refl, ap, sym, ◌∙◌, arith, ⊎_elim}
+use Rattle.std.proofs.lemmas.List.{get_or-set_other, get_or-take, length-take-le, take-append-le}
+use Rattle.std.proofs.lemmas.Bool.{cases_lt}
+use Rattle.thread_local_model.proofs.HeldLaws.{least_lower, least_only}
+use Rattle.std.specs.Int.{w64, trailing_ones}
+use Rattle.thread_local_bits.specs.Bits.{bits_of}
+use Rattle.thread_local_bits.proofs.Words.{length-bits_of, get_or-bits_of, bits_of-append, is_set_in-push_zero, is_set_in-all_ones, next_unset}
+use Rattle.thread_local_model.specs.Held.{is_held, least, with_least, held_count, HoldsAllBelow}
 
 -- no entry from the peak on is held
 abbrev pub IsFreeFrom : ℕ → List Bool → Type 0
@@ -45,22 +48,6 @@ taken_below_peak (false ∷ entries) (suc peak) within above apart = refl
 taken_below_peak (true ∷ entries) (suc peak) within above apart =
     ap (λ l. true ∷ l) (taken_below_peak entries peak (omega arith) (λ k p. above (suc k) (omega arith)) (λ same. apart (ap suc same)))
 
--- an entry that is added is free
-pub IsFreeFrom-push : (entries : List Bool) (peak : ℕ) → IsFreeFrom peak entries → IsFreeFrom peak (entries ++ false ∷ [])
-IsFreeFrom-push [] peak above zero p = refl
-IsFreeFrom-push [] peak above (suc id) p = refl
-IsFreeFrom-push (h ∷ entries) peak above zero p = above 0 p
-IsFreeFrom-push (h ∷ entries) zero above (suc id) p = IsFreeFrom-push entries zero (λ k q. above (suc k) (omega arith)) id (omega arith)
-IsFreeFrom-push (h ∷ entries) (suc peak) above (suc id) p = IsFreeFrom-push entries peak (λ k q. above (suc k) (omega arith)) id (omega arith)
-
--- where the least free id is the number of entries, each entry below the peak is held and the peak is their number
-pub peak_of_full : (entries : List Bool) (peak : ℕ) → peak ≤ length entries → IsFreeFrom peak entries → length entries ≤ least entries → peak ≡ length entries
-peak_of_full [] zero within above full = refl
-peak_of_full [] (suc peak) within above full = absurd (omega arith)
-peak_of_full (false ∷ entries) peak within above full = absurd (omega arith)
-peak_of_full (true ∷ entries) zero within above full = let first : true ≡ false = above 0 (omega arith) in cc
-peak_of_full (true ∷ entries) (suc peak) within above full = ap suc (peak_of_full entries peak (omega arith) (λ k p. above (suc k) (omega arith)) (omega arith))
-
 -- what is held lies below the peak
 pub below_peak : (entries : List Bool) (peak id : ℕ) → is_held (take peak entries) id ≡ true → id < peak
 below_peak [] zero id h = cc
@@ -77,8 +64,8 @@ length-front (e ∷ entries) zero = omega arith
 length-front (e ∷ entries) (suc peak) = let front = length-front entries peak in omega arith
 
 -- a write below the peak leaves the entries from the peak on
-pub IsFreeFrom-set : (entries : List Bool) (peak id : ℕ) → id < peak → IsFreeFrom peak entries → IsFreeFrom peak (set entries id true)
-IsFreeFrom-set entries peak id below above k h = let apart : k ≢ id = omega arith in rw get_or-set_other (above k h)
+pub IsFreeFrom-set : (entries : List Bool) (peak id : ℕ) (value : Bool) → id < peak → IsFreeFrom peak entries → IsFreeFrom peak (set entries id value)
+IsFreeFrom-set entries peak id value below above k h = let apart : k ≢ id = omega arith in rw get_or-set_other (above k h)
 
 -- the first free entry lies at the peak at the latest
 pub least_within : (entries : List Bool) (peak : ℕ) → peak ≤ length entries → IsFreeFrom peak entries → least entries ≤ peak
@@ -87,42 +74,51 @@ least_within (false ∷ entries) peak within above = omega arith
 least_within (true ∷ entries) zero within above = let first : true ≡ false = above 0 (omega arith) in cc
 least_within (true ∷ entries) (suc peak) within above = let rest = least_within entries peak (omega arith) (λ k p. above (suc k) (omega arith)) in omega arith
 
--- the free entries below the peak lie in a range
-abbrev pub LiesIn : ℕ → ℕ → ℕ → List Bool → Type 0
-LiesIn peak from to entries = (id : ℕ) → id < peak → is_held entries id ≡ false → (from ≤ id) × (id < to)
+-- as many ids are held as there are entries: so all are, and the first free one is behind them
+held_count-le : (held : List Bool) → held_count held ≤ length held
+held_count-le [] = omega arith
+held_count-le (false ∷ held) = omega (arith, held_count-le held)
+held_count-le (true ∷ held) = omega (arith, held_count-le held)
 
--- what isn't in the range is held, and so is what was passed of it
-pub held_so_far : (entries : List Bool) (peak from to n : ℕ) → n ≤ peak → LiesIn peak from to entries
-    → ((k : ℕ) → from ≤ k → k < n → k < to → IsTrue (is_held entries k)) → HoldsAllBelow n entries
-held_so_far entries peak from to n within lies passed k h =
-    true_from_ne_false (is_held entries k) (λ free.
-    let here = lies k (omega arith) free in
-    let held = passed k here.0 h here.1 in
-    both_ways (is_held entries k) free held)
+pub least_of_all_held : (held : List Bool) → held_count held ≡ length held → least held ≡ length held
+least_of_all_held [] all = refl
+least_of_all_held (false ∷ held) all = absurd (omega (arith, held_count-le held))
+least_of_all_held (true ∷ held) all = ap suc (least_of_all_held held (omega arith))
 
--- once the least free entry is held, the free ones lie behind it
-pub LiesIn-hold : (entries : List Bool) (peak from to id : ℕ) → id < length entries → id ≡ least entries → LiesIn peak from to entries → LiesIn peak (id + 1) to (set entries id true)
-LiesIn-hold entries peak from to id inside first lies k h free =
+-- as many entries below the peak are held as there are
+pub all_held : (entries : List Bool) (peak : ℕ) → peak ≤ length entries → held_count (take peak entries) ≡ peak → (least (take peak entries) ≡ peak) × HoldsAllBelow peak entries
+all_held entries peak within all =
+    let many = length-take-le peak entries within in
+    let top : least (take peak entries) ≡ peak = least_of_all_held (take peak entries) (all ∙ sym many) ∙ many in
+    (top, λ id below. sym (get_or-take peak entries id false below) ∙ least_lower (take peak entries) id (omega arith))
+
+-- a write leaves the entries before it
+pub HoldsAllBelow-set : (entries : List Bool) (id n : ℕ) (value : Bool) → n ≤ id → HoldsAllBelow n entries → HoldsAllBelow n (set entries id value)
+HoldsAllBelow-set entries id n value before held k below = let apart : k ≢ id = omega arith in rw get_or-set_other (held k below)
+
+-- a word that is 0 behind the others changes neither what is held nor what a front shows
+pub is_held-push : (words : List ℕ) (id : ℕ) → is_held (bits_of (words ++ 0 ∷ [])) id ≡ is_held (bits_of words) id
+is_held-push words id = get_or-bits_of (words ++ 0 ∷ []) id ∙ is_set_in-push_zero words id ∙ sym (get_or-bits_of words id)
+
+pub take-push : (words : List ℕ) (peak : ℕ) → peak ≤ length words * 64 → take peak (bits_of (words ++ 0 ∷ [])) ≡ take peak (bits_of words)
+take-push words peak within = ap (take peak) (bits_of-append words (0 ∷ [])) ∙ take-append-le peak (bits_of words) (bits_of (0 ∷ [])) (omega (arith, length-bits_of words))
+
+-- the bits of one word more are held where that word is all ones
+pub HoldsAllBelow-full : (words : List ℕ) (at : ℕ) → get_or words at 0 ≡ 2 ^ 64 - 1 → HoldsAllBelow (at * 64) (bits_of words) → HoldsAllBelow ((at + 1) * 64) (bits_of words)
+HoldsAllBelow-full words at full held k below =
     ⊎_elim
-    (λ same. let at : is_held (set entries id true) k ≡ true = rw same (get_or-set_same entries id true false inside) in absurd (both_ways _ free at))
-    (λ apart.
-    let was : is_held entries k ≡ false = rw (get_or-set_other entries id k true false apart) at free in
-    ⊎_elim
-    (λ before. absurd (both_ways _ was (least_lower entries k (omega arith))))
-    (λ behind. (omega arith, (lies k h was).1))
-    (cases_lt k id))
-    (cases_eq k id)
+    (λ lower. held k lower)
+    (λ from. get_or-bits_of words k ∙ is_set_in-all_ones words at k full from below)
+    (cases_lt k (at * 64))
 
--- the same where that entry was the peak's
-pub LiesIn-hold_peak : (entries : List Bool) (peak from to id : ℕ) → id < length entries → id ≡ least entries → id ≡ peak → LiesIn peak from to entries → LiesIn (peak + 1) (id + 1) to (set entries id true)
-LiesIn-hold_peak entries peak from to id inside first at lies k h free =
+-- the first word that isn't all ones has the least free bit
+pub least_in_word : (words : List ℕ) (at word : ℕ) → word ≡ get_or words at 0 → word < 2 ^ 64 → word ≢ 2 ^ 64 - 1 → HoldsAllBelow (at * 64) (bits_of words)
+    → at * 64 + trailing_ones w64 word ≡ least (bits_of words)
+least_in_word words at word read fits apart held =
+    let next = next_unset words at word read fits apart in
+    least_only (bits_of words) (at * 64 + trailing_ones w64 word) (get_or-bits_of words _ ∙ next.unset)
+    (λ k below.
     ⊎_elim
-    (λ below. LiesIn-hold entries peak from to id inside first lies k below free)
-    (λ top.
-    let same : k ≡ id = omega arith in
-    let held : is_held (set entries id true) k ≡ true = rw same (get_or-set_same entries id true false inside) in absurd (both_ways _ free held))
-    (cases_lt k peak)
-
--- an entry that was read as free
-pub read_free : (entries : List Bool) (id : ℕ) (read : Bool) → id < length entries → read ≡ get_or entries id read → read ≡ false → is_held entries id ≡ false
-read_free entries id read inside is free = get_or_default entries id false read inside ∙ sym is ∙ free
+    (λ lower. held k lower)
+    (λ from. get_or-bits_of words k ∙ next.between k from below)
+    (cases_lt k (at * 64)))

@@ -26,11 +26,13 @@ pub enum LocalError {
 /// taken when the id is.
 #[derive(Drop)]
 pub struct ThreadIdManager {
-    held: Vec<bool>,
+    // A bit for each id, 64 to a word, the lowest first: it is set where the id is held.
+    words: Vec<u64>,
     peak: usize,
-    // Each id below the peak that isn't held lies from here on, and before that.
-    free_from: usize,
-    free_to: usize,
+    // How many ids below the peak aren't held.
+    unheld: usize,
+    // Each bit of the words before this one is set.
+    mark: usize,
 }
 
 impl Model for ThreadIdManager {
@@ -52,10 +54,10 @@ impl ThreadIdManager {
         ensures room { result.room ≡ 0 }
     {
         ThreadIdManager {
-            held: Vec::new(alloc),
+            words: Vec::new(alloc),
             peak: 0,
-            free_from: 0,
-            free_to: 0,
+            unheld: 0,
+            mark: 0,
         }
     }
 
@@ -68,7 +70,7 @@ impl ThreadIdManager {
         ensures no_ids { ids ≡ 0 → IsOk result }
     {
         let mut manager = ThreadIdManager::new(alloc);
-        manager.held.resize(ids.min(IDS), false)?;
+        manager.words.resize(ids.min(IDS).div_ceil(64), 0)?;
         Ok(manager)
     }
 
@@ -91,9 +93,13 @@ impl ThreadIdManager {
         ensures least { result ≡ least self.now.held }
         ensures in_room { result ≤ self.now.room }
     {
-        for id in self.free_from..self.free_to {
-            if !self.held[id] {
-                return id;
+        if self.unheld == 0 {
+            return self.peak;
+        }
+        for word in self.mark..self.words.len() {
+            let bits = self.words[word];
+            if bits != u64::MAX {
+                return word * 64 + bits.trailing_ones() as usize;
             }
         }
         self.peak
@@ -109,13 +115,14 @@ impl ThreadIdManager {
         ensures exhausted { result ≡ Err LocalError.Exhausted → IsExhausted self.old }
         ensures err { OnErr result (self.new ≡ self.old) }
     {
-        if id < self.held.len() {
-            return Ok(());
-        }
+        let words = self.words.len();
         if id >= IDS {
             return Err(LocalError::Exhausted);
         }
-        if self.held.push(false).is_err() {
+        if id / 64 < words {
+            return Ok(());
+        }
+        if self.words.push(0).is_err() {
             return Err(LocalError::Memory(AllocError));
         }
         Ok(())
@@ -130,10 +137,12 @@ impl ThreadIdManager {
         ensures peak_in_room { length self.new.held ≤ self.new.room }
         ensures room_in_range { self.new.room ≤ 2 ^ 63 - 1 }
     {
-        self.held[id] = true;
-        self.free_from = id + 1;
+        self.words[id / 64] |= 1 << (id % 64);
+        self.mark = id / 64;
         if id == self.peak {
             self.peak += 1;
+        } else {
+            self.unheld -= 1;
         }
     }
 
@@ -143,7 +152,10 @@ impl ThreadIdManager {
         ensures peak_in_room { length self.now.held ≤ self.now.room }
         ensures room_in_range { self.now.room ≤ 2 ^ 63 - 1 }
     {
-        self.held.get(id).copied().unwrap_or(false)
+        match self.words.get(id / 64) {
+            Some(bits) => (bits >> (id % 64)) & 1 == 1,
+            None => false,
+        }
     }
 
     /// Takes an id back. The caller shows that it is held. It takes no memory.
@@ -151,23 +163,12 @@ impl ThreadIdManager {
         requires { IsTrue (is_held self.old.held id) }
         ensures { Gives self.old self.new id }
     {
-        self.held[id] = false;
-        let (from, to) = widened(self.free_from, self.free_to, id);
-        self.free_from = from;
-        self.free_to = to;
-    }
-}
-
-/// The least range that has the numbers from `from` up to `to`, and this one.
-fn widened(from: usize, to: usize, number: usize) -> (usize, usize)
-    requires { number < 2 ^ 63 }
-    ensures has { (result.0 ≤ number) × (number < result.1) }
-    ensures keeps { from < to → (result.0 ≤ from) × (to ≤ result.1) }
-    ensures within { result.1 ≤ max to (number + 1) }
-{
-    if from < to {
-        (from.min(number), to.max(number + 1))
-    } else {
-        (number, number + 1)
+        self.words[id / 64] &= !(1 << (id % 64));
+        self.mark = if self.unheld == 0 {
+            id / 64
+        } else {
+            self.mark.min(id / 64)
+        };
+        self.unheld += 1;
     }
 }
