@@ -118,6 +118,22 @@ next_unset words at word read fits apart =
           rw (word_of, ← read) (low.lower (i % 64) (omega arith));
     }
 
+-- so it is from any lower bit on from which all bits up to that word are set
+pub next_unset_from : (words : List ℕ) (from at bit : ℕ) → from ≤ at → ((i : ℕ) → from ≤ i → i < at → is_set_in words i ≡ true) → IsNextUnset words at bit → IsNextUnset words from bit
+next_unset_from words from at bit before full next = record {
+  after = let after = next.after in omega arith;
+  unset = next.unset;
+  between = λ i lower below. ⊎_elim (λ first. full i lower first) (λ then. next.between i then below) (cases_lt i at);
+}
+
+-- behind the words no bit is set
+pub none_behind : (words : List ℕ) → IsNextUnset words (length words * 64) (length words * 64)
+none_behind words = record {
+  after = omega arith;
+  unset = ap (λ word. is_set word (length words * 64 % 64)) (get_or_past words (length words * 64 / 64) 0 (omega arith)) ∙ is_set-zero (length words * 64 % 64);
+  between = λ i from below. absurd (omega arith);
+}
+
 -- the sum of `count_ones` over the words counts the bits that are set
 pub count_ones-sum : (words : List ℕ) → ((at : ℕ) → at < length words → get_or words at 0 < 2 ^ 64) → sum_by count_ones words ≡ count_by (λ b. b) (bits_of words)
 unfolding bits_of

@@ -1,11 +1,10 @@
 use Rattle.std.proofs.Common.{◌≡◌, ◌≢◌, ℕ, zero, suc, ◌+◌, ◌-◌, ◌*◌, ◌^◌, ◌<◌, ◌≤◌, Bool, true, false, List, [], ◌∷◌, length, take, set, get_or, ◌++◌, refl, ap, sym, ◌∙◌, arith, ⊎_elim}
-use Rattle.std.proofs.lemmas.List.{get_or-set_other, get_or-take, length-take-le, take-append-le}
-use Rattle.std.proofs.lemmas.Bool.{cases_lt}
-use Rattle.thread_local_model.proofs.HeldLaws.{least_lower, least_only}
-use Rattle.std.specs.Int.{w64, trailing_ones}
+use Rattle.std.proofs.lemmas.List.{get_or-set_same, get_or-set_other, take-append-le}
+use Rattle.std.proofs.lemmas.Bool.{both_ways, cases_eq}
+use Rattle.thread_local_model.proofs.HeldLaws.{least_lower}
 use Rattle.thread_local_bits.specs.Bits.{bits_of}
-use Rattle.thread_local_bits.proofs.Words.{length-bits_of, get_or-bits_of, bits_of-append, is_set_in-push_zero, is_set_in-all_ones, next_unset}
-use Rattle.thread_local_model.specs.Held.{is_held, least, with_least, held_count, HoldsAllBelow}
+use Rattle.thread_local_bits.proofs.Words.{length-bits_of, get_or-bits_of, bits_of-append, is_set_in-push_zero}
+use Rattle.thread_local_model.specs.Held.{is_held, least, with_least, HoldsAllBelow}
 
 -- no entry from the peak on is held
 abbrev pub IsFreeFrom : ℕ → List Bool → Type 0
@@ -74,24 +73,6 @@ least_within (false ∷ entries) peak within above = omega arith
 least_within (true ∷ entries) zero within above = let first : true ≡ false = above 0 (omega arith) in cc
 least_within (true ∷ entries) (suc peak) within above = let rest = least_within entries peak (omega arith) (λ k p. above (suc k) (omega arith)) in omega arith
 
--- as many ids are held as there are entries: so all are, and the first free one is behind them
-held_count-le : (held : List Bool) → held_count held ≤ length held
-held_count-le [] = omega arith
-held_count-le (false ∷ held) = omega (arith, held_count-le held)
-held_count-le (true ∷ held) = omega (arith, held_count-le held)
-
-pub least_of_all_held : (held : List Bool) → held_count held ≡ length held → least held ≡ length held
-least_of_all_held [] all = refl
-least_of_all_held (false ∷ held) all = absurd (omega (arith, held_count-le held))
-least_of_all_held (true ∷ held) all = ap suc (least_of_all_held held (omega arith))
-
--- as many entries below the peak are held as there are
-pub all_held : (entries : List Bool) (peak : ℕ) → peak ≤ length entries → held_count (take peak entries) ≡ peak → (least (take peak entries) ≡ peak) × HoldsAllBelow peak entries
-all_held entries peak within all =
-    let many = length-take-le peak entries within in
-    let top : least (take peak entries) ≡ peak = least_of_all_held (take peak entries) (all ∙ sym many) ∙ many in
-    (top, λ id below. sym (get_or-take peak entries id false below) ∙ least_lower (take peak entries) id (omega arith))
-
 -- a write leaves the entries before it
 pub HoldsAllBelow-set : (entries : List Bool) (id n : ℕ) (value : Bool) → n ≤ id → HoldsAllBelow n entries → HoldsAllBelow n (set entries id value)
 HoldsAllBelow-set entries id n value before held k below = let apart : k ≢ id = omega arith in rw get_or-set_other (held k below)
@@ -103,22 +84,16 @@ is_held-push words id = get_or-bits_of (words ++ 0 ∷ []) id ∙ is_set_in-push
 pub take-push : (words : List ℕ) (peak : ℕ) → peak ≤ length words * 64 → take peak (bits_of (words ++ 0 ∷ [])) ≡ take peak (bits_of words)
 take-push words peak within = ap (take peak) (bits_of-append words (0 ∷ [])) ∙ take-append-le peak (bits_of words) (bits_of (0 ∷ [])) (omega (arith, length-bits_of words))
 
--- the bits of one word more are held where that word is all ones
-pub HoldsAllBelow-full : (words : List ℕ) (at : ℕ) → get_or words at 0 ≡ 2 ^ 64 - 1 → HoldsAllBelow (at * 64) (bits_of words) → HoldsAllBelow ((at + 1) * 64) (bits_of words)
-HoldsAllBelow-full words at full held k below =
+-- once the least free id is held, every id up to it is
+pub HoldsAllBelow-hold : (entries : List Bool) (id : ℕ) → id < length entries → id ≡ least entries → HoldsAllBelow (id + 1) (set entries id true)
+HoldsAllBelow-hold entries id within first k below =
     ⊎_elim
-    (λ lower. held k lower)
-    (λ from. get_or-bits_of words k ∙ is_set_in-all_ones words at k full from below)
-    (cases_lt k (at * 64))
+    (λ (same : k ≡ id). rw same (get_or-set_same entries id true false within))
+    (λ (apart : k ≢ id). rw (get_or-set_other entries id k true false apart) (least_lower entries k (omega arith)))
+    (cases_eq k id)
 
--- the first word that isn't all ones has the least free bit
-pub least_in_word : (words : List ℕ) (at word : ℕ) → word ≡ get_or words at 0 → word < 2 ^ 64 → word ≢ 2 ^ 64 - 1 → HoldsAllBelow (at * 64) (bits_of words)
-    → at * 64 + trailing_ones w64 word ≡ least (bits_of words)
-least_in_word words at word read fits apart held =
-    let next = next_unset words at word read fits apart in
-    least_only (bits_of words) (at * 64 + trailing_ones w64 word) (get_or-bits_of words _ ∙ next.unset)
-    (λ k below.
-    ⊎_elim
-    (λ lower. held k lower)
-    (λ from. get_or-bits_of words k ∙ next.between k from below)
-    (cases_lt k (at * 64)))
+-- an entry that is free once another is held was free before, and isn't that one
+pub was_free : (entries : List Bool) (id k : ℕ) → id < length entries → is_held (set entries id true) k ≡ false → (k ≢ id) × (is_held entries k ≡ false)
+was_free entries id k within free =
+    let apart : k ≢ id = λ same. both_ways (is_held (set entries id true) k) free (rw same (get_or-set_same entries id true false within)) in
+    (apart, rw (get_or-set_other entries id k true false apart) at free)

@@ -1,5 +1,5 @@
-use Rattle.std.specs.Prelude.{◌≡◌, ℕ, ◌+◌, ◌-◌, ◌*◌, ◌^◌, ◌≤◌, min, false, length, take}
-use Rattle.thread_local_model.specs.Held.{Manager, is_held, held_count, HoldsAllBelow}
+use Rattle.std.specs.Prelude.{◌≡◌, ℕ, ◌+◌, ◌-◌, ◌*◌, ◌^◌, ◌<◌, ◌≤◌, min, false, length, take}
+use Rattle.thread_local_model.specs.Held.{Manager, is_held, HoldsAllBelow}
 use Rattle.thread_local_bits.specs.Bits.{bits_of}
 use Rattle.thread_local_thread_id.specs.declared.manager.ThreadIdManager.TheInside.{Inside}
 
@@ -7,11 +7,13 @@ use Rattle.thread_local_thread_id.specs.declared.manager.ThreadIdManager.TheInsi
 abbrev pub manager_of : Inside → Manager
 manager_of m = record { held = take m.peak (bits_of m.words.items); room = min (length m.words.items * 64) (2 ^ 63 - 1) }
 
--- no bit from the peak on is set, every one of the words before the mark is, and no more words stand than all ids need
+-- no bit from the peak on is set, the mark is the lowest bit that isn't, the ids below the peak that aren't held lie before the end, and no
+-- more words stand than all ids need
 pub record IsManager (m : Inside) : Type 0 where
   pub words : length m.words.items ≤ 2 ^ 57
   pub peak : m.peak ≤ length m.words.items * 64
   pub in_range : m.peak ≤ 2 ^ 63 - 1
   pub above : (id : ℕ) → m.peak ≤ id → is_held (bits_of m.words.items) id ≡ false
-  pub mark : HoldsAllBelow (m.mark * 64) (bits_of m.words.items)
-  pub unheld : m.unheld + held_count (take m.peak (bits_of m.words.items)) ≡ m.peak
+  pub mark : HoldsAllBelow m.mark (bits_of m.words.items)
+  pub mark_free : is_held (bits_of m.words.items) m.mark ≡ false
+  pub end : (id : ℕ) → id < m.peak → is_held (bits_of m.words.items) id ≡ false → id < m.end

@@ -1,5 +1,6 @@
-ghost use Rattle.std.specs.Prelude.{◌≡◌, ℕ, ◌+◌, ◌-◌, ◌^◌, ◌<◌, ◌≤◌, ◌==◌, min, max, Bool, true, false, [], length, IsTrue, IsOk, OnOk, OnErr, IfOk, if◌then◌else◌};
+ghost use Rattle.std.specs.Prelude.{◌≡◌, ℕ, ◌+◌, ◌-◌, ◌*◌, ◌^◌, ◌<◌, ◌≤◌, ◌==◌, min, Bool, true, false, [], length, IsTrue, IsOk, OnOk, OnErr, IfOk, if◌then◌else◌};
 ghost use Rattle.std.specs.Prelude.{alloc_error};
+ghost use Rattle.thread_local_bits.specs.Bits.{IsNextUnset};
 ghost use Rattle.thread_local_model.specs.Held.{is_held, least, with_least, Takes, Gives, NeedsMemory, IsExhausted};
 
 use std::alloc::{AllocError, Global};
@@ -29,10 +30,10 @@ pub struct ThreadIdManager {
     // A bit for each id, 64 to a word, the lowest first: it is set where the id is held.
     words: Vec<u64>,
     peak: usize,
-    // How many ids below the peak aren't held.
-    unheld: usize,
-    // Each bit of the words before this one is set.
+    // The lowest bit that isn't set, and so the least id that isn't held.
     mark: usize,
+    // Each id below the peak that isn't held lies before this one.
+    end: usize,
 }
 
 impl Model for ThreadIdManager {
@@ -56,8 +57,8 @@ impl ThreadIdManager {
         ThreadIdManager {
             words: Vec::new(alloc),
             peak: 0,
-            unheld: 0,
             mark: 0,
+            end: 0,
         }
     }
 
@@ -93,16 +94,7 @@ impl ThreadIdManager {
         ensures least { result ≡ least self.now.held }
         ensures in_room { result ≤ self.now.room }
     {
-        if self.unheld == 0 {
-            return self.peak;
-        }
-        for word in self.mark..self.words.len() {
-            let bits = self.words[word];
-            if bits != u64::MAX {
-                return word * 64 + bits.trailing_ones() as usize;
-            }
-        }
-        self.peak
+        self.mark
     }
 
     /// Makes room for the return of the id, where there is none. It takes memory then.
@@ -138,11 +130,14 @@ impl ThreadIdManager {
         ensures room_in_range { self.new.room ≤ 2 ^ 63 - 1 }
     {
         self.words[id / 64] |= 1 << (id % 64);
-        self.mark = id / 64;
         if id == self.peak {
             self.peak += 1;
+            self.mark = self.peak;
+        } else if self.end <= id + 1 {
+            self.mark = self.peak;
+            self.end = 0;
         } else {
-            self.unheld -= 1;
+            self.mark = next_unset(&self.words, id / 64);
         }
     }
 
@@ -164,11 +159,22 @@ impl ThreadIdManager {
         ensures { Gives self.old self.new id }
     {
         self.words[id / 64] &= !(1 << (id % 64));
-        self.mark = if self.unheld == 0 {
-            id / 64
-        } else {
-            self.mark.min(id / 64)
-        };
-        self.unheld += 1;
+        self.mark = self.mark.min(id);
+        self.end = self.end.max(id + 1);
     }
+}
+
+/// The lowest bit that isn't set, from a word on. Behind the words no bit is set.
+fn next_unset(words: &[u64], from: usize) -> usize
+    requires within { from ≤ length words.now }
+    requires few { length words.now ≤ 2 ^ 57 }
+    ensures { IsNextUnset words.now (from * 64) result }
+{
+    for word in from..words.len() {
+        let bits = words[word];
+        if bits != u64::MAX {
+            return word * 64 + bits.trailing_ones() as usize;
+        }
+    }
+    words.len() * 64
 }

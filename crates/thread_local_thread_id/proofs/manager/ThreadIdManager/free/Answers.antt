@@ -1,14 +1,14 @@
-use Rattle.std.proofs.Common.{◌≡◌, ◌∙◌, ◌/◌, ◌%◌, ◌*◌, ◌^◌, ◌<◌, ◌≤◌, take, set, false, bit_and, ap, arith, refl, rules}
+use Rattle.std.proofs.Common.{◌≡◌, ◌∙◌, ◌/◌, ◌%◌, ◌*◌, ◌-◌, ◌^◌, ◌<◌, ◌≤◌, length, take, set, false, bit_and, ap, sym, arith, refl, rules}
 use Rattle.std.specs.Int.{w64, bit_not}
 use Rattle.std.proofs.Math.Seq.{take-set-lt}
-use Rattle.thread_local_model.specs.Held.{is_held, without, HoldsAllBelow}
+use Rattle.thread_local_model.specs.Held.{is_held, without}
 use Rattle.thread_local_model.proofs.HeldLaws.{gives}
 use Rattle.thread_local_bits.specs.Bits.{bits_of}
-use Rattle.thread_local_bits.proofs.Words.{bits_of-clear_bit, length-bits_of}
+use Rattle.thread_local_bits.proofs.Words.{bits_of-clear_bit}
 use Rattle.thread_local_thread_id.proofs.Managers.{freed, in_room}
-use Rattle.thread_local_thread_id.proofs.Views.{below_peak, all_held}
+use Rattle.thread_local_thread_id.proofs.Views.{below_peak}
 use Rattle.thread_local_thread_id.proofs.manager.ThreadIdManager.free.Goals as goal
-use Rattle.thread_local_thread_id.proofs.manager.ThreadIdManager.free.Goals.{After-index_mut, then-self-eq0, else-self-eq0}
+use Rattle.thread_local_thread_id.proofs.manager.ThreadIdManager.free.Goals.{After-index_mut}
 
 -- the id is held, and so lies below the peak
 below : (c : After-index_mut) → c.args.id < c.self.inside.peak
@@ -21,21 +21,7 @@ bits c = bits_of-clear_bit c.self.inside.words.items c.args.id c.index_mut.resul
 pub invariant_of-self : goal.invariant_of-self
 invariant_of-self c =
     let at = (goal.at.invariant_of-self c).After-index_mut in
-    let under = below at in
-    let mark : (c.if-self-eq0.self * 64 ≤ c.args.id) × HoldsAllBelow (c.if-self-eq0.self * 64) (bits_of c.self.inside.words.items) =
-    elim c.if-self-eq0.branch [
-      | then-self-eq0 w ↦
-          let set_to = w.self-is in
-          let none = w.if-self-eq0.true in
-          let unheld = c.self.invariant.unheld in
-          let all = all_held (bits_of c.self.inside.words.items) c.self.inside.peak (omega (arith, length-bits_of c.self.inside.words.items, c.self.invariant.peak)) (omega arith) in
-          (omega arith, λ k before. all.1 k (omega arith))
-      | else-self-eq0 w ↦
-          let set_to = w.self-is in
-          let least = w.min-self-inside.ensures in
-          (omega arith, λ k before. c.self.invariant.mark k (omega arith))
-    ] in
-    freed c.self.inside _ c.args.id c.self.invariant (bits at) (search rules) (ap (λ m. is_held m.held c.args.id) c.self.view_is ∙ c.requires) under refl refl mark.0 mark.1
+    freed c.self.inside _ c.args.id c.self.invariant (bits at) (search rules) (below at) refl c.min-self-inside.ensures c.max-self-inside.ensures
 
 pub returns : goal.returns
 returns c =

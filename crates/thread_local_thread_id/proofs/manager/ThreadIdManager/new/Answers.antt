@@ -3,4 +3,4 @@ use Rattle.thread_local_thread_id.proofs.Managers.{of_zeros}
 use Rattle.thread_local_thread_id.proofs.manager.ThreadIdManager.new.Goals as goal
 
 pub invariant_of-result : goal.invariant_of-result
-invariant_of-result c = of_zeros _ 0 c.new.ensures.items (omega arith) refl refl refl
+invariant_of-result c = of_zeros _ 0 c.new.ensures.items (omega arith) refl refl

@@ -12,4 +12,4 @@ invariant_of-manager c =
     let front : List ℕ = take c.div_ceil.result c.manager.inside.words.items in
     let zeros : List ℕ = replicate (c.div_ceil.result - vec_len c.manager.inside.words) 0 in
     let items : c.resize.new.self.items ≡ zeros = c.in_ok-resize.ensures.items ∙ ap (λ f. f ++ zeros) (nil_from_length front (omega (arith, length-take c.div_ceil.result c.manager.inside.words.items))) in
-    resized c.manager.inside _ _ c.manager.invariant none items (omega arith) refl refl refl
+    resized c.manager.inside _ _ c.manager.invariant none items (omega arith) refl refl
