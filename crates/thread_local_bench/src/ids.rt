@@ -47,3 +47,24 @@ pub(crate) fn many<R: Clock>(rt: &R, alloc: Global, held: u32, pairs: u64) -> io
         time,
     })
 }
+
+/// Gives the highest of many held ids back and takes it again.
+pub(crate) fn highest<R: Clock>(rt: &R, alloc: Global, held: u32, pairs: u64) -> io::Result<Round> {
+    let mut manager = ThreadIdManager::new(alloc);
+    for _ in 0..held {
+        let _taken = manager.alloc().is_ok();
+    }
+    let mut id = held.saturating_sub(1) as usize;
+    let start = Instant::now(rt)?;
+    for _ in 0..pairs {
+        if manager.is_held(id) {
+            manager.free(id);
+        }
+        id = manager.alloc().unwrap_or(id);
+    }
+    let time = start.elapsed(rt)?;
+    Ok(Round {
+        operations: pairs,
+        time,
+    })
+}

@@ -37,12 +37,13 @@ enum Workload {
     Clear,
     IdsFew,
     IdsMany,
+    IdsHighest,
     TallyFourThreads,
     ThreadComeAndGo,
 }
 
 impl Workload {
-    const ALL: [Workload; 14] = [
+    const ALL: [Workload; 15] = [
         Workload::GetHit,
         Workload::GetOrHit,
         Workload::NewFirstDrop,
@@ -55,6 +56,7 @@ impl Workload {
         Workload::Clear,
         Workload::IdsFew,
         Workload::IdsMany,
+        Workload::IdsHighest,
         Workload::TallyFourThreads,
         Workload::ThreadComeAndGo,
     ];
@@ -74,6 +76,7 @@ impl Workload {
             Workload::Clear => "clear",
             Workload::IdsFew => "ids_few",
             Workload::IdsMany => "ids_many",
+            Workload::IdsHighest => "ids_highest",
             Workload::TallyFourThreads => "tally_4_threads",
             Workload::ThreadComeAndGo => "thread_come_and_go",
         }
@@ -108,6 +111,7 @@ impl Workload {
             Workload::Clear => values::clear(rt, alloc, values),
             Workload::IdsFew => ids::few(rt, alloc, few),
             Workload::IdsMany => ids::many(rt, alloc, held, pairs),
+            Workload::IdsHighest => ids::highest(rt, alloc, held, pairs),
             Workload::TallyFourThreads => workers::tally_4_threads(rt, alloc, numbers),
             Workload::ThreadComeAndGo => workers::thread_come_and_go(rt, alloc, threads),
         }

@@ -8,6 +8,8 @@ mod lock;
 #[cfg(test)]
 mod manager;
 #[cfg(test)]
+mod moves;
+#[cfg(test)]
 mod place;
 #[cfg(test)]
 mod rights;

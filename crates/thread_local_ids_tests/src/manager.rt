@@ -79,3 +79,14 @@ fn room_that_was_made_is_enough(rt: HostRuntime) -> Result<(), Fail> {
     }
     Ok(())
 }
+
+#[test]
+fn room_is_made_in_whole_words(rt: HostRuntime) -> Result<(), Fail> {
+    let mut manager = ThreadIdManager::with_room(rt.alloc(), 65)?;
+    // No memory is asked for here, so a refusal would be a fault of the manager's.
+    for id in 0..128usize {
+        assert_eq!(rt; manager.alloc()?, id);
+    }
+    assert_eq!(rt; take(&rt, &mut manager, &[0, 1, 2, 3, 4, 5, 6, 7])?, 128);
+    Ok(())
+}

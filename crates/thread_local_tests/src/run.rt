@@ -168,6 +168,39 @@ fn prints_the_least_ids(rt: HostRuntime) -> Result<(), Fail> {
     Ok(())
 }
 
+/// A line that takes so many ids and then goes on, and what it prints: the ids from 0 on, and then these.
+fn many_takes(
+    alloc: Global,
+    takes: usize,
+    moves: &str,
+    ids: &[usize],
+) -> Result<(String, String), AllocError> {
+    let mut line = String::new(alloc);
+    let mut output = String::new(alloc);
+    line.push_str("ids")?;
+    for id in 0..takes {
+        line.push_str(" take")?;
+        output.push_str(id.to_string(alloc)?.as_str())?;
+        output.push_str("\n")?;
+    }
+    line.push_str(moves)?;
+    for id in ids {
+        output.push_str(id.to_string(alloc)?.as_str())?;
+        output.push_str("\n")?;
+    }
+    Ok((line, output))
+}
+
+#[test]
+fn prints_the_least_ids_of_more_than_a_word(rt: HostRuntime) -> Result<(), Fail> {
+    let moves = " give 64 give 3 take take take";
+    let (line, output) = many_takes(rt.alloc(), 66, moves, &[3, 64, 66])?;
+    expect(&rt, rt.alloc(), line.as_str(), output.as_str(), "", 0)?;
+    let (line, output) = many_takes(rt.alloc(), 64, " give 63 take take", &[63, 64])?;
+    expect(&rt, rt.alloc(), line.as_str(), output.as_str(), "", 0)?;
+    Ok(())
+}
+
 #[test]
 fn prints_the_total_of_all_workers(rt: HostRuntime) -> Result<(), Fail> {
     let lines = [

@@ -1,15 +1,19 @@
-use Rattle.std.specs.Prelude.{◌≡◌, ℕ, ◌-◌, ◌^◌, ◌<◌, ◌≤◌, false, length, take}
-use Rattle.thread_local_model.specs.Held.{Manager, is_held}
+use Rattle.std.specs.Prelude.{◌≡◌, ℕ, ◌+◌, ◌-◌, ◌*◌, ◌^◌, ◌<◌, ◌≤◌, min, false, length, take}
+use Rattle.thread_local_model.specs.Held.{Manager, is_held, HoldsAllBelow}
+use Rattle.thread_local_bits.specs.Bits.{bits_of}
 use Rattle.thread_local_thread_id.specs.declared.manager.ThreadIdManager.TheInside.{Inside}
 
--- the entries below the peak are the held ids, and the entries are the room
+-- the bits below the peak are the held ids, and the room is the number of bits, or that of ids where it is less
 abbrev pub manager_of : Inside → Manager
-manager_of m = record { held = take m.peak m.held.items; room = length m.held.items }
+manager_of m = record { held = take m.peak (bits_of m.words.items); room = min (length m.words.items * 64) (2 ^ 63 - 1) }
 
--- no entry from the peak on is held, the free ones below it lie in one range, and there are no more entries than ids
+-- no bit from the peak on is set, the mark is the lowest bit that isn't, the ids below the peak that aren't held lie before the end, and no
+-- more words stand than all ids need
 pub record IsManager (m : Inside) : Type 0 where
-  pub peak : m.peak ≤ length m.held.items
-  pub room : length m.held.items ≤ 2 ^ 63 - 1
-  pub above : (id : ℕ) → m.peak ≤ id → is_held m.held.items id ≡ false
-  pub free : (id : ℕ) → id < m.peak → is_held m.held.items id ≡ false → (m.free_from ≤ id) × (id < m.free_to)
-  pub free_to : m.free_to ≤ m.peak
+  pub words : length m.words.items ≤ 2 ^ 57
+  pub peak : m.peak ≤ length m.words.items * 64
+  pub in_range : m.peak ≤ 2 ^ 63 - 1
+  pub above : (id : ℕ) → m.peak ≤ id → is_held (bits_of m.words.items) id ≡ false
+  pub mark : HoldsAllBelow m.mark (bits_of m.words.items)
+  pub mark_free : is_held (bits_of m.words.items) m.mark ≡ false
+  pub end : (id : ℕ) → id < m.peak → is_held (bits_of m.words.items) id ≡ false → id < m.end

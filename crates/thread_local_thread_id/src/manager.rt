@@ -1,5 +1,6 @@
-ghost use Rattle.std.specs.Prelude.{◌≡◌, ℕ, ◌+◌, ◌-◌, ◌^◌, ◌<◌, ◌≤◌, ◌==◌, min, max, Bool, true, false, [], length, IsTrue, IsOk, OnOk, OnErr, IfOk, if◌then◌else◌};
+ghost use Rattle.std.specs.Prelude.{◌≡◌, ℕ, ◌+◌, ◌-◌, ◌*◌, ◌^◌, ◌<◌, ◌≤◌, ◌==◌, min, Bool, true, false, [], length, IsTrue, IsOk, OnOk, OnErr, IfOk, if◌then◌else◌};
 ghost use Rattle.std.specs.Prelude.{alloc_error};
+ghost use Rattle.thread_local_bits.specs.Bits.{IsNextUnset};
 ghost use Rattle.thread_local_model.specs.Held.{is_held, least, with_least, Takes, Gives, NeedsMemory, IsExhausted};
 
 use std::alloc::{AllocError, Global};
@@ -26,11 +27,13 @@ pub enum LocalError {
 /// taken when the id is.
 #[derive(Drop)]
 pub struct ThreadIdManager {
-    held: Vec<bool>,
+    // A bit for each id, 64 to a word, the lowest first: it is set where the id is held.
+    words: Vec<u64>,
     peak: usize,
-    // Each id below the peak that isn't held lies from here on, and before that.
-    free_from: usize,
-    free_to: usize,
+    // The lowest bit that isn't set, and so the least id that isn't held.
+    mark: usize,
+    // Each id below the peak that isn't held lies before this one.
+    end: usize,
 }
 
 impl Model for ThreadIdManager {
@@ -52,10 +55,10 @@ impl ThreadIdManager {
         ensures room { result.room ≡ 0 }
     {
         ThreadIdManager {
-            held: Vec::new(alloc),
+            words: Vec::new(alloc),
             peak: 0,
-            free_from: 0,
-            free_to: 0,
+            mark: 0,
+            end: 0,
         }
     }
 
@@ -68,7 +71,7 @@ impl ThreadIdManager {
         ensures no_ids { ids ≡ 0 → IsOk result }
     {
         let mut manager = ThreadIdManager::new(alloc);
-        manager.held.resize(ids.min(IDS), false)?;
+        manager.words.resize(ids.min(IDS).div_ceil(64), 0)?;
         Ok(manager)
     }
 
@@ -91,12 +94,7 @@ impl ThreadIdManager {
         ensures least { result ≡ least self.now.held }
         ensures in_room { result ≤ self.now.room }
     {
-        for id in self.free_from..self.free_to {
-            if !self.held[id] {
-                return id;
-            }
-        }
-        self.peak
+        self.mark
     }
 
     /// Makes room for the return of the id, where there is none. It takes memory then.
@@ -109,13 +107,14 @@ impl ThreadIdManager {
         ensures exhausted { result ≡ Err LocalError.Exhausted → IsExhausted self.old }
         ensures err { OnErr result (self.new ≡ self.old) }
     {
-        if id < self.held.len() {
-            return Ok(());
-        }
+        let words = self.words.len();
         if id >= IDS {
             return Err(LocalError::Exhausted);
         }
-        if self.held.push(false).is_err() {
+        if id / 64 < words {
+            return Ok(());
+        }
+        if self.words.push(0).is_err() {
             return Err(LocalError::Memory(AllocError));
         }
         Ok(())
@@ -130,10 +129,15 @@ impl ThreadIdManager {
         ensures peak_in_room { length self.new.held ≤ self.new.room }
         ensures room_in_range { self.new.room ≤ 2 ^ 63 - 1 }
     {
-        self.held[id] = true;
-        self.free_from = id + 1;
+        self.words[id / 64] |= 1 << (id % 64);
         if id == self.peak {
             self.peak += 1;
+            self.mark = self.peak;
+        } else if self.end <= id + 1 {
+            self.mark = self.peak;
+            self.end = 0;
+        } else {
+            self.mark = next_unset(&self.words, id / 64);
         }
     }
 
@@ -143,7 +147,10 @@ impl ThreadIdManager {
         ensures peak_in_room { length self.now.held ≤ self.now.room }
         ensures room_in_range { self.now.room ≤ 2 ^ 63 - 1 }
     {
-        self.held.get(id).copied().unwrap_or(false)
+        match self.words.get(id / 64) {
+            Some(bits) => (bits >> (id % 64)) & 1 == 1,
+            None => false,
+        }
     }
 
     /// Takes an id back. The caller shows that it is held. It takes no memory.
@@ -151,23 +158,23 @@ impl ThreadIdManager {
         requires { IsTrue (is_held self.old.held id) }
         ensures { Gives self.old self.new id }
     {
-        self.held[id] = false;
-        let (from, to) = widened(self.free_from, self.free_to, id);
-        self.free_from = from;
-        self.free_to = to;
+        self.words[id / 64] &= !(1 << (id % 64));
+        self.mark = self.mark.min(id);
+        self.end = self.end.max(id + 1);
     }
 }
 
-/// The least range that has the numbers from `from` up to `to`, and this one.
-fn widened(from: usize, to: usize, number: usize) -> (usize, usize)
-    requires { number < 2 ^ 63 }
-    ensures has { (result.0 ≤ number) × (number < result.1) }
-    ensures keeps { from < to → (result.0 ≤ from) × (to ≤ result.1) }
-    ensures within { result.1 ≤ max to (number + 1) }
+/// The lowest bit that isn't set, from a word on. Behind the words no bit is set.
+fn next_unset(words: &[u64], from: usize) -> usize
+    requires within { from ≤ length words.now }
+    requires few { length words.now ≤ 2 ^ 57 }
+    ensures { IsNextUnset words.now (from * 64) result }
 {
-    if from < to {
-        (from.min(number), to.max(number + 1))
-    } else {
-        (number, number + 1)
+    for word in from..words.len() {
+        let bits = words[word];
+        if bits != u64::MAX {
+            return word * 64 + bits.trailing_ones() as usize;
+        }
     }
+    words.len() * 64
 }

@@ -1,48 +1,67 @@
-use Rattle.std.proofs.Common.{◌≡◌, ◌<◌, ◌≤◌, ◌+◌, ◌∙◌, sym, ap, length, arith, add-one, rules}
-use Rattle.thread_local_model.specs.Held.{least}
-use Rattle.thread_local_thread_id.proofs.Views.{least-take, taken_at_peak, taken_below_peak, least_within, IsFreeFrom-set, LiesIn-hold, LiesIn-hold_peak}
+use Rattle.std.proofs.Common.{◌≡◌, ◌∙◌, ◌/◌, ◌%◌, ◌*◌, ◌-◌, ◌^◌, ◌<◌, length, take, set, true, bit_or, ap, sym, arith, refl, rules, add-one}
+use Rattle.thread_local_model.specs.Held.{least, with_least}
+use Rattle.thread_local_bits.specs.Bits.{bits_of}
+use Rattle.thread_local_bits.proofs.Words.{bits_of-set_bit, length-bits_of}
+use Rattle.thread_local_thread_id.proofs.Managers.{held_at_peak, held_last, held_below_peak}
+use Rattle.thread_local_thread_id.proofs.Views.{least-take, least_within, taken_at_peak, taken_below_peak}
 use Rattle.thread_local_thread_id.proofs.manager.ThreadIdManager.hold.Goals as goal
 use Rattle.thread_local_thread_id.proofs.manager.ThreadIdManager.hold.Goals.{After-index_mut}
 
--- the id is the first entry that is free
-is_first : (c : After-index_mut) → c.args.id ≡ least c.self.inside.held.items
+-- the id is the first bit that isn't set
+is_first : (c : After-index_mut) → c.args.id ≡ least (bits_of c.self.inside.words.items)
 is_first c =
     c.requires.least ∙ sym (ap (λ m. least m.held) c.self.view_is)
-    ∙ least-take c.self.inside.held.items c.self.inside.peak c.self.invariant.peak c.self.invariant.above
+    ∙ least-take (bits_of c.self.inside.words.items) c.self.inside.peak (omega (arith, length-bits_of c.self.inside.words.items, c.self.invariant.peak)) c.self.invariant.above
+
+-- there is a bit for it
+has_room : (c : After-index_mut) → (c.args.id < length c.self.inside.words.items * 64) × (c.args.id < 2 ^ 63 - 1)
+has_room c = let room = rw (← c.self.view_is) at c.requires.room in (omega arith, omega arith)
+
+-- setting the bit changes no other
+bits : (c : After-index_mut) → bits_of (set c.self.inside.words.items (c.args.id / 64) (bit_or c.index_mut.result.now (1 * 2 ^ (c.args.id % 64) % 2 ^ 64))) ≡ set (bits_of c.self.inside.words.items) c.args.id true
+bits c = bits_of-set_bit c.self.inside.words.items c.args.id c.index_mut.result.now (let room = (has_room c).0 in omega arith) c.index_mut.ensures.value
+
+-- where it isn't the peak it lies below
+below : (c : After-index_mut) → (c.args.id ≡ c.self.inside.peak → ⊥) → c.args.id < c.self.inside.peak
+below c apart =
+    let is = c.self.invariant in
+    let first = is_first c in
+    omega (arith, least_within (bits_of c.self.inside.words.items) c.self.inside.peak (omega (arith, length-bits_of c.self.inside.words.items, is.peak)) is.above, apart)
+
+-- what is seen then
+taken : (c : After-index_mut) → (c.args.id ≡ c.self.inside.peak → ⊥) → take c.self.inside.peak (bits_of (set c.self.inside.words.items (c.args.id / 64) (bit_or c.index_mut.result.now (1 * 2 ^ (c.args.id % 64) % 2 ^ 64)))) ≡ with_least c.args.self.now.held
+taken c apart =
+    let first = is_first c in
+    let peak = c.self.invariant.peak in
+    rw (bits c, first, ← c.self.view_is) (taken_below_peak (bits_of c.self.inside.words.items) c.self.inside.peak (omega (arith, length-bits_of c.self.inside.words.items)) c.self.invariant.above (λ same. apart (first ∙ same)))
 
 pub invariant_of-self : goal.invariant_of-self
 invariant_of-self c =
-    let first = is_first (goal.at.invariant_of-self c).After-index_mut in
-    let room : c.args.id < length c.self.inside.held.items = rw (← c.self.view_is) at c.requires.room in
-    record {
-      peak = search rules;
-      room = search rules;
-      above = IsFreeFrom-set c.self.inside.held.items (c.self.inside.peak + 1) c.args.id (omega arith) (λ k h. c.self.invariant.above k (omega arith));
-      free = LiesIn-hold_peak c.self.inside.held.items c.self.inside.peak c.self.inside.free_from c.self.inside.free_to c.args.id room first c.if-id-self.true c.self.invariant.free;
-      free_to = let to = c.self.invariant.free_to in omega arith;
-    }
-
-pub invariant_of-self-else-id-self : goal.invariant_of-self-else-id-self
-invariant_of-self-else-id-self c =
-    let first = is_first (goal.at.invariant_of-self-else-id-self c).After-index_mut in
-    let room : c.args.id < length c.self.inside.held.items = rw (← c.self.view_is) at c.requires.room in
-    let within : least c.self.inside.held.items ≤ c.self.inside.peak = least_within c.self.inside.held.items c.self.inside.peak c.self.invariant.peak c.self.invariant.above in
-    record {
-      peak = search rules;
-      room = search rules;
-      above = IsFreeFrom-set c.self.inside.held.items c.self.inside.peak c.args.id (omega arith) c.self.invariant.above;
-      free = LiesIn-hold c.self.inside.held.items c.self.inside.peak c.self.inside.free_from c.self.inside.free_to c.args.id room first c.self.invariant.free;
-      free_to = c.self.invariant.free_to;
-    }
+    let at = (goal.at.invariant_of-self c).After-index_mut in
+    let room = has_room at in
+    held_at_peak c.self.inside _ c.args.id c.self.invariant (bits at) (search rules) (is_first at) c.if-id-self.true room.0 room.1 refl refl
 
 pub returns-then-id-self-clause-held : goal.returns-then-id-self-clause-held
 returns-then-id-self-clause-held c =
-    let first = is_first (goal.at.returns-then-id-self-clause-held c).After-index_mut in
-    let room : c.args.id < length c.self.inside.held.items = rw (← c.self.view_is) at c.requires.room in
-    let at = taken_at_peak c.self.inside.held.items c.self.inside.peak (omega arith) c.self.invariant.above (omega arith) in
-    rw (c.if-id-self.true, ← c.self.view_is, add-one) at
+    let at = (goal.at.returns-then-id-self-clause-held c).After-index_mut in
+    let first = is_first at in
+    let room = (has_room at).0 in
+    let seen = taken_at_peak (bits_of c.self.inside.words.items) c.self.inside.peak (omega (arith, length-bits_of c.self.inside.words.items)) c.self.invariant.above (omega arith) in
+    rw (bits at, c.if-id-self.true, ← c.self.view_is, add-one) seen
 
-pub returns-else-id-self-clause-held : goal.returns-else-id-self-clause-held
-returns-else-id-self-clause-held c =
-    let first = is_first (goal.at.returns-else-id-self-clause-held c).After-index_mut in
-    rw (first, ← c.self.view_is) (taken_below_peak c.self.inside.held.items c.self.inside.peak c.self.invariant.peak c.self.invariant.above (λ same. c.if-id-self.false (first ∙ same)))
+pub invariant_of-self-then-self-id : goal.invariant_of-self-then-self-id
+invariant_of-self-then-self-id c =
+    let at = (goal.at.invariant_of-self-then-self-id c).After-index_mut in
+    held_last c.self.inside _ c.args.id c.self.invariant (bits at) (search rules) (is_first at) (below at c.if-id-self.false) c.if-self-id.true refl refl
+
+pub returns-then-self-id-clause-held : goal.returns-then-self-id-clause-held
+returns-then-self-id-clause-held c = taken (goal.at.returns-then-self-id-clause-held c).After-index_mut c.if-id-self.false
+
+pub invariant_of-self-else-self-id : goal.invariant_of-self-else-self-id
+invariant_of-self-else-self-id c =
+    let at = (goal.at.invariant_of-self-else-self-id c).After-index_mut in
+    let next = rw c.deref.ensures.value at c.next_unset-self-inside.ensures in
+    held_below_peak c.self.inside _ c.args.id c.self.invariant (bits at) (search rules) (is_first at) (below at c.if-id-self.false) refl refl next
+
+pub returns-else-self-id-clause-held : goal.returns-else-self-id-clause-held
+returns-else-self-id-clause-held c = taken (goal.at.returns-else-self-id-clause-held c).After-index_mut c.if-id-self.false

@@ -1,41 +1,61 @@
-use Rattle.std.proofs.Common.{◌≡◌, ◌≤◌, ◌+◌, ap, length, arith, sym, vec_len, rules}
+use Rattle.std.proofs.Common.{◌≡◌, ◌≤◌, ◌*◌, ◌-◌, ◌^◌, ◌++◌, ◌∷◌, [], ◌∙◌, ap, length, arith, sym, min, refl, rules}
+use Rattle.std.proofs.lemmas.List.{length_push, length-take}
 use Rattle.thread_local_model.specs.Held.{HoldsAllBelow}
 use Rattle.thread_local_model.proofs.HeldLaws.{least_lower, least_bounded}
-use Rattle.thread_local_thread_id.proofs.Views.{length-front}
+use Rattle.thread_local_bits.specs.Bits.{bits_of}
+use Rattle.thread_local_thread_id.proofs.Managers.{pushed}
+use Rattle.thread_local_thread_id.proofs.Views.{take-push}
 use Rattle.thread_local_thread_id.proofs.manager.ThreadIdManager.make_room.Goals as goal
-use Rattle.thread_local_thread_id.proofs.manager.ThreadIdManager.make_room.Goals.{Else-id-len}
+use Rattle.thread_local_thread_id.proofs.manager.ThreadIdManager.make_room.Goals.{After-len-words, Else-is_err}
 
--- every id below this one is held
-lower : (c : Else-id-len) → HoldsAllBelow c.args.id c.args.self.now.held
+-- every id below this one is held, and the id is no more than the peak
+lower : (c : After-len-words) → HoldsAllBelow c.args.id c.args.self.now.held
 lower c k h = let below = c.requires in least_lower c.args.self.now.held k (omega arith)
 
--- the id is no more than the held ids, and no more of those than entries
-within : (c : Else-id-len) → (c.args.id ≤ length c.args.self.now.held) × (length c.args.self.now.held ≤ length c.self.inside.held.items)
+within : (c : After-len-words) → (c.args.id ≤ length c.args.self.now.held) × (length c.args.self.now.held ≤ c.self.inside.peak)
 within c =
     let id = c.requires in
-    (omega (arith, least_bounded c.args.self.now.held), rw (← c.self.view_is) (length-front c.self.inside.held.items c.self.inside.peak))
+    (omega (arith, least_bounded c.args.self.now.held), rw (← c.self.view_is) (omega (arith, length-take c.self.inside.peak (bits_of c.self.inside.words.items))))
 
 pub returns-then-id-ge-IDS-clause-exhausted : goal.returns-then-id-ge-IDS-clause-exhausted
 returns-then-id-ge-IDS-clause-exhausted c = λ _.
-    let at = (goal.at.returns-then-id-ge-IDS-clause-exhausted c).Else-id-len in
+    let at = (goal.at.returns-then-id-ge-IDS-clause-exhausted c).After-len-words in
     let w = within at in
-    let room : c.args.self.now.room ≡ length c.self.inside.held.items = sym (ap (λ m. m.room) c.self.view_is) in
-    let bound = c.self.invariant.room in
+    let is = c.self.invariant in
+    let top = is.in_range in
+    let under = is.peak in
+    let room : c.args.self.now.room ≡ min (length c.self.inside.words.items * 64) (2 ^ 63 - 1) = sym (ap (λ m. m.room) c.self.view_is) in
     record { full = λ k h. lower at k (omega arith); peak = omega arith; room = omega arith }
 
 pub returns-then-is_err-clause-memory : goal.returns-then-is_err-clause-memory
 returns-then-is_err-clause-memory c = λ _.
-    let at = (goal.at.returns-then-is_err-clause-memory c).Else-id-len in
+    let at = (goal.at.returns-then-is_err-clause-memory c).After-len-words in
     let w = within at in
-    let len = c.self.inside.held.ok.0 in
-    let room : c.args.self.now.room ≡ length c.self.inside.held.items = sym (ap (λ m. m.room) c.self.view_is) in
-    let below = c.if-id-ge-IDS.false in
+    let under = c.self.invariant.peak in
+    let ok = c.self.inside.words.ok.0 in
+    let len = c.len-words.ensures in
+    let room : c.args.self.now.room ≡ min (length c.self.inside.words.items * 64) (2 ^ 63 - 1) = sym (ap (λ m. m.room) c.self.view_is) in
+    let none = c.if-id-words.false in
+    let range = c.if-id-ge-IDS.false in
     record { full = λ k h. lower at k (omega arith); no_room = omega arith; in_range = omega arith }
+
+grown : (c : Else-is_err) → c.push.new.self.items ≡ c.self.inside.words.items ++ 0 ∷ []
+grown c = search rules
+
+pub invariant_of-self-2 : goal.invariant_of-self-2
+invariant_of-self-2 c =
+    let len = c.len-words.ensures in
+    let ok = c.self.inside.words.ok.0 in
+    let none = c.if-id-words.false in
+    let range = c.if-id-ge-IDS.false in
+    pushed c.self.inside _ c.self.invariant (grown c) (omega arith) refl refl refl
+
+pub returns-clause-held : goal.returns-clause-held
+returns-clause-held c = rw (grown c) (take-push c.self.inside.words.items c.self.inside.peak c.self.invariant.peak ∙ ap (λ m. m.held) c.self.view_is)
 
 pub returns-clause-ok : goal.returns-clause-ok
 returns-clause-ok c =
-    let w = within (goal.at.returns-clause-ok c).Else-id-len in
-    let len = c.self.inside.held.ok.0 in
-    let grown = c.push.new.self.ok.0 in
-    let pushed : vec_len c.push.new.self ≡ vec_len c.self.inside.held + 1 = search rules in
-    (omega arith, c.if-id-ge-IDS.false)
+    let w = within (goal.at.returns-clause-ok c).After-len-words in
+    let under = c.self.invariant.peak in
+    let range = c.if-id-ge-IDS.false in
+    (rw (grown c) (omega (arith, length_push c.self.inside.words.items 0)), range)
