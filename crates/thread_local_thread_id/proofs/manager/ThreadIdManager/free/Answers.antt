@@ -1,4 +1,4 @@
-use Rattle.std.proofs.Common.{◌≡◌, ◌∙◌, ◌/◌, ◌%◌, ◌*◌, ◌-◌, ◌^◌, ◌<◌, ◌≤◌, length, take, set, false, bit_and, ap, sym, arith, refl, rules}
+use Rattle.std.proofs.Common.{◌≡◌, ◌∙◌, ◌/◌, ◌%◌, ◌*◌, ◌^◌, ◌<◌, take, set, false, bit_and, ap, arith, refl, rules}
 use Rattle.std.specs.Int.{w64, bit_not}
 use Rattle.std.proofs.Math.Seq.{take-set-lt}
 use Rattle.thread_local_model.specs.Held.{is_held, without}

@@ -1,4 +1,4 @@
-use Rattle.std.proofs.Common.{◌≡◌, ◌∙◌, sym, ap, arith}
+use Rattle.std.proofs.Common.{◌∙◌, sym, ap, arith}
 use Rattle.thread_local_model.specs.Held.{least}
 use Rattle.thread_local_model.proofs.HeldLaws.{least_only}
 use Rattle.thread_local_bits.specs.Bits.{bits_of}
