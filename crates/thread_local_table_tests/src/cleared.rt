@@ -101,10 +101,10 @@ fn a_cleared_table_of_no_capacity_keeps_its_room(rt: HostRuntime) -> Result<(), 
     if first {
         slots += 1;
     }
-    if second {
+    if second || third {
         slots += 2;
     }
-    if third || fourth {
+    if fourth {
         slots += 4;
     }
     assert_eq!(rt; table.slots(), slots);
