@@ -58,7 +58,7 @@ impl<T> CachedThreadLocal<T> {
     pub fn clear(&mut self)
     where
         T: Drop,
-        ensures reserved { self.new.reserved ≡ 0 }
+        ensures reserved { self.new.reserved ≡ self.old.reserved }
     {
         self.table.clear();
     }

@@ -18,6 +18,7 @@ module _ {V : Type 0} where
       buckets = length-refilled_rows rs w.rows ∙ so.table.buckets;
       whole = λ b. subst (λ n. (n ≡ 0) ⊎ (n ≡ 2 ^ b)) (sym (long b)) (so.table.whole b);
     };
+    first = so.first;
     standing = λ b inside below. subst (λ n. IsTrue (nat_lt 0 n)) (sym (long b)) (so.standing b inside below);
   }
 

@@ -1,4 +1,4 @@
-ghost use Rattle.std.specs.Prelude.{◌≡◌, ℕ, ◌^◌, ◌<◌, ◌≤◌, [], length, true, false, Option, Err, OnErr, IfOk, IfErr, unwrap_or, Some, is_some, MatchOption, ◌==◌, if◌then◌else◌};
+ghost use Rattle.std.specs.Prelude.{◌≡◌, ℕ, ◌^◌, ◌<◌, ◌≤◌, nat_lt, [], length, true, false, Option, Err, OnErr, IfOk, IfErr, unwrap_or, Some, is_some, MatchOption, ◌==◌, if◌then◌else◌};
 ghost use Rattle.std.specs.Borrow.{sem};
 ghost use Rattle.thread_local_model.specs.Place.{id_at};
 ghost use Rattle.thread_local_model.specs.Buckets.{row, stands, slots, values, no_contents, IsTable};
@@ -7,7 +7,7 @@ ghost use Rattle.thread_local_model.specs.Rows.{value_in};
 ghost use Rattle.thread_local_model.specs.Capacity.{binary_digits, reserves_bucket, reserved_slots};
 ghost use Rattle.thread_local_model.specs.Sheet.{moved};
 ghost use Rattle.thread_local_model.specs.Walk.{walk, with_value};
-ghost use Rattle.thread_local_contents.specs.Owner.{with_bucket, with_published, sheet_of, publish_or_keep};
+ghost use Rattle.thread_local_contents.specs.Owner.{with_bucket, with_published, cleared_row, sheet_of, publish_or_keep};
 
 use crate::iter::IntoIter;
 use crate::iter_mut::IterMut;
@@ -200,15 +200,18 @@ impl<T> Buckets<T> {
         }
     }
 
-    /// Drops every value and frees every bucket: what is left is as from `new`.
+    /// Drops every value, and frees every bucket that isn't reserved. The reserved ones stay, and aren't made anew: all their slots are
+    /// empty. It takes no memory.
     pub fn clear(&mut self)
     where
         T: Drop,
-        ensures contents { self.new.contents ≡ no_contents }
-        ensures reserved { self.new.reserved ≡ 0 }
+        ensures rows { (bucket : ℕ) → row self.new.contents bucket ≡ cleared_row self.old.reserved bucket }
+        ensures empty { (id : ℕ) → values self.new.contents id ≡ None }
+        ensures stands { (bucket : ℕ) → stands self.new.contents bucket ≡ nat_lt (id_at bucket 0) self.old.reserved }
+        ensures slots { slots (stands self.new.contents) ≡ self.old.reserved }
+        ensures reserved { self.new.reserved ≡ self.old.reserved }
     {
-        self.words.release_all();
-        self.reserved = 0;
+        self.words.clear(self.reserved);
     }
 }
 

@@ -55,8 +55,8 @@ pub below_reserved : (b n : ℕ) → id_at b 0 < 2 ^ n - 1 → b < n
 below_reserved b n h =
     ⊎_elim (λ (low : b < n). low) (λ (high : n ≤ b). let up : 2 ^ n ≤ 2 ^ b = pow_mono high in absurd (omega arith)) (cases_lt b n)
 
-pub IsOwned-filled : {V : Type 0} (c : Contents V) (n : ℕ) → IsFilled c n → IsOwned (record { contents = c; reserved = 2 ^ n - 1 })
-IsOwned-filled c n h = record { table = h.table; standing = λ b low first. h.standing b ∙ lt-ltb b n (below_reserved b n first) }
+pub IsOwned-filled : {V : Type 0} (c : Contents V) (n : ℕ) → n ≤ 63 → IsFilled c n → IsOwned (record { contents = c; reserved = 2 ^ n - 1 })
+IsOwned-filled c n within h = record { table = h.table; first = record { buckets = n; in_table = within; all = refl }; standing = λ b low first. h.standing b ∙ lt-ltb b n (below_reserved b n first) }
 
 pub slots-filled : {V : Type 0} (c : Contents V) (capacity : ℕ) → capacity < 2 ^ 63 → IsFilled c (binary_digits capacity) → slots (stands c) ≡ reserved_slots capacity
 slots-filled c capacity h filled = slots-same (stands c) (reserves_bucket capacity) filled.standing ∙ slots-reserved capacity h
@@ -80,4 +80,4 @@ contents-empty c n e high h = let same : c.rows ≡ replicate 63 [] = rows-empty
 
 -- a table without buckets, which reserves none
 pub IsOwned-none : (V : Type 0) → IsOwned (record { contents = no_contents {V = V}; reserved = 0 })
-IsOwned-none V = record { table = IsTable-no_contents V; standing = λ b low first. absurd (omega arith) }
+IsOwned-none V = record { table = IsTable-no_contents V; first = record { buckets = 0; in_table = omega arith; all = refl }; standing = λ b low first. absurd (omega arith) }

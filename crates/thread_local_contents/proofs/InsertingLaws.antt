@@ -123,6 +123,7 @@ module _ {V : Type 0} (c : Contents V) (b : ℕ) (t : IsTable c) (low : b < 63) 
   pub IsOwned-with_published : (reserved i : ℕ) (w : V) → IsOwned (record { contents = c; reserved = reserved }) → IsOwned (record { contents = with_published c b i w; reserved = reserved })
   IsOwned-with_published reserved i w o = record {
     table = IsTable-with_slot (with_bucket c b) b i (Some w) (by_standing c b IsTable (λ _. t) (λ _. IsTable-with_row c b (empty_row b) t (inr (length-empty_row V b))));
+    first = o.first;
     standing = λ j below first. stands-with_published c b in_table (row-absent c b) i w j ∙ standing_on (eqb b j) (o.standing j below first);
   }
     where

@@ -2,6 +2,7 @@ pub mod RowLaws
 pub mod ValueLaws
 pub mod TakingLaws
 pub mod StandingLaws
+pub mod ClearingLaws
 pub mod FillingLaws
 pub mod InsertingLaws
 pub mod NextValue

@@ -1,4 +1,5 @@
-use Rattle.std.specs.Prelude.{ℕ, ◌<◌, ◌≡◌, [], Option, Some, None, if◌then◌else◌}
+use Rattle.std.specs.Prelude.{ℕ, ◌<◌, ◌≡◌, nat_lt, List, [], Option, Some, None, if◌then◌else◌}
+use Rattle.thread_local_model.specs.Place.{id_at}
 use Rattle.thread_local_model.specs.Buckets.{Contents, stands, values}
 use Rattle.thread_local_model.specs.Rows.{with_row, with_slot, empty_row}
 use Rattle.thread_local_model.specs.Sheet.{Sheet, Move, Publish, Keep}
@@ -10,6 +11,10 @@ with_bucket contents bucket = if stands contents bucket then contents else with_
 -- the contents with this bucket standing, and this value in one of its slots
 abbrev pub with_published : {V : Type 0} → Contents V → ℕ → ℕ → V → Contents V
 with_published contents bucket index v = with_slot (with_bucket contents bucket) bucket index (Some v)
+
+-- what clearing leaves of a bucket: all its slots, empty, where it has a reserved slot, and else none
+abbrev pub cleared_row : {V : Type 0} → ℕ → ℕ → List (Option V)
+cleared_row reserved bucket = if nat_lt (id_at bucket 0) reserved then empty_row bucket else []
 
 -- an owner's contents as a table's users see them, who hold no ids
 abbrev pub sheet_of : {V : Type 0} → Contents V → Sheet V

@@ -88,6 +88,16 @@ impl Ids {
         self.manager.free(id);
     }
 
+    /// Takes every id back, and counts the peak anew: the rights are fresh ones under another table's name, since the right to an id that a
+    /// forgotten holder had is lost. The room stays. It takes no memory.
+    pub fn clear(&mut self)
+        ensures held { self.new.manager.held ≡ [] }
+        ensures room { self.new.manager.room ≡ self.old.manager.room }
+    {
+        self.manager.clear();
+        self.rights = Rights::new();
+    }
+
     /// The rights of the ids that aren't held, which name the table.
     pub fn rights(&self) -> &Rights
         ensures { result.now.table ≡ self.now.table }

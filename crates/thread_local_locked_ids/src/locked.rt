@@ -46,4 +46,11 @@ impl LockedIds {
     {
         self.ids.lock(rt).give(held);
     }
+
+    /// The ids, for an owner, by value. Which of them are held nobody can say, since other threads took them. It never waits, and takes no
+    /// memory.
+    pub fn into_ids(self) -> Ids {
+        let Self { ids } = self;
+        ids.into_inner()
+    }
 }

@@ -73,10 +73,13 @@ first_slots k (suc n) h =
     let twice = two-pow-succ n in
     omega arith
 
-pub slots-reserved : (capacity : ℕ) → capacity < 2 ^ 63 → slots (reserves_bucket capacity) ≡ reserved_slots capacity
-unfolding slots reserved_slots
-slots-reserved capacity h =
-    let k = binary_digits capacity in
+pub slots-first : (k : ℕ) → k ≤ 63 → slots (λ b. nat_lt b k) ≡ 2 ^ k - 1
+unfolding slots
+slots-first k within =
     let first = first_slots k k (omega arith) in
-    let rest = slots_below-further (λ b. nat_lt b k) k 63 (few_digits capacity h) (λ b low high. le-ltb b k low) in
+    let rest = slots_below-further (λ b. nat_lt b k) k 63 within (λ b low high. le-ltb b k low) in
     omega arith
+
+pub slots-reserved : (capacity : ℕ) → capacity < 2 ^ 63 → slots (reserves_bucket capacity) ≡ reserved_slots capacity
+unfolding reserved_slots
+slots-reserved capacity h = slots-first (binary_digits capacity) (few_digits capacity h)

@@ -5,7 +5,7 @@ use Rattle.std.proofs.lemmas.Bool.{lt-ltb, ltb-true, ltb-false}
 use Rattle.std.proofs.lemmas.List.{length-map, get_or_past}
 use mathlib.Core.Logic.{inl, inr}
 use Rattle.thread_local_model.specs.Place.{id_at}
-use Rattle.thread_local_model.specs.Owned.{Owned, IsOwned}
+use Rattle.thread_local_model.specs.Owned.{Owned, AreOfFirstBuckets, IsOwned}
 use Rattle.thread_local_shared_word_logic.specs.Shared.{WordView}
 use Rattle.thread_local_shared_buckets.specs.Fit.{Fit}
 use Rattle.thread_local_shared_buckets.specs.TableView.{TableView, word_of, word_at, view_of, AreWords}
@@ -80,7 +80,7 @@ module _ {V W : Type 0} (slots : W → List (Option V)) where
   standing_if d cs kept (inl f) = let no : true ≡ false = sym kept ∙ f.1 in cc
   standing_if d cs kept (inr f) = let some_slots : 0 < 2 ^ d.bucket = pow_pos d.bucket in lt-ltb 0 (length cs) (omega arith)
 
-  module _ (ds : List WordView) (ws : List W) (reserved : ℕ) (long : length ds ≡ 63) (named : AreWords ds reserved) (f : Fits ds ws) where
+  module _ (ds : List WordView) (ws : List W) (reserved : ℕ) (long : length ds ≡ 63) (named : AreWords ds reserved) (first : AreOfFirstBuckets reserved) (f : Fits ds ws) where
     whole_at : (b : ℕ) (t : Bool) → nat_lt b 63 ≡ t → (length (slots_at ws b) ≡ 0) ⊎ (length (slots_at ws b) ≡ 2 ^ b)
     whole_at b true e = let near : b < 63 = ltb-true b 63 e in whole_if (word_at ds b) (slots_at ws b) b (ap (λ (d : WordView). d.bucket) (named b near)) (fits_at ds ws f b (omega arith))
     whole_at b false e = let past : 63 ≤ b = ltb-false b 63 e in let all : length (map slots ws) ≡ 63 = length-map ws slots ∙ fits_long ds ws f ∙ long in
@@ -92,6 +92,7 @@ module _ {V W : Type 0} (slots : W → List (Option V)) where
         buckets = length-map ws slots ∙ fits_long ds ws f ∙ long;
         whole = λ b. whole_at b (nat_lt b 63) refl;
       };
+      first = first;
       standing = λ b near low. standing_if (word_at ds b) (slots_at ws b) (ap (λ (d : WordView). d.reserved) (named b near) ∙ lt-ltb (id_at b 0) reserved low) (fits_at ds ws f b (omega arith));
     }
 

@@ -20,7 +20,7 @@ use Rattle.std.proofs.cell.Inside.{one}
 use denote.Struct.Struct.{Struct, Shape, within}
 use Rattle.std.specs.contracts.alloc.Global as heap
 use Rattle.thread_local_model.specs.Buckets.{IsTable}
-use Rattle.thread_local_model.specs.Owned.{Owned, IsOwned}
+use Rattle.thread_local_model.specs.Owned.{Owned, AreOfFirstBuckets, IsOwned}
 use Rattle.thread_local_judged.specs.Judged.{Judged}
 use Rattle.thread_local_blocks.specs.Slots.{heap_token}
 use Rattle.thread_local_words.specs.Leads.{word_owns}
@@ -168,7 +168,7 @@ module _ {M : Type 1} {𝓤 : Ura M} (𝓛 : Logic 𝓤) (R : RattleType) (L : L
   OwnedOf y = (x : (buckets.TheInside.the_row R).Denot) × ((record { contents = x.words; reserved = x.reserved } ≡ y) × IsOwned (record { contents = x.words; reserved = x.reserved }))
 
   abbrev SharedOf : TableView → Type 0
-  SharedOf s = (x : (all_shared.TheInside.the_row R).Denot) × ((view_of x.words.words.words x.reserved ≡ s) × AreWords x.words.words.words x.reserved)
+  SharedOf s = (x : (all_shared.TheInside.the_row R).Denot) × ((view_of x.words.words.words x.reserved ≡ s) × (AreWords x.words.words.words x.reserved × AreOfFirstBuckets x.reserved))
 
   abbrev pub Out : TableView → List Val → Owner.Denot → Pr
   Out s vs y = guard 𝓤 (Judged R × (y.reserved ≡ s.reserved)) ⟦ Owner.own_val y vs ⟧
@@ -177,7 +177,7 @@ module _ {M : Type 1} {𝓤 : Ura M} (𝓛 : Logic 𝓤) (R : RattleType) (L : L
   turns_plain s vs = qed 𝓛 (‵ (Shared.own_val s vs) ∷ []) ∵ updating ! $ fpick ! (λ h. fsplit ! $ fpick ! (λ vss. fsplit3 ! $ move ! (1 ∷ []) $ fpick ! (λ uss. fsplit3 ! $ move ! (1 ∷ []) $ fpick ! (λ tss. fsplit3 ! $ move ! (1 ∷ []) $
       let ds : List WordView = h.0.words.words.words in let n : ℕ = h.0.reserved in
       use1 𝓛 (later (some (λ (ws : List W.Denot). given (Judged R × (length ds ≡ 63) × Fits slots ds ws) (‵ ((Array W 63).own_val ws tss.0))))) (array_redeems ds tss.0) $ await ! tt $ pick ! (λ ws. learn ! (λ g.
-      let y : Owned R.Denot = owned_of slots ws n in let owned : IsOwned y = are_owned slots ds ws n g.1 h.1.1 g.2 in
+      let y : Owned R.Denot = owned_of slots ws n in let owned : IsOwned y = are_owned slots ds ws n g.1 h.1.1.0 h.1.1.1 g.2 in
       -- [the array; its value; nothing; the words' value; the heap; the struct's value; the number; nothing]
       move ! (1 ∷ 0 ∷ []) $ fjoin3 ! $ fpack ! (Valss (Array W 63 ∷ [])) (within (shape_with (Array W 63 ∷ [])) (ws, tt) uss.0) tss $
       move ! (1 ∷ 0 ∷ []) $ fjoin3 ! $ fpack ! (Valss (Line ∷ Heap ∷ [])) (within (shape_with (Line ∷ Heap ∷ [])) (record { words = ws }, (h.0.words.alloc, tt)) vss.0) uss $ nothing ! $ move ! (1 ∷ 0 ∷ []) $ fjoin ! $
@@ -196,7 +196,7 @@ module _ {M : Type 1} {𝓤 : Ura M} (𝓛 : Logic 𝓤) (R : RattleType) (L : L
       move ! (1 ∷ 0 ∷ []) $ fjoin3 ! $ fpack ! (Valss (SharedLine ∷ Heap ∷ [])) (within (shape_with (SharedLine ∷ Heap ∷ [])) (record { words = ds }, (h'.0.alloc, tt)) vss.0) uss $ move ! (1 ∷ []) $ drop ! $
       move ! (2 ∷ []) $ rewrite ! 0 (λ (n : ℕ). ‵ (fsep (usize.own_val n vss.1.0) ftrue)) e refl $ move ! (2 ∷ 1 ∷ 0 ∷ []) $ fjoin3 ! $
       fpack ! (Valss (all_words'.the_row R ∷ usize ∷ [])) (within (shape_with (all_words'.the_row R ∷ usize ∷ [])) (record { words = record { words = ds }; alloc = h'.0.alloc }, (s.reserved, tt)) vs) vss $ fjoin ! $
-      fpack ! (SharedOf s) (λ a. fsep ((all_shared.TheInside.the_row R).own_val a.0 vs) ftrue) (record { words = record { words = record { words = ds }; alloc = h'.0.alloc }; reserved = s.reserved }, (table_seen s, table_named s)) $ done !)))))
+      fpack ! (SharedOf s) (λ a. fsep ((all_shared.TheInside.the_row R).own_val a.0 vs) ftrue) (record { words = record { words = record { words = ds }; alloc = h'.0.alloc }; reserved = s.reserved }, (table_seen s, (table_named s, owned.first))) $ done !)))))
 
   -- ---- in memory
   abbrev pub Row : RattleType

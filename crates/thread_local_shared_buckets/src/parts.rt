@@ -1,5 +1,6 @@
 //! How the words of a table lie while they are shared, and at rest.
 ghost use Rattle.std.specs.Prelude.{◌≡◌, ◌<◌};
+ghost use Rattle.thread_local_model.specs.Owned.{AreOfFirstBuckets};
 ghost use Rattle.thread_local_shared_buckets.specs.TableView.{TableView, table_view_coded, view_of, word_of, AreWords};
 
 use std::alloc::Global;
@@ -31,7 +32,7 @@ impl<T> Model for Parts<T> {
 
     ghost view = { λ s. view_of s.words.words.words s.reserved };
 
-    ghost invariant = { λ s. AreWords s.words.words.words s.reserved };
+    ghost invariant = { λ s. AreWords s.words.words.words s.reserved × AreOfFirstBuckets s.reserved };
 }
 
 impl<T> Parts<T> {

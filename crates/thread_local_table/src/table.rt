@@ -10,6 +10,7 @@ use crate::table_core::Core;
 use std::alloc::Global;
 use std::default::MadeWith;
 use std::marker::Model;
+use std::mem::replace;
 use std::sync::Wait;
 use thread_local_buckets::{Buckets, CapacityError, IntoIter, IterMut};
 use thread_local_judged::Judge;
@@ -108,16 +109,20 @@ impl<T> ThreadLocal<T> {
         core.into_buckets()
     }
 
-    /// Drops every value, frees every bucket and forgets every id, held ones of forgotten `Local`s among them: what is left is as from
-    /// `new`, and has another name. It never waits, and takes no memory.
+    /// Drops every value, frees every bucket that isn't reserved, and forgets every id, held ones of forgotten `Local`s among them. The
+    /// reserved buckets and the room for ids stay, so within the capacity nothing is refused memory afterwards either. The table has another
+    /// name then. It never waits, and takes no memory. In Rust's crate the reserved buckets go too.
     pub fn clear(&mut self)
     where
         T: Drop,
-        ensures reserved { self.new.reserved ≡ 0 }
+        ensures reserved { self.new.reserved ≡ self.old.reserved }
     {
         let alloc = self.core.alloc();
         self.core.judged();
-        *self = ThreadLocal::new(alloc);
+        let Self { core } = replace(self, ThreadLocal::new(alloc));
+        *self = ThreadLocal {
+            core: core.cleared(),
+        };
     }
 }
 

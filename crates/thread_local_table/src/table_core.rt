@@ -123,6 +123,26 @@ impl<T> Core<T> {
         } = self;
         buckets.into_buckets()
     }
+
+    /// The same reserved buckets and the same room for ids, with no value, no id held and another name. Every other bucket is freed. It
+    /// takes no memory.
+    pub(crate) fn cleared(self) -> Core<T>
+    where
+        T: Drop,
+        ensures { result.reserved ≡ self.reserved }
+    {
+        self.judged();
+        let Self {
+            buckets,
+            ids,
+            alloc,
+        } = self;
+        let mut buckets = buckets.into_buckets();
+        buckets.clear();
+        let mut ids = ids.into_ids();
+        ids.clear();
+        Core::new(alloc, buckets, ids)
+    }
 }
 
 impl<T: Sync> Core<T> {

@@ -71,3 +71,18 @@ fn a_walk_that_ends_early_drops_the_values_that_it_has_not_given(
     assert_eq!(rt; drops.load(SeqCst), 3);
     Ok(())
 }
+
+#[test]
+fn clearing_drops_each_value_and_keeps_the_reserved_slots(rt: HostRuntime) -> Result<(), Fail> {
+    let drops = Arc::new(rt.alloc(), AtomicU64::new(0))?;
+    judge_sync::<Counted>();
+    let mut table = ThreadLocal::with_capacity(rt.alloc(), 3)?;
+    assert!(rt; publish_counted(&table, &rt, rt.alloc(), &drops, 3));
+    table.clear();
+    assert_eq!(rt; drops.load(SeqCst), 3);
+    assert_eq!(rt; table.slots(), 3);
+    assert!(rt; publish_counted(&table, &rt, rt.alloc(), &drops, 1));
+    drop(table);
+    assert_eq!(rt; drops.load(SeqCst), 4);
+    Ok(())
+}

@@ -4,6 +4,8 @@
 #[cfg(test)]
 mod callers;
 #[cfg(test)]
+mod cleared;
+#[cfg(test)]
 mod drops;
 #[cfg(test)]
 mod forgotten;

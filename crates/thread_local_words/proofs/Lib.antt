@@ -2,3 +2,4 @@ pub mod WordSteps
 pub mod LentValue
 pub mod Lent
 pub mod ContentsOf
+pub mod Clearing

@@ -2,7 +2,7 @@
 ghost use Rattle.std.specs.Prelude.{◌≡◌, ◌⊎◌, ◌<◌, List, [], length, Option, Some, None, is_some, IsSome, nat_lt, slice_set};
 ghost use base.Stored.{coded_list};
 ghost use Rattle.std.specs.Coded.{coded_option};
-ghost use Rattle.thread_local_blocks.specs.Slots.{heap_token, slot_at};
+ghost use Rattle.thread_local_blocks.specs.Slots.{heap_token, slot_at, empty_slots};
 ghost use Rattle.thread_local_words.specs.Leads.{word_owns};
 
 use std::alloc::Global;
@@ -108,6 +108,18 @@ impl<T> Word<T> {
 }
 
 impl<T: Drop> Word<T> {
+    /// Drops the values of the block, which stays, with all its slots empty. `len` is how many these are. It takes no memory.
+    pub fn empty(&mut self, len: usize)
+        requires { length self.old.slots ≡ len }
+        ensures { self.new.slots ≡ empty_slots len }
+    {
+        'slots: for index in 0..len {
+            if self.is_published(index) {
+                drop(self.take(index));
+            }
+        }
+    }
+
     /// Drops the values of the block, if there is one, and frees it. `len` is how many slots a block has.
     pub fn release(&mut self, len: usize, alloc: &Global)
         requires { (self.old.slots ≡ []) ⊎ (length self.old.slots ≡ len) }

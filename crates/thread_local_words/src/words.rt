@@ -10,6 +10,7 @@ use thread_local_blocks::Block;
 use thread_local_contents::Places;
 use thread_local_thread_id::{BUCKETS, Thread, bucket_size};
 
+mod clearing;
 mod counting;
 mod lends;
 mod placing;

@@ -1,10 +1,31 @@
-use Rattle.std.proofs.Common.{sym, subst}
-use Rattle.thread_local_model.specs.Buckets.{Contents}
-use Rattle.thread_local_model.specs.Owned.{IsOwned}
-use Rattle.thread_local_contents.proofs.FillingLaws.{IsOwned-none}
+use Rattle.std.proofs.Common.{ap, ◌∙◌, arith}
+use Rattle.std.specs.Prelude.{nat_lt}
+use Rattle.thread_local_model.specs.Place.{id_at}
+use Rattle.thread_local_model.specs.Owned.{Owned}
+use Rattle.thread_local_contents.specs.Owner.{cleared_row}
+use Rattle.thread_local_contents.proofs.ClearingLaws.{row-cleared, stands-cleared, values-cleared, slots-cleared, IsOwned-cleared}
 use Rattle.thread_local_buckets.proofs.buckets.Buckets.clear.Goals as goal
 
+pub clear-requires : goal.clear-requires
+clear-requires g c = (omega arith, c.self.invariant.standing)
+
 pub invariant_of-self : goal.invariant_of-self
-invariant_of-self g c =
-    let P : Contents _ → Type 0 = λ words. IsOwned (record { contents = words; reserved = 0 }) in
-    subst P (sym c.release_all.ensures) (IsOwned-none _)
+invariant_of-self g c = IsOwned-cleared c.clear.new.self c.self.inside.reserved c.clear.ensures.table c.self.invariant.first c.clear.ensures.rows
+
+pub returns-clause-rows : goal.returns-clause-rows
+returns-clause-rows g c = λ b.
+    row-cleared c.clear.new.self c.self.inside.reserved c.clear.ensures.table c.self.invariant.first c.clear.ensures.rows b
+    ∙ ap (λ (o : Owned g.row.T.Denot). cleared_row o.reserved b) c.self.view_is
+
+pub returns-clause-empty : goal.returns-clause-empty
+returns-clause-empty g c = values-cleared c.clear.new.self c.self.inside.reserved c.clear.ensures.table c.self.invariant.first c.clear.ensures.rows
+
+pub returns-clause-stands : goal.returns-clause-stands
+returns-clause-stands g c = λ b.
+    stands-cleared c.clear.new.self c.self.inside.reserved c.clear.ensures.table c.self.invariant.first c.clear.ensures.rows b
+    ∙ ap (λ (o : Owned g.row.T.Denot). nat_lt (id_at b 0) o.reserved) c.self.view_is
+
+pub returns-clause-slots : goal.returns-clause-slots
+returns-clause-slots g c =
+    slots-cleared c.clear.new.self c.self.inside.reserved c.clear.ensures.table c.self.invariant.first c.clear.ensures.rows
+    ∙ ap (λ (o : Owned g.row.T.Denot). o.reserved) c.self.view_is

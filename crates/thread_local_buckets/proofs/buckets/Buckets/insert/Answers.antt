@@ -3,12 +3,12 @@ use Rattle.std.specs.Prelude.{unwrap_or, IsSome}
 use mathlib.Core.Path.{fun_ext}
 use Rattle.thread_local_model.specs.Place.{id_at}
 use Rattle.thread_local_model.specs.Buckets.{Contents, row, stands, IsTable}
-use Rattle.thread_local_model.specs.Owned.{Owned}
+use Rattle.thread_local_model.specs.Owned.{Owned, IsOwned}
 use Rattle.thread_local_model.specs.Rows.{value_in, with_slot}
 use Rattle.thread_local_model.specs.Sheet.{moved}
 use Rattle.thread_local_contents.specs.Owner.{with_bucket, with_published, sheet_of, publish_or_keep}
 use Rattle.thread_local_contents.proofs.StandingLaws.{row-absent, whole-with_bucket}
-use Rattle.thread_local_contents.proofs.InsertingLaws.{ends, answers, published_moves, published_stands}
+use Rattle.thread_local_contents.proofs.InsertingLaws.{ends, answers, IsOwned-with_published, published_moves, published_stands}
 use Rattle.thread_local_buckets.specs.Inserting.{owned_with}
 use Rattle.thread_local_buckets.proofs.buckets.Buckets.insert.Goals as goal
 
@@ -39,6 +39,21 @@ answered o now d e b i value there same t low inside stood kept published found 
     let whole : length (row d b) ≡ 2 ^ b = ap (λ (k : Contents _). length (row k b)) stood ∙ whole-with_bucket o.contents b t low in
     answers o.contents b within (row-absent o.contents b) d e i value there stood (omega arith) kept published found
     ∙ ap (λ (s : Owned _). unwrap_or (value_in s.contents b i) value) same
+
+-- whatever is written, the buckets are an owner's still
+owned_still : {V : Type 0} (o : Owned V) (d e : Contents V) (b i : ℕ) (value : V) → IsOwned o → b < 63 → d ≡ with_bucket o.contents b
+    → (IsSome (value_in d b i) → e ≡ d) → (value_in d b i ≡ None → e ≡ with_slot d b i (Some value))
+    → (w : V) → IsOwned (record { contents = with_slot e b i (Some w); reserved = o.reserved })
+owned_still o d e b i value owned low stood kept published w =
+    let within : b < length o.contents.rows = omega (arith, owned.table.buckets) in
+    let P : Contents _ → Type 0 = λ k. IsOwned (record { contents = k; reserved = o.reserved }) in
+    subst P (sym (ends o.contents b within (row-absent o.contents b) d e i value stood kept published w)) (IsOwned-with_published o.contents b owned.table low o.reserved i w owned)
+
+pub invariant_of-self-lent : goal.invariant_of-self-lent
+invariant_of-self-lent g c =
+    let first : Owned _ = record { contents = c.self.inside.words; reserved = c.self.inside.reserved } in
+    owned_still first c.ensure_bucket.new.self c.publish_or_drop.new.self c.args.thread.bucket c.args.thread.index c.args.value c.self.invariant c.args.thread.in_table
+    c.in-Ok.ensures.ok c.publish_or_drop.ensures.kept c.publish_or_drop.ensures.published
 
 pub returns-in-Ok : goal.returns-in-Ok
 returns-in-Ok g c =

@@ -20,7 +20,7 @@ pub invariant_of-result : goal.invariant_of-result
 invariant_of-result g c =
     let filled = all_made c.loop-bucket.words c.loop-bucket.bucket c.digits-first.result (omega arith) c.loop-bucket.invariant in
     let P : ℕ → Type 0 = λ n. IsOwned (record { contents = c.loop-bucket.words; reserved = n - 1 }) in
-    subst P (sym c.bucket_size.ensures) (IsOwned-filled c.loop-bucket.words c.digits-first.result filled)
+    subst P (sym c.bucket_size.ensures) (IsOwned-filled c.loop-bucket.words c.digits-first.result c.digits-first.ensures.bounded filled)
 
 pub returns-clause-slots : goal.returns-clause-slots
 returns-clause-slots g c =
