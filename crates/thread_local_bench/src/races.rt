@@ -16,10 +16,10 @@ use thread_local_table::{Local, ThreadLocal};
 const PLACES: usize = 8;
 
 /// How many moves a thread makes in a round.
-const MOVES: u32 = 2000;
+const MOVES: u32 = 200;
 
 /// After how many rounds the owner clears the table.
-const ROUNDS: u64 = 16;
+const ROUNDS: u64 = 4;
 
 /// What is published: a number, and how many places know the value at the moment. One place at most has a value's id.
 struct Mark {
