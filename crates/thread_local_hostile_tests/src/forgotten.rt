@@ -40,6 +40,20 @@ fn publish_afresh<R: Wait>(
     Ok(local.get().is_none() && publish_counted(&mut local, drops))
 }
 
+/// How many slots a table has, and how many values.
+fn counted(table: &mut ThreadLocal<Counted>) -> (usize, usize) {
+    let slots = table.slots();
+    (slots, table.iter_mut().len())
+}
+
+/// Forgets a lending walk that has given a value. Answers whether it did.
+fn forget_a_walk(table: &mut ThreadLocal<Counted>) -> bool {
+    let mut values = table.iter_mut();
+    let given = values.next().is_some();
+    forget(values);
+    given
+}
+
 /// A table in which three `Local`s that are forgotten published a counted value each.
 fn three_counted<R: Wait>(
     rt: &R,
@@ -62,14 +76,14 @@ fn a_thousand_forgotten_locals_keep_their_ids_until_the_table_is_cleared(
     let drops = Arc::new(rt.alloc(), AtomicU64::new(0))?;
     judge_sync::<Counted>();
     let mut table = ThreadLocal::new(rt.alloc());
-    assert!(rt; forget_after_publishing(&table, &rt, &drops, 1000));
-    assert_eq!(rt; table.slots(), 1023);
-    assert_eq!(rt; table.iter_mut().len(), 1000);
-    assert_eq!(rt; drops.load(SeqCst), 0);
+    let published = forget_after_publishing(&table, &rt, &drops, 1000);
+    let before = (counted(&mut table), drops.load(SeqCst));
     table.clear();
-    assert_eq!(rt; (drops.load(SeqCst), table.slots()), (1000, 0));
-    assert_eq!(rt; publish_afresh(&table, &rt, &drops), Ok(true));
-    assert_eq!(rt; table.slots(), 1);
+    let after = (counted(&mut table), drops.load(SeqCst));
+    let afresh = publish_afresh(&table, &rt, &drops) == Ok(true);
+    let slots = table.slots();
+    assert_eq!(rt; (published, afresh, slots), (true, true, 1));
+    assert_eq!(rt; (before, after), (((1023, 1000), 0), ((0, 0), 1000)));
     Ok(())
 }
 
@@ -89,10 +103,9 @@ fn a_forgotten_walk_drops_nothing(rt: HostRuntime) -> Result<(), Fail> {
     let mut values = table.into_iter();
     let first = values.next();
     forget(values);
-    assert!(rt; first.is_some());
-    assert_eq!(rt; drops.load(SeqCst), 0);
+    let given = (first.is_some(), drops.load(SeqCst));
     drop(first);
-    assert_eq!(rt; drops.load(SeqCst), 1);
+    assert_eq!(rt; (given, drops.load(SeqCst)), ((true, 0), 1));
     assert_eq!(rt; drops.load(SeqCst), 1);
     Ok(())
 }
@@ -101,12 +114,8 @@ fn a_forgotten_walk_drops_nothing(rt: HostRuntime) -> Result<(), Fail> {
 fn a_forgotten_lending_walk_leaves_all_values(rt: HostRuntime) -> Result<(), Fail> {
     let drops = Arc::new(rt.alloc(), AtomicU64::new(0))?;
     let mut table = three_counted(&rt, rt.alloc(), &drops).expect(&rt, "three values");
-    {
-        let mut values = table.iter_mut();
-        assert!(rt; values.next().is_some());
-        forget(values);
-    }
-    assert_eq!(rt; table.iter_mut().len(), 3);
-    assert_eq!(rt; drops.load(SeqCst), 0);
+    let given = forget_a_walk(&mut table);
+    let (_slots, left) = counted(&mut table);
+    assert_eq!(rt; (given, left, drops.load(SeqCst)), (true, 3, 0));
     Ok(())
 }

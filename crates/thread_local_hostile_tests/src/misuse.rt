@@ -73,21 +73,32 @@ fn swapped<R: Wait>(table: &ThreadLocal<u32>, rt: &R) -> Option<u32> {
     right.get().copied()
 }
 
+/// Two places that are held at once: the first answer of the second, and what the first makes of it.
+fn with_two_places<R: Wait>(table: &ThreadLocal<u32>, rt: &R) -> Option<[Option<u32>; 2]> {
+    let mut first = table.local(rt).ok()?;
+    let mut second = table.local(rt).ok()?;
+    Some([first_answer(&mut second), made_apart(&mut first, &second)])
+}
+
 #[test]
 fn the_programs_run(rt: HostRuntime) -> Result<(), Fail> {
     let table = ThreadLocal::<u32>::new(rt.alloc());
-    assert_eq!(rt; found_before_the_drop(&table, &rt), None);
-    assert_eq!(rt; made_before_the_drop(&table, &rt), Some(1));
-    assert_eq!(rt; found_before_the_drop(&table, &rt), Some(1));
-    assert_eq!(rt; swapped(&table, &rt), Some(1));
-    assert!(rt; taken_by_another(&rt, rt.alloc()));
-    assert_eq!(rt; looked_at_by_another(&rt, rt.alloc()), Some(true));
-    {
-        let mut first = table.local(&rt)?;
-        let mut second = table.local(&rt)?;
-        assert_eq!(rt; first_answer(&mut second), Some(2));
-        assert_eq!(rt; made_apart(&mut first, &second), Some(1));
-    }
-    assert_eq!(rt; owned_at_last(table, &rt), Some(3));
+    let alone = [
+        found_before_the_drop(&table, &rt),
+        made_before_the_drop(&table, &rt),
+        found_before_the_drop(&table, &rt),
+        swapped(&table, &rt),
+    ];
+    let together = with_two_places(&table, &rt);
+    let by_others = (
+        taken_by_another(&rt, rt.alloc()),
+        looked_at_by_another(&rt, rt.alloc()),
+    );
+    let owned = owned_at_last(table, &rt);
+    assert_eq!(rt; alone, [None, Some(1), Some(1), Some(1)]);
+    assert_eq!(rt;
+        (together, by_others, owned),
+        (Some([Some(2), Some(1)]), (true, Some(true)), Some(3))
+    );
     Ok(())
 }
