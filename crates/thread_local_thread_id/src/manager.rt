@@ -173,19 +173,6 @@ impl ThreadIdManager {
         self.mark = 0;
         self.end = 0;
     }
-
-    /// Takes every id back, and counts the peak anew. The room stays. It takes no memory. Rust's crate has no such call.
-    pub fn clear(&mut self)
-        ensures held { self.new.held ≡ [] }
-        ensures room { self.new.room ≡ self.old.room }
-    {
-        'ids: for given in 0..self.peak {
-            self.held[given] = false;
-        }
-        self.peak = 0;
-        self.free_from = 0;
-        self.free_to = 0;
-    }
 }
 
 /// The lowest bit that isn't set, from a word on. Behind the words no bit is set.

@@ -1,0 +1,241 @@
+//! Threads that race on one table. Each takes places, publishes and drops at random, and checks what it finds; between rounds the table's owner checks
+//! what they left. The moves differ from run to run only by what the threads meet.
+
+use std::alloc::{AllocError, Global};
+use std::io::Print;
+use std::sync::atomic::AtomicU64;
+use std::sync::atomic::Ordering::SeqCst;
+use std::sync::{Arc, Wait};
+use std::thread::Threads;
+use std::time::{Clock, Instant};
+use std::{io, thread};
+use thread_local_judged::judge_sync;
+use thread_local_table::{Local, ThreadLocal};
+
+/// How many places a thread holds at most.
+const PLACES: usize = 8;
+
+/// How many moves a thread makes in a round.
+const MOVES: u32 = 200;
+
+/// After how many rounds the owner clears the table.
+const ROUNDS: u64 = 4;
+
+/// What is published: a number, and how many places know the value at the moment. One place at most has a value's id.
+struct Mark {
+    number: u64,
+    holders: AtomicU64,
+    drops: Arc<AtomicU64, Global>,
+}
+
+impl Drop for Mark {
+    fn drop(self) {
+        let Self {
+            number: _,
+            holders: _,
+            drops,
+        } = self;
+        drops.fetch_add(1, SeqCst);
+    }
+}
+
+/// What threads count together: values published and dropped, places taken, and what went wrong.
+#[derive(Drop)]
+struct Counts {
+    published: AtomicU64,
+    dropped: Arc<AtomicU64, Global>,
+    taken: AtomicU64,
+    faults: AtomicU64,
+}
+
+impl Counts {
+    fn new(alloc: Global) -> Result<Counts, AllocError> {
+        Ok(Counts {
+            published: AtomicU64::new(0),
+            dropped: Arc::new(alloc, AtomicU64::new(0))?,
+            taken: AtomicU64::new(0),
+            faults: AtomicU64::new(0),
+        })
+    }
+
+    /// How many values stand.
+    fn standing(&self) -> u64 {
+        let dropped = self.dropped.load(SeqCst);
+        self.published.load(SeqCst).wrapping_sub(dropped)
+    }
+
+    /// Counts a fault where something doesn't hold.
+    fn expect(&self, holds: bool) {
+        if !holds {
+            self.faults.fetch_add(1, SeqCst);
+        }
+    }
+}
+
+/// A place, and the number that it found or published.
+#[derive(Drop)]
+struct Place<'a, R: Wait> {
+    local: Local<'a, Mark, R>,
+    number: Option<u64>,
+}
+
+impl<'a, R: Wait> Place<'a, R> {
+    /// Takes a place. Where it holds a value, nobody else may know it.
+    fn take(
+        table: &'a ThreadLocal<Mark>,
+        rt: &'a R,
+        counts: &Counts,
+    ) -> Result<Place<'a, R>, AllocError> {
+        let local = table.local(rt).map_err(|_| AllocError)?;
+        counts.taken.fetch_add(1, SeqCst);
+        let number = match local.get() {
+            Some(mark) => {
+                counts.expect(mark.holders.fetch_add(1, SeqCst) == 0);
+                Some(mark.number)
+            }
+            None => None,
+        };
+        Ok(Place { local, number })
+    }
+
+    /// Has a value at the place, which stays as it was if there was one.
+    fn publish(&mut self, number: u64, counts: &Counts) -> Result<(), AllocError> {
+        let drops = Arc::try_clone(&counts.dropped)?;
+        let mark = self.local.get_or(|| Mark {
+            number,
+            holders: AtomicU64::new(1),
+            drops,
+        })?;
+        match self.number {
+            Some(found) => counts.expect(mark.number == found),
+            None => {
+                counts.expect(mark.number == number);
+                counts.published.fetch_add(1, SeqCst);
+            }
+        }
+        self.number = Some(mark.number);
+        Ok(())
+    }
+
+    /// Gives the place back. Its value is what it was, and nobody else knows it.
+    fn leave(self, counts: &Counts) {
+        let Self { local, number } = self;
+        match local.get() {
+            Some(mark) => {
+                counts.expect(number == Some(mark.number));
+                counts.expect(mark.holders.fetch_sub(1, SeqCst) == 1);
+            }
+            None => counts.expect(number.is_none()),
+        }
+    }
+}
+
+/// Makes so many moves at random, from a state of its own.
+fn moves<R: Wait>(
+    table: &ThreadLocal<Mark>,
+    rt: &R,
+    alloc: Global,
+    counts: &Counts,
+    state: u64,
+) -> Result<(), AllocError> {
+    let mut places: Vec<Place<'_, R>> = Vec::with_capacity(alloc, PLACES)?;
+    let mut state = state;
+    for _ in 0..MOVES {
+        state = state
+            .wrapping_mul(6364136223846793005)
+            .wrapping_add(1442695040888963407);
+        let choice = (state >> 33) % 4;
+        if choice == 0 && places.len() < PLACES {
+            places.push(Place::take(table, rt, counts)?)?;
+        } else if choice == 1 {
+            if let Some(place) = places.pop() {
+                place.leave(counts);
+            }
+        } else if let Some(place) = places.last_mut() {
+            place.publish(state, counts)?;
+        }
+    }
+    for place in places {
+        place.leave(counts);
+    }
+    Ok(())
+}
+
+/// So many threads make their moves at once.
+fn round<R: Threads + Wait + Sync>(
+    table: &ThreadLocal<Mark>,
+    rt: &R,
+    alloc: Global,
+    counts: &Counts,
+    threads: u64,
+    seed: u64,
+) {
+    thread::scope(thread::scope_env(), rt, |scope| {
+        for number in 0..threads {
+            let state = seed.wrapping_mul(threads).wrapping_add(number);
+            let started = scope.spawn(move || {
+                let moved = moves(table, rt, alloc, counts, state);
+                counts.expect(moved.is_ok());
+            });
+            counts.expect(started.is_ok());
+        }
+    });
+}
+
+/// What an owner finds between rounds: each published value once, known to nobody, in no more slots than that many places need.
+fn owner_checks(table: &mut ThreadLocal<Mark>, counts: &Counts, most: u64) {
+    let slots = table.slots() as u64;
+    counts.expect(slots < most.saturating_mul(2));
+    let standing = counts.standing();
+    let mut walked = 0u64;
+    for mark in table {
+        walked = walked.wrapping_add(1);
+        counts.expect(mark.holders.load(SeqCst) == 0);
+    }
+    counts.expect(walked == standing);
+}
+
+/// Runs rounds for so many seconds with so many threads, and prints what was counted. A fault is told, and ends in an error.
+pub(crate) fn run<R: Clock + Threads + Wait + Sync + Print>(
+    rt: &R,
+    alloc: Global,
+    seconds: u64,
+    threads: u64,
+) -> io::Result<()> {
+    judge_sync::<Mark>();
+    let counts = Counts::new(alloc)?;
+    let mut table = ThreadLocal::new(alloc);
+    let most = threads.saturating_mul(PLACES as u64);
+    let start = Instant::now(rt)?;
+    let mut rounds = 0u64;
+    for _ in 0..u64::MAX {
+        round(&table, rt, alloc, &counts, threads, rounds);
+        rounds = rounds.wrapping_add(1);
+        owner_checks(&mut table, &counts, most);
+        if rounds % ROUNDS == 0 {
+            table.clear();
+            counts.expect(table.slots() == 0 && counts.standing() == 0);
+        }
+        if start.elapsed(rt)?.as_nanos() / 1_000_000_000 >= u128::from(seconds) {
+            break;
+        }
+    }
+    drop(table);
+    counts.expect(counts.standing() == 0);
+    tell(rt, &counts, rounds, threads)
+}
+
+/// Prints what was counted. A fault ends in an error.
+fn tell<R: Print>(rt: &R, counts: &Counts, rounds: u64, threads: u64) -> io::Result<()> {
+    let taken = counts.taken.load(SeqCst);
+    let published = counts.published.load(SeqCst);
+    let faults = counts.faults.load(SeqCst);
+    println!(rt;
+        "{threads} threads, {rounds} rounds, {taken} places taken, {published} values published and dropped, {faults} faults"
+    )?;
+    if faults == 0 {
+        Ok(())
+    } else {
+        Err(io::Error::from(io::ErrorKind::Other))
+    }
+}

@@ -1,0 +1,173 @@
+//! Requests for memory that are refused. `tools/refusals` runs these tests with the first request refused, with the second, and so on until no request is
+//! refused any more. Each test holds whichever it is, and says which call was refused; with ample memory it says nothing.
+
+use std::alloc::AllocError;
+use std::cell::Cell;
+use std::io::Print;
+use std::sync::Wait;
+use std::test::Fail;
+use thread_local_buckets::{Buckets, CapacityError};
+use thread_local_table::{Local, ThreadLocal, TryError};
+use thread_local_thread_id::{LocalError, Thread};
+
+/// A call that publishes a value.
+#[derive(Clone, Copy, PartialEq, Eq)]
+enum Publishing {
+    GetOr,
+    GetOrTry,
+    GetOrDefault,
+}
+
+impl Publishing {
+    /// The call's name.
+    fn name(self) -> &'static str {
+        match self {
+            Publishing::GetOr => "get_or",
+            Publishing::GetOrTry => "get_or_try",
+            Publishing::GetOrDefault => "get_or_default",
+        }
+    }
+
+    /// Publishes a number, or the default, and counts the calls of the closure. An error is want of memory.
+    fn publish<R: Wait>(
+        self,
+        local: &mut Local<'_, u32, R>,
+        number: u32,
+        calls: &Cell<u32>,
+    ) -> Result<u32, AllocError> {
+        let made = || {
+            calls.set(calls.get().wrapping_add(1));
+            number
+        };
+        match self {
+            Publishing::GetOr => Ok(*local.get_or(made)?),
+            Publishing::GetOrTry => match local.get_or_try(|| Ok::<u32, ()>(made())) {
+                Ok(value) => Ok(*value),
+                Err(TryError::Memory(error)) => Err(error),
+                Err(TryError::Create(())) => Ok(0),
+            },
+            Publishing::GetOrDefault => Ok(*local.get_or_default()?),
+        }
+    }
+
+    /// Publishes a number, or the default, at a place that holds nothing, once more if memory is refused. Answers whether each call
+    /// did as it promises.
+    fn insist<R: Wait + Print>(self, local: &mut Local<'_, u32, R>, rt: &R, number: u32) -> bool {
+        let calls = Cell::new(0);
+        let mut got = self.publish(local, number, &calls);
+        if got.is_err() {
+            let _told = println!(rt; "refused: {}", self.name());
+            if calls.get() != 0 || local.get().is_some() {
+                return false;
+            }
+            got = self.publish(local, number, &calls);
+        }
+        let (wanted, called) = self.wanted(number);
+        got == Ok(wanted) && calls.get() == called && local.get() == Some(&wanted)
+    }
+
+    /// What is published in the place of a number, and how often a closure is called for it.
+    fn wanted(self, number: u32) -> (u32, u32) {
+        if self == Publishing::GetOrDefault {
+            (0, 0)
+        } else {
+            (number, 1)
+        }
+    }
+
+    /// Three `Local`s that are held at once publish 6, 7 and 8. Answers whether each call did as it promises.
+    fn by_three<R: Wait + Print>(
+        self,
+        table: &ThreadLocal<u32>,
+        rt: &R,
+    ) -> Result<bool, LocalError> {
+        let mut first = taken(table, rt)?;
+        let mut as_promised = self.insist(&mut first, rt, 6);
+        let mut second = taken(table, rt)?;
+        as_promised &= self.insist(&mut second, rt, 7);
+        as_promised &= first.get() == Some(&self.wanted(6).0);
+        let mut third = taken(table, rt)?;
+        as_promised &= self.insist(&mut third, rt, 8);
+        as_promised &= first.get() == Some(&self.wanted(6).0);
+        as_promised &= second.get() == Some(&self.wanted(7).0);
+        Ok(as_promised)
+    }
+}
+
+/// A `Local`, which is asked for once more if memory is refused.
+fn taken<'a, R: Wait + Print>(
+    table: &'a ThreadLocal<u32>,
+    rt: &'a R,
+) -> Result<Local<'a, u32, R>, LocalError> {
+    match table.local(rt) {
+        Err(LocalError::Memory(_)) => {
+            let _told = println!(rt; "refused: local");
+            table.local(rt)
+        }
+        had => had,
+    }
+}
+
+#[test]
+fn a_call_that_was_refused_succeeds_when_it_is_made_again(rt: HostRuntime) -> Result<(), Fail> {
+    for call in [
+        Publishing::GetOr,
+        Publishing::GetOrTry,
+        Publishing::GetOrDefault,
+    ] {
+        let table = ThreadLocal::<u32>::new(rt.alloc());
+        let as_promised = call.by_three(&table, &rt) == Ok(true);
+        let mut values = table.into_iter();
+        let walked = [values.next(), values.next(), values.next(), values.next()];
+        let wanted = [6, 7, 8].map(|number| Some(call.wanted(number).0));
+        assert_eq!(rt;
+            (as_promised, walked),
+            (true, [wanted[0], wanted[1], wanted[2], None])
+        );
+    }
+    Ok(())
+}
+
+#[test]
+fn a_table_with_a_capacity_has_its_slots_or_is_refused(rt: HostRuntime) -> Result<(), Fail> {
+    match ThreadLocal::<u64>::with_capacity(rt.alloc(), 4) {
+        Ok(table) => {
+            let mut table = table;
+            assert_eq!(rt; table.slots(), 7);
+        }
+        Err(error) => {
+            println!(rt; "refused: with_capacity")?;
+            assert!(rt; matches!(error, CapacityError::Memory(_)));
+        }
+    }
+    Ok(())
+}
+
+#[test]
+fn a_refused_insert_hands_its_value_back(rt: HostRuntime) -> Result<(), Fail> {
+    let mut buckets = Buckets::new(rt.alloc());
+    let mut as_promised = true;
+    for (id, value) in [(0, 6u32), (1, 7), (3, 8)] {
+        let refused = match buckets.insert(Thread::new(id), value) {
+            Ok(_) => None,
+            Err(back) => Some(back),
+        };
+        if let Some(back) = refused {
+            println!(rt; "refused: insert")?;
+            as_promised &= back == value && buckets.insert(Thread::new(id), back).is_ok();
+        }
+    }
+    let mut values = buckets.into_iter();
+    let walked = [values.next(), values.next(), values.next(), values.next()];
+    assert_eq!(rt;
+        (as_promised, walked),
+        (true, [Some(6), Some(7), Some(8), None])
+    );
+    Ok(())
+}
+
+#[test]
+fn want_of_memory_never_stands_for_a_capacity_that_is_too_large(rt: HostRuntime) {
+    let too_large = ThreadLocal::<u64>::with_capacity(rt.alloc(), 9223372036854775808);
+    assert!(rt; matches!(too_large, Err(CapacityError::TooLarge)));
+}
