@@ -1,6 +1,7 @@
 //! Which buckets stand, and which value a slot has.
 
 use super::insert;
+use crate::memory::take_all_but;
 use std::alloc::AllocError;
 use std::cell::Cell;
 use std::test::Fail;
@@ -117,8 +118,10 @@ fn a_refused_capacity_says_so(rt: HostRuntime) -> Result<(), Fail> {
     Ok(())
 }
 
+// A thousand tables take 16 MiB each, where no more than 64 of them can be had at a time.
 #[test]
 fn blocks_are_freed(rt: HostRuntime) -> Result<(), Fail> {
+    let _taken = take_all_but(rt.alloc(), 1 << 30)?;
     for _ in 0..1000 {
         let mut buckets = Buckets::<u64>::with_capacity(rt.alloc(), 1048575)?;
         assert_eq!(rt; buckets.slots(), 1048575);
