@@ -84,13 +84,16 @@ fn gives_none(walk: Iter<'_, u32>) -> bool {
     walk.next().is_none() && walk.next().is_none()
 }
 
+/// Whether the walks over a table, and those of a `Local`, do.
+fn all_give_none<R: Wait>(table: &ThreadLocal<u32>, local: &Local<'_, u32, R>) -> bool {
+    gives_none(table.iter()) && gives_none(local.iter()) && gives_none(local.seat().iter())
+}
+
 #[test]
 fn a_table_without_values_gives_none(rt: HostRuntime) -> Result<(), Fail> {
     let table = ThreadLocal::<u32>::new(rt.alloc());
     let local = table.local(&rt)?;
-    assert!(rt; gives_none(table.iter()));
-    assert!(rt; gives_none(local.iter()));
-    assert!(rt; gives_none(local.seat().iter()));
+    assert!(rt; all_give_none(&table, &local));
     Ok(())
 }
 
