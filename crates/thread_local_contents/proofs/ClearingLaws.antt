@@ -12,7 +12,6 @@ use Rattle.thread_local_model.proofs.CapacityLaws.{slots-first}
 use Rattle.thread_local_contents.specs.Owner.{cleared_row}
 use Rattle.thread_local_contents.proofs.RowLaws.{length-empty_row, slot-empty_row}
 use Rattle.thread_local_contents.proofs.StandingLaws.{slots-same, standing-whole}
-use Rattle.thread_local_contents.proofs.FillingLaws.{below_reserved}
 
 -- one of the first n buckets has one of their slots
 first_reserved : (b n : ℕ) → b < n → id_at b 0 < 2 ^ n - 1

@@ -1,5 +1,4 @@
 use Rattle.std.proofs.Common.{◌≡◌, ◌^◌, ℕ, ◌⊎◌, inl, inr, length, List, Option, sym, ap, ◌∙◌, subst, arith, true}
-use Rattle.std.specs.Prelude.{nat_lt}
 use Rattle.std.proofs.lemmas.Bool.{ltb-true}
 use Rattle.thread_local_model.specs.Buckets.{Contents, row, stands, IsTable}
 use Rattle.thread_local_model.specs.Rows.{with_row, empty_row}
