@@ -1,4 +1,4 @@
-//! Threads that race on one table. Each takes places, publishes and drops at random, and checks what it finds; between rounds the table's owner checks
+//! Threads that race on one table. Each takes places, publishes, drops and walks at random, and checks what it finds; between rounds the table's owner checks
 //! what they left. The moves differ from run to run only by what the threads meet.
 
 use std::alloc::{AllocError, Global};
@@ -130,6 +130,13 @@ impl<'a, R: Wait> Place<'a, R> {
     }
 }
 
+/// Walks over the table: a value is known to one place at most.
+fn walk(table: &ThreadLocal<Mark>, counts: &Counts) {
+    for mark in table.iter() {
+        counts.expect(mark.holders.load(SeqCst) <= 1);
+    }
+}
+
 /// Makes so many moves at random, from a state of its own.
 fn moves<R: Wait>(
     table: &ThreadLocal<Mark>,
@@ -145,6 +152,9 @@ fn moves<R: Wait>(
             .wrapping_mul(6364136223846793005)
             .wrapping_add(1442695040888963407);
         let choice = (state >> 33) % 4;
+        if (state >> 40) % 16 == 0 {
+            walk(table, counts);
+        }
         if choice == 0 && places.len() < PLACES {
             places.push(Place::take(table, rt, counts)?)?;
         } else if choice == 1 {

@@ -65,6 +65,20 @@ fn taken_by_another<R: Wait + Threads + Sync>(rt: &R, alloc: Global) -> bool {
     thread::join(rt, || table.local(rt).is_ok(), || ()).0
 }
 
+/// A table of values that threads may share is walked over.
+fn walked_while_shared(alloc: Global) -> usize {
+    let walked = ThreadLocal::<u32>::new(alloc);
+    walked.iter().count()
+}
+
+/// What a shared walk gives is used before the table is cleared.
+fn item_before_the_clear(table: &mut ThreadLocal<u32>) -> Option<u32> {
+    let item = table.iter().next()?;
+    let seen = *item;
+    table.clear();
+    Some(seen)
+}
+
 /// Two places take each other's seat.
 fn swapped<R: Wait>(table: &ThreadLocal<u32>, rt: &R) -> Option<u32> {
     let mut left = table.local(rt).ok()?;
@@ -95,6 +109,12 @@ fn the_programs_run(rt: HostRuntime) -> Result<(), Fail> {
         looked_at_by_another(&rt, rt.alloc()),
     );
     let owned = owned_at_last(table, &rt);
+    let mut other = ThreadLocal::<u32>::new(rt.alloc());
+    let walked = (
+        walked_while_shared(rt.alloc()),
+        item_before_the_clear(&mut other),
+    );
+    assert_eq!(rt; walked, (0, None));
     assert_eq!(rt; alone, [None, Some(1), Some(1), Some(1)]);
     assert_eq!(rt;
         (together, by_others, owned),

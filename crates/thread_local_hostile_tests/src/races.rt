@@ -13,6 +13,9 @@ use thread_local_thread_id::LocalError;
 /// How often a thread looks for others before it gives up.
 const LOOKS: u64 = 100_000_000;
 
+/// How many walks are made beside a race at most.
+const WALKS: u32 = 100_000;
+
 /// How many threads race.
 const RACERS: u32 = 64;
 
@@ -95,6 +98,53 @@ fn many_locals_race_for_their_buckets(rt: HostRuntime) -> Result<(), Fail> {
         assert_eq!(rt;
             (published, slots, in_order, next),
             (Some(RACERS), 127, true, RACERS)
+        );
+    }
+    Ok(())
+}
+
+/// Whether the items of a shared walk ascend strictly, and how many there are.
+fn walked(table: &ThreadLocal<u32>) -> (bool, u32) {
+    let mut ascends = true;
+    let mut count = 0u32;
+    let mut last: Option<u32> = None;
+    for value in table.iter() {
+        ascends &= last.is_none_or(|before| before < *value);
+        last = Some(*value);
+        count = count.wrapping_add(1);
+    }
+    (ascends, count)
+}
+
+/// Walks until all values came, or so often. Answers whether the items of each walk ascended.
+fn walks_ascend(table: &ThreadLocal<u32>) -> bool {
+    for _ in 0..WALKS {
+        let (ascends, count) = walked(table);
+        if !ascends || count >= RACERS {
+            return ascends;
+        }
+    }
+    true
+}
+
+#[test]
+fn walks_ascend_while_many_locals_race(rt: HostRuntime) -> Result<(), Fail> {
+    for _ in 0..100 {
+        let table = ThreadLocal::<u32>::new(rt.alloc());
+        let both = thread::join(
+            &rt,
+            || race(&table, &rt, rt.alloc()).ok(),
+            || walks_ascend(&table),
+        );
+        let mut in_order = true;
+        let mut next = 0u32;
+        for value in table.iter() {
+            in_order &= *value == next;
+            next = next.wrapping_add(1);
+        }
+        assert_eq!(rt;
+            (both, in_order, next),
+            ((Some(RACERS), true), true, RACERS)
         );
     }
     Ok(())
