@@ -43,6 +43,7 @@ fn synced<T: Send + Sync>(rights: &Rights) -> SharedWord<T> {
 fn seen(row: &Row<'_, String>, index: usize) -> bool
     requires { index < 2 ^ row.now.of.bucket }
 {
+    judge_sync::<String>();
     row.get(index).is_some()
 }
 
