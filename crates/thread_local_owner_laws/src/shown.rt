@@ -1,10 +1,9 @@
 ghost use Rattle.std.specs.Prelude.{◌≡◌, ℕ, ◌-◌, ◌^◌, ◌<◌, false, [], Some, option_map, IsTrue, None, unwrap_or, if◌then◌else◌};
-ghost use Rattle.thread_local_model.specs.Capacity.{reserves_bucket, is_reserved};
+ghost use Rattle.thread_local_model.specs.Capacity.{reserves_bucket, reserved_slots};
 ghost use Rattle.thread_local_model.specs.Place.{bucket_of, index_of, id_at};
 ghost use Rattle.thread_local_model.specs.Buckets.{Contents, row, stands as stands_for_owner, values, no_contents, IsTable};
-ghost use Rattle.thread_local_model.specs.Rows.{empty_row};
 ghost use Rattle.thread_local_model.specs.Walk.{walk};
-ghost use Rattle.thread_local_contents.specs.Owner.{with_bucket, with_published};
+ghost use Rattle.thread_local_contents.specs.Owner.{with_bucket, with_published, cleared_row};
 ghost use Rattle.thread_local_contents.specs.Refilled.{refilled};
 ghost use Rattle.thread_local_steps.specs.Table.{Table, slot_at, published, stands, made_table, with_fresh_bucket, with_flag};
 ghost use Rattle.thread_local_core.specs.OwnerWalk.{owner_walk, rewritten};
@@ -45,9 +44,9 @@ pub fn events_change_contents_as_calls_do<V>()
     ensures cleared { (table : Table V) (capacity : ℕ)
         → ((bucket : ℕ) → IsTrue (reserves_bucket capacity bucket) → IsTrue (stands table bucket))
         → shown (cleared table capacity) ≡ shown (made_table capacity) }
-    ensures cleared_row { (table : Table V) (capacity bucket : ℕ)
+    ensures cleared_rows { (table : Table V) (capacity bucket : ℕ)
         → (IsTrue (reserves_bucket capacity bucket) → IsTrue (stands table bucket)) → bucket < 63
-        → row (shown (cleared table capacity)) bucket ≡ (if is_reserved capacity (id_at bucket 0) then empty_row bucket else []) }
+        → row (shown (cleared table capacity)) bucket ≡ cleared_row (reserved_slots capacity) bucket }
 
     // A table of `new` shows what new buckets have, and one of a capacity what `with_capacity` makes.
     ensures new { shown (made_table {V = V} 0) ≡ no_contents }

@@ -2,7 +2,7 @@ ghost use Rattle.thread_local_tls.specs.Limits.{IsWithinLimits};
 
 use std::alloc::{AllocError, Global};
 use std::io;
-use std::io::Write;
+use std::io::{Print, Write};
 use std::process::Abort;
 use std::sync::Wait;
 use std::test::Fail;
@@ -296,13 +296,14 @@ fn a_failed_flush_is_told(rt: HostRuntime) -> Result<(), Fail> {
 
 /// Runs the line, one of whose requests for memory may be refused, for which its words ask first. It then writes nothing, also where ids were had
 /// or workers were started before. Run a test that calls this with `rt try --test --fail-alloc N -- NAME`, for each N until a run meets no refusal.
-fn expect_refusal_told<R: Abort + Threads + Wait + Sync>(
+fn expect_refusal_told<R: Abort + Print + Threads + Wait + Sync>(
     rt: &R,
     alloc: Global,
     line: &str,
     output: &str,
 ) {
     let Ok(words) = words(alloc, line) else {
+        let _told = println!(rt; "refused: words");
         return;
     };
     let mut out = Room::new();
@@ -313,6 +314,7 @@ fn expect_refusal_told<R: Abort + Threads + Wait + Sync>(
             assert!(rt; err.text().is_empty());
         }
         status => {
+            let _told = println!(rt; "refused: run");
             assert_eq!(rt; status, 1);
             assert!(rt; out.text().is_empty());
             assert_eq!(rt; err.text(), b"tls: out of memory\n".as_slice());

@@ -22,8 +22,8 @@ returns-clause-refilled_rewrites g c = laws.refilled-rewrites
 pub returns-clause-cleared : goal.returns-clause-cleared
 returns-clause-cleared g c = laws.shown-cleared
 
-pub returns-clause-cleared_row : goal.returns-clause-cleared_row
-returns-clause-cleared_row g c = laws.shown-cleared_row
+pub returns-clause-cleared_rows : goal.returns-clause-cleared_rows
+returns-clause-cleared_rows g c = laws.shown-cleared_row
 
 pub returns-clause-new : goal.returns-clause-new
 returns-clause-new g c = laws.shown-new _
