@@ -10,7 +10,6 @@ use std::sync::Wait;
 use std::test::Fail;
 use thread_local_buckets::Buckets;
 use thread_local_claim::Claim;
-use thread_local_judged::judge_sync;
 use thread_local_locked_ids::{Ids, LockedIds};
 use thread_local_rights::HeldId;
 use thread_local_shared_buckets::Shared;
@@ -78,15 +77,9 @@ fn claim_early<T>(shared: &Shared<T>, held: HeldId) -> Early<'_, T>
     }
 }
 
-/// Takes 8 KiB, so a block of 1024 such slots takes 8 MiB.
-#[derive(Drop)]
-struct Large {
-    words: [u64; 1024],
-}
-
 /// Takes so many ids and claims them, and then offers a block by each claim. Answers how often it did.
 fn offer_by_all<R: Wait>(
-    shared: &Shared<Large>,
+    shared: &Shared<u64>,
     ids: &LockedIds,
     rt: &R,
     alloc: &Global,
@@ -121,21 +114,21 @@ fn offer_by_all<R: Wait>(
     offered
 }
 
-// A thousand claims find bucket 10 missing, and each then offers a block for it, where not even a hundred and thirty blocks can be had at a time.
+// A thousand claims find bucket 20 missing, and each then offers a block for it. The blocks that come second would hold more than 8 GB if none were freed,
+// where 1 GiB can be had.
 #[test]
 fn blocks_that_come_second_are_freed(rt: HostRuntime) -> Result<(), Fail> {
     let mut ids = Ids::new(rt.alloc());
-    for _ in 0..1023 {
+    for _ in 0..1_048_575 {
         let _held = ids.take()?;
     }
-    judge_sync::<Large>();
     let shared = Shared::new(Buckets::new(rt.alloc()), ids.rights());
     let ids = LockedIds::new(ids);
     let alloc = rt.alloc();
     let taken = take_all_but(alloc, 1 << 30)?;
     let offered = offer_by_all(&shared, &ids, &rt, &alloc, 1000);
     drop(taken);
-    assert_eq!(rt; (offered, shared.into_buckets().slots()), (1000, 1024));
+    assert_eq!(rt; (offered, shared.into_buckets().slots()), (1000, 1_048_576));
     Ok(())
 }
 
