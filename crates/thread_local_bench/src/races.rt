@@ -171,18 +171,18 @@ fn moves<R: Wait>(
     Ok(())
 }
 
-/// So many threads make their moves at once.
+/// So many threads make their moves at once, after so many rounds.
 fn round<R: Threads + Wait + Sync>(
     table: &ThreadLocal<Mark>,
     rt: &R,
     alloc: Global,
     counts: &Counts,
     threads: u64,
-    seed: u64,
+    before: u64,
 ) {
     thread::scope(thread::scope_env(), rt, |scope| {
         for number in 0..threads {
-            let state = seed.wrapping_mul(threads).wrapping_add(number);
+            let state = before.wrapping_mul(threads).wrapping_add(number);
             let started = scope.spawn(move || {
                 let moved = moves(table, rt, alloc, counts, state);
                 counts.expect(moved.is_ok());

@@ -1,6 +1,5 @@
 //! `Local`s and walks that are forgotten, and a walk that is dropped at once.
 
-use crate::counted::{Counted, publish_counted};
 use std::alloc::Global;
 use std::mem::forget;
 use std::sync::atomic::AtomicU64;
@@ -8,8 +7,20 @@ use std::sync::atomic::Ordering::SeqCst;
 use std::sync::{Arc, Wait};
 use std::test::Fail;
 use thread_local_judged::judge_sync;
-use thread_local_table::ThreadLocal;
+use thread_local_table::{Local, ThreadLocal};
+use thread_local_test_helpers::counted::Counted;
 use thread_local_thread_id::LocalError;
+
+/// Publishes a counted value. Answers whether it did.
+fn publish_counted<R: Wait>(
+    local: &mut Local<'_, Counted, R>,
+    drops: &Arc<AtomicU64, Global>,
+) -> bool {
+    match Counted::new(drops) {
+        Ok(value) => local.get_or(|| value).is_ok(),
+        Err(_) => false,
+    }
+}
 
 /// So many `Local`s each publish a counted value and are forgotten. Answers whether all did.
 fn forget_after_publishing<R: Wait>(

@@ -8,10 +8,8 @@ use std::test::Fail;
 use std::thread;
 use std::thread::{Threads, yield_now};
 use thread_local_table::{Local, ThreadLocal};
+use thread_local_test_helpers::marks::{LOOKS, is_seen};
 use thread_local_thread_id::LocalError;
-
-/// How often a thread looks for others before it gives up.
-const LOOKS: u64 = 100_000_000;
 
 /// How many walks are made beside a race at most.
 const WALKS: u32 = 100_000;
@@ -168,16 +166,6 @@ fn threads_share_a_local(rt: HostRuntime) -> Result<(), Fail> {
     let both = thread::join(&rt, || finds_five(&local), || finds_five(&local));
     assert_eq!(rt; both, (true, true));
     Ok(())
-}
-
-/// Looks for a mark until it is set, or gives up.
-fn is_seen(mark: &AtomicBool) -> bool {
-    for _ in 0..LOOKS {
-        if mark.load(SeqCst) {
-            return true;
-        }
-    }
-    false
 }
 
 /// Publishes 9 by a `Local` of its own. Answers whether it found nothing before.

@@ -6,8 +6,6 @@ mod blocks;
 #[cfg(test)]
 mod buckets;
 #[cfg(test)]
-mod memory;
-#[cfg(test)]
 mod word;
 #[cfg(test)]
 mod words;

@@ -12,18 +12,8 @@ use thread_local_judged::judge_sync;
 use thread_local_locked_ids::{Ids, LockedIds};
 use thread_local_rights::Rights;
 use thread_local_shared_buckets::Shared;
+use thread_local_test_helpers::counted::Counted;
 use thread_local_thread_id::Thread;
-
-struct Counted {
-    drops: Arc<AtomicU64, Global>,
-}
-
-impl Drop for Counted {
-    fn drop(self) {
-        let Self { drops } = self;
-        drops.fetch_add(1, SeqCst);
-    }
-}
 
 #[test]
 fn each_value_is_dropped_once(rt: HostRuntime) -> Result<(), Fail> {
@@ -31,9 +21,7 @@ fn each_value_is_dropped_once(rt: HostRuntime) -> Result<(), Fail> {
     let rights = Rights::new();
     let mut buckets = Buckets::new(rt.alloc());
     for id in 0..100 {
-        let value = Counted {
-            drops: Arc::try_clone(&drops)?,
-        };
+        let value = Counted::new(&drops)?;
         assert!(rt; buckets.insert(Thread::new(id), value).is_ok());
     }
     judge_sync::<Counted>();
@@ -57,17 +45,17 @@ fn publish_counted<R: Wait>(
 {
     let mut published = 0u64;
     for _ in 0..count {
-        let Ok(one) = Arc::try_clone(drops) else {
+        let Ok(one) = Counted::new(drops) else {
             return published;
         };
-        let Ok(other) = Arc::try_clone(drops) else {
+        let Ok(other) = Counted::new(drops) else {
             return published;
         };
         let Ok(held) = ids.take(rt) else {
             return published;
         };
-        let (held, first) = publish(shared, held, alloc, Counted { drops: one });
-        let (_held, second) = publish(shared, held, alloc, Counted { drops: other });
+        let (held, first) = publish(shared, held, alloc, one);
+        let (_held, second) = publish(shared, held, alloc, other);
         if first && !second {
             published = published.saturating_add(1);
         }

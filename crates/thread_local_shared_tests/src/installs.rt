@@ -2,7 +2,6 @@
 ghost use Rattle.std.specs.Prelude.{◌≡◌, ◌<◌};
 ghost use Rattle.thread_local_model.specs.Place.{bucket_of};
 
-use crate::memory::take_all_but;
 use crate::steps::{first_three, look, publish_claimed};
 use std::alloc::Global;
 use std::cell::{Cell, RefCell};
@@ -14,6 +13,7 @@ use thread_local_locked_ids::{Ids, LockedIds};
 use thread_local_rights::HeldId;
 use thread_local_shared_buckets::Shared;
 use thread_local_shared_word::Private;
+use thread_local_test_helpers::memory::take_all_but;
 use thread_local_thread_id::Thread;
 
 /// A claim, with the bucket of its slot.

@@ -14,8 +14,6 @@ mod installs;
 #[cfg(test)]
 mod looks;
 #[cfg(test)]
-mod memory;
-#[cfg(test)]
 mod races;
 #[cfg(test)]
 mod steps;

@@ -7,18 +7,7 @@ use std::sync::{Arc, Wait};
 use std::test::Fail;
 use thread_local_judged::judge_sync;
 use thread_local_table::ThreadLocal;
-
-/// A value that counts its drop.
-struct Counted {
-    drops: Arc<AtomicU64, Global>,
-}
-
-impl Drop for Counted {
-    fn drop(self) {
-        let Self { drops } = self;
-        drops.fetch_add(1, SeqCst);
-    }
-}
+use thread_local_test_helpers::counted::Counted;
 
 /// So many `Local`s are held at once, and each publishes a counted value. Answers whether none was refused.
 fn publish_counted<R: Wait>(
@@ -33,10 +22,10 @@ fn publish_counted<R: Wait>(
         let Ok(mut local) = table.local(rt) else {
             return false;
         };
-        let Ok(drops) = Arc::try_clone(drops) else {
+        let Ok(value) = Counted::new(drops) else {
             return false;
         };
-        if local.get_or(|| Counted { drops }).is_err() || locals.push(local).is_err() {
+        if local.get_or(|| value).is_err() || locals.push(local).is_err() {
             return false;
         }
     }

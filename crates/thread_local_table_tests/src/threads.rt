@@ -7,9 +7,7 @@ use std::test::Fail;
 use std::thread;
 use std::thread::Threads;
 use thread_local_table::{Local, ThreadLocal};
-
-/// How often a thread looks for a mark before it gives up.
-const LOOKS: u64 = 100_000_000;
+use thread_local_test_helpers::marks::is_seen;
 
 /// What `get`, `get_or` and `get` answer, where the closure answers how often it was called before.
 fn found_made_found<R: Wait>(
@@ -62,16 +60,6 @@ fn a_local_moves_to_another_thread_and_back(rt: HostRuntime) -> Result<(), Fail>
     let (local, _) = thread::join(&rt, || publish_three(local), || ());
     assert_eq!(rt; local.get(), Some(&3));
     Ok(())
-}
-
-/// Looks for a mark until it is set, or gives up.
-fn is_seen(mark: &AtomicBool) -> bool {
-    for _ in 0..LOOKS {
-        if mark.load(SeqCst) {
-            return true;
-        }
-    }
-    false
 }
 
 /// Publishes while its closure waits for the second's value. Answers the value, and whether the closure saw the mark.

@@ -9,9 +9,7 @@ use std::thread;
 use thread_local::ThreadLocal;
 use thread_local::table::Judge;
 use thread_local_tally::{Gate, tally};
-
-/// How often a worker looks for the other's mark before it gives up.
-const LOOKS: u64 = 100_000_000;
+use thread_local_test_helpers::marks::is_seen;
 
 /// A gate at which each of two workers waits for the other.
 #[derive(Drop)]
@@ -19,16 +17,6 @@ struct Meeting {
     first: AtomicBool,
     second: AtomicBool,
     given_up: AtomicU64,
-}
-
-/// Whether a mark is seen before so many looks.
-fn is_seen(mark: &AtomicBool) -> bool {
-    for _ in 0..LOOKS {
-        if mark.load(SeqCst) {
-            return true;
-        }
-    }
-    false
 }
 
 impl Gate for Meeting {

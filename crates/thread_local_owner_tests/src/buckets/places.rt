@@ -1,11 +1,11 @@
 //! Which buckets stand, and which value a slot has.
 
 use super::insert;
-use crate::memory::take_all_but;
 use std::alloc::AllocError;
 use std::cell::Cell;
 use std::test::Fail;
 use thread_local_buckets::{Buckets, CapacityError};
+use thread_local_test_helpers::memory::take_all_but;
 use thread_local_thread_id::Thread;
 
 #[test]
