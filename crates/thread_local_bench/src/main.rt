@@ -17,6 +17,7 @@ use std::io;
 use std::sync::Wait;
 use std::thread::Threads;
 use std::time::{Clock, Duration};
+use values::{first, sparse};
 
 /// What one round of a workload made: how many operations, and in what time.
 #[derive(Drop)]
@@ -38,6 +39,14 @@ enum Workload {
     IterMut,
     IntoIter,
     Clear,
+    IterMut1023,
+    IntoIter1023,
+    Insert64Bytes,
+    IterMut64Bytes,
+    IntoIter64Bytes,
+    IterMutSparse,
+    IntoIterSparse,
+    IterMutReserved,
     IdsFew,
     IdsMany,
     IdsHighest,
@@ -45,8 +54,69 @@ enum Workload {
     ThreadComeAndGo,
 }
 
+/// How much a round of a workload does.
+struct Sizes {
+    /// How often a value is looked for. Which of two `Local`s finds it goes by the bits of the look's number that are in the mask.
+    hits: u64,
+    mask: u64,
+    tables: u64,
+    locals: u64,
+    reserved: u32,
+    values: u32,
+    /// Values that lie in the processor's cache, how often they are walked over, and large values.
+    near: u32,
+    walks: u32,
+    large: u32,
+    sparse: u32,
+    room: u32,
+    /// Ids that are held, and how often one is taken and given back.
+    held: u32,
+    few: u64,
+    pairs: u64,
+    numbers: u64,
+    threads: u64,
+}
+
+const MANY: Sizes = Sizes {
+    hits: 50_000_000,
+    mask: 1,
+    tables: 1_000_000,
+    locals: 10_000_000,
+    reserved: (1 << 20) - 1,
+    values: 1 << 20,
+    near: 1023,
+    walks: 1000,
+    large: 1 << 18,
+    sparse: 1 << 14,
+    room: 1 << 20,
+    held: 100_000,
+    few: 10_000_000,
+    pairs: 5_000_000,
+    numbers: 4_000_000,
+    threads: 2_000,
+};
+
+const FEW: Sizes = Sizes {
+    hits: 100,
+    mask: 0,
+    tables: 100,
+    locals: 100,
+    reserved: 100,
+    values: 100,
+    near: 100,
+    walks: 10,
+    large: 100,
+    sparse: 10,
+    room: 100,
+    held: 100,
+    few: 100,
+    pairs: 100,
+    numbers: 100,
+    threads: 10,
+};
+
 impl Workload {
-    const ALL: [Workload; 15] = [
+    const ALL: [Workload; 23] = [
         Workload::GetHit,
         Workload::GetOrHit,
         Workload::NewFirstDrop,
@@ -57,6 +127,14 @@ impl Workload {
         Workload::IterMut,
         Workload::IntoIter,
         Workload::Clear,
+        Workload::IterMut1023,
+        Workload::IntoIter1023,
+        Workload::Insert64Bytes,
+        Workload::IterMut64Bytes,
+        Workload::IntoIter64Bytes,
+        Workload::IterMutSparse,
+        Workload::IntoIterSparse,
+        Workload::IterMutReserved,
         Workload::IdsFew,
         Workload::IdsMany,
         Workload::IdsHighest,
@@ -77,6 +155,14 @@ impl Workload {
             Workload::IterMut => "iter_mut",
             Workload::IntoIter => "into_iter",
             Workload::Clear => "clear",
+            Workload::IterMut1023 => "iter_mut_1023",
+            Workload::IntoIter1023 => "into_iter_1023",
+            Workload::Insert64Bytes => "insert_64_bytes",
+            Workload::IterMut64Bytes => "iter_mut_64_bytes",
+            Workload::IntoIter64Bytes => "into_iter_64_bytes",
+            Workload::IterMutSparse => "iter_mut_sparse",
+            Workload::IntoIterSparse => "into_iter_sparse",
+            Workload::IterMutReserved => "iter_mut_reserved",
             Workload::IdsFew => "ids_few",
             Workload::IdsMany => "ids_many",
             Workload::IdsHighest => "ids_highest",
@@ -85,38 +171,41 @@ impl Workload {
         }
     }
 
-    /// Runs the workload once: on many ids, or on few.
+    /// Runs the workload once, of those sizes.
     fn round<R: Clock + Threads + Wait + Sync>(
         self,
         rt: &R,
         alloc: Global,
-        many: bool,
+        sizes: &Sizes,
     ) -> io::Result<Round> {
-        let values: u32 = if many { 1 << 20 } else { 100 };
-        let reserved: u32 = if many { (1 << 20) - 1 } else { 100 };
-        let hits: u64 = if many { 50_000_000 } else { 100 };
-        let tables: u64 = if many { 1_000_000 } else { 100 };
-        let few: u64 = if many { 10_000_000 } else { 100 };
-        let held: u32 = if many { 100_000 } else { 100 };
-        let pairs: u64 = if many { 5_000_000 } else { 100 };
-        let numbers: u64 = if many { 4_000_000 } else { 100 };
-        let threads: u64 = if many { 2_000 } else { 10 };
+        let near = first(sizes.near);
+        let values = first(sizes.values);
+        let large = first(sizes.large);
+        let sparse = sparse(sizes.sparse);
         match self {
-            Workload::GetHit => table::get_hit(rt, alloc, hits, u64::from(many)),
-            Workload::GetOrHit => table::get_or_hit(rt, alloc, hits, u64::from(many)),
-            Workload::NewFirstDrop => table::new_first_drop(rt, alloc, tables),
-            Workload::LocalAndDrop => table::local_and_drop(rt, alloc, few),
-            Workload::Publish => table::publish(rt, alloc, reserved),
-            Workload::Insert => values::insert(rt, alloc, values),
-            Workload::Iter => table::iter(rt, alloc, values),
-            Workload::IterMut => values::iter_mut(rt, alloc, values),
-            Workload::IntoIter => values::into_iter(rt, alloc, values),
-            Workload::Clear => values::clear(rt, alloc, values),
-            Workload::IdsFew => ids::few(rt, alloc, few),
-            Workload::IdsMany => ids::many(rt, alloc, held, pairs),
-            Workload::IdsHighest => ids::highest(rt, alloc, held, pairs),
-            Workload::TallyFourThreads => workers::tally_4_threads(rt, alloc, numbers),
-            Workload::ThreadComeAndGo => workers::thread_come_and_go(rt, alloc, threads),
+            Workload::GetHit => table::get_hit(rt, alloc, sizes.hits, sizes.mask),
+            Workload::GetOrHit => table::get_or_hit(rt, alloc, sizes.hits, sizes.mask),
+            Workload::NewFirstDrop => table::new_first_drop(rt, alloc, sizes.tables),
+            Workload::LocalAndDrop => table::local_and_drop(rt, alloc, sizes.locals),
+            Workload::Publish => table::publish(rt, alloc, sizes.reserved),
+            Workload::Insert => values::insert::<u64, R>(rt, alloc, sizes.values),
+            Workload::Iter => table::iter(rt, alloc, sizes.values),
+            Workload::IterMut => values::iter_mut::<u64, R>(rt, alloc, values, 1),
+            Workload::IntoIter => values::into_iter::<u64, R>(rt, alloc, values),
+            Workload::Clear => values::clear(rt, alloc, sizes.values),
+            Workload::IterMut1023 => values::iter_mut::<u64, R>(rt, alloc, near, sizes.walks),
+            Workload::IntoIter1023 => values::into_iter_of_many(rt, alloc, sizes.near, sizes.walks),
+            Workload::Insert64Bytes => values::insert::<[u64; 8], R>(rt, alloc, sizes.large),
+            Workload::IterMut64Bytes => values::iter_mut::<[u64; 8], R>(rt, alloc, large, 1),
+            Workload::IntoIter64Bytes => values::into_iter::<[u64; 8], R>(rt, alloc, large),
+            Workload::IterMutSparse => values::iter_mut::<u64, R>(rt, alloc, sparse, 1),
+            Workload::IntoIterSparse => values::into_iter::<u64, R>(rt, alloc, sparse),
+            Workload::IterMutReserved => values::iter_mut_reserved(rt, alloc, sizes.room, 10),
+            Workload::IdsFew => ids::few(rt, alloc, sizes.few),
+            Workload::IdsMany => ids::many(rt, alloc, sizes.held, sizes.pairs),
+            Workload::IdsHighest => ids::highest(rt, alloc, sizes.held, sizes.pairs),
+            Workload::TallyFourThreads => workers::tally_4_threads(rt, alloc, sizes.numbers),
+            Workload::ThreadComeAndGo => workers::thread_come_and_go(rt, alloc, sizes.threads),
         }
     }
 }
@@ -144,7 +233,7 @@ fn main(rt: HostRuntime) -> io::Result<()> {
         let name = workload.name();
         match rounds {
             None => {
-                workload.round(&rt, rt.alloc(), false)?;
+                workload.round(&rt, rt.alloc(), &FEW)?;
                 println!(rt; "{name}")?;
             }
             Some(rounds) => {
@@ -165,7 +254,7 @@ fn least<R: Clock + Threads + Wait + Sync>(
 ) -> io::Result<u128> {
     let mut least = u128::MAX;
     for _ in 0..rounds {
-        let Round { operations, time } = workload.round(rt, alloc, true)?;
+        let Round { operations, time } = workload.round(rt, alloc, &MANY)?;
         let picoseconds = time.as_nanos().saturating_mul(1000) / u128::from(operations.max(1));
         least = least.min(picoseconds);
     }
