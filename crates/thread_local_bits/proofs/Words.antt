@@ -37,9 +37,9 @@ bits_of-append [] more = refl
 bits_of-append (word ∷ words) more = ap (λ bits. low_bits 64 word ++ bits) (bits_of-append words more) ∙ sym (append_assoc (low_bits 64 word) (bits_of words) (bits_of more))
 
 -- one bit of a word changes: the bits change there and nowhere else
-changed_at : (words : List ℕ) (bit word : ℕ) (value : Bool) → bit / 64 < length words → IsWordBut word (get_or words (bit / 64) 0) (bit % 64) value
+pub is_set_in-set : (words : List ℕ) (bit word : ℕ) (value : Bool) → bit / 64 < length words → IsWordBut word (get_or words (bit / 64) 0) (bit % 64) value
     → (i : ℕ) → is_set_in (set words (bit / 64) word) i ≡ cond (eqb bit i) value (is_set_in words i)
-changed_at words bit word value within but i =
+is_set_in-set words bit word value within but i =
     ⊎_elim
     (λ (same : i / 64 ≡ bit / 64).
     let read : get_or (set words (bit / 64) word) (i / 64) 0 ≡ word = rw same (get_or-set_same words (bit / 64) word 0 within) in
@@ -58,7 +58,7 @@ bits_of-set words bit word value within but =
     let many = length-bits_of words in
     ext_get_or false _ _ (length-bits_of (set words (bit / 64) word) ∙ ap (λ n. n * 64) (length-set words (bit / 64) word) ∙ sym many ∙ sym (length-set (bits_of words) bit value))
     (λ i _.
-    get_or-bits_of (set words (bit / 64) word) i ∙ changed_at words bit word value within but i
+    get_or-bits_of (set words (bit / 64) word) i ∙ is_set_in-set words bit word value within but i
     ∙ ⊎_elim
     (λ (here : bit ≡ i). rw (here, eq-eqb i i refl) (sym (get_or-set_same (bits_of words) i value false (omega arith))))
     (λ apart. rw (ne_eqb bit i apart) (sym (get_or-bits_of words i) ∙ sym (get_or-set_other (bits_of words) bit i value false (λ e. apart (sym e)))))
@@ -86,7 +86,7 @@ is_set_in-zeros count bit =
     (cases_lt (bit / 64) count)
 
 -- a word that is 0 behind the others sets no bit
-get_or-push_zero : (words : List ℕ) (at : ℕ) → get_or (words ++ 0 ∷ []) at 0 ≡ get_or words at 0
+pub get_or-push_zero : (words : List ℕ) (at : ℕ) → get_or (words ++ 0 ∷ []) at 0 ≡ get_or words at 0
 get_or-push_zero [] zero = refl
 get_or-push_zero [] (suc at) = refl
 get_or-push_zero (word ∷ words) zero = refl

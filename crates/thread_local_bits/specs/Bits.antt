@@ -25,6 +25,12 @@ pub record IsLowestUnset (word bit : ℕ) : Type 0 where
   pub unset : is_set word bit ≡ false
   pub lower : (i : ℕ) → i < bit → is_set word i ≡ true
 
+-- this bit of a word is set, and no lower one is
+pub record IsLowestSet (word bit : ℕ) : Type 0 where
+  pub within : bit < 64
+  pub set : is_set word bit ≡ true
+  pub lower : (i : ℕ) → i < bit → is_set word i ≡ false
+
 -- this bit of words side by side isn't set, and every one from a bit up to it is
 pub record IsNextUnset (words : List ℕ) (from bit : ℕ) : Type 0 where
   pub after : from ≤ bit

@@ -1,5 +1,5 @@
 -- The data fields of a block. Assumes `Logic`.
-use Rattle.thread_local_blocks.proofs.Names.{◌≡◌, ◌*◌, ℕ, zero, suc, ◌^◌, ◌<◌, T, List, [], ◌∷◌, ◌++◌, refl, sym, ap, ◌∙◌, arith, suc-mul, zero-mul, lit<, Ura, tcons, tnil, ty_ptr, ty_struct, Val, vstruct, vcons, vnil, of_list, has_ty, WT, ent, emp, Logic, sem, RattleType, Is, Ptr, block_ptr, null_ptr, ptr_val}
+use Rattle.thread_local_chunks.proofs.Names.{◌≡◌, ◌*◌, ℕ, zero, suc, ◌^◌, ◌<◌, T, List, [], ◌∷◌, ◌++◌, refl, sym, ap, ◌∙◌, arith, suc-mul, zero-mul, lit<, Ura, tcons, tnil, ty_ptr, ty_struct, Val, vstruct, vcons, vnil, of_list, has_ty, WT, ent, emp, Logic, sem, RattleType, Is, Ptr, block_ptr, null_ptr, ptr_val}
 use prog.Memory.{capped, size, align}
 use prog.Capped.{capped_is}
 use prog.RawLaws.{size-raw, align-raw}
@@ -8,7 +8,8 @@ use denote.Struct.Struct.{Struct}
 use denote.Struct.Owning.{shape}
 use mir.Syntax.{ty_array}
 use Rattle.std.specs.declared.alloc.Allocator.{Ghosts}
-use Rattle.thread_local_blocks.specs.Slots.{slot_ty, stride, block_ty}
+use Rattle.thread_local_chunks.specs.Slots.{chunks, chunk_slots, chunk_ty, block_ty}
+use Rattle.thread_local_blocks.specs.Bytes.{block_bytes}
 use Rattle.thread_local_blocks.specs.contracts.block.Block as block
 
 pub ptr_good : (p : Ptr) → T (has_ty ty_ptr (ptr_val p)) × WT (ptr_val p)
@@ -36,8 +37,8 @@ pub uncapped : (i k : ℕ) → i * k < 2 ^ 64 → i * capped k ≡ i * k
 uncapped zero k h = zero-mul (capped k) ∙ sym (zero-mul k)
 uncapped (suc i) k h = let more = suc-mul i k in ap (λ (j : ℕ). suc i * j) (capped_is k (omega arith))
 
-pub block_size : (R : RattleType) (n : ℕ) → n * stride R < 2 ^ 64 → capped (size (block_ty R n)) ≡ n * stride R
-block_size R n small = ap capped (size-raw (ty_array (slot_ty R) n)) ∙ capped_is (n * stride R) small
+pub block_size : (R : RattleType) (n : ℕ) → block_bytes R n < 2 ^ 64 → capped (size (block_ty R n)) ≡ block_bytes R n
+block_size R n small = ap capped (size-raw (ty_array (chunk_ty R (chunk_slots n)) (chunks n))) ∙ capped_is (block_bytes R n) small
 
-pub block_align : (R : RattleType) (n : ℕ) → capped (align (block_ty R n)) ≡ capped (align (slot_ty R))
-block_align R n = ap capped (align-raw (ty_array (slot_ty R) n))
+pub block_align : (R : RattleType) (n : ℕ) → capped (align (block_ty R n)) ≡ capped (align (chunk_ty R 64))
+block_align R n = ap capped (align-raw (ty_array (chunk_ty R (chunk_slots n)) (chunks n)))

@@ -1,5 +1,5 @@
-pub mod Names
-pub mod Slots
 pub mod Fields
+pub mod Making
+pub mod Rounding
 pub mod Sent
 pub mod Vacated

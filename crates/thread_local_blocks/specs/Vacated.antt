@@ -1,18 +1,22 @@
 -- What a block owns while its slots are given up, from the first on.
-use Rattle.std.specs.Prelude.{ℕ, ◌+◌, ◌*◌, List, [], ◌∷◌, length, Option}
-use base.Fml.{Fml, fsep, froom}
-use mir.Syntax.{Ty, ty_array}
-use mir.Raw.{raw}
+use Rattle.std.specs.Prelude.{◌≡◌, ℕ, ◌+◌, List, [], ◌∷◌, length, Option}
+use base.Fml.{Fml, fsep, fex}
+use mir.Syntax.{Ty}
 use denote.RattleType.{RattleType}
 use denote.RawPtr.{Ptr, block_of, count_of, InBlock}
-use Rattle.thread_local_blocks.specs.Slots.{fact, Fits, slot_ty, stride, block_ty, slot, along}
+use Rattle.thread_local_chunks.specs.Slots.{fact, empty_slots, chunks, Fits, AreWords, AreFlagsFrom, each, flags_at, slot, block_ty, back}
 
 -- the slots after the first
 abbrev pub rest : {X : Type 0} → List (Option X) → List (Option X)
 rest [] = []
 rest (c ∷ cs) = cs
 
--- room where the first slots were, the slots that are left, and the right to free the block
+-- words whose bits from `gone` on are the flags of the slots that are left, whatever the bits before say
+abbrev pub flags_left : (R : RattleType) → ℕ → ℕ → ℕ → List (Option R.Denot) → List ℕ → Fml
+flags_left R b o gone cs ns = fsep (fact ((length ns ≡ chunks (gone + length cs)) × AreWords ns × AreFlagsFrom gone ns cs)) (each (flags_at R b o) ns 0)
+
+-- those words, room where the values of the first slots were, the slots that are left, the way back to the block's room, and the right to free it
 abbrev pub leaving_owns : (R : RattleType) → (Ty → Ptr → Fml) → Ptr → ℕ → List (Option R.Denot) → Fml
-leaving_owns R token p gone cs = fsep (fact (InBlock p × Fits R (gone + length cs))) (fsep (froom (ty_array (raw (slot_ty R)) gone) (block_of p) (count_of p))
-    (fsep (along R (slot R (block_of p)) cs (gone * stride R + count_of p)) (token (block_ty R (gone + length cs)) p)))
+leaving_owns R token p gone cs = fsep (fact (InBlock p × Fits R (gone + length cs))) (fsep (fex (List ℕ) (flags_left R (block_of p) (count_of p) gone cs))
+    (fsep (each (slot R (block_of p) (count_of p)) (empty_slots gone) 0) (fsep (each (slot R (block_of p) (count_of p)) cs gone)
+    (fsep (back R (block_of p) (count_of p) (gone + length cs)) (token (block_ty R (gone + length cs)) p)))))

@@ -1,18 +1,20 @@
 //! A block of slots that one owner has alone.
-ghost use Rattle.std.specs.Prelude.{◌≡◌, ℕ, ◌+◌, ◌<◌, List, [], ◌∷◌, ◌++◌, length, Option, None, IfOk};
+ghost use Rattle.std.specs.Prelude.{◌≡◌, ℕ, ◌+◌, ◌<◌, List, length, Option, IfOk};
 ghost use base.Stored.{coded_list};
 ghost use Rattle.std.specs.Coded.{coded_option};
-ghost use Rattle.thread_local_blocks.specs.Slots.{block_owns, Fits, empty_slots};
+ghost use Rattle.thread_local_chunks.specs.Slots.{block_owns, chunks, IsBlockLength, Fits, empty_slots};
+ghost use Rattle.thread_local_blocks.specs.Bytes.{block_bytes};
 
+use crate::bytes::{bytes_of_block, chunk_count, fits};
 use crate::leaving::Leaving;
-use crate::slot::{Slot, fits};
 use std::alloc::{AllocError, Allocator};
 use std::marker::{Model, PhantomData};
-use std::mem::{align_of, size_of};
+use std::mem::align_of;
+use thread_local_chunks::Chunk;
 
-/// A block of slots, with the right to free it: its first slots, and room for `left` more.
+/// A block of slots, with the right to free it. The flags of the last `left` of its chunks aren't made.
 pub struct Block<T, A: Allocator> {
-    pub at: *mut Slot<T>,
+    pub at: *mut Chunk<T>,
     pub marker: PhantomData<A>,
     pub ghost heap: { A },
     pub ghost slots: { List (Option T) } by { coded_list (coded_option T.code) },
@@ -24,44 +26,46 @@ impl<T, A: Allocator> Model for Block<T, A> {
 }
 
 impl<T, A: Allocator> Block<T, A> {
-    /// Room for `len` slots.
-    fn allocate(alloc: &A, len: usize) -> Result<Block<T, A>, AllocError>
-        requires { Fits T.row len }
-        ensures { IfOk result (λ b. (b.heap ≡ alloc.now) × (b.slots ≡ []) × (b.left ≡ len)) }
+    /// Room for `len` slots, all empty, of which no flags are made. It takes `bytes`.
+    fn allocate(alloc: &A, len: usize, bytes: usize) -> Result<Block<T, A>, AllocError>
+        requires fits { Fits T.row len }
+        requires size { bytes ≡ block_bytes T.row len }
+        ensures { IfOk result (λ b. (b.heap ≡ alloc.now) × (b.slots ≡ empty_slots len) × (b.left ≡ chunks len)) }
     {
-        match alloc.allocate(len * size_of::<Slot<T>>(), align_of::<Slot<T>>()) {
+        let _ = len;
+        match alloc.allocate(bytes, align_of::<Chunk<T>>()) {
             Ok(room) => Ok(Block {
-                at: room as *mut Slot<T>,
+                at: room as *mut Chunk<T>,
                 marker: PhantomData,
             }),
             Err(error) => Err(error),
         }
     }
 
-    /// One more slot, which is empty.
+    /// The flags of the next chunk, none of which is set.
     #[inline]
-    fn push(&mut self, index: usize)
-        requires { (index ≡ length self.old.slots) × (0 < self.old.left) }
-        ensures { (self.new.heap ≡ self.old.heap) × (self.new.slots ≡ self.old.slots ++ None ∷ []) × (self.new.left + 1 ≡ self.old.left) }
+    fn push(&mut self, chunk: usize)
+        requires { (chunk + self.old.left ≡ chunks (length self.old.slots)) × (0 < self.old.left) }
+        ensures { (self.new.heap ≡ self.old.heap) × (self.new.slots ≡ self.old.slots) × (self.new.left + 1 ≡ self.old.left) }
     {
         unsafe {
-            let slot = self.at.add(index);
-            (&raw mut (*slot).flag).write(0);
+            let chunk = self.at.add(chunk);
+            (&raw mut (*chunk).flags).write(0);
         }
     }
 
-    /// A block of `len` slots, all empty. It asks for memory once, and is refused where the size can't be stated in bytes, the alignment
-    /// isn't served or there is no memory.
+    /// A block of `len` slots, all empty: some, and whole chunks where there are 64 or more. It asks for memory once, and is refused where the
+    /// values would take 2^58 bytes or more, the alignment isn't served or there is no memory.
     pub fn new(alloc: &A, len: usize) -> Result<Block<T, A>, AllocError>
-        requires { 0 < len }
+        requires { IsBlockLength len }
         ensures { IfOk result (λ b. (b.heap ≡ alloc.now) × (b.slots ≡ empty_slots len) × (b.left ≡ 0)) }
     {
         if !fits::<T>(len) {
             return Err(AllocError);
         }
-        let mut block = Block::allocate(alloc, len)?;
-        'slots: for index in 0..len {
-            block.push(index);
+        let mut block = Block::allocate(alloc, len, bytes_of_block::<T>(len))?;
+        'chunks: for chunk in 0..chunk_count(len) {
+            block.push(chunk);
         }
         Ok(block)
     }

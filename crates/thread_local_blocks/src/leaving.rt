@@ -2,20 +2,22 @@
 ghost use Rattle.std.specs.Prelude.{◌≡◌, ℕ, ◌+◌, ◌<◌, List, [], length, take, drop, Option, Some, is_some, IsSome, if◌then◌else◌};
 ghost use base.Stored.{coded_list};
 ghost use Rattle.std.specs.Coded.{coded_option};
-ghost use Rattle.thread_local_blocks.specs.Slots.{slot_at, empty_slots};
+ghost use Rattle.thread_local_chunks.specs.Slots.{slot_at, empty_slots, Fits};
+ghost use Rattle.thread_local_blocks.specs.Bytes.{block_bytes};
 ghost use Rattle.thread_local_blocks.specs.Vacated.{leaving_owns, rest};
 
 use crate::block::Block;
-use crate::slot::Slot;
+use crate::bytes::bytes_of_block;
 use std::alloc::Allocator;
 use std::marker::{Model, PhantomData};
-use std::mem::{align_of, size_of};
+use std::mem::align_of;
+use thread_local_chunks::Chunk;
 
 /// A block that is given up: its first `gone` slots are room again, whatever their flags say, and the others are slots still.
 ///
 /// A flag isn't cleared where its value is dropped, so for values whose drop does nothing the pass over them does nothing either.
 pub struct Leaving<T, A: Allocator> {
-    at: *mut Slot<T>,
+    at: *mut Chunk<T>,
     marker: PhantomData<A>,
     pub ghost heap: { A },
     pub ghost slots: { List (Option T) } by { coded_list (coded_option T.code) },
@@ -51,8 +53,8 @@ impl<T, A: Allocator> Leaving<T, A> {
             × (self.new.gone ≡ (if result then self.old.gone else self.old.gone + 1)) }
     {
         unsafe {
-            let slot = self.at.add(index);
-            (*slot).flag != 0
+            let chunk = self.at.add(index / 64);
+            ((*chunk).flags >> (index % 64)) & 1 == 1
         }
     }
 
@@ -65,8 +67,8 @@ impl<T, A: Allocator> Leaving<T, A> {
         ensures after { (self.new.heap ≡ self.old.heap) × (self.new.slots ≡ rest self.old.slots) × (self.new.gone ≡ self.old.gone + 1) }
     {
         unsafe {
-            let slot = self.at.add(index);
-            (&raw mut (*slot).value).read()
+            let chunk = self.at.add(index / 64);
+            (&raw mut (*chunk).values as *mut T).add(index % 64).read()
         }
     }
 
@@ -74,13 +76,18 @@ impl<T, A: Allocator> Leaving<T, A> {
     pub fn free(self, alloc: &A, len: usize)
         requires { (self.heap ≡ alloc.now) × (self.slots ≡ []) × (self.gone ≡ len) }
     {
+        self.deallocate(alloc, len, bytes_of_block::<T>(len));
+    }
+
+    /// Frees the block, which takes `bytes`.
+    fn deallocate(self, alloc: &A, len: usize, bytes: usize)
+        requires left { (self.heap ≡ alloc.now) × (self.slots ≡ []) × (self.gone ≡ len) }
+        requires size { Fits T.row len → bytes ≡ block_bytes T.row len }
+    {
+        let _ = len;
         let Self { at, marker: _ } = self;
         unsafe {
-            alloc.deallocate(
-                at as *mut u8,
-                len * size_of::<Slot<T>>(),
-                align_of::<Slot<T>>(),
-            );
+            alloc.deallocate(at as *mut u8, bytes, align_of::<Chunk<T>>());
         }
     }
 }

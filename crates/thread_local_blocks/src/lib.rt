@@ -2,9 +2,8 @@
 #![tactic(auto)]
 
 mod block;
+mod bytes;
 mod leaving;
-mod slot;
 
 pub use block::Block;
 pub use leaving::Leaving;
-pub use slot::Slot;

@@ -196,6 +196,7 @@ impl<T> Buckets<T> {
         IterMut {
             loan: self.lend(),
             raw: RawIter::new(),
+            rest: 0,
             left,
         }
     }
@@ -232,6 +233,7 @@ impl<T: Drop> IntoIterator for Buckets<T> {
         IntoIter {
             words,
             raw: RawIter::new(),
+            rest: 0,
             left,
         }
     }

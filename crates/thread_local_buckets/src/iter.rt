@@ -6,16 +6,19 @@ pub use crate::iter_mut::IterMut;
 use std::fmt;
 use std::iter::FusedIterator;
 use std::marker::Model;
-use thread_local_contents::{RawIter, seek};
+use thread_local_contents::{RawIter, seek, without_first};
 use thread_local_words::Words;
 
 /// The values of a table's buckets, by ascending id, each moved out. It is seen as the list of those still to come.
+///
+/// It keeps the flags of the 64 slots that it is in, without those of the values that it gave.
 ///
 /// One that is dropped early drops those, and frees every bucket. It never takes memory.
 #[derive(Drop)]
 pub struct IntoIter<T> {
     pub(crate) words: Words<T>,
     pub(crate) raw: RawIter,
+    pub(crate) rest: u64,
     pub(crate) left: usize,
 }
 
@@ -30,7 +33,7 @@ impl<T> Model for IntoIter<T> {
 
     ghost view = { λ it. walk (values it.words) };
 
-    ghost invariant = { λ it. IsWalk it.words it.raw it.left };
+    ghost invariant = { λ it. IsWalk it.words it.raw it.rest it.left };
 }
 
 impl<T: Drop> Iterator for IntoIter<T> {
@@ -44,10 +47,12 @@ impl<T: Drop> Iterator for IntoIter<T> {
         if self.left == 0 {
             return None;
         }
-        seek(&mut self.words, &mut self.raw);
-        let value = self.words.take(self.raw.bucket, self.raw.index);
-        self.raw.yielded += 1;
+        let flags = seek(&mut self.words, &mut self.raw, self.rest);
+        let index = self.raw.index;
         self.raw.index += 1;
+        self.rest = without_first(flags);
+        let value = self.words.take_leaving(self.raw.bucket, index, self.rest);
+        self.raw.yielded += 1;
         self.left -= 1;
         Some(value)
     }

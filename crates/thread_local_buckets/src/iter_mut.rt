@@ -11,7 +11,7 @@ use crate::buckets::Buckets;
 use std::fmt;
 use std::iter::FusedIterator;
 use std::marker::Model;
-use thread_local_contents::{RawIter, seek};
+use thread_local_contents::{RawIter, seek, without_first};
 use thread_local_loan::Loan;
 
 /// The values of a table's buckets, by ascending id, each lent as `&mut`. Contracts see those still to come, and the
@@ -22,6 +22,7 @@ use thread_local_loan::Loan;
 pub struct IterMut<'a, T> {
     pub(crate) loan: Loan<'a, T>,
     pub(crate) raw: RawIter,
+    pub(crate) rest: u64,
     pub(crate) left: usize,
 }
 
@@ -38,7 +39,7 @@ impl<'a, T> Model for IterMut<'a, T> {
 
     ghost view = { λ it. (walk (values it.loan.contents), it.loan.name) };
 
-    ghost invariant = { λ it. IsWalk it.loan.contents it.raw it.left × (it.loan.given ≤ id_at it.raw.bucket it.raw.index) };
+    ghost invariant = { λ it. IsWalk it.loan.contents it.raw it.rest it.left × (it.loan.given ≤ id_at it.raw.bucket it.raw.index) };
 }
 
 impl<'a, T> IntoIterator for &'a mut Buckets<T> {
@@ -68,7 +69,8 @@ impl<'a, T> Iterator for IterMut<'a, T> {
         if self.left == 0 {
             return None;
         }
-        seek(&mut self.loan, &mut self.raw);
+        let flags = seek(&mut self.loan, &mut self.raw, self.rest);
+        self.rest = without_first(flags);
         let item = self.loan.give(self.raw.bucket, self.raw.index);
         self.raw.yielded += 1;
         self.raw.index += 1;

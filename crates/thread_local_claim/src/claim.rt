@@ -35,8 +35,8 @@ impl<'a, T> Model for Claim<'a, T> {
 }
 
 impl<'a, T> Claim<'a, T> {
-    /// Claims the slot of an id that is held, under the word of the id's bucket. It is one atomic load of the word, and one of the slot's flag
-    /// where the bucket stands. A reserved bucket is found.
+    /// Claims the slot of an id that is held, under the word of the id's bucket. It is one atomic load of the word, and one of the flags beside
+    /// the slot where the bucket stands. A reserved bucket is found.
     pub fn arrive(word: &'a SharedWord<T>, held: HeldId) -> Claim<'a, T>
         requires table { held.right.table ≡ word.now.table }
         requires bucket { bucket_of held.id ≡ word.now.bucket }
@@ -76,7 +76,8 @@ impl<'a, T> Claim<'a, T> {
         replace_with(&mut self.slot, private, installed)
     }
 
-    /// Publishes a value in a slot that is vacant: the value is written, and then the flag is set, by one atomic store.
+    /// Publishes a value in a slot that is vacant: the value is written, and then the flag is set, by one atomic addition. It never waits, and
+    /// never tries again.
     pub fn publish(&mut self, value: T)
         requires { self.old.learnt ≡ Vacant }
         ensures right { (self.new.table ≡ self.old.table) × (self.new.id ≡ self.old.id) }

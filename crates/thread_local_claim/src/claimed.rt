@@ -11,20 +11,20 @@ use std::ptr::null;
 use std::sync::atomic::Ordering::SeqCst;
 use std::sync::atomic::raw;
 use std::sync::atomic::raw::ptr;
-use thread_local_blocks::Slot;
+use thread_local_chunks::Chunk;
 use thread_local_rights::Right;
 use thread_local_shared_word::SharedWord;
 
 mod install;
 mod look;
 
-/// The flag of a slot whose value is published.
-const PUBLISHED: u64 = 1;
-
 /// The slot of an id that is claimed. Contracts see its table, its id, whether its bucket is reserved, and what it has learnt of the slot.
 pub(crate) struct ClaimedSlot<'a, T> {
     word: *const SharedWord<T>,
-    slot: *const Slot<T>,
+    /// Where the slot's chunk lies, once its bucket is found.
+    chunk: *const Chunk<T>,
+    /// Where the slot's value lies, once its bucket is found.
+    value: *const T,
     index: usize,
     found: bool,
     published: bool,
@@ -37,9 +37,9 @@ pub(crate) struct ClaimedSlot<'a, T> {
 }
 
 impl<'a, T> Model for ClaimedSlot<'a, T> {
-    ghost also_owns = { λ c. claim_owns T.row 'a c.word c.table (place_of c.id c.index c.slot c.reserved) c.learnt c.found c.published };
+    ghost also_owns = { λ c. claim_owns T.row 'a c.word c.table (place_of c.id c.index c.chunk c.value c.reserved) c.learnt c.found c.published };
 
-    ghost also_shares = { λ c _ κ. claim_shares T.row 'a c.slot c.learnt c.found c.published κ };
+    ghost also_shares = { λ c _ κ. claim_shares T.row 'a c.value c.learnt c.found c.published κ };
 }
 
 impl<'a, T> ClaimedSlot<'a, T> {
@@ -55,7 +55,8 @@ impl<'a, T> ClaimedSlot<'a, T> {
         right.lay_down();
         ClaimedSlot {
             word,
-            slot: null(),
+            chunk: null(),
+            value: null(),
             index,
             found: false,
             published: false,
@@ -63,8 +64,8 @@ impl<'a, T> ClaimedSlot<'a, T> {
         }
     }
 
-    /// Looks for the bucket, and takes what the slot holds where it stands: one atomic load of the word, and one of the slot's flag. A claim that
-    /// was there before its bucket finds the slot empty.
+    /// Looks for the bucket, and takes what the slot holds where it stands: one atomic load of the word, and one of the word of the slot's flag.
+    /// A claim that was there before its bucket finds the slot empty.
     pub(crate) fn find(self) -> ClaimedSlot<'a, T>
         requires { IsUnfound self.learnt }
         ensures right { (result.table ≡ self.entry.table) × (result.id ≡ self.entry.id) }
@@ -75,7 +76,8 @@ impl<'a, T> ClaimedSlot<'a, T> {
     {
         let Self {
             word,
-            slot: _,
+            chunk: _,
+            value: _,
             index,
             found: _,
             published: _,
@@ -87,26 +89,30 @@ impl<'a, T> ClaimedSlot<'a, T> {
         if at.is_null() {
             return ClaimedSlot {
                 word,
-                slot: null(),
+                chunk: null(),
+                value: null(),
                 index,
                 found: false,
                 published: false,
                 marker: PhantomData,
             };
         }
-        let slot = unsafe { (at as *const Slot<T>).add(index) };
-        let flag = unsafe { raw::load::<Brand>(&raw const (*slot).flag, SeqCst) };
+        let chunk = unsafe { (at as *const Chunk<T>).add(index / 64) };
+        let value = unsafe { (&raw const (*chunk).values as *const T).add(index % 64) };
+        let flags = unsafe { raw::load::<Brand>(&raw const (*chunk).flags, SeqCst) };
         ClaimedSlot {
             word,
-            slot,
+            chunk,
+            value,
             index,
             found: true,
-            published: flag == PUBLISHED,
+            published: flags >> (index % 64) & 1 == 1,
             marker: PhantomData,
         }
     }
 
-    /// Publishes a value in a slot that holds none: the value is written, and then the flag is set.
+    /// Publishes a value in a slot that holds none: the value is written, and then the flag is set, by one addition to the word that it is a bit
+    /// of. It never waits and never tries again, whatever others publish beside it: the flag is unset, so the addition changes no other.
     pub(crate) fn publish(self, value: T) -> ClaimedSlot<'a, T>
         requires { self.learnt ≡ Vacant }
         ensures right { (result.table ≡ self.entry.table) × (result.id ≡ self.entry.id) }
@@ -115,17 +121,19 @@ impl<'a, T> ClaimedSlot<'a, T> {
     {
         let Self {
             word,
-            slot,
+            chunk,
+            value: at,
             index,
             found: _,
             published: _,
             marker: _,
         } = self;
-        unsafe { (&raw const (*slot).value as *mut T).write(value) };
-        unsafe { raw::store::<Brand>(&raw const (*slot).flag, PUBLISHED, SeqCst) };
+        unsafe { (at as *mut T).write(value) };
+        unsafe { raw::fetch_add::<Brand>(&raw const (*chunk).flags, 1 << (index % 64), SeqCst) };
         ClaimedSlot {
             word,
-            slot,
+            chunk,
+            value: at,
             index,
             found: true,
             published: true,
@@ -160,7 +168,7 @@ impl<'a, T> ClaimedSlot<'a, T> {
         requires { is_some (value_held self.now.learnt) ≡ true }
         ensures { self.now.learnt ≡ Holding result.now }
     {
-        unsafe { &(*self.slot).value }
+        unsafe { &*self.value }
     }
 
     /// Gives the claim up, and the right back. It makes no atomic step.
@@ -169,7 +177,8 @@ impl<'a, T> ClaimedSlot<'a, T> {
     {
         let Self {
             word: _,
-            slot: _,
+            chunk: _,
+            value: _,
             index: _,
             found: _,
             published: _,

@@ -1,21 +1,24 @@
 -- What whoever has the pass of a slot finds in the word's invariant: a slot that isn't born, or one that is. Assumes `Logic`.
-use Rattle.std.proofs.Common.{◌≡◌, ℕ, zero, suc, ◌+◌, ◌*◌, ◌<◌, Bool, true, false, [], ◌∷◌, length, refl, sym, subst, arith, Option, None}
+use Rattle.std.proofs.Common.{◌≡◌, ℕ, zero, suc, ◌+◌, ◌%◌, ◌^◌, ◌<◌, Bool, true, false, [], ◌∷◌, length, refl, sym, subst, arith, Option, None, is_some}
 use seplogic.Ra.Ura.{Ura}
-use base.Logic.{SProp, ent, sep, wand, upd, upd_i, id⊢, apply∗}
-use base.Fml.{Share, Fml, ftrue, fsep, fbor}
+use base.Logic.{SProp, ent, sep, wand, ex, all, upd, upd_i, id⊢, apply∗}
+use base.Fml.{GName, Share, Fml, ftrue, fsep, fbor}
 use types.Logic.{Logic, sem}
-use types.Kit.{‵, raw, ◌⊛◌, given, frame, assume, suffices, ◌$◌, ◌∵◌, !, qed, by, move, keep, split, split3, rewrite, group, fsplit, fsplit3, fjoin, fjoin3, fpick, fpack, learn, use1, use2, use3, done}
+use types.Kit.{‵, raw, ◌⊛◌, some, given, pick, drop, frame, assume, suffices, ◌$◌, ◌∵◌, !, qed, by, move, keep, split, split3, rewrite, group, fsplit, fsplit3, fjoin, fjoin3, fpick, fpack, learn, use1, use2, use3, done}
 use denote.RattleType.{RattleType}
 use denote.RawPtr.{Ptr, block_ptr, null_ptr, block_of, count_of}
 use Rattle.std.specs.Sync.RawAtomic.Pointer.{cell}
 use Rattle.thread_local_rights.specs.Rights.{right_owns}
 use Rattle.thread_local_rights.proofs.Elements.{right_once}
-use Rattle.thread_local_blocks.specs.Slots.{stride}
-use Rattle.thread_local_shared_word_logic.specs.Shared.{name_at, WordView, Turn, Standing, Who, free, unborn, all_unborn, waiting, len, first, Sized, pending, standing, beside_pointer, invariant}
+use Rattle.thread_local_bits.specs.Bits.{is_set}
+use Rattle.thread_local_bits.proofs.Word.{same_bit}
+use Rattle.thread_local_chunks.specs.Slots.{value_in}
+use Rattle.thread_local_shared_word_logic.specs.Shared.{name_at, WordView, Turn, Standing, Who, free, stays, had, unborn, all_unborn, waiting, len, first, Sized, pending, standing, beside_pointer, invariant}
 use Rattle.thread_local_claim_logic.specs.Claims.{waits}
-use Rattle.thread_local_shared_word_logic.proofs.Inside.{in_block, quietly}
-use Rattle.thread_local_claim_logic.proofs.Moves as moves
+use Rattle.thread_local_shared_word_logic.proofs.Inside.{Next, quietly}
+use Rattle.thread_local_shared_word_logic.proofs.Inside as inside
 use Rattle.thread_local_shared_word_logic.proofs.Steps as steps
+use Rattle.thread_local_claim_logic.proofs.Moves as moves
 
 module _ {M : Type 1} {𝓤 : Ura M} (𝓛 : Logic 𝓤) (R : RattleType) where
   open 𝓛 use {H, A}
@@ -55,15 +58,16 @@ module _ {M : Type 1} {𝓤 : Ura M} (𝓛 : Logic 𝓤) (R : RattleType) where
     Unborn = unborn R d.table t k
 
     abbrev pub place_in : Standing → ℕ
-    place_in s = i * stride R + count_of s.at
+    place_in s = value_in R (count_of s.at) i
 
-    abbrev pub Slot : (s : Standing) → i < length s.names → Fml
-    Slot s l = steps.Slot 𝓛 R d t wb wo s i k (place_in s) (block_of s.at) l at_k refl refl
+    -- the word of flags and the slot of a block that stands, out of what holds them
+    abbrev pub Out : (s : Standing) → i < length s.names → Pr → ℕ → Pr
+    Out s l P = inside.Out 𝓛 R d t wb wo s i k (place_in s) (block_of s.at) l at_k refl refl P
 
     abbrev Word : Ptr → Fml
     Word p = fsep (cell wb wo p) (beside_pointer R d t p)
 
-    module _ (X Z : Pr) (null : ⟦ Unborn ⟧ ∗ (⟦ Unborn ⟧ -∗ ⟦ I ⟧) ∗ X ⊢ Z) (block : (s : Standing) (l : i < length s.names) → ⟦ Slot s l ⟧ ∗ (⟦ Slot s l ⟧ -∗ ⟦ I ⟧) ∗ X ⊢ Z) where
+    module _ (X Z : Pr) (null : ⟦ Unborn ⟧ ∗ (⟦ Unborn ⟧ -∗ ⟦ I ⟧) ∗ X ⊢ Z) (block : (s : Standing) (l : i < length s.names) → ex 𝓤 (Out s l ⟦ I ⟧) ∗ X ⊢ Z) where
       in_word : (p : Ptr) → ⟦ Word p ⟧ ∗ X ⊢ Z
       in_word null_ptr = let All : Fml = all_unborn R d.table t (len R d) (first R d) in let Free : Type 0 = d.reserved ≡ false in
           qed 𝓛 (‵ (Word null_ptr) ∷ raw X ∷ []) ∵ fsplit ! $ move ! (1 ∷ []) $ fsplit ! $ fpick ! (λ h. move ! (1 ∷ []) $ fsplit ! $ move ! (1 ∷ []) $
@@ -76,12 +80,12 @@ module _ {M : Type 1} {𝓤 : Ura M} (𝓛 : Logic 𝓤) (R : RattleType) where
               use2 𝓛 (‵ All) (apply∗ 𝓤 ⟦ Unborn ⟧ ⟦ All ⟧) $ move ! (1 ∷ 0 ∷ []) $ fjoin ! $ move ! (1 ∷ []) $ fpack ! (d.reserved ≡ false) (λ _. ftrue) h $ fjoin ! $ move ! (1 ∷ 0 ∷ []) $ fjoin ! $ fpack ! Ptr Word null_ptr $ done !
       in_word (block_ptr x y) = let p : Ptr = block_ptr x y in qed 𝓛 (‵ (Word p) ∷ raw X ∷ []) ∵ fsplit ! $ move ! (1 ∷ []) $ fpick ! (λ z. fsplit ! $ fpick ! (λ h. let l : i < length z.0.names = subst (λ (n : ℕ). i < n) (sym h.1) low in
           fpack ! ((z.0.at ≡ p) × (length z.0.names ≡ len R d) × Sized R (len R d) p) (λ _. ftrue) h $ fjoin ! $ let Whole : Fml = standing R d t p z in
-          use1 𝓛 (‵ (Slot z.0 l) ⊛ raw (⟦ Slot z.0 l ⟧ -∗ ⟦ Whole ⟧)) (in_block 𝓛 R d t wb wo z.0 i k (place_in z.0) (block_of z.0.at) l at_k refl refl p z.1) $ split ! $ move ! (1 ∷ 2 ∷ []) $ group ! 2 $
-          use1 𝓛 (raw (⟦ Slot z.0 l ⟧ -∗ ⟦ I ⟧)) (block_back x y z l) $ move ! (1 ∷ 0 ∷ 2 ∷ []) $ by ! (block z.0 l)))
+          use1 𝓛 (raw (ex 𝓤 (Out z.0 l ⟦ Whole ⟧))) (inside.in_block 𝓛 R d t wb wo z.0 i k (place_in z.0) (block_of z.0.at) l at_k refl refl p z.1) $
+          use2 𝓛 (raw (ex 𝓤 (Out z.0 l ⟦ I ⟧))) (inside.lifted 𝓛 R d t wb wo z.0 i k (place_in z.0) (block_of z.0.at) l at_k refl refl ⟦ Whole ⟧ ⟦ I ⟧ ⟦ cell wb wo p ⟧ (block_back x y z)) $ by ! (block z.0 l)))
         where
-          block_back : (x y : ℕ) (z : Standing × Share) (l : i < length z.0.names) → (⟦ Slot z.0 l ⟧ -∗ ⟦ standing R d t (block_ptr x y) z ⟧) ∗ ⟦ cell wb wo (block_ptr x y) ⟧ ⊢ (⟦ Slot z.0 l ⟧ -∗ ⟦ I ⟧)
-          block_back x y z l = let S : Fml = Slot z.0 l in let Whole : Fml = standing R d t (block_ptr x y) z in qed 𝓛 (raw (⟦ S ⟧ -∗ ⟦ Whole ⟧) ∷ ‵ (cell wb wo (block_ptr x y)) ∷ []) ∵ assume ! (‵ S) $
-              use2 𝓛 (‵ Whole) (apply∗ 𝓤 ⟦ S ⟧ ⟦ Whole ⟧) $ fpack ! (Standing × Share) (standing R d t (block_ptr x y)) z $ move ! (1 ∷ 0 ∷ []) $ fjoin ! $ fpack ! Ptr Word (block_ptr x y) $ done !
+          block_back : (x y : ℕ) (z : Standing × Share) → ⟦ standing R d t (block_ptr x y) z ⟧ ∗ ⟦ cell wb wo (block_ptr x y) ⟧ ⊢ ⟦ I ⟧
+          block_back x y z = qed 𝓛 (‵ (standing R d t (block_ptr x y) z) ∷ ‵ (cell wb wo (block_ptr x y)) ∷ []) ∵
+              fpack ! (Standing × Share) (standing R d t (block_ptr x y)) z $ move ! (1 ∷ 0 ∷ []) $ fjoin ! $ fpack ! Ptr Word (block_ptr x y) $ done !
 
       -- the two cases of a word
       pub by_word : ⟦ I ⟧ ∗ X ⊢ Z
@@ -105,12 +109,16 @@ module _ {M : Type 1} {𝓤 : Ura M} (𝓛 : Logic 𝓤) (R : RattleType) where
             fpack ! Bool (λ early. waiting R early d.table t.pass k) false $ move ! (2 ∷ 3 ∷ 0 ∷ []) $ fjoin3 ! $ move ! (0 ∷ 2 ∷ []) $ use2 𝓛 (‵ I) (apply∗ 𝓤 ⟦ Unborn ⟧ ⟦ I ⟧) $ done !
         swaps false = qed 𝓛 (‵ Pass ∷ ‵ (right_owns t.vacant k) ∷ ‵ (right_owns t.filled k) ∷ raw (⟦ Unborn ⟧ -∗ ⟦ I ⟧) ∷ ‵ Pass ∷ []) ∵ keep ! (0 ∷ 4 ∷ []) $ by ! (right_once 𝓛 t.pass k Swapped)
 
-    born_leaves : (s : Standing) (l : i < length s.names) → ⟦ Slot s l ⟧ ∗ (⟦ Slot s l ⟧ -∗ ⟦ I ⟧) ∗ ⟦ Pass ⟧ ⊢ Swapped
-    born_leaves s l = let b : ℕ = block_of s.at in let e : ℕ = place_in s in let S : Option R.Denot → Fml = steps.Stays 𝓛 R d t wb wo s i k e b l at_k refl refl in let D : Option R.Denot → Who → Fml = steps.Had 𝓛 R d t wb wo s i k e b l at_k refl refl in
-        qed 𝓛 (‵ (Slot s l) ∷ raw (⟦ Slot s l ⟧ -∗ ⟦ I ⟧) ∷ ‵ Pass ∷ []) ∵ suffices ! _ (upd_i 𝓤 (⟦ I ⟧ ∗ ⟦ Right ⟧)) $ fsplit3 ! $ move ! (2 ∷ []) $ fpick ! (λ z. fsplit3 ! $
-        -- [the flag; what stands; who has it; the rim; the loan; the way back; the pass]
-        move ! (1 ∷ 2 ∷ 6 ∷ []) $ use3 𝓛 (given (z.0 ≡ None) (‵ (S z.0) ⊛ ‵ (D z.0 free) ⊛ ‵ Right)) (moves.early_leaves 𝓛 R t b s.own d.table k e (name_at s.names i) z.0 z.1) $ learn ! (λ none. split3 ! $
-        move ! (4 ∷ 5 ∷ 3 ∷ 0 ∷ 1 ∷ []) $ group ! 5 $ use1 𝓛 (‵ (Slot s l)) (steps.slot_made 𝓛 R d t wb wo s i k e b l at_k refl refl (z.0, free)) $ move ! (0 ∷ 2 ∷ []) $ use2 𝓛 (‵ I) (apply∗ 𝓤 ⟦ Slot s l ⟧ ⟦ I ⟧) $ done !))
+    born_leaves : (s : Standing) (l : i < length s.names) → ex 𝓤 (Out s l ⟦ I ⟧) ∗ ⟦ Pass ⟧ ⊢ Swapped
+    born_leaves s l = let b : ℕ = block_of s.at in let e : ℕ = place_in s in let η : GName = name_at s.names i in let bit : ℕ = i % 64 in let S : Option R.Denot → Fml = stays R t b s.own k e η in let D : Option R.Denot → Who → Fml = had R t b s.own d.table k e η in
+        let Flags : ℕ → Fml = inside.Flags 𝓛 R d t wb wo s i k e b l at_k refl refl in let Slot : Bool → Fml = inside.Slot 𝓛 R d t wb wo s i k e b l at_k refl refl in let Back : (n : ℕ) → Next n bit → Pr = inside.Back 𝓛 R d t wb wo s i k e b l at_k refl refl ⟦ I ⟧ in
+        qed 𝓛 (some (λ (n : ℕ). given (n < 2 ^ 64) (‵ (Flags n) ⊛ ‵ (Slot (is_set n bit)) ⊛ raw (all 𝓤 (Back n)))) ∷ ‵ Pass ∷ []) ∵ suffices ! _ (upd_i 𝓤 (⟦ I ⟧ ∗ ⟦ Right ⟧)) $ pick ! (λ n. learn ! (λ fits. split3 ! $
+        -- [the word; the slot; the way back; the pass]
+        move ! (1 ∷ []) $ fsplit ! $ move ! (1 ∷ []) $ fpick ! (λ z. fsplit3 ! $ fpick ! (λ is. drop ! $
+        -- [what stands; who has it; the loan; the word; the way back; the pass]
+        move ! (0 ∷ 1 ∷ 5 ∷ []) $ use3 𝓛 (given (z.0 ≡ None) (‵ (S z.0) ⊛ ‵ (D z.0 free) ⊛ ‵ Right)) (moves.early_leaves 𝓛 R t b s.own d.table k e η z.0 z.1) $ learn ! (λ none. split3 ! $
+        -- [what stands; who has it; the right; the loan; the word; the way back]
+        move ! (4 ∷ 3 ∷ 0 ∷ 1 ∷ 5 ∷ []) $ group ! 5 $ use1 𝓛 (‵ I) (steps.again 𝓛 R d t wb wo s i k e b l at_k refl refl n n (z.0, free) fits (same_bit n bit (is_some z.0) is)) $ done !)))))
 
     -- with no step of the machine
     pub leaves : (q : Share) → A.inv (fbor t.life I) ∗ A.lft t.life q ∗ ⟦ Pass ⟧ ⊢ H.⇛ (⟦ Right ⟧ ∗ A.lft t.life q)

@@ -1,12 +1,11 @@
 -- What a claim has, by what it has learnt. Assumes `Logic`.
-use Rattle.std.proofs.Common.{◌≡◌, ℕ, true, false, refl, ap, eqb, Option, None, Some, is_some}
+use Rattle.std.proofs.Common.{◌≡◌, Bool, true, false, refl, Option, None, Some, is_some}
 use seplogic.Ra.Ura.{Ura}
 use base.Logic.{ent, id⊢}
 use base.Fml.{Lft, fex}
 use types.Logic.{Logic, sem}
 use denote.RattleType.{RattleType}
 use Rattle.thread_local_model.specs.Learnt.{Learnt, Unknown, Missing, Standing as Stood, Vacant, Holding, learnt_by_look, Finds}
-use Rattle.thread_local_blocks.specs.Slots.{flag_of}
 use Rattle.thread_local_shared_word_logic.specs.Shared.{WordView, Turn, Standing}
 use Rattle.thread_local_claim_logic.specs.Known.{IsKnown, IsUnfound, in_vain, value_held, found_as}
 use Rattle.thread_local_claim_logic.specs.Claims.{Place, has_slot, has, waits, IsKept}
@@ -47,9 +46,9 @@ holding Stood e = cc
 holding Vacant e = cc
 
 -- the flag tells whether the slot holds a value
-pub kept_as : (R : RattleType) (v : Option R.Denot) (n : ℕ) → n ≡ flag_of v → IsKept R true (eqb n 1) (found_as v)
-kept_as R None n e = (refl, ap (λ m. eqb m 1) e)
-kept_as R (Some x) n e = (refl, ap (λ m. eqb m 1) e)
+pub kept_as : (R : RattleType) (v : Option R.Denot) (set : Bool) → set ≡ is_some v → IsKept R true set (found_as v)
+kept_as R None set e = (refl, e)
+kept_as R (Some x) set e = (refl, e)
 
 module _ {M : Type 1} {𝓤 : Ura M} (𝓛 : Logic 𝓤) (R : RattleType) (d : WordView) (t : Turn) (β : Lft) (c : Place) where
   -- before it has found its bucket: its right or the pass

@@ -1,5 +1,5 @@
 -- A `&` to a claim: a `&` to the value that it holds. Assumes `Logic`.
-use Rattle.std.proofs.Common.{◌≡◌, ℕ, ◌+◌, ◌*◌, Bool, [], ◌∷◌, ◌++◌, refl, sym, subst, Option, None, Some}
+use Rattle.std.proofs.Common.{◌≡◌, ℕ, ◌+◌, Bool, [], ◌∷◌, ◌++◌, refl, sym, subst, Option, None, Some}
 use mathlib.Core.Logic.{inl, inr}
 use seplogic.Ra.Ura.{Ura}
 use base.Fraction.{full_share}
@@ -26,8 +26,8 @@ use denote.Struct.Lending.{Lends}
 use Rattle.std.proofs.cell.BorrowLemmas.{by_one, unnest_before}
 use Rattle.thread_local_judged.specs.Judged.{Shareable, Judged}
 use Rattle.thread_local_rights.specs.Rights.{right_owns}
-use Rattle.thread_local_blocks.specs.Slots.{fact, stride, value_at, place}
-use Rattle.thread_local_shared_word_logic.specs.Shared.{name_at, WordView, Turn, Standing, value_code, pinned, value_of, age, kept, loaded}
+use Rattle.thread_local_chunks.specs.Slots.{fact, value_in, place}
+use Rattle.thread_local_shared_word_logic.specs.Shared.{name_at, WordView, Turn, Standing, Sized, len, value_code, pinned, value_of, age, kept, loaded}
 use Rattle.thread_local_shared_word_logic.specs.Shared as slots
 use Rattle.thread_local_model.specs.Learnt.{Learnt, Unknown, Missing, Standing as Stood, Vacant, Holding}
 use Rattle.thread_local_claim_logic.specs.Known.{value_held}
@@ -39,7 +39,7 @@ lasts_laws β R L b e x (inr j) = nothing_shr_laws
 
 shown_laws : (β : Lft) (R : RattleType) → RowLaws R → (p : Ptr) (v : Option R.Denot) → ShrLaws (shown R β p v)
 shown_laws β R L p None = nothing_shr_laws
-shown_laws β R L p (Some x) = let b : ℕ = block_of p in let e : ℕ = value_at R (count_of p) in let S : Lft → Fml = shared_of R x b e in let W : Lft → Fml = denote.Sharing.within β S in
+shown_laws β R L p (Some x) = let b : ℕ = block_of p in let e : ℕ = count_of p in let S : Lft → Fml = shared_of R x b e in let W : Lft → Fml = denote.Sharing.within β S in
     let F : Judged R → Lft → Fml = lasts R β b e x in beside_shr_laws (said (fact (InBlock p))) (beside W (any (Judged R) F)) (said_shr_laws (fact (InBlock p)) (λ _. tt))
     (beside_shr_laws W (any (Judged R) F) (within_shr_laws β S (L x b e)) (some_shr_laws (Judged R) F (lasts_laws β R L b e x)))
 
@@ -80,10 +80,10 @@ module _ {M : Type 1} {𝓤 : Ura M} (𝓛 : Logic 𝓤) where
     wo = count_of w + 0
 
     abbrev b : ℕ
-    b = block_of c.slot
+    b = block_of c.value
 
     abbrev e : ℕ
-    e = value_at R (count_of c.slot)
+    e = count_of c.value
 
     -- the value is shared for as long as the word is borrowed, or it is borrowed with the claim
     abbrev pub Seen : Judged R → Fml
@@ -104,7 +104,7 @@ module _ {M : Type 1} {𝓤 : Ura M} (𝓛 : Logic 𝓤) where
       sb = block_of s.at
 
       abbrev se : ℕ
-      se = c.index * stride R + count_of s.at
+      se = value_in R (count_of s.at) c.index
 
       abbrev η : GName
       η = name_at s.names c.index
@@ -136,13 +136,13 @@ module _ {M : Type 1} {𝓤 : Ura M} (𝓛 : Logic 𝓤) where
           anything ! $ fpack ! (IsAt R s c) (λ _. ftrue) at $ fjoin ! $ fpack ! Standing (has_slot R d t β c v) s $ move ! (1 ∷ 0 ∷ []) $ fjoin ! $
           anything ! $ fpack ! (IsOf R w table c d) (λ _. ftrue) of $ fjoin ! $ fpack ! (WordView × Turn) At z $ anything ! $ fpack ! (IsKept R found published l) (λ _. ftrue) told $ fjoin ! $ done !
 
-      there : ◌≡◌ {A = ℕ × ℕ} (sb, value_at R se) (b, e)
-      there = λ i. (block_of (sym at i), value_at R (count_of (sym at i)))
+      there : ◌≡◌ {A = ℕ × ℕ} (sb, se) (b, e)
+      there = λ i. (block_of (sym at.1 i), count_of (sym at.1 i))
 
-      value_back : (o : Option R.Denot) → ⟦ fauth η (value_code R o) ⟧ ⊢ ⟦ fwand (fsep (fdead ν) (fseps (place R o sb (value_at R se) ∷ []))) (fupd Value) ⟧
+      value_back : (o : Option R.Denot) → ⟦ fauth η (value_code R o) ⟧ ⊢ ⟦ fwand (fsep (fdead ν) (fseps (place R o sb se ∷ []))) (fupd Value) ⟧
       unfolding fseps
-      value_back o = let Of : Fml = place R o sb (value_at R se) in qed 𝓛 (‵ (fauth η (value_code R o)) ∷ []) ∵ assume ! (‵ (fsep (fdead ν) (fsep Of ftrue))) $ suffices ! ⟦ Value ⟧ (upd_i 𝓤 ⟦ Value ⟧) $ fsplit3 ! $ keep ! (1 ∷ 3 ∷ []) $ fjoin ! $
-          fpack ! (Option R.Denot) (λ c'. fsep (place R c' sb (value_at R se)) (fauth η (value_code R c'))) o $ done !
+      value_back o = let Of : Fml = place R o sb se in qed 𝓛 (‵ (fauth η (value_code R o)) ∷ []) ∵ assume ! (‵ (fsep (fdead ν) (fsep Of ftrue))) $ suffices ! ⟦ Value ⟧ (upd_i 𝓤 ⟦ Value ⟧) $ fsplit3 ! $ keep ! (1 ∷ 3 ∷ []) $ fjoin ! $
+          fpack ! (Option R.Denot) (λ c'. fsep (place R c' sb se) (fauth η (value_code R c'))) o $ done !
 
       -- the value's borrow, once its place is known to hold it
       lends_value : (σ : Shareable R → ⊥) (q : Share) → ⟦ fbor ν Value ⟧ ∗ A.lft ν q ∗ ⟦ Pinned ⟧ ⊢ H.⇛ (⟦ Saw ⟧ ∗ A.lft ν q)
@@ -150,9 +150,9 @@ module _ {M : Type 1} {𝓤 : Ura M} (𝓛 : Logic 𝓤) where
       lends_value σ q = qed 𝓛 (‵ (fbor ν Value) ∷ ‵ (flft ν q) ∷ ‵ Pinned ∷ []) ∵ updating ! $ bor_open ! tt $ move ! (1 ∷ []) $ fpick ! (λ o. fsplit ! $ move ! (3 ∷ 1 ∷ []) $
           -- [what is known; the name; the place; the open borrow]
           use2 𝓛 (given (value_code R (Some x) ≡ value_code R o) (‵ Pinned ⊛ ‵ (fauth η (value_code R o)))) (𝓛.names.res_agree η (value_code R (Some x)) (value_code R o)) $ learn ! (λ same. split ! $ drop ! $
-          use1 𝓛 (‵ (fwand (fsep (fdead ν) (fseps (place R o sb (value_at R se) ∷ []))) (fupd Value))) (value_back o) $ move ! (1 ∷ []) $ anything ! $ move ! (1 ∷ 0 ∷ []) $ fjoin ! $
-          move ! (2 ∷ 0 ∷ 1 ∷ []) $ obor_alter ! tt (place R o sb (value_at R se) ∷ []) $ use1 𝓛 (‵ (fbor ν (place R o sb (value_at R se))) ⊛ ‵ ftrue) (id⊢ 𝓤 _) $ split ! $
-          let is_x : o ≡ Some x = sym ((coded_option R.coded).inj (Some x) o same) in rewrite ! 0 (λ (o' : Option R.Denot). ‵ (fbor ν (place R o' sb (value_at R se)))) is_x refl $
+          use1 𝓛 (‵ (fwand (fsep (fdead ν) (fseps (place R o sb se ∷ []))) (fupd Value))) (value_back o) $ move ! (1 ∷ []) $ anything ! $ move ! (1 ∷ 0 ∷ []) $ fjoin ! $
+          move ! (2 ∷ 0 ∷ 1 ∷ []) $ obor_alter ! tt (place R o sb se ∷ []) $ use1 𝓛 (‵ (fbor ν (place R o sb se)) ⊛ ‵ ftrue) (id⊢ 𝓤 _) $ split ! $
+          let is_x : o ≡ Some x = sym ((coded_option R.coded).inj (Some x) o same) in rewrite ! 0 (λ (o' : Option R.Denot). ‵ (fbor ν (place R o' sb se))) is_x refl $
           rewrite ! 0 (λ (y : ℕ × ℕ). ‵ (fbor ν (part_at R full_share x y.0 y.1))) there refl $ fpack ! (Judged R) Seen (inr σ) $ now ! $ keep ! (0 ∷ 2 ∷ []) $ done !))
 
       way_back : (σ : Shareable R → ⊥) → ⟦ Kept ⟧ ∗ ⟦ Row ⟧ ∗ ⟦ Filled ⟧ ∗ ⟦ Pinned ⟧ ⊢ ⟦ fwand (fsep (fdead ν) (fseps (fbor life Value ∷ []))) (fupd C) ⟧
@@ -166,9 +166,9 @@ module _ {M : Type 1} {𝓤 : Ura M} (𝓛 : Logic 𝓤) where
           use1 𝓛 (‵ (before β life) ⊛ ‵ (before β life)) (before_dup 𝓛 β life) $ split ! $
           -- [β ends before, twice; what is known of the block; its size; the open borrow; kept; filled; pinned; by]
           move ! (2 ∷ 1 ∷ []) $ fjoin ! $ move ! (2 ∷ 0 ∷ []) $ fjoin ! $
-          move ! (6 ∷ []) $ use1 𝓛 (‵ (By (inl σ)) ⊛ ‵ (By (inl σ))) (contraction 𝓛 (shared_of R x sb (value_at R se)) (L x sb (value_at R se)) life) $ split ! $
+          move ! (6 ∷ []) $ use1 𝓛 (‵ (By (inl σ)) ⊛ ‵ (By (inl σ))) (contraction 𝓛 (shared_of R x sb se) (L x sb se) life) $ split ! $
           -- [by; by; the row; β ends before; the open borrow; kept; filled; pinned]
-          move ! (3 ∷ 0 ∷ []) $ use2 𝓛 (‵ (shared_of R x sb (value_at R se) β)) ((L x sb (value_at R se)).mono M 𝓤 𝓛 β life) $ rewrite ! 0 (λ (y : ℕ × ℕ). ‵ (shared_of R x y.0 y.1 β)) there refl $ fpack ! (Judged R) Seen (inl σ) $
+          move ! (3 ∷ 0 ∷ []) $ use2 𝓛 (‵ (shared_of R x sb se β)) ((L x sb se).mono M 𝓤 𝓛 β life) $ rewrite ! 0 (λ (y : ℕ × ℕ). ‵ (shared_of R x y.0 y.1 β)) there refl $ fpack ! (Judged R) Seen (inl σ) $
           move ! (4 ∷ 2 ∷ 5 ∷ 6 ∷ 1 ∷ []) $ group ! 5 $ use1 𝓛 (‵ C) (again (inl σ)) $ move ! (2 ∷ 0 ∷ []) $ obor_close ! tt $ now ! $ keep ! (2 ∷ 1 ∷ []) $ done !
       lends_by q (inr σ) = qed 𝓛 (‵ (fobor ν q C) ∷ ‵ Kept ∷ ‵ Row ∷ ‵ Filled ∷ ‵ Pinned ∷ ‵ (By (inr σ)) ∷ []) ∵ updating ! $ move ! (2 ∷ []) $ fsplit ! $ move ! (1 ∷ []) $ fsplit ! $ move ! (1 ∷ []) $
           use1 𝓛 (‵ (before β life) ⊛ ‵ (before β life)) (before_dup 𝓛 β life) $ split ! $ use1 𝓛 (‵ (before ν life)) (before_shorten 𝓛 β ν life inc) $ move ! (2 ∷ 1 ∷ []) $ fjoin ! $ move ! (2 ∷ 0 ∷ []) $ fjoin ! $
@@ -178,12 +178,12 @@ module _ {M : Type 1} {𝓤 : Ura M} (𝓛 : Logic 𝓤) where
           use1 𝓛 (‵ (fbor ν (fbor life Value)) ⊛ ‵ ftrue) (id⊢ 𝓤 _) $ split ! $ move ! (4 ∷ 0 ∷ 2 ∷ []) $ use3 𝓛 (later (‵ (fbor ν Value) ⊛ ‵ (flft ν q))) (unnest_before 𝓛 ν life q Value) $ await ! tt $ split ! $
           move ! (0 ∷ 1 ∷ 3 ∷ []) $ use3 𝓛 (later (‵ Saw ⊛ ‵ (flft ν q))) (lends_value σ q) $ await ! tt $ split ! $ now ! $ keep ! (0 ∷ 1 ∷ []) $ done !
 
-    lends_at : (q : Share) → ⟦ fbor ν C ⟧ ∗ A.lft ν q ⊢ H.⇛ ((⟦ fact (IsKept R found published l) ⟧ ∗ ⟦ fact (InBlock c.slot) ⟧ ∗ ⟦ Saw ⟧) ∗ A.lft ν q)
+    lends_at : (q : Share) → ⟦ fbor ν C ⟧ ∗ A.lft ν q ⊢ H.⇛ ((⟦ fact (IsKept R found published l) ⟧ ∗ ⟦ fact (InBlock c.value) ⟧ ∗ ⟦ Saw ⟧) ∗ A.lft ν q)
     lends_at q = qed 𝓛 (‵ (fbor ν C) ∷ ‵ (flft ν q) ∷ []) ∵ updating ! $ bor_open ! tt $ move ! (1 ∷ []) $ fsplit ! $ fpick ! (λ told. move ! (1 ∷ []) $ fpick ! (λ z. fsplit ! $ fpick ! (λ of. move ! (1 ∷ []) $ fsplit ! $ move ! (1 ∷ []) $
         fpick ! (λ s. fsplit ! $ fpick ! (λ at. drop ! $ fsplit ! $ move ! (1 ∷ []) $ fsplit3 ! $
         -- [filled; pinned; by; the row; kept; nothing; nothing; the open borrow]
         move ! (2 ∷ []) $ fpick ! (λ j. move ! (7 ∷ 4 ∷ 3 ∷ 1 ∷ 2 ∷ 0 ∷ []) $ group ! 6 $ use1 𝓛 (later (‵ Saw ⊛ ‵ (flft ν q))) (lends_by told z of s at q j) $ await ! tt $ split ! $
-        anything ! $ fpack ! (InBlock c.slot) (λ _. ftrue) (subst InBlock (sym at) tt) $ move ! (0 ∷ 1 ∷ []) $ join ! $ anything ! $ fpack ! (IsKept R found published l) (λ _. ftrue) told $ join ! $ join ! $ now ! $ keep ! (0 ∷ []) $ done !))))))
+        anything ! $ fpack ! (InBlock c.value) (λ _. ftrue) (subst InBlock (sym at.1) tt) $ move ! (0 ∷ 1 ∷ []) $ join ! $ anything ! $ fpack ! (IsKept R found published l) (λ _. ftrue) told $ join ! $ join ! $ now ! $ keep ! (0 ∷ []) $ done !))))))
 
   module _ (β : Lft) (R : RattleType) (L : RowLaws R) (l : Lft) (le : Incl l β) (shares : Shares 𝓛 R l) (w : Ptr) (table : ℕ) (c : Place) (found published : Bool) where
     -- a claim keeps what is true of it
@@ -195,19 +195,19 @@ module _ {M : Type 1} {𝓤 : Ura M} (𝓛 : Logic 𝓤) where
       ν = κ ++ β
 
       abbrev S : Lft → Fml
-      S = shared_of R x (block_of c.slot) (value_at R (count_of c.slot))
+      S = shared_of R x (block_of c.value) (count_of c.value)
 
       abbrev Lasts : Judged R → Fml
-      Lasts j = lasts R β (block_of c.slot) (value_at R (count_of c.slot)) x j κ
+      Lasts j = lasts R β (block_of c.value) (count_of c.value) x j κ
 
       abbrev pub Lent : Fml
       Lent = fsep (S ν) (fex (Judged R) Lasts)
 
       finish : (inc : Incl ν β) (ts : Toks) → Incl (span ts) l → Incl (span ts) ν → (j : Judged R) → ⟦ Seen β R L w table c x found published ν inc j ⟧ ∗ lfts 𝓛 ts ⊢ H.⇛ (⟦ Lent ⟧ ∗ lfts 𝓛 ts)
-      finish inc ts sl sν (inl j) = qed 𝓛 (‵ (S β) ∷ raw (lfts 𝓛 ts) ∷ []) ∵ updating ! $ use1 𝓛 (‵ (S β) ⊛ ‵ (S β)) (contraction 𝓛 S (L x (block_of c.slot) (value_at R (count_of c.slot))) β) $ split ! $
-          fpack ! (Judged R) Lasts (inl j) $ move ! (1 ∷ []) $ use1 𝓛 (‵ (S ν)) (shortens 𝓛 S (L x (block_of c.slot) (value_at R (count_of c.slot))) β ν inc) $ fjoin ! $ now ! $ done !
-      finish inc ts sl sν (inr j) = qed 𝓛 (‵ (fbor ν (part_at R full_share x (block_of c.slot) (value_at R (count_of c.slot)))) ∷ raw (lfts 𝓛 ts) ∷ []) ∵ updating ! $
-          use2 𝓛 (later (‵ (S ν) ⊛ raw (lfts 𝓛 ts))) (shares x ν ts (block_of c.slot) (value_at R (count_of c.slot)) sl sν) $ await ! tt $ split ! $
+      finish inc ts sl sν (inl j) = qed 𝓛 (‵ (S β) ∷ raw (lfts 𝓛 ts) ∷ []) ∵ updating ! $ use1 𝓛 (‵ (S β) ⊛ ‵ (S β)) (contraction 𝓛 S (L x (block_of c.value) (count_of c.value)) β) $ split ! $
+          fpack ! (Judged R) Lasts (inl j) $ move ! (1 ∷ []) $ use1 𝓛 (‵ (S ν)) (shortens 𝓛 S (L x (block_of c.value) (count_of c.value)) β ν inc) $ fjoin ! $ now ! $ done !
+      finish inc ts sl sν (inr j) = qed 𝓛 (‵ (fbor ν (part_at R full_share x (block_of c.value) (count_of c.value))) ∷ raw (lfts 𝓛 ts) ∷ []) ∵ updating ! $
+          use2 𝓛 (later (‵ (S ν) ⊛ raw (lfts 𝓛 ts))) (shares x ν ts (block_of c.value) (count_of c.value) sl sν) $ await ! tt $ split ! $
           anything ! $ fpack ! (Judged R) Lasts (inr j) $ move ! (1 ∷ 0 ∷ []) $ fjoin ! $ now ! $ done !
 
     module _ (t : Learnt R.Denot) where
@@ -226,8 +226,8 @@ module _ {M : Type 1} {𝓤 : Ura M} (𝓛 : Logic 𝓤) where
       shows_none = λ κ ts inc sp. qed 𝓛 (‵ (fbor κ P) ∷ raw (lfts 𝓛 ts) ∷ []) ∵ updating ! $ use2 𝓛 (later (‵ (fact Φ) ⊛ raw (lfts 𝓛 ts))) (by_one 𝓛 κ ts sp (A.bor κ P) ⟦ fact Φ ⟧ (keeps_at κ)) $ await ! tt $ split ! $ anything ! $ move ! (1 ∷ 0 ∷ []) $ fjoin ! $ now ! $ done !
 
     -- a `&` to a claim is a `&` to the value that it holds
-    pub lends_claim : (t : Learnt R.Denot) → Lends 𝓛 (claim_owns R β w table c t found published) (claim_shares R β c.slot t found published) l
-    lends_claim (Holding x) = λ κ ts inc sp. let ν : Lft = κ ++ β in let P : Fml = claim_owns R β w table c (Holding x) found published in let Told : Fml = fact (IsKept R found published (Holding x)) in let In : Fml = fact (InBlock c.slot) in
+    pub lends_claim : (t : Learnt R.Denot) → Lends 𝓛 (claim_owns R β w table c t found published) (claim_shares R β c.value t found published) l
+    lends_claim (Holding x) = λ κ ts inc sp. let ν : Lft = κ ++ β in let P : Fml = claim_owns R β w table c (Holding x) found published in let Told : Fml = fact (IsKept R found published (Holding x)) in let In : Fml = fact (InBlock c.value) in
         let sm : Incl (span ts) ν = ⊑_meet (span ts) κ β sp (Incl-trans inc le) in
         let within : Incl ν β = meet_⊑_right κ β in let Got : Pr = ⟦ Told ⟧ ∗ ⟦ In ⟧ ∗ ⟦ Saw β R L w table c x found published ν within ⟧ in
         qed 𝓛 (‵ (fbor κ P) ∷ raw (lfts 𝓛 ts) ∷ []) ∵ updating ! $ use1 𝓛 (‵ (fbor ν P)) (𝓛.bors.bor_shorten κ ν P (meet_⊑_left κ β)) $

@@ -105,9 +105,9 @@ module _ {M : Type 1} {𝓤 : Ura M} (𝓛 : Logic 𝓤) (R : RattleType) (t : T
   abbrev pub Offer : R.Denot → Fml
   Offer x = fsep (right_owns t.vacant k) (fsep (pinned R η x) (opened R t b ν e x))
 
-  -- a value is published in a slot that is claimed and holds none
-  pub publishes : (v : Option R.Denot) (w : Who) (x : R.Denot) → ⟦ Stays v ⟧ ∗ ⟦ Had v w ⟧ ∗ ⟦ Offer x ⟧ ⊢ ⟦ Stays (Some x) ⟧ ∗ ⟦ Had (Some x) claimed ⟧ ∗ ⟦ right_owns t.filled k ⟧
+  -- whoever publishes a value has claimed a slot that holds none
+  pub publishes : (v : Option R.Denot) (w : Who) (x : R.Denot) → ⟦ Stays v ⟧ ∗ ⟦ Had v w ⟧ ∗ ⟦ Offer x ⟧ ⊢ guard 𝓤 (v ≡ None) (⟦ Stays (Some x) ⟧ ∗ ⟦ Had (Some x) claimed ⟧ ∗ ⟦ right_owns t.filled k ⟧)
   publishes (Some z) w x = qed 𝓛 (‵ (Stays (Some z)) ∷ ‵ (Had (Some z) w) ∷ ‵ (Offer x) ∷ []) ∵ fsplit3 ! $ move ! (4 ∷ []) $ fsplit3 ! $ keep ! (0 ∷ 3 ∷ []) $ by ! (twice t.vacant _)
   publishes None free x = qed 𝓛 (‵ (Stays None) ∷ ‵ (Had None free) ∷ ‵ (Offer x) ∷ []) ∵ drop ! $ fsplit ! $ move ! (1 ∷ []) $ fsplit3 ! $ move ! (4 ∷ []) $ fsplit3 ! $ keep ! (0 ∷ 3 ∷ []) $ by ! (twice t.vacant _)
   publishes None early x = qed 𝓛 (‵ (Stays None) ∷ ‵ (Had None early) ∷ ‵ (Offer x) ∷ []) ∵ drop ! $ fsplit ! $ move ! (1 ∷ []) $ fsplit3 ! $ move ! (4 ∷ []) $ fsplit3 ! $ keep ! (0 ∷ 3 ∷ []) $ by ! (twice t.vacant _)
-  publishes None claimed x = qed 𝓛 (‵ (Stays None) ∷ ‵ (Had None claimed) ∷ ‵ (Offer x) ∷ []) ∵ move ! (2 ∷ 1 ∷ 0 ∷ []) $ done !
+  publishes None claimed x = qed 𝓛 (‵ (Stays None) ∷ ‵ (Had None claimed) ∷ ‵ (Offer x) ∷ []) ∵ check ! refl $ move ! (2 ∷ 1 ∷ 0 ∷ []) $ done !

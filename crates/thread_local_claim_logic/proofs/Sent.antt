@@ -1,5 +1,5 @@
 -- What a claim owns names no thread where its type's values may go to another thread.
-use Rattle.std.proofs.Common.{ℕ, ◌+◌, ◌*◌, Bool, Option, None, Some}
+use Rattle.std.proofs.Common.{ℕ, ◌+◌, Bool, Option, None, Some}
 use mathlib.Core.Logic.{inl, inr}
 use base.Fml.{Lft, GName, fex}
 use base.Shift.{Keyless}
@@ -8,7 +8,7 @@ use denote.Param.Send.{IsSend}
 use denote.RawPtr.{Ptr, block_of, count_of}
 use Rattle.thread_local_judged.specs.Judged.{Judged}
 use Rattle.thread_local_rights.proofs.Elements.{right_keyless}
-use Rattle.thread_local_blocks.specs.Slots.{stride, value_at}
+use Rattle.thread_local_chunks.specs.Slots.{value_in}
 use Rattle.thread_local_shared_word_logic.specs.Shared.{name_at, WordView, Turn, Standing, age, by, holds}
 use Rattle.thread_local_shared_word_logic.proofs.Sent.{value_keyless, kept_keyless, row_keyless}
 use Rattle.thread_local_model.specs.Learnt.{Learnt, Unknown, Missing, Standing as Stood, Vacant, Holding}
@@ -16,7 +16,7 @@ use Rattle.thread_local_claim_logic.specs.Claims.{Place, has_slot, has, claim_ow
 
 module _ (R : RattleType) (sent : IsSend R) where
   by_keyless : (t : Turn) (b ν e : ℕ) (η : GName) (x : R.Denot) (j : Judged R) → Keyless (by R t b ν e η x j)
-  by_keyless t b ν e η x (inl shareable) = shareable x b (value_at R e) (age R t b ν)
+  by_keyless t b ν e η x (inl shareable) = shareable x b e (age R t b ν)
   by_keyless t b ν e η x (inr not) = value_keyless R sent b e η
 
   holds_keyless : (t : Turn) (b ν k e : ℕ) (η : GName) (v : Option R.Denot) → Keyless (holds R t b ν k e η v)
@@ -24,7 +24,7 @@ module _ (R : RattleType) (sent : IsSend R) where
   holds_keyless t b ν k e η (Some x) = (right_keyless t.filled k, (tt, λ j. by_keyless t b ν e η x j))
 
   slot_keyless : (d : WordView) (t : Turn) (β : Lft) (c : Place) (v : Option R.Denot) → Keyless (fex Standing (has_slot R d t β c v))
-  slot_keyless d t β c v = λ s. ((λ _. tt), (row_keyless R sent d t s β, holds_keyless t (block_of s.at) s.own c.id (c.index * stride R + count_of s.at) (name_at s.names c.index) v))
+  slot_keyless d t β c v = λ s. ((λ _. tt), (row_keyless R sent d t s β, holds_keyless t (block_of s.at) s.own c.id (value_in R (count_of s.at) c.index) (name_at s.names c.index) v))
 
   has_keyless : (d : WordView) (t : Turn) (β : Lft) (c : Place) (l : Learnt R.Denot) → Keyless (has R d t β c l)
   has_keyless d t β c Unknown = right_keyless d.table c.id

@@ -1,5 +1,6 @@
--- The steps of a claim, under the invariant of the word: with no step of the machine, and with one on the slot's flag. Assumes `Logic`.
-use Rattle.std.proofs.Common.{◌≡◌, ℕ, ◌+◌, ◌*◌, ◌<◌, Bool, true, false, [], ◌∷◌, length, refl, ap, Option, None, Some}
+-- The steps of a claim, under the invariant of the word: with no step of the machine, and with one on the word of the slot's flag. Assumes `Logic`.
+use Rattle.std.proofs.Common.{◌≡◌, ℕ, ◌+◌, ◌*◌, ◌/◌, ◌%◌, ◌^◌, ◌<◌, Bool, true, false, [], ◌∷◌, length, refl, ap, ◌∙◌, lit<, Option, None, Some, is_some}
+use Rattle.std.proofs.lemmas.Nat.{mod_below}
 use seplogic.Ra.Ura.{Ura}
 use base.Logic.{SProp, ent, sep, wand, ex}
 use base.Fml.{GName, Share, Fml, fsep, fbor, flft, ftrue, fex}
@@ -7,16 +8,18 @@ use types.Logic.{Logic, sem}
 use types.Kit.{‵, ◌⊛◌, given, show, check, frame, ◌$◌, ◌∵◌, !, qed, by, move, split, split3, fjoin, fpack, learn, use2, use3, done}
 use denote.RattleType.{RattleType}
 use denote.Steps.{nothing}
-use denote.RawPtr.{block_ptr, block_of, count_of}
+use denote.RawPtr.{Ptr, block_ptr, block_of, count_of}
 use Rattle.std.specs.Sync.RawAtomic.{asks, always}
 use Rattle.thread_local_rights.specs.Rights.{right_owns}
-use Rattle.thread_local_blocks.specs.Slots.{fact, flag_of, stride}
+use Rattle.thread_local_chunks.specs.Slots.{fact, word_at, value_in}
+use Rattle.thread_local_bits.specs.Bits.{is_set}
+use Rattle.thread_local_bits.proofs.Word.{add_shifted, same_bit}
 use Rattle.thread_local_shared_word_logic.specs.Shared.{name_at, WordView, Turn, Standing, Who, free, claimed, first}
 use Rattle.thread_local_claim_logic.specs.Claims.{waits, IsTold}
 use Rattle.thread_local_shared_word_logic.proofs.Steps as general
 use Rattle.thread_local_claim_logic.proofs.Moves as moves
 
-module _ {M : Type 1} {𝓤 : Ura M} (𝓛 : Logic 𝓤) (R : RattleType) (d : WordView) (t : Turn) (wb wo : ℕ) (s : Standing) (i k e b : ℕ) (low : i < length s.names) (at_k : k ≡ i + first R d) (at_e : e ≡ i * stride R + count_of s.at) (at_b : block_of s.at ≡ b) where
+module _ {M : Type 1} {𝓤 : Ura M} (𝓛 : Logic 𝓤) (R : RattleType) (d : WordView) (t : Turn) (wb wo : ℕ) (s : Standing) (i k e b : ℕ) (low : i < length s.names) (at_k : k ≡ i + first R d) (at_e : e ≡ value_in R (count_of s.at) i) (at_b : block_of s.at ≡ b) where
   open 𝓛 use {H, A}
 
   abbrev Pr : Type 2
@@ -58,7 +61,7 @@ module _ {M : Type 1} {𝓤 : Ura M} (𝓛 : Logic 𝓤) (R : RattleType) (d : W
   abbrev Left : Option R.Denot → Pr → Who → Pr
   Left = general.Left 𝓛 R d t wb wo s i k e b low at_k at_e at_b
 
-  abbrev Turned : Share → (ℕ → ℕ) → (ℕ → Fml) → Option R.Denot → Option R.Denot × Who → Pr
+  abbrev Turned : Share → (ℕ → ℕ) → (ℕ → Fml) → ℕ → Option R.Denot → Option R.Denot × Who → Pr
   Turned = general.Turned 𝓛 R d t wb wo s i k e b low at_k at_e at_b
 
   abbrev pub Right : Fml
@@ -74,25 +77,41 @@ module _ {M : Type 1} {𝓤 : Ura M} (𝓛 : Logic 𝓤) (R : RattleType) (d : W
   comes_in q = general.moved 𝓛 R d t wb wo s i k e b low at_k at_e at_b q ⟦ right_owns t.pass k ⟧ ⟦ Holds None ⟧ (λ v w. qed 𝓛 (‵ (Stays v) ∷ ‵ (Had v w) ∷ ‵ (right_owns t.pass k) ∷ []) ∵
       use3 𝓛 (given (v ≡ None) (‵ (Stays v) ⊛ ‵ (Had v claimed) ⊛ ‵ (Holds None))) (moves.early_claims 𝓛 R t b s.own d.table k e η v w) $ learn ! (λ none. show ! (Left v ⟦ Holds None ⟧) claimed $ split3 ! $ done !))
 
-  -- what a claim finds: its flag, and what the slot holds
-  abbrev pub Found : Bool → ℕ → Fml
-  Found looked n = fex (Option R.Denot) (λ u. fsep (fact (IsTold looked n u)) (Holds u))
+  -- what a claim finds: whether its flag is set, and what the slot holds
+  abbrev pub Found : Bool → Bool → Fml
+  Found looked set = fex (Option R.Denot) (λ u. fsep (fact (IsTold looked set u)) (Holds u))
+
+  -- the word of the slot's chunk
+  abbrev pub chunk_word : Ptr
+  chunk_word = block_ptr b (word_at R (count_of s.at) (i / 64) + 0)
 
   -- a look at the flag takes what the slot holds, for the right or for the pass
-  pub arrives : (q : Share) (looked : Bool) → A.inv (fbor t.life I) ∗ (A.lft t.life q ∗ (⟦ Which ⟧ ∗ ⟦ waits looked d.table t.pass k ⟧)) ⊢ asks 𝓛 (block_ptr b (e + 0)) (λ n. n) always (λ n. fsep (flft t.life q) (Found looked n))
-  arrives q looked = general.stepped 𝓛 R d t wb wo s i k e b low at_k at_e at_b q (λ n. n) (Found looked) (waits looked d.table t.pass k) (law looked)
+  abbrev pub Finds : Bool → ℕ → Fml
+  Finds looked n = Found looked (is_set n (i % 64))
+
+  pub arrives : (q : Share) (looked : Bool) → A.inv (fbor t.life I) ∗ (A.lft t.life q ∗ (⟦ Which ⟧ ∗ ⟦ waits looked d.table t.pass k ⟧)) ⊢ asks 𝓛 chunk_word (λ n. n) always (λ n. fsep (flft t.life q) (Finds looked n))
+  arrives q looked = general.stepped 𝓛 R d t wb wo s i k e b low at_k at_e at_b q (λ n. n) (Finds looked) (waits looked d.table t.pass k) (law looked)
     where
-      found : (l : Bool) (v u : Option R.Denot) → IsTold l (flag_of v) u → ⟦ Stays v ⟧ ∗ ⟦ Had v claimed ⟧ ∗ ⟦ Holds u ⟧ ⊢ ex 𝓤 (Turned q (λ n. n) (Found l) v)
-      found l v u told = qed 𝓛 (‵ (Stays v) ∷ ‵ (Had v claimed) ∷ ‵ (Holds u) ∷ []) ∵ show ! (Turned q (λ n. n) (Found l) v) (v, claimed) $ check ! refl $ frame ! $ frame ! $
-          nothing ! $ fpack ! (IsTold l (flag_of v) u) (λ _. ftrue) told $ fjoin ! $ fpack ! (Option R.Denot) (λ u'. fsep (fact (IsTold l (flag_of v) u')) (Holds u')) u $ done !
+      found : (l : Bool) (n : ℕ) → n < 2 ^ 64 → (v u : Option R.Denot) → is_set n (i % 64) ≡ is_some v → IsTold l (is_set n (i % 64)) u → ⟦ Stays v ⟧ ∗ ⟦ Had v claimed ⟧ ∗ ⟦ Holds u ⟧ ⊢ ex 𝓤 (Turned q (λ n. n) (Finds l) n v)
+      found l n fits v u is told = qed 𝓛 (‵ (Stays v) ∷ ‵ (Had v claimed) ∷ ‵ (Holds u) ∷ []) ∵ show ! (Turned q (λ n. n) (Finds l) n v) (v, claimed) $ check ! (fits, same_bit n (i % 64) (is_some v) is) $ frame ! $ frame ! $
+          nothing ! $ fpack ! (IsTold l (is_set n (i % 64)) u) (λ _. ftrue) told $ fjoin ! $ fpack ! (Option R.Denot) (λ u'. fsep (fact (IsTold l (is_set n (i % 64)) u')) (Holds u')) u $ done !
 
-      law : (l : Bool) (v : Option R.Denot) (w : Who) → ⟦ Stays v ⟧ ∗ ⟦ Had v w ⟧ ∗ ⟦ waits l d.table t.pass k ⟧ ⊢ ex 𝓤 (Turned q (λ n. n) (Found l) v)
-      law false v w = qed 𝓛 (‵ (Stays v) ∷ ‵ (Had v w) ∷ ‵ Right ∷ []) ∵ move ! (1 ∷ 2 ∷ []) $ use2 𝓛 (‵ (Had v claimed) ⊛ ‵ (Holds v)) (moves.claims 𝓛 R t b s.own d.table k e η v w) $ split ! $ move ! (2 ∷ 0 ∷ 1 ∷ []) $
-          by ! (found false v v (refl, (λ no. let n : false ≡ true = no in cc)))
-      law true v w = qed 𝓛 (‵ (Stays v) ∷ ‵ (Had v w) ∷ ‵ (right_owns t.pass k) ∷ []) ∵ use3 𝓛 (given (v ≡ None) (‵ (Stays v) ⊛ ‵ (Had v claimed) ⊛ ‵ (Holds None))) (moves.early_claims 𝓛 R t b s.own d.table k e η v w) $ learn ! (λ none. split3 ! $
-          by ! (found true v None (ap flag_of none, (λ _. refl))))
+      law : (l : Bool) (n : ℕ) → n < 2 ^ 64 → (v : Option R.Denot) (w : Who) → is_set n (i % 64) ≡ is_some v → ⟦ Stays v ⟧ ∗ ⟦ Had v w ⟧ ∗ ⟦ waits l d.table t.pass k ⟧ ⊢ ex 𝓤 (Turned q (λ n. n) (Finds l) n v)
+      law false n fits v w is = qed 𝓛 (‵ (Stays v) ∷ ‵ (Had v w) ∷ ‵ Right ∷ []) ∵ move ! (1 ∷ 2 ∷ []) $ use2 𝓛 (‵ (Had v claimed) ⊛ ‵ (Holds v)) (moves.claims 𝓛 R t b s.own d.table k e η v w) $ split ! $ move ! (2 ∷ 0 ∷ 1 ∷ []) $
+          by ! (found false n fits v v is (is, (λ no. let m : false ≡ true = no in cc)))
+      law true n fits v w is = qed 𝓛 (‵ (Stays v) ∷ ‵ (Had v w) ∷ ‵ (right_owns t.pass k) ∷ []) ∵ use3 𝓛 (given (v ≡ None) (‵ (Stays v) ⊛ ‵ (Had v claimed) ⊛ ‵ (Holds None))) (moves.early_claims 𝓛 R t b s.own d.table k e η v w) $ learn ! (λ none. split3 ! $
+          by ! (found true n fits v None is (is ∙ ap is_some none, (λ _. refl))))
 
-  -- a store of the flag publishes a value
-  pub publishes : (q : Share) (x : R.Denot) → A.inv (fbor t.life I) ∗ (A.lft t.life q ∗ (⟦ Which ⟧ ∗ ⟦ moves.Offer 𝓛 R t b s.own d.table k e η x ⟧)) ⊢ asks 𝓛 (block_ptr b (e + 0)) (λ _. 1) always (λ _. fsep (flft t.life q) (right_owns t.filled k))
-  publishes q x = let Filled : ℕ → Fml = λ _. right_owns t.filled k in let Offered : Fml = moves.Offer 𝓛 R t b s.own d.table k e η x in general.stepped 𝓛 R d t wb wo s i k e b low at_k at_e at_b q (λ _. 1) Filled Offered (λ v w. qed 𝓛 (‵ (Stays v) ∷ ‵ (Had v w) ∷ ‵ Offered ∷ []) ∵
-      use3 𝓛 (‵ (Stays (Some x)) ⊛ ‵ (Had (Some x) claimed) ⊛ ‵ (right_owns t.filled k)) (moves.publishes 𝓛 R t b s.own d.table k e η v w x) $ split3 ! $ show ! (Turned q (λ _. 1) Filled v) (Some x, claimed) $ check ! refl $ done !)
+  -- the slot's flag alone in a word, as code makes it
+  abbrev pub flag : ℕ
+  flag = 1 * 2 ^ (i % 64) % 2 ^ 64
+
+  -- an addition to the word sets the flag and publishes a value: the flag is unset, so nothing carries
+  abbrev pub with_flag : ℕ → ℕ
+  with_flag n = (n + flag) % 2 ^ 64
+
+  pub publishes : (q : Share) (x : R.Denot) → A.inv (fbor t.life I) ∗ (A.lft t.life q ∗ (⟦ Which ⟧ ∗ ⟦ moves.Offer 𝓛 R t b s.own d.table k e η x ⟧)) ⊢ asks 𝓛 chunk_word with_flag always (λ _. fsep (flft t.life q) (right_owns t.filled k))
+  publishes q x = let Filled : ℕ → Fml = λ _. right_owns t.filled k in let Offered : Fml = moves.Offer 𝓛 R t b s.own d.table k e η x in
+      general.stepped 𝓛 R d t wb wo s i k e b low at_k at_e at_b q with_flag Filled Offered (λ n fits v w is. qed 𝓛 (‵ (Stays v) ∷ ‵ (Had v w) ∷ ‵ Offered ∷ []) ∵
+      use3 𝓛 (given (v ≡ None) (‵ (Stays (Some x)) ⊛ ‵ (Had (Some x) claimed) ⊛ ‵ (right_owns t.filled k))) (moves.publishes 𝓛 R t b s.own d.table k e η v w x) $ learn ! (λ none. split3 ! $
+      show ! (Turned q with_flag Filled n v) (Some x, claimed) $ check ! (mod_below (n + flag) (2 ^ 64) (lit< tt), add_shifted n (i % 64) (mod_below i 64 (lit< tt)) fits (is ∙ ap is_some none)) $ done !))

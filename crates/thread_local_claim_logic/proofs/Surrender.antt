@@ -1,5 +1,5 @@
 -- A claim is given up for its right. Assumes `Logic`.
-use Rattle.std.proofs.Common.{ℕ, ◌+◌, ◌*◌, ◌<◌, Bool, true, false, [], ◌∷◌, length, refl, sym, subst, Option, None, Some}
+use Rattle.std.proofs.Common.{ℕ, ◌+◌, ◌<◌, Bool, true, false, [], ◌∷◌, length, refl, sym, subst, Option, None, Some}
 use seplogic.Ra.Ura.{Ura}
 use base.Logic.{SProp, ent, sep, wand, apply∗, never_e}
 use base.Fml.{Lft, Share, Fml, ffalse, fex, fbor, flft, finv}
@@ -11,7 +11,7 @@ use types.Kit.{‵, raw, ◌⊛◌, some, later, ◌$◌, ◌∵◌, !, qed, by,
 use denote.RattleType.{RattleType}
 use denote.RawPtr.{Ptr, block_of, count_of}
 use Rattle.thread_local_rights.specs.Rights.{right_owns}
-use Rattle.thread_local_blocks.specs.Slots.{stride}
+use Rattle.thread_local_chunks.specs.Slots.{value_in}
 use Rattle.thread_local_shared_word_logic.specs.Shared.{WordView, Turn, Standing, invariant}
 use Rattle.thread_local_model.specs.Learnt.{Learnt, Unknown, Missing, Standing as Stood, Vacant, Holding}
 use Rattle.thread_local_claim_logic.specs.Claims.{Place, IsOf, has_slot, has, claim_owns, waits}
@@ -55,7 +55,7 @@ module _ {M : Type 1} {𝓤 : Ura M} (𝓛 : Logic 𝓤) (R : RattleType) (β : 
     slot_gives : (v : Option R.Denot) → A.inv J ∗ A.lft t.life q ∗ ⟦ fex Standing (has_slot R d t β c v) ⟧ ⊢ H.⇛ (⟦ Right ⟧ ∗ A.lft t.life q)
     slot_gives v = qed 𝓛 (‵ (finv J) ∷ ‵ (flft t.life q) ∷ ‵ (fex Standing (has_slot R d t β c v)) ∷ []) ∵ move ! (2 ∷ []) $ fpick ! (λ s. fsplit ! $ fpick ! (λ at. drop ! $ fsplit ! $ fsplit3 ! $ fpick ! (λ sized. drop ! $
         -- [what is known of the block; it lasts; what the slot holds; the invariant; the token]
-        let wb : ℕ = block_of w in let wo : ℕ = count_of w + 0 in let l : c.index < length s.names = subst (λ (n : ℕ). c.index < n) (sym sized.0) of.4 in let b : ℕ = block_of s.at in let e : ℕ = c.index * stride R + count_of s.at in
+        let wb : ℕ = block_of w in let wo : ℕ = count_of w + 0 in let l : c.index < length s.names = subst (λ (n : ℕ). c.index < n) (sym sized.0) of.4 in let b : ℕ = block_of s.at in let e : ℕ = value_in R (count_of s.at) c.index in
         keep ! (3 ∷ 4 ∷ 0 ∷ 2 ∷ []) $ by ! (steps.releases 𝓛 R d t wb wo s c.index c.id e b l of.3 refl refl q v))))
 
     gives : (l : Learnt R.Denot) → A.inv J ∗ A.lft t.life q ∗ ⟦ has R d t β c l ⟧ ⊢ H.⇛ (⟦ Right ⟧ ∗ A.lft t.life q)

@@ -1,7 +1,7 @@
 -- What a claim owns, and what a `&` to it shows.
 -- A claim has the right to an id, under one sharing of the id's word. While the bucket is missing, its right lies with the word, and it has the pass of its slot.
 -- Once the bucket stands it has what the slot holds.
-use Rattle.std.specs.Prelude.{◌≡◌, ℕ, ◌+◌, ◌*◌, ◌<◌, Bool, true, false, Option, None, Some, is_some}
+use Rattle.std.specs.Prelude.{◌≡◌, ℕ, ◌+◌, ◌/◌, ◌<◌, Bool, true, false, Option, None, Some, is_some}
 use Rattle.thread_local_model.specs.Learnt.{Learnt, Unknown, Missing, Standing as Stood, Vacant, Holding}
 use Rattle.thread_local_claim_logic.specs.Known.{is_found, value_held}
 use mathlib.Core.Logic.{inl, inr}
@@ -12,19 +12,20 @@ use denote.RawPtr.{Ptr, InBlock, block_ptr, block_of, count_of}
 use denote.Sharing.{said, beside, within, some, held, nothing}
 use Rattle.thread_local_rights.specs.Rights.{right_owns}
 use Rattle.thread_local_judged.specs.Judged.{Judged}
-use Rattle.thread_local_blocks.specs.Slots.{fact, flag_of, stride, value_at}
+use Rattle.thread_local_chunks.specs.Slots.{fact, word_at, value_in}
 use Rattle.thread_local_shared_word_logic.specs.Shared.{name_at, WordView, Turn, Standing, holds, first, len, kept, loaded}
 
--- what a claim is, apart from its type's values: its id, the index of its slot, where the slot lies once it is found, and whether the
--- bucket is reserved
+-- what a claim is, apart from its type's values: its id, the index of its slot, where the slot's chunk and its value lie once it is
+-- found, and whether the bucket is reserved
 pub record Place : Type 0 where
   pub id : ℕ
   pub index : ℕ
-  pub slot : Ptr
+  pub chunk : Ptr
+  pub value : Ptr
   pub reserved : Bool
 
-abbrev pub place_of : ℕ → ℕ → Ptr → Bool → Place
-place_of id index slot reserved = record { id = id; index = index; slot = slot; reserved = reserved }
+abbrev pub place_of : ℕ → ℕ → Ptr → Ptr → Bool → Place
+place_of id index chunk value reserved = record { id = id; index = index; chunk = chunk; value = value; reserved = reserved }
 
 -- what a claim has before it has found the bucket: its right, and once it has looked in vain, the pass of its slot
 abbrev pub waits : Bool → GName → GName → ℕ → Fml
@@ -32,18 +33,19 @@ waits false table pass id = right_owns table id
 waits true table pass id = right_owns pass id
 
 -- a claim that came before the bucket finds its slot empty
-abbrev pub IsTold : {X : Type 0} → Bool → ℕ → Option X → Type 0
-IsTold looked flag v = (flag ≡ flag_of v) × (looked ≡ true → v ≡ None)
+abbrev pub IsTold : {X : Type 0} → Bool → Bool → Option X → Type 0
+IsTold looked set v = (set ≡ is_some v) × (looked ≡ true → v ≡ None)
 
 module _ (R : RattleType) where
-  -- the slot lies at its index in the block
+  -- the chunk and the value are those of the slot's index in the block
   abbrev pub IsAt : Standing → Place → Type 0
-  IsAt s c = c.slot ≡ block_ptr (block_of s.at) (c.index * stride R + count_of s.at)
+  IsAt s c = let b : ℕ = block_of s.at in let o : ℕ = count_of s.at in
+      (c.chunk ≡ block_ptr b (word_at R o (c.index / 64))) × (c.value ≡ block_ptr b (value_in R o c.index))
 
   module _ (d : WordView) (t : Turn) (β : Lft) (c : Place) where
     -- what a claim has of a block that stands, where the slot holds v
     abbrev pub has_slot : Option R.Denot → Standing → Fml
-    has_slot v s = fsep (fact (IsAt s c)) (fsep (loaded R d t s β) (holds R t (block_of s.at) s.own c.id (c.index * stride R + count_of s.at) (name_at s.names c.index) v))
+    has_slot v s = fsep (fact (IsAt s c)) (fsep (loaded R d t s β) (holds R t (block_of s.at) s.own c.id (value_in R (count_of s.at) c.index) (name_at s.names c.index) v))
 
     -- what it has, by what it has learnt; no claim knows of its bucket and not of its slot
     abbrev pub has : Learnt R.Denot → Fml
@@ -77,7 +79,8 @@ module _ (R : RattleType) where
   -- what a `&` to a claim shows: a `&` to the value, if it holds one
   abbrev pub shown : Lft → Ptr → Option R.Denot → Lft → Fml
   shown β p None = nothing
-  shown β p (Some x) = beside (said (fact (InBlock p))) (beside (within β (shared_of R x (block_of p) (value_at R (count_of p)))) (some (Judged R) (lasts β (block_of p) (value_at R (count_of p)) x)))
+  shown β p (Some x) = let b : ℕ = block_of p in let e : ℕ = count_of p in
+      beside (said (fact (InBlock p))) (beside (within β (shared_of R x b e)) (some (Judged R) (lasts β b e x)))
 
   abbrev pub claim_shares : Lft → Ptr → Learnt R.Denot → Bool → Bool → Lft → Fml
   claim_shares β p l found published = beside (said (fact (IsKept found published l))) (shown β p (value_held l))

@@ -77,7 +77,3 @@ rows-empty (r ∷ rows) (suc n) e h =
 
 pub contents-empty : {V : Type 0} (c : Contents V) (n : ℕ) → length c.rows ≡ 63 → 63 ≤ n → ((b : ℕ) → b < n → row c b ≡ []) → c ≡ no_contents
 contents-empty c n e high h = let same : c.rows ≡ replicate 63 [] = rows-empty c.rows 63 e (λ k l. h k (omega arith)) in ap (λ (rows : List (List (Option _))). let d : Contents _ = record { rows = rows } in d) same
-
--- a table without buckets, which reserves none
-pub IsOwned-none : (V : Type 0) → IsOwned (record { contents = no_contents {V = V}; reserved = 0 })
-IsOwned-none V = record { table = IsTable-no_contents V; first = record { buckets = 0; in_table = omega arith; all = refl }; standing = λ b low first. absurd (omega arith) }

@@ -5,5 +5,6 @@ pub mod StandingLaws
 pub mod ClearingLaws
 pub mod FillingLaws
 pub mod InsertingLaws
+pub mod FlagLaws
 pub mod NextValue
 pub mod RefilledLaws

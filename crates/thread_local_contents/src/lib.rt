@@ -5,4 +5,4 @@ pub mod cursor;
 pub mod inserting;
 pub mod walking;
 
-pub use cursor::{Places, RawIter, seek};
+pub use cursor::{Places, RawIter, seek, without_first};

@@ -3,7 +3,7 @@
 use std::test::Fail;
 use thread_local_table::ThreadLocal;
 
-// These tables would hold more than 8 GiB together if none were freed.
+// These tables would hold more than 8 GB together if none were freed.
 #[test]
 fn a_thousand_large_tables_are_freed(rt: HostRuntime) -> Result<(), Fail> {
     for _ in 0..1000 {

@@ -1,15 +1,14 @@
 -- A word is cut into what stays as it is, the values and the rest, and made whole of any values in the same slots. Assumes `Logic`.
-use Rattle.thread_local_blocks.proofs.Names.{◌≡◌, ℕ, ◌+◌, ◌*◌, List, [], ◌∷◌, length, map, refl, sym, ap, ◌∙◌, subst, arith, Bool, false, is_some, Option, Some, None, Ura, SProp, ent, sep, id⊢, Fml, ftrue, fsep, froom, Logic, sem, ‵, ◌⊛◌, given, ◌$◌, ◌∵◌, !, qed, by, move, keep, drop, split3, fsplit, fsplit3, fjoin, fjoin3, fpick, fpack, learn, check, use1, use3, rewrite, done, guard, guard_i, fact_use, RattleType, Ptr, null_ptr, block_of, count_of, InBlock, nothing}
+use Rattle.thread_local_chunks.proofs.Names.{◌≡◌, ℕ, suc, ◌+◌, List, [], ◌∷◌, length, refl, sym, ap, ◌∙◌, subst, arith, Bool, false, is_some, Option, Some, None, Ura, SProp, ent, sep, Fml, ftrue, fsep, Logic, sem, ‵, ◌⊛◌, given, ◌$◌, ◌∵◌, !, qed, by, move, drop, split, fsplit, fsplit3, fjoin, fjoin3, fpick, fpack, learn, check, use1, use2, rewrite, done, guard, guard_i, fact_use, RattleType, Ptr, null_ptr, block_of, count_of, InBlock, nothing}
 use contract.Monad.{fact as said}
 use denote.RawPtr.{Testable}
-use mir.Syntax.{ty_array}
-use mir.Raw.{raw as bare_ty}
 use Rattle.std.proofs.lemmas.Bool.{true≢false, false≢true}
 use Rattle.std.proofs.lemmas.List.{length-map}
 use Rattle.std.proofs.GlobalToken.{dealloc_token-Testable}
-use Rattle.thread_local_blocks.specs.Slots.{fact, slot_ty, stride, block_ty, Fits, slot, along, heap_token}
+use Rattle.thread_local_chunks.specs.Slots.{fact, block_ty, chunks, Fits, AreFlags, slot, each, flags, flags_own, back, heap_token}
 use Rattle.thread_local_words.specs.Leads.{word_owns}
 use Rattle.thread_local_loan.specs.Lent.{flagged, valued, bare, Leads}
+use Rattle.thread_local_loan.proofs.Shapes.{has, slot_has}
 
 abbrev pub first_of : List Bool → Bool
 first_of [] = false
@@ -19,15 +18,11 @@ abbrev pub rest_of : List Bool → List Bool
 rest_of [] = []
 rest_of (y ∷ ys) = ys
 
-abbrev pub has : {X : Type 0} → List (Option X) → List Bool
-has = map is_some
-
 module _ (R : RattleType) where
   -- what waits for a word's flags and values to come back
   abbrev pub rested : Ptr → List (Option R.Denot) → Fml
   rested p [] = ftrue
-  rested p (c ∷ cs) = fsep (along R (bare R (block_of p)) (c ∷ cs) (count_of p))
-      (fsep (froom (ty_array (bare_ty (slot_ty R)) 0) (block_of p) (length (c ∷ cs) * stride R + count_of p)) (heap_token (block_ty R (length (c ∷ cs) + 0)) p))
+  rested p (c ∷ cs) = fsep (each (bare R (block_of p) (count_of p)) (c ∷ cs) 0) (fsep (back R (block_of p) (count_of p) (length (c ∷ cs))) (heap_token (block_ty R (length (c ∷ cs))) p))
 
 module _ {M : Type 1} {𝓤 : Ura M} (𝓛 : Logic 𝓤) (R : RattleType) where
   abbrev Pr : Type 2
@@ -47,55 +42,62 @@ module _ {M : Type 1} {𝓤 : Ura M} (𝓛 : Logic 𝓤) (R : RattleType) where
   abbrev C : Type 0
   C = Option R.Denot
 
-  one_apart : (b : ℕ) (c : C) (e : ℕ) → ⟦ slot R b c e ⟧ ⊢ ⟦ flagged R b c e ⟧ ∗ ⟦ valued R b c e ⟧ ∗ ⟦ bare R b c e ⟧
-  one_apart b None e = qed 𝓛 (‵ (slot R b None e) ∷ []) ∵ fsplit3 ! $ move ! (1 ∷ 2 ∷ []) $ fjoin ! $ nothing ! $ move ! (2 ∷ 0 ∷ 1 ∷ []) $ done !
-  one_apart b (Some x) e = id⊢ 𝓤 ⟦ slot R b (Some x) e ⟧
+  long : (cs ws : List C) → has ws ≡ has cs → length cs ≡ length ws
+  long cs ws same = sym (length-map cs is_some) ∙ ap length (sym same) ∙ length-map ws is_some
 
-  one_whole : (b : ℕ) (c w : C) (e : ℕ) → is_some w ≡ is_some c → ⟦ flagged R b c e ⟧ ∗ ⟦ valued R b w e ⟧ ∗ ⟦ bare R b c e ⟧ ⊢ ⟦ slot R b w e ⟧
-  one_whole b None None e same = qed 𝓛 (‵ (flagged R b None e) ∷ ‵ ftrue ∷ ‵ (bare R b None e) ∷ []) ∵ move ! (2 ∷ []) $ fsplit ! $ move ! (2 ∷ 0 ∷ 1 ∷ []) $ fjoin3 ! $ keep ! (0 ∷ []) $ done !
-  one_whole b (Some x) (Some y) e same = id⊢ 𝓤 ⟦ slot R b (Some y) e ⟧
-  one_whole b None (Some y) e same = absurd (true≢false same)
-  one_whole b (Some x) None e same = absurd (false≢true same)
+  module _ (b o : ℕ) where
+    one_apart : (c : C) (j : ℕ) → ⟦ slot R b o c j ⟧ ⊢ ⟦ valued R b o c j ⟧ ∗ ⟦ bare R b o c j ⟧
+    one_apart None j = qed 𝓛 (‵ (slot R b o None j) ∷ []) ∵ nothing ! $ done !
+    one_apart (Some x) j = qed 𝓛 (‵ (slot R b o (Some x) j) ∷ []) ∵ nothing ! $ move ! (1 ∷ 0 ∷ []) $ done !
 
-  apart : (b : ℕ) (cs : List C) (e : ℕ) → ⟦ along R (slot R b) cs e ⟧ ⊢ ⟦ along R (flagged R b) cs e ⟧ ∗ ⟦ along R (valued R b) cs e ⟧ ∗ ⟦ along R (bare R b) cs e ⟧
-  apart b [] e = qed 𝓛 (‵ ftrue ∷ []) ∵ nothing ! $ nothing ! $ done !
-  apart b (c ∷ cs) e = let G = λ (F : ℕ → C → ℕ → Fml). along R (F b) cs (e + stride R) in qed 𝓛 (‵ (along R (slot R b) (c ∷ cs) e) ∷ []) ∵ fsplit ! $
-      use1 𝓛 (‵ (flagged R b c e) ⊛ ‵ (valued R b c e) ⊛ ‵ (bare R b c e)) (one_apart b c e) $ split3 ! $ move ! (3 ∷ []) $
-      use1 𝓛 (‵ (G (flagged R)) ⊛ ‵ (G (valued R)) ⊛ ‵ (G (bare R))) (apart b cs (e + stride R)) $ split3 ! $
-      move ! (3 ∷ 0 ∷ []) $ fjoin ! $ move ! (3 ∷ 1 ∷ []) $ fjoin ! $ move ! (3 ∷ 2 ∷ []) $ fjoin ! $ move ! (2 ∷ 1 ∷ 0 ∷ []) $ done !
+    one_whole : (c w : C) (j : ℕ) → is_some w ≡ is_some c → ⟦ valued R b o w j ⟧ ∗ ⟦ bare R b o c j ⟧ ⊢ ⟦ slot R b o w j ⟧
+    one_whole None None j same = qed 𝓛 (‵ ftrue ∷ ‵ (bare R b o None j) ∷ []) ∵ drop ! $ done !
+    one_whole (Some x) (Some y) j same = qed 𝓛 (‵ (valued R b o (Some y) j) ∷ ‵ ftrue ∷ []) ∵ move ! (1 ∷ []) $ drop ! $ done !
+    one_whole None (Some y) j same = absurd (true≢false same)
+    one_whole (Some x) None j same = absurd (false≢true same)
 
-  whole : (b : ℕ) (cs ws : List C) (e : ℕ) → has ws ≡ has cs → ⟦ along R (flagged R b) cs e ⟧ ∗ ⟦ along R (valued R b) ws e ⟧ ∗ ⟦ along R (bare R b) cs e ⟧ ⊢ ⟦ along R (slot R b) ws e ⟧
-  whole b [] [] e same = qed 𝓛 (‵ ftrue ∷ ‵ ftrue ∷ ‵ ftrue ∷ []) ∵ drop ! $ drop ! $ done !
-  whole b [] (w ∷ ws) e same = absurd (let n = ap length same in omega arith)
-  whole b (c ∷ cs) [] e same = absurd (let n = ap length same in omega arith)
-  whole b (c ∷ cs) (w ∷ ws) e same = let G = λ (F : ℕ → C → ℕ → Fml) (zs : List C). along R (F b) zs (e + stride R) in
-      qed 𝓛 (‵ (along R (flagged R b) (c ∷ cs) e) ∷ ‵ (along R (valued R b) (w ∷ ws) e) ∷ ‵ (along R (bare R b) (c ∷ cs) e) ∷ []) ∵ fsplit ! $ move ! (2 ∷ []) $ fsplit ! $ move ! (4 ∷ []) $ fsplit ! $
-      -- [the first's rest; the rests; the first's value; the values; the first's flag; the flags]
-      move ! (4 ∷ 2 ∷ 0 ∷ []) $ use3 𝓛 (‵ (slot R b w e)) (one_whole b c w e (ap first_of same)) $ move ! (3 ∷ 2 ∷ 1 ∷ []) $
-      use3 𝓛 (‵ (G (slot R) ws)) (whole b cs ws (e + stride R) (ap rest_of same)) $ move ! (1 ∷ 0 ∷ []) $ done !
+    apart : (cs : List C) (j : ℕ) → ⟦ each (slot R b o) cs j ⟧ ⊢ ⟦ each (valued R b o) cs j ⟧ ∗ ⟦ each (bare R b o) cs j ⟧
+    apart [] j = qed 𝓛 (‵ ftrue ∷ []) ∵ nothing ! $ done !
+    apart (c ∷ cs) j = qed 𝓛 (‵ (each (slot R b o) (c ∷ cs) j) ∷ []) ∵ fsplit ! $ use1 𝓛 (‵ (valued R b o c j) ⊛ ‵ (bare R b o c j)) (one_apart c j) $ split ! $ move ! (2 ∷ []) $
+        use1 𝓛 (‵ (each (valued R b o) cs (suc j)) ⊛ ‵ (each (bare R b o) cs (suc j))) (apart cs (suc j)) $ split ! $
+        move ! (2 ∷ 0 ∷ []) $ fjoin ! $ move ! (2 ∷ 1 ∷ []) $ fjoin ! $ move ! (1 ∷ 0 ∷ []) $ done !
+
+    whole : (cs ws : List C) (j : ℕ) → has ws ≡ has cs → ⟦ each (valued R b o) ws j ⟧ ∗ ⟦ each (bare R b o) cs j ⟧ ⊢ ⟦ each (slot R b o) ws j ⟧
+    whole [] [] j same = qed 𝓛 (‵ ftrue ∷ ‵ ftrue ∷ []) ∵ drop ! $ done !
+    whole [] (w ∷ ws) j same = absurd (let n = ap length same in omega arith)
+    whole (c ∷ cs) [] j same = absurd (let n = ap length same in omega arith)
+    whole (c ∷ cs) (w ∷ ws) j same = qed 𝓛 (‵ (each (valued R b o) (w ∷ ws) j) ∷ ‵ (each (bare R b o) (c ∷ cs) j) ∷ []) ∵ fsplit ! $ move ! (2 ∷ []) $ fsplit ! $
+        -- [the first's rest; the rests; the first's value; the values]
+        move ! (2 ∷ 0 ∷ []) $ use2 𝓛 (‵ (slot R b o w j)) (one_whole c w j (ap first_of same)) $ move ! (2 ∷ 1 ∷ []) $
+        use2 𝓛 (‵ (each (slot R b o) ws (suc j))) (whole cs ws (suc j) (ap rest_of same)) $ move ! (1 ∷ 0 ∷ []) $ done !
+
+    -- flags are those of any values in the same slots
+    same_flags : (cs ws : List C) → has ws ≡ has cs → ⟦ flags R b o cs ⟧ ⊢ ⟦ flags R b o ws ⟧
+    same_flags cs ws same = qed 𝓛 (‵ (flags R b o cs) ∷ []) ∵ fpick ! (λ ns. fsplit ! $ fpick ! (λ so. drop ! $
+        nothing ! $ fpack ! ((length ns + 0 ≡ chunks (length ws)) × AreFlags ns ws) (λ _. ftrue)
+        (so.0 ∙ ap chunks (long cs ws same), record { words = so.1.words; flags = λ j. so.1.flags j ∙ sym (slot_has ws cs j same) }) $
+        fjoin ! $ fpack ! (List ℕ) (flags_own R b o ws 0) ns $ done !))
 
   starts : (n : ℕ) (p : Ptr) → ⟦ heap_token (block_ty R n) p ⟧ ⊢ said 𝓤 (Testable p)
   starts n p = qed 𝓛 (‵ (heap_token (block_ty R n) p) ∷ []) ∵ fpick ! (λ a. by ! (dealloc_token-Testable 𝓛 a (block_ty R n) p))
 
-  pub word_apart : (p : Ptr) (cs : List C) → ⟦ word_owns R heap_token p cs ⟧
-      ⊢ guard 𝓤 (Leads R p cs) (⟦ along R (flagged R (block_of p)) cs (count_of p) ⟧ ∗ ⟦ along R (valued R (block_of p)) cs (count_of p) ⟧ ∗ ⟦ rested R p cs ⟧)
+  pub word_apart : (p : Ptr) (cs : List C) → ⟦ word_owns R heap_token p cs ⟧ ⊢ guard 𝓤 (Leads R p cs) (⟦ flagged R p cs ⟧ ∗ ⟦ each (valued R (block_of p) (count_of p)) cs 0 ⟧ ∗ ⟦ rested R p cs ⟧)
   word_apart p [] = qed 𝓛 (‵ (fact (p ≡ null_ptr)) ∷ []) ∵ fpick ! (λ null. check ! null $ nothing ! $ nothing ! $ done !)
-  word_apart p (c ∷ cs) = let b : ℕ = block_of p in let o : ℕ = count_of p in let n : ℕ = length (c ∷ cs) in let τ = block_ty R (n + 0) in
-      qed 𝓛 (‵ (word_owns R heap_token p (c ∷ cs)) ∷ []) ∵ fsplit3 ! $ fpick ! (λ so. drop ! $ move ! (1 ∷ []) $ fsplit ! $ move ! (1 ∷ []) $
-      use1 𝓛 (given (Testable p) (‵ (heap_token τ p))) (fact_use 𝓤 (Testable p) (starts (n + 0) p) (guard_i 𝓤 (Testable p) ⟦ heap_token τ p ⟧)) $ learn ! (λ low.
-      check ! (so.0, low, subst (Fits R) (let e : n + 0 ≡ n = omega arith in e) so.1) $ move ! (2 ∷ []) $
-      use1 𝓛 (‵ (along R (flagged R b) (c ∷ cs) o) ⊛ ‵ (along R (valued R b) (c ∷ cs) o) ⊛ ‵ (along R (bare R b) (c ∷ cs) o)) (apart b (c ∷ cs) o) $ split3 ! $
-      -- [the flags; the values; the rests; the token; the room]
-      move ! (2 ∷ 4 ∷ 3 ∷ []) $ fjoin3 ! $ move ! (1 ∷ 2 ∷ 0 ∷ []) $ done !))
+  word_apart p (c ∷ cs) = let b : ℕ = block_of p in let o : ℕ = count_of p in let n : ℕ = length (c ∷ cs) in let τ = block_ty R n in
+      qed 𝓛 (‵ (word_owns R heap_token p (c ∷ cs)) ∷ []) ∵ fsplit3 ! $ fpick ! (λ so. drop ! $ move ! (1 ∷ []) $ fsplit3 ! $ move ! (2 ∷ []) $
+      use1 𝓛 (given (Testable p) (‵ (heap_token τ p))) (fact_use 𝓤 (Testable p) (starts n p) (guard_i 𝓤 (Testable p) ⟦ heap_token τ p ⟧)) $ learn ! (λ low.
+      check ! (so.0, low, so.1) $ move ! (1 ∷ []) $ use1 𝓛 (‵ (each (valued R b o) (c ∷ cs) 0) ⊛ ‵ (each (bare R b o) (c ∷ cs) 0)) (apart b o (c ∷ cs) 0) $ split ! $
+      -- [the values; the rests; the token; the way back; the flags]
+      move ! (1 ∷ 3 ∷ 2 ∷ []) $ fjoin3 ! $ move ! (2 ∷ 1 ∷ 0 ∷ []) $ done !))
 
-  pub word_whole : (p : Ptr) (cs ws : List C) → has ws ≡ has cs → Leads R p cs → ⟦ along R (flagged R (block_of p)) cs (count_of p) ⟧ ∗ ⟦ along R (valued R (block_of p)) ws (count_of p) ⟧ ∗ ⟦ rested R p cs ⟧ ⊢ ⟦ word_owns R heap_token p ws ⟧
+  pub word_whole : (p : Ptr) (cs ws : List C) → has ws ≡ has cs → Leads R p cs → ⟦ flagged R p cs ⟧ ∗ ⟦ each (valued R (block_of p) (count_of p)) ws 0 ⟧ ∗ ⟦ rested R p cs ⟧ ⊢ ⟦ word_owns R heap_token p ws ⟧
   word_whole p [] [] same null = qed 𝓛 (‵ ftrue ∷ ‵ ftrue ∷ ‵ ftrue ∷ []) ∵ drop ! $ drop ! $ drop ! $ nothing ! $ fpack ! (p ≡ null_ptr) (λ _. ftrue) null $ done !
   word_whole p [] (w ∷ ws) same lead = absurd (let n = ap length same in omega arith)
   word_whole p (c ∷ cs) [] same lead = absurd (let n = ap length same in omega arith)
-  word_whole p (c ∷ cs) (w ∷ ws) same lead = let b : ℕ = block_of p in let o : ℕ = count_of p in let n : ℕ = length (c ∷ cs) in let m : ℕ = length (w ∷ ws) in
-      let long : n ≡ m = sym (length-map (c ∷ cs) is_some) ∙ ap length (sym same) ∙ length-map (w ∷ ws) is_some in
-      qed 𝓛 (‵ (along R (flagged R b) (c ∷ cs) o) ∷ ‵ (along R (valued R b) (w ∷ ws) o) ∷ ‵ (rested R p (c ∷ cs)) ∷ []) ∵ move ! (2 ∷ []) $ fsplit3 ! $
-      -- [the rests; the room; the token; the flags; the values]
-      move ! (3 ∷ 4 ∷ 0 ∷ []) $ use3 𝓛 (‵ (along R (slot R b) (w ∷ ws) o)) (whole b (c ∷ cs) (w ∷ ws) o same) $
-      rewrite ! 1 (λ (k : ℕ). ‵ (froom (ty_array (bare_ty (slot_ty R)) 0) b (k * stride R + o))) long refl $ rewrite ! 2 (λ (k : ℕ). ‵ (heap_token (block_ty R (k + 0)) p)) long refl $
-      move ! (1 ∷ 2 ∷ []) $ fjoin ! $ move ! (1 ∷ 0 ∷ []) $ fjoin ! $ nothing ! $ fpack ! (InBlock p × Fits R (m + 0)) (λ _. ftrue) (lead.0, subst (Fits R) (long ∙ (let e : m ≡ m + 0 = omega arith in e)) lead.2) $ fjoin ! $ done !
+  word_whole p (c ∷ cs) (w ∷ ws) same lead = let b : ℕ = block_of p in let o : ℕ = count_of p in let n : ℕ = length (c ∷ cs) in let m : ℕ = length (w ∷ ws) in let e : n ≡ m = long (c ∷ cs) (w ∷ ws) same in
+      qed 𝓛 (‵ (flagged R p (c ∷ cs)) ∷ ‵ (each (valued R b o) (w ∷ ws) 0) ∷ ‵ (rested R p (c ∷ cs)) ∷ []) ∵ use1 𝓛 (‵ (flags R b o (w ∷ ws))) (same_flags b o (c ∷ cs) (w ∷ ws) same) $ move ! (2 ∷ []) $ fsplit3 ! $
+      -- [the rests; the way back; the token; the flags; the values]
+      rewrite ! 1 (λ (k : ℕ). ‵ (back R b o k)) e refl $ rewrite ! 2 (λ (k : ℕ). ‵ (heap_token (block_ty R k) p)) e refl $
+      move ! (4 ∷ 0 ∷ []) $ use2 𝓛 (‵ (each (slot R b o) (w ∷ ws) 0)) (whole b o (c ∷ cs) (w ∷ ws) 0 same) $
+      -- [the slots; the way back; the token; the flags]
+      fjoin3 ! $ move ! (1 ∷ 0 ∷ []) $ fjoin ! $ nothing ! $ fpack ! (InBlock p × Fits R m) (λ _. ftrue) (lead.0, subst (Fits R) e lead.2) $ fjoin ! $ done !

@@ -1,5 +1,5 @@
 -- A loan may cross threads as its values may.
-use Rattle.thread_local_blocks.proofs.Names.{ℕ, ◌+◌, List, [], ◌∷◌, Option, Some, None, full_share, Fml, RattleType, Ptr, block_of, count_of}
+use Rattle.thread_local_chunks.proofs.Names.{ℕ, suc, ◌+◌, List, [], ◌∷◌, Option, Some, None, full_share, Fml, RattleType, Ptr, block_of, count_of}
 use base.Fml.{Lft, GName}
 use base.Shift.{Keyless}
 use denote.Exit.{Exit, unchanged, leaves, hidden, under}
@@ -8,7 +8,7 @@ use denote.Ref.{NamedLft}
 use denote.Struct.Owning.{shape as fields_shape, fields, to}
 use denote.Struct.Struct.{exits_of}
 use Rattle.thread_local_model.specs.Buckets.{Contents}
-use Rattle.thread_local_blocks.specs.Slots.{stride, along, value_at}
+use Rattle.thread_local_chunks.specs.Slots.{each, flags_at, value_in as place_of}
 use Rattle.thread_local_loan.specs.Lent.{flagged, valued, frames, values_at, loan_owns}
 use Rattle.thread_local_loan.specs.contracts.loan.Loan as loan
 
@@ -16,27 +16,31 @@ quiet : {D X : Type 0} (f : D → X) (e : Exit X) → Quiet e → Quiet (hidden 
 quiet f unchanged q = λ x w. tt
 quiet f (leaves L l S s r₀) q = λ d. q (f d)
 
+each_cross : {X : Type 0} (F : X → ℕ → Fml) → ((x : X) (j : ℕ) → Keyless (F x j)) → (xs : List X) (j : ℕ) → Keyless (each F xs j)
+each_cross F k [] j = tt
+each_cross F k (x ∷ xs) j = (k x j, each_cross F k xs (suc j))
+
 module _ (R : RattleType) where
-  along_cross : (F : Option R.Denot → ℕ → Fml) → ((c : Option R.Denot) (e : ℕ) → Keyless (F c e)) → (cs : List (Option R.Denot)) (e : ℕ) → Keyless (along R F cs e)
-  along_cross F k [] e = tt
-  along_cross F k (c ∷ cs) e = (k c e, along_cross F k cs (e + stride R))
+  flags_cross : (p : Ptr) (cs : List (Option R.Denot)) → Keyless (flagged R p cs)
+  flags_cross p [] = tt
+  flags_cross p (c ∷ cs) = λ ns. ((λ _. tt), (each_cross (flags_at R (block_of p) (count_of p)) (λ _ _. tt) ns 0, tt))
 
   frames_cross : (b e : ℕ) (ps : List Ptr) (rs : List (List (Option R.Denot))) → Keyless (frames R b e ps rs)
   frames_cross b e [] [] = tt
   frames_cross b e [] (r ∷ rs) = tt
   frames_cross b e (p ∷ ps) [] = tt
-  frames_cross b e (p ∷ ps) (r ∷ rs) = ((tt, ((λ _. tt), along_cross (flagged R (block_of p)) (λ _ _. tt) r (count_of p))), frames_cross b (e + 8) ps rs)
+  frames_cross b e (p ∷ ps) (r ∷ rs) = ((tt, ((λ _. tt), flags_cross p r)), frames_cross b (e + 8) ps rs)
 
   module _ (s : IsSend R) where
-    value_crosses : (b : ℕ) (c : Option R.Denot) (e : ℕ) → Keyless (valued R b c e)
-    value_crosses b None e = tt
-    value_crosses b (Some x) e = part_keyless R s full_share x b (value_at R e)
+    value_crosses : (b o : ℕ) (c : Option R.Denot) (j : ℕ) → Keyless (valued R b o c j)
+    value_crosses b o None j = tt
+    value_crosses b o (Some x) j = part_keyless R s full_share x b (place_of R o j)
 
     values_cross : (ps : List Ptr) (rs : List (List (Option R.Denot))) → Keyless (values_at R ps rs)
     values_cross [] [] = tt
     values_cross [] (r ∷ rs) = tt
     values_cross (p ∷ ps) [] = tt
-    values_cross (p ∷ ps) (r ∷ rs) = (along_cross (valued R (block_of p)) (value_crosses (block_of p)) r (count_of p), values_cross ps rs)
+    values_cross (p ∷ ps) (r ∷ rs) = (each_cross (valued R (block_of p) (count_of p)) (value_crosses (block_of p) (count_of p)) r 0, values_cross ps rs)
 
     owned_crosses : (κ : Lft) (p : Ptr) (name : GName) (left : Contents R.Denot) (given : ℕ) → Keyless (loan_owns κ R p name left given)
     owned_crosses κ p name left given = λ z. ((λ _. tt), (frames_cross (block_of p) (count_of p) z.0 z.1.rows, (tt, (λ w. (((λ _. tt), values_cross z.0 w.contents.rows), tt)))))

@@ -1,5 +1,5 @@
 -- The data fields of a loan, and where a word leads. Assumes `Logic`.
-use Rattle.thread_local_blocks.proofs.Names.{◌≡◌, ◌^◌, ◌<◌, T, true, List, [], ◌∷◌, ◌++◌, length, refl, ap, ◌∙◌, sym, subst, lit<, arith, Ura, ty_ptr, ty_struct, tcons, tnil, Val, vstruct, vcons, vnil, of_list, has_ty, WT, ent, emp, Logic, sem, RattleType, Is, Ptr, InBlock, block_ptr, null_ptr, ptr_val, count_of, Option}
+use Rattle.thread_local_chunks.proofs.Names.{◌≡◌, ◌^◌, ◌<◌, T, true, List, [], ◌∷◌, ◌++◌, length, refl, ap, ◌∙◌, sym, subst, lit<, arith, Ura, ty_ptr, ty_struct, tcons, tnil, Val, vstruct, vcons, vnil, of_list, has_ty, WT, ent, emp, Logic, sem, RattleType, Is, Ptr, InBlock, block_ptr, null_ptr, ptr_val, count_of, Option}
 use Rattle.std.specs.Prelude.{nat_lt, not}
 use mir.Val.{vnull, ptr_same, ptr_eq_ok}
 use denote.RawPtr.{tests_null}
@@ -9,7 +9,7 @@ use denote.Struct.Struct.{Struct}
 use denote.Struct.Owning.{shape}
 use Rattle.std.proofs.lemmas.Bool.{lt-ltb, false≢true}
 use Rattle.std.proofs.Common.{IsSome, Some, None}
-use Rattle.thread_local_blocks.specs.Slots.{Fits}
+use Rattle.thread_local_chunks.specs.Slots.{Fits}
 use Rattle.thread_local_loan.specs.Lent.{Leads}
 use Rattle.thread_local_loan.specs.contracts.loan.Loan as loan
 

@@ -1,7 +1,7 @@
 -- One word among the others, and the value of one slot among those of its block and of the others. Assumes `Logic`.
-use Rattle.thread_local_blocks.proofs.Names.{◌≡◌, ℕ, zero, suc, ◌+◌, ◌*◌, ◌<◌, List, [], ◌∷◌, length, set, get_or, refl, sym, arith, Option, Ura, SProp, ent, sep, wand, all, all_e, apply∗, never_e, Fml, Logic, sem, ‵, raw, ◌⊛◌, ◌$◌, ◌∵◌, !, qed, move, split, frame, each, assume, use1, use2, rewrite, done, RattleType, Ptr, null_ptr, block_of, count_of}
-use Rattle.thread_local_blocks.specs.Slots.{stride, along, slot_at}
-use Rattle.thread_local_blocks.proofs.Slots.{along_at, Reset}
+use Rattle.thread_local_chunks.proofs.Names.{◌≡◌, ℕ, zero, suc, ◌+◌, ◌*◌, ◌<◌, List, [], ◌∷◌, length, set, get_or, refl, sym, arith, Option, None, Ura, SProp, ent, sep, wand, all, all_e, apply∗, never_e, Fml, Logic, sem, ‵, raw, ◌⊛◌, ◌$◌, ◌∵◌, !, qed, move, split, frame, each as for_each, assume, use1, use2, rewrite, done, RattleType, Ptr, null_ptr, block_of, count_of}
+use Rattle.thread_local_chunks.specs.Slots.{each, slot_at}
+use Rattle.thread_local_chunks.proofs.Each.{each_at, Put}
 use Rattle.thread_local_loan.specs.Lent.{valued, framed, frames, values_at}
 
 abbrev pub pointer : List Ptr → ℕ → Ptr
@@ -48,31 +48,34 @@ module _ {M : Type 1} {𝓤 : Ura M} (𝓛 : Logic 𝓤) (R : RattleType) where
       assume ! (‵ (framed R b e' (pointer ps k) (in_row rs k))) $ move ! (0 ∷ 1 ∷ []) $ use2 𝓛 (‵ (frames R b (e + 8) ps rs)) (apply∗ 𝓤 ⟦ framed R b e' (pointer ps k) (in_row rs k) ⟧ ⟦ frames R b (e + 8) ps rs ⟧) $ move ! (1 ∷ 0 ∷ []) $ done !
 
   -- ---- the values of a block
-  abbrev pub Block : List Ptr → List Slots → ℕ → Slots → Pr
-  Block ps rs k r = ⟦ along R (valued R (block_of (pointer ps k))) r (count_of (pointer ps k)) ⟧ -∗ ⟦ values_at R ps (set rs k r) ⟧
+  abbrev pub there : List Ptr → ℕ → Option R.Denot → ℕ → Fml
+  there ps k = valued R (block_of (pointer ps k)) (count_of (pointer ps k))
 
-  block_out : (ps : List Ptr) (rs : List Slots) (k : ℕ) → k < length rs → ⟦ values_at R ps rs ⟧ ⊢ ⟦ along R (valued R (block_of (pointer ps k))) (in_row rs k) (count_of (pointer ps k)) ⟧ ∗ all 𝓤 (Block ps rs k)
+  abbrev pub Block : List Ptr → List Slots → ℕ → Slots → Pr
+  Block ps rs k r = ⟦ each (there ps k) r 0 ⟧ -∗ ⟦ values_at R ps (set rs k r) ⟧
+
+  block_out : (ps : List Ptr) (rs : List Slots) (k : ℕ) → k < length rs → ⟦ values_at R ps rs ⟧ ⊢ ⟦ each (there ps k) (in_row rs k) 0 ⟧ ∗ all 𝓤 (Block ps rs k)
   block_out ps [] k near = absurd (omega arith)
   block_out [] (r ∷ rs) k near = never_e 𝓤 _
-  block_out (p ∷ ps) (r ∷ rs) zero near = qed 𝓛 (‵ (along R (valued R (block_of p)) r (count_of p)) ∷ ‵ (values_at R ps rs) ∷ []) ∵ frame ! $
-      each ! (Block (p ∷ ps) (r ∷ rs) 0) (λ q. assume ! (‵ (along R (valued R (block_of p)) q (count_of p))) $ done !)
-  block_out (p ∷ ps) (r ∷ rs) (suc k) near = qed 𝓛 (‵ (along R (valued R (block_of p)) r (count_of p)) ∷ ‵ (values_at R ps rs) ∷ []) ∵ move ! (1 ∷ []) $
-      use1 𝓛 (‵ (along R (valued R (block_of (pointer ps k))) (in_row rs k) (count_of (pointer ps k))) ⊛ raw (all 𝓤 (Block ps rs k))) (block_out ps rs k (omega arith)) $ split ! $ frame ! $
-      each ! (Block (p ∷ ps) (r ∷ rs) (suc k)) (λ q. use1 𝓛 (raw (Block ps rs k q)) (all_e 𝓤 (Block ps rs k) q) $ assume ! (‵ (along R (valued R (block_of (pointer ps k))) q (count_of (pointer ps k)))) $
-      use2 𝓛 (‵ (values_at R ps (set rs k q))) (apply∗ 𝓤 ⟦ along R (valued R (block_of (pointer ps k))) q (count_of (pointer ps k)) ⟧ ⟦ values_at R ps (set rs k q) ⟧) $ move ! (1 ∷ 0 ∷ []) $ done !)
+  block_out (p ∷ ps) (r ∷ rs) zero near = qed 𝓛 (‵ (each (valued R (block_of p) (count_of p)) r 0) ∷ ‵ (values_at R ps rs) ∷ []) ∵ frame ! $
+      for_each ! (Block (p ∷ ps) (r ∷ rs) 0) (λ q. assume ! (‵ (each (valued R (block_of p) (count_of p)) q 0)) $ done !)
+  block_out (p ∷ ps) (r ∷ rs) (suc k) near = qed 𝓛 (‵ (each (valued R (block_of p) (count_of p)) r 0) ∷ ‵ (values_at R ps rs) ∷ []) ∵ move ! (1 ∷ []) $
+      use1 𝓛 (‵ (each (there ps k) (in_row rs k) 0) ⊛ raw (all 𝓤 (Block ps rs k))) (block_out ps rs k (omega arith)) $ split ! $ frame ! $
+      for_each ! (Block (p ∷ ps) (r ∷ rs) (suc k)) (λ q. use1 𝓛 (raw (Block ps rs k q)) (all_e 𝓤 (Block ps rs k) q) $ assume ! (‵ (each (there ps k) q 0)) $
+      use2 𝓛 (‵ (values_at R ps (set rs k q))) (apply∗ 𝓤 ⟦ each (there ps k) q 0 ⟧ ⟦ values_at R ps (set rs k q) ⟧) $ move ! (1 ∷ 0 ∷ []) $ done !)
 
   -- ---- the value of a slot
-  module _ (ps : List Ptr) (rs : List Slots) (k i e : ℕ) (is : e ≡ i * stride R + count_of (pointer ps k)) (near : k < length rs) (inside : i < length (in_row rs k)) where
-    abbrev b : ℕ
-    b = block_of (pointer ps k)
+  module _ (ps : List Ptr) (rs : List Slots) (k i : ℕ) (near : k < length rs) (inside : i < length (in_row rs k)) where
+    abbrev F : Option R.Denot → ℕ → Fml
+    F = there ps k
 
     abbrev pub Value : Option R.Denot → Pr
-    Value c = ⟦ valued R b c e ⟧ -∗ ⟦ values_at R ps (set rs k (set (in_row rs k) i c)) ⟧
+    Value c = ⟦ F c i ⟧ -∗ ⟦ values_at R ps (set rs k (set (in_row rs k) i c)) ⟧
 
-    pub value_out : ⟦ values_at R ps rs ⟧ ⊢ ⟦ valued R b (slot_at (in_row rs k) i) e ⟧ ∗ all 𝓤 Value
-    value_out = let r : Slots = in_row rs k in let o : ℕ = count_of (pointer ps k) in let G = valued R b in qed 𝓛 (‵ (values_at R ps rs) ∷ []) ∵
-        use1 𝓛 (‵ (along R G r o) ⊛ raw (all 𝓤 (Block ps rs k))) (block_out ps rs k near) $ split ! $
-        use1 𝓛 (‵ (G (slot_at r i) e) ⊛ raw (all 𝓤 (Reset 𝓛 R G r i o e))) (along_at 𝓛 R G r i o e is inside) $ split ! $ frame ! $
-        each ! Value (λ c. let r' : Slots = set r i c in use1 𝓛 (raw (Reset 𝓛 R G r i o e c)) (all_e 𝓤 (Reset 𝓛 R G r i o e) c) $ assume ! (‵ (G c e)) $
-        use2 𝓛 (‵ (along R G r' o)) (apply∗ 𝓤 ⟦ G c e ⟧ ⟦ along R G r' o ⟧) $ move ! (1 ∷ []) $ use1 𝓛 (raw (Block ps rs k r')) (all_e 𝓤 (Block ps rs k) r') $ move ! (1 ∷ 0 ∷ []) $
-        use2 𝓛 (‵ (values_at R ps (set rs k r'))) (apply∗ 𝓤 ⟦ along R G r' o ⟧ ⟦ values_at R ps (set rs k r') ⟧) $ done !)
+    pub value_out : ⟦ values_at R ps rs ⟧ ⊢ ⟦ F (slot_at (in_row rs k) i) i ⟧ ∗ all 𝓤 Value
+    value_out = let r : Slots = in_row rs k in let first : i ≡ i + 0 = omega arith in qed 𝓛 (‵ (values_at R ps rs) ∷ []) ∵
+        use1 𝓛 (‵ (each F r 0) ⊛ raw (all 𝓤 (Block ps rs k))) (block_out ps rs k near) $ split ! $
+        use1 𝓛 (‵ (F (slot_at r i) i) ⊛ raw (all 𝓤 (Put 𝓛 F r 0 i i))) (each_at 𝓛 F r 0 i i None first inside) $ split ! $ frame ! $
+        for_each ! Value (λ c. let r' : Slots = set r i c in use1 𝓛 (raw (Put 𝓛 F r 0 i i c)) (all_e 𝓤 (Put 𝓛 F r 0 i i) c) $ assume ! (‵ (F c i)) $
+        use2 𝓛 (‵ (each F r' 0)) (apply∗ 𝓤 ⟦ F c i ⟧ ⟦ each F r' 0 ⟧) $ move ! (1 ∷ []) $ use1 𝓛 (raw (Block ps rs k r')) (all_e 𝓤 (Block ps rs k) r') $ move ! (1 ∷ 0 ∷ []) $
+        use2 𝓛 (‵ (values_at R ps (set rs k r'))) (apply∗ 𝓤 ⟦ each F r' 0 ⟧ ⟦ values_at R ps (set rs k r') ⟧) $ done !)

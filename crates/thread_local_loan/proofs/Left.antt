@@ -1,5 +1,5 @@
 -- What a loan has left once it gave the value of a slot.
-use Rattle.thread_local_blocks.proofs.Names.{◌≡◌, ℕ, zero, suc, ◌+◌, ◌≤◌, List, [], ◌∷◌, length, length-set, set, get_or, refl, sym, ap, ◌∙◌, subst, arith, Option, None}
+use Rattle.thread_local_chunks.proofs.Names.{◌≡◌, ℕ, zero, suc, ◌+◌, ◌≤◌, List, [], ◌∷◌, length, length-set, set, get_or, refl, sym, ap, ◌∙◌, subst, arith, Option, None}
 use Rattle.std.proofs.lemmas.List.{get_or-set_other}
 use Rattle.std.proofs.Common.{inl, inr, true, false}
 use Rattle.std.proofs.lemmas.Bool.{lt-ltb, ltb-true, true≢false}

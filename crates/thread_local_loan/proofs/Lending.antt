@@ -1,5 +1,5 @@
 -- A borrow of a table's words, as a part of what its owner has, is cut into what a loan owns. Assumes `Logic`.
-use Rattle.thread_local_blocks.proofs.Names.{◌≡◌, ℕ, ◌+◌, List, [], ◌∷◌, length, refl, sym, ap, ◌∙◌, subst, arith, Option, Ura, SProp, ent, sep, ex, guard, Lft, Share, GName, Fml, ftrue, fsep, flft, fbor, fobor, fobs, fauth, Logic, sem, ‵, raw, ◌⊛◌, some, later, ◌$◌, ◌∵◌, !, qed, by, move, keep, drop, split, split3, fsplit, fjoin, fpick, fpack, pick, check, show, use1, use2, use3, await, updating, now, rewrite, group, join, done, RattleType, Ptr, block_ptr, InBlock, full_share, mem, part_at, param, nothing, SemTy}
+use Rattle.thread_local_chunks.proofs.Names.{◌≡◌, ℕ, ◌+◌, List, [], ◌∷◌, length, refl, sym, ap, ◌∙◌, subst, arith, Option, Ura, SProp, ent, sep, ex, guard, Lft, Share, GName, Fml, ftrue, fsep, flft, fbor, fobor, fobs, fauth, Logic, sem, ‵, raw, ◌⊛◌, some, later, ◌$◌, ◌∵◌, !, qed, by, move, keep, drop, split, split3, fsplit, fjoin, fpick, fpack, pick, check, show, use1, use2, use3, await, updating, now, rewrite, group, join, done, RattleType, Ptr, block_ptr, InBlock, full_share, mem, part_at, param, nothing, SemTy}
 use types.SemTy.{Body}
 use base.Fml.{fseps}
 use denote.Param.Laws.{Laws}

@@ -1,4 +1,5 @@
 mod Frames
+mod Reading
 mod Shapes
 mod Giving
 pub mod Fields

@@ -1,5 +1,5 @@
 -- A table's words in memory are its 63 words side by side, and 63 words are a table's again. Assumes `Logic`.
-use Rattle.thread_local_blocks.proofs.Names.{◌≡◌, ℕ, ◌+◌, List, [], ◌∷◌, length, full_share, Ura, SProp, ent, sep, ex, Fml, Logic, sem, ‵, raw, ◌⊛◌, some, ◌$◌, ◌∵◌, !, qed, by, move, split, fjoin, pick, show, use1, use2, feq_l, feq_i, join, done, RattleType, Member, lone, part_at, param, param_laws}
+use Rattle.thread_local_chunks.proofs.Names.{◌≡◌, ℕ, ◌+◌, List, [], ◌∷◌, length, full_share, Ura, SProp, ent, sep, ex, Fml, Logic, sem, ‵, raw, ◌⊛◌, some, ◌$◌, ◌∵◌, !, qed, by, move, split, fjoin, pick, show, use1, use2, feq_l, feq_i, join, done, RattleType, Member, lone, part_at, param, param_laws}
 use base.Fml.{feq}
 use denote.Param.Laws.{Laws}
 use denote.Array.{Array, Array-Lawful}

@@ -1,5 +1,5 @@
 -- Which slots have a value, once a value is taken out and once it is put back.
-use Rattle.thread_local_blocks.proofs.Names.{◌≡◌, ℕ, zero, suc, ◌<◌, List, [], ◌∷◌, length, length-set, set, get_or, map, refl, sym, ap, ◌∙◌, subst, Bool, true, false, is_some, Option, Some, None}
+use Rattle.thread_local_chunks.proofs.Names.{◌≡◌, ℕ, zero, suc, ◌<◌, List, [], ◌∷◌, length, length-set, set, get_or, map, refl, sym, ap, ◌∙◌, subst, Bool, true, false, is_some, Option, Some, None}
 use Rattle.std.proofs.lemmas.List.{set-set, set-get_or, get_or-set_same, map-set, length-map}
 use Rattle.thread_local_loan.specs.Lent.{shape}
 
@@ -17,6 +17,13 @@ slot_shape : {X : Type 0} (cs : List (Option X)) (i : ℕ) → is_some (get_or c
 slot_shape [] i = refl
 slot_shape (c ∷ cs) zero = refl
 slot_shape (c ∷ cs) (suc i) = slot_shape cs i
+
+abbrev pub has : {X : Type 0} → List (Option X) → List Bool
+has = map is_some
+
+-- of rows with values in the same slots, a slot of one has a value where that of the other does
+pub slot_has : {X : Type 0} (ws cs : List (Option X)) (i : ℕ) → has ws ≡ has cs → is_some (get_or ws i None) ≡ is_some (get_or cs i None)
+slot_has ws cs i same = slot_shape ws i ∙ ap (λ z. get_or z i false) same ∙ sym (slot_shape cs i)
 
 abbrev Rows : Type 0 → Type 0
 Rows X = List (List (Option X))
@@ -41,7 +48,7 @@ module _ {X : Type 0} where
     row_long = sym (length-map (get_or ws k []) is_some) ∙ ap length (row_shape is_some ws k ∙ ap (λ z. get_or z k []) same ∙ sym (row_shape is_some rs k)) ∙ length-map (get_or rs k []) is_some
 
     pub is_slot : is_some (get_or (get_or ws k []) i None) ≡ is_some (get_or (get_or rs k []) i None)
-    is_slot = slot_shape (get_or ws k []) i ∙ ap (λ z. get_or z i false) (row_shape is_some ws k ∙ ap (λ z. get_or z k []) same ∙ sym (row_shape is_some rs k)) ∙ sym (slot_shape (get_or rs k []) i)
+    is_slot = slot_has (get_or ws k []) (get_or rs k []) i (row_shape is_some ws k ∙ ap (λ z. get_or z k []) same ∙ sym (row_shape is_some rs k))
 
   -- the row k, once its slot i is changed
   pub row-put : (rs : Rows X) (k i : ℕ) (c : Option X) → k < length rs → get_or (put rs k i c) k [] ≡ set (get_or rs k []) i c

@@ -1,5 +1,5 @@
 -- Words side by side are cut into the words with their flags, the values and the rest, and are whole again with any values in the same slots. Assumes `Logic`.
-use Rattle.thread_local_blocks.proofs.Names.{id⊢, ◌≡◌, ℕ, zero, ◌+◌, List, [], ◌∷◌, length, map, refl, sym, ap, arith, full_share, Bool, Option, Ura, SProp, ent, sep, wand, all, all_e, emp, apply∗, Fml, ftrue, fsep, Logic, sem, ‵, raw, ◌⊛◌, given, ◌$◌, ◌∵◌, !, qed, by, move, keep, drop, split, split3, fsplit, fsplit3, fjoin, fjoin3, fpick, fpack, learn, frame, each, assume, use1, use2, use3, rewrite, feq_l, feq_i, done, RattleType, Ptr, ptr_val, ty_ptr, Val, Member, mem, part_at, cell_at, cell, nothing, block_of, count_of, join}
+use Rattle.thread_local_chunks.proofs.Names.{id⊢, ◌≡◌, ℕ, zero, ◌+◌, List, [], ◌∷◌, length, map, refl, sym, ap, arith, full_share, Bool, Option, Ura, SProp, ent, sep, wand, all, all_e, emp, apply∗, Fml, ftrue, fsep, Logic, sem, ‵, raw, ◌⊛◌, given, ◌$◌, ◌∵◌, !, qed, by, move, keep, drop, split, split3, fsplit, fsplit3, fjoin, fjoin3, fpick, fpack, learn, frame, each as for_each, assume, use1, use2, use3, rewrite, feq_l, feq_i, done, RattleType, Ptr, ptr_val, ty_ptr, Val, Member, mem, part_at, cell_at, cell, nothing, block_of, count_of, join}
 use types.Share.{parts}
 use denote.RawPtr.{RawPtr, rawptr_Lawful}
 use denote.Memory.{part_of, shares}
@@ -7,7 +7,7 @@ use denote.RattleType.{Denots}
 use denote.Struct.Members.{rows_of, parts_at}
 use denote.Struct.Parts.{PartsBack, Struct-parts}
 use denote.Struct.OwningLaws.{part_out, part_in}
-use Rattle.thread_local_blocks.specs.Slots.{along, heap_token}
+use Rattle.thread_local_chunks.specs.Slots.{each, heap_token}
 use Rattle.thread_local_words.specs.Leads.{word_owns}
 use Rattle.thread_local_words.specs.declared.word.Word.{Word}
 use Rattle.thread_local_words.specs.contracts.word.Word as word
@@ -89,7 +89,7 @@ module _ {M : Type 1} {𝓤 : Ura M} (𝓛 : Logic 𝓤) (R : RattleType) (b : �
       qed 𝓛 (‵ (part_at W full_share w b e) ∷ []) ∵ use1 𝓛 (‵ (part_at D full_share (w.at, tt) b e) ⊛ ‵ (word_owns R heap_token w.at w.slots)) (part_out 𝓛 (word.the_type R) full_share w b e) $ split ! $
       use1 𝓛 ((‵ (At (e + 0) w.at) ⊛ ‵ ftrue) ⊛ raw Back) (Struct-parts 𝓛 full_share [] ks (rawptr_Lawful 𝓛, tt) (w.at, tt) b e) $ split ! $ split ! $
       rewrite ! 0 (λ (i : ℕ). ‵ (At i w.at)) same refl $ use1 𝓛 (‵ (cell b e w.at)) (pointer_out e w.at) $ move ! (0 ∷ 3 ∷ []) $ frame ! $ frame ! $
-      each ! (Again e) (λ v. assume ! (‵ (fsep (cell b e v.at) (word_owns R heap_token v.at v.slots))) $ fsplit ! $ use1 𝓛 (‵ (At e v.at)) (pointer_in e v.at) $ rewrite ! 0 (λ (i : ℕ). ‵ (At i v.at)) (sym same) refl $
+      for_each ! (Again e) (λ v. assume ! (‵ (fsep (cell b e v.at) (word_owns R heap_token v.at v.slots))) $ fsplit ! $ use1 𝓛 (‵ (At e v.at)) (pointer_in e v.at) $ rewrite ! 0 (λ (i : ℕ). ‵ (At i v.at)) (sym same) refl $
       let Parts : Fml = parts_at full_share ks zero (v.at, tt) b e in let Whole : Fml = part_at D full_share (v.at, tt) b e in move ! (0 ∷ 2 ∷ []) $ fjoin ! $ move ! (2 ∷ []) $
       use1 𝓛 (raw (⟦ Parts ⟧ -∗ ⟦ Whole ⟧)) (all_e 𝓤 (λ (a : Denots (rows_of ks)). ⟦ parts_at full_share ks zero a b e ⟧ -∗ ⟦ part_at D full_share a b e ⟧) (v.at, tt)) $ move ! (1 ∷ 0 ∷ []) $
       use2 𝓛 (‵ Whole) (apply∗ 𝓤 ⟦ Parts ⟧ ⟦ Whole ⟧) $ by ! (part_in 𝓛 (word.the_type R) full_share v b e))
@@ -105,7 +105,7 @@ module _ {M : Type 1} {𝓤 : Ura M} (𝓛 : Logic 𝓤) (R : RattleType) (b : �
 
   pub cut_words : (ws : List (Word R.Denot)) (e : ℕ) → ⟦ side ws e ⟧ ⊢ ⟦ frames R b e (pointers ws) (rows ws) ⟧ ∗ ⟦ values_at R (pointers ws) (rows ws) ⟧ ∗ Waits ws e
   cut_words [] e = qed 𝓛 (‵ ftrue ∷ []) ∵ nothing ! $ nothing ! $ done !
-  cut_words (w ∷ ws) e = let p : Ptr = w.at in let cs : Slots = w.slots in let Flags : Fml = along R (flagged R (block_of p)) cs (count_of p) in let Vals : Fml = along R (valued R (block_of p)) cs (count_of p) in
+  cut_words (w ∷ ws) e = let p : Ptr = w.at in let cs : Slots = w.slots in let Flags : Fml = flagged R p cs in let Vals : Fml = each (valued R (block_of p) (count_of p)) cs 0 in
       qed 𝓛 (‵ (side (w ∷ ws) e) ∷ []) ∵ fsplit ! $ use1 𝓛 (‵ (cell b e p) ⊛ ‵ (word_owns R heap_token p cs) ⊛ raw (all 𝓤 (Again e))) (word_out e w) $ split3 ! $ move ! (1 ∷ []) $
       use1 𝓛 (given (Leads R p cs) (‵ Flags ⊛ ‵ Vals ⊛ ‵ (rested R p cs))) (word_apart 𝓛 R p cs) $ learn ! (λ lead. split3 ! $
       -- [the flags; the values; what rests; the pointer; how it comes back; the others]
@@ -118,7 +118,7 @@ module _ {M : Type 1} {𝓤 : Ura M} (𝓛 : Logic 𝓤) (R : RattleType) (b : �
   join_words [] [] e same = qed 𝓛 (‵ ftrue ∷ ‵ ftrue ∷ raw (emp 𝓤) ∷ []) ∵ keep ! (0 ∷ []) $ done !
   join_words [] (v ∷ vs) e same = absurd (let n = ap length same in omega arith)
   join_words (w ∷ ws) [] e same = absurd (let n = ap length same in omega arith)
-  join_words (w ∷ ws) (v ∷ vs) e same = let p : Ptr = w.at in let cs : Slots = w.slots in let Flags : Fml = along R (flagged R (block_of p)) cs (count_of p) in let Vals : Fml = along R (valued R (block_of p)) v (count_of p) in
+  join_words (w ∷ ws) (v ∷ vs) e same = let p : Ptr = w.at in let cs : Slots = w.slots in let Flags : Fml = flagged R p cs in let Vals : Fml = each (valued R (block_of p) (count_of p)) v 0 in
       let u : Word R.Denot = record { at = p; slots = v } in let Parts : Fml = fsep (cell b e p) (word_owns R heap_token p v) in
       qed 𝓛 (‵ (frames R b e (pointers (w ∷ ws)) (rows (w ∷ ws))) ∷ ‵ (values_at R (pointers (w ∷ ws)) (v ∷ vs)) ∷ raw (Waits (w ∷ ws) e) ∷ []) ∵ fsplit ! $ fsplit3 ! $ move ! (1 ∷ []) $ fpick ! (λ lead. drop ! $
       move ! (3 ∷ []) $ fsplit ! $ move ! (5 ∷ []) $ use1 𝓛 ((‵ (rested R p cs) ⊛ raw (all 𝓤 (Again e))) ⊛ raw (Waits ws (e + 8))) (id⊢ 𝓤 _) $ split ! $ split ! $

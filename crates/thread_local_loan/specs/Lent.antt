@@ -8,14 +8,13 @@ use types.SemTy.{SemTy, Body}
 use denote.RattleType.{RattleType}
 use denote.Memory.{lone, part_at}
 use denote.RawPtr.{Ptr, null_ptr, block_of, count_of, InBlock}
-use Rattle.std.specs.Sync.RawAtomic.{word}
 use Rattle.std.specs.Sync.RawAtomic.Pointer.{cell}
 use Rattle.thread_local_model.specs.Place.{id_at}
 use Rattle.thread_local_model.specs.Buckets.{Contents, row, IsTable}
 use Rattle.thread_local_model.specs.Rows.{value_in}
 use Rattle.thread_local_model.specs.Owned.{Owned}
 use Rattle.thread_local_model.specs.Code.{owned_coded}
-use Rattle.thread_local_blocks.specs.Slots.{fact, flag_of, along, value_at, rim, Fits}
+use Rattle.thread_local_chunks.specs.Slots.{fact, each, flags, value_in as place_of, Fits}
 
 -- which slots have a value
 abbrev pub shape : {X : Type 0} → List (List (Option X)) → List (List Bool)
@@ -33,28 +32,29 @@ abbrev pub lent_as : {X : Type 0} → Contents X → Owned X
 lent_as contents = record { contents = contents; reserved = 0 }
 
 module _ (R : RattleType) where
-  -- of a slot: its flag
-  abbrev pub flagged : ℕ → Option R.Denot → ℕ → Fml
-  flagged b c e = word b (e + 0) (flag_of c)
+  -- what there is of a slot's value
+  abbrev pub valued : ℕ → ℕ → Option R.Denot → ℕ → Fml
+  valued b o None j = ftrue
+  valued b o (Some x) j = part_at R full_share x b (place_of R o j)
 
-  -- its value
-  abbrev pub valued : ℕ → Option R.Denot → ℕ → Fml
-  valued b None e = ftrue
-  valued b (Some x) e = part_at R full_share x b (value_at R e)
-
-  -- and the rest
-  abbrev pub bare : ℕ → Option R.Denot → ℕ → Fml
-  bare b None e = fsep (froom (raw (lone R.mir)) b (value_at R e)) (rim R b e)
-  bare b (Some x) e = rim R b e
+  -- and the rest: the room of a slot that has none
+  abbrev pub bare : ℕ → ℕ → Option R.Denot → ℕ → Fml
+  bare b o None j = froom (raw (lone R.mir)) b (place_of R o j)
+  bare b o (Some x) j = ftrue
 
   -- where a word leads
   abbrev pub Leads : Ptr → List (Option R.Denot) → Type 0
   Leads p [] = p ≡ null_ptr
   Leads p (c ∷ cs) = InBlock p × (count_of p < 2 ^ 63) × Fits R (length (c ∷ cs))
 
-  -- a word and the flags of its block
+  -- the flags of its block
+  abbrev pub flagged : Ptr → List (Option R.Denot) → Fml
+  flagged p [] = ftrue
+  flagged p (c ∷ cs) = flags R (block_of p) (count_of p) (c ∷ cs)
+
+  -- a word and these
   abbrev pub framed : ℕ → ℕ → Ptr → List (Option R.Denot) → Fml
-  framed b e p cs = fsep (cell b e p) (fsep (fact (Leads p cs)) (along R (flagged (block_of p)) cs (count_of p)))
+  framed b e p cs = fsep (cell b e p) (fsep (fact (Leads p cs)) (flagged p cs))
 
   -- the words side by side
   abbrev pub frames : ℕ → ℕ → List Ptr → List (List (Option R.Denot)) → Fml
@@ -68,7 +68,7 @@ module _ (R : RattleType) where
   values_at [] [] = ftrue
   values_at [] (r ∷ rs) = ffalse
   values_at (p ∷ ps) [] = ffalse
-  values_at (p ∷ ps) (r ∷ rs) = fsep (along R (valued (block_of p)) r (count_of p)) (values_at ps rs)
+  values_at (p ∷ ps) (r ∷ rs) = fsep (each (valued (block_of p) (count_of p)) r 0) (values_at ps rs)
 
   -- the values of contents that have a value in just these slots
   abbrev pub Values : List Ptr → List (List Bool) → SemTy

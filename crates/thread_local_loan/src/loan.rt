@@ -1,25 +1,26 @@
 //! The values of a table's words, lent one by one.
-ghost use Rattle.std.specs.Prelude.{true, false, [], ◌^◌, ◌≡◌, ◌≤◌, ◌<◌, ◌+◌, ℕ, length, None, Some, is_some, IsSome};
+ghost use Rattle.std.specs.Prelude.{true, false, [], ◌^◌, ◌≡◌, ◌≤◌, ◌<◌, ◌+◌, ◌*◌, ℕ, length, None, Some, is_some, IsSome};
 ghost use base.Fml.{GName, ftrue};
 ghost use Rattle.thread_local_model.specs.Place.{id_at};
 ghost use Rattle.thread_local_model.specs.Buckets.{Contents, row, stands, IsTable};
 ghost use Rattle.thread_local_model.specs.Rows.{value_in, with_slot};
 ghost use Rattle.thread_local_model.specs.Code.{contents_coded};
 ghost use types.Logic.{sem};
+ghost use Rattle.thread_local_bits.specs.Bits.{is_set};
 ghost use Rattle.thread_local_loan.specs.Lent.{loan_owns};
 ghost use Rattle.thread_local_loan.specs.Given.{ends_with_item};
 
 use std::marker::{Model, PhantomData};
-use thread_local_blocks::Slot;
+use thread_local_chunks::Chunk;
 use thread_local_contents::Places;
 
 /// The words of an owner's buckets, lent to a walk that writes. It gives the values by ascending place, each at most once.
 ///
-/// A contract sees what it still has. The flag of a slot whose value it gave stays set, so it answers only for the slots from `given` on.
+/// A contract sees what it still has. The flag of a slot whose value it gave stays set, so it answers only for chunks that lie from `given` on.
 #[derive(Drop)]
 pub struct Loan<'a, T> {
     /// Where the words lie.
-    pub words: *const *mut Slot<T>,
+    pub words: *const *mut Chunk<T>,
     pub marker: PhantomData<&'a mut T>,
     /// What the owner's buckets follow.
     pub ghost name: { GName },
@@ -50,20 +51,20 @@ impl<'a, T> Loan<'a, T> {
         !block.is_null()
     }
 
-    /// Whether a slot from `given` on has a value. It takes no memory.
+    /// The flags of the slots of a chunk, of which the walk has given none yet. It takes no memory.
     #[inline]
-    pub fn is_published(&mut self, bucket: usize, index: usize) -> bool
+    pub fn flags(&mut self, bucket: usize, chunk: usize) -> u64
         requires in_table { bucket < 63 }
-        requires in_bucket { index < length (row self.old.contents bucket) }
-        requires ahead { self.old.given ≤ id_at bucket index }
+        requires in_bucket { chunk * 64 < length (row self.old.contents bucket) }
+        requires ahead { self.old.given ≤ id_at bucket (chunk * 64) }
         ensures same { self.new ≡ self.old }
-        ensures value { result ≡ is_some (value_in self.old.contents bucket index) }
+        ensures value { (bit : ℕ) → bit < 64 → is_set result bit ≡ is_some (value_in self.old.contents bucket (chunk * 64 + bit)) }
         ensures table { IsTable self.old.contents }
     {
         unsafe {
             let block = *self.words.add(bucket);
-            let slot = block.add(index);
-            (*slot).flag != 0
+            let at = block.add(chunk);
+            (*at).flags
         }
     }
 
@@ -81,8 +82,9 @@ impl<'a, T> Loan<'a, T> {
     {
         unsafe {
             let block = *self.words.add(bucket);
-            let item = block.add(index);
-            &mut (*item).value
+            let chunk = block.add(index / 64);
+            let item = (&raw mut (*chunk).values as *mut T).add(index % 64);
+            &mut *item
         }
     }
 }
@@ -100,8 +102,8 @@ impl<T> Places for Loan<'_, T> {
     }
 
     #[inline]
-    fn is_published(&mut self, bucket: usize, index: usize) -> bool {
-        self.is_published(bucket, index)
+    fn flags(&mut self, bucket: usize, chunk: usize) -> u64 {
+        self.flags(bucket, chunk)
     }
 }
 

@@ -1,13 +1,18 @@
-//! Blocks of slots: how large a slot is, and which blocks are refused.
-ghost use Rattle.std.specs.Prelude.{◌<◌};
+//! Blocks of slots: how much memory they take, and which are refused.
+ghost use Rattle.thread_local_chunks.specs.Slots.{IsBlockLength};
 
-use std::alloc::Global;
+use std::alloc::{AllocError, Global};
 use std::mem::size_of;
-use thread_local_blocks::{Block, Slot};
+use std::test::Fail;
+use thread_local_blocks::Block;
+use thread_local_buckets::Buckets;
+use thread_local_chunks::Chunk;
+use thread_local_test_helpers::memory::take_all_but;
+use thread_local_test_helpers::refusing::Refusing;
 
 /// Whether there is no block of so many slots.
 fn is_refused(alloc: Global, len: usize) -> bool
-    requires { 0 < len }
+    requires { IsBlockLength len }
 {
     match Block::<u64, Global>::new(&alloc, len) {
         Ok(block) => {
@@ -18,10 +23,43 @@ fn is_refused(alloc: Global, len: usize) -> bool
     }
 }
 
+/// For how many bytes a block of so many numbers asks.
+fn bytes_asked(len: usize) -> usize
+    requires { IsBlockLength len }
+{
+    let alloc = Refusing::new();
+    if let Ok(block) = Block::<u64, Refusing>::new(&alloc, len) {
+        block.release(&alloc, len);
+    }
+    alloc.bytes()
+}
+
 #[test]
-fn a_slot_is_a_flag_and_a_value(rt: HostRuntime) {
-    let sizes = (size_of::<Slot<()>>(), size_of::<Slot<u64>>());
-    assert_eq!(rt; sizes, (8, 16));
+fn a_chunk_is_a_word_and_64_values(rt: HostRuntime) {
+    let sizes = (
+        size_of::<Chunk<()>>(),
+        size_of::<Chunk<u8>>(),
+        size_of::<Chunk<u64>>(),
+    );
+    assert_eq!(rt; sizes, (8, 72, 520));
+}
+
+// A block of fewer slots than 64 takes no room behind its last.
+#[test]
+fn a_slot_takes_a_bit_and_a_value(rt: HostRuntime) {
+    let small = [
+        bytes_asked(1),
+        bytes_asked(2),
+        bytes_asked(4),
+        bytes_asked(8),
+        bytes_asked(16),
+        bytes_asked(32),
+    ];
+    let large = [bytes_asked(64), bytes_asked(128), bytes_asked(1 << 20)];
+    assert_eq!(rt;
+        (small, large),
+        ([16, 24, 40, 72, 136, 264], [520, 1040, 8_519_680])
+    );
 }
 
 #[test]
@@ -34,4 +72,27 @@ fn a_block_that_is_too_large_is_refused(rt: HostRuntime) {
         (refused, is_refused(rt.alloc(), 1 << 10)),
         ((true, true), false)
     );
+}
+
+/// Tables with so many reserved slots, as many as given.
+fn tables(alloc: Global, count: u32, slots: usize) -> Result<Vec<Buckets<u64>>, AllocError> {
+    let mut tables = Vec::with_capacity(alloc, count as usize)?;
+    for _ in 0..count {
+        let Ok(table) = Buckets::with_capacity(alloc, slots) else {
+            return Err(AllocError);
+        };
+        tables.push(table)?;
+    }
+    Ok(tables)
+}
+
+// Where the 1048575 slots of a table took 16 bytes each, 64 tables would fit into 1 GiB.
+#[test]
+fn a_hundred_and_twenty_large_tables_fit_into_a_gib(rt: HostRuntime) -> Result<(), Fail> {
+    let alloc = rt.alloc();
+    let taken = take_all_but(alloc, 1 << 30)?;
+    let made = tables(alloc, 120, 1_048_575).is_ok();
+    drop(taken);
+    assert!(rt; made);
+    Ok(())
 }

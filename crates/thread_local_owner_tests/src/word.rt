@@ -31,6 +31,26 @@ fn seen_at_a_cell(alloc: Global) -> Result<(bool, bool, u64), AllocError> {
     Ok(seen)
 }
 
+/// The flags of a block of two chunks in which three slots have values: of each chunk, and of the first once its last value is taken.
+fn flags_of_two_chunks(alloc: Global) -> Result<[u64; 3], AllocError> {
+    let mut word = Word::null();
+    word.lay(Block::new(&alloc, 128)?);
+    word.publish(0, 1u64);
+    word.publish(63, 2);
+    word.publish(65, 3);
+    let both = [word.flags(0), word.flags(1)];
+    word.take(63);
+    let seen = [both[0], both[1], word.flags(0)];
+    word.release(128, &alloc);
+    Ok(seen)
+}
+
+#[test]
+fn a_slot_has_its_bit_in_the_word_of_its_chunk(rt: HostRuntime) -> Result<(), Fail> {
+    assert_eq!(rt; flags_of_two_chunks(rt.alloc())?, [(1 << 63) + 1, 2, 1]);
+    Ok(())
+}
+
 #[test]
 fn a_value_comes_back_at_any_type(rt: HostRuntime) -> Result<(), Fail> {
     let alloc = rt.alloc();

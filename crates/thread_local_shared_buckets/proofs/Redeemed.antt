@@ -1,14 +1,15 @@
 -- A word at rest is a plain word, once what was due since a sharing has ended is taken back; and a plain word is at rest. Assumes `Logic`.
-use Rattle.std.proofs.Common.{◌≡◌, ℕ, zero, suc, ◌+◌, ◌*◌, ◌^◌, ◌<◌, Bool, false, List, [], ◌∷◌, length, refl, ap, subst, arith, pow_pos, Option}
+use Rattle.std.proofs.Common.{◌≡◌, ◌∙◌, ℕ, zero, suc, ◌+◌, ◌^◌, ◌<◌, ◌≤◌, nat_lt, Bool, true, false, is_some, List, [], ◌∷◌, length, refl, sym, ap, subst, arith, pow_pos, Option, None}
+use Rattle.std.proofs.lemmas.Bool.{ltb-true, ltb-false}
+use Rattle.std.proofs.lemmas.List.{get_or_past}
 use mathlib.Core.Logic.{inl, inr}
 use seplogic.Ra.Ura.{Ura}
-use mir.Syntax.{Ty, ty_array}
-use mir.Raw.{raw as bare}
-use base.Fml.{Fml, ftrue, froom}
+use mir.Syntax.{Ty}
+use base.Fml.{Fml, ftrue, fsep, fex}
 use base.Logic.{SProp, ent, sep, ex, guard, id⊢, guard_i}
 use contract.Monad.{fact_use}
 use types.Logic.{Logic, sem}
-use types.Kit.{‵, some, given, later, ◌$◌, ◌∵◌, !, qed, by, move, keep, drop, use0, use1, fsplit, fsplit3, fjoin, fjoin3, fpick, fpack, pick, learn, check, show, await, updating, now, rewrite, done}
+use types.Kit.{‵, some, given, later, ◌$◌, ◌∵◌, !, qed, by, move, keep, drop, use1, fsplit, fsplit3, fjoin, fjoin3, fpick, fpack, pick, learn, check, show, await, updating, now, rewrite, done}
 use denote.RattleType.{RattleType}
 use denote.RawPtr.{Ptr, block_ptr, null_ptr, InBlock, Testable}
 use denote.Steps.{nothing}
@@ -16,11 +17,44 @@ use denote.Param.Laws.{Laws}
 use Rattle.std.specs.declared.alloc.Global.{Global}
 use Rattle.std.specs.contracts.impls.GlobalAllocator.TheImpl.{ghosts}
 use Rattle.std.proofs.GlobalToken.{dealloc_token-Testable}
-use Rattle.thread_local_blocks.specs.Slots.{heap_token, stride, block_ty, slot_ty, Fits, value_at, place, slot, along}
+use Rattle.thread_local_bits.specs.Bits.{is_set_in}
+use Rattle.thread_local_chunks.specs.Slots.{heap_token, chunks, each, AreFlags, slot_at, block_ty, Fits, value_in, place, slot, flags_own, back}
 use Rattle.thread_local_words.specs.Leads.{word_owns}
-use Rattle.thread_local_shared_word_logic.specs.Shared.{WordView, slot_rests_as, slot_rests, slots_rest, Sized, len, at_rest}
+use Rattle.thread_local_shared_word_logic.specs.Shared.{WordView, AreFlagWords, slots_under, slot_rests_as, slot_rests, slots_rest, Sized, len, at_rest}
 use Rattle.thread_local_shared_word_logic.proofs.Rested.{redeems}
 use Rattle.thread_local_shared_buckets.specs.Fit.{Fit}
+
+-- the bits of these words from one on say which of the slots hold a value
+abbrev Told : {V : Type 0} → List ℕ → ℕ → List (Option V) → Type 0
+Told ns i cs = (j : ℕ) → j < length cs → is_set_in ns (j + i) ≡ is_some (slot_at cs j)
+
+module _ {V : Type 0} (ns : List ℕ) where
+  told_more : (i : ℕ) (v : Option V) (cs : List (Option V)) → is_set_in ns i ≡ is_some v → Told ns (suc i) cs → Told ns i (v ∷ cs)
+  told_more i v cs is told zero near = let same : i ≡ 0 + i = omega arith in subst (λ (m : ℕ). is_set_in ns m ≡ is_some v) same is
+  told_more i v cs is told (suc j) near = let same : j + suc i ≡ suc j + i = omega arith in subst (λ (m : ℕ). is_set_in ns m ≡ is_some (slot_at cs j)) same (told j (omega arith))
+
+  told_first : (i : ℕ) (v : Option V) (cs : List (Option V)) → Told ns i (v ∷ cs) → is_set_in ns i ≡ is_some v
+  told_first i v cs told = let same : 0 + i ≡ i = omega arith in subst (λ (m : ℕ). is_set_in ns m ≡ is_some v) same (told 0 (omega arith))
+
+  told_rest : (i : ℕ) (v : Option V) (cs : List (Option V)) → Told ns i (v ∷ cs) → Told ns (suc i) cs
+  told_rest i v cs told j near = let same : suc j + i ≡ j + suc i = omega arith in subst (λ (m : ℕ). is_set_in ns m ≡ is_some (slot_at cs j)) same (told (suc j) (omega arith))
+
+  told_flags : (cs : List (Option V)) → AreFlags ns cs → Told ns 0 cs
+  told_flags cs are j near = let same : j ≡ j + 0 = omega arith in subst (λ (m : ℕ). is_set_in ns m ≡ is_some (slot_at cs j)) same (are.flags j)
+
+  flag_if : (n : ℕ) (cs : List (Option V)) → length cs ≡ n → ((i : ℕ) → n ≤ i → is_set_in ns i ≡ false) → Told ns 0 cs → (j : ℕ) (t : Bool) → nat_lt j n ≡ t → is_set_in ns j ≡ is_some (slot_at cs j)
+  flag_if n cs long past told j true e = let near : j < n = ltb-true j n e in let same : j + 0 ≡ j = omega arith in
+      subst (λ (m : ℕ). is_set_in ns m ≡ is_some (slot_at cs j)) same (told j (omega arith))
+  flag_if n cs long past told j false e = let far : n ≤ j = ltb-false j n e in past j far ∙ sym (ap is_some (get_or_past cs j None (omega arith)))
+
+module _ (R : RattleType) (n : ℕ) (ns : List ℕ) (cs : List (Option R.Denot)) (long : length cs ≡ n) where
+  -- words whose bits say which slots hold a value are their flags
+  are_flags : AreFlagWords R n ns → Told ns 0 cs → (length ns + 0 ≡ chunks (length cs)) × AreFlags ns cs
+  are_flags are told = (omega arith ∙ are.0 ∙ ap chunks (sym long), record { words = are.1; flags = λ j. flag_if ns n cs long are.2 told j (nat_lt j n) refl })
+
+  -- and so are their flags
+  are_words : (length ns + 0 ≡ chunks (length cs)) × AreFlags ns cs → AreFlagWords R n ns
+  are_words are = (omega arith ∙ are.0 ∙ ap chunks long, are.1.words, λ j far. are.1.flags j ∙ ap is_some (get_or_past cs j None (omega arith)))
 
 module _ {M : Type 1} {𝓤 : Ura M} (𝓛 : Logic 𝓤) (R : RattleType) (L : Laws R) where
   open 𝓛 use {H, A}
@@ -43,29 +77,33 @@ module _ {M : Type 1} {𝓤 : Ura M} (𝓛 : Logic 𝓤) (R : RattleType) (L : L
   C = Option R.Denot
 
   -- ---- the slots of a block
-  redeems_slot : (b e : ℕ) → ⟦ slot_rests R b e ⟧ ⊢ H.⇛ (ex 𝓤 (λ (v : C). ⟦ slot R b v e ⟧))
-  redeems_slot b e = qed 𝓛 (‵ (slot_rests R b e) ∷ []) ∵ updating ! $ fsplit ! $ move ! (1 ∷ []) $ fpick ! (λ s. fsplit ! $ move ! (1 ∷ []) $
-      use1 𝓛 (later (‵ (place R s.0 b (value_at R e)))) (redeems 𝓛 R L b e s.1 s.0) $ await ! tt $
-      -- [what lies there; the flag; the rim]
-      now ! $ show ! (λ (v : C). ⟦ slot R b v e ⟧) s.0 $ move ! (1 ∷ 0 ∷ []) $ fjoin3 ! $ done !)
+  module _ (b : ℕ) where
+    abbrev OneRedeemed : Bool → ℕ → C → Pr
+    OneRedeemed set e v = guard 𝓤 (set ≡ is_some v) ⟦ place R v b e ⟧
 
-  abbrev pub Redeemed : ℕ → ℕ → ℕ → List C → Pr
-  Redeemed n b e cs = guard 𝓤 (length cs ≡ n) ⟦ along R (slot R b) cs e ⟧
+    redeems_slot : (set : Bool) (e : ℕ) → ⟦ slot_rests R set b e ⟧ ⊢ H.⇛ (ex 𝓤 (OneRedeemed set e))
+    redeems_slot set e = qed 𝓛 (‵ (slot_rests R set b e) ∷ []) ∵ updating ! $ fpick ! (λ s. fsplit ! $ fpick ! (λ is. drop ! $ use1 𝓛 (later (‵ (place R s.0 b e))) (redeems 𝓛 R L b e s.1 s.0) $ await ! tt $
+        now ! $ show ! (OneRedeemed set e) s.0 $ check ! is $ done !))
 
-  redeems_slots : (n b e : ℕ) → ⟦ slots_rest R n b e ⟧ ⊢ H.⇛ (ex 𝓤 (Redeemed n b e))
-  redeems_slots zero b e = qed 𝓛 (‵ ftrue ∷ []) ∵ updating ! $ now ! $ show ! (Redeemed 0 b e) [] $ check ! refl $ done !
-  redeems_slots (suc n) b e = qed 𝓛 (‵ (slots_rest R (suc n) b e) ∷ []) ∵ updating ! $ fsplit ! $
-      use1 𝓛 (later (some (λ (v : C). ‵ (slot R b v e)))) (redeems_slot b e) $ await ! tt $ pick ! (λ v. move ! (1 ∷ []) $
-      use1 𝓛 (later (some (λ (cs : List C). given (length cs ≡ n) (‵ (along R (slot R b) cs (e + stride R)))))) (redeems_slots n b (e + stride R)) $ await ! tt $ pick ! (λ cs. learn ! (λ long.
-      move ! (1 ∷ 0 ∷ []) $ fjoin ! $ now ! $ show ! (Redeemed (suc n) b e) (v ∷ cs) $ check ! (ap suc long) $ done !)))
+    module _ (o : ℕ) (ns : List ℕ) where
+      abbrev AllRedeemed : ℕ → ℕ → List C → Pr
+      AllRedeemed n i cs = guard 𝓤 ((length cs ≡ n) × Told ns i cs) ⟦ each (slot R b o) cs i ⟧
 
-  rests_slot : (b e : ℕ) (v : C) → ⟦ slot R b v e ⟧ ⊢ ⟦ slot_rests R b e ⟧
-  rests_slot b e v = qed 𝓛 (‵ (slot R b v e) ∷ []) ∵ fsplit3 ! $ fjoin ! $ fpack ! (C × Bool) (slot_rests_as R b e) (v, false) $ move ! (1 ∷ 0 ∷ []) $ fjoin ! $ done !
+      redeems_slots : (n i : ℕ) → ⟦ slots_rest R n i b o ns ⟧ ⊢ H.⇛ (ex 𝓤 (AllRedeemed n i))
+      redeems_slots zero i = qed 𝓛 (‵ ftrue ∷ []) ∵ updating ! $ now ! $ show ! (AllRedeemed 0 i) [] $ check ! (refl, λ j near. absurd (omega arith)) $ done !
+      redeems_slots (suc n) i = let e : ℕ = value_in R o i in let set : Bool = is_set_in ns i in qed 𝓛 (‵ (slots_rest R (suc n) i b o ns) ∷ []) ∵ updating ! $ fsplit ! $
+          use1 𝓛 (later (some (λ (v : C). given (set ≡ is_some v) (‵ (place R v b e))))) (redeems_slot set e) $ await ! tt $ pick ! (λ v. learn ! (λ is. move ! (1 ∷ []) $
+          use1 𝓛 (later (some (λ (cs : List C). given ((length cs ≡ n) × Told ns (suc i) cs) (‵ (each (slot R b o) cs (suc i)))))) (redeems_slots n (suc i)) $ await ! tt $ pick ! (λ cs. learn ! (λ so.
+          move ! (1 ∷ 0 ∷ []) $ fjoin ! $ now ! $ show ! (AllRedeemed (suc n) i) (v ∷ cs) $ check ! (ap suc so.0, told_more ns i v cs is so.1) $ done !))))
 
-  rests_slots : (cs : List C) (b e : ℕ) → ⟦ along R (slot R b) cs e ⟧ ⊢ ⟦ slots_rest R (length cs) b e ⟧
-  rests_slots [] b e = id⊢ 𝓤 _
-  rests_slots (c ∷ cs) b e = qed 𝓛 (‵ (along R (slot R b) (c ∷ cs) e) ∷ []) ∵ fsplit ! $ use1 𝓛 (‵ (slot_rests R b e)) (rests_slot b e c) $ move ! (1 ∷ []) $
-      use1 𝓛 (‵ (slots_rest R (length cs) b (e + stride R))) (rests_slots cs b (e + stride R)) $ move ! (1 ∷ 0 ∷ []) $ fjoin ! $ done !
+      rests_slot : (i : ℕ) (v : C) → is_set_in ns i ≡ is_some v → ⟦ slot R b o v i ⟧ ⊢ ⟦ slot_rests R (is_set_in ns i) b (value_in R o i) ⟧
+      rests_slot i v is = let e : ℕ = value_in R o i in let set : Bool = is_set_in ns i in
+          qed 𝓛 (‵ (place R v b e) ∷ []) ∵ nothing ! $ fpack ! (set ≡ is_some v) (λ _. ftrue) is $ fjoin ! $ fpack ! (C × Bool) (slot_rests_as R set b e) (v, false) $ done !
+
+      rests_slots : (cs : List C) (i : ℕ) → Told ns i cs → ⟦ each (slot R b o) cs i ⟧ ⊢ ⟦ slots_rest R (length cs) i b o ns ⟧
+      rests_slots [] i told = id⊢ 𝓤 _
+      rests_slots (c ∷ cs) i told = qed 𝓛 (‵ (each (slot R b o) (c ∷ cs) i) ∷ []) ∵ fsplit ! $ use1 𝓛 (‵ (slot_rests R (is_set_in ns i) b (value_in R o i))) (rests_slot i c (told_first ns i c cs told)) $ move ! (1 ∷ []) $
+          use1 𝓛 (‵ (slots_rest R (length cs) (suc i) b o ns)) (rests_slots cs (suc i) (told_rest ns i c cs told)) $ move ! (1 ∷ 0 ∷ []) $ fjoin ! $ done !
 
   -- ---- the word
   -- whoever may free a block may compare its place with null
@@ -81,20 +119,39 @@ module _ {M : Type 1} {𝓤 : Ura M} (𝓛 : Logic 𝓤) (R : RattleType) (L : L
     abbrev pub Plain : Ptr → List C → Pr
     Plain p cs = guard 𝓤 (Fit d cs) ⟦ word_owns R heap_token p cs ⟧
 
+    -- the words and slots of a block, each slot a value or room
+    abbrev Slots : ℕ → ℕ → List C → Fml
+    Slots b o cs = fsep (fex (List ℕ) (flags_own R b o cs 0)) (each (slot R b o) cs 0)
+
+    abbrev Whole : ℕ → ℕ → List C → Pr
+    Whole b o cs = guard 𝓤 (length cs ≡ n) ⟦ Slots b o cs ⟧
+
+    redeems_block : (b o : ℕ) → ⟦ fex (List ℕ) (slots_under R n b o (slots_rest R n 0 b o)) ⟧ ⊢ H.⇛ (ex 𝓤 (Whole b o))
+    redeems_block b o = qed 𝓛 (‵ (fex (List ℕ) (slots_under R n b o (slots_rest R n 0 b o))) ∷ []) ∵ updating ! $ fpick ! (λ ns. fsplit3 ! $ fpick ! (λ are. drop ! $ move ! (1 ∷ []) $
+        use1 𝓛 (later (some (λ (cs : List C). given ((length cs ≡ n) × Told ns 0 cs) (‵ (each (slot R b o) cs 0))))) (redeems_slots b o ns n 0) $ await ! tt $ pick ! (λ cs. learn ! (λ so. move ! (1 ∷ []) $ nothing ! $ move ! (1 ∷ 0 ∷ []) $ fjoin ! $
+        nothing ! $ fpack ! ((length ns + 0 ≡ chunks (length cs)) × AreFlags ns cs) (λ _. ftrue) (are_flags R n ns cs so.0 are so.1) $ fjoin ! $ fpack ! (List ℕ) (flags_own R b o cs 0) ns $ fjoin ! $
+        now ! $ show ! (Whole b o) cs $ check ! so.0 $ done !))))
+
+    rests_block : (b o : ℕ) (cs : List C) → length cs ≡ n → ⟦ Slots b o cs ⟧ ⊢ ⟦ fex (List ℕ) (slots_under R n b o (slots_rest R n 0 b o)) ⟧
+    rests_block b o cs long = qed 𝓛 (‵ (Slots b o cs) ∷ []) ∵ fsplit ! $ fpick ! (λ ns. fsplit3 ! $ fpick ! (λ are. drop ! $ move ! (1 ∷ []) $ drop ! $ move ! (1 ∷ []) $
+        -- [the slots; the words]
+        use1 𝓛 (‵ (slots_rest R (length cs) 0 b o ns)) (rests_slots b o ns cs 0 (told_flags ns cs are.1)) $ rewrite ! 0 (λ (m : ℕ). ‵ (slots_rest R m 0 b o ns)) long refl $ move ! (1 ∷ 0 ∷ []) $
+        nothing ! $ fpack ! (AreFlagWords R n ns) (λ _. ftrue) (are_words R n ns cs long are) $ fjoin3 ! $ fpack ! (List ℕ) (slots_under R n b o (slots_rest R n 0 b o)) ns $ done !))
+
     plain_block : (b o : ℕ) (cs : List C) → length cs ≡ n → Sized R n (block_ptr b o)
-        → ⟦ along R (slot R b) cs o ⟧ ∗ ⟦ heap_token (block_ty R n) (block_ptr b o) ⟧ ⊢ ⟦ word_owns R heap_token (block_ptr b o) cs ⟧
+        → ⟦ Slots b o cs ⟧ ∗ ⟦ back R b o n ⟧ ∗ ⟦ heap_token (block_ty R n) (block_ptr b o) ⟧ ⊢ ⟦ word_owns R heap_token (block_ptr b o) cs ⟧
     plain_block b o [] long so = let some_slots : 0 < 2 ^ d.bucket = pow_pos d.bucket in absurd (omega arith)
-    plain_block b o (c ∷ cs) long so = let p : Ptr = block_ptr b o in let all : List C = c ∷ cs in let same : n ≡ length all + 0 = omega arith in
-        qed 𝓛 (‵ (along R (slot R b) all o) ∷ ‵ (heap_token (block_ty R n) p) ∷ []) ∵ rewrite ! 1 (λ (m : ℕ). ‵ (heap_token (block_ty R m) p)) same refl $
-        use0 𝓛 (‵ (froom (ty_array (bare (slot_ty R)) 0) b (length all * stride R + o))) (𝓛.laws.room_nil (bare (slot_ty R)) b (length all * stride R + o)) $ move ! (0 ∷ 2 ∷ []) $ fjoin ! $ move ! (1 ∷ 0 ∷ []) $
-        nothing ! $ fpack ! (InBlock p × Fits R (length all + 0)) (λ _. ftrue) (tt, subst (Fits R) same so.2) $ fjoin3 ! $ done !
+    plain_block b o (c ∷ cs) long so = let p : Ptr = block_ptr b o in let all : List C = c ∷ cs in let same : n ≡ length all = sym long in
+        qed 𝓛 (‵ (Slots b o all) ∷ ‵ (back R b o n) ∷ ‵ (heap_token (block_ty R n) p) ∷ []) ∵ rewrite ! 1 (λ (m : ℕ). ‵ (back R b o m)) same refl $ rewrite ! 2 (λ (m : ℕ). ‵ (heap_token (block_ty R m) p)) same refl $
+        move ! (1 ∷ 2 ∷ []) $ fjoin ! $ move ! (1 ∷ []) $ fsplit ! $ move ! (0 ∷ 1 ∷ 2 ∷ []) $ fjoin3 ! $
+        nothing ! $ fpack ! (InBlock p × Fits R (length all)) (λ _. ftrue) (tt, subst (Fits R) same so.2) $ fjoin ! $ done !
 
     -- what was due is taken back
     pub redeems_word : (p : Ptr) → ⟦ at_rest R d p ⟧ ⊢ H.⇛ (ex 𝓤 (Plain p))
     redeems_word null_ptr = qed 𝓛 (‵ (at_rest R d null_ptr) ∷ []) ∵ updating ! $ fpick ! (λ free. drop ! $ now ! $ show ! (Plain null_ptr) [] $ check ! (inl (refl, free)) $
         nothing ! $ fpack ! (null_ptr ≡ null_ptr) (λ _. ftrue) refl $ done !)
-    redeems_word (block_ptr b o) = let p : Ptr = block_ptr b o in qed 𝓛 (‵ (at_rest R d p) ∷ []) ∵ updating ! $ fsplit3 ! $ fpick ! (λ so. drop ! $
-        use1 𝓛 (later (some (λ (cs : List C). given (length cs ≡ n) (‵ (along R (slot R b) cs o))))) (redeems_slots n b o) $ await ! tt $ pick ! (λ cs. learn ! (λ long.
+    redeems_word (block_ptr b o) = let p : Ptr = block_ptr b o in qed 𝓛 (‵ (at_rest R d p) ∷ []) ∵ updating ! $ fsplit3 ! $ fpick ! (λ so. drop ! $ fsplit ! $
+        use1 𝓛 (later (some (λ (cs : List C). given (length cs ≡ n) (‵ (Slots b o cs))))) (redeems_block b o) $ await ! tt $ pick ! (λ cs. learn ! (λ long.
         now ! $ show ! (Plain p) cs $ check ! (inr long) $ by ! (plain_block b o cs long so))))
 
     -- a plain word is at rest
@@ -104,8 +161,11 @@ module _ {M : Type 1} {𝓤 : Ura M} (𝓛 : Logic 𝓤) (R : RattleType) (L : L
     rests_word p [] (inr fit) = let some_slots : 0 < 2 ^ d.bucket = pow_pos d.bucket in absurd (omega arith)
     rests_word p (c ∷ cs) (inl fit) = absurd (omega arith)
     rests_word null_ptr (c ∷ cs) (inr fit) = qed 𝓛 (‵ (word_owns R heap_token null_ptr (c ∷ cs)) ∷ []) ∵ fsplit ! $ fpick ! (λ so. absurd so.0)
-    rests_word (block_ptr b o) (c ∷ cs) (inr fit) = let p : Ptr = block_ptr b o in let all : List C = c ∷ cs in let same : length all + 0 ≡ n = omega arith in
-        qed 𝓛 (‵ (word_owns R heap_token p all) ∷ []) ∵ fsplit3 ! $ fpick ! (λ so. drop ! $ move ! (1 ∷ []) $ fsplit ! $ drop ! $
-        rewrite ! 0 (λ (m : ℕ). ‵ (heap_token (block_ty R m) p)) same refl $ use1 𝓛 (given (Testable p) (‵ (heap_token (block_ty R n) p))) (tested (block_ty R n) p) $ learn ! (λ test. move ! (1 ∷ []) $
-        use1 𝓛 (‵ (slots_rest R (length all) b o)) (rests_slots all b o) $ rewrite ! 0 (λ (m : ℕ). ‵ (slots_rest R m b o)) fit refl $
-        nothing ! $ fpack ! (Sized R n p) (λ _. ftrue) (tt, test, subst (Fits R) same so.1) $ fjoin3 ! $ done !))
+    rests_word (block_ptr b o) (c ∷ cs) (inr fit) = let p : Ptr = block_ptr b o in let all : List C = c ∷ cs in
+        qed 𝓛 (‵ (word_owns R heap_token p all) ∷ []) ∵ fsplit3 ! $ fpick ! (λ so. drop ! $ move ! (1 ∷ []) $ fsplit3 ! $
+        -- [the slots; the way back; the right to free; the words]
+        move ! (1 ∷ []) $ rewrite ! 0 (λ (m : ℕ). ‵ (back R b o m)) fit refl $ move ! (2 ∷ []) $ rewrite ! 0 (λ (m : ℕ). ‵ (heap_token (block_ty R m) p)) fit refl $
+        use1 𝓛 (given (Testable p) (‵ (heap_token (block_ty R n) p))) (tested (block_ty R n) p) $ learn ! (λ test. move ! (3 ∷ 2 ∷ []) $ fjoin ! $
+        -- [the words and the slots; the right to free; the way back]
+        use1 𝓛 (‵ (fex (List ℕ) (slots_under R n b o (slots_rest R n 0 b o)))) (rests_block b o all fit) $ move ! (0 ∷ 2 ∷ []) $ fjoin ! $
+        nothing ! $ fpack ! (Sized R n p) (λ _. ftrue) (tt, test, subst (Fits R) fit so.1) $ fjoin3 ! $ done !))

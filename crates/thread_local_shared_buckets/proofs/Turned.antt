@@ -22,7 +22,7 @@ use Rattle.std.specs.contracts.alloc.Global as heap
 use Rattle.thread_local_model.specs.Buckets.{IsTable}
 use Rattle.thread_local_model.specs.Owned.{Owned, AreOfFirstBuckets, IsOwned}
 use Rattle.thread_local_judged.specs.Judged.{Judged}
-use Rattle.thread_local_blocks.specs.Slots.{heap_token}
+use Rattle.thread_local_chunks.specs.Slots.{heap_token}
 use Rattle.thread_local_words.specs.Leads.{word_owns}
 use Rattle.thread_local_words.specs.contracts.word.Word as plain
 use Rattle.thread_local_words.proofs.word.Word.TheLaws as plain'

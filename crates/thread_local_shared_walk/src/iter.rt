@@ -74,7 +74,7 @@ impl<'a, T: Sync> Iter<'a, T> {
         Iter::begun(buckets, None, Some(Shown::new()))
     }
 
-    /// A walk for whoever has the id, and holds this value there. It gives that value at the id, and loads no flag there.
+    /// A walk for whoever has the id, and holds this value there. It gives that value at the id, and looks at no flag there.
     pub fn with_own(buckets: &'a Shared<T>, id: usize, value: &'a T) -> Iter<'a, T>
         requires { id < 2 ^ 63 - 1 }
         ensures { result ≡ fresh (Some (record { id = id; value = value.now })) true }
@@ -109,7 +109,7 @@ impl<'a, T: Sync> Iterator for Iter<'a, T> {
     ghost remaining = { ids_left };
 
     /// The value of the next slot in which a look finds one. It loads the word of the bucket that it is in again, and of each that it comes
-    /// to, and the flag of each slot that it comes to but the own one's.
+    /// to, and for each slot that it comes to, but the own one, the word that has the slot's flag.
     fn next(&mut self) -> Option<&'a T> {
         tell(&self.shown);
         advance(self.buckets, &mut self.raw, &mut self.own)

@@ -1,6 +1,6 @@
 //! What shows to a walk that threads may share its values.
 ghost use Rattle.thread_local_judged.specs.Judged.{Shareable};
-ghost use Rattle.thread_local_blocks.specs.Slots.{fact};
+ghost use Rattle.thread_local_chunks.specs.Slots.{fact};
 ghost use denote.Sharing.{said};
 
 use std::marker::{Model, PhantomData};

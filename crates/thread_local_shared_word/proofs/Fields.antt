@@ -1,5 +1,5 @@
 -- The data fields of a row, and a row that is had twice. Assumes `Logic`.
-use Rattle.thread_local_blocks.proofs.Names.{◌≡◌, ℕ, T, List, [], ◌∷◌, ◌++◌, refl, ap, ◌∙◌, lit<, Ura, tcons, tnil, ty_ptr, ty_struct, Val, vstruct, vcons, vnil, of_list, has_ty, WT, ent, sep, emp, Lft, Fml, ftrue, Logic, sem, ‵, ◌⊛◌, ◌$◌, ◌∵◌, !, qed, move, drop, split, fsplit, fsplit3, fjoin, fjoin3, fpick, fpack, frame, use1, nothing, done, RattleType, Is, Ptr, block_ptr, null_ptr, ptr_val, length}
+use Rattle.thread_local_chunks.proofs.Names.{◌≡◌, ℕ, T, List, [], ◌∷◌, ◌++◌, refl, ap, ◌∙◌, lit<, Ura, tcons, tnil, ty_ptr, ty_struct, Val, vstruct, vcons, vnil, of_list, has_ty, WT, ent, sep, emp, Lft, Fml, ftrue, Logic, sem, ‵, ◌⊛◌, ◌$◌, ◌∵◌, !, qed, move, drop, split, fsplit, fsplit3, fjoin, fjoin3, fpick, fpack, frame, use1, nothing, done, RattleType, Is, Ptr, block_ptr, null_ptr, ptr_val, length}
 use base.Fml.{fbor, finv}
 use base.Before.{before}
 use types.Na.{before_dup}

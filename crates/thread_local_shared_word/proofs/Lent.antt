@@ -27,11 +27,11 @@ use denote.Struct.Parts.{PartsBack, Struct-parts, shape_of}
 use Rattle.std.specs.Sync.RawAtomic.Pointer.{cell}
 use Rattle.std.proofs.cell.Inside.{spread, gather}
 use Rattle.thread_local_judged.specs.Judged.{Judged}
-use Rattle.thread_local_blocks.specs.Slots.{fact}
-use Rattle.thread_local_shared_word_logic.specs.Shared.{WordView, Turn, Standing, mark, shared_slot, each_slot, slots_rest, Sized, len, first, all_unborn, pending, standing, beside_pointer, invariant, kept, at_rest, word_shares}
+use Rattle.thread_local_chunks.specs.Slots.{fact}
+use Rattle.thread_local_shared_word_logic.specs.Shared.{WordView, Turn, Standing, mark, block_stands, block_rests, Sized, len, first, all_unborn, pending, standing, beside_pointer, invariant, kept, at_rest, word_shares}
 use Rattle.thread_local_shared_word.specs.contracts.word.SharedWord as C
 use Rattle.thread_local_shared_word_logic.proofs.Tokens.{tokens_from, tokens_new}
-use Rattle.thread_local_shared_word_logic.proofs.Rested.{all_tokens, all_wait, wakes_slots, rests_slots}
+use Rattle.thread_local_shared_word_logic.proofs.Rested.{all_tokens, all_wait, wakes_block, rests_block}
 
 abbrev pub pointer : Member
 pointer = record { row = RawPtr; ty = ty_ptr }
@@ -67,9 +67,9 @@ module _ {M : Type 1} {𝓤 : Ura M} (𝓛 : Logic 𝓤) where
     pub rests : (t : Turn) (p : Ptr) → A.dead t.life ∗ ⟦ beside_pointer R d t p ⟧ ⊢ ⟦ at_rest R d p ⟧
     rests t null_ptr = qed 𝓛 (‵ (fdead t.life) ∷ ‵ (beside_pointer R d t null_ptr) ∷ []) ∵ move ! (1 ∷ []) $ fsplit ! $ keep ! (0 ∷ []) $ done !
     rests t (block_ptr b o) = let p : Ptr = block_ptr b o in qed 𝓛 (‵ (fdead t.life) ∷ ‵ (beside_pointer R d t p) ∷ []) ∵ move ! (1 ∷ []) $ fpick ! (λ s. fsplit ! $ fpick ! (λ so. drop ! $ fsplit3 ! $ move ! (2 ∷ []) $ fsplit ! $
-        -- [the slots; the right to free; settled; its own token; dead]
+        -- [the block; the right to free; settled; its own token; dead]
         let κ : Lft = s.0.own ∷ t.life in move ! (4 ∷ []) $ use1 𝓛 (‵ (fdead κ)) (𝓛.lfts.dead-incl κ t.life (meet_⊑_right (s.0.own ∷ []) t.life)) $ move ! (0 ∷ 1 ∷ []) $
-        use2 𝓛 (‵ (slots_rest R (length s.0.names) b o)) (rests_slots 𝓛 t R L b s.0.own d.table s.0.names (first R d) o) $ rewrite ! 0 (λ (n : ℕ). ‵ (slots_rest R n b o)) so.1 refl $
+        use2 𝓛 (‵ (block_rests R (len R d) b o)) (rests_block 𝓛 t R L b s.0.own d.table (first R d) (len R d) o s.0.names so.1) $
         keep ! (0 ∷ 1 ∷ []) $ nothing ! $ fpack ! (Sized R (len R d) p) (λ _. ftrue) so.2 $ fjoin3 ! $ done !))
 
     module _ (κ : Lft) where
@@ -97,12 +97,12 @@ module _ {M : Type 1} {𝓤 : Ura M} (𝓛 : Logic 𝓤) where
           use1 𝓛 (‵ (all_unborn R d.table (turn n) (len R d) (first R d))) (all_wait 𝓛 (turn n) R d.table (len R d) (first R d)) $ move ! (2 ∷ 1 ∷ 0 ∷ []) $ fjoin3 ! $ now ! $ show ! (Woken μ r null_ptr) n $ done !)
       wakes μ r inc sp j (block_ptr b o) = let p : Ptr = block_ptr b o in fresh p μ r (λ n. qed 𝓛 (‵ (pending R d (turn n)) ∷ ‵ (all_tokens 𝓛 (turn n) (first R d)) ∷ ‵ (at_rest R d p) ∷ ‵ (flft μ r) ∷ []) ∵ updating ! $
           let t : Turn = turn n in lft_new ! tt (λ ν. move ! (0 ∷ 4 ∷ []) $ join ! $ move ! (3 ∷ []) $ fsplit3 ! $ fpick ! (λ so. drop ! $ move ! (0 ∷ 4 ∷ 2 ∷ []) $
-          -- [the slots; the tokens; the lifetimes; the right to free; pending]
-          use3 𝓛 (later (some (λ (names : List ℕ). given (length names ≡ len R d) (‵ (each_slot R (shared_slot R t b ν d.table) names (first R d) o) ⊛ (‵ (flft (ν ∷ []) full_share) ⊛ ‵ (flft μ r))))))
-          (wakes_slots 𝓛 t R L b ν ((ν ∷ [], full_share) ∷ (μ, r) ∷ []) (Incl-trans (meet_⊑_right (ν ∷ []) μ) inc) (meet_within (ν ∷ []) κ μ sp) j d.table (len R d) (first R d) o) $ await ! tt $ pick ! (λ names. learn ! (λ long. split ! $ move ! (1 ∷ []) $ split ! $
-          -- [its own token; μ's token; the slots; the right to free; pending]
+          -- [the block; the tokens; the lifetimes; the right to free; pending]
+          use3 𝓛 (later (some (λ (names : List ℕ). given (length names ≡ len R d) (‵ (block_stands R d t p record { at = p; own = ν; names = names }) ⊛ (‵ (flft (ν ∷ []) full_share) ⊛ ‵ (flft μ r))))))
+          (wakes_block 𝓛 t R L b ν ((ν ∷ [], full_share) ∷ (μ, r) ∷ []) (Incl-trans (meet_⊑_right (ν ∷ []) μ) inc) (meet_within (ν ∷ []) κ μ sp) j d.table (first R d) (len R d) o) $ await ! tt $ pick ! (λ names. learn ! (λ long. split ! $ move ! (1 ∷ []) $ split ! $
+          -- [its own token; μ's token; the block; the right to free; pending]
           let s : Standing = record { at = p; own = ν; names = names } in move ! (4 ∷ []) $ fsplit ! $ name_set ! tt (mark s) $ use1 𝓛 (‵ (fres t.which (mark s))) (𝓛.names.obs-res t.which (mark s)) $ move ! (1 ∷ 0 ∷ []) $ fjoin ! $
-          -- [settled; its own token; μ's token; the slots; the right to free]
+          -- [settled; its own token; μ's token; the block; the right to free]
           move ! (3 ∷ 4 ∷ []) $ fjoin ! $ move ! (1 ∷ 2 ∷ 0 ∷ []) $ fjoin3 ! $ nothing ! $ fpack ! ((p ≡ p) × (length names ≡ len R d) × Sized R (len R d) p) (λ _. ftrue) (refl, long, so) $ fjoin ! $
           fpack ! (Standing × Share) (standing R d t p) (s, full_share) $ now ! $ show ! (Woken μ r p) n $ done !)))))
 

@@ -1,5 +1,5 @@
 -- The data field of a shared word. Assumes `Logic`.
-use Rattle.thread_local_blocks.proofs.Names.{T, [], ◌∷◌, refl, lit<, Ura, tcons, tnil, ty_ptr, ty_struct, Val, vstruct, vcons, vnil, has_ty, WT, ent, emp, Logic, sem, RattleType, Ptr, block_ptr, null_ptr, ptr_val}
+use Rattle.thread_local_chunks.proofs.Names.{T, [], ◌∷◌, refl, lit<, Ura, tcons, tnil, ty_ptr, ty_struct, Val, vstruct, vcons, vnil, has_ty, WT, ent, emp, Logic, sem, RattleType, Ptr, block_ptr, null_ptr, ptr_val}
 use denote.Shadow.{makes_shadow}
 use Rattle.thread_local_shared_word.specs.contracts.word.SharedWord.TheInside as inside
 

@@ -1,6 +1,6 @@
 //! A block that its maker alone sees.
 ghost use Rattle.std.specs.Prelude.{◌≡◌, ◌^◌, ◌<◌, IfOk};
-ghost use Rattle.thread_local_blocks.specs.Slots.{empty_slots};
+ghost use Rattle.thread_local_chunks.specs.Slots.{empty_slots};
 
 use std::alloc::{AllocError, Global};
 use std::marker::Model;
@@ -18,7 +18,7 @@ pub struct Private<T> {
 
 impl<T> Model for Private<T> {
     ghost use Rattle.std.specs.Prelude.{◌≡◌, ◌^◌, ◌<◌};
-    ghost use Rattle.thread_local_blocks.specs.Slots.{empty_slots};
+    ghost use Rattle.thread_local_chunks.specs.Slots.{empty_slots};
     ghost use Rattle.thread_local_shared_word.specs.Views.{PrivateView, private_view_coded};
 
     ghost Value = { PrivateView };

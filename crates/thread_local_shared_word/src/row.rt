@@ -8,13 +8,13 @@ ghost use denote.Sharing.{said};
 use std::marker::{Brand, Model, PhantomData};
 use std::sync::atomic::Ordering::SeqCst;
 use std::sync::atomic::raw;
-use thread_local_blocks::Slot;
+use thread_local_chunks::Chunk;
 
 /// The slots of a bucket, for as long as its word is borrowed. A contract sees of which word they are, and the name of each: under it is known
 /// what the slot holds.
 #[derive(Drop)]
 pub struct Row<'a, T> {
-    pub at: *mut Slot<T>,
+    pub at: *mut Chunk<T>,
     pub marker: PhantomData<&'a T>,
     pub ghost of: { WordView } by { word_view_coded },
     pub ghost names: { List ℕ },
@@ -28,19 +28,19 @@ impl<'a, T> Model for Row<'a, T> {
 
 impl<'a, T> Row<'a, T> {
     /// The value of the slot, if one is published, for as long as the word is borrowed, whoever claims the slot meanwhile. It is one atomic
-    /// load of the slot's flag: it takes no memory, and never waits. That threads may share a value is asked as a fact, and not by a bound,
-    /// since a walk's `next` is a trait's method, which isn't given its impl's bounds.
+    /// load of the word that has the slot's flag: it takes no memory, and never waits. That threads may share a value is asked as a fact, and
+    /// not by a bound, since a walk's `next` is a trait's method, which isn't given its impl's bounds.
     pub fn get(&self, index: usize) -> Option<&'a T>
         requires shareable { Shareable T.row }
         requires inside { index < 2 ^ self.now.of.bucket }
         ensures* published { sem 𝓛 (published_at T.row self.now.names index (option_map (λ value. value.now) result)) }
     {
-        let slot = unsafe { self.at.add(index) };
-        let flag = unsafe { raw::load::<Brand>(&raw const (*slot).flag, SeqCst) };
-        if flag == 0 {
+        let chunk = unsafe { self.at.add(index / 64) };
+        let flags = unsafe { raw::load::<Brand>(&raw const (*chunk).flags, SeqCst) };
+        if flags >> (index % 64) & 1 == 0 {
             None
         } else {
-            Some(unsafe { &(*slot).value })
+            Some(unsafe { &*(&raw const (*chunk).values as *const T).add(index % 64) })
         }
     }
 }

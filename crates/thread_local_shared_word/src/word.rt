@@ -8,12 +8,12 @@ use std::marker::{Brand, Move, Owns, PhantomData};
 use std::ptr::null_mut;
 use std::sync::atomic::Ordering::SeqCst;
 use std::sync::atomic::raw::ptr;
-use thread_local_blocks::Slot;
+use thread_local_chunks::Chunk;
 use thread_local_rights::Rights;
 
 /// A word that threads share: null, or a block of slots. A contract sees its table, its bucket and whether the bucket is reserved.
 pub struct SharedWord<T> {
-    pub at: *mut Slot<T>,
+    pub at: *mut Chunk<T>,
 }
 
 impl<T> Owns for SharedWord<T> {
@@ -51,7 +51,7 @@ impl<T> SharedWord<T> {
             None
         } else {
             Some(Row {
-                at: at as *mut Slot<T>,
+                at: at as *mut Chunk<T>,
                 marker: PhantomData,
             })
         }

@@ -14,7 +14,7 @@ use denote.RawPtr.{Ptr, block_ptr, null_ptr}
 use denote.Steps.{nothing}
 use denote.SharingLaws.{ends_shr_laws}
 use Rattle.std.specs.Sync.RawAtomic.Pointer.{cell, asks_ptr}
-use Rattle.thread_local_blocks.specs.Slots.{fact}
+use Rattle.thread_local_chunks.specs.Slots.{fact}
 use Rattle.thread_local_shared_word_logic.specs.Shared.{WordView, Turn, Standing, mark, Sized, len, first, all_unborn, standing, beside_pointer, invariant, loaded}
 use Rattle.thread_local_shared_word_logic.proofs.Pointers.{Lies, opened}
 

@@ -1,15 +1,14 @@
 -- A private block is lent for a lifetime of its own beside a turn's life. Where it is installed, its slots are born under the turn, each with
 -- what waited for it; else its lifetime ends, and the block is its maker's again. Assumes `Logic`.
-use Rattle.std.proofs.Common.{◌≡◌, ℕ, zero, suc, ◌+◌, ◌*◌, Bool, true, false, List, [], ◌∷◌, length, replicate, refl, sym, ap, subst, lit<, arith, Option, None}
-use Rattle.std.proofs.lemmas.List.{length-replicate}
+use Rattle.std.proofs.Common.{◌≡◌, ◌∙◌, ℕ, zero, suc, ◌+◌, Bool, true, false, List, [], ◌∷◌, length, is_some, refl, sym, ap, subst, lit<, arith, Option, None}
+use Rattle.std.proofs.lemmas.List.{length-replicate, get_or_past}
 use Rattle.std.specs.Coded.{coded_option}
 use seplogic.Ra.Ura.{Ura}
-use mir.Syntax.{Ty, ty_array}
-use mir.Raw.{raw as bare_ty}
+use mir.Syntax.{Ty}
 use base.Fraction.{full_share, left, right}
 use base.Stored.{gnil}
 use base.Logic.{SProp, ent, sep, ex, guard, upd, upd_i, guard_i}
-use base.Fml.{Lft, GName, Share, Fml, ftrue, ffalse, fsep, flft, fdead, fobs, fauth, fres, fbor, flent, froom}
+use base.Fml.{Lft, GName, Share, Fml, ftrue, ffalse, fsep, flft, fdead, fobs, fauth, fres, fbor, flent}
 use contract.BorrowLft.{meet_⊑_left}
 use contract.Monad.{fact_use}
 use types.Logic.{Logic, sem}
@@ -18,17 +17,33 @@ use types.Tokens.{name_new, name_agree, lft_new, lft_end, bor_new, lent_back}
 use denote.RattleType.{RattleType}
 use denote.RawPtr.{Ptr, block_ptr, null_ptr, block_of, count_of, InBlock, Testable}
 use denote.Steps.{nothing}
-use Rattle.std.specs.Sync.RawAtomic.{word}
 use Rattle.std.specs.Sync.RawAtomic.Pointer.{cell, alike, compares}
 use Rattle.std.specs.declared.alloc.Global.{Global}
 use Rattle.std.specs.contracts.impls.GlobalAllocator.TheImpl.{ghosts}
 use Rattle.std.proofs.GlobalToken.{dealloc_token-Testable}
 use Rattle.thread_local_rights.specs.Rights.{right_owns}
-use Rattle.thread_local_blocks.specs.Slots as blocks
-use Rattle.thread_local_blocks.specs.Slots.{fact, slot_ty, stride, block_ty, value_at, rim, place, along, block_owns, empty_slots, heap_token, Fits}
-use Rattle.thread_local_shared_word_logic.specs.Shared.{WordView, Turn, Standing, Who, free, early, mark, value_code, value_of, age, shared_slot_as, shared_slot, each_slot, waiting, all_unborn, Sized, len, first, standing, beside_pointer, invariant}
+use Rattle.thread_local_bits.specs.Bits.{is_set_in}
+use Rattle.thread_local_chunks.specs.Slots.{each, chunks, AreFlags, block_ty, value_in, place, slot, flags, back, block_owns, empty_slots, slot_at, heap_token, Fits}
+use Rattle.thread_local_shared_word_logic.specs.Shared.{WordView, Turn, Standing, Who, free, early, mark, value_code, value_of, age, holds, had, shared_slot_as, numbered_slot, AreFlagWords, slots_under, slots_stand, block_stands, waiting, all_unborn, Sized, len, first, standing, beside_pointer, invariant}
 use Rattle.thread_local_shared_word_logic.proofs.Pointers.{Compared, opened_to_compare, alike_null}
 use Rattle.thread_local_shared_word_logic.proofs.Loads.{part, glimpse, parted}
+
+-- who has a slot that is born: whether a claim came early for it
+abbrev who : Bool → Who
+who true = early
+who false = free
+
+none_at : {X : Type 0} (n i : ℕ) → slot_at (empty_slots {X = X} n) i ≡ None
+none_at zero i = get_or_past [] i None (omega arith)
+none_at (suc n) zero = refl
+none_at (suc n) (suc i) = none_at n i
+
+module _ (R : RattleType) (n : ℕ) (ns : List ℕ) (are : AreFlags ns (empty_slots {X = R.Denot} n)) where
+  none_set : (i : ℕ) → is_set_in ns i ≡ false
+  none_set i = are.flags i ∙ ap is_some (none_at {X = R.Denot} n i)
+
+  clear_words : length ns + 0 ≡ chunks (length (empty_slots {X = R.Denot} n)) → AreFlagWords R n ns
+  clear_words long = let x : Option R.Denot = None in (omega arith ∙ long ∙ ap chunks (length-replicate n x), are.words, λ i _. none_set i)
 
 module _ {M : Type 1} {𝓤 : Ura M} (𝓛 : Logic 𝓤) (R : RattleType) (t : Turn) where
   open 𝓛 use {H, A}
@@ -52,49 +67,61 @@ module _ {M : Type 1} {𝓤 : Ura M} (𝓛 : Logic 𝓤) (R : RattleType) (t : T
     κ = age R t b ν
 
     -- an empty slot whose room is lent
-    abbrev pub bare : ℕ → ℕ → GName → Fml
-    bare k e η = fsep (rim R b e) (fsep (flent κ (value_of R b e η)) (fsep (word b (e + 0) 0) (fsep (fobs η (value_code R None)) (fbor κ (value_of R b e η)))))
+    abbrev pub bare : ℕ → GName → Fml
+    bare e η = fsep (flent κ (value_of R b e η)) (fsep (fobs η (value_code R None)) (fbor κ (value_of R b e η)))
 
-    lends_one : (k e : ℕ) → ⟦ blocks.slot R b None e ⟧ ⊢ H.⇛ (ex 𝓤 (λ (η : GName). ⟦ bare k e η ⟧))
-    lends_one k e = qed 𝓛 (‵ (blocks.slot R b None e) ∷ []) ∵ updating ! $ fsplit3 ! $ name_new ! tt (value_code R None) (λ η.
-        -- [its name, in two halves; the flag; the room; the rim]
-        move ! (3 ∷ 1 ∷ []) $ fjoin ! $ fpack ! (Option R.Denot) (λ c. fsep (place R c b (value_at R e)) (fauth η (value_code R c))) None $ bor_new ! tt κ $
-        -- [the borrow; the way to its end; its name; the flag; the rim]
-        move ! (2 ∷ 0 ∷ []) $ fjoin ! $ move ! (2 ∷ 0 ∷ []) $ fjoin ! $ move ! (1 ∷ 0 ∷ []) $ fjoin ! $ move ! (1 ∷ 0 ∷ []) $ fjoin ! $ now ! $ show ! (λ (μ : GName). ⟦ bare k e μ ⟧) η $ done !)
+    lends_one : (e : ℕ) → ⟦ place R None b e ⟧ ⊢ H.⇛ (ex 𝓤 (λ (η : GName). ⟦ bare e η ⟧))
+    lends_one e = qed 𝓛 (‵ (place R None b e) ∷ []) ∵ updating ! $ name_new ! tt (value_code R None) (λ η.
+        -- [its name, in two halves; the room]
+        move ! (2 ∷ 1 ∷ []) $ fjoin ! $ fpack ! (Option R.Denot) (λ c. fsep (place R c b e) (fauth η (value_code R c))) None $ bor_new ! tt κ $
+        -- [the borrow; the way to its end; its name]
+        move ! (2 ∷ 0 ∷ []) $ fjoin ! $ move ! (1 ∷ 0 ∷ []) $ fjoin ! $ now ! $ show ! (λ (μ : GName). ⟦ bare e μ ⟧) η $ done !)
 
-    abbrev Lent : ℕ → ℕ → ℕ → List ℕ → Pr
-    Lent m k e names = guard 𝓤 (length names ≡ m) ⟦ each_slot R bare names k e ⟧
+    takes_one : (e : ℕ) (η : GName) → A.dead κ ∗ ⟦ bare e η ⟧ ⊢ H.⇛ ⟦ place R None b e ⟧
+    takes_one e η = qed 𝓛 (‵ (fdead κ) ∷ ‵ (bare e η) ∷ []) ∵ updating ! $ move ! (1 ∷ []) $ fsplit3 ! $ move ! (3 ∷ 0 ∷ []) $ lent_back ! tt $ fpick ! (λ c. fsplit ! $
+        -- [what lies there; its authority; its name; the borrow]
+        move ! (2 ∷ 1 ∷ []) $ name_agree ! (coded_option R.coded) {x = None} {y = c} (λ z. drop ! $ drop ! $
+        rewrite ! 0 (λ (u : Option R.Denot). ‵ (place R u b e)) (sym z) refl $ now ! $ keep ! (0 ∷ []) $ done !))
 
-    lends_all : (m k e : ℕ) → ⟦ along R (blocks.slot R b) (empty_slots m) e ⟧ ⊢ H.⇛ (ex 𝓤 (Lent m k e))
-    lends_all zero k e = qed 𝓛 (‵ ftrue ∷ []) ∵ updating ! $ now ! $ show ! (Lent 0 k e) [] $ check ! refl $ done !
-    lends_all (suc m) k e = qed 𝓛 (‵ (along R (blocks.slot R b) (empty_slots (suc m)) e) ∷ []) ∵ updating ! $ fsplit ! $ use1 𝓛 (later (some (λ (η : GName). ‵ (bare k e η)))) (lends_one k e) $ await ! tt $ pick ! (λ η. move ! (1 ∷ []) $
-        use1 𝓛 (later (some (λ (names : List ℕ). given (length names ≡ m) (‵ (each_slot R bare names (suc k) (e + stride R)))))) (lends_all m (suc k) (e + stride R)) $ await ! tt $ pick ! (λ names. learn ! (λ long.
-        move ! (1 ∷ 0 ∷ []) $ fjoin ! $ now ! $ show ! (Lent (suc m) k e) (η ∷ names) $ check ! (ap suc long) $ done !)))
+    module _ (o : ℕ) where
+      -- the empty slot of a number
+      abbrev pub bare_slot : GName → ℕ → Fml
+      bare_slot η i = bare (value_in R o i) η
 
-    takes_one : (k e : ℕ) (η : GName) → A.dead κ ∗ ⟦ bare k e η ⟧ ⊢ H.⇛ ⟦ blocks.slot R b None e ⟧
-    takes_one k e η = qed 𝓛 (‵ (fdead κ) ∷ ‵ (bare k e η) ∷ []) ∵ updating ! $ move ! (1 ∷ []) $ fsplit3 ! $ move ! (3 ∷ 1 ∷ []) $ lent_back ! tt $ fpick ! (λ c. fsplit ! $
-        -- [what lies there; its authority; the rim; the flag with the rest]
-        move ! (3 ∷ []) $ fsplit3 ! $ move ! (1 ∷ 4 ∷ []) $ name_agree ! (coded_option R.coded) {x = None} {y = c} (λ z. drop ! $ drop ! $
-        rewrite ! 2 (λ (u : Option R.Denot). ‵ (place R u b (value_at R e))) (sym z) refl $ move ! (0 ∷ 2 ∷ 3 ∷ []) $ fjoin3 ! $ now ! $ keep ! (0 ∷ []) $ done !))
+      abbrev Lent : ℕ → ℕ → List ℕ → Pr
+      Lent m i names = guard 𝓤 (length names ≡ m) ⟦ each bare_slot names i ⟧
 
-    takes_all : (names : List ℕ) (k e : ℕ) → A.dead κ ∗ ⟦ each_slot R bare names k e ⟧ ⊢ H.⇛ ⟦ along R (blocks.slot R b) (empty_slots (length names)) e ⟧
-    takes_all [] k e = qed 𝓛 (‵ (fdead κ) ∷ ‵ ftrue ∷ []) ∵ updating ! $ drop ! $ now ! $ done !
-    takes_all (η ∷ names) k e = qed 𝓛 (‵ (fdead κ) ∷ ‵ (each_slot R bare (η ∷ names) k e) ∷ []) ∵ updating ! $ use1 𝓛 (‵ (fdead κ) ⊛ ‵ (fdead κ)) (𝓛.lfts.dead_dup κ) $ split ! $ move ! (2 ∷ []) $ fsplit ! $
-        move ! (2 ∷ 0 ∷ []) $ use2 𝓛 (later (‵ (blocks.slot R b None e))) (takes_one k e η) $ await ! tt $ move ! (2 ∷ 1 ∷ []) $
-        use2 𝓛 (later (‵ (along R (blocks.slot R b) (empty_slots (length names)) (e + stride R)))) (takes_all names (suc k) (e + stride R)) $ await ! tt $ move ! (1 ∷ 0 ∷ []) $ fjoin ! $ now ! $ done !
+      lends_all : (m i : ℕ) → ⟦ each (slot R b o) (empty_slots m) i ⟧ ⊢ H.⇛ (ex 𝓤 (Lent m i))
+      lends_all zero i = qed 𝓛 (‵ ftrue ∷ []) ∵ updating ! $ now ! $ show ! (Lent 0 i) [] $ check ! refl $ done !
+      lends_all (suc m) i = let e : ℕ = value_in R o i in qed 𝓛 (‵ (each (slot R b o) (empty_slots (suc m)) i) ∷ []) ∵ updating ! $ fsplit ! $ use1 𝓛 (later (some (λ (η : GName). ‵ (bare e η)))) (lends_one e) $ await ! tt $ pick ! (λ η. move ! (1 ∷ []) $
+          use1 𝓛 (later (some (λ (names : List ℕ). given (length names ≡ m) (‵ (each bare_slot names (suc i)))))) (lends_all m (suc i)) $ await ! tt $ pick ! (λ names. learn ! (λ long.
+          move ! (1 ∷ 0 ∷ []) $ fjoin ! $ now ! $ show ! (Lent (suc m) i) (η ∷ names) $ check ! (ap suc long) $ done !)))
 
-    born_one : (table k e : ℕ) (η : GName) (w : Bool) → ⟦ right_owns t.vacant k ⟧ ∗ ⟦ right_owns t.filled k ⟧ ∗ ⟦ waiting R w table t.pass k ⟧ ∗ ⟦ bare k e η ⟧ ⊢ ⟦ shared_slot R t b ν table k e η ⟧
-    born_one table k e η true = qed 𝓛 (‵ (right_owns t.vacant k) ∷ ‵ (right_owns t.filled k) ∷ ‵ (right_owns table k) ∷ ‵ (bare k e η) ∷ []) ∵ move ! (3 ∷ []) $ fsplit3 ! $ move ! (2 ∷ []) $ fsplit3 ! $
-        -- [the flag; its name; the borrow; the rim; the way to its end; vacant; filled; the right]
-        move ! (5 ∷ 1 ∷ 2 ∷ []) $ fjoin3 ! $ move ! (5 ∷ 0 ∷ []) $ fjoin ! $ move ! (1 ∷ 4 ∷ 0 ∷ []) $ fjoin3 ! $ fpack ! (Option R.Denot × Who) (shared_slot_as R t b ν table k e η) (None, early) $ move ! (1 ∷ 2 ∷ 0 ∷ []) $ fjoin3 ! $ done !
-    born_one table k e η false = qed 𝓛 (‵ (right_owns t.vacant k) ∷ ‵ (right_owns t.filled k) ∷ ‵ (right_owns t.pass k) ∷ ‵ (bare k e η) ∷ []) ∵ move ! (3 ∷ []) $ fsplit3 ! $ move ! (2 ∷ []) $ fsplit3 ! $
-        move ! (5 ∷ 1 ∷ 2 ∷ []) $ fjoin3 ! $ move ! (5 ∷ 0 ∷ []) $ fjoin ! $ move ! (1 ∷ 4 ∷ 0 ∷ []) $ fjoin3 ! $ fpack ! (Option R.Denot × Who) (shared_slot_as R t b ν table k e η) (None, free) $ move ! (1 ∷ 2 ∷ 0 ∷ []) $ fjoin3 ! $ done !
+      takes_all : (names : List ℕ) (i : ℕ) → A.dead κ ∗ ⟦ each bare_slot names i ⟧ ⊢ H.⇛ ⟦ each (slot R b o) (empty_slots (length names)) i ⟧
+      takes_all [] i = qed 𝓛 (‵ (fdead κ) ∷ ‵ ftrue ∷ []) ∵ updating ! $ drop ! $ now ! $ done !
+      takes_all (η ∷ names) i = let e : ℕ = value_in R o i in qed 𝓛 (‵ (fdead κ) ∷ ‵ (each bare_slot (η ∷ names) i) ∷ []) ∵ updating ! $ use1 𝓛 (‵ (fdead κ) ⊛ ‵ (fdead κ)) (𝓛.lfts.dead_dup κ) $ split ! $ move ! (2 ∷ []) $ fsplit ! $
+          move ! (2 ∷ 0 ∷ []) $ use2 𝓛 (later (‵ (place R None b e))) (takes_one e η) $ await ! tt $ move ! (2 ∷ 1 ∷ []) $
+          use2 𝓛 (later (‵ (each (slot R b o) (empty_slots (length names)) (suc i)))) (takes_all names (suc i)) $ await ! tt $ move ! (1 ∷ 0 ∷ []) $ fjoin ! $ now ! $ done !
 
-    born_all : (table : ℕ) (names : List ℕ) (k e : ℕ) → ⟦ all_unborn R table t (length names) k ⟧ ∗ ⟦ each_slot R bare names k e ⟧ ⊢ ⟦ each_slot R (shared_slot R t b ν table) names k e ⟧
-    born_all table [] k e = qed 𝓛 (‵ ftrue ∷ ‵ ftrue ∷ []) ∵ drop ! $ done !
-    born_all table (η ∷ names) k e = qed 𝓛 (‵ (all_unborn R table t (length (η ∷ names)) k) ∷ ‵ (each_slot R bare (η ∷ names) k e) ∷ []) ∵ fsplit ! $ fsplit3 ! $ move ! (2 ∷ []) $ fpick ! (λ w. move ! (4 ∷ []) $ fsplit ! $
-        -- [the slot; the other slots; what waits; vacant; filled; the others that are unborn]
-        move ! (3 ∷ 4 ∷ 2 ∷ 0 ∷ []) $ types.Kit.group ! 4 $ use1 𝓛 (‵ (shared_slot R t b ν table k e η)) (born_one table k e η w) $ frame ! $ move ! (1 ∷ 0 ∷ []) $ by ! (born_all table names (suc k) (e + stride R)))
+      waited : (table k e : ℕ) (η : GName) (w : Bool) → ⟦ waiting R w table t.pass k ⟧ ∗ ⟦ holds R t b ν k e η None ⟧ ⊢ ⟦ had R t b ν table k e η None (who w) ⟧
+      waited table k e η true = qed 𝓛 (‵ (right_owns table k) ∷ ‵ (holds R t b ν k e η None) ∷ []) ∵ fjoin ! $ done !
+      waited table k e η false = qed 𝓛 (‵ (right_owns t.pass k) ∷ ‵ (holds R t b ν k e η None) ∷ []) ∵ fjoin ! $ done !
+
+      module _ (table k : ℕ) (ns : List ℕ) (clear : (i : ℕ) → is_set_in ns i ≡ false) where
+        born_one : (i : ℕ) (η : GName) (w : Bool) → ⟦ right_owns t.vacant (i + k) ⟧ ∗ ⟦ right_owns t.filled (i + k) ⟧ ∗ ⟦ waiting R w table t.pass (i + k) ⟧ ∗ ⟦ bare_slot η i ⟧ ⊢ ⟦ numbered_slot R t b ν table k o ns η i ⟧
+        born_one i η w = let j : ℕ = i + k in let e : ℕ = value_in R o i in let set : Bool = is_set_in ns i in let v : Option R.Denot = None in
+            qed 𝓛 (‵ (right_owns t.vacant j) ∷ ‵ (right_owns t.filled j) ∷ ‵ (waiting R w table t.pass j) ∷ ‵ (bare e η) ∷ []) ∵ move ! (3 ∷ []) $ fsplit3 ! $
+            -- [the way to its end; its name; the borrow; vacant; filled; what waits]
+            move ! (3 ∷ 1 ∷ 2 ∷ []) $ fjoin3 ! $ move ! (3 ∷ 0 ∷ []) $ use2 𝓛 (‵ (had R t b ν table j e η None (who w))) (waited table j e η w) $ move ! (2 ∷ 0 ∷ []) $ fjoin ! $
+            nothing ! $ fpack ! (set ≡ is_some v) (λ _. ftrue) (clear i) $ fjoin ! $ fpack ! (Option R.Denot × Who) (shared_slot_as R t b ν table set j e η) (None, who w) $ move ! (1 ∷ 0 ∷ []) $ fjoin ! $ done !
+
+        born_all : (names : List ℕ) (i : ℕ) → ⟦ all_unborn R table t (length names) (i + k) ⟧ ∗ ⟦ each bare_slot names i ⟧ ⊢ ⟦ each (numbered_slot R t b ν table k o ns) names i ⟧
+        born_all [] i = qed 𝓛 (‵ ftrue ∷ ‵ ftrue ∷ []) ∵ drop ! $ done !
+        born_all (η ∷ names) i = let j : ℕ = i + k in let next : suc (i + k) ≡ suc i + k = omega arith in
+            qed 𝓛 (‵ (all_unborn R table t (length (η ∷ names)) j) ∷ ‵ (each bare_slot (η ∷ names) i) ∷ []) ∵ fsplit ! $ fsplit3 ! $ move ! (2 ∷ []) $ fpick ! (λ w. move ! (4 ∷ []) $ fsplit ! $
+            -- [the slot; the other slots; what waits; vacant; filled; the others that are unborn]
+            move ! (3 ∷ 4 ∷ 2 ∷ 0 ∷ []) $ types.Kit.group ! 4 $ use1 𝓛 (‵ (numbered_slot R t b ν table k o ns η i)) (born_one i η w) $ frame ! $ move ! (1 ∷ []) $
+            rewrite ! 0 (λ (m : ℕ). ‵ (all_unborn R table t (length names) m)) next refl $ by ! (born_all names (suc i)))
 
   module _ (d : WordView) (a : Global) where
     abbrev n : ℕ
@@ -106,18 +133,23 @@ module _ {M : Type 1} {𝓤 : Ura M} (𝓛 : Logic 𝓤) (R : RattleType) (t : T
     abbrev pub Lies : Ptr → Standing → Type 0
     Lies p s = (s.at ≡ p) × (length s.names ≡ n) × Sized R n p
 
-    -- a block that nobody else sees: its own lifetime's whole token, its slots, and the right to free it
+    -- a block whose slots' room is lent: words of flags that are all unset, its slots, the way back, and the right to free it
+    abbrev pub idle : Ptr → Standing → Fml
+    idle p s = fsep (flags R (block_of p) (count_of p) (empty_slots n)) (fsep (each (bare_slot (block_of p) s.own (count_of p)) s.names 0)
+        (fsep (back R (block_of p) (count_of p) n) (ghosts.dealloc_token a τ p)))
+
+    -- a block that nobody else sees: its own lifetime's whole token, and the block
     abbrev pub private : Ptr → Standing → Fml
-    private p s = fsep (flft (s.own ∷ []) full_share) (fsep (each_slot R (bare (block_of p) s.own) s.names (first R d) (count_of p)) (ghosts.dealloc_token a τ p))
+    private p s = fsep (flft (s.own ∷ []) full_share) (idle p s)
 
     abbrev Blank : Ptr → Fml
     Blank p = block_owns R (ghosts.dealloc_token a) p (empty_slots n) 0
 
     abbrev many : ℕ
-    many = length (empty_slots {X = R.Denot} n) + 0
+    many = length (empty_slots {X = R.Denot} n)
 
     as_many : many ≡ n
-    as_many = let c : Option R.Denot = None in let long : length (replicate n c) ≡ n = length-replicate n c in omega arith
+    as_many = let c : Option R.Denot = None in length-replicate n c
 
     pub placed : (p : Ptr) → ⟦ Blank p ⟧ ⊢ guard 𝓤 (InBlock p) ⟦ Blank p ⟧
     placed p = qed 𝓛 (‵ (Blank p) ∷ []) ∵ fsplit ! $ fpick ! (λ so. drop ! $ check ! so.0 $ nothing ! $ fpack ! (InBlock p × Fits R many) (λ _. ftrue) so $ fjoin ! $ done !)
@@ -126,19 +158,34 @@ module _ {M : Type 1} {𝓤 : Ura M} (𝓛 : Logic 𝓤) (R : RattleType) (t : T
     Out p s = guard 𝓤 (Lies p s) ⟦ private p s ⟧
 
     pub lend_out : (p : Ptr) → ⟦ Blank p ⟧ ⊢ H.⇛ (ex 𝓤 (Out p))
-    lend_out p = let b : ℕ = block_of p in let o : ℕ = count_of p in qed 𝓛 (‵ (Blank p) ∷ []) ∵ updating ! $ fsplit3 ! $ fpick ! (λ so. drop ! $ move ! (1 ∷ []) $ fsplit ! $ drop ! $
-        rewrite ! 0 (λ (m : ℕ). ‵ (ghosts.dealloc_token a (block_ty R m) p)) as_many refl $
-        use1 𝓛 (given (Testable p) (‵ (ghosts.dealloc_token a τ p))) (fact_use 𝓤 (Testable p) (dealloc_token-Testable 𝓛 a τ p) (guard_i 𝓤 (Testable p) ⟦ ghosts.dealloc_token a τ p ⟧)) $ learn ! (λ test. lft_new ! tt (λ ν. move ! (2 ∷ []) $
-        use1 𝓛 (later (some (λ (names : List ℕ). given (length names ≡ n) (‵ (each_slot R (bare b ν) names (first R d) o))))) (lends_all b ν n (first R d) o) $ await ! tt $ pick ! (λ names. learn ! (λ long.
-        move ! (1 ∷ 0 ∷ 2 ∷ []) $ fjoin3 ! $ now ! $ show ! (Out p) record { at = p; own = ν; names = names } $ check ! (refl, long, (so.0, test, subst (Fits R) as_many so.1)) $ done !)))))
+    lend_out p = let b : ℕ = block_of p in let o : ℕ = count_of p in qed 𝓛 (‵ (Blank p) ∷ []) ∵ updating ! $ fsplit3 ! $ fpick ! (λ so. drop ! $ move ! (1 ∷ []) $ fsplit3 ! $
+        -- [the slots; the way back; the right to free; the words]
+        move ! (1 ∷ []) $ rewrite ! 0 (λ (m : ℕ). ‵ (back R b o m)) as_many refl $ move ! (2 ∷ []) $ rewrite ! 0 (λ (m : ℕ). ‵ (ghosts.dealloc_token a (block_ty R m) p)) as_many refl $
+        use1 𝓛 (given (Testable p) (‵ (ghosts.dealloc_token a τ p))) (fact_use 𝓤 (Testable p) (dealloc_token-Testable 𝓛 a τ p) (guard_i 𝓤 (Testable p) ⟦ ghosts.dealloc_token a τ p ⟧)) $ learn ! (λ test. lft_new ! tt (λ ν.
+        -- [its own token; the right to free; the way back; the slots; the words]
+        move ! (3 ∷ []) $ use1 𝓛 (later (some (λ (names : List ℕ). given (length names ≡ n) (‵ (each (bare_slot b ν o) names 0))))) (lends_all b ν o n 0) $ await ! tt $ pick ! (λ names. learn ! (λ long.
+        move ! (3 ∷ 2 ∷ []) $ fjoin ! $ move ! (3 ∷ 1 ∷ 0 ∷ []) $ fjoin3 ! $ move ! (1 ∷ 0 ∷ []) $ fjoin ! $
+        now ! $ show ! (Out p) record { at = p; own = ν; names = names } $ check ! (refl, long, (so.0, test, subst (Fits R) as_many so.1)) $ done !)))))
 
     -- whoever has the whole token takes the block back
     pub take_back : (p : Ptr) (s : Standing) → Lies p s → ⟦ private p s ⟧ ⊢ H.⇛ ⟦ Blank p ⟧
-    take_back p s so = let b : ℕ = block_of p in let o : ℕ = count_of p in let κ₀ : Lft = s.own ∷ t.life in let e : ℕ = length (empty_slots {X = R.Denot} n) * stride R + o in let ρ : Ty = bare_ty (slot_ty R) in
-        qed 𝓛 (‵ (private p s) ∷ []) ∵ updating ! $ fsplit3 ! $ lft_end ! tt $ use1 𝓛 (‵ (fdead κ₀)) (𝓛.lfts.dead-incl κ₀ (s.own ∷ []) (meet_⊑_left (s.own ∷ []) t.life)) $
-        use2 𝓛 (later (‵ (along R (blocks.slot R b) (empty_slots (length s.names)) o))) (takes_all b s.own s.names (first R d) o) $ await ! tt $ rewrite ! 0 (λ (m : ℕ). ‵ (along R (blocks.slot R b) (empty_slots m) o)) so.1 refl $ move ! (1 ∷ []) $
-        rewrite ! 0 (λ (m : ℕ). ‵ (ghosts.dealloc_token a (block_ty R m) p)) (sym as_many) refl $ use0 𝓛 (‵ (froom (ty_array ρ 0) b e)) (𝓛.laws.room_nil ρ b e) $ fjoin ! $ move ! (1 ∷ 0 ∷ []) $
-        nothing ! $ fpack ! (InBlock p × Fits R many) (λ _. ftrue) (so.2.0, subst (Fits R) (sym as_many) so.2.2) $ fjoin3 ! $ now ! $ done !
+    take_back p s so = let b : ℕ = block_of p in let o : ℕ = count_of p in let κ₀ : Lft = s.own ∷ t.life in
+        qed 𝓛 (‵ (private p s) ∷ []) ∵ updating ! $ fsplit3 ! $ lft_end ! tt $ use1 𝓛 (‵ (fdead κ₀)) (𝓛.lfts.dead-incl κ₀ (s.own ∷ []) (meet_⊑_left (s.own ∷ []) t.life)) $ move ! (2 ∷ []) $ fsplit3 ! $
+        -- [the slots; the way back; the right to free; its life is over; the words]
+        move ! (1 ∷ []) $ rewrite ! 0 (λ (m : ℕ). ‵ (back R b o m)) (sym as_many) refl $ move ! (2 ∷ []) $ rewrite ! 0 (λ (m : ℕ). ‵ (ghosts.dealloc_token a (block_ty R m) p)) (sym as_many) refl $
+        move ! (1 ∷ 0 ∷ []) $ fjoin ! $ move ! (2 ∷ 1 ∷ []) $ use2 𝓛 (later (‵ (each (slot R b o) (empty_slots (length s.names)) 0))) (takes_all b s.own o s.names 0) $ await ! tt $
+        rewrite ! 0 (λ (m : ℕ). ‵ (each (slot R b o) (empty_slots m) 0)) so.1 refl $ move ! (2 ∷ 0 ∷ 1 ∷ []) $ fjoin3 ! $
+        nothing ! $ fpack ! (InBlock p × Fits R many) (λ _. ftrue) (so.2.0, subst (Fits R) (sym as_many) so.2.2) $ fjoin ! $ now ! $ done !
+
+    -- its slots are born under the turn
+    born_block : (p : Ptr) (s : Standing) → length s.names ≡ n → ⟦ all_unborn R d.table t n (first R d) ⟧ ∗ ⟦ idle p s ⟧ ⊢ ⟦ fsep (block_stands R d t p s) (heap_token τ p) ⟧
+    born_block p s long = let b : ℕ = block_of p in let o : ℕ = count_of p in let k : ℕ = first R d in let same : k ≡ 0 + k = omega arith in
+        qed 𝓛 (‵ (all_unborn R d.table t n k) ∷ ‵ (idle p s) ∷ []) ∵ rewrite ! 0 (λ (m : ℕ). ‵ (all_unborn R d.table t m k)) (sym long) refl $ rewrite ! 0 (λ (m : ℕ). ‵ (all_unborn R d.table t (length s.names) m)) same refl $
+        move ! (1 ∷ []) $ fsplit3 ! $ fpick ! (λ ns. fsplit3 ! $ fpick ! (λ are. drop ! $ move ! (1 ∷ []) $ drop ! $
+        -- [the words; the slots; the way back and the right to free; what waits]
+        move ! (3 ∷ 1 ∷ []) $ use2 𝓛 (‵ (slots_stand R d t p s ns)) (born_all b s.own o d.table k ns (none_set R n ns are.1) s.names 0) $ move ! (1 ∷ 0 ∷ []) $ fjoin ! $
+        nothing ! $ fpack ! (AreFlagWords R n ns) (λ _. ftrue) (clear_words R n ns are.1 are.0) $ fjoin ! $ fpack ! (List ℕ) (slots_under R n b o (slots_stand R d t p s)) ns $
+        move ! (1 ∷ []) $ fsplit ! $ move ! (2 ∷ 0 ∷ []) $ fjoin ! $ move ! (1 ∷ []) $ fpack ! Global (λ z. ghosts.dealloc_token z τ p) a $ move ! (1 ∷ 0 ∷ []) $ fjoin ! $ done !))
 
     -- the exchange of null for the block
     module _ (b o : ℕ) (q : Share) (nb no : ℕ) (s : Standing) (so : Lies (block_ptr nb no) s) where
@@ -164,10 +211,9 @@ module _ {M : Type 1} {𝓤 : Ura M} (𝓛 : Logic 𝓤) (R : RattleType) (t : T
       found null_ptr = let m = mark s in let γ : GName = t.which in let G : Pr = ⟦ J ⟧ ∗ ⟦ won null_ptr ⟧ in
           qed 𝓛 (‵ (cell b o null_ptr) ∷ ‵ (beside_pointer R d t null_ptr) ∷ ‵ (private new s) ∷ []) ∵ show ! F (null_ptr, true) $ frame ! $ use0 𝓛 (‵ (alike null_ptr null_ptr true)) (alike_null 𝓛 null_ptr (lit< tt)) $ frame ! $
           assume ! (‵ (cell b o new)) $ move ! (1 ∷ []) $ fsplit3 ! $ drop ! $ use1 𝓛 (raw (upd 𝓤 (A.obs γ m ∗ A.auth γ m))) (𝓛.names.name_set_upd γ gnil gnil m) $ settle 𝓛 G (‵ (fobs γ m) ⊛ ‵ (fauth γ m)) $ suffices ! _ (upd_i 𝓤 G) $ split ! $
-          use1 𝓛 (‵ (fres γ m)) (𝓛.names.obs-res γ m) $ move ! (1 ∷ 0 ∷ []) $ fjoin ! $ move ! (3 ∷ []) $ fsplit3 ! $
-          -- [its own token; the slots; the right to free; settled; what waits; the pointer]
-          move ! (4 ∷ []) $ rewrite ! 0 (λ (k : ℕ). ‵ (all_unborn R d.table t k (first R d))) (sym so.1) refl $ move ! (0 ∷ 2 ∷ []) $
-          use2 𝓛 (‵ (each_slot R (shared_slot R t nb s.own d.table) s.names (first R d) no)) (born_all nb s.own d.table s.names (first R d) no) $ move ! (2 ∷ []) $ fpack ! Global (λ z. ghosts.dealloc_token z τ new) a $ move ! (1 ∷ 0 ∷ []) $ fjoin ! $
+          use1 𝓛 (‵ (fres γ m)) (𝓛.names.obs-res γ m) $ move ! (1 ∷ 0 ∷ []) $ fjoin ! $ move ! (3 ∷ []) $ fsplit ! $
+          -- [its own token; the block; settled; what waits; the pointer]
+          move ! (3 ∷ 1 ∷ []) $ use2 𝓛 (‵ (fsep (block_stands R d t new s) (heap_token τ new))) (born_block new s so.1) $
           move ! (2 ∷ 1 ∷ 0 ∷ []) $ fjoin3 ! $ nothing ! $ fpack ! (Lies new s) (λ _. ftrue) so $ fjoin ! $
           use1 𝓛 (‵ (standing R d t new (s, left full_share)) ⊛ ‵ (part 𝓛 R d t new (s, right full_share))) (parted 𝓛 R d t new (s, full_share)) $ split ! $
           fpack ! (Standing × Share) (standing R d t new) (s, left full_share) $ move ! (2 ∷ 0 ∷ []) $ fjoin ! $ fpack ! Ptr Held new $ done !

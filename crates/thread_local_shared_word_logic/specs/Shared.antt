@@ -13,7 +13,9 @@
 --     v         what a slot holds: a value, or none              j    whether a `&` to a value names no thread
 --     d         the view of a word: its table, bucket, reserved  t    a turn: the life and the names of one sharing
 --     b, o      where the word lies, or where its block does: the allocation, and the offset in it
---     e         the offset of a slot in its block                k    the id that the slot is for
+--     e         where the value of a slot lies in its block      k    the id that the slot is for
+--     i         the number of a slot in its block                set  whether the slot's flag is set
+--     ns        the words of flags of a block
 --     p         the pointer in the word: null, or to a block     s    the block that stands, or what a slot holds and who has it
 --     ν         the lifetime of its own of a standing block      η    the name under which a slot's value is tracked
 --     κ, β      the lifetime for which something is lent: κ of any `&`, β of the word's own
@@ -22,22 +24,23 @@
 -- Words from other files:
 --     fact φ              φ holds, and nothing is owned
 --     right_owns γ k      the one token at the key k under the name γ; under a table's name it is the right to the id k
---     flag_of v           the flag of a slot that holds v: 0 for none, and else 1
---     stride R            how many bytes a slot takes
---     value_at R e        where the value lies of the slot at e
+--     each F xs i         F of each of these and its number, from i on
+--     value_in R o i      where the value of the slot i lies in the block at o
+--     flags_at R b o n c  the word n as the flags of the chunk c
+--     is_set_in ns i      the flag of the slot i in these words
 --     place R v b e       the value v at b and e, or the room for one
---     rim R b e           the way back: the parts of the slot at e, given back empty, make its room
+--     back R b o n        the way back: the words and the slots of a block of n slots, given back as room, make its room
 --     heap_token τ p      the right to free what the heap gave for the type τ at p
 --     Shareable R         a `&` to a value of R names no thread
 --     Judged R            it is known whether that is so
---     word b e n          the number n lies in the atomic word at b and e          cell b o p    the pointer p lies in the one at b and o
+--     cell b o p          the pointer p lies in the atomic word at b and o
 --     shared_of R x b e κ a `&` for κ to the value x, which lies at b and e
 --     fobs, fauth, fres   a name: it said this once; what it says now; it says this for good
 --     flft κ q            a part of κ's token: κ hasn't ended                      fdead κ       κ has ended
 --     fbor κ P            P is lent out until κ ends                               flent κ P     P comes back once κ has ended
 --     before κ α          κ ends before α does
 
-use Rattle.std.specs.Prelude.{◌≡◌, ℕ, zero, suc, ◌+◌, ◌^◌, Bool, true, false, List, [], ◌∷◌, length, Option, None, Some}
+use Rattle.std.specs.Prelude.{◌≡◌, ℕ, zero, suc, ◌+◌, ◌^◌, ◌≤◌, Bool, true, false, List, [], ◌∷◌, length, Option, None, Some, is_some}
 use Rattle.std.specs.Coded.{coded_option}
 use mathlib.Core.Logic.{inl, inr}
 use base.Stored.{Gv, Coded, gnil, gcons, coded×, coded_ℕ, coded_list, coded_bool, coded_via}
@@ -47,12 +50,12 @@ use denote.RattleType.{RattleType}
 use denote.Memory.{shared_of}
 use denote.RawPtr.{Ptr, block_ptr, null_ptr, block_of, count_of, InBlock, Testable, coded_ptr}
 use denote.Sharing.{said, beside, some, ends, always}
-use Rattle.std.specs.Sync.RawAtomic.{word}
 use Rattle.std.specs.Sync.RawAtomic.Pointer.{cell}
 use Rattle.thread_local_model.specs.Place.{id_at}
 use Rattle.thread_local_rights.specs.Rights.{right_owns}
 use Rattle.thread_local_judged.specs.Judged.{Shareable, Judged}
-use Rattle.thread_local_blocks.specs.Slots.{fact, flag_of, heap_token, stride, block_ty, Fits, value_at, rim, place}
+use Rattle.thread_local_bits.specs.Bits.{is_set_in}
+use Rattle.thread_local_chunks.specs.Slots.{fact, heap_token, chunks, each, AreWords, block_ty, Fits, value_in, flags_at, place, back}
 
 -- 1. What is known of a word, of a sharing and of a block.
 
@@ -117,7 +120,7 @@ module _ (R : RattleType) where
 
   -- the place of a slot's value, under the name that tracks it
   abbrev pub value_of : ℕ → ℕ → GName → Fml
-  value_of b e η = fex (Option R.Denot) (λ c. fsep (place R c b (value_at R e)) (fauth η (value_code c)))
+  value_of b e η = fex (Option R.Denot) (λ c. fsep (place R c b e) (fauth η (value_code c)))
 
   module _ (t : Turn) (b ν : ℕ) where
     -- how long what is lent of a block at b lasts
@@ -126,7 +129,7 @@ module _ (R : RattleType) where
 
     -- a `&` to the value of the slot at e
     abbrev pub shared_value : ℕ → R.Denot → Fml
-    shared_value e x = shared_of R x b (value_at R e) age
+    shared_value e x = shared_of R x b e age
 
     -- the same, for whoever shows that it names no thread
     abbrev pub opened : ℕ → R.Denot → Fml
@@ -154,19 +157,26 @@ module _ (R : RattleType) where
     had table k e η v early = fsep (right_owns table k) (holds k e η None)
 
     -- a slot whose value is v
-    abbrev pub shared_slot_as : ℕ → ℕ → ℕ → GName → Option R.Denot × Who → Fml
-    shared_slot_as table k e η s = fsep (word b (e + 0) (flag_of s.0)) (fsep (stays k e η s.0) (had table k e η s.0 s.1))
+    abbrev pub shared_slot_as : ℕ → Bool → ℕ → ℕ → GName → Option R.Denot × Who → Fml
+    shared_slot_as table set k e η s = fsep (fact (set ≡ is_some s.0)) (fsep (stays k e η s.0) (had table k e η s.0 s.1))
 
     -- a slot, with the loan of its value's place
-    abbrev pub shared_slot : ℕ → ℕ → ℕ → GName → Fml
-    shared_slot table k e η = fsep (rim R b e) (fsep (flent age (value_of b e η)) (fex (Option R.Denot × Who) (shared_slot_as table k e η)))
+    abbrev pub shared_slot : ℕ → Bool → ℕ → ℕ → GName → Fml
+    shared_slot table set k e η = fsep (flent age (value_of b e η)) (fex (Option R.Denot × Who) (shared_slot_as table set k e η))
+
+    -- the slot i of a block at o, whose first id is k and whose flags are in these words
+    abbrev pub numbered_slot : ℕ → ℕ → ℕ → List ℕ → GName → ℕ → Fml
+    numbered_slot table k o ns η i = shared_slot table (is_set_in ns i) (i + k) (value_in R o i) η
 
   -- 3. The slots of a bucket: of a block that stands, and before there is one.
 
-  -- one slot for each name, from the key k and the place e on
-  abbrev pub each_slot : (ℕ → ℕ → GName → Fml) → List ℕ → ℕ → ℕ → Fml
-  each_slot F [] k e = ftrue
-  each_slot F (η ∷ names) k e = fsep (F k e η) (each_slot F names (suc k) (e + stride R))
+  -- the words of flags of a block of n slots, in the block at b and o
+  abbrev pub AreFlagWords : ℕ → List ℕ → Type 0
+  AreFlagWords n ns = (length ns ≡ chunks n) × AreWords ns × ((i : ℕ) → n ≤ i → is_set_in ns i ≡ false)
+
+  -- words of flags, and n slots whose flags they are
+  abbrev pub slots_under : ℕ → ℕ → ℕ → (List ℕ → Fml) → List ℕ → Fml
+  slots_under n b o slots ns = fsep (fact (AreFlagWords n ns)) (fsep (each (flags_at R b o) ns 0) (slots ns))
 
   -- while there is no block for a slot: the right of a claim that came early and took the pass, or else the pass
   abbrev pub waiting : Bool → GName → GName → ℕ → Fml
@@ -191,21 +201,25 @@ module _ (R : RattleType) where
 
   -- which of the two it is
   abbrev pub rests : Bool → ℕ → ℕ → Option R.Denot → Fml
-  rests false b e v = place R v b (value_at R e)
+  rests false b e v = place R v b e
   rests true b e v = fex (Lft × GName) (due b e v)
 
   -- a slot at rest
-  abbrev pub slot_rests_as : ℕ → ℕ → Option R.Denot × Bool → Fml
-  slot_rests_as b e s = fsep (word b (e + 0) (flag_of s.0)) (rests s.1 b e s.0)
+  abbrev pub slot_rests_as : Bool → ℕ → ℕ → Option R.Denot × Bool → Fml
+  slot_rests_as set b e s = fsep (fact (set ≡ is_some s.0)) (rests s.1 b e s.0)
 
   -- the same of some value
-  abbrev pub slot_rests : ℕ → ℕ → Fml
-  slot_rests b e = fsep (rim R b e) (fex (Option R.Denot × Bool) (slot_rests_as b e))
+  abbrev pub slot_rests : Bool → ℕ → ℕ → Fml
+  slot_rests set b e = fex (Option R.Denot × Bool) (slot_rests_as set b e)
 
-  -- the same of n slots side by side
-  abbrev pub slots_rest : ℕ → ℕ → ℕ → Fml
-  slots_rest zero b e = ftrue
-  slots_rest (suc n) b e = fsep (slot_rests b e) (slots_rest n b (e + stride R))
+  -- the same of the slots of a block at o from the slot i on, n of them, whose flags are in these words
+  abbrev pub slots_rest : ℕ → ℕ → ℕ → ℕ → List ℕ → Fml
+  slots_rest zero i b o ns = ftrue
+  slots_rest (suc n) i b o ns = fsep (slot_rests (is_set_in ns i) b (value_in R o i)) (slots_rest n (suc i) b o ns)
+
+  -- what lies at rest of a block of n slots: its words, its slots, and the way back
+  abbrev pub block_rests : ℕ → ℕ → ℕ → Fml
+  block_rests n b o = fsep (fex (List ℕ) (slots_under n b o (slots_rest n 0 b o))) (back R b o n)
 
   -- a block of n slots may lie there
   abbrev pub Sized : ℕ → Ptr → Type 0
@@ -230,10 +244,18 @@ module _ (R : RattleType) where
       abbrev pub settled : Standing → Fml
       settled s = fsep (fauth t.which (mark s)) (fres t.which (mark s))
 
+      -- the slots of a block, one for each name, under the words of their flags
+      abbrev pub slots_stand : Ptr → Standing → List ℕ → Fml
+      slots_stand p s ns = each (numbered_slot t (block_of p) s.own d.table first (count_of p) ns) s.names 0
+
+      -- what stands of a block: its words, its slots, and the way back
+      abbrev pub block_stands : Ptr → Standing → Fml
+      block_stands p s = fsep (fex (List ℕ) (slots_under len (block_of p) (count_of p) (slots_stand p s))) (back R (block_of p) (count_of p) len)
+
       -- beside a pointer p to a block: the name says which it is, and here are a part of its own lifetime's token, its slots, and the right to free it
       abbrev pub standing : Ptr → Standing × Share → Fml
       standing p s = fsep (fact ((s.0.at ≡ p) × (length s.0.names ≡ len) × Sized len p)) (fsep (settled s.0) (fsep (flft (s.0.own ∷ []) s.1)
-          (fsep (each_slot (shared_slot t (block_of p) s.0.own d.table) s.0.names first (count_of p)) (heap_token (block_ty R len) p))))
+          (fsep (block_stands p s.0) (heap_token (block_ty R len) p))))
 
       -- what lies beside the pointer
       abbrev pub beside_pointer : Ptr → Fml
@@ -255,7 +277,7 @@ module _ (R : RattleType) where
     -- what a word at rest owns beside its pointer
     abbrev pub at_rest : Ptr → Fml
     at_rest null_ptr = fact (d.reserved ≡ false)
-    at_rest (block_ptr b o) = fsep (fact (Sized len (block_ptr b o))) (fsep (slots_rest len b o) (heap_token (block_ty R len) (block_ptr b o)))
+    at_rest (block_ptr b o) = fsep (fact (Sized len (block_ptr b o))) (fsep (block_rests len b o) (heap_token (block_ty R len) (block_ptr b o)))
 
     -- a word at rest whose fields are these
     abbrev pub word_owns : (Ptr → Fml) → Fml

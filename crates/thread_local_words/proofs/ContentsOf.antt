@@ -39,19 +39,5 @@ module _ {X : Type 0} where
   pub no_contents_of : (s : RowOfWords X) → length s.words ≡ 63 → ((i : ℕ) (d : Word X) → i < 63 → (slice_index_or s.words i d).slots ≡ []) → contents_of s ≡ no_contents
   no_contents_of s long each = ap as_contents (nulls s.words 63 long each)
 
-  abbrev no_slots : List (Option X)
-  no_slots = []
-
   pub value_changes : (s : RowOfWords X) (b i : ℕ) (x : X) → contents_of (words_with_value s b i x) ≡ with_slot (contents_of s) b i (Some x)
   value_changes s b i x = let old : Word X = slice_index_or s.words b null_word in slot_changes s b old (with_slot_value old i x) i (Some x) refl refl
-
-  absent : (rows : List (List (Option X))) (n : ℕ) → length rows ≡ n → ((k : ℕ) → k < n → slice_index_or rows k no_slots ≡ no_slots) → rows ≡ replicate n no_slots
-  absent [] zero e each = refl
-  absent [] (suc n) e each = absurd (omega arith)
-  absent (r ∷ rs) zero e each = absurd (omega arith)
-  absent (r ∷ rs) (suc n) e each = ap (λ (cs : List (Option X)). cs ∷ rs) (each 0 (omega arith)) ∙
-      ap (λ (rows : List (List (Option X))). no_slots ∷ rows) (absent rs n (let r : length rs ≡ n = omega arith in r) (λ k near. each (suc k) (omega arith)))
-
-  -- contents of which every bucket is absent
-  pub all_absent : (s : Contents X) → length s.rows ≡ 63 → ((k : ℕ) → k < 63 → row s k ≡ []) → s ≡ no_contents
-  all_absent s long each = ap as_contents (absent s.rows 63 long each)

@@ -3,3 +3,4 @@ pub mod LentValue
 pub mod Lent
 pub mod ContentsOf
 pub mod Clearing
+pub mod Counting

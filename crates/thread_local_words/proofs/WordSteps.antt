@@ -1,7 +1,8 @@
--- A word as a value, and a slot of the block that it leads to. Assumes `Logic`.
-use Rattle.thread_local_blocks.proofs.Names.{◌≡◌, ℕ, ◌+◌, ◌*◌, ◌^◌, ◌<◌, List, [], ◌∷◌, ◌++◌, length, length-set, set, refl, sym, ap, ◌∙◌, subst, arith, lit<, T, Option, Ura, Ty, ty_ptr, ty_struct, tcons, tnil, Val, vstruct, vcons, vnil, of_list, has_ty, WT, SProp, ent, sep, wand, all, all_e, guard, emp, via, id⊢, apply∗, Fml, Logic, sem, ‵, raw, ◌⊛◌, given, ◌$◌, ◌∵◌, !, qed, by, move, keep, drop, split, fsplit, fsplit3, fjoin, fjoin3, fpick, fpack, check, learn, frame, each, assume, use1, use2, done, fact_i, RattleType, Is, Ptr, block_ptr, null_ptr, block_of, count_of, InBlock, ptr_val}
-use Rattle.std.specs.Prelude.{not, nat_lt}
+-- A word as a value, and a slot and a chunk's word of the block that it leads to. Assumes `Logic`.
+use Rattle.thread_local_chunks.proofs.Names.{◌≡◌, ℕ, ◌-◌, ◌*◌, ◌^◌, ◌<◌, List, [], ◌∷◌, ◌++◌, length, length-set, set, refl, sym, ap, ◌∙◌, subst, arith, lit<, T, Option, Ura, Ty, ty_ptr, ty_struct, tcons, tnil, Val, vstruct, vcons, vnil, of_list, has_ty, WT, SProp, ent, sep, wand, ex, all, guard, emp, via, id⊢, apply∗, Fml, Logic, sem, ‵, raw, ◌⊛◌, some, given, ◌$◌, ◌∵◌, !, qed, by, move, keep, drop, split, fsplit3, fjoin3, fpick, fpack, pick, check, show, learn, frame, assume, use1, use2, done, fact_i, RattleType, Is, Ptr, block_ptr, null_ptr, InBlock, ptr_val}
+use Rattle.std.specs.Prelude.{◌/◌, ◌%◌, not, nat_lt}
 use Rattle.std.proofs.lemmas.Bool.{lt-ltb}
+use Rattle.std.proofs.Math.Nat.{div-le_self}
 use mir.Val.{ptr_same, vnull}
 use contract.Monad.{fact, fact_mono}
 use denote.RawPtr.{Testable}
@@ -11,10 +12,10 @@ use denote.Struct.Owning.{shape}
 use Rattle.std.specs.declared.alloc.Global.{Global}
 use Rattle.std.specs.contracts.impls.GlobalAllocator.TheImpl.{ghosts}
 use Rattle.std.proofs.GlobalToken.{dealloc_token-Testable}
-use Rattle.thread_local_blocks.specs.Slots.{slot_at, stride, block_ty, heap_token, slot, block_owns}
+use Rattle.thread_local_chunks.specs.Slots.{slot_at, block_ty, heap_token, block_owns}
 use Rattle.thread_local_words.specs.Leads.{word_owns}
 use Rattle.thread_local_words.specs.contracts.word.Word as word
-use Rattle.thread_local_blocks.proofs.Slots.{slot_out, Back, slot_back}
+use Rattle.thread_local_chunks.proofs.Slots.{IsWordIn, IsSlotIn, Change, flags_of, slot_of, Back, slot_out, slot_back, word_out}
 
 abbrev pub word_val : Ptr → Val
 word_val p = vstruct (vcons (ptr_val p) vnil)
@@ -22,6 +23,33 @@ word_val p = vstruct (vcons (ptr_val p) vnil)
 pub word_good : (p : Ptr) → T (has_ty (ty_struct [] (tcons ty_ptr tnil)) (word_val p)) × WT (word_val p)
 word_good (block_ptr b o) = (tt, (tt, tt))
 word_good null_ptr = (tt, (record { fits = lit< tt }, tt))
+
+-- a slot's chunk and its place there
+pub chunk_first : (j n : ℕ) → j < n → j / 64 * 64 < n
+chunk_first j n near = omega arith
+
+pub chunk_fits : (j : ℕ) → j < 2 ^ 64 → j / 64 < 2 ^ 64
+chunk_fits j fits = omega arith
+
+pub place_below : (j : ℕ) → j % 64 < 64
+place_below j = omega arith
+
+pub place_fits : (j : ℕ) → j % 64 < 2 ^ 64
+place_fits j = omega arith
+
+pub small_fits : (n : ℕ) → n < 2 ^ 63 → n < 2 ^ 64
+small_fits n small = omega arith
+
+-- a word that is shifted is a word
+pub shifted_right : (word places : ℕ) → word < 2 ^ 64 → word / 2 ^ places < 2 ^ 64
+shifted_right word places fits = let less = div-le_self word (2 ^ places) in omega arith
+
+pub shifted_left : (word places : ℕ) → word * 2 ^ places % 2 ^ 64 < 2 ^ 64
+shifted_left word places = omega arith
+
+-- and so is one that is turned
+pub turned : (word : ℕ) → 2 ^ 64 - 1 - word < 2 ^ 64
+turned word = omega arith
 
 module _ (R : RattleType) where
   abbrev pub Words : RattleType
@@ -69,20 +97,27 @@ module _ (R : RattleType) where
     to_word p [] some_slot = absurd (omega arith)
     to_word p (c ∷ cs) some_slot = id⊢ 𝓤 _
 
-    -- a slot of the block, with the way back for whatever it will hold
-    abbrev pub Again : Ptr → List C → ℕ → C → Pr
-    Again p cs j c = ⟦ slot R (block_of p) c (j * stride R + count_of p) ⟧ -∗ ⟦ W p (set cs j c) ⟧
+    -- a slot of the block with its chunk's word, and the way back for whatever they become
+    abbrev pub Again : Ptr → List C → (j word : ℕ) → Pr
+    Again p cs j word = all 𝓤 (Back 𝓛 R heap_token p cs j word)
 
     pub word_slot : (p : Ptr) (cs : List C) (j : ℕ) → j < length cs
-        → ⟦ W p cs ⟧ ⊢ guard 𝓤 (InBlock p × (j * stride R < 2 ^ 63)) (⟦ slot R (block_of p) (slot_at cs j) (j * stride R + count_of p) ⟧ ∗ all 𝓤 (Again p cs j))
-    word_slot p cs j near = let e : ℕ = j * stride R + count_of p in qed 𝓛 (‵ (W p cs) ∷ []) ∵ use1 𝓛 (‵ (B p cs)) (to_block p cs (omega arith)) $
-        use1 𝓛 (given (InBlock p × (j * stride R < 2 ^ 63)) (‵ (slot R (block_of p) (slot_at cs j) e) ⊛ raw (all 𝓤 (Back 𝓛 R heap_token p cs 0 j)))) (slot_out 𝓛 R heap_token p cs 0 j near) $ learn ! (λ so. check ! so $ split ! $ frame ! $
-        each ! (Again p cs j) (λ c. assume ! (‵ (slot R (block_of p) c e)) $ use2 𝓛 (‵ (B p (set cs j c))) (slot_back 𝓛 R heap_token p cs 0 j c) $
-        by ! (to_word p (set cs j c) (let long = length-set cs j c in omega arith))))
+        → ⟦ W p cs ⟧ ⊢ ex 𝓤 (λ (word : ℕ). guard 𝓤 (IsSlotIn R p cs j word) (⟦ flags_of R p word (j / 64) ⟧ ∗ ⟦ slot_of R p (slot_at cs j) j ⟧ ∗ Again p cs j word))
+    word_slot p cs j near = via 𝓤 _ (to_block p cs (omega arith)) (slot_out 𝓛 R heap_token p cs j near)
 
-    pub word_again : (p : Ptr) (cs : List C) (j : ℕ) (c : C) → ⟦ slot R (block_of p) c (j * stride R + count_of p) ⟧ ∗ all 𝓤 (Again p cs j) ⊢ ⟦ W p (set cs j c) ⟧
-    word_again p cs j c = qed 𝓛 (‵ (slot R (block_of p) c (j * stride R + count_of p)) ∷ raw (all 𝓤 (Again p cs j)) ∷ []) ∵ move ! (1 ∷ []) $ use1 𝓛 (raw (Again p cs j c)) (all_e 𝓤 (Again p cs j) c) $ move ! (1 ∷ 0 ∷ []) $
-        by ! (apply∗ 𝓤 ⟦ slot R (block_of p) c (j * stride R + count_of p) ⟧ ⟦ W p (set cs j c) ⟧)
+    pub word_again : (p : Ptr) (cs : List C) (j word : ℕ) (x : Change R.Denot j word) → j < length cs
+        → ⟦ flags_of R p x.new (j / 64) ⟧ ∗ ⟦ slot_of R p x.value j ⟧ ∗ Again p cs j word ⊢ ⟦ W p (set cs j x.value) ⟧
+    word_again p cs j word x near = via 𝓤 _ (slot_back 𝓛 R heap_token p cs j word x) (to_word p (set cs j x.value) (let long = length-set cs j x.value in omega arith))
+
+    -- a chunk's word of the block, which is read and given back
+    abbrev pub Same : Ptr → List C → (c word : ℕ) → Pr
+    Same p cs c word = ⟦ flags_of R p word c ⟧ -∗ ⟦ W p cs ⟧
+
+    pub word_chunk : (p : Ptr) (cs : List C) (c : ℕ) → c * 64 < length cs → ⟦ W p cs ⟧ ⊢ ex 𝓤 (λ (word : ℕ). guard 𝓤 (IsWordIn R p cs c word) (⟦ flags_of R p word c ⟧ ∗ Same p cs c word))
+    word_chunk p cs c near = let Out : ℕ → Pr = λ word. guard 𝓤 (IsWordIn R p cs c word) (⟦ flags_of R p word c ⟧ ∗ Same p cs c word) in
+        qed 𝓛 (‵ (W p cs) ∷ []) ∵ use1 𝓛 (‵ (B p cs)) (to_block p cs (omega arith)) $
+        use1 𝓛 (some (λ (word : ℕ). given (IsWordIn R p cs c word) (‵ (flags_of R p word c) ⊛ raw (⟦ flags_of R p word c ⟧ -∗ ⟦ B p cs ⟧)))) (word_out 𝓛 R heap_token p cs c near) $ pick ! (λ word. learn ! (λ so.
+        show ! Out word $ check ! so $ split ! $ frame ! $ assume ! (‵ (flags_of R p word c)) $ use2 𝓛 (‵ (B p cs)) (apply∗ 𝓤 ⟦ flags_of R p word c ⟧ ⟦ B p cs ⟧) $ by ! (to_word p cs (omega arith))))
 
     -- what a test against null says
     abbrev pub Tells : Ptr → List C → Type 0
@@ -97,15 +132,15 @@ module _ (R : RattleType) where
 
     pub word_tells : (p : Ptr) (cs : List C) → ⟦ W p cs ⟧ ⊢ fact 𝓤 (Tells p cs)
     word_tells p [] = qed 𝓛 (‵ (W p []) ∷ []) ∵ fpick ! (λ e. by ! (fact_i 𝓤 (Tells p []) _ (tells_null p e)))
-    word_tells p (c ∷ cs) = let n : ℕ = length (c ∷ cs) + 0 in qed 𝓛 (‵ (W p (c ∷ cs)) ∷ []) ∵ fsplit3 ! $ fpick ! (λ so. drop ! $ move ! (1 ∷ []) $ fsplit ! $ drop ! $ fpick ! (λ a.
-        keep ! (0 ∷ []) $ by ! (via 𝓤 _ (dealloc_token-Testable 𝓛 a (block_ty R n) p) (fact_mono 𝓤 (Testable p) (Tells p (c ∷ cs)) (λ t. tells_block p c cs so.0 t)))))
+    word_tells p (c ∷ cs) = let τ : Ty = block_ty R (length (c ∷ cs)) in qed 𝓛 (‵ (W p (c ∷ cs)) ∷ []) ∵ fsplit3 ! $ fpick ! (λ so. drop ! $ move ! (1 ∷ []) $ fsplit3 ! $ move ! (2 ∷ []) $ fpick ! (λ a.
+        keep ! (0 ∷ []) $ by ! (via 𝓤 _ (dealloc_token-Testable 𝓛 a τ p) (fact_mono 𝓤 (Testable p) (Tells p (c ∷ cs)) (λ t. tells_block p c cs so.0 t)))))
 
     -- a block of any handle is a word's
     pub lays : (a : Global) (p : Ptr) (cs : List C) → 0 < length cs → ⟦ block_owns R (ghosts.dealloc_token a) p cs 0 ⟧ ⊢ ⟦ W p cs ⟧
-    lays a p cs some_slot = let n : ℕ = length cs + 0 in let τ : Ty = block_ty R n in qed 𝓛 (‵ (block_owns R (ghosts.dealloc_token a) p cs 0) ∷ []) ∵ fsplit3 ! $ move ! (2 ∷ []) $ fsplit ! $ move ! (1 ∷ []) $
-        fpack ! Global (λ z. ghosts.dealloc_token z τ p) a $ move ! (1 ∷ 0 ∷ []) $ fjoin ! $ move ! (1 ∷ 2 ∷ 0 ∷ []) $ fjoin3 ! $ by ! (to_word p cs some_slot)
+    lays a p cs some_slot = let τ : Ty = block_ty R (length cs) in qed 𝓛 (‵ (block_owns R (ghosts.dealloc_token a) p cs 0) ∷ []) ∵ fsplit3 ! $ move ! (2 ∷ []) $ fsplit3 ! $ move ! (2 ∷ []) $
+        fpack ! Global (λ z. ghosts.dealloc_token z τ p) a $ move ! (1 ∷ 2 ∷ 0 ∷ []) $ fjoin3 ! $ move ! (1 ∷ 2 ∷ 0 ∷ []) $ fjoin3 ! $ by ! (to_word p cs some_slot)
 
     -- and a word's block is any handle's
     pub lifts : (a : Global) (p : Ptr) (cs : List C) → 0 < length cs → ⟦ W p cs ⟧ ⊢ ⟦ block_owns R (ghosts.dealloc_token a) p cs 0 ⟧
-    lifts a p cs some_slot = let n : ℕ = length cs + 0 in let τ : Ty = block_ty R n in qed 𝓛 (‵ (W p cs) ∷ []) ∵ use1 𝓛 (‵ (B p cs)) (to_block p cs some_slot) $ fsplit3 ! $ move ! (2 ∷ []) $ fsplit ! $ move ! (1 ∷ []) $
-        fpick ! (λ z. use1 𝓛 (‵ (ghosts.dealloc_token a τ p)) (id⊢ 𝓤 _) $ move ! (1 ∷ 0 ∷ []) $ fjoin ! $ move ! (1 ∷ 2 ∷ 0 ∷ []) $ fjoin3 ! $ done !)
+    lifts a p cs some_slot = let τ : Ty = block_ty R (length cs) in qed 𝓛 (‵ (W p cs) ∷ []) ∵ use1 𝓛 (‵ (B p cs)) (to_block p cs some_slot) $ fsplit3 ! $ move ! (2 ∷ []) $ fsplit3 ! $ move ! (2 ∷ []) $
+        fpick ! (λ z. use1 𝓛 (‵ (ghosts.dealloc_token a τ p)) (id⊢ 𝓤 _) $ move ! (1 ∷ 2 ∷ 0 ∷ []) $ fjoin3 ! $ move ! (1 ∷ 2 ∷ 0 ∷ []) $ fjoin3 ! $ done !)

@@ -1,20 +1,22 @@
 //! A word that leads to a block, for one owner.
-ghost use Rattle.std.specs.Prelude.{◌≡◌, ◌⊎◌, ◌<◌, List, [], length, Option, Some, None, is_some, IsSome, nat_lt, slice_set};
+ghost use Rattle.std.specs.Prelude.{◌≡◌, ◌⊎◌, ℕ, ◌+◌, ◌*◌, ◌/◌, ◌<◌, List, [], length, Option, Some, None, is_some, IsSome, nat_lt, slice_set};
 ghost use base.Stored.{coded_list};
 ghost use Rattle.std.specs.Coded.{coded_option};
-ghost use Rattle.thread_local_blocks.specs.Slots.{heap_token, slot_at, empty_slots};
+ghost use Rattle.thread_local_bits.specs.Bits.{is_set};
+ghost use Rattle.thread_local_chunks.specs.Slots.{heap_token, slot_at, empty_slots};
 ghost use Rattle.thread_local_words.specs.Leads.{word_owns};
 
 use std::alloc::Global;
 use std::marker::{Model, PhantomData};
 use std::ptr::null_mut;
-use thread_local_blocks::{Block, Leaving, Slot};
+use thread_local_blocks::{Block, Leaving};
+use thread_local_chunks::Chunk;
 
 mod lends;
 
 /// A word that is null, or leads to a block of slots, with the right to free it. It has no slots where it is null.
 pub struct Word<T> {
-    pub at: *mut Slot<T>,
+    pub at: *mut Chunk<T>,
     pub ghost slots: { List (Option T) } by { coded_list (coded_option T.code) },
 }
 
@@ -72,8 +74,21 @@ impl<T> Word<T> {
         ensures same { self.new ≡ self.old }
     {
         unsafe {
-            let slot = self.at.add(index);
-            (*slot).flag != 0
+            let chunk = self.at.add(index / 64);
+            ((*chunk).flags >> (index % 64)) & 1 == 1
+        }
+    }
+
+    /// The flags of the slots of a chunk, a bit each. The bits behind the last slot are 0.
+    #[inline]
+    pub fn flags(&mut self, chunk: usize) -> u64
+        requires { chunk * 64 < length self.old.slots }
+        ensures value { (bit : ℕ) → bit < 64 → is_set result bit ≡ is_some (slot_at self.old.slots (chunk * 64 + bit)) }
+        ensures same { self.new ≡ self.old }
+    {
+        unsafe {
+            let chunk = self.at.add(chunk);
+            (*chunk).flags
         }
     }
 
@@ -85,9 +100,11 @@ impl<T> Word<T> {
         ensures { self.new.slots ≡ slice_set self.old.slots index (Some value) }
     {
         unsafe {
-            let slot = self.at.add(index);
-            (&raw mut (*slot).value).write(value);
-            (*slot).flag = 1;
+            let chunk = self.at.add(index / 64);
+            (&raw mut (*chunk).values as *mut T)
+                .add(index % 64)
+                .write(value);
+            (*chunk).flags |= 1 << (index % 64);
         }
     }
 
@@ -100,9 +117,25 @@ impl<T> Word<T> {
         ensures after { self.new.slots ≡ slice_set self.old.slots index None }
     {
         unsafe {
-            let slot = self.at.add(index);
-            (*slot).flag = 0;
-            (&raw mut (*slot).value).read()
+            let chunk = self.at.add(index / 64);
+            (*chunk).flags &= !(1 << (index % 64));
+            (&raw mut (*chunk).values as *mut T).add(index % 64).read()
+        }
+    }
+
+    /// Leaves these flags in the slot's chunk, which are those that it has without the slot, and then moves the slot's value out.
+    #[inline]
+    pub fn take_leaving(&mut self, index: usize, flags: u64) -> T
+        requires in_block { index < length self.old.slots }
+        requires published { IsSome (slot_at self.old.slots index) }
+        requires leaving { (bit : ℕ) → bit < 64 → is_set flags bit ≡ is_some (slot_at (slice_set self.old.slots index None) (index / 64 * 64 + bit)) }
+        ensures value { slot_at self.old.slots index ≡ Some result }
+        ensures after { self.new.slots ≡ slice_set self.old.slots index None }
+    {
+        unsafe {
+            let chunk = self.at.add(index / 64);
+            (*chunk).flags = flags;
+            (&raw mut (*chunk).values as *mut T).add(index % 64).read()
         }
     }
 }

@@ -1,14 +1,16 @@
 //! The words of a table, seen as its contents.
-ghost use Rattle.std.specs.Prelude.{◌≡◌, ◌^◌, ◌<◌, true, false, [], length, Some, None, is_some, OnOk, OnErr, IsSome};
+ghost use Rattle.std.specs.Prelude.{◌≡◌, ℕ, ◌+◌, ◌*◌, ◌^◌, ◌<◌, true, false, [], length, Some, None, is_some, OnOk, OnErr, IsSome};
+ghost use Rattle.thread_local_bits.specs.Bits.{is_set};
 ghost use Rattle.thread_local_model.specs.Buckets.{row, stands, no_contents, IsTable};
 ghost use Rattle.thread_local_model.specs.Rows.{value_in, with_row, with_slot, empty_row};
+ghost use Rattle.thread_local_contents.specs.Cursor.{AreFlagsAt};
 
 use crate::row_of_words::RowOfWords;
 use std::alloc::{AllocError, Global};
 use std::marker::Model;
 use thread_local_blocks::Block;
 use thread_local_contents::Places;
-use thread_local_thread_id::{BUCKETS, Thread, bucket_size};
+use thread_local_thread_id::{Thread, bucket_size};
 
 mod clearing;
 mod counting;
@@ -87,6 +89,18 @@ impl<T> Words<T> {
         self.words.word_mut(bucket).is_published(index)
     }
 
+    /// The flags of the slots of a chunk, a bit each, and 0 behind the last slot.
+    #[inline]
+    pub fn flags(&mut self, bucket: usize, chunk: usize) -> u64
+        requires in_table { bucket < 63 }
+        requires in_bucket { chunk * 64 < length (row self.old bucket) }
+        ensures value { (bit : ℕ) → bit < 64 → is_set result bit ≡ is_some (value_in self.old bucket (chunk * 64 + bit)) }
+        ensures table { IsTable self.old }
+        ensures same { self.new ≡ self.old }
+    {
+        self.words.word_mut(bucket).flags(chunk)
+    }
+
     /// Publishes a value in the slot of a place, which is empty.
     #[inline]
     pub fn publish(&mut self, thread: Thread, value: T)
@@ -110,6 +124,19 @@ impl<T> Words<T> {
     {
         self.words.word_mut(bucket).take(index)
     }
+
+    /// Takes the value out of a slot, and leaves these flags in its chunk, which are those of its slots without the value.
+    #[inline]
+    pub fn take_leaving(&mut self, bucket: usize, index: usize, flags: u64) -> T
+        requires in_table { bucket < 63 }
+        requires in_bucket { index < length (row self.old bucket) }
+        requires published { IsSome (value_in self.old bucket index) }
+        requires leaving { AreFlagsAt (with_slot self.old bucket index None) bucket index flags }
+        ensures value { value_in self.old bucket index ≡ Some result }
+        ensures after { self.new ≡ with_slot self.old bucket index None }
+    {
+        self.words.word_mut(bucket).take_leaving(index, flags)
+    }
 }
 
 impl<T: Drop> Words<T> {
@@ -124,21 +151,11 @@ impl<T: Drop> Words<T> {
             .word_mut(bucket)
             .release(bucket_size(bucket), &alloc);
     }
-
-    /// Drops every value and frees every block.
-    pub fn release_all(&mut self)
-        ensures { self.new ≡ no_contents }
-    {
-        let _ = &self.words;
-        'buckets: for bucket in 0..BUCKETS {
-            self.release(bucket);
-        }
-    }
 }
 
 impl<T: Drop> Drop for Words<T> {
     fn drop(mut self) {
-        self.release_all();
+        self.clear(0);
         let Self { words, alloc: _ } = self;
         drop(words);
     }
@@ -157,7 +174,7 @@ impl<T> Places for Words<T> {
     }
 
     #[inline]
-    fn is_published(&mut self, bucket: usize, index: usize) -> bool {
-        self.is_published(bucket, index)
+    fn flags(&mut self, bucket: usize, chunk: usize) -> u64 {
+        self.flags(bucket, chunk)
     }
 }

@@ -5,7 +5,7 @@ ghost use Rattle.thread_local_buckets.specs.LendingValues.{LendsValues};
 
 use super::Buckets;
 use std::marker::PhantomData;
-use thread_local_blocks::Slot;
+use thread_local_chunks::Chunk;
 use thread_local_loan::Loan;
 
 impl<T> Buckets<T> {
@@ -17,7 +17,7 @@ impl<T> Buckets<T> {
     {
         let words = &raw mut self.words;
         Loan {
-            words: words as *const *mut Slot<T>,
+            words: words as *const *mut Chunk<T>,
             marker: PhantomData,
         }
     }

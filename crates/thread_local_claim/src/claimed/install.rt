@@ -1,6 +1,6 @@
 //! A claim that found its bucket missing installs a block for it.
 ghost use Rattle.std.specs.Prelude.{◌≡◌, ◌^◌, IfSome};
-ghost use Rattle.thread_local_blocks.specs.Slots.{empty_slots};
+ghost use Rattle.thread_local_chunks.specs.Slots.{empty_slots};
 ghost use Rattle.thread_local_model.specs.Learnt.{Missing, Vacant};
 ghost use Rattle.thread_local_model.specs.Place.{bucket_of};
 
@@ -10,7 +10,8 @@ use std::marker::{Brand, PhantomData};
 use std::ptr::null_mut;
 use std::sync::atomic::Ordering::SeqCst;
 use std::sync::atomic::raw::ptr;
-use thread_local_blocks::{Block, Slot};
+use thread_local_blocks::Block;
+use thread_local_chunks::Chunk;
 
 impl<'a, T> ClaimedSlot<'a, T> {
     /// Where the word leads nowhere, it leads to the block from then on. Else the block comes back. Either way the claim's slot is there, and
@@ -27,7 +28,8 @@ impl<'a, T> ClaimedSlot<'a, T> {
     {
         let Self {
             word,
-            slot: _,
+            chunk: _,
+            value: _,
             index,
             found: _,
             published: _,
@@ -47,12 +49,14 @@ impl<'a, T> ClaimedSlot<'a, T> {
                 let Block { at: _, marker: _ } = block;
                 (at, None)
             }
-            Err(first) => (first as *mut Slot<T>, Some(block)),
+            Err(first) => (first as *mut Chunk<T>, Some(block)),
         };
-        let slot = unsafe { (standing as *const Slot<T>).add(index) };
+        let chunk = unsafe { (standing as *const Chunk<T>).add(index / 64) };
+        let value = unsafe { (&raw const (*chunk).values as *const T).add(index % 64) };
         let claim = ClaimedSlot {
             word,
-            slot,
+            chunk,
+            value,
             index,
             found: true,
             published: false,

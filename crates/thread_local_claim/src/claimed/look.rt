@@ -11,6 +11,6 @@ impl<'a, T: Sync> ClaimedSlot<'a, T> {
         requires { is_some (value_held self.now.learnt) ≡ true }
         ensures { self.now.learnt ≡ Holding result.now }
     {
-        unsafe { &(*self.slot).value }
+        unsafe { &*self.value }
     }
 }

@@ -102,6 +102,25 @@ fn a_walk_drops_what_it_has_not_given(rt: HostRuntime) -> Result<(), Fail> {
 }
 
 #[test]
+fn a_walk_that_ends_within_a_chunk_drops_the_rest(rt: HostRuntime) -> Result<(), Fail> {
+    let drops = AtomicU64::new(0);
+    let mut buckets = Buckets::new(rt.alloc());
+    for number in 0..200 {
+        let drops = &drops;
+        insert(&mut buckets, number, Counted { number, drops })?;
+    }
+    let mut walk = buckets.into_iter();
+    let mut in_order = true;
+    for number in 0..150 {
+        in_order &= walk.next().is_some_and(|value| value.number == number);
+    }
+    let given = drops.load(SeqCst);
+    drop(walk);
+    assert_eq!(rt; (in_order, given, drops.load(SeqCst)), (true, 150, 200));
+    Ok(())
+}
+
+#[test]
 fn a_forgotten_walk_drops_nothing(rt: HostRuntime) -> Result<(), Fail> {
     let drops = AtomicU64::new(0);
     let mut walk = three(rt.alloc(), &drops)?.into_iter();

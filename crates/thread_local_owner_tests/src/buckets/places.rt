@@ -118,7 +118,7 @@ fn a_refused_capacity_says_so(rt: HostRuntime) -> Result<(), Fail> {
     Ok(())
 }
 
-// A thousand tables take 16 MiB each, where no more than 64 of them can be had at a time.
+// A thousand tables take 8.1 MiB each, where no more than 126 of them can be had at a time.
 #[test]
 fn blocks_are_freed(rt: HostRuntime) -> Result<(), Fail> {
     let _taken = take_all_but(rt.alloc(), 1 << 30)?;

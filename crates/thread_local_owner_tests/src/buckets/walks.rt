@@ -51,7 +51,7 @@ fn lends(rt: &impl Abort, buckets: &mut Buckets<u32>, values: [u32; 3]) {
 
 #[test]
 fn walks_go_by_ascending_id(rt: HostRuntime) -> Result<(), Fail> {
-    for ids in [[0, 1, 2], [0, 1234, 100000]] {
+    for ids in [[0, 1, 2], [0, 1234, 100000], [62, 63, 126], [190, 191, 254]] {
         let mut buckets = three(rt.alloc(), ids)?;
         lends(&rt, &mut buckets, [1, 2, 3]);
         gives(&rt, &mut buckets.into_iter(), [1, 2, 3]);

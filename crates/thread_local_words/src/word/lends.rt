@@ -3,7 +3,7 @@ ghost use Rattle.std.specs.Prelude.{◌≡◌, ◌<◌, length, Some, IsSome};
 ghost use types.Logic.{sem};
 ghost use Rattle.std.specs.Borrow.{follows};
 ghost use Rattle.thread_local_words.specs.contracts.word.Word.{the_row};
-ghost use Rattle.thread_local_blocks.specs.Slots.{slot_at};
+ghost use Rattle.thread_local_chunks.specs.Slots.{slot_at};
 ghost use Rattle.thread_local_words.specs.LentValue.{with_slot_value};
 
 use super::Word;
@@ -19,8 +19,8 @@ impl<T> Word<T> {
         ensures value { slot_at self.old.slots index ≡ Some result.now }
     {
         unsafe {
-            let slot = self.at.add(index);
-            &mut (*slot).value
+            let chunk = self.at.add(index / 64);
+            &mut *(&raw mut (*chunk).values as *mut T).add(index % 64)
         }
     }
 }

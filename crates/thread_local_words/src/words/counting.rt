@@ -18,15 +18,13 @@ impl<T> Words<T> {
         ensures counted { count_below (values self.old) (id_at bucket 0) + result ≡ count_below (values self.old) (id_at (bucket + 1) 0) }
     {
         let mut count = 0;
-        for index in 0..size {
-            if self.is_published(bucket, index) {
-                count += 1;
-            }
+        for chunk in 0..(size + 63) / 64 {
+            count += self.flags(bucket, chunk).count_ones() as usize;
         }
         count
     }
 
-    /// How many values there are. It looks at every slot of the buckets that stand, and takes no memory.
+    /// How many values there are. It looks at the flags of all slots of the buckets that stand, and takes no memory.
     pub fn count_values(&mut self) -> usize
         ensures same { self.new ≡ self.old }
         ensures counted { result ≡ length (walk (values self.old)) }

@@ -1,11 +1,11 @@
--- `push` writes the flag of the next slot.
-use Rattle.thread_local_blocks.proofs.Names.{◌≡◌, ℕ, ◌+◌, ◌-◌, suc, ◌*◌, ◌^◌, ◌<◌, List, [], ◌∷◌, ◌++◌, length, sym, refl, ap, ◌∙◌, subst, arith, lit<, w64, Option, None, Ty, ty_int, a_type, dcons, dnil, named, Val, vint, vptr, vunit, inst_fn, full_share, SProp, emp, apply∗, Fml, ftrue, fsep, froom, flft, sem, ‵, raw, ◌⊛◌, given, at_ret, ◌$◌, ◌∵◌, !, qed, by, move, keep, use0, use1, use2, split, join, fsplit, fsplit3, fjoin, fjoin3, learn, rewrite, feq_i, stop, fld, load, addr, lit, unit_lit, size_word, of_opd, bin, first, blocks, exec, returns, enter, init, assigns_last, alloc_all, pass_all, free_all, look_at, get, through, sets, is, env, sub, look_in, whole, tables, fact, fact_i, yes, RattleType, owns, types_at, plain, Ptr, block_ptr, block_of, count_of, at_block, InBlock, nothing, heard, opens, closes, peeks, shows, param, bounded, usize, mut_vals, mut_Tells, uint_vals, uint_Tells, Stays, stay_dropped, stay_ref, walk_of, Goes-dropped, Goes-ref, cell_at, proved, leaves, word, after}
-use Rattle.thread_local_blocks.specs.Slots.{stride, block_owns}
+-- `push` writes the flags of the next chunk.
+use Rattle.thread_local_chunks.proofs.Names.{◌≡◌, ℕ, ◌+◌, ◌-◌, suc, ◌*◌, ◌^◌, ◌<◌, List, [], ◌∷◌, length, sym, refl, ap, ◌∙◌, subst, arith, lit<, w64, Option, Ty, ty_int, a_type, dcons, dnil, named, Val, vint, vptr, vunit, inst_fn, full_share, SProp, emp, apply∗, Fml, ftrue, fsep, froom, flft, sem, ‵, raw, ◌⊛◌, given, at_ret, ◌$◌, ◌∵◌, !, qed, by, move, keep, use0, use1, use2, split, join, fsplit, fsplit3, fjoin, fjoin3, learn, rewrite, feq_i, stop, fld, load, addr, lit, unit_lit, size_word, of_opd, bin, first, blocks, exec, returns, enter, init, assigns_last, alloc_all, pass_all, free_all, look_at, get, through, sets, is, env, sub, look_in, whole, tables, fact, fact_i, yes, RattleType, owns, types_at, plain, Ptr, block_ptr, block_of, count_of, at_block, InBlock, nothing, heard, opens, closes, peeks, shows, param, bounded, usize, mut_vals, mut_Tells, uint_vals, uint_Tells, Stays, stay_dropped, stay_ref, walk_of, Goes-dropped, Goes-ref, cell_at, proved, leaves, word, after}
+use Rattle.thread_local_chunks.specs.Slots.{chunks, chunk_size, word_at, block_owns}
 use Rattle.thread_local_blocks.specs.contracts.block.Block as block
 use Rattle.thread_local_blocks.specs.contracts.block.Block.push.{ended, clauses}
 use Rattle.thread_local_blocks.specs.contracts.block.Block.push.Key.{name as #self}
 use Rattle.thread_local_blocks.proofs.Fields.{block_val, told, uncapped}
-use Rattle.thread_local_blocks.proofs.Slots.{next_room, Filled}
+use Rattle.thread_local_blocks.proofs.Making.{next_room, Filled}
 use Rattle.thread_local_blocks.proofs.block.Block.push.Statement.{statement}
 use Rattle.thread_local_blocks.proofs.block.Block.push.Code as code
 
@@ -18,23 +18,23 @@ push_spec 𝓤 𝓛 𝓜 𝓡 wired T Al L _ ga da dd _ _ =
     (λ κs. (mut_vals, (uint_vals w64, tt))) (λ κs. (mut_Tells (named 0) κs.0 Bl, (uint_Tells w64, tt))) (λ κs qs bounds a gh are.
     let y : (walk_of 𝓛 En hs c).Ghost = ((κs, qs, bounds, a, (vptr a.0.ref_ptr.0 a.0.ref_ptr.1 ∷ [], (vint w64 a.1.0 ∷ [], tt))), gh) in let Post : Val → SProp 𝓤 = (walk_of 𝓛 En hs c).post y in
     let b' : ℕ = a.0.ref_ptr.0 in let o' : ℕ = a.0.ref_ptr.1 in let h : Bl.Denot = a.0.now in let token : Ty → Ptr → Fml = ga.dealloc_token h.heap in let p : Ptr = h.at in let j : ℕ = a.1.0 in let left : ℕ = h.left - 1 in
-    let b : ℕ = block_of p in let e : ℕ = j * stride R + count_of p in let cs : List (Option T.Denot) = h.slots in let Asked : Type 0 = (j ≡ length cs) × (0 < h.left) in let others : Fml = fsep (flft κs.1.0 qs.1.0) (fsep (flft κs.1.1.0 qs.1.1.0) ftrue) in
+    let b : ℕ = block_of p in let e : ℕ = word_at R (count_of p) j in let cs : List (Option T.Denot) = h.slots in let Asked : Type 0 = (j + h.left ≡ chunks (length cs)) × (0 < h.left) in let others : Fml = fsep (flft κs.1.0 qs.1.0) (fsep (flft κs.1.1.0 qs.1.1.0) ftrue) in
     qed 𝓛 (((‵ (flft κs.0 qs.0) ⊛ ‵ others) ⊛ ‵ (owns (types_at En.signature.params κs) a y.0.4)) ∷ raw (fact 𝓤 _) ∷ raw (fact 𝓤 _) ∷ raw (fact 𝓤 Asked) ∷ []) ∵
-    keep ! (3 ∷ 0 ∷ []) $ heard ! Asked (λ asked. let long : j ≡ length cs = asked.0 in let pos : 0 < h.left = asked.1 in split ! $ split ! $ move ! (2 ∷ []) $ fsplit ! $ fsplit3 ! $ keep ! (1 ∷ 2 ∷ 4 ∷ 5 ∷ []) $
+    keep ! (3 ∷ 0 ∷ []) $ heard ! Asked (λ asked. let pos : 0 < h.left = asked.1 in let same : h.left ≡ suc left = omega arith in split ! $ split ! $ move ! (2 ∷ []) $ fsplit ! $ fsplit3 ! $ keep ! (1 ∷ 2 ∷ 4 ∷ 5 ∷ []) $
     enter ! 𝓣.C 𝓣.Λ fn (vptr b' o' ∷ vint w64 j ∷ []) Post $ alloc_all ! (λ l. pass_all ! refl ((tt, tt), ((tt, record { fits = are.1.0.1 }), tt)) $ let Ev = env fn.locals l in
     opens ! tt Bl b' o' (λ us. move ! (1 ∷ []) $ peeks ! Bl _ (shows 𝓛 Bl) h us (λ known. fsplit ! $ move ! (1 ∷ []) $
-    rewrite ! 0 (λ (m : ℕ). ‵ (block_owns R token p cs m)) (let r : h.left ≡ suc left = omega arith in r) refl $
-    use1 𝓛 (given (InBlock p × (length cs * stride R < 2 ^ 63)) (‵ (froom (ty_int w64) b (e + 0)) ⊛ raw (Filled 𝓛 R token p cs left e))) (next_room 𝓛 R token p cs left e (ap (λ (z : ℕ). z * stride R + count_of p) long)) $ learn ! (λ so. split ! $
-    let small : j * stride R < 2 ^ 64 = (let x : j * stride R < 2 ^ 63 = subst (λ (z : ℕ). z * stride R < 2 ^ 63) (sym long) so.1 in omega arith) in
+    rewrite ! 0 (λ (m : ℕ). ‵ (block_owns R token p cs m)) same refl $
+    use1 𝓛 (given (InBlock p × (j * chunk_size R < 2 ^ 63)) (‵ (froom (ty_int w64) b (e + 0)) ⊛ raw (Filled 𝓛 R token p cs left j))) (next_room 𝓛 R token p cs left j (ap (λ (z : ℕ). j + z) (sym same) ∙ asked.0)) $ learn ! (λ so. split ! $
+    let small : j * chunk_size R < 2 ^ 64 = (let x = so.1 in omega arith) in
     let seen : us ≡ block_val (block_ptr b (count_of p)) ∷ [] = told R Z ga p us known.0 ∙ ap (λ (u : Ptr). block_val u ∷ []) (at_block p so.0) in
     let Cell = λ (ws : List Val). ‵ (cell_at full_share Bl.mir ws b' o') in rewrite ! 3 Cell seen refl $
-    -- [the flag's room; the way back; the block's fields; the block's cell; the open borrow]
+    -- [the word's room; the way back; the block's fields; the block's cell; the open borrow]
     first ! $ blocks ! $ sets ! (of_opd ! (load ! (through ! refl (fld ! refl (stop !))) (look_in ! 3 (sub ! 0 refl (whole !))))) refl (tt, tt) $
-    sets ! (is ! (bin ! (get ! refl) (size_word !) (record { fits = subst (λ (k : ℕ). k < 2 ^ 64) (sym (uncapped j (stride R) small)) small })) (ap (vint w64) (uncapped j (stride R) small))) refl (tt, record { fits = small }) $
+    sets ! (is ! (bin ! (get ! refl) (size_word !) (record { fits = subst (λ (k : ℕ). k < 2 ^ 64) (sym (uncapped j (chunk_size R) small)) small })) (ap (vint w64) (uncapped j (chunk_size R) small))) refl (tt, record { fits = small }) $
     sets ! (bin ! (get ! refl) (get ! refl) tt) refl (tt, tt) $ sets ! (addr ! (through ! refl (fld ! refl (stop !)))) refl (tt, tt) $
     assigns_last ! (of_opd ! (lit ! tt)) (through ! refl (stop !)) (init ! 0 refl (tt, record { fits = lit< tt })) $ exec ! 𝓣.C 𝓣.Λ Ev (after 1 fn.body) (at_ret Ev Post) $ sets ! (of_opd ! (unit_lit !)) refl (tt, tt) $
-    use2 𝓛 (‵ (block_owns R token p (cs ++ None ∷ []) left)) (apply∗ 𝓤 (sem 𝓛 (word b (e + 0) 0)) (sem 𝓛 (block_owns R token p (cs ++ None ∷ []) left))) $
-    rewrite ! 2 Cell (sym seen) refl $ let h' : Bl.Denot = record { at = p; marker = h.marker; heap = h.heap; slots = cs ++ None ∷ []; left = left } in
+    use2 𝓛 (‵ (block_owns R token p cs left)) (apply∗ 𝓤 (sem 𝓛 (word b (e + 0) 0)) (sem 𝓛 (block_owns R token p cs left))) $
+    rewrite ! 2 Cell (sym seen) refl $ let h' : Bl.Denot = record { at = p; marker = h.marker; heap = h.heap; slots = cs; left = left } in
     move ! (1 ∷ []) $ fjoin ! $ move ! (1 ∷ []) $ closes ! tt Bl h' us b' o' $ feq_i ! (List Val) (vptr b' o' ∷ []) (vptr b' o' ∷ []) refl $ fjoin3 ! $ nothing ! $ nothing ! $ fjoin ! $ move ! (1 ∷ 0 ∷ []) $ fjoin ! $ move ! (1 ∷ 2 ∷ []) $ join ! $
     let Kept : Type 0 = (h.heap ≡ h.heap) × (h'.slots ≡ h'.slots) × (left + 1 ≡ h.left) in
     use0 𝓛 (raw (fact 𝓤 Kept)) (fact_i 𝓤 Kept (emp 𝓤) (refl, refl, omega arith)) $ feq_i ! (List Val) (vunit ∷ []) (vunit ∷ []) refl $

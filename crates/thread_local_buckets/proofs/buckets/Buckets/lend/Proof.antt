@@ -1,5 +1,5 @@
 -- `lend` takes the words' place, and cuts the owner's borrow into what a loan owns.
-use Rattle.thread_local_blocks.proofs.Names.{◌≡◌, ℕ, ◌+◌, [], ◌∷◌, refl, ap, full_share, a_type, named, Val, vptr, inst_fn, SProp, ent, ex, sep, sem, emp, Lft, Share, GName, Fml, ftrue, fsep, flft, ‵, raw, ◌⊛◌, some, given, later, ◌$◌, ◌∵◌, !, qed, by, move, keep, split, split3, join, fsplit, fsplit3, fjoin, pick, learn, group, use0, use1, use2, await, stop, fld, addr, of_opd, returns, enter, alloc_all, pass_all, free_all, look_at, get, through, sets, open_ref, tables, fact_i, no, RattleType, owns, types_at, plain, named_lft, block_ptr, nothing, mem, lone, part_at, param, param_laws, layouts, usize, RefMutOf, mut_vals, mut_Tells, Stays, stay_dropped, walk_of, proved, leaves, Member, w64}
+use Rattle.thread_local_chunks.proofs.Names.{◌≡◌, ℕ, ◌+◌, [], ◌∷◌, refl, ap, full_share, a_type, named, Val, vptr, inst_fn, SProp, ent, ex, sep, sem, emp, Lft, Share, GName, Fml, ftrue, fsep, flft, ‵, raw, ◌⊛◌, some, given, later, ◌$◌, ◌∵◌, !, qed, by, move, keep, split, split3, join, fsplit, fsplit3, fjoin, pick, learn, group, use0, use1, use2, await, stop, fld, addr, of_opd, returns, enter, alloc_all, pass_all, free_all, look_at, get, through, sets, open_ref, tables, fact_i, no, RattleType, owns, types_at, plain, named_lft, block_ptr, nothing, mem, lone, part_at, param, param_laws, layouts, usize, RefMutOf, mut_vals, mut_Tells, Stays, stay_dropped, walk_of, proved, leaves, Member, w64}
 use contract.Monad.{fact}
 use types.Logic.{Logic}
 use types.Run.{no_more, and_then}

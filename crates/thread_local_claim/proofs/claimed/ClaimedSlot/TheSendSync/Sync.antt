@@ -5,14 +5,13 @@ use denote.RawPtr.{Ptr, block_of, count_of}
 use denote.Ref.{NamedLft}
 use denote.Param.Send.{IsSync, Common}
 use Rattle.thread_local_judged.specs.Judged.{Judged}
-use Rattle.thread_local_blocks.specs.Slots.{value_at}
 use Rattle.thread_local_claim_logic.specs.Known.{value_held}
 use Rattle.thread_local_claim_logic.specs.Claims.{lasts, shown}
 use Rattle.thread_local_claim.specs.contracts.claimed.ClaimedSlot.{the_row}
 use Rattle.thread_local_claim.proofs.Fields.{Words}
 
 pub sync : (a : NamedLft) (T : RattleType) → IsSync T → IsSync (the_row a T)
-sync a T y = let fields : IsSync (Words a T) = search denote.Param.Send.sendable depth 20 in record { shared = λ d b o κ. (fields.shared (d.word, (d.slot, (d.index, (d.found, (d.published, (tt, tt)))))) b o κ, ((λ _. tt), seen d.slot (value_held d.learnt) κ)) }
+sync a T y = let fields : IsSync (Words a T) = search denote.Param.Send.sendable depth 20 in record { shared = λ d b o κ. (fields.shared (d.word, (d.chunk, (d.value, (d.index, (d.found, (d.published, (tt, tt))))))) b o κ, ((λ _. tt), seen d.value (value_held d.learnt) κ)) }
   where
     long : (b e : ℕ) (x : T.Denot) (j : Judged T) → Common (lasts T a.lft b e x j)
     long b e x (inl j) κ = y.shared x b e a.lft
@@ -20,4 +19,4 @@ sync a T y = let fields : IsSync (Words a T) = search denote.Param.Send.sendable
 
     seen : (p : Ptr) (v : Option T.Denot) → Common (shown T a.lft p v)
     seen p None κ = tt
-    seen p (Some x) κ = ((λ _. tt), (y.shared x (block_of p) (value_at T (count_of p)) (κ ++ a.lft), λ j. long (block_of p) (value_at T (count_of p)) x j κ))
+    seen p (Some x) κ = let e : ℕ = count_of p in ((λ _. tt), (y.shared x (block_of p) e (κ ++ a.lft), λ j. long (block_of p) e x j κ))

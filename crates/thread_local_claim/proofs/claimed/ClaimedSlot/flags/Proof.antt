@@ -1,5 +1,5 @@
 -- `flags` reads two fields.
-use Rattle.thread_local_blocks.proofs.Names.{◌≡◌, ℕ, List, [], ◌∷◌, sym, refl, dnil, a_type, named, Val, vptr, vbool, inst_fn, SProp, emp, Lft, Fml, ftrue, fsep, flft, ‵, raw, ◌⊛◌, ◌$◌, ◌∵◌, !, qed, by, move, keep, drop, split, join, fsplit, fjoin, fpick, use0, use1, rewrite, feq_i, stop, fld, of_opd, returns, enter, alloc_all, pass_all, free_all, look_at, through, sets, env, sub, whole, look_in, tables, fact, fact_i, yes, RattleType, owns, types_at, plain, named_lft, Ptr, nothing, peeks, unhide, Is, shows, cell_at, param, bounded, param_laws, RefOf, agg, get, shr_vals, shr_Tells, Stays, stay_dropped, walk_of, Goes-dropped, proved, leaves, Bool, is_some, load, no_more, and_then, bool}
+use Rattle.thread_local_chunks.proofs.Names.{◌≡◌, ℕ, List, [], ◌∷◌, sym, refl, dnil, a_type, named, Val, vptr, vbool, inst_fn, SProp, emp, Lft, Fml, ftrue, fsep, flft, ‵, raw, ◌⊛◌, ◌$◌, ◌∵◌, !, qed, by, move, keep, drop, split, join, fsplit, fjoin, fpick, use0, use1, rewrite, feq_i, stop, fld, of_opd, returns, enter, alloc_all, pass_all, free_all, look_at, through, sets, env, sub, whole, look_in, tables, fact, fact_i, yes, RattleType, owns, types_at, plain, named_lft, Ptr, nothing, peeks, unhide, Is, shows, cell_at, param, bounded, param_laws, RefOf, agg, get, shr_vals, shr_Tells, Stays, stay_dropped, walk_of, Goes-dropped, proved, leaves, Bool, is_some, load, no_more, and_then, bool}
 use base.Fml.{fhide}
 use denote.Steps.{looks, shuts}
 use denote.Memory.{hidden_shr}
@@ -25,7 +25,7 @@ flags_spec 𝓤 𝓛 𝓜 𝓡 wired X L =
     proved 𝓛 En hs c 𝓜 𝓡 (Goes-dropped 𝓛 3 self yes (λ κs x f. refl), tt) (#self inst) fn closed
     (λ κs. (shr_vals, tt)) (λ κs. (shr_Tells (named 0) κs.0 (claim.the_row (named_lft 3 1 tt κs) R), tt)) (λ κs qs bounds a gh are.
     let ℓ = named_lft 3 1 tt κs in let D : RattleType = Words ℓ R in let b : ℕ = a.0.ref_ptr.0 in let o : ℕ = a.0.ref_ptr.1 in let κ : Lft = κs.0 in let β : Lft = κs.1.0 in
-    let h = a.0.now in let p : Ptr = h.slot in let l₀ : Learnt X.Denot = h.learnt in let others : Fml = fsep (flft β qs.1.0) (fsep (flft κs.1.1.0 qs.1.1.0) ftrue) in
+    let h = a.0.now in let p : Ptr = h.value in let l₀ : Learnt X.Denot = h.learnt in let others : Fml = fsep (flft β qs.1.0) (fsep (flft κs.1.1.0 qs.1.1.0) ftrue) in
     let F₁ : Bool × Bool → Type 0 = λ u. u.0 ≡ is_found l₀ in let F₂ : Bool × Bool → Type 0 = λ u. u.1 ≡ is_some (value_held l₀) in let r : Bool × Bool = (h.found, h.published) in
     let y : (walk_of 𝓛 En hs c).Ghost = ((κs, qs, bounds, a, (vptr b o ∷ [], tt)), gh) in let Post : Val → SProp 𝓤 = (walk_of 𝓛 En hs c).post y in
     qed 𝓛 (((‵ (flft κ qs.0) ⊛ ‵ others) ⊛ ‵ (owns (types_at En.signature.params κs) a y.0.4)) ∷ raw ((c κs a).requires gh) ∷ []) ∵
@@ -36,8 +36,8 @@ flags_spec 𝓤 𝓛 𝓜 𝓡 wired X L =
     split ! $ move ! (1 ∷ []) $ unhide ! $ fsplit ! $ fpick ! (λ so. drop ! $ move ! (1 ∷ 2 ∷ []) $
     looks ! tt D (opened ℓ R 𝓛) (fields_of ℓ R (kept_of h)) b o (λ q vs. move ! (1 ∷ []) $ peeks ! D (Is D) (shows 𝓛 D) (fields_of ℓ R (kept_of h)) vs (λ is_so.
     let ev : vs ≡ value_of (kept_of h) ∷ [] = (told ℓ R (kept_of h) vs is_so).0 in
-    rewrite ! 1 (λ (ws : List Val). ‵ (cell_at q D.mir ws b o)) ev refl $ sets ! (of_opd ! (load ! (through ! refl (fld ! refl (stop !))) (look_in ! 1 (sub ! 3 refl (whole !))))) refl (tt, tt) $
-    sets ! (of_opd ! (load ! (through ! refl (fld ! refl (stop !))) (look_in ! 1 (sub ! 4 refl (whole !))))) refl (tt, tt) $
+    rewrite ! 1 (λ (ws : List Val). ‵ (cell_at q D.mir ws b o)) ev refl $ sets ! (of_opd ! (load ! (through ! refl (fld ! refl (stop !))) (look_in ! 1 (sub ! 4 refl (whole !))))) refl (tt, tt) $
+    sets ! (of_opd ! (load ! (through ! refl (fld ! refl (stop !))) (look_in ! 1 (sub ! 5 refl (whole !))))) refl (tt, tt) $
     sets ! (agg ! (and_then ! (get ! refl) (and_then ! (get ! refl) (no_more !)))) refl (tt, (tt, (tt, tt))) $
     rewrite ! 1 (λ (ws : List Val). ‵ (cell_at q D.mir ws b o)) (sym ev) refl $ move ! (1 ∷ 0 ∷ 2 ∷ []) $ shuts ! tt D q (fields_of ℓ R (kept_of h)) vs b o $
     -- [the token of the reference; what is shown of the claim; the other tokens]

@@ -1,5 +1,5 @@
 -- `lasting` shows the value that the slot holds for as long as the word is borrowed, since a `&` to it names no thread.
-use Rattle.thread_local_blocks.proofs.Names.{◌≡◌, ℕ, List, [], ◌∷◌, sym, refl, ap, ◌∙◌, true, dnil, a_type, named, Val, vptr, inst_fn, SProp, emp, Lft, Fml, ftrue, fsep, flft, ‵, raw, ◌⊛◌, at_ret, ◌$◌, ◌∵◌, !, qed, by, move, keep, drop, split, join, fsplit, fjoin, fpick, use0, use1, rewrite, feq_i, stop, fld, hop, addr, of_opd, first, blocks, exec, returns, enter, alloc_all, pass_all, free_all, look_at, get, through, sets, sets_last, env, sub, whole, look_in, tables, fact, fact_i, yes, RattleType, owns, types_at, plain, named_lft, Ptr, block_ptr, block_of, count_of, at_block, nothing, heard, peeks, unhide, Is, shows, cell_at, param, bounded, param_laws, RefOf, shr_vals, shr_Tells, Stays, stay_dropped, walk_of, Goes-dropped, proved, leaves, is_some, Ura, ent, id⊢, Logic, sem}
+use Rattle.thread_local_chunks.proofs.Names.{◌≡◌, ℕ, List, [], ◌∷◌, sym, refl, ap, ◌∙◌, true, dnil, a_type, named, Val, vptr, inst_fn, SProp, emp, Lft, Fml, ftrue, fsep, flft, ‵, raw, ◌⊛◌, at_ret, ◌$◌, ◌∵◌, !, qed, by, move, keep, drop, split, join, fsplit, fjoin, fpick, use0, use1, rewrite, feq_i, stop, fld, hop, addr, of_opd, first, blocks, exec, returns, enter, alloc_all, pass_all, free_all, look_at, get, through, sets, sets_last, env, sub, whole, look_in, tables, fact, fact_i, yes, RattleType, owns, types_at, plain, named_lft, Ptr, block_ptr, block_of, count_of, at_block, nothing, heard, peeks, unhide, Is, shows, cell_at, param, bounded, param_laws, RefOf, shr_vals, shr_Tells, Stays, stay_dropped, walk_of, Goes-dropped, proved, leaves, is_some, Ura, ent, id⊢, Logic, sem}
 use mathlib.Core.Logic.{inl, inr}
 use base.Fml.{fhide}
 use denote.Steps.{looks, shuts}
@@ -9,7 +9,6 @@ use denote.Param.Send.{IsSync}
 use denote.Struct.Lending.{lent_out}
 use Rattle.std.specs.contracts.marker.PhantomData as marker
 use Rattle.thread_local_judged.specs.Judged.{Shareable, Judged}
-use Rattle.thread_local_blocks.specs.Slots.{value_at}
 use Rattle.thread_local_atomic_word.proofs.Bodies.{tail}
 use Rattle.thread_local_model.specs.Learnt.{Learnt, Holding}
 use Rattle.thread_local_claim_logic.specs.Known.{value_held}
@@ -34,8 +33,8 @@ lasting_spec 𝓤 𝓛 𝓜 𝓡 wired X L =
     proved 𝓛 En hs c 𝓜 𝓡 (Goes-dropped 𝓛 3 self yes (λ κs x f. refl), tt) (#self inst) fn closed
     (λ κs. (shr_vals, tt)) (λ κs. (shr_Tells (named 0) κs.0 (claim.the_row (named_lft 3 1 tt κs) R), tt)) (λ κs qs bounds a gh are.
     let ℓ = named_lft 3 1 tt κs in let D : RattleType = Words ℓ R in let b : ℕ = a.0.ref_ptr.0 in let o : ℕ = a.0.ref_ptr.1 in let κ : Lft = κs.0 in let β : Lft = κs.1.0 in
-    let h = a.0.now in let p : Ptr = h.slot in let l₀ : Learnt X.Denot = h.learnt in let others : Fml = fsep (flft β qs.1.0) (fsep (flft κs.1.1.0 qs.1.1.0) ftrue) in
-    let pb : ℕ = block_of p in let po : ℕ = count_of p in let e : ℕ = value_at R po in
+    let h = a.0.now in let p : Ptr = h.value in let l₀ : Learnt X.Denot = h.learnt in let others : Fml = fsep (flft β qs.1.0) (fsep (flft κs.1.1.0 qs.1.1.0) ftrue) in
+    let pb : ℕ = block_of p in let po : ℕ = count_of p in let e : ℕ = count_of p in
     let y : (walk_of 𝓛 En hs c).Ghost = ((κs, qs, bounds, a, (vptr b o ∷ [], tt)), gh) in let Post : Val → SProp 𝓤 = (walk_of 𝓛 En hs c).post y in
     qed 𝓛 (((‵ (flft κ qs.0) ⊛ ‵ others) ⊛ ‵ (owns (types_at En.signature.params κs) a y.0.4)) ∷ raw (fact 𝓤 _) ∷ raw (fact 𝓤 (IsSync R)) ∷ raw (fact 𝓤 (is_some (value_held l₀) ≡ true)) ∷ []) ∵
     keep ! (2 ∷ 3 ∷ 0 ∷ []) $ heard ! (IsSync R) (λ sync. heard ! (is_some (value_held l₀) ≡ true) (λ asked. let held = holding l₀ asked in let x : X.Denot = held.0 in
@@ -48,7 +47,7 @@ lasting_spec 𝓤 𝓛 𝓜 𝓡 wired X L =
     looks ! tt D (opened ℓ R 𝓛) (fields_of ℓ R (kept_of h)) b o (λ q vs. move ! (1 ∷ []) $ peeks ! D (Is D) (shows 𝓛 D) (fields_of ℓ R (kept_of h)) vs (λ is_so.
     let ev : vs ≡ value_of (moved_to (kept_of h) (block_ptr pb po)) ∷ [] = (told ℓ R (kept_of h) vs is_so).0 ∙ ap (λ (r : Ptr). value_of (moved_to (kept_of h) r) ∷ []) at in
     rewrite ! 1 (λ (ws : List Val). ‵ (cell_at q D.mir ws b o)) ev refl $ first ! $ blocks ! $
-    sets_last ! (addr ! (through ! refl (fld ! refl (hop ! (look_in ! 1 (sub ! 1 refl (whole !))) (fld ! refl (stop !)))))) refl (tt, tt) $ exec ! 𝓣.C 𝓣.Λ Ev (tail fn.body) (at_ret Ev Post) $
+    sets_last ! (addr ! (through ! refl (fld ! refl (hop ! (look_in ! 1 (sub ! 2 refl (whole !))) (stop !))))) refl (tt, tt) $ exec ! 𝓣.C 𝓣.Λ Ev (tail fn.body) (at_ret Ev Post) $
     sets ! (of_opd ! (get ! refl)) refl (tt, tt) $ rewrite ! 1 (λ (ws : List Val). ‵ (cell_at q D.mir ws b o)) (sym ev) refl $ move ! (1 ∷ 0 ∷ 2 ∷ []) $ shuts ! tt D q (fields_of ℓ R (kept_of h)) vs b o $
     move ! (0 ∷ 3 ∷ []) $ join ! $ move ! (2 ∷ []) $ feq_i ! (List Val) (vptr pb e ∷ []) (vptr pb e ∷ []) refl $ fjoin ! $
     use0 𝓛 (raw (fact 𝓤 (l₀ ≡ Holding x))) (fact_i 𝓤 (l₀ ≡ Holding x) (emp 𝓤) held.1) $ nothing ! $ nothing ! $ fjoin ! $

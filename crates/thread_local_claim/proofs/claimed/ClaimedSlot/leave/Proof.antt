@@ -1,5 +1,5 @@
 -- `leave` is a step on the word's invariant: what the claim has goes back for its right.
-use Rattle.thread_local_blocks.proofs.Names.{◌≡◌, List, [], ◌∷◌, refl, ap, dnil, a_type, Val, inst_fn, SProp, emp, id⊢, Lft, Share, Fml, ftrue, fsep, flft, ‵, raw, ◌⊛◌, some, later, ◌$◌, ◌∵◌, !, qed, by, move, keep, drop, split, join, fsplit, fjoin, pick, use0, use1, use2, await, rewrite, no_more, returns, enter, alloc_all, pass_all, free_all, look_at, env, tables, fact, fact_i, no, RattleType, owns, types_at, plain, named_lft, nothing, heard, peeks, param, bounded, Stays, stay_dropped, walk_of, Goes-dropped, proved, leaves, fm, Is, shows, lands_as}
+use Rattle.thread_local_chunks.proofs.Names.{◌≡◌, List, [], ◌∷◌, refl, ap, dnil, a_type, Val, inst_fn, SProp, emp, id⊢, Lft, Share, Fml, ftrue, fsep, flft, ‵, raw, ◌⊛◌, some, later, ◌$◌, ◌∵◌, !, qed, by, move, keep, drop, split, join, fsplit, fjoin, pick, use0, use1, use2, await, rewrite, no_more, returns, enter, alloc_all, pass_all, free_all, look_at, env, tables, fact, fact_i, no, RattleType, owns, types_at, plain, named_lft, nothing, heard, peeks, param, bounded, Stays, stay_dropped, walk_of, Goes-dropped, proved, leaves, fm, Is, shows, lands_as}
 use denote.Steps.{only}
 use denote.Triple.Call.{calls_at}
 use denote.Triple.Spec.{triple_of}
@@ -30,7 +30,7 @@ leave_spec 𝓤 𝓛 𝓜 𝓡 wired X L =
     split ! $ split ! $ move ! (2 ∷ []) $ fsplit ! $ fsplit ! $ keep ! (1 ∷ 3 ∷ 4 ∷ []) $
     enter ! 𝓣.C 𝓣.Λ fn (v ∷ []) Post $ alloc_all ! (λ l. pass_all ! refl (typed (kept_of h) ((told ℓ R (kept_of h) (v ∷ []) are.0.0).1), tt) $ let Ev = env fn.locals l in
     -- [what the claim owns; the tokens]
-    move ! (0 ∷ 1 ∷ []) $ use2 𝓛 (later (‵ (right_owns h.table h.id) ⊛ ‵ (flft β q))) (surrenders 𝓛 R β h.word h.table (place_of h.id h.index h.slot h.reserved) 𝓡 h.learnt h.found h.published q) $ await ! tt $ split ! $
+    move ! (0 ∷ 1 ∷ []) $ use2 𝓛 (later (‵ (right_owns h.table h.id) ⊛ ‵ (flft β q))) (surrenders 𝓛 R β h.word h.table (place_of h.id h.index h.chunk h.value h.reserved) 𝓡 h.learnt h.found h.published q) $ await ! tt $ split ! $
     move ! (1 ∷ 2 ∷ []) $ join ! $ move ! (1 ∷ []) $
     let k : takes.Ghost = ((tt, tt, tt, tt, tt), (h.table, h.id)) in
     nothing ! $ nothing ! $ join ! $ join ! $ use1 𝓛 (raw (takes.pre k)) (id⊢ 𝓤 (takes.pre k)) $

@@ -1,15 +1,16 @@
--- `give` finds a slot's value as `is_published` finds its flag, and cuts it out of those that the loan has left.
-use Rattle.thread_local_blocks.proofs.Names.{drop, apply∗, sem, split3, Some, IsSome, pick, some, later, await, fobs, addr, MutBor, mem, is, size_word, length, None, cell, ◌≤◌, ◌≡◌, ℕ, ◌+◌, ◌*◌, ◌^◌, ◌<◌, List, [], ◌∷◌, sym, refl, ap, ◌∙◌, subst, arith, w64, a_type, named, Val, vint, vptr, inst_fn, full_share, SProp, emp, GName, Fml, ftrue, fsep, flft, fbor, ‵, raw, ◌⊛◌, at_ret, ◌$◌, ◌∵◌, !, qed, by, move, keep, use0, use1, use2, split, join, fsplit, fsplit3, fjoin, fjoin3, fpick, fpack, rewrite, feq_i, stop, fld, load, lit, of_opd, bin, first, blocks, exec, returns, enter, look, alloc_all, pass_all, free_all, look_at, get, through, sets, sets_last, env, sub, look_in, whole, bor_open, obor_close, tables, fact_i, yes, RattleType, owns, types_at, plain, named_lft, Ptr, block_ptr, block_of, count_of, at_block, InBlock, nothing, heard, opens, closes, peeks, Is, shows, cell_at, param, layouts, usize, mut_vals, mut_Tells, uint_vals, uint_Tells, Stays, stay_dropped, stay_ref, walk_of, Goes-dropped, Goes-ref, proved, leaves}
+-- `give` finds where a slot's value lies, and cuts it out of those that the loan has left.
+use Rattle.thread_local_chunks.proofs.Names.{drop, apply∗, sem, split3, Some, IsSome, pick, some, later, await, fobs, addr, MutBor, mem, is, size_word, length, None, cell, ◌≤◌, ◌≡◌, ℕ, ◌+◌, ◌*◌, ◌^◌, ◌<◌, List, [], ◌∷◌, sym, refl, ap, ◌∙◌, subst, arith, w64, a_type, named, Val, vint, vptr, inst_fn, full_share, SProp, emp, GName, Fml, ftrue, fsep, flft, fbor, ‵, raw, ◌⊛◌, at_ret, ◌$◌, ◌∵◌, !, qed, by, move, keep, use0, use1, use2, split, join, fsplit, fsplit3, fjoin, fjoin3, fpick, fpack, rewrite, feq_i, stop, fld, load, lit, of_opd, bin, first, blocks, exec, returns, enter, look, alloc_all, pass_all, free_all, look_at, get, through, sets, sets_last, env, sub, look_in, whole, bor_open, obor_close, tables, fact_i, yes, RattleType, owns, types_at, plain, named_lft, Ptr, block_ptr, block_of, count_of, at_block, InBlock, nothing, heard, opens, closes, peeks, Is, shows, cell_at, param, layouts, usize, mut_vals, mut_Tells, uint_vals, uint_Tells, Stays, stay_dropped, stay_ref, walk_of, Goes-dropped, Goes-ref, proved, leaves, lit<}
 use types.SemTy.{Body}
 use contract.Monad.{fact}
+use Rattle.std.specs.Prelude.{◌/◌, ◌%◌}
 use denote.Follow.{both_by}
 use types.Follow.{after₂}
 use Rattle.std.proofs.alloc.Shapes.{after}
 use Rattle.thread_local_model.specs.Buckets.{Contents, row}
 use Rattle.thread_local_model.specs.Place.{id_at}
 use Rattle.thread_local_model.specs.Rows.{value_in, with_slot}
-use Rattle.thread_local_blocks.specs.Slots.{stride, value_at}
-use Rattle.thread_local_blocks.proofs.Slots.{within}
+use Rattle.thread_local_chunks.specs.Slots.{stride, chunk_size, value_in as place_of}
+use Rattle.thread_local_chunks.proofs.Flags.{chunk_near, value_near}
 use Rattle.thread_local_blocks.proofs.Fields.{uncapped}
 use Rattle.thread_local_loan.specs.Lent.{Lending, lending, framed, frames, Leads, IsLeft, Values, lent_values, shape}
 use Rattle.thread_local_loan.specs.contracts.loan.Loan as loan
@@ -43,27 +44,35 @@ give_spec 𝓤 𝓛 𝓜 𝓡 wired X L =
     -- [the frames; the values; the fields; the loan's cell; its open borrow, in three entries; the other tokens]
     let at : h.words ≡ block_ptr (block_of h.words) (count_of h.words) = at_block h.words so.0 in let wb : ℕ = block_of h.words in let wo : ℕ = count_of h.words in let e : ℕ = k * 8 + wo in
     let rs = s.1.rows in let p : Ptr = pointer s.0 k in let r = in_row rs k in let ev : ts ≡ loan_val (block_ptr wb wo) ∷ [] = told ℓ R h.words ts is_so ∙ ap (λ (q : Ptr). loan_val q ∷ []) at in
-    let near : i < length r = subst (λ n. i < n) (sym (so.1.long k)) inside in let sb : ℕ = block_of p in let e' : ℕ = i * stride R + count_of p in let v : ℕ = value_at R e' in let x : X.Denot = the_value (value_in h.contents k i) published in
+    let near : i < length r = subst (λ n. i < n) (sym (so.1.long k)) inside in let sb : ℕ = block_of p in let v : ℕ = place_of R (count_of p) i in let x : X.Denot = the_value (value_in h.contents k i) published in
     let had : value_in h.contents k i ≡ Some x = the_value_is (value_in h.contents k i) published in let kept : k < length h.contents.rows = subst (λ n. k < n) (sym so.1.table.buckets) small in
     move ! (7 ∷ []) $ fsplit ! $ move ! (2 ∷ 0 ∷ []) $ bor_open ! tt $ move ! (1 ∷ []) $
     use1 𝓛 (‵ (framed R wb e p r) ⊛ raw (Frame 𝓛 R wb wo s.0 rs k e)) (frame_out 𝓛 R wb s.0 rs k wo e refl (subst (λ n. k < n) (sym so.1.rows) small)) $ split ! $ fsplit3 ! $ move ! (1 ∷ []) $ fpick ! (λ lead. drop ! $
-    let leads = leads_in R p r lead (omega arith) in let place : p ≡ block_ptr sb (count_of p) = at_block p leads.0 in let low : k * 8 < 2 ^ 64 = omega arith in let below : i * stride R < 2 ^ 63 = within 𝓛 R i (length r) (omega arith) leads.1 in let fits : i * stride R < 2 ^ 64 = omega arith in
+    let leads = leads_in R p r lead (omega arith) in let place : p ≡ block_ptr sb (count_of p) = at_block p leads.0 in let low : k * 8 < 2 ^ 64 = omega arith in let n : ℕ = length r in
+    let chunk_below : i / 64 * chunk_size R < 2 ^ 63 = chunk_near R n i leads.1 near in let chunk_fits : i / 64 * chunk_size R < 2 ^ 64 = omega arith in
+    let value_below : i % 64 * stride R < 2 ^ 63 = value_near R n i leads.1 near in let value_fits : i % 64 * stride R < 2 ^ 64 = omega arith in
+    let quotient : i / 64 < 2 ^ 64 = omega arith in let rest : i % 64 < 2 ^ 64 = omega arith in
     -- [the word; the flags; the way back; the open frames; a token; the values; the fields; the loan's cell; its open borrow, in three entries]
     rewrite ! 7 (λ (ws : List Val). ‵ (cell_at full_share Lo.mir ws b o)) ev refl $ rewrite ! 0 (λ (q : Ptr). ‵ (cell wb e q)) place refl $
     first ! $ blocks ! $ sets ! (of_opd ! (load ! (through ! refl (fld ! refl (stop !))) (look_in ! 7 (sub ! 0 refl (whole !))))) refl (tt, tt) $
     sets ! (bin ! (get ! refl) (lit ! tt) (record { fits = low })) refl (tt, record { fits = low }) $
     sets ! (bin ! (get ! refl) (get ! refl) tt) refl (tt, tt) $
     sets ! (of_opd ! (load ! (through ! refl (stop !)) (look ! 0 refl))) refl (tt, tt) $
-    sets ! (is ! (bin ! (get ! refl) (size_word !) (record { fits = subst (λ (j : ℕ). j < 2 ^ 64) (sym (uncapped i (stride R) fits)) fits })) (ap (vint w64) (uncapped i (stride R) fits))) refl (tt, record { fits = fits }) $
+    sets ! (bin ! (get ! refl) (lit ! tt) (lit< tt)) refl (tt, record { fits = quotient }) $
+    sets ! (is ! (bin ! (get ! refl) (size_word !) (record { fits = subst (λ (j : ℕ). j < 2 ^ 64) (sym (uncapped (i / 64) (chunk_size R) chunk_fits)) chunk_fits })) (ap (vint w64) (uncapped (i / 64) (chunk_size R) chunk_fits))) refl (tt, record { fits = chunk_fits }) $
     sets ! (bin ! (get ! refl) (get ! refl) tt) refl (tt, tt) $
-    sets_last ! (addr ! (through ! refl (fld ! refl (stop !)))) refl (tt, tt) $ exec ! 𝓣.C 𝓣.Λ Ev (after 1 fn.body) (at_ret Ev Post) $
+    sets ! (addr ! (through ! refl (fld ! refl (stop !)))) refl (tt, tt) $
+    sets ! (bin ! (get ! refl) (lit ! tt) (lit< tt)) refl (tt, record { fits = rest }) $
+    sets ! (is ! (bin ! (get ! refl) (size_word !) (record { fits = subst (λ (j : ℕ). j < 2 ^ 64) (sym (uncapped (i % 64) (stride R) value_fits)) value_fits })) (ap (vint w64) (uncapped (i % 64) (stride R) value_fits))) refl (tt, record { fits = value_fits }) $
+    sets ! (bin ! (get ! refl) (get ! refl) tt) refl (tt, tt) $
+    sets_last ! (addr ! (through ! refl (stop !))) refl (tt, tt) $ exec ! 𝓣.C 𝓣.Λ Ev (after 1 fn.body) (at_ret Ev Post) $
     sets ! (of_opd ! (get ! refl)) refl (tt, tt) $
     rewrite ! 0 (λ (q : Ptr). ‵ (cell wb e q)) (sym place) refl $ nothing ! $ fpack ! (Leads R p r) (λ _. ftrue) lead $ move ! (1 ∷ 0 ∷ 2 ∷ []) $ fjoin3 ! $ use2 𝓛 (‵ (frames R wb wo s.0 rs)) (apply∗ 𝓤 (sem 𝓛 (framed R wb e p r)) (sem 𝓛 (frames R wb wo s.0 rs))) $
     move ! (1 ∷ 0 ∷ []) $ obor_close ! tt $
     -- [the frames; two tokens; the values; the fields; the loan's cell; its open borrow, in three entries]
-    let left : Contents X.Denot = less 𝓛 R s.0 h.contents k i e' x refl kept inside had in let way = whole_of 𝓛 R s.0 h.contents k i e' x refl kept inside had in
+    let left : Contents X.Denot = less 𝓛 R s.0 h.contents k i x kept inside had in let way = whole_of 𝓛 R s.0 h.contents k i x kept inside had in
     move ! (3 ∷ 1 ∷ []) $ use2 𝓛 (later (some (λ (γs : GName × GName). (‵ (fobs γs.0 (R.coded.code x)) ⊛ ‵ (fbor ℓ.lft (Body (mem R) sb v γs.0))) ⊛ ‵ (lent_values R ℓ.lft s.0 γs.1 left) ⊛ ‵ (flft ℓ.lft qs.1.0)
-    ⊛ ‵ (after₂ (Values R s.0 (shape h.contents.rows)) (mem R) (Values R s.0 (shape left.rows)) h.name γs.0 γs.1 way)))) (gives 𝓛 R s.0 h.contents k i e' x refl kept inside had ℓ.lft qs.1.0 h.name) $ await ! tt $ pick ! (λ γs. split3 ! $ move ! (2 ∷ []) $ split ! $
+    ⊛ ‵ (after₂ (Values R s.0 (shape h.contents.rows)) (mem R) (Values R s.0 (shape left.rows)) h.name γs.0 γs.1 way)))) (gives 𝓛 R s.0 h.contents k i x kept inside had ℓ.lft qs.1.0 h.name) $ await ! tt $ pick ! (λ γs. split3 ! $ move ! (2 ∷ []) $ split ! $
     let h' : Lo.Denot = record { words = h.words; marker = h.marker; name = γs.1; contents = left; given = id_at k i + 1 } in let now_so = left_after s.1 h.contents h.given k i so.1 ahead in
     move ! (4 ∷ 3 ∷ []) $ fjoin ! $ nothing ! $ fpack ! (InBlock h.words × IsLeft s.1 left (id_at k i + 1)) (λ _. ftrue) (so.0, now_so) $ fjoin ! $ fpack ! (Lending R) (lending R ℓ.lft h.words γs.1 left (id_at k i + 1)) s $
     -- [what the loan owns; a token; what follows; the value's borrow; a token; the fields; the loan's cell; its open borrow, in three entries]

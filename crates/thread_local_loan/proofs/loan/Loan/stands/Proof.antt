@@ -1,5 +1,5 @@
 -- `stands` reads a word.
-use Rattle.thread_local_blocks.proofs.Names.{drop, apply∗, sem, ◌≡◌, ℕ, ◌+◌, ◌*◌, ◌^◌, ◌<◌, List, [], ◌∷◌, sym, refl, ap, ◌∙◌, subst, arith, w64, Bool, a_type, named, Val, vint, vptr, inst_fn, full_share, SProp, emp, Fml, ftrue, fsep, flft, ‵, raw, ◌⊛◌, at_ret, ◌$◌, ◌∵◌, !, qed, by, move, keep, use0, use1, use2, split, join, fsplit, fsplit3, fjoin, fjoin3, fpick, fpack, rewrite, feq_i, stop, fld, load, lit, of_opd, bin, un, first, blocks, exec, returns, enter, look, alloc_all, pass_all, free_all, look_at, get, through, sets, sets_last, env, sub, look_in, whole, bor_open, obor_close, tables, fact_i, yes, RattleType, owns, types_at, plain, named_lft, Ptr, block_ptr, block_of, count_of, at_block, InBlock, nothing, heard, opens, closes, peeks, Is, shows, cell_at, param, layouts, usize, mut_vals, mut_Tells, uint_vals, uint_Tells, Stays, stay_dropped, stay_ref, walk_of, Goes-dropped, Goes-ref, proved, leaves}
+use Rattle.thread_local_chunks.proofs.Names.{drop, apply∗, sem, ◌≡◌, ℕ, ◌+◌, ◌*◌, ◌^◌, ◌<◌, List, [], ◌∷◌, sym, refl, ap, ◌∙◌, subst, arith, w64, Bool, a_type, named, Val, vint, vptr, inst_fn, full_share, SProp, emp, Fml, ftrue, fsep, flft, ‵, raw, ◌⊛◌, at_ret, ◌$◌, ◌∵◌, !, qed, by, move, keep, use0, use1, use2, split, join, fsplit, fsplit3, fjoin, fjoin3, fpick, fpack, rewrite, feq_i, stop, fld, load, lit, of_opd, bin, un, first, blocks, exec, returns, enter, look, alloc_all, pass_all, free_all, look_at, get, through, sets, sets_last, env, sub, look_in, whole, bor_open, obor_close, tables, fact_i, yes, RattleType, owns, types_at, plain, named_lft, Ptr, block_ptr, block_of, count_of, at_block, InBlock, nothing, heard, opens, closes, peeks, Is, shows, cell_at, param, layouts, usize, mut_vals, mut_Tells, uint_vals, uint_Tells, Stays, stay_dropped, stay_ref, walk_of, Goes-dropped, Goes-ref, proved, leaves}
 use contract.Monad.{fact}
 use mir.Val.{vbool, vnull, ptr_same}
 use denote.RawPtr.{ptr_val}

@@ -15,7 +15,7 @@ use denote.Param.Shared.{copy_shared}
 use denote.Struct.Laws.{field_copy}
 use denote.Struct.Lending.{Lends, of_Lends}
 use Rattle.std.specs.contracts.marker.PhantomData as P
-use Rattle.thread_local_blocks.specs.Slots.{fact}
+use Rattle.thread_local_chunks.specs.Slots.{fact}
 use Rattle.thread_local_judged.specs.Judged.{Shareable}
 use Rattle.thread_local_shared_walk.specs.contracts.shown.Shown as C
 use Rattle.thread_local_shared_walk.proofs.shown.Shown.TheLaw.Statement.{statement}

@@ -11,7 +11,7 @@ use denote.SharingLaws.{said_shr_laws, some_shr_laws, beside_shr_laws, ends_shr_
 use denote.Param.Laws.{Laws}
 use Rattle.std.proofs.cell.BorrowLemmas.{by_one}
 use Rattle.thread_local_judged.specs.Judged.{Judged}
-use Rattle.thread_local_blocks.specs.Slots.{fact}
+use Rattle.thread_local_chunks.specs.Slots.{fact}
 use Rattle.thread_local_shared_word_logic.specs.Shared.{Turn, invariant, kept, word_shares}
 use Rattle.thread_local_shared_word.proofs.Lent.{P, lends_by}
 use Rattle.thread_local_shared_word.proofs.word.SharedWord.TheLaw.Statement.{statement}

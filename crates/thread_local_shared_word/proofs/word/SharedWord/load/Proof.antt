@@ -1,5 +1,5 @@
 -- `load` is one load of the pointer: it takes a part of what keeps the block, and gives it up for the row.
-use Rattle.thread_local_blocks.proofs.Names.{◌≡◌, ℕ, ◌+◌, [], ◌∷◌, refl, sym, ◌∙◌, lit<, true, false, Option, None, Some, a_type, named, Val, vptr, vcons, vnil, inst_fn, SProp, wand, emp, via, id⊢, apply∗, Lft, Share, Fml, ftrue, fsep, flft, fbor, ‵, raw, ◌⊛◌, some, later, mean, at_ret, ◌$◌, ◌∵◌, !, qed, by, move, keep, drop, split, join, fsplit, fjoin, fjoin3, fpick, fpack, pick, use0, use1, use2, use3, await, stop, fld, addr, lit, of_opd, bin, no_more, and_then, first, blocks, exec, branches, returns, enter, alloc_all, pass_all, free_all, look_at, get, through, sets, sets_last, lands_last, env, agg, live, tables, fact, fact_i, yes, RattleType, owns, types_at, plain, Ptr, block_ptr, null_ptr, nothing, param, layouts, RefOf, u64, shr_vals, shr_Tells, Stays, stay_dropped, walk_of, Goes-dropped, proved, leaves, fm, after}
+use Rattle.thread_local_chunks.proofs.Names.{◌≡◌, ℕ, ◌+◌, [], ◌∷◌, refl, sym, ◌∙◌, lit<, true, false, Option, None, Some, a_type, named, Val, vptr, vcons, vnil, inst_fn, SProp, wand, emp, via, id⊢, apply∗, Lft, Share, Fml, ftrue, fsep, flft, fbor, ‵, raw, ◌⊛◌, some, later, mean, at_ret, ◌$◌, ◌∵◌, !, qed, by, move, keep, drop, split, join, fsplit, fjoin, fjoin3, fpick, fpack, pick, use0, use1, use2, use3, await, stop, fld, addr, lit, of_opd, bin, no_more, and_then, first, blocks, exec, branches, returns, enter, alloc_all, pass_all, free_all, look_at, get, through, sets, sets_last, lands_last, env, agg, live, tables, fact, fact_i, yes, RattleType, owns, types_at, plain, Ptr, block_ptr, null_ptr, nothing, param, layouts, RefOf, u64, shr_vals, shr_Tells, Stays, stay_dropped, walk_of, Goes-dropped, proved, leaves, fm, after}
 use Rattle.std.proofs.Common.{IfSome, IsSome}
 use base.Fml.{finv}
 use base.Before.{before}
@@ -15,7 +15,7 @@ use Rattle.std.proofs.raw_atomic.PtrCalls as calls
 use Rattle.std.proofs.raw_atomic.PtrCalls.{seq_cst_good}
 use Rattle.std.specs.contracts.option.Option as Opt
 use Rattle.thread_local_judged.specs.Judged.{Judged}
-use Rattle.thread_local_blocks.specs.Slots.{fact as said_fact}
+use Rattle.thread_local_chunks.specs.Slots.{fact as said_fact}
 use Rattle.thread_local_shared_word_logic.specs.Shared.{WordView, Sized, len, invariant, loaded, Found, row_as}
 use Rattle.thread_local_shared_word.specs.contracts.word.SharedWord as word
 use Rattle.thread_local_shared_word.specs.contracts.row.Row as Row

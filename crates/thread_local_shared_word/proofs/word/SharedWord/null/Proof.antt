@@ -1,5 +1,5 @@
 -- `null` makes a word at rest that leads nowhere.
-use Rattle.thread_local_blocks.proofs.Names.{◌≡◌, ℕ, [], ◌∷◌, refl, w64, false, a_type, named, Val, vint, vptr, inst_fn, SProp, emp, ftrue, fsep, ‵, raw, ◌⊛◌, ◌$◌, ◌∵◌, !, qed, by, keep, use0, split, join, fjoin, fpack, lit, no_more, and_then, returns, enter, alloc_all, pass_all, free_all, look_at, get, sets, agg, tables, fact, fact_i, yes, RattleType, owns, types_at, plain, Ptr, null_ptr, nothing, heard, param, layouts, alive, RefOf, usize, uint_vals, uint_Tells, shr_vals, shr_Tells, Stays, stay_dropped, walk_of, Goes-dropped, proved, leaves}
+use Rattle.thread_local_chunks.proofs.Names.{◌≡◌, ℕ, [], ◌∷◌, refl, w64, false, a_type, named, Val, vint, vptr, inst_fn, SProp, emp, ftrue, fsep, ‵, raw, ◌⊛◌, ◌$◌, ◌∵◌, !, qed, by, keep, use0, split, join, fjoin, fpack, lit, no_more, and_then, returns, enter, alloc_all, pass_all, free_all, look_at, get, sets, agg, tables, fact, fact_i, yes, RattleType, owns, types_at, plain, Ptr, null_ptr, nothing, heard, param, layouts, alive, RefOf, usize, uint_vals, uint_Tells, shr_vals, shr_Tells, Stays, stay_dropped, walk_of, Goes-dropped, proved, leaves}
 use denote.Laws.{Typed}
 use Rattle.thread_local_rights.specs.contracts.right.Rights as rights
 use Rattle.thread_local_judged.specs.Judged.{Judged}

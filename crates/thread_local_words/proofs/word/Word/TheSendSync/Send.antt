@@ -5,7 +5,7 @@ use base.Shift.{Keyless}
 use denote.RattleType.{RattleType}
 use denote.RawPtr.{Ptr}
 use denote.Param.Send.{IsSend}
-use Rattle.thread_local_blocks.specs.Slots.{heap_token}
+use Rattle.thread_local_chunks.specs.Slots.{heap_token}
 use Rattle.thread_local_blocks.proofs.Sent.{token_keyless, block_keyless}
 use Rattle.thread_local_words.specs.Leads.{word_owns}
 use Rattle.thread_local_words.specs.contracts.word.Word.{the_row}

@@ -1,5 +1,5 @@
 use Rattle.std.proofs.Common.{◌≡◌, ℕ, zero, suc, ◌<◌, List, [], ◌∷◌, length, Option, None, refl, ap, ◌∙◌, arith}
-use Rattle.thread_local_blocks.specs.Slots.{slot_at, empty_slots}
+use Rattle.thread_local_chunks.specs.Slots.{slot_at, empty_slots}
 use Rattle.thread_local_words.proofs.word.Word.empty.Goals as goal
 
 -- slots of which each is empty

@@ -1,5 +1,5 @@
 use Rattle.std.proofs.Common.{◌≡◌, ℕ, ◌<◌, length, None}
-use Rattle.thread_local_blocks.specs.Slots.{slot_at}
+use Rattle.thread_local_chunks.specs.Slots.{slot_at}
 use Rattle.thread_local_words.proofs.word.Word.empty.Given as goal
 
 -- the slots so far are empty, and there are as many as before

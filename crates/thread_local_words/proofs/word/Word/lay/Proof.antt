@@ -1,9 +1,9 @@
 -- `lay` takes the block apart and writes its pointer.
-use Rattle.thread_local_blocks.proofs.Names.{◌≡◌, ℕ, ◌<◌, List, [], ◌∷◌, length, refl, Option, a_type, named, Val, vptr, vunit, inst_fn, full_share, SProp, emp, Fml, ftrue, fsep, flft, ‵, raw, ◌⊛◌, ◌$◌, ◌∵◌, !, qed, by, move, keep, drop, use0, use1, split, join, fsplit, fsplit3, fjoin, fjoin3, rewrite, feq_i, stop, fld, unit_lit, of_opd, returns, enter, assigns, alloc_all, pass_all, free_all, look_at, get, get_in, through, sets, sub, whole, tables, fact, fact_i, no, RattleType, owns, types_at, plain, Ptr, nothing, heard, opens, closes, peeks, shows, param, layouts, mut_vals, mut_Tells, Stays, stay_dropped, stay_ref, walk_of, Goes-dropped, Goes-ref, cell_at, proved, leaves}
+use Rattle.thread_local_chunks.proofs.Names.{◌≡◌, ℕ, ◌<◌, List, [], ◌∷◌, length, refl, Option, a_type, named, Val, vptr, vunit, inst_fn, full_share, SProp, emp, Fml, ftrue, fsep, flft, ‵, raw, ◌⊛◌, ◌$◌, ◌∵◌, !, qed, by, move, keep, drop, use0, use1, split, join, fsplit, fsplit3, fjoin, fjoin3, rewrite, feq_i, stop, fld, unit_lit, of_opd, returns, enter, assigns, alloc_all, pass_all, free_all, look_at, get, get_in, through, sets, sub, whole, tables, fact, fact_i, no, RattleType, owns, types_at, plain, Ptr, nothing, heard, opens, closes, peeks, shows, param, layouts, mut_vals, mut_Tells, Stays, stay_dropped, stay_ref, walk_of, Goes-dropped, Goes-ref, cell_at, proved, leaves}
 use types.Part.{store_in}
 use Rattle.std.specs.contracts.alloc.Global as heap
 use Rattle.std.specs.contracts.impls.GlobalAllocator.TheImpl.{ghosts}
-use Rattle.thread_local_blocks.specs.Slots.{block_owns, heap_token}
+use Rattle.thread_local_chunks.specs.Slots.{block_owns, heap_token}
 use Rattle.thread_local_words.specs.Leads.{word_owns}
 use Rattle.thread_local_blocks.specs.contracts.block.Block as block
 use Rattle.thread_local_words.specs.contracts.word.Word as word
@@ -11,7 +11,7 @@ use Rattle.thread_local_words.specs.contracts.word.Word.lay.{ended, clauses}
 use Rattle.thread_local_words.specs.contracts.word.Word.lay.Key.{name as #self}
 use Rattle.thread_local_blocks.proofs.Fields as fields
 use Rattle.thread_local_words.proofs.WordSteps.{word_val, told, Words, made, lays}
-use Rattle.thread_local_blocks.proofs.Fields.{ptr_good}
+use Rattle.thread_local_chunks.proofs.Slots.{ptr_good}
 use Rattle.thread_local_words.proofs.word.Word.lay.Statement.{statement}
 use Rattle.thread_local_words.proofs.word.Word.lay.Code as code
 

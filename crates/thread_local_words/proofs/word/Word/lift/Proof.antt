@@ -1,16 +1,16 @@
 -- `lift` reads the pointer, and leaves null.
-use Rattle.thread_local_blocks.proofs.Names.{◌≡◌, ℕ, ◌<◌, List, [], ◌∷◌, length, refl, Option, a_type, named, Val, vptr, inst_fn, full_share, SProp, emp, Fml, ftrue, fsep, flft, ‵, raw, ◌⊛◌, ◌$◌, ◌∵◌, !, qed, by, move, keep, drop, use0, use1, split, join, fsplit, fsplit3, fjoin, fjoin3, fpack, rewrite, feq_i, stop, fld, load, lit, of_opd, no_more, and_then, returns, enter, assigns, alloc_all, pass_all, free_all, look_at, get, through, sets, agg, sub, look_in, whole, tables, fact, fact_i, yes, RattleType, owns, types_at, plain, Ptr, null_ptr, nothing, heard, opens, closes, peeks, shows, param, layouts, RefOf, mut_vals, mut_Tells, shr_vals, shr_Tells, Stays, stay_dropped, stay_ref, walk_of, Goes-dropped, Goes-ref, cell_at, proved, leaves}
+use Rattle.thread_local_chunks.proofs.Names.{◌≡◌, ℕ, ◌<◌, List, [], ◌∷◌, length, refl, Option, a_type, named, Val, vptr, inst_fn, full_share, SProp, emp, Fml, ftrue, fsep, flft, ‵, raw, ◌⊛◌, ◌$◌, ◌∵◌, !, qed, by, move, keep, drop, use0, use1, split, join, fsplit, fsplit3, fjoin, fjoin3, fpack, rewrite, feq_i, stop, fld, load, lit, of_opd, no_more, and_then, returns, enter, assigns, alloc_all, pass_all, free_all, look_at, get, through, sets, agg, sub, look_in, whole, tables, fact, fact_i, yes, RattleType, owns, types_at, plain, Ptr, null_ptr, nothing, heard, opens, closes, peeks, shows, param, layouts, RefOf, mut_vals, mut_Tells, shr_vals, shr_Tells, Stays, stay_dropped, stay_ref, walk_of, Goes-dropped, Goes-ref, cell_at, proved, leaves}
 use types.Part.{store_in}
 use Rattle.std.specs.contracts.alloc.Global as heap
 use Rattle.std.specs.contracts.impls.GlobalAllocator.TheImpl.{ghosts}
-use Rattle.thread_local_blocks.specs.Slots.{block_owns}
+use Rattle.thread_local_chunks.specs.Slots.{block_owns}
 use Rattle.thread_local_blocks.specs.contracts.block.Block as block
 use Rattle.thread_local_words.specs.contracts.word.Word as word
 use Rattle.thread_local_words.specs.contracts.word.Word.lift.{ended, clauses}
 use Rattle.thread_local_words.specs.contracts.word.Word.lift.Key.{name as #self}
 use Rattle.thread_local_blocks.proofs.Fields as fields
 use Rattle.thread_local_words.proofs.WordSteps.{word_val, told, Words, made, lifts}
-use Rattle.thread_local_blocks.proofs.Fields.{ptr_good}
+use Rattle.thread_local_chunks.proofs.Slots.{ptr_good}
 use Rattle.thread_local_words.proofs.word.Word.lift.Statement.{statement}
 use Rattle.thread_local_words.proofs.word.Word.lift.Code as code
 

@@ -1,5 +1,5 @@
 -- `null` makes a word that leads nowhere.
-use Rattle.thread_local_blocks.proofs.Names.{◌≡◌, [], ◌∷◌, refl, a_type, Val, inst_fn, SProp, emp, ftrue, ‵, raw, ◌⊛◌, ◌$◌, ◌∵◌, !, qed, by, keep, use0, split, fjoin, fpack, lit, no_more, and_then, returns, enter, alloc_all, pass_all, free_all, look_at, sets, agg, tables, fact, fact_i, RattleType, null_ptr, nothing, param, layouts, alive, walk_of, proved, leaves}
+use Rattle.thread_local_chunks.proofs.Names.{◌≡◌, [], ◌∷◌, refl, a_type, Val, inst_fn, SProp, emp, ftrue, ‵, raw, ◌⊛◌, ◌$◌, ◌∵◌, !, qed, by, keep, use0, split, fjoin, fpack, lit, no_more, and_then, returns, enter, alloc_all, pass_all, free_all, look_at, sets, agg, tables, fact, fact_i, RattleType, null_ptr, nothing, param, layouts, alive, walk_of, proved, leaves}
 use Rattle.thread_local_words.specs.contracts.word.Word as word
 use Rattle.thread_local_words.specs.contracts.word.Word.null.{ended, clauses}
 use Rattle.thread_local_words.specs.contracts.word.Word.null.Key.{name as #self}

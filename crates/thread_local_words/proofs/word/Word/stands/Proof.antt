@@ -1,16 +1,16 @@
 -- `stands` tests the pointer, which is null where there are no slots.
-use Rattle.thread_local_blocks.proofs.Names.{◌≡◌, ℕ, List, [], ◌∷◌, sym, refl, Bool, Option, a_type, named, Val, vptr, inst_fn, full_share, SProp, emp, guard_i, Fml, ftrue, fsep, flft, sem, ‵, raw, ◌⊛◌, given, ◌$◌, ◌∵◌, !, qed, by, move, keep, use0, use1, split, join, fsplit, fsplit3, fjoin, fjoin3, learn, rewrite, feq_i, stop, fld, load, lit, of_opd, bin, returns, enter, alloc_all, pass_all, free_all, look_at, get, through, sets, sub, look_in, whole, tables, fact, fact_i, fact_use, RattleType, owns, types_at, plain, Ptr, ptr_val, nothing, opens, closes, peeks, shows, param, layouts, mut_vals, mut_Tells, Stays, stay_ref, walk_of, Goes-ref, cell_at, proved, leaves, length}
+use Rattle.thread_local_chunks.proofs.Names.{◌≡◌, ℕ, List, [], ◌∷◌, sym, refl, Bool, Option, a_type, named, Val, vptr, inst_fn, full_share, SProp, emp, guard_i, Fml, ftrue, fsep, flft, sem, ‵, raw, ◌⊛◌, given, ◌$◌, ◌∵◌, !, qed, by, move, keep, use0, use1, split, join, fsplit, fsplit3, fjoin, fjoin3, learn, rewrite, feq_i, stop, fld, load, lit, of_opd, bin, returns, enter, alloc_all, pass_all, free_all, look_at, get, through, sets, sub, look_in, whole, tables, fact, fact_i, fact_use, RattleType, owns, types_at, plain, Ptr, ptr_val, nothing, opens, closes, peeks, shows, param, layouts, mut_vals, mut_Tells, Stays, stay_ref, walk_of, Goes-ref, cell_at, proved, leaves, length}
 use Rattle.std.specs.Prelude.{not, nat_lt}
 use mir.Val.{ptr_same, vnull, vbool}
 use types.Run.{un}
 use denote.RawPtr.{tests_null}
-use Rattle.thread_local_blocks.specs.Slots.{heap_token}
+use Rattle.thread_local_chunks.specs.Slots.{heap_token}
 use Rattle.thread_local_words.specs.Leads.{word_owns}
 use Rattle.thread_local_words.specs.contracts.word.Word as word
 use Rattle.thread_local_words.specs.contracts.word.Word.stands.{ended, clauses}
 use Rattle.thread_local_words.specs.contracts.word.Word.stands.Key.{name as #self}
 use Rattle.thread_local_words.proofs.WordSteps.{word_val, told, Tells, word_tells}
-use Rattle.thread_local_blocks.proofs.Fields.{ptr_good}
+use Rattle.thread_local_chunks.proofs.Slots.{ptr_good}
 use Rattle.thread_local_words.proofs.word.Word.stands.Statement.{statement}
 use Rattle.thread_local_words.proofs.word.Word.stands.Code as code
 

@@ -2,7 +2,7 @@ use Rattle.std.proofs.Common.{◌≡◌, ◌^◌, ℕ, ◌⊎◌, inl, inr, leng
 use Rattle.std.proofs.lemmas.Bool.{ltb-true}
 use Rattle.thread_local_model.specs.Buckets.{Contents, row, stands, IsTable}
 use Rattle.thread_local_model.specs.Rows.{with_row, empty_row}
-use Rattle.thread_local_blocks.specs.Slots.{empty_slots}
+use Rattle.thread_local_chunks.specs.Slots.{empty_slots}
 use Rattle.thread_local_contents.proofs.RowLaws.{IsTable-with_row, length-empty_row}
 use Rattle.thread_local_words.specs.Rows.{contents_of}
 use Rattle.thread_local_words.proofs.ContentsOf.{row_of_word, row_changes}

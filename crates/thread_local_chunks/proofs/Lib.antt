@@ -1,0 +1,5 @@
+pub mod Names
+pub mod Each
+pub mod Flags
+pub mod Rooms
+pub mod Slots
