@@ -1,4 +1,4 @@
-use Rattle.std.proofs.Common.{◌≡◌, ◌≢◌, ℕ, ◌+◌, ◌-◌, ◌*◌, ◌/◌, ◌%◌, ◌^◌, ◌<◌, ◌≤◌, Bool, true, false, true≢false, cond, eqb, min, max, length, get_or, bit_and, bit_or, count_ones, zero-mul, refl, ap, sym, subst, ◌∙◌, arith, ⊎_elim}
+use Rattle.std.proofs.Common.{◌≡◌, ◌≢◌, ℕ, ◌+◌, ◌-◌, ◌*◌, ◌/◌, ◌%◌, ◌^◌, ◌<◌, Bool, true, false, cond, eqb, min, max, length, get_or, bit_and, bit_or, count_ones, zero-mul, refl, ap, sym, subst, ◌∙◌, arith, ⊎_elim}
 use Rattle.std.specs.Int.{w64, bit_not, bit_at, trailing_ones, trailing_zeros}
 use Rattle.std.specs.Int.Bits.{or_add_and}
 use Rattle.std.specs.List.{count_by}
@@ -6,7 +6,7 @@ use Rattle.std.proofs.lemmas.Bool.{eq-eqb, ne_eqb, cases_eq, cases_lt}
 use Rattle.std.proofs.lemmas.List.{map-id}
 use Rattle.std.proofs.lemmas.List.FromFn.{length-map-range_with_len, get_or-map-range_with_len}
 use Rattle.std.proofs.lemmas.Nat.{pow_pos, pow_below, one_shl, or_lt, and_le_l}
-use Rattle.std.proofs.lemmas.Nat.Bits.{shr_and_one, bit_at-zero, bit_at-lt, bit_at_and, bit_at_or, and_pow, bit_at_ones, bit_at_ones_above, bit_at_above, bit_at-trailing_zeros, bit_at_set_same, bit_at_set_other, bit_at_clear_same, bit_at_clear_other, bit_at-trailing_ones, same_from_bits_below}
+use Rattle.std.proofs.lemmas.Nat.Bits.{shr_and_one, bit_at-zero, bit_at-lt, bit_at_and, bit_at_or, and_pow, bit_at_ones, bit_at_ones_above, bit_at-trailing_zeros, bit_at_set_same, bit_at_set_other, bit_at_clear_same, bit_at_clear_other, bit_at-trailing_ones, same_from_bits_below}
 use Rattle.std.proofs.lemmas.Simd.{mask_l-lt, bit_mask_l, ones-mask_l}
 use lib.Lanes.{mask_l}
 use Rattle.thread_local_bits.specs.Bits.{is_set, low_bits, IsLowestUnset, IsLowestSet, IsWordBut}
@@ -77,23 +77,13 @@ count_ones-counts count word fits =
 bit_at-unset : (word bit : ℕ) → is_set word bit ≡ false → bit_at word bit ≡ 0
 bit_at-unset word bit unset = bit_at-is word bit ∙ ap (λ b. cond b 1 0) unset
 
-bit_at-set : (word bit : ℕ) → is_set word bit ≡ true → bit_at word bit ≡ 1
-bit_at-set word bit here = bit_at-is word bit ∙ ap (λ b. cond b 1 0) here
-
 -- words with the same bits are the same
 pub same_bits : (a b : ℕ) → a < 2 ^ 64 → b < 2 ^ 64 → ((i : ℕ) → i < 64 → is_set a i ≡ is_set b i) → a ≡ b
 same_bits a b fits fit same = same_from_bits_below 64 a b fits fit (λ i inside. bit_at-is a i ∙ ap (λ v. cond v 1 0) (same i inside) ∙ sym (bit_at-is b i))
 
--- a word of which no bit is set is 0, and one with a bit that is set isn't
+-- a word of which no bit is set is 0
 pub none_set : (word : ℕ) → word < 2 ^ 64 → ((i : ℕ) → i < 64 → is_set word i ≡ false) → word ≡ 0
 none_set word fits none = same_from_bits_below 64 word 0 fits (omega arith) (λ i within. bit_at-unset word i (none i within) ∙ sym (bit_at-zero i))
-
-pub some_set : (word bit : ℕ) → is_set word bit ≡ true → word ≢ 0
-some_set word bit here zero = absurd (true≢false (sym here ∙ ap (λ w. is_set w bit) zero ∙ is_set-zero bit))
-
--- a word has no bit from 64 on
-pub is_set-above : (word bit : ℕ) → word < 2 ^ 64 → 64 ≤ bit → is_set word bit ≡ false
-is_set-above word bit fits from = ap (λ b. eqb b 1) (bit_at_above word 64 bit fits from)
 
 -- a word is itself but for a bit that is as told
 pub same_bit : (word bit : ℕ) (value : Bool) → is_set word bit ≡ value → IsWordBut word word bit value
@@ -186,6 +176,3 @@ clear_lowest_at word bit fits low i inside =
     (cases_lt i bit) in
     rw (ne_eqb bit i apart) (ap (λ b. eqb b 1) same))
     (cases_eq bit i)
-
-pub clear_lowest : (word : ℕ) → word < 2 ^ 64 → word ≢ 0 → IsWordBut (bit_and word (word - 1)) word (trailing_zeros w64 word) false
-clear_lowest word fits apart = clear_lowest_at word (trailing_zeros w64 word) fits (lowest_set word fits apart)

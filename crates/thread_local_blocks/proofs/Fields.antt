@@ -1,20 +1,14 @@
 -- The data fields of a block. Assumes `Logic`.
-use Rattle.thread_local_chunks.proofs.Names.{◌≡◌, ◌*◌, ℕ, zero, suc, ◌^◌, ◌<◌, T, List, [], ◌∷◌, ◌++◌, refl, sym, ap, ◌∙◌, arith, suc-mul, zero-mul, lit<, Ura, tcons, tnil, ty_ptr, ty_struct, Val, vstruct, vcons, vnil, of_list, has_ty, WT, ent, emp, Logic, sem, RattleType, Is, Ptr, block_ptr, null_ptr, ptr_val}
+use Rattle.thread_local_chunks.proofs.Names.{◌≡◌, ℕ, T, List, [], ◌∷◌, ◌++◌, refl, ap, ◌∙◌, arith, lit<, Ura, tcons, tnil, ty_ptr, ty_struct, Val, vstruct, vcons, vnil, of_list, has_ty, WT, ent, emp, Logic, sem, RattleType, Is, Ptr, block_ptr, null_ptr, ptr_val}
 use prog.Memory.{capped, size, align}
 use prog.Capped.{capped_is}
 use prog.RawLaws.{size-raw, align-raw}
 use denote.Shadow.{makes_shadow}
 use denote.Struct.Struct.{Struct}
 use denote.Struct.Owning.{shape}
-use mir.Syntax.{ty_array}
 use Rattle.std.specs.declared.alloc.Allocator.{Ghosts}
-use Rattle.thread_local_chunks.specs.Slots.{chunks, chunk_slots, chunk_ty, block_ty}
-use Rattle.thread_local_blocks.specs.Bytes.{block_bytes}
+use Rattle.thread_local_chunks.specs.Slots.{slots_ty, block_ty, Fits}
 use Rattle.thread_local_blocks.specs.contracts.block.Block as block
-
-pub ptr_good : (p : Ptr) → T (has_ty ty_ptr (ptr_val p)) × WT (ptr_val p)
-ptr_good (block_ptr b o) = (tt, tt)
-ptr_good null_ptr = (tt, record { fits = lit< tt })
 
 abbrev pub block_val : Ptr → Val
 block_val p = vstruct (vcons (ptr_val p) (vcons (vstruct vnil) vnil))
@@ -33,12 +27,8 @@ module _ (R Z : RattleType) (g : Ghosts Z.Denot) where
   pub made : {M : Type 1} {𝓤 : Ura M} (𝓛 : Logic 𝓤) (p : Ptr) → ent 𝓤 (emp 𝓤) (sem 𝓛 (Words.own_val (p, (record {}, tt)) (block_val p ∷ [])))
   made 𝓛 p = makes_shadow 𝓛 (Words.own_val (p, (record {}, tt)) (block_val p ∷ [])) (λ vss. (tt, (tt, ((λ uss. (tt, tt)), tt)))) ((ptr_val p ∷ [], (vstruct vnil ∷ [], tt)), (refl, (refl, ((tt, (refl, tt)), tt))))
 
-pub uncapped : (i k : ℕ) → i * k < 2 ^ 64 → i * capped k ≡ i * k
-uncapped zero k h = zero-mul (capped k) ∙ sym (zero-mul k)
-uncapped (suc i) k h = let more = suc-mul i k in ap (λ (j : ℕ). suc i * j) (capped_is k (omega arith))
+pub block_size : (R : RattleType) (n : ℕ) → Fits R n → capped (size (block_ty R n)) ≡ size (slots_ty R n)
+block_size R n fits = ap capped (size-raw (slots_ty R n)) ∙ capped_is (size (slots_ty R n)) (omega arith)
 
-pub block_size : (R : RattleType) (n : ℕ) → block_bytes R n < 2 ^ 64 → capped (size (block_ty R n)) ≡ block_bytes R n
-block_size R n small = ap capped (size-raw (ty_array (chunk_ty R (chunk_slots n)) (chunks n))) ∙ capped_is (block_bytes R n) small
-
-pub block_align : (R : RattleType) (n : ℕ) → capped (align (block_ty R n)) ≡ capped (align (chunk_ty R 64))
-block_align R n = ap capped (align-raw (ty_array (chunk_ty R (chunk_slots n)) (chunks n)))
+pub block_align : (R : RattleType) (n : ℕ) → capped (align (block_ty R n)) ≡ capped (align (slots_ty R 64))
+block_align R n = ap capped (align-raw (slots_ty R n))

@@ -27,13 +27,13 @@ module _ (R : RattleType) (s : IsSend R) where
   slots_keyless b o cs j = each_keyless (slot R b o) (λ c k. place_keyless c b (value_in R o k)) cs j
 
   pub back_keyless : (b o n : ℕ) → Keyless (back R b o n)
-  back_keyless b o n = ((each_keyless (flag_room R b o) (λ _ _. tt) (replicate (chunks n) 0) 0, slots_keyless b o (empty_slots n) 0), tt)
+  back_keyless b o n = ((each_keyless (flag_room R n b o) (λ _ _. tt) (replicate (chunks n) 0) 0, slots_keyless b o (empty_slots n) 0), tt)
 
   pub block_keyless : (token : Ty → Ptr → Fml) → ((τ : Ty) (p : Ptr) → Keyless (token τ p)) → (p : Ptr) (cs : List (Option R.Denot)) (left : ℕ) → Keyless (block_owns R token p cs left)
   block_keyless token freed p cs left = (
     (λ _. tt),
     (
-      (λ ns. ((λ _. tt), (each_keyless (flags_at R _ _) (λ _ _. tt) ns _, each_keyless (flag_room R _ _) (λ _ _. tt) (replicate left 0) _))),
+      (λ ns. ((λ _. tt), (each_keyless (flags_at R _ _ _) (λ _ _. tt) ns _, each_keyless (flag_room R _ _ _) (λ _ _. tt) (replicate left 0) _))),
       (slots_keyless _ _ cs _, (back_keyless _ _ _, freed _ p)),
     ),
   )

@@ -13,7 +13,7 @@ rest (c ∷ cs) = cs
 
 -- words whose bits from `gone` on are the flags of the slots that are left, whatever the bits before say
 abbrev pub flags_left : (R : RattleType) → ℕ → ℕ → ℕ → List (Option R.Denot) → List ℕ → Fml
-flags_left R b o gone cs ns = fsep (fact ((length ns ≡ chunks (gone + length cs)) × AreWords ns × AreFlagsFrom gone ns cs)) (each (flags_at R b o) ns 0)
+flags_left R b o gone cs ns = fsep (fact ((length ns ≡ chunks (gone + length cs)) × AreWords ns × AreFlagsFrom gone ns cs)) (each (flags_at R (gone + length cs) b o) ns 0)
 
 -- those words, room where the values of the first slots were, the slots that are left, the way back to the block's room, and the right to free it
 abbrev pub leaving_owns : (R : RattleType) → (Ty → Ptr → Fml) → Ptr → ℕ → List (Option R.Denot) → Fml

@@ -1,16 +1,16 @@
 //! A block of slots that one owner has alone.
 ghost use Rattle.std.specs.Prelude.{◌≡◌, ℕ, ◌+◌, ◌<◌, List, length, Option, IfOk};
+ghost use prog.Memory.{size};
 ghost use base.Stored.{coded_list};
 ghost use Rattle.std.specs.Coded.{coded_option};
-ghost use Rattle.thread_local_chunks.specs.Slots.{block_owns, chunks, IsBlockLength, Fits, empty_slots};
-ghost use Rattle.thread_local_blocks.specs.Bytes.{block_bytes};
+ghost use Rattle.thread_local_chunks.specs.Slots.{block_owns, chunks, slots_ty, word_number, Fits, empty_slots};
 
 use crate::bytes::{bytes_of_block, chunk_count, fits};
 use crate::leaving::Leaving;
 use std::alloc::{AllocError, Allocator};
 use std::marker::{Model, PhantomData};
 use std::mem::align_of;
-use thread_local_chunks::Chunk;
+use thread_local_chunks::{Chunk, flag_word};
 
 /// A block of slots, with the right to free it. The flags of the last `left` of its chunks aren't made.
 pub struct Block<T, A: Allocator> {
@@ -29,7 +29,7 @@ impl<T, A: Allocator> Block<T, A> {
     /// Room for `len` slots, all empty, of which no flags are made. It takes `bytes`.
     fn allocate(alloc: &A, len: usize, bytes: usize) -> Result<Block<T, A>, AllocError>
         requires fits { Fits T.row len }
-        requires size { bytes ≡ block_bytes T.row len }
+        requires size { bytes ≡ size (slots_ty T.row len) }
         ensures { IfOk result (λ b. (b.heap ≡ alloc.now) × (b.slots ≡ empty_slots len) × (b.left ≡ chunks len)) }
     {
         let _ = len;
@@ -42,22 +42,22 @@ impl<T, A: Allocator> Block<T, A> {
         }
     }
 
-    /// The flags of the next chunk, none of which is set.
+    /// The flags of the next chunk, none of which is set. `word` is the number of their word.
     #[inline]
-    fn push(&mut self, chunk: usize)
-        requires { (chunk + self.old.left ≡ chunks (length self.old.slots)) × (0 < self.old.left) }
+    fn push(&mut self, chunk: usize, word: usize)
+        requires next { (chunk + self.old.left ≡ chunks (length self.old.slots)) × (0 < self.old.left) }
+        requires word { word ≡ word_number T.row (length self.old.slots) chunk }
         ensures { (self.new.heap ≡ self.old.heap) × (self.new.slots ≡ self.old.slots) × (self.new.left + 1 ≡ self.old.left) }
     {
+        let _ = chunk;
         unsafe {
-            let chunk = self.at.add(chunk);
-            (&raw mut (*chunk).flags).write(0);
+            (self.at as *mut u64).add(word).write(0);
         }
     }
 
-    /// A block of `len` slots, all empty: some, and whole chunks where there are 64 or more. It asks for memory once, and is refused where the
-    /// values would take 2^58 bytes or more, the alignment isn't served or there is no memory.
+    /// A block of `len` slots, all empty. It asks for memory once, and is refused where the values would take 2^58 bytes or more, the alignment
+    /// isn't served or there is no memory.
     pub fn new(alloc: &A, len: usize) -> Result<Block<T, A>, AllocError>
-        requires { IsBlockLength len }
         ensures { IfOk result (λ b. (b.heap ≡ alloc.now) × (b.slots ≡ empty_slots len) × (b.left ≡ 0)) }
     {
         if !fits::<T>(len) {
@@ -65,7 +65,7 @@ impl<T, A: Allocator> Block<T, A> {
         }
         let mut block = Block::allocate(alloc, len, bytes_of_block::<T>(len))?;
         'chunks: for chunk in 0..chunk_count(len) {
-            block.push(chunk);
+            block.push(chunk, flag_word::<T>(len, chunk));
         }
         Ok(block)
     }

@@ -1,9 +1,9 @@
 //! A block that is given up, slot by slot.
-ghost use Rattle.std.specs.Prelude.{◌≡◌, ℕ, ◌+◌, ◌<◌, List, [], length, take, drop, Option, Some, is_some, IsSome, if◌then◌else◌};
+ghost use Rattle.std.specs.Prelude.{◌≡◌, ℕ, ◌+◌, ◌/◌, ◌<◌, List, [], length, take, drop, Option, Some, is_some, IsSome, if◌then◌else◌};
 ghost use base.Stored.{coded_list};
 ghost use Rattle.std.specs.Coded.{coded_option};
-ghost use Rattle.thread_local_chunks.specs.Slots.{slot_at, empty_slots, Fits};
-ghost use Rattle.thread_local_blocks.specs.Bytes.{block_bytes};
+ghost use Rattle.thread_local_chunks.specs.Slots.{slot_at, empty_slots, slots_ty, word_number, Fits};
+ghost use prog.Memory.{size};
 ghost use Rattle.thread_local_blocks.specs.Vacated.{leaving_owns, rest};
 
 use crate::block::Block;
@@ -11,7 +11,7 @@ use crate::bytes::bytes_of_block;
 use std::alloc::Allocator;
 use std::marker::{Model, PhantomData};
 use std::mem::align_of;
-use thread_local_chunks::Chunk;
+use thread_local_chunks::{Chunk, flag_word};
 
 /// A block that is given up: its first `gone` slots are room again, whatever their flags say, and the others are slots still.
 ///
@@ -44,17 +44,18 @@ impl<T, A: Allocator> Leaving<T, A> {
         }
     }
 
-    /// Whether a value lies in the next slot. One where none lies is given up.
+    /// Whether a value lies in the next slot, whose flag is in the word of this number. A slot where none lies is given up.
     #[inline]
-    fn is_next_published(&mut self, index: usize) -> bool
-        requires { (index ≡ self.old.gone) × (0 < length self.old.slots) }
+    fn is_next_published(&mut self, index: usize, word: usize) -> bool
+        requires next { (index ≡ self.old.gone) × (0 < length self.old.slots) }
+        requires word { word ≡ word_number T.row (self.old.gone + length self.old.slots) (index / 64) }
         ensures value { result ≡ is_some (slot_at self.old.slots 0) }
         ensures after { (self.new.heap ≡ self.old.heap) × (self.new.slots ≡ (if result then self.old.slots else rest self.old.slots))
             × (self.new.gone ≡ (if result then self.old.gone else self.old.gone + 1)) }
     {
         unsafe {
-            let chunk = self.at.add(index / 64);
-            ((*chunk).flags >> (index % 64)) & 1 == 1
+            let flags = *(self.at as *mut u64).add(word);
+            (flags >> (index % 64)) & 1 == 1
         }
     }
 
@@ -66,10 +67,7 @@ impl<T, A: Allocator> Leaving<T, A> {
         ensures value { slot_at self.old.slots 0 ≡ Some result }
         ensures after { (self.new.heap ≡ self.old.heap) × (self.new.slots ≡ rest self.old.slots) × (self.new.gone ≡ self.old.gone + 1) }
     {
-        unsafe {
-            let chunk = self.at.add(index / 64);
-            (&raw mut (*chunk).values as *mut T).add(index % 64).read()
-        }
+        unsafe { (self.at as *mut T).add(index).read() }
     }
 
     /// Frees the block, once all its slots are given up.
@@ -82,7 +80,7 @@ impl<T, A: Allocator> Leaving<T, A> {
     /// Frees the block, which takes `bytes`.
     fn deallocate(self, alloc: &A, len: usize, bytes: usize)
         requires left { (self.heap ≡ alloc.now) × (self.slots ≡ []) × (self.gone ≡ len) }
-        requires size { Fits T.row len → bytes ≡ block_bytes T.row len }
+        requires size { Fits T.row len → bytes ≡ size (slots_ty T.row len) }
     {
         let _ = len;
         let Self { at, marker: _ } = self;
@@ -93,13 +91,14 @@ impl<T, A: Allocator> Leaving<T, A> {
 }
 
 impl<T: Drop, A: Allocator> Leaving<T, A> {
-    /// Gives the next slot up, and drops its value if one lies there.
+    /// Gives the next slot up, and drops its value if one lies there. The block has `len` slots.
     #[inline]
-    pub fn drop_next(&mut self, index: usize)
-        requires { (index ≡ self.old.gone) × (0 < length self.old.slots) }
+    pub fn drop_next(&mut self, index: usize, len: usize)
+        requires next { (index ≡ self.old.gone) × (0 < length self.old.slots) }
+        requires len { len ≡ self.old.gone + length self.old.slots }
         ensures { (self.new.heap ≡ self.old.heap) × (self.new.slots ≡ rest self.old.slots) × (self.new.gone ≡ self.old.gone + 1) }
     {
-        if self.is_next_published(index) {
+        if self.is_next_published(index, flag_word::<T>(len, index / 64)) {
             drop(self.move_next(index));
         }
     }

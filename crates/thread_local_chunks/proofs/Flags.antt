@@ -1,86 +1,74 @@
--- The arithmetic of chunks: how many there are, where a slot's word and value lie, and what the words of flags say of the slots.
-use Rattle.thread_local_chunks.proofs.Names.{◌≡◌, ℕ, suc, ◌+◌, ◌*◌, ◌^◌, ◌<◌, ◌≤◌, List, [], ◌∷◌, ◌++◌, length, set, is_some, refl, sym, ap, ◌∙◌, subst, arith, lit<, mul-le-mul_right, w64, ty_int, ty_array, tcons, tnil, RattleType, lone, Option, None}
+-- The arithmetic of a block: how many chunks it has, where a slot's word and value lie, and what the words of flags say of the slots.
+use Rattle.thread_local_chunks.proofs.Names.{◌≡◌, ℕ, zero, suc, ◌+◌, ◌*◌, ◌^◌, ◌<◌, ◌≤◌, List, [], ◌∷◌, ◌++◌, length, set, is_some, refl, sym, ap, ◌∙◌, subst, arith, lit<, mul-le-mul_right, suc-mul, zero-mul, RattleType, lone, Option, None}
 use Rattle.std.specs.Prelude.{◌/◌, ◌%◌, replicate, slice_index}
-use Rattle.std.proofs.Common.{inl, inr, ⊎_elim, le-ltb, lt-ltb, le_trans, lt_of_le_of_lt, le_of_lt, zero-mul, one-mul, cond, ap₂, ◌-◌}
+use Rattle.std.proofs.Common.{⊎_elim, le_of_lt, ap₂}
 use Rattle.std.proofs.lemmas.Bool.{cases_lt, cases_eq, eq-eqb, ne_eqb}
-use Rattle.std.proofs.lemmas.Nat.{pow_pos, pow_below, pow-add}
 use Rattle.std.proofs.lemmas.List.{get_or-set_same, get_or-set_other, get_or-replicate, get_or_past, length-replicate}
-use prog.Memory.{size, align, aligns, up}
-use prog.Align.{up-ge}
+use mir.Syntax.{Width, w8, w16, w32, w64, w128}
+use mir.Val.{bytes}
+use prog.Memory.{size, align, up, capped}
+use prog.Capped.{capped_is}
+use prog.Align.{up-ge, align_w, align-bytes}
 use Rattle.thread_local_bits.specs.Bits.{is_set, is_set_in, IsWordBut}
 use Rattle.thread_local_bits.proofs.Words.{is_set_in-set, is_set_in-zeros, get_or-push_zero, is_set_in-push_zero}
-use Rattle.thread_local_chunks.specs.Slots.{empty_slots, slot_at, chunks, chunk_slots, IsBlockLength, AreFlagsFrom, AreFlags, chunk_ty, chunk_size, stride, Fits}
+use Rattle.thread_local_chunks.specs.Slots.{empty_slots, slot_at, chunks, AreFlagsFrom, AreFlags, stride, value_words, slots_ty, Fits, word_number}
 
 -- ---- how many chunks there are
 
-pub chunks_small : (n : ℕ) → n < 64 → chunks n ≡ 1
-chunks_small n small = ap (λ b. cond b 1 (n / 64)) (lt-ltb n 64 small)
-
-pub chunks_large : (n : ℕ) → 64 ≤ n → chunks n ≡ n / 64
-chunks_large n large = ap (λ b. cond b 1 (n / 64)) (le-ltb n 64 large)
-
-pub chunk_slots_small : (n : ℕ) → n < 64 → chunk_slots n ≡ n
-chunk_slots_small n small = ap (λ b. cond b n 64) (lt-ltb n 64 small)
-
-pub chunk_slots_large : (n : ℕ) → 64 ≤ n → chunk_slots n ≡ 64
-chunk_slots_large n large = ap (λ b. cond b n 64) (le-ltb n 64 large)
-
 -- a slot's chunk is one of them
-pub in_chunks : (n j : ℕ) → IsBlockLength n → j < n → j / 64 < chunks n
-in_chunks n j fits near =
-    ⊎_elim
-    (λ (small : n < 64). let one = chunks_small n small in omega arith)
-    (λ (large : 64 ≤ n).
-    let many = chunks_large n large in ⊎_elim (λ (less : n < 64). absurd (omega arith)) (λ (whole : n % 64 ≡ 0). omega arith) fits.whole)
-    (cases_lt n 64)
+pub in_chunks : (n j : ℕ) → j < n → j / 64 < chunks n
+in_chunks n j near = omega arith
 
 -- a chunk in which a slot lies is one of them
-pub chunk_in : (n c : ℕ) → IsBlockLength n → c * 64 < n → c < chunks n
-chunk_in n c fits near = let chunk = in_chunks n (c * 64) fits near in omega arith
-
--- a power of two is a block's length
-pub power_length : (b : ℕ) → IsBlockLength (2 ^ b)
-power_length b = record {
-  some = pow_pos b;
-  whole = ⊎_elim
-      (λ (small : b < 6). inl (pow_below b 6 small))
-      (λ (large : 6 ≤ b).
-      let parts : 2 ^ b ≡ 2 ^ (b - 6) * 64 = (let sum : b ≡ b - 6 + 6 = omega arith in ap (λ i. 2 ^ i) sum ∙ pow-add 2 (b - 6) 6) in
-      inr (omega arith))
-      (cases_lt b 6);
-}
+pub chunk_in : (n c : ℕ) → c * 64 < n → c < chunks n
+chunk_in n c near = omega arith
 
 -- ---- how far into a block its words and values lie
 
+-- so many bytes rounded up to whole words
+pub whole_words : (m : ℕ) → up 8 m ≡ (m + 7) / 8 * 8
+whole_words m = omega arith
+
+-- a first field lies where what has it does
+starts : (w : Width) → up (bytes w) 0 ≡ 0
+starts w8 = refl
+starts w16 = refl
+starts w32 = refl
+starts w64 = refl
+starts w128 = refl
+
+-- so many bytes times a size that code can state are as many as they are
+pub uncapped : (i k : ℕ) → i * k < 2 ^ 64 → i * capped k ≡ i * k
+uncapped zero k h = zero-mul (capped k) ∙ sym (zero-mul k)
+uncapped (suc i) k h = let more = suc-mul i k in ap (λ (j : ℕ). suc i * j) (capped_is k (omega arith))
+
 module _ (R : RattleType) where
-  -- a chunk holds the values of its slots
-  pub holds_values : (n : ℕ) → n * stride R ≤ size (chunk_ty R n)
-  holds_values n =
-      let start : ℕ = up (align (ty_array (lone R.mir) n)) 8 in
-      let ends : n * stride R ≤ start + n * stride R = omega arith in
-      le_trans ends (up-ge (aligns (tcons (ty_int w64) (tcons (ty_array (lone R.mir) n) tnil))) (start + n * stride R))
+  pub values_start : up (align (lone R.mir)) 0 ≡ 0
+  values_start = subst (λ (a : ℕ). up a 0 ≡ 0) (sym (align-bytes (lone R.mir))) (starts (align_w (lone R.mir)))
 
-  -- where a slot's chunk begins
-  pub chunk_near : (n j : ℕ) → Fits R n → j < n → j / 64 * chunk_size R < 2 ^ 63
-  chunk_near n j fits near =
-      ⊎_elim
-      (λ (small : n < 64). let first : j / 64 ≡ 0 = omega arith in rw (first, zero-mul (chunk_size R)) (lit< tt))
-      (λ (large : 64 ≤ n).
-      let most : j / 64 * chunk_size R ≤ chunks n * chunk_size R = mul-le-mul_right (chunk_size R) (le_of_lt (in_chunks n j fits.length near)) in
-      lt_of_le_of_lt most (subst (λ (m : ℕ). chunks n * size (chunk_ty R m) < 2 ^ 63) (chunk_slots_large n large) fits.small))
-      (cases_lt n 64)
+  pub words_start : (n : ℕ) → up 8 (up (align (lone R.mir)) 0 + n * stride R) ≡ value_words R n * 8
+  words_start n = let m : ℕ = n * stride R in let first : up (align (lone R.mir)) 0 + m ≡ m = (let z = values_start in omega arith) in ap (up 8) first ∙ whole_words m
 
-  -- how far its value lies behind the first of its chunk
-  pub value_near : (n j : ℕ) → Fits R n → j < n → j % 64 * stride R < 2 ^ 63
-  value_near n j fits near =
-      let one : 1 ≤ chunks n = (let some = in_chunks n j fits.length near in omega arith) in
-      let bytes : ℕ = size (chunk_ty R (chunk_slots n)) in
-      let whole : bytes ≤ chunks n * bytes = subst (λ m. m ≤ chunks n * bytes) (one-mul bytes) (mul-le-mul_right bytes one) in
-      let slots : j % 64 ≤ chunk_slots n = ⊎_elim
-      (λ (small : n < 64). let many = chunk_slots_small n small in omega arith)
-      (λ (large : 64 ≤ n). let many = chunk_slots_large n large in omega arith)
-      (cases_lt n 64) in
-      lt_of_le_of_lt (le_trans (mul-le-mul_right (stride R) slots) (le_trans (holds_values (chunk_slots n)) whole)) fits.small
+  -- a block holds its values and its words, and is aligned
+  pub slots_size : (n : ℕ) → size (slots_ty R n) ≡ up (align (slots_ty R n)) ((value_words R n + chunks n) * 8)
+  slots_size n = ap (up (align (slots_ty R n))) (ap (λ (z : ℕ). z + chunks n * 8) (words_start n) ∙ (omega arith))
+
+  holds : (n : ℕ) → (value_words R n + chunks n) * 8 ≤ size (slots_ty R n)
+  holds n = subst (λ (z : ℕ). (value_words R n + chunks n) * 8 ≤ z) (sym (slots_size n)) (up-ge (align (slots_ty R n)) ((value_words R n + chunks n) * 8))
+
+  pub words_near : (n c : ℕ) → Fits R n → c ≤ chunks n → (value_words R n + c) * 8 < 2 ^ 63
+  words_near n c fits near = let most = holds n in omega arith
+
+  pub word_near : (n c : ℕ) → Fits R n → c < chunks n → (value_words R n + c) * 8 < 2 ^ 64
+  word_near n c fits near = let less = words_near n c fits (omega arith) in omega arith
+
+  -- how far its value lies behind the first
+  pub value_near : (n j : ℕ) → Fits R n → j < n → j * stride R < 2 ^ 64
+  value_near n j fits near = let most : j * stride R ≤ n * stride R = mul-le-mul_right (stride R) (le_of_lt near) in let less = words_near n 0 fits (omega arith) in omega arith
+
+  -- what code reckons is the number of the word
+  pub number_is : (n c : ℕ) → Fits R n → c ≤ chunks n → word_number R n c ≡ value_words R n + c
+  number_is n c fits near = let less = words_near n c fits near in let plain : n * capped (stride R) ≡ n * stride R = uncapped n (stride R) (omega arith) in omega arith
 
 -- ---- the words and what they say
 
@@ -128,10 +116,6 @@ module _ {X : Type 0} where
     words = λ c. rw (get_or-push_zero ns c) (are.words c);
     flags = λ j. is_set_in-push_zero ns j ∙ are.flags j;
   }
-
-  -- flags of all slots are the flags of the slots from the first on
-  pub flags_from_first : (ns : List ℕ) (slots : List (Option X)) → AreFlags ns slots → AreFlagsFrom 0 ns slots
-  flags_from_first ns slots are j = let same : j + 0 ≡ j = omega arith in ap (is_set_in ns) same ∙ are.flags j
 
   -- the flags from a slot on are that slot's flag and the flags behind it
   pub flag_first : (from : ℕ) (ns : List ℕ) (v : Option X) (slots : List (Option X)) → AreFlagsFrom from ns (v ∷ slots) → is_set_in ns from ≡ is_some v

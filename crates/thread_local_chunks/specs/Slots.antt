@@ -1,17 +1,18 @@
 -- How the slots of a bucket lie in memory, and what a block of them owns.
--- A block is chunks side by side, each of which is a word of flags, and as many values as it has flags: 64, or in a block of fewer slots all
--- of them. Bit j of a chunk's word is the flag of its slot j: 0 where nothing lies there, and 1 where a value does.
+-- A block is the values of its slots side by side, or room for them, and behind them the words of their flags. A chunk is 64 slots that follow
+-- each other, or the fewer that are left, and has one such word: bit j of it is the flag of the chunk's slot j, which is 0 where nothing lies there,
+-- and 1 where a value does.
 -- What follows speaks of a slot by its number in its block, and of a chunk by its number there: slot j has bit j % 64 of the word of chunk j / 64.
-use Rattle.std.specs.Prelude.{◌≡◌, ◌⊎◌, ℕ, suc, ◌+◌, ◌*◌, ◌/◌, ◌%◌, ◌^◌, ◌<◌, nat_lt, List, [], ◌∷◌, length, replicate, Option, Some, None, is_some, slice_index, slice_index_or, if◌then◌else◌}
+use Rattle.std.specs.Prelude.{◌≡◌, ℕ, suc, ◌+◌, ◌*◌, ◌/◌, ◌%◌, ◌^◌, ◌<◌, List, [], ◌∷◌, length, replicate, Option, Some, None, is_some, slice_index, slice_index_or}
 use base.Fraction.{full_share}
 use base.Fml.{Fml, ftrue, fsep, fex, fwand, froom}
 use mir.Syntax.{Ty, w64, ty_int, ty_array, ty_struct, tcons, tnil}
 use mir.Raw.{raw}
-use prog.Memory.{up, align, size}
+use prog.Memory.{size, capped}
 use denote.RattleType.{RattleType}
 use denote.Memory.{lone, part_at}
 use denote.RawPtr.{Ptr, block_of, count_of, InBlock}
-use Rattle.std.specs.Sync.RawAtomic.{word}
+use Rattle.std.specs.Sync.RawAtomic.{word as atomic}
 use Rattle.std.specs.declared.alloc.Global.{Global}
 use Rattle.std.specs.contracts.impls.GlobalAllocator.TheImpl.{ghosts}
 use Rattle.thread_local_bits.specs.Bits.{is_set_in}
@@ -33,21 +34,7 @@ heap_token τ p = fex Global (λ a. ghosts.dealloc_token a τ p)
 
 -- how many chunks a block of n slots has
 abbrev pub chunks : ℕ → ℕ
-chunks n = if nat_lt n 64 then 1 else n / 64
-
--- how many slots each of them has
-abbrev pub chunk_slots : ℕ → ℕ
-chunk_slots n = if nat_lt n 64 then n else 64
-
--- a block may have so many slots: some, and whole chunks where there are several
-pub record IsBlockLength (n : ℕ) : Type 0 where
-  pub some : 0 < n
-  pub whole : (n < 64) ⊎ (n % 64 ≡ 0)
-
--- a block of n slots may take so many bytes: fewer than any block may have
-pub record IsBlockSize (n bytes : ℕ) : Type 0 where
-  pub length : IsBlockLength n
-  pub small : bytes < 2 ^ 63
+chunks n = (n + 63) / 64
 
 -- one thing after another, each with its number, from the number j on
 abbrev pub each : {X : Type 0} → (X → ℕ → Fml) → List X → ℕ → Fml
@@ -68,62 +55,64 @@ pub record AreFlags {X : Type 0} (ns : List ℕ) (slots : List (Option X)) : Typ
   pub flags : (j : ℕ) → is_set_in ns j ≡ is_some (slot_at slots j)
 
 module _ (R : RattleType) where
-  -- how a chunk of n slots lies in memory
-  abbrev pub chunk_ty : ℕ → Ty
-  chunk_ty n = ty_struct [] (tcons (ty_int w64) (tcons (ty_array (lone R.mir) n) tnil))
-
-  -- how many bytes a whole chunk takes
-  abbrev pub chunk_size : ℕ
-  chunk_size = size (chunk_ty 64)
-
   -- how many bytes a value takes
   abbrev pub stride : ℕ
   stride = size (lone R.mir)
 
+  -- how many words the values of n slots take
+  abbrev pub value_words : ℕ → ℕ
+  value_words n = (n * stride + 7) / 8
+
+  -- how n slots lie in memory
+  abbrev pub slots_ty : ℕ → Ty
+  slots_ty n = ty_struct [] (tcons (ty_array (lone R.mir) n) (tcons (ty_array (ty_int w64) (chunks n)) tnil))
+
   -- n slots
   abbrev pub block_ty : ℕ → Ty
-  block_ty n = raw (ty_array (chunk_ty (chunk_slots n)) (chunks n))
+  block_ty n = raw (slots_ty n)
 
-  -- a block may have n slots
+  -- a block may have n slots: it takes fewer bytes than any block may have
   abbrev pub Fits : ℕ → Type 0
-  Fits n = IsBlockSize n (chunks n * size (chunk_ty (chunk_slots n)))
+  Fits n = size (slots_ty n) < 2 ^ 63
 
-  -- where the word of a chunk lies
-  abbrev pub word_at : ℕ → ℕ → ℕ
-  word_at o c = c * chunk_size + o
+  -- where the word of a chunk lies in the block at o, which has n slots
+  abbrev pub word_at : ℕ → ℕ → ℕ → ℕ
+  word_at n o c = (value_words n + c) * 8 + o
 
-  -- where the value of a slot lies, that is the jth of the chunk at e
-  abbrev pub value_at : ℕ → ℕ → ℕ
-  value_at e j = j * stride + (e + up (align (lone R.mir)) 8)
+  -- the number of that word, counted from where the block begins, as code reckons it: for a block that fits, so many words lie before it
+  abbrev pub word_number : ℕ → ℕ → ℕ
+  word_number n c = ((n * capped stride % 2 ^ 64 + 7) % 2 ^ 64 / 8 + c) % 2 ^ 64
 
   -- where the value of the slot j lies in the block at o
   abbrev pub value_in : ℕ → ℕ → ℕ
-  value_in o j = value_at (word_at o (j / 64)) (j % 64)
+  value_in o j = j * stride + o
 
   -- the value of a slot, or the room for one
   abbrev pub place : Option R.Denot → ℕ → ℕ → Fml
   place None b e = froom (raw (lone R.mir)) b e
   place (Some x) b e = part_at R full_share x b e
 
-  module _ (b o : ℕ) where
-    -- a chunk's word, and the room for one
+  module _ (n b o : ℕ) where
+    -- the word of a chunk in a block of n slots, and the room for one
     abbrev pub flags_at : ℕ → ℕ → Fml
-    flags_at n c = word b (word_at o c + 0) n
+    flags_at word c = atomic b (word_at n o c) word
 
     abbrev pub flag_room : ℕ → ℕ → Fml
-    flag_room n c = froom (ty_int w64) b (word_at o c + 0)
+    flag_room word c = froom (ty_int w64) b (word_at n o c)
 
+  module _ (b o : ℕ) where
     -- the value of the slot j, or the room for one
     abbrev pub slot : Option R.Denot → ℕ → Fml
     slot v j = place v b (value_in o j)
 
     -- the way back: the words and the slots, all of them room, are the room of the block
     abbrev pub back : ℕ → Fml
-    back n = fwand (fsep (each flag_room (replicate (chunks n) 0) 0) (each slot (empty_slots n) 0)) (froom (block_ty n) b o)
+    back n = fwand (fsep (each (flag_room n b o) (replicate (chunks n) 0) 0) (each slot (empty_slots n) 0)) (froom (block_ty n) b o)
 
     -- words that are the flags of these slots, and then room for so many more
     abbrev pub flags_own : List (Option R.Denot) → ℕ → List ℕ → Fml
-    flags_own slots left ns = fsep (fact ((length ns + left ≡ chunks (length slots)) × AreFlags ns slots)) (fsep (each flags_at ns 0) (each flag_room (replicate left 0) (length ns)))
+    flags_own slots left ns = fsep (fact ((length ns + left ≡ chunks (length slots)) × AreFlags ns slots))
+        (fsep (each (flags_at (length slots) b o) ns 0) (each (flag_room (length slots) b o) (replicate left 0) (length ns)))
 
     -- words that are the flags of these slots
     abbrev pub flags : List (Option R.Denot) → Fml

@@ -1,10 +1,33 @@
-//! How the slots of a bucket lie in memory: chunks of flags and values, as definitions, and what is done with them, as lemmas. It has no code
-//! that runs.
+//! How the slots of a bucket lie in memory: their values, and behind them the words of their flags, as definitions, and what is done with them, as
+//! lemmas. The code says where a word lies.
 #![tactic(auto)]
 
-/// How 64 slots lie in memory: a word of flags, a bit each, and room for their values. No value of this type is ever made, and a bucket of
-/// fewer slots has one chunk, cut off after its last.
+ghost use Rattle.std.specs.Prelude.{◌≡◌};
+ghost use prog.Memory.{capped};
+ghost use Rattle.thread_local_chunks.specs.Slots.{stride, word_number};
+
+use std::mem::size_of;
+
+/// How 64 slots lie in memory: their values, and a word of their flags, a bit each. No value of this type is ever made: a pointer to it is where a
+/// block of any size begins, and a block is aligned as this is.
 pub struct Chunk<T> {
-    pub flags: u64,
     pub values: [T; 64],
+    pub flags: u64,
+}
+
+/// How many bytes a value takes.
+#[inline]
+pub fn value_size<T>() -> usize
+    ensures { result ≡ capped (stride T.row) }
+{
+    size_of::<T>()
+}
+
+/// The number of the word that has a chunk's flags, counted from the start of its block, which has `len` slots.
+#[inline]
+pub fn flag_word<T>(len: usize, chunk: usize) -> usize
+    ensures { result ≡ word_number T.row len chunk }
+{
+    let bytes = len.wrapping_mul(value_size::<T>());
+    (bytes.wrapping_add(7) / 8).wrapping_add(chunk)
 }

@@ -3,10 +3,12 @@ ghost use Rattle.std.specs.Prelude.{◌≡◌, ◌≢◌, ◌-◌, ◌^◌, ◌<
 ghost use Rattle.thread_local_model.specs.Learnt.{Unknown, Missing, Vacant, Holding, Finds, learnt_by_install, learnt_by_publish};
 ghost use Rattle.thread_local_model.specs.Place.{bucket_of};
 ghost use Rattle.thread_local_claim_logic.specs.Known.{IsKnown};
+ghost use Rattle.thread_local_claim_logic.specs.Claims.{number_of_id};
 
 use crate::claimed::ClaimedSlot;
 use crate::replaced::replace_with;
 use std::marker::Model;
+use thread_local_chunks::flag_word;
 use thread_local_rights::HeldId;
 use thread_local_shared_word::{Private, SharedWord};
 use thread_local_thread_id::Thread;
@@ -48,7 +50,7 @@ impl<'a, T> Claim<'a, T> {
         let (id, right) = held.into_parts();
         let thread = Thread::new(id);
         Claim {
-            slot: ClaimedSlot::hold(word, thread.index, right).find(),
+            slot: ClaimedSlot::hold(word, thread.index, right).find(number_of_word::<T>(id)),
             id,
         }
     }
@@ -61,7 +63,7 @@ impl<'a, T> Claim<'a, T> {
         ensures learnt { (self.new.learnt ≡ Missing) ⊎ (self.new.learnt ≡ Vacant) }
         ensures reserved { (self.new.reserved ≡ self.old.reserved) × (self.new.reserved ≡ true → self.new.learnt ≡ Vacant) }
     {
-        replace_with(&mut self.slot, (), found_again)
+        replace_with(&mut self.slot, number_of_word::<T>(self.id), found_again)
     }
 
     /// Installs a block of the claim's bucket, which was missing, by one compare and exchange. Where another came first, that one stays. Either
@@ -73,7 +75,8 @@ impl<'a, T> Claim<'a, T> {
         ensures learnt { learnt_by_install self.old.learnt ≡ Some self.new.learnt }
         ensures reserved { self.new.reserved ≡ self.old.reserved }
     {
-        replace_with(&mut self.slot, private, installed)
+        let number = number_of_word::<T>(self.id);
+        replace_with(&mut self.slot, (private, number), installed)
     }
 
     /// Publishes a value in a slot that is vacant: the value is written, and then the flag is set, by one atomic addition. It never waits, and
@@ -137,28 +140,44 @@ impl<'a, T: Sync> Claim<'a, T> {
     }
 }
 
+/// The number of the word that has the flag of an id's slot, counted from the start of the block.
+#[inline]
+fn number_of_word<T>(id: usize) -> usize
+    requires { id < 2 ^ 63 - 1 }
+    ensures { result ≡ number_of_id T.row id }
+{
+    let thread = Thread::new(id);
+    flag_word::<T>(thread.bucket_size(), thread.index / 64)
+}
+
 /// The slot after one more look for its bucket.
-fn found_again<'a, T>(slot: ClaimedSlot<'a, T>, _: ()) -> (ClaimedSlot<'a, T>, ())
-    requires { slot.learnt ≡ Missing }
+fn found_again<'a, T>(slot: ClaimedSlot<'a, T>, number: usize) -> (ClaimedSlot<'a, T>, ())
+    requires missing { slot.learnt ≡ Missing }
+    requires number { number ≡ number_of_id T.row slot.id }
     ensures right { (result.0.table ≡ slot.entry.table) × (result.0.id ≡ slot.entry.id) }
     ensures found { Finds slot.entry.learnt result.0.learnt }
     ensures learnt { (result.0.learnt ≡ Missing) ⊎ (result.0.learnt ≡ Vacant) }
     ensures known { IsKnown result.0.learnt }
     ensures reserved { (result.0.reserved ≡ slot.entry.reserved) × (result.0.reserved ≡ true → result.0.learnt ≢ Missing) }
 {
-    (slot.find(), ())
+    (slot.find(number), ())
 }
 
 /// The slot once its bucket is there: the private block, unless another came first.
-fn installed<'a, T>(slot: ClaimedSlot<'a, T>, private: Private<T>) -> (ClaimedSlot<'a, T>, ())
+fn installed<'a, T>(
+    slot: ClaimedSlot<'a, T>,
+    offer: (Private<T>, usize),
+) -> (ClaimedSlot<'a, T>, ())
     requires missing { slot.learnt ≡ Missing }
-    requires bucket { private.bucket ≡ bucket_of slot.id }
+    requires bucket { offer.0.bucket ≡ bucket_of slot.id }
+    requires number { offer.1 ≡ number_of_id T.row slot.id }
     ensures right { (result.0.table ≡ slot.entry.table) × (result.0.id ≡ slot.entry.id) }
     ensures learnt { result.0.learnt ≡ Vacant }
     ensures reserved { result.0.reserved ≡ slot.entry.reserved }
 {
+    let (private, number) = offer;
     let (block, alloc, bucket) = private.into_parts();
-    let (slot, back) = slot.exchange(block);
+    let (slot, back) = slot.exchange(block, number);
     if let Some(block) = back {
         Private::from_parts(block, alloc, bucket).free();
     }

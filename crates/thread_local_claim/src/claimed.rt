@@ -4,25 +4,25 @@ ghost use base.Stored.{coded_bool};
 ghost use Rattle.thread_local_model.specs.Learnt.{Learnt, learnt_coded, Unknown, Missing, Vacant, Holding, Finds};
 ghost use Rattle.thread_local_model.specs.Place.{id_at};
 ghost use Rattle.thread_local_claim_logic.specs.Known.{IsKnown, IsUnfound, is_found, value_held};
-ghost use Rattle.thread_local_claim_logic.specs.Claims.{place_of, claim_owns, claim_shares};
+ghost use Rattle.thread_local_claim_logic.specs.Claims.{number_of_id, place_of, claim_owns, claim_shares};
 
 use std::marker::{Brand, Model, PhantomData};
 use std::ptr::null;
 use std::sync::atomic::Ordering::SeqCst;
 use std::sync::atomic::raw;
 use std::sync::atomic::raw::ptr;
-use thread_local_chunks::Chunk;
 use thread_local_rights::Right;
 use thread_local_shared_word::SharedWord;
 
 mod install;
+mod leave;
 mod look;
 
 /// The slot of an id that is claimed. Contracts see its table, its id, whether its bucket is reserved, and what it has learnt of the slot.
 pub(crate) struct ClaimedSlot<'a, T> {
     word: *const SharedWord<T>,
-    /// Where the slot's chunk lies, once its bucket is found.
-    chunk: *const Chunk<T>,
+    /// Where the word of the slot's flag lies, once its bucket is found.
+    flag_word: *const u64,
     /// Where the slot's value lies, once its bucket is found.
     value: *const T,
     index: usize,
@@ -37,7 +37,7 @@ pub(crate) struct ClaimedSlot<'a, T> {
 }
 
 impl<'a, T> Model for ClaimedSlot<'a, T> {
-    ghost also_owns = { λ c. claim_owns T.row 'a c.word c.table (place_of c.id c.index c.chunk c.value c.reserved) c.learnt c.found c.published };
+    ghost also_owns = { λ c. claim_owns T.row 'a c.word c.table (place_of c.id c.index c.flag_word c.value c.reserved) c.learnt c.found c.published };
 
     ghost also_shares = { λ c _ κ. claim_shares T.row 'a c.value c.learnt c.found c.published κ };
 }
@@ -55,7 +55,7 @@ impl<'a, T> ClaimedSlot<'a, T> {
         right.lay_down();
         ClaimedSlot {
             word,
-            chunk: null(),
+            flag_word: null(),
             value: null(),
             index,
             found: false,
@@ -64,10 +64,11 @@ impl<'a, T> ClaimedSlot<'a, T> {
         }
     }
 
-    /// Looks for the bucket, and takes what the slot holds where it stands: one atomic load of the word, and one of the word of the slot's flag.
-    /// A claim that was there before its bucket finds the slot empty.
-    pub(crate) fn find(self) -> ClaimedSlot<'a, T>
-        requires { IsUnfound self.learnt }
+    /// Looks for the bucket, and takes what the slot holds where it stands: one atomic load of the word, and one of the word of the slot's flag,
+    /// which has this number in the block. A claim that was there before its bucket finds the slot empty.
+    pub(crate) fn find(self, number: usize) -> ClaimedSlot<'a, T>
+        requires unfound { IsUnfound self.learnt }
+        requires number { number ≡ number_of_id T.row self.id }
         ensures right { (result.table ≡ self.entry.table) × (result.id ≡ self.entry.id) }
         ensures known { IsKnown result.learnt }
         ensures empty { self.entry.learnt ≡ Missing → (result.learnt ≡ Missing) ⊎ (result.learnt ≡ Vacant) }
@@ -76,7 +77,7 @@ impl<'a, T> ClaimedSlot<'a, T> {
     {
         let Self {
             word,
-            chunk: _,
+            flag_word: _,
             value: _,
             index,
             found: _,
@@ -89,7 +90,7 @@ impl<'a, T> ClaimedSlot<'a, T> {
         if at.is_null() {
             return ClaimedSlot {
                 word,
-                chunk: null(),
+                flag_word: null(),
                 value: null(),
                 index,
                 found: false,
@@ -97,12 +98,12 @@ impl<'a, T> ClaimedSlot<'a, T> {
                 marker: PhantomData,
             };
         }
-        let chunk = unsafe { (at as *const Chunk<T>).add(index / 64) };
-        let value = unsafe { (&raw const (*chunk).values as *const T).add(index % 64) };
-        let flags = unsafe { raw::load::<Brand>(&raw const (*chunk).flags, SeqCst) };
+        let flag_word = unsafe { (at as *const u64).add(number) };
+        let value = unsafe { (at as *const T).add(index) };
+        let flags = unsafe { raw::load::<Brand>(flag_word, SeqCst) };
         ClaimedSlot {
             word,
-            chunk,
+            flag_word,
             value,
             index,
             found: true,
@@ -121,7 +122,7 @@ impl<'a, T> ClaimedSlot<'a, T> {
     {
         let Self {
             word,
-            chunk,
+            flag_word,
             value: at,
             index,
             found: _,
@@ -129,10 +130,10 @@ impl<'a, T> ClaimedSlot<'a, T> {
             marker: _,
         } = self;
         unsafe { (at as *mut T).write(value) };
-        unsafe { raw::fetch_add::<Brand>(&raw const (*chunk).flags, 1 << (index % 64), SeqCst) };
+        unsafe { raw::fetch_add::<Brand>(flag_word, 1 << (index % 64), SeqCst) };
         ClaimedSlot {
             word,
-            chunk,
+            flag_word,
             value: at,
             index,
             found: true,
@@ -169,22 +170,6 @@ impl<'a, T> ClaimedSlot<'a, T> {
         ensures { self.now.learnt ≡ Holding result.now }
     {
         unsafe { &*self.value }
-    }
-
-    /// Gives the claim up, and the right back. It makes no atomic step.
-    pub(crate) fn leave(self) -> Right
-        ensures right { (result.table ≡ self.entry.table) × (result.id ≡ self.entry.id) }
-    {
-        let Self {
-            word: _,
-            chunk: _,
-            value: _,
-            index: _,
-            found: _,
-            published: _,
-            marker: _,
-        } = self;
-        Right::take_up()
     }
 }
 

@@ -43,7 +43,7 @@ module _ {M : Type 1} {𝓤 : Ura M} (𝓛 : Logic 𝓤) (R : RattleType) (d : W
 
   -- the claim from then on
   abbrev pub Now : Place
-  Now = place_of id i (block_ptr pb (word_at R o (i / 64))) (block_ptr pb (value_in R o i)) reserved
+  Now = place_of id i (block_ptr pb (word_at R (len R d) o (i / 64))) (block_ptr pb (value_in R o i)) reserved
 
   pub installs : (table : ℕ) (q : Share) (zz : Standing × Share) → IsOf R w table Now d →
       ⟦ part 𝓛 R d t p zz ⟧ ∗ ⟦ kept R d t wb (wo + 0) β ⟧ ∗ A.lft t.life q ∗ ⟦ right_owns t.pass id ⟧ ⊢ H.⇛ (⟦ fact (Sized R (len R d) p) ⟧ ∗ A.lft t.life q ∗ ⟦ claim_owns R β w table Now Vacant true false ⟧)
@@ -59,6 +59,6 @@ module _ {M : Type 1} {𝓤 : Ura M} (𝓛 : Logic 𝓤) (R : RattleType) (d : W
       let low : i < length s.names = subst (λ (n : ℕ). i < n) (sym sized.0) of.4 in let Empty : Fml = steps.Holds 𝓛 R d t wb (wo + 0) s i id e pb low of.3 refl refl none in
       move ! (2 ∷ 5 ∷ 1 ∷ 6 ∷ []) $ group ! 4 $ use1 𝓛 (later (‵ Empty ⊛ ‵ (flft t.life q))) (steps.comes_in 𝓛 R d t wb (wo + 0) s i id e pb low of.3 refl refl q) $ await ! tt $ split ! $
       -- [what the slot holds; the token; the row; the invariant; before]
-      move ! (2 ∷ 0 ∷ []) $ fjoin ! $ nothing ! $ fpack ! (IsAt R s Now) (λ _. ftrue) (refl, refl) $ fjoin ! $ fpack ! Standing (has_slot R d t β Now none) s $
+      move ! (2 ∷ 0 ∷ []) $ fjoin ! $ nothing ! $ fpack ! (IsAt R (len R d) s Now) (λ _. ftrue) (refl, refl) $ fjoin ! $ fpack ! Standing (has_slot R d t β Now none) s $
       move ! (3 ∷ 2 ∷ []) $ fjoin ! $ fjoin ! $ nothing ! $ fpack ! (IsOf R w table Now d) (λ _. ftrue) of $ fjoin ! $ fpack ! (WordView × Turn) (has_at R β w table Now Vacant) (d, t) $
       nothing ! $ fpack ! (IsKept R true false Vacant) (λ _. ftrue) (refl, refl) $ fjoin ! $ nothing ! $ fpack ! (Sized R (len R d) p) (λ _. ftrue) there.1 $ move ! (0 ∷ 2 ∷ 1 ∷ []) $ now ! $ done !))

@@ -93,7 +93,7 @@ module _ {M : Type 1} {𝓤 : Ura M} (𝓛 : Logic 𝓤) where
     abbrev pub Saw : Fml
     Saw = fex (Judged R) Seen
 
-    module _ (told : IsKept R found published l) (z : WordView × Turn) (of : IsOf R w table c z.0) (s : Standing) (at : IsAt R s c) where
+    module _ (told : IsKept R found published l) (z : WordView × Turn) (of : IsOf R w table c z.0) (s : Standing) (at : IsAt R (len R z.0) s c) where
       abbrev d : WordView
       d = z.0
 
@@ -133,7 +133,7 @@ module _ {M : Type 1} {𝓤 : Ura M} (𝓛 : Logic 𝓤) where
       -- the claim again
       again : (j : Judged R) → ⟦ Kept ⟧ ∗ ⟦ Row ⟧ ∗ ⟦ Filled ⟧ ∗ ⟦ Pinned ⟧ ∗ ⟦ By j ⟧ ⊢ ⟦ C ⟧
       again j = qed 𝓛 (‵ Kept ∷ ‵ Row ∷ ‵ Filled ∷ ‵ Pinned ∷ ‵ (By j) ∷ []) ∵ move ! (4 ∷ []) $ fpack ! (Judged R) By j $ move ! (3 ∷ 4 ∷ 0 ∷ []) $ fjoin3 ! $ move ! (2 ∷ 0 ∷ []) $ fjoin ! $
-          anything ! $ fpack ! (IsAt R s c) (λ _. ftrue) at $ fjoin ! $ fpack ! Standing (has_slot R d t β c v) s $ move ! (1 ∷ 0 ∷ []) $ fjoin ! $
+          anything ! $ fpack ! (IsAt R (len R d) s c) (λ _. ftrue) at $ fjoin ! $ fpack ! Standing (has_slot R d t β c v) s $ move ! (1 ∷ 0 ∷ []) $ fjoin ! $
           anything ! $ fpack ! (IsOf R w table c d) (λ _. ftrue) of $ fjoin ! $ fpack ! (WordView × Turn) At z $ anything ! $ fpack ! (IsKept R found published l) (λ _. ftrue) told $ fjoin ! $ done !
 
       there : ◌≡◌ {A = ℕ × ℕ} (sb, se) (b, e)

@@ -14,7 +14,7 @@ use Rattle.thread_local_rights.specs.Rights.{right_owns}
 use Rattle.thread_local_chunks.specs.Slots.{fact, word_at, value_in}
 use Rattle.thread_local_bits.specs.Bits.{is_set}
 use Rattle.thread_local_bits.proofs.Word.{add_shifted, same_bit}
-use Rattle.thread_local_shared_word_logic.specs.Shared.{name_at, WordView, Turn, Standing, Who, free, claimed, first}
+use Rattle.thread_local_shared_word_logic.specs.Shared.{name_at, WordView, Turn, Standing, Who, free, claimed, len, first}
 use Rattle.thread_local_claim_logic.specs.Claims.{waits, IsTold}
 use Rattle.thread_local_shared_word_logic.proofs.Steps as general
 use Rattle.thread_local_claim_logic.proofs.Moves as moves
@@ -83,7 +83,7 @@ module _ {M : Type 1} {𝓤 : Ura M} (𝓛 : Logic 𝓤) (R : RattleType) (d : W
 
   -- the word of the slot's chunk
   abbrev pub chunk_word : Ptr
-  chunk_word = block_ptr b (word_at R (count_of s.at) (i / 64) + 0)
+  chunk_word = block_ptr b (word_at R (len R d) (count_of s.at) (i / 64))
 
   -- a look at the flag takes what the slot holds, for the right or for the pass
   abbrev pub Finds : Bool → ℕ → Fml

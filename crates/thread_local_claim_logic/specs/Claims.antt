@@ -1,7 +1,8 @@
 -- What a claim owns, and what a `&` to it shows.
 -- A claim has the right to an id, under one sharing of the id's word. While the bucket is missing, its right lies with the word, and it has the pass of its slot.
 -- Once the bucket stands it has what the slot holds.
-use Rattle.std.specs.Prelude.{◌≡◌, ℕ, ◌+◌, ◌/◌, ◌<◌, Bool, true, false, Option, None, Some, is_some}
+use Rattle.std.specs.Prelude.{◌≡◌, ℕ, ◌+◌, ◌/◌, ◌^◌, ◌<◌, Bool, true, false, Option, None, Some, is_some}
+use Rattle.thread_local_model.specs.Place.{bucket_of, index_of}
 use Rattle.thread_local_model.specs.Learnt.{Learnt, Unknown, Missing, Standing as Stood, Vacant, Holding}
 use Rattle.thread_local_claim_logic.specs.Known.{is_found, value_held}
 use mathlib.Core.Logic.{inl, inr}
@@ -12,20 +13,20 @@ use denote.RawPtr.{Ptr, InBlock, block_ptr, block_of, count_of}
 use denote.Sharing.{said, beside, within, some, held, nothing}
 use Rattle.thread_local_rights.specs.Rights.{right_owns}
 use Rattle.thread_local_judged.specs.Judged.{Judged}
-use Rattle.thread_local_chunks.specs.Slots.{fact, word_at, value_in}
+use Rattle.thread_local_chunks.specs.Slots.{fact, word_at, word_number, value_in}
 use Rattle.thread_local_shared_word_logic.specs.Shared.{name_at, WordView, Turn, Standing, holds, first, len, kept, loaded}
 
--- what a claim is, apart from its type's values: its id, the index of its slot, where the slot's chunk and its value lie once it is
+-- what a claim is, apart from its type's values: its id, the index of its slot, where the word of the slot's flag and its value lie once it is
 -- found, and whether the bucket is reserved
 pub record Place : Type 0 where
   pub id : ℕ
   pub index : ℕ
-  pub chunk : Ptr
+  pub flag_word : Ptr
   pub value : Ptr
   pub reserved : Bool
 
 abbrev pub place_of : ℕ → ℕ → Ptr → Ptr → Bool → Place
-place_of id index chunk value reserved = record { id = id; index = index; chunk = chunk; value = value; reserved = reserved }
+place_of id index flag_word value reserved = record { id = id; index = index; flag_word = flag_word; value = value; reserved = reserved }
 
 -- what a claim has before it has found the bucket: its right, and once it has looked in vain, the pass of its slot
 abbrev pub waits : Bool → GName → GName → ℕ → Fml
@@ -37,15 +38,19 @@ abbrev pub IsTold : {X : Type 0} → Bool → Bool → Option X → Type 0
 IsTold looked set v = (set ≡ is_some v) × (looked ≡ true → v ≡ None)
 
 module _ (R : RattleType) where
-  -- the chunk and the value are those of the slot's index in the block
-  abbrev pub IsAt : Standing → Place → Type 0
-  IsAt s c = let b : ℕ = block_of s.at in let o : ℕ = count_of s.at in
-      (c.chunk ≡ block_ptr b (word_at R o (c.index / 64))) × (c.value ≡ block_ptr b (value_in R o c.index))
+  -- the number of the word that has the flag of an id's slot, as code reckons it
+  abbrev pub number_of_id : ℕ → ℕ
+  number_of_id id = word_number R (2 ^ bucket_of id) (index_of id / 64)
+
+  -- the word and the value are those of the slot's index in the block, which has n slots
+  abbrev pub IsAt : ℕ → Standing → Place → Type 0
+  IsAt n s c = let b : ℕ = block_of s.at in let o : ℕ = count_of s.at in
+      (c.flag_word ≡ block_ptr b (word_at R n o (c.index / 64))) × (c.value ≡ block_ptr b (value_in R o c.index))
 
   module _ (d : WordView) (t : Turn) (β : Lft) (c : Place) where
     -- what a claim has of a block that stands, where the slot holds v
     abbrev pub has_slot : Option R.Denot → Standing → Fml
-    has_slot v s = fsep (fact (IsAt s c)) (fsep (loaded R d t s β) (holds R t (block_of s.at) s.own c.id (value_in R (count_of s.at) c.index) (name_at s.names c.index) v))
+    has_slot v s = fsep (fact (IsAt (len R d) s c)) (fsep (loaded R d t s β) (holds R t (block_of s.at) s.own c.id (value_in R (count_of s.at) c.index) (name_at s.names c.index) v))
 
     -- what it has, by what it has learnt; no claim knows of its bucket and not of its slot
     abbrev pub has : Learnt R.Denot → Fml

@@ -15,6 +15,10 @@ module _ {V : Type 0} where
   pub rows-with_row : (c : Contents V) (b : ℕ) (r : List (Option V)) → length (with_row c b r).rows ≡ length c.rows
   rows-with_row c b r = length-set c.rows b r
 
+  -- a bucket with a slot has all its slots
+  pub row_whole : (c : Contents V) (b i : ℕ) → IsTable c → i < length (row c b) → length (row c b) ≡ 2 ^ b
+  row_whole c b i t near = ⊎_elim (λ (none : length (row c b) ≡ 0). absurd (omega arith)) (λ all. all) (t.whole b)
+
   -- a row of no slots or of all keeps the table whole
   pub IsTable-with_row : (c : Contents V) (b : ℕ) (r : List (Option V)) → IsTable c → (length r ≡ 0) ⊎ (length r ≡ 2 ^ b) → IsTable (with_row c b r)
   IsTable-with_row c b r t h = record {

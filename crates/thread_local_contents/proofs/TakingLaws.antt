@@ -10,7 +10,7 @@ use Rattle.thread_local_model.specs.Buckets.{Contents, row, values}
 use Rattle.thread_local_model.specs.Rows.{value_in, with_slot}
 use Rattle.thread_local_model.proofs.PlaceLaws as place
 use Rattle.thread_local_model.proofs.CapacityLaws.{in_first, below_first}
-use Rattle.thread_local_model.proofs.WalkLaws.{walk_below-same, walk_below-none, walk_below-add, length-walk_below}
+use Rattle.thread_local_model.proofs.WalkLaws.{walk_below-none, walk_below-add, length-walk_below}
 use Rattle.thread_local_contents.specs.Owner.{NoneBelow}
 use Rattle.thread_local_contents.specs.Counting.{count_below}
 use Rattle.thread_local_contents.proofs.ValueLaws.{values-absent, values-id_at, values-with_slot-same, values-with_slot-other}
@@ -43,10 +43,6 @@ module _ {V : Type 0} where
   unfolding walk
   walk-none values none = walk_below-none values (2 ^ 63 - 1) none
 
-  pub walk-same : (values others : ℕ → Option V) → ((id : ℕ) → values id ≡ others id) → walk values ≡ walk others
-  unfolding walk
-  walk-same values others same = walk_below-same values others (2 ^ 63 - 1) (λ id _. same id)
-
   length-option_to_list : (o : Option V) → length (option_to_list o) ≡ cond (is_some o) 1 0
   length-option_to_list None = refl
   length-option_to_list (Some v) = refl
@@ -75,10 +71,7 @@ module _ {V : Type 0} where
       ap length (walk_below-add values n k) ∙ length-append (walk_below values n) (walk_below (λ i. values (n + i)) k)
       ∙ (let nothing : walk_below (λ i. values (n + i)) k ≡ [] = walk_below-none (λ i. values (n + i)) k none in rw nothing (omega arith))
 
-  -- nothing stands below 0, nor below n + 1 where nothing does below n and at it
-  pub NoneBelow-zero : (values : ℕ → Option V) → NoneBelow values 0
-  NoneBelow-zero values id l = absurd (omega arith)
-
+  -- nothing stands below n + 1 where nothing does below n and at it
   pub NoneBelow-more : (values : ℕ → Option V) (n : ℕ) → NoneBelow values n → values n ≡ None → NoneBelow values (n + 1)
   NoneBelow-more values n none here id l =
       ⊎_elim (λ (at : id ≡ n). ap values at ∙ here) (λ (apart : id ≢ n). none id (omega arith)) (cases_eq id n)

@@ -5,7 +5,7 @@ use denote.RawPtr.{Testable}
 use Rattle.std.proofs.lemmas.Bool.{true≢false, false≢true}
 use Rattle.std.proofs.lemmas.List.{length-map}
 use Rattle.std.proofs.GlobalToken.{dealloc_token-Testable}
-use Rattle.thread_local_chunks.specs.Slots.{fact, block_ty, chunks, Fits, AreFlags, slot, each, flags, flags_own, back, heap_token}
+use Rattle.thread_local_chunks.specs.Slots.{fact, block_ty, chunks, Fits, AreFlags, flags_at, slot, each, flags, flags_own, back, heap_token}
 use Rattle.thread_local_words.specs.Leads.{word_owns}
 use Rattle.thread_local_loan.specs.Lent.{flagged, valued, bare, Leads}
 use Rattle.thread_local_loan.proofs.Shapes.{has, slot_has}
@@ -73,10 +73,10 @@ module _ {M : Type 1} {𝓤 : Ura M} (𝓛 : Logic 𝓤) (R : RattleType) where
 
     -- flags are those of any values in the same slots
     same_flags : (cs ws : List C) → has ws ≡ has cs → ⟦ flags R b o cs ⟧ ⊢ ⟦ flags R b o ws ⟧
-    same_flags cs ws same = qed 𝓛 (‵ (flags R b o cs) ∷ []) ∵ fpick ! (λ ns. fsplit ! $ fpick ! (λ so. drop ! $
-        nothing ! $ fpack ! ((length ns + 0 ≡ chunks (length ws)) × AreFlags ns ws) (λ _. ftrue)
+    same_flags cs ws same = qed 𝓛 (‵ (flags R b o cs) ∷ []) ∵ fpick ! (λ ns. fsplit3 ! $ fpick ! (λ so. drop ! $
+        rewrite ! 0 (λ (m : ℕ). ‵ (each (flags_at R m b o) ns 0)) (long cs ws same) refl $ nothing ! $ fpack ! ((length ns + 0 ≡ chunks (length ws)) × AreFlags ns ws) (λ _. ftrue)
         (so.0 ∙ ap chunks (long cs ws same), record { words = so.1.words; flags = λ j. so.1.flags j ∙ sym (slot_has ws cs j same) }) $
-        fjoin ! $ fpack ! (List ℕ) (flags_own R b o ws 0) ns $ done !))
+        fjoin3 ! $ fpack ! (List ℕ) (flags_own R b o ws 0) ns $ done !))
 
   starts : (n : ℕ) (p : Ptr) → ⟦ heap_token (block_ty R n) p ⟧ ⊢ said 𝓤 (Testable p)
   starts n p = qed 𝓛 (‵ (heap_token (block_ty R n) p) ∷ []) ∵ fpick ! (λ a. by ! (dealloc_token-Testable 𝓛 a (block_ty R n) p))

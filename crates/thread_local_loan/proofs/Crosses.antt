@@ -23,7 +23,7 @@ each_cross F k (x ∷ xs) j = (k x j, each_cross F k xs (suc j))
 module _ (R : RattleType) where
   flags_cross : (p : Ptr) (cs : List (Option R.Denot)) → Keyless (flagged R p cs)
   flags_cross p [] = tt
-  flags_cross p (c ∷ cs) = λ ns. ((λ _. tt), (each_cross (flags_at R (block_of p) (count_of p)) (λ _ _. tt) ns 0, tt))
+  flags_cross p (c ∷ cs) = λ ns. ((λ _. tt), (each_cross (flags_at R _ _ _) (λ _ _. tt) ns 0, tt))
 
   frames_cross : (b e : ℕ) (ps : List Ptr) (rs : List (List (Option R.Denot))) → Keyless (frames R b e ps rs)
   frames_cross b e [] [] = tt

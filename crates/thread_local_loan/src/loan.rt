@@ -7,12 +7,14 @@ ghost use Rattle.thread_local_model.specs.Rows.{value_in, with_slot};
 ghost use Rattle.thread_local_model.specs.Code.{contents_coded};
 ghost use types.Logic.{sem};
 ghost use Rattle.thread_local_bits.specs.Bits.{is_set};
+ghost use Rattle.thread_local_chunks.specs.Slots.{word_number};
 ghost use Rattle.thread_local_loan.specs.Lent.{loan_owns};
 ghost use Rattle.thread_local_loan.specs.Given.{ends_with_item};
 
 use std::marker::{Model, PhantomData};
-use thread_local_chunks::Chunk;
+use thread_local_chunks::{Chunk, flag_word};
 use thread_local_contents::Places;
+use thread_local_thread_id::bucket_size;
 
 /// The words of an owner's buckets, lent to a walk that writes. It gives the values by ascending place, each at most once.
 ///
@@ -61,10 +63,24 @@ impl<'a, T> Loan<'a, T> {
         ensures value { (bit : ℕ) → bit < 64 → is_set result bit ≡ is_some (value_in self.old.contents bucket (chunk * 64 + bit)) }
         ensures table { IsTable self.old.contents }
     {
+        self.word_at(bucket, chunk, flag_word::<T>(bucket_size(bucket), chunk))
+    }
+
+    /// The same, where the number of their word is known.
+    #[inline]
+    fn word_at(&mut self, bucket: usize, chunk: usize, word: usize) -> u64
+        requires in_table { bucket < 63 }
+        requires in_bucket { chunk * 64 < length (row self.old.contents bucket) }
+        requires ahead { self.old.given ≤ id_at bucket (chunk * 64) }
+        requires word { word ≡ word_number T.row (2 ^ bucket) chunk }
+        ensures same { self.new ≡ self.old }
+        ensures value { (bit : ℕ) → bit < 64 → is_set result bit ≡ is_some (value_in self.old.contents bucket (chunk * 64 + bit)) }
+        ensures table { IsTable self.old.contents }
+    {
+        let _ = chunk;
         unsafe {
             let block = *self.words.add(bucket);
-            let at = block.add(chunk);
-            (*at).flags
+            *(block as *const u64).add(word)
         }
     }
 
@@ -82,9 +98,7 @@ impl<'a, T> Loan<'a, T> {
     {
         unsafe {
             let block = *self.words.add(bucket);
-            let chunk = block.add(index / 64);
-            let item = (&raw mut (*chunk).values as *mut T).add(index % 64);
-            &mut *item
+            &mut *(block as *mut T).add(index)
         }
     }
 }

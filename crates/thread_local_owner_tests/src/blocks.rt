@@ -1,5 +1,4 @@
 //! Blocks of slots: how much memory they take, and which are refused.
-ghost use Rattle.thread_local_chunks.specs.Slots.{IsBlockLength};
 
 use std::alloc::{AllocError, Global};
 use std::mem::size_of;
@@ -11,9 +10,7 @@ use thread_local_test_helpers::memory::take_all_but;
 use thread_local_test_helpers::refusing::Refusing;
 
 /// Whether there is no block of so many slots.
-fn is_refused(alloc: Global, len: usize) -> bool
-    requires { IsBlockLength len }
-{
+fn is_refused(alloc: Global, len: usize) -> bool {
     match Block::<u64, Global>::new(&alloc, len) {
         Ok(block) => {
             block.release(&alloc, len);
@@ -24,9 +21,7 @@ fn is_refused(alloc: Global, len: usize) -> bool
 }
 
 /// For how many bytes a block of so many numbers asks.
-fn bytes_asked(len: usize) -> usize
-    requires { IsBlockLength len }
-{
+fn bytes_asked(len: usize) -> usize {
     let alloc = Refusing::new();
     if let Ok(block) = Block::<u64, Refusing>::new(&alloc, len) {
         block.release(&alloc, len);
@@ -35,7 +30,7 @@ fn bytes_asked(len: usize) -> usize
 }
 
 #[test]
-fn a_chunk_is_a_word_and_64_values(rt: HostRuntime) {
+fn a_chunk_is_64_values_and_a_word(rt: HostRuntime) {
     let sizes = (
         size_of::<Chunk<()>>(),
         size_of::<Chunk<u8>>(),

@@ -6,6 +6,7 @@ use std::cell::Cell;
 use std::mem::size_of;
 use std::test::Fail;
 use thread_local_blocks::Block;
+use thread_local_chunks::flag_word;
 use thread_local_words::Word;
 
 /// Puts a value into a block, takes it out again, and frees the block.
@@ -14,8 +15,9 @@ fn there_and_back<T: Send + Drop>(alloc: Global, value: T) -> Result<T, AllocErr
 {
     let mut word = Word::null();
     word.lay(Block::new(&alloc, 4)?);
-    word.publish(2, value);
-    let value = word.take(2);
+    let number = flag_word::<T>(4, 0);
+    word.publish(2, number, value);
+    let value = word.take(2, number);
     word.release(4, &alloc);
     Ok(value)
 }
@@ -24,9 +26,14 @@ fn there_and_back<T: Send + Drop>(alloc: Global, value: T) -> Result<T, AllocErr
 fn seen_at_a_cell(alloc: Global) -> Result<(bool, bool, u64), AllocError> {
     let mut word = Word::null();
     word.lay(Block::new(&alloc, 1)?);
-    word.publish(0, Cell::new(1u64));
+    let number = flag_word::<Cell<u64>>(1, 0);
+    word.publish(0, number, Cell::new(1u64));
     word.get_mut(0).set(2);
-    let seen = (word.stands(), word.is_published(0), word.take(0).get());
+    let seen = (
+        word.stands(),
+        word.is_published(0, number),
+        word.take(0, number).get(),
+    );
     word.release(1, &alloc);
     Ok(seen)
 }
@@ -35,12 +42,13 @@ fn seen_at_a_cell(alloc: Global) -> Result<(bool, bool, u64), AllocError> {
 fn flags_of_two_chunks(alloc: Global) -> Result<[u64; 3], AllocError> {
     let mut word = Word::null();
     word.lay(Block::new(&alloc, 128)?);
-    word.publish(0, 1u64);
-    word.publish(63, 2);
-    word.publish(65, 3);
-    let both = [word.flags(0), word.flags(1)];
-    word.take(63);
-    let seen = [both[0], both[1], word.flags(0)];
+    let (first, second) = (flag_word::<u64>(128, 0), flag_word::<u64>(128, 1));
+    word.publish(0, first, 1u64);
+    word.publish(63, first, 2);
+    word.publish(65, second, 3);
+    let both = [word.flags(0, first), word.flags(1, second)];
+    word.take(63, first);
+    let seen = [both[0], both[1], word.flags(0, first)];
     word.release(128, &alloc);
     Ok(seen)
 }

@@ -3,11 +3,12 @@ ghost use Rattle.std.specs.Prelude.{◌≡◌, IfOk};
 
 use std::alloc::{AllocError, Global};
 use std::cell::Cell;
+use std::mem::replace;
 use std::test::Fail;
 use thread_local_thread_id::Thread;
 use thread_local_words::Words;
 
-/// Publishes two values, takes the first, and drops the rest.
+/// Publishes a value, takes it for another, and drops the rest.
 fn there_and_back<T: Send + Drop>(alloc: Global, first: T, second: T) -> Result<T, AllocError>
     ensures { IfOk result (λ x. x ≡ first) }
 {
@@ -20,18 +21,20 @@ fn there_and_back<T: Send + Drop>(alloc: Global, first: T, second: T) -> Result<
         },
         first,
     );
-    words.publish(
-        Thread {
-            bucket: 3,
-            index: 7,
-        },
-        second,
-    );
-    Ok(words.take(3, 5))
+    let value = words.get_mut(Thread {
+        bucket: 3,
+        index: 5,
+    });
+    Ok(replace(value, second))
 }
 
-/// Publishes a value and writes another over it.
-fn written_over<T: Send + Drop>(alloc: Global, first: T, second: T) -> Result<T, AllocError>
+/// Publishes a value, writes another over it, and takes that for a third.
+fn written_over<T: Send + Drop>(
+    alloc: Global,
+    first: T,
+    second: T,
+    third: T,
+) -> Result<T, AllocError>
     ensures { IfOk result (λ x. x ≡ second) }
 {
     let mut words = Words::new(alloc);
@@ -47,7 +50,11 @@ fn written_over<T: Send + Drop>(alloc: Global, first: T, second: T) -> Result<T,
         bucket: 4,
         index: 0,
     }) = second;
-    Ok(words.take(4, 0))
+    let value = words.get_mut(Thread {
+        bucket: 4,
+        index: 0,
+    });
+    Ok(replace(value, third))
 }
 
 /// A value that counts its drops.
@@ -125,7 +132,7 @@ fn values_are_written_over(rt: HostRuntime) -> Result<(), Fail> {
     Ok(())
 }
 
-/// Fills three buckets but for one slot, and answers how many drops there are after a take, after a release, and when all has ended.
+/// Fills three buckets but for two slots, and answers how many drops there are once one of them is released, and once another is.
 fn drops_counted<T: Drop, F: Fn() -> T, G: Fn() -> u64>(
     alloc: Global,
     make: F,
@@ -175,17 +182,17 @@ where
         },
         make(),
     );
-    drop(words.take(1, 0));
-    let taken = count();
+    words.release(1);
+    let first = count();
     words.release(2);
     let released = count();
-    Ok((taken, released))
+    Ok((first, released))
 }
 
 #[test]
 fn each_value_is_dropped_once(rt: HostRuntime) -> Result<(), Fail> {
     let drops = Cell::new(0u64);
     let seen = drops_counted(rt.alloc(), || Counted { drops: &drops }, || drops.get())?;
-    assert_eq!(rt; (seen, drops.get()), ((1, 3), 5));
+    assert_eq!(rt; (seen, drops.get()), ((2, 4), 5));
     Ok(())
 }

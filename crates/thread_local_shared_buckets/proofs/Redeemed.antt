@@ -18,7 +18,7 @@ use Rattle.std.specs.declared.alloc.Global.{Global}
 use Rattle.std.specs.contracts.impls.GlobalAllocator.TheImpl.{ghosts}
 use Rattle.std.proofs.GlobalToken.{dealloc_token-Testable}
 use Rattle.thread_local_bits.specs.Bits.{is_set_in}
-use Rattle.thread_local_chunks.specs.Slots.{heap_token, chunks, each, AreFlags, slot_at, block_ty, Fits, value_in, place, slot, flags_own, back}
+use Rattle.thread_local_chunks.specs.Slots.{heap_token, chunks, each, AreFlags, flags_at, slot_at, block_ty, Fits, value_in, place, slot, flags_own, back}
 use Rattle.thread_local_words.specs.Leads.{word_owns}
 use Rattle.thread_local_shared_word_logic.specs.Shared.{WordView, AreFlagWords, slots_under, slot_rests_as, slot_rests, slots_rest, Sized, len, at_rest}
 use Rattle.thread_local_shared_word_logic.proofs.Rested.{redeems}
@@ -128,14 +128,14 @@ module _ {M : Type 1} {𝓤 : Ura M} (𝓛 : Logic 𝓤) (R : RattleType) (L : L
 
     redeems_block : (b o : ℕ) → ⟦ fex (List ℕ) (slots_under R n b o (slots_rest R n 0 b o)) ⟧ ⊢ H.⇛ (ex 𝓤 (Whole b o))
     redeems_block b o = qed 𝓛 (‵ (fex (List ℕ) (slots_under R n b o (slots_rest R n 0 b o))) ∷ []) ∵ updating ! $ fpick ! (λ ns. fsplit3 ! $ fpick ! (λ are. drop ! $ move ! (1 ∷ []) $
-        use1 𝓛 (later (some (λ (cs : List C). given ((length cs ≡ n) × Told ns 0 cs) (‵ (each (slot R b o) cs 0))))) (redeems_slots b o ns n 0) $ await ! tt $ pick ! (λ cs. learn ! (λ so. move ! (1 ∷ []) $ nothing ! $ move ! (1 ∷ 0 ∷ []) $ fjoin ! $
+        use1 𝓛 (later (some (λ (cs : List C). given ((length cs ≡ n) × Told ns 0 cs) (‵ (each (slot R b o) cs 0))))) (redeems_slots b o ns n 0) $ await ! tt $ pick ! (λ cs. learn ! (λ so. move ! (1 ∷ []) $ rewrite ! 0 (λ (m : ℕ). ‵ (each (flags_at R m b o) ns 0)) (sym so.0) refl $ nothing ! $ move ! (1 ∷ 0 ∷ []) $ fjoin ! $
         nothing ! $ fpack ! ((length ns + 0 ≡ chunks (length cs)) × AreFlags ns cs) (λ _. ftrue) (are_flags R n ns cs so.0 are so.1) $ fjoin ! $ fpack ! (List ℕ) (flags_own R b o cs 0) ns $ fjoin ! $
         now ! $ show ! (Whole b o) cs $ check ! so.0 $ done !))))
 
     rests_block : (b o : ℕ) (cs : List C) → length cs ≡ n → ⟦ Slots b o cs ⟧ ⊢ ⟦ fex (List ℕ) (slots_under R n b o (slots_rest R n 0 b o)) ⟧
     rests_block b o cs long = qed 𝓛 (‵ (Slots b o cs) ∷ []) ∵ fsplit ! $ fpick ! (λ ns. fsplit3 ! $ fpick ! (λ are. drop ! $ move ! (1 ∷ []) $ drop ! $ move ! (1 ∷ []) $
         -- [the slots; the words]
-        use1 𝓛 (‵ (slots_rest R (length cs) 0 b o ns)) (rests_slots b o ns cs 0 (told_flags ns cs are.1)) $ rewrite ! 0 (λ (m : ℕ). ‵ (slots_rest R m 0 b o ns)) long refl $ move ! (1 ∷ 0 ∷ []) $
+        use1 𝓛 (‵ (slots_rest R (length cs) 0 b o ns)) (rests_slots b o ns cs 0 (told_flags ns cs are.1)) $ rewrite ! 0 (λ (m : ℕ). ‵ (slots_rest R m 0 b o ns)) long refl $ move ! (1 ∷ 0 ∷ []) $ rewrite ! 0 (λ (m : ℕ). ‵ (each (flags_at R m b o) ns 0)) long refl $
         nothing ! $ fpack ! (AreFlagWords R n ns) (λ _. ftrue) (are_words R n ns cs long are) $ fjoin3 ! $ fpack ! (List ℕ) (slots_under R n b o (slots_rest R n 0 b o)) ns $ done !))
 
     plain_block : (b o : ℕ) (cs : List C) → length cs ≡ n → Sized R n (block_ptr b o)

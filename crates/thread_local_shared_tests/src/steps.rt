@@ -3,6 +3,7 @@ ghost use Rattle.std.specs.Prelude.{◌≡◌, ◌-◌, ◌^◌, ◌<◌};
 
 use std::alloc::Global;
 use thread_local_buckets::Buckets;
+use thread_local_chunks::flag_word;
 use thread_local_claim::Claim;
 use thread_local_rights::HeldId;
 use thread_local_shared_buckets::Shared;
@@ -51,5 +52,6 @@ pub fn look(shared: &Shared<u32>, id: usize) -> Option<u32>
 {
     let thread = Thread::new(id);
     let row = shared.load(thread.bucket)?;
-    row.get(thread.index).copied()
+    let number = flag_word::<u32>(thread.bucket_size(), thread.index / 64);
+    row.get(thread.index, number).copied()
 }

@@ -1,7 +1,7 @@
 -- Where the code of a walk is.
 use Rattle.std.specs.Prelude.{◌≡◌, ℕ, ◌+◌, ◌*◌, ◌^◌, ◌≤◌, ◌==◌, Bool, false, Option, Some, None, IfSome, if◌then◌else◌}
 use Rattle.thread_local_model.specs.Place.{id_at}
-use Rattle.thread_local_model.specs.Cursor.{Cursor, cursor_id, at_place, CursorFits}
+use Rattle.thread_local_model.specs.Cursor.{Cursor, cursor_id, CursorFits}
 use Rattle.thread_local_contents.specs.declared.cursor.RawIter.{RawIter}
 use Rattle.thread_local_shared_walk.specs.declared.steps.Own.{Own}
 use Rattle.thread_local_shared_walk.specs.Walks.{Owed}
@@ -9,10 +9,6 @@ use Rattle.thread_local_shared_walk.specs.Walks.{Owed}
 -- the cursor of a walk between two calls
 abbrev pub resting : RawIter → Cursor
 resting raw = record { bucket = raw.bucket; index = raw.index; looks = false }
-
--- and once it has loaded the bucket's word
-abbrev pub looking : RawIter → Cursor
-looking raw = at_place (resting raw)
 
 -- the walk at the first slot of the next bucket
 abbrev pub next_bucket : RawIter → RawIter

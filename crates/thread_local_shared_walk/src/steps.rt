@@ -4,6 +4,7 @@ ghost use Rattle.thread_local_judged.specs.Judged.{Shareable};
 ghost use Rattle.thread_local_shared_walk.specs.Places.{resting, next_bucket, past, at_index, search_end, owed, lies_in, IsWalk};
 ghost use Rattle.thread_local_shared_walk.specs.Walks.{Gives, Ends};
 
+use thread_local_chunks::flag_word;
 use thread_local_contents::RawIter;
 use thread_local_shared_buckets::Shared;
 use thread_local_shared_word::Row;
@@ -63,6 +64,7 @@ fn give_own<'a, T>(raw: &mut RawIter, own: &mut Option<Own<'a, T>>) -> Option<&'
 fn search<'a, T>(row: &Row<'a, T>, raw: &mut RawIter, end: usize) -> Option<&'a T>
     requires shareable { Shareable T.row }
     requires of { row.now.of.bucket ≡ raw.old.bucket }
+    requires size { raw.old.bucket_size ≡ 2 ^ raw.old.bucket }
     requires end { end ≤ 2 ^ raw.old.bucket }
     requires from { raw.old.index ≤ end }
     requires yielded { raw.old.yielded < 2 ^ 63 }
@@ -70,7 +72,8 @@ fn search<'a, T>(row: &Row<'a, T>, raw: &mut RawIter, end: usize) -> Option<&'a 
     ensures some { IfSome result (λ _. (raw.old.index < raw.new.index) × (raw.new.index ≤ end) × (raw.new ≡ past raw.old (raw.new.index - 1))) }
 {
     for index in raw.index..end {
-        if let Some(value) = row.get(index) {
+        let number = flag_word::<T>(raw.bucket_size, index / 64);
+        if let Some(value) = row.get(index, number) {
             raw.index = index + 1;
             raw.yielded += 1;
             return Some(value);

@@ -17,7 +17,7 @@ use Rattle.std.specs.Sync.RawAtomic.{word}
 use Rattle.std.specs.Sync.RawAtomic.Pointer.{cell}
 use Rattle.thread_local_bits.specs.Bits.{is_set, is_set_in, IsWordBut}
 use Rattle.thread_local_bits.proofs.Words.{is_set_in-set}
-use Rattle.thread_local_chunks.specs.Slots.{AreWords, IsBlockLength, each, heap_token, block_ty, word_at, value_in, flags_at, back}
+use Rattle.thread_local_chunks.specs.Slots.{AreWords, each, heap_token, block_ty, word_at, value_in, flags_at, back}
 use Rattle.thread_local_chunks.proofs.Each.{Put, each_at, each_turned}
 use Rattle.thread_local_chunks.proofs.Flags.{in_chunks}
 use Rattle.thread_local_shared_word_logic.specs.Shared.{name_at, WordView, Turn, Standing, standing_coded, mark, shared_slot, numbered_slot, AreFlagWords, slots_under, len, first, Sized, settled, standing, beside_pointer, invariant}
@@ -108,7 +108,7 @@ module _ {M : Type 1} {𝓤 : Ura M} (𝓛 : Logic 𝓤) where
 
     -- the word that has its flag
     abbrev pub Flags : ℕ → Fml
-    Flags n = word b (word_at R (count_of s.at) (i / 64) + 0) n
+    Flags n = word b (word_at R (len R d) (count_of s.at) (i / 64)) n
 
     -- the way back, for a word of which this slot's bit alone may have changed
     abbrev pub Back : Pr → (n : ℕ) → Next n (i % 64) → Pr
@@ -140,10 +140,10 @@ module _ {M : Type 1} {𝓤 : Ura M} (𝓛 : Logic 𝓤) where
     apart_same : (ns : List ℕ) (inside : i / 64 < length ns) (y : Next (slice_index ns (i / 64)) (i % 64)) (η : GName) (m : ℕ) → m ≢ i → ⟦ Numbered ns η m ⟧ ⊢ ⟦ Numbered (turned R (len R d) i ns inside y) η m ⟧
     apart_same ns inside y η m apart = subst (λ (u : Bool). ⟦ Numbered ns η m ⟧ ⊢ ⟦ shared_slot R t b s.own d.table u (m + first R d) (value_in R o m) η ⟧) (sym (turned_there R (len R d) i ns inside y m apart)) (id⊢ 𝓤 _)
 
-    in_row : (ns : List ℕ) → length s.names ≡ len R d → IsBlockLength (len R d) → ⟦ Under ns ⟧ ⊢ ex 𝓤 (Out ⟦ fex (List ℕ) Under ⟧)
-    in_row ns long may = let c : ℕ = i / 64 in let n : ℕ = slice_index ns c in let Fs : ℕ → ℕ → Fml = flags_at R b o in let Found : ℕ → Pr = Out ⟦ fex (List ℕ) Under ⟧ in let name : ℕ = get_or s.names i 0 in
+    in_row : (ns : List ℕ) → length s.names ≡ len R d → ⟦ Under ns ⟧ ⊢ ex 𝓤 (Out ⟦ fex (List ℕ) Under ⟧)
+    in_row ns long = let c : ℕ = i / 64 in let n : ℕ = slice_index ns c in let Fs : ℕ → ℕ → Fml = flags_at R (len R d) b o in let Found : ℕ → Pr = Out ⟦ fex (List ℕ) Under ⟧ in let name : ℕ = get_or s.names i 0 in
         qed 𝓛 (‵ (Under ns) ∷ []) ∵ fsplit3 ! $ fpick ! (λ are. drop ! $
-        let inside : c < length ns = subst (λ (m : ℕ). c < m) (sym are.0) (in_chunks (len R d) i may (subst (λ (m : ℕ). i < m) long low)) in
+        let inside : c < length ns = subst (λ (m : ℕ). c < m) (sym are.0) (in_chunks (len R d) i (subst (λ (m : ℕ). i < m) long low)) in
         let T : Next n (i % 64) → List ℕ = λ y. turned R (len R d) i ns inside y in
         let Later : Next n (i % 64) → Pr = λ y. ⟦ Numbered (T y) name i ⟧ -∗ ⟦ Row (T y) ⟧ in
         use1 𝓛 (‵ (Fs n c) ⊛ raw (all 𝓤 (Put 𝓛 Fs ns 0 c c))) (each_at 𝓛 Fs ns 0 c c 0 (omega arith) inside) $ split ! $ move ! (2 ∷ []) $
@@ -169,7 +169,7 @@ module _ {M : Type 1} {𝓤 : Ura M} (𝓛 : Logic 𝓤) where
         let own : Fml = flft (s.own ∷ []) r in let S : Fml = settled R d t s in let Body : ℕ × ℕ → Fml = λ z. fsep (fex (List ℕ) (slots_under R (len R d) z.0 z.1 (λ ns. each (numbered_slot R t z.0 s.own d.table (first R d) z.1 ns) s.names 0))) (back R z.0 z.1 (len R d)) in
         qed 𝓛 (‵ Q ∷ []) ∵ fsplit ! $ fpick ! (λ h. let same : ◌≡◌ {A = ℕ × ℕ} (block_of p, count_of p) (b, o) = λ j. ((sym (ap block_of h.0) ∙ at_b) j, ap count_of (sym h.0) j) in move ! (1 ∷ []) $ fsplit3 ! $ move ! (2 ∷ []) $ fsplit ! $
         -- [what stands; the right to free; settled; the token; nothing]
-        rewrite ! 0 (λ (z : ℕ × ℕ). ‵ (Body z)) same refl $ fsplit ! $ fpick ! (λ ns. use1 𝓛 (raw (ex 𝓤 (Out ⟦ fex (List ℕ) Under ⟧))) (in_row ns h.1 h.2.2.length) $ keep ! (0 ∷ 1 ∷ 2 ∷ 3 ∷ 4 ∷ []) $
+        rewrite ! 0 (λ (z : ℕ × ℕ). ‵ (Body z)) same refl $ fsplit ! $ fpick ! (λ ns. use1 𝓛 (raw (ex 𝓤 (Out ⟦ fex (List ℕ) Under ⟧))) (in_row ns h.1) $ keep ! (0 ∷ 1 ∷ 2 ∷ 3 ∷ 4 ∷ []) $
         by ! (lifted ⟦ fex (List ℕ) Under ⟧ ⟦ Q ⟧ (⟦ room ⟧ ∗ ⟦ token ⟧ ∗ ⟦ S ⟧ ∗ ⟦ own ⟧) (qed 𝓛 (‵ (fex (List ℕ) Under) ∷ ‵ room ∷ ‵ token ∷ ‵ S ∷ ‵ own ∷ []) ∵
         fjoin ! $ rewrite ! 0 (λ (z : ℕ × ℕ). ‵ (Body z)) (sym same) refl $ fjoin ! $ move ! (1 ∷ 2 ∷ 0 ∷ []) $ fjoin3 ! $ nothing ! $ fpack ! Known (λ _. ftrue) h $ fjoin ! $ done !))))
 

@@ -17,7 +17,7 @@ use Rattle.thread_local_judged.specs.Judged.{Shareable}
 use Rattle.thread_local_bits.specs.Bits.{is_set}
 use Rattle.thread_local_bits.proofs.Word.{same_bit}
 use Rattle.thread_local_chunks.specs.Slots.{word_at, value_in}
-use Rattle.thread_local_shared_word_logic.specs.Shared.{name_at, WordView, Turn, Standing, Who, mark, pinned, shared_value, opened, first, invariant}
+use Rattle.thread_local_shared_word_logic.specs.Shared.{name_at, WordView, Turn, Standing, Who, mark, pinned, shared_value, opened, len, first, invariant}
 use Rattle.thread_local_shared_word_logic.proofs.Rested.{opens_by}
 use Rattle.thread_local_shared_word_logic.proofs.Steps.{Stays, Had, Turned, stepped}
 
@@ -60,5 +60,5 @@ module _ {M : Type 1} {𝓤 : Ura M} (𝓛 : Logic 𝓤) (R : RattleType) (L : L
       rewrite ! 0 (λ (u : Bool). ‵ (by_flag lent u)) (sym told) refl $ show ! F (Some x, w) $ check ! (fits, same_bit n (i % 64) true told) $ types.Kit.keep ! (1 ∷ 2 ∷ 0 ∷ []) $ done !
 
   pub looks : (q : Share) → A.inv (fbor t.life (invariant R d t wb wo)) ∗ (A.lft t.life q ∗ (⟦ fres t.which (mark s) ⟧ ∗ ⟦ ftrue ⟧))
-      ⊢ asks 𝓛 (block_ptr b (word_at R (count_of s.at) (i / 64) + 0)) (λ n. n) always (λ n. fsep (flft t.life q) (seen n))
+      ⊢ asks 𝓛 (block_ptr b (word_at R (len R d) (count_of s.at) (i / 64))) (λ n. n) always (λ n. fsep (flft t.life q) (seen n))
   looks q = stepped 𝓛 R d t wb wo s i k e b low at_k at_e at_b q (λ n. n) seen ftrue (looked q)

@@ -23,7 +23,7 @@ use Rattle.std.specs.contracts.impls.GlobalAllocator.TheImpl.{ghosts}
 use Rattle.std.proofs.GlobalToken.{dealloc_token-Testable}
 use Rattle.thread_local_rights.specs.Rights.{right_owns}
 use Rattle.thread_local_bits.specs.Bits.{is_set_in}
-use Rattle.thread_local_chunks.specs.Slots.{each, chunks, AreFlags, block_ty, value_in, place, slot, flags, back, block_owns, empty_slots, slot_at, heap_token, Fits}
+use Rattle.thread_local_chunks.specs.Slots.{each, chunks, AreFlags, flags_at, block_ty, value_in, place, slot, flags, back, block_owns, empty_slots, slot_at, heap_token, Fits}
 use Rattle.thread_local_shared_word_logic.specs.Shared.{WordView, Turn, Standing, Who, free, early, mark, value_code, value_of, age, holds, had, shared_slot_as, numbered_slot, AreFlagWords, slots_under, slots_stand, block_stands, waiting, all_unborn, Sized, len, first, standing, beside_pointer, invariant}
 use Rattle.thread_local_shared_word_logic.proofs.Pointers.{Compared, opened_to_compare, alike_null}
 use Rattle.thread_local_shared_word_logic.proofs.Loads.{part, glimpse, parted}
@@ -182,6 +182,7 @@ module _ {M : Type 1} {𝓤 : Ura M} (𝓛 : Logic 𝓤) (R : RattleType) (t : T
     born_block p s long = let b : ℕ = block_of p in let o : ℕ = count_of p in let k : ℕ = first R d in let same : k ≡ 0 + k = omega arith in
         qed 𝓛 (‵ (all_unborn R d.table t n k) ∷ ‵ (idle p s) ∷ []) ∵ rewrite ! 0 (λ (m : ℕ). ‵ (all_unborn R d.table t m k)) (sym long) refl $ rewrite ! 0 (λ (m : ℕ). ‵ (all_unborn R d.table t (length s.names) m)) same refl $
         move ! (1 ∷ []) $ fsplit3 ! $ fpick ! (λ ns. fsplit3 ! $ fpick ! (λ are. drop ! $ move ! (1 ∷ []) $ drop ! $
+        rewrite ! 0 (λ (m : ℕ). ‵ (each (flags_at R m b o) ns 0)) as_many refl $
         -- [the words; the slots; the way back and the right to free; what waits]
         move ! (3 ∷ 1 ∷ []) $ use2 𝓛 (‵ (slots_stand R d t p s ns)) (born_all b s.own o d.table k ns (none_set R n ns are.1) s.names 0) $ move ! (1 ∷ 0 ∷ []) $ fjoin ! $
         nothing ! $ fpack ! (AreFlagWords R n ns) (λ _. ftrue) (clear_words R n ns are.1 are.0) $ fjoin ! $ fpack ! (List ℕ) (slots_under R n b o (slots_stand R d t p s)) ns $

@@ -33,10 +33,10 @@ module _ (R : RattleType) (s : IsSend R) where
   place_keyless (Some x) b e = part_keyless R s full_share x b e
 
   back_keyless : (b o n : ℕ) → Keyless (back R b o n)
-  back_keyless b o n = ((each_keyless (flag_room R b o) (replicate (chunks n) 0) 0 (λ _ _. tt), each_keyless (slot R b o) (empty_slots n) 0 (λ v k. place_keyless v b (value_in R o k))), tt)
+  back_keyless b o n = ((each_keyless (flag_room R n b o) (replicate (chunks n) 0) 0 (λ _ _. tt), each_keyless (slot R b o) (empty_slots n) 0 (λ v k. place_keyless v b (value_in R o k))), tt)
 
-  words_keyless : (b o : ℕ) (ns : List ℕ) → Keyless (each (flags_at R b o) ns 0)
-  words_keyless b o ns = each_keyless (flags_at R b o) ns 0 (λ _ _. tt)
+  words_keyless : (n b o : ℕ) (ns : List ℕ) → Keyless (each (flags_at R n b o) ns 0)
+  words_keyless n b o ns = each_keyless (flags_at R n b o) ns 0 (λ _ _. tt)
 
   pub value_keyless : (b e : ℕ) (η : GName) → Keyless (value_of R b e η)
   value_keyless b e η = λ c. (place_keyless c b e, tt)
@@ -74,7 +74,7 @@ module _ (R : RattleType) (s : IsSend R) where
   unborn_keyless table t (suc n) k = ((right_keyless t.vacant k, (right_keyless t.filled k, λ w. waiting_keyless w table t.pass k)), unborn_keyless table t n (suc k))
 
   stands_keyless : (d : WordView) (t : Turn) (p : Ptr) (z : Standing) → Keyless (block_stands R d t p z)
-  stands_keyless d t p z = let b : ℕ = block_of p in let o : ℕ = count_of p in ((λ ns. ((λ _. tt), (words_keyless b o ns, slots_keyless t b z.own d.table (first R d) o z.names ns))), back_keyless b o (len R d))
+  stands_keyless d t p z = let b : ℕ = block_of p in let o : ℕ = count_of p in ((λ ns. ((λ _. tt), (words_keyless (len R d) b o ns, slots_keyless t b z.own d.table (first R d) o z.names ns))), back_keyless b o (len R d))
 
   beside_keyless : (d : WordView) (t : Turn) (p : Ptr) → Keyless (beside_pointer R d t p)
   beside_keyless d t null_ptr = ((λ _. tt), ((tt, tt), unborn_keyless d.table t (len R d) (first R d)))
@@ -96,7 +96,7 @@ module _ (R : RattleType) (s : IsSend R) where
   slots_rest_keyless (suc n) i b o ns = ((λ z. ((λ _. tt), rests_keyless z.1 b (value_in R o i) z.0)), slots_rest_keyless n (suc i) b o ns)
 
   block_rests_keyless : (n b o : ℕ) → Keyless (block_rests R n b o)
-  block_rests_keyless n b o = ((λ ns. ((λ _. tt), (words_keyless b o ns, slots_rest_keyless n 0 b o ns))), back_keyless b o n)
+  block_rests_keyless n b o = ((λ ns. ((λ _. tt), (words_keyless n b o ns, slots_rest_keyless n 0 b o ns))), back_keyless b o n)
 
   pub at_rest_keyless : (d : WordView) (p : Ptr) → Keyless (at_rest R d p)
   at_rest_keyless d null_ptr = λ _. tt

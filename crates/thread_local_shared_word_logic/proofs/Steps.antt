@@ -14,7 +14,7 @@ use Rattle.thread_local_atomic_word.proofs.Opened as word_opened
 use Rattle.thread_local_bits.specs.Bits.{is_set, IsWordBut}
 use Rattle.thread_local_bits.proofs.Word.{same_bit}
 use Rattle.thread_local_chunks.specs.Slots.{word_at, value_in}
-use Rattle.thread_local_shared_word_logic.specs.Shared.{name_at, WordView, Turn, Standing, Who, mark, age, value_of, shared_slot_as, shared_slot, first, invariant, stays, had, holds}
+use Rattle.thread_local_shared_word_logic.specs.Shared.{name_at, WordView, Turn, Standing, Who, mark, age, value_of, shared_slot_as, shared_slot, len, first, invariant, stays, had, holds}
 use Rattle.thread_local_shared_word_logic.proofs.Inside as inside
 use Rattle.thread_local_shared_word_logic.proofs.Inside.{Next, quietly, slot_in}
 
@@ -99,8 +99,8 @@ module _ {M : Type 1} {𝓤 : Ura M} (𝓛 : Logic 𝓤) (R : RattleType) (d : W
     Turned n v z = guard 𝓤 ((f n < 2 ^ 64) × IsWordBut (f n) n (i % 64) (is_some z.0)) (⟦ Stays z.0 ⟧ ∗ ⟦ Had z.0 z.1 ⟧ ∗ ⟦ after n ⟧)
 
     pub stepped : (X : Fml) → ((n : ℕ) → n < 2 ^ 64 → (v : Option R.Denot) (w : Who) → is_set n (i % 64) ≡ is_some v → ⟦ Stays v ⟧ ∗ ⟦ Had v w ⟧ ∗ ⟦ X ⟧ ⊢ ex 𝓤 (Turned n v))
-        → A.inv (fbor t.life I) ∗ (A.lft t.life q ∗ (⟦ Which ⟧ ∗ ⟦ X ⟧)) ⊢ asks 𝓛 (block_ptr b (word_at R (count_of s.at) (i / 64) + 0)) f always (λ n. fsep (flft t.life q) (after n))
-    stepped X law = let o : ℕ = word_at R (count_of s.at) (i / 64) + 0 in let L : ℕ → Pr = Lies 𝓛 t.life q I b o f after in word_opened.opened 𝓛 t.life q I b o f after (⟦ Which ⟧ ∗ ⟦ X ⟧) (qed 𝓛 (‵ I ∷ (‵ Which ⊛ ‵ X) ∷ []) ∵ suffices ! _ (upd_i 𝓤 (ex 𝓤 L)) $
+        → A.inv (fbor t.life I) ∗ (A.lft t.life q ∗ (⟦ Which ⟧ ∗ ⟦ X ⟧)) ⊢ asks 𝓛 (block_ptr b (word_at R (len R d) (count_of s.at) (i / 64))) f always (λ n. fsep (flft t.life q) (after n))
+    stepped X law = let o : ℕ = word_at R (len R d) (count_of s.at) (i / 64) in let L : ℕ → Pr = Lies 𝓛 t.life q I b o f after in word_opened.opened 𝓛 t.life q I b o f after (⟦ Which ⟧ ∗ ⟦ X ⟧) (qed 𝓛 (‵ I ∷ (‵ Which ⊛ ‵ X) ∷ []) ∵ suffices ! _ (upd_i 𝓤 (ex 𝓤 L)) $
         move ! (1 ∷ []) $ split ! $ move ! (2 ∷ 0 ∷ []) $
         use2 𝓛 (some (λ (n : ℕ). given (n < 2 ^ 64) (‵ (Flags n) ⊛ ‵ (Slot (is_set n (i % 64))) ⊛ raw (all 𝓤 (Back n))))) (slot_in 𝓛 R d t wb wo s i k e b low at_k at_e at_b) $ pick ! (λ n. learn ! (λ fits. split3 ! $
         show ! L n $ frame ! $ assume ! (‵ (Flags (f n))) $ suffices ! _ (upd_i 𝓤 (⟦ I ⟧ ∗ ⟦ after n ⟧)) $

@@ -26,7 +26,7 @@
 --     right_owns γ k      the one token at the key k under the name γ; under a table's name it is the right to the id k
 --     each F xs i         F of each of these and its number, from i on
 --     value_in R o i      where the value of the slot i lies in the block at o
---     flags_at R b o n c  the word n as the flags of the chunk c
+--     flags_at R n b o w c  the word w as the flags of the chunk c, in a block of n slots
 --     is_set_in ns i      the flag of the slot i in these words
 --     place R v b e       the value v at b and e, or the room for one
 --     back R b o n        the way back: the words and the slots of a block of n slots, given back as room, make its room
@@ -176,7 +176,7 @@ module _ (R : RattleType) where
 
   -- words of flags, and n slots whose flags they are
   abbrev pub slots_under : ℕ → ℕ → ℕ → (List ℕ → Fml) → List ℕ → Fml
-  slots_under n b o slots ns = fsep (fact (AreFlagWords n ns)) (fsep (each (flags_at R b o) ns 0) (slots ns))
+  slots_under n b o slots ns = fsep (fact (AreFlagWords n ns)) (fsep (each (flags_at R n b o) ns 0) (slots ns))
 
   -- while there is no block for a slot: the right of a claim that came early and took the pass, or else the pass
   abbrev pub waiting : Bool → GName → GName → ℕ → Fml

@@ -1,8 +1,9 @@
 -- The contents that words lead to, as one of them changes.
-use Rattle.std.proofs.Common.{◌≡◌, ℕ, zero, suc, ◌<◌, List, [], ◌∷◌, map, length, replicate, set, refl, sym, ap, ◌∙◌, arith, Option, Some}
+use Rattle.std.proofs.Common.{◌≡◌, ℕ, zero, suc, ◌^◌, ◌<◌, subst, List, [], ◌∷◌, map, length, replicate, set, refl, sym, ap, ◌∙◌, arith, Option, Some}
 use Rattle.std.specs.Prelude.{slice_index_or}
 use Rattle.std.proofs.lemmas.List.{map-set}
-use Rattle.thread_local_model.specs.Buckets.{Contents, row, no_contents}
+use Rattle.thread_local_model.specs.Buckets.{Contents, row, no_contents, IsTable}
+use Rattle.thread_local_contents.proofs.RowLaws.{row_whole}
 use Rattle.thread_local_model.specs.Rows.{with_row, with_slot}
 use Rattle.thread_local_words.specs.declared.word.Word.{Word}
 use Rattle.thread_local_words.specs.declared.row_of_words.RowOfWords.{RowOfWords}
@@ -21,6 +22,11 @@ module _ {X : Type 0} where
   -- a bucket's row is the slots of its word
   pub row_of_word : (s : RowOfWords X) (b : ℕ) → row (contents_of s) b ≡ slots_of (slice_index_or s.words b null_word)
   row_of_word s b = slots_at s.words b
+
+  -- a bucket's word leads to a block of the bucket's size, where the bucket has a slot
+  pub size_of_word : (s : RowOfWords X) (v : Contents X) (b i size : ℕ) (w : Word X) → contents_of s ≡ v → IsTable (contents_of s) → w ≡ slice_index_or s.words b null_word → i < length (row v b) → size ≡ 2 ^ b → size ≡ length w.slots
+  size_of_word s v b i size w seen t is near all =
+      all ∙ sym (row_whole (contents_of s) b i t (subst (λ (z : Contents X). i < length (row z b)) (sym seen) near)) ∙ ap length (row_of_word s b) ∙ sym (ap (λ (u : Word X). length u.slots) is)
 
   pub row_changes : (s : RowOfWords X) (b : ℕ) (w : Word X) (cs : List (Option X)) → w.slots ≡ cs → contents_of (with_word s b w) ≡ with_row (contents_of s) b cs
   row_changes s b w cs e = ap as_contents (map-set slots_of s.words b w ∙ ap (λ (ds : List (Option X)). set (map slots_of s.words) b ds) e)

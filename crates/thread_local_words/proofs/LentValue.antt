@@ -23,12 +23,12 @@ module _ (R : RattleType) {M : Type 1} {𝓤 : Ura M} (𝓛 : Logic 𝓤) (h : (
 
   -- all but the value, whose flag stays set
   abbrev pub Rest : SProp 𝓤
-  Rest = sep 𝓤 (sem 𝓛 (flags_of R p n (j / 64))) (sep 𝓤 (Again R 𝓛 p h.slots j n) (sep 𝓤 (sem 𝓛 ((Words R).own_val (p, tt) us)) (sem 𝓛 (cell_at full_share Wd.mir us b' o'))))
+  Rest = sep 𝓤 (sem 𝓛 (flags_of R (length h.slots) p n (j / 64))) (sep 𝓤 (Again R 𝓛 p h.slots j n) (sep 𝓤 (sem 𝓛 ((Words R).own_val (p, tt) us)) (sem 𝓛 (cell_at full_share Wd.mir us b' o'))))
 
   pub back : (w : R.Denot) → ent 𝓤 (sep 𝓤 (sem 𝓛 (part_at R full_share w (block_of p) at)) Rest) (sem 𝓛 (part_at Wd full_share (with_slot_value h j w) b' o'))
   unfolding part_of
   back w = let x : Change R.Denot j n = record { new = n; value = Some w; fits = fits; but = same_bit n (j % 64) true published } in
-      qed 𝓛 (‵ (part_at R full_share w (block_of p) at) ∷ (‵ (flags_of R p n (j / 64)) ⊛ raw (Again R 𝓛 p h.slots j n) ⊛ ‵ ((Words R).own_val (p, tt) us) ⊛ ‵ (cell_at full_share Wd.mir us b' o')) ∷ []) ∵
+      qed 𝓛 (‵ (part_at R full_share w (block_of p) at) ∷ (‵ (flags_of R (length h.slots) p n (j / 64)) ⊛ raw (Again R 𝓛 p h.slots j n) ⊛ ‵ ((Words R).own_val (p, tt) us) ⊛ ‵ (cell_at full_share Wd.mir us b' o')) ∷ []) ∵
       move ! (1 ∷ []) $ split ! $ move ! (1 ∷ []) $ split ! $ move ! (2 ∷ 3 ∷ 0 ∷ []) $
       -- [the chunk's word; the value; the way back; the word's field and its cell]
       use3 𝓛 (‵ (word_owns R heap_token p (set h.slots j (Some w)))) (word_again R 𝓛 p h.slots j n x near) $ move ! (1 ∷ []) $ split ! $ move ! (0 ∷ 2 ∷ []) $ fjoin ! $ move ! (1 ∷ 0 ∷ []) $ fjoin ! $

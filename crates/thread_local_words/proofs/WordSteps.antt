@@ -28,17 +28,11 @@ word_good null_ptr = (tt, (record { fits = lit< tt }, tt))
 pub chunk_first : (j n : ℕ) → j < n → j / 64 * 64 < n
 chunk_first j n near = omega arith
 
-pub chunk_fits : (j : ℕ) → j < 2 ^ 64 → j / 64 < 2 ^ 64
-chunk_fits j fits = omega arith
-
 pub place_below : (j : ℕ) → j % 64 < 64
 place_below j = omega arith
 
 pub place_fits : (j : ℕ) → j % 64 < 2 ^ 64
 place_fits j = omega arith
-
-pub small_fits : (n : ℕ) → n < 2 ^ 63 → n < 2 ^ 64
-small_fits n small = omega arith
 
 -- a word that is shifted is a word
 pub shifted_right : (word places : ℕ) → word < 2 ^ 64 → word / 2 ^ places < 2 ^ 64
@@ -102,22 +96,22 @@ module _ (R : RattleType) where
     Again p cs j word = all 𝓤 (Back 𝓛 R heap_token p cs j word)
 
     pub word_slot : (p : Ptr) (cs : List C) (j : ℕ) → j < length cs
-        → ⟦ W p cs ⟧ ⊢ ex 𝓤 (λ (word : ℕ). guard 𝓤 (IsSlotIn R p cs j word) (⟦ flags_of R p word (j / 64) ⟧ ∗ ⟦ slot_of R p (slot_at cs j) j ⟧ ∗ Again p cs j word))
+        → ⟦ W p cs ⟧ ⊢ ex 𝓤 (λ (word : ℕ). guard 𝓤 (IsSlotIn R p cs j word) (⟦ flags_of R (length cs) p word (j / 64) ⟧ ∗ ⟦ slot_of R p (slot_at cs j) j ⟧ ∗ Again p cs j word))
     word_slot p cs j near = via 𝓤 _ (to_block p cs (omega arith)) (slot_out 𝓛 R heap_token p cs j near)
 
     pub word_again : (p : Ptr) (cs : List C) (j word : ℕ) (x : Change R.Denot j word) → j < length cs
-        → ⟦ flags_of R p x.new (j / 64) ⟧ ∗ ⟦ slot_of R p x.value j ⟧ ∗ Again p cs j word ⊢ ⟦ W p (set cs j x.value) ⟧
+        → ⟦ flags_of R (length cs) p x.new (j / 64) ⟧ ∗ ⟦ slot_of R p x.value j ⟧ ∗ Again p cs j word ⊢ ⟦ W p (set cs j x.value) ⟧
     word_again p cs j word x near = via 𝓤 _ (slot_back 𝓛 R heap_token p cs j word x) (to_word p (set cs j x.value) (let long = length-set cs j x.value in omega arith))
 
     -- a chunk's word of the block, which is read and given back
     abbrev pub Same : Ptr → List C → (c word : ℕ) → Pr
-    Same p cs c word = ⟦ flags_of R p word c ⟧ -∗ ⟦ W p cs ⟧
+    Same p cs c word = ⟦ flags_of R (length cs) p word c ⟧ -∗ ⟦ W p cs ⟧
 
-    pub word_chunk : (p : Ptr) (cs : List C) (c : ℕ) → c * 64 < length cs → ⟦ W p cs ⟧ ⊢ ex 𝓤 (λ (word : ℕ). guard 𝓤 (IsWordIn R p cs c word) (⟦ flags_of R p word c ⟧ ∗ Same p cs c word))
-    word_chunk p cs c near = let Out : ℕ → Pr = λ word. guard 𝓤 (IsWordIn R p cs c word) (⟦ flags_of R p word c ⟧ ∗ Same p cs c word) in
+    pub word_chunk : (p : Ptr) (cs : List C) (c : ℕ) → c * 64 < length cs → ⟦ W p cs ⟧ ⊢ ex 𝓤 (λ (word : ℕ). guard 𝓤 (IsWordIn R p cs c word) (⟦ flags_of R (length cs) p word c ⟧ ∗ Same p cs c word))
+    word_chunk p cs c near = let Out : ℕ → Pr = λ word. guard 𝓤 (IsWordIn R p cs c word) (⟦ flags_of R (length cs) p word c ⟧ ∗ Same p cs c word) in
         qed 𝓛 (‵ (W p cs) ∷ []) ∵ use1 𝓛 (‵ (B p cs)) (to_block p cs (omega arith)) $
-        use1 𝓛 (some (λ (word : ℕ). given (IsWordIn R p cs c word) (‵ (flags_of R p word c) ⊛ raw (⟦ flags_of R p word c ⟧ -∗ ⟦ B p cs ⟧)))) (word_out 𝓛 R heap_token p cs c near) $ pick ! (λ word. learn ! (λ so.
-        show ! Out word $ check ! so $ split ! $ frame ! $ assume ! (‵ (flags_of R p word c)) $ use2 𝓛 (‵ (B p cs)) (apply∗ 𝓤 ⟦ flags_of R p word c ⟧ ⟦ B p cs ⟧) $ by ! (to_word p cs (omega arith))))
+        use1 𝓛 (some (λ (word : ℕ). given (IsWordIn R p cs c word) (‵ (flags_of R (length cs) p word c) ⊛ raw (⟦ flags_of R (length cs) p word c ⟧ -∗ ⟦ B p cs ⟧)))) (word_out 𝓛 R heap_token p cs c near) $ pick ! (λ word. learn ! (λ so.
+        show ! Out word $ check ! so $ split ! $ frame ! $ assume ! (‵ (flags_of R (length cs) p word c)) $ use2 𝓛 (‵ (B p cs)) (apply∗ 𝓤 ⟦ flags_of R (length cs) p word c ⟧ ⟦ B p cs ⟧) $ by ! (to_word p cs (omega arith))))
 
     -- what a test against null says
     abbrev pub Tells : Ptr → List C → Type 0

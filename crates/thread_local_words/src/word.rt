@@ -3,14 +3,14 @@ ghost use Rattle.std.specs.Prelude.{◌≡◌, ◌⊎◌, ℕ, ◌+◌, ◌*◌,
 ghost use base.Stored.{coded_list};
 ghost use Rattle.std.specs.Coded.{coded_option};
 ghost use Rattle.thread_local_bits.specs.Bits.{is_set};
-ghost use Rattle.thread_local_chunks.specs.Slots.{heap_token, slot_at, empty_slots};
+ghost use Rattle.thread_local_chunks.specs.Slots.{heap_token, slot_at, empty_slots, word_number};
 ghost use Rattle.thread_local_words.specs.Leads.{word_owns};
 
 use std::alloc::Global;
 use std::marker::{Model, PhantomData};
 use std::ptr::null_mut;
 use thread_local_blocks::{Block, Leaving};
-use thread_local_chunks::Chunk;
+use thread_local_chunks::{Chunk, flag_word};
 
 mod lends;
 
@@ -66,76 +66,80 @@ impl<T> Word<T> {
         }
     }
 
-    /// Whether a value lies in the slot.
+    /// Whether a value lies in the slot, whose flag is in the word of this number.
     #[inline]
-    pub fn is_published(&mut self, index: usize) -> bool
-        requires { index < length self.old.slots }
+    pub fn is_published(&mut self, index: usize, word: usize) -> bool
+        requires in_block { index < length self.old.slots }
+        requires word { word ≡ word_number T.row (length self.old.slots) (index / 64) }
         ensures value { result ≡ is_some (slot_at self.old.slots index) }
         ensures same { self.new ≡ self.old }
     {
         unsafe {
-            let chunk = self.at.add(index / 64);
-            ((*chunk).flags >> (index % 64)) & 1 == 1
+            let flags = *(self.at as *mut u64).add(word);
+            (flags >> (index % 64)) & 1 == 1
         }
     }
 
-    /// The flags of the slots of a chunk, a bit each. The bits behind the last slot are 0.
+    /// The flags of the slots of a chunk, a bit each, which are the word of this number. The bits behind the last slot are 0.
     #[inline]
-    pub fn flags(&mut self, chunk: usize) -> u64
-        requires { chunk * 64 < length self.old.slots }
+    pub fn flags(&mut self, chunk: usize, word: usize) -> u64
+        requires in_block { chunk * 64 < length self.old.slots }
+        requires word { word ≡ word_number T.row (length self.old.slots) chunk }
         ensures value { (bit : ℕ) → bit < 64 → is_set result bit ≡ is_some (slot_at self.old.slots (chunk * 64 + bit)) }
         ensures same { self.new ≡ self.old }
     {
-        unsafe {
-            let chunk = self.at.add(chunk);
-            (*chunk).flags
-        }
+        let _ = chunk;
+        unsafe { *(self.at as *mut u64).add(word) }
     }
 
-    /// Puts a value into an empty slot, and then sets its flag.
+    /// Puts a value into an empty slot, and then sets its flag, in the word of this number.
     #[inline]
-    pub fn publish(&mut self, index: usize, value: T)
+    pub fn publish(&mut self, index: usize, word: usize, value: T)
         requires in_block { index < length self.old.slots }
+        requires word { word ≡ word_number T.row (length self.old.slots) (index / 64) }
         requires empty { slot_at self.old.slots index ≡ None }
         ensures { self.new.slots ≡ slice_set self.old.slots index (Some value) }
     {
+        let at = self.at;
         unsafe {
-            let chunk = self.at.add(index / 64);
-            (&raw mut (*chunk).values as *mut T)
-                .add(index % 64)
-                .write(value);
-            (*chunk).flags |= 1 << (index % 64);
+            (at as *mut T).add(index).write(value);
+            let flags = (at as *mut u64).add(word);
+            *flags |= 1 << (index % 64);
         }
     }
 
-    /// Clears the flag of a slot, and then moves its value out.
+    /// Clears the flag of a slot, in the word of this number, and then moves its value out.
     #[inline]
-    pub fn take(&mut self, index: usize) -> T
+    pub fn take(&mut self, index: usize, word: usize) -> T
         requires in_block { index < length self.old.slots }
+        requires word { word ≡ word_number T.row (length self.old.slots) (index / 64) }
         requires published { IsSome (slot_at self.old.slots index) }
         ensures value { slot_at self.old.slots index ≡ Some result }
         ensures after { self.new.slots ≡ slice_set self.old.slots index None }
     {
+        let at = self.at;
         unsafe {
-            let chunk = self.at.add(index / 64);
-            (*chunk).flags &= !(1 << (index % 64));
-            (&raw mut (*chunk).values as *mut T).add(index % 64).read()
+            let flags = (at as *mut u64).add(word);
+            *flags &= !(1 << (index % 64));
+            (at as *mut T).add(index).read()
         }
     }
 
-    /// Leaves these flags in the slot's chunk, which are those that it has without the slot, and then moves the slot's value out.
+    /// Leaves these flags in the word of this number, which is the slot's, and then moves the slot's value out. They are those that the slot's
+    /// chunk has without it.
     #[inline]
-    pub fn take_leaving(&mut self, index: usize, flags: u64) -> T
+    pub fn take_leaving(&mut self, index: usize, word: usize, flags: u64) -> T
         requires in_block { index < length self.old.slots }
+        requires word { word ≡ word_number T.row (length self.old.slots) (index / 64) }
         requires published { IsSome (slot_at self.old.slots index) }
         requires leaving { (bit : ℕ) → bit < 64 → is_set flags bit ≡ is_some (slot_at (slice_set self.old.slots index None) (index / 64 * 64 + bit)) }
         ensures value { slot_at self.old.slots index ≡ Some result }
         ensures after { self.new.slots ≡ slice_set self.old.slots index None }
     {
+        let at = self.at;
         unsafe {
-            let chunk = self.at.add(index / 64);
-            (*chunk).flags = flags;
-            (&raw mut (*chunk).values as *mut T).add(index % 64).read()
+            (at as *mut u64).add(word).write(flags);
+            (at as *mut T).add(index).read()
         }
     }
 }
@@ -147,8 +151,9 @@ impl<T: Drop> Word<T> {
         ensures { self.new.slots ≡ empty_slots len }
     {
         'slots: for index in 0..len {
-            if self.is_published(index) {
-                drop(self.take(index));
+            let word = flag_word::<T>(len, index / 64);
+            if self.is_published(index, word) {
+                drop(self.take(index, word));
             }
         }
     }
@@ -163,7 +168,7 @@ impl<T: Drop> Word<T> {
         }
         let mut leaving = Leaving::of(self.lift(alloc), 0);
         'slots: for index in 0..len {
-            leaving.drop_next(index);
+            leaving.drop_next(index, len);
         }
         leaving.free(alloc, len);
     }

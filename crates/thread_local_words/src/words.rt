@@ -9,6 +9,7 @@ use crate::row_of_words::RowOfWords;
 use std::alloc::{AllocError, Global};
 use std::marker::Model;
 use thread_local_blocks::Block;
+use thread_local_chunks::flag_word;
 use thread_local_contents::Places;
 use thread_local_thread_id::{Thread, bucket_size};
 
@@ -86,7 +87,8 @@ impl<T> Words<T> {
         ensures table { IsTable self.old }
         ensures same { self.new ≡ self.old }
     {
-        self.words.word_mut(bucket).is_published(index)
+        let word = flag_word::<T>(bucket_size(bucket), index / 64);
+        self.words.word_mut(bucket).is_published(index, word)
     }
 
     /// The flags of the slots of a chunk, a bit each, and 0 behind the last slot.
@@ -98,7 +100,8 @@ impl<T> Words<T> {
         ensures table { IsTable self.old }
         ensures same { self.new ≡ self.old }
     {
-        self.words.word_mut(bucket).flags(chunk)
+        let word = flag_word::<T>(bucket_size(bucket), chunk);
+        self.words.word_mut(bucket).flags(chunk, word)
     }
 
     /// Publishes a value in the slot of a place, which is empty.
@@ -108,21 +111,10 @@ impl<T> Words<T> {
         requires empty { value_in self.old thread.bucket thread.index ≡ None }
         ensures after { self.new ≡ with_slot self.old thread.bucket thread.index (Some value) }
     {
+        let word = flag_word::<T>(bucket_size(thread.bucket), thread.index / 64);
         self.words
             .word_mut(thread.bucket)
-            .publish(thread.index, value);
-    }
-
-    /// Takes the value out of a slot.
-    #[inline]
-    pub fn take(&mut self, bucket: usize, index: usize) -> T
-        requires in_table { bucket < 63 }
-        requires in_bucket { index < length (row self.old bucket) }
-        requires published { IsSome (value_in self.old bucket index) }
-        ensures value { value_in self.old bucket index ≡ Some result }
-        ensures after { self.new ≡ with_slot self.old bucket index None }
-    {
-        self.words.word_mut(bucket).take(index)
+            .publish(thread.index, word, value);
     }
 
     /// Takes the value out of a slot, and leaves these flags in its chunk, which are those of its slots without the value.
@@ -135,7 +127,8 @@ impl<T> Words<T> {
         ensures value { value_in self.old bucket index ≡ Some result }
         ensures after { self.new ≡ with_slot self.old bucket index None }
     {
-        self.words.word_mut(bucket).take_leaving(index, flags)
+        let word = flag_word::<T>(bucket_size(bucket), index / 64);
+        self.words.word_mut(bucket).take_leaving(index, word, flags)
     }
 }
 
@@ -147,9 +140,8 @@ impl<T: Drop> Words<T> {
         ensures table { IsTable self.old }
     {
         let alloc = self.alloc;
-        self.words
-            .word_mut(bucket)
-            .release(bucket_size(bucket), &alloc);
+        let word = self.words.word_mut(bucket);
+        word.release(bucket_size(bucket), &alloc);
     }
 }
 

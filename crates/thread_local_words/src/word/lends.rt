@@ -18,9 +18,6 @@ impl<T> Word<T> {
             (with_slot_value self.old index)) }
         ensures value { slot_at self.old.slots index ≡ Some result.now }
     {
-        unsafe {
-            let chunk = self.at.add(index / 64);
-            &mut *(&raw mut (*chunk).values as *mut T).add(index % 64)
-        }
+        unsafe { &mut *(self.at as *mut T).add(index) }
     }
 }

@@ -1,16 +1,17 @@
 -- `move_next` reads the value of the next slot, which is room from then on, whatever its flag says.
-use Rattle.thread_local_chunks.proofs.Names.{lit<, ◌≡◌, ℕ, ◌+◌, ◌*◌, ◌^◌, ◌<◌, List, [], ◌∷◌, length, sym, refl, ap, ◌∙◌, subst, arith, w64, Option, Some, Ty, a_type, dcons, dnil, named, Val, vint, vptr, inst_fn, bare, full_share, SProp, emp, Fml, ftrue, fsep, froom, flft, lit, ‵, raw, ◌⊛◌, given, at_ret, ◌$◌, ◌∵◌, !, qed, by, move, keep, use0, use1, use2, split, join, fsplit, fsplit3, fjoin, fjoin3, learn, rewrite, feq_i, stop, fld, load, look_raw, addr, size_word, of_opd, bin, first, blocks, exec, returns, enter, alloc_all, pass_all, free_all, look_at, get, through, sets, sets_last, is, env, sub, look_in, whole, tables, fact, fact_i, yes, RattleType, owns, types_at, plain, Ptr, block_ptr, block_of, count_of, at_block, InBlock, nothing, heard, opens, closes, peeks, shows, param, layout, param_laws, bounded, usize, mut_vals, mut_Tells, uint_vals, uint_Tells, Stays, stay_dropped, stay_ref, walk_of, Goes-dropped, Goes-ref, cell_at, Member, proved, leaves, after, spread}
-use Rattle.std.specs.Prelude.{◌/◌, ◌%◌, IsSome}
+use Rattle.thread_local_chunks.proofs.Names.{◌≡◌, ℕ, ◌+◌, ◌*◌, ◌^◌, ◌<◌, List, [], ◌∷◌, length, sym, refl, ap, ◌∙◌, subst, w64, Option, Some, Ty, a_type, dcons, dnil, named, Val, vint, vptr, inst_fn, bare, full_share, SProp, emp, Fml, ftrue, fsep, froom, flft, ‵, raw, ◌⊛◌, given, at_ret, ◌$◌, ◌∵◌, !, qed, by, move, keep, use0, use1, use2, split, join, fsplit, fsplit3, fjoin, fjoin3, learn, rewrite, feq_i, stop, fld, load, look_raw, size_word, of_opd, bin, first, blocks, exec, returns, enter, alloc_all, pass_all, free_all, look_at, get, through, sets, sets_last, is, env, sub, look_in, whole, tables, fact, fact_i, yes, RattleType, owns, types_at, plain, Ptr, block_ptr, block_of, count_of, at_block, InBlock, nothing, heard, opens, closes, peeks, shows, param, layout, param_laws, bounded, usize, mut_vals, mut_Tells, uint_vals, uint_Tells, Stays, stay_dropped, stay_ref, walk_of, Goes-dropped, Goes-ref, cell_at, Member, proved, leaves, after, spread}
+use Rattle.std.specs.Prelude.{IsSome}
 use base.Logic.{apply∗}
 use types.Logic.{sem}
-use Rattle.thread_local_chunks.specs.Slots.{slot_at, chunk_size, stride, word_at, value_at, place, slot}
+use Rattle.thread_local_chunks.specs.Slots.{slot_at, stride, value_in, place, slot}
+use Rattle.thread_local_chunks.proofs.Flags.{uncapped}
+use Rattle.thread_local_chunks.proofs.Slots.{value_of}
 use Rattle.thread_local_blocks.specs.Vacated.{leaving_owns, rest}
 use Rattle.thread_local_blocks.specs.contracts.leaving.Leaving as leaving
 use Rattle.thread_local_blocks.specs.contracts.leaving.Leaving.move_next.{ended, clauses}
 use Rattle.thread_local_blocks.specs.contracts.leaving.Leaving.move_next.Key.{name as #self}
-use Rattle.thread_local_blocks.proofs.Fields.{block_val, uncapped}
-use Rattle.thread_local_blocks.proofs.Rounding.{quotient_fits, rest_fits}
-use Rattle.thread_local_blocks.proofs.Vacated.{told, value_of, Emptied, next_slot}
+use Rattle.thread_local_blocks.proofs.Fields.{block_val}
+use Rattle.thread_local_blocks.proofs.Vacated.{told, Emptied, next_slot}
 use Rattle.thread_local_blocks.proofs.leaving.Leaving.move_next.Statement.{statement}
 use Rattle.thread_local_blocks.proofs.leaving.Leaving.move_next.Code as code
 
@@ -23,24 +24,20 @@ move_next_spec 𝓤 𝓛 𝓜 𝓡 wired T Al L _ ga da dd _ _ =
     (λ κs. (mut_vals, (uint_vals w64, tt))) (λ κs. (mut_Tells (named 0) κs.0 Lv, (uint_Tells w64, tt))) (λ κs qs bounds a gh are.
     let y : (walk_of 𝓛 En hs c).Ghost = ((κs, qs, bounds, a, (vptr a.0.ref_ptr.0 a.0.ref_ptr.1 ∷ [], (vint w64 a.1.0 ∷ [], tt))), gh) in let Post : Val → SProp 𝓤 = (walk_of 𝓛 En hs c).post y in
     let b' : ℕ = a.0.ref_ptr.0 in let o' : ℕ = a.0.ref_ptr.1 in let h : Lv.Denot = a.0.now in let token : Ty → Ptr → Fml = ga.dealloc_token h.heap in let p : Ptr = h.at in let cs : List (Option T.Denot) = h.slots in let j : ℕ = a.1.0 in
-    let b : ℕ = block_of p in let i : ℕ = j / 64 in let l' : ℕ = j % 64 in let e : ℕ = word_at R (count_of p) i in let s : Option T.Denot = slot_at cs 0 in let Asked : Type 0 = (j ≡ h.gone) × (0 < length cs) in let others : Fml = fsep (flft κs.1.0 qs.1.0) (fsep (flft κs.1.1.0 qs.1.1.0) ftrue) in
-    let at : ℕ = value_at R e l' in let LR = (param_laws 0 T L).lawful 𝓛 in let m : Member = record { row = R; ty = layout T } in
+    let b : ℕ = block_of p in let s : Option T.Denot = slot_at cs 0 in let Asked : Type 0 = (j ≡ h.gone) × (0 < length cs) in let others : Fml = fsep (flft κs.1.0 qs.1.0) (fsep (flft κs.1.1.0 qs.1.1.0) ftrue) in
+    let at : ℕ = value_in R (count_of p) j in let LR = (param_laws 0 T L).lawful 𝓛 in let m : Member = record { row = R; ty = layout T } in
     qed 𝓛 (((‵ (flft κs.0 qs.0) ⊛ ‵ others) ⊛ ‵ (owns (types_at En.signature.params κs) a y.0.4)) ∷ raw (fact 𝓤 _) ∷ raw (fact 𝓤 _) ∷ raw (fact 𝓤 Asked) ∷ raw (fact 𝓤 (IsSome s)) ∷ []) ∵
     keep ! (3 ∷ 4 ∷ 0 ∷ []) $ heard ! Asked (λ asked. heard ! (IsSome s) (λ full. let near : 0 < length cs = asked.1 in let x : T.Denot = (value_of s full).0 in let lies : s ≡ Some x = (value_of s full).1 in
     split ! $ split ! $ move ! (2 ∷ []) $ fsplit ! $ fsplit3 ! $ keep ! (1 ∷ 2 ∷ 4 ∷ 5 ∷ []) $
     enter ! 𝓣.C 𝓣.Λ fn (vptr b' o' ∷ vint w64 j ∷ []) Post $ alloc_all ! (λ l. pass_all ! refl ((tt, tt), ((tt, record { fits = are.1.0.1 }), tt)) $ let Ev = env fn.locals l in
     opens ! tt Lv b' o' (λ us. move ! (1 ∷ []) $ peeks ! Lv _ (shows 𝓛 Lv) h us (λ known. fsplit ! $ move ! (1 ∷ []) $ rewrite ! 0 (λ (m : ℕ). ‵ (leaving_owns R token p m cs)) (sym asked.0) refl $
-    use1 𝓛 (given (InBlock p × (i * chunk_size R < 2 ^ 63) × (l' * stride R < 2 ^ 63)) (‵ (slot R b (count_of p) s j) ⊛ raw (Emptied 𝓛 R token p j cs))) (next_slot 𝓛 R token p j cs near) $ learn ! (λ so. split ! $
-    let small : i * chunk_size R < 2 ^ 64 = (let z = so.1 in omega arith) in let tiny : l' * stride R < 2 ^ 64 = (let z = so.2 in omega arith) in
+    use1 𝓛 (given (InBlock p × (j * stride R < 2 ^ 64)) (‵ (slot R b (count_of p) s j) ⊛ raw (Emptied 𝓛 R token p j cs))) (next_slot 𝓛 R token p j cs near) $ learn ! (λ so. split ! $
+    let small : j * stride R < 2 ^ 64 = so.1 in
     let seen : us ≡ block_val (block_ptr b (count_of p)) ∷ [] = told R Z ga p us known.0 ∙ ap (λ (u : Ptr). block_val u ∷ []) (at_block p so.0) in
     let Cell = λ (ws : List Val). ‵ (cell_at full_share Lv.mir ws b' o') in rewrite ! 3 Cell seen refl $ rewrite ! 0 (λ (u : Option T.Denot). ‵ (place R u b at)) lies refl $ spread m ! LR x b at (λ v good.
     -- [the value's cell; what it owns; the way back; the block's fields; their cell; the open borrow]
     first ! $ blocks ! $ sets ! (of_opd ! (load ! (through ! refl (fld ! refl (stop !))) (look_in ! 4 (sub ! 0 refl (whole !))))) refl (tt, tt) $
-    sets ! (bin ! (get ! refl) (lit ! tt) (lit< tt)) refl (tt, record { fits = quotient_fits j are.1.0.1 }) $
-    sets ! (is ! (bin ! (get ! refl) (size_word !) (record { fits = subst (λ (k : ℕ). k < 2 ^ 64) (sym (uncapped i (chunk_size R) small)) small })) (ap (vint w64) (uncapped i (chunk_size R) small))) refl (tt, record { fits = small }) $
-    sets ! (bin ! (get ! refl) (get ! refl) tt) refl (tt, tt) $ sets ! (addr ! (through ! refl (fld ! refl (stop !)))) refl (tt, tt) $
-    sets ! (bin ! (get ! refl) (lit ! tt) (lit< tt)) refl (tt, record { fits = rest_fits j }) $
-    sets ! (is ! (bin ! (get ! refl) (size_word !) (record { fits = subst (λ (k : ℕ). k < 2 ^ 64) (sym (uncapped l' (stride R) tiny)) tiny })) (ap (vint w64) (uncapped l' (stride R) tiny))) refl (tt, record { fits = tiny }) $
+    sets ! (of_opd ! (get ! refl)) refl (tt, tt) $ sets ! (is ! (bin ! (get ! refl) (size_word !) (record { fits = subst (λ (k : ℕ). k < 2 ^ 64) (sym (uncapped j (stride R) small)) small })) (ap (vint w64) (uncapped j (stride R) small))) refl (tt, record { fits = small }) $
     sets ! (bin ! (get ! refl) (get ! refl) tt) refl (tt, tt) $
     sets_last ! (of_opd ! (load ! (through ! refl (stop !)) (look_raw ! 0 refl))) refl good $ exec ! 𝓣.C 𝓣.Λ Ev (after 1 fn.body) (at_ret Ev Post) $ sets ! (of_opd ! (get ! refl)) refl good $
     use1 𝓛 (‵ (froom (bare (layout T)) b at)) (𝓛.laws.at_room (bare (layout T)) b at v) $ move ! (0 ∷ 2 ∷ []) $

@@ -8,7 +8,7 @@ use Rattle.thread_local_blocks.specs.contracts.leaving.Leaving as leaving
 use Rattle.thread_local_blocks.specs.contracts.leaving.Leaving.of.{ended, clauses}
 use Rattle.thread_local_blocks.specs.contracts.leaving.Leaving.of.Key.{name as #self}
 use Rattle.thread_local_blocks.proofs.Fields as fields
-use Rattle.thread_local_blocks.proofs.Fields.{ptr_good}
+use Rattle.thread_local_chunks.proofs.Slots.{ptr_good}
 use Rattle.thread_local_blocks.proofs.Vacated.{Words, made, starts_at}
 use Rattle.thread_local_blocks.proofs.leaving.Leaving.of.Statement.{statement}
 use Rattle.thread_local_blocks.proofs.leaving.Leaving.of.Code as code

@@ -21,4 +21,4 @@ shares a T L = of_Lends (C.struct a T) (C.the_codes T.Denot T.coded (P.the_row (
     (copy_shared RawPtr-field RawPtr-copy, (copy_shared RawPtr-field RawPtr-copy, (copy_shared RawPtr-field RawPtr-copy, (copy_shared usize-field usize-copy, (copy_shared bool-field bool-copy, (copy_shared bool-field bool-copy, (copy_shared (P.the_field (ShrRef a.mir a.lft T)) (field_copy (P.the_type (ShrRef a.mir a.lft T)) tt), tt))))))) (λ M 𝓤 𝓛 d p.
     let l = (C.the_row a T).lives in let s = (ShrRef a.mir a.lft T).lives in
     lends_claim 𝓛 a.lft T L.shr_laws l (Incl-trans (meet_⊑_right (T.lives ++ []) (((s ++ []) ++ []) ++ [])) (Incl-trans (meet_⊑_left ((s ++ []) ++ []) []) (Incl-trans (meet_⊑_left (s ++ []) [])
-    (Incl-trans (meet_⊑_left s []) (meet_⊑_left a.lft T.lives))))) (Shares-less 𝓛 T T.lives l (Incl-trans (meet_⊑_left (T.lives ++ []) _) (meet_⊑_left T.lives [])) (L.shares 𝓛)) d.word d.table (place_of d.id d.index d.chunk d.value d.reserved) d.found d.published d.learnt)
+    (Incl-trans (meet_⊑_left s []) (meet_⊑_left a.lft T.lives))))) (Shares-less 𝓛 T T.lives l (Incl-trans (meet_⊑_left (T.lives ++ []) _) (meet_⊑_left T.lives [])) (L.shares 𝓛)) d.word d.table (place_of d.id d.index d.flag_word d.value d.reserved) d.found d.published d.learnt)

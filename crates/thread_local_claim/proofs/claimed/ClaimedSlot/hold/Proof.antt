@@ -44,13 +44,13 @@ hold_spec 𝓤 𝓛 𝓜 𝓡 wired X L =
     use1 𝓛 (later (some (λ (_ : Unit {0}). (‵ ftrue ⊛ ‵ (feq (List Val) (u ∷ []) (vunit ∷ []))) ⊛ some (λ (_ : Unit {0} × Unit {0}). ‵ (fsep ftrue ftrue) ⊛ ‵ (right_owns r.table r.id))))) (id⊢ 𝓤 (lays.post k u)) $
     await ! tt $ pick ! (λ _. split ! $ split ! $ drop ! $ feq_l ! (λ eu. pick ! (λ _. split ! $ drop ! $ lands_as ! (ap only eu) refl (tt, tt) $ rewrite ! 0 (λ (n : ℕ). ‵ (right_owns n r.id)) same refl $
     sets ! (addr ! (through ! refl (stop !))) refl (tt, tt) $ sets ! (agg ! (no_more !)) refl (tt, tt) $
-    let m : Kept = record { word = p; chunk = null_ptr; value = null_ptr; index = i; found = false; published = false } in let pl : Place = place_of r.id i null_ptr null_ptr d.reserved in let no : Learnt X.Denot = Unknown in
+    let m : Kept = record { word = p; flag_word = null_ptr; value = null_ptr; index = i; found = false; published = false } in let pl : Place = place_of r.id i null_ptr null_ptr d.reserved in let no : Learnt X.Denot = Unknown in
     sets ! (agg ! (and_then ! (get ! refl) (and_then ! (lit ! tt) (and_then ! (lit ! tt) (and_then ! (get ! refl) (and_then ! (false_lit !) (and_then ! (false_lit !) (and_then ! (get ! refl) (no_more !))))))))) refl (typed m are.1.0.1) $
     move ! (1 ∷ []) $ unhide ! $ fsplit ! $ fpick ! (λ j. drop ! $ fpick ! (λ t. fjoin ! $
     nothing ! $ fpack ! (IsOf R p r.table pl d) (λ _. ftrue) (tt, j, sym same, is_id ∙ omega arith, near, refl) $ fjoin ! $ fpack ! (WordView × Turn) (has_at R κ p r.table pl no) (d, t) $
     nothing ! $ fpack ! (IsKept R false false no) (λ _. ftrue) (refl, refl) $ fjoin ! $ use0 𝓛 (‵ ((Words ℓ R).own_val (fields_of ℓ R m) (value_of m ∷ []))) (made ℓ R 𝓛 m are.1.0.1) $ fjoin ! $
     move ! (1 ∷ 2 ∷ []) $ join ! $ move ! (1 ∷ []) $
-    let h : G.Denot = record { word = p; chunk = null_ptr; value = null_ptr; index = i; found = false; published = false; marker = record {}; table = r.table; id = r.id; reserved = d.reserved; learnt = no } in
+    let h : G.Denot = record { word = p; flag_word = null_ptr; value = null_ptr; index = i; found = false; published = false; marker = record {}; table = r.table; id = r.id; reserved = d.reserved; learnt = no } in
     use0 𝓛 (raw (fact 𝓤 (h.reserved ≡ d.reserved))) (fact_i 𝓤 (h.reserved ≡ d.reserved) (emp 𝓤) refl) $ use0 𝓛 (raw (fact 𝓤 (h.learnt ≡ Unknown))) (fact_i 𝓤 (h.learnt ≡ Unknown) (emp 𝓤) refl) $ join ! $
     use0 𝓛 (raw (fact 𝓤 ((h.table ≡ r.table) × (h.id ≡ r.id)))) (fact_i 𝓤 ((h.table ≡ r.table) × (h.id ≡ r.id)) (emp 𝓤) (refl, refl)) $ join ! $ nothing ! $ nothing ! $ fjoin ! $ nothing ! $ fjoin ! $ nothing ! $ fjoin ! $
     returns ! (look_at ! 0 refl) $ free_all ! refl $ keep ! (3 ∷ 0 ∷ 2 ∷ 1 ∷ []) $ by ! (leaves 𝓛 En hs c y (value_of m) h (tt, (tt, (tt, tt))) (tt, (tt, (tt, tt)))))))))))))))

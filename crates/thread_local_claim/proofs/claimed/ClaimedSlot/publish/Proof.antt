@@ -1,5 +1,5 @@
 -- `publish` writes the value into the slot's room, freezes it where it may be shared, and then sets the flag.
-use Rattle.thread_local_chunks.proofs.Names.{bin, ◌≡◌, ℕ, ◌+◌, ◌*◌, ◌^◌, List, [], ◌∷◌, ◌++◌, length, sym, refl, ap, subst, lit<, w64, Option, Some, None, true, a_type, bare, Val, vint, inst_fn, full_share, SProp, ent, wand, id⊢, emp, via, apply∗, Lft, Share, GName, Fml, ftrue, fsep, fat, froom, flft, fbor, fex, fobs, fauth, WpFn, ‵, raw, ◌⊛◌, given, some, later, mean, at_ret, ◌$◌, ◌∵◌, !, qed, by, move, keep, drop, use0, use1, use2, await, split, split3, join, pick, fsplit, fsplit3, fjoin, fjoin3, fpick, fpack, learn, group, suffices, rewrite, stop, fld, addr, lit, of_opd, no_more, and_then, first, blocks, exec, returns, enter, init, assigns_last, alloc_all, pass_all, free_all, look_at, get, get_in, through, sets, lands_last, is, env, agg, sub, whole, tables, fact, fact_i, no, RattleType, owns, types_at, plain, Ptr, block_ptr, block_of, count_of, nothing, heard, param, layout, param_laws, Stays, stay_dropped, walk_of, Goes-dropped, Member, proved_at, leaves, fm, after, one, gather}
+use Rattle.thread_local_chunks.proofs.Names.{bin, ◌≡◌, ℕ, ◌+◌, ◌*◌, ◌^◌, List, [], ◌∷◌, ◌++◌, length, sym, refl, ap, subst, lit<, w64, Option, Some, None, true, a_type, bare, Val, vint, inst_fn, full_share, SProp, ent, wand, id⊢, emp, via, apply∗, Lft, Share, GName, Fml, ftrue, fsep, fat, froom, flft, fbor, fex, fobs, fauth, WpFn, ‵, raw, ◌⊛◌, given, some, later, mean, at_ret, ◌$◌, ◌∵◌, !, qed, by, move, keep, drop, use0, use1, use2, await, split, split3, join, pick, fsplit, fsplit3, fjoin, fjoin3, fpick, fpack, learn, group, suffices, rewrite, stop, fld, lit, of_opd, no_more, and_then, first, blocks, exec, returns, enter, init, assigns_last, alloc_all, pass_all, free_all, look_at, get, get_in, through, sets, lands_last, is, env, agg, sub, whole, tables, fact, fact_i, no, RattleType, owns, types_at, plain, Ptr, block_ptr, block_of, count_of, nothing, heard, param, layout, param_laws, Stays, stay_dropped, walk_of, Goes-dropped, Member, proved_at, leaves, fm, after, one, gather}
 use Rattle.std.proofs.Common.{◌<◌, ◌/◌, ◌%◌}
 use Rattle.std.proofs.lemmas.Nat.{mod_below}
 use mir.Syntax.{dnil}
@@ -43,7 +43,7 @@ publish_spec 𝓤 𝓛 𝓜 𝓡 wired X L =
     proved_at 𝓛 En hs c 𝓜 𝓡 (Goes-dropped 𝓛 2 self no (λ κs x f. refl), (Goes-dropped 𝓛 2 value no (λ κs x f. refl), tt)) (#self inst) fn closed (λ y are.
     let κs = y.0.0 in let qs = y.0.1 in let a = y.0.3 in let vss = y.0.4 in let Post : Val → SProp 𝓤 = (walk_of 𝓛 En hs c).post y in
     let h = a.0 in let x : X.Denot = a.1.0 in let β : Lft = κs.0 in let q : Share = qs.0 in let υ : Lft = κs.1.0 in let r : Share = qs.1.0 in let others : Fml = fsep (flft υ r) ftrue in let ℓ = named_lft 2 0 tt κs in let G : RattleType = claim.the_row ℓ R in let u₀ : Val = value_of (kept_of h) in
-    let w : Ptr = h.word in let wb : ℕ = block_of w in let wo : ℕ = count_of w in let i : ℕ = h.index in let pl : Place = place_of h.id i h.chunk h.value h.reserved in
+    let w : Ptr = h.word in let wb : ℕ = block_of w in let wo : ℕ = count_of w in let i : ℕ = h.index in let pl : Place = place_of h.id i h.flag_word h.value h.reserved in
     let seen = told ℓ R (kept_of h) vss.0 are.0.0 in let fits : i < 2 ^ 64 = seen.1 in let m : Member = record { row = R; ty = layout X } in let got = one (layout X) vss.1.0 ((LR.lawful 𝓛).typed x vss.1.0 are.1.0) in let vx : Val = got.0 in
     let F₁ : G.Denot → Type 0 = λ g. (g.table ≡ h.table) × (g.id ≡ h.id) in let F₂ : G.Denot → Type 0 = λ g. g.learnt ≡ Holding x in let F₃ : G.Denot → Type 0 = λ g. g.reserved ≡ h.reserved in let Run : List Val → SProp 𝓤 = λ ws. WpFn 𝓤 H 𝓣.C 𝓣.Λ fn ws Post in
     qed 𝓛 (((‵ (flft β q) ⊛ ‵ others) ⊛ ‵ (owns (types_at En.signature.params κs) a vss)) ∷ raw (fact 𝓤 (Incl υ X.lives)) ∷ raw (fact 𝓤 (h.learnt ≡ Vacant)) ∷ []) ∵
@@ -54,7 +54,7 @@ publish_spec 𝓤 𝓛 𝓜 𝓡 wired X L =
     -- [the value; what the claim owns; the token; the other tokens]
     move ! (1 ∷ []) $ fsplit ! $ drop ! $ fpick ! (λ z. fsplit ! $ fpick ! (λ of. drop ! $ fsplit ! $ move ! (1 ∷ []) $ let d : WordView = z.0 in let t : Turn = z.1 in
     rewrite ! 0 (λ (k : Learnt X.Denot). ‵ (has R d t β pl k)) empty refl $ fpick ! (λ s. fsplit ! $ fpick ! (λ at. drop ! $ fsplit ! $ move ! (1 ∷ []) $ fsplit3 ! $
-    let pb : ℕ = block_of s.at in let k : ℕ = i / 64 in let j : ℕ = i % 64 in let at_chunk : ℕ = word_at R (count_of s.at) k in let e : ℕ = value_in R (count_of s.at) i in let η : GName = name_at s.names i in let life : Lft = age R t pb s.own in let V : Fml = place_of_value R pb e η in let J : Fml = fbor t.life (invariant R d t wb (wo + 0)) in let no : Option X.Denot = None in let new : Option X.Denot = Some x in
+    let pb : ℕ = block_of s.at in let k : ℕ = i / 64 in let j : ℕ = i % 64 in let at_word : ℕ = word_at R (len R d) (count_of s.at) k in let e : ℕ = value_in R (count_of s.at) i in let η : GName = name_at s.names i in let life : Lft = age R t pb s.own in let V : Fml = place_of_value R pb e η in let J : Fml = fbor t.life (invariant R d t wb (wo + 0)) in let no : Option X.Denot = None in let new : Option X.Denot = Some x in
     -- [vacant; the name; the borrow; the row; what is kept; the value; the token; the other tokens]
     move ! (3 ∷ []) $ fsplit ! $ fpick ! (λ sized. move ! (1 ∷ []) $ fsplit ! $ use1 𝓛 (‵ (fres t.which (mark s)) ⊛ ‵ (fres t.which (mark s))) (𝓛.names.res_dup t.which (mark s)) $ split ! $
     move ! (2 ∷ []) $ use1 𝓛 (‵ (before β life) ⊛ ‵ (before β life)) (before_dup 𝓛 β life) $ split ! $ move ! (2 ∷ 0 ∷ []) $ fjoin ! $ move ! (3 ∷ []) $ fpack ! ((length s.names ≡ len R d) × Sized R (len R d) s.at) (λ _. ftrue) sized $ move ! (0 ∷ 1 ∷ []) $ fjoin ! $
@@ -89,19 +89,19 @@ publish_spec 𝓤 𝓛 𝓜 𝓡 wired X L =
     move ! (2 ∷ 5 ∷ []) $ use2 𝓛 (later (some (λ (g' : Share). ‵ (flft t.life g') ⊛ raw (wand 𝓤 (𝓛.A.lft t.life g') (H.⇛ (𝓛.A.lft β q)))))) (Lends-one 𝓛 𝓜 𝓡 β t.life q) $ await ! tt $ pick ! (λ g'. split ! $
     let low = subst (λ (n : ℕ). i < n) (sym sized.0) of.4 in let out : Fml = fsep (flft t.life g') (right_owns t.filled h.id) in
     let flag : ℕ = steps.flag 𝓛 R d t wb (wo + 0) s i h.id e pb low of.3 refl refl in let flag_fits : flag < 2 ^ 64 = mod_below (1 * 2 ^ j) (2 ^ 64) (lit< tt) in let after_it : ℕ → Fml = λ _. out in
-    first ! $ blocks ! $ sets ! (addr ! (through ! refl (fld ! refl (stop !)))) refl (tt, tt) $ sets ! (bin ! (get ! refl) (lit ! tt) (lit< tt)) refl (tt, record { fits = bit_fits i }) $ sets ! (of_opd ! (get ! refl)) refl (tt, record { fits = bit_fits i }) $ sets ! (bin ! (lit ! tt) (get ! refl) (bit_within i)) refl (tt, record { fits = flag_fits }) $
+    first ! $ blocks ! $ sets ! (bin ! (get ! refl) (lit ! tt) (lit< tt)) refl (tt, record { fits = bit_fits i }) $ sets ! (of_opd ! (get ! refl)) refl (tt, record { fits = bit_fits i }) $ sets ! (bin ! (lit ! tt) (get ! refl) (bit_within i)) refl (tt, record { fits = flag_fits }) $
     sets ! (agg ! (and_then ! (lit ! tt) (no_more !))) refl seq_cst_good $ move ! (3 ∷ 0 ∷ 9 ∷ 4 ∷ []) $ group ! 4 $
-    use1 𝓛 (raw (𝓣.C _ (vptr pb (at_chunk + 0) ∷ vint w64 flag ∷ seq_cst ∷ []) (λ v. mean 𝓛 (found after_it v))))
-    (via 𝓤 _ (steps.publishes 𝓛 R d t wb (wo + 0) s i h.id e pb low of.3 refl refl g' x) (adds 𝓛 𝓜 𝓡 (code.calls-std::sync::atomic::raw::fetch_add 𝓡.env wired) (block_ptr pb (at_chunk + 0)) flag flag_fits after_it)) $
+    use1 𝓛 (raw (𝓣.C _ (vptr pb at_word ∷ vint w64 flag ∷ seq_cst ∷ []) (λ v. mean 𝓛 (found after_it v))))
+    (via 𝓤 _ (steps.publishes 𝓛 R d t wb (wo + 0) s i h.id e pb low of.3 refl refl g' x) (adds 𝓛 𝓜 𝓡 (code.calls-std::sync::atomic::raw::fetch_add 𝓡.env wired) (block_ptr pb at_word) flag flag_fits after_it)) $
     Calls-last ! (fm 𝓛 𝓜 𝓡) (found after_it) (and_then ! (get ! refl) (and_then ! (get ! refl) (and_then ! (get ! refl) (no_more !)))) (λ v. finds ! after_it (λ n nf. lands_last ! refl (tt, record { fits = nf }) $ exec ! 𝓣.C 𝓣.Λ Ev (after 6 fn.body) (at_ret Ev Post) $ fsplit ! $
     -- [the life's token; filled; the way back; what is kept; the other tokens; for the claim; what is known; the row]
     move ! (0 ∷ 2 ∷ []) $ use2 𝓛 (later (‵ (flft β q))) (apply∗ 𝓤 (𝓛.A.lft t.life g') (H.⇛ (𝓛.A.lft β q))) $ await ! tt $
-    let k : Kept = record { word = w; chunk = block_ptr pb at_chunk; value = block_ptr pb e; index = i; found = true; published = true } in let pl' : Place = place_of h.id i (block_ptr pb at_chunk) (block_ptr pb e) h.reserved in
+    let k : Kept = record { word = w; flag_word = block_ptr pb at_word; value = block_ptr pb e; index = i; found = true; published = true } in let pl' : Place = place_of h.id i (block_ptr pb at_word) (block_ptr pb e) h.reserved in
     sets ! (agg ! (no_more !)) refl (tt, tt) $
     sets ! (agg ! (and_then ! (get ! refl) (and_then ! (get ! refl) (and_then ! (get ! refl) (and_then ! (get ! refl) (and_then ! (true_lit !) (and_then ! (true_lit !) (and_then ! (get ! refl) (no_more !))))))))) refl (typed k fits) $
-    move ! (1 ∷ 5 ∷ 4 ∷ []) $ fjoin3 ! $ move ! (4 ∷ 0 ∷ []) $ fjoin ! $ nothing ! $ fpack ! (IsAt R s pl') (λ _. ftrue) (refl, refl) $ fjoin ! $ fpack ! Standing (has_slot R d t β pl' new) s $ move ! (2 ∷ 0 ∷ []) $ fjoin ! $
+    move ! (1 ∷ 5 ∷ 4 ∷ []) $ fjoin3 ! $ move ! (4 ∷ 0 ∷ []) $ fjoin ! $ nothing ! $ fpack ! (IsAt R (len R d) s pl') (λ _. ftrue) (refl, refl) $ fjoin ! $ fpack ! Standing (has_slot R d t β pl' new) s $ move ! (2 ∷ 0 ∷ []) $ fjoin ! $
     nothing ! $ fpack ! (IsOf R w h.table pl' d) (λ _. ftrue) (of.0, of.1, of.2, of.3, of.4, of.5) $ fjoin ! $ fpack ! (WordView × Turn) (has_at R β w h.table pl' (Holding x)) z $ nothing ! $ fpack ! (IsKept R true true (Holding x)) (λ _. ftrue) (refl, refl) $ fjoin ! $
     use0 𝓛 (‵ ((Words ℓ R).own_val (fields_of ℓ R k) (value_of k ∷ []))) (made ℓ R 𝓛 k fits) $ fjoin ! $ move ! (1 ∷ 2 ∷ []) $ join ! $ move ! (1 ∷ []) $
-    let made_claim : G.Denot = record { word = w; chunk = block_ptr pb at_chunk; value = block_ptr pb e; index = i; found = true; published = true; marker = record {}; table = h.table; id = h.id; reserved = h.reserved; learnt = Holding x } in
+    let made_claim : G.Denot = record { word = w; flag_word = block_ptr pb at_word; value = block_ptr pb e; index = i; found = true; published = true; marker = record {}; table = h.table; id = h.id; reserved = h.reserved; learnt = Holding x } in
     use0 𝓛 (raw (fact 𝓤 (F₃ made_claim))) (fact_i 𝓤 (F₃ made_claim) (emp 𝓤) refl) $ use0 𝓛 (raw (fact 𝓤 (F₂ made_claim))) (fact_i 𝓤 (F₂ made_claim) (emp 𝓤) refl) $ join ! $ use0 𝓛 (raw (fact 𝓤 (F₁ made_claim))) (fact_i 𝓤 (F₁ made_claim) (emp 𝓤) (refl, refl)) $ join ! $
     nothing ! $ nothing ! $ fjoin ! $ nothing ! $ fjoin ! $ returns ! (look_at ! 0 refl) $ free_all ! refl $ keep ! (3 ∷ 0 ∷ 2 ∷ 1 ∷ []) $ by ! (leaves 𝓛 En hs c y (value_of k) made_claim (tt, (tt, tt)) (tt, (tt, tt))))))))))))))))))

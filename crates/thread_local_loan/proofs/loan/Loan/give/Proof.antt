@@ -1,17 +1,15 @@
 -- `give` finds where a slot's value lies, and cuts it out of those that the loan has left.
-use Rattle.thread_local_chunks.proofs.Names.{drop, apply∗, sem, split3, Some, IsSome, pick, some, later, await, fobs, addr, MutBor, mem, is, size_word, length, None, cell, ◌≤◌, ◌≡◌, ℕ, ◌+◌, ◌*◌, ◌^◌, ◌<◌, List, [], ◌∷◌, sym, refl, ap, ◌∙◌, subst, arith, w64, a_type, named, Val, vint, vptr, inst_fn, full_share, SProp, emp, GName, Fml, ftrue, fsep, flft, fbor, ‵, raw, ◌⊛◌, at_ret, ◌$◌, ◌∵◌, !, qed, by, move, keep, use0, use1, use2, split, join, fsplit, fsplit3, fjoin, fjoin3, fpick, fpack, rewrite, feq_i, stop, fld, load, lit, of_opd, bin, first, blocks, exec, returns, enter, look, alloc_all, pass_all, free_all, look_at, get, through, sets, sets_last, env, sub, look_in, whole, bor_open, obor_close, tables, fact_i, yes, RattleType, owns, types_at, plain, named_lft, Ptr, block_ptr, block_of, count_of, at_block, InBlock, nothing, heard, opens, closes, peeks, Is, shows, cell_at, param, layouts, usize, mut_vals, mut_Tells, uint_vals, uint_Tells, Stays, stay_dropped, stay_ref, walk_of, Goes-dropped, Goes-ref, proved, leaves, lit<}
+use Rattle.thread_local_chunks.proofs.Names.{drop, apply∗, sem, split3, Some, IsSome, pick, some, later, await, fobs, addr, MutBor, mem, is, size_word, length, None, cell, ◌≤◌, ◌≡◌, ℕ, ◌+◌, ◌*◌, ◌^◌, ◌<◌, List, [], ◌∷◌, sym, refl, ap, ◌∙◌, subst, arith, w64, a_type, named, Val, vint, vptr, inst_fn, full_share, SProp, emp, GName, Fml, ftrue, fsep, flft, fbor, ‵, raw, ◌⊛◌, at_ret, ◌$◌, ◌∵◌, !, qed, by, move, keep, use0, use1, use2, split, join, fsplit, fsplit3, fjoin, fjoin3, fpick, fpack, rewrite, feq_i, stop, fld, load, lit, of_opd, bin, first, blocks, exec, returns, enter, look, alloc_all, pass_all, free_all, look_at, get, through, sets, sets_last, env, sub, look_in, whole, bor_open, obor_close, tables, fact_i, yes, RattleType, owns, types_at, plain, named_lft, Ptr, block_ptr, block_of, count_of, at_block, InBlock, nothing, heard, opens, closes, peeks, Is, shows, cell_at, param, layouts, usize, mut_vals, mut_Tells, uint_vals, uint_Tells, Stays, stay_dropped, stay_ref, walk_of, Goes-dropped, Goes-ref, proved, leaves}
 use types.SemTy.{Body}
 use contract.Monad.{fact}
-use Rattle.std.specs.Prelude.{◌/◌, ◌%◌}
 use denote.Follow.{both_by}
 use types.Follow.{after₂}
 use Rattle.std.proofs.alloc.Shapes.{after}
 use Rattle.thread_local_model.specs.Buckets.{Contents, row}
 use Rattle.thread_local_model.specs.Place.{id_at}
 use Rattle.thread_local_model.specs.Rows.{value_in, with_slot}
-use Rattle.thread_local_chunks.specs.Slots.{stride, chunk_size, value_in as place_of}
-use Rattle.thread_local_chunks.proofs.Flags.{chunk_near, value_near}
-use Rattle.thread_local_blocks.proofs.Fields.{uncapped}
+use Rattle.thread_local_chunks.specs.Slots.{stride, value_in as place_of}
+use Rattle.thread_local_chunks.proofs.Flags.{uncapped, value_near}
 use Rattle.thread_local_loan.specs.Lent.{Lending, lending, framed, frames, Leads, IsLeft, Values, lent_values, shape}
 use Rattle.thread_local_loan.specs.contracts.loan.Loan as loan
 use Rattle.thread_local_loan.specs.contracts.loan.Loan.give.{ended, clauses}
@@ -49,21 +47,14 @@ give_spec 𝓤 𝓛 𝓜 𝓡 wired X L =
     move ! (7 ∷ []) $ fsplit ! $ move ! (2 ∷ 0 ∷ []) $ bor_open ! tt $ move ! (1 ∷ []) $
     use1 𝓛 (‵ (framed R wb e p r) ⊛ raw (Frame 𝓛 R wb wo s.0 rs k e)) (frame_out 𝓛 R wb s.0 rs k wo e refl (subst (λ n. k < n) (sym so.1.rows) small)) $ split ! $ fsplit3 ! $ move ! (1 ∷ []) $ fpick ! (λ lead. drop ! $
     let leads = leads_in R p r lead (omega arith) in let place : p ≡ block_ptr sb (count_of p) = at_block p leads.0 in let low : k * 8 < 2 ^ 64 = omega arith in let n : ℕ = length r in
-    let chunk_below : i / 64 * chunk_size R < 2 ^ 63 = chunk_near R n i leads.1 near in let chunk_fits : i / 64 * chunk_size R < 2 ^ 64 = omega arith in
-    let value_below : i % 64 * stride R < 2 ^ 63 = value_near R n i leads.1 near in let value_fits : i % 64 * stride R < 2 ^ 64 = omega arith in
-    let quotient : i / 64 < 2 ^ 64 = omega arith in let rest : i % 64 < 2 ^ 64 = omega arith in
+    let value_fits : i * stride R < 2 ^ 64 = value_near R n i leads.1 near in
     -- [the word; the flags; the way back; the open frames; a token; the values; the fields; the loan's cell; its open borrow, in three entries]
     rewrite ! 7 (λ (ws : List Val). ‵ (cell_at full_share Lo.mir ws b o)) ev refl $ rewrite ! 0 (λ (q : Ptr). ‵ (cell wb e q)) place refl $
     first ! $ blocks ! $ sets ! (of_opd ! (load ! (through ! refl (fld ! refl (stop !))) (look_in ! 7 (sub ! 0 refl (whole !))))) refl (tt, tt) $
     sets ! (bin ! (get ! refl) (lit ! tt) (record { fits = low })) refl (tt, record { fits = low }) $
     sets ! (bin ! (get ! refl) (get ! refl) tt) refl (tt, tt) $
     sets ! (of_opd ! (load ! (through ! refl (stop !)) (look ! 0 refl))) refl (tt, tt) $
-    sets ! (bin ! (get ! refl) (lit ! tt) (lit< tt)) refl (tt, record { fits = quotient }) $
-    sets ! (is ! (bin ! (get ! refl) (size_word !) (record { fits = subst (λ (j : ℕ). j < 2 ^ 64) (sym (uncapped (i / 64) (chunk_size R) chunk_fits)) chunk_fits })) (ap (vint w64) (uncapped (i / 64) (chunk_size R) chunk_fits))) refl (tt, record { fits = chunk_fits }) $
-    sets ! (bin ! (get ! refl) (get ! refl) tt) refl (tt, tt) $
-    sets ! (addr ! (through ! refl (fld ! refl (stop !)))) refl (tt, tt) $
-    sets ! (bin ! (get ! refl) (lit ! tt) (lit< tt)) refl (tt, record { fits = rest }) $
-    sets ! (is ! (bin ! (get ! refl) (size_word !) (record { fits = subst (λ (j : ℕ). j < 2 ^ 64) (sym (uncapped (i % 64) (stride R) value_fits)) value_fits })) (ap (vint w64) (uncapped (i % 64) (stride R) value_fits))) refl (tt, record { fits = value_fits }) $
+    sets ! (of_opd ! (get ! refl)) refl (tt, tt) $ sets ! (is ! (bin ! (get ! refl) (size_word !) (record { fits = subst (λ (j : ℕ). j < 2 ^ 64) (sym (uncapped i (stride R) value_fits)) value_fits })) (ap (vint w64) (uncapped i (stride R) value_fits))) refl (tt, record { fits = value_fits }) $
     sets ! (bin ! (get ! refl) (get ! refl) tt) refl (tt, tt) $
     sets_last ! (addr ! (through ! refl (stop !))) refl (tt, tt) $ exec ! 𝓣.C 𝓣.Λ Ev (after 1 fn.body) (at_ret Ev Post) $
     sets ! (of_opd ! (get ! refl)) refl (tt, tt) $

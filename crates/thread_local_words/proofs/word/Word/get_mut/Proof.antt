@@ -1,5 +1,5 @@
 -- `get_mut` lends the value in a slot, and the word follows it.
-use Rattle.thread_local_chunks.proofs.Names.{◌≡◌, ℕ, ◌*◌, ◌^◌, ◌<◌, List, [], ◌∷◌, length, sym, refl, ap, ◌∙◌, subst, lit<, w64, true, Option, Some, a_type, named, Val, vint, vptr, inst_fn, full_share, SProp, id⊢, emp, Lft, Share, GName, Fml, ftrue, fsep, flft, ‵, raw, ◌⊛◌, some, given, later, at_ret, ◌$◌, ◌∵◌, !, qed, by, move, keep, use0, use1, split, split3, join, group, fsplit, fsplit3, fjoin, pick, await, learn, rewrite, stop, fld, load, addr, lit, size_word, of_opd, bin, first, blocks, exec, returns, enter, alloc_all, pass_all, free_all, look_at, get, through, sets, sets_last, is, env, sub, look_in, whole, tables, fact, fact_i, yes, no, RattleType, owns, types_at, plain, Ptr, block_ptr, block_of, count_of, at_block, nothing, heard, opens, peeks, shows, param, layouts, usize, mut_vals, mut_Tells, uint_vals, uint_Tells, Stays, stay_dropped, walk_of, Goes-dropped, cell_at, proved, leaves, after}
+use Rattle.thread_local_chunks.proofs.Names.{◌≡◌, ℕ, ◌*◌, ◌^◌, ◌<◌, List, [], ◌∷◌, length, sym, refl, ap, ◌∙◌, subst, w64, true, Option, Some, a_type, named, Val, vint, vptr, inst_fn, full_share, SProp, id⊢, emp, Lft, Share, GName, Fml, ftrue, fsep, flft, ‵, raw, ◌⊛◌, some, given, later, at_ret, ◌$◌, ◌∵◌, !, qed, by, move, keep, use0, use1, split, split3, join, group, fsplit, fsplit3, fjoin, pick, await, learn, rewrite, stop, fld, load, addr, size_word, of_opd, bin, first, blocks, exec, returns, enter, alloc_all, pass_all, free_all, look_at, get, through, sets, sets_last, is, env, sub, look_in, whole, tables, fact, fact_i, yes, no, RattleType, owns, types_at, plain, Ptr, block_ptr, block_of, count_of, at_block, nothing, heard, opens, peeks, shows, param, layouts, usize, mut_vals, mut_Tells, uint_vals, uint_Tells, Stays, stay_dropped, walk_of, Goes-dropped, cell_at, proved, leaves, after}
 use denote.Builtin.{RefMutOf}
 use denote.Follow.{follows, Part, lends_Part}
 use denote.Ref.{MutBor, MutRef}
@@ -8,12 +8,13 @@ use Rattle.std.specs.Prelude.{◌/◌, ◌%◌, is_some, IsSome}
 use Rattle.thread_local_bits.specs.Bits.{is_set}
 use Rattle.thread_local_words.specs.LentValue.{with_slot_value}
 use Rattle.thread_local_words.proofs.LentValue.{Rest, back}
-use Rattle.thread_local_chunks.specs.Slots.{slot_at, stride, chunk_size, value_in, place}
-use Rattle.thread_local_chunks.proofs.Slots.{IsSlotIn, flags_of, slot_of, uncapped, value_of, slot_flag}
+use Rattle.thread_local_chunks.specs.Slots.{slot_at, stride, value_in, place}
+use Rattle.thread_local_chunks.proofs.Slots.{IsSlotIn, flags_of, slot_of, value_of, slot_flag}
+use Rattle.thread_local_chunks.proofs.Flags.{uncapped}
 use Rattle.thread_local_words.specs.contracts.word.Word as word
 use Rattle.thread_local_words.specs.contracts.word.Word.get_mut.{ended, clauses}
 use Rattle.thread_local_words.specs.contracts.word.Word.get_mut.Key.{name as #self}
-use Rattle.thread_local_words.proofs.WordSteps.{word_val, told, Again, word_slot, chunk_fits, place_fits, small_fits}
+use Rattle.thread_local_words.proofs.WordSteps.{word_val, told, Again, word_slot}
 use Rattle.thread_local_words.proofs.word.Word.get_mut.Statement.{statement}
 use Rattle.thread_local_words.proofs.word.Word.get_mut.Code as code
 
@@ -31,16 +32,14 @@ get_mut_spec 𝓤 𝓛 𝓜 𝓡 wired T L =
     split ! $ split ! $ move ! (2 ∷ []) $ fsplit ! $ fsplit3 ! $ keep ! (1 ∷ 2 ∷ 4 ∷ 5 ∷ []) $
     enter ! 𝓣.C 𝓣.Λ fn (vptr b' o' ∷ vint w64 j ∷ []) Post $ alloc_all ! (λ l. pass_all ! refl ((tt, tt), ((tt, record { fits = are.1.0.1 }), tt)) $ let Ev = env fn.locals l in
     opens ! tt Wd b' o' (λ us. move ! (1 ∷ []) $ peeks ! Wd _ (shows 𝓛 Wd) h us (λ known. fsplit ! $ move ! (1 ∷ []) $
-    use1 𝓛 (some (λ (n : ℕ). given (IsSlotIn R p cs j n) (‵ (flags_of R p n k) ⊛ ‵ (slot_of R p s j) ⊛ raw (Again R 𝓛 p cs j n)))) (word_slot R 𝓛 p cs j near) $ pick ! (λ n. learn ! (λ so. split3 ! $
-    let near_chunk : k * chunk_size R < 2 ^ 64 = small_fits _ so.word_small in let near_value : i * stride R < 2 ^ 64 = small_fits _ so.value_small in let read : n < 2 ^ 64 = so.is_word.fits in
+    use1 𝓛 (some (λ (n : ℕ). given (IsSlotIn R p cs j n) (‵ (flags_of R (length cs) p n k) ⊛ ‵ (slot_of R p s j) ⊛ raw (Again R 𝓛 p cs j n)))) (word_slot R 𝓛 p cs j near) $ pick ! (λ n. learn ! (λ so. split3 ! $
+    let near_value : j * stride R < 2 ^ 64 = so.value_near in let read : n < 2 ^ 64 = so.is_word.fits in
     let seen : us ≡ word_val (block_ptr b (count_of p)) ∷ [] = told R p us known.0 ∙ ap (λ (u : Ptr). word_val u ∷ []) (at_block p so.lies) in
     let Cell = λ (ws : List Val). ‵ (cell_at full_share Wd.mir ws b' o') in rewrite ! 4 Cell seen refl $ move ! (1 ∷ []) $ rewrite ! 0 (λ (u : Option T.Denot). ‵ (place R u b at)) lies refl $
     let published : is_set n i ≡ true = slot_flag cs j n so.is_word ∙ ap is_some lies in
     -- [the value; the chunk's word; the way back; the word's field; its cell; the open borrow]
-    first ! $ blocks ! $ sets ! (of_opd ! (load ! (through ! refl (fld ! refl (stop !))) (look_in ! 4 (sub ! 0 refl (whole !))))) refl (tt, tt) $ sets ! (bin ! (get ! refl) (lit ! tt) (lit< tt)) refl (tt, record { fits = chunk_fits j are.1.0.1 }) $
-    sets ! (is ! (bin ! (get ! refl) (size_word !) (record { fits = subst (λ (k : ℕ). k < 2 ^ 64) (sym (uncapped k (chunk_size R) near_chunk)) near_chunk })) (ap (vint w64) (uncapped k (chunk_size R) near_chunk))) refl (tt, record { fits = near_chunk }) $ sets ! (bin ! (get ! refl) (get ! refl) tt) refl (tt, tt) $
-    sets ! (addr ! (through ! refl (fld ! refl (stop !)))) refl (tt, tt) $ sets ! (bin ! (get ! refl) (lit ! tt) (lit< tt)) refl (tt, record { fits = place_fits j }) $
-    sets ! (is ! (bin ! (get ! refl) (size_word !) (record { fits = subst (λ (k : ℕ). k < 2 ^ 64) (sym (uncapped i (stride R) near_value)) near_value })) (ap (vint w64) (uncapped i (stride R) near_value))) refl (tt, record { fits = near_value }) $ sets ! (bin ! (get ! refl) (get ! refl) tt) refl (tt, tt) $
+    first ! $ blocks ! $ sets ! (of_opd ! (load ! (through ! refl (fld ! refl (stop !))) (look_in ! 4 (sub ! 0 refl (whole !))))) refl (tt, tt) $
+    sets ! (of_opd ! (get ! refl)) refl (tt, tt) $ sets ! (is ! (bin ! (get ! refl) (size_word !) (record { fits = subst (λ (m : ℕ). m < 2 ^ 64) (sym (uncapped j (stride R) near_value)) near_value })) (ap (vint w64) (uncapped j (stride R) near_value))) refl (tt, record { fits = near_value }) $ sets ! (bin ! (get ! refl) (get ! refl) tt) refl (tt, tt) $
     sets_last ! (addr ! (through ! refl (stop !))) refl (tt, tt) $ exec ! 𝓣.C 𝓣.Λ Ev (after 1 fn.body) (at_ret Ev Post) $ sets ! (of_opd ! (get ! refl)) refl (tt, tt) $
     rewrite ! 4 Cell (sym seen) refl $ move ! (3 ∷ 4 ∷ []) $ join ! $ move ! (3 ∷ 0 ∷ []) $ join ! $ move ! (2 ∷ 0 ∷ []) $ join ! $ move ! (2 ∷ 3 ∷ 4 ∷ 1 ∷ 0 ∷ []) $ group ! 5 $
     let Left : SProp 𝓤 = Rest R 𝓛 h j n b' o' us near read published in let again = back R 𝓛 h j n b' o' us near read published in

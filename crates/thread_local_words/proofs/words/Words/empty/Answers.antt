@@ -1,20 +1,12 @@
-use Rattle.std.proofs.Common.{◌≡◌, ◌^◌, ℕ, ◌⊎◌, inl, inr, length, List, Option, sym, ap, ◌∙◌, subst, arith, true}
+use Rattle.std.proofs.Common.{◌≡◌, ◌^◌, ℕ, inr, length, List, Option, sym, ap, ◌∙◌, subst, true}
 use Rattle.std.proofs.lemmas.Bool.{ltb-true}
 use Rattle.thread_local_model.specs.Buckets.{Contents, row, stands, IsTable}
 use Rattle.thread_local_model.specs.Rows.{with_row, empty_row}
 use Rattle.thread_local_chunks.specs.Slots.{empty_slots}
-use Rattle.thread_local_contents.proofs.RowLaws.{IsTable-with_row, length-empty_row}
+use Rattle.thread_local_contents.proofs.RowLaws.{row_whole, IsTable-with_row, length-empty_row}
 use Rattle.thread_local_words.specs.Rows.{contents_of}
 use Rattle.thread_local_words.proofs.ContentsOf.{row_of_word, row_changes}
 use Rattle.thread_local_words.proofs.words.Words.empty.Goals as goal
-
--- a bucket that stands has all its slots
-whole : {V : Type 0} (c : Contents V) (b : ℕ) → IsTable c → stands c b ≡ true → length (row c b) ≡ 2 ^ b
-whole c b t standing = go (t.whole b)
-  where
-    go : (length (row c b) ≡ 0) ⊎ (length (row c b) ≡ 2 ^ b) → length (row c b) ≡ 2 ^ b
-    go (inl none) = let some = ltb-true 0 (length (row c b)) standing in absurd (omega arith)
-    go (inr all) = all
 
 -- a row of empty slots, as many as the bucket has
 row_emptied : {X : Type 0} (slots : List (Option X)) (size b : ℕ) → slots ≡ empty_slots size → size ≡ 2 ^ b → slots ≡ empty_row b
@@ -24,7 +16,7 @@ pub empty-requires : goal.empty-requires
 empty-requires g c =
     let s = c.self.inside.words in let b : ℕ = c.args.bucket in
     let standing : stands (contents_of s) b ≡ true = ap (λ (z : Contents g.row.T.Denot). stands z b) c.self.view_is ∙ c.requires.stands in
-    ap (λ w. length w.slots) c.word_mut.ensures.value ∙ sym (ap length (row_of_word s b)) ∙ whole (contents_of s) b c.self.invariant standing ∙ sym c.bucket_size.ensures
+    ap (λ w. length w.slots) c.word_mut.ensures.value ∙ sym (ap length (row_of_word s b)) ∙ row_whole (contents_of s) b 0 c.self.invariant (ltb-true 0 (length (row (contents_of s) b)) standing) ∙ sym c.bucket_size.ensures
 
 pub invariant_of-self : goal.invariant_of-self
 invariant_of-self g c =

@@ -1,8 +1,7 @@
 use Rattle.std.proofs.Common.{◌≡◌, ◌^◌, ℕ, List, Option, length, inr, sym, ap, ◌∙◌, subst, arith, pow_pos}
 use Rattle.thread_local_model.specs.Buckets.{Contents, IsTable}
 use Rattle.thread_local_model.specs.Rows.{with_row, empty_row}
-use Rattle.thread_local_chunks.specs.Slots.{IsBlockLength, empty_slots}
-use Rattle.thread_local_chunks.proofs.Flags.{power_length}
+use Rattle.thread_local_chunks.specs.Slots.{empty_slots}
 use Rattle.thread_local_contents.proofs.RowLaws.{IsTable-with_row, length-empty_row}
 use Rattle.thread_local_words.specs.Rows.{contents_of}
 use Rattle.thread_local_words.proofs.ContentsOf.{row_changes}
@@ -11,9 +10,6 @@ use Rattle.thread_local_words.proofs.words.Words.install.Goals as goal
 -- the slots of a new block are those of an empty bucket
 new_row : {X : Type 0} (slots : List (Option X)) (size b : ℕ) → slots ≡ empty_slots size → size ≡ 2 ^ b → slots ≡ empty_row b
 new_row {X = X} slots size b made is = made ∙ ap (λ (n : ℕ). empty_slots {X = X} n) is
-
-pub new-requires : goal.new-requires
-new-requires g c = subst IsBlockLength (sym c.bucket_size.ensures) (power_length c.args.bucket)
 
 pub lay-requires-clause-made : goal.lay-requires-clause-made
 lay-requires-clause-made g c =

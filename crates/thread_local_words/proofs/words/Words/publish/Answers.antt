@@ -1,9 +1,12 @@
+use Rattle.std.specs.Prelude.{◌/◌, ℕ}
 use Rattle.std.proofs.Common.{sym, ap, ◌∙◌, subst, Some}
 use Rattle.thread_local_model.specs.Buckets.{Contents, IsTable}
 use Rattle.thread_local_model.specs.Rows.{with_slot}
 use Rattle.thread_local_contents.proofs.RowLaws.{IsTable-with_slot}
 use Rattle.thread_local_words.specs.Rows.{contents_of}
-use Rattle.thread_local_words.proofs.ContentsOf.{slot_changes}
+use Rattle.thread_local_chunks.specs.Slots.{word_number}
+use Rattle.thread_local_words.specs.contracts.words.Words.publish.{T-row}
+use Rattle.thread_local_words.proofs.ContentsOf.{size_of_word, slot_changes}
 use Rattle.thread_local_words.proofs.words.Words.publish.Goals as goal
 
 pub invariant_of-self : goal.invariant_of-self
@@ -17,3 +20,7 @@ returns g c = record {
   after = slot_changes c.self.inside.words c.args.thread.bucket c.word_mut.result.now c.publish.new.self c.args.thread.index (Some c.args.value) c.word_mut.ensures.value c.publish.ensures
       ∙ ap (λ (z : Contents g.row.T.Denot). with_slot z c.args.thread.bucket c.args.thread.index (Some c.args.value)) c.self.view_is;
 }
+
+pub publish-requires-clause-word : goal.publish-requires-clause-word
+publish-requires-clause-word g c = c.flag_word-word.ensures
+    ∙ ap (λ (n : ℕ). word_number (T-row g.row.T) n (c.args.thread.index / 64)) (size_of_word c.self.inside.words c.args.self.now c.args.thread.bucket c.args.thread.index c.bucket_size.result c.word_mut.result.now c.self.view_is c.self.invariant c.word_mut.ensures.value c.requires.in_bucket c.bucket_size.ensures)

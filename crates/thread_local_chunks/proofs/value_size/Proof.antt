@@ -3,10 +3,10 @@ use Rattle.thread_local_chunks.proofs.Names.{◌≡◌, ℕ, ◌^◌, ◌<◌, L
 use prog.Memory.{capped}
 use prog.Capped.{capped_fits}
 use Rattle.thread_local_chunks.specs.Slots.{stride}
-use Rattle.thread_local_blocks.specs.contracts.bytes.value_size.{ended, clauses}
-use Rattle.thread_local_blocks.specs.contracts.bytes.value_size.Key.{name as #self}
-use Rattle.thread_local_blocks.proofs.bytes.value_size.Statement.{statement}
-use Rattle.thread_local_blocks.proofs.bytes.value_size.Code as code
+use Rattle.thread_local_chunks.specs.contracts.value_size.{ended, clauses}
+use Rattle.thread_local_chunks.specs.contracts.value_size.Key.{name as #self}
+use Rattle.thread_local_chunks.proofs.value_size.Statement.{statement}
+use Rattle.thread_local_chunks.proofs.value_size.Code as code
 
 pub value_size_spec : {M : Type 1} → statement M
 value_size_spec 𝓤 𝓛 𝓜 𝓡 wired T L =
