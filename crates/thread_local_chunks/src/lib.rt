@@ -8,8 +8,8 @@ ghost use Rattle.thread_local_chunks.specs.Slots.{stride, word_number};
 
 use std::mem::size_of;
 
-/// How 64 slots lie in memory: their values, and a word of their flags, a bit each. No value of this type is ever made: a pointer to it is where a
-/// block of any size begins, and a block is aligned as this is.
+/// How 64 slots lie in memory: their values, and a word of their flags, a bit each. No value of this type is ever made: a block of any size is
+/// aligned as it is, and a pointer to a block has it for its type.
 pub struct Chunk<T> {
     pub values: [T; 64],
     pub flags: u64,
@@ -23,7 +23,8 @@ pub fn value_size<T>() -> usize
     size_of::<T>()
 }
 
-/// The number of the word that has a chunk's flags, counted from the start of its block, which has `len` slots.
+/// The number of the word that has a chunk's flags, counted from the start of its block, which has `len` slots. Of a block too large to be had it
+/// says nothing.
 #[inline]
 pub fn flag_word<T>(len: usize, chunk: usize) -> usize
     ensures { result ≡ word_number T.row len chunk }

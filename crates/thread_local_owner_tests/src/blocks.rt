@@ -5,7 +5,7 @@ use std::mem::size_of;
 use std::test::Fail;
 use thread_local_blocks::Block;
 use thread_local_buckets::Buckets;
-use thread_local_chunks::Chunk;
+use thread_local_chunks::{Chunk, flag_word, value_size};
 use thread_local_test_helpers::memory::take_all_but;
 use thread_local_test_helpers::refusing::Refusing;
 
@@ -27,6 +27,21 @@ fn bytes_asked(len: usize) -> usize {
         block.release(&alloc, len);
     }
     alloc.bytes()
+}
+
+// A word of flags lies behind all values of its block, at a multiple of 8 bytes, whatever their size.
+#[test]
+fn the_words_of_flags_lie_behind_the_values(rt: HostRuntime) {
+    let numbers = [
+        flag_word::<()>(64, 0),
+        flag_word::<u8>(1, 0),
+        flag_word::<u8>(128, 1),
+        flag_word::<u64>(128, 1),
+    ];
+    assert_eq!(rt;
+        (numbers, value_size::<()>(), value_size::<u64>()),
+        ([0, 1, 17, 129], 0, 8)
+    );
 }
 
 #[test]

@@ -1,8 +1,9 @@
 -- What the flags of a chunk count.
-use Rattle.std.proofs.Common.{◌≡◌, ℕ, zero, suc, ◌+◌, ◌*◌, ◌^◌, ◌<◌, ◌≤◌, min, cond, length, count_ones, Option, None, is_some, refl, sym, ap, ◌∙◌, arith, ⊎_elim}
+use Rattle.std.proofs.Common.{◌≡◌, ◌⊎◌, inl, inr, ℕ, zero, suc, ◌+◌, ◌-◌, ◌*◌, ◌/◌, ◌%◌, ◌^◌, ◌<◌, ◌≤◌, min, cond, length, count_ones, Option, None, is_some, refl, sym, ap, ◌∙◌, arith, ⊎_elim}
 use Rattle.std.specs.List.{count_by}
 use Rattle.std.proofs.lemmas.Bool.{cases_lt}
 use Rattle.std.proofs.lemmas.List.{get_or_past}
+use Rattle.std.proofs.lemmas.Nat.{pow_below, pow-add}
 use Rattle.std.proofs.lemmas.List.FromFn.{sum_by-map-range_with_len_more}
 use Rattle.thread_local_bits.specs.Bits.{is_set, low_bits}
 use Rattle.thread_local_bits.proofs.Word.{count_ones-counts}
@@ -59,3 +60,43 @@ module _ {V : Type 0} (c : Contents V) (b k word : ℕ) (whole : length (row c b
   count_below-chunk fits =
       let same : min ((k + 1) * 64) (2 ^ b) ≡ min (k * 64 + 64) (2 ^ b) = omega arith in
       ap counted_to same ∙ count_below-bits 64 (omega arith) ∙ ap (λ m. counted_to (k * 64) + m) (sym (low_count-all word fits))
+
+module _ {V : Type 0} (first now : Contents V) (b k word : ℕ) (same : now ≡ first) (whole : length (row first b) ≡ 2 ^ b) (fits : word < 2 ^ 64) (flags : (bit : ℕ) → bit < 64 → is_set word bit ≡ is_some (value_in now b (k * 64 + bit))) where
+  -- how many values stand at first below the slot at this index
+  abbrev first_to : ℕ → ℕ
+  first_to i = count_below (values first) (id_at b i)
+
+  chunk_adds : k * 64 ≤ 2 ^ b → first_to (min ((k + 1) * 64) (2 ^ b)) ≡ first_to (k * 64) + count_ones word
+  chunk_adds low = count_below-chunk first b k word whole low (λ bit within. flags bit within ∙ ap (λ w. is_some (value_in w b (k * 64 + bit))) same) fits
+
+  -- what has been counted from a chunk on grows by what a word counts
+  pub chunk_counted : (base count : ℕ) → k < (2 ^ b + 63) / 64 → base + count ≡ first_to (min (k * 64) (2 ^ b)) → base + (count + count_ones word) ≡ first_to (min ((k + 1) * 64) (2 ^ b))
+  chunk_counted base count inside counted =
+      let here : min (k * 64) (2 ^ b) ≡ k * 64 = omega arith in
+      let before : base + count ≡ first_to (k * 64) = counted ∙ ap first_to here in
+      let more = chunk_adds (omega arith) in
+      omega (arith, before, more)
+
+  -- a word that is 0 counts nothing
+  pub none_counted : (k + 1) * 64 ≤ 2 ^ b → word ≡ 0 → first_to (k * 64) ≡ first_to ((k + 1) * 64)
+  unfolding lib.Count.ones
+  none_counted inside unset =
+      let none : count_ones word ≡ 0 = ap count_ones unset in
+      let end : min ((k + 1) * 64) (2 ^ b) ≡ (k + 1) * 64 = omega arith in
+      let more = chunk_adds (omega arith) in
+      let next = ap first_to end in
+      omega (arith, more, none, next)
+
+-- a bucket of 64 slots and more has whole chunks
+whole_chunks : (b : ℕ) → (2 ^ b < 64) ⊎ (2 ^ b % 64 ≡ 0)
+whole_chunks b =
+    ⊎_elim
+    (λ (small : b < 6). inl (pow_below b 6 small))
+    (λ (large : 6 ≤ b).
+    let parts : 2 ^ b ≡ 2 ^ (b - 6) * 64 = (let sum : b ≡ b - 6 + 6 = omega arith in ap (λ i. 2 ^ i) sum ∙ pow-add 2 (b - 6) 6) in
+    inr (omega arith))
+    (cases_lt b 6)
+
+-- groups of eight chunks lie in their bucket
+pub groups_inside : (b groups : ℕ) → groups ≤ (2 ^ b + 63) / 64 / 8 → groups * 8 * 64 ≤ 2 ^ b
+groups_inside b groups few = ⊎_elim (λ (small : 2 ^ b < 64). omega arith) (λ (whole : 2 ^ b % 64 ≡ 0). omega arith) (whole_chunks b)

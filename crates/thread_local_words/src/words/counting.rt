@@ -1,5 +1,5 @@
 //! How many values there are.
-ghost use Rattle.std.specs.Prelude.{◌≡◌, ◌+◌, ◌^◌, ◌<◌, length};
+ghost use Rattle.std.specs.Prelude.{◌≡◌, ◌+◌, ◌*◌, ◌/◌, ◌^◌, ◌<◌, ◌≤◌, min, length};
 ghost use Rattle.thread_local_model.specs.Place.{id_at};
 ghost use Rattle.thread_local_model.specs.Buckets.{row, values};
 ghost use Rattle.thread_local_model.specs.Walk.{walk};
@@ -9,7 +9,41 @@ use super::Words;
 use thread_local_thread_id::BUCKETS;
 
 impl<T> Words<T> {
-    /// How many values the bucket has, whose size the caller knows.
+    /// Words that aren't 0 where one of eight chunks, from this one on, has a value: together they say at once that none has.
+    #[inline]
+    fn any_of_eight(&mut self, bucket: usize, chunk: usize) -> u64
+        requires in_table { bucket < 63 }
+        requires whole { length (row self.old bucket) ≡ 2 ^ bucket }
+        requires inside { (chunk + 8) * 64 ≤ 2 ^ bucket }
+        ensures same { self.new ≡ self.old }
+        ensures none { result ≡ 0 → count_below (values self.old) (id_at bucket (chunk * 64)) ≡ count_below (values self.old) (id_at bucket ((chunk + 8) * 64)) }
+    {
+        let mut any = 0;
+        for at in 0..8 {
+            any |= self.flags(bucket, chunk + at);
+        }
+        any
+    }
+
+    /// How many values some chunks of a bucket have: those from one on, below another.
+    #[inline]
+    fn count_in_chunks(&mut self, bucket: usize, from: usize, to: usize) -> usize
+        requires in_table { bucket < 63 }
+        requires whole { length (row self.old bucket) ≡ 2 ^ bucket }
+        requires order { from ≤ to }
+        requires inside { to ≤ (2 ^ bucket + 63) / 64 }
+        ensures same { self.new ≡ self.old }
+        ensures counted { count_below (values self.old) (id_at bucket (min (from * 64) (2 ^ bucket))) + result
+            ≡ count_below (values self.old) (id_at bucket (min (to * 64) (2 ^ bucket))) }
+    {
+        let mut count = 0;
+        for chunk in from..to {
+            count += self.flags(bucket, chunk).count_ones() as usize;
+        }
+        count
+    }
+
+    /// How many values the bucket has, whose size the caller knows. Eight words that are all 0 are passed over at once.
     fn count_in_bucket(&mut self, bucket: usize, size: usize) -> usize
         requires in_table { bucket < 63 }
         requires whole { length (row self.old bucket) ≡ 2 ^ bucket }
@@ -17,11 +51,16 @@ impl<T> Words<T> {
         ensures same { self.new ≡ self.old }
         ensures counted { count_below (values self.old) (id_at bucket 0) + result ≡ count_below (values self.old) (id_at (bucket + 1) 0) }
     {
+        let chunks = (size + 63) / 64;
+        let groups = chunks / 8;
         let mut count = 0;
-        for chunk in 0..(size + 63) / 64 {
-            count += self.flags(bucket, chunk).count_ones() as usize;
+        for group in 0..groups {
+            let first = group * 8;
+            if self.any_of_eight(bucket, first) != 0 {
+                count += self.count_in_chunks(bucket, first, first + 8);
+            }
         }
-        count
+        count + self.count_in_chunks(bucket, groups * 8, chunks)
     }
 
     /// How many values there are. It looks at the flags of all slots of the buckets that stand, and takes no memory.
