@@ -5,6 +5,7 @@ use Rattle.std.specs.List.{count_by}
 use Rattle.std.proofs.lemmas.Bool.{eq-eqb, ne_eqb, cases_eq, cases_lt}
 use Rattle.std.proofs.lemmas.List.{map-id}
 use Rattle.std.proofs.lemmas.List.FromFn.{length-map-range_with_len, get_or-map-range_with_len}
+use Rattle.std.proofs.Math.Nat.{div-le_self}
 use Rattle.std.proofs.lemmas.Nat.{pow_pos, pow_below, one_shl, or_lt, and_le_l}
 use Rattle.std.proofs.lemmas.Nat.Bits.{shr_and_one, bit_at-zero, bit_at-lt, bit_at_and, bit_at_or, and_pow, bit_at_ones, bit_at_ones_above, bit_at-trailing_zeros, bit_at_set_same, bit_at_set_other, bit_at_clear_same, bit_at_clear_other, bit_at-trailing_ones, same_from_bits_below}
 use Rattle.std.proofs.lemmas.Simd.{mask_l-lt, bit_mask_l, ones-mask_l}
@@ -116,6 +117,20 @@ set_fits word bit within fits = or_lt 64 word _ fits (omega arith)
 
 pub masked_fits : (word mask : ℕ) → word < 2 ^ 64 → bit_and word mask < 2 ^ 64
 masked_fits word mask fits = omega (arith, and_le_l word mask)
+
+-- and so is one that is shifted
+pub shifted_right : (word places : ℕ) → word < 2 ^ 64 → word / 2 ^ places < 2 ^ 64
+shifted_right word places fits = omega (arith, div-le_self word (2 ^ places))
+
+pub shifted_left : (word places : ℕ) → word * 2 ^ places % 2 ^ 64 < 2 ^ 64
+shifted_left word places = omega arith
+
+-- which bit of its word is a slot's
+pub place_below : (slot : ℕ) → slot % 64 < 64
+place_below slot = omega arith
+
+pub place_fits : (slot : ℕ) → slot % 64 < 2 ^ 64
+place_fits slot = omega arith
 
 -- `trailing_zeros` of a word that isn't 0 is the lowest bit that is set
 pub lowest_set : (word : ℕ) → word < 2 ^ 64 → word ≢ 0 → IsLowestSet word (trailing_zeros w64 word)

@@ -1,9 +1,7 @@
 -- How many bytes a block takes.
 use Rattle.thread_local_chunks.proofs.Names.{◌≡◌, ℕ, ◌+◌, ◌-◌, ◌*◌, ◌^◌, ◌<◌, ◌≤◌, refl, sym, ap, ◌∙◌, subst, arith, lit<, RattleType, lone}
-use Rattle.std.specs.Prelude.{◌⊎◌, ◌/◌, ◌%◌, bit_and}
-use Rattle.std.proofs.Common.{zero, suc, inl, inr, ⊎_elim, lt_of_le_of_lt, one-mul, zero-mul, mul-le-mul_right}
-use Rattle.std.proofs.Math.Nat.{div-le_self}
-use Rattle.std.proofs.lemmas.Nat.{and_le_r}
+use Rattle.std.specs.Prelude.{◌⊎◌, ◌%◌}
+use Rattle.std.proofs.Common.{zero, suc, inl, inr, ⊎_elim, one-mul, zero-mul, mul-le-mul_right}
 use mir.Syntax.{Width, w8, w16, w32, w64, w128}
 use mir.Val.{bytes}
 use prog.Memory.{size, align, up, capped}
@@ -56,16 +54,3 @@ module _ (R : RattleType) where
       values_fit zero less = subst (λ (z : ℕ). z < 2 ^ 58) (sym (zero-mul (stride R))) (lit< tt)
       values_fit (suc m) less = let s : ℕ = stride R in let one : capped s ≤ suc m * capped s = subst (λ (z : ℕ). z ≤ suc m * capped s) (one-mul (capped s)) (mul-le-mul_right (capped s) (omega arith)) in
           let low : s < 2 ^ 63 = capped_small s (omega arith) in subst (λ (z : ℕ). suc m * z < 2 ^ 58) (capped_is s (omega arith)) less
-
--- ---- words that fit
-pub rest_below : (j : ℕ) → j % 64 < 64
-rest_below j = omega arith
-
-pub rest_fits : (j : ℕ) → j % 64 < 2 ^ 64
-rest_fits j = omega arith
-
-pub shifted_fits : (n k : ℕ) → n < 2 ^ 64 → n / 2 ^ k < 2 ^ 64
-shifted_fits n k fits = lt_of_le_of_lt (div-le_self n (2 ^ k)) fits
-
-pub bit_fits : (n : ℕ) → bit_and n 1 < 2 ^ 64
-bit_fits n = lt_of_le_of_lt (and_le_r n 1) (lit< tt)

@@ -1,6 +1,5 @@
 -- The data fields of a claim. Assumes `Logic`.
-use Rattle.std.proofs.Common.{◌≡◌, ℕ, ◌+◌, ◌-◌, ◌*◌, ◌/◌, ◌%◌, ◌^◌, ◌<◌, arith, lt_trans, lt_of_le_of_lt, div-le_self, Bool, T, w64, List, [], ◌∷◌, ◌++◌, refl, sym, ap, subst, ◌∙◌, lit<}
-use Rattle.std.proofs.lemmas.Nat.{mod_below}
+use Rattle.std.proofs.Common.{◌≡◌, ℕ, ◌+◌, ◌-◌, ◌*◌, ◌/◌, ◌^◌, ◌<◌, arith, Bool, T, w64, List, [], ◌∷◌, ◌++◌, refl, sym, ap, subst, ◌∙◌, lit<}
 use seplogic.Ra.Ura.{Ura}
 use mir.Syntax.{Ty, ty_ptr, ty_int, ty_bool, ty_struct, tcons, tnil}
 use mir.Val.{Val, vint, vbool, vstruct, vcons, vnil, of_list, has_ty, WT}
@@ -92,16 +91,6 @@ typed_at null_ptr null_ptr null_ptr i f q fits = (tt, (record { fits = lit< tt }
 
 pub typed : (c : Kept) → c.index < 2 ^ 64 → T (has_ty claim_ty (value_of c)) × WT (value_of c)
 typed c fits = typed_at c.word c.flag_word c.value c.index c.found c.published fits
-
--- the bit of a slot in its word is one, and so is what is made of it
-pub bit_within : (i : ℕ) → i % 64 < 64
-bit_within i = mod_below i 64 (lit< tt)
-
-pub bit_fits : (i : ℕ) → i % 64 < 2 ^ 64
-bit_fits i = lt_trans (bit_within i) (lit< tt)
-
-pub shifted_fits : (n k : ℕ) → n < 2 ^ 64 → n / 2 ^ k < 2 ^ 64
-shifted_fits n k fits = lt_of_le_of_lt (div-le_self n (2 ^ k)) fits
 
 -- so many of something are so many bytes, as code takes its size
 pub spaced : (i k : ℕ) → i * k < 2 ^ 64 → i * capped k < 2 ^ 64

@@ -37,8 +37,8 @@ impl<'a, T> Model for Claim<'a, T> {
 }
 
 impl<'a, T> Claim<'a, T> {
-    /// Claims the slot of an id that is held, under the word of the id's bucket. It is one atomic load of the word, and one of the flags beside
-    /// the slot where the bucket stands. A reserved bucket is found.
+    /// Claims the slot of an id that is held, under the word of the id's bucket. It is one atomic load of the word, and where the bucket stands one
+    /// of the word that has the slot's flag. A reserved bucket is found.
     pub fn arrive(word: &'a SharedWord<T>, held: HeldId) -> Claim<'a, T>
         requires table { held.right.table ≡ word.now.table }
         requires bucket { bucket_of held.id ≡ word.now.bucket }

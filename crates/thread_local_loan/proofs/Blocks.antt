@@ -6,7 +6,7 @@ use Rattle.std.proofs.lemmas.Bool.{true≢false, false≢true}
 use Rattle.std.proofs.lemmas.List.{length-map}
 use Rattle.std.proofs.GlobalToken.{dealloc_token-Testable}
 use Rattle.thread_local_chunks.specs.Slots.{fact, block_ty, chunks, Fits, AreFlags, flags_at, slot, each, flags, flags_own, back, heap_token}
-use Rattle.thread_local_words.specs.Leads.{word_owns}
+use Rattle.thread_local_owner_word.specs.Leads.{word_owns}
 use Rattle.thread_local_loan.specs.Lent.{flagged, valued, bare, Leads}
 use Rattle.thread_local_loan.proofs.Shapes.{has, slot_has}
 

@@ -9,7 +9,7 @@ use Rattle.std.proofs.lemmas.List.{length-map}
 use Rattle.thread_local_model.specs.Buckets.{Contents, IsTable}
 use Rattle.thread_local_model.specs.Owned.{Owned}
 use Rattle.thread_local_model.specs.Code.{owned_coded}
-use Rattle.thread_local_words.specs.declared.word.Word.{Word}
+use Rattle.thread_local_owner_word.specs.declared.word.Word.{Word}
 use Rattle.thread_local_words.specs.contracts.words.Words as words
 use Rattle.thread_local_loan.specs.Lent.{shape, IsLeft, Lending, lending, loan_owns, frames, Values, values_at, lent_as}
 use Rattle.thread_local_contents.specs.Refilled.{refilled}

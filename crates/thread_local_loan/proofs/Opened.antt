@@ -12,9 +12,9 @@ use denote.Struct.Pick.{rest_at, field_out, field_back}
 use Rattle.std.specs.contracts.alloc.Global as heap
 use Rattle.std.proofs.alloc.Global.TheLaws as heap_laws
 use Rattle.thread_local_model.specs.Buckets.{Contents}
-use Rattle.thread_local_words.specs.declared.word.Word.{Word}
-use Rattle.thread_local_words.specs.contracts.word.Word as word
-use Rattle.thread_local_words.proofs.word.Word.TheLaws as word_laws
+use Rattle.thread_local_owner_word.specs.declared.word.Word.{Word}
+use Rattle.thread_local_owner_word.specs.contracts.word.Word as word
+use Rattle.thread_local_owner_word.proofs.word.Word.TheLaws as word_laws
 use Rattle.thread_local_words.specs.contracts.row_of_words.RowOfWords as row_of_words
 use Rattle.thread_local_words.proofs.row_of_words.RowOfWords.TheLaws as row_laws
 use Rattle.thread_local_words.specs.contracts.words.Words as words

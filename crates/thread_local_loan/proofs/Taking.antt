@@ -8,10 +8,10 @@ use denote.Struct.Members.{rows_of, parts_at}
 use denote.Struct.Parts.{PartsBack, Struct-parts}
 use denote.Struct.OwningLaws.{part_out, part_in}
 use Rattle.thread_local_chunks.specs.Slots.{each, heap_token}
-use Rattle.thread_local_words.specs.Leads.{word_owns}
-use Rattle.thread_local_words.specs.declared.word.Word.{Word}
-use Rattle.thread_local_words.specs.contracts.word.Word as word
-use Rattle.thread_local_words.proofs.WordSteps.{Words}
+use Rattle.thread_local_owner_word.specs.Leads.{word_owns}
+use Rattle.thread_local_owner_word.specs.declared.word.Word.{Word}
+use Rattle.thread_local_owner_word.specs.contracts.word.Word as word
+use Rattle.thread_local_owner_word.proofs.WordSteps.{Words}
 use Rattle.thread_local_loan.specs.Lent.{shape, flagged, valued, Leads, frames, values_at}
 use Rattle.thread_local_loan.proofs.Blocks.{rested, word_apart, word_whole}
 

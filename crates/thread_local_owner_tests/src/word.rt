@@ -7,7 +7,7 @@ use std::mem::size_of;
 use std::test::Fail;
 use thread_local_blocks::Block;
 use thread_local_chunks::flag_word;
-use thread_local_words::Word;
+use thread_local_owner_word::Word;
 
 /// Puts a value into a block, takes it out again, and frees the block.
 fn there_and_back<T: Send + Drop>(alloc: Global, value: T) -> Result<T, AllocError>

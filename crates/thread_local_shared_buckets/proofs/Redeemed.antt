@@ -19,7 +19,7 @@ use Rattle.std.specs.contracts.impls.GlobalAllocator.TheImpl.{ghosts}
 use Rattle.std.proofs.GlobalToken.{dealloc_token-Testable}
 use Rattle.thread_local_bits.specs.Bits.{is_set_in}
 use Rattle.thread_local_chunks.specs.Slots.{heap_token, chunks, each, AreFlags, flags_at, slot_at, block_ty, Fits, value_in, place, slot, flags_own, back}
-use Rattle.thread_local_words.specs.Leads.{word_owns}
+use Rattle.thread_local_owner_word.specs.Leads.{word_owns}
 use Rattle.thread_local_shared_word_logic.specs.Shared.{WordView, AreFlagWords, slots_under, slot_rests_as, slot_rests, slots_rest, Sized, len, at_rest}
 use Rattle.thread_local_shared_word_logic.proofs.Rested.{redeems}
 use Rattle.thread_local_shared_buckets.specs.Fit.{Fit}

@@ -23,9 +23,9 @@ use Rattle.thread_local_model.specs.Buckets.{IsTable}
 use Rattle.thread_local_model.specs.Owned.{Owned, AreOfFirstBuckets, IsOwned}
 use Rattle.thread_local_judged.specs.Judged.{Judged}
 use Rattle.thread_local_chunks.specs.Slots.{heap_token}
-use Rattle.thread_local_words.specs.Leads.{word_owns}
-use Rattle.thread_local_words.specs.contracts.word.Word as plain
-use Rattle.thread_local_words.proofs.word.Word.TheLaws as plain'
+use Rattle.thread_local_owner_word.specs.Leads.{word_owns}
+use Rattle.thread_local_owner_word.specs.contracts.word.Word as plain
+use Rattle.thread_local_owner_word.proofs.word.Word.TheLaws as plain'
 use Rattle.thread_local_shared_word_logic.specs.Shared.{WordView, at_rest}
 use Rattle.thread_local_shared_word.specs.contracts.word.SharedWord as shared
 use Rattle.thread_local_words.specs.Rows.{contents_of}

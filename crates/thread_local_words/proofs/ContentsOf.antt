@@ -5,10 +5,10 @@ use Rattle.std.proofs.lemmas.List.{map-set}
 use Rattle.thread_local_model.specs.Buckets.{Contents, row, no_contents, IsTable}
 use Rattle.thread_local_contents.proofs.RowLaws.{row_whole}
 use Rattle.thread_local_model.specs.Rows.{with_row, with_slot}
-use Rattle.thread_local_words.specs.declared.word.Word.{Word}
+use Rattle.thread_local_owner_word.specs.declared.word.Word.{Word}
 use Rattle.thread_local_words.specs.declared.row_of_words.RowOfWords.{RowOfWords}
 use Rattle.thread_local_words.specs.Rows.{null_word, with_word, words_with_value, slots_of, contents_of}
-use Rattle.thread_local_words.specs.LentValue.{with_slot_value}
+use Rattle.thread_local_owner_word.specs.LentValue.{with_slot_value}
 
 module _ {X : Type 0} where
   abbrev as_contents : List (List (Option X)) → Contents X

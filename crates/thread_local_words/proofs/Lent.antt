@@ -16,7 +16,7 @@ use denote.Index.{place, place_is, others, takes, puts}
 use denote.Struct.Members.{Member}
 use denote.Struct.CellSteps.{BackTo, only_out}
 use Rattle.std.specs.Prelude.{slice_index_or}
-use Rattle.thread_local_words.specs.contracts.word.Word as word
+use Rattle.thread_local_owner_word.specs.contracts.word.Word as word
 use Rattle.thread_local_words.specs.Rows.{null_word, with_word}
 use Rattle.thread_local_words.specs.contracts.row_of_words.RowOfWords as rows
 

@@ -1,5 +1,3 @@
-pub mod WordSteps
-pub mod LentValue
 pub mod Lent
 pub mod ContentsOf
 pub mod Clearing

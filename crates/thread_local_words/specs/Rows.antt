@@ -1,8 +1,8 @@
 use Rattle.std.specs.Prelude.{ℕ, List, Option, [], map, slice_set, slice_index_or}
 use denote.RawPtr.{null_ptr}
 use Rattle.thread_local_model.specs.Buckets.{Contents}
-use Rattle.thread_local_words.specs.declared.word.Word.{Word}
-use Rattle.thread_local_words.specs.LentValue.{with_slot_value}
+use Rattle.thread_local_owner_word.specs.declared.word.Word.{Word}
+use Rattle.thread_local_owner_word.specs.LentValue.{with_slot_value}
 use Rattle.thread_local_words.specs.declared.row_of_words.RowOfWords.{RowOfWords}
 
 -- a word that is null

@@ -2,8 +2,6 @@
 #![tactic(auto)]
 
 pub mod row_of_words;
-mod word;
 pub mod words;
 
-pub use word::Word;
 pub use words::Words;

@@ -3,7 +3,7 @@ ghost use Rattle.std.specs.Prelude.{◌≡◌};
 ghost use Rattle.thread_local_model.specs.Buckets.{no_contents, IsTable};
 ghost use Rattle.thread_local_words.specs.Rows.{contents_of};
 
-use crate::word::Word;
+use thread_local_owner_word::Word;
 use thread_local_thread_id::BUCKETS;
 
 mod lends;

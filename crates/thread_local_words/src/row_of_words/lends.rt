@@ -2,14 +2,14 @@
 ghost use Rattle.std.specs.Prelude.{◌≡◌, ◌<◌, length, slice_index_or, Some, IsSome};
 ghost use types.Logic.{sem};
 ghost use Rattle.std.specs.Borrow.{follows};
-ghost use Rattle.thread_local_words.specs.contracts.word.Word.{the_row as word_row};
+ghost use Rattle.thread_local_owner_word.specs.contracts.word.Word.{the_row as word_row};
 ghost use Rattle.thread_local_words.specs.contracts.row_of_words.RowOfWords.{the_row};
 ghost use Rattle.thread_local_model.specs.Buckets.{row};
 ghost use Rattle.thread_local_model.specs.Rows.{value_in};
 ghost use Rattle.thread_local_words.specs.Rows.{null_word, with_word, words_with_value, contents_of};
 
 use super::RowOfWords;
-use crate::word::Word;
+use thread_local_owner_word::Word;
 
 impl<T> RowOfWords<T> {
     /// The word of a bucket.

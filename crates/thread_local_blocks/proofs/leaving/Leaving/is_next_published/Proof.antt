@@ -6,7 +6,7 @@ use types.Kit.{some, pick}
 use types.Logic.{sem}
 use mir.Val.{vbool}
 use lib.Dec.{eqb}
-use Rattle.thread_local_bits.proofs.Word.{is_set-test}
+use Rattle.thread_local_bits.proofs.Word.{is_set-test, masked_fits, place_below, place_fits, shifted_right}
 use Rattle.thread_local_chunks.specs.Slots.{slot_at, value_words, word_number}
 use Rattle.thread_local_chunks.proofs.Slots.{flags_of}
 use Rattle.thread_local_blocks.specs.Vacated.{leaving_owns, rest}
@@ -14,7 +14,6 @@ use Rattle.thread_local_blocks.specs.contracts.leaving.Leaving as leaving
 use Rattle.thread_local_blocks.specs.contracts.leaving.Leaving.is_next_published.{ended, clauses}
 use Rattle.thread_local_blocks.specs.contracts.leaving.Leaving.is_next_published.Key.{name as #self}
 use Rattle.thread_local_blocks.proofs.Fields.{block_val}
-use Rattle.thread_local_blocks.proofs.Rounding.{rest_below, rest_fits, shifted_fits, bit_fits}
 use Rattle.thread_local_blocks.proofs.Vacated.{told, Shown, Again, next_word, looked}
 use Rattle.thread_local_blocks.proofs.leaving.Leaving.is_next_published.Statement.{statement}
 use Rattle.thread_local_blocks.proofs.leaving.Leaving.is_next_published.Code as code
@@ -43,8 +42,8 @@ is_next_published_spec 𝓤 𝓛 𝓜 𝓡 wired T Al L _ ga da dd _ _ =
     first ! $ blocks ! $ sets ! (of_opd ! (load ! (through ! refl (fld ! refl (stop !))) (look_in ! 3 (sub ! 0 refl (whole !))))) refl (tt, tt) $
     sets ! (of_opd ! (get ! refl)) refl (tt, tt) $ sets ! (is ! (bin ! (get ! refl) (lit ! tt) (record { fits = small })) (ap (λ (k : ℕ). vint w64 (k * 8)) at)) refl (tt, record { fits = so.1.near }) $
     sets ! (bin ! (get ! refl) (get ! refl) tt) refl (tt, tt) $ sets ! (of_opd ! (load ! (through ! refl (stop !)) (look ! 0 refl))) refl (tt, record { fits = so.2 }) $
-    sets ! (bin ! (get ! refl) (lit ! tt) (lit< tt)) refl (tt, record { fits = rest_fits j }) $ sets ! (of_opd ! (get ! refl)) refl (tt, record { fits = rest_fits j }) $
-    sets ! (bin ! (get ! refl) (get ! refl) (rest_below j)) refl (tt, record { fits = shifted_fits n (j % 64) so.2 }) $ sets ! (bin ! (get ! refl) (lit ! tt) tt) refl (tt, record { fits = bit_fits (n / 2 ^ (j % 64)) }) $
+    sets ! (bin ! (get ! refl) (lit ! tt) (lit< tt)) refl (tt, record { fits = place_fits j }) $ sets ! (of_opd ! (get ! refl)) refl (tt, record { fits = place_fits j }) $
+    sets ! (bin ! (get ! refl) (get ! refl) (place_below j)) refl (tt, record { fits = shifted_right n (j % 64) so.2 }) $ sets ! (bin ! (get ! refl) (lit ! tt) tt) refl (tt, record { fits = masked_fits (n / 2 ^ (j % 64)) 1 (shifted_right n (j % 64) so.2) }) $
     sets_last ! (is ! (bin ! (get ! refl) (lit ! tt) tt) (ap vbool tells)) refl (tt, tt) $ exec ! 𝓣.C 𝓣.Λ Ev (after 1 fn.body) (at_ret Ev Post) $ sets ! (of_opd ! (get ! refl)) refl (tt, tt) $
     use2 𝓛 (‵ (leaving_owns R token p j cs)) (apply∗ 𝓤 (sem 𝓛 (flags_of R m p n (j / 64))) (sem 𝓛 (leaving_owns R token p j cs))) $ use1 𝓛 (‵ (leaving_owns R token p k ds)) (looked 𝓛 R token p j cs near) $
     rewrite ! 2 Cell (sym seen) refl $ let h' : Lv.Denot = record { at = p; marker = h.marker; heap = h.heap; slots = ds; gone = k } in

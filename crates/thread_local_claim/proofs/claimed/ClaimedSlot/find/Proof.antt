@@ -18,7 +18,7 @@ use Rattle.thread_local_chunks.specs.Slots.{stride, value_words, word_number, wo
 use Rattle.thread_local_chunks.proofs.Flags.{in_chunks, value_near}
 use Rattle.thread_local_chunks.proofs.Slots.{IsWordNear, word_is_near}
 use Rattle.thread_local_bits.specs.Bits.{is_set}
-use Rattle.thread_local_bits.proofs.Word.{is_set-test, masked_fits}
+use Rattle.thread_local_bits.proofs.Word.{is_set-test, masked_fits, place_below, place_fits, shifted_right}
 use Rattle.thread_local_chunks.specs.Slots as blocks_specs
 use Rattle.thread_local_shared_word_logic.specs.Shared.{WordView, Turn, Standing, Sized, mark, len, invariant, loaded}
 use Rattle.thread_local_shared_word.proofs.Fields.{pointer_good}
@@ -32,7 +32,7 @@ use Rattle.thread_local_claim.specs.contracts.claimed.ClaimedSlot.find.{ended, c
 use Rattle.thread_local_claim.specs.contracts.claimed.ClaimedSlot.find.Key.{name as #self}
 use Rattle.thread_local_claim_logic.proofs.Early.{comes}
 use Rattle.thread_local_claim_logic.proofs.Steps as steps
-use Rattle.thread_local_claim.proofs.Fields.{Kept, kept_of, value_of, Words, fields_of, told, made, typed, number_in, bit_within, bit_fits, shifted_fits, spaced, spaced_is}
+use Rattle.thread_local_claim.proofs.Fields.{Kept, kept_of, value_of, Words, fields_of, told, made, typed, number_in, spaced, spaced_is}
 use Rattle.thread_local_claim.proofs.claimed.ClaimedSlot.find.Statement.{statement}
 use Rattle.thread_local_claim.proofs.claimed.ClaimedSlot.find.Code as code
 
@@ -106,8 +106,8 @@ find_spec 𝓤 𝓛 𝓜 𝓡 wired X L =
     lands_last ! refl (tt, record { fits = nf }) $ exec ! 𝓣.C 𝓣.Λ Ev (after 11 fn.body) (at_ret Ev Post) $ fsplit ! $ move ! (0 ∷ 4 ∷ []) $ use2 𝓛 (later (‵ (flft β q))) (apply∗ 𝓤 (𝓛.A.lft t.life s) (H.⇛ (𝓛.A.lft β q))) $ await ! tt $
     -- [the token; what was found; the row; the invariant; before; the other tokens]
     let seen : Bool = is_set n j in let m : Kept = record { word = block_ptr wb wo; flag_word = block_ptr pb at_word; value = block_ptr pb e; index = i; found = true; published = seen } in let pl' : Place = place_of h.id i (block_ptr pb at_word) (block_ptr pb e) h.reserved in
-    sets ! (of_opd ! (get ! refl)) refl (tt, record { fits = nf }) $ sets ! (bin ! (get ! refl) (lit ! tt) (lit< tt)) refl (tt, record { fits = bit_fits i }) $ sets ! (of_opd ! (get ! refl)) refl (tt, record { fits = bit_fits i }) $
-    sets ! (bin ! (get ! refl) (get ! refl) (bit_within i)) refl (tt, record { fits = shifted_fits n j nf }) $ sets ! (bin ! (get ! refl) (lit ! tt) tt) refl (tt, record { fits = masked_fits (n / 2 ^ j) 1 (shifted_fits n j nf) }) $
+    sets ! (of_opd ! (get ! refl)) refl (tt, record { fits = nf }) $ sets ! (bin ! (get ! refl) (lit ! tt) (lit< tt)) refl (tt, record { fits = place_fits i }) $ sets ! (of_opd ! (get ! refl)) refl (tt, record { fits = place_fits i }) $
+    sets ! (bin ! (get ! refl) (get ! refl) (place_below i)) refl (tt, record { fits = shifted_right n j nf }) $ sets ! (bin ! (get ! refl) (lit ! tt) tt) refl (tt, record { fits = masked_fits (n / 2 ^ j) 1 (shifted_right n j nf) }) $
     sets ! (is ! (bin ! (get ! refl) (lit ! tt) tt) (ap vbool (is_set-test n j))) refl (tt, tt) $ sets ! (agg ! (no_more !)) refl (tt, tt) $
     sets ! (agg ! (and_then ! (get ! refl) (and_then ! (get ! refl) (and_then ! (get ! refl) (and_then ! (get ! refl) (and_then ! (true_lit !) (and_then ! (get ! refl) (and_then ! (get ! refl) (no_more !))))))))) refl (typed m fits) $
     move ! (1 ∷ []) $ fpick ! (λ x. fsplit ! $ fpick ! (λ known. drop ! $ move ! (2 ∷ 0 ∷ []) $ fjoin ! $ nothing ! $ fpack ! (IsAt R (len R d) s' pl') (λ _. ftrue) (refl, refl) $ fjoin ! $ fpack ! Standing (has_slot R d t β pl' x) s' $ use1 𝓛 (‵ (has R d t β pl' (found_as x))) (found_in 𝓛 R d t β pl' x) $

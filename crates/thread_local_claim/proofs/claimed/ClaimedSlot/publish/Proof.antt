@@ -1,7 +1,6 @@
 -- `publish` writes the value into the slot's room, freezes it where it may be shared, and then sets the flag.
-use Rattle.thread_local_chunks.proofs.Names.{bin, ◌≡◌, ℕ, ◌+◌, ◌*◌, ◌^◌, List, [], ◌∷◌, ◌++◌, length, sym, refl, ap, subst, lit<, w64, Option, Some, None, true, a_type, bare, Val, vint, inst_fn, full_share, SProp, ent, wand, id⊢, emp, via, apply∗, Lft, Share, GName, Fml, ftrue, fsep, fat, froom, flft, fbor, fex, fobs, fauth, WpFn, ‵, raw, ◌⊛◌, given, some, later, mean, at_ret, ◌$◌, ◌∵◌, !, qed, by, move, keep, drop, use0, use1, use2, await, split, split3, join, pick, fsplit, fsplit3, fjoin, fjoin3, fpick, fpack, learn, group, suffices, rewrite, stop, fld, lit, of_opd, no_more, and_then, first, blocks, exec, returns, enter, init, assigns_last, alloc_all, pass_all, free_all, look_at, get, get_in, through, sets, lands_last, is, env, agg, sub, whole, tables, fact, fact_i, no, RattleType, owns, types_at, plain, Ptr, block_ptr, block_of, count_of, nothing, heard, param, layout, param_laws, Stays, stay_dropped, walk_of, Goes-dropped, Member, proved_at, leaves, fm, after, one, gather}
+use Rattle.thread_local_chunks.proofs.Names.{bin, ◌≡◌, ℕ, ◌+◌, ◌^◌, List, [], ◌∷◌, ◌++◌, length, sym, refl, ap, subst, lit<, w64, Option, Some, None, true, a_type, bare, Val, vint, inst_fn, full_share, SProp, ent, wand, id⊢, emp, via, apply∗, Lft, Share, GName, Fml, ftrue, fsep, fat, froom, flft, fbor, fex, fobs, fauth, WpFn, ‵, raw, ◌⊛◌, given, some, later, mean, at_ret, ◌$◌, ◌∵◌, !, qed, by, move, keep, drop, use0, use1, use2, await, split, split3, join, pick, fsplit, fsplit3, fjoin, fjoin3, fpick, fpack, learn, group, suffices, rewrite, stop, fld, lit, of_opd, no_more, and_then, first, blocks, exec, returns, enter, init, assigns_last, alloc_all, pass_all, free_all, look_at, get, get_in, through, sets, lands_last, is, env, agg, sub, whole, tables, fact, fact_i, no, RattleType, owns, types_at, plain, Ptr, block_ptr, block_of, count_of, nothing, heard, param, layout, param_laws, Stays, stay_dropped, walk_of, Goes-dropped, Member, proved_at, leaves, fm, after, one, gather}
 use Rattle.std.proofs.Common.{◌<◌, ◌/◌, ◌%◌}
-use Rattle.std.proofs.lemmas.Nat.{mod_below}
 use mir.Syntax.{dnil}
 use mir.Val.{vptr}
 use base.Fml.{fres, finv, Incl, Incl-trans}
@@ -19,6 +18,7 @@ use denote.Signature.{named_lft}
 use Rattle.std.proofs.raw_atomic.Calls.{seq_cst, found, finds, adds}
 use Rattle.std.proofs.raw_atomic.PtrCalls.{seq_cst_good}
 use Rattle.std.specs.Coded.{coded_option}
+use Rattle.thread_local_bits.proofs.Word.{place_below, place_fits, shifted_left}
 use Rattle.thread_local_judged.specs.Judged.{Judged}
 use Rattle.thread_local_rights.specs.Rights.{right_owns}
 use Rattle.thread_local_chunks.specs.Slots.{word_at, value_in, place}
@@ -31,7 +31,7 @@ use Rattle.thread_local_claim.specs.contracts.claimed.ClaimedSlot as claim
 use Rattle.thread_local_claim.specs.contracts.claimed.ClaimedSlot.publish.{ended, clauses}
 use Rattle.thread_local_claim.specs.contracts.claimed.ClaimedSlot.publish.Key.{name as #self}
 use Rattle.thread_local_claim_logic.proofs.Steps as steps
-use Rattle.thread_local_claim.proofs.Fields.{Kept, kept_of, value_of, Words, fields_of, told, made, typed, bit_within, bit_fits}
+use Rattle.thread_local_claim.proofs.Fields.{Kept, kept_of, value_of, Words, fields_of, told, made, typed}
 use Rattle.thread_local_claim.proofs.claimed.ClaimedSlot.publish.Statement.{statement}
 use Rattle.thread_local_claim.proofs.claimed.ClaimedSlot.publish.Code as code
 
@@ -88,8 +88,8 @@ publish_spec 𝓤 𝓛 𝓜 𝓡 wired X L =
     -- [what is kept; the invariant; before; what is offered; the other tokens; the token; for the claim; what is known; the row; which block it is]
     move ! (2 ∷ 5 ∷ []) $ use2 𝓛 (later (some (λ (g' : Share). ‵ (flft t.life g') ⊛ raw (wand 𝓤 (𝓛.A.lft t.life g') (H.⇛ (𝓛.A.lft β q)))))) (Lends-one 𝓛 𝓜 𝓡 β t.life q) $ await ! tt $ pick ! (λ g'. split ! $
     let low = subst (λ (n : ℕ). i < n) (sym sized.0) of.4 in let out : Fml = fsep (flft t.life g') (right_owns t.filled h.id) in
-    let flag : ℕ = steps.flag 𝓛 R d t wb (wo + 0) s i h.id e pb low of.3 refl refl in let flag_fits : flag < 2 ^ 64 = mod_below (1 * 2 ^ j) (2 ^ 64) (lit< tt) in let after_it : ℕ → Fml = λ _. out in
-    first ! $ blocks ! $ sets ! (bin ! (get ! refl) (lit ! tt) (lit< tt)) refl (tt, record { fits = bit_fits i }) $ sets ! (of_opd ! (get ! refl)) refl (tt, record { fits = bit_fits i }) $ sets ! (bin ! (lit ! tt) (get ! refl) (bit_within i)) refl (tt, record { fits = flag_fits }) $
+    let flag : ℕ = steps.flag 𝓛 R d t wb (wo + 0) s i h.id e pb low of.3 refl refl in let flag_fits : flag < 2 ^ 64 = shifted_left 1 j in let after_it : ℕ → Fml = λ _. out in
+    first ! $ blocks ! $ sets ! (bin ! (get ! refl) (lit ! tt) (lit< tt)) refl (tt, record { fits = place_fits i }) $ sets ! (of_opd ! (get ! refl)) refl (tt, record { fits = place_fits i }) $ sets ! (bin ! (lit ! tt) (get ! refl) (place_below i)) refl (tt, record { fits = flag_fits }) $
     sets ! (agg ! (and_then ! (lit ! tt) (no_more !))) refl seq_cst_good $ move ! (3 ∷ 0 ∷ 9 ∷ 4 ∷ []) $ group ! 4 $
     use1 𝓛 (raw (𝓣.C _ (vptr pb at_word ∷ vint w64 flag ∷ seq_cst ∷ []) (λ v. mean 𝓛 (found after_it v))))
     (via 𝓤 _ (steps.publishes 𝓛 R d t wb (wo + 0) s i h.id e pb low of.3 refl refl g' x) (adds 𝓛 𝓜 𝓡 (code.calls-std::sync::atomic::raw::fetch_add 𝓡.env wired) (block_ptr pb at_word) flag flag_fits after_it)) $

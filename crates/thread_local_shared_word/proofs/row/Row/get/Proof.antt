@@ -21,10 +21,9 @@ use Rattle.std.proofs.raw_atomic.Calls.{found, finds, loads, seq_cst}
 use Rattle.std.specs.Prelude.{bit_and}
 use Rattle.std.proofs.lemmas.Bool.{cases_eq, eq-eqb}
 use Rattle.std.proofs.lemmas.Nat.Bits.{bit_at-lt, shr_and_one}
-use Rattle.std.proofs.Math.Nat.{div-le_self}
 use Rattle.std.specs.Sync.RawAtomic.{asks, always}
 use Rattle.thread_local_bits.specs.Bits.{is_set}
-use Rattle.thread_local_bits.proofs.Word.{is_set-test}
+use Rattle.thread_local_bits.proofs.Word.{is_set-test, masked_fits, place_below, place_fits, shifted_right}
 use Rattle.thread_local_chunks.specs.Slots.{stride, value_words, word_number, word_at, value_in}
 use Rattle.thread_local_chunks.proofs.Flags.{in_chunks, uncapped, value_near}
 use Rattle.thread_local_chunks.proofs.Slots.{IsWordNear, word_is_near}
@@ -70,7 +69,6 @@ get_spec {M} 𝓤 𝓛 𝓜 𝓡 wired T L =
     let inb : InBlock p = subst InBlock so.0 long.1.0 in let at : p ≡ block_ptr pb (count_of p) = at_block p inb in
     let here : IsWordNear R many (i / 64) = word_is_near R many (i / 64) long.1.2 (in_chunks many i near) in let number_at : k ≡ value_words R many + i / 64 = numbered ∙ here.number in
     let small : k * 8 < 2 ^ 64 = subst (λ (m : ℕ). m * 8 < 2 ^ 64) (sym number_at) here.near in let value_fits : i * stride R < 2 ^ 64 = value_near R many i long.1.2 near in
-    let rest_fits : bit < 2 ^ 64 = omega arith in let shifts : bit < 64 = omega arith in
     let low : i < length sd.names = subst (λ (n : ℕ). i < n) (sym long.0) near in let at_e : e ≡ value_in R (count_of sd.at) i = ap (λ (u : Ptr). value_in R (count_of u) i) (sym so.0) in let at_b : block_of sd.at ≡ pb = ap block_of so.0 in
     let lent = steps.lent 𝓛 R LR shareable d t z.2 z.3 sd i (i + first_id R d) e pb low refl at_e at_b in
     move ! (2 ∷ 6 ∷ []) $ use2 𝓛 (later (some (λ (s : Share). ‵ (flft t.life s) ⊛ raw (wand 𝓤 (𝓛.A.lft t.life s) (H.⇛ (𝓛.A.lft β q)))))) (Lends-one 𝓛 𝓜 𝓡 β t.life q) $ await ! tt $ pick ! (λ s. split ! $
@@ -95,9 +93,9 @@ get_spec {M} 𝓤 𝓛 𝓜 𝓡 wired T L =
     fsplit ! $ move ! (0 ∷ 4 ∷ []) $ use2 𝓛 (later (‵ (flft β q))) (apply∗ 𝓤 (𝓛.A.lft t.life s) (H.⇛ (𝓛.A.lft β q))) $ await ! tt $
     -- [β's token; what was seen; κ's token; the fields; before the block's own; the others]
     move ! (0 ∷ 5 ∷ []) $ join ! $ move ! (2 ∷ 0 ∷ []) $ join ! $ sets ! (of_opd ! (get ! refl)) refl (tt, record { fits = fits }) $ sets ! (of_opd ! (get ! refl)) refl (tt, record { fits = are.1.0.1 }) $
-    sets ! (bin ! (get ! refl) (lit ! tt) (lit< tt)) refl (tt, record { fits = rest_fits }) $ sets ! (of_opd ! (get ! refl)) refl (tt, record { fits = rest_fits }) $
-    let less = div-le_self n (2 ^ bit) in let shifted : n / 2 ^ bit < 2 ^ 64 = omega arith in let below = bit_below n bit in let masked : bit_and (n / 2 ^ bit) 1 < 2 ^ 64 = omega arith in
-    sets ! (bin ! (get ! refl) (get ! refl) shifts) refl (tt, record { fits = shifted }) $ sets ! (bin ! (get ! refl) (lit ! tt) tt) refl (tt, record { fits = masked }) $
+    sets ! (bin ! (get ! refl) (lit ! tt) (lit< tt)) refl (tt, record { fits = place_fits i }) $ sets ! (of_opd ! (get ! refl)) refl (tt, record { fits = place_fits i }) $
+    let shifted : n / 2 ^ bit < 2 ^ 64 = shifted_right n bit fits in
+    sets ! (bin ! (get ! refl) (get ! refl) (place_below i)) refl (tt, record { fits = shifted }) $ sets ! (bin ! (get ! refl) (lit ! tt) tt) refl (tt, record { fits = masked_fits (n / 2 ^ bit) 1 shifted }) $
     sets ! (bin ! (get ! refl) (lit ! tt) tt) refl (tt, tt) $ first ! $ branches ! (get ! refl)
     (λ _. sets_last ! (agg ! (and_then ! (lit ! tt) (no_more !))) refl (tt, (record { fits = lit< tt }, tt)) $ exec ! 𝓣.C 𝓣.Λ Ev (after 13 fn.body) (at_ret Ev Post) $ sets ! (of_opd ! (get ! refl)) refl (tt, (record { fits = lit< tt }, tt)) $
     nothing ! $ use0 𝓛 (‵ ((Opt.the_row G).own_val None (live 0 vnil ∷ []))) (none_of 𝓛 G) $ nothing ! $ nothing ! $ fjoin ! $ nothing ! $ fjoin ! $ nothing ! $ fjoin ! $

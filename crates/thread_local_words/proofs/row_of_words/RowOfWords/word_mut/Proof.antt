@@ -26,8 +26,8 @@ use denote.Steps.{nothing, heard}
 use denote.Triple.Walked.{Stays, stay_dropped, walk_of, Goes-dropped, Goes-spent_ref}
 use Rattle.std.specs.Prelude.{slice_index_or}
 use Rattle.std.proofs.raw_atomic.Walks.{proved, leaves}
-use Rattle.thread_local_words.specs.contracts.word.Word as word
-use Rattle.thread_local_words.proofs.word.Word.TheLaws as word_laws
+use Rattle.thread_local_owner_word.specs.contracts.word.Word as word
+use Rattle.thread_local_owner_word.proofs.word.Word.TheLaws as word_laws
 use Rattle.thread_local_words.specs.Rows.{null_word, with_word}
 use Rattle.thread_local_words.specs.contracts.row_of_words.RowOfWords as rows
 use Rattle.thread_local_words.specs.contracts.row_of_words.RowOfWords.word_mut.{ended, clauses}

@@ -1,0 +1,2 @@
+pub mod WordSteps
+pub mod LentValue
