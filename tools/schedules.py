@@ -1000,7 +1000,7 @@ def show(seed):
 def main():
     words = argparse.ArgumentParser(description=__doc__.splitlines()[0])
     words.add_argument("--seed", type=int, default=1)
-    words.add_argument("--runs", type=int, help="how many schedules: 2000 (under three minutes), or 100 with --short")
+    words.add_argument("--runs", type=int, help="how many schedules: 2000 (under five minutes), or 100 with --short")
     words.add_argument("--short", action="store_true", help="fewer schedules: under 20 seconds")
     words.add_argument("--events", type=int, default=250)
     words.add_argument("--buckets", type=int, default=3)

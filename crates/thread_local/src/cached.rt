@@ -34,6 +34,8 @@ impl<T> CachedThreadLocal<T> {
     /// A table with no value, no bucket and no id held. It takes no memory, and never waits. The type of the values is judged, as
     /// `ThreadLocal::new` asks.
     pub fn new(alloc: Global) -> CachedThreadLocal<T>
+    where
+        T: Send,
         requires judged { Judged T.row }
         ensures reserved { result.reserved ≡ 0 }
     {
@@ -64,12 +66,13 @@ impl<T> CachedThreadLocal<T> {
     }
 }
 
-impl<T: Judge> MadeWith<Global> for CachedThreadLocal<T> {
+impl<T: Judge + Send> MadeWith<Global> for CachedThreadLocal<T> {
     ghost is_made_with = { λ cached. cached.reserved ≡ 0 };
 
     fn made_with(alloc: Global) -> CachedThreadLocal<T> {
-        T::judge();
-        CachedThreadLocal::new(alloc)
+        CachedThreadLocal {
+            table: ThreadLocal::made_with(alloc),
+        }
     }
 }
 

@@ -59,10 +59,10 @@ fn looked_at_by_another<R: Wait + Threads + Sync>(rt: &R, alloc: Global) -> Opti
     Some(thread::join(rt, || local.get().is_none(), || ()).0)
 }
 
-/// Another thread takes a place in a table.
-fn taken_by_another<R: Wait + Threads + Sync>(rt: &R, alloc: Global) -> bool {
-    let table = ThreadLocal::<u32>::new(alloc);
-    thread::join(rt, || table.local(rt).is_ok(), || ()).0
+/// A table of values that may cross between threads is made.
+fn made_of_numbers(alloc: Global) -> usize {
+    let mut made = ThreadLocal::<u32>::new(alloc);
+    made.slots()
 }
 
 /// A table of values that threads may share is walked over.
@@ -104,10 +104,8 @@ fn the_programs_run(rt: HostRuntime) -> Result<(), Fail> {
         swapped(&table, &rt),
     ];
     let together = with_two_places(&table, &rt);
-    let by_others = (
-        taken_by_another(&rt, rt.alloc()),
-        looked_at_by_another(&rt, rt.alloc()),
-    );
+    let made = made_of_numbers(rt.alloc());
+    let by_another = looked_at_by_another(&rt, rt.alloc());
     let owned = owned_at_last(table, &rt);
     let mut other = ThreadLocal::<u32>::new(rt.alloc());
     let walked = (
@@ -117,8 +115,8 @@ fn the_programs_run(rt: HostRuntime) -> Result<(), Fail> {
     assert_eq!(rt; walked, (0, None));
     assert_eq!(rt; alone, [None, Some(1), Some(1), Some(1)]);
     assert_eq!(rt;
-        (together, by_others, owned),
-        (Some([Some(2), Some(1)]), (true, Some(true)), Some(3))
+        (together, made, by_another, owned),
+        (Some([Some(2), Some(1)]), 0, Some(true), Some(3))
     );
     Ok(())
 }

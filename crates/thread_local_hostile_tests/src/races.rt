@@ -81,21 +81,37 @@ fn race<R: Threads + Wait + Sync>(
     Ok(published.load(SeqCst))
 }
 
+/// Whether an owner's walk gives the number of each racer, in order.
+fn in_order(table: ThreadLocal<u32>) -> bool {
+    let mut ascends = true;
+    let mut next = 0u32;
+    for value in table {
+        ascends &= value == next;
+        next = next.wrapping_add(1);
+    }
+    ascends && next == RACERS
+}
+
+/// Whether a shared walk does.
+fn shared_in_order(table: &ThreadLocal<u32>) -> bool {
+    let mut ascends = true;
+    let mut next = 0u32;
+    for value in table.iter() {
+        ascends &= *value == next;
+        next = next.wrapping_add(1);
+    }
+    ascends && next == RACERS
+}
+
 #[test]
 fn many_locals_race_for_their_buckets(rt: HostRuntime) -> Result<(), Fail> {
     for _ in 0..100 {
         let mut table = ThreadLocal::<u32>::new(rt.alloc());
         let published = race(&table, &rt, rt.alloc()).ok();
         let slots = table.slots();
-        let mut in_order = true;
-        let mut next = 0u32;
-        for value in table {
-            in_order &= value == next;
-            next = next.wrapping_add(1);
-        }
         assert_eq!(rt;
-            (published, slots, in_order, next),
-            (Some(RACERS), 127, true, RACERS)
+            (published, slots, in_order(table)),
+            (Some(RACERS), 127, true)
         );
     }
     Ok(())
@@ -128,21 +144,17 @@ fn walks_ascend(table: &ThreadLocal<u32>) -> bool {
 #[test]
 fn walks_ascend_while_many_locals_race(rt: HostRuntime) -> Result<(), Fail> {
     for _ in 0..100 {
-        let table = ThreadLocal::<u32>::new(rt.alloc());
+        let mut table = ThreadLocal::<u32>::new(rt.alloc());
         let both = thread::join(
             &rt,
             || race(&table, &rt, rt.alloc()).ok(),
             || walks_ascend(&table),
         );
-        let mut in_order = true;
-        let mut next = 0u32;
-        for value in table.iter() {
-            in_order &= *value == next;
-            next = next.wrapping_add(1);
-        }
+        let seen = shared_in_order(&table);
+        let slots = table.slots();
         assert_eq!(rt;
-            (both, in_order, next),
-            ((Some(RACERS), true), true, RACERS)
+            (both, seen, slots, in_order(table)),
+            ((Some(RACERS), true), true, 127, true)
         );
     }
     Ok(())

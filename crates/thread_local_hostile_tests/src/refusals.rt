@@ -50,20 +50,33 @@ impl Publishing {
         }
     }
 
-    /// Publishes a number, or the default, at a place that holds nothing, once more if memory is refused. Answers whether each call
-    /// did as it promises.
-    fn insist<R: Wait + Print>(self, local: &mut Local<'_, u32, R>, rt: &R, number: u32) -> bool {
+    /// Publishes a number, or the default, at a place that holds nothing. Answers whether the call did as it promises. An error is want of
+    /// memory, after which no closure was called, and the place holds nothing.
+    fn tried<R: Wait + Print>(
+        self,
+        local: &mut Local<'_, u32, R>,
+        rt: &R,
+        number: u32,
+    ) -> Result<bool, AllocError> {
         let calls = Cell::new(0);
-        let mut got = self.publish(local, number, &calls);
-        if got.is_err() {
-            let _told = println!(rt; "refused: {}", self.name());
-            if calls.get() != 0 || local.get().is_some() {
-                return false;
+        match self.publish(local, number, &calls) {
+            Ok(got) => {
+                let (wanted, called) = self.wanted(number);
+                Ok(got == wanted && calls.get() == called && self.stands(local, number))
             }
-            got = self.publish(local, number, &calls);
+            Err(error) => {
+                let _told = println!(rt; "refused: {}", self.name());
+                if calls.get() != 0 || local.get().is_some() {
+                    return Ok(false);
+                }
+                Err(error)
+            }
         }
-        let (wanted, called) = self.wanted(number);
-        got == Ok(wanted) && calls.get() == called && local.get() == Some(&wanted)
+    }
+
+    /// Whether a place finds what was published there for a number.
+    fn stands<R: Wait>(self, local: &Local<'_, u32, R>, number: u32) -> bool {
+        local.get() == Some(&self.wanted(number).0)
     }
 
     /// What is published in the place of a number, and how often a closure is called for it.
@@ -75,37 +88,61 @@ impl Publishing {
         }
     }
 
-    /// Three `Local`s that are held at once publish 6, 7 and 8. Answers whether each call did as it promises.
+    /// Three `Local`s that are held at once publish 6, 7 and 8. A call that is refused is made again, once it is seen that the earlier places find
+    /// what they found. Answers whether each call did as it promises.
     fn by_three<R: Wait + Print>(
         self,
         table: &ThreadLocal<u32>,
         rt: &R,
     ) -> Result<bool, LocalError> {
-        let mut first = taken(table, rt)?;
-        let mut as_promised = self.insist(&mut first, rt, 6);
-        let mut second = taken(table, rt)?;
-        as_promised &= self.insist(&mut second, rt, 7);
-        as_promised &= first.get() == Some(&self.wanted(6).0);
-        let mut third = taken(table, rt)?;
-        as_promised &= self.insist(&mut third, rt, 8);
-        as_promised &= first.get() == Some(&self.wanted(6).0);
-        as_promised &= second.get() == Some(&self.wanted(7).0);
-        Ok(as_promised)
+        let mut first = match taken(table, rt) {
+            Ok(local) => local,
+            Err(_) => taken(table, rt)?,
+        };
+        let mut as_promised = match self.tried(&mut first, rt, 6) {
+            Ok(done) => done,
+            Err(_) => self.tried(&mut first, rt, 6) == Ok(true),
+        };
+        let mut second = match taken(table, rt) {
+            Ok(local) => local,
+            Err(_) => {
+                as_promised &= self.stands(&first, 6);
+                taken(table, rt)?
+            }
+        };
+        as_promised &= match self.tried(&mut second, rt, 7) {
+            Ok(done) => done,
+            Err(_) => self.stands(&first, 6) && self.tried(&mut second, rt, 7) == Ok(true),
+        };
+        as_promised &= self.stands(&first, 6);
+        let mut third = match taken(table, rt) {
+            Ok(local) => local,
+            Err(_) => {
+                as_promised &= self.stands(&first, 6) && self.stands(&second, 7);
+                taken(table, rt)?
+            }
+        };
+        as_promised &= match self.tried(&mut third, rt, 8) {
+            Ok(done) => done,
+            Err(_) => {
+                as_promised &= self.stands(&first, 6) && self.stands(&second, 7);
+                self.tried(&mut third, rt, 8) == Ok(true)
+            }
+        };
+        Ok(as_promised && self.stands(&first, 6) && self.stands(&second, 7))
     }
 }
 
-/// A `Local`, which is asked for once more if memory is refused.
+/// A `Local`. An error that is want of memory is told.
 fn taken<'a, R: Wait + Print>(
     table: &'a ThreadLocal<u32>,
     rt: &'a R,
 ) -> Result<Local<'a, u32, R>, LocalError> {
-    match table.local(rt) {
-        Err(LocalError::Memory(_)) => {
-            let _told = println!(rt; "refused: local");
-            table.local(rt)
-        }
-        had => had,
+    let had = table.local(rt);
+    if matches!(had, Err(LocalError::Memory(_))) {
+        let _told = println!(rt; "refused: local");
     }
+    had
 }
 
 #[test]

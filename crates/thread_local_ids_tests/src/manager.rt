@@ -1,10 +1,11 @@
+use std::io::Print;
 use std::process::Abort;
 use std::test::Fail;
 use thread_local_thread_id::{LocalError, ThreadIdManager};
 
 /// Takes an id; where memory is refused, nothing has changed and the same call succeeds.
 fn take(
-    rt: &impl Abort,
+    rt: &(impl Abort + Print),
     manager: &mut ThreadIdManager,
     held: &[usize],
 ) -> Result<usize, LocalError> {
@@ -12,6 +13,7 @@ fn take(
         Ok(id) => Ok(id),
         Err(LocalError::Exhausted) => Err(LocalError::Exhausted),
         Err(LocalError::Memory(_)) => {
+            let _told = println!(rt; "refused: alloc");
             for id in 0..8 {
                 assert_eq!(rt;
                     manager.is_held(id),
@@ -62,7 +64,10 @@ fn a_returned_id_needs_no_memory(rt: HostRuntime) -> Result<(), Fail> {
 
 #[test]
 fn room_that_was_made_is_enough(rt: HostRuntime) -> Result<(), Fail> {
-    let mut manager = ThreadIdManager::with_room(rt.alloc(), 3)?;
+    let Ok(mut manager) = ThreadIdManager::with_room(rt.alloc(), 3) else {
+        println!(rt; "refused: with_room")?;
+        return Ok(());
+    };
     // No memory is asked for here, so a refusal would be a fault of the manager's.
     for id in 0..3usize {
         assert_eq!(rt; manager.alloc()?, id);
@@ -82,7 +87,10 @@ fn room_that_was_made_is_enough(rt: HostRuntime) -> Result<(), Fail> {
 
 #[test]
 fn room_is_made_in_whole_words(rt: HostRuntime) -> Result<(), Fail> {
-    let mut manager = ThreadIdManager::with_room(rt.alloc(), 65)?;
+    let Ok(mut manager) = ThreadIdManager::with_room(rt.alloc(), 65) else {
+        println!(rt; "refused: with_room")?;
+        return Ok(());
+    };
     // No memory is asked for here, so a refusal would be a fault of the manager's.
     for id in 0..128usize {
         assert_eq!(rt; manager.alloc()?, id);

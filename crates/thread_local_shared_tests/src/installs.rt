@@ -32,24 +32,27 @@ impl<'a, T> Early<'a, T> {
     }
 
     /// Offers a block of the claim's bucket, if that was missing, and answers the claim if it did.
-    fn offered(self, alloc: Global) -> Option<Claim<'a, T>> {
-        let Self { claim, bucket } = self;
+    fn offered(self, private: Private<T>) -> Option<Claim<'a, T>>
+        requires { private.bucket ≡ self.bucket }
+    {
+        let Self { claim, bucket: _ } = self;
         let mut claim = claim;
         if !claim.is_missing() {
             claim.leave();
             return None;
         }
-        let Ok(private) = Private::new(alloc, bucket) else {
-            claim.leave();
-            return None;
-        };
         claim.install(private);
         Some(claim)
     }
 
-    /// The same, and gives the claim up. Answers whether it did.
+    /// Makes a block, offers it and gives the claim up. Answers whether it did.
     fn offer(self, alloc: Global) -> bool {
-        match self.offered(alloc) {
+        let Self { claim, bucket } = self;
+        let Ok(private) = Private::new(alloc, bucket) else {
+            claim.leave();
+            return false;
+        };
+        match (Early { claim, bucket }).offered(private) {
             Some(claim) => {
                 claim.leave();
                 true
@@ -132,7 +135,7 @@ fn blocks_that_come_second_are_freed(rt: HostRuntime) -> Result<(), Fail> {
     Ok(())
 }
 
-// The second offer, and what comes after both, goes on with the first's block.
+// Both blocks are made before the first is installed. The second offer, and what comes after both, goes on with the first's block.
 #[test]
 fn the_second_of_two_blocks_gives_way(rt: HostRuntime) -> Result<(), Fail> {
     let mut ids = Ids::new(rt.alloc());
@@ -140,13 +143,13 @@ fn the_second_of_two_blocks_gives_way(rt: HostRuntime) -> Result<(), Fail> {
     let _first = ids.take()?;
     let second = claim_early(&shared, ids.take()?);
     let third = claim_early(&shared, ids.take()?);
-    let second = second.offered(rt.alloc()).expect(&rt, "an offer");
-    let before = look(&shared, 1);
-    let first = publish_claimed(second, 1).1;
-    let third = third.offered(rt.alloc()).expect(&rt, "an offer");
-    let after = look(&shared, 1);
-    let published = [first, publish_claimed(third, 2).1];
-    assert_eq!(rt; (before, after, published), (None, Some(1), [true; 2]));
+    let installed = Private::new(rt.alloc(), second.bucket)?;
+    let offered = Private::new(rt.alloc(), third.bucket)?;
+    let second = second.offered(installed).expect(&rt, "an offer");
+    let third = third.offered(offered).expect(&rt, "an offer");
+    let published = [publish_claimed(second, 1).1, publish_claimed(third, 2).1];
+    let seen = [look(&shared, 1), look(&shared, 2)];
+    assert_eq!(rt; (published, seen), ([true; 2], [Some(1), Some(2)]));
     let mut buckets = shared.into_buckets();
     let slots = buckets.slots();
     assert_eq!(rt;

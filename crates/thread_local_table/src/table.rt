@@ -24,7 +24,7 @@ mod lends;
 ///
 /// A thread asks for a `Local`, which holds the least id not held, and finds or makes that id's value through it. Values outlive
 /// their `Local`s, and stay in place until somebody has the table alone: that owner walks over all of them by ascending id.
-/// Threads share a table through a `&`; it crosses between threads for every `T: Send`.
+/// Threads share a table through a `&`; it crosses between threads. A table can be made of every `T: Send`.
 ///
 /// Contracts see a name, which no other table has, and the number of reserved slots. Dropping a table drops every value.
 #[derive(Drop)]
@@ -46,6 +46,16 @@ impl<T> ThreadLocal<T> {
     /// A table with no value, no bucket and no id held. It takes no memory. The type of the values is judged: the check finds that at
     /// most types, and `Judge` and `judge_sync` show it at others.
     pub fn new(alloc: Global) -> ThreadLocal<T>
+    where
+        T: Send,
+        requires judged { Judged T.row }
+        ensures reserved { result.reserved ≡ 0 }
+    {
+        ThreadLocal::empty(alloc)
+    }
+
+    /// The same, for callers that show nothing of the type's `Send`: a trait's method doesn't know the bounds of its impl.
+    fn empty(alloc: Global) -> ThreadLocal<T>
         requires judged { Judged T.row }
         ensures reserved { result.reserved ≡ 0 }
     {
@@ -59,7 +69,7 @@ impl<T> ThreadLocal<T> {
     /// before memory is asked for. `Memory` is want of memory for the ids or for a bucket, and what was had before is freed.
     pub fn with_capacity(alloc: Global, capacity: usize) -> Result<ThreadLocal<T>, CapacityError>
     where
-        T: Drop,
+        T: Drop + Send,
         requires judged { Judged T.row }
         ensures reserved { IfOk result (λ table. table.reserved ≡ reserved_slots capacity) }
         ensures too_large { 2 ^ 63 ≤ capacity → result ≡ Err CapacityError.TooLarge }
@@ -119,7 +129,7 @@ impl<T> ThreadLocal<T> {
     {
         let alloc = self.core.alloc();
         self.core.judged();
-        let Self { core } = replace(self, ThreadLocal::new(alloc));
+        let Self { core } = replace(self, ThreadLocal::empty(alloc));
         *self = ThreadLocal {
             core: core.cleared(),
         };
@@ -136,12 +146,12 @@ impl<T: Sync> ThreadLocal<T> {
     }
 }
 
-impl<T: Judge> MadeWith<Global> for ThreadLocal<T> {
+impl<T: Judge + Send> MadeWith<Global> for ThreadLocal<T> {
     ghost is_made_with = { λ table. table.reserved ≡ 0 };
 
     fn made_with(alloc: Global) -> ThreadLocal<T> {
         T::judge();
-        ThreadLocal::new(alloc)
+        ThreadLocal::empty(alloc)
     }
 }
 

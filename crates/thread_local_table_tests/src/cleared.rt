@@ -1,5 +1,5 @@
-//! What a cleared table keeps. Each test holds whichever request for memory is refused: run one with `rt try --test --fail-alloc N -- NAME`,
-//! for each N until a run meets no refusal.
+//! What a cleared table keeps. `tools/refusals` runs these tests with the first request for memory refused, with the second, and so on until no request
+//! is refused any more. Each test holds whichever it is, and says which call was refused; with ample memory it says nothing.
 
 use std::sync::Wait;
 use std::test::Fail;
@@ -58,9 +58,11 @@ fn four_publish<R: Wait>(table: &ThreadLocal<u32>, rt: &R) -> Result<Four, Local
 #[test]
 fn a_cleared_table_keeps_its_reserved_slots_and_its_room(rt: HostRuntime) -> Result<(), Fail> {
     let Ok(mut table) = ThreadLocal::<u32>::with_capacity(rt.alloc(), 4) else {
+        println!(rt; "refused: with_capacity")?;
         return Ok(());
     };
     if eight_publish(&table, &rt) != Ok([true; 8]) {
+        println!(rt; "refused: before_clear")?;
         return Ok(());
     }
     assert_eq!(rt; table.slots(), 15);
@@ -75,6 +77,9 @@ fn a_cleared_table_keeps_its_reserved_slots_and_its_room(rt: HostRuntime) -> Res
     for id in 0..7 {
         assert!(rt; published[id], "id {id}");
     }
+    if !published[7] {
+        println!(rt; "refused: get_or")?;
+    }
     assert_eq!(rt; table.slots(), if published[7] { 15 } else { 7 });
     Ok(())
 }
@@ -82,13 +87,13 @@ fn a_cleared_table_keeps_its_reserved_slots_and_its_room(rt: HostRuntime) -> Res
 #[test]
 fn a_cleared_table_of_no_capacity_keeps_its_room(rt: HostRuntime) -> Result<(), Fail> {
     let mut table = ThreadLocal::<u32>::new(rt.alloc());
-    match four_publish(&table, &rt) {
-        Ok(four) => {
-            if four.published != [true; 4] {
-                return Ok(());
-            }
-        }
-        Err(_) => return Ok(()),
+    let all_published = match four_publish(&table, &rt) {
+        Ok(four) => four.published == [true; 4],
+        Err(_) => false,
+    };
+    if !all_published {
+        println!(rt; "refused: before_clear")?;
+        return Ok(());
     }
     assert_eq!(rt; table.slots(), 7);
     table.clear();
@@ -97,6 +102,9 @@ fn a_cleared_table_of_no_capacity_keeps_its_room(rt: HostRuntime) -> Result<(), 
     let four = four_publish(&table, &rt)?;
     assert!(rt; !four.reserved);
     let [first, second, third, fourth] = four.published;
+    if four.published != [true; 4] {
+        println!(rt; "refused: get_or")?;
+    }
     let mut slots = 0;
     if first {
         slots += 1;

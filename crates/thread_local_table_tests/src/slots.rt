@@ -31,10 +31,22 @@ fn locals_one_after_another_use_one_slot(rt: HostRuntime) -> Result<(), Fail> {
 }
 
 #[test]
-fn four_locals_held_at_once_use_seven_slots(rt: HostRuntime) -> Result<(), Fail> {
-    let mut table = ThreadLocal::<u32>::new(rt.alloc());
-    assert!(rt; publish_held(&table, &rt, rt.alloc(), 4));
-    assert_eq!(rt; table.slots(), 7);
+fn locals_held_at_once_use_fewer_than_twice_as_many_slots(rt: HostRuntime) -> Result<(), Fail> {
+    for (count, slots) in [(1, 1), (2, 3), (3, 3), (4, 7), (7, 7), (8, 15)] {
+        let mut table = ThreadLocal::<u32>::new(rt.alloc());
+        let published = publish_held(&table, &rt, rt.alloc(), count);
+        assert_eq!(rt; (published, table.slots()), (true, slots));
+    }
+    Ok(())
+}
+
+#[test]
+fn locals_held_beyond_a_capacity_use_no_more_slots_than_without(
+    rt: HostRuntime,
+) -> Result<(), Fail> {
+    let mut table = ThreadLocal::<u32>::with_capacity(rt.alloc(), 4)?;
+    let published = publish_held(&table, &rt, rt.alloc(), 9);
+    assert_eq!(rt; (published, table.slots()), (true, 15));
     Ok(())
 }
 

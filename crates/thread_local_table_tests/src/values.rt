@@ -31,9 +31,8 @@ fn a_closure_is_called_once(rt: HostRuntime) -> Result<(), Fail> {
                 calls = calls.wrapping_add(1);
                 made
             })?;
-            assert_eq!(rt; got, 0);
+            assert_eq!(rt; (got, local.get()), (0, Some(&0)));
         }
-        assert_eq!(rt; local.get(), Some(&0));
         let text = format!(in rt.alloc(); "{local:?}")?;
         assert_eq!(rt; text.as_str(), "ThreadLocal { local_data: Some(0) }");
     }
@@ -93,27 +92,32 @@ fn a_negative_number_is_shown(rt: HostRuntime) -> Result<(), Fail> {
     Ok(())
 }
 
-/// Three `Local`s publish 1, 2 and 3, the last in another table, and the seats of the latter two are swapped. Answers what the first found.
+/// Two `Local`s of a table and one of another publish 1, 2 and 3, and the seats of the latter two are swapped. Answers what each was told, and
+/// what the first then found.
 fn swap_the_latter_two<'a, R: Wait>(
     table: &'a ThreadLocal<u32>,
     other: &'a ThreadLocal<u32>,
     rt: &'a R,
-) -> Result<Option<u32>, AllocError> {
+) -> Result<([u32; 3], Option<u32>), AllocError> {
     let mut first = table.local(rt).map_err(|_| AllocError)?;
     let mut second = table.local(rt).map_err(|_| AllocError)?;
-    first.get_or(|| 1)?;
-    second.get_or(|| 2)?;
+    let one = *first.get_or(|| 1)?;
+    let two = *second.get_or(|| 2)?;
+    let found = first.get().copied();
     let mut third = other.local(rt).map_err(|_| AllocError)?;
-    third.get_or(|| 3)?;
+    let three = *third.get_or(|| 3)?;
     swap(third.seat_mut(), second.seat_mut());
-    Ok(first.get().copied())
+    Ok(([one, two, three], found))
 }
 
 #[test]
 fn swapped_seats_go_back_to_their_tables(rt: HostRuntime) -> Result<(), Fail> {
     let table = ThreadLocal::<u32>::new(rt.alloc());
     let other = ThreadLocal::<u32>::new(rt.alloc());
-    assert_eq!(rt; swap_the_latter_two(&table, &other, &rt), Ok(Some(1)));
+    assert_eq!(rt;
+        swap_the_latter_two(&table, &other, &rt),
+        Ok(([1, 2, 3], Some(1)))
+    );
     let first = table.local(&rt)?;
     let second = table.local(&rt)?;
     let third = other.local(&rt)?;

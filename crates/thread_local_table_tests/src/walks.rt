@@ -15,25 +15,28 @@ fn publish_three<R: Wait>(table: &ThreadLocal<u32>, rt: &R) -> Result<bool, Loca
     Ok(first.get_or(|| 1).is_ok() && second.get_or(|| 2).is_ok() && third.get_or(|| 3).is_ok())
 }
 
-/// Publishes a number.
-fn publish<R: Wait>(mut local: Local<'_, u32, R>, number: u32) -> bool {
-    local.get_or(|| number).is_ok()
+/// Three `Local`s that were taken in order publish 1, 2 and 3, each in a thread of its own, which the end of the scope joins. Answers whether the threads
+/// were had.
+fn publish_apart<R: Threads + Wait + Sync>(
+    table: &ThreadLocal<u32>,
+    rt: &R,
+) -> Result<bool, LocalError> {
+    let mut first = table.local(rt)?;
+    let mut second = table.local(rt)?;
+    let mut third = table.local(rt)?;
+    let mut started = true;
+    thread::scope(thread::scope_env(), rt, |scope| {
+        started &= scope.spawn(move || third.get_or(|| 3).is_ok()).is_ok();
+        started &= scope.spawn(move || second.get_or(|| 2).is_ok()).is_ok();
+        started &= scope.spawn(move || first.get_or(|| 1).is_ok()).is_ok();
+    });
+    Ok(started)
 }
 
 #[test]
 fn values_of_three_threads_are_walked_in_the_order_of_ids(rt: HostRuntime) -> Result<(), Fail> {
     let mut table = ThreadLocal::<u32>::new(rt.alloc());
-    {
-        let first = table.local(&rt)?;
-        let second = table.local(&rt)?;
-        let third = table.local(&rt)?;
-        let (published, others) = thread::join(
-            &rt,
-            || publish(third, 3),
-            || thread::join(&rt, || publish(second, 2), || publish(first, 1)),
-        );
-        assert_eq!(rt; (published, others), (true, (true, true)));
-    }
+    assert_eq!(rt; publish_apart(&table, &rt), Ok(true));
     {
         let mut values = table.iter();
         for value in [1, 2, 3] {

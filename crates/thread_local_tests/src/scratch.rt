@@ -2,6 +2,7 @@
 ghost use Rattle.std.specs.Prelude.{◌≡◌, [], IfOk};
 
 use std::alloc::AllocError;
+use std::io::Print;
 use std::mem::forget;
 use std::sync::Wait;
 use std::test::Fail;
@@ -167,15 +168,18 @@ fn what_is_written_stands(rt: HostRuntime) -> Result<(), Fail> {
 }
 
 /// A buffer, asked for once more where memory was refused.
-fn had<'a, R: Wait>(pool: &'a Pool, rt: &'a R) -> Option<Buffer<'a, R>> {
+fn had<'a, R: Wait + Print>(pool: &'a Pool, rt: &'a R) -> Option<Buffer<'a, R>> {
     match pool.buffer(rt) {
         Ok(buffer) => Some(buffer),
-        Err(LocalError::Memory(_)) => pool.buffer(rt).ok(),
+        Err(LocalError::Memory(_)) => {
+            let _told = println!(rt; "refused: buffer");
+            pool.buffer(rt).ok()
+        }
         Err(LocalError::Exhausted) => None,
     }
 }
 
-/// It holds whichever request for memory is refused: `rt try --test --fail-alloc N` with this name runs it for each.
+// It holds whichever request for memory is refused: `tools/refusals` refuses each in turn.
 #[test]
 fn a_buffer_that_was_refused_is_had_the_second_time(rt: HostRuntime) -> Result<(), Fail> {
     let pool = Pool::new(rt.alloc());

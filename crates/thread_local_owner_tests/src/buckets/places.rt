@@ -3,6 +3,7 @@
 use super::insert;
 use std::alloc::AllocError;
 use std::cell::Cell;
+use std::io::Print;
 use std::test::Fail;
 use thread_local_buckets::{Buckets, CapacityError};
 use thread_local_test_helpers::memory::take_all_but;
@@ -37,7 +38,7 @@ fn an_insert_installs_its_own_bucket(rt: HostRuntime) -> Result<(), Fail> {
     let mut buckets = Buckets::new(rt.alloc());
     assert_eq!(rt; buckets.slots(), 0);
     for (id, slots) in [(0, 1), (2, 3), (19, 19)] {
-        assert_eq!(rt; put(&mut buckets, id, id as usize), Some(id as usize));
+        assert_eq!(rt; put(&rt, &mut buckets, id, id as usize), Some(id as usize));
         assert_eq!(rt; buckets.slots(), slots, "after id {id}");
     }
     buckets.clear();
@@ -49,8 +50,8 @@ fn an_insert_installs_its_own_bucket(rt: HostRuntime) -> Result<(), Fail> {
 #[test]
 fn the_first_value_stays(rt: HostRuntime) -> Result<(), Fail> {
     let mut buckets = Buckets::new(rt.alloc());
-    assert_eq!(rt; put(&mut buckets, 0, 1), Some(1));
-    assert_eq!(rt; put(&mut buckets, 0, 2), Some(1));
+    assert_eq!(rt; put(&rt, &mut buckets, 0, 1), Some(1));
+    assert_eq!(rt; put(&rt, &mut buckets, 0, 2), Some(1));
     let mut walk = buckets.into_iter();
     assert_eq!(rt; walk.next(), Some(1));
     assert_eq!(rt; walk.next(), None);
@@ -60,8 +61,8 @@ fn the_first_value_stays(rt: HostRuntime) -> Result<(), Fail> {
 #[test]
 fn one_value_is_written(rt: HostRuntime) -> Result<(), Fail> {
     let mut buckets = Buckets::new(rt.alloc());
-    assert_eq!(rt; put(&mut buckets, 0, 1), Some(1));
-    assert_eq!(rt; put(&mut buckets, 2, 2), Some(2));
+    assert_eq!(rt; put(&rt, &mut buckets, 0, 1), Some(1));
+    assert_eq!(rt; put(&rt, &mut buckets, 2, 2), Some(2));
     if let Some(value) = buckets.get_mut(Thread::new(2)) {
         *value = 7;
     }
@@ -76,11 +77,12 @@ fn one_value_is_written(rt: HostRuntime) -> Result<(), Fail> {
 
 /// Inserts a value and answers what stands at the id. Where memory is refused the value comes back and no bucket is new, and the same
 /// call succeeds; else the answer is `None`.
-fn put(buckets: &mut Buckets<usize>, id: u32, value: usize) -> Option<usize> {
+fn put(rt: &impl Print, buckets: &mut Buckets<usize>, id: u32, value: usize) -> Option<usize> {
     let slots = buckets.slots();
     match buckets.insert(Thread::new(id as usize), value) {
         Ok(value) => return Some(*value),
         Err(back) => {
+            let _told = println!(rt; "refused: insert");
             if back != value {
                 return None;
             }
@@ -99,7 +101,7 @@ fn put(buckets: &mut Buckets<usize>, id: u32, value: usize) -> Option<usize> {
 fn a_refused_insert_hands_the_value_back(rt: HostRuntime) -> Result<(), Fail> {
     let mut buckets = Buckets::new(rt.alloc());
     for (id, value, slots) in [(0, 5, 1), (1, 6, 3), (3, 7, 7)] {
-        assert_eq!(rt; put(&mut buckets, id, value), Some(value));
+        assert_eq!(rt; put(&rt, &mut buckets, id, value), Some(value));
         assert_eq!(rt; buckets.slots(), slots, "after id {id}");
     }
     let mut walk = buckets.into_iter();
@@ -113,7 +115,10 @@ fn a_refused_insert_hands_the_value_back(rt: HostRuntime) -> Result<(), Fail> {
 fn a_refused_capacity_says_so(rt: HostRuntime) -> Result<(), Fail> {
     match Buckets::<u64>::with_capacity(rt.alloc(), 4) {
         Ok(mut buckets) => assert_eq!(rt; buckets.slots(), 7),
-        Err(refused) => assert!(rt; matches!(refused, CapacityError::Memory(_))),
+        Err(refused) => {
+            println!(rt; "refused: with_capacity")?;
+            assert!(rt; matches!(refused, CapacityError::Memory(_)));
+        }
     }
     Ok(())
 }
