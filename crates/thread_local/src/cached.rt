@@ -14,7 +14,8 @@ use thread_local_judged::Judge;
 use thread_local_table::{Local, ThreadLocal};
 use thread_local_thread_id::LocalError;
 
-/// A table of which less is offered. Deprecated: use `ThreadLocal`. Each call is that of the table, and says what the table's says.
+/// A table of which less is offered. Deprecated: use `ThreadLocal`. Each call is that of the table, and says what the table's says. What Rust's crate
+/// offers for the running thread is on the `Local` that `local` answers.
 #[derive(Drop)]
 pub struct CachedThreadLocal<T> {
     table: ThreadLocal<T>,
@@ -69,6 +70,7 @@ impl<T> CachedThreadLocal<T> {
 impl<T: Judge + Send> MadeWith<Global> for CachedThreadLocal<T> {
     ghost is_made_with = { λ cached. cached.reserved ≡ 0 };
 
+    /// A table as `new` makes it, where Rust has `Default`.
     fn made_with(alloc: Global) -> CachedThreadLocal<T> {
         CachedThreadLocal {
             table: ThreadLocal::made_with(alloc),
@@ -100,7 +102,7 @@ impl<'a, T> IntoIterator for &'a mut CachedThreadLocal<T> {
     }
 }
 
-/// The walk of `CachedThreadLocal::iter_mut`. Contracts see the values still to come, and the name of their loan.
+/// The walk of `CachedThreadLocal::iter_mut`. Deprecated: use `IterMut`. It never waits, and takes no memory. Contracts see the values still to come, and the name of their loan.
 #[derive(Drop)]
 pub struct CachedIterMut<'a, T> {
     walk: IterMut<'a, T>,
@@ -122,10 +124,12 @@ impl<'a, T> Iterator for CachedIterMut<'a, T> {
 
     ghost remaining = { item_count iter_mut_rest };
 
+    /// The next value, as the walk of the table has it.
     fn next(&mut self) -> Option<&'a mut T> {
         self.walk.next()
     }
 
+    /// How many values are still to come, on both sides.
     fn size_hint(&self) -> (usize, Option<usize>)
         ensures exact { result ≡ (length (iter_mut_rest self.now), Some (length (iter_mut_rest self.now))) }
         ensures lower { IsWithinCount result.0 (item_count iter_mut_rest self.now) }
@@ -136,12 +140,13 @@ impl<'a, T> Iterator for CachedIterMut<'a, T> {
 }
 
 impl<T> ExactSizeIterator for CachedIterMut<'_, T> {
+    /// How many values are still to come.
     fn len(&self) -> usize {
         self.walk.len()
     }
 }
 
-/// The walk of `CachedThreadLocal` by value. Contracts see the values still to come.
+/// The walk of `CachedThreadLocal` by value. Deprecated: use `IntoIter`. It never waits, and takes no memory. Contracts see the values still to come.
 #[derive(Drop)]
 pub struct CachedIntoIter<T> {
     walk: IntoIter<T>,
@@ -162,10 +167,12 @@ impl<T: Drop> Iterator for CachedIntoIter<T> {
 
     ghost remaining = { item_count (λ rest. rest) };
 
+    /// The next value, as the walk of the table has it.
     fn next(&mut self) -> Option<T> {
         self.walk.next()
     }
 
+    /// How many values are still to come, on both sides.
     fn size_hint(&self) -> (usize, Option<usize>)
         ensures exact { result ≡ (length self.now, Some (length self.now)) }
         ensures lower { IsWithinCount result.0 (item_count (λ rest. rest) self.now) }
@@ -176,6 +183,7 @@ impl<T: Drop> Iterator for CachedIntoIter<T> {
 }
 
 impl<T: Drop> ExactSizeIterator for CachedIntoIter<T> {
+    /// How many values are still to come.
     fn len(&self) -> usize {
         self.walk.len()
     }

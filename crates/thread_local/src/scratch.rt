@@ -11,7 +11,8 @@ use thread_local_thread_id::LocalError;
 
 mod lends;
 
-/// Buffers of bytes that threads borrow and give back, each with the room that it grew to. Threads share a pool through a `&`.
+/// Buffers of bytes that threads borrow and give back, each with the room that it grew to. Threads share a pool through a `&`. Rust's crate
+/// has no such type.
 #[derive(Drop)]
 pub struct Pool {
     table: ThreadLocal<Cell<Vec<u8>>>,
@@ -63,7 +64,7 @@ impl<'a, R: Wait> Model for Buffer<'a, R> {
 }
 
 impl<'a, R: Wait> Buffer<'a, R> {
-    /// The bytes that were left in it last. It never waits.
+    /// The bytes that were left in it last. It never waits, and takes no memory.
     pub fn bytes(&self) -> &Vec<u8>
         ensures { result.now.items ≡ self.now }
     {

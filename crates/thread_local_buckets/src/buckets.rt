@@ -19,12 +19,12 @@ use thread_local_words::Words;
 
 mod lends;
 
-/// Why buckets couldn't be had for a capacity.
+/// Why a capacity couldn't be had.
 #[derive(Clone, Copy, Debug, PartialEq, Eq)]
 pub enum CapacityError {
     /// The capacity is 2^63 or more.
     TooLarge,
-    /// There was no memory for a bucket.
+    /// There was no memory for a bucket or, of a table, for the return of so many ids.
     Memory(AllocError),
 }
 
@@ -33,7 +33,7 @@ pub enum CapacityError {
 /// Contracts see the contents, a row of slots for each of the 63 buckets, empty where the bucket doesn't stand; and
 /// the number of reserved slots, whose buckets stand.
 ///
-/// No call waits, and only `with_capacity` and `insert` ask for memory.
+/// No call waits, and only `with_capacity` and `insert` ask for memory. In Rust's crate they are no type of their own.
 #[derive(Drop)]
 pub struct Buckets<T> {
     words: Words<T>,

@@ -13,7 +13,7 @@ use thread_local_words::Words;
 ///
 /// It keeps the flags of the 64 slots that it is in, without those of the values that it gave.
 ///
-/// One that is dropped early drops those, and frees every bucket. It never takes memory.
+/// One that is dropped early drops those, and frees every bucket. It never waits, and takes no memory. Rust's crate gives no order.
 #[derive(Drop)]
 pub struct IntoIter<T> {
     pub(crate) words: Words<T>,
@@ -43,6 +43,7 @@ impl<T: Drop> Iterator for IntoIter<T> {
 
     ghost remaining = { item_count (λ rest. rest) };
 
+    /// The next value, whose flag is cleared before it moves out.
     fn next(&mut self) -> Option<T> {
         if self.left == 0 {
             return None;
@@ -57,6 +58,7 @@ impl<T: Drop> Iterator for IntoIter<T> {
         Some(value)
     }
 
+    /// How many values are still to come, on both sides.
     fn size_hint(&self) -> (usize, Option<usize>)
         ensures exact { result ≡ (length self.now, Some (length self.now)) }
         ensures lower { IsWithinCount result.0 (item_count (λ rest. rest) self.now) }
@@ -67,6 +69,7 @@ impl<T: Drop> Iterator for IntoIter<T> {
 }
 
 impl<T: Drop> ExactSizeIterator for IntoIter<T> {
+    /// How many values are still to come. They were counted when the walk was made.
     fn len(&self) -> usize {
         self.left
     }
@@ -75,6 +78,7 @@ impl<T: Drop> ExactSizeIterator for IntoIter<T> {
 impl<T: Drop> FusedIterator for IntoIter<T> {}
 
 impl<T: fmt::Debug> fmt::Debug for IntoIter<T> {
+    /// The walk's place alone. Rust's crate shows the table.
     fn fmt<W: fmt::Write>(&self, f: &mut fmt::Formatter<W>) -> fmt::Result {
         f.debug_struct("IntoIter").field("raw", &self.raw).finish()
     }

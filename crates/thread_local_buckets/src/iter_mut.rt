@@ -17,7 +17,7 @@ use thread_local_loan::Loan;
 /// The values of a table's buckets, by ascending id, each lent as `&mut`. Contracts see those still to come, and the
 /// name of their loan.
 ///
-/// It never takes memory.
+/// It never waits, and takes no memory. Rust's crate gives no order.
 #[derive(Drop)]
 pub struct IterMut<'a, T> {
     pub(crate) loan: Loan<'a, T>,
@@ -65,6 +65,7 @@ impl<'a, T> Iterator for IterMut<'a, T> {
 
     ghost remaining = { item_count iter_mut_rest };
 
+    /// The next value. Its flag stays set.
     fn next(&mut self) -> Option<&'a mut T> {
         if self.left == 0 {
             return None;
@@ -78,6 +79,7 @@ impl<'a, T> Iterator for IterMut<'a, T> {
         Some(item)
     }
 
+    /// How many values are still to come, on both sides.
     fn size_hint(&self) -> (usize, Option<usize>)
         ensures exact { result ≡ (length (iter_mut_rest self.now), Some (length (iter_mut_rest self.now))) }
         ensures lower { IsWithinCount result.0 (item_count iter_mut_rest self.now) }
@@ -88,6 +90,7 @@ impl<'a, T> Iterator for IterMut<'a, T> {
 }
 
 impl<T> ExactSizeIterator for IterMut<'_, T> {
+    /// How many values are still to come. They were counted when the walk was made.
     fn len(&self) -> usize {
         self.left
     }
@@ -96,6 +99,7 @@ impl<T> ExactSizeIterator for IterMut<'_, T> {
 impl<T> FusedIterator for IterMut<'_, T> {}
 
 impl<T: fmt::Debug> fmt::Debug for IterMut<'_, T> {
+    /// The walk's place alone.
     fn fmt<W: fmt::Write>(&self, f: &mut fmt::Formatter<W>) -> fmt::Result {
         f.debug_struct("IterMut").field("raw", &self.raw).finish()
     }

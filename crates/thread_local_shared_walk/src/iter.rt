@@ -18,7 +18,8 @@ use thread_local_thread_id::Thread;
 /// The values of buckets that threads share, by ascending id, each lent as `&`, while others may publish more. A value that is published
 /// behind the walk isn't given, and one before it may be.
 ///
-/// It is seen as the model's cursor, and the own value of whoever walks that it has still to give. It never waits, and takes no memory.
+/// It is seen as the model's cursor, and the own value of whoever walks that it has still to give. It never waits, and takes no memory. Rust's
+/// crate gives no order, and a hint of how many values there are.
 #[derive(Drop)]
 pub struct Iter<'a, T> {
     buckets: &'a Shared<T>,
@@ -128,6 +129,7 @@ impl<'a, T: Sync> Iterator for Iter<'a, T> {
 impl<T: Sync> FusedIterator for Iter<'_, T> {}
 
 impl<T: fmt::Debug> fmt::Debug for Iter<'_, T> {
+    /// The walk's place alone. Rust's crate shows the table.
     fn fmt<W: fmt::Write>(&self, f: &mut fmt::Formatter<W>) -> fmt::Result {
         f.debug_struct("Iter").field("raw", &self.raw).finish()
     }

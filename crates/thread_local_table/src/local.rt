@@ -18,7 +18,8 @@ mod lends;
 /// leaves the value. One that is forgotten keeps its id until the table is cleared.
 ///
 /// Contracts see what is known of the id's slot: its value, if there is one, and whether its bucket is known to stand. Each call is the
-/// seat's, and no call but the drop waits. References that calls answer live no longer than the borrow of the `Local`.
+/// seat's, and no call but the drop waits. References that calls answer live no longer than the borrow of the `Local`. Rust's crate finds the running
+/// thread by itself, and has no such type.
 pub struct Local<'a, T, R: Wait> {
     rt: &'a R,
     seat: Seat<'a, T>,
@@ -57,14 +58,15 @@ impl<'a, T, R: Wait> Local<'a, T, R> {
         &mut self.seat
     }
 
-    /// The value, or None. It reads what is known already: it makes no atomic step.
+    /// The value, or None. It reads what is known already: it makes no atomic step, and takes no memory.
     pub fn get(&self) -> Option<&T>
         ensures { answer {E = ⊤} self.now Get ≡ Found (option_map (λ x. x.now) result) }
     {
         self.seat.get()
     }
 
-    /// Whether the id lies below the reserved slots of the table. Where it does, no call of the `get_or` family is refused memory.
+    /// Whether the id lies below the reserved slots of the table. Where it does, no call of the `get_or` family is refused memory. It
+    /// takes none itself. Rust's crate has no such call.
     pub fn is_reserved(&self) -> bool
         ensures { result ≡ true → self.now.known ≡ true }
     {
@@ -72,7 +74,7 @@ impl<'a, T, R: Wait> Local<'a, T, R> {
     }
 
     /// Has a value in the slot, as `get_or_try`, and answers none: its contract says what it leaves, which that of a call that answers
-    /// a reference can't where the error has a type of the caller's.
+    /// a reference can't where the error has a type of the caller's. Rust's crate has no such call.
     pub fn try_fill<F: FnOnce() -> Result<T, E> + Drop, E>(
         &mut self,
         create: F,
@@ -88,6 +90,7 @@ impl<'a, T, R: Wait> Local<'a, T, R> {
 
     /// The value. Where the slot is empty its bucket is found or made, and then the closure is called and its value is published. Its
     /// error is handed on as `Create`, and nothing is published. `Memory` is want of memory for the bucket, and the closure isn't called.
+    /// It never waits. Rust's crate makes the value before its bucket, and doesn't answer want of memory.
     pub fn get_or_try<F: FnOnce() -> Result<T, E> + Drop, E>(
         &mut self,
         create: F,
@@ -127,6 +130,7 @@ impl<'a, T: fmt::Debug, R: Wait> fmt::Debug for Local<'a, T, R> {
 
     ghost debug_output = { λ local. local_text T.debug_output local.value };
 
+    /// The value, if there is one, as Rust's crate shows a whole table.
     fn fmt<W: fmt::Write>(&self, f: &mut fmt::Formatter<W>) -> fmt::Result {
         self.seat.fmt(f)
     }

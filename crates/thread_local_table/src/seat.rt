@@ -26,7 +26,8 @@ pub enum TryError<E> {
     Create(E),
 }
 
-/// A thread's place in a table: an id of the table, and what is known of the id's slot.
+/// A thread's place in a table: an id of the table, and what is known of the id's slot. A `Local` lends it, and nothing else makes one. No call waits,
+/// and only those of the `get_or` family take memory. In Rust's crate the running thread is the place.
 pub struct Seat<'a, T> {
     core: &'a Core<T>,
     claim: Claim<'a, T>,
@@ -74,14 +75,15 @@ impl<'a, T> Seat<'a, T> {
         }
     }
 
-    /// The value, or None.
+    /// The value, or None. It reads what is known already, makes no atomic step, and takes no memory.
     pub fn get(&self) -> Option<&T>
         ensures { answer {E = ⊤} self.now Get ≡ Found (option_map (λ x. x.now) result) }
     {
         self.claim.get()
     }
 
-    /// Whether the id lies below the reserved slots of the table.
+    /// Whether the id lies below the reserved slots of the table. Where it does, no call of the `get_or` family is refused memory. Rust's crate has no
+    /// such call.
     pub fn is_reserved(&self) -> bool
         ensures { result ≡ true → self.now.known ≡ true }
     {
@@ -138,7 +140,7 @@ impl<'a, T> Seat<'a, T> {
     }
 
     /// Has a value in the slot, as `get_or_try`, and answers none: its contract says what it leaves, which that of a call that answers
-    /// a reference can't where the error has a type of the caller's.
+    /// a reference can't where the error has a type of the caller's. Rust's crate has no such call.
     pub fn try_fill<F: FnOnce() -> Result<T, E> + Drop, E>(
         &mut self,
         create: F,
@@ -166,6 +168,7 @@ impl<'a, T> Seat<'a, T> {
 
     /// The value. Where the slot is empty its bucket is found or made, and then the closure is called and its value is published. Its
     /// error is handed on as `Create`, and nothing is published. `Memory` is want of memory for the bucket, and the closure isn't called.
+    /// It never waits. Rust's crate makes the value before its bucket, and doesn't answer want of memory.
     pub fn get_or_try<F: FnOnce() -> Result<T, E> + Drop, E>(
         &mut self,
         create: F,
@@ -207,6 +210,7 @@ impl<'a, T: fmt::Debug> fmt::Debug for Seat<'a, T> {
 
     ghost debug_output = { λ seat. local_text T.debug_output seat.value };
 
+    /// The value, if there is one, as Rust's crate shows a whole table.
     fn fmt<W: fmt::Write>(&self, f: &mut fmt::Formatter<W>) -> fmt::Result {
         write!(f, "ThreadLocal {{ local_data: {:?} }}", self.get())
     }

@@ -26,7 +26,8 @@ mod lends;
 /// their `Local`s, and stay in place until somebody has the table alone: that owner walks over all of them by ascending id.
 /// Threads share a table through a `&`; it crosses between threads. A table can be made of every `T: Send`.
 ///
-/// Contracts see a name, which no other table has, and the number of reserved slots. Dropping a table drops every value.
+/// Contracts see a name, which no other table has, and the number of reserved slots. Dropping a table drops every value; it never waits, and takes
+/// no memory.
 #[derive(Drop)]
 pub struct ThreadLocal<T> {
     core: Core<T>,
@@ -43,7 +44,7 @@ impl<T> Model for ThreadLocal<T> {
 }
 
 impl<T> ThreadLocal<T> {
-    /// A table with no value, no bucket and no id held. It takes no memory. The type of the values is judged: the check finds that at
+    /// A table with no value, no bucket and no id held. It takes no memory, and never waits. Rust's crate takes no allocator. The type of the values is judged: the check finds that at
     /// most types, and `Judge` and `judge_sync` show it at others.
     pub fn new(alloc: Global) -> ThreadLocal<T>
     where
@@ -66,7 +67,8 @@ impl<T> ThreadLocal<T> {
 
     /// A table with no value and no id held, with room for that many ids and with the first buckets, one for each binary digit of the
     /// capacity, whose slots are reserved: at that many ids nothing is refused memory later on. `TooLarge` means 2^63 or more, and comes
-    /// before memory is asked for. `Memory` is want of memory for the ids or for a bucket, and what was had before is freed.
+    /// before memory is asked for. `Memory` is want of memory for the ids or for a bucket, and what was had before is freed. It never waits. Rust's crate
+    /// panics where this refuses.
     pub fn with_capacity(alloc: Global, capacity: usize) -> Result<ThreadLocal<T>, CapacityError>
     where
         T: Drop + Send,
@@ -98,7 +100,7 @@ impl<T> ThreadLocal<T> {
         Ok(Local::new(rt, Seat::new(&self.core, held)))
     }
 
-    /// How many slots the buckets that stand have together. It never waits, and takes no memory.
+    /// How many slots the buckets that stand have together. It never waits, and takes no memory. Rust's crate has no such call.
     pub fn slots(&mut self) -> usize
         ensures same { self.new ≡ self.old }
     {
@@ -106,12 +108,13 @@ impl<T> ThreadLocal<T> {
     }
 
     /// The values by ascending id, each lent as `&mut`, for somebody who has the table alone. It never waits, and takes no memory. What it
-    /// gives is the walk of the buckets that `buckets_mut` lends.
+    /// gives is the walk of the buckets that `buckets_mut` lends. Rust's crate gives no order.
     pub fn iter_mut(&mut self) -> IterMut<'_, T> {
         self.core.owner().iter_mut()
     }
 
-    /// The buckets, for an owner, by value: their contracts say what is in them. The ids are gone. It takes no memory, and never waits.
+    /// The buckets, for an owner, by value: their contracts say what is in them. The ids are gone. It takes no memory, and never waits. Rust's
+    /// crate has no such call.
     pub fn into_buckets(self) -> Buckets<T>
         ensures { result.reserved ≡ self.reserved }
     {
@@ -138,7 +141,7 @@ impl<T> ThreadLocal<T> {
 
 impl<T: Sync> ThreadLocal<T> {
     /// The values by ascending id, each lent as `&`, while threads may publish more: one that is published behind the walk isn't given, and
-    /// one before it may be. It never waits, and takes no memory.
+    /// one before it may be. It never waits, and takes no memory. Rust's crate gives no order.
     pub fn iter(&self) -> Iter<'_, T>
         ensures { result ≡ fresh None true }
     {
@@ -149,6 +152,7 @@ impl<T: Sync> ThreadLocal<T> {
 impl<T: Judge + Send> MadeWith<Global> for ThreadLocal<T> {
     ghost is_made_with = { λ table. table.reserved ≡ 0 };
 
+    /// A table as `new` makes it: no value, no bucket, no memory taken, and no wait. Rust has `Default` for it; here the bound shows that the type is judged.
     fn made_with(alloc: Global) -> ThreadLocal<T> {
         T::judge();
         ThreadLocal::empty(alloc)

@@ -7,7 +7,7 @@ use std::cell::{Cell, RefCell};
 use std::default::MadeWith;
 use std::sync::Wait;
 use thread_local_judged::{Judge, judge_sync};
-use thread_local_table::{Local, ThreadLocal};
+use thread_local_table::{Local, Seat, ThreadLocal};
 
 fn crosses<X: Send + Sync>(_: &X) {}
 
@@ -84,6 +84,16 @@ fn generic<T: Send>(alloc: Global) -> ThreadLocal<T>
 
 fn sync<T: Send + Sync>(alloc: Global) -> ThreadLocal<T> {
     ThreadLocal::new(alloc)
+}
+
+/// A seat's calls need nothing that waits.
+fn sum_without_a_wait(seat: &mut Seat<'_, u32>) -> Result<u32, AllocError> {
+    let made = *seat.get_or(|| 5)?;
+    let mut sum = seat.get().copied().unwrap_or(made);
+    for value in seat.iter() {
+        sum = sum.wrapping_add(*value);
+    }
+    Ok(sum)
 }
 
 fn generic_local<T: Send, R: Wait + Sync>(local: Local<'_, T, R>) {

@@ -12,7 +12,7 @@ pub const IDS: usize = (1 << 63) - 1;
 /// Why no id could be had.
 #[derive(Clone, Copy, Debug, PartialEq, Eq)]
 pub enum LocalError {
-    /// There was no memory for the return of a further id.
+    /// There was no memory for the return of a further id. From a pool's `buffer` and from a tally it also means want of memory for a bucket or a thread.
     Memory(AllocError),
     /// Every id is held.
     Exhausted,
@@ -24,7 +24,7 @@ pub enum LocalError {
 /// whose return needs no further memory. The peak is the greatest number of ids held at one moment.
 ///
 /// Unlike in the Rust crate it is public, one for each table, and the memory that an id's return needs is
-/// taken when the id is.
+/// taken when the id is. No call waits.
 #[derive(Drop)]
 pub struct ThreadIdManager {
     // A bit for each id, 64 to a word, the lowest first: it is set where the id is held.
@@ -63,7 +63,7 @@ impl ThreadIdManager {
     }
 
     /// A manager with no id held, and room for so many, or for every id where that is less. It asks for memory once,
-    /// and for no ids not at all.
+    /// and for no ids not at all. `Err` is want of it. Rust's crate has no such call.
     pub fn with_room(alloc: Global, ids: usize) -> Result<ThreadIdManager, AllocError>
         ensures held { IfOk result (λ manager. manager.held ≡ []) }
         ensures room { IfOk result (λ manager. min ids (2 ^ 63 - 1) ≤ manager.room) }
@@ -76,7 +76,7 @@ impl ThreadIdManager {
     }
 
     /// Takes the least id that isn't held. It asks for memory only where every id below the peak is held and
-    /// there is no room for one more.
+    /// there is no room for one more: want of it is `Memory`. `Exhausted` means that all 2^63 - 1 ids are held. Rust's crate answers the bare id.
     pub fn alloc(&mut self) -> Result<usize, LocalError>
         ensures ok { IfOk result (λ id. Takes self.old self.new id) }
         ensures memory { result ≡ Err (LocalError.Memory alloc_error) → NeedsMemory self.old }
@@ -141,7 +141,7 @@ impl ThreadIdManager {
         }
     }
 
-    /// Whether an id is held.
+    /// Whether an id is held. It takes no memory. Rust's crate has no such call.
     pub fn is_held(&self, id: usize) -> bool
         ensures held { result ≡ is_held self.now.held id }
         ensures peak_in_room { length self.now.held ≤ self.now.room }

@@ -11,7 +11,8 @@ use std::alloc::Global;
 use std::io::Write;
 use thread_local_thread_id::LocalError;
 
-/// Runs the command that the words name, and answers the status that the program ends with. The output goes
+/// Runs the command that the words name, and answers the status that the program ends with: 0 where it is done, 1 where memory, ids or a write was
+/// refused, 2 where the words are no command. A fault that can't be written to `err` keeps its status. The output goes
 /// to `out`, after all words were read and the command was run, and the line of a fault to `err`. That `out` gets these bytes and nothing
 /// else is said of a writer whose bytes a contract can name. It takes memory for the moves and for the ids. What adds up for a tally is handed in,
 /// and called where the words spell one within the limits: the call waits where that does.

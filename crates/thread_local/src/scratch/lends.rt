@@ -10,7 +10,7 @@ use super::Buffer;
 use std::sync::Wait;
 
 impl<'a, R: Wait> Buffer<'a, R> {
-    /// The bytes, for writing: what is left in them is what the buffer has afterwards. It never waits.
+    /// The bytes, for writing: what is left in them is what the buffer has afterwards. It never waits, and takes no memory.
     pub fn bytes_mut(&mut self) -> &mut Vec<u8>
         ensures* writes_back { sem 𝓛 (follows (the_row (record { mir = named 1; lft = [] }) R.row) bytes_row self.entry.ghost_name result.ghost_name (λ left. left.items)) }
         ensures bytes { result.now.items ≡ self.old }

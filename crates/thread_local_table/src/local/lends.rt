@@ -15,7 +15,8 @@ use std::sync::Wait;
 
 impl<'a, T, R: Wait> Local<'a, T, R> {
     /// The value. Where the slot is empty its bucket is found or made, and then the closure is called and its value is published. `Err`
-    /// is want of memory for the bucket, and the closure isn't called. It never waits.
+    /// is want of memory for the bucket, and the closure isn't called. It never waits. Rust's crate makes the value before its bucket, takes `&self`, and
+    /// doesn't answer want of memory.
     pub fn get_or<F: FnOnce() -> T + Drop>(&mut self, create: F) -> Result<&T, AllocError>
         requires { self.old.value ≡ None → F.pre create }
         ensures* leaves { sem 𝓛 (follows_so (the_row (record { mir = named 1; lft = [] }) T.row R.row) (the_row (record { mir = named 1; lft = [] }) T.row R.row) self.entry.ghost_name none (λ _ _. ⊤)
@@ -27,7 +28,7 @@ impl<'a, T, R: Wait> Local<'a, T, R> {
         Ok(self.seat.value())
     }
 
-    /// The value. Where the slot is empty, the type's default value is published as by `get_or`.
+    /// The value. Where the slot is empty, the type's default value is published as by `get_or`. `Err` is want of memory for the bucket. It never waits.
     pub fn get_or_default(&mut self) -> Result<&T, AllocError>
     where
         T: Default,
