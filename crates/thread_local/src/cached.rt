@@ -102,7 +102,8 @@ impl<'a, T> IntoIterator for &'a mut CachedThreadLocal<T> {
     }
 }
 
-/// The walk of `CachedThreadLocal::iter_mut`. Deprecated: use `IterMut`. It never waits, and takes no memory. Contracts see the values still to come, and the name of their loan.
+/// The walk of `CachedThreadLocal::iter_mut`. Deprecated: use `IterMut`. It never waits, and takes no memory. Contracts see the values
+/// still to come, and the name of their loan.
 #[derive(Drop)]
 pub struct CachedIterMut<'a, T> {
     walk: IterMut<'a, T>,

@@ -146,10 +146,12 @@ fn the_second_of_two_blocks_gives_way(rt: HostRuntime) -> Result<(), Fail> {
     let installed = Private::new(rt.alloc(), second.bucket)?;
     let offered = Private::new(rt.alloc(), third.bucket)?;
     let second = second.offered(installed).expect(&rt, "an offer");
+    let before = look(&shared, 1);
+    let first = publish_claimed(second, 1).1;
     let third = third.offered(offered).expect(&rt, "an offer");
-    let published = [publish_claimed(second, 1).1, publish_claimed(third, 2).1];
-    let seen = [look(&shared, 1), look(&shared, 2)];
-    assert_eq!(rt; (published, seen), ([true; 2], [Some(1), Some(2)]));
+    let after = look(&shared, 1);
+    let published = [first, publish_claimed(third, 2).1];
+    assert_eq!(rt; (before, after, published), (None, Some(1), [true; 2]));
     let mut buckets = shared.into_buckets();
     let slots = buckets.slots();
     assert_eq!(rt;

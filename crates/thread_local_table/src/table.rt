@@ -44,8 +44,8 @@ impl<T> Model for ThreadLocal<T> {
 }
 
 impl<T> ThreadLocal<T> {
-    /// A table with no value, no bucket and no id held. It takes no memory, and never waits. Rust's crate takes no allocator. The type of the values is judged: the check finds that at
-    /// most types, and `Judge` and `judge_sync` show it at others.
+    /// A table with no value, no bucket and no id held. It takes no memory, and never waits. The type of the values is judged: the check
+    /// finds that at most types, and `Judge` and `judge_sync` show it at others. Rust's crate takes no allocator.
     pub fn new(alloc: Global) -> ThreadLocal<T>
     where
         T: Send,
@@ -67,8 +67,8 @@ impl<T> ThreadLocal<T> {
 
     /// A table with no value and no id held, with room for that many ids and with the first buckets, one for each binary digit of the
     /// capacity, whose slots are reserved: at that many ids nothing is refused memory later on. `TooLarge` means 2^63 or more, and comes
-    /// before memory is asked for. `Memory` is want of memory for the ids or for a bucket, and what was had before is freed. It never waits. Rust's crate
-    /// panics where this refuses.
+    /// before memory is asked for. `Memory` is want of memory for the ids or for a bucket, and what was had before is freed. It never
+    /// waits. Rust's crate panics where this refuses.
     pub fn with_capacity(alloc: Global, capacity: usize) -> Result<ThreadLocal<T>, CapacityError>
     where
         T: Drop + Send,
@@ -152,7 +152,8 @@ impl<T: Sync> ThreadLocal<T> {
 impl<T: Judge + Send> MadeWith<Global> for ThreadLocal<T> {
     ghost is_made_with = { λ table. table.reserved ≡ 0 };
 
-    /// A table as `new` makes it: no value, no bucket, no memory taken, and no wait. Rust has `Default` for it; here the bound shows that the type is judged.
+    /// A table as `new` makes it. It takes no memory, and never waits. Rust has `Default` for it; here the bound shows that the type is
+    /// judged.
     fn made_with(alloc: Global) -> ThreadLocal<T> {
         T::judge();
         ThreadLocal::empty(alloc)

@@ -93,21 +93,21 @@ fn a_negative_number_is_shown(rt: HostRuntime) -> Result<(), Fail> {
 }
 
 /// Two `Local`s of a table and one of another publish 1, 2 and 3, and the seats of the latter two are swapped. Answers what each was told, and
-/// what the first then found.
+/// what the first found before the third was taken, and after the swap.
 fn swap_the_latter_two<'a, R: Wait>(
     table: &'a ThreadLocal<u32>,
     other: &'a ThreadLocal<u32>,
     rt: &'a R,
-) -> Result<([u32; 3], Option<u32>), AllocError> {
+) -> Result<([u32; 3], [Option<u32>; 2]), AllocError> {
     let mut first = table.local(rt).map_err(|_| AllocError)?;
     let mut second = table.local(rt).map_err(|_| AllocError)?;
     let one = *first.get_or(|| 1)?;
     let two = *second.get_or(|| 2)?;
-    let found = first.get().copied();
+    let before = first.get().copied();
     let mut third = other.local(rt).map_err(|_| AllocError)?;
     let three = *third.get_or(|| 3)?;
     swap(third.seat_mut(), second.seat_mut());
-    Ok(([one, two, three], found))
+    Ok(([one, two, three], [before, first.get().copied()]))
 }
 
 #[test]
@@ -116,7 +116,7 @@ fn swapped_seats_go_back_to_their_tables(rt: HostRuntime) -> Result<(), Fail> {
     let other = ThreadLocal::<u32>::new(rt.alloc());
     assert_eq!(rt;
         swap_the_latter_two(&table, &other, &rt),
-        Ok(([1, 2, 3], Some(1)))
+        Ok(([1, 2, 3], [Some(1), Some(1)]))
     );
     let first = table.local(&rt)?;
     let second = table.local(&rt)?;

@@ -12,7 +12,7 @@ pub const IDS: usize = (1 << 63) - 1;
 /// Why no id could be had.
 #[derive(Clone, Copy, Debug, PartialEq, Eq)]
 pub enum LocalError {
-    /// There was no memory for the return of a further id. From a pool's `buffer` and from a tally it also means want of memory for a bucket or a thread.
+    /// There was no memory for the return of a further id, or for what else the call takes memory for.
     Memory(AllocError),
     /// Every id is held.
     Exhausted,
