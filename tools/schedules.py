@@ -93,7 +93,7 @@ def clause_owner_walk(m):
 
 
 def clause_flagged(m):
-    return all(not it.flag or it.written is not None for named in m.after.table.words if named for it in named.slots)
+    return all(not it.flag or it.written is not None for named in m.after.table.pointers if named for it in named.slots)
 
 
 def clause_answers(m):
@@ -136,7 +136,7 @@ def clause_cleared(m):
 
 def clause_cleared_stands(m):
     digits = model.binary_digits(m.before.capacity)
-    return not is_clear(m) or all(model.stands(m.after.table, b) == (b < digits) for b in range(model.BUCKETS))
+    return not is_clear(m) or all(model.bucket_stands(m.after.table, b) == (b < digits) for b in range(model.BUCKETS))
 
 
 def clause_cleared_slots(m):
@@ -206,7 +206,7 @@ def clause_reserved(m):
 
 
 def clause_answered(m):
-    """Want of memory is answered by the step that was refused memory, and by no other."""
+    """Out of memory is answered by the step that was refused memory, and by no other."""
     for n, it in live(m.before):
         then = live_local(m.after, n)
         told = then is not None and then.answers != it.answers and then.answers[-1] == ("Refused",)
@@ -223,15 +223,15 @@ def clause_headline_capacity(m):
     return m.bound > m.capacity or not model.is_refused(m.before, m.event)
 
 
-def clause_words(m):
-    old, new = m.before.table.words, m.after.table.words
+def clause_stays(m):
+    old, new = m.before.table.pointers, m.after.table.pointers
     return model.is_exclusive(m.event) or all(a is None or (b is not None and a.number == b.number) for a, b in zip(old, new))
 
 
-def clause_reserved_words(m):
-    """The word of a reserved bucket names that bucket for good."""
+def clause_reserved_stays(m):
+    """The pointer of a reserved bucket leads to that bucket for good."""
     digits = model.binary_digits(m.capacity)
-    old, new = m.before.table.words[:digits], m.after.table.words[:digits]
+    old, new = m.before.table.pointers[:digits], m.after.table.pointers[:digits]
     return all(a is None or (b is not None and a.number == b.number) for a, b in zip(old, new))
 
 
@@ -376,7 +376,7 @@ def calls_go(step, before, after):
     match step[0]:
         case "MakeBucket":
             return offer_ends and told if refused else goes_on
-        case "LoadWord" | "LookAtFlag" | "InstallBucket":
+        case "LoadPointer" | "LookAtFlag" | "InstallBucket":
             return goes_on
         case "WriteValue":
             return goes_on or offer_ends
@@ -394,8 +394,8 @@ def clause_goes_on(m):
 
 
 def clause_numbers(m):
-    """Two words name two buckets, and a bucket of a call's own is named by no word and is of no other call."""
-    named = [it.number for it in m.after.table.words if it is not None]
+    """Two pointers lead to two buckets, and to a bucket of a call's own no pointer leads and it is of no other call."""
+    named = [it.number for it in m.after.table.pointers if it is not None]
     own = [own_number(it) for _, it in live(m.after) if own_number(it) is not None]
     return len(set(named + own)) == len(named + own)
 
@@ -439,7 +439,7 @@ CLAUSES = {name[len("clause_") :]: it for name, it in list(globals().items()) if
 
 def publishes(number, value, missing):
     """The steps of a Local's first publishing call, where its bucket is missing or stands."""
-    steps = [("BeginGetOr", ("Ok", value)), ("LoadWord",)]
+    steps = [("BeginGetOr", ("Ok", value)), ("LoadPointer",)]
     steps += [("MakeBucket", False), ("InstallBucket",)] if missing else [("LookAtFlag",)]
     return [("OfLocal", number, it) for it in steps + [("WriteValue",), ("SetFlag",)]]
 
@@ -466,7 +466,7 @@ def story():
     if it is None or not model.is_complete(it) or list(reversed(it.given)) != list(enumerate(four)):
         return "the walk gives the four"
     core = model.run(core, [("EndWalk", 0)] + [("GiveBack", k) for k in range(4)] + [("TakeId", False, 0)])
-    calls = [("BeginGet",), ("LoadWord",), ("LookAtFlag",), ("Reply",), ("BeginGetOr", ("Ok", "b")), ("Reply",)]
+    calls = [("BeginGet",), ("LoadPointer",), ("LookAtFlag",), ("Reply",), ("BeginGetOr", ("Ok", "b")), ("Reply",)]
     core = model.run(core, [("OfLocal", 4, it) for it in calls])
     it = live_local(core, 4)
     if it is None or it.id != 0 or it.start.value != "a" or it.answers != (("Found", "a"), ("Answered", "a")):
@@ -497,7 +497,7 @@ class Rewriter:
 def any_step(chance, mark):
     create = ("Ok", f"v{mark}") if chance.random() < 0.75 else ("Err", f"e{mark}")
     begins = [("BeginGet",), ("BeginGetOr", create), ("BeginGetOr", create)]
-    goes_on = [("LoadWord",), ("LookAtFlag",), ("InstallBucket",), ("WriteValue",), ("SetFlag",), ("Reply",)]
+    goes_on = [("LoadPointer",), ("LookAtFlag",), ("InstallBucket",), ("WriteValue",), ("SetFlag",), ("Reply",)]
     return chance.choice(begins + goes_on * 2 + [("MakeBucket", chance.random() < 0.3)] * 2)
 
 
@@ -532,7 +532,7 @@ def owner_call(chance, mark):
 
 def quiet_events(chance, core):
     """Events that let every Local and walk end, so that exclusive calls get their turn."""
-    steps = [("LoadWord",), ("LookAtFlag",), ("MakeBucket", False), ("InstallBucket",), ("WriteValue",), ("SetFlag",), ("Reply",)]
+    steps = [("LoadPointer",), ("LookAtFlag",), ("MakeBucket", False), ("InstallBucket",), ("WriteValue",), ("SetFlag",), ("Reply",)]
     events = []
     for n, _ in live(core):
         events += [("OfLocal", n, it) for _ in range(6) for it in steps]
@@ -611,49 +611,49 @@ def wrong_bodies():
     def loser_stores(table, local):
         if local.doing[0] == "Private":
             b = bucket_of(local.id)
-            return right["install_bucket"](model.with_word(table, b, None), local)
+            return right["install_bucket"](model.with_pointer(table, b, None), local)
 
     def flag_first(table, local):
         after = right["write_value"](table, local)
         if after is not None and after[1].doing[0] == "Written":
-            return model.with_slot(table, local.id, Slot(None, True)), after[1]
+            return model.with_table_slot(table, local.id, Slot(None, True)), after[1]
         return after
 
     def write_last(table, local):
         if local.doing[0] == "Written":
             value = local.doing[1]
             told = model.ended_call(local, ("GetOr", ("Ok", value), False), ("Answered", value), ("Holding", value), ("Gets", 0))
-            return model.with_slot(table, local.id, Slot(value, True)), told
+            return model.with_table_slot(table, local.id, Slot(value, True)), told
 
     def overwrites(table, local):
         after = right["reply"](table, local)
         if after is not None and local.doing[0] == "Started" and local.doing[1][0] == "Ok":
-            return model.with_slot(table, local.id, Slot(local.doing[1][1], True)), after[1]
+            return model.with_table_slot(table, local.id, Slot(local.doing[1][1], True)), after[1]
         return after
 
     def stops_early(table, it):
         after = right["walk_load"](table, it)
-        return after if after is None or model.stands(table, it.bucket) else replace(after, bucket=model.BUCKETS)
+        return after if after is None or model.bucket_stands(table, it.bucket) else replace(after, bucket=model.BUCKETS)
 
     def installs_two(table, local):
         after = right["install_bucket"](table, local)
         b = bucket_of(local.id) + 1
-        if after is not None and b < model.BUCKETS and not model.stands(table, b):
-            return model.with_word(after[0], b, model.fresh_bucket(b, table.made)), after[1]
+        if after is not None and b < model.BUCKETS and not model.bucket_stands(table, b):
+            return model.with_pointer(after[0], b, model.fresh_bucket(b, table.made)), after[1]
         return after
 
     def empties_slot(core, refused, growth):
         after = right["take"](core, refused, growth)
-        return after if after is core else replace(after, table=model.with_slot(after.table, least(core.held), Slot()))
+        return after if after is core else replace(after, table=model.with_table_slot(after.table, least(core.held), Slot()))
 
     def error_publishes(table, local):
         after = right["write_value"](table, local)
         if after is not None and local.doing[1][0] == "Err":
-            return model.with_slot(table, local.id, Slot(local.doing[1][1], True)), after[1]
+            return model.with_table_slot(table, local.id, Slot(local.doing[1][1], True)), after[1]
         return after
 
     def leaves_last(table):
-        return [model.value_of(it) for named in table.words[: model.BUCKETS - 1] if named for it in named.slots if it.flag]
+        return [model.value_of(it) for named in table.pointers[: model.BUCKETS - 1] if named for it in named.slots if it.flag]
 
     def keeps_held(core, number):
         return model.forget(core, number)
@@ -675,7 +675,7 @@ def wrong_bodies():
         "no exclusive call is ever enabled": {"is_alone": lambda core: False},
         "a publishing where a value stands overwrites it": steps(Reply=overwrites),
         "get answers nothing": {"found": lambda learnt: (None,) if learnt[0] in ("Missing", "Vacant", "Holding") else None},
-        "the walk stops at the first empty word": {"WALK_STEPS": {**model.WALK_STEPS, "Load": stops_early}},
+        "the walk stops at the first null pointer": {"WALK_STEPS": {**model.WALK_STEPS, "Load": stops_early}},
         "take refuses below the room": {"is_granted": lambda core, refused: not (model.is_exhausted(core) or refused)},
         "install installs the next bucket too": steps(InstallBucket=installs_two),
         "clear keeps values": {"cleared": lambda core: replace(core, held=())},
@@ -751,15 +751,15 @@ def more_wrong_bodies():
 
     def keeps_flag(core):
         after = right["cleared"](core)
-        return replace(after, table=model.with_slot(after.table, 0, Slot(None, model.slot_at(core.table, 0).flag)))
+        return replace(after, table=model.with_table_slot(after.table, 0, Slot(None, model.slot_at(core.table, 0).flag)))
 
     def keeps_ids(core):
         return replace(right["cleared"](core), held=core.held)
 
     def renames_reserved(core):
         fresh = model.made_core(core.capacity, 0).table
-        words = tuple(it and replace(it, number=it.number + core.table.made) for it in fresh.words)
-        return replace(right["cleared"](core), table=model.Table(words, core.table.made + fresh.made))
+        pointers = tuple(it and replace(it, number=it.number + core.table.made) for it in fresh.pointers)
+        return replace(right["cleared"](core), table=model.Table(pointers, core.table.made + fresh.made))
 
     def forgets_capacity(core):
         return replace(new_core(), room=core.room)
@@ -918,7 +918,7 @@ def walk_change(before, after):
     gave = "" if before is None or after.given == before.given else f"gives {after.given[0][1]}, "
     if model.is_complete(after):
         return gave + "complete"
-    return gave + (f"looks at id {model.cursor(after)} next" if after.looks else f"at word {after.bucket}")
+    return gave + (f"looks at id {model.cursor(after)} next" if after.looks else f"at pointer {after.bucket}")
 
 
 def slot_text(slot):
@@ -928,9 +928,9 @@ def slot_text(slot):
 def table_change(before, after):
     """What a step changed of the table that threads share."""
     said = []
-    for bucket, (old, new) in enumerate(zip(before.words, after.words)):
+    for bucket, (old, new) in enumerate(zip(before.pointers, after.pointers)):
         if old is None and new is not None:
-            said.append(f"word {bucket} names bucket {new.number}")
+            said.append(f"pointer {bucket} leads to bucket {new.number}")
         elif old is not None and new is not None:
             changed = [k for k, (a, b) in enumerate(zip(old.slots, new.slots)) if a != b]
             said += [f"slot {model.id_at(bucket, k)}: {slot_text(new.slots[k])}" for k in changed]
@@ -938,12 +938,12 @@ def table_change(before, after):
 
 
 def offer_text(core, event):
-    """What a call finds that comes second: the word names the first one's bucket and goes on naming it."""
+    """What a call finds that comes second: the pointer leads to the first one's bucket and goes on leading to it."""
     if event[0] != "OfLocal" or event[2] != ("InstallBucket",):
         return ""
     bucket = bucket_of(live_local(core, event[1]).id)
-    named = core.table.words[bucket]
-    return "" if named is None else f"word {bucket} names bucket {named.number} still"
+    named = core.table.pointers[bucket]
+    return "" if named is None else f"pointer {bucket} leads to bucket {named.number} still"
 
 
 def sheet_text(sheet):
@@ -957,14 +957,14 @@ def race(seed):
     chance, core, begun = random.Random(seed), new_core(), set()
     events = [("TakeId", False, 0)] * 3
     core = model.run(core, events)
-    steps = [("LoadWord",), ("LookAtFlag",), ("MakeBucket", False), ("InstallBucket",), ("WriteValue",), ("SetFlag",), ("Reply",)]
+    steps = [("LoadPointer",), ("LookAtFlag",), ("MakeBucket", False), ("InstallBucket",), ("WriteValue",), ("SetFlag",), ("Reply",)]
     while True:
         menu = []
         for n in (1, 2):
             if n not in begun:
                 menu.append(("OfLocal", n, ("BeginGetOr", ("Ok", "-ab"[n]))))
             else:
-                missing = live_local(core, n).learnt == ("Missing",)  # to load such a word again teaches nothing
+                missing = live_local(core, n).learnt == ("Missing",)  # to load such a pointer again teaches nothing
                 menu += [it for it in (("OfLocal", n, step) for step in steps[missing:]) if model.is_enabled(core, it)]
         it = live_walk(core, 0)
         if not core.walks:
@@ -998,15 +998,15 @@ def show(seed):
 
 
 def main():
-    words = argparse.ArgumentParser(description=__doc__.splitlines()[0])
-    words.add_argument("--seed", type=int, default=1)
-    words.add_argument("--runs", type=int, help="how many schedules: 2000 (under five minutes), or 100 with --short")
-    words.add_argument("--short", action="store_true", help="fewer schedules: under 20 seconds")
-    words.add_argument("--events", type=int, default=250)
-    words.add_argument("--buckets", type=int, default=3)
-    words.add_argument("--wrong", action="store_true", help="tries each wrong body in turn")
-    words.add_argument("--show", type=int, metavar="SEED", help="print a schedule in which two Locals race for one bucket")
-    given = words.parse_args()
+    options = argparse.ArgumentParser(description=__doc__.splitlines()[0])
+    options.add_argument("--seed", type=int, default=1)
+    options.add_argument("--runs", type=int, help="how many schedules: 2000 (under five minutes), or 100 with --short")
+    options.add_argument("--short", action="store_true", help="fewer schedules: under 20 seconds")
+    options.add_argument("--events", type=int, default=250)
+    options.add_argument("--buckets", type=int, default=3)
+    options.add_argument("--wrong", action="store_true", help="tries each wrong body in turn")
+    options.add_argument("--show", type=int, metavar="SEED", help="print a schedule in which two Locals race for one bucket")
+    given = options.parse_args()
     if given.show is not None:
         model.set_buckets(2)
         return show(given.show)

@@ -169,13 +169,13 @@ def fresh_bucket(bucket, number):
 
 @dataclass(frozen=True)
 class Table:
-    words: tuple  # for each bucket None, or the bucket that its word names
+    pointers: tuple  # for each bucket None, or the bucket that its pointer leads to
     made: int
 
 
 def slot_in(table, bucket, index):
-    word = table.words[bucket]
-    return word.slots[index] if word is not None else Slot()
+    pointer = table.pointers[bucket]
+    return pointer.slots[index] if pointer is not None else Slot()
 
 
 def value_of(slot):
@@ -190,24 +190,24 @@ def published(table, identity):
     return value_of(slot_at(table, identity))
 
 
-def stands(table, bucket):
-    return table.words[bucket] is not None
+def bucket_stands(table, bucket):
+    return table.pointers[bucket] is not None
 
 
-def with_word(table, bucket, named):
-    return replace(table, words=table.words[:bucket] + (named,) + table.words[bucket + 1 :])
+def with_pointer(table, bucket, named):
+    return replace(table, pointers=table.pointers[:bucket] + (named,) + table.pointers[bucket + 1 :])
 
 
-def with_slot(table, identity, slot):
+def with_table_slot(table, identity, slot):
     b, i = bucket_of(identity), index_of(identity)
-    named = table.words[b]
+    named = table.pointers[b]
     if named is None:
         return table
-    return with_word(table, b, replace(named, slots=named.slots[:i] + (slot,) + named.slots[i + 1 :]))
+    return with_pointer(table, b, replace(named, slots=named.slots[:i] + (slot,) + named.slots[i + 1 :]))
 
 
 def slots(table):
-    return sum(2**b for b in range(BUCKETS) if stands(table, b))
+    return sum(2**b for b in range(BUCKETS) if bucket_stands(table, b))
 
 
 @dataclass(frozen=True)
@@ -244,8 +244,8 @@ class Core:
 
 def made_core(capacity, extra):
     digits = binary_digits(capacity)
-    words = tuple(fresh_bucket(b, b) if b < digits else None for b in range(BUCKETS))
-    return Core((), capacity + extra, capacity, Table(words, digits))
+    pointers = tuple(fresh_bucket(b, b) if b < digits else None for b in range(BUCKETS))
+    return Core((), capacity + extra, capacity, Table(pointers, digits))
 
 
 def new_core():
@@ -307,9 +307,9 @@ def begin_get_or(table, local, create):
             return table, replace(local, doing=("Started", create))
 
 
-def load_word(table, local):
+def load_pointer(table, local):
     if is_calling(local.doing) and local.learnt[0] in ("Unknown", "Missing"):
-        return table, replace(local, learnt=("Standing",) if stands(table, bucket_of(local.id)) else ("Missing",))
+        return table, replace(local, learnt=("Standing",) if bucket_stands(table, bucket_of(local.id)) else ("Missing",))
 
 
 def look_at_flag(table, local):
@@ -330,7 +330,7 @@ def install_bucket(table, local):
     match local.doing, local.learnt:
         case ("Private", create, number), ("Missing",):
             b = bucket_of(local.id)
-            after = table if stands(table, b) else with_word(table, b, fresh_bucket(b, number))
+            after = table if bucket_stands(table, b) else with_pointer(table, b, fresh_bucket(b, number))
             return after, replace(local, learnt=("Vacant",), doing=("Started", create))
 
 
@@ -338,7 +338,7 @@ def write_value(table, local):
     match local.doing, local.learnt:
         case ("Started", ("Ok", value)), ("Vacant",):
             slot = replace(slot_at(table, local.id), written=value)
-            return with_slot(table, local.id, slot), replace(local, doing=("Written", value))
+            return with_table_slot(table, local.id, slot), replace(local, doing=("Written", value))
         case ("Started", ("Err", error)), ("Vacant",):
             return table, ended_call(local, ("GetOr", ("Err", error), False), ("Failed", error), ("Vacant",), ("Gets", 0))
 
@@ -348,7 +348,7 @@ def set_flag(table, local):
         case ("Written", value), ("Vacant",):
             slot = replace(slot_at(table, local.id), flag=True)
             call = ("GetOr", ("Ok", value), False)
-            return with_slot(table, local.id, slot), ended_call(local, call, ("Answered", value), ("Holding", value), ("Gets", 0))
+            return with_table_slot(table, local.id, slot), ended_call(local, call, ("Answered", value), ("Holding", value), ("Gets", 0))
 
 
 def found(learnt):
@@ -371,7 +371,7 @@ def reply(table, local):
 LOCAL_STEPS = {
     "BeginGet": begin_get,
     "BeginGetOr": begin_get_or,
-    "LoadWord": load_word,
+    "LoadPointer": load_pointer,
     "LookAtFlag": look_at_flag,
     "MakeBucket": make_bucket,
     "InstallBucket": install_bucket,
@@ -437,7 +437,7 @@ def walk_load(table, walking):
         return None
     first = tuple(published(table, k) for k in range(IDS)) if walking.loads == 0 else walking.first
     loaded = replace(walking, loads=walking.loads + 1, first=first)
-    return at_place(loaded) if stands(table, walking.bucket) else at_next_bucket(loaded)
+    return at_place(loaded) if bucket_stands(table, walking.bucket) else at_next_bucket(loaded)
 
 
 def walk_look(table, walking):
@@ -485,31 +485,31 @@ def is_alone(core):
 def owner_walk(table):
     given = []
     for b in range(BUCKETS):
-        if stands(table, b):
-            given += [value_of(it) for it in table.words[b].slots if it.flag]
+        if bucket_stands(table, b):
+            given += [value_of(it) for it in table.pointers[b].slots if it.flag]
     return given
 
 
 def rewritten(table, others):
-    words = tuple(
+    pointers = tuple(
         None
         if named is None
         else replace(
             named,
             slots=tuple(replace(it, written=others(id_at(b, i), it.written)) if it.flag else it for i, it in enumerate(named.slots)),
         )
-        for b, named in enumerate(table.words)
+        for b, named in enumerate(table.pointers)
     )
-    return replace(table, words=words)
+    return replace(table, pointers=pointers)
 
 
 def cleared_table(table, capacity):
     digits = binary_digits(capacity)
-    words = tuple(
+    pointers = tuple(
         None if b >= digits or named is None else fresh_bucket(b, named.number)
-        for b, named in enumerate(table.words)
+        for b, named in enumerate(table.pointers)
     )
-    return replace(table, words=words)
+    return replace(table, pointers=pointers)
 
 
 def cleared(core):
@@ -573,7 +573,7 @@ def is_exclusive(event):
 
 
 def is_refused(core, event):
-    """The event ends in want of memory or of ids."""
+    """The event is refused memory or an id."""
     if not is_enabled(core, event):
         return False
     match event:

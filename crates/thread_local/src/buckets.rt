@@ -1,3 +1,3 @@
-//! The buckets of a table, for an owner who has them alone: a map from ids to values.
+//! The buckets of a table, for their exclusive owner: a map from ids to values.
 
 pub use thread_local_buckets::{Buckets, CapacityError};

@@ -1,4 +1,5 @@
-//! The table under the name of a faster form that it had once. Deprecated: `ThreadLocal` is as fast, and does what this does and more.
+//! `CachedThreadLocal`, a deprecated wrapper of `ThreadLocal`: once a faster table, now as fast,
+//! and with fewer calls.
 ghost use Rattle.std.specs.Prelude.{◌≡◌, length, Some, IfSome};
 ghost use Rattle.std.specs.Iterator.{YieldsFirst, YieldsFirstMut, UpTo, item_count};
 ghost use Rattle.std.specs.Iterator.SizeHint.{IsWithinCount};
@@ -14,8 +15,9 @@ use thread_local_judged::Judge;
 use thread_local_table::{Local, ThreadLocal};
 use thread_local_thread_id::LocalError;
 
-/// A table of which less is offered. Deprecated: use `ThreadLocal`. Each call is that of the table, and says what the table's says. What Rust's crate
-/// offers for the running thread is on the `Local` that `local` answers.
+/// A table with fewer calls. Deprecated: use `ThreadLocal`. Each call is the table's: it waits,
+/// takes memory, refuses and drops values where the table's does. What Rust's crate offers for the
+/// running thread is on the `Local` that `local` answers.
 #[derive(Drop)]
 pub struct CachedThreadLocal<T> {
     table: ThreadLocal<T>,
@@ -32,7 +34,7 @@ impl<T> Model for CachedThreadLocal<T> {
 }
 
 impl<T> CachedThreadLocal<T> {
-    /// A table with no value, no bucket and no id held. It takes no memory, and never waits. The type of the values is judged, as
+    /// A table with no value, no bucket and no id held. The type of the values is judged, as
     /// `ThreadLocal::new` asks.
     pub fn new(alloc: Global) -> CachedThreadLocal<T>
     where
@@ -45,19 +47,19 @@ impl<T> CachedThreadLocal<T> {
         }
     }
 
-    /// A place in the table, as `ThreadLocal::local`. May wait, and may take memory.
+    /// A `Local` with the least id that isn't held. May wait, and may take memory.
     pub fn local<'a, R: Wait>(&'a self, rt: &'a R) -> Result<Local<'a, T, R>, LocalError> {
         self.table.local(rt)
     }
 
-    /// The values by ascending id, each lent as `&mut`. It never waits, and takes no memory.
+    /// The values by ascending id, each lent as `&mut`.
     pub fn iter_mut(&mut self) -> CachedIterMut<'_, T> {
         CachedIterMut {
             walk: self.table.iter_mut(),
         }
     }
 
-    /// Empties the table, as `ThreadLocal::clear`. It never waits, and takes no memory.
+    /// Drops the values and takes the ids back, as `ThreadLocal::clear`.
     pub fn clear(&mut self)
     where
         T: Drop,
@@ -83,7 +85,7 @@ impl<T: Drop> IntoIterator for CachedThreadLocal<T> {
 
     type IntoIter = CachedIntoIter<T>;
 
-    /// The values by ascending id, each moved out. It never waits, and takes no memory.
+    /// The values by ascending id, each moved out.
     fn into_iter(self) -> CachedIntoIter<T> {
         CachedIntoIter {
             walk: self.table.into_iter(),
@@ -96,14 +98,14 @@ impl<'a, T> IntoIterator for &'a mut CachedThreadLocal<T> {
 
     type IntoIter = CachedIterMut<'a, T>;
 
-    /// The values by ascending id, each lent as `&mut`. It never waits, and takes no memory.
+    /// The values by ascending id, each lent as `&mut`.
     fn into_iter(self) -> CachedIterMut<'a, T> {
         self.iter_mut()
     }
 }
 
-/// The walk of `CachedThreadLocal::iter_mut`. Deprecated: use `IterMut`. It never waits, and takes no memory. Contracts see the values
-/// still to come, and the name of their loan.
+/// The walk of `CachedThreadLocal::iter_mut`. Deprecated: use `IterMut`. It takes no lock and no
+/// memory. Contracts see the values still to come, and the name of their loan.
 #[derive(Drop)]
 pub struct CachedIterMut<'a, T> {
     walk: IterMut<'a, T>,
@@ -125,7 +127,7 @@ impl<'a, T> Iterator for CachedIterMut<'a, T> {
 
     ghost remaining = { item_count iter_mut_rest };
 
-    /// The next value, as the walk of the table has it.
+    /// The next value of the table's walk.
     fn next(&mut self) -> Option<&'a mut T> {
         self.walk.next()
     }
@@ -147,7 +149,8 @@ impl<T> ExactSizeIterator for CachedIterMut<'_, T> {
     }
 }
 
-/// The walk of `CachedThreadLocal` by value. Deprecated: use `IntoIter`. It never waits, and takes no memory. Contracts see the values still to come.
+/// The walk of `CachedThreadLocal` by value. Deprecated: use `IntoIter`. It takes no lock and no
+/// memory; the drop of a walk drops the values still to come. Contracts see those values.
 #[derive(Drop)]
 pub struct CachedIntoIter<T> {
     walk: IntoIter<T>,
@@ -168,7 +171,7 @@ impl<T: Drop> Iterator for CachedIntoIter<T> {
 
     ghost remaining = { item_count (λ rest. rest) };
 
-    /// The next value, as the walk of the table has it.
+    /// The next value of the table's walk.
     fn next(&mut self) -> Option<T> {
         self.walk.next()
     }

@@ -1,11 +1,13 @@
 //! Per-object thread-local storage: one object keeps a separate value for each thread that uses it.
 //!
-//! A thread asks a `ThreadLocal` for a `Local`, its place in the table with an id of its own, and finds or makes its value through it.
-//! Values stay when a `Local` is dropped. Whoever has the table alone walks over all of them, and where threads may share the values,
-//! anybody walks over those that are published, while others publish more.
+//! A thread asks a `ThreadLocal` for a `Local`, which has an id of its own, and finds or makes its
+//! value through it. Values stay when a `Local` is dropped. The exclusive owner of the table walks
+//! over all of them; where threads may share the values, any thread walks over those that are
+//! published, while others publish more.
 //!
 //! ```text
-//! /// Counts so many times in a counter of its own, which is a plain cell. None means that memory or an id was refused.
+//! /// Counts `times` times in a counter of its own, which is a plain cell. None means that memory
+//! /// or an id was refused.
 //! pub fn count<R: Wait>(counters: &ThreadLocal<Cell<u64>>, rt: &R, times: u64) -> Option<()> {
 //!     let mut local = counters.local(rt).ok()?;
 //!     let counter = local.get_or(|| Cell::new(0)).ok()?;
@@ -15,7 +17,7 @@
 //!     Some(())
 //! }
 //!
-//! /// The sum of all counters, for somebody who has the table alone.
+//! /// The sum of all counters, for the exclusive owner of the table.
 //! pub fn total(counters: ThreadLocal<Cell<u64>>) -> u64 {
 //!     let mut sum = 0u64;
 //!     for counter in counters {
@@ -25,7 +27,8 @@
 //! }
 //! ```
 //!
-//! Besides it has the ids that a table gives out, the buckets of an owner who has them alone, and the theorems over every schedule.
+//! The crate also has the ids that a table gives out, the buckets for an exclusive owner, and the
+//! theorems over every schedule.
 #![tactic(auto)]
 
 pub mod buckets;

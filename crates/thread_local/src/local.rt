@@ -1,3 +1,3 @@
-//! A thread's place in a table, through which it finds or makes its value.
+//! What a thread has in a table: an id of its own, through which it finds or makes its value.
 
 pub use thread_local_table::{Local, Seat, TryError};

@@ -11,8 +11,9 @@ use thread_local_thread_id::LocalError;
 
 mod lends;
 
-/// Buffers of bytes that threads borrow and give back, each with the room that it grew to. Threads share a pool through a `&`. Rust's crate
-/// has no such type.
+/// Buffers of bytes that threads borrow and give back; each keeps the room that it grew to. Threads
+/// share a pool through a `&`. Only `buffer` and the drop of a `Buffer` may wait, for the lock of
+/// the pool's table, and only `buffer` takes memory. Rust's crate has no such type.
 #[derive(Drop)]
 pub struct Pool {
     table: ThreadLocal<Cell<Vec<u8>>>,
@@ -20,7 +21,7 @@ pub struct Pool {
 }
 
 impl Pool {
-    /// A pool of no buffer. It takes no memory, and never waits.
+    /// A pool with no buffer.
     pub fn new(alloc: Global) -> Pool {
         Cell::<Vec<u8>>::judge();
         Pool {
@@ -29,9 +30,10 @@ impl Pool {
         }
     }
 
-    /// An empty buffer, with the room that its last holder left. It takes the least id that isn't held, so with at most so many buffers
-    /// held at once at most so many are ever made. May wait, and takes memory as `ThreadLocal::local` and `Local::get_or` do: want of it
-    /// is `Memory`, and leaves the pool as it was. `Exhausted` means that all 2^63 - 1 ids are held.
+    /// An empty buffer, with the room that its last holder left. It takes the least id that isn't
+    /// held: where at most n buffers are held at once, at most n are ever made. May wait, and takes
+    /// memory, as `ThreadLocal::local` and `Local::get_or` do: `Memory` means out of memory.
+    /// `Exhausted` means that all 2^63 - 1 ids are held.
     pub fn buffer<'a, R: Wait>(&'a self, rt: &'a R) -> Result<Buffer<'a, R>, LocalError>
         ensures empty { IfOk result (λ buffer. buffer ≡ []) }
     {
@@ -48,8 +50,9 @@ impl Pool {
     }
 }
 
-/// A buffer of a pool, until it is dropped: the drop empties it, puts it back with its room, and gives its id back. That may wait, and
-/// takes no memory. One that is forgotten keeps its id and its bytes. Contracts see the bytes.
+/// A buffer of a pool. Dropping it empties it, puts it back with its room, and gives its id back,
+/// which may wait. A forgotten one keeps its id and its bytes. No other call waits or takes memory.
+/// Contracts see the bytes.
 pub struct Buffer<'a, R: Wait> {
     local: Local<'a, Cell<Vec<u8>>, R>,
     bytes: Vec<u8>,
@@ -64,7 +67,7 @@ impl<'a, R: Wait> Model for Buffer<'a, R> {
 }
 
 impl<'a, R: Wait> Buffer<'a, R> {
-    /// The bytes that were left in it last. It never waits, and takes no memory.
+    /// The bytes, for reading.
     pub fn bytes(&self) -> &Vec<u8>
         ensures { result.now.items ≡ self.now }
     {

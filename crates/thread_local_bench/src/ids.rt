@@ -22,7 +22,8 @@ pub(crate) fn few<R: Clock>(rt: &R, alloc: Global, pairs: u64) -> io::Result<Rou
     })
 }
 
-/// Gives one of many held ids back and takes it again. The look whether it is held is there for the proof, and counts.
+/// Gives one of many held ids back and takes it again. The look whether it is held is there for the
+/// proof, and counts.
 pub(crate) fn many<R: Clock>(rt: &R, alloc: Global, held: u32, pairs: u64) -> io::Result<Round> {
     let mut manager = ThreadIdManager::new(alloc);
     for _ in 0..held {

@@ -1,4 +1,5 @@
-//! How long it takes to take an id and to give it back, alone and with four threads, under this repository's lock and under std's.
+//! How long it takes to take an id and to give it back, alone and with four threads, under this
+//! repository's lock and under std's.
 
 use std::alloc::Global;
 use std::io::Print;
@@ -6,17 +7,18 @@ use std::sync::{Mutex, Wait};
 use std::thread::Threads;
 use std::time::{Clock, Instant};
 use std::{io, thread};
-use thread_local_locked_ids::{Ids, LockedIds};
+use thread_local_ids::Ids;
+use thread_local_lock::Lock;
 use thread_local_thread_id::ThreadIdManager;
 
-/// Prints the times of so many pairs, five times. Each of four threads does a fourth of them.
+/// Prints the times of `pairs` pairs, five times. Each of four threads does a fourth of them.
 pub(crate) fn compare<R: Clock + Threads + Wait + Sync + Print>(
     rt: &R,
     alloc: Global,
     pairs: u64,
 ) -> io::Result<()> {
     for _ in 0..5 {
-        let (alone, four) = times(&LockedIds::new(Ids::new(alloc)), rt, pairs)?;
+        let (alone, four) = times(&Lock::new(Ids::new(alloc)), rt, pairs)?;
         println!(rt; "this lock: alone {alone} ns a pair, four threads {four} ns")?;
         let (alone, four) = times(&Mutex::new(ThreadIdManager::new(alloc)), rt, pairs)?;
         println!(rt; "std's lock: alone {alone} ns a pair, four threads {four} ns")?;
@@ -26,15 +28,16 @@ pub(crate) fn compare<R: Clock + Threads + Wait + Sync + Print>(
 
 /// Ids that several threads take and give back.
 trait Shared: Sync {
-    /// Takes an id and gives it back so many times.
+    /// Takes an id and gives it back, `pairs` times.
     fn take_and_give<R: Wait>(&self, rt: &R, pairs: u64);
 }
 
-impl Shared for LockedIds {
+impl Shared for Lock<Ids> {
     fn take_and_give<R: Wait>(&self, rt: &R, pairs: u64) {
         for _ in 0..pairs {
-            if let Ok(held) = self.take(rt) {
-                self.give(rt, held);
+            let taken = self.lock(rt).take();
+            if let Ok(held) = taken {
+                self.lock(rt).give(held);
             }
         }
     }

@@ -1,8 +1,9 @@
-//! Times the calls of a table, alone and by threads, of an owner's buckets and of the id manager: a line for each workload, with its name
-//! and the nanoseconds of one operation, the least of several rounds. The argument is the number of rounds. With none each workload runs
-//! once, on few ids, and its name alone is printed. With `locks N` it compares two locks over N pairs of taking and giving. With
-//! `races SECONDS THREADS` threads race on one table for so long, four if their number is left out; it prints what was counted, and ends
-//! with status 1 where a check failed.
+//! Times the calls of a table, alone and by threads, of an owner's buckets and of the id manager: a
+//! line for each workload, with its name and the nanoseconds of one operation, the least of several
+//! rounds. The argument is the number of rounds. With none each workload runs once, on few ids, and
+//! its name alone is printed. With `locks N` it compares two locks over N pairs of taking and
+//! giving. With `races SECONDS THREADS` threads race on one table for so long, four if their number
+//! is left out; it prints what was counted, and ends with status 1 where a check failed.
 #![tactic(auto)]
 
 mod ids;
@@ -56,7 +57,8 @@ enum Workload {
 
 /// How much a round of a workload does.
 struct Sizes {
-    /// How often a value is looked for. Which of two `Local`s finds it goes by the bits of the look's number that are in the mask.
+    /// How often a value is looked for. Which of two `Local`s finds it goes by the bits of the
+    /// look's number that are in the mask.
     hits: u64,
     mask: u64,
     tables: u64,

@@ -1,5 +1,6 @@
-//! Threads that race on one table. Each takes places, publishes, drops and walks at random, and checks what it finds; between rounds the table's owner checks
-//! what they left. The moves differ from run to run only by what the threads meet.
+//! Threads that race on one table. Each takes `Local`s, publishes, drops and walks at random, and
+//! checks what it finds; between rounds the table's owner checks what they left. The moves differ
+//! from run to run only by what the threads meet.
 
 use std::alloc::{AllocError, Global};
 use std::io::Print;
@@ -12,8 +13,8 @@ use std::{io, thread};
 use thread_local_judged::judge_sync;
 use thread_local_table::{Local, ThreadLocal};
 
-/// How many places a thread holds at most.
-const PLACES: usize = 8;
+/// How many `Local`s a thread holds at most.
+const LOCALS: usize = 8;
 
 /// How many moves a thread makes in a round.
 const MOVES: u32 = 200;
@@ -21,7 +22,8 @@ const MOVES: u32 = 200;
 /// After how many rounds the owner clears the table.
 const ROUNDS: u64 = 4;
 
-/// What is published: a number, and how many places know the value at the moment. One place at most has a value's id.
+/// What is published: a number, and how many `Local`s know the value at the moment. One `Local` at
+/// most has a value's id.
 struct Mark {
     number: u64,
     holders: AtomicU64,
@@ -39,7 +41,7 @@ impl Drop for Mark {
     }
 }
 
-/// What threads count together: values published and dropped, places taken, and what went wrong.
+/// What threads count together: values published and dropped, `Local`s taken, and what went wrong.
 #[derive(Drop)]
 struct Counts {
     published: AtomicU64,
@@ -72,20 +74,20 @@ impl Counts {
     }
 }
 
-/// A place, and the number that it found or published.
+/// A `Local`, and the number that it found or published.
 #[derive(Drop)]
-struct Place<'a, R: Wait> {
+struct Held<'a, R: Wait> {
     local: Local<'a, Mark, R>,
     number: Option<u64>,
 }
 
-impl<'a, R: Wait> Place<'a, R> {
-    /// Takes a place. Where it holds a value, nobody else may know it.
+impl<'a, R: Wait> Held<'a, R> {
+    /// Takes a `Local`. Where it finds a value, nobody else may know it.
     fn take(
         table: &'a ThreadLocal<Mark>,
         rt: &'a R,
         counts: &Counts,
-    ) -> Result<Place<'a, R>, AllocError> {
+    ) -> Result<Held<'a, R>, AllocError> {
         let local = table.local(rt).map_err(|_| AllocError)?;
         counts.taken.fetch_add(1, SeqCst);
         let number = match local.get() {
@@ -95,10 +97,10 @@ impl<'a, R: Wait> Place<'a, R> {
             }
             None => None,
         };
-        Ok(Place { local, number })
+        Ok(Held { local, number })
     }
 
-    /// Has a value at the place, which stays as it was if there was one.
+    /// Publishes a value, unless there is one, which stays as it was.
     fn publish(&mut self, number: u64, counts: &Counts) -> Result<(), AllocError> {
         let drops = Arc::try_clone(&counts.dropped)?;
         let mark = self.local.get_or(|| Mark {
@@ -117,8 +119,8 @@ impl<'a, R: Wait> Place<'a, R> {
         Ok(())
     }
 
-    /// Gives the place back. Its value is what it was, and nobody else knows it.
-    fn leave(self, counts: &Counts) {
+    /// Drops the `Local`. Its value is what it was, and nobody else knows it.
+    fn give_back(self, counts: &Counts) {
         let Self { local, number } = self;
         match local.get() {
             Some(mark) => {
@@ -130,14 +132,14 @@ impl<'a, R: Wait> Place<'a, R> {
     }
 }
 
-/// Walks over the table: a value is known to one place at most.
+/// Walks over the table: a value is known to one `Local` at most.
 fn walk(table: &ThreadLocal<Mark>, counts: &Counts) {
     for mark in table.iter() {
         counts.expect(mark.holders.load(SeqCst) <= 1);
     }
 }
 
-/// Makes so many moves at random, from a state of its own.
+/// Makes `MOVES` moves at random, from a state of its own.
 fn moves<R: Wait>(
     table: &ThreadLocal<Mark>,
     rt: &R,
@@ -145,7 +147,7 @@ fn moves<R: Wait>(
     counts: &Counts,
     state: u64,
 ) -> Result<(), AllocError> {
-    let mut places: Vec<Place<'_, R>> = Vec::with_capacity(alloc, PLACES)?;
+    let mut all: Vec<Held<'_, R>> = Vec::with_capacity(alloc, LOCALS)?;
     let mut state = state;
     for _ in 0..MOVES {
         state = state
@@ -155,23 +157,23 @@ fn moves<R: Wait>(
         if (state >> 40) % 16 == 0 {
             walk(table, counts);
         }
-        if choice == 0 && places.len() < PLACES {
-            places.push(Place::take(table, rt, counts)?)?;
+        if choice == 0 && all.len() < LOCALS {
+            all.push(Held::take(table, rt, counts)?)?;
         } else if choice == 1 {
-            if let Some(place) = places.pop() {
-                place.leave(counts);
+            if let Some(held) = all.pop() {
+                held.give_back(counts);
             }
-        } else if let Some(place) = places.last_mut() {
-            place.publish(state, counts)?;
+        } else if let Some(held) = all.last_mut() {
+            held.publish(state, counts)?;
         }
     }
-    for place in places {
-        place.leave(counts);
+    for held in all {
+        held.give_back(counts);
     }
     Ok(())
 }
 
-/// So many threads make their moves at once, after so many rounds.
+/// `threads` threads make their moves at once, after `before` rounds.
 fn round<R: Threads + Wait + Sync>(
     table: &ThreadLocal<Mark>,
     rt: &R,
@@ -192,7 +194,8 @@ fn round<R: Threads + Wait + Sync>(
     });
 }
 
-/// What an owner finds between rounds: each published value once, known to nobody, in no more slots than that many places need.
+/// What an owner finds between rounds: each published value once, known to nobody, in no more slots
+/// than `most` `Local`s need.
 fn owner_checks(table: &mut ThreadLocal<Mark>, counts: &Counts, most: u64) {
     let slots = table.slots() as u64;
     counts.expect(slots < most.saturating_mul(2));
@@ -205,7 +208,8 @@ fn owner_checks(table: &mut ThreadLocal<Mark>, counts: &Counts, most: u64) {
     counts.expect(walked == standing);
 }
 
-/// Runs rounds for so many seconds with so many threads, and prints what was counted. A fault is told, and ends in an error.
+/// Runs rounds for `seconds` seconds with `threads` threads, and prints what was counted. A fault
+/// is told, and ends in an error.
 pub(crate) fn run<R: Clock + Threads + Wait + Sync + Print>(
     rt: &R,
     alloc: Global,
@@ -215,7 +219,7 @@ pub(crate) fn run<R: Clock + Threads + Wait + Sync + Print>(
     judge_sync::<Mark>();
     let counts = Counts::new(alloc)?;
     let mut table = ThreadLocal::new(alloc);
-    let most = threads.saturating_mul(PLACES as u64);
+    let most = threads.saturating_mul(LOCALS as u64);
     let start = Instant::now(rt)?;
     let mut rounds = 0u64;
     for _ in 0..u64::MAX {
@@ -240,9 +244,8 @@ fn tell<R: Print>(rt: &R, counts: &Counts, rounds: u64, threads: u64) -> io::Res
     let taken = counts.taken.load(SeqCst);
     let published = counts.published.load(SeqCst);
     let faults = counts.faults.load(SeqCst);
-    println!(rt;
-        "{threads} threads, {rounds} rounds, {taken} places taken, {published} values published and dropped, {faults} faults"
-    )?;
+    print!(rt; "{threads} threads, {rounds} rounds, {taken} Locals taken, ")?;
+    println!(rt; "{published} values published and dropped, {faults} faults")?;
     if faults == 0 {
         Ok(())
     } else {

@@ -9,7 +9,7 @@ use std::time::{Clock, Duration, Instant};
 use thread_local_judged::Judge;
 use thread_local_table::{Local, ThreadLocal};
 
-/// A `Local`, where one can be had.
+/// A `Local`, unless the call is refused.
 fn taken<'a, T, R: Wait>(
     table: &'a ThreadLocal<T>,
     rt: &'a R,
@@ -17,7 +17,19 @@ fn taken<'a, T, R: Wait>(
     table.local(rt).map_err(|_| AllocError)
 }
 
-/// The round of so many operations, if they added up to as many.
+/// Two `Local`s of a table, each with a count of 0.
+fn two_published<'a, R: Wait>(
+    table: &'a ThreadLocal<Cell<u64>>,
+    rt: &'a R,
+) -> Result<(Local<'a, Cell<u64>, R>, Local<'a, Cell<u64>, R>), AllocError> {
+    let mut first = taken(table, rt)?;
+    let mut second = taken(table, rt)?;
+    first.get_or(|| Cell::new(0))?;
+    second.get_or(|| Cell::new(0))?;
+    Ok((first, second))
+}
+
+/// The round of `operations` operations, if they added up to as many.
 fn counted(counts: ThreadLocal<Cell<u64>>, operations: u64, time: Duration) -> Round {
     let mut sum = 0u64;
     for count in counts {
@@ -29,7 +41,8 @@ fn counted(counts: ThreadLocal<Cell<u64>>, operations: u64, time: Duration) -> R
     }
 }
 
-/// Finds the value and adds to it. Which of two `Local`s is asked is known at run time alone, so that no compiler finds it once for all.
+/// Finds the value and adds to it. Which of two `Local`s is asked is known at run time alone, so
+/// that no compiler finds it once for all.
 pub(crate) fn get_hit<R: Clock + Wait>(
     rt: &R,
     alloc: Global,
@@ -39,10 +52,7 @@ pub(crate) fn get_hit<R: Clock + Wait>(
     Cell::<u64>::judge();
     let table = ThreadLocal::new(alloc);
     let time = {
-        let mut first = taken(&table, rt)?;
-        let mut second = taken(&table, rt)?;
-        first.get_or(|| Cell::new(0u64))?;
-        second.get_or(|| Cell::new(0u64))?;
+        let (first, second) = two_published(&table, rt)?;
         let start = Instant::now(rt)?;
         for number in 0..times {
             let local = if number & mask == 0 { &first } else { &second };
@@ -72,10 +82,7 @@ pub(crate) fn get_or_hit<R: Clock + Wait>(
     Cell::<u64>::judge();
     let table = ThreadLocal::new(alloc);
     let time = {
-        let mut first = taken(&table, rt)?;
-        let mut second = taken(&table, rt)?;
-        first.get_or(|| Cell::new(0u64))?;
-        second.get_or(|| Cell::new(0u64))?;
+        let (mut first, mut second) = two_published(&table, rt)?;
         let start = Instant::now(rt)?;
         for number in 0..times {
             if number & mask == 0 {
@@ -166,7 +173,8 @@ pub(crate) fn publish<R: Clock + Wait>(rt: &R, alloc: Global, values: u32) -> io
     })
 }
 
-/// Reads each value of a table that threads may share. Their sum is looked at, so that no compiler leaves the walk out.
+/// Reads each value of a table that threads may share. Their sum is looked at, so that no compiler
+/// leaves the walk out.
 pub(crate) fn iter<R: Clock + Wait>(rt: &R, alloc: Global, values: u32) -> io::Result<Round> {
     let table = ThreadLocal::<u64>::new(alloc);
     {

@@ -47,7 +47,7 @@ impl Value for [u64; 8] {
     }
 }
 
-/// Which ids have a value: so many, each so far from the one before it.
+/// Which ids have a value: `count` ids, each `apart` behind the one before it.
 #[derive(Clone, Copy)]
 pub(crate) struct Ids {
     pub(crate) count: u32,
@@ -115,7 +115,7 @@ pub(crate) fn insert<T: Value, R: Clock>(rt: &R, alloc: Global, count: u32) -> i
     })
 }
 
-/// Writes each value of a table, so many times.
+/// Writes each value of a table, `times` times.
 pub(crate) fn iter_mut<T: Value, R: Clock>(
     rt: &R,
     alloc: Global,
@@ -134,7 +134,8 @@ pub(crate) fn iter_mut<T: Value, R: Clock>(
     })
 }
 
-/// Walks so many times over a table with so many reserved slots and four values, and writes these.
+/// Walks `times` times over a table with `reserved` reserved slots and four values, and writes
+/// these.
 pub(crate) fn iter_mut_reserved<R: Clock>(
     rt: &R,
     alloc: Global,
@@ -156,7 +157,8 @@ pub(crate) fn iter_mut_reserved<R: Clock>(
     })
 }
 
-/// Takes each value out of a table. Their sum is looked at, so that no compiler leaves the walk out.
+/// Takes each value out of a table. Their sum is looked at, so that no compiler leaves the walk
+/// out.
 pub(crate) fn into_iter<T: Value, R: Clock>(rt: &R, alloc: Global, ids: Ids) -> io::Result<Round> {
     let buckets = filled::<T>(alloc, ids)?;
     let start = Instant::now(rt)?;
@@ -173,7 +175,7 @@ pub(crate) fn into_iter<T: Value, R: Clock>(rt: &R, alloc: Global, ids: Ids) -> 
     })
 }
 
-/// The same of so many tables, which were filled before.
+/// The same of `tables` tables, which were filled before.
 pub(crate) fn into_iter_of_many<R: Clock>(
     rt: &R,
     alloc: Global,

@@ -81,7 +81,8 @@ fn come_and_go<R: Wait>(table: &ThreadLocal<Cell<u64>>, rt: &R) -> Result<(), Lo
     Ok(())
 }
 
-/// Threads come and go one after another: each takes a `Local`, adds to its value and gives the `Local` back.
+/// Threads come and go one after another: each takes a `Local`, adds to its value and gives the
+/// `Local` back.
 pub(crate) fn thread_come_and_go<R: Clock + Threads + Wait + Sync>(
     rt: &R,
     alloc: Global,

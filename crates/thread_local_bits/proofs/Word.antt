@@ -1,3 +1,5 @@
+-- One 64-bit word: testing, setting and clearing a bit, finding the lowest set or unset one, and
+-- counting the set ones.
 use Rattle.std.proofs.Common.{◌≡◌, ◌≢◌, ℕ, ◌+◌, ◌-◌, ◌*◌, ◌/◌, ◌%◌, ◌^◌, ◌<◌, Bool, true, false, cond, eqb, min, max, length, get_or, bit_and, bit_or, count_ones, zero-mul, refl, ap, sym, subst, ◌∙◌, arith, ⊎_elim}
 use Rattle.std.specs.Int.{w64, bit_not, bit_at, trailing_ones, trailing_zeros}
 use Rattle.std.specs.Int.Bits.{or_add_and}
@@ -46,7 +48,7 @@ lowest_unset word fits apart =
     let at = bit_at-trailing_ones w64 word (omega arith) in
     record { within = at.0; unset = ap (λ b. eqb b 1) at.1; lower = λ i below. ap (λ b. eqb b 1) (at.2 i below) }
 
--- how many of the lowest bits there are, and which
+-- `low_bits` has `count` bits, each of which says whether that bit is set
 pub length-low_bits : (count word : ℕ) → length (low_bits count word) ≡ count
 unfolding low_bits
 length-low_bits count word = length-map-range_with_len (is_set word) 0 count
@@ -55,7 +57,7 @@ pub get_or-low_bits : (count word bit : ℕ) → bit < count → get_or (low_bit
 unfolding low_bits
 get_or-low_bits count word bit below = get_or-map-range_with_len (is_set word) 0 count bit bit false below (omega arith)
 
--- a bit as a number is what its test says
+-- a bit as a number is 1 exactly where the bit is set
 bit_at-is : (word bit : ℕ) → bit_at word bit ≡ cond (is_set word bit) 1 0
 bit_at-is word bit =
     ⊎_elim
@@ -74,19 +76,19 @@ pub count_ones-counts : (count word : ℕ) → word < 2 ^ count → count_ones w
 count_ones-counts count word fits =
     ap count_ones (low_bits-make count word fits ∙ ap mask_l (sym (map-id (low_bits count word)))) ∙ ones-mask_l (λ b. b) (low_bits count word)
 
--- a bit that isn't set is 0, and one that is set is 1
+-- a bit that isn't set is 0
 bit_at-unset : (word bit : ℕ) → is_set word bit ≡ false → bit_at word bit ≡ 0
 bit_at-unset word bit unset = bit_at-is word bit ∙ ap (λ b. cond b 1 0) unset
 
--- words with the same bits are the same
+-- words with the same bits are equal
 pub same_bits : (a b : ℕ) → a < 2 ^ 64 → b < 2 ^ 64 → ((i : ℕ) → i < 64 → is_set a i ≡ is_set b i) → a ≡ b
 same_bits a b fits fit same = same_from_bits_below 64 a b fits fit (λ i inside. bit_at-is a i ∙ ap (λ v. cond v 1 0) (same i inside) ∙ sym (bit_at-is b i))
 
--- a word of which no bit is set is 0
+-- a word without a set bit is 0
 pub none_set : (word : ℕ) → word < 2 ^ 64 → ((i : ℕ) → i < 64 → is_set word i ≡ false) → word ≡ 0
 none_set word fits none = same_from_bits_below 64 word 0 fits (omega arith) (λ i within. bit_at-unset word i (none i within) ∙ sym (bit_at-zero i))
 
--- a word is itself but for a bit that is as told
+-- writing a bit as it is doesn't change the word
 pub same_bit : (word bit : ℕ) (value : Bool) → is_set word bit ≡ value → IsWordBut word word bit value
 same_bit word bit value told i inside =
     ⊎_elim (λ (same : bit ≡ i). rw (eq-eqb bit i same, ← same) told) (λ apart. rw (ne_eqb bit i apart) refl) (cases_eq bit i)
@@ -107,7 +109,7 @@ add_bit word bit within fits unset =
     (let same : (word + 2 ^ bit) % 2 ^ 64 ≡ word + 2 ^ bit = omega arith in same ∙ added_is word bit unset ∙ ap (bit_or word) (sym (one_shl bit 64 within))) in
     rw plain (set_bit word bit within)
 
--- the same as code makes it
+-- the same in the form that code has
 pub add_shifted : (word bit : ℕ) → bit < 64 → word < 2 ^ 64 → is_set word bit ≡ false → IsWordBut ((word + 1 * 2 ^ bit % 2 ^ 64) % 2 ^ 64) word bit true
 add_shifted word bit within fits unset = rw (one_shl bit 64 within) (add_bit word bit within fits unset)
 
@@ -118,14 +120,14 @@ set_fits word bit within fits = or_lt 64 word _ fits (omega arith)
 pub masked_fits : (word mask : ℕ) → word < 2 ^ 64 → bit_and word mask < 2 ^ 64
 masked_fits word mask fits = omega (arith, and_le_l word mask)
 
--- and so is one that is shifted
+-- and so is a shifted word
 pub shifted_right : (word places : ℕ) → word < 2 ^ 64 → word / 2 ^ places < 2 ^ 64
 shifted_right word places fits = omega (arith, div-le_self word (2 ^ places))
 
 pub shifted_left : (word places : ℕ) → word * 2 ^ places % 2 ^ 64 < 2 ^ 64
 shifted_left word places = omega arith
 
--- which bit of its word is a slot's
+-- the number of a slot's bit in its word is below 64
 pub place_below : (slot : ℕ) → slot % 64 < 64
 place_below slot = omega arith
 
@@ -138,7 +140,7 @@ lowest_set word fits apart =
     let at = bit_at-trailing_zeros w64 word (omega arith) fits in
     record { within = at.0; set = ap (λ b. eqb b 1) at.1; lower = λ i below. ap (λ b. eqb b 1) (at.2 i below) }
 
--- a word is the number with one of its bits cleared, and that bit
+-- a word is the sum of one of its set bits and the word without it
 cleared_and_bit : (word bit : ℕ) → bit < 64 → word < 2 ^ 64 → is_set word bit ≡ true → bit_and word (bit_not w64 (1 * 2 ^ bit % 2 ^ 64)) + 2 ^ bit ≡ word
 cleared_and_bit word bit within fits here =
     let rest : ℕ = bit_and word (bit_not w64 (1 * 2 ^ bit % 2 ^ 64)) in
@@ -152,7 +154,7 @@ cleared_and_bit word bit within fits here =
     added_is rest bit gone ∙ ap (bit_or rest) (sym (one_shl bit 64 within))
     ∙ same_bits (bit_or rest (1 * 2 ^ bit % 2 ^ 64)) word (set_fits rest bit within (masked_fits word _ fits)) fits again
 
--- taking 1 away clears the lowest bit that is set, and sets those below it
+-- subtracting 1 clears the lowest set bit, and sets those below it
 one_less : (word : ℕ) → word < 2 ^ 64 → (bit : ℕ) → IsLowestSet word bit
     → word - 1 ≡ bit_or (bit_and word (bit_not w64 (1 * 2 ^ bit % 2 ^ 64))) (2 ^ bit - 1)
 one_less word fits bit low =
@@ -170,7 +172,7 @@ one_less word fits bit low =
     ap (λ b. eqb b 1) none) in
     omega (arith, or_add_and rest (2 ^ bit - 1), pow_pos bit)
 
--- `word & (word - 1)` clears the lowest bit that is set, and changes no other
+-- `word & (word - 1)` clears the lowest set bit, and changes no other
 pub clear_lowest_at : (word bit : ℕ) → word < 2 ^ 64 → IsLowestSet word bit → IsWordBut (bit_and word (word - 1)) word bit false
 clear_lowest_at word bit fits low i inside =
     let rest : ℕ = bit_and word (bit_not w64 (1 * 2 ^ bit % 2 ^ 64)) in

@@ -1,3 +1,5 @@
+-- A list of 64-bit words as one list of bits: setting and clearing a bit, finding the next unset
+-- one, and counting the set ones.
 use Rattle.std.proofs.Common.{◌≡◌, ◌≢◌, ℕ, zero, suc, ◌+◌, ◌-◌, ◌*◌, ◌/◌, ◌%◌, ◌^◌, ◌<◌, ◌≤◌, Bool, true, false, cond, eqb, List, [], ◌∷◌, ◌++◌, length, get_or, set, replicate, bit_and, bit_or, count_ones, refl, ap, sym, ◌∙◌, arith, ⊎_elim}
 use Rattle.std.specs.Int.{w64, bit_not, trailing_ones}
 use Rattle.std.specs.List.{sum_by, count_by}
@@ -13,7 +15,7 @@ unfolding bits_of
 length-bits_of [] = refl
 length-bits_of (word ∷ words) = omega (arith, length-append (low_bits 64 word) (bits_of words), length-low_bits 64 word, length-bits_of words)
 
--- bit j is bit j % 64 of word j / 64, and behind the words no bit is set
+-- bit j is bit j % 64 of word j / 64, and past the last word no bit is set
 pub get_or-bits_of : (words : List ℕ) (bit : ℕ) → get_or (bits_of words) bit false ≡ is_set_in words bit
 unfolding bits_of
 get_or-bits_of [] bit = sym (is_set-zero (bit % 64))
@@ -30,13 +32,13 @@ get_or-bits_of (word ∷ words) bit =
     rw (next, same) (get_or-append_right (low_bits 64 word) (bits_of words) 64 bit false (length-low_bits 64 word) from ∙ get_or-bits_of words (bit - 64)))
     (cases_lt bit 64)
 
--- words behind words have their bits behind the others
+-- appending words appends their bits
 pub bits_of-append : (words more : List ℕ) → bits_of (words ++ more) ≡ bits_of words ++ bits_of more
 unfolding bits_of
 bits_of-append [] more = refl
 bits_of-append (word ∷ words) more = ap (λ bits. low_bits 64 word ++ bits) (bits_of-append words more) ∙ sym (append_assoc (low_bits 64 word) (bits_of words) (bits_of more))
 
--- one bit of a word changes: the bits change there and nowhere else
+-- where one bit of a word changes, that bit of the list changes and no other
 pub is_set_in-set : (words : List ℕ) (bit word : ℕ) (value : Bool) → bit / 64 < length words → IsWordBut word (get_or words (bit / 64) 0) (bit % 64) value
     → (i : ℕ) → is_set_in (set words (bit / 64) word) i ≡ cond (eqb bit i) value (is_set_in words i)
 is_set_in-set words bit word value within but i =
@@ -85,7 +87,7 @@ is_set_in-zeros count bit =
     (λ past. ap (λ w. is_set w (bit % 64)) (get_or_past zeros (bit / 64) 0 (omega (arith, length-replicate {A = ℕ} count 0))) ∙ is_set-zero (bit % 64))
     (cases_lt (bit / 64) count)
 
--- a word that is 0 behind the others sets no bit
+-- appending a word that is 0 sets no bit
 pub get_or-push_zero : (words : List ℕ) (at : ℕ) → get_or (words ++ 0 ∷ []) at 0 ≡ get_or words at 0
 get_or-push_zero [] zero = refl
 get_or-push_zero [] (suc at) = refl
@@ -101,7 +103,7 @@ is_set_in-all_ones words at bit full from below =
     let here : bit / 64 ≡ at = omega arith in
     rw (here, full) (is_set-all_ones (bit % 64) (omega arith))
 
--- in a word that isn't all ones, `trailing_ones` is the next bit that isn't set
+-- in a word that isn't all ones, `trailing_ones` is the next unset bit
 pub next_unset : (words : List ℕ) (at word : ℕ) → word ≡ get_or words at 0 → word < 2 ^ 64 → word ≢ 2 ^ 64 - 1
     → IsNextUnset words (at * 64) (at * 64 + trailing_ones w64 word)
 next_unset words at word read fits apart =
@@ -118,7 +120,7 @@ next_unset words at word read fits apart =
           rw (word_of, ← read) (low.lower (i % 64) (omega arith));
     }
 
--- so it is from any lower bit on from which all bits up to that word are set
+-- the same from a lower bit on, where every bit between it and that word is set
 pub next_unset_from : (words : List ℕ) (from at bit : ℕ) → from ≤ at → ((i : ℕ) → from ≤ i → i < at → is_set_in words i ≡ true) → IsNextUnset words at bit → IsNextUnset words from bit
 next_unset_from words from at bit before full next = record {
   after = let after = next.after in omega arith;
@@ -126,7 +128,7 @@ next_unset_from words from at bit before full next = record {
   between = λ i lower below. ⊎_elim (λ first. full i lower first) (λ then. next.between i then below) (cases_lt i at);
 }
 
--- behind the words no bit is set
+-- past the last word no bit is set
 pub none_behind : (words : List ℕ) → IsNextUnset words (length words * 64) (length words * 64)
 none_behind words = record {
   after = omega arith;

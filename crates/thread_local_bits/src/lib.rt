@@ -1,3 +1,5 @@
-//! The bits of words of 64 bits, as truth values: what it is to test, to set and to clear a bit, to find the lowest that isn't set, and to
-//! count those that are. It has no code that runs.
+//! The bits of 64-bit words as truth values: test, set and clear a bit, find the lowest set or
+//! unset one, and count the set ones.
+//!
+//! The crate has definitions and lemmas only, and no code that runs.
 #![tactic(auto)]

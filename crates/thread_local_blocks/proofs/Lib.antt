@@ -1,5 +1,9 @@
+pub mod Each
+pub mod Flags
+pub mod Rooms
+pub mod Slots
 pub mod Fields
 pub mod Making
 pub mod Rounding
 pub mod Sent
-pub mod Vacated
+pub mod RetiredBlocks

@@ -1,11 +1,12 @@
--- A block that is made: its room cut into slots, and the flags of one chunk after another. Assumes `Logic`.
-use Rattle.thread_local_chunks.proofs.Names.{◌≡◌, ℕ, suc, ◌+◌, List, [], ◌∷◌, ◌++◌, length, length-append, sym, refl, ap, ◌∙◌, subst, arith, w64, Option, None, Ura, Ty, ty_int, SProp, ent, sep, wand, guard, Fml, ftrue, froom, Logic, sem, ‵, ◌⊛◌, ◌$◌, ◌∵◌, !, qed, move, drop, split3, fsplit, fsplit3, fjoin, fpick, fpack, check, frame, assume, use1, use2, rewrite, done, RattleType, Ptr, block_ptr, block_of, count_of, InBlock, nothing, word}
+-- Making a block: its room is cut into slots, and the flags of one chunk after another are made.
+-- Assumes `Logic`.
+use Rattle.thread_local_raw.proofs.Names.{◌≡◌, ℕ, suc, ◌+◌, List, [], ◌∷◌, ◌++◌, length, length-append, sym, refl, ap, ◌∙◌, subst, arith, w64, Option, None, Ura, Ty, ty_int, SProp, ent, sep, wand, guard, Fml, ftrue, froom, Logic, sem, ‵, ◌⊛◌, ◌$◌, ◌∵◌, !, qed, move, drop, split3, fsplit, fsplit3, fjoin, fpick, fpack, check, frame, assume, use1, use2, rewrite, done, RattleType, Ptr, block_ptr, block_of, count_of, InBlock, nothing, word}
 use Rattle.std.specs.Prelude.{replicate}
 use Rattle.std.proofs.lemmas.List.{length-replicate}
-use Rattle.thread_local_chunks.specs.Slots.{empty_slots, chunks, AreFlags, Fits, each, word_at, flags_at, flag_room, flags_own, slot, back, block_ty, block_owns}
-use Rattle.thread_local_chunks.proofs.Flags.{flags_none, flags_more}
-use Rattle.thread_local_chunks.proofs.Slots.{IsWordNear, word_is_near}
-use Rattle.thread_local_chunks.proofs.Rooms.{each_joined, block_cut}
+use Rattle.thread_local_blocks.specs.Slots.{empty_slots, chunks, AreFlags, Fits, each, word_at, flags_at, flag_room, flags_own, slot, back, block_ty, block_owns}
+use Rattle.thread_local_blocks.proofs.Flags.{flags_none, flags_more}
+use Rattle.thread_local_blocks.proofs.Slots.{IsWordNear, word_is_near}
+use Rattle.thread_local_blocks.proofs.Rooms.{each_joined, block_cut}
 
 module _ {M : Type 1} {𝓤 : Ura M} (𝓛 : Logic 𝓤) (R : RattleType) where
   open 𝓛 use {H}

@@ -1,5 +1,5 @@
--- How many bytes a block takes.
-use Rattle.thread_local_chunks.proofs.Names.{◌≡◌, ℕ, ◌+◌, ◌-◌, ◌*◌, ◌^◌, ◌<◌, ◌≤◌, refl, sym, ap, ◌∙◌, subst, arith, lit<, RattleType, lone}
+-- How many bytes a block takes, once it is rounded up to its alignment.
+use Rattle.thread_local_raw.proofs.Names.{◌≡◌, ℕ, ◌+◌, ◌-◌, ◌*◌, ◌^◌, ◌<◌, ◌≤◌, refl, sym, ap, ◌∙◌, subst, arith, lit<, RattleType, lone}
 use Rattle.std.specs.Prelude.{◌⊎◌, ◌%◌}
 use Rattle.std.proofs.Common.{zero, suc, inl, inr, ⊎_elim, one-mul, zero-mul, mul-le-mul_right}
 use mir.Syntax.{Width, w8, w16, w32, w64, w128}
@@ -7,10 +7,10 @@ use mir.Val.{bytes}
 use prog.Memory.{size, align, up, capped}
 use prog.Capped.{capped_is, capped_small}
 use prog.Align.{align_w, align-bytes}
-use Rattle.thread_local_chunks.specs.Slots.{chunks, stride, value_words, slots_ty, Fits, word_number}
-use Rattle.thread_local_chunks.proofs.Flags.{slots_size, words_near, number_is}
+use Rattle.thread_local_blocks.specs.Slots.{chunks, stride, value_words, slots_ty, Fits, word_number}
+use Rattle.thread_local_blocks.proofs.Flags.{slots_size, words_near, number_is}
 
--- how a block is aligned, by how its values are
+-- the alignment of a block, by that of its values
 abbrev most : ℕ → ℕ
 most a = Prim.Native.Nat.max a (Prim.Native.Nat.max 8 1)
 
@@ -21,7 +21,7 @@ by_width w32 = inl refl
 by_width w64 = inl refl
 by_width w128 = inr refl
 
--- so many bytes rounded up
+-- m bytes rounded up to a multiple of 8 or 16
 rounded : (a m : ℕ) → (a ≡ 8) ⊎ (a ≡ 16) → up a m ≡ m + (a - 1) - (m + (a - 1)) % a
 rounded a m is = ⊎_elim
     (λ (e : a ≡ 8). subst (λ (z : ℕ). up z m ≡ m + (z - 1) - (m + (z - 1)) % z) (sym e) (omega arith))

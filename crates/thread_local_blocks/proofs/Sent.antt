@@ -1,4 +1,4 @@
--- A block may go to another thread where its values may.
+-- A block may be sent to another thread where its values may.
 use Rattle.std.proofs.Common.{ℕ, List, [], ◌∷◌}
 use Rattle.std.specs.Prelude.{Option, Some, None, replicate}
 use mir.Syntax.{Ty}
@@ -9,7 +9,7 @@ use denote.RattleType.{RattleType}
 use denote.RawPtr.{Ptr}
 use denote.Param.Send.{IsSend, part_keyless}
 use Rattle.std.proofs.Crossing.{frees}
-use Rattle.thread_local_chunks.specs.Slots.{heap_token, empty_slots, chunks, each, place, flags_at, flag_room, slot, value_in, back, block_owns}
+use Rattle.thread_local_blocks.specs.Slots.{heap_token, empty_slots, chunks, each, content_at, flags_at, flag_room, slot, value_offset, back, block_owns}
 
 pub token_keyless : (τ : Ty) (p : Ptr) → Keyless (heap_token τ p)
 token_keyless τ p = λ a. frees.frees a τ p
@@ -19,12 +19,12 @@ each_keyless F one [] j = tt
 each_keyless F one (x ∷ xs) j = (one x j, each_keyless F one xs _)
 
 module _ (R : RattleType) (s : IsSend R) where
-  pub place_keyless : (c : Option R.Denot) (b e : ℕ) → Keyless (place R c b e)
+  pub place_keyless : (c : Option R.Denot) (b e : ℕ) → Keyless (content_at R c b e)
   place_keyless None b e = tt
   place_keyless (Some x) b e = part_keyless R s full_share x b e
 
   pub slots_keyless : (b o : ℕ) (cs : List (Option R.Denot)) (j : ℕ) → Keyless (each (slot R b o) cs j)
-  slots_keyless b o cs j = each_keyless (slot R b o) (λ c k. place_keyless c b (value_in R o k)) cs j
+  slots_keyless b o cs j = each_keyless (slot R b o) (λ c k. place_keyless c b (value_offset R o k)) cs j
 
   pub back_keyless : (b o n : ℕ) → Keyless (back R b o n)
   back_keyless b o n = ((each_keyless (flag_room R n b o) (λ _ _. tt) (replicate (chunks n) 0) 0, slots_keyless b o (empty_slots n) 0), tt)

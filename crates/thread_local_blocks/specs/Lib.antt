@@ -1,1 +1,2 @@
-pub mod Vacated
+pub mod Slots
+pub mod Retired

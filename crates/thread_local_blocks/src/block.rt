@@ -1,18 +1,19 @@
-//! A block of slots that one owner has alone.
+//! A block of slots in the hands of one owner: each slot empty, or with a value.
 ghost use Rattle.std.specs.Prelude.{◌≡◌, ℕ, ◌+◌, ◌<◌, List, length, Option, IfOk};
 ghost use prog.Memory.{size};
 ghost use base.Stored.{coded_list};
 ghost use Rattle.std.specs.Coded.{coded_option};
-ghost use Rattle.thread_local_chunks.specs.Slots.{block_owns, chunks, slots_ty, word_number, Fits, empty_slots};
+ghost use Rattle.thread_local_blocks.specs.Slots.{block_owns, chunks, slots_ty, word_number, Fits, empty_slots};
 
 use crate::bytes::{bytes_of_block, chunk_count, fits};
-use crate::leaving::Leaving;
+use crate::chunk::{Chunk, flag_word};
+use crate::retired::RetiredBlock;
 use std::alloc::{AllocError, Allocator};
 use std::marker::{Model, PhantomData};
 use std::mem::align_of;
-use thread_local_chunks::{Chunk, flag_word};
 
-/// A block of slots, with the right to free it. The flags of the last `left` of its chunks aren't made.
+/// A block of slots, with the right to free it. The flags of its last `left` chunks aren't made
+/// yet.
 pub struct Block<T, A: Allocator> {
     pub at: *mut Chunk<T>,
     pub marker: PhantomData<A>,
@@ -26,11 +27,12 @@ impl<T, A: Allocator> Model for Block<T, A> {
 }
 
 impl<T, A: Allocator> Block<T, A> {
-    /// Room for `len` slots, all empty, of which no flags are made. It takes `bytes`.
+    /// A block of `len` empty slots that takes `bytes`, none of whose flags are made.
     fn allocate(alloc: &A, len: usize, bytes: usize) -> Result<Block<T, A>, AllocError>
         requires fits { Fits T.row len }
         requires size { bytes ≡ size (slots_ty T.row len) }
-        ensures { IfOk result (λ b. (b.heap ≡ alloc.now) × (b.slots ≡ empty_slots len) × (b.left ≡ chunks len)) }
+        ensures { IfOk result (λ b.
+            (b.heap ≡ alloc.now) × (b.slots ≡ empty_slots len) × (b.left ≡ chunks len)) }
     {
         let _ = len;
         match alloc.allocate(bytes, align_of::<Chunk<T>>()) {
@@ -42,12 +44,14 @@ impl<T, A: Allocator> Block<T, A> {
         }
     }
 
-    /// The flags of the next chunk, none of which is set. `word` is the number of their word.
+    /// Makes the flags of the next chunk, none of them set. `word` is the number of their word.
     #[inline]
     fn push(&mut self, chunk: usize, word: usize)
         requires next { (chunk + self.old.left ≡ chunks (length self.old.slots)) × (0 < self.old.left) }
         requires word { word ≡ word_number T.row (length self.old.slots) chunk }
-        ensures { (self.new.heap ≡ self.old.heap) × (self.new.slots ≡ self.old.slots) × (self.new.left + 1 ≡ self.old.left) }
+        ensures { (self.new.heap ≡ self.old.heap)
+            × (self.new.slots ≡ self.old.slots)
+            × (self.new.left + 1 ≡ self.old.left) }
     {
         let _ = chunk;
         unsafe {
@@ -55,8 +59,8 @@ impl<T, A: Allocator> Block<T, A> {
         }
     }
 
-    /// A block of `len` slots, all empty. It asks for memory once, and is refused where the values would take 2^58 bytes or more, the alignment
-    /// isn't served or there is no memory.
+    /// A block of `len` empty slots. It asks for memory once. `Err` means out of memory, or that
+    /// the values would take 2^58 bytes or more, or that the allocator doesn't serve the alignment.
     pub fn new(alloc: &A, len: usize) -> Result<Block<T, A>, AllocError>
         ensures { IfOk result (λ b. (b.heap ≡ alloc.now) × (b.slots ≡ empty_slots len) × (b.left ≡ 0)) }
     {
@@ -74,7 +78,7 @@ impl<T, A: Allocator> Block<T, A> {
     pub fn release(self, alloc: &A, len: usize)
         requires { (self.heap ≡ alloc.now) × (self.slots ≡ empty_slots len) × (self.left ≡ 0) }
     {
-        Leaving::of(self, len).free(alloc, len);
+        RetiredBlock::of(self, len).free(alloc, len);
     }
 }
 

@@ -1,15 +1,17 @@
-//! How many bytes a block of slots takes.
+//! How many bytes a block of slots takes: its values, the words of its flags, and what rounds it up
+//! to its alignment.
 ghost use Rattle.std.specs.Prelude.{◌≡◌, true};
 ghost use prog.Memory.{align, size};
-ghost use Rattle.thread_local_chunks.specs.Slots.{chunks, slots_ty, Fits};
+ghost use Rattle.thread_local_blocks.specs.Slots.{chunks, slots_ty, Fits};
 
+use crate::chunk::{Chunk, flag_word, value_size};
 use std::mem::align_of;
-use thread_local_chunks::{Chunk, flag_word, value_size};
 
-/// What the values of a block take fewer bytes than. With its flags and what is unused in it a block then takes fewer than 2^63.
+/// The values of a block take fewer bytes than this. A block, with its flags and padding, then
+/// takes fewer than 2^63.
 const VALUES_LIMIT: usize = 1 << 58;
 
-/// How a block is aligned, however many slots it has.
+/// The alignment of a block, which doesn't depend on how many slots it has.
 fn block_align<T>() -> usize
     ensures { result ≡ align (slots_ty T.row 64) }
 {
@@ -27,7 +29,8 @@ pub(crate) fn chunk_count(len: usize) -> usize
     }
 }
 
-/// How many bytes a block of `len` slots takes, where it may have so many: to the end of its words, and on to a multiple of its alignment.
+/// How many bytes a block of `len` slots takes, where it may have as many: up to the end of its
+/// words, rounded up to its alignment.
 pub(crate) fn bytes_of_block<T>(len: usize) -> usize
     ensures { Fits T.row len → result ≡ size (slots_ty T.row len) }
 {
@@ -38,7 +41,7 @@ pub(crate) fn bytes_of_block<T>(len: usize) -> usize
     end - end % align
 }
 
-/// Whether a block may have so many slots.
+/// Whether a block may have `len` slots: whether their values take less than `VALUES_LIMIT`.
 pub(crate) fn fits<T>(len: usize) -> bool
     ensures { result ≡ true → Fits T.row len }
 {

@@ -1,9 +1,12 @@
-//! The raw memory of a table's buckets: blocks of slots, and how they are given up.
+//! The raw memory of a table's buckets: how slots lie in a block, how a block is made, and how it
+//! is retired.
 #![tactic(auto)]
 
 mod block;
 mod bytes;
-mod leaving;
+mod chunk;
+mod retired;
 
 pub use block::Block;
-pub use leaving::Leaving;
+pub use chunk::{Chunk, flag_word, value_size};
+pub use retired::RetiredBlock;

@@ -1,8 +1,9 @@
+-- The schedule of four `Local`s, computed step by step.
 use Rattle.std.proofs.Common.{◌≡◌, true, ℕ, [], ◌∷◌, Some, IsTrue, IsSomeAnd, refl}
 use Rattle.thread_local_model.specs.Place.{place, next_place, bucket_of, index_of}
 use Rattle.thread_local_model.specs.Capacity.{binary_digits, reserved_slots}
 use Rattle.thread_local_model.specs.Buckets.{slots, slots_below}
-use Rattle.thread_local_steps.specs.Table.{slot_at, published, stands, with_fresh_bucket, with_slot, made_table}
+use Rattle.thread_local_steps.specs.Table.{slot_at, published, bucket_stands, with_fresh_bucket, with_table_slot, made_table}
 use Rattle.thread_local_steps.specs.Local.{local_step}
 use Rattle.thread_local_model.specs.Cursor.{is_complete}
 use Rattle.thread_local_core.specs.SharedWalk.{walk_step}
@@ -13,9 +14,9 @@ use Rattle.thread_local_core.specs.Core.{peak, installed_slots}
 use Rattle.thread_local_schedule.specs.Events.{Owner, IterMut, ClearTable, step, happens, run, is_enabled}
 use Rattle.thread_local_bounds.specs.Story.{walk_on, whole_walk, four_publish, four_give_back, after_publishing, after_walking, after_giving_back, after_next, after_all}
 
--- the definitions by which the story computes
+-- the definitions that are unfolded to compute the schedule
 unfoldable pub by_steps : ℕ
-unfolding walk_on whole_walk four_publish four_give_back after_publishing after_walking after_giving_back after_next after_all run happens step is_enabled local_step walk_step slot_at published stands with_fresh_bucket with_slot made_table binary_digits reserved_slots bucket_of index_of place next_place slots slots_below walk_below owner_walk owner_walk_below
+unfolding walk_on whole_walk four_publish four_give_back after_publishing after_walking after_giving_back after_next after_all run happens step is_enabled local_step walk_step slot_at published bucket_stands with_fresh_bucket with_table_slot made_table binary_digits reserved_slots bucket_of index_of place next_place slots slots_below walk_below owner_walk owner_walk_below
 by_steps = 0
 
 module _ (T F : Type 0) (a b c d : T) where

@@ -1,3 +1,5 @@
+-- The values of a table in which four `Local`s published: theirs and no others, until it is
+-- cleared.
 use Rattle.std.proofs.Common.{◌≡◌, ℕ, zero, suc, [], ◌∷◌, None, IsTrue, refl, ap, arith, subst, sym}
 use Rattle.std.specs.Prelude.{slice_get}
 use Rattle.thread_local_model.specs.Sheet.{new_sheet}
@@ -14,7 +16,7 @@ use Rattle.thread_local_bounds.proofs.FourLocals.{by_steps, four_held, clears}
 use Rattle.thread_local_core.specs.CoreFits.{CoreFits}
 
 module _ (T F : Type 0) (a b c d : T) where
-  -- four are held, so nothing is published above id 3
+  -- four ids are held, so no value is published above id 3
   reached : after_publishing {V = T} {E = F} a b c d ≡ run new_core (four_publish a b c d)
   unfolding after_publishing
   reached = refl

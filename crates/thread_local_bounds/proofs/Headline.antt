@@ -1,3 +1,5 @@
+-- If each take comes while fewer than p ids are held, the peak stays within p, and a table of
+-- capacity p refuses nothing.
 use Rattle.std.proofs.Common.{◌≡◌, ℕ, ◌-◌, ◌*◌, ◌^◌, ◌<◌, ◌≤◌, Bool, false, List, [], ◌∷◌, length, Option, Some, None, IsTrue, refl, ap, ◌∙◌, arith, ⊎_elim}
 use Rattle.std.proofs.lemmas.Bool.{cases_Bool, lt-ltb, and_left, and_right}
 use Rattle.thread_local_model.specs.Held.{held_count}
@@ -20,12 +22,12 @@ use Rattle.thread_local_core.proofs.SheetLaws.{moved_peak, same_peak}
 use Rattle.thread_local_core.proofs.OptionLaws.{not_mapped, not_if, none_enabled}
 use Rattle.thread_local_model.proofs.CapacityLaws as reserve
 
--- of the moves, a step of a Local is at most one that publishes
+-- the only move of a Local's step is a publishing
 not_published : {V E : Type 0} (o : Option (Local V E)) (step : LocalStep V E) (m : Move V) → ((id : ℕ) (v : V) → Publish id v ≡ m → ⊥) → publishing o step ≡ Some m → ⊥
 not_published None step m other e = cc
 not_published (Some local) step m other e = not_mapped (value_set local.doing step) (λ v. Publish local.id v) m (λ v. other local.id v) e
 
--- an event that is no take is not the move of one
+-- an event that is no take makes no move of a take
 no_take : {V E : Type 0} (core : Core V E) (event : Event V E) → is_take event ≡ false → move_of core event ≡ Some Take → ⊥
 no_take core (TakeId refused growth) f e = cc
 no_take core (OfLocal number step) f e = not_published (core.locals number) step Take (λ id v same. cc) e
@@ -34,7 +36,7 @@ no_take core (Owner (IterMut others)) f e = cc
 no_take core (Owner ClearTable) f e = cc
 no_take core _ f e = cc
 
--- so where each take comes while fewer than p ids are held, the peak stays within p
+-- so the peak stays within p
 event_peak : {V E : Type 0} (p : ℕ) (core : Core V E) (event : Event V E) → CoreFits core → (IsTrue (is_take event) → held_count core.manager.held < p) → peak core ≤ p → peak (happens core event) ≤ p
 event_peak p core event h few l =
     let after = ap (λ sheet. length sheet.held) (event_says core event h).moves in
@@ -53,12 +55,12 @@ bounded p events few =
     let made = made_core-fits 0 0 (omega arith) in
     installed_bound (run new_core events) p (run-fits new_core events made) (omega (arith, run_capacity new_core events made)) (run_peak p new_core events made few (omega arith))
 
--- a step of a Local that doesn't live is not enabled
+-- a step of a Local that doesn't exist is not enabled
 step_of_none : {V E : Type 0} (core : Core V E) (n : ℕ) (step : LocalStep V E) → core.locals n ≡ None → is_enabled core (OfLocal n step) ≡ false
 unfolding is_enabled step
 step_of_none core n step none = none_enabled core.ended (step_of core (OfLocal n step)) (rw none refl)
 
--- within the capacity no event is refused
+-- while the peak is within the capacity, no event is refused
 asks_nothing : {V E : Type 0} (core : Core V E) (n : ℕ) (refused : Bool) (o : Option (Local V E)) → core.locals n ≡ o → CoreFits core → peak core ≤ core.capacity
     → is_refused core (OfLocal n (MakeBucket refused)) ≡ false
 asks_nothing core n refused None at h l = and_left (is_enabled core (OfLocal n (MakeBucket refused))) refused (step_of_none core n (MakeBucket refused) at)

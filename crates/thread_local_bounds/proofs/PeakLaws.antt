@@ -1,3 +1,5 @@
+-- The peak of held ids over a schedule, and what it bounds: ids, installed slots, values and
+-- refusals.
 use Rattle.std.proofs.Common.{◌≡◌, ℕ, ◌-◌, ◌*◌, ◌^◌, ◌<◌, ◌≤◌, max, Bool, true, false, ◌&&◌, cond, List, [], ◌∷◌, Some, IsTrue, refl, ap, ◌∙◌, subst, arith}
 use Rattle.std.specs.Prelude.{◌≢◌, Contains}
 use Rattle.std.proofs.lemmas.Bool.{and_left, and_right, ne_eqb}
@@ -6,7 +8,7 @@ use Rattle.thread_local_model.specs.Capacity.{reserves_bucket, reserved_slots, i
 use Rattle.thread_local_model.specs.Buckets.{slots}
 use Rattle.thread_local_model.specs.Answers.{Answer, Refused, answers}
 use Rattle.thread_local_model.proofs.AnswersLaws.{none_refused}
-use Rattle.thread_local_steps.specs.Table.{stands}
+use Rattle.thread_local_steps.specs.Table.{bucket_stands}
 use Rattle.thread_local_steps.specs.Local.{Local, MakeBucket, local_step}
 use Rattle.thread_local_steps.proofs.TableLaws.{same_function}
 use Rattle.thread_local_core.specs.Core.{Core, made_core, new_core, shadow, installed_slots, peak}
@@ -24,11 +26,11 @@ use Rattle.thread_local_bounds.specs.Bounds.{most_after_all}
 use Rattle.thread_local_schedule.proofs.Clauses as clause
 use Rattle.thread_local_model.proofs.CapacityLaws as reserve
 
--- each id that is given lies below the last
+-- each id taken is below 2^63 - 1
 pub ids : {V E : Type 0} (core : Core V E) (n : ℕ) (local : Local V E) → CoreFits core → core.locals n ≡ Some local → local.id < 2 ^ 63 - 1
 ids core n local h at = omega (arith, h.manager.peak_ids, held_below core.manager.held local.id (h.locals.each n local at).id_held)
 
--- the peak goes as the number of held ids says
+-- the peak changes as the number of held ids says
 pub peak_run : {V E : Type 0} (core : Core V E) (events : List (Event V E)) (most : ℕ) → CoreFits core → peak core ≡ most → peak (run core events) ≡ most_after_all most core events
 unfolding run
 peak_run core [] most h e = e
@@ -36,7 +38,7 @@ peak_run core (event ∷ events) most h e =
     peak_run (happens core event) events _ (happens-fits core event h)
     ((event_says core event h).peak ∙ ap (λ n. cond (is_enabled core event && is_clear event) 0 (max n (held_count (happens core event).manager.held))) e)
 
--- the capacity is for good
+-- the capacity never changes
 pub capacity_stays : {V E : Type 0} (core : Core V E) (event : Event V E) → CoreFits core → (happens core event).capacity ≡ core.capacity
 capacity_stays core event h = ap (λ sheet. sheet.capacity) (event_says core event h).moves ∙ same_capacity (shadow core) (move core event)
 
@@ -83,8 +85,8 @@ reserved_answers core n local told h at here c refused =
     none_refused local.start local.calls (live.known here)
     (subst (λ answer. Contains (answers local.start local.calls) answer) refused (subst (λ all. Contains all told) live.local_fits.answered c))
 
--- after a clear just the reserved slots are installed
+-- after a clear exactly the reserved slots are installed
 pub slots_of_cleared : {V E : Type 0} (core : Core V E) → IsReached core → IsTrue (is_enabled core (Owner ClearTable)) → installed_slots (happens core (Owner ClearTable)) ≡ reserved_slots core.capacity
 slots_of_cleared core r t =
-    ap slots (same_function (stands (happens core (Owner ClearTable)).table) (reserves_bucket core.capacity) (λ bucket. clause.cleared_stands core bucket r t))
+    ap slots (same_function (bucket_stands (happens core (Owner ClearTable)).table) (reserves_bucket core.capacity) (λ bucket. clause.cleared_stands core bucket r t))
     ∙ reserve.slots-reserved core.capacity (clause.fits core r).manager.capacity_ids

@@ -1,3 +1,4 @@
+-- A schedule has as many publishings since the last clear as the table has values.
 use Rattle.std.proofs.Common.{◌≡◌, ℕ, zero, suc, ◌+◌, ◌-◌, ◌^◌, ◌<◌, ◌≤◌, length, length-append, List, [], ◌∷◌, Option, Some, None, IfSome, refl, ap, sym, ◌∙◌, subst, arith, ⊎_elim}
 use Rattle.std.specs.Prelude.{option_to_list, option_map}
 use Rattle.std.proofs.lemmas.Bool.{cases_order, ne_eqb, eq-eqb}
@@ -15,7 +16,7 @@ use Rattle.thread_local_schedule.proofs.Kept.{happens-fits, run-fits}
 use Rattle.thread_local_schedule.proofs.EventSays.{event_says}
 use Rattle.thread_local_bounds.specs.Bounds.{publishings_with, publishings_after_all, publishings}
 
--- a walk that ends before an id doesn't see what is published there
+-- a walk that ends before an id doesn't see a value published there
 before : {V : Type 0} (values : ℕ → Option V) (id : ℕ) (v : V) (n : ℕ) → n ≤ id → walk_below (with_value values id v) n ≡ walk_below values n
 before values id v n l = walk_below-same (with_value values id v) values n (λ j below. rw (ne_eqb id j (λ e. omega arith)) refl)
 
@@ -37,7 +38,7 @@ one_as_many : {V : Type 0} (f : V → V) (o : Option V) → length (option_to_li
 one_as_many f None = refl
 one_as_many f (Some x) = refl
 
--- other values at the same ids are as many
+-- a rewrite leaves as many values
 as_many : {V : Type 0} (values : ℕ → Option V) (others : ℕ → V → V) (n : ℕ) → length (walk_below (λ id. option_map (others id) (values id)) n) ≡ length (walk_below values n)
 unfolding walk_below
 as_many values others zero = refl
@@ -45,7 +46,7 @@ as_many values others (suc n) =
     rw (length-append (walk_below (λ id. option_map (others id) (values id)) n) (option_to_list (option_map (others n) (values n))), length-append (walk_below values n) (option_to_list (values n)), as_many values others n)
     (ap (λ more. length (walk_below values n) + more) (one_as_many (others n) (values n)))
 
--- so a move changes how many values there are as it changes the number of publishings
+-- a move changes the number of values as it changes the number of publishings
 counted : {V : Type 0} (sheet : Sheet V) (o : Option (Move V)) → ((id : ℕ) (v : V) → o ≡ Some (Publish id v) → id < 2 ^ 63 - 1) → IfSome o (IsAllowed sheet)
     → length (walk (moved_if sheet o).values) ≡ publishings_with (length (walk sheet.values)) o
 unfolding walk
@@ -57,13 +58,13 @@ counted sheet (Some (Keep id v)) low allowed = refl
 counted sheet (Some (Rewrite others)) low allowed = as_many sheet.values others (2 ^ 63 - 1)
 counted sheet (Some Clear) low allowed = ap length (walk_below-none (λ _. None) (2 ^ 63 - 1) (λ id l. refl))
 
--- an id at which something is published is held, and so below 2^63 - 1
+-- a value is published at a held id, so below 2^63 - 1
 low_id : {V E : Type 0} (core : Core V E) (o : Option (Move V)) → CoreFits core → IfSome o (IsAllowed (shadow core)) → (id : ℕ) (v : V) → o ≡ Some (Publish id v) → id < 2 ^ 63 - 1
 low_id core o h allowed id v e =
     let may = subst (λ m. IfSome m (IsAllowed (shadow core))) e allowed in
     omega (arith, h.manager.peak_ids, held_below core.manager.held id may.1)
 
--- so over a schedule the publishings are as many as the values
+-- so after a schedule there are as many publishings as values
 pub publishings_run : {V E : Type 0} (core : Core V E) (events : List (Event V E)) (n : ℕ) → CoreFits core → length (walk (shadow core).values) ≡ n
     → length (walk (shadow (run core events)).values) ≡ publishings_after_all n core events
 unfolding run
@@ -75,7 +76,7 @@ publishings_run core (event ∷ events) n h e =
     ∙ counted (shadow core) (move core event) (low_id core (move core event) h says.allowed) says.allowed
     ∙ ap (λ m. publishings_with m (move core event)) e)
 
--- a new table has none, so the two numbers are equal
+-- a new table has neither values nor publishings, so the numbers are equal
 pub as_many_as_values : {V E : Type 0} (capacity extra : ℕ) (events : List (Event V E)) → capacity < 2 ^ 63
     → publishings (made_core capacity extra) events ≡ length (walk (shadow (run (made_core capacity extra) events)).values)
 as_many_as_values capacity extra events l =

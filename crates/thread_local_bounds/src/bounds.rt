@@ -1,3 +1,5 @@
+//! What the most ids held at once bounds, over every schedule: ids, room, installed slots,
+//! publishings and refusals.
 ghost use Rattle.std.specs.Prelude.{◌≡◌, ◌≢◌, ℕ, ◌-◌, ◌*◌, ◌^◌, ◌<◌, ◌≤◌, max, Bool, false, List, length, Contains, Some, IsTrue};
 ghost use Rattle.thread_local_model.specs.Held.{held_count};
 ghost use Rattle.thread_local_model.specs.Walk.{walk};
@@ -9,13 +11,15 @@ ghost use Rattle.thread_local_schedule.specs.Events.{Event, TakeId, OfLocal, Own
 ghost use Rattle.thread_local_schedule.specs.Schedule.{is_refused, IsReached};
 ghost use Rattle.thread_local_bounds.specs.Bounds.{most_held, publishings, TakesBelow, NothingRefused};
 
-/// What bounds a table over every schedule: with at most p ids held at once a table from `new` has installed at
-/// most 2p - 1 slots, and one of a capacity of p or more refuses nothing.
+/// What bounds a table over every schedule: with at most p ids held at once a table from `new` has
+/// installed at most 2p - 1 slots, and one of a capacity of p or more refuses nothing.
 ///
-/// A clause that begins with a core that is reached holds after every event of every schedule.
+/// A clause about a reached core holds after every event of every schedule.
 pub fn every_bound<V, E>()
-    // The peak is the most ids held at one moment. Each id that is given lies below it, and there is room for it.
-    ensures peak { (capacity extra : ℕ) (events : List (Event V E)) → capacity < 2 ^ 63
+    // The peak is the most ids held at once. Each id taken lies below it, and the manager has room
+    // for that many.
+    ensures peak { (capacity extra : ℕ) (events : List (Event V E))
+        → capacity < 2 ^ 63
         → peak (run (made_core capacity extra) events) ≡ most_held (made_core capacity extra) events }
     ensures below_peak { (core : Core V E) (n : ℕ) (local : Local V E) → IsReached core
         → core.locals n ≡ Some local → local.id < peak core }
@@ -23,11 +27,11 @@ pub fn every_bound<V, E>()
         → core.locals n ≡ Some local → local.id < 2 ^ 63 - 1 }
     ensures room { (core : Core V E) → IsReached core → peak core ≤ core.manager.room }
 
-    // The capacity is for good.
+    // The capacity never changes.
     ensures capacity { (capacity extra : ℕ) (events : List (Event V E)) → capacity < 2 ^ 63
         → (shadow (run (made_core capacity extra) events)).capacity ≡ capacity }
 
-    // The slots that are installed, those made and not offered yet, and the values are bounded by the peak.
+    // The peak bounds the installed slots, those made but not installed yet, and the values.
     ensures slots_of_new { (events : List (Event V E))
         → installed_slots (run new_core events) ≤ 2 * peak (run new_core events) - 1 }
     ensures no_slots { (events : List (Event V E))
@@ -35,32 +39,45 @@ pub fn every_bound<V, E>()
     ensures slots_of_capacity { (capacity extra : ℕ) (events : List (Event V E)) → capacity < 2 ^ 63
         → installed_slots (run (made_core capacity extra) events)
         ≤ 2 * max capacity (peak (run (made_core capacity extra) events)) - 1 }
-    ensures slots_of_cleared { (core : Core V E) → IsReached core → IsTrue (is_enabled core (Owner ClearTable))
+    ensures slots_of_cleared { (core : Core V E)
+        → IsReached core
+        → IsTrue (is_enabled core (Owner ClearTable))
         → installed_slots (happens core (Owner ClearTable)) ≡ reserved_slots (shadow core).capacity }
     ensures private_slots { (core : Core V E) (n : ℕ) (local : Local V E) → IsReached core
         → core.locals n ≡ Some local → private_slots local.id local.doing ≤ peak core }
     ensures published { (core : Core V E) → IsReached core → length (walk (shadow core).values) ≤ peak core }
 
-    // Since a table was made or cleared, it published as often as it has values, and so at most as often as ids were
-    // held at once.
-    ensures publishings { (capacity extra : ℕ) (events : List (Event V E)) → capacity < 2 ^ 63
-        → publishings (made_core capacity extra) events ≡ length (walk (shadow (run (made_core capacity extra) events)).values) }
-    ensures few_publishings { (capacity extra : ℕ) (events : List (Event V E)) → capacity < 2 ^ 63
-        → publishings (made_core capacity extra) events ≤ peak (run (made_core capacity extra) events) }
+    // Since a table was made or cleared there were as many publishings as there are values, and so
+    // at most as many as ids were held at once.
+    ensures publishings { (capacity extra : ℕ) (events : List (Event V E))
+        → capacity < 2 ^ 63
+        → publishings (made_core capacity extra) events ≡ length
+        (walk (shadow (run (made_core capacity extra) events)).values) }
+    ensures few_publishings { (capacity extra : ℕ) (events : List (Event V E))
+        → capacity < 2 ^ 63
+        → publishings (made_core capacity extra) events ≤ peak
+        (run (made_core capacity extra) events) }
 
-    // Within the capacity no take is refused, and no publishing at a reserved id, also once the table was cleared.
+    // While fewer ids than the capacity are held no take is refused. At a reserved id no publishing
+    // is refused, also after a clear.
     ensures within_capacity { (core : Core V E) (refused : Bool) (growth : ℕ) → IsReached core
         → held_count (shadow core).held < (shadow core).capacity
         → is_refused core (TakeId refused growth) ≡ false }
-    ensures reserved { (core : Core V E) (n : ℕ) (local : Local V E) (refused : Bool) → IsReached core
-        → core.locals n ≡ Some local → IsTrue (is_reserved (shadow core).capacity local.id)
+    ensures reserved { (core : Core V E) (n : ℕ) (local : Local V E) (refused : Bool)
+        → IsReached core
+        → core.locals n ≡ Some local
+        → IsTrue (is_reserved (shadow core).capacity local.id)
         → is_refused core (OfLocal n (MakeBucket refused)) ≡ false }
-    ensures reserved_answers { (core : Core V E) (n : ℕ) (local : Local V E) (told : Answer V E) → IsReached core
-        → core.locals n ≡ Some local → IsTrue (is_reserved (shadow core).capacity local.id)
-        → Contains local.answered told → told ≢ Refused }
+    ensures reserved_answers { (core : Core V E) (n : ℕ) (local : Local V E) (told : Answer V E)
+        → IsReached core
+        → core.locals n ≡ Some local
+        → IsTrue (is_reserved (shadow core).capacity local.id)
+        → Contains local.answered told
+        → told ≢ Refused }
 
-    // Where each take comes while fewer than p ids are held, a table from `new` has installed at most 2p - 1 slots,
-    // and one of a capacity of p or more refuses nothing, however often either is cleared.
+    // If each take comes while fewer than p ids are held, a table from `new` has installed at most
+    // 2p - 1 slots, and one of a capacity of p or more refuses nothing, however often either is
+    // cleared.
     ensures bounded { (p : ℕ) (events : List (Event V E)) → TakesBelow p new_core events
         → installed_slots (run new_core events) ≤ 2 * p - 1 }
     ensures refuses_nothing { (capacity extra p : ℕ) (events : List (Event V E)) → capacity < 2 ^ 63

@@ -1,8 +1,9 @@
-//! Theorems on what bounds a table's model over every schedule of atomic steps; and one schedule from `new` to `clear`,
-//! in which the events that the theorems speak of do come.
+//! Theorems on what bounds a table's model over every schedule of atomic steps, and one schedule
+//! from `new` to `clear` in which the theorems' events do occur.
 //!
-//! Each function here has an empty body: its contract is a set of theorems, for every list of events, from a table
-//! of `new` and from one of each capacity, whatever the values and the closures' errors are.
+//! Each function here has an empty body: its contract is a set of theorems, for every list of
+//! events, from a table of `new` and from one of each capacity, whatever the values and the
+//! closures' errors are.
 #![tactic(auto)]
 
 pub mod bounds;

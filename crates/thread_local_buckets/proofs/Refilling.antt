@@ -1,17 +1,18 @@
+-- An owner's buckets once other values were written into the same slots.
 use Rattle.std.proofs.Common.{◌≡◌, ℕ, ◌^◌, ◌⊎◌, List, [], length, get_or, refl, sym, ap, ◌∙◌, subst, Option, Some, None, nat_lt, IsTrue}
 use Rattle.std.specs.Prelude.{is_some}
 use Rattle.thread_local_model.specs.Place.{bucket_of, index_of}
 use Rattle.thread_local_model.specs.Buckets.{Contents, row, stands, values}
 use Rattle.thread_local_model.specs.Owned.{Owned, IsOwned}
-use Rattle.thread_local_contents.specs.Refilled.{refilled_slot, refilled_rows, refilled}
-use Rattle.thread_local_contents.proofs.RefilledLaws.{length-refilled_row, length-refilled_rows, refilled_row-at, refilled_rows-at}
+use Rattle.thread_local_owner_walk.specs.Refilled.{refilled_slot, refilled_rows, refilled}
+use Rattle.thread_local_owner_walk.proofs.RefilledLaws.{length-refilled_row, length-refilled_rows, refilled_row-at, refilled_rows-at}
 use Rattle.thread_local_buckets.specs.LendingValues.{owned_refilled}
 
 module _ {V : Type 0} where
   refilled-long : (rs ws : List (List (Option V))) (b : ℕ) → length (get_or (refilled_rows rs ws) b []) ≡ length (get_or rs b [])
   refilled-long rs ws b = ap length (refilled_rows-at rs ws b) ∙ length-refilled_row (get_or rs b []) (get_or ws b [])
 
-  -- buckets whose values were written are an owner's still
+  -- they are still an owner's buckets
   pub IsOwned-refilled : (owned w : Owned V) → IsOwned owned → IsOwned (owned_refilled owned w)
   IsOwned-refilled owned with so = let rs = owned.contents.rows in let w : Contents V = with.contents in let long : (b : ℕ) → length (row (refilled owned.contents w) b) ≡ length (row owned.contents b) = refilled-long rs w.rows in record {
     table = record {
@@ -33,7 +34,7 @@ module _ {V : Type 0} where
       ∙ ap is_some (refilled_row-at (get_or rs b []) (get_or ws b []) i)
       ∙ refilled_slot-some (get_or (get_or rs b []) i None) (get_or (get_or ws b []) i None)
 
-  -- the same buckets stand, whatever was written
+  -- the same buckets stand
   pub refilled-stands : (owned w : Owned V) (b : ℕ) → stands (owned_refilled owned w).contents b ≡ stands owned.contents b
   refilled-stands owned w b = ap (nat_lt 0) (refilled-long owned.contents.rows w.contents.rows b)
 

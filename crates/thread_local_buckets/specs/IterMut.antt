@@ -1,8 +1,9 @@
+-- What contracts see of an `IterMut`: the values still to come, and the name of its loan.
 use Rattle.std.specs.Prelude.{List}
 use base.Fml.{GName}
 
 module _ {X : Type 0} where
-  -- the values that an `IterMut` has left
+  -- the values still to come
   abbrev pub iter_mut_rest : List X × GName → List X
   iter_mut_rest s = s.0
 

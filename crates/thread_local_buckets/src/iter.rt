@@ -1,3 +1,4 @@
+//! The walk of an owner's buckets that moves each value out, by ascending id.
 ghost use Rattle.std.specs.Prelude.{◌≡◌, length, Some, IfSome};
 ghost use Rattle.std.specs.Iterator.{YieldsFirst, UpTo, item_count};
 ghost use Rattle.std.specs.Iterator.SizeHint.{IsWithinCount};
@@ -6,17 +7,19 @@ pub use crate::iter_mut::IterMut;
 use std::fmt;
 use std::iter::FusedIterator;
 use std::marker::Model;
-use thread_local_contents::{RawIter, seek, without_first};
-use thread_local_words::Words;
+use thread_local_bucket_pointers::BucketPointers;
+use thread_local_owner_walk::{RawIter, seek, without_first};
 
-/// The values of a table's buckets, by ascending id, each moved out. It is seen as the list of those still to come.
+/// The values of a table's buckets, by ascending id, each moved out. Contracts see the list of
+/// those still to come.
 ///
 /// It keeps the flags of the 64 slots that it is in, without those of the values that it gave.
 ///
-/// One that is dropped early drops those, and frees every bucket. It never waits, and takes no memory. Rust's crate gives no order.
+/// No call takes a lock or memory. Dropping it drops the values still to come, whose drop may wait,
+/// and frees every bucket. The Rust crate promises no order.
 #[derive(Drop)]
 pub struct IntoIter<T> {
-    pub(crate) words: Words<T>,
+    pub(crate) pointers: BucketPointers<T>,
     pub(crate) raw: RawIter,
     pub(crate) rest: u64,
     pub(crate) left: usize,
@@ -29,11 +32,11 @@ impl<T> Model for IntoIter<T> {
 
     ghost Value = { List T };
 
-    ghost use Rattle.thread_local_contents.specs.Cursor.{IsWalk};
+    ghost use Rattle.thread_local_owner_walk.specs.Cursor.{IsOwnerWalk};
 
-    ghost view = { λ it. walk (values it.words) };
+    ghost view = { λ it. walk (values it.pointers) };
 
-    ghost invariant = { λ it. IsWalk it.words it.raw it.rest it.left };
+    ghost invariant = { λ it. IsOwnerWalk it.pointers it.raw it.rest it.left };
 }
 
 impl<T: Drop> Iterator for IntoIter<T> {
@@ -48,17 +51,19 @@ impl<T: Drop> Iterator for IntoIter<T> {
         if self.left == 0 {
             return None;
         }
-        let flags = seek(&mut self.words, &mut self.raw, self.rest);
+        let flags = seek(&mut self.pointers, &mut self.raw, self.rest);
         let index = self.raw.index;
         self.raw.index += 1;
         self.rest = without_first(flags);
-        let value = self.words.take_leaving(self.raw.bucket, index, self.rest);
+        let value = self
+            .pointers
+            .take_and_store(self.raw.bucket, index, self.rest);
         self.raw.yielded += 1;
         self.left -= 1;
         Some(value)
     }
 
-    /// How many values are still to come, on both sides.
+    /// The number of values still to come, as both bounds.
     fn size_hint(&self) -> (usize, Option<usize>)
         ensures exact { result ≡ (length self.now, Some (length self.now)) }
         ensures lower { IsWithinCount result.0 (item_count (λ rest. rest) self.now) }
@@ -69,7 +74,7 @@ impl<T: Drop> Iterator for IntoIter<T> {
 }
 
 impl<T: Drop> ExactSizeIterator for IntoIter<T> {
-    /// How many values are still to come. They were counted when the walk was made.
+    /// The number of values still to come. They were counted when the walk was made.
     fn len(&self) -> usize {
         self.left
     }
@@ -78,7 +83,7 @@ impl<T: Drop> ExactSizeIterator for IntoIter<T> {
 impl<T: Drop> FusedIterator for IntoIter<T> {}
 
 impl<T: fmt::Debug> fmt::Debug for IntoIter<T> {
-    /// The walk's place alone. Rust's crate shows the table.
+    /// Shows only where the walk is. The Rust crate shows the table.
     fn fmt<W: fmt::Write>(&self, f: &mut fmt::Formatter<W>) -> fmt::Result {
         f.debug_struct("IntoIter").field("raw", &self.raw).finish()
     }

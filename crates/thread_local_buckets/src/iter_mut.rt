@@ -1,3 +1,4 @@
+//! The walk of an owner's buckets that lends each value as `&mut`, by ascending id.
 ghost use Rattle.std.specs.Prelude.{◌≡◌, length, Some, IfSome};
 ghost use types.Logic.{sem};
 ghost use Rattle.std.specs.Iterator.{YieldsFirstMut, UpTo, item_count};
@@ -11,13 +12,13 @@ use crate::buckets::Buckets;
 use std::fmt;
 use std::iter::FusedIterator;
 use std::marker::Model;
-use thread_local_contents::{RawIter, seek, without_first};
 use thread_local_loan::Loan;
+use thread_local_owner_walk::{RawIter, seek, without_first};
 
-/// The values of a table's buckets, by ascending id, each lent as `&mut`. Contracts see those still to come, and the
-/// name of their loan.
+/// The values of a table's buckets, by ascending id, each lent as `&mut`. Contracts see those still
+/// to come, and the name of their loan.
 ///
-/// It never waits, and takes no memory. Rust's crate gives no order.
+/// No call takes memory or waits. The Rust crate promises no order.
 #[derive(Drop)]
 pub struct IterMut<'a, T> {
     pub(crate) loan: Loan<'a, T>,
@@ -35,11 +36,13 @@ impl<'a, T> Model for IterMut<'a, T> {
 
     ghost Value = { List T × GName };
 
-    ghost use Rattle.thread_local_contents.specs.Cursor.{IsWalk};
+    ghost use Rattle.thread_local_owner_walk.specs.Cursor.{IsOwnerWalk};
 
     ghost view = { λ it. (walk (values it.loan.contents), it.loan.name) };
 
-    ghost invariant = { λ it. IsWalk it.loan.contents it.raw it.rest it.left × (it.loan.given ≤ id_at it.raw.bucket it.raw.index) };
+    ghost invariant = { λ it.
+        IsOwnerWalk it.loan.contents it.raw it.rest it.left
+        × (it.loan.given ≤ id_at it.raw.bucket it.raw.index) };
 }
 
 impl<'a, T> IntoIterator for &'a mut Buckets<T> {
@@ -49,7 +52,7 @@ impl<'a, T> IntoIterator for &'a mut Buckets<T> {
 
     ghost into_iter_gives = { λ buckets walked. iter_mut_rest walked ≡ walk (values buckets.now.contents) };
 
-    /// The values by ascending id, each lent as `&mut`. It takes no memory.
+    /// The same as `iter_mut`.
     fn into_iter(self) -> IterMut<'a, T>
         ensures* writes_back { sem 𝓛 (LendsValues T.row self.entry (iter_mut_name result)) }
         ensures into_iter_gives { iter_mut_rest result ≡ walk (values self.old.contents) }
@@ -65,7 +68,7 @@ impl<'a, T> Iterator for IterMut<'a, T> {
 
     ghost remaining = { item_count iter_mut_rest };
 
-    /// The next value. Its flag stays set.
+    /// The next value, whose flag stays set.
     fn next(&mut self) -> Option<&'a mut T> {
         if self.left == 0 {
             return None;
@@ -79,7 +82,7 @@ impl<'a, T> Iterator for IterMut<'a, T> {
         Some(item)
     }
 
-    /// How many values are still to come, on both sides.
+    /// The number of values still to come, as both bounds.
     fn size_hint(&self) -> (usize, Option<usize>)
         ensures exact { result ≡ (length (iter_mut_rest self.now), Some (length (iter_mut_rest self.now))) }
         ensures lower { IsWithinCount result.0 (item_count iter_mut_rest self.now) }
@@ -90,7 +93,7 @@ impl<'a, T> Iterator for IterMut<'a, T> {
 }
 
 impl<T> ExactSizeIterator for IterMut<'_, T> {
-    /// How many values are still to come. They were counted when the walk was made.
+    /// The number of values still to come. They were counted when the walk was made.
     fn len(&self) -> usize {
         self.left
     }
@@ -99,7 +102,7 @@ impl<T> ExactSizeIterator for IterMut<'_, T> {
 impl<T> FusedIterator for IterMut<'_, T> {}
 
 impl<T: fmt::Debug> fmt::Debug for IterMut<'_, T> {
-    /// The walk's place alone.
+    /// Shows only where the walk is.
     fn fmt<W: fmt::Write>(&self, f: &mut fmt::Formatter<W>) -> fmt::Result {
         f.debug_struct("IterMut").field("raw", &self.raw).finish()
     }

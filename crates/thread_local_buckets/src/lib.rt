@@ -1,4 +1,4 @@
-//! The buckets of a table, for an owner who has them alone: a map from ids to values.
+//! The buckets of a table in the hands of their exclusive owner: a map from ids to values.
 #![tactic(auto)]
 
 pub mod buckets;

@@ -1,5 +1,5 @@
--- A pair by value, put together. Assumes `Logic`.
-use Rattle.thread_local_chunks.proofs.Names.{List, [], ◌∷◌, refl, Ura, Val, vstruct, vcons, vnil, Logic, ‵, ◌$◌, move, fjoin, fjoin3, fpack, feq_i, nothing, RattleType}
+-- What a pair owns, put together from what its two parts own. Assumes `Logic`.
+use Rattle.thread_local_raw.proofs.Names.{List, [], ◌∷◌, refl, Ura, Val, vstruct, vcons, vnil, Logic, ‵, ◌$◌, move, fjoin, fjoin3, fpack, feq_i, nothing, RattleType}
 use types.Kit.{Item, Goal, Step, step}
 use denote.RattleType.{Valss}
 use denote.Struct.Struct.{within}

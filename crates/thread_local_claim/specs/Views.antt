@@ -1,4 +1,4 @@
--- What a contract sees of a claim.
+-- What a contract sees of a claim: which slot it is of, and what it has learnt of the slot.
 use Rattle.std.specs.Prelude.{ℕ, Bool, refl}
 use base.Stored.{coded_bool}
 use Rattle.std.specs.Coded.{Coded, coded×, coded_ℕ, code_by}
@@ -11,7 +11,7 @@ pub record ClaimView (V : Type 0) : Type 0 where
   pub reserved : Bool
   pub learnt : Learnt V
 
--- how a proof tells such views apart
+-- an injective code of such views, for ghost state
 abbrev pub claim_view_coded : {V : Type 0} → Coded V → Coded (ClaimView V)
 claim_view_coded {V} c = code_by (ℕ × (ℕ × (Bool × Learnt V))) (coded× coded_ℕ (coded× coded_ℕ (coded× coded_bool (learnt_coded c))))
     (λ v. (v.table, (v.id, (v.reserved, v.learnt)))) (λ p. record { table = p.0; id = p.1.0; reserved = p.1.1.0; learnt = p.1.1.1 }) (λ _. refl)

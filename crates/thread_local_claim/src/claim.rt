@@ -1,29 +1,34 @@
-//! Claims of slots.
-ghost use Rattle.std.specs.Prelude.{◌≡◌, ◌≢◌, ◌-◌, ◌^◌, ◌<◌, ◌⊎◌, true, Some, MatchBool, MatchOption};
+//! A claim of a slot, in three states: its bucket was missing, the slot is vacant, the slot holds a
+//! value. It begins in any of them, and goes on from one to the next.
+ghost use Rattle.std.specs.Prelude.{◌≡◌, ◌≢◌, ◌/◌, ◌^◌, ◌⊎◌, true, Some, MatchBool, MatchOption};
 ghost use Rattle.thread_local_model.specs.Learnt.{Unknown, Missing, Vacant, Holding, Finds, learnt_by_install, learnt_by_publish};
-ghost use Rattle.thread_local_model.specs.Place.{bucket_of};
+ghost use Rattle.thread_local_model.specs.Place.{bucket_of, index_of};
+ghost use Rattle.thread_local_blocks.specs.Slots.{empty_slots, word_number};
 ghost use Rattle.thread_local_claim_logic.specs.Known.{IsKnown};
-ghost use Rattle.thread_local_claim_logic.specs.Claims.{number_of_id};
 
-use crate::claimed::ClaimedSlot;
+use crate::claimed::{ClaimedSlot, found_again, offered, published};
 use crate::replaced::replace_with;
+use std::alloc::Global;
 use std::marker::Model;
-use thread_local_chunks::flag_word;
+use thread_local_blocks::{Block, flag_word};
 use thread_local_rights::HeldId;
-use thread_local_shared_word::{Private, SharedWord};
+use thread_local_shared_bucket::SharedBucket;
 use thread_local_thread_id::Thread;
 
-/// The slot of an id, in the hands of whoever has the right to the id. Contracts see its table, its id, whether its bucket is reserved, and
-/// what it has learnt of the slot: that the bucket was missing, that the slot is vacant, or the value that the slot holds.
+/// The slot of an id, for whoever has the right to the id. Contracts see its table, its id, whether
+/// its bucket is reserved, and what it has learnt of the slot: that the bucket was missing, that
+/// the slot is vacant, or the value that the slot holds.
 ///
-/// No call waits or takes memory.
+/// No call waits or takes memory. Only `look`, `look_again`, `install` and `publish` make atomic
+/// steps.
 pub struct Claim<'a, T> {
     slot: ClaimedSlot<'a, T>,
-    id: usize,
+    thread: Thread,
 }
 
 impl<'a, T> Model for Claim<'a, T> {
-    ghost use Rattle.std.specs.Prelude.{◌≡◌, ◌-◌, ◌^◌, ◌<◌};
+    ghost use Rattle.std.specs.Prelude.{◌≡◌};
+    ghost use Rattle.thread_local_model.specs.Place.{bucket_of, index_of};
     ghost use Rattle.thread_local_claim_logic.specs.Known.{IsKnown};
     ghost use Rattle.thread_local_claim.specs.Views.{ClaimView, claim_view_coded};
 
@@ -31,70 +36,105 @@ impl<'a, T> Model for Claim<'a, T> {
 
     ghost coded = { claim_view_coded T.code };
 
-    ghost view = { λ c. record { table = c.slot.table; id = c.slot.id; reserved = c.slot.reserved; learnt = c.slot.learnt } };
+    ghost view = { λ c.
+        record {
+          table = c.slot.table;
+          id = c.slot.id;
+          reserved = c.slot.reserved;
+          learnt = c.slot.learnt;
+        } };
 
-    ghost invariant = { λ c. (c.slot.id ≡ c.id) × (c.id < 2 ^ 63 - 1) × IsKnown c.slot.learnt };
+    ghost invariant = { λ c.
+        (c.thread.bucket ≡ bucket_of c.slot.id)
+        × (c.thread.index ≡ index_of c.slot.id)
+        × (c.slot.index ≡ c.thread.index)
+        × IsKnown c.slot.learnt };
 }
 
 impl<'a, T> Claim<'a, T> {
-    /// Claims the slot of an id that is held, under the word of the id's bucket. It is one atomic load of the word, and where the bucket stands one
-    /// of the word that has the slot's flag. A reserved bucket is found.
-    pub fn arrive(word: &'a SharedWord<T>, held: HeldId) -> Claim<'a, T>
-        requires table { held.right.table ≡ word.now.table }
-        requires bucket { bucket_of held.id ≡ word.now.bucket }
+    /// Claims the slot of a held id, in the bucket of the id's place: one atomic load of the
+    /// bucket's pointer, and where the bucket stands, one of the word that has the slot's flag. A
+    /// reserved bucket is never missing.
+    #[tactic(auto, using(crate::proofs::IdLaws::id_of_place))]
+    pub fn look(bucket: &'a SharedBucket<T>, thread: Thread, held: HeldId) -> Claim<'a, T>
+        requires table { held.right.table ≡ bucket.now.table }
+        requires place { (thread.bucket ≡ bucket_of held.id) × (thread.index ≡ index_of held.id) }
+        requires bucket { bucket.now.bucket ≡ thread.bucket }
         ensures right { (result.table ≡ held.right.table) × (result.id ≡ held.id) }
         ensures found { Finds Unknown result.learnt }
         ensures learnt { IsKnown result.learnt }
-        ensures reserved { (result.reserved ≡ word.now.reserved) × (result.reserved ≡ true → result.learnt ≢ Missing) }
+        ensures reserved { (result.reserved ≡ bucket.now.reserved)
+            × (result.reserved ≡ true → result.learnt ≢ Missing) }
     {
-        let (id, right) = held.into_parts();
-        let thread = Thread::new(id);
+        let (_, right) = held.into_parts();
+        let slot = ClaimedSlot::hold(bucket, thread.index, right);
         Claim {
-            slot: ClaimedSlot::hold(word, thread.index, right).find(number_of_word::<T>(id)),
-            id,
+            slot: slot.find(thread.index, number_of_word::<T>(thread)),
+            thread,
         }
     }
 
-    /// Looks again for a bucket that was missing. Whoever installed it since, the slot is empty. It loads what `arrive` does.
-    pub fn again(&mut self)
+    /// Looks again for a bucket that was missing, by the same loads as `look`. Where the bucket
+    /// stands now, the slot is vacant, whoever installed the block.
+    pub fn look_again(&mut self)
         requires { self.old.learnt ≡ Missing }
         ensures right { (self.new.table ≡ self.old.table) × (self.new.id ≡ self.old.id) }
         ensures found { Finds self.old.learnt self.new.learnt }
         ensures learnt { (self.new.learnt ≡ Missing) ⊎ (self.new.learnt ≡ Vacant) }
-        ensures reserved { (self.new.reserved ≡ self.old.reserved) × (self.new.reserved ≡ true → self.new.learnt ≡ Vacant) }
+        ensures reserved { (self.new.reserved ≡ self.old.reserved)
+            × (self.new.reserved ≡ true → self.new.learnt ≡ Vacant) }
     {
-        replace_with(&mut self.slot, number_of_word::<T>(self.id), found_again)
+        let number = number_of_word::<T>(self.thread);
+        replace_with(&mut self.slot, (self.thread.index, number), found_again)
     }
 
-    /// Installs a block of the claim's bucket, which was missing, by one compare and exchange. Where another came first, that one stays. Either
-    /// way the claim's slot is there, and empty. That a block which came second is freed is tested, and no contract says so.
-    pub fn install(&mut self, private: Private<T>)
+    /// Installs a block for the claim's bucket, which was missing, by one compare and exchange.
+    /// Where another block was installed first, that one stays, and this one is freed. Either way
+    /// the slot is vacant from then on.
+    pub fn install(&mut self, block: Block<T, Global>, alloc: &Global)
         requires missing { self.old.learnt ≡ Missing }
-        requires bucket { private.bucket ≡ bucket_of self.old.id }
+        requires block { (block.heap ≡ alloc.now)
+            × (block.slots ≡ empty_slots (2 ^ bucket_of self.old.id))
+            × (block.left ≡ 0) }
         ensures right { (self.new.table ≡ self.old.table) × (self.new.id ≡ self.old.id) }
         ensures learnt { learnt_by_install self.old.learnt ≡ Some self.new.learnt }
         ensures reserved { self.new.reserved ≡ self.old.reserved }
     {
-        let number = number_of_word::<T>(self.id);
-        replace_with(&mut self.slot, (private, number), installed)
+        let len = self.thread.bucket_size();
+        if let Some(block) = replace_with(&mut self.slot, block, offered) {
+            block.release(alloc, len);
+        }
     }
 
-    /// Publishes a value in a slot that is vacant: the value is written, and then the flag is set, by one atomic addition. It never waits, and
-    /// never tries again.
+    /// Publishes a value in a vacant slot: the value is written, and then the flag is set, by one
+    /// atomic addition that never has to be tried again.
     pub fn publish(&mut self, value: T)
         requires { self.old.learnt ≡ Vacant }
         ensures right { (self.new.table ≡ self.old.table) × (self.new.id ≡ self.old.id) }
         ensures learnt { learnt_by_publish self.old.learnt value ≡ Some self.new.learnt }
         ensures reserved { self.new.reserved ≡ self.old.reserved }
     {
-        replace_with(&mut self.slot, value, published)
+        let number = number_of_word::<T>(self.thread);
+        replace_with(
+            &mut self.slot,
+            (value, self.thread.index, number),
+            published,
+        )
     }
 
     /// The id whose slot it is.
+    #[tactic(auto, using(crate::proofs::IdLaws::id_of_place))]
     pub fn id(&self) -> usize
         ensures { result ≡ self.now.id }
     {
-        self.id
+        self.thread.id()
+    }
+
+    /// How many slots the id's bucket has.
+    pub fn bucket_size(&self) -> usize
+        ensures { result ≡ 2 ^ bucket_of self.now.id }
+    {
+        self.thread.bucket_size()
     }
 
     /// Whether the bucket was missing when the claim looked for it last.
@@ -104,92 +144,51 @@ impl<'a, T> Claim<'a, T> {
         !self.slot.is_found()
     }
 
-    /// The value that the slot holds, for as long as the claim is borrowed. It makes no atomic step.
+    /// The value that the slot holds, for as long as the claim is borrowed.
     pub fn get(&self) -> Option<&T>
-        ensures { MatchOption result ((self.now.learnt ≡ Missing) ⊎ (self.now.learnt ≡ Vacant)) (λ x. self.now.learnt ≡ Holding x.now) }
+        ensures { MatchOption result ((self.now.learnt ≡ Missing) ⊎ (self.now.learnt ≡ Vacant)) (λ x.
+            self.now.learnt ≡ Holding x.now) }
     {
         if self.slot.is_published() {
-            Some(self.slot.value())
+            Some(self.slot.value(self.thread.index))
         } else {
             None
         }
     }
 
-    /// Gives the claim up, and the id back. It makes no atomic step.
-    pub fn leave(self) -> HeldId
+    /// Gives the claim up, and returns the held id.
+    #[tactic(auto, using(crate::proofs::IdLaws::id_of_place))]
+    pub fn give_up(self) -> HeldId
         ensures { (result.right.table ≡ self.entry.table) × (result.id ≡ self.entry.id) }
     {
-        let Self { slot, id } = self;
+        let Self { slot, thread } = self;
         HeldId {
-            id,
-            right: slot.leave(),
+            id: thread.id(),
+            right: slot.give_up(),
         }
     }
 }
 
 impl<'a, T: Sync> Claim<'a, T> {
-    /// What a walker finds in the slot, for as long as the word is borrowed: the claim's own value, if it holds one. It makes no atomic step.
-    pub fn look(&self) -> Option<&'a T>
-        ensures { MatchOption result ((self.now.learnt ≡ Missing) ⊎ (self.now.learnt ≡ Vacant)) (λ x. self.now.learnt ≡ Holding x.now) }
+    /// The value that the slot holds, for as long as the bucket is borrowed: it outlives the claim,
+    /// as what a walk finds in the slot does.
+    pub fn lasting(&self) -> Option<&'a T>
+        ensures { MatchOption result ((self.now.learnt ≡ Missing) ⊎ (self.now.learnt ≡ Vacant)) (λ x.
+            self.now.learnt ≡ Holding x.now) }
     {
         if self.slot.is_published() {
-            Some(self.slot.lasting())
+            Some(self.slot.lasting(self.thread.index))
         } else {
             None
         }
     }
 }
 
-/// The number of the word that has the flag of an id's slot, counted from the start of the block.
+/// The number of the word that has the flag of the slot at a place, counted from the start of the
+/// block.
 #[inline]
-fn number_of_word<T>(id: usize) -> usize
-    requires { id < 2 ^ 63 - 1 }
-    ensures { result ≡ number_of_id T.row id }
+fn number_of_word<T>(thread: Thread) -> usize
+    ensures { result ≡ word_number T.row (2 ^ thread.bucket) (thread.index / 64) }
 {
-    let thread = Thread::new(id);
     flag_word::<T>(thread.bucket_size(), thread.index / 64)
-}
-
-/// The slot after one more look for its bucket.
-fn found_again<'a, T>(slot: ClaimedSlot<'a, T>, number: usize) -> (ClaimedSlot<'a, T>, ())
-    requires missing { slot.learnt ≡ Missing }
-    requires number { number ≡ number_of_id T.row slot.id }
-    ensures right { (result.0.table ≡ slot.entry.table) × (result.0.id ≡ slot.entry.id) }
-    ensures found { Finds slot.entry.learnt result.0.learnt }
-    ensures learnt { (result.0.learnt ≡ Missing) ⊎ (result.0.learnt ≡ Vacant) }
-    ensures known { IsKnown result.0.learnt }
-    ensures reserved { (result.0.reserved ≡ slot.entry.reserved) × (result.0.reserved ≡ true → result.0.learnt ≢ Missing) }
-{
-    (slot.find(number), ())
-}
-
-/// The slot once its bucket is there: the private block, unless another came first.
-fn installed<'a, T>(
-    slot: ClaimedSlot<'a, T>,
-    offer: (Private<T>, usize),
-) -> (ClaimedSlot<'a, T>, ())
-    requires missing { slot.learnt ≡ Missing }
-    requires bucket { offer.0.bucket ≡ bucket_of slot.id }
-    requires number { offer.1 ≡ number_of_id T.row slot.id }
-    ensures right { (result.0.table ≡ slot.entry.table) × (result.0.id ≡ slot.entry.id) }
-    ensures learnt { result.0.learnt ≡ Vacant }
-    ensures reserved { result.0.reserved ≡ slot.entry.reserved }
-{
-    let (private, number) = offer;
-    let (block, alloc, bucket) = private.into_parts();
-    let (slot, back) = slot.exchange(block, number);
-    if let Some(block) = back {
-        Private::from_parts(block, alloc, bucket).free();
-    }
-    (slot, ())
-}
-
-/// The slot with a value.
-fn published<'a, T>(slot: ClaimedSlot<'a, T>, value: T) -> (ClaimedSlot<'a, T>, ())
-    requires { slot.learnt ≡ Vacant }
-    ensures right { (result.0.table ≡ slot.entry.table) × (result.0.id ≡ slot.entry.id) }
-    ensures learnt { result.0.learnt ≡ Holding value }
-    ensures reserved { result.0.reserved ≡ slot.entry.reserved }
-{
-    (slot.publish(value), ())
 }

@@ -1,141 +1,147 @@
-//! Slots that are claimed, as they lie.
-ghost use Rattle.std.specs.Prelude.{◌≡◌, ◌≢◌, ◌<◌, ◌^◌, ◌⊎◌, ℕ, Bool, true, is_some};
+//! A claimed slot as it is stored: it points to the bucket's pointer until the bucket is found, and
+//! to the block from then on.
+ghost use Rattle.std.specs.Prelude.{◌≡◌, ◌≢◌, ◌<◌, ◌^◌, ◌⊎◌, ℕ, Bool, true, is_some, IfSome};
 ghost use base.Stored.{coded_bool};
+ghost use denote.RawPtr.{Ptr, coded_ptr};
+ghost use Rattle.thread_local_blocks.specs.Slots.{empty_slots};
 ghost use Rattle.thread_local_model.specs.Learnt.{Learnt, learnt_coded, Unknown, Missing, Vacant, Holding, Finds};
-ghost use Rattle.thread_local_model.specs.Place.{id_at};
+ghost use Rattle.thread_local_model.specs.Place.{bucket_of, id_at};
 ghost use Rattle.thread_local_claim_logic.specs.Known.{IsKnown, IsUnfound, is_found, value_held};
-ghost use Rattle.thread_local_claim_logic.specs.Claims.{number_of_id, place_of, claim_owns, claim_shares};
+ghost use Rattle.thread_local_claim_logic.specs.Claims.{number_of_id, claim_fields, claim_owns, claim_shares};
 
+use std::alloc::Global;
 use std::marker::{Brand, Model, PhantomData};
-use std::ptr::null;
 use std::sync::atomic::Ordering::SeqCst;
 use std::sync::atomic::raw;
 use std::sync::atomic::raw::ptr;
+use thread_local_blocks::Block;
 use thread_local_rights::Right;
-use thread_local_shared_word::SharedWord;
+use thread_local_shared_bucket::SharedBucket;
 
+mod give_up;
 mod install;
-mod leave;
-mod look;
+mod lasting;
 
-/// The slot of an id that is claimed. Contracts see its table, its id, whether its bucket is reserved, and what it has learnt of the slot.
+/// The slot of an id that is claimed. Contracts see its table, its id with the index in its bucket,
+/// whether its bucket is reserved, and what it has learnt of the slot. It stores no index: callers
+/// pass the index, and the number of the word that has the flag.
 pub(crate) struct ClaimedSlot<'a, T> {
-    word: *const SharedWord<T>,
-    /// Where the word of the slot's flag lies, once its bucket is found.
-    flag_word: *const u64,
-    /// Where the slot's value lies, once its bucket is found.
-    value: *const T,
-    index: usize,
+    /// The address of the bucket's pointer, and once the bucket is found, of its block.
+    at: *const (),
     found: bool,
     published: bool,
     marker: PhantomData<&'a T>,
+    /// The address of the bucket's pointer.
+    pub ghost bucket: { Ptr } by { coded_ptr },
     pub ghost table: { ℕ },
     pub ghost id: { ℕ },
+    pub ghost index: { ℕ },
     /// Whether the bucket is reserved.
     pub ghost reserved: { Bool } by { coded_bool },
     pub ghost learnt: { Learnt T } by { learnt_coded T.code },
 }
 
 impl<'a, T> Model for ClaimedSlot<'a, T> {
-    ghost also_owns = { λ c. claim_owns T.row 'a c.word c.table (place_of c.id c.index c.flag_word c.value c.reserved) c.learnt c.found c.published };
+    ghost also_owns = { λ c.
+        claim_owns T.row 'a c.table (claim_fields c.id c.index c.bucket c.at c.reserved)
+        c.learnt c.found c.published };
 
-    ghost also_shares = { λ c _ κ. claim_shares T.row 'a c.value c.learnt c.found c.published κ };
+    ghost also_shares = { λ c _ κ. claim_shares T.row 'a c.at c.index c.learnt c.found c.published κ };
 }
 
 impl<'a, T> ClaimedSlot<'a, T> {
-    /// The right to an id, and where to look for its slot.
-    pub(crate) fn hold(word: &'a SharedWord<T>, index: usize, right: Right) -> ClaimedSlot<'a, T>
-        requires table { right.table ≡ word.now.table }
-        requires id { right.id ≡ id_at word.now.bucket index }
-        requires within { index < 2 ^ word.now.bucket }
-        ensures right { (result.table ≡ right.table) × (result.id ≡ right.id) }
+    /// A claim that has the right to its id, and has not looked for its slot yet.
+    pub(crate) fn hold(
+        bucket: &'a SharedBucket<T>,
+        index: usize,
+        right: Right,
+    ) -> ClaimedSlot<'a, T>
+        requires table { right.table ≡ bucket.now.table }
+        requires id { right.id ≡ id_at bucket.now.bucket index }
+        requires within { index < 2 ^ bucket.now.bucket }
+        ensures right { (result.table ≡ right.table) × (result.id ≡ right.id) × (result.index ≡ index) }
         ensures unknown { result.learnt ≡ Unknown }
-        ensures reserved { result.reserved ≡ word.now.reserved }
+        ensures reserved { result.reserved ≡ bucket.now.reserved }
     {
         right.lay_down();
+        let _ = index;
         ClaimedSlot {
-            word,
-            flag_word: null(),
-            value: null(),
-            index,
+            at: bucket as *const SharedBucket<T> as *const (),
             found: false,
             published: false,
             marker: PhantomData,
         }
     }
 
-    /// Looks for the bucket, and takes what the slot holds where it stands: one atomic load of the word, and one of the word of the slot's flag,
-    /// which has this number in the block. A claim that was there before its bucket finds the slot empty.
-    pub(crate) fn find(self, number: usize) -> ClaimedSlot<'a, T>
+    /// Looks for the bucket, and where it stands, at the slot: one atomic load of the bucket's
+    /// pointer, and one of the word `number` of the block, which has the slot's flag. A claim that
+    /// has found its bucket missing finds the slot empty.
+    pub(crate) fn find(self, index: usize, number: usize) -> ClaimedSlot<'a, T>
         requires unfound { IsUnfound self.learnt }
+        requires index { index ≡ self.index }
         requires number { number ≡ number_of_id T.row self.id }
-        ensures right { (result.table ≡ self.entry.table) × (result.id ≡ self.entry.id) }
+        ensures right { (result.table ≡ self.entry.table)
+            × (result.id ≡ self.entry.id)
+            × (result.index ≡ self.entry.index) }
         ensures known { IsKnown result.learnt }
         ensures empty { self.entry.learnt ≡ Missing → (result.learnt ≡ Missing) ⊎ (result.learnt ≡ Vacant) }
-        ensures reserved { (result.reserved ≡ self.entry.reserved) × (result.reserved ≡ true → result.learnt ≢ Missing) }
+        ensures reserved { (result.reserved ≡ self.entry.reserved)
+            × (result.reserved ≡ true → result.learnt ≢ Missing) }
         ensures found { Finds self.entry.learnt result.learnt }
     {
         let Self {
-            word,
-            flag_word: _,
-            value: _,
-            index,
+            at: bucket,
             found: _,
             published: _,
             marker: _,
         } = self;
         let at = unsafe {
-            ptr::load::<u64, Brand>(&raw const (*word).at as *const *mut u64, SeqCst)
+            let bucket = bucket as *const SharedBucket<T>;
+            ptr::load::<u64, Brand>(&raw const (*bucket).at as *const *mut u64, SeqCst)
         };
         if at.is_null() {
             return ClaimedSlot {
-                word,
-                flag_word: null(),
-                value: null(),
-                index,
+                at: bucket,
                 found: false,
                 published: false,
                 marker: PhantomData,
             };
         }
-        let flag_word = unsafe { (at as *const u64).add(number) };
-        let value = unsafe { (at as *const T).add(index) };
-        let flags = unsafe { raw::load::<Brand>(flag_word, SeqCst) };
+        let word = unsafe { (at as *const u64).add(number) };
+        let flags = unsafe { raw::load::<Brand>(word, SeqCst) };
         ClaimedSlot {
-            word,
-            flag_word,
-            value,
-            index,
+            at: at as *const (),
             found: true,
             published: flags >> (index % 64) & 1 == 1,
             marker: PhantomData,
         }
     }
 
-    /// Publishes a value in a slot that holds none: the value is written, and then the flag is set, by one addition to the word that it is a bit
-    /// of. It never waits and never tries again, whatever others publish beside it: the flag is unset, so the addition changes no other.
-    pub(crate) fn publish(self, value: T) -> ClaimedSlot<'a, T>
-        requires { self.learnt ≡ Vacant }
-        ensures right { (result.table ≡ self.entry.table) × (result.id ≡ self.entry.id) }
+    /// Publishes a value in a vacant slot: the value is written, and then the flag is set, by one
+    /// atomic addition to the word `number` of the block. The flag is unset, so the addition
+    /// changes no other bit, whatever others publish in the same word.
+    pub(crate) fn publish(self, index: usize, number: usize, value: T) -> ClaimedSlot<'a, T>
+        requires vacant { self.learnt ≡ Vacant }
+        requires index { index ≡ self.index }
+        requires number { number ≡ number_of_id T.row self.id }
+        ensures right { (result.table ≡ self.entry.table)
+            × (result.id ≡ self.entry.id)
+            × (result.index ≡ self.entry.index) }
         ensures value { result.learnt ≡ Holding value }
         ensures reserved { result.reserved ≡ self.entry.reserved }
     {
         let Self {
-            word,
-            flag_word,
-            value: at,
-            index,
+            at,
             found: _,
             published: _,
             marker: _,
         } = self;
-        unsafe { (at as *mut T).write(value) };
-        unsafe { raw::fetch_add::<Brand>(flag_word, 1 << (index % 64), SeqCst) };
+        let word = unsafe { (at as *const u64).add(number) };
+        let slot = unsafe { (at as *mut T).add(index) };
+        unsafe { slot.write(value) };
+        unsafe { raw::fetch_add::<Brand>(word, 1 << (index % 64), SeqCst) };
         ClaimedSlot {
-            word,
-            flag_word,
-            value: at,
-            index,
+            at,
             found: true,
             published: true,
             marker: PhantomData,
@@ -146,18 +152,18 @@ impl<'a, T> ClaimedSlot<'a, T> {
     pub(crate) fn is_found(&self) -> bool
         ensures { result ≡ is_found self.now.learnt }
     {
-        self.flags().0
+        self.known().0
     }
 
     /// Whether the slot holds a value.
     pub(crate) fn is_published(&self) -> bool
         ensures { result ≡ is_some (value_held self.now.learnt) }
     {
-        self.flags().1
+        self.known().1
     }
 
     /// Whether the bucket has been found, and whether the slot holds a value.
-    fn flags(&self) -> (bool, bool)
+    fn known(&self) -> (bool, bool)
         ensures found { result.0 ≡ is_found self.now.learnt }
         ensures published { result.1 ≡ is_some (value_held self.now.learnt) }
     {
@@ -165,12 +171,71 @@ impl<'a, T> ClaimedSlot<'a, T> {
     }
 
     /// The value that the slot holds, for as long as the claim is borrowed.
-    pub(crate) fn value(&self) -> &T
-        requires { is_some (value_held self.now.learnt) ≡ true }
+    pub(crate) fn value(&self, index: usize) -> &T
+        requires published { is_some (value_held self.now.learnt) ≡ true }
+        requires index { index ≡ self.now.index }
         ensures { self.now.learnt ≡ Holding result.now }
     {
-        unsafe { &*self.value }
+        unsafe { &*(self.at as *const T).add(index) }
     }
+}
+
+// The calls that change a claim in place, as functions that `replace_with` takes.
+
+/// The slot after one more look for its bucket.
+pub(crate) fn found_again<'a, T>(
+    slot: ClaimedSlot<'a, T>,
+    look: (usize, usize),
+) -> (ClaimedSlot<'a, T>, ())
+    requires missing { slot.learnt ≡ Missing }
+    requires index { look.0 ≡ slot.index }
+    requires number { look.1 ≡ number_of_id T.row slot.id }
+    ensures right { (result.0.table ≡ slot.entry.table)
+        × (result.0.id ≡ slot.entry.id)
+        × (result.0.index ≡ slot.entry.index) }
+    ensures found { Finds slot.entry.learnt result.0.learnt }
+    ensures learnt { (result.0.learnt ≡ Missing) ⊎ (result.0.learnt ≡ Vacant) }
+    ensures known { IsKnown result.0.learnt }
+    ensures reserved { (result.0.reserved ≡ slot.entry.reserved)
+        × (result.0.reserved ≡ true → result.0.learnt ≢ Missing) }
+{
+    let (index, number) = look;
+    (slot.find(index, number), ())
+}
+
+/// The slot once its bucket stands, and the offered block, unless that is the one that stands.
+pub(crate) fn offered<'a, T>(
+    slot: ClaimedSlot<'a, T>,
+    block: Block<T, Global>,
+) -> (ClaimedSlot<'a, T>, Option<Block<T, Global>>)
+    requires missing { slot.learnt ≡ Missing }
+    requires made { (block.slots ≡ empty_slots (2 ^ bucket_of slot.id)) × (block.left ≡ 0) }
+    ensures right { (result.0.table ≡ slot.entry.table)
+        × (result.0.id ≡ slot.entry.id)
+        × (result.0.index ≡ slot.entry.index) }
+    ensures vacant { (result.0.learnt ≡ Vacant) × (result.0.reserved ≡ slot.entry.reserved) }
+    ensures back { IfSome result.1 (λ back.
+        (back.heap ≡ block.heap) × (back.slots ≡ block.slots) × (back.left ≡ 0)) }
+{
+    slot.exchange(block)
+}
+
+/// The slot once the value is published in it.
+pub(crate) fn published<'a, T>(
+    slot: ClaimedSlot<'a, T>,
+    given: (T, usize, usize),
+) -> (ClaimedSlot<'a, T>, ())
+    requires vacant { slot.learnt ≡ Vacant }
+    requires index { given.1 ≡ slot.index }
+    requires number { given.2 ≡ number_of_id T.row slot.id }
+    ensures right { (result.0.table ≡ slot.entry.table)
+        × (result.0.id ≡ slot.entry.id)
+        × (result.0.index ≡ slot.entry.index) }
+    ensures learnt { result.0.learnt ≡ Holding given.0 }
+    ensures reserved { result.0.reserved ≡ slot.entry.reserved }
+{
+    let (value, index, number) = given;
+    (slot.publish(index, number, value), ())
 }
 
 unsafe impl<T: Send> Send for ClaimedSlot<'_, T> {}

@@ -1,4 +1,4 @@
-//! The slot of an id in the hands of whoever has the right to the id.
+//! A claim: the slot of an id, for whoever has the right to the id.
 #![tactic(auto)]
 
 pub mod claim;

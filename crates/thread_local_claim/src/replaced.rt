@@ -1,6 +1,7 @@
-//! A value that is taken out of its place for a while.
+//! A value behind a `&mut`, taken out for one call and replaced with what the call returns.
 
-/// Takes the value out for `with`, and leaves what `with` gives back. Nothing unwinds, so nobody meets the place while it is empty.
+/// Passes the value to `with`, and writes back what `with` returns. Nothing unwinds, so nobody sees
+/// the memory while it holds no value.
 pub(crate) fn replace_with<V, X, R, F: FnOnce(V, X) -> (V, R)>(
     place: &mut V,
     given: X,

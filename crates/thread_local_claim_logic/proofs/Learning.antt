@@ -2,13 +2,14 @@
 use Rattle.std.proofs.Common.{◌≡◌, Bool, true, false, refl, Option, None, Some, is_some}
 use seplogic.Ra.Ura.{Ura}
 use base.Logic.{ent, id⊢}
-use base.Fml.{Lft, fex}
+use base.Fml.{Lft, fsep, fex}
 use types.Logic.{Logic, sem}
 use denote.RattleType.{RattleType}
-use Rattle.thread_local_model.specs.Learnt.{Learnt, Unknown, Missing, Standing as Stood, Vacant, Holding, learnt_by_look, Finds}
-use Rattle.thread_local_shared_word_logic.specs.Shared.{WordView, Turn, Standing}
+use Rattle.thread_local_model.specs.Learnt.{Learnt, Unknown, Missing, Standing, Vacant, Holding, learnt_by_look, Finds}
+use Rattle.thread_local_raw.specs.Fact.{fact}
+use Rattle.thread_local_shared_bucket_logic.specs.Shared.{BucketView, Turn, StandingBlock}
 use Rattle.thread_local_claim_logic.specs.Known.{IsKnown, IsUnfound, in_vain, value_held, found_as}
-use Rattle.thread_local_claim_logic.specs.Claims.{Place, has_slot, has, waits, IsKept}
+use Rattle.thread_local_claim_logic.specs.Claims.{ClaimFields, has_slot, has, waits, IsKept}
 
 pub known_as : {X : Type 0} (v : Option X) → IsKnown (found_as v)
 known_as None = tt
@@ -18,31 +19,32 @@ pub not_missing : {X : Type 0} (v : Option X) → found_as v ≡ Missing → ⊥
 not_missing None e = cc
 not_missing (Some x) e = cc
 
--- a load that finds the word empty, and a look at the slot after one that doesn't, are what a find is
+-- what it is to find in the model: a load of null, or a load of a pointer to a block and then a
+-- look at the slot
 pub finds_nothing : {X : Type 0} (l : Learnt X) → IsUnfound l → Finds l Missing
 finds_nothing Unknown h = record { stands = false; shown = None; learnt = refl }
 finds_nothing Missing h = record { stands = false; shown = None; learnt = refl }
-finds_nothing Stood h = absurd h
+finds_nothing Standing h = absurd h
 finds_nothing Vacant h = absurd h
 finds_nothing (Holding x) h = absurd h
 
-looked_at : {X : Type 0} (v : Option X) → learnt_by_look Stood v ≡ Some (found_as v)
+looked_at : {X : Type 0} (v : Option X) → learnt_by_look Standing v ≡ Some (found_as v)
 looked_at None = refl
 looked_at (Some x) = refl
 
 pub finds_slot : {X : Type 0} (l : Learnt X) → IsUnfound l → (v : Option X) → Finds l (found_as v)
 finds_slot Unknown h v = record { stands = true; shown = v; learnt = looked_at v }
 finds_slot Missing h v = record { stands = true; shown = v; learnt = looked_at v }
-finds_slot Stood h v = absurd h
+finds_slot Standing h v = absurd h
 finds_slot Vacant h v = absurd h
 finds_slot (Holding x) h v = absurd h
 
--- a claim that holds a value has learnt which
+-- a claim whose slot holds a value knows the value
 pub holding : {X : Type 0} (l : Learnt X) → is_some (value_held l) ≡ true → (x : X) × (l ≡ Holding x)
 holding (Holding x) e = (x, refl)
 holding Unknown e = cc
 holding Missing e = cc
-holding Stood e = cc
+holding Standing e = cc
 holding Vacant e = cc
 
 -- the flag tells whether the slot holds a value
@@ -50,16 +52,17 @@ pub kept_as : (R : RattleType) (v : Option R.Denot) (set : Bool) → set ≡ is_
 kept_as R None set e = (refl, e)
 kept_as R (Some x) set e = (refl, e)
 
-module _ {M : Type 1} {𝓤 : Ura M} (𝓛 : Logic 𝓤) (R : RattleType) (d : WordView) (t : Turn) (β : Lft) (c : Place) where
-  -- before it has found its bucket: its right or the pass
-  pub unfound : (l : Learnt R.Denot) → IsUnfound l → ent 𝓤 (sem 𝓛 (has R d t β c l)) (sem 𝓛 (waits (in_vain l) d.table t.pass c.id))
+module _ {M : Type 1} {𝓤 : Ura M} (𝓛 : Logic 𝓤) (R : RattleType) (d : BucketView) (t : Turn) (β : Lft) (c : ClaimFields) where
+  -- before a claim has found its bucket, it points to the bucket's pointer, and has its right or
+  -- the pass
+  pub unfound : (l : Learnt R.Denot) → IsUnfound l → ent 𝓤 (sem 𝓛 (has R d t β c l)) (sem 𝓛 (fsep (fact (c.at ≡ c.bucket)) (waits (in_vain l) d.table t.pass c.id)))
   unfound Unknown h = id⊢ 𝓤 _
   unfound Missing h = id⊢ 𝓤 _
-  unfound Stood h = absurd h
+  unfound Standing h = absurd h
   unfound Vacant h = absurd h
   unfound (Holding x) h = absurd h
 
-  -- once it has: what the slot holds
-  pub found : (v : Option R.Denot) → ent 𝓤 (sem 𝓛 (fex Standing (has_slot R d t β c v))) (sem 𝓛 (has R d t β c (found_as v)))
+  -- once a claim has found its bucket, it has what the slot holds
+  pub found : (v : Option R.Denot) → ent 𝓤 (sem 𝓛 (fex StandingBlock (has_slot R d t β c v))) (sem 𝓛 (has R d t β c (found_as v)))
   found None = id⊢ 𝓤 _
   found (Some x) = id⊢ 𝓤 _

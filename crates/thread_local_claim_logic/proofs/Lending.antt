@@ -1,5 +1,5 @@
--- A `&` to a claim: a `&` to the value that it holds. Assumes `Logic`.
-use Rattle.std.proofs.Common.{◌≡◌, ℕ, ◌+◌, Bool, [], ◌∷◌, ◌++◌, refl, sym, subst, Option, None, Some}
+-- A `&` to a claim lends the value that its slot holds. Assumes `Logic`.
+use Rattle.std.proofs.Common.{◌≡◌, ℕ, ◌+◌, Bool, [], ◌∷◌, ◌++◌, length, refl, sym, subst, Option, None, Some}
 use mathlib.Core.Logic.{inl, inr}
 use seplogic.Ra.Ura.{Ura}
 use base.Fraction.{full_share}
@@ -16,7 +16,7 @@ use types.Tokens.{bor_open, obor_close, obor_alter}
 use types.Na.{before_dup, before_shorten}
 use denote.RattleType.{RattleType, RowLaws}
 use denote.Memory.{part_at, shared_of}
-use denote.RawPtr.{InBlock, Ptr, block_of, count_of}
+use denote.RawPtr.{Ptr, block_of, count_of}
 use denote.Sharing.{ShrLaws, said, nothing, beside, some as any}
 use denote.SharingLaws.{within_shr_laws, said_shr_laws, nothing_shr_laws, beside_shr_laws, some_shr_laws, held_shr_laws, contraction, shortens}
 use denote.Shares.{Shares}
@@ -26,25 +26,27 @@ use denote.Struct.Lending.{Lends}
 use Rattle.std.proofs.cell.BorrowLemmas.{by_one, unnest_before}
 use Rattle.thread_local_judged.specs.Judged.{Shareable, Judged}
 use Rattle.thread_local_rights.specs.Rights.{right_owns}
-use Rattle.thread_local_chunks.specs.Slots.{fact, value_in, place}
-use Rattle.thread_local_shared_word_logic.specs.Shared.{name_at, WordView, Turn, Standing, Sized, len, value_code, pinned, value_of, age, kept, loaded}
-use Rattle.thread_local_shared_word_logic.specs.Shared as slots
-use Rattle.thread_local_model.specs.Learnt.{Learnt, Unknown, Missing, Standing as Stood, Vacant, Holding}
+use Rattle.thread_local_blocks.specs.Slots.{value_offset, content_at}
+use Rattle.thread_local_raw.specs.Fact.{fact}
+use Rattle.thread_local_blocks.proofs.Flags.{value_near}
+use Rattle.thread_local_shared_bucket_logic.specs.Shared.{name_at, BucketView, Turn, StandingBlock, Sized, len, value_code, pinned, tracked_value, age, kept, loaded}
+use Rattle.thread_local_shared_bucket_logic.specs.Shared as slots
+use Rattle.thread_local_model.specs.Learnt.{Learnt, Unknown, Missing, Standing, Vacant, Holding}
 use Rattle.thread_local_claim_logic.specs.Known.{value_held}
-use Rattle.thread_local_claim_logic.specs.Claims.{Place, IsAt, has_slot, IsKept, IsOf, has_at, claim_owns, lasts, shown, claim_shares}
+use Rattle.thread_local_claim_logic.specs.Claims.{ClaimFields, has_slot, IsKept, IsOf, has_at, claim_owns, lasts, Reaches, shows_value, claim_shares}
 
 lasts_laws : (β : Lft) (R : RattleType) → RowLaws R → (b e : ℕ) (x : R.Denot) (j : Judged R) → ShrLaws (lasts R β b e x j)
 lasts_laws β R L b e x (inl j) = held_shr_laws β (shared_of R x b e) (L x b e)
 lasts_laws β R L b e x (inr j) = nothing_shr_laws
 
-shown_laws : (β : Lft) (R : RattleType) → RowLaws R → (p : Ptr) (v : Option R.Denot) → ShrLaws (shown R β p v)
-shown_laws β R L p None = nothing_shr_laws
-shown_laws β R L p (Some x) = let b : ℕ = block_of p in let e : ℕ = count_of p in let S : Lft → Fml = shared_of R x b e in let W : Lft → Fml = denote.Sharing.within β S in
-    let F : Judged R → Lft → Fml = lasts R β b e x in beside_shr_laws (said (fact (InBlock p))) (beside W (any (Judged R) F)) (said_shr_laws (fact (InBlock p)) (λ _. tt))
+shown_laws : (β : Lft) (R : RattleType) → RowLaws R → (p : Ptr) (i : ℕ) (v : Option R.Denot) → ShrLaws (shows_value R β p i v)
+shown_laws β R L p i None = nothing_shr_laws
+shown_laws β R L p i (Some x) = let b : ℕ = block_of p in let e : ℕ = value_offset R (count_of p) i in let S : Lft → Fml = shared_of R x b e in let W : Lft → Fml = denote.Sharing.within β S in
+    let F : Judged R → Lft → Fml = lasts R β b e x in beside_shr_laws (said (fact (Reaches R p i))) (beside W (any (Judged R) F)) (said_shr_laws (fact (Reaches R p i)) (λ _. tt))
     (beside_shr_laws W (any (Judged R) F) (within_shr_laws β S (L x b e)) (some_shr_laws (Judged R) F (lasts_laws β R L b e x)))
 
-pub claim_laws : (β : Lft) (R : RattleType) → RowLaws R → (p : Ptr) (l : Learnt R.Denot) (found published : Bool) → ShrLaws (claim_shares R β p l found published)
-claim_laws β R L p l found published = beside_shr_laws (said (fact (IsKept R found published l))) (shown R β p (value_held l)) (said_shr_laws (fact (IsKept R found published l)) (λ _. tt)) (shown_laws β R L p (value_held l))
+pub claim_laws : (β : Lft) (R : RattleType) → RowLaws R → (p : Ptr) (i : ℕ) (l : Learnt R.Denot) (found published : Bool) → ShrLaws (claim_shares R β p i l found published)
+claim_laws β R L p i l found published = beside_shr_laws (said (fact (IsKept R found published l))) (shows_value R β p i (value_held l)) (said_shr_laws (fact (IsKept R found published l)) (λ _. tt)) (shown_laws β R L p i (value_held l))
 
 module _ {M : Type 1} {𝓤 : Ura M} (𝓛 : Logic 𝓤) where
   open 𝓛 use {H, A}
@@ -63,7 +65,7 @@ module _ {M : Type 1} {𝓤 : Ura M} (𝓛 : Logic 𝓤) where
 
   infix 26 ◌⊢◌
   infixr 35 ◌∗◌
-  module _ (β : Lft) (R : RattleType) (L : RowLaws R) (w : Ptr) (table : ℕ) (c : Place) (x : R.Denot) (found published : Bool) (ν : Lft) (inc : Incl ν β) where
+  module _ (β : Lft) (R : RattleType) (L : RowLaws R) (table : ℕ) (c : ClaimFields) (x : R.Denot) (found published : Bool) (ν : Lft) (inc : Incl ν β) where
     abbrev v : Option R.Denot
     v = Some x
 
@@ -71,21 +73,24 @@ module _ {M : Type 1} {𝓤 : Ura M} (𝓛 : Logic 𝓤) where
     l = Holding x
 
     abbrev C : Fml
-    C = claim_owns R β w table c l found published
+    C = claim_owns R β table c l found published
 
-    abbrev At : WordView × Turn → Fml
-    At = has_at R β w table c l
+    abbrev At : BucketView × Turn → Fml
+    At = has_at R β table c l
+
+    abbrev w : Ptr
+    w = c.bucket
 
     abbrev wo : ℕ
     wo = count_of w + 0
 
     abbrev b : ℕ
-    b = block_of c.value
+    b = block_of c.at
 
     abbrev e : ℕ
-    e = count_of c.value
+    e = value_offset R (count_of c.at) c.index
 
-    -- the value is shared for as long as the word is borrowed, or it is borrowed with the claim
+    -- the value is shared for as long as the bucket is borrowed, or it is borrowed with the claim
     abbrev pub Seen : Judged R → Fml
     Seen (inl j) = shared_of R x b e β
     Seen (inr j) = fbor ν (part_at R full_share x b e)
@@ -93,8 +98,8 @@ module _ {M : Type 1} {𝓤 : Ura M} (𝓛 : Logic 𝓤) where
     abbrev pub Saw : Fml
     Saw = fex (Judged R) Seen
 
-    module _ (told : IsKept R found published l) (z : WordView × Turn) (of : IsOf R w table c z.0) (s : Standing) (at : IsAt R (len R z.0) s c) where
-      abbrev d : WordView
+    module _ (told : IsKept R found published l) (z : BucketView × Turn) (of : IsOf R table c z.0) (s : StandingBlock) (at : c.at ≡ s.at) where
+      abbrev d : BucketView
       d = z.0
 
       abbrev t : Turn
@@ -104,7 +109,7 @@ module _ {M : Type 1} {𝓤 : Ura M} (𝓛 : Logic 𝓤) where
       sb = block_of s.at
 
       abbrev se : ℕ
-      se = value_in R (count_of s.at) c.index
+      se = value_offset R (count_of s.at) c.index
 
       abbrev η : GName
       η = name_at s.names c.index
@@ -113,7 +118,7 @@ module _ {M : Type 1} {𝓤 : Ura M} (𝓛 : Logic 𝓤) where
       life = age R t sb s.own
 
       abbrev Value : Fml
-      Value = value_of R sb se η
+      Value = tracked_value R sb se η
 
       abbrev By : Judged R → Fml
       By j = slots.by R t sb s.own se η x j
@@ -130,29 +135,29 @@ module _ {M : Type 1} {𝓤 : Ura M} (𝓛 : Logic 𝓤) where
       abbrev Pinned : Fml
       Pinned = pinned R η x
 
-      -- the claim again
+      -- the claim is put together again
       again : (j : Judged R) → ⟦ Kept ⟧ ∗ ⟦ Row ⟧ ∗ ⟦ Filled ⟧ ∗ ⟦ Pinned ⟧ ∗ ⟦ By j ⟧ ⊢ ⟦ C ⟧
       again j = qed 𝓛 (‵ Kept ∷ ‵ Row ∷ ‵ Filled ∷ ‵ Pinned ∷ ‵ (By j) ∷ []) ∵ move ! (4 ∷ []) $ fpack ! (Judged R) By j $ move ! (3 ∷ 4 ∷ 0 ∷ []) $ fjoin3 ! $ move ! (2 ∷ 0 ∷ []) $ fjoin ! $
-          anything ! $ fpack ! (IsAt R (len R d) s c) (λ _. ftrue) at $ fjoin ! $ fpack ! Standing (has_slot R d t β c v) s $ move ! (1 ∷ 0 ∷ []) $ fjoin ! $
-          anything ! $ fpack ! (IsOf R w table c d) (λ _. ftrue) of $ fjoin ! $ fpack ! (WordView × Turn) At z $ anything ! $ fpack ! (IsKept R found published l) (λ _. ftrue) told $ fjoin ! $ done !
+          anything ! $ fpack ! (c.at ≡ s.at) (λ _. ftrue) at $ fjoin ! $ fpack ! StandingBlock (has_slot R d t β c v) s $ move ! (1 ∷ 0 ∷ []) $ fjoin ! $
+          anything ! $ fpack ! (IsOf R table c d) (λ _. ftrue) of $ fjoin ! $ fpack ! (BucketView × Turn) At z $ anything ! $ fpack ! (IsKept R found published l) (λ _. ftrue) told $ fjoin ! $ done !
 
       there : ◌≡◌ {A = ℕ × ℕ} (sb, se) (b, e)
-      there = λ i. (block_of (sym at.1 i), count_of (sym at.1 i))
+      there = λ i. (block_of (sym at i), value_offset R (count_of (sym at i)) c.index)
 
-      value_back : (o : Option R.Denot) → ⟦ fauth η (value_code R o) ⟧ ⊢ ⟦ fwand (fsep (fdead ν) (fseps (place R o sb se ∷ []))) (fupd Value) ⟧
+      value_back : (o : Option R.Denot) → ⟦ fauth η (value_code R o) ⟧ ⊢ ⟦ fwand (fsep (fdead ν) (fseps (content_at R o sb se ∷ []))) (fupd Value) ⟧
       unfolding fseps
-      value_back o = let Of : Fml = place R o sb se in qed 𝓛 (‵ (fauth η (value_code R o)) ∷ []) ∵ assume ! (‵ (fsep (fdead ν) (fsep Of ftrue))) $ suffices ! ⟦ Value ⟧ (upd_i 𝓤 ⟦ Value ⟧) $ fsplit3 ! $ keep ! (1 ∷ 3 ∷ []) $ fjoin ! $
-          fpack ! (Option R.Denot) (λ c'. fsep (place R c' sb se) (fauth η (value_code R c'))) o $ done !
+      value_back o = let Of : Fml = content_at R o sb se in qed 𝓛 (‵ (fauth η (value_code R o)) ∷ []) ∵ assume ! (‵ (fsep (fdead ν) (fsep Of ftrue))) $ suffices ! ⟦ Value ⟧ (upd_i 𝓤 ⟦ Value ⟧) $ fsplit3 ! $ keep ! (1 ∷ 3 ∷ []) $ fjoin ! $
+          fpack ! (Option R.Denot) (λ c'. fsep (content_at R c' sb se) (fauth η (value_code R c'))) o $ done !
 
-      -- the value's borrow, once its place is known to hold it
+      -- the borrow of the value, once the slot is known to hold it
       lends_value : (σ : Shareable R → ⊥) (q : Share) → ⟦ fbor ν Value ⟧ ∗ A.lft ν q ∗ ⟦ Pinned ⟧ ⊢ H.⇛ (⟦ Saw ⟧ ∗ A.lft ν q)
       unfolding fseps
       lends_value σ q = qed 𝓛 (‵ (fbor ν Value) ∷ ‵ (flft ν q) ∷ ‵ Pinned ∷ []) ∵ updating ! $ bor_open ! tt $ move ! (1 ∷ []) $ fpick ! (λ o. fsplit ! $ move ! (3 ∷ 1 ∷ []) $
-          -- [what is known; the name; the place; the open borrow]
+          -- [what is known; the name; the memory; the open borrow]
           use2 𝓛 (given (value_code R (Some x) ≡ value_code R o) (‵ Pinned ⊛ ‵ (fauth η (value_code R o)))) (𝓛.names.res_agree η (value_code R (Some x)) (value_code R o)) $ learn ! (λ same. split ! $ drop ! $
-          use1 𝓛 (‵ (fwand (fsep (fdead ν) (fseps (place R o sb se ∷ []))) (fupd Value))) (value_back o) $ move ! (1 ∷ []) $ anything ! $ move ! (1 ∷ 0 ∷ []) $ fjoin ! $
-          move ! (2 ∷ 0 ∷ 1 ∷ []) $ obor_alter ! tt (place R o sb se ∷ []) $ use1 𝓛 (‵ (fbor ν (place R o sb se)) ⊛ ‵ ftrue) (id⊢ 𝓤 _) $ split ! $
-          let is_x : o ≡ Some x = sym ((coded_option R.coded).inj (Some x) o same) in rewrite ! 0 (λ (o' : Option R.Denot). ‵ (fbor ν (place R o' sb se))) is_x refl $
+          use1 𝓛 (‵ (fwand (fsep (fdead ν) (fseps (content_at R o sb se ∷ []))) (fupd Value))) (value_back o) $ move ! (1 ∷ []) $ anything ! $ move ! (1 ∷ 0 ∷ []) $ fjoin ! $
+          move ! (2 ∷ 0 ∷ 1 ∷ []) $ obor_alter ! tt (content_at R o sb se ∷ []) $ use1 𝓛 (‵ (fbor ν (content_at R o sb se)) ⊛ ‵ ftrue) (id⊢ 𝓤 _) $ split ! $
+          let is_x : o ≡ Some x = sym ((coded_option R.coded).inj (Some x) o same) in rewrite ! 0 (λ (o' : Option R.Denot). ‵ (fbor ν (content_at R o' sb se))) is_x refl $
           rewrite ! 0 (λ (y : ℕ × ℕ). ‵ (fbor ν (part_at R full_share x y.0 y.1))) there refl $ fpack ! (Judged R) Seen (inr σ) $ now ! $ keep ! (0 ∷ 2 ∷ []) $ done !))
 
       way_back : (σ : Shareable R → ⊥) → ⟦ Kept ⟧ ∗ ⟦ Row ⟧ ∗ ⟦ Filled ⟧ ∗ ⟦ Pinned ⟧ ⊢ ⟦ fwand (fsep (fdead ν) (fseps (fbor life Value ∷ []))) (fupd C) ⟧
@@ -164,7 +169,8 @@ module _ {M : Type 1} {𝓤 : Ura M} (𝓛 : Logic 𝓤) where
       unfolding fseps
       lends_by q (inl σ) = qed 𝓛 (‵ (fobor ν q C) ∷ ‵ Kept ∷ ‵ Row ∷ ‵ Filled ∷ ‵ Pinned ∷ ‵ (By (inl σ)) ∷ []) ∵ updating ! $ move ! (2 ∷ []) $ fsplit ! $ move ! (1 ∷ []) $ fsplit ! $ move ! (1 ∷ []) $
           use1 𝓛 (‵ (before β life) ⊛ ‵ (before β life)) (before_dup 𝓛 β life) $ split ! $
-          -- [β ends before, twice; what is known of the block; its size; the open borrow; kept; filled; pinned; by]
+          -- [β ends before, twice; what is known of the block; its size; the open borrow; kept;
+          -- filled; pinned; by]
           move ! (2 ∷ 1 ∷ []) $ fjoin ! $ move ! (2 ∷ 0 ∷ []) $ fjoin ! $
           move ! (6 ∷ []) $ use1 𝓛 (‵ (By (inl σ)) ⊛ ‵ (By (inl σ))) (contraction 𝓛 (shared_of R x sb se) (L x sb se) life) $ split ! $
           -- [by; by; the row; β ends before; the open borrow; kept; filled; pinned]
@@ -178,41 +184,49 @@ module _ {M : Type 1} {𝓤 : Ura M} (𝓛 : Logic 𝓤) where
           use1 𝓛 (‵ (fbor ν (fbor life Value)) ⊛ ‵ ftrue) (id⊢ 𝓤 _) $ split ! $ move ! (4 ∷ 0 ∷ 2 ∷ []) $ use3 𝓛 (later (‵ (fbor ν Value) ⊛ ‵ (flft ν q))) (unnest_before 𝓛 ν life q Value) $ await ! tt $ split ! $
           move ! (0 ∷ 1 ∷ 3 ∷ []) $ use3 𝓛 (later (‵ Saw ⊛ ‵ (flft ν q))) (lends_value σ q) $ await ! tt $ split ! $ now ! $ keep ! (0 ∷ 1 ∷ []) $ done !
 
-    lends_at : (q : Share) → ⟦ fbor ν C ⟧ ∗ A.lft ν q ⊢ H.⇛ ((⟦ fact (IsKept R found published l) ⟧ ∗ ⟦ fact (InBlock c.value) ⟧ ∗ ⟦ Saw ⟧) ∗ A.lft ν q)
+    lends_at : (q : Share) → ⟦ fbor ν C ⟧ ∗ A.lft ν q ⊢ H.⇛ ((⟦ fact (IsKept R found published l) ⟧ ∗ ⟦ fact (Reaches R c.at c.index) ⟧ ∗ ⟦ Saw ⟧) ∗ A.lft ν q)
     lends_at q = qed 𝓛 (‵ (fbor ν C) ∷ ‵ (flft ν q) ∷ []) ∵ updating ! $ bor_open ! tt $ move ! (1 ∷ []) $ fsplit ! $ fpick ! (λ told. move ! (1 ∷ []) $ fpick ! (λ z. fsplit ! $ fpick ! (λ of. move ! (1 ∷ []) $ fsplit ! $ move ! (1 ∷ []) $
         fpick ! (λ s. fsplit ! $ fpick ! (λ at. drop ! $ fsplit ! $ move ! (1 ∷ []) $ fsplit3 ! $
         -- [filled; pinned; by; the row; kept; nothing; nothing; the open borrow]
+        move ! (3 ∷ []) $ fsplit ! $ fpick ! (λ sized. fpack ! ((length s.names ≡ len R z.0) × Sized R (len R z.0) s.at) (λ _. ftrue) sized $ fjoin ! $ move ! (1 ∷ 2 ∷ 3 ∷ 0 ∷ []) $
         move ! (2 ∷ []) $ fpick ! (λ j. move ! (7 ∷ 4 ∷ 3 ∷ 1 ∷ 2 ∷ 0 ∷ []) $ group ! 6 $ use1 𝓛 (later (‵ Saw ⊛ ‵ (flft ν q))) (lends_by told z of s at q j) $ await ! tt $ split ! $
-        anything ! $ fpack ! (InBlock c.value) (λ _. ftrue) (subst InBlock (sym at.1) tt) $ move ! (0 ∷ 1 ∷ []) $ join ! $ anything ! $ fpack ! (IsKept R found published l) (λ _. ftrue) told $ join ! $ join ! $ now ! $ keep ! (0 ∷ []) $ done !))))))
+        anything ! $ fpack ! (Reaches R c.at c.index) (λ _. ftrue) (subst (λ (u : Ptr). Reaches R u c.index) (sym at) (sized.1.0, value_near R (len R z.0) c.index sized.1.2 of.4)) $ move ! (0 ∷ 1 ∷ []) $ join ! $ anything ! $ fpack ! (IsKept R found published l) (λ _. ftrue) told $ join ! $ join ! $ now ! $ keep ! (0 ∷ []) $ done !)))))))
 
-  module _ (β : Lft) (R : RattleType) (L : RowLaws R) (l : Lft) (le : Incl l β) (shares : Shares 𝓛 R l) (w : Ptr) (table : ℕ) (c : Place) (found published : Bool) where
-    -- a claim keeps what is true of it
-    told_of : (t : Learnt R.Denot) → ⟦ claim_owns R β w table c t found published ⟧ ⊢ monad.fact 𝓤 (IsKept R found published t)
-    told_of t = qed 𝓛 (‵ (claim_owns R β w table c t found published) ∷ []) ∵ fsplit ! $ fpick ! (λ told. by ! (fact_i 𝓤 (IsKept R found published t) _ told))
+  module _ (β : Lft) (R : RattleType) (L : RowLaws R) (l : Lft) (le : Incl l β) (shares : Shares 𝓛 R l) (table : ℕ) (c : ClaimFields) (found published : Bool) where
+    -- the address of the slot's value: its allocation, and its offset there
+    abbrev vb : ℕ
+    vb = block_of c.at
+
+    abbrev ve : ℕ
+    ve = value_offset R (count_of c.at) c.index
+
+    -- what a claim keeps at run time is true of it
+    told_of : (t : Learnt R.Denot) → ⟦ claim_owns R β table c t found published ⟧ ⊢ monad.fact 𝓤 (IsKept R found published t)
+    told_of t = qed 𝓛 (‵ (claim_owns R β table c t found published) ∷ []) ∵ fsplit ! $ fpick ! (λ told. by ! (fact_i 𝓤 (IsKept R found published t) _ told))
 
     module _ (x : R.Denot) (κ : Lft) where
       abbrev ν : Lft
       ν = κ ++ β
 
       abbrev S : Lft → Fml
-      S = shared_of R x (block_of c.value) (count_of c.value)
+      S = shared_of R x vb ve
 
       abbrev Lasts : Judged R → Fml
-      Lasts j = lasts R β (block_of c.value) (count_of c.value) x j κ
+      Lasts j = lasts R β vb ve x j κ
 
       abbrev pub Lent : Fml
       Lent = fsep (S ν) (fex (Judged R) Lasts)
 
-      finish : (inc : Incl ν β) (ts : Toks) → Incl (span ts) l → Incl (span ts) ν → (j : Judged R) → ⟦ Seen β R L w table c x found published ν inc j ⟧ ∗ lfts 𝓛 ts ⊢ H.⇛ (⟦ Lent ⟧ ∗ lfts 𝓛 ts)
-      finish inc ts sl sν (inl j) = qed 𝓛 (‵ (S β) ∷ raw (lfts 𝓛 ts) ∷ []) ∵ updating ! $ use1 𝓛 (‵ (S β) ⊛ ‵ (S β)) (contraction 𝓛 S (L x (block_of c.value) (count_of c.value)) β) $ split ! $
-          fpack ! (Judged R) Lasts (inl j) $ move ! (1 ∷ []) $ use1 𝓛 (‵ (S ν)) (shortens 𝓛 S (L x (block_of c.value) (count_of c.value)) β ν inc) $ fjoin ! $ now ! $ done !
-      finish inc ts sl sν (inr j) = qed 𝓛 (‵ (fbor ν (part_at R full_share x (block_of c.value) (count_of c.value))) ∷ raw (lfts 𝓛 ts) ∷ []) ∵ updating ! $
-          use2 𝓛 (later (‵ (S ν) ⊛ raw (lfts 𝓛 ts))) (shares x ν ts (block_of c.value) (count_of c.value) sl sν) $ await ! tt $ split ! $
+      finish : (inc : Incl ν β) (ts : Toks) → Incl (span ts) l → Incl (span ts) ν → (j : Judged R) → ⟦ Seen β R L table c x found published ν inc j ⟧ ∗ lfts 𝓛 ts ⊢ H.⇛ (⟦ Lent ⟧ ∗ lfts 𝓛 ts)
+      finish inc ts sl sν (inl j) = qed 𝓛 (‵ (S β) ∷ raw (lfts 𝓛 ts) ∷ []) ∵ updating ! $ use1 𝓛 (‵ (S β) ⊛ ‵ (S β)) (contraction 𝓛 S (L x vb ve) β) $ split ! $
+          fpack ! (Judged R) Lasts (inl j) $ move ! (1 ∷ []) $ use1 𝓛 (‵ (S ν)) (shortens 𝓛 S (L x vb ve) β ν inc) $ fjoin ! $ now ! $ done !
+      finish inc ts sl sν (inr j) = qed 𝓛 (‵ (fbor ν (part_at R full_share x vb ve)) ∷ raw (lfts 𝓛 ts) ∷ []) ∵ updating ! $
+          use2 𝓛 (later (‵ (S ν) ⊛ raw (lfts 𝓛 ts))) (shares x ν ts vb ve sl sν) $ await ! tt $ split ! $
           anything ! $ fpack ! (Judged R) Lasts (inr j) $ move ! (1 ∷ 0 ∷ []) $ fjoin ! $ now ! $ done !
 
     module _ (t : Learnt R.Denot) where
       abbrev P : Fml
-      P = claim_owns R β w table c t found published
+      P = claim_owns R β table c t found published
 
       abbrev Φ : Type 0
       Φ = IsKept R found published t
@@ -221,21 +235,21 @@ module _ {M : Type 1} {𝓤 : Ura M} (𝓛 : Logic 𝓤) where
       keeps_at κ q = qed 𝓛 (‵ (fbor κ P) ∷ ‵ (flft κ q) ∷ []) ∵ updating ! $ bor_open ! tt $ move ! (1 ∷ []) $
           use1 𝓛 (given Φ (‵ P)) (fact_use 𝓤 _ (told_of t) (guard_i 𝓤 Φ ⟦ P ⟧)) $ learn ! (λ told. move ! (1 ∷ 0 ∷ []) $ obor_close ! tt $ drop ! $ anything ! $ fpack ! Φ (λ _. ftrue) told $ now ! $ done !)
 
-      -- a claim that holds no value shows none
+      -- a claim whose slot holds no value shows none
       shows_none : Lends 𝓛 P (beside (said (fact Φ)) nothing) l
       shows_none = λ κ ts inc sp. qed 𝓛 (‵ (fbor κ P) ∷ raw (lfts 𝓛 ts) ∷ []) ∵ updating ! $ use2 𝓛 (later (‵ (fact Φ) ⊛ raw (lfts 𝓛 ts))) (by_one 𝓛 κ ts sp (A.bor κ P) ⟦ fact Φ ⟧ (keeps_at κ)) $ await ! tt $ split ! $ anything ! $ move ! (1 ∷ 0 ∷ []) $ fjoin ! $ now ! $ done !
 
-    -- a `&` to a claim is a `&` to the value that it holds
-    pub lends_claim : (t : Learnt R.Denot) → Lends 𝓛 (claim_owns R β w table c t found published) (claim_shares R β c.value t found published) l
-    lends_claim (Holding x) = λ κ ts inc sp. let ν : Lft = κ ++ β in let P : Fml = claim_owns R β w table c (Holding x) found published in let Told : Fml = fact (IsKept R found published (Holding x)) in let In : Fml = fact (InBlock c.value) in
+    -- a borrow of a claim becomes a `&` to the value that its slot holds
+    pub lends_claim : (t : Learnt R.Denot) → Lends 𝓛 (claim_owns R β table c t found published) (claim_shares R β c.at c.index t found published) l
+    lends_claim (Holding x) = λ κ ts inc sp. let ν : Lft = κ ++ β in let P : Fml = claim_owns R β table c (Holding x) found published in let Told : Fml = fact (IsKept R found published (Holding x)) in let In : Fml = fact (Reaches R c.at c.index) in
         let sm : Incl (span ts) ν = ⊑_meet (span ts) κ β sp (Incl-trans inc le) in
-        let within : Incl ν β = meet_⊑_right κ β in let Got : Pr = ⟦ Told ⟧ ∗ ⟦ In ⟧ ∗ ⟦ Saw β R L w table c x found published ν within ⟧ in
+        let within : Incl ν β = meet_⊑_right κ β in let Got : Pr = ⟦ Told ⟧ ∗ ⟦ In ⟧ ∗ ⟦ Saw β R L table c x found published ν within ⟧ in
         qed 𝓛 (‵ (fbor κ P) ∷ raw (lfts 𝓛 ts) ∷ []) ∵ updating ! $ use1 𝓛 (‵ (fbor ν P)) (𝓛.bors.bor_shorten κ ν P (meet_⊑_left κ β)) $
-        use2 𝓛 (later ((‵ Told ⊛ ‵ In ⊛ ‵ (Saw β R L w table c x found published ν within)) ⊛ raw (lfts 𝓛 ts))) (by_one 𝓛 ν ts sm (A.bor ν P) Got (lends_at β R L w table c x found published ν within)) $ await ! tt $
+        use2 𝓛 (later ((‵ Told ⊛ ‵ In ⊛ ‵ (Saw β R L table c x found published ν within)) ⊛ raw (lfts 𝓛 ts))) (by_one 𝓛 ν ts sm (A.bor ν P) Got (lends_at β R L table c x found published ν within)) $ await ! tt $
         split ! $ split3 ! $ move ! (2 ∷ []) $ fpick ! (λ j. move ! (0 ∷ 3 ∷ []) $ use2 𝓛 (later (‵ (Lent x κ) ⊛ raw (lfts 𝓛 ts))) (finish x κ within ts inc sm j) $ await ! tt $ split ! $
         -- [what is shared; the tokens; what is kept; the block]
         move ! (3 ∷ 0 ∷ []) $ fjoin ! $ move ! (2 ∷ 0 ∷ []) $ fjoin ! $ now ! $ keep ! (0 ∷ 1 ∷ []) $ done !)
     lends_claim Unknown = shows_none Unknown
     lends_claim Missing = shows_none Missing
-    lends_claim Stood = shows_none Stood
+    lends_claim Standing = shows_none Standing
     lends_claim Vacant = shows_none Vacant

@@ -1,4 +1,5 @@
--- A slot's moves: it is claimed, given back, and its value is published. Assumes `Logic`.
+-- The moves of a slot: it is claimed, its value is published, and its claim is given up. Assumes
+-- `Logic`.
 use Rattle.std.proofs.Common.{◌≡◌, ℕ, [], ◌∷◌, refl, sym, ap, Option, Some, None}
 use seplogic.Ra.Ura.{Ura}
 use base.Logic.{SProp, ent, sep, guard, via, guard_i}
@@ -11,13 +12,13 @@ use denote.RattleType.{RattleType}
 use Rattle.std.specs.Coded.{coded_option}
 use Rattle.thread_local_rights.specs.Rights.{right_owns}
 use Rattle.thread_local_rights.proofs.Elements.{right_once}
-use Rattle.thread_local_shared_word_logic.specs.Shared.{Turn, Who, free, claimed, early, value_code, pinned, opened, holds, stays, had}
+use Rattle.thread_local_shared_bucket_logic.specs.Shared.{Turn, Who, free, claimed, early, value_code, pinned, opened, holds, stays, had}
 
 some_alike : {X : Type 0} {x y : X} → ◌≡◌ {A = Option X} (Some x) (Some y) → x ≡ y
 some_alike {X} {x} e = ap {A = Option X} (λ o. elim o as (λ _. X) [ Some z ↦ z | None ↦ x ]) e
 
 module _ {M : Type 1} {𝓤 : Ura M} (𝓛 : Logic 𝓤) where
-  -- two that know what a name says for good know the same
+  -- a name says one thing for good
   pub res_alike : (γ : GName) (x y : Gv) → ent 𝓤 (sep 𝓤 (sem 𝓛 (fres γ x)) (sem 𝓛 (fres γ y))) (guard 𝓤 (x ≡ y) (sep 𝓤 (sem 𝓛 (fres γ x)) (sem 𝓛 (fres γ y))))
   res_alike γ x y = let Both : SProp 𝓤 = sep 𝓤 (sem 𝓛 (fres γ x)) (sem 𝓛 (fres γ y)) in
       fact_use 𝓤 _ (via 𝓤 _ (sep→conj 𝓤 (sem 𝓛 (fres γ x)) (sem 𝓛 (fres γ y))) (𝓛.names.res_one γ x y)) (guard_i 𝓤 (x ≡ y) Both)
@@ -52,37 +53,37 @@ module _ {M : Type 1} {𝓤 : Ura M} (𝓛 : Logic 𝓤) (R : RattleType) (t : T
   abbrev pub Pass : Fml
   Pass = right_owns t.pass k
 
-  -- nobody has a right twice
+  -- no two rights are to the same id
   twice : (γ : GName) (Z : Pr) → ⟦ right_owns γ k ⟧ ∗ ⟦ right_owns γ k ⟧ ⊢ Z
   twice γ Z = right_once 𝓛 γ k Z
 
-  -- the right to its id takes a slot out
+  -- whoever has the right to the id of a slot claims the slot for that right
   pub claims : (v : Option R.Denot) (w : Who) → ⟦ Had v w ⟧ ∗ ⟦ Right ⟧ ⊢ ⟦ Had v claimed ⟧ ∗ ⟦ Holds v ⟧
   claims v free = qed 𝓛 (‵ (Had v free) ∷ ‵ Right ∷ []) ∵ fsplit ! $ move ! (2 ∷ 0 ∷ []) $ fjoin ! $ done !
   claims v claimed = qed 𝓛 (‵ (Had v claimed) ∷ ‵ Right ∷ []) ∵ fsplit ! $ keep ! (0 ∷ 2 ∷ []) $ by ! (twice table _)
   claims v early = qed 𝓛 (‵ (Had v early) ∷ ‵ Right ∷ []) ∵ fsplit ! $ keep ! (0 ∷ 2 ∷ []) $ by ! (twice table _)
 
-  -- whoever came before the block stood finds its slot empty, claims it
+  -- a claim with the pass finds its slot empty, and has the slot
   pub early_claims : (v : Option R.Denot) (w : Who) → ⟦ Stays v ⟧ ∗ ⟦ Had v w ⟧ ∗ ⟦ Pass ⟧ ⊢ guard 𝓤 (v ≡ None) (⟦ Stays v ⟧ ∗ ⟦ Had v claimed ⟧ ∗ ⟦ Holds None ⟧)
   early_claims v free = qed 𝓛 (‵ (Stays v) ∷ ‵ (Had v free) ∷ ‵ Pass ∷ []) ∵ drop ! $ fsplit ! $ keep ! (0 ∷ 2 ∷ []) $ by ! (twice t.pass _)
   early_claims v claimed = qed 𝓛 (‵ (Stays v) ∷ ‵ (Had v claimed) ∷ ‵ Pass ∷ []) ∵ drop ! $ fsplit ! $ keep ! (1 ∷ 2 ∷ []) $ by ! (twice t.pass _)
   early_claims (Some x) early = qed 𝓛 (‵ (Stays (Some x)) ∷ ‵ (Had (Some x) early) ∷ ‵ Pass ∷ []) ∵ fsplit3 ! $ move ! (3 ∷ []) $ fsplit ! $ move ! (1 ∷ []) $ fsplit3 ! $ keep ! (0 ∷ 4 ∷ []) $ by ! (twice t.vacant _)
   early_claims None early = qed 𝓛 (‵ (Stays None) ∷ ‵ (Had None early) ∷ ‵ Pass ∷ []) ∵ check ! refl $ move ! (1 ∷ []) $ fsplit ! $ move ! (0 ∷ 3 ∷ []) $ fjoin ! $ move ! (2 ∷ 0 ∷ 1 ∷ []) $ done !
 
-  -- or takes its right back and leaves it
-  pub early_leaves : (v : Option R.Denot) (w : Who) → ⟦ Stays v ⟧ ∗ ⟦ Had v w ⟧ ∗ ⟦ Pass ⟧ ⊢ guard 𝓤 (v ≡ None) (⟦ Stays v ⟧ ∗ ⟦ Had v free ⟧ ∗ ⟦ Right ⟧)
-  early_leaves v free = qed 𝓛 (‵ (Stays v) ∷ ‵ (Had v free) ∷ ‵ Pass ∷ []) ∵ drop ! $ fsplit ! $ keep ! (0 ∷ 2 ∷ []) $ by ! (twice t.pass _)
-  early_leaves v claimed = qed 𝓛 (‵ (Stays v) ∷ ‵ (Had v claimed) ∷ ‵ Pass ∷ []) ∵ drop ! $ fsplit ! $ keep ! (1 ∷ 2 ∷ []) $ by ! (twice t.pass _)
-  early_leaves (Some x) early = qed 𝓛 (‵ (Stays (Some x)) ∷ ‵ (Had (Some x) early) ∷ ‵ Pass ∷ []) ∵ fsplit3 ! $ move ! (3 ∷ []) $ fsplit ! $ move ! (1 ∷ []) $ fsplit3 ! $ keep ! (0 ∷ 4 ∷ []) $ by ! (twice t.vacant _)
-  early_leaves None early = qed 𝓛 (‵ (Stays None) ∷ ‵ (Had None early) ∷ ‵ Pass ∷ []) ∵ check ! refl $ move ! (1 ∷ []) $ fsplit ! $ move ! (3 ∷ 1 ∷ []) $ fjoin ! $ move ! (2 ∷ 0 ∷ 1 ∷ []) $ done !
+  -- or it is given up, and has its right back
+  pub early_gives_up : (v : Option R.Denot) (w : Who) → ⟦ Stays v ⟧ ∗ ⟦ Had v w ⟧ ∗ ⟦ Pass ⟧ ⊢ guard 𝓤 (v ≡ None) (⟦ Stays v ⟧ ∗ ⟦ Had v free ⟧ ∗ ⟦ Right ⟧)
+  early_gives_up v free = qed 𝓛 (‵ (Stays v) ∷ ‵ (Had v free) ∷ ‵ Pass ∷ []) ∵ drop ! $ fsplit ! $ keep ! (0 ∷ 2 ∷ []) $ by ! (twice t.pass _)
+  early_gives_up v claimed = qed 𝓛 (‵ (Stays v) ∷ ‵ (Had v claimed) ∷ ‵ Pass ∷ []) ∵ drop ! $ fsplit ! $ keep ! (1 ∷ 2 ∷ []) $ by ! (twice t.pass _)
+  early_gives_up (Some x) early = qed 𝓛 (‵ (Stays (Some x)) ∷ ‵ (Had (Some x) early) ∷ ‵ Pass ∷ []) ∵ fsplit3 ! $ move ! (3 ∷ []) $ fsplit ! $ move ! (1 ∷ []) $ fsplit3 ! $ keep ! (0 ∷ 4 ∷ []) $ by ! (twice t.vacant _)
+  early_gives_up None early = qed 𝓛 (‵ (Stays None) ∷ ‵ (Had None early) ∷ ‵ Pass ∷ []) ∵ check ! refl $ move ! (1 ∷ []) $ fsplit ! $ move ! (3 ∷ 1 ∷ []) $ fjoin ! $ move ! (2 ∷ 0 ∷ 1 ∷ []) $ done !
 
-  -- two that know a slot's value know the same
+  -- a slot holds one value for good
   pub pinned_alike : (x y : R.Denot) → ⟦ pinned R η x ⟧ ∗ ⟦ pinned R η y ⟧ ⊢ guard 𝓤 (x ≡ y) (⟦ pinned R η x ⟧ ∗ ⟦ pinned R η y ⟧)
   pinned_alike x y = qed 𝓛 (‵ (pinned R η x) ∷ ‵ (pinned R η y) ∷ []) ∵
       use2 𝓛 (given (value_code R (Some x) ≡ value_code R (Some y)) (‵ (pinned R η x) ⊛ ‵ (pinned R η y))) (res_alike 𝓛 η (value_code R (Some x)) (value_code R (Some y))) $
       learn ! (λ same. check ! (some_alike ((coded_option R.coded).inj (Some x) (Some y) same)) $ split ! $ done !)
 
-  -- whoever claims a slot knows what it holds, and that it is claimed
+  -- the claim of a slot knows what the slot holds, and that it is claimed
   pub known : (v u : Option R.Denot) (w : Who) → ⟦ Stays v ⟧ ∗ ⟦ Had v w ⟧ ∗ ⟦ Holds u ⟧ ⊢ guard 𝓤 (v ≡ u) (⟦ Stays v ⟧ ∗ ⟦ Had v claimed ⟧ ∗ ⟦ Holds u ⟧)
   known (Some x) (Some y) early = qed 𝓛 (‵ (Stays (Some x)) ∷ ‵ (Had (Some x) early) ∷ ‵ (Holds (Some y)) ∷ []) ∵ fsplit3 ! $ move ! (3 ∷ []) $ fsplit ! $ move ! (1 ∷ []) $ fsplit3 ! $ keep ! (0 ∷ 4 ∷ []) $ by ! (twice t.vacant _)
   known None None early = qed 𝓛 (‵ (Stays None) ∷ ‵ (Had None early) ∷ ‵ (Holds None) ∷ []) ∵ drop ! $ fsplit ! $ move ! (1 ∷ []) $ fsplit3 ! $ move ! (4 ∷ []) $ fsplit3 ! $ keep ! (0 ∷ 3 ∷ []) $ by ! (twice t.vacant _)
@@ -96,16 +97,16 @@ module _ {M : Type 1} {𝓤 : Ura M} (𝓛 : Logic 𝓤) (R : RattleType) (t : T
   known None None free = qed 𝓛 (‵ (Stays None) ∷ ‵ (Had None free) ∷ ‵ (Holds None) ∷ []) ∵ drop ! $ fsplit ! $ move ! (1 ∷ []) $ fsplit3 ! $ move ! (4 ∷ []) $ fsplit3 ! $ keep ! (0 ∷ 3 ∷ []) $ by ! (twice t.vacant _)
   known None None claimed = qed 𝓛 (‵ (Stays None) ∷ ‵ (Had None claimed) ∷ ‵ (Holds None) ∷ []) ∵ check ! refl $ done !
 
-  -- a claim is given back
+  -- a claim is given up, and has its right back
   pub releases : (v u : Option R.Denot) (w : Who) → ⟦ Stays v ⟧ ∗ ⟦ Had v w ⟧ ∗ ⟦ Holds u ⟧ ⊢ guard 𝓤 (v ≡ u) (⟦ Stays v ⟧ ∗ ⟦ Had v free ⟧ ∗ ⟦ Right ⟧)
   releases v u w = qed 𝓛 (‵ (Stays v) ∷ ‵ (Had v w) ∷ ‵ (Holds u) ∷ []) ∵ use3 𝓛 (given (v ≡ u) (‵ (Stays v) ⊛ ‵ (Had v claimed) ⊛ ‵ (Holds u))) (known v u w) $ learn ! (λ same. check ! same $ split3 ! $
       move ! (1 ∷ []) $ fsplit ! $ move ! (3 ∷ []) $ rewrite ! 0 (λ (z : Option R.Denot). ‵ (Holds z)) (sym same) refl $ move ! (2 ∷ 0 ∷ []) $ fjoin ! $ move ! (2 ∷ 0 ∷ 1 ∷ []) $ done !)
 
-  -- what a publishing leaves with the slot
+  -- what stays with the slot once the value is published
   abbrev pub Offer : R.Denot → Fml
   Offer x = fsep (right_owns t.vacant k) (fsep (pinned R η x) (opened R t b ν e x))
 
-  -- whoever publishes a value has claimed a slot that holds none
+  -- the claim of a slot that holds no value publishes one
   pub publishes : (v : Option R.Denot) (w : Who) (x : R.Denot) → ⟦ Stays v ⟧ ∗ ⟦ Had v w ⟧ ∗ ⟦ Offer x ⟧ ⊢ guard 𝓤 (v ≡ None) (⟦ Stays (Some x) ⟧ ∗ ⟦ Had (Some x) claimed ⟧ ∗ ⟦ right_owns t.filled k ⟧)
   publishes (Some z) w x = qed 𝓛 (‵ (Stays (Some z)) ∷ ‵ (Had (Some z) w) ∷ ‵ (Offer x) ∷ []) ∵ fsplit3 ! $ move ! (4 ∷ []) $ fsplit3 ! $ keep ! (0 ∷ 3 ∷ []) $ by ! (twice t.vacant _)
   publishes None free x = qed 𝓛 (‵ (Stays None) ∷ ‵ (Had None free) ∷ ‵ (Offer x) ∷ []) ∵ drop ! $ fsplit ! $ move ! (1 ∷ []) $ fsplit3 ! $ move ! (4 ∷ []) $ fsplit3 ! $ keep ! (0 ∷ 3 ∷ []) $ by ! (twice t.vacant _)

@@ -1,18 +1,18 @@
--- What a claim owns names no thread where its type's values may go to another thread.
+-- What a claim owns names no thread, if its values may go to another thread.
 use Rattle.std.proofs.Common.{ℕ, ◌+◌, Bool, Option, None, Some}
 use mathlib.Core.Logic.{inl, inr}
 use base.Fml.{Lft, GName, fex}
 use base.Shift.{Keyless}
 use denote.RattleType.{RattleType}
 use denote.Param.Send.{IsSend}
-use denote.RawPtr.{Ptr, block_of, count_of}
+use denote.RawPtr.{block_of, count_of}
 use Rattle.thread_local_judged.specs.Judged.{Judged}
 use Rattle.thread_local_rights.proofs.Elements.{right_keyless}
-use Rattle.thread_local_chunks.specs.Slots.{value_in}
-use Rattle.thread_local_shared_word_logic.specs.Shared.{name_at, WordView, Turn, Standing, age, by, holds}
-use Rattle.thread_local_shared_word_logic.proofs.Sent.{value_keyless, kept_keyless, row_keyless}
-use Rattle.thread_local_model.specs.Learnt.{Learnt, Unknown, Missing, Standing as Stood, Vacant, Holding}
-use Rattle.thread_local_claim_logic.specs.Claims.{Place, has_slot, has, claim_owns}
+use Rattle.thread_local_blocks.specs.Slots.{value_offset}
+use Rattle.thread_local_shared_bucket_logic.specs.Shared.{name_at, BucketView, Turn, StandingBlock, age, by, holds}
+use Rattle.thread_local_shared_bucket_logic.proofs.Sent.{value_keyless, kept_keyless, row_keyless}
+use Rattle.thread_local_model.specs.Learnt.{Learnt, Unknown, Missing, Standing, Vacant, Holding}
+use Rattle.thread_local_claim_logic.specs.Claims.{ClaimFields, has_slot, has, claim_owns}
 
 module _ (R : RattleType) (sent : IsSend R) where
   by_keyless : (t : Turn) (b ν e : ℕ) (η : GName) (x : R.Denot) (j : Judged R) → Keyless (by R t b ν e η x j)
@@ -23,15 +23,15 @@ module _ (R : RattleType) (sent : IsSend R) where
   holds_keyless t b ν k e η None = (right_keyless t.vacant k, (tt, value_keyless R sent b e η))
   holds_keyless t b ν k e η (Some x) = (right_keyless t.filled k, (tt, λ j. by_keyless t b ν e η x j))
 
-  slot_keyless : (d : WordView) (t : Turn) (β : Lft) (c : Place) (v : Option R.Denot) → Keyless (fex Standing (has_slot R d t β c v))
-  slot_keyless d t β c v = λ s. ((λ _. tt), (row_keyless R sent d t s β, holds_keyless t (block_of s.at) s.own c.id (value_in R (count_of s.at) c.index) (name_at s.names c.index) v))
+  slot_keyless : (d : BucketView) (t : Turn) (β : Lft) (c : ClaimFields) (v : Option R.Denot) → Keyless (fex StandingBlock (has_slot R d t β c v))
+  slot_keyless d t β c v = λ s. ((λ _. tt), (row_keyless R sent d t s β, holds_keyless t (block_of s.at) s.own c.id (value_offset R (count_of s.at) c.index) (name_at s.names c.index) v))
 
-  has_keyless : (d : WordView) (t : Turn) (β : Lft) (c : Place) (l : Learnt R.Denot) → Keyless (has R d t β c l)
-  has_keyless d t β c Unknown = right_keyless d.table c.id
-  has_keyless d t β c Missing = right_keyless t.pass c.id
-  has_keyless d t β c Stood = tt
+  has_keyless : (d : BucketView) (t : Turn) (β : Lft) (c : ClaimFields) (l : Learnt R.Denot) → Keyless (has R d t β c l)
+  has_keyless d t β c Unknown = ((λ _. tt), right_keyless d.table c.id)
+  has_keyless d t β c Missing = ((λ _. tt), right_keyless t.pass c.id)
+  has_keyless d t β c Standing = tt
   has_keyless d t β c Vacant = slot_keyless d t β c None
   has_keyless d t β c (Holding x) = slot_keyless d t β c (Some x)
 
-  pub claim_keyless : (β : Lft) (w : Ptr) (table : ℕ) (c : Place) (l : Learnt R.Denot) (found published : Bool) → Keyless (claim_owns R β w table c l found published)
-  claim_keyless β w table c l found published = ((λ _. tt), λ z. ((λ _. tt), (kept_keyless R sent z.0 z.1 (block_of w) (count_of w + 0) β, has_keyless z.0 z.1 β c l)))
+  pub claim_keyless : (β : Lft) (table : ℕ) (c : ClaimFields) (l : Learnt R.Denot) (found published : Bool) → Keyless (claim_owns R β table c l found published)
+  claim_keyless β table c l found published = ((λ _. tt), λ z. ((λ _. tt), (kept_keyless R sent z.0 z.1 (block_of c.bucket) (count_of c.bucket + 0) β, has_keyless z.0 z.1 β c l)))

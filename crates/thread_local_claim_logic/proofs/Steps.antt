@@ -1,4 +1,5 @@
--- The steps of a claim, under the invariant of the word: with no step of the machine, and with one on the word of the slot's flag. Assumes `Logic`.
+-- The steps of a claim under its bucket's invariant: ghost steps, and atomic ones on the word that
+-- has the slot's flag. Assumes `Logic`.
 use Rattle.std.proofs.Common.{◌≡◌, ℕ, ◌+◌, ◌*◌, ◌/◌, ◌%◌, ◌^◌, ◌<◌, Bool, true, false, [], ◌∷◌, length, refl, ap, ◌∙◌, lit<, Option, None, Some, is_some}
 use Rattle.std.proofs.lemmas.Nat.{mod_below}
 use seplogic.Ra.Ura.{Ura}
@@ -11,15 +12,16 @@ use denote.Steps.{nothing}
 use denote.RawPtr.{Ptr, block_ptr, block_of, count_of}
 use Rattle.std.specs.Sync.RawAtomic.{asks, always}
 use Rattle.thread_local_rights.specs.Rights.{right_owns}
-use Rattle.thread_local_chunks.specs.Slots.{fact, word_at, value_in}
+use Rattle.thread_local_blocks.specs.Slots.{word_at, value_offset}
+use Rattle.thread_local_raw.specs.Fact.{fact}
 use Rattle.thread_local_bits.specs.Bits.{is_set}
 use Rattle.thread_local_bits.proofs.Word.{add_shifted, same_bit}
-use Rattle.thread_local_shared_word_logic.specs.Shared.{name_at, WordView, Turn, Standing, Who, free, claimed, len, first}
+use Rattle.thread_local_shared_bucket_logic.specs.Shared.{name_at, BucketView, Turn, StandingBlock, Who, free, claimed, len, first}
 use Rattle.thread_local_claim_logic.specs.Claims.{waits, IsTold}
-use Rattle.thread_local_shared_word_logic.proofs.Steps as general
+use Rattle.thread_local_shared_bucket_logic.proofs.Steps as general
 use Rattle.thread_local_claim_logic.proofs.Moves as moves
 
-module _ {M : Type 1} {𝓤 : Ura M} (𝓛 : Logic 𝓤) (R : RattleType) (d : WordView) (t : Turn) (wb wo : ℕ) (s : Standing) (i k e b : ℕ) (low : i < length s.names) (at_k : k ≡ i + first R d) (at_e : e ≡ value_in R (count_of s.at) i) (at_b : block_of s.at ≡ b) where
+module _ {M : Type 1} {𝓤 : Ura M} (𝓛 : Logic 𝓤) (R : RattleType) (d : BucketView) (t : Turn) (wb wo : ℕ) (s : StandingBlock) (i k e b : ℕ) (low : i < length s.names) (at_k : k ≡ i + first R d) (at_e : e ≡ value_offset R (count_of s.at) i) (at_b : block_of s.at ≡ b) where
   open 𝓛 use {H, A}
 
   abbrev Pr : Type 2
@@ -67,30 +69,30 @@ module _ {M : Type 1} {𝓤 : Ura M} (𝓛 : Logic 𝓤) (R : RattleType) (d : W
   abbrev pub Right : Fml
   Right = right_owns d.table k
 
-  -- what a claim has is given back for its right
+  -- a claim is given up, and has its right back
   pub releases : (q : Share) (u : Option R.Denot) → A.inv (fbor t.life I) ∗ A.lft t.life q ∗ ⟦ Which ⟧ ∗ ⟦ Holds u ⟧ ⊢ H.⇛ (⟦ Right ⟧ ∗ A.lft t.life q)
   releases q u = general.moved 𝓛 R d t wb wo s i k e b low at_k at_e at_b q ⟦ Holds u ⟧ ⟦ Right ⟧ (λ v w. qed 𝓛 (‵ (Stays v) ∷ ‵ (Had v w) ∷ ‵ (Holds u) ∷ []) ∵
       use3 𝓛 (given (v ≡ u) (‵ (Stays v) ⊛ ‵ (Had v free) ⊛ ‵ Right)) (moves.releases 𝓛 R t b s.own d.table k e η v u w) $ learn ! (λ same. show ! (Left v ⟦ Right ⟧) free $ split3 ! $ done !))
 
-  -- what came before the block finds its slot empty
+  -- a claim with the pass finds its slot empty
   pub comes_in : (q : Share) → A.inv (fbor t.life I) ∗ A.lft t.life q ∗ ⟦ Which ⟧ ∗ ⟦ right_owns t.pass k ⟧ ⊢ H.⇛ (⟦ Holds None ⟧ ∗ A.lft t.life q)
   comes_in q = general.moved 𝓛 R d t wb wo s i k e b low at_k at_e at_b q ⟦ right_owns t.pass k ⟧ ⟦ Holds None ⟧ (λ v w. qed 𝓛 (‵ (Stays v) ∷ ‵ (Had v w) ∷ ‵ (right_owns t.pass k) ∷ []) ∵
       use3 𝓛 (given (v ≡ None) (‵ (Stays v) ⊛ ‵ (Had v claimed) ⊛ ‵ (Holds None))) (moves.early_claims 𝓛 R t b s.own d.table k e η v w) $ learn ! (λ none. show ! (Left v ⟦ Holds None ⟧) claimed $ split3 ! $ done !))
 
-  -- what a claim finds: whether its flag is set, and what the slot holds
+  -- what a look finds: what the slot holds, by whether the flag is set
   abbrev pub Found : Bool → Bool → Fml
   Found looked set = fex (Option R.Denot) (λ u. fsep (fact (IsTold looked set u)) (Holds u))
 
-  -- the word of the slot's chunk
+  -- the address of the word that has the slot's flag
   abbrev pub chunk_word : Ptr
   chunk_word = block_ptr b (word_at R (len R d) (count_of s.at) (i / 64))
 
-  -- a look at the flag takes what the slot holds, for the right or for the pass
+  -- what a look at the flag takes from the word it loads, for the right or for the pass
   abbrev pub Finds : Bool → ℕ → Fml
   Finds looked n = Found looked (is_set n (i % 64))
 
-  pub arrives : (q : Share) (looked : Bool) → A.inv (fbor t.life I) ∗ (A.lft t.life q ∗ (⟦ Which ⟧ ∗ ⟦ waits looked d.table t.pass k ⟧)) ⊢ asks 𝓛 chunk_word (λ n. n) always (λ n. fsep (flft t.life q) (Finds looked n))
-  arrives q looked = general.stepped 𝓛 R d t wb wo s i k e b low at_k at_e at_b q (λ n. n) (Finds looked) (waits looked d.table t.pass k) (law looked)
+  pub finds : (q : Share) (looked : Bool) → A.inv (fbor t.life I) ∗ (A.lft t.life q ∗ (⟦ Which ⟧ ∗ ⟦ waits looked d.table t.pass k ⟧)) ⊢ asks 𝓛 chunk_word (λ n. n) always (λ n. fsep (flft t.life q) (Finds looked n))
+  finds q looked = general.stepped 𝓛 R d t wb wo s i k e b low at_k at_e at_b q (λ n. n) (Finds looked) (waits looked d.table t.pass k) (law looked)
     where
       found : (l : Bool) (n : ℕ) → n < 2 ^ 64 → (v u : Option R.Denot) → is_set n (i % 64) ≡ is_some v → IsTold l (is_set n (i % 64)) u → ⟦ Stays v ⟧ ∗ ⟦ Had v claimed ⟧ ∗ ⟦ Holds u ⟧ ⊢ ex 𝓤 (Turned q (λ n. n) (Finds l) n v)
       found l n fits v u is told = qed 𝓛 (‵ (Stays v) ∷ ‵ (Had v claimed) ∷ ‵ (Holds u) ∷ []) ∵ show ! (Turned q (λ n. n) (Finds l) n v) (v, claimed) $ check ! (fits, same_bit n (i % 64) (is_some v) is) $ frame ! $ frame ! $
@@ -102,11 +104,12 @@ module _ {M : Type 1} {𝓤 : Ura M} (𝓛 : Logic 𝓤) (R : RattleType) (d : W
       law true n fits v w is = qed 𝓛 (‵ (Stays v) ∷ ‵ (Had v w) ∷ ‵ (right_owns t.pass k) ∷ []) ∵ use3 𝓛 (given (v ≡ None) (‵ (Stays v) ⊛ ‵ (Had v claimed) ⊛ ‵ (Holds None))) (moves.early_claims 𝓛 R t b s.own d.table k e η v w) $ learn ! (λ none. split3 ! $
           by ! (found true n fits v None is (is ∙ ap is_some none, (λ _. refl))))
 
-  -- the slot's flag alone in a word, as code makes it
+  -- the slot's flag alone in a word, as the code computes it
   abbrev pub flag : ℕ
   flag = 1 * 2 ^ (i % 64) % 2 ^ 64
 
-  -- an addition to the word sets the flag and publishes a value: the flag is unset, so nothing carries
+  -- the word once the flag is added, which publishes a value: the flag was unset, so nothing
+  -- carries
   abbrev pub with_flag : ℕ → ℕ
   with_flag n = (n + flag) % 2 ^ 64
 

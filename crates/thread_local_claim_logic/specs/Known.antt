@@ -1,8 +1,10 @@
--- What a claim has learnt of its slot, in the model's words.
+-- What a claim has learnt of its slot: nothing yet, that the bucket is missing, that the slot is
+-- vacant, or the value that it holds.
 use Rattle.std.specs.Prelude.{Bool, true, false, Option, None, Some, ⊤}
 use Rattle.thread_local_model.specs.Learnt.{Learnt, Unknown, Missing, Standing, Vacant, Holding}
 
--- it has looked for its bucket in vain, or it has seen its slot: each claim that a call hands out has
+-- the claim has looked: its bucket was missing, or it has seen its slot. Every claim that a call
+-- hands out has
 abbrev pub IsKnown : {V : Type 0} → Learnt V → Type 0
 IsKnown Unknown = ⊥
 IsKnown Missing = ⊤
@@ -10,7 +12,7 @@ IsKnown Standing = ⊥
 IsKnown Vacant = ⊤
 IsKnown (Holding v) = ⊤
 
--- it has not found its bucket
+-- the claim hasn't found its bucket
 abbrev pub IsUnfound : {V : Type 0} → Learnt V → Type 0
 IsUnfound Unknown = ⊤
 IsUnfound Missing = ⊤
@@ -18,7 +20,7 @@ IsUnfound Standing = ⊥
 IsUnfound Vacant = ⊥
 IsUnfound (Holding v) = ⊥
 
--- whether it has seen its slot
+-- whether the claim has seen its slot
 abbrev pub is_found : {V : Type 0} → Learnt V → Bool
 is_found Unknown = false
 is_found Missing = false
@@ -26,7 +28,7 @@ is_found Standing = false
 is_found Vacant = true
 is_found (Holding v) = true
 
--- whether it has looked for its bucket in vain
+-- whether the claim has looked for its bucket in vain
 abbrev pub in_vain : {V : Type 0} → Learnt V → Bool
 in_vain Unknown = false
 in_vain Missing = true
@@ -34,7 +36,7 @@ in_vain Standing = false
 in_vain Vacant = false
 in_vain (Holding v) = false
 
--- the value that it holds, if it does
+-- the value that the slot is known to hold, if any
 abbrev pub value_held : {V : Type 0} → Learnt V → Option V
 value_held Unknown = None
 value_held Missing = None
@@ -42,7 +44,7 @@ value_held Standing = None
 value_held Vacant = None
 value_held (Holding v) = Some v
 
--- what is learnt of a slot that holds this
+-- what a claim learns of a slot that holds this
 abbrev pub found_as : {V : Type 0} → Option V → Learnt V
 found_as None = Vacant
 found_as (Some v) = Holding v

@@ -1,2 +1,3 @@
-//! What a claim of a slot owns and shows: the definitions, the law of a claim, and its steps. It has no code that runs.
+//! What a claim of a slot owns and shows in each of its states, and the steps between them. It has
+//! no code that runs.
 #![tactic(auto)]

@@ -1,3 +1,4 @@
+-- No event gives two buckets the same number.
 use Rattle.std.proofs.Common.{◌≡◌, ℕ, ◌<◌, ◌⊎◌, Bool, true, false, cond, Option, Some, None, IsTrue, refl, ap, sym, ◌∙◌, arith, ⊎_elim, inl, inr}
 use Rattle.std.specs.Prelude.{option_map}
 use Rattle.std.proofs.lemmas.Bool.{ltb-true}
@@ -15,7 +16,8 @@ use Rattle.thread_local_core.specs.Core.{put}
 use Rattle.thread_local_core.specs.CoreFits.{NumbersFit}
 use Rattle.thread_local_core.proofs.PutLaws.{put_cases, still}
 
--- numbers stay apart where each name was there before and each bucket of a call's own was its own before
+-- the numbers fit where no pointer leads to another bucket than before, and no call owns one that
+-- it didn't
 carried : {V E : Type 0} (old new : Table V) (locals later : ℕ → Option (Local V E)) → new.made ≡ old.made → ((bucket k : ℕ) → named new bucket ≡ Some k → named old bucket ≡ Some k)
     → ((n : ℕ) (local : Local V E) (k : ℕ) → later n ≡ Some local → own_number local.doing ≡ Some k → (was : Local V E) × (locals n ≡ Some was) × (own_number was.doing ≡ Some k))
     → NumbersFit old locals → NumbersFit new later
@@ -30,7 +32,7 @@ carried old new locals later made names own h = record {
       h.own_apart m n first.0 second.0 k first.1 second.1 first.2 second.2;
 }
 
--- a Local that was just made has no bucket of its own
+-- a new Local has no bucket of its own
 pub taken-NumbersFit : {V E : Type 0} (table : Table V) (locals : ℕ → Option (Local V E)) (number id : ℕ) (view : View V) → NumbersFit table locals
     → NumbersFit table (put locals number (Some (fresh_local id view)))
 taken-NumbersFit table locals number id view h =
@@ -57,7 +59,7 @@ pub cleared-NumbersFit : {V E : Type 0} (table : Table V) (capacity : ℕ) (loca
 cleared-NumbersFit table capacity locals h =
     carried table (cleared table capacity) locals locals (made-cleared table capacity) (named_before_clear table capacity) (λ n local k at e. (local, at, e)) h
 
--- each bucket of a table as it is made has the number of its word
+-- each bucket of a new table has the number of its pointer
 named_by_digits : (T : Type 0) (b : Bool) (bucket number : ℕ) → option_map (λ here. here.number) (cond {A = Option (Bucket T)} b (Some (fresh_bucket bucket)) None) ≡ Some number
     → (b ≡ true) × (bucket ≡ number)
 named_by_digits T true bucket number e = (refl, cc)
@@ -82,10 +84,11 @@ made-NumbersFit {V} {E} capacity = record {
   own_apart = λ m n a b k at too e f. cc;
 }
 
--- A step of a Local: a word that it names anew takes the call's own bucket, and a bucket that it makes has the next number.
+-- A step of a Local: a pointer that is newly set takes the call's own bucket, and a new bucket gets
+-- the next number.
 module _ {V E : Type 0} (table : Table V) (locals : ℕ → Option (Local V E)) (number : ℕ) (local : Local V E) (after : Table V × Local V E) (at : locals number ≡ Some local)
     (go : NumbersGo table local after) (h : NumbersFit table locals) where
-  -- what a Local has as its own after the step it had before, or it is the next bucket that is made
+  -- a bucket that a Local owns after the step was its own before, or is the next one made
   own_was : (n : ℕ) (then : Local V E) (k : ℕ) → put locals number (Some after.1) n ≡ Some then → own_number then.doing ≡ Some k
       → ((was : Local V E) × (locals n ≡ Some was) × (own_number was.doing ≡ Some k)) ⊎ ((number ≡ n) × (k ≡ table.made) × (table.made < after.0.made))
   own_was n then k e own =
@@ -106,7 +109,7 @@ module _ {V E : Type 0} (table : Table V) (locals : ℕ → Option (Local V E)) 
       (λ next. omega (arith, next.1, next.2))
       (own_was n then k e own)
 
-  -- after the step the Local itself has no bucket that it just offered
+  -- after the step no Local owns a bucket that a pointer leads to
   unnamed : (n : ℕ) (then : Local V E) (k bucket : ℕ) → put locals number (Some after.1) n ≡ Some then → own_number then.doing ≡ Some k → named after.0 bucket ≡ Some k → ⊥
   unnamed n then k bucket e own name =
       ⊎_elim

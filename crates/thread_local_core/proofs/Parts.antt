@@ -1,3 +1,4 @@
+-- The parts of a core's invariant, each kept by the changes that events make.
 use Rattle.std.proofs.Common.{◌≡◌, ℕ, zero, suc, ◌^◌, ◌<◌, ◌≤◌, ◌⊎◌, Bool, true, cond, eqb, List, [], length, Option, Some, None, is_some, is_none, IsTrue, IfSome, refl, ap, sym, ◌∙◌, subst, arith, ⊎_elim, inl, inr, pow_mono}
 use Rattle.std.proofs.lemmas.Bool.{cases_eq, cases_lt, cond_both, eq-eqb, ne_eqb, ltb-true, false≢true, or_cases, or_left, and_parts}
 use Rattle.std.specs.Prelude.{option_map}
@@ -7,18 +8,18 @@ use Rattle.thread_local_model.specs.Place.{bucket_of}
 use Rattle.thread_local_model.specs.Capacity.{binary_digits, reserves_bucket, is_reserved}
 use Rattle.thread_local_model.specs.Held.{Manager, is_held, least, with_least, given_to}
 use Rattle.thread_local_model.specs.Answers.{first_view}
-use Rattle.thread_local_steps.specs.Table.{Table, empty_slot, slot_at, made_table, published, stands}
+use Rattle.thread_local_steps.specs.Table.{Table, empty_slot, slot_at, made_table, published, bucket_stands}
 use Rattle.thread_local_steps.specs.Local.{Local, fresh_local}
 use Rattle.thread_local_core.specs.SharedWalk.{SharedWalk}
 use Rattle.thread_local_core.specs.OwnerWalk.{rewritten}
 use Rattle.thread_local_core.specs.Cleared.{cleared}
 use Rattle.thread_local_steps.specs.Fits.{StepFits, with_value_if}
 use Rattle.thread_local_core.specs.WalkFits.{WalkFits}
-use Rattle.thread_local_steps.proofs.TableLaws.{published_stands, slot_at-made_table, stands-made_table, published_unset}
+use Rattle.thread_local_steps.proofs.TableLaws.{published_stands, slot_at-made_table, bucket_stands-made_table, published_unset}
 use Rattle.thread_local_steps.proofs.LocalLaws.{other_fits}
 use Rattle.thread_local_core.proofs.WalkStepLaws.{walk_carried}
-use Rattle.thread_local_core.proofs.OwnerLaws.{published-rewritten, AllWritten-rewritten, stands-rewritten}
-use Rattle.thread_local_core.proofs.ClearedLaws.{slot_at-cleared, stands-cleared}
+use Rattle.thread_local_core.proofs.OwnerLaws.{published-rewritten, AllWritten-rewritten, bucket_stands-rewritten}
+use Rattle.thread_local_core.proofs.ClearedLaws.{slot_at-cleared, bucket_stands-cleared}
 use Rattle.thread_local_core.specs.Core.{Core, made_core, shadow, put, none_below, is_alone, peak}
 use Rattle.thread_local_core.proofs.HeldCounts.{held_below}
 use Rattle.thread_local_core.proofs.PutLaws.{put_cases, put_same, put_other, still}
@@ -29,7 +30,7 @@ use Rattle.thread_local_model.proofs.PlaceLaws as place
 use Rattle.thread_local_model.proofs.CapacityLaws as reserve
 use Rattle.thread_local_model.proofs.HeldLaws as ids
 
--- the Locals once one is put in the place of another with its id
+-- the Locals after one was replaced by another with its id
 pub locals_put : {V E : Type 0} (table : Table V) (held : List Bool) (capacity : ℕ) (locals : ℕ → Option (Local V E)) (taken number : ℕ) (local : Local V E)
     → number < taken → LiveFits table held capacity local
     → ((n : ℕ) (other : Local V E) → (number ≡ n → ⊥) → locals n ≡ Some other → LiveFits table held capacity other × (local.id ≡ other.id → ⊥))
@@ -58,7 +59,7 @@ locals_put table held capacity locals taken number local l here others unshared 
   none_from = λ n above. put_other locals number (Some local) n (λ e. absurd (omega arith)) ∙ none n above;
 }
 
--- the Locals once one lives no longer
+-- the Locals after one was removed
 pub locals_removed : {V E : Type 0} (table : Table V) (held : List Bool) (capacity : ℕ) (locals : ℕ → Option (Local V E)) (taken number : ℕ)
     → ((n : ℕ) (other : Local V E) → (number ≡ n → ⊥) → locals n ≡ Some other → LiveFits table held capacity other)
     → ((m n : ℕ) (a b : Local V E) → locals m ≡ Some a → locals n ≡ Some b → a.id ≡ b.id → m ≡ n)
@@ -79,7 +80,7 @@ given-ManagerFits manager capacity id h =
     let same = ids.length-without manager.held id in
     record { peak_room = omega (arith, h.peak_room); capacity_room = h.capacity_room; peak_ids = omega (arith, h.peak_ids); capacity_ids = h.capacity_ids }
 
--- the table's part where the peak grows, or stays
+-- the table's part still fits where the peak grows
 pub peak-TableFits : {V : Type 0} (table : Table V) (capacity peak higher : ℕ) → peak ≤ higher → TableFits table capacity peak → TableFits table capacity higher
 peak-TableFits table capacity peak higher up h = record {
   written = h.written;
@@ -92,14 +93,14 @@ pub some_value : {A : Type 0} (o : Option A) → IsTrue (is_some o) → (x : A) 
 some_value None t = absurd (false≢true t)
 some_value (Some x) t = (x, refl)
 
--- a held id stays held when the least one that isn't is taken
+-- a held id is still held after the least free one is taken
 pub held_stays : (held : List Bool) (id : ℕ) → IsTrue (is_held held id) → IsTrue (is_held (with_least held) id)
 held_stays held id t = ids.is_held-with_least held id ∙ cond_both (eqb (least held) id) true (is_held held id) IsTrue (λ _. refl) (λ _. t)
 
 pub least_held : (held : List Bool) → IsTrue (is_held (with_least held) (least held))
 least_held held = ids.is_held-with_least held (least held) ∙ ap (λ b. cond b true (is_held held (least held))) (eq-eqb (least held) (least held) refl)
 
--- a Local that was just made fits
+-- a new Local fits
 pub fresh-LiveFits : {V E : Type 0} (core : Core V E) (held : List Bool) (id : ℕ) → TableFits core.table core.capacity (length core.manager.held) → IsTrue (is_held held id)
     → LiveFits core.table held core.capacity (fresh_local {E = E} id (first_view (shadow core) id))
 fresh-LiveFits core held id h t = record {
@@ -120,7 +121,7 @@ fresh-LiveFits core held id h t = record {
   known = λ reserved. or_left (is_reserved core.capacity id) (is_some (published core.table id)) reserved;
 }
 
--- what a map with a value more has at an id, it had, or the value is there
+-- a map with one more value has at an id what it had before, or that value
 pub added : {V : Type 0} (values : ℕ → Option V) (own : ℕ) (set : Option V) (id : ℕ) (v : V) → with_value_if values own set id ≡ Some v → (values id ≡ Some v) ⊎ (own ≡ id)
 added values own None id v e = inl e
 added values own (Some w) id v e =
@@ -129,7 +130,7 @@ added values own (Some w) id v e =
     (λ apart. inl (sym (ap (λ b. cond b (Some w) (values id)) (ne_eqb own id apart)) ∙ e))
     (cases_eq own id)
 
--- what a map has at an id it still has with a value more, where that comes at an id that had none
+-- a map with one more value keeps what it had, if the value is at an id that had none
 pub kept_value : {V : Type 0} (values : ℕ → Option V) (own : ℕ) (set : Option V) (id : ℕ) (v : V) → IfSome set (λ _. values own ≡ None) → values id ≡ Some v → with_value_if values own set id ≡ Some v
 kept_value values own None id v none e = e
 kept_value values own (Some w) id v none e =
@@ -192,7 +193,7 @@ stepped-fits core number local set after at s go h =
       numbers = stepped-NumbersFit core.table core.locals number local after at go h.numbers;
     }
 
--- the walks once one is put in the place of another, or a further one begins
+-- the walks after one was replaced, or one more began
 pub walks_put : {V : Type 0} (table : Table V) (walks : ℕ → Option (SharedWalk V)) (walked more number : ℕ) (it : Option (SharedWalk V)) → walked ≤ more → number < more
     → IfSome it (WalkFits table) → WalksFit table walks walked → WalksFit table (put walks number it) more
 walks_put table walks walked more number it up l here h = record {
@@ -204,7 +205,7 @@ walks_put table walks walked more number it up l here h = record {
     some_fits None x e w = cc
     some_fits (Some y) x e w = let same : y ≡ x = cc in subst (WalkFits table) same w
 
--- a walk that is under way came before
+-- a walk under way has a number already given out
 pub came_before : {V : Type 0} (table : Table V) (walks : ℕ → Option (SharedWalk V)) (walked number : ℕ) (walk : SharedWalk V) → WalksFit table walks walked → walks number ≡ Some walk → number < walked
 came_before table walks walked number walk h at = ⊎_elim (λ l. l) (λ above. let none = h.none_from number above in absurd cc) (cases_lt number walked)
 
@@ -212,7 +213,7 @@ pub is_none_none : {A : Type 0} (o : Option A) → IsTrue (is_none o) → o ≡ 
 is_none_none None t = refl
 is_none_none (Some x) t = cc
 
--- where there are none below the number of all that came, there are none
+-- a family with no member below n has none at any j below n
 pub none_at : {A : Type 0} (all : ℕ → Option A) (n j : ℕ) → IsTrue (none_below all n) → j < n → all j ≡ None
 none_at all zero j t l = absurd (omega arith)
 none_at all (suc n) j t l =
@@ -232,7 +233,7 @@ no_walks core h alone n =
     let both = and_parts (none_below core.locals core.taken) (none_below core.walks core.walked) alone in
     ⊎_elim (λ l. none_at core.walks core.walked n both.1 l) (λ above. h.walks.none_from n above) (cases_lt n core.walked)
 
--- so they fit whatever the table and the held ids are
+-- so there is no Local, and the Locals fit whatever the table and the held ids are
 no_locals-fit : {V E : Type 0} (core : Core V E) (table : Table V) (held : List Bool) → IsTrue (is_alone core) → CoreFits core → LocalsFit table held core.capacity core.locals core.taken
 no_locals-fit core table held alone h = record {
   each = λ n local at. let none = no_locals core h alone n in absurd cc;
@@ -247,16 +248,16 @@ pub mapped : {A : Type 0} (other : A → A) (o : Option A) (v : A) → option_ma
 mapped other None v e = cc
 mapped other (Some w) v e = (w, refl)
 
--- the table's part once an owner put other values in place
+-- the table's part after an owner replaced values
 pub rewritten-TableFits : {V : Type 0} (table : Table V) (others : ℕ → V → V) (capacity peak : ℕ) → TableFits table capacity peak → TableFits (rewritten table others) capacity peak
 rewritten-TableFits table others capacity peak h = record {
   written = AllWritten-rewritten table others h.written;
-  small = λ b t. h.small b (sym (stands-rewritten table others b) ∙ t);
-  reserved = λ b l. stands-rewritten table others b ∙ h.reserved b l;
+  small = λ b t. h.small b (sym (bucket_stands-rewritten table others b) ∙ t);
+  reserved = λ b l. bucket_stands-rewritten table others b ∙ h.reserved b l;
   below = λ id v e. let was = mapped (others id) (published table id) v (sym (published-rewritten table others id) ∙ e) in h.below id was.0 was.1;
 }
 
--- a bucket for each binary digit of a capacity has no more slots than that
+-- a bucket for a binary digit of a capacity has no more slots than the capacity
 pub made_small : (capacity bucket : ℕ) → bucket < binary_digits capacity → 2 ^ bucket ≤ capacity
 made_small capacity bucket l =
     ⊎_elim
@@ -268,8 +269,8 @@ made_small capacity bucket l =
     (λ none. let zero_digits : binary_digits capacity ≡ binary_digits 0 = (let e : capacity ≡ 0 = omega arith in ap binary_digits e) in absurd (omega (arith, reserve.no_digits)))
     (cases_lt 0 capacity)
 
--- the table's part once all slots are empty and just the reserved buckets stand
-empty-TableFits : {V : Type 0} (table : Table V) (capacity : ℕ) → ((id : ℕ) → slot_at table id ≡ empty_slot) → ((bucket : ℕ) → stands table bucket ≡ reserves_bucket capacity bucket)
+-- the table's part where all slots are empty and exactly the reserved buckets stand
+empty-TableFits : {V : Type 0} (table : Table V) (capacity : ℕ) → ((id : ℕ) → slot_at table id ≡ empty_slot) → ((bucket : ℕ) → bucket_stands table bucket ≡ reserves_bucket capacity bucket)
     → TableFits table capacity 0
 empty-TableFits table capacity empty standing = record {
   written = λ id t. absurd (false≢true (sym (ap (λ slot. slot.flag) (empty id)) ∙ t));
@@ -278,17 +279,17 @@ empty-TableFits table capacity empty standing = record {
   below = λ id v e. absurd (none-some v (sym (published_unset table id (ap (λ slot. slot.flag) (empty id))) ∙ e));
 }
 
--- a table as it is made
+-- a new core fits
 pub made_core-fits : {V E : Type 0} (capacity extra : ℕ) → capacity < 2 ^ 63 → CoreFits {V = V} {E = E} (made_core capacity extra)
 made_core-fits {V} {E} capacity extra l = record {
   manager = record { peak_room = omega arith; capacity_room = omega arith; peak_ids = omega arith; capacity_ids = l };
-  table = empty-TableFits (made_table capacity) capacity (slot_at-made_table capacity) (stands-made_table V capacity);
+  table = empty-TableFits (made_table capacity) capacity (slot_at-made_table capacity) (bucket_stands-made_table V capacity);
   locals = record { each = λ n local e. cc; unshared = λ m n a b e f same. cc; none_from = λ n above. refl };
   walks = record { each = λ n walk e. cc; none_from = λ n above. refl };
   numbers = made-NumbersFit capacity;
 }
 
--- a table that somebody has alone, once other values are put in place
+-- a core fits after its owner replaced values
 pub rewritten-fits : {V E : Type 0} (core : Core V E) (others : ℕ → V → V) → IsTrue (is_alone core) → CoreFits core → CoreFits (record core { table = rewritten core.table others })
 rewritten-fits core others alone h = record {
   manager = h.manager;
@@ -298,11 +299,11 @@ rewritten-fits core others alone h = record {
   numbers = rewritten-NumbersFit core.table others core.locals h.numbers;
 }
 
--- and once it is cleared
+-- a core fits after a clear
 pub cleared-fits : {V E : Type 0} (core : Core V E) → IsTrue (is_alone core) → CoreFits core → CoreFits (record core { manager = record core.manager { held = [] }; table = cleared core.table core.capacity })
 cleared-fits core alone h = record {
   manager = record { peak_room = omega arith; capacity_room = h.manager.capacity_room; peak_ids = omega arith; capacity_ids = h.manager.capacity_ids };
-  table = empty-TableFits (cleared core.table core.capacity) core.capacity (slot_at-cleared core.table core.capacity) (λ b. stands-cleared core.table core.capacity b (h.table.reserved b));
+  table = empty-TableFits (cleared core.table core.capacity) core.capacity (slot_at-cleared core.table core.capacity) (λ b. bucket_stands-cleared core.table core.capacity b (h.table.reserved b));
   locals = no_locals-fit core (cleared core.table core.capacity) [] alone h;
   walks = no_walks-fit core (cleared core.table core.capacity) alone h;
   numbers = cleared-NumbersFit core.table core.capacity core.locals h.numbers;

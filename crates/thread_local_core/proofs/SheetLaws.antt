@@ -1,3 +1,4 @@
+-- How a move changes the peak and the capacity of a sheet.
 use Rattle.std.proofs.Common.{◌≡◌, suc, ◌≤◌, max, length, Option, Some, None, refl, arith, Bool, true, false, not, ◌&&◌, cond, IsTrue, sym}
 use Rattle.thread_local_model.specs.Held.{held_count}
 use Rattle.thread_local_model.specs.Sheet.{Sheet, Move, Take, Give, Publish, Keep, Rewrite, Clear, moved_if}
@@ -5,7 +6,7 @@ use Rattle.thread_local_core.proofs.HeldCounts.{least-le-held_count, peak_after}
 use Rattle.std.proofs.lemmas.Bool.{false≢true}
 use Rattle.thread_local_model.proofs.HeldLaws as ids
 
--- a move makes the peak grow only where it is a take, and then to no more than one above the ids that were held
+-- only a take raises the peak, and to at most one above the number of ids held before
 pub moved_peak : {V : Type 0} (sheet : Sheet V) (o : Option (Move V)) → length (moved_if sheet o).held ≤ max (length sheet.held) (suc (held_count sheet.held))
 moved_peak sheet None = omega arith
 moved_peak sheet (Some Take) = omega (arith, peak_after sheet.held, least-le-held_count sheet.held)
@@ -34,7 +35,7 @@ same_capacity sheet (Some (Keep id v)) = refl
 same_capacity sheet (Some (Rewrite others)) = refl
 same_capacity sheet (Some Clear) = refl
 
--- a move that leaves the sheet leaves it whether it comes or not, and a take that isn't granted is no move
+-- a move that leaves the sheet leaves it whether it is made or not
 pub settled : {V : Type 0} (sheet : Sheet V) (b : Bool) (o : Option (Move V)) → moved_if sheet o ≡ sheet → moved_if sheet (cond b o None) ≡ sheet
 settled sheet true o e = e
 settled sheet false o e = refl

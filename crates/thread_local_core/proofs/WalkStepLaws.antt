@@ -1,3 +1,4 @@
+-- Every step of a shared walk keeps its invariant.
 use Rattle.std.proofs.Common.{◌≡◌, ℕ, suc, ◌+◌, ◌-◌, ◌^◌, ◌<◌, ◌≤◌, Bool, true, false, cond, eqb, List, [], ◌∷◌, ◌++◌, length, map, Option, Some, None, is_some, IsTrue, IfSome, refl, ap, sym, ◌∙◌, subst, arith, ⊎_elim, pow_pos, length-append}
 use Rattle.std.specs.Prelude.{nat_lt}
 use Rattle.std.proofs.lemmas.Bool.{cond_both, cases_lt, eqb-true, false≢true}
@@ -11,7 +12,7 @@ use Rattle.thread_local_model.proofs.PlaceLaws as place
 use Rattle.thread_local_model.proofs.CursorLaws as cursors
 use Rattle.thread_local_model.proofs.WalkLaws.{ascends-push, Contains-one}
 use Rattle.thread_local_steps.proofs.TableLaws.{published_stands}
-use Rattle.thread_local_steps.specs.Table.{Table, slot_of, slot_at, value_of, published, stands}
+use Rattle.thread_local_steps.specs.Table.{Table, slot_of, slot_at, value_of, published, bucket_stands}
 use Rattle.thread_local_core.specs.SharedWalk.{SharedWalk, fresh_walk, walk_load, shown_at, with_pair, walk_look, WalkStep, Load, Look, walk_step}
 use Rattle.thread_local_core.specs.WalkFits.{RecordFits, WalkFits, Loads, Looks, Adds}
 
@@ -19,7 +20,7 @@ use Rattle.thread_local_core.specs.WalkFits.{RecordFits, WalkFits, Loads, Looks,
 ascends_within : (ids : List ℕ) (m n : ℕ) → m ≤ n → IsAscendingBelow ids m → IsAscendingBelow ids n
 ascends_within ids m n h a = record { increasing = a.increasing; below = λ k l. omega (arith, a.below k l) }
 
--- a record goes on fitting where what is published stays
+-- a record still fits where published values stay
 record_carried : {V : Type 0} (old new : Table V) (first : ℕ → Option V) (given : List (ℕ × V)) (read : List ℕ) (n : ℕ)
     → ((id : ℕ) (v : V) → published old id ≡ Some v → published new id ≡ Some v)
     → RecordFits old first given read n → RecordFits new first given read n
@@ -40,7 +41,7 @@ walk_carried old new walk grows h = record {
   loads = h.loads;
 }
 
--- a cursor may go on past ids at which nothing that was seen at first is published
+-- a cursor may pass ids at which nothing seen at first is published
 passes : {V : Type 0} (table : Table V) (first : ℕ → Option V) (given : List (ℕ × V)) (read : List ℕ) (m n : ℕ) → m ≤ n
     → ((id : ℕ) (v : V) → m ≤ id → id < n → published table id ≡ Some v → ⊥)
     → RecordFits table first given read m → RecordFits table first given read n
@@ -56,7 +57,7 @@ passes table first given read m n h none r = record {
       (cases_lt id m);
 }
 
--- a slot that is read and shows nothing, and one that shows a value, which is given
+-- a slot is read: one that shows nothing, and one that shows a value, which is given
 reads : {V : Type 0} (table : Table V) (first : ℕ → Option V) (given : List (ℕ × V)) (read : List ℕ) (n : ℕ) → published table n ≡ None
     → RecordFits table first given read n → RecordFits table first given (read ++ n ∷ []) (suc n)
 reads table first given read n none r =
@@ -91,18 +92,18 @@ gives table first given read n v some r = record {
       (cases_lt id n);
 }
 
--- where the walk goes on in a bucket, or to the next, it has loaded one word more than it has passed buckets
+-- where the walk is after a load, in the same bucket or at the next, its count of loads fits
 loaded_once : (cursor : Cursor) → (at_place cursor).bucket + cond (at_place cursor).looks 1 0 ≡ suc cursor.bucket
 loaded_once cursor =
     cond_both {A = Cursor} (eqb cursor.index (2 ^ cursor.bucket)) (at_next_bucket cursor) (record cursor { looks = true }) (λ after. after.bucket + cond after.looks 1 0 ≡ suc cursor.bucket)
     (λ _. omega arith)
     (λ _. omega arith)
 
-load_counts : (cursor : Cursor) (stands : Bool) → (after_load cursor stands).bucket + cond (after_load cursor stands).looks 1 0 ≡ suc cursor.bucket
+load_counts : (cursor : Cursor) (bucket_stands : Bool) → (after_load cursor bucket_stands).bucket + cond (after_load cursor bucket_stands).looks 1 0 ≡ suc cursor.bucket
 load_counts cursor true = loaded_once cursor
 load_counts cursor false = omega arith
 
--- at the first load what is published then is kept, and no id was passed yet
+-- the first load records what is published, and no id was passed yet
 first_load-fits : {V : Type 0} (table : Table V) (walk : SharedWalk V) → WalkFits table walk
     → RecordFits table (walk_load table walk).first walk.given walk.read (cursor_id walk.cursor)
 first_load-fits {V} table walk h =
@@ -122,17 +123,17 @@ first_load-fits {V} table walk h =
     })
     (λ f. h.fits)
 
--- no id of a bucket that doesn't stand is published
-none_missing : {V : Type 0} (table : Table V) (bucket index id : ℕ) (v : V) → stands table bucket ≡ false → index ≤ 2 ^ bucket
+-- no value is published in a bucket that doesn't stand
+none_missing : {V : Type 0} (table : Table V) (bucket index id : ℕ) (v : V) → bucket_stands table bucket ≡ false → index ≤ 2 ^ bucket
     → id_at bucket index ≤ id → id < id_at (suc bucket) 0 → published table id ≡ Some v → ⊥
 none_missing table bucket index id v none i low high e =
     let some = pow_pos bucket in
     let twice = two-pow-succ bucket in
     let at : bucket ≡ bucket_of id = (place.only_place id bucket (id + 1 - 2 ^ bucket) (omega arith) (omega arith)).0 in
-    false≢true (sym none ∙ ap (stands table) at ∙ published_stands table id v e)
+    false≢true (sym none ∙ ap (bucket_stands table) at ∙ published_stands table id v e)
 
--- a load passes no id at which something is published
-load_passes : {V : Type 0} (table : Table V) (first : ℕ → Option V) (given : List (ℕ × V)) (read : List ℕ) (cursor : Cursor) (named : Bool) → stands table cursor.bucket ≡ named
+-- a load passes no id with a published value
+load_passes : {V : Type 0} (table : Table V) (first : ℕ → Option V) (given : List (ℕ × V)) (read : List ℕ) (cursor : Cursor) (named : Bool) → bucket_stands table cursor.bucket ≡ named
     → cursor.index ≤ 2 ^ cursor.bucket → RecordFits table first given read (cursor_id cursor) → RecordFits table first given read (cursor_id (after_load cursor named))
 load_passes table first given read cursor true e i r = subst (RecordFits table first given read) (sym (cursors.at_place-id cursor)) r
 load_passes table first given read cursor false e i r =
@@ -143,15 +144,15 @@ load_passes table first given read cursor false e i r =
 walk_load-fits : {V : Type 0} (table : Table V) (walk : SharedWalk V) → IsTrue (may_load walk.cursor) → walk.cursor.looks ≡ false → WalkFits table walk → WalkFits table (walk_load table walk)
 walk_load-fits table walk t e h =
     let l : walk.loads ≡ walk.cursor.bucket + length walk.given + 0 = rw e at h.loads in
-    let counted = load_counts walk.cursor (stands table walk.cursor.bucket) in
+    let counted = load_counts walk.cursor (bucket_stands table walk.cursor.bucket) in
     record {
-      fits = load_passes table (walk_load table walk).first walk.given walk.read walk.cursor (stands table walk.cursor.bucket) refl h.cursor.within (first_load-fits table walk h);
-      cursor = cursors.after_load-fits walk.cursor (stands table walk.cursor.bucket) h.cursor t;
+      fits = load_passes table (walk_load table walk).first walk.given walk.read walk.cursor (bucket_stands table walk.cursor.bucket) refl h.cursor.within (first_load-fits table walk h);
+      cursor = cursors.after_load-fits walk.cursor (bucket_stands table walk.cursor.bucket) h.cursor t;
       unloaded = λ none. absurd (omega arith);
       loads = omega arith;
     }
 
--- a walk that loads next doesn't look
+-- a walk that loads next doesn't look next
 not_looking : (cursor : Cursor) → IsTrue (may_load cursor) → cursor.looks ≡ false
 not_looking cursor = by_looks cursor.looks
   where
@@ -159,18 +160,18 @@ not_looking cursor = by_looks cursor.looks
     by_looks true t = absurd (false≢true t)
     by_looks false t = refl
 
--- what the slot at a place shows is what is published at its id
-pub shown_at_place : {V : Type 0} (table : Table V) (bucket index : ℕ) → index < 2 ^ bucket → published table (id_at bucket index) ≡ value_of (slot_of (table.words bucket) index)
+-- the slot at a place shows what is published at its id
+pub shown_at_place : {V : Type 0} (table : Table V) (bucket index : ℕ) → index < 2 ^ bucket → published table (id_at bucket index) ≡ value_of (slot_of (table.pointers bucket) index)
 unfolding published slot_at
 shown_at_place table bucket index h = let at = place.place-id_at bucket index h in rw (at.0, at.1) refl
 
--- a look reads a slot, and gives what it shows
+-- a look reads a slot and gives what it shows
 look_reads : {V : Type 0} (table : Table V) (first : ℕ → Option V) (given : List (ℕ × V)) (read : List ℕ) (id : ℕ) (shown : Option V) → published table id ≡ shown
     → RecordFits table first given read id → RecordFits table first (with_pair given id shown) (read ++ id ∷ []) (suc id)
 look_reads table first given read id None e r = reads table first given read id e r
 look_reads table first given read id (Some v) e r = gives table first given read id v e r
 
--- a look that gives a value leaves the word to be loaded once more
+-- a look that gives a value leaves the pointer to be loaded once more
 look_counts : {V : Type 0} (cursor : Cursor) (given : List (ℕ × V)) (id : ℕ) (shown : Option V)
     → (after_look cursor (is_some shown)).bucket + length (with_pair given id shown) + cond (after_look cursor (is_some shown)).looks 1 0 ≡ suc (cursor.bucket + length given)
 look_counts cursor given id None = let once = loaded_once (record cursor { index = suc cursor.index }) in omega arith
@@ -189,7 +190,7 @@ walk_look-fits table walk t h =
       loads = omega arith;
     }
 
--- every step of a walk that is enabled leaves it fitting
+-- every enabled step of a walk leaves it fitting
 pub walk_step-fits : {V : Type 0} (table : Table V) (walk : SharedWalk V) (step : WalkStep) → WalkFits table walk → IfSome (walk_step table walk step) (WalkFits table)
 unfolding walk_step
 walk_step-fits table walk Load h =

@@ -1,7 +1,9 @@
-//! The steps of a table's walks, a shared walk's and an owner's, and what each keeps; what a clear leaves of a table; and the table's core, with what is known of its parts:
-//! the manager, the table, the Locals and the walks.
+//! The core of the model: a table with its id manager, its `Local`s and its walks. Here are the
+//! laws of its parts: what each step of a walk keeps, what a clear leaves, and that a new core
+//! fits.
 //!
-//! The definitions stand in specs/. Each function here has an empty body: its contract is a set of laws.
+//! The definitions are in specs/. Each function here has an empty body: its contract is a set of
+//! laws.
 #![tactic(auto)]
 
 pub mod cleared;

@@ -1,10 +1,15 @@
+//! A new core fits.
 ghost use Rattle.std.specs.Prelude.{◌≡◌, ℕ, ◌^◌, ◌<◌};
 ghost use Rattle.thread_local_model.specs.Sheet.{Sheet, new_sheet};
 ghost use Rattle.thread_local_core.specs.Core.{Core, made_core, new_core, shadow};
 ghost use Rattle.thread_local_core.specs.CoreFits.{CoreFits};
 
-/// A core fits its parts when it is made, with any capacity below 2^63, and shows a sheet with no id and no value.
+/// A new core fits, with any capacity below 2^63, and shows a sheet with no id held and no value.
 pub fn made_cores_fit<V, E>()
-    ensures fits { (capacity extra : ℕ) → capacity < 2 ^ 63 → CoreFits {V = V} {E = E} (made_core capacity extra) }
-    ensures sheet { (capacity extra : ℕ) → shadow {V = V} {E = E} (made_core capacity extra) ≡ record new_sheet { capacity = capacity } }
+    ensures fits { (capacity extra : ℕ)
+        → capacity < 2 ^ 63
+        → CoreFits {V = V} {E = E} (made_core capacity extra) }
+    ensures sheet { (capacity extra : ℕ)
+        → shadow {V = V} {E = E} (made_core capacity extra)
+        ≡ record new_sheet { capacity = capacity } }
 {}

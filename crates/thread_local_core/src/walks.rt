@@ -1,3 +1,4 @@
+//! What each step of a shared walk keeps, and what an owner's walk gives.
 ghost use Rattle.std.specs.Prelude.{◌≡◌, ℕ, ◌-◌, ◌^◌, Some, option_map, IsTrue, IfSome};
 ghost use Rattle.thread_local_model.specs.Walk.{walk};
 ghost use Rattle.thread_local_model.specs.Cursor.{cursor_id, is_complete};
@@ -6,7 +7,7 @@ ghost use Rattle.thread_local_core.specs.SharedWalk.{SharedWalk, WalkStep, fresh
 ghost use Rattle.thread_local_core.specs.WalkFits.{WalkFits, Adds};
 ghost use Rattle.thread_local_core.specs.OwnerWalk.{owner_walk, rewritten};
 
-/// What each step of a shared walk keeps, whatever was published since.
+/// What each step of a shared walk keeps, whatever others publish in between.
 pub fn every_walk_step<V>()
     ensures begins { (table : Table V) → WalkFits table fresh_walk }
     ensures fits { (table : Table V) (walk : SharedWalk V) (step : WalkStep)
@@ -19,10 +20,13 @@ pub fn every_walk_step<V>()
         → ((id : ℕ) (v : V) → published old id ≡ Some v → published new id ≡ Some v)
         → WalkFits old walk → WalkFits new walk }
     ensures complete { (table : Table V) (walk : SharedWalk V)
-        → WalkFits table walk → IsTrue (is_complete walk.cursor) → cursor_id walk.cursor ≡ 2 ^ 63 - 1 }
+        → WalkFits table walk
+        → IsTrue (is_complete walk.cursor)
+        → cursor_id walk.cursor ≡ 2 ^ 63 - 1 }
 {}
 
-/// An owner's walk gives what is published, by ascending id, and its writes change that and nothing else.
+/// An owner's walk gives the published values by ascending id, and its writes change these values
+/// and nothing else.
 pub fn owner_walks<V>()
     ensures walk { (table : Table V) → owner_walk table ≡ walk (published table) }
     ensures rewritten { (table : Table V) (others : ℕ → V → V) (id : ℕ)

@@ -1,4 +1,5 @@
-//! A bounded pool: so many workers on a table with room for so many, where nothing is refused once the table is had.
+//! A bounded pool: n workers on a table with capacity n, none of which runs out of memory for its
+//! sum.
 ghost use Rattle.std.specs.Prelude.{◌≡◌, true};
 
 use std::cell::Cell;
@@ -6,8 +7,8 @@ use std::sync::Wait;
 use thread_local::ThreadLocal;
 use thread_local::local::Local;
 
-/// Adds to this worker's sum. In a place within the capacity it always succeeds: the contract says so, and the proof needs no case for
-/// want of memory.
+/// Adds to this worker's sum, if its slot is reserved. It always succeeds, as the contract says:
+/// `get_or` isn't refused memory there, and the proof needs no case for it.
 pub fn add<R: Wait>(sum: &mut Local<'_, Cell<u64>, R>, number: u64) -> bool
     ensures { result ≡ true }
 {
@@ -23,7 +24,8 @@ pub fn add<R: Wait>(sum: &mut Local<'_, Cell<u64>, R>, number: u64) -> bool
     }
 }
 
-/// Adds the numbers up to this one, in a place of the table. False means that the place was refused, or lies past the capacity.
+/// Adds the numbers from 1 to `numbers` to the sum of a `Local`. False means that the `Local` was
+/// refused, or that its slot isn't reserved.
 pub fn work<R: Wait>(sums: &ThreadLocal<Cell<u64>>, rt: &R, numbers: u64) -> bool {
     let Ok(mut sum) = sums.local(rt) else {
         return false;

@@ -1,4 +1,4 @@
-//! A cache: each thread finds the matcher that it made before, or makes one, which is dear.
+//! A cache: a thread finds the matcher of its id, or makes one, which is expensive.
 use std::alloc::Global;
 use std::sync::Wait;
 use std::sync::atomic::{AtomicU64, Ordering};
@@ -6,14 +6,14 @@ use thread_local::ThreadLocal;
 use thread_local::table::judge_sync;
 use thread_local::thread_id::LocalError;
 
-/// A set of bytes, compiled to a table so that a look at a byte is one step.
+/// A set of bytes, compiled to a table, so that one look tells whether a byte is in it.
 #[derive(Drop)]
 pub struct Matcher {
     is_in: [bool; 256],
 }
 
 impl Matcher {
-    /// Compiles a set, and counts that it did.
+    /// Compiles a set, and counts the compilation.
     pub fn compile(bytes: &[u8], compiled: &AtomicU64) -> Matcher {
         compiled.fetch_add(1, Ordering::Relaxed);
         let mut is_in = [false; 256];
@@ -31,13 +31,14 @@ impl Matcher {
     }
 }
 
-/// A table of matchers. Threads may share a matcher, and the call before `new` says so.
+/// A table of matchers. Threads may share a matcher: `judge_sync` shows it, as `new` asks.
 pub fn matchers(alloc: Global) -> ThreadLocal<Matcher> {
     judge_sync::<Matcher>();
     ThreadLocal::new(alloc)
 }
 
-/// How many vowels the lines have, found by this thread's matcher: one that an earlier holder of the id left does as well.
+/// How many vowels the lines have, counted by this thread's matcher, which an earlier holder of its
+/// id may have made.
 pub fn vowels<R: Wait>(
     matchers: &ThreadLocal<Matcher>,
     rt: &R,

@@ -1,4 +1,5 @@
-//! A pool of buffers: threads format lines of a text, each in a buffer that an earlier line has made large enough.
+//! A pool of buffers: threads format lines of a text, each in a buffer that earlier lines have
+//! grown.
 use std::alloc::AllocError;
 use std::sync::Wait;
 use thread_local::scratch::Pool;
@@ -16,7 +17,8 @@ fn escape(line: &str, page: &mut Vec<u8>) -> Result<(), AllocError> {
     Ok(())
 }
 
-/// How many bytes the lines have on a page. Nothing is asked of memory once the buffers of all threads are large enough.
+/// How many bytes the lines have on a page. It asks for no memory once the buffers of all threads
+/// are large enough.
 pub fn size_on_page<R: Wait>(pool: &Pool, rt: &R, lines: &[&str]) -> Result<usize, LocalError> {
     let mut bytes = 0usize;
     for line in lines {

@@ -1,4 +1,4 @@
-//! What people use a table for, one short program each, as a user writes it.
+//! What a table is for: one short program for each use, as a user writes it.
 #![tactic(auto)]
 
 pub mod bounded;

@@ -1,4 +1,5 @@
-//! A registry: each thread appends to a list of events of its own, with no lock, while a reader walks over all lists.
+//! A registry: each thread appends to a list of events of its own, with no lock, while a reader
+//! walks over all lists.
 use std::alloc::Global;
 use std::array;
 use std::sync::Wait;
@@ -8,7 +9,8 @@ use thread_local::ThreadLocal;
 use thread_local::table::judge_sync;
 use thread_local::thread_id::LocalError;
 
-/// A list to which one thread appends while others read it. It keeps the first 64 events and counts all.
+/// A list to which one thread appends while others read it. It keeps the first 64 events, and
+/// counts all.
 #[derive(Drop)]
 pub struct Events {
     count: AtomicUsize,
@@ -24,7 +26,7 @@ impl Events {
         }
     }
 
-    /// Appends an event: it is written first, and then counted, so a reader sees whole events.
+    /// Appends an event. It is written before it is counted, so a reader sees whole events.
     pub fn append(&self, event: u64) {
         let count = self.count.load(SeqCst);
         if let Some(place) = self.kept.get(count) {
@@ -43,7 +45,7 @@ impl Events {
     }
 }
 
-/// A registry of no list. Threads may share a list, and the call before `new` says so.
+/// A registry with no list. Threads may share a list: `judge_sync` shows it, as `new` asks.
 pub fn registry(alloc: Global) -> ThreadLocal<Events> {
     judge_sync::<Events>();
     ThreadLocal::new(alloc)
@@ -63,7 +65,7 @@ pub fn register<R: Wait>(
     Ok(())
 }
 
-/// The sum of what all lists have now, while threads append to them.
+/// The sum of what all lists hold now, while threads append to them.
 pub fn sum_so_far(registry: &ThreadLocal<Events>) -> u64 {
     let mut sum = 0u64;
     for list in registry.iter() {

@@ -7,7 +7,8 @@ use std::sync::atomic::Ordering::SeqCst;
 use std::test::Fail;
 use std::thread;
 use std::thread::Threads;
-use thread_local_locked_ids::{Ids, LockedIds};
+use thread_local_ids::Ids;
+use thread_local_lock::Lock;
 use thread_local_rights::HeldId;
 use thread_local_thread_id::LocalError;
 
@@ -21,17 +22,17 @@ fn take_two(ids: &mut Ids) -> Result<(HeldId, HeldId), LocalError>
     Ok((first, second))
 }
 
-/// Takes an id and gives it back so many times. Answers how often another thread had the same id at that moment, or whether there was
-/// no memory for one.
+/// Takes an id and gives it back, `times` times. Answers how often another thread had the same id
+/// at that moment, or that memory ran out.
 fn take_and_give<R: Wait>(
-    ids: &LockedIds,
+    ids: &Lock<Ids>,
     rt: &R,
     used: &[AtomicBool; 4],
     times: u64,
 ) -> Result<u64, LocalError> {
     let mut shared = 0u64;
     for _ in 0..times {
-        let held = ids.take(rt)?;
+        let held = ids.lock(rt).take()?;
         if let Some(mark) = used.get(held.id) {
             if mark.swap(true, SeqCst) {
                 shared = shared.saturating_add(1);
@@ -40,7 +41,7 @@ fn take_and_give<R: Wait>(
         } else {
             shared = shared.saturating_add(1);
         }
-        ids.give(rt, held);
+        ids.lock(rt).give(held);
     }
     Ok(shared)
 }
@@ -66,7 +67,7 @@ fn room_that_was_made_is_enough(rt: HostRuntime) -> Result<(), Fail> {
 
 #[test]
 fn threads_hold_unlike_ids(rt: HostRuntime) -> Result<(), Fail> {
-    let ids = LockedIds::new(Ids::new(rt.alloc()));
+    let ids = Lock::new(Ids::new(rt.alloc()));
     let used = [
         AtomicBool::new(false),
         AtomicBool::new(false),
@@ -85,37 +86,37 @@ fn threads_hold_unlike_ids(rt: HostRuntime) -> Result<(), Fail> {
     }
     // None of the ids is held, so the next are the first.
     for id in 0..4 {
-        assert_eq!(rt; ids.take(&rt)?.id, id);
+        assert_eq!(rt; ids.lock(&rt).take()?.id, id);
     }
     Ok(())
 }
 
 #[test]
 fn held_ids_are_swapped_moved_and_forgotten(rt: HostRuntime) -> Result<(), Fail> {
-    let ids = LockedIds::new(Ids::new(rt.alloc()));
-    let mut first = ids.take(&rt)?;
-    let mut second = ids.take(&rt)?;
-    let third = ids.take(&rt)?;
+    let ids = Lock::new(Ids::new(rt.alloc()));
+    let mut first = ids.lock(&rt).take()?;
+    let mut second = ids.lock(&rt).take()?;
+    let third = ids.lock(&rt).take()?;
     swap(&mut first, &mut second);
     assert_eq!(rt; (first.id, second.id, third.id), (1, 0, 2));
     let there = &ids;
     let (_, id) = thread::join(
         &rt,
-        || there.give(&rt, first),
+        || there.lock(&rt).give(first),
         || {
             let id = second.id;
-            there.give(&rt, second);
+            there.lock(&rt).give(second);
             id
         },
     );
     assert_eq!(rt; id, 0);
     forget(third);
-    let again = ids.take(&rt)?;
+    let again = ids.lock(&rt).take()?;
     assert_eq!(rt; again.id, 0);
-    ids.give(&rt, again);
+    ids.lock(&rt).give(again);
     // The forgotten id is held, and no other.
     for id in [0, 1, 3] {
-        assert_eq!(rt; ids.take(&rt)?.id, id);
+        assert_eq!(rt; ids.lock(&rt).take()?.id, id);
     }
     Ok(())
 }

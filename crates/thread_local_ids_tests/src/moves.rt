@@ -14,13 +14,13 @@ fn least_absent(held: &BTreeSet<usize>) -> usize {
     least
 }
 
-/// The number at a place of the set, counted from the least on and around.
-fn at_place(held: &BTreeSet<usize>, place: u64) -> Option<usize> {
+/// The n-th number of the set, counted from the least on and around.
+fn nth_of(held: &BTreeSet<usize>, n: u64) -> Option<usize> {
     let count = held.len() as u64;
     if count == 0 {
         return None;
     }
-    held.iter().nth((place % count) as usize).copied()
+    held.iter().nth((n % count) as usize).copied()
 }
 
 /// Each move draws a number, by one multiplication and one addition. Of 5000 moves three of four among the first 2500 take an id, and one
@@ -40,7 +40,7 @@ fn ten_thousand_moves_give_the_least_ids(rt: HostRuntime) -> Result<(), Fail> {
         let given = if draw % 4 < takes {
             None
         } else {
-            at_place(&held, draw / 4)
+            nth_of(&held, draw / 4)
         };
         if let Some(id) = given {
             assert!(rt; manager.is_held(id), "id {id} at move {turn}");

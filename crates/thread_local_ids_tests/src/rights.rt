@@ -7,7 +7,7 @@ use thread_local_rights::{Right, Rights};
 
 /// Where a right may stand: in a struct and in an enum.
 #[derive(Drop)]
-enum Place {
+enum Slot {
     Taken(Held),
     Vacant,
 }
@@ -33,7 +33,6 @@ fn rights_go_out_and_come_back(rt: HostRuntime) -> Result<(), Fail> {
     let mut five = rights.take(5);
     let mut seven = rights.take(7);
     five.apart(&mut seven);
-    rights.lacks(&mut five);
     mem::swap(&mut five, &mut seven);
     rights.put_back(five);
     rights.put_back(seven);
@@ -50,11 +49,11 @@ fn a_right_takes_no_bytes(rt: HostRuntime) {
 #[test]
 fn a_right_stands_in_a_struct_and_in_an_enum(rt: HostRuntime) {
     let mut rights = Rights::new();
-    let mut place = Place::Taken(hold(&mut rights, 3));
-    let before = mem::replace(&mut place, Place::Vacant);
-    if let Place::Taken(held) = before {
+    let mut slot = Slot::Taken(hold(&mut rights, 3));
+    let before = mem::replace(&mut slot, Slot::Vacant);
+    if let Slot::Taken(held) = before {
         assert_eq!(rt; held.id, 3);
         mem::forget(held);
     }
-    drop(place);
+    drop(slot);
 }

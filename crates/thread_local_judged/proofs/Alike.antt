@@ -1,4 +1,4 @@
--- The fact says one thing of a type.
+-- Any two proofs of `Judged` are equal.
 use Rattle.std.proofs.Common.{◌≡◌, inl, inr, ap, refl}
 use base.Fml.{Fml, ftrue, ffalse, feq, flt, fsep, fand, for, fwand, fex, fall, fupd, fhide, fat, froom, fleft, fdies, flft, fdead, fobs, fauth, fres, fown, fbor, fobor, flent, fshr_bor, finv, fnamed, ftok, fkid, fme, fsent}
 use base.Shift.{Keyless}
@@ -45,7 +45,7 @@ shareable_alike R h k = λ i x b o κ. keyless_alike (R.shr_at x b o κ) (h x b 
 refuted_alike : (R : RattleType) (h k : Shareable R → ⊥) → h ≡ k
 refuted_alike R h k = λ i s. let e : h s ≡ k s = absurd (h s) in e i
 
--- whether a `&` to a type's values names a thread is known in one way
+-- the two proofs decide alike, and either side has one proof at most
 pub judged_alike : (R : RattleType) (a b : Judged R) → a ≡ b
 judged_alike R (inl h) (inl k) = ap inl (shareable_alike R h k)
 judged_alike R (inl h) (inr k) = absurd (k h)

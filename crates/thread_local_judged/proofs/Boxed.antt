@@ -1,4 +1,4 @@
--- A value on the heap is judged as the value is.
+-- It is known of `Box<T>` whether a `&` names a thread, since it is known of `T`.
 use Rattle.std.proofs.Common.{inl, inr}
 use denote.RattleType.{RattleType}
 use denote.RawPtr.{block_ptr}

@@ -1,4 +1,4 @@
--- What is known of a type at every place is known of the type. `holds` is what a `&` to a value at a place holds.
+-- `JudgedEverywhere` implies `Judged`. Here `holds` is what a `&` to a value at an address holds.
 use Rattle.std.proofs.Common.{ℕ, ◌⊎◌, inl, inr}
 use base.Fml.{Lft, Fml}
 use base.Shift.{Keyless}

@@ -1,4 +1,4 @@
--- An optional value is judged as the value is.
+-- It is known of `Option<T>` whether a `&` names a thread, since it is known of `T`.
 use Rattle.std.proofs.Common.{inl, inr, ◌+◌, Some}
 use prog.Memory.{up, align}
 use denote.RattleType.{RattleType}

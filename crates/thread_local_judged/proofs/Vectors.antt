@@ -1,4 +1,4 @@
--- A vector is judged as its elements are.
+-- It is known of `Vec<T>` whether a `&` names a thread, since it is known of `T`.
 use Rattle.std.proofs.Common.{inl, inr, [], ◌∷◌, refl, arith}
 use denote.RattleType.{RattleType}
 use denote.RawPtr.{block_ptr}

@@ -1,4 +1,6 @@
--- Whether a `&` to a value means the same to every thread.
+-- Whether a `&` to a value of a type names a thread, or means the same to every thread. It names one
+-- where what it allows depends on the thread that has it, as that of a `Cell` does. `Shareable` is to
+-- proofs what `Sync` is to the compiler.
 use Rattle.std.specs.Prelude.{ℕ, ◌⊎◌}
 use base.Fml.{Lft, Fml}
 use base.Shift.{Keyless}
@@ -8,16 +10,18 @@ use denote.RattleType.{RattleType}
 abbrev pub Shareable : RattleType → Type 0
 Shareable R = (x : R.Denot) (b o : ℕ) (κ : Lft) → Keyless (R.shr_at x b o κ)
 
--- it is known whether it does
+-- it is known whether a `&` to a value of the type names a thread
 abbrev pub Judged : RattleType → Type 0
 Judged R = Shareable R ⊎ (Shareable R → ⊥)
 
--- A `&` to some value holds, for some lifetime, what names a thread. `holds` is what a `&` to a value holds.
+-- a `&` to some value, for some lifetime, holds what names a thread; `holds` is what a `&` to a
+-- value holds
 pub record NamesThread {D : Type 0} (holds : D → Lft → Fml) : Type 0 where
   pub value : D
   pub lifetime : Lft
   pub names : Keyless (holds value lifetime) → ⊥
 
--- it is known whether it does, and if it does, it does so wherever a value lies: at each place o of each block b
+-- it is known whether a `&` to a value names a thread, and if it does, at each address of a value:
+-- at each offset o of each block b
 abbrev pub JudgedEverywhere : RattleType → Type 0
 JudgedEverywhere R = Shareable R ⊎ ((b o : ℕ) → NamesThread (λ x κ. R.shr_at x b o κ))

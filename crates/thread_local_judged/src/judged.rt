@@ -1,21 +1,24 @@
-//! The fact, its laws, and who hands it out.
+//! `Judged`: it is known of a type whether a `&` to its values names a thread. Showing it does
+//! nothing at run time.
 ghost use Rattle.std.specs.Prelude.{◌≡◌};
 ghost use Rattle.thread_local_judged.specs.Judged.{Shareable, Judged, JudgedEverywhere};
 
 use std::cell::{Cell, RefCell};
 
-/// Shows the fact for a type that threads may share, and that a `&` to its values names no thread. At run time it does nothing.
+/// Shows the fact for a type that threads may share, and that a `&` to its values names no thread.
 ///
-/// At a generic `T: Sync` and at most types the check finds both without it.
+/// At a generic `T: Sync`, and at most types, the check finds both by itself.
 pub fn judge_sync<T: Sync>()
     ensures shareable { Shareable T.row }
     ensures judged { Judged T.row }
     ensures everywhere { JudgedEverywhere T.row }
 {}
 
-/// A type that shows the fact of itself: numbers and texts, cells, which threads may not share, and what holds such values.
+/// A type that shows the fact about itself: numbers and strings, cells, which threads may not
+/// share, and containers of such types.
 pub trait Judge {
-    /// Shows the fact. At run time it does nothing.
+    /// Shows the fact, and shows it for every address of a value, as containers of the type need
+    /// it.
     fn judge()
         ensures judged { Judged Self.row }
         ensures everywhere { JudgedEverywhere Self.row };
@@ -155,12 +158,12 @@ impl<T: Judge> Judge for Option<T> {
     }
 }
 
-/// Shows that no type refutes the fact, so it shuts none out. At run time it does nothing.
+/// Shows that no type refutes the fact, so that asking for it excludes none.
 pub fn never_refuted<T>()
     ensures never { (Judged T.row → ⊥) → ⊥ }
 {}
 
-/// Shows that the fact has one proof at most. At run time it does nothing.
+/// Shows that any two proofs of the fact are equal.
 pub fn judged_alike<T>()
     ensures alike { (a b : Judged T.row) → a ≡ b }
 {}

@@ -1,4 +1,5 @@
-//! Whether a `&` to a value of a type names a thread: the fact that raw types ask for which share values of every type.
+//! `Judged`: it is known of a type whether a `&` to its values names a thread. Types that share
+//! values of every type ask for it.
 #![tactic(auto)]
 
 pub mod judged;

@@ -1,5 +1,5 @@
--- A loan may cross threads as its values may.
-use Rattle.thread_local_chunks.proofs.Names.{ℕ, suc, ◌+◌, List, [], ◌∷◌, Option, Some, None, full_share, Fml, RattleType, Ptr, block_of, count_of}
+-- A loan may be sent to another thread, or shared with it, where its values may.
+use Rattle.thread_local_raw.proofs.Names.{ℕ, suc, ◌+◌, List, [], ◌∷◌, Option, Some, None, full_share, Fml, RattleType, Ptr, block_of, count_of}
 use base.Fml.{Lft, GName}
 use base.Shift.{Keyless}
 use denote.Exit.{Exit, unchanged, leaves, hidden, under}
@@ -8,7 +8,7 @@ use denote.Ref.{NamedLft}
 use denote.Struct.Owning.{shape as fields_shape, fields, to}
 use denote.Struct.Struct.{exits_of}
 use Rattle.thread_local_model.specs.Buckets.{Contents}
-use Rattle.thread_local_chunks.specs.Slots.{each, flags_at, value_in as place_of}
+use Rattle.thread_local_blocks.specs.Slots.{each, flags_at, value_offset}
 use Rattle.thread_local_loan.specs.Lent.{flagged, valued, frames, values_at, loan_owns}
 use Rattle.thread_local_loan.specs.contracts.loan.Loan as loan
 
@@ -34,7 +34,7 @@ module _ (R : RattleType) where
   module _ (s : IsSend R) where
     value_crosses : (b o : ℕ) (c : Option R.Denot) (j : ℕ) → Keyless (valued R b o c j)
     value_crosses b o None j = tt
-    value_crosses b o (Some x) j = part_keyless R s full_share x b (place_of R o j)
+    value_crosses b o (Some x) j = part_keyless R s full_share x b (value_offset R o j)
 
     values_cross : (ps : List Ptr) (rs : List (List (Option R.Denot))) → Keyless (values_at R ps rs)
     values_cross [] [] = tt
@@ -49,7 +49,7 @@ pub loan_send : (a : NamedLft) (V : RattleType) → IsSend V → IsSend (loan.th
 loan_send a V s =
     let O = loan.the_type a V in
     let all : AllSend (fields O) = (search sendable, (search sendable, tt)) in
-    owning_send O all (λ d. owned_crosses V s a.lft d.words d.name d.contents d.given) (λ k. quiet (to O) (exits_of k (fields O)) ((struct_send (fields_shape O) all).leaving k))
+    owning_send O all (λ d. owned_crosses V s a.lft d.pointers d.name d.contents d.given) (λ k. quiet (to O) (exits_of k (fields O)) ((struct_send (fields_shape O) all).leaving k))
 
 pub loan_sync : (a : NamedLft) (V : RattleType) → IsSync V → IsSync (loan.the_row a V)
 loan_sync a V s = let O = loan.the_type a V in let all : AllSync (fields O) = (search sendable, (search sendable, tt)) in let both = (struct_sync (fields_shape O) all).shared in record { shared = λ d b o κ. (both (to O d) b o κ, tt) }

@@ -1,5 +1,5 @@
--- The data fields of a loan, and where a word leads. Assumes `Logic`.
-use Rattle.thread_local_chunks.proofs.Names.{◌≡◌, ◌^◌, ◌<◌, T, true, List, [], ◌∷◌, ◌++◌, length, refl, ap, ◌∙◌, sym, subst, lit<, arith, Ura, ty_ptr, ty_struct, tcons, tnil, Val, vstruct, vcons, vnil, of_list, has_ty, WT, ent, emp, Logic, sem, RattleType, Is, Ptr, InBlock, block_ptr, null_ptr, ptr_val, count_of, Option}
+-- The data fields of a loan, and what a pointer points to. Assumes `Logic`.
+use Rattle.thread_local_raw.proofs.Names.{◌≡◌, ◌^◌, ◌<◌, T, true, List, [], ◌∷◌, ◌++◌, length, refl, ap, ◌∙◌, sym, subst, lit<, arith, Ura, ty_ptr, ty_struct, tcons, tnil, Val, vstruct, vcons, vnil, of_list, has_ty, WT, ent, emp, Logic, sem, RattleType, Is, Ptr, InBlock, block_ptr, null_ptr, ptr_val, count_of, Option}
 use Rattle.std.specs.Prelude.{nat_lt, not}
 use mir.Val.{vnull, ptr_same, ptr_eq_ok}
 use denote.RawPtr.{tests_null}
@@ -9,8 +9,8 @@ use denote.Struct.Struct.{Struct}
 use denote.Struct.Owning.{shape}
 use Rattle.std.proofs.lemmas.Bool.{lt-ltb, false≢true}
 use Rattle.std.proofs.Common.{IsSome, Some, None}
-use Rattle.thread_local_chunks.specs.Slots.{Fits}
-use Rattle.thread_local_loan.specs.Lent.{Leads}
+use Rattle.thread_local_blocks.specs.Slots.{Fits}
+use Rattle.thread_local_loan.specs.Lent.{PointsTo}
 use Rattle.thread_local_loan.specs.contracts.loan.Loan as loan
 
 abbrev pub loan_val : Ptr → Val
@@ -25,18 +25,18 @@ pointer_good (block_ptr b o) = (tt, tt)
 pointer_good null_ptr = (tt, record { fits = lit< tt })
 
 module _ (a : NamedLft) (R : RattleType) where
-  abbrev pub Words : RattleType
-  Words = Struct (shape (loan.the_type a R))
+  abbrev pub FieldsType : RattleType
+  FieldsType = Struct (shape (loan.the_type a R))
 
-  pub told : (p : Ptr) (vs : List Val) → Is Words (p, (tt, tt)) vs → vs ≡ loan_val p ∷ []
+  pub told : (p : Ptr) (vs : List Val) → Is FieldsType (p, (tt, tt)) vs → vs ≡ loan_val p ∷ []
   told p vs is = is.1.0 ∙ ap (λ (ws : List Val). vstruct (of_list (ws ++ (is.0.1.0 ++ []))) ∷ []) is.1.1.0 ∙ ap (λ (ws : List Val). vstruct (of_list (ptr_val p ∷ (ws ++ []))) ∷ []) is.1.1.1.0.1.0
 
-  pub made : {M : Type 1} {𝓤 : Ura M} (𝓛 : Logic 𝓤) (p : Ptr) → ent 𝓤 (emp 𝓤) (sem 𝓛 (Words.own_val (p, (tt, tt)) (loan_val p ∷ [])))
-  made 𝓛 p = makes_shadow 𝓛 (Words.own_val (p, (tt, tt)) (loan_val p ∷ [])) (λ vss. (tt, (tt, ((λ uss. (tt, tt)), tt)))) ((ptr_val p ∷ [], (vstruct vnil ∷ [], tt)), (refl, (refl, ((tt, (refl, tt)), tt))))
+  pub made : {M : Type 1} {𝓤 : Ura M} (𝓛 : Logic 𝓤) (p : Ptr) → ent 𝓤 (emp 𝓤) (sem 𝓛 (FieldsType.own_val (p, (tt, tt)) (loan_val p ∷ [])))
+  made 𝓛 p = makes_shadow 𝓛 (FieldsType.own_val (p, (tt, tt)) (loan_val p ∷ [])) (λ vss. (tt, (tt, ((λ uss. (tt, tt)), tt)))) ((ptr_val p ∷ [], (vstruct vnil ∷ [], tt)), (refl, (refl, ((tt, (refl, tt)), tt))))
 
--- ---- a word
+-- ---- a pointer
 module _ (R : RattleType) where
-  pub testable : (p : Ptr) (cs : List (Option R.Denot)) → Leads R p cs → T (ptr_eq_ok (ptr_val p) vnull)
+  pub testable : (p : Ptr) (cs : List (Option R.Denot)) → PointsTo R p cs → T (ptr_eq_ok (ptr_val p) vnull)
   testable p [] e = tests_null p (subst (λ (q : Ptr). count_of q < 2 ^ 63) (sym e) (lit< tt))
   testable p (c ∷ cs) at = tests_null p at.1
 
@@ -44,13 +44,13 @@ module _ (R : RattleType) where
   stands_at (block_ptr b o) i = refl
   stands_at null_ptr i = absurd i
 
-  -- a word leads to a block where it isn't null
-  pub leads : (p : Ptr) (cs : List (Option R.Denot)) → Leads R p cs → not (ptr_same (ptr_val p) vnull) ≡ nat_lt 0 (length cs)
+  -- a pointer points to a block where it isn't null
+  pub leads : (p : Ptr) (cs : List (Option R.Denot)) → PointsTo R p cs → not (ptr_same (ptr_val p) vnull) ≡ nat_lt 0 (length cs)
   leads p [] e = ap (λ (q : Ptr). not (ptr_same (ptr_val q) vnull)) e
   leads p (c ∷ cs) at = stands_at p at.0 ∙ sym (lt-ltb 0 (length (c ∷ cs)) (omega arith))
 
-  -- a word with slots leads to a block, and they fit one
-  pub leads_in : (p : Ptr) (cs : List (Option R.Denot)) → Leads R p cs → 0 < length cs → InBlock p × Fits R (length cs)
+  -- a pointer with slots points to a block, which they fit
+  pub leads_in : (p : Ptr) (cs : List (Option R.Denot)) → PointsTo R p cs → 0 < length cs → InBlock p × Fits R (length cs)
   leads_in p [] e some = absurd (omega arith)
   leads_in p (c ∷ cs) at some = (at.0, at.2)
 

@@ -1,7 +1,8 @@
--- One word among the others, and the value of one slot among those of its block and of the others. Assumes `Logic`.
-use Rattle.thread_local_chunks.proofs.Names.{◌≡◌, ℕ, zero, suc, ◌+◌, ◌*◌, ◌<◌, List, [], ◌∷◌, length, set, get_or, refl, sym, arith, Option, None, Ura, SProp, ent, sep, wand, all, all_e, apply∗, never_e, Fml, Logic, sem, ‵, raw, ◌⊛◌, ◌$◌, ◌∵◌, !, qed, move, split, frame, each as for_each, assume, use1, use2, rewrite, done, RattleType, Ptr, null_ptr, block_of, count_of}
-use Rattle.thread_local_chunks.specs.Slots.{each, slot_at}
-use Rattle.thread_local_chunks.proofs.Each.{each_at, Put}
+-- Taking one pointer, or the value of one slot, out of all of them, and putting it back. Assumes
+-- `Logic`.
+use Rattle.thread_local_raw.proofs.Names.{◌≡◌, ℕ, zero, suc, ◌+◌, ◌*◌, ◌<◌, List, [], ◌∷◌, length, set, get_or, refl, sym, arith, Option, None, Ura, SProp, ent, sep, wand, all, all_e, apply∗, never_e, Fml, Logic, sem, ‵, raw, ◌⊛◌, ◌$◌, ◌∵◌, !, qed, move, split, frame, each as for_each, assume, use1, use2, rewrite, done, RattleType, Ptr, null_ptr, block_of, count_of}
+use Rattle.thread_local_blocks.specs.Slots.{each, slot_value}
+use Rattle.thread_local_blocks.proofs.Each.{each_at, Put}
 use Rattle.thread_local_loan.specs.Lent.{valued, framed, frames, values_at}
 
 abbrev pub pointer : List Ptr → ℕ → Ptr
@@ -34,7 +35,7 @@ module _ {M : Type 1} {𝓤 : Ura M} (𝓛 : Logic 𝓤) (R : RattleType) where
   abbrev Slots : Type 0
   Slots = List (Option R.Denot)
 
-  -- ---- a word
+  -- ---- a pointer
   abbrev pub Frame : ℕ → ℕ → List Ptr → List Slots → ℕ → ℕ → Pr
   Frame b e ps rs k e' = ⟦ framed R b e' (pointer ps k) (in_row rs k) ⟧ -∗ ⟦ frames R b e ps rs ⟧
 
@@ -72,10 +73,10 @@ module _ {M : Type 1} {𝓤 : Ura M} (𝓛 : Logic 𝓤) (R : RattleType) where
     abbrev pub Value : Option R.Denot → Pr
     Value c = ⟦ F c i ⟧ -∗ ⟦ values_at R ps (set rs k (set (in_row rs k) i c)) ⟧
 
-    pub value_out : ⟦ values_at R ps rs ⟧ ⊢ ⟦ F (slot_at (in_row rs k) i) i ⟧ ∗ all 𝓤 Value
+    pub value_out : ⟦ values_at R ps rs ⟧ ⊢ ⟦ F (slot_value (in_row rs k) i) i ⟧ ∗ all 𝓤 Value
     value_out = let r : Slots = in_row rs k in let first : i ≡ i + 0 = omega arith in qed 𝓛 (‵ (values_at R ps rs) ∷ []) ∵
         use1 𝓛 (‵ (each F r 0) ⊛ raw (all 𝓤 (Block ps rs k))) (block_out ps rs k near) $ split ! $
-        use1 𝓛 (‵ (F (slot_at r i) i) ⊛ raw (all 𝓤 (Put 𝓛 F r 0 i i))) (each_at 𝓛 F r 0 i i None first inside) $ split ! $ frame ! $
+        use1 𝓛 (‵ (F (slot_value r i) i) ⊛ raw (all 𝓤 (Put 𝓛 F r 0 i i))) (each_at 𝓛 F r 0 i i None first inside) $ split ! $ frame ! $
         for_each ! Value (λ c. let r' : Slots = set r i c in use1 𝓛 (raw (Put 𝓛 F r 0 i i c)) (all_e 𝓤 (Put 𝓛 F r 0 i i) c) $ assume ! (‵ (F c i)) $
         use2 𝓛 (‵ (each F r' 0)) (apply∗ 𝓤 ⟦ F c i ⟧ ⟦ each F r' 0 ⟧) $ move ! (1 ∷ []) $ use1 𝓛 (raw (Block ps rs k r')) (all_e 𝓤 (Block ps rs k) r') $ move ! (1 ∷ 0 ∷ []) $
         use2 𝓛 (‵ (values_at R ps (set rs k r'))) (apply∗ 𝓤 ⟦ each F r' 0 ⟧ ⟦ values_at R ps (set rs k r') ⟧) $ done !)

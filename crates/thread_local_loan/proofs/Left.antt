@@ -1,5 +1,5 @@
--- What a loan has left once it gave the value of a slot.
-use Rattle.thread_local_chunks.proofs.Names.{◌≡◌, ℕ, zero, suc, ◌+◌, ◌≤◌, List, [], ◌∷◌, length, length-set, set, get_or, refl, sym, ap, ◌∙◌, subst, arith, Option, None}
+-- What a loan has left once it has given the value of a slot.
+use Rattle.thread_local_raw.proofs.Names.{◌≡◌, ℕ, zero, suc, ◌+◌, ◌≤◌, List, [], ◌∷◌, length, length-set, set, get_or, refl, sym, ap, ◌∙◌, subst, arith, Option, None}
 use Rattle.std.proofs.lemmas.List.{get_or-set_other}
 use Rattle.std.proofs.Common.{inl, inr, true, false}
 use Rattle.std.proofs.lemmas.Bool.{lt-ltb, ltb-true, true≢false}
@@ -43,7 +43,7 @@ pub whole_row : (n m : ℕ) → (n ≡ 0) ⊎ (n ≡ m) → nat_lt 0 n ≡ true 
 whole_row n m (inl e) stands = absurd (let some = ltb-true 0 n stands in omega arith)
 whole_row n m (inr e) stands = e
 
--- one that doesn't has none
+-- a bucket that doesn't stand has none
 pub no_row : {A : Type 0} (r : List A) → nat_lt 0 (length r) ≡ false → r ≡ []
 no_row [] absent = refl
 no_row (x ∷ xs) absent = absurd (true≢false (sym (lt-ltb 0 (length (x ∷ xs)) (omega arith)) ∙ absent))

@@ -1,5 +1,6 @@
--- A borrow of a table's words, as a part of what its owner has, is cut into what a loan owns. Assumes `Logic`.
-use Rattle.thread_local_chunks.proofs.Names.{◌≡◌, ℕ, ◌+◌, List, [], ◌∷◌, length, refl, sym, ap, ◌∙◌, subst, arith, Option, Ura, SProp, ent, sep, ex, guard, Lft, Share, GName, Fml, ftrue, fsep, flft, fbor, fobor, fobs, fauth, Logic, sem, ‵, raw, ◌⊛◌, some, later, ◌$◌, ◌∵◌, !, qed, by, move, keep, drop, split, split3, fsplit, fjoin, fpick, fpack, pick, check, show, use1, use2, use3, await, updating, now, rewrite, group, join, done, RattleType, Ptr, block_ptr, InBlock, full_share, mem, part_at, param, nothing, SemTy}
+-- Making a loan: the owner's borrow is split into what the loan owns and what is put aside. Assumes
+-- `Logic`.
+use Rattle.thread_local_raw.proofs.Names.{◌≡◌, ℕ, ◌+◌, List, [], ◌∷◌, length, refl, sym, ap, ◌∙◌, subst, arith, Option, Ura, SProp, ent, sep, ex, guard, Lft, Share, GName, Fml, ftrue, fsep, flft, fbor, fobor, fobs, fauth, Logic, sem, ‵, raw, ◌⊛◌, some, later, ◌$◌, ◌∵◌, !, qed, by, move, keep, drop, split, split3, fsplit, fjoin, fpick, fpack, pick, check, show, use1, use2, use3, await, updating, now, rewrite, group, join, done, RattleType, Ptr, block_ptr, InBlock, full_share, mem, part_at, param, nothing, SemTy}
 use types.SemTy.{Body}
 use base.Fml.{fseps}
 use denote.Param.Laws.{Laws}
@@ -9,14 +10,14 @@ use Rattle.std.proofs.lemmas.List.{length-map}
 use Rattle.thread_local_model.specs.Buckets.{Contents, IsTable}
 use Rattle.thread_local_model.specs.Owned.{Owned}
 use Rattle.thread_local_model.specs.Code.{owned_coded}
-use Rattle.thread_local_owner_word.specs.declared.word.Word.{Word}
-use Rattle.thread_local_words.specs.contracts.words.Words as words
+use Rattle.thread_local_bucket_pointer.specs.declared.bucket_pointer.BucketPointer.{BucketPointer}
+use Rattle.thread_local_bucket_pointers.specs.contracts.bucket_pointers.BucketPointers as all_pointers
 use Rattle.thread_local_loan.specs.Lent.{shape, IsLeft, Lending, lending, loan_owns, frames, Values, values_at, lent_as}
-use Rattle.thread_local_contents.specs.Refilled.{refilled}
-use Rattle.thread_local_loan.proofs.Opened.{open_words, close_words, Laid, Inside, view, good, remade}
+use Rattle.thread_local_owner_walk.specs.Refilled.{refilled}
+use Rattle.thread_local_loan.proofs.Opened.{open_pointers, close_pointers, Laid, Inside, view, good, remade}
 use Rattle.thread_local_loan.proofs.Refills.{refilled_same}
 use Rattle.thread_local_loan.proofs.Shapes.{row_long, long}
-use Rattle.thread_local_loan.proofs.Taking.{side, rows, pointers, refit, rows-refit, Waits, cut_words, join_words}
+use Rattle.thread_local_loan.proofs.Taking.{side, rows, pointers, refit, rows-refit, Waits, cut_pointers, join_pointers}
 
 pub table_same : {V : Type 0} (c w : Contents V) → shape w.rows ≡ shape c.rows → IsTable c → IsTable w
 table_same c w same t = record { buckets = long c.rows w.rows 0 0 same ∙ t.buckets; whole = λ bucket. subst (λ n. (n ≡ 0) ⊎ (n ≡ 2 ^ bucket)) (sym (row_long c.rows w.rows bucket 0 same)) (t.whole bucket) }
@@ -28,7 +29,7 @@ module _ {M : Type 1} {𝓤 : Ura M} (𝓛 : Logic 𝓤) (X : RattleType) (L : L
   R = param 0 X
 
   abbrev Table : RattleType
-  Table = words.the_row R
+  Table = all_pointers.the_row R
 
   abbrev code : Owned R.Denot → base.Stored.Gv
   code = (owned_coded R.coded).code
@@ -40,8 +41,8 @@ module _ {M : Type 1} {𝓤 : Ura M} (𝓛 : Logic 𝓤) (X : RattleType) (L : L
   from = omega arith
 
   module _ (a : (Inside 𝓛 X L b o).Denot) (seen : view 𝓛 X L b o a ≡ c) (so : good 𝓛 X L b o a) where
-    abbrev ws : List (Word R.Denot)
-    ws = a.words.words
+    abbrev ws : List (BucketPointer R.Denot)
+    ws = a.pointers.pointers
 
     abbrev ps : List Ptr
     ps = pointers ws
@@ -64,15 +65,15 @@ module _ {M : Type 1} {𝓤 : Ura M} (𝓛 : Logic 𝓤) (X : RattleType) (L : L
     back : (lent : Owned R.Denot) → ent 𝓤 (sep 𝓤 (sem 𝓛 (Held.own_at lent 0 0)) (sep 𝓤 (sem 𝓛 (fseps (Frames ∷ []))) Rest)) (sem 𝓛 (part_at Table full_share (refilled c lent.contents) b o))
     unfolding fseps
     back lent = let w : Contents R.Denot = lent.contents in qed 𝓛 (‵ (Held.own_at lent 0 0) ∷ ‵ (fsep Frames ftrue) ∷ (raw (Waits 𝓛 R b ws e) ⊛ raw (Laid 𝓛 X L b o a)) ∷ []) ∵ fsplit ! $ fpick ! (λ same. drop ! $ move ! (1 ∷ []) $ fsplit ! $ move ! (3 ∷ []) $ split ! $
-        -- [what waits; what is laid by; the frames; nothing; the values]
+        -- [`Waits`; `Laid`; the frames; nothing; the values]
         let same' : shape w.rows ≡ shape (rows ws) = same ∙ ap shape (sym rows_are) in let vs = refit ws w.rows in let are : rows vs ≡ w.rows = rows-refit ws w.rows same' in
         let full : refilled c w ≡ w = refilled_same c w same in let seen' : view 𝓛 X L b o (remade 𝓛 X L b o a vs) ≡ w = λ i. record { rows = are i } in
         let many : length vs ≡ 63 = sym (length-map vs (λ v. v.slots)) ∙ ap length are ∙ long c.rows w.rows 0 0 same ∙ table.buckets in
         move ! (2 ∷ []) $ rewrite ! 0 (λ (z : List (List (Option R.Denot))). ‵ (frames R b o ps z)) (sym rows_are) refl $ rewrite ! 0 (λ (n : ℕ). ‵ (frames R b n ps (rows ws))) (sym from) refl $
-        move ! (0 ∷ 4 ∷ 1 ∷ []) $ use3 𝓛 (‵ (side 𝓛 R b vs e)) (join_words 𝓛 R b ws w.rows e same') $ move ! (0 ∷ 1 ∷ []) $
-        use2 𝓛 (‵ (part_at Table full_share (refilled c w) b o)) (close_words 𝓛 X L b o a vs (refilled c w) many (seen' ∙ sym full) (subst IsTable (sym seen') (table_same c w same table))) $ keep ! (0 ∷ []) $ done !)
+        move ! (0 ∷ 4 ∷ 1 ∷ []) $ use3 𝓛 (‵ (side 𝓛 R b vs e)) (join_pointers 𝓛 R b ws w.rows e same') $ move ! (0 ∷ 1 ∷ []) $
+        use2 𝓛 (‵ (part_at Table full_share (refilled c w) b o)) (close_pointers 𝓛 X L b o a vs (refilled c w) many (seen' ∙ sym full) (subst IsTable (sym seen') (table_same c w same table))) $ keep ! (0 ∷ []) $ done !)
 
-  -- the owner, who has the words and something apart, and has each of these again once the words are whole
+  -- the owner has the pointers and something apart, and gets both back once the pointers are whole
   module _ (O : RattleType) (ob oo : ℕ) (F : Owned R.Denot → O.Denot) (Apart : SProp 𝓤)
       (shuts : (lent : Owned R.Denot) → ent 𝓤 (sep 𝓤 (sem 𝓛 (part_at Table full_share (refilled c lent.contents) b o)) Apart) (sem 𝓛 ((mem O).own_at (F lent) ob oo))) where
     module _ (a : (Inside 𝓛 X L b o).Denot) (seen : view 𝓛 X L b o a ≡ c) (so : good 𝓛 X L b o a) where
@@ -87,11 +88,12 @@ module _ {M : Type 1} {𝓤 : Ura M} (𝓛 : Logic 𝓤) (X : RattleType) (L : L
       pub lends : (u v : base.Stored.Gv) → ent 𝓤 (sep 𝓤 (A.obor κ q (Body (mem O) ob oo γ)) (sep 𝓤 (A.obs γ u) (sep 𝓤 (A.auth γ v) (sep 𝓤 (sem 𝓛 (part_at Table full_share c b o)) Apart)))) (H.⇛ (guard 𝓤 (IsTable c) (ex 𝓤 Lent)))
       unfolding fseps
       lends u v = qed 𝓛 (‵ (fobor κ q (Body (mem O) ob oo γ)) ∷ ‵ (fobs γ u) ∷ ‵ (fauth γ v) ∷ ‵ (part_at Table full_share c b o) ∷ raw Apart ∷ []) ∵ updating ! $ move ! (3 ∷ []) $
-          use1 𝓛 (some (λ (x : (a : (Inside 𝓛 X L b o).Denot) × ((view 𝓛 X L b o a ≡ c) × good 𝓛 X L b o a)). ‵ (side 𝓛 R b x.0.words.words e) ⊛ raw (Laid 𝓛 X L b o x.0))) (open_words 𝓛 X L b o c) $ pick ! (λ x. let a = x.0 in split ! $
+          use1 𝓛 (some (λ (x : (a : (Inside 𝓛 X L b o).Denot) × ((view 𝓛 X L b o a ≡ c) × good 𝓛 X L b o a)). ‵ (side 𝓛 R b x.0.pointers.pointers e) ⊛ raw (Laid 𝓛 X L b o x.0))) (open_pointers 𝓛 X L b o c) $ pick ! (λ x. let a = x.0 in split ! $
           let ps' = ps a x.1.0 x.1.1 in let is = rows_are a x.1.0 x.1.1 in let Frames' : Fml = Frames a x.1.0 x.1.1 in let Held' : SemTy = Held a x.1.0 x.1.1 in let Rest' : SProp 𝓤 = Rest a x.1.0 x.1.1 in let t : IsTable c = table a x.1.0 x.1.1 in
-          use1 𝓛 (‵ (frames R b e ps' (rows a.words.words)) ⊛ ‵ (values_at R ps' (rows a.words.words)) ⊛ raw (Waits 𝓛 R b a.words.words e)) (cut_words 𝓛 R b a.words.words e) $ split3 ! $
+          use1 𝓛 (‵ (frames R b e ps' (rows a.pointers.pointers)) ⊛ ‵ (values_at R ps' (rows a.pointers.pointers)) ⊛ raw (Waits 𝓛 R b a.pointers.pointers e)) (cut_pointers 𝓛 R b a.pointers.pointers e) $ split3 ! $
           rewrite ! 0 (λ (z : List (List (Option R.Denot))). ‵ (frames R b e ps' z)) is refl $ rewrite ! 0 (λ (n : ℕ). ‵ (frames R b n ps' c.rows)) from refl $ rewrite ! 1 (λ (z : List (List (Option R.Denot))). ‵ (values_at R ps' z)) is refl $
-          -- [the frames; the values; what waits; what is laid by; the open borrow; its name, in two parts; what is apart]
+          -- [the frames; the values; `Waits`; `Laid`; the open borrow; its name, in two parts; what
+          -- is apart]
           nothing ! $ move ! (1 ∷ 0 ∷ []) $ fjoin ! $ nothing ! $ fpack ! (shape c.rows ≡ shape c.rows) (λ _. ftrue) refl $ move ! (0 ∷ 2 ∷ []) $ fjoin ! $ move ! (2 ∷ 3 ∷ []) $ join ! $ move ! (0 ∷ 6 ∷ []) $ join ! $ move ! (3 ∷ 4 ∷ 5 ∷ 1 ∷ 2 ∷ 0 ∷ []) $ group ! 6 $
           use1 𝓛 (later (some (λ (ν : GName). ‵ (fobs ν (code (lent_as c))) ⊛ ‵ (fbor κ (Body Held' 0 0 ν)) ⊛ ‵ (flft κ q) ⊛ ‵ (after (mem O) (Values R [] []) γ ν F) ⊛ ‵ (fbor κ Frames') ⊛ ‵ ftrue)))
           (takes_beside 𝓛 (mem O) Held' F κ q ob oo 0 0 γ (Frames' ∷ []) (sep 𝓤 Rest' Apart) (owner_back a x.1.0 x.1.1) u v (lent_as c)) $ await ! tt $ pick ! (λ ν. split3 ! $ move ! (2 ∷ []) $ split3 ! $ move ! (2 ∷ []) $ split ! $

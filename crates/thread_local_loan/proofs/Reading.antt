@@ -1,17 +1,18 @@
--- The word of one chunk, out of the flags of a block. Assumes `Logic`.
-use Rattle.thread_local_chunks.proofs.Names.{◌≡◌, ℕ, ◌+◌, ◌*◌, ◌<◌, ◌≤◌, List, [], ◌∷◌, length, set, get_or, sym, refl, ap, ◌∙◌, arith, is_some, Option, Ura, SProp, ent, sep, wand, ex, all, all_e, guard, apply∗, Fml, ftrue, Logic, sem, ‵, raw, ◌⊛◌, ◌$◌, ◌∵◌, !, qed, move, drop, split, fsplit3, fjoin3, fpick, fpack, check, show, frame, assume, use1, use2, rewrite, done, RattleType, Ptr, block_of, count_of, nothing}
+-- Taking the word of one chunk out of the flags of a block, for reading. Assumes `Logic`.
+use Rattle.thread_local_raw.proofs.Names.{◌≡◌, ℕ, ◌+◌, ◌*◌, ◌<◌, ◌≤◌, List, [], ◌∷◌, length, set, get_or, sym, refl, ap, ◌∙◌, arith, is_some, Option, Ura, SProp, ent, sep, wand, ex, all, all_e, guard, apply∗, Fml, ftrue, Logic, sem, ‵, raw, ◌⊛◌, ◌$◌, ◌∵◌, !, qed, move, drop, split, fsplit3, fjoin3, fpick, fpack, check, show, frame, assume, use1, use2, rewrite, done, RattleType, Ptr, block_of, count_of, nothing}
 use Rattle.std.proofs.lemmas.List.{set-get_or}
 use Rattle.thread_local_bits.specs.Bits.{is_set}
 use Rattle.thread_local_model.specs.Place.{id_at}
 use Rattle.thread_local_model.specs.Buckets.{Contents, row}
 use Rattle.thread_local_model.specs.Rows.{value_in}
-use Rattle.thread_local_chunks.specs.Slots.{chunks, AreFlags, each, flags_at, flags_own}
-use Rattle.thread_local_chunks.proofs.Each.{Put, each_at}
-use Rattle.thread_local_chunks.proofs.Flags.{chunk_in}
-use Rattle.thread_local_chunks.proofs.Slots.{IsWordOf, word_of}
+use Rattle.thread_local_blocks.specs.Slots.{chunks, AreFlags, each, flags_at, flags_own}
+use Rattle.thread_local_blocks.proofs.Each.{Put, each_at}
+use Rattle.thread_local_blocks.proofs.Flags.{chunk_in}
+use Rattle.thread_local_blocks.proofs.Slots.{IsWordOf, word_of}
 use Rattle.thread_local_loan.specs.Lent.{flagged, IsLeft}
 
--- what a chunk's word says of the whole contents it says of those that are left, where nothing of the chunk was given
+-- where no value of a chunk was given, its word says the same of the whole contents as of those
+-- that are left
 pub says_of_left : {X : Type 0} (whole left : Contents X) (given k c word : ℕ) → IsLeft whole left given → given ≤ id_at k (c * 64) → IsWordOf (row whole k) c word
     → (bit : ℕ) → bit < 64 → is_set word bit ≡ is_some (value_in left k (c * 64 + bit))
 says_of_left whole left given k c word so ahead is bit within = is.flags bit within ∙ sym (ap is_some (so.ahead k (c * 64 + bit) (omega arith)))

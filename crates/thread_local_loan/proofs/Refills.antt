@@ -1,9 +1,9 @@
--- Contents that have a value in the same slots refill these to themselves.
-use Rattle.thread_local_chunks.proofs.Names.{◌≡◌, List, [], ◌∷◌, length, refl, ap, arith, is_some, Option, Some, None}
+-- Contents refilled from contents with a value in the same slots are the latter.
+use Rattle.thread_local_raw.proofs.Names.{◌≡◌, List, [], ◌∷◌, length, refl, ap, arith, is_some, Option, Some, None}
 use Rattle.std.proofs.lemmas.Bool.{true≢false, false≢true}
 use Rattle.thread_local_model.specs.Buckets.{Contents}
 use Rattle.thread_local_loan.specs.Lent.{shape}
-use Rattle.thread_local_contents.specs.Refilled.{refilled_slot, refilled_row, refilled_rows, refilled}
+use Rattle.thread_local_owner_walk.specs.Refilled.{refilled_slot, refilled_row, refilled_rows, refilled}
 use Rattle.thread_local_loan.proofs.Blocks.{first_of, rest_of}
 use Rattle.thread_local_loan.proofs.Shapes.{has}
 use Rattle.thread_local_loan.proofs.Taking.{first_row, rest_of_rows}

@@ -1,5 +1,5 @@
--- Which slots have a value, once a value is taken out and once it is put back.
-use Rattle.thread_local_chunks.proofs.Names.{◌≡◌, ℕ, zero, suc, ◌<◌, List, [], ◌∷◌, length, length-set, set, get_or, map, refl, sym, ap, ◌∙◌, subst, Bool, true, false, is_some, Option, Some, None}
+-- Which slots have a value, after one value is taken out and after another is put back.
+use Rattle.thread_local_raw.proofs.Names.{◌≡◌, ℕ, zero, suc, ◌<◌, List, [], ◌∷◌, length, length-set, set, get_or, map, refl, sym, ap, ◌∙◌, subst, Bool, true, false, is_some, Option, Some, None}
 use Rattle.std.proofs.lemmas.List.{set-set, set-get_or, get_or-set_same, map-set, length-map}
 use Rattle.thread_local_loan.specs.Lent.{shape}
 
@@ -21,7 +21,7 @@ slot_shape (c ∷ cs) (suc i) = slot_shape cs i
 abbrev pub has : {X : Type 0} → List (Option X) → List Bool
 has = map is_some
 
--- of rows with values in the same slots, a slot of one has a value where that of the other does
+-- in rows with values in the same slots, a slot of one has a value where the other's does
 pub slot_has : {X : Type 0} (ws cs : List (Option X)) (i : ℕ) → has ws ≡ has cs → is_some (get_or ws i None) ≡ is_some (get_or cs i None)
 slot_has ws cs i same = slot_shape ws i ∙ ap (λ z. get_or z i false) same ∙ sym (slot_shape cs i)
 
@@ -32,7 +32,7 @@ abbrev marked : List (List Bool) → ℕ → ℕ → Bool → List (List Bool)
 marked has k i y = set has k (set (get_or has k []) i y)
 
 module _ {X : Type 0} where
-  -- rows with this in the slot i of the row k
+  -- the rows with another value, or none, in slot i of row k
   abbrev pub put : Rows X → ℕ → ℕ → Option X → Rows X
   put rs k i c = set rs k (set (get_or rs k []) i c)
 
@@ -50,7 +50,7 @@ module _ {X : Type 0} where
     pub is_slot : is_some (get_or (get_or ws k []) i None) ≡ is_some (get_or (get_or rs k []) i None)
     is_slot = slot_has (get_or ws k []) (get_or rs k []) i (row_shape is_some ws k ∙ ap (λ z. get_or z k []) same ∙ sym (row_shape is_some rs k))
 
-  -- the row k, once its slot i is changed
+  -- row k, once its slot i is changed
   pub row-put : (rs : Rows X) (k i : ℕ) (c : Option X) → k < length rs → get_or (put rs k i c) k [] ≡ set (get_or rs k []) i c
   row-put rs k i c near = get_or-set_same rs k (set (get_or rs k []) i c) [] near
 
@@ -63,7 +63,7 @@ module _ {X : Type 0} where
   pub row_long_put : (rs : Rows X) (k i : ℕ) (c : Option X) → k < length rs → length (get_or (put rs k i c) k []) ≡ length (get_or rs k [])
   row_long_put rs k i c near = ap length (row-put rs k i c near) ∙ length-set (get_or rs k []) i c
 
-  -- a value taken out and another put back: values in the same slots as before
+  -- after a value is taken out and another is put back, the same slots have a value
   pub put_back : (rs ws : Rows X) (k i : ℕ) (x y : X) → k < length rs → get_or (get_or rs k []) i None ≡ Some x → shape ws ≡ shape (put rs k i None) → shape (put ws k i (Some y)) ≡ shape rs
   put_back rs ws k i x y near had same =
       let has = shape rs in let row = get_or has k [] in let near' : k < length has = subst (λ n. k < n) (sym (length-map rs (map is_some))) near in

@@ -1,5 +1,6 @@
--- What a loan of a table's words owns: for as long as the words are lent, a borrow of the words and the flags, which stay as they are, and another
--- of the values that it hasn't given. The rest of the words, as the right to free a block, waits for both to come back.
+-- What a loan of a table's pointers owns: a borrow of the pointers and flags, which don't change,
+-- and one of the values that it hasn't given. All else that the pointers own, such as the right to
+-- free a block, is put aside until both borrows end.
 use Rattle.std.specs.Prelude.{◌≡◌, ℕ, ◌+◌, ◌^◌, ◌<◌, ◌≤◌, Bool, List, [], ◌∷◌, length, map, is_some, Option, Some, None}
 use base.Fraction.{full_share}
 use base.Fml.{Lft, GName, Fml, ftrue, ffalse, fsep, fex, froom, fobs, fbor}
@@ -14,70 +15,72 @@ use Rattle.thread_local_model.specs.Buckets.{Contents, row, IsTable}
 use Rattle.thread_local_model.specs.Rows.{value_in}
 use Rattle.thread_local_model.specs.Owned.{Owned}
 use Rattle.thread_local_model.specs.Code.{owned_coded}
-use Rattle.thread_local_chunks.specs.Slots.{fact, each, flags, value_in as place_of, Fits}
+use Rattle.thread_local_blocks.specs.Slots.{each, flags, value_offset, Fits}
+use Rattle.thread_local_raw.specs.Fact.{fact}
 
 -- which slots have a value
 abbrev pub shape : {X : Type 0} → List (List (Option X)) → List (List Bool)
 shape = map (map is_some)
 
--- what a loan has left of the whole contents: all from the id `given` on
+-- what a loan has left of the whole contents: every value from the id `given` on
 pub record IsLeft {X : Type 0} (whole left : Contents X) (given : ℕ) : Type 0 where
   pub table : IsTable left
   pub rows : length whole.rows ≡ 63
   pub long : (bucket : ℕ) → length (row whole bucket) ≡ length (row left bucket)
   pub ahead : (bucket index : ℕ) → given ≤ id_at bucket index → value_in left bucket index ≡ value_in whole bucket index
 
--- what a loan's name stands for: an owner's buckets with these contents, whose reserved slots the loan doesn't have
+-- what a loan's name stands for: an owner's buckets with these contents. The loan has no reserved
+-- slots.
 abbrev pub lent_as : {X : Type 0} → Contents X → Owned X
 lent_as contents = record { contents = contents; reserved = 0 }
 
 module _ (R : RattleType) where
-  -- what there is of a slot's value
+  -- a slot's value, where it has one
   abbrev pub valued : ℕ → ℕ → Option R.Denot → ℕ → Fml
   valued b o None j = ftrue
-  valued b o (Some x) j = part_at R full_share x b (place_of R o j)
+  valued b o (Some x) j = part_at R full_share x b (value_offset R o j)
 
-  -- and the rest: the room of a slot that has none
+  -- and a slot's room, where it has none
   abbrev pub bare : ℕ → ℕ → Option R.Denot → ℕ → Fml
-  bare b o None j = froom (raw (lone R.mir)) b (place_of R o j)
+  bare b o None j = froom (raw (lone R.mir)) b (value_offset R o j)
   bare b o (Some x) j = ftrue
 
-  -- where a word leads
-  abbrev pub Leads : Ptr → List (Option R.Denot) → Type 0
-  Leads p [] = p ≡ null_ptr
-  Leads p (c ∷ cs) = InBlock p × (count_of p < 2 ^ 63) × Fits R (length (c ∷ cs))
+  -- what a pointer points to: null without slots, and else to a block that fits
+  abbrev pub PointsTo : Ptr → List (Option R.Denot) → Type 0
+  PointsTo p [] = p ≡ null_ptr
+  PointsTo p (c ∷ cs) = InBlock p × (count_of p < 2 ^ 63) × Fits R (length (c ∷ cs))
 
-  -- the flags of its block
+  -- the flags of a pointer's block
   abbrev pub flagged : Ptr → List (Option R.Denot) → Fml
   flagged p [] = ftrue
   flagged p (c ∷ cs) = flags R (block_of p) (count_of p) (c ∷ cs)
 
-  -- a word and these
+  -- a pointer in memory, and the flags of its block
   abbrev pub framed : ℕ → ℕ → Ptr → List (Option R.Denot) → Fml
-  framed b e p cs = fsep (cell b e p) (fsep (fact (Leads p cs)) (flagged p cs))
+  framed b e p cs = fsep (cell b e p) (fsep (fact (PointsTo p cs)) (flagged p cs))
 
-  -- the words side by side
+  -- the pointers in memory, one after another, with their flags
   abbrev pub frames : ℕ → ℕ → List Ptr → List (List (Option R.Denot)) → Fml
   frames b e [] [] = ftrue
   frames b e [] (r ∷ rs) = ffalse
   frames b e (p ∷ ps) [] = ffalse
   frames b e (p ∷ ps) (r ∷ rs) = fsep (framed b e p r) (frames b (e + 8) ps rs)
 
-  -- the values in their blocks
+  -- the values in the pointers' blocks
   abbrev pub values_at : List Ptr → List (List (Option R.Denot)) → Fml
   values_at [] [] = ftrue
   values_at [] (r ∷ rs) = ffalse
   values_at (p ∷ ps) [] = ffalse
   values_at (p ∷ ps) (r ∷ rs) = fsep (each (valued (block_of p) (count_of p)) r 0) (values_at ps rs)
 
-  -- the values of contents that have a value in just these slots
+  -- the values of contents that have a value in exactly these slots
   abbrev pub Values : List Ptr → List (List Bool) → SemTy
   Values ps has = record { rep = Owned R.Denot; coded = owned_coded R.coded; size = 0; own_at = λ w _ _. fsep (fact (shape w.contents.rows ≡ has)) (values_at ps w.contents.rows) }
 
   abbrev pub lent_values : Lft → List Ptr → GName → Contents R.Denot → Fml
   lent_values κ ps name left = fsep (fobs name ((owned_coded R.coded).code (lent_as left))) (fbor κ (Body (Values ps (shape left.rows)) 0 0 name))
 
-  -- where the blocks lie, and what the words had when they were lent
+  -- the addresses of the blocks, and the contents at the time of the loan
   abbrev pub Lending : Type 0
   Lending = List Ptr × Contents R.Denot
 

@@ -1,4 +1,4 @@
-//! A table's words, lent to a walk that writes.
+//! A table's pointers, lent to a walk that hands out `&mut` to the values.
 #![tactic(auto)]
 
 mod loan;

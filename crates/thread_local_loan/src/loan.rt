@@ -1,4 +1,5 @@
-//! The values of a table's words, lent one by one.
+//! A loan of a table's pointers: each value is still in the loan, or lent out by it for as long as
+//! the loan lasts.
 ghost use Rattle.std.specs.Prelude.{true, false, [], ◌^◌, ◌≡◌, ◌≤◌, ◌<◌, ◌+◌, ◌*◌, ℕ, length, None, Some, is_some, IsSome};
 ghost use base.Fml.{GName, ftrue};
 ghost use Rattle.thread_local_model.specs.Place.{id_at};
@@ -7,39 +8,42 @@ ghost use Rattle.thread_local_model.specs.Rows.{value_in, with_slot};
 ghost use Rattle.thread_local_model.specs.Code.{contents_coded};
 ghost use types.Logic.{sem};
 ghost use Rattle.thread_local_bits.specs.Bits.{is_set};
-ghost use Rattle.thread_local_chunks.specs.Slots.{word_number};
+ghost use Rattle.thread_local_blocks.specs.Slots.{word_number};
 ghost use Rattle.thread_local_loan.specs.Lent.{loan_owns};
 ghost use Rattle.thread_local_loan.specs.Given.{ends_with_item};
 
 use std::marker::{Model, PhantomData};
-use thread_local_chunks::{Chunk, flag_word};
-use thread_local_contents::Places;
+use thread_local_blocks::{Chunk, flag_word};
+use thread_local_owner_walk::FlagSource;
 use thread_local_thread_id::bucket_size;
 
-/// The words of an owner's buckets, lent to a walk that writes. It gives the values by ascending place, each at most once.
+/// The pointers of an owner's buckets, lent to a walk that writes. It gives the values by ascending
+/// place, each at most once.
 ///
-/// A contract sees what it still has. The flag of a slot whose value it gave stays set, so it answers only for chunks that lie from `given` on.
+/// Contracts see the contents that it still has. The flag of a slot stays set when its value is
+/// given, so the flags are right only for chunks that begin at `given` or later. No call takes
+/// memory.
 #[derive(Drop)]
 pub struct Loan<'a, T> {
-    /// Where the words lie.
-    pub words: *const *mut Chunk<T>,
+    /// The address of the pointers.
+    pub pointers: *const *mut Chunk<T>,
     pub marker: PhantomData<&'a mut T>,
-    /// What the owner's buckets follow.
+    /// The ghost name by which the owner's buckets learn what was written.
     pub ghost name: { GName },
-    /// What it still has.
+    /// The contents that it still has.
     pub ghost contents: { Contents T } by { contents_coded T.code },
-    /// The id after the last one whose value it gave.
+    /// The id after the last one whose value was given.
     pub ghost given: { ℕ },
 }
 
 impl<'a, T> Model for Loan<'a, T> {
-    ghost also_owns = { λ l. loan_owns 'a T.row l.words l.name l.contents l.given };
+    ghost also_owns = { λ l. loan_owns 'a T.row l.pointers l.name l.contents l.given };
 
     ghost also_shares = { λ _ _ _. ftrue };
 }
 
 impl<'a, T> Loan<'a, T> {
-    /// Whether the bucket stands. It takes no memory.
+    /// Whether the bucket stands.
     #[inline]
     pub fn stands(&mut self, bucket: usize) -> bool
         requires { bucket < 63 }
@@ -49,24 +53,26 @@ impl<'a, T> Loan<'a, T> {
         ensures absent { result ≡ false → row self.old.contents bucket ≡ [] }
         ensures table { IsTable self.old.contents }
     {
-        let block = unsafe { *self.words.add(bucket) };
+        let block = unsafe { *self.pointers.add(bucket) };
         !block.is_null()
     }
 
-    /// The flags of the slots of a chunk, of which the walk has given none yet. It takes no memory.
+    /// The flags of a chunk's slots, of which no value has been given yet.
     #[inline]
     pub fn flags(&mut self, bucket: usize, chunk: usize) -> u64
         requires in_table { bucket < 63 }
         requires in_bucket { chunk * 64 < length (row self.old.contents bucket) }
         requires ahead { self.old.given ≤ id_at bucket (chunk * 64) }
         ensures same { self.new ≡ self.old }
-        ensures value { (bit : ℕ) → bit < 64 → is_set result bit ≡ is_some (value_in self.old.contents bucket (chunk * 64 + bit)) }
+        ensures value { (bit : ℕ)
+            → bit < 64
+            → is_set result bit ≡ is_some (value_in self.old.contents bucket (chunk * 64 + bit)) }
         ensures table { IsTable self.old.contents }
     {
         self.word_at(bucket, chunk, flag_word::<T>(bucket_size(bucket), chunk))
     }
 
-    /// The same, where the number of their word is known.
+    /// The same, by the number of the chunk's word.
     #[inline]
     fn word_at(&mut self, bucket: usize, chunk: usize, word: usize) -> u64
         requires in_table { bucket < 63 }
@@ -74,17 +80,19 @@ impl<'a, T> Loan<'a, T> {
         requires ahead { self.old.given ≤ id_at bucket (chunk * 64) }
         requires word { word ≡ word_number T.row (2 ^ bucket) chunk }
         ensures same { self.new ≡ self.old }
-        ensures value { (bit : ℕ) → bit < 64 → is_set result bit ≡ is_some (value_in self.old.contents bucket (chunk * 64 + bit)) }
+        ensures value { (bit : ℕ)
+            → bit < 64
+            → is_set result bit ≡ is_some (value_in self.old.contents bucket (chunk * 64 + bit)) }
         ensures table { IsTable self.old.contents }
     {
         let _ = chunk;
         unsafe {
-            let block = *self.words.add(bucket);
+            let block = *self.pointers.add(bucket);
             *(block as *const u64).add(word)
         }
     }
 
-    /// Gives the value of a slot for as long as the words are lent. It takes no memory.
+    /// Gives the value of a slot for as long as the pointers are lent.
     #[inline]
     pub fn give(&mut self, bucket: usize, index: usize) -> &'a mut T
         requires in_table { bucket < 63 }
@@ -97,13 +105,13 @@ impl<'a, T> Loan<'a, T> {
         ensures given { self.new.given ≡ id_at bucket index + 1 }
     {
         unsafe {
-            let block = *self.words.add(bucket);
+            let block = *self.pointers.add(bucket);
             &mut *(block as *mut T).add(index)
         }
     }
 }
 
-impl<T> Places for Loan<'_, T> {
+impl<T> FlagSource for Loan<'_, T> {
     type Value = T;
 
     ghost contents = { λ loan. loan.contents };

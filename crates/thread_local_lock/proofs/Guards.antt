@@ -22,7 +22,7 @@ use denote.Shares.{Shares, settles}
 use denote.Steps.{nothing}
 use denote.Struct.Lending.{Lends, Lends-false}
 use Rattle.std.proofs.cell.BorrowLemmas.{by_one, unnest_before}
-use Rattle.thread_local_lock.specs.Locking.{offset, Sharing, named_value, kept, guarding, guard_owns, guard_shares}
+use Rattle.thread_local_lock.specs.Locking.{offset, Sharing, named_value, lock_kept, guarding, guard_owns, guard_shares}
 
 pub guard_laws : (β : Lft) (R : RattleType) → RowLaws R → (p : Ptr) (x : R.Denot) → ShrLaws (guard_shares β R p x)
 guard_laws β R L (block_ptr b o) x = within_shr_laws β (shared_of R x b (o + offset R)) (L x b (o + offset R))
@@ -45,7 +45,7 @@ module _ {M : Type 1} {𝓤 : Ura M} (𝓛 : Logic 𝓤) where
 
   infix 26 ◌⊢◌
   infixr 35 ◌∗◌
-  -- a guard's lock lies somewhere
+  -- a guard's pointer to its lock isn't null
   pub placed : (β : Lft) (R : RattleType) (ok : R.Denot → Type 0) (p : Ptr) (x : R.Denot) → ⟦ guard_owns β R ok p x ⟧ ⊢ fact 𝓤 (InBlock p)
   placed β R ok (block_ptr b o) x = fact_i 𝓤 (InBlock (block_ptr b o)) _ tt
   placed β R ok null_ptr x = never_e 𝓤 _
@@ -67,9 +67,9 @@ module _ {M : Type 1} {𝓤 : Ura M} (𝓛 : Logic 𝓤) where
     abbrev Ob : Sharing → Fml
     Ob t = fobs t.1 (R.coded.code x)
 
-    again : (ν : Lft) (t : Sharing) → ⟦ kept R ok b o t β ⟧ ⊢ ⟦ fwand (fsep (fdead ν) (fseps (Ob t ∷ fbor t.0 (Named t) ∷ []))) (fupd P) ⟧
+    again : (ν : Lft) (t : Sharing) → ⟦ lock_kept R ok b o t β ⟧ ⊢ ⟦ fwand (fsep (fdead ν) (fseps (Ob t ∷ fbor t.0 (Named t) ∷ []))) (fupd P) ⟧
     unfolding fseps
-    again ν t = qed 𝓛 (‵ (kept R ok b o t β) ∷ []) ∵ assume ! (‵ (fsep (fdead ν) (fsep (Ob t) (fsep (fbor t.0 (Named t)) ftrue)))) $ suffices ! ⟦ P ⟧ (upd_i 𝓤 ⟦ P ⟧) $
+    again ν t = qed 𝓛 (‵ (lock_kept R ok b o t β) ∷ []) ∵ assume ! (‵ (fsep (fdead ν) (fsep (Ob t) (fsep (fbor t.0 (Named t)) ftrue)))) $ suffices ! ⟦ P ⟧ (upd_i 𝓤 ⟦ P ⟧) $
         fsplit ! $ drop ! $ fsplit ! $ move ! (1 ∷ []) $ fsplit ! $ move ! (2 ∷ 0 ∷ []) $ fjoin ! $ move ! (2 ∷ 0 ∷ []) $ fjoin ! $ fpack ! Sharing (λ s. guarding R ok b o s β x) t $ keep ! (0 ∷ []) $ done !
 
     lends_at : (ν : Lft) → Incl ν β → (q : Share) → A.bor ν P ∗ A.lft ν q ⊢ H.⇛ (A.bor ν (At x) ∗ A.lft ν q)
@@ -86,7 +86,7 @@ module _ {M : Type 1} {𝓤 : Ura M} (𝓛 : Logic 𝓤) where
         use3 𝓛 (later (‵ (Ob t) ⊛ ‵ (fbor ν (At x)) ⊛ ‵ (flft ν (Share.right q)))) (settles 𝓛 (mem R) ν ((ν, Share.right q) ∷ []) (Incl-refl ν) t.1 x b (o + offset R)) $ await ! tt $ split3 ! $
         move ! (3 ∷ 0 ∷ []) $ obor_close ! tt $ drop ! $ move ! (0 ∷ 2 ∷ []) $ use2 𝓛 (‵ (flft ν q)) (𝓛.lfts.lft_join ν q) $ now ! $ move ! (1 ∷ 0 ∷ []) $ done !)
 
-  -- a `&` to a guard is a `&` to its value
+  -- a borrow of a guard becomes a `&` to its value
   pub lends_guard : (β : Lft) (R : RattleType) (ok : R.Denot → Type 0) (l : Lft) → Incl l β → Shares 𝓛 R l → (p : Ptr) (x : R.Denot) → Lends 𝓛 (guard_owns β R ok p x) (guard_shares β R p x) l
   lends_guard β R ok l le s null_ptr x = Lends-false 𝓛 (guard_shares β R null_ptr x) l
   lends_guard β R ok l le s (block_ptr b o) x = λ κ ts inc sp. let ν : Lft = κ ++ β in let P : Fml = guard_owns β R ok (block_ptr b o) x in let Seen : Fml = part_at R full_share x b (o + offset R) in

@@ -1,4 +1,5 @@
--- A `&mut` to a guard is a `&mut` to its value, after which the guard has what is there. Assumes `Logic`.
+-- A `&mut` to a guard becomes one to its value; once that ends, the guard has the value that was
+-- written. Assumes `Logic`.
 use Rattle.std.proofs.Common.{◌≡◌, ℕ, ◌+◌, [], ◌∷◌, sym, refl, ap}
 use seplogic.Ra.Ura.{Ura}
 use base.Fraction.{full_share}
@@ -16,9 +17,9 @@ use denote.Struct.OwningLaws.{part_out, part_in}
 use Rattle.std.proofs.cell.Through.{Handed, hands_before}
 use Rattle.thread_local_lock.specs.declared.lock.Fits.{Ghosts}
 use Rattle.thread_local_lock.specs.Guarded.{guard_with_value}
-use Rattle.thread_local_lock.specs.Locking.{Fitting, offset, Sharing, named_value, invariant, guarding, guard_owns}
+use Rattle.thread_local_lock.specs.Locking.{Fitting, offset, Sharing, named_value, lock_invariant, guarding, guard_owns}
 use Rattle.thread_local_lock.specs.contracts.lock.LockGuard as guard
-use Rattle.thread_local_lock.proofs.Fields.{Words}
+use Rattle.thread_local_lock.proofs.Fields.{FieldsType}
 
 module _ {M : Type 1} {𝓤 : Ura M} (𝓛 : Logic 𝓤) (a : NamedLft) (R : RattleType) (g : Ghosts R.Denot) (d : (guard.the_row a R g).Denot) (b o c e : ℕ) (at : d.lock ≡ block_ptr c e) where
   open 𝓛 use {H, A}
@@ -33,7 +34,7 @@ module _ {M : Type 1} {𝓤 : Ura M} (𝓛 : Logic 𝓤) (a : NamedLft) (R : Rat
   ok = Fitting g.tag g.fits d.tag
 
   abbrev pub Data : Fml
-  Data = part_at (Words a R g) full_share (d.lock, (tt, tt)) b o
+  Data = part_at (FieldsType a R g) full_share (d.lock, (tt, tt)) b o
 
   abbrev pub Had : Ptr → R.Denot → Fml
   Had p w = guard_owns a.lft R ok p w
@@ -41,15 +42,15 @@ module _ {M : Type 1} {𝓤 : Ura M} (𝓛 : Logic 𝓤) (a : NamedLft) (R : Rat
   abbrev Whole : R.Denot → Fml
   Whole w = part_at G full_share (F w) b o
 
-  -- what stays while the value is lent
+  -- what the guard keeps while the value is lent
   abbrev Rest : Sharing → SProp 𝓤
-  Rest t = sep 𝓤 (sem 𝓛 (finv (fbor t.0 (invariant R ok c e t)))) (sem 𝓛 Data)
+  Rest t = sep 𝓤 (sem 𝓛 (finv (fbor t.0 (lock_invariant R ok c e t)))) (sem 𝓛 Data)
 
   abbrev Cut : R.Denot → Sharing → SProp 𝓤
   Cut w t = sep 𝓤 (sem 𝓛 (before a.lft t.0)) (sep 𝓤 (A.obs t.1 (R.coded.code w)) (sep 𝓤 (A.bor t.0 (Body (mem R) c (e + offset R) t.1)) (Rest t)))
 
   back : (t : Sharing) (w : R.Denot) → ent 𝓤 (Cut w t) (sem 𝓛 (Whole w))
-  back t w = qed 𝓛 (‵ (before a.lft t.0) ∷ ‵ (fobs t.1 (R.coded.code w)) ∷ ‵ (fbor t.0 (named_value R ok c e t)) ∷ (‵ (finv (fbor t.0 (invariant R ok c e t))) ⊛ ‵ Data) ∷ []) ∵ move ! (3 ∷ []) $ split ! $ move ! (2 ∷ 0 ∷ []) $ fjoin ! $ move ! (2 ∷ 3 ∷ []) $ fjoin ! $ move ! (1 ∷ 0 ∷ []) $ fjoin ! $
+  back t w = qed 𝓛 (‵ (before a.lft t.0) ∷ ‵ (fobs t.1 (R.coded.code w)) ∷ ‵ (fbor t.0 (named_value R ok c e t)) ∷ (‵ (finv (fbor t.0 (lock_invariant R ok c e t))) ⊛ ‵ Data) ∷ []) ∵ move ! (3 ∷ []) $ split ! $ move ! (2 ∷ 0 ∷ []) $ fjoin ! $ move ! (2 ∷ 3 ∷ []) $ fjoin ! $ move ! (1 ∷ 0 ∷ []) $ fjoin ! $
       fpack ! Sharing (λ s. guarding R ok c e s a.lft w) t $ rewrite ! 0 (λ (p : Ptr). ‵ (Had p w)) (sym at) refl $ move ! (1 ∷ 0 ∷ []) $ by ! (part_in 𝓛 (guard.the_type a R g) full_share (F w) b o)
 
   cut : ent 𝓤 (sem 𝓛 (part_at G full_share d b o)) (ex 𝓤 (Cut d.value))

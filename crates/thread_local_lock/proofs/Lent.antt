@@ -1,4 +1,5 @@
--- A borrow of a lock, whatever its word holds, is cut into what a `&` to it shares. Assumes `Logic`.
+-- Turns a borrow of a lock, whatever its word is, into what a `&` to the lock shares. Assumes
+-- `Logic`.
 use Rattle.std.proofs.Common.{◌≡◌, ℕ, zero, suc, ◌+◌, List, [], ◌∷◌, subst, refl}
 use seplogic.Ra.Ura.{Ura}
 use mir.Val.{Val}
@@ -27,7 +28,8 @@ use denote.Written.{Laid}
 use denote.Written.Laws.{Laid-in}
 use Rattle.std.specs.Sync.RawAtomic.{word}
 use Rattle.std.proofs.cell.BorrowLemmas.{flag}
-use Rattle.thread_local_lock.specs.Locking.{LockView, Fitting, fact, offset, Sharing, named_value, fitting, with_word, invariant, kept, guarding, lock_shares, guard_owns}
+use Rattle.thread_local_lock.specs.Locking.{LockView, Fitting, offset, Sharing, named_value, fitting, with_word, lock_invariant, lock_kept, guarding, lock_shares, guard_owns}
+use Rattle.thread_local_raw.specs.Fact.{fact}
 use Rattle.thread_local_lock.specs.declared.lock.Fits.{Ghosts}
 use Rattle.thread_local_lock.specs.contracts.lock.Lock as C
 use Rattle.thread_local_lock.proofs.Words.{word_out, word_in}
@@ -100,7 +102,7 @@ module _ {M : Type 1} {𝓤 : Ura M} (𝓛 : Logic 𝓤) (m : Member) (g : Ghost
     abbrev Named : Fml
     Named = named_value R ok b o t
 
-    -- what γ says of the value beside the word, before the value is lent
+    -- what lies beside the word 0 before the value is lent: the value under the name γ fits
     abbrev says : R.Denot → Fml
     says x = fsep (fact (ok x)) (fobs γ (R.coded.code x))
 
@@ -112,15 +114,15 @@ module _ {M : Type 1} {𝓤 : Ura M} (𝓛 : Logic 𝓤) (m : Member) (g : Ghost
     Word = fex ℕ (λ n. fsep (word b (o + 0) n) (told n))
 
     abbrev I : Fml
-    I = invariant R ok b o t
+    I = lock_invariant R ok b o t
 
-    -- the value that is back fits, if the word says that the lock is free
+    -- the value that came back fits, if the word says that the lock is free
     agreed : (n : ℕ) (y : R.Denot) → ⟦ told n ⟧ ∗ ⟦ fauth γ (R.coded.code y) ⟧ ⊢ ⟦ fact (Rest (n, y)) ⟧
     agreed zero y = qed 𝓛 (‵ (told zero) ∷ ‵ (fauth γ (R.coded.code y)) ∷ []) ∵ fpick ! (λ x. fsplit ! $ fpick ! (λ fit. drop ! $ name_agree ! R.coded (λ same.
         keep ! [] $ nothing ! $ fpack ! (Rest (0, y)) (λ _. ftrue) (λ _. subst ok same fit) $ done !)))
     agreed (suc n) y = qed 𝓛 (‵ (told (suc n)) ∷ ‵ (fauth γ (R.coded.code y)) ∷ []) ∵ keep ! [] $ nothing ! $ fpack ! (Rest (suc n, y)) (λ _. ftrue) (λ free. cc) $ done !
 
-    -- the fields are whole again
+    -- the lock's fields are put together again
     again : (n : ℕ) (x : R.Denot) → ⟦ told n ⟧ ∗ ⟦ word b (o + 0) n ⟧ ∗ ⟦ At x ⟧ ∗ ⟦ fauth γ (R.coded.code x) ⟧ ∗ Back ⊢ ⟦ Fields (n, x) ⟧ ∗ ⟦ fact (Rest (n, x)) ⟧
     again n x = qed 𝓛 (‵ (told n) ∷ ‵ (word b (o + 0) n) ∷ ‵ (At x) ∷ ‵ (fauth γ (R.coded.code x)) ∷ raw Back ∷ []) ∵ move ! (0 ∷ 3 ∷ []) $ use2 𝓛 (‵ (fact (Rest (n, x)))) (agreed n x) $
         move ! (1 ∷ []) $ use1 𝓛 (‵ (wd n)) (word_in 𝓛 b (o + 0) n) $ nothing ! $ move ! (1 ∷ 3 ∷ 0 ∷ []) $ fjoin3 ! $ move ! (2 ∷ []) $
@@ -132,7 +134,7 @@ module _ {M : Type 1} {𝓤 : Ura M} (𝓛 : Logic 𝓤) (m : Member) (g : Ghost
     way_back = qed 𝓛 (raw Back ∷ []) ∵ assume ! (‵ (fsep (fdead κ) (fseps (Word ∷ Named ∷ [])))) $ suffices ! ⟦ P ⟧ (upd_i 𝓤 ⟦ P ⟧) $
         fsplit ! $ drop ! $ fsplit3 ! $ fpick ! (λ n. fsplit ! $ move ! (2 ∷ []) $ fpick ! (λ x. fsplit ! $ keep ! (3 ∷ 2 ∷ 0 ∷ 1 ∷ 5 ∷ []) $ group ! 5 $ use1 𝓛 (‵ (Fields (n, x)) ⊛ ‵ (fact (Rest (n, x)))) (again n x) $ split ! $ by ! (whole (n, x))))
 
-    -- what γ says is told by the value of an owner, and is all that is left when the right to the value has ended
+    -- a sharing begins with an owner's value: if the word is 0, the value under the name γ fits
     begins : (n : ℕ) (x : R.Denot) → ⟦ fact (Rest (n, x)) ⟧ ∗ ⟦ fobs γ (R.coded.code x) ⟧ ⊢ ⟦ told n ⟧
     begins zero x = qed 𝓛 (‵ (fact (Rest (0, x))) ∷ ‵ (fobs γ (R.coded.code x)) ∷ []) ∵ fpick ! (λ fit. drop ! $ nothing ! $ fpack ! (ok x) (λ _. ftrue) (fit refl) $ fjoin ! $ fpack ! R.Denot says x $ done !)
     begins (suc n) x = qed 𝓛 (‵ (fact (Rest (suc n, x))) ∷ ‵ (fobs γ (R.coded.code x)) ∷ []) ∵ keep ! [] $ done !
@@ -155,7 +157,8 @@ module _ {M : Type 1} {𝓤 : Ura M} (𝓛 : Logic 𝓤) (m : Member) (g : Ghost
   cut q = qed 𝓛 (‵ (fbor κ P) ∷ ‵ (flft κ q) ∷ []) ∵ updating ! $ bor_open ! tt $ move ! (1 ∷ []) $ use1 𝓛 (some (λ (s : ℕ × R.Denot). ‵ (Fields s) ⊛ ‵ (fact (Rest s)))) apart $ pick ! (λ s. split ! $
       use1 𝓛 ((‵ (wd s.0) ⊛ ‵ (At s.1) ⊛ ‵ ftrue) ⊛ raw (PartsBack 𝓛 full_share [] ks b o)) (Struct-parts 𝓛 full_share [] ks (u64-laws.lawful 𝓛, (L, tt)) (s.0, (s.1, tt)) b o) $ split ! $ split3 ! $
       use1 𝓛 (‵ (word b (o + 0) s.0)) (word_out 𝓛 b (o + 0) s.0) $ name_new ! tt (R.coded.code s.1) (λ γ.
-      -- [the name, in two halves; the word; the value; nothing; the way back; the fact; the open borrow]
+      -- [the name, in two halves; the word; the value; nothing; the way back; the fact; the open
+      -- borrow]
       move ! (6 ∷ 0 ∷ []) $ use2 𝓛 (‵ (told γ s.0)) (begins γ s.0 s.1) $ move ! (2 ∷ 0 ∷ []) $ fjoin ! $ fpack ! ℕ (λ w. fsep (word b (o + 0) w) (told γ w)) s.0 $
       move ! (2 ∷ 1 ∷ []) $ fjoin ! $ fpack ! R.Denot (λ y. fsep (At y) (fauth γ (R.coded.code y))) s.1 $ move ! (1 ∷ 0 ∷ 2 ∷ []) $ fjoin3 ! $ move ! (1 ∷ []) $
       use1 𝓛 (‵ (fwand (fsep (fdead κ) (fseps (Word γ ∷ Named γ ∷ []))) (fupd P))) (way_back γ) $ move ! (2 ∷ 1 ∷ 0 ∷ []) $ obor_alter ! tt (Word γ ∷ Named γ ∷ []) $
@@ -163,7 +166,7 @@ module _ {M : Type 1} {𝓤 : Ura M} (𝓛 : Logic 𝓤) (m : Member) (g : Ghost
       move ! (1 ∷ 3 ∷ []) $ use2 𝓛 (‵ (with_word R ok b o (t γ) n)) (lends γ n) $ move ! (1 ∷ 0 ∷ []) $ fjoin ! $ fpack ! ℕ (λ w. fsep (word b (o + 0) w) (with_word R ok b o (t γ) w)) n $
       nothing ! $ move ! (1 ∷ 0 ∷ []) $ fjoin ! $ use0 𝓛 (‵ (fwand (fsep (fdead κ) (fseps (I γ ∷ []))) (fupd (Word γ)))) (word_back γ) $ move ! (2 ∷ 1 ∷ 0 ∷ []) $ obor_alter ! tt (I γ ∷ []) $
       use1 𝓛 (‵ (fbor κ (I γ)) ⊛ ‵ ftrue) (id⊢ 𝓤 _) $ split ! $ use1 𝓛 (later (‵ (finv (fbor κ (I γ))))) (𝓛.invs.inv_new (fbor κ (I γ))) $ await ! tt $
-      use0 𝓛 (‵ (before κ κ)) (before-Incl 𝓛 κ κ (Incl-refl κ)) $ fjoin ! $ fpack ! Sharing (λ u. kept R ok b o u κ) (t γ) $ now ! $ keep ! (0 ∷ 2 ∷ []) $ done !)))
+      use0 𝓛 (‵ (before κ κ)) (before-Incl 𝓛 κ κ (Incl-refl κ)) $ fjoin ! $ fpack ! Sharing (λ u. lock_kept R ok b o u κ) (t γ) $ now ! $ keep ! (0 ∷ 2 ∷ []) $ done !)))
 
   -- an owner has the right to the value, once the word says that the lock is taken
   module _ (δ : GName) where
@@ -199,7 +202,8 @@ module _ {M : Type 1} {𝓤 : Ura M} (𝓛 : Logic 𝓤) (m : Member) (g : Ghost
     unfolding fseps
     way_home γ γ' = qed 𝓛 (raw Back ∷ ‵ (fauth γ' (code d)) ∷ raw (Turns γ') ∷ []) ∵ assume ! (‵ (fsep (fdead κ) (fseps (I γ ∷ Named γ ∷ [])))) $ suffices ! ⟦ Whole ⟧ (upd_i 𝓤 ⟦ Whole ⟧) $
         fsplit ! $ drop ! $ fsplit3 ! $ fpick ! (λ n. fsplit ! $ move ! (1 ∷ []) $ use1 𝓛 (‵ (told γ n)) (ends_with γ n) $ move ! (2 ∷ []) $ fpick ! (λ x. fsplit ! $
-        -- [the value; its name; what γ says; the word; nothing; the way back; the name that turns; how it does]
+        -- [the value; its name; what γ says; the word; nothing; the way back; the name that turns;
+        -- how it does]
         move ! (7 ∷ []) $ use1 𝓛 (raw (A.auth γ' (code d) -∗ A.auth δ (code d))) (all_e 𝓤 (λ (w : LockView). A.auth γ' (code w) -∗ A.auth δ (code d)) d) $ move ! (7 ∷ 0 ∷ []) $
         use2 𝓛 (‵ (fauth δ (code d))) (apply∗ 𝓤 (A.auth γ' (code d)) (A.auth δ (code d))) $ move ! (3 ∷ 4 ∷ 1 ∷ 2 ∷ 6 ∷ []) $ group ! 5 $ use1 𝓛 (‵ (Fields (n, x)) ⊛ ‵ (fact (Rest (n, x)))) (again γ n x) $ split ! $ use2 𝓛 (‵ (part_at Lock full_share d b o)) (whole_typed (n, x)) $ fjoin ! $
         fpack ! LockView (λ t. fsep ((mem Lock).own_at t b o) (fauth δ (code t))) d $ keep ! (0 ∷ []) $ done !))
@@ -212,7 +216,8 @@ module _ {M : Type 1} {𝓤 : Ura M} (𝓛 : Logic 𝓤) (m : Member) (g : Ghost
     opens q x = qed 𝓛 (‵ (fobor κ q Whole) ∷ ‵ (fobs δ (code d)) ∷ ‵ (fauth δ (code d)) ∷ ‵ (word b (o + 0) 1) ∷ ‵ (At x) ∷ raw Back ∷ []) ∵ updating ! $
         name_new ! tt (code d) (λ γ'. name_new ! tt (R.coded.code x) (λ γ. move ! (5 ∷ 6 ∷ []) $
         use2 𝓛 (later (‵ (follows Lock Lock δ γ' (λ _. d)) ⊛ raw (Turns γ'))) (follows_anew 𝓛 (mem Lock) (mem Lock) (λ _. d) δ γ' (code d) (code d)) $ await ! tt $ split ! $
-        -- [what follows, and how it turns; γ; γ'; the open borrow; the word; the value; the way back]
+        -- [what follows, and how it turns; γ; γ'; the open borrow; the word; the value; the way
+        -- back]
         move ! (9 ∷ 5 ∷ 1 ∷ []) $ use3 𝓛 (‵ (fwand (fsep (fdead κ) (fseps (I γ ∷ Named γ ∷ []))) (fupd Whole))) (way_home γ γ') $
         move ! (7 ∷ 3 ∷ []) $ fjoin ! $ fpack ! R.Denot (λ y. fsep (At y) (fauth γ (R.coded.code y))) x $ nothing ! $ move ! (7 ∷ 0 ∷ []) $ fjoin ! $
         fpack ! ℕ (λ w. fsep (word b (o + 0) w) (with_word R ok b o (t γ) w)) 1 $ nothing ! $ move ! (1 ∷ 2 ∷ 0 ∷ []) $ fjoin3 ! $ move ! (5 ∷ 0 ∷ 1 ∷ []) $ obor_alter ! tt (I γ ∷ Named γ ∷ []) $

@@ -1,4 +1,5 @@
--- What the walks over the lock's word share. Assumes `Logic`.
+-- The atomic steps on the word of a shared lock: compare and exchange, look, and release. Assumes
+-- `Logic`.
 use Rattle.std.proofs.Common.{◌≢◌, ℕ, zero, suc, ◌+◌, [], ◌∷◌, refl, eqb, Bool, true, false, sym}
 use Rattle.std.proofs.Math.Dec.{eqb-zero-suc}
 use seplogic.Ra.Ura.{Ura}
@@ -11,14 +12,14 @@ use denote.RattleType.{RattleType}
 use denote.Steps.{nothing}
 use denote.RawPtr.{block_ptr}
 use Rattle.std.specs.Sync.RawAtomic.{word, asks, always}
-use Rattle.thread_local_lock.specs.Locking.{Sharing, with_word, invariant}
-use Rattle.thread_local_atomic_word.proofs.Opened.{Lies, opened}
+use Rattle.thread_local_lock.specs.Locking.{Sharing, with_word, lock_invariant}
+use Rattle.thread_local_raw.proofs.Opened.{Lies, opened}
 
 module _ {M : Type 1} {𝓤 : Ura M} (𝓛 : Logic 𝓤) (R : RattleType) (ok : R.Denot → Type 0) (b o : ℕ) (t : Sharing) (q : Share) where
   open 𝓛 use {A}
 
   abbrev I : Fml
-  I = invariant R ok b o t
+  I = lock_invariant R ok b o t
 
   abbrev With : ℕ → Fml
   With = with_word R ok b o t
@@ -26,7 +27,8 @@ module _ {M : Type 1} {𝓤 : Ura M} (𝓛 : Logic 𝓤) (R : RattleType) (ok : 
   abbrev Pr : Type 2
   Pr = SProp 𝓤
 
-  -- what an exchange of the word for one that isn't FREE gains
+  -- what a compare and exchange that writes a word other than FREE gains: what lay beside the word,
+  -- if it expects FREE
   abbrev pub gained : ℕ → ℕ → Fml
   gained zero n = With n
   gained (suc k) n = ftrue
@@ -41,7 +43,7 @@ module _ {M : Type 1} {𝓤 : Ura M} (𝓛 : Logic 𝓤) (R : RattleType) (ok : 
   changed (suc k) new zero = qed 𝓛 (‵ (With 0) ∷ []) ∵ rewrite ! 0 (λ (c : Bool). ‵ (With (either c (suc new) 0))) (sym (eqb-zero-suc k)) refl $ nothing ! $ move ! (1 ∷ []) $ fjoin ! $ done !
   changed (suc k) new (suc n) = let Y : Fml = With (either (eqb (suc n) (suc k)) (suc new) (suc n)) in qed 𝓛 (‵ (With (suc n)) ∷ []) ∵ use0 𝓛 (‵ Y) (taken (eqb (suc n) (suc k)) new n) $ fjoin ! $ done !
 
-  -- a step that makes f n of the word n, and gains what lies beside it
+  -- a step that writes f n over the word n, and gains `after n`
   stepped : (f : ℕ → ℕ) (after : ℕ → Fml) (X : Fml) → ((n : ℕ) → ent 𝓤 (sep 𝓤 (sem 𝓛 (With n)) (sem 𝓛 X)) (sem 𝓛 (fsep (With (f n)) (after n))))
       → ent 𝓤 (sep 𝓤 (A.inv (fbor t.0 I)) (sep 𝓤 (A.lft t.0 q) (sem 𝓛 X))) (asks 𝓛 (block_ptr b (o + 0)) f always (λ n. fsep (flft t.0 q) (after n)))
   stepped f after X h = let L : ℕ → Pr = Lies 𝓛 t.0 q I b (o + 0) f after in opened 𝓛 t.0 q I b (o + 0) f after (sem 𝓛 X) (qed 𝓛 (‵ I ∷ ‵ X ∷ []) ∵ suffices ! _ (upd_i 𝓤 (ex 𝓤 L)) $ fpick ! (λ n. fsplit ! $

@@ -1,3 +1,4 @@
+-- What a contract sees of a guard once its value was written through a `&mut`.
 use Rattle.thread_local_lock.specs.declared.lock.LockGuard.{LockGuard}
 
 -- the guard with another value behind it

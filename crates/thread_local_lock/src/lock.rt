@@ -1,4 +1,5 @@
-//! A lock of one word. Whenever it is free its value fits, under a tag that never changes.
+//! The word of a lock is 0 while it is free, 1 while it is taken, and 2 while it is taken and a
+//! thread may sleep for it.
 ghost use Rattle.std.specs.Prelude.{◌≡◌, ◌≢◌, ℕ, ◌<◌, IfSome};
 ghost use Rattle.thread_local_lock.specs.Locking.{LockView, lock_coded, lock_owns, lock_shares, guard_owns, guard_shares, Fitting};
 
@@ -7,13 +8,13 @@ use std::sync::Wait;
 use std::sync::atomic::Ordering::SeqCst;
 use std::sync::atomic::raw;
 use std::thread;
-use thread_local_atomic_word::exchange;
+use thread_local_raw::exchange;
 
 mod lends;
 
-/// What a lock keeps of its value.
+/// What a lock keeps true of its value.
 pub trait Fits {
-    /// What of the value stays as it was when the lock was made.
+    /// A number of the value that stays as it was when the lock was made.
     ghost tag: { Self → ℕ };
 
     /// What holds of the value whenever the lock is free.
@@ -35,9 +36,11 @@ const FOR_EVER: u64 = i64::MAX as u64;
 /// How often a thread tries again, and yields in between, before it sleeps.
 const TRIES: u64 = 100;
 
-/// A value that one thread at a time writes through a `&`. A contract sees the tag of its value.
+/// A value that one thread at a time writes through a `&`, and that fits whenever the lock is free.
+/// A contract sees the tag of the value.
 ///
-/// A guard that is forgotten leaves the lock taken, until an owner's `get_mut`.
+/// Only `lock` may wait, and no call takes memory, whatever a drop of the value does. A guard that
+/// is forgotten leaves the lock taken until its owner takes it apart.
 pub struct Lock<V: Fits> {
     word: u64,
     value: V,
@@ -52,17 +55,18 @@ impl<V: Fits> Owns for Lock<V> {
 }
 
 impl<V: Fits> Move for Lock<V> {
-    ghost own_val = { λ lock vs. lock_owns V.row (Fitting V.tag V.fits lock.tag) (λ n x. Fields.own_val (record { word = n; value = x }) vs) };
+    ghost own_val = { λ lock vs.
+        lock_owns V.row (Fitting V.tag V.fits lock.tag) (λ n x.
+        Fields.own_val (record { word = n; value = x }) vs) };
 }
 
-/// The right to a lock's value. Dropping it releases the lock, for which the value has to fit again.
+/// The right to a lock's value. Dropping it releases the lock, and requires that the value fits
+/// again.
 pub struct LockGuard<'a, V: Fits> {
     lock: *const Lock<V>,
     marker: PhantomData<&'a V>,
     pub ghost tag: { ℕ },
     pub ghost value: { V } by { V.code },
-    /// What a `&mut` to the lock follows, where `get_mut` made the guard of it.
-    pub ghost name: { ℕ },
 }
 
 impl<'a, V: Fits> Model for LockGuard<'a, V> {
@@ -72,7 +76,7 @@ impl<'a, V: Fits> Model for LockGuard<'a, V> {
 }
 
 impl<V: Fits> Lock<V> {
-    /// A free lock. It takes no memory.
+    /// A free lock, of a value that fits.
     pub fn new(value: V) -> Lock<V>
         requires { V.fits value }
         ensures { result.tag ≡ V.tag value }
@@ -86,7 +90,7 @@ impl<V: Fits> Lock<V> {
         value
     }
 
-    /// Takes the lock if it is free. It never waits.
+    /// Takes the lock if it is free, by one compare and exchange.
     pub fn try_lock(&self) -> Option<LockGuard<'_, V>>
         ensures tag { IfSome result (λ guard. (guard.tag ≡ self.now.tag) × (V.tag guard.value ≡ self.now.tag)) }
         ensures fits { IfSome result (λ guard. V.fits guard.value) }
@@ -94,7 +98,8 @@ impl<V: Fits> Lock<V> {
         self.take(TAKEN)
     }
 
-    /// Takes the lock. May wait: it tries for a while, and then sleeps in between. It takes no memory.
+    /// Takes the lock. May wait: it tries for a while and yields in between, and then sleeps until
+    /// a release wakes it, and tries again.
     pub fn lock<R: Wait>(&self, rt: &R) -> LockGuard<'_, V>
         ensures tag { (result.tag ≡ self.now.tag) × (V.tag result.value ≡ self.now.tag) }
         ensures fits { V.fits result.value }
@@ -115,7 +120,7 @@ impl<V: Fits> Lock<V> {
         unreachable!()
     }
 
-    /// Takes the lock if it is free, and writes `word`.
+    /// Takes the lock if it is free: the word is `word` from then on.
     fn take(&self, word: u64) -> Option<LockGuard<'_, V>>
         requires { word ≢ 0 }
         ensures tag { IfSome result (λ guard. (guard.tag ≡ self.now.tag) × (V.tag guard.value ≡ self.now.tag)) }
@@ -132,20 +137,21 @@ impl<V: Fits> Lock<V> {
         }
     }
 
-    /// Tells the thread that has the lock that another may sleep.
+    /// Tells whoever has the lock that a thread may sleep for it.
     fn mark(&self) {
         unsafe { exchange::<Brand>(&raw const self.word, TAKEN, AWAITED) };
     }
 
-    /// Sleeps until a release wakes it, or for so many seconds, unless the lock has been released since `mark`.
+    /// Sleeps until a release wakes it, for at most `secs` seconds, unless the lock has been
+    /// released since `mark`.
     fn sleep<R: Wait>(&self, rt: &R, secs: u64) {
         unsafe { raw::park::<Brand, R>(rt, &raw const self.word, AWAITED, secs, 0) };
     }
 }
 
 impl<V: Fits> LockGuard<'_, V> {
-    /// Leaves the lock taken, as a guard does that is forgotten.
-    pub fn leave_taken(self) {
+    /// Forgets the guard: the lock stays taken until its owner takes it apart.
+    pub fn forget(self) {
         let Self { lock: _, marker: _ } = self;
     }
 }

@@ -1,3 +1,5 @@
+-- What each call of a `Local` answers at a view, and that no call is refused once the bucket is
+-- known to stand.
 use Rattle.std.proofs.Common.{◌≡◌, not, ◌&&◌, Option, Bool, true, false, List, [], ◌∷◌, ◌++◌, Some, None, Result, Ok, Err, IsTrue, zero, suc, arith, refl, ap}
 use Rattle.std.specs.Prelude.{Contains}
 use Rattle.thread_local_model.specs.Answers.{View, Call, Get, GetOr, Found, Answered, Refused, Failed, view_after_or, answer_or, answer, view_after, answers, view_after_all, Says}
@@ -5,19 +7,22 @@ use Rattle.thread_local_model.specs.Answers.{View, Call, Get, GetOr, Found, Answ
 pub get : {V E : Type 0} (view : View V) → Says {E = E} view Get (Found view.value) view
 get view = record { answered = refl; leaves = refl }
 
--- where the view has a value, that is answered, and the view stays
+-- where the view has a value, that is the answer, and the view stays
 pub held : {V E : Type 0} (view : View V) (v : V) (create : Result V E) (refused : Bool) → view.value ≡ Some v → Says view (GetOr create refused) (Answered v) view
 held view v create refused h = record { answered = rw h refl; leaves = rw h refl }
 
--- where it has none, and the bucket isn't known to stand, memory may be refused, and the view stays
+-- where it has none, the bucket isn't known to stand and memory is refused, the call is refused,
+-- and the view stays
 pub refused : {V E : Type 0} (view : View V) (create : Result V E) → view.value ≡ None → view.known ≡ false → Says view (GetOr create true) Refused view
 refused view create h k = record { answered = rw (h, k) refl; leaves = rw (h, k) refl }
 
--- where it has none, and memory isn't refused, the closure's value is answered and seen from then on
+-- where it has none and memory isn't refused, the closure's value is the answer, and is seen from
+-- then on
 pub created : {V E : Type 0} (view : View V) (v : V) → view.value ≡ None → Says {E = E} view (GetOr (Ok v) false) (Answered v) (record { value = Some v; known = true })
 created view v h = record { answered = rw h refl; leaves = rw h refl }
 
--- where it has none, and memory isn't refused, the closure's error is answered, and the bucket is known to stand
+-- where it has none and memory isn't refused, the closure's error is the answer, and the bucket is
+-- known to stand
 pub failed : {V E : Type 0} (view : View V) (e : E) → view.value ≡ None → Says view (GetOr (Err e) false) (Failed e) (record { value = None; known = true })
 failed view e h = record { answered = rw h refl; leaves = rw h refl }
 
@@ -25,7 +30,7 @@ failed view e h = record { answered = rw h refl; leaves = rw h refl }
 pub known : {V E : Type 0} (view : View V) (create : Result V E) → view.known ≡ true → answer view (GetOr create true) ≡ answer view (GetOr create false)
 known view create k = rw k refl
 
--- one call more is answered at the view that the calls before it leave
+-- a further call is answered at the view after the calls before it
 pub answers-push : {V E : Type 0} (view : View V) (calls : List (Call V E)) (call : Call V E)
     → answers view (calls ++ call ∷ []) ≡ answers view calls ++ answer (view_after_all view calls) call ∷ []
 answers-push view [] call = refl
@@ -51,7 +56,7 @@ pub known_after_all : {V E : Type 0} (view : View V) (calls : List (Call V E)) �
 known_after_all view [] k = k
 known_after_all view (call ∷ calls) k = known_after_all (view_after view call) calls (known_stays view call k)
 
--- where it is known to stand no call is refused
+-- where it is known to stand, no call is refused
 never_or : {V E : Type 0} (o : Option V) (memory : Bool) (create : Result V E) → answer_or o (memory && false) create ≡ Refused → ⊥
 never_or (Some v) memory create e = cc
 never_or None true (Ok v) e = cc

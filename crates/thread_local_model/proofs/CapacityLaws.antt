@@ -1,3 +1,4 @@
+-- Binary digits, the buckets that a capacity reserves, and how many slots these have.
 use Rattle.std.proofs.Common.{◌≡◌, ℕ, zero, suc, ◌+◌, ◌-◌, ◌*◌, ◌^◌, ◌<◌, ◌≤◌, IsTrue, refl, arith, pow_mono, add-one, ⊎_elim}
 use Rattle.std.specs.Prelude.{nat_lt, ◌↔◌}
 use Rattle.std.proofs.lemmas.Bool.{cases_lt, ltb-true, lt-ltb, le-ltb, cond-true}
@@ -38,7 +39,7 @@ pub capacity-reserved_slots : (capacity : ℕ) → capacity ≤ reserved_slots c
 unfolding reserved_slots
 capacity-reserved_slots capacity = omega (arith, below_digits capacity)
 
--- an id lies in one of the first k buckets where it is below their slots
+-- the ids below 2 ^ k - 1 are in the first k buckets
 pub in_first : (k id : ℕ) → id < 2 ^ k - 1 → bucket_of id < k
 in_first k id h =
     ⊎_elim (λ below. below)

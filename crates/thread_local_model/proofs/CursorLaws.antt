@@ -1,3 +1,4 @@
+-- The steps of a walk's cursor keep it well-formed and never lower its id.
 use Rattle.std.proofs.Common.{◌≡◌, ℕ, suc, ◌-◌, ◌^◌, ◌<◌, ◌≤◌, Bool, true, false, cond, eqb, IsTrue, refl, ap, sym, ◌∙◌, arith, pow_pos, pow_mono}
 use Rattle.std.specs.Prelude.{nat_lt}
 use Rattle.std.proofs.lemmas.Bool.{cond_both, eqb-true, eqb-false, ltb-true, ltb-false, false≢true}
@@ -38,7 +39,7 @@ at_place-fits cursor low within =
       complete = λ e. absurd (omega arith);
     })
 
--- a walk that loads next is at one of the buckets
+-- a walk that loads next is at one of the 63 buckets
 pub loads_below : (cursor : Cursor) → IsTrue (may_load cursor) → cursor.bucket < 63
 loads_below cursor = below cursor.looks
   where

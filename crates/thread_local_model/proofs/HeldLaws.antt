@@ -1,3 +1,4 @@
+-- Held ids: the least free one, what taking and giving back change, and when a take is refused.
 use Rattle.std.proofs.Common.{◌≡◌, ℕ, zero, suc, ◌+◌, ◌-◌, ◌^◌, ◌<◌, ◌≤◌, max, ap, ◌∙◌, Bool, true, false, not, ◌&&◌, cond, List, [], ◌∷◌, length, refl, arith, eqb, IsTrue, ⊎_elim}
 use Rattle.std.proofs.Math.Dec.{eqb-suc-suc}
 use Rattle.std.proofs.lemmas.Bool.{ne_eqb, eq-eqb, eqb-true, eqb-false, cond_both, cases_lt, both_ways}
@@ -69,11 +70,11 @@ held_count-without (false ∷ held) zero h = cc
 held_count-without (true ∷ held) (suc given) h = omega (arith, held_count-without held given h)
 held_count-without (false ∷ held) (suc given) h = held_count-without held given h
 
--- managers with the same held ids and the same room are the same
+-- managers with the same held ids and the same room are equal
 same_manager : (a b : Manager) → a.held ≡ b.held → a.room ≡ b.room → a ≡ b
 same_manager a b held room = ap (λ h. record { held = h; room = a.room }) held ∙ ap (λ r. record { held = b.held; room = r }) room
 
--- a manager whose least free id becomes held, in a room that is large enough
+-- the least free id becomes held, where the room is large enough: an id is taken
 pub takes : (old new : Manager) (id : ℕ) → id ≡ least old.held → id < 2 ^ 63 - 1 → new.held ≡ with_least old.held
     → old.room ≤ new.room → length new.held ≤ new.room → new.room ≤ 2 ^ 63 - 1 → Takes old new id
 takes old new id first in_range held room peak_in_room room_in_range = record {
@@ -89,7 +90,7 @@ takes old new id first in_range held room peak_in_room room_in_range = record {
   room_in_range = room_in_range;
 }
 
--- a manager of which an id that is held becomes free
+-- a held id becomes free: an id is given back
 pub gives : (old new : Manager) (id : ℕ) → IsTrue (is_held old.held id) → new.held ≡ without old.held id → new.room ≡ old.room
     → length new.held ≤ new.room → new.room ≤ 2 ^ 63 - 1 → Gives old new id
 gives old new id was_held held room peak_in_room room_in_range = record {
@@ -103,7 +104,7 @@ gives old new id was_held held room peak_in_room room_in_range = record {
   room_in_range = room_in_range;
 }
 
--- where every id below a number is held, the least that isn't is no less
+-- where every id below a number is held, the least free id is no less
 least_above : (held : List Bool) (n : ℕ) → HoldsAllBelow n held → n ≤ least held
 least_above held n full =
     ⊎_elim
@@ -117,7 +118,7 @@ takes-granted old new id taken =
     let low = taken.in_range in
     rw (ne_eqb (least old.held) (2 ^ 63 - 1) (λ same. omega (arith, taken.least))) refl
 
--- with memory a take is refused where all ids are held, and without it also where the room is full
+-- with memory, a take is refused where all ids are held; without it, also where the room is full
 no_ids : (exhausted : Bool) → (not exhausted && true) ≡ false → exhausted ≡ true
 no_ids true none = refl
 no_ids false none = cc
@@ -127,7 +128,7 @@ no_memory true full some none = cc
 no_memory false true some none = (refl, refl)
 no_memory false false some none = cc
 
--- the next id needs memory just where a take is granted with memory and not without it
+-- the next id needs memory exactly where a take is granted with memory and refused without it
 pub refused-needs : (manager : Manager) → length manager.held ≤ manager.room → manager.room ≤ 2 ^ 63 - 1
     → IsTrue (is_granted manager false) × (is_granted manager true ≡ false) → NeedsMemory manager
 refused-needs manager within range refused =
@@ -143,7 +144,7 @@ needs-refused manager within needs =
     let room : least manager.held ≡ manager.room = omega (arith, needs.no_room) in
     rw (ne_eqb (least manager.held) (2 ^ 63 - 1) (λ same. omega (arith, needs.in_range)), eq-eqb (least manager.held) manager.room room) (refl, refl)
 
--- no id is left just where a take isn't granted with memory
+-- no id is left exactly where a take is refused even with memory
 pub exhausted-refused : (manager : Manager) → IsExhausted manager → is_granted manager false ≡ false
 exhausted-refused manager none =
     let top : least manager.held ≡ 2 ^ 63 - 1 = omega (arith, least_bounded manager.held, least_above manager.held (2 ^ 63 - 1) none.full, none.peak) in

@@ -1,9 +1,10 @@
+-- The place of an id is the only solution of an equation, so ids and places correspond one to one.
 use Rattle.std.proofs.Common.{◌≡◌, ℕ, zero, suc, ◌+◌, ◌-◌, ◌^◌, ◌<◌, ◌≤◌, refl, ap, sym, arith, pow_pos, pow_mono, eqb-true, eqb, add-one, ⊎_elim}
 use Rattle.std.proofs.lemmas.Bool.{cond_both, eqb-false, cases_lt, cases_order}
 use Rattle.std.proofs.Math.Nat.{two-pow-succ}
 use Rattle.thread_local_model.specs.Place.{Place, next_place, place, bucket_of, index_of, id_at}
 
--- the place solves the equation that names it
+-- the place solves the equation: the id plus one is the bucket's size plus the index
 pub record IsPlaceOf (id : ℕ) (p : Place) : Type 0 where
   pub equation : id + 1 ≡ 2 ^ p.bucket + p.index
   pub inside : p.index < 2 ^ p.bucket

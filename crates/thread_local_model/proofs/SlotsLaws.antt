@@ -1,3 +1,4 @@
+-- How the slots of the buckets that stand add up.
 use Rattle.std.proofs.Common.{◌≡◌, ℕ, zero, suc, ◌+◌, ◌-◌, ◌*◌, ◌^◌, ◌<◌, ◌≤◌, Bool, true, false, cond, eqb, IsTrue, refl, ap, sym, ◌∙◌, arith, ⊎_elim}
 use Rattle.std.proofs.lemmas.Bool.{cases_lt, cases_eq, cond_both, cond-false, eq-eqb, ne_eqb, lt-ltb, le-ltb}
 use Rattle.std.specs.Prelude.{nat_lt}
@@ -31,7 +32,7 @@ slots_below-further stands k (suc n) h none =
     (λ above. let same : suc n ≡ k = omega arith in ap (slots_below stands) same)
     (cases_lt k (suc n))
 
--- one bucket more adds its slots
+-- a further bucket adds its slots
 pub slots_below-more : (stands : ℕ → Bool) (bucket n : ℕ) → stands bucket ≡ false
     → slots_below (λ b. cond (eqb bucket b) true (stands b)) n ≡ slots_below stands n + cond (nat_lt bucket n) (2 ^ bucket) 0
 unfolding slots_below

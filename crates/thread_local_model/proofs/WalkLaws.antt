@@ -1,3 +1,4 @@
+-- A walk over a map: its values, its ids and that they ascend, and its length.
 use Rattle.std.proofs.Common.{◌≡◌, ℕ, zero, suc, ◌+◌, ◌≤◌, length, length-append, add-zero, add-suc, append_assoc, ◌<◌, ⊎_elim, List, [], ◌∷◌, ◌++◌, map, Option, Some, None, refl, ap, sym, ◌∙◌, arith}
 use Rattle.std.specs.Prelude.{Contains, option_to_list, option_map}
 use Rattle.std.specs.List.Sorted.{IsStrictlyIncreasing}
@@ -7,7 +8,7 @@ use Rattle.std.proofs.lemmas.List.Elements.{Contains-append_left, Contains-appen
 use Rattle.std.proofs.lemmas.Grind.{common_steps}
 use Rattle.thread_local_model.specs.Walk.{walk_below, paired, IsAscendingBelow}
 
--- the values of pairs that grow by a pair with this value
+-- the values of the pairs, once a pair with this value is added
 values-push : {V : Type 0} (pairs : List (ℕ × V)) (vs : List V) (id : ℕ) (o : Option V) → map (λ pair. pair.1) pairs ≡ vs
     → map (λ pair. pair.1) (pairs ++ option_to_list (option_map (λ v. (id, v)) o)) ≡ vs ++ option_to_list o
 values-push pairs vs id None h = rw (append-nil, append-nil) h
@@ -19,7 +20,7 @@ unfolding walk_below
 map-walk_below values zero = refl
 map-walk_below values (suc n) = values-push (walk_below (paired values) n) (walk_below values n) n (values n) (map-walk_below values n)
 
--- one id more, at their bound
+-- one more id, at the bound of the others
 pub ascends-push : (ids : List ℕ) (n : ℕ) → IsAscendingBelow ids n → IsAscendingBelow (ids ++ n ∷ []) (suc n)
 ascends-push ids n h = record {
   increasing = λ k l. grind (arith, common_steps, h.increasing k, h.below k);
@@ -44,7 +45,7 @@ pub Contains-one : {X : Type 0} (x y : X) → Contains (x ∷ []) y → x ≡ y
 Contains-one x y (zero, l, e) = e
 Contains-one x y (suc k, l, e) = absurd (omega (arith, l))
 
--- what is in the one pair of an id
+-- what a list with the one pair of an id contains
 in_one : {V : Type 0} (n id : ℕ) (v : V) (o : Option V) → Contains {X = ℕ × V} (option_to_list (option_map (λ w. (n, w)) o)) (id, v) → (n ≡ id) × (o ≡ Some v)
 in_one n id v None h = absurd (omega (arith, h.1))
 in_one n id v (Some w) h = (ap (λ pair. pair.0) (Contains-one (n, w) (id, v) h), ap (λ pair. Some pair.1) (Contains-one (n, w) (id, v) h))
@@ -58,7 +59,7 @@ listed values (suc n) id v h =
     (λ last. let here = in_one n id v (values n) last in (omega (arith, here.0), ap values (sym here.0) ∙ here.1))
     (Contains-append_cases (walk_below (paired values) n) (option_to_list (paired values n)) (id, v) h)
 
--- the pair of an id that has a value
+-- an id that has a value has its pair in the list
 its_pair : {V : Type 0} (id : ℕ) (v : V) (o : Option V) → o ≡ Some v → Contains {X = ℕ × V} (option_to_list (option_map (λ w. (id, w)) o)) (id, v)
 its_pair id v None h = cc
 its_pair id v (Some w) h = let same : w ≡ v = cc in (0, omega arith, ap (λ x. (id, x)) same)
@@ -74,7 +75,7 @@ in_list values (suc n) id v l h =
     (λ above. absurd (omega arith)))
     (cases_order id n)
 
--- a walk goes by its values alone, and in two parts as in one
+-- a walk depends on the values alone, and is the walk of the lower ids and then that of the rest
 pub walk_below-same : {V : Type 0} (values others : ℕ → Option V) (n : ℕ) → ((id : ℕ) → id < n → values id ≡ others id) → walk_below values n ≡ walk_below others n
 unfolding walk_below
 walk_below-same values others zero h = refl

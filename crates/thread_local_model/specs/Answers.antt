@@ -1,19 +1,21 @@
+-- What each call of a `Local` answers, by what it knows of its slot: the value, and whether the
+-- bucket is known to stand.
 use Rattle.std.specs.Prelude.{◌≡◌, ℕ, Bool, true, false, not, ◌&&◌, ◌||◌, List, [], ◌∷◌, Option, Some, None, is_some, Result, Ok, Err}
 use Rattle.thread_local_model.specs.Capacity.{is_reserved}
 use Rattle.thread_local_model.specs.Sheet.{Sheet}
 use Rattle.thread_local_model.specs.Learnt.{Learnt, Unknown, Missing, Standing, Vacant, Holding}
 
--- what a Local knows of its slot: the value, if there is one, and whether the bucket is known to stand
+-- what a `Local` knows of its slot
 pub record View (V : Type 0) : Type 0 where
   pub value : Option V
   pub known : Bool
 
--- what a Local that takes an id knows of its slot: the bucket is known to stand where the id is reserved, or where
--- there is a value
+-- what a `Local` knows when it takes an id: the bucket is known to stand where the id is reserved
+-- or has a value
 abbrev pub first_view : {V : Type 0} → Sheet V → ℕ → View V
 first_view sheet id = record { value = sheet.values id; known = is_reserved sheet.capacity id || is_some (sheet.values id) }
 
--- the view of what is learnt of a slot: the value that it holds, and whether the bucket was found
+-- the view that what is learnt of a slot gives
 abbrev pub view_of : {V : Type 0} → Learnt V → View V
 view_of Unknown = record { value = None; known = false }
 view_of Missing = record { value = None; known = false }
@@ -21,20 +23,20 @@ view_of Standing = record { value = None; known = true }
 view_of Vacant = record { value = None; known = true }
 view_of (Holding v) = record { value = Some v; known = true }
 
--- A call of a Local: `get`, or one of the `get_or` family, with what its closure would answer and whether
--- memory for a bucket would be refused.
+-- A call of a `Local`: `get`, or one of the `get_or` family, with what its closure would return and
+-- whether memory for a bucket would be refused.
 pub data Call (V E : Type 0) : Type 0 where
   Get : Call V E
   GetOr : (create : Result V E) → (refused : Bool) → Call V E
 
--- what a call answers: what a get found, a value, want of memory, or the closure's own error
+-- what a call answers: what a `get` found, a value, out of memory, or the closure's error
 pub data Answer (V E : Type 0) : Type 0 where
   Found : (value : Option V) → Answer V E
   Answered : (value : V) → Answer V E
   Refused : Answer V E
   Failed : (error : E) → Answer V E
 
--- what the `get_or` family answers at a slot, by whether a bucket is wanted and refused
+-- what the `get_or` family answers, by whether a bucket is needed and refused
 abbrev pub answer_or : {V E : Type 0} → Option V → Bool → Result V E → Answer V E
 answer_or (Some v) refused create = Answered v
 answer_or None true create = Refused
@@ -46,7 +48,7 @@ abbrev pub answer : {V E : Type 0} → View V → Call V E → Answer V E
 answer view Get = Found view.value
 answer view (GetOr create refused) = answer_or view.value (refused && not view.known) create
 
--- the view that the `get_or` family leaves
+-- the view after a call of the `get_or` family
 abbrev pub view_after_or : {V E : Type 0} → View V → Option V → Bool → Result V E → View V
 view_after_or view (Some v) refused create = view
 view_after_or view None true create = view
@@ -58,17 +60,17 @@ abbrev pub view_after : {V E : Type 0} → View V → Call V E → View V
 view_after view Get = view
 view_after view (GetOr create refused) = view_after_or view view.value (refused && not view.known) create
 
--- the answers to calls that come one after another, from a view
+-- the answers to a sequence of calls that begins at a view
 abbrev pub answers : {V E : Type 0} → View V → List (Call V E) → List (Answer V E)
 answers view [] = []
 answers view (call ∷ calls) = answer view call ∷ answers (view_after view call) calls
 
--- the view after calls that come one after another
+-- the view after a sequence of calls
 abbrev pub view_after_all : {V E : Type 0} → View V → List (Call V E) → View V
 view_after_all view [] = view
 view_after_all view (call ∷ calls) = view_after_all (view_after view call) calls
 
--- at a view this call answers this, and leaves this view
+-- at `view` the call answers `told`, and the view after it is `left`
 pub record Says {V E : Type 0} (view : View V) (call : Call V E) (told : Answer V E) (left : View V) : Type 0 where
   pub answered : answer view call ≡ told
   pub leaves : view_after view call ≡ left

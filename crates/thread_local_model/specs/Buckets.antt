@@ -1,3 +1,5 @@
+-- A table's contents: 63 rows of slots, each empty (the bucket doesn't stand) or whole, and each
+-- slot with a value or without.
 use Rattle.std.specs.Prelude.{◌≡◌, ℕ, zero, suc, ◌+◌, ◌^◌, ◌⊎◌, Bool, if◌then◌else◌, nat_lt, List, [], length, replicate, Option, None, slice_index_or}
 use Rattle.thread_local_model.specs.Place.{bucket_of, index_of}
 
@@ -10,8 +12,8 @@ slots_below stands (suc b) = slots_below stands b + (if stands b then 2 ^ b else
 unfoldable pub slots : (ℕ → Bool) → ℕ
 slots stands = slots_below stands 63
 
--- What an owner's buckets are seen as: a row of slots for each of the 63 buckets, empty where the bucket
--- doesn't stand. A slot has a value where one is published.
+-- How contracts see an owner's buckets: a row of slots for each of the 63 buckets, empty where the
+-- bucket doesn't stand. A slot has a value where one is published.
 pub record Contents (V : Type 0) : Type 0 where
   pub rows : List (List (Option V))
 
@@ -31,7 +33,7 @@ values contents id = slice_index_or (row contents (bucket_of id)) (index_of id) 
 abbrev pub no_contents : {V : Type 0} → Contents V
 no_contents = record { rows = replicate 63 [] }
 
--- there are 63 rows, and a bucket that stands has all its slots
+-- there are 63 rows, and each is empty or has all the slots of its bucket
 pub record IsTable {V : Type 0} (contents : Contents V) : Type 0 where
   pub buckets : length contents.rows ≡ 63
   pub whole : (bucket : ℕ) → (length (row contents bucket) ≡ 0) ⊎ (length (row contents bucket) ≡ 2 ^ bucket)

@@ -1,19 +1,23 @@
+-- How many slots a table's capacity reserves: those of one bucket for each binary digit of the
+-- capacity.
 use Rattle.std.specs.Prelude.{ℕ, zero, suc, ◌+◌, ◌-◌, ◌^◌, Bool, nat_lt}
 use Rattle.thread_local_model.specs.Place.{bucket_of}
 
--- how many binary digits a number has: 0 has none, and n + 1 has one more than the number of id n's bucket
+-- how many binary digits a number has: 0 has none, and n + 1 has one more than the bucket number of
+-- id n
 unfoldable pub binary_digits : ℕ → ℕ
 binary_digits zero = 0
 binary_digits (suc n) = bucket_of n + 1
 
--- how many slots a table of this capacity reserves: those of one bucket for each binary digit
+-- how many slots a table of this capacity reserves
 unfoldable pub reserved_slots : ℕ → ℕ
 reserved_slots capacity = 2 ^ binary_digits capacity - 1
 
--- whether a table of this capacity reserves a bucket: one of the first, as many as the capacity has binary digits
+-- whether a table of this capacity reserves a bucket: it reserves the first ones, one for each
+-- binary digit
 abbrev pub reserves_bucket : ℕ → ℕ → Bool
 reserves_bucket capacity bucket = nat_lt bucket (binary_digits capacity)
 
--- whether an id lies below the reserved slots
+-- whether an id's slot is reserved
 abbrev pub is_reserved : ℕ → ℕ → Bool
 is_reserved capacity id = nat_lt id (reserved_slots capacity)

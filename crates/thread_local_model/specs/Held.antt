@@ -1,7 +1,10 @@
+-- The held ids of a table: which id a take gets, what taking and giving back change, and when a
+-- take is refused.
 use Rattle.std.specs.Prelude.{◌≡◌, ℕ, suc, ◌+◌, ◌-◌, ◌^◌, ◌<◌, ◌≤◌, ◌==◌, max, Bool, true, false, not, ◌&&◌, List, [], ◌∷◌, length, slice_index_or, slice_set, IsTrue, if◌then◌else◌}
 
--- What a table's manager of ids is seen as. The list has a truth value for each id below the peak, true
--- where the id is held. The room is the number of ids whose return needs no further memory.
+-- How contracts see a table's manager of ids. The list has a truth value for each id below the
+-- peak, true where the id is held. The room is the number of ids whose return needs no further
+-- memory.
 pub record Manager : Type 0 where
   pub held : List Bool
   pub room : ℕ
@@ -16,7 +19,7 @@ least [] = 0
 least (false ∷ held) = 0
 least (true ∷ held) = suc (least held)
 
--- the held ids once the least id that wasn't is held too
+-- the held ids once the least free id is held too
 abbrev pub with_least : List Bool → List Bool
 with_least [] = true ∷ []
 with_least (false ∷ held) = true ∷ held
@@ -40,24 +43,26 @@ HoldsAllBelow n held = (id : ℕ) → id < n → IsTrue (is_held held id)
 abbrev pub is_exhausted : Manager → Bool
 is_exhausted manager = least manager.held == 2 ^ 63 - 1
 
--- whether each id that has room is held
+-- whether every id that there is room for is held
 abbrev pub is_full : Manager → Bool
 is_full manager = least manager.held == manager.room
 
--- whether a take gets an id, by whether memory is refused
+-- whether a take gets an id, where memory is refused or not
 abbrev pub is_granted : Manager → Bool → Bool
 is_granted manager refused = not (is_exhausted manager) && not (refused && is_full manager)
 
--- the manager once the least id that wasn't held is, and room has grown as far as is needed and this much more
+-- the manager once the least free id is held, and the room has grown as far as needed and by
+-- `growth` more
 abbrev pub taken_from : Manager → ℕ → Manager
 taken_from manager growth = record { held = with_least manager.held; room = max manager.room (length (with_least manager.held)) + growth }
 
--- the manager once an id is held no longer
+-- the manager once an id is given back
 abbrev pub given_to : Manager → ℕ → Manager
 given_to manager id = record manager { held = without manager.held id }
 
--- What taking an id makes of a manager: what is taken from it, by some growth. So the id is the least that wasn't held, and is held from
--- now on; no other id changes. The peak grows by one where every id below it was held, and the room doesn't fall.
+-- `new` is `old` once an id is taken. The id is the least that wasn't held, and is held from now
+-- on; no other id changes. The peak grows by one where every id below it was held, and the room
+-- doesn't fall.
 pub record Takes (old new : Manager) (id : ℕ) : Type 0 where
   pub least : id ≡ least old.held
   pub in_range : id < 2 ^ 63 - 1
@@ -70,7 +75,8 @@ pub record Takes (old new : Manager) (id : ℕ) : Type 0 where
   pub peak_in_room : length new.held ≤ new.room
   pub room_in_range : new.room ≤ 2 ^ 63 - 1
 
--- What giving an id back makes of a manager. The id was held, and isn't any more; no other id changes, nor do the peak and the room.
+-- `new` is `old` once an id is given back. The id was held, and isn't any more; no other id
+-- changes, nor do the peak and the room.
 pub record Gives (old new : Manager) (id : ℕ) : Type 0 where
   pub was_held : IsTrue (is_held old.held id)
   pub given : new ≡ given_to old id
@@ -81,7 +87,8 @@ pub record Gives (old new : Manager) (id : ℕ) : Type 0 where
   pub peak_in_room : length new.held ≤ new.room
   pub room_in_range : new.room ≤ 2 ^ 63 - 1
 
--- The next id needs memory: every id below the peak is held, and there is no room for one more, though an id is left.
+-- The next id needs memory: every id below the peak is held, and there is no room for one more,
+-- though an id is left.
 pub record NeedsMemory (manager : Manager) : Type 0 where
   pub full : HoldsAllBelow (length manager.held) manager.held
   pub no_room : length manager.held ≡ manager.room

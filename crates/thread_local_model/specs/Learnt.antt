@@ -1,8 +1,11 @@
+-- What is learnt of an id's slot: nothing yet, the bucket missing, the bucket standing, the slot
+-- vacant, or the slot's value.
 use Rattle.std.specs.Prelude.{◌≡◌, ℕ, zero, suc, Bool, true, false, Option, Some, None, option_and_then, refl, if◌then◌else◌}
 use Rattle.std.specs.Coded.{Coded, coded_option, coded_ℕ, coded×, code_by}
 
--- What somebody who has the right to an id has learnt of the id's slot: nothing yet; that its word was empty; that its bucket stands;
--- that the bucket stands and the slot is empty; or the value that the slot holds.
+-- What the holder of the right to an id has learnt of the id's slot: `Unknown`, nothing yet;
+-- `Missing`, the bucket didn't stand; `Standing`, the bucket stands; `Vacant`, it stands and the
+-- slot is empty; `Holding`, the slot's value.
 pub data Learnt (V : Type 0) : Type 0 where
   Unknown : Learnt V
   Missing : Learnt V
@@ -10,7 +13,7 @@ pub data Learnt (V : Type 0) : Type 0 where
   Vacant : Learnt V
   Holding : (value : V) → Learnt V
 
--- what is learnt by a load of the word, where that is not known to name a bucket
+-- what is learnt by a load of the bucket's pointer, where the bucket isn't known to stand
 abbrev pub learnt_by_load : {V : Type 0} → Learnt V → Bool → Option (Learnt V)
 learnt_by_load Unknown stands = Some (if stands then Standing else Missing)
 learnt_by_load Missing stands = Some (if stands then Standing else Missing)
@@ -22,12 +25,13 @@ learnt_by_look Standing None = Some Vacant
 learnt_by_look Standing (Some v) = Some (Holding v)
 learnt_by_look learnt shown = None
 
--- what is learnt by a load of the word and, where that names a bucket, a look at the slot then
+-- what is learnt by a load of the pointer and, where the bucket stands, a look at the slot
 abbrev pub learnt_by_find : {V : Type 0} → Learnt V → Bool → Option V → Option (Learnt V)
 learnt_by_find learnt false shown = learnt_by_load learnt false
 learnt_by_find learnt true shown = option_and_then (λ loaded. learnt_by_look loaded shown) (learnt_by_load learnt true)
 
--- what is learnt by offering a bucket to a word that was empty: some bucket stands then, and the slot is empty
+-- what is learnt by installing a bucket where the pointer was null: a bucket stands then, this or
+-- another thread's, and the slot is empty
 abbrev pub learnt_by_install : {V : Type 0} → Learnt V → Option (Learnt V)
 learnt_by_install Missing = Some Vacant
 learnt_by_install learnt = None
@@ -37,8 +41,8 @@ abbrev pub learnt_by_publish : {V : Type 0} → Learnt V → V → Option (Learn
 learnt_by_publish Vacant value = Some (Holding value)
 learnt_by_publish learnt value = None
 
--- A load of the word and, where that names a bucket, a look at the slot lead from what was learnt before to what is
--- learnt after. Whether the word names a bucket, and what the slot shows, is found by them.
+-- A load of the pointer and, where the bucket stands, a look at the slot lead from `before` to
+-- `after`. They find out whether the bucket stands and what the slot shows.
 pub record Finds {V : Type 0} (before after : Learnt V) : Type 0 where
   pub stands : Bool
   pub shown : Option V

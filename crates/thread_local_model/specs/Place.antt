@@ -1,18 +1,20 @@
+-- The place of an id: its bucket, and its index in the bucket. Bucket b has 2 ^ b slots, and ids
+-- fill the buckets in order.
 use Rattle.std.specs.Prelude.{ℕ, zero, suc, ◌+◌, ◌-◌, ◌^◌, ◌==◌, if◌then◌else◌}
 
--- where an id's slot lies: in which bucket, and at which place in it
+-- where an id's slot is
 pub record Place : Type 0 where
   pub bucket : ℕ
   pub index : ℕ
 
--- the place after this one: the next in its bucket, or the first of the bucket after it
+-- the place after this one: at the next index of its bucket, or first in the next bucket
 unfoldable pub next_place : Place → Place
 next_place p =
     if p.index + 1 == 2 ^ p.bucket
     then record { bucket = p.bucket + 1; index = 0 }
     else record { bucket = p.bucket; index = p.index + 1 }
 
--- id 0 lies first in bucket 0, and each further id in the place after the one before
+-- id 0 is first in bucket 0, and each further id is at the place after the one before
 unfoldable pub place : ℕ → Place
 place zero = record { bucket = 0; index = 0 }
 place (suc id) = next_place (place id)
@@ -21,10 +23,10 @@ place (suc id) = next_place (place id)
 unfoldable pub bucket_of : ℕ → ℕ
 bucket_of id = (place id).bucket
 
--- the place of an id in its bucket
+-- the index of an id in its bucket
 unfoldable pub index_of : ℕ → ℕ
 index_of id = (place id).index
 
--- the id that lies at a place
+-- the id at a place
 abbrev pub id_at : ℕ → ℕ → ℕ
 id_at bucket index = index + (2 ^ bucket - 1)

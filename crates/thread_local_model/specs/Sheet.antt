@@ -1,9 +1,11 @@
+-- A table as its users see it, and its moves: take an id, give one back, publish a value, keep one,
+-- rewrite values, clear.
 use Rattle.std.specs.Prelude.{◌≡◌, ℕ, List, [], Bool, Option, Some, None, option_map, IsTrue, IsSome, ⊤}
 use Rattle.thread_local_model.specs.Held.{is_held, with_least, without}
 use Rattle.thread_local_model.specs.Walk.{with_value}
 
--- A table as its users see it: which ids are held, with a truth value for each id below some number; the value
--- of each id that has one; and the capacity that was asked for.
+-- Which ids are held, with a truth value for each id below some number; the value of each id that
+-- has one; and the capacity that was asked for.
 pub record Sheet (V : Type 0) : Type 0 where
   pub held : List Bool
   pub values : ℕ → Option V
@@ -36,7 +38,8 @@ abbrev pub moved_if : {V : Type 0} → Sheet V → Option (Move V) → Sheet V
 moved_if sheet None = sheet
 moved_if sheet (Some move) = moved sheet move
 
--- what a move needs: an id that is given back is held, one that is published has no value and is held
+-- what a move requires: an id that is given back is held, one that is published is held and has no
+-- value, and one that is kept has a value
 abbrev pub IsAllowed : {V : Type 0} → Sheet V → Move V → Type 0
 IsAllowed sheet Take = ⊤
 IsAllowed sheet (Give id) = IsTrue (is_held sheet.held id)

@@ -1,36 +1,48 @@
+//! The laws of held ids: which id a take gets, what taking and giving back change, and when a take
+//! is refused.
 ghost use Rattle.std.specs.Prelude.{◌≡◌, ℕ, ◌+◌, ◌-◌, ◌^◌, ◌<◌, ◌≤◌, ◌↔◌, ◌==◌, Bool, true, false, List, length, IsTrue, if◌then◌else◌};
 ghost use Rattle.thread_local_model.specs.Held.{Manager, is_held, least, with_least, without, held_count, HoldsAllBelow, is_granted, Takes, NeedsMemory, IsExhausted};
 
-/// The least id that isn't held is just that: it isn't held, and every lower id is.
+/// `least` is the least free id: it isn't held, and every lower id is.
 pub fn least_is_least()
     ensures free { (held : List Bool) → is_held held (least held) ≡ false }
     ensures lower { (held : List Bool) → HoldsAllBelow (least held) held }
-    ensures only { (held : List Bool) (id : ℕ) → is_held held id ≡ false → HoldsAllBelow id held → id ≡ least held }
+    ensures only { (held : List Bool) (id : ℕ)
+        → is_held held id ≡ false
+        → HoldsAllBelow id held
+        → id ≡ least held }
     ensures bounded { (held : List Bool) → least held ≤ length held }
 {}
 
-/// Taking an id changes the held ids at the least that wasn't held, and at no other.
+/// Taking an id makes the least free id held, and changes no other.
 pub fn taking_changes_the_least()
-    ensures at { (held : List Bool) (id : ℕ) → is_held (with_least held) id ≡ (if least held == id then true else is_held held id) }
+    ensures at { (held : List Bool) (id : ℕ)
+        → is_held (with_least held) id ≡ (if least held == id then true else is_held held id) }
     ensures peak { (held : List Bool) → length (with_least held)
         ≡ (if least held == length held then length held + 1 else length held) }
     ensures count { (held : List Bool) → held_count (with_least held) ≡ held_count held + 1 }
 {}
 
-/// Giving an id back changes the held ids at that id, and at no other.
+/// Giving an id back frees that id, and changes no other.
 pub fn giving_changes_that_id()
-    ensures at { (held : List Bool) (given id : ℕ) → is_held (without held given) id ≡ (if given == id then false else is_held held id) }
+    ensures at { (held : List Bool) (given id : ℕ)
+        → is_held (without held given) id ≡ (if given == id then false else is_held held id) }
     ensures peak { (held : List Bool) (given : ℕ) → length (without held given) ≡ length held }
     ensures count { (held : List Bool) (given : ℕ) → IsTrue (is_held held given)
         → held_count (without held given) + 1 ≡ held_count held }
 {}
 
-/// An id is taken where a take is granted, and the two refusals are the two ways in which none is: the next id needs memory just where a
-/// take is granted with memory and not without it, and no id is left just where none is granted with memory either.
+/// An id is taken only where a take is granted. A take is refused in two cases: it needs memory and
+/// gets none, or every id is held, which no memory helps.
 pub fn takes_are_granted()
     ensures taken { (old new : Manager) (id : ℕ) → Takes old new id → IsTrue (is_granted old false) }
-    ensures memory { (manager : Manager) → length manager.held ≤ manager.room → manager.room ≤ 2 ^ 63 - 1
-        → NeedsMemory manager ↔ (IsTrue (is_granted manager false) × (is_granted manager true ≡ false)) }
-    ensures exhausted { (manager : Manager) → length manager.held ≤ manager.room → manager.room ≤ 2 ^ 63 - 1
+    ensures memory { (manager : Manager)
+        → length manager.held ≤ manager.room
+        → manager.room ≤ 2 ^ 63 - 1
+        → NeedsMemory manager ↔
+        (IsTrue (is_granted manager false) × (is_granted manager true ≡ false)) }
+    ensures exhausted { (manager : Manager)
+        → length manager.held ≤ manager.room
+        → manager.room ≤ 2 ^ 63 - 1
         → IsExhausted manager ↔ (is_granted manager false ≡ false) }
 {}

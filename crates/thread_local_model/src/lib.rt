@@ -1,6 +1,7 @@
-//! The words that the contracts of `thread_local` speak in, and the laws that show them right.
+//! The definitions that the contracts of `thread_local` cite, and the laws that show them right.
 //!
-//! The definitions stand in specs/. Each function here has an empty body: its contract is a set of laws.
+//! The definitions are in `specs/`. Each function here has an empty body: its contract is a set of
+//! laws.
 #![tactic(auto)]
 
 pub mod answers;

@@ -1,8 +1,9 @@
+//! The place of an id: its bucket, and its index in the bucket.
 ghost use Rattle.std.specs.Prelude.{◌≡◌, ℕ, ◌+◌, ◌-◌, ◌^◌, ◌<◌};
 ghost use Rattle.thread_local_model.specs.Place.{place, bucket_of, index_of, id_at};
 
-/// The place of an id, as `place` counts it from id 0 upward, is the one solution of an equation, and so a
-/// bijection: each id has one place, and each place of a bucket one id.
+/// `place` counts places from id 0 upward. The place of an id is the only solution of an equation,
+/// so ids and places correspond one to one.
 pub fn is_bijection()
     ensures equation { (id : ℕ) → id + 1 ≡ 2 ^ bucket_of id + index_of id }
     ensures inside { (id : ℕ) → index_of id < 2 ^ bucket_of id }

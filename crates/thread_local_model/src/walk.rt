@@ -1,8 +1,10 @@
+//! What a walk over a table gives: each value once, by ascending id.
 ghost use Rattle.std.specs.Prelude.{◌≡◌, ℕ, ◌-◌, ◌^◌, ◌<◌, ◌↔◌, List, map, Contains, Option, Some};
 ghost use Rattle.std.specs.List.Sorted.{IsStrictlyIncreasing};
 ghost use Rattle.thread_local_model.specs.Walk.{walk, paired};
 
-/// A walk gives exactly the values of the map at the ids below 2^63 - 1, each once, by ascending id.
+/// A walk gives exactly the values of the map at the ids below 2^63 - 1, each once, by ascending
+/// id.
 pub fn walk_lists_the_map<V>()
     ensures values { (values : ℕ → Option V) → map (λ pair. pair.1) (walk (paired values)) ≡ walk values }
     ensures exact { (values : ℕ → Option V) (id : ℕ) (v : V)

@@ -1,4 +1,5 @@
-//! The table of the theorems is an owner's buckets, for whoever has it alone: what it shows, and that its events change that as an owner's calls do.
+//! The model's table matches an owner's buckets: what it shows to an owner, and that its events
+//! change it as an owner's calls do.
 #![tactic(auto)]
 
 pub mod shown;

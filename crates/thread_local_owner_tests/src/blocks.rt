@@ -3,9 +3,8 @@
 use std::alloc::{AllocError, Global};
 use std::mem::size_of;
 use std::test::Fail;
-use thread_local_blocks::Block;
+use thread_local_blocks::{Block, Chunk, flag_word, value_size};
 use thread_local_buckets::Buckets;
-use thread_local_chunks::{Chunk, flag_word, value_size};
 use thread_local_test_helpers::memory::take_all_but;
 use thread_local_test_helpers::refusing::Refusing;
 
@@ -29,7 +28,8 @@ fn bytes_asked(len: usize) -> usize {
     alloc.bytes()
 }
 
-// A word of flags lies behind all values of its block, at a multiple of 8 bytes, whatever their size.
+// A word of flags lies behind all values of its block, at a multiple of 8 bytes, whatever their
+// size.
 #[test]
 fn the_words_of_flags_lie_behind_the_values(rt: HostRuntime) {
     let numbers = [

@@ -1,7 +1,7 @@
 //! Tests of an owner's buckets, of what no contract says.
 //!
-//! `rt try --test --fail-alloc N` refuses the Nth request for memory of each test. A test then ends as it does else, or with the error that
-//! says so.
+//! `rt try --test --fail-alloc N` refuses the Nth request for memory of each test. A test then ends
+//! as it does else, or with the error that says so.
 
 use std::alloc::AllocError;
 use thread_local_buckets::Buckets;

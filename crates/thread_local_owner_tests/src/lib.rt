@@ -4,8 +4,8 @@
 #[cfg(test)]
 mod blocks;
 #[cfg(test)]
+mod bucket_pointer;
+#[cfg(test)]
+mod bucket_pointers;
+#[cfg(test)]
 mod buckets;
-#[cfg(test)]
-mod word;
-#[cfg(test)]
-mod words;

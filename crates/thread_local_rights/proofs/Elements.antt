@@ -1,4 +1,4 @@
--- The elements of rights: made, cut, put together and compared. Assumes `Logic`.
+-- The elements that rights own: how they are made, split, joined and compared. Assumes `Logic`.
 use Rattle.std.proofs.Common.{◌≡◌, ◌≢◌, ℕ, suc, ◌+◌, ◌≤◌, ◌==◌, Bool, true, false, not, List, [], ◌∷◌, if◌then◌else◌, refl, subst, arith, ne_eqb}
 use Rattle.std.proofs.lemmas.Bool.Decides.{nat_tests}
 use Rattle.std.proofs.lemmas.Grind.{common_steps}
@@ -64,7 +64,7 @@ both_in true here e f d = cc
 both_in false true e f d = cc
 both_in false false e f d = Excl.not-OpDef tt tt d
 
--- a number above all that are out
+-- a number greater than every id that is out
 above : List ℕ → ℕ
 above [] = 0
 above (x ∷ out) = suc x + above out
@@ -89,7 +89,7 @@ module _ {M : Type 1} {𝓤 : Ura M} (𝓛 : Logic 𝓤) where
 
   infix 26 ◌⊢◌
   infixr 35 ◌∗◌
-  -- all rights of a new table
+  -- all rights of a new table, under a fresh name
   pub rights_new : emp 𝓤 ⊢ upd 𝓤 (ex 𝓤 (λ (γ : GName). ⟦ rights_own γ [] ⟧))
   unfolding rights_own
   rights_new = own_new 𝓛 (keyed token) (all_but [])
@@ -122,24 +122,24 @@ module _ {M : Type 1} {𝓤 : Ura M} (𝓛 : Logic 𝓤) where
   rights_join γ out id = seen γ out id ⟦ rights_own γ (less out id) ⟧ (λ gone. own_join 𝓛 (keyed token) γ (one_at id) (all_but out) (all_but (less out id))
       (at_each_key (one_at id) (all_but out) (all_but (less out id)) (λ j. rw is_out-less (joined_at (id == j) (is_out out j) (λ is. rw (← eqb-true id j is) gone)))))
 
-  -- nobody has a right twice
+  -- no two rights are to the same id
   pub right_once : (γ : GName) (id : ℕ) (Z : Pr) → ⟦ right_owns γ id ⟧ ∗ ⟦ right_owns γ id ⟧ ⊢ Z
   unfolding right_owns
   right_once γ id Z = own_glued 𝓛 (keyed token) γ (one_at id) (one_at id) Z (λ c m. absurd (twice (id == id) (eq-eqb id id refl) (m.0 id)))
 
-  -- two rights of one table are to two ids
+  -- two rights of one table are to different ids
   pub right_apart : (γ δ : GName) (i j : ℕ) → γ ≡ δ → ⟦ right_owns γ i ⟧ ∗ ⟦ right_owns δ j ⟧ ⊢ guard 𝓤 (i ≢ j) (⟦ right_owns γ i ⟧ ∗ ⟦ right_owns δ j ⟧)
   right_apart γ δ i j same = let Both : Pr = ⟦ right_owns γ i ⟧ ∗ ⟦ right_owns δ j ⟧ in dite (ℕ_discrete i j)
       (λ e. subst (λ (x : ℕ × ℕ). ⟦ right_owns γ i ⟧ ∗ ⟦ right_owns x.0 x.1 ⟧ ⊢ guard 𝓤 (i ≢ j) Both) (λ k. (same k, e k)) (right_once γ i (guard 𝓤 (i ≢ j) Both)))
       (guard_i 𝓤 (i ≢ j) Both)
 
-  -- no table's rights are there twice
+  -- no table has two `Rights`
   pub rights_once : (γ : GName) (out gone : List ℕ) (Z : Pr) → ⟦ rights_own γ out ⟧ ∗ ⟦ rights_own γ gone ⟧ ⊢ Z
   unfolding rights_own
   rights_once γ out gone Z = let n : ℕ = above out + above gone in own_glued 𝓛 (keyed token) γ (all_but out) (all_but gone) Z (λ c m.
       absurd (both_in (is_out out n) (is_out gone n) (is_out-above out n (omega arith)) (is_out-above gone n (omega arith)) (m.0 n)))
 
-  -- the rights of two tables have two names
+  -- two `Rights` belong to tables of different names
   pub rights_apart : (γ δ : GName) (out gone : List ℕ) → ⟦ rights_own γ out ⟧ ∗ ⟦ rights_own δ gone ⟧ ⊢ guard 𝓤 (γ ≢ δ) (⟦ rights_own γ out ⟧ ∗ ⟦ rights_own δ gone ⟧)
   rights_apart γ δ out gone = let Both : Pr = ⟦ rights_own γ out ⟧ ∗ ⟦ rights_own δ gone ⟧ in dite (ℕ_discrete γ δ)
       (λ e. subst (λ (x : ℕ). ⟦ rights_own γ out ⟧ ∗ ⟦ rights_own x gone ⟧ ⊢ guard 𝓤 (γ ≢ δ) Both) e (rights_once γ out gone (guard 𝓤 (γ ≢ δ) Both)))

@@ -1,4 +1,5 @@
--- The facts that a function ensures, one after another. Assumes `Logic`.
+-- The last step of a proof of a function: it states the facts that the function ensures, one after
+-- another. Assumes `Logic`.
 use Rattle.std.proofs.Common.{List}
 use seplogic.Ra.Ura.{Ura}
 use base.Logic.{SProp, sep, emp}

@@ -1,3 +1,4 @@
+mod BothLent
 pub mod Elements
 mod Facts
 pub mod Tokens

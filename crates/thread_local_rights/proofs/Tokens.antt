@@ -1,4 +1,5 @@
--- The one machine value of a token: a struct of one field, the marker, which has no bytes. Assumes `Logic`.
+-- The machine value of a token: a struct whose one field is a marker without bytes. Assumes
+-- `Logic`.
 use Rattle.std.proofs.Common.{◌≡◌, List, [], ◌∷◌, ◌++◌, refl, ap, ◌∙◌}
 use seplogic.Ra.Ura.{Ura}
 use mir.Syntax.{Sym}

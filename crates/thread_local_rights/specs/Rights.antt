@@ -1,20 +1,21 @@
--- The right to an id is an element that one holder at a time has, at the id's key under the table's name.
+-- What rights own: elements of ghost state, one at the key of each id under the table's name, with
+-- one holder each.
 use Rattle.std.specs.Prelude.{ℕ, ◌==◌, Bool, true, false, not, List, [], ◌∷◌, if◌then◌else◌}
 use mathlib.Core.Option.{Option, none, some}
 use base.Fml.{Fml, fown}
 use types.Keyed.{keyed, token}
 
--- whether the right to an id is out, of the ids whose right is
+-- whether an id is among those whose right is out
 abbrev pub is_out : List ℕ → ℕ → Bool
 is_out [] id = false
 is_out (x ∷ out) id = if x == id then true else is_out out id
 
--- those ids without this one
+-- the ids without this one
 abbrev pub less : List ℕ → ℕ → List ℕ
 less [] id = []
 less (x ∷ out) id = if x == id then less out id else x ∷ less out id
 
--- the element at a key, where the test of the key is true
+-- the element at a key where the test of the key is true, and none elsewhere
 abbrev pub element_if : Bool → Option (Unit {0})
 element_if true = some tt
 element_if false = none

@@ -3,8 +3,8 @@ ghost use Rattle.std.specs.Prelude.{◌≡◌, ◌-◌, ◌^◌, ◌<◌};
 
 use crate::right::Right;
 
-/// An id that is held, with the right to it: one value from the taking of an id until it is given back. One that is dropped or forgotten is
-/// held for good.
+/// A held id and the right to it, as one value from the moment the id is taken until it is given
+/// back. One that is dropped or forgotten stays held for good.
 #[derive(Drop)]
 pub struct HeldId {
     pub id: usize,
@@ -14,7 +14,7 @@ pub struct HeldId {
 }
 
 impl HeldId {
-    /// The id and its right.
+    /// Takes it apart, so that the id and its right can each be given back.
     pub fn into_parts(self) -> (usize, Right)
         ensures id { (result.0 ≡ self.id) × (self.id < 2 ^ 63 - 1) }
         ensures right { (result.1 ≡ self.right) × (result.1.id ≡ self.id) }

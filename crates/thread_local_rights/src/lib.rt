@@ -1,4 +1,5 @@
-//! What lets one holder at a time write at an id of a table: the right to the id.
+//! The right to an id of a table: a token without bytes, with which one holder at a time writes to
+//! the id's slot.
 #![tactic(auto)]
 
 pub mod held;

@@ -1,13 +1,14 @@
-//! The right to an id, and the rights of the ids that are free.
+//! The right to an id is out, as a `Right` with one holder, or it is in the table's `Rights`.
+//! Neither type has bytes, and no call does anything at run time.
 ghost use Rattle.std.specs.Prelude.{◌≡◌, ◌≢◌, ℕ, ◌==◌, true, false, List, [], if◌then◌else◌};
 ghost use types.Logic.{sem};
 ghost use Rattle.thread_local_rights.specs.Rights.{is_out, right_owns, rights_own};
 
 use std::marker::{Model, PhantomData};
 
-/// The right to one id of one table. No two values are the right to one id of one table.
+/// The right to one id of one table: no two values are the right to the same id.
 ///
-/// It takes no bytes. One that is dropped or forgotten is lost for good: its id stays out.
+/// One that is dropped or forgotten is lost for good, and its id stays out.
 #[derive(Drop)]
 pub struct Right {
     marker: PhantomData<()>,
@@ -19,9 +20,7 @@ impl Model for Right {
     ghost also_owns = { λ r. right_owns r.table r.id };
 }
 
-/// The rights of a table that are not out: those of all ids but the ones that were taken and not put back.
-///
-/// It takes no bytes.
+/// A table's rights to all ids but those that are out, which were taken and not put back.
 #[derive(Drop)]
 pub struct Rights {
     marker: PhantomData<()>,
@@ -34,7 +33,7 @@ impl Model for Rights {
 }
 
 impl Rights {
-    /// All rights of a new table, whose name no other table has.
+    /// All rights of a new table, under a fresh name that no other table has.
     pub fn new() -> Rights
         ensures { result.out ≡ [] }
     {
@@ -43,7 +42,7 @@ impl Rights {
         }
     }
 
-    /// Takes the right to an id out.
+    /// Hands out the right to an id that isn't out yet.
     pub fn take(&mut self, id: usize) -> Right
         requires { is_out self.old.out id ≡ false }
         ensures right { (result.table ≡ self.old.table) × (result.id ≡ id) }
@@ -60,19 +59,13 @@ impl Rights {
         requires { right.table ≡ self.old.table }
         ensures was_out { is_out self.old.out right.id ≡ true }
         ensures table { self.new.table ≡ self.old.table }
-        ensures out { (j : ℕ) → is_out self.new.out j ≡ (if right.id == j then false else is_out self.old.out j) }
+        ensures out { (j : ℕ)
+            → is_out self.new.out j ≡ (if right.id == j then false else is_out self.old.out j) }
     {
         let Right { marker: _ } = right;
     }
 
-    /// Shows that a right that someone has is out. At run time it does nothing.
-    pub fn lacks(&mut self, right: &mut Right)
-        requires { right.old.table ≡ self.old.table }
-        ensures out { is_out self.old.out right.old.id ≡ true }
-        ensures same { (self.new ≡ self.old) × (right.new ≡ right.old) }
-    {}
-
-    /// Shows that the rights of two tables have two names. At run time it does nothing.
+    /// Shows that two `Rights` belong to tables of different names.
     pub fn apart(&mut self, other: &mut Rights)
         ensures tables { self.old.table ≢ other.old.table }
         ensures same { (self.new ≡ self.old) × (other.new ≡ other.old) }
@@ -80,21 +73,22 @@ impl Rights {
 }
 
 impl Right {
-    /// Shows that two rights of one table are to two ids. At run time it does nothing.
+    /// Shows that two rights of one table are to different ids.
     pub fn apart(&mut self, other: &mut Right)
         requires { self.old.table ≡ other.old.table }
         ensures ids { self.old.id ≢ other.old.id }
         ensures same { (self.new ≡ self.old) × (other.new ≡ other.old) }
     {}
 
-    /// Leaves the right with the caller's proof, as for an invariant of its own. At run time it does nothing.
+    /// Leaves the right with the caller's proof, as for an invariant of its own. At run time it
+    /// does nothing.
     pub fn lay_down(self)
         ensures* { sem 𝓛 (right_owns self.table self.id) }
     {
         let Right { marker: _ } = self;
     }
 
-    /// Makes the right of what `lay_down` left. At run time it does nothing.
+    /// Makes a right again out of what `lay_down` gave to the proof.
     pub fn take_up() -> Right
         ghost of: { ℕ × ℕ }
         requires* { sem 𝓛 (right_owns of.0 of.1) }

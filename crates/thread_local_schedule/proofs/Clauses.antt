@@ -1,3 +1,4 @@
+-- The clauses of the theorems, from the invariant and from what every event says.
 use Rattle.std.proofs.Common.{◌≡◌, ℕ, ◌-◌, ◌^◌, ◌⊎◌, Bool, true, false, not, ◌||◌, cond, List, [], ◌∷◌, Some, None, is_some, IsTrue, IsSomeAnd, refl, ap, sym, ◌∙◌, subst}
 use Rattle.std.specs.Prelude.{unwrap_or}
 use Rattle.std.proofs.lemmas.Bool.{false≢true, and_parts, not-true, not-false, cond_both}
@@ -5,7 +6,7 @@ use Rattle.thread_local_model.specs.Held.{is_held, least, HoldsAllBelow, is_gran
 use Rattle.thread_local_model.specs.Capacity.{reserves_bucket, is_reserved}
 use Rattle.thread_local_model.specs.Sheet.{Sheet, new_sheet, Clear, moved_if}
 use Rattle.thread_local_model.specs.Answers.{View, first_view}
-use Rattle.thread_local_steps.specs.Table.{empty_slot, slot_at, stands}
+use Rattle.thread_local_steps.specs.Table.{empty_slot, slot_at, bucket_stands}
 use Rattle.thread_local_steps.specs.Local.{Local, fresh_local}
 use Rattle.thread_local_core.specs.Cleared.{cleared}
 use Rattle.thread_local_core.specs.Core.{Core, made_core, shadow, peak, is_alone}
@@ -16,17 +17,17 @@ use Rattle.thread_local_schedule.proofs.Kept.{happens-fits, run-fits}
 use Rattle.thread_local_schedule.proofs.EventSays.{Says, event_says}
 use Rattle.thread_local_core.proofs.PutLaws.{put_same}
 use Rattle.thread_local_core.proofs.Parts.{made_core-fits, no_locals}
-use Rattle.thread_local_core.proofs.ClearedLaws.{slot_at-cleared, stands-cleared}
+use Rattle.thread_local_core.proofs.ClearedLaws.{slot_at-cleared, bucket_stands-cleared}
 use Rattle.thread_local_core.proofs.CoreLaws.{none_if}
 use Rattle.thread_local_core.proofs.SheetLaws.{settled, untaken}
 use Rattle.thread_local_schedule.proofs.Takes.{not_granted}
 use Rattle.thread_local_core.proofs.OptionLaws.{stays, some_step, some_and, tested}
 
--- the invariant holds wherever a schedule leads
+-- a reached core fits
 pub fits : {V E : Type 0} (core : Core V E) → IsReached core → CoreFits core
 fits core r = subst CoreFits r.leads (run-fits (made_core r.capacity r.extra) r.events (made_core-fits r.capacity r.extra r.bounded))
 
--- and each event says what it does
+-- each event of a reached core says what it changes
 pub says : {V E : Type 0} (core : Core V E) (event : Event V E) → IsReached core → Says core event (is_enabled core event) (happens core event)
 says core event r = event_says core event (fits core r)
 
@@ -35,7 +36,7 @@ pub idle : {V E : Type 0} (core : Core V E) (event : Event V E) → is_enabled c
 unfolding is_enabled happens
 idle core event none = stays (step core event) core none
 
--- an event that is enabled leads to what its step says
+-- the core after an enabled event is the one of its rule
 pub enabled_step : {V E : Type 0} (core : Core V E) (event : Event V E) → IsTrue (is_enabled core event) → IsTrue (is_some (step_of core event))
 unfolding is_enabled step
 enabled_step core event t = (some_step core.ended (step_of core event) t).1
@@ -44,11 +45,12 @@ pub goes : {V E : Type 0} (core : Core V E) (event : Event V E) → IsTrue (is_e
 unfolding is_enabled happens step
 goes core event t = let open_table = (some_step core.ended (step_of core event) t).0 in rw open_table refl
 
--- so is an owner's call
+-- after an owner's call the core is that of the call
 pub owner_goes : {V E : Type 0} (core : Core V E) (call : OwnerCall V) → IsTrue (is_enabled core (Owner call)) → happens core (Owner call) ≡ after_owner core call
 owner_goes core call t = goes core (Owner call) t ∙ (tested (is_alone core) (after_owner core call) core (enabled_step core (Owner call) t)).1
 
--- a granted take makes a Local with the least id that isn't held, whose first view is what its slot shows
+-- a granted take makes a Local with the least id that isn't held, whose first view is what its slot
+-- shows
 pub taken : {V E : Type 0} (core : Core V E) (event : Event V E) → IsTrue (is_granted_take core event)
     → (growth : ℕ) × (happens core event ≡ take_id core growth)
 taken core (TakeId refused growth) t =
@@ -67,13 +69,14 @@ pub start : {V E : Type 0} (core : Core V E) (event : Event V E) → IsTrue (is_
     → IsSomeAnd (newcomer core event) (λ local. (local.start ≡ first_view (shadow core) local.id) × (local.calls ≡ []))
 start core event t = some_and (newcomer core event) _ (λ local. (local.start ≡ first_view (shadow core) local.id) × (local.calls ≡ [])) (new_local core event t) (refl, refl)
 
--- to be forgotten is no move, so the id stays held
+-- forgetting is no move, so the id stays held
 pub still_held : {V E : Type 0} (core : Core V E) (n : ℕ) (local : Local V E) → IsReached core → core.locals n ≡ Some local → IsTrue (is_held (shadow (happens core (Forget n))).held local.id)
 still_held core n local r at =
     let same : shadow (happens core (Forget n)) ≡ shadow core = (says core (Forget n) r).moves ∙ cond_both (is_enabled core (Forget n)) None None (λ o. moved_if (shadow core) o ≡ shadow core) (λ _. refl) (λ _. refl) in
     rw (ap (λ sheet. sheet.held) same) ((fits core r).locals.each n local at).id_held
 
--- a clear that is enabled leaves no id held and the table cleared, and so the sheet of `new` with the capacity
+-- an enabled clear leaves no id held and the table cleared, and so the sheet of `new` with the
+-- capacity
 pub cleared_core : {V E : Type 0} (core : Core V E) → IsTrue (is_enabled core (Owner ClearTable))
     → happens core (Owner ClearTable) ≡ record core { manager = record { held = []; room = core.manager.room }; table = cleared core.table core.capacity }
 cleared_core core t = owner_goes core ClearTable t
@@ -82,16 +85,16 @@ pub cleared_sheet : {V E : Type 0} (core : Core V E) → IsReached core → IsTr
     → shadow (happens core (Owner ClearTable)) ≡ record new_sheet { capacity = (shadow core).capacity }
 cleared_sheet core r t = (says core (Owner ClearTable) r).moves ∙ ap (λ b. moved_if (shadow core) (cond b (Some Clear) None)) t
 
--- just the reserved buckets stand then
+-- exactly the reserved buckets stand then
 pub cleared_stands : {V E : Type 0} (core : Core V E) (bucket : ℕ) → IsReached core → IsTrue (is_enabled core (Owner ClearTable))
-    → stands (happens core (Owner ClearTable)).table bucket ≡ reserves_bucket core.capacity bucket
-cleared_stands core bucket r t = ap (λ after. stands after.table bucket) (cleared_core core t) ∙ stands-cleared core.table core.capacity bucket ((fits core r).table.reserved bucket)
+    → bucket_stands (happens core (Owner ClearTable)).table bucket ≡ reserves_bucket core.capacity bucket
+cleared_stands core bucket r t = ap (λ after. bucket_stands after.table bucket) (cleared_core core t) ∙ bucket_stands-cleared core.table core.capacity bucket ((fits core r).table.reserved bucket)
 
--- and every slot is as it was made
+-- and every slot is empty
 pub cleared_slots : {V E : Type 0} (core : Core V E) (id : ℕ) → IsTrue (is_enabled core (Owner ClearTable)) → slot_at (happens core (Owner ClearTable)).table id ≡ empty_slot
 cleared_slots core id t = ap (λ after. slot_at after.table id) (cleared_core core t) ∙ slot_at-cleared core.table core.capacity id
 
--- refusals come only where they may
+-- a take is refused only where it may be
 pub refused_take : {V E : Type 0} (core : Core V E) (refused : Bool) (growth : ℕ) → CoreFits core → IsTrue (is_refused core (TakeId refused growth))
     → HoldsAllBelow (2 ^ 63 - 1) (shadow core).held ⊎ (HoldsAllBelow (peak core) (shadow core).held × (peak core ≡ core.manager.room) × IsTrue refused)
 refused_take core refused growth h t =
@@ -102,7 +105,7 @@ refused_take core refused growth h t =
 abbrev unused : {V : Type 0} → ℕ → Sheet V
 unused capacity = record new_sheet { capacity = capacity }
 
--- as after a clear: no Local lives, and the sheet is such a one
+-- as after a clear: there is no Local, and the sheet is such a one
 record IsFresh {V E : Type 0} (capacity : ℕ) (core : Core V E) : Type 0 where
   none : (n : ℕ) → core.locals n ≡ None
   sheet : shadow core ≡ unused capacity
@@ -120,7 +123,7 @@ still_new capacity core (GiveBack number) none e = settled (unused capacity) (is
 still_new capacity core (Owner call) none e = settled (unused capacity) (is_enabled core (Owner call)) (move_of core (Owner call)) (owner_settled capacity core call)
 still_new capacity core event none e = settled (unused capacity) (is_enabled core event) None refl
 
--- a Local comes by a take that is granted, and by nothing else
+-- only a granted take makes a Local
 pub comes : {V E : Type 0} (core : Core V E) (event : Event V E) (n : ℕ) (local : Local V E) → CoreFits core → core.locals n ≡ None → (happens core event).locals n ≡ Some local
     → IsTrue (is_granted_take core event) × (n ≡ core.taken)
 comes core event n local h none at =
@@ -138,7 +141,7 @@ unfolding run
 run_fresh capacity core [] h f none = f
 run_fresh capacity core (event ∷ events) h f none = run_fresh capacity (happens core event) events (happens-fits core event h) (fresh_kept capacity core event h f none.0) none.1
 
--- a clear comes where no Local lives
+-- a clear is enabled where there is no Local
 cleared_fresh : {V E : Type 0} (core : Core V E) → IsReached core → IsTrue (is_enabled core (Owner ClearTable)) → IsFresh core.capacity (happens core (Owner ClearTable))
 cleared_fresh core r t = record {
   none = λ n.
@@ -151,11 +154,11 @@ or_false : (b : Bool) → (b || false) ≡ b
 or_false true = refl
 or_false false = refl
 
--- what is known at id 0 of such a sheet
+-- the first view of id 0 on such a sheet
 first_of_unused : (T : Type 0) (capacity : ℕ) → first_view {V = T} (unused capacity) 0 ≡ record { value = None; known = is_reserved capacity 0 }
 first_of_unused T capacity = ap (λ known. let view : View T = record { value = None; known = known } in view) (or_false (is_reserved capacity 0))
 
--- so the next Local gets id 0 and finds nothing there, and knows its bucket where that is reserved
+-- the next Local gets id 0 and finds no value, and knows its bucket to stand where id 0 is reserved
 pub after_clear : {V E : Type 0} (core : Core V E) (events : List (Event V E)) (event : Event V E) → IsReached core → IsTrue (is_enabled core (Owner ClearTable))
     → NoneTaken (happens core (Owner ClearTable)) events → IsTrue (is_granted_take (run (happens core (Owner ClearTable)) events) event)
     → IsSomeAnd (newcomer (run (happens core (Owner ClearTable)) events) event) (λ local. (local.id ≡ 0) × (local.start ≡ record { value = None; known = is_reserved (shadow core).capacity 0 }))

@@ -1,3 +1,4 @@
+-- Which events are enabled: an owner's call, a Local's end, a step.
 use Rattle.std.proofs.Common.{◌≡◌, ℕ, zero, suc, Bool, true, false, cond, Option, Some, None, is_some, IsTrue, IfSome, IsSomeAnd, refl, ap, sym, ◌∙◌, subst, arith}
 use Rattle.std.specs.Prelude.{unwrap_or, option_map, option_and_then}
 use Rattle.std.proofs.lemmas.Bool.{false≢true, and_parts, not-true}
@@ -15,7 +16,7 @@ use Rattle.thread_local_schedule.specs.Schedule.{is_refused, IsAlone}
 use Rattle.thread_local_core.proofs.OptionLaws.{tested}
 use Rattle.thread_local_schedule.proofs.Clauses.{goes, enabled_step}
 
--- what an event of a table that hasn't ended makes of it decides whether it is enabled
+-- until the table has ended, the event's own rule decides whether it is enabled
 pub may : {V E : Type 0} (core : Core V E) (event : Event V E) → core.ended ≡ false → IsTrue (is_some (step_of core event)) → IsTrue (is_enabled core event)
 unfolding is_enabled step
 may core event going t = subst (λ b. IsTrue (is_some (cond b None (step_of core event)))) (sym going) t
@@ -26,7 +27,7 @@ takes core refused growth going = may core (TakeId refused growth) going refl
 pub walks_begin : {V E : Type 0} (core : Core V E) → core.ended ≡ false → IsTrue (is_enabled core BeginWalk)
 walks_begin core going = may core BeginWalk going refl
 
--- an owner's call wants the table for itself, and nothing more
+-- an owner's call needs the table for itself, and nothing more
 pub alone : {V E : Type 0} (core : Core V E) (call : OwnerCall V) → CoreFits core → IsTrue (is_enabled core (Owner call)) → IsAlone core
 alone core call h t =
     let own = (tested (is_alone core) (after_owner core call) core (enabled_step core (Owner call) t)).0 in
@@ -41,7 +42,7 @@ owner_may core call going unused =
     may core (Owner call) going
     (rw (none_at_all core.locals core.taken unused.locals, none_at_all core.walks core.walked unused.walks) refl)
 
--- a Local leaves where no call of it is under way
+-- a Local with no call under way, by what it does
 idle_gets : {V E : Type 0} (doing : Doing V E) → IsTrue (is_idle doing) → gets_of doing ≡ 0
 idle_gets (Gets zero) t = refl
 idle_gets (Gets (suc count)) t = absurd (false≢true t)
@@ -62,7 +63,7 @@ no_call_idle (Started create) gets closure = cc
 no_call_idle (Private create number) gets closure = cc
 no_call_idle (Written v) gets closure = cc
 
--- so does one that gives its id back or is forgotten, and then it lives no longer
+-- a Local gives its id back, or is forgotten, where no call of it is under way, and is gone then
 leaves : {V E : Type 0} (core : Core V E) (n : ℕ) (after : Local V E → Core V E) (o : Option (Local V E)) → ((local : Local V E) → (after local).locals n ≡ None)
     → let left = option_and_then (λ local. cond (is_idle local.doing) (Some (after local)) None) o in
     IsTrue (is_some left) → IsSomeAnd o HasNoCall × ((unwrap_or left core).locals n ≡ None)
@@ -87,13 +88,13 @@ may_leave core n local going at none =
     let idle = no_call_idle local.doing none.gets none.closure in
     (may core (GiveBack n) going (rw (at, idle) refl), may core (Forget n) going (rw (at, idle) refl))
 
--- a take that is refused leaves everything
+-- a refused take changes nothing
 pub refusal : {V E : Type 0} (core : Core V E) (refused : Bool) (growth : ℕ) → IsTrue (is_refused core (TakeId refused growth)) → happens core (TakeId refused growth) ≡ core
 refusal core refused growth t =
     let parts = and_parts (is_enabled core (TakeId refused growth)) _ t in
     goes core (TakeId refused growth) parts.0 ∙ ap (λ b. cond b (take_id core growth) core) (not-true (is_granted core.manager refused) parts.1)
 
--- a step of a Local leaves it living, and its calls as it says
+-- a step of a Local changes its calls as the step says
 stepped : {V E : Type 0} (core : Core V E) (n : ℕ) (step : LocalStep V E) (local : Local V E) (o : Option (Table V × Local V E)) → IfSome o (λ after. GoesOn step local after.1)
     → IsTrue (is_some (option_map (with_step core n) o)) → IsSomeAnd ((unwrap_or (option_map (with_step core n) o) core).locals n) (GoesOn step local)
 stepped core n step local None g t = absurd (false≢true t)

@@ -1,3 +1,4 @@
+-- What every event changes: the sheet by its move, and no other Local, value or bucket than it may.
 use Rattle.std.proofs.Common.{◌≡◌, ℕ, suc, max, Bool, true, false, not, ◌&&◌, cond, [], length, Option, Some, None, is_some, IsTrue, IfSome, refl, ap, sym, ◌∙◌, arith, ⊎_elim}
 use Rattle.std.specs.Prelude.{option_map, unwrap_or}
 use Rattle.std.proofs.lemmas.Option.{none-some}
@@ -25,7 +26,7 @@ use Rattle.thread_local_core.proofs.CoreLaws.{published_moves, publishing_allowe
 use Rattle.thread_local_core.proofs.OptionLaws.{if_enabled, if_mapped, if_there, if_then}
 use Rattle.thread_local_model.proofs.HeldLaws as ids
 
--- what an event that is enabled says of the core before it and after it
+-- what an enabled event says of the core before it and the core after it
 pub record EventSays {V E : Type 0} (core : Core V E) (event : Event V E) (after : Core V E) : Type 0 where
   pub moves : shadow after ≡ moved_if (shadow core) (move_of core event)
   pub allowed : IfSome (move_of core event) (IsAllowed (shadow core))
@@ -36,7 +37,7 @@ pub record EventSays {V E : Type 0} (core : Core V E) (event : Event V E) (after
   pub others : (n : ℕ) (local : Local V E) → is_of n event ≡ false → core.locals n ≡ Some local → after.locals n ≡ Some local
   pub peak : length after.manager.held ≡ cond (is_clear event) 0 (max (length core.manager.held) (held_count after.manager.held))
 
--- an event that leaves the ids, the table and the Locals, but for one that may live no longer
+-- an event that leaves the ids, the table and all Locals but one, which may be gone
 leaves : {V E : Type 0} (core : Core V E) (event : Event V E) (after : Core V E) → shadow after ≡ shadow core → move_of core event ≡ None → after.table ≡ core.table
     → after.manager ≡ core.manager → is_clear event ≡ false → ((n : ℕ) (then : Local V E) → after.locals n ≡ Some then → core.locals n ≡ Some then)
     → ((n : ℕ) (local : Local V E) → is_of n event ≡ false → core.locals n ≡ Some local → after.locals n ≡ Some local) → EventSays core event after
@@ -133,7 +134,7 @@ of_walk-says core number step h =
     if_there (EventSays core (OfWalk number step)) (with_walk core number) (walk_step core.table walk step)
     (λ after _. leaves core (OfWalk number step) (with_walk core number after) refl refl refl refl refl (λ n then f. f) (λ n local _ at. at)))
 
--- an owner's call, where no Local lives
+-- an owner's call, where there is no Local
 after_owner-says : {V E : Type 0} (core : Core V E) (call : OwnerCall V) → is_alone core ≡ true → CoreFits core → EventSays core (Owner call) (after_owner core call)
 after_owner-says core (IterMut others) e h = record {
   moves = ap (λ values. record (shadow core) { values = values })

@@ -1,3 +1,4 @@
+-- Every event of every schedule keeps the invariant of a core.
 use Rattle.std.proofs.Common.{◌≡◌, ℕ, suc, Bool, true, false, cond, List, [], ◌∷◌, length, Option, Some, None, IfSome, ap, sym, ◌∙◌, arith}
 use Rattle.std.proofs.lemmas.Bool.{cond_both, ne_eqb, false≢true}
 use Rattle.std.specs.Prelude.{unwrap_or}
@@ -154,7 +155,7 @@ happens-fits core event h =
     (λ _. h)
     (λ _. unwrapped CoreFits (step_of core event) core (step_of-fits core event h) h)
 
--- so does every schedule
+-- every schedule keeps the invariant
 pub run-fits : {V E : Type 0} (core : Core V E) (events : List (Event V E)) → CoreFits core → CoreFits (run core events)
 unfolding run
 run-fits core [] h = h

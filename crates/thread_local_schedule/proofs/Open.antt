@@ -1,3 +1,4 @@
+-- Only `into_iter` and the drop end a table, and no event is enabled after that.
 use Rattle.std.proofs.Common.{◌≡◌, ℕ, true, false, Option, None, IfSome, refl, IsTrue, ap}
 use Rattle.std.specs.Prelude.{unwrap_or}
 use Rattle.std.proofs.lemmas.Bool.{cond_both}
@@ -56,14 +57,14 @@ stays_open core event e f =
     (λ _. e)
     (λ _. unwrapped IsOpen (step_of core event) core (step_of-open core event e f) e)
 
--- a table that is consumed or dropped has ended
+-- `into_iter` and the drop end the table
 pub into_iter_ends : {V E : Type 0} (core : Core V E) → IsTrue (is_enabled core (Owner IntoIter)) → (happens core (Owner IntoIter)).ended ≡ true
 into_iter_ends core t = ap (λ after. after.ended) (owner_goes core IntoIter t)
 
 pub drop_ends : {V E : Type 0} (core : Core V E) → IsTrue (is_enabled core (Owner DropTable)) → (happens core (Owner DropTable)).ended ≡ true
 drop_ends core t = ap (λ after. after.ended) (owner_goes core DropTable t)
 
--- and where a table has ended no event is enabled
+-- once a table has ended no event is enabled
 pub ended : {V E : Type 0} (core : Core V E) (event : Event V E) → core.ended ≡ true → is_enabled core event ≡ false
 unfolding is_enabled step
 ended core event e = rw e refl

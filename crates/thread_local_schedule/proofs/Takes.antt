@@ -1,3 +1,4 @@
+-- When a take is refused, and that a take or a give keeps the manager's part of the invariant.
 use Rattle.std.proofs.Common.{◌≡◌, ℕ, ◌-◌, ◌^◌, Bool, false, not, ◌&&◌, length, arith, ◌≤◌, ◌⊎◌, IsTrue, subst, ⊎_elim, inl, inr}
 use Rattle.std.proofs.lemmas.Bool.{eqb-false, and_parts, not-true, eqb-true, and_cases, not-false}
 use Rattle.thread_local_model.specs.Held.{Manager, least, HoldsAllBelow, is_exhausted, is_full, is_granted, taken_from}
@@ -5,7 +6,7 @@ use Rattle.thread_local_core.proofs.HeldCounts.{peak_after}
 use Rattle.thread_local_core.specs.CoreFits.{ManagerFits}
 use Rattle.thread_local_model.proofs.HeldLaws as ids
 
--- a take that is refused finds every id held, or no room and no memory
+-- a refused take finds every id held, or no room and no memory
 pub not_granted : (manager : Manager) (refused : Bool) → length manager.held ≤ manager.room → is_granted manager refused ≡ false
     → HoldsAllBelow (2 ^ 63 - 1) manager.held ⊎ (HoldsAllBelow (length manager.held) manager.held × (length manager.held ≡ manager.room) × IsTrue refused)
 not_granted manager refused room none =
@@ -20,11 +21,11 @@ not_granted manager refused room none =
     inr (subst (λ n. HoldsAllBelow n manager.held) top lower, omega arith, both.0))
     (and_cases (not (is_exhausted manager)) (not (refused && is_full manager)) none)
 
--- a take that is granted finds an id that isn't held
+-- a granted take finds an id that isn't held
 pub granted_some : (manager : Manager) (refused : Bool) → IsTrue (is_granted manager refused) → is_exhausted manager ≡ false
 granted_some manager refused t = not-true (is_exhausted manager) (and_parts (not (is_exhausted manager)) (not (refused && is_full manager)) t).0
 
--- the manager's part once an id is taken, or given back
+-- the manager's part after an id was taken or given back
 pub taken-ManagerFits : (manager : Manager) (capacity growth : ℕ) → is_exhausted manager ≡ false → ManagerFits manager capacity → ManagerFits (taken_from manager growth) capacity
 taken-ManagerFits manager capacity growth some h =
     let free = eqb-false (least manager.held) (2 ^ 63 - 1) some in

@@ -1,3 +1,4 @@
+-- What every event does to the shared walks: only a walk's own steps and its end change it.
 use Rattle.std.proofs.Common.{◌≡◌, ℕ, Bool, true, false, cond, Option, Some, None, is_some, IsTrue, IfSome, IsSomeAnd, refl, ap, sym, ◌∙◌, subst, arith, ⊎_elim}
 use Rattle.std.specs.Prelude.{option_map, option_and_then, unwrap_or}
 use Rattle.std.proofs.lemmas.Option.{none-some}
@@ -18,12 +19,12 @@ use Rattle.thread_local_schedule.specs.Schedule.{is_of_walk}
 use Rattle.thread_local_schedule.proofs.Clauses.{goes, enabled_step}
 use Rattle.thread_local_schedule.proofs.Enabled.{may}
 
--- what an event that is enabled says of the walks
+-- what an enabled event says of the walks
 pub record WalksSay {V E : Type 0} (core : Core V E) (event : Event V E) (after : Core V E) : Type 0 where
   pub others : (n : ℕ) (walk : SharedWalk V) → is_of_walk n event ≡ false → core.walks n ≡ Some walk → after.walks n ≡ Some walk
   pub comes : (n : ℕ) (walk : SharedWalk V) → core.walks n ≡ None → after.walks n ≡ Some walk → walk ≡ fresh_walk
 
--- an event that leaves the walks
+-- an event that leaves all walks
 leaves : {V E : Type 0} (core : Core V E) (event : Event V E) (after : Core V E) → ((n : ℕ) → after.walks n ≡ core.walks n) → WalksSay core event after
 leaves core event after same = record { others = λ n walk _ at. same n ∙ at; comes = λ n walk none at. absurd (none-some walk (sym none ∙ sym (same n) ∙ at)) }
 
@@ -43,7 +44,7 @@ forget-says core number =
     if_then (WalksSay core (Forget number)) _ (core.locals number) (λ local at.
     if_enabled (WalksSay core (Forget number)) (is_idle local.doing) (without_local core number) (leaves core (Forget number) (without_local core number) (λ n. refl)))
 
--- a walk that begins comes under a number that none has
+-- a new walk gets a number that none has
 begin_walk-says : {V E : Type 0} (core : Core V E) → CoreFits core → IfSome (begin_walk core) (WalksSay core BeginWalk)
 begin_walk-says core h = record {
   others = λ n walk _ at.
@@ -121,7 +122,7 @@ adds core n step before h t at =
     rw (goes core (OfWalk n step) t)
     (rw at (added core n step (walk_step core.table before step) before (walk_step-adds core.table before step (h.walks.each n before at)) (subst (λ o. IsTrue (is_some (option_and_then (λ w. option_map (with_walk core n) (walk_step core.table w step)) o))) at (enabled_step core (OfWalk n step) t))))
 
--- a walk that isn't complete goes on
+-- a walk that isn't complete can make a step
 loads : {V : Type 0} (table : Table V) (walk : SharedWalk V) (looks : Bool) → walk.cursor.looks ≡ looks → is_complete walk.cursor ≡ false → IsTrue (is_some (walk_step table walk (cond looks Look Load)))
 unfolding walk_step
 loads table walk true e f = rw e refl

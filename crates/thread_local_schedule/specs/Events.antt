@@ -1,3 +1,4 @@
+-- The events of a schedule, and the core after each.
 use Rattle.std.specs.Prelude.{ℕ, zero, suc, Bool, true, false, List, [], ◌∷◌, Option, Some, None, is_some, option_map, option_and_then, unwrap_or, if◌then◌else◌}
 use Rattle.thread_local_model.specs.Held.{least, is_granted, taken_from, given_to}
 use Rattle.thread_local_model.specs.Answers.{first_view}
@@ -8,7 +9,7 @@ use Rattle.thread_local_core.specs.OwnerWalk.{rewritten}
 use Rattle.thread_local_core.specs.Cleared.{cleared}
 use Rattle.thread_local_core.specs.Core.{Core, shadow, put, is_alone}
 
--- what somebody does who has the table alone
+-- what an exclusive owner does
 pub data OwnerCall (V : Type 0) : Type 0 where
   IterMut : (others : ℕ → V → V) → OwnerCall V
   Slots : OwnerCall V
@@ -16,8 +17,9 @@ pub data OwnerCall (V : Type 0) : Type 0 where
   IntoIter : OwnerCall V
   DropTable : OwnerCall V
 
--- An event of a schedule, with what is chosen: a take, where memory may be refused and room may grow; a step of a
--- Local's call; its end, where it is dropped or forgotten; a walk's beginning, steps and end; an owner's call.
+-- An event of a schedule, with what is chosen: a take, where memory may be refused and room may
+-- grow; a step of a Local's call; a Local's drop, or its being forgotten; a walk's beginning, steps
+-- and end; an owner's call.
 pub data Event (V E : Type 0) : Type 0 where
   TakeId : (refused : Bool) → (growth : ℕ) → Event V E
   OfLocal : (number : ℕ) → (step : LocalStep V E) → Event V E
@@ -28,9 +30,9 @@ pub data Event (V E : Type 0) : Type 0 where
   EndWalk : (number : ℕ) → Event V E
   Owner : (call : OwnerCall V) → Event V E
 
--- What events make of a core.
+-- The core after each kind of event.
 
--- the core once a Local has taken the least id that isn't held
+-- the core after a Local has taken the least id that isn't held
 abbrev pub take_id : {V E : Type 0} → Core V E → ℕ → Core V E
 take_id core growth =
     let id = least core.manager.held in
@@ -40,28 +42,28 @@ take_id core growth =
       taken = suc core.taken;
     }
 
--- the core once a Local and its table are as a step leaves them
+-- the core after a step of a Local, which leaves this table and Local
 abbrev pub with_step : {V E : Type 0} → Core V E → ℕ → Table V × Local V E → Core V E
 with_step core number after = record core { table = after.0; locals = put core.locals number (Some after.1) }
 
--- the core once a Local lives no longer
+-- the core without a Local
 abbrev pub without_local : {V E : Type 0} → Core V E → ℕ → Core V E
 without_local core number = record core { locals = put core.locals number None }
 
--- the core once a Local lives no longer and its id is held no longer
+-- the core without a Local, whose id isn't held any longer
 abbrev pub with_id_given : {V E : Type 0} → Core V E → ℕ → ℕ → Core V E
 with_id_given core number id = record (without_local core number) { manager = given_to core.manager id }
 
--- the core once a walk is this one
+-- the core with this walk at a number
 abbrev pub with_walk : {V E : Type 0} → Core V E → ℕ → SharedWalk V → Core V E
 with_walk core number walk = record core { walks = put core.walks number (Some walk) }
 
--- the core once a walk is under way no longer
+-- the core without a walk
 abbrev pub without_walk : {V E : Type 0} → Core V E → ℕ → Core V E
 without_walk core number = record core { walks = put core.walks number None }
 
--- the core after an owner's call: `iter_mut` puts other values in place; `clear` leaves no id held and the table
--- cleared, with the room and the capacity as they were; and `into_iter` and the drop end the table
+-- the core after an owner's call: `iter_mut` replaces values; `clear` leaves no id held and the
+-- table cleared, with the same room and capacity; `into_iter` and the drop end the table
 abbrev pub after_owner : {V E : Type 0} → Core V E → OwnerCall V → Core V E
 after_owner core (IterMut others) = record core { table = rewritten core.table others }
 after_owner core Slots = core
@@ -77,7 +79,7 @@ is_idle doing = false
 
 -- Each event below gives the core after it, or None where it isn't enabled.
 
--- a Local that lives makes a step
+-- a Local makes a step
 abbrev pub of_local : {V E : Type 0} → Core V E → ℕ → LocalStep V E → Option (Core V E)
 of_local core number step =
     option_and_then (λ local. option_map (with_step core number) (local_step core.table local step)) (core.locals number)
@@ -96,16 +98,16 @@ forget core number =
 abbrev pub begin_walk : {V E : Type 0} → Core V E → Option (Core V E)
 begin_walk core = Some (record (with_walk core core.walked fresh_walk) { walked = suc core.walked })
 
--- a walk that is under way makes a step
+-- a walk under way makes a step
 abbrev pub of_walk : {V E : Type 0} → Core V E → ℕ → WalkStep → Option (Core V E)
 of_walk core number step =
     option_and_then (λ walk. option_map (with_walk core number) (walk_step core.table walk step)) (core.walks number)
 
--- a walk that is under way ends
+-- a walk under way ends
 abbrev pub end_walk : {V E : Type 0} → Core V E → ℕ → Option (Core V E)
 end_walk core number = option_map (λ walk. without_walk core number) (core.walks number)
 
--- an owner's call comes where somebody has the table alone
+-- an owner's call is enabled where the table has an exclusive owner
 abbrev pub owner_call : {V E : Type 0} → Core V E → OwnerCall V → Option (Core V E)
 owner_call core call = if is_alone core then Some (after_owner core call) else None
 
@@ -120,7 +122,7 @@ step_of core (OfWalk number step) = of_walk core number step
 step_of core (EndWalk number) = end_walk core number
 step_of core (Owner call) = owner_call core call
 
--- the core after an event, None where the event isn't enabled: once a table has ended, none is
+-- the core after an event, or None where the event isn't enabled; none is once the table has ended
 unfoldable pub step : {V E : Type 0} → Core V E → Event V E → Option (Core V E)
 step core event = if core.ended then None else step_of core event
 
@@ -128,7 +130,7 @@ step core event = if core.ended then None else step_of core event
 unfoldable pub is_enabled : {V E : Type 0} → Core V E → Event V E → Bool
 is_enabled core event = is_some (step core event)
 
--- the core once an event has come, as it was where the event isn't enabled
+-- the core after an event; the same core where the event isn't enabled
 unfoldable pub happens : {V E : Type 0} → Core V E → Event V E → Core V E
 happens core event = unwrap_or (step core event) core
 

@@ -1,3 +1,5 @@
+-- What the theorems say of an event: its move, its refusal, whose it is; and which cores schedules
+-- reach.
 use Rattle.std.specs.Prelude.{◌≡◌, ℕ, ◌^◌, ◌<◌, Bool, true, false, not, ◌&&◌, List, [], ◌∷◌, Option, Some, None, option_map, ⊤, ◌==◌, if◌then◌else◌}
 use Rattle.thread_local_model.specs.Held.{is_granted}
 use Rattle.thread_local_model.specs.Sheet.{Move, Take, Give, Publish, Rewrite, Clear}
@@ -6,13 +8,13 @@ use Rattle.thread_local_steps.specs.Fits.{value_set}
 use Rattle.thread_local_core.specs.Core.{Core, made_core}
 use Rattle.thread_local_schedule.specs.Events.{Event, TakeId, OfLocal, GiveBack, Forget, OfWalk, EndWalk, Owner, IterMut, ClearTable, IntoIter, DropTable, is_enabled, happens, run}
 
--- what a step of a Local publishes
+-- the move of a Local's step: the value that it publishes, if any
 abbrev pub publishing : {V E : Type 0} → Option (Local V E) → LocalStep V E → Option (Move V)
 publishing None step = None
 publishing (Some local) step = option_map (λ value. Publish local.id value) (value_set local.doing step)
 
--- the move that an enabled event is, if it is one: a granted take, the step that sets a flag, a give back, an
--- owner's `iter_mut` and `clear`
+-- the move of an enabled event, if any: a granted take, the step that sets a flag, an id given
+-- back, an owner's `iter_mut` and `clear`
 abbrev pub move_of : {V E : Type 0} → Core V E → Event V E → Option (Move V)
 move_of core (TakeId refused growth) = if is_granted core.manager refused then Some Take else None
 move_of core (OfLocal number step) = publishing (core.locals number) step
@@ -21,7 +23,7 @@ move_of core (Owner (IterMut others)) = Some (Rewrite others)
 move_of core (Owner ClearTable) = Some Clear
 move_of core event = None
 
--- the move that an event is: one that isn't enabled is none
+-- the move of an event: none where it isn't enabled
 abbrev pub move : {V E : Type 0} → Core V E → Event V E → Option (Move V)
 move core event = if is_enabled core event then move_of core event else None
 
@@ -46,7 +48,7 @@ ends_table (Owner IntoIter) = true
 ends_table (Owner DropTable) = true
 ends_table event = false
 
--- whether an event is a step, the give back or the forgetting of this Local
+-- whether an event is a step of this Local, its drop, or its being forgotten
 abbrev pub is_of : {V E : Type 0} → ℕ → Event V E → Bool
 is_of n (OfLocal number step) = number == n
 is_of n (GiveBack number) = number == n
@@ -59,7 +61,7 @@ is_of_walk n (OfWalk number step) = number == n
 is_of_walk n (EndWalk number) = number == n
 is_of_walk n event = false
 
--- no Local lives, and no walk is under way
+-- there is no Local, and no walk is under way
 pub record IsAlone {V E : Type 0} (core : Core V E) : Type 0 where
   pub locals : (n : ℕ) → core.locals n ≡ None
   pub walks : (n : ℕ) → core.walks n ≡ None
@@ -78,7 +80,7 @@ is_refused core event = is_enabled core event && refuses core event
 abbrev pub is_granted_take : {V E : Type 0} → Core V E → Event V E → Bool
 is_granted_take core event = is_take event && is_enabled core event && not (refuses core event)
 
--- the Local that comes with an event that gives an id to one
+-- the Local that a granted take makes
 abbrev pub newcomer : {V E : Type 0} → Core V E → Event V E → Option (Local V E)
 newcomer core event = (happens core event).locals core.taken
 

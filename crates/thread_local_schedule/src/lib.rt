@@ -1,12 +1,12 @@
 //! Theorems on a table's model over every schedule of atomic steps.
 //!
-//! The definitions stand in specs/: the core, the events that may come, and what a schedule is. Each function
-//! here has an empty body: its contract is a set of theorems, for every list of events, from a table of `new`
-//! and from one of each capacity, whatever the values and the closures' errors are.
+//! The definitions are in specs/: the core, the events, and what a schedule is. Each function here
+//! has an empty body: its contract is a set of theorems, for every list of events, from a table of
+//! `new` and from one of each capacity, whatever the values and the closures' errors are.
 #![tactic(auto)]
 
 pub mod ends;
 pub mod schedule;
 
 pub use ends::every_end;
-pub use schedule::{every_schedule, every_walk, every_word};
+pub use schedule::{every_bucket, every_schedule, every_walk};

@@ -1,3 +1,4 @@
+//! What holds of ids, values, buckets and shared walks after every event of every schedule.
 ghost use Rattle.std.specs.Prelude.{◌≡◌, ◌≢◌, ℕ, ◌+◌, ◌-◌, ◌^◌, ◌<◌, ◌≤◌, ◌⊎◌, Bool, false, List, [], length, map, Contains, Some, None, IsTrue, IfSome, IsSomeAnd};
 ghost use Rattle.std.specs.List.Sorted.{IsStrictlyIncreasing};
 ghost use Rattle.thread_local_model.specs.Held.{is_held, least, HoldsAllBelow};
@@ -6,7 +7,7 @@ ghost use Rattle.thread_local_model.specs.Cursor.{is_complete};
 ghost use Rattle.thread_local_model.specs.Capacity.{reserves_bucket, is_reserved};
 ghost use Rattle.thread_local_model.specs.Sheet.{new_sheet, moved_if, IsAllowed};
 ghost use Rattle.thread_local_model.specs.Answers.{answers, first_view};
-ghost use Rattle.thread_local_steps.specs.Table.{empty_slot, slot_at, stands};
+ghost use Rattle.thread_local_steps.specs.Table.{empty_slot, slot_at, bucket_stands};
 ghost use Rattle.thread_local_steps.specs.Local.{Local, LocalStep};
 ghost use Rattle.thread_local_core.specs.SharedWalk.{SharedWalk, fresh_walk, WalkStep, next_step};
 ghost use Rattle.thread_local_core.specs.OwnerWalk.{owner_walk};
@@ -19,13 +20,15 @@ ghost use Rattle.thread_local_core.specs.Core.{Core, shadow, peak};
 ghost use Rattle.thread_local_schedule.specs.Events.{Event, TakeId, OfLocal, GiveBack, Forget, BeginWalk, OfWalk, EndWalk, OwnerCall, Owner, ClearTable, is_enabled, happens, run};
 ghost use Rattle.thread_local_schedule.specs.Schedule.{move, is_exclusive, is_of, is_of_walk, IsAlone, is_refused, is_granted_take, newcomer, IsReached, NoneTaken};
 
-/// What holds of a table over every schedule of atomic steps, from a table of `new` and from one of each capacity
-/// below 2^63: each `Local` gets the least id not held; a slot's first published value stays until an owner has
-/// the table alone; and that owner walks exactly the published values, each once, by ascending id.
+/// What holds of a table over every schedule of atomic steps, from a table of `new` and from one of
+/// each capacity below 2^63: each `Local` gets the least id not held; a slot's first published
+/// value stays until a call of the exclusive owner; and that owner walks exactly the published
+/// values, each once, by ascending id.
 ///
-/// A clause that begins with a core that is reached holds after every event of every schedule.
+/// A clause about a reached core holds after every event of every schedule.
 pub fn every_schedule<V, E>()
-    // The sheet that users see goes by its moves, and an event that isn't enabled changes nothing.
+    // The sheet that users see changes by its moves alone, and an event that isn't enabled changes
+    // nothing.
     ensures moves { (core : Core V E) (event : Event V E) → IsReached core
         → shadow (happens core event) ≡ moved_if (shadow core) (move core event) }
     ensures allowed { (core : Core V E) (event : Event V E) → IsReached core
@@ -33,8 +36,8 @@ pub fn every_schedule<V, E>()
     ensures idle { (core : Core V E) (event : Event V E)
         → is_enabled core event ≡ false → happens core event ≡ core }
 
-    // While the table hasn't ended a take and the beginning of a walk are enabled, whatever is under way, and an
-    // owner's call just where no Local lives and no walk is under way.
+    // Until the table has ended, a take and the beginning of a walk are always enabled, and an
+    // owner's call exactly where there is no Local and no walk is under way.
     ensures takes { (core : Core V E) (refused : Bool) (growth : ℕ)
         → core.ended ≡ false → IsTrue (is_enabled core (TakeId refused growth)) }
     ensures walks_begin { (core : Core V E)
@@ -44,8 +47,8 @@ pub fn every_schedule<V, E>()
     ensures owners_call { (core : Core V E) (call : OwnerCall V)
         → core.ended ≡ false → IsAlone core → IsTrue (is_enabled core (Owner call)) }
 
-    // A Local gives its id back, or is forgotten, just where no call of it is under way. Then it lives no longer, and
-    // the id of a forgotten one is held still.
+    // A Local gives its id back, or is forgotten, exactly where no call of it is under way. It is
+    // gone then, and the id of a forgotten one is still held.
     ensures gives_back { (core : Core V E) (n : ℕ)
         → IsTrue (is_enabled core (GiveBack n)) → IsSomeAnd (core.locals n) HasNoCall }
     ensures given_back { (core : Core V E) (n : ℕ)
@@ -54,16 +57,20 @@ pub fn every_schedule<V, E>()
         → IsTrue (is_enabled core (Forget n)) → IsSomeAnd (core.locals n) HasNoCall }
     ensures forgotten { (core : Core V E) (n : ℕ)
         → IsTrue (is_enabled core (Forget n)) → (happens core (Forget n)).locals n ≡ None }
-    ensures still_held { (core : Core V E) (n : ℕ) (local : Local V E) → IsReached core
-        → core.locals n ≡ Some local → IsTrue (is_held (shadow (happens core (Forget n))).held local.id) }
+    ensures still_held { (core : Core V E) (n : ℕ) (local : Local V E)
+        → IsReached core
+        → core.locals n ≡ Some local
+        → IsTrue (is_held (shadow (happens core (Forget n))).held local.id) }
     ensures may_leave { (core : Core V E) (n : ℕ) (local : Local V E)
         → core.ended ≡ false → core.locals n ≡ Some local → HasNoCall local
         → IsTrue (is_enabled core (GiveBack n)) × IsTrue (is_enabled core (Forget n)) }
 
-    // Each Local gets the least id that isn't held. Its id is held while it lives, by no other Local. A Local comes by
-    // a granted take and by nothing else.
-    ensures comes { (core : Core V E) (event : Event V E) (n : ℕ) (local : Local V E) → IsReached core
-        → core.locals n ≡ None → (happens core event).locals n ≡ Some local
+    // Each Local gets the least id that isn't held. While the Local exists the id is held, and no
+    // other Local has it. Only a granted take makes a Local.
+    ensures comes { (core : Core V E) (event : Event V E) (n : ℕ) (local : Local V E)
+        → IsReached core
+        → core.locals n ≡ None
+        → (happens core event).locals n ≡ Some local
         → IsTrue (is_granted_take core event) × (n ≡ core.taken) }
     ensures least { (core : Core V E) (event : Event V E) → IsReached core
         → IsTrue (is_granted_take core event)
@@ -73,19 +80,23 @@ pub fn every_schedule<V, E>()
     ensures unshared { (core : Core V E) (m n : ℕ) (a b : Local V E) → IsReached core
         → core.locals m ≡ Some a → core.locals n ≡ Some b → a.id ≡ b.id → m ≡ n }
 
-    // A slot's first published value stays until an owner's call, and an owner's walk gives the published values.
-    ensures first_values_stay { (core : Core V E) (event : Event V E) (id : ℕ) (v : V) → IsReached core
+    // A slot's first published value stays until an owner's call, and an owner's walk gives the
+    // published values.
+    ensures first_values_stay { (core : Core V E) (event : Event V E) (id : ℕ) (v : V)
+        → IsReached core
         → is_exclusive event ≡ false
-        → (shadow core).values id ≡ Some v → (shadow (happens core event)).values id ≡ Some v }
+        → (shadow core).values id ≡ Some v
+        → (shadow (happens core event)).values id ≡ Some v }
     ensures owner_walk { (core : Core V E) → IsReached core
         → owner_walk core.table ≡ walk (shadow core).values }
 
     // A slot whose flag is set holds what was written.
     ensures flagged { (core : Core V E) (bucket index : ℕ) → IsReached core → index < 2 ^ bucket
-        → IfSome (core.table.words bucket) (λ here. IsWritten (here.slot index)) }
+        → IfSome (core.table.pointers bucket) (λ here. IsWritten (here.slot index)) }
 
-    // A Local begins with what its slot holds when its id is taken. Its answers are those of that view and of its
-    // own calls. A call that has begun is under way until it is recorded, once, as it began; no other is recorded.
+    // A Local begins with what its slot holds when its id is taken. Its answers are those of that
+    // view and of its own calls. A call that has begun is under way until it ends and is recorded,
+    // once, as it began; no other call is recorded.
     ensures start { (core : Core V E) (event : Event V E) → IsReached core
         → IsTrue (is_granted_take core event)
         → IsSomeAnd (newcomer core event)
@@ -95,74 +106,107 @@ pub fn every_schedule<V, E>()
     ensures goes_on { (core : Core V E) (n : ℕ) (step : LocalStep V E) (before : Local V E)
         → IsTrue (is_enabled core (OfLocal n step)) → core.locals n ≡ Some before
         → IsSomeAnd ((happens core (OfLocal n step)).locals n) (GoesOn step before) }
-    ensures others { (core : Core V E) (event : Event V E) (n : ℕ) (local : Local V E) → IsReached core
+    ensures others { (core : Core V E) (event : Event V E) (n : ℕ) (local : Local V E)
+        → IsReached core
         → is_of n event ≡ false
-        → core.locals n ≡ Some local → (happens core event).locals n ≡ Some local }
+        → core.locals n ≡ Some local
+        → (happens core event).locals n ≡ Some local }
 
-    // After `clear` no id is held and the table is cleared, and nothing else has changed. So the sheet is that of `new`
-    // with the same capacity, just the reserved buckets stand, and every slot is as it was made. The next Local gets
-    // id 0, finds nothing, and knows its bucket to stand just where id 0 is reserved.
+    // After `clear` no id is held and the table is cleared, and nothing else has changed. So the
+    // sheet is that of `new` with the same capacity, exactly the reserved buckets stand, and every
+    // slot is empty. The next Local gets id 0, finds no value, and knows its bucket to stand
+    // exactly where id 0 is reserved.
     ensures cleared_core { (core : Core V E) → IsTrue (is_enabled core (Owner ClearTable))
         → happens core (Owner ClearTable) ≡ record core {
           manager = record { held = []; room = core.manager.room };
           table = cleared core.table core.capacity;
         } }
-    ensures cleared { (core : Core V E) → IsReached core → IsTrue (is_enabled core (Owner ClearTable))
-        → shadow (happens core (Owner ClearTable)) ≡ record new_sheet { capacity = (shadow core).capacity } }
-    ensures cleared_stands { (core : Core V E) (bucket : ℕ) → IsReached core → IsTrue (is_enabled core (Owner ClearTable))
-        → stands (happens core (Owner ClearTable)).table bucket ≡ reserves_bucket (shadow core).capacity bucket }
+    ensures cleared { (core : Core V E)
+        → IsReached core
+        → IsTrue (is_enabled core (Owner ClearTable))
+        → shadow (happens core (Owner ClearTable))
+        ≡ record new_sheet { capacity = (shadow core).capacity } }
+    ensures cleared_stands { (core : Core V E) (bucket : ℕ)
+        → IsReached core
+        → IsTrue (is_enabled core (Owner ClearTable))
+        → bucket_stands (happens core (Owner ClearTable)).table bucket
+        ≡ reserves_bucket (shadow core).capacity bucket }
     ensures cleared_slots { (core : Core V E) (id : ℕ) → IsTrue (is_enabled core (Owner ClearTable))
         → slot_at (happens core (Owner ClearTable)).table id ≡ empty_slot }
-    ensures after_clear { (core : Core V E) (events : List (Event V E)) (event : Event V E) → IsReached core
+    ensures after_clear { (core : Core V E) (events : List (Event V E)) (event : Event V E)
+        → IsReached core
         → IsTrue (is_enabled core (Owner ClearTable))
-        → let after = happens core (Owner ClearTable) in
-        NoneTaken after events → IsTrue (is_granted_take (run after events) event)
-        → IsSomeAnd (newcomer (run after events) event)
-        (λ local. (local.id ≡ 0) × (local.start ≡ record { value = None; known = is_reserved (shadow core).capacity 0 })) }
+        → let after = happens core (Owner ClearTable) in NoneTaken after events
+        → IsTrue (is_granted_take (run after events) event)
+        → IsSomeAnd (newcomer (run after events) event) (λ local.
+        (local.id ≡ 0)
+        × (local.start ≡ record { value = None; known = is_reserved (shadow core).capacity 0 })) }
 
-    // A take is refused only where all ids are held, or where all below the peak are, no room is left and memory is
-    // refused, and then everything is as it was.
-    ensures refused_take { (core : Core V E) (refused : Bool) (growth : ℕ) → IsReached core
+    // A take is refused only where all ids are held, or where all ids below the peak are held, no
+    // room is left and memory is refused. A refused take changes nothing.
+    ensures refused_take { (core : Core V E) (refused : Bool) (growth : ℕ)
+        → IsReached core
         → IsTrue (is_refused core (TakeId refused growth))
         → HoldsAllBelow (2 ^ 63 - 1) (shadow core).held
-        ⊎ (HoldsAllBelow (peak core) (shadow core).held × (peak core ≡ core.manager.room) × IsTrue refused) }
+        ⊎
+        (HoldsAllBelow (peak core) (shadow core).held
+        × (peak core ≡ core.manager.room)
+        × IsTrue refused) }
     ensures refusal { (core : Core V E) (refused : Bool) (growth : ℕ)
-        → IsTrue (is_refused core (TakeId refused growth)) → happens core (TakeId refused growth) ≡ core }
+        → IsTrue (is_refused core (TakeId refused growth))
+        → happens core (TakeId refused growth) ≡ core }
 {}
 
-/// What holds of the words over every schedule: a word that names a bucket names that one until an owner's call, and
-/// the word of a reserved bucket names one for good; no two words name one bucket, and a bucket that a call has made
-/// and not offered yet is that call's alone.
-pub fn every_word<V, E>()
-    ensures stays { (core : Core V E) (event : Event V E) (bucket number : ℕ) → IsReached core
+/// What holds of the pointers over every schedule: one that isn't null leads to the same bucket
+/// until an owner's call, and that of a reserved bucket always does; no two pointers lead to one
+/// bucket; and a bucket that a call has made and not yet offered is that call's alone.
+pub fn every_bucket<V, E>()
+    ensures stays { (core : Core V E) (event : Event V E) (bucket number : ℕ)
+        → IsReached core
         → is_exclusive event ≡ false
-        → named core.table bucket ≡ Some number → named (happens core event).table bucket ≡ Some number }
-    ensures reserved_stands { (core : Core V E) (bucket : ℕ) → IsReached core
-        → IsTrue (reserves_bucket (shadow core).capacity bucket) → IsTrue (stands core.table bucket) }
-    ensures reserved_stays { (core : Core V E) (event : Event V E) (bucket number : ℕ) → IsReached core
+        → named core.table bucket ≡ Some number
+        → named (happens core event).table bucket ≡ Some number }
+    ensures reserved_stands { (core : Core V E) (bucket : ℕ)
+        → IsReached core
         → IsTrue (reserves_bucket (shadow core).capacity bucket)
-        → named core.table bucket ≡ Some number → named (happens core event).table bucket ≡ Some number }
+        → IsTrue (bucket_stands core.table bucket) }
+    ensures reserved_stays { (core : Core V E) (event : Event V E) (bucket number : ℕ)
+        → IsReached core
+        → IsTrue (reserves_bucket (shadow core).capacity bucket)
+        → named core.table bucket ≡ Some number
+        → named (happens core event).table bucket ≡ Some number }
     ensures apart { (core : Core V E) (a b number : ℕ) → IsReached core
         → named core.table a ≡ Some number → named core.table b ≡ Some number → a ≡ b }
-    ensures unnamed { (core : Core V E) (n : ℕ) (local : Local V E) (number bucket : ℕ) → IsReached core
-        → core.locals n ≡ Some local → own_number local.doing ≡ Some number → named core.table bucket ≢ Some number }
+    ensures unnamed { (core : Core V E) (n : ℕ) (local : Local V E) (number bucket : ℕ)
+        → IsReached core
+        → core.locals n ≡ Some local
+        → own_number local.doing ≡ Some number
+        → named core.table bucket ≢ Some number }
     ensures one_call { (core : Core V E) (m n : ℕ) (a b : Local V E) (number : ℕ) → IsReached core
         → core.locals m ≡ Some a → core.locals n ≡ Some b
         → own_number a.doing ≡ Some number → own_number b.doing ≡ Some number → m ≡ n }
 {}
 
-/// What holds of a shared walk over every schedule, whatever comes between its steps: a complete one gives every
-/// value that was published at its first load, and only published ones, by strictly ascending id; it reads each
-/// slot at most once, and loads words at most 63 times and once more for each value given.
+/// What holds of a shared walk over every schedule, whatever happens between its steps: a complete
+/// one gives every value that was published at its first load, and only published ones, by strictly
+/// ascending id; it reads each slot at most once; and it loads pointers at most 63 times, and once
+/// more for each value given.
 pub fn every_walk<V, E>()
-    // Each walk begins fresh. No event but its own steps and its end changes it, and it goes on until it is complete.
+    // A walk begins fresh. Only its own steps and its end change it, and it can go on until it is
+    // complete.
     ensures begins { (core : Core V E)
-        → IsTrue (is_enabled core BeginWalk) → (happens core BeginWalk).walks core.walked ≡ Some fresh_walk }
-    ensures comes { (core : Core V E) (event : Event V E) (n : ℕ) (shared : SharedWalk V) → IsReached core
-        → core.walks n ≡ None → (happens core event).walks n ≡ Some shared → shared ≡ fresh_walk }
-    ensures others { (core : Core V E) (event : Event V E) (n : ℕ) (shared : SharedWalk V) → IsReached core
+        → IsTrue (is_enabled core BeginWalk)
+        → (happens core BeginWalk).walks core.walked ≡ Some fresh_walk }
+    ensures comes { (core : Core V E) (event : Event V E) (n : ℕ) (shared : SharedWalk V)
+        → IsReached core
+        → core.walks n ≡ None
+        → (happens core event).walks n ≡ Some shared
+        → shared ≡ fresh_walk }
+    ensures others { (core : Core V E) (event : Event V E) (n : ℕ) (shared : SharedWalk V)
+        → IsReached core
         → is_of_walk n event ≡ false
-        → core.walks n ≡ Some shared → (happens core event).walks n ≡ Some shared }
+        → core.walks n ≡ Some shared
+        → (happens core event).walks n ≡ Some shared }
     ensures goes_on { (core : Core V E) (n : ℕ) (shared : SharedWalk V)
         → core.ended ≡ false → core.walks n ≡ Some shared → is_complete shared.cursor ≡ false
         → IsTrue (is_enabled core (OfWalk n (next_step shared))) }
@@ -171,9 +215,12 @@ pub fn every_walk<V, E>()
     ensures may_end { (core : Core V E) (n : ℕ) (shared : SharedWalk V)
         → core.ended ≡ false → core.walks n ≡ Some shared → IsTrue (is_enabled core (EndWalk n)) }
 
-    // Its record: what was published at its first load, what it gave and read, and how often it loaded a word.
-    ensures adds { (core : Core V E) (n : ℕ) (step : WalkStep) (before : SharedWalk V) → IsReached core
-        → IsTrue (is_enabled core (OfWalk n step)) → core.walks n ≡ Some before
+    // Its record: what was published at its first load, what it gave and read, and how often it
+    // loaded a pointer.
+    ensures adds { (core : Core V E) (n : ℕ) (step : WalkStep) (before : SharedWalk V)
+        → IsReached core
+        → IsTrue (is_enabled core (OfWalk n step))
+        → core.walks n ≡ Some before
         → IsSomeAnd ((happens core (OfWalk n step)).walks n) (Adds core.table step before) }
     ensures complete { (core : Core V E) (n : ℕ) (shared : SharedWalk V) → IsReached core
         → core.walks n ≡ Some shared → IsTrue (is_complete shared.cursor)

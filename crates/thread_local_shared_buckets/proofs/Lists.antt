@@ -1,4 +1,5 @@
--- Which plain words fit the words of a table, as lists and place by place.
+-- The list of a table's 63 buckets, and which of an owner's pointers fit it, as a whole and one by
+-- one.
 use Rattle.std.proofs.Common.{◌≡◌, ℕ, zero, suc, ◌+◌, ◌^◌, ◌<◌, ◌≤◌, Bool, true, false, List, [], ◌∷◌, length, refl, sym, ap, ◌∙◌, subst, arith, pow_pos, Option, map}
 use Rattle.std.specs.Prelude.{slice_index_or, nat_lt, IsTrue, ◌⊎◌}
 use Rattle.std.proofs.lemmas.Bool.{lt-ltb, ltb-true, ltb-false}
@@ -6,41 +7,41 @@ use Rattle.std.proofs.lemmas.List.{length-map, get_or_past}
 use mathlib.Core.Logic.{inl, inr}
 use Rattle.thread_local_model.specs.Place.{id_at}
 use Rattle.thread_local_model.specs.Owned.{Owned, AreOfFirstBuckets, IsOwned}
-use Rattle.thread_local_shared_word_logic.specs.Shared.{WordView}
+use Rattle.thread_local_shared_bucket_logic.specs.Shared.{BucketView}
 use Rattle.thread_local_shared_buckets.specs.Fit.{Fit}
-use Rattle.thread_local_shared_buckets.specs.TableView.{TableView, word_of, word_at, view_of, AreWords}
+use Rattle.thread_local_shared_buckets.specs.TableView.{TableView, bucket_view, bucket_at, table_view_of, AreBuckets}
 
--- the words of n buckets from this one on
-unfoldable pub all_words : TableView → ℕ → ℕ → List WordView
-all_words s zero b = []
-all_words s (suc n) b = word_of s b ∷ all_words s n (suc b)
+-- the views of n buckets, from the number b on
+unfoldable pub all_buckets : TableView → ℕ → ℕ → List BucketView
+all_buckets s zero b = []
+all_buckets s (suc n) b = bucket_view s b ∷ all_buckets s n (suc b)
 
-pub all_words-length : (s : TableView) (n b : ℕ) → length (all_words s n b) ≡ n
-unfolding all_words
-all_words-length s zero b = refl
-all_words-length s (suc n) b = ap suc (all_words-length s n (suc b))
+pub all_buckets-length : (s : TableView) (n b : ℕ) → length (all_buckets s n b) ≡ n
+unfolding all_buckets
+all_buckets-length s zero b = refl
+all_buckets-length s (suc n) b = ap suc (all_buckets-length s n (suc b))
 
-pub all_words-at : (s : TableView) (n b i : ℕ) → i < n → word_at (all_words s n b) i ≡ word_of s (i + b)
-unfolding all_words
-all_words-at s zero b i near = absurd (omega arith)
-all_words-at s (suc n) b zero near = let same : b ≡ 0 + b = omega arith in ap (word_of s) same
-all_words-at s (suc n) b (suc i) near = let same : i + suc b ≡ suc i + b = omega arith in all_words-at s n (suc b) i (omega arith) ∙ ap (word_of s) same
+pub all_buckets-at : (s : TableView) (n b i : ℕ) → i < n → bucket_at (all_buckets s n b) i ≡ bucket_view s (i + b)
+unfolding all_buckets
+all_buckets-at s zero b i near = absurd (omega arith)
+all_buckets-at s (suc n) b zero near = let same : b ≡ 0 + b = omega arith in ap (bucket_view s) same
+all_buckets-at s (suc n) b (suc i) near = let same : i + suc b ≡ suc i + b = omega arith in all_buckets-at s n (suc b) i (omega arith) ∙ ap (bucket_view s) same
 
--- those of a table
-abbrev pub table_words : TableView → List WordView
-table_words s = all_words s 63 0
+-- the views of a table's buckets
+abbrev pub table_buckets : TableView → List BucketView
+table_buckets s = all_buckets s 63 0
 
-table_word : (s : TableView) (i : ℕ) → i < 63 → word_at (table_words s) i ≡ word_of s i
-table_word s i near = let same : i + 0 ≡ i = omega arith in all_words-at s 63 0 i near ∙ ap (word_of s) same
+table_bucket : (s : TableView) (i : ℕ) → i < 63 → bucket_at (table_buckets s) i ≡ bucket_view s i
+table_bucket s i near = let same : i + 0 ≡ i = omega arith in all_buckets-at s 63 0 i near ∙ ap (bucket_view s) same
 
-pub table_named : (s : TableView) → AreWords (table_words s) s.reserved
-table_named s b near = table_word s b near ∙ sym (ap (λ (k : ℕ). record { table = k; bucket = b; reserved = nat_lt (id_at b 0) s.reserved }) (ap (λ (d : WordView). d.table) (table_word s 0 (omega arith))))
+pub table_named : (s : TableView) → AreBuckets (table_buckets s) s.reserved
+table_named s b near = table_bucket s b near ∙ sym (ap (λ (k : ℕ). record { table = k; bucket = b; reserved = nat_lt (id_at b 0) s.reserved }) (ap (λ (d : BucketView). d.table) (table_bucket s 0 (omega arith))))
 
-pub table_seen : (s : TableView) → view_of (table_words s) s.reserved ≡ s
-table_seen s = ap (λ (k : ℕ). record { table = k; reserved = s.reserved }) (ap (λ (d : WordView). d.table) (table_word s 0 (omega arith)))
+pub table_seen : (s : TableView) → table_view_of (table_buckets s) s.reserved ≡ s
+table_seen s = ap (λ (k : ℕ). record { table = k; reserved = s.reserved }) (ap (λ (d : BucketView). d.table) (table_bucket s 0 (omega arith)))
 
 module _ {V W : Type 0} (slots : W → List (Option V)) where
-  abbrev pub Fits : List WordView → List W → Type 0
+  abbrev pub Fits : List BucketView → List W → Type 0
   Fits [] [] = Unit {0}
   Fits [] (w ∷ ws) = ⊥
   Fits (d ∷ ds) [] = ⊥
@@ -49,40 +50,40 @@ module _ {V W : Type 0} (slots : W → List (Option V)) where
   abbrev pub slots_at : List W → ℕ → List (Option V)
   slots_at ws i = slice_index_or (map slots ws) i []
 
-  pub fits_long : (ds : List WordView) (ws : List W) → Fits ds ws → length ws ≡ length ds
+  pub fits_long : (ds : List BucketView) (ws : List W) → Fits ds ws → length ws ≡ length ds
   fits_long [] [] f = refl
   fits_long [] (w ∷ ws) f = absurd f
   fits_long (d ∷ ds) [] f = absurd f
   fits_long (d ∷ ds) (w ∷ ws) f = ap suc (fits_long ds ws f.1)
 
-  pub fits_at : (ds : List WordView) (ws : List W) → Fits ds ws → (i : ℕ) → i < length ds → Fit (word_at ds i) (slots_at ws i)
+  pub fits_at : (ds : List BucketView) (ws : List W) → Fits ds ws → (i : ℕ) → i < length ds → Fit (bucket_at ds i) (slots_at ws i)
   fits_at [] [] f i near = absurd (omega arith)
   fits_at [] (w ∷ ws) f i near = absurd f
   fits_at (d ∷ ds) [] f i near = absurd f
   fits_at (d ∷ ds) (w ∷ ws) f zero near = f.0
   fits_at (d ∷ ds) (w ∷ ws) f (suc i) near = fits_at ds ws f.1 i (omega arith)
 
-  pub fits_from : (ds : List WordView) (ws : List W) → length ws ≡ length ds → ((i : ℕ) → i < length ds → Fit (word_at ds i) (slots_at ws i)) → Fits ds ws
+  pub fits_from : (ds : List BucketView) (ws : List W) → length ws ≡ length ds → ((i : ℕ) → i < length ds → Fit (bucket_at ds i) (slots_at ws i)) → Fits ds ws
   fits_from [] [] long all = tt
   fits_from [] (w ∷ ws) long all = absurd (omega arith)
   fits_from (d ∷ ds) [] long all = absurd (omega arith)
   fits_from (d ∷ ds) (w ∷ ws) long all = (all zero (omega arith), fits_from ds ws (omega arith) (λ i near. all (suc i) (omega arith)))
 
-  -- ---- of all 63
+  -- ---- all 63 pointers
   abbrev pub owned_of : List W → ℕ → Owned V
   owned_of ws reserved = record { contents = record { rows = map slots ws }; reserved = reserved }
 
-  whole_if : (d : WordView) (cs : List (Option V)) (b : ℕ) → d.bucket ≡ b → Fit d cs → (length cs ≡ 0) ⊎ (length cs ≡ 2 ^ b)
+  whole_if : (d : BucketView) (cs : List (Option V)) (b : ℕ) → d.bucket ≡ b → Fit d cs → (length cs ≡ 0) ⊎ (length cs ≡ 2 ^ b)
   whole_if d cs b same (inl f) = inl f.0
   whole_if d cs b same (inr f) = inr (f ∙ ap (λ (k : ℕ). 2 ^ k) same)
 
-  standing_if : (d : WordView) (cs : List (Option V)) → d.reserved ≡ true → Fit d cs → IsTrue (nat_lt 0 (length cs))
+  standing_if : (d : BucketView) (cs : List (Option V)) → d.reserved ≡ true → Fit d cs → IsTrue (nat_lt 0 (length cs))
   standing_if d cs kept (inl f) = let no : true ≡ false = sym kept ∙ f.1 in cc
   standing_if d cs kept (inr f) = let some_slots : 0 < 2 ^ d.bucket = pow_pos d.bucket in lt-ltb 0 (length cs) (omega arith)
 
-  module _ (ds : List WordView) (ws : List W) (reserved : ℕ) (long : length ds ≡ 63) (named : AreWords ds reserved) (first : AreOfFirstBuckets reserved) (f : Fits ds ws) where
+  module _ (ds : List BucketView) (ws : List W) (reserved : ℕ) (long : length ds ≡ 63) (named : AreBuckets ds reserved) (first : AreOfFirstBuckets reserved) (f : Fits ds ws) where
     whole_at : (b : ℕ) (t : Bool) → nat_lt b 63 ≡ t → (length (slots_at ws b) ≡ 0) ⊎ (length (slots_at ws b) ≡ 2 ^ b)
-    whole_at b true e = let near : b < 63 = ltb-true b 63 e in whole_if (word_at ds b) (slots_at ws b) b (ap (λ (d : WordView). d.bucket) (named b near)) (fits_at ds ws f b (omega arith))
+    whole_at b true e = let near : b < 63 = ltb-true b 63 e in whole_if (bucket_at ds b) (slots_at ws b) b (ap (λ (d : BucketView). d.bucket) (named b near)) (fits_at ds ws f b (omega arith))
     whole_at b false e = let past : 63 ≤ b = ltb-false b 63 e in let all : length (map slots ws) ≡ 63 = length-map ws slots ∙ fits_long ds ws f ∙ long in
         inl (ap length (get_or_past (map slots ws) b [] (omega arith)))
 
@@ -93,15 +94,15 @@ module _ {V W : Type 0} (slots : W → List (Option V)) where
         whole = λ b. whole_at b (nat_lt b 63) refl;
       };
       first = first;
-      standing = λ b near low. standing_if (word_at ds b) (slots_at ws b) (ap (λ (d : WordView). d.reserved) (named b near) ∙ lt-ltb (id_at b 0) reserved low) (fits_at ds ws f b (omega arith));
+      standing = λ b near low. standing_if (bucket_at ds b) (slots_at ws b) (ap (λ (d : BucketView). d.reserved) (named b near) ∙ lt-ltb (id_at b 0) reserved low) (fits_at ds ws f b (omega arith));
     }
 
   module _ (s : TableView) (ws : List W) (owned : IsOwned (owned_of ws s.reserved)) where
-    fit_if : (i : ℕ) → i < 63 → (t : Bool) → nat_lt (id_at i 0) s.reserved ≡ t → (length (slots_at ws i) ≡ 0) ⊎ (length (slots_at ws i) ≡ 2 ^ i) → Fit (word_of s i) (slots_at ws i)
+    fit_if : (i : ℕ) → i < 63 → (t : Bool) → nat_lt (id_at i 0) s.reserved ≡ t → (length (slots_at ws i) ≡ 0) ⊎ (length (slots_at ws i) ≡ 2 ^ i) → Fit (bucket_view s i) (slots_at ws i)
     fit_if i near t e (inr all) = inr all
     fit_if i near false e (inl none) = inl (none, e)
     fit_if i near true e (inl none) = let some_slots : 0 < length (slots_at ws i) = ltb-true 0 (length (slots_at ws i)) (owned.standing i near (ltb-true (id_at i 0) s.reserved e)) in absurd (omega arith)
 
-    pub fit_all : Fits (table_words s) ws
-    fit_all = let long : length (table_words s) ≡ 63 = all_words-length s 63 0 in fits_from (table_words s) ws (sym (length-map ws slots) ∙ owned.table.buckets ∙ sym long)
-        (λ i near. let within : i < 63 = omega arith in subst (λ (d : WordView). Fit d (slots_at ws i)) (sym (table_word s i within)) (fit_if i within (nat_lt (id_at i 0) s.reserved) refl (owned.table.whole i)))
+    pub fit_all : Fits (table_buckets s) ws
+    fit_all = let long : length (table_buckets s) ≡ 63 = all_buckets-length s 63 0 in fits_from (table_buckets s) ws (sym (length-map ws slots) ∙ owned.table.buckets ∙ sym long)
+        (λ i near. let within : i < 63 = omega arith in subst (λ (d : BucketView). Fit d (slots_at ws i)) (sym (table_bucket s i within)) (fit_if i within (nat_lt (id_at i 0) s.reserved) refl (owned.table.whole i)))

@@ -1,4 +1,5 @@
--- A word at rest is a plain word, once what was due since a sharing has ended is taken back; and a plain word is at rest. Assumes `Logic`.
+-- Turns a bucket at rest into an owner's pointer, once what is due from a sharing comes back, and
+-- an owner's pointer into a bucket at rest. Assumes `Logic`.
 use Rattle.std.proofs.Common.{◌≡◌, ◌∙◌, ℕ, zero, suc, ◌+◌, ◌^◌, ◌<◌, ◌≤◌, nat_lt, Bool, true, false, is_some, List, [], ◌∷◌, length, refl, sym, ap, subst, arith, pow_pos, Option, None}
 use Rattle.std.proofs.lemmas.Bool.{ltb-true, ltb-false}
 use Rattle.std.proofs.lemmas.List.{get_or_past}
@@ -18,33 +19,33 @@ use Rattle.std.specs.declared.alloc.Global.{Global}
 use Rattle.std.specs.contracts.impls.GlobalAllocator.TheImpl.{ghosts}
 use Rattle.std.proofs.GlobalToken.{dealloc_token-Testable}
 use Rattle.thread_local_bits.specs.Bits.{is_set_in}
-use Rattle.thread_local_chunks.specs.Slots.{heap_token, chunks, each, AreFlags, flags_at, slot_at, block_ty, Fits, value_in, place, slot, flags_own, back}
-use Rattle.thread_local_owner_word.specs.Leads.{word_owns}
-use Rattle.thread_local_shared_word_logic.specs.Shared.{WordView, AreFlagWords, slots_under, slot_rests_as, slot_rests, slots_rest, Sized, len, at_rest}
-use Rattle.thread_local_shared_word_logic.proofs.Rested.{redeems}
+use Rattle.thread_local_blocks.specs.Slots.{heap_token, chunks, each, AreFlags, flags_at, slot_value, block_ty, Fits, value_offset, content_at, slot, flags_own, back}
+use Rattle.thread_local_bucket_pointer.specs.PointerOwns.{pointer_owns}
+use Rattle.thread_local_shared_bucket_logic.specs.Shared.{BucketView, AreFlagWords, slots_under, slot_rests_as, slot_rests, slots_rest, Sized, len, at_rest}
+use Rattle.thread_local_shared_bucket_logic.proofs.Rested.{redeems}
 use Rattle.thread_local_shared_buckets.specs.Fit.{Fit}
 
--- the bits of these words from one on say which of the slots hold a value
+-- the bits of these words, from the index i on, say which of the slots hold a value
 abbrev Told : {V : Type 0} → List ℕ → ℕ → List (Option V) → Type 0
-Told ns i cs = (j : ℕ) → j < length cs → is_set_in ns (j + i) ≡ is_some (slot_at cs j)
+Told ns i cs = (j : ℕ) → j < length cs → is_set_in ns (j + i) ≡ is_some (slot_value cs j)
 
 module _ {V : Type 0} (ns : List ℕ) where
   told_more : (i : ℕ) (v : Option V) (cs : List (Option V)) → is_set_in ns i ≡ is_some v → Told ns (suc i) cs → Told ns i (v ∷ cs)
   told_more i v cs is told zero near = let same : i ≡ 0 + i = omega arith in subst (λ (m : ℕ). is_set_in ns m ≡ is_some v) same is
-  told_more i v cs is told (suc j) near = let same : j + suc i ≡ suc j + i = omega arith in subst (λ (m : ℕ). is_set_in ns m ≡ is_some (slot_at cs j)) same (told j (omega arith))
+  told_more i v cs is told (suc j) near = let same : j + suc i ≡ suc j + i = omega arith in subst (λ (m : ℕ). is_set_in ns m ≡ is_some (slot_value cs j)) same (told j (omega arith))
 
   told_first : (i : ℕ) (v : Option V) (cs : List (Option V)) → Told ns i (v ∷ cs) → is_set_in ns i ≡ is_some v
   told_first i v cs told = let same : 0 + i ≡ i = omega arith in subst (λ (m : ℕ). is_set_in ns m ≡ is_some v) same (told 0 (omega arith))
 
   told_rest : (i : ℕ) (v : Option V) (cs : List (Option V)) → Told ns i (v ∷ cs) → Told ns (suc i) cs
-  told_rest i v cs told j near = let same : suc j + i ≡ j + suc i = omega arith in subst (λ (m : ℕ). is_set_in ns m ≡ is_some (slot_at cs j)) same (told (suc j) (omega arith))
+  told_rest i v cs told j near = let same : suc j + i ≡ j + suc i = omega arith in subst (λ (m : ℕ). is_set_in ns m ≡ is_some (slot_value cs j)) same (told (suc j) (omega arith))
 
   told_flags : (cs : List (Option V)) → AreFlags ns cs → Told ns 0 cs
-  told_flags cs are j near = let same : j ≡ j + 0 = omega arith in subst (λ (m : ℕ). is_set_in ns m ≡ is_some (slot_at cs j)) same (are.flags j)
+  told_flags cs are j near = let same : j ≡ j + 0 = omega arith in subst (λ (m : ℕ). is_set_in ns m ≡ is_some (slot_value cs j)) same (are.flags j)
 
-  flag_if : (n : ℕ) (cs : List (Option V)) → length cs ≡ n → ((i : ℕ) → n ≤ i → is_set_in ns i ≡ false) → Told ns 0 cs → (j : ℕ) (t : Bool) → nat_lt j n ≡ t → is_set_in ns j ≡ is_some (slot_at cs j)
+  flag_if : (n : ℕ) (cs : List (Option V)) → length cs ≡ n → ((i : ℕ) → n ≤ i → is_set_in ns i ≡ false) → Told ns 0 cs → (j : ℕ) (t : Bool) → nat_lt j n ≡ t → is_set_in ns j ≡ is_some (slot_value cs j)
   flag_if n cs long past told j true e = let near : j < n = ltb-true j n e in let same : j + 0 ≡ j = omega arith in
-      subst (λ (m : ℕ). is_set_in ns m ≡ is_some (slot_at cs j)) same (told j (omega arith))
+      subst (λ (m : ℕ). is_set_in ns m ≡ is_some (slot_value cs j)) same (told j (omega arith))
   flag_if n cs long past told j false e = let far : n ≤ j = ltb-false j n e in past j far ∙ sym (ap is_some (get_or_past cs j None (omega arith)))
 
 module _ (R : RattleType) (n : ℕ) (ns : List ℕ) (cs : List (Option R.Denot)) (long : length cs ≡ n) where
@@ -52,7 +53,7 @@ module _ (R : RattleType) (n : ℕ) (ns : List ℕ) (cs : List (Option R.Denot))
   are_flags : AreFlagWords R n ns → Told ns 0 cs → (length ns + 0 ≡ chunks (length cs)) × AreFlags ns cs
   are_flags are told = (omega arith ∙ are.0 ∙ ap chunks (sym long), record { words = are.1; flags = λ j. flag_if ns n cs long are.2 told j (nat_lt j n) refl })
 
-  -- and so are their flags
+  -- the flags of slots are words whose bits say which slots hold a value
   are_words : (length ns + 0 ≡ chunks (length cs)) × AreFlags ns cs → AreFlagWords R n ns
   are_words are = (omega arith ∙ are.0 ∙ ap chunks long, are.1.words, λ j far. are.1.flags j ∙ ap is_some (get_or_past cs j None (omega arith)))
 
@@ -79,10 +80,10 @@ module _ {M : Type 1} {𝓤 : Ura M} (𝓛 : Logic 𝓤) (R : RattleType) (L : L
   -- ---- the slots of a block
   module _ (b : ℕ) where
     abbrev OneRedeemed : Bool → ℕ → C → Pr
-    OneRedeemed set e v = guard 𝓤 (set ≡ is_some v) ⟦ place R v b e ⟧
+    OneRedeemed set e v = guard 𝓤 (set ≡ is_some v) ⟦ content_at R v b e ⟧
 
     redeems_slot : (set : Bool) (e : ℕ) → ⟦ slot_rests R set b e ⟧ ⊢ H.⇛ (ex 𝓤 (OneRedeemed set e))
-    redeems_slot set e = qed 𝓛 (‵ (slot_rests R set b e) ∷ []) ∵ updating ! $ fpick ! (λ s. fsplit ! $ fpick ! (λ is. drop ! $ use1 𝓛 (later (‵ (place R s.0 b e))) (redeems 𝓛 R L b e s.1 s.0) $ await ! tt $
+    redeems_slot set e = qed 𝓛 (‵ (slot_rests R set b e) ∷ []) ∵ updating ! $ fpick ! (λ s. fsplit ! $ fpick ! (λ is. drop ! $ use1 𝓛 (later (‵ (content_at R s.0 b e))) (redeems 𝓛 R L b e s.1 s.0) $ await ! tt $
         now ! $ show ! (OneRedeemed set e) s.0 $ check ! is $ done !))
 
     module _ (o : ℕ) (ns : List ℕ) where
@@ -91,35 +92,35 @@ module _ {M : Type 1} {𝓤 : Ura M} (𝓛 : Logic 𝓤) (R : RattleType) (L : L
 
       redeems_slots : (n i : ℕ) → ⟦ slots_rest R n i b o ns ⟧ ⊢ H.⇛ (ex 𝓤 (AllRedeemed n i))
       redeems_slots zero i = qed 𝓛 (‵ ftrue ∷ []) ∵ updating ! $ now ! $ show ! (AllRedeemed 0 i) [] $ check ! (refl, λ j near. absurd (omega arith)) $ done !
-      redeems_slots (suc n) i = let e : ℕ = value_in R o i in let set : Bool = is_set_in ns i in qed 𝓛 (‵ (slots_rest R (suc n) i b o ns) ∷ []) ∵ updating ! $ fsplit ! $
-          use1 𝓛 (later (some (λ (v : C). given (set ≡ is_some v) (‵ (place R v b e))))) (redeems_slot set e) $ await ! tt $ pick ! (λ v. learn ! (λ is. move ! (1 ∷ []) $
+      redeems_slots (suc n) i = let e : ℕ = value_offset R o i in let set : Bool = is_set_in ns i in qed 𝓛 (‵ (slots_rest R (suc n) i b o ns) ∷ []) ∵ updating ! $ fsplit ! $
+          use1 𝓛 (later (some (λ (v : C). given (set ≡ is_some v) (‵ (content_at R v b e))))) (redeems_slot set e) $ await ! tt $ pick ! (λ v. learn ! (λ is. move ! (1 ∷ []) $
           use1 𝓛 (later (some (λ (cs : List C). given ((length cs ≡ n) × Told ns (suc i) cs) (‵ (each (slot R b o) cs (suc i)))))) (redeems_slots n (suc i)) $ await ! tt $ pick ! (λ cs. learn ! (λ so.
           move ! (1 ∷ 0 ∷ []) $ fjoin ! $ now ! $ show ! (AllRedeemed (suc n) i) (v ∷ cs) $ check ! (ap suc so.0, told_more ns i v cs is so.1) $ done !))))
 
-      rests_slot : (i : ℕ) (v : C) → is_set_in ns i ≡ is_some v → ⟦ slot R b o v i ⟧ ⊢ ⟦ slot_rests R (is_set_in ns i) b (value_in R o i) ⟧
-      rests_slot i v is = let e : ℕ = value_in R o i in let set : Bool = is_set_in ns i in
-          qed 𝓛 (‵ (place R v b e) ∷ []) ∵ nothing ! $ fpack ! (set ≡ is_some v) (λ _. ftrue) is $ fjoin ! $ fpack ! (C × Bool) (slot_rests_as R set b e) (v, false) $ done !
+      rests_slot : (i : ℕ) (v : C) → is_set_in ns i ≡ is_some v → ⟦ slot R b o v i ⟧ ⊢ ⟦ slot_rests R (is_set_in ns i) b (value_offset R o i) ⟧
+      rests_slot i v is = let e : ℕ = value_offset R o i in let set : Bool = is_set_in ns i in
+          qed 𝓛 (‵ (content_at R v b e) ∷ []) ∵ nothing ! $ fpack ! (set ≡ is_some v) (λ _. ftrue) is $ fjoin ! $ fpack ! (C × Bool) (slot_rests_as R set b e) (v, false) $ done !
 
       rests_slots : (cs : List C) (i : ℕ) → Told ns i cs → ⟦ each (slot R b o) cs i ⟧ ⊢ ⟦ slots_rest R (length cs) i b o ns ⟧
       rests_slots [] i told = id⊢ 𝓤 _
-      rests_slots (c ∷ cs) i told = qed 𝓛 (‵ (each (slot R b o) (c ∷ cs) i) ∷ []) ∵ fsplit ! $ use1 𝓛 (‵ (slot_rests R (is_set_in ns i) b (value_in R o i))) (rests_slot i c (told_first ns i c cs told)) $ move ! (1 ∷ []) $
+      rests_slots (c ∷ cs) i told = qed 𝓛 (‵ (each (slot R b o) (c ∷ cs) i) ∷ []) ∵ fsplit ! $ use1 𝓛 (‵ (slot_rests R (is_set_in ns i) b (value_offset R o i))) (rests_slot i c (told_first ns i c cs told)) $ move ! (1 ∷ []) $
           use1 𝓛 (‵ (slots_rest R (length cs) (suc i) b o ns)) (rests_slots cs (suc i) (told_rest ns i c cs told)) $ move ! (1 ∷ 0 ∷ []) $ fjoin ! $ done !
 
-  -- ---- the word
-  -- whoever may free a block may compare its place with null
+  -- ---- the pointer
+  -- whoever may free a block may compare its address with null
   tested : (τ : Ty) (p : Ptr) → ⟦ heap_token τ p ⟧ ⊢ guard 𝓤 (Testable p) ⟦ heap_token τ p ⟧
   tested τ p = qed 𝓛 (‵ (heap_token τ p) ∷ []) ∵ fpick ! (λ a. let token : Fml = ghosts.dealloc_token a τ p in
       use1 𝓛 (given (Testable p) (‵ token)) (fact_use 𝓤 (Testable p) (dealloc_token-Testable 𝓛 a τ p) (guard_i 𝓤 (Testable p) ⟦ token ⟧)) $ learn ! (λ so. check ! so $
       fpack ! Global (λ h. ghosts.dealloc_token h τ p) a $ done !))
 
-  module _ (d : WordView) where
+  module _ (d : BucketView) where
     abbrev n : ℕ
     n = len R d
 
     abbrev pub Plain : Ptr → List C → Pr
-    Plain p cs = guard 𝓤 (Fit d cs) ⟦ word_owns R heap_token p cs ⟧
+    Plain p cs = guard 𝓤 (Fit d cs) ⟦ pointer_owns R heap_token p cs ⟧
 
-    -- the words and slots of a block, each slot a value or room
+    -- the words of flags and the slots of a block, each slot a value or room
     abbrev Slots : ℕ → ℕ → List C → Fml
     Slots b o cs = fsep (fex (List ℕ) (flags_own R b o cs 0)) (each (slot R b o) cs 0)
 
@@ -139,30 +140,30 @@ module _ {M : Type 1} {𝓤 : Ura M} (𝓛 : Logic 𝓤) (R : RattleType) (L : L
         nothing ! $ fpack ! (AreFlagWords R n ns) (λ _. ftrue) (are_words R n ns cs long are) $ fjoin3 ! $ fpack ! (List ℕ) (slots_under R n b o (slots_rest R n 0 b o)) ns $ done !))
 
     plain_block : (b o : ℕ) (cs : List C) → length cs ≡ n → Sized R n (block_ptr b o)
-        → ⟦ Slots b o cs ⟧ ∗ ⟦ back R b o n ⟧ ∗ ⟦ heap_token (block_ty R n) (block_ptr b o) ⟧ ⊢ ⟦ word_owns R heap_token (block_ptr b o) cs ⟧
+        → ⟦ Slots b o cs ⟧ ∗ ⟦ back R b o n ⟧ ∗ ⟦ heap_token (block_ty R n) (block_ptr b o) ⟧ ⊢ ⟦ pointer_owns R heap_token (block_ptr b o) cs ⟧
     plain_block b o [] long so = let some_slots : 0 < 2 ^ d.bucket = pow_pos d.bucket in absurd (omega arith)
     plain_block b o (c ∷ cs) long so = let p : Ptr = block_ptr b o in let all : List C = c ∷ cs in let same : n ≡ length all = sym long in
         qed 𝓛 (‵ (Slots b o all) ∷ ‵ (back R b o n) ∷ ‵ (heap_token (block_ty R n) p) ∷ []) ∵ rewrite ! 1 (λ (m : ℕ). ‵ (back R b o m)) same refl $ rewrite ! 2 (λ (m : ℕ). ‵ (heap_token (block_ty R m) p)) same refl $
         move ! (1 ∷ 2 ∷ []) $ fjoin ! $ move ! (1 ∷ []) $ fsplit ! $ move ! (0 ∷ 1 ∷ 2 ∷ []) $ fjoin3 ! $
         nothing ! $ fpack ! (InBlock p × Fits R (length all)) (λ _. ftrue) (tt, subst (Fits R) same so.2) $ fjoin ! $ done !
 
-    -- what was due is taken back
-    pub redeems_word : (p : Ptr) → ⟦ at_rest R d p ⟧ ⊢ H.⇛ (ex 𝓤 (Plain p))
-    redeems_word null_ptr = qed 𝓛 (‵ (at_rest R d null_ptr) ∷ []) ∵ updating ! $ fpick ! (λ free. drop ! $ now ! $ show ! (Plain null_ptr) [] $ check ! (inl (refl, free)) $
+    -- what is due from a sharing comes back
+    pub redeems_bucket : (p : Ptr) → ⟦ at_rest R d p ⟧ ⊢ H.⇛ (ex 𝓤 (Plain p))
+    redeems_bucket null_ptr = qed 𝓛 (‵ (at_rest R d null_ptr) ∷ []) ∵ updating ! $ fpick ! (λ free. drop ! $ now ! $ show ! (Plain null_ptr) [] $ check ! (inl (refl, free)) $
         nothing ! $ fpack ! (null_ptr ≡ null_ptr) (λ _. ftrue) refl $ done !)
-    redeems_word (block_ptr b o) = let p : Ptr = block_ptr b o in qed 𝓛 (‵ (at_rest R d p) ∷ []) ∵ updating ! $ fsplit3 ! $ fpick ! (λ so. drop ! $ fsplit ! $
+    redeems_bucket (block_ptr b o) = let p : Ptr = block_ptr b o in qed 𝓛 (‵ (at_rest R d p) ∷ []) ∵ updating ! $ fsplit3 ! $ fpick ! (λ so. drop ! $ fsplit ! $
         use1 𝓛 (later (some (λ (cs : List C). given (length cs ≡ n) (‵ (Slots b o cs))))) (redeems_block b o) $ await ! tt $ pick ! (λ cs. learn ! (λ long.
         now ! $ show ! (Plain p) cs $ check ! (inr long) $ by ! (plain_block b o cs long so))))
 
-    -- a plain word is at rest
-    pub rests_word : (p : Ptr) (cs : List C) → Fit d cs → ⟦ word_owns R heap_token p cs ⟧ ⊢ ⟦ at_rest R d p ⟧
-    rests_word null_ptr [] (inl fit) = qed 𝓛 (‵ (word_owns R heap_token null_ptr []) ∷ []) ∵ keep ! [] $ nothing ! $ fpack ! (d.reserved ≡ false) (λ _. ftrue) fit.1 $ done !
-    rests_word (block_ptr b o) [] (inl fit) = qed 𝓛 (‵ (word_owns R heap_token (block_ptr b o) []) ∷ []) ∵ fpick ! (λ e. absurd (cc))
-    rests_word p [] (inr fit) = let some_slots : 0 < 2 ^ d.bucket = pow_pos d.bucket in absurd (omega arith)
-    rests_word p (c ∷ cs) (inl fit) = absurd (omega arith)
-    rests_word null_ptr (c ∷ cs) (inr fit) = qed 𝓛 (‵ (word_owns R heap_token null_ptr (c ∷ cs)) ∷ []) ∵ fsplit ! $ fpick ! (λ so. absurd so.0)
-    rests_word (block_ptr b o) (c ∷ cs) (inr fit) = let p : Ptr = block_ptr b o in let all : List C = c ∷ cs in
-        qed 𝓛 (‵ (word_owns R heap_token p all) ∷ []) ∵ fsplit3 ! $ fpick ! (λ so. drop ! $ move ! (1 ∷ []) $ fsplit3 ! $
+    -- an owner's pointer is a bucket at rest
+    pub rests_bucket : (p : Ptr) (cs : List C) → Fit d cs → ⟦ pointer_owns R heap_token p cs ⟧ ⊢ ⟦ at_rest R d p ⟧
+    rests_bucket null_ptr [] (inl fit) = qed 𝓛 (‵ (pointer_owns R heap_token null_ptr []) ∷ []) ∵ keep ! [] $ nothing ! $ fpack ! (d.reserved ≡ false) (λ _. ftrue) fit.1 $ done !
+    rests_bucket (block_ptr b o) [] (inl fit) = qed 𝓛 (‵ (pointer_owns R heap_token (block_ptr b o) []) ∷ []) ∵ fpick ! (λ e. absurd (cc))
+    rests_bucket p [] (inr fit) = let some_slots : 0 < 2 ^ d.bucket = pow_pos d.bucket in absurd (omega arith)
+    rests_bucket p (c ∷ cs) (inl fit) = absurd (omega arith)
+    rests_bucket null_ptr (c ∷ cs) (inr fit) = qed 𝓛 (‵ (pointer_owns R heap_token null_ptr (c ∷ cs)) ∷ []) ∵ fsplit ! $ fpick ! (λ so. absurd so.0)
+    rests_bucket (block_ptr b o) (c ∷ cs) (inr fit) = let p : Ptr = block_ptr b o in let all : List C = c ∷ cs in
+        qed 𝓛 (‵ (pointer_owns R heap_token p all) ∷ []) ∵ fsplit3 ! $ fpick ! (λ so. drop ! $ move ! (1 ∷ []) $ fsplit3 ! $
         -- [the slots; the way back; the right to free; the words]
         move ! (1 ∷ []) $ rewrite ! 0 (λ (m : ℕ). ‵ (back R b o m)) fit refl $ move ! (2 ∷ []) $ rewrite ! 0 (λ (m : ℕ). ‵ (heap_token (block_ty R m) p)) fit refl $
         use1 𝓛 (given (Testable p) (‵ (heap_token (block_ty R n) p))) (tested (block_ty R n) p) $ learn ! (λ test. move ! (3 ∷ 2 ∷ []) $ fjoin ! $

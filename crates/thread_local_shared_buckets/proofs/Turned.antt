@@ -1,4 +1,5 @@
--- What the words of a table own, shared and at rest, and as an owner's: the same machine values serve both. Assumes `Logic`.
+-- Turns shared buckets at rest into an owner's buckets and back: the machine values are the same.
+-- Assumes `Logic`.
 use Rattle.std.proofs.Common.{◌≡◌, ℕ, ◌<◌, ◌^◌, w64, List, [], ◌∷◌, ◌++◌, length, refl, sym, ap, ◌∙◌, subst, arith, Option}
 use seplogic.Ra.Ura.{Ura}
 use mir.Val.{Val, vint, vstruct, vcons, vnil, of_list}
@@ -22,29 +23,29 @@ use Rattle.std.specs.contracts.alloc.Global as heap
 use Rattle.thread_local_model.specs.Buckets.{IsTable}
 use Rattle.thread_local_model.specs.Owned.{Owned, AreOfFirstBuckets, IsOwned}
 use Rattle.thread_local_judged.specs.Judged.{Judged}
-use Rattle.thread_local_chunks.specs.Slots.{heap_token}
-use Rattle.thread_local_owner_word.specs.Leads.{word_owns}
-use Rattle.thread_local_owner_word.specs.contracts.word.Word as plain
-use Rattle.thread_local_owner_word.proofs.word.Word.TheLaws as plain'
-use Rattle.thread_local_shared_word_logic.specs.Shared.{WordView, at_rest}
-use Rattle.thread_local_shared_word.specs.contracts.word.SharedWord as shared
-use Rattle.thread_local_words.specs.Rows.{contents_of}
-use Rattle.thread_local_words.specs.contracts.row_of_words.RowOfWords as row_of_words
-use Rattle.thread_local_words.specs.contracts.words.Words as words
-use Rattle.thread_local_words.proofs.words.Words.TheLaws as words'
+use Rattle.thread_local_blocks.specs.Slots.{heap_token}
+use Rattle.thread_local_bucket_pointer.specs.PointerOwns.{pointer_owns}
+use Rattle.thread_local_bucket_pointer.specs.contracts.bucket_pointer.BucketPointer as plain
+use Rattle.thread_local_bucket_pointer.proofs.bucket_pointer.BucketPointer.TheLaws as plain'
+use Rattle.thread_local_shared_bucket_logic.specs.Shared.{BucketView, at_rest}
+use Rattle.thread_local_shared_bucket.specs.contracts.shared_bucket.SharedBucket as shared
+use Rattle.thread_local_bucket_pointers.specs.Pointers.{contents_of}
+use Rattle.thread_local_bucket_pointers.specs.contracts.pointer_array.PointerArray as array
+use Rattle.thread_local_bucket_pointers.specs.contracts.bucket_pointers.BucketPointers as all_pointers
+use Rattle.thread_local_bucket_pointers.proofs.bucket_pointers.BucketPointers.TheLaws as all_pointers'
 use Rattle.thread_local_buckets.specs.contracts.buckets.Buckets as buckets
-use Rattle.thread_local_shared_buckets.specs.contracts.parts.Parts as all_shared
-use Rattle.thread_local_shared_buckets.specs.contracts.parts.SharedWords as all_words'
-use Rattle.thread_local_shared_buckets.specs.contracts.parts.SharedRow as shared_row
+use Rattle.thread_local_shared_buckets.specs.contracts.parts.SharedParts as all_shared
+use Rattle.thread_local_shared_buckets.specs.contracts.parts.SharedPointers as all_buckets'
+use Rattle.thread_local_shared_buckets.specs.contracts.parts.SharedArray as shared_array
 use Rattle.thread_local_buckets.proofs.buckets.Buckets.TheLaws as buckets'
 use Rattle.thread_local_shared_buckets.specs.contracts.shared.Shared as whole
 use Rattle.thread_local_shared_buckets.specs.Lent.{view_with}
 use Rattle.thread_local_shared_buckets.specs.Fit.{Fit}
-use Rattle.thread_local_shared_buckets.specs.TableView.{TableView, view_of, AreWords}
-use Rattle.thread_local_shared_buckets.proofs.Lists.{Fits, fits_long, owned_of, are_owned, fit_all, table_words, all_words-length, table_named, table_seen}
-use Rattle.thread_local_shared_buckets.proofs.Redeemed.{redeems_word, rests_word}
+use Rattle.thread_local_shared_buckets.specs.TableView.{TableView, table_view_of, AreBuckets}
+use Rattle.thread_local_shared_buckets.proofs.Lists.{Fits, fits_long, owned_of, are_owned, fit_all, table_buckets, all_buckets-length, table_named, table_seen}
+use Rattle.thread_local_shared_buckets.proofs.Redeemed.{redeems_bucket, rests_bucket}
 
--- an owner's words and the number, as one struct
+-- the machine value of an owner's pointers with the number of reserved slots
 abbrev pub pair_val : Val → ℕ → Val
 pair_val v n = vstruct (vcons v (vcons (vint w64 n) vnil))
 
@@ -64,7 +65,7 @@ module _ {M : Type 1} {𝓤 : Ura M} (𝓛 : Logic 𝓤) (R : RattleType) (L : L
   abbrev C : Type 0
   C = Option R.Denot
 
-  -- a word that is shared, and a plain one
+  -- the type of a shared bucket, and then of an owner's pointer
   abbrev pub S : RattleType
   S = shared.the_row R
 
@@ -77,68 +78,68 @@ module _ {M : Type 1} {𝓤 : Ura M} (𝓛 : Logic 𝓤) (R : RattleType) (L : L
   abbrev Data : Ptr → List Val → Fml
   Data p vs = (Struct (record { name = []; args = []; types = []; fields = denote.RawPtr.RawPtr ∷ [] })).own_val (p, tt) vs
 
-  abbrev Inside : WordView → List Val → Ptr → Fml
+  abbrev Inside : BucketView → List Val → Ptr → Fml
   Inside d vs p = fsep (Data p vs) (at_rest R d p)
 
-  -- ---- one word
-  abbrev Turned : WordView → List Val → W.Denot → Pr
+  -- ---- one bucket
+  abbrev Turned : BucketView → List Val → W.Denot → Pr
   Turned d vs w = guard 𝓤 (Fit d w.slots) ⟦ W.own_val w vs ⟧
 
-  redeems_one : (d : WordView) (vs : List Val) → ⟦ S.own_val d vs ⟧ ⊢ H.⇛ (ex 𝓤 (Turned d vs))
+  redeems_one : (d : BucketView) (vs : List Val) → ⟦ S.own_val d vs ⟧ ⊢ H.⇛ (ex 𝓤 (Turned d vs))
   redeems_one d vs = qed 𝓛 (‵ (S.own_val d vs) ∷ []) ∵ updating ! $ fsplit3 ! $ drop ! $ drop ! $ fpick ! (λ p. fsplit ! $ move ! (1 ∷ []) $
-      use1 𝓛 (later (some (λ (cs : List C). given (Fit d cs) (‵ (word_owns R heap_token p cs))))) (redeems_word 𝓛 R L d p) $ await ! tt $ pick ! (λ cs. learn ! (λ fit.
+      use1 𝓛 (later (some (λ (cs : List C). given (Fit d cs) (‵ (pointer_owns R heap_token p cs))))) (redeems_bucket 𝓛 R L d p) $ await ! tt $ pick ! (λ cs. learn ! (λ fit.
       now ! $ show ! (Turned d vs) (record { at = p; slots = cs }) $ check ! fit $ move ! (1 ∷ 0 ∷ []) $ fjoin ! $ done !)))
 
-  judged_one : (d : WordView) (vs : List Val) → ⟦ S.own_val d vs ⟧ ⊢ guard 𝓤 (Judged R) ⟦ S.own_val d vs ⟧
+  judged_one : (d : BucketView) (vs : List Val) → ⟦ S.own_val d vs ⟧ ⊢ guard 𝓤 (Judged R) ⟦ S.own_val d vs ⟧
   judged_one d vs = qed 𝓛 (‵ (S.own_val d vs) ∷ []) ∵ fsplit3 ! $ move ! (1 ∷ []) $ fpick ! (λ j. check ! j $ drop ! $ nothing ! $ fpack ! (Judged R) (λ _. ftrue) j $ move ! (1 ∷ 0 ∷ []) $ fjoin3 ! $ done !)
 
-  rests_one : Judged R → (d : WordView) (w : W.Denot) (vs : List Val) → Fit d w.slots → ⟦ W.own_val w vs ⟧ ⊢ ⟦ S.own_val d vs ⟧
-  rests_one j d w vs fit = qed 𝓛 (‵ (W.own_val w vs) ∷ []) ∵ peeks ! W (Is W) (shows 𝓛 W) w vs (λ is. fsplit ! $ move ! (1 ∷ []) $ use1 𝓛 (‵ (at_rest R d w.at)) (rests_word 𝓛 R L d w.at w.slots fit) $ move ! (1 ∷ 0 ∷ []) $ fjoin ! $
+  rests_one : Judged R → (d : BucketView) (w : W.Denot) (vs : List Val) → Fit d w.slots → ⟦ W.own_val w vs ⟧ ⊢ ⟦ S.own_val d vs ⟧
+  rests_one j d w vs fit = qed 𝓛 (‵ (W.own_val w vs) ∷ []) ∵ peeks ! W (Is W) (shows 𝓛 W) w vs (λ is. fsplit ! $ move ! (1 ∷ []) $ use1 𝓛 (‵ (at_rest R d w.at)) (rests_bucket 𝓛 R L d w.at w.slots fit) $ move ! (1 ∷ 0 ∷ []) $ fjoin ! $
       fpack ! Ptr (Inside d vs) w.at $ nothing ! $ fpack ! (Judged R) (λ _. ftrue) j $ nothing ! $ fpack ! (Typed S.mir vs) (λ _. ftrue) (((plain'.the_row_laws R L).lawful 𝓛).typed w vs is) $ fjoin3 ! $ done !)
 
   -- ---- one after another
-  abbrev All : List WordView → List Val → List W.Denot → Pr
+  abbrev All : List BucketView → List Val → List W.Denot → Pr
   All ds us ws = guard 𝓤 (Fits slots ds ws) ⟦ each W.Denot W.own_val ws us ⟧
 
-  each_redeems : (ds : List WordView) (us : List Val) → ⟦ each WordView S.own_val ds us ⟧ ⊢ H.⇛ (ex 𝓤 (All ds us))
+  each_redeems : (ds : List BucketView) (us : List Val) → ⟦ each BucketView S.own_val ds us ⟧ ⊢ H.⇛ (ex 𝓤 (All ds us))
   each_redeems [] [] = qed 𝓛 (‵ ftrue ∷ []) ∵ updating ! $ now ! $ show ! (All [] []) [] $ check ! tt $ done !
   each_redeems [] (u ∷ us) = never_e 𝓤 _
   each_redeems (d ∷ ds) [] = never_e 𝓤 _
-  each_redeems (d ∷ ds) (u ∷ us) = qed 𝓛 (‵ (each WordView S.own_val (d ∷ ds) (u ∷ us)) ∷ []) ∵ updating ! $ fsplit ! $
+  each_redeems (d ∷ ds) (u ∷ us) = qed 𝓛 (‵ (each BucketView S.own_val (d ∷ ds) (u ∷ us)) ∷ []) ∵ updating ! $ fsplit ! $
       use1 𝓛 (later (some (λ (w : W.Denot). given (Fit d w.slots) (‵ (W.own_val w (u ∷ [])))))) (redeems_one d (u ∷ [])) $ await ! tt $ pick ! (λ w. learn ! (λ fit. move ! (1 ∷ []) $
       use1 𝓛 (later (some (λ (ws : List W.Denot). given (Fits slots ds ws) (‵ (each W.Denot W.own_val ws us))))) (each_redeems ds us) $ await ! tt $ pick ! (λ ws. learn ! (λ fits.
       now ! $ show ! (All (d ∷ ds) (u ∷ us)) (w ∷ ws) $ check ! (fit, fits) $ move ! (1 ∷ 0 ∷ []) $ fjoin ! $ done !))))
 
-  each_rests : Judged R → (ds : List WordView) (ws : List W.Denot) (us : List Val) → Fits slots ds ws → ⟦ each W.Denot W.own_val ws us ⟧ ⊢ ⟦ each WordView S.own_val ds us ⟧
+  each_rests : Judged R → (ds : List BucketView) (ws : List W.Denot) (us : List Val) → Fits slots ds ws → ⟦ each W.Denot W.own_val ws us ⟧ ⊢ ⟦ each BucketView S.own_val ds us ⟧
   each_rests j [] [] [] f = id⊢ 𝓤 _
   each_rests j [] [] (u ∷ us) f = never_e 𝓤 _
   each_rests j [] (w ∷ ws) us f = absurd f
   each_rests j (d ∷ ds) [] us f = absurd f
   each_rests j (d ∷ ds) (w ∷ ws) [] f = never_e 𝓤 _
   each_rests j (d ∷ ds) (w ∷ ws) (u ∷ us) f = qed 𝓛 (‵ (each W.Denot W.own_val (w ∷ ws) (u ∷ us)) ∷ []) ∵ fsplit ! $ use1 𝓛 (‵ (S.own_val d (u ∷ []))) (rests_one j d w (u ∷ []) f.0) $ move ! (1 ∷ []) $
-      use1 𝓛 (‵ (each WordView S.own_val ds us)) (each_rests j ds ws us f.1) $ move ! (1 ∷ 0 ∷ []) $ fjoin ! $ done !
+      use1 𝓛 (‵ (each BucketView S.own_val ds us)) (each_rests j ds ws us f.1) $ move ! (1 ∷ 0 ∷ []) $ fjoin ! $ done !
 
-  each_judged : (ds : List WordView) (us : List Val) → length ds ≡ 63 → ⟦ each WordView S.own_val ds us ⟧ ⊢ guard 𝓤 (Judged R) ⟦ each WordView S.own_val ds us ⟧
+  each_judged : (ds : List BucketView) (us : List Val) → length ds ≡ 63 → ⟦ each BucketView S.own_val ds us ⟧ ⊢ guard 𝓤 (Judged R) ⟦ each BucketView S.own_val ds us ⟧
   each_judged [] us long = absurd (omega arith)
   each_judged (d ∷ ds) [] long = never_e 𝓤 _
-  each_judged (d ∷ ds) (u ∷ us) long = qed 𝓛 (‵ (each WordView S.own_val (d ∷ ds) (u ∷ us)) ∷ []) ∵ fsplit ! $ use1 𝓛 (given (Judged R) (‵ (S.own_val d (u ∷ [])))) (judged_one d (u ∷ [])) $ learn ! (λ j. check ! j $ fjoin ! $ done !)
+  each_judged (d ∷ ds) (u ∷ us) long = qed 𝓛 (‵ (each BucketView S.own_val (d ∷ ds) (u ∷ us)) ∷ []) ∵ fsplit ! $ use1 𝓛 (given (Judged R) (‵ (S.own_val d (u ∷ [])))) (judged_one d (u ∷ [])) $ learn ! (λ j. check ! j $ fjoin ! $ done !)
 
   -- ---- the array
-  abbrev Arrays : List WordView → List Val → List W.Denot → Pr
+  abbrev Arrays : List BucketView → List Val → List W.Denot → Pr
   Arrays ds vs ws = guard 𝓤 (Judged R × (length ds ≡ 63) × Fits slots ds ws) ⟦ (Array W 63).own_val ws vs ⟧
 
-  array_redeems : (ds : List WordView) (vs : List Val) → ⟦ (Array S 63).own_val ds vs ⟧ ⊢ H.⇛ (ex 𝓤 (Arrays ds vs))
+  array_redeems : (ds : List BucketView) (vs : List Val) → ⟦ (Array S 63).own_val ds vs ⟧ ⊢ H.⇛ (ex 𝓤 (Arrays ds vs))
   array_redeems ds vs = qed 𝓛 (‵ ((Array S 63).own_val ds vs) ∷ []) ∵ updating ! $ fpick ! (λ us. fsplit ! $ fsplit ! $ feq_l ! (λ e. feq_l ! (λ long.
-      use1 𝓛 (given (Judged R) (‵ (each WordView S.own_val ds us))) (each_judged ds us long) $ learn ! (λ j.
+      use1 𝓛 (given (Judged R) (‵ (each BucketView S.own_val ds us))) (each_judged ds us long) $ learn ! (λ j.
       use1 𝓛 (later (some (λ (ws : List W.Denot). given (Fits slots ds ws) (‵ (each W.Denot W.own_val ws us))))) (each_redeems ds us) $ await ! tt $ pick ! (λ ws. learn ! (λ f.
       now ! $ show ! (Arrays ds vs) ws $ check ! (j, long, f) $ feq_i ! ℕ (length ws) 63 (fits_long slots ds ws f ∙ long) $ feq_i ! (List Val) vs (array_val us ∷ []) e $ fjoin ! $ fjoin ! $
       fpack ! (List Val) (λ zs. fsep (shape 63 ws vs zs) (each W.Denot W.own_val ws zs)) us $ done !))))))
 
-  array_rests : Judged R → (ds : List WordView) (ws : List W.Denot) (vs : List Val) → length ds ≡ 63 → Fits slots ds ws → ⟦ (Array W 63).own_val ws vs ⟧ ⊢ ⟦ (Array S 63).own_val ds vs ⟧
-  array_rests j ds ws vs long f = qed 𝓛 (‵ ((Array W 63).own_val ws vs) ∷ []) ∵ fpick ! (λ us. fsplit ! $ fsplit ! $ feq_l ! (λ e. drop ! $ use1 𝓛 (‵ (each WordView S.own_val ds us)) (each_rests j ds ws us f) $
-      feq_i ! ℕ (length ds) 63 long $ feq_i ! (List Val) vs (array_val us ∷ []) e $ fjoin ! $ fjoin ! $ fpack ! (List Val) (λ zs. fsep (shape 63 ds vs zs) (each WordView S.own_val ds zs)) us $ done !))
+  array_rests : Judged R → (ds : List BucketView) (ws : List W.Denot) (vs : List Val) → length ds ≡ 63 → Fits slots ds ws → ⟦ (Array W 63).own_val ws vs ⟧ ⊢ ⟦ (Array S 63).own_val ds vs ⟧
+  array_rests j ds ws vs long f = qed 𝓛 (‵ ((Array W 63).own_val ws vs) ∷ []) ∵ fpick ! (λ us. fsplit ! $ fsplit ! $ feq_l ! (λ e. drop ! $ use1 𝓛 (‵ (each BucketView S.own_val ds us)) (each_rests j ds ws us f) $
+      feq_i ! ℕ (length ds) 63 long $ feq_i ! (List Val) vs (array_val us ∷ []) e $ fjoin ! $ fjoin ! $ fpack ! (List Val) (λ zs. fsep (shape 63 ds vs zs) (each BucketView S.own_val ds zs)) us $ done !))
 
-  -- ---- the words of a table, and its buckets
+  -- ---- the pointers of a table, and its buckets
   abbrev pub Shared : RattleType
   Shared = all_shared.the_row R
 
@@ -149,54 +150,57 @@ module _ {M : Type 1} {𝓤 : Ura M} (𝓛 : Logic 𝓤) (R : RattleType) (L : L
   shape_with fields = record { name = []; args = []; types = []; fields = fields }
 
   abbrev Plain : RattleType
-  Plain = words.the_row R
+  Plain = all_pointers.the_row R
 
   abbrev Line : RattleType
-  Line = row_of_words.the_row R
+  Line = array.the_row R
 
   abbrev SharedLine : RattleType
-  SharedLine = shared_row.the_row R
+  SharedLine = shared_array.the_row R
 
   abbrev Heap : RattleType
   Heap = heap.the_row
 
-  -- the fields of an owner's words, of what it has, and of what is shared, that are seen as this
-  abbrev WordsOf : Plain.Denot → Type 0
-  WordsOf c = (x : (words.TheInside.the_row R).Denot) × ((contents_of x.words ≡ c) × IsTable (contents_of x.words))
+  -- the fields that have this view: of an owner's pointers, of an owner's buckets, and of shared
+  -- buckets
+  abbrev PointersOf : Plain.Denot → Type 0
+  PointersOf c = (x : (all_pointers.TheInside.the_row R).Denot) × ((contents_of x.pointers ≡ c) × IsTable (contents_of x.pointers))
 
   abbrev OwnedOf : Owner.Denot → Type 0
-  OwnedOf y = (x : (buckets.TheInside.the_row R).Denot) × ((record { contents = x.words; reserved = x.reserved } ≡ y) × IsOwned (record { contents = x.words; reserved = x.reserved }))
+  OwnedOf y = (x : (buckets.TheInside.the_row R).Denot) × ((record { contents = x.pointers; reserved = x.reserved } ≡ y) × IsOwned (record { contents = x.pointers; reserved = x.reserved }))
 
   abbrev SharedOf : TableView → Type 0
-  SharedOf s = (x : (all_shared.TheInside.the_row R).Denot) × ((view_of x.words.words.words x.reserved ≡ s) × (AreWords x.words.words.words x.reserved × AreOfFirstBuckets x.reserved))
+  SharedOf s = (x : (all_shared.TheInside.the_row R).Denot) × ((table_view_of x.pointers.pointers.pointers x.reserved ≡ s) × (AreBuckets x.pointers.pointers.pointers x.reserved × AreOfFirstBuckets x.reserved))
 
   abbrev pub Out : TableView → List Val → Owner.Denot → Pr
   Out s vs y = guard 𝓤 (Judged R × (y.reserved ≡ s.reserved)) ⟦ Owner.own_val y vs ⟧
 
   pub turns_plain : (s : TableView) (vs : List Val) → ⟦ Shared.own_val s vs ⟧ ⊢ H.⇛ (ex 𝓤 (Out s vs))
   turns_plain s vs = qed 𝓛 (‵ (Shared.own_val s vs) ∷ []) ∵ updating ! $ fpick ! (λ h. fsplit ! $ fpick ! (λ vss. fsplit3 ! $ move ! (1 ∷ []) $ fpick ! (λ uss. fsplit3 ! $ move ! (1 ∷ []) $ fpick ! (λ tss. fsplit3 ! $ move ! (1 ∷ []) $
-      let ds : List WordView = h.0.words.words.words in let n : ℕ = h.0.reserved in
+      let ds : List BucketView = h.0.pointers.pointers.pointers in let n : ℕ = h.0.reserved in
       use1 𝓛 (later (some (λ (ws : List W.Denot). given (Judged R × (length ds ≡ 63) × Fits slots ds ws) (‵ ((Array W 63).own_val ws tss.0))))) (array_redeems ds tss.0) $ await ! tt $ pick ! (λ ws. learn ! (λ g.
       let y : Owned R.Denot = owned_of slots ws n in let owned : IsOwned y = are_owned slots ds ws n g.1 h.1.1.0 h.1.1.1 g.2 in
-      -- [the array; its value; nothing; the words' value; the heap; the struct's value; the number; nothing]
+      -- [the array; its value; nothing; the pointers' value; the heap; the struct's value; the
+      -- number; nothing]
       move ! (1 ∷ 0 ∷ []) $ fjoin3 ! $ fpack ! (Valss (Array W 63 ∷ [])) (within (shape_with (Array W 63 ∷ [])) (ws, tt) uss.0) tss $
-      move ! (1 ∷ 0 ∷ []) $ fjoin3 ! $ fpack ! (Valss (Line ∷ Heap ∷ [])) (within (shape_with (Line ∷ Heap ∷ [])) (record { words = ws }, (h.0.words.alloc, tt)) vss.0) uss $ nothing ! $ move ! (1 ∷ 0 ∷ []) $ fjoin ! $
-      fpack ! (WordsOf y.contents) (λ a. fsep ((words.TheInside.the_row R).own_val a.0 vss.0) ftrue) (record { words = record { words = ws }; alloc = h.0.words.alloc }, (refl, owned.table)) $
+      move ! (1 ∷ 0 ∷ []) $ fjoin3 ! $ fpack ! (Valss (Line ∷ Heap ∷ [])) (within (shape_with (Line ∷ Heap ∷ [])) (record { pointers = ws }, (h.0.pointers.alloc, tt)) vss.0) uss $ nothing ! $ move ! (1 ∷ 0 ∷ []) $ fjoin ! $
+      fpack ! (PointersOf y.contents) (λ a. fsep ((all_pointers.TheInside.the_row R).own_val a.0 vss.0) ftrue) (record { pointers = record { pointers = ws }; alloc = h.0.pointers.alloc }, (refl, owned.table)) $
       move ! (1 ∷ 0 ∷ []) $ fjoin3 ! $ fpack ! (Valss (Plain ∷ usize ∷ [])) (within (shape_with (Plain ∷ usize ∷ [])) (y.contents, (n, tt)) vs) vss $ fjoin ! $
-      fpack ! (OwnedOf y) (λ a. fsep ((buckets.TheInside.the_row R).own_val a.0 vs) ftrue) (record { words = y.contents; reserved = n }, (refl, owned)) $
+      fpack ! (OwnedOf y) (λ a. fsep ((buckets.TheInside.the_row R).own_val a.0 vs) ftrue) (record { pointers = y.contents; reserved = n }, (refl, owned)) $
       now ! $ show ! (Out s vs) y $ check ! (g.0, ap (λ (z : TableView). z.reserved) h.1.0) $ done !))))))
 
   pub turns_shared : Judged R → (s : TableView) (y : Owner.Denot) (vs : List Val) → s.reserved ≡ y.reserved → ⟦ Owner.own_val y vs ⟧ ⊢ ⟦ Shared.own_val s vs ⟧
-  turns_shared j s y vs same = let ds : List WordView = table_words s in qed 𝓛 (‵ (Owner.own_val y vs) ∷ []) ∵ fpick ! (λ h. fsplit ! $ fpick ! (λ vss. fsplit3 ! $ move ! (1 ∷ []) $ fpick ! (λ h'. fsplit ! $ fpick ! (λ uss. fsplit3 ! $ move ! (1 ∷ []) $ fpick ! (λ tss. fsplit3 ! $ move ! (1 ∷ []) $
-      let ws : List W.Denot = h'.0.words.words in let e : h.0.reserved ≡ s.reserved = ap (λ (o : Owned R.Denot). o.reserved) h.1.0 ∙ sym same in
+  turns_shared j s y vs same = let ds : List BucketView = table_buckets s in qed 𝓛 (‵ (Owner.own_val y vs) ∷ []) ∵ fpick ! (λ h. fsplit ! $ fpick ! (λ vss. fsplit3 ! $ move ! (1 ∷ []) $ fpick ! (λ h'. fsplit ! $ fpick ! (λ uss. fsplit3 ! $ move ! (1 ∷ []) $ fpick ! (λ tss. fsplit3 ! $ move ! (1 ∷ []) $
+      let ws : List W.Denot = h'.0.pointers.pointers in let e : h.0.reserved ≡ s.reserved = ap (λ (o : Owned R.Denot). o.reserved) h.1.0 ∙ sym same in
       let owned : IsOwned (owned_of slots ws s.reserved) = subst (λ (o : Owned R.Denot). IsOwned o) (λ i. record { contents = sym h'.1.0 i; reserved = e i }) h.1.1 in
-      use1 𝓛 (‵ ((Array S 63).own_val ds tss.0)) (array_rests j ds ws tss.0 (all_words-length s 63 0) (fit_all slots s ws owned)) $
-      -- [the array; its value; nothing; the words' value; the heap; nothing; the struct's value; the number; nothing]
+      use1 𝓛 (‵ ((Array S 63).own_val ds tss.0)) (array_rests j ds ws tss.0 (all_buckets-length s 63 0) (fit_all slots s ws owned)) $
+      -- [the array; its value; nothing; the pointers' value; the heap; nothing; the struct's value;
+      -- the number; nothing]
       move ! (1 ∷ 0 ∷ []) $ fjoin3 ! $ fpack ! (Valss (Array S 63 ∷ [])) (within (shape_with (Array S 63 ∷ [])) (ds, tt) uss.0) tss $
-      move ! (1 ∷ 0 ∷ []) $ fjoin3 ! $ fpack ! (Valss (SharedLine ∷ Heap ∷ [])) (within (shape_with (SharedLine ∷ Heap ∷ [])) (record { words = ds }, (h'.0.alloc, tt)) vss.0) uss $ move ! (1 ∷ []) $ drop ! $
+      move ! (1 ∷ 0 ∷ []) $ fjoin3 ! $ fpack ! (Valss (SharedLine ∷ Heap ∷ [])) (within (shape_with (SharedLine ∷ Heap ∷ [])) (record { pointers = ds }, (h'.0.alloc, tt)) vss.0) uss $ move ! (1 ∷ []) $ drop ! $
       move ! (2 ∷ []) $ rewrite ! 0 (λ (n : ℕ). ‵ (fsep (usize.own_val n vss.1.0) ftrue)) e refl $ move ! (2 ∷ 1 ∷ 0 ∷ []) $ fjoin3 ! $
-      fpack ! (Valss (all_words'.the_row R ∷ usize ∷ [])) (within (shape_with (all_words'.the_row R ∷ usize ∷ [])) (record { words = record { words = ds }; alloc = h'.0.alloc }, (s.reserved, tt)) vs) vss $ fjoin ! $
-      fpack ! (SharedOf s) (λ a. fsep ((all_shared.TheInside.the_row R).own_val a.0 vs) ftrue) (record { words = record { words = record { words = ds }; alloc = h'.0.alloc }; reserved = s.reserved }, (table_seen s, (table_named s, owned.first))) $ done !)))))
+      fpack ! (Valss (all_buckets'.the_row R ∷ usize ∷ [])) (within (shape_with (all_buckets'.the_row R ∷ usize ∷ [])) (record { pointers = record { pointers = ds }; alloc = h'.0.alloc }, (s.reserved, tt)) vs) vss $ fjoin ! $
+      fpack ! (SharedOf s) (λ a. fsep ((all_shared.TheInside.the_row R).own_val a.0 vs) ftrue) (record { pointers = record { pointers = record { pointers = ds }; alloc = h'.0.alloc }; reserved = s.reserved }, (table_seen s, (table_named s, owned.first))) $ done !)))))
 
   -- ---- in memory
   abbrev pub Row : RattleType
@@ -221,7 +225,7 @@ module _ {M : Type 1} {𝓤 : Ura M} (𝓛 : Logic 𝓤) (R : RattleType) (L : L
   pub makes_owner : (c : Plain.Denot) (n : ℕ) (v : Val) → n < 2 ^ 64 → IsOwned (record { contents = c; reserved = n }) → ⟦ Plain.own_val c (v ∷ []) ⟧ ⊢ ⟦ Owner.own_val (record { contents = c; reserved = n }) (pair_val v n ∷ []) ⟧
   makes_owner c n v fits owned = let vs : List Val = pair_val v n ∷ [] in qed 𝓛 (‵ (Plain.own_val c (v ∷ [])) ∷ []) ∵ nothing ! $ flt_i ! n (2 ^ 64) fits $ feq_i ! (List Val) (vint w64 n ∷ []) (vint w64 n ∷ []) refl $ fjoin ! $ fjoin ! $
       move ! (1 ∷ 0 ∷ []) $ feq_i ! (List Val) vs vs refl $ fjoin3 ! $ fpack ! (Valss (Plain ∷ usize ∷ [])) (within (shape_with (Plain ∷ usize ∷ [])) (c, (n, tt)) vs) (v ∷ [], (vint w64 n ∷ [], tt)) $
-      nothing ! $ move ! (1 ∷ 0 ∷ []) $ fjoin ! $ fpack ! (OwnedOf (record { contents = c; reserved = n })) (λ a. fsep ((buckets.TheInside.the_row R).own_val a.0 vs) ftrue) (record { words = c; reserved = n }, (refl, owned)) $ done !
+      nothing ! $ move ! (1 ∷ 0 ∷ []) $ fjoin ! $ fpack ! (OwnedOf (record { contents = c; reserved = n })) (λ a. fsep ((buckets.TheInside.the_row R).own_val a.0 vs) ftrue) (record { pointers = c; reserved = n }, (refl, owned)) $ done !
 
   pub makes_shared : Judged R → (table : ℕ) (c : Plain.Denot) (n : ℕ) (v : Val) → n < 2 ^ 64 → IsOwned (record { contents = c; reserved = n }) → Typed Row.mir (pair_val v n ∷ [])
       → ⟦ Plain.own_val c (v ∷ []) ⟧ ⊢ ⟦ Row.own_val (record { table = table; reserved = n }) (pair_val v n ∷ []) ⟧
@@ -232,12 +236,12 @@ module _ {M : Type 1} {𝓤 : Ura M} (𝓛 : Logic 𝓤) (R : RattleType) (L : L
   abbrev pub Given : TableView → Val → Plain.Denot → Pr
   Given s v c = guard 𝓤 (IsOwned (record { contents = c; reserved = s.reserved })) ⟦ Plain.own_val c (v ∷ []) ⟧
 
-  pub takes_words : (s : TableView) (v u : Val) → ⟦ Row.own_val s (vstruct (vcons v (vcons u vnil)) ∷ []) ⟧ ⊢ H.⇛ (ex 𝓤 (Given s v))
-  takes_words s v u = let vs : List Val = vstruct (vcons v (vcons u vnil)) ∷ [] in qed 𝓛 (‵ (Row.own_val s vs) ∷ []) ∵ updating ! $ fsplit ! $ move ! (1 ∷ []) $
+  pub takes_pointers : (s : TableView) (v u : Val) → ⟦ Row.own_val s (vstruct (vcons v (vcons u vnil)) ∷ []) ⟧ ⊢ H.⇛ (ex 𝓤 (Given s v))
+  takes_pointers s v u = let vs : List Val = vstruct (vcons v (vcons u vnil)) ∷ [] in qed 𝓛 (‵ (Row.own_val s vs) ∷ []) ∵ updating ! $ fsplit ! $ move ! (1 ∷ []) $
       use1 𝓛 (later (some (λ (y : Owner.Denot). given (Judged R × (y.reserved ≡ s.reserved)) (‵ (Owner.own_val y vs))))) (turns_plain s vs) $ await ! tt $ pick ! (λ y. learn ! (λ so.
-      fpick ! (λ h. fsplit ! $ fpick ! (λ vss. fsplit3 ! $ feq_l ! (λ e. peeks ! Plain (Is Plain) (shows 𝓛 Plain) h.0.words vss.0 (λ is.
-      let got = one (layout Plain) vss.0 (((words'.the_row_laws R L).lawful 𝓛).typed h.0.words vss.0 is) in
+      fpick ! (λ h. fsplit ! $ fpick ! (λ vss. fsplit3 ! $ feq_l ! (λ e. peeks ! Plain (Is Plain) (shows 𝓛 Plain) h.0.pointers vss.0 (λ is.
+      let got = one (layout Plain) vss.0 (((all_pointers'.the_row_laws R L).lawful 𝓛).typed h.0.pointers vss.0 is) in
       let both : vs ≡ vstruct (of_list ((got.0 ∷ []) ++ (vss.1.0 ++ []))) ∷ [] = e ∙ ap (λ (ws : List Val). vstruct (of_list (ws ++ (vss.1.0 ++ []))) ∷ []) got.1 in let same : v ≡ got.0 = cc in
       let kept : h.0.reserved ≡ s.reserved = ap (λ (o : Owned R.Denot). o.reserved) h.1.0 ∙ so.1 in
-      rewrite ! 0 (λ (ws : List Val). ‵ (Plain.own_val h.0.words ws)) (got.1 ∙ sym (ap (λ (x : Val). x ∷ []) same)) refl $
-      now ! $ show ! (Given s v) h.0.words $ check ! (subst (λ (k : ℕ). IsOwned (record { contents = h.0.words; reserved = k })) kept h.1.1) $ keep ! (0 ∷ []) $ done !))))))
+      rewrite ! 0 (λ (ws : List Val). ‵ (Plain.own_val h.0.pointers ws)) (got.1 ∙ sym (ap (λ (x : Val). x ∷ []) same)) refl $
+      now ! $ show ! (Given s v) h.0.pointers $ check ! (subst (λ (k : ℕ). IsOwned (record { contents = h.0.pointers; reserved = k })) kept h.1.1) $ keep ! (0 ∷ []) $ done !))))))

@@ -1,6 +1,7 @@
+-- What a contract sees of shared buckets once an owner's loan of them ends.
 use Rattle.thread_local_model.specs.Owned.{Owned}
 use Rattle.thread_local_shared_buckets.specs.TableView.{TableView}
 
--- what is shared, with what an owner leaves
+-- the same table, with as many reserved slots as the owner's buckets have
 abbrev pub view_with : {V : Type 0} → TableView → Owned V → TableView
 view_with s owned = record { table = s.table; reserved = owned.reserved }

@@ -1,4 +1,4 @@
--- What the buckets of a table own at rest, and what a `&` to them holds: what their words do.
+-- What shared buckets own at rest, and what a `&` to them holds: the same as their parts.
 use Rattle.std.specs.Prelude.{List}
 use mir.Val.{Val}
 use base.Fml.{Lft, Fml, ffalse}
@@ -6,7 +6,7 @@ use denote.RattleType.{RattleType}
 use denote.RawPtr.{Ptr, block_ptr, null_ptr}
 use denote.Sharing.{said}
 use Rattle.thread_local_shared_buckets.specs.TableView.{TableView}
-use Rattle.thread_local_shared_buckets.specs.contracts.parts.Parts.{the_row}
+use Rattle.thread_local_shared_buckets.specs.contracts.parts.SharedParts.{the_row}
 
 abbrev pub parts_own : (R : RattleType) → TableView → List Val → Fml
 parts_own R s vs = (the_row R).own_val s vs

@@ -1,4 +1,4 @@
-//! The buckets of a table, shared among threads.
+//! The buckets of a table while threads share them.
 #![tactic(auto)]
 
 mod parts;

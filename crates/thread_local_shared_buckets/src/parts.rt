@@ -1,47 +1,50 @@
-//! How the words of a table lie while they are shared, and at rest.
+//! What shared buckets consist of: 63 pointers, the heap, and the number of reserved slots, in the
+//! layout of an owner's buckets.
 ghost use Rattle.std.specs.Prelude.{◌≡◌, ◌<◌};
 ghost use Rattle.thread_local_model.specs.Owned.{AreOfFirstBuckets};
-ghost use Rattle.thread_local_shared_buckets.specs.TableView.{TableView, table_view_coded, view_of, word_of, AreWords};
+ghost use Rattle.thread_local_shared_buckets.specs.TableView.{TableView, table_view_coded, table_view_of, bucket_view, AreBuckets};
 
 use std::alloc::Global;
 use std::marker::Model;
-use thread_local_shared_word::SharedWord;
+use thread_local_shared_bucket::SharedBucket;
 use thread_local_thread_id::BUCKETS;
 
-/// A word for each of the 63 buckets.
-pub(crate) struct SharedRow<T> {
-    words: [SharedWord<T>; BUCKETS],
+/// The 63 buckets, by number.
+pub(crate) struct SharedArray<T> {
+    pointers: [SharedBucket<T>; BUCKETS],
 }
 
-/// The words of a table's buckets. They lie as an owner's words do, beside the heap that their blocks come from.
-pub(crate) struct SharedWords<T> {
-    words: SharedRow<T>,
+/// The pointers of a table's buckets, and the heap that their blocks come from, in the layout of an
+/// owner's pointers.
+pub(crate) struct SharedPointers<T> {
+    pointers: SharedArray<T>,
     alloc: Global,
 }
 
-/// The words of a table's buckets, and how many of the first slots are reserved. They lie as an owner's buckets do.
-pub(crate) struct Parts<T> {
-    words: SharedWords<T>,
+/// The pointers of a table's buckets, and how many of the first slots are reserved, in the layout
+/// of an owner's buckets.
+pub(crate) struct SharedParts<T> {
+    pointers: SharedPointers<T>,
     reserved: usize,
 }
 
-impl<T> Model for Parts<T> {
+impl<T> Model for SharedParts<T> {
     ghost Value = { TableView };
 
     ghost coded = { table_view_coded };
 
-    ghost view = { λ s. view_of s.words.words.words s.reserved };
+    ghost view = { λ s. table_view_of s.pointers.pointers.pointers s.reserved };
 
-    ghost invariant = { λ s. AreWords s.words.words.words s.reserved × AreOfFirstBuckets s.reserved };
+    ghost invariant = { λ s. AreBuckets s.pointers.pointers.pointers s.reserved × AreOfFirstBuckets s.reserved };
 }
 
-impl<T> Parts<T> {
-    /// The word of a bucket.
-    pub(crate) fn word(&self, bucket: usize) -> &SharedWord<T>
+impl<T> SharedParts<T> {
+    /// The bucket of this number.
+    pub(crate) fn bucket(&self, bucket: usize) -> &SharedBucket<T>
         requires { bucket < 63 }
-        ensures { result.now ≡ word_of self.now bucket }
+        ensures { result.now ≡ bucket_view self.now bucket }
     {
-        &self.words.words.words[bucket]
+        &self.pointers.pointers.pointers[bucket]
     }
 
     /// How many of the first slots are reserved.
@@ -52,10 +55,11 @@ impl<T> Parts<T> {
     }
 }
 
-/// What threads may send and share.
+/// Accepts what threads may send and share.
 fn crosses<X: Send + Sync>(_: &X) {}
 
-/// Has the check show that the words cross between threads where the values do, which the laws of `Shared` cite. At run time it does nothing.
-fn words_cross<T: Send>(parts: &Parts<T>) {
+/// Makes the check show that threads may send and share the pointers where they may send the
+/// values, which the proofs of `Send` and `Sync` for `Shared` use. At run time it does nothing.
+fn pointers_cross<T: Send>(parts: &SharedParts<T>) {
     crosses(parts);
 }

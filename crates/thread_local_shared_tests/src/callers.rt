@@ -2,4 +2,3 @@
 mod buckets;
 mod claims;
 mod judged;
-mod words;

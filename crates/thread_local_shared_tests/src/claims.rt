@@ -1,33 +1,21 @@
 //! Claims that are forgotten, sent or shared, and those of reserved buckets.
-use crate::steps::{first_three, look, publish, publish_claimed};
+use crate::steps::{Kept, first_three, look, publish, publish_claimed};
 use std::cell::Cell;
 use std::mem::forget;
 use std::test::Fail;
 use std::thread;
 use thread_local_buckets::Buckets;
 use thread_local_claim::Claim;
+use thread_local_ids::Ids;
 use thread_local_judged::Judge;
-use thread_local_locked_ids::Ids;
 use thread_local_shared_buckets::Shared;
 use thread_local_thread_id::Thread;
-
-/// A claim that is given up when this is dropped.
-struct Kept<'a, T> {
-    claim: Claim<'a, T>,
-}
 
 impl<T: Drop> Kept<'_, T> {
     /// Publishes a value if the slot is vacant, and answers whether it did.
     fn publish(self, value: T) -> bool {
         let Self { claim } = self;
         publish_claimed(claim, value).1
-    }
-}
-
-impl<T> Drop for Kept<'_, T> {
-    fn drop(self) {
-        let Self { claim } = self;
-        claim.leave();
     }
 }
 
@@ -89,7 +77,7 @@ fn threads_share_a_claim(rt: HostRuntime) -> Result<(), Fail> {
     let claim = shared.claim(ids.take()?);
     let both = thread::join(&rt, || found(&claim), || found(&claim));
     assert_eq!(rt; both, (Some(5), Some(5)));
-    claim.leave();
+    claim.give_up();
     Ok(())
 }
 

@@ -8,8 +8,9 @@ use std::sync::atomic::Ordering::SeqCst;
 use std::sync::{Arc, Wait};
 use std::test::Fail;
 use thread_local_buckets::Buckets;
+use thread_local_ids::Ids;
 use thread_local_judged::judge_sync;
-use thread_local_locked_ids::{Ids, LockedIds};
+use thread_local_lock::Lock;
 use thread_local_rights::Rights;
 use thread_local_shared_buckets::Shared;
 use thread_local_test_helpers::counted::Counted;
@@ -35,13 +36,13 @@ fn each_value_is_dropped_once(rt: HostRuntime) -> Result<(), Fail> {
 /// Publishes a counted value at each of so many ids, and offers another there, which gives way. Answers how often it did.
 fn publish_counted<R: Wait>(
     shared: &Shared<Counted>,
-    ids: &LockedIds,
+    ids: &Lock<Ids>,
     rt: &R,
     alloc: Global,
     drops: &Arc<AtomicU64, Global>,
     count: u64,
 ) -> u64
-    requires { ids.now.table ≡ shared.now.table }
+    requires { ids.now.tag ≡ shared.now.table }
 {
     let mut published = 0u64;
     for _ in 0..count {
@@ -51,7 +52,7 @@ fn publish_counted<R: Wait>(
         let Ok(other) = Counted::new(drops) else {
             return published;
         };
-        let Ok(held) = ids.take(rt) else {
+        let Ok(held) = ids.lock(rt).take() else {
             return published;
         };
         let (held, first) = publish(shared, held, alloc, one);
@@ -69,7 +70,7 @@ fn each_published_value_is_dropped_once(rt: HostRuntime) -> Result<(), Fail> {
     let ids = Ids::new(rt.alloc());
     judge_sync::<Counted>();
     let shared = Shared::new(Buckets::new(rt.alloc()), ids.rights());
-    let ids = LockedIds::new(ids);
+    let ids = Lock::new(ids);
     let published = publish_counted(&shared, &ids, &rt, rt.alloc(), &drops, 100);
     let given_way = drops.load(SeqCst);
     let mut values = shared.into_buckets().into_iter();

@@ -9,8 +9,8 @@ use std::test::Fail;
 use std::thread;
 use std::thread::Threads;
 use thread_local_buckets::Buckets;
+use thread_local_ids::Ids;
 use thread_local_judged::{Judge, judge_sync};
-use thread_local_locked_ids::Ids;
 use thread_local_rights::HeldId;
 use thread_local_shared_buckets::Shared;
 use thread_local_thread_id::Thread;
@@ -29,7 +29,7 @@ fn add(shared: &Shared<Cell<u64>>, held: HeldId, more: u64) -> (HeldId, Option<u
         }
         None => None,
     };
-    (claim.leave(), found)
+    (claim.give_up(), found)
 }
 
 /// What the one who claims an id finds, and what a walker finds in another thread meanwhile.
@@ -45,7 +45,7 @@ fn look_while_claimed<R: Threads>(
     let claim = shared.claim(held);
     let (seen, _) = thread::join(rt, || look(shared, id), || ());
     let own = claim.get().copied();
-    claim.leave();
+    claim.give_up();
     (own, seen)
 }
 

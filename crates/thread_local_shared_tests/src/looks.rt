@@ -3,7 +3,7 @@
 use crate::steps::look;
 use std::test::Fail;
 use thread_local_buckets::Buckets;
-use thread_local_locked_ids::Ids;
+use thread_local_ids::Ids;
 use thread_local_shared_buckets::Shared;
 use thread_local_thread_id::Thread;
 

@@ -8,112 +8,74 @@ use std::test::Fail;
 use std::thread;
 use std::thread::Threads;
 use thread_local_buckets::Buckets;
-use thread_local_locked_ids::{Ids, LockedIds};
+use thread_local_ids::Ids;
+use thread_local_lock::Lock;
 use thread_local_shared_buckets::Shared;
 
-/// Takes so many ids, and publishes each one's own number at it. Answers how often it did.
-fn publish_own<R: Wait>(
-    shared: &Shared<usize>,
-    ids: &LockedIds,
-    rt: &R,
-    alloc: &Global,
-    count: u64,
-) -> u64
-    requires { ids.now.table ≡ shared.now.table }
-{
-    let mut published = 0u64;
-    for _ in 0..count {
-        let Ok(heap) = alloc.clone() else {
-            return published;
-        };
-        let Ok(held) = ids.take(rt) else {
-            return published;
-        };
-        let id = held.id;
-        if publish(shared, held, heap, id).1 {
-            published = published.saturating_add(1);
-        }
+/// Shared buckets, and the lock over their ids.
+#[derive(Drop)]
+struct Racing {
+    shared: Shared<usize>,
+    ids: Lock<Ids>,
+    ghost tied: { ids.tag ≡ shared.table },
+}
+
+impl Racing {
+    /// Empty buckets, and no id held.
+    fn new(alloc: Global) -> Racing {
+        let ids = Ids::new(alloc);
+        let shared = Shared::new(Buckets::new(alloc), ids.rights());
+        let ids = Lock::new(ids);
+        Racing { shared, ids }
     }
-    published
+
+    /// Takes 16 ids, and publishes each one's own number at it. Answers how often it did.
+    fn publish_own<R: Wait>(&self, rt: &R, alloc: Global) -> u64 {
+        let mut published = 0u64;
+        for _ in 0..16 {
+            let Ok(held) = self.ids.lock(rt).take() else {
+                return published;
+            };
+            let id = held.id;
+            if publish(&self.shared, held, alloc, id).1 {
+                published = published.saturating_add(1);
+            }
+        }
+        published
+    }
 }
 
-/// Two threads do so at once.
-fn publish_by_two<R: Wait + Threads + Sync>(
-    shared: &Shared<usize>,
-    ids: &LockedIds,
-    rt: &R,
-    alloc: &Global,
-) -> u64
-    requires { ids.now.table ≡ shared.now.table }
-{
-    let (a, b) = thread::join(
-        rt,
-        ||
-            requires { ids.now.table ≡ shared.now.table }
-        { publish_own(shared, ids, rt, alloc, 16) },
-        ||
-            requires { ids.now.table ≡ shared.now.table }
-        { publish_own(shared, ids, rt, alloc, 16) },
-    );
-    a.saturating_add(b)
+/// Eight threads do so at once. Answers how often they did.
+fn publish_by_eight<R: Wait + Threads + Sync>(racing: &Racing, rt: &R, alloc: Global) -> u64 {
+    let one = || racing.publish_own(rt, alloc);
+    let two = || thread::join(rt, one, one);
+    let four = || thread::join(rt, two, two);
+    let (a, b) = thread::join(rt, four, four);
+    [a.0.0, a.0.1, a.1.0, a.1.1, b.0.0, b.0.1, b.1.0, b.1.1]
+        .into_iter()
+        .fold(0, |sum, count| sum.saturating_add(count))
 }
 
-/// Four threads do so at once.
-fn publish_by_four<R: Wait + Threads + Sync>(
-    shared: &Shared<usize>,
-    ids: &LockedIds,
-    rt: &R,
-    alloc: &Global,
-) -> u64
-    requires { ids.now.table ≡ shared.now.table }
-{
-    let (a, b) = thread::join(
-        rt,
-        ||
-            requires { ids.now.table ≡ shared.now.table }
-        { publish_by_two(shared, ids, rt, alloc) },
-        ||
-            requires { ids.now.table ≡ shared.now.table }
-        { publish_by_two(shared, ids, rt, alloc) },
-    );
-    a.saturating_add(b)
-}
-
-/// Eight threads do so at once.
-fn publish_by_eight<R: Wait + Threads + Sync>(
-    shared: &Shared<usize>,
-    ids: &LockedIds,
-    rt: &R,
-    alloc: &Global,
-) -> u64
-    requires { ids.now.table ≡ shared.now.table }
-{
-    let (a, b) = thread::join(
-        rt,
-        ||
-            requires { ids.now.table ≡ shared.now.table }
-        { publish_by_four(shared, ids, rt, alloc) },
-        ||
-            requires { ids.now.table ≡ shared.now.table }
-        { publish_by_four(shared, ids, rt, alloc) },
-    );
-    a.saturating_add(b)
+/// Whether an owner's walk gives 0 to 127, in order.
+fn gives_all(racing: Racing) -> bool {
+    let Racing { shared, ids: _ } = racing;
+    let mut next = 0usize;
+    for value in shared.into_buckets() {
+        if value != next {
+            return false;
+        }
+        next = next.saturating_add(1);
+    }
+    next == 128
 }
 
 #[test]
 fn eight_threads_race_to_install_and_publish(rt: HostRuntime) -> Result<(), Fail> {
     for _ in 0..200 {
-        let ids = Ids::new(rt.alloc());
-        let shared = Shared::new(Buckets::new(rt.alloc()), ids.rights());
-        let ids = LockedIds::new(ids);
         let alloc = rt.alloc();
-        assert_eq!(rt; publish_by_eight(&shared, &ids, &rt, &alloc), 128);
-        let mut next = 0usize;
-        for value in shared.into_buckets() {
-            assert_eq!(rt; value, next);
-            next = next.saturating_add(1);
-        }
-        assert_eq!(rt; next, 128);
+        let racing = Racing::new(alloc);
+        let published = publish_by_eight(&racing, &rt, alloc);
+        assert_eq!(rt; (published, gives_all(racing)), (128, true));
     }
     Ok(())
 }

@@ -2,30 +2,40 @@
 ghost use Rattle.std.specs.Prelude.{◌≡◌, ◌-◌, ◌^◌, ◌<◌};
 
 use std::alloc::Global;
+use thread_local_blocks::{Block, flag_word};
 use thread_local_buckets::Buckets;
-use thread_local_chunks::flag_word;
 use thread_local_claim::Claim;
 use thread_local_rights::HeldId;
 use thread_local_shared_buckets::Shared;
-use thread_local_shared_word::Private;
 use thread_local_thread_id::Thread;
+
+/// A claim that is given up when this is dropped.
+pub struct Kept<'a, T> {
+    pub claim: Claim<'a, T>,
+}
+
+impl<T> Drop for Kept<'_, T> {
+    fn drop(self) {
+        let Self { claim } = self;
+        claim.give_up();
+    }
+}
 
 /// Publishes a value at an id, whose bucket is made where it is missing, and answers whether it did.
 pub fn publish<T: Drop>(shared: &Shared<T>, held: HeldId, alloc: Global, value: T) -> (HeldId, bool)
     requires { held.right.table ≡ shared.now.table }
     ensures { (result.0.right.table ≡ shared.now.table) × (result.0.id ≡ held.id) }
 {
-    let bucket = Thread::new(held.id).bucket;
     let mut claim = shared.claim(held);
     if !claim.is_missing() {
         return publish_claimed(claim, value);
     }
-    let Ok(private) = Private::new(alloc, bucket) else {
-        return (claim.leave(), false);
+    let Ok(block) = Block::new(&alloc, claim.bucket_size()) else {
+        return (claim.give_up(), false);
     };
-    claim.install(private);
+    claim.install(block, &alloc);
     claim.publish(value);
-    (claim.leave(), true)
+    (claim.give_up(), true)
 }
 
 /// Publishes a value in a slot that is vacant, and answers whether it did.
@@ -34,10 +44,10 @@ pub fn publish_claimed<T: Drop>(claim: Claim<'_, T>, value: T) -> (HeldId, bool)
 {
     let mut claim = claim;
     if claim.is_missing() || claim.get().is_some() {
-        return (claim.leave(), false);
+        return (claim.give_up(), false);
     }
     claim.publish(value);
-    (claim.leave(), true)
+    (claim.give_up(), true)
 }
 
 /// What an owner's walk gives first, second and third.

@@ -1,5 +1,5 @@
--- How what shows that values may be shared lies: it has no bytes.
-use Rattle.thread_local_chunks.proofs.Names.{[], ◌∷◌, refl, Ura, Val, vstruct, vcons, vnil, ent, emp, Logic, sem, RattleType}
+-- The machine value of a `Shown`, which has no bytes.
+use Rattle.thread_local_raw.proofs.Names.{[], ◌∷◌, refl, Ura, Val, vstruct, vcons, vnil, ent, emp, Logic, sem, RattleType}
 use denote.Ref.{NamedLft}
 use denote.Shadow.{makes_shadow}
 use denote.Struct.Struct.{Struct}

@@ -1,4 +1,4 @@
--- Steps that give nothing: they follow one another, keep the cursor fitting, and never go back.
+-- The laws of steps that give nothing: they compose, keep the cursor fitting, and never go back.
 use Rattle.std.proofs.Common.{◌≡◌, ℕ, zero, suc, ◌+◌, ◌-◌, ◌^◌, ◌<◌, ◌≤◌, Bool, true, false, cond, eqb, List, [], ◌∷◌, ◌++◌, IsTrue, refl, sym, subst, arith}
 use Rattle.std.specs.Prelude.{MatchBool}
 use Rattle.std.proofs.lemmas.Bool.{cond_both, eqb-true, lt-ltb}
@@ -6,7 +6,7 @@ use Rattle.thread_local_model.specs.Cursor.{Cursor, cursor_id, may_load, at_next
 use Rattle.thread_local_model.proofs.CursorLaws.{after_load-fits, after_look-fits, never_lower, after_look-id}
 use Rattle.thread_local_shared_walk.specs.Steps.{after_step, GivesNothing, Passes, Leads}
 
--- a cursor of a walk that loads the bucket's word next
+-- a cursor of a walk that loads the bucket's pointer next
 abbrev pub resting_at : ℕ → ℕ → Cursor
 resting_at bucket index = record { bucket = bucket; index = index; looks = false }
 

@@ -1,4 +1,4 @@
 pub use Rattle.thread_local_model.specs.Cursor
 pub mod Steps
 pub mod Walks
-pub mod Places
+pub mod Positions

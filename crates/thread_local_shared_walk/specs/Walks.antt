@@ -14,13 +14,14 @@ pub record Owed (V : Type 0) : Type 0 where
   pub id : ℕ
   pub value : V
 
--- where a walk is, the own value that it has still to give, if there is one, and whether it was shown that threads may share the values
+-- where a walk is, the own value that it has still to give, if any, and whether it was shown that
+-- threads may share the values
 pub record WalkView (V : Type 0) : Type 0 where
   pub cursor : Cursor
   pub own : Option (Owed V)
   pub shown : Bool
 
--- how a proof tells such views apart
+-- injective codes of such views, for ghost state
 abbrev cursor_coded : Coded Cursor
 cursor_coded = code_by (ℕ × (ℕ × Bool)) (coded× coded_ℕ (coded× coded_ℕ coded_bool)) (λ c. (c.bucket, (c.index, c.looks))) (λ p. record { bucket = p.0; index = p.1.0; looks = p.1.1 }) (λ _. refl)
 
@@ -35,18 +36,20 @@ walk_view_coded {V} c = code_by (Cursor × (Option (Owed V) × Bool)) (coded× c
 abbrev pub fresh : {V : Type 0} → Option (Owed V) → Bool → WalkView V
 fresh own shown = record { cursor = fresh_cursor; own = own; shown = shown }
 
--- what an own value is, of which a walk knows the id
+-- the own value, without its id
 abbrev pub owed_value : {V : Type 0} → Option (Owed V) → Option V
 owed_value None = None
 owed_value (Some owed) = Some owed.value
 
--- What a walk has still to give once it gave a value at an id: that was the own one, or the own one lies ahead.
-abbrev pub GivesOwn : {V : Type 0} → Option (Owed V) → ℕ → V → Option (Owed V) → Type 0
-GivesOwn None id v left = left ≡ None
-GivesOwn (Some owed) id v left = ((owed ≡ record { id = id; value = v }) × (left ≡ None)) ⊎ ((id < owed.id) × (left ≡ Some owed))
+-- what a walk has still to give after it gave a value at an id: that was the own value, or the own
+-- value lies ahead
+abbrev pub YieldsOwn : {V : Type 0} → Option (Owed V) → ℕ → V → Option (Owed V) → Type 0
+YieldsOwn None id v left = left ≡ None
+YieldsOwn (Some owed) id v left = ((owed ≡ record { id = id; value = v }) × (left ≡ None)) ⊎ ((id < owed.id) × (left ≡ Some owed))
 
--- A call gave a value: steps that give nothing lead to its slot, at an id that the walk hadn't passed, and the look there found it.
-pub record Gives {V : Type 0} (from : Cursor) (own : Option (Owed V)) (v : V) (to : Cursor) (left : Option (Owed V)) : Type 0 where
+-- a call gave a value: steps that give nothing lead to its slot, at an id that the walk hadn't
+-- passed, and the look there found it
+pub record Yields {V : Type 0} (from : Cursor) (own : Option (Owed V)) (v : V) (to : Cursor) (left : Option (Owed V)) : Type 0 where
   pub met : Cursor
   pub leads : Leads from met
   pub looks : IsTrue met.looks
@@ -54,9 +57,9 @@ pub record Gives {V : Type 0} (from : Cursor) (own : Option (Owed V)) (v : V) (t
   pub ahead : cursor_id from ≤ cursor_id met
   pub in_range : cursor_id met < 2 ^ 63 - 1
   pub passed : cursor_id to ≡ suc (cursor_id met)
-  pub own_given : GivesOwn own (cursor_id met) v left
+  pub own_given : YieldsOwn own (cursor_id met) v left
 
--- A call gave nothing: such steps lead past the last bucket, and no own value is left to give.
+-- a call gave nothing: such steps lead past the last bucket, and no own value is left to give
 pub record Ends {V : Type 0} (from : Cursor) (own : Option (Owed V)) (to : Cursor) (left : Option (Owed V)) : Type 0 where
   pub leads : Leads from to
   pub complete : IsTrue (is_complete to)
@@ -65,13 +68,13 @@ pub record Ends {V : Type 0} (from : Cursor) (own : Option (Owed V)) (to : Curso
 
 -- what a call of `next` does
 pub record Goes {V : Type 0} (walk : WalkView V) (item : Option (Bor V)) (left : WalkView V) : Type 0 where
-  pub gives : MatchOption item (Ends walk.cursor walk.own left.cursor left.own) (λ x. Gives walk.cursor walk.own x.now left.cursor left.own)
+  pub gives : MatchOption item (Ends walk.cursor walk.own left.cursor left.own) (λ x. Yields walk.cursor walk.own x.now left.cursor left.own)
   pub shown : left.shown ≡ walk.shown
 
 -- a walk may go on where it was shown that threads may share the values, or their type says so
 abbrev pub CanGo : {V : Type 0} → RattleType → WalkView V → Type 0
 CanGo R walk = (walk.shown ≡ true) ⊎ Shareable R
 
--- there is no value at an id past the last
+-- a walk gives no more values than there are ids ahead of it
 abbrev pub ids_left : {V : Type 0} → WalkView V → Count
 ids_left walk = at_most (2 ^ 63 - 1 - cursor_id walk.cursor)

@@ -1,9 +1,9 @@
-//! The walk over the values of buckets that threads share.
+//! The walk over shared buckets, by ascending id, while other threads publish values.
 ghost use Rattle.std.specs.Prelude.{◌≡◌, ◌-◌, ◌^◌, ◌<◌, ◌⊎◌, true, false, None, Some, IfSome, is_some, option_map};
 ghost use Rattle.std.specs.Iterator.{UpTo};
 ghost use Rattle.std.specs.Iterator.SizeHint.{IsWithinCount};
 ghost use Rattle.thread_local_judged.specs.Judged.{Shareable};
-ghost use Rattle.thread_local_shared_walk.specs.Places.{owed};
+ghost use Rattle.thread_local_shared_walk.specs.Positions.{owed};
 ghost use Rattle.thread_local_shared_walk.specs.Walks.{WalkView, fresh, Goes, CanGo, ids_left};
 
 use crate::shown::Shown;
@@ -11,15 +11,16 @@ use crate::steps::{Own, advance};
 use std::fmt;
 use std::iter::FusedIterator;
 use std::marker::Model;
-use thread_local_contents::RawIter;
+use thread_local_owner_walk::RawIter;
 use thread_local_shared_buckets::Shared;
 use thread_local_thread_id::Thread;
 
-/// The values of buckets that threads share, by ascending id, each lent as `&`, while others may publish more. A value that is published
-/// behind the walk isn't given, and one before it may be.
+/// The values of shared buckets, by ascending id, each lent as `&`, while other threads may publish
+/// more. A value that is published behind the walk isn't given, and one ahead of it may be.
 ///
-/// It is seen as the model's cursor, and the own value of whoever walks that it has still to give. It never waits, and takes no memory. Rust's
-/// crate gives no order, and a hint of how many values there are.
+/// No call waits or takes memory. A contract sees the model's cursor, and the walker's own value as
+/// long as it is still to be given. Rust's crate promises no order, and its size hint counts the
+/// values.
 #[derive(Drop)]
 pub struct Iter<'a, T> {
     buckets: &'a Shared<T>,
@@ -31,15 +32,20 @@ pub struct Iter<'a, T> {
 impl<'a, T> Model for Iter<'a, T> {
     ghost use Rattle.std.specs.Prelude.{option_map, is_some};
     ghost use Rattle.thread_local_shared_walk.specs.Walks.{WalkView, walk_view_coded};
-    ghost use Rattle.thread_local_shared_walk.specs.Places.{resting, owed, IsWalk};
+    ghost use Rattle.thread_local_shared_walk.specs.Positions.{resting, owed, IsSharedWalk};
 
     ghost Value = { WalkView T };
 
     ghost coded = { walk_view_coded T.code };
 
-    ghost view = { λ it. record { cursor = resting it.raw; own = option_map owed it.own; shown = is_some it.shown } };
+    ghost view = { λ it.
+        record {
+          cursor = resting it.raw;
+          own = option_map owed it.own;
+          shown = is_some it.shown;
+        } };
 
-    ghost invariant = { λ it. IsWalk it.raw it.own };
+    ghost invariant = { λ it. IsSharedWalk it.raw it.own };
 }
 
 impl<'a, T> Iter<'a, T> {
@@ -59,7 +65,7 @@ impl<'a, T> Iter<'a, T> {
         }
     }
 
-    /// A walk of which it isn't shown that threads may share the values: whoever calls `next` shows it.
+    /// A walk without the fact that threads may share the values: whoever calls `next` shows it.
     pub fn unshown(buckets: &'a Shared<T>) -> Iter<'a, T>
         ensures { result ≡ fresh None false }
     {
@@ -68,14 +74,15 @@ impl<'a, T> Iter<'a, T> {
 }
 
 impl<'a, T: Sync> Iter<'a, T> {
-    /// A walk.
+    /// A walk over all values, from the first slot on.
     pub fn new(buckets: &'a Shared<T>) -> Iter<'a, T>
         ensures { result ≡ fresh None true }
     {
         Iter::begun(buckets, None, Some(Shown::new()))
     }
 
-    /// A walk for whoever has the id, and holds this value there. It gives that value at the id, and looks at no flag there.
+    /// A walk over all values, for the holder of an id who passes the value at that id. The walk
+    /// gives this value there, without a look at the flag.
     pub fn with_own(buckets: &'a Shared<T>, id: usize, value: &'a T) -> Iter<'a, T>
         requires { id < 2 ^ 63 - 1 }
         ensures { result ≡ fresh (Some (record { id = id; value = value.now })) true }
@@ -88,7 +95,8 @@ impl<'a, T: Sync> Iter<'a, T> {
     }
 }
 
-/// Shows that threads may share the values, where it was shown before or their type says so. At run time it does nothing.
+/// Shows that threads may share the values, where it was shown before or their type says so. At run
+/// time it does nothing.
 #[inline]
 fn tell<T>(shown: &Option<Shown<'_, T>>)
     requires can_go { (is_some shown.now ≡ true) ⊎ Shareable T.row }
@@ -109,14 +117,15 @@ impl<'a, T: Sync> Iterator for Iter<'a, T> {
 
     ghost remaining = { ids_left };
 
-    /// The value of the next slot in which a look finds one. It loads the word of the bucket that it is in again, and of each that it comes
-    /// to, and for each slot that it comes to, but the own one, the word that has the slot's flag.
+    /// The next value that a look finds. It loads the pointer of the bucket that it is in, again at
+    /// each call, and of each further bucket that it reaches. For each slot on the way but the own
+    /// one, it loads the word that has the slot's flag.
     fn next(&mut self) -> Option<&'a T> {
         tell(&self.shown);
         advance(self.buckets, &mut self.raw, &mut self.own)
     }
 
-    /// No value and no bound: others publish meanwhile.
+    /// No value is promised, and there is no upper bound, since others publish meanwhile.
     fn size_hint(&self) -> (usize, Option<usize>)
         ensures hint { result ≡ (0, None) }
         ensures lower { IsWithinCount result.0 (ids_left self.now) }
@@ -129,7 +138,7 @@ impl<'a, T: Sync> Iterator for Iter<'a, T> {
 impl<T: Sync> FusedIterator for Iter<'_, T> {}
 
 impl<T: fmt::Debug> fmt::Debug for Iter<'_, T> {
-    /// The walk's place alone. Rust's crate shows the table.
+    /// The walk's position alone. Rust's crate shows the table, too.
     fn fmt<W: fmt::Write>(&self, f: &mut fmt::Formatter<W>) -> fmt::Result {
         f.debug_struct("Iter").field("raw", &self.raw).finish()
     }

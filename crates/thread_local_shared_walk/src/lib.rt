@@ -1,4 +1,4 @@
-//! The walk over buckets that threads share.
+//! A walk over the values of a table's buckets while threads share them.
 #![tactic(auto)]
 
 pub mod iter;

@@ -1,13 +1,15 @@
-//! What shows to a walk that threads may share its values.
+//! A value without bytes, by which a walk knows that threads may share the values that it lends.
 ghost use Rattle.thread_local_judged.specs.Judged.{Shareable};
-ghost use Rattle.thread_local_chunks.specs.Slots.{fact};
+ghost use Rattle.thread_local_raw.specs.Fact.{fact};
 ghost use denote.Sharing.{said};
 
 use std::marker::{Model, PhantomData};
 
-/// Shows that a `&` to a value of the type means the same to every thread. It takes no bytes.
+/// Shows that a `&` to a value of the type means the same to every thread. No call does anything at
+/// run time.
 ///
-/// A trait's method isn't given the bounds of its impl. So a walk over values that threads share takes this along from where it is made.
+/// A trait's method isn't given the bounds of its impl. So a walk over shared values stores this
+/// from where it is made, for `next`.
 #[derive(Drop)]
 pub struct Shown<'a, T> {
     marker: PhantomData<&'a T>,
@@ -20,7 +22,7 @@ impl<'a, T> Model for Shown<'a, T> {
 }
 
 impl<'a, T: Sync> Shown<'a, T> {
-    /// Shows it of a type that threads may share. At run time it does nothing.
+    /// Shows it of a type that threads may share.
     pub fn new() -> Shown<'a, T> {
         Shown {
             marker: PhantomData,
@@ -29,7 +31,7 @@ impl<'a, T: Sync> Shown<'a, T> {
 }
 
 impl<'a, T> Shown<'a, T> {
-    /// Hands out what is shown. At run time it does nothing.
+    /// Hands out the fact that is shown.
     pub fn tell(&self)
         ensures shareable { Shareable T.row }
     {}

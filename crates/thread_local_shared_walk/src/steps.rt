@@ -1,32 +1,21 @@
-//! How a walk finds its next value.
-ghost use Rattle.std.specs.Prelude.{◌≡◌, ◌≢◌, ◌-◌, ◌^◌, ◌<◌, ◌≤◌, true, false, None, Some, IfSome, IfNone, MatchOption, MatchBool, option_map};
+//! One call of a walk: it loads a bucket's pointer, looks at the slots of the row, and goes on to
+//! the next bucket until it finds a value.
+ghost use Rattle.std.specs.Prelude.{◌≡◌, ◌≢◌, ◌-◌, ◌^◌, ◌<◌, ◌≤◌, true, false, None, Some, IfSome, IfNone, MatchOption, MatchBool};
 ghost use Rattle.thread_local_judged.specs.Judged.{Shareable};
-ghost use Rattle.thread_local_shared_walk.specs.Places.{resting, next_bucket, past, at_index, search_end, owed, lies_in, IsWalk};
-ghost use Rattle.thread_local_shared_walk.specs.Walks.{Gives, Ends};
+ghost use Rattle.thread_local_owner_walk.specs.Cursor.{next_bucket};
+ghost use Rattle.thread_local_shared_walk.specs.Positions.{past, at_index, search_end, lies_in, IsSharedWalk, YieldsFrom, EndsFrom};
 
-use thread_local_chunks::flag_word;
-use thread_local_contents::RawIter;
+use thread_local_blocks::flag_word;
+use thread_local_owner_walk::RawIter;
+use thread_local_shared_bucket::Row;
 use thread_local_shared_buckets::Shared;
-use thread_local_shared_word::Row;
 use thread_local_thread_id::{BUCKETS, Thread};
 
-/// The own value of whoever walks, and its place.
+/// The walker's own value, and the place of its id.
 #[derive(Drop)]
 pub(crate) struct Own<'a, T> {
     pub(crate) thread: Thread,
     pub(crate) value: &'a T,
-}
-
-/// Moves on to the next bucket.
-#[inline]
-fn pass(raw: &mut RawIter)
-    requires in_table { raw.old.bucket < 63 }
-    requires size { raw.old.bucket_size ≡ 2 ^ raw.old.bucket }
-    ensures { raw.new ≡ next_bucket raw.old }
-{
-    raw.bucket += 1;
-    raw.bucket_size *= 2;
-    raw.index = 0;
 }
 
 /// Whether the own value lies in a bucket.
@@ -46,11 +35,17 @@ fn give_own<'a, T>(raw: &mut RawIter, own: &mut Option<Own<'a, T>>) -> Option<&'
     requires in_table { raw.old.bucket < 63 }
     requires size { raw.old.bucket_size ≡ 2 ^ raw.old.bucket }
     requires yielded { raw.old.yielded < 2 ^ 63 }
-    ensures none { IfNone result ((lies_in own.old raw.old.bucket ≡ false) × (raw.new ≡ next_bucket raw.old) × (own.new ≡ own.old)) }
-    ensures some { IfSome result (λ x. (lies_in own.old raw.old.bucket ≡ true) × (own.new ≡ None) × IfSome own.old (λ o. (x.now ≡ o.value.now) × (raw.new ≡ past raw.old o.thread.index))) }
+    ensures none { IfNone result
+        ((lies_in own.old raw.old.bucket ≡ false)
+        × (raw.new ≡ next_bucket raw.old)
+        × (own.new ≡ own.old)) }
+    ensures some { IfSome result (λ x.
+        (lies_in own.old raw.old.bucket ≡ true)
+        × (own.new ≡ None)
+        × IfSome own.old (λ o. (x.now ≡ o.value.now) × (raw.new ≡ past raw.old o.thread.index))) }
 {
     if !is_in(own, raw.bucket) {
-        pass(raw);
+        raw.next_bucket();
         return None;
     }
     let Own { thread, value } = own.take()?;
@@ -59,7 +54,8 @@ fn give_own<'a, T>(raw: &mut RawIter, own: &mut Option<Own<'a, T>>) -> Option<&'
     Some(value)
 }
 
-/// The first value of the row from the walk's index on, but before an end. Each look is one atomic load.
+/// The first value of the row from the walk's index on and before `end`. Each look is one atomic
+/// load.
 #[inline]
 fn search<'a, T>(row: &Row<'a, T>, raw: &mut RawIter, end: usize) -> Option<&'a T>
     requires shareable { Shareable T.row }
@@ -69,7 +65,10 @@ fn search<'a, T>(row: &Row<'a, T>, raw: &mut RawIter, end: usize) -> Option<&'a 
     requires from { raw.old.index ≤ end }
     requires yielded { raw.old.yielded < 2 ^ 63 }
     ensures none { IfNone result (raw.new ≡ at_index raw.old end) }
-    ensures some { IfSome result (λ _. (raw.old.index < raw.new.index) × (raw.new.index ≤ end) × (raw.new ≡ past raw.old (raw.new.index - 1))) }
+    ensures some { IfSome result (λ _.
+        (raw.old.index < raw.new.index)
+        × (raw.new.index ≤ end)
+        × (raw.new ≡ past raw.old (raw.new.index - 1))) }
 {
     for index in raw.index..end {
         let number = flag_word::<T>(raw.bucket_size, index / 64);
@@ -83,7 +82,8 @@ fn search<'a, T>(row: &Row<'a, T>, raw: &mut RawIter, end: usize) -> Option<&'a 
     None
 }
 
-/// Where the search of a bucket ends: at the own value, if it lies there, and else at the bucket's end.
+/// Where the search of a bucket ends: at the own value, if it lies there, and else at the bucket's
+/// end.
 #[inline]
 fn search_end<T>(raw: &RawIter, own: &Option<Own<'_, T>>) -> usize
     ensures { result ≡ search_end raw.now own.now }
@@ -100,16 +100,17 @@ fn search_end<T>(raw: &RawIter, own: &Option<Own<'_, T>>) -> usize
     }
 }
 
-/// What the walk gives of a bucket that stands, from its index on: a value that is found, or the own one. Where there is none, it moves on.
+/// What the walk gives from a bucket that stands, from its index on: a value that a look finds, or
+/// the own value. Where there is neither, it moves on to the next bucket.
 #[inline]
 fn in_row<'a, T>(row: &Row<'a, T>, raw: &mut RawIter, own: &mut Option<Own<'a, T>>) -> Option<&'a T>
     requires shareable { Shareable T.row }
     requires of { row.now.of.bucket ≡ raw.old.bucket }
     requires in_table { raw.old.bucket < 63 }
-    requires walk { IsWalk raw.old own.old }
-    ensures walk { IsWalk raw.new own.new }
+    requires walk { IsSharedWalk raw.old own.old }
+    ensures walk { IsSharedWalk raw.new own.new }
     ensures none { IfNone result ((own.new ≡ own.old) × (raw.new ≡ next_bucket raw.old)) }
-    ensures some { IfSome result (λ x. Gives (resting raw.old) (option_map owed own.old) x.now (resting raw.new) (option_map owed own.new)) }
+    ensures some { IfSome result (λ x. YieldsFrom raw.old own.old x.now raw.new own.new) }
 {
     let end = search_end(raw, own);
     if let Some(value) = search(row, raw, end) {
@@ -118,7 +119,8 @@ fn in_row<'a, T>(row: &Row<'a, T>, raw: &mut RawIter, own: &mut Option<Own<'a, T
     give_own(raw, own)
 }
 
-/// The same of a bucket whose word was loaded. Where the own value lies in it, it stands.
+/// The same for a bucket by what the load of its pointer found. The bucket of the own value always
+/// stands, but the code doesn't depend on it.
 #[inline]
 fn in_bucket<'a, T>(
     row: Option<Row<'a, T>>,
@@ -128,10 +130,10 @@ fn in_bucket<'a, T>(
     requires shareable { Shareable T.row }
     requires of { IfSome row (λ row. row.of.bucket ≡ raw.old.bucket) }
     requires in_table { raw.old.bucket < 63 }
-    requires walk { IsWalk raw.old own.old }
-    ensures walk { IsWalk raw.new own.new }
+    requires walk { IsSharedWalk raw.old own.old }
+    ensures walk { IsSharedWalk raw.new own.new }
     ensures none { IfNone result ((own.new ≡ own.old) × (raw.new ≡ next_bucket raw.old)) }
-    ensures some { IfSome result (λ x. Gives (resting raw.old) (option_map owed own.old) x.now (resting raw.new) (option_map owed own.new)) }
+    ensures some { IfSome result (λ x. YieldsFrom raw.old own.old x.now raw.new own.new) }
 {
     match row {
         Some(row) => in_row(&row, raw, own),
@@ -139,7 +141,8 @@ fn in_bucket<'a, T>(
     }
 }
 
-/// What the walk gives next. It loads the word of the bucket that it is in, and of each further one that it comes to.
+/// What the walk gives next. It loads the pointer of the bucket that it is in, and of each further
+/// one that it reaches.
 #[inline]
 pub(crate) fn advance<'a, T>(
     buckets: &'a Shared<T>,
@@ -147,9 +150,10 @@ pub(crate) fn advance<'a, T>(
     own: &mut Option<Own<'a, T>>,
 ) -> Option<&'a T>
     requires shareable { Shareable T.row }
-    requires walk { IsWalk raw.old own.old }
-    ensures walk { IsWalk raw.new own.new }
-    ensures goes { MatchOption result (Ends (resting raw.old) (option_map owed own.old) (resting raw.new) (option_map owed own.new)) (λ x. Gives (resting raw.old) (option_map owed own.old) x.now (resting raw.new) (option_map owed own.new)) }
+    requires walk { IsSharedWalk raw.old own.old }
+    ensures walk { IsSharedWalk raw.new own.new }
+    ensures goes { MatchOption result (EndsFrom raw.old own.old raw.new own.new) (λ x.
+        YieldsFrom raw.old own.old x.now raw.new own.new) }
 {
     for bucket in raw.bucket..BUCKETS {
         let row = buckets.load(bucket);

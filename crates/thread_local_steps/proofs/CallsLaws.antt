@@ -1,13 +1,14 @@
+-- No step loses a call or makes one up.
 use Rattle.std.proofs.Common.{◌≡◌, ℕ, zero, suc, Bool, true, false, [], ◌∷◌, ◌++◌, Option, Some, None, Result, Ok, Err, IfSome, IsSomeAnd, refl, ap, sym, subst, inl, inr, cond}
 use Rattle.thread_local_model.specs.Answers.{Get, GetOr, Answer, Answered}
 use Rattle.thread_local_model.specs.Learnt.{Learnt, Missing, Vacant, Holding, learnt_by_load, learnt_by_look, learnt_by_install, learnt_by_publish}
-use Rattle.thread_local_steps.specs.Table.{Table, published, stands, with_flag}
+use Rattle.thread_local_steps.specs.Table.{Table, published, bucket_stands, with_flag}
 use Rattle.thread_local_model.specs.Place.{bucket_of}
-use Rattle.thread_local_steps.specs.Local.{Doing, Gets, Started, Private, Written, Local, after_call, is_calling, learns, load_word, look_at_flag, make_bucket, offered, install_bucket, write_value, set_flag, reply, local_step, LocalStep, BeginGet, BeginGetOr, LoadWord, LookAtFlag, MakeBucket, InstallBucket, WriteValue, SetFlag, Reply, doing_with_get, doing_with_get_or, begin_call, closure_at_missing, closure_at_vacant, ending_of, private_bucket, value_written}
+use Rattle.thread_local_steps.specs.Local.{Doing, Gets, Started, Private, Written, Local, after_call, is_calling, learns, load_pointer, look_at_flag, make_bucket, offered, install_bucket, write_value, set_flag, reply, local_step, LocalStep, BeginGet, BeginGetOr, LoadPointer, LookAtFlag, MakeBucket, InstallBucket, WriteValue, SetFlag, Reply, doing_with_get, doing_with_get_or, begin_call, closure_at_missing, closure_at_vacant, ending_of, private_bucket, value_written}
 use Rattle.std.specs.Prelude.{option_map, option_and_then}
 use Rattle.thread_local_steps.specs.Calls.{gets_of, closure_of, CallsStay, PublishingEnds, CallsGo, GoesOn}
 
--- a Local that does the same, or goes on with the call that it has begun
+-- a Local whose step changes only what it has learnt and does keeps its id and first view
 goes : {V E : Type 0} (step : LocalStep V E) (local : Local V E) (learnt : Learnt V) (doing : Doing V E) → CallsGo step local (record local { learnt = learnt; doing = doing })
     → GoesOn step local (record local { learnt = learnt; doing = doing })
 goes step local learnt doing calls = record { id = refl; start = refl; calls = calls }
@@ -40,7 +41,7 @@ begin_get_or-goes table local create (Gets zero) e =
     goes (BeginGetOr create) local local.learnt (Started create) (record { none = ap closure_of e; gets = sym (ap gets_of e); closure = refl; calls = refl })
 begin_get_or-goes table local create _ e = tt
 
--- what holds whatever is learnt holds where something is
+-- what holds for whatever is learnt, holds where something is learnt
 pub whatever_is_learnt : {V E : Type 0} (table : Table V) (local : Local V E) (o : Option (Learnt V)) (P : Table V × Local V E → Type 0)
     → ((learnt : Learnt V) → P (table, record local { learnt = learnt })) → IfSome (learns table local o) P
 whatever_is_learnt table local None P p = tt
@@ -52,9 +53,9 @@ learns-goes step table local o go =
     whatever_is_learnt table local o (λ after. GoesOn step local after.1)
     (λ learnt. record { id = refl; start = refl; calls = go (record local { learnt = learnt }) (record { gets = refl; closure = refl; calls = refl }) })
 
-load_word-goes : {V E : Type 0} (table : Table V) (local : Local V E) (b : Bool) → IfSome (cond b (load_word table local) None) (λ after. GoesOn LoadWord local after.1)
-load_word-goes table local false = tt
-load_word-goes table local true = learns-goes LoadWord table local (learnt_by_load local.learnt (stands table (bucket_of local.id))) (λ after c. c)
+load_pointer-goes : {V E : Type 0} (table : Table V) (local : Local V E) (b : Bool) → IfSome (cond b (load_pointer table local) None) (λ after. GoesOn LoadPointer local after.1)
+load_pointer-goes table local false = tt
+load_pointer-goes table local true = learns-goes LoadPointer table local (learnt_by_load local.learnt (bucket_stands table (bucket_of local.id))) (λ after c. c)
 
 look_at_flag-goes : {V E : Type 0} (table : Table V) (local : Local V E) (b : Bool) → IfSome (cond b (look_at_flag table local) None) (λ after. GoesOn LookAtFlag local after.1)
 look_at_flag-goes table local false = tt
@@ -99,12 +100,12 @@ reply-goes table local (Started create) (Holding v) e =
     record { id = refl; start = refl; calls = inr (publishing_ends local create false _ local.learnt (ap gets_of e) (ap closure_of e)) }
 reply-goes table local _ _ e = tt
 
--- no step loses a call or makes one up
+-- every step changes the calls of its Local as it says
 pub local_step-goes : {V E : Type 0} (table : Table V) (local : Local V E) (step : LocalStep V E) → IfSome (local_step table local step) (λ after. GoesOn step local after.1)
 unfolding local_step
 local_step-goes table local BeginGet = begin_get-goes table local local.doing refl
 local_step-goes table local (BeginGetOr create) = begin_get_or-goes table local create local.doing refl
-local_step-goes table local LoadWord = load_word-goes table local (is_calling local.doing)
+local_step-goes table local LoadPointer = load_pointer-goes table local (is_calling local.doing)
 local_step-goes table local LookAtFlag = look_at_flag-goes table local (is_calling local.doing)
 local_step-goes table local (MakeBucket refused) = make_bucket-goes table local refused local.doing local.learnt refl
 local_step-goes table local InstallBucket = install_bucket-goes table local local.doing refl

@@ -1,3 +1,5 @@
+-- What a step does to the calls of its `Local`: one begins, none begins or ends, or one ends and is
+-- recorded.
 use Rattle.std.specs.Prelude.{◌≡◌, ℕ, suc, ◌⊎◌, Bool, true, false, [], ◌∷◌, ◌++◌, Option, Some, None, IsSomeAnd, Result, Ok}
 use Rattle.thread_local_model.specs.Answers.{Get, GetOr, Refused}
 use Rattle.thread_local_steps.specs.Local.{Doing, Gets, Started, Private, Written, Local, LocalStep, BeginGet, BeginGetOr, MakeBucket, WriteValue, SetFlag, Reply}
@@ -44,18 +46,18 @@ pub record GetEnds {V E : Type 0} (before after : Local V E) : Type 0 where
   pub closure : closure_of after.doing ≡ closure_of before.doing
   pub calls : after.calls ≡ before.calls ++ Get ∷ []
 
--- the publishing call is under way no longer, and it is recorded with its closure, as refused memory or not
+-- the publishing call ends, and is recorded with its closure, as refused memory or not
 pub record PublishingEnds {V E : Type 0} (refused : Bool) (before after : Local V E) : Type 0 where
   pub none : closure_of after.doing ≡ None
   pub gets : gets_of after.doing ≡ gets_of before.doing
   pub calls : IsSomeAnd (closure_of before.doing) (λ create. after.calls ≡ before.calls ++ GetOr create refused ∷ [])
 
--- the publishing call ends as refused memory, and so it answers
+-- the publishing call ends as refused memory, and answers so
 pub record MemoryRefused {V E : Type 0} (before after : Local V E) : Type 0 where
   pub ends : PublishingEnds true before after
   pub answered : after.answered ≡ before.answered ++ Refused ∷ []
 
--- What a step does to the calls of its Local: one begins, none begins or ends, or one ends and is recorded.
+-- what this step does to the calls of its Local
 abbrev pub CallsGo : {V E : Type 0} → LocalStep V E → Local V E → Local V E → Type 0
 CallsGo BeginGet before after = GetBegins before after
 CallsGo (BeginGetOr create) before after = PublishingBegins create before after
@@ -65,7 +67,7 @@ CallsGo SetFlag before after = PublishingEnds false before after
 CallsGo Reply before after = GetEnds before after ⊎ PublishingEnds false before after
 CallsGo step before after = CallsStay before after
 
--- a Local goes on by a step: its id and its first view stay, and its calls are what the step makes of them
+-- a step leaves the id and the first view of its Local, and changes its calls as the step says
 pub record GoesOn {V E : Type 0} (step : LocalStep V E) (before after : Local V E) : Type 0 where
   pub id : after.id ≡ before.id
   pub start : after.start ≡ before.start

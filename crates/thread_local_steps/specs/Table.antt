@@ -1,3 +1,4 @@
+-- The model of a table: 63 pointers to buckets, and slots that hold a value and its flag.
 use Rattle.std.specs.Prelude.{ℕ, Bool, true, false, Option, Some, None, is_some, ◌==◌, if◌then◌else◌}
 use Rattle.thread_local_model.specs.Place.{bucket_of, index_of}
 use Rattle.thread_local_model.specs.Capacity.{binary_digits, reserves_bucket}
@@ -8,7 +9,7 @@ pub record Slot (V : Type 0) : Type 0 where
   pub written : Option V
   pub flag : Bool
 
--- a slot as it is made
+-- a new slot
 abbrev pub empty_slot : {V : Type 0} → Slot V
 empty_slot = record { written = None; flag = false }
 
@@ -16,63 +17,65 @@ empty_slot = record { written = None; flag = false }
 abbrev pub value_of : {V : Type 0} → Slot V → Option V
 value_of slot = if slot.flag then slot.written else None
 
--- a bucket: its number, counted as buckets were made, and its slots by their index
+-- a bucket: its number, counted as buckets are made, and its slots by index
 pub record Bucket (V : Type 0) : Type 0 where
   pub number : ℕ
   pub slot : ℕ → Slot V
 
--- a bucket as it is made
+-- a new bucket, with this number
 abbrev pub fresh_bucket : {V : Type 0} → ℕ → Bucket V
 fresh_bucket number = record { number = number; slot = λ _. empty_slot }
 
--- the bucket words, each empty or naming a bucket, and how many buckets were made so far
+-- the buckets' pointers, each null or leading to a bucket, and how many buckets were made so far
 pub record Table (V : Type 0) : Type 0 where
-  pub words : ℕ → Option (Bucket V)
+  pub pointers : ℕ → Option (Bucket V)
   pub made : ℕ
 
--- the slot at an index of what a word names; as it would be made, where the word is empty
+-- the slot at an index of the bucket that a pointer leads to; an empty one where the pointer is
+-- null
 abbrev pub slot_of : {V : Type 0} → Option (Bucket V) → ℕ → Slot V
 slot_of None index = empty_slot
 slot_of (Some bucket) index = bucket.slot index
 
 -- the slot of an id
 unfoldable pub slot_at : {V : Type 0} → Table V → ℕ → Slot V
-slot_at table id = slot_of (table.words (bucket_of id)) (index_of id)
+slot_at table id = slot_of (table.pointers (bucket_of id)) (index_of id)
 
--- the value that is published at an id: what is written in its slot, where the bucket stands and the flag is set
+-- the value that is published at an id: what is written in its slot, where the bucket stands and
+-- the flag is set
 unfoldable pub published : {V : Type 0} → Table V → ℕ → Option V
 published table id = value_of (slot_at table id)
 
 -- whether a bucket stands
-unfoldable pub stands : {V : Type 0} → Table V → ℕ → Bool
-stands table bucket = is_some (table.words bucket)
+unfoldable pub bucket_stands : {V : Type 0} → Table V → ℕ → Bool
+bucket_stands table bucket = is_some (table.pointers bucket)
 
--- the table of a capacity: just the buckets that it reserves, numbered from 0 up
+-- the table of a capacity: exactly the buckets that it reserves, numbered from 0 up
 unfoldable pub made_table : {V : Type 0} → ℕ → Table V
 made_table capacity = record {
-  words = λ bucket. if reserves_bucket capacity bucket then Some (fresh_bucket bucket) else None;
+  pointers = λ bucket. if reserves_bucket capacity bucket then Some (fresh_bucket bucket) else None;
   made = binary_digits capacity;
 }
 
--- the table once a word names a bucket as it is made
+-- the table after a new bucket was installed
 unfoldable pub with_fresh_bucket : {V : Type 0} → Table V → ℕ → ℕ → Table V
-with_fresh_bucket table bucket number = record table { words = with_value table.words bucket (fresh_bucket number) }
+with_fresh_bucket table bucket number = record table { pointers = with_value table.pointers bucket (fresh_bucket number) }
 
--- what a word names once the slot at an index is this one
+-- the bucket that a pointer leads to, with this slot at an index
 abbrev pub with_slot_of : {V : Type 0} → Option (Bucket V) → ℕ → Slot V → Option (Bucket V)
 with_slot_of None index slot = None
 with_slot_of (Some bucket) index slot = Some (record bucket { slot = λ i. if index == i then slot else bucket.slot i })
 
--- the table once the slot of an id is this one
-unfoldable pub with_slot : {V : Type 0} → Table V → ℕ → Slot V → Table V
-with_slot table id slot = record table {
-  words = λ bucket. if bucket_of id == bucket then with_slot_of (table.words bucket) (index_of id) slot else table.words bucket;
+-- the table with this slot at an id
+unfoldable pub with_table_slot : {V : Type 0} → Table V → ℕ → Slot V → Table V
+with_table_slot table id slot = record table {
+  pointers = λ bucket. if bucket_of id == bucket then with_slot_of (table.pointers bucket) (index_of id) slot else table.pointers bucket;
 }
 
--- the table once a value is written at an id, its flag as before
+-- the table after a value was written at an id; the flag stays
 abbrev pub with_written : {V : Type 0} → Table V → ℕ → V → Table V
-with_written table id v = with_slot table id (record (slot_at table id) { written = Some v })
+with_written table id v = with_table_slot table id (record (slot_at table id) { written = Some v })
 
--- the table once the flag at an id is set
+-- the table after the flag at an id was set
 abbrev pub with_flag : {V : Type 0} → Table V → ℕ → Table V
-with_flag table id = with_slot table id (record (slot_at table id) { flag = true })
+with_flag table id = with_table_slot table id (record (slot_at table id) { flag = true })

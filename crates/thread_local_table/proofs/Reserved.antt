@@ -1,3 +1,5 @@
+-- A table's claim of a held id makes a seat: where the id is reserved, the claim has found its
+-- bucket.
 use Rattle.std.proofs.Common.{◌≡◌, ◌≢◌, ◌<◌, ◌-◌, ◌^◌, ℕ, subst, sym, arith}
 use Rattle.thread_local_model.specs.Place.{bucket_of, id_at}
 use Rattle.thread_local_model.specs.Learnt.{Missing}
@@ -11,13 +13,13 @@ use Rattle.thread_local_table.specs.Seats.{IsSeated}
 first_below : (id n : ℕ) → id < n → id_at (bucket_of id) 0 < n
 first_below id n below = let same = id_at-place id in omega arith
 
--- what a table's claim of an id says makes a seat
-pub seated : {V : Type 0} (core : TableView) (claim : ClaimView V) (id : ℕ) → claim.table ≡ core.table → claim.id ≡ id → id < 2 ^ 63 - 1 → IsKnown claim.learnt
-    → (id_at (bucket_of id) 0 < core.reserved → claim.learnt ≢ Missing) → IsSeated core claim
-seated core claim id of same in_range known found =
+-- a held id and the claim that its table answers make a seat
+pub seated : {V : Type 0} (table : TableView) (claim : ClaimView V) (id : ℕ) → claim.table ≡ table.table → claim.id ≡ id → id < 2 ^ 63 - 1 → IsKnown claim.learnt
+    → (id_at (bucket_of id) 0 < table.reserved → claim.learnt ≢ Missing) → IsSeated table claim
+seated table claim id of same in_range known found =
     record {
       table = of;
       in_range = subst (λ n. n < 2 ^ 63 - 1) (sym same) in_range;
       known = known;
-      reserved = λ below. found (first_below id core.reserved (subst (λ n. n < core.reserved) same below));
+      reserved = λ below. found (first_below id table.reserved (subst (λ n. n < table.reserved) same below));
     }

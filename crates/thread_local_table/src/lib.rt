@@ -1,10 +1,9 @@
-//! The table that threads share, and a thread's place in it.
+//! The table that threads share, and the `Local` through which one thread uses it.
 #![tactic(auto)]
 
 pub mod local;
 pub mod seat;
 pub mod table;
-mod table_core;
 
 pub use local::Local;
 pub use seat::{Seat, TryError};

@@ -7,6 +7,7 @@ use std::cell::{Cell, RefCell};
 use std::default::MadeWith;
 use std::sync::Wait;
 use thread_local_judged::{Judge, judge_sync};
+use thread_local_shared_walk::Iter;
 use thread_local_table::{Local, Seat, ThreadLocal};
 
 fn crosses<X: Send + Sync>(_: &X) {}
@@ -35,7 +36,7 @@ fn held<R: Wait>(local: &mut Local<'_, u32, R>, value: u32) -> Result<u32, Alloc
     Ok(*local.get_or(|| unreachable!())?)
 }
 
-/// A reserved place is not refused memory.
+/// A reserved `Local` is not refused memory.
 fn never_refused<R: Wait>(local: &mut Local<'_, u32, R>, value: u32) -> bool
     ensures { result ≡ true }
 {
@@ -86,14 +87,23 @@ fn sync<T: Send + Sync>(alloc: Global) -> ThreadLocal<T> {
     ThreadLocal::new(alloc)
 }
 
-/// A seat's calls need nothing that waits.
-fn sum_without_a_wait(seat: &mut Seat<'_, u32>) -> Result<u32, AllocError> {
+/// A seat publishes and finds with nothing that waits.
+fn found_without_a_wait(seat: &mut Seat<'_, u32>) -> Result<u32, AllocError> {
     let made = *seat.get_or(|| 5)?;
-    let mut sum = seat.get().copied().unwrap_or(made);
-    for value in seat.iter() {
+    Ok(seat.get().copied().unwrap_or(made))
+}
+
+fn sum(walk: Iter<'_, u32>) -> u32 {
+    let mut sum = 0u32;
+    for value in walk {
         sum = sum.wrapping_add(*value);
     }
-    Ok(sum)
+    sum
+}
+
+/// So does its walk.
+fn sum_without_a_wait(seat: &Seat<'_, u32>) -> u32 {
+    sum(seat.iter())
 }
 
 fn generic_local<T: Send, R: Wait + Sync>(local: Local<'_, T, R>) {

@@ -1,58 +1,39 @@
-//! What a cleared table keeps. `tools/refusals` runs these tests with the first request for memory refused, with the second, and so on until no request
-//! is refused any more. Each test holds whichever it is, and says which call was refused; with ample memory it says nothing.
+//! What a cleared table keeps. `tools/refusals` runs these tests with the first request for memory
+//! refused, with the second, and so on until no request is refused any more. Each test holds
+//! whichever it is, and says which call was refused; with ample memory it says nothing.
 
+use crate::held::{four_publish, is_one_reserved, latter_four_publish, taken};
+use std::alloc::Global;
+use std::io::Print;
 use std::sync::Wait;
 use std::test::Fail;
 use thread_local_table::ThreadLocal;
-use thread_local_thread_id::LocalError;
 
-/// Eight `Local`s are held at once, and then publish in the order in which they were taken. Answers which of them weren't refused memory.
-fn eight_publish<R: Wait>(table: &ThreadLocal<u32>, rt: &R) -> Result<[bool; 8], LocalError> {
-    let mut first = table.local(rt)?;
-    let mut second = table.local(rt)?;
-    let mut third = table.local(rt)?;
-    let mut fourth = table.local(rt)?;
-    let mut fifth = table.local(rt)?;
-    let mut sixth = table.local(rt)?;
-    let mut seventh = table.local(rt)?;
-    let mut eighth = table.local(rt)?;
-    Ok([
-        first.get_or(|| 1).is_ok(),
-        second.get_or(|| 2).is_ok(),
-        third.get_or(|| 3).is_ok(),
-        fourth.get_or(|| 4).is_ok(),
-        fifth.get_or(|| 5).is_ok(),
-        sixth.get_or(|| 6).is_ok(),
-        seventh.get_or(|| 7).is_ok(),
-        eighth.get_or(|| 8).is_ok(),
-    ])
+/// Eight `Local`s are held at once, and then publish in the order in which they were taken. Answers
+/// which of them weren't refused memory, or None where a `Local` was.
+fn eight_publish<R: Wait + Print>(
+    table: &ThreadLocal<u32>,
+    rt: &R,
+    alloc: Global,
+) -> Option<([bool; 4], [bool; 4])> {
+    let mut locals = taken(table, rt, alloc, 8)?;
+    let first = four_publish(&mut locals);
+    Some((first, latter_four_publish(&mut locals)))
 }
 
-/// What four `Local`s that are held at once find: whether one of them is reserved, and which of them weren't refused memory.
-#[derive(Drop)]
-struct Four {
-    reserved: bool,
-    published: [bool; 4],
+/// The same of four, beside whether one of them is reserved.
+fn reserved_and_published<R: Wait + Print>(
+    table: &ThreadLocal<u32>,
+    rt: &R,
+    alloc: Global,
+) -> Option<(bool, [bool; 4])> {
+    let mut locals = taken(table, rt, alloc, 4)?;
+    Some((is_one_reserved(&locals), four_publish(&mut locals)))
 }
 
-/// Four `Local`s are held at once, and then publish in the order in which they were taken.
-fn four_publish<R: Wait>(table: &ThreadLocal<u32>, rt: &R) -> Result<Four, LocalError> {
-    let mut first = table.local(rt)?;
-    let mut second = table.local(rt)?;
-    let mut third = table.local(rt)?;
-    let mut fourth = table.local(rt)?;
-    Ok(Four {
-        reserved: first.is_reserved()
-            || second.is_reserved()
-            || third.is_reserved()
-            || fourth.is_reserved(),
-        published: [
-            first.get_or(|| 1).is_ok(),
-            second.get_or(|| 2).is_ok(),
-            third.get_or(|| 3).is_ok(),
-            fourth.get_or(|| 4).is_ok(),
-        ],
-    })
+/// How many values an owner's walk has still to give.
+fn count(table: &mut ThreadLocal<u32>) -> usize {
+    table.iter_mut().len()
 }
 
 #[test]
@@ -61,50 +42,28 @@ fn a_cleared_table_keeps_its_reserved_slots_and_its_room(rt: HostRuntime) -> Res
         println!(rt; "refused: with_capacity")?;
         return Ok(());
     };
-    if eight_publish(&table, &rt) != Ok([true; 8]) {
+    if eight_publish(&table, &rt, rt.alloc()) != Some(([true; 4], [true; 4])) {
         println!(rt; "refused: before_clear")?;
         return Ok(());
     }
-    assert_eq!(rt; table.slots(), 15);
+    let before = table.slots();
     table.clear();
-    assert_eq!(rt; table.slots(), 7);
-    {
-        let values = table.iter_mut();
-        assert_eq!(rt; values.len(), 0);
-    }
-    // From here on eight ids and seven values are never refused memory. Whether the eighth value is, its bucket shows.
-    let published = eight_publish(&table, &rt)?;
-    for id in 0..7 {
-        assert!(rt; published[id], "id {id}");
-    }
-    if !published[7] {
+    assert_eq!(rt; (before, table.slots(), count(&mut table)), (15, 7, 0));
+    // From here on eight ids and seven values are never refused memory. Whether the eighth value
+    // is, its bucket shows.
+    let published = eight_publish(&table, &rt, rt.alloc());
+    let is_eighth = published == Some(([true; 4], [true; 4]));
+    if !is_eighth {
         println!(rt; "refused: get_or")?;
+        assert_eq!(rt; published, Some(([true; 4], [true, true, true, false])));
     }
-    assert_eq!(rt; table.slots(), if published[7] { 15 } else { 7 });
+    assert_eq!(rt; table.slots(), if is_eighth { 15 } else { 7 });
     Ok(())
 }
 
-#[test]
-fn a_cleared_table_of_no_capacity_keeps_its_room(rt: HostRuntime) -> Result<(), Fail> {
-    let mut table = ThreadLocal::<u32>::new(rt.alloc());
-    let all_published = match four_publish(&table, &rt) {
-        Ok(four) => four.published == [true; 4],
-        Err(_) => false,
-    };
-    if !all_published {
-        println!(rt; "refused: before_clear")?;
-        return Ok(());
-    }
-    assert_eq!(rt; table.slots(), 7);
-    table.clear();
-    assert_eq!(rt; table.slots(), 0);
-    // From here on four ids are never refused memory. Which values are, the buckets show.
-    let four = four_publish(&table, &rt)?;
-    assert!(rt; !four.reserved);
-    let [first, second, third, fourth] = four.published;
-    if four.published != [true; 4] {
-        println!(rt; "refused: get_or")?;
-    }
+/// How many slots stand where which of four published.
+fn slots_of(published: [bool; 4]) -> usize {
+    let [first, second, third, fourth] = published;
     let mut slots = 0;
     if first {
         slots += 1;
@@ -115,6 +74,26 @@ fn a_cleared_table_of_no_capacity_keeps_its_room(rt: HostRuntime) -> Result<(), 
     if fourth {
         slots += 4;
     }
-    assert_eq!(rt; table.slots(), slots);
+    slots
+}
+
+#[test]
+fn a_cleared_table_of_no_capacity_keeps_its_room(rt: HostRuntime) -> Result<(), Fail> {
+    let mut table = ThreadLocal::<u32>::new(rt.alloc());
+    if reserved_and_published(&table, &rt, rt.alloc()) != Some((false, [true; 4])) {
+        println!(rt; "refused: before_clear")?;
+        return Ok(());
+    }
+    let before = table.slots();
+    table.clear();
+    assert_eq!(rt; (before, table.slots()), (7, 0));
+    // From here on four ids are never refused memory. Which values are, the buckets show.
+    let found = reserved_and_published(&table, &rt, rt.alloc());
+    let published = found.map_or([false; 4], |(_, published)| published);
+    assert_eq!(rt; found, Some((false, published)));
+    if published != [true; 4] {
+        println!(rt; "refused: get_or")?;
+    }
+    assert_eq!(rt; table.slots(), slots_of(published));
     Ok(())
 }

@@ -9,7 +9,8 @@ use thread_local_judged::judge_sync;
 use thread_local_table::ThreadLocal;
 use thread_local_test_helpers::counted::Counted;
 
-/// So many `Local`s are held at once, and each publishes a counted value. Answers whether none was refused.
+/// `Local`s that are held at once each publish a counted value, as many as are asked for. Answers
+/// whether none was refused.
 fn publish_counted<R: Wait>(
     table: &ThreadLocal<Counted>,
     rt: &R,

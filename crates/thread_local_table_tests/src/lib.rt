@@ -1,4 +1,4 @@
-//! Tests of the table that threads share, and of a thread's place in it.
+//! Tests of the table that threads share, and of its `Local`s.
 #![tactic(auto)]
 
 #[cfg(test)]
@@ -10,16 +10,14 @@ mod drops;
 #[cfg(test)]
 mod forgotten;
 #[cfg(test)]
-mod refused;
+mod held;
 #[cfg(test)]
-mod shared_walks;
+mod locals;
+#[cfg(test)]
+mod refused;
 #[cfg(test)]
 mod slots;
 #[cfg(test)]
 mod threads;
 #[cfg(test)]
 mod values;
-#[cfg(test)]
-mod walk_callers;
-#[cfg(test)]
-mod walks;

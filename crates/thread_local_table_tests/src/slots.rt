@@ -1,30 +1,40 @@
 //! How large a table grows.
+
+use crate::locals::published;
 use std::alloc::Global;
 use std::sync::Wait;
 use std::test::Fail;
 use thread_local_buckets::CapacityError;
 use thread_local_table::ThreadLocal;
 
-/// So many `Local`s are held at once, and each publishes its number. Answers whether none was refused.
+/// `Local`s that are held at once each publish their number, as many as are asked for. Answers
+/// whether none was refused.
 fn publish_held<R: Wait>(table: &ThreadLocal<u32>, rt: &R, alloc: Global, count: u32) -> bool {
     let mut locals = Vec::new(alloc);
     for number in 0..count {
         let Ok(mut local) = table.local(rt) else {
             return false;
         };
-        if local.get_or(|| number).is_err() || locals.push(local).is_err() {
+        if published(&mut local, number).is_none() || locals.push(local).is_err() {
             return false;
         }
     }
     true
 }
 
+/// Whether a new `Local` publishes a number, and isn't refused.
+fn publish_alone<R: Wait>(table: &ThreadLocal<u32>, rt: &R, number: u32) -> bool {
+    match table.local(rt) {
+        Ok(mut local) => published(&mut local, number).is_some(),
+        Err(_) => false,
+    }
+}
+
 #[test]
 fn locals_one_after_another_use_one_slot(rt: HostRuntime) -> Result<(), Fail> {
     let mut table = ThreadLocal::<u32>::new(rt.alloc());
     for number in 0..1000 {
-        let mut local = table.local(&rt)?;
-        assert!(rt; local.get_or(|| number).is_ok());
+        assert!(rt; publish_alone(&table, &rt, number));
     }
     assert_eq!(rt; table.slots(), 1);
     Ok(())
@@ -50,22 +60,33 @@ fn locals_held_beyond_a_capacity_use_no_more_slots_than_without(
     Ok(())
 }
 
+/// Whether a shared walk gives no value.
+fn shares_none(table: &ThreadLocal<u32>) -> bool {
+    table.iter().next().is_none()
+}
+
+/// Whether an owner's walk has no value to give, and gives none.
+fn lends_none(table: &mut ThreadLocal<u32>) -> bool {
+    let mut values = table.iter_mut();
+    values.len() == 0 && values.next().is_none()
+}
+
+/// Whether no value is moved out.
+fn moves_out_none(table: ThreadLocal<u32>) -> bool {
+    let mut values = table.into_iter();
+    values.len() == 0 && values.next().is_none()
+}
+
 #[test]
 fn a_new_table_has_no_slots_and_no_values(rt: HostRuntime) -> Result<(), Fail> {
     let mut table = ThreadLocal::<u32>::new(rt.alloc());
-    assert_eq!(rt; table.slots(), 0);
-    {
-        let mut values = table.iter();
-        assert!(rt; values.next().is_none());
-    }
-    {
-        let mut values = table.iter_mut();
-        assert_eq!(rt; values.len(), 0);
-        assert!(rt; values.next().is_none());
-    }
-    let mut values = table.into_iter();
-    assert_eq!(rt; values.len(), 0);
-    assert!(rt; values.next().is_none());
+    let slots = table.slots();
+    let shared = shares_none(&table);
+    let lent = lends_none(&mut table);
+    assert_eq!(rt;
+        (slots, shared, lent, moves_out_none(table)),
+        (0, true, true, true)
+    );
     Ok(())
 }
 
@@ -87,16 +108,32 @@ fn a_capacity_may_be_too_large(rt: HostRuntime) -> Result<(), Fail> {
     Ok(())
 }
 
+/// `Local`s that are held at once are reserved or not, each as is expected.
+fn are_reserved<R: Wait>(
+    table: &ThreadLocal<u32>,
+    rt: &R,
+    alloc: Global,
+    expected: &[bool],
+) -> bool {
+    let mut locals = Vec::new(alloc);
+    for reserved in expected {
+        let Ok(local) = table.local(rt) else {
+            return false;
+        };
+        if local.is_reserved() != *reserved || locals.push(local).is_err() {
+            return false;
+        }
+    }
+    true
+}
+
 #[test]
 fn places_below_the_reserved_slots_are_reserved(rt: HostRuntime) -> Result<(), Fail> {
     let table = ThreadLocal::<u32>::with_capacity(rt.alloc(), 4)?;
-    let mut locals = Vec::new(rt.alloc());
-    for id in 0..8 {
-        let local = table.local(&rt)?;
-        assert_eq!(rt; local.is_reserved(), id < 7);
-        locals.push(local)?;
-    }
+    let expected = [true, true, true, true, true, true, true, false];
+    let as_expected = are_reserved(&table, &rt, rt.alloc(), &expected);
     let other = ThreadLocal::<u32>::new(rt.alloc());
-    assert!(rt; !other.local(&rt)?.is_reserved());
+    let other_as_expected = are_reserved(&other, &rt, rt.alloc(), &[false]);
+    assert_eq!(rt; (as_expected, other_as_expected), (true, true));
     Ok(())
 }

@@ -1,5 +1,6 @@
 //! Threads use one table, and `Local`s move between them.
 
+use crate::locals::{found, lends, published};
 use std::sync::Wait;
 use std::sync::atomic::Ordering::SeqCst;
 use std::sync::atomic::{AtomicBool, AtomicU32};
@@ -31,25 +32,35 @@ fn of_its_own<R: Wait>(
     }
 }
 
+/// What a `Local` is answered, what one of another thread is then, and what the first is again.
+fn beside_another<R: Threads + Wait + Sync>(
+    table: &ThreadLocal<u32>,
+    rt: &R,
+) -> Option<[(Option<u32>, Option<u32>, Option<u32>); 3]> {
+    let calls = AtomicU32::new(0);
+    let mut local = table.local(rt).ok()?;
+    let first = found_made_found(&mut local, &calls);
+    let (second, _) = thread::join(rt, || of_its_own(table, rt, &calls), || ());
+    Some([first, second, found_made_found(&mut local, &calls)])
+}
+
 #[test]
 fn each_thread_has_its_own_value(rt: HostRuntime) -> Result<(), Fail> {
     let table = ThreadLocal::<u32>::new(rt.alloc());
-    let calls = AtomicU32::new(0);
-    let mut local = table.local(&rt)?;
     assert_eq!(rt;
-        found_made_found(&mut local, &calls),
-        (None, Some(0), Some(0))
+        beside_another(&table, &rt),
+        Some([
+            (None, Some(0), Some(0)),
+            (None, Some(1), Some(1)),
+            (Some(0), Some(0), Some(0)),
+        ])
     );
-    let (second, _) = thread::join(&rt, || of_its_own(&table, &rt, &calls), || ());
-    assert_eq!(rt; second, (None, Some(1), Some(1)));
-    assert_eq!(rt; local.get(), Some(&0));
-    assert_eq!(rt; *local.get_or(|| calls.fetch_add(1, SeqCst))?, 0);
     Ok(())
 }
 
 /// Publishes 3, and hands the `Local` back.
 fn publish_three<'a, R: Wait>(mut local: Local<'a, u32, R>) -> Local<'a, u32, R> {
-    let _published = local.get_or(|| 3).is_ok();
+    let _published = published(&mut local, 3);
     local
 }
 
@@ -58,11 +69,12 @@ fn a_local_moves_to_another_thread_and_back(rt: HostRuntime) -> Result<(), Fail>
     let table = ThreadLocal::<u32>::new(rt.alloc());
     let local = table.local(&rt)?;
     let (local, _) = thread::join(&rt, || publish_three(local), || ());
-    assert_eq!(rt; local.get(), Some(&3));
+    assert_eq!(rt; found(&local), Some(3));
     Ok(())
 }
 
-/// Publishes while its closure waits for the second's value. Answers the value, and whether the closure saw the mark.
+/// Publishes while its closure waits for the second's value. Answers the value, and whether the
+/// closure saw the mark.
 fn publish_around<R: Wait>(
     table: &ThreadLocal<u32>,
     rt: &R,
@@ -95,7 +107,7 @@ fn publish_within<R: Wait>(
     let Ok(mut local) = table.local(rt) else {
         return (None, seen);
     };
-    let got = local.get_or(|| 2).ok().copied();
+    let got = published(&mut local, 2);
     answered.store(true, SeqCst);
     (got, seen)
 }
@@ -110,22 +122,22 @@ fn no_lock_is_held_while_a_closure_runs(rt: HostRuntime) -> Result<(), Fail> {
         || publish_around(&table, &rt, &begun, &answered),
         || publish_within(&table, &rt, &begun, &answered),
     );
-    assert_eq!(rt; first, (Some(1), true));
-    assert_eq!(rt; second, (Some(2), true));
+    assert_eq!(rt; (first, second), ((Some(1), true), (Some(2), true)));
     Ok(())
 }
 
-/// Publishes what a `Local` publishes that the closure makes.
+/// One more than what a `Local` of its own holds once it has published 6, or 0 where it can't.
+fn seven_of_another<R: Wait>(table: &ThreadLocal<u32>, rt: &R) -> u32 {
+    match table.local(rt) {
+        Ok(mut local) => published(&mut local, 6).map_or(0, |value| value.wrapping_add(1)),
+        Err(_) => 0,
+    }
+}
+
+/// Publishes what its closure makes by a `Local` of its own.
 fn publish_through_another<R: Wait>(table: &ThreadLocal<u32>, rt: &R) -> Option<u32> {
     let mut local = table.local(rt).ok()?;
-    let got = local.get_or(|| match table.local(rt) {
-        Ok(mut inner) => match inner.get_or(|| 6) {
-            Ok(value) => value.wrapping_add(1),
-            Err(_) => 0,
-        },
-        Err(_) => 0,
-    });
-    got.ok().copied()
+    local.get_or(|| seven_of_another(table, rt)).ok().copied()
 }
 
 /// Does so once the first's closure has begun.
@@ -151,12 +163,7 @@ fn a_closure_may_use_another_local_of_the_table(rt: HostRuntime) -> Result<(), F
         || publish_around(&table, &rt, &begun, &answered),
         || publish_through_another_within(&table, &rt, &begun, &answered),
     );
-    assert_eq!(rt; first, (Some(1), true));
-    assert_eq!(rt; second, (Some(7), true));
-    let mut values = table.iter_mut();
-    for value in [1, 7, 6] {
-        assert_eq!(rt; values.next().map(|there| *there), Some(value));
-    }
-    assert!(rt; values.next().is_none());
+    assert_eq!(rt; (first, second), ((Some(1), true), (Some(7), true)));
+    assert!(rt; lends(&mut table, &[1, 7, 6]));
     Ok(())
 }

@@ -1,113 +1,180 @@
 //! What a `Local` finds at its id, and what it publishes there.
 
-use std::alloc::AllocError;
+use crate::locals::{found, found_by_another, published, published_by_another};
+use std::alloc::Global;
 use std::mem::swap;
 use std::sync::Wait;
 use std::test::Fail;
-use thread_local_table::{ThreadLocal, TryError};
+use thread_local_table::{Local, ThreadLocal, TryError};
 
 #[test]
 fn the_first_value_stays(rt: HostRuntime) -> Result<(), Fail> {
     let table = ThreadLocal::<u32>::new(rt.alloc());
-    let mut local = table.local(&rt)?;
-    assert_eq!(rt; local.get(), None);
-    assert_eq!(rt; *local.get_or(|| 5)?, 5);
-    assert_eq!(rt; local.get(), Some(&5));
+    assert_eq!(rt;
+        published_by_another(&table, &rt, 5),
+        Some([None, Some(5), Some(5)])
+    );
     Ok(())
+}
+
+/// Whether a `Local` is shown so.
+fn is_shown<R: Wait>(local: &Local<'_, u32, R>, alloc: Global, shown: &str) -> bool {
+    match format!(in alloc; "{local:?}") {
+        Ok(text) => text.as_str() == shown,
+        Err(_) => false,
+    }
+}
+
+/// Asks three times for a value. Answers whether each answer, and what is found then, is 0, and how
+/// often the closure was called.
+fn ask_thrice<R: Wait>(local: &mut Local<'_, u32, R>) -> (bool, u32) {
+    let mut calls = 0u32;
+    let mut each_is_first = true;
+    for _ in 0..3 {
+        let got = local
+            .get_or(|| {
+                let made = calls;
+                calls = calls.wrapping_add(1);
+                made
+            })
+            .ok()
+            .copied();
+        each_is_first &= (got, local.get()) == (Some(0), Some(&0));
+    }
+    (each_is_first, calls)
+}
+
+/// Whether a new `Local` is shown with no value, what it is answered when it is asked three times,
+/// and whether it is shown with 0 then.
+fn shown_and_asked<R: Wait>(
+    table: &ThreadLocal<u32>,
+    rt: &R,
+    alloc: Global,
+) -> Option<(bool, (bool, u32), bool)> {
+    let mut local = table.local(rt).ok()?;
+    let is_empty = local.get().is_none();
+    Some((
+        is_empty && is_shown(&local, alloc, "ThreadLocal { local_data: None }"),
+        ask_thrice(&mut local),
+        is_shown(&local, alloc, "ThreadLocal { local_data: Some(0) }"),
+    ))
 }
 
 #[test]
 fn a_closure_is_called_once(rt: HostRuntime) -> Result<(), Fail> {
     let mut table = ThreadLocal::<u32>::new(rt.alloc());
-    let mut calls = 0u32;
-    {
-        let mut local = table.local(&rt)?;
-        assert_eq!(rt; local.get(), None);
-        let text = format!(in rt.alloc(); "{local:?}")?;
-        assert_eq!(rt; text.as_str(), "ThreadLocal { local_data: None }");
-        for _ in 0..3 {
-            let got = *local.get_or(|| {
-                let made = calls;
-                calls = calls.wrapping_add(1);
-                made
-            })?;
-            assert_eq!(rt; (got, local.get()), (0, Some(&0)));
-        }
-        let text = format!(in rt.alloc(); "{local:?}")?;
-        assert_eq!(rt; text.as_str(), "ThreadLocal { local_data: Some(0) }");
-    }
-    assert_eq!(rt; calls, 1);
+    let answers = shown_and_asked(&table, &rt, rt.alloc());
     table.clear();
-    let local = table.local(&rt)?;
-    assert_eq!(rt; local.get(), None);
+    let found = found_by_another(&table, &rt);
+    assert_eq!(rt;
+        (answers, found),
+        (Some((true, (true, 1), true)), Some(None))
+    );
     Ok(())
 }
 
 #[test]
 fn a_reused_id_finds_the_earlier_value(rt: HostRuntime) -> Result<(), Fail> {
     let table = ThreadLocal::<u32>::new(rt.alloc());
-    {
-        let mut local = table.local(&rt)?;
-        assert_eq!(rt; *local.get_or(|| 7)?, 7);
-    }
-    let mut local = table.local(&rt)?;
-    assert_eq!(rt; local.get(), Some(&7));
-    assert_eq!(rt; *local.get_or(|| 9)?, 7);
+    let first = published_by_another(&table, &rt, 7);
+    let second = published_by_another(&table, &rt, 9);
+    assert_eq!(rt; first, Some([None, Some(7), Some(7)]));
+    assert_eq!(rt; second, Some([Some(7), Some(7), Some(7)]));
     Ok(())
+}
+
+/// Whether a closure's error is told as such, and leaves the slot of a new `Local` empty.
+fn fails<R: Wait>(table: &ThreadLocal<u32>, rt: &R) -> bool {
+    match table.local(rt) {
+        Ok(mut local) => {
+            matches!(local.get_or_try(|| Err("no")), Err(TryError::Create("no")))
+                && local.get().is_none()
+        }
+        Err(_) => false,
+    }
 }
 
 #[test]
 fn an_error_leaves_the_slot_empty_and_its_bucket_standing(rt: HostRuntime) -> Result<(), Fail> {
     let mut table = ThreadLocal::<u32>::new(rt.alloc());
-    {
-        let mut local = table.local(&rt)?;
-        assert!(rt; matches!(local.get_or_try(|| Err("no")), Err(TryError::Create("no"))));
-        assert_eq!(rt; local.get(), None);
-    }
-    assert_eq!(rt; table.slots(), 1);
-    {
-        let mut local = table.local(&rt)?;
-        assert_eq!(rt; *local.get_or(|| 4)?, 4);
-    }
-    assert_eq!(rt; table.slots(), 1);
+    let failed = fails(&table, &rt);
+    assert_eq!(rt; (failed, table.slots()), (true, 1));
+    let next = published_by_another(&table, &rt, 4);
+    assert_eq!(rt; (next, table.slots()), (Some([None, Some(4), Some(4)]), 1));
     Ok(())
+}
+
+/// What a new `Local` is told when it publishes the default, and what it finds then.
+fn default_published<R: Wait>(table: &ThreadLocal<u32>, rt: &R) -> Option<[Option<u32>; 2]> {
+    let mut local = table.local(rt).ok()?;
+    let told = local.get_or_default().ok().copied();
+    Some([told, found(&local)])
 }
 
 #[test]
 fn a_default_is_published(rt: HostRuntime) -> Result<(), Fail> {
     let table = ThreadLocal::<u32>::new(rt.alloc());
-    let mut local = table.local(&rt)?;
-    assert_eq!(rt; *local.get_or_default()?, 0);
-    assert_eq!(rt; local.get(), Some(&0));
+    assert_eq!(rt; default_published(&table, &rt), Some([Some(0), Some(0)]));
     Ok(())
+}
+
+/// Whether a new `Local` that publishes -3 is shown with it.
+fn shows_a_negative_number<R: Wait>(table: &ThreadLocal<i32>, rt: &R, alloc: Global) -> bool {
+    let Ok(mut local) = table.local(rt) else {
+        return false;
+    };
+    if local.get_or(|| -3) != Ok(&-3) {
+        return false;
+    }
+    match format!(in alloc; "{local:?}") {
+        Ok(text) => text.as_str() == "ThreadLocal { local_data: Some(-3) }",
+        Err(_) => false,
+    }
 }
 
 #[test]
 fn a_negative_number_is_shown(rt: HostRuntime) -> Result<(), Fail> {
     let table = ThreadLocal::<i32>::new(rt.alloc());
-    let mut local = table.local(&rt)?;
-    assert_eq!(rt; *local.get_or(|| -3)?, -3);
-    let text = format!(in rt.alloc(); "{local:?}")?;
-    assert_eq!(rt; text.as_str(), "ThreadLocal { local_data: Some(-3) }");
+    assert!(rt; shows_a_negative_number(&table, &rt, rt.alloc()));
     Ok(())
 }
 
-/// Two `Local`s of a table and one of another publish 1, 2 and 3, and the seats of the latter two are swapped. Answers what each was told, and
-/// what the first found before the third was taken, and after the swap.
-fn swap_the_latter_two<'a, R: Wait>(
+/// Beside a first `Local`, one of its table and one of another publish 2 and 3, and their seats are
+/// swapped. Answers what each was told, and what the first found before the third was taken, and
+/// after the swap.
+fn swap_beside<'a, R: Wait>(
+    first: &Local<'_, u32, R>,
     table: &'a ThreadLocal<u32>,
     other: &'a ThreadLocal<u32>,
     rt: &'a R,
-) -> Result<([u32; 3], [Option<u32>; 2]), AllocError> {
-    let mut first = table.local(rt).map_err(|_| AllocError)?;
-    let mut second = table.local(rt).map_err(|_| AllocError)?;
-    let one = *first.get_or(|| 1)?;
-    let two = *second.get_or(|| 2)?;
-    let before = first.get().copied();
-    let mut third = other.local(rt).map_err(|_| AllocError)?;
-    let three = *third.get_or(|| 3)?;
+) -> Option<([Option<u32>; 2], [Option<u32>; 2])> {
+    let mut second = table.local(rt).ok()?;
+    let two = published(&mut second, 2);
+    let before = found(first);
+    let mut third = other.local(rt).ok()?;
+    let three = published(&mut third, 3);
     swap(third.seat_mut(), second.seat_mut());
-    Ok(([one, two, three], [before, first.get().copied()]))
+    Some(([two, three], [before, found(first)]))
+}
+
+/// What the first is told when it publishes 1, and what the swap beside it answers.
+fn swap_the_latter_two<R: Wait>(
+    table: &ThreadLocal<u32>,
+    other: &ThreadLocal<u32>,
+    rt: &R,
+) -> Option<(Option<u32>, Option<([Option<u32>; 2], [Option<u32>; 2])>)> {
+    let mut first = table.local(rt).ok()?;
+    Some((
+        published(&mut first, 1),
+        swap_beside(&first, table, other, rt),
+    ))
+}
+
+/// What two `Local`s that are held at once find.
+fn found_by_two<R: Wait>(table: &ThreadLocal<u32>, rt: &R) -> Option<[Option<u32>; 2]> {
+    let first = table.local(rt).ok()?;
+    let second = table.local(rt).ok()?;
+    Some([found(&first), found(&second)])
 }
 
 #[test]
@@ -116,13 +183,9 @@ fn swapped_seats_go_back_to_their_tables(rt: HostRuntime) -> Result<(), Fail> {
     let other = ThreadLocal::<u32>::new(rt.alloc());
     assert_eq!(rt;
         swap_the_latter_two(&table, &other, &rt),
-        Ok(([1, 2, 3], [Some(1), Some(1)]))
+        Some((Some(1), Some(([Some(2), Some(3)], [Some(1), Some(1)]))))
     );
-    let first = table.local(&rt)?;
-    let second = table.local(&rt)?;
-    let third = other.local(&rt)?;
-    assert_eq!(rt; first.get(), Some(&1));
-    assert_eq!(rt; second.get(), Some(&2));
-    assert_eq!(rt; third.get(), Some(&3));
+    assert_eq!(rt; found_by_two(&table, &rt), Some([Some(1), Some(2)]));
+    assert_eq!(rt; found_by_another(&other, &rt), Some(Some(3)));
     Ok(())
 }

@@ -1,13 +1,13 @@
-//! What each worker passes before it adds.
+//! The gate that each worker passes before it adds; `Open` never holds one up.
 
-/// What a worker passes while it holds its place in the table, before it adds its first number. A gate at which workers wait for one
-/// another shows that they run at the same time.
+/// What a worker passes while it holds its `Local`, before it adds its first number. A gate at
+/// which workers wait for one another shows that they run at the same time.
 pub trait Gate {
     /// Lets the worker with this number through.
     fn pass(&self, worker: usize);
 }
 
-/// The gate at which nobody waits.
+/// A gate at which nobody waits.
 #[derive(Clone, Copy)]
 pub struct Open;
 

@@ -1,4 +1,4 @@
-//! Workers that add numbers up in a table, each in a cell of its own.
+//! Workers that add up numbers in a table, each in a cell of its own.
 #![tactic(auto)]
 
 mod gate;

@@ -1,4 +1,4 @@
-//! The workers, and what their owner sums.
+//! The workers, each with its share of the numbers, and the owner that sums their cells.
 ghost use Rattle.std.specs.Prelude.{◌≡◌, ◌+◌, ◌≤◌};
 ghost use Rattle.std.specs.Iterator.Adapters.{step_by_source, step_by_gap};
 ghost use Rattle.std.specs.Range.{range_inclusive_start, range_inclusive_end};
@@ -16,12 +16,14 @@ use thread_local_judged::Judge;
 use thread_local_table::ThreadLocal;
 use thread_local_thread_id::LocalError;
 
-/// Adds the numbers from 1 to `numbers` up with so many workers, each in a thread of its own: worker w adds each k with k mod workers = w
-/// in a cell of its own, and makes no step on shared memory meanwhile. Each holds its `Local` for its whole work, and passes the gate while
-/// it does. Additions saturate.
+/// Adds up the numbers from 1 to `numbers` with `workers` workers, each a thread: worker w adds
+/// each k with k mod `workers` = w in a cell of its own, and makes no step on shared memory
+/// meanwhile. Each holds its `Local` throughout, and passes the gate while it does. Additions
+/// saturate.
 ///
-/// May wait, and takes memory. `Memory` is want of memory for a thread, for an id or for a bucket; `Exhausted` means that no id was left. Every
-/// worker that was started has ended before the call answers, also where another was refused.
+/// May wait, and takes memory. `Memory` means out of memory for a thread, an id or a bucket;
+/// `Exhausted` means that no id was left. Every started worker has ended when the call answers,
+/// also where another was refused.
 pub fn tally<R: Threads + Wait + Sync, G: Gate + Sync>(
     rt: &R,
     alloc: Global,
@@ -37,7 +39,8 @@ pub fn tally<R: Threads + Wait + Sync, G: Gate + Sync>(
     Ok(total(sums))
 }
 
-/// Starts the workers one after another and joins them. A worker that is refused ends the call, once all that were started have ended.
+/// Starts the workers one after another and joins them. If one is refused, the call still ends only
+/// when all started ones have ended.
 fn start_and_join<R: Threads + Wait + Sync, G: Gate + Sync>(
     rt: &R,
     alloc: Global,
@@ -66,7 +69,7 @@ fn start_and_join<R: Threads + Wait + Sync, G: Gate + Sync>(
     })
 }
 
-/// One worker: takes a place in the table, passes the gate, and adds its numbers to its cell.
+/// One worker: takes a `Local`, passes the gate, and adds its numbers in its cell.
 fn add<R: Wait, G: Gate>(
     rt: &R,
     sums: &ThreadLocal<Cell<u64>>,
@@ -88,8 +91,8 @@ fn add<R: Wait, G: Gate>(
     Ok(())
 }
 
-/// The numbers of a worker: from its own number on each that is so many further as there are workers. The first worker's begin with 0, which
-/// adds nothing.
+/// A worker's share: from its own number on, every `workers`-th. The first worker's share begins
+/// with 0, which adds nothing.
 fn share(worker: usize, workers: usize, numbers: u64) -> StepBy<RangeInclusive<u64>>
     requires { 1 ≤ workers }
     ensures first { range_inclusive_start (step_by_source result) ≡ worker }

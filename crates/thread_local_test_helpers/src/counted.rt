@@ -11,7 +11,7 @@ pub struct Counted {
 }
 
 impl Counted {
-    /// A value whose drop is counted there.
+    /// A value whose drop adds one to `drops`.
     pub fn new(drops: &Arc<AtomicU64, Global>) -> Result<Counted, AllocError> {
         let drops = Arc::try_clone(drops)?;
         Ok(Counted { drops })

@@ -1,4 +1,5 @@
-//! What crates of tests use: values that count their drops, marks that threads wait for, a bound on memory, and an allocator that has none.
+//! What test crates share: values that count their drops, marks that threads wait for, a bound on
+//! memory, and an allocator that refuses every request.
 #![tactic(auto)]
 
 pub mod counted;

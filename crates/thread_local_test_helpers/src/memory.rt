@@ -1,11 +1,13 @@
-//! A bound on the memory of a test: what it may have is taken first, so that a leak is refused wherever the test runs.
+//! A bound on a test's memory: all the rest is taken first, so that a leak is refused on any
+//! machine.
 
 use std::alloc::{AllocError, Global};
 
-/// How many blocks are asked for at most. They fill the addresses of a process where blocks of 1 GiB can be had.
+/// How many blocks are asked for at most: at 1 GiB each they fill the address space of a process.
 const MOST: usize = 1 << 17;
 
-/// Takes blocks of so many bytes until one is refused. Nobody writes to them, so they cost addresses alone.
+/// Takes blocks of `bytes` bytes until one is refused. Nobody writes to them, so they cost
+/// addresses alone.
 fn take_until_refused(blocks: &mut Vec<Vec<u8>>, alloc: Global, bytes: usize) {
     for _ in 0..MOST {
         let Ok(block) = Vec::with_capacity(alloc, bytes) else {
@@ -17,7 +19,8 @@ fn take_until_refused(blocks: &mut Vec<Vec<u8>>, alloc: Global, bytes: usize) {
     }
 }
 
-/// Takes all memory that can be had in blocks of 4 MiB and more, but for so many bytes. It comes back with the blocks.
+/// Takes all memory that blocks of 4 MiB and more can have, except `bytes` bytes. It is free again
+/// when the blocks are dropped.
 pub fn take_all_but(alloc: Global, bytes: usize) -> Result<Vec<Vec<u8>>, AllocError> {
     let mut blocks = Vec::with_capacity(alloc, MOST)?;
     let spare: Vec<u8> = Vec::with_capacity(alloc, bytes)?;

@@ -1,30 +1,30 @@
-//! An allocator that shows how much memory is asked for.
+//! An allocator that refuses every request, and shows how much memory was asked for.
 ghost use Rattle.std.specs.Borrow.{ffalse};
 
 use std::alloc::{AllocError, Allocator};
 use std::cell::Cell;
 
-/// An allocator that refuses each request, and keeps for how many bytes the last one was.
+/// An allocator that refuses every request, and keeps the size of the last one.
 #[derive(Drop)]
 pub struct Refusing {
     bytes: Cell<usize>,
 }
 
 impl Refusing {
-    /// It wasn't asked yet.
+    /// An allocator that wasn't asked yet.
     pub fn new() -> Refusing {
         Refusing {
             bytes: Cell::new(0),
         }
     }
 
-    /// For how many bytes the last request was.
+    /// How many bytes the last request was for.
     pub fn bytes(&self) -> usize {
         self.bytes.get()
     }
 }
 
-/// Keeps a number of bytes.
+/// Keeps the size of a request.
 fn keep(bytes: &Cell<usize>, number: usize) {
     bytes.set(number);
 }

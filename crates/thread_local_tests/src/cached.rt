@@ -2,50 +2,81 @@
 
 use std::cell::Cell;
 use std::default::MadeWith;
+use std::sync::Wait;
 use std::test::Fail;
-use thread_local::cached::CachedThreadLocal;
+use thread_local::cached::{CachedIntoIter, CachedIterMut, CachedThreadLocal};
+
+/// What a new `Local` finds, and what it is told when it publishes 3.
+fn publish_three<R: Wait>(table: &CachedThreadLocal<u32>, rt: &R) -> Option<[Option<u32>; 2]> {
+    let mut local = table.local(rt).ok()?;
+    Some([local.get().copied(), local.get_or(|| 3).ok().copied()])
+}
+
+/// Whether a walk lends 3 alone, and knows how many values it has still to give.
+fn lends_three(values: CachedIterMut<'_, u32>) -> bool {
+    let mut values = values;
+    values.len() == 1
+        && values.size_hint() == (1, Some(1))
+        && values.next().map(|there| *there) == Some(3)
+        && values.size_hint() == (0, Some(0))
+        && values.next().is_none()
+}
+
+/// Whether a walk moves nothing out, and knows it.
+fn moves_out_none(values: CachedIntoIter<u32>) -> bool {
+    let mut values = values;
+    values.len() == 0 && values.size_hint() == (0, Some(0)) && values.next().is_none()
+}
 
 #[test]
 fn a_deprecated_table_is_walked_and_cleared(rt: HostRuntime) -> Result<(), Fail> {
     let mut table = CachedThreadLocal::<u32>::new(rt.alloc());
-    {
-        let mut local = table.local(&rt)?;
-        assert_eq!(rt; local.get(), None);
-        assert_eq!(rt; *local.get_or(|| 3)?, 3);
-    }
-    {
-        let mut values = table.iter_mut();
-        assert_eq!(rt; values.len(), 1);
-        assert_eq!(rt; values.size_hint(), (1, Some(1)));
-        assert_eq!(rt; values.next().map(|there| *there), Some(3));
-        assert_eq!(rt; values.size_hint(), (0, Some(0)));
-        assert!(rt; values.next().is_none());
-    }
+    let published = publish_three(&table, &rt);
+    let lent = lends_three(table.iter_mut());
     table.clear();
-    let mut values = table.into_iter();
-    assert_eq!(rt; values.len(), 0);
-    assert_eq!(rt; values.size_hint(), (0, Some(0)));
-    assert_eq!(rt; values.next(), None);
+    let moved_out = moves_out_none(table.into_iter());
+    assert_eq!(rt;
+        (published, lent, moved_out),
+        (Some([None, Some(3)]), true, true)
+    );
     Ok(())
+}
+
+/// Whether two `Local`s that are held at once publish cells of 1 and 2.
+fn publish_cells<R: Wait>(table: &CachedThreadLocal<Cell<u32>>, rt: &R) -> Option<[bool; 2]> {
+    let mut first = table.local(rt).ok()?;
+    let mut second = table.local(rt).ok()?;
+    Some([
+        first.get_or(|| Cell::new(1)).is_ok(),
+        second.get_or(|| Cell::new(2)).is_ok(),
+    ])
+}
+
+/// Adds ten to each value.
+fn add_ten(table: &mut CachedThreadLocal<Cell<u32>>) {
+    for value in table {
+        value.set(value.get().wrapping_add(10));
+    }
+}
+
+/// Whether a walk moves out 11 and 12, and knows how many values it has still to give.
+fn moves_out_two(values: CachedIntoIter<Cell<u32>>) -> bool {
+    let mut values = values;
+    values.len() == 2
+        && values.next().map(|value| value.get()) == Some(11)
+        && values.size_hint() == (1, Some(1))
+        && values.next().map(|value| value.get()) == Some(12)
+        && values.next().is_none()
 }
 
 #[test]
 fn values_of_a_deprecated_table_are_written_and_moved_out(rt: HostRuntime) -> Result<(), Fail> {
     let mut table = CachedThreadLocal::<Cell<u32>>::made_with(rt.alloc());
-    {
-        let mut first = table.local(&rt)?;
-        let mut second = table.local(&rt)?;
-        first.get_or(|| Cell::new(1))?;
-        second.get_or(|| Cell::new(2))?;
-    }
-    for value in &mut table {
-        value.set(value.get().wrapping_add(10));
-    }
-    let mut values = table.into_iter();
-    assert_eq!(rt; values.len(), 2);
-    assert_eq!(rt; values.next().map(|value| value.get()), Some(11));
-    assert_eq!(rt; values.size_hint(), (1, Some(1)));
-    assert_eq!(rt; values.next().map(|value| value.get()), Some(12));
-    assert!(rt; values.next().is_none());
+    let published = publish_cells(&table, &rt);
+    add_ten(&mut table);
+    assert_eq!(rt;
+        (published, moves_out_two(table.into_iter())),
+        (Some([true; 2]), true)
+    );
     Ok(())
 }

@@ -11,7 +11,8 @@ use thread_local::buckets::Buckets;
 use thread_local::local::Local;
 use thread_local::thread_id::{LocalError, ThreadIdManager};
 
-/// Counts so many times in a counter of its own, which is a plain cell. None means that memory or an id was refused.
+/// Counts in a counter of its own, which is a plain cell, as often as is asked for. None means that
+/// memory or an id was refused.
 pub fn count<R: Wait>(counters: &ThreadLocal<Cell<u64>>, rt: &R, times: u64) -> Option<()> {
     let mut local = counters.local(rt).ok()?;
     let counter = local.get_or(|| Cell::new(0)).ok()?;
@@ -21,7 +22,7 @@ pub fn count<R: Wait>(counters: &ThreadLocal<Cell<u64>>, rt: &R, times: u64) -> 
     Some(())
 }
 
-/// The sum of all counters, for somebody who has the table alone.
+/// The sum of all counters, for the exclusive owner of the table.
 pub fn total(counters: ThreadLocal<Cell<u64>>) -> u64 {
     let mut sum = 0u64;
     for counter in counters {

@@ -1,3 +1,5 @@
+//! The moves of `tls ids`.
+
 use std::test::Fail;
 use thread_local_tls::{IdsError, Move, ids};
 

@@ -1,3 +1,4 @@
+//! The program's answers: what it writes, and its status.
 ghost use Rattle.thread_local_tls.specs.Limits.{IsWithinLimits};
 
 use std::alloc::{AllocError, Global};
@@ -11,7 +12,8 @@ use thread_local_tally::{Open, tally};
 use thread_local_thread_id::LocalError;
 use thread_local_tls::run;
 
-/// A writer over memory that fails at its write with this number, counted from 0, and at each flush where so set.
+/// A writer over memory that fails at its write with this number, counted from 0, and at each flush
+/// where so set.
 #[derive(Drop)]
 struct Memory {
     bytes: Vec<u8>,
@@ -78,8 +80,8 @@ impl Room {
 impl Write for Room {
     fn write(&mut self, buf: &[u8]) -> io::Result<usize> {
         for byte in buf {
-            if let Some(place) = self.bytes.get_mut(self.len) {
-                *place = *byte;
+            if let Some(free) = self.bytes.get_mut(self.len) {
+                *free = *byte;
                 self.len = self.len.saturating_add(1);
             }
         }
@@ -121,6 +123,25 @@ fn answer<R: Threads + Wait + Sync, O: Write, E: Write>(
     )
 }
 
+/// Runs the line. Answers whether what is written and the status are these.
+fn is_answered<R: Threads + Wait + Sync>(
+    rt: &R,
+    alloc: Global,
+    line: &str,
+    output: &str,
+    fault: &str,
+    status: u8,
+) -> bool {
+    let Ok(words) = words(alloc, line) else {
+        return false;
+    };
+    let mut out = Memory::sound(alloc);
+    let mut err = Memory::sound(alloc);
+    answer(rt, alloc, &words, &mut out, &mut err) == status
+        && out.bytes.as_slice() == output.as_bytes()
+        && err.bytes.as_slice() == fault.as_bytes()
+}
+
 /// Runs the line, and compares what is written and the status.
 fn expect<R: Abort + Threads + Wait + Sync>(
     rt: &R,
@@ -129,26 +150,9 @@ fn expect<R: Abort + Threads + Wait + Sync>(
     output: &str,
     fault: &str,
     status: u8,
-) -> Result<(), AllocError> {
-    let mut out = Memory::sound(alloc);
-    let mut err = Memory::sound(alloc);
-    let words = words(alloc, line)?;
-    assert_eq!(rt;
-        answer(rt, alloc, &words, &mut out, &mut err),
-        status,
-        "the status of '{line}'"
-    );
-    assert_eq!(rt;
-        out.bytes.as_slice(),
-        output.as_bytes(),
-        "the output of '{line}'"
-    );
-    assert_eq!(rt;
-        err.bytes.as_slice(),
-        fault.as_bytes(),
-        "the fault of '{line}'"
-    );
-    Ok(())
+) {
+    let answered = is_answered(rt, alloc, line, output, fault, status);
+    assert!(rt; answered, "the answer of '{line}'");
 }
 
 #[test]
@@ -163,12 +167,13 @@ fn prints_the_least_ids(rt: HostRuntime) -> Result<(), Fail> {
         ("ids take give 00000000000000000000000000 take", "0\n0\n"),
     ];
     for (line, output) in lines {
-        expect(&rt, rt.alloc(), line, output, "", 0)?;
+        expect(&rt, rt.alloc(), line, output, "", 0);
     }
     Ok(())
 }
 
-/// A line that takes so many ids and then goes on, and what it prints: the ids from 0 on, and then these.
+/// A line that takes ids, as many as are asked for, and then goes on, and what it prints: the ids
+/// from 0 on, and then these.
 fn many_takes(
     alloc: Global,
     takes: usize,
@@ -195,9 +200,9 @@ fn many_takes(
 fn prints_the_least_ids_of_more_than_a_word(rt: HostRuntime) -> Result<(), Fail> {
     let moves = " give 64 give 3 take take take";
     let (line, output) = many_takes(rt.alloc(), 66, moves, &[3, 64, 66])?;
-    expect(&rt, rt.alloc(), line.as_str(), output.as_str(), "", 0)?;
+    expect(&rt, rt.alloc(), line.as_str(), output.as_str(), "", 0);
     let (line, output) = many_takes(rt.alloc(), 64, " give 63 take take", &[63, 64])?;
-    expect(&rt, rt.alloc(), line.as_str(), output.as_str(), "", 0)?;
+    expect(&rt, rt.alloc(), line.as_str(), output.as_str(), "", 0);
     Ok(())
 }
 
@@ -212,7 +217,7 @@ fn prints_the_total_of_all_workers(rt: HostRuntime) -> Result<(), Fail> {
         ("tally 0005 00010", "55\n"),
     ];
     for (line, output) in lines {
-        expect(&rt, rt.alloc(), line, output, "", 0)?;
+        expect(&rt, rt.alloc(), line, output, "", 0);
     }
     Ok(())
 }
@@ -239,9 +244,30 @@ fn wrong_arguments_print_the_usage(rt: HostRuntime) -> Result<(), Fail> {
         "tally 18446744073709551616 10",
     ];
     for line in lines {
-        expect(&rt, rt.alloc(), line, "", USAGE, 2)?;
+        expect(&rt, rt.alloc(), line, "", USAGE, 2);
     }
     Ok(())
+}
+
+/// Runs the words with a write that fails. Answers whether there was such a write, and whether the
+/// run ended as it must: with that told, or else with everything written.
+fn is_told<R: Threads + Wait + Sync>(
+    rt: &R,
+    alloc: Global,
+    words: &[String],
+    fails_at: usize,
+    output: &str,
+) -> (bool, bool) {
+    let mut out = Memory::new(alloc, fails_at);
+    let mut err = Memory::sound(alloc);
+    let status = answer(rt, alloc, words, &mut out, &mut err);
+    if out.writes <= fails_at {
+        let written = status == 0 && out.bytes.as_slice() == output.as_bytes();
+        (false, written && 0 < fails_at)
+    } else {
+        let told = err.bytes.as_slice() == b"tls: write failed\n".as_slice();
+        (true, status == 1 && told)
+    }
 }
 
 /// Runs the line once for each write that may fail, until a run meets no failure.
@@ -253,17 +279,11 @@ fn expect_each_write_told<R: Abort + Threads + Wait + Sync>(
 ) -> Result<(), AllocError> {
     let words = words(alloc, line)?;
     for fails_at in 0..100 {
-        let mut out = Memory::new(alloc, fails_at);
-        let mut err = Memory::sound(alloc);
-        let status = answer(rt, alloc, &words, &mut out, &mut err);
-        if out.writes <= fails_at {
-            assert_eq!(rt; status, 0);
-            assert_eq!(rt; out.bytes.as_slice(), output.as_bytes());
-            assert!(rt; 0 < fails_at, "a write of '{line}' failed");
+        let (failed, as_promised) = is_told(rt, alloc, &words, fails_at, output);
+        assert!(rt; as_promised, "write {fails_at} of '{line}'");
+        if !failed {
             return Ok(());
         }
-        assert_eq!(rt; status, 1, "write {fails_at} of '{line}'");
-        assert_eq!(rt; err.bytes.as_slice(), b"tls: write failed\n".as_slice());
     }
     assert!(rt; false, "each run met a failing write");
     Ok(())
@@ -282,75 +302,82 @@ fn a_failed_write_is_told(rt: HostRuntime) -> Result<(), Fail> {
     Ok(())
 }
 
+/// Whether a line that prints 0 and 1 is told to have failed where a flush fails.
+fn is_flush_told<R: Threads + Wait + Sync>(rt: &R, alloc: Global, line: &str) -> bool {
+    let Ok(words) = words(alloc, line) else {
+        return false;
+    };
+    let mut out = Memory::sound(alloc);
+    out.flush_fails = true;
+    let mut err = Memory::sound(alloc);
+    answer(rt, alloc, &words, &mut out, &mut err) == 1
+        && out.bytes.as_slice() == b"0\n1\n".as_slice()
+        && err.bytes.as_slice() == b"tls: write failed\n".as_slice()
+}
+
 #[test]
 fn a_failed_flush_is_told(rt: HostRuntime) -> Result<(), Fail> {
-    let words = words(rt.alloc(), "ids take take")?;
-    let mut out = Memory::sound(rt.alloc());
-    out.flush_fails = true;
-    let mut err = Memory::sound(rt.alloc());
-    assert_eq!(rt; answer(&rt, rt.alloc(), &words, &mut out, &mut err), 1);
-    assert_eq!(rt; out.bytes.as_slice(), b"0\n1\n".as_slice());
-    assert_eq!(rt; err.bytes.as_slice(), b"tls: write failed\n".as_slice());
+    assert!(rt; is_flush_told(&rt, rt.alloc(), "ids take take"));
     Ok(())
 }
 
-/// Runs the line, one of whose requests for memory may be refused, for which its words ask first. It then writes nothing, also where ids were had
-/// or workers were started before. Run a test that calls this with `rt try --test --fail-alloc N -- NAME`, for each N until a run meets no refusal.
-fn expect_refusal_told<R: Abort + Print + Threads + Wait + Sync>(
+/// Runs the line, one of whose requests for memory may be refused, for which its words ask first. A
+/// refused one writes nothing, also where ids were taken or workers were started before. Run a test
+/// that calls this with `rt try --test --fail-alloc N -- NAME`, for each N until a run meets no
+/// refusal.
+fn is_refusal_told<R: Print + Threads + Wait + Sync>(
     rt: &R,
     alloc: Global,
     line: &str,
     output: &str,
-) {
+) -> bool {
     let Ok(words) = words(alloc, line) else {
         let _told = println!(rt; "refused: words");
-        return;
+        return true;
     };
     let mut out = Room::new();
     let mut err = Room::new();
     match answer(rt, alloc, &words, &mut out, &mut err) {
-        0 => {
-            assert_eq!(rt; out.text(), output.as_bytes());
-            assert!(rt; err.text().is_empty());
-        }
+        0 => out.text() == output.as_bytes() && err.text().is_empty(),
         status => {
             let _told = println!(rt; "refused: run");
-            assert_eq!(rt; status, 1);
-            assert!(rt; out.text().is_empty());
-            assert_eq!(rt; err.text(), b"tls: out of memory\n".as_slice());
+            status == 1 && out.text().is_empty() && err.text() == b"tls: out of memory\n".as_slice()
         }
     }
 }
 
 #[test]
 fn refused_ids_write_nothing(rt: HostRuntime) -> Result<(), Fail> {
-    expect_refusal_told(&rt, rt.alloc(), "ids take take", "0\n1\n");
+    assert!(rt; is_refusal_told(&rt, rt.alloc(), "ids take take", "0\n1\n"));
     Ok(())
 }
 
 #[test]
 fn refused_ids_write_nothing_after_many(rt: HostRuntime) -> Result<(), Fail> {
-    expect_refusal_told(
-        &rt,
-        rt.alloc(),
-        "ids take take take take take take take take take take",
-        "0\n1\n2\n3\n4\n5\n6\n7\n8\n9\n",
-    );
+    let line = "ids take take take take take take take take take take";
+    let output = "0\n1\n2\n3\n4\n5\n6\n7\n8\n9\n";
+    assert!(rt; is_refusal_told(&rt, rt.alloc(), line, output));
     Ok(())
 }
 
 #[test]
 fn a_refused_tally_writes_nothing(rt: HostRuntime) -> Result<(), Fail> {
-    expect_refusal_told(&rt, rt.alloc(), "tally 3 10", "55\n");
+    assert!(rt; is_refusal_told(&rt, rt.alloc(), "tally 3 10", "55\n"));
     Ok(())
+}
+
+/// Whether a line that is refused keeps its status where that can't be written, and writes nothing.
+fn keeps_its_status<R: Threads + Wait + Sync>(rt: &R, alloc: Global, line: &str) -> bool {
+    let Ok(words) = words(alloc, line) else {
+        return false;
+    };
+    let mut out = Memory::sound(alloc);
+    let mut err = Memory::new(alloc, 0);
+    answer(rt, alloc, &words, &mut out, &mut err) == 2 && out.bytes.is_empty()
 }
 
 #[test]
 fn a_fault_that_cannot_be_told_keeps_its_status(rt: HostRuntime) -> Result<(), Fail> {
-    let words = words(rt.alloc(), "ids give 0")?;
-    let mut out = Memory::sound(rt.alloc());
-    let mut err = Memory::new(rt.alloc(), 0);
-    assert_eq!(rt; answer(&rt, rt.alloc(), &words, &mut out, &mut err), 2);
-    assert!(rt; out.bytes.is_empty());
+    assert!(rt; keeps_its_status(&rt, rt.alloc(), "ids give 0"));
     Ok(())
 }

@@ -1,7 +1,7 @@
 //! Buffers of a pool: what they hold when they are handed out, and what room they bring along.
 ghost use Rattle.std.specs.Prelude.{◌≡◌, [], IfOk};
 
-use std::alloc::AllocError;
+use std::alloc::{AllocError, Global};
 use std::io::Print;
 use std::mem::forget;
 use std::sync::Wait;
@@ -20,7 +20,7 @@ fn one_byte<R: Wait>(buffer: &mut Buffer<'_, R>, byte: u8) -> Result<usize, Allo
     Ok(buffer.bytes().len())
 }
 
-/// Puts so many bytes into an empty buffer. Answers whether it was empty.
+/// Puts bytes into a buffer, as many as are asked for. Answers whether it was empty.
 fn fill<R: Wait>(mut buffer: Buffer<'_, R>, count: usize) -> Result<bool, AllocError> {
     let was_empty = buffer.bytes().is_empty();
     for _ in 0..count {
@@ -34,7 +34,8 @@ fn has_room<R: Wait>(buffer: &Buffer<'_, R>) -> bool {
     buffer.bytes().is_empty() && buffer.bytes().capacity() >= 1000
 }
 
-/// Takes so many buffers one after another, and puts ten bytes into each. Answers whether each was empty.
+/// Takes buffers one after another, as many as are asked for, and puts ten bytes into each. Answers
+/// whether each was empty.
 fn take_in_turn<R: Wait>(pool: &Pool, rt: &R, count: usize) -> Result<bool, LocalError> {
     for _ in 0..count {
         let buffer = pool.buffer(rt)?;
@@ -61,88 +62,95 @@ fn four_threads<R: Wait + Threads + Sync>(pool: &Pool, rt: &R) -> bool {
     taken.0 && taken.1
 }
 
+/// Whether a new buffer is empty, and has room for 1000 bytes.
+fn another_has_room<R: Wait>(pool: &Pool, rt: &R) -> Option<bool> {
+    let buffer = pool.buffer(rt).ok()?;
+    Some(has_room(&buffer))
+}
+
+/// How many bytes a new buffer holds, and for how many it has room.
+fn measure_another<R: Wait>(pool: &Pool, rt: &R) -> Option<(usize, usize)> {
+    let buffer = pool.buffer(rt).ok()?;
+    let bytes = buffer.bytes();
+    Some((bytes.len(), bytes.capacity()))
+}
+
 #[test]
 fn a_buffer_keeps_its_room(rt: HostRuntime) -> Result<(), Fail> {
     let pool = Pool::new(rt.alloc());
-    assert!(rt; fill(pool.buffer(&rt)?, 1000)?);
-    let buffer = pool.buffer(&rt)?;
-    assert_eq!(rt; buffer.bytes().len(), 0);
-    assert!(rt; buffer.bytes().capacity() >= 1000);
+    let filled = fill(pool.buffer(&rt)?, 1000);
+    assert_eq!(rt;
+        (filled, another_has_room(&pool, &rt)),
+        (Ok(true), Some(true))
+    );
     Ok(())
 }
 
 /// Four buffers that are held at once.
-#[derive(Drop)]
-struct Four<'a, R: Wait> {
-    first: Buffer<'a, R>,
-    second: Buffer<'a, R>,
-    third: Buffer<'a, R>,
-    fourth: Buffer<'a, R>,
+fn take_four<'a, R: Wait>(pool: &'a Pool, rt: &'a R, alloc: Global) -> Option<Vec<Buffer<'a, R>>> {
+    let mut buffers = Vec::new(alloc);
+    for _ in 0..4 {
+        let buffer = pool.buffer(rt).ok()?;
+        buffers.push(buffer).ok()?;
+    }
+    Some(buffers)
 }
 
-impl<'a, R: Wait> Four<'a, R> {
-    fn take(pool: &'a Pool, rt: &'a R) -> Result<Four<'a, R>, LocalError> {
-        Ok(Four {
-            first: pool.buffer(rt)?,
-            second: pool.buffer(rt)?,
-            third: pool.buffer(rt)?,
-            fourth: pool.buffer(rt)?,
-        })
+/// Puts 1000 bytes into each of four buffers that are held at once, and lets them go. Answers how
+/// many were empty.
+fn fill_four<R: Wait>(pool: &Pool, rt: &R, alloc: Global) -> Option<usize> {
+    let buffers = take_four(pool, rt, alloc)?;
+    let mut empty = 0usize;
+    for buffer in buffers {
+        if fill(buffer, 1000) == Ok(true) {
+            empty = empty.wrapping_add(1);
+        }
     }
+    Some(empty)
+}
 
-    /// Puts 1000 bytes into each, and lets them go. Answers how many were empty.
-    fn fill(self) -> Result<usize, AllocError> {
-        let Self {
-            first,
-            second,
-            third,
-            fourth,
-        } = self;
-        let first = fill(first, 1000)?;
-        let second = fill(second, 1000)?;
-        let third = fill(third, 1000)?;
-        let fourth = fill(fourth, 1000)?;
-        Ok(
-            [first, second, third, fourth]
-                .into_iter()
-                .filter(|was_empty| *was_empty)
-                .count(),
-        )
-    }
-
-    /// Whether each is empty and has room for 1000 bytes.
-    fn have_room(&self) -> bool {
-        has_room(&self.first)
-            && has_room(&self.second)
-            && has_room(&self.third)
-            && has_room(&self.fourth)
-    }
+/// Whether each of four buffers that are held at once is empty and has room for 1000 bytes, and
+/// what a fifth has.
+fn measure_four_and_a_fifth<R: Wait>(
+    pool: &Pool,
+    rt: &R,
+    alloc: Global,
+) -> Option<(bool, Option<(usize, usize)>)> {
+    let buffers = take_four(pool, rt, alloc)?;
+    let have_room = buffers.iter().all(|buffer| has_room(buffer));
+    Some((have_room, measure_another(pool, rt)))
 }
 
 #[test]
 fn four_buffers_keep_their_room_and_a_fifth_has_none(rt: HostRuntime) -> Result<(), Fail> {
     let pool = Pool::new(rt.alloc());
-    assert_eq!(rt; Four::take(&pool, &rt)?.fill(), Ok(4));
-    let four = Four::take(&pool, &rt)?;
-    assert!(rt; four.have_room());
-    let fifth = pool.buffer(&rt)?;
-    assert_eq!(rt; fifth.bytes().len(), 0);
-    assert_eq!(rt; fifth.bytes().capacity(), 0);
+    assert_eq!(rt; fill_four(&pool, &rt, rt.alloc()), Some(4));
+    assert_eq!(rt;
+        measure_four_and_a_fifth(&pool, &rt, rt.alloc()),
+        Some((true, Some((0, 0))))
+    );
     Ok(())
+}
+
+/// Puts 1000 bytes into a new buffer, and forgets it. Answers how many it held.
+fn fill_and_forget<R: Wait>(pool: &Pool, rt: &R) -> Option<usize> {
+    let mut buffer = pool.buffer(rt).ok()?;
+    for _ in 0..1000 {
+        buffer.bytes_mut().push(7).ok()?;
+    }
+    let held = buffer.bytes().len();
+    forget(buffer);
+    Some(held)
 }
 
 #[test]
 fn a_forgotten_buffer_keeps_its_room_to_itself(rt: HostRuntime) -> Result<(), Fail> {
     let pool = Pool::new(rt.alloc());
-    let mut buffer = pool.buffer(&rt)?;
-    for _ in 0..1000 {
-        buffer.bytes_mut().push(7)?;
-    }
-    assert_eq!(rt; buffer.bytes().len(), 1000);
-    forget(buffer);
-    let next = pool.buffer(&rt)?;
-    assert_eq!(rt; next.bytes().len(), 0);
-    assert_eq!(rt; next.bytes().capacity(), 0);
+    let held = fill_and_forget(&pool, &rt);
+    assert_eq!(rt;
+        (held, measure_another(&pool, &rt)),
+        (Some(1000), Some((0, 0)))
+    );
     Ok(())
 }
 
@@ -158,12 +166,17 @@ fn eight_threads_get_empty_buffers(rt: HostRuntime) -> Result<(), Fail> {
     Ok(())
 }
 
+/// What is told when 5 is written to a new buffer, and whether it stands there.
+fn write_five<R: Wait>(pool: &Pool, rt: &R) -> Option<(usize, bool)> {
+    let mut buffer = pool.buffer(rt).ok()?;
+    let count = one_byte(&mut buffer, 5).ok()?;
+    Some((count, buffer.bytes().as_slice() == [5].as_slice()))
+}
+
 #[test]
 fn what_is_written_stands(rt: HostRuntime) -> Result<(), Fail> {
     let pool = Pool::new(rt.alloc());
-    let mut buffer = pool.buffer(&rt)?;
-    assert_eq!(rt; one_byte(&mut buffer, 5)?, 1);
-    assert_eq!(rt; buffer.bytes().as_slice(), [5].as_slice());
+    assert_eq!(rt; write_five(&pool, &rt), Some((1, true)));
     Ok(())
 }
 
@@ -179,13 +192,17 @@ fn had<'a, R: Wait + Print>(pool: &'a Pool, rt: &'a R) -> Option<Buffer<'a, R>> 
     }
 }
 
+/// How many bytes two buffers have that are held at once.
+fn lengths_of_two<R: Wait + Print>(pool: &Pool, rt: &R) -> Option<[usize; 2]> {
+    let first = had(pool, rt)?;
+    let second = had(pool, rt)?;
+    Some([first.bytes().len(), second.bytes().len()])
+}
+
 // It holds whichever request for memory is refused: `tools/refusals` refuses each in turn.
 #[test]
 fn a_buffer_that_was_refused_is_had_the_second_time(rt: HostRuntime) -> Result<(), Fail> {
     let pool = Pool::new(rt.alloc());
-    let first = had(&pool, &rt);
-    let second = had(&pool, &rt);
-    assert_eq!(rt; first.map(|buffer| buffer.bytes().len()), Some(0));
-    assert_eq!(rt; second.map(|buffer| buffer.bytes().len()), Some(0));
+    assert_eq!(rt; lengths_of_two(&pool, &rt), Some([0, 0]));
     Ok(())
 }

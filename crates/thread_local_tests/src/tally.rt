@@ -40,8 +40,8 @@ fn workers_add_at_the_same_time(rt: HostRuntime) -> Result<(), Fail> {
         second: AtomicBool::new(false),
         given_up: AtomicU64::new(0),
     };
-    assert_eq!(rt; tally(&rt, rt.alloc(), 2, 10, &gate), Ok(55));
-    assert_eq!(rt; gate.given_up.load(SeqCst), 0);
+    let sum = tally(&rt, rt.alloc(), 2, 10, &gate);
+    assert_eq!(rt; (sum, gate.given_up.load(SeqCst)), (Ok(55), 0));
     Ok(())
 }
 
@@ -62,8 +62,8 @@ fn each_worker_passes_the_gate_once(rt: HostRuntime) -> Result<(), Fail> {
     let gate = Counted {
         passed: AtomicU64::new(0),
     };
-    assert_eq!(rt; tally(&rt, rt.alloc(), 5, 10, &gate), Ok(55));
-    assert_eq!(rt; gate.passed.load(SeqCst), 0b11111);
+    let sum = tally(&rt, rt.alloc(), 5, 10, &gate);
+    assert_eq!(rt; (sum, gate.passed.load(SeqCst)), (Ok(55), 0b11111));
     Ok(())
 }
 

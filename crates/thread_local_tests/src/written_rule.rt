@@ -1,4 +1,5 @@
-//! Ten thousand moves on a table, made by a rule of whole numbers, beside a set of the ids held and a map of the values by id.
+//! Ten thousand moves on a table, made by a rule of whole numbers, beside a set of the ids held and
+//! a map of the values by id.
 
 use std::alloc::Global;
 use std::collections::{BTreeMap, BTreeSet};
@@ -7,10 +8,11 @@ use std::test::Fail;
 use thread_local::ThreadLocal;
 use thread_local::local::Local;
 
-/// At most so many `Local`s are held at once.
+/// How many `Local`s are held at once at most.
 const MOST_HELD: usize = 40;
 
-/// What a table should be: which ids are held, and which values stand. Beside it, where the rule is.
+/// What a table should be: which ids are held, and which values stand. Beside it, where the rule
+/// is.
 #[derive(Drop)]
 struct Expected {
     held: BTreeSet<usize>,
@@ -86,7 +88,8 @@ fn take<'a, R: Wait>(
     Ok(found)
 }
 
-/// Asks a `Local` for its value, with a number that wasn't used before. Answers whether it is the value that stands there.
+/// Asks a `Local` for its value, with a number that wasn't used before. Answers whether it is the
+/// value that stands there.
 fn publish<R: Wait>(
     expected: &mut Expected,
     id: usize,
@@ -113,21 +116,21 @@ fn step<'a, R: Wait>(
     if count == 0 || count < MOST_HELD && number % 8 < 3 {
         return take(rt, table, expected, held);
     }
-    let place = number / 8 % count;
+    let index = number / 8 % count;
     if number % 8 < 5 {
-        if place < held.ids.len() {
-            expected.held.remove(&held.ids.swap_remove(place));
+        if index < held.ids.len() {
+            expected.held.remove(&held.ids.swap_remove(index));
         }
-        held.locals.swap_remove(place);
+        held.locals.swap_remove(index);
         return Ok(true);
     }
-    match (held.ids.get(place), held.locals.get_mut(place)) {
+    match (held.ids.get(index), held.locals.get_mut(index)) {
         (Some(id), Some(local)) => publish(expected, *id, local),
         _ => Ok(false),
     }
 }
 
-/// Whether a walk of somebody who shares the table gives the values that stand, by ascending id.
+/// Whether a shared walk gives the values that stand, by ascending id.
 fn is_walked(table: &ThreadLocal<u64>, expected: &Expected) -> bool {
     let mut found = table.iter();
     for (_, value) in &expected.values {
@@ -138,7 +141,8 @@ fn is_walked(table: &ThreadLocal<u64>, expected: &Expected) -> bool {
     found.next().is_none()
 }
 
-/// A thousand moves on a table, with a walk after each hundred. Answers whether all was as expected.
+/// A thousand moves on a table, with a walk after each hundred. Answers whether all was as
+/// expected.
 fn thousand<R: Wait>(
     alloc: Global,
     rt: &R,
@@ -162,21 +166,28 @@ fn thousand<R: Wait>(
     Ok(true)
 }
 
+/// Whether an owner's walk knows how many values stand, and gives them by ascending id.
+fn is_lent(table: &mut ThreadLocal<u64>, expected: &Expected) -> bool {
+    let mut found = table.iter_mut();
+    if found.len() != expected.values.len() {
+        return false;
+    }
+    for (_, value) in &expected.values {
+        if found.next().map(|there| *there) != Some(*value) {
+            return false;
+        }
+    }
+    found.next().is_none()
+}
+
 #[test]
 fn moves_made_by_a_rule_leave_what_a_set_and_a_map_say(rt: HostRuntime) -> Result<(), Fail> {
     let mut table = ThreadLocal::<u64>::new(rt.alloc());
     let mut expected = Expected::new(rt.alloc());
     for _ in 0..10 {
         assert!(rt; thousand(rt.alloc(), &rt, &table, &mut expected)?);
-        {
-            let mut found = table.iter_mut();
-            assert_eq!(rt; found.len(), expected.values.len());
-            for (_, value) in &expected.values {
-                assert_eq!(rt; found.next().map(|there| *there), Some(*value));
-            }
-            assert!(rt; found.next().is_none());
-        }
-        assert_eq!(rt; table.slots(), expected.slots());
+        let lent = is_lent(&mut table, &expected);
+        assert_eq!(rt; (lent, table.slots()), (true, expected.slots()));
         table.clear();
         expected.held.clear();
         expected.values.clear();

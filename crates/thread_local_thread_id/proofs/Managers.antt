@@ -1,3 +1,4 @@
+-- What each step of the manager of ids makes of its words, its peak, its mark and its end.
 use Rattle.std.proofs.Common.{◌≡◌, ◌≢◌, ℕ, ◌+◌, ◌-◌, ◌*◌, ◌/◌, ◌^◌, ◌<◌, ◌≤◌, min, max, Bool, true, false, List, [], ◌∷◌, ◌++◌, length, take, set, replicate, sym, ◌∙◌, arith, ⊎_elim}
 use Rattle.std.proofs.lemmas.Bool.{both_ways, true_from_ne_false, cases_eq, cases_lt}
 use Rattle.std.proofs.lemmas.List.{nil_from_length, length-replicate, length_push, length-take, get_or-set_same, get_or-set_other}
@@ -8,11 +9,11 @@ use Rattle.thread_local_thread_id.proofs.Views.{IsFreeFrom-set, HoldsAllBelow-se
 use Rattle.thread_local_thread_id.specs.Entries.{IsManager}
 use Rattle.thread_local_thread_id.specs.declared.manager.ThreadIdManager.TheInside.{Inside}
 
--- what is seen of a manager lies in its room
+-- the held ids that contracts see fit into the room
 pub in_room : (m : Inside) → IsManager m → length (take m.peak (bits_of m.words.items)) ≤ min (length m.words.items * 64) (2 ^ 63 - 1)
 in_room m is = omega (arith, length-take m.peak (bits_of m.words.items), is.peak, is.in_range)
 
--- words that are 0, with no id held, are a manager
+-- words that are all 0 are a manager that holds no id
 pub of_zeros : (new : Inside) (count : ℕ) → new.words.items ≡ replicate count 0 → count ≤ 2 ^ 57 → new.peak ≡ 0 → new.mark ≡ 0 → IsManager new
 of_zeros new count zeros within peak mark =
     let free : (id : ℕ) → is_held (bits_of new.words.items) id ≡ false = λ id. rw zeros (get_or-bits_of (replicate count 0) id ∙ is_set_in-zeros count id) in
@@ -26,7 +27,7 @@ of_zeros new count zeros within peak mark =
       end = λ id below _. absurd (omega arith);
     }
 
--- the same, made of a manager that has no word
+-- the same, where a manager without words grows
 pub resized : (old new : Inside) (count : ℕ) → IsManager old → length old.words.items ≡ 0 → new.words.items ≡ replicate count 0 → count ≤ 2 ^ 57
     → new.peak ≡ old.peak → new.mark ≡ old.mark → IsManager new
 resized old new count is none zeros within peak mark =
@@ -41,7 +42,7 @@ resized old new count is none zeros within peak mark =
     absurd (both_ways _ free held))
     (cases_lt old.mark 1))
 
--- a word more, all of whose bits are free
+-- a further word, all of whose bits are free
 pub pushed : (old new : Inside) → IsManager old → new.words.items ≡ old.words.items ++ 0 ∷ [] → length old.words.items < 2 ^ 57
     → new.peak ≡ old.peak → new.mark ≡ old.mark → new.end ≡ old.end → IsManager new
 pushed old new is items within peak mark end = record {
@@ -72,7 +73,7 @@ held_at_peak old new id is bits many first at room range peak mark =
       end = λ k below free. absurd (both_ways (is_held (set entries id true) k) (rw bits at free) (held k (omega arith)));
     }
 
--- it is the only free id below the peak
+-- the least free id is the only free one below the peak, and is held from now on
 pub held_last : (old new : Inside) (id : ℕ) → IsManager old → bits_of new.words.items ≡ set (bits_of old.words.items) id true
     → length new.words.items ≡ length old.words.items → id ≡ least (bits_of old.words.items) → id < old.peak → old.end ≤ id + 1
     → new.peak ≡ old.peak → new.mark ≡ old.peak → IsManager new
@@ -95,7 +96,7 @@ held_last old new id is bits many first below end peak mark =
       end = λ k under free. absurd (both_ways (is_held (set entries id true) k) (rw bits at free) (held k (omega arith)));
     }
 
--- others below the peak may be free, and the next bit that isn't set is known
+-- others below the peak may be free, and the next unset bit is known
 pub held_below_peak : (old new : Inside) (id : ℕ) → IsManager old → bits_of new.words.items ≡ set (bits_of old.words.items) id true
     → length new.words.items ≡ length old.words.items → id ≡ least (bits_of old.words.items) → id < old.peak
     → new.peak ≡ old.peak → new.end ≡ old.end → IsNextUnset new.words.items (id / 64 * 64) new.mark → IsManager new
@@ -117,7 +118,7 @@ held_below_peak old new id is bits many first below peak end next =
       end = λ k under free. let before = is.end k (omega arith) (was_free entries id k inside (rw bits at free)).1 in omega arith;
     }
 
--- an id below the peak is held no longer
+-- an id below the peak is freed
 pub freed : (old new : Inside) (id : ℕ) → IsManager old → bits_of new.words.items ≡ set (bits_of old.words.items) id false
     → length new.words.items ≡ length old.words.items → id < old.peak → new.peak ≡ old.peak → new.mark ≡ min old.mark id → new.end ≡ max old.end (id + 1) → IsManager new
 freed old new id is bits many below peak mark end =

@@ -1,3 +1,5 @@
+-- The entries of a manager below the peak: all that contracts see, since every entry from the peak
+-- on is free.
 use Rattle.std.proofs.Common.{◌≡◌, ◌≢◌, ℕ, zero, suc, ◌+◌, ◌*◌, ◌<◌, ◌≤◌, Bool, true, false, List, [], ◌∷◌, length, take, set, ◌++◌, refl, ap, sym, ◌∙◌, arith, ⊎_elim}
 use Rattle.std.proofs.lemmas.List.{get_or-set_same, get_or-set_other, take-append-le}
 use Rattle.std.proofs.lemmas.Bool.{both_ways, cases_eq}
@@ -47,7 +49,7 @@ taken_below_peak (false ∷ entries) (suc peak) within above apart = refl
 taken_below_peak (true ∷ entries) (suc peak) within above apart =
     ap (λ l. true ∷ l) (taken_below_peak entries peak (omega arith) (λ k p. above (suc k) (omega arith)) (λ same. apart (ap suc same)))
 
--- what is held lies below the peak
+-- what is held is below the peak
 pub below_peak : (entries : List Bool) (peak id : ℕ) → is_held (take peak entries) id ≡ true → id < peak
 below_peak [] zero id h = cc
 below_peak [] (suc peak) id h = cc
@@ -55,29 +57,29 @@ below_peak (e ∷ entries) zero id h = cc
 below_peak (e ∷ entries) (suc peak) zero h = omega arith
 below_peak (e ∷ entries) (suc peak) (suc id) h = let below = below_peak entries peak id h in omega arith
 
--- taking a front makes no list longer
+-- a prefix is no longer than its list
 pub length-front : (entries : List Bool) (peak : ℕ) → length (take peak entries) ≤ length entries
 length-front [] zero = omega arith
 length-front [] (suc peak) = omega arith
 length-front (e ∷ entries) zero = omega arith
 length-front (e ∷ entries) (suc peak) = let front = length-front entries peak in omega arith
 
--- a write below the peak leaves the entries from the peak on
+-- a write below the peak doesn't change the entries from the peak on
 pub IsFreeFrom-set : (entries : List Bool) (peak id : ℕ) (value : Bool) → id < peak → IsFreeFrom peak entries → IsFreeFrom peak (set entries id value)
 IsFreeFrom-set entries peak id value below above k h = let apart : k ≢ id = omega arith in rw get_or-set_other (above k h)
 
--- the first free entry lies at the peak at the latest
+-- the first free entry is at the peak or below it
 pub least_within : (entries : List Bool) (peak : ℕ) → peak ≤ length entries → IsFreeFrom peak entries → least entries ≤ peak
 least_within [] peak within above = omega arith
 least_within (false ∷ entries) peak within above = omega arith
 least_within (true ∷ entries) zero within above = let first : true ≡ false = above 0 (omega arith) in cc
 least_within (true ∷ entries) (suc peak) within above = let rest = least_within entries peak (omega arith) (λ k p. above (suc k) (omega arith)) in omega arith
 
--- a write leaves the entries before it
+-- a write doesn't change the entries before it
 pub HoldsAllBelow-set : (entries : List Bool) (id n : ℕ) (value : Bool) → n ≤ id → HoldsAllBelow n entries → HoldsAllBelow n (set entries id value)
 HoldsAllBelow-set entries id n value before held k below = let apart : k ≢ id = omega arith in rw get_or-set_other (held k below)
 
--- a word that is 0 behind the others changes neither what is held nor what a front shows
+-- appending a word that is 0 changes neither what is held nor a prefix
 pub is_held-push : (words : List ℕ) (id : ℕ) → is_held (bits_of (words ++ 0 ∷ [])) id ≡ is_held (bits_of words) id
 is_held-push words id = get_or-bits_of (words ++ 0 ∷ []) id ∙ is_set_in-push_zero words id ∙ sym (get_or-bits_of words id)
 
@@ -92,7 +94,7 @@ HoldsAllBelow-hold entries id within first k below =
     (λ (apart : k ≢ id). rw (get_or-set_other entries id k true false apart) (least_lower entries k (omega arith)))
     (cases_eq k id)
 
--- an entry that is free once another is held was free before, and isn't that one
+-- an entry that is free after one becomes held was free before, and is another
 pub was_free : (entries : List Bool) (id k : ℕ) → id < length entries → is_held (set entries id true) k ≡ false → (k ≢ id) × (is_held entries k ≡ false)
 was_free entries id k within free =
     let apart : k ≢ id = λ same. both_ways (is_held (set entries id true) k) free (rw same (get_or-set_same entries id true false within)) in

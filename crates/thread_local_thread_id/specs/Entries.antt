@@ -1,14 +1,16 @@
+-- How contracts see a manager of ids, and what always holds of its fields.
 use Rattle.std.specs.Prelude.{◌≡◌, ℕ, ◌-◌, ◌*◌, ◌^◌, ◌<◌, ◌≤◌, min, false, length, take}
 use Rattle.thread_local_model.specs.Held.{Manager, is_held, HoldsAllBelow}
 use Rattle.thread_local_bits.specs.Bits.{bits_of}
 use Rattle.thread_local_thread_id.specs.declared.manager.ThreadIdManager.TheInside.{Inside}
 
--- the bits below the peak are the held ids, and the room is the number of bits, or that of ids where it is less
+-- the bits below the peak are the held ids, and the room is the number of bits, or that of all ids
+-- where that is less
 abbrev pub manager_of : Inside → Manager
 manager_of m = record { held = take m.peak (bits_of m.words.items); room = min (length m.words.items * 64) (2 ^ 63 - 1) }
 
--- no bit from the peak on is set, the mark is the lowest bit that isn't, the ids below the peak that aren't held lie before the end, and no
--- more words stand than all ids need
+-- no bit from the peak on is set, the mark is the lowest unset bit, each free id below the peak is
+-- less than the end, and there are no more words than all ids need
 pub record IsManager (m : Inside) : Type 0 where
   pub words : length m.words.items ≤ 2 ^ 57
   pub peak : m.peak ≤ length m.words.items * 64

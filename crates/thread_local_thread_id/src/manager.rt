@@ -1,3 +1,4 @@
+//! The manager of a table's ids: it gives out the least id that isn't held, and takes ids back.
 ghost use Rattle.std.specs.Prelude.{◌≡◌, ℕ, ◌+◌, ◌-◌, ◌*◌, ◌^◌, ◌<◌, ◌≤◌, ◌==◌, min, Bool, true, false, [], length, IsTrue, IsOk, OnOk, OnErr, IfOk, if◌then◌else◌};
 ghost use Rattle.std.specs.Prelude.{alloc_error};
 ghost use Rattle.thread_local_bits.specs.Bits.{IsNextUnset};
@@ -9,10 +10,10 @@ use std::marker::Model;
 /// How many ids there are: 0 to 2^63 - 2.
 pub const IDS: usize = (1 << 63) - 1;
 
-/// Why no id could be had.
+/// Why a call obtained no id.
 #[derive(Clone, Copy, Debug, PartialEq, Eq)]
 pub enum LocalError {
-    /// There was no memory for the return of a further id, or for what else the call takes memory for.
+    /// Out of memory, for the return of a further id or for anything else that the call allocates.
     Memory(AllocError),
     /// Every id is held.
     Exhausted,
@@ -20,11 +21,15 @@ pub enum LocalError {
 
 /// Gives out the least id that isn't held, and takes ids back.
 ///
-/// Contracts see the held ids, as a truth value for each id below the peak, and the room: the number of ids
-/// whose return needs no further memory. The peak is the greatest number of ids held at one moment.
+/// Contracts see the held ids, as a truth value for each id below the peak, and the room: the
+/// number of ids whose return needs no further memory. The peak is the greatest number of ids held
+/// at one moment.
 ///
-/// Unlike in the Rust crate it is public, one for each table, and the memory that an id's return needs is
-/// taken when the id is. No call waits.
+/// No call waits, and only `with_room` and `alloc` take memory.
+///
+/// Unlike in the Rust crate it is public, one for each table, and the memory that an id's return
+/// needs is taken with the id. In the Rust crate `alloc` returns the bare id, and there is no
+/// `with_room`, `is_held` or `clear`.
 #[derive(Drop)]
 pub struct ThreadIdManager {
     // A bit for each id, 64 to a word, the lowest first: it is set where the id is held.
@@ -32,7 +37,7 @@ pub struct ThreadIdManager {
     peak: usize,
     // The lowest bit that isn't set, and so the least id that isn't held.
     mark: usize,
-    // Each id below the peak that isn't held lies before this one.
+    // Each id below the peak that isn't held is less than this.
     end: usize,
 }
 
@@ -49,7 +54,7 @@ impl Model for ThreadIdManager {
 }
 
 impl ThreadIdManager {
-    /// A manager with no id held. It takes no memory.
+    /// A manager with no id held.
     pub fn new(alloc: Global) -> ThreadIdManager
         ensures held { result.held ≡ [] }
         ensures room { result.room ≡ 0 }
@@ -62,8 +67,8 @@ impl ThreadIdManager {
         }
     }
 
-    /// A manager with no id held, and room for so many, or for every id where that is less. It asks for memory once,
-    /// and for no ids not at all. `Err` is want of it. Rust's crate has no such call.
+    /// A manager with no id held, and room for `ids` ids, or for all ids where they are fewer. It
+    /// asks for memory once, and not at all where `ids` is 0. `Err` means out of memory.
     pub fn with_room(alloc: Global, ids: usize) -> Result<ThreadIdManager, AllocError>
         ensures held { IfOk result (λ manager. manager.held ≡ []) }
         ensures room { IfOk result (λ manager. min ids (2 ^ 63 - 1) ≤ manager.room) }
@@ -75,8 +80,10 @@ impl ThreadIdManager {
         Ok(manager)
     }
 
-    /// Takes the least id that isn't held. It asks for memory only where every id below the peak is held and
-    /// there is no room for one more: want of it is `Memory`. `Exhausted` means that all 2^63 - 1 ids are held. Rust's crate answers the bare id.
+    /// Takes the least id that isn't held. It asks for memory only where every id below the peak is
+    /// held and there is no room for one more.
+    ///
+    /// `Memory` means out of memory. `Exhausted` means that all 2^63 - 1 ids are held.
     pub fn alloc(&mut self) -> Result<usize, LocalError>
         ensures ok { IfOk result (λ id. Takes self.old self.new id) }
         ensures memory { result ≡ Err (LocalError.Memory alloc_error) → NeedsMemory self.old }
@@ -97,7 +104,7 @@ impl ThreadIdManager {
         self.mark
     }
 
-    /// Makes room for the return of the id, where there is none. It takes memory then.
+    /// Makes room for the return of the id, where there is none.
     fn make_room(&mut self, id: usize) -> Result<(), LocalError>
         requires { id ≡ least self.old.held }
         ensures held { self.new.held ≡ self.old.held }
@@ -120,7 +127,7 @@ impl ThreadIdManager {
         Ok(())
     }
 
-    /// Marks the id as held. It takes no memory.
+    /// Marks the id as held.
     fn hold(&mut self, id: usize)
         requires least { id ≡ least self.old.held }
         requires room { id < self.old.room }
@@ -131,17 +138,20 @@ impl ThreadIdManager {
     {
         self.words[id / 64] |= 1 << (id % 64);
         if id == self.peak {
+            // Every id below the peak was held.
             self.peak += 1;
             self.mark = self.peak;
         } else if self.end <= id + 1 {
+            // It was the last free id below the peak.
             self.mark = self.peak;
             self.end = 0;
         } else {
+            // Another free id below the peak comes later.
             self.mark = next_unset(&self.words, id / 64);
         }
     }
 
-    /// Whether an id is held. It takes no memory. Rust's crate has no such call.
+    /// Whether an id is held. `id` may be any number.
     pub fn is_held(&self, id: usize) -> bool
         ensures held { result ≡ is_held self.now.held id }
         ensures peak_in_room { length self.now.held ≤ self.now.room }
@@ -153,7 +163,7 @@ impl ThreadIdManager {
         }
     }
 
-    /// Takes an id back. The caller shows that it is held. It takes no memory.
+    /// Takes back an id, which the caller shows to be held.
     pub fn free(&mut self, id: usize)
         requires { IsTrue (is_held self.old.held id) }
         ensures { Gives self.old self.new id }
@@ -163,7 +173,7 @@ impl ThreadIdManager {
         self.end = self.end.max(id + 1);
     }
 
-    /// Takes every id back, and counts the peak anew. The room stays. It takes no memory. Rust's crate has no such call.
+    /// Takes every id back. The peak starts again from 0, and the room stays.
     pub fn clear(&mut self)
         ensures held { self.new.held ≡ [] }
         ensures room { self.new.room ≡ self.old.room }
@@ -175,7 +185,7 @@ impl ThreadIdManager {
     }
 }
 
-/// The lowest bit that isn't set, from a word on. Behind the words no bit is set.
+/// The lowest bit that isn't set, from word `from` on. Past the last word no bit is set.
 fn next_unset(words: &[u64], from: usize) -> usize
     requires within { from ≤ length words.now }
     requires few { length words.now ≤ 2 ^ 57 }

@@ -1,10 +1,12 @@
+//! The place of an id in a table: its bucket, from 0 to 62, and its index in the bucket.
 ghost use Rattle.std.specs.Prelude.{◌≡◌, ◌-◌, ◌^◌, ◌<◌};
 ghost use Rattle.thread_local_model.specs.Place.{bucket_of, index_of, id_at};
 
 /// How many buckets a table has.
 pub const BUCKETS: usize = 63;
 
-/// How many slots a bucket has. A table's buckets are those below 63.
+/// How many slots a bucket has. A table's buckets are 0 to 62, which have `bucket_size(63) - 1`
+/// slots together.
 pub fn bucket_size(bucket: usize) -> usize
     requires { bucket < 64 }
     ensures { result ≡ 2 ^ bucket }
@@ -12,9 +14,11 @@ pub fn bucket_size(bucket: usize) -> usize
     1 << bucket
 }
 
-/// The place of an id in a table: its bucket, and its index in the bucket. It takes no memory and never waits.
+/// The place of an id in a table: its bucket, and its index in the bucket. No call waits or takes
+/// memory.
 ///
-/// Unlike in the Rust crate it is public, and says by its type that its fields are the place of an id.
+/// The name is the Rust crate's; no running thread is meant. Unlike there it is public, and
+/// `in_table` and `in_bucket` say that the fields are a place.
 #[derive(Clone, Copy)]
 pub struct Thread {
     /// The bucket, from 0 to 62.
@@ -26,7 +30,7 @@ pub struct Thread {
 }
 
 impl Thread {
-    /// The place of an id, by the highest set bit of the number after it.
+    /// The place of an id. Its bucket is the number of the highest set bit of `id + 1`.
     pub fn new(id: usize) -> Thread
         requires { id < 2 ^ 63 - 1 }
         ensures bucket { result.bucket ≡ bucket_of id }
@@ -39,7 +43,7 @@ impl Thread {
         }
     }
 
-    /// The id of the place: `new` gives the place back.
+    /// The id at the place. `new` of it is the place.
     pub fn id(&self) -> usize
         ensures value { result ≡ id_at self.now.bucket self.now.index }
         ensures in_range { result < 2 ^ 63 - 1 }

@@ -1,3 +1,4 @@
+-- The state of a run of moves after each move, and where a run stops.
 use Rattle.std.proofs.Common.{◌≡◌, ℕ, ◌+◌, ◌-◌, ◌^◌, ◌<◌, zero, suc, false, Some, slice_get, subst, Bool, List, [], ◌∷◌, ◌++◌, length, get_or, take, drop, refl, ap, sym, ◌∙◌, add-one, append_assoc}
 use Rattle.std.proofs.lemmas.List.{take_more}
 use Rattle.std.proofs.lemmas.Option.{slice_get-get_or}
@@ -7,7 +8,7 @@ use Rattle.thread_local_tls.specs.Moves.{after, held_after, ids_given, MayMove, 
 use Rattle.thread_local_tls.specs.declared.moves.Move.{Move}
 use Rattle.thread_local_tls.specs.declared.moves.Move.TheVariants.{Take, Give}
 
--- the ids that one move gives
+-- the ids that one move takes
 abbrev pub given : List Bool → Move → List ℕ
 given held move = ids_given held (move ∷ [])
 
@@ -23,13 +24,14 @@ MayRun-push : (held : List Bool) (moves : List Move) (move : Move) → MayRun he
 MayRun-push held [] move may next = (next, tt)
 MayRun-push held (m ∷ moves) move may next = (may.0, MayRun-push (after held m) moves move may.1 next)
 
--- the first n moves were run: these ids are held, and the ids so far with those to come are those of all
+-- the first n moves have run: these ids are held, and the ids so far and those to come are the ids
+-- of all moves
 pub record IsRunTo (moves : List Move) (n : ℕ) (held : List Bool) (ids : List ℕ) : Type 0 where
   pub held_is : held ≡ held_after [] (take n moves)
   pub ids_are : ids ++ ids_given held (drop n moves) ≡ ids_given [] moves
   pub may : MayRun [] (take n moves)
 
--- one move more
+-- the state after one move more
 pub IsRunTo-more : (moves : List Move) (n : ℕ) (d move : Move) (held new : List Bool) (ids more : List ℕ) → n < length moves → get_or moves n d ≡ move
     → IsRunTo moves n held ids → MayMove held move → new ≡ after held move → more ≡ ids ++ given held move → IsRunTo moves (n + 1) new more
 IsRunTo-more moves n d move held new ids more below at run may new_is more_is =
@@ -41,7 +43,7 @@ IsRunTo-more moves n d move held new ids more below at run may new_is more_is =
       may = rw front (MayRun-push [] (take n moves) move run.may (rw (← run.held_is) may));
     }
 
--- the moves that were run end at a give of an id that isn't held
+-- the run stops at a give of an id that isn't held
 pub stops_at_give : (moves : List Move) (n id : ℕ) (d : Move) (held : List Bool) (ids : List ℕ) → n < length moves → get_or moves n d ≡ Give id
     → IsRunTo moves n held ids → is_held held id ≡ false → GivesWhatIsNotHeld moves
 stops_at_give moves n id d held ids below at run free = record {
@@ -52,7 +54,7 @@ stops_at_give moves n id d held ids below at run free = record {
   is_free = rw (← run.held_is) free;
 }
 
--- the moves that were run end at a take where every id is held
+-- the run stops at a take where every id is held
 pub stops_at_take : (moves : List Move) (n : ℕ) (d : Move) (held : List Bool) (ids : List ℕ) → n < length moves → get_or moves n d ≡ Take
     → IsRunTo moves n held ids → HoldsAllBelow (2 ^ 63 - 1) held → RunsOutOfIds moves
 stops_at_take moves n d held ids below at run full = record {
@@ -65,12 +67,12 @@ stops_at_take moves n d held ids below at run full = record {
 some_same : {X : Type 0} {x y : X} → Some x ≡ Some y → x ≡ y
 some_same e = cc
 
--- where the moves before it may be run, one that gives back an id that isn't held may not
+-- from these held ids, the moves may not run if one gives back an id that isn't held
 stuck : (held : List Bool) (moves : List Move) (n id : ℕ) → slice_get moves n ≡ Some (Give id) → is_held (held_after held (take n moves)) id ≡ false → MayRun held moves → ⊥
 stuck held [] n id at free may = cc
 stuck held (move ∷ moves) zero id at free may = let may_move = subst (MayMove held) (some_same at) may.0 in cc
 stuck held (move ∷ moves) (suc n) id at free may = stuck (after held move) moves n id at free may.1
 
--- moves of which one gives back an id that isn't held can't be run
+-- a list of moves that gives back an id that isn't held may not run
 pub may_not_run : (moves : List Move) → GivesWhatIsNotHeld moves → MayRun [] moves → ⊥
 may_not_run moves stops may = stuck [] moves stops.number stops.id stops.gives stops.is_free may

@@ -1,3 +1,4 @@
+-- A word that `parse` reads is the number that it spells, and moves are read one after another.
 use Rattle.std.proofs.Common.{◌≡◌, ℕ, ◌^◌, ◌<◌, ◌++◌, true, false, List, [], ◌∷◌, length, nat_lt, refl, ap, sym, ◌∙◌, arith, Result, Ok, Err, Option, Some, None, codes, bytes_eq, option_map, option_and_then, append_assoc, ⊎_elim, lt-ltb, le-ltb}
 use Rattle.std.proofs.lemmas.Bool.{and_parts, and_from, and_right, cond-true, cond-false, cases_lt}
 use Rattle.std.proofs.lemmas.Bool.Decides.{nat_tests}
@@ -30,7 +31,7 @@ tells_digits = record {
 too_large : (value : ℕ) → (value < 2 ^ 64 → ⊥) → nat_lt value (2 ^ 64) ≡ false
 too_large value h = ⊎_elim (λ small. absurd (h small)) (λ large. le-ltb value (2 ^ 64) large) (cases_lt value (2 ^ 64))
 
--- what `parse` gives where all are digits
+-- what `parse` answers where all bytes are digits
 number_is : {E : Type 0} (word : List ℕ) (r : Result ℕ E) → 0 < length word → AreDigits word
     → OkIff r ((0 < length word) × (digits_value 10 word < 2 ^ 64)) (digits_value 10 word) → result_ok r ≡ number_of word
 number_is word (Ok x) some digits p =
@@ -42,7 +43,7 @@ number_is word (Err e) some digits p =
 pub parsed_number : {E : Type 0} (word : List ℕ) (r : Result ℕ E) → ParsesUnsigned 64 10 word r → 0 < length word → AreDigits word → result_ok r ≡ number_of word
 parsed_number word r parsed some digits = number_is word r some digits (parse_digits (numerals_by_value AreDigits tells_digits) 64 word r parsed digits)
 
--- these moves, and then those
+-- these moves in front of others
 abbrev pub moves_then : List Move → Option (List Move) → Option (List Move)
 moves_then front moves = option_map (λ rest. front ++ rest) moves
 
@@ -83,7 +84,7 @@ pub moves_of-give_other : (word next : List ℕ) (words : List (List ℕ)) → b
 moves_of-give_other word next words not_take is number =
     moves_of-give word next words not_take is ∙ ap (λ o. option_and_then (λ k. move_then (Give k) (moves_of words)) o) number
 
--- a list with no element
+-- a list of length 0 is empty
 pub nothing_left : {X : Type 0} (xs : List X) → length xs ≡ 0 → xs ≡ []
 nothing_left [] e = refl
 nothing_left (x ∷ xs) e = absurd (omega arith)

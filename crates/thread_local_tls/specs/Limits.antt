@@ -1,3 +1,4 @@
+-- The limits of a tally.
 use Rattle.std.specs.Prelude.{ℕ, ◌≤◌, ◌&&◌, nat_le, Option, Some, None, if◌then◌else◌}
 
 -- how many workers a tally may have, and up to which number it may add
@@ -7,7 +8,7 @@ most_workers = 64
 abbrev pub most_numbers : ℕ
 most_numbers = 1000000
 
--- a tally may have so many workers, of whom there is at least one, and add so many numbers
+-- a tally may have this many workers, at least one, and add this many numbers
 pub record IsWithinLimits (workers numbers : ℕ) : Type 0 where
   pub has_worker : 1 ≤ workers
   pub few_workers : workers ≤ most_workers

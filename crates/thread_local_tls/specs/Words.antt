@@ -1,3 +1,4 @@
+-- What the words of a command line spell: moves, a tally, or neither.
 use Rattle.std.specs.Prelude.{◌≡◌, ℕ, ◌^◌, ◌&&◌, ◌++◌, List, [], ◌∷◌, length, nat_lt, map, flat_map, Option, Some, None, option_map, option_and_then, MatchOption, if◌then◌else◌, codes, bytes_eq, decimal, String, string_bytes}
 use Rattle.std.specs.Char.{is_ascii_digit}
 use Rattle.std.specs.List.{list_all}
@@ -12,14 +13,14 @@ use Rattle.thread_local_tls.specs.declared.moves.Move.TheVariants.{Take, Give}
 abbrev pub texts : List (String Global) → List (List ℕ)
 texts words = map string_bytes words
 
--- one or more digits, with a value below 2^64
+-- the number that a word spells: one or more digits, with a value below 2^64
 abbrev pub number_of : List ℕ → Option ℕ
 number_of word =
     if nat_lt 0 (length word) && list_all is_ascii_digit word && nat_lt (digits_value 10 word) (2 ^ 64)
     then Some (digits_value 10 word)
     else None
 
--- a move, and then these
+-- a move in front of others
 abbrev pub move_then : Move → Option (List Move) → Option (List Move)
 move_then move moves = option_map (λ rest. move ∷ rest) moves
 
@@ -45,13 +46,13 @@ tally_of (command ∷ workers ∷ numbers ∷ []) =
     if bytes_eq command (codes "tally") then option_and_then (λ w. option_and_then (λ n. limited w n) (number_of numbers)) (number_of workers) else None
 tally_of (command ∷ workers ∷ numbers ∷ more ∷ words) = None
 
--- the words spell moves that may be run
+-- the words spell moves that may run
 pub record IsRunnable (words : List (List ℕ)) : Type 0 where
   pub moves : List Move
   pub spelled : moves_named words ≡ Some moves
   pub may_run : MayRun [] moves
 
--- the words spell what may be run: a tally within the limits, or else such moves
+-- the words spell what may run: a tally within the limits, or moves that may run
 abbrev pub MayBeRun : List (List ℕ) → Type 0
 MayBeRun words = MatchOption (tally_of words) (IsRunnable words) (λ tally. Unit {0})
 
@@ -59,7 +60,7 @@ MayBeRun words = MatchOption (tally_of words) (IsRunnable words) (λ tally. Unit
 abbrev pub MayNotRun : List (List ℕ) → Type 0
 MayNotRun words = MatchOption (moves_named words) (Unit {0}) (λ moves. ¬ MayRun [] moves)
 
--- the words spell no moves that may be run, and no tally within the limits
+-- the words spell no moves that may run, and no tally within the limits
 abbrev pub IsMisuse : List (List ℕ) → Type 0
 IsMisuse words = MayNotRun words × (tally_of words ≡ None)
 

@@ -1,3 +1,4 @@
+//! Runs a command: reads the words, runs it, then writes its output, or the line of its fault.
 ghost use Rattle.std.specs.Prelude.{◌≡◌, ◌≤◌, None, Some, OnOk, IfErr, IsErrOf};
 ghost use Rattle.std.specs.Io.KnownBytes.{Appends, Keeps};
 ghost use Rattle.thread_local_tls.specs.Words.{texts, tally_of, lines_of, MayNotRun, IsMisuse, IsRunnable, MayBeRun};
@@ -11,11 +12,14 @@ use std::alloc::Global;
 use std::io::Write;
 use thread_local_thread_id::LocalError;
 
-/// Runs the command that the words name, and answers the status that the program ends with: 0 where it is done, 1 where memory, ids or a write was
-/// refused, 2 where the words are no command. A fault that can't be written to `err` keeps its status. The output goes
-/// to `out`, after all words were read and the command was run, and the line of a fault to `err`. That `out` gets these bytes and nothing
-/// else is said of a writer whose bytes a contract can name. It takes memory for the moves and for the ids. What adds up for a tally is handed in,
-/// and called where the words spell one within the limits: the call waits where that does.
+/// Runs the command that the words name, and answers the program's status: 0 if it is done, 1 if
+/// memory, ids or a write was refused, 2 if the words are no command. The output goes to `out`,
+/// after the command has run, and the line of a fault to `err`; the status stays where that line
+/// can't be written. That `out` gets these bytes and no others is proved for writers whose bytes a
+/// contract can name.
+///
+/// `tally` adds the numbers up. It is called where the words spell a tally within the limits, and
+/// the call waits where it does. `run` takes memory for the moves and the ids.
 pub fn run<T: FnOnce(usize, u64) -> Result<u64, LocalError> + Drop, O: Write, E: Write>(
     alloc: Global,
     words: &[String],
@@ -23,9 +27,13 @@ pub fn run<T: FnOnce(usize, u64) -> Result<u64, LocalError> + Drop, O: Write, E:
     out: &mut O,
     err: &mut E,
 ) -> u8
-    requires tally { (workers numbers : _) → tally_of (texts words.now) ≡ Some (workers, numbers) → IsWithinLimits workers numbers → T.pre tally workers numbers }
+    requires tally { (workers numbers : _)
+        → tally_of (texts words.now) ≡ Some (workers, numbers)
+        → IsWithinLimits workers numbers
+        → T.pre tally workers numbers }
     ensures status { result ≤ 2 }
-    ensures done { result ≡ 0 → Answers (T.post tally) (texts words.now) (O.contents out.old) (O.contents out.new) }
+    ensures done { result ≡ 0
+        → Answers (T.post tally) (texts words.now) (O.contents out.old) (O.contents out.new) }
     ensures misuse { result ≡ 2 → IsMisuse (texts words.now) × Keeps (O.contents out.old) (O.contents out.new) }
     ensures hindered { result ≡ 1 → IsHindered (texts words.now) (O.contents out.old) (O.contents out.new) }
 {
@@ -42,9 +50,14 @@ fn answer<T: FnOnce(usize, u64) -> Result<u64, LocalError> + Drop, O: Write>(
     tally: T,
     out: &mut O,
 ) -> Result<(), Fault>
-    requires tally { (workers numbers : _) → tally_of (texts words.now) ≡ Some (workers, numbers) → IsWithinLimits workers numbers → T.pre tally workers numbers }
-    ensures done { OnOk result (Answers (T.post tally) (texts words.now) (O.contents out.old) (O.contents out.new)) }
-    ensures misuse { IsErrOf result Fault.Usage → IsMisuse (texts words.now) × Keeps (O.contents out.old) (O.contents out.new) }
+    requires tally { (workers numbers : _)
+        → tally_of (texts words.now) ≡ Some (workers, numbers)
+        → IsWithinLimits workers numbers
+        → T.pre tally workers numbers }
+    ensures done { OnOk result
+        (Answers (T.post tally) (texts words.now) (O.contents out.old) (O.contents out.new)) }
+    ensures misuse { IsErrOf result Fault.Usage
+        → IsMisuse (texts words.now) × Keeps (O.contents out.old) (O.contents out.new) }
     ensures memory { IsErrOf result Fault.Memory → Keeps (O.contents out.old) (O.contents out.new) }
     ensures write { IsErrOf result Fault.Write → MayBeRun (texts words.now) }
 {
@@ -54,7 +67,7 @@ fn answer<T: FnOnce(usize, u64) -> Result<u64, LocalError> + Drop, O: Write>(
     }
 }
 
-/// Has the numbers added up, and writes the total.
+/// Calls `tally`, and writes the total.
 fn answer_tally<T: FnOnce(usize, u64) -> Result<u64, LocalError> + Drop, O: Write>(
     workers: usize,
     numbers: u64,
@@ -62,7 +75,9 @@ fn answer_tally<T: FnOnce(usize, u64) -> Result<u64, LocalError> + Drop, O: Writ
     out: &mut O,
 ) -> Result<(), Fault>
     requires { T.pre tally workers numbers }
-    ensures done { OnOk result (IsToldAndWritten (T.post tally workers numbers) (O.contents out.old) (O.contents out.new)) }
+    ensures done { OnOk result
+        (IsToldAndWritten (T.post tally workers numbers) (O.contents out.old)
+        (O.contents out.new)) }
     ensures no_misuse { IsErrOf result Fault.Usage → ⊥ }
     ensures memory { IsErrOf result Fault.Memory → Keeps (O.contents out.old) (O.contents out.new) }
 {
@@ -73,7 +88,8 @@ fn answer_tally<T: FnOnce(usize, u64) -> Result<u64, LocalError> + Drop, O: Writ
 /// Runs the moves that the words spell, and writes the ids. It takes memory for both.
 fn answer_ids<O: Write>(alloc: Global, words: &[String], out: &mut O) -> Result<(), Fault>
     ensures done { OnOk result (AnswersIds (texts words.now) (O.contents out.old) (O.contents out.new)) }
-    ensures misuse { IsErrOf result Fault.Usage → MayNotRun (texts words.now) × Keeps (O.contents out.old) (O.contents out.new) }
+    ensures misuse { IsErrOf result Fault.Usage
+        → MayNotRun (texts words.now) × Keeps (O.contents out.old) (O.contents out.new) }
     ensures memory { IsErrOf result Fault.Memory → Keeps (O.contents out.old) (O.contents out.new) }
     ensures write { IsErrOf result Fault.Write → IsRunnable (texts words.now) }
 {

@@ -1,3 +1,5 @@
+//! Why the program fails: wrong arguments, out of memory or ids, or a failed write; each has its
+//! status and its line.
 use crate::moves::IdsError;
 use std::alloc::{AllocError, AllocFailed};
 use std::fmt;
@@ -9,7 +11,7 @@ use thread_local_thread_id::LocalError;
 pub enum Fault {
     /// The arguments are wrong.
     Usage,
-    /// There was no memory, or no further id.
+    /// Out of memory, or all ids are held.
     Memory,
     /// Standard output could not be written.
     Write,
@@ -29,7 +31,8 @@ impl Fault {
         }
     }
 
-    /// Writes the fault's line to `err`, and answers its status, also where the line could not be written.
+    /// Writes the fault's line to `err`, and answers its status, also where the line could not be
+    /// written.
     pub fn report<E: Write>(self, err: &mut E) -> u8
         ensures { result ≡ status_of self }
     {

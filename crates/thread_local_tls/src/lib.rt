@@ -1,4 +1,4 @@
-//! What the program `tls` does, over any writers.
+//! The commands of the program `tls`, which write to any writer.
 #![tactic(auto)]
 
 mod arguments;

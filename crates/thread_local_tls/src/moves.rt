@@ -1,3 +1,4 @@
+//! The moves of `tls ids`, which take an id or give one back, and how they run.
 ghost use Rattle.std.specs.Prelude.{◌≡◌, [], IfOk, IsErrOf};
 ghost use Rattle.thread_local_tls.specs.Moves.{ids_given, MayRun, GivesWhatIsNotHeld, RunsOutOfIds};
 
@@ -16,7 +17,7 @@ pub enum Move {
 /// Why a list of moves was not run to its end.
 #[derive(Clone, Copy)]
 pub enum IdsError {
-    /// An id could not be had, or there was no memory for the answer.
+    /// No id was left, or out of memory, for the ids or the answer.
     Local(LocalError),
     /// An id was given back that isn't held.
     NotHeld,
@@ -33,8 +34,8 @@ impl From<LocalError> for IdsError {
     }
 }
 
-/// Runs the moves in order from no id held, and answers the ids that were taken. It never waits, and takes
-/// memory for the manager and for the answer: want of it is answered as `Local(Memory(..))`.
+/// Runs the moves in order, at first with no id held, and answers the ids that were taken. It never
+/// waits. It takes memory for the manager and the answer: `Local(Memory(..))` means out of memory.
 pub fn ids(alloc: Global, moves: &[Move]) -> Result<Vec<usize>, IdsError>
     ensures ok { IfOk result (λ ids. (ids.items ≡ ids_given [] moves.now) × MayRun [] moves.now) }
     ensures not_held { IsErrOf result IdsError.NotHeld → GivesWhatIsNotHeld moves.now }

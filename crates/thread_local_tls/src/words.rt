@@ -1,3 +1,5 @@
+//! Reads the words of a command line: the moves of `ids`, or the workers and numbers of `tally`.
+//! Only the moves take memory.
 ghost use Rattle.std.specs.Prelude.{◌≡◌, ◌<◌, length, None, Some, IsNone, IfSome, IfOk, IsErrOf};
 ghost use Rattle.std.specs.Char.{is_ascii_digit};
 ghost use Rattle.std.specs.List.{list_all};
@@ -40,10 +42,11 @@ fn moves(alloc: Global, words: &[String]) -> Result<Vec<Move>, Fault>
     Ok(moves)
 }
 
-/// The first move that the words spell, and the words after it. It takes no memory.
+/// The first move that the words spell, and the words after it.
 fn first_move(words: &[String]) -> Option<(Move, &[String])>
     ensures none { IsNone result → 0 < length words.now → moves_of (texts words.now) ≡ None }
-    ensures some { IfSome result (λ first. moves_of (texts words.now) ≡ move_then first.0 (moves_of (texts first.1.now))) }
+    ensures some { IfSome result (λ first.
+        moves_of (texts words.now) ≡ move_then first.0 (moves_of (texts first.1.now))) }
     ensures shorter { IfSome result (λ first. length first.1.now < length words.now) }
 {
     let (word, after) = words.split_first()?;
@@ -58,8 +61,8 @@ fn first_move(words: &[String]) -> Option<(Move, &[String])>
     None
 }
 
-/// The workers and the numbers of a command line of `tally`, without the program's name: None where it is no tally, or one that isn't within
-/// the limits. It takes no memory.
+/// The workers and the numbers of a command line of `tally`, without the program's name. None means
+/// that it is no tally, or one beyond the limits.
 pub fn tally_of(words: &[String]) -> Option<(usize, u64)>
     ensures value { result ≡ tally_of (texts words.now) }
     ensures limits { IfSome result (λ tally. IsWithinLimits tally.0 tally.1) }
@@ -87,7 +90,8 @@ fn limited(workers: usize, numbers: u64) -> Option<(usize, u64)>
     }
 }
 
-/// A number: one or more ASCII digits with a value below 2^64. Leading zeros are allowed, signs aren't.
+/// A number: one or more ASCII digits with a value below 2^64. Leading zeros are allowed, signs
+/// aren't.
 fn number(word: &str) -> Option<usize>
     ensures { result ≡ number_of word.now }
 {

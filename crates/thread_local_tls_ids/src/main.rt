@@ -1,4 +1,5 @@
-//! The program `tls` without workers, for `tls ids`: it stands on no table, so it is proved and built in two minutes. It knows no `tally`.
+//! The program `tls` with the command `ids` alone: it uses no table, so it is proved and built in
+//! two minutes. `tally` is a wrong argument here.
 #![tactic(auto)]
 
 use std::process::ExitCode;

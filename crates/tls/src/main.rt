@@ -1,4 +1,5 @@
-//! The program `tls`, with both commands: hands its arguments, its streams and its workers over.
+//! The program `tls`, with both commands: it passes on its arguments, its streams and the tally of
+//! `thread_local_tally`.
 #![tactic(auto)]
 
 ghost use Rattle.thread_local_tls.specs.Limits.{IsWithinLimits};

@@ -1,4 +1,5 @@
-//! How a buffer lends its bytes, apart from the file that declares it, since this clause names its row.
+//! How a buffer lends its bytes. A file of its own, since the clause imports the `the_row` that is
+//! generated from the file that declares the type.
 ghost use Rattle.std.specs.Prelude.{◌≡◌, []};
 ghost use types.Logic.{sem};
 ghost use denote.Follow.{follows};
@@ -10,9 +11,11 @@ use super::Buffer;
 use std::sync::Wait;
 
 impl<'a, R: Wait> Buffer<'a, R> {
-    /// The bytes, for writing: what is left in them is what the buffer has afterwards. It never waits, and takes no memory.
+    /// The bytes, for writing: the buffer keeps what is left in them.
     pub fn bytes_mut(&mut self) -> &mut Vec<u8>
-        ensures* writes_back { sem 𝓛 (follows (the_row (record { mir = named 1; lft = [] }) R.row) bytes_row self.entry.ghost_name result.ghost_name (λ left. left.items)) }
+        ensures* writes_back { sem 𝓛
+            (follows (the_row (record { mir = named 1; lft = [] }) R.row) bytes_row
+            self.entry.ghost_name result.ghost_name (λ left. left.items)) }
         ensures bytes { result.now.items ≡ self.old }
     {
         &mut self.bytes

@@ -1,23 +1,23 @@
-//! How buckets lend their words to a walk that writes.
+//! How an owner's buckets lend their pointers to a walk that hands out `&mut` to the values.
 ghost use Rattle.std.specs.Prelude.{◌≡◌};
 ghost use types.Logic.{sem};
 ghost use Rattle.thread_local_buckets.specs.LendingValues.{LendsValues};
 
 use super::Buckets;
 use std::marker::PhantomData;
-use thread_local_chunks::Chunk;
+use thread_local_blocks::Chunk;
 use thread_local_loan::Loan;
 
 impl<T> Buckets<T> {
-    /// The words, lent for as long as the buckets are. It takes no memory.
+    /// Lends the pointers for as long as the buckets are borrowed.
     pub(super) fn lend(&mut self) -> Loan<'_, T>
         ensures* writes_back { sem 𝓛 (LendsValues T.row self.entry result.name) }
         ensures contents { result.contents ≡ self.old.contents }
         ensures given { result.given ≡ 0 }
     {
-        let words = &raw mut self.words;
+        let pointers = &raw mut self.pointers;
         Loan {
-            words: words as *const *mut Chunk<T>,
+            pointers: pointers as *const *mut Chunk<T>,
             marker: PhantomData,
         }
     }

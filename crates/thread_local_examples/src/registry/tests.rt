@@ -1,3 +1,4 @@
+//! A reader walks while threads append, and the owner drains the lists by ascending id.
 use super::*;
 use std::test::Fail;
 use std::thread;

@@ -2,7 +2,7 @@
 ghost use Rattle.std.specs.Prelude.{◌≡◌, ℕ, IfOk, IsSome, is_some};
 ghost use Rattle.thread_local_model.specs.Buckets.{values};
 ghost use Rattle.thread_local_model.specs.Rows.{value_in};
-ghost use Rattle.thread_local_contents.specs.Owner.{with_published};
+ghost use Rattle.thread_local_owner_walk.specs.Owner.{with_published};
 
 use std::alloc::Global;
 use std::cell::Cell;
@@ -44,7 +44,8 @@ fn write_at(buckets: &mut Buckets<u32>, thread: Thread, value: u32)
 
 /// Writes every value of a map: the same ids have a value, and as many slots are reserved.
 fn write_all(buckets: &mut Buckets<u32>, value: u32)
-    ensures published { (id : ℕ) → is_some (values buckets.new.contents id) ≡ is_some (values buckets.old.contents id) }
+    ensures published { (id : ℕ)
+        → is_some (values buckets.new.contents id) ≡ is_some (values buckets.old.contents id) }
     ensures reserved { buckets.new.reserved ≡ buckets.old.reserved }
 {
     for there in buckets.iter_mut() {
@@ -54,7 +55,8 @@ fn write_all(buckets: &mut Buckets<u32>, value: u32)
 
 /// Writes the value that a walk gives first.
 fn write_first(buckets: &mut Buckets<u32>, value: u32)
-    ensures published { (id : ℕ) → is_some (values buckets.new.contents id) ≡ is_some (values buckets.old.contents id) }
+    ensures published { (id : ℕ)
+        → is_some (values buckets.new.contents id) ≡ is_some (values buckets.old.contents id) }
 {
     if let Some(there) = buckets.iter_mut().next() {
         *there = value;

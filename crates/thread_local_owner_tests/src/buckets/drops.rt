@@ -133,7 +133,8 @@ fn a_forgotten_walk_drops_nothing(rt: HostRuntime) -> Result<(), Fail> {
     Ok(())
 }
 
-/// A value without bytes. Each drop writes one byte to a file, since there is no room for a counter.
+/// A value without bytes. Each drop writes one byte to a file, since there is no room for a
+/// counter.
 struct Noted<R: Files + Drop> {
     rt: R,
 }

@@ -75,8 +75,8 @@ fn one_value_is_written(rt: HostRuntime) -> Result<(), Fail> {
     Ok(())
 }
 
-/// Inserts a value and answers what stands at the id. Where memory is refused the value comes back and no bucket is new, and the same
-/// call succeeds; else the answer is `None`.
+/// Inserts a value and answers what stands at the id. Where memory is refused the value comes back
+/// and no bucket is new, and the same call succeeds; else the answer is `None`.
 fn put(rt: &impl Print, buckets: &mut Buckets<usize>, id: u32, value: usize) -> Option<usize> {
     let slots = buckets.slots();
     match buckets.insert(Thread::new(id as usize), value) {

@@ -1,4 +1,5 @@
-//! What the walks of an owner give, in which order, how many are still to come, and what they print.
+//! What the walks of an owner give, in which order, how many are still to come, and what they
+//! print.
 
 use super::insert;
 use std::alloc::{AllocError, Global};

@@ -1,4 +1,5 @@
-//! How the buckets are lent to an owner, apart from the file that declares them, since this clause names their row.
+//! Shared buckets are lent to an owner through a `&mut`. This is a file of its own, since the
+//! clause names `the_row` of `Shared`.
 ghost use Rattle.std.specs.Prelude.{◌≡◌};
 ghost use types.Logic.{sem};
 ghost use Rattle.std.specs.Borrow.{follows};
@@ -10,10 +11,13 @@ use super::Shared;
 use thread_local_buckets::Buckets;
 
 impl<T> Shared<T> {
-    /// The buckets, for an owner. What is due since they were shared is taken back first. It takes no memory. Of what the owner leaves, the
-    /// contract says how many slots are reserved, and no more.
+    /// The buckets, lent to an owner with all that was lent while they were shared. Once the loan
+    /// ends, they are shared buckets of the same table again. The contract says how many slots are
+    /// reserved by then, and nothing about the values.
     pub fn owner(&mut self) -> &mut Buckets<T>
-        ensures* writes_back { sem 𝓛 (follows (the_row T.row) (owner_row T.row) self.entry.ghost_name result.ghost_name (view_with self.old)) }
+        ensures* writes_back { sem 𝓛
+            (follows (the_row T.row) (owner_row T.row) self.entry.ghost_name result.ghost_name
+            (view_with self.old)) }
         ensures reserved { result.now.reserved ≡ self.old.reserved }
     {
         unsafe { &mut *(self as *mut Shared<T> as *mut Buckets<T>) }

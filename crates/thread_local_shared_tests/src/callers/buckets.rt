@@ -1,13 +1,15 @@
 //! Buckets are shared at concrete types.
-ghost use Rattle.std.specs.Prelude.{◌≡◌};
+ghost use Rattle.std.specs.Prelude.{◌≡◌, ◌^◌, ◌<◌};
 ghost use Rattle.thread_local_judged.specs.Judged.{Judged};
 
 use std::cell::{Cell, RefCell};
+use thread_local_blocks::flag_word;
 use thread_local_buckets::Buckets;
 use thread_local_judged::{Judge, judge_sync};
 use thread_local_rights::Rights;
+use thread_local_shared_bucket::{Row, SharedBucket};
 use thread_local_shared_buckets::Shared;
-use thread_local_shared_word::Row;
+use thread_local_thread_id::bucket_size;
 
 fn crosses<X: Send + Sync>(_there: &X) {}
 
@@ -81,4 +83,18 @@ fn anew<T>(shared: Shared<T>, rights: &Rights) -> Shared<T>
 {
     shared.judged();
     Shared::new(shared.into_buckets(), rights)
+}
+
+fn is_published(row: &Row<'_, String>, bucket: usize, index: usize) -> bool
+    requires bucket { row.now.of.bucket ≡ bucket }
+    requires in_table { bucket < 63 }
+    requires in_bucket { index < 2 ^ bucket }
+{
+    judge_sync::<String>();
+    row.get(index, flag_word::<String>(bucket_size(bucket), index / 64))
+        .is_some()
+}
+
+fn bucket_crosses(bucket: &SharedBucket<RefCell<String>>) {
+    crosses(bucket)
 }

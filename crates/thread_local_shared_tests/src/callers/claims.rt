@@ -1,12 +1,16 @@
 //! Claims at concrete types.
-ghost use Rattle.std.specs.Prelude.{◌≡◌, ◌≢◌, MatchOption};
+ghost use Rattle.std.specs.Prelude.{◌≡◌, ◌≢◌, ◌^◌, MatchOption};
+ghost use Rattle.thread_local_blocks.specs.Slots.{empty_slots};
 ghost use Rattle.thread_local_model.specs.Learnt.{Missing, Vacant, Holding};
-ghost use Rattle.thread_local_model.specs.Place.{bucket_of};
+ghost use Rattle.thread_local_model.specs.Place.{bucket_of, index_of};
 
+use std::alloc::Global;
 use std::cell::{Cell, RefCell};
+use thread_local_blocks::Block;
 use thread_local_claim::Claim;
 use thread_local_rights::HeldId;
-use thread_local_shared_word::{Private, SharedWord};
+use thread_local_shared_bucket::SharedBucket;
+use thread_local_thread_id::Thread;
 
 /// Publishes the value unless the slot holds one.
 fn offered<T: Send + Drop>(claim: &mut Claim<'_, T>, value: T)
@@ -22,7 +26,7 @@ fn offered<T: Send + Drop>(claim: &mut Claim<'_, T>, value: T)
 fn number(claim: Claim<'_, u32>) -> HeldId
     ensures { result.id ≡ claim.entry.id }
 {
-    claim.leave()
+    claim.give_up()
 }
 
 fn text(claim: &mut Claim<'_, String>, value: String)
@@ -52,17 +56,18 @@ fn ref_cell(claim: &mut Claim<'_, RefCell<String>>, value: RefCell<String>)
     offered(claim, value)
 }
 
-/// Comes and goes.
-fn visit<T: Send>(word: &SharedWord<T>, held: HeldId) -> HeldId
-    requires table { held.right.table ≡ word.now.table }
-    requires bucket { bucket_of held.id ≡ word.now.bucket }
+/// Looks, looks again where the bucket was missing, and gives the claim up.
+fn visit<T: Send>(bucket: &SharedBucket<T>, thread: Thread, held: HeldId) -> HeldId
+    requires table { held.right.table ≡ bucket.now.table }
+    requires place { (thread.bucket ≡ bucket_of held.id) × (thread.index ≡ index_of held.id) }
+    requires bucket { bucket.now.bucket ≡ thread.bucket }
     ensures { (result.right.table ≡ held.right.table) × (result.id ≡ held.id) }
 {
-    let mut claim = Claim::arrive(word, held);
+    let mut claim = Claim::look(bucket, thread, held);
     if claim.is_missing() {
-        claim.again();
+        claim.look_again();
     }
-    claim.leave()
+    claim.give_up()
 }
 
 /// What the look lent outlives the claim.
@@ -71,8 +76,8 @@ fn seen<'a, T: Send + Sync>(claim: Claim<'a, T>) -> (HeldId, Option<&'a T>)
     ensures id { result.0.id ≡ claim.entry.id }
     ensures value { MatchOption result.1 (claim.entry.learnt ≡ Vacant) (λ x. claim.entry.learnt ≡ Holding x.now) }
 {
-    let value = claim.look();
-    (claim.leave(), value)
+    let value = claim.lasting();
+    (claim.give_up(), value)
 }
 
 fn number_seen<'a>(claim: Claim<'a, u32>) -> (HeldId, Option<&'a u32>)
@@ -83,19 +88,21 @@ fn number_seen<'a>(claim: Claim<'a, u32>) -> (HeldId, Option<&'a u32>)
 }
 
 /// Installs the bucket that was missing, and publishes the value.
-fn settled<T: Send>(claim: &mut Claim<'_, T>, private: Private<T>, value: T)
+fn settled<T: Send>(claim: &mut Claim<'_, T>, block: Block<T, Global>, alloc: &Global, value: T)
     requires missing { claim.old.learnt ≡ Missing }
-    requires bucket { private.bucket ≡ bucket_of claim.old.id }
+    requires heap { (block.heap ≡ alloc.now) × (block.left ≡ 0) }
+    requires slots { block.slots ≡ empty_slots (2 ^ bucket_of claim.old.id) }
     ensures { claim.new.learnt ≡ Holding value }
 {
-    claim.install(private);
+    claim.install(block, alloc);
     claim.publish(value);
 }
 
-fn settled_number(claim: &mut Claim<'_, u32>, private: Private<u32>)
+fn settled_number(claim: &mut Claim<'_, u32>, block: Block<u32, Global>, alloc: &Global)
     requires missing { claim.old.learnt ≡ Missing }
-    requires bucket { private.bucket ≡ bucket_of claim.old.id }
+    requires heap { (block.heap ≡ alloc.now) × (block.left ≡ 0) }
+    requires slots { block.slots ≡ empty_slots (2 ^ bucket_of claim.old.id) }
     ensures { claim.new.learnt ≡ Holding 7 }
 {
-    settled(claim, private, 7)
+    settled(claim, block, alloc, 7)
 }

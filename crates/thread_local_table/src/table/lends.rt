@@ -1,4 +1,5 @@
-//! How a table lends its buckets to an owner, apart from the file that declares it, since this clause names its row.
+//! How a table lends its buckets to an owner. A file of its own, since the clause imports the
+//! `the_row` that is generated from the file that declares the type.
 ghost use Rattle.std.specs.Prelude.{◌≡◌};
 ghost use types.Logic.{sem};
 ghost use Rattle.std.specs.Borrow.{follows};
@@ -10,12 +11,14 @@ use super::ThreadLocal;
 use thread_local_buckets::Buckets;
 
 impl<T> ThreadLocal<T> {
-    /// The buckets, for somebody who has the table alone: their contracts say what is in them and what a call leaves. It never waits, and
-    /// takes no memory. Rust's crate has no such call.
+    /// The buckets, for the exclusive owner. Of what is in them the number of reserved slots is known,
+    /// and the calls of `Buckets` say what they find and what they change. Rust's crate has no such call.
     pub fn buckets_mut(&mut self) -> &mut Buckets<T>
-        ensures* writes_back { sem 𝓛 (follows (the_row T.row) (owner_row T.row) self.entry.ghost_name result.ghost_name (view_with self.old)) }
+        ensures* writes_back { sem 𝓛
+            (follows (the_row T.row) (owner_row T.row) self.entry.ghost_name result.ghost_name
+            (view_with self.old)) }
         ensures reserved { result.now.reserved ≡ self.old.reserved }
     {
-        self.core.owner()
+        self.buckets.owner()
     }
 }

@@ -1,4 +1,5 @@
--- `replace_with` keeps the borrow open while f runs, and shuts it at what f gave back. Assumes `Logic`.
+-- `replace_with` keeps the borrow open while `with` runs, and closes it at the value that `with`
+-- returns. Assumes `Logic`.
 use mathlib.Core.Path.{◌≡◌, refl, sym, subst, ap, ◌∙◌}
 use mathlib.Core.Bool.{Bool, true, false, ◌&&◌}
 use Prim.Native.Nat.{ℕ}
@@ -58,7 +59,7 @@ alone τ (v ∷ []) t = (v, (refl, t.0))
 alone τ (v ∷ w ∷ vs) t = absurd t.1
 
 module _ {M : Type 1} {𝓤 : Ura M} {𝓛 : Logic 𝓤} {K : Type 0} {Γ : List (Item 𝓤)} {G : Goal 𝓤 𝓛.H} where
-  -- what is owned of a parameter's value is one machine value
+  -- a parameter's value is one machine value
   tells : K → (i : ℕ) (Z : RattleType) → Laws Z → (a : Z.Denot) (vs : List Val)
       → ((v : Val) → vs ≡ v ∷ [] → T (has_ty (layout Z) v) × WT v → Seq K 𝓛 (‵ (Z.own_val a (v ∷ [])) ∷ Γ) G) → Seq K 𝓛 (‵ (Z.own_val a vs) ∷ Γ) G
   tells t i Z L a vs k =
@@ -135,7 +136,7 @@ module _ (Y X R Z : RattleType) (g : Called.Ghosts Y X R Z) (d d' : Dict) where
           await ! tt $ pick ! (λ r. split ! $ move ! (1 ∷ []) $ pick ! (λ ws. split ! $ drop ! $ heard ! (g.post f (h, (x, tt)) r) (λ gave.
           split ! $ move ! (1 ∷ []) $ fpick ! (λ vss. fsplit ! $ feq_l ! (λ e. fsplit3 ! $
           tells ! 0 Y LY r.0 vss.0 (λ v₁ e₁ g₁. move ! (1 ∷ []) $ tells ! 2 R LR r.1 vss.1.0 (λ v₂ e₂ g₂.
-          -- [the result; the new value; nothing; the tokens; the place; the open borrow]
+          -- [the result; the new value; nothing; the tokens; the memory; the open borrow]
           lands_as ! (ap only e ∙ (λ i. vstruct (of_list (e₁ i ++ (e₂ i ++ []))))) refl (both (has_ty (layout Y) v₁) (has_ty (layout R) v₂) g₁.0 g₂.0, (g₁.1, (g₂.1, tt))) $
           sets ! (of_opd ! (get_in ! (fld ! refl (stop !)) (sub ! 0 refl (whole !)))) refl g₁ $ sets ! (of_opd ! (get_in ! (fld ! refl (stop !)) (sub ! 1 refl (whole !)))) refl g₂ $
           sets ! (of_opd ! (get ! refl)) refl g₁ $ assigns ! (of_opd ! (get ! refl)) (through ! refl (stop !)) (store_raw ! 4 refl g₁) $ sets_last ! (of_opd ! (get ! refl)) refl g₂ $

@@ -5,7 +5,7 @@ pub returns-clause-empty : goal.returns-clause-empty
 returns-clause-empty g c = laws.slot_at-cleared
 
 pub returns-clause-stands : goal.returns-clause-stands
-returns-clause-stands g c = laws.stands-cleared
+returns-clause-stands g c = laws.bucket_stands-cleared
 
 pub returns-clause-named : goal.returns-clause-named
 returns-clause-named g c = laws.named-cleared

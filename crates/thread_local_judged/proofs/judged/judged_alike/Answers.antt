@@ -1,3 +1,4 @@
+-- Any two proofs of the fact are equal.
 use Rattle.thread_local_judged.proofs.Alike.{judged_alike}
 use Rattle.thread_local_judged.proofs.judged.judged_alike.Goals as goal
 

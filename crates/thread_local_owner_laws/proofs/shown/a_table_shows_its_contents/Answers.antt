@@ -5,7 +5,7 @@ pub returns-clause-table : goal.returns-clause-table
 returns-clause-table g c = laws.IsTable-shown
 
 pub returns-clause-stands : goal.returns-clause-stands
-returns-clause-stands g c = laws.stands-shown
+returns-clause-stands g c = laws.bucket_stands-shown
 
 pub returns-clause-values : goal.returns-clause-values
 returns-clause-values g c = laws.values-shown

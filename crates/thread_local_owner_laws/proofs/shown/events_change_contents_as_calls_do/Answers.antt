@@ -11,7 +11,7 @@ pub returns-clause-rewritten : goal.returns-clause-rewritten
 returns-clause-rewritten g c = laws.values-shown-rewritten
 
 pub returns-clause-rewritten_stands : goal.returns-clause-rewritten_stands
-returns-clause-rewritten_stands g c = laws.stands-shown-rewritten
+returns-clause-rewritten_stands g c = laws.bucket_stands-shown-rewritten
 
 pub returns-clause-rewritten_refills : goal.returns-clause-rewritten_refills
 returns-clause-rewritten_refills g c = laws.rewritten-refills
@@ -29,7 +29,7 @@ pub returns-clause-new : goal.returns-clause-new
 returns-clause-new g c = laws.shown-new _
 
 pub returns-clause-made_stands : goal.returns-clause-made_stands
-returns-clause-made_stands g c = laws.stands-shown-made _
+returns-clause-made_stands g c = laws.bucket_stands-shown-made _
 
 pub returns-clause-made_empty : goal.returns-clause-made_empty
 returns-clause-made_empty g c = laws.values-shown-made _

@@ -1,8 +1,9 @@
+-- A bucket that gives nothing is passed, and the first one that gives a value ends the call.
 use Rattle.std.proofs.Common.{◌+◌, ◌<◌, ◌≤◌, Option, option_map, ap, sym, ◌∙◌, subst, arith}
-use Rattle.thread_local_contents.specs.declared.cursor.RawIter.{RawIter}
+use Rattle.thread_local_owner_walk.specs.declared.cursor.RawIter.{RawIter}
 use Rattle.thread_local_shared_walk.specs.declared.steps.Own.{Own}
-use Rattle.thread_local_shared_walk.specs.Places.{resting, owed}
-use Rattle.thread_local_shared_walk.specs.Walks.{Gives, Ends}
+use Rattle.thread_local_shared_walk.specs.Positions.{resting, owed}
+use Rattle.thread_local_shared_walk.specs.Walks.{Yields, Ends}
 use Rattle.thread_local_shared_walk.specs.Steps.{Leads}
 use Rattle.thread_local_shared_walk.proofs.StepLaws.{leads_then, passes_bucket}
 use Rattle.thread_local_shared_walk.proofs.WalkLaws.{gives_later, ends}
@@ -11,7 +12,7 @@ use Rattle.thread_local_shared_walk.proofs.steps.advance.Goals as goal
 pub returns-in-Some-clause-goes : goal.returns-in-Some-clause-goes
 returns-in-Some-clause-goes g c =
     let kept = c.loop-bucket.invariant in
-    let P : Option (Own _) → Type 0 = λ own. Gives (resting c.loop-bucket.raw) (option_map owed own) c.in-Some.value.now (resting c.in_bucket.new.raw) (option_map owed c.in_bucket.new.own) in
+    let P : Option (Own _) → Type 0 = λ own. Yields (resting c.loop-bucket.raw) (option_map owed own) c.in-Some.value.now (resting c.in_bucket.new.raw) (option_map owed c.in_bucket.new.own) in
     gives_later (resting c.args.raw.now) (resting c.loop-bucket.raw) (resting c.in_bucket.new.raw) (option_map owed c.args.own.now) (option_map owed c.in_bucket.new.own) c.in-Some.value.now
     kept.leads c.requires.walk.fits (subst P kept.own c.in-Some.ensures.some)
 

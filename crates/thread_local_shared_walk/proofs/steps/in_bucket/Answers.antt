@@ -1,3 +1,4 @@
+-- A bucket that is missing gives what `give_own` gives.
 use Rattle.std.proofs.Common.{refl}
 use Rattle.thread_local_shared_walk.proofs.WalkLaws.{few, ended, Ended}
 use Rattle.thread_local_shared_walk.proofs.steps.in_bucket.Goals as goal

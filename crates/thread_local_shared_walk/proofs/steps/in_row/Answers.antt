@@ -1,5 +1,6 @@
+-- The row gives what the search finds, and else what `give_own` gives.
 use Rattle.std.proofs.Common.{◌<◌, ◌^◌, subst, sym}
-use Rattle.thread_local_contents.specs.declared.cursor.RawIter.{RawIter}
+use Rattle.thread_local_owner_walk.specs.declared.cursor.RawIter.{RawIter}
 use Rattle.thread_local_shared_walk.proofs.WalkLaws.{few, given_search, GivenTo, ended, Ended}
 use Rattle.thread_local_shared_walk.proofs.steps.in_row.Goals as goal
 

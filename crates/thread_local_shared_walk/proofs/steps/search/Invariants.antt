@@ -1,6 +1,6 @@
+-- The walk doesn't move while the search finds nothing.
 use Rattle.std.proofs.Common.{◌≡◌}
 use Rattle.thread_local_shared_walk.proofs.steps.search.Given as goal
 
--- the walk doesn't move while it finds nothing
 abbrev pub invariant-loop-index : goal.invariant-loop-index
 invariant-loop-index g l = l.raw ≡ l.initial.raw

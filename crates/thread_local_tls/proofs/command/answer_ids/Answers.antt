@@ -25,13 +25,13 @@ is_no_write : (error : IdsError) → fault_of error ≡ Write → ⊥
 is_no_write (Local error) e = cc
 is_no_write NotHeld e = cc
 
--- lines that were written for the ids of the words' moves answer the words
+-- lines with the ids that the words' moves take answer the words
 answers : (words : List (List ℕ)) (old new : Option (List ℕ)) (ids : List ℕ) (result : Result (Unit {0}) Fault) (runnable : IsRunnable words)
     → ids ≡ ids_given [] runnable.moves → OnOk result (Appends old new (lines_of ids)) → OnOk result (AnswersIds words old new)
 answers words old new ids (Ok x) runnable given written = record { runnable = runnable; written = subst (λ l. Appends old new (lines_of l)) given written }
 answers words old new ids (Err e) runnable given written = tt
 
--- a fault that printing ends with is a write that failed
+-- printing fails only with a failed write
 fault_is : (result : Result (Unit {0}) Fault) (fault : Fault) → IfErr result (λ f. f ≡ Write) → result ≡ Err fault → fault ≡ Write
 fault_is (Ok x) fault h is = cc
 fault_is (Err e) fault h is = cc
@@ -40,7 +40,7 @@ fault_is (Err e) fault h is = cc
 misuse : (words : List (List ℕ)) (moves : List Move) → moves_named words ≡ Some moves → (MayRun [] moves → ⊥) → MayNotRun words
 misuse words moves read stuck = subst (λ o. MatchOption o (Unit {0}) (λ ms. MayRun [] ms → ⊥)) (sym read) stuck
 
--- where the words spell no command, they are a misuse
+-- words that spell no command are a misuse
 no_command : (words : List (List ℕ)) → moves_named words ≡ None → MayNotRun words
 no_command words none = subst (λ o. MatchOption o (Unit {0}) (λ ms. MayRun [] ms → ⊥)) (sym none) tt
 
@@ -77,7 +77,7 @@ returns-in_err-ids-clause-write g c = λ is.
     let p = err_from_is_err_and c.from_residual-in_err-ids.result c.from_residual-in_err-ids.ensures.1 in
     absurd (is_no_write c.in_err-ids.field-0.0 (sym p.2 ∙ same_error p.1 is))
 
--- the moves that were run are those that the words spell
+-- the moves that ran are those that the words spell
 abbrev runnable : (g : Over) (c : After-drop-moves-2 g) → IsRunnable (texts c.args.words.now)
 runnable g c = record {
   moves = c.deref.result.now;

@@ -1,3 +1,4 @@
+-- A block may be sent to another thread where its values and its allocator may.
 use denote.RattleType.{RattleType}
 use denote.Param.Send.{IsSend, Frees}
 use Rattle.std.specs.declared.alloc.Allocator as Allocator

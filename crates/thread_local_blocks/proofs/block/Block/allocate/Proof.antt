@@ -1,5 +1,5 @@
 -- `allocate` asks the allocator for the room of a block.
-use Rattle.thread_local_chunks.proofs.Names.{◌∙◌, ◌≡◌, ℕ, ◌^◌, ◌<◌, [], ◌∷◌, sym, refl, arith, lit<, w64, true, false, Ty, Body, a_type, dcons, dnil, named, Val, vint, vptr, vstruct, vcons, vnil, WT, inst_fn, SProp, emp, Lft, Share, Fml, ftrue, fsep, flft, ◌∵◌, ‵, raw, ◌⊛◌, later, at_ret, any_q, ◌$◌, !, qed, by, move, keep, use0, use1, use2, split, join, fsplit, fjoin, await, stop, fld, lit, align_word, of_opd, no_more, and_then, first, exec, switches_on, returns, enter, alloc_all, pass_all, free_all, look_at, get, get_in, get_tag, sets, sets_last, lands_as, env, agg, whole, live, vrt, in_variant, tables, fact, fact_i, yes, RattleType, owns, types_at, plain, Ptr, block_ptr, nothing, heard, param, bounded, RefOf, usize, shr_vals, shr_Tells, uint_vals, uint_Tells, Stays, stay_dropped, walk_of, Goes-dropped, proved, leaves, fm, after}
+use Rattle.thread_local_raw.proofs.Names.{◌∙◌, ◌≡◌, ℕ, ◌^◌, ◌<◌, [], ◌∷◌, sym, refl, arith, lit<, w64, true, false, Ty, Body, a_type, dcons, dnil, named, Val, vint, vptr, vstruct, vcons, vnil, WT, inst_fn, SProp, emp, Lft, Share, Fml, ftrue, fsep, flft, ◌∵◌, ‵, raw, ◌⊛◌, later, at_ret, any_q, ◌$◌, !, qed, by, move, keep, use0, use1, use2, split, join, fsplit, fjoin, await, stop, fld, lit, align_word, of_opd, no_more, and_then, first, exec, switches_on, returns, enter, alloc_all, pass_all, free_all, look_at, get, get_in, get_tag, sets, sets_last, lands_as, env, agg, whole, live, vrt, in_variant, tables, fact, fact_i, yes, RattleType, owns, types_at, plain, Ptr, block_ptr, nothing, heard, param, bounded, RefOf, usize, shr_vals, shr_Tells, uint_vals, uint_Tells, Stays, stay_dropped, walk_of, Goes-dropped, proved, leaves, fm, after}
 use base.Fml.{Incl-trans}
 use prog.Memory.{align, size, capped}
 use prog.Capped.{capped_fits}
@@ -13,11 +13,11 @@ use Rattle.std.specs.contracts.alloc.AllocError as refusal
 use Rattle.std.proofs.result.Made.{Ok-of, Err-of}
 use Rattle.std.proofs.alloc.Shapes.{front, arm_body}
 use Rattle.std.proofs.alloc.Calls.{Al as Handle, Answer-typed, Takes, at_takes, Answered, Takes-goes, Takes-gives, answers}
-use Rattle.thread_local_chunks.specs.Slots.{empty_slots, chunks, slots_ty, block_ty, Fits, block_owns}
+use Rattle.thread_local_blocks.specs.Slots.{empty_slots, chunks, slots_ty, block_ty, Fits, block_owns}
 use Rattle.thread_local_blocks.specs.contracts.block.Block as block
 use Rattle.thread_local_blocks.specs.contracts.block.Block.allocate.{ended, clauses}
 use Rattle.thread_local_blocks.specs.contracts.block.Block.allocate.Key.{name as #self}
-use Rattle.thread_local_blocks.proofs.Fields.{block_val, block_good, made, Words, block_size, block_align}
+use Rattle.thread_local_blocks.proofs.Fields.{block_val, block_good, made, FieldsType, block_size, block_align}
 use Rattle.thread_local_blocks.proofs.Making.{fresh}
 use Rattle.thread_local_blocks.proofs.block.Block.allocate.Statement.{statement}
 use Rattle.thread_local_blocks.proofs.block.Block.allocate.Code as code
@@ -50,7 +50,7 @@ allocate_spec 𝓤 𝓛 𝓜 𝓡 wired T Al L LA ga da dd met _ =
     sets ! (of_opd ! (get_in ! (vrt ! refl (fld ! refl (stop !))) (in_variant ! 0 0 refl refl (whole !)))) refl (tt, tt) $ sets ! (of_opd ! (get ! refl)) refl (tt, tt) $
     sets ! (agg ! (no_more !)) refl (tt, tt) $ sets ! (agg ! (and_then ! (get ! refl) (and_then ! (get ! refl) (no_more !)))) refl (block_good p) $
     sets_last ! (agg ! (and_then ! (lit ! tt) (and_then ! (get ! refl) (no_more !)))) refl (tt, good) $ exec ! 𝓣.C 𝓣.Λ Ev (after 2 fn.body) (at_ret Ev Post) $ sets ! (of_opd ! (get ! refl)) refl (tt, good) $
-    use0 𝓛 (‵ ((Words R Z ga).own_val (p, (record {}, tt)) (block_val p ∷ []))) (made R Z ga 𝓛 p) $ fjoin ! $
+    use0 𝓛 (‵ ((FieldsType R Z ga).own_val (p, (record {}, tt)) (block_val p ∷ []))) (made R Z ga 𝓛 p) $ fjoin ! $
     use1 𝓛 (‵ (Out.own_val (Ok r) (val ∷ []))) (Ok-of 𝓛 Bl refusal.the_row r (block_val p)) $
     use0 𝓛 (raw (fact 𝓤 Told)) (fact_i 𝓤 Told (emp 𝓤) (refl, refl, refl)) $ nothing ! $ nothing ! $ fjoin ! $ nothing ! $ fjoin ! $ nothing ! $ fjoin ! $
     returns ! (look_at ! 0 refl) $ free_all ! refl $ keep ! (3 ∷ 0 ∷ 2 ∷ 1 ∷ []) $ by ! (leaves 𝓛 En hs c y val (Ok r) (tt, (tt, (tt, tt))) (tt, (tt, (tt, tt)))))

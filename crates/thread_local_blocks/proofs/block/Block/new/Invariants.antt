@@ -1,5 +1,5 @@
 use Rattle.std.proofs.Common.{◌≡◌, ◌+◌}
-use Rattle.thread_local_chunks.specs.Slots.{empty_slots, chunks}
+use Rattle.thread_local_blocks.specs.Slots.{empty_slots, chunks}
 use Rattle.thread_local_blocks.proofs.block.Block.new.Given as goal
 
 abbrev pub invariant-chunks : goal.invariant-chunks

@@ -7,12 +7,12 @@ use Rattle.thread_local_model.specs.Buckets.{Contents, stands, values, IsTable}
 use Rattle.thread_local_model.specs.Owned.{Owned}
 use Rattle.thread_local_model.specs.Rows.{value_in, with_slot, with_row, empty_row}
 use Rattle.thread_local_model.specs.Walk.{with_value}
-use Rattle.thread_local_contents.specs.Owner.{with_published}
-use Rattle.thread_local_contents.proofs.InsertingLaws.{published_values}
+use Rattle.thread_local_owner_walk.specs.Owner.{with_published}
+use Rattle.thread_local_owner_walk.proofs.InsertingLaws.{published_values}
 use Rattle.thread_local_buckets.specs.Inserting.{owned_with}
 use Rattle.thread_local_buckets.proofs.buckets.Buckets.get_mut.Goals as goal
 
--- the map that is written to has what was written, and is else as it was
+-- the map has what was written, and is unchanged elsewhere
 map_of : {V : Type 0} (o now : Owned V) (b i : ℕ) → o ≡ now → IsTable o.contents → b < 63 → i < 2 ^ b
     → (w : V) (id : ℕ) → values (with_published now.contents b i w) id ≡ with_value (values now.contents) (id_at b i) w id
 map_of o now b i same t low inside w id =
@@ -38,7 +38,7 @@ returns-then-holds_value g c =
     let b = c.args.thread.bucket in
     let i = c.args.thread.index in
     let t = c.self.invariant.table in
-    let first : Owned _ = record { contents = c.self.inside.words; reserved = c.self.inside.reserved } in (
+    let first : Owned _ = record { contents = c.self.inside.pointers; reserved = c.self.inside.reserved } in (
       ap (λ (f : _ → _). inl (c.get_mut.result.ghost_name, f)) (fun_ext (left_as first c.args.self.now c.holds_value.new.self b i c.self.view_is c.holds_value.ensures.same (c.holds_value.ensures.stands c.if-holds_value.true))),
       record {
         writes_back = tt;
@@ -52,7 +52,7 @@ returns-else-holds_value g c =
     let b = c.args.thread.bucket in
     let i = c.args.thread.index in
     let t = c.self.invariant.table in
-    let first : Owned _ = record { contents = c.self.inside.words; reserved = c.self.inside.reserved } in (
+    let first : Owned _ = record { contents = c.self.inside.pointers; reserved = c.self.inside.reserved } in (
       ap (λ (k : Contents _). let s : Owned _ = record { contents = k; reserved = c.self.inside.reserved } in inr s) c.holds_value.ensures.same ∙ ap (λ (s : Owned _). inr s) c.self.view_is,
       record {
         writes_back = tt;

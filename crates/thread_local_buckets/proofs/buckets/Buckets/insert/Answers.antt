@@ -6,9 +6,9 @@ use Rattle.thread_local_model.specs.Buckets.{Contents, row, stands, IsTable}
 use Rattle.thread_local_model.specs.Owned.{Owned, IsOwned}
 use Rattle.thread_local_model.specs.Rows.{value_in, with_slot}
 use Rattle.thread_local_model.specs.Sheet.{moved}
-use Rattle.thread_local_contents.specs.Owner.{with_bucket, with_published, sheet_of, publish_or_keep}
-use Rattle.thread_local_contents.proofs.StandingLaws.{row-absent, whole-with_bucket}
-use Rattle.thread_local_contents.proofs.InsertingLaws.{ends, answers, IsOwned-with_published, published_moves, published_stands}
+use Rattle.thread_local_owner_walk.specs.Owner.{with_bucket, with_published, sheet_of, publish_or_keep}
+use Rattle.thread_local_owner_walk.proofs.StandingLaws.{row-absent, whole-with_bucket}
+use Rattle.thread_local_owner_walk.proofs.InsertingLaws.{ends, answers, IsOwned-with_published, published_moves, published_stands}
 use Rattle.thread_local_buckets.specs.Inserting.{owned_with}
 use Rattle.thread_local_buckets.proofs.buckets.Buckets.insert.Goals as goal
 
@@ -22,7 +22,8 @@ inserts o now b i value same t low inside =
     let P : Owned _ → Type 0 = λ s. Inserts s.contents b i value in
     subst P same (record { moves = published_moves o.contents b t low i value inside; stand = published_stands o.contents b t low i })
 
--- what the buckets end as, whatever is written: the bucket stands, and its slot has what was written
+-- what the buckets end as, whatever is written: the bucket stands, and its slot has what was
+-- written
 left_as : {V : Type 0} (o now : Owned V) (d e : Contents V) (b i : ℕ) (value : V) → o ≡ now → IsTable o.contents → b < 63 → d ≡ with_bucket o.contents b
     → (IsSome (value_in d b i) → e ≡ d) → (value_in d b i ≡ None → e ≡ with_slot d b i (Some value))
     → (w : V) → record { contents = with_slot e b i (Some w); reserved = o.reserved } ≡ owned_with now b i w
@@ -31,7 +32,7 @@ left_as o now d e b i value same t low stood kept published w =
     ap (λ (k : Contents _). let s : Owned _ = record { contents = k; reserved = o.reserved } in s) (ends o.contents b within (row-absent o.contents b) d e i value stood kept published w)
     ∙ ap (λ (s : Owned _). owned_with s b i w) same
 
--- what is answered: what stands there
+-- the value that is lent: the one in the slot
 answered : {V : Type 0} (o now : Owned V) (d e : Contents V) (b i : ℕ) (value there : V) → o ≡ now → IsTable o.contents → b < 63 → i < 2 ^ b → d ≡ with_bucket o.contents b
     → (IsSome (value_in d b i) → e ≡ d) → (value_in d b i ≡ None → e ≡ with_slot d b i (Some value)) → value_in e b i ≡ Some there → there ≡ unwrap_or (value_in now.contents b i) value
 answered o now d e b i value there same t low inside stood kept published found =
@@ -40,7 +41,7 @@ answered o now d e b i value there same t low inside stood kept published found 
     answers o.contents b within (row-absent o.contents b) d e i value there stood (omega arith) kept published found
     ∙ ap (λ (s : Owned _). unwrap_or (value_in s.contents b i) value) same
 
--- whatever is written, the buckets are an owner's still
+-- whatever is written, the buckets are still an owner's
 owned_still : {V : Type 0} (o : Owned V) (d e : Contents V) (b i : ℕ) (value : V) → IsOwned o → b < 63 → d ≡ with_bucket o.contents b
     → (IsSome (value_in d b i) → e ≡ d) → (value_in d b i ≡ None → e ≡ with_slot d b i (Some value))
     → (w : V) → IsOwned (record { contents = with_slot e b i (Some w); reserved = o.reserved })
@@ -51,7 +52,7 @@ owned_still o d e b i value owned low stood kept published w =
 
 pub invariant_of-self-lent : goal.invariant_of-self-lent
 invariant_of-self-lent g c =
-    let first : Owned _ = record { contents = c.self.inside.words; reserved = c.self.inside.reserved } in
+    let first : Owned _ = record { contents = c.self.inside.pointers; reserved = c.self.inside.reserved } in
     owned_still first c.ensure_bucket.new.self c.publish_or_drop.new.self c.args.thread.bucket c.args.thread.index c.args.value c.self.invariant c.args.thread.in_table
     c.in-Ok.ensures.ok c.publish_or_drop.ensures.kept c.publish_or_drop.ensures.published
 
@@ -62,7 +63,7 @@ returns-in-Ok g c =
     let t = c.self.invariant.table in
     let low : b < 63 = c.args.thread.in_table in
     let inside : i < 2 ^ b = c.args.thread.in_bucket in
-    let first : Owned _ = record { contents = c.self.inside.words; reserved = c.self.inside.reserved } in
+    let first : Owned _ = record { contents = c.self.inside.pointers; reserved = c.self.inside.reserved } in
     let so = inserts first c.args.self.now b i c.args.value c.self.view_is t low inside in (
       ap (λ (f : _ → _). inl (c.get_mut.result.ghost_name, f)) (fun_ext (left_as first c.args.self.now c.ensure_bucket.new.self c.publish_or_drop.new.self b i c.args.value c.self.view_is t low c.in-Ok.ensures.ok c.publish_or_drop.ensures.kept c.publish_or_drop.ensures.published)),
       record {
@@ -80,7 +81,7 @@ returns-in-Err g c =
     let b = c.args.thread.bucket in
     let i = c.args.thread.index in
     let t = c.self.invariant.table in
-    let first : Owned _ = record { contents = c.self.inside.words; reserved = c.self.inside.reserved } in
+    let first : Owned _ = record { contents = c.self.inside.pointers; reserved = c.self.inside.reserved } in
     let so = inserts first c.args.self.now b i c.args.value c.self.view_is t c.args.thread.in_table c.args.thread.in_bucket in (
       ap (λ (k : Contents _). let s : Owned _ = record { contents = k; reserved = c.self.inside.reserved } in inr s) c.in-Err.ensures.err ∙ ap (λ (s : Owned _). inr s) c.self.view_is,
       record {

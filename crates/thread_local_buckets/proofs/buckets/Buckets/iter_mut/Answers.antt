@@ -9,11 +9,11 @@ use Rattle.thread_local_buckets.proofs.buckets.Buckets.iter_mut.Goals as goal
 pub returns : goal.returns
 returns g c =
     let counted : record { contents = c.count_values-left.new.self; reserved = c.self.inside.reserved } ≡ c.args.self.now =
-    ap (λ (words : Contents _). let s : Owned _ = record { contents = words; reserved = c.self.inside.reserved } in s) c.count_values-left.ensures.same ∙ c.self.view_is in (
+    ap (λ (pointers : Contents _). let s : Owned _ = record { contents = pointers; reserved = c.self.inside.reserved } in s) c.count_values-left.ensures.same ∙ c.self.view_is in (
       (refl, λ w. ap (λ (s : Owned _). owned_refilled s w) counted),
       record {
         writes_back = tt;
-        rest = ap (λ (words : Contents _). walk (values words)) c.lend.ensures.contents ∙ ap (λ (s : Owned _). walk (values s.contents)) counted;
+        rest = ap (λ (pointers : Contents _). walk (values pointers)) c.lend.ensures.contents ∙ ap (λ (s : Owned _). walk (values s.contents)) counted;
         would_stand = refilled-stands c.args.self.now;
         would_be_published = refilled-published c.args.self.now;
       },

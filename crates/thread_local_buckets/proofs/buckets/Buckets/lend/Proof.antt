@@ -1,5 +1,5 @@
--- `lend` takes the words' place, and cuts the owner's borrow into what a loan owns.
-use Rattle.thread_local_chunks.proofs.Names.{◌≡◌, ℕ, ◌+◌, [], ◌∷◌, refl, ap, full_share, a_type, named, Val, vptr, inst_fn, SProp, ent, ex, sep, sem, emp, Lft, Share, GName, Fml, ftrue, fsep, flft, ‵, raw, ◌⊛◌, some, given, later, ◌$◌, ◌∵◌, !, qed, by, move, keep, split, split3, join, fsplit, fsplit3, fjoin, pick, learn, group, use0, use1, use2, await, stop, fld, addr, of_opd, returns, enter, alloc_all, pass_all, free_all, look_at, get, through, sets, open_ref, tables, fact_i, no, RattleType, owns, types_at, plain, named_lft, block_ptr, nothing, mem, lone, part_at, param, param_laws, layouts, usize, RefMutOf, mut_vals, mut_Tells, Stays, stay_dropped, walk_of, proved, leaves, Member, w64}
+-- `lend` takes the address of the pointers, and splits the owner's borrow to make what a loan owns.
+use Rattle.thread_local_raw.proofs.Names.{◌≡◌, ℕ, ◌+◌, [], ◌∷◌, refl, ap, full_share, a_type, named, Val, vptr, inst_fn, SProp, ent, ex, sep, sem, emp, Lft, Share, GName, Fml, ftrue, fsep, flft, ‵, raw, ◌⊛◌, some, given, later, ◌$◌, ◌∵◌, !, qed, by, move, keep, split, split3, join, fsplit, fsplit3, fjoin, pick, learn, group, use0, use1, use2, await, stop, fld, addr, of_opd, returns, enter, alloc_all, pass_all, free_all, look_at, get, through, sets, open_ref, tables, fact_i, no, RattleType, owns, types_at, plain, named_lft, block_ptr, nothing, mem, lone, part_at, param, param_laws, layouts, usize, RefMutOf, mut_vals, mut_Tells, Stays, stay_dropped, walk_of, proved, leaves, Member, w64}
 use contract.Monad.{fact}
 use types.Logic.{Logic}
 use types.Run.{no_more, and_then}
@@ -15,12 +15,12 @@ use denote.Struct.Pick.{rest_at, field_out, field_back}
 use denote.Triple.Walked.{Goes-spent_ref}
 use Rattle.thread_local_model.specs.Buckets.{Contents, IsTable}
 use Rattle.thread_local_model.specs.Owned.{Owned}
-use Rattle.thread_local_words.specs.contracts.words.Words as words
-use Rattle.thread_local_words.proofs.words.Words.TheLaws as words_laws
+use Rattle.thread_local_bucket_pointers.specs.contracts.bucket_pointers.BucketPointers as all_pointers
+use Rattle.thread_local_bucket_pointers.proofs.bucket_pointers.BucketPointers.TheLaws as pointers_laws
 use Rattle.thread_local_loan.specs.Lent.{loan_owns}
-use Rattle.thread_local_contents.specs.Refilled.{refilled}
+use Rattle.thread_local_owner_walk.specs.Refilled.{refilled}
 use Rattle.thread_local_loan.specs.contracts.loan.Loan as loan
-use Rattle.thread_local_loan.proofs.Fields.{Words, loan_val, made}
+use Rattle.thread_local_loan.proofs.Fields.{FieldsType, loan_val, made}
 use Rattle.thread_local_loan.proofs.Lending.{lends}
 use Rattle.thread_local_buckets.specs.LendingValues.{owned_refilled}
 use Rattle.thread_local_buckets.specs.contracts.buckets.Buckets as buckets
@@ -39,7 +39,7 @@ module _ {M : Type 1} {𝓤 : Ura M} (𝓛 : Logic 𝓤) (X : RattleType) (L : L
   Owner = buckets.the_row R
 
   abbrev Table : RattleType
-  Table = words.the_row R
+  Table = all_pointers.the_row R
 
   abbrev Inside : RattleType
   Inside = inside.the_row R
@@ -53,24 +53,24 @@ module _ {M : Type 1} {𝓤 : Ura M} (𝓛 : Logic 𝓤) (X : RattleType) (L : L
   abbrev ms : mathlib.Core.List.List Member
   ms = record { row = Table; ty = lone Table.mir } ∷ record { row = usize; ty = lone usize.mir } ∷ []
 
-  -- what the owner has beside the words
+  -- what the owner has beside the pointers
   abbrev Apart : Inside.Denot → SProp 𝓤
-  Apart a = sep 𝓤 (sem 𝓛 (rest_at full_share ms 0 (a.words, (a.reserved, tt)) b o 0)) (PartsBack 𝓛 full_share [] ms b o)
+  Apart a = sep 𝓤 (sem 𝓛 (rest_at full_share ms 0 (a.pointers, (a.reserved, tt)) b o 0)) (PartsBack 𝓛 full_share [] ms b o)
 
-  opens : ent 𝓤 (sem 𝓛 ((mem Owner).own_at t b o)) (ex 𝓤 (λ (x : (a : Inside.Denot) × ((view a ≡ t) × good a)). sep 𝓤 (sem 𝓛 (part_at Table full_share x.0.words b (o + 0))) (Apart x.0)))
+  opens : ent 𝓤 (sem 𝓛 ((mem Owner).own_at t b o)) (ex 𝓤 (λ (x : (a : Inside.Denot) × ((view a ≡ t) × good a)). sep 𝓤 (sem 𝓛 (part_at Table full_share x.0.pointers b (o + 0))) (Apart x.0)))
   unfolding part_of
   opens = let Known : Inside.Denot → Type 0 = λ a. (view a ≡ t) × good a in
       qed 𝓛 (‵ (part_at Owner full_share t b o) ∷ []) ∵ use1 𝓛 (some (λ (x : (a : Inside.Denot) × Known a). ‵ (part_at Inside full_share x.0 b o)))
       (plain_out Owner Inside (view_owns Inside (Owned R.Denot) Owner.coded view good) 𝓛 full_share t b o) $ pick ! (λ x. let a : Inside.Denot = x.0 in
-      use1 𝓛 (‵ (part_at Table full_share a.words b (o + 0)) ⊛ raw (Apart a)) (field_out 𝓛 full_share [] ms ((words_laws.the_row_laws R (param_laws 0 X L)).lawful 𝓛, (uint_Lawful 𝓛 w64, tt)) (a.words, (a.reserved, tt)) b o 0) $
-      types.Kit.show ! (λ (z : (a : Inside.Denot) × Known a). sep 𝓤 (sem 𝓛 (part_at Table full_share z.0.words b (o + 0))) (Apart z.0)) x $ types.Kit.done !)
+      use1 𝓛 (‵ (part_at Table full_share a.pointers b (o + 0)) ⊛ raw (Apart a)) (field_out 𝓛 full_share [] ms ((pointers_laws.the_row_laws R (param_laws 0 X L)).lawful 𝓛, (uint_Lawful 𝓛 w64, tt)) (a.pointers, (a.reserved, tt)) b o 0) $
+      types.Kit.show ! (λ (z : (a : Inside.Denot) × Known a). sep 𝓤 (sem 𝓛 (part_at Table full_share z.0.pointers b (o + 0))) (Apart z.0)) x $ types.Kit.done !)
 
   shuts : (a : Inside.Denot) → view a ≡ t → good a → (lent : Owned R.Denot)
-      → ent 𝓤 (sep 𝓤 (sem 𝓛 (part_at Table full_share (refilled a.words lent.contents) b (o + 0))) (Apart a)) (sem 𝓛 ((mem Owner).own_at (owned_refilled t lent) b o))
+      → ent 𝓤 (sep 𝓤 (sem 𝓛 (part_at Table full_share (refilled a.pointers lent.contents) b (o + 0))) (Apart a)) (sem 𝓛 ((mem Owner).own_at (owned_refilled t lent) b o))
   unfolding part_of
-  shuts a seen so lent = let a' : Inside.Denot = record { words = refilled a.words lent.contents; reserved = a.reserved } in
-      qed 𝓛 (‵ (part_at Table full_share a'.words b (o + 0)) ∷ raw (Apart a) ∷ []) ∵
-      use2 𝓛 (‵ (part_at Inside full_share a' b o)) (field_back 𝓛 full_share [] ms (a'.words, (a'.reserved, tt)) b o 0) $
+  shuts a seen so lent = let a' : Inside.Denot = record { pointers = refilled a.pointers lent.contents; reserved = a.reserved } in
+      qed 𝓛 (‵ (part_at Table full_share a'.pointers b (o + 0)) ∷ raw (Apart a) ∷ []) ∵
+      use2 𝓛 (‵ (part_at Inside full_share a' b o)) (field_back 𝓛 full_share [] ms (a'.pointers, (a'.reserved, tt)) b o 0) $
       by ! (Plain-in Owner Inside (view_owns Inside (Owned R.Denot) Owner.coded view good) 𝓛 full_share (owned_refilled t lent) a'
       (view_made Inside (Owned R.Denot) Owner.coded view good 𝓛 (owned_refilled t lent) a' (ap (λ s. owned_refilled s lent) seen, IsOwned-refilled (view a) lent so)) b o)
 
@@ -90,15 +90,15 @@ lend_spec 𝓤 𝓛 𝓜 𝓡 wired X L =
     sets ! (addr ! (through ! refl (fld ! refl (stop !)))) refl (tt, tt) $ sets ! (of_opd ! (get ! refl)) refl (tt, tt) $
     sets ! (agg ! (no_more !)) refl (tt, tt) $ sets ! (agg ! (and_then ! (get ! refl) (and_then ! (get ! refl) (no_more !)))) refl (tt, (tt, (tt, tt))) $
     open_ref ! tt (mem Owner) $
-    use1 𝓛 (some (λ (x : (d : (Inside 𝓛 X L b o t).Denot) × ((view 𝓛 X L b o t d ≡ t) × good 𝓛 X L b o t d)). ‵ (part_at (Table 𝓛 X L b o t) full_share x.0.words b (o + 0)) ⊛ raw (Apart 𝓛 X L b o t x.0))) (opens 𝓛 X L b o t) $ pick ! (λ x. split ! $
-    -- [the words; what is apart; the owner's open borrow, in three entries; the other tokens]
-    let d = x.0 in let held : Contents R.Denot = d.words in let code_of = Owner.coded.code t in let p = block_ptr b (o + 0) in
+    use1 𝓛 (some (λ (x : (d : (Inside 𝓛 X L b o t).Denot) × ((view 𝓛 X L b o t d ≡ t) × good 𝓛 X L b o t d)). ‵ (part_at (Table 𝓛 X L b o t) full_share x.0.pointers b (o + 0)) ⊛ raw (Apart 𝓛 X L b o t x.0))) (opens 𝓛 X L b o t) $ pick ! (λ x. split ! $
+    -- [the pointers; what is apart; the owner's open borrow, in three entries; the other tokens]
+    let d = x.0 in let held : Contents R.Denot = d.pointers in let code_of = Owner.coded.code t in let p = block_ptr b (o + 0) in
     move ! (2 ∷ 3 ∷ 4 ∷ 0 ∷ 1 ∷ []) $ group ! 5 $
     use1 𝓛 (later (given (IsTable held) (some (λ (ν : GName). ‵ (loan_owns κ R p ν held 0) ⊛ ‵ (flft κ q) ⊛ ‵ (follows Owner Owner γ ν (owned_refilled t))))))
     (lends 𝓛 X L b (o + 0) held Owner b o (owned_refilled t) (Apart 𝓛 X L b o t d) (shuts 𝓛 X L b o t d x.1.0 x.1.1) κ q γ code_of code_of) $ await ! tt $ learn ! (λ table. pick ! (λ ν. split3 ! $
     -- [what the loan owns; the token; what follows; the other tokens]
     move ! (1 ∷ 3 ∷ []) $ join ! $ use0 𝓛 (raw (fact 𝓤 (0 ≡ 0))) (fact_i 𝓤 (0 ≡ 0) (emp 𝓤) refl) $
     use0 𝓛 (raw (fact 𝓤 (held ≡ t.contents))) (fact_i 𝓤 (held ≡ t.contents) (emp 𝓤) (ap (λ (s : Owned R.Denot). s.contents) x.1.0)) $ join ! $ move ! (3 ∷ 0 ∷ []) $ join ! $ move ! (2 ∷ []) $
-    let h : Lo.Denot = record { words = p; marker = record {}; name = ν; contents = held; given = 0 } in
-    use0 𝓛 (‵ ((Words ℓ R).own_val (p, (tt, tt)) (loan_val p ∷ []))) (made ℓ R 𝓛 p) $ fjoin ! $ nothing ! $ nothing ! $ fjoin ! $
+    let h : Lo.Denot = record { pointers = p; marker = record {}; name = ν; contents = held; given = 0 } in
+    use0 𝓛 (‵ ((FieldsType ℓ R).own_val (p, (tt, tt)) (loan_val p ∷ []))) (made ℓ R 𝓛 p) $ fjoin ! $ nothing ! $ nothing ! $ fjoin ! $
     returns ! (look_at ! 0 refl) $ free_all ! refl $ keep ! (3 ∷ 0 ∷ 1 ∷ 2 ∷ []) $ by ! (leaves 𝓛 En hs c y (loan_val p) h (tt, tt) (tt, tt)))))))

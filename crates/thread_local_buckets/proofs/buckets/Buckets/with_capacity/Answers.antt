@@ -2,30 +2,30 @@ use Rattle.std.proofs.Common.{◌≡◌, ◌-◌, ◌^◌, ℕ, subst, sym, ap, 
 use Rattle.thread_local_model.specs.Buckets.{Contents}
 use Rattle.thread_local_model.specs.Owned.{IsOwned}
 use Rattle.thread_local_model.specs.Capacity.{binary_digits}
-use Rattle.thread_local_contents.proofs.FillingLaws.{IsFilled, IsFilled-none, IsFilled-more, IsOwned-filled, slots-filled, reserved-digits}
+use Rattle.thread_local_owner_walk.proofs.FillingLaws.{IsFilled, IsFilled-none, IsFilled-more, IsOwned-filled, slots-filled, reserved-digits}
 use Rattle.thread_local_buckets.proofs.buckets.Buckets.with_capacity.Goals as goal
 
--- all buckets of the capacity are made
-all_made : {V : Type 0} (words : Contents V) (bucket end : ℕ) → bucket ≡ end → IsFilled words bucket → IsFilled words end
-all_made words bucket end e h = let P : ℕ → Type 0 = IsFilled words in subst P e h
+-- once the loop ends, all buckets of the capacity are made
+all_made : {V : Type 0} (pointers : Contents V) (bucket end : ℕ) → bucket ≡ end → IsFilled pointers bucket → IsFilled pointers end
+all_made pointers bucket end e h = let P : ℕ → Type 0 = IsFilled pointers in subst P e h
 
 pub loop-bucket-init : goal.loop-bucket-init
-loop-bucket-init g c = let P : Contents _ → Type 0 = λ w. IsFilled w 0 in subst P (sym c.new-words.ensures) (IsFilled-none _)
+loop-bucket-init g c = let P : Contents _ → Type 0 = λ w. IsFilled w 0 in subst P (sym c.new-pointers.ensures) (IsFilled-none _)
 
 pub loop-bucket-preserved : goal.loop-bucket-preserved
 loop-bucket-preserved g c =
-    IsFilled-more c.loop-bucket.words c.ensure_bucket.new.self c.loop-bucket.bucket c.loop-bucket.invariant (omega arith) c.ensure_bucket.ensures.absent c.in_default.ensures.ok
+    IsFilled-more c.loop-bucket.pointers c.ensure_bucket.new.self c.loop-bucket.bucket c.loop-bucket.invariant (omega arith) c.ensure_bucket.ensures.absent c.in_default.ensures.ok
 
 pub invariant_of-result : goal.invariant_of-result
 invariant_of-result g c =
-    let filled = all_made c.loop-bucket.words c.loop-bucket.bucket c.digits-first.result (omega arith) c.loop-bucket.invariant in
-    let P : ℕ → Type 0 = λ n. IsOwned (record { contents = c.loop-bucket.words; reserved = n - 1 }) in
-    subst P (sym c.bucket_size.ensures) (IsOwned-filled c.loop-bucket.words c.digits-first.result c.digits-first.ensures.bounded filled)
+    let filled = all_made c.loop-bucket.pointers c.loop-bucket.bucket c.digits-first.result (omega arith) c.loop-bucket.invariant in
+    let P : ℕ → Type 0 = λ n. IsOwned (record { contents = c.loop-bucket.pointers; reserved = n - 1 }) in
+    subst P (sym c.bucket_size.ensures) (IsOwned-filled c.loop-bucket.pointers c.digits-first.result c.digits-first.ensures.bounded filled)
 
 pub returns-clause-slots : goal.returns-clause-slots
 returns-clause-slots g c =
     let last : c.loop-bucket.bucket ≡ c.digits-first.result = omega arith in
-    slots-filled c.loop-bucket.words c.args.capacity (omega arith) (all_made c.loop-bucket.words c.loop-bucket.bucket (binary_digits c.args.capacity) (last ∙ c.digits-first.ensures.value) c.loop-bucket.invariant)
+    slots-filled c.loop-bucket.pointers c.args.capacity (omega arith) (all_made c.loop-bucket.pointers c.loop-bucket.bucket (binary_digits c.args.capacity) (last ∙ c.digits-first.ensures.value) c.loop-bucket.invariant)
 
 pub returns-clause-reserved : goal.returns-clause-reserved
 returns-clause-reserved g c =

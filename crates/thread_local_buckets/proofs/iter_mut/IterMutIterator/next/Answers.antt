@@ -3,7 +3,7 @@ use Rattle.thread_local_model.specs.Buckets.{Contents, values}
 use Rattle.thread_local_model.specs.Rows.{value_in, with_slot}
 use Rattle.thread_local_model.specs.Walk.{walk}
 use Rattle.thread_local_loan.specs.declared.loan.Loan.{Loan}
-use Rattle.thread_local_contents.proofs.NextValue.{Goes, goes}
+use Rattle.thread_local_owner_walk.proofs.NextValue.{Goes, goes}
 use Rattle.thread_local_buckets.proofs.iter_mut.IterMutIterator.next.Goals as goal
 
 -- what is given of a loan that is the same as before
@@ -19,7 +19,7 @@ goes_on g c =
     goes c.self.inside.loan.contents c.give-item.new.self.contents raw c.seek-flags.result c.without_first-self-inside.result c.self.inside.left c.give-item.result.now c.seek-flags.ensures.at
     (c.without_first-self-inside.ensures (raw.index % 64) c.seek-flags.ensures.at.first) c.without_first-self-inside.type_inv
     (ap (λ (l : Loan _). value_in l.contents raw.bucket raw.index) (sym same) ∙ c.give-item.ensures.value)
-    (from_same c.self.inside.loan c.seek-flags.new.places c.give-item.new.self.contents raw.bucket raw.index same c.give-item.ensures.contents)
+    (from_same c.self.inside.loan c.seek-flags.new.source c.give-item.new.self.contents raw.bucket raw.index same c.give-item.ensures.contents)
     c.self.invariant.0.counted (omega arith)
 
 pub invariant_of-self : goal.invariant_of-self

@@ -1,4 +1,5 @@
--- A `&` to a claim is made where one to its value is. Assumes `Logic`.
+-- A borrow of a claim becomes a `&` to it, where a borrow of the value that its slot holds does.
+-- Assumes `Logic`.
 use mathlib.Core.List.{[], ◌++◌}
 use base.Fml.{Incl-trans}
 use contract.BorrowLft.{meet_⊑_left, meet_⊑_right}
@@ -7,18 +8,18 @@ use denote.Ref.{NamedLft, ShrRef}
 use denote.Shares.{Shares-less}
 use denote.Param.Laws.{Laws}
 use denote.Param.Shared.{copy_shared}
-use denote.Struct.Field.{RawPtr-field, usize-field, bool-field}
-use denote.Struct.Laws.{RawPtr-copy, usize-copy, bool-copy, field_copy}
+use denote.Struct.Field.{RawPtr-field, bool-field}
+use denote.Struct.Laws.{RawPtr-copy, bool-copy, field_copy}
 use denote.Struct.Lending.{of_Lends}
 use Rattle.std.specs.contracts.marker.PhantomData as P
 use Rattle.thread_local_claim.specs.contracts.claimed.ClaimedSlot as C
-use Rattle.thread_local_claim_logic.specs.Claims.{place_of}
+use Rattle.thread_local_claim_logic.specs.Claims.{claim_fields}
 use Rattle.thread_local_claim_logic.proofs.Lending.{claim_laws, lends_claim}
 use Rattle.thread_local_claim.proofs.claimed.ClaimedSlot.TheLaw.Statement.{statement}
 
 pub shares : (a : NamedLft) (T : RattleType) (L : Laws T) → statement a T L
-shares a T L = of_Lends (C.struct a T) (C.the_codes T.Denot T.coded (P.the_row (ShrRef a.mir a.lft T)).coded) (C.the_heap a.lft T) (C.the_lent a.lft T) (λ d p. claim_laws a.lft T L.shr_laws d.value d.learnt d.found d.published)
-    (copy_shared RawPtr-field RawPtr-copy, (copy_shared RawPtr-field RawPtr-copy, (copy_shared RawPtr-field RawPtr-copy, (copy_shared usize-field usize-copy, (copy_shared bool-field bool-copy, (copy_shared bool-field bool-copy, (copy_shared (P.the_field (ShrRef a.mir a.lft T)) (field_copy (P.the_type (ShrRef a.mir a.lft T)) tt), tt))))))) (λ M 𝓤 𝓛 d p.
+shares a T L = of_Lends (C.struct a T) (C.the_codes T.Denot T.coded (P.the_row (ShrRef a.mir a.lft T)).coded) (C.the_heap a.lft T) (C.the_lent a.lft T) (λ d p. claim_laws a.lft T L.shr_laws d.at d.index d.learnt d.found d.published)
+    (copy_shared RawPtr-field RawPtr-copy, (copy_shared bool-field bool-copy, (copy_shared bool-field bool-copy, (copy_shared (P.the_field (ShrRef a.mir a.lft T)) (field_copy (P.the_type (ShrRef a.mir a.lft T)) tt), tt)))) (λ M 𝓤 𝓛 d p.
     let l = (C.the_row a T).lives in let s = (ShrRef a.mir a.lft T).lives in
     lends_claim 𝓛 a.lft T L.shr_laws l (Incl-trans (meet_⊑_right (T.lives ++ []) (((s ++ []) ++ []) ++ [])) (Incl-trans (meet_⊑_left ((s ++ []) ++ []) []) (Incl-trans (meet_⊑_left (s ++ []) [])
-    (Incl-trans (meet_⊑_left s []) (meet_⊑_left a.lft T.lives))))) (Shares-less 𝓛 T T.lives l (Incl-trans (meet_⊑_left (T.lives ++ []) _) (meet_⊑_left T.lives [])) (L.shares 𝓛)) d.word d.table (place_of d.id d.index d.flag_word d.value d.reserved) d.found d.published d.learnt)
+    (Incl-trans (meet_⊑_left s []) (meet_⊑_left a.lft T.lives))))) (Shares-less 𝓛 T T.lives l (Incl-trans (meet_⊑_left (T.lives ++ []) _) (meet_⊑_left T.lives [])) (L.shares 𝓛)) d.table (claim_fields d.id d.index d.bucket d.at d.reserved) d.found d.published d.learnt)

@@ -1,5 +1,6 @@
--- `find` is a load of the word, which takes the pass for the right where the bucket is missing, and else a load of the slot's flag, which takes what the slot holds.
-use Rattle.thread_local_chunks.proofs.Names.{lit<, vbool, ◌≡◌, ℕ, ◌+◌, ◌^◌, [], ◌∷◌, refl, sym, ap, ◌∙◌, subst, true, a_type, Val, vptr, inst_fn, SProp, wand, emp, via, id⊢, apply∗, Lft, Share, Fml, ftrue, fsep, flft, fbor, finv, sem, ‵, raw, ◌⊛◌, some, later, mean, at_ret, ◌$◌, ◌∵◌, !, qed, by, move, keep, drop, split, join, fsplit, fjoin, fpick, fpack, pick, use0, use1, use2, use3, await, rewrite, group, fld, stop, addr, lit, of_opd, no_more, and_then, first, blocks, exec, Calls-last, returns, enter, alloc_all, pass_all, free_all, look_at, get, get_in, through, sets, sets_last, lands_last, env, agg, sub, whole, tables, fact, fact_i, no, RattleType, owns, types_at, plain, named_lft, Ptr, block_ptr, block_of, count_of, at_block, nothing, heard, param, bounded, Stays, stay_dropped, walk_of, Goes-dropped, proved, leaves, fm, found, finds, Lends-one, ◌*◌, ◌<◌, ◌≢◌, length, Bool, false, dnil, bin, branches, size_word, is, null_ptr, ptr_val, u64, after, uint_vals, uint_Tells, usize, yes, fsplit3, vint, w64}
+-- `find` loads the bucket's pointer: at null, it takes the pass for the right. Else it loads the
+-- word of the slot's flag, and takes what the slot holds.
+use Rattle.thread_local_raw.proofs.Names.{lit<, vbool, ◌≡◌, ℕ, ◌+◌, ◌^◌, [], ◌∷◌, refl, sym, ap, ◌∙◌, subst, true, a_type, Val, vptr, inst_fn, SProp, wand, emp, via, id⊢, apply∗, Lft, Share, Fml, ftrue, fsep, flft, fbor, finv, sem, ‵, raw, ◌⊛◌, some, later, mean, at_ret, ◌$◌, ◌∵◌, !, qed, by, move, keep, drop, split, join, fsplit, fjoin, fpick, fpack, pick, use0, use1, use2, use3, await, rewrite, group, fld, stop, addr, lit, of_opd, no_more, and_then, first, blocks, exec, Calls-last, returns, enter, alloc_all, pass_all, free_all, look_at, get, get_in, through, sets, sets_last, lands_last, env, agg, sub, whole, tables, fact, fact_i, no, RattleType, owns, types_at, plain, named_lft, Ptr, block_ptr, block_of, count_of, at_block, nothing, heard, param, bounded, Stays, stay_dropped, walk_of, Goes-dropped, proved, leaves, fm, found, finds, Lends-one, ◌*◌, ◌<◌, ◌≢◌, length, Bool, false, dnil, bin, branches, is, null_ptr, ptr_val, u64, after, uint_vals, uint_Tells, usize, yes, fsplit3, vint, w64}
 use Rattle.std.proofs.Common.{◌⊎◌, inl, inr, ◌/◌, ◌%◌}
 use base.Fml.{fres}
 use base.Before.{before}
@@ -14,25 +15,25 @@ use Rattle.std.proofs.raw_atomic.Calls.{seq_cst, loads}
 use Rattle.std.proofs.raw_atomic.PtrCalls as calls
 use Rattle.std.proofs.raw_atomic.PtrCalls.{seq_cst_good}
 use Rattle.thread_local_rights.specs.Rights.{right_owns}
-use Rattle.thread_local_chunks.specs.Slots.{stride, value_words, word_number, word_at, value_in}
-use Rattle.thread_local_chunks.proofs.Flags.{in_chunks, value_near}
-use Rattle.thread_local_chunks.proofs.Slots.{IsWordNear, word_is_near}
+use Rattle.thread_local_blocks.specs.Slots.{value_words, word_at, value_offset}
+use Rattle.thread_local_blocks.proofs.Flags.{in_chunks}
+use Rattle.thread_local_blocks.proofs.Slots.{IsWordNear, word_is_near}
 use Rattle.thread_local_bits.specs.Bits.{is_set}
 use Rattle.thread_local_bits.proofs.Word.{is_set-test, masked_fits, place_below, place_fits, shifted_right}
-use Rattle.thread_local_chunks.specs.Slots as blocks_specs
-use Rattle.thread_local_shared_word_logic.specs.Shared.{WordView, Turn, Standing, Sized, mark, len, invariant, loaded}
-use Rattle.thread_local_shared_word.proofs.Fields.{pointer_good}
-use Rattle.thread_local_shared_word_logic.proofs.Loads.{glimpse, reaches, reads}
+use Rattle.thread_local_raw.specs.Fact as facts
+use Rattle.thread_local_shared_bucket_logic.specs.Shared.{BucketView, Turn, StandingBlock, Sized, mark, len, bucket_invariant, loaded}
+use Rattle.thread_local_shared_bucket.proofs.Fields.{pointer_good}
+use Rattle.thread_local_shared_bucket_logic.proofs.Loads.{glimpse, reaches, reads}
 use Rattle.thread_local_model.specs.Learnt.{Learnt, Missing, Vacant, Finds}
 use Rattle.thread_local_claim_logic.specs.Known.{IsKnown, IsUnfound, in_vain, found_as}
 use Rattle.thread_local_claim_logic.proofs.Learning.{known_as, not_missing, kept_as, finds_nothing, finds_slot, unfound, found as found_in}
-use Rattle.thread_local_claim_logic.specs.Claims.{Place, number_of_id, place_of, IsOf, IsKept, IsAt, waits, has, has_slot, has_at}
+use Rattle.thread_local_claim_logic.specs.Claims.{ClaimFields, number_of_id, claim_fields, IsOf, IsKept, waits, has, has_slot, has_at}
 use Rattle.thread_local_claim.specs.contracts.claimed.ClaimedSlot as claim
 use Rattle.thread_local_claim.specs.contracts.claimed.ClaimedSlot.find.{ended, clauses}
 use Rattle.thread_local_claim.specs.contracts.claimed.ClaimedSlot.find.Key.{name as #self}
 use Rattle.thread_local_claim_logic.proofs.Early.{comes}
 use Rattle.thread_local_claim_logic.proofs.Steps as steps
-use Rattle.thread_local_claim.proofs.Fields.{Kept, kept_of, value_of, Words, fields_of, told, made, typed, number_in, spaced, spaced_is}
+use Rattle.thread_local_claim.proofs.Fields.{Kept, kept_of, value_of, FieldsType, fields_of, told, made, typed, number_in}
 use Rattle.thread_local_claim.proofs.claimed.ClaimedSlot.find.Statement.{statement}
 use Rattle.thread_local_claim.proofs.claimed.ClaimedSlot.find.Code as code
 
@@ -43,77 +44,76 @@ pub find_spec : {M : Type 1} → statement M
 find_spec 𝓤 𝓛 𝓜 𝓡 wired X L =
     let H = 𝓛.H in let 𝓣 = tables 𝓤 H 𝓜 𝓡 𝓡.env in let R : RattleType = param 0 X in let En = ended X in let c = clauses X 𝓛 𝓜.mem 𝓡.returns in
     let inst = bounded (a_type ∷ []) (X, tt) dnil in let fn = inst_fn inst code.function in let closed = code.unfolded 𝓤 H 𝓜 𝓡 wired (X, tt) in
-    let self = plain (λ κs. claim.the_row (named_lft 2 0 tt κs) R) in let number = plain (λ _. usize) in let hs : Stays En.signature.params En.kept = (stay_dropped self no, (stay_dropped number yes, tt)) in
-    proved 𝓛 En hs c 𝓜 𝓡 (Goes-dropped 𝓛 2 self no (λ κs x f. refl), (Goes-dropped 𝓛 2 number yes (λ κs x f. refl), tt)) (#self inst) fn closed
-    (λ κs. ((λ x. value_of (kept_of x) ∷ []), (uint_vals w64, tt))) (λ κs. ((λ x vs so. (told (named_lft 2 0 tt κs) R (kept_of x) vs so.0).0), (uint_Tells w64, tt))) (λ κs qs bounds a gh are.
-    let h = a.0 in let num : ℕ = a.1.0 in let β : Lft = κs.0 in let q : Share = qs.0 in let others : Fml = fsep (flft κs.1.0 qs.1.0) ftrue in let ℓ = named_lft 2 0 tt κs in let G : RattleType = claim.the_row ℓ R in let u₀ : Val = value_of (kept_of h) in
-    let F₁ : G.Denot → Type 0 = λ r. (r.table ≡ h.table) × (r.id ≡ h.id) in let F₂ : G.Denot → Type 0 = λ r. IsKnown r.learnt in let F₃ : G.Denot → Type 0 = λ r. h.learnt ≡ Missing → (r.learnt ≡ Missing) ⊎ (r.learnt ≡ Vacant) in
+    let self = plain (λ κs. claim.the_row (named_lft 2 0 tt κs) R) in let number = plain (λ _. usize) in let hs : Stays En.signature.params En.kept = (stay_dropped self no, (stay_dropped number yes, (stay_dropped number yes, tt))) in
+    proved 𝓛 En hs c 𝓜 𝓡 (Goes-dropped 𝓛 2 self no (λ κs x f. refl), (Goes-dropped 𝓛 2 number yes (λ κs x f. refl), (Goes-dropped 𝓛 2 number yes (λ κs x f. refl), tt))) (#self inst) fn closed
+    (λ κs. ((λ x. value_of (kept_of x) ∷ []), (uint_vals w64, (uint_vals w64, tt)))) (λ κs. ((λ x vs so. told (named_lft 2 0 tt κs) R (kept_of x) vs so.0), (uint_Tells w64, (uint_Tells w64, tt)))) (λ κs qs bounds a gh are.
+    let h = a.0 in let x : ℕ = a.1.0 in let num : ℕ = a.1.1.0 in let β : Lft = κs.0 in let q : Share = qs.0 in let others : Fml = fsep (flft κs.1.0 qs.1.0) ftrue in let ℓ = named_lft 2 0 tt κs in let G : RattleType = claim.the_row ℓ R in let u₀ : Val = value_of (kept_of h) in
+    let F₁ : G.Denot → Type 0 = λ r. (r.table ≡ h.table) × (r.id ≡ h.id) × (r.index ≡ h.index) in let F₂ : G.Denot → Type 0 = λ r. IsKnown r.learnt in let F₃ : G.Denot → Type 0 = λ r. h.learnt ≡ Missing → (r.learnt ≡ Missing) ⊎ (r.learnt ≡ Vacant) in
     let F₄ : G.Denot → Type 0 = λ r. (r.reserved ≡ h.reserved) × (r.reserved ≡ true → r.learnt ≢ Missing) in let l₀ : Learnt X.Denot = h.learnt in let F₅ : G.Denot → Type 0 = λ r. Finds l₀ r.learnt in let gone : Learnt X.Denot = Missing in
-    let w : Ptr = h.word in let wb : ℕ = block_of w in let wo : ℕ = count_of w in let i : ℕ = h.index in let pl : Place = place_of h.id i h.flag_word h.value h.reserved in let fits : i < 2 ^ 64 = (told ℓ R (kept_of h) (u₀ ∷ []) are.0.0).1 in
-    let y : (walk_of 𝓛 En hs c).Ghost = ((κs, qs, bounds, a, (u₀ ∷ [], (vint w64 num ∷ [], tt))), gh) in let Post : Val → SProp 𝓤 = (walk_of 𝓛 En hs c).post y in
-    qed 𝓛 (((‵ (flft β q) ⊛ ‵ others) ⊛ ‵ (owns (types_at En.signature.params κs) a y.0.4)) ∷ raw (fact 𝓤 _) ∷ raw (fact 𝓤 (IsUnfound l₀)) ∷ raw (fact 𝓤 (num ≡ number_of_id R h.id)) ∷ []) ∵
-    keep ! (2 ∷ 3 ∷ 0 ∷ []) $ heard ! (IsUnfound l₀) (λ unseen. heard ! (num ≡ number_of_id R h.id) (λ numbered. split ! $ split ! $ move ! (2 ∷ []) $ fsplit3 ! $ fsplit ! $ keep ! (1 ∷ 4 ∷ 5 ∷ []) $
-    enter ! 𝓣.C 𝓣.Λ fn (u₀ ∷ vint w64 num ∷ []) Post $ alloc_all ! (λ l. pass_all ! refl (typed (kept_of h) fits, ((tt, record { fits = are.1.0.1 }), tt)) $ let Ev = env fn.locals l in
-    fsplit ! $ drop ! $ fpick ! (λ z. fsplit ! $ fpick ! (λ of. drop ! $ fsplit ! $ move ! (1 ∷ []) $ let d : WordView = z.0 in let t : Turn = z.1 in let at : w ≡ block_ptr wb wo = at_block w of.0 in
-    use1 𝓛 (‵ (waits (in_vain l₀) d.table t.pass h.id)) (unfound 𝓛 R d t β pl l₀ unseen) $
+    let w : Ptr = h.bucket in let wb : ℕ = block_of w in let wo : ℕ = count_of w in let i : ℕ = h.index in let pl : ClaimFields = claim_fields h.id i w h.at h.reserved in
+    let y : (walk_of 𝓛 En hs c).Ghost = ((κs, qs, bounds, a, (u₀ ∷ [], (vint w64 x ∷ [], (vint w64 num ∷ [], tt)))), gh) in let Post : Val → SProp 𝓤 = (walk_of 𝓛 En hs c).post y in
+    qed 𝓛 (((‵ (flft β q) ⊛ ‵ others) ⊛ ‵ (owns (types_at En.signature.params κs) a y.0.4)) ∷ raw (fact 𝓤 _) ∷ raw (fact 𝓤 (IsUnfound l₀)) ∷ raw (fact 𝓤 (x ≡ i)) ∷ raw (fact 𝓤 (num ≡ number_of_id R h.id)) ∷ []) ∵
+    keep ! (2 ∷ 3 ∷ 4 ∷ 0 ∷ []) $ heard ! (IsUnfound l₀) (λ unseen. heard ! (x ≡ i) (λ is_index. heard ! (num ≡ number_of_id R h.id) (λ numbered. split ! $ split ! $ move ! (2 ∷ []) $ fsplit3 ! $ fsplit ! $ keep ! (1 ∷ 4 ∷ 5 ∷ []) $
+    enter ! 𝓣.C 𝓣.Λ fn (u₀ ∷ vint w64 x ∷ vint w64 num ∷ []) Post $ alloc_all ! (λ l. pass_all ! refl (typed (kept_of h), ((tt, record { fits = are.1.0.1 }), ((tt, record { fits = are.1.1.0.1 }), tt))) $ let Ev = env fn.locals l in
+    fsplit ! $ drop ! $ fpick ! (λ z. fsplit ! $ fpick ! (λ of. drop ! $ fsplit ! $ move ! (1 ∷ []) $ let d : BucketView = z.0 in let t : Turn = z.1 in let at : w ≡ block_ptr wb wo = at_block w of.0 in
+    use1 𝓛 (‵ (fsep (facts.fact (h.at ≡ w)) (waits (in_vain l₀) d.table t.pass h.id))) (unfound 𝓛 R d t β pl l₀ unseen) $ fsplit ! $ fpick ! (λ leads. drop ! $
     -- [what it waits with; what is kept; the tokens]
-    let J : Fml = fbor t.life (invariant R d t wb (wo + 0)) in let W : Fml = waits (in_vain l₀) d.table t.pass h.id in let Pass : Fml = right_owns t.pass h.id in
+    let J : Fml = fbor t.life (bucket_invariant R d t wb (wo + 0)) in let W : Fml = waits (in_vain l₀) d.table t.pass h.id in let Pass : Fml = right_owns t.pass h.id in
     move ! (1 ∷ []) $ fsplit ! $ use1 𝓛 (‵ (before β t.life) ⊛ ‵ (before β t.life)) (before_dup 𝓛 β t.life) $ split ! $ use1 𝓛 (‵ (before β t.life) ⊛ ‵ (before β t.life)) (before_dup 𝓛 β t.life) $ split ! $
     move ! (0 ∷ 5 ∷ []) $ use2 𝓛 (later (some (λ (s : Share). ‵ (flft t.life s) ⊛ raw (wand 𝓤 (𝓛.A.lft t.life s) (H.⇛ (𝓛.A.lft β q)))))) (Lends-one 𝓛 𝓜 𝓡 β t.life q) $ await ! tt $ pick ! (λ s. split ! $
-    -- [the life's token; the way back; before, twice; the invariant; what it waits with; the other tokens]
+    -- [the life's token; the way back; before, twice; the invariant; what it waits with; the other
+    -- tokens]
     move ! (4 ∷ []) $ use1 𝓛 (‵ (finv J) ⊛ ‵ (finv J)) (𝓛.invs.inv_dup J) $ split ! $ use1 𝓛 (‵ (finv J) ⊛ ‵ (finv J)) (𝓛.invs.inv_dup J) $ split ! $
     let out : Ptr → Fml = λ p. fsep (flft t.life s) (glimpse 𝓛 R d t Pass W p) in
-    sets ! (is ! (of_opd ! (get_in ! (fld ! refl (stop !)) (sub ! 0 refl (whole !)))) (ap ptr_val at)) refl (tt, tt) $ sets ! (of_opd ! (get_in ! (fld ! refl (stop !)) (sub ! 3 refl (whole !)))) refl (tt, record { fits = fits }) $
-    first ! $ blocks ! $ sets ! (addr ! (through ! refl (fld ! refl (stop !)))) refl (tt, tt) $ sets ! (agg ! (and_then ! (lit ! tt) (no_more !))) refl seq_cst_good $
+    sets ! (is ! (of_opd ! (get_in ! (fld ! refl (stop !)) (sub ! 0 refl (whole !)))) (ap ptr_val (leads ∙ at))) refl (tt, tt) $
+    first ! $ blocks ! $ sets ! (of_opd ! (get ! refl)) refl (tt, tt) $ sets ! (addr ! (through ! refl (fld ! refl (stop !)))) refl (tt, tt) $ sets ! (agg ! (and_then ! (lit ! tt) (no_more !))) refl seq_cst_good $
     move ! (0 ∷ 3 ∷ 7 ∷ []) $ use3 𝓛 (raw (𝓣.C _ (vptr wb (wo + 0) ∷ seq_cst ∷ []) (λ u. mean 𝓛 (calls.found 𝓛 out u))))
     (via 𝓤 _ (reads 𝓛 R d t wb (wo + 0) s (sem 𝓛 W) Pass W (comes 𝓛 R d t wb (wo + 0) i h.id of.4 of.3 (in_vain l₀)) (id⊢ 𝓤 _)) (calls.loads 𝓛 𝓜 𝓡 (code.calls-std::sync::atomic::raw::ptr::load 𝓡.env wired) u64 word_laws (block_ptr wb (wo + 0)) out)) $
     Calls-last ! (fm 𝓛 𝓜 𝓡) (calls.found 𝓛 out) (and_then ! (get ! refl) (and_then ! (get ! refl) (no_more !))) (λ u. calls.finds_either ! out
-    (lands_last ! refl (pointer_good null_ptr) $ exec ! 𝓣.C 𝓣.Λ Ev (after 3 fn.body) (at_ret Ev Post) $ fsplit ! $ move ! (0 ∷ 4 ∷ []) $ use2 𝓛 (later (‵ (flft β q))) (apply∗ 𝓤 (𝓛.A.lft t.life s) (H.⇛ (𝓛.A.lft β q))) $ await ! tt $
+    (lands_last ! refl (pointer_good null_ptr) $ exec ! 𝓣.C 𝓣.Λ Ev (after 2 fn.body) (at_ret Ev Post) $ fsplit ! $ move ! (0 ∷ 4 ∷ []) $ use2 𝓛 (later (‵ (flft β q))) (apply∗ 𝓤 (𝓛.A.lft t.life s) (H.⇛ (𝓛.A.lft β q))) $ await ! tt $
     move ! (1 ∷ []) $ fsplit ! $ fpick ! (λ free. drop ! $
     -- [the pass; the token; the invariant, twice; before, twice; the other tokens]
     sets ! (of_opd ! (get ! refl)) refl (pointer_good null_ptr) $ sets ! (bin ! (get ! refl) (lit ! tt) tt) refl (tt, tt) $ first ! $ branches ! (get ! refl)
-    (λ _. let m : Kept = record { word = block_ptr wb wo; flag_word = null_ptr; value = null_ptr; index = i; found = false; published = false } in let pl' : Place = place_of h.id i null_ptr null_ptr h.reserved in
-    let r : G.Denot = record { word = block_ptr wb wo; flag_word = null_ptr; value = null_ptr; index = i; found = false; published = false; marker = record {}; table = h.table; id = h.id; reserved = h.reserved; learnt = gone } in
+    (λ _. let m : Kept = record { at = block_ptr wb wo; found = false; published = false } in let pl' : ClaimFields = claim_fields h.id i (block_ptr wb wo) (block_ptr wb wo) h.reserved in
+    let r : G.Denot = record { at = block_ptr wb wo; found = false; published = false; marker = record {}; bucket = block_ptr wb wo; table = h.table; id = h.id; index = i; reserved = h.reserved; learnt = gone } in
     sets ! (agg ! (no_more !)) refl (tt, tt) $
-    sets ! (agg ! (and_then ! (get ! refl) (and_then ! (lit ! tt) (and_then ! (lit ! tt) (and_then ! (get ! refl) (and_then ! (false_lit !) (and_then ! (false_lit !) (and_then ! (get ! refl) (no_more !))))))))) refl (typed m fits) $
-    move ! (4 ∷ 2 ∷ []) $ fjoin ! $ fjoin ! $ nothing ! $ fpack ! (IsOf R (block_ptr wb wo) h.table pl' d) (λ _. ftrue) (tt, of.1, of.2, of.3, of.4, of.5) $ fjoin ! $
-    fpack ! (WordView × Turn) (has_at R β (block_ptr wb wo) h.table pl' gone) z $ nothing ! $ fpack ! (IsKept R false false gone) (λ _. ftrue) (refl, refl) $ fjoin ! $
-    use0 𝓛 (‵ ((Words ℓ R).own_val (fields_of ℓ R m) (value_of m ∷ []))) (made ℓ R 𝓛 m fits) $ fjoin ! $ move ! (1 ∷ 4 ∷ []) $ join ! $ move ! (1 ∷ []) $
+    sets ! (agg ! (and_then ! (get ! refl) (and_then ! (false_lit !) (and_then ! (false_lit !) (and_then ! (get ! refl) (no_more !)))))) refl (typed m) $
+    nothing ! $ fpack ! (block_ptr wb wo ≡ block_ptr wb wo) (λ _. ftrue) refl $ fjoin ! $ move ! (4 ∷ 2 ∷ []) $ fjoin ! $ fjoin ! $ nothing ! $ fpack ! (IsOf R h.table pl' d) (λ _. ftrue) (tt, of.1, of.2, of.3, of.4, of.5) $ fjoin ! $
+    fpack ! (BucketView × Turn) (has_at R β h.table pl' gone) z $ nothing ! $ fpack ! (IsKept R false false gone) (λ _. ftrue) (refl, refl) $ fjoin ! $
+    use0 𝓛 (‵ ((FieldsType ℓ R).own_val (fields_of ℓ R m) (value_of m ∷ []))) (made ℓ R 𝓛 m) $ fjoin ! $ move ! (1 ∷ 4 ∷ []) $ join ! $ move ! (1 ∷ []) $
     use0 𝓛 (raw (fact 𝓤 (F₅ r))) (fact_i 𝓤 (F₅ r) (emp 𝓤) (finds_nothing l₀ unseen)) $ use0 𝓛 (raw (fact 𝓤 (F₄ r))) (fact_i 𝓤 (F₄ r) (emp 𝓤) (refl, (λ is. let never : true ≡ false = sym is ∙ sym of.5 ∙ free in cc))) $ join ! $ use0 𝓛 (raw (fact 𝓤 (F₃ r))) (fact_i 𝓤 (F₃ r) (emp 𝓤) (λ _. inl refl)) $ join ! $ use0 𝓛 (raw (fact 𝓤 (F₂ r))) (fact_i 𝓤 (F₂ r) (emp 𝓤) tt) $ join ! $
-    use0 𝓛 (raw (fact 𝓤 (F₁ r))) (fact_i 𝓤 (F₁ r) (emp 𝓤) (refl, refl)) $ join ! $ nothing ! $ nothing ! $ fjoin ! $ nothing ! $ fjoin ! $ returns_within ! Post refl (look_at ! 0 refl) $ free_all ! refl $ keep ! (3 ∷ 0 ∷ 2 ∷ 1 ∷ []) $ by ! (leaves 𝓛 En hs c y (value_of m) r (tt, (tt, tt)) (tt, (tt, tt)))) (λ wrong. absurd wrong)))
-    (λ pb po. let p : Ptr = block_ptr pb po in let k : ℕ = i / 64 in let j : ℕ = i % 64 in let at_word : ℕ = word_at R (len R d) po k in let e : ℕ = value_in R po i in
-    lands_last ! refl (pointer_good p) $ exec ! 𝓣.C 𝓣.Λ Ev (after 3 fn.body) (at_ret Ev Post) $ fsplit ! $ move ! (1 ∷ []) $ fsplit ! $ fpick ! (λ zz. move ! (0 ∷ 6 ∷ []) $
-    use2 𝓛 (later (‵ (blocks_specs.fact ((zz.0.at ≡ p) × Sized R (len R d) p)) ⊛ ‵ (loaded R d t zz.0 β))) (reaches 𝓛 R d t β p zz) $ await ! tt $ split ! $ fpick ! (λ so. drop ! $
-    let s' : Standing = record zz.0 { at = p } in rewrite ! 0 (λ (x : Standing). ‵ (loaded R d t x β)) (λ j. record zz.0 { at = so.0 j }) refl $
+    use0 𝓛 (raw (fact 𝓤 (F₁ r))) (fact_i 𝓤 (F₁ r) (emp 𝓤) (refl, refl, refl)) $ join ! $ nothing ! $ nothing ! $ fjoin ! $ nothing ! $ fjoin ! $ nothing ! $ fjoin ! $ returns_within ! Post refl (look_at ! 0 refl) $ free_all ! refl $ keep ! (3 ∷ 0 ∷ 2 ∷ 1 ∷ []) $ by ! (leaves 𝓛 En hs c y (value_of m) r (tt, (tt, (tt, tt))) (tt, (tt, (tt, tt))))) (λ wrong. absurd wrong)))
+    (λ pb po. let p : Ptr = block_ptr pb po in let k : ℕ = i / 64 in let j : ℕ = i % 64 in let at_word : ℕ = word_at R (len R d) po k in let e : ℕ = value_offset R po i in
+    lands_last ! refl (pointer_good p) $ exec ! 𝓣.C 𝓣.Λ Ev (after 2 fn.body) (at_ret Ev Post) $ fsplit ! $ move ! (1 ∷ []) $ fsplit ! $ fpick ! (λ zz. move ! (0 ∷ 6 ∷ []) $
+    use2 𝓛 (later (‵ (facts.fact ((zz.0.at ≡ p) × Sized R (len R d) p)) ⊛ ‵ (loaded R d t zz.0 β))) (reaches 𝓛 R d t β p zz) $ await ! tt $ split ! $ fpick ! (λ so. drop ! $
+    let s' : StandingBlock = record zz.0 { at = p } in rewrite ! 0 (λ (x : StandingBlock). ‵ (loaded R d t x β)) (λ j. record zz.0 { at = so.0 j }) refl $
     fsplit ! $ fpick ! (λ sized. move ! (1 ∷ []) $ fsplit ! $ use1 𝓛 (‵ (fres t.which (mark s')) ⊛ ‵ (fres t.which (mark s'))) (𝓛.names.res_dup t.which (mark s')) $ split ! $ move ! (1 ∷ 2 ∷ []) $ fjoin ! $ move ! (2 ∷ []) $
     fpack ! ((length s'.names ≡ len R d) × Sized R (len R d) s'.at) (λ _. ftrue) sized $ move ! (0 ∷ 1 ∷ []) $ fjoin ! $
-    -- [the row; which block it is; what it waits with; the life's token; the invariant, twice; the way back; before; the other tokens]
-    sets ! (of_opd ! (get ! refl)) refl (pointer_good p) $ sets ! (bin ! (get ! refl) (lit ! tt) (tests_null p so.1.1)) refl (tt, tt) $ first ! $ branches ! (get ! refl) (λ wrong. absurd wrong) (λ _. skips ! $ exec ! 𝓣.C 𝓣.Λ Ev (after 6 fn.body) (at_ret Ev Post) $
-    let low : i < length s'.names = subst (λ (n : ℕ). i < n) (sym sized.0) of.4 in let close : i * stride R < 2 ^ 64 = value_near R (len R d) i so.1.2 of.4 in
+    -- [the row; which block it is; what it waits with; the life's token; the invariant, twice; the
+    -- way back; before; the other tokens]
+    sets ! (of_opd ! (get ! refl)) refl (pointer_good p) $ sets ! (bin ! (get ! refl) (lit ! tt) (tests_null p so.1.1)) refl (tt, tt) $ first ! $ branches ! (get ! refl) (λ wrong. absurd wrong) (λ _. skips ! $ exec ! 𝓣.C 𝓣.Λ Ev (after 5 fn.body) (at_ret Ev Post) $
+    let low : i < length s'.names = subst (λ (n : ℕ). i < n) (sym sized.0) of.4 in
     let here : IsWordNear R (len R d) k = word_is_near R (len R d) k so.1.2 (in_chunks (len R d) i of.4) in let number_at : num ≡ value_words R (len R d) + k = numbered ∙ number_in R d h.id i of.3 of.4 ∙ here.number in
     let near : num * 8 < 2 ^ 64 = subst (λ (n : ℕ). n * 8 < 2 ^ 64) (sym number_at) here.near in
     first ! $ blocks ! $ sets ! (of_opd ! (get ! refl)) refl (tt, tt) $
     sets ! (is ! (bin ! (get ! refl) (lit ! tt) (record { fits = near })) (ap (λ (n : ℕ). vint w64 (n * 8)) number_at)) refl (tt, record { fits = here.near }) $
-    sets_last ! (bin ! (get ! refl) (get ! refl) tt) refl (tt, tt) $ exec ! 𝓣.C 𝓣.Λ Ev (after 7 fn.body) (at_ret Ev Post) $ sets ! (of_opd ! (get ! refl)) refl (tt, tt) $
-    first ! $ blocks ! $ sets ! (of_opd ! (get ! refl)) refl (tt, tt) $
-    sets ! (is ! (bin ! (get ! refl) (size_word !) (record { fits = spaced i (stride R) close })) (spaced_is i (stride R) close)) refl (tt, record { fits = close }) $
-    sets_last ! (bin ! (get ! refl) (get ! refl) tt) refl (tt, tt) $ exec ! 𝓣.C 𝓣.Λ Ev (after 9 fn.body) (at_ret Ev Post) $ sets ! (of_opd ! (get ! refl)) refl (tt, tt) $
+    sets_last ! (bin ! (get ! refl) (get ! refl) tt) refl (tt, tt) $ exec ! 𝓣.C 𝓣.Λ Ev (after 6 fn.body) (at_ret Ev Post) $ sets ! (of_opd ! (get ! refl)) refl (tt, tt) $
     let Found : ℕ → Fml = steps.Finds 𝓛 R d t wb (wo + 0) s' i h.id e pb low of.3 refl refl (in_vain l₀) in let aft : ℕ → Fml = λ n. fsep (flft t.life s) (Found n) in
     first ! $ blocks ! $ sets ! (agg ! (and_then ! (lit ! tt) (no_more !))) refl seq_cst_good $ move ! (4 ∷ 3 ∷ 1 ∷ 2 ∷ []) $ group ! 4 $
     use1 𝓛 (raw (𝓣.C _ (vptr pb at_word ∷ seq_cst ∷ []) (λ v. mean 𝓛 (found aft v))))
-    (via 𝓤 _ (steps.arrives 𝓛 R d t wb (wo + 0) s' i h.id e pb low of.3 refl refl s (in_vain l₀)) (loads 𝓛 𝓜 𝓡 (code.calls-std::sync::atomic::raw::load 𝓡.env wired) (block_ptr pb at_word) aft)) $
+    (via 𝓤 _ (steps.finds 𝓛 R d t wb (wo + 0) s' i h.id e pb low of.3 refl refl s (in_vain l₀)) (loads 𝓛 𝓜 𝓡 (code.calls-std::sync::atomic::raw::load 𝓡.env wired) (block_ptr pb at_word) aft)) $
     Calls-last ! (fm 𝓛 𝓜 𝓡) (found aft) (and_then ! (get ! refl) (and_then ! (get ! refl) (no_more !))) (λ v. finds ! aft (λ n nf.
-    lands_last ! refl (tt, record { fits = nf }) $ exec ! 𝓣.C 𝓣.Λ Ev (after 11 fn.body) (at_ret Ev Post) $ fsplit ! $ move ! (0 ∷ 4 ∷ []) $ use2 𝓛 (later (‵ (flft β q))) (apply∗ 𝓤 (𝓛.A.lft t.life s) (H.⇛ (𝓛.A.lft β q))) $ await ! tt $
+    lands_last ! refl (tt, record { fits = nf }) $ exec ! 𝓣.C 𝓣.Λ Ev (after 8 fn.body) (at_ret Ev Post) $ fsplit ! $ move ! (0 ∷ 4 ∷ []) $ use2 𝓛 (later (‵ (flft β q))) (apply∗ 𝓤 (𝓛.A.lft t.life s) (H.⇛ (𝓛.A.lft β q))) $ await ! tt $
     -- [the token; what was found; the row; the invariant; before; the other tokens]
-    let seen : Bool = is_set n j in let m : Kept = record { word = block_ptr wb wo; flag_word = block_ptr pb at_word; value = block_ptr pb e; index = i; found = true; published = seen } in let pl' : Place = place_of h.id i (block_ptr pb at_word) (block_ptr pb e) h.reserved in
-    sets ! (of_opd ! (get ! refl)) refl (tt, record { fits = nf }) $ sets ! (bin ! (get ! refl) (lit ! tt) (lit< tt)) refl (tt, record { fits = place_fits i }) $ sets ! (of_opd ! (get ! refl)) refl (tt, record { fits = place_fits i }) $
+    let seen : Bool = is_set n j in let m : Kept = record { at = p; found = true; published = seen } in let pl' : ClaimFields = claim_fields h.id i (block_ptr wb wo) p h.reserved in
+    sets ! (of_opd ! (get ! refl)) refl (tt, record { fits = nf }) $ sets ! (of_opd ! (get ! refl)) refl (tt, tt) $ sets ! (is ! (bin ! (get ! refl) (lit ! tt) (lit< tt)) (ap (λ (n' : ℕ). vint w64 (n' % 64)) is_index)) refl (tt, record { fits = place_fits i }) $ sets ! (of_opd ! (get ! refl)) refl (tt, record { fits = place_fits i }) $
     sets ! (bin ! (get ! refl) (get ! refl) (place_below i)) refl (tt, record { fits = shifted_right n j nf }) $ sets ! (bin ! (get ! refl) (lit ! tt) tt) refl (tt, record { fits = masked_fits (n / 2 ^ j) 1 (shifted_right n j nf) }) $
     sets ! (is ! (bin ! (get ! refl) (lit ! tt) tt) (ap vbool (is_set-test n j))) refl (tt, tt) $ sets ! (agg ! (no_more !)) refl (tt, tt) $
-    sets ! (agg ! (and_then ! (get ! refl) (and_then ! (get ! refl) (and_then ! (get ! refl) (and_then ! (get ! refl) (and_then ! (true_lit !) (and_then ! (get ! refl) (and_then ! (get ! refl) (no_more !))))))))) refl (typed m fits) $
-    move ! (1 ∷ []) $ fpick ! (λ x. fsplit ! $ fpick ! (λ known. drop ! $ move ! (2 ∷ 0 ∷ []) $ fjoin ! $ nothing ! $ fpack ! (IsAt R (len R d) s' pl') (λ _. ftrue) (refl, refl) $ fjoin ! $ fpack ! Standing (has_slot R d t β pl' x) s' $ use1 𝓛 (‵ (has R d t β pl' (found_as x))) (found_in 𝓛 R d t β pl' x) $
-    move ! (3 ∷ 2 ∷ []) $ fjoin ! $ fjoin ! $ nothing ! $ fpack ! (IsOf R (block_ptr wb wo) h.table pl' d) (λ _. ftrue) (tt, of.1, of.2, of.3, of.4, of.5) $ fjoin ! $
-    fpack ! (WordView × Turn) (has_at R β (block_ptr wb wo) h.table pl' (found_as x)) z $ nothing ! $ fpack ! (IsKept R true seen (found_as x)) (λ _. ftrue) (kept_as R x seen known.0) $ fjoin ! $
-    use0 𝓛 (‵ ((Words ℓ R).own_val (fields_of ℓ R m) (value_of m ∷ []))) (made ℓ R 𝓛 m fits) $ fjoin ! $ move ! (1 ∷ 2 ∷ []) $ join ! $ move ! (1 ∷ []) $
-    let r : G.Denot = record { word = block_ptr wb wo; flag_word = block_ptr pb at_word; value = block_ptr pb e; index = i; found = true; published = seen; marker = record {}; table = h.table; id = h.id; reserved = h.reserved; learnt = found_as x } in
-    use0 𝓛 (raw (fact 𝓤 (F₅ r))) (fact_i 𝓤 (F₅ r) (emp 𝓤) (finds_slot l₀ unseen x)) $ use0 𝓛 (raw (fact 𝓤 (F₄ r))) (fact_i 𝓤 (F₄ r) (emp 𝓤) (refl, (λ _. not_missing x))) $ join ! $ use0 𝓛 (raw (fact 𝓤 (F₃ r))) (fact_i 𝓤 (F₃ r) (emp 𝓤) (λ was. inr (ap found_as (known.1 (ap in_vain was))))) $ join ! $ use0 𝓛 (raw (fact 𝓤 (F₂ r))) (fact_i 𝓤 (F₂ r) (emp 𝓤) (known_as x)) $ join ! $
-    use0 𝓛 (raw (fact 𝓤 (F₁ r))) (fact_i 𝓤 (F₁ r) (emp 𝓤) (refl, refl)) $ join ! $ nothing ! $ nothing ! $ fjoin ! $ nothing ! $ fjoin ! $ returns ! (look_at ! 0 refl) $ free_all ! refl $ keep ! (3 ∷ 0 ∷ 2 ∷ 1 ∷ []) $ by ! (leaves 𝓛 En hs c y (value_of m) r (tt, (tt, tt)) (tt, (tt, tt))))))))))))))))))))
+    sets ! (agg ! (and_then ! (get ! refl) (and_then ! (true_lit !) (and_then ! (get ! refl) (and_then ! (get ! refl) (no_more !)))))) refl (typed m) $
+    move ! (1 ∷ []) $ fpick ! (λ v'. fsplit ! $ fpick ! (λ known. drop ! $ move ! (2 ∷ 0 ∷ []) $ fjoin ! $ nothing ! $ fpack ! (p ≡ p) (λ _. ftrue) refl $ fjoin ! $ fpack ! StandingBlock (has_slot R d t β pl' v') s' $ use1 𝓛 (‵ (has R d t β pl' (found_as v'))) (found_in 𝓛 R d t β pl' v') $
+    move ! (3 ∷ 2 ∷ []) $ fjoin ! $ fjoin ! $ nothing ! $ fpack ! (IsOf R h.table pl' d) (λ _. ftrue) (tt, of.1, of.2, of.3, of.4, of.5) $ fjoin ! $
+    fpack ! (BucketView × Turn) (has_at R β h.table pl' (found_as v')) z $ nothing ! $ fpack ! (IsKept R true seen (found_as v')) (λ _. ftrue) (kept_as R v' seen known.0) $ fjoin ! $
+    use0 𝓛 (‵ ((FieldsType ℓ R).own_val (fields_of ℓ R m) (value_of m ∷ []))) (made ℓ R 𝓛 m) $ fjoin ! $ move ! (1 ∷ 2 ∷ []) $ join ! $ move ! (1 ∷ []) $
+    let r : G.Denot = record { at = p; found = true; published = seen; marker = record {}; bucket = block_ptr wb wo; table = h.table; id = h.id; index = i; reserved = h.reserved; learnt = found_as v' } in
+    use0 𝓛 (raw (fact 𝓤 (F₅ r))) (fact_i 𝓤 (F₅ r) (emp 𝓤) (finds_slot l₀ unseen v')) $ use0 𝓛 (raw (fact 𝓤 (F₄ r))) (fact_i 𝓤 (F₄ r) (emp 𝓤) (refl, (λ _. not_missing v'))) $ join ! $ use0 𝓛 (raw (fact 𝓤 (F₃ r))) (fact_i 𝓤 (F₃ r) (emp 𝓤) (λ was. inr (ap found_as (known.1 (ap in_vain was))))) $ join ! $ use0 𝓛 (raw (fact 𝓤 (F₂ r))) (fact_i 𝓤 (F₂ r) (emp 𝓤) (known_as v')) $ join ! $
+    use0 𝓛 (raw (fact 𝓤 (F₁ r))) (fact_i 𝓤 (F₁ r) (emp 𝓤) (refl, refl, refl)) $ join ! $ nothing ! $ nothing ! $ fjoin ! $ nothing ! $ fjoin ! $ nothing ! $ fjoin ! $ returns ! (look_at ! 0 refl) $ free_all ! refl $ keep ! (3 ∷ 0 ∷ 2 ∷ 1 ∷ []) $ by ! (leaves 𝓛 En hs c y (value_of m) r (tt, (tt, (tt, tt))) (tt, (tt, (tt, tt)))))))))))))))))))))))

@@ -1,3 +1,4 @@
+-- `Box<T>` shows the fact by what `T` shows.
 use denote.Param.{param}
 use Rattle.thread_local_judged.proofs.Everywhere.{known}
 use Rattle.thread_local_judged.proofs.Boxed.{boxed}

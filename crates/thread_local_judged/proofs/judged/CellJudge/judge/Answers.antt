@@ -1,4 +1,4 @@
--- What a `&` to a cell holds names the token of the thread that may use it.
+-- A `&` to a `Cell` names a thread: it holds the token of the one that may use the cell.
 use Rattle.std.proofs.Common.{[], inr, false}
 use Rattle.thread_local_judged.proofs.Everywhere.{known}
 use Rattle.thread_local_judged.proofs.judged.CellJudge.judge.Goals as goal

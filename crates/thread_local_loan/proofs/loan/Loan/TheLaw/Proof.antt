@@ -1,4 +1,4 @@
--- A `&` to a loan holds none of the values. Assumes `Logic`.
+-- A `&` to a loan gives access to none of the values. Assumes `Logic`.
 use denote.RattleType.{RattleType}
 use denote.Ref.{NamedLft, MutRef}
 use denote.Param.Laws.{Laws}

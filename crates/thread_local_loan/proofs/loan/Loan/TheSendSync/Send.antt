@@ -1,3 +1,4 @@
+-- A loan may be sent to another thread where its values may.
 use denote.RattleType.{RattleType}
 use denote.Ref.{NamedLft}
 use denote.Param.Send.{IsSend}

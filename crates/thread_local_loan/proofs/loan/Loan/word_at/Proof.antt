@@ -1,20 +1,20 @@
--- `word_at` reads a word, and the word of a chunk of the block that it leads to.
-use Rattle.thread_local_chunks.proofs.Names.{drop, apply∗, sem, split3, is, length, is_some, cell, ◌≤◌, ◌≡◌, ℕ, ◌+◌, ◌*◌, ◌^◌, ◌<◌, List, [], ◌∷◌, sym, refl, ap, ◌∙◌, subst, arith, w64, a_type, named, Val, vint, vptr, inst_fn, full_share, SProp, emp, Fml, ftrue, fsep, flft, ‵, raw, ◌⊛◌, given, at_ret, ◌$◌, ◌∵◌, !, qed, by, move, keep, use0, use1, use2, split, join, fsplit, fsplit3, fjoin, fjoin3, fpick, fpack, learn, rewrite, feq_i, stop, fld, load, lit, of_opd, bin, first, blocks, exec, returns, enter, look, alloc_all, pass_all, free_all, look_at, get, through, sets, sets_last, env, sub, look_in, whole, bor_open, obor_close, tables, fact_i, yes, RattleType, owns, types_at, plain, named_lft, Ptr, block_ptr, block_of, count_of, at_block, InBlock, nothing, heard, opens, closes, peeks, Is, shows, cell_at, param, layouts, usize, mut_vals, mut_Tells, uint_vals, uint_Tells, Stays, stay_dropped, stay_ref, walk_of, Goes-dropped, Goes-ref, proved, leaves, wand, some, pick, flt_i}
+-- `word_at` reads a bucket's pointer, and the word of a chunk in the block that it points to.
+use Rattle.thread_local_raw.proofs.Names.{drop, apply∗, sem, split3, is, length, is_some, cell, ◌≤◌, ◌≡◌, ℕ, ◌+◌, ◌*◌, ◌^◌, ◌<◌, List, [], ◌∷◌, sym, refl, ap, ◌∙◌, subst, arith, w64, a_type, named, Val, vint, vptr, inst_fn, full_share, SProp, emp, Fml, ftrue, fsep, flft, ‵, raw, ◌⊛◌, given, at_ret, ◌$◌, ◌∵◌, !, qed, by, move, keep, use0, use1, use2, split, join, fsplit, fsplit3, fjoin, fjoin3, fpick, fpack, learn, rewrite, feq_i, stop, fld, load, lit, of_opd, bin, first, blocks, exec, returns, enter, look, alloc_all, pass_all, free_all, look_at, get, through, sets, sets_last, env, sub, look_in, whole, bor_open, obor_close, tables, fact_i, yes, RattleType, owns, types_at, plain, named_lft, Ptr, block_ptr, block_of, count_of, at_block, InBlock, nothing, heard, opens, closes, peeks, Is, shows, cell_at, param, layouts, usize, mut_vals, mut_Tells, uint_vals, uint_Tells, Stays, stay_dropped, stay_ref, walk_of, Goes-dropped, Goes-ref, proved, leaves, wand, some, pick, flt_i}
 use contract.Monad.{fact}
 use Rattle.std.proofs.alloc.Shapes.{after}
 use Rattle.thread_local_model.specs.Buckets.{row, IsTable}
 use Rattle.thread_local_model.specs.Place.{id_at}
 use Rattle.thread_local_model.specs.Rows.{value_in}
 use Rattle.thread_local_bits.specs.Bits.{is_set}
-use Rattle.thread_local_chunks.specs.Slots.{value_words, word_number, flags_at}
-use Rattle.thread_local_chunks.proofs.Flags.{chunk_in}
-use Rattle.thread_local_chunks.proofs.Slots.{IsWordOf, IsWordNear, word_is_near}
-use Rattle.thread_local_contents.proofs.RowLaws.{row_whole}
-use Rattle.thread_local_loan.specs.Lent.{Lending, lending, framed, frames, flagged, Leads, IsLeft}
+use Rattle.thread_local_blocks.specs.Slots.{value_words, word_number, flags_at}
+use Rattle.thread_local_blocks.proofs.Flags.{chunk_in}
+use Rattle.thread_local_blocks.proofs.Slots.{IsWordOf, IsWordNear, word_is_near}
+use Rattle.thread_local_owner_walk.proofs.RowLaws.{row_whole}
+use Rattle.thread_local_loan.specs.Lent.{Lending, lending, framed, frames, flagged, PointsTo, IsLeft}
 use Rattle.thread_local_loan.specs.contracts.loan.Loan as loan
 use Rattle.thread_local_loan.specs.contracts.loan.Loan.word_at.{ended, clauses}
 use Rattle.thread_local_loan.specs.contracts.loan.Loan.word_at.Key.{name as #self}
-use Rattle.thread_local_loan.proofs.Fields.{Words, told, loan_val, leads_in}
+use Rattle.thread_local_loan.proofs.Fields.{FieldsType, told, loan_val, leads_in}
 use Rattle.thread_local_loan.proofs.Frames.{pointer, in_row, Frame, frame_out}
 use Rattle.thread_local_loan.proofs.Reading.{word_out, says_of_left}
 use Rattle.thread_local_loan.proofs.loan.Loan.word_at.Statement.{statement}
@@ -28,7 +28,7 @@ word_at_spec 𝓤 𝓛 𝓜 𝓡 wired X L =
     let hs : Stays En.signature.params En.kept = (stay_ref (0 ∷ []) tt mine, (stay_dropped (plain (λ _. usize)) yes, (stay_dropped (plain (λ _. usize)) yes, (stay_dropped (plain (λ _. usize)) yes, tt)))) in let goes = Goes-dropped 𝓛 3 (plain (λ _. usize)) yes (λ κs x f. refl) in
     proved 𝓛 En hs c₀ 𝓜 𝓡 (Goes-ref 𝓛 3 0 tt mine, (goes, (goes, (goes, tt)))) (#self inst) fn (code.unfolded 𝓤 H 𝓜 𝓡 wired (X, tt))
     (λ κs. (mut_vals, (uint_vals w64, (uint_vals w64, (uint_vals w64, tt))))) (λ κs. (mut_Tells (named 0) κs.0 (loan.the_row (named_lft 3 1 tt κs) R), (uint_Tells w64, (uint_Tells w64, (uint_Tells w64, tt))))) (λ κs qs bounds a gh are.
-    let ℓ = named_lft 3 1 tt κs in let Lo : RattleType = loan.the_row ℓ R in let D : RattleType = Words ℓ R in
+    let ℓ = named_lft 3 1 tt κs in let Lo : RattleType = loan.the_row ℓ R in let D : RattleType = FieldsType ℓ R in
     let b : ℕ = a.0.ref_ptr.0 in let o : ℕ = a.0.ref_ptr.1 in let h : Lo.Denot = a.0.now in let k : ℕ = a.1.0 in let c : ℕ = a.1.1.0 in let w : ℕ = a.1.1.1.0 in
     let y : (walk_of 𝓛 En hs c₀).Ghost = ((κs, qs, bounds, a, (vptr b o ∷ [], (vint w64 k ∷ [], (vint w64 c ∷ [], (vint w64 w ∷ [], tt))))), gh) in let Post : Val → SProp 𝓤 = (walk_of 𝓛 En hs c₀).post y in
     let others : Fml = fsep (flft κs.1.0 qs.1.0) (fsep (flft κs.1.1.0 qs.1.1.0) ftrue) in
@@ -36,10 +36,11 @@ word_at_spec 𝓤 𝓛 𝓜 𝓡 wired X L =
     qed 𝓛 (((‵ (flft κs.0 qs.0) ⊛ ‵ others) ⊛ ‵ (owns (types_at En.signature.params κs) a y.0.4)) ∷ raw (fact 𝓤 _) ∷ (raw (fact 𝓤 InTable) ⊛ raw (fact 𝓤 InBucket) ⊛ raw (fact 𝓤 Ahead) ⊛ raw (fact 𝓤 Numbered)) ∷ []) ∵
     keep ! (2 ∷ 0 ∷ []) $ split3 ! $ heard ! InTable (λ small. heard ! InBucket (λ inside. split ! $ heard ! Ahead (λ ahead. heard ! Numbered (λ numbered. split ! $ split ! $ move ! (2 ∷ []) $ fsplit ! $ fsplit3 ! $ keep ! (1 ∷ 2 ∷ 4 ∷ 5 ∷ []) $
     enter ! 𝓣.C 𝓣.Λ fn (vptr b o ∷ vint w64 k ∷ vint w64 c ∷ vint w64 w ∷ []) Post $ alloc_all ! (λ l. pass_all ! refl ((tt, tt), ((tt, record { fits = are.1.0.1 }), ((tt, record { fits = are.1.1.0.1 }), ((tt, record { fits = are.1.1.1.0.1 }), tt)))) $ let Ev = env fn.locals l in
-    opens ! tt Lo b o (λ ts. move ! (1 ∷ []) $ fsplit ! $ peeks ! D (Is D) (shows 𝓛 D) (h.words, (tt, tt)) ts (λ is_so. move ! (1 ∷ []) $ fpick ! (λ s. fsplit ! $ fpick ! (λ so. drop ! $ fsplit ! $
-    -- [the frames; the values; the fields; the loan's cell; its open borrow, in three entries; the other tokens]
-    let at : h.words ≡ block_ptr (block_of h.words) (count_of h.words) = at_block h.words so.0 in let wb : ℕ = block_of h.words in let wo : ℕ = count_of h.words in let e : ℕ = k * 8 + wo in
-    let rs = s.1.rows in let p : Ptr = pointer s.0 k in let r = in_row rs k in let ev : ts ≡ loan_val (block_ptr wb wo) ∷ [] = told ℓ R h.words ts is_so ∙ ap (λ (q : Ptr). loan_val q ∷ []) at in
+    opens ! tt Lo b o (λ ts. move ! (1 ∷ []) $ fsplit ! $ peeks ! D (Is D) (shows 𝓛 D) (h.pointers, (tt, tt)) ts (λ is_so. move ! (1 ∷ []) $ fpick ! (λ s. fsplit ! $ fpick ! (λ so. drop ! $ fsplit ! $
+    -- [the frames; the values; the fields; the loan's cell; its open borrow, in three entries; the
+    -- other tokens]
+    let at : h.pointers ≡ block_ptr (block_of h.pointers) (count_of h.pointers) = at_block h.pointers so.0 in let wb : ℕ = block_of h.pointers in let wo : ℕ = count_of h.pointers in let e : ℕ = k * 8 + wo in
+    let rs = s.1.rows in let p : Ptr = pointer s.0 k in let r = in_row rs k in let ev : ts ≡ loan_val (block_ptr wb wo) ∷ [] = told ℓ R h.pointers ts is_so ∙ ap (λ (q : Ptr). loan_val q ∷ []) at in
     let near : c * 64 < length r = subst (λ n. c * 64 < n) (sym (so.1.long k)) inside in let sb : ℕ = block_of p in let F : ℕ → Fml = λ n. flags_at R (length r) sb (count_of p) n c in
     move ! (7 ∷ []) $ fsplit ! $ move ! (2 ∷ 0 ∷ []) $ bor_open ! tt $ move ! (1 ∷ []) $
     use1 𝓛 (‵ (framed R wb e p r) ⊛ raw (Frame 𝓛 R wb wo s.0 rs k e)) (frame_out 𝓛 R wb s.0 rs k wo e refl (subst (λ n. k < n) (sym so.1.rows) small)) $ split ! $ fsplit3 ! $ move ! (1 ∷ []) $ fpick ! (λ lead. drop ! $
@@ -47,7 +48,8 @@ word_at_spec 𝓤 𝓛 𝓜 𝓡 wired X L =
     let here : IsWordNear R (length r) c = word_is_near R (length r) c leads.1 (chunk_in (length r) c near) in let long : length r ≡ 2 ^ k = so.1.long k ∙ row_whole h.contents k (c * 64) so.1.table inside in
     let number_at : w ≡ value_words R (length r) + c = numbered ∙ ap (λ (m : ℕ). word_number R m c) (sym long) ∙ here.number in let fits : w * 8 < 2 ^ 64 = subst (λ (m : ℕ). m * 8 < 2 ^ 64) (sym number_at) here.near in
     move ! (1 ∷ []) $ use1 𝓛 (some (λ (n : ℕ). given (IsWordOf r c n) (‵ (F n) ⊛ raw (wand 𝓤 (sem 𝓛 (F n)) (sem 𝓛 (flagged R p r)))))) (word_out 𝓛 R p r c near) $ pick ! (λ n. learn ! (λ is_word. split ! $
-    -- [the chunk's word; its way back; the word; the way back; the open frames; a token; the values; the fields; the loan's cell; its open borrow, in three entries]
+    -- [the chunk's word; its way back; the pointer; the way back; the open frames; a token; the
+    -- values; the fields; the loan's cell; its open borrow, in three entries]
     rewrite ! 8 (λ (ws : List Val). ‵ (cell_at full_share Lo.mir ws b o)) ev refl $ rewrite ! 2 (λ (q : Ptr). ‵ (cell wb e q)) place refl $
     first ! $ blocks ! $ sets ! (of_opd ! (load ! (through ! refl (fld ! refl (stop !))) (look_in ! 8 (sub ! 0 refl (whole !))))) refl (tt, tt) $
     sets ! (bin ! (get ! refl) (lit ! tt) (record { fits = low })) refl (tt, record { fits = low }) $
@@ -58,10 +60,11 @@ word_at_spec 𝓤 𝓛 𝓜 𝓡 wired X L =
     sets_last ! (of_opd ! (load ! (through ! refl (stop !)) (look ! 0 refl))) refl (tt, record { fits = is_word.fits }) $ exec ! 𝓣.C 𝓣.Λ Ev (after 1 fn.body) (at_ret Ev Post) $
     sets ! (of_opd ! (get ! refl)) refl (tt, record { fits = is_word.fits }) $
     use2 𝓛 (‵ (flagged R p r)) (apply∗ 𝓤 (sem 𝓛 (F n)) (sem 𝓛 (flagged R p r))) $ move ! (1 ∷ []) $ rewrite ! 0 (λ (q : Ptr). ‵ (cell wb e q)) (sym place) refl $
-    nothing ! $ fpack ! (Leads R p r) (λ _. ftrue) lead $ move ! (1 ∷ 0 ∷ 2 ∷ []) $ fjoin3 ! $ use2 𝓛 (‵ (frames R wb wo s.0 rs)) (apply∗ 𝓤 (sem 𝓛 (framed R wb e p r)) (sem 𝓛 (frames R wb wo s.0 rs))) $
-    move ! (1 ∷ 0 ∷ []) $ obor_close ! tt $ move ! (0 ∷ 3 ∷ []) $ fjoin ! $ nothing ! $ fpack ! (InBlock h.words × IsLeft s.1 h.contents h.given) (λ _. ftrue) so $ fjoin ! $
-    fpack ! (Lending R) (lending R ℓ.lft h.words h.name h.contents h.given) s $
-    -- [what the loan owns; two tokens; the fields; the loan's cell; its open borrow, in three entries]
+    nothing ! $ fpack ! (PointsTo R p r) (λ _. ftrue) lead $ move ! (1 ∷ 0 ∷ 2 ∷ []) $ fjoin3 ! $ use2 𝓛 (‵ (frames R wb wo s.0 rs)) (apply∗ 𝓤 (sem 𝓛 (framed R wb e p r)) (sem 𝓛 (frames R wb wo s.0 rs))) $
+    move ! (1 ∷ 0 ∷ []) $ obor_close ! tt $ move ! (0 ∷ 3 ∷ []) $ fjoin ! $ nothing ! $ fpack ! (InBlock h.pointers × IsLeft s.1 h.contents h.given) (λ _. ftrue) so $ fjoin ! $
+    fpack ! (Lending R) (lending R ℓ.lft h.pointers h.name h.contents h.given) s $
+    -- [what the loan owns; two tokens; the fields; the loan's cell; its open borrow, in three
+    -- entries]
     move ! (3 ∷ 0 ∷ []) $ fjoin ! $ rewrite ! 3 (λ (ws : List Val). ‵ (cell_at full_share Lo.mir ws b o)) (sym ev) refl $ move ! (3 ∷ 0 ∷ 4 ∷ 5 ∷ 6 ∷ []) $ closes ! tt Lo h ts b o $
     feq_i ! (List Val) (vptr b o ∷ []) (vptr b o ∷ []) refl $ fjoin3 ! $ nothing ! $ nothing ! $ fjoin ! $ nothing ! $ fjoin ! $ nothing ! $ fjoin ! $ move ! (1 ∷ 0 ∷ []) $ fjoin ! $ move ! (2 ∷ 3 ∷ []) $ fjoin ! $ move ! (2 ∷ 0 ∷ []) $ join ! $
     let Told : Type 0 = (bit : ℕ) → bit < 64 → is_set n bit ≡ is_some (value_in h.contents k (c * 64 + bit)) in

@@ -1,3 +1,4 @@
+-- A lock may go to another thread if its value may.
 use denote.RattleType.{RattleType}
 use denote.Param.Send.{IsSend}
 use Rattle.thread_local_lock.specs.declared.lock.Fits.{Ghosts}

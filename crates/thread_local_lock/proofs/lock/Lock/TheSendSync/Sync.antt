@@ -1,3 +1,4 @@
+-- Threads may share a lock if its value may go to another thread.
 use Rattle.std.proofs.Common.{ℕ, zero, suc, ◌+◌, List, [], ◌∷◌, ◌++◌}
 use base.Fraction.{full_share}
 use base.Fml.{Lft}

@@ -1,5 +1,6 @@
 -- `into_inner` takes the value out, whatever the word is.
-use Rattle.thread_local_lock.proofs.Names.{◌≡◌, ◌&&◌, T, true, List, [], ◌∷◌, ◌++◌, sym, refl, ◌∙◌, subst, w64, dcons, dnil, a_type, Val, vint, vstruct, vcons, vnil, has_ty, inst_fn, SProp, ent, id⊢, ftrue, fsep, WpFn, ‵, raw, ◌⊛◌, ◌$◌, ◌∵◌, !, qed, by, move, keep, drop, split, fsplit, fsplit3, fjoin, fpick, rewrite, feq_l, suffices, stop, fld, of_opd, returns, enter, alloc_all, pass_all, free_all, look_at, get, get_in, sets, sub, whole, tables, no, RattleType, plain, nothing, peeks, Is, shows, param, layout, bounded, alive, Stays, stay_dropped, walk_of, Goes-dropped, El, lawful, Good, one, and_tt, proved_at, leaves}
+use Rattle.thread_local_raw.proofs.Names.{◌≡◌, ◌&&◌, T, true, List, [], ◌∷◌, ◌++◌, sym, refl, ◌∙◌, subst, w64, dcons, dnil, a_type, Val, vint, vstruct, vcons, vnil, has_ty, inst_fn, SProp, ent, id⊢, ftrue, fsep, WpFn, ‵, raw, ◌⊛◌, ◌$◌, ◌∵◌, !, qed, by, move, keep, drop, split, fsplit, fsplit3, fjoin, fpick, rewrite, feq_l, suffices, stop, fld, of_opd, returns, enter, alloc_all, pass_all, free_all, look_at, get, get_in, sets, sub, whole, tables, no, RattleType, plain, nothing, peeks, Is, shows, param, layout, bounded, alive, Stays, stay_dropped, walk_of, Goes-dropped, El, lawful, Good, and_tt, proved_at, leaves}
+use Rattle.std.proofs.mem.Param.{one}
 use mir.Val.{of_list}
 use types.Kit.{flt_l}
 use Rattle.thread_local_lock.specs.contracts.lock.Lock as lock

@@ -1,7 +1,8 @@
--- `mark` is one exchange, after which the word is TAKEN or AWAITED where it was so before.
-use Rattle.thread_local_lock.proofs.Names.{ℕ, ◌+◌, List, [], ◌∷◌, refl, lit<, w64, dcons, dnil, a_type, named, Val, vunit, vint, vptr, inst_fn, SProp, wand, via, apply∗, Lft, Share, Fml, ftrue, fsep, flft, fbor, ‵, raw, ◌⊛◌, some, later, mean, at_ret, ◌$◌, ◌∵◌, !, qed, by, move, keep, drop, split, join, fsplit, fjoin, fpick, pick, use2, use3, await, feq_i, stop, fld, addr, lit, unit_lit, of_opd, no_more, and_then, first, blocks, exec, Calls-last, returns, enter, alloc_all, pass_all, free_all, look_at, get, through, sets, lands_last, env, tables, Lends-one, yes, RattleType, owns, types_at, plain, block_ptr, nothing, unhide, param, bounded, RefOf, shr_vals, shr_Tells, Stays, stay_dropped, walk_of, Goes-dropped, proved, leaves, fm, found, finds, tail, exchanges}
+-- `mark` is one compare and exchange of TAKEN for AWAITED: the right to the value stays where it
+-- is.
+use Rattle.thread_local_raw.proofs.Names.{ℕ, ◌+◌, List, [], ◌∷◌, refl, lit<, w64, dcons, dnil, a_type, named, Val, vunit, vint, vptr, inst_fn, SProp, wand, via, apply∗, Lft, Share, Fml, ftrue, fsep, flft, fbor, ‵, raw, ◌⊛◌, some, later, mean, at_ret, ◌$◌, ◌∵◌, !, qed, by, move, keep, drop, split, join, fsplit, fjoin, fpick, pick, use2, use3, await, feq_i, stop, fld, addr, lit, unit_lit, of_opd, no_more, and_then, first, blocks, exec, Calls-last, returns, enter, alloc_all, pass_all, free_all, look_at, get, through, sets, lands_last, env, tables, Lends-one, yes, RattleType, owns, types_at, plain, block_ptr, nothing, unhide, param, bounded, RefOf, shr_vals, shr_Tells, Stays, stay_dropped, walk_of, Goes-dropped, proved, leaves, fm, found, finds, tail, exchanges}
 use Rattle.std.proofs.Math.Nat.{suc-ne-zero}
-use Rattle.thread_local_lock.specs.Locking.{Fitting, invariant}
+use Rattle.thread_local_lock.specs.Locking.{Fitting, lock_invariant}
 use Rattle.thread_local_lock.specs.contracts.lock.Lock as lock
 use Rattle.thread_local_lock.specs.contracts.lock.Lock.mark.{ended, clauses}
 use Rattle.thread_local_lock.specs.contracts.lock.Lock.mark.Key.{name as #self}
@@ -20,13 +21,13 @@ mark_spec 𝓤 𝓛 𝓜 𝓡 wired X L g d _ =
     qed 𝓛 (((‵ (flft κ q) ⊛ ‵ others) ⊛ ‵ (owns (types_at En.signature.params κs) a y.0.4)) ∷ raw ((c κs a).requires gh) ∷ []) ∵
     split ! $ split ! $ move ! (2 ∷ []) $ fsplit ! $ fsplit ! $ keep ! (1 ∷ 3 ∷ 4 ∷ []) $
     enter ! 𝓣.C 𝓣.Λ fn (vptr b o ∷ []) Post $ alloc_all ! (λ l. pass_all ! refl ((tt, tt), tt) $ let Ev = env fn.locals l in
-    unhide ! $ fpick ! (λ t. let J : Fml = fbor t.0 (invariant R ok b o t) in fsplit ! $ move ! (0 ∷ 2 ∷ []) $
+    unhide ! $ fpick ! (λ t. let J : Fml = fbor t.0 (lock_invariant R ok b o t) in fsplit ! $ move ! (0 ∷ 2 ∷ []) $
     use2 𝓛 (later (some (λ (s : Share). ‵ (flft t.0 s) ⊛ raw (wand 𝓤 (𝓛.A.lft t.0 s) (H.⇛ (𝓛.A.lft κ q)))))) (Lends-one 𝓛 𝓜 𝓡 κ t.0 q) $ await ! tt $ pick ! (λ s. split ! $
     -- [α's token, and the way back; the invariant; the other tokens]
     let after : ℕ → Fml = λ n. fsep (flft t.0 s) (gained 𝓛 R ok b o t s 1 n) in
     first ! $ blocks ! $ sets ! (addr ! (through ! refl (fld ! refl (stop !)))) refl (tt, tt) $ nothing ! $ move ! (3 ∷ 1 ∷ 0 ∷ []) $
     use3 𝓛 (raw (𝓣.C _ (vptr b (o + 0) ∷ vint w64 1 ∷ vint w64 2 ∷ []) (λ u. mean 𝓛 (found after u))))
-    (via 𝓤 _ (exchanged 𝓛 R ok b o t s 1 2 (suc-ne-zero 1)) (exchanges 𝓛 𝓜 𝓡 (code.calls-thread_local_atomic_word::word::exchange 𝓡.env wired) (block_ptr b (o + 0)) 1 2 (lit< tt) (lit< tt) after)) $
+    (via 𝓤 _ (exchanged 𝓛 R ok b o t s 1 2 (suc-ne-zero 1)) (exchanges 𝓛 𝓜 𝓡 (code.calls-thread_local_raw::word::exchange 𝓡.env wired) (block_ptr b (o + 0)) 1 2 (lit< tt) (lit< tt) after)) $
     Calls-last ! (fm 𝓛 𝓜 𝓡) (found after) (and_then ! (get ! refl) (and_then ! (lit ! tt) (and_then ! (lit ! tt) (no_more !)))) (λ u. finds ! after (λ n fits.
     lands_last ! refl (tt, record { fits = fits }) $ exec ! 𝓣.C 𝓣.Λ Ev (tail fn.body) (at_ret Ev Post) $ sets ! (of_opd ! (unit_lit !)) refl (tt, tt) $
     fsplit ! $ move ! (1 ∷ []) $ drop ! $ move ! (0 ∷ 1 ∷ []) $ use2 𝓛 (later (‵ (flft κ q))) (apply∗ 𝓤 (𝓛.A.lft t.0 s) (H.⇛ (𝓛.A.lft κ q))) $ await ! tt $ join ! $

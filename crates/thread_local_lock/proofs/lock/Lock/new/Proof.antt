@@ -1,5 +1,6 @@
--- `new` puts the value behind a free word.
-use Rattle.thread_local_lock.proofs.Names.{◌≡◌, ℕ, ◌^◌, ◌&&◌, T, true, List, [], ◌∷◌, ◌++◌, sym, refl, subst, lit<, w64, dcons, dnil, a_type, Val, vint, vstruct, vcons, vnil, has_ty, WT, inst_fn, SProp, ent, emp, id⊢, ftrue, fsep, WpFn, ‵, raw, ◌⊛◌, ◌$◌, ◌∵◌, !, qed, by, move, keep, drop, split, fsplit, fjoin, fjoin3, fpack, use0, rewrite, feq_i, flt_i, suffices, lit, of_opd, no_more, and_then, returns, enter, alloc_all, pass_all, free_all, look_at, get, sets, agg, tables, fact, fact_i, no, RattleType, owns, types_at, plain, nothing, heard, param, layout, bounded, u64, alive, Stays, stay_dropped, walk_of, Goes-dropped, El, lawful, Good, one, and_tt, proved_at, leaves}
+-- `new` puts a value that fits behind the word FREE.
+use Rattle.thread_local_raw.proofs.Names.{◌≡◌, ℕ, ◌^◌, ◌&&◌, T, true, List, [], ◌∷◌, ◌++◌, sym, refl, subst, lit<, w64, dcons, dnil, a_type, Val, vint, vstruct, vcons, vnil, has_ty, WT, inst_fn, SProp, ent, emp, id⊢, ftrue, fsep, WpFn, ‵, raw, ◌⊛◌, ◌$◌, ◌∵◌, !, qed, by, move, keep, drop, split, fsplit, fjoin, fjoin3, fpack, use0, rewrite, feq_i, flt_i, suffices, lit, of_opd, no_more, and_then, returns, enter, alloc_all, pass_all, free_all, look_at, get, sets, agg, tables, fact, fact_i, no, RattleType, owns, types_at, plain, nothing, heard, param, layout, bounded, u64, alive, Stays, stay_dropped, walk_of, Goes-dropped, El, lawful, Good, and_tt, proved_at, leaves}
+use Rattle.std.proofs.mem.Param.{one}
 use base.Fml.{fex}
 use denote.RattleType.{Valss}
 use denote.Laws.{Typed}

@@ -1,5 +1,5 @@
--- `sleep` parks on the word.
-use Rattle.thread_local_lock.proofs.Names.{ℕ, ◌+◌, List, [], ◌∷◌, refl, lit<, w64, dcons, dnil, a_type, named, Val, vunit, vint, vptr, inst_fn, SProp, wand, apply∗, Lft, Share, Fml, ftrue, fsep, flft, ‵, raw, ◌⊛◌, some, later, mean, at_ret, ◌$◌, ◌∵◌, !, qed, by, move, keep, group, fsplit3, split, split3, join, fsplit, fjoin, fpick, pick, use1, use2, use3, await, feq_i, stop, fld, addr, lit, unit_lit, of_opd, no_more, and_then, first, blocks, exec, Calls-last, returns, enter, alloc_all, pass_all, free_all, look_at, get, through, sets, lands_last, env, tables, fact, Lends-one, yes, RattleType, owns, types_at, plain, block_ptr, nothing, heard, unhide, param, bounded, RefOf, u64, shr_vals, shr_Tells, uint_vals, uint_Tells, Stays, stay_dropped, walk_of, Goes-dropped, proved, leaves, fm, stored, has_stored, tail}
+-- `sleep` parks on the word, and takes nothing out of the lock's invariant.
+use Rattle.thread_local_raw.proofs.Names.{ℕ, ◌+◌, List, [], ◌∷◌, refl, lit<, w64, dcons, dnil, a_type, named, Val, vunit, vint, vptr, inst_fn, SProp, wand, apply∗, Lft, Share, Fml, ftrue, fsep, flft, ‵, raw, ◌⊛◌, some, later, mean, at_ret, ◌$◌, ◌∵◌, !, qed, by, move, keep, group, fsplit3, split, split3, join, fsplit, fjoin, fpick, pick, use1, use2, use3, await, feq_i, stop, fld, addr, lit, unit_lit, of_opd, no_more, and_then, first, blocks, exec, Calls-last, returns, enter, alloc_all, pass_all, free_all, look_at, get, through, sets, lands_last, env, tables, fact, Lends-one, yes, RattleType, owns, types_at, plain, block_ptr, nothing, heard, unhide, param, bounded, RefOf, u64, shr_vals, shr_Tells, uint_vals, uint_Tells, Stays, stay_dropped, walk_of, Goes-dropped, proved, leaves, fm, stored, has_stored, tail}
 use contract.BorrowLft.{◌⊑◌}
 use Rattle.std.specs.Sync.RawAtomic.{asks, always}
 use Rattle.thread_local_lock.specs.Locking.{Fitting}
@@ -7,7 +7,7 @@ use Rattle.thread_local_lock.specs.contracts.lock.Lock as lock
 use Rattle.thread_local_lock.specs.contracts.lock.Lock.sleep.{ended, clauses}
 use Rattle.thread_local_lock.specs.contracts.lock.Lock.sleep.Key.{name as #self}
 use Rattle.thread_local_lock.proofs.Steps.{looked}
-use Rattle.thread_local_atomic_word.proofs.Calls.{lent, parks}
+use Rattle.thread_local_raw.proofs.Calls.{lent, parks}
 use Rattle.thread_local_lock.proofs.lock.Lock.sleep.Statement.{statement}
 use Rattle.thread_local_lock.proofs.lock.Lock.sleep.Code as code
 

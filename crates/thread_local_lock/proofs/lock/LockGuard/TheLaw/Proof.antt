@@ -1,4 +1,4 @@
--- A `&` to a guard is made where one to its value is. Assumes `Logic`.
+-- A borrow of a guard becomes a `&` to it, where a borrow of its value does. Assumes `Logic`.
 use mathlib.Core.List.{[], ◌++◌}
 use base.Fml.{Incl-trans}
 use contract.BorrowLft.{meet_⊑_left, meet_⊑_right}

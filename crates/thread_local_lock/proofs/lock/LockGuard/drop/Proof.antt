@@ -1,5 +1,6 @@
--- `drop` exchanges the word for FREE, which leaves the right to the value, and wakes one that may sleep.
-use Rattle.thread_local_lock.proofs.Names.{◌≡◌, T, ℕ, ◌+◌, ◌^◌, List, [], ◌∷◌, sym, refl, ap, subst, lit<, w64, dcons, dnil, a_type, Val, has_ty, WT, vunit, vint, inst_fn, SProp, wand, id⊢, via, apply∗, guard_i, Lft, Share, Fml, ftrue, fsep, flft, fbor, sem, ‵, raw, ◌⊛◌, some, given, later, mean, at_ret, ◌$◌, ◌∵◌, !, qed, by, move, keep, drop, split, join, fsplit, fjoin, fpick, fpack, pick, learn, use1, use2, use3, await, rewrite, feq_i, feq_l, flt_i, stop, fld, addr, lit, unit_lit, of_opd, no_more, and_then, first, blocks, exec, Calls-last, returns, enter, alloc_all, pass_all, free_all, look_at, get, get_in, through, sets, sets_last, lands_last, env, agg, sub, whole, tables, fact, fact_use, Lends-one, no, RattleType, owns, types_at, plain, named_lft, Ptr, InBlock, block_ptr, block_of, count_of, at_block, nothing, heard, param, bounded, Stays, stay_dropped, walk_of, Goes-dropped, proved, leaves, fm, found, finds, tail}
+-- `drop` swaps the word for FREE, which puts the right to the value back into the invariant, and
+-- wakes a thread that may sleep.
+use Rattle.thread_local_raw.proofs.Names.{◌≡◌, T, ℕ, ◌+◌, ◌^◌, List, [], ◌∷◌, sym, refl, ap, subst, lit<, w64, dcons, dnil, a_type, Val, has_ty, WT, vunit, vint, inst_fn, SProp, wand, id⊢, via, apply∗, guard_i, Lft, Share, Fml, ftrue, fsep, flft, fbor, sem, ‵, raw, ◌⊛◌, some, given, later, mean, at_ret, ◌$◌, ◌∵◌, !, qed, by, move, keep, drop, split, join, fsplit, fjoin, fpick, fpack, pick, learn, use1, use2, use3, await, rewrite, feq_i, feq_l, flt_i, stop, fld, addr, lit, unit_lit, of_opd, no_more, and_then, first, blocks, exec, Calls-last, returns, enter, alloc_all, pass_all, free_all, look_at, get, get_in, through, sets, sets_last, lands_last, env, agg, sub, whole, tables, fact, fact_use, Lends-one, no, RattleType, owns, types_at, plain, named_lft, Ptr, InBlock, block_ptr, block_of, count_of, at_block, nothing, heard, param, bounded, Stays, stay_dropped, walk_of, Goes-dropped, proved, leaves, fm, found, finds, tail}
 use mir.Syntax.{Body, ty_unit}
 use base.Fml.{feq}
 use types.ByLocal.{is}
@@ -8,7 +9,7 @@ use denote.Steps.{only}
 use denote.Triple.Call.{calls_at_last}
 use denote.Triple.Spec.{triple_of}
 use Rattle.std.proofs.raw_atomic.Calls.{seq_cst, swaps}
-use Rattle.thread_local_lock.specs.Locking.{Fitting, fitting, invariant, guard_owns}
+use Rattle.thread_local_lock.specs.Locking.{Fitting, fitting, lock_invariant, guard_owns}
 use Rattle.thread_local_lock.specs.contracts.lock.LockGuard as guard
 use Rattle.thread_local_lock.specs.contracts.lock.wake_if as waker
 use Rattle.thread_local_lock.proofs.lock.wake_if.Met as waker_met
@@ -34,7 +35,7 @@ drop_spec 𝓤 𝓛 𝓜 𝓡 wired X L g d d' _ _ =
     use1 𝓛 (given (InBlock p) (‵ (guard_owns β R ok p x))) (fact_use 𝓤 _ (placed 𝓛 β R ok p x) (guard_i 𝓤 (InBlock p) (sem 𝓛 (guard_owns β R ok p x)))) $ learn ! (λ inb. let at : p ≡ block_ptr b o = at_block p inb in
     rewrite ! 0 (λ (z : Ptr). ‵ (guard_owns β R ok z x)) at refl $
     enter ! 𝓣.C 𝓣.Λ fn (guard_of p ∷ []) Post $ alloc_all ! (λ l. pass_all ! refl (typed p inb, tt) $ let Ev = env fn.locals l in
-    fpick ! (λ t. let J : Fml = fbor t.0 (invariant R ok b o t) in fsplit ! $ fsplit ! $ move ! (0 ∷ 3 ∷ []) $
+    fpick ! (λ t. let J : Fml = fbor t.0 (lock_invariant R ok b o t) in fsplit ! $ fsplit ! $ move ! (0 ∷ 3 ∷ []) $
     use2 𝓛 (later (some (λ (s : Share). ‵ (flft t.0 s) ⊛ raw (wand 𝓤 (𝓛.A.lft t.0 s) (H.⇛ (𝓛.A.lft β q)))))) (Lends-one 𝓛 𝓜 𝓡 β t.0 q) $ await ! tt $ pick ! (λ s. split ! $
     -- [α's token, and the way back; the invariant; the right to the value; the other tokens]
     let Done : Body → Body = λ k. tail (tail k) in let third : Body = Done fn.body in let fifth : Body = Done third in let at-word : Ptr = block_ptr b (o + 0) in let out : Fml = fsep (flft t.0 s) ftrue in

@@ -1,3 +1,4 @@
+-- A right may go to another thread: its element names none.
 use denote.Param.Send.{IsSend}
 use Rattle.thread_local_rights.proofs.Elements.{right_keyless}
 use Rattle.thread_local_rights.specs.contracts.right.Right.{the_row}

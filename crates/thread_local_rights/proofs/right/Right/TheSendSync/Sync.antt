@@ -1,3 +1,4 @@
+-- Threads may share a right: its element names none.
 use denote.Param.Send.{IsSync, part_keyless}
 use Rattle.thread_local_rights.proofs.right.Right.TheSendSync.Send.{send}
 use Rattle.thread_local_rights.specs.contracts.right.Right.{the_row}

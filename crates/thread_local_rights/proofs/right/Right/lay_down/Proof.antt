@@ -1,4 +1,4 @@
--- `lay_down` keeps the right's element when the fields are gone.
+-- `lay_down` drops the fields, and keeps the right's element.
 use Rattle.std.proofs.Common.{List, [], ◌∷◌, refl}
 use mir.Val.{Val, vunit}
 use base.Fml.{ftrue}

@@ -1,4 +1,4 @@
--- `take_up` puts the fields, which own nothing, to the right's element.
+-- `take_up` adds the fields, which own nothing, to the right's element.
 use Rattle.std.proofs.Common.{[], ◌∷◌, refl}
 use base.Fml.{ftrue}
 use types.Kit.{‵, ◌⊛◌, ◌$◌, ◌∵◌, !, qed, keep, join, fjoin, suffices, use0, done}

@@ -1,3 +1,4 @@
+-- `Rights` may go to another thread: its elements name none.
 use denote.Param.Send.{IsSend}
 use Rattle.thread_local_rights.proofs.Elements.{rights_keyless}
 use Rattle.thread_local_rights.specs.contracts.right.Rights.{the_row}

@@ -1,3 +1,4 @@
+-- Threads may share `Rights`: its elements name none.
 use denote.Param.Send.{IsSync, part_keyless}
 use Rattle.thread_local_rights.proofs.right.Rights.TheSendSync.Send.{send}
 use Rattle.thread_local_rights.specs.contracts.right.Rights.{the_row}

@@ -1,4 +1,4 @@
--- `put_back` puts the right's element to the others.
+-- `put_back` joins the right's element to the others.
 use Rattle.std.proofs.Common.{◌≡◌, ℕ, true, List, [], ◌∷◌, refl}
 use mir.Syntax.{named}
 use mir.Val.{Val, vptr, vunit}

@@ -1,4 +1,4 @@
--- `take` cuts the id's element off.
+-- `take` splits off the id's element.
 use Rattle.std.proofs.Common.{ℕ, [], ◌∷◌, refl, w64}
 use mir.Syntax.{named}
 use mir.Val.{Val, vptr}

@@ -1,7 +1,7 @@
--- A `&` to shared buckets holds what a `&` to their words does.
+-- A `&` to shared buckets holds what a `&` to their parts holds.
 use denote.RattleType.{RattleType}
 use denote.Param.Laws.{Laws}
-use Rattle.thread_local_shared_buckets.proofs.parts.Parts.TheLaws.{the_row_laws}
+use Rattle.thread_local_shared_buckets.proofs.parts.SharedParts.TheLaws.{the_row_laws}
 use Rattle.thread_local_shared_buckets.proofs.shared.Shared.TheLaw.Statement.{statement}
 
 pub shares : (T : RattleType) (L : Laws T) → statement T L

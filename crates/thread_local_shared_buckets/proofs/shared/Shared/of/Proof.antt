@@ -1,4 +1,4 @@
--- `of` puts an owner's words beside the number, and they lie at rest.
+-- `of` puts an owner's pointers beside the number: they are shared buckets at rest.
 use Rattle.std.proofs.Common.{◌≡◌, ℕ, ◌^◌, ◌<◌, List, [], ◌∷◌, ◌++◌, refl, sym, subst, w64}
 use mir.Syntax.{a_type, named}
 use mir.Val.{Val, vint, vptr, has_ty}
@@ -28,8 +28,8 @@ use Rattle.std.proofs.ResultValues.{and_tt}
 use Rattle.thread_local_model.specs.Owned.{IsOwned}
 use Rattle.thread_local_judged.specs.Judged.{Judged}
 use Rattle.thread_local_rights.specs.contracts.right.Rights as rights
-use Rattle.thread_local_words.specs.contracts.words.Words as words
-use Rattle.thread_local_words.proofs.words.Words.TheLaws as words'
+use Rattle.thread_local_bucket_pointers.specs.contracts.bucket_pointers.BucketPointers as all_pointers
+use Rattle.thread_local_bucket_pointers.proofs.bucket_pointers.BucketPointers.TheLaws as pointers'
 use Rattle.thread_local_shared_buckets.specs.TableView.{TableView}
 use Rattle.thread_local_shared_buckets.specs.contracts.shared.Shared as shared
 use Rattle.thread_local_shared_buckets.specs.contracts.shared.Shared.of.{ended, clauses}
@@ -40,19 +40,19 @@ use Rattle.thread_local_shared_buckets.proofs.shared.Shared.of.Code as code
 
 pub of_spec : {M : Type 1} → statement M
 of_spec 𝓤 𝓛 𝓜 𝓡 wired T L =
-    let H = 𝓛.H in let 𝓣 = tables 𝓤 H 𝓜 𝓡 𝓡.env in let R : RattleType = param 0 T in let LR : Laws R = param_laws 0 T L in let Sh : RattleType = shared.the_row R in let Ws : RattleType = words.the_row R in
+    let H = 𝓛.H in let 𝓣 = tables 𝓤 H 𝓜 𝓡 𝓡.env in let R : RattleType = param 0 T in let LR : Laws R = param_laws 0 T L in let Sh : RattleType = shared.the_row R in let Ws : RattleType = all_pointers.the_row R in
     let En = ended T in let c = clauses T 𝓛 𝓜.mem 𝓡.returns in let inst = layouts (a_type ∷ []) (T, tt) in let fn = inst_fn inst code.function in
     let self = plain (λ _. Ws) in let number = plain (λ _. usize) in let ref = RefOf (0 ∷ []) tt (plain (λ _. rights.the_row)) (λ _. tt) in let hs : Stays En.signature.params En.kept = (stay_dropped self no, (stay_dropped number yes, (stay_dropped ref yes, tt))) in
     proved_at 𝓛 En hs c 𝓜 𝓡 (Goes-dropped 𝓛 2 self no (λ κs x f. refl), (Goes-dropped 𝓛 2 number yes (λ κs x f. refl), (Goes-dropped 𝓛 2 ref yes (λ κs x f. refl), tt))) (#self inst) fn (code.unfolded 𝓤 H 𝓜 𝓡 wired (T, tt)) (λ z are.
     let w : Ws.Denot = z.0.3.0 in let n : ℕ = z.0.3.1.0 in let table : ℕ = z.0.3.1.1.0.now.table in let s : TableView = record { table = table; reserved = n } in
-    let got = one (layout Ws) z.0.4.0 (((words'.the_row_laws R LR).lawful 𝓛).typed w z.0.4.0 are.0) in let v : Val = got.0 in let fine : Good (layout Ws) v = got.2 in
+    let got = one (layout Ws) z.0.4.0 (((pointers'.the_row_laws R LR).lawful 𝓛).typed w z.0.4.0 are.0) in let v : Val = got.0 in let fine : Good (layout Ws) v = got.2 in
     let ref_is = shr_Tells (named 0) z.0.0.0 rights.the_row z.0.3.1.1.0 z.0.4.1.1.0 are.1.1.0 in
     let Post : Val → SProp 𝓤 = (walk_of 𝓛 En hs c).post z in let Run : List Val → SProp 𝓤 = λ ws. WpFn 𝓤 H 𝓣.C 𝓣.Λ fn ws Post in
     let p : Val = vptr z.0.3.1.1.0.ref_ptr.0 z.0.3.1.1.0.ref_ptr.1 in let us : List Val = v ∷ vint w64 n ∷ p ∷ [] in
     let fits : n < 2 ^ 64 = are.1.0.1 in let typed : Typed Sh.mir (pair_val v n ∷ []) = ((and_tt (has_ty (layout Ws) v) fine.0, (fine.1, (record { fits = fits }, tt))), tt) in let Owned : Type 0 = IsOwned (record { contents = w; reserved = n }) in
     qed 𝓛 ((raw (alive 𝓛 En.signature z.0.0 z.0.1) ⊛ ‵ (owns (types_at En.signature.params z.0.0) z.0.3 z.0.4)) ∷ raw (fact 𝓤 _) ∷ raw (fact 𝓤 _) ∷ raw (fact 𝓤 _) ∷ raw (fact 𝓤 (Judged R)) ∷ raw (fact 𝓤 Owned) ∷ []) ∵
     keep ! (4 ∷ 5 ∷ 0 ∷ []) $ heard ! (Judged R) (λ j. heard ! Owned (λ owned. split ! $ move ! (1 ∷ []) $ fsplit ! $ keep ! (0 ∷ 2 ∷ []) $
-    -- [the words; the tokens]
+    -- [the pointers; the tokens]
     rewrite ! 0 (λ (ws : List Val). ‵ (Ws.own_val w ws)) got.1 refl $ use1 𝓛 (‵ (Sh.own_val s (pair_val v n ∷ []))) (makes_shared 𝓛 R LR j table w n v fits owned typed) $
     suffices ! (Run us) (subst (λ (ws : List Val). ent 𝓤 (Run us) (Run ws)) (sym (λ i. got.1 i ++ (are.1.0.0 i ++ (ref_is i ++ [])))) (id⊢ 𝓤 (Run us))) $
     enter ! 𝓣.C 𝓣.Λ fn us Post $ alloc_all ! (λ l. pass_all ! refl (fine, ((tt, record { fits = fits }), ((tt, tt), tt))) $

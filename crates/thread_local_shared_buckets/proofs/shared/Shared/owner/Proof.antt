@@ -1,4 +1,4 @@
--- `owner` takes back what is due, and lends the same memory as an owner's buckets.
+-- `owner` takes back what is due from the sharing, and lends the same memory as an owner's buckets.
 use Rattle.std.proofs.Common.{◌≡◌, ℕ, [], ◌∷◌, refl}
 use mir.Syntax.{a_type, named}
 use mir.Val.{Val, vptr}

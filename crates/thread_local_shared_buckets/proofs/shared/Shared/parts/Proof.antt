@@ -1,4 +1,4 @@
--- `parts` is the same `&`, to what the buckets are made of.
+-- `parts` is the same `&`, to what the buckets consist of.
 use Rattle.std.proofs.Common.{◌≡◌, ℕ, List, [], ◌∷◌, refl}
 use mir.Syntax.{a_type, named}
 use mir.Val.{Val, vptr}
@@ -22,7 +22,7 @@ use denote.Triple.Walked.{Stays, stay_dropped, walk_of, Goes-dropped}
 use Rattle.std.proofs.raw_atomic.Walks.{proved, leaves}
 use Rattle.std.proofs.alloc.Shapes.{after}
 use Rattle.thread_local_shared_buckets.specs.TableView.{TableView}
-use Rattle.thread_local_shared_buckets.specs.contracts.parts.Parts as inner
+use Rattle.thread_local_shared_buckets.specs.contracts.parts.SharedParts as inner
 use Rattle.thread_local_shared_buckets.specs.contracts.shared.Shared as shared
 use Rattle.thread_local_shared_buckets.specs.contracts.shared.Shared.parts.{ended, clauses}
 use Rattle.thread_local_shared_buckets.specs.contracts.shared.Shared.parts.Key.{name as #self}

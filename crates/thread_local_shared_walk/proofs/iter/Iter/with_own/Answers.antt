@@ -1,3 +1,4 @@
+-- The walk's own value is at the id that was passed, since the id at an id's place is that id.
 use Rattle.std.proofs.Common.{◌≡◌, ℕ, true, Some, ap, ◌∙◌}
 use Rattle.thread_local_model.specs.Place.{id_at, bucket_of}
 use Rattle.thread_local_model.proofs.PlaceLaws.{id_at-place}

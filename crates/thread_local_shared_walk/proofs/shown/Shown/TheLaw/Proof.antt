@@ -1,4 +1,4 @@
--- A `&` to it says what it says, which can be had twice. Assumes `Logic`.
+-- A `&` to a `Shown` shows the same fact, which can be duplicated. Assumes `Logic`.
 use mathlib.Core.List.{[], ◌∷◌}
 use seplogic.Ra.Ura.{Ura}
 use base.Logic.{ent, sep, wand, snd∗, apply∗}
@@ -15,7 +15,7 @@ use denote.Param.Shared.{copy_shared}
 use denote.Struct.Laws.{field_copy}
 use denote.Struct.Lending.{Lends, of_Lends}
 use Rattle.std.specs.contracts.marker.PhantomData as P
-use Rattle.thread_local_chunks.specs.Slots.{fact}
+use Rattle.thread_local_raw.specs.Fact.{fact}
 use Rattle.thread_local_judged.specs.Judged.{Shareable}
 use Rattle.thread_local_shared_walk.specs.contracts.shown.Shown as C
 use Rattle.thread_local_shared_walk.proofs.shown.Shown.TheLaw.Statement.{statement}

@@ -1,3 +1,4 @@
+-- A `Shown` may go to another thread, whatever the type: it owns a fact alone.
 use denote.RattleType.{RattleType}
 use denote.Ref.{NamedLft}
 use denote.Param.Send.{IsSend}

@@ -1,3 +1,4 @@
+-- Threads may share a `Shown`, whatever the type: it owns a fact alone.
 use denote.RattleType.{RattleType}
 use denote.Ref.{NamedLft}
 use denote.Param.Send.{IsSync}

@@ -1,5 +1,5 @@
--- `new` keeps what the bound on the type says.
-use Rattle.thread_local_chunks.proofs.Names.{[], ◌∷◌, refl, a_type, Val, inst_fn, SProp, ftrue, ‵, raw, ◌⊛◌, ◌$◌, ◌∵◌, !, qed, by, keep, use0, split, fjoin, fpack, no_more, and_then, returns, enter, alloc_all, pass_all, free_all, look_at, get, sets, agg, tables, fact, RattleType, nothing, heard, param, layouts, alive, Stays, walk_of, proved, leaves}
+-- `new` keeps the fact that the bound on the type gives.
+use Rattle.thread_local_raw.proofs.Names.{[], ◌∷◌, refl, a_type, Val, inst_fn, SProp, ftrue, ‵, raw, ◌⊛◌, ◌$◌, ◌∵◌, !, qed, by, keep, use0, split, fjoin, fpack, no_more, and_then, returns, enter, alloc_all, pass_all, free_all, look_at, get, sets, agg, tables, fact, RattleType, nothing, heard, param, layouts, alive, Stays, walk_of, proved, leaves}
 use denote.Param.Send.{IsSync}
 use denote.Signature.{named_lft}
 use Rattle.thread_local_judged.specs.Judged.{Shareable}

@@ -1,11 +1,11 @@
--- `tell` hands out what a `&` to it says.
-use Rattle.thread_local_chunks.proofs.Names.{[], ◌∷◌, ℕ, refl, yes, List, a_type, named, Val, vptr, vunit, inst_fn, SProp, emp, Lft, Share, Fml, ftrue, fsep, flft, ‵, raw, ◌⊛◌, ◌$◌, ◌∵◌, !, qed, by, move, keep, drop, split, join, fsplit, fjoin, fpick, use0, use1, feq_i, of_opd, unit_lit, returns, enter, alloc_all, pass_all, free_all, look_at, sets, env, tables, fact, fact_i, RattleType, owns, types_at, plain, nothing, param, layouts, RefOf, shr_vals, shr_Tells, Stays, stay_dropped, walk_of, Goes-dropped, proved, leaves}
+-- `tell` hands out the fact that a `&` to a `Shown` shows.
+use Rattle.thread_local_raw.proofs.Names.{[], ◌∷◌, ℕ, refl, yes, List, a_type, named, Val, vptr, vunit, inst_fn, SProp, emp, Lft, Share, Fml, ftrue, fsep, flft, ‵, raw, ◌⊛◌, ◌$◌, ◌∵◌, !, qed, by, move, keep, drop, split, join, fsplit, fjoin, fpick, use0, use1, feq_i, of_opd, unit_lit, returns, enter, alloc_all, pass_all, free_all, look_at, sets, env, tables, fact, fact_i, RattleType, owns, types_at, plain, nothing, param, layouts, RefOf, shr_vals, shr_Tells, Stays, stay_dropped, walk_of, Goes-dropped, proved, leaves}
 use base.Fml.{fhide}
 use denote.Memory.{hidden_shr}
 use denote.Opens.{unhide}
 use denote.Signature.{named_lft}
 use denote.Struct.Lending.{lent_out}
-use Rattle.thread_local_chunks.specs.Slots.{fact as said_fact}
+use Rattle.thread_local_raw.specs.Fact.{fact as said_fact}
 use Rattle.thread_local_judged.specs.Judged.{Shareable}
 use Rattle.thread_local_shared_walk.specs.contracts.shown.Shown as Shown
 use Rattle.thread_local_shared_walk.specs.contracts.shown.Shown.tell.{ended, clauses}

@@ -1,4 +1,4 @@
--- It keeps the number of bytes, and answers `Err`.
+-- `allocate` keeps the size of the request, and answers `Err`.
 use Rattle.std.proofs.Common.{◌≡◌, ℕ, ◌+◌, ◌^◌, ◌<◌, List, [], ◌∷◌, false, Err, refl, ap, w64}
 use seplogic.Ra.Ura.{Ura}
 use mir.Syntax.{Ty}

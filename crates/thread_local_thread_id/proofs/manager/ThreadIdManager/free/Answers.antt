@@ -10,7 +10,7 @@ use Rattle.thread_local_thread_id.proofs.Views.{below_peak}
 use Rattle.thread_local_thread_id.proofs.manager.ThreadIdManager.free.Goals as goal
 use Rattle.thread_local_thread_id.proofs.manager.ThreadIdManager.free.Goals.{After-index_mut}
 
--- the id is held, and so lies below the peak
+-- the id is held, and so is below the peak
 below : (c : After-index_mut) → c.args.id < c.self.inside.peak
 below c = below_peak (bits_of c.self.inside.words.items) c.self.inside.peak c.args.id (ap (λ m. is_held m.held c.args.id) c.self.view_is ∙ c.requires)
 

@@ -21,14 +21,14 @@ has_room c = let room = rw (← c.self.view_is) at c.requires.room in (omega ari
 bits : (c : After-index_mut) → bits_of (set c.self.inside.words.items (c.args.id / 64) (bit_or c.index_mut.result.now (1 * 2 ^ (c.args.id % 64) % 2 ^ 64))) ≡ set (bits_of c.self.inside.words.items) c.args.id true
 bits c = bits_of-set_bit c.self.inside.words.items c.args.id c.index_mut.result.now (let room = (has_room c).0 in omega arith) c.index_mut.ensures.value
 
--- where it isn't the peak it lies below
+-- where it isn't the peak, it is below it
 below : (c : After-index_mut) → (c.args.id ≡ c.self.inside.peak → ⊥) → c.args.id < c.self.inside.peak
 below c apart =
     let is = c.self.invariant in
     let first = is_first c in
     omega (arith, least_within (bits_of c.self.inside.words.items) c.self.inside.peak (omega (arith, length-bits_of c.self.inside.words.items, is.peak)) is.above, apart)
 
--- what is seen then
+-- the held ids that contracts see then
 taken : (c : After-index_mut) → (c.args.id ≡ c.self.inside.peak → ⊥) → take c.self.inside.peak (bits_of (set c.self.inside.words.items (c.args.id / 64) (bit_or c.index_mut.result.now (1 * 2 ^ (c.args.id % 64) % 2 ^ 64)))) ≡ with_least c.args.self.now.held
 taken c apart =
     let first = is_first c in

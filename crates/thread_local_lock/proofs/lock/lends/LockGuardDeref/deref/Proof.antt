@@ -1,5 +1,5 @@
 -- `deref` lends the value that the guard has the right to.
-use Rattle.thread_local_lock.proofs.Names.{◌≡◌, ℕ, ◌+◌, List, [], ◌∷◌, ◌++◌, sym, refl, ap, ◌∙◌, dcons, dnil, a_type, named, Val, vptr, inst_fn, SProp, emp, guard_i, Lft, Fml, ftrue, fsep, flft, sem, ‵, raw, ◌⊛◌, given, at_ret, ◌$◌, ◌∵◌, !, qed, by, move, keep, split, join, fsplit, fjoin, learn, use0, use1, rewrite, feq_i, stop, fld, hop, addr, of_opd, first, blocks, exec, returns, enter, alloc_all, pass_all, free_all, look_at, get, through, sets, sets_last, env, sub, whole, look_in, tables, fact, fact_i, fact_use, yes, RattleType, owns, types_at, plain, named_lft, Ptr, InBlock, block_ptr, block_of, count_of, at_block, nothing, peeks, unhide, Is, shows, cell_at, param, bounded, param_laws, RefOf, shr_vals, shr_Tells, Stays, stay_dropped, walk_of, Goes-dropped, proved, leaves, tail}
+use Rattle.thread_local_raw.proofs.Names.{◌≡◌, ℕ, ◌+◌, List, [], ◌∷◌, ◌++◌, sym, refl, ap, ◌∙◌, dcons, dnil, a_type, named, Val, vptr, inst_fn, SProp, emp, guard_i, Lft, Fml, ftrue, fsep, flft, sem, ‵, raw, ◌⊛◌, given, at_ret, ◌$◌, ◌∵◌, !, qed, by, move, keep, split, join, fsplit, fjoin, learn, use0, use1, rewrite, feq_i, stop, fld, hop, addr, of_opd, first, blocks, exec, returns, enter, alloc_all, pass_all, free_all, look_at, get, through, sets, sets_last, env, sub, whole, look_in, tables, fact, fact_i, fact_use, yes, RattleType, owns, types_at, plain, named_lft, Ptr, InBlock, block_ptr, block_of, count_of, at_block, nothing, peeks, unhide, Is, shows, cell_at, param, bounded, param_laws, RefOf, shr_vals, shr_Tells, Stays, stay_dropped, walk_of, Goes-dropped, proved, leaves, tail}
 use base.Fml.{fhide, Incl-refl}
 use contract.BorrowLft.{⊑_meet}
 use denote.Steps.{looks, shuts}
@@ -12,7 +12,7 @@ use Rattle.thread_local_lock.specs.Locking.{offset, guard_shares}
 use Rattle.thread_local_lock.specs.contracts.lock.LockGuard as guard
 use Rattle.thread_local_lock.specs.contracts.lock.lends.LockGuardDeref.deref.{ended, clauses}
 use Rattle.thread_local_lock.specs.contracts.lock.lends.LockGuardDeref.deref.Key.{name as #self}
-use Rattle.thread_local_lock.proofs.Fields.{guard_of, Words, told, opened}
+use Rattle.thread_local_lock.proofs.Fields.{guard_of, FieldsType, told, opened}
 use Rattle.thread_local_lock.proofs.Guards.{seen}
 use Rattle.thread_local_lock.proofs.lock.lends.LockGuardDeref.deref.Statement.{statement}
 use Rattle.thread_local_lock.proofs.lock.lends.LockGuardDeref.deref.Code as code
@@ -24,7 +24,7 @@ deref_spec 𝓤 𝓛 𝓜 𝓡 wired X L g d _ =
     let row = plain (λ κs. guard.the_row (named_lft 3 1 tt κs) R g) in let self = RefOf (0 ∷ []) tt row (λ _. tt) in let hs : Stays En.signature.params En.kept = (stay_dropped self yes, tt) in
     proved 𝓛 En hs c 𝓜 𝓡 (Goes-dropped 𝓛 3 self yes (λ κs x f. refl), tt) (#self inst) fn closed
     (λ κs. (shr_vals, tt)) (λ κs. (shr_Tells (named 0) κs.0 (guard.the_row (named_lft 3 1 tt κs) R g), tt)) (λ κs qs bounds a gh are.
-    let ℓ = named_lft 3 1 tt κs in let D : RattleType = Words ℓ R g in let b : ℕ = a.0.ref_ptr.0 in let o : ℕ = a.0.ref_ptr.1 in let κ : Lft = κs.0 in let β : Lft = κs.1.0 in
+    let ℓ = named_lft 3 1 tt κs in let D : RattleType = FieldsType ℓ R g in let b : ℕ = a.0.ref_ptr.0 in let o : ℕ = a.0.ref_ptr.1 in let κ : Lft = κs.0 in let β : Lft = κs.1.0 in
     let h = a.0.now in let p : Ptr = h.lock in let x : X.Denot = h.value in let others : Fml = fsep (flft β qs.1.0) (fsep (flft κs.1.1.0 qs.1.1.0) ftrue) in let pb : ℕ = block_of p in let po : ℕ = count_of p in let e : ℕ = po + offset R in
     let y : (walk_of 𝓛 En hs c).Ghost = ((κs, qs, bounds, a, (vptr b o ∷ [], tt)), gh) in let Post : Val → SProp 𝓤 = (walk_of 𝓛 En hs c).post y in
     qed 𝓛 (((‵ (flft κ qs.0) ⊛ ‵ others) ⊛ ‵ (owns (types_at En.signature.params κs) a y.0.4)) ∷ raw ((c κs a).requires gh) ∷ []) ∵

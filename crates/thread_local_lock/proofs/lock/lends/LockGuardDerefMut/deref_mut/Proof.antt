@@ -1,5 +1,5 @@
--- `deref_mut` lends the value, and the guard follows it.
-use Rattle.thread_local_lock.proofs.Names.{◌≡◌, ℕ, ◌+◌, List, [], ◌∷◌, sym, refl, ap, ◌∙◌, dcons, dnil, a_type, named, Val, vptr, inst_fn, full_share, SProp, emp, guard_i, Lft, GName, Share, Fml, ftrue, fsep, fbor, flft, sem, ‵, raw, ◌⊛◌, some, given, later, at_ret, ◌$◌, ◌∵◌, !, qed, by, move, keep, split, split3, join, fsplit, fsplit3, fjoin, fjoin3, fpick, fpack, pick, learn, use0, use1, use2, use3, await, rewrite, feq_i, stop, fld, hop, addr, of_opd, first, blocks, exec, returns, enter, alloc_all, pass_all, free_all, look_at, get, through, sets, sets_last, env, open_ref, sub, whole, look_in, tables, fact, fact_i, fact_use, no, RattleType, owns, types_at, plain, named_lft, Ptr, InBlock, block_ptr, block_of, count_of, at_block, nothing, peeks, Is, shows, cell_at, part_at, mem, param, bounded, RefMutOf, mut_vals, mut_Tells, follows, Stays, stay_dropped, walk_of, Goes-spent_ref, proved, leaves, tail}
+-- `deref_mut` lends the value, and the guard follows what is written to it.
+use Rattle.thread_local_raw.proofs.Names.{◌≡◌, ℕ, ◌+◌, List, [], ◌∷◌, sym, refl, ap, ◌∙◌, dcons, dnil, a_type, named, Val, vptr, inst_fn, full_share, SProp, emp, guard_i, Lft, GName, Share, Fml, ftrue, fsep, fbor, flft, sem, ‵, raw, ◌⊛◌, some, given, later, at_ret, ◌$◌, ◌∵◌, !, qed, by, move, keep, split, split3, join, fsplit, fsplit3, fjoin, fjoin3, fpick, fpack, pick, learn, use0, use1, use2, use3, await, rewrite, feq_i, stop, fld, hop, addr, of_opd, first, blocks, exec, returns, enter, alloc_all, pass_all, free_all, look_at, get, through, sets, sets_last, env, open_ref, sub, whole, look_in, tables, fact, fact_i, fact_use, no, RattleType, owns, types_at, plain, named_lft, Ptr, InBlock, block_ptr, block_of, count_of, at_block, nothing, peeks, Is, shows, cell_at, part_at, mem, param, bounded, RefMutOf, mut_vals, mut_Tells, follows, Stays, stay_dropped, walk_of, Goes-spent_ref, proved, leaves, tail}
 use base.Fml.{fobs}
 use types.SemTy.{Body}
 use types.Mut.{close_ref}
@@ -11,7 +11,7 @@ use Rattle.thread_local_lock.specs.Locking.{Fitting, offset, guard_owns}
 use Rattle.thread_local_lock.specs.contracts.lock.LockGuard as guard
 use Rattle.thread_local_lock.specs.contracts.lock.lends.LockGuardDerefMut.deref_mut.{ended, clauses}
 use Rattle.thread_local_lock.specs.contracts.lock.lends.LockGuardDerefMut.deref_mut.Key.{name as #self}
-use Rattle.thread_local_lock.proofs.Fields.{guard_of, Words, told}
+use Rattle.thread_local_lock.proofs.Fields.{guard_of, FieldsType, told}
 use Rattle.thread_local_lock.proofs.Guards.{placed}
 use Rattle.thread_local_lock.proofs.Handed.{hands_value}
 use Rattle.thread_local_lock.proofs.lock.lends.LockGuardDerefMut.deref_mut.Statement.{statement}
@@ -25,7 +25,7 @@ deref_mut_spec 𝓤 𝓛 𝓜 𝓡 wired X L g d _ =
     let row = plain (λ κs. guard.the_row (named_lft 3 1 tt κs) R g) in let self = RefMutOf (0 ∷ []) tt row (λ _. tt) in let hs : Stays En.signature.params En.kept = (stay_dropped self no, tt) in
     proved 𝓛 En hs c 𝓜 𝓡 (Goes-spent_ref 𝓛 3 (0 ∷ []) tt row, tt) (#self inst) fn closed
     (λ κs. (mut_vals, tt)) (λ κs. (mut_Tells (named 0) κs.0 (guard.the_row (named_lft 3 1 tt κs) R g), tt)) (λ κs qs bounds a gh are.
-    let ℓ = named_lft 3 1 tt κs in let G : RattleType = guard.the_row ℓ R g in let D : RattleType = Words ℓ R g in let b : ℕ = a.0.ref_ptr.0 in let o : ℕ = a.0.ref_ptr.1 in let κ : Lft = κs.0 in let q : Share = qs.0 in let β : Lft = κs.1.0 in let γ : GName = a.0.ghost_name in
+    let ℓ = named_lft 3 1 tt κs in let G : RattleType = guard.the_row ℓ R g in let D : RattleType = FieldsType ℓ R g in let b : ℕ = a.0.ref_ptr.0 in let o : ℕ = a.0.ref_ptr.1 in let κ : Lft = κs.0 in let q : Share = qs.0 in let β : Lft = κs.1.0 in let γ : GName = a.0.ghost_name in
     let h : G.Denot = a.0.now in let ok = Fitting g.tag g.fits h.tag in let p : Ptr = h.lock in let x : X.Denot = h.value in let others : Fml = fsep (flft β qs.1.0) (fsep (flft κs.1.1.0 qs.1.1.0) ftrue) in let pb : ℕ = block_of p in let po : ℕ = count_of p in let e : ℕ = po + offset R in let F : X.Denot → G.Denot = guard_with_value h in
     let y : (walk_of 𝓛 En hs c).Ghost = ((κs, qs, bounds, a, (vptr b o ∷ [], tt)), gh) in let Post : Val → SProp 𝓤 = (walk_of 𝓛 En hs c).post y in let Lent : GName → MutBor X.Denot = λ δ. record { ref_ptr = (pb, e); ghost_name = δ; now = x } in
     qed 𝓛 (((‵ (flft κ q) ⊛ ‵ others) ⊛ ‵ (owns (types_at En.signature.params κs) a y.0.4)) ∷ raw ((c κs a).requires gh) ∷ []) ∵

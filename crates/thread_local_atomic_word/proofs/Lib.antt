@@ -1,4 +1,0 @@
-pub mod Bodies
-pub mod Calls
-pub mod Opened
-mod Ordered

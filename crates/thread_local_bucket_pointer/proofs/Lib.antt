@@ -1,0 +1,2 @@
+pub mod PointerSteps
+pub mod LentValue

@@ -1,0 +1,2 @@
+pub mod LentValue
+pub mod PointerOwns

@@ -1,0 +1,42 @@
+use Rattle.std.proofs.Common.{◌≡◌, ℕ, ◌+◌, ◌*◌, length, bit_or, refl, ap, ◌∙◌, arith, lit<}
+use Rattle.std.proofs.lemmas.Nat.{le_or_l, le_or_r}
+use Rattle.thread_local_model.specs.Place.{id_at}
+use Rattle.thread_local_model.specs.Buckets.{Contents, row, values}
+use Rattle.thread_local_owner_walk.specs.Counting.{count_below}
+use Rattle.thread_local_bucket_pointers.proofs.Counting.{none_counted}
+use Rattle.thread_local_bucket_pointers.proofs.bucket_pointers.BucketPointers.any_of_eight.Goals as goal
+
+pub loop-at-init : goal.loop-at-init
+loop-at-init g c = let begins : c.args.chunk ≡ c.args.chunk + 0 = omega arith in record {
+  none = λ _. ap (λ (i : ℕ). count_below (values c.args.self.now) (id_at c.args.bucket (i * 64))) begins;
+  same = refl;
+}
+
+pub flags-any-requires : goal.flags-any-requires
+flags-any-requires g c =
+    let long : length (row c.loop-at.self c.args.bucket) ≡ length (row c.args.self.now c.args.bucket) = ap (λ (w : Contents g.row.T.Denot). length (row w c.args.bucket)) c.loop-at.invariant.same in
+    (lit< tt, (c.requires.in_table, omega (arith, long, c.requires.whole, c.requires.inside, c.loop-at-test.true)))
+
+pub loop-at-preserved : goal.loop-at-preserved
+loop-at-preserved g c =
+    let kept = c.loop-at.invariant in
+    let b : ℕ = c.args.bucket in
+    let k : ℕ = c.args.chunk + c.loop-at.at in
+    let old : ℕ = c.loop-at.any in
+    let word : ℕ = c.flags-any.result in
+    let after : k + 1 ≡ c.args.chunk + (c.loop-at.at + 1) = omega arith in
+    record {
+      none = λ (zero : bit_or old word ≡ 0).
+          let left = le_or_l old word in
+          let right = le_or_r old word in
+          let here = none_counted c.args.self.now c.loop-at.self b k word kept.same c.requires.whole c.flags-any.type_inv c.flags-any.ensures.value (omega (arith, c.requires.inside, c.loop-at-test.true)) (omega (arith, right, zero)) in
+          kept.none (omega (arith, left, zero)) ∙ here ∙ ap (λ (i : ℕ). count_below (values c.args.self.now) (id_at b (i * 64))) after;
+      same = c.flags-any.ensures.same ∙ kept.same;
+    }
+
+pub returns-clause-same : goal.returns-clause-same
+returns-clause-same g c = c.loop-at.invariant.same
+
+pub returns-clause-none : goal.returns-clause-none
+returns-clause-none g c = λ zero. let last : c.args.chunk + c.loop-at.at ≡ c.args.chunk + 8 = omega (arith, c.loop-at-test.false, c.loop-at.auto.at-end) in
+    c.loop-at.invariant.none zero ∙ ap (λ (i : ℕ). count_below (values c.args.self.now) (id_at c.args.bucket (i * 64))) last

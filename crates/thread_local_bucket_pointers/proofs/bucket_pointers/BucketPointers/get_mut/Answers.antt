@@ -1,0 +1,17 @@
+use Rattle.std.proofs.Common.{◌≡◌, refl, sym, ap, ◌∙◌, subst, Some}
+use Rattle.thread_local_model.specs.Buckets.{Contents, IsTable}
+use Rattle.thread_local_model.specs.Rows.{value_in, with_slot}
+use Rattle.thread_local_owner_walk.proofs.RowLaws.{IsTable-with_slot}
+use Rattle.thread_local_bucket_pointers.specs.Pointers.{contents_of}
+use Rattle.thread_local_bucket_pointers.proofs.ContentsOf.{value_changes}
+use Rattle.thread_local_bucket_pointers.proofs.bucket_pointers.BucketPointers.get_mut.Goals as goal
+
+pub invariant_of-self-lent : goal.invariant_of-self-lent
+invariant_of-self-lent g c = λ w. let s = c.self.inside.pointers in
+    subst (λ (z : Contents g.row.T.Denot). IsTable z) (sym (value_changes s c.args.thread.bucket c.args.thread.index w)) (IsTable-with_slot (contents_of s) c.args.thread.bucket c.args.thread.index (Some w) c.self.invariant)
+
+pub returns : goal.returns
+returns g c = let s = c.self.inside.pointers in (
+  (refl, λ w. value_changes s c.args.thread.bucket c.args.thread.index w ∙ ap (λ (z : Contents g.row.T.Denot). with_slot z c.args.thread.bucket c.args.thread.index (Some w)) c.self.view_is),
+  record { writes_back = tt; value = subst (λ (z : Contents g.row.T.Denot). value_in z c.args.thread.bucket c.args.thread.index ≡ Some c.get_mut.result.now) c.self.view_is c.get_mut.ensures.value },
+)

@@ -1,0 +1,26 @@
+use Rattle.std.specs.Prelude.{◌/◌, ℕ}
+use Rattle.std.proofs.Common.{sym, ap, ◌∙◌, subst, Some}
+use Rattle.thread_local_model.specs.Buckets.{Contents, IsTable}
+use Rattle.thread_local_model.specs.Rows.{with_slot}
+use Rattle.thread_local_owner_walk.proofs.RowLaws.{IsTable-with_slot}
+use Rattle.thread_local_bucket_pointers.specs.Pointers.{contents_of}
+use Rattle.thread_local_blocks.specs.Slots.{word_number}
+use Rattle.thread_local_bucket_pointers.specs.contracts.bucket_pointers.BucketPointers.publish.{T-row}
+use Rattle.thread_local_bucket_pointers.proofs.ContentsOf.{size_of_pointer, slot_changes}
+use Rattle.thread_local_bucket_pointers.proofs.bucket_pointers.BucketPointers.publish.Goals as goal
+
+pub invariant_of-self : goal.invariant_of-self
+invariant_of-self g c =
+    let s = c.self.inside.pointers in
+    let changed = slot_changes s c.args.thread.bucket c.pointer_mut.result.now c.publish.new.self c.args.thread.index (Some c.args.value) c.pointer_mut.ensures.value c.publish.ensures in
+    subst (λ (z : Contents g.row.T.Denot). IsTable z) (sym changed) (IsTable-with_slot (contents_of s) c.args.thread.bucket c.args.thread.index (Some c.args.value) c.self.invariant)
+
+pub returns : goal.returns
+returns g c = record {
+  after = slot_changes c.self.inside.pointers c.args.thread.bucket c.pointer_mut.result.now c.publish.new.self c.args.thread.index (Some c.args.value) c.pointer_mut.ensures.value c.publish.ensures
+      ∙ ap (λ (z : Contents g.row.T.Denot). with_slot z c.args.thread.bucket c.args.thread.index (Some c.args.value)) c.self.view_is;
+}
+
+pub publish-requires-clause-word : goal.publish-requires-clause-word
+publish-requires-clause-word g c = c.flag_word-word.ensures
+    ∙ ap (λ (n : ℕ). word_number (T-row g.row.T) n (c.args.thread.index / 64)) (size_of_pointer c.self.inside.pointers c.args.self.now c.args.thread.bucket c.args.thread.index c.bucket_size.result c.pointer_mut.result.now c.self.view_is c.self.invariant c.pointer_mut.ensures.value c.requires.in_bucket c.bucket_size.ensures)

@@ -1,0 +1,180 @@
+//! The pointers of a table, which contracts see as its contents.
+ghost use Rattle.std.specs.Prelude.{◌≡◌, ℕ, ◌+◌, ◌*◌, ◌^◌, ◌<◌, true, false, [], length, Some, None, is_some, OnOk, OnErr, IsSome};
+ghost use Rattle.thread_local_bits.specs.Bits.{is_set};
+ghost use Rattle.thread_local_model.specs.Buckets.{row, stands, no_contents, IsTable};
+ghost use Rattle.thread_local_model.specs.Rows.{value_in, with_row, with_slot, empty_row};
+ghost use Rattle.thread_local_owner_walk.specs.Cursor.{AreFlagsAt};
+
+use crate::pointer_array::PointerArray;
+use std::alloc::{AllocError, Global};
+use std::marker::Model;
+use thread_local_blocks::{Block, flag_word};
+use thread_local_owner_walk::FlagSource;
+use thread_local_thread_id::{Thread, bucket_size};
+
+mod clearing;
+mod counting;
+mod lends;
+mod placing;
+
+/// The pointers of a table, one for each of its buckets, and the heap that their blocks come from.
+/// Contracts see the contents.
+///
+/// Only `install` and `ensure_bucket` take memory, and no call takes a lock. A value's drop may
+/// wait: `release`, `clear` and `publish_or_drop` drop values. Dropping the pointers drops every
+/// value and frees every block.
+pub struct BucketPointers<T> {
+    pointers: PointerArray<T>,
+    alloc: Global,
+}
+
+impl<T> Model for BucketPointers<T> {
+    ghost use Rattle.thread_local_model.specs.Buckets.{Contents, IsTable};
+    ghost use Rattle.thread_local_model.specs.Code.{contents_coded};
+    ghost use Rattle.thread_local_bucket_pointers.specs.Pointers.{contents_of};
+
+    ghost Value = { Contents T };
+
+    ghost coded = { contents_coded T.code };
+
+    ghost view = { λ w. contents_of w.pointers };
+
+    ghost invariant = { λ w. IsTable (contents_of w.pointers) };
+}
+
+impl<T> BucketPointers<T> {
+    /// Pointers without a bucket.
+    pub fn new(alloc: Global) -> BucketPointers<T>
+        ensures { result ≡ no_contents }
+    {
+        BucketPointers {
+            pointers: PointerArray::null(),
+            alloc,
+        }
+    }
+
+    /// Whether the bucket stands.
+    #[inline]
+    pub fn stands(&mut self, bucket: usize) -> bool
+        requires { bucket < 63 }
+        ensures value { result ≡ stands self.old bucket }
+        ensures whole { result ≡ true → length (row self.old bucket) ≡ 2 ^ bucket }
+        ensures absent { result ≡ false → row self.old bucket ≡ [] }
+        ensures table { IsTable self.old }
+        ensures same { self.new ≡ self.old }
+    {
+        self.pointers.pointer_mut(bucket).stands()
+    }
+
+    /// Makes the bucket, with all its slots empty. It asks for memory once. `Err` means out of
+    /// memory, and nothing has changed.
+    pub fn install(&mut self, bucket: usize) -> Result<(), AllocError>
+        requires in_table { bucket < 63 }
+        requires absent { row self.old bucket ≡ [] }
+        ensures ok { OnOk result (self.new ≡ with_row self.old bucket (empty_row bucket)) }
+        ensures err { OnErr result (self.new ≡ self.old) }
+        ensures table { IsTable self.old }
+    {
+        let alloc = self.alloc;
+        let block = Block::new(&alloc, bucket_size(bucket))?;
+        self.pointers.pointer_mut(bucket).lay(block);
+        Ok(())
+    }
+
+    /// Whether the slot has a value.
+    #[inline]
+    pub fn is_published(&mut self, bucket: usize, index: usize) -> bool
+        requires in_table { bucket < 63 }
+        requires in_bucket { index < length (row self.old bucket) }
+        ensures value { result ≡ is_some (value_in self.old bucket index) }
+        ensures table { IsTable self.old }
+        ensures same { self.new ≡ self.old }
+    {
+        let word = flag_word::<T>(bucket_size(bucket), index / 64);
+        self.pointers.pointer_mut(bucket).is_published(index, word)
+    }
+
+    /// The flags of a chunk's slots, a bit each. The bits past the last slot are 0.
+    #[inline]
+    pub fn flags(&mut self, bucket: usize, chunk: usize) -> u64
+        requires in_table { bucket < 63 }
+        requires in_bucket { chunk * 64 < length (row self.old bucket) }
+        ensures value { (bit : ℕ)
+            → bit < 64
+            → is_set result bit ≡ is_some (value_in self.old bucket (chunk * 64 + bit)) }
+        ensures table { IsTable self.old }
+        ensures same { self.new ≡ self.old }
+    {
+        let word = flag_word::<T>(bucket_size(bucket), chunk);
+        self.pointers.pointer_mut(bucket).flags(chunk, word)
+    }
+
+    /// Publishes a value in the slot of a place, which must be empty.
+    #[inline]
+    pub fn publish(&mut self, thread: Thread, value: T)
+        requires in_bucket { thread.index < length (row self.old thread.bucket) }
+        requires empty { value_in self.old thread.bucket thread.index ≡ None }
+        ensures after { self.new ≡ with_slot self.old thread.bucket thread.index (Some value) }
+    {
+        let word = flag_word::<T>(bucket_size(thread.bucket), thread.index / 64);
+        self.pointers
+            .pointer_mut(thread.bucket)
+            .publish(thread.index, word, value);
+    }
+
+    /// Stores `flags` for a slot's chunk, and then moves the slot's value out. `flags` are the
+    /// chunk's, with this slot's cleared.
+    #[inline]
+    pub fn take_and_store(&mut self, bucket: usize, index: usize, flags: u64) -> T
+        requires in_table { bucket < 63 }
+        requires in_bucket { index < length (row self.old bucket) }
+        requires published { IsSome (value_in self.old bucket index) }
+        requires flags { AreFlagsAt (with_slot self.old bucket index None) bucket index flags }
+        ensures value { value_in self.old bucket index ≡ Some result }
+        ensures after { self.new ≡ with_slot self.old bucket index None }
+    {
+        let word = flag_word::<T>(bucket_size(bucket), index / 64);
+        self.pointers
+            .pointer_mut(bucket)
+            .take_and_store(index, word, flags)
+    }
+}
+
+impl<T: Drop> BucketPointers<T> {
+    /// Drops the values of a bucket and frees it. It does nothing to a bucket that doesn't stand.
+    pub fn release(&mut self, bucket: usize)
+        requires { bucket < 63 }
+        ensures after { self.new ≡ with_row self.old bucket [] }
+        ensures table { IsTable self.old }
+    {
+        let alloc = self.alloc;
+        let pointer = self.pointers.pointer_mut(bucket);
+        pointer.release(bucket_size(bucket), &alloc);
+    }
+}
+
+impl<T: Drop> Drop for BucketPointers<T> {
+    fn drop(mut self) {
+        self.clear(0);
+        let Self { pointers, alloc: _ } = self;
+        drop(pointers);
+    }
+}
+
+impl<T> FlagSource for BucketPointers<T> {
+    type Value = T;
+
+    ghost contents = { λ pointers. pointers };
+
+    ghost given = { λ _. 0 };
+
+    #[inline]
+    fn stands(&mut self, bucket: usize) -> bool {
+        self.stands(bucket)
+    }
+
+    #[inline]
+    fn flags(&mut self, bucket: usize, chunk: usize) -> u64 {
+        self.flags(bucket, chunk)
+    }
+}

@@ -1,0 +1,89 @@
+//! Counting the values of a table by the flags of its slots, 64 at a time.
+ghost use Rattle.std.specs.Prelude.{◌≡◌, ◌+◌, ◌*◌, ◌/◌, ◌^◌, ◌<◌, ◌≤◌, min, length};
+ghost use Rattle.thread_local_model.specs.Place.{id_at};
+ghost use Rattle.thread_local_model.specs.Buckets.{row, values};
+ghost use Rattle.thread_local_model.specs.Walk.{walk};
+ghost use Rattle.thread_local_owner_walk.specs.Counting.{count_below};
+
+use super::BucketPointers;
+use thread_local_thread_id::BUCKETS;
+
+impl<T> BucketPointers<T> {
+    /// The flags of eight chunks, from this one on, or-ed together. They are 0 only where none of
+    /// the chunks has a value.
+    #[inline]
+    fn any_of_eight(&mut self, bucket: usize, chunk: usize) -> u64
+        requires in_table { bucket < 63 }
+        requires whole { length (row self.old bucket) ≡ 2 ^ bucket }
+        requires inside { (chunk + 8) * 64 ≤ 2 ^ bucket }
+        ensures same { self.new ≡ self.old }
+        ensures none { result ≡ 0
+            → count_below (values self.old) (id_at bucket (chunk * 64))
+            ≡ count_below (values self.old) (id_at bucket ((chunk + 8) * 64)) }
+    {
+        let mut any = 0;
+        for at in 0..8 {
+            any |= self.flags(bucket, chunk + at);
+        }
+        any
+    }
+
+    /// How many values the chunks `from..to` of a bucket have.
+    #[inline]
+    fn count_in_chunks(&mut self, bucket: usize, from: usize, to: usize) -> usize
+        requires in_table { bucket < 63 }
+        requires whole { length (row self.old bucket) ≡ 2 ^ bucket }
+        requires order { from ≤ to }
+        requires inside { to ≤ (2 ^ bucket + 63) / 64 }
+        ensures same { self.new ≡ self.old }
+        ensures counted { count_below (values self.old) (id_at bucket (min (from * 64) (2 ^ bucket))) + result
+            ≡ count_below (values self.old) (id_at bucket (min (to * 64) (2 ^ bucket))) }
+    {
+        let mut count = 0;
+        for chunk in from..to {
+            count += self.flags(bucket, chunk).count_ones() as usize;
+        }
+        count
+    }
+
+    /// How many values the bucket has. The caller passes the bucket's size. Eight words that are
+    /// all 0 are skipped at once.
+    fn count_in_bucket(&mut self, bucket: usize, size: usize) -> usize
+        requires in_table { bucket < 63 }
+        requires whole { length (row self.old bucket) ≡ 2 ^ bucket }
+        requires size { size ≡ 2 ^ bucket }
+        ensures same { self.new ≡ self.old }
+        ensures counted { count_below (values self.old) (id_at bucket 0) + result
+            ≡ count_below (values self.old) (id_at (bucket + 1) 0) }
+    {
+        let chunks = (size + 63) / 64;
+        let groups = chunks / 8;
+        let mut count = 0;
+        for group in 0..groups {
+            let first = group * 8;
+            if self.any_of_eight(bucket, first) != 0 {
+                count += self.count_in_chunks(bucket, first, first + 8);
+            }
+        }
+        count + self.count_in_chunks(bucket, groups * 8, chunks)
+    }
+
+    /// How many values there are. It reads the flags of all slots of the buckets that stand.
+    pub fn count_values(&mut self) -> usize
+        ensures same { self.new ≡ self.old }
+        ensures counted { result ≡ length (walk (values self.old)) }
+        ensures fits { result < 2 ^ 63 }
+    {
+        let mut count = 0;
+        // The size is doubled, not shifted anew: the loop over a bucket's chunks then ends at a
+        // plain number.
+        let mut size = 1;
+        for bucket in 0..BUCKETS {
+            if self.stands(bucket) {
+                count += self.count_in_bucket(bucket, size);
+            }
+            size *= 2;
+        }
+        count
+    }
+}

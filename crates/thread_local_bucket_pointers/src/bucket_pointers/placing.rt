@@ -1,0 +1,51 @@
+//! What an owner does at the place of an id: make its bucket, look for a value, and publish one.
+ghost use Rattle.std.specs.Prelude.{◌≡◌, ◌<◌, [], true, false, length, Some, None, is_some, IsSome, OnOk, OnErr};
+ghost use Rattle.thread_local_model.specs.Buckets.{row, stands, IsTable};
+ghost use Rattle.thread_local_model.specs.Rows.{value_in, with_slot};
+ghost use Rattle.thread_local_owner_walk.specs.Owner.{with_bucket};
+
+use super::BucketPointers;
+use std::alloc::AllocError;
+use thread_local_thread_id::Thread;
+
+impl<T> BucketPointers<T> {
+    /// Makes the bucket if it doesn't stand, and only then asks for memory. `Err` means out of
+    /// memory, and nothing has changed.
+    pub fn ensure_bucket(&mut self, bucket: usize) -> Result<(), AllocError>
+        requires { bucket < 63 }
+        ensures ok { OnOk result (self.new ≡ with_bucket self.old bucket) }
+        ensures err { OnErr result (self.new ≡ self.old) }
+        ensures refused { OnErr result (stands self.old bucket ≡ false) }
+        ensures absent { stands self.old bucket ≡ false → row self.old bucket ≡ [] }
+        ensures table { IsTable self.old }
+    {
+        if self.stands(bucket) {
+            return Ok(());
+        }
+        self.install(bucket)
+    }
+
+    /// Whether the slot of a place has a value. The bucket need not stand.
+    pub fn holds_value(&mut self, thread: Thread) -> bool
+        ensures same { self.new ≡ self.old }
+        ensures value { result ≡ is_some (value_in self.old thread.bucket thread.index) }
+        ensures within { result ≡ true → thread.index < length (row self.old thread.bucket) }
+        ensures stands { result ≡ true → stands self.old thread.bucket ≡ true }
+    {
+        self.stands(thread.bucket) && self.is_published(thread.bucket, thread.index)
+    }
+}
+
+impl<T: Drop> BucketPointers<T> {
+    /// Publishes the value in the slot of a place if the slot is empty, and else drops the value.
+    pub fn publish_or_drop(&mut self, thread: Thread, value: T)
+        requires in_bucket { thread.index < length (row self.old thread.bucket) }
+        ensures kept { IsSome (value_in self.old thread.bucket thread.index) → self.new ≡ self.old }
+        ensures published { value_in self.old thread.bucket thread.index ≡ None
+            → self.new ≡ with_slot self.old thread.bucket thread.index (Some value) }
+    {
+        if !self.is_published(thread.bucket, thread.index) {
+            self.publish(thread, value);
+        }
+    }
+}

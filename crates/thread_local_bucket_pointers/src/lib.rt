@@ -1,0 +1,7 @@
+//! The pointers of a table: one for each bucket, null or to the bucket's block.
+#![tactic(auto)]
+
+pub mod bucket_pointers;
+pub mod pointer_array;
+
+pub use bucket_pointers::BucketPointers;

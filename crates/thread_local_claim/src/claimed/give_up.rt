@@ -1,0 +1,20 @@
+//! A claim is given up without an atomic step: its right comes back by proof alone.
+ghost use Rattle.std.specs.Prelude.{◌≡◌};
+
+use super::ClaimedSlot;
+use thread_local_rights::Right;
+
+impl<'a, T> ClaimedSlot<'a, T> {
+    /// Gives the claim up, and returns its right.
+    pub(crate) fn give_up(self) -> Right
+        ensures right { (result.table ≡ self.entry.table) × (result.id ≡ self.entry.id) }
+    {
+        let Self {
+            at: _,
+            found: _,
+            published: _,
+            marker: _,
+        } = self;
+        Right::take_up()
+    }
+}

@@ -1,0 +1,17 @@
+-- What a contract sees of a table's ids, and how the held ids are tied to the rights that are out.
+use Rattle.std.specs.Prelude.{◌≡◌, ℕ}
+use Rattle.thread_local_model.specs.Held.{Manager, is_held}
+use Rattle.thread_local_rights.specs.Rights.{is_out}
+use Rattle.thread_local_ids.specs.declared.ids.Ids.TheInside.{Inside}
+
+-- the manager of ids, and the name of the table that the rights are to
+pub record TableIds : Type 0 where
+  pub manager : Manager
+  pub table : ℕ
+
+abbrev pub ids_of : Inside → TableIds
+ids_of i = record { manager = i.manager; table = i.rights.table }
+
+-- the right to an id is out exactly where the id is held
+abbrev pub IsTied : Inside → Type 0
+IsTied i = (id : ℕ) → is_out i.rights.out id ≡ is_held i.manager.held id

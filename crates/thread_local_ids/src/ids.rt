@@ -1,0 +1,118 @@
+//! An id of a table is held, with its right out, or it is free, with its right here.
+ghost use Rattle.std.specs.Prelude.{◌≡◌, ◌-◌, ◌^◌, ◌≤◌, min, [], IsOk, OnErr, IfOk};
+ghost use Rattle.std.specs.Prelude.{alloc_error};
+ghost use Rattle.thread_local_model.specs.Held.{is_held, Takes, Gives, NeedsMemory, IsExhausted};
+
+use std::alloc::{AllocError, Global};
+use std::marker::Model;
+use thread_local_lock::Fits;
+use thread_local_rights::{HeldId, Rights};
+use thread_local_thread_id::{LocalError, ThreadIdManager};
+
+/// Gives out the least id that isn't held, with the right to it, and takes both back. Only
+/// `with_room` and `take` take memory.
+///
+/// Contracts see the manager and the table's name.
+#[derive(Drop)]
+pub struct Ids {
+    manager: ThreadIdManager,
+    rights: Rights,
+}
+
+impl Model for Ids {
+    ghost use Rattle.thread_local_ids.specs.Tied.{TableIds, ids_of, IsTied};
+
+    ghost Value = { TableIds };
+
+    ghost view = { ids_of };
+
+    ghost invariant = { IsTied };
+}
+
+// Any `Ids` fits, since the type has an invariant of its own. The lock keeps which table they are of.
+impl Fits for Ids {
+    ghost use Rattle.std.specs.Prelude.{⊤};
+
+    ghost tag = { λ ids. ids.table };
+
+    ghost fits = { λ _. ⊤ };
+}
+
+impl Ids {
+    /// The ids of a new table, none of them held.
+    pub fn new(alloc: Global) -> Ids
+        ensures held { result.manager.held ≡ [] }
+        ensures room { result.manager.room ≡ 0 }
+    {
+        Ids {
+            manager: ThreadIdManager::new(alloc),
+            rights: Rights::new(),
+        }
+    }
+
+    /// The ids of a new table, none of them held, with room for `ids` of them, or for every id
+    /// where that is less. It asks for memory once, and not at all where `ids` is 0. It refuses
+    /// where that memory isn't given.
+    pub fn with_room(alloc: Global, ids: usize) -> Result<Ids, AllocError>
+        ensures held { IfOk result (λ table. table.manager.held ≡ []) }
+        ensures room { IfOk result (λ table. min ids (2 ^ 63 - 1) ≤ table.manager.room) }
+        ensures room_in_range { IfOk result (λ table. table.manager.room ≤ 2 ^ 63 - 1) }
+        ensures no_ids { ids ≡ 0 → IsOk result }
+    {
+        Ok(Ids {
+            manager: ThreadIdManager::with_room(alloc, ids)?,
+            rights: Rights::new(),
+        })
+    }
+
+    /// Takes the least id that isn't held, and the right to it. It asks for memory only where every
+    /// id below the peak is held and there is no room for one more. It refuses where that memory
+    /// isn't given, and where every id is held.
+    pub fn take(&mut self) -> Result<HeldId, LocalError>
+        ensures ok { IfOk result (λ taken. Takes self.old.manager self.new.manager taken.id) }
+        ensures right { IfOk result (λ taken. taken.right.table ≡ self.old.table) }
+        ensures table { self.new.table ≡ self.old.table }
+        ensures memory { result ≡ Err (LocalError.Memory alloc_error) → NeedsMemory self.old.manager }
+        ensures exhausted { result ≡ Err LocalError.Exhausted → IsExhausted self.old.manager }
+        ensures err { OnErr result (self.new ≡ self.old) }
+    {
+        let id = self.manager.alloc()?;
+        let right = self.rights.take(id);
+        Ok(HeldId { id, right })
+    }
+
+    /// Takes a held id of this table back, with its right.
+    pub fn give(&mut self, held: HeldId)
+        requires { held.right.table ≡ self.old.table }
+        ensures given { Gives self.old.manager self.new.manager held.id }
+        ensures table { self.new.table ≡ self.old.table }
+    {
+        let (id, right) = held.into_parts();
+        self.rights.put_back(right);
+        self.manager.free(id);
+    }
+
+    /// Takes every id back, and counts the peak anew. The room stays. The rights are fresh
+    /// ones, since the right of a holder that was forgotten is lost.
+    pub fn clear(&mut self)
+        ensures held { self.new.manager.held ≡ [] }
+        ensures room { self.new.manager.room ≡ self.old.manager.room }
+    {
+        self.manager.clear();
+        self.rights = Rights::new();
+    }
+
+    /// The rights of the ids that aren't held, which name the table.
+    pub fn rights(&self) -> &Rights
+        ensures { result.now.table ≡ self.now.table }
+    {
+        &self.rights
+    }
+
+    /// Whether an id is held.
+    pub fn is_held(&self, id: usize) -> bool
+        ensures { result ≡ is_held self.now.manager.held id }
+    {
+        self.manager.is_held(id)
+    }
+}

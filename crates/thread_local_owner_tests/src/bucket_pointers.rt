@@ -1,0 +1,199 @@
+//! The pointers of a table: values come back at any type, and each is dropped once.
+ghost use Rattle.std.specs.Prelude.{◌≡◌, IfOk};
+
+use std::alloc::{AllocError, Global};
+use std::cell::Cell;
+use std::mem::replace;
+use std::test::Fail;
+use thread_local_bucket_pointers::BucketPointers;
+use thread_local_thread_id::Thread;
+
+/// Publishes a value, takes it for another, and drops the rest.
+fn there_and_back<T: Send + Drop>(alloc: Global, first: T, second: T) -> Result<T, AllocError>
+    ensures { IfOk result (λ x. x ≡ first) }
+{
+    let mut pointers = BucketPointers::new(alloc);
+    pointers.install(3)?;
+    pointers.publish(
+        Thread {
+            bucket: 3,
+            index: 5,
+        },
+        first,
+    );
+    let value = pointers.get_mut(Thread {
+        bucket: 3,
+        index: 5,
+    });
+    Ok(replace(value, second))
+}
+
+/// Publishes a value, writes another over it, and takes that for a third.
+fn written_over<T: Send + Drop>(
+    alloc: Global,
+    first: T,
+    second: T,
+    third: T,
+) -> Result<T, AllocError>
+    ensures { IfOk result (λ x. x ≡ second) }
+{
+    let mut pointers = BucketPointers::new(alloc);
+    pointers.install(4)?;
+    pointers.publish(
+        Thread {
+            bucket: 4,
+            index: 0,
+        },
+        first,
+    );
+    *pointers.get_mut(Thread {
+        bucket: 4,
+        index: 0,
+    }) = second;
+    let value = pointers.get_mut(Thread {
+        bucket: 4,
+        index: 0,
+    });
+    Ok(replace(value, third))
+}
+
+/// A value that counts its drops.
+struct Counted<'a> {
+    drops: &'a Cell<u64>,
+}
+
+impl Drop for Counted<'_> {
+    fn drop(self) {
+        let Self { drops } = self;
+        drops.set(drops.get().saturating_add(1));
+    }
+}
+
+#[test]
+fn values_come_back_at_any_type(rt: HostRuntime) -> Result<(), Fail> {
+    let alloc = rt.alloc();
+    assert_eq!(rt; there_and_back(alloc, 1u32, 2)?, 1);
+    let text = there_and_back(
+        alloc,
+        String::from_str(alloc, "one")?,
+        String::from_str(alloc, "two")?,
+    )?;
+    assert_eq!(rt; text.as_str(), "one");
+    let boxed = there_and_back(alloc, Box::new(alloc, 1u32)?, Box::new(alloc, 2)?)?;
+    assert_eq!(rt; *boxed, 1);
+    let cell = there_and_back(alloc, Cell::new(1u64), Cell::new(2))?;
+    assert_eq!(rt; cell.get(), 1);
+    there_and_back(alloc, (), ())?;
+    let large = there_and_back(alloc, [7u8; 4096], [0; 4096])?;
+    assert_eq!(rt; large[4095], 7);
+    Ok(())
+}
+
+#[test]
+fn a_block_that_is_too_large_is_refused(rt: HostRuntime) -> Result<(), Fail> {
+    let mut pointers = BucketPointers::<u64>::new(rt.alloc());
+    assert!(rt; pointers.install(62).is_err());
+    assert!(rt; !pointers.stands(62));
+    pointers.install(10)?;
+    assert!(rt; pointers.stands(10));
+    Ok(())
+}
+
+#[test]
+fn values_are_written_over(rt: HostRuntime) -> Result<(), Fail> {
+    let alloc = rt.alloc();
+    let mut pointers = BucketPointers::new(alloc);
+    pointers.install(2)?;
+    pointers.publish(
+        Thread {
+            bucket: 2,
+            index: 3,
+        },
+        String::from_str(alloc, "one")?,
+    );
+    *pointers.get_mut(Thread {
+        bucket: 2,
+        index: 3,
+    }) = String::from_str(alloc, "two")?;
+    assert_eq!(rt;
+        pointers
+            .get_mut(Thread {
+                bucket: 2,
+                index: 3
+            })
+            .as_str(),
+        "two"
+    );
+    assert_eq!(rt;
+        (pointers.is_published(2, 3), pointers.is_published(2, 2)),
+        (true, false)
+    );
+    assert_eq!(rt; (pointers.stands(2), pointers.stands(1)), (true, false));
+    Ok(())
+}
+
+/// Fills three buckets but for two slots, and answers how many drops there are once one of them is
+/// released, and once another is.
+fn drops_counted<T: Drop, F: Fn() -> T, G: Fn() -> u64>(
+    alloc: Global,
+    make: F,
+    count: G,
+) -> Result<(u64, u64), AllocError>
+where
+    F: Drop,
+    G: Drop,
+    requires { (F.pre make) × (G.pre count) }
+{
+    let mut pointers = BucketPointers::new(alloc);
+    pointers.install(0)?;
+    pointers.install(1)?;
+    pointers.install(2)?;
+    pointers.publish(
+        Thread {
+            bucket: 0,
+            index: 0,
+        },
+        make(),
+    );
+    pointers.publish(
+        Thread {
+            bucket: 1,
+            index: 0,
+        },
+        make(),
+    );
+    pointers.publish(
+        Thread {
+            bucket: 1,
+            index: 1,
+        },
+        make(),
+    );
+    pointers.publish(
+        Thread {
+            bucket: 2,
+            index: 1,
+        },
+        make(),
+    );
+    pointers.publish(
+        Thread {
+            bucket: 2,
+            index: 3,
+        },
+        make(),
+    );
+    pointers.release(1);
+    let first = count();
+    pointers.release(2);
+    let released = count();
+    Ok((first, released))
+}
+
+#[test]
+fn each_value_is_dropped_once(rt: HostRuntime) -> Result<(), Fail> {
+    let drops = Cell::new(0u64);
+    let seen = drops_counted(rt.alloc(), || Counted { drops: &drops }, || drops.get())?;
+    assert_eq!(rt; (seen, drops.get()), ((2, 4), 5));
+    Ok(())
+}

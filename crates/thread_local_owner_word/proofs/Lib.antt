@@ -1,2 +1,0 @@
-pub mod WordSteps
-pub mod LentValue

@@ -1,0 +1,14 @@
+//! Tests of what holds when things go wrong: memory is refused, `Local`s and walks are forgotten,
+//! threads race, and programs are a line away from ones that must not compile.
+#![tactic(auto)]
+
+#[cfg(test)]
+mod forgotten;
+#[cfg(test)]
+mod freed;
+#[cfg(test)]
+mod misuse;
+#[cfg(test)]
+mod races;
+#[cfg(test)]
+mod refusals;

@@ -1,0 +1,260 @@
+//! Requests for memory that are refused. `tools/refusals` runs these tests with the first request
+//! refused, with the second, and so on until no request is refused any more. Each test holds
+//! whichever it is, and says which call was refused; with ample memory it says nothing.
+
+use std::alloc::AllocError;
+use std::cell::Cell;
+use std::io::Print;
+use std::sync::Wait;
+use std::test::Fail;
+use thread_local_buckets::{Buckets, CapacityError};
+use thread_local_table::{Local, ThreadLocal, TryError};
+use thread_local_thread_id::{LocalError, Thread};
+
+/// A call that publishes a value.
+#[derive(Clone, Copy, PartialEq, Eq)]
+enum Publishing {
+    GetOr,
+    GetOrTry,
+    GetOrDefault,
+}
+
+impl Publishing {
+    /// The call's name.
+    fn name(self) -> &'static str {
+        match self {
+            Publishing::GetOr => "get_or",
+            Publishing::GetOrTry => "get_or_try",
+            Publishing::GetOrDefault => "get_or_default",
+        }
+    }
+
+    /// Publishes a number, or the default, and counts the calls of the closure. An error is out of
+    /// memory.
+    fn publish<R: Wait>(
+        self,
+        local: &mut Local<'_, u32, R>,
+        number: u32,
+        calls: &Cell<u32>,
+    ) -> Result<u32, AllocError> {
+        let made = || {
+            calls.set(calls.get().wrapping_add(1));
+            number
+        };
+        match self {
+            Publishing::GetOr => Ok(*local.get_or(made)?),
+            Publishing::GetOrTry => match local.get_or_try(|| Ok::<u32, ()>(made())) {
+                Ok(value) => Ok(*value),
+                Err(TryError::Memory(error)) => Err(error),
+                Err(TryError::Create(())) => Ok(0),
+            },
+            Publishing::GetOrDefault => Ok(*local.get_or_default()?),
+        }
+    }
+
+    /// Publishes a number, or the default, by a `Local` that finds nothing. Answers whether the
+    /// call did as it promises. An error is out of memory, after which no closure was called, and
+    /// the `Local` finds nothing.
+    fn tried<R: Wait + Print>(
+        self,
+        local: &mut Local<'_, u32, R>,
+        rt: &R,
+        number: u32,
+    ) -> Result<bool, AllocError> {
+        let calls = Cell::new(0);
+        match self.publish(local, number, &calls) {
+            Ok(got) => {
+                let (wanted, called) = self.wanted(number);
+                Ok(got == wanted && calls.get() == called && self.stands(local, number))
+            }
+            Err(error) => {
+                let _told = println!(rt; "refused: {}", self.name());
+                if calls.get() != 0 || local.get().is_some() {
+                    return Ok(false);
+                }
+                Err(error)
+            }
+        }
+    }
+
+    /// Whether a `Local` finds what was published there for a number.
+    fn stands<R: Wait>(self, local: &Local<'_, u32, R>, number: u32) -> bool {
+        local.get() == Some(&self.wanted(number).0)
+    }
+
+    /// What is published for a number, and how often a closure is called for it.
+    fn wanted(self, number: u32) -> (u32, u32) {
+        if self == Publishing::GetOrDefault {
+            (0, 0)
+        } else {
+            (number, 1)
+        }
+    }
+
+    /// Whether a `Local` finds what was published there for a number, if there is one.
+    fn stands_if_there<R: Wait>(self, local: Option<&Local<'_, u32, R>>, number: u32) -> bool {
+        match local {
+            Some(local) => self.stands(local, number),
+            None => true,
+        }
+    }
+
+    /// Whether the first and the second of three `Local`s find 6 and 7, as far as they are there.
+    fn earlier_stand<R: Wait>(self, earlier: [Option<&Local<'_, u32, R>>; 2]) -> bool {
+        let [first, second] = earlier;
+        self.stands_if_there(first, 6) && self.stands_if_there(second, 7)
+    }
+
+    /// Publishes, and once more where the call was refused, if the earlier `Local`s find what they
+    /// found. Answers whether each call did as it promises.
+    fn publish_beside<R: Wait + Print>(
+        self,
+        local: &mut Local<'_, u32, R>,
+        rt: &R,
+        earlier: [Option<&Local<'_, u32, R>>; 2],
+        number: u32,
+    ) -> bool {
+        match self.tried(local, rt, number) {
+            Ok(done) => done,
+            Err(_) => { self.earlier_stand(earlier) && self.tried(local, rt, number) == Ok(true) }
+        }
+    }
+
+    /// A `Local`, asked for once more where it was refused, if the earlier ones find what they
+    /// found.
+    fn taken_beside<'a, R: Wait + Print>(
+        self,
+        table: &'a ThreadLocal<u32>,
+        rt: &'a R,
+        earlier: [Option<&Local<'_, u32, R>>; 2],
+    ) -> Option<Local<'a, u32, R>> {
+        match taken(table, rt) {
+            Ok(local) => Some(local),
+            Err(_) => {
+                if self.earlier_stand(earlier) {
+                    taken(table, rt).ok()
+                } else {
+                    None
+                }
+            }
+        }
+    }
+
+    /// Beside two `Local`s a third publishes 8. Answers whether each call did as it promises, and
+    /// the earlier ones find what they found.
+    fn by_third<R: Wait + Print>(
+        self,
+        table: &ThreadLocal<u32>,
+        rt: &R,
+        first: &Local<'_, u32, R>,
+        second: &Local<'_, u32, R>,
+    ) -> bool {
+        let earlier = [Some(first), Some(second)];
+        let Some(mut third) = self.taken_beside(table, rt, earlier) else {
+            return false;
+        };
+        self.publish_beside(&mut third, rt, earlier, 8) && self.earlier_stand(earlier)
+    }
+
+    /// Beside a `Local` a second publishes 7, and then a third does.
+    fn by_second<R: Wait + Print>(
+        self,
+        table: &ThreadLocal<u32>,
+        rt: &R,
+        first: &Local<'_, u32, R>,
+    ) -> bool {
+        let earlier = [Some(first), None];
+        let Some(mut second) = self.taken_beside(table, rt, earlier) else {
+            return false;
+        };
+        self.publish_beside(&mut second, rt, earlier, 7)
+            && self.earlier_stand(earlier)
+            && self.by_third(table, rt, first, &second)
+    }
+
+    /// Three `Local`s that are held at once publish 6, 7 and 8. A call that is refused is made
+    /// again, once it is seen that the earlier ones find what they found. Answers whether each call
+    /// did as it promises.
+    fn by_three<R: Wait + Print>(self, table: &ThreadLocal<u32>, rt: &R) -> bool {
+        let Some(mut first) = self.taken_beside(table, rt, [None, None]) else {
+            return false;
+        };
+        self.publish_beside(&mut first, rt, [None, None], 6) && self.by_second(table, rt, &first)
+    }
+}
+
+/// A `Local`. An error that is out of memory is told.
+fn taken<'a, R: Wait + Print>(
+    table: &'a ThreadLocal<u32>,
+    rt: &'a R,
+) -> Result<Local<'a, u32, R>, LocalError> {
+    let had = table.local(rt);
+    if matches!(had, Err(LocalError::Memory(_))) {
+        let _told = println!(rt; "refused: local");
+    }
+    had
+}
+
+#[test]
+fn a_call_that_was_refused_succeeds_when_it_is_made_again(rt: HostRuntime) -> Result<(), Fail> {
+    for call in [
+        Publishing::GetOr,
+        Publishing::GetOrTry,
+        Publishing::GetOrDefault,
+    ] {
+        let table = ThreadLocal::<u32>::new(rt.alloc());
+        let as_promised = call.by_three(&table, &rt);
+        let mut values = table.into_iter();
+        let walked = [values.next(), values.next(), values.next(), values.next()];
+        let wanted = [6, 7, 8].map(|number| Some(call.wanted(number).0));
+        assert_eq!(rt;
+            (as_promised, walked),
+            (true, [wanted[0], wanted[1], wanted[2], None])
+        );
+    }
+    Ok(())
+}
+
+#[test]
+fn a_table_with_a_capacity_has_its_slots_or_is_refused(rt: HostRuntime) -> Result<(), Fail> {
+    match ThreadLocal::<u64>::with_capacity(rt.alloc(), 4) {
+        Ok(table) => {
+            let mut table = table;
+            assert_eq!(rt; table.slots(), 7);
+        }
+        Err(error) => {
+            println!(rt; "refused: with_capacity")?;
+            assert!(rt; matches!(error, CapacityError::Memory(_)));
+        }
+    }
+    Ok(())
+}
+
+#[test]
+fn a_refused_insert_hands_its_value_back(rt: HostRuntime) -> Result<(), Fail> {
+    let mut buckets = Buckets::new(rt.alloc());
+    let mut as_promised = true;
+    for (id, value) in [(0, 6u32), (1, 7), (3, 8)] {
+        let refused = match buckets.insert(Thread::new(id), value) {
+            Ok(_) => None,
+            Err(back) => Some(back),
+        };
+        if let Some(back) = refused {
+            println!(rt; "refused: insert")?;
+            as_promised &= back == value && buckets.insert(Thread::new(id), back).is_ok();
+        }
+    }
+    let mut values = buckets.into_iter();
+    let walked = [values.next(), values.next(), values.next(), values.next()];
+    assert_eq!(rt;
+        (as_promised, walked),
+        (true, [Some(6), Some(7), Some(8), None])
+    );
+    Ok(())
+}
+
+#[test]
+fn a_capacity_that_is_too_large_is_not_told_as_out_of_memory(rt: HostRuntime) {
+    let too_large = ThreadLocal::<u64>::with_capacity(rt.alloc(), 9223372036854775808);
+    assert!(rt; matches!(too_large, Err(CapacityError::TooLarge)));
+}
