@@ -14,8 +14,7 @@ use thread_local_thread_id::Thread;
 impl<T: Drop> Kept<'_, T> {
     /// Publishes a value if the slot is vacant, and answers whether it did.
     fn publish(self, value: T) -> bool {
-        let Self { claim } = self;
-        publish_claimed(claim, value).1
+        publish_claimed(self.into_claim(), value).1
     }
 }
 

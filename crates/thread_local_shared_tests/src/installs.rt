@@ -24,9 +24,9 @@ impl<'a, T> Kept<'a, T> {
         requires heap { (block.heap ≡ alloc.now) × (block.left ≡ 0) }
         requires slots { block.slots ≡ empty_slots (2 ^ bucket_of self.claim.id) }
     {
-        let Self { claim } = self;
-        let mut claim = claim;
+        let mut claim = self.into_claim();
         if !claim.is_missing() {
+            block.release(alloc, claim.bucket_size());
             claim.give_up();
             return None;
         }
@@ -121,7 +121,13 @@ fn the_second_of_two_blocks_gives_way(rt: HostRuntime) -> Result<(), Fail> {
     let third = claim_early(&shared, ids.take()?);
     let alloc = rt.alloc();
     let installed = Block::new(&alloc, second.claim.bucket_size())?;
-    let offered = Block::new(&alloc, third.claim.bucket_size())?;
+    let offered = match Block::new(&alloc, third.claim.bucket_size()) {
+        Ok(block) => block,
+        Err(error) => {
+            installed.release(&alloc, second.claim.bucket_size());
+            return Err(Fail::from(error));
+        }
+    };
     let second = second.offered(installed, &alloc).expect(&rt, "an offer");
     let before = look(&shared, 1);
     let first = publish_claimed(second, 1).1;
@@ -140,8 +146,7 @@ fn the_second_of_two_blocks_gives_way(rt: HostRuntime) -> Result<(), Fail> {
 
 /// Looks again with a claim that found its bucket missing, and publishes a value. Answers whether it did.
 fn publish_late(early: Kept<'_, u32>, value: u32) -> bool {
-    let Kept { claim } = early;
-    let mut claim = claim;
+    let mut claim = early.into_claim();
     if !claim.is_missing() {
         claim.give_up();
         return false;

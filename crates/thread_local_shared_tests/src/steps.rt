@@ -14,6 +14,16 @@ pub struct Kept<'a, T> {
     pub claim: Claim<'a, T>,
 }
 
+impl<'a, T> Kept<'a, T> {
+    /// The claim alone.
+    pub fn into_claim(self) -> Claim<'a, T>
+        ensures { result ≡ self.entry.claim }
+    {
+        let Self { claim } = self;
+        claim
+    }
+}
+
 impl<T> Drop for Kept<'_, T> {
     fn drop(self) {
         let Self { claim } = self;
