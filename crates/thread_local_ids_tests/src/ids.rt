@@ -46,6 +46,13 @@ fn take_and_give<R: Wait>(
     Ok(shared)
 }
 
+/// Gives an id back.
+fn give_back<R: Wait>(ids: &Lock<Ids>, rt: &R, held: HeldId)
+    requires { held.right.table ≡ ids.now.tag }
+{
+    ids.lock(rt).give(held);
+}
+
 #[test]
 fn an_id_is_held_once(rt: HostRuntime) -> Result<(), Fail> {
     let mut ids = Ids::new(rt.alloc());
@@ -102,10 +109,10 @@ fn held_ids_are_swapped_moved_and_forgotten(rt: HostRuntime) -> Result<(), Fail>
     let there = &ids;
     let (_, id) = thread::join(
         &rt,
-        || there.lock(&rt).give(first),
+        || give_back(there, &rt, first),
         || {
             let id = second.id;
-            there.lock(&rt).give(second);
+            give_back(there, &rt, second);
             id
         },
     );
