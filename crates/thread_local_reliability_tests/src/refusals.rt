@@ -29,7 +29,7 @@ impl Publishing {
         }
     }
 
-    /// Publishes a number, or the default, and counts the calls of the closure. An error is out of
+    /// Publishes a number, or the default, and counts the calls of the closure. An error is want of
     /// memory.
     fn publish<R: Wait>(
         self,
@@ -52,9 +52,9 @@ impl Publishing {
         }
     }
 
-    /// Publishes a number, or the default, by a `Local` that finds nothing. Answers whether the
-    /// call did as it promises. An error is out of memory, after which no closure was called, and
-    /// the `Local` finds nothing.
+    /// Publishes a number, or the default, at a place that holds nothing. Answers whether the call
+    /// did as it promises. An error is want of memory, after which no closure was called, and the
+    /// place holds nothing.
     fn tried<R: Wait + Print>(
         self,
         local: &mut Local<'_, u32, R>,
@@ -77,12 +77,12 @@ impl Publishing {
         }
     }
 
-    /// Whether a `Local` finds what was published there for a number.
+    /// Whether a place finds what was published there for a number.
     fn stands<R: Wait>(self, local: &Local<'_, u32, R>, number: u32) -> bool {
         local.get() == Some(&self.wanted(number).0)
     }
 
-    /// What is published for a number, and how often a closure is called for it.
+    /// What is published in the place of a number, and how often a closure is called for it.
     fn wanted(self, number: u32) -> (u32, u32) {
         if self == Publishing::GetOrDefault {
             (0, 0)
@@ -91,99 +91,53 @@ impl Publishing {
         }
     }
 
-    /// Whether a `Local` finds what was published there for a number, if there is one.
-    fn stands_if_there<R: Wait>(self, local: Option<&Local<'_, u32, R>>, number: u32) -> bool {
-        match local {
-            Some(local) => self.stands(local, number),
-            None => true,
-        }
-    }
-
-    /// Whether the first and the second of three `Local`s find 6 and 7, as far as they are there.
-    fn earlier_stand<R: Wait>(self, earlier: [Option<&Local<'_, u32, R>>; 2]) -> bool {
-        let [first, second] = earlier;
-        self.stands_if_there(first, 6) && self.stands_if_there(second, 7)
-    }
-
-    /// Publishes, and once more where the call was refused, if the earlier `Local`s find what they
-    /// found. Answers whether each call did as it promises.
-    fn publish_beside<R: Wait + Print>(
-        self,
-        local: &mut Local<'_, u32, R>,
-        rt: &R,
-        earlier: [Option<&Local<'_, u32, R>>; 2],
-        number: u32,
-    ) -> bool {
-        match self.tried(local, rt, number) {
-            Ok(done) => done,
-            Err(_) => { self.earlier_stand(earlier) && self.tried(local, rt, number) == Ok(true) }
-        }
-    }
-
-    /// A `Local`, asked for once more where it was refused, if the earlier ones find what they
-    /// found.
-    fn taken_beside<'a, R: Wait + Print>(
-        self,
-        table: &'a ThreadLocal<u32>,
-        rt: &'a R,
-        earlier: [Option<&Local<'_, u32, R>>; 2],
-    ) -> Option<Local<'a, u32, R>> {
-        match taken(table, rt) {
-            Ok(local) => Some(local),
-            Err(_) => {
-                if self.earlier_stand(earlier) {
-                    taken(table, rt).ok()
-                } else {
-                    None
-                }
-            }
-        }
-    }
-
-    /// Beside two `Local`s a third publishes 8. Answers whether each call did as it promises, and
-    /// the earlier ones find what they found.
-    fn by_third<R: Wait + Print>(
-        self,
-        table: &ThreadLocal<u32>,
-        rt: &R,
-        first: &Local<'_, u32, R>,
-        second: &Local<'_, u32, R>,
-    ) -> bool {
-        let earlier = [Some(first), Some(second)];
-        let Some(mut third) = self.taken_beside(table, rt, earlier) else {
-            return false;
-        };
-        self.publish_beside(&mut third, rt, earlier, 8) && self.earlier_stand(earlier)
-    }
-
-    /// Beside a `Local` a second publishes 7, and then a third does.
-    fn by_second<R: Wait + Print>(
-        self,
-        table: &ThreadLocal<u32>,
-        rt: &R,
-        first: &Local<'_, u32, R>,
-    ) -> bool {
-        let earlier = [Some(first), None];
-        let Some(mut second) = self.taken_beside(table, rt, earlier) else {
-            return false;
-        };
-        self.publish_beside(&mut second, rt, earlier, 7)
-            && self.earlier_stand(earlier)
-            && self.by_third(table, rt, first, &second)
-    }
-
     /// Three `Local`s that are held at once publish 6, 7 and 8. A call that is refused is made
-    /// again, once it is seen that the earlier ones find what they found. Answers whether each call
-    /// did as it promises.
-    fn by_three<R: Wait + Print>(self, table: &ThreadLocal<u32>, rt: &R) -> bool {
-        let Some(mut first) = self.taken_beside(table, rt, [None, None]) else {
-            return false;
+    /// again, once it is seen that the earlier places find what they found. Answers whether each
+    /// call did as it promises.
+    fn by_three<R: Wait + Print>(
+        self,
+        table: &ThreadLocal<u32>,
+        rt: &R,
+    ) -> Result<bool, LocalError> {
+        let mut first = match taken(table, rt) {
+            Ok(local) => local,
+            Err(_) => taken(table, rt)?,
         };
-        self.publish_beside(&mut first, rt, [None, None], 6) && self.by_second(table, rt, &first)
+        let mut as_promised = match self.tried(&mut first, rt, 6) {
+            Ok(done) => done,
+            Err(_) => self.tried(&mut first, rt, 6) == Ok(true),
+        };
+        let mut second = match taken(table, rt) {
+            Ok(local) => local,
+            Err(_) => {
+                as_promised &= self.stands(&first, 6);
+                taken(table, rt)?
+            }
+        };
+        as_promised &= match self.tried(&mut second, rt, 7) {
+            Ok(done) => done,
+            Err(_) => self.stands(&first, 6) && self.tried(&mut second, rt, 7) == Ok(true),
+        };
+        as_promised &= self.stands(&first, 6);
+        let mut third = match taken(table, rt) {
+            Ok(local) => local,
+            Err(_) => {
+                as_promised &= self.stands(&first, 6) && self.stands(&second, 7);
+                taken(table, rt)?
+            }
+        };
+        as_promised &= match self.tried(&mut third, rt, 8) {
+            Ok(done) => done,
+            Err(_) => {
+                as_promised &= self.stands(&first, 6) && self.stands(&second, 7);
+                self.tried(&mut third, rt, 8) == Ok(true)
+            }
+        };
+        Ok(as_promised && self.stands(&first, 6) && self.stands(&second, 7))
     }
 }
 
-/// A `Local`. An error that is out of memory is told.
+/// A `Local`. An error that is want of memory is told.
 fn taken<'a, R: Wait + Print>(
     table: &'a ThreadLocal<u32>,
     rt: &'a R,
@@ -203,7 +157,7 @@ fn a_call_that_was_refused_succeeds_when_it_is_made_again(rt: HostRuntime) -> Re
         Publishing::GetOrDefault,
     ] {
         let table = ThreadLocal::<u32>::new(rt.alloc());
-        let as_promised = call.by_three(&table, &rt);
+        let as_promised = call.by_three(&table, &rt) == Ok(true);
         let mut values = table.into_iter();
         let walked = [values.next(), values.next(), values.next(), values.next()];
         let wanted = [6, 7, 8].map(|number| Some(call.wanted(number).0));
@@ -254,7 +208,7 @@ fn a_refused_insert_hands_its_value_back(rt: HostRuntime) -> Result<(), Fail> {
 }
 
 #[test]
-fn a_capacity_that_is_too_large_is_not_told_as_out_of_memory(rt: HostRuntime) {
+fn want_of_memory_never_stands_for_a_capacity_that_is_too_large(rt: HostRuntime) {
     let too_large = ThreadLocal::<u64>::with_capacity(rt.alloc(), 9223372036854775808);
     assert!(rt; matches!(too_large, Err(CapacityError::TooLarge)));
 }
