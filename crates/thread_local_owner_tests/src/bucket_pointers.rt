@@ -69,23 +69,39 @@ impl Drop for Counted<'_> {
     }
 }
 
+/// Whether a text comes back.
+fn text_comes_back(alloc: Global) -> Result<bool, AllocError> {
+    let first = String::from_str(alloc, "one")?;
+    let second = String::from_str(alloc, "two")?;
+    Ok(there_and_back(alloc, first, second)?.as_str() == "one")
+}
+
+/// Whether a box comes back.
+fn box_comes_back(alloc: Global) -> Result<bool, AllocError> {
+    let first = Box::new(alloc, 1u32)?;
+    let second = Box::new(alloc, 2)?;
+    Ok(*there_and_back(alloc, first, second)? == 1)
+}
+
+/// Whether a cell, a value without bytes and a large one come back.
+fn others_come_back(alloc: Global) -> Result<bool, AllocError> {
+    there_and_back(alloc, (), ())?;
+    Ok(
+        there_and_back(alloc, Cell::new(1u64), Cell::new(2))?.get() == 1
+            && there_and_back(alloc, [7u8; 4096], [0; 4096])?[4095] == 7,
+    )
+}
+
 #[test]
 fn values_come_back_at_any_type(rt: HostRuntime) -> Result<(), Fail> {
     let alloc = rt.alloc();
     assert_eq!(rt; there_and_back(alloc, 1u32, 2)?, 1);
-    let text = there_and_back(
-        alloc,
-        String::from_str(alloc, "one")?,
-        String::from_str(alloc, "two")?,
-    )?;
-    assert_eq!(rt; text.as_str(), "one");
-    let boxed = there_and_back(alloc, Box::new(alloc, 1u32)?, Box::new(alloc, 2)?)?;
-    assert_eq!(rt; *boxed, 1);
-    let cell = there_and_back(alloc, Cell::new(1u64), Cell::new(2))?;
-    assert_eq!(rt; cell.get(), 1);
-    there_and_back(alloc, (), ())?;
-    let large = there_and_back(alloc, [7u8; 4096], [0; 4096])?;
-    assert_eq!(rt; large[4095], 7);
+    let seen = (
+        text_comes_back(alloc)?,
+        box_comes_back(alloc)?,
+        others_come_back(alloc)?,
+    );
+    assert_eq!(rt; seen, (true, true, true));
     Ok(())
 }
 
@@ -99,9 +115,16 @@ fn a_block_that_is_too_large_is_refused(rt: HostRuntime) -> Result<(), Fail> {
     Ok(())
 }
 
-#[test]
-fn values_are_written_over(rt: HostRuntime) -> Result<(), Fail> {
-    let alloc = rt.alloc();
+/// A text that is written over another.
+fn text_written_over(alloc: Global) -> Result<String, AllocError> {
+    let first = String::from_str(alloc, "one")?;
+    let second = String::from_str(alloc, "two")?;
+    written_over(alloc, first, second, String::new(alloc))
+}
+
+/// Whether a slot with a value and one without are published, and whether their bucket and another
+/// one stand.
+fn seen_beside(alloc: Global) -> Result<[bool; 4], AllocError> {
     let mut pointers = BucketPointers::new(alloc);
     pointers.install(2)?;
     pointers.publish(
@@ -109,26 +132,20 @@ fn values_are_written_over(rt: HostRuntime) -> Result<(), Fail> {
             bucket: 2,
             index: 3,
         },
-        String::from_str(alloc, "one")?,
+        1u32,
     );
-    *pointers.get_mut(Thread {
-        bucket: 2,
-        index: 3,
-    }) = String::from_str(alloc, "two")?;
-    assert_eq!(rt;
-        pointers
-            .get_mut(Thread {
-                bucket: 2,
-                index: 3
-            })
-            .as_str(),
-        "two"
-    );
-    assert_eq!(rt;
-        (pointers.is_published(2, 3), pointers.is_published(2, 2)),
-        (true, false)
-    );
-    assert_eq!(rt; (pointers.stands(2), pointers.stands(1)), (true, false));
+    Ok([
+        pointers.is_published(2, 3),
+        pointers.is_published(2, 2),
+        pointers.stands(2),
+        pointers.stands(1),
+    ])
+}
+
+#[test]
+fn values_are_written_over(rt: HostRuntime) -> Result<(), Fail> {
+    assert_eq!(rt; text_written_over(rt.alloc())?.as_str(), "two");
+    assert_eq!(rt; seen_beside(rt.alloc())?, [true, false, true, false]);
     Ok(())
 }
 

@@ -4,7 +4,7 @@ ghost use Rattle.thread_local_model.specs.Buckets.{values};
 ghost use Rattle.thread_local_model.specs.Rows.{value_in};
 ghost use Rattle.thread_local_owner_walk.specs.Owner.{with_published};
 
-use std::alloc::Global;
+use std::alloc::{AllocError, Global};
 use std::cell::Cell;
 use std::test::Fail;
 use thread_local_buckets::Buckets;
@@ -63,26 +63,45 @@ fn write_first(buckets: &mut Buckets<u32>, value: u32)
     }
 }
 
+/// Whether a text comes back.
+fn text_comes_back(alloc: Global) -> Result<bool, AllocError> {
+    match inserted_and_taken(alloc, String::from_str(alloc, "seven")?) {
+        Ok(Some(text)) => Ok(text.as_str() == "seven"),
+        _ => Ok(false),
+    }
+}
+
+/// Whether a box comes back.
+fn box_comes_back(alloc: Global) -> Result<bool, AllocError> {
+    match inserted_and_taken(alloc, Box::new(alloc, 7u32)?) {
+        Ok(Some(boxed)) => Ok(*boxed == 7),
+        _ => Ok(false),
+    }
+}
+
+/// Whether a cell comes back.
+fn cell_comes_back(alloc: Global) -> bool {
+    match inserted_and_taken(alloc, Cell::new(7u64)) {
+        Ok(Some(cell)) => cell.get() == 7,
+        _ => false,
+    }
+}
+
+/// Whether a value without bytes comes back.
+fn unit_comes_back(alloc: Global) -> bool {
+    match inserted_and_taken(alloc, ()) {
+        Ok(Some(())) => true,
+        _ => false,
+    }
+}
+
 #[test]
 fn values_of_any_type_come_back(rt: HostRuntime) -> Result<(), Fail> {
-    assert_eq!(rt; inserted_and_taken(rt.alloc(), 7u32)?, Some(7));
-    let text = String::from_str(rt.alloc(), "seven")?;
-    match inserted_and_taken(rt.alloc(), text) {
-        Ok(Some(text)) => assert_eq!(rt; text.as_str(), "seven"),
-        _ => panic!(rt; "no text"),
-    }
-    match inserted_and_taken(rt.alloc(), Box::new(rt.alloc(), 7u32)?) {
-        Ok(Some(boxed)) => assert_eq!(rt; *boxed, 7),
-        _ => panic!(rt; "no box"),
-    }
-    match inserted_and_taken(rt.alloc(), Cell::new(7u64)) {
-        Ok(Some(cell)) => assert_eq!(rt; cell.get(), 7),
-        _ => panic!(rt; "no cell"),
-    }
-    match inserted_and_taken(rt.alloc(), ()) {
-        Ok(Some(())) => {}
-        _ => panic!(rt; "no unit"),
-    }
+    let alloc = rt.alloc();
+    assert_eq!(rt; inserted_and_taken(alloc, 7u32)?, Some(7));
+    let owned = (text_comes_back(alloc)?, box_comes_back(alloc)?);
+    let others = (cell_comes_back(alloc), unit_comes_back(alloc));
+    assert_eq!(rt; (owned, others), ((true, true), (true, true)));
     Ok(())
 }
 

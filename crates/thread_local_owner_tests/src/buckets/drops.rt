@@ -33,24 +33,31 @@ fn three(alloc: Global, drops: &AtomicU64) -> Result<Buckets<Counted<'_>>, Alloc
     Ok(buckets)
 }
 
+/// The number of the value that a walk lends first.
+fn first_number(buckets: &mut Buckets<Counted<'_>>) -> Option<u32> {
+    buckets.iter_mut().next().map(|value| value.number)
+}
+
+/// The slots of a table with a value, the value's number and how many drops there are.
+fn seen_of_one(alloc: Global, drops: &AtomicU64) -> Result<(usize, Option<u32>, u64), AllocError> {
+    let mut buckets = Buckets::new(alloc);
+    insert(&mut buckets, 1234, Counted { number: 7, drops })?;
+    let number = first_number(&mut buckets);
+    Ok((buckets.slots(), number, drops.load(SeqCst)))
+}
+
 #[test]
 fn a_table_drops_its_values(rt: HostRuntime) -> Result<(), Fail> {
     let drops = AtomicU64::new(0);
-    let mut buckets = Buckets::new(rt.alloc());
-    let value = Counted {
-        number: 7,
-        drops: &drops,
-    };
-    insert(&mut buckets, 1234, value)?;
-    assert_eq!(rt; buckets.slots(), 1024);
-    assert_eq!(rt;
-        buckets.iter_mut().next().map(|value| value.number),
-        Some(7)
-    );
-    assert_eq!(rt; drops.load(SeqCst), 0);
-    drop(buckets);
-    assert_eq!(rt; drops.load(SeqCst), 1);
+    let seen = seen_of_one(rt.alloc(), &drops)?;
+    assert_eq!(rt; (seen, drops.load(SeqCst)), ((1024, Some(7), 0), 1));
     Ok(())
+}
+
+/// The number of the value that stands at id 0 once this one was inserted there.
+fn stands_first<'a>(buckets: &mut Buckets<Counted<'a>>, value: Counted<'a>) -> Option<u32> {
+    let stands = buckets.insert(Thread::new(0), value);
+    stands.map(|stands| stands.number).ok()
 }
 
 #[test]
@@ -58,15 +65,9 @@ fn a_second_value_is_dropped(rt: HostRuntime) -> Result<(), Fail> {
     let drops = AtomicU64::new(0);
     let mut buckets = Buckets::new(rt.alloc());
     for number in [0, 1u32] {
-        let value = Counted {
-            number,
-            drops: &drops,
-        };
-        match buckets.insert(Thread::new(0), value) {
-            Ok(stands) => assert_eq!(rt; stands.number, 0),
-            Err(_) => return Err(AllocError)?,
-        }
-        assert_eq!(rt; drops.load(SeqCst), u64::from(number));
+        let drops = &drops;
+        let stands = stands_first(&mut buckets, Counted { number, drops });
+        assert_eq!(rt; (stands, drops.load(SeqCst)), (Some(0), u64::from(number)));
     }
     drop(buckets);
     assert_eq!(rt; drops.load(SeqCst), 2);
@@ -78,10 +79,20 @@ fn clear_drops_each_value(rt: HostRuntime) -> Result<(), Fail> {
     let drops = AtomicU64::new(0);
     let mut buckets = three(rt.alloc(), &drops)?;
     buckets.clear();
-    assert_eq!(rt; drops.load(SeqCst), 3);
+    let cleared = drops.load(SeqCst);
     drop(buckets);
-    assert_eq!(rt; drops.load(SeqCst), 3);
+    assert_eq!(rt; (cleared, drops.load(SeqCst)), (3, 3));
     Ok(())
+}
+
+/// The number of the value that a walk gives first, and how many drops there are when the walk is
+/// dropped and the value isn't.
+fn dropped_after_one(alloc: Global, drops: &AtomicU64) -> Result<(Option<u32>, u64), AllocError> {
+    let mut walk = three(alloc, drops)?.into_iter();
+    let first = walk.next();
+    drop(walk);
+    let number = first.as_ref().map(|value| value.number);
+    Ok((number, drops.load(SeqCst)))
 }
 
 #[test]
@@ -91,13 +102,8 @@ fn a_walk_drops_what_it_has_not_given(rt: HostRuntime) -> Result<(), Fail> {
     assert_eq!(rt; drops.load(SeqCst), 3);
 
     let drops = AtomicU64::new(0);
-    let mut walk = three(rt.alloc(), &drops)?.into_iter();
-    let first = walk.next();
-    drop(walk);
-    assert_eq!(rt; drops.load(SeqCst), 2);
-    assert_eq!(rt; first.as_ref().map(|value| value.number), Some(0));
-    drop(first);
-    assert_eq!(rt; drops.load(SeqCst), 3);
+    let seen = dropped_after_one(rt.alloc(), &drops)?;
+    assert_eq!(rt; (seen, drops.load(SeqCst)), ((Some(0), 2), 3));
     Ok(())
 }
 
@@ -120,16 +126,19 @@ fn a_walk_that_ends_within_a_chunk_drops_the_rest(rt: HostRuntime) -> Result<(),
     Ok(())
 }
 
+/// How many drops there are when a walk is forgotten, and its first value isn't dropped.
+fn dropped_by_a_forgotten_walk(alloc: Global, drops: &AtomicU64) -> Result<u64, AllocError> {
+    let mut walk = three(alloc, drops)?.into_iter();
+    let _first = walk.next();
+    forget(walk);
+    Ok(drops.load(SeqCst))
+}
+
 #[test]
 fn a_forgotten_walk_drops_nothing(rt: HostRuntime) -> Result<(), Fail> {
     let drops = AtomicU64::new(0);
-    let mut walk = three(rt.alloc(), &drops)?.into_iter();
-    let first = walk.next();
-    assert!(rt; first.is_some());
-    forget(walk);
-    assert_eq!(rt; drops.load(SeqCst), 0);
-    drop(first);
-    assert_eq!(rt; drops.load(SeqCst), 1);
+    let forgotten = dropped_by_a_forgotten_walk(rt.alloc(), &drops)?;
+    assert_eq!(rt; (forgotten, drops.load(SeqCst)), (0, 1));
     Ok(())
 }
 
@@ -154,20 +163,32 @@ impl<R: Files + Drop> Drop for Noted<R> {
     }
 }
 
+/// Inserts four values without bytes at three ids, and answers how many slots there are and how
+/// many values.
+fn four_noted<R: Files + Drop + Copy>(
+    rt: R,
+    buckets: &mut Buckets<Noted<R>>,
+) -> Result<(usize, usize), AllocError> {
+    for id in [0, 5, 5, 70u32] {
+        insert(buckets, id, Noted { rt })?;
+    }
+    Ok((buckets.slots(), buckets.iter_mut().len()))
+}
+
+/// Forgets the first of the values, and drops the others.
+fn drop_but_the_first<R: Files + Drop>(buckets: Buckets<Noted<R>>) {
+    let mut walk = buckets.into_iter();
+    forget(walk.next());
+}
+
 #[test]
 fn values_without_bytes_are_dropped_once(rt: HostRuntime) -> Result<(), Fail> {
     assert_eq!(rt; size_of::<Noted<HostRuntime>>(), 0);
     fs::write(&rt, NOTES, "")?;
     let mut buckets = Buckets::new(rt.alloc());
-    for id in [0, 5, 5, 70u32] {
-        insert(&mut buckets, id, Noted { rt })?;
-    }
-    assert_eq!(rt; buckets.slots(), 1 + 4 + 64);
+    assert_eq!(rt; four_noted(rt, &mut buckets)?, (1 + 4 + 64, 3));
     assert_eq!(rt; fs::read(&rt, NOTES)?.len(), 1);
-    assert_eq!(rt; buckets.iter_mut().len(), 3);
-    let mut walk = buckets.into_iter();
-    forget(walk.next());
-    drop(walk);
+    drop_but_the_first(buckets);
     assert_eq!(rt; fs::read(&rt, NOTES)?.len(), 3);
     fs::remove_file(&rt, NOTES)?;
     Ok(())

@@ -1,11 +1,11 @@
 //! Which buckets stand, and which value a slot has.
 
 use super::insert;
-use std::alloc::AllocError;
+use std::alloc::{AllocError, Global};
 use std::cell::Cell;
 use std::io::Print;
 use std::test::Fail;
-use thread_local_buckets::{Buckets, CapacityError};
+use thread_local_buckets::{Buckets, CapacityError, IntoIter};
 use thread_local_test_helpers::memory::take_all_but;
 use thread_local_thread_id::Thread;
 
@@ -33,48 +33,6 @@ fn a_capacity_past_the_last_id_is_refused(rt: HostRuntime) -> Result<(), Fail> {
     Ok(())
 }
 
-#[test]
-fn an_insert_installs_its_own_bucket(rt: HostRuntime) -> Result<(), Fail> {
-    let mut buckets = Buckets::new(rt.alloc());
-    assert_eq!(rt; buckets.slots(), 0);
-    for (id, slots) in [(0, 1), (2, 3), (19, 19)] {
-        assert_eq!(rt; put(&rt, &mut buckets, id, id as usize), Some(id as usize));
-        assert_eq!(rt; buckets.slots(), slots, "after id {id}");
-    }
-    buckets.clear();
-    assert_eq!(rt; buckets.slots(), 0);
-    assert_eq!(rt; buckets.into_iter().next(), None);
-    Ok(())
-}
-
-#[test]
-fn the_first_value_stays(rt: HostRuntime) -> Result<(), Fail> {
-    let mut buckets = Buckets::new(rt.alloc());
-    assert_eq!(rt; put(&rt, &mut buckets, 0, 1), Some(1));
-    assert_eq!(rt; put(&rt, &mut buckets, 0, 2), Some(1));
-    let mut walk = buckets.into_iter();
-    assert_eq!(rt; walk.next(), Some(1));
-    assert_eq!(rt; walk.next(), None);
-    Ok(())
-}
-
-#[test]
-fn one_value_is_written(rt: HostRuntime) -> Result<(), Fail> {
-    let mut buckets = Buckets::new(rt.alloc());
-    assert_eq!(rt; put(&rt, &mut buckets, 0, 1), Some(1));
-    assert_eq!(rt; put(&rt, &mut buckets, 2, 2), Some(2));
-    if let Some(value) = buckets.get_mut(Thread::new(2)) {
-        *value = 7;
-    }
-    assert!(rt; buckets.get_mut(Thread::new(1)).is_none());
-    assert!(rt; buckets.get_mut(Thread::new(1234)).is_none());
-    let mut walk = buckets.into_iter();
-    assert_eq!(rt; walk.next(), Some(1));
-    assert_eq!(rt; walk.next(), Some(7));
-    assert_eq!(rt; walk.next(), None);
-    Ok(())
-}
-
 /// Inserts a value and answers what stands at the id. Where memory is refused the value comes back
 /// and no bucket is new, and the same call succeeds; else the answer is `None`.
 fn put(rt: &impl Print, buckets: &mut Buckets<usize>, id: u32, value: usize) -> Option<usize> {
@@ -97,17 +55,75 @@ fn put(rt: &impl Print, buckets: &mut Buckets<usize>, id: u32, value: usize) -> 
     }
 }
 
+/// Whether a walk gives just these values.
+fn gives(buckets: Buckets<usize>, values: &[usize]) -> bool {
+    let mut walk = buckets.into_iter();
+    for value in values {
+        if walk.next() != Some(*value) {
+            return false;
+        }
+    }
+    walk.next().is_none() && walk.next().is_none()
+}
+
+#[test]
+fn an_insert_installs_its_own_bucket(rt: HostRuntime) -> Result<(), Fail> {
+    let mut buckets = Buckets::new(rt.alloc());
+    assert_eq!(rt; buckets.slots(), 0);
+    for (id, slots) in [(0, 1), (2, 3), (19, 19)] {
+        let stands = put(&rt, &mut buckets, id, id as usize);
+        assert_eq!(rt;
+            (stands, buckets.slots()),
+            (Some(id as usize), slots),
+            "after id {id}"
+        );
+    }
+    buckets.clear();
+    assert_eq!(rt; (buckets.slots(), gives(buckets, &[])), (0, true));
+    Ok(())
+}
+
+#[test]
+fn the_first_value_stays(rt: HostRuntime) -> Result<(), Fail> {
+    let mut buckets = Buckets::new(rt.alloc());
+    let stands = (put(&rt, &mut buckets, 0, 1), put(&rt, &mut buckets, 0, 2));
+    assert_eq!(rt; (stands, gives(buckets, &[1])), ((Some(1), Some(1)), true));
+    Ok(())
+}
+
+/// Writes 7 at id 2. Answers whether there is no value at two other ids.
+fn write_seven(buckets: &mut Buckets<usize>) -> (bool, bool) {
+    if let Some(value) = buckets.get_mut(Thread::new(2)) {
+        *value = 7;
+    }
+    let one = buckets.get_mut(Thread::new(1)).is_none();
+    (one, buckets.get_mut(Thread::new(1234)).is_none())
+}
+
+#[test]
+fn one_value_is_written(rt: HostRuntime) -> Result<(), Fail> {
+    let mut buckets = Buckets::new(rt.alloc());
+    let stands = (put(&rt, &mut buckets, 0, 1), put(&rt, &mut buckets, 2, 2));
+    assert_eq!(rt;
+        (stands, write_seven(&mut buckets)),
+        ((Some(1), Some(2)), (true, true))
+    );
+    assert!(rt; gives(buckets, &[1, 7]));
+    Ok(())
+}
+
 #[test]
 fn a_refused_insert_hands_the_value_back(rt: HostRuntime) -> Result<(), Fail> {
     let mut buckets = Buckets::new(rt.alloc());
     for (id, value, slots) in [(0, 5, 1), (1, 6, 3), (3, 7, 7)] {
-        assert_eq!(rt; put(&rt, &mut buckets, id, value), Some(value));
-        assert_eq!(rt; buckets.slots(), slots, "after id {id}");
+        let stands = put(&rt, &mut buckets, id, value);
+        assert_eq!(rt;
+            (stands, buckets.slots()),
+            (Some(value), slots),
+            "after id {id}"
+        );
     }
-    let mut walk = buckets.into_iter();
-    for wanted in [Some(5), Some(6), Some(7), None, None] {
-        assert_eq!(rt; walk.next(), wanted);
-    }
+    assert!(rt; gives(buckets, &[5, 6, 7]));
     Ok(())
 }
 
@@ -134,50 +150,69 @@ fn blocks_are_freed(rt: HostRuntime) -> Result<(), Fail> {
     Ok(())
 }
 
+/// A text that was inserted, and written in a walk.
+fn text_written(alloc: Global) -> Result<Option<String>, AllocError> {
+    let mut texts = Buckets::new(alloc);
+    insert(&mut texts, 2, String::from_str(alloc, "five")?)?;
+    for text in texts.iter_mut() {
+        text.push_str(" and six")?;
+    }
+    Ok(texts.into_iter().next())
+}
+
+/// A boxed number that was inserted.
+fn boxed(alloc: Global) -> Result<Option<u32>, AllocError> {
+    let mut boxes = Buckets::new(alloc);
+    insert(&mut boxes, 4, Box::new(alloc, 7u32)?)?;
+    Ok(boxes.into_iter().next().map(|b| *b))
+}
+
+/// What a cell holds that was set where it stands.
+fn set_in_a_cell(alloc: Global) -> Result<Option<u64>, AllocError> {
+    let mut cells = Buckets::new(alloc);
+    match cells.insert(Thread::new(1), Cell::new(8u64)) {
+        Ok(cell) => cell.set(9),
+        Err(_) => return Err(AllocError),
+    }
+    Ok(cells.into_iter().next().map(|cell| cell.get()))
+}
+
 #[test]
 fn values_of_each_kind(rt: HostRuntime) -> Result<(), Fail> {
     let mut numbers = Buckets::new(rt.alloc());
     insert(&mut numbers, 0, 5u32)?;
     assert_eq!(rt; numbers.into_iter().next(), Some(5));
-
-    let mut texts = Buckets::new(rt.alloc());
-    insert(&mut texts, 2, String::from_str(rt.alloc(), "five")?)?;
-    for text in texts.iter_mut() {
-        text.push_str(" and six")?;
-    }
-    let text = texts.into_iter().next();
-    assert_eq!(rt; text.as_deref(), Some("five and six"));
-
-    let mut boxes = Buckets::new(rt.alloc());
-    insert(&mut boxes, 4, Box::new(rt.alloc(), 7u32)?)?;
-    assert_eq!(rt; boxes.into_iter().next().map(|b| *b), Some(7));
-
-    let mut cells = Buckets::new(rt.alloc());
-    match cells.insert(Thread::new(1), Cell::new(8u64)) {
-        Ok(cell) => cell.set(9),
-        Err(_) => return Err(AllocError)?,
-    }
-    assert_eq!(rt; cells.into_iter().next().map(|cell| cell.get()), Some(9));
+    assert_eq!(rt; text_written(rt.alloc())?.as_deref(), Some("five and six"));
+    let others = (boxed(rt.alloc())?, set_in_a_cell(rt.alloc())?);
+    assert_eq!(rt; others, (Some(7), Some(9)));
     Ok(())
+}
+
+/// Inserts three values of 4096 bytes at the first ids, and writes in each. Answers how many slots
+/// there are.
+fn write_large(buckets: &mut Buckets<[u64; 512]>) -> Result<usize, AllocError> {
+    for id in 0..3u32 {
+        insert(buckets, id, [u64::from(id); 512])?;
+    }
+    for value in buckets.iter_mut() {
+        value[511] = value[0].wrapping_add(10);
+    }
+    Ok(buckets.slots())
+}
+
+/// Three numbers of the value that a walk gives next.
+fn three_of_next(walk: &mut IntoIter<[u64; 512]>) -> Option<(u64, u64, u64)> {
+    walk.next().map(|value| (value[0], value[510], value[511]))
 }
 
 #[test]
 fn a_large_value(rt: HostRuntime) -> Result<(), Fail> {
     let mut buckets = Buckets::new(rt.alloc());
-    for id in 0..3u32 {
-        insert(&mut buckets, id, [u64::from(id); 512])?;
-    }
-    assert_eq!(rt; buckets.slots(), 3);
-    for value in buckets.iter_mut() {
-        value[511] = value[0].wrapping_add(10);
-    }
+    assert_eq!(rt; write_large(&mut buckets)?, 3);
     let mut walk = buckets.into_iter();
     for wanted in [0u64, 1, 2] {
-        let value = walk.next();
-        assert_eq!(rt;
-            value.map(|value| (value[0], value[510], value[511])),
-            Some((wanted, wanted, wanted.wrapping_add(10)))
-        );
+        let last = wanted.wrapping_add(10);
+        assert_eq!(rt; three_of_next(&mut walk), Some((wanted, wanted, last)));
     }
     assert!(rt; walk.next().is_none());
     Ok(())

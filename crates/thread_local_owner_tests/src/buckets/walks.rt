@@ -3,8 +3,8 @@
 
 use super::insert;
 use std::alloc::{AllocError, Global};
+use std::fmt;
 use std::mem::forget;
-use std::process::Abort;
 use std::test::Fail;
 use thread_local_buckets::{Buckets, IntoIter};
 
@@ -17,45 +17,51 @@ fn three(alloc: Global, ids: [u32; 3]) -> Result<Buckets<u32>, AllocError> {
     Ok(buckets)
 }
 
-/// Three values, counted down, and then nothing for good.
-fn gives(rt: &impl Abort, walk: &mut IntoIter<u32>, values: [u32; 3]) {
+/// Whether so many values are still to come.
+fn has_left<W: ExactSizeIterator>(walk: &W, left: usize) -> bool {
+    walk.len() == left && walk.size_hint() == (left, Some(left))
+}
+
+/// Whether a walk gives three values, counted down, and then nothing for good.
+fn gives(walk: IntoIter<u32>, values: [u32; 3]) -> bool {
+    let mut walk = walk;
+    let mut fits = true;
     let mut left = 3usize;
     for value in values {
-        assert_eq!(rt; walk.len(), left);
-        assert_eq!(rt; walk.size_hint(), (left, Some(left)));
-        assert_eq!(rt; walk.next(), Some(value));
+        fits &= has_left(&walk, left) && walk.next() == Some(value);
         left = left.saturating_sub(1);
     }
     for _ in 0..2 {
-        assert_eq!(rt; walk.len(), 0);
-        assert_eq!(rt; walk.size_hint(), (0, Some(0)));
-        assert_eq!(rt; walk.next(), None);
+        fits &= has_left(&walk, 0) && walk.next().is_none();
     }
+    fits
 }
 
 /// The same of a walk that lends.
-fn lends(rt: &impl Abort, buckets: &mut Buckets<u32>, values: [u32; 3]) {
+fn lends(buckets: &mut Buckets<u32>, values: [u32; 3]) -> bool {
     let mut walk = buckets.iter_mut();
+    let mut fits = true;
     let mut left = 3usize;
     for value in values {
-        assert_eq!(rt; walk.len(), left);
-        assert_eq!(rt; walk.size_hint(), (left, Some(left)));
-        assert_eq!(rt; walk.next().map(|there| *there), Some(value));
+        fits &= has_left(&walk, left) && walk.next().map(|there| *there) == Some(value);
         left = left.saturating_sub(1);
     }
     for _ in 0..2 {
-        assert_eq!(rt; walk.len(), 0);
-        assert_eq!(rt; walk.size_hint(), (0, Some(0)));
-        assert!(rt; walk.next().is_none());
+        fits &= has_left(&walk, 0) && walk.next().is_none();
     }
+    fits
+}
+
+/// Whether both walks go by ascending id.
+fn both_ascend(alloc: Global, ids: [u32; 3]) -> Result<bool, AllocError> {
+    let mut buckets = three(alloc, ids)?;
+    Ok(lends(&mut buckets, [1, 2, 3]) && gives(buckets.into_iter(), [1, 2, 3]))
 }
 
 #[test]
 fn walks_go_by_ascending_id(rt: HostRuntime) -> Result<(), Fail> {
     for ids in [[0, 1, 2], [0, 1234, 100000], [62, 63, 126], [190, 191, 254]] {
-        let mut buckets = three(rt.alloc(), ids)?;
-        lends(&rt, &mut buckets, [1, 2, 3]);
-        gives(&rt, &mut buckets.into_iter(), [1, 2, 3]);
+        assert!(rt; both_ascend(rt.alloc(), ids)?);
     }
     Ok(())
 }
@@ -80,7 +86,7 @@ fn crosses<S: Send>(value: S) -> S {
 fn walks_may_go_to_another_thread(rt: HostRuntime) -> Result<(), Fail> {
     let mut buckets = crosses(three(rt.alloc(), [0, 1, 2])?);
     assert_eq!(rt; crosses(buckets.iter_mut()).len(), 3);
-    gives(&rt, &mut crosses(buckets.into_iter()), [1, 2, 3]);
+    assert!(rt; gives(crosses(buckets.into_iter()), [1, 2, 3]));
     Ok(())
 }
 
@@ -90,7 +96,7 @@ fn what_a_walk_writes_stays(rt: HostRuntime) -> Result<(), Fail> {
     for value in buckets.iter_mut() {
         *value = value.saturating_mul(10);
     }
-    gives(&rt, &mut buckets.into_iter(), [10, 20, 30]);
+    assert!(rt; gives(buckets.into_iter(), [10, 20, 30]));
     Ok(())
 }
 
@@ -110,48 +116,49 @@ fn first_of_forgotten(buckets: &mut Buckets<u32>) -> Option<u32> {
 #[test]
 fn a_walk_that_stops_early_changes_nothing(rt: HostRuntime) -> Result<(), Fail> {
     let mut buckets = three(rt.alloc(), [0, 1, 2])?;
-    assert_eq!(rt; first(&mut buckets), Some(1));
-    lends(&rt, &mut buckets, [1, 2, 3]);
-    assert_eq!(rt; first_of_forgotten(&mut buckets), Some(1));
-    lends(&rt, &mut buckets, [1, 2, 3]);
+    let stopped = first(&mut buckets) == Some(1) && lends(&mut buckets, [1, 2, 3]);
+    let forgotten = first_of_forgotten(&mut buckets) == Some(1) && lends(&mut buckets, [1, 2, 3]);
+    assert_eq!(rt; (stopped, forgotten), (true, true));
     Ok(())
+}
+
+/// Whether a walk prints this text.
+fn prints<W: fmt::Debug>(alloc: Global, walk: &W, text: &str) -> Result<bool, AllocError> {
+    Ok(format!(in alloc; "{walk:?}")?.as_str() == text)
+}
+
+const FRESH: &str = "IntoIter { raw: RawIter { yielded: 0, bucket: 0, bucket_size: 1, index: 0 } }";
+
+const ENDED: &str = "IntoIter { raw: RawIter { yielded: 1, bucket: 0, bucket_size: 1, index: 1 } }";
+
+const LENDS_FRESH: &str =
+    "IterMut { raw: RawIter { yielded: 0, bucket: 0, bucket_size: 1, index: 0 } }";
+
+const LENDS_ENDED: &str =
+    "IterMut { raw: RawIter { yielded: 1, bucket: 0, bucket_size: 1, index: 1 } }";
+
+/// Whether a walk over the value 5 prints its cursor before it, behind it and at its end.
+fn taking_prints(alloc: Global, buckets: Buckets<u32>) -> Result<bool, AllocError> {
+    let mut walk = buckets.into_iter();
+    let fresh = prints(alloc, &walk, FRESH)? && walk.next() == Some(5);
+    let behind = prints(alloc, &walk, ENDED)? && walk.next().is_none();
+    Ok(fresh && behind && prints(alloc, &walk, ENDED)? && walk.next().is_none())
+}
+
+/// The same of a walk that lends.
+fn lending_prints(alloc: Global, buckets: &mut Buckets<u32>) -> Result<bool, AllocError> {
+    let mut walk = buckets.iter_mut();
+    let fresh = prints(alloc, &walk, LENDS_FRESH)? && walk.next().map(|value| *value) == Some(5);
+    let behind = prints(alloc, &walk, LENDS_ENDED)? && walk.next().is_none();
+    Ok(fresh && behind && prints(alloc, &walk, LENDS_ENDED)? && walk.next().is_none())
 }
 
 #[test]
 fn walks_print_their_cursor(rt: HostRuntime) -> Result<(), Fail> {
     let mut buckets = Buckets::new(rt.alloc());
     insert(&mut buckets, 0, 5u32)?;
-    {
-        let mut walk = buckets.iter_mut();
-        let text = format!(in rt.alloc(); "{walk:?}")?;
-        assert_eq!(rt;
-            text.as_str(),
-            "IterMut { raw: RawIter { yielded: 0, bucket: 0, bucket_size: 1, index: 0 } }"
-        );
-        assert_eq!(rt; walk.next().map(|value| *value), Some(5));
-        for _ in 0..2 {
-            let text = format!(in rt.alloc(); "{walk:?}")?;
-            assert_eq!(rt;
-                text.as_str(),
-                "IterMut { raw: RawIter { yielded: 1, bucket: 0, bucket_size: 1, index: 1 } }"
-            );
-            assert!(rt; walk.next().is_none());
-        }
-    }
-    let mut walk = buckets.into_iter();
-    let text = format!(in rt.alloc(); "{walk:?}")?;
-    assert_eq!(rt;
-        text.as_str(),
-        "IntoIter { raw: RawIter { yielded: 0, bucket: 0, bucket_size: 1, index: 0 } }"
-    );
-    assert_eq!(rt; walk.next(), Some(5));
-    for _ in 0..2 {
-        let text = format!(in rt.alloc(); "{walk:?}")?;
-        assert_eq!(rt;
-            text.as_str(),
-            "IntoIter { raw: RawIter { yielded: 1, bucket: 0, bucket_size: 1, index: 1 } }"
-        );
-        assert_eq!(rt; walk.next(), None);
-    }
+    let lending = lending_prints(rt.alloc(), &mut buckets)?;
+    let taking = taking_prints(rt.alloc(), buckets)?;
+    assert_eq!(rt; (lending, taking), (true, true));
     Ok(())
 }
