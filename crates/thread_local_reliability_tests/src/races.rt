@@ -2,13 +2,13 @@
 
 use std::alloc::Global;
 use std::sync::Wait;
+use std::sync::atomic::AtomicU32;
 use std::sync::atomic::Ordering::SeqCst;
-use std::sync::atomic::{AtomicBool, AtomicU32};
 use std::test::Fail;
 use std::thread;
 use std::thread::{Threads, yield_now};
 use thread_local_table::{Local, ThreadLocal};
-use thread_local_test_helpers::marks::{LOOKS, is_seen};
+use thread_local_test_helpers::marks::LOOKS;
 use thread_local_thread_id::LocalError;
 
 /// How many walks are made beside a race at most.
@@ -177,68 +177,5 @@ fn threads_share_a_local(rt: HostRuntime) -> Result<(), Fail> {
     local.get_or(|| 5)?;
     let both = thread::join(&rt, || finds_five(&local), || finds_five(&local));
     assert_eq!(rt; both, (true, true));
-    Ok(())
-}
-
-/// Publishes 9 by a `Local` of its own. Answers whether it found nothing before.
-fn publish_nine<R: Wait>(table: &ThreadLocal<u32>, rt: &R) -> bool {
-    match table.local(rt) {
-        Ok(mut local) => local.get().is_none() && local.get_or(|| 9).is_ok(),
-        Err(_) => false,
-    }
-}
-
-/// Publishes 1, by a closure that publishes 9 through a `Local` of its own and then waits for the
-/// second's value. Answers the value, and whether the closure did so.
-fn publish_around<R: Wait>(
-    local: Local<'_, u32, R>,
-    table: &ThreadLocal<u32>,
-    rt: &R,
-    begun: &AtomicBool,
-    answered: &AtomicBool,
-) -> (Option<u32>, bool) {
-    let mut local = local;
-    let mut seen = false;
-    let got = local
-        .get_or(|| {
-            let published = publish_nine(table, rt);
-            begun.store(true, SeqCst);
-            seen = is_seen(answered) && published;
-            1
-        })
-        .ok()
-        .copied();
-    (got, seen)
-}
-
-/// Publishes 2 once the first's closure has begun. Answers the value, and whether the closure had.
-fn publish_within<R: Wait>(
-    local: Local<'_, u32, R>,
-    begun: &AtomicBool,
-    answered: &AtomicBool,
-) -> (Option<u32>, bool) {
-    let mut local = local;
-    let seen = is_seen(begun);
-    let got = local.get_or(|| 2).ok().copied();
-    answered.store(true, SeqCst);
-    (got, seen)
-}
-
-#[test]
-fn a_closure_that_waits_for_another_thread_may_take_a_local(rt: HostRuntime) -> Result<(), Fail> {
-    let table = ThreadLocal::<u32>::new(rt.alloc());
-    let begun = AtomicBool::new(false);
-    let answered = AtomicBool::new(false);
-    let first = table.local(&rt)?;
-    let second = table.local(&rt)?;
-    let both = thread::join(
-        &rt,
-        || publish_around(first, &table, &rt, &begun, &answered),
-        || publish_within(second, &begun, &answered),
-    );
-    let mut values = table.into_iter();
-    let walked = [values.next(), values.next(), values.next(), values.next()];
-    assert_eq!(rt; both, ((Some(1), true), (Some(2), true)));
-    assert_eq!(rt; walked, [Some(1), Some(2), Some(9), None]);
     Ok(())
 }

@@ -73,22 +73,31 @@ fn a_local_moves_to_another_thread_and_back(rt: HostRuntime) -> Result<(), Fail>
     Ok(())
 }
 
-/// Publishes while its closure waits for the second's value. Answers the value, and whether the
-/// closure saw the mark.
+/// Publishes 9 by a `Local` of its own. Answers whether it found nothing before.
+fn publish_nine<R: Wait>(table: &ThreadLocal<u32>, rt: &R) -> bool {
+    match table.local(rt) {
+        Ok(mut local) => found(&local).is_none() && published(&mut local, 9).is_some(),
+        Err(_) => false,
+    }
+}
+
+/// Publishes 1, by a closure that says that it has begun and then waits for the second's value.
+/// Where a table is given the closure first publishes 9 there. Answers the value, and whether the
+/// closure did so.
 fn publish_around<R: Wait>(
-    table: &ThreadLocal<u32>,
+    local: Local<'_, u32, R>,
+    nine: Option<&ThreadLocal<u32>>,
     rt: &R,
     begun: &AtomicBool,
     answered: &AtomicBool,
 ) -> (Option<u32>, bool) {
-    let Ok(mut local) = table.local(rt) else {
-        return (None, false);
-    };
+    let mut local = local;
     let mut seen = false;
     let got = local
         .get_or(|| {
+            let published = nine.is_none_or(|table| publish_nine(table, rt));
             begun.store(true, SeqCst);
-            seen = is_seen(answered);
+            seen = is_seen(answered) && published;
             1
         })
         .ok()
@@ -96,20 +105,46 @@ fn publish_around<R: Wait>(
     (got, seen)
 }
 
-/// Publishes once the first's closure has begun.
-fn publish_within<R: Wait>(
+/// Does so by a `Local` of its own, and publishes no 9.
+fn publish_around_by_its_own<R: Wait>(
     table: &ThreadLocal<u32>,
     rt: &R,
     begun: &AtomicBool,
     answered: &AtomicBool,
 ) -> (Option<u32>, bool) {
+    match table.local(rt) {
+        Ok(local) => publish_around(local, None, rt, begun, answered),
+        Err(_) => (None, false),
+    }
+}
+
+/// Publishes 2 once the first's closure has begun. Answers the value, and whether the closure had.
+fn publish_within<R: Wait>(
+    local: Local<'_, u32, R>,
+    begun: &AtomicBool,
+    answered: &AtomicBool,
+) -> (Option<u32>, bool) {
+    let mut local = local;
     let seen = is_seen(begun);
-    let Ok(mut local) = table.local(rt) else {
-        return (None, seen);
-    };
     let got = published(&mut local, 2);
     answered.store(true, SeqCst);
     (got, seen)
+}
+
+/// Does so by a `Local` that it takes once the first's closure has begun.
+fn publish_within_by_its_own<R: Wait>(
+    table: &ThreadLocal<u32>,
+    rt: &R,
+    begun: &AtomicBool,
+    answered: &AtomicBool,
+) -> (Option<u32>, bool) {
+    if !is_seen(begun) {
+        return (None, false);
+    }
+    match table.local(rt) {
+        Ok(local) => publish_within(local, begun, answered),
+        Err(_) => (None, false),
+    }
 }
 
 #[test]
@@ -119,10 +154,27 @@ fn no_lock_is_held_while_a_closure_runs(rt: HostRuntime) -> Result<(), Fail> {
     let answered = AtomicBool::new(false);
     let (first, second) = thread::join(
         &rt,
-        || publish_around(&table, &rt, &begun, &answered),
-        || publish_within(&table, &rt, &begun, &answered),
+        || publish_around_by_its_own(&table, &rt, &begun, &answered),
+        || publish_within_by_its_own(&table, &rt, &begun, &answered),
     );
     assert_eq!(rt; (first, second), ((Some(1), true), (Some(2), true)));
+    Ok(())
+}
+
+#[test]
+fn a_closure_that_waits_for_another_thread_may_take_a_local(rt: HostRuntime) -> Result<(), Fail> {
+    let mut table = ThreadLocal::<u32>::new(rt.alloc());
+    let begun = AtomicBool::new(false);
+    let answered = AtomicBool::new(false);
+    let first = table.local(&rt)?;
+    let second = table.local(&rt)?;
+    let both = thread::join(
+        &rt,
+        || publish_around(first, Some(&table), &rt, &begun, &answered),
+        || publish_within(second, &begun, &answered),
+    );
+    assert_eq!(rt; both, ((Some(1), true), (Some(2), true)));
+    assert!(rt; lends(&mut table, &[1, 2, 9]));
     Ok(())
 }
 
@@ -160,7 +212,7 @@ fn a_closure_may_use_another_local_of_the_table(rt: HostRuntime) -> Result<(), F
     let answered = AtomicBool::new(false);
     let (first, second) = thread::join(
         &rt,
-        || publish_around(&table, &rt, &begun, &answered),
+        || publish_around_by_its_own(&table, &rt, &begun, &answered),
         || publish_through_another_within(&table, &rt, &begun, &answered),
     );
     assert_eq!(rt; (first, second), ((Some(1), true), (Some(7), true)));
