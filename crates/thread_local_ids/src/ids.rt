@@ -29,7 +29,8 @@ impl Model for Ids {
     ghost invariant = { IsTied };
 }
 
-// Any `Ids` fits, since the type has an invariant of its own. The lock keeps which table they are of.
+// Any `Ids` fits, since the type has an invariant of its own. The lock keeps which table they are
+// of.
 impl Fits for Ids {
     ghost use Rattle.std.specs.Prelude.{⊤};
 

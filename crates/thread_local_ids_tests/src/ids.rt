@@ -1,3 +1,4 @@
+//! Tests of ids under a lock, each with its right.
 ghost use Rattle.std.specs.Prelude.{◌≡◌, ◌≢◌, ℕ, IfOk};
 
 use std::mem::{forget, swap};

@@ -1,3 +1,4 @@
+//! Tests of a lock: who takes it finds what was left there, and one thread at a time has it.
 ghost use Rattle.std.specs.Prelude.{◌≡◌, ◌≢◌, ℕ, ◌≤◌};
 
 use std::sync::Wait;

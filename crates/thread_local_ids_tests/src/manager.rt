@@ -1,3 +1,4 @@
+//! Tests of the manager of ids: the least id comes, and a returned one needs no memory.
 use std::io::Print;
 use std::process::Abort;
 use std::test::Fail;

@@ -1,3 +1,4 @@
+//! Ten thousand takes and gives beside a set of the ids held.
 use std::collections::BTreeSet;
 use std::test::Fail;
 use thread_local_thread_id::ThreadIdManager;
@@ -23,8 +24,9 @@ fn nth_of(held: &BTreeSet<usize>, n: u64) -> Option<usize> {
     held.iter().nth((n % count) as usize).copied()
 }
 
-/// Each move draws a number, by one multiplication and one addition. Of 5000 moves three of four among the first 2500 take an id, and one
-/// of four among the others, so the held ids come to fill some twenty words and leave them again, twice.
+/// Each move draws a number, by one multiplication and one addition. Of 5000 moves three of four
+/// among the first 2500 take an id, and one of four among the others, so the held ids come to fill
+/// some twenty words and leave them again, twice.
 #[test]
 fn ten_thousand_moves_give_the_least_ids(rt: HostRuntime) -> Result<(), Fail> {
     let mut manager = ThreadIdManager::new(rt.alloc());

@@ -1,3 +1,4 @@
+//! Tests of rights: they go out and come back, take no bytes, and stand in types of one's own.
 ghost use Rattle.std.specs.Prelude.{◌≡◌, false};
 ghost use Rattle.thread_local_rights.specs.Rights.{is_out};
 

@@ -84,8 +84,8 @@ impl<T> Shared<T> {
         pointers
     }
 
-    /// The same memory as `SharedParts`: what an owner sees as a `BucketPointer` is a `SharedBucket`
-    /// there. The two lie alike.
+    /// The same memory as `SharedParts`: what an owner sees as a `BucketPointer` is a
+    /// `SharedBucket` there. The two lie alike.
     fn parts(&self) -> &SharedParts<T>
         ensures { result.now ≡ self.now }
     {

@@ -18,7 +18,8 @@ impl<T: Drop> Kept<'_, T> {
     }
 }
 
-// The first is forgotten where a value stands, the second before its bucket does, which the third then makes.
+// The first is forgotten where a value stands, the second before its bucket does, which the third
+// then makes.
 #[test]
 fn a_forgotten_claim_costs_its_own_slot(rt: HostRuntime) -> Result<(), Fail> {
     let mut ids = Ids::new(rt.alloc());

@@ -33,7 +33,8 @@ fn each_value_is_dropped_once(rt: HostRuntime) -> Result<(), Fail> {
     Ok(())
 }
 
-/// Publishes a counted value at each of so many ids, and offers another there, which gives way. Answers how often it did.
+/// Publishes a counted value at each of so many ids, and offers another there, which gives way.
+/// Answers how often it did.
 fn publish_counted<R: Wait>(
     shared: &Shared<Counted>,
     ids: &Lock<Ids>,

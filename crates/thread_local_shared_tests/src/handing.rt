@@ -84,7 +84,8 @@ fn a_walker_sees_a_value_that_is_claimed(rt: HostRuntime) -> Result<(), Fail> {
     Ok(())
 }
 
-/// Publishes a value in shared buckets of its own, and takes it back out of them. Answers whether there is one.
+/// Publishes a value in shared buckets of its own, and takes it back out of them. Answers whether
+/// there is one.
 fn comes_back<T: Send + Drop>(alloc: Global, value: T) -> bool
     requires judged { Judged T.row }
 {

@@ -111,7 +111,8 @@ fn blocks_that_come_second_are_freed(rt: HostRuntime) -> Result<(), Fail> {
     Ok(())
 }
 
-// Both blocks are made before the first is installed. The second offer, and what comes after both, goes on with the first's block.
+// Both blocks are made before the first is installed. The second offer, and what comes after both,
+// goes on with the first's block.
 #[test]
 fn the_second_of_two_blocks_gives_way(rt: HostRuntime) -> Result<(), Fail> {
     let mut ids = Ids::new(rt.alloc());
@@ -144,7 +145,8 @@ fn the_second_of_two_blocks_gives_way(rt: HostRuntime) -> Result<(), Fail> {
     Ok(())
 }
 
-/// Looks again with a claim that found its bucket missing, and publishes a value. Answers whether it did.
+/// Looks again with a claim that found its bucket missing, and publishes a value. Answers whether
+/// it did.
 fn publish_late(early: Kept<'_, u32>, value: u32) -> bool {
     let mut claim = early.into_claim();
     if !claim.is_missing() {

@@ -7,7 +7,8 @@ use thread_local_ids::Ids;
 use thread_local_shared_buckets::Shared;
 use thread_local_thread_id::Thread;
 
-/// What a walker finds at three ids, each in a bucket of its own, the last at neither end of its bucket.
+/// What a walker finds at three ids, each in a bucket of its own, the last at neither end of its
+/// bucket.
 fn seen(shared: &Shared<u32>) -> [Option<u32>; 3] {
     [look(shared, 0), look(shared, 1), look(shared, 1234)]
 }

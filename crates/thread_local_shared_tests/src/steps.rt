@@ -31,7 +31,8 @@ impl<T> Drop for Kept<'_, T> {
     }
 }
 
-/// Publishes a value at an id, whose bucket is made where it is missing, and answers whether it did.
+/// Publishes a value at an id, whose bucket is made where it is missing, and answers whether it
+/// did.
 pub fn publish<T: Drop>(shared: &Shared<T>, held: HeldId, alloc: Global, value: T) -> (HeldId, bool)
     requires { held.right.table ≡ shared.now.table }
     ensures { (result.0.right.table ≡ shared.now.table) × (result.0.id ≡ held.id) }

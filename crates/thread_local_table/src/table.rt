@@ -142,9 +142,8 @@ impl<T> ThreadLocal<T> {
         self.buckets.owner().iter_mut()
     }
 
-    /// The buckets by value. Of what is in them the number of reserved slots is known, and the calls of
-    /// `Buckets` say what they find. The ids are dropped. Rust's crate
-    /// has no such call.
+    /// The buckets by value. Of what is in them the number of reserved slots is known, and the
+    /// calls of `Buckets` say what they find. The ids are dropped. Rust's crate has no such call.
     pub fn into_buckets(self) -> Buckets<T>
         ensures { result.reserved ≡ self.reserved }
     {

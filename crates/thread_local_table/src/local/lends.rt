@@ -21,8 +21,8 @@ impl<'a, T, R: Wait> Local<'a, T, R> {
     /// out of memory.
     pub fn get_or<F: FnOnce() -> T + Drop>(&mut self, create: F) -> Result<&T, AllocError>
         requires { self.old.value ≡ None → F.pre create }
-        // Once the borrow of the answer ends, the view has the value that was answered. Where memory
-        // was refused, it is the old view.
+        // Once the borrow of the answer ends, the view has the value that was answered. Where
+        // memory was refused, it is the old view.
         ensures* leaves { sem 𝓛
             (follows_so (the_row (record { mir = named 1; lft = [] }) T.row R.row)
             (the_row (record { mir = named 1; lft = [] }) T.row R.row) self.entry.ghost_name
@@ -44,8 +44,8 @@ impl<'a, T, R: Wait> Local<'a, T, R> {
     pub fn get_or_default(&mut self) -> Result<&T, AllocError>
     where
         T: Default,
-        // Once the borrow of the answer ends, the view has the value that was answered. Where memory
-        // was refused, it is the old view.
+        // Once the borrow of the answer ends, the view has the value that was answered. Where
+        // memory was refused, it is the old view.
         ensures* leaves { sem 𝓛
             (follows_so (the_row (record { mir = named 1; lft = [] }) T.row R.row)
             (the_row (record { mir = named 1; lft = [] }) T.row R.row) self.entry.ghost_name

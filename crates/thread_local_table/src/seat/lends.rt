@@ -19,8 +19,8 @@ impl<'a, T> Seat<'a, T> {
     /// out of memory.
     pub fn get_or<F: FnOnce() -> T + Drop>(&mut self, create: F) -> Result<&T, AllocError>
         requires { self.old.value ≡ None → F.pre create }
-        // Once the borrow of the answer ends, the view has the value that was answered. Where memory
-        // was refused, it is the old view.
+        // Once the borrow of the answer ends, the view has the value that was answered. Where
+        // memory was refused, it is the old view.
         ensures* leaves { sem 𝓛
             (follows_so (the_row (record { mir = named 1; lft = [] }) T.row)
             (the_row (record { mir = named 1; lft = [] }) T.row) self.entry.ghost_name none
@@ -42,8 +42,8 @@ impl<'a, T> Seat<'a, T> {
     pub fn get_or_default(&mut self) -> Result<&T, AllocError>
     where
         T: Default,
-        // Once the borrow of the answer ends, the view has the value that was answered. Where memory
-        // was refused, it is the old view.
+        // Once the borrow of the answer ends, the view has the value that was answered. Where
+        // memory was refused, it is the old view.
         ensures* leaves { sem 𝓛
             (follows_so (the_row (record { mir = named 1; lft = [] }) T.row)
             (the_row (record { mir = named 1; lft = [] }) T.row) self.entry.ghost_name none

@@ -11,8 +11,9 @@ use super::ThreadLocal;
 use thread_local_buckets::Buckets;
 
 impl<T> ThreadLocal<T> {
-    /// The buckets, for the exclusive owner. Of what is in them the number of reserved slots is known,
-    /// and the calls of `Buckets` say what they find and what they change. Rust's crate has no such call.
+    /// The buckets, for the exclusive owner. Of what is in them the number of reserved slots is
+    /// known, and the calls of `Buckets` say what they find and what they change. Rust's crate has
+    /// no such call.
     pub fn buckets_mut(&mut self) -> &mut Buckets<T>
         ensures* writes_back { sem 𝓛
             (follows (the_row T.row) (owner_row T.row) self.entry.ghost_name result.ghost_name
