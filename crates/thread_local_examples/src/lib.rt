@@ -4,4 +4,5 @@
 pub mod bounded;
 pub mod cache;
 pub mod formatting;
+pub mod meters;
 pub mod registry;

@@ -1,0 +1,56 @@
+//! Meters: a table of a struct of one's own with cells in it. Which of its fields names a thread is
+//! shown in `proofs/meters/MeterJudge/judge/Answers.antt`.
+use std::cell::Cell;
+use std::sync::Wait;
+use thread_local::ThreadLocal;
+use thread_local::table::Judge;
+
+/// What has been handled: how many requests, of how many bytes in all.
+#[derive(Drop)]
+pub struct Meter {
+    requests: Cell<u64>,
+    bytes: Cell<u64>,
+}
+
+impl Judge for Meter {
+    fn judge() {}
+}
+
+/// Counts a request for each of `sizes`. False means that the `Local` or its slot was refused.
+pub fn handle<R: Wait>(meters: &ThreadLocal<Meter>, rt: &R, sizes: &[u64]) -> bool {
+    let Ok(mut local) = meters.local(rt) else {
+        return false;
+    };
+    let fresh = || Meter { requests: Cell::new(0), bytes: Cell::new(0) };
+    let Ok(meter) = local.get_or(fresh) else {
+        return false;
+    };
+    for size in sizes {
+        meter.requests.set(meter.requests.get().saturating_add(1));
+        meter.bytes.set(meter.bytes.get().saturating_add(*size));
+    }
+    true
+}
+
+#[cfg(test)]
+mod tests {
+    use super::*;
+    use std::test::Fail;
+    use std::thread;
+
+    #[test]
+    fn workers_meter_what_they_handle(rt: HostRuntime) -> Result<(), Fail> {
+        Meter::judge();
+        let meters = ThreadLocal::<Meter>::new(rt.alloc());
+        let handled =
+            thread::join(&rt, || handle(&meters, &rt, &[5, 7]), || handle(&meters, &rt, &[30]));
+        let mut requests = 0u64;
+        let mut bytes = 0u64;
+        for meter in meters {
+            requests = requests.saturating_add(meter.requests.get());
+            bytes = bytes.saturating_add(meter.bytes.get());
+        }
+        assert_eq!(rt; (handled, requests, bytes), ((true, true), 3, 42));
+        Ok(())
+    }
+}
