@@ -5,3 +5,4 @@ pub mod Clauses
 pub mod Enabled
 pub mod WalkEvents
 pub mod Open
+pub mod EventRules

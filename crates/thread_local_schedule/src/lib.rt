@@ -6,7 +6,9 @@
 #![tactic(auto)]
 
 pub mod ends;
+pub mod event;
 pub mod schedule;
 
 pub use ends::every_end;
+pub use event::every_event;
 pub use schedule::{every_bucket, every_schedule, every_walk};

@@ -3,3 +3,4 @@ pub mod TableLaws
 pub mod LocalLaws
 pub mod CallsLaws
 pub mod NumbersLaws
+pub mod EnabledSteps
