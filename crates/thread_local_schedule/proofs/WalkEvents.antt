@@ -15,14 +15,14 @@ use Rattle.thread_local_core.proofs.PutLaws.{put_cases, put_same, put_other, sti
 use Rattle.thread_local_core.proofs.OptionLaws.{if_enabled, if_there, if_then}
 use Rattle.thread_local_model.specs.Held.{is_granted}
 use Rattle.thread_local_schedule.specs.Events.{Event, TakeId, OfLocal, GiveBack, Forget, BeginWalk, OfWalk, EndWalk, Owner, OwnerCall, IterMut, Slots, ClearTable, IntoIter, DropTable, take_id, with_step, of_local, is_idle, without_local, with_id_given, give_back, forget, with_walk, begin_walk, of_walk, without_walk, after_owner, step_of, step, is_enabled, happens}
-use Rattle.thread_local_schedule.specs.Schedule.{is_of_walk}
+use Rattle.thread_local_schedule.specs.Schedule.{begins_walk, is_of_walk}
 use Rattle.thread_local_schedule.proofs.Clauses.{goes, enabled_step}
 use Rattle.thread_local_schedule.proofs.Enabled.{may}
 
 -- what an enabled event says of the walks
 pub record WalksSay {V E : Type 0} (core : Core V E) (event : Event V E) (after : Core V E) : Type 0 where
   pub others : (n : ℕ) (walk : SharedWalk V) → is_of_walk n event ≡ false → core.walks n ≡ Some walk → after.walks n ≡ Some walk
-  pub comes : (n : ℕ) (walk : SharedWalk V) → core.walks n ≡ None → after.walks n ≡ Some walk → walk ≡ fresh_walk
+  pub comes : (n : ℕ) (walk : SharedWalk V) → core.walks n ≡ None → after.walks n ≡ Some walk → (walk ≡ fresh_walk) × IsTrue (begins_walk event) × (n ≡ core.walked)
 
 -- an event that leaves all walks
 leaves : {V E : Type 0} (core : Core V E) (event : Event V E) (after : Core V E) → ((n : ℕ) → after.walks n ≡ core.walks n) → WalksSay core event after
@@ -51,7 +51,7 @@ begin_walk-says core h = record {
       put_other core.walks core.walked _ n (λ same. none-some walk (sym (h.walks.none_from core.walked (omega arith)) ∙ ap core.walks same ∙ at)) ∙ at;
   comes = λ n walk none at.
       ⊎_elim
-      (λ here. let same : fresh_walk ≡ walk = (let some = here.1 in cc) in sym same)
+      (λ here. let same : fresh_walk ≡ walk = (let some = here.1 in cc) in (sym same, refl, sym here.0))
       (λ apart. absurd (none-some walk (sym none ∙ apart.1)))
       (put_cases core.walks core.walked (Some fresh_walk) n walk at);
 }

@@ -6,7 +6,7 @@ use Rattle.thread_local_model.specs.Sheet.{Move, Take, Give, Publish, Rewrite, C
 use Rattle.thread_local_steps.specs.Local.{Local, LocalStep, MakeBucket}
 use Rattle.thread_local_steps.specs.Fits.{value_set}
 use Rattle.thread_local_core.specs.Core.{Core, made_core}
-use Rattle.thread_local_schedule.specs.Events.{Event, TakeId, OfLocal, GiveBack, Forget, OfWalk, EndWalk, Owner, IterMut, ClearTable, IntoIter, DropTable, is_enabled, happens, run}
+use Rattle.thread_local_schedule.specs.Events.{Event, TakeId, OfLocal, GiveBack, Forget, BeginWalk, OfWalk, EndWalk, Owner, IterMut, ClearTable, IntoIter, DropTable, is_enabled, happens, run}
 
 -- the move of a Local's step: the value that it publishes, if any
 abbrev pub publishing : {V E : Type 0} → Option (Local V E) → LocalStep V E → Option (Move V)
@@ -31,6 +31,11 @@ move core event = if is_enabled core event then move_of core event else None
 abbrev pub is_take : {V E : Type 0} → Event V E → Bool
 is_take (TakeId refused growth) = true
 is_take event = false
+
+-- whether an event is the beginning of a walk
+abbrev pub begins_walk : {V E : Type 0} → Event V E → Bool
+begins_walk BeginWalk = true
+begins_walk event = false
 
 -- whether an event is an owner's call
 abbrev pub is_exclusive : {V E : Type 0} → Event V E → Bool

@@ -18,7 +18,7 @@ ghost use Rattle.thread_local_steps.specs.Numbers.{own_number};
 ghost use Rattle.thread_local_core.specs.WalkFits.{Adds};
 ghost use Rattle.thread_local_core.specs.Core.{Core, shadow, peak};
 ghost use Rattle.thread_local_schedule.specs.Events.{Event, TakeId, OfLocal, GiveBack, Forget, BeginWalk, OfWalk, EndWalk, OwnerCall, Owner, ClearTable, is_enabled, happens, run};
-ghost use Rattle.thread_local_schedule.specs.Schedule.{move, is_exclusive, is_of, is_of_walk, IsAlone, is_refused, is_granted_take, newcomer, IsReached, NoneTaken};
+ghost use Rattle.thread_local_schedule.specs.Schedule.{move, begins_walk, is_exclusive, is_of, is_of_walk, IsAlone, is_refused, is_granted_take, newcomer, IsReached, NoneTaken};
 
 /// What holds of a table over every schedule of atomic steps, from a table of `new` and from one of
 /// each capacity below 2^63: each `Local` gets the least id not held; a slot's first published
@@ -192,8 +192,8 @@ pub fn every_bucket<V, E>()
 /// ascending id; it reads each slot at most once; and it loads pointers at most 63 times, and once
 /// more for each value given.
 pub fn every_walk<V, E>()
-    // A walk begins fresh. Only its own steps and its end change it, and it can go on until it is
-    // complete.
+    // A walk comes only where one begins, which begins fresh. Only its own steps and its end change
+    // it, and it can go on until it is complete.
     ensures begins { (core : Core V E)
         → IsTrue (is_enabled core BeginWalk)
         → (happens core BeginWalk).walks core.walked ≡ Some fresh_walk }
@@ -201,7 +201,7 @@ pub fn every_walk<V, E>()
         → IsReached core
         → core.walks n ≡ None
         → (happens core event).walks n ≡ Some shared
-        → shared ≡ fresh_walk }
+        → (shared ≡ fresh_walk) × IsTrue (begins_walk event) × (n ≡ core.walked) }
     ensures others { (core : Core V E) (event : Event V E) (n : ℕ) (shared : SharedWalk V)
         → IsReached core
         → is_of_walk n event ≡ false
