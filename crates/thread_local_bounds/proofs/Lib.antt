@@ -1,5 +1,7 @@
 pub mod PeakLaws
-pub mod Headline
+pub mod TakingBelow
 pub mod FourLocals
 pub mod FourValues
 pub mod Publishings
+pub mod Sayings
+pub mod MainTheorem

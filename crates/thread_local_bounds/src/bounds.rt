@@ -1,18 +1,23 @@
 //! What the most ids held at once bounds, over every schedule: ids, room, installed slots,
 //! publishings and refusals.
-ghost use Rattle.std.specs.Prelude.{◌≡◌, ◌≢◌, ℕ, ◌-◌, ◌*◌, ◌^◌, ◌<◌, ◌≤◌, max, Bool, false, List, length, Contains, Some, IsTrue};
+ghost use Rattle.std.specs.Prelude.{◌≡◌, ◌≢◌, ℕ, ◌-◌, ◌*◌, ◌^◌, ◌<◌, ◌≤◌, max, Bool, false, List, [], ◌∷◌, ◌++◌, length, Contains, Some, IsTrue};
+ghost use Rattle.thread_local_model.specs.Place.{bucket_of};
+ghost use Rattle.thread_local_model.specs.Buckets.{slots};
 ghost use Rattle.thread_local_model.specs.Held.{held_count};
 ghost use Rattle.thread_local_model.specs.Walk.{walk};
 ghost use Rattle.thread_local_model.specs.Capacity.{reserved_slots, is_reserved};
 ghost use Rattle.thread_local_model.specs.Answers.{Answer, Refused};
-ghost use Rattle.thread_local_steps.specs.Local.{Local, MakeBucket};
+ghost use Rattle.thread_local_steps.specs.Table.{bucket_stands};
+ghost use Rattle.thread_local_steps.specs.Local.{Local, Doing, MakeBucket};
+ghost use Rattle.thread_local_steps.specs.Numbers.{own_number};
 ghost use Rattle.thread_local_core.specs.Core.{Core, made_core, new_core, shadow, installed_slots, peak, private_slots};
 ghost use Rattle.thread_local_schedule.specs.Events.{Event, TakeId, OfLocal, Owner, ClearTable, is_enabled, happens, run};
-ghost use Rattle.thread_local_schedule.specs.Schedule.{is_refused, IsReached};
+ghost use Rattle.thread_local_schedule.specs.Schedule.{is_take, is_refused, IsReached};
 ghost use Rattle.thread_local_bounds.specs.Bounds.{most_held, publishings, TakesBelow, NothingRefused};
 
-/// What bounds a table over every schedule: with at most p ids held at once a table from `new` has
-/// installed at most 2p - 1 slots, and one of a capacity of p or more refuses nothing.
+/// What bounds a table over every schedule: the most ids held at once bounds the ids that come and,
+/// with the capacity, what is installed, made and published; and while fewer ids than the capacity
+/// are held no take is refused.
 ///
 /// A clause about a reached core holds after every event of every schedule.
 pub fn every_bound<V, E>()
@@ -74,13 +79,20 @@ pub fn every_bound<V, E>()
         → IsTrue (is_reserved (shadow core).capacity local.id)
         → Contains local.answered told
         → told ≢ Refused }
+{}
 
-    // If each take comes while fewer than p ids are held, a table from `new` has installed at most
-    // 2p - 1 slots, and one of a capacity of p or more refuses nothing, however often either is
-    // cleared.
-    ensures bounded { (p : ℕ) (events : List (Event V E)) → TakesBelow p new_core events
-        → installed_slots (run new_core events) ≤ 2 * p - 1 }
-    ensures refuses_nothing { (capacity extra p : ℕ) (events : List (Event V E)) → capacity < 2 ^ 63
-        → p ≤ capacity → TakesBelow p (made_core capacity extra) events
-        → NothingRefused (made_core capacity extra) events }
+/// What the words of the bounds say: the installed slots are those of the buckets that stand, a
+/// bucket not offered yet has its call's own slots, and a schedule that refuses nothing, or takes
+/// below a number, does so at each of its events.
+pub fn bounds_say<V, E>()
+    ensures installed { (core : Core V E) → installed_slots core ≡ slots (bucket_stands core.table) }
+    ensures private { (id : ℕ) (doing : Doing V E) (number : ℕ)
+        → own_number doing ≡ Some number → private_slots id doing ≡ 2 ^ bucket_of id }
+    ensures nothing { (core : Core V E) (events later : List (Event V E)) (event : Event V E)
+        → NothingRefused core (events ++ event ∷ later)
+        → is_refused (run core events) event ≡ false }
+    ensures takes { (p : ℕ) (core : Core V E) (events : List (Event V E)) (event : Event V E)
+        → TakesBelow p core events
+        → (IsTrue (is_take event) → held_count (run core events).manager.held < p)
+        → TakesBelow p core (events ++ event ∷ []) }
 {}

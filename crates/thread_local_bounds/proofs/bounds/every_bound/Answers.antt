@@ -2,7 +2,6 @@ use Rattle.std.proofs.Common.{refl, arith}
 use Rattle.thread_local_core.proofs.CoreLaws as known
 use Rattle.thread_local_schedule.proofs.Clauses as clause
 use Rattle.thread_local_bounds.proofs.PeakLaws as bound
-use Rattle.thread_local_bounds.proofs.Headline as headline
 use Rattle.thread_local_bounds.proofs.Publishings as publishing
 use Rattle.thread_local_core.specs.Core.{made_core}
 use Rattle.thread_local_core.proofs.Parts.{made_core-fits}
@@ -56,9 +55,3 @@ returns-clause-reserved g c = λ core n local refused r. bound.reserved core n l
 
 pub returns-clause-reserved_answers : goal.returns-clause-reserved_answers
 returns-clause-reserved_answers g c = λ core n local told r. bound.reserved_answers core n local told (clause.fits core r)
-
-pub returns-clause-bounded : goal.returns-clause-bounded
-returns-clause-bounded g c = headline.bounded
-
-pub returns-clause-refuses_nothing : goal.returns-clause-refuses_nothing
-returns-clause-refuses_nothing g c = headline.refuses_nothing
