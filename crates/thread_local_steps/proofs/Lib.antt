@@ -4,3 +4,5 @@ pub mod LocalLaws
 pub mod CallsLaws
 pub mod NumbersLaws
 pub mod EnabledSteps
+pub mod Installing
+pub mod GoingOn

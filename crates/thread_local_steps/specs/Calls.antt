@@ -1,7 +1,8 @@
 -- What a step does to the calls of its `Local`: one begins, none begins or ends, or one ends and is
--- recorded.
-use Rattle.std.specs.Prelude.{◌≡◌, ℕ, suc, ◌⊎◌, Bool, true, false, [], ◌∷◌, ◌++◌, Option, Some, None, IsSomeAnd, Result, Ok}
-use Rattle.thread_local_model.specs.Answers.{Get, GetOr, Refused}
+-- recorded. And how many steps a call under way still needs.
+use Rattle.std.specs.Prelude.{◌≡◌, ℕ, zero, suc, ◌+◌, ◌<◌, ◌⊎◌, ⊤, Bool, true, false, [], ◌∷◌, ◌++◌, Option, Some, None, IsSomeAnd, Result, Ok}
+use Rattle.thread_local_model.specs.Learnt.{Learnt, Unknown, Missing, Standing, Vacant, Holding}
+use Rattle.thread_local_model.specs.Answers.{Answer, Get, GetOr, Refused}
 use Rattle.thread_local_steps.specs.Local.{Doing, Gets, Started, Private, Written, Local, LocalStep, BeginGet, BeginGetOr, MakeBucket, WriteValue, SetFlag, Reply}
 
 -- how many gets are under way
@@ -72,3 +73,42 @@ pub record GoesOn {V E : Type 0} (step : LocalStep V E) (before after : Local V 
   pub id : after.id ≡ before.id
   pub start : after.start ≡ before.start
   pub calls : CallsGo step before after
+
+-- a Local whose call has a bucket of its own found its bucket missing, and one whose call has
+-- written its value found its slot vacant
+abbrev pub HasLearnt : {V E : Type 0} → Doing V E → Learnt V → Type 0
+HasLearnt (Private create number) learnt = learnt ≡ Missing
+HasLearnt (Written v) learnt = learnt ≡ Vacant
+HasLearnt doing learnt = ⊤
+
+-- how many steps a call still makes until it has learnt what its slot shows
+abbrev pub looks_left : {V : Type 0} → Learnt V → ℕ
+looks_left Unknown = 2
+looks_left Standing = 1
+looks_left learnt = 0
+
+-- how many steps a publishing call still makes that has no bucket of its own and has written nothing
+abbrev pub started_left : {V : Type 0} → Learnt V → ℕ
+started_left Unknown = 5
+started_left Missing = 4
+started_left Standing = 3
+started_left Vacant = 2
+started_left (Holding v) = 1
+
+-- how many steps the calls under way still make until all have ended, if each makes no step twice:
+-- fewer where one is refused memory, or its closure answers with an error
+abbrev pub steps_left : {V E : Type 0} → Doing V E → Learnt V → ℕ
+steps_left (Gets zero) learnt = 0
+steps_left (Gets (suc count)) learnt = suc count + looks_left learnt
+steps_left (Started create) learnt = started_left learnt
+steps_left (Private create number) learnt = 3
+steps_left (Written v) learnt = 1
+
+-- after a step of a Local's call fewer steps are left
+abbrev pub GoesDown : {V E : Type 0} → Local V E → Local V E → Type 0
+GoesDown before after = steps_left after.doing after.learnt < steps_left before.doing before.learnt
+
+-- a call ends with this answer, and none is under way any longer
+pub record EndsWith {V E : Type 0} (told : Answer V E) (before after : Local V E) : Type 0 where
+  pub none : HasNoCall after
+  pub answered : after.answered ≡ before.answered ++ told ∷ []
