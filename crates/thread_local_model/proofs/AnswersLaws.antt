@@ -27,8 +27,9 @@ pub failed : {V E : Type 0} (view : View V) (e : E) → view.value ≡ None → 
 failed view e h = record { answered = rw h refl; leaves = rw h refl }
 
 -- where the bucket is known to stand, no memory is asked for
-pub known : {V E : Type 0} (view : View V) (create : Result V E) → view.known ≡ true → answer view (GetOr create true) ≡ answer view (GetOr create false)
-known view create k = rw k refl
+pub known : {V E : Type 0} (view : View V) (create : Result V E) → view.known ≡ true
+    → (answer view (GetOr create true) ≡ answer view (GetOr create false)) × (view_after view (GetOr create true) ≡ view_after view (GetOr create false))
+known view create k = (rw k refl, rw k refl)
 
 -- a further call is answered at the view after the calls before it
 pub answers-push : {V E : Type 0} (view : View V) (calls : List (Call V E)) (call : Call V E)

@@ -5,3 +5,4 @@ pub mod CapacityLaws
 pub mod SlotsLaws
 pub mod AnswersLaws
 pub mod CursorLaws
+pub mod LearntLaws

@@ -1,10 +1,10 @@
 //! What each call of a `Local` returns, by what it knows of its slot: the value, and whether the
 //! bucket is known to stand.
-ghost use Rattle.std.specs.Prelude.{◌≡◌, ◌↔◌, ◌⊎◌, ℕ, true, false, Some, None, Result, Ok, Err, IsTrue, IsSome, if◌then◌else◌};
+ghost use Rattle.std.specs.Prelude.{◌≡◌, ◌↔◌, ◌⊎◌, ℕ, Bool, true, false, Option, Some, None, Result, Ok, Err, IsTrue, IsSome, MatchOption, if◌then◌else◌};
 ghost use Rattle.thread_local_model.specs.Capacity.{is_reserved};
 ghost use Rattle.thread_local_model.specs.Sheet.{Sheet};
-ghost use Rattle.thread_local_model.specs.Learnt.{Learnt, Finds, learnt_by_install, learnt_by_publish};
-ghost use Rattle.thread_local_model.specs.Answers.{View, first_view, view_of, Get, GetOr, Found, Answered, Refused, Failed, answer, Says};
+ghost use Rattle.thread_local_model.specs.Learnt.{Learnt, Missing, Standing, Vacant, Holding, Finds, learnt_by_load, learnt_by_look, learnt_by_install, learnt_by_publish};
+ghost use Rattle.thread_local_model.specs.Answers.{View, first_view, view_of, Get, GetOr, Found, Answered, Refused, Failed, answer, view_after, Says};
 
 /// A call's answer and the view after it depend only on the call and the view before it.
 pub fn calls_answer_by_their_view<V, E>()
@@ -22,8 +22,10 @@ pub fn calls_answer_by_their_view<V, E>()
         (record { value = Some v; known = true }) }
     ensures failed { (view : View V) (e : E) → view.value ≡ None
         → Says view (GetOr (Err e) false) (Failed e) (record { value = None; known = true }) }
-    ensures known { (view : View V) (create : Result V E) → view.known ≡ true
-        → answer view (GetOr create true) ≡ answer view (GetOr create false) }
+    ensures known { (view : View V) (create : Result V E)
+        → view.known ≡ true
+        → (answer view (GetOr create true) ≡ answer view (GetOr create false))
+        × (view_after view (GetOr create true) ≡ view_after view (GetOr create false)) }
 {}
 
 /// What a `Local` knows when it takes an id: the value that the sheet shows at the id, and whether
@@ -33,6 +35,21 @@ pub fn a_first_view_shows_its_sheet<V>()
     ensures known { (sheet : Sheet V) (id : ℕ)
         → IsTrue (first_view sheet id).known ↔
         (IsTrue (is_reserved sheet.capacity id) ⊎ IsSome (sheet.values id)) }
+{}
+
+/// A load teaches whether the bucket stands, wherever that isn't known, so also where the bucket was
+/// missing before. A look at a slot whose bucket stands teaches what the slot shows.
+pub fn loads_and_looks_teach_what_they_see<V>()
+    ensures load { (before after : Learnt V) (stands : Bool)
+        → learnt_by_load before stands ≡ Some after
+        → after ≡ (if stands then Standing else Missing) }
+    ensures may_load { (before : Learnt V) (stands : Bool)
+        → IsSome (learnt_by_load before stands) ↔ ((view_of before).known ≡ false) }
+    ensures look { (before after : Learnt V) (shown : Option V)
+        → learnt_by_look before shown ≡ Some after
+        → MatchOption shown (after ≡ Vacant) (λ v. after ≡ Holding v) }
+    ensures may_look { (before : Learnt V) (shown : Option V)
+        → IsSome (learnt_by_look before shown) ↔ (before ≡ Standing) }
 {}
 
 /// The steps of a call lead from the view of what was learnt before it to the view after it.
