@@ -24,6 +24,7 @@ use Rattle.thread_local_core.specs.Core.{Core, made_core, shadow, put, none_belo
 use Rattle.thread_local_core.proofs.HeldCounts.{held_below}
 use Rattle.thread_local_core.proofs.PutLaws.{put_cases, put_same, put_other, still}
 use Rattle.thread_local_core.proofs.Numbers.{stepped-NumbersFit, made-NumbersFit, rewritten-NumbersFit, cleared-NumbersFit}
+use Rattle.thread_local_steps.specs.Calls.{HasLearnt}
 use Rattle.thread_local_steps.specs.Numbers.{NumbersGo}
 use Rattle.thread_local_core.specs.CoreFits.{ManagerFits, TableFits, LiveFits, LocalsFit, WalksFit, CoreFits}
 use Rattle.thread_local_model.proofs.PlaceLaws as place
@@ -117,6 +118,7 @@ fresh-LiveFits core held id h t = record {
       doing_so = tt;
     };
   };
+  learnt = tt;
   id_held = t;
   known = λ reserved. or_left (is_reserved core.capacity id) (is_some (published core.table id)) reserved;
 }
@@ -164,8 +166,8 @@ step-TableFits core local set after t s h = record {
 }
 
 pub stepped-fits : {V E : Type 0} (core : Core V E) (number : ℕ) (local : Local V E) (set : Option V) (after : Table V × Local V E) → core.locals number ≡ Some local
-    → StepFits core.table local set after → NumbersGo core.table local after → CoreFits core → CoreFits (record core { table = after.0; locals = put core.locals number (Some after.1) })
-stepped-fits core number local set after at s go h =
+    → StepFits core.table local set after → NumbersGo core.table local after → HasLearnt after.1.doing after.1.learnt → CoreFits core → CoreFits (record core { table = after.0; locals = put core.locals number (Some after.1) })
+stepped-fits core number local set after at s go learnt h =
     let live = h.locals.each number local at in
     let held = core.manager.held in
     record {
@@ -175,13 +177,14 @@ stepped-fits core number local set after at s go h =
           (⊎_elim (λ l. l) (λ above. let none = h.locals.none_from number above in absurd cc) (cases_lt number core.taken))
           (record {
             local_fits = s.fits;
+            learnt = learnt;
             id_held = subst (λ id. IsTrue (is_held held id)) (sym s.same.id) live.id_held;
             known = λ reserved. ap (λ view. view.known) s.same.start ∙ live.known (subst (λ id. IsTrue (is_reserved core.capacity id)) s.same.id reserved);
           })
           (λ n other apart e.
           let there = h.locals.each n other e in
           let differ : local.id ≡ other.id → ⊥ = λ same. apart (h.locals.unshared number n local other at e same) in (
-            record { local_fits = other_fits core.table after.0 local.id other s.changes differ there.local_fits; id_held = there.id_held; known = there.known },
+            record { local_fits = other_fits core.table after.0 local.id other s.changes differ there.local_fits; learnt = there.learnt; id_held = there.id_held; known = there.known },
             (λ same. differ (sym s.same.id ∙ same)),
           ))
           h.locals.unshared

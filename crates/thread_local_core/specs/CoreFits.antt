@@ -7,6 +7,7 @@ use Rattle.thread_local_steps.specs.Table.{Table, published, bucket_stands}
 use Rattle.thread_local_steps.specs.Local.{Local}
 use Rattle.thread_local_core.specs.SharedWalk.{SharedWalk}
 use Rattle.thread_local_steps.specs.Fits.{AllWritten, LocalFits, named}
+use Rattle.thread_local_steps.specs.Calls.{HasLearnt}
 use Rattle.thread_local_steps.specs.Numbers.{own_number}
 use Rattle.thread_local_core.specs.WalkFits.{WalkFits}
 use Rattle.thread_local_core.specs.Core.{Core}
@@ -27,10 +28,11 @@ pub record TableFits {V : Type 0} (table : Table V) (capacity peak : ℕ) : Type
   pub reserved : (bucket : ℕ) → IsTrue (reserves_bucket capacity bucket) → IsTrue (bucket_stands table bucket)
   pub below : (id : ℕ) (v : V) → published table id ≡ Some v → id < peak
 
--- a Local fits its table, its id is held, and if that is reserved its bucket is known to stand from
--- the start
+-- a Local fits its table, what it does fits what it has learnt, its id is held, and if that is
+-- reserved its bucket is known to stand from the start
 pub record LiveFits {V E : Type 0} (table : Table V) (held : List Bool) (capacity : ℕ) (local : Local V E) : Type 0 where
   pub local_fits : LocalFits table local
+  pub learnt : HasLearnt local.doing local.learnt
   pub id_held : IsTrue (is_held held local.id)
   pub known : IsTrue (is_reserved capacity local.id) → IsTrue local.start.known
 

@@ -7,9 +7,11 @@ use Rattle.thread_local_model.specs.Answers.{first_view}
 use Rattle.thread_local_steps.specs.Local.{Local, LocalStep, fresh_local, local_step}
 use Rattle.thread_local_core.specs.SharedWalk.{SharedWalk, fresh_walk, WalkStep, walk_step}
 use Rattle.thread_local_steps.specs.Fits.{StepFits, value_set}
+use Rattle.thread_local_steps.specs.Calls.{HasLearnt}
 use Rattle.thread_local_steps.specs.Numbers.{NumbersGo}
 use Rattle.thread_local_steps.proofs.LocalLaws.{local_step-fits}
 use Rattle.thread_local_steps.proofs.NumbersLaws.{local_step-numbers}
+use Rattle.thread_local_steps.proofs.EnabledSteps.{learnt}
 use Rattle.thread_local_core.proofs.Numbers.{taken-NumbersFit, removed-NumbersFit}
 use Rattle.thread_local_core.proofs.WalkStepLaws.{walk_step-fits, fresh_walk-fits}
 use Rattle.thread_local_core.specs.Core.{Core, shadow, is_alone}
@@ -33,7 +35,7 @@ take_id-fits core growth some h =
           (fresh-LiveFits core (with_least held) (least held) h.table (least_held held))
           (λ n other apart e.
           let live = h.locals.each n other e in (
-            record { local_fits = live.local_fits; id_held = held_stays held other.id live.id_held; known = live.known },
+            record { local_fits = live.local_fits; learnt = live.learnt; id_held = held_stays held other.id live.id_held; known = live.known },
             (λ same. false≢true (sym (ids.least_free held) ∙ ap (is_held held) same ∙ live.id_held)),
           ))
           h.locals.unshared
@@ -47,8 +49,10 @@ of_local-fits : {V E : Type 0} (core : Core V E) (number : ℕ) (step : LocalSte
 of_local-fits core number step h =
     if_then CoreFits _ (core.locals number) (λ local at.
     if_mapped CoreFits (with_step core number) (local_step core.table local step)
+    (if_both (λ after. StepFits core.table local (value_set local.doing step) after × NumbersGo core.table local after) (λ after. HasLearnt after.1.doing after.1.learnt) (local_step core.table local step)
     (if_both (StepFits core.table local (value_set local.doing step)) (NumbersGo core.table local) (local_step core.table local step) (local_step-fits core.table local step h.table.written (h.locals.each number local at).local_fits) (local_step-numbers core.table local step))
-    (λ after s. stepped-fits core number local (value_set local.doing step) after at s.0 s.1 h))
+    (learnt core.table local step (h.locals.each number local at).learnt))
+    (λ after s. stepped-fits core number local (value_set local.doing step) after at s.0.0 s.0.1 s.1 h))
 
 -- a Local that gives its id back, or is forgotten
 given_back-fits : {V E : Type 0} (core : Core V E) (number : ℕ) (local : Local V E) → core.locals number ≡ Some local → CoreFits core
@@ -65,6 +69,7 @@ given_back-fits core number local at h =
           let differ : local.id ≡ other.id → ⊥ = λ same. apart (h.locals.unshared number n local other at e same) in
           record {
             local_fits = live.local_fits;
+            learnt = live.learnt;
             id_held = ids.is_held-without held local.id other.id ∙ ap (λ b. cond b false (is_held held other.id)) (ne_eqb local.id other.id differ) ∙ live.id_held;
             known = live.known;
           })
