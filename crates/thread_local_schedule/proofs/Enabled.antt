@@ -94,14 +94,19 @@ refusal core refused growth t =
     let parts = and_parts (is_enabled core (TakeId refused growth)) _ t in
     goes core (TakeId refused growth) parts.0 ∙ ap (λ b. cond b (take_id core growth) core) (not-true (is_granted core.manager refused) parts.1)
 
--- a step of a Local changes its calls as the step says
-stepped : {V E : Type 0} (core : Core V E) (n : ℕ) (step : LocalStep V E) (local : Local V E) (o : Option (Table V × Local V E)) → IfSome o (λ after. GoesOn step local after.1)
-    → IsTrue (is_some (option_map (with_step core n) o)) → IsSomeAnd ((unwrap_or (option_map (with_step core n) o) core).locals n) (GoesOn step local)
-stepped core n step local None g t = absurd (false≢true t)
-stepped core n step local (Some after) g t = rw (put_same core.locals n (Some after.1)) g
+-- what holds of the Local after its step holds of the Local at its number
+stepped : {V E : Type 0} (core : Core V E) (n : ℕ) (P : Local V E → Type 0) (o : Option (Table V × Local V E)) → IfSome o (λ after. P after.1)
+    → IsTrue (is_some (option_map (with_step core n) o)) → IsSomeAnd ((unwrap_or (option_map (with_step core n) o) core).locals n) P
+stepped core n P None p t = absurd (false≢true t)
+stepped core n P (Some after) p t = rw (put_same core.locals n (Some after.1)) p
 
+pub step_leaves : {V E : Type 0} (core : Core V E) (n : ℕ) (step : LocalStep V E) (local : Local V E) (P : Local V E → Type 0) → IsTrue (is_enabled core (OfLocal n step)) → core.locals n ≡ Some local
+    → IfSome (local_step core.table local step) (λ after. P after.1) → IsSomeAnd ((happens core (OfLocal n step)).locals n) P
+step_leaves core n step local P t at p =
+    rw (goes core (OfLocal n step) t)
+    (rw at (stepped core n P (local_step core.table local step) p (subst (λ o. IsTrue (is_some (option_and_then (λ l. option_map (with_step core n) (local_step core.table l step)) o))) at (enabled_step core (OfLocal n step) t))))
+
+-- a step of a Local changes its calls as the step says
 pub goes_on : {V E : Type 0} (core : Core V E) (n : ℕ) (step : LocalStep V E) (local : Local V E) → IsTrue (is_enabled core (OfLocal n step)) → core.locals n ≡ Some local
     → IsSomeAnd ((happens core (OfLocal n step)).locals n) (GoesOn step local)
-goes_on core n step local t at =
-    rw (goes core (OfLocal n step) t)
-    (rw at (stepped core n step local (local_step core.table local step) (local_step-goes core.table local step) (subst (λ o. IsTrue (is_some (option_and_then (λ l. option_map (with_step core n) (local_step core.table l step)) o))) at (enabled_step core (OfLocal n step) t))))
+goes_on core n step local t at = step_leaves core n step local (GoesOn step local) t at (local_step-goes core.table local step)

@@ -1,21 +1,24 @@
 -- What every event needs and does, from its rule.
-use Rattle.std.proofs.Common.{◌≡◌, ℕ, ◌^◌, ◌<◌, ◌≤◌, Bool, true, false, cond, List, [], ◌∷◌, ◌++◌, Option, Some, None, Result, is_some, IsTrue, IfSome, IsSomeAnd, refl, ap, sym, ◌∙◌, subst, arith, ⊎_elim}
+use Rattle.std.proofs.Common.{◌≡◌, ℕ, ◌^◌, ◌<◌, ◌≤◌, Bool, true, false, cond, List, [], ◌∷◌, ◌++◌, Option, Some, None, Result, Err, is_some, IsTrue, IfSome, IsSomeAnd, refl, ap, sym, ◌∙◌, subst, arith, ⊎_elim}
 use Rattle.std.specs.Prelude.{option_map, option_and_then, unwrap_or, IsSome}
 use Rattle.std.proofs.lemmas.Bool.{false≢true, cond_both, cases_Bool}
 use Rattle.thread_local_model.specs.Held.{is_granted}
-use Rattle.thread_local_model.specs.Learnt.{Unknown}
-use Rattle.thread_local_steps.specs.Local.{Local, LocalStep, BeginGet, BeginGetOr, MakeBucket, local_step}
-use Rattle.thread_local_steps.specs.Calls.{closure_of, HasNoCall}
-use Rattle.thread_local_steps.proofs.EnabledSteps.{begins_get, begins_get_or}
+use Rattle.thread_local_model.specs.Learnt.{Unknown, Missing, Vacant}
+use Rattle.thread_local_model.specs.Answers.{Failed}
+use Rattle.thread_local_steps.specs.Local.{Local, LocalStep, BeginGet, BeginGetOr, MakeBucket, WriteValue, local_step}
+use Rattle.thread_local_steps.specs.Calls.{closure_of, HasNoCall, GoesDown, EndsWith}
+use Rattle.thread_local_steps.proofs.EnabledSteps as step
+use Rattle.thread_local_steps.proofs.GoingOn as call
 use Rattle.thread_local_core.specs.SharedWalk.{WalkStep, walk_step}
 use Rattle.thread_local_core.specs.OwnerWalk.{rewritten}
 use Rattle.thread_local_core.specs.Core.{Core, made_core, is_alone}
+use Rattle.thread_local_core.specs.CoreFits.{CoreFits}
 use Rattle.thread_local_core.proofs.OptionLaws.{if_enabled, if_there, if_then, some_and, unwrapped}
 use Rattle.thread_local_schedule.specs.Events.{Event, TakeId, OfLocal, GiveBack, Forget, BeginWalk, OfWalk, EndWalk, Owner, OwnerCall, IterMut, Slots, ClearTable, IntoIter, DropTable, take_id, with_step, of_local, is_idle, without_local, with_id_given, give_back, forget, with_walk, of_walk, after_owner, step_of, step, is_enabled, happens, run}
 use Rattle.thread_local_schedule.specs.Schedule.{is_take, is_refused, is_granted_take, newcomer, IsReached}
 use Rattle.thread_local_schedule.proofs.Clauses as clause
 use Rattle.thread_local_schedule.proofs.Clauses.{owner_goes, enabled_step}
-use Rattle.thread_local_schedule.proofs.Enabled.{may}
+use Rattle.thread_local_schedule.proofs.Enabled.{may, step_leaves}
 
 -- a schedule and one event more
 pub run-append : {V E : Type 0} (core : Core V E) (events more : List (Event V E)) → run core (events ++ more) ≡ run (run core events) more
@@ -71,11 +74,11 @@ may_step core n local step going at t =
 
 pub get_begins : {V E : Type 0} (core : Core V E) (n : ℕ) (local : Local V E) → core.ended ≡ false → core.locals n ≡ Some local → closure_of local.doing ≡ None
     → IsTrue (is_enabled core (OfLocal n BeginGet))
-get_begins core n local going at none = may_step core n local BeginGet going at (begins_get core.table local none)
+get_begins core n local going at none = may_step core n local BeginGet going at (step.begins_get core.table local none)
 
 pub get_or_begins : {V E : Type 0} (core : Core V E) (n : ℕ) (local : Local V E) (create : Result V E) → core.ended ≡ false → core.locals n ≡ Some local → HasNoCall local
     → IsTrue (is_enabled core (OfLocal n (BeginGetOr create)))
-get_or_begins core n local create going at none = may_step core n local (BeginGetOr create) going at (begins_get_or core.table local create none)
+get_or_begins core n local create going at none = may_step core n local (BeginGetOr create) going at (step.begins_get_or core.table local create none)
 
 pub newcomers : {V E : Type 0} (core : Core V E) (event : Event V E) → IsTrue (is_granted_take core event)
     → IsSomeAnd (newcomer core event) (λ local. HasNoCall local × (local.learnt ≡ Unknown))
@@ -154,3 +157,37 @@ room_stays core event f = (room_goes core event).stays f
 
 pub room_grows : {V E : Type 0} (core : Core V E) (event : Event V E) → core.manager.room ≤ (happens core event).manager.room
 room_grows core event = (room_goes core event).grows
+
+-- a step that leaves something of its Local is enabled, and the Local at its number is so
+there : {A : Type 0} (o : Option A) (P : A → Type 0) → IsSomeAnd o P → IsTrue (is_some o) × IfSome o P
+there None P p = absurd p
+there (Some x) P p = (refl, p)
+
+pub makes_step : {V E : Type 0} (core : Core V E) (n : ℕ) (local : Local V E) (step : LocalStep V E) (P : Local V E → Type 0) → core.ended ≡ false → core.locals n ≡ Some local
+    → IsSomeAnd (local_step core.table local step) (λ after. P after.1) → IsTrue (is_enabled core (OfLocal n step)) × IsSomeAnd ((happens core (OfLocal n step)).locals n) P
+makes_step core n local step P going at p =
+    let both = there (local_step core.table local step) (λ after. P after.1) p in
+    let enabled = may_step core n local step going at both.0 in
+    (enabled, step_leaves core n step local P enabled at both.1)
+
+pub goes_on : {V E : Type 0} (core : Core V E) (n : ℕ) (local : Local V E) → CoreFits core → core.ended ≡ false → core.locals n ≡ Some local → (HasNoCall local → ⊥)
+    → (step : LocalStep V E) × IsTrue (is_enabled core (OfLocal n step)) × IsSomeAnd ((happens core (OfLocal n step)).locals n) (GoesDown local)
+goes_on core n local h going at busy =
+    let next = call.goes_on core.table local (h.locals.each n local at).learnt busy in
+    let made = makes_step core n local next.0 (GoesDown local) going at next.1 in
+    (next.0, made.0, made.1)
+
+pub fails : {V E : Type 0} (core : Core V E) (n : ℕ) (local : Local V E) (e : E) → CoreFits core → core.ended ≡ false → core.locals n ≡ Some local
+    → closure_of local.doing ≡ Some (Err e) → local.learnt ≡ Vacant
+    → IsTrue (is_enabled core (OfLocal n WriteValue)) × IsSomeAnd ((happens core (OfLocal n WriteValue)).locals n) (EndsWith (Failed e) local)
+fails core n local e h going at closure vacant =
+    makes_step core n local WriteValue (EndsWith (Failed e) local) going at (step.fails core.table local e (h.locals.each n local at).learnt closure vacant)
+
+-- memory is asked for only where the bucket was missing
+asked : {V E : Type 0} (core : Core V E) (n : ℕ) (refused : Bool) (o : Option (Local V E))
+    → IsTrue (is_some (option_and_then (λ local. option_map (with_step core n) (local_step core.table local (MakeBucket refused))) o)) → IsSomeAnd o (λ local. local.learnt ≡ Missing)
+asked core n refused None t = absurd (false≢true t)
+asked core n refused (Some local) t = step.asks core.table local refused (map_there (with_step core n) (local_step core.table local (MakeBucket refused)) t)
+
+pub asks : {V E : Type 0} (core : Core V E) (n : ℕ) (refused : Bool) → IsTrue (is_enabled core (OfLocal n (MakeBucket refused))) → IsSomeAnd (core.locals n) (λ local. local.learnt ≡ Missing)
+asks core n refused t = asked core n refused (core.locals n) (enabled_step core (OfLocal n (MakeBucket refused)) t)

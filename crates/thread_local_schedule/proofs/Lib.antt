@@ -6,3 +6,4 @@ pub mod Enabled
 pub mod WalkEvents
 pub mod Open
 pub mod EventRules
+pub mod Installs

@@ -1,11 +1,14 @@
 //! What every event needs and does, and which cores schedules reach.
-ghost use Rattle.std.specs.Prelude.{◌≡◌, ℕ, ◌^◌, ◌<◌, ◌≤◌, true, false, Result, Some, None, IsTrue, IsSome, IsSomeAnd};
-ghost use Rattle.thread_local_model.specs.Learnt.{Unknown};
-ghost use Rattle.thread_local_steps.specs.Local.{Local, LocalStep, BeginGet, BeginGetOr, MakeBucket};
-ghost use Rattle.thread_local_steps.specs.Calls.{closure_of, HasNoCall};
+ghost use Rattle.std.specs.Prelude.{◌≡◌, ℕ, ◌+◌, ◌^◌, ◌<◌, ◌≤◌, Bool, true, false, Result, Err, Some, None, IsTrue, IsSome, IsSomeAnd, MatchOption, if◌then◌else◌};
+ghost use Rattle.thread_local_model.specs.Place.{bucket_of};
+ghost use Rattle.thread_local_model.specs.Learnt.{Unknown, Missing, Standing, Vacant, Holding};
+ghost use Rattle.thread_local_model.specs.Answers.{Failed};
+ghost use Rattle.thread_local_steps.specs.Table.{bucket_stands};
+ghost use Rattle.thread_local_steps.specs.Local.{Local, LocalStep, BeginGet, BeginGetOr, LoadPointer, LookAtFlag, MakeBucket, InstallBucket, WriteValue};
+ghost use Rattle.thread_local_steps.specs.Calls.{gets_of, closure_of, HasNoCall, steps_left, GoesDown, EndsWith};
 ghost use Rattle.thread_local_core.specs.SharedWalk.{WalkStep};
 ghost use Rattle.thread_local_core.specs.OwnerWalk.{rewritten};
-ghost use Rattle.thread_local_core.specs.Core.{Core, made_core};
+ghost use Rattle.thread_local_core.specs.Core.{Core, made_core, shadow};
 ghost use Rattle.thread_local_schedule.specs.Events.{Event, OfLocal, OfWalk, EndWalk, Owner, IterMut, Slots, is_enabled, happens};
 ghost use Rattle.thread_local_schedule.specs.Schedule.{is_take, is_refused, is_granted_take, newcomer, IsReached};
 
@@ -40,6 +43,52 @@ pub fn every_event<V, E>()
     ensures newcomers { (core : Core V E) (event : Event V E)
         → IsTrue (is_granted_take core event)
         → IsSomeAnd (newcomer core event) (λ local. HasNoCall local × (local.learnt ≡ Unknown)) }
+
+    // A call under way always has an enabled step that brings it nearer to its end, and no call has
+    // many steps left.
+    ensures goes_on { (core : Core V E) (n : ℕ) (local : Local V E)
+        → IsReached core
+        → core.ended ≡ false
+        → core.locals n ≡ Some local
+        → (HasNoCall local → ⊥)
+        → (step : LocalStep V E)
+        × IsTrue (is_enabled core (OfLocal n step))
+        × IsSomeAnd ((happens core (OfLocal n step)).locals n) (GoesDown local) }
+    ensures few_steps { (local : Local V E)
+        → steps_left local.doing local.learnt ≤ gets_of local.doing + 5 }
+
+    // A load teaches whether the bucket stands, and a look what is published. Memory is asked for
+    // only where the bucket was missing, and only an install makes a bucket stand, that of its
+    // Local's id. The closure's error is handed on where the slot is vacant.
+    ensures loads { (core : Core V E) (n : ℕ) (local : Local V E)
+        → IsTrue (is_enabled core (OfLocal n LoadPointer))
+        → core.locals n ≡ Some local
+        → IsSomeAnd ((happens core (OfLocal n LoadPointer)).locals n) (λ after.
+        after.learnt
+        ≡ (if bucket_stands core.table (bucket_of local.id) then Standing else Missing)) }
+    ensures looks { (core : Core V E) (n : ℕ) (local : Local V E)
+        → IsTrue (is_enabled core (OfLocal n LookAtFlag))
+        → core.locals n ≡ Some local
+        → IsSomeAnd ((happens core (OfLocal n LookAtFlag)).locals n) (λ after.
+        MatchOption ((shadow core).values local.id) (after.learnt ≡ Vacant) (λ v.
+        after.learnt ≡ Holding v)) }
+    ensures asks { (core : Core V E) (n : ℕ) (refused : Bool)
+        → IsTrue (is_enabled core (OfLocal n (MakeBucket refused)))
+        → IsSomeAnd (core.locals n) (λ local. local.learnt ≡ Missing) }
+    ensures installs { (core : Core V E) (event : Event V E) (bucket : ℕ)
+        → bucket_stands core.table bucket ≡ false
+        → IsTrue (bucket_stands (happens core event).table bucket)
+        → (n : ℕ)
+        × (event ≡ OfLocal n InstallBucket)
+        × IsSomeAnd (core.locals n) (λ local. bucket_of local.id ≡ bucket) }
+    ensures fails { (core : Core V E) (n : ℕ) (local : Local V E) (e : E)
+        → IsReached core
+        → core.ended ≡ false
+        → core.locals n ≡ Some local
+        → closure_of local.doing ≡ Some (Err e)
+        → local.learnt ≡ Vacant
+        → IsTrue (is_enabled core (OfLocal n WriteValue))
+        × IsSomeAnd ((happens core (OfLocal n WriteValue)).locals n) (EndsWith (Failed e) local) }
 
     // An owner's count changes nothing, and an owner's writes change the table and nothing else.
     ensures slots { (core : Core V E) → happens core (Owner Slots) ≡ core }

@@ -1,5 +1,11 @@
 use Rattle.std.proofs.Common.{refl}
+use Rattle.thread_local_steps.specs.Local.{LoadPointer, LookAtFlag}
+use Rattle.thread_local_steps.proofs.EnabledSteps as step
+use Rattle.thread_local_steps.proofs.GoingOn.{few_steps}
+use Rattle.thread_local_schedule.proofs.Clauses as clause
+use Rattle.thread_local_schedule.proofs.Enabled as may
 use Rattle.thread_local_schedule.proofs.EventRules as rule
+use Rattle.thread_local_schedule.proofs.Installs.{event_installs}
 use Rattle.thread_local_schedule.proofs.event.every_event.Goals as goal
 
 pub returns-clause-made_open : goal.returns-clause-made_open
@@ -28,6 +34,27 @@ returns-clause-begins_get_or g c = rule.get_or_begins
 
 pub returns-clause-newcomers : goal.returns-clause-newcomers
 returns-clause-newcomers g c = rule.newcomers
+
+pub returns-clause-goes_on : goal.returns-clause-goes_on
+returns-clause-goes_on g c = λ core n local r. rule.goes_on core n local (clause.fits core r)
+
+pub returns-clause-few_steps : goal.returns-clause-few_steps
+returns-clause-few_steps g c = λ local. few_steps local.doing local.learnt
+
+pub returns-clause-loads : goal.returns-clause-loads
+returns-clause-loads g c = λ core n local t at. may.step_leaves core n LoadPointer local _ t at (step.loads core.table local)
+
+pub returns-clause-looks : goal.returns-clause-looks
+returns-clause-looks g c = λ core n local t at. may.step_leaves core n LookAtFlag local _ t at (step.looks core.table local)
+
+pub returns-clause-asks : goal.returns-clause-asks
+returns-clause-asks g c = rule.asks
+
+pub returns-clause-installs : goal.returns-clause-installs
+returns-clause-installs g c = event_installs
+
+pub returns-clause-fails : goal.returns-clause-fails
+returns-clause-fails g c = λ core n local e r. rule.fails core n local e (clause.fits core r)
 
 pub returns-clause-slots : goal.returns-clause-slots
 returns-clause-slots g c = rule.slots
