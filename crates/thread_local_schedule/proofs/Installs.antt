@@ -8,7 +8,6 @@ use Rattle.thread_local_steps.specs.Table.{Bucket, Table, bucket_stands}
 use Rattle.thread_local_steps.specs.Local.{LocalStep, InstallBucket, local_step}
 use Rattle.thread_local_steps.proofs.Installing.{installs}
 use Rattle.thread_local_core.specs.SharedWalk.{fresh_walk, WalkStep, walk_step}
-use Rattle.thread_local_core.specs.OwnerWalk.{rewritten}
 use Rattle.thread_local_core.specs.Cleared.{emptied_bucket, cleared}
 use Rattle.thread_local_model.specs.Capacity.{reserves_bucket}
 use Rattle.thread_local_core.specs.Core.{Core, is_alone}
