@@ -1,9 +1,8 @@
 //! A `Local`: a seat, and what the table's lock needs when the drop gives the seat's id back.
-ghost use Rattle.std.specs.Prelude.{◌≡◌, ◌≢◌, ⊤, true, false, None, Ok, Err, OnOk, IfOk, option_map, MatchResult, alloc_error, Result};
+ghost use Rattle.std.specs.Prelude.{◌≡◌, ◌≢◌, ◌-◌, ◌^◌, ◌<◌, nat_lt, ⊤, true, false, None, Ok, Err, OnOk, IfOk, option_map, MatchResult, alloc_error, Result};
 ghost use Rattle.thread_local_model.specs.Answers.{Get, GetOr, Found, Refused, Failed, answer};
 ghost use Rattle.thread_local_model.specs.Cursor.{fresh_cursor};
-ghost use Rattle.thread_local_shared_walk.specs.Walks.{owed_value};
-ghost use Rattle.thread_local_table.specs.Seats.{IsAnswered, IsFilled, Fails, IsRefused};
+ghost use Rattle.thread_local_table.specs.Seats.{knows, own_of, IsAnswered, IsFilled, Fails, IsRefused};
 
 use crate::seat::{Seat, TryError};
 use std::alloc::AllocError;
@@ -26,20 +25,20 @@ mod lends;
 /// `T::default` that it runs may wait. References that calls answer live no longer than the borrow
 /// of the `Local`.
 ///
-/// Contracts see what is known of the id's slot: its value, if there is one, and whether its bucket
-/// is known to stand. Rust's crate finds the running thread by itself, and has no such type.
+/// Contracts see the table's name, the id, the number of reserved slots, and what is known of the
+/// id's slot: its value, if there is one, and whether its bucket is known to stand. Rust's crate
+/// finds the running thread by itself, and has no such type.
 pub struct Local<'a, T, R: Wait> {
     rt: &'a R,
     seat: Seat<'a, T>,
 }
 
 impl<'a, T, R: Wait> Model for Local<'a, T, R> {
-    ghost use Rattle.thread_local_model.specs.Answers.{View};
-    ghost use Rattle.thread_local_model.specs.Code.{view_coded};
+    ghost use Rattle.thread_local_table.specs.Seats.{LocalView, local_view_coded};
 
-    ghost Value = { View T };
+    ghost Value = { LocalView T };
 
-    ghost coded = { view_coded T.code };
+    ghost coded = { local_view_coded T.code };
 
     ghost view = { λ local. local.seat };
 }
@@ -69,15 +68,24 @@ impl<'a, T, R: Wait> Local<'a, T, R> {
 
     /// The value, or None. It reads what the `Local` knows already, without an atomic operation.
     pub fn get(&self) -> Option<&T>
-        ensures { answer {E = ⊤} self.now Get ≡ Found (option_map (λ x. x.now) result) }
+        ensures { answer {E = ⊤} (knows self.now) Get ≡ Found (option_map (λ x. x.now) result) }
     {
         self.seat.get()
+    }
+
+    /// The id. Rust's crate keeps a thread's id to itself.
+    pub fn id(&self) -> usize
+        ensures id { result ≡ self.now.id }
+        ensures in_range { result < 2 ^ 63 - 1 }
+    {
+        self.seat.id()
     }
 
     /// Whether the slot is one of the table's reserved slots. If so, the `get_or` family is never
     /// refused memory. Rust's crate has no such call.
     pub fn is_reserved(&self) -> bool
-        ensures { result ≡ true → self.now.known ≡ true }
+        ensures reserved { result ≡ nat_lt self.now.id self.now.reserved }
+        ensures known { result ≡ true → self.now.known ≡ true }
     {
         self.seat.is_reserved()
     }
@@ -113,10 +121,10 @@ impl<'a, T, R: Wait> Local<'a, T, R> {
             IsAnswered E (λ value. F.post create (Ok value)) self.old there.now) }
         ensures create { (error : E)
             → result ≡ Err (TryError.Create error)
-            → (answer self.old (GetOr (Err error) false) ≡ Failed error) × F.post create (Err error) }
+            → (answer (knows self.old) (GetOr (Err error) false) ≡ Failed error) × F.post create (Err error) }
         ensures memory { result ≡ Err (TryError.Memory alloc_error)
             → (made : Result T E)
-            → answer self.old (GetOr made true) ≡ Refused }
+            → answer (knows self.old) (GetOr made true) ≡ Refused }
         ensures granted { self.old.known ≡ true → result ≢ Err (TryError.Memory alloc_error) }
     {
         self.seat.try_fill(create)?;
@@ -130,7 +138,7 @@ impl<'a, T: Sync, R: Wait> Local<'a, T, R> {
     /// has no such call.
     pub fn iter(&self) -> Iter<'_, T>
         ensures begins { result.cursor ≡ fresh_cursor }
-        ensures own { owed_value result.own ≡ self.now.value }
+        ensures own { result.own ≡ own_of self.now }
         ensures shown { result.shown ≡ true }
     {
         self.seat.iter()

@@ -1,11 +1,10 @@
 //! A seat: an id of a table, and what is known of the id's slot: no bucket was found, it is vacant,
 //! or it holds a value.
-ghost use Rattle.std.specs.Prelude.{◌≡◌, ◌≢◌, ◌-◌, ◌^◌, ◌<◌, ◌⊎◌, ⊤, is_some, true, None, Some, Ok, Err, OnOk, OnErr, IfOk, IsOk, Result, false, alloc_error, option_map};
+ghost use Rattle.std.specs.Prelude.{◌≡◌, ◌≢◌, ◌-◌, ◌^◌, ◌<◌, nat_lt, ◌⊎◌, ⊤, is_some, true, None, Some, Ok, Err, OnOk, OnErr, IfOk, IsOk, Result, false, alloc_error, option_map};
 ghost use Rattle.thread_local_model.specs.Learnt.{Missing, Vacant};
 ghost use Rattle.thread_local_model.specs.Answers.{Get, GetOr, Found, Refused, Failed, answer};
 ghost use Rattle.thread_local_model.specs.Cursor.{fresh_cursor};
-ghost use Rattle.thread_local_shared_walk.specs.Walks.{owed_value};
-ghost use Rattle.thread_local_table.specs.Seats.{vacant, holding, IsAnswered, IsFilled, Fails, IsRefused};
+ghost use Rattle.thread_local_table.specs.Seats.{knows, knowing, own_of, vacant, holding, IsAnswered, IsFilled, Fails, IsRefused};
 
 use crate::table::ThreadLocal;
 use std::alloc::AllocError;
@@ -39,15 +38,13 @@ pub struct Seat<'a, T> {
 }
 
 impl<'a, T> Model for Seat<'a, T> {
-    ghost use Rattle.thread_local_model.specs.Answers.{View, view_of};
-    ghost use Rattle.thread_local_model.specs.Code.{view_coded};
-    ghost use Rattle.thread_local_table.specs.Seats.{IsSeated};
+    ghost use Rattle.thread_local_table.specs.Seats.{LocalView, local_view, local_view_coded, IsSeated};
 
-    ghost Value = { View T };
+    ghost Value = { LocalView T };
 
-    ghost coded = { view_coded T.code };
+    ghost coded = { local_view_coded T.code };
 
-    ghost view = { λ s. view_of s.claim.learnt };
+    ghost view = { λ s. local_view s.table.now s.claim };
 
     ghost invariant = { λ s. IsSeated s.table.now s.claim };
 }
@@ -75,6 +72,8 @@ impl<'a, T> Seat<'a, T> {
     /// A seat for a held id of this table.
     pub(crate) fn new(table: &'a ThreadLocal<T>, held: HeldId) -> Seat<'a, T>
         requires { held.right.table ≡ table.now.table }
+        ensures table { (result.table ≡ table.now.table) × (result.reserved ≡ table.now.reserved) }
+        ensures id { result.id ≡ held.id }
     {
         Seat {
             table,
@@ -84,15 +83,24 @@ impl<'a, T> Seat<'a, T> {
 
     /// The value, or None. It reads what the seat knows already, without an atomic operation.
     pub fn get(&self) -> Option<&T>
-        ensures { answer {E = ⊤} self.now Get ≡ Found (option_map (λ x. x.now) result) }
+        ensures { answer {E = ⊤} (knows self.now) Get ≡ Found (option_map (λ x. x.now) result) }
     {
         self.claim.get()
+    }
+
+    /// The id. Rust's crate keeps a thread's id to itself.
+    pub fn id(&self) -> usize
+        ensures id { result ≡ self.now.id }
+        ensures in_range { result < 2 ^ 63 - 1 }
+    {
+        self.claim.id()
     }
 
     /// Whether the slot is one of the table's reserved slots. If so, the `get_or` family is never
     /// refused memory. Rust's crate has no such call.
     pub fn is_reserved(&self) -> bool
-        ensures { result ≡ true → self.now.known ≡ true }
+        ensures reserved { result ≡ nat_lt self.now.id self.now.reserved }
+        ensures known { result ≡ true → self.now.known ≡ true }
     {
         let table = self.table;
         self.claim.id() < table.buckets.reserved()
@@ -101,7 +109,7 @@ impl<'a, T> Seat<'a, T> {
     /// Finds or makes the bucket of the slot, which is empty.
     fn find_bucket(&mut self) -> Result<(), AllocError>
         requires { self.old.value ≡ None }
-        ensures ok { OnOk result (self.new ≡ vacant) }
+        ensures ok { OnOk result (self.new ≡ knowing self.old vacant) }
         ensures err { OnErr result ((self.old.known ≡ false) × (self.new ≡ self.old)) }
     {
         reach(self.table, &mut self.claim)
@@ -109,8 +117,8 @@ impl<'a, T> Seat<'a, T> {
 
     /// Publishes a value in the slot, which is vacant.
     fn publish(&mut self, value: T)
-        requires { self.old ≡ vacant }
-        ensures { self.new ≡ holding value }
+        requires { knows self.old ≡ vacant }
+        ensures { self.new ≡ knowing self.old (holding value) }
     {
         self.claim.publish(value);
     }
@@ -191,10 +199,10 @@ impl<'a, T> Seat<'a, T> {
             IsAnswered E (λ value. F.post create (Ok value)) self.old there.now) }
         ensures create { (error : E)
             → result ≡ Err (TryError.Create error)
-            → (answer self.old (GetOr (Err error) false) ≡ Failed error) × F.post create (Err error) }
+            → (answer (knows self.old) (GetOr (Err error) false) ≡ Failed error) × F.post create (Err error) }
         ensures memory { result ≡ Err (TryError.Memory alloc_error)
             → (made : Result T E)
-            → answer self.old (GetOr made true) ≡ Refused }
+            → answer (knows self.old) (GetOr made true) ≡ Refused }
         ensures granted { self.old.known ≡ true → result ≢ Err (TryError.Memory alloc_error) }
     {
         self.try_fill(create)?;
@@ -214,7 +222,7 @@ impl<'a, T: Sync> Seat<'a, T> {
     /// no such call.
     pub fn iter(&self) -> Iter<'_, T>
         ensures begins { result.cursor ≡ fresh_cursor }
-        ensures own { owed_value result.own ≡ self.now.value }
+        ensures own { result.own ≡ own_of self.now }
         ensures shown { result.shown ≡ true }
     {
         let table = self.table;

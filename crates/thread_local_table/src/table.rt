@@ -1,5 +1,5 @@
 //! A table: the buckets that threads share, and the ids, under a lock.
-ghost use Rattle.std.specs.Prelude.{◌≡◌, ◌≤◌, ◌^◌, true, false, None, Err, IfOk};
+ghost use Rattle.std.specs.Prelude.{◌≡◌, ◌≤◌, ◌<◌, ◌-◌, ◌^◌, true, false, None, Err, IfOk};
 ghost use Rattle.thread_local_model.specs.Capacity.{reserved_slots};
 ghost use Rattle.thread_local_judged.specs.Judged.{Judged};
 ghost use Rattle.thread_local_shared_walk.specs.Walks.{fresh};
@@ -124,7 +124,11 @@ impl<T> ThreadLocal<T> {
     /// It asks for memory only where as many ids are held as ever were at once and there is no room
     /// for one more: `Memory` means out of memory. `Exhausted` means that all 2^63 - 1 ids are
     /// held. Rust's crate finds the running thread by itself.
-    pub fn local<'a, R: Wait>(&'a self, rt: &'a R) -> Result<Local<'a, T, R>, LocalError> {
+    pub fn local<'a, R: Wait>(&'a self, rt: &'a R) -> Result<Local<'a, T, R>, LocalError>
+        ensures table { IfOk result (λ local.
+            (local.table ≡ self.now.table) × (local.reserved ≡ self.now.reserved)) }
+        ensures in_range { IfOk result (λ local. local.id < 2 ^ 63 - 1) }
+    {
         let held = self.ids.lock(rt).take()?;
         Ok(Local::new(rt, Seat::new(self, held)))
     }

@@ -7,7 +7,7 @@ ghost use denote.Follow.{follows_so};
 ghost use mathlib.Core.Option.{none};
 ghost use mir.Syntax.{named};
 ghost use Rattle.thread_local_model.specs.Answers.{GetOr, Refused, answer};
-ghost use Rattle.thread_local_table.specs.Seats.{IsAnswered, Fills, IsRefused};
+ghost use Rattle.thread_local_table.specs.Seats.{knows, IsAnswered, Fills, IsRefused};
 ghost use Rattle.thread_local_table.specs.contracts.local.Local.{the_row};
 
 use super::Local;
@@ -32,7 +32,7 @@ impl<'a, T, R: Wait> Local<'a, T, R> {
             (λ there. Fills ⊤ (F.post create) self.old left there.now)
             (λ _. IsRefused ⊤ self.old left))) }
         ensures answers { MatchResult result (λ there. IsAnswered ⊤ (F.post create) self.old there.now) (λ _.
-            (made : Result T ⊤) → answer self.old (GetOr made true) ≡ Refused) }
+            (made : Result T ⊤) → answer (knows self.old) (GetOr made true) ≡ Refused) }
         ensures granted { self.old.known ≡ true → IsOk result }
     {
         self.seat.fill(create)?;
@@ -54,7 +54,7 @@ impl<'a, T, R: Wait> Local<'a, T, R> {
             MatchResult result (λ there. Fills ⊤ T.is_default self.old left there.now)
             (λ _. IsRefused ⊤ self.old left))) }
         ensures answers { MatchResult result (λ there. IsAnswered ⊤ T.is_default self.old there.now) (λ _.
-            (made : Result T ⊤) → answer self.old (GetOr made true) ≡ Refused) }
+            (made : Result T ⊤) → answer (knows self.old) (GetOr made true) ≡ Refused) }
         ensures granted { self.old.known ≡ true → IsOk result }
     {
         self.seat.fill(|| T::default())?;

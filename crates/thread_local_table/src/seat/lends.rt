@@ -6,7 +6,7 @@ ghost use denote.Follow.{follows_so};
 ghost use mathlib.Core.Option.{none};
 ghost use mir.Syntax.{named};
 ghost use Rattle.thread_local_model.specs.Answers.{GetOr, Refused, answer};
-ghost use Rattle.thread_local_table.specs.Seats.{IsAnswered, Fills, IsRefused};
+ghost use Rattle.thread_local_table.specs.Seats.{knows, IsAnswered, Fills, IsRefused};
 ghost use Rattle.thread_local_table.specs.contracts.seat.Seat.{the_row};
 
 use super::Seat;
@@ -30,7 +30,7 @@ impl<'a, T> Seat<'a, T> {
             (λ there. Fills ⊤ (F.post create) self.old left there.now)
             (λ _. IsRefused ⊤ self.old left))) }
         ensures answers { MatchResult result (λ there. IsAnswered ⊤ (F.post create) self.old there.now) (λ _.
-            (made : Result T ⊤) → answer self.old (GetOr made true) ≡ Refused) }
+            (made : Result T ⊤) → answer (knows self.old) (GetOr made true) ≡ Refused) }
         ensures granted { self.old.known ≡ true → IsOk result }
     {
         self.fill(create)?;
@@ -52,7 +52,7 @@ impl<'a, T> Seat<'a, T> {
             MatchResult result (λ there. Fills ⊤ T.is_default self.old left there.now)
             (λ _. IsRefused ⊤ self.old left))) }
         ensures answers { MatchResult result (λ there. IsAnswered ⊤ T.is_default self.old there.now) (λ _.
-            (made : Result T ⊤) → answer self.old (GetOr made true) ≡ Refused) }
+            (made : Result T ⊤) → answer (knows self.old) (GetOr made true) ≡ Refused) }
         ensures granted { self.old.known ≡ true → IsOk result }
     {
         self.fill(|| T::default())?;
