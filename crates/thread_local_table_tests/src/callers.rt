@@ -47,6 +47,28 @@ fn never_refused<R: Wait>(local: &mut Local<'_, u32, R>, value: u32) -> bool
     }
 }
 
+/// A `Local` is reserved exactly where its id is below the table's reserved slots.
+fn reserved_below_seven<R: Wait>(table: &ThreadLocal<u32>, rt: &R) -> bool
+    requires { table.now.reserved ≡ 7 }
+    ensures { result ≡ true }
+{
+    match table.local(rt) {
+        Ok(local) => local.is_reserved() == (local.id() < 7),
+        Err(_) => true,
+    }
+}
+
+/// A `Local` keeps its id, whatever it publishes.
+fn keeps_its_id<T: Send, R: Wait>(local: &mut Local<'_, T, R>, value: T) -> bool
+where
+    T: Drop,
+    ensures { result ≡ true }
+{
+    let id = local.id();
+    let published = local.get_or(|| value).is_ok();
+    local.id() == id || !published
+}
+
 fn number(alloc: Global) -> ThreadLocal<u32>
     ensures { result.reserved ≡ 0 }
 {

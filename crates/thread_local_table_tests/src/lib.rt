@@ -12,6 +12,8 @@ mod forgotten;
 #[cfg(test)]
 mod held;
 #[cfg(test)]
+mod ids;
+#[cfg(test)]
 mod locals;
 #[cfg(test)]
 mod refused;

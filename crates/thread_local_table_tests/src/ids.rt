@@ -1,0 +1,24 @@
+//! The ids of `Local`s.
+
+use std::sync::Wait;
+use std::test::Fail;
+use thread_local_table::ThreadLocal;
+
+/// The ids of three `Local`s that are held at once, and of one that is taken once the second is
+/// dropped.
+fn ids_in_turn<R: Wait>(table: &ThreadLocal<u32>, rt: &R) -> Option<[usize; 4]> {
+    let first = table.local(rt).ok()?;
+    let second = table.local(rt).ok()?;
+    let third = table.local(rt).ok()?;
+    let ids = (first.id(), second.id(), third.id());
+    drop(second);
+    let again = table.local(rt).ok()?;
+    Some([ids.0, ids.1, ids.2, again.id()])
+}
+
+#[test]
+fn a_local_has_the_least_id_that_is_not_held(rt: HostRuntime) -> Result<(), Fail> {
+    let table = ThreadLocal::<u32>::new(rt.alloc());
+    assert_eq!(rt; ids_in_turn(&table, &rt), Some([0, 1, 2, 1]));
+    Ok(())
+}
