@@ -1,5 +1,5 @@
 #!/usr/bin/env python3
-"""Runs random schedules of the table's model and checks every clause of the theorem after every event.
+"""Runs random schedules of the table's model and checks every clause of the theorems after every event.
 
     tools/schedules.py                      a clause that fails is printed with its schedule; under five minutes
     tools/schedules.py --short              the same on fewer schedules; under 20 seconds
@@ -8,7 +8,7 @@
     tools/schedules.py --show 7             prints a schedule as a table, a line for each event
     tools/schedules.py --buckets 4 --seed 7 --runs 2000 --events 120
 
-The definitions stand in table_model.py, under the names of the specs. Each clause of the theorem is a
+The definitions stand in table_model.py, under the names of the specs. Each clause of the theorems is a
 function here. Nothing is proved: this finds a clause that is false, or that says too little, before a proof
 is tried. The runs take one processor.
 """
@@ -175,7 +175,7 @@ def clause_slots(m):
 
 
 def clause_private(m):
-    return all(it.doing[0] != "Private" or 2 ** bucket_of(it.id) <= len(m.after.held) for _, it in live(m.after))
+    return all(model.private_slots(it.id, it.doing) <= len(m.after.held) for _, it in live(m.after))
 
 
 def clause_published(m):
@@ -270,18 +270,17 @@ def clause_walk_first(m):
     return True
 
 
-def clause_walk_history(m):
-    """A walk's record only grows, and its steps are the only ones that make it grow."""
-    for n, it in walking(m.before):
-        then = live_walk(m.after, n)
-        if then is not None:
-            if then.given != it.given and then.given[1:] != it.given:
-                return False
-            if then.read != it.read and then.read[1:] != it.read:
-                return False
-            if not it.loads <= then.loads <= it.loads + 1:
-                return False
-    return True
+def clause_walk_adds(m):
+    """A load is counted and reads no slot; a look reads the slot at the cursor, and gives the value that it shows."""
+    if m.event[0] != "OfWalk" or not model.is_enabled(m.before, m.event):
+        return True
+    it, then = live_walk(m.before, m.event[1]), live_walk(m.after, m.event[1])
+    if m.event[2] == "Load":
+        return (then.given, then.read, then.loads) == (it.given, it.read, it.loads + 1)
+    here = model.cursor(it)
+    value = model.published(m.before.table, here)
+    given = it.given if value is None else ((here, value),) + it.given
+    return (then.given, then.read, then.loads) == (given, (here,) + it.read, it.loads)
 
 
 # ---- clauses on who may do what, on calls, numbers and walks ---------------------------------------------
@@ -431,7 +430,180 @@ def clause_walks_end(m):
     return all(model.is_enabled(m.after, ("EndWalk", n)) for n, _ in walking(m.after))
 
 
+# ---- clauses on what every event needs and does ------------------------------------------------------------
+
+
+def changed(m):
+    """The Locals that this event made or changed: what they may do next depends on nothing that another does."""
+    return [(n, it) for n, it in live(m.after) if live_local(m.before, n) is not it]
+
+
+def stepped(m, name):
+    """The Local before and after its step of that name, or None where the event is another or isn't enabled."""
+    if m.event[0] != "OfLocal" or m.event[2][0] != name or not model.is_enabled(m.before, m.event):
+        return None
+    return live_local(m.before, m.event[1]), live_local(m.after, m.event[1])
+
+
+def clause_made_open(m):
+    return not model.made_core(m.capacity, 0).ended
+
+
+def clause_lives(m):
+    """Only a Local makes steps of a Local, and only a walk under way goes on and ends."""
+    family = {"OfLocal": live_local, "OfWalk": live_walk, "EndWalk": live_walk}.get(m.event[0])
+    return family is None or not model.is_enabled(m.before, m.event) or family(m.before, m.event[1]) is not None
+
+
+def clause_ends_there(m):
+    numbers = range(len(m.after.walks) + 1)
+    return all(live_walk(m.after, n) is not None or not model.is_enabled(m.after, ("EndWalk", n)) for n in numbers)
+
+
+def clause_begins_get(m):
+    return m.after.ended or all(under_way(it.doing)[1] or model.is_enabled(m.after, ("OfLocal", n, ("BeginGet",))) for n, it in changed(m))
+
+
+def clause_begins_get_or(m):
+    begin = ("BeginGetOr", ("Ok", "any"))
+    return m.after.ended or all(not has_no_call(it) or model.is_enabled(m.after, ("OfLocal", n, begin)) for n, it in changed(m))
+
+
+def clause_newcomers(m):
+    """A Local comes with no call under way, and has learnt nothing."""
+    if not is_granted_take(m):
+        return True
+    made = live_local(m.after, len(m.before.locals))
+    return has_no_call(made) and made.learnt == ("Unknown",)
+
+
+def clause_calls_go_on(m):
+    """A call under way has a step that is enabled and brings it nearer to its end."""
+    steps = [("LoadPointer",), ("LookAtFlag",), ("MakeBucket", False), ("InstallBucket",), ("WriteValue",), ("SetFlag",), ("Reply",)]
+
+    def goes_on(n, it):
+        after = [model.step(m.after, ("OfLocal", n, step)) for step in steps]
+        return any(then is not None and model.steps_left(live_local(then, n)) < model.steps_left(it) for then in after)
+
+    return m.after.ended or all(has_no_call(it) or goes_on(n, it) for n, it in changed(m))
+
+
+def clause_few_steps(m):
+    return all(model.steps_left(it) <= under_way(it.doing)[0] + 5 for _, it in live(m.after))
+
+
+def clause_loads(m):
+    locals_ = stepped(m, "LoadPointer")
+    if locals_ is None:
+        return True
+    stands = model.bucket_stands(m.before.table, bucket_of(locals_[0].id))
+    return locals_[1].learnt == (("Standing",) if stands else ("Missing",))
+
+
+def clause_looks(m):
+    locals_ = stepped(m, "LookAtFlag")
+    if locals_ is None:
+        return True
+    shown = model.shadow(m.before).values[locals_[0].id]
+    return locals_[1].learnt == (("Vacant",) if shown is None else ("Holding", shown))
+
+
+def clause_asks(m):
+    """Memory is asked for only where the bucket was missing."""
+    locals_ = stepped(m, "MakeBucket")
+    return locals_ is None or locals_[0].learnt == ("Missing",)
+
+
+def clause_installs(m):
+    """Only an install makes a bucket stand, that of its Local's id."""
+    old, new = m.before.table, m.after.table
+    come = [b for b in range(model.BUCKETS) if model.bucket_stands(new, b) and not model.bucket_stands(old, b)]
+    locals_ = stepped(m, "InstallBucket")
+    return not come or (locals_ is not None and come == [bucket_of(locals_[0].id)])
+
+
+def clause_fails(m):
+    """The closure's error is handed on where the slot is vacant."""
+    for n, it in changed(m):
+        create = under_way(it.doing)[1]
+        if not m.after.ended and create is not None and create[0] == "Err" and it.learnt == ("Vacant",):
+            after = model.step(m.after, ("OfLocal", n, ("WriteValue",)))
+            then = None if after is None else live_local(after, n)
+            if not has_no_call(then) or then.answers != it.answers + (("Failed", create[1]),):
+                return False
+    return True
+
+
+def clause_counts(m):
+    """An owner's count changes nothing."""
+    return m.event != ("Owner", ("Slots",)) or m.after == m.before
+
+
+def clause_iter_mut(m):
+    """An owner's writes change the table and nothing else."""
+    if m.event[0] != "Owner" or m.event[1][0] != "IterMut" or not model.is_enabled(m.before, m.event):
+        return True
+    return m.after == replace(m.before, table=model.rewritten(m.before.table, m.event[1][1]))
+
+
+def clause_out_of_memory(m):
+    """A call that is out of memory ends in a refusal."""
+    out = m.event[0] == "OfLocal" and m.event[2] == ("MakeBucket", True) and model.is_enabled(m.before, m.event)
+    return not out or model.is_refused(m.before, m.event)
+
+
+def clause_room_stays(m):
+    return model.is_take(m.event) or m.after.room == m.before.room
+
+
+def clause_room_grows(m):
+    return m.before.room <= m.after.room
+
+
+def clause_known_answers(m):
+    """Where the bucket is known, a call answers, and leaves the view, as if memory weren't refused."""
+    for _, it in changed(m):
+        for known in (View(it.start.value, True), View(None, True)):
+            for create in (("Ok", "any"), ("Err", "any")):
+                told = [(model.answer(known, it), model.view_after(known, it)) for it in (("GetOr", create, memory) for memory in (True, False))]
+                if told[0] != told[1]:
+                    return False
+    return True
+
+
+# ---- clauses on what the words of the bounds say -----------------------------------------------------------
+
+
+def clause_installed(m):
+    return model.slots(m.after.table) == sum(2**b for b in range(model.BUCKETS) if model.bucket_stands(m.after.table, b))
+
+
+def clause_own_slots(m):
+    return all(own_number(it) is None or model.private_slots(it.id, it.doing) == 2 ** bucket_of(it.id) for _, it in live(m.after))
+
+
+@dataclass
+class Schedule:
+    """A whole schedule, with what was counted along it."""
+
+    first: Core
+    events: list
+    bound: int  # each take came while fewer ids than this were held
+    refusals: int
+
+
+def whole_nothing(s):
+    """A schedule refuses nothing where each of its events is refused nothing, and only there."""
+    return model.refuses_nothing(s.first, s.events) == (s.refusals == 0)
+
+
+def whole_takes(s):
+    """The takes come below the bound, and below no smaller one."""
+    return model.takes_below(s.bound, s.first, s.events) and (s.bound == 0 or not model.takes_below(s.bound - 1, s.first, s.events))
+
+
 CLAUSES = {name[len("clause_") :]: it for name, it in list(globals().items()) if name.startswith("clause_")}
+WHOLE = {name[len("whole_") :]: it for name, it in list(globals().items()) if name.startswith("whole_")}
 
 
 # ---- the story -----------------------------------------------------------------------------------------
@@ -547,12 +719,29 @@ def kind_of(event):
     return event[0] + (":" + (last if isinstance(last, str) else last[0]) if event[0] in ("OfLocal", "OfWalk", "Owner") else "")
 
 
+def refuses(core, event):
+    """Whether an enabled event is refused memory or an id, as the event itself says."""
+    if event[0] == "TakeId":
+        return model.happens(core, event) == core
+    return event[0] == "OfLocal" and event[2] == ("MakeBucket", True)
+
+
+def first_failed(clauses, it):
+    for name, clause in clauses.items():
+        try:
+            if not clause(it):
+                return name
+        except Exception as error:  # a wrong body may leave a state that a clause can't read
+            return f"{name} ({type(error).__name__}: {error})"
+    return None
+
+
 def one_schedule(seed, length, seen):
     """Runs one schedule and returns the first clause that fails, with the events up to there."""
     chance = random.Random(seed)
     capacity = min(chance.choice([0, 0, 0, 1, 2, 3, 4, model.IDS]), model.IDS)
-    core = model.made_core(capacity, chance.choice([0, 0, 1, 3]))
-    most, bound, publishings, events, waiting = 0, 0, 0, [], []
+    first = core = model.made_core(capacity, chance.choice([0, 0, 1, 3]))
+    most, bound, publishings, refusals, events, waiting = 0, 0, 0, 0, [], []
     for mark in range(length):
         if not waiting and chance.random() < 0.012:
             waiting = quiet_events(chance, core)
@@ -565,24 +754,22 @@ def one_schedule(seed, length, seen):
             bound = max(bound, held_count(core.held) + 1)
         after = model.happens(core, event)
         if model.is_enabled(core, event):
-            name = ("refused " if model.is_refused(core, event) else "") + kind_of(event)
+            refused = refuses(core, event)
+            refusals += refused
+            name = ("refused " if refused else "") + kind_of(event)
             seen[name] = seen.get(name, 0) + 1
             if event == ("Owner", ("ClearTable",)):
                 most, publishings = 0, 0
             publishings += model.move_of(core, event)[0] == "Publish"
         most = max(most, held_count(after.held))
         moment = Moment(capacity, core, event, after, most, publishings, bound)
-        for name, clause in CLAUSES.items():
-            try:
-                well = clause(moment)
-            except Exception as error:  # a wrong body may leave a state that a clause can't read
-                well, name = False, f"{name} ({type(error).__name__}: {error})"
-            if not well:
-                return name, events
+        failed = first_failed(CLAUSES, moment)
+        if failed:
+            return failed, events
         core = after
         if core.ended and chance.random() < 0.2:
             break
-    return None, events
+    return first_failed(WHOLE, Schedule(first, events, bound, refusals)), events
 
 
 def try_runs(seed, runs, length):
@@ -840,10 +1027,154 @@ def more_wrong_bodies():
     }
 
 
+def wrong_effects():
+    """Wrong bodies that do more than they say, or whose words say less."""
+    right = {
+        name: getattr(model, name)
+        for name in ("made_core", "take", "local_step", "give_back", "forget", "end_walk", "owner_call", "cleared", "is_refused", "slots")
+    }
+
+    def ends_made(capacity, extra):
+        return replace(right["made_core"](capacity, extra), ended=capacity != 0)
+
+    def grows(name, where=lambda core, *it: True):
+        """What that event leaves, with room for one id more."""
+
+        def it(core, *chosen):
+            after = right[name](core, *chosen)
+            return after if after is None or not where(core, *chosen) else replace(after, room=after.room + 1)
+
+        return {name: it}
+
+    def is_call(name):
+        return lambda core, call: call[0] == name
+
+    def frees_empty(core, call):
+        after = right["owner_call"](core, call)
+        if after is None or call[0] != "IterMut":
+            return after
+        digits, pointers = model.binary_digits(core.capacity), after.table.pointers
+        kept = tuple(it if it is None or b < digits or any(s.flag for s in it.slots) else None for b, it in enumerate(pointers))
+        return replace(after, table=replace(after.table, pointers=kept))
+
+    def room_begins_again(core, refused, growth):
+        after = right["take"](core, refused, growth)
+        return after if after is core else replace(after, room=max(core.capacity, len(after.held)) + growth)
+
+    def begins_walk(core, number):
+        after = right["forget"](core, number)
+        return after if after is None else replace(after, walks=after.walks + (model.Walk(),))
+
+    def ends_any(core, number):
+        return core if live_walk(core, number) is None else right["end_walk"](core, number)
+
+    def steps_anyway(core, number, step):
+        return core if live_local(core, number) is None else right["local_step"](core, number, step)
+
+    def frees_nothing(core):
+        pointers = tuple(it and model.fresh_bucket(b, it.number) for b, it in enumerate(core.table.pointers))
+        return replace(right["cleared"](core), table=replace(core.table, pointers=pointers))
+
+    def with_values(table):
+        return sum(2**b for b, it in enumerate(table.pointers) if it is not None and any(s.flag for s in it.slots))
+
+    def installs_given(core, number):
+        local, after = live_local(core, number), right["give_back"](core, number)
+        if after is None or model.bucket_stands(core.table, bucket_of(local.id)):
+            return after
+        b = bucket_of(local.id)
+        fresh = model.fresh_bucket(b, core.table.made)
+        return replace(after, table=replace(model.with_pointer(core.table, b, fresh), made=core.table.made + 1))
+
+    def takes_with_get(core, refused, growth):
+        after = right["take"](core, refused, growth)
+        n = len(core.locals)
+        return after if after is core else model.with_local(after, n, replace(after.locals[n], doing=("Gets", 1)))
+
+    def takes_with_look(core, refused, growth):
+        after = right["take"](core, refused, growth)
+        n = len(core.locals)
+        if after is core or not model.bucket_stands(core.table, bucket_of(after.locals[n].id)):
+            return after
+        return model.with_local(after, n, replace(after.locals[n], learnt=("Standing",)))
+
+    def one_get(table, local):
+        return (table, replace(local, doing=("Gets", 1))) if local.doing == ("Gets", 0) else None
+
+    def published_below(table, local):
+        return model.set_flag(table, local) if local.id < 4 else None
+
+    def loads_once(table, local):
+        after = model.load_pointer(table, local)
+        return (table, local) if after is not None and local.learnt == ("Missing",) else after
+
+    def looks_in_vain(table, local):
+        after = model.look_at_flag(table, local)
+        return (table, local) if after is not None and after[1].learnt == ("Vacant",) else after
+
+    def asks_beside(table, local, refused):
+        if refused and local.doing[0] == "Started" and local.learnt == ("Vacant",):
+            return table, model.ended_call(local, ("GetOr", local.doing[1], False), ("Refused",), ("Vacant",), ("Gets", 0))
+        return model.make_bucket(table, local, refused)
+
+    def fails_at_first(table, local):
+        stuck = local.doing[0] == "Started" and local.doing[1][0] == "Err" and local.id != 0
+        return None if stuck else model.write_value(table, local)
+
+    def refuses_takes_alone(core, event):
+        return event[0] == "TakeId" and right["is_refused"](core, event)
+
+    def forgets_known(view, call):
+        if call[0] == "GetOr" and view.value is None and call[2]:
+            return view
+        return kept_view(view, call)
+
+    def reads_nothing(table, it):
+        after = model.walk_look(table, it)
+        return after if after is None else replace(after, read=it.read)
+
+    kept_view, kept_below, kept_nothing = model.view_after, model.takes_below, model.refuses_nothing
+
+    def steps(**it):
+        return {"LOCAL_STEPS": {**model.LOCAL_STEPS, **it}}
+
+    return {
+        "a table made with a capacity has ended": {"made_core": ends_made},
+        "slots grows room": grows("owner_call", is_call("Slots")),
+        "iter_mut grows room": grows("owner_call", is_call("IterMut")),
+        "iter_mut frees empty buckets that aren't reserved": {"owner_call": frees_empty},
+        "a take's room begins again at the capacity": {"take": room_begins_again},
+        "a Local's step grows room": grows("local_step"),
+        "give back grows room": grows("give_back"),
+        "forget begins a walk": {"forget": begins_walk},
+        "a walk's end is enabled where no walk is": {"end_walk": ends_any},
+        "a step is enabled where no Local is": {"local_step": steps_anyway},
+        "clear frees nothing": {"cleared": frees_nothing},
+        "only buckets with a value count as installed": {"slots": with_values},
+        "a bucket of a call's own has no slots": {"private_slots": lambda identity, doing: 0},
+        "give back installs its bucket": {"give_back": installs_given},
+        "a newcomer has a get under way": {"take": takes_with_get},
+        "a newcomer knows its bucket": {"take": takes_with_look},
+        "at most one get is under way": steps(BeginGet=one_get),
+        "two gets under way are stuck": {"is_calling": lambda doing: doing[0] == "Started" or doing == ("Gets", 1)},
+        "only the ids below 4 publish": steps(SetFlag=published_below),
+        "a second load teaches nothing": steps(LoadPointer=loads_once),
+        "a look at an empty slot teaches nothing": steps(LookAtFlag=looks_in_vain),
+        "memory is asked for after a look": steps(MakeBucket=asks_beside),
+        "an error ends a call at id 0 alone": steps(WriteValue=fails_at_first),
+        "no publishing is said to be refused": {"is_refused": refuses_takes_alone},
+        "a refused call leaves a known view": {"view_after": forgets_known},
+        "a look of a walk reads nothing": {"WALK_STEPS": {**model.WALK_STEPS, "Look": reads_nothing}},
+        "takes below a bound may meet it": {"takes_below": lambda bound, core, events: kept_below(bound + 1, core, events)},
+        "takes below a bound come below a smaller one": {"takes_below": lambda bound, core, events: kept_below(bound - 1, core, events)},
+        "nothing refused is said of the first event": {"refuses_nothing": lambda core, events: kept_nothing(core, events[:1])},
+    }
+
+
 def try_wrong_bodies(seed, runs, length):
     """Says for each wrong body which clauses fail first, and whether the story breaks. Returns those that nothing refuses."""
     left = []
-    for name, body in {**wrong_bodies(), **more_wrong_bodies()}.items():
+    for name, body in {**wrong_bodies(), **more_wrong_bodies(), **wrong_effects()}.items():
         kept = {key: getattr(model, key) for key in body}
         for key, it in body.items():
             setattr(model, key, it)
@@ -1024,7 +1355,7 @@ def main():
     elif story():
         print(f"the story fails: {story()}")
     else:
-        print(f"{count} schedules of up to {given.events} events: all {len(CLAUSES)} clauses and the story hold")
+        print(f"{count} schedules of up to {given.events} events: all {len(CLAUSES) + len(WHOLE)} clauses and the story hold")
     sys.exit(1 if failed or story() else 0)
 
 

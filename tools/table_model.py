@@ -399,6 +399,26 @@ def local_step(core, number, step):
     return with_local(replace(core, table=after[0]), number, after[1])
 
 
+def steps_left(local):
+    """How many steps the calls under way still make until all have ended, if each makes no step twice."""
+    match local.doing:
+        case ("Gets", 0):
+            return 0
+        case ("Gets", count):
+            return count + {"Unknown": 2, "Standing": 1}.get(local.learnt[0], 0)
+        case ("Started", _):
+            return {"Unknown": 5, "Missing": 4, "Standing": 3, "Vacant": 2, "Holding": 1}[local.learnt[0]]
+        case ("Private", _, _):
+            return 3
+        case ("Written", _):
+            return 1
+
+
+def private_slots(identity, doing):
+    """How many slots the bucket has that a call has made and not yet offered."""
+    return 2 ** bucket_of(identity) if doing[0] == "Private" else 0
+
+
 def is_idle(doing):
     return doing == ("Gets", 0)
 
@@ -570,6 +590,28 @@ def run(core, events):
 
 def is_exclusive(event):
     return event[0] == "Owner"
+
+
+def is_take(event):
+    return event[0] == "TakeId"
+
+
+def refuses_nothing(core, events):
+    """No event of a schedule ends in a refusal."""
+    for event in events:
+        if is_refused(core, event):
+            return False
+        core = happens(core, event)
+    return True
+
+
+def takes_below(bound, core, events):
+    """Each take of a schedule comes while fewer than this many ids are held."""
+    for event in events:
+        if is_take(event) and not held_count(core.held) < bound:
+            return False
+        core = happens(core, event)
+    return True
 
 
 def is_refused(core, event):
