@@ -208,7 +208,7 @@ fn a_refused_insert_hands_its_value_back(rt: HostRuntime) -> Result<(), Fail> {
 }
 
 #[test]
-fn want_of_memory_never_stands_for_a_capacity_that_is_too_large(rt: HostRuntime) {
+fn out_of_memory_never_stands_for_a_capacity_that_is_too_large(rt: HostRuntime) {
     let too_large = ThreadLocal::<u64>::with_capacity(rt.alloc(), 9223372036854775808);
     assert!(rt; matches!(too_large, Err(CapacityError::TooLarge)));
 }

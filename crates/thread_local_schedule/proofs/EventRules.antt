@@ -93,8 +93,8 @@ pub iter_mut : {V E : Type 0} (core : Core V E) (others : ℕ → V → V) → I
     → happens core (Owner (IterMut others)) ≡ record core { table = rewritten core.table others }
 iter_mut core others t = owner_goes core (IterMut others) t
 
-pub want_of_memory : {V E : Type 0} (core : Core V E) (n : ℕ) → IsTrue (is_enabled core (OfLocal n (MakeBucket true))) → IsTrue (is_refused core (OfLocal n (MakeBucket true)))
-want_of_memory core n t = rw t refl
+pub out_of_memory : {V E : Type 0} (core : Core V E) (n : ℕ) → IsTrue (is_enabled core (OfLocal n (MakeBucket true))) → IsTrue (is_refused core (OfLocal n (MakeBucket true)))
+out_of_memory core n t = rw t refl
 
 -- the room changes by takes alone, and never falls
 record RoomGoes {V E : Type 0} (core : Core V E) (event : Event V E) (after : Core V E) : Type 0 where

@@ -99,7 +99,7 @@ pub fn every_event<V, E>()
 
     // A call that is out of memory ends in a refusal. The room changes by takes alone, and never
     // falls.
-    ensures want_of_memory { (core : Core V E) (n : ℕ)
+    ensures out_of_memory { (core : Core V E) (n : ℕ)
         → IsTrue (is_enabled core (OfLocal n (MakeBucket true)))
         → IsTrue (is_refused core (OfLocal n (MakeBucket true))) }
     ensures room_stays { (core : Core V E) (event : Event V E)

@@ -62,8 +62,8 @@ returns-clause-slots g c = rule.slots
 pub returns-clause-iter_mut : goal.returns-clause-iter_mut
 returns-clause-iter_mut g c = rule.iter_mut
 
-pub returns-clause-want_of_memory : goal.returns-clause-want_of_memory
-returns-clause-want_of_memory g c = rule.want_of_memory
+pub returns-clause-out_of_memory : goal.returns-clause-out_of_memory
+returns-clause-out_of_memory g c = rule.out_of_memory
 
 pub returns-clause-room_stays : goal.returns-clause-room_stays
 returns-clause-room_stays g c = rule.room_stays
