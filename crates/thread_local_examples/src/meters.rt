@@ -21,7 +21,10 @@ pub fn handle<R: Wait>(meters: &ThreadLocal<Meter>, rt: &R, sizes: &[u64]) -> bo
     let Ok(mut local) = meters.local(rt) else {
         return false;
     };
-    let fresh = || Meter { requests: Cell::new(0), bytes: Cell::new(0) };
+    let fresh = || Meter {
+        requests: Cell::new(0),
+        bytes: Cell::new(0),
+    };
     let Ok(meter) = local.get_or(fresh) else {
         return false;
     };
@@ -42,8 +45,11 @@ mod tests {
     fn workers_meter_what_they_handle(rt: HostRuntime) -> Result<(), Fail> {
         Meter::judge();
         let meters = ThreadLocal::<Meter>::new(rt.alloc());
-        let handled =
-            thread::join(&rt, || handle(&meters, &rt, &[5, 7]), || handle(&meters, &rt, &[30]));
+        let handled = thread::join(
+            &rt,
+            || handle(&meters, &rt, &[5, 7]),
+            || handle(&meters, &rt, &[30]),
+        );
         let mut requests = 0u64;
         let mut bytes = 0u64;
         for meter in meters {
