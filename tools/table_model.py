@@ -252,8 +252,14 @@ def new_core():
     return made_core(0, 0)
 
 
+def all_published(table):
+    """The published values by ascending id: the buckets' slots, one bucket after another."""
+    rows = [(Slot(),) * 2**b if named is None else named.slots for b, named in enumerate(table.pointers)]
+    return tuple(it.written if it.flag else None for row in rows for it in row)
+
+
 def shadow(core):
-    return Sheet(core.held, tuple(published(core.table, k) for k in range(IDS)), core.capacity)
+    return Sheet(core.held, all_published(core.table), core.capacity)
 
 
 # ---- events --------------------------------------------------------------------------------------------
@@ -455,7 +461,7 @@ def at_place(walking):
 def walk_load(table, walking):
     if walking.looks or is_complete(walking):
         return None
-    first = tuple(published(table, k) for k in range(IDS)) if walking.loads == 0 else walking.first
+    first = all_published(table) if walking.loads == 0 else walking.first
     loaded = replace(walking, loads=walking.loads + 1, first=first)
     return at_place(loaded) if bucket_stands(table, walking.bucket) else at_next_bucket(loaded)
 
