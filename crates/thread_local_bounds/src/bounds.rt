@@ -85,7 +85,8 @@ pub fn every_bound<V, E>()
 /// bucket not offered yet has its call's own slots, and a schedule that refuses nothing, or takes
 /// below a number, does so at each of its events.
 pub fn bounds_say<V, E>()
-    ensures installed { (core : Core V E) → installed_slots core ≡ slots (bucket_stands core.table) }
+    ensures installed { (core : Core V E)
+        → installed_slots core ≡ slots (bucket_stands core.table) }
     ensures private { (id : ℕ) (doing : Doing V E) (number : ℕ)
         → own_number doing ≡ Some number → private_slots id doing ≡ 2 ^ bucket_of id }
     ensures nothing { (core : Core V E) (events later : List (Event V E)) (event : Event V E)

@@ -4,8 +4,8 @@ ghost use Rattle.thread_local_model.specs.Sheet.{Sheet, new_sheet};
 ghost use Rattle.thread_local_core.specs.Core.{Core, made_core, new_core, shadow};
 ghost use Rattle.thread_local_core.specs.CoreFits.{CoreFits};
 
-/// A new core fits, with any capacity below 2^63, and shows a sheet with no id held and no value. It
-/// is open, has no `Local` and no walk, and none has come so far.
+/// A new core fits, with any capacity below 2^63, and shows a sheet with no id held and no value.
+/// It is open, has no `Local` and no walk, and none has come so far.
 pub fn made_cores_fit<V, E>()
     ensures fits { (capacity extra : ℕ)
         → capacity < 2 ^ 63

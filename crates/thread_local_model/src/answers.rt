@@ -37,8 +37,8 @@ pub fn a_first_view_shows_its_sheet<V>()
         (IsTrue (is_reserved sheet.capacity id) ⊎ IsSome (sheet.values id)) }
 {}
 
-/// A load teaches whether the bucket stands, wherever that isn't known, so also where the bucket was
-/// missing before. A look at a slot whose bucket stands teaches what the slot shows.
+/// A load teaches whether the bucket stands, wherever that isn't known, so also where the bucket
+/// was missing before. A look at a slot whose bucket stands teaches what the slot shows.
 pub fn loads_and_looks_teach_what_they_see<V>()
     ensures load { (before after : Learnt V) (stands : Bool)
         → learnt_by_load before stands ≡ Some after

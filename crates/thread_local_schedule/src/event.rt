@@ -17,7 +17,8 @@ ghost use Rattle.thread_local_schedule.specs.Schedule.{is_take, is_refused, is_g
 pub fn every_event<V, E>()
     // A new table is open. What schedules reach are the tables made with a capacity below 2^63, and
     // what any event makes of a reached one.
-    ensures made_open { (capacity extra : ℕ) → (made_core {V = V} {E = E} capacity extra).ended ≡ false }
+    ensures made_open { (capacity extra : ℕ)
+        → (made_core {V = V} {E = E} capacity extra).ended ≡ false }
     ensures reached_first { (capacity extra : ℕ)
         → capacity < 2 ^ 63 → IsReached {V = V} {E = E} (made_core capacity extra) }
     ensures reached_next { (core : Core V E) (event : Event V E)

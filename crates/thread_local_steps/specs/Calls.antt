@@ -87,7 +87,8 @@ looks_left Unknown = 2
 looks_left Standing = 1
 looks_left learnt = 0
 
--- how many steps a publishing call still makes that has no bucket of its own and has written nothing
+-- how many steps a publishing call still makes that has no bucket of its own and has written
+-- nothing
 abbrev pub started_left : {V : Type 0} → Learnt V → ℕ
 started_left Unknown = 5
 started_left Missing = 4

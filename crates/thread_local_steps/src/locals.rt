@@ -21,8 +21,8 @@ pub fn every_local_step<V, E>()
         → IfSome (local_step table local step) (λ after. GoesOn step local after.1) }
     ensures numbers { (table : Table V) (local : Local V E) (step : LocalStep V E)
         → IfSome (local_step table local step) (NumbersGo table local) }
-    // A bucket of the call's own means that it found the bucket missing, and a written value that it
-    // found the slot vacant.
+    // A bucket of the call's own means that it found the bucket missing, and a written value that
+    // it found the slot vacant.
     ensures learnt { (table : Table V) (local : Local V E) (step : LocalStep V E)
         → HasLearnt local.doing local.learnt
         → IfSome (local_step table local step)
