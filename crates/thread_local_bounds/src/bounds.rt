@@ -81,9 +81,9 @@ pub fn every_bound<V, E>()
         → told ≢ Refused }
 {}
 
-/// What the words of the bounds say: the installed slots are those of the buckets that stand, a
-/// bucket not offered yet has its call's own slots, and a schedule that refuses nothing, or takes
-/// below a number, does so at each of its events.
+/// What four words of the bounds say: the installed slots are those of the buckets that stand, a
+/// bucket not offered yet has all slots of its id's bucket, a schedule that refuses nothing refuses
+/// none of its events, and takes below a number are those that each come while fewer ids are held.
 pub fn bounds_say<V, E>()
     ensures installed { (core : Core V E)
         → installed_slots core ≡ slots (bucket_stands core.table) }

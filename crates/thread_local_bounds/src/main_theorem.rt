@@ -13,7 +13,8 @@ ghost use Rattle.thread_local_bounds.specs.Bounds.{TakesBelow, NothingRefused};
 /// What a table is for, over every schedule of atomic steps from a table of any capacity below
 /// 2^63: each `Local` gets the least id not held; a slot's first published value stays until an
 /// owner's call; an owner is alone, and walks exactly the published values, each once, by ascending
-/// id; and the most ids held at once bounds the slots and, within the capacity, rules out refusals.
+/// id; and where each take comes while fewer than p ids are held, that bounds the slots and, within
+/// the capacity, rules out refusals.
 pub fn headline<V, E>()
     // Each Local gets the least id that isn't held.
     ensures least_id { (capacity extra : ℕ) (events : List (Event V E)) (event : Event V E)

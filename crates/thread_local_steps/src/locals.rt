@@ -31,7 +31,7 @@ pub fn every_local_step<V, E>()
         → ChangesOnly old new id → id ≢ local.id → LocalFits old local → LocalFits new local }
 
     // A get begins where no publishing call is under way, and a publishing call where no call is. A
-    // call under way can go on, and comes to its end.
+    // call under way can go on, and can come to its end.
     ensures begins_get { (table : Table V) (local : Local V E)
         → closure_of local.doing ≡ None → IsSome (local_step table local BeginGet) }
     ensures begins_get_or { (table : Table V) (local : Local V E) (create : Result V E)
