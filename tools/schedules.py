@@ -562,13 +562,13 @@ def clause_room_grows(m):
 
 def clause_known_answers(m):
     """Where the bucket is known, a call answers, and leaves the view, as if memory weren't refused."""
-    for _, it in changed(m):
-        for known in (View(it.start.value, True), View(None, True)):
-            for create in (("Ok", "any"), ("Err", "any")):
-                told = [(model.answer(known, it), model.view_after(known, it)) for it in (("GetOr", create, memory) for memory in (True, False))]
-                if told[0] != told[1]:
-                    return False
-    return True
+
+    def told(view, create, memory):
+        call = ("GetOr", create, memory)
+        return model.answer(view, call), model.view_after(view, call)
+
+    views = [View(value, True) for _, it in changed(m) for value in (it.start.value, None)]
+    return all(told(view, it, True) == told(view, it, False) for view in views for it in (("Ok", "any"), ("Err", "any")))
 
 
 # ---- clauses on what the words of the bounds say -----------------------------------------------------------
@@ -743,8 +743,10 @@ def one_schedule(seed, length, seen):
     first = core = model.made_core(capacity, chance.choice([0, 0, 1, 3]))
     most, bound, publishings, refusals, events, waiting = 0, 0, 0, 0, [], []
     for mark in range(length):
-        if not waiting and chance.random() < 0.012:
+        if not waiting and chance.random() < 0.02:
             waiting = quiet_events(chance, core)
+        while waiting and not model.is_enabled(core, waiting[0]):
+            waiting.pop(0)
         event = waiting.pop(0) if waiting else random_event(chance, core, mark)
         for _ in range(3):  # mostly an event that is enabled
             if not model.is_enabled(core, event) and not waiting and chance.random() < 0.9:
@@ -1166,7 +1168,7 @@ def wrong_effects():
         "a refused call leaves a known view": {"view_after": forgets_known},
         "a look of a walk reads nothing": {"WALK_STEPS": {**model.WALK_STEPS, "Look": reads_nothing}},
         "takes below a bound may meet it": {"takes_below": lambda bound, core, events: kept_below(bound + 1, core, events)},
-        "takes below a bound come below a smaller one": {"takes_below": lambda bound, core, events: kept_below(bound - 1, core, events)},
+        "takes below a bound come below a lower one": {"takes_below": lambda bound, core, events: kept_below(bound - 1, core, events)},
         "nothing refused is said of the first event": {"refuses_nothing": lambda core, events: kept_nothing(core, events[:1])},
     }
 
@@ -1331,7 +1333,7 @@ def show(seed):
 def main():
     options = argparse.ArgumentParser(description=__doc__.splitlines()[0])
     options.add_argument("--seed", type=int, default=1)
-    options.add_argument("--runs", type=int, help="how many schedules: 2000 (under five minutes), or 100 with --short")
+    options.add_argument("--runs", type=int, help="how many schedules: 1500 (under five minutes), or 100 with --short")
     options.add_argument("--short", action="store_true", help="fewer schedules: under 20 seconds")
     options.add_argument("--events", type=int, default=250)
     options.add_argument("--buckets", type=int, default=3)
@@ -1341,7 +1343,7 @@ def main():
     if given.show is not None:
         model.set_buckets(2)
         return show(given.show)
-    runs = given.runs or (100 if given.short else 2000)
+    runs = given.runs or (100 if given.short else 1500)
     model.set_buckets(given.buckets)
     if given.wrong:
         sys.exit(1 if try_wrong_bodies(given.seed, runs, given.events) else 0)
