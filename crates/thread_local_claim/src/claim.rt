@@ -11,7 +11,7 @@ use crate::replaced::replace_with;
 use std::alloc::Global;
 use std::marker::Model;
 use thread_local_blocks::{Block, flag_word};
-use thread_local_rights::HeldId;
+use thread_local_rights::{HeldId, Right};
 use thread_local_shared_bucket::SharedBucket;
 use thread_local_thread_id::Thread;
 
@@ -24,10 +24,12 @@ use thread_local_thread_id::Thread;
 pub struct Claim<'a, T> {
     slot: ClaimedSlot<'a, T>,
     thread: Thread,
+    /// The id's mark, which has no bytes.
+    mark: Right,
 }
 
 impl<'a, T> Model for Claim<'a, T> {
-    ghost use Rattle.std.specs.Prelude.{◌≡◌};
+    ghost use Rattle.std.specs.Prelude.{◌≡◌, ◌+◌, ◌^◌};
     ghost use Rattle.thread_local_model.specs.Place.{bucket_of, index_of};
     ghost use Rattle.thread_local_claim_logic.specs.Known.{IsKnown};
     ghost use Rattle.thread_local_claim.specs.Views.{ClaimView, claim_view_coded};
@@ -48,7 +50,9 @@ impl<'a, T> Model for Claim<'a, T> {
         (c.thread.bucket ≡ bucket_of c.slot.id)
         × (c.thread.index ≡ index_of c.slot.id)
         × (c.slot.index ≡ c.thread.index)
-        × IsKnown c.slot.learnt };
+        × IsKnown c.slot.learnt
+        × (c.mark.table ≡ c.slot.table)
+        × (c.mark.id ≡ c.slot.id + 2 ^ 63) };
 }
 
 impl<'a, T> Claim<'a, T> {
@@ -66,11 +70,12 @@ impl<'a, T> Claim<'a, T> {
         ensures reserved { (result.reserved ≡ bucket.now.reserved)
             × (result.reserved ≡ true → result.learnt ≢ Missing) }
     {
-        let (_, right) = held.into_parts();
+        let (_, right, mark) = held.into_parts();
         let slot = ClaimedSlot::hold(bucket, thread.index, right);
         Claim {
             slot: slot.find(thread.index, number_of_word::<T>(thread)),
             thread,
+            mark,
         }
     }
 
@@ -161,11 +166,21 @@ impl<'a, T> Claim<'a, T> {
     pub fn give_up(self) -> HeldId
         ensures { (result.right.table ≡ self.entry.table) × (result.id ≡ self.entry.id) }
     {
-        let Self { slot, thread } = self;
+        let Self { slot, thread, mark } = self;
         HeldId {
             id: thread.id(),
             right: slot.give_up(),
+            mark,
         }
+    }
+
+    /// Shows that two claims of one table are of different slots. At run time it does nothing.
+    pub fn apart(&mut self, other: &mut Claim<'_, T>)
+        requires { self.old.table ≡ other.old.table }
+        ensures ids { self.old.id ≢ other.old.id }
+        ensures same { (self.new ≡ self.old) × (other.new ≡ other.old) }
+    {
+        self.mark.apart(&mut other.mark)
     }
 }
 

@@ -1,5 +1,5 @@
 -- What a contract sees of a table's ids, and how the held ids are tied to the rights that are out.
-use Rattle.std.specs.Prelude.{◌≡◌, ℕ}
+use Rattle.std.specs.Prelude.{◌≡◌, ℕ, ◌+◌, ◌^◌, ◌<◌}
 use Rattle.thread_local_model.specs.Held.{Manager, is_held}
 use Rattle.thread_local_rights.specs.Rights.{is_out}
 use Rattle.thread_local_ids.specs.declared.ids.Ids.TheInside.{Inside}
@@ -12,6 +12,6 @@ pub record TableIds : Type 0 where
 abbrev pub ids_of : Inside → TableIds
 ids_of i = record { manager = i.manager; table = i.rights.table }
 
--- the right to an id is out exactly where the id is held
+-- the right to an id is out exactly where the id is held, and so is its mark
 abbrev pub IsTied : Inside → Type 0
-IsTied i = (id : ℕ) → is_out i.rights.out id ≡ is_held i.manager.held id
+IsTied i = (id : ℕ) → id < 2 ^ 63 → (is_out i.rights.out id ≡ is_held i.manager.held id) × (is_out i.rights.out (id + 2 ^ 63) ≡ is_held i.manager.held id)

@@ -9,6 +9,9 @@ use thread_local_lock::Fits;
 use thread_local_rights::{HeldId, Rights};
 use thread_local_thread_id::{LocalError, ThreadIdManager};
 
+/// The mark of an id is the right to the number that lies so far beyond it, and beyond every id.
+const FIRST_MARK: usize = 1 << 63;
+
 /// Gives out the least id that isn't held, with the right to it, and takes both back. Only
 /// `with_room` and `take` take memory.
 ///
@@ -79,7 +82,8 @@ impl Ids {
     {
         let id = self.manager.alloc()?;
         let right = self.rights.take(id);
-        Ok(HeldId { id, right })
+        let mark = self.rights.take(id + FIRST_MARK);
+        Ok(HeldId { id, right, mark })
     }
 
     /// Takes a held id of this table back, with its right.
@@ -88,8 +92,9 @@ impl Ids {
         ensures given { Gives self.old.manager self.new.manager held.id }
         ensures table { self.new.table ≡ self.old.table }
     {
-        let (id, right) = held.into_parts();
+        let (id, right, mark) = held.into_parts();
         self.rights.put_back(right);
+        self.rights.put_back(mark);
         self.manager.free(id);
     }
 
