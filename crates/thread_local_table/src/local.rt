@@ -81,6 +81,16 @@ impl<'a, T, R: Wait> Local<'a, T, R> {
         self.seat.id()
     }
 
+    /// Shows that two `Local`s of one table have different ids. At run time it does nothing. Rust's
+    /// crate has no such call.
+    pub fn apart<S: Wait>(&mut self, other: &mut Local<'_, T, S>)
+        requires { self.old.table ≡ other.old.table }
+        ensures ids { self.old.id ≢ other.old.id }
+        ensures same { (self.new ≡ self.old) × (other.new ≡ other.old) }
+    {
+        self.seat.apart(&mut other.seat)
+    }
+
     /// Whether the slot is one of the table's reserved slots. If so, the `get_or` family is never
     /// refused memory. Rust's crate has no such call.
     pub fn is_reserved(&self) -> bool

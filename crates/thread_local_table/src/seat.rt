@@ -209,6 +209,15 @@ impl<'a, T> Seat<'a, T> {
         Ok(self.value())
     }
 
+    /// Shows that two seats of one table have different ids. At run time it does nothing.
+    pub fn apart(&mut self, other: &mut Seat<'_, T>)
+        requires { self.old.table ≡ other.old.table }
+        ensures ids { self.old.id ≢ other.old.id }
+        ensures same { (self.new ≡ self.old) × (other.new ≡ other.old) }
+    {
+        self.claim.apart(&mut other.claim)
+    }
+
     /// Gives the id back to the table that it is of. May wait, and takes no memory.
     pub(crate) fn give_back<R: Wait>(self, rt: &R) {
         let Self { table, claim } = self;

@@ -1,5 +1,5 @@
 //! Callers at concrete types and generic ones, which are proved and not run.
-ghost use Rattle.std.specs.Prelude.{◌≡◌, IfOk, None, true, OnErr};
+ghost use Rattle.std.specs.Prelude.{◌≡◌, IfOk, IfSome, None, true, OnErr};
 ghost use Rattle.thread_local_judged.specs.Judged.{Judged};
 
 use std::alloc::{AllocError, Global};
@@ -67,6 +67,16 @@ where
     let id = local.id();
     let published = local.get_or(|| value).is_ok();
     local.id() == id || !published
+}
+
+/// Two `Local`s that are held at once have two ids.
+fn have_two_ids<T, R: Wait>(table: &ThreadLocal<T>, rt: &R) -> Option<bool>
+    ensures { IfSome result (λ differ. differ ≡ true) }
+{
+    let mut first = table.local(rt).ok()?;
+    let mut second = table.local(rt).ok()?;
+    first.apart(&mut second);
+    Some(first.id() != second.id())
 }
 
 fn number(alloc: Global) -> ThreadLocal<u32>
