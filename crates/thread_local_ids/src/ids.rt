@@ -1,5 +1,5 @@
 //! An id of a table is held, with its right out, or it is free, with its right here.
-ghost use Rattle.std.specs.Prelude.{◌≡◌, ◌-◌, ◌^◌, ◌≤◌, min, [], IsOk, OnErr, IfOk};
+ghost use Rattle.std.specs.Prelude.{◌≡◌, ◌≢◌, ◌+◌, ◌-◌, ◌^◌, ◌≤◌, ◌<◌, min, [], IsOk, OnErr, IfOk};
 ghost use Rattle.std.specs.Prelude.{alloc_error};
 ghost use Rattle.thread_local_model.specs.Held.{is_held, Takes, Gives, NeedsMemory, IsExhausted};
 
@@ -60,6 +60,7 @@ impl Ids {
     pub fn with_room(alloc: Global, ids: usize) -> Result<Ids, AllocError>
         ensures held { IfOk result (λ table. table.manager.held ≡ []) }
         ensures room { IfOk result (λ table. min ids (2 ^ 63 - 1) ≤ table.manager.room) }
+        ensures few { IfOk result (λ table. table.manager.room < min ids (2 ^ 63 - 1) + 64) }
         ensures room_in_range { IfOk result (λ table. table.manager.room ≤ 2 ^ 63 - 1) }
         ensures no_ids { ids ≡ 0 → IsOk result }
     {
@@ -99,13 +100,16 @@ impl Ids {
     }
 
     /// Takes every id back, and counts the peak anew. The room stays. The rights are fresh
-    /// ones, since the right of a holder that was forgotten is lost.
+    /// ones, under another name, since the right of a holder that was forgotten is lost.
     pub fn clear(&mut self)
+        ensures table { self.new.table ≢ self.old.table }
         ensures held { self.new.manager.held ≡ [] }
         ensures room { self.new.manager.room ≡ self.old.manager.room }
     {
         self.manager.clear();
-        self.rights = Rights::new();
+        let mut rights = Rights::new();
+        self.rights.apart(&mut rights);
+        self.rights = rights;
     }
 
     /// The rights of the ids that aren't held, which name the table.

@@ -76,8 +76,8 @@ same_manager a b held room = ap (λ h. record { held = h; room = a.room }) held 
 
 -- the least free id becomes held, where the room is large enough: an id is taken
 pub takes : (old new : Manager) (id : ℕ) → id ≡ least old.held → id < 2 ^ 63 - 1 → new.held ≡ with_least old.held
-    → old.room ≤ new.room → length new.held ≤ new.room → new.room ≤ 2 ^ 63 - 1 → Takes old new id
-takes old new id first in_range held room peak_in_room room_in_range = record {
+    → old.room ≤ new.room → (id < old.room → new.room ≡ old.room) → new.room ≤ old.room + 64 → length new.held ≤ new.room → new.room ≤ 2 ^ 63 - 1 → Takes old new id
+takes old new id first in_range held room stays few peak_in_room room_in_range = record {
   least = first;
   in_range = in_range;
   growth = new.room - max old.room (length (with_least old.held));
@@ -86,6 +86,8 @@ takes old new id first in_range held room peak_in_room room_in_range = record {
   at = λ other. rw (held, first) (is_held-with_least old.held other);
   peak = rw (held, first) (length-with_least old.held);
   room = room;
+  stays = stays;
+  few = few;
   peak_in_room = peak_in_room;
   room_in_range = room_in_range;
 }

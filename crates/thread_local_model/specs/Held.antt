@@ -61,8 +61,8 @@ abbrev pub given_to : Manager → ℕ → Manager
 given_to manager id = record manager { held = without manager.held id }
 
 -- `new` is `old` once an id is taken. The id is the least that wasn't held, and is held from now
--- on; no other id changes. The peak grows by one where every id below it was held, and the room
--- doesn't fall.
+-- on; no other id changes. The peak grows by one where every id below it was held. The room stays
+-- where the id has room already, and never grows by more than 64.
 pub record Takes (old new : Manager) (id : ℕ) : Type 0 where
   pub least : id ≡ least old.held
   pub in_range : id < 2 ^ 63 - 1
@@ -72,6 +72,8 @@ pub record Takes (old new : Manager) (id : ℕ) : Type 0 where
   pub at : (other : ℕ) → is_held new.held other ≡ (if id == other then true else is_held old.held other)
   pub peak : length new.held ≡ (if id == length old.held then length old.held + 1 else length old.held)
   pub room : old.room ≤ new.room
+  pub stays : id < old.room → new.room ≡ old.room
+  pub few : new.room ≤ old.room + 64
   pub peak_in_room : length new.held ≤ new.room
   pub room_in_range : new.room ≤ 2 ^ 63 - 1
 

@@ -72,6 +72,7 @@ impl ThreadIdManager {
     pub fn with_room(alloc: Global, ids: usize) -> Result<ThreadIdManager, AllocError>
         ensures held { IfOk result (λ manager. manager.held ≡ []) }
         ensures room { IfOk result (λ manager. min ids (2 ^ 63 - 1) ≤ manager.room) }
+        ensures few { IfOk result (λ manager. manager.room < min ids (2 ^ 63 - 1) + 64) }
         ensures room_in_range { IfOk result (λ manager. manager.room ≤ 2 ^ 63 - 1) }
         ensures no_ids { ids ≡ 0 → IsOk result }
     {
@@ -109,6 +110,8 @@ impl ThreadIdManager {
         requires { id ≡ least self.old.held }
         ensures held { self.new.held ≡ self.old.held }
         ensures room { self.old.room ≤ self.new.room }
+        ensures stays { id < self.old.room → self.new.room ≡ self.old.room }
+        ensures few { self.new.room ≤ self.old.room + 64 }
         ensures ok { OnOk result ((id < self.new.room) × (id < 2 ^ 63 - 1)) }
         ensures memory { result ≡ Err (LocalError.Memory alloc_error) → NeedsMemory self.old }
         ensures exhausted { result ≡ Err LocalError.Exhausted → IsExhausted self.old }

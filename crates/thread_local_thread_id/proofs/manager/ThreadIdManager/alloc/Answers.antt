@@ -6,4 +6,5 @@ use Rattle.thread_local_thread_id.proofs.manager.ThreadIdManager.alloc.Goals as 
 pub returns-clause-ok : goal.returns-clause-ok
 returns-clause-ok c =
     let held = c.hold.ensures.held ∙ ap with_least c.in_ok-make_room.ensures.held in
-    takes c.args.self.now _ _ c.least_free-id.ensures.least c.in_ok-make_room.ensures.ok.1 held (search rules) c.hold.ensures.peak_in_room c.hold.ensures.room_in_range
+    takes c.args.self.now _ _ c.least_free-id.ensures.least c.in_ok-make_room.ensures.ok.1 held (search rules)
+    (λ low. c.hold.ensures.room ∙ c.in_ok-make_room.ensures.stays low) (search rules) c.hold.ensures.peak_in_room c.hold.ensures.room_in_range

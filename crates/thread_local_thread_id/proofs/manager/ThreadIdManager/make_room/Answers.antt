@@ -59,3 +59,15 @@ returns-clause-ok c =
     let under = c.self.invariant.peak in
     let range = c.if-id-ge-IDS.false in
     (rw (grown c) (omega (arith, length_push c.self.inside.words.items 0)), range)
+
+pub returns-clause-stays : goal.returns-clause-stays
+returns-clause-stays c = λ low.
+    let len = c.len-words.ensures in
+    let none = c.if-id-words.false in
+    let room : c.args.self.now.room ≡ min (length c.self.inside.words.items * 64) (2 ^ 63 - 1) = sym (ap (λ m. m.room) c.self.view_is) in
+    absurd (omega arith)
+
+pub returns-clause-few : goal.returns-clause-few
+returns-clause-few c =
+    let room : c.args.self.now.room ≡ min (length c.self.inside.words.items * 64) (2 ^ 63 - 1) = sym (ap (λ m. m.room) c.self.view_is) in
+    rw (grown c) (omega (arith, length_push c.self.inside.words.items 0))
