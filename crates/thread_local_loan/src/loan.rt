@@ -131,4 +131,5 @@ impl<T> FlagSource for Loan<'_, T> {
 
 unsafe impl<T: Send> Send for Loan<'_, T> {}
 
-unsafe impl<T: Sync> Sync for Loan<'_, T> {}
+// A `&` to a loan gives access to none of the values.
+unsafe impl<T> Sync for Loan<'_, T> {}
