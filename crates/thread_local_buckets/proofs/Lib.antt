@@ -1,1 +1,2 @@
 mod Refilling
+mod Reserving

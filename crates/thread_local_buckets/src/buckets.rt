@@ -167,6 +167,7 @@ impl<T> Buckets<T> {
     /// How many slots the buckets that stand have together.
     pub fn slots(&mut self) -> usize
         ensures value { result ≡ slots (stands self.old.contents) }
+        ensures reserved { self.old.reserved ≤ result }
         ensures same { self.new ≡ self.old }
     {
         let mut slots = 0;

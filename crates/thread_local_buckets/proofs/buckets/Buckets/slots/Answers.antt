@@ -3,6 +3,7 @@ use Rattle.thread_local_model.specs.Buckets.{Contents, stands, slots}
 use Rattle.thread_local_model.specs.Owned.{Owned}
 use Rattle.thread_local_model.proofs.SlotsLaws.{slots_below-lt}
 use Rattle.thread_local_owner_walk.proofs.StandingLaws.{slots_below-zero, slots_below-standing, slots_below-absent, slots-all}
+use Rattle.thread_local_buckets.proofs.Reserving.{few_reserved}
 use Rattle.thread_local_buckets.proofs.buckets.Buckets.slots.Goals as goal
 use Rattle.thread_local_buckets.proofs.buckets.Buckets.slots.Goals.{then-stands, else-stands}
 
@@ -36,3 +37,10 @@ loop-bucket-preserved g c =
 pub returns-clause-value : goal.returns-clause-value
 returns-clause-value g c =
     c.loop-bucket.invariant.counted ∙ slots-all (stands c.self.inside.pointers) c.loop-bucket.bucket (omega arith) ∙ ap (λ (o : Owned _). slots (stands o.contents)) c.self.view_is
+
+pub returns-clause-reserved : goal.returns-clause-reserved
+returns-clause-reserved g c =
+    let value = c.loop-bucket.invariant.counted ∙ slots-all (stands c.self.inside.pointers) c.loop-bucket.bucket (omega arith) in
+    let few = few_reserved (record { contents = c.self.inside.pointers; reserved = c.self.inside.reserved }) c.self.invariant in
+    let same = ap (λ (o : Owned _). o.reserved) c.self.view_is in
+    omega arith
