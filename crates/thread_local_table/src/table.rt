@@ -135,6 +135,7 @@ impl<T> ThreadLocal<T> {
 
     /// How many slots the table's buckets have together. Rust's crate has no such call.
     pub fn slots(&mut self) -> usize
+        ensures reserved { self.old.reserved ≤ result }
         ensures same { self.new ≡ self.old }
     {
         self.buckets.owner().slots()
