@@ -2,6 +2,8 @@
 ghost use Rattle.std.specs.Prelude.{◌≡◌, ◌≢◌, ℕ, ◌≤◌};
 
 use std::sync::Wait;
+use std::sync::atomic::AtomicBool;
+use std::sync::atomic::Ordering::SeqCst;
 use std::test::Fail;
 use std::thread;
 use std::thread::Threads;
@@ -79,6 +81,48 @@ fn a_lock_that_was_left_taken_stays_so(rt: HostRuntime) -> Result<(), Fail> {
     }
     assert!(rt; take_all(&shelf).is_none());
     assert_eq!(rt; shelf.into_inner(), Shelf { room: 5, goods: 7 });
+    Ok(())
+}
+
+/// How often a thread yields while it waits for another, or until others sleep.
+const YIELDS: u64 = 50_000;
+
+/// Takes the lock, says so, and has it until whoever waits for it sleeps.
+fn hold<R: Wait>(shelf: &Lock<Shelf>, rt: &R, is_held: &AtomicBool) {
+    let _guard = shelf.lock(rt);
+    is_held.store(true, SeqCst);
+    for _ in 0..YIELDS {
+        thread::yield_now();
+    }
+}
+
+/// Puts one there once another thread has the lock, and answers how often there was room.
+fn put_late<R: Wait>(shelf: &Lock<Shelf>, rt: &R, is_held: &AtomicBool) -> u64 {
+    for _ in 0..YIELDS {
+        if is_held.load(SeqCst) {
+            break;
+        }
+        thread::yield_now();
+    }
+    put_many(shelf, rt, 1)
+}
+
+// Two threads sleep for the lock when it is released: its next release wakes the second.
+#[test]
+fn each_sleeper_is_woken(rt: HostRuntime) -> Result<(), Fail> {
+    let shelf = Lock::new(Shelf { room: 5, goods: 0 });
+    let is_held = AtomicBool::new(false);
+    let (there, mark) = (&shelf, &is_held);
+    let (_, puts) = thread::join(
+        &rt,
+        || hold(there, &rt, mark),
+        || thread::join(
+            &rt,
+            || put_late(there, &rt, mark),
+            || put_late(there, &rt, mark),
+        ),
+    );
+    assert_eq!(rt; (puts, shelf.into_inner().goods), ((1, 1), 2));
     Ok(())
 }
 
