@@ -1,5 +1,5 @@
 -- What the words of a command line spell: moves, a tally, or neither.
-use Rattle.std.specs.Prelude.{◌≡◌, ℕ, ◌^◌, ◌&&◌, ◌++◌, List, [], ◌∷◌, length, nat_lt, map, flat_map, Option, Some, None, option_map, option_and_then, MatchOption, if◌then◌else◌, codes, bytes_eq, decimal, String, string_bytes}
+use Rattle.std.specs.Prelude.{◌≡◌, ℕ, ◌^◌, ◌&&◌, ◌++◌, List, [], ◌∷◌, length, nat_lt, map, flat_map, Option, Some, None, option_map, option_and_then, MatchOption, if◌then◌else◌, codes, bytes_eq, decimal, String, string_bytes, IsTrue}
 use Rattle.std.specs.Char.{is_ascii_digit}
 use Rattle.std.specs.List.{list_all}
 use Rattle.std.specs.declared.alloc.Global.{Global}
@@ -36,6 +36,11 @@ moves_of (word ∷ next ∷ words) =
 abbrev pub moves_named : List (List ℕ) → Option (List Move)
 moves_named [] = None
 moves_named (command ∷ words) = if bytes_eq command (codes "ids") && nat_lt 0 (length words) then moves_of words else None
+
+-- the words name moves: `ids`, and then at least one word
+abbrev pub NamesMoves : List (List ℕ) → Type 0
+NamesMoves [] = ⊥
+NamesMoves (command ∷ words) = IsTrue (bytes_eq command (codes "ids") && nat_lt 0 (length words))
 
 -- the workers and the numbers of a command line: `tally`, and then two numbers within the limits
 abbrev pub tally_of : List (List ℕ) → Option (ℕ × ℕ)

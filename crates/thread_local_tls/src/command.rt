@@ -1,9 +1,10 @@
 //! Runs a command: reads the words, runs it, then writes its output, or the line of its fault.
-ghost use Rattle.std.specs.Prelude.{◌≡◌, ◌≤◌, None, Some, OnOk, IfErr, IsErrOf};
+ghost use Rattle.std.specs.Prelude.{◌≡◌, ◌≤◌, ◌⊎◌, None, Some, Err, OnOk, IfErr, IsErrOf};
 ghost use Rattle.std.specs.Io.KnownBytes.{Appends, Keeps};
-ghost use Rattle.thread_local_tls.specs.Words.{texts, tally_of, lines_of, MayNotRun, IsMisuse, IsRunnable, MayBeRun};
+ghost use Rattle.thread_local_thread_id.specs.declared.manager.LocalError.{LocalError};
+ghost use Rattle.thread_local_tls.specs.Words.{texts, tally_of, lines_of, MayNotRun, IsMisuse, IsRunnable, NamesMoves, MayBeRun};
 ghost use Rattle.thread_local_tls.specs.Limits.{IsWithinLimits};
-ghost use Rattle.thread_local_tls.specs.Faults.{Answers, AnswersIds, IsToldAndWritten, IsHindered};
+ghost use Rattle.thread_local_tls.specs.Faults.{Answers, AnswersIds, IsToldAndWritten, IsTold, MayBeRefused, IsRefused, IsCutOff};
 
 use crate::fault::Fault;
 use crate::moves::ids;
@@ -15,8 +16,8 @@ use thread_local_thread_id::LocalError;
 /// Runs the command that the words name, and answers the program's status: 0 if it is done, 1 if
 /// memory, ids or a write was refused, 2 if the words are no command. The output goes to `out`,
 /// after the command has run, and the line of a fault to `err`; the status stays where that line
-/// can't be written. That `out` gets these bytes and no others is proved for writers whose bytes a
-/// contract can name.
+/// can't be written. What each gets, and nothing else, is proved for writers whose bytes a contract
+/// can name.
 ///
 /// `tally` adds the numbers up. It is called where the words spell a tally within the limits, and
 /// the call waits where it does. `run` takes memory for the moves and the ids.
@@ -34,8 +35,13 @@ pub fn run<T: FnOnce(usize, u64) -> Result<u64, LocalError> + Drop, O: Write, E:
     ensures status { result ≤ 2 }
     ensures done { result ≡ 0
         → Answers (T.post tally) (texts words.now) (O.contents out.old) (O.contents out.new) }
+    ensures silent { result ≡ 0 → Keeps (E.contents err.old) (E.contents err.new) }
     ensures misuse { result ≡ 2 → IsMisuse (texts words.now) × Keeps (O.contents out.old) (O.contents out.new) }
-    ensures hindered { result ≡ 1 → IsHindered (texts words.now) (O.contents out.old) (O.contents out.new) }
+    ensures usage { result ≡ 2 → IsTold Fault.Usage (E.contents err.old) (E.contents err.new) }
+    ensures hindered { result ≡ 1
+        → IsRefused (T.post tally) (texts words.now) (O.contents out.old) (O.contents out.new)
+        (E.contents err.old) (E.contents err.new)
+        ⊎ IsCutOff (texts words.now) (E.contents err.old) (E.contents err.new) }
 {
     match answer(alloc, words, tally, out) {
         Ok(()) => 0,
@@ -59,6 +65,7 @@ fn answer<T: FnOnce(usize, u64) -> Result<u64, LocalError> + Drop, O: Write>(
     ensures misuse { IsErrOf result Fault.Usage
         → IsMisuse (texts words.now) × Keeps (O.contents out.old) (O.contents out.new) }
     ensures memory { IsErrOf result Fault.Memory → Keeps (O.contents out.old) (O.contents out.new) }
+    ensures refused { IsErrOf result Fault.Memory → MayBeRefused (T.post tally) (texts words.now) }
     ensures write { IsErrOf result Fault.Write → MayBeRun (texts words.now) }
 {
     match tally_of(words) {
@@ -80,6 +87,8 @@ fn answer_tally<T: FnOnce(usize, u64) -> Result<u64, LocalError> + Drop, O: Writ
         (O.contents out.new)) }
     ensures no_misuse { IsErrOf result Fault.Usage → ⊥ }
     ensures memory { IsErrOf result Fault.Memory → Keeps (O.contents out.old) (O.contents out.new) }
+    ensures refused { IsErrOf result Fault.Memory
+        → (error : LocalError) × T.post tally workers numbers (Err error) }
 {
     let total = tally(workers, numbers)?;
     print(&[total as usize], out)
@@ -91,6 +100,7 @@ fn answer_ids<O: Write>(alloc: Global, words: &[String], out: &mut O) -> Result<
     ensures misuse { IsErrOf result Fault.Usage
         → MayNotRun (texts words.now) × Keeps (O.contents out.old) (O.contents out.new) }
     ensures memory { IsErrOf result Fault.Memory → Keeps (O.contents out.old) (O.contents out.new) }
+    ensures refused { IsErrOf result Fault.Memory → NamesMoves (texts words.now) }
     ensures write { IsErrOf result Fault.Write → IsRunnable (texts words.now) }
 {
     let moves = moves_named(alloc, words)?;

@@ -1,8 +1,9 @@
 //! Why the program fails: wrong arguments, out of memory or ids, or a failed write; each has its
 //! status and its line.
+ghost use Rattle.thread_local_tls.specs.Faults.{IsBegun};
+
 use crate::moves::IdsError;
 use std::alloc::{AllocError, AllocFailed};
-use std::fmt;
 use std::io::Write;
 use thread_local_thread_id::LocalError;
 
@@ -19,7 +20,7 @@ pub enum Fault {
 
 impl Fault {
     ghost use Rattle.std.specs.Prelude.{◌≡◌};
-    ghost use Rattle.thread_local_tls.specs.Faults.{status_of};
+    ghost use Rattle.thread_local_tls.specs.Faults.{status_of, line_of, IsTold};
 
     /// The status with which the program ends.
     pub fn status(self) -> u8
@@ -31,28 +32,39 @@ impl Fault {
         }
     }
 
-    /// Writes the fault's line to `err`, and answers its status, also where the line could not be
-    /// written.
-    pub fn report<E: Write>(self, err: &mut E) -> u8
-        ensures { result ≡ status_of self }
+    /// The line that tells of the fault.
+    pub fn line(self) -> &'static str
+        ensures { result.now ≡ line_of self }
     {
-        let _ = writeln!(err, "{self}");
+        match self {
+            Fault::Usage => "usage: tls ids WORDS.. | tls tally WORKERS NUMBERS\n",
+            Fault::Memory => "tls: out of memory\n",
+            Fault::Write => "tls: write failed\n",
+        }
+    }
+
+    /// Writes the fault's line to `err`, up to a write that fails, and answers its status in any
+    /// case.
+    pub fn report<E: Write>(self, err: &mut E) -> u8
+        ensures status { result ≡ status_of self }
+        ensures line { IsTold self (E.contents err.old) (E.contents err.new) }
+    {
+        write_text(self.line().as_bytes(), err);
         self.status()
     }
 }
 
-impl fmt::Display for Fault {
-    ghost use Rattle.std.specs.Prelude.{Some};
-    ghost use Rattle.thread_local_tls.specs.Faults.{line_of};
-
-    ghost output = { λ fault. Some (line_of fault) };
-
-    fn fmt<W: fmt::Write>(&self, f: &mut fmt::Formatter<W>) -> fmt::Result {
-        f.write_str(match self {
-            Fault::Usage => "usage: tls ids WORDS.. | tls tally WORKERS NUMBERS",
-            Fault::Memory => "tls: out of memory",
-            Fault::Write => "tls: write failed",
-        })
+/// Writes the text, up to a write that fails or takes nothing. No contract says what `writeln!` has
+/// written where it fails.
+fn write_text<W: Write>(text: &[u8], out: &mut W)
+    ensures { IsBegun text.now (W.contents out.old) (W.contents out.new) }
+{
+    let mut rest = text;
+    while !rest.is_empty() {
+        match out.write(rest) {
+            Ok(count) if 0 < count => rest = &rest[count..],
+            _ => return,
+        }
     }
 }
 

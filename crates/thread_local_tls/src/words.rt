@@ -3,7 +3,7 @@
 ghost use Rattle.std.specs.Prelude.{◌≡◌, ◌<◌, length, None, Some, IsNone, IfSome, IfOk, IsErrOf};
 ghost use Rattle.std.specs.Char.{is_ascii_digit};
 ghost use Rattle.std.specs.List.{list_all};
-ghost use Rattle.thread_local_tls.specs.Words.{texts, number_of, moves_of, move_then, moves_named, tally_of};
+ghost use Rattle.thread_local_tls.specs.Words.{texts, number_of, moves_of, move_then, moves_named, NamesMoves, tally_of};
 ghost use Rattle.thread_local_tls.specs.Limits.{limited, IsWithinLimits};
 
 use crate::fault::Fault;
@@ -14,6 +14,7 @@ use std::alloc::Global;
 pub fn moves_named(alloc: Global, words: &[String]) -> Result<Vec<Move>, Fault>
     ensures ok { IfOk result (λ moves. moves_named (texts words.now) ≡ Some moves.items) }
     ensures usage { IsErrOf result Fault.Usage → moves_named (texts words.now) ≡ None }
+    ensures memory { IsErrOf result Fault.Memory → NamesMoves (texts words.now) }
     ensures no_write { IsErrOf result Fault.Write → ⊥ }
 {
     match words.split_first() {

@@ -1,8 +1,8 @@
-use Rattle.std.proofs.Common.{◌≡◌, Option, Some, None, List, [], ℕ, Ok, Err, OnOk, IfErr, MatchOption, Result, refl, sym, ap, ◌∙◌, subst}
+use Rattle.std.proofs.Common.{◌≡◌, Bool, true, false, IsTrue, if◌then◌else◌, Option, Some, None, List, [], ◌∷◌, ℕ, Ok, Err, OnOk, IfErr, MatchOption, Result, refl, sym, ap, ◌∙◌, subst}
 use Rattle.std.proofs.KnownBytes.{Keeps-refl}
 use Rattle.std.proofs.lemmas.Result.{err_from_is_err_and}
 use Rattle.std.specs.Io.KnownBytes.{Appends}
-use Rattle.thread_local_tls.specs.Words.{texts, moves_named, lines_of, MayNotRun, IsRunnable}
+use Rattle.thread_local_tls.specs.Words.{texts, moves_of, moves_named, lines_of, MayNotRun, NamesMoves, IsRunnable}
 use Rattle.thread_local_tls.specs.Moves.{ids_given, MayRun}
 use Rattle.thread_local_tls.specs.Faults.{AnswersIds, fault_of}
 use Rattle.thread_local_tls.specs.declared.moves.Move.{Move}
@@ -44,6 +44,15 @@ misuse words moves read stuck = subst (λ o. MatchOption o (Unit {0}) (λ ms. Ma
 no_command : (words : List (List ℕ)) → moves_named words ≡ None → MayNotRun words
 no_command words none = subst (λ o. MatchOption o (Unit {0}) (λ ms. MayRun [] ms → ⊥)) (sym none) tt
 
+only_if : {X : Type 0} (test : Bool) (answer : Option X) (x : X) → (if test then answer else None) ≡ Some x → IsTrue test
+only_if true answer x e = refl
+only_if false answer x e = cc
+
+-- words that spell moves name them
+names_moves : (words : List (List ℕ)) (moves : List Move) → moves_named words ≡ Some moves → NamesMoves words
+names_moves [] moves spelled = cc
+names_moves (command ∷ words) moves spelled = only_if _ (moves_of words) moves spelled
+
 same_error : {X : Type 0} {E : Type 0} {r : Result X E} {x y : E} → r ≡ Err x → r ≡ Err y → x ≡ y
 same_error p q = cc
 
@@ -54,6 +63,11 @@ returns-in_err-moves-clause-misuse g c = λ is.
 
 pub returns-in_err-moves-clause-memory : goal.returns-in_err-moves-clause-memory
 returns-in_err-moves-clause-memory g c = λ _. Keeps-refl (g.O.Write.contents c.args.out.now)
+
+pub returns-in_err-moves-clause-refused : goal.returns-in_err-moves-clause-refused
+returns-in_err-moves-clause-refused g c = λ is.
+    let p = err_from_is_err_and c.from_residual.result c.from_residual.ensures.1 in
+    c.moves_named.ensures.memory (c.in_err-moves.was ∙ ap Err (sym p.2 ∙ same_error p.1 is))
 
 pub returns-in_err-moves-clause-write : goal.returns-in_err-moves-clause-write
 returns-in_err-moves-clause-write g c = λ is.
@@ -71,6 +85,9 @@ returns-in_err-ids-clause-misuse g c = λ is.
 
 pub returns-in_err-ids-clause-memory : goal.returns-in_err-ids-clause-memory
 returns-in_err-ids-clause-memory g c = λ _. Keeps-refl (g.O.Write.contents c.args.out.now)
+
+pub returns-in_err-ids-clause-refused : goal.returns-in_err-ids-clause-refused
+returns-in_err-ids-clause-refused g c = λ _. names_moves (texts c.args.words.now) _ c.in_ok-moves.ensures.ok
 
 pub returns-in_err-ids-clause-write : goal.returns-in_err-ids-clause-write
 returns-in_err-ids-clause-write g c = λ is.
@@ -95,6 +112,9 @@ returns-clause-misuse g c = λ is. let told = fault_is c.print.result Usage c.pr
 
 pub returns-clause-memory : goal.returns-clause-memory
 returns-clause-memory g c = λ is. let told = fault_is c.print.result Memory c.print.ensures.fault is in cc
+
+pub returns-clause-refused : goal.returns-clause-refused
+returns-clause-refused g c = λ is. let told = fault_is c.print.result Memory c.print.ensures.fault is in cc
 
 pub returns-clause-write : goal.returns-clause-write
 returns-clause-write g c = λ _. runnable g c
