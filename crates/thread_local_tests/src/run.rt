@@ -3,7 +3,7 @@ ghost use Rattle.thread_local_tls.specs.Limits.{IsWithinLimits};
 
 use std::alloc::{AllocError, Global};
 use std::io;
-use std::io::{Print, Write};
+use std::io::Write;
 use std::process::Abort;
 use std::sync::Wait;
 use std::test::Fail;
@@ -52,43 +52,6 @@ impl Write for Memory {
         if self.flush_fails {
             return Err(io::Error::from(io::ErrorKind::Other));
         }
-        Ok(())
-    }
-}
-
-/// A writer with room of its own, which never asks for memory.
-#[derive(Drop)]
-struct Room {
-    bytes: [u8; 32],
-    len: usize,
-}
-
-impl Room {
-    fn new() -> Room {
-        Room {
-            bytes: [0; 32],
-            len: 0,
-        }
-    }
-
-    /// What was written.
-    fn text(&self) -> &[u8] {
-        self.bytes.get(..self.len).unwrap_or(&[])
-    }
-}
-
-impl Write for Room {
-    fn write(&mut self, buf: &[u8]) -> io::Result<usize> {
-        for byte in buf {
-            if let Some(free) = self.bytes.get_mut(self.len) {
-                *free = *byte;
-                self.len = self.len.saturating_add(1);
-            }
-        }
-        Ok(buf.len())
-    }
-
-    fn flush(&mut self) -> io::Result<()> {
         Ok(())
     }
 }
@@ -318,51 +281,6 @@ fn is_flush_told<R: Threads + Wait + Sync>(rt: &R, alloc: Global, line: &str) ->
 #[test]
 fn a_failed_flush_is_told(rt: HostRuntime) -> Result<(), Fail> {
     assert!(rt; is_flush_told(&rt, rt.alloc(), "ids take take"));
-    Ok(())
-}
-
-/// Runs the line, one of whose requests for memory may be refused, for which its words ask first. A
-/// refused one writes nothing, also where ids were taken or workers were started before. Run a test
-/// that calls this with `rt try --test --fail-alloc N -- NAME`, for each N until a run meets no
-/// refusal.
-fn is_refusal_told<R: Print + Threads + Wait + Sync>(
-    rt: &R,
-    alloc: Global,
-    line: &str,
-    output: &str,
-) -> bool {
-    let Ok(words) = words(alloc, line) else {
-        let _told = println!(rt; "refused: words");
-        return true;
-    };
-    let mut out = Room::new();
-    let mut err = Room::new();
-    match answer(rt, alloc, &words, &mut out, &mut err) {
-        0 => out.text() == output.as_bytes() && err.text().is_empty(),
-        status => {
-            let _told = println!(rt; "refused: run");
-            status == 1 && out.text().is_empty() && err.text() == b"tls: out of memory\n".as_slice()
-        }
-    }
-}
-
-#[test]
-fn refused_ids_write_nothing(rt: HostRuntime) -> Result<(), Fail> {
-    assert!(rt; is_refusal_told(&rt, rt.alloc(), "ids take take", "0\n1\n"));
-    Ok(())
-}
-
-#[test]
-fn refused_ids_write_nothing_after_many(rt: HostRuntime) -> Result<(), Fail> {
-    let line = "ids take take take take take take take take take take";
-    let output = "0\n1\n2\n3\n4\n5\n6\n7\n8\n9\n";
-    assert!(rt; is_refusal_told(&rt, rt.alloc(), line, output));
-    Ok(())
-}
-
-#[test]
-fn a_refused_tally_writes_nothing(rt: HostRuntime) -> Result<(), Fail> {
-    assert!(rt; is_refusal_told(&rt, rt.alloc(), "tally 3 10", "55\n"));
     Ok(())
 }
 
