@@ -8,7 +8,7 @@ use std::default::MadeWith;
 use std::sync::Wait;
 use thread_local_judged::{Judge, judge_sync};
 use thread_local_shared_walk::Iter;
-use thread_local_table::{Local, Seat, ThreadLocal};
+use thread_local_table::{Local, Seat, ThreadLocal, TryError};
 
 fn crosses<X: Send + Sync>(_: &X) {}
 
@@ -25,6 +25,25 @@ fn first_of_two<R: Wait>(
 {
     local.get_or(|| first)?;
     Ok(*local.get_or(|| second)?)
+}
+
+/// After an error of the closure the next call isn't refused memory.
+fn granted_after_an_error<R: Wait>(local: &mut Local<'_, u32, R>, value: u32) -> bool
+    requires { local.old.value ≡ None }
+    ensures { result ≡ true }
+{
+    match local.try_fill(|| Err::<u32, bool>(false)) {
+        Err(TryError::Create(_)) => local.get_or(|| value).is_ok(),
+        _ => true,
+    }
+}
+
+/// Nor is one at any type, where the bucket is known to stand.
+fn filled_where_known<T: Send + Drop, E: Drop>(seat: &mut Seat<'_, T>, made: Result<T, E>) -> bool
+    requires { seat.old.known ≡ true }
+    ensures { result ≡ true }
+{
+    !matches!(seat.try_fill(move || made), Err(TryError::Memory(_)))
 }
 
 /// Where a value is held, a closure that can't be called is taken.

@@ -16,6 +16,8 @@ mod ids;
 #[cfg(test)]
 mod locals;
 #[cfg(test)]
+mod owners;
+#[cfg(test)]
 mod refused;
 #[cfg(test)]
 mod slots;

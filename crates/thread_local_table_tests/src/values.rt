@@ -104,6 +104,29 @@ fn an_error_leaves_the_slot_empty_and_its_bucket_standing(rt: HostRuntime) -> Re
     Ok(())
 }
 
+/// Fills the slot of a new `Local`, first with a closure that fails, then with one that makes 4,
+/// then with one that makes 5. Answers whether each is told as it ends, and what is found after each.
+fn filled_thrice<R: Wait>(table: &ThreadLocal<u32>, rt: &R) -> Option<(bool, [Option<u32>; 3])> {
+    let mut local = table.local(rt).ok()?;
+    let failed = local.try_fill(|| Err("no"));
+    let first = found(&local);
+    let filled = local.try_fill(|| Ok::<u32, &str>(4));
+    let second = found(&local);
+    let kept = local.try_fill(|| Ok::<u32, &str>(5));
+    let told = (failed, filled, kept) == (Err(TryError::Create("no")), Ok(()), Ok(()));
+    Some((told, [first, second, found(&local)]))
+}
+
+#[test]
+fn a_slot_is_filled_once(rt: HostRuntime) -> Result<(), Fail> {
+    let table = ThreadLocal::<u32>::new(rt.alloc());
+    assert_eq!(rt;
+        filled_thrice(&table, &rt),
+        Some((true, [None, Some(4), Some(4)]))
+    );
+    Ok(())
+}
+
 /// What a new `Local` is told when it publishes the default, and what it finds then.
 fn default_published<R: Wait>(table: &ThreadLocal<u32>, rt: &R) -> Option<[Option<u32>; 2]> {
     let mut local = table.local(rt).ok()?;
