@@ -62,6 +62,47 @@ fn counted_by_iter<T: Send + Sync>(table: &ThreadLocal<T>) -> usize {
     table.iter().count()
 }
 
+/// A value that holds a reference.
+struct Reading<'a> {
+    number: &'a u64,
+}
+
+trait Numbered {
+    fn number(&self) -> u64;
+}
+
+impl Numbered for Reading<'_> {
+    fn number(&self) -> u64 {
+        *self.number
+    }
+}
+
+/// A loop over values that hold references stands in a function that is generic over them.
+fn summed<T: Numbered + Sync>(table: &ThreadLocal<T>) -> u64 {
+    let mut sum = 0u64;
+    for value in table.iter() {
+        sum = sum.wrapping_add(value.number());
+    }
+    sum
+}
+
+fn readings(table: &ThreadLocal<Reading<'_>>) -> (u64, usize) {
+    (summed(table), counted(table))
+}
+
+/// Or the walk is folded.
+fn readings_folded(table: &ThreadLocal<Reading<'_>>) -> u64 {
+    table
+        .iter()
+        .fold(0u64, |sum, reading| sum.wrapping_add(*reading.number))
+}
+
+fn readings_of_a_local<R: Wait>(local: &Local<'_, Reading<'_>, R>) -> u64 {
+    local
+        .iter()
+        .fold(0u64, |sum, reading| sum.wrapping_add(*reading.number))
+}
+
 fn shared_walk<T: Send + Sync>(walk: &Iter<'_, T>) {
     is_sent(walk);
 }
