@@ -17,7 +17,7 @@ fn room<'a, R: Wait + Print>(rt: &R, alloc: Global) -> Option<Vec<Local<'a, u32,
     }
 }
 
-/// At most eight `Local`s, taken one after another.
+/// At most eight `Local`s, taken one after another. None: one was refused, which is told.
 pub fn taken<'a, R: Wait + Print>(
     table: &'a ThreadLocal<u32>,
     rt: &'a R,
@@ -26,7 +26,10 @@ pub fn taken<'a, R: Wait + Print>(
 ) -> Option<Vec<Local<'a, u32, R>>> {
     let mut locals = room(rt, alloc)?;
     for _ in 0..count {
-        let local = table.local(rt).ok()?;
+        let Ok(local) = table.local(rt) else {
+            let _told = println!(rt; "refused: local");
+            return None;
+        };
         locals.push(local).ok()?;
     }
     Some(locals)
