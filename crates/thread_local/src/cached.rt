@@ -63,6 +63,7 @@ impl<T> CachedThreadLocal<T> {
     pub fn clear(&mut self)
     where
         T: Drop,
+        ensures table { self.new.table ≢ self.old.table }
         ensures reserved { self.new.reserved ≡ self.old.reserved }
     {
         self.table.clear();

@@ -1,17 +1,19 @@
 -- What a contract sees of a table's ids, and how the held ids are tied to the rights that are out.
-use Rattle.std.specs.Prelude.{◌≡◌, ℕ, ◌+◌, ◌^◌, ◌<◌}
+use Rattle.std.specs.Prelude.{◌≡◌, ℕ, ◌+◌, ◌-◌, ◌^◌, ◌<◌, Bool}
 use Rattle.thread_local_model.specs.Held.{Manager, is_held}
 use Rattle.thread_local_rights.specs.Rights.{is_out}
 use Rattle.thread_local_ids.specs.declared.ids.Ids.TheInside.{Inside}
 
--- the manager of ids, and the name of the table that the rights are to
+-- the manager of ids, the name of the table that the rights are to, and whether the table's own
+-- right is out
 pub record TableIds : Type 0 where
   pub manager : Manager
   pub table : ℕ
+  pub own : Bool
 
 abbrev pub ids_of : Inside → TableIds
-ids_of i = record { manager = i.manager; table = i.rights.table }
+ids_of i = record { manager = i.manager; table = i.rights.table; own = is_out i.rights.out (2 ^ 63 - 1) }
 
 -- the right to an id is out exactly where the id is held, and so is its mark
 abbrev pub IsTied : Inside → Type 0
-IsTied i = (id : ℕ) → id < 2 ^ 63 → (is_out i.rights.out id ≡ is_held i.manager.held id) × (is_out i.rights.out (id + 2 ^ 63) ≡ is_held i.manager.held id)
+IsTied i = (id : ℕ) → id < 2 ^ 63 - 1 → (is_out i.rights.out id ≡ is_held i.manager.held id) × (is_out i.rights.out (id + 2 ^ 63) ≡ is_held i.manager.held id)

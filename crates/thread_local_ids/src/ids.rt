@@ -1,12 +1,13 @@
 //! An id of a table is held, with its right out, or it is free, with its right here.
-ghost use Rattle.std.specs.Prelude.{◌≡◌, ◌≢◌, ◌+◌, ◌-◌, ◌^◌, ◌≤◌, ◌<◌, min, [], IsOk, OnErr, IfOk};
+ghost use Rattle.std.specs.Prelude.{◌≡◌, ◌≢◌, ◌+◌, ◌-◌, ◌^◌, ◌≤◌, ◌<◌, min, false, [], IsOk, OnErr, IfOk};
 ghost use Rattle.std.specs.Prelude.{alloc_error};
 ghost use Rattle.thread_local_model.specs.Held.{is_held, Takes, Gives, NeedsMemory, IsExhausted};
 
 use std::alloc::{AllocError, Global};
 use std::marker::Model;
 use thread_local_lock::Fits;
-use thread_local_rights::{HeldId, Rights};
+use thread_local_rights::{HeldId, Right, Rights};
+use thread_local_thread_id::manager::IDS;
 use thread_local_thread_id::{LocalError, ThreadIdManager};
 
 /// The mark of an id is the right to the number that lies so far beyond it, and beyond every id.
@@ -15,7 +16,7 @@ const FIRST_MARK: usize = 1 << 63;
 /// Gives out the least id that isn't held, with the right to it, and takes both back. Only
 /// `with_room` and `take` take memory.
 ///
-/// Contracts see the manager and the table's name.
+/// Contracts see the manager, the table's name, and whether the table's own right is out.
 #[derive(Drop)]
 pub struct Ids {
     manager: ThreadIdManager,
@@ -47,6 +48,7 @@ impl Ids {
     pub fn new(alloc: Global) -> Ids
         ensures held { result.manager.held ≡ [] }
         ensures room { result.manager.room ≡ 0 }
+        ensures own { result.own ≡ false }
     {
         Ids {
             manager: ThreadIdManager::new(alloc),
@@ -61,6 +63,7 @@ impl Ids {
         ensures held { IfOk result (λ table. table.manager.held ≡ []) }
         ensures room { IfOk result (λ table. min ids (2 ^ 63 - 1) ≤ table.manager.room) }
         ensures few { IfOk result (λ table. table.manager.room < min ids (2 ^ 63 - 1) + 64) }
+        ensures own { IfOk result (λ table. table.own ≡ false) }
         ensures room_in_range { IfOk result (λ table. table.manager.room ≤ 2 ^ 63 - 1) }
         ensures no_ids { ids ≡ 0 → IsOk result }
     {
@@ -76,7 +79,7 @@ impl Ids {
     pub fn take(&mut self) -> Result<HeldId, LocalError>
         ensures ok { IfOk result (λ taken. Takes self.old.manager self.new.manager taken.id) }
         ensures right { IfOk result (λ taken. taken.right.table ≡ self.old.table) }
-        ensures table { self.new.table ≡ self.old.table }
+        ensures table { (self.new.table ≡ self.old.table) × (self.new.own ≡ self.old.own) }
         ensures memory { result ≡ Err (LocalError.Memory alloc_error) → NeedsMemory self.old.manager }
         ensures exhausted { result ≡ Err LocalError.Exhausted → IsExhausted self.old.manager }
         ensures err { OnErr result (self.new ≡ self.old) }
@@ -91,7 +94,7 @@ impl Ids {
     pub fn give(&mut self, held: HeldId)
         requires { held.right.table ≡ self.old.table }
         ensures given { Gives self.old.manager self.new.manager held.id }
-        ensures table { self.new.table ≡ self.old.table }
+        ensures table { (self.new.table ≡ self.old.table) × (self.new.own ≡ self.old.own) }
     {
         let (id, right, mark) = held.into_parts();
         self.rights.put_back(right);
@@ -102,7 +105,7 @@ impl Ids {
     /// Takes every id back, and counts the peak anew. The room stays. The rights are fresh
     /// ones, under another name, since the right of a holder that was forgotten is lost.
     pub fn clear(&mut self)
-        ensures table { self.new.table ≢ self.old.table }
+        ensures table { (self.new.table ≢ self.old.table) × (self.new.own ≡ false) }
         ensures held { self.new.manager.held ≡ [] }
         ensures room { self.new.manager.room ≡ self.old.manager.room }
     {
@@ -110,6 +113,16 @@ impl Ids {
         let mut rights = Rights::new();
         self.rights.apart(&mut rights);
         self.rights = rights;
+    }
+
+    /// Hands out the table's own right, to the number that lies between the ids and their marks.
+    /// Whoever has it can show that another table has another name.
+    pub fn own_right(&mut self) -> Right
+        requires { self.old.own ≡ false }
+        ensures right { (result.table ≡ self.old.table) × (result.id ≡ 2 ^ 63 - 1) }
+        ensures same { (self.new.manager ≡ self.old.manager) × (self.new.table ≡ self.old.table) }
+    {
+        self.rights.take(IDS)
     }
 
     /// The rights of the ids that aren't held, which name the table.

@@ -1,13 +1,13 @@
 -- Binary digits, the buckets that a capacity reserves, and how many slots these have.
-use Rattle.std.proofs.Common.{◌≡◌, ℕ, zero, suc, ◌+◌, ◌-◌, ◌*◌, ◌^◌, ◌<◌, ◌≤◌, IsTrue, refl, arith, pow_mono, add-one, ⊎_elim}
+use Rattle.std.proofs.Common.{◌≡◌, ℕ, zero, suc, ◌+◌, ◌-◌, ◌*◌, ◌^◌, ◌<◌, ◌≤◌, IsTrue, refl, arith, pow_mono, pow_pos, add-one, ⊎_elim}
 use Rattle.std.specs.Prelude.{nat_lt, ◌↔◌}
-use Rattle.std.proofs.lemmas.Bool.{cases_lt, ltb-true, lt-ltb, le-ltb, cond-true}
+use Rattle.std.proofs.lemmas.Bool.{cases_lt, ltb-true, lt-ltb, le-ltb}
 use Rattle.std.proofs.Math.Nat.{two-pow-succ}
-use Rattle.thread_local_model.specs.Place.{bucket_of}
+use Rattle.thread_local_model.specs.Place.{id_at, bucket_of}
 use Rattle.thread_local_model.specs.Capacity.{binary_digits, reserves_bucket, reserved_slots, is_reserved}
-use Rattle.thread_local_model.specs.Buckets.{slots, slots_below}
+use Rattle.thread_local_model.specs.Buckets.{slots}
 use Rattle.thread_local_model.proofs.PlaceLaws as place
-use Rattle.thread_local_model.proofs.SlotsLaws.{slots_below-further}
+use Rattle.thread_local_model.proofs.SlotsLaws.{slots_of_first, slots_below-further}
 
 pub no_digits : binary_digits 0 ≡ 0
 unfolding binary_digits
@@ -64,20 +64,18 @@ reserved_buckets capacity id = (
   (λ t. lt-ltb id (2 ^ binary_digits capacity - 1) (below_first (binary_digits capacity) id (ltb-true (bucket_of id) (binary_digits capacity) t))),
 )
 
--- the first n buckets have 2 ^ n - 1 slots
-first_slots : (k n : ℕ) → n ≤ k → slots_below (λ b. nat_lt b k) n + 1 ≡ 2 ^ n
-unfolding slots_below
-first_slots k zero h = omega arith
-first_slots k (suc n) h =
-    let ih = first_slots k n (omega arith) in
-    let here = cond-true (nat_lt n k) (2 ^ n) 0 (lt-ltb n k h) in
-    let twice = two-pow-succ n in
+-- the first slot of each of the first n buckets is one of the first 2 ^ n - 1 slots
+pub first_reserved : (b n : ℕ) → b < n → id_at b 0 < 2 ^ n - 1
+first_reserved b n h =
+    let up : 2 ^ suc b ≤ 2 ^ n = pow_mono h in
+    let twice = two-pow-succ b in
+    let some = pow_pos b in
     omega arith
 
 pub slots-first : (k : ℕ) → k ≤ 63 → slots (λ b. nat_lt b k) ≡ 2 ^ k - 1
 unfolding slots
 slots-first k within =
-    let first = first_slots k k (omega arith) in
+    let first = slots_of_first (λ b. nat_lt b k) k (λ b low. lt-ltb b k low) in
     let rest = slots_below-further (λ b. nat_lt b k) k 63 within (λ b low high. le-ltb b k low) in
     omega arith
 

@@ -1,6 +1,6 @@
 -- How the slots of the buckets that stand add up.
 use Rattle.std.proofs.Common.{◌≡◌, ℕ, zero, suc, ◌+◌, ◌-◌, ◌*◌, ◌^◌, ◌<◌, ◌≤◌, Bool, true, false, cond, eqb, IsTrue, refl, ap, sym, ◌∙◌, arith, ⊎_elim}
-use Rattle.std.proofs.lemmas.Bool.{cases_lt, cases_eq, cond_both, cond-false, eq-eqb, ne_eqb, lt-ltb, le-ltb}
+use Rattle.std.proofs.lemmas.Bool.{cases_lt, cases_eq, cond_both, cond-true, cond-false, eq-eqb, ne_eqb, lt-ltb, le-ltb}
 use Rattle.std.specs.Prelude.{nat_lt}
 use Rattle.std.proofs.Math.Nat.{two-pow-succ}
 use Rattle.thread_local_model.specs.Buckets.{slots, slots_below}
@@ -18,6 +18,26 @@ slots_below-lt stands (suc n) =
     let ih = slots_below-lt stands n in
     let twice = two-pow-succ n in
     cond_both (stands n) (2 ^ n) 0 (λ more. slots_below stands n + more < 2 ^ suc n) (λ _. omega arith) (λ _. omega arith)
+
+-- where the first n buckets stand, they have 2 ^ n - 1 slots
+pub slots_of_first : (stands : ℕ → Bool) (n : ℕ) → ((b : ℕ) → b < n → stands b ≡ true) → slots_below stands n + 1 ≡ 2 ^ n
+unfolding slots_below
+slots_of_first stands zero all = omega arith
+slots_of_first stands (suc n) all =
+    let ih = slots_of_first stands n (λ b low. all b (omega arith)) in
+    let here = cond-true (stands n) (2 ^ n) 0 (all n (omega arith)) in
+    let twice = two-pow-succ n in
+    omega arith
+
+-- more buckets have no fewer slots
+pub slots_grow : (stands : ℕ → Bool) (n m : ℕ) → n ≤ m → slots_below stands n ≤ slots_below stands m
+unfolding slots_below
+slots_grow stands n zero h = let same : n ≡ 0 = omega arith in omega (arith, ap (slots_below stands) same)
+slots_grow stands n (suc m) h =
+    ⊎_elim
+    (λ (low : n < suc m). let ih = slots_grow stands n m (omega arith) in omega arith)
+    (λ (high : suc m ≤ n). let same : n ≡ suc m = omega arith in omega (arith, ap (slots_below stands) same))
+    (cases_lt n (suc m))
 
 -- buckets that don't stand add no slots
 pub slots_below-further : (stands : ℕ → Bool) (k n : ℕ) → k ≤ n → ((b : ℕ) → k ≤ b → b < n → stands b ≡ false) → slots_below stands n ≡ slots_below stands k

@@ -1,26 +1,17 @@
 -- Cleared contents: the reserved buckets stand, with all their slots empty, and no other bucket
 -- does.
-use Rattle.std.proofs.Common.{◌≡◌, ℕ, ◌-◌, ◌^◌, ◌<◌, ◌≤◌, suc, Bool, true, false, cond, length, List, [], Option, None, get_or, refl, ap, sym, ◌∙◌, arith, ⊎_elim, pow_mono, pow_pos}
+use Rattle.std.proofs.Common.{◌≡◌, ℕ, ◌-◌, ◌^◌, ◌<◌, ◌≤◌, Bool, true, false, cond, length, List, [], Option, None, get_or, refl, ap, sym, ◌∙◌, arith, ⊎_elim, pow_mono}
 use Rattle.std.specs.Prelude.{nat_lt}
 use Rattle.std.proofs.lemmas.Bool.{cases_lt, cond-false, lt-ltb, le-ltb}
 use Rattle.std.proofs.lemmas.List.{get_or_past}
-use Rattle.std.proofs.Math.Nat.{two-pow-succ}
 use Rattle.thread_local_model.specs.Place.{id_at, bucket_of, index_of}
 use Rattle.thread_local_model.specs.Buckets.{Contents, row, stands, values, slots, IsTable}
 use Rattle.thread_local_model.specs.Rows.{empty_row}
 use Rattle.thread_local_model.specs.Owned.{AreOfFirstBuckets, IsOwned}
-use Rattle.thread_local_model.proofs.CapacityLaws.{slots-first}
+use Rattle.thread_local_model.proofs.CapacityLaws.{first_reserved, slots-first}
 use Rattle.thread_local_owner_walk.specs.Owner.{cleared_row}
 use Rattle.thread_local_owner_walk.proofs.RowLaws.{length-empty_row, slot-empty_row}
 use Rattle.thread_local_owner_walk.proofs.StandingLaws.{slots-same, standing-whole}
-
--- the first slot of each of the first n buckets is one of the first 2 ^ n - 1 slots
-first_reserved : (b n : ℕ) → b < n → id_at b 0 < 2 ^ n - 1
-first_reserved b n h =
-    let up : 2 ^ suc b ≤ 2 ^ n = pow_mono h in
-    let twice = two-pow-succ b in
-    let some = pow_pos b in
-    omega arith
 
 -- where the reserved slots are those of the first n buckets, these are the buckets with a reserved
 -- slot

@@ -7,7 +7,7 @@ use mir.Val.{Val, vptr}
 use base.Logic.{SProp, ent, sep, guard}
 use base.Fml.{Lft, Share, Fml, flft}
 use types.Logic.{Logic, sem}
-use types.Kit.{‵, ◌⊛◌, given, later, updating, now, check, done, ◌$◌, ◌∵◌, !, qed, move, split, fsplit3, fjoin3, learn, use2}
+use types.Kit.{‵, ◌⊛◌, given, updating, now, check, done, ◌$◌, ◌∵◌, !, qed, move, split, fsplit3, fjoin3, learn, use2}
 use denote.RattleType.{RattleType}
 use denote.Ref.{MutRef}
 use denote.Steps.{opens, closes}

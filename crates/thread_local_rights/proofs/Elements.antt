@@ -128,10 +128,12 @@ module _ {M : Type 1} {𝓤 : Ura M} (𝓛 : Logic 𝓤) where
   right_once γ id Z = own_glued 𝓛 (keyed token) γ (one_at id) (one_at id) Z (λ c m. absurd (twice (id == id) (eq-eqb id id refl) (m.0 id)))
 
   -- two rights of one table are to different ids
-  pub right_apart : (γ δ : GName) (i j : ℕ) → γ ≡ δ → ⟦ right_owns γ i ⟧ ∗ ⟦ right_owns δ j ⟧ ⊢ guard 𝓤 (i ≢ j) (⟦ right_owns γ i ⟧ ∗ ⟦ right_owns δ j ⟧)
-  right_apart γ δ i j same = let Both : Pr = ⟦ right_owns γ i ⟧ ∗ ⟦ right_owns δ j ⟧ in dite (ℕ_discrete i j)
-      (λ e. subst (λ (x : ℕ × ℕ). ⟦ right_owns γ i ⟧ ∗ ⟦ right_owns x.0 x.1 ⟧ ⊢ guard 𝓤 (i ≢ j) Both) (λ k. (same k, e k)) (right_once γ i (guard 𝓤 (i ≢ j) Both)))
-      (guard_i 𝓤 (i ≢ j) Both)
+  pub right_apart : (γ δ : GName) (i j : ℕ) → ⟦ right_owns γ i ⟧ ∗ ⟦ right_owns δ j ⟧ ⊢ guard 𝓤 (γ ≡ δ → i ≢ j) (⟦ right_owns γ i ⟧ ∗ ⟦ right_owns δ j ⟧)
+  right_apart γ δ i j = let Both : Pr = ⟦ right_owns γ i ⟧ ∗ ⟦ right_owns δ j ⟧ in let Apart : Type 0 = γ ≡ δ → i ≢ j in dite (ℕ_discrete i j)
+      (λ e. dite (ℕ_discrete γ δ)
+      (λ same. subst (λ (x : ℕ × ℕ). ⟦ right_owns γ i ⟧ ∗ ⟦ right_owns x.0 x.1 ⟧ ⊢ guard 𝓤 Apart Both) (λ k. (same k, e k)) (right_once γ i (guard 𝓤 Apart Both)))
+      (λ differ. guard_i 𝓤 Apart Both (λ same. absurd (differ same))))
+      (λ differ. guard_i 𝓤 Apart Both (λ _. differ))
 
   -- no table has two `Rights`
   pub rights_once : (γ : GName) (out gone : List ℕ) (Z : Pr) → ⟦ rights_own γ out ⟧ ∗ ⟦ rights_own γ gone ⟧ ⊢ Z

@@ -73,10 +73,10 @@ impl Rights {
 }
 
 impl Right {
-    /// Shows that two rights of one table are to different ids.
+    /// Shows that two rights of one table are to different ids, and so that two to one id are of
+    /// tables of different names.
     pub fn apart(&mut self, other: &mut Right)
-        requires { self.old.table ≡ other.old.table }
-        ensures ids { self.old.id ≢ other.old.id }
+        ensures ids { self.old.table ≡ other.old.table → self.old.id ≢ other.old.id }
         ensures same { (self.new ≡ self.old) × (other.new ≡ other.old) }
     {}
 

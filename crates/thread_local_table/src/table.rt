@@ -1,5 +1,5 @@
 //! A table: the buckets that threads share, and the ids, under a lock.
-ghost use Rattle.std.specs.Prelude.{◌≡◌, ◌≤◌, ◌<◌, ◌-◌, ◌^◌, true, false, None, Err, IfOk};
+ghost use Rattle.std.specs.Prelude.{◌≡◌, ◌≢◌, ◌≤◌, ◌<◌, ◌-◌, ◌^◌, true, false, None, Err, IfOk};
 ghost use Rattle.thread_local_model.specs.Capacity.{reserved_slots};
 ghost use Rattle.thread_local_judged.specs.Judged.{Judged};
 ghost use Rattle.thread_local_shared_walk.specs.Walks.{fresh};
@@ -15,6 +15,7 @@ use thread_local_buckets::{Buckets, CapacityError, IntoIter, IterMut};
 use thread_local_ids::Ids;
 use thread_local_judged::Judge;
 use thread_local_lock::Lock;
+use thread_local_rights::Right;
 use thread_local_shared_buckets::Shared;
 use thread_local_shared_walk::Iter;
 use thread_local_thread_id::LocalError;
@@ -40,11 +41,12 @@ mod lends;
 pub struct ThreadLocal<T> {
     pub(crate) buckets: Shared<T>,
     pub(crate) ids: Lock<Ids>,
+    own: Right,
     pub(crate) alloc: Global,
 }
 
 impl<T> Model for ThreadLocal<T> {
-    ghost use Rattle.std.specs.Prelude.{◌≡◌};
+    ghost use Rattle.std.specs.Prelude.{◌≡◌, ◌-◌, ◌^◌};
     ghost use Rattle.thread_local_shared_buckets.specs.TableView.{TableView, table_view_coded};
 
     ghost Value = { TableView };
@@ -53,8 +55,12 @@ impl<T> Model for ThreadLocal<T> {
 
     ghost view = { λ table. table.buckets };
 
-    // The ids under the lock are those of the table whose buckets these are.
-    ghost invariant = { λ table. table.ids.tag ≡ table.buckets.table };
+    // The ids under the lock are those of the table whose buckets these are, and so is its own
+    // right.
+    ghost invariant = { λ table.
+        (table.ids.tag ≡ table.buckets.table)
+        × (table.own.table ≡ table.buckets.table)
+        × (table.own.id ≡ 2 ^ 63 - 1) };
 }
 
 impl<T> ThreadLocal<T> {
@@ -76,17 +82,22 @@ impl<T> ThreadLocal<T> {
         requires judged { Judged T.row }
         ensures reserved { result.reserved ≡ 0 }
     {
-        ThreadLocal::of(alloc, Buckets::new(alloc), Ids::new(alloc))
+        let mut ids = Ids::new(alloc);
+        let own = ids.own_right();
+        ThreadLocal::of(alloc, Buckets::new(alloc), ids, own)
     }
 
-    /// Makes a table of an owner's buckets and their ids.
-    fn of(alloc: Global, buckets: Buckets<T>, ids: Ids) -> ThreadLocal<T>
+    /// Makes a table of an owner's buckets, their ids, and the table's own right.
+    fn of(alloc: Global, buckets: Buckets<T>, ids: Ids, own: Right) -> ThreadLocal<T>
         requires judged { Judged T.row }
+        requires own { (own.table ≡ ids.table) × (own.id ≡ 2 ^ 63 - 1) }
+        ensures table { result.table ≡ ids.table }
         ensures reserved { result.reserved ≡ buckets.reserved }
     {
         ThreadLocal {
             buckets: Shared::new(buckets, ids.rights()),
             ids: Lock::new(ids),
+            own,
             alloc,
         }
     }
@@ -110,9 +121,10 @@ impl<T> ThreadLocal<T> {
             return Err(CapacityError::TooLarge);
         }
         match Ids::with_room(alloc, capacity) {
-            Ok(ids) => {
+            Ok(mut ids) => {
                 let buckets = Buckets::with_capacity(alloc, capacity)?;
-                Ok(ThreadLocal::of(alloc, buckets, ids))
+                let own = ids.own_right();
+                Ok(ThreadLocal::of(alloc, buckets, ids, own))
             }
             Err(error) => Err(CapacityError::Memory(error)),
         }
@@ -155,6 +167,7 @@ impl<T> ThreadLocal<T> {
         let Self {
             buckets,
             ids: _,
+            own: _,
             alloc: _,
         } = self;
         buckets.into_buckets()
@@ -162,10 +175,11 @@ impl<T> ThreadLocal<T> {
 
     /// Drops every value, frees every bucket that isn't reserved, and takes every id back, those of
     /// forgotten `Local`s too. The reserved buckets and the room for ids stay; in Rust's crate the
-    /// reserved buckets go too.
+    /// reserved buckets go too. For contracts the table is another one from then on.
     pub fn clear(&mut self)
     where
         T: Drop,
+        ensures table { self.new.table ≢ self.old.table }
         ensures reserved { self.new.reserved ≡ self.old.reserved }
     {
         self.buckets.judged();
@@ -173,13 +187,16 @@ impl<T> ThreadLocal<T> {
         let Self {
             buckets,
             ids,
+            mut own,
             alloc: _,
         } = replace(self, ThreadLocal::empty(alloc));
         let mut buckets = buckets.into_buckets();
         buckets.clear();
         let mut ids = ids.into_inner();
         ids.clear();
-        *self = ThreadLocal::of(alloc, buckets, ids);
+        let mut fresh = ids.own_right();
+        own.apart(&mut fresh);
+        *self = ThreadLocal::of(alloc, buckets, ids, fresh);
     }
 }
 

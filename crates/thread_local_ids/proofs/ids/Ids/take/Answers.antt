@@ -1,16 +1,16 @@
 -- The right to the least free id isn't out, since that id isn't held, and nor is its mark.
-use Rattle.std.proofs.Common.{◌≡◌, ◌≢◌, ◌+◌, ◌^◌, ◌<◌, ◌==◌, true, refl, ap, ◌∙◌, arith, if◌then◌else◌, ne_eqb}
+use Rattle.std.proofs.Common.{◌≡◌, ◌≢◌, ◌+◌, ◌^◌, ◌==◌, true, refl, ap, ◌∙◌, arith, if◌then◌else◌, ne_eqb}
 use Rattle.thread_local_model.specs.Held.{is_held}
 use Rattle.thread_local_rights.specs.Rights.{is_out}
 use Rattle.thread_local_model.proofs.HeldLaws.{least_free}
 use Rattle.thread_local_ids.proofs.ids.Ids.take.Goals as goal
 
 pub take-right-requires : goal.take-right-requires
-take-right-requires c = let held = c.self.inside.manager.held in let id = c.in_ok-id.id in let range = c.in_ok-id.ensures.ok.in_range in let low : id < 2 ^ 63 = omega arith in
+take-right-requires c = let held = c.self.inside.manager.held in let id = c.in_ok-id.id in let low = c.in_ok-id.ensures.ok.in_range in
     (c.self.invariant id low).0 ∙ ap (is_held held) c.in_ok-id.ensures.ok.least ∙ least_free held
 
 pub take-mark-requires : goal.take-mark-requires
-take-mark-requires c = let held = c.self.inside.manager.held in let id = c.in_ok-id.id in let range = c.in_ok-id.ensures.ok.in_range in let low : id < 2 ^ 63 = omega arith in
+take-mark-requires c = let held = c.self.inside.manager.held in let id = c.in_ok-id.id in let low = c.in_ok-id.ensures.ok.in_range in
     let out = c.self.inside.rights.out in
     let beyond : id ≢ id + 2 ^ 63 = λ same. omega (arith, same) in
     let left : (if id == id + 2 ^ 63 then true else is_out out (id + 2 ^ 63)) ≡ is_out out (id + 2 ^ 63) = rw (ne_eqb id (id + 2 ^ 63) beyond) refl in

@@ -1,17 +1,15 @@
 -- Two `Rights` of one name would both own the elements of the ids that are out of neither.
 use Rattle.std.proofs.Common.{◌≢◌, List, [], ◌∷◌, refl}
 use mir.Syntax.{named}
-use mir.Val.{Val, vptr, vunit}
-use base.Logic.{SProp, ent, sep, guard}
+use mir.Val.{Val, vunit}
 use base.Fml.{ftrue, flft}
-use types.Logic.{sem}
-use types.Kit.{‵, raw, ◌⊛◌, given, later, ◌$◌, ◌∵◌, !, qed, move, split, split3, join, fsplit, fjoin, learn, suffices, frame, check, done, await, group, use1, use2, feq_i}
+use types.Kit.{‵, ◌⊛◌, given, later, ◌$◌, ◌∵◌, !, qed, move, split, split3, join, fsplit, fjoin, learn, suffices, frame, check, done, await, group, use1, use2, feq_i}
 use types.Run.{of_opd, unit_lit, returns, enter}
 use types.ByLocal.{alloc_all, pass_all, free_all, look_at, sets}
 use contract.Running.{tables}
-use denote.Ref.{MutRef, mut_vals, mut_Tells}
+use denote.Ref.{mut_vals, mut_Tells}
 use denote.Signature.{plain}
-use denote.Steps.{nothing, heard}
+use denote.Steps.{nothing}
 use denote.Triple.Walked.{Stays, walk_of, stay_ref, Goes-ref, ends_at}
 use Rattle.std.proofs.raw_atomic.Walks.{proved}
 use Rattle.thread_local_rights.specs.Rights.{rights_own}
