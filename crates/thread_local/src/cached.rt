@@ -1,6 +1,6 @@
 //! `CachedThreadLocal`, a deprecated wrapper of `ThreadLocal`: once a faster table, now as fast,
 //! and with fewer calls.
-ghost use Rattle.std.specs.Prelude.{◌≡◌, length, Some, IfSome};
+ghost use Rattle.std.specs.Prelude.{◌≡◌, ◌≢◌, length, Some, IfSome};
 ghost use Rattle.std.specs.Iterator.{YieldsFirst, YieldsFirstMut, UpTo, item_count};
 ghost use Rattle.std.specs.Iterator.SizeHint.{IsWithinCount};
 ghost use Rattle.thread_local_buckets.specs.IterMut.{iter_mut_rest};

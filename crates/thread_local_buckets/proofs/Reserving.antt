@@ -1,5 +1,5 @@
 -- The reserved slots are slots of buckets that stand.
-use Rattle.std.proofs.Common.{◌<◌, ◌≤◌, arith}
+use Rattle.std.proofs.Common.{◌≤◌, arith}
 use Rattle.thread_local_model.specs.Buckets.{stands, slots}
 use Rattle.thread_local_model.specs.Owned.{Owned, IsOwned}
 use Rattle.thread_local_model.proofs.CapacityLaws.{first_reserved}
