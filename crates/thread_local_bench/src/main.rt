@@ -1,9 +1,11 @@
 //! Times the calls of a table, alone and by threads, of an owner's buckets and of the id manager: a
 //! line for each workload, with its name and the nanoseconds of one operation, the least of several
-//! rounds. The argument is the number of rounds. With none each workload runs once, on few ids, and
-//! its name alone is printed. With `locks N` it compares two locks over N pairs of taking and
-//! giving. With `races SECONDS THREADS` threads race on one table for so long, four if their number
-//! is left out; it prints what was counted, and ends with status 1 where a check failed.
+//! rounds. The arguments are the number of rounds, and the name of one workload if no other is to
+//! run. With none each workload runs once, on few ids, and its name alone is printed.
+//!
+//! With `locks N` it compares two locks over N pairs of taking and giving. With `races SECONDS
+//! THREADS` threads race on one table for so long, four if their number is left out; it prints what
+//! was counted, and ends with status 1 where a check failed.
 #![tactic(auto)]
 
 mod ids;
@@ -213,26 +215,37 @@ impl Workload {
 }
 
 /// The number that a word is.
-fn number(word: Option<String>) -> Option<u64> {
-    word.and_then(|word| word.parse::<u64>().ok())
+fn number(word: &Option<String>) -> Option<u64> {
+    word.as_ref().and_then(|word| word.parse::<u64>().ok())
+}
+
+/// Whether a word names the workload, or there is none.
+fn is_asked(word: &Option<String>, name: &str) -> bool {
+    match word {
+        Some(word) => word.as_str() == name,
+        None => true,
+    }
 }
 
 /// Reads the arguments, and runs the workloads, compares the locks or lets threads race.
 fn main(rt: HostRuntime) -> io::Result<()> {
     let mut words = std::env::args(&rt)?.skip(1);
     let first = words.next();
-    let second = number(words.next());
-    let third = number(words.next());
-    match (first.as_ref().map(|word| word.as_str()), second) {
+    let second = words.next();
+    let third = number(&words.next());
+    match (first.as_ref().map(|word| word.as_str()), number(&second)) {
         (Some("locks"), Some(pairs)) => return lock::compare(&rt, rt.alloc(), pairs),
         (Some("races"), Some(seconds)) => {
             return races::run(&rt, rt.alloc(), seconds, third.unwrap_or(4));
         }
         _ => {}
     }
-    let rounds = number(first);
+    let rounds = number(&first);
     for workload in Workload::ALL {
         let name = workload.name();
+        if !is_asked(&second, name) {
+            continue;
+        }
         match rounds {
             None => {
                 workload.round(&rt, rt.alloc(), &FEW)?;
