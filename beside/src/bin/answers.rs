@@ -53,11 +53,15 @@ fn shown(value: Option<&Counted>) -> String {
     value.map_or("none".to_string(), |counted| counted.value.to_string())
 }
 
-/// What a walk that gives so many values says at each step: how many are left, and the value.
+/// What a walk that gives so many values says at each step: whether its hint isn't its length, how
+/// many are left, and the value.
 fn walked<I: ExactSizeIterator>(mut walk: I, most: usize, value: impl Fn(I::Item) -> u64) -> String {
     let mut text = String::new();
     for _ in 0..most {
         let left = walk.len();
+        if walk.size_hint() != (left, Some(left)) {
+            text.push_str("hint ");
+        }
         match walk.next() {
             Some(item) => write!(text, "{left}:{} ", value(item)).unwrap(),
             None => break,

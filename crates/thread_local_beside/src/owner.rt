@@ -12,7 +12,8 @@ use thread_local_thread_id::Thread;
 /// How many ids there are.
 const IDS: usize = (1 << 63) - 1;
 
-/// A walk that lends up to `most` values, and adds 1 to each: how many are left, and the value.
+/// A walk that lends up to `most` values, and adds 1 to each: whether its hint isn't its length, how
+/// many are left, and the value.
 fn walk_mut<W: Write>(
     table: &mut ThreadLocal<Counted>,
     most: usize,
@@ -21,6 +22,9 @@ fn walk_mut<W: Write>(
     let mut walk = table.iter_mut();
     for _ in 0..most {
         let left = walk.len();
+        if walk.size_hint() != (left, Some(left)) {
+            write!(out, "hint ")?;
+        }
         match walk.next() {
             Some(there) => {
                 there.value = there.value.saturating_add(1);
@@ -42,6 +46,9 @@ fn walk_out<W: Write>(
     let mut walk = table.into_iter();
     for _ in 0..most {
         let left = walk.len();
+        if walk.size_hint() != (left, Some(left)) {
+            write!(out, "hint ")?;
+        }
         match walk.next() {
             Some(value) => write!(out, "{left}:{} ", value.value)?,
             None => break,

@@ -1,0 +1,323 @@
+//! Times the Rust crate's calls with the workloads of `crates/thread_local_bench`: a line for each,
+//! with its name and the nanoseconds of one operation, the least of several rounds. The arguments
+//! are the number of rounds, and the name of one workload if no other is to run.
+
+use std::cell::Cell;
+use std::hint::black_box;
+use std::sync::Mutex;
+use std::thread;
+use std::time::{Duration, Instant};
+use thread_local::opened::{self, Manager};
+use thread_local::ThreadLocal;
+
+/// How many operations a round made, and in what time.
+type Round = (u64, Duration);
+
+/// Two tables, each with a count of 0 of this thread. Which of them is asked is known at run time
+/// alone.
+fn hits(look: impl Fn(&ThreadLocal<Cell<u64>>)) -> Round {
+    const TIMES: u64 = 50_000_000;
+    let tables = [ThreadLocal::new(), ThreadLocal::new()];
+    for table in &tables {
+        table.get_or(|| Cell::new(0));
+    }
+    let start = Instant::now();
+    for number in 0..TIMES {
+        look(&tables[(number & 1) as usize]);
+    }
+    let time = start.elapsed();
+    let sum: u64 = tables.into_iter().flatten().map(Cell::into_inner).sum();
+    assert_eq!(sum, TIMES);
+    (TIMES, time)
+}
+
+fn add_one(count: &Cell<u64>) {
+    count.set(count.get().wrapping_add(1));
+}
+
+fn get_hit() -> Round {
+    hits(|table| {
+        if let Some(count) = table.get() {
+            add_one(count);
+        }
+    })
+}
+
+fn get_or_hit() -> Round {
+    hits(|table| add_one(table.get_or(|| Cell::new(0))))
+}
+
+fn new_first_drop() -> Round {
+    const TIMES: u64 = 1_000_000;
+    let start = Instant::now();
+    for number in 0..TIMES {
+        let table = ThreadLocal::new();
+        table.get_or(|| number);
+        black_box(&table);
+    }
+    (TIMES, start.elapsed())
+}
+
+/// What there is beside a `Local`: an id that the crate's manager gives out and takes back under a
+/// lock. It looks at no slot.
+fn local_and_drop() -> Round {
+    const TIMES: u64 = 10_000_000;
+    let manager = Mutex::new(Manager::new());
+    let start = Instant::now();
+    for _ in 0..TIMES {
+        let id = manager.lock().unwrap().take();
+        manager.lock().unwrap().give(id);
+    }
+    (TIMES, start.elapsed())
+}
+
+fn publish() -> Round {
+    const IDS: usize = (1 << 20) - 1;
+    let table = ThreadLocal::with_capacity(IDS);
+    let start = Instant::now();
+    for id in 0..IDS {
+        opened::insert(&table, id, id as u64);
+    }
+    (IDS as u64, start.elapsed())
+}
+
+/// What a table is filled with.
+trait Value: Send {
+    fn of(number: u64) -> Self;
+    fn number(&mut self) -> &mut u64;
+}
+
+impl Value for u64 {
+    fn of(number: u64) -> u64 {
+        number
+    }
+
+    fn number(&mut self) -> &mut u64 {
+        self
+    }
+}
+
+impl Value for [u64; 8] {
+    fn of(number: u64) -> [u64; 8] {
+        [number; 8]
+    }
+
+    fn number(&mut self) -> &mut u64 {
+        &mut self[0]
+    }
+}
+
+const VALUES: usize = 1 << 20;
+const LARGE: usize = 1 << 18;
+const NEAR: usize = 1023;
+const SPARSE: usize = 1 << 14;
+const WALKS: usize = 1000;
+
+/// A table with so many values, each so many ids behind the one before it.
+fn filled<T: Value>(count: usize, apart: usize) -> ThreadLocal<T> {
+    let table = ThreadLocal::new();
+    for number in 0..count {
+        opened::insert(&table, number * apart, T::of(number as u64));
+    }
+    table
+}
+
+fn write_all<T: Value>(table: &mut ThreadLocal<T>) {
+    for value in table.iter_mut() {
+        let number = value.number();
+        *number = number.wrapping_add(1);
+    }
+}
+
+fn insert<T: Value>(count: usize) -> Round {
+    let start = Instant::now();
+    let table = filled::<T>(count, 1);
+    let time = start.elapsed();
+    black_box(&table);
+    (count as u64, time)
+}
+
+fn iter() -> Round {
+    let table = filled::<u64>(VALUES, 1);
+    let mut sum = 0u64;
+    let start = Instant::now();
+    for value in &table {
+        sum = sum.wrapping_add(*value);
+    }
+    let time = start.elapsed();
+    assert_eq!(sum, sum_below(VALUES));
+    (VALUES as u64, time)
+}
+
+fn sum_below(end: usize) -> u64 {
+    (end * (end - 1) / 2) as u64
+}
+
+fn iter_mut<T: Value>(count: usize, apart: usize, times: usize) -> Round {
+    let mut table = filled::<T>(count, apart);
+    let start = Instant::now();
+    for _ in 0..times {
+        write_all(&mut table);
+    }
+    let time = start.elapsed();
+    black_box(&table);
+    ((count * times) as u64, time)
+}
+
+fn iter_mut_reserved() -> Round {
+    let mut table = ThreadLocal::<u64>::with_capacity(1 << 20);
+    for id in 0..4 {
+        opened::insert(&table, id, id as u64);
+    }
+    let start = Instant::now();
+    for _ in 0..10 {
+        write_all(&mut table);
+    }
+    (10, start.elapsed())
+}
+
+fn into_iter<T: Value>(count: usize, apart: usize, tables: usize) -> Round {
+    let tables: Vec<_> = (0..tables).map(|_| filled::<T>(count, apart)).collect();
+    let made = tables.len();
+    let mut sum = 0u64;
+    let start = Instant::now();
+    for table in tables {
+        for mut value in table {
+            sum = sum.wrapping_add(*value.number());
+        }
+    }
+    let time = start.elapsed();
+    assert_eq!(sum, sum_below(count) * made as u64);
+    ((count * made) as u64, time)
+}
+
+fn clear() -> Round {
+    let mut table = filled::<u64>(VALUES, 1);
+    let start = Instant::now();
+    table.clear();
+    (VALUES as u64, start.elapsed())
+}
+
+/// A manager with so many ids held.
+fn holding(held: usize) -> Manager {
+    let mut manager = Manager::new();
+    for _ in 0..held {
+        manager.take();
+    }
+    manager
+}
+
+const HELD: usize = 100_000;
+const PAIRS: u64 = 5_000_000;
+
+fn ids_few() -> Round {
+    const TIMES: u64 = 10_000_000;
+    let mut manager = Manager::new();
+    let start = Instant::now();
+    for _ in 0..TIMES {
+        let id = manager.take();
+        manager.give(id);
+    }
+    (TIMES, start.elapsed())
+}
+
+fn ids_many() -> Round {
+    let mut manager = holding(HELD);
+    let mut state = 1u64;
+    let start = Instant::now();
+    for _ in 0..PAIRS {
+        state = state.wrapping_mul(6364136223846793005).wrapping_add(1442695040888963407);
+        manager.give(((state >> 33) % HELD as u64) as usize);
+        black_box(manager.take());
+    }
+    (PAIRS, start.elapsed())
+}
+
+fn ids_highest() -> Round {
+    let mut manager = holding(HELD);
+    let mut id = HELD - 1;
+    let start = Instant::now();
+    for _ in 0..PAIRS {
+        manager.give(id);
+        id = manager.take();
+    }
+    (PAIRS, start.elapsed())
+}
+
+fn tally_4_threads() -> Round {
+    const END: u64 = 4_000_000;
+    let table = ThreadLocal::new();
+    let start = Instant::now();
+    thread::scope(|scope| {
+        for worker in 0..4 {
+            let table = &table;
+            scope.spawn(move || {
+                let sum = table.get_or(|| Cell::new(0u64));
+                for number in (worker..END).step_by(4) {
+                    sum.set(sum.get().saturating_add(number));
+                }
+            });
+        }
+    });
+    let time = start.elapsed();
+    assert_eq!(table.into_iter().map(Cell::into_inner).sum::<u64>(), sum_below(END as usize));
+    (END, time)
+}
+
+fn thread_come_and_go() -> Round {
+    const TIMES: u64 = 2_000;
+    let table = ThreadLocal::new();
+    let start = Instant::now();
+    for _ in 0..TIMES {
+        thread::scope(|scope| {
+            scope.spawn(|| add_one(table.get_or(|| Cell::new(0))));
+        });
+    }
+    let time = start.elapsed();
+    assert_eq!(table.into_iter().map(Cell::into_inner).sum::<u64>(), TIMES);
+    (TIMES, time)
+}
+
+type Workload = (&'static str, fn() -> Round);
+
+const ALL: [Workload; 23] = [
+    ("get_hit", get_hit),
+    ("get_or_hit", get_or_hit),
+    ("new_first_drop", new_first_drop),
+    ("local_and_drop", local_and_drop),
+    ("publish", publish),
+    ("insert", || insert::<u64>(VALUES)),
+    ("iter", iter),
+    ("iter_mut", || iter_mut::<u64>(VALUES, 1, 1)),
+    ("into_iter", || into_iter::<u64>(VALUES, 1, 1)),
+    ("clear", clear),
+    ("iter_mut_1023", || iter_mut::<u64>(NEAR, 1, WALKS)),
+    ("into_iter_1023", || into_iter::<u64>(NEAR, 1, WALKS)),
+    ("insert_64_bytes", || insert::<[u64; 8]>(LARGE)),
+    ("iter_mut_64_bytes", || iter_mut::<[u64; 8]>(LARGE, 1, 1)),
+    ("into_iter_64_bytes", || into_iter::<[u64; 8]>(LARGE, 1, 1)),
+    ("iter_mut_sparse", || iter_mut::<u64>(SPARSE, 64, 1)),
+    ("into_iter_sparse", || into_iter::<u64>(SPARSE, 64, 1)),
+    ("iter_mut_reserved", iter_mut_reserved),
+    ("ids_few", ids_few),
+    ("ids_many", ids_many),
+    ("ids_highest", ids_highest),
+    ("tally_4_threads", tally_4_threads),
+    ("thread_come_and_go", thread_come_and_go),
+];
+
+fn main() {
+    let mut words = std::env::args().skip(1);
+    let rounds: u32 = words.next().and_then(|word| word.parse().ok()).unwrap_or(1);
+    let asked = words.next();
+    for (name, round) in ALL {
+        if asked.as_ref().is_some_and(|asked| asked != name) {
+            continue;
+        }
+        let least = (0..rounds.max(1)).map(|_| {
+            let (operations, time) = round();
+            time.as_nanos() as f64 / operations as f64
+        });
+        println!("{name} {:.3}", least.fold(f64::INFINITY, f64::min));
+    }
+}
