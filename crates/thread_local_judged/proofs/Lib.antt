@@ -1,5 +1,5 @@
 pub mod Alike
 pub mod Everywhere
-pub mod Optional
-pub mod Boxed
-pub mod Vectors
+pub mod Empty
+pub mod Parts
+pub mod Containing

@@ -21,7 +21,7 @@ pub record NamesThread {D : Type 0} (holds : D → Lft → Fml) : Type 0 where
   pub lifetime : Lft
   pub names : Keyless (holds value lifetime) → ⊥
 
--- it is known whether a `&` to a value names a thread, and if it does, at each address of a value:
--- at each offset o of each block b
+-- it is known whether a `&` to a value names a thread. If it doesn't, the type has a value; if it
+-- does, it does so at each address of a value: at each offset o of each block b
 abbrev pub JudgedEverywhere : RattleType → Type 0
-JudgedEverywhere R = Shareable R ⊎ ((b o : ℕ) → NamesThread (λ x κ. R.shr_at x b o κ))
+JudgedEverywhere R = (R.Denot × Shareable R) ⊎ ((b o : ℕ) → NamesThread (λ x κ. R.shr_at x b o κ))

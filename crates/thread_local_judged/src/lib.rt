@@ -2,6 +2,9 @@
 //! values of every type ask for it.
 #![tactic(auto)]
 
+mod cells;
+mod containers;
 pub mod judged;
+mod plain;
 
-pub use judged::{Judge, judge_sync, judged_alike, never_refuted};
+pub use judged::{Judge, judge_sync, judge_value, judged_alike, never_refuted};
