@@ -1,3 +1,4 @@
 pub use Rattle.thread_local_model.specs.Place
 pub use Rattle.thread_local_model.specs.Held
 pub mod Entries
+pub mod Text

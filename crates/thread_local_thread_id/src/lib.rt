@@ -1,6 +1,7 @@
 //! Places of ids, and the manager that gives ids out and takes them back.
 #![tactic(auto)]
 
+mod error;
 pub mod manager;
 pub mod place;
 

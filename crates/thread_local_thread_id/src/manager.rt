@@ -124,9 +124,7 @@ impl ThreadIdManager {
         if id / 64 < words {
             return Ok(());
         }
-        if self.words.push(0).is_err() {
-            return Err(LocalError::Memory(AllocError));
-        }
+        self.words.push(0)?;
         Ok(())
     }
 

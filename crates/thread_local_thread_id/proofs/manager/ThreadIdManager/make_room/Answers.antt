@@ -6,7 +6,7 @@ use Rattle.thread_local_bits.specs.Bits.{bits_of}
 use Rattle.thread_local_thread_id.proofs.Managers.{pushed}
 use Rattle.thread_local_thread_id.proofs.Views.{take-push}
 use Rattle.thread_local_thread_id.proofs.manager.ThreadIdManager.make_room.Goals as goal
-use Rattle.thread_local_thread_id.proofs.manager.ThreadIdManager.make_room.Goals.{After-len-words, Else-is_err}
+use Rattle.thread_local_thread_id.proofs.manager.ThreadIdManager.make_room.Goals.{After-len-words, In_ok-push}
 
 -- every id below this one is held, and the id is no more than the peak
 lower : (c : After-len-words) → HoldsAllBelow c.args.id c.args.self.now.held
@@ -27,9 +27,9 @@ returns-then-id-ge-IDS-clause-exhausted c = λ _.
     let room : c.args.self.now.room ≡ min (length c.self.inside.words.items * 64) (2 ^ 63 - 1) = sym (ap (λ m. m.room) c.self.view_is) in
     record { full = λ k h. lower at k (omega arith); peak = omega arith; room = omega arith }
 
-pub returns-then-is_err-clause-memory : goal.returns-then-is_err-clause-memory
-returns-then-is_err-clause-memory c = λ _.
-    let at = (goal.at.returns-then-is_err-clause-memory c).After-len-words in
+pub returns-in_err-push-clause-memory : goal.returns-in_err-push-clause-memory
+returns-in_err-push-clause-memory c = λ _.
+    let at = (goal.at.returns-in_err-push-clause-memory c).After-len-words in
     let w = within at in
     let under = c.self.invariant.peak in
     let ok = c.self.inside.words.ok.0 in
@@ -39,7 +39,7 @@ returns-then-is_err-clause-memory c = λ _.
     let range = c.if-id-ge-IDS.false in
     record { full = λ k h. lower at k (omega arith); no_room = omega arith; in_range = omega arith }
 
-grown : (c : Else-is_err) → c.push.new.self.items ≡ c.self.inside.words.items ++ 0 ∷ []
+grown : (c : In_ok-push) → c.push.new.self.items ≡ c.self.inside.words.items ++ 0 ∷ []
 grown c = search rules
 
 pub invariant_of-self-2 : goal.invariant_of-self-2
