@@ -1,2 +1,4 @@
+mod DrainLaws
+mod EntriesLaws
 mod Refilling
 mod Reserving

@@ -8,18 +8,19 @@ ghost use Rattle.thread_local_model.specs.Owned.{Owned, IsOwned};
 ghost use Rattle.thread_local_model.specs.Rows.{value_in};
 ghost use Rattle.thread_local_model.specs.Capacity.{binary_digits, reserves_bucket, reserved_slots};
 ghost use Rattle.thread_local_model.specs.Sheet.{moved};
-ghost use Rattle.thread_local_model.specs.Walk.{walk, with_value};
+ghost use Rattle.thread_local_model.specs.Walk.{walk, paired, with_value};
 ghost use Rattle.thread_local_owner_walk.specs.Owner.{with_bucket, with_published, cleared_row, sheet_of, publish_or_keep};
 
-use crate::iter::IntoIter;
-use crate::iter_mut::IterMut;
+use crate::drain::Drain;
+use crate::iter::{IntoEntries, IntoIter};
+use crate::iter_mut::{EntriesMut, IterMut};
 use std::alloc::{AllocError, Global};
 use std::marker::Model;
 use thread_local_bucket_pointers::BucketPointers;
-use thread_local_owner_walk::RawIter;
 use thread_local_thread_id::{BUCKETS, Thread, bucket_size};
 
 mod lends;
+mod walking;
 
 /// Why a capacity couldn't be reserved.
 #[derive(Clone, Copy, Debug, PartialEq, Eq)]
@@ -62,7 +63,9 @@ impl<T> Model for Buckets<T> {
 
 impl<T> Buckets<T> {
     ghost use Rattle.thread_local_buckets.specs.Inserting.{LendsInserted};
-    ghost use Rattle.thread_local_buckets.specs.IterMut.{iter_mut_rest, iter_mut_name};
+    ghost use Rattle.thread_local_buckets.specs.Drain.{drain_rest, drain_lender, drain_leaves, DrainCanStep, DrainKeepsAlong};
+    ghost use Rattle.thread_local_buckets.specs.Emptied.{owned_emptied};
+    ghost use Rattle.thread_local_buckets.specs.IterMut.{iter_mut_rest, iter_mut_name, entries_mut_rest, entries_mut_name};
     ghost use Rattle.thread_local_buckets.specs.LendingValues.{LendsValues, owned_refilled};
     ghost use Rattle.thread_local_buckets.specs.Writing.{LendsSlot};
 
@@ -99,9 +102,7 @@ impl<T> Buckets<T> {
         let first = digits(capacity);
         let mut pointers = BucketPointers::new(alloc);
         for bucket in 0..first {
-            if let Err(error) = pointers.ensure_bucket(bucket) {
-                return Err(CapacityError::Memory(error));
-            }
+            pointers.ensure_bucket(bucket)?;
         }
         Ok(Buckets {
             pointers,
@@ -214,12 +215,67 @@ impl<T> Buckets<T> {
             → is_some (values (owned_refilled self.old written).contents id)
             ≡ is_some (values self.old.contents id) }
     {
-        let left = self.pointers.count_values();
         IterMut {
+            entries: self.entries_mut(),
+        }
+    }
+
+    /// `iter_mut`, with the id of each value. Rust's crate has no such walk.
+    pub fn entries_mut(&mut self) -> EntriesMut<'_, T>
+        ensures* writes_back { sem 𝓛 (LendsValues T.row self.entry (entries_mut_name result)) }
+        ensures rest { entries_mut_rest result ≡ walk (paired (values self.old.contents)) }
+
+        // Whatever is written through the items, the same buckets stand and the same ids have a
+        // value.
+        ensures would_stand { (written : Owned T) (bucket : ℕ)
+            → stands (owned_refilled self.old written).contents bucket
+            ≡ stands self.old.contents bucket }
+        ensures would_be_published { (written : Owned T) (id : ℕ)
+            → is_some (values (owned_refilled self.old written).contents id)
+            ≡ is_some (values self.old.contents id) }
+    {
+        let cursor = self.begin_walk();
+        EntriesMut {
             loan: self.lend(),
-            raw: RawIter::new(),
-            rest: 0,
-            left,
+            cursor,
+        }
+    }
+
+    /// A walk over the values by ascending id, each moved out with its id. It begins with a count
+    /// of the values. Rust's crate has no such walk.
+    pub fn into_entries(mut self) -> IntoEntries<T>
+        ensures { result ≡ walk (paired (values self.contents)) }
+    {
+        let cursor = self.begin_walk();
+        IntoEntries {
+            buckets: self,
+            cursor,
+        }
+    }
+
+    /// A walk over the values by ascending id, each moved out, while the buckets stay: they need no
+    /// memory for the next values at the same ids. It begins with a count of the values.
+    ///
+    /// Dropping the walk drops the values still to come. A forgotten one leaves these in the
+    /// buckets. Rust's crate has no such call.
+    pub fn drain(&mut self) -> Drain<'_, T>
+    where
+        T: Drop,
+        ensures ready { DrainCanStep result }
+        ensures rest { drain_rest result ≡ walk (values self.old.contents) }
+
+        // Once dropped it leaves the same buckets without a value, also after calls of `next`.
+        ensures same_reference { drain_lender result ≡ self.entry.ghost_name }
+        ensures leaves { drain_leaves result ≡ owned_emptied self.old }
+        ensures stays { DrainKeepsAlong result }
+        ensures would_be_empty { (id : ℕ) → values (owned_emptied self.old).contents id ≡ None }
+        ensures would_stand { (bucket : ℕ)
+            → stands (owned_emptied self.old).contents bucket ≡ stands self.old.contents bucket }
+    {
+        let cursor = self.begin_walk();
+        Drain {
+            buckets: self,
+            cursor,
         }
     }
 
@@ -249,16 +305,8 @@ impl<T: Drop> IntoIterator for Buckets<T> {
     /// A walk over the values by ascending id, each moved out. It begins with a count of the
     /// values.
     fn into_iter(self) -> IntoIter<T> {
-        let Buckets {
-            mut pointers,
-            reserved: _,
-        } = self;
-        let left = pointers.count_values();
         IntoIter {
-            pointers,
-            raw: RawIter::new(),
-            rest: 0,
-            left,
+            entries: self.into_entries(),
         }
     }
 }

@@ -1,14 +1,87 @@
-//! The walk of an owner's buckets that moves each value out, by ascending id.
+//! The walks of an owner's buckets that move each value out, by ascending id.
 ghost use Rattle.std.specs.Prelude.{◌≡◌, length, Some, IfSome};
 ghost use Rattle.std.specs.Iterator.{YieldsFirst, UpTo, item_count};
 ghost use Rattle.std.specs.Iterator.SizeHint.{IsWithinCount};
 
-pub use crate::iter_mut::IterMut;
+use crate::buckets::Buckets;
+pub use crate::drain::Drain;
+pub use crate::iter_mut::{EntriesMut, IterMut};
 use std::fmt;
 use std::iter::FusedIterator;
 use std::marker::Model;
-use thread_local_bucket_pointers::BucketPointers;
-use thread_local_owner_walk::{RawIter, seek, without_first};
+use thread_local_owner_walk::OwnerCursor;
+
+/// The values of a table's buckets with their ids, by ascending id, each moved out. Contracts see
+/// the list of those still to come.
+///
+/// No call takes a lock or memory. Dropping it drops the values still to come, whose drop may wait,
+/// and frees every bucket. The Rust crate has no such walk.
+#[derive(Drop)]
+pub struct IntoEntries<T> {
+    pub(crate) buckets: Buckets<T>,
+    pub(crate) cursor: OwnerCursor,
+}
+
+impl<T> Model for IntoEntries<T> {
+    ghost use Rattle.std.specs.Prelude.{ℕ, List};
+    ghost use Rattle.thread_local_model.specs.Buckets.{values};
+    ghost use Rattle.thread_local_model.specs.Walk.{walk, paired};
+
+    ghost Value = { List (ℕ × T) };
+
+    ghost use Rattle.thread_local_owner_walk.specs.Cursor.{IsOwnerWalk};
+
+    ghost view = { λ it. walk (paired (values it.buckets.contents)) };
+
+    ghost invariant = { λ it. IsOwnerWalk it.buckets.contents it.cursor };
+}
+
+impl<T: Drop> Iterator for IntoEntries<T> {
+    type Item = (usize, T);
+
+    ghost next_gives = { YieldsFirst (λ rest. rest) };
+
+    ghost remaining = { item_count (λ rest. rest) };
+
+    /// The next value, with its id.
+    #[tactic(auto, using(crate::proofs::EntriesLaws::no_entries))]
+    #[inline]
+    fn next(&mut self) -> Option<(usize, T)> {
+        if self.cursor.left == 0 {
+            return None;
+        }
+        Some(self.buckets.take_next(&mut self.cursor))
+    }
+
+    /// The number of values still to come, as both bounds.
+    fn size_hint(&self) -> (usize, Option<usize>)
+        ensures exact { result ≡ (length self.now, Some (length self.now)) }
+        ensures lower { IsWithinCount result.0 (item_count (λ rest. rest) self.now) }
+        ensures upper { IfSome result.1 (UpTo (item_count (λ rest. rest) self.now)) }
+    {
+        let left = self.len();
+        (left, Some(left))
+    }
+}
+
+impl<T: Drop> ExactSizeIterator for IntoEntries<T> {
+    /// The number of values still to come. They were counted when the walk was made.
+    #[tactic(auto, using(crate::proofs::EntriesLaws::length_of_entries))]
+    fn len(&self) -> usize {
+        self.cursor.left
+    }
+}
+
+impl<T: Drop> FusedIterator for IntoEntries<T> {}
+
+impl<T: fmt::Debug> fmt::Debug for IntoEntries<T> {
+    /// Shows only where the walk is.
+    fn fmt<W: fmt::Write>(&self, f: &mut fmt::Formatter<W>) -> fmt::Result {
+        f.debug_struct("IntoEntries")
+            .field("raw", &self.cursor.raw)
+            .finish()
+    }
+}
 
 /// The values of a table's buckets, by ascending id, each moved out. Contracts see the list of
 /// those still to come.
@@ -19,24 +92,15 @@ use thread_local_owner_walk::{RawIter, seek, without_first};
 /// and frees every bucket. The Rust crate promises no order.
 #[derive(Drop)]
 pub struct IntoIter<T> {
-    pub(crate) pointers: BucketPointers<T>,
-    pub(crate) raw: RawIter,
-    pub(crate) rest: u64,
-    pub(crate) left: usize,
+    pub(crate) entries: IntoEntries<T>,
 }
 
 impl<T> Model for IntoIter<T> {
-    ghost use Rattle.std.specs.Prelude.{List};
-    ghost use Rattle.thread_local_model.specs.Buckets.{values};
-    ghost use Rattle.thread_local_model.specs.Walk.{walk};
+    ghost use Rattle.std.specs.Prelude.{List, map};
 
     ghost Value = { List T };
 
-    ghost use Rattle.thread_local_owner_walk.specs.Cursor.{IsOwnerWalk};
-
-    ghost view = { λ it. walk (values it.pointers) };
-
-    ghost invariant = { λ it. IsOwnerWalk it.pointers it.raw it.rest it.left };
+    ghost view = { λ it. map (λ entry. entry.1) it.entries };
 }
 
 impl<T: Drop> Iterator for IntoIter<T> {
@@ -48,19 +112,10 @@ impl<T: Drop> Iterator for IntoIter<T> {
 
     /// The next value, whose flag is cleared before it moves out.
     fn next(&mut self) -> Option<T> {
-        if self.left == 0 {
-            return None;
+        match self.entries.next() {
+            Some((_, value)) => Some(value),
+            None => None,
         }
-        let flags = seek(&mut self.pointers, &mut self.raw, self.rest);
-        let index = self.raw.index;
-        self.raw.index += 1;
-        self.rest = without_first(flags);
-        let value = self
-            .pointers
-            .take_and_store(self.raw.bucket, index, self.rest);
-        self.raw.yielded += 1;
-        self.left -= 1;
-        Some(value)
     }
 
     /// The number of values still to come, as both bounds.
@@ -69,14 +124,14 @@ impl<T: Drop> Iterator for IntoIter<T> {
         ensures lower { IsWithinCount result.0 (item_count (λ rest. rest) self.now) }
         ensures upper { IfSome result.1 (UpTo (item_count (λ rest. rest) self.now)) }
     {
-        (self.left, Some(self.left))
+        self.entries.size_hint()
     }
 }
 
 impl<T: Drop> ExactSizeIterator for IntoIter<T> {
     /// The number of values still to come. They were counted when the walk was made.
     fn len(&self) -> usize {
-        self.left
+        self.entries.len()
     }
 }
 
@@ -85,6 +140,8 @@ impl<T: Drop> FusedIterator for IntoIter<T> {}
 impl<T: fmt::Debug> fmt::Debug for IntoIter<T> {
     /// Shows only where the walk is. The Rust crate shows the table.
     fn fmt<W: fmt::Write>(&self, f: &mut fmt::Formatter<W>) -> fmt::Result {
-        f.debug_struct("IntoIter").field("raw", &self.raw).finish()
+        f.debug_struct("IntoIter")
+            .field("raw", &self.entries.cursor.raw)
+            .finish()
     }
 }

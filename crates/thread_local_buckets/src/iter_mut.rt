@@ -1,11 +1,11 @@
-//! The walk of an owner's buckets that lends each value as `&mut`, by ascending id.
+//! The walks of an owner's buckets that lend each value as `&mut`, by ascending id.
 ghost use Rattle.std.specs.Prelude.{◌≡◌, length, Some, IfSome};
 ghost use types.Logic.{sem};
-ghost use Rattle.std.specs.Iterator.{YieldsFirstMut, UpTo, item_count};
+ghost use Rattle.std.specs.Iterator.{YieldsFirstMut, YieldsFirstBy, UpTo, item_count};
 ghost use Rattle.std.specs.Iterator.SizeHint.{IsWithinCount};
 ghost use Rattle.thread_local_model.specs.Buckets.{values};
 ghost use Rattle.thread_local_model.specs.Walk.{walk};
-ghost use Rattle.thread_local_buckets.specs.IterMut.{iter_mut_rest, iter_mut_name};
+ghost use Rattle.thread_local_buckets.specs.IterMut.{iter_mut_rest, iter_mut_name, entries_mut_rest};
 ghost use Rattle.thread_local_buckets.specs.LendingValues.{LendsValues};
 
 use crate::buckets::Buckets;
@@ -13,7 +13,84 @@ use std::fmt;
 use std::iter::FusedIterator;
 use std::marker::Model;
 use thread_local_loan::Loan;
-use thread_local_owner_walk::{RawIter, seek, without_first};
+use thread_local_owner_walk::OwnerCursor;
+
+/// The values of a table's buckets with their ids, by ascending id, each lent as `&mut`. Contracts
+/// see those still to come, and the name of their loan.
+///
+/// No call takes memory or waits. The Rust crate has no such walk.
+#[derive(Drop)]
+pub struct EntriesMut<'a, T> {
+    pub(crate) loan: Loan<'a, T>,
+    pub(crate) cursor: OwnerCursor,
+}
+
+impl<'a, T> Model for EntriesMut<'a, T> {
+    ghost use Rattle.std.specs.Prelude.{ℕ, List, ◌≤◌};
+    ghost use base.Fml.{GName};
+    ghost use Rattle.thread_local_model.specs.Buckets.{values};
+    ghost use Rattle.thread_local_model.specs.Place.{id_at};
+    ghost use Rattle.thread_local_model.specs.Walk.{walk, paired};
+
+    ghost Value = { List (ℕ × T) × GName };
+
+    ghost use Rattle.thread_local_owner_walk.specs.Cursor.{IsOwnerWalk};
+
+    ghost view = { λ it. (walk (paired (values it.loan.contents)), it.loan.name) };
+
+    ghost invariant = { λ it.
+        IsOwnerWalk it.loan.contents it.cursor
+        × (it.loan.given ≤ id_at it.cursor.raw.bucket it.cursor.raw.index) };
+}
+
+impl<'a, T> Iterator for EntriesMut<'a, T> {
+    type Item = (usize, &'a mut T);
+
+    ghost next_gives = { YieldsFirstBy (λ entry. (entry.0, entry.1.now)) entries_mut_rest };
+
+    ghost remaining = { item_count entries_mut_rest };
+
+    /// The next value, with its id. Its flag stays set.
+    #[tactic(auto, using(crate::proofs::EntriesLaws::no_entries))]
+    #[inline]
+    fn next(&mut self) -> Option<(usize, &'a mut T)> {
+        if self.cursor.left == 0 {
+            return None;
+        }
+        let index = self.cursor.pass(&mut self.loan);
+        let item = self.loan.give(self.cursor.raw.bucket, index);
+        Some((index + (self.cursor.raw.bucket_size - 1), item))
+    }
+
+    /// The number of values still to come, as both bounds.
+    fn size_hint(&self) -> (usize, Option<usize>)
+        ensures exact { result ≡ (length (entries_mut_rest self.now), Some (length (entries_mut_rest self.now))) }
+        ensures lower { IsWithinCount result.0 (item_count entries_mut_rest self.now) }
+        ensures upper { IfSome result.1 (UpTo (item_count entries_mut_rest self.now)) }
+    {
+        let left = self.len();
+        (left, Some(left))
+    }
+}
+
+impl<T> ExactSizeIterator for EntriesMut<'_, T> {
+    /// The number of values still to come. They were counted when the walk was made.
+    #[tactic(auto, using(crate::proofs::EntriesLaws::length_of_entries))]
+    fn len(&self) -> usize {
+        self.cursor.left
+    }
+}
+
+impl<T> FusedIterator for EntriesMut<'_, T> {}
+
+impl<T: fmt::Debug> fmt::Debug for EntriesMut<'_, T> {
+    /// Shows only where the walk is.
+    fn fmt<W: fmt::Write>(&self, f: &mut fmt::Formatter<W>) -> fmt::Result {
+        f.debug_struct("EntriesMut")
+            .field("raw", &self.cursor.raw)
+            .finish()
+    }
+}
 
 /// The values of a table's buckets, by ascending id, each lent as `&mut`. Contracts see those still
 /// to come, and the name of their loan.
@@ -21,28 +98,16 @@ use thread_local_owner_walk::{RawIter, seek, without_first};
 /// No call takes memory or waits. The Rust crate promises no order.
 #[derive(Drop)]
 pub struct IterMut<'a, T> {
-    pub(crate) loan: Loan<'a, T>,
-    pub(crate) raw: RawIter,
-    pub(crate) rest: u64,
-    pub(crate) left: usize,
+    pub(crate) entries: EntriesMut<'a, T>,
 }
 
 impl<'a, T> Model for IterMut<'a, T> {
-    ghost use Rattle.std.specs.Prelude.{List, ◌≤◌};
+    ghost use Rattle.std.specs.Prelude.{List, map};
     ghost use base.Fml.{GName};
-    ghost use Rattle.thread_local_model.specs.Buckets.{values};
-    ghost use Rattle.thread_local_model.specs.Place.{id_at};
-    ghost use Rattle.thread_local_model.specs.Walk.{walk};
 
     ghost Value = { List T × GName };
 
-    ghost use Rattle.thread_local_owner_walk.specs.Cursor.{IsOwnerWalk};
-
-    ghost view = { λ it. (walk (values it.loan.contents), it.loan.name) };
-
-    ghost invariant = { λ it.
-        IsOwnerWalk it.loan.contents it.raw it.rest it.left
-        × (it.loan.given ≤ id_at it.raw.bucket it.raw.index) };
+    ghost view = { λ it. (map (λ entry. entry.1) it.entries.0, it.entries.1) };
 }
 
 impl<'a, T> IntoIterator for &'a mut Buckets<T> {
@@ -70,16 +135,10 @@ impl<'a, T> Iterator for IterMut<'a, T> {
 
     /// The next value, whose flag stays set.
     fn next(&mut self) -> Option<&'a mut T> {
-        if self.left == 0 {
-            return None;
+        match self.entries.next() {
+            Some((_, item)) => Some(item),
+            None => None,
         }
-        let flags = seek(&mut self.loan, &mut self.raw, self.rest);
-        self.rest = without_first(flags);
-        let item = self.loan.give(self.raw.bucket, self.raw.index);
-        self.raw.yielded += 1;
-        self.raw.index += 1;
-        self.left -= 1;
-        Some(item)
     }
 
     /// The number of values still to come, as both bounds.
@@ -88,14 +147,14 @@ impl<'a, T> Iterator for IterMut<'a, T> {
         ensures lower { IsWithinCount result.0 (item_count iter_mut_rest self.now) }
         ensures upper { IfSome result.1 (UpTo (item_count iter_mut_rest self.now)) }
     {
-        (self.left, Some(self.left))
+        self.entries.size_hint()
     }
 }
 
 impl<T> ExactSizeIterator for IterMut<'_, T> {
     /// The number of values still to come. They were counted when the walk was made.
     fn len(&self) -> usize {
-        self.left
+        self.entries.len()
     }
 }
 
@@ -104,6 +163,8 @@ impl<T> FusedIterator for IterMut<'_, T> {}
 impl<T: fmt::Debug> fmt::Debug for IterMut<'_, T> {
     /// Shows only where the walk is.
     fn fmt<W: fmt::Write>(&self, f: &mut fmt::Formatter<W>) -> fmt::Result {
-        f.debug_struct("IterMut").field("raw", &self.raw).finish()
+        f.debug_struct("IterMut")
+            .field("raw", &self.entries.cursor.raw)
+            .finish()
     }
 }

@@ -2,8 +2,10 @@
 #![tactic(auto)]
 
 pub mod buckets;
+mod drain;
+mod error;
 pub mod iter;
 mod iter_mut;
 
 pub use buckets::{Buckets, CapacityError};
-pub use iter::{IntoIter, IterMut};
+pub use iter::{Drain, EntriesMut, IntoEntries, IntoIter, IterMut};

@@ -1,6 +1,7 @@
 pub mod PlaceLaws
 pub mod HeldLaws
 pub mod WalkLaws
+pub mod EntriesLaws
 pub mod CapacityLaws
 pub mod SlotsLaws
 pub mod AnswersLaws

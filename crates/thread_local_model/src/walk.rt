@@ -1,5 +1,6 @@
 //! What a walk over a table gives: each value once, by ascending id.
-ghost use Rattle.std.specs.Prelude.{◌≡◌, ℕ, ◌-◌, ◌^◌, ◌<◌, ◌↔◌, List, map, Contains, Option, Some};
+ghost use Rattle.std.specs.Prelude.{◌≡◌, ◌≢◌, ℕ, ◌-◌, ◌^◌, ◌<◌, ◌↔◌, List, length, map, Contains, IsPermutation, Option, Some};
+ghost use Rattle.std.specs.List.{AllPairs};
 ghost use Rattle.std.specs.List.Sorted.{IsStrictlyIncreasing};
 ghost use Rattle.thread_local_model.specs.Walk.{walk, paired};
 
@@ -10,4 +11,14 @@ pub fn walk_lists_the_map<V>()
     ensures exact { (values : ℕ → Option V) (id : ℕ) (v : V)
         → Contains (walk (paired values)) (id, v) ↔ ((id < 2 ^ 63 - 1) × (values id ≡ Some v)) }
     ensures ascending { (values : ℕ → Option V) → IsStrictlyIncreasing (map (λ pair. pair.0) (walk (paired values))) }
+{}
+
+/// Different ids, each with its value in the map, are all of the map where there are as many of
+/// them as values: a walk gives their values, in some order.
+pub fn as_many_are_all<V>()
+    ensures { (values : ℕ → Option V) (entries : List (ℕ × V))
+        → AllPairs (λ one other. one.0 ≢ other.0) entries
+        → ((id : ℕ) (v : V) → Contains entries (id, v) → (id < 2 ^ 63 - 1) × (values id ≡ Some v))
+        → length entries ≡ length (walk values)
+        → IsPermutation (map (λ entry. entry.1) entries) (walk values) }
 {}

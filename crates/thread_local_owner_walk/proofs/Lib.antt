@@ -8,3 +8,4 @@ pub mod InsertingLaws
 pub mod FlagLaws
 pub mod NextValue
 pub mod RefilledLaws
+pub mod EmptyingLaws

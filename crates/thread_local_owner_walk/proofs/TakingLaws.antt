@@ -1,11 +1,11 @@
 -- How a walk goes on once its first value is taken, and how values are counted.
 use Rattle.std.proofs.Common.{◌≡◌, ◌≢◌, ℕ, zero, suc, ◌+◌, ◌-◌, ◌^◌, ◌<◌, ◌≤◌, false, cond, length, [], ◌∷◌, ◌++◌, Option, Some, None, is_some, refl, ap, sym, ◌∙◌, subst, arith, ⊎_elim, length-append, add-one, pow_pos, pow_mono}
-use Rattle.std.specs.Prelude.{option_to_list}
+use Rattle.std.specs.Prelude.{option_to_list, option_map}
 use Rattle.std.proofs.lemmas.List.{get_or_past}
 use Rattle.std.proofs.lemmas.Bool.{cases_eq, cases_lt}
 use Rattle.std.proofs.Math.Nat.{two-pow-succ}
 use Rattle.thread_local_model.specs.Place.{bucket_of, id_at}
-use Rattle.thread_local_model.specs.Walk.{walk, walk_below}
+use Rattle.thread_local_model.specs.Walk.{walk, walk_below, paired}
 use Rattle.thread_local_model.specs.Buckets.{Contents, row, values}
 use Rattle.thread_local_model.specs.Rows.{value_in, with_slot}
 use Rattle.thread_local_model.proofs.PlaceLaws as place
@@ -48,6 +48,10 @@ module _ {V : Type 0} where
   length-option_to_list None = refl
   length-option_to_list (Some v) = refl
 
+  none_of : (o : Option V) → length (option_to_list o) ≡ 0 → o ≡ None
+  none_of None h = refl
+  none_of (Some v) h = absurd (omega (arith, h))
+
   -- there are none below 0, and one more past each value
   pub count_below-zero : (values : ℕ → Option V) → count_below values 0 ≡ 0
   unfolding count_below walk_below
@@ -60,6 +64,18 @@ module _ {V : Type 0} where
   pub count_below-walk : (values : ℕ → Option V) → count_below values (2 ^ 63 - 1) ≡ length (walk values)
   unfolding count_below walk
   count_below-walk values = refl
+
+  -- where no value is counted, there is none
+  NoneBelow-counted : (values : ℕ → Option V) (n : ℕ) → length (walk_below values n) ≡ 0 → NoneBelow values n
+  unfolding walk_below
+  NoneBelow-counted values zero nothing id l = absurd (omega arith)
+  NoneBelow-counted values (suc n) nothing id l =
+      let both = length-append (walk_below values n) (option_to_list (values n)) in
+      ⊎_elim (λ (at : id ≡ n). ap values at ∙ none_of (values n) (omega arith)) (λ (apart : id ≢ n). NoneBelow-counted values n (omega arith) id (omega arith)) (cases_eq id n)
+
+  pub NoneBelow-walk : (values : ℕ → Option V) → length (walk values) ≡ 0 → NoneBelow values (2 ^ 63 - 1)
+  unfolding walk
+  NoneBelow-walk values nothing = NoneBelow-counted values (2 ^ 63 - 1) nothing
 
   pub count_below-le : (values : ℕ → Option V) (n : ℕ) → count_below values n ≤ n
   unfolding count_below
@@ -146,9 +162,10 @@ module _ {V : Type 0} where
       ap length (walk-none (values c) (λ id l. none id (omega arith)))
 
 -- a value was taken from the first slot that had one: the walk before is that value and then the
--- walk after
+-- walk after, with ids and without
 pub record Takes {V : Type 0} (before after : Contents V) (b i : ℕ) (v : V) : Type 0 where
   pub walked : walk (values before) ≡ v ∷ walk (values after)
+  pub entries : walk (paired (values before)) ≡ (id_at b i, v) ∷ walk (paired (values after))
   pub behind : NoneBelow (values after) (id_at b (i + 1))
 
 module _ {V : Type 0} where
@@ -172,6 +189,9 @@ module _ {V : Type 0} where
       let P : ℕ → Type 0 = NoneBelow (values (with_slot c b i None)) in
       let taken : Takes c (with_slot c b i None) b i v = record {
         walked = walk-taken (values c) (values (with_slot c b i None)) (id_at b i) v (place.id_at-below b i low inside) none (values-id_at c b i inside ∙ here) gone same;
+        entries = walk-taken (paired (values c)) (paired (values (with_slot c b i None))) (id_at b i) (id_at b i, v) (place.id_at-below b i low inside)
+            (λ id l. ap (option_map (λ w. (id, w))) (none id l)) (ap (option_map (λ w. (id_at b i, w))) (values-id_at c b i inside ∙ here))
+            (ap (option_map (λ w. (id_at b i, w))) gone) (λ id ne. ap (option_map (λ w. (id, w))) (same id ne));
         behind = subst P next (NoneBelow-taken (values c) (values (with_slot c b i None)) (id_at b i) none gone same);
       } in
       let Q : Contents V → Type 0 = λ e. Takes c e b i v in

@@ -8,6 +8,7 @@ use Rattle.thread_local_model.specs.Rows.{value_in}
 use Rattle.thread_local_model.specs.Walk.{walk}
 use Rattle.thread_local_owner_walk.specs.Owner.{NoneBelow}
 use Rattle.thread_local_owner_walk.specs.declared.cursor.RawIter.{RawIter}
+use Rattle.thread_local_owner_walk.specs.declared.cursor.OwnerCursor.{OwnerCursor}
 
 -- the walk at the first slot of the next bucket
 abbrev pub next_bucket : RawIter → RawIter
@@ -50,8 +51,8 @@ pub record IsAtValue {V : Type 0} (contents : Contents V) (raw : RawIter) (word 
   pub flags : AreFlagsAt contents raw.bucket raw.index word
   pub first : IsLowestSet word (raw.index % 64)
 
--- the walk has `left` values to come, none of them before its place
-pub record IsOwnerWalk {V : Type 0} (contents : Contents V) (raw : RawIter) (rest left : ℕ) : Type 0 where
-  pub at : IsAt contents raw rest
-  pub counted : left ≡ length (walk (values contents))
-  pub fits : raw.yielded + left < 2 ^ 63
+-- the walk has as many values to come as the cursor says, none of them before its place
+pub record IsOwnerWalk {V : Type 0} (contents : Contents V) (cursor : OwnerCursor) : Type 0 where
+  pub at : IsAt contents cursor.raw cursor.rest
+  pub counted : cursor.left ≡ length (walk (values contents))
+  pub fits : cursor.raw.yielded + cursor.left < 2 ^ 63

@@ -1,6 +1,6 @@
--- How an owner's calls change the contents: they make a bucket, publish a value in a slot, or
--- clear.
-use Rattle.std.specs.Prelude.{ℕ, ◌<◌, ◌≡◌, nat_lt, List, [], Option, Some, None, if◌then◌else◌}
+-- How an owner's calls change the contents: they make a bucket, publish a value in a slot, clear,
+-- or drain.
+use Rattle.std.specs.Prelude.{ℕ, ◌<◌, ◌≡◌, nat_lt, List, [], map, Option, Some, None, if◌then◌else◌}
 use Rattle.thread_local_model.specs.Place.{id_at}
 use Rattle.thread_local_model.specs.Buckets.{Contents, stands, values}
 use Rattle.thread_local_model.specs.Rows.{with_row, with_slot, empty_row}
@@ -19,6 +19,10 @@ with_published contents bucket index v = with_slot (with_bucket contents bucket)
 -- else none
 abbrev pub cleared_row : {V : Type 0} → ℕ → ℕ → List (Option V)
 cleared_row reserved bucket = if nat_lt (id_at bucket 0) reserved then empty_row bucket else []
+
+-- the contents without their values: the same buckets stand
+abbrev pub emptied : {V : Type 0} → Contents V → Contents V
+emptied contents = record { rows = map (map (λ _. None)) contents.rows }
 
 -- an owner's contents as a sheet on which no id is held
 abbrev pub sheet_of : {V : Type 0} → Contents V → Sheet V

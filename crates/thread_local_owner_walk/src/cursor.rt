@@ -1,13 +1,13 @@
 //! How an owner's walk finds its next value: it reads the flags of 64 slots at a time, and skips
 //! flags that are all 0.
-ghost use Rattle.std.specs.Prelude.{◌≡◌, ◌+◌, ◌*◌, ◌^◌, ◌<◌, ◌≤◌, true, false, [], ℕ, length, is_some};
+ghost use Rattle.std.specs.Prelude.{◌≡◌, ◌+◌, ◌*◌, ◌^◌, ◌<◌, ◌≤◌, true, false, [], ◌∷◌, ℕ, length, Some, None, is_some, IsSome};
 ghost use Rattle.thread_local_bits.specs.Bits.{is_set, IsLowestSet, IsWordBut};
 ghost use Rattle.thread_local_model.specs.Place.{id_at};
 ghost use Rattle.thread_local_model.specs.Buckets.{Contents, row, stands, values};
-ghost use Rattle.thread_local_model.specs.Rows.{value_in};
-ghost use Rattle.thread_local_model.specs.Walk.{walk};
+ghost use Rattle.thread_local_model.specs.Rows.{value_in, with_slot};
+ghost use Rattle.thread_local_model.specs.Walk.{walk, paired};
 ghost use Rattle.thread_local_owner_walk.specs.Owner.{NoneBelow};
-ghost use Rattle.thread_local_owner_walk.specs.Cursor.{next_bucket, IsAt, IsAtFlags, IsAtValue};
+ghost use Rattle.thread_local_owner_walk.specs.Cursor.{next_bucket, AreFlagsAt, IsAt, IsAtFlags, IsAtValue, IsOwnerWalk};
 
 use thread_local_thread_id::BUCKETS;
 
@@ -147,7 +147,7 @@ fn flags_ahead<P: FlagSource>(source: &mut P, raw: &mut RawIter, rest: u64) -> u
 /// Advances to the next value, of which there must be one. Returns the flags of its chunk from this
 /// value's on. `rest` are the flags that the walk has read and not passed yet. It takes no memory.
 #[inline]
-pub fn seek<P: FlagSource>(source: &mut P, raw: &mut RawIter, rest: u64) -> u64
+fn seek<P: FlagSource>(source: &mut P, raw: &mut RawIter, rest: u64) -> u64
     requires at { IsAt (P.contents source.old) raw.old rest }
     requires ahead { P.given source.old ≤ id_at raw.old.bucket raw.old.index }
     requires some { 0 < length (walk (values (P.contents source.old))) }
@@ -163,9 +163,72 @@ pub fn seek<P: FlagSource>(source: &mut P, raw: &mut RawIter, rest: u64) -> u64
 
 /// The flags, with the lowest set one cleared.
 #[inline]
-pub fn without_first(flags: u64) -> u64
+fn without_first(flags: u64) -> u64
     requires { 0 < flags }
     ensures { (first : ℕ) → IsLowestSet flags first → IsWordBut result flags first false }
 {
     flags & (flags - 1)
+}
+
+/// Where an owner's walk is, and how many values it has left. No call takes memory.
+#[derive(Drop)]
+pub struct OwnerCursor {
+    /// The place that the walk looks at next.
+    pub raw: RawIter,
+    /// The flags of the 64 slots that the walk is in, without those that it has passed. 0 where it
+    /// has read none.
+    pub rest: u64,
+    /// How many values are still to come.
+    pub left: usize,
+}
+
+impl OwnerCursor {
+    /// A walk of so many values, before the first.
+    pub fn new(left: usize) -> OwnerCursor
+        ensures raw { result.raw ≡ record { yielded = 0; bucket = 0; bucket_size = 1; index = 0 } }
+        ensures rest { result.rest ≡ 0 }
+        ensures left { result.left ≡ left }
+    {
+        OwnerCursor {
+            raw: RawIter::new(),
+            rest: 0,
+            left,
+        }
+    }
+
+    /// Passes the next value, of which there must be one, and returns its index in the bucket
+    /// `raw.bucket`. The caller takes the value out of the source.
+    #[inline]
+    pub fn pass<P: FlagSource>(&mut self, source: &mut P) -> usize
+        requires walk { IsOwnerWalk (P.contents source.old) self.old }
+        requires ahead { P.given source.old ≤ id_at self.old.raw.bucket self.old.raw.index }
+        requires some { 0 < self.old.left }
+        ensures same { source.new ≡ source.old }
+        ensures in_bucket { result < length (row (P.contents source.old) self.new.raw.bucket) }
+        ensures published { IsSome (value_in (P.contents source.old) self.new.raw.bucket result) }
+        ensures ahead { P.given source.old ≤ id_at self.new.raw.bucket result }
+        ensures index { self.new.raw.index ≡ result + 1 }
+        ensures left { self.new.left + 1 ≡ self.old.left }
+
+        // What is left is a walk of the contents without the value, and the value comes first.
+        ensures flags { AreFlagsAt
+            (with_slot (P.contents source.old) self.new.raw.bucket result None)
+            self.new.raw.bucket result self.new.rest }
+        ensures walk { IsOwnerWalk
+            (with_slot (P.contents source.old) self.new.raw.bucket result None)
+            self.new }
+        ensures first { (v : P.Value)
+            → value_in (P.contents source.old) self.new.raw.bucket result ≡ Some v
+            → walk (paired (values (P.contents source.old)))
+            ≡ (id_at self.new.raw.bucket result, v)
+            ∷ walk (paired (values (with_slot (P.contents source.old) self.new.raw.bucket result None))) }
+    {
+        let flags = seek(source, &mut self.raw, self.rest);
+        self.rest = without_first(flags);
+        let index = self.raw.index;
+        self.raw.index += 1;
+        self.raw.yielded += 1;
+        self.left -= 1;
+        index
+    }
 }

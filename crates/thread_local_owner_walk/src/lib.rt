@@ -6,4 +6,4 @@ pub mod cursor;
 pub mod inserting;
 pub mod walking;
 
-pub use cursor::{FlagSource, RawIter, seek, without_first};
+pub use cursor::{FlagSource, OwnerCursor, RawIter};

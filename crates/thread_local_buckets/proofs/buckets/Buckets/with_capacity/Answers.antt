@@ -14,7 +14,7 @@ loop-bucket-init g c = let P : Contents _ → Type 0 = λ w. IsFilled w 0 in sub
 
 pub loop-bucket-preserved : goal.loop-bucket-preserved
 loop-bucket-preserved g c =
-    IsFilled-more c.loop-bucket.pointers c.ensure_bucket.new.self c.loop-bucket.bucket c.loop-bucket.invariant (omega arith) c.ensure_bucket.ensures.absent c.in_default.ensures.ok
+    IsFilled-more c.loop-bucket.pointers c.ensure_bucket.new.self c.loop-bucket.bucket c.loop-bucket.invariant (omega arith) c.ensure_bucket.ensures.absent c.in_ok-ensure_bucket.ensures.ok
 
 pub invariant_of-result : goal.invariant_of-result
 invariant_of-result g c =

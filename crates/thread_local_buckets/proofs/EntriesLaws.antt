@@ -1,0 +1,23 @@
+-- A walk with ids, and the one without.
+use Rattle.std.proofs.Common.{◌≡◌, ℕ, ◌-◌, ◌^◌, List, [], ◌∷◌, length, map, Option, refl, sym, ap, ◌∙◌, arith}
+use Rattle.std.proofs.lemmas.List.{length-map}
+use Rattle.thread_local_model.specs.Walk.{walk, paired}
+use Rattle.thread_local_model.proofs.WalkLaws.{map-walk_below}
+
+empty : {X : Type 0} (xs : List X) → length xs ≡ 0 → xs ≡ []
+empty [] h = refl
+empty (x ∷ xs) h = absurd (omega (arith, h))
+
+module _ {V : Type 0} where
+  -- the values of the entries are those of the map
+  pub walk_of_entries : (values : ℕ → Option V) → map (λ entry. entry.1) (walk (paired values)) ≡ walk values
+  unfolding walk
+  walk_of_entries values = map-walk_below values (2 ^ 63 - 1)
+
+  -- and there are as many
+  pub length_of_entries : (values : ℕ → Option V) → length (walk (paired values)) ≡ length (walk values)
+  length_of_entries values = sym (length-map (walk (paired values)) (λ entry. entry.1)) ∙ ap length (walk_of_entries values)
+
+  -- so none are left where no value is
+  pub no_entries : (values : ℕ → Option V) → length (walk values) ≡ 0 → walk (paired values) ≡ []
+  no_entries values none = empty (walk (paired values)) (length_of_entries values ∙ none)

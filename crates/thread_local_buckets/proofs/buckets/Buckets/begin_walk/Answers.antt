@@ -1,0 +1,10 @@
+use Rattle.std.proofs.Common.{◌≡◌, sym, ◌∙◌, subst}
+use Rattle.thread_local_model.specs.Owned.{Owned}
+use Rattle.thread_local_owner_walk.specs.Owner.{emptied}
+use Rattle.thread_local_owner_walk.proofs.EmptyingLaws.{emptied-none}
+use Rattle.thread_local_buckets.proofs.buckets.Buckets.begin_walk.Goals as goal
+
+pub returns-clause-ends : goal.returns-clause-ends
+returns-clause-ends g c = λ none.
+    let P : Owned _ → Type 0 = λ s. emptied s.contents ≡ s.contents in
+    subst P c.self.view_is (emptied-none c.self.inside.pointers c.self.invariant.table (sym c.count_values.ensures.counted ∙ sym c.new.ensures.left ∙ none))

@@ -1,0 +1,19 @@
+use Rattle.std.proofs.Common.{refl, ap, ◌∙◌}
+use Rattle.thread_local_model.specs.Buckets.{Contents, values}
+use Rattle.thread_local_model.specs.Owned.{Owned}
+use Rattle.thread_local_model.specs.Walk.{walk, paired}
+use Rattle.thread_local_buckets.specs.LendingValues.{owned_refilled}
+use Rattle.thread_local_buckets.proofs.Refilling.{refilled-stands, refilled-published}
+use Rattle.thread_local_buckets.proofs.buckets.Buckets.entries_mut.Goals as goal
+
+pub returns : goal.returns
+returns g c =
+    let counted = c.begin_walk-cursor.ensures.same in (
+      (refl, λ w. ap (λ (s : Owned _). owned_refilled s w) counted),
+      record {
+        writes_back = tt;
+        rest = ap (λ (contents : Contents _). walk (paired (values contents))) c.lend.ensures.contents ∙ ap (λ (s : Owned _). walk (paired (values s.contents))) counted;
+        would_stand = refilled-stands c.args.self.now;
+        would_be_published = refilled-published c.args.self.now;
+      },
+    )

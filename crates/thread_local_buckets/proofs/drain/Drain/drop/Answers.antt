@@ -1,0 +1,10 @@
+use Rattle.std.proofs.Common.{ap, sym, ◌∙◌}
+use Rattle.thread_local_model.specs.Owned.{Owned}
+use Rattle.thread_local_owner_walk.specs.Owner.{emptied}
+use Rattle.thread_local_owner_walk.proofs.EmptyingLaws.{emptied-emptied}
+use Rattle.thread_local_buckets.proofs.drain.Drain.drop.Goals as goal
+
+pub invariant_of-self : goal.invariant_of-self
+invariant_of-self g c =
+    let left = c.drop_rest.ensures in
+    record { ends = λ _. ap (λ (s : Owned _). emptied s.contents) left ∙ emptied-emptied c.args.self.buckets.now.contents ∙ ap (λ (s : Owned _). s.contents) (sym left) }

@@ -1,0 +1,43 @@
+-- What contracts see of a `Drain`: the values still to come, and what it leaves once it is dropped.
+use Rattle.std.specs.Prelude.{◌≡◌, ℕ, List, Option}
+use Rattle.std.specs.Borrow.{GName}
+use Rattle.std.specs.Iterator.{YieldsFirst, Yields}
+use Rattle.thread_local_model.specs.Buckets.{values}
+use Rattle.thread_local_model.specs.Owned.{Owned}
+use Rattle.thread_local_model.specs.Walk.{walk}
+use Rattle.thread_local_owner_walk.specs.Cursor.{IsOwnerWalk}
+use Rattle.thread_local_buckets.specs.Emptied.{owned_emptied}
+use Rattle.thread_local_buckets.specs.declared.drain.Drain.{Drain}
+
+module _ {X : Type 0} where
+  -- the values still to come
+  abbrev pub drain_rest : Drain X → List X
+  drain_rest d = walk (values d.buckets.now.contents)
+
+  -- how many there are, as `len` counts them
+  abbrev pub drain_left : Drain X → ℕ
+  drain_left d = d.cursor.left
+
+  -- the buckets once the `Drain` is dropped
+  abbrev pub drain_leaves : Drain X → Owned X
+  drain_leaves d = owned_emptied d.buckets.now
+
+  -- the ghost name of the reference to the buckets
+  abbrev pub drain_lender : Drain X → GName
+  drain_lender d = d.buckets.ghost_name
+
+  -- the walk is before the values that its count says, as `drain` and `next` leave it
+  abbrev pub DrainCanStep : Drain X → Type 0
+  DrainCanStep d = IsOwnerWalk d.buckets.now.contents d.cursor
+
+  -- old and new borrow the same buckets, and leave the same once dropped
+  abbrev pub DrainKeeps : Drain X → Drain X → Type 0
+  DrainKeeps old new = (drain_lender new ≡ drain_lender old) × (drain_leaves new ≡ drain_leaves old)
+
+  -- `next` took old to new, and returned the first value
+  abbrev pub DrainSteps : Drain X → Option X → Drain X → Type 0
+  DrainSteps old item new = YieldsFirst drain_rest old item new × DrainKeeps old new × DrainCanStep new
+
+  -- each state that calls of `next` lead to keeps what the first keeps
+  abbrev pub DrainKeepsAlong : Drain X → Type 0
+  DrainKeepsAlong first = (items : List X) (later : Drain X) → Yields DrainSteps first items later → DrainKeeps first later

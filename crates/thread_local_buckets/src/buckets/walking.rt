@@ -1,0 +1,56 @@
+//! The steps of the walks that move values out of an owner's buckets.
+ghost use Rattle.std.specs.Prelude.{◌≡◌, ◌+◌, ◌<◌, ◌∷◌};
+ghost use Rattle.thread_local_model.specs.Buckets.{values};
+ghost use Rattle.thread_local_model.specs.Walk.{walk, paired};
+ghost use Rattle.thread_local_owner_walk.specs.Cursor.{IsOwnerWalk};
+ghost use Rattle.thread_local_owner_walk.specs.Owner.{emptied};
+ghost use Rattle.thread_local_buckets.specs.Emptied.{owned_emptied};
+
+use super::Buckets;
+use thread_local_owner_walk::OwnerCursor;
+
+impl<T> Buckets<T> {
+    /// The cursor of a walk over all values, which it counts.
+    pub(crate) fn begin_walk(&mut self) -> OwnerCursor
+        ensures same { self.new ≡ self.old }
+        ensures walk { IsOwnerWalk self.old.contents result }
+        ensures ends { result.left ≡ 0 → emptied self.old.contents ≡ self.old.contents }
+    {
+        OwnerCursor::new(self.pointers.count_values())
+    }
+
+    /// Moves out the next value of a walk, of which there must be one, and returns it with its id.
+    /// Its flag is cleared before it moves out.
+    #[inline]
+    pub(crate) fn take_next(&mut self, cursor: &mut OwnerCursor) -> (usize, T)
+        requires walk { IsOwnerWalk self.old.contents cursor.old }
+        requires some { 0 < cursor.old.left }
+        ensures walk { IsOwnerWalk self.new.contents cursor.new }
+        ensures first { walk (paired (values self.old.contents)) ≡ result ∷ walk (paired (values self.new.contents)) }
+        ensures left { cursor.new.left + 1 ≡ cursor.old.left }
+        ensures ends { cursor.new.left ≡ 0 → emptied self.new.contents ≡ self.new.contents }
+        ensures leaves { owned_emptied self.new ≡ owned_emptied self.old }
+    {
+        let index = cursor.pass(&mut self.pointers);
+        let value = self
+            .pointers
+            .take_and_store(cursor.raw.bucket, index, cursor.rest);
+        (index + (cursor.raw.bucket_size - 1), value)
+    }
+
+    /// Drops every value where a walk has some left, and keeps every bucket.
+    pub(crate) fn drop_rest(&mut self, left: usize)
+    where
+        T: Drop,
+        requires ends { left ≡ 0 → emptied self.old.contents ≡ self.old.contents }
+        ensures { self.new ≡ owned_emptied self.old }
+    {
+        if left == 0 {
+            return;
+        }
+        let mut cursor = self.begin_walk();
+        for _ in 0..cursor.left {
+            drop(self.take_next(&mut cursor));
+        }
+    }
+}
