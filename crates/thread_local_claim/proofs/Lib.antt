@@ -1,3 +1,2 @@
 mod Fields
 mod IdLaws
-mod Pairs

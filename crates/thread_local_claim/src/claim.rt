@@ -1,22 +1,23 @@
 //! A claim of a slot, in three states: its bucket was missing, the slot is vacant, the slot holds a
 //! value. It begins in any of them, and goes on from one to the next.
-ghost use Rattle.std.specs.Prelude.{◌≡◌, ◌≢◌, ◌/◌, ◌^◌, ◌⊎◌, true, Some, MatchBool, MatchOption};
+ghost use Rattle.std.specs.Prelude.{◌≡◌, ◌≢◌, ◌/◌, ◌^◌, ◌⊎◌, true, Some, IsSome, MatchBool, MatchOption};
 ghost use Rattle.thread_local_model.specs.Learnt.{Unknown, Missing, Vacant, Holding, Finds, learnt_by_install, learnt_by_publish};
 ghost use Rattle.thread_local_model.specs.Place.{bucket_of, index_of};
 ghost use Rattle.thread_local_blocks.specs.Slots.{empty_slots, word_number};
 ghost use Rattle.thread_local_claim_logic.specs.Known.{IsKnown};
 
 use crate::claimed::{ClaimedSlot, found_again, offered, published};
-use crate::replaced::replace_with;
 use std::alloc::Global;
 use std::marker::Model;
 use thread_local_blocks::{Block, flag_word};
+use thread_local_published::Published;
+use thread_local_raw::replace_with;
 use thread_local_rights::{HeldId, Right};
 use thread_local_shared_bucket::SharedBucket;
 use thread_local_thread_id::Thread;
 
-/// The slot of an id, for whoever has the right to the id. Contracts see its table, its id, whether
-/// its bucket is reserved, and what it has learnt of the slot: that the bucket was missing, that
+/// The slot of an id, for whoever has the right to the id. Contracts see its table, the sharing, its
+/// id, whether its bucket is reserved, and what it has learnt of the slot: that the bucket was missing, that
 /// the slot is vacant, or the value that the slot holds.
 ///
 /// No call waits or takes memory. Only `look`, `look_again`, `install` and `publish` make atomic
@@ -41,6 +42,7 @@ impl<'a, T> Model for Claim<'a, T> {
     ghost view = { λ c.
         record {
           table = c.slot.table;
+          sharing = c.slot.sharing;
           id = c.slot.id;
           reserved = c.slot.reserved;
           learnt = c.slot.learnt;
@@ -64,7 +66,9 @@ impl<'a, T> Claim<'a, T> {
         requires table { held.right.table ≡ bucket.now.table }
         requires place { (thread.bucket ≡ bucket_of held.id) × (thread.index ≡ index_of held.id) }
         requires bucket { bucket.now.bucket ≡ thread.bucket }
-        ensures right { (result.table ≡ held.right.table) × (result.id ≡ held.id) }
+        ensures right { (result.table ≡ held.right.table)
+            × (result.sharing ≡ bucket.now.sharing)
+            × (result.id ≡ held.id) }
         ensures found { Finds Unknown result.learnt }
         ensures learnt { IsKnown result.learnt }
         ensures reserved { (result.reserved ≡ bucket.now.reserved)
@@ -83,7 +87,9 @@ impl<'a, T> Claim<'a, T> {
     /// stands now, the slot is vacant, whoever installed the block.
     pub fn look_again(&mut self)
         requires { self.old.learnt ≡ Missing }
-        ensures right { (self.new.table ≡ self.old.table) × (self.new.id ≡ self.old.id) }
+        ensures right { (self.new.table ≡ self.old.table)
+            × (self.new.sharing ≡ self.old.sharing)
+            × (self.new.id ≡ self.old.id) }
         ensures found { Finds self.old.learnt self.new.learnt }
         ensures learnt { (self.new.learnt ≡ Missing) ⊎ (self.new.learnt ≡ Vacant) }
         ensures reserved { (self.new.reserved ≡ self.old.reserved)
@@ -101,7 +107,9 @@ impl<'a, T> Claim<'a, T> {
         requires block { (block.heap ≡ alloc.now)
             × (block.slots ≡ empty_slots (2 ^ bucket_of self.old.id))
             × (block.left ≡ 0) }
-        ensures right { (self.new.table ≡ self.old.table) × (self.new.id ≡ self.old.id) }
+        ensures right { (self.new.table ≡ self.old.table)
+            × (self.new.sharing ≡ self.old.sharing)
+            × (self.new.id ≡ self.old.id) }
         ensures learnt { learnt_by_install self.old.learnt ≡ Some self.new.learnt }
         ensures reserved { self.new.reserved ≡ self.old.reserved }
     {
@@ -115,7 +123,9 @@ impl<'a, T> Claim<'a, T> {
     /// atomic addition that never has to be tried again.
     pub fn publish(&mut self, value: T)
         requires { self.old.learnt ≡ Vacant }
-        ensures right { (self.new.table ≡ self.old.table) × (self.new.id ≡ self.old.id) }
+        ensures right { (self.new.table ≡ self.old.table)
+            × (self.new.sharing ≡ self.old.sharing)
+            × (self.new.id ≡ self.old.id) }
         ensures learnt { learnt_by_publish self.old.learnt value ≡ Some self.new.learnt }
         ensures reserved { self.new.reserved ≡ self.old.reserved }
     {
@@ -159,6 +169,33 @@ impl<'a, T> Claim<'a, T> {
         } else {
             None
         }
+    }
+
+    /// What the slot was published with, as a token, where the slot holds a value. At run time it
+    /// reads what the claim knows.
+    #[tactic(auto, using(crate::proofs::IdLaws::id_of_place))]
+    pub fn published(&self) -> Option<Published<T>>
+        ensures { MatchOption result ((self.now.learnt ≡ Missing) ⊎ (self.now.learnt ≡ Vacant)) (λ p.
+            (p.sharing ≡ self.now.sharing)
+            × (p.id ≡ self.now.id)
+            × (self.now.learnt ≡ Holding p.value)) }
+    {
+        if !self.slot.is_published() {
+            return None;
+        }
+        Some(Published::new(self.thread.id(), self.slot.witness()))
+    }
+
+    /// Shows that the slot holds what a token says that it was published with. At run time it does
+    /// nothing.
+    pub fn agrees(&mut self, published: &Published<T>)
+        requires id { self.old.id ≡ published.now.id }
+        requires sharing { self.old.sharing ≡ published.now.sharing }
+        requires named { IsSome self.old.sharing }
+        ensures holds { self.old.learnt ≡ Holding published.now.value }
+        ensures same { self.new ≡ self.old }
+    {
+        self.slot.agrees(published.witness());
     }
 
     /// Gives the claim up, and returns the held id.

@@ -1,7 +1,8 @@
 //! A claimed slot as it is stored: it points to the bucket's pointer until the bucket is found, and
 //! to the block from then on.
-ghost use Rattle.std.specs.Prelude.{◌≡◌, ◌≢◌, ◌<◌, ◌^◌, ◌⊎◌, ℕ, Bool, true, is_some, IfSome};
+ghost use Rattle.std.specs.Prelude.{◌≡◌, ◌≢◌, ◌<◌, ◌^◌, ◌⊎◌, ℕ, Bool, true, Option, is_some, IfSome};
 ghost use base.Stored.{coded_bool};
+ghost use Rattle.std.specs.Coded.{coded_option, coded_ℕ};
 ghost use denote.RawPtr.{Ptr, coded_ptr};
 ghost use Rattle.thread_local_blocks.specs.Slots.{empty_slots};
 ghost use Rattle.thread_local_model.specs.Learnt.{Learnt, learnt_coded, Unknown, Missing, Vacant, Holding, Finds};
@@ -21,9 +22,10 @@ use thread_local_shared_bucket::SharedBucket;
 mod give_up;
 mod install;
 mod lasting;
+mod told;
 
 /// The slot of an id that is claimed. Contracts see its table, its id with the index in its bucket,
-/// whether its bucket is reserved, and what it has learnt of the slot. It stores no index: callers
+/// whether its bucket is reserved, the sharing, and what it has learnt of the slot. It stores no index: callers
 /// pass the index, and the number of the word that has the flag.
 pub(crate) struct ClaimedSlot<'a, T> {
     /// The address of the bucket's pointer, and once the bucket is found, of its block.
@@ -34,6 +36,8 @@ pub(crate) struct ClaimedSlot<'a, T> {
     /// The address of the bucket's pointer.
     pub ghost bucket: { Ptr } by { coded_ptr },
     pub ghost table: { ℕ },
+    /// The sharing, if it has a name.
+    pub ghost sharing: { Option ℕ } by { coded_option coded_ℕ },
     pub ghost id: { ℕ },
     pub ghost index: { ℕ },
     /// Whether the bucket is reserved.
@@ -43,10 +47,12 @@ pub(crate) struct ClaimedSlot<'a, T> {
 
 impl<'a, T> Model for ClaimedSlot<'a, T> {
     ghost also_owns = { λ c.
-        claim_owns T.row 'a c.table (claim_fields c.id c.index c.bucket c.at c.reserved)
+        claim_owns T.row 'a c.table (claim_fields c.id c.index c.bucket c.at c.sharing c.reserved)
         c.learnt c.found c.published };
 
-    ghost also_shares = { λ c _ κ. claim_shares T.row 'a c.at c.index c.learnt c.found c.published κ };
+    ghost also_shares = { λ c _ κ.
+        claim_shares T.row 'a (claim_fields c.id c.index c.bucket c.at c.sharing c.reserved)
+        c.learnt c.found c.published κ };
 }
 
 impl<'a, T> ClaimedSlot<'a, T> {
@@ -59,7 +65,10 @@ impl<'a, T> ClaimedSlot<'a, T> {
         requires table { right.table ≡ bucket.now.table }
         requires id { right.id ≡ id_at bucket.now.bucket index }
         requires within { index < 2 ^ bucket.now.bucket }
-        ensures right { (result.table ≡ right.table) × (result.id ≡ right.id) × (result.index ≡ index) }
+        ensures right { (result.table ≡ right.table)
+            × (result.sharing ≡ bucket.now.sharing)
+            × (result.id ≡ right.id)
+            × (result.index ≡ index) }
         ensures unknown { result.learnt ≡ Unknown }
         ensures reserved { result.reserved ≡ bucket.now.reserved }
     {
@@ -81,6 +90,7 @@ impl<'a, T> ClaimedSlot<'a, T> {
         requires index { index ≡ self.index }
         requires number { number ≡ number_of_id T.row self.id }
         ensures right { (result.table ≡ self.entry.table)
+            × (result.sharing ≡ self.entry.sharing)
             × (result.id ≡ self.entry.id)
             × (result.index ≡ self.entry.index) }
         ensures known { IsKnown result.learnt }
@@ -125,6 +135,7 @@ impl<'a, T> ClaimedSlot<'a, T> {
         requires index { index ≡ self.index }
         requires number { number ≡ number_of_id T.row self.id }
         ensures right { (result.table ≡ self.entry.table)
+            × (result.sharing ≡ self.entry.sharing)
             × (result.id ≡ self.entry.id)
             × (result.index ≡ self.entry.index) }
         ensures value { result.learnt ≡ Holding value }
@@ -191,6 +202,7 @@ pub(crate) fn found_again<'a, T>(
     requires index { look.0 ≡ slot.index }
     requires number { look.1 ≡ number_of_id T.row slot.id }
     ensures right { (result.0.table ≡ slot.entry.table)
+        × (result.0.sharing ≡ slot.entry.sharing)
         × (result.0.id ≡ slot.entry.id)
         × (result.0.index ≡ slot.entry.index) }
     ensures found { Finds slot.entry.learnt result.0.learnt }
@@ -211,6 +223,7 @@ pub(crate) fn offered<'a, T>(
     requires missing { slot.learnt ≡ Missing }
     requires made { (block.slots ≡ empty_slots (2 ^ bucket_of slot.id)) × (block.left ≡ 0) }
     ensures right { (result.0.table ≡ slot.entry.table)
+        × (result.0.sharing ≡ slot.entry.sharing)
         × (result.0.id ≡ slot.entry.id)
         × (result.0.index ≡ slot.entry.index) }
     ensures vacant { (result.0.learnt ≡ Vacant) × (result.0.reserved ≡ slot.entry.reserved) }
@@ -229,6 +242,7 @@ pub(crate) fn published<'a, T>(
     requires index { given.1 ≡ slot.index }
     requires number { given.2 ≡ number_of_id T.row slot.id }
     ensures right { (result.0.table ≡ slot.entry.table)
+        × (result.0.sharing ≡ slot.entry.sharing)
         × (result.0.id ≡ slot.entry.id)
         × (result.0.index ≡ slot.entry.index) }
     ensures learnt { result.0.learnt ≡ Holding given.0 }

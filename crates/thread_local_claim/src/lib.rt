@@ -3,6 +3,5 @@
 
 pub mod claim;
 mod claimed;
-mod replaced;
 
 pub use claim::Claim;

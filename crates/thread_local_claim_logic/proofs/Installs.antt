@@ -20,7 +20,7 @@ use Rattle.thread_local_model.specs.Learnt.{Vacant}
 use Rattle.thread_local_claim_logic.specs.Claims.{ClaimFields, claim_fields, IsOf, IsKept, has_slot, has_at, claim_owns}
 use Rattle.thread_local_claim_logic.proofs.Steps as steps
 
-module _ {M : Type 1} {𝓤 : Ura M} (𝓛 : Logic 𝓤) (R : RattleType) (d : BucketView) (t : Turn) (β : Lft) (wb wo pb o id i : ℕ) (reserved : Bool) where
+module _ {M : Type 1} {𝓤 : Ura M} (𝓛 : Logic 𝓤) (R : RattleType) (d : BucketView) (t : Turn) (β : Lft) (wb wo pb o id i : ℕ) (sharing : Option ℕ) (reserved : Bool) where
   open 𝓛 use {H, A}
 
   abbrev Pr : Type 2
@@ -45,7 +45,7 @@ module _ {M : Type 1} {𝓤 : Ura M} (𝓛 : Logic 𝓤) (R : RattleType) (d : B
 
   -- the claim once the block stands
   abbrev pub Now : ClaimFields
-  Now = claim_fields id i w p reserved
+  Now = claim_fields id i w p sharing reserved
 
   pub installs : (table : ℕ) (q : Share) (zz : StandingBlock × Share) → IsOf R table Now d →
       ⟦ part 𝓛 R d t p zz ⟧ ∗ ⟦ kept R d t wb (wo + 0) β ⟧ ∗ A.lft t.life q ∗ ⟦ right_owns t.pass id ⟧ ⊢ H.⇛ (A.lft t.life q ∗ ⟦ claim_owns R β table Now Vacant true false ⟧)

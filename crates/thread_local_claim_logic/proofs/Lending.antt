@@ -11,7 +11,7 @@ use contract.Monad as monad
 use contract.BorrowLft.{meet_⊑_left, meet_⊑_right, ⊑_meet}
 use ghost.Rules.{Toks, span}
 use types.Logic.{Logic, sem, lfts}
-use types.Kit.{‵, raw, ◌⊛◌, given, later, group, ◌$◌, ◌∵◌, !, qed, by, move, keep, drop, use1, use2, use3, split, split3, join, fsplit, fsplit3, fjoin, fjoin3, fpick, fpack, learn, rewrite, assume, suffices, await, updating, now, done}
+use types.Kit.{‵, raw, ◌⊛◌, given, later, group, ◌$◌, ◌∵◌, !, qed, by, move, keep, drop, use1, use2, use3, split, split3, join, frame, fsplit, fsplit3, fjoin, fjoin3, fpick, fpack, learn, rewrite, assume, suffices, await, updating, now, done}
 use types.Tokens.{bor_open, obor_close, obor_alter}
 use types.Na.{before_dup, before_shorten}
 use denote.RattleType.{RattleType, RowLaws}
@@ -28,6 +28,9 @@ use Rattle.thread_local_judged.specs.Judged.{Shareable, Judged}
 use Rattle.thread_local_rights.specs.Rights.{right_owns}
 use Rattle.thread_local_blocks.specs.Slots.{value_offset, content_at}
 use Rattle.thread_local_raw.specs.Fact.{fact}
+use Rattle.thread_local_published.specs.Told.{tells}
+use Rattle.thread_local_published.proofs.Elements.{told_dup}
+use Rattle.thread_local_published.proofs.Twice.{tells_laws}
 use Rattle.thread_local_blocks.proofs.Flags.{value_near}
 use Rattle.thread_local_shared_bucket_logic.specs.Shared.{name_at, BucketView, Turn, StandingBlock, Sized, len, value_code, pinned, tracked_value, age, kept, loaded}
 use Rattle.thread_local_shared_bucket_logic.specs.Shared as slots
@@ -39,14 +42,15 @@ lasts_laws : (β : Lft) (R : RattleType) → RowLaws R → (b e : ℕ) (x : R.De
 lasts_laws β R L b e x (inl j) = held_shr_laws β (shared_of R x b e) (L x b e)
 lasts_laws β R L b e x (inr j) = nothing_shr_laws
 
-shown_laws : (β : Lft) (R : RattleType) → RowLaws R → (p : Ptr) (i : ℕ) (v : Option R.Denot) → ShrLaws (shows_value R β p i v)
-shown_laws β R L p i None = nothing_shr_laws
-shown_laws β R L p i (Some x) = let b : ℕ = block_of p in let e : ℕ = value_offset R (count_of p) i in let S : Lft → Fml = shared_of R x b e in let W : Lft → Fml = denote.Sharing.within β S in
-    let F : Judged R → Lft → Fml = lasts R β b e x in beside_shr_laws (said (fact (Reaches R p i))) (beside W (any (Judged R) F)) (said_shr_laws (fact (Reaches R p i)) (λ _. tt))
-    (beside_shr_laws W (any (Judged R) F) (within_shr_laws β S (L x b e)) (some_shr_laws (Judged R) F (lasts_laws β R L b e x)))
+shown_laws : (β : Lft) (R : RattleType) → RowLaws R → (c : ClaimFields) (v : Option R.Denot) → ShrLaws (shows_value R β c v)
+shown_laws β R L c None = nothing_shr_laws
+shown_laws β R L c (Some x) = let b : ℕ = block_of c.at in let e : ℕ = value_offset R (count_of c.at) c.index in let S : Lft → Fml = shared_of R x b e in let W : Lft → Fml = denote.Sharing.within β S in
+    let F : Judged R → Lft → Fml = lasts R β b e x in let Told : Lft → Fml = said (tells R c.sharing c.id (Some x)) in let In : Fml = fact (Reaches R c.at c.index) in
+    beside_shr_laws (said In) (beside W (beside (any (Judged R) F) Told)) (said_shr_laws In (λ _. tt))
+    (beside_shr_laws W (beside (any (Judged R) F) Told) (within_shr_laws β S (L x b e)) (beside_shr_laws (any (Judged R) F) Told (some_shr_laws (Judged R) F (lasts_laws β R L b e x)) (tells_laws R c.sharing c.id (Some x))))
 
-pub claim_laws : (β : Lft) (R : RattleType) → RowLaws R → (p : Ptr) (i : ℕ) (l : Learnt R.Denot) (found published : Bool) → ShrLaws (claim_shares R β p i l found published)
-claim_laws β R L p i l found published = beside_shr_laws (said (fact (IsKept R found published l))) (shows_value R β p i (value_held l)) (said_shr_laws (fact (IsKept R found published l)) (λ _. tt)) (shown_laws β R L p i (value_held l))
+pub claim_laws : (β : Lft) (R : RattleType) → RowLaws R → (c : ClaimFields) (l : Learnt R.Denot) (found published : Bool) → ShrLaws (claim_shares R β c l found published)
+claim_laws β R L c l found published = beside_shr_laws (said (fact (IsKept R found published l))) (shows_value R β c (value_held l)) (said_shr_laws (fact (IsKept R found published l)) (λ _. tt)) (shown_laws β R L c (value_held l))
 
 module _ {M : Type 1} {𝓤 : Ura M} (𝓛 : Logic 𝓤) where
   open 𝓛 use {H, A}
@@ -132,8 +136,14 @@ module _ {M : Type 1} {𝓤 : Ura M} (𝓛 : Logic 𝓤) where
       abbrev Filled : Fml
       Filled = right_owns t.filled c.id
 
+      abbrev Pin : Fml
+      Pin = pinned R η x
+
+      abbrev Told : Fml
+      Told = tells R d.sharing c.id (Some x)
+
       abbrev Pinned : Fml
-      Pinned = pinned R η x
+      Pinned = slots.published R d.sharing c.id η x
 
       -- the claim is put together again
       again : (j : Judged R) → ⟦ Kept ⟧ ∗ ⟦ Row ⟧ ∗ ⟦ Filled ⟧ ∗ ⟦ Pinned ⟧ ∗ ⟦ By j ⟧ ⊢ ⟦ C ⟧
@@ -152,9 +162,9 @@ module _ {M : Type 1} {𝓤 : Ura M} (𝓛 : Logic 𝓤) where
       -- the borrow of the value, once the slot is known to hold it
       lends_value : (σ : Shareable R → ⊥) (q : Share) → ⟦ fbor ν Value ⟧ ∗ A.lft ν q ∗ ⟦ Pinned ⟧ ⊢ H.⇛ (⟦ Saw ⟧ ∗ A.lft ν q)
       unfolding fseps
-      lends_value σ q = qed 𝓛 (‵ (fbor ν Value) ∷ ‵ (flft ν q) ∷ ‵ Pinned ∷ []) ∵ updating ! $ bor_open ! tt $ move ! (1 ∷ []) $ fpick ! (λ o. fsplit ! $ move ! (3 ∷ 1 ∷ []) $
+      lends_value σ q = qed 𝓛 (‵ (fbor ν Value) ∷ ‵ (flft ν q) ∷ ‵ Pinned ∷ []) ∵ updating ! $ move ! (2 ∷ []) $ fsplit ! $ move ! (2 ∷ 3 ∷ 0 ∷ []) $ bor_open ! tt $ move ! (1 ∷ []) $ fpick ! (λ o. fsplit ! $ move ! (3 ∷ 1 ∷ []) $
           -- [what is known; the name; the memory; the open borrow]
-          use2 𝓛 (given (value_code R (Some x) ≡ value_code R o) (‵ Pinned ⊛ ‵ (fauth η (value_code R o)))) (𝓛.names.res_agree η (value_code R (Some x)) (value_code R o)) $ learn ! (λ same. split ! $ drop ! $
+          use2 𝓛 (given (value_code R (Some x) ≡ value_code R o) (‵ Pin ⊛ ‵ (fauth η (value_code R o)))) (𝓛.names.res_agree η (value_code R (Some x)) (value_code R o)) $ learn ! (λ same. split ! $ drop ! $
           use1 𝓛 (‵ (fwand (fsep (fdead ν) (fseps (content_at R o sb se ∷ []))) (fupd Value))) (value_back o) $ move ! (1 ∷ []) $ anything ! $ move ! (1 ∷ 0 ∷ []) $ fjoin ! $
           move ! (2 ∷ 0 ∷ 1 ∷ []) $ obor_alter ! tt (content_at R o sb se ∷ []) $ use1 𝓛 (‵ (fbor ν (content_at R o sb se)) ⊛ ‵ ftrue) (id⊢ 𝓤 _) $ split ! $
           let is_x : o ≡ Some x = sym ((coded_option R.coded).inj (Some x) o same) in rewrite ! 0 (λ (o' : Option R.Denot). ‵ (fbor ν (content_at R o' sb se))) is_x refl $
@@ -164,6 +174,10 @@ module _ {M : Type 1} {𝓤 : Ura M} (𝓛 : Logic 𝓤) where
       unfolding fseps
       way_back σ = qed 𝓛 (‵ Kept ∷ ‵ Row ∷ ‵ Filled ∷ ‵ Pinned ∷ []) ∵ assume ! (‵ (fsep (fdead ν) (fsep (fbor life Value) ftrue))) $ suffices ! ⟦ C ⟧ (upd_i 𝓤 ⟦ C ⟧) $ fsplit3 ! $ move ! (3 ∷ 4 ∷ 5 ∷ 6 ∷ 1 ∷ []) $ group ! 5 $
           use1 𝓛 (‵ C) (again (inr σ)) $ keep ! (0 ∷ []) $ done !
+
+      pinned_dup : ⟦ Pinned ⟧ ⊢ ⟦ Pinned ⟧ ∗ ⟦ Pinned ⟧
+      pinned_dup = qed 𝓛 (‵ Pinned ∷ []) ∵ fsplit ! $ use1 𝓛 (‵ Pin ⊛ ‵ Pin) (𝓛.names.res_dup η (value_code R (Some x))) $ split ! $ move ! (2 ∷ []) $ use1 𝓛 (‵ Told ⊛ ‵ Told) (told_dup 𝓛 d.sharing c.id (value_code R (Some x))) $ split ! $
+          move ! (2 ∷ 0 ∷ []) $ fjoin ! $ frame ! $ move ! (1 ∷ 0 ∷ []) $ fjoin ! $ done !
 
       lends_by : (q : Share) (j : Judged R) → A.obor ν q C ∗ ⟦ Kept ⟧ ∗ ⟦ Row ⟧ ∗ ⟦ Filled ⟧ ∗ ⟦ Pinned ⟧ ∗ ⟦ By j ⟧ ⊢ H.⇛ (⟦ Saw ⟧ ∗ A.lft ν q)
       unfolding fseps
@@ -179,18 +193,26 @@ module _ {M : Type 1} {𝓤 : Ura M} (𝓛 : Logic 𝓤) where
       lends_by q (inr σ) = qed 𝓛 (‵ (fobor ν q C) ∷ ‵ Kept ∷ ‵ Row ∷ ‵ Filled ∷ ‵ Pinned ∷ ‵ (By (inr σ)) ∷ []) ∵ updating ! $ move ! (2 ∷ []) $ fsplit ! $ move ! (1 ∷ []) $ fsplit ! $ move ! (1 ∷ []) $
           use1 𝓛 (‵ (before β life) ⊛ ‵ (before β life)) (before_dup 𝓛 β life) $ split ! $ use1 𝓛 (‵ (before ν life)) (before_shorten 𝓛 β ν life inc) $ move ! (2 ∷ 1 ∷ []) $ fjoin ! $ move ! (2 ∷ 0 ∷ []) $ fjoin ! $
           -- [the row; ν ends before; the open borrow; kept; filled; pinned; by]
-          move ! (5 ∷ []) $ use1 𝓛 (‵ Pinned ⊛ ‵ Pinned) (𝓛.names.res_dup η (value_code R (Some x))) $ split ! $ move ! (5 ∷ 2 ∷ 6 ∷ 0 ∷ []) $ group ! 4 $
+          move ! (5 ∷ []) $ use1 𝓛 (‵ Pinned ⊛ ‵ Pinned) pinned_dup $ split ! $ move ! (5 ∷ 2 ∷ 6 ∷ 0 ∷ []) $ group ! 4 $
           use1 𝓛 (‵ (fwand (fsep (fdead ν) (fseps (fbor life Value ∷ []))) (fupd C))) (way_back σ) $ anything ! $ move ! (5 ∷ 0 ∷ []) $ fjoin ! $ move ! (4 ∷ 0 ∷ 1 ∷ []) $ obor_alter ! tt (fbor life Value ∷ []) $
           use1 𝓛 (‵ (fbor ν (fbor life Value)) ⊛ ‵ ftrue) (id⊢ 𝓤 _) $ split ! $ move ! (4 ∷ 0 ∷ 2 ∷ []) $ use3 𝓛 (later (‵ (fbor ν Value) ⊛ ‵ (flft ν q))) (unnest_before 𝓛 ν life q Value) $ await ! tt $ split ! $
           move ! (0 ∷ 1 ∷ 3 ∷ []) $ use3 𝓛 (later (‵ Saw ⊛ ‵ (flft ν q))) (lends_value σ q) $ await ! tt $ split ! $ now ! $ keep ! (0 ∷ 1 ∷ []) $ done !
 
-    lends_at : (q : Share) → ⟦ fbor ν C ⟧ ∗ A.lft ν q ⊢ H.⇛ ((⟦ fact (IsKept R found published l) ⟧ ∗ ⟦ fact (Reaches R c.at c.index) ⟧ ∗ ⟦ Saw ⟧) ∗ A.lft ν q)
+    -- what is told of its id
+    abbrev pub Tells : Fml
+    Tells = tells R c.sharing c.id (Some x)
+
+    lends_at : (q : Share) → ⟦ fbor ν C ⟧ ∗ A.lft ν q ⊢ H.⇛ ((⟦ fact (IsKept R found published l) ⟧ ∗ ⟦ fact (Reaches R c.at c.index) ⟧ ∗ ⟦ Tells ⟧ ∗ ⟦ Saw ⟧) ∗ A.lft ν q)
     lends_at q = qed 𝓛 (‵ (fbor ν C) ∷ ‵ (flft ν q) ∷ []) ∵ updating ! $ bor_open ! tt $ move ! (1 ∷ []) $ fsplit ! $ fpick ! (λ told. move ! (1 ∷ []) $ fpick ! (λ z. fsplit ! $ fpick ! (λ of. move ! (1 ∷ []) $ fsplit ! $ move ! (1 ∷ []) $
-        fpick ! (λ s. fsplit ! $ fpick ! (λ at. drop ! $ fsplit ! $ move ! (1 ∷ []) $ fsplit3 ! $
-        -- [filled; pinned; by; the row; kept; nothing; nothing; the open borrow]
-        move ! (3 ∷ []) $ fsplit ! $ fpick ! (λ sized. fpack ! ((length s.names ≡ len R z.0) × Sized R (len R z.0) s.at) (λ _. ftrue) sized $ fjoin ! $ move ! (1 ∷ 2 ∷ 3 ∷ 0 ∷ []) $
-        move ! (2 ∷ []) $ fpick ! (λ j. move ! (7 ∷ 4 ∷ 3 ∷ 1 ∷ 2 ∷ 0 ∷ []) $ group ! 6 $ use1 𝓛 (later (‵ Saw ⊛ ‵ (flft ν q))) (lends_by told z of s at q j) $ await ! tt $ split ! $
-        anything ! $ fpack ! (Reaches R c.at c.index) (λ _. ftrue) (subst (λ (u : Ptr). Reaches R u c.index) (sym at) (sized.1.0, value_near R (len R z.0) c.index sized.1.2 of.4)) $ move ! (0 ∷ 1 ∷ []) $ join ! $ anything ! $ fpack ! (IsKept R found published l) (λ _. ftrue) told $ join ! $ join ! $ now ! $ keep ! (0 ∷ []) $ done !)))))))
+        fpick ! (λ s. fsplit ! $ fpick ! (λ at. drop ! $ fsplit ! $ move ! (1 ∷ []) $ fsplit3 ! $ let Known : Fml = slots.published R z.0.sharing c.id (name_at s.names c.index) x in
+        -- [filled; published; by; the row; kept; nothing; nothing; the open borrow]
+        move ! (1 ∷ []) $ use1 𝓛 (‵ Known ⊛ ‵ Known) (pinned_dup told z of s at) $ split ! $ fsplit ! $ drop ! $ rewrite ! 0 (λ (k : Option ℕ). ‵ (tells R k c.id (Some x))) of.6 refl $
+        -- [what is told; published; filled; by; the row; kept; nothing; nothing; the open borrow]
+        move ! (4 ∷ []) $ fsplit ! $ fpick ! (λ sized. fpack ! ((length s.names ≡ len R z.0) × Sized R (len R z.0) s.at) (λ _. ftrue) sized $ fjoin ! $
+        move ! (4 ∷ []) $ fpick ! (λ j. move ! (8 ∷ 5 ∷ 1 ∷ 4 ∷ 3 ∷ 0 ∷ []) $ group ! 6 $ use1 𝓛 (later (‵ Saw ⊛ ‵ (flft ν q))) (lends_by told z of s at q j) $ await ! tt $ split ! $
+        -- [what was seen; the token; what is told]
+        move ! (2 ∷ 0 ∷ []) $ join ! $ anything ! $ fpack ! (Reaches R c.at c.index) (λ _. ftrue) (subst (λ (u : Ptr). Reaches R u c.index) (sym at) (sized.1.0, value_near R (len R z.0) c.index sized.1.2 of.4)) $ join ! $
+        anything ! $ fpack ! (IsKept R found published l) (λ _. ftrue) told $ join ! $ join ! $ now ! $ keep ! (0 ∷ []) $ done !)))))))
 
   module _ (β : Lft) (R : RattleType) (L : RowLaws R) (l : Lft) (le : Incl l β) (shares : Shares 𝓛 R l) (table : ℕ) (c : ClaimFields) (found published : Bool) where
     -- the address of the slot's value: its allocation, and its offset there
@@ -240,15 +262,15 @@ module _ {M : Type 1} {𝓤 : Ura M} (𝓛 : Logic 𝓤) where
       shows_none = λ κ ts inc sp. qed 𝓛 (‵ (fbor κ P) ∷ raw (lfts 𝓛 ts) ∷ []) ∵ updating ! $ use2 𝓛 (later (‵ (fact Φ) ⊛ raw (lfts 𝓛 ts))) (by_one 𝓛 κ ts sp (A.bor κ P) ⟦ fact Φ ⟧ (keeps_at κ)) $ await ! tt $ split ! $ anything ! $ move ! (1 ∷ 0 ∷ []) $ fjoin ! $ now ! $ done !
 
     -- a borrow of a claim becomes a `&` to the value that its slot holds
-    pub lends_claim : (t : Learnt R.Denot) → Lends 𝓛 (claim_owns R β table c t found published) (claim_shares R β c.at c.index t found published) l
+    pub lends_claim : (t : Learnt R.Denot) → Lends 𝓛 (claim_owns R β table c t found published) (claim_shares R β c t found published) l
     lends_claim (Holding x) = λ κ ts inc sp. let ν : Lft = κ ++ β in let P : Fml = claim_owns R β table c (Holding x) found published in let Told : Fml = fact (IsKept R found published (Holding x)) in let In : Fml = fact (Reaches R c.at c.index) in
         let sm : Incl (span ts) ν = ⊑_meet (span ts) κ β sp (Incl-trans inc le) in
-        let within : Incl ν β = meet_⊑_right κ β in let Got : Pr = ⟦ Told ⟧ ∗ ⟦ In ⟧ ∗ ⟦ Saw β R L table c x found published ν within ⟧ in
+        let within : Incl ν β = meet_⊑_right κ β in let Known : Fml = tells R c.sharing c.id (Some x) in let Got : Pr = ⟦ Told ⟧ ∗ ⟦ In ⟧ ∗ ⟦ Known ⟧ ∗ ⟦ Saw β R L table c x found published ν within ⟧ in
         qed 𝓛 (‵ (fbor κ P) ∷ raw (lfts 𝓛 ts) ∷ []) ∵ updating ! $ use1 𝓛 (‵ (fbor ν P)) (𝓛.bors.bor_shorten κ ν P (meet_⊑_left κ β)) $
-        use2 𝓛 (later ((‵ Told ⊛ ‵ In ⊛ ‵ (Saw β R L table c x found published ν within)) ⊛ raw (lfts 𝓛 ts))) (by_one 𝓛 ν ts sm (A.bor ν P) Got (lends_at β R L table c x found published ν within)) $ await ! tt $
-        split ! $ split3 ! $ move ! (2 ∷ []) $ fpick ! (λ j. move ! (0 ∷ 3 ∷ []) $ use2 𝓛 (later (‵ (Lent x κ) ⊛ raw (lfts 𝓛 ts))) (finish x κ within ts inc sm j) $ await ! tt $ split ! $
-        -- [what is shared; the tokens; what is kept; the block]
-        move ! (3 ∷ 0 ∷ []) $ fjoin ! $ move ! (2 ∷ 0 ∷ []) $ fjoin ! $ now ! $ keep ! (0 ∷ 1 ∷ []) $ done !)
+        use2 𝓛 (later ((‵ Told ⊛ ‵ In ⊛ ‵ Known ⊛ ‵ (Saw β R L table c x found published ν within)) ⊛ raw (lfts 𝓛 ts))) (by_one 𝓛 ν ts sm (A.bor ν P) Got (lends_at β R L table c x found published ν within)) $ await ! tt $
+        split ! $ split3 ! $ move ! (2 ∷ []) $ split ! $ move ! (1 ∷ []) $ fpick ! (λ j. move ! (0 ∷ 4 ∷ []) $ use2 𝓛 (later (‵ (Lent x κ) ⊛ raw (lfts 𝓛 ts))) (finish x κ within ts inc sm j) $ await ! tt $ split ! $
+        -- [what is shared; the tokens; what is told; what is kept; the block]
+        fsplit ! $ move ! (1 ∷ 3 ∷ []) $ fjoin ! $ move ! (1 ∷ 0 ∷ []) $ fjoin ! $ move ! (3 ∷ 0 ∷ []) $ fjoin ! $ move ! (2 ∷ 0 ∷ []) $ fjoin ! $ now ! $ keep ! (0 ∷ 1 ∷ []) $ done !)
     lends_claim Unknown = shows_none Unknown
     lends_claim Missing = shows_none Missing
     lends_claim Standing = shows_none Standing

@@ -1,3 +1,4 @@
+pub mod Agreed
 pub mod Early
 pub mod Installs
 pub mod Learning

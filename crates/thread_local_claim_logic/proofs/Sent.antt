@@ -7,6 +7,7 @@ use denote.RattleType.{RattleType}
 use denote.Param.Send.{IsSend}
 use denote.RawPtr.{block_of, count_of}
 use Rattle.thread_local_judged.specs.Judged.{Judged}
+use Rattle.thread_local_published.proofs.Elements.{tells_keyless}
 use Rattle.thread_local_rights.proofs.Elements.{right_keyless}
 use Rattle.thread_local_blocks.specs.Slots.{value_offset}
 use Rattle.thread_local_shared_bucket_logic.specs.Shared.{name_at, BucketView, Turn, StandingBlock, age, by, holds}
@@ -19,12 +20,12 @@ module _ (R : RattleType) (sent : IsSend R) where
   by_keyless t b ν e η x (inl shareable) = shareable x b e (age R t b ν)
   by_keyless t b ν e η x (inr not) = value_keyless R sent b e η
 
-  holds_keyless : (t : Turn) (b ν k e : ℕ) (η : GName) (v : Option R.Denot) → Keyless (holds R t b ν k e η v)
-  holds_keyless t b ν k e η None = (right_keyless t.vacant k, (tt, value_keyless R sent b e η))
-  holds_keyless t b ν k e η (Some x) = (right_keyless t.filled k, (tt, λ j. by_keyless t b ν e η x j))
+  holds_keyless : (t : Turn) (b ν : ℕ) (sharing : Option GName) (k e : ℕ) (η : GName) (v : Option R.Denot) → Keyless (holds R t b ν sharing k e η v)
+  holds_keyless t b ν sharing k e η None = (right_keyless t.vacant k, (tt, value_keyless R sent b e η))
+  holds_keyless t b ν sharing k e η (Some x) = (right_keyless t.filled k, ((tt, tells_keyless R sharing k (Some x)), λ j. by_keyless t b ν e η x j))
 
   slot_keyless : (d : BucketView) (t : Turn) (β : Lft) (c : ClaimFields) (v : Option R.Denot) → Keyless (fex StandingBlock (has_slot R d t β c v))
-  slot_keyless d t β c v = λ s. ((λ _. tt), (row_keyless R sent d t s β, holds_keyless t (block_of s.at) s.own c.id (value_offset R (count_of s.at) c.index) (name_at s.names c.index) v))
+  slot_keyless d t β c v = λ s. ((λ _. tt), (row_keyless R sent d t s β, holds_keyless t (block_of s.at) s.own d.sharing c.id (value_offset R (count_of s.at) c.index) (name_at s.names c.index) v))
 
   has_keyless : (d : BucketView) (t : Turn) (β : Lft) (c : ClaimFields) (l : Learnt R.Denot) → Keyless (has R d t β c l)
   has_keyless d t β c Unknown = ((λ _. tt), right_keyless d.table c.id)

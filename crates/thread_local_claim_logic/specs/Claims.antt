@@ -17,19 +17,22 @@ use Rattle.thread_local_rights.specs.Rights.{right_owns}
 use Rattle.thread_local_judged.specs.Judged.{Judged}
 use Rattle.thread_local_blocks.specs.Slots.{word_number, value_offset, stride}
 use Rattle.thread_local_raw.specs.Fact.{fact}
+use Rattle.thread_local_published.specs.Told.{tells}
 use Rattle.thread_local_shared_bucket_logic.specs.Shared.{name_at, BucketView, Turn, StandingBlock, holds, first, len, kept, loaded}
 
 -- a claim without the value that its slot holds: its id, the index of its slot, the address of its
--- bucket's pointer, where it points itself, and whether the bucket is reserved
+-- bucket's pointer, where it points itself, the sharing if that has a name, and whether the bucket is
+-- reserved
 pub record ClaimFields : Type 0 where
   pub id : ℕ
   pub index : ℕ
   pub bucket : Ptr
   pub at : Ptr
+  pub sharing : Option ℕ
   pub reserved : Bool
 
-abbrev pub claim_fields : ℕ → ℕ → Ptr → Ptr → Bool → ClaimFields
-claim_fields id index bucket at reserved = record { id = id; index = index; bucket = bucket; at = at; reserved = reserved }
+abbrev pub claim_fields : ℕ → ℕ → Ptr → Ptr → Option ℕ → Bool → ClaimFields
+claim_fields id index bucket at sharing reserved = record { id = id; index = index; bucket = bucket; at = at; sharing = sharing; reserved = reserved }
 
 -- what a claim has before it has found the bucket: its right, or the pass of its slot once it has
 -- looked in vain
@@ -50,7 +53,7 @@ module _ (R : RattleType) where
   module _ (d : BucketView) (t : Turn) (β : Lft) (c : ClaimFields) where
     -- what a claim has of a standing block, where the slot holds v: it points to the block
     abbrev pub has_slot : Option R.Denot → StandingBlock → Fml
-    has_slot v s = fsep (fact (c.at ≡ s.at)) (fsep (loaded R d t s β) (holds R t (block_of s.at) s.own c.id (value_offset R (count_of s.at) c.index) (name_at s.names c.index) v))
+    has_slot v s = fsep (fact (c.at ≡ s.at)) (fsep (loaded R d t s β) (holds R t (block_of s.at) s.own d.sharing c.id (value_offset R (count_of s.at) c.index) (name_at s.names c.index) v))
 
     -- what a claim has while it points to its bucket's pointer: the right or the pass, by the name
     abbrev pub has_no_slot : GName → Fml
@@ -71,7 +74,7 @@ module _ (R : RattleType) where
 
   -- the claim is of this bucket, and its id is the one at its index there
   abbrev pub IsOf : ℕ → ClaimFields → BucketView → Type 0
-  IsOf table c d = InBlock c.bucket × Judged R × (d.table ≡ table) × (c.id ≡ c.index + first R d) × (c.index < len R d) × (d.reserved ≡ c.reserved)
+  IsOf table c d = InBlock c.bucket × Judged R × (d.table ≡ table) × (c.id ≡ c.index + first R d) × (c.index < len R d) × (d.reserved ≡ c.reserved) × (d.sharing ≡ c.sharing)
 
   module _ (β : Lft) (table : ℕ) (c : ClaimFields) (l : Learnt R.Denot) where
     -- a claim under one sharing of its bucket
@@ -91,11 +94,11 @@ module _ (R : RattleType) where
   Reaches p i = InBlock p × (i * stride R < 2 ^ 64)
 
   -- what a `&` to a claim shows: a `&` to the value at its index in the block, if its slot holds
-  -- one
-  abbrev pub shows_value : Lft → Ptr → ℕ → Option R.Denot → Lft → Fml
-  shows_value β p i None = nothing
-  shows_value β p i (Some x) = let b : ℕ = block_of p in let e : ℕ = value_offset R (count_of p) i in
-      beside (said (fact (Reaches p i))) (beside (within β (shared_of R x b e)) (some (Judged R) (lasts β b e x)))
+  -- one, and that it is told of its id
+  abbrev pub shows_value : Lft → ClaimFields → Option R.Denot → Lft → Fml
+  shows_value β c None = nothing
+  shows_value β c (Some x) = let b : ℕ = block_of c.at in let e : ℕ = value_offset R (count_of c.at) c.index in
+      beside (said (fact (Reaches c.at c.index))) (beside (within β (shared_of R x b e)) (beside (some (Judged R) (lasts β b e x)) (said (tells R c.sharing c.id (Some x)))))
 
-  abbrev pub claim_shares : Lft → Ptr → ℕ → Learnt R.Denot → Bool → Bool → Lft → Fml
-  claim_shares β p i l found published = beside (said (fact (IsKept found published l))) (shows_value β p i (value_held l))
+  abbrev pub claim_shares : Lft → ClaimFields → Learnt R.Denot → Bool → Bool → Lft → Fml
+  claim_shares β c l found published = beside (said (fact (IsKept found published l))) (shows_value β c (value_held l))

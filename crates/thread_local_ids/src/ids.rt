@@ -125,13 +125,6 @@ impl Ids {
         self.rights.take(IDS)
     }
 
-    /// The rights of the ids that aren't held, which name the table.
-    pub fn rights(&self) -> &Rights
-        ensures { result.now.table ≡ self.now.table }
-    {
-        &self.rights
-    }
-
     /// Whether an id is held.
     pub fn is_held(&self, id: usize) -> bool
         ensures { result ≡ is_held self.now.manager.held id }

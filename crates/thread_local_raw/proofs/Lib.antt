@@ -1,6 +1,7 @@
-pub mod Names
 pub mod Bodies
 pub mod Calls
+pub mod Names
 pub mod Opened
-pub mod Pointers
 mod Ordered
+pub mod Pairs
+pub mod Pointers

@@ -30,8 +30,10 @@ use Rattle.thread_local_judged.specs.Judged.{Judged}
 use Rattle.thread_local_raw.specs.Fact.{fact}
 use Rattle.thread_local_shared_bucket_logic.specs.Shared.{BucketView, Turn, StandingBlock, mark, block_stands, block_rests, Sized, len, first, all_unborn, pending, standing, beside_pointer, bucket_invariant, kept, at_rest, bucket_shares}
 use Rattle.thread_local_shared_bucket.specs.contracts.shared_bucket.SharedBucket as C
+use Rattle.thread_local_blocks.specs.Slots.{empty_slots}
+use Rattle.thread_local_published.specs.Told.{all_telling}
 use Rattle.thread_local_shared_bucket_logic.proofs.Tokens.{tokens_from, tokens_new}
-use Rattle.thread_local_shared_bucket_logic.proofs.Rested.{all_tokens, all_wait, wakes_block, rests_block}
+use Rattle.thread_local_shared_bucket_logic.proofs.Rested.{all_tokens, all_wait, none_born, wakes_block, rests_block}
 
 abbrev pub pointer : Member
 pointer = record { row = RawPtr; ty = ty_ptr }
@@ -65,11 +67,12 @@ module _ {M : Type 1} {𝓤 : Ura M} (𝓛 : Logic 𝓤) where
   module _ (R : RattleType) (L : Laws R) (d : BucketView) where
     -- once the turn is over, what lies beside the pointer is at rest
     pub rests : (t : Turn) (p : Ptr) → A.dead t.life ∗ ⟦ beside_pointer R d t p ⟧ ⊢ ⟦ at_rest R d p ⟧
-    rests t null_ptr = qed 𝓛 (‵ (fdead t.life) ∷ ‵ (beside_pointer R d t null_ptr) ∷ []) ∵ move ! (1 ∷ []) $ fsplit ! $ keep ! (0 ∷ []) $ done !
+    rests t null_ptr = qed 𝓛 (‵ (fdead t.life) ∷ ‵ (beside_pointer R d t null_ptr) ∷ []) ∵ move ! (1 ∷ []) $ fsplit3 ! $ keep ! (0 ∷ 2 ∷ []) $ move ! (1 ∷ []) $
+        use1 𝓛 (‵ (all_telling R d.sharing (first R d) (empty_slots (len R d)))) (none_born 𝓛 t R d.sharing d.table (len R d) (first R d)) $ move ! (1 ∷ 0 ∷ []) $ fjoin ! $ done !
     rests t (block_ptr b o) = let p : Ptr = block_ptr b o in qed 𝓛 (‵ (fdead t.life) ∷ ‵ (beside_pointer R d t p) ∷ []) ∵ move ! (1 ∷ []) $ fpick ! (λ s. fsplit ! $ fpick ! (λ so. drop ! $ fsplit3 ! $ move ! (2 ∷ []) $ fsplit ! $
         -- [the block; the right to free; settled; its own token; dead]
         let κ : Lft = s.0.own ∷ t.life in move ! (4 ∷ []) $ use1 𝓛 (‵ (fdead κ)) (𝓛.lfts.dead-incl κ t.life (meet_⊑_right (s.0.own ∷ []) t.life)) $ move ! (0 ∷ 1 ∷ []) $
-        use2 𝓛 (‵ (block_rests R (len R d) b o)) (rests_block 𝓛 t R L b s.0.own d.table (first R d) (len R d) o s.0.names so.1) $
+        use2 𝓛 (‵ (block_rests R d.sharing (first R d) (len R d) b o)) (rests_block 𝓛 t R L b s.0.own d.sharing d.table (first R d) (len R d) o s.0.names so.1) $
         keep ! (0 ∷ 1 ∷ []) $ nothing ! $ fpack ! (Sized R (len R d) p) (λ _. ftrue) so.2 $ fjoin3 ! $ done !))
 
     module _ (κ : Lft) where
@@ -93,13 +96,13 @@ module _ {M : Type 1} {𝓤 : Ura M} (𝓛 : Logic 𝓤) where
 
       -- what lay at rest comes under a new turn of this life
       pub wakes : (μ : Lft) (r : Share) → Incl μ R.lives → Incl μ κ → Judged R → (p : Ptr) → ⟦ at_rest R d p ⟧ ∗ A.lft μ r ⊢ H.⇛ (ex 𝓤 (Woken μ r p))
-      wakes μ r inc sp j null_ptr = fresh null_ptr μ r (λ n. qed 𝓛 (‵ (pending R d (turn n)) ∷ ‵ (all_tokens 𝓛 (turn n) (first R d)) ∷ ‵ (at_rest R d null_ptr) ∷ ‵ (flft μ r) ∷ []) ∵ updating ! $ move ! (1 ∷ []) $
-          use1 𝓛 (‵ (all_unborn R d.table (turn n) (len R d) (first R d))) (all_wait 𝓛 (turn n) R d.table (len R d) (first R d)) $ move ! (2 ∷ 1 ∷ 0 ∷ []) $ fjoin3 ! $ now ! $ show ! (Woken μ r null_ptr) n $ done !)
+      wakes μ r inc sp j null_ptr = fresh null_ptr μ r (λ n. qed 𝓛 (‵ (pending R d (turn n)) ∷ ‵ (all_tokens 𝓛 (turn n) (first R d)) ∷ ‵ (at_rest R d null_ptr) ∷ ‵ (flft μ r) ∷ []) ∵ updating ! $ move ! (2 ∷ []) $ fsplit ! $ move ! (3 ∷ 1 ∷ []) $
+          use2 𝓛 (‵ (all_unborn R d.sharing d.table (turn n) (len R d) (first R d))) (all_wait 𝓛 (turn n) R d.sharing d.table (len R d) (first R d)) $ move ! (1 ∷ 2 ∷ 0 ∷ []) $ fjoin3 ! $ now ! $ show ! (Woken μ r null_ptr) n $ done !)
       wakes μ r inc sp j (block_ptr b o) = let p : Ptr = block_ptr b o in fresh p μ r (λ n. qed 𝓛 (‵ (pending R d (turn n)) ∷ ‵ (all_tokens 𝓛 (turn n) (first R d)) ∷ ‵ (at_rest R d p) ∷ ‵ (flft μ r) ∷ []) ∵ updating ! $
           let t : Turn = turn n in lft_new ! tt (λ ν. move ! (0 ∷ 4 ∷ []) $ join ! $ move ! (3 ∷ []) $ fsplit3 ! $ fpick ! (λ so. drop ! $ move ! (0 ∷ 4 ∷ 2 ∷ []) $
           -- [the block; the tokens; the lifetimes; the right to free; pending]
           use3 𝓛 (later (some (λ (names : List ℕ). given (length names ≡ len R d) (‵ (block_stands R d t p record { at = p; own = ν; names = names }) ⊛ (‵ (flft (ν ∷ []) full_share) ⊛ ‵ (flft μ r))))))
-          (wakes_block 𝓛 t R L b ν ((ν ∷ [], full_share) ∷ (μ, r) ∷ []) (Incl-trans (meet_⊑_right (ν ∷ []) μ) inc) (meet_within (ν ∷ []) κ μ sp) j d.table (first R d) (len R d) o) $ await ! tt $ pick ! (λ names. learn ! (λ long. split ! $ move ! (1 ∷ []) $ split ! $
+          (wakes_block 𝓛 t R L b ν d.sharing ((ν ∷ [], full_share) ∷ (μ, r) ∷ []) (Incl-trans (meet_⊑_right (ν ∷ []) μ) inc) (meet_within (ν ∷ []) κ μ sp) j d.table (first R d) (len R d) o) $ await ! tt $ pick ! (λ names. learn ! (λ long. split ! $ move ! (1 ∷ []) $ split ! $
           -- [its own token; μ's token; the block; the right to free; pending]
           let s : StandingBlock = record { at = p; own = ν; names = names } in move ! (4 ∷ []) $ fsplit ! $ name_set ! tt (mark s) $ use1 𝓛 (‵ (fres t.which (mark s))) (𝓛.names.obs-res t.which (mark s)) $ move ! (1 ∷ 0 ∷ []) $ fjoin ! $
           -- [settled; its own token; μ's token; the block; the right to free]

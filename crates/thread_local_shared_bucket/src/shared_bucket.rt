@@ -1,6 +1,7 @@
 //! The pointer of a bucket that threads share: null while the bucket is missing, and to its block
 //! of slots once it stands.
-ghost use Rattle.std.specs.Prelude.{◌≡◌, true, IfSome, IsSome};
+ghost use Rattle.std.specs.Prelude.{◌≡◌, ◌^◌, ◌<◌, true, IfSome, IsSome};
+ghost use Rattle.thread_local_model.specs.Place.{id_at};
 ghost use Rattle.thread_local_judged.specs.Judged.{Judged};
 ghost use Rattle.thread_local_shared_bucket_logic.specs.Shared.{BucketView, bucket_view_coded, bucket_owns, bucket_shares};
 
@@ -9,6 +10,7 @@ use std::marker::{Brand, Move, Owns, PhantomData};
 use std::sync::atomic::Ordering::SeqCst;
 use std::sync::atomic::raw::ptr;
 use thread_local_blocks::Chunk;
+use thread_local_published::Witness;
 
 /// A bucket that threads share: its pointer, which an owner sees as a `BucketPointer`. A contract
 /// sees its table, its number, and whether it is reserved.
@@ -53,6 +55,25 @@ impl<T> SharedBucket<T> {
     pub fn judged(&self)
         ensures judged { Judged T.row }
     {}
+}
+
+impl<T: Sync> SharedBucket<T> {
+    /// The value that the slot at `index` was published with, which the witness shows, for as long
+    /// as the bucket is borrowed.
+    ///
+    /// It is one atomic load of the bucket's pointer, which isn't null. It never waits and takes no
+    /// memory.
+    pub fn value<'a>(&'a self, index: usize, witness: &Witness<T>) -> &'a T
+        requires inside { index < 2 ^ self.now.bucket }
+        requires id { witness.now.id ≡ id_at self.now.bucket index }
+        requires sharing { witness.now.sharing ≡ self.now.sharing }
+        requires named { IsSome self.now.sharing }
+        ensures { result.now ≡ witness.now.value }
+    {
+        let _ = witness;
+        let at = unsafe { ptr::load::<u64, Brand>(&raw const self.at as *const *mut u64, SeqCst) };
+        unsafe { &*(at as *const T).add(index) }
+    }
 }
 
 unsafe impl<T: Send> Send for SharedBucket<T> {}

@@ -29,6 +29,7 @@ use Rattle.thread_local_rights.specs.Rights.{right_owns}
 use Rattle.thread_local_bits.specs.Bits.{is_set_in}
 use Rattle.thread_local_blocks.specs.Slots.{each, chunks, AreFlags, flags_at, block_ty, value_offset, content_at, slot, flags, back, block_owns, empty_slots, slot_value, heap_token, Fits}
 use Rattle.thread_local_shared_bucket_logic.specs.Shared.{BucketView, Turn, StandingBlock, Who, free, early, mark, value_code, tracked_value, age, holds, had, shared_slot_as, numbered_slot, AreFlagWords, slots_under, slots_stand, block_stands, waiting, all_unborn, Sized, len, first, standing, beside_pointer, bucket_invariant}
+use Rattle.thread_local_published.specs.Told.{untold_in}
 use Rattle.thread_local_raw.proofs.Pointers.{Compared, opened_to_compare, alike_null}
 use Rattle.thread_local_shared_bucket_logic.proofs.Loads.{part, glimpse, parted}
 
@@ -107,25 +108,29 @@ module _ {M : Type 1} {𝓤 : Ura M} (𝓛 : Logic 𝓤) (R : RattleType) (t : T
           move ! (2 ∷ 0 ∷ []) $ use2 𝓛 (later (‵ (content_at R None b e))) (takes_one e η) $ await ! tt $ move ! (2 ∷ 1 ∷ []) $
           use2 𝓛 (later (‵ (each (slot R b o) (empty_slots (length names)) (suc i)))) (takes_all names (suc i)) $ await ! tt $ move ! (1 ∷ 0 ∷ []) $ fjoin ! $ now ! $ done !
 
-      waited : (table k e : ℕ) (η : GName) (w : Bool) → ⟦ waiting R w table t.pass k ⟧ ∗ ⟦ holds R t b ν k e η None ⟧ ⊢ ⟦ had R t b ν table k e η None (who w) ⟧
-      waited table k e η true = qed 𝓛 (‵ (right_owns table k) ∷ ‵ (holds R t b ν k e η None) ∷ []) ∵ fjoin ! $ done !
-      waited table k e η false = qed 𝓛 (‵ (right_owns t.pass k) ∷ ‵ (holds R t b ν k e η None) ∷ []) ∵ fjoin ! $ done !
+      waited : (sharing : Option GName) (table k e : ℕ) (η : GName) (w : Bool) → ⟦ waiting R w table t.pass k ⟧ ∗ ⟦ holds R t b ν sharing k e η None ⟧ ⊢ ⟦ had R t b ν sharing table k e η None (who w) ⟧
+      waited sharing table k e η true = qed 𝓛 (‵ (right_owns table k) ∷ ‵ (holds R t b ν sharing k e η None) ∷ []) ∵ fjoin ! $ done !
+      waited sharing table k e η false = qed 𝓛 (‵ (right_owns t.pass k) ∷ ‵ (holds R t b ν sharing k e η None) ∷ []) ∵ fjoin ! $ done !
 
-      module _ (table k : ℕ) (ns : List ℕ) (clear : (i : ℕ) → is_set_in ns i ≡ false) where
-        born_one : (i : ℕ) (η : GName) (w : Bool) → ⟦ right_owns t.vacant (i + k) ⟧ ∗ ⟦ right_owns t.filled (i + k) ⟧ ∗ ⟦ waiting R w table t.pass (i + k) ⟧ ∗ ⟦ bare_slot η i ⟧ ⊢ ⟦ numbered_slot R t b ν table k o ns η i ⟧
+      module _ (sharing : Option GName) (table k : ℕ) (ns : List ℕ) (clear : (i : ℕ) → is_set_in ns i ≡ false) where
+        -- what stays with an empty slot
+        abbrev Unborn : ℕ → Fml
+        Unborn j = fsep (right_owns t.filled j) (untold_in sharing j)
+
+        born_one : (i : ℕ) (η : GName) (w : Bool) → ⟦ right_owns t.vacant (i + k) ⟧ ∗ ⟦ Unborn (i + k) ⟧ ∗ ⟦ waiting R w table t.pass (i + k) ⟧ ∗ ⟦ bare_slot η i ⟧ ⊢ ⟦ numbered_slot R t b ν sharing table k o ns η i ⟧
         born_one i η w = let j : ℕ = i + k in let e : ℕ = value_offset R o i in let set : Bool = is_set_in ns i in let v : Option R.Denot = None in
-            qed 𝓛 (‵ (right_owns t.vacant j) ∷ ‵ (right_owns t.filled j) ∷ ‵ (waiting R w table t.pass j) ∷ ‵ (bare e η) ∷ []) ∵ move ! (3 ∷ []) $ fsplit3 ! $
+            qed 𝓛 (‵ (right_owns t.vacant j) ∷ ‵ (Unborn j) ∷ ‵ (waiting R w table t.pass j) ∷ ‵ (bare e η) ∷ []) ∵ move ! (3 ∷ []) $ fsplit3 ! $
             -- [the way to its end; its name; the borrow; vacant; filled; what waits]
-            move ! (3 ∷ 1 ∷ 2 ∷ []) $ fjoin3 ! $ move ! (3 ∷ 0 ∷ []) $ use2 𝓛 (‵ (had R t b ν table j e η None (who w))) (waited table j e η w) $ move ! (2 ∷ 0 ∷ []) $ fjoin ! $
-            nothing ! $ fpack ! (set ≡ is_some v) (λ _. ftrue) (clear i) $ fjoin ! $ fpack ! (Option R.Denot × Who) (shared_slot_as R t b ν table set j e η) (None, who w) $ move ! (1 ∷ 0 ∷ []) $ fjoin ! $ done !
+            move ! (3 ∷ 1 ∷ 2 ∷ []) $ fjoin3 ! $ move ! (3 ∷ 0 ∷ []) $ use2 𝓛 (‵ (had R t b ν sharing table j e η None (who w))) (waited sharing table j e η w) $ move ! (2 ∷ 0 ∷ []) $ fjoin ! $
+            nothing ! $ fpack ! (set ≡ is_some v) (λ _. ftrue) (clear i) $ fjoin ! $ fpack ! (Option R.Denot × Who) (shared_slot_as R t b ν sharing table set j e η) (None, who w) $ move ! (1 ∷ 0 ∷ []) $ fjoin ! $ done !
 
-        born_all : (names : List ℕ) (i : ℕ) → ⟦ all_unborn R table t (length names) (i + k) ⟧ ∗ ⟦ each bare_slot names i ⟧ ⊢ ⟦ each (numbered_slot R t b ν table k o ns) names i ⟧
+        born_all : (names : List ℕ) (i : ℕ) → ⟦ all_unborn R sharing table t (length names) (i + k) ⟧ ∗ ⟦ each bare_slot names i ⟧ ⊢ ⟦ each (numbered_slot R t b ν sharing table k o ns) names i ⟧
         born_all [] i = qed 𝓛 (‵ ftrue ∷ ‵ ftrue ∷ []) ∵ drop ! $ done !
         born_all (η ∷ names) i = let j : ℕ = i + k in let next : suc (i + k) ≡ suc i + k = omega arith in
-            qed 𝓛 (‵ (all_unborn R table t (length (η ∷ names)) j) ∷ ‵ (each bare_slot (η ∷ names) i) ∷ []) ∵ fsplit ! $ fsplit3 ! $ move ! (2 ∷ []) $ fpick ! (λ w. move ! (4 ∷ []) $ fsplit ! $
+            qed 𝓛 (‵ (all_unborn R sharing table t (length (η ∷ names)) j) ∷ ‵ (each bare_slot (η ∷ names) i) ∷ []) ∵ fsplit ! $ fsplit3 ! $ move ! (2 ∷ []) $ fpick ! (λ w. move ! (4 ∷ []) $ fsplit ! $
             -- [the slot; the other slots; what waits; vacant; filled; the others that are unborn]
-            move ! (3 ∷ 4 ∷ 2 ∷ 0 ∷ []) $ types.Kit.group ! 4 $ use1 𝓛 (‵ (numbered_slot R t b ν table k o ns η i)) (born_one i η w) $ frame ! $ move ! (1 ∷ []) $
-            rewrite ! 0 (λ (m : ℕ). ‵ (all_unborn R table t (length names) m)) next refl $ by ! (born_all names (suc i)))
+            move ! (3 ∷ 4 ∷ 2 ∷ 0 ∷ []) $ types.Kit.group ! 4 $ use1 𝓛 (‵ (numbered_slot R t b ν sharing table k o ns η i)) (born_one i η w) $ frame ! $ move ! (1 ∷ []) $
+            rewrite ! 0 (λ (m : ℕ). ‵ (all_unborn R sharing table t (length names) m)) next refl $ by ! (born_all names (suc i)))
 
   module _ (d : BucketView) (a : Global) where
     abbrev n : ℕ
@@ -183,13 +188,13 @@ module _ {M : Type 1} {𝓤 : Ura M} (𝓛 : Logic 𝓤) (R : RattleType) (t : T
         nothing ! $ fpack ! (InBlock p × Fits R many) (λ _. ftrue) (so.2.0, subst (Fits R) (sym as_many) so.2.2) $ fjoin ! $ now ! $ done !
 
     -- the block's slots are born under the turn
-    born_block : (p : Ptr) (s : StandingBlock) → length s.names ≡ n → ⟦ all_unborn R d.table t n (first R d) ⟧ ∗ ⟦ idle p s ⟧ ⊢ ⟦ fsep (block_stands R d t p s) (heap_token τ p) ⟧
+    born_block : (p : Ptr) (s : StandingBlock) → length s.names ≡ n → ⟦ all_unborn R d.sharing d.table t n (first R d) ⟧ ∗ ⟦ idle p s ⟧ ⊢ ⟦ fsep (block_stands R d t p s) (heap_token τ p) ⟧
     born_block p s long = let b : ℕ = block_of p in let o : ℕ = count_of p in let k : ℕ = first R d in let same : k ≡ 0 + k = omega arith in
-        qed 𝓛 (‵ (all_unborn R d.table t n k) ∷ ‵ (idle p s) ∷ []) ∵ rewrite ! 0 (λ (m : ℕ). ‵ (all_unborn R d.table t m k)) (sym long) refl $ rewrite ! 0 (λ (m : ℕ). ‵ (all_unborn R d.table t (length s.names) m)) same refl $
+        qed 𝓛 (‵ (all_unborn R d.sharing d.table t n k) ∷ ‵ (idle p s) ∷ []) ∵ rewrite ! 0 (λ (m : ℕ). ‵ (all_unborn R d.sharing d.table t m k)) (sym long) refl $ rewrite ! 0 (λ (m : ℕ). ‵ (all_unborn R d.sharing d.table t (length s.names) m)) same refl $
         move ! (1 ∷ []) $ fsplit3 ! $ fpick ! (λ ns. fsplit3 ! $ fpick ! (λ are. drop ! $ move ! (1 ∷ []) $ drop ! $
         rewrite ! 0 (λ (m : ℕ). ‵ (each (flags_at R m b o) ns 0)) as_many refl $
         -- [the words; the slots; the way back and the right to free; what waits]
-        move ! (3 ∷ 1 ∷ []) $ use2 𝓛 (‵ (slots_stand R d t p s ns)) (born_all b s.own o d.table k ns (none_set R n ns are.1) s.names 0) $ move ! (1 ∷ 0 ∷ []) $ fjoin ! $
+        move ! (3 ∷ 1 ∷ []) $ use2 𝓛 (‵ (slots_stand R d t p s ns)) (born_all b s.own o d.sharing d.table k ns (none_set R n ns are.1) s.names 0) $ move ! (1 ∷ 0 ∷ []) $ fjoin ! $
         nothing ! $ fpack ! (AreFlagWords R n ns) (λ _. ftrue) (clear_words R n ns are.1 are.0) $ fjoin ! $ fpack ! (List ℕ) (slots_under R n b o (slots_stand R d t p s)) ns $
         move ! (1 ∷ []) $ fsplit ! $ move ! (2 ∷ 0 ∷ []) $ fjoin ! $ move ! (1 ∷ []) $ fpack ! Global (λ z. ghosts.dealloc_token z τ p) a $ move ! (1 ∷ 0 ∷ []) $ fjoin ! $ done !))
 

@@ -12,9 +12,10 @@ use mir.Syntax.{Ty}
 use Rattle.std.proofs.Crossing.{frees}
 use Rattle.thread_local_rights.proofs.Elements.{right_keyless}
 use Rattle.thread_local_judged.specs.Judged.{Judged}
+use Rattle.thread_local_published.proofs.Elements.{untold_keyless, tells_keyless, telling_keyless, all_telling_keyless}
 use Rattle.thread_local_bits.specs.Bits.{is_set_in}
 use Rattle.thread_local_blocks.specs.Slots.{heap_token, chunks, each, flag_room, flags_at, slot, empty_slots, value_offset, content_at, back, block_ty}
-use Rattle.thread_local_shared_bucket_logic.specs.Shared.{BucketView, Turn, StandingBlock, Who, free, claimed, early, tracked_value, by, holds, stays, had, shared_slot, numbered_slot, waiting, all_unborn, rests, slots_rest, block_rests, block_stands, beside_pointer, kept, loaded, row_owns, at_rest, len, first}
+use Rattle.thread_local_shared_bucket_logic.specs.Shared.{BucketView, Turn, StandingBlock, Who, free, claimed, early, tracked_value, published, by, holds, stays, had, shared_slot, numbered_slot, waiting, all_unborn, rests, slots_rest, block_rests, block_stands, beside_pointer, kept, loaded, row_owns, at_rest, len, first}
 
 pub chain_keyless : (νs : List Lft) (κ α : Lft) → Keyless (chain νs κ α)
 chain_keyless [] κ α = λ _. tt
@@ -46,38 +47,42 @@ module _ (R : RattleType) (s : IsSend R) where
     by_keyless e η x (inl j) = j x b e (ν ∷ t.life)
     by_keyless e η x (inr refuted) = value_keyless b e η
 
-    pub holds_keyless : (k e : ℕ) (η : GName) (v : Option R.Denot) → Keyless (holds R t b ν k e η v)
-    holds_keyless k e η None = (right_keyless t.vacant k, (tt, value_keyless b e η))
-    holds_keyless k e η (Some x) = (right_keyless t.filled k, (tt, by_keyless e η x))
+    module _ (sharing : Option GName) where
+      published_keyless : (k : ℕ) (η : GName) (x : R.Denot) → Keyless (published R sharing k η x)
+      published_keyless k η x = (tt, tells_keyless R sharing k (Some x))
 
-    pub stays_keyless : (k e : ℕ) (η : GName) (v : Option R.Denot) → Keyless (stays R t b ν k e η v)
-    stays_keyless k e η None = right_keyless t.filled k
-    stays_keyless k e η (Some x) = (right_keyless t.vacant k, (tt, λ j. j x b e (ν ∷ t.life)))
+      pub holds_keyless : (k e : ℕ) (η : GName) (v : Option R.Denot) → Keyless (holds R t b ν sharing k e η v)
+      holds_keyless k e η None = (right_keyless t.vacant k, (tt, value_keyless b e η))
+      holds_keyless k e η (Some x) = (right_keyless t.filled k, (published_keyless k η x, by_keyless e η x))
 
-    pub had_keyless : (table k e : ℕ) (η : GName) (v : Option R.Denot) (w : Who) → Keyless (had R t b ν table k e η v w)
-    had_keyless table k e η v free = (right_keyless t.pass k, holds_keyless k e η v)
-    had_keyless table k e η v claimed = (right_keyless table k, right_keyless t.pass k)
-    had_keyless table k e η v early = (right_keyless table k, holds_keyless k e η None)
+      pub stays_keyless : (k e : ℕ) (η : GName) (v : Option R.Denot) → Keyless (stays R t b ν sharing k e η v)
+      stays_keyless k e η None = (right_keyless t.filled k, untold_keyless sharing k)
+      stays_keyless k e η (Some x) = (right_keyless t.vacant k, (published_keyless k η x, λ j. j x b e (ν ∷ t.life)))
 
-    slot_keyless : (table : ℕ) (set : Bool) (k e : ℕ) (η : GName) → Keyless (shared_slot R t b ν table set k e η)
-    slot_keyless table set k e η = (value_keyless b e η, λ z. ((λ _. tt), (stays_keyless k e η z.0, had_keyless table k e η z.0 z.1)))
+      pub had_keyless : (table k e : ℕ) (η : GName) (v : Option R.Denot) (w : Who) → Keyless (had R t b ν sharing table k e η v w)
+      had_keyless table k e η v free = (right_keyless t.pass k, holds_keyless k e η v)
+      had_keyless table k e η v claimed = (right_keyless table k, right_keyless t.pass k)
+      had_keyless table k e η v early = (right_keyless table k, holds_keyless k e η None)
 
-    slots_keyless : (table k o : ℕ) (names ns : List ℕ) → Keyless (each (numbered_slot R t b ν table k o ns) names 0)
-    slots_keyless table k o names ns = each_keyless (numbered_slot R t b ν table k o ns) names 0 (λ η i. slot_keyless table (is_set_in ns i) (i + k) (value_offset R o i) η)
+      slot_keyless : (table : ℕ) (set : Bool) (k e : ℕ) (η : GName) → Keyless (shared_slot R t b ν sharing table set k e η)
+      slot_keyless table set k e η = (value_keyless b e η, λ z. ((λ _. tt), (stays_keyless k e η z.0, had_keyless table k e η z.0 z.1)))
+
+      slots_keyless : (table k o : ℕ) (names ns : List ℕ) → Keyless (each (numbered_slot R t b ν sharing table k o ns) names 0)
+      slots_keyless table k o names ns = each_keyless (numbered_slot R t b ν sharing table k o ns) names 0 (λ η i. slot_keyless table (is_set_in ns i) (i + k) (value_offset R o i) η)
 
   waiting_keyless : (w : Bool) (table pass k : ℕ) → Keyless (waiting R w table pass k)
   waiting_keyless true table pass k = right_keyless table k
   waiting_keyless false table pass k = right_keyless pass k
 
-  unborn_keyless : (table : ℕ) (t : Turn) (n k : ℕ) → Keyless (all_unborn R table t n k)
-  unborn_keyless table t zero k = tt
-  unborn_keyless table t (suc n) k = ((right_keyless t.vacant k, (right_keyless t.filled k, λ w. waiting_keyless w table t.pass k)), unborn_keyless table t n (suc k))
+  unborn_keyless : (sharing : Option GName) (table : ℕ) (t : Turn) (n k : ℕ) → Keyless (all_unborn R sharing table t n k)
+  unborn_keyless sharing table t zero k = tt
+  unborn_keyless sharing table t (suc n) k = ((right_keyless t.vacant k, ((right_keyless t.filled k, untold_keyless sharing k), λ w. waiting_keyless w table t.pass k)), unborn_keyless sharing table t n (suc k))
 
   stands_keyless : (d : BucketView) (t : Turn) (p : Ptr) (z : StandingBlock) → Keyless (block_stands R d t p z)
-  stands_keyless d t p z = let b : ℕ = block_of p in let o : ℕ = count_of p in ((λ ns. ((λ _. tt), (words_keyless (len R d) b o ns, slots_keyless t b z.own d.table (first R d) o z.names ns))), back_keyless b o (len R d))
+  stands_keyless d t p z = let b : ℕ = block_of p in let o : ℕ = count_of p in ((λ ns. ((λ _. tt), (words_keyless (len R d) b o ns, slots_keyless t b z.own d.sharing d.table (first R d) o z.names ns))), back_keyless b o (len R d))
 
   beside_keyless : (d : BucketView) (t : Turn) (p : Ptr) → Keyless (beside_pointer R d t p)
-  beside_keyless d t null_ptr = ((λ _. tt), ((tt, tt), unborn_keyless d.table t (len R d) (first R d)))
+  beside_keyless d t null_ptr = ((λ _. tt), ((tt, tt), unborn_keyless d.sharing d.table t (len R d) (first R d)))
   beside_keyless d t (block_ptr b o) = λ z. ((λ _. tt), ((tt, tt), (tt, (stands_keyless d t (block_ptr b o) z.0, token_keyless (block_ty R (len R d)) (block_ptr b o)))))
 
   pub kept_keyless : (d : BucketView) (t : Turn) (b o : ℕ) (κ : Lft) → Keyless (kept R d t b o κ)
@@ -91,16 +96,16 @@ module _ (R : RattleType) (s : IsSend R) where
   rests_keyless true b e None = λ z. (tt, value_keyless b e z.1)
   rests_keyless true b e (Some x) = λ z. (tt, (tt, value_keyless b e z.1))
 
-  slots_rest_keyless : (n i b o : ℕ) (ns : List ℕ) → Keyless (slots_rest R n i b o ns)
-  slots_rest_keyless zero i b o ns = tt
-  slots_rest_keyless (suc n) i b o ns = ((λ z. ((λ _. tt), rests_keyless z.1 b (value_offset R o i) z.0)), slots_rest_keyless n (suc i) b o ns)
+  slots_rest_keyless : (sharing : Option GName) (k n i b o : ℕ) (ns : List ℕ) → Keyless (slots_rest R sharing k n i b o ns)
+  slots_rest_keyless sharing k zero i b o ns = tt
+  slots_rest_keyless sharing k (suc n) i b o ns = ((λ z. ((λ _. tt), (telling_keyless R sharing (i + k) z.0, rests_keyless z.1 b (value_offset R o i) z.0))), slots_rest_keyless sharing k n (suc i) b o ns)
 
-  block_rests_keyless : (n b o : ℕ) → Keyless (block_rests R n b o)
-  block_rests_keyless n b o = ((λ ns. ((λ _. tt), (words_keyless n b o ns, slots_rest_keyless n 0 b o ns))), back_keyless b o n)
+  block_rests_keyless : (sharing : Option GName) (k n b o : ℕ) → Keyless (block_rests R sharing k n b o)
+  block_rests_keyless sharing k n b o = ((λ ns. ((λ _. tt), (words_keyless n b o ns, slots_rest_keyless sharing k n 0 b o ns))), back_keyless b o n)
 
   pub at_rest_keyless : (d : BucketView) (p : Ptr) → Keyless (at_rest R d p)
-  at_rest_keyless d null_ptr = λ _. tt
-  at_rest_keyless d (block_ptr b o) = ((λ _. tt), (block_rests_keyless (len R d) b o, token_keyless (block_ty R (len R d)) (block_ptr b o)))
+  at_rest_keyless d null_ptr = ((λ _. tt), all_telling_keyless R d.sharing (first R d) (empty_slots (len R d)))
+  at_rest_keyless d (block_ptr b o) = ((λ _. tt), (block_rests_keyless d.sharing (first R d) (len R d) b o, token_keyless (block_ty R (len R d)) (block_ptr b o)))
 
   pub found_keyless : (d : BucketView) (names : List ℕ) (β : Lft) (p : Ptr) → Keyless (row_owns R d names β p)
   found_keyless d names β p = λ z. ((λ _. tt), (kept_keyless d z.0 z.2 z.3 β, row_keyless d z.0 z.1 β))

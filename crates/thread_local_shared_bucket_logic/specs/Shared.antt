@@ -12,6 +12,8 @@
 --                         filled    the other way round
 --     holds, stays        what the claim of a slot has of it, and what stays with the slot, by the
 --                         value that is published
+--     telling             what is told of the slot's id under the sharing's name, if it has one: it
+--                         stays with the slot, whoever claims it
 --
 -- Where a `&` to a value names no thread, a published value is shared for good. Where it may name
 -- one, the claim of the slot has the borrow of the value.
@@ -21,7 +23,7 @@
 --     x         one such value
 --     v         what a slot holds: a value, or none
 --     j         whether a `&` to a value names no thread
---     d         the view of a bucket: its table, its number, and whether it is reserved
+--     d         the view of a bucket: its table, the sharing, its number, and whether it is reserved
 --     t         a turn: the life and the names of one sharing
 --     b, o      the address of the pointer, or of its block: the allocation, and the offset in it
 --     e         the offset of a slot's value in the allocation of its block
@@ -39,6 +41,9 @@
 --
 -- Terms from other files:
 --     fact φ                 φ holds, and nothing is owned
+--     untold_in sharing k    nothing is told of the id k in this sharing yet, and one holder may
+--     tells R sharing k v    it is told of the id k for good that its slot was published with v
+--     telling R sharing k v  the first where v is none, else the second; all_telling of several
 --     right_owns γ k         the one token at the key k under the name γ; under a table's name it
 --                            is the right to the id k
 --     each F xs i            F of each of these and its index, from i on
@@ -75,20 +80,24 @@ use Rattle.thread_local_model.specs.Place.{id_at}
 use Rattle.thread_local_rights.specs.Rights.{right_owns}
 use Rattle.thread_local_judged.specs.Judged.{Shareable, Judged}
 use Rattle.thread_local_bits.specs.Bits.{is_set_in}
-use Rattle.thread_local_blocks.specs.Slots.{heap_token, chunks, each, AreWords, block_ty, Fits, value_offset, flags_at, content_at, back}
+use Rattle.thread_local_blocks.specs.Slots.{heap_token, chunks, each, AreWords, block_ty, Fits, value_offset, flags_at, content_at, back, empty_slots}
 use Rattle.thread_local_raw.specs.Fact.{fact}
+use Rattle.thread_local_published.specs.Told.{untold_in, tells, telling, all_telling}
 
 -- 1. What is known of a bucket, of a sharing and of a block.
 
--- what a contract sees of a shared bucket: its table, its number, and whether it is reserved
+-- what a contract sees of a shared bucket: its table, the sharing if that has a name, its number,
+-- and whether it is reserved
 pub record BucketView : Type 0 where
   pub table : ℕ
+  pub sharing : Option ℕ
   pub bucket : ℕ
   pub reserved : Bool
 
 -- an injective code of such views, for ghost state
 abbrev pub bucket_view_coded : Coded BucketView
-bucket_view_coded = coded_via (coded× coded_ℕ (coded× coded_ℕ coded_bool)) (λ (d : BucketView). (d.table, (d.bucket, d.reserved))) (λ x y e i. record { table = (e i).0; bucket = (e i).1.0; reserved = (e i).1.1 })
+bucket_view_coded = coded_via (coded× coded_ℕ (coded× (coded_option coded_ℕ) (coded× coded_ℕ coded_bool))) (λ (d : BucketView). (d.table, (d.sharing, (d.bucket, d.reserved))))
+    (λ x y e i. record { table = (e i).0; sharing = (e i).1.0; bucket = (e i).1.1.0; reserved = (e i).1.1.1 })
 
 -- the life and the names of one sharing
 pub record Turn : Type 0 where
@@ -139,6 +148,10 @@ module _ (R : RattleType) where
   abbrev pub pinned : GName → R.Denot → Fml
   pinned η x = fres η (value_code (Some x))
 
+  -- the same, and it is told of the slot's id
+  abbrev pub published : Option GName → ℕ → GName → R.Denot → Fml
+  published sharing k η x = fsep (pinned η x) (tells R sharing k (Some x))
+
   -- the memory of a slot's value, with the name that tracks it
   abbrev pub tracked_value : ℕ → ℕ → GName → Fml
   tracked_value b e η = fex (Option R.Denot) (λ c. fsep (content_at R c b e) (fauth η (value_code c)))
@@ -162,33 +175,34 @@ module _ (R : RattleType) where
     by e η x (inl _) = shared_value e x
     by e η x (inr _) = fbor age (tracked_value b e η)
 
-    -- what the claim of the slot k has of it
-    abbrev pub holds : ℕ → ℕ → GName → Option R.Denot → Fml
-    holds k e η None = fsep (right_owns t.vacant k) (fsep (fobs η (value_code None)) (fbor age (tracked_value b e η)))
-    holds k e η (Some x) = fsep (right_owns t.filled k) (fsep (pinned η x) (fex (Judged R) (by e η x)))
+    module _ (sharing : Option GName) where
+      -- what the claim of the slot k has of it
+      abbrev pub holds : ℕ → ℕ → GName → Option R.Denot → Fml
+      holds k e η None = fsep (right_owns t.vacant k) (fsep (fobs η (value_code None)) (fbor age (tracked_value b e η)))
+      holds k e η (Some x) = fsep (right_owns t.filled k) (fsep (published sharing k η x) (fex (Judged R) (by e η x)))
 
-    -- what stays with the slot
-    abbrev pub stays : ℕ → ℕ → GName → Option R.Denot → Fml
-    stays k e η None = right_owns t.filled k
-    stays k e η (Some x) = fsep (right_owns t.vacant k) (fsep (pinned η x) (opened e x))
+      -- what stays with the slot
+      abbrev pub stays : ℕ → ℕ → GName → Option R.Denot → Fml
+      stays k e η None = fsep (right_owns t.filled k) (untold_in sharing k)
+      stays k e η (Some x) = fsep (right_owns t.vacant k) (fsep (published sharing k η x) (opened e x))
 
-    -- what lies with the slot, by who has the slot
-    abbrev pub had : ℕ → ℕ → ℕ → GName → Option R.Denot → Who → Fml
-    had table k e η v free = fsep (right_owns t.pass k) (holds k e η v)
-    had table k e η v claimed = fsep (right_owns table k) (right_owns t.pass k)
-    had table k e η v early = fsep (right_owns table k) (holds k e η None)
+      -- what lies with the slot, by who has the slot
+      abbrev pub had : ℕ → ℕ → ℕ → GName → Option R.Denot → Who → Fml
+      had table k e η v free = fsep (right_owns t.pass k) (holds k e η v)
+      had table k e η v claimed = fsep (right_owns table k) (right_owns t.pass k)
+      had table k e η v early = fsep (right_owns table k) (holds k e η None)
 
-    -- a slot of which it is known what it holds and who has it
-    abbrev pub shared_slot_as : ℕ → Bool → ℕ → ℕ → GName → Option R.Denot × Who → Fml
-    shared_slot_as table set k e η s = fsep (fact (set ≡ is_some s.0)) (fsep (stays k e η s.0) (had table k e η s.0 s.1))
+      -- a slot of which it is known what it holds and who has it
+      abbrev pub shared_slot_as : ℕ → Bool → ℕ → ℕ → GName → Option R.Denot × Who → Fml
+      shared_slot_as table set k e η s = fsep (fact (set ≡ is_some s.0)) (fsep (stays k e η s.0) (had table k e η s.0 s.1))
 
-    -- a slot, with the loan of its memory
-    abbrev pub shared_slot : ℕ → Bool → ℕ → ℕ → GName → Fml
-    shared_slot table set k e η = fsep (flent age (tracked_value b e η)) (fex (Option R.Denot × Who) (shared_slot_as table set k e η))
+      -- a slot, with the loan of its memory
+      abbrev pub shared_slot : ℕ → Bool → ℕ → ℕ → GName → Fml
+      shared_slot table set k e η = fsep (flent age (tracked_value b e η)) (fex (Option R.Denot × Who) (shared_slot_as table set k e η))
 
-    -- the slot i of a block at o; k is the first id of the block, and ns are its flags
-    abbrev pub numbered_slot : ℕ → ℕ → ℕ → List ℕ → GName → ℕ → Fml
-    numbered_slot table k o ns η i = shared_slot table (is_set_in ns i) (i + k) (value_offset R o i) η
+      -- the slot i of a block at o; k is the first id of the block, and ns are its flags
+      abbrev pub numbered_slot : ℕ → ℕ → ℕ → List ℕ → GName → ℕ → Fml
+      numbered_slot table k o ns η i = shared_slot table (is_set_in ns i) (i + k) (value_offset R o i) η
 
   -- 3. The slots of a bucket: of a block that stands, and before there is one.
 
@@ -206,14 +220,15 @@ module _ (R : RattleType) where
   waiting true table pass k = right_owns table k
   waiting false table pass k = right_owns pass k
 
-  -- a slot that has no block yet: its tokens, and the pass or the right that was laid down for it
-  abbrev pub unborn : ℕ → Turn → ℕ → Fml
-  unborn table t k = fsep (right_owns t.vacant k) (fsep (right_owns t.filled k) (fex Bool (λ early. waiting early table t.pass k)))
+  -- a slot that has no block yet: its tokens, of which nothing is told, and the pass or the right
+  -- that was laid down for it
+  abbrev pub unborn : Option GName → ℕ → Turn → ℕ → Fml
+  unborn sharing table t k = fsep (right_owns t.vacant k) (fsep (fsep (right_owns t.filled k) (untold_in sharing k)) (fex Bool (λ early. waiting early table t.pass k)))
 
   -- the same of n slots, from the id k on
-  abbrev pub all_unborn : ℕ → Turn → ℕ → ℕ → Fml
-  all_unborn table t zero k = ftrue
-  all_unborn table t (suc n) k = fsep (unborn table t k) (all_unborn table t n (suc k))
+  abbrev pub all_unborn : Option GName → ℕ → Turn → ℕ → ℕ → Fml
+  all_unborn sharing table t zero k = ftrue
+  all_unborn sharing table t (suc n) k = fsep (unborn sharing table t k) (all_unborn sharing table t n (suc k))
 
   -- 4. A slot at rest, when the bucket isn't shared.
 
@@ -228,22 +243,25 @@ module _ (R : RattleType) where
   rests false b e v = content_at R v b e
   rests true b e v = fex (Lft × GName) (due b e v)
 
-  -- a slot at rest
-  abbrev pub slot_rests_as : Bool → ℕ → ℕ → Option R.Denot × Bool → Fml
-  slot_rests_as set b e s = fsep (fact (set ≡ is_some s.0)) (rests s.1 b e s.0)
+  module _ (sharing : Option GName) (k : ℕ) where
+    -- the slot at rest of the id k
+    abbrev pub slot_rests_as : Bool → ℕ → ℕ → Option R.Denot × Bool → Fml
+    slot_rests_as set b e s = fsep (fact (set ≡ is_some s.0)) (fsep (telling R sharing k s.0) (rests s.1 b e s.0))
 
-  -- a slot at rest, whatever it holds
-  abbrev pub slot_rests : Bool → ℕ → ℕ → Fml
-  slot_rests set b e = fex (Option R.Denot × Bool) (slot_rests_as set b e)
+    -- the same, whatever it holds
+    abbrev pub slot_rests : Bool → ℕ → ℕ → Fml
+    slot_rests set b e = fex (Option R.Denot × Bool) (slot_rests_as set b e)
 
-  -- n slots at rest of a block at o, from the slot i on, whose flags are in these words
-  abbrev pub slots_rest : ℕ → ℕ → ℕ → ℕ → List ℕ → Fml
-  slots_rest zero i b o ns = ftrue
-  slots_rest (suc n) i b o ns = fsep (slot_rests (is_set_in ns i) b (value_offset R o i)) (slots_rest n (suc i) b o ns)
+  module _ (sharing : Option GName) (k : ℕ) where
+    -- n slots at rest of a block at o, from the slot i on, whose flags are in these words; k is the
+    -- first id of the block
+    abbrev pub slots_rest : ℕ → ℕ → ℕ → ℕ → List ℕ → Fml
+    slots_rest zero i b o ns = ftrue
+    slots_rest (suc n) i b o ns = fsep (slot_rests sharing (i + k) (is_set_in ns i) b (value_offset R o i)) (slots_rest n (suc i) b o ns)
 
-  -- a block of n slots at rest: its words, its slots, and the way back
-  abbrev pub block_rests : ℕ → ℕ → ℕ → Fml
-  block_rests n b o = fsep (fex (List ℕ) (slots_under n b o (slots_rest n 0 b o))) (back R b o n)
+    -- a block of n slots at rest: its words, its slots, and the way back
+    abbrev pub block_rests : ℕ → ℕ → ℕ → Fml
+    block_rests n b o = fsep (fex (List ℕ) (slots_under n b o (slots_rest n 0 b o))) (back R b o n)
 
   -- p leads to a block and may be compared with null, and the size of n slots fits
   abbrev pub Sized : ℕ → Ptr → Type 0
@@ -270,7 +288,7 @@ module _ (R : RattleType) where
 
       -- the slots of a block, one for each name, under the words of their flags
       abbrev pub slots_stand : Ptr → StandingBlock → List ℕ → Fml
-      slots_stand p s ns = each (numbered_slot t (block_of p) s.own d.table first (count_of p) ns) s.names 0
+      slots_stand p s ns = each (numbered_slot t (block_of p) s.own d.sharing d.table first (count_of p) ns) s.names 0
 
       -- a standing block: its words, its slots, and the way back
       abbrev pub block_stands : Ptr → StandingBlock → Fml
@@ -284,7 +302,7 @@ module _ (R : RattleType) where
 
       -- what lies beside the pointer, null or to a block
       abbrev pub beside_pointer : Ptr → Fml
-      beside_pointer null_ptr = fsep (fact (d.reserved ≡ false)) (fsep pending (all_unborn d.table t len first))
+      beside_pointer null_ptr = fsep (fact (d.reserved ≡ false)) (fsep pending (all_unborn d.sharing d.table t len first))
       beside_pointer (block_ptr b o) = fex (StandingBlock × Share) (standing (block_ptr b o))
 
       -- the pointer with what lies beside it
@@ -301,8 +319,8 @@ module _ (R : RattleType) where
 
     -- what a bucket at rest owns beside its pointer
     abbrev pub at_rest : Ptr → Fml
-    at_rest null_ptr = fact (d.reserved ≡ false)
-    at_rest (block_ptr b o) = fsep (fact (Sized len (block_ptr b o))) (fsep (block_rests len b o) (heap_token (block_ty R len) (block_ptr b o)))
+    at_rest null_ptr = fsep (fact (d.reserved ≡ false)) (all_telling R d.sharing first (empty_slots len))
+    at_rest (block_ptr b o) = fsep (fact (Sized len (block_ptr b o))) (fsep (block_rests d.sharing first len b o) (heap_token (block_ty R len) (block_ptr b o)))
 
     -- a bucket at rest: its pointer with what lies beside it, and values of a type that is judged
     abbrev pub bucket_owns : (Ptr → Fml) → Fml

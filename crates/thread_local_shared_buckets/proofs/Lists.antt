@@ -35,10 +35,30 @@ table_bucket : (s : TableView) (i : ℕ) → i < 63 → bucket_at (table_buckets
 table_bucket s i near = let same : i + 0 ≡ i = omega arith in all_buckets-at s 63 0 i near ∙ ap (bucket_view s) same
 
 pub table_named : (s : TableView) → AreBuckets (table_buckets s) s.reserved
-table_named s b near = table_bucket s b near ∙ sym (ap (λ (k : ℕ). record { table = k; bucket = b; reserved = nat_lt (id_at b 0) s.reserved }) (ap (λ (d : BucketView). d.table) (table_bucket s 0 (omega arith))))
+table_named s b near = table_bucket s b near ∙ sym (ap (λ (d : BucketView). record { table = d.table; sharing = d.sharing; bucket = b; reserved = nat_lt (id_at b 0) s.reserved }) (table_bucket s 0 (omega arith)))
 
 pub table_seen : (s : TableView) → table_view_of (table_buckets s) s.reserved ≡ s
-table_seen s = ap (λ (k : ℕ). record { table = k; reserved = s.reserved }) (ap (λ (d : BucketView). d.table) (table_bucket s 0 (omega arith)))
+table_seen s = ap (λ (d : BucketView). record { table = d.table; sharing = d.sharing; reserved = s.reserved }) (table_bucket s 0 (omega arith))
+
+-- these are a table's buckets from this number on
+abbrev pub AreOf : TableView → ℕ → List BucketView → Type 0
+AreOf s b [] = Unit {0}
+AreOf s b (d ∷ ds) = (d ≡ bucket_view s b) × AreOf s (suc b) ds
+
+pub all_are_of : (s : TableView) (n b : ℕ) → AreOf s b (all_buckets s n b)
+unfolding all_buckets
+all_are_of s zero b = tt
+all_are_of s (suc n) b = (refl, all_are_of s n (suc b))
+
+are_of_from : (s : TableView) (b : ℕ) (ds : List BucketView) → ((i : ℕ) → i < length ds → bucket_at ds i ≡ bucket_view s (i + b)) → AreOf s b ds
+are_of_from s b [] all = tt
+are_of_from s b (d ∷ ds) all = let here : 0 + b ≡ b = omega arith in (
+  all 0 (omega arith) ∙ ap (bucket_view s) here,
+  are_of_from s (suc b) ds (λ i near. let next : suc i + b ≡ i + suc b = omega arith in all (suc i) (omega arith) ∙ ap (bucket_view s) next),
+)
+
+pub named_are_of : (ds : List BucketView) (reserved : ℕ) → length ds ≡ 63 → AreBuckets ds reserved → AreOf (table_view_of ds reserved) 0 ds
+named_are_of ds reserved long named = let s : TableView = table_view_of ds reserved in are_of_from s 0 ds (λ i near. let within : i < 63 = omega arith in let same : i ≡ i + 0 = omega arith in named i within ∙ ap (bucket_view s) same)
 
 module _ {V W : Type 0} (slots : W → List (Option V)) where
   abbrev pub Fits : List BucketView → List W → Type 0

@@ -6,11 +6,11 @@ use Rattle.std.proofs.lemmas.List.{get_or_past}
 use mathlib.Core.Logic.{inl, inr}
 use seplogic.Ra.Ura.{Ura}
 use mir.Syntax.{Ty}
-use base.Fml.{Fml, ftrue, fsep, fex}
+use base.Fml.{GName, Fml, ftrue, fsep, fex}
 use base.Logic.{SProp, ent, sep, ex, guard, id⊢, guard_i}
 use contract.Monad.{fact_use}
 use types.Logic.{Logic, sem}
-use types.Kit.{‵, some, given, later, ◌$◌, ◌∵◌, !, qed, by, move, keep, drop, use1, fsplit, fsplit3, fjoin, fjoin3, fpick, fpack, pick, learn, check, show, await, updating, now, rewrite, done}
+use types.Kit.{‵, some, given, later, split, use2, use3, ◌⊛◌, ◌$◌, ◌∵◌, !, qed, move, drop, use1, fsplit, fsplit3, fjoin, fjoin3, fpick, fpack, pick, learn, check, show, await, updating, now, rewrite, done}
 use denote.RattleType.{RattleType}
 use denote.RawPtr.{Ptr, block_ptr, null_ptr, InBlock, Testable}
 use denote.Steps.{nothing}
@@ -21,7 +21,8 @@ use Rattle.std.proofs.GlobalToken.{dealloc_token-Testable}
 use Rattle.thread_local_bits.specs.Bits.{is_set_in}
 use Rattle.thread_local_blocks.specs.Slots.{heap_token, chunks, each, AreFlags, flags_at, slot_value, block_ty, Fits, value_offset, content_at, slot, flags_own, back}
 use Rattle.thread_local_bucket_pointer.specs.PointerOwns.{pointer_owns}
-use Rattle.thread_local_shared_bucket_logic.specs.Shared.{BucketView, AreFlagWords, slots_under, slot_rests_as, slot_rests, slots_rest, Sized, len, at_rest}
+use Rattle.thread_local_shared_bucket_logic.specs.Shared.{BucketView, AreFlagWords, slots_under, slot_rests_as, slot_rests, slots_rest, Sized, len, first, at_rest}
+use Rattle.thread_local_published.specs.Told.{telling, all_telling, whole_row}
 use Rattle.thread_local_shared_bucket_logic.proofs.Rested.{redeems}
 use Rattle.thread_local_shared_buckets.specs.Fit.{Fit}
 
@@ -77,34 +78,40 @@ module _ {M : Type 1} {𝓤 : Ura M} (𝓛 : Logic 𝓤) (R : RattleType) (L : L
   abbrev C : Type 0
   C = Option R.Denot
 
-  -- ---- the slots of a block
-  module _ (b : ℕ) where
-    abbrev OneRedeemed : Bool → ℕ → C → Pr
-    OneRedeemed set e v = guard 𝓤 (set ≡ is_some v) ⟦ content_at R v b e ⟧
+  -- ---- the slots of a block: their contents, and what is told of them
+  module _ (sharing : Option GName) (k b : ℕ) where
+    abbrev OneRedeemed : Bool → ℕ → ℕ → C → Pr
+    OneRedeemed set id e v = guard 𝓤 (set ≡ is_some v) (⟦ content_at R v b e ⟧ ∗ ⟦ telling R sharing id v ⟧)
 
-    redeems_slot : (set : Bool) (e : ℕ) → ⟦ slot_rests R set b e ⟧ ⊢ H.⇛ (ex 𝓤 (OneRedeemed set e))
-    redeems_slot set e = qed 𝓛 (‵ (slot_rests R set b e) ∷ []) ∵ updating ! $ fpick ! (λ s. fsplit ! $ fpick ! (λ is. drop ! $ use1 𝓛 (later (‵ (content_at R s.0 b e))) (redeems 𝓛 R L b e s.1 s.0) $ await ! tt $
-        now ! $ show ! (OneRedeemed set e) s.0 $ check ! is $ done !))
+    redeems_slot : (set : Bool) (id e : ℕ) → ⟦ slot_rests R sharing id set b e ⟧ ⊢ H.⇛ (ex 𝓤 (OneRedeemed set id e))
+    redeems_slot set id e = qed 𝓛 (‵ (slot_rests R sharing id set b e) ∷ []) ∵ updating ! $ fpick ! (λ s. fsplit3 ! $ fpick ! (λ is. drop ! $ move ! (1 ∷ []) $ use1 𝓛 (later (‵ (content_at R s.0 b e))) (redeems 𝓛 R L b e s.1 s.0) $ await ! tt $
+        now ! $ show ! (OneRedeemed set id e) s.0 $ check ! is $ done !))
 
     module _ (o : ℕ) (ns : List ℕ) where
       abbrev AllRedeemed : ℕ → ℕ → List C → Pr
-      AllRedeemed n i cs = guard 𝓤 ((length cs ≡ n) × Told ns i cs) ⟦ each (slot R b o) cs i ⟧
+      AllRedeemed n i cs = guard 𝓤 ((length cs ≡ n) × Told ns i cs) (⟦ each (slot R b o) cs i ⟧ ∗ ⟦ all_telling R sharing (i + k) cs ⟧)
 
-      redeems_slots : (n i : ℕ) → ⟦ slots_rest R n i b o ns ⟧ ⊢ H.⇛ (ex 𝓤 (AllRedeemed n i))
-      redeems_slots zero i = qed 𝓛 (‵ ftrue ∷ []) ∵ updating ! $ now ! $ show ! (AllRedeemed 0 i) [] $ check ! (refl, λ j near. absurd (omega arith)) $ done !
-      redeems_slots (suc n) i = let e : ℕ = value_offset R o i in let set : Bool = is_set_in ns i in qed 𝓛 (‵ (slots_rest R (suc n) i b o ns) ∷ []) ∵ updating ! $ fsplit ! $
-          use1 𝓛 (later (some (λ (v : C). given (set ≡ is_some v) (‵ (content_at R v b e))))) (redeems_slot set e) $ await ! tt $ pick ! (λ v. learn ! (λ is. move ! (1 ∷ []) $
-          use1 𝓛 (later (some (λ (cs : List C). given ((length cs ≡ n) × Told ns (suc i) cs) (‵ (each (slot R b o) cs (suc i)))))) (redeems_slots n (suc i)) $ await ! tt $ pick ! (λ cs. learn ! (λ so.
-          move ! (1 ∷ 0 ∷ []) $ fjoin ! $ now ! $ show ! (AllRedeemed (suc n) i) (v ∷ cs) $ check ! (ap suc so.0, told_more ns i v cs is so.1) $ done !))))
+      redeems_slots : (n i : ℕ) → ⟦ slots_rest R sharing k n i b o ns ⟧ ⊢ H.⇛ (ex 𝓤 (AllRedeemed n i))
+      redeems_slots zero i = qed 𝓛 (‵ ftrue ∷ []) ∵ updating ! $ now ! $ show ! (AllRedeemed 0 i) [] $ check ! (refl, λ j near. absurd (omega arith)) $ nothing ! $ done !
+      redeems_slots (suc n) i = let e : ℕ = value_offset R o i in let set : Bool = is_set_in ns i in let next : suc i + k ≡ suc (i + k) = omega arith in qed 𝓛 (‵ (slots_rest R sharing k (suc n) i b o ns) ∷ []) ∵ updating ! $ fsplit ! $
+          use1 𝓛 (later (some (λ (v : C). given (set ≡ is_some v) (‵ (content_at R v b e) ⊛ ‵ (telling R sharing (i + k) v))))) (redeems_slot set (i + k) e) $ await ! tt $ pick ! (λ v. learn ! (λ is. move ! (1 ∷ []) $
+          use1 𝓛 (later (some (λ (cs : List C). given ((length cs ≡ n) × Told ns (suc i) cs) (‵ (each (slot R b o) cs (suc i)) ⊛ ‵ (all_telling R sharing (suc i + k) cs))))) (redeems_slots n (suc i)) $ await ! tt $ pick ! (λ cs. learn ! (λ so.
+          split ! $ move ! (2 ∷ []) $ split ! $
+          -- [the slot; what is told of it; the other slots; what is told of them]
+          move ! (0 ∷ 2 ∷ []) $ fjoin ! $ move ! (2 ∷ []) $ rewrite ! 0 (λ (m : ℕ). ‵ (all_telling R sharing m cs)) next refl $ move ! (2 ∷ 0 ∷ []) $ fjoin ! $ move ! (1 ∷ 0 ∷ []) $
+          now ! $ show ! (AllRedeemed (suc n) i) (v ∷ cs) $ check ! (ap suc so.0, told_more ns i v cs is so.1) $ done !))))
 
-      rests_slot : (i : ℕ) (v : C) → is_set_in ns i ≡ is_some v → ⟦ slot R b o v i ⟧ ⊢ ⟦ slot_rests R (is_set_in ns i) b (value_offset R o i) ⟧
+      rests_slot : (i : ℕ) (v : C) → is_set_in ns i ≡ is_some v → ⟦ slot R b o v i ⟧ ∗ ⟦ telling R sharing (i + k) v ⟧ ⊢ ⟦ slot_rests R sharing (i + k) (is_set_in ns i) b (value_offset R o i) ⟧
       rests_slot i v is = let e : ℕ = value_offset R o i in let set : Bool = is_set_in ns i in
-          qed 𝓛 (‵ (content_at R v b e) ∷ []) ∵ nothing ! $ fpack ! (set ≡ is_some v) (λ _. ftrue) is $ fjoin ! $ fpack ! (C × Bool) (slot_rests_as R set b e) (v, false) $ done !
+          qed 𝓛 (‵ (content_at R v b e) ∷ ‵ (telling R sharing (i + k) v) ∷ []) ∵ move ! (1 ∷ 0 ∷ []) $ nothing ! $ fpack ! (set ≡ is_some v) (λ _. ftrue) is $ fjoin3 ! $ fpack ! (C × Bool) (slot_rests_as R sharing (i + k) set b e) (v, false) $ done !
 
-      rests_slots : (cs : List C) (i : ℕ) → Told ns i cs → ⟦ each (slot R b o) cs i ⟧ ⊢ ⟦ slots_rest R (length cs) i b o ns ⟧
-      rests_slots [] i told = id⊢ 𝓤 _
-      rests_slots (c ∷ cs) i told = qed 𝓛 (‵ (each (slot R b o) (c ∷ cs) i) ∷ []) ∵ fsplit ! $ use1 𝓛 (‵ (slot_rests R (is_set_in ns i) b (value_offset R o i))) (rests_slot i c (told_first ns i c cs told)) $ move ! (1 ∷ []) $
-          use1 𝓛 (‵ (slots_rest R (length cs) (suc i) b o ns)) (rests_slots cs (suc i) (told_rest ns i c cs told)) $ move ! (1 ∷ 0 ∷ []) $ fjoin ! $ done !
+      rests_slots : (cs : List C) (i : ℕ) → Told ns i cs → ⟦ each (slot R b o) cs i ⟧ ∗ ⟦ all_telling R sharing (i + k) cs ⟧ ⊢ ⟦ slots_rest R sharing k (length cs) i b o ns ⟧
+      rests_slots [] i told = qed 𝓛 (‵ ftrue ∷ ‵ ftrue ∷ []) ∵ drop ! $ done !
+      rests_slots (c ∷ cs) i told = let next : suc (i + k) ≡ suc i + k = omega arith in qed 𝓛 (‵ (each (slot R b o) (c ∷ cs) i) ∷ ‵ (all_telling R sharing (i + k) (c ∷ cs)) ∷ []) ∵ fsplit ! $ move ! (2 ∷ []) $ fsplit ! $
+          -- [what is told of the slot, and of the others; the slot; the others]
+          move ! (2 ∷ 0 ∷ []) $ use2 𝓛 (‵ (slot_rests R sharing (i + k) (is_set_in ns i) b (value_offset R o i))) (rests_slot i c (told_first ns i c cs told)) $ move ! (1 ∷ []) $
+          rewrite ! 0 (λ (m : ℕ). ‵ (all_telling R sharing m cs)) next refl $ move ! (2 ∷ 0 ∷ []) $
+          use2 𝓛 (‵ (slots_rest R sharing k (length cs) (suc i) b o ns)) (rests_slots cs (suc i) (told_rest ns i c cs told)) $ move ! (1 ∷ 0 ∷ []) $ fjoin ! $ done !
 
   -- ---- the pointer
   -- whoever may free a block may compare its address with null
@@ -117,27 +124,38 @@ module _ {M : Type 1} {𝓤 : Ura M} (𝓛 : Logic 𝓤) (R : RattleType) (L : L
     abbrev n : ℕ
     n = len R d
 
-    abbrev pub Plain : Ptr → List C → Pr
-    Plain p cs = guard 𝓤 (Fit d cs) ⟦ pointer_owns R heap_token p cs ⟧
-
     -- the words of flags and the slots of a block, each slot a value or room
     abbrev Slots : ℕ → ℕ → List C → Fml
     Slots b o cs = fsep (fex (List ℕ) (flags_own R b o cs 0)) (each (slot R b o) cs 0)
 
-    abbrev Whole : ℕ → ℕ → List C → Pr
-    Whole b o cs = guard 𝓤 (length cs ≡ n) ⟦ Slots b o cs ⟧
+    -- the id of the first slot
+    abbrev k : ℕ
+    k = first R d
 
-    redeems_block : (b o : ℕ) → ⟦ fex (List ℕ) (slots_under R n b o (slots_rest R n 0 b o)) ⟧ ⊢ H.⇛ (ex 𝓤 (Whole b o))
-    redeems_block b o = qed 𝓛 (‵ (fex (List ℕ) (slots_under R n b o (slots_rest R n 0 b o))) ∷ []) ∵ updating ! $ fpick ! (λ ns. fsplit3 ! $ fpick ! (λ are. drop ! $ move ! (1 ∷ []) $
-        use1 𝓛 (later (some (λ (cs : List C). given ((length cs ≡ n) × Told ns 0 cs) (‵ (each (slot R b o) cs 0))))) (redeems_slots b o ns n 0) $ await ! tt $ pick ! (λ cs. learn ! (λ so. move ! (1 ∷ []) $ rewrite ! 0 (λ (m : ℕ). ‵ (each (flags_at R m b o) ns 0)) (sym so.0) refl $ nothing ! $ move ! (1 ∷ 0 ∷ []) $ fjoin ! $
+    -- what is told of the bucket's slots, by its row
+    abbrev pub Tells : List C → Fml
+    Tells cs = all_telling R d.sharing k (whole_row d.bucket cs)
+
+    abbrev Slotted : ℕ → ℕ → Fml
+    Slotted b o = fex (List ℕ) (slots_under R n b o (slots_rest R d.sharing k n 0 b o))
+
+    abbrev Redeemed : ℕ → ℕ → List C → Pr
+    Redeemed b o cs = guard 𝓤 (length cs ≡ n) (⟦ Slots b o cs ⟧ ∗ ⟦ all_telling R d.sharing k cs ⟧)
+
+    redeems_block : (b o : ℕ) → ⟦ Slotted b o ⟧ ⊢ H.⇛ (ex 𝓤 (Redeemed b o))
+    redeems_block b o = let at : 0 + k ≡ k = omega arith in qed 𝓛 (‵ (Slotted b o) ∷ []) ∵ updating ! $ fpick ! (λ ns. fsplit3 ! $ fpick ! (λ are. drop ! $ move ! (1 ∷ []) $
+        use1 𝓛 (later (some (λ (cs : List C). given ((length cs ≡ n) × Told ns 0 cs) (‵ (each (slot R b o) cs 0) ⊛ ‵ (all_telling R d.sharing (0 + k) cs))))) (redeems_slots d.sharing k b o ns n 0) $ await ! tt $ pick ! (λ cs. learn ! (λ so. split ! $
+        -- [the slots; what is told of them; the words]
+        move ! (2 ∷ []) $ rewrite ! 0 (λ (m : ℕ). ‵ (each (flags_at R m b o) ns 0)) (sym so.0) refl $ nothing ! $ move ! (1 ∷ 0 ∷ []) $ fjoin ! $
         nothing ! $ fpack ! ((length ns + 0 ≡ chunks (length cs)) × AreFlags ns cs) (λ _. ftrue) (are_flags R n ns cs so.0 are so.1) $ fjoin ! $ fpack ! (List ℕ) (flags_own R b o cs 0) ns $ fjoin ! $
-        now ! $ show ! (Whole b o) cs $ check ! so.0 $ done !))))
+        move ! (1 ∷ []) $ rewrite ! 0 (λ (m : ℕ). ‵ (all_telling R d.sharing m cs)) at refl $ move ! (1 ∷ 0 ∷ []) $ now ! $ show ! (Redeemed b o) cs $ check ! so.0 $ done !))))
 
-    rests_block : (b o : ℕ) (cs : List C) → length cs ≡ n → ⟦ Slots b o cs ⟧ ⊢ ⟦ fex (List ℕ) (slots_under R n b o (slots_rest R n 0 b o)) ⟧
-    rests_block b o cs long = qed 𝓛 (‵ (Slots b o cs) ∷ []) ∵ fsplit ! $ fpick ! (λ ns. fsplit3 ! $ fpick ! (λ are. drop ! $ move ! (1 ∷ []) $ drop ! $ move ! (1 ∷ []) $
-        -- [the slots; the words]
-        use1 𝓛 (‵ (slots_rest R (length cs) 0 b o ns)) (rests_slots b o ns cs 0 (told_flags ns cs are.1)) $ rewrite ! 0 (λ (m : ℕ). ‵ (slots_rest R m 0 b o ns)) long refl $ move ! (1 ∷ 0 ∷ []) $ rewrite ! 0 (λ (m : ℕ). ‵ (each (flags_at R m b o) ns 0)) long refl $
-        nothing ! $ fpack ! (AreFlagWords R n ns) (λ _. ftrue) (are_words R n ns cs long are) $ fjoin3 ! $ fpack ! (List ℕ) (slots_under R n b o (slots_rest R n 0 b o)) ns $ done !))
+    rests_block : (b o : ℕ) (cs : List C) → length cs ≡ n → ⟦ Slots b o cs ⟧ ∗ ⟦ all_telling R d.sharing k cs ⟧ ⊢ ⟦ Slotted b o ⟧
+    rests_block b o cs long = let at : k ≡ 0 + k = omega arith in qed 𝓛 (‵ (Slots b o cs) ∷ ‵ (all_telling R d.sharing k cs) ∷ []) ∵ fsplit ! $ fpick ! (λ ns. fsplit3 ! $ fpick ! (λ are. drop ! $ move ! (1 ∷ []) $ drop ! $
+        -- [the words; the slots; what is told of them]
+        move ! (2 ∷ []) $ rewrite ! 0 (λ (m : ℕ). ‵ (all_telling R d.sharing m cs)) at refl $ move ! (2 ∷ 0 ∷ []) $
+        use2 𝓛 (‵ (slots_rest R d.sharing k (length cs) 0 b o ns)) (rests_slots d.sharing k b o ns cs 0 (told_flags ns cs are.1)) $ rewrite ! 0 (λ (m : ℕ). ‵ (slots_rest R d.sharing k m 0 b o ns)) long refl $ move ! (1 ∷ 0 ∷ []) $ rewrite ! 0 (λ (m : ℕ). ‵ (each (flags_at R m b o) ns 0)) long refl $
+        nothing ! $ fpack ! (AreFlagWords R n ns) (λ _. ftrue) (are_words R n ns cs long are) $ fjoin3 ! $ fpack ! (List ℕ) (slots_under R n b o (slots_rest R d.sharing k n 0 b o)) ns $ done !))
 
     plain_block : (b o : ℕ) (cs : List C) → length cs ≡ n → Sized R n (block_ptr b o)
         → ⟦ Slots b o cs ⟧ ∗ ⟦ back R b o n ⟧ ∗ ⟦ heap_token (block_ty R n) (block_ptr b o) ⟧ ⊢ ⟦ pointer_owns R heap_token (block_ptr b o) cs ⟧
@@ -147,26 +165,36 @@ module _ {M : Type 1} {𝓤 : Ura M} (𝓛 : Logic 𝓤) (R : RattleType) (L : L
         move ! (1 ∷ 2 ∷ []) $ fjoin ! $ move ! (1 ∷ []) $ fsplit ! $ move ! (0 ∷ 1 ∷ 2 ∷ []) $ fjoin3 ! $
         nothing ! $ fpack ! (InBlock p × Fits R (length all)) (λ _. ftrue) (tt, subst (Fits R) same so.2) $ fjoin ! $ done !
 
+    abbrev pub Plain : Ptr → List C → Pr
+    Plain p cs = guard 𝓤 (Fit d cs) (⟦ pointer_owns R heap_token p cs ⟧ ∗ ⟦ Tells cs ⟧)
+
+    -- what is told of the slots of a bucket that stands
+    tells_whole : (cs : List C) → length cs ≡ n → ⟦ all_telling R d.sharing k cs ⟧ ⊢ ⟦ Tells cs ⟧
+    tells_whole [] long = let some_slots : 0 < 2 ^ d.bucket = pow_pos d.bucket in absurd (omega arith)
+    tells_whole (c ∷ cs) long = id⊢ 𝓤 _
+
     -- what is due from a sharing comes back
     pub redeems_bucket : (p : Ptr) → ⟦ at_rest R d p ⟧ ⊢ H.⇛ (ex 𝓤 (Plain p))
-    redeems_bucket null_ptr = qed 𝓛 (‵ (at_rest R d null_ptr) ∷ []) ∵ updating ! $ fpick ! (λ free. drop ! $ now ! $ show ! (Plain null_ptr) [] $ check ! (inl (refl, free)) $
+    redeems_bucket null_ptr = qed 𝓛 (‵ (at_rest R d null_ptr) ∷ []) ∵ updating ! $ fsplit ! $ fpick ! (λ free. drop ! $ now ! $ show ! (Plain null_ptr) [] $ check ! (inl (refl, free)) $
         nothing ! $ fpack ! (null_ptr ≡ null_ptr) (λ _. ftrue) refl $ done !)
     redeems_bucket (block_ptr b o) = let p : Ptr = block_ptr b o in qed 𝓛 (‵ (at_rest R d p) ∷ []) ∵ updating ! $ fsplit3 ! $ fpick ! (λ so. drop ! $ fsplit ! $
-        use1 𝓛 (later (some (λ (cs : List C). given (length cs ≡ n) (‵ (Slots b o cs))))) (redeems_block b o) $ await ! tt $ pick ! (λ cs. learn ! (λ long.
-        now ! $ show ! (Plain p) cs $ check ! (inr long) $ by ! (plain_block b o cs long so))))
+        use1 𝓛 (later (some (λ (cs : List C). given (length cs ≡ n) (‵ (Slots b o cs) ⊛ ‵ (all_telling R d.sharing k cs))))) (redeems_block b o) $ await ! tt $ pick ! (λ cs. learn ! (λ long. split ! $
+        -- [the slots; what is told of them; the way back; the right to free]
+        move ! (0 ∷ 2 ∷ 3 ∷ []) $ use3 𝓛 (‵ (pointer_owns R heap_token p cs)) (plain_block b o cs long so) $ move ! (1 ∷ []) $ use1 𝓛 (‵ (Tells cs)) (tells_whole cs long) $ move ! (1 ∷ 0 ∷ []) $
+        now ! $ show ! (Plain p) cs $ check ! (inr long) $ done !)))
 
     -- an owner's pointer is a bucket at rest
-    pub rests_bucket : (p : Ptr) (cs : List C) → Fit d cs → ⟦ pointer_owns R heap_token p cs ⟧ ⊢ ⟦ at_rest R d p ⟧
-    rests_bucket null_ptr [] (inl fit) = qed 𝓛 (‵ (pointer_owns R heap_token null_ptr []) ∷ []) ∵ keep ! [] $ nothing ! $ fpack ! (d.reserved ≡ false) (λ _. ftrue) fit.1 $ done !
-    rests_bucket (block_ptr b o) [] (inl fit) = qed 𝓛 (‵ (pointer_owns R heap_token (block_ptr b o) []) ∷ []) ∵ fpick ! (λ e. absurd (cc))
+    pub rests_bucket : (p : Ptr) (cs : List C) → Fit d cs → ⟦ pointer_owns R heap_token p cs ⟧ ∗ ⟦ Tells cs ⟧ ⊢ ⟦ at_rest R d p ⟧
+    rests_bucket null_ptr [] (inl fit) = qed 𝓛 (‵ (pointer_owns R heap_token null_ptr []) ∷ ‵ (Tells []) ∷ []) ∵ drop ! $ nothing ! $ fpack ! (d.reserved ≡ false) (λ _. ftrue) fit.1 $ fjoin ! $ done !
+    rests_bucket (block_ptr b o) [] (inl fit) = qed 𝓛 (‵ (pointer_owns R heap_token (block_ptr b o) []) ∷ ‵ (Tells []) ∷ []) ∵ fpick ! (λ e. absurd (cc))
     rests_bucket p [] (inr fit) = let some_slots : 0 < 2 ^ d.bucket = pow_pos d.bucket in absurd (omega arith)
     rests_bucket p (c ∷ cs) (inl fit) = absurd (omega arith)
-    rests_bucket null_ptr (c ∷ cs) (inr fit) = qed 𝓛 (‵ (pointer_owns R heap_token null_ptr (c ∷ cs)) ∷ []) ∵ fsplit ! $ fpick ! (λ so. absurd so.0)
+    rests_bucket null_ptr (c ∷ cs) (inr fit) = qed 𝓛 (‵ (pointer_owns R heap_token null_ptr (c ∷ cs)) ∷ ‵ (Tells (c ∷ cs)) ∷ []) ∵ fsplit ! $ fpick ! (λ so. absurd so.0)
     rests_bucket (block_ptr b o) (c ∷ cs) (inr fit) = let p : Ptr = block_ptr b o in let all : List C = c ∷ cs in
-        qed 𝓛 (‵ (pointer_owns R heap_token p all) ∷ []) ∵ fsplit3 ! $ fpick ! (λ so. drop ! $ move ! (1 ∷ []) $ fsplit3 ! $
-        -- [the slots; the way back; the right to free; the words]
+        qed 𝓛 (‵ (pointer_owns R heap_token p all) ∷ ‵ (Tells all) ∷ []) ∵ fsplit3 ! $ fpick ! (λ so. drop ! $ move ! (1 ∷ []) $ fsplit3 ! $
+        -- [the slots; the way back; the right to free; the words; what is told]
         move ! (1 ∷ []) $ rewrite ! 0 (λ (m : ℕ). ‵ (back R b o m)) fit refl $ move ! (2 ∷ []) $ rewrite ! 0 (λ (m : ℕ). ‵ (heap_token (block_ty R m) p)) fit refl $
-        use1 𝓛 (given (Testable p) (‵ (heap_token (block_ty R n) p))) (tested (block_ty R n) p) $ learn ! (λ test. move ! (3 ∷ 2 ∷ []) $ fjoin ! $
-        -- [the words and the slots; the right to free; the way back]
-        use1 𝓛 (‵ (fex (List ℕ) (slots_under R n b o (slots_rest R n 0 b o)))) (rests_block b o all fit) $ move ! (0 ∷ 2 ∷ []) $ fjoin ! $
+        use1 𝓛 (given (Testable p) (‵ (heap_token (block_ty R n) p))) (tested (block_ty R n) p) $ learn ! (λ test. move ! (3 ∷ 2 ∷ []) $ fjoin ! $ move ! (0 ∷ 3 ∷ []) $
+        -- [the words and the slots; what is told; the right to free; the way back]
+        use2 𝓛 (‵ (Slotted b o)) (rests_block b o all fit) $ move ! (0 ∷ 2 ∷ []) $ fjoin ! $
         nothing ! $ fpack ! (Sized R n p) (λ _. ftrue) (tt, test, subst (Fits R) fit so.1) $ fjoin3 ! $ done !))

@@ -1,24 +1,26 @@
 -- What a contract sees of the buckets that threads share.
-use Rattle.std.specs.Prelude.{◌≡◌, ℕ, ◌<◌, false, List, nat_lt, slice_index_or, refl}
-use Rattle.std.specs.Coded.{Coded, coded_ℕ, coded×, code_by}
+use Rattle.std.specs.Prelude.{◌≡◌, ℕ, ◌<◌, false, Option, None, List, nat_lt, slice_index_or, refl}
+use Rattle.std.specs.Coded.{Coded, coded_ℕ, coded_option, coded×, code_by}
 use Rattle.thread_local_model.specs.Place.{id_at}
 use Rattle.thread_local_shared_bucket_logic.specs.Shared.{BucketView}
 
--- the name of the table, and how many of its first slots are reserved; the buckets of those stand
+-- the name of the table, the sharing if that has a name, and how many of the table's first slots are
+-- reserved; the buckets of those stand
 pub record TableView : Type 0 where
   pub table : ℕ
+  pub sharing : Option ℕ
   pub reserved : ℕ
 
 abbrev pub table_view_coded : Coded TableView
-table_view_coded = code_by (ℕ × ℕ) (coded× coded_ℕ coded_ℕ) (λ s. (s.table, s.reserved)) (λ p. record { table = p.0; reserved = p.1 }) (λ _. refl)
+table_view_coded = code_by (ℕ × (Option ℕ × ℕ)) (coded× coded_ℕ (coded× (coded_option coded_ℕ) coded_ℕ)) (λ s. (s.table, (s.sharing, s.reserved))) (λ p. record { table = p.0; sharing = p.1.0; reserved = p.1.1 }) (λ _. refl)
 
 -- the view of the bucket of this number
 abbrev pub bucket_view : TableView → ℕ → BucketView
-bucket_view s bucket = record { table = s.table; bucket = bucket; reserved = nat_lt (id_at bucket 0) s.reserved }
+bucket_view s bucket = record { table = s.table; sharing = s.sharing; bucket = bucket; reserved = nat_lt (id_at bucket 0) s.reserved }
 
 -- the default for a number past the last bucket
 abbrev no_bucket : BucketView
-no_bucket = record { table = 0; bucket = 0; reserved = false }
+no_bucket = record { table = 0; sharing = None; bucket = 0; reserved = false }
 
 -- the bucket of this number in a list
 abbrev pub bucket_at : List BucketView → ℕ → BucketView
@@ -26,8 +28,9 @@ bucket_at buckets bucket = slice_index_or buckets bucket no_bucket
 
 -- the view of these buckets and this number of reserved slots
 abbrev pub table_view_of : List BucketView → ℕ → TableView
-table_view_of buckets reserved = record { table = (bucket_at buckets 0).table; reserved = reserved }
+table_view_of buckets reserved = record { table = (bucket_at buckets 0).table; sharing = (bucket_at buckets 0).sharing; reserved = reserved }
 
--- each bucket has its own number, all are of one table, and each says whether it is reserved
+-- each bucket has its own number, all are of one table and one sharing, and each says whether it is
+-- reserved
 abbrev pub AreBuckets : List BucketView → ℕ → Type 0
 AreBuckets buckets reserved = (bucket : ℕ) → bucket < 63 → bucket_at buckets bucket ≡ bucket_view (table_view_of buckets reserved) bucket

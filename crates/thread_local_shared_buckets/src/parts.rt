@@ -49,7 +49,8 @@ impl<T> SharedParts<T> {
 
     /// How many of the first slots are reserved.
     pub(crate) fn reserved(&self) -> usize
-        ensures { result ≡ self.now.reserved }
+        ensures reserved { result ≡ self.now.reserved }
+        ensures first { AreOfFirstBuckets result }
     {
         self.reserved
     }

@@ -1,8 +1,8 @@
 //! A table's buckets while threads share them through a `&`. By value or through a `&mut` they are
 //! an owner's `Buckets` again.
-ghost use Rattle.std.specs.Prelude.{◌≡◌, ◌≢◌, ◌<◌, IfSome, IsSome};
+ghost use Rattle.std.specs.Prelude.{◌≡◌, ◌≢◌, ◌<◌, ◌≤◌, ℕ, Option, IfSome, IsSome};
 ghost use Rattle.thread_local_model.specs.Learnt.{Unknown, Missing, Finds};
-ghost use Rattle.thread_local_model.specs.Owned.{IsOwned};
+ghost use Rattle.thread_local_model.specs.Owned.{IsOwned, AreOfFirstBuckets};
 ghost use Rattle.thread_local_model.specs.Place.{bucket_of, id_at};
 ghost use Rattle.thread_local_judged.specs.Judged.{Judged};
 ghost use Rattle.thread_local_claim.specs.Known.{IsKnown};
@@ -10,18 +10,20 @@ ghost use Rattle.thread_local_shared_buckets.specs.TableView.{TableView, table_v
 ghost use Rattle.thread_local_shared_buckets.specs.Parts.{parts_own, parts_share};
 
 use crate::parts::SharedParts;
-use std::marker::{Move, Owns};
+use std::marker::{Move, Owns, PhantomData};
 use thread_local_bucket_pointers::BucketPointers;
 use thread_local_buckets::Buckets;
 use thread_local_claim::Claim;
-use thread_local_rights::{HeldId, Rights};
+use thread_local_published::{Book, Published};
+use thread_local_raw::replace_with;
+use thread_local_rights::{HeldId, Right};
 use thread_local_shared_bucket::{Row, SharedBucket};
-use thread_local_thread_id::Thread;
+use thread_local_thread_id::{BUCKETS, Thread, bucket_size};
 
 mod lends;
 
-/// The buckets of a table that threads share through a `&`. A contract sees the name of the table
-/// and the number of its reserved slots.
+/// The buckets of a table that threads share through a `&`. A contract sees the name of the table,
+/// that of the sharing if it has one, and the number of reserved slots.
 ///
 /// No call waits or takes memory. Dropping it drops every value, which may wait, and frees every
 /// block.
@@ -43,45 +45,98 @@ impl<T> Move for Shared<T> {
 }
 
 impl<T> Shared<T> {
-    /// Lets threads share an owner's buckets, as the buckets of the table that the rights belong
-    /// to.
-    pub fn new(buckets: Buckets<T>, rights: &Rights) -> Shared<T>
+    /// Lets threads share an owner's buckets, as the buckets of the table that the right belongs
+    /// to. The sharing gets a name.
+    pub fn new(buckets: Buckets<T>, own: &Right) -> Shared<T>
         requires judged { Judged T.row }
-        ensures table { result.table ≡ rights.now.table }
+        ensures table { result.table ≡ own.now.table }
+        ensures sharing { IsSome result.sharing }
+        ensures reserved { result.reserved ≡ buckets.reserved }
+    {
+        Shared::new_apart(buckets, own)
+    }
+
+    /// `new`, with a name for the sharing that isn't a given one.
+    pub fn new_apart(buckets: Buckets<T>, own: &Right) -> Shared<T>
+        ghost past: { Option ℕ }
+        requires judged { Judged T.row }
+        ensures table { result.table ≡ own.now.table }
+        ensures sharing { IsSome result.sharing × (result.sharing ≢ past) }
         ensures reserved { result.reserved ≡ buckets.reserved }
     {
         let (pointers, reserved) = buckets.into_parts();
-        Shared::of(pointers, reserved, rights)
+        Shared::of(pointers, reserved, own)
     }
 
-    /// `new`, from an owner's pointers and the number of reserved slots.
-    fn of(pointers: BucketPointers<T>, reserved: usize, rights: &Rights) -> Shared<T>
+    /// `new_apart`, from an owner's pointers and the number of reserved slots.
+    fn of(pointers: BucketPointers<T>, reserved: usize, own: &Right) -> Shared<T>
+        ghost past: { Option ℕ }
         requires judged { Judged T.row }
         requires owned { IsOwned (record { contents = pointers; reserved = reserved }) }
-        ensures table { result.table ≡ rights.now.table }
+        ensures table { result.table ≡ own.now.table }
+        ensures sharing { IsSome result.sharing × (result.sharing ≢ past) }
         ensures reserved { result.reserved ≡ reserved }
     {
-        let _ = rights;
+        let _ = own;
         Shared { pointers, reserved }
+    }
+
+    /// Ends the sharing, and begins another one of the same buckets, as the buckets of the table
+    /// that the right belongs to.
+    pub fn renew(&mut self, own: &Right)
+        requires judged { Judged T.row }
+        ensures table { self.new.table ≡ own.now.table }
+        ensures sharing { IsSome self.new.sharing × (self.new.sharing ≢ self.old.sharing) }
+        ensures reserved { self.new.reserved ≡ self.old.reserved }
+    {
+        replace_with(self, own, renewed)
+    }
+
+    /// `renew`, by value.
+    fn shared_again(self, own: &Right) -> Shared<T>
+        ghost past: { Option ℕ }
+        requires judged { Judged T.row }
+        ensures table { result.table ≡ own.now.table }
+        ensures sharing { IsSome result.sharing × (result.sharing ≢ past) }
+        ensures reserved { result.reserved ≡ self.reserved }
+    {
+        let reserved = self.reserved();
+        let (pointers, _) = self.into_pointers();
+        Shared::of(pointers, reserved, own)
     }
 
     /// Gives the buckets back to an owner, with all that was lent while they were shared.
     pub fn into_buckets(self) -> Buckets<T>
         ensures { result.reserved ≡ self.reserved }
     {
-        let reserved = self.reserved();
-        Buckets::from_parts(self.into_pointers(), reserved)
+        self.into_published().0
     }
 
-    /// Gives the pointers back to an owner, with all that was lent while they were shared.
-    fn into_pointers(self) -> BucketPointers<T>
-        ensures { IsOwned (record { contents = result; reserved = self.reserved }) }
+    /// `into_buckets`, with what the slots were published with in the sharing that ends.
+    pub fn into_published(self) -> (Buckets<T>, Book<T>)
+        ensures reserved { result.0.reserved ≡ self.reserved }
+        ensures sharing { result.1.sharing ≡ self.sharing }
+        ensures contents { result.1.contents ≡ result.0.contents }
+    {
+        let reserved = self.reserved();
+        let (pointers, book) = self.into_pointers();
+        (Buckets::from_parts(pointers, reserved), book)
+    }
+
+    /// Gives the pointers back to an owner, with all that was lent while they were shared, and with
+    /// what the slots were published with.
+    fn into_pointers(self) -> (BucketPointers<T>, Book<T>)
+        ensures owned { IsOwned (record { contents = result.0; reserved = self.reserved }) }
+        ensures book { (result.1.sharing ≡ self.sharing) × (result.1.contents ≡ result.0) }
     {
         let Self {
             pointers,
             reserved: _,
         } = self;
-        pointers
+        let book = Book {
+            marker: PhantomData,
+        };
+        (pointers, book)
     }
 
     /// The same memory as `SharedParts`: what an owner sees as a `BucketPointer` is a
@@ -115,7 +170,9 @@ impl<T> Shared<T> {
     /// The bucket of a reserved slot is never missing.
     pub fn claim(&self, held: HeldId) -> Claim<'_, T>
         requires { held.right.table ≡ self.now.table }
-        ensures right { (result.table ≡ self.now.table) × (result.id ≡ held.id) }
+        ensures right { (result.table ≡ self.now.table)
+            × (result.sharing ≡ self.now.sharing)
+            × (result.id ≡ held.id) }
         ensures found { Finds Unknown result.learnt }
         ensures learnt { IsKnown result.learnt }
         ensures reserved { id_at (bucket_of held.id) 0 < self.now.reserved → result.learnt ≢ Missing }
@@ -134,9 +191,50 @@ impl<T> Shared<T> {
 
     /// How many of the first slots are reserved.
     pub fn reserved(&self) -> usize
-        ensures { result ≡ self.now.reserved }
+        ensures reserved { result ≡ self.now.reserved }
+        ensures first { AreOfFirstBuckets result }
     {
         self.parts().reserved()
+    }
+
+    /// How many slots the buckets have together that a look at each finds. It is an atomic load for
+    /// each of the 63.
+    pub fn slots(&self) -> usize
+        ensures reserved { self.now.reserved ≤ result }
+    {
+        // That these are the slots of the first buckets shows that there aren't more.
+        let _ = self.reserved();
+        let mut slots = 0;
+        for bucket in 0..BUCKETS {
+            if self.load(bucket).is_some() {
+                slots += bucket_size(bucket);
+            }
+        }
+        slots
+    }
+}
+
+/// What `renew` makes of the buckets.
+fn renewed<T>(shared: Shared<T>, own: &Right) -> (Shared<T>, ())
+    requires judged { Judged T.row }
+    ensures table { result.0.table ≡ own.now.table }
+    ensures sharing { IsSome result.0.sharing × (result.0.sharing ≢ shared.sharing) }
+    ensures reserved { result.0.reserved ≡ shared.reserved }
+{
+    (shared.shared_again(own), ())
+}
+
+impl<T: Sync> Shared<T> {
+    /// The value that a token's slot was published with, for as long as the buckets are borrowed.
+    /// It is one atomic load.
+    pub fn value<'a>(&'a self, published: &Published<T>) -> &'a T
+        requires sharing { published.now.sharing ≡ self.now.sharing }
+        requires named { IsSome self.now.sharing }
+        ensures { result.now ≡ published.now.value }
+    {
+        let place = Thread::new(published.id());
+        self.bucket(place.bucket)
+            .value(place.index, published.witness())
     }
 }
 

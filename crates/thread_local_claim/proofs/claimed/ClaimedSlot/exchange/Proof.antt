@@ -35,7 +35,7 @@ use Rattle.thread_local_shared_bucket_logic.specs.Shared.{BucketView, Turn, Stan
 use Rattle.thread_local_shared_bucket_logic.proofs.Loads.{glimpse}
 use Rattle.thread_local_shared_bucket_logic.proofs.Offers as offers
 use Rattle.thread_local_shared_bucket.proofs.Fields.{word_laws}
-use Rattle.thread_local_claim.proofs.Pairs.{both, pair_in}
+use Rattle.thread_local_raw.proofs.Pairs.{both, pair_in}
 use Rattle.thread_local_model.specs.Learnt.{Learnt, Missing, Vacant}
 use Rattle.thread_local_claim_logic.specs.Claims.{ClaimFields, claim_fields, IsOf, has, claim_owns}
 use Rattle.thread_local_claim.specs.contracts.claimed.ClaimedSlot as claim
@@ -58,9 +58,9 @@ exchange_spec 𝓤 𝓛 𝓜 𝓡 wired X L =
     let h = a.0 in let β : Lft = κs.0 in let q : Share = qs.0 in let others : Fml = fsep (flft κs.1.0 qs.1.0) ftrue in let ℓ = named_lft 2 0 tt κs in let G : RattleType = claim.the_row ℓ R in let u₀ : Val = value_of (kept_of h) in
     let x : Bl.Denot = a.1.0 in let p : Ptr = x.at in let nb : ℕ = block_of p in let no' : ℕ = count_of p in let new : Ptr = block_ptr nb no' in let bv : Val = fields.block_val p in
     let Res : Type 0 = G.Denot × Back.Denot in let Out : RattleType = Tuple (G ∷ Back ∷ []) in let Pair : RattleType = Tuple (RawPtr ∷ Back ∷ []) in
-    let F₁ : Res → Type 0 = λ r. (r.0.table ≡ h.table) × (r.0.id ≡ h.id) × (r.0.index ≡ h.index) in let F₂ : Res → Type 0 = λ r. (r.0.learnt ≡ Vacant) × (r.0.reserved ≡ h.reserved) in let F₃ : Res → Type 0 = λ r. IfSome r.1 (λ back. (back.heap ≡ x.heap) × (back.slots ≡ x.slots) × (back.left ≡ 0)) in
+    let F₁ : Res → Type 0 = λ r. (r.0.table ≡ h.table) × (◌≡◌ {A = Option ℕ} r.0.sharing h.sharing) × (r.0.id ≡ h.id) × (r.0.index ≡ h.index) in let F₂ : Res → Type 0 = λ r. (r.0.learnt ≡ Vacant) × (r.0.reserved ≡ h.reserved) in let F₃ : Res → Type 0 = λ r. IfSome r.1 (λ back. (back.heap ≡ x.heap) × (back.slots ≡ x.slots) × (back.left ≡ 0)) in
     let Made : Type 0 = (x.slots ≡ empty_slots (2 ^ bucket_of h.id)) × (x.left ≡ 0) in let none : Option X.Denot = None in
-    let w : Ptr = h.bucket in let wb : ℕ = block_of w in let wo : ℕ = count_of w in let i : ℕ = h.index in let pl : ClaimFields = claim_fields h.id i w h.at h.reserved in
+    let w : Ptr = h.bucket in let wb : ℕ = block_of w in let wo : ℕ = count_of w in let i : ℕ = h.index in let pl : ClaimFields = claim_fields h.id i w h.at h.sharing h.reserved in
     let y : (walk_of 𝓛 En hs c).Ghost = ((κs, qs, bounds, a, (u₀ ∷ [], (bv ∷ [], tt))), gh) in let Post : Val → SProp 𝓤 = (walk_of 𝓛 En hs c).post y in
     qed 𝓛 (((‵ (flft β q) ⊛ ‵ others) ⊛ ‵ (owns (types_at En.signature.params κs) a y.0.4)) ∷ raw (fact 𝓤 _) ∷ raw (fact 𝓤 (h.learnt ≡ Missing)) ∷ raw (fact 𝓤 Made) ∷ []) ∵
     keep ! (2 ∷ 3 ∷ 0 ∷ []) $ heard ! (h.learnt ≡ Missing) (λ gone. heard ! Made (λ blank. split ! $ split ! $ move ! (2 ∷ []) $ fsplit3 ! $ fsplit ! $ move ! (2 ∷ []) $ fsplit ! $ keep ! (3 ∷ 5 ∷ 6 ∷ 1 ∷ []) $
@@ -69,7 +69,7 @@ exchange_spec 𝓤 𝓛 𝓜 𝓡 wired X L =
     fsplit ! $ drop ! $ fpick ! (λ z. fsplit ! $ fpick ! (λ of. drop ! $ fsplit ! $ move ! (1 ∷ []) $ let d : BucketView = z.0 in let t : Turn = z.1 in let at : w ≡ block_ptr wb wo = at_block w of.0 in
     rewrite ! 0 (λ (k : Learnt X.Denot). ‵ (has R d t β pl k)) gone refl $ fsplit ! $ fpick ! (λ leads. drop ! $
     let J : Fml = fbor t.life (bucket_invariant R d t wb (wo + 0)) in let Blank : Ptr → Fml = λ u. block_owns R (ghosts.dealloc_token x.heap) u (empty_slots (len R d)) 0 in
-    let Owned : ℕ → ℕ → Fml = λ pb o. claim_owns R β h.table (claim_fields h.id i (block_ptr wb wo) (block_ptr pb o) h.reserved) Vacant true false in let is_of : (u : Ptr) → IsOf R h.table (claim_fields h.id i (block_ptr wb wo) u h.reserved) d = λ u. (tt, of.1, of.2, of.3, of.4, of.5) in
+    let Owned : ℕ → ℕ → Fml = λ pb o. claim_owns R β h.table (claim_fields h.id i (block_ptr wb wo) (block_ptr pb o) h.sharing h.reserved) Vacant true false in let is_of : (u : Ptr) → IsOf R h.table (claim_fields h.id i (block_ptr wb wo) u h.sharing h.reserved) d = λ u. (tt, of.1, of.2, of.3, of.4, of.5, of.6) in
     let same : bucket_of h.id ≡ d.bucket = ap bucket_of (lies_at R d h.id i of.3) ∙ (place-id_at d.bucket i of.4).0 in
     move ! (1 ∷ []) $ fsplit ! $ use1 𝓛 (‵ (before β t.life) ⊛ ‵ (before β t.life)) (before_dup 𝓛 β t.life) $ split ! $
     -- [before, twice; the invariant; the pass; the token; the other tokens; the block]
@@ -96,7 +96,7 @@ exchange_spec 𝓤 𝓛 𝓜 𝓡 wired X L =
     (λ u₁. lands_last ! refl (calls.answer_good (Ok u₁)) $ exec ! 𝓣.C 𝓣.Λ Ev (after 4 fn.body) (at_ret Ev Post) $ sets ! (of_opd ! (get ! refl)) refl (calls.answer_good (Ok u₁)) $ fsplit ! $
     -- [the life's token; the part; the sharing lasts; the way back; the pass; the other tokens]
     let pb : ℕ = nb in let o : ℕ = no' in move ! (1 ∷ 2 ∷ 0 ∷ 4 ∷ []) $ group ! 4 $
-    use1 𝓛 (later (‵ (flft t.life s) ⊛ ‵ (Owned pb o))) (installs 𝓛 R d t β wb wo pb o h.id i h.reserved h.table s (zn, _) (is_of new)) $ await ! tt $ split ! $
+    use1 𝓛 (later (‵ (flft t.life s) ⊛ ‵ (Owned pb o))) (installs 𝓛 R d t β wb wo pb o h.id i h.sharing h.reserved h.table s (zn, _) (is_of new)) $ await ! tt $ split ! $
     -- [the life's token; the claim; the way back; the other tokens]
     move ! (0 ∷ 2 ∷ []) $ use2 𝓛 (later (‵ (flft β q))) (apply∗ 𝓤 (𝓛.A.lft t.life s) (H.⇛ (𝓛.A.lft β q))) $ await ! tt $
     first ! $ switches_on ! (get_tag ! (vrt ! refl (fld ! refl (stop !))) (whole !)) $ exec ! 𝓣.C 𝓣.Λ Ev (arm_body 0 arms) Then $
@@ -112,9 +112,9 @@ exchange_spec 𝓤 𝓛 𝓜 𝓡 wired X L =
     -- [the token; the claim; the other tokens]
     move ! (1 ∷ []) $
     use0 𝓛 (‵ ((FieldsType ℓ R).own_val (fields_of ℓ R m) (value_of m ∷ []))) (made ℓ R 𝓛 m) $ fjoin ! $
-    let r : G.Denot = record { at = block_ptr pb o; found = true; published = false; marker = record {}; bucket = block_ptr wb wo; table = h.table; id = h.id; index = i; reserved = h.reserved; learnt = Vacant } in
+    let r : G.Denot = record { at = block_ptr pb o; found = true; published = false; marker = record {}; bucket = block_ptr wb wo; table = h.table; sharing = h.sharing; id = h.id; index = i; reserved = h.reserved; learnt = Vacant } in
     use0 𝓛 (‵ (Back.own_val None (live 0 vnil ∷ []))) (none_of 𝓛 Bl) $ move ! (1 ∷ 0 ∷ []) $ pair_in G Back ! r None (value_of m) (live 0 vnil) $ move ! (1 ∷ 2 ∷ []) $ join ! $ move ! (1 ∷ []) $
-    use0 𝓛 (raw (fact 𝓤 (F₃ (r, None)))) (fact_i 𝓤 (F₃ (r, None)) (emp 𝓤) tt) $ use0 𝓛 (raw (fact 𝓤 (F₂ (r, None)))) (fact_i 𝓤 (F₂ (r, None)) (emp 𝓤) (refl, refl)) $ join ! $ use0 𝓛 (raw (fact 𝓤 (F₁ (r, None)))) (fact_i 𝓤 (F₁ (r, None)) (emp 𝓤) (refl, refl, refl)) $ join ! $
+    use0 𝓛 (raw (fact 𝓤 (F₃ (r, None)))) (fact_i 𝓤 (F₃ (r, None)) (emp 𝓤) tt) $ use0 𝓛 (raw (fact 𝓤 (F₂ (r, None)))) (fact_i 𝓤 (F₂ (r, None)) (emp 𝓤) (refl, refl)) $ join ! $ use0 𝓛 (raw (fact 𝓤 (F₁ (r, None)))) (fact_i 𝓤 (F₁ (r, None)) (emp 𝓤) (refl, refl, refl, refl)) $ join ! $
     nothing ! $ nothing ! $ fjoin ! $ nothing ! $ fjoin ! $ returns ! (look_at ! 0 refl) $ free_all ! refl $ keep ! (3 ∷ 0 ∷ 2 ∷ 1 ∷ []) $ by ! (leaves 𝓛 En hs c y v (r, None) (tt, (tt, tt)) (tt, (tt, tt))))
     (λ u₁. lands_last ! refl (calls.answer_good (Err u₁)) $ exec ! 𝓣.C 𝓣.Λ Ev (after 4 fn.body) (at_ret Ev Post) $ sets ! (of_opd ! (get ! refl)) refl (calls.answer_good (Err u₁)) $ fsplit ! $
     -- [the life's token; what came back; the sharing lasts; the way back; the pass; the other
@@ -124,7 +124,7 @@ exchange_spec 𝓤 𝓛 𝓜 𝓡 wired X L =
     -- [the part; nothing; the block; the life's token; the sharing lasts; the way back; the pass;
     -- the other tokens]
     move ! (0 ∷ 4 ∷ 3 ∷ 6 ∷ []) $ group ! 4 $
-    use1 𝓛 (later (‵ (flft t.life s) ⊛ ‵ (Owned pb o))) (installs 𝓛 R d t β wb wo pb o h.id i h.reserved h.table s zz (is_of first_at)) $ await ! tt $ split ! $
+    use1 𝓛 (later (‵ (flft t.life s) ⊛ ‵ (Owned pb o))) (installs 𝓛 R d t β wb wo pb o h.id i h.sharing h.reserved h.table s zz (is_of first_at)) $ await ! tt $ split ! $
     -- [the life's token; the claim; nothing; the block; the way back; the other tokens]
     move ! (0 ∷ 4 ∷ []) $ use2 𝓛 (later (‵ (flft β q))) (apply∗ 𝓤 (𝓛.A.lft t.life s) (H.⇛ (𝓛.A.lft β q))) $ await ! tt $
     -- [the token; the claim; nothing; the block; the other tokens]
@@ -143,11 +143,11 @@ exchange_spec 𝓤 𝓛 𝓜 𝓡 wired X L =
     -- [the token; the claim; nothing; the block; the other tokens]
     move ! (1 ∷ 0 ∷ 4 ∷ 3 ∷ []) $
     use0 𝓛 (‵ ((FieldsType ℓ R).own_val (fields_of ℓ R m) (value_of m ∷ []))) (made ℓ R 𝓛 m) $ fjoin ! $
-    let r : G.Denot = record { at = block_ptr pb o; found = true; published = false; marker = record {}; bucket = block_ptr wb wo; table = h.table; id = h.id; index = i; reserved = h.reserved; learnt = Vacant } in
+    let r : G.Denot = record { at = block_ptr pb o; found = true; published = false; marker = record {}; bucket = block_ptr wb wo; table = h.table; sharing = h.sharing; id = h.id; index = i; reserved = h.reserved; learnt = Vacant } in
     -- [the claim; the token; the other tokens; the block; nothing]
     move ! (3 ∷ []) $ rewrite ! 0 (λ (u₂ : Ptr). ‵ (Blank u₂)) (sym e) refl $ rewrite ! 0 (λ (cs : List (Option X.Denot)). ‵ (block_owns R (ghosts.dealloc_token x.heap) p cs 0)) (sym (blank.0 ∙ ap (λ (n : ℕ). empty_slots (2 ^ n)) same)) refl $
     rewrite ! 0 (λ (n : ℕ). ‵ (block_owns R (ghosts.dealloc_token x.heap) p x.slots n)) (sym blank.1) refl $
     use0 𝓛 (‵ ((fields.FieldsType R Z ghosts).own_val (p, (record {}, tt)) (bv ∷ []))) (fields.made R Z ghosts 𝓛 p) $ fjoin ! $ use1 𝓛 (‵ (Back.own_val (Some x) (back ∷ []))) (Some-of 𝓛 Bl x bv) $ move ! (1 ∷ 0 ∷ []) $
     pair_in G Back ! r (Some x) (value_of m) back $ move ! (1 ∷ 2 ∷ []) $ join ! $ move ! (1 ∷ []) $
-    use0 𝓛 (raw (fact 𝓤 (F₃ (r, Some x)))) (fact_i 𝓤 (F₃ (r, Some x)) (emp 𝓤) (refl, refl, blank.1)) $ use0 𝓛 (raw (fact 𝓤 (F₂ (r, Some x)))) (fact_i 𝓤 (F₂ (r, Some x)) (emp 𝓤) (refl, refl)) $ join ! $ use0 𝓛 (raw (fact 𝓤 (F₁ (r, Some x)))) (fact_i 𝓤 (F₁ (r, Some x)) (emp 𝓤) (refl, refl, refl)) $ join ! $
+    use0 𝓛 (raw (fact 𝓤 (F₃ (r, Some x)))) (fact_i 𝓤 (F₃ (r, Some x)) (emp 𝓤) (refl, refl, blank.1)) $ use0 𝓛 (raw (fact 𝓤 (F₂ (r, Some x)))) (fact_i 𝓤 (F₂ (r, Some x)) (emp 𝓤) (refl, refl)) $ join ! $ use0 𝓛 (raw (fact 𝓤 (F₁ (r, Some x)))) (fact_i 𝓤 (F₁ (r, Some x)) (emp 𝓤) (refl, refl, refl, refl)) $ join ! $
     nothing ! $ nothing ! $ fjoin ! $ nothing ! $ fjoin ! $ returns ! (look_at ! 0 refl) $ free_all ! refl $ keep ! (3 ∷ 0 ∷ 2 ∷ 1 ∷ []) $ by ! (leaves 𝓛 En hs c y v (r, Some x) (tt, (tt, tt)) (tt, (tt, tt))))))))))))))))))

@@ -1,6 +1,6 @@
 -- `find` loads the bucket's pointer: at null, it takes the pass for the right. Else it loads the
 -- word of the slot's flag, and takes what the slot holds.
-use Rattle.thread_local_raw.proofs.Names.{lit<, vbool, ◌≡◌, ℕ, ◌+◌, ◌^◌, [], ◌∷◌, refl, sym, ap, ◌∙◌, subst, true, a_type, Val, vptr, inst_fn, SProp, wand, emp, via, id⊢, apply∗, Lft, Share, Fml, ftrue, fsep, flft, fbor, finv, sem, ‵, raw, ◌⊛◌, some, later, mean, at_ret, ◌$◌, ◌∵◌, !, qed, by, move, keep, drop, split, join, fsplit, fjoin, fpick, fpack, pick, use0, use1, use2, use3, await, rewrite, group, fld, stop, addr, lit, of_opd, no_more, and_then, first, blocks, exec, Calls-last, returns, enter, alloc_all, pass_all, free_all, look_at, get, get_in, through, sets, sets_last, lands_last, env, agg, sub, whole, tables, fact, fact_i, no, RattleType, owns, types_at, plain, named_lft, Ptr, block_ptr, block_of, count_of, at_block, nothing, heard, param, bounded, Stays, stay_dropped, walk_of, Goes-dropped, proved, leaves, fm, found, finds, Lends-one, ◌*◌, ◌<◌, ◌≢◌, length, Bool, false, dnil, bin, branches, is, null_ptr, ptr_val, u64, after, uint_vals, uint_Tells, usize, yes, fsplit3, vint, w64}
+use Rattle.thread_local_raw.proofs.Names.{Option, lit<, vbool, ◌≡◌, ℕ, ◌+◌, ◌^◌, [], ◌∷◌, refl, sym, ap, ◌∙◌, subst, true, a_type, Val, vptr, inst_fn, SProp, wand, emp, via, id⊢, apply∗, Lft, Share, Fml, ftrue, fsep, flft, fbor, finv, sem, ‵, raw, ◌⊛◌, some, later, mean, at_ret, ◌$◌, ◌∵◌, !, qed, by, move, keep, drop, split, join, fsplit, fjoin, fpick, fpack, pick, use0, use1, use2, use3, await, rewrite, group, fld, stop, addr, lit, of_opd, no_more, and_then, first, blocks, exec, Calls-last, returns, enter, alloc_all, pass_all, free_all, look_at, get, get_in, through, sets, sets_last, lands_last, env, agg, sub, whole, tables, fact, fact_i, no, RattleType, owns, types_at, plain, named_lft, Ptr, block_ptr, block_of, count_of, at_block, nothing, heard, param, bounded, Stays, stay_dropped, walk_of, Goes-dropped, proved, leaves, fm, found, finds, Lends-one, ◌*◌, ◌<◌, ◌≢◌, length, Bool, false, dnil, bin, branches, is, null_ptr, ptr_val, u64, after, uint_vals, uint_Tells, usize, yes, fsplit3, vint, w64}
 use Rattle.std.proofs.Common.{◌⊎◌, inl, inr, ◌/◌, ◌%◌}
 use base.Fml.{fres}
 use base.Before.{before}
@@ -48,9 +48,9 @@ find_spec 𝓤 𝓛 𝓜 𝓡 wired X L =
     proved 𝓛 En hs c 𝓜 𝓡 (Goes-dropped 𝓛 2 self no (λ κs x f. refl), (Goes-dropped 𝓛 2 number yes (λ κs x f. refl), (Goes-dropped 𝓛 2 number yes (λ κs x f. refl), tt))) (#self inst) fn closed
     (λ κs. ((λ x. value_of (kept_of x) ∷ []), (uint_vals w64, (uint_vals w64, tt)))) (λ κs. ((λ x vs so. told (named_lft 2 0 tt κs) R (kept_of x) vs so.0), (uint_Tells w64, (uint_Tells w64, tt)))) (λ κs qs bounds a gh are.
     let h = a.0 in let x : ℕ = a.1.0 in let num : ℕ = a.1.1.0 in let β : Lft = κs.0 in let q : Share = qs.0 in let others : Fml = fsep (flft κs.1.0 qs.1.0) ftrue in let ℓ = named_lft 2 0 tt κs in let G : RattleType = claim.the_row ℓ R in let u₀ : Val = value_of (kept_of h) in
-    let F₁ : G.Denot → Type 0 = λ r. (r.table ≡ h.table) × (r.id ≡ h.id) × (r.index ≡ h.index) in let F₂ : G.Denot → Type 0 = λ r. IsKnown r.learnt in let F₃ : G.Denot → Type 0 = λ r. h.learnt ≡ Missing → (r.learnt ≡ Missing) ⊎ (r.learnt ≡ Vacant) in
+    let F₁ : G.Denot → Type 0 = λ r. (r.table ≡ h.table) × (◌≡◌ {A = Option ℕ} r.sharing h.sharing) × (r.id ≡ h.id) × (r.index ≡ h.index) in let F₂ : G.Denot → Type 0 = λ r. IsKnown r.learnt in let F₃ : G.Denot → Type 0 = λ r. h.learnt ≡ Missing → (r.learnt ≡ Missing) ⊎ (r.learnt ≡ Vacant) in
     let F₄ : G.Denot → Type 0 = λ r. (r.reserved ≡ h.reserved) × (r.reserved ≡ true → r.learnt ≢ Missing) in let l₀ : Learnt X.Denot = h.learnt in let F₅ : G.Denot → Type 0 = λ r. Finds l₀ r.learnt in let gone : Learnt X.Denot = Missing in
-    let w : Ptr = h.bucket in let wb : ℕ = block_of w in let wo : ℕ = count_of w in let i : ℕ = h.index in let pl : ClaimFields = claim_fields h.id i w h.at h.reserved in
+    let w : Ptr = h.bucket in let wb : ℕ = block_of w in let wo : ℕ = count_of w in let i : ℕ = h.index in let pl : ClaimFields = claim_fields h.id i w h.at h.sharing h.reserved in
     let y : (walk_of 𝓛 En hs c).Ghost = ((κs, qs, bounds, a, (u₀ ∷ [], (vint w64 x ∷ [], (vint w64 num ∷ [], tt)))), gh) in let Post : Val → SProp 𝓤 = (walk_of 𝓛 En hs c).post y in
     qed 𝓛 (((‵ (flft β q) ⊛ ‵ others) ⊛ ‵ (owns (types_at En.signature.params κs) a y.0.4)) ∷ raw (fact 𝓤 _) ∷ raw (fact 𝓤 (IsUnfound l₀)) ∷ raw (fact 𝓤 (x ≡ i)) ∷ raw (fact 𝓤 (num ≡ number_of_id R h.id)) ∷ []) ∵
     keep ! (2 ∷ 3 ∷ 4 ∷ 0 ∷ []) $ heard ! (IsUnfound l₀) (λ unseen. heard ! (x ≡ i) (λ is_index. heard ! (num ≡ number_of_id R h.id) (λ numbered. split ! $ split ! $ move ! (2 ∷ []) $ fsplit3 ! $ fsplit ! $ keep ! (1 ∷ 4 ∷ 5 ∷ []) $
@@ -74,15 +74,15 @@ find_spec 𝓤 𝓛 𝓜 𝓡 wired X L =
     move ! (1 ∷ []) $ fsplit ! $ fpick ! (λ free. drop ! $
     -- [the pass; the token; the invariant, twice; before, twice; the other tokens]
     sets ! (of_opd ! (get ! refl)) refl (pointer_good null_ptr) $ sets ! (bin ! (get ! refl) (lit ! tt) tt) refl (tt, tt) $ first ! $ branches ! (get ! refl)
-    (λ _. let m : Kept = record { at = block_ptr wb wo; found = false; published = false } in let pl' : ClaimFields = claim_fields h.id i (block_ptr wb wo) (block_ptr wb wo) h.reserved in
-    let r : G.Denot = record { at = block_ptr wb wo; found = false; published = false; marker = record {}; bucket = block_ptr wb wo; table = h.table; id = h.id; index = i; reserved = h.reserved; learnt = gone } in
+    (λ _. let m : Kept = record { at = block_ptr wb wo; found = false; published = false } in let pl' : ClaimFields = claim_fields h.id i (block_ptr wb wo) (block_ptr wb wo) h.sharing h.reserved in
+    let r : G.Denot = record { at = block_ptr wb wo; found = false; published = false; marker = record {}; bucket = block_ptr wb wo; table = h.table; sharing = h.sharing; id = h.id; index = i; reserved = h.reserved; learnt = gone } in
     sets ! (agg ! (no_more !)) refl (tt, tt) $
     sets ! (agg ! (and_then ! (get ! refl) (and_then ! (false_lit !) (and_then ! (false_lit !) (and_then ! (get ! refl) (no_more !)))))) refl (typed m) $
-    nothing ! $ fpack ! (block_ptr wb wo ≡ block_ptr wb wo) (λ _. ftrue) refl $ fjoin ! $ move ! (4 ∷ 2 ∷ []) $ fjoin ! $ fjoin ! $ nothing ! $ fpack ! (IsOf R h.table pl' d) (λ _. ftrue) (tt, of.1, of.2, of.3, of.4, of.5) $ fjoin ! $
+    nothing ! $ fpack ! (block_ptr wb wo ≡ block_ptr wb wo) (λ _. ftrue) refl $ fjoin ! $ move ! (4 ∷ 2 ∷ []) $ fjoin ! $ fjoin ! $ nothing ! $ fpack ! (IsOf R h.table pl' d) (λ _. ftrue) (tt, of.1, of.2, of.3, of.4, of.5, of.6) $ fjoin ! $
     fpack ! (BucketView × Turn) (has_at R β h.table pl' gone) z $ nothing ! $ fpack ! (IsKept R false false gone) (λ _. ftrue) (refl, refl) $ fjoin ! $
     use0 𝓛 (‵ ((FieldsType ℓ R).own_val (fields_of ℓ R m) (value_of m ∷ []))) (made ℓ R 𝓛 m) $ fjoin ! $ move ! (1 ∷ 4 ∷ []) $ join ! $ move ! (1 ∷ []) $
     use0 𝓛 (raw (fact 𝓤 (F₅ r))) (fact_i 𝓤 (F₅ r) (emp 𝓤) (finds_nothing l₀ unseen)) $ use0 𝓛 (raw (fact 𝓤 (F₄ r))) (fact_i 𝓤 (F₄ r) (emp 𝓤) (refl, (λ is. let never : true ≡ false = sym is ∙ sym of.5 ∙ free in cc))) $ join ! $ use0 𝓛 (raw (fact 𝓤 (F₃ r))) (fact_i 𝓤 (F₃ r) (emp 𝓤) (λ _. inl refl)) $ join ! $ use0 𝓛 (raw (fact 𝓤 (F₂ r))) (fact_i 𝓤 (F₂ r) (emp 𝓤) tt) $ join ! $
-    use0 𝓛 (raw (fact 𝓤 (F₁ r))) (fact_i 𝓤 (F₁ r) (emp 𝓤) (refl, refl, refl)) $ join ! $ nothing ! $ nothing ! $ fjoin ! $ nothing ! $ fjoin ! $ nothing ! $ fjoin ! $ returns_within ! Post refl (look_at ! 0 refl) $ free_all ! refl $ keep ! (3 ∷ 0 ∷ 2 ∷ 1 ∷ []) $ by ! (leaves 𝓛 En hs c y (value_of m) r (tt, (tt, (tt, tt))) (tt, (tt, (tt, tt))))) (λ wrong. absurd wrong)))
+    use0 𝓛 (raw (fact 𝓤 (F₁ r))) (fact_i 𝓤 (F₁ r) (emp 𝓤) (refl, refl, refl, refl)) $ join ! $ nothing ! $ nothing ! $ fjoin ! $ nothing ! $ fjoin ! $ nothing ! $ fjoin ! $ returns_within ! Post refl (look_at ! 0 refl) $ free_all ! refl $ keep ! (3 ∷ 0 ∷ 2 ∷ 1 ∷ []) $ by ! (leaves 𝓛 En hs c y (value_of m) r (tt, (tt, (tt, tt))) (tt, (tt, (tt, tt))))) (λ wrong. absurd wrong)))
     (λ pb po. let p : Ptr = block_ptr pb po in let k : ℕ = i / 64 in let j : ℕ = i % 64 in let at_word : ℕ = word_at R (len R d) po k in let e : ℕ = value_offset R po i in
     lands_last ! refl (pointer_good p) $ exec ! 𝓣.C 𝓣.Λ Ev (after 2 fn.body) (at_ret Ev Post) $ fsplit ! $ move ! (1 ∷ []) $ fsplit ! $ fpick ! (λ zz. move ! (0 ∷ 6 ∷ []) $
     use2 𝓛 (later (‵ (facts.fact ((zz.0.at ≡ p) × Sized R (len R d) p)) ⊛ ‵ (loaded R d t zz.0 β))) (reaches 𝓛 R d t β p zz) $ await ! tt $ split ! $ fpick ! (λ so. drop ! $
@@ -105,15 +105,15 @@ find_spec 𝓤 𝓛 𝓜 𝓡 wired X L =
     Calls-last ! (fm 𝓛 𝓜 𝓡) (found aft) (and_then ! (get ! refl) (and_then ! (get ! refl) (no_more !))) (λ v. finds ! aft (λ n nf.
     lands_last ! refl (tt, record { fits = nf }) $ exec ! 𝓣.C 𝓣.Λ Ev (after 8 fn.body) (at_ret Ev Post) $ fsplit ! $ move ! (0 ∷ 4 ∷ []) $ use2 𝓛 (later (‵ (flft β q))) (apply∗ 𝓤 (𝓛.A.lft t.life s) (H.⇛ (𝓛.A.lft β q))) $ await ! tt $
     -- [the token; what was found; the row; the invariant; before; the other tokens]
-    let seen : Bool = is_set n j in let m : Kept = record { at = p; found = true; published = seen } in let pl' : ClaimFields = claim_fields h.id i (block_ptr wb wo) p h.reserved in
+    let seen : Bool = is_set n j in let m : Kept = record { at = p; found = true; published = seen } in let pl' : ClaimFields = claim_fields h.id i (block_ptr wb wo) p h.sharing h.reserved in
     sets ! (of_opd ! (get ! refl)) refl (tt, record { fits = nf }) $ sets ! (of_opd ! (get ! refl)) refl (tt, tt) $ sets ! (is ! (bin ! (get ! refl) (lit ! tt) (lit< tt)) (ap (λ (n' : ℕ). vint w64 (n' % 64)) is_index)) refl (tt, record { fits = place_fits i }) $ sets ! (of_opd ! (get ! refl)) refl (tt, record { fits = place_fits i }) $
     sets ! (bin ! (get ! refl) (get ! refl) (place_below i)) refl (tt, record { fits = shifted_right n j nf }) $ sets ! (bin ! (get ! refl) (lit ! tt) tt) refl (tt, record { fits = masked_fits (n / 2 ^ j) 1 (shifted_right n j nf) }) $
     sets ! (is ! (bin ! (get ! refl) (lit ! tt) tt) (ap vbool (is_set-test n j))) refl (tt, tt) $ sets ! (agg ! (no_more !)) refl (tt, tt) $
     sets ! (agg ! (and_then ! (get ! refl) (and_then ! (true_lit !) (and_then ! (get ! refl) (and_then ! (get ! refl) (no_more !)))))) refl (typed m) $
     move ! (1 ∷ []) $ fpick ! (λ v'. fsplit ! $ fpick ! (λ known. drop ! $ move ! (2 ∷ 0 ∷ []) $ fjoin ! $ nothing ! $ fpack ! (p ≡ p) (λ _. ftrue) refl $ fjoin ! $ fpack ! StandingBlock (has_slot R d t β pl' v') s' $ use1 𝓛 (‵ (has R d t β pl' (found_as v'))) (found_in 𝓛 R d t β pl' v') $
-    move ! (3 ∷ 2 ∷ []) $ fjoin ! $ fjoin ! $ nothing ! $ fpack ! (IsOf R h.table pl' d) (λ _. ftrue) (tt, of.1, of.2, of.3, of.4, of.5) $ fjoin ! $
+    move ! (3 ∷ 2 ∷ []) $ fjoin ! $ fjoin ! $ nothing ! $ fpack ! (IsOf R h.table pl' d) (λ _. ftrue) (tt, of.1, of.2, of.3, of.4, of.5, of.6) $ fjoin ! $
     fpack ! (BucketView × Turn) (has_at R β h.table pl' (found_as v')) z $ nothing ! $ fpack ! (IsKept R true seen (found_as v')) (λ _. ftrue) (kept_as R v' seen known.0) $ fjoin ! $
     use0 𝓛 (‵ ((FieldsType ℓ R).own_val (fields_of ℓ R m) (value_of m ∷ []))) (made ℓ R 𝓛 m) $ fjoin ! $ move ! (1 ∷ 2 ∷ []) $ join ! $ move ! (1 ∷ []) $
-    let r : G.Denot = record { at = p; found = true; published = seen; marker = record {}; bucket = block_ptr wb wo; table = h.table; id = h.id; index = i; reserved = h.reserved; learnt = found_as v' } in
+    let r : G.Denot = record { at = p; found = true; published = seen; marker = record {}; bucket = block_ptr wb wo; table = h.table; sharing = h.sharing; id = h.id; index = i; reserved = h.reserved; learnt = found_as v' } in
     use0 𝓛 (raw (fact 𝓤 (F₅ r))) (fact_i 𝓤 (F₅ r) (emp 𝓤) (finds_slot l₀ unseen v')) $ use0 𝓛 (raw (fact 𝓤 (F₄ r))) (fact_i 𝓤 (F₄ r) (emp 𝓤) (refl, (λ _. not_missing v'))) $ join ! $ use0 𝓛 (raw (fact 𝓤 (F₃ r))) (fact_i 𝓤 (F₃ r) (emp 𝓤) (λ was. inr (ap found_as (known.1 (ap in_vain was))))) $ join ! $ use0 𝓛 (raw (fact 𝓤 (F₂ r))) (fact_i 𝓤 (F₂ r) (emp 𝓤) (known_as v')) $ join ! $
-    use0 𝓛 (raw (fact 𝓤 (F₁ r))) (fact_i 𝓤 (F₁ r) (emp 𝓤) (refl, refl, refl)) $ join ! $ nothing ! $ nothing ! $ fjoin ! $ nothing ! $ fjoin ! $ nothing ! $ fjoin ! $ returns ! (look_at ! 0 refl) $ free_all ! refl $ keep ! (3 ∷ 0 ∷ 2 ∷ 1 ∷ []) $ by ! (leaves 𝓛 En hs c y (value_of m) r (tt, (tt, (tt, tt))) (tt, (tt, (tt, tt)))))))))))))))))))))))
+    use0 𝓛 (raw (fact 𝓤 (F₁ r))) (fact_i 𝓤 (F₁ r) (emp 𝓤) (refl, refl, refl, refl)) $ join ! $ nothing ! $ nothing ! $ fjoin ! $ nothing ! $ fjoin ! $ nothing ! $ fjoin ! $ returns ! (look_at ! 0 refl) $ free_all ! refl $ keep ! (3 ∷ 0 ∷ 2 ∷ 1 ∷ []) $ by ! (leaves 𝓛 En hs c y (value_of m) r (tt, (tt, (tt, tt))) (tt, (tt, (tt, tt)))))))))))))))))))))))

@@ -31,7 +31,7 @@ give_up_spec 𝓤 𝓛 𝓜 𝓡 wired X L =
     split ! $ split ! $ move ! (2 ∷ []) $ fsplit ! $ fsplit ! $ keep ! (1 ∷ 3 ∷ 4 ∷ []) $
     enter ! 𝓣.C 𝓣.Λ fn (v ∷ []) Post $ alloc_all ! (λ l. pass_all ! refl (typed (kept_of h), tt) $ let Ev = env fn.locals l in
     -- [what the claim owns; the tokens]
-    move ! (0 ∷ 1 ∷ []) $ use2 𝓛 (later (‵ (right_owns h.table h.id) ⊛ ‵ (flft β q))) (surrenders 𝓛 R β h.table (claim_fields h.id h.index h.bucket h.at h.reserved) 𝓡 h.learnt h.found h.published q) $ await ! tt $ split ! $
+    move ! (0 ∷ 1 ∷ []) $ use2 𝓛 (later (‵ (right_owns h.table h.id) ⊛ ‵ (flft β q))) (surrenders 𝓛 R β h.table (claim_fields h.id h.index h.bucket h.at h.sharing h.reserved) 𝓡 h.learnt h.found h.published q) $ await ! tt $ split ! $
     move ! (1 ∷ 2 ∷ []) $ join ! $ move ! (1 ∷ []) $
     let k : takes.Ghost = ((tt, tt, tt, tt, tt), (h.table, h.id)) in
     nothing ! $ nothing ! $ join ! $ join ! $ use1 𝓛 (raw (takes.pre k)) (id⊢ 𝓤 (takes.pre k)) $

@@ -8,11 +8,11 @@ use denote.Struct.Lending.{lent_out}
 use Rattle.std.specs.contracts.marker.PhantomData as marker
 use Rattle.thread_local_model.specs.Learnt.{Learnt}
 use Rattle.thread_local_claim_logic.specs.Known.{is_found, value_held}
-use Rattle.thread_local_claim_logic.specs.Claims.{claim_shares}
+use Rattle.thread_local_claim_logic.specs.Claims.{claim_fields, claim_shares}
 use Rattle.thread_local_claim.specs.contracts.claimed.ClaimedSlot as claim
 use Rattle.thread_local_claim.specs.contracts.claimed.ClaimedSlot.known.{ended, clauses}
 use Rattle.thread_local_claim.specs.contracts.claimed.ClaimedSlot.known.Key.{name as #self}
-use Rattle.thread_local_claim.proofs.Pairs.{both, pair_in}
+use Rattle.thread_local_raw.proofs.Pairs.{both, pair_in}
 use Rattle.thread_local_claim.proofs.Fields.{kept_of, value_of, FieldsType, fields_of, told, opened}
 use Rattle.thread_local_claim.proofs.claimed.ClaimedSlot.known.Statement.{statement}
 use Rattle.thread_local_claim.proofs.claimed.ClaimedSlot.known.Code as code
@@ -31,7 +31,7 @@ known_spec 𝓤 𝓛 𝓜 𝓡 wired X L =
     qed 𝓛 (((‵ (flft κ qs.0) ⊛ ‵ others) ⊛ ‵ (owns (types_at En.signature.params κs) a y.0.4)) ∷ raw ((c κs a).requires gh) ∷ []) ∵
     split ! $ split ! $ move ! (2 ∷ []) $ fsplit ! $ fsplit ! $ keep ! (1 ∷ 3 ∷ 4 ∷ []) $
     enter ! 𝓣.C 𝓣.Λ fn (vptr b o ∷ []) Post $ alloc_all ! (λ l. pass_all ! refl ((tt, tt), tt) $ let Ev = env fn.locals l in
-    use1 𝓛 (‵ (hidden_shr D κ (fields_of ℓ R (kept_of h)) b o) ⊛ ‵ (fhide (claim_shares R β p i l₀ h.found h.published κ)))
+    use1 𝓛 (‵ (hidden_shr D κ (fields_of ℓ R (kept_of h)) b o) ⊛ ‵ (fhide (claim_shares R β (claim_fields h.id i h.bucket p h.sharing h.reserved) l₀ h.found h.published κ)))
     (lent_out 𝓛 (claim.struct ℓ R) (claim.the_codes X.Denot R.coded (marker.the_row (ShrRef ℓ.mir ℓ.lft R)).coded) (claim.the_heap β R) (claim.the_lent β R) κ h b o) $
     split ! $ move ! (1 ∷ []) $ unhide ! $ fsplit ! $ fpick ! (λ so. drop ! $ move ! (1 ∷ 2 ∷ []) $
     looks ! tt D (opened ℓ R 𝓛) (fields_of ℓ R (kept_of h)) b o (λ q vs. move ! (1 ∷ []) $ peeks ! D (Is D) (shows 𝓛 D) (fields_of ℓ R (kept_of h)) vs (λ is_so.

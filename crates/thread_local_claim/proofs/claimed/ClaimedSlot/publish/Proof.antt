@@ -27,6 +27,7 @@ use Rattle.thread_local_blocks.proofs.Flags.{in_chunks, value_near}
 use Rattle.thread_local_blocks.proofs.Slots.{IsWordNear, word_is_near}
 use Rattle.thread_local_shared_bucket_logic.specs.Shared.{name_at, BucketView, Turn, StandingBlock, Sized, mark, len, value_code, tracked_value, pinned, age, opened, by as lent_by, bucket_invariant}
 use Rattle.thread_local_shared_bucket_logic.proofs.Rested.{publishes}
+use Rattle.thread_local_published.specs.Told.{tells}
 use Rattle.thread_local_model.specs.Learnt.{Learnt, Vacant, Holding}
 use Rattle.thread_local_claim_logic.specs.Claims.{ClaimFields, number_of_id, claim_fields, IsOf, IsKept, has, has_slot, has_at}
 use Rattle.thread_local_claim.specs.contracts.claimed.ClaimedSlot as claim
@@ -45,9 +46,9 @@ publish_spec 𝓤 𝓛 𝓜 𝓡 wired X L =
     proved_at 𝓛 En hs c 𝓜 𝓡 (Goes-dropped 𝓛 2 self no (λ κs x f. refl), (Goes-dropped 𝓛 2 number yes (λ κs x f. refl), (Goes-dropped 𝓛 2 number yes (λ κs x f. refl), (Goes-dropped 𝓛 2 value no (λ κs x f. refl), tt)))) (#self inst) fn closed (λ y are.
     let κs = y.0.0 in let qs = y.0.1 in let a = y.0.3 in let vss = y.0.4 in let Post : Val → SProp 𝓤 = (walk_of 𝓛 En hs c).post y in
     let h = a.0 in let ix : ℕ = a.1.0 in let num : ℕ = a.1.1.0 in let x : X.Denot = a.1.1.1.0 in let β : Lft = κs.0 in let q : Share = qs.0 in let υ : Lft = κs.1.0 in let r : Share = qs.1.0 in let others : Fml = fsep (flft υ r) ftrue in let ℓ = named_lft 2 0 tt κs in let G : RattleType = claim.the_row ℓ R in let u₀ : Val = value_of (kept_of h) in
-    let w : Ptr = h.bucket in let wb : ℕ = block_of w in let wo : ℕ = count_of w in let i : ℕ = h.index in let pl : ClaimFields = claim_fields h.id i w h.at h.reserved in
+    let w : Ptr = h.bucket in let wb : ℕ = block_of w in let wo : ℕ = count_of w in let i : ℕ = h.index in let pl : ClaimFields = claim_fields h.id i w h.at h.sharing h.reserved in
     let seen = told ℓ R (kept_of h) vss.0 are.0.0 in let see_index = uint_Tells w64 ix vss.1.0 are.1.0 in let see_number = uint_Tells w64 num vss.1.1.0 are.1.1.0 in let m : Member = record { row = R; ty = layout X } in let got = one (layout X) vss.1.1.1.0 ((LR.lawful 𝓛).typed x vss.1.1.1.0 are.1.1.1.0) in let vx : Val = got.0 in
-    let F₁ : G.Denot → Type 0 = λ g. (g.table ≡ h.table) × (g.id ≡ h.id) × (g.index ≡ i) in let F₂ : G.Denot → Type 0 = λ g. g.learnt ≡ Holding x in let F₃ : G.Denot → Type 0 = λ g. g.reserved ≡ h.reserved in let Run : List Val → SProp 𝓤 = λ ws. WpFn 𝓤 H 𝓣.C 𝓣.Λ fn ws Post in
+    let F₁ : G.Denot → Type 0 = λ g. (g.table ≡ h.table) × (◌≡◌ {A = Option ℕ} g.sharing h.sharing) × (g.id ≡ h.id) × (g.index ≡ i) in let F₂ : G.Denot → Type 0 = λ g. g.learnt ≡ Holding x in let F₃ : G.Denot → Type 0 = λ g. g.reserved ≡ h.reserved in let Run : List Val → SProp 𝓤 = λ ws. WpFn 𝓤 H 𝓣.C 𝓣.Λ fn ws Post in
     qed 𝓛 (((‵ (flft β q) ⊛ ‵ others) ⊛ ‵ (owns (types_at En.signature.params κs) a vss)) ∷ raw (fact 𝓤 (Incl υ X.lives)) ∷ raw (fact 𝓤 (h.learnt ≡ Vacant)) ∷ raw (fact 𝓤 (ix ≡ i)) ∷ raw (fact 𝓤 (num ≡ number_of_id R h.id)) ∷ []) ∵
     move ! (1 ∷ 2 ∷ 3 ∷ 4 ∷ []) $ heard ! (Incl υ X.lives) (λ alive. heard ! (h.learnt ≡ Vacant) (λ empty. heard ! (ix ≡ i) (λ is_index. heard ! (num ≡ number_of_id R h.id) (λ numbered. split ! $ split ! $ move ! (2 ∷ []) $ fsplit3 ! $ fsplit ! $
     move ! (3 ∷ []) $ fsplit3 ! $ keep ! (4 ∷ 1 ∷ 6 ∷ 7 ∷ []) $
@@ -105,22 +106,22 @@ publish_spec 𝓤 𝓛 𝓜 𝓡 wired X L =
     -- [what is kept; the invariant; before; what is offered; the other tokens; the token; for the
     -- claim; what is known; the row; which block it is]
     move ! (2 ∷ 5 ∷ []) $ use2 𝓛 (later (some (λ (g' : Share). ‵ (flft t.life g') ⊛ raw (wand 𝓤 (𝓛.A.lft t.life g') (H.⇛ (𝓛.A.lft β q)))))) (Lends-one 𝓛 𝓜 𝓡 β t.life q) $ await ! tt $ pick ! (λ g'. split ! $
-    let low = subst (λ (n : ℕ). i < n) (sym sized.0) of.4 in let out : Fml = fsep (flft t.life g') (right_owns t.filled h.id) in
+    let low = subst (λ (n : ℕ). i < n) (sym sized.0) of.4 in let out : Fml = fsep (flft t.life g') (fsep (right_owns t.filled h.id) (tells R d.sharing h.id (Some x))) in
     let flag : ℕ = steps.flag 𝓛 R d t wb (wo + 0) s i h.id e pb low of.3 refl refl in let flag_fits : flag < 2 ^ 64 = shifted_left 1 j in let after_it : ℕ → Fml = λ _. out in
     first ! $ blocks ! $ sets ! (is ! (bin ! (get ! refl) (lit ! tt) (lit< tt)) (ap (λ (n : ℕ). vint w64 (n % 64)) is_index)) refl (tt, record { fits = place_fits i }) $ sets ! (of_opd ! (get ! refl)) refl (tt, record { fits = place_fits i }) $ sets ! (bin ! (lit ! tt) (get ! refl) (place_below i)) refl (tt, record { fits = flag_fits }) $
     sets ! (agg ! (and_then ! (lit ! tt) (no_more !))) refl seq_cst_good $ move ! (3 ∷ 0 ∷ 9 ∷ 4 ∷ []) $ group ! 4 $
     use1 𝓛 (raw (𝓣.C _ (vptr pb at_word ∷ vint w64 flag ∷ seq_cst ∷ []) (λ v. mean 𝓛 (found after_it v))))
     (via 𝓤 _ (steps.publishes 𝓛 R d t wb (wo + 0) s i h.id e pb low of.3 refl refl g' x) (adds 𝓛 𝓜 𝓡 (code.calls-std::sync::atomic::raw::fetch_add 𝓡.env wired) (block_ptr pb at_word) flag flag_fits after_it)) $
     Calls-last ! (fm 𝓛 𝓜 𝓡) (found after_it) (and_then ! (get ! refl) (and_then ! (get ! refl) (and_then ! (get ! refl) (no_more !)))) (λ v. finds ! after_it (λ n nf. lands_last ! refl (tt, record { fits = nf }) $ exec ! 𝓣.C 𝓣.Λ Ev (after 7 fn.body) (at_ret Ev Post) $ fsplit ! $
-    -- [the life's token; filled; the way back; what is kept; the other tokens; for the claim; what
+    -- [the life's token; filled and what is told; the way back; what is kept; the other tokens; for the claim; what
     -- is known; the row]
     move ! (0 ∷ 2 ∷ []) $ use2 𝓛 (later (‵ (flft β q))) (apply∗ 𝓤 (𝓛.A.lft t.life g') (H.⇛ (𝓛.A.lft β q))) $ await ! tt $
-    let k : Kept = record { at = p; found = true; published = true } in let pl' : ClaimFields = claim_fields h.id i w p h.reserved in
+    let k : Kept = record { at = p; found = true; published = true } in let pl' : ClaimFields = claim_fields h.id i w p h.sharing h.reserved in
     sets ! (agg ! (no_more !)) refl (tt, tt) $
     sets ! (agg ! (and_then ! (get ! refl) (and_then ! (true_lit !) (and_then ! (true_lit !) (and_then ! (get ! refl) (no_more !)))))) refl (typed k) $
-    move ! (1 ∷ 5 ∷ 4 ∷ []) $ fjoin3 ! $ move ! (4 ∷ 0 ∷ []) $ fjoin ! $ nothing ! $ fpack ! (p ≡ s.at) (λ _. ftrue) (sym lies) $ fjoin ! $ fpack ! StandingBlock (has_slot R d t β pl' new) s $ move ! (2 ∷ 0 ∷ []) $ fjoin ! $
-    nothing ! $ fpack ! (IsOf R h.table pl' d) (λ _. ftrue) (of.0, of.1, of.2, of.3, of.4, of.5) $ fjoin ! $ fpack ! (BucketView × Turn) (has_at R β h.table pl' (Holding x)) z $ nothing ! $ fpack ! (IsKept R true true (Holding x)) (λ _. ftrue) (refl, refl) $ fjoin ! $
+    move ! (1 ∷ []) $ fsplit ! $ move ! (6 ∷ 1 ∷ []) $ fjoin ! $ move ! (1 ∷ 0 ∷ 5 ∷ []) $ fjoin3 ! $ move ! (4 ∷ 0 ∷ []) $ fjoin ! $ nothing ! $ fpack ! (p ≡ s.at) (λ _. ftrue) (sym lies) $ fjoin ! $ fpack ! StandingBlock (has_slot R d t β pl' new) s $ move ! (2 ∷ 0 ∷ []) $ fjoin ! $
+    nothing ! $ fpack ! (IsOf R h.table pl' d) (λ _. ftrue) (of.0, of.1, of.2, of.3, of.4, of.5, of.6) $ fjoin ! $ fpack ! (BucketView × Turn) (has_at R β h.table pl' (Holding x)) z $ nothing ! $ fpack ! (IsKept R true true (Holding x)) (λ _. ftrue) (refl, refl) $ fjoin ! $
     use0 𝓛 (‵ ((FieldsType ℓ R).own_val (fields_of ℓ R k) (value_of k ∷ []))) (made ℓ R 𝓛 k) $ fjoin ! $ move ! (1 ∷ 2 ∷ []) $ join ! $ move ! (1 ∷ []) $
-    let made_claim : G.Denot = record { at = p; found = true; published = true; marker = record {}; bucket = w; table = h.table; id = h.id; index = i; reserved = h.reserved; learnt = Holding x } in
-    use0 𝓛 (raw (fact 𝓤 (F₃ made_claim))) (fact_i 𝓤 (F₃ made_claim) (emp 𝓤) refl) $ use0 𝓛 (raw (fact 𝓤 (F₂ made_claim))) (fact_i 𝓤 (F₂ made_claim) (emp 𝓤) refl) $ join ! $ use0 𝓛 (raw (fact 𝓤 (F₁ made_claim))) (fact_i 𝓤 (F₁ made_claim) (emp 𝓤) (refl, refl, refl)) $ join ! $
+    let made_claim : G.Denot = record { at = p; found = true; published = true; marker = record {}; bucket = w; table = h.table; sharing = h.sharing; id = h.id; index = i; reserved = h.reserved; learnt = Holding x } in
+    use0 𝓛 (raw (fact 𝓤 (F₃ made_claim))) (fact_i 𝓤 (F₃ made_claim) (emp 𝓤) refl) $ use0 𝓛 (raw (fact 𝓤 (F₂ made_claim))) (fact_i 𝓤 (F₂ made_claim) (emp 𝓤) refl) $ join ! $ use0 𝓛 (raw (fact 𝓤 (F₁ made_claim))) (fact_i 𝓤 (F₁ made_claim) (emp 𝓤) (refl, refl, refl, refl)) $ join ! $
     nothing ! $ nothing ! $ fjoin ! $ nothing ! $ fjoin ! $ nothing ! $ fjoin ! $ nothing ! $ fjoin ! $ returns ! (look_at ! 0 refl) $ free_all ! refl $ keep ! (3 ∷ 0 ∷ 2 ∷ 1 ∷ []) $ by ! (leaves 𝓛 En hs c y (value_of k) made_claim (tt, (tt, (tt, (tt, tt)))) (tt, (tt, (tt, (tt, tt))))))))))))))))))))))

@@ -42,11 +42,11 @@ use denote.Triple.Spec.{Meets, triple_of}
 use denote.Triple.Statement.{Triple, Contract}
 use denote.Triple.Table.{entered}
 use denote.Triple.Walked.{Stays, stay_ref, stay_dropped, walk_of, ends_at, says, Goes-ref, Goes-dropped, walk_Meets}
-use Rattle.thread_local_claim.specs.contracts.replaced.replace_with as F
-use Rattle.thread_local_claim.specs.contracts.replaced.replace_with.F-FnOnce as Called
-use Rattle.thread_local_claim.specs.contracts.replaced.replace_with.Key as key
-use Rattle.thread_local_claim.proofs.replaced.replace_with.Statement as stated
-use Rattle.thread_local_claim.proofs.replaced.replace_with.Code as code
+use Rattle.thread_local_raw.specs.contracts.replaced.replace_with as F
+use Rattle.thread_local_raw.specs.contracts.replaced.replace_with.F-FnOnce as Called
+use Rattle.thread_local_raw.specs.contracts.replaced.replace_with.Key as key
+use Rattle.thread_local_raw.proofs.replaced.replace_with.Statement as stated
+use Rattle.thread_local_raw.proofs.replaced.replace_with.Code as code
 
 both : (a b : Bool) → T a → T b → T (a && (b && true))
 both true true s t = tt

@@ -2,11 +2,7 @@
 
 /// Passes the value to `with`, and writes back what `with` returns. Nothing unwinds, so nobody sees
 /// the memory while it holds no value.
-pub(crate) fn replace_with<V, X, R, F: FnOnce(V, X) -> (V, R)>(
-    place: &mut V,
-    given: X,
-    with: F,
-) -> R
+pub fn replace_with<V, X, R, F: FnOnce(V, X) -> (V, R)>(place: &mut V, given: X, with: F) -> R
     requires { F.pre with place.old given }
     ensures { F.post with place.old given (place.new, result) }
 {

@@ -1,0 +1,5 @@
+pub mod Elements
+pub mod Made
+pub mod Rows
+mod Whole
+pub mod Twice
