@@ -1,5 +1,5 @@
 -- What a contract sees of a walk over buckets that threads share, and what a call of `next` does.
-use Rattle.std.specs.Prelude.{◌≡◌, ℕ, suc, ◌-◌, ◌^◌, ◌<◌, ◌≤◌, ◌⊎◌, Bool, true, IsTrue, Option, Some, None, MatchOption, refl}
+use Rattle.std.specs.Prelude.{◌≡◌, ℕ, suc, ◌-◌, ◌^◌, ◌<◌, ◌≤◌, ◌⊎◌, Bool, true, IsTrue, Option, Some, None, MatchOption, IfSome, option_map, refl}
 use Rattle.std.specs.Iterator.{Count, at_most}
 use Rattle.std.specs.Coded.{Coded, coded_option, coded_ℕ, coded×, code_by}
 use base.Stored.{coded_bool}
@@ -70,6 +70,11 @@ pub record Ends {V : Type 0} (from : Cursor) (own : Option (Owed V)) (to : Curso
 pub record Goes {V : Type 0} (walk : WalkView V) (item : Option (Bor V)) (left : WalkView V) : Type 0 where
   pub gives : MatchOption item (Ends walk.cursor walk.own left.cursor left.own) (λ x. Yields walk.cursor walk.own x.now left.cursor left.own)
   pub shown : left.shown ≡ walk.shown
+
+-- what a call of `next` does where it gives each value with its id, which is the last one passed
+pub record GoesWithIds {V : Type 0} (walk : WalkView V) (item : Option (ℕ × Bor V)) (left : WalkView V) : Type 0 where
+  pub goes : Goes walk (option_map (λ entry. entry.1) item) left
+  pub id : IfSome item (λ entry. cursor_id left.cursor ≡ suc entry.0)
 
 -- a walk may go on where it was shown that threads may share the values, or their type says so
 abbrev pub CanGo : {V : Type 0} → RattleType → WalkView V → Type 0

@@ -1,7 +1,8 @@
 //! The walk over shared buckets, by ascending id, while other threads publish values.
-ghost use Rattle.std.specs.Prelude.{◌≡◌, ◌-◌, ◌^◌, ◌<◌, ◌⊎◌, true, false, None, Some, IfSome, is_some, option_map};
+ghost use Rattle.std.specs.Prelude.{◌≡◌, ◌+◌, ◌-◌, ◌^◌, ◌<◌, ◌⊎◌, true, false, None, Some, IfSome, is_some, option_map};
 ghost use Rattle.std.specs.Iterator.{UpTo};
 ghost use Rattle.std.specs.Iterator.SizeHint.{IsWithinCount};
+ghost use Rattle.thread_local_model.specs.Cursor.{cursor_id};
 ghost use Rattle.thread_local_judged.specs.Judged.{Shareable};
 ghost use Rattle.thread_local_shared_walk.specs.Positions.{owed};
 ghost use Rattle.thread_local_shared_walk.specs.Walks.{WalkView, fresh, Goes, CanGo, ids_left};
@@ -70,6 +71,17 @@ impl<'a, T> Iter<'a, T> {
         ensures { result ≡ fresh None false }
     {
         Iter::begun(buckets, None, None)
+    }
+}
+
+impl<'a, T> Iter<'a, T> {
+    /// The last id that the walk has passed.
+    #[inline]
+    pub(crate) fn last_id(&self) -> usize
+        requires { 0 < cursor_id self.now.cursor }
+        ensures { cursor_id self.now.cursor ≡ result + 1 }
+    {
+        self.raw.index + self.raw.bucket_size - 2
     }
 }
 
