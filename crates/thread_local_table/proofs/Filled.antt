@@ -11,7 +11,7 @@ filled_at E makes view (Some v) is holds =
       fills = record {
         says = record { answered = rw is refl; leaves = rw is refl };
         made = λ none. cc;
-        same = record { table = refl; id = refl; reserved = refl };
+        same = record { table = refl; sharing = refl; id = refl; reserved = refl };
       };
     }
 

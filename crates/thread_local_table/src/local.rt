@@ -1,14 +1,15 @@
 //! A `Local`: a seat, and what the table's lock needs when the drop gives the seat's id back.
-ghost use Rattle.std.specs.Prelude.{◌≡◌, ◌≢◌, ◌-◌, ◌^◌, ◌<◌, nat_lt, ⊤, true, false, None, Ok, Err, OnOk, IfOk, option_map, MatchResult, alloc_error, Result};
+ghost use Rattle.std.specs.Prelude.{◌≡◌, ◌≢◌, ◌-◌, ◌^◌, ◌<◌, nat_lt, ⊤, true, false, None, Ok, Err, OnOk, IfOk, IsSome, Some, option_map, MatchResult, alloc_error, Result};
 ghost use Rattle.thread_local_model.specs.Answers.{Get, GetOr, Found, Refused, Failed, answer};
 ghost use Rattle.thread_local_model.specs.Cursor.{fresh_cursor};
-ghost use Rattle.thread_local_table.specs.Seats.{knows, own_of, IsAnswered, IsFilled, Fails, IsRefused};
+ghost use Rattle.thread_local_table.specs.Seats.{knows, knowing, holding, own_of, published_of, IsAnswered, IsFilled, Fails, IsRefused};
 
-use crate::seat::{Seat, TryError};
+use crate::seat::{Seat, SetError, TryError};
 use std::alloc::AllocError;
 use std::fmt;
 use std::marker::Model;
 use std::sync::Wait;
+use thread_local_published::Published;
 use thread_local_shared_walk::Iter;
 
 // `get_or` and `get_or_default` stand here.
@@ -20,14 +21,14 @@ mod lends;
 /// Dropping it keeps the value and gives the id back, under the table's lock: that may wait, and
 /// takes no memory. A forgotten one keeps its id until the table is cleared.
 ///
-/// Each call is the seat's: none takes a lock, and only the `get_or` family (`get_or`,
-/// `get_or_default`, `get_or_try`, `try_fill`) takes memory, for a bucket; the closure or the
-/// `T::default` that it runs may wait. References that calls answer live no longer than the borrow
+/// Each call is the seat's: none takes a lock, and only `set` and the `get_or` family (`get_or`,
+/// `get_or_default`, `get_or_try`, `try_fill`) take memory, for a bucket; the closure or the
+/// `T::default` that these run may wait. References that calls answer live no longer than the borrow
 /// of the `Local`.
 ///
-/// Contracts see the table's name, the id, the number of reserved slots, and what is known of the
-/// id's slot: its value, if there is one, and whether its bucket is known to stand. Rust's crate
-/// finds the running thread by itself, and has no such type.
+/// Contracts see the table's name and its sharing, the id, the number of reserved slots, and what is
+/// known of the id's slot: its value, if there is one, and whether its bucket is known to stand.
+/// Rust's crate finds the running thread by itself, and has no such type.
 pub struct Local<'a, T, R: Wait> {
     rt: &'a R,
     seat: Seat<'a, T>,
@@ -81,6 +82,28 @@ impl<'a, T, R: Wait> Local<'a, T, R> {
         self.seat.id()
     }
 
+    /// What the slot was published with, as a token, where it holds a value: whoever has the token
+    /// reads that value through the table, for as long as the sharing lasts, and the owner finds it
+    /// when the sharing ends. It reads what the `Local` knows already, without an atomic operation.
+    /// Rust's crate has no such call.
+    pub fn published(&self) -> Option<Published<T>>
+        ensures { result ≡ published_of self.now }
+    {
+        self.seat.published()
+    }
+
+    /// Shows that the slot holds what a token of this id and this sharing says, whichever `Local`
+    /// had the id then. At run time it does nothing. Rust's crate has no such call.
+    pub fn agrees(&mut self, published: &Published<T>)
+        requires id { self.old.id ≡ published.now.id }
+        requires sharing { self.old.sharing ≡ published.now.sharing }
+        requires named { IsSome self.old.sharing }
+        ensures holds { self.old.value ≡ Some published.now.value }
+        ensures same { self.new ≡ self.old }
+    {
+        self.seat.agrees(published);
+    }
+
     /// Shows that two `Local`s of one table have different ids. At run time it does nothing. Rust's
     /// crate has no such call.
     pub fn apart<S: Wait>(&mut self, other: &mut Local<'_, T, S>)
@@ -98,6 +121,21 @@ impl<'a, T, R: Wait> Local<'a, T, R> {
         ensures known { result ≡ true → self.now.known ≡ true }
     {
         self.seat.is_reserved()
+    }
+
+    /// Publishes a value that is at hand, where the slot is empty. `Occupied` gives it back where
+    /// the slot holds one, and `Memory` where its bucket is missing and memory has run out. As
+    /// `OnceCell::set` of Rust; the Rust crate has no such call.
+    pub fn set(&mut self, value: T) -> Result<(), SetError<T>>
+        ensures ok { OnOk result ((self.old.value ≡ None) × (self.new ≡ knowing self.old (holding value))) }
+        ensures occupied { (given : T)
+            → result ≡ Err (SetError.Occupied given)
+            → IsSome self.old.value × (given ≡ value) × (self.new ≡ self.old) }
+        ensures memory { (given : T)
+            → result ≡ Err (SetError.Memory given)
+            → (self.old.value ≡ None) × (self.old.known ≡ false) × (given ≡ value) × (self.new ≡ self.old) }
+    {
+        self.seat.set(value)
     }
 
     /// Fills the slot as `get_or_try` does, without answering the value. Its clauses also say what

@@ -1,10 +1,10 @@
 //! A seat: an id of a table, and what is known of the id's slot: no bucket was found, it is vacant,
 //! or it holds a value.
-ghost use Rattle.std.specs.Prelude.{◌≡◌, ◌≢◌, ◌-◌, ◌^◌, ◌<◌, nat_lt, ◌⊎◌, ⊤, is_some, true, None, Some, Ok, Err, OnOk, OnErr, IfOk, IsOk, Result, false, alloc_error, option_map};
+ghost use Rattle.std.specs.Prelude.{◌≡◌, ◌≢◌, ◌-◌, ◌^◌, ◌<◌, nat_lt, ◌⊎◌, ⊤, is_some, true, None, Some, Ok, Err, OnOk, OnErr, IfOk, IsOk, IsSome, Result, false, alloc_error, option_map};
 ghost use Rattle.thread_local_model.specs.Learnt.{Missing, Vacant};
 ghost use Rattle.thread_local_model.specs.Answers.{Get, GetOr, Found, Refused, Failed, answer};
 ghost use Rattle.thread_local_model.specs.Cursor.{fresh_cursor};
-ghost use Rattle.thread_local_table.specs.Seats.{knows, knowing, own_of, vacant, holding, IsAnswered, IsFilled, Fails, IsRefused};
+ghost use Rattle.thread_local_table.specs.Seats.{knows, knowing, own_of, published_of, vacant, holding, IsAnswered, IsFilled, Fails, IsRefused};
 
 use crate::table::ThreadLocal;
 use std::alloc::AllocError;
@@ -13,6 +13,7 @@ use std::marker::Model;
 use std::sync::Wait;
 use thread_local_blocks::Block;
 use thread_local_claim::Claim;
+use thread_local_published::Published;
 use thread_local_rights::HeldId;
 use thread_local_shared_walk::Iter;
 
@@ -20,7 +21,7 @@ use thread_local_shared_walk::Iter;
 mod lends;
 
 /// Why `get_or_try` and `try_fill` have no value to answer.
-#[derive(Clone, Copy, Debug, PartialEq, Eq)]
+#[derive(Clone, Copy, Debug, Drop, PartialEq, Eq)]
 pub enum TryError<E> {
     /// Out of memory for the slot's bucket.
     Memory(AllocError),
@@ -28,10 +29,19 @@ pub enum TryError<E> {
     Create(E),
 }
 
+/// Why `set` gives its value back.
+#[derive(Clone, Copy, Debug, Drop, PartialEq, Eq)]
+pub enum SetError<T> {
+    /// The slot holds a value.
+    Occupied(T),
+    /// Out of memory for the slot's bucket.
+    Memory(T),
+}
+
 /// An id of a table, and what is known of the id's slot. Each `Local` has one, and lends it. No
-/// call takes a lock, and only the `get_or` family (`get_or`, `get_or_default`, `get_or_try`,
-/// `try_fill`) takes memory, for a bucket; the closure or the `T::default` that it runs may wait.
-/// In Rust's crate the running thread is the seat.
+/// call takes a lock, and only `set` and the `get_or` family (`get_or`, `get_or_default`,
+/// `get_or_try`, `try_fill`) take memory, for a bucket; the closure or the `T::default` that these
+/// run may wait. In Rust's crate the running thread is the seat.
 pub struct Seat<'a, T> {
     table: &'a ThreadLocal<T>,
     claim: Claim<'a, T>,
@@ -54,7 +64,9 @@ impl<'a, T> Model for Seat<'a, T> {
 fn reach<T>(table: &ThreadLocal<T>, claim: &mut Claim<'_, T>) -> Result<(), AllocError>
     requires in_range { claim.old.id < 2 ^ 63 - 1 }
     requires empty { (claim.old.learnt ≡ Missing) ⊎ (claim.old.learnt ≡ Vacant) }
-    ensures right { (claim.new.table ≡ claim.old.table) × (claim.new.id ≡ claim.old.id) }
+    ensures right { (claim.new.table ≡ claim.old.table)
+        × (claim.new.sharing ≡ claim.old.sharing)
+        × (claim.new.id ≡ claim.old.id) }
     ensures ok { OnOk result (claim.new.learnt ≡ Vacant) }
     ensures err { OnErr result ((claim.old.learnt ≡ Missing) × (claim.new.learnt ≡ Missing)) }
 {
@@ -72,7 +84,9 @@ impl<'a, T> Seat<'a, T> {
     /// A seat for a held id of this table.
     pub(crate) fn new(table: &'a ThreadLocal<T>, held: HeldId) -> Seat<'a, T>
         requires { held.right.table ≡ table.now.table }
-        ensures table { (result.table ≡ table.now.table) × (result.reserved ≡ table.now.reserved) }
+        ensures table { (result.table ≡ table.now.table)
+            × (result.sharing ≡ table.now.sharing)
+            × (result.reserved ≡ table.now.reserved) }
         ensures id { result.id ≡ held.id }
     {
         Seat {
@@ -104,6 +118,26 @@ impl<'a, T> Seat<'a, T> {
     {
         let table = self.table;
         self.claim.id() < table.buckets.reserved()
+    }
+
+    /// What the slot was published with, as a token, where it holds a value. It reads what the seat
+    /// knows already, without an atomic operation. Rust's crate has no such call.
+    pub fn published(&self) -> Option<Published<T>>
+        ensures { result ≡ published_of self.now }
+    {
+        self.claim.published()
+    }
+
+    /// Shows that the slot holds what a token of this id and this sharing says. At run time it does
+    /// nothing. Rust's crate has no such call.
+    pub fn agrees(&mut self, published: &Published<T>)
+        requires id { self.old.id ≡ published.now.id }
+        requires sharing { self.old.sharing ≡ published.now.sharing }
+        requires named { IsSome self.old.sharing }
+        ensures holds { self.old.value ≡ Some published.now.value }
+        ensures same { self.new ≡ self.old }
+    {
+        self.claim.agrees(published);
     }
 
     /// Finds or makes the bucket of the slot, which is empty.
@@ -156,6 +190,30 @@ impl<'a, T> Seat<'a, T> {
         Ok(())
     }
 
+    /// Publishes a value that is at hand, where the slot is empty. `Occupied` gives it back where
+    /// the slot holds one, and `Memory` where its bucket is missing and memory has run out. As
+    /// `OnceCell::set` of Rust; the Rust crate has no such call.
+    pub fn set(&mut self, value: T) -> Result<(), SetError<T>>
+        ensures ok { OnOk result ((self.old.value ≡ None) × (self.new ≡ knowing self.old (holding value))) }
+        ensures occupied { (given : T)
+            → result ≡ Err (SetError.Occupied given)
+            → IsSome self.old.value × (given ≡ value) × (self.new ≡ self.old) }
+        ensures memory { (given : T)
+            → result ≡ Err (SetError.Memory given)
+            → (self.old.value ≡ None) × (self.old.known ≡ false) × (given ≡ value) × (self.new ≡ self.old) }
+    {
+        if self.get().is_some() {
+            return Err(SetError::Occupied(value));
+        }
+        match self.find_bucket() {
+            Ok(()) => {
+                self.publish(value);
+                Ok(())
+            }
+            Err(_) => Err(SetError::Memory(value)),
+        }
+    }
+
     /// Fills the slot as `get_or_try` does, without answering the value. Its clauses also say what
     /// the seat knows afterwards. Those of `get_or_try` don't: a clause on what a call leaves
     /// beside a reference can't speak of errors of any type. Rust's crate has no such call.
@@ -174,9 +232,7 @@ impl<'a, T> Seat<'a, T> {
         if self.is_filled() {
             return Ok(());
         }
-        if let Err(error) = self.find_bucket() {
-            return Err(TryError::Memory(error));
-        }
+        self.find_bucket()?;
         match create() {
             Ok(value) => {
                 self.publish(value);

@@ -1,5 +1,5 @@
 //! A table: the buckets that threads share, and the ids, under a lock.
-ghost use Rattle.std.specs.Prelude.{◌≡◌, ◌≢◌, ◌≤◌, ◌<◌, ◌-◌, ◌^◌, true, false, None, Err, IfOk};
+ghost use Rattle.std.specs.Prelude.{◌≡◌, ◌≢◌, ◌≤◌, ◌<◌, ◌-◌, ◌^◌, ℕ, Option, true, false, None, Some, Err, IfOk, IsSome, IsNone};
 ghost use Rattle.thread_local_model.specs.Capacity.{reserved_slots};
 ghost use Rattle.thread_local_judged.specs.Judged.{Judged};
 ghost use Rattle.thread_local_shared_walk.specs.Walks.{fresh};
@@ -11,16 +11,18 @@ use std::default::MadeWith;
 use std::marker::Model;
 use std::mem::replace;
 use std::sync::Wait;
-use thread_local_buckets::{Buckets, CapacityError, IntoIter, IterMut};
+use thread_local_buckets::{Buckets, CapacityError, EntriesMut, IntoEntries, IntoIter, IterMut};
 use thread_local_ids::Ids;
 use thread_local_judged::Judge;
 use thread_local_lock::Lock;
+use thread_local_published::{Book, Published};
 use thread_local_rights::Right;
 use thread_local_shared_buckets::Shared;
-use thread_local_shared_walk::Iter;
-use thread_local_thread_id::LocalError;
+use thread_local_shared_walk::{Entries, Iter};
+use thread_local_thread_id::manager::IDS;
+use thread_local_thread_id::{LocalError, Thread};
 
-// `buckets_mut` stands here.
+// `buckets_mut` and `drain` stand here.
 mod lends;
 
 /// One object that keeps a separate value for each thread that uses it.
@@ -36,7 +38,9 @@ mod lends;
 /// value does, and a value's drop may wait and may take memory: a value may hold a `Local` of
 /// another table.
 ///
-/// Contracts see the table's name and the number of reserved slots.
+/// Contracts see the table's name, the number of reserved slots, and the sharing, if that has a name.
+/// A sharing begins when the table is made, cleared or renewed, and lasts until an owner has the table
+/// alone. While it lasts, tokens (`Published`) say what slots were published with.
 #[derive(Drop)]
 pub struct ThreadLocal<T> {
     pub(crate) buckets: Shared<T>,
@@ -71,6 +75,7 @@ impl<T> ThreadLocal<T> {
     where
         T: Send,
         requires judged { Judged T.row }
+        ensures sharing { IsSome result.sharing }
         ensures reserved { result.reserved ≡ 0 }
     {
         ThreadLocal::empty(alloc)
@@ -80,6 +85,7 @@ impl<T> ThreadLocal<T> {
     /// its impl.
     fn empty(alloc: Global) -> ThreadLocal<T>
         requires judged { Judged T.row }
+        ensures sharing { IsSome result.sharing }
         ensures reserved { result.reserved ≡ 0 }
     {
         let mut ids = Ids::new(alloc);
@@ -89,13 +95,15 @@ impl<T> ThreadLocal<T> {
 
     /// Makes a table of an owner's buckets, their ids, and the table's own right.
     fn of(alloc: Global, buckets: Buckets<T>, ids: Ids, own: Right) -> ThreadLocal<T>
+        ghost past: { Option ℕ }
         requires judged { Judged T.row }
         requires own { (own.table ≡ ids.table) × (own.id ≡ 2 ^ 63 - 1) }
         ensures table { result.table ≡ ids.table }
+        ensures sharing { IsSome result.sharing × (result.sharing ≢ past) }
         ensures reserved { result.reserved ≡ buckets.reserved }
     {
         ThreadLocal {
-            buckets: Shared::new(buckets, ids.rights()),
+            buckets: Shared::new_apart(buckets, &own),
             ids: Lock::new(ids),
             own,
             alloc,
@@ -113,6 +121,7 @@ impl<T> ThreadLocal<T> {
     where
         T: Drop + Send,
         requires judged { Judged T.row }
+        ensures sharing { IfOk result (λ table. IsSome table.sharing) }
         ensures reserved { IfOk result (λ table. table.reserved ≡ reserved_slots capacity) }
         ensures too_large { 2 ^ 63 ≤ capacity → result ≡ Err CapacityError.TooLarge }
         ensures not_too_large { result ≡ Err CapacityError.TooLarge → 2 ^ 63 ≤ capacity }
@@ -120,14 +129,10 @@ impl<T> ThreadLocal<T> {
         if capacity >= 1 << 63 {
             return Err(CapacityError::TooLarge);
         }
-        match Ids::with_room(alloc, capacity) {
-            Ok(mut ids) => {
-                let buckets = Buckets::with_capacity(alloc, capacity)?;
-                let own = ids.own_right();
-                Ok(ThreadLocal::of(alloc, buckets, ids, own))
-            }
-            Err(error) => Err(CapacityError::Memory(error)),
-        }
+        let mut ids = Ids::with_room(alloc, capacity)?;
+        let buckets = Buckets::with_capacity(alloc, capacity)?;
+        let own = ids.own_right();
+        Ok(ThreadLocal::of(alloc, buckets, ids, own))
     }
 
     /// A `Local` with the least id that isn't held. It takes the table's lock, so it may wait, and
@@ -138,7 +143,9 @@ impl<T> ThreadLocal<T> {
     /// held. Rust's crate finds the running thread by itself.
     pub fn local<'a, R: Wait>(&'a self, rt: &'a R) -> Result<Local<'a, T, R>, LocalError>
         ensures table { IfOk result (λ local.
-            (local.table ≡ self.now.table) × (local.reserved ≡ self.now.reserved)) }
+            (local.table ≡ self.now.table)
+            × (local.sharing ≡ self.now.sharing)
+            × (local.reserved ≡ self.now.reserved)) }
         ensures in_range { IfOk result (λ local. local.id < 2 ^ 63 - 1) }
     {
         let held = self.ids.lock(rt).take()?;
@@ -150,7 +157,7 @@ impl<T> ThreadLocal<T> {
         ensures reserved { self.old.reserved ≤ result }
         ensures same { self.new ≡ self.old }
     {
-        self.buckets.owner().slots()
+        self.buckets.slots()
     }
 
     /// The values by ascending id, each lent as `&mut`. It is the walk `iter_mut` of the buckets
@@ -159,10 +166,45 @@ impl<T> ThreadLocal<T> {
         self.buckets.owner().iter_mut()
     }
 
+    /// `iter_mut`, with the id of each value: the walk `entries_mut` of the buckets that
+    /// `buckets_mut` lends. Rust's crate has no such call.
+    pub fn entries_mut(&mut self) -> EntriesMut<'_, T> {
+        self.buckets.owner().entries_mut()
+    }
+
+    /// Lends the value at an id for writing, or answers `None` where there is none: it is `get_mut`
+    /// of the buckets that `buckets_mut` lends, whose contract says what it finds and what a write
+    /// changes. No `Local` has an id of 2^63 - 1 or more. Rust's crate has no such call.
+    pub fn get_mut(&mut self, id: usize) -> Option<&mut T>
+        ensures out_of_range { 2 ^ 63 - 1 ≤ id → IsNone result }
+    {
+        if id >= IDS {
+            return None;
+        }
+        self.buckets.owner().get_mut(Thread::new(id))
+    }
+
     /// The buckets by value. Of what is in them the number of reserved slots is known, and the
     /// calls of `Buckets` say what they find. The ids are dropped. Rust's crate has no such call.
     pub fn into_buckets(self) -> Buckets<T>
         ensures { result.reserved ≡ self.reserved }
+    {
+        self.into_published().0
+    }
+
+    /// The values by ascending id, each moved out with its id: the walk `into_entries` of the
+    /// buckets that `into_buckets` gives. Rust's crate has no such call.
+    pub fn into_entries(self) -> IntoEntries<T> {
+        self.into_buckets().into_entries()
+    }
+
+    /// The buckets by value, and what the slots were published with in the sharing that ends:
+    /// the book tells of each token of this sharing that its value is there, at its id. The ids are
+    /// dropped. Rust's crate has no such call.
+    pub fn into_published(self) -> (Buckets<T>, Book<T>)
+        ensures reserved { result.0.reserved ≡ self.reserved }
+        ensures sharing { result.1.sharing ≡ self.sharing }
+        ensures contents { result.1.contents ≡ result.0.contents }
     {
         let Self {
             buckets,
@@ -170,7 +212,18 @@ impl<T> ThreadLocal<T> {
             own: _,
             alloc: _,
         } = self;
-        buckets.into_buckets()
+        buckets.into_published()
+    }
+
+    /// Begins another sharing of the same buckets, with a name: an owner who has the table alone
+    /// ends the one before. Ids and values stay. Rust's crate has no such call.
+    pub fn renew(&mut self)
+        ensures table { self.new.table ≡ self.old.table }
+        ensures sharing { IsSome self.new.sharing × (self.new.sharing ≢ self.old.sharing) }
+        ensures reserved { self.new.reserved ≡ self.old.reserved }
+    {
+        self.buckets.judged();
+        self.buckets.renew(&self.own);
     }
 
     /// Drops every value, frees every bucket that isn't reserved, and takes every id back, those of
@@ -180,6 +233,19 @@ impl<T> ThreadLocal<T> {
     where
         T: Drop,
         ensures table { self.new.table ≢ self.old.table }
+        ensures sharing { IsSome self.new.sharing × (self.new.sharing ≢ self.old.sharing) }
+        ensures reserved { self.new.reserved ≡ self.old.reserved }
+    {
+        self.cleared();
+    }
+
+    /// `clear`, with a name for the sharing that isn't a given one.
+    fn cleared(&mut self)
+    where
+        T: Drop,
+        ghost past: { Option ℕ }
+        ensures table { self.new.table ≢ self.old.table }
+        ensures sharing { IsSome self.new.sharing × (self.new.sharing ≢ past) }
         ensures reserved { self.new.reserved ≡ self.old.reserved }
     {
         self.buckets.judged();
@@ -209,10 +275,40 @@ impl<T: Sync> ThreadLocal<T> {
     {
         Iter::new(&self.buckets)
     }
+
+    /// `iter`, with the id of each value: which worker's each is. Rust's crate has no such call.
+    pub fn entries(&self) -> Entries<'_, T>
+        ensures { result ≡ fresh None true }
+    {
+        self.iter().with_ids()
+    }
+
+    /// `iter`, which gives what a token says: a walk that runs to its end gives this value, at its
+    /// id. Rust's crate has no such call.
+    pub fn iter_with(&self, published: &Published<T>) -> Iter<'_, T>
+        requires sharing { published.now.sharing ≡ self.now.sharing }
+        requires named { IsSome self.now.sharing }
+        ensures { result ≡
+            fresh
+            (Some (record { id = published.now.id; value = published.now.value }))
+            true }
+    {
+        Iter::with_own(&self.buckets, published.id(), self.value(published))
+    }
+
+    /// The value that a token's slot was published with. It can't fail, and is one atomic load, of
+    /// the bucket's pointer. Rust's crate has no such call.
+    pub fn value<'a>(&'a self, published: &Published<T>) -> &'a T
+        requires sharing { published.now.sharing ≡ self.now.sharing }
+        requires named { IsSome self.now.sharing }
+        ensures { result.now ≡ published.now.value }
+    {
+        self.buckets.value(published)
+    }
 }
 
 impl<T: Judge + Send> MadeWith<Global> for ThreadLocal<T> {
-    ghost is_made_with = { λ table. table.reserved ≡ 0 };
+    ghost is_made_with = { λ table. IsSome table.sharing × (table.reserved ≡ 0) };
 
     /// A table as `new` makes it. Rust has `Default` for it; here the bound shows that the type is
     /// judged.

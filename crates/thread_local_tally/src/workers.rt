@@ -58,9 +58,7 @@ fn start_and_join<R: Threads + Wait + Sync, G: Gate + Sync>(
             else {
                 return Err(LocalError::Memory(AllocError));
             };
-            if started.push(handle).is_err() {
-                return Err(LocalError::Memory(AllocError));
-            }
+            started.push(handle)?;
         }
         for handle in started {
             handle.join(rt)?;
@@ -82,9 +80,7 @@ fn add<R: Wait, G: Gate>(
 {
     let mut local = sums.local(rt)?;
     gate.pass(worker);
-    let Ok(sum) = local.get_or(|| Cell::new(0)) else {
-        return Err(LocalError::Memory(AllocError));
-    };
+    let sum = local.get_or(|| Cell::new(0))?;
     for number in share(worker, workers, numbers) {
         sum.set(sum.get().saturating_add(number));
     }
