@@ -35,11 +35,13 @@ pub mod buckets;
 pub mod cached;
 pub mod iter;
 pub mod local;
+pub mod padded;
 pub mod schedule;
 pub mod scratch;
 pub mod table;
 pub mod thread_id;
 
 pub use cached::{CachedIntoIter, CachedIterMut, CachedThreadLocal};
-pub use iter::{IntoIter, Iter, IterMut};
+pub use iter::{Drain, Entries, EntriesMut, IntoEntries, IntoIter, Iter, IterMut};
+pub use padded::Padded;
 pub use table::ThreadLocal;

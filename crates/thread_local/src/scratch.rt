@@ -1,5 +1,5 @@
-//! A pool of buffers of bytes that threads use one after another.
-ghost use Rattle.std.specs.Prelude.{◌≡◌, [], IfOk};
+//! A pool of values that threads use one after another, as buffers of bytes.
+ghost use Rattle.std.specs.Prelude.{◌≡◌, true, [], IfOk};
 
 use std::alloc::Global;
 use std::cell::Cell;
@@ -11,50 +11,129 @@ use thread_local_thread_id::LocalError;
 
 mod lends;
 
-/// Buffers of bytes that threads borrow and give back; each keeps the room that it grew to. Threads
-/// share a pool through a `&`. Only `buffer` and the drop of a `Buffer` may wait, for the lock of
-/// the pool's table, and only `buffer` takes memory. Rust's crate has no such type.
+/// Values that are expensive to make, which threads borrow and give back. Threads share a pool
+/// through a `&`. Only `get`, `buffer` and the drop of what they answer may wait, for the lock of
+/// the pool's table, and only `get` and `buffer` take memory. Rust's crate has no such type.
 #[derive(Drop)]
-pub struct Pool {
-    table: ThreadLocal<Cell<Vec<u8>>>,
+pub struct Pool<T> {
+    table: ThreadLocal<Cell<Option<T>>>,
     alloc: Global,
 }
 
-impl Pool {
-    /// A pool with no buffer.
-    pub fn new(alloc: Global) -> Pool {
-        Cell::<Vec<u8>>::judge();
+impl<T> Pool<T> {
+    /// A pool with no value.
+    pub fn new(alloc: Global) -> Pool<T>
+    where
+        T: Send,
+    {
+        Cell::<Option<T>>::judge();
         Pool {
             table: ThreadLocal::new(alloc),
             alloc,
         }
     }
 
-    /// An empty buffer, with the room that its last holder left. It takes the least id that isn't
-    /// held: where at most n buffers are held at once, at most n are ever made. May wait, and takes
-    /// memory, as `ThreadLocal::local` and `Local::get_or` do: `Memory` means out of memory.
-    /// `Exhausted` means that all 2^63 - 1 ids are held.
+    /// A value of the pool, as its last holder left it, or one that the closure makes. It takes the
+    /// least id that isn't held: where at most n values are held at once, at most n are ever made.
+    ///
+    /// May wait, and takes memory, as `ThreadLocal::local` and `Local::get_or` do; the closure runs
+    /// with no lock held, and may wait, too. `Memory` means out of memory, and `Exhausted` that all
+    /// 2^63 - 1 ids are held; then the closure isn't called.
+    pub fn get<'a, F: FnOnce() -> T + Drop, R: Wait>(
+        &'a self,
+        rt: &'a R,
+        create: F,
+    ) -> Result<Pooled<'a, T, R>, LocalError>
+        requires { F.pre create }
+        ensures created { IfOk result (λ pooled. pooled.is_new ≡ true → F.post create pooled.value) }
+    {
+        let mut local = self.table.local(rt)?;
+        Ok(match local.get_or(|| Cell::new(None))?.replace(None) {
+            Some(value) => Pooled {
+                local,
+                value,
+                is_new: false,
+            },
+            None => Pooled {
+                local,
+                value: create(),
+                is_new: true,
+            },
+        })
+    }
+}
+
+impl Pool<Vec<u8>> {
+    /// An empty buffer, with the room that its last holder left. Where at most n buffers are held at
+    /// once, at most n are ever made. It may wait, takes memory and refuses as `get` does.
     pub fn buffer<'a, R: Wait>(&'a self, rt: &'a R) -> Result<Buffer<'a, R>, LocalError>
         ensures empty { IfOk result (λ buffer. buffer ≡ []) }
     {
         let alloc = self.alloc;
-        let mut local = self.table.local(rt)?;
-        match local.get_or(|| Cell::new(Vec::new(alloc))) {
-            Ok(cell) => {
-                let mut bytes = cell.replace(Vec::new(alloc));
-                bytes.clear();
-                Ok(Buffer { local, bytes })
-            }
-            Err(error) => Err(LocalError::Memory(error)),
-        }
+        let (local, mut bytes) = self.get(rt, || Vec::new(alloc))?.into_parts();
+        bytes.clear();
+        Ok(Buffer { local, bytes })
     }
 }
 
-/// A buffer of a pool. Dropping it empties it, puts it back with its room, and gives its id back,
-/// which may wait. A forgotten one keeps its id and its bytes. No other call waits or takes memory.
-/// Contracts see the bytes.
+/// A value of a pool, reached by `*`. Dropping it puts the value back as it is then, and gives its
+/// id back, which may wait. A forgotten one keeps its id and its value. No other call waits or takes
+/// memory. The value is moved out of the pool and back: put a large one into a `Box`.
+///
+/// Contracts see the value, and whether it is new.
+pub struct Pooled<'a, T, R: Wait> {
+    local: Local<'a, Cell<Option<T>>, R>,
+    value: T,
+    is_new: bool,
+}
+
+impl<'a, T, R: Wait> Model for Pooled<'a, T, R> {
+    ghost use Rattle.thread_local.specs.Pooled.{PooledView, pooled_view_coded};
+
+    ghost Value = { PooledView T };
+
+    ghost coded = { pooled_view_coded T.code };
+
+    ghost view = { λ pooled. record { value = pooled.value; is_new = pooled.is_new } };
+}
+
+impl<'a, T, R: Wait> Pooled<'a, T, R> {
+    /// Whether `get` called its closure, and no earlier holder had the value.
+    pub fn is_new(&self) -> bool
+        ensures { result ≡ self.now.is_new }
+    {
+        self.is_new
+    }
+
+    /// The `Local` whose cell the value came from, and the value.
+    fn into_parts(self) -> (Local<'a, Cell<Option<T>>, R>, T)
+        ensures { result.1 ≡ self.entry.value }
+    {
+        let Self {
+            local,
+            value,
+            is_new: _,
+        } = self;
+        (local, value)
+    }
+}
+
+impl<'a, T: Drop, R: Wait> Drop for Pooled<'a, T, R> {
+    fn drop(self) {
+        let Self {
+            local,
+            value,
+            is_new: _,
+        } = self;
+        put_back(local, value);
+    }
+}
+
+/// A buffer of a pool. Dropping it puts it back with its room, and gives its id back, which may
+/// wait. A forgotten one keeps its id and its bytes. No other call waits or takes memory. Contracts
+/// see the bytes.
 pub struct Buffer<'a, R: Wait> {
-    local: Local<'a, Cell<Vec<u8>>, R>,
+    local: Local<'a, Cell<Option<Vec<u8>>>, R>,
     bytes: Vec<u8>,
 }
 
@@ -77,10 +156,14 @@ impl<'a, R: Wait> Buffer<'a, R> {
 
 impl<'a, R: Wait> Drop for Buffer<'a, R> {
     fn drop(self) {
-        let Self { local, mut bytes } = self;
-        bytes.clear();
-        if let Some(cell) = local.get() {
-            cell.set(bytes);
-        }
+        let Self { local, bytes } = self;
+        put_back(local, bytes);
+    }
+}
+
+/// Leaves a value in its cell, where the next holder of the id finds it, and gives the id back.
+fn put_back<T: Drop, R: Wait>(local: Local<'_, Cell<Option<T>>, R>, value: T) {
+    if let Some(cell) = local.get() {
+        cell.set(Some(value));
     }
 }
