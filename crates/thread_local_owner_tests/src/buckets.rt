@@ -8,7 +8,9 @@ use thread_local_buckets::Buckets;
 use thread_local_thread_id::Thread;
 
 mod callers;
+mod drains;
 mod drops;
+mod entries;
 mod places;
 mod walks;
 

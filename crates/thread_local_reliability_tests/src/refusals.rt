@@ -8,7 +8,7 @@ use std::io::Print;
 use std::sync::Wait;
 use std::test::Fail;
 use thread_local_buckets::{Buckets, CapacityError};
-use thread_local_table::{Local, ThreadLocal, TryError};
+use thread_local_table::{Local, SetError, ThreadLocal, TryError};
 use thread_local_thread_id::{LocalError, Thread};
 
 /// A call that publishes a value.
@@ -17,6 +17,7 @@ enum Publishing {
     GetOr,
     GetOrTry,
     GetOrDefault,
+    Set,
 }
 
 impl Publishing {
@@ -26,6 +27,7 @@ impl Publishing {
             Publishing::GetOr => "get_or",
             Publishing::GetOrTry => "get_or_try",
             Publishing::GetOrDefault => "get_or_default",
+            Publishing::Set => "set",
         }
     }
 
@@ -49,6 +51,11 @@ impl Publishing {
                 Err(TryError::Create(())) => Ok(0),
             },
             Publishing::GetOrDefault => Ok(*local.get_or_default()?),
+            Publishing::Set => match local.set(number) {
+                Ok(()) => Ok(local.get().copied().unwrap_or(0)),
+                Err(SetError::Memory(back)) if back == number => Err(AllocError),
+                Err(_) => Ok(0),
+            },
         }
     }
 
@@ -84,10 +91,10 @@ impl Publishing {
 
     /// What is published in the place of a number, and how often a closure is called for it.
     fn wanted(self, number: u32) -> (u32, u32) {
-        if self == Publishing::GetOrDefault {
-            (0, 0)
-        } else {
-            (number, 1)
+        match self {
+            Publishing::GetOr | Publishing::GetOrTry => (number, 1),
+            Publishing::GetOrDefault => (0, 0),
+            Publishing::Set => (number, 0),
         }
     }
 
@@ -155,6 +162,7 @@ fn a_call_that_was_refused_succeeds_when_it_is_made_again(rt: HostRuntime) -> Re
         Publishing::GetOr,
         Publishing::GetOrTry,
         Publishing::GetOrDefault,
+        Publishing::Set,
     ] {
         let table = ThreadLocal::<u32>::new(rt.alloc());
         let as_promised = call.by_three(&table, &rt) == Ok(true);
@@ -166,6 +174,30 @@ fn a_call_that_was_refused_succeeds_when_it_is_made_again(rt: HostRuntime) -> Re
             (true, [wanted[0], wanted[1], wanted[2], None])
         );
     }
+    Ok(())
+}
+
+/// What is drained of a table, of the first four values.
+fn drained(table: &mut ThreadLocal<u32>) -> [Option<u32>; 4] {
+    let mut values = table.drain();
+    [values.next(), values.next(), values.next(), values.next()]
+}
+
+#[test]
+fn a_round_after_a_drain_is_refused_nothing(rt: HostRuntime) -> Result<(), Fail> {
+    let mut table = ThreadLocal::<u32>::new(rt.alloc());
+    let first = Publishing::GetOr.by_three(&table, &rt) == Ok(true);
+    let numbers = drained(&mut table);
+    let second = Publishing::Set.by_three(&table, &rt) == Ok(true);
+    let again = drained(&mut table);
+    assert_eq!(rt; (first, second), (true, true));
+    assert_eq!(rt;
+        (numbers, again),
+        (
+            [Some(6), Some(7), Some(8), None],
+            [Some(6), Some(7), Some(8), None]
+        )
+    );
     Ok(())
 }
 

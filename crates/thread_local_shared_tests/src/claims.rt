@@ -25,7 +25,7 @@ fn a_forgotten_claim_costs_its_own_slot(rt: HostRuntime) -> Result<(), Fail> {
     let mut ids = Ids::new(rt.alloc());
     let mut buckets = Buckets::new(rt.alloc());
     assert!(rt; buckets.insert(Thread::new(0), 5u32).is_ok());
-    let shared = Shared::new(buckets, ids.rights());
+    let shared = Shared::new(buckets, &ids.own_right());
     let first = ids.take()?;
     let second = ids.take()?;
     let third = ids.take()?;
@@ -52,7 +52,7 @@ fn a_forgotten_claim_costs_its_own_slot(rt: HostRuntime) -> Result<(), Fail> {
 fn a_claim_goes_to_another_thread(rt: HostRuntime) -> Result<(), Fail> {
     let mut ids = Ids::new(rt.alloc());
     Cell::<u64>::judge();
-    let shared = Shared::new(Buckets::with_capacity(rt.alloc(), 1)?, ids.rights());
+    let shared = Shared::new(Buckets::with_capacity(rt.alloc(), 1)?, &ids.own_right());
     let claimed = Kept {
         claim: shared.claim(ids.take()?),
     };
@@ -73,7 +73,7 @@ fn threads_share_a_claim(rt: HostRuntime) -> Result<(), Fail> {
     let mut ids = Ids::new(rt.alloc());
     let mut buckets = Buckets::new(rt.alloc());
     assert!(rt; buckets.insert(Thread::new(0), 5u32).is_ok());
-    let shared = Shared::new(buckets, ids.rights());
+    let shared = Shared::new(buckets, &ids.own_right());
     let claim = shared.claim(ids.take()?);
     let both = thread::join(&rt, || found(&claim), || found(&claim));
     assert_eq!(rt; both, (Some(5), Some(5)));
@@ -84,7 +84,7 @@ fn threads_share_a_claim(rt: HostRuntime) -> Result<(), Fail> {
 #[test]
 fn reserved_buckets_stand(rt: HostRuntime) -> Result<(), Fail> {
     let mut ids = Ids::new(rt.alloc());
-    let shared = Shared::new(Buckets::with_capacity(rt.alloc(), 4)?, ids.rights());
+    let shared = Shared::new(Buckets::with_capacity(rt.alloc(), 4)?, &ids.own_right());
     let stand = [
         shared.load(0).is_some(),
         shared.load(2).is_some(),

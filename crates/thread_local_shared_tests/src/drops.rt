@@ -19,14 +19,14 @@ use thread_local_thread_id::Thread;
 #[test]
 fn each_value_is_dropped_once(rt: HostRuntime) -> Result<(), Fail> {
     let drops = Arc::new(rt.alloc(), AtomicU64::new(0))?;
-    let rights = Rights::new();
+    let mut rights = Rights::new();
     let mut buckets = Buckets::new(rt.alloc());
     for id in 0..100 {
         let value = Counted::new(&drops)?;
         assert!(rt; buckets.insert(Thread::new(id), value).is_ok());
     }
     judge_sync::<Counted>();
-    let shared = Shared::new(buckets, &rights);
+    let shared = Shared::new(buckets, &rights.take(0));
     let before = drops.load(SeqCst);
     drop(shared);
     assert_eq!(rt; (before, drops.load(SeqCst)), (0, 100));
@@ -68,9 +68,9 @@ fn publish_counted<R: Wait>(
 #[test]
 fn each_published_value_is_dropped_once(rt: HostRuntime) -> Result<(), Fail> {
     let drops = Arc::new(rt.alloc(), AtomicU64::new(0))?;
-    let ids = Ids::new(rt.alloc());
+    let mut ids = Ids::new(rt.alloc());
     judge_sync::<Counted>();
-    let shared = Shared::new(Buckets::new(rt.alloc()), ids.rights());
+    let shared = Shared::new(Buckets::new(rt.alloc()), &ids.own_right());
     let ids = Lock::new(ids);
     let published = publish_counted(&shared, &ids, &rt, rt.alloc(), &drops, 100);
     let given_way = drops.load(SeqCst);

@@ -53,7 +53,7 @@ fn look_while_claimed<R: Threads>(
 fn a_number_is_handed_on_from_thread_to_thread(rt: HostRuntime) -> Result<(), Fail> {
     let mut ids = Ids::new(rt.alloc());
     Cell::<u64>::judge();
-    let shared = Shared::new(Buckets::new(rt.alloc()), ids.rights());
+    let shared = Shared::new(Buckets::new(rt.alloc()), &ids.own_right());
     let held = ids.take()?;
     let alloc = rt.alloc();
     let there = &shared;
@@ -74,7 +74,7 @@ fn a_walker_sees_a_value_that_is_claimed(rt: HostRuntime) -> Result<(), Fail> {
     let mut ids = Ids::new(rt.alloc());
     let mut buckets = Buckets::new(rt.alloc());
     assert!(rt; buckets.insert(Thread::new(0), 9).is_ok());
-    let mut shared = Shared::new(buckets, ids.rights());
+    let mut shared = Shared::new(buckets, &ids.own_right());
     let held = ids.take()?;
     let (own, seen) = look_while_claimed(&rt, &shared, held);
     assert_eq!(rt; [own, seen, look(&shared, 1)], [Some(9), Some(9), None]);
@@ -90,7 +90,7 @@ fn comes_back<T: Send + Drop>(alloc: Global, value: T) -> bool
     requires judged { Judged T.row }
 {
     let mut ids = Ids::new(alloc);
-    let shared = Shared::new(Buckets::new(alloc), ids.rights());
+    let shared = Shared::new(Buckets::new(alloc), &ids.own_right());
     let Ok(held) = ids.take() else {
         return false;
     };

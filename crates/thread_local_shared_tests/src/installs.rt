@@ -98,10 +98,10 @@ fn offer_by_all<R: Wait>(
 #[test]
 fn blocks_that_come_second_are_freed(rt: HostRuntime) -> Result<(), Fail> {
     let mut ids = Ids::new(rt.alloc());
+    let shared = Shared::new(Buckets::new(rt.alloc()), &ids.own_right());
     for _ in 0..1_048_575 {
         let _held = ids.take()?;
     }
-    let shared = Shared::new(Buckets::new(rt.alloc()), ids.rights());
     let ids = Lock::new(ids);
     let alloc = rt.alloc();
     let taken = take_all_but(alloc, 1 << 30)?;
@@ -116,7 +116,7 @@ fn blocks_that_come_second_are_freed(rt: HostRuntime) -> Result<(), Fail> {
 #[test]
 fn the_second_of_two_blocks_gives_way(rt: HostRuntime) -> Result<(), Fail> {
     let mut ids = Ids::new(rt.alloc());
-    let shared = Shared::new(Buckets::new(rt.alloc()), ids.rights());
+    let shared = Shared::new(Buckets::new(rt.alloc()), &ids.own_right());
     let _first = ids.take()?;
     let second = claim_early(&shared, ids.take()?);
     let third = claim_early(&shared, ids.take()?);
@@ -160,7 +160,7 @@ fn publish_late(early: Kept<'_, u32>, value: u32) -> bool {
 #[test]
 fn an_early_claim_finds_its_bucket_later(rt: HostRuntime) -> Result<(), Fail> {
     let mut ids = Ids::new(rt.alloc());
-    let shared = Shared::new(Buckets::new(rt.alloc()), ids.rights());
+    let shared = Shared::new(Buckets::new(rt.alloc()), &ids.own_right());
     let _first = ids.take()?;
     let second = claim_early(&shared, ids.take()?);
     let third = claim_early(&shared, ids.take()?);

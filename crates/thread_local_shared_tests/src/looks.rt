@@ -15,7 +15,7 @@ fn seen(shared: &Shared<u32>) -> [Option<u32>; 3] {
 
 #[test]
 fn a_look_finds_what_was_put_into_its_slot(rt: HostRuntime) -> Result<(), Fail> {
-    let ids = Ids::new(rt.alloc());
+    let mut ids = Ids::new(rt.alloc());
     let mut buckets = Buckets::new(rt.alloc());
     let inserted = [
         buckets.insert(Thread::new(0), 5).is_ok(),
@@ -23,7 +23,7 @@ fn a_look_finds_what_was_put_into_its_slot(rt: HostRuntime) -> Result<(), Fail> 
         buckets.insert(Thread::new(1234), 7).is_ok(),
     ];
     assert_eq!(rt; inserted, [true; 3]);
-    let mut shared = Shared::new(buckets, ids.rights());
+    let mut shared = Shared::new(buckets, &ids.own_right());
     let before = seen(&shared);
     let slots = shared.owner().slots();
     let values = [Some(5), Some(6), Some(7)];

@@ -23,8 +23,8 @@ struct Racing {
 impl Racing {
     /// Empty buckets, and no id held.
     fn new(alloc: Global) -> Racing {
-        let ids = Ids::new(alloc);
-        let shared = Shared::new(Buckets::new(alloc), ids.rights());
+        let mut ids = Ids::new(alloc);
+        let shared = Shared::new(Buckets::new(alloc), &ids.own_right());
         let ids = Lock::new(ids);
         Racing { shared, ids }
     }

@@ -7,7 +7,7 @@ use std::test::Fail;
 use thread_local_table::ThreadLocal;
 
 /// What the slot of a `Local` holds that publishes a number and is forgotten.
-fn publish_and_forget<R: Wait>(table: &ThreadLocal<u32>, rt: &R, number: u32) -> Option<u32> {
+pub fn publish_and_forget<R: Wait>(table: &ThreadLocal<u32>, rt: &R, number: u32) -> Option<u32> {
     let mut local = table.local(rt).ok()?;
     let held = published(&mut local, number);
     forget(local);

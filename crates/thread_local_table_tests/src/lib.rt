@@ -14,9 +14,13 @@ mod held;
 #[cfg(test)]
 mod ids;
 #[cfg(test)]
+mod judged;
+#[cfg(test)]
 mod locals;
 #[cfg(test)]
 mod owners;
+#[cfg(test)]
+mod published;
 #[cfg(test)]
 mod refused;
 #[cfg(test)]

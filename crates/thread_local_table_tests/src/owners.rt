@@ -1,9 +1,10 @@
 //! What an owner finds in the buckets that a table lends.
-ghost use Rattle.std.specs.Prelude.{◌≡◌, length, sum};
+ghost use Rattle.std.specs.Prelude.{◌≡◌, true, length, sum};
 ghost use Rattle.thread_local_model.specs.Buckets.{values};
 ghost use Rattle.thread_local_model.specs.Walk.{walk};
 ghost use Rattle.thread_local_buckets.specs.IterMut.{iter_mut_rest};
 
+use crate::forgotten::publish_and_forget;
 use crate::locals::{lends, published_by_another};
 use std::alloc::AllocError;
 use std::test::Fail;
@@ -38,14 +39,14 @@ fn counted(buckets: &mut Buckets<u32>) -> (usize, u128)
 
 /// The same of the buckets that a table lends: it keeps its name and its reserved slots.
 fn counted_in_a_table(table: &mut ThreadLocal<u32>) -> (usize, u128)
-    ensures { table.new ≡ table.old }
+    ensures { (table.new.table ≡ table.old.table) × (table.new.reserved ≡ table.old.reserved) }
 {
     counted(table.buckets_mut())
 }
 
 /// How many values of any type a table's buckets have.
 fn counted_of_any_type<T>(table: &mut ThreadLocal<T>) -> usize
-    ensures { table.new ≡ table.old }
+    ensures { (table.new.table ≡ table.old.table) × (table.new.reserved ≡ table.old.reserved) }
 {
     table.buckets_mut().iter_mut().len()
 }
@@ -72,5 +73,97 @@ fn an_owner_finds_and_puts_values_in_a_table(rt: HostRuntime) -> Result<(), Fail
         (Some([None, Some(7), Some(7)]), ((2, 37), 2))
     );
     assert!(rt; lends(&mut table, &[7, 30]));
+    Ok(())
+}
+
+/// The ids and numbers of two values, as an owner's walk lends them.
+fn first_two(table: &mut ThreadLocal<u32>) -> [Option<(usize, u32)>; 2] {
+    let mut entries = table.entries_mut();
+    let first = entries.next().map(|(id, number)| (id, *number));
+    [first, entries.next().map(|(id, number)| (id, *number))]
+}
+
+/// The id of the first value of any type.
+fn first_id<T: Drop>(table: ThreadLocal<T>) -> Option<usize> {
+    table.into_entries().next().map(|(id, _)| id)
+}
+
+/// Takes all values of any type out of a table, which keeps its name, and answers whether there
+/// were any.
+fn drained<T: Drop>(table: &mut ThreadLocal<T>) -> bool
+    ensures { table.new.table ≡ table.old.table }
+{
+    let mut any = false;
+    for value in table.drain() {
+        drop(value);
+        any = true;
+    }
+    any
+}
+
+/// Drops all values of any type, and keeps the reserved slots.
+fn drop_each<T: Drop>(buckets: &mut Buckets<T>)
+    ensures { buckets.new.reserved ≡ buckets.old.reserved }
+{
+    for value in buckets.drain() {
+        drop(value);
+    }
+}
+
+/// The same of the buckets that a table lends: it keeps its name and its reserved slots.
+fn drop_each_in_a_table<T: Drop>(table: &mut ThreadLocal<T>)
+    ensures { (table.new.table ≡ table.old.table) × (table.new.reserved ≡ table.old.reserved) }
+{
+    drop_each(table.buckets_mut());
+}
+
+#[test]
+fn an_owner_finds_ids_and_drains_a_table(rt: HostRuntime) -> Result<(), Fail> {
+    let mut table = ThreadLocal::<u32>::new(rt.alloc());
+    let forgotten = publish_and_forget(&table, &rt, 7);
+    put(&mut table, 30)?;
+    assert_eq!(rt;
+        (forgotten, first_two(&mut table)),
+        (Some(7), [Some((0, 7)), Some((2, 30))])
+    );
+    let taken = (drained(&mut table), drained(&mut table), table.slots());
+    drop_each_in_a_table(&mut table);
+    let next = published_by_another(&table, &rt, 8);
+    assert_eq!(rt;
+        (taken, next, first_id(table)),
+        (
+            (true, false, 1 + 2),
+            Some([None, Some(8), Some(8)]),
+            Some(1)
+        )
+    );
+    Ok(())
+}
+
+/// Writes the value at an id, and answers what stood there.
+fn write_at<T>(table: &mut ThreadLocal<T>, id: usize, value: T) -> Result<T, T> {
+    match table.get_mut(id) {
+        Some(there) => Ok(std::mem::replace(there, value)),
+        None => Err(value),
+    }
+}
+
+/// No id past the last has a value.
+fn past_the_last(table: &mut ThreadLocal<u32>) -> bool
+    ensures { result ≡ true }
+{
+    table.get_mut(9223372036854775807).is_none()
+}
+
+#[test]
+fn an_owner_reaches_a_value_by_its_id(rt: HostRuntime) -> Result<(), Fail> {
+    let mut table = ThreadLocal::<u32>::new(rt.alloc());
+    put(&mut table, 30)?;
+    let written = [2, 0, 3, 9223372036854775806].map(|id| write_at(&mut table, id, 40));
+    let again = write_at(&mut table, 2, 50);
+    assert_eq!(rt;
+        (written, again, past_the_last(&mut table)),
+        ([Ok(30), Err(40), Err(40), Err(40)], Ok(40), true)
+    );
     Ok(())
 }

@@ -3,9 +3,15 @@
 
 #[cfg(test)]
 mod cached;
+#[cfg(test)]
+mod errors;
 pub mod examples;
 #[cfg(test)]
 mod moves;
+#[cfg(test)]
+mod padded;
+#[cfg(test)]
+mod pool;
 #[cfg(test)]
 mod run;
 #[cfg(test)]

@@ -36,7 +36,7 @@ fn has_room<R: Wait>(buffer: &Buffer<'_, R>) -> bool {
 
 /// Takes buffers one after another, as many as are asked for, and puts ten bytes into each. Answers
 /// whether each was empty.
-fn take_in_turn<R: Wait>(pool: &Pool, rt: &R, count: usize) -> Result<bool, LocalError> {
+fn take_in_turn<R: Wait>(pool: &Pool<Vec<u8>>, rt: &R, count: usize) -> Result<bool, LocalError> {
     for _ in 0..count {
         let buffer = pool.buffer(rt)?;
         if !fill(buffer, 10).map_err(LocalError::Memory)? {
@@ -47,7 +47,7 @@ fn take_in_turn<R: Wait>(pool: &Pool, rt: &R, count: usize) -> Result<bool, Loca
 }
 
 /// Two threads take a hundred buffers each.
-fn two_threads<R: Wait + Threads + Sync>(pool: &Pool, rt: &R) -> bool {
+fn two_threads<R: Wait + Threads + Sync>(pool: &Pool<Vec<u8>>, rt: &R) -> bool {
     let taken = thread::join(
         rt,
         || take_in_turn(pool, rt, 100),
@@ -57,19 +57,19 @@ fn two_threads<R: Wait + Threads + Sync>(pool: &Pool, rt: &R) -> bool {
 }
 
 /// Four threads take a hundred buffers each.
-fn four_threads<R: Wait + Threads + Sync>(pool: &Pool, rt: &R) -> bool {
+fn four_threads<R: Wait + Threads + Sync>(pool: &Pool<Vec<u8>>, rt: &R) -> bool {
     let taken = thread::join(rt, || two_threads(pool, rt), || two_threads(pool, rt));
     taken.0 && taken.1
 }
 
 /// Whether a new buffer is empty, and has room for 1000 bytes.
-fn another_has_room<R: Wait>(pool: &Pool, rt: &R) -> Option<bool> {
+fn another_has_room<R: Wait>(pool: &Pool<Vec<u8>>, rt: &R) -> Option<bool> {
     let buffer = pool.buffer(rt).ok()?;
     Some(has_room(&buffer))
 }
 
 /// How many bytes a new buffer holds, and for how many it has room.
-fn measure_another<R: Wait>(pool: &Pool, rt: &R) -> Option<(usize, usize)> {
+fn measure_another<R: Wait>(pool: &Pool<Vec<u8>>, rt: &R) -> Option<(usize, usize)> {
     let buffer = pool.buffer(rt).ok()?;
     let bytes = buffer.bytes();
     Some((bytes.len(), bytes.capacity()))
@@ -87,7 +87,11 @@ fn a_buffer_keeps_its_room(rt: HostRuntime) -> Result<(), Fail> {
 }
 
 /// Four buffers that are held at once.
-fn take_four<'a, R: Wait>(pool: &'a Pool, rt: &'a R, alloc: Global) -> Option<Vec<Buffer<'a, R>>> {
+fn take_four<'a, R: Wait>(
+    pool: &'a Pool<Vec<u8>>,
+    rt: &'a R,
+    alloc: Global,
+) -> Option<Vec<Buffer<'a, R>>> {
     let mut buffers = Vec::new(alloc);
     for _ in 0..4 {
         let buffer = pool.buffer(rt).ok()?;
@@ -98,7 +102,7 @@ fn take_four<'a, R: Wait>(pool: &'a Pool, rt: &'a R, alloc: Global) -> Option<Ve
 
 /// Puts 1000 bytes into each of four buffers that are held at once, and lets them go. Answers how
 /// many were empty.
-fn fill_four<R: Wait>(pool: &Pool, rt: &R, alloc: Global) -> Option<usize> {
+fn fill_four<R: Wait>(pool: &Pool<Vec<u8>>, rt: &R, alloc: Global) -> Option<usize> {
     let buffers = take_four(pool, rt, alloc)?;
     let mut empty = 0usize;
     for buffer in buffers {
@@ -112,7 +116,7 @@ fn fill_four<R: Wait>(pool: &Pool, rt: &R, alloc: Global) -> Option<usize> {
 /// Whether each of four buffers that are held at once is empty and has room for 1000 bytes, and
 /// what a fifth has.
 fn measure_four_and_a_fifth<R: Wait>(
-    pool: &Pool,
+    pool: &Pool<Vec<u8>>,
     rt: &R,
     alloc: Global,
 ) -> Option<(bool, Option<(usize, usize)>)> {
@@ -133,7 +137,7 @@ fn four_buffers_keep_their_room_and_a_fifth_has_none(rt: HostRuntime) -> Result<
 }
 
 /// Puts 1000 bytes into a new buffer, and forgets it. Answers how many it held.
-fn fill_and_forget<R: Wait>(pool: &Pool, rt: &R) -> Option<usize> {
+fn fill_and_forget<R: Wait>(pool: &Pool<Vec<u8>>, rt: &R) -> Option<usize> {
     let mut buffer = pool.buffer(rt).ok()?;
     for _ in 0..1000 {
         buffer.bytes_mut().push(7).ok()?;
@@ -167,7 +171,7 @@ fn eight_threads_get_empty_buffers(rt: HostRuntime) -> Result<(), Fail> {
 }
 
 /// What is told when 5 is written to a new buffer, and whether it stands there.
-fn write_five<R: Wait>(pool: &Pool, rt: &R) -> Option<(usize, bool)> {
+fn write_five<R: Wait>(pool: &Pool<Vec<u8>>, rt: &R) -> Option<(usize, bool)> {
     let mut buffer = pool.buffer(rt).ok()?;
     let count = one_byte(&mut buffer, 5).ok()?;
     Some((count, buffer.bytes().as_slice() == [5].as_slice()))
@@ -181,7 +185,7 @@ fn what_is_written_stands(rt: HostRuntime) -> Result<(), Fail> {
 }
 
 /// A buffer, asked for once more where memory was refused.
-fn had<'a, R: Wait + Print>(pool: &'a Pool, rt: &'a R) -> Option<Buffer<'a, R>> {
+fn had<'a, R: Wait + Print>(pool: &'a Pool<Vec<u8>>, rt: &'a R) -> Option<Buffer<'a, R>> {
     match pool.buffer(rt) {
         Ok(buffer) => Some(buffer),
         Err(LocalError::Memory(_)) => {
@@ -193,7 +197,7 @@ fn had<'a, R: Wait + Print>(pool: &'a Pool, rt: &'a R) -> Option<Buffer<'a, R>> 
 }
 
 /// How many bytes two buffers have that are held at once.
-fn lengths_of_two<R: Wait + Print>(pool: &Pool, rt: &R) -> Option<[usize; 2]> {
+fn lengths_of_two<R: Wait + Print>(pool: &Pool<Vec<u8>>, rt: &R) -> Option<[usize; 2]> {
     let first = had(pool, rt)?;
     let second = had(pool, rt)?;
     Some([first.bytes().len(), second.bytes().len()])

@@ -5,7 +5,7 @@ use std::alloc::Global;
 use std::sync::Wait;
 use std::test::Fail;
 use thread_local_buckets::{IntoIter, IterMut};
-use thread_local_shared_walk::Iter;
+use thread_local_shared_walk::{Entries, Iter};
 use thread_local_table::ThreadLocal;
 
 /// Whether a walk is shown so.
@@ -43,10 +43,21 @@ fn second_shows<R: Wait>(table: &ThreadLocal<u32>, rt: &R, alloc: Global) -> Opt
     ])
 }
 
+/// Whether a walk with ids is shown so.
+fn is_shown_with_ids(walk: &Entries<'_, u32>, alloc: Global, shown: &str) -> bool {
+    match format!(in alloc; "{walk:?}") {
+        Ok(text) => text.as_str() == shown,
+        Err(_) => false,
+    }
+}
+
 #[test]
 fn a_shared_walk_prints_its_cursor(rt: HostRuntime) -> Result<(), Fail> {
     let table = ThreadLocal::<u32>::new(rt.alloc());
     assert_eq!(rt; second_shows(&table, &rt, rt.alloc()), Some([true; 3]));
+    let fresh =
+        "Entries { walk: Iter { raw: RawIter { yielded: 0, bucket: 0, bucket_size: 1, index: 0 } } }";
+    assert!(rt; is_shown_with_ids(&table.entries(), rt.alloc(), fresh));
     Ok(())
 }
 

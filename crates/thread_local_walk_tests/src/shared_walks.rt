@@ -3,7 +3,7 @@
 use crate::locals::publishes;
 use std::sync::Wait;
 use std::test::Fail;
-use thread_local_shared_walk::Iter;
+use thread_local_shared_walk::{Entries, Iter};
 use thread_local_table::{Local, ThreadLocal};
 
 /// Whether a walk gives these values and then none, and again none.
@@ -118,6 +118,47 @@ fn the_walk_of_a_local_gives_its_own_value_among_the_others(rt: HostRuntime) -> 
         three_walk(&table, &rt),
         Some((true, true, [true; 3], Some(3)))
     );
+    Ok(())
+}
+
+/// Whether a walk gives these values with their ids and then none, and again none.
+fn gives_entries<T: Sync + PartialEq>(walk: Entries<'_, T>, expected: &[(usize, T)]) -> bool {
+    let mut walk = walk;
+    for (id, value) in expected {
+        if walk.size_hint() != (0, None) || walk.next() != Some((*id, value)) {
+            return false;
+        }
+    }
+    walk.next().is_none() && walk.next().is_none()
+}
+
+/// Three `Local`s publish 1 to 3, the second last. Answers whether the walks of the table and of
+/// the second give ids 0 and 2, then all three, and a walk that goes on with ids the rest.
+fn three_entries<R: Wait>(table: &ThreadLocal<u32>, rt: &R) -> Option<[bool; 6]> {
+    let mut first = table.local(rt).ok()?;
+    let mut second = table.local(rt).ok()?;
+    let mut third = table.local(rt).ok()?;
+    let apart = publishes(&mut third, 3) && publishes(&mut first, 1);
+    let two = gives_entries(table.entries(), &[(0, 1), (2, 3)]);
+    let filled = publishes(&mut second, 2);
+    let mut rest = table.iter();
+    let begun = goes_on(&mut rest, 1);
+    Some([
+        apart,
+        two,
+        filled,
+        gives_entries(table.entries(), &[(0, 1), (1, 2), (2, 3)])
+            && gives_entries(second.iter().with_ids(), &[(0, 1), (1, 2), (2, 3)]),
+        begun,
+        gives_entries(rest.with_ids(), &[(1, 2), (2, 3)]),
+    ])
+}
+
+#[test]
+fn values_come_with_the_ids_of_their_slots(rt: HostRuntime) -> Result<(), Fail> {
+    let table = ThreadLocal::<u32>::new(rt.alloc());
+    assert!(rt; gives_entries(table.entries(), &[]));
+    assert_eq!(rt; three_entries(&table, &rt), Some([true; 6]));
     Ok(())
 }
 

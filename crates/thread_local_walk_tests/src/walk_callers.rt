@@ -4,7 +4,7 @@ ghost use Rattle.std.specs.Prelude.{◌≡◌, true, Some};
 use std::sync::Wait;
 use thread_local_buckets::{IntoIter, IterMut};
 use thread_local_judged::judge_sync;
-use thread_local_shared_walk::Iter;
+use thread_local_shared_walk::{Entries, Iter};
 use thread_local_table::{Local, ThreadLocal};
 
 fn is_sent<X: Send>(_: &X) {}
@@ -16,6 +16,20 @@ fn finds_own<R: Wait>(local: &Local<'_, u32, R>, number: u32) -> bool
 {
     for value in local.iter() {
         if *value == number {
+            return true;
+        }
+    }
+    false
+}
+
+/// And so with its id.
+fn finds_own_entry<R: Wait>(local: &Local<'_, u32, R>, number: u32) -> bool
+    requires { local.now.value ≡ Some number }
+    ensures { result ≡ true }
+{
+    let own = local.id();
+    for (id, value) in local.iter().with_ids() {
+        if id == own && *value == number {
             return true;
         }
     }
@@ -53,6 +67,14 @@ fn texts_by_iter(table: &ThreadLocal<String>) -> usize {
 fn counted<T: Send + Sync>(table: &ThreadLocal<T>) -> usize {
     let mut count = 0usize;
     for _ in table {
+        count = count.wrapping_add(1);
+    }
+    count
+}
+
+fn counted_by_entries<T: Send + Sync>(table: &ThreadLocal<T>) -> usize {
+    let mut count = 0usize;
+    for (_, _) in table.entries() {
         count = count.wrapping_add(1);
     }
     count
@@ -104,6 +126,10 @@ fn readings_of_a_local<R: Wait>(local: &Local<'_, Reading<'_>, R>) -> u64 {
 }
 
 fn shared_walk<T: Send + Sync>(walk: &Iter<'_, T>) {
+    is_sent(walk);
+}
+
+fn shared_entries<T: Send + Sync>(walk: &Entries<'_, T>) {
     is_sent(walk);
 }
 

@@ -1,7 +1,8 @@
 //! Callers whose own contracts follow from those of the calls.
-ghost use Rattle.std.specs.Prelude.{◌≡◌, ℕ, IfOk, IsSome, is_some};
-ghost use Rattle.thread_local_model.specs.Buckets.{values};
+ghost use Rattle.std.specs.Prelude.{◌≡◌, ℕ, None, IfOk, IsSome, is_some, sum};
+ghost use Rattle.thread_local_model.specs.Buckets.{stands, values};
 ghost use Rattle.thread_local_model.specs.Rows.{value_in};
+ghost use Rattle.thread_local_model.specs.Walk.{walk};
 ghost use Rattle.thread_local_owner_walk.specs.Owner.{with_published};
 
 use std::alloc::{AllocError, Global};
@@ -63,6 +64,44 @@ fn write_first(buckets: &mut Buckets<u32>, value: u32)
     }
 }
 
+/// Drains a map, whose values are dropped one by one: none is left, and the same buckets stand.
+fn drop_each<T: Drop>(buckets: &mut Buckets<T>)
+    ensures empty { (id : ℕ) → values buckets.new.contents id ≡ None }
+    ensures stands { (bucket : ℕ) → stands buckets.new.contents bucket ≡ stands buckets.old.contents bucket }
+    ensures reserved { buckets.new.reserved ≡ buckets.old.reserved }
+{
+    for value in buckets.drain() {
+        drop(value);
+    }
+}
+
+/// Takes the value that a drain gives first: none is left.
+fn take_first<T: Drop>(buckets: &mut Buckets<T>) -> Option<T>
+    ensures empty { (id : ℕ) → values buckets.new.contents id ≡ None }
+    ensures reserved { buckets.new.reserved ≡ buckets.old.reserved }
+{
+    buckets.drain().next()
+}
+
+/// Drains a map at once.
+fn empty<T: Drop>(buckets: &mut Buckets<T>)
+    ensures empty { (id : ℕ) → values buckets.new.contents id ≡ None }
+{
+    drop(buckets.drain());
+}
+
+/// The sum of a map's values, which are taken out of it.
+fn drained_sum(buckets: &mut Buckets<u32>) -> u128
+    ensures sum { result ≡ sum (walk (values buckets.old.contents)) }
+    ensures empty { (id : ℕ) → values buckets.new.contents id ≡ None }
+{
+    let mut total = 0u128;
+    for value in buckets.drain() {
+        total += u128::from(value);
+    }
+    total
+}
+
 /// Whether a text comes back.
 fn text_comes_back(alloc: Global) -> Result<bool, AllocError> {
     match inserted_and_taken(alloc, String::from_str(alloc, "seven")?) {
@@ -102,6 +141,26 @@ fn values_of_any_type_come_back(rt: HostRuntime) -> Result<(), Fail> {
     let owned = (text_comes_back(alloc)?, box_comes_back(alloc)?);
     let others = (cell_comes_back(alloc), unit_comes_back(alloc));
     assert_eq!(rt; (owned, others), ((true, true), (true, true)));
+    Ok(())
+}
+
+/// Inserts the numbers 3 and 4.
+fn two(alloc: Global) -> Result<Buckets<u32>, u32> {
+    let mut buckets = Buckets::new(alloc);
+    buckets.insert(Thread::new(0), 3)?;
+    buckets.insert(Thread::new(70), 4)?;
+    Ok(buckets)
+}
+
+#[test]
+fn values_are_drained_at_any_type(rt: HostRuntime) -> Result<(), Fail> {
+    let mut buckets = two(rt.alloc())?;
+    let summed = (drained_sum(&mut buckets), drained_sum(&mut buckets));
+    let mut others = two(rt.alloc())?;
+    let taken = (take_first(&mut others), take_first(&mut others));
+    drop_each(&mut others);
+    empty(&mut others);
+    assert_eq!(rt; (summed, taken), ((7, 0), (Some(3), None)));
     Ok(())
 }
 

@@ -142,6 +142,65 @@ fn a_forgotten_walk_drops_nothing(rt: HostRuntime) -> Result<(), Fail> {
     Ok(())
 }
 
+/// The number of the value that a drain gives first, and how many drops there are when the drain is
+/// dropped and the value isn't.
+fn drained_after_one(buckets: &mut Buckets<Counted<'_>>, drops: &AtomicU64) -> (Option<u32>, u64) {
+    let first = buckets.drain().next();
+    let number = first.as_ref().map(|value| value.number);
+    (number, drops.load(SeqCst))
+}
+
+#[test]
+fn a_drain_drops_what_it_has_not_given(rt: HostRuntime) -> Result<(), Fail> {
+    let drops = AtomicU64::new(0);
+    let mut buckets = three(rt.alloc(), &drops)?;
+    let seen = drained_after_one(&mut buckets, &drops);
+    let given = drops.load(SeqCst);
+    drop(buckets);
+    assert_eq!(rt; (seen, given, drops.load(SeqCst)), ((Some(0), 2), 3, 3));
+    Ok(())
+}
+
+/// How many drops there are before each value of a drain is dropped, added up.
+fn drops_before_each(buckets: &mut Buckets<Counted<'_>>, drops: &AtomicU64) -> u64 {
+    let mut before = 0u64;
+    for value in buckets.drain() {
+        before = before.saturating_add(drops.load(SeqCst));
+        drop(value);
+    }
+    before
+}
+
+#[test]
+fn a_drain_gives_each_value_once(rt: HostRuntime) -> Result<(), Fail> {
+    let drops = AtomicU64::new(0);
+    let mut buckets = three(rt.alloc(), &drops)?;
+    let before = drops_before_each(&mut buckets, &drops);
+    let given = drops.load(SeqCst);
+    drop(buckets);
+    assert_eq!(rt; (before, given, drops.load(SeqCst)), (1 + 2, 3, 3));
+    Ok(())
+}
+
+/// How many drops there are when a drain is forgotten, and its first value isn't dropped.
+fn dropped_by_a_forgotten_drain(buckets: &mut Buckets<Counted<'_>>, drops: &AtomicU64) -> u64 {
+    let mut walk = buckets.drain();
+    let _first = walk.next();
+    forget(walk);
+    drops.load(SeqCst)
+}
+
+#[test]
+fn a_forgotten_drain_drops_nothing(rt: HostRuntime) -> Result<(), Fail> {
+    let drops = AtomicU64::new(0);
+    let mut buckets = three(rt.alloc(), &drops)?;
+    let forgotten = dropped_by_a_forgotten_drain(&mut buckets, &drops);
+    let given = drops.load(SeqCst);
+    drop(buckets);
+    assert_eq!(rt; (forgotten, given, drops.load(SeqCst)), (0, 1, 3));
+    Ok(())
+}
+
 /// A value without bytes. Each drop writes one byte to a file, since there is no room for a
 /// counter.
 struct Noted<R: Files + Drop> {

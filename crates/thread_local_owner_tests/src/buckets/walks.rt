@@ -9,7 +9,7 @@ use std::test::Fail;
 use thread_local_buckets::{Buckets, IntoIter};
 
 /// The values 1, 2, 3 at three ids.
-fn three(alloc: Global, ids: [u32; 3]) -> Result<Buckets<u32>, AllocError> {
+pub fn three(alloc: Global, ids: [u32; 3]) -> Result<Buckets<u32>, AllocError> {
     let mut buckets = Buckets::new(alloc);
     for (id, value) in ids.into_iter().zip([1, 2, 3]) {
         insert(&mut buckets, id, value)?;
@@ -18,7 +18,7 @@ fn three(alloc: Global, ids: [u32; 3]) -> Result<Buckets<u32>, AllocError> {
 }
 
 /// Whether so many values are still to come.
-fn has_left<W: ExactSizeIterator>(walk: &W, left: usize) -> bool {
+pub fn has_left<W: ExactSizeIterator>(walk: &W, left: usize) -> bool {
     walk.len() == left && walk.size_hint() == (left, Some(left))
 }
 
@@ -123,7 +123,7 @@ fn a_walk_that_stops_early_changes_nothing(rt: HostRuntime) -> Result<(), Fail> 
 }
 
 /// Whether a walk prints this text.
-fn prints<W: fmt::Debug>(alloc: Global, walk: &W, text: &str) -> Result<bool, AllocError> {
+pub fn prints<W: fmt::Debug>(alloc: Global, walk: &W, text: &str) -> Result<bool, AllocError> {
     Ok(format!(in alloc; "{walk:?}")?.as_str() == text)
 }
 

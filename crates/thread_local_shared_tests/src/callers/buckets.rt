@@ -1,72 +1,79 @@
 //! Buckets are shared at concrete types.
-ghost use Rattle.std.specs.Prelude.{◌≡◌, ◌^◌, ◌<◌};
+ghost use Rattle.std.specs.Prelude.{◌≡◌, ◌^◌, ◌<◌, ◌≤◌};
 ghost use Rattle.thread_local_judged.specs.Judged.{Judged};
 
 use std::cell::{Cell, RefCell};
 use thread_local_blocks::flag_word;
 use thread_local_buckets::Buckets;
 use thread_local_judged::{Judge, judge_sync};
-use thread_local_rights::Rights;
+use thread_local_rights::Right;
 use thread_local_shared_bucket::{Row, SharedBucket};
 use thread_local_shared_buckets::Shared;
 use thread_local_thread_id::bucket_size;
 
 fn crosses<X: Send + Sync>(_there: &X) {}
 
-fn number(buckets: Buckets<u32>, rights: &Rights) -> Shared<u32>
+fn number(buckets: Buckets<u32>, own: &Right) -> Shared<u32>
     ensures { result.reserved ≡ buckets.reserved }
 {
-    Shared::new(buckets, rights)
+    Shared::new(buckets, own)
 }
 
-fn boxed(buckets: Buckets<Box<u32>>, rights: &Rights) -> Shared<Box<u32>>
+fn boxed(buckets: Buckets<Box<u32>>, own: &Right) -> Shared<Box<u32>>
     ensures { result.reserved ≡ buckets.reserved }
 {
-    Shared::new(buckets, rights)
+    Shared::new(buckets, own)
 }
 
-fn text(buckets: Buckets<String>, rights: &Rights) -> Shared<String>
+fn text(buckets: Buckets<String>, own: &Right) -> Shared<String>
     ensures { result.reserved ≡ buckets.reserved }
 {
     judge_sync::<String>();
-    Shared::new(buckets, rights)
+    Shared::new(buckets, own)
 }
 
-fn cell(buckets: Buckets<Cell<u64>>, rights: &Rights) -> Shared<Cell<u64>>
+fn cell(buckets: Buckets<Cell<u64>>, own: &Right) -> Shared<Cell<u64>>
     ensures { result.reserved ≡ buckets.reserved }
 {
     Cell::<u64>::judge();
-    Shared::new(buckets, rights)
+    Shared::new(buckets, own)
 }
 
-fn ref_cell(buckets: Buckets<RefCell<String>>, rights: &Rights) -> Shared<RefCell<String>>
+fn ref_cell(buckets: Buckets<RefCell<String>>, own: &Right) -> Shared<RefCell<String>>
     ensures { result.reserved ≡ buckets.reserved }
 {
     RefCell::<String>::judge();
-    let shared = Shared::new(buckets, rights);
+    let shared = Shared::new(buckets, own);
     crosses(&shared);
     shared
 }
 
-fn generic<T>(buckets: Buckets<T>, rights: &Rights) -> Shared<T>
+fn generic<T>(buckets: Buckets<T>, own: &Right) -> Shared<T>
     requires judged { Judged T.row }
-    ensures { (result.table ≡ rights.now.table) × (result.reserved ≡ buckets.reserved) }
+    ensures { (result.table ≡ own.now.table) × (result.reserved ≡ buckets.reserved) }
 {
-    Shared::new(buckets, rights)
+    Shared::new(buckets, own)
 }
 
-fn sync<T: Send + Sync>(buckets: Buckets<T>, rights: &Rights) -> Shared<T>
+fn sync<T: Send + Sync>(buckets: Buckets<T>, own: &Right) -> Shared<T>
     ensures { result.reserved ≡ buckets.reserved }
 {
-    Shared::new(buckets, rights)
+    Shared::new(buckets, own)
 }
 
 fn cell_row(shared: &Shared<Cell<u64>>) -> Option<Row<'_, Cell<u64>>> {
     shared.load(3)
 }
 
-fn slots(shared: &mut Shared<RefCell<String>>) -> usize
-    ensures { shared.new ≡ shared.old }
+fn slots(shared: &Shared<RefCell<String>>) -> usize
+    ensures { shared.now.reserved ≤ result }
+{
+    shared.slots()
+}
+
+fn owner_slots(shared: &mut Shared<RefCell<String>>) -> usize
+    ensures slots { shared.old.reserved ≤ result }
+    ensures same { (shared.new.table ≡ shared.old.table) × (shared.new.reserved ≡ shared.old.reserved) }
 {
     shared.owner().slots()
 }
@@ -78,11 +85,11 @@ fn back(shared: Shared<RefCell<String>>) -> Buckets<RefCell<String>>
 }
 
 /// Buckets that are shared anew, by a caller that knows of the type what the buckets keep.
-fn anew<T>(shared: Shared<T>, rights: &Rights) -> Shared<T>
-    ensures { (result.table ≡ rights.now.table) × (result.reserved ≡ shared.reserved) }
+fn anew<T>(shared: Shared<T>, own: &Right) -> Shared<T>
+    ensures { (result.table ≡ own.now.table) × (result.reserved ≡ shared.reserved) }
 {
     shared.judged();
-    Shared::new(shared.into_buckets(), rights)
+    Shared::new(shared.into_buckets(), own)
 }
 
 fn is_published(row: &Row<'_, String>, bucket: usize, index: usize) -> bool

@@ -1,0 +1,135 @@
+//! What a drain gives, in which order, and what it leaves in the buckets.
+
+use super::insert;
+use super::walks::{has_left, prints, three};
+use std::alloc::{AllocError, Global};
+use std::mem::forget;
+use std::test::Fail;
+use thread_local_buckets::Buckets;
+use thread_local_test_helpers::memory::take_all_but;
+use thread_local_thread_id::Thread;
+
+/// Whether a drain gives three values, counted down, and then nothing for good.
+fn drains(buckets: &mut Buckets<u32>, values: [u32; 3]) -> bool {
+    let mut walk = buckets.drain();
+    let mut fits = true;
+    let mut left = 3usize;
+    for value in values {
+        fits &= has_left(&walk, left) && walk.next() == Some(value);
+        left = left.saturating_sub(1);
+    }
+    for _ in 0..2 {
+        fits &= has_left(&walk, 0) && walk.next().is_none();
+    }
+    fits
+}
+
+/// Whether a drain goes by ascending id, and leaves no value and as many slots.
+fn ascends(alloc: Global, ids: [u32; 3]) -> Result<bool, AllocError> {
+    let mut buckets = three(alloc, ids)?;
+    let slots = buckets.slots();
+    let drained = drains(&mut buckets, [1, 2, 3]);
+    Ok(drained && buckets.slots() == slots && buckets.drain().next().is_none())
+}
+
+#[test]
+fn a_drain_goes_by_ascending_id(rt: HostRuntime) -> Result<(), Fail> {
+    for ids in [[0, 1, 2], [0, 1234, 100000], [62, 63, 126], [190, 191, 254]] {
+        assert!(rt; ascends(rt.alloc(), ids)?);
+    }
+    Ok(())
+}
+
+/// How many values there are, which are dropped.
+fn dropped(buckets: &mut Buckets<u32>) -> usize {
+    buckets.drain().len()
+}
+
+#[test]
+fn a_drain_of_an_empty_table_gives_nothing(rt: HostRuntime) -> Result<(), Fail> {
+    let mut buckets = Buckets::new(rt.alloc());
+    let first = buckets.drain().next();
+    assert_eq!(rt;
+        (first, dropped(&mut buckets), buckets.slots()),
+        (None, 0, 0)
+    );
+    Ok(())
+}
+
+/// Whether an id has a value.
+fn has_value(buckets: &mut Buckets<u32>, id: u32) -> bool {
+    buckets.get_mut(Thread::new(id as usize)).is_some()
+}
+
+/// Whether the ids 5, of a value that was drained, and 4, of none, have a value; and the first of a
+/// second round, at id 5.
+fn second_round(buckets: &mut Buckets<u32>) -> Result<(bool, bool, Option<u32>), AllocError> {
+    drop(buckets.drain());
+    let (drained, never) = (has_value(buckets, 5), has_value(buckets, 4));
+    insert(buckets, 5, 9)?;
+    Ok((drained, never, buckets.drain().next()))
+}
+
+#[test]
+fn drained_ids_are_empty_and_hold_values_again(rt: HostRuntime) -> Result<(), Fail> {
+    let mut buckets = three(rt.alloc(), [0, 5, 1234])?;
+    let seen = second_round(&mut buckets)?;
+    assert_eq!(rt;
+        (seen, buckets.slots()),
+        ((false, false, Some(9)), 1 + 4 + 1024)
+    );
+    Ok(())
+}
+
+// The bucket of this id takes 8 MiB.
+const FAR: u32 = 1048575;
+
+/// Whether a value is inserted in the same bucket again, and whether in a new one, once no memory
+/// is left.
+fn inserted_without_memory(alloc: Global) -> Result<(bool, bool), AllocError> {
+    let mut buckets = Buckets::new(alloc);
+    insert(&mut buckets, FAR, 5u64)?;
+    drop(buckets.drain());
+    let mut others = Buckets::new(alloc);
+    let _taken = take_all_but(alloc, 0)?;
+    let again = insert(&mut buckets, FAR, 6).is_ok();
+    Ok((again, insert(&mut others, FAR, 7u64).is_ok()))
+}
+
+#[test]
+fn a_second_round_asks_for_no_memory(rt: HostRuntime) -> Result<(), Fail> {
+    assert_eq!(rt; inserted_without_memory(rt.alloc())?, (true, false));
+    Ok(())
+}
+
+/// The first value of a drain that is forgotten then.
+fn first_of_forgotten(buckets: &mut Buckets<u32>) -> Option<u32> {
+    let mut walk = buckets.drain();
+    let first = walk.next();
+    forget(walk);
+    first
+}
+
+#[test]
+fn a_forgotten_drain_leaves_what_it_has_not_given(rt: HostRuntime) -> Result<(), Fail> {
+    let mut buckets = three(rt.alloc(), [0, 70, 1234])?;
+    let first = first_of_forgotten(&mut buckets);
+    let left = (dropped(&mut buckets), first_of_forgotten(&mut buckets));
+    assert_eq!(rt; (first, left), (Some(1), (2, None)));
+    Ok(())
+}
+
+const FRESH: &str = "Drain { raw: RawIter { yielded: 0, bucket: 0, bucket_size: 1, index: 0 } }";
+
+const ENDED: &str = "Drain { raw: RawIter { yielded: 1, bucket: 0, bucket_size: 1, index: 1 } }";
+
+#[test]
+fn a_drain_prints_its_cursor(rt: HostRuntime) -> Result<(), Fail> {
+    let mut buckets = Buckets::new(rt.alloc());
+    insert(&mut buckets, 0, 5u32)?;
+    let mut walk = buckets.drain();
+    let fresh = prints(rt.alloc(), &walk, FRESH)? && walk.next() == Some(5);
+    let ended = prints(rt.alloc(), &walk, ENDED)? && walk.next().is_none();
+    assert_eq!(rt; (fresh, ended), (true, true));
+    Ok(())
+}

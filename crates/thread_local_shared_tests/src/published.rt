@@ -1,0 +1,172 @@
+//! What slots were published with, as tokens say it: to claims, to walkers and to an owner.
+ghost use Rattle.std.specs.Prelude.{◌≡◌, ◌≢◌, ◌-◌, ◌^◌, ◌<◌, Some, IfSome, IsSome};
+ghost use Rattle.thread_local_model.specs.Buckets.{values};
+ghost use Rattle.thread_local_model.specs.Learnt.{Vacant, Holding};
+
+use crate::steps::publish;
+use std::alloc::Global;
+use std::cell::Cell;
+use std::test::Fail;
+use thread_local_buckets::Buckets;
+use thread_local_claim::Claim;
+use thread_local_ids::Ids;
+use thread_local_judged::{Judge, judge_sync};
+use thread_local_published::Published;
+use thread_local_rights::{HeldId, Right};
+use thread_local_shared_buckets::Shared;
+use thread_local_thread_id::Thread;
+
+/// Publishes a value, and answers a token of what the slot was published with.
+fn told<T: Drop>(
+    shared: &Shared<T>,
+    held: HeldId,
+    alloc: Global,
+    value: T,
+) -> (HeldId, Option<Published<T>>)
+    requires { held.right.table ≡ shared.now.table }
+    ensures held { (result.0.right.table ≡ shared.now.table) × (result.0.id ≡ held.id) }
+    ensures token { IfSome result.1 (λ token.
+        (token.sharing ≡ shared.now.sharing) × (token.id ≡ held.id)) }
+{
+    let (held, _) = publish(shared, held, alloc, value);
+    let claim = shared.claim(held);
+    let token = claim.published();
+    (claim.give_up(), token)
+}
+
+/// A value is published in a vacant slot, and the token says it.
+fn settled<T>(claim: &mut Claim<'_, T>, value: T) -> Option<Published<T>>
+    requires { claim.old.learnt ≡ Vacant }
+    ensures some { IsSome result }
+    ensures token { IfSome result (λ token.
+        (token.sharing ≡ claim.old.sharing) × (token.id ≡ claim.old.id) × (token.value ≡ value)) }
+{
+    claim.publish(value);
+    claim.published()
+}
+
+/// What a claim of the same slot holds is what the token says.
+fn holds<T: Copy>(claim: &mut Claim<'_, T>, token: &Published<T>) -> T
+    requires id { claim.old.id ≡ token.now.id }
+    requires sharing { (claim.old.sharing ≡ token.now.sharing) × IsSome claim.old.sharing }
+    ensures { result ≡ token.now.value }
+{
+    claim.agrees(token);
+    match claim.get() {
+        Some(value) => *value,
+        None => unreachable!(),
+    }
+}
+
+/// The owner finds what two tokens say, under their ids.
+fn owned<T>(shared: Shared<T>, one: &Published<T>, other: &Published<T>) -> Buckets<T>
+    requires sharing { (shared.sharing ≡ one.now.sharing) × (shared.sharing ≡ other.now.sharing) }
+    requires named { IsSome shared.sharing }
+    ensures one { values result.contents one.now.id ≡ Some one.now.value }
+    ensures other { values result.contents other.now.id ≡ Some other.now.value }
+{
+    let (buckets, book) = shared.into_published();
+    book.tells(one);
+    book.tells(other);
+    buckets
+}
+
+/// Two tokens of one id say the same.
+fn are_one(one: &Published<u32>, other: &Published<u32>)
+    requires { (one.now.id ≡ other.now.id) × (one.now.sharing ≡ other.now.sharing) × IsSome one.now.sharing }
+    ensures { one.now.value ≡ other.now.value }
+{
+    one.agrees(other);
+}
+
+/// What any thread reads, whatever was published meanwhile.
+fn read<'a>(shared: &'a Shared<String>, token: &Published<String>) -> &'a String
+    requires { (shared.now.sharing ≡ token.now.sharing) × IsSome shared.now.sharing }
+    ensures { result.now ≡ token.now.value }
+{
+    shared.value(token)
+}
+
+/// Another sharing has a name, which isn't that of the one before.
+fn renewed<T>(shared: &mut Shared<T>, own: &Right)
+    ensures table { shared.new.table ≡ own.now.table }
+    ensures sharing { IsSome shared.new.sharing × (shared.new.sharing ≢ shared.old.sharing) }
+{
+    shared.judged();
+    shared.renew(own);
+}
+
+#[test]
+fn a_token_says_what_was_published(rt: HostRuntime) -> Result<(), Fail> {
+    let mut ids = Ids::new(rt.alloc());
+    let shared = Shared::new(Buckets::new(rt.alloc()), &ids.own_right());
+    let (held, token) = told(&shared, ids.take()?, rt.alloc(), 7u32);
+    let token = token.expect(&rt, "a token");
+    let mut claim = shared.claim(held);
+    let seen = (holds(&mut claim, &token), claim.published().map(|t| t.id()));
+    claim.give_up();
+    let (_, other) = told(&shared, ids.take()?, rt.alloc(), 8);
+    let other = other.expect(&rt, "a token");
+    let read = (*shared.value(&token.again()), *shared.value(&other));
+    are_one(&token, &token.again());
+    let ids = (token.id(), other.id());
+    let mut buckets = owned(shared, &token, &other);
+    let found = (
+        buckets.get_mut(Thread::new(token.id())).copied(),
+        buckets.get_mut(Thread::new(other.id())).copied(),
+    );
+    assert_eq!(rt; (seen, read), ((7, Some(0)), (7, 8)));
+    assert_eq!(rt; (ids, found), ((0, 1), (Some(7), Some(8))));
+    Ok(())
+}
+
+#[test]
+fn a_vacant_slot_has_no_token(rt: HostRuntime) -> Result<(), Fail> {
+    let mut ids = Ids::new(rt.alloc());
+    let shared = Shared::<u32>::new(Buckets::with_capacity(rt.alloc(), 1)?, &ids.own_right());
+    let mut claim = shared.claim(ids.take()?);
+    let before = claim.published().is_none();
+    let after = if claim.is_missing() || claim.get().is_some() {
+        None
+    } else {
+        settled(&mut claim, 5)
+    };
+    let after = after.map(|token| *shared.value(&token));
+    claim.give_up();
+    assert_eq!(rt; (before, after), (true, Some(5)));
+    Ok(())
+}
+
+#[test]
+fn a_text_is_read_by_its_token(rt: HostRuntime) -> Result<(), Fail> {
+    let mut ids = Ids::new(rt.alloc());
+    judge_sync::<String>();
+    let shared = Shared::new(Buckets::new(rt.alloc()), &ids.own_right());
+    let (_, token) = told(&shared, ids.take()?, rt.alloc(), String::new(rt.alloc()));
+    let len = token.map(|token| read(&shared, &token).len());
+    assert_eq!(rt; len, Some(0));
+    Ok(())
+}
+
+/// Cells that threads hand on, in no bucket yet.
+fn cells(alloc: Global, own: &Right) -> Shared<Cell<u32>>
+    ensures { result.table ≡ own.now.table }
+{
+    Cell::<u32>::judge();
+    Shared::new(Buckets::new(alloc), own)
+}
+
+#[test]
+fn renewed_buckets_keep_their_values(rt: HostRuntime) -> Result<(), Fail> {
+    let mut ids = Ids::new(rt.alloc());
+    let own = ids.own_right();
+    let mut shared = cells(rt.alloc(), &own);
+    let (held, first) = told(&shared, ids.take()?, rt.alloc(), Cell::new(3));
+    renewed(&mut shared, &own);
+    let (_, second) = told(&shared, held, rt.alloc(), Cell::new(4));
+    let slots = shared.slots();
+    let values = shared.into_buckets().into_iter().next().map(|c| c.get());
+    assert_eq!(rt; (first.is_some(), second.is_some()), (true, true));
+    assert_eq!(rt; (slots, values), (1, Some(3)));
+    Ok(())
+}
