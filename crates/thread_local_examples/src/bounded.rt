@@ -1,19 +1,20 @@
 //! A bounded pool: n workers on a table with capacity n, none of which runs out of memory for its
 //! sum.
-ghost use Rattle.std.specs.Prelude.{◌≡◌, true};
+ghost use Rattle.std.specs.Prelude.{◌≡◌, true, nat_lt, IsSome};
 
 use std::cell::Cell;
 use std::sync::Wait;
 use thread_local::ThreadLocal;
 use thread_local::local::Local;
 
-/// Adds to this worker's sum, if its slot is reserved. It always succeeds, as the contract says:
-/// `get_or` isn't refused memory there, and the proof needs no case for it.
+/// Adds to this worker's sum, exactly where its slot is reserved, as the contract says: `get_or`
+/// isn't refused memory there, and the proof needs no case for it.
 pub fn add<R: Wait>(sum: &mut Local<'_, Cell<u64>, R>, number: u64) -> bool
-    ensures { result ≡ true }
+    ensures added { result ≡ nat_lt sum.old.id sum.old.reserved }
+    ensures has_a_sum { result ≡ true → IsSome sum.new.value }
 {
     if !sum.is_reserved() {
-        return true;
+        return false;
     }
     match sum.get_or(|| Cell::new(0)) {
         Ok(cell) => {
@@ -30,10 +31,7 @@ pub fn work<R: Wait>(sums: &ThreadLocal<Cell<u64>>, rt: &R, numbers: u64) -> boo
     let Ok(mut sum) = sums.local(rt) else {
         return false;
     };
-    for number in 0..numbers {
-        add(&mut sum, number + 1);
-    }
-    sum.is_reserved()
+    (0..numbers).all(|number| add(&mut sum, number + 1))
 }
 
 #[cfg(test)]

@@ -46,9 +46,7 @@ pub fn vowels<R: Wait>(
     compiled: &AtomicU64,
 ) -> Result<usize, LocalError> {
     let mut local = matchers.local(rt)?;
-    let matcher = local
-        .get_or(|| Matcher::compile(b"aeiou", compiled))
-        .map_err(LocalError::Memory)?;
+    let matcher = local.get_or(|| Matcher::compile(b"aeiou", compiled))?;
     let mut found = 0usize;
     for line in lines {
         found = found.wrapping_add(matcher.count(line.as_bytes()));

@@ -19,11 +19,15 @@ fn escape(line: &str, page: &mut Vec<u8>) -> Result<(), AllocError> {
 
 /// How many bytes the lines have on a page. It asks for no memory once the buffers of all threads
 /// are large enough.
-pub fn size_on_page<R: Wait>(pool: &Pool, rt: &R, lines: &[&str]) -> Result<usize, LocalError> {
+pub fn size_on_page<R: Wait>(
+    pool: &Pool<Vec<u8>>,
+    rt: &R,
+    lines: &[&str],
+) -> Result<usize, LocalError> {
     let mut bytes = 0usize;
     for line in lines {
         let mut buffer = pool.buffer(rt)?;
-        escape(line, buffer.bytes_mut()).map_err(LocalError::Memory)?;
+        escape(line, buffer.bytes_mut())?;
         bytes = bytes.wrapping_add(buffer.bytes().len());
     }
     Ok(bytes)

@@ -3,6 +3,14 @@
 
 pub mod bounded;
 pub mod cache;
+pub mod counters;
 pub mod formatting;
+pub mod jobs;
+pub mod mailbox;
+pub mod matcher;
 pub mod meters;
 pub mod registry;
+pub mod resumed;
+pub mod rounds;
+pub mod spans;
+pub mod sums;

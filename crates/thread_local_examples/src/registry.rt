@@ -58,7 +58,7 @@ pub fn register<R: Wait>(
     events: &[u64],
 ) -> Result<(), LocalError> {
     let mut local = registry.local(rt)?;
-    let list = local.get_or(|| Events::new()).map_err(LocalError::Memory)?;
+    let list = local.get_or(|| Events::new())?;
     for event in events {
         list.append(*event);
     }

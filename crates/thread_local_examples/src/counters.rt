@@ -1,0 +1,84 @@
+//! Counters that don't disturb each other: each thread counts in a cell of its own, which shares no
+//! line of the cache with another thread's.
+use std::alloc::Global;
+use std::cell::Cell;
+use std::sync::Wait;
+use thread_local::table::Judge;
+use thread_local::thread_id::LocalError;
+use thread_local::{Padded, ThreadLocal};
+
+/// A table of counters, where threads count often and at the same time.
+pub fn padded(alloc: Global) -> ThreadLocal<Padded<Cell<u64>>> {
+    Padded::<Cell<u64>>::judge();
+    ThreadLocal::new(alloc)
+}
+
+/// A table of counters, where threads seldom count: it takes a sixteenth of the memory.
+pub fn plain(alloc: Global) -> ThreadLocal<Cell<u64>> {
+    Cell::<u64>::judge();
+    ThreadLocal::new(alloc)
+}
+
+/// Adds `times` ones.
+fn add(counter: &Cell<u64>, times: u64) {
+    for _ in 0..times {
+        counter.set(counter.get().wrapping_add(1));
+    }
+}
+
+/// Counts in this thread's padded counter.
+pub fn count_padded<R: Wait>(
+    counters: &ThreadLocal<Padded<Cell<u64>>>,
+    rt: &R,
+    times: u64,
+) -> Result<(), LocalError> {
+    let mut local = counters.local(rt)?;
+    let counter = local.get_or(|| Padded::new(Cell::new(0)))?;
+    add(counter, times);
+    Ok(())
+}
+
+/// Counts in this thread's plain counter.
+pub fn count_plain<R: Wait>(
+    counters: &ThreadLocal<Cell<u64>>,
+    rt: &R,
+    times: u64,
+) -> Result<(), LocalError> {
+    let mut local = counters.local(rt)?;
+    let counter = local.get_or(|| Cell::new(0))?;
+    add(counter, times);
+    Ok(())
+}
+
+#[cfg(test)]
+mod tests {
+    use super::*;
+    use std::test::Fail;
+    use std::thread;
+
+    #[test]
+    fn padded_counters_count_as_plain_ones(rt: HostRuntime) -> Result<(), Fail> {
+        let padded = padded(rt.alloc());
+        let plain = plain(rt.alloc());
+        let counted = thread::join(
+            &rt,
+            || (
+                count_padded(&padded, &rt, 1000),
+                count_plain(&plain, &rt, 1000),
+            ),
+            || (
+                count_padded(&padded, &rt, 234),
+                count_plain(&plain, &rt, 234),
+            ),
+        );
+        let in_padded = padded
+            .into_iter()
+            .fold(0u64, |sum, counter| sum.wrapping_add(counter.get()));
+        let in_plain = plain
+            .into_iter()
+            .fold(0u64, |sum, counter| sum.wrapping_add(counter.get()));
+        assert_eq!(rt; counted, ((Ok(()), Ok(())), (Ok(()), Ok(()))));
+        assert_eq!(rt; (in_padded, in_plain), (1234, 1234));
+        Ok(())
+    }
+}

@@ -1,0 +1,64 @@
+//! Work that another thread goes on with: a worker publishes how far it came and ends, and whoever
+//! takes its id next reads it there.
+ghost use Rattle.std.specs.Prelude.{◌≡◌, IfOk, IfSome, IsSome};
+
+use std::sync::Wait;
+use thread_local::ThreadLocal;
+use thread_local::table::Published;
+use thread_local::thread_id::LocalError;
+
+/// Publishes how far a worker came, unless an earlier holder of its id has published, and ends.
+pub fn begin<R: Wait>(
+    steps: &ThreadLocal<u64>,
+    rt: &R,
+    step: u64,
+) -> Result<Published<u64>, LocalError>
+    ensures { IfOk result (λ token. token.sharing ≡ steps.now.sharing) }
+{
+    let mut local = steps.local(rt)?;
+    if local.get().is_none() {
+        local.get_or(|| step)?;
+    }
+    match local.published() {
+        Some(token) => Ok(token),
+        None => unreachable!(),
+    }
+}
+
+/// How far the worker of a token came, for whoever has its id now, or None with another id.
+pub fn resume<R: Wait>(
+    steps: &ThreadLocal<u64>,
+    rt: &R,
+    begun: &Published<u64>,
+) -> Result<Option<u64>, LocalError>
+    requires sharing { begun.now.sharing ≡ steps.now.sharing }
+    requires named { IsSome steps.now.sharing }
+    ensures { IfOk result (λ found. IfSome found (λ step. step ≡ begun.now.value)) }
+{
+    let mut local = steps.local(rt)?;
+    if local.id() != begun.id() {
+        return Ok(None);
+    }
+    local.agrees(begun);
+    Ok(local.get().copied())
+}
+
+#[cfg(test)]
+mod tests {
+    use super::*;
+    use std::test::Fail;
+    use std::thread;
+
+    #[test]
+    fn another_thread_goes_on(rt: HostRuntime) -> Result<(), Fail> {
+        let steps = ThreadLocal::new(rt.alloc());
+        let (begun, ()) = thread::join(&rt, || begin(&steps, &rt, 41), || {});
+        let begun = begun?;
+        let (resumed, ()) = thread::join(&rt, || resume(&steps, &rt, &begun), || {});
+        let first = steps.local(&rt)?;
+        let other = resume(&steps, &rt, &begun);
+        assert_eq!(rt; (resumed, other), (Ok(Some(41)), Ok(None)));
+        assert_eq!(rt; first.get().copied(), Some(41));
+        Ok(())
+    }
+}
