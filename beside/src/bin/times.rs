@@ -4,7 +4,7 @@
 
 use std::cell::Cell;
 use std::hint::black_box;
-use std::sync::Mutex;
+use std::sync::{Barrier, Mutex};
 use std::thread;
 use std::time::{Duration, Instant};
 use thread_local::opened::{self, Manager};
@@ -264,6 +264,68 @@ fn tally_4_threads() -> Round {
     (END, time)
 }
 
+/// A counter of a table, which a thread counts in.
+trait Counter: Send + Default {
+    fn cell(&self) -> &Cell<u64>;
+}
+
+impl Counter for Cell<u64> {
+    fn cell(&self) -> &Cell<u64> {
+        self
+    }
+}
+
+#[derive(Default)]
+#[repr(align(128))]
+struct Padded(Cell<u64>);
+
+impl Counter for Padded {
+    fn cell(&self) -> &Cell<u64> {
+        &self.0
+    }
+}
+
+/// Counts once. It isn't inlined, so that each count is stored.
+#[inline(never)]
+fn count(cell: &Cell<u64>) {
+    cell.set(cell.get().wrapping_add(1));
+}
+
+/// Four threads count, each in its own counter, while this thread and two more have ids, so that
+/// the counters' slots are neighbours.
+fn counters_4_threads<T: Counter>() -> Round {
+    const TIMES: u64 = 10_000_000;
+    let table: ThreadLocal<T> = ThreadLocal::new();
+    table.get_or_default();
+    let (before, after) = (Barrier::new(3), Barrier::new(3));
+    let time = thread::scope(|scope| {
+        for _ in 0..2 {
+            scope.spawn(|| {
+                table.get_or_default();
+                before.wait();
+                after.wait();
+            });
+        }
+        before.wait();
+        let start = Instant::now();
+        thread::scope(|scope| {
+            for _ in 0..4 {
+                scope.spawn(|| {
+                    let counter = table.get_or_default();
+                    for _ in 0..TIMES {
+                        count(counter.cell());
+                    }
+                });
+            }
+        });
+        let time = start.elapsed();
+        after.wait();
+        time
+    });
+    assert_eq!(table.into_iter().map(|counter| counter.cell().get()).sum::<u64>(), 4 * TIMES);
+    (TIMES, time)
+}
+
 fn thread_come_and_go() -> Round {
     const TIMES: u64 = 2_000;
     let table = ThreadLocal::new();
@@ -280,7 +342,7 @@ fn thread_come_and_go() -> Round {
 
 type Workload = (&'static str, fn() -> Round);
 
-const ALL: [Workload; 23] = [
+const ALL: [Workload; 25] = [
     ("get_hit", get_hit),
     ("get_or_hit", get_or_hit),
     ("new_first_drop", new_first_drop),
@@ -303,6 +365,8 @@ const ALL: [Workload; 23] = [
     ("ids_many", ids_many),
     ("ids_highest", ids_highest),
     ("tally_4_threads", tally_4_threads),
+    ("counters_4_threads", counters_4_threads::<Cell<u64>>),
+    ("counters_4_threads_padded", counters_4_threads::<Padded>),
     ("thread_come_and_go", thread_come_and_go),
 ];
 

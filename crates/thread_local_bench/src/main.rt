@@ -16,10 +16,12 @@ mod values;
 mod workers;
 
 use std::alloc::Global;
+use std::cell::Cell;
 use std::io;
 use std::sync::Wait;
 use std::thread::Threads;
 use std::time::{Clock, Duration};
+use thread_local::Padded;
 use values::{first, sparse};
 
 /// What one round of a workload made: how many operations, and in what time.
@@ -54,6 +56,8 @@ enum Workload {
     IdsMany,
     IdsHighest,
     TallyFourThreads,
+    CountersFourThreads,
+    CountersFourThreadsPadded,
     ThreadComeAndGo,
 }
 
@@ -78,6 +82,7 @@ struct Sizes {
     few: u64,
     pairs: u64,
     numbers: u64,
+    counts: u64,
     threads: u64,
 }
 
@@ -97,6 +102,7 @@ const MANY: Sizes = Sizes {
     few: 10_000_000,
     pairs: 5_000_000,
     numbers: 4_000_000,
+    counts: 10_000_000,
     threads: 2_000,
 };
 
@@ -116,11 +122,12 @@ const FEW: Sizes = Sizes {
     few: 100,
     pairs: 100,
     numbers: 100,
+    counts: 100,
     threads: 10,
 };
 
 impl Workload {
-    const ALL: [Workload; 23] = [
+    const ALL: [Workload; 25] = [
         Workload::GetHit,
         Workload::GetOrHit,
         Workload::NewFirstDrop,
@@ -143,6 +150,8 @@ impl Workload {
         Workload::IdsMany,
         Workload::IdsHighest,
         Workload::TallyFourThreads,
+        Workload::CountersFourThreads,
+        Workload::CountersFourThreadsPadded,
         Workload::ThreadComeAndGo,
     ];
 
@@ -171,6 +180,8 @@ impl Workload {
             Workload::IdsMany => "ids_many",
             Workload::IdsHighest => "ids_highest",
             Workload::TallyFourThreads => "tally_4_threads",
+            Workload::CountersFourThreads => "counters_4_threads",
+            Workload::CountersFourThreadsPadded => "counters_4_threads_padded",
             Workload::ThreadComeAndGo => "thread_come_and_go",
         }
     }
@@ -209,6 +220,12 @@ impl Workload {
             Workload::IdsMany => ids::many(rt, alloc, sizes.held, sizes.pairs),
             Workload::IdsHighest => ids::highest(rt, alloc, sizes.held, sizes.pairs),
             Workload::TallyFourThreads => workers::tally_4_threads(rt, alloc, sizes.numbers),
+            Workload::CountersFourThreads => {
+                workers::counters_4_threads::<Cell<u64>, R>(rt, alloc, sizes.counts)
+            }
+            Workload::CountersFourThreadsPadded => {
+                workers::counters_4_threads::<Padded<Cell<u64>>, R>(rt, alloc, sizes.counts)
+            }
             Workload::ThreadComeAndGo => workers::thread_come_and_go(rt, alloc, sizes.threads),
         }
     }

@@ -11,7 +11,7 @@ use std::thread::Threads;
 use std::time::{Clock, Instant};
 use std::{io, thread};
 use thread_local_judged::judge_sync;
-use thread_local_table::{Local, ThreadLocal};
+use thread_local_table::{Local, SetError, ThreadLocal};
 
 /// How many `Local`s a thread holds at most.
 const LOCALS: usize = 8;
@@ -19,7 +19,7 @@ const LOCALS: usize = 8;
 /// How many moves a thread makes in a round.
 const MOVES: u32 = 200;
 
-/// After how many rounds the owner clears the table.
+/// After how many rounds the owner clears the table. Halfway it drains it.
 const ROUNDS: u64 = 4;
 
 /// What is published: a number, and how many `Local`s know the value at the moment. One `Local` at
@@ -119,6 +119,31 @@ impl<'a, R: Wait> Held<'a, R> {
         Ok(())
     }
 
+    /// Publishes a value, unless there is one: then this one comes back.
+    fn set(&mut self, number: u64, counts: &Counts) -> Result<(), AllocError> {
+        let drops = Arc::try_clone(&counts.dropped)?;
+        let mark = Mark {
+            number,
+            holders: AtomicU64::new(1),
+            drops,
+        };
+        match self.local.set(mark) {
+            Ok(()) => {
+                counts.expect(self.number.is_none());
+                counts.published.fetch_add(1, SeqCst);
+                self.number = Some(number);
+                Ok(())
+            }
+            Err(SetError::Occupied(back)) => {
+                counts.expect(self.number.is_some() && back.number == number);
+                counts.published.fetch_add(1, SeqCst);
+                drop(back);
+                Ok(())
+            }
+            Err(SetError::Memory(_)) => Err(AllocError),
+        }
+    }
+
     /// Drops the `Local`. Its value is what it was, and nobody else knows it.
     fn give_back(self, counts: &Counts) {
         let Self { local, number } = self;
@@ -164,7 +189,11 @@ fn moves<R: Wait>(
                 held.give_back(counts);
             }
         } else if let Some(held) = all.last_mut() {
-            held.publish(state, counts)?;
+            if choice == 2 {
+                held.publish(state, counts)?;
+            } else {
+                held.set(state, counts)?;
+            }
         }
     }
     for held in all {
@@ -208,6 +237,18 @@ fn owner_checks(table: &mut ThreadLocal<Mark>, counts: &Counts, most: u64) {
     counts.expect(walked == standing);
 }
 
+/// Drains the table: each value that stands comes out, known to nobody, and the slots stay.
+fn drain(table: &mut ThreadLocal<Mark>, counts: &Counts) {
+    let slots = table.slots();
+    let standing = counts.standing();
+    let mut drained = 0u64;
+    for mark in table.drain() {
+        drained = drained.wrapping_add(1);
+        counts.expect(mark.holders.load(SeqCst) == 0);
+    }
+    counts.expect(drained == standing && counts.standing() == 0 && table.slots() == slots);
+}
+
 /// Runs rounds for `seconds` seconds with `threads` threads, and prints what was counted. A fault
 /// is told, and ends in an error.
 pub(crate) fn run<R: Clock + Threads + Wait + Sync + Print>(
@@ -226,6 +267,9 @@ pub(crate) fn run<R: Clock + Threads + Wait + Sync + Print>(
         round(&table, rt, alloc, &counts, threads, rounds);
         rounds = rounds.wrapping_add(1);
         owner_checks(&mut table, &counts, most);
+        if rounds % ROUNDS == 2 {
+            drain(&mut table, &counts);
+        }
         if rounds % ROUNDS == 0 {
             table.clear();
             counts.expect(table.slots() == 0 && counts.standing() == 0);

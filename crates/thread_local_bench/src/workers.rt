@@ -4,10 +4,12 @@ ghost use Rattle.std.specs.Prelude.{◌≤◌};
 use crate::Round;
 use std::alloc::{AllocError, Global};
 use std::cell::Cell;
+use std::default::MadeWith;
 use std::sync::Wait;
 use std::thread::Threads;
-use std::time::{Clock, Instant};
+use std::time::{Clock, Duration, Instant};
 use std::{io, thread};
+use thread_local::Padded;
 use thread_local_judged::Judge;
 use thread_local_table::ThreadLocal;
 use thread_local_thread_id::LocalError;
@@ -105,4 +107,98 @@ pub(crate) fn thread_come_and_go<R: Clock + Threads + Wait + Sync>(
         });
     }
     Err(io::Error::from(AllocError))
+}
+
+/// A counter of a table, which a thread counts in.
+pub(crate) trait Counter {
+    /// A counter at 0.
+    fn zero() -> Self;
+
+    /// The cell that is counted in.
+    fn cell(&self) -> &Cell<u64>;
+}
+
+impl Counter for Cell<u64> {
+    fn zero() -> Self {
+        Cell::new(0)
+    }
+
+    fn cell(&self) -> &Cell<u64> {
+        self
+    }
+}
+
+impl Counter for Padded<Cell<u64>> {
+    fn zero() -> Self {
+        Padded::new(Cell::new(0))
+    }
+
+    fn cell(&self) -> &Cell<u64> {
+        self
+    }
+}
+
+/// Counts once. It isn't inlined, so that each count is stored.
+#[inline(never)]
+fn count(cell: &Cell<u64>) {
+    cell.set(cell.get().wrapping_add(1));
+}
+
+/// Counts in the counter of an id of its own.
+fn count_up<T: Counter, R: Wait>(
+    table: &ThreadLocal<T>,
+    rt: &R,
+    times: u64,
+) -> Result<(), LocalError> {
+    let mut local = table.local(rt)?;
+    if let Ok(counter) = local.get_or(|| T::zero()) {
+        for _ in 0..times {
+            count(counter.cell());
+        }
+    }
+    Ok(())
+}
+
+/// Four threads count, each in its own counter, while ids 0 to 2 are held, so that the slots of the
+/// four are neighbours. Answers how long it took, or None where a thread was refused.
+fn count_by_four<T, R>(table: &ThreadLocal<T>, rt: &R, times: u64) -> io::Result<Option<Duration>>
+where
+    T: Counter + Send,
+    R: Clock + Threads + Wait + Sync,
+{
+    let _first = table.local(rt).map_err(|_| AllocError)?;
+    let _second = table.local(rt).map_err(|_| AllocError)?;
+    let _third = table.local(rt).map_err(|_| AllocError)?;
+    let start = Instant::now(rt)?;
+    let started = thread::scope(thread::scope_env(), rt, |scope| {
+        for _ in 0..4 {
+            if scope.spawn(move || count_up(table, rt, times)).is_err() {
+                return false;
+            }
+        }
+        true
+    });
+    let time = start.elapsed(rt)?;
+    Ok(started.then_some(time))
+}
+
+/// Four threads count, each in its own counter. An operation is a count of each.
+pub(crate) fn counters_4_threads<T, R>(rt: &R, alloc: Global, times: u64) -> io::Result<Round>
+where
+    T: Counter + Judge + Send + Drop,
+    R: Clock + Threads + Wait + Sync,
+{
+    let table = ThreadLocal::<T>::made_with(alloc);
+    let time = count_by_four(&table, rt, times)?;
+    let counted = table.into_iter().fold(
+        0u64,
+        |sum, counter| sum.wrapping_add(counter.cell().get()),
+    );
+    match time {
+        Some(time) if counted == times.wrapping_mul(4) => Ok(Round {
+            operations: times,
+            time,
+        }),
+        _ => Err(io::Error::from(AllocError)),
+    }
 }
