@@ -76,7 +76,7 @@ mod tests {
         let read = swap(&letters, &rt, 11, 22);
         let again = swap(&letters, &rt, 33, 44);
         assert_eq!(rt; (read, again), (Ok((22, 11)), Err(MailError::Occupied)));
-        assert_eq!(rt; letters.into_iter().count(), 2);
+        assert_eq!(rt; letters.into_iter().len(), 2);
         Ok(())
     }
 }
