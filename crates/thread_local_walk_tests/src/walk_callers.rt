@@ -22,18 +22,13 @@ fn finds_own<R: Wait>(local: &Local<'_, u32, R>, number: u32) -> bool
     false
 }
 
-/// And so with its id.
-fn finds_own_entry<R: Wait>(local: &Local<'_, u32, R>, number: u32) -> bool
-    requires { local.now.value ≡ Some number }
-    ensures { result ≡ true }
-{
-    let own = local.id();
-    for (id, value) in local.iter().with_ids() {
-        if id == own && *value == number {
-            return true;
-        }
+/// The greatest id that has a number.
+fn last_id(table: &ThreadLocal<u32>) -> Option<usize> {
+    let mut last = None;
+    for (id, _) in table.entries() {
+        last = Some(id);
     }
-    false
+    last
 }
 
 fn numbers(table: &ThreadLocal<u32>) -> u32 {
