@@ -19,7 +19,7 @@ fn refused<E: From<AllocError>>() -> Result<(), E> {
 }
 
 #[test]
-fn memory_that_was_refused_is_told_by_each_error(rt: HostRuntime) -> Result<(), Fail> {
+fn errors_are_made_of_missing_memory(rt: HostRuntime) -> Result<(), Fail> {
     assert!(rt; matches!(refused::<LocalError>(), Err(LocalError::Memory(_))));
     assert!(rt; matches!(refused::<CapacityError>(), Err(CapacityError::Memory(_))));
     assert!(rt; matches!(refused::<TryError<u8>>(), Err(TryError::Memory(_))));
@@ -27,7 +27,7 @@ fn memory_that_was_refused_is_told_by_each_error(rt: HostRuntime) -> Result<(), 
 }
 
 #[test]
-fn errors_print_what_was_refused(rt: HostRuntime) -> Result<(), Fail> {
+fn errors_are_printed(rt: HostRuntime) -> Result<(), Fail> {
     let alloc = rt.alloc();
     let memory = "memory allocation failed";
     assert_eq!(rt;
