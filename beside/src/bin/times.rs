@@ -1,6 +1,9 @@
 //! Times the Rust crate's calls with the workloads of `crates/thread_local_bench`: a line for each,
 //! with its name and the nanoseconds of one operation, the least of several rounds. The arguments
 //! are the number of rounds, and the name of one workload if no other is to run.
+//!
+//! With `growth ROUNDS` it times calls by one, two and four threads, and walks over 2^10 to 2^20
+//! values. With `hold N` it makes a table of N values and drops it.
 
 use std::cell::Cell;
 use std::hint::black_box;
@@ -244,6 +247,16 @@ fn ids_highest() -> Round {
     (PAIRS, start.elapsed())
 }
 
+/// Adds each `workers`-th number below `end`, from the worker's own on, to the thread's cell, where
+/// `end` is a multiple of `workers`.
+fn add(table: &ThreadLocal<Cell<u64>>, worker: u64, workers: u64, end: u64) {
+    let sum = table.get_or(|| Cell::new(0));
+    for turn in 0..end / workers.max(1) {
+        let number = turn.wrapping_mul(workers).wrapping_add(worker);
+        sum.set(sum.get().saturating_add(number));
+    }
+}
+
 fn tally_4_threads() -> Round {
     const END: u64 = 4_000_000;
     let table = ThreadLocal::new();
@@ -251,12 +264,7 @@ fn tally_4_threads() -> Round {
     thread::scope(|scope| {
         for worker in 0..4 {
             let table = &table;
-            scope.spawn(move || {
-                let sum = table.get_or(|| Cell::new(0u64));
-                for number in (worker..END).step_by(4) {
-                    sum.set(sum.get().saturating_add(number));
-                }
-            });
+            scope.spawn(move || add(table, worker, 4, END));
         }
     });
     let time = start.elapsed();
@@ -340,6 +348,96 @@ fn thread_come_and_go() -> Round {
     (TIMES, time)
 }
 
+/// So many threads at once, each with its number. An operation is as many of each thread.
+fn by_threads(threads: u64, operations: u64, work: impl Fn(u64) + Sync) -> Round {
+    let start = Instant::now();
+    thread::scope(|scope| {
+        for thread in 0..threads {
+            let work = &work;
+            scope.spawn(move || work(thread));
+        }
+    });
+    (operations, start.elapsed())
+}
+
+fn get_hit_by(threads: u64) -> Round {
+    const FINDS: u64 = 10_000_000;
+    let tables = [ThreadLocal::new(), ThreadLocal::new()];
+    by_threads(threads, FINDS, |_| {
+        for table in &tables {
+            table.get_or(|| Cell::new(0));
+        }
+        for number in 0..FINDS {
+            if let Some(count) = tables[(number & 1) as usize].get() {
+                add_one(count);
+            }
+        }
+    })
+}
+
+fn tally_by(threads: u64) -> Round {
+    const NUMBERS: u64 = 16_000_000;
+    let table = ThreadLocal::new();
+    by_threads(threads, NUMBERS, |thread| add(&table, thread, threads, NUMBERS))
+}
+
+fn local_and_drop_by(threads: u64) -> Round {
+    const PAIRS: u64 = 1_000_000;
+    let manager = Mutex::new(Manager::new());
+    by_threads(threads, PAIRS, |_| {
+        for _ in 0..PAIRS {
+            let id = manager.lock().unwrap().take();
+            manager.lock().unwrap().give(id);
+        }
+    })
+}
+
+/// Each thread publishes at every so-manieth id.
+fn publish_by(threads: u64) -> Round {
+    let table = ThreadLocal::with_capacity(VALUES);
+    by_threads(threads, VALUES as u64 / threads, |thread| {
+        for turn in 0..VALUES / threads as usize {
+            let id = turn * threads as usize + thread as usize;
+            opened::insert(&table, id, turn as u64);
+        }
+    })
+}
+
+fn iter_over(values: usize) -> Round {
+    let table = filled::<u64>(values, 1);
+    let walks = VALUES / values;
+    let mut sum = 0u64;
+    let start = Instant::now();
+    for _ in 0..walks {
+        for value in &table {
+            sum = sum.wrapping_add(*value);
+        }
+    }
+    let time = start.elapsed();
+    assert_eq!(sum, sum_below(values) * walks as u64);
+    ((values * walks) as u64, time)
+}
+
+/// Measures each call at each of its sizes.
+fn growth(rounds: u32) {
+    let report = |name: &str, size: u64, round: &dyn Fn() -> Round| {
+        println!("{name} {size} {:.3}", least(rounds, round));
+    };
+    for threads in [1, 2, 4] {
+        report("get_hit", threads, &|| get_hit_by(threads));
+        report("tally", threads, &|| tally_by(threads));
+        report("local_and_drop", threads, &|| local_and_drop_by(threads));
+        report("publish", threads, &|| publish_by(threads));
+    }
+    for power in [10, 12, 14, 16, 18, 20] {
+        let values = 1usize << power;
+        let walks = VALUES / values;
+        report("iter", values as u64, &|| iter_over(values));
+        report("iter_mut", values as u64, &|| iter_mut::<u64>(values, 1, walks));
+        report("into_iter", values as u64, &|| into_iter::<u64>(values, 1, walks));
+    }
+}
+
 type Workload = (&'static str, fn() -> Round);
 
 const ALL: [Workload; 25] = [
@@ -370,18 +468,29 @@ const ALL: [Workload; 25] = [
     ("thread_come_and_go", thread_come_and_go),
 ];
 
+/// The nanoseconds of one operation, in the round that took the least.
+fn least(rounds: u32, round: impl Fn() -> Round) -> f64 {
+    let times = (0..rounds.max(1)).map(|_| {
+        let (operations, time) = round();
+        time.as_nanos() as f64 / operations as f64
+    });
+    times.fold(f64::INFINITY, f64::min)
+}
+
 fn main() {
     let mut words = std::env::args().skip(1);
-    let rounds: u32 = words.next().and_then(|word| word.parse().ok()).unwrap_or(1);
-    let asked = words.next();
+    let first = words.next().unwrap_or_default();
+    let second = words.next();
+    let number = || second.as_ref().and_then(|word| word.parse().ok()).unwrap_or(1);
+    match first.as_str() {
+        "growth" => return growth(number()),
+        "hold" => return drop(black_box(filled::<u64>(number() as usize, 1))),
+        _ => {}
+    }
+    let rounds = first.parse().unwrap_or(1);
     for (name, round) in ALL {
-        if asked.as_ref().is_some_and(|asked| asked != name) {
-            continue;
+        if second.as_ref().is_none_or(|asked| asked == name) {
+            println!("{name} {:.3}", least(rounds, round));
         }
-        let least = (0..rounds.max(1)).map(|_| {
-            let (operations, time) = round();
-            time.as_nanos() as f64 / operations as f64
-        });
-        println!("{name} {:.3}", least.fold(f64::INFINITY, f64::min));
     }
 }

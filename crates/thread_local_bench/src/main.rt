@@ -5,9 +5,13 @@
 //!
 //! With `locks N` it compares two locks over N pairs of taking and giving. With `races SECONDS
 //! THREADS` threads race on one table for so long, four if their number is left out; it prints what
-//! was counted, and ends with status 1 where a check failed.
+//! was counted, and ends with status 1 where a check failed. With `growth ROUNDS` it times calls by
+//! one, two and four threads, and walks over 2^10 to 2^20 values: a line for each, with the name, the
+//! number of threads or values, and the nanoseconds. With `hold N` it makes a table of N values and
+//! drops it.
 #![tactic(auto)]
 
+mod growth;
 mod ids;
 mod lock;
 mod races;
@@ -252,6 +256,10 @@ fn main(rt: HostRuntime) -> io::Result<()> {
     let third = number(&words.next());
     match (first.as_ref().map(|word| word.as_str()), number(&second)) {
         (Some("locks"), Some(pairs)) => return lock::compare(&rt, rt.alloc(), pairs),
+        (Some("growth"), Some(rounds)) => return growth::run(&rt, rt.alloc(), rounds),
+        (Some("hold"), Some(values)) => {
+            return growth::hold(rt.alloc(), u32::try_from(values).unwrap_or(u32::MAX));
+        }
         (Some("races"), Some(seconds)) => {
             return races::run(&rt, rt.alloc(), seconds, third.unwrap_or(4));
         }
@@ -269,7 +277,7 @@ fn main(rt: HostRuntime) -> io::Result<()> {
                 println!(rt; "{name}")?;
             }
             Some(rounds) => {
-                let picoseconds = least(workload, &rt, rt.alloc(), rounds)?;
+                let picoseconds = least_of(rounds, || workload.round(&rt, rt.alloc(), &MANY))?;
                 println!(rt; "{name} {}.{:03}", picoseconds / 1000, picoseconds % 1000)?;
             }
         }
@@ -278,15 +286,12 @@ fn main(rt: HostRuntime) -> io::Result<()> {
 }
 
 /// The picoseconds of one operation, in the round that took the least.
-fn least<R: Clock + Threads + Wait + Sync>(
-    workload: Workload,
-    rt: &R,
-    alloc: Global,
-    rounds: u64,
-) -> io::Result<u128> {
+pub(crate) fn least_of<F: Fn() -> io::Result<Round>>(rounds: u64, round: F) -> io::Result<u128>
+    requires { F.IsAlwaysCallable round }
+{
     let mut least = u128::MAX;
     for _ in 0..rounds {
-        let Round { operations, time } = workload.round(rt, alloc, &MANY)?;
+        let Round { operations, time } = round()?;
         let picoseconds = time.as_nanos().saturating_mul(1000) / u128::from(operations.max(1));
         least = least.min(picoseconds);
     }

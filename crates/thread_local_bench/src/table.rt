@@ -10,7 +10,7 @@ use thread_local_judged::Judge;
 use thread_local_table::{Local, ThreadLocal};
 
 /// A `Local`, unless the call is refused.
-fn taken<'a, T, R: Wait>(
+pub(crate) fn taken<'a, T, R: Wait>(
     table: &'a ThreadLocal<T>,
     rt: &'a R,
 ) -> Result<Local<'a, T, R>, AllocError> {
@@ -41,8 +41,27 @@ fn counted(counts: ThreadLocal<Cell<u64>>, operations: u64, time: Duration) -> R
     }
 }
 
-/// Finds the value and adds to it. Which of two `Local`s is asked is known at run time alone, so
-/// that no compiler finds it once for all.
+/// Finds the value of one of two `Local`s and adds to it, `times` times, and answers how long that
+/// took. Which of the two is asked goes by the bits of the look's number that are in the mask, and so
+/// is known at run time alone: no compiler finds it once for all.
+pub(crate) fn find_by_two<R: Clock + Wait>(
+    table: &ThreadLocal<Cell<u64>>,
+    rt: &R,
+    times: u64,
+    mask: u64,
+) -> io::Result<Duration> {
+    let (first, second) = two_published(table, rt)?;
+    let start = Instant::now(rt)?;
+    for number in 0..times {
+        let local = if number & mask == 0 { &first } else { &second };
+        if let Some(count) = local.get() {
+            count.set(count.get().wrapping_add(1));
+        }
+    }
+    start.elapsed(rt)
+}
+
+/// Finds values and adds to them.
 pub(crate) fn get_hit<R: Clock + Wait>(
     rt: &R,
     alloc: Global,
@@ -51,17 +70,7 @@ pub(crate) fn get_hit<R: Clock + Wait>(
 ) -> io::Result<Round> {
     Cell::<u64>::judge();
     let table = ThreadLocal::new(alloc);
-    let time = {
-        let (first, second) = two_published(&table, rt)?;
-        let start = Instant::now(rt)?;
-        for number in 0..times {
-            let local = if number & mask == 0 { &first } else { &second };
-            if let Some(count) = local.get() {
-                count.set(count.get().wrapping_add(1));
-            }
-        }
-        start.elapsed(rt)?
-    };
+    let time = find_by_two(&table, rt, times, mask)?;
     Ok(counted(table, times, time))
 }
 
@@ -148,7 +157,7 @@ fn all_taken<'a, R: Wait>(
 }
 
 /// Each `Local` publishes its number.
-fn publish_all<R: Wait>(locals: &mut Vec<Local<'_, u64, R>>) -> Result<(), AllocError> {
+pub(crate) fn publish_all<R: Wait>(locals: &mut Vec<Local<'_, u64, R>>) -> Result<(), AllocError> {
     let mut number = 0u64;
     for local in locals {
         local.get_or(|| number)?;

@@ -65,7 +65,7 @@ pub(crate) fn sparse(count: u32) -> Ids {
 }
 
 /// Puts a value at each of the ids.
-fn fill<T: Value>(buckets: &mut Buckets<T>, ids: Ids) -> Result<(), AllocError> {
+pub(crate) fn fill<T: Value>(buckets: &mut Buckets<T>, ids: Ids) -> Result<(), AllocError> {
     for number in 0..ids.count {
         let thread = Thread::new(number as usize * ids.apart as usize);
         if buckets.insert(thread, T::of(u64::from(number))).is_err() {
@@ -99,7 +99,7 @@ fn total<T: Value>(buckets: Buckets<T>) -> u64 {
 }
 
 /// The sum of the numbers below this one.
-fn sum_below(end: u32) -> u64 {
+pub(crate) fn sum_below(end: u32) -> u64 {
     u64::from(end).wrapping_mul(u64::from(end).wrapping_sub(1)) / 2
 }
 

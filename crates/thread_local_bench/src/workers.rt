@@ -1,6 +1,4 @@
 //! Threads that count in a table, each in a cell of its own, and threads that come and go.
-ghost use Rattle.std.specs.Prelude.{◌≤◌};
-
 use crate::Round;
 use std::alloc::{AllocError, Global};
 use std::cell::Cell;
@@ -14,19 +12,19 @@ use thread_local_judged::Judge;
 use thread_local_table::ThreadLocal;
 use thread_local_thread_id::LocalError;
 
-/// Adds each `workers`-th number below `end`, from the worker's own on, to the worker's cell.
-fn add<R: Wait>(
+/// Adds each `workers`-th number below `end`, from the worker's own on, to the worker's cell, where
+/// `end` is a multiple of `workers`.
+pub(crate) fn add<R: Wait>(
     table: &ThreadLocal<Cell<u64>>,
     rt: &R,
     worker: u64,
-    workers: usize,
+    workers: u64,
     end: u64,
-) -> Result<(), LocalError>
-    requires { 1 ≤ workers }
-{
+) -> Result<(), LocalError> {
     let mut local = table.local(rt)?;
     if let Ok(sum) = local.get_or(|| Cell::new(0)) {
-        for number in (worker..end).step_by(workers) {
+        for turn in 0..end / workers.max(1) {
+            let number = turn.wrapping_mul(workers).wrapping_add(worker);
             sum.set(sum.get().saturating_add(number));
         }
     }

@@ -1,0 +1,239 @@
+//! How the cost of calls grows: with the number of threads that make them at once on one table, and
+//! with the number of values that a walk meets.
+
+use crate::table::{find_by_two, publish_all, taken};
+use crate::values::{fill, first, into_iter_of_many, iter_mut, sum_below};
+use crate::workers::add;
+use crate::{Round, least_of};
+use std::alloc::{AllocError, Global};
+use std::cell::Cell;
+use std::io::Print;
+use std::sync::Wait;
+use std::thread::Threads;
+use std::time::{Clock, Instant};
+use std::{io, thread};
+use thread_local_judged::Judge;
+use thread_local_table::{Local, ThreadLocal};
+
+/// How many values all walks of a measurement meet together, and how many are published.
+const VALUES: u32 = 1 << 20;
+
+/// Over how many values walks are measured.
+const SIZES: [u32; 6] = [1 << 10, 1 << 12, 1 << 14, 1 << 16, 1 << 18, 1 << 20];
+
+/// How often each thread finds a value, and takes and drops a `Local`.
+const FINDS: u64 = 10_000_000;
+
+const PAIRS: u64 = 1_000_000;
+
+/// How many numbers the threads add up together.
+const NUMBERS: u64 = 16_000_000;
+
+/// What several threads do at once.
+#[derive(Clone, Copy)]
+enum Work {
+    GetHit,
+    Tally,
+    LocalAndDrop,
+}
+
+impl Work {
+    const ALL: [Work; 3] = [Work::GetHit, Work::Tally, Work::LocalAndDrop];
+
+    /// The work's name, as it is printed.
+    fn name(self) -> &'static str {
+        match self {
+            Work::GetHit => "get_hit",
+            Work::Tally => "tally",
+            Work::LocalAndDrop => "local_and_drop",
+        }
+    }
+
+    /// For how many operations a time is given.
+    fn operations(self) -> u64 {
+        match self {
+            Work::GetHit => FINDS,
+            Work::Tally => NUMBERS,
+            Work::LocalAndDrop => PAIRS,
+        }
+    }
+
+    /// The share of one of so many threads.
+    fn share<R: Clock + Wait>(
+        self,
+        table: &ThreadLocal<Cell<u64>>,
+        rt: &R,
+        thread: u64,
+        threads: u64,
+    ) -> Result<(), AllocError> {
+        match self {
+            Work::GetHit => find_all(table, rt),
+            Work::Tally => add(table, rt, thread, threads, NUMBERS).map_err(|_| AllocError),
+            Work::LocalAndDrop => take_and_drop(table, rt),
+        }
+    }
+}
+
+/// Finds the values of two `Local`s.
+fn find_all<R: Clock + Wait>(table: &ThreadLocal<Cell<u64>>, rt: &R) -> Result<(), AllocError> {
+    match find_by_two(table, rt, FINDS, 1) {
+        Ok(_) => Ok(()),
+        Err(_) => Err(AllocError),
+    }
+}
+
+/// Takes `Local`s of a table and drops them.
+fn take_and_drop<R: Wait>(table: &ThreadLocal<Cell<u64>>, rt: &R) -> Result<(), AllocError> {
+    for _ in 0..PAIRS {
+        drop(taken(table, rt)?);
+    }
+    Ok(())
+}
+
+/// So many threads work on one table. An operation is one of each thread, but of a tally one number.
+fn by_threads<R: Clock + Threads + Wait + Sync>(
+    rt: &R,
+    alloc: Global,
+    work: Work,
+    threads: u64,
+) -> io::Result<Round> {
+    Cell::<u64>::judge();
+    let table = ThreadLocal::new(alloc);
+    let shared = &table;
+    let start = Instant::now(rt)?;
+    let started = thread::scope(thread::scope_env(), rt, |scope| {
+        for thread in 0..threads {
+            if scope
+                .spawn(move || work.share(shared, rt, thread, threads))
+                .is_err()
+            {
+                return false;
+            }
+        }
+        true
+    });
+    let time = start.elapsed(rt)?;
+    if !started {
+        return Err(io::Error::from(AllocError));
+    }
+    Ok(Round {
+        operations: work.operations(),
+        time,
+    })
+}
+
+/// `Local`s of all reserved ids of a table, dealt to so many threads: each gets every so-manieth id.
+fn dealt<'a, R: Wait>(
+    table: &'a ThreadLocal<u64>,
+    rt: &'a R,
+    alloc: Global,
+    threads: u32,
+) -> Result<Vec<Vec<Local<'a, u64, R>>>, AllocError> {
+    let mut hands = Vec::with_capacity(alloc, threads as usize)?;
+    for _ in 0..threads {
+        hands.push(Vec::with_capacity(alloc, (VALUES / threads.max(1)) as usize)?)?;
+    }
+    for _ in 0..VALUES / threads.max(1) {
+        for hand in &mut hands {
+            hand.push(taken(table, rt)?)?;
+        }
+    }
+    Ok(hands)
+}
+
+/// So many threads publish a value at each reserved id of one table.
+fn publish_by<R: Clock + Threads + Wait + Sync>(
+    rt: &R,
+    alloc: Global,
+    threads: u32,
+) -> io::Result<Round> {
+    let Ok(table) = ThreadLocal::<u64>::with_capacity(alloc, VALUES as usize) else {
+        return Err(io::Error::from(AllocError));
+    };
+    let mut hands = dealt(&table, rt, alloc, threads)?;
+    let start = Instant::now(rt)?;
+    let started = thread::scope(thread::scope_env(), rt, |scope| {
+        for hand in &mut hands {
+            if scope.spawn(move || publish_all(hand)).is_err() {
+                return false;
+            }
+        }
+        true
+    });
+    let time = start.elapsed(rt)?;
+    drop(hands);
+    if !started {
+        return Err(io::Error::from(AllocError));
+    }
+    Ok(Round {
+        operations: u64::from(VALUES / threads.max(1)),
+        time,
+    })
+}
+
+/// Reads each of so many values of a table that threads may share, in several walks.
+fn iter_over<R: Clock>(rt: &R, alloc: Global, values: u32) -> io::Result<Round> {
+    let mut table = ThreadLocal::<u64>::new(alloc);
+    fill(table.buckets_mut(), first(values))?;
+    let walks = VALUES / values.max(1);
+    let mut sum = 0u64;
+    let start = Instant::now(rt)?;
+    for _ in 0..walks {
+        for value in &table {
+            sum = sum.wrapping_add(*value);
+        }
+    }
+    let time = start.elapsed(rt)?;
+    let wanted = sum_below(values).wrapping_mul(u64::from(walks));
+    let operations = u64::from(values) * u64::from(walks);
+    Ok(Round {
+        operations: if sum == wanted { operations } else { 0 },
+        time,
+    })
+}
+
+/// Prints a line for what was measured: its name, its size, and the nanoseconds of one operation.
+fn report<R: Print>(rt: &R, name: &str, size: u32, picoseconds: u128) -> io::Result<()> {
+    println!(rt;
+        "{name} {size} {}.{:03}",
+        picoseconds / 1000,
+        picoseconds % 1000
+    )
+}
+
+/// Measures each call at each of its sizes: the least of so many rounds.
+pub(crate) fn run<R: Clock + Threads + Wait + Sync + Print>(
+    rt: &R,
+    alloc: Global,
+    rounds: u64,
+) -> io::Result<()> {
+    for threads in [1u32, 2, 4] {
+        for work in Work::ALL {
+            let time = least_of(rounds, || by_threads(rt, alloc, work, u64::from(threads)))?;
+            report(rt, work.name(), threads, time)?;
+        }
+        let time = least_of(rounds, || publish_by(rt, alloc, threads))?;
+        report(rt, "publish", threads, time)?;
+    }
+    for values in SIZES {
+        let walks = VALUES / values.max(1);
+        let time = least_of(rounds, || iter_over(rt, alloc, values))?;
+        report(rt, "iter", values, time)?;
+        let time = least_of(
+            rounds,
+            || iter_mut::<u64, R>(rt, alloc, first(values), walks),
+        )?;
+        report(rt, "iter_mut", values, time)?;
+        let time = least_of(rounds, || into_iter_of_many(rt, alloc, values, walks))?;
+        report(rt, "into_iter", values, time)?;
+    }
+    Ok(())
+}
+
+/// Makes a table with so many values, and drops it: whoever counts the memory that the program asks
+/// for sees the table's.
+pub(crate) fn hold(alloc: Global, values: u32) -> io::Result<()> {
+    let mut table = ThreadLocal::<u64>::new(alloc);
+    fill(table.buckets_mut(), first(values))?;
+    Ok(())
+}
