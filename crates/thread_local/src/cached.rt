@@ -1,6 +1,6 @@
 //! `CachedThreadLocal`, a deprecated wrapper of `ThreadLocal`: once a faster table, now as fast,
 //! and with fewer calls.
-ghost use Rattle.std.specs.Prelude.{◌≡◌, ◌≢◌, length, Some, IfSome};
+ghost use Rattle.std.specs.Prelude.{◌≡◌, ◌≢◌, length, Some, IfSome, IsSome};
 ghost use Rattle.std.specs.Iterator.{YieldsFirst, YieldsFirstMut, UpTo, item_count};
 ghost use Rattle.std.specs.Iterator.SizeHint.{IsWithinCount};
 ghost use Rattle.thread_local_buckets.specs.IterMut.{iter_mut_rest};
@@ -40,6 +40,7 @@ impl<T> CachedThreadLocal<T> {
     where
         T: Send,
         requires judged { Judged T.row }
+        ensures sharing { IsSome result.sharing }
         ensures reserved { result.reserved ≡ 0 }
     {
         CachedThreadLocal {
@@ -64,6 +65,7 @@ impl<T> CachedThreadLocal<T> {
     where
         T: Drop,
         ensures table { self.new.table ≢ self.old.table }
+        ensures sharing { IsSome self.new.sharing × (self.new.sharing ≢ self.old.sharing) }
         ensures reserved { self.new.reserved ≡ self.old.reserved }
     {
         self.table.clear();
@@ -71,7 +73,7 @@ impl<T> CachedThreadLocal<T> {
 }
 
 impl<T: Judge + Send> MadeWith<Global> for CachedThreadLocal<T> {
-    ghost is_made_with = { λ cached. cached.reserved ≡ 0 };
+    ghost is_made_with = { λ cached. IsSome cached.sharing × (cached.reserved ≡ 0) };
 
     /// A table as `new` makes it, where Rust has `Default`.
     fn made_with(alloc: Global) -> CachedThreadLocal<T> {

@@ -11,7 +11,8 @@ mod lends;
 /// the table, wherever its bucket begins: a thread that writes its value doesn't take the lines of
 /// others' away from them. A slot of up to 8 bytes takes 128.
 ///
-/// Contracts see the value. No call waits or takes memory. In Rust the crate's users pad by
+/// Contracts see the value. No call waits or takes memory, unless `T::default` does, which `default`
+/// runs. In Rust the crate's users pad by
 /// alignment, which a table here refuses above 16 bytes.
 #[derive(Drop)]
 #[repr(C)]

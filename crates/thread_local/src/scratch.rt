@@ -12,8 +12,9 @@ use thread_local_thread_id::LocalError;
 mod lends;
 
 /// Values that are expensive to make, which threads borrow and give back. Threads share a pool
-/// through a `&`. Only `get`, `buffer` and the drop of what they answer may wait, for the lock of
-/// the pool's table, and only `get` and `buffer` take memory. Rust's crate has no such type.
+/// through a `&`. Only `get`, `buffer` and the drop of what they answer may wait for the lock of the
+/// pool's table, and only `get` and `buffer` take memory. Dropping the pool drops its values, whose
+/// drop may wait. Rust's crate has no such type.
 #[derive(Drop)]
 pub struct Pool<T> {
     table: ThreadLocal<Cell<Option<T>>>,

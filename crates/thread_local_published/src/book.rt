@@ -13,7 +13,8 @@ use crate::witness::Witness;
 use std::marker::{Model, PhantomData};
 
 /// What the slots of a table were published with in one sharing, and that the others were not. An
-/// owner who takes the buckets gets it beside them. It has no bytes.
+/// owner who takes the buckets gets it beside them. It has no bytes, and no call waits or takes
+/// memory.
 pub struct Book<T> {
     pub marker: PhantomData<T>,
     pub ghost sharing: { Option ℕ } by { coded_option coded_ℕ },
@@ -40,7 +41,8 @@ impl<T> Book<T> {
     }
 
     /// Shows that tokens of different ids are all that was published, where there are as many of
-    /// them as values: a walk gives their values, in some order. At run time it does nothing.
+    /// them as values: a walk gives their values, in some order. At run time it goes over the tokens
+    /// and does nothing with them.
     pub fn tells_all(&self, tokens: &[Published<T>])
         requires sharing { All (λ token. token.sharing ≡ self.now.sharing) tokens.now }
         requires named { IsSome self.now.sharing }

@@ -9,7 +9,7 @@ use std::marker::Model;
 ///
 /// It is the id at run time. Contracts see the sharing, the id and the value, whatever the value
 /// does meanwhile: what a cell holds they don't tell. It may be sent and shared whatever the type
-/// is. Rust's crate has no such type.
+/// is. No call waits or takes memory. Rust's crate has no such type.
 #[derive(Drop)]
 pub struct Published<T> {
     id: usize,

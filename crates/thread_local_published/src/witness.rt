@@ -6,7 +6,8 @@ ghost use denote.Sharing.{said};
 
 use std::marker::{Model, PhantomData};
 
-/// Shows with which value the slot of an id was published in a sharing. It has no bytes.
+/// Shows with which value the slot of an id was published in a sharing. It has no bytes, and no call
+/// does anything at run time.
 pub struct Witness<T> {
     pub marker: PhantomData<T>,
     pub ghost sharing: { Option ℕ } by { coded_option coded_ℕ },

@@ -1,5 +1,6 @@
 //! The ids of `Local`s.
 
+use std::mem::forget;
 use std::sync::Wait;
 use std::test::Fail;
 use thread_local_table::ThreadLocal;
@@ -20,5 +21,23 @@ fn ids_in_turn<R: Wait>(table: &ThreadLocal<u32>, rt: &R) -> Option<[usize; 4]> 
 fn a_local_has_the_least_id_that_is_not_held(rt: HostRuntime) -> Result<(), Fail> {
     let table = ThreadLocal::<u32>::new(rt.alloc());
     assert_eq!(rt; ids_in_turn(&table, &rt), Some([0, 1, 2, 1]));
+    Ok(())
+}
+
+/// The id of a `Local`, which is forgotten.
+fn forgotten<R: Wait>(table: &ThreadLocal<u32>, rt: &R) -> Option<usize> {
+    let local = table.local(rt).ok()?;
+    let id = local.id();
+    forget(local);
+    Some(id)
+}
+
+#[test]
+fn a_renewed_table_keeps_its_held_ids(rt: HostRuntime) -> Result<(), Fail> {
+    let mut table = ThreadLocal::<u32>::new(rt.alloc());
+    let before = forgotten(&table, &rt);
+    table.renew();
+    let after = forgotten(&table, &rt);
+    assert_eq!(rt; (before, after), (Some(0), Some(1)));
     Ok(())
 }
