@@ -1,21 +1,21 @@
--- How contracts see a manager of ids, and what always holds of its fields.
+-- How contracts see the bits of the ids, and what always holds of their fields.
 use Rattle.std.specs.Prelude.{◌≡◌, ℕ, ◌-◌, ◌*◌, ◌^◌, ◌<◌, ◌≤◌, min, false, length, take}
 use Rattle.thread_local_model.specs.Held.{Manager, is_held, HoldsAllBelow}
 use Rattle.thread_local_bits.specs.Bits.{bits_of}
-use Rattle.thread_local_thread_id.specs.declared.manager.ThreadIdManager.TheInside.{Inside}
+use Rattle.thread_local_thread_id.specs.declared.id_bits.IdBits.TheInside.{Inside}
 
 -- the bits below the peak are the held ids, and the room is the number of bits, or that of all ids
 -- where that is less
-abbrev pub manager_of : Inside → Manager
-manager_of m = record { held = take m.peak (bits_of m.words.items); room = min (length m.words.items * 64) (2 ^ 63 - 1) }
+abbrev pub entries_of : Inside → Manager
+entries_of m = record { held = take m.peak (bits_of m.words); room = min (length m.words * 64) (2 ^ 63 - 1) }
 
 -- no bit from the peak on is set, the mark is the lowest unset bit, each free id below the peak is
 -- less than the end, and there are no more words than all ids need
-pub record IsManager (m : Inside) : Type 0 where
-  pub words : length m.words.items ≤ 2 ^ 57
-  pub peak : m.peak ≤ length m.words.items * 64
+pub record AreEntries (m : Inside) : Type 0 where
+  pub words : length m.words ≤ 2 ^ 57
+  pub peak : m.peak ≤ length m.words * 64
   pub in_range : m.peak ≤ 2 ^ 63 - 1
-  pub above : (id : ℕ) → m.peak ≤ id → is_held (bits_of m.words.items) id ≡ false
-  pub mark : HoldsAllBelow m.mark (bits_of m.words.items)
-  pub mark_free : is_held (bits_of m.words.items) m.mark ≡ false
-  pub end : (id : ℕ) → id < m.peak → is_held (bits_of m.words.items) id ≡ false → id < m.end
+  pub above : (id : ℕ) → m.peak ≤ id → is_held (bits_of m.words) id ≡ false
+  pub mark : HoldsAllBelow m.mark (bits_of m.words)
+  pub mark_free : is_held (bits_of m.words) m.mark ≡ false
+  pub end : (id : ℕ) → id < m.peak → is_held (bits_of m.words) id ≡ false → id < m.end

@@ -2,8 +2,10 @@
 #![tactic(auto)]
 
 mod error;
+mod id_bits;
 pub mod manager;
 pub mod place;
+mod words;
 
 pub use manager::{LocalError, ThreadIdManager};
 pub use place::{BUCKETS, Thread, bucket_size};

@@ -1,22 +1,22 @@
--- What each step of the manager of ids makes of its words, its peak, its mark and its end.
+-- What each step of the bits of ids makes of their words, their peak, mark and end.
 use Rattle.std.proofs.Common.{◌≡◌, ◌≢◌, ℕ, ◌+◌, ◌-◌, ◌*◌, ◌/◌, ◌^◌, ◌<◌, ◌≤◌, min, max, Bool, true, false, List, [], ◌∷◌, ◌++◌, length, take, set, replicate, sym, ◌∙◌, arith, ⊎_elim}
 use Rattle.std.proofs.lemmas.Bool.{both_ways, true_from_ne_false, cases_eq, cases_lt}
-use Rattle.std.proofs.lemmas.List.{nil_from_length, length-replicate, length_push, length-take, get_or-set_same, get_or-set_other}
+use Rattle.std.proofs.lemmas.List.{length-replicate, length_push, length-take, get_or-set_same, get_or-set_other}
 use Rattle.thread_local_bits.specs.Bits.{bits_of, IsNextUnset}
 use Rattle.thread_local_bits.proofs.Words.{length-bits_of, get_or-bits_of, is_set_in-zeros}
 use Rattle.thread_local_model.specs.Held.{is_held, least, HoldsAllBelow}
 use Rattle.thread_local_thread_id.proofs.Views.{IsFreeFrom-set, HoldsAllBelow-set, HoldsAllBelow-hold, was_free, is_held-push}
-use Rattle.thread_local_thread_id.specs.Entries.{IsManager}
-use Rattle.thread_local_thread_id.specs.declared.manager.ThreadIdManager.TheInside.{Inside}
+use Rattle.thread_local_thread_id.specs.Entries.{AreEntries}
+use Rattle.thread_local_thread_id.specs.declared.id_bits.IdBits.TheInside.{Inside}
 
 -- the held ids that contracts see fit into the room
-pub in_room : (m : Inside) → IsManager m → length (take m.peak (bits_of m.words.items)) ≤ min (length m.words.items * 64) (2 ^ 63 - 1)
-in_room m is = omega (arith, length-take m.peak (bits_of m.words.items), is.peak, is.in_range)
+pub in_room : (m : Inside) → AreEntries m → length (take m.peak (bits_of m.words)) ≤ min (length m.words * 64) (2 ^ 63 - 1)
+in_room m is = omega (arith, length-take m.peak (bits_of m.words), is.peak, is.in_range)
 
--- words that are all 0 are a manager that holds no id
-pub of_zeros : (new : Inside) (count : ℕ) → new.words.items ≡ replicate count 0 → count ≤ 2 ^ 57 → new.peak ≡ 0 → new.mark ≡ 0 → IsManager new
+-- words that are all 0 hold no id
+pub of_zeros : (new : Inside) (count : ℕ) → new.words ≡ replicate count 0 → count ≤ 2 ^ 57 → new.peak ≡ 0 → new.mark ≡ 0 → AreEntries new
 of_zeros new count zeros within peak mark =
-    let free : (id : ℕ) → is_held (bits_of new.words.items) id ≡ false = λ id. rw zeros (get_or-bits_of (replicate count 0) id ∙ is_set_in-zeros count id) in
+    let free : (id : ℕ) → is_held (bits_of new.words) id ≡ false = λ id. rw zeros (get_or-bits_of (replicate count 0) id ∙ is_set_in-zeros count id) in
     record {
       words = rw zeros (omega (arith, length-replicate {A = ℕ} count 0));
       peak = omega arith;
@@ -27,41 +27,26 @@ of_zeros new count zeros within peak mark =
       end = λ id below _. absurd (omega arith);
     }
 
--- the same, where a manager without words grows
-pub resized : (old new : Inside) (count : ℕ) → IsManager old → length old.words.items ≡ 0 → new.words.items ≡ replicate count 0 → count ≤ 2 ^ 57
-    → new.peak ≡ old.peak → new.mark ≡ old.mark → IsManager new
-resized old new count is none zeros within peak mark =
-    let empty = nil_from_length old.words.items none in
-    let low = is.peak in
-    of_zeros new count zeros within (omega arith)
-    (⊎_elim
-    (λ first. omega arith)
-    (λ some.
-    let held : is_held (bits_of old.words.items) 0 ≡ true = is.mark 0 (omega arith) in
-    let free : is_held (bits_of old.words.items) 0 ≡ false = rw empty (get_or-bits_of [] 0 ∙ is_set_in-zeros 0 0) in
-    absurd (both_ways _ free held))
-    (cases_lt old.mark 1))
-
 -- a further word, all of whose bits are free
-pub pushed : (old new : Inside) → IsManager old → new.words.items ≡ old.words.items ++ 0 ∷ [] → length old.words.items < 2 ^ 57
-    → new.peak ≡ old.peak → new.mark ≡ old.mark → new.end ≡ old.end → IsManager new
+pub pushed : (old new : Inside) → AreEntries old → new.words ≡ old.words ++ 0 ∷ [] → length old.words < 2 ^ 57
+    → new.peak ≡ old.peak → new.mark ≡ old.mark → new.end ≡ old.end → AreEntries new
 pushed old new is items within peak mark end = record {
-  words = rw items (omega (arith, length_push old.words.items 0));
-  peak = rw (items, peak) (omega (arith, length_push old.words.items 0, is.peak));
+  words = rw items (omega (arith, length_push old.words 0));
+  peak = rw (items, peak) (omega (arith, length_push old.words 0, is.peak));
   in_range = rw peak is.in_range;
-  above = λ id from. rw (items, is_held-push old.words.items id) (is.above id (omega arith));
-  mark = λ id below. rw (items, is_held-push old.words.items id) (is.mark id (omega arith));
-  mark_free = rw (items, mark, is_held-push old.words.items old.mark) is.mark_free;
-  end = λ id below free. let lower = is.end id (omega arith) (rw (items, is_held-push old.words.items id) at free) in omega arith;
+  above = λ id from. rw (items, is_held-push old.words id) (is.above id (omega arith));
+  mark = λ id below. rw (items, is_held-push old.words id) (is.mark id (omega arith));
+  mark_free = rw (items, mark, is_held-push old.words old.mark) is.mark_free;
+  end = λ id below free. let lower = is.end id (omega arith) (rw (items, is_held-push old.words id) at free) in omega arith;
 }
 
 -- the least free id is the peak, and is held from now on
-pub held_at_peak : (old new : Inside) (id : ℕ) → IsManager old → bits_of new.words.items ≡ set (bits_of old.words.items) id true
-    → length new.words.items ≡ length old.words.items → id ≡ least (bits_of old.words.items) → id ≡ old.peak → id < length old.words.items * 64 → id < 2 ^ 63 - 1
-    → new.peak ≡ old.peak + 1 → new.mark ≡ old.peak + 1 → IsManager new
+pub held_at_peak : (old new : Inside) (id : ℕ) → AreEntries old → bits_of new.words ≡ set (bits_of old.words) id true
+    → length new.words ≡ length old.words → id ≡ least (bits_of old.words) → id ≡ old.peak → id < length old.words * 64 → id < 2 ^ 63 - 1
+    → new.peak ≡ old.peak + 1 → new.mark ≡ old.peak + 1 → AreEntries new
 held_at_peak old new id is bits many first at room range peak mark =
-    let entries : List Bool = bits_of old.words.items in
-    let held : HoldsAllBelow (id + 1) (set entries id true) = HoldsAllBelow-hold entries id (omega (arith, length-bits_of old.words.items)) first in
+    let entries : List Bool = bits_of old.words in
+    let held : HoldsAllBelow (id + 1) (set entries id true) = HoldsAllBelow-hold entries id (omega (arith, length-bits_of old.words)) first in
     let above : (k : ℕ) → old.peak + 1 ≤ k → is_held (set entries id true) k ≡ false = IsFreeFrom-set entries (old.peak + 1) id true (omega arith) (λ k from. is.above k (omega arith)) in
     record {
       words = omega (arith, is.words);
@@ -74,12 +59,12 @@ held_at_peak old new id is bits many first at room range peak mark =
     }
 
 -- the least free id is the only free one below the peak, and is held from now on
-pub held_last : (old new : Inside) (id : ℕ) → IsManager old → bits_of new.words.items ≡ set (bits_of old.words.items) id true
-    → length new.words.items ≡ length old.words.items → id ≡ least (bits_of old.words.items) → id < old.peak → old.end ≤ id + 1
-    → new.peak ≡ old.peak → new.mark ≡ old.peak → IsManager new
+pub held_last : (old new : Inside) (id : ℕ) → AreEntries old → bits_of new.words ≡ set (bits_of old.words) id true
+    → length new.words ≡ length old.words → id ≡ least (bits_of old.words) → id < old.peak → old.end ≤ id + 1
+    → new.peak ≡ old.peak → new.mark ≡ old.peak → AreEntries new
 held_last old new id is bits many first below end peak mark =
-    let entries : List Bool = bits_of old.words.items in
-    let inside : id < length entries = omega (arith, length-bits_of old.words.items, is.peak) in
+    let entries : List Bool = bits_of old.words in
+    let inside : id < length entries = omega (arith, length-bits_of old.words, is.peak) in
     let lower : HoldsAllBelow (id + 1) (set entries id true) = HoldsAllBelow-hold entries id inside first in
     let held : (k : ℕ) → k < old.peak → is_held (set entries id true) k ≡ true = λ k under.
     true_from_ne_false (is_held (set entries id true) k) (λ free.
@@ -97,12 +82,12 @@ held_last old new id is bits many first below end peak mark =
     }
 
 -- others below the peak may be free, and the next unset bit is known
-pub held_below_peak : (old new : Inside) (id : ℕ) → IsManager old → bits_of new.words.items ≡ set (bits_of old.words.items) id true
-    → length new.words.items ≡ length old.words.items → id ≡ least (bits_of old.words.items) → id < old.peak
-    → new.peak ≡ old.peak → new.end ≡ old.end → IsNextUnset new.words.items (id / 64 * 64) new.mark → IsManager new
+pub held_below_peak : (old new : Inside) (id : ℕ) → AreEntries old → bits_of new.words ≡ set (bits_of old.words) id true
+    → length new.words ≡ length old.words → id ≡ least (bits_of old.words) → id < old.peak
+    → new.peak ≡ old.peak → new.end ≡ old.end → IsNextUnset new.words (id / 64 * 64) new.mark → AreEntries new
 held_below_peak old new id is bits many first below peak end next =
-    let entries : List Bool = bits_of old.words.items in
-    let inside : id < length entries = omega (arith, length-bits_of old.words.items, is.peak) in
+    let entries : List Bool = bits_of old.words in
+    let inside : id < length entries = omega (arith, length-bits_of old.words, is.peak) in
     let lower : HoldsAllBelow (id + 1) (set entries id true) = HoldsAllBelow-hold entries id inside first in
     record {
       words = omega (arith, is.words);
@@ -112,18 +97,18 @@ held_below_peak old new id is bits many first below peak end next =
       mark = λ k under.
           ⊎_elim
           (λ before. rw bits (lower k (omega arith)))
-          (λ from. get_or-bits_of new.words.items k ∙ next.between k from under)
+          (λ from. get_or-bits_of new.words k ∙ next.between k from under)
           (cases_lt k (id / 64 * 64));
-      mark_free = get_or-bits_of new.words.items new.mark ∙ next.unset;
+      mark_free = get_or-bits_of new.words new.mark ∙ next.unset;
       end = λ k under free. let before = is.end k (omega arith) (was_free entries id k inside (rw bits at free)).1 in omega arith;
     }
 
 -- an id below the peak is freed
-pub freed : (old new : Inside) (id : ℕ) → IsManager old → bits_of new.words.items ≡ set (bits_of old.words.items) id false
-    → length new.words.items ≡ length old.words.items → id < old.peak → new.peak ≡ old.peak → new.mark ≡ min old.mark id → new.end ≡ max old.end (id + 1) → IsManager new
+pub freed : (old new : Inside) (id : ℕ) → AreEntries old → bits_of new.words ≡ set (bits_of old.words) id false
+    → length new.words ≡ length old.words → id < old.peak → new.peak ≡ old.peak → new.mark ≡ min old.mark id → new.end ≡ max old.end (id + 1) → AreEntries new
 freed old new id is bits many below peak mark end =
-    let entries : List Bool = bits_of old.words.items in
-    let inside : id < length entries = omega (arith, length-bits_of old.words.items, is.peak) in
+    let entries : List Bool = bits_of old.words in
+    let inside : id < length entries = omega (arith, length-bits_of old.words, is.peak) in
     record {
       words = omega (arith, is.words);
       peak = omega (arith, is.peak);

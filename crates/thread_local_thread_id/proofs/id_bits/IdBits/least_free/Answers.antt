@@ -4,12 +4,12 @@ use Rattle.thread_local_model.proofs.HeldLaws.{least_only}
 use Rattle.thread_local_bits.specs.Bits.{bits_of}
 use Rattle.thread_local_bits.proofs.Words.{length-bits_of}
 use Rattle.thread_local_thread_id.proofs.Views.{least-take}
-use Rattle.thread_local_thread_id.proofs.manager.ThreadIdManager.least_free.Goals as goal
+use Rattle.thread_local_thread_id.proofs.id_bits.IdBits.least_free.Goals as goal
 
 pub returns-clause-least : goal.returns-clause-least
 returns-clause-least c =
     let is = c.self.invariant in
-    let bits = bits_of c.self.inside.words.items in
+    let bits = bits_of c.self.inside.words in
     least_only bits c.self.inside.mark is.mark_free is.mark
-    ∙ sym (least-take bits c.self.inside.peak (omega (arith, length-bits_of c.self.inside.words.items, is.peak)) is.above)
+    ∙ sym (least-take bits c.self.inside.peak (omega (arith, length-bits_of c.self.inside.words, is.peak)) is.above)
     ∙ ap (λ m. least m.held) c.self.view_is

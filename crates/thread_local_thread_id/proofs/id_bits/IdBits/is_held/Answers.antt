@@ -1,0 +1,12 @@
+use Rattle.std.proofs.Common.{◌∙◌, ap, sym}
+use Rattle.thread_local_model.specs.Held.{is_held}
+use Rattle.thread_local_bits.specs.Bits.{bits_of}
+use Rattle.thread_local_bits.proofs.Words.{get_or-bits_of}
+use Rattle.thread_local_thread_id.proofs.Views.{is_held-take}
+use Rattle.thread_local_thread_id.proofs.id_bits.IdBits.is_held.Goals as goal
+
+pub returns-clause-held : goal.returns-clause-held
+returns-clause-held c =
+    let words = c.self.inside.words in
+    let id = c.args.id in
+    c.is_set.ensures ∙ sym (get_or-bits_of words id) ∙ sym (is_held-take (bits_of words) c.self.inside.peak id c.self.invariant.above) ∙ ap (λ m. is_held m.held id) c.self.view_is

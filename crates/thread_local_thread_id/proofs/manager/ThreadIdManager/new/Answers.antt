@@ -1,6 +1,0 @@
-use Rattle.std.proofs.Common.{arith, refl}
-use Rattle.thread_local_thread_id.proofs.Managers.{of_zeros}
-use Rattle.thread_local_thread_id.proofs.manager.ThreadIdManager.new.Goals as goal
-
-pub invariant_of-result : goal.invariant_of-result
-invariant_of-result c = of_zeros _ 0 c.new.ensures.items (omega arith) refl refl
