@@ -1,8 +1,10 @@
--- The words as one list: what a write of the first word, or of one of the rest, makes of their bits.
-use Rattle.std.proofs.Common.{◌≡◌, ℕ, suc, ◌-◌, ◌*◌, ◌/◌, ◌%◌, ◌<◌, ◌≤◌, Bool, List, ◌∷◌, length, get_or, take, set, ap, sym, ◌∙◌, arith}
+-- The words as one list: what a write of the first word, or of one of the rest, makes of their bits,
+-- and which bit isn't set.
+use Rattle.std.proofs.Common.{◌≡◌, ◌≢◌, ℕ, suc, ◌+◌, ◌-◌, ◌*◌, ◌/◌, ◌%◌, ◌^◌, ◌<◌, ◌≤◌, Bool, List, ◌∷◌, length, get_or, take, set, refl, ap, subst, sym, ◌∙◌, arith}
+use Rattle.std.specs.Int.{w64, trailing_ones}
 use Rattle.std.proofs.lemmas.List.{take_all, length-set, length-take}
-use Rattle.thread_local_bits.specs.Bits.{bits_of, IsWordBut}
-use Rattle.thread_local_bits.proofs.Words.{bits_of-set}
+use Rattle.thread_local_bits.specs.Bits.{bits_of, is_set_in, IsWordBut, IsNextUnset}
+use Rattle.thread_local_bits.proofs.Words.{bits_of-set, is_set_in-all_ones, next_unset, next_unset_from}
 
 -- where there is a word, all of them are the first and the rest
 all_words : (count first : ℕ) (rest : List ℕ) → length rest ≡ count - 1 → 0 < count → take count (first ∷ rest) ≡ first ∷ rest
@@ -35,3 +37,33 @@ later_bit count first word rest bit value are within high but =
     ∙ ap (λ k. bits_of (set (first ∷ rest) k word)) (sym here)
     ∙ bits_of-set (first ∷ rest) bit word value (omega arith) (rw here but)
     ∙ ap (λ words. set (bits_of words) bit value) (sym (all_words count first rest are (omega arith)))
+
+-- a bit behind the first word is a bit of the rest
+in_rest : (first : ℕ) (rest : List ℕ) (bit later : ℕ) → bit ≡ 64 + later → is_set_in (first ∷ rest) bit ≡ is_set_in rest later
+in_rest first rest bit later same =
+    let word : bit / 64 ≡ suc (later / 64) = omega arith in
+    let place : bit % 64 ≡ later % 64 = omega arith in
+    rw (word, place) refl
+
+-- the next unset bit of the rest is that of all words, 64 bits further on
+pub next_in_rest : (count first : ℕ) (rest : List ℕ) (from later bit : ℕ) → length rest ≡ count - 1 → 0 < length (take count (first ∷ rest)) → from ≡ 64 + later → IsNextUnset rest later bit
+    → IsNextUnset (take count (first ∷ rest)) from (64 + bit)
+next_in_rest count first rest from later bit are some same next =
+    let after = next.after in
+    rw (all_words count first rest are (omega (arith, length-take count (first ∷ rest))))
+    (record {
+      after = omega arith;
+      unset = in_rest first rest (64 + bit) bit refl ∙ next.unset;
+      between = λ i lower below. in_rest first rest i (i - 64) (omega arith) ∙ next.between (i - 64) (omega arith) (omega arith);
+    })
+
+-- where the first word isn't full, the first unset bit is there
+pub next_in_first : (words : List ℕ) (first : ℕ) → first ≡ get_or words 0 0 → first < 2 ^ 64 → first ≢ 2 ^ 64 - 1 → IsNextUnset words 0 (trailing_ones w64 first)
+next_in_first words first read fits apart =
+    let same : 0 * 64 + trailing_ones w64 first ≡ trailing_ones w64 first = omega arith in
+    subst (IsNextUnset words 0) same (next_unset words 0 first read fits apart)
+
+-- where it is full, the first unset bit is behind it
+pub next_behind_first : (words : List ℕ) (first bit : ℕ) → first ≡ get_or words 0 0 → first ≡ 2 ^ 64 - 1 → IsNextUnset words 64 bit → IsNextUnset words 0 bit
+next_behind_first words first bit read full next =
+    next_unset_from words 0 64 bit (omega arith) (λ i _ below. is_set_in-all_ones words 0 i (sym read ∙ full) (omega arith) (omega arith)) next

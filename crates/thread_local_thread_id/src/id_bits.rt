@@ -68,6 +68,7 @@ impl IdBits {
 
     /// Takes the least id that isn't held. It asks for memory only where every id below the peak is
     /// held and there is no room for one more.
+    #[inline(never)]
     pub(crate) fn alloc(&mut self) -> Result<usize, LocalError>
         ensures ok { IfOk result (λ id. Takes self.old self.new id) }
         ensures memory { result ≡ Err (LocalError.Memory alloc_error) → NeedsMemory self.old }
@@ -145,6 +146,7 @@ impl IdBits {
     }
 
     /// Takes back an id, which the caller shows to be held.
+    #[inline(never)]
     pub(crate) fn free(&mut self, id: usize)
         requires { IsTrue (is_held self.old.held id) }
         ensures { Gives self.old self.new id }

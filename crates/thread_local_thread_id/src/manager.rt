@@ -80,7 +80,7 @@ impl ThreadIdManager {
     /// held and there is no room for one more.
     ///
     /// `Memory` means out of memory. `Exhausted` means that all 2^63 - 1 ids are held.
-    #[inline]
+    #[inline(always)]
     pub fn alloc(&mut self) -> Result<usize, LocalError>
         ensures ok { IfOk result (λ id. Takes self.old self.new id) }
         ensures memory { result ≡ Err (LocalError.Memory alloc_error) → NeedsMemory self.old }
@@ -105,7 +105,7 @@ impl ThreadIdManager {
     }
 
     /// Takes back an id, which the caller shows to be held.
-    #[inline]
+    #[inline(always)]
     pub fn free(&mut self, id: usize)
         requires { IsTrue (is_held self.old.held id) }
         ensures { Gives self.old self.new id }
@@ -125,7 +125,7 @@ impl ThreadIdManager {
 }
 
 /// Clears the bit of the id that was given back last, where there is one.
-#[inline]
+#[inline(always)]
 fn settle(bits: &mut IdBits, returned: usize)
     requires returned { (returned ≡ 2 ^ 63 - 1) ⊎ IsTrue (is_held bits.old.held returned) }
     requires in_range { length bits.old.held ≤ 2 ^ 63 - 1 }

@@ -135,16 +135,32 @@ impl Words {
 
     /// The lowest bit that isn't set, from word `from` on. Past the last word no bit is set.
     pub(crate) fn next_unset(&self, from: usize) -> usize
-        requires within { from ≤ length self.now }
+        requires within { from < length self.now }
         requires few { length self.now ≤ 2 ^ 57 }
         ensures { IsNextUnset self.now (from * 64) result }
     {
-        for at in from..self.count {
-            let word = self.word(at);
-            if word != u64::MAX {
-                return at * 64 + word.trailing_ones() as usize;
-            }
+        if from > 0 {
+            return 64 + next_unset(&self.rest, from - 1);
         }
-        self.count * 64
+        let first = self.word(0);
+        if first != u64::MAX {
+            return first.trailing_ones() as usize;
+        }
+        64 + next_unset(&self.rest, 0)
     }
+}
+
+/// The lowest bit that isn't set, from word `from` on. Past the last word no bit is set.
+fn next_unset(words: &[u64], from: usize) -> usize
+    requires within { from ≤ length words.now }
+    requires few { length words.now ≤ 2 ^ 57 }
+    ensures { IsNextUnset words.now (from * 64) result }
+{
+    for at in from..words.len() {
+        let word = words[at];
+        if word != u64::MAX {
+            return at * 64 + word.trailing_ones() as usize;
+        }
+    }
+    words.len() * 64
 }

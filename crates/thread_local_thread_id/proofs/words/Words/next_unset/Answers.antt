@@ -1,19 +1,28 @@
-use Rattle.std.proofs.Common.{◌*◌, ◌∙◌, sym, arith, ⊎_elim}
-use Rattle.std.proofs.lemmas.Bool.{cases_lt}
-use Rattle.thread_local_bits.proofs.Words.{is_set_in-all_ones, next_unset, next_unset_from}
+use Rattle.std.proofs.Common.{◌-◌, ◌*◌, ◌≡◌, ◌<◌, length, arith}
+use Rattle.thread_local_thread_id.proofs.WordList.{next_in_rest, next_in_first, next_behind_first}
 use Rattle.thread_local_thread_id.proofs.words.Words.next_unset.Goals as goal
 
-pub loop-at-preserved : goal.loop-at-preserved
-loop-at-preserved c = λ i from below.
-    ⊎_elim
-    (λ before. c.loop-at.invariant i from before)
-    (λ here. is_set_in-all_ones c.args.self.now c.loop-at.at i (sym c.word-word.ensures ∙ c.if-word.false) here below)
-    (cases_lt i (c.loop-at.at * 64))
+pub returns-then-from-gt0 : goal.returns-then-from-gt0
+returns-then-from-gt0 c =
+    let w = c.self.inside in
+    let from = c.args.from in
+    let within = c.requires.within in
+    let some : 0 < length c.args.self.now = omega arith in
+    let next = rw c.deref.ensures.value at c.next_unset.ensures in
+    rw (← c.self.view_is) (next_in_rest w.count w.first w.rest.items (from * 64) ((from - 1) * 64) _ c.self.invariant (rw (← c.self.view_is) at some) (omega arith) next)
 
-pub returns-then-word : goal.returns-then-word
-returns-then-word c =
-    let words = c.args.self.now in
-    let at = c.loop-at.at in
-    let after = c.loop-at.auto.at in
-    let next = next_unset words at c.word-word.result c.word-word.ensures c.word-word.type_inv c.if-word.true in
-    rw c.trailing_ones.ensures (next_unset_from words (c.args.from * 64) (at * 64) _ (omega arith) c.loop-at.invariant next)
+pub returns-then-first : goal.returns-then-first
+returns-then-first c =
+    let start : c.args.from ≡ 0 = omega arith in
+    rw (start, c.trailing_ones.ensures) (next_in_first c.args.self.now c.word-first.result c.word-first.ensures c.word-first.type_inv c.if-first.true)
+
+pub returns : goal.returns
+returns c =
+    let w = c.self.inside in
+    let start : c.args.from ≡ 0 = omega arith in
+    let within = c.requires.within in
+    let some : 0 < length c.args.self.now = omega arith in
+    let next = rw c.deref-2.ensures.value at c.next_unset-2.ensures in
+    rw start
+    (next_behind_first c.args.self.now c.word-first.result _ c.word-first.ensures c.if-first.false
+    (rw (← c.self.view_is) (next_in_rest w.count w.first w.rest.items 64 0 _ c.self.invariant (rw (← c.self.view_is) at some) (omega arith) next)))
