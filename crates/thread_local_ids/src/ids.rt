@@ -13,8 +13,8 @@ use thread_local_thread_id::{LocalError, ThreadIdManager};
 /// The mark of an id is the right to the number that lies so far beyond it, and beyond every id.
 const FIRST_MARK: usize = 1 << 63;
 
-/// Gives out the least id that isn't held, with the right to it, and takes both back. Only
-/// `with_room` and `take` take memory.
+/// Gives out the least id that isn't held, with the right to it, and takes both back. The first 64
+/// ids need no memory; for further ones `with_room` and `take` take it.
 ///
 /// Contracts see the manager, the table's name, and whether the table's own right is out.
 #[derive(Drop)]
@@ -57,8 +57,8 @@ impl Ids {
     }
 
     /// The ids of a new table, none of them held, with room for `ids` of them, or for every id
-    /// where that is less. It asks for memory once, and not at all where `ids` is 0. It refuses
-    /// where that memory isn't given.
+    /// where that is less. It asks for memory once, and not at all where `ids` is at most 64. It
+    /// refuses where that memory isn't given.
     pub fn with_room(alloc: Global, ids: usize) -> Result<Ids, AllocError>
         ensures held { IfOk result (λ table. table.manager.held ≡ []) }
         ensures room { IfOk result (λ table. min ids (2 ^ 63 - 1) ≤ table.manager.room) }
@@ -74,8 +74,8 @@ impl Ids {
     }
 
     /// Takes the least id that isn't held, and the right to it. It asks for memory only where every
-    /// id below the peak is held and there is no room for one more. It refuses where that memory
-    /// isn't given, and where every id is held.
+    /// id below the peak is held and there is no room for one more, and not for the first 64 ids. It
+    /// refuses where that memory isn't given, and where every id is held.
     pub fn take(&mut self) -> Result<HeldId, LocalError>
         ensures ok { IfOk result (λ taken. Takes self.old.manager self.new.manager taken.id) }
         ensures right { IfOk result (λ taken. taken.right.table ≡ self.old.table) }

@@ -64,12 +64,12 @@ fn an_id_is_held_once(rt: HostRuntime) -> Result<(), Fail> {
 
 #[test]
 fn room_that_was_made_is_enough(rt: HostRuntime) -> Result<(), Fail> {
-    let mut ids = Ids::with_room(rt.alloc(), 3)?;
+    let mut ids = Ids::with_room(rt.alloc(), 67)?;
     // No memory is asked for here, so a refusal would be a fault of the manager's.
-    for id in 0..3usize {
+    for id in 0..67usize {
         assert_eq!(rt; ids.take()?.id, id);
     }
-    assert!(rt; !ids.is_held(3));
+    assert!(rt; !ids.is_held(67));
     Ok(())
 }
 

@@ -1,4 +1,5 @@
-//! Tests of the manager of ids: the least id comes, and a returned one needs no memory.
+//! Tests of the manager of ids: the least id comes, and neither the first 64 nor a returned one
+//! needs memory.
 use std::io::Print;
 use std::process::Abort;
 use std::test::Fail;
@@ -50,7 +51,7 @@ fn least_ids_in_turn(rt: HostRuntime) -> Result<(), Fail> {
 fn a_returned_id_needs_no_memory(rt: HostRuntime) -> Result<(), Fail> {
     let mut manager = ThreadIdManager::new(rt.alloc());
     let first = [0, 1, 2, 3, 4, 5, 6, 7];
-    for id in 0..40usize {
+    for id in 0..70usize {
         assert_eq!(rt; take(&rt, &mut manager, &first[..id.min(8)])?, id);
     }
     assert!(rt; manager.is_held(33) && manager.is_held(7));
@@ -65,15 +66,15 @@ fn a_returned_id_needs_no_memory(rt: HostRuntime) -> Result<(), Fail> {
 
 #[test]
 fn room_that_was_made_is_enough(rt: HostRuntime) -> Result<(), Fail> {
-    let Ok(mut manager) = ThreadIdManager::with_room(rt.alloc(), 3) else {
+    let Ok(mut manager) = ThreadIdManager::with_room(rt.alloc(), 67) else {
         println!(rt; "refused: with_room")?;
         return Ok(());
     };
     // No memory is asked for here, so a refusal would be a fault of the manager's.
-    for id in 0..3usize {
+    for id in 0..67usize {
         assert_eq!(rt; manager.alloc()?, id);
     }
-    assert!(rt; !manager.is_held(3));
+    assert!(rt; !manager.is_held(67));
     let mut empty = ThreadIdManager::with_room(rt.alloc(), 0)?;
     assert!(rt; !empty.is_held(0));
     assert_eq!(rt; take(&rt, &mut empty, &[])?, 0);
@@ -97,5 +98,28 @@ fn room_is_made_in_whole_words(rt: HostRuntime) -> Result<(), Fail> {
         assert_eq!(rt; manager.alloc()?, id);
     }
     assert_eq!(rt; take(&rt, &mut manager, &[0, 1, 2, 3, 4, 5, 6, 7])?, 128);
+    Ok(())
+}
+
+/// Takes 64 ids, which need no memory, and one more.
+fn take_65(rt: &(impl Abort + Print), manager: &mut ThreadIdManager) -> Result<usize, LocalError> {
+    // No memory is asked for here, so a refusal would be a fault of the manager's.
+    for id in 0..64usize {
+        assert_eq!(rt; manager.alloc()?, id);
+    }
+    take(rt, manager, &[0, 1, 2, 3, 4, 5, 6, 7])
+}
+
+#[test]
+fn the_first_64_ids_need_no_memory(rt: HostRuntime) -> Result<(), Fail> {
+    let mut manager = ThreadIdManager::new(rt.alloc());
+    assert_eq!(rt; take_65(&rt, &mut manager)?, 64);
+    Ok(())
+}
+
+#[test]
+fn room_for_64_ids_needs_no_memory(rt: HostRuntime) -> Result<(), Fail> {
+    let mut manager = ThreadIdManager::with_room(rt.alloc(), 64)?;
+    assert_eq!(rt; take_65(&rt, &mut manager)?, 64);
     Ok(())
 }

@@ -2,9 +2,10 @@
 //! refused, with the second, and so on until no request is refused any more. Each test holds
 //! whichever it is, and says which call was refused; with ample memory it says nothing.
 
-use std::alloc::AllocError;
+use std::alloc::{AllocError, Global};
 use std::cell::Cell;
 use std::io::Print;
+use std::mem::forget;
 use std::sync::Wait;
 use std::test::Fail;
 use thread_local_buckets::{Buckets, CapacityError};
@@ -156,6 +157,16 @@ fn taken<'a, R: Wait + Print>(
     had
 }
 
+/// A table of which 62 ids are held, for good. Of the next three the last is the first that needs
+/// memory, and the first is the last of its bucket.
+fn with_62_held<R: Wait>(rt: &R, alloc: Global) -> Result<ThreadLocal<u32>, LocalError> {
+    let table = ThreadLocal::<u32>::new(alloc);
+    for _ in 0..62 {
+        forget(table.local(rt)?);
+    }
+    Ok(table)
+}
+
 #[test]
 fn a_call_that_was_refused_succeeds_when_it_is_made_again(rt: HostRuntime) -> Result<(), Fail> {
     for call in [
@@ -164,7 +175,7 @@ fn a_call_that_was_refused_succeeds_when_it_is_made_again(rt: HostRuntime) -> Re
         Publishing::GetOrDefault,
         Publishing::Set,
     ] {
-        let table = ThreadLocal::<u32>::new(rt.alloc());
+        let table = with_62_held(&rt, rt.alloc())?;
         let as_promised = call.by_three(&table, &rt) == Ok(true);
         let mut values = table.into_iter();
         let walked = [values.next(), values.next(), values.next(), values.next()];
@@ -185,7 +196,7 @@ fn drained(table: &mut ThreadLocal<u32>) -> [Option<u32>; 4] {
 
 #[test]
 fn a_round_after_a_drain_is_refused_nothing(rt: HostRuntime) -> Result<(), Fail> {
-    let mut table = ThreadLocal::<u32>::new(rt.alloc());
+    let mut table = with_62_held(&rt, rt.alloc())?;
     let first = Publishing::GetOr.by_three(&table, &rt) == Ok(true);
     let numbers = drained(&mut table);
     let second = Publishing::Set.by_three(&table, &rt) == Ok(true);

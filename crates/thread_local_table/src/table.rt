@@ -115,8 +115,8 @@ impl<T> ThreadLocal<T> {
     /// `Local::is_reserved` says of a `Local` whether its slot is one of them.
     ///
     /// `TooLarge` means that the capacity is 2^63 or more, and comes before memory is asked for.
-    /// `Memory` means out of memory, for the ids or for a bucket; what was obtained before is
-    /// freed, though no clause says so. Rust's crate panics where this refuses.
+    /// `Memory` means out of memory, for ids beyond the first 64 or for a bucket; what was obtained
+    /// before is freed, though no clause says so. Rust's crate panics where this refuses.
     pub fn with_capacity(alloc: Global, capacity: usize) -> Result<ThreadLocal<T>, CapacityError>
     where
         T: Drop + Send,
@@ -139,8 +139,8 @@ impl<T> ThreadLocal<T> {
     /// looks once whether the id's slot holds a value, so that `get` needs no look.
     ///
     /// It asks for memory only where as many ids are held as ever were at once and there is no room
-    /// for one more: `Memory` means out of memory. `Exhausted` means that all 2^63 - 1 ids are
-    /// held. Rust's crate finds the running thread by itself.
+    /// for one more, and not for the first 64: `Memory` means out of memory. `Exhausted` means that
+    /// all 2^63 - 1 ids are held. Rust's crate finds the running thread by itself.
     pub fn local<'a, R: Wait>(&'a self, rt: &'a R) -> Result<Local<'a, T, R>, LocalError>
         ensures table { IfOk result (λ local.
             (local.table ≡ self.now.table)

@@ -37,7 +37,7 @@ fn count(table: &mut ThreadLocal<u32>) -> usize {
 }
 
 #[test]
-fn a_cleared_table_keeps_its_reserved_slots_and_its_room(rt: HostRuntime) -> Result<(), Fail> {
+fn a_cleared_table_keeps_its_reserved_slots(rt: HostRuntime) -> Result<(), Fail> {
     let Ok(mut table) = ThreadLocal::<u32>::with_capacity(rt.alloc(), 4) else {
         println!(rt; "refused: with_capacity")?;
         return Ok(());
@@ -52,8 +52,7 @@ fn a_cleared_table_keeps_its_reserved_slots_and_its_room(rt: HostRuntime) -> Res
     let before = table.slots();
     table.clear();
     assert_eq!(rt; (before, table.slots(), count(&mut table)), (15, 7, 0));
-    // From here on eight ids and seven values are never refused memory. Whether the eighth value
-    // is, its bucket shows.
+    // From here on seven values are never refused memory. Whether the eighth is, its bucket shows.
     let published = eight_publish(&table, &rt, rt.alloc());
     let is_eighth = published == Some(([true; 4], [true; 4]));
     if !is_eighth {
@@ -81,7 +80,7 @@ fn slots_of(published: [bool; 4]) -> usize {
 }
 
 #[test]
-fn a_cleared_table_of_no_capacity_keeps_its_room(rt: HostRuntime) -> Result<(), Fail> {
+fn a_cleared_table_of_no_capacity_keeps_no_slots(rt: HostRuntime) -> Result<(), Fail> {
     let mut table = ThreadLocal::<u32>::new(rt.alloc());
     let found = reserved_and_published(&table, &rt, rt.alloc());
     if found != Some((false, [true; 4])) {
@@ -93,7 +92,7 @@ fn a_cleared_table_of_no_capacity_keeps_its_room(rt: HostRuntime) -> Result<(), 
     let before = table.slots();
     table.clear();
     assert_eq!(rt; (before, table.slots()), (7, 0));
-    // From here on four ids are never refused memory. Which values are, the buckets show.
+    // Which values are refused memory, the buckets show.
     let found = reserved_and_published(&table, &rt, rt.alloc());
     let published = found.map_or([false; 4], |(_, published)| published);
     assert_eq!(rt; found, Some((false, published)));
@@ -101,5 +100,34 @@ fn a_cleared_table_of_no_capacity_keeps_its_room(rt: HostRuntime) -> Result<(), 
         println!(rt; "refused: get_or")?;
     }
     assert_eq!(rt; table.slots(), slots_of(published));
+    Ok(())
+}
+
+/// Whether 65 `Local`s are held at once: one more than there is room for without memory. A refusal
+/// is told.
+fn are_65_held<R: Wait + Print>(table: &ThreadLocal<u32>, rt: &R, alloc: Global) -> bool {
+    taken(table, rt, alloc, 65).is_some()
+}
+
+#[test]
+fn a_cleared_table_keeps_its_room_for_ids(rt: HostRuntime) {
+    let mut table = ThreadLocal::<u32>::new(rt.alloc());
+    if are_65_held(&table, &rt, rt.alloc()) {
+        table.clear();
+        // From here on so many ids are never refused memory.
+        assert!(rt; are_65_held(&table, &rt, rt.alloc()));
+    }
+}
+
+#[test]
+fn a_table_with_a_capacity_has_room_for_ids_and_keeps_it(rt: HostRuntime) -> Result<(), Fail> {
+    let Ok(mut table) = ThreadLocal::<u32>::with_capacity(rt.alloc(), 65) else {
+        println!(rt; "refused: with_capacity")?;
+        return Ok(());
+    };
+    // From here on so many ids are never refused memory.
+    assert!(rt; are_65_held(&table, &rt, rt.alloc()));
+    table.clear();
+    assert!(rt; are_65_held(&table, &rt, rt.alloc()));
     Ok(())
 }

@@ -1,4 +1,4 @@
-//! Eight `Local`s or fewer that are held at once.
+//! `Local`s that are held at once.
 
 use crate::locals::published;
 use std::alloc::Global;
@@ -6,25 +6,29 @@ use std::io::Print;
 use std::sync::Wait;
 use thread_local_table::{Local, ThreadLocal};
 
-/// Room for eight `Local`s, asked for once more where it is refused.
-fn room<'a, R: Wait + Print>(rt: &R, alloc: Global) -> Option<Vec<Local<'a, u32, R>>> {
-    match Vec::with_capacity(alloc, 8) {
+/// Room for so many `Local`s, asked for once more where it is refused.
+fn room<'a, R: Wait + Print>(
+    rt: &R,
+    alloc: Global,
+    count: usize,
+) -> Option<Vec<Local<'a, u32, R>>> {
+    match Vec::with_capacity(alloc, count) {
         Ok(room) => Some(room),
         Err(_) => {
             let _told = println!(rt; "refused: room");
-            Vec::with_capacity(alloc, 8).ok()
+            Vec::with_capacity(alloc, count).ok()
         }
     }
 }
 
-/// At most eight `Local`s, taken one after another. None: one was refused, which is told.
+/// So many `Local`s, taken one after another. None: one was refused, which is told.
 pub fn taken<'a, R: Wait + Print>(
     table: &'a ThreadLocal<u32>,
     rt: &'a R,
     alloc: Global,
     count: usize,
 ) -> Option<Vec<Local<'a, u32, R>>> {
-    let mut locals = room(rt, alloc)?;
+    let mut locals = room(rt, alloc, count)?;
     for _ in 0..count {
         let Ok(local) = table.local(rt) else {
             let _told = println!(rt; "refused: local");

@@ -10,8 +10,8 @@ use std::marker::Model;
 
 /// The held ids, each as a bit that is set. The least free id is known at any time.
 ///
-/// Contracts see what those of the manager see. No call waits, and only `with_room` and `alloc`
-/// take memory.
+/// Contracts see what those of the manager see. No call waits. The first 64 ids need no memory; for
+/// further ones `with_room` and `alloc` take it.
 #[derive(Drop)]
 pub(crate) struct IdBits {
     // A bit for each id, 64 to a word, the lowest first.
@@ -67,7 +67,7 @@ impl IdBits {
     }
 
     /// Takes the least id that isn't held. It asks for memory only where every id below the peak is
-    /// held and there is no room for one more.
+    /// held and there is no room for one more, and not for the first 64 ids.
     #[inline(never)]
     pub(crate) fn alloc(&mut self) -> Result<usize, LocalError>
         ensures ok { IfOk result (λ id. Takes self.old self.new id) }

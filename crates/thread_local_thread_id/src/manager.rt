@@ -25,7 +25,7 @@ pub enum LocalError {
 /// number of ids whose return needs no further memory. The peak is the greatest number of ids held
 /// at one moment.
 ///
-/// No call waits, and only `with_room` and `alloc` take memory, for more than 64 ids.
+/// No call waits. The first 64 ids need no memory; for further ones `with_room` and `alloc` take it.
 ///
 /// Unlike in the Rust crate it is public, one for each table, and the memory that an id's return
 /// needs is taken with the id. In the Rust crate `alloc` returns the bare id, and there is no
@@ -77,7 +77,7 @@ impl ThreadIdManager {
     }
 
     /// Takes the least id that isn't held. It asks for memory only where every id below the peak is
-    /// held and there is no room for one more.
+    /// held and there is no room for one more, and not for the first 64 ids.
     ///
     /// `Memory` means out of memory. `Exhausted` means that all 2^63 - 1 ids are held.
     #[inline(always)]
@@ -87,7 +87,8 @@ impl ThreadIdManager {
         ensures exhausted { result ≡ Err LocalError.Exhausted → IsExhausted self.old }
         ensures err { OnErr result (self.new ≡ self.old) }
     {
-        if self.returned < self.bits.least_free() {
+        let least = self.bits.least_free();
+        if self.returned < least {
             let id = self.returned;
             self.returned = IDS;
             return Ok(id);

@@ -15,7 +15,7 @@ below c = below_peak (bits_of c.self.inside.words) c.self.inside.peak c.args.id 
 pub invariant_of-self : goal.invariant_of-self
 invariant_of-self c =
     let at = (goal.at.invariant_of-self c).After-clear_bit in
-    freed c.self.inside _ c.args.id c.self.invariant c.clear_bit.ensures.bits c.clear_bit.ensures.len (below at) refl c.min-self-inside.ensures c.max-self-inside.ensures
+    freed c.self.inside _ c.args.id c.self.invariant c.clear_bit.ensures.bits c.clear_bit.ensures.len (below at) refl (search rules) (search rules)
 
 pub returns : goal.returns
 returns c =

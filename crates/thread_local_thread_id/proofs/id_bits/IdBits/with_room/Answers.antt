@@ -3,7 +3,4 @@ use Rattle.thread_local_thread_id.proofs.IdBits.{of_zeros}
 use Rattle.thread_local_thread_id.proofs.id_bits.IdBits.with_room.Goals as goal
 
 pub invariant_of-result : goal.invariant_of-result
-invariant_of-result c =
-    let words = c.div_ceil.ensures in
-    let ids = c.min.ensures in
-    of_zeros _ c.div_ceil.result c.in_ok-with_len.ensures.zeros (omega arith) refl refl
+invariant_of-result c = of_zeros _ _ c.in_ok-with_len.ensures.zeros (omega arith) refl refl
