@@ -38,7 +38,8 @@ pub enum CapacityError {
 ///
 /// Only `with_capacity` and `insert` take memory, and no call takes a lock. A value's drop may
 /// wait: `insert` may drop the value that it is given, and `clear` drops all values, as dropping
-/// the buckets does.
+/// the buckets does. A bucket of 2^58 bytes or more, and values aligned above 16, are refused as if
+/// out of memory.
 ///
 /// The Rust crate has no such type.
 #[derive(Drop)]

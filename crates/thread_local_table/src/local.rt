@@ -23,8 +23,8 @@ mod lends;
 ///
 /// Each call is the seat's: none takes a lock, and only `set` and the `get_or` family (`get_or`,
 /// `get_or_default`, `get_or_try`, `try_fill`) take memory, for a bucket; the closure or the
-/// `T::default` that these run may wait. References that calls answer live no longer than the borrow
-/// of the `Local`.
+/// `T::default` that these run may wait, and so may the drop of a closure that they don't run.
+/// References that calls answer live no longer than the borrow of the `Local`.
 ///
 /// Contracts see the table's name and its sharing, the id, the number of reserved slots, and what is
 /// known of the id's slot: its value, if there is one, and whether its bucket is known to stand.

@@ -41,7 +41,8 @@ pub enum SetError<T> {
 /// An id of a table, and what is known of the id's slot. Each `Local` has one, and lends it. No
 /// call takes a lock, and only `set` and the `get_or` family (`get_or`, `get_or_default`,
 /// `get_or_try`, `try_fill`) take memory, for a bucket; the closure or the `T::default` that these
-/// run may wait. In Rust's crate the running thread is the seat.
+/// run may wait, and so may the drop of a closure that they don't run. In Rust's crate the running
+/// thread is the seat.
 pub struct Seat<'a, T> {
     table: &'a ThreadLocal<T>,
     claim: Claim<'a, T>,

@@ -33,10 +33,13 @@ mod lends;
 /// `Sync`, every thread may, while others publish more. Threads share a table through a `&`, and it
 /// can be sent to another thread. One can be made of every `T: Send` that is judged, as `new` says.
 ///
-/// Only `local` takes the table's lock, so no other call here waits; only `local` and
-/// `with_capacity` take memory. But `clear` drops values, as the drop of a table or of a walk by
-/// value does, and a value's drop may wait and may take memory: a value may hold a `Local` of
-/// another table.
+/// Only `local` and the drop of a `Local` take the table's lock, so no other call here waits; only
+/// `local` and `with_capacity` take memory. But `clear` drops values, as the drop of a table or of a
+/// walk by value does, and a value's drop may wait and may take memory: a value may hold a `Local`
+/// of another table.
+///
+/// A bucket of 2^58 bytes or more, and values aligned above 16, are refused as if out of memory, here
+/// and by every `Local`.
 ///
 /// Contracts see the table's name, the number of reserved slots, and the sharing, if that has a name.
 /// A sharing begins when the table is made, cleared or renewed, and lasts until an owner has the table
