@@ -1,8 +1,8 @@
 -- The machine value of a claimed slot: what it keeps at run time. Assumes `Logic`.
-use Rattle.std.proofs.Common.{◌≡◌, ℕ, ◌+◌, ◌-◌, ◌*◌, ◌/◌, ◌^◌, ◌<◌, arith, Bool, T, w64, List, [], ◌∷◌, ◌++◌, refl, sym, ap, subst, ◌∙◌, lit<}
+use Rattle.std.proofs.Common.{◌≡◌, ℕ, ◌+◌, ◌-◌, ◌*◌, ◌/◌, ◌^◌, ◌<◌, arith, T, w64, List, [], ◌∷◌, ◌++◌, refl, sym, ap, subst, ◌∙◌, lit<}
 use seplogic.Ra.Ura.{Ura}
-use mir.Syntax.{Ty, ty_ptr, ty_bool, ty_struct, tcons, tnil}
-use mir.Val.{Val, vint, vbool, vstruct, vcons, vnil, of_list, has_ty, WT}
+use mir.Syntax.{Ty, ty_int, ty_ptr, ty_struct, tcons, tnil}
+use mir.Val.{Val, vint, vstruct, vcons, vnil, of_list, has_ty, WT}
 use base.Logic.{ent, emp}
 use types.Logic.{Logic, sem}
 use prog.Memory.{capped}
@@ -13,7 +13,7 @@ use denote.Opens.{Opens}
 use denote.Copied.{Struct-Copied}
 use denote.RawPtr.{Ptr, block_ptr, null_ptr, ptr_val}
 use denote.Shadow.{makes_shadow}
-use denote.Struct.Laws.{RawPtr-copy, bool-copy, field_copy}
+use denote.Struct.Laws.{RawPtr-copy, u64-copy, field_copy}
 use denote.Struct.Struct.{Struct}
 use denote.Struct.Owning.{shape}
 use Rattle.std.specs.contracts.marker.PhantomData as marker
@@ -41,47 +41,50 @@ number_in R d id i is near = let lies : id ≡ id_at d.bucket i = lies_at R d id
 -- what a claim keeps at run time
 pub record Kept : Type 0 where
   pub at : Ptr
-  pub found : Bool
-  pub published : Bool
+  pub state : ℕ
 
 abbrev pub kept_of : {X : Type 0} → claim_value.ClaimedSlot X → Kept
-kept_of c = record { at = c.at; found = c.found; published = c.published }
+kept_of c = record { at = c.at; state = c.state }
 
 abbrev pub moved_to : Kept → Ptr → Kept
 moved_to c p = record c { at = p }
 
 abbrev pub value_of : Kept → Val
-value_of c = vstruct (vcons (ptr_val c.at) (vcons (vbool c.found) (vcons (vbool c.published) (vcons (vstruct vnil) vnil))))
+value_of c = vstruct (vcons (ptr_val c.at) (vcons (vint w64 c.state) (vcons (vstruct vnil) vnil)))
 
 module _ (a : NamedLft) (R : RattleType) where
   abbrev pub FieldsType : RattleType
   FieldsType = Struct (shape (claim.the_type a R))
 
   abbrev pub fields_of : Kept → FieldsType.Denot
-  fields_of c = (c.at, (c.found, (c.published, (tt, tt))))
+  fields_of c = (c.at, (c.state, (tt, tt)))
 
   pub told : (c : Kept) (vs : List Val) → Is FieldsType (fields_of c) vs → vs ≡ value_of c ∷ []
-  told c vs is = let f = is.1.1 in is.1.0 ∙ (λ i. vstruct (of_list (f.0 i ++ (f.1.0 i ++ (f.1.1.0 i ++ (f.1.1.1.0.1.0 i ++ []))))) ∷ [])
+  told c vs is = let f = is.1.1 in is.1.0 ∙ (λ i. vstruct (of_list (f.0 i ++ (f.1.0.0 i ++ (f.1.1.0.1.0 i ++ [])))) ∷ [])
 
-  pub made : {M : Type 1} {𝓤 : Ura M} (𝓛 : Logic 𝓤) (c : Kept) → ent 𝓤 (emp 𝓤) (sem 𝓛 (FieldsType.own_val (fields_of c) (value_of c ∷ [])))
-  made 𝓛 c = makes_shadow 𝓛 (FieldsType.own_val (fields_of c) (value_of c ∷ [])) (λ vss. (tt, (tt, (tt, (tt, ((λ uss. (tt, tt)), tt))))))
-      ((ptr_val c.at ∷ [], (vbool c.found ∷ [], (vbool c.published ∷ [], (vstruct vnil ∷ [], tt)))), (refl, (refl, (refl, (refl, ((tt, (refl, tt)), tt))))))
+  -- its number is a word
+  pub in_word : (c : Kept) (vs : List Val) → Is FieldsType (fields_of c) vs → c.state < 2 ^ 64
+  in_word c vs is = is.1.1.1.0.1
+
+  pub made : {M : Type 1} {𝓤 : Ura M} (𝓛 : Logic 𝓤) (c : Kept) → c.state < 2 ^ 64 → ent 𝓤 (emp 𝓤) (sem 𝓛 (FieldsType.own_val (fields_of c) (value_of c ∷ [])))
+  made 𝓛 c fits = makes_shadow 𝓛 (FieldsType.own_val (fields_of c) (value_of c ∷ [])) (λ vss. (tt, (tt, ((tt, tt), ((λ uss. (tt, tt)), tt)))))
+      ((ptr_val c.at ∷ [], (vint w64 c.state ∷ [], (vstruct vnil ∷ [], tt))), (refl, (refl, ((refl, fits), ((tt, (refl, tt)), tt)))))
 
   pub opened : {M : Type 1} {𝓤 : Ura M} (𝓛 : Logic 𝓤) → Opens 𝓛 FieldsType
-  opened {M} {𝓤 = 𝓤} 𝓛 = (Struct-Copied 𝓛 (shape (claim.the_type a R)) (refl, (refl, (refl, (refl, tt)))) (RawPtr-copy.copied M 𝓤 𝓛, (bool-copy.copied M 𝓤 𝓛, (bool-copy.copied M 𝓤 𝓛, ((field_copy (marker.the_type (ShrRef a.mir a.lft R)) tt).copied M 𝓤 𝓛, tt))))).opens
+  opened {M} {𝓤 = 𝓤} 𝓛 = (Struct-Copied 𝓛 (shape (claim.the_type a R)) (refl, (refl, (refl, tt))) (RawPtr-copy.copied M 𝓤 𝓛, (u64-copy.copied M 𝓤 𝓛, ((field_copy (marker.the_type (ShrRef a.mir a.lft R)) tt).copied M 𝓤 𝓛, tt)))).opens
 
 abbrev pub claim_ty : Ty
-claim_ty = ty_struct [] (tcons ty_ptr (tcons ty_bool (tcons ty_bool (tcons (ty_struct [] tnil) tnil))))
+claim_ty = ty_struct [] (tcons ty_ptr (tcons (ty_int w64) (tcons (ty_struct [] tnil) tnil)))
 
-abbrev Typed : Ptr → Bool → Bool → Type 0
-Typed p f q = let v : Val = value_of record { at = p; found = f; published = q } in T (has_ty claim_ty v) × WT v
+abbrev Typed : Ptr → ℕ → Type 0
+Typed p n = let v : Val = value_of record { at = p; state = n } in T (has_ty claim_ty v) × WT v
 
-typed_at : (p : Ptr) (f q : Bool) → Typed p f q
-typed_at (block_ptr b o) f q = (tt, (tt, (tt, (tt, (tt, tt)))))
-typed_at null_ptr f q = (tt, (record { fits = lit< tt }, (tt, (tt, (tt, tt)))))
+typed_at : (p : Ptr) (n : ℕ) → n < 2 ^ 64 → Typed p n
+typed_at (block_ptr b o) n fits = (tt, (tt, (record { fits = fits }, (tt, tt))))
+typed_at null_ptr n fits = (tt, (record { fits = lit< tt }, (record { fits = fits }, (tt, tt))))
 
-pub typed : (c : Kept) → T (has_ty claim_ty (value_of c)) × WT (value_of c)
-typed c = typed_at c.at c.found c.published
+pub typed : (c : Kept) → c.state < 2 ^ 64 → T (has_ty claim_ty (value_of c)) × WT (value_of c)
+typed c fits = typed_at c.at c.state fits
 
 -- code multiplies by the capped size, which is the size itself where i * k fits in 64 bits
 pub spaced : (i k : ℕ) → i * k < 2 ^ 64 → i * capped k < 2 ^ 64

@@ -7,7 +7,7 @@ ghost use denote.RawPtr.{Ptr, coded_ptr};
 ghost use Rattle.thread_local_blocks.specs.Slots.{empty_slots};
 ghost use Rattle.thread_local_model.specs.Learnt.{Learnt, learnt_coded, Unknown, Missing, Vacant, Holding, Finds};
 ghost use Rattle.thread_local_model.specs.Place.{bucket_of, id_at};
-ghost use Rattle.thread_local_claim_logic.specs.Known.{IsKnown, IsUnfound, is_found, value_held};
+ghost use Rattle.thread_local_claim_logic.specs.Known.{IsKnown, IsUnfound, is_found, state_of, value_held};
 ghost use Rattle.thread_local_claim_logic.specs.Claims.{number_of_id, claim_fields, claim_owns, claim_shares};
 
 use std::alloc::Global;
@@ -30,8 +30,8 @@ mod told;
 pub(crate) struct ClaimedSlot<'a, T> {
     /// The address of the bucket's pointer, and once the bucket is found, of its block.
     at: *const (),
-    found: bool,
-    published: bool,
+    /// What it has learnt: 0 before the bucket is found, then 1, and 2 where the slot holds a value.
+    state: u64,
     marker: PhantomData<&'a T>,
     /// The address of the bucket's pointer.
     pub ghost bucket: { Ptr } by { coded_ptr },
@@ -48,11 +48,11 @@ pub(crate) struct ClaimedSlot<'a, T> {
 impl<'a, T> Model for ClaimedSlot<'a, T> {
     ghost also_owns = { λ c.
         claim_owns T.row 'a c.table (claim_fields c.id c.index c.bucket c.at c.sharing c.reserved)
-        c.learnt c.found c.published };
+        c.learnt c.state };
 
     ghost also_shares = { λ c _ κ.
         claim_shares T.row 'a (claim_fields c.id c.index c.bucket c.at c.sharing c.reserved)
-        c.learnt c.found c.published κ };
+        c.learnt c.state κ };
 }
 
 impl<'a, T> ClaimedSlot<'a, T> {
@@ -76,8 +76,7 @@ impl<'a, T> ClaimedSlot<'a, T> {
         let _ = index;
         ClaimedSlot {
             at: bucket as *const SharedBucket<T> as *const (),
-            found: false,
-            published: false,
+            state: 0,
             marker: PhantomData,
         }
     }
@@ -101,8 +100,7 @@ impl<'a, T> ClaimedSlot<'a, T> {
     {
         let Self {
             at: bucket,
-            found: _,
-            published: _,
+            state: _,
             marker: _,
         } = self;
         let at = unsafe {
@@ -112,8 +110,7 @@ impl<'a, T> ClaimedSlot<'a, T> {
         if at.is_null() {
             return ClaimedSlot {
                 at: bucket,
-                found: false,
-                published: false,
+                state: 0,
                 marker: PhantomData,
             };
         }
@@ -121,8 +118,7 @@ impl<'a, T> ClaimedSlot<'a, T> {
         let flags = unsafe { raw::load::<Brand>(word, SeqCst) };
         ClaimedSlot {
             at: at as *const (),
-            found: true,
-            published: flags >> (index % 64) & 1 == 1,
+            state: (flags >> (index % 64) & 1) + 1,
             marker: PhantomData,
         }
     }
@@ -143,8 +139,7 @@ impl<'a, T> ClaimedSlot<'a, T> {
     {
         let Self {
             at,
-            found: _,
-            published: _,
+            state: _,
             marker: _,
         } = self;
         let word = unsafe { (at as *const u64).add(number) };
@@ -153,32 +148,32 @@ impl<'a, T> ClaimedSlot<'a, T> {
         unsafe { raw::fetch_add::<Brand>(word, 1 << (index % 64), SeqCst) };
         ClaimedSlot {
             at,
-            found: true,
-            published: true,
+            state: 2,
             marker: PhantomData,
         }
     }
 
     /// Whether the bucket has been found.
+    #[tactic(auto, using(crate::proofs::StateLaws::found_by))]
     pub(crate) fn is_found(&self) -> bool
         ensures { result ≡ is_found self.now.learnt }
     {
-        self.known().0
+        self.state() != 0
     }
 
     /// Whether the slot holds a value.
+    #[tactic(auto, using(crate::proofs::StateLaws::published_by))]
     pub(crate) fn is_published(&self) -> bool
         ensures { result ≡ is_some (value_held self.now.learnt) }
     {
-        self.known().1
+        self.state() == 2
     }
 
-    /// Whether the bucket has been found, and whether the slot holds a value.
-    fn known(&self) -> (bool, bool)
-        ensures found { result.0 ≡ is_found self.now.learnt }
-        ensures published { result.1 ≡ is_some (value_held self.now.learnt) }
+    /// The number for what it has learnt.
+    fn state(&self) -> u64
+        ensures { result ≡ state_of self.now.learnt }
     {
-        (self.found, self.published)
+        self.state
     }
 
     /// The value that the slot holds, for as long as the claim is borrowed.

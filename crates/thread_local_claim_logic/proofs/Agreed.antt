@@ -106,9 +106,9 @@ module _ {M : Type 1} {𝓤 : Ura M} (𝓛 : Logic 𝓤) (R : RattleType) (x : R
           use3 𝓛 (given (v ≡ None) (‵ (S v) ⊛ ‵ (D v slots.claimed) ⊛ ‵ (Holds None))) (moves.known 𝓛 R t b s.own d.sharing d.table k e (name_at s.names i) v None w) $ learn ! (λ none. split ! $
           rewrite ! 0 (λ (u : Option R.Denot). ‵ (S u)) none refl $ fsplit ! $ keep ! (1 ∷ 3 ∷ []) $ by ! (empty (ex 𝓤 F))))
 
-  module _ (β : Lft) (table : ℕ) (c : ClaimFields) (found published : Bool) (named : IsSome c.sharing) where
+  module _ (β : Lft) (table : ℕ) (c : ClaimFields) (state : ℕ) (named : IsSome c.sharing) where
     abbrev Own : Learnt R.Denot → Fml
-    Own l = claim_owns R β table c l found published
+    Own l = claim_owns R β table c l state
 
     abbrev Tells : Fml
     Tells = tells R c.sharing c.id (Some x)
@@ -155,7 +155,7 @@ module _ {M : Type 1} {𝓤 : Ura M} (𝓛 : Logic 𝓤) (R : RattleType) (x : R
           -- [what is told, twice; the pin; filled; by; the row; kept; the token]
           move ! (2 ∷ 0 ∷ []) $ fjoin ! $ move ! (2 ∷ 0 ∷ 3 ∷ []) $ fjoin3 ! $ move ! (2 ∷ 0 ∷ []) $ fjoin ! $ nothing ! $ fpack ! (c.at ≡ s.at) (λ _. ftrue) at $ fjoin ! $ fpack ! StandingBlock (has_slot R z.0 z.1 β c (Some y)) s $
           move ! (2 ∷ 0 ∷ []) $ fjoin ! $ nothing ! $ fpack ! (IsOf R table c z.0) (λ _. ftrue) of $ fjoin ! $ fpack ! (BucketView × Turn) (has_at R β table c (Holding y)) z $
-          nothing ! $ fpack ! (IsKept R found published (Holding y)) (λ _. ftrue) kept_so $ fjoin ! $ check ! (ap (λ (o : Option R.Denot). elim o as (λ _. Learnt R.Denot) [ None ↦ Vacant | Some v ↦ Holding v ]) same) $ keep ! (0 ∷ 2 ∷ []) $ done !))))))
+          nothing ! $ fpack ! (IsKept R state (Holding y)) (λ _. ftrue) kept_so $ fjoin ! $ check ! (ap (λ (o : Option R.Denot). elim o as (λ _. Learnt R.Denot) [ None ↦ Vacant | Some v ↦ Holding v ]) same) $ keep ! (0 ∷ 2 ∷ []) $ done !))))))
 
       -- what a claim that has looked holds is what is told of its id
       pub agrees : (l : Learnt R.Denot) → IsKnown l → (q : Share) → ⟦ Own l ⟧ ∗ ⟦ Tells ⟧ ∗ A.lft β q ⊢ H.⇛ (Agreed q l)

@@ -48,7 +48,7 @@ module _ {M : Type 1} {𝓤 : Ura M} (𝓛 : Logic 𝓤) (R : RattleType) (d : B
   Now = claim_fields id i w p sharing reserved
 
   pub installs : (table : ℕ) (q : Share) (zz : StandingBlock × Share) → IsOf R table Now d →
-      ⟦ part 𝓛 R d t p zz ⟧ ∗ ⟦ kept R d t wb (wo + 0) β ⟧ ∗ A.lft t.life q ∗ ⟦ right_owns t.pass id ⟧ ⊢ H.⇛ (A.lft t.life q ∗ ⟦ claim_owns R β table Now Vacant true false ⟧)
+      ⟦ part 𝓛 R d t p zz ⟧ ∗ ⟦ kept R d t wb (wo + 0) β ⟧ ∗ A.lft t.life q ∗ ⟦ right_owns t.pass id ⟧ ⊢ H.⇛ (A.lft t.life q ∗ ⟦ claim_owns R β table Now Vacant 1 ⟧)
   installs table q zz of = let J : Fml = fbor t.life (bucket_invariant R d t wb (wo + 0)) in let none : Option R.Denot = None in let e : ℕ = value_offset R o i in
       qed 𝓛 (‵ (part 𝓛 R d t p zz) ∷ ‵ (kept R d t wb (wo + 0) β) ∷ ‵ (flft t.life q) ∷ ‵ (right_owns t.pass id) ∷ []) ∵ updating ! $ move ! (1 ∷ []) $ fsplit ! $
       use1 𝓛 (‵ (before β t.life) ⊛ ‵ (before β t.life)) (before_dup 𝓛 β t.life) $ split ! $ move ! (2 ∷ []) $ use1 𝓛 (‵ (finv J) ⊛ ‵ (finv J)) (𝓛.invs.inv_dup J) $ split ! $
@@ -63,4 +63,4 @@ module _ {M : Type 1} {𝓤 : Ura M} (𝓛 : Logic 𝓤) (R : RattleType) (d : B
       -- [what the slot holds; the token; the row; the invariant; before]
       move ! (2 ∷ 0 ∷ []) $ fjoin ! $ nothing ! $ fpack ! (p ≡ p) (λ _. ftrue) refl $ fjoin ! $ fpack ! StandingBlock (has_slot R d t β Now none) s $
       move ! (3 ∷ 2 ∷ []) $ fjoin ! $ fjoin ! $ nothing ! $ fpack ! (IsOf R table Now d) (λ _. ftrue) of $ fjoin ! $ fpack ! (BucketView × Turn) (has_at R β table Now Vacant) (d, t) $
-      nothing ! $ fpack ! (IsKept R true false Vacant) (λ _. ftrue) (refl, refl) $ fjoin ! $ move ! (1 ∷ 0 ∷ []) $ now ! $ done !))
+      nothing ! $ fpack ! (IsKept R 1 Vacant) (λ _. ftrue) refl $ fjoin ! $ move ! (1 ∷ 0 ∷ []) $ now ! $ done !))

@@ -1,5 +1,9 @@
 -- What a claim has, by what it has learnt. Assumes `Logic`.
-use Rattle.std.proofs.Common.{◌≡◌, Bool, true, false, refl, Option, None, Some, is_some}
+use Rattle.std.proofs.Common.{◌≡◌, ℕ, ◌+◌, ◌/◌, ◌^◌, ◌<◌, Bool, true, false, bit_and, refl, ap, ◌∙◌, arith, lit<, ⊎_elim, Option, None, Some, is_some}
+use Rattle.std.specs.Int.{bit_at}
+use Rattle.std.proofs.lemmas.Bool.{cases_eq}
+use Rattle.std.proofs.lemmas.Nat.Bits.{shr_and_one, bit_at-lt}
+use Rattle.thread_local_bits.specs.Bits.{is_set}
 use seplogic.Ra.Ura.{Ura}
 use base.Logic.{ent, id⊢}
 use base.Fml.{Lft, fsep, fex}
@@ -8,7 +12,7 @@ use denote.RattleType.{RattleType}
 use Rattle.thread_local_model.specs.Learnt.{Learnt, Unknown, Missing, Standing, Vacant, Holding, learnt_by_look, Finds}
 use Rattle.thread_local_raw.specs.Fact.{fact}
 use Rattle.thread_local_shared_bucket_logic.specs.Shared.{BucketView, Turn, StandingBlock}
-use Rattle.thread_local_claim_logic.specs.Known.{IsKnown, IsUnfound, in_vain, value_held, found_as}
+use Rattle.thread_local_claim_logic.specs.Known.{IsKnown, IsUnfound, in_vain, state_by, value_held, found_as}
 use Rattle.thread_local_claim_logic.specs.Claims.{ClaimFields, has_slot, has, waits, IsKept}
 
 pub known_as : {X : Type 0} (v : Option X) → IsKnown (found_as v)
@@ -48,9 +52,20 @@ holding Standing e = cc
 holding Vacant e = cc
 
 -- the flag tells whether the slot holds a value
-pub kept_as : (R : RattleType) (v : Option R.Denot) (set : Bool) → set ≡ is_some v → IsKept R true set (found_as v)
-kept_as R None set e = (refl, e)
-kept_as R (Some x) set e = (refl, e)
+pub kept_as : (R : RattleType) (v : Option R.Denot) (set : Bool) → set ≡ is_some v → IsKept R (state_by set) (found_as v)
+kept_as R None set e = ap state_by e
+kept_as R (Some x) set e = ap state_by e
+
+pub state_by-fits : (set : Bool) → state_by set < 2 ^ 64
+state_by-fits false = lit< tt
+state_by-fits true = lit< tt
+
+-- the number by the flag, as code computes it: `(word >> bit & 1) + 1`
+pub state_by-flag : (word bit : ℕ) → bit_and (word / 2 ^ bit) 1 + 1 ≡ state_by (is_set word bit)
+state_by-flag word bit = ap (λ n. n + 1) (shr_and_one word bit) ∙ ⊎_elim
+    (λ (one : bit_at word bit ≡ 1). rw one refl)
+    (λ other. let none : bit_at word bit ≡ 0 = omega (arith, bit_at-lt word bit) in rw none refl)
+    (cases_eq (bit_at word bit) 1)
 
 module _ {M : Type 1} {𝓤 : Ura M} (𝓛 : Logic 𝓤) (R : RattleType) (d : BucketView) (t : Turn) (β : Lft) (c : ClaimFields) where
   -- before a claim has found its bucket, it points to the bucket's pointer, and has its right or

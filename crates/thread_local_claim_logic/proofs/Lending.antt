@@ -49,8 +49,8 @@ shown_laws β R L c (Some x) = let b : ℕ = block_of c.at in let e : ℕ = valu
     beside_shr_laws (said In) (beside W (beside (any (Judged R) F) Told)) (said_shr_laws In (λ _. tt))
     (beside_shr_laws W (beside (any (Judged R) F) Told) (within_shr_laws β S (L x b e)) (beside_shr_laws (any (Judged R) F) Told (some_shr_laws (Judged R) F (lasts_laws β R L b e x)) (tells_laws R c.sharing c.id (Some x))))
 
-pub claim_laws : (β : Lft) (R : RattleType) → RowLaws R → (c : ClaimFields) (l : Learnt R.Denot) (found published : Bool) → ShrLaws (claim_shares R β c l found published)
-claim_laws β R L c l found published = beside_shr_laws (said (fact (IsKept R found published l))) (shows_value R β c (value_held l)) (said_shr_laws (fact (IsKept R found published l)) (λ _. tt)) (shown_laws β R L c (value_held l))
+pub claim_laws : (β : Lft) (R : RattleType) → RowLaws R → (c : ClaimFields) (l : Learnt R.Denot) (state : ℕ) → ShrLaws (claim_shares R β c l state)
+claim_laws β R L c l state = beside_shr_laws (said (fact (IsKept R state l))) (shows_value R β c (value_held l)) (said_shr_laws (fact (IsKept R state l)) (λ _. tt)) (shown_laws β R L c (value_held l))
 
 module _ {M : Type 1} {𝓤 : Ura M} (𝓛 : Logic 𝓤) where
   open 𝓛 use {H, A}
@@ -69,7 +69,7 @@ module _ {M : Type 1} {𝓤 : Ura M} (𝓛 : Logic 𝓤) where
 
   infix 26 ◌⊢◌
   infixr 35 ◌∗◌
-  module _ (β : Lft) (R : RattleType) (L : RowLaws R) (table : ℕ) (c : ClaimFields) (x : R.Denot) (found published : Bool) (ν : Lft) (inc : Incl ν β) where
+  module _ (β : Lft) (R : RattleType) (L : RowLaws R) (table : ℕ) (c : ClaimFields) (x : R.Denot) (state : ℕ) (ν : Lft) (inc : Incl ν β) where
     abbrev v : Option R.Denot
     v = Some x
 
@@ -77,7 +77,7 @@ module _ {M : Type 1} {𝓤 : Ura M} (𝓛 : Logic 𝓤) where
     l = Holding x
 
     abbrev C : Fml
-    C = claim_owns R β table c l found published
+    C = claim_owns R β table c l state
 
     abbrev At : BucketView × Turn → Fml
     At = has_at R β table c l
@@ -102,7 +102,7 @@ module _ {M : Type 1} {𝓤 : Ura M} (𝓛 : Logic 𝓤) where
     abbrev pub Saw : Fml
     Saw = fex (Judged R) Seen
 
-    module _ (told : IsKept R found published l) (z : BucketView × Turn) (of : IsOf R table c z.0) (s : StandingBlock) (at : c.at ≡ s.at) where
+    module _ (told : IsKept R state l) (z : BucketView × Turn) (of : IsOf R table c z.0) (s : StandingBlock) (at : c.at ≡ s.at) where
       abbrev d : BucketView
       d = z.0
 
@@ -149,7 +149,7 @@ module _ {M : Type 1} {𝓤 : Ura M} (𝓛 : Logic 𝓤) where
       again : (j : Judged R) → ⟦ Kept ⟧ ∗ ⟦ Row ⟧ ∗ ⟦ Filled ⟧ ∗ ⟦ Pinned ⟧ ∗ ⟦ By j ⟧ ⊢ ⟦ C ⟧
       again j = qed 𝓛 (‵ Kept ∷ ‵ Row ∷ ‵ Filled ∷ ‵ Pinned ∷ ‵ (By j) ∷ []) ∵ move ! (4 ∷ []) $ fpack ! (Judged R) By j $ move ! (3 ∷ 4 ∷ 0 ∷ []) $ fjoin3 ! $ move ! (2 ∷ 0 ∷ []) $ fjoin ! $
           anything ! $ fpack ! (c.at ≡ s.at) (λ _. ftrue) at $ fjoin ! $ fpack ! StandingBlock (has_slot R d t β c v) s $ move ! (1 ∷ 0 ∷ []) $ fjoin ! $
-          anything ! $ fpack ! (IsOf R table c d) (λ _. ftrue) of $ fjoin ! $ fpack ! (BucketView × Turn) At z $ anything ! $ fpack ! (IsKept R found published l) (λ _. ftrue) told $ fjoin ! $ done !
+          anything ! $ fpack ! (IsOf R table c d) (λ _. ftrue) of $ fjoin ! $ fpack ! (BucketView × Turn) At z $ anything ! $ fpack ! (IsKept R state l) (λ _. ftrue) told $ fjoin ! $ done !
 
       there : ◌≡◌ {A = ℕ × ℕ} (sb, se) (b, e)
       there = λ i. (block_of (sym at i), value_offset R (count_of (sym at i)) c.index)
@@ -202,7 +202,7 @@ module _ {M : Type 1} {𝓤 : Ura M} (𝓛 : Logic 𝓤) where
     abbrev pub Tells : Fml
     Tells = tells R c.sharing c.id (Some x)
 
-    lends_at : (q : Share) → ⟦ fbor ν C ⟧ ∗ A.lft ν q ⊢ H.⇛ ((⟦ fact (IsKept R found published l) ⟧ ∗ ⟦ fact (Reaches R c.at c.index) ⟧ ∗ ⟦ Tells ⟧ ∗ ⟦ Saw ⟧) ∗ A.lft ν q)
+    lends_at : (q : Share) → ⟦ fbor ν C ⟧ ∗ A.lft ν q ⊢ H.⇛ ((⟦ fact (IsKept R state l) ⟧ ∗ ⟦ fact (Reaches R c.at c.index) ⟧ ∗ ⟦ Tells ⟧ ∗ ⟦ Saw ⟧) ∗ A.lft ν q)
     lends_at q = qed 𝓛 (‵ (fbor ν C) ∷ ‵ (flft ν q) ∷ []) ∵ updating ! $ bor_open ! tt $ move ! (1 ∷ []) $ fsplit ! $ fpick ! (λ told. move ! (1 ∷ []) $ fpick ! (λ z. fsplit ! $ fpick ! (λ of. move ! (1 ∷ []) $ fsplit ! $ move ! (1 ∷ []) $
         fpick ! (λ s. fsplit ! $ fpick ! (λ at. drop ! $ fsplit ! $ move ! (1 ∷ []) $ fsplit3 ! $ let Known : Fml = slots.published R z.0.sharing c.id (name_at s.names c.index) x in
         -- [filled; published; by; the row; kept; nothing; nothing; the open borrow]
@@ -212,9 +212,9 @@ module _ {M : Type 1} {𝓤 : Ura M} (𝓛 : Logic 𝓤) where
         move ! (4 ∷ []) $ fpick ! (λ j. move ! (8 ∷ 5 ∷ 1 ∷ 4 ∷ 3 ∷ 0 ∷ []) $ group ! 6 $ use1 𝓛 (later (‵ Saw ⊛ ‵ (flft ν q))) (lends_by told z of s at q j) $ await ! tt $ split ! $
         -- [what was seen; the token; what is told]
         move ! (2 ∷ 0 ∷ []) $ join ! $ anything ! $ fpack ! (Reaches R c.at c.index) (λ _. ftrue) (subst (λ (u : Ptr). Reaches R u c.index) (sym at) (sized.1.0, value_near R (len R z.0) c.index sized.1.2 of.4)) $ join ! $
-        anything ! $ fpack ! (IsKept R found published l) (λ _. ftrue) told $ join ! $ join ! $ now ! $ keep ! (0 ∷ []) $ done !)))))))
+        anything ! $ fpack ! (IsKept R state l) (λ _. ftrue) told $ join ! $ join ! $ now ! $ keep ! (0 ∷ []) $ done !)))))))
 
-  module _ (β : Lft) (R : RattleType) (L : RowLaws R) (l : Lft) (le : Incl l β) (shares : Shares 𝓛 R l) (table : ℕ) (c : ClaimFields) (found published : Bool) where
+  module _ (β : Lft) (R : RattleType) (L : RowLaws R) (l : Lft) (le : Incl l β) (shares : Shares 𝓛 R l) (table : ℕ) (c : ClaimFields) (state : ℕ) where
     -- the address of the slot's value: its allocation, and its offset there
     abbrev vb : ℕ
     vb = block_of c.at
@@ -223,8 +223,8 @@ module _ {M : Type 1} {𝓤 : Ura M} (𝓛 : Logic 𝓤) where
     ve = value_offset R (count_of c.at) c.index
 
     -- what a claim keeps at run time is true of it
-    told_of : (t : Learnt R.Denot) → ⟦ claim_owns R β table c t found published ⟧ ⊢ monad.fact 𝓤 (IsKept R found published t)
-    told_of t = qed 𝓛 (‵ (claim_owns R β table c t found published) ∷ []) ∵ fsplit ! $ fpick ! (λ told. by ! (fact_i 𝓤 (IsKept R found published t) _ told))
+    told_of : (t : Learnt R.Denot) → ⟦ claim_owns R β table c t state ⟧ ⊢ monad.fact 𝓤 (IsKept R state t)
+    told_of t = qed 𝓛 (‵ (claim_owns R β table c t state) ∷ []) ∵ fsplit ! $ fpick ! (λ told. by ! (fact_i 𝓤 (IsKept R state t) _ told))
 
     module _ (x : R.Denot) (κ : Lft) where
       abbrev ν : Lft
@@ -239,7 +239,7 @@ module _ {M : Type 1} {𝓤 : Ura M} (𝓛 : Logic 𝓤) where
       abbrev pub Lent : Fml
       Lent = fsep (S ν) (fex (Judged R) Lasts)
 
-      finish : (inc : Incl ν β) (ts : Toks) → Incl (span ts) l → Incl (span ts) ν → (j : Judged R) → ⟦ Seen β R L table c x found published ν inc j ⟧ ∗ lfts 𝓛 ts ⊢ H.⇛ (⟦ Lent ⟧ ∗ lfts 𝓛 ts)
+      finish : (inc : Incl ν β) (ts : Toks) → Incl (span ts) l → Incl (span ts) ν → (j : Judged R) → ⟦ Seen β R L table c x state ν inc j ⟧ ∗ lfts 𝓛 ts ⊢ H.⇛ (⟦ Lent ⟧ ∗ lfts 𝓛 ts)
       finish inc ts sl sν (inl j) = qed 𝓛 (‵ (S β) ∷ raw (lfts 𝓛 ts) ∷ []) ∵ updating ! $ use1 𝓛 (‵ (S β) ⊛ ‵ (S β)) (contraction 𝓛 S (L x vb ve) β) $ split ! $
           fpack ! (Judged R) Lasts (inl j) $ move ! (1 ∷ []) $ use1 𝓛 (‵ (S ν)) (shortens 𝓛 S (L x vb ve) β ν inc) $ fjoin ! $ now ! $ done !
       finish inc ts sl sν (inr j) = qed 𝓛 (‵ (fbor ν (part_at R full_share x vb ve)) ∷ raw (lfts 𝓛 ts) ∷ []) ∵ updating ! $
@@ -248,10 +248,10 @@ module _ {M : Type 1} {𝓤 : Ura M} (𝓛 : Logic 𝓤) where
 
     module _ (t : Learnt R.Denot) where
       abbrev P : Fml
-      P = claim_owns R β table c t found published
+      P = claim_owns R β table c t state
 
       abbrev Φ : Type 0
-      Φ = IsKept R found published t
+      Φ = IsKept R state t
 
       keeps_at : (κ : Lft) (q : Share) → A.bor κ P ∗ A.lft κ q ⊢ H.⇛ (⟦ fact Φ ⟧ ∗ A.lft κ q)
       keeps_at κ q = qed 𝓛 (‵ (fbor κ P) ∷ ‵ (flft κ q) ∷ []) ∵ updating ! $ bor_open ! tt $ move ! (1 ∷ []) $
@@ -262,12 +262,12 @@ module _ {M : Type 1} {𝓤 : Ura M} (𝓛 : Logic 𝓤) where
       shows_none = λ κ ts inc sp. qed 𝓛 (‵ (fbor κ P) ∷ raw (lfts 𝓛 ts) ∷ []) ∵ updating ! $ use2 𝓛 (later (‵ (fact Φ) ⊛ raw (lfts 𝓛 ts))) (by_one 𝓛 κ ts sp (A.bor κ P) ⟦ fact Φ ⟧ (keeps_at κ)) $ await ! tt $ split ! $ anything ! $ move ! (1 ∷ 0 ∷ []) $ fjoin ! $ now ! $ done !
 
     -- a borrow of a claim becomes a `&` to the value that its slot holds
-    pub lends_claim : (t : Learnt R.Denot) → Lends 𝓛 (claim_owns R β table c t found published) (claim_shares R β c t found published) l
-    lends_claim (Holding x) = λ κ ts inc sp. let ν : Lft = κ ++ β in let P : Fml = claim_owns R β table c (Holding x) found published in let Told : Fml = fact (IsKept R found published (Holding x)) in let In : Fml = fact (Reaches R c.at c.index) in
+    pub lends_claim : (t : Learnt R.Denot) → Lends 𝓛 (claim_owns R β table c t state) (claim_shares R β c t state) l
+    lends_claim (Holding x) = λ κ ts inc sp. let ν : Lft = κ ++ β in let P : Fml = claim_owns R β table c (Holding x) state in let Told : Fml = fact (IsKept R state (Holding x)) in let In : Fml = fact (Reaches R c.at c.index) in
         let sm : Incl (span ts) ν = ⊑_meet (span ts) κ β sp (Incl-trans inc le) in
-        let within : Incl ν β = meet_⊑_right κ β in let Known : Fml = tells R c.sharing c.id (Some x) in let Got : Pr = ⟦ Told ⟧ ∗ ⟦ In ⟧ ∗ ⟦ Known ⟧ ∗ ⟦ Saw β R L table c x found published ν within ⟧ in
+        let within : Incl ν β = meet_⊑_right κ β in let Known : Fml = tells R c.sharing c.id (Some x) in let Got : Pr = ⟦ Told ⟧ ∗ ⟦ In ⟧ ∗ ⟦ Known ⟧ ∗ ⟦ Saw β R L table c x state ν within ⟧ in
         qed 𝓛 (‵ (fbor κ P) ∷ raw (lfts 𝓛 ts) ∷ []) ∵ updating ! $ use1 𝓛 (‵ (fbor ν P)) (𝓛.bors.bor_shorten κ ν P (meet_⊑_left κ β)) $
-        use2 𝓛 (later ((‵ Told ⊛ ‵ In ⊛ ‵ Known ⊛ ‵ (Saw β R L table c x found published ν within)) ⊛ raw (lfts 𝓛 ts))) (by_one 𝓛 ν ts sm (A.bor ν P) Got (lends_at β R L table c x found published ν within)) $ await ! tt $
+        use2 𝓛 (later ((‵ Told ⊛ ‵ In ⊛ ‵ Known ⊛ ‵ (Saw β R L table c x state ν within)) ⊛ raw (lfts 𝓛 ts))) (by_one 𝓛 ν ts sm (A.bor ν P) Got (lends_at β R L table c x state ν within)) $ await ! tt $
         split ! $ split3 ! $ move ! (2 ∷ []) $ split ! $ move ! (1 ∷ []) $ fpick ! (λ j. move ! (0 ∷ 4 ∷ []) $ use2 𝓛 (later (‵ (Lent x κ) ⊛ raw (lfts 𝓛 ts))) (finish x κ within ts inc sm j) $ await ! tt $ split ! $
         -- [what is shared; the tokens; what is told; what is kept; the block]
         fsplit ! $ move ! (1 ∷ 3 ∷ []) $ fjoin ! $ move ! (1 ∷ 0 ∷ []) $ fjoin ! $ move ! (3 ∷ 0 ∷ []) $ fjoin ! $ move ! (2 ∷ 0 ∷ []) $ fjoin ! $ now ! $ keep ! (0 ∷ 1 ∷ []) $ done !)

@@ -34,5 +34,5 @@ module _ (R : RattleType) (sent : IsSend R) where
   has_keyless d t β c Vacant = slot_keyless d t β c None
   has_keyless d t β c (Holding x) = slot_keyless d t β c (Some x)
 
-  pub claim_keyless : (β : Lft) (table : ℕ) (c : ClaimFields) (l : Learnt R.Denot) (found published : Bool) → Keyless (claim_owns R β table c l found published)
-  claim_keyless β table c l found published = ((λ _. tt), λ z. ((λ _. tt), (kept_keyless R sent z.0 z.1 (block_of c.bucket) (count_of c.bucket + 0) β, has_keyless z.0 z.1 β c l)))
+  pub claim_keyless : (β : Lft) (table : ℕ) (c : ClaimFields) (l : Learnt R.Denot) (state : ℕ) → Keyless (claim_owns R β table c l state)
+  claim_keyless β table c l state = ((λ _. tt), λ z. ((λ _. tt), (kept_keyless R sent z.0 z.1 (block_of c.bucket) (count_of c.bucket + 0) β, has_keyless z.0 z.1 β c l)))

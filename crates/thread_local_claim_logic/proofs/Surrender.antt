@@ -73,8 +73,8 @@ module _ {M : Type 1} {𝓤 : Ura M} (𝓛 : Logic 𝓤) (R : RattleType) (β : 
     gives (Holding x) = slot_gives (Some x)
 
   -- what a claim owns goes back, and the claim has its right again
-  pub surrenders : {𝓜 : Model 𝓤 H} (𝓡 : Running 𝓤 H 𝓜) (l : Learnt R.Denot) (found published : Bool) (q : Share) → ⟦ claim_owns R β table c l found published ⟧ ∗ A.lft β q ⊢ H.⇛ (⟦ right_owns table c.id ⟧ ∗ A.lft β q)
-  surrenders {𝓜} 𝓡 l found published q = qed 𝓛 (‵ (claim_owns R β table c l found published) ∷ ‵ (flft β q) ∷ []) ∵ updating ! $ fsplit ! $ drop ! $ fpick ! (λ z. fsplit ! $ fpick ! (λ of. drop ! $ fsplit ! $ fsplit ! $ let life : Lft = z.1.life in
+  pub surrenders : {𝓜 : Model 𝓤 H} (𝓡 : Running 𝓤 H 𝓜) (l : Learnt R.Denot) (state : ℕ) (q : Share) → ⟦ claim_owns R β table c l state ⟧ ∗ A.lft β q ⊢ H.⇛ (⟦ right_owns table c.id ⟧ ∗ A.lft β q)
+  surrenders {𝓜} 𝓡 l state q = qed 𝓛 (‵ (claim_owns R β table c l state) ∷ ‵ (flft β q) ∷ []) ∵ updating ! $ fsplit ! $ drop ! $ fpick ! (λ z. fsplit ! $ fpick ! (λ of. drop ! $ fsplit ! $ fsplit ! $ let life : Lft = z.1.life in
       -- [the sharing lasts; the invariant; what the claim has; the token]
       move ! (0 ∷ 3 ∷ []) $ use2 𝓛 (later (some (λ (r : Share). ‵ (flft life r) ⊛ raw (wand 𝓤 (A.lft life r) (H.⇛ (A.lft β q)))))) (Lends-one 𝓛 𝓜 𝓡 β life q) $ await ! tt $ pick ! (λ r. split ! $
       move ! (2 ∷ 0 ∷ 3 ∷ []) $ use3 𝓛 (later (‵ (right_owns z.0.table c.id) ⊛ ‵ (flft life r))) (gives z of r l) $ await ! tt $ split ! $ rewrite ! 0 (λ (n : ℕ). ‵ (right_owns n c.id)) of.2 refl $

@@ -6,7 +6,7 @@
 use Rattle.std.specs.Prelude.{◌≡◌, ℕ, ◌+◌, ◌*◌, ◌/◌, ◌^◌, ◌<◌, Bool, true, false, Option, None, Some, is_some}
 use Rattle.thread_local_model.specs.Place.{bucket_of, index_of}
 use Rattle.thread_local_model.specs.Learnt.{Learnt, Unknown, Missing, Standing, Vacant, Holding}
-use Rattle.thread_local_claim_logic.specs.Known.{is_found, value_held}
+use Rattle.thread_local_claim_logic.specs.Known.{state_of, value_held}
 use mathlib.Core.Logic.{inl, inr}
 use base.Fml.{Lft, GName, Fml, ffalse, fsep, fex}
 use denote.RattleType.{RattleType}
@@ -69,8 +69,8 @@ module _ (R : RattleType) where
     has (Holding x) = fex StandingBlock (has_slot (Some x))
 
   -- what a claim keeps at run time is true of it
-  abbrev pub IsKept : Bool → Bool → Learnt R.Denot → Type 0
-  IsKept found published l = (found ≡ is_found l) × (published ≡ is_some (value_held l))
+  abbrev pub IsKept : ℕ → Learnt R.Denot → Type 0
+  IsKept state l = state ≡ state_of l
 
   -- the claim is of this bucket, and its id is the one at its index there
   abbrev pub IsOf : ℕ → ClaimFields → BucketView → Type 0
@@ -81,8 +81,8 @@ module _ (R : RattleType) where
     abbrev pub has_at : BucketView × Turn → Fml
     has_at z = fsep (fact (IsOf table c z.0)) (fsep (kept R z.0 z.1 (block_of c.bucket) (count_of c.bucket + 0) β) (has z.0 z.1 β c l))
 
-    abbrev pub claim_owns : Bool → Bool → Fml
-    claim_owns found published = fsep (fact (IsKept found published l)) (fex (BucketView × Turn) has_at)
+    abbrev pub claim_owns : ℕ → Fml
+    claim_owns state = fsep (fact (IsKept state l)) (fex (BucketView × Turn) has_at)
 
   -- a `&` to the value for as long as the bucket is borrowed, where it names no thread
   abbrev pub lasts : Lft → ℕ → ℕ → R.Denot → Judged R → Lft → Fml
@@ -100,5 +100,5 @@ module _ (R : RattleType) where
   shows_value β c (Some x) = let b : ℕ = block_of c.at in let e : ℕ = value_offset R (count_of c.at) c.index in
       beside (said (fact (Reaches c.at c.index))) (beside (within β (shared_of R x b e)) (beside (some (Judged R) (lasts β b e x)) (said (tells R c.sharing c.id (Some x)))))
 
-  abbrev pub claim_shares : Lft → ClaimFields → Learnt R.Denot → Bool → Bool → Lft → Fml
-  claim_shares β c l found published = beside (said (fact (IsKept found published l))) (shows_value β c (value_held l))
+  abbrev pub claim_shares : Lft → ClaimFields → Learnt R.Denot → ℕ → Lft → Fml
+  claim_shares β c l state = beside (said (fact (IsKept state l))) (shows_value β c (value_held l))

@@ -1,6 +1,6 @@
 -- What a claim has learnt of its slot: nothing yet, that the bucket is missing, that the slot is
 -- vacant, or the value that it holds.
-use Rattle.std.specs.Prelude.{Bool, true, false, Option, None, Some, ⊤}
+use Rattle.std.specs.Prelude.{ℕ, Bool, true, false, Option, None, Some, ⊤}
 use Rattle.thread_local_model.specs.Learnt.{Learnt, Unknown, Missing, Standing, Vacant, Holding}
 
 -- the claim has looked: its bucket was missing, or it has seen its slot. Every claim that a call
@@ -27,6 +27,20 @@ is_found Missing = false
 is_found Standing = false
 is_found Vacant = true
 is_found (Holding v) = true
+
+-- the number by which a claim keeps what it has learnt: 0 before it has found its bucket, 1 where its
+-- slot is vacant, 2 where it holds a value
+abbrev pub state_of : {V : Type 0} → Learnt V → ℕ
+state_of Unknown = 0
+state_of Missing = 0
+state_of Standing = 0
+state_of Vacant = 1
+state_of (Holding v) = 2
+
+-- the number of a claim that has found its bucket, by its slot's flag
+abbrev pub state_by : Bool → ℕ
+state_by false = 1
+state_by true = 2
 
 -- whether the claim has looked for its bucket in vain
 abbrev pub in_vain : {V : Type 0} → Learnt V → Bool

@@ -11,8 +11,7 @@ impl<'a, T> ClaimedSlot<'a, T> {
     {
         let Self {
             at: _,
-            found: _,
-            published: _,
+            state: _,
             marker: _,
         } = self;
         Right::take_up()

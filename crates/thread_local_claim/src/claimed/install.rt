@@ -32,8 +32,7 @@ impl<'a, T> ClaimedSlot<'a, T> {
     {
         let Self {
             at: bucket,
-            found: _,
-            published: _,
+            state: _,
             marker: _,
         } = self;
         let bucket = bucket as *const SharedBucket<T>;
@@ -55,8 +54,7 @@ impl<'a, T> ClaimedSlot<'a, T> {
         };
         let claim = ClaimedSlot {
             at: standing,
-            found: true,
-            published: false,
+            state: 1,
             marker: PhantomData,
         };
         (claim, back)

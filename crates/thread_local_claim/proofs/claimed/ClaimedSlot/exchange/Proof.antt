@@ -8,7 +8,7 @@ use base.Fml.{finv, ffalse}
 use base.Before.{before}
 use prog.Wp.{Wp, after_seq, at_return}
 use types.Na.{before_dup}
-use types.Run.{Calls-last, true_lit, false_lit}
+use types.Run.{Calls-last}
 use contract.Shared.{Lends-one}
 use denote.Signature.{named_lft}
 use denote.RawPtr.{RawPtr, in_a_block}
@@ -42,7 +42,7 @@ use Rattle.thread_local_claim.specs.contracts.claimed.ClaimedSlot as claim
 use Rattle.thread_local_claim.specs.contracts.claimed.ClaimedSlot.exchange.{ended, clauses}
 use Rattle.thread_local_claim.specs.contracts.claimed.ClaimedSlot.exchange.Key.{name as #self}
 use Rattle.thread_local_claim_logic.proofs.Installs.{installs}
-use Rattle.thread_local_claim.proofs.Fields.{Kept, kept_of, value_of, FieldsType, fields_of, told, made, typed, lies_at}
+use Rattle.thread_local_claim.proofs.Fields.{Kept, kept_of, value_of, FieldsType, fields_of, told, in_word, made, typed, lies_at}
 use Rattle.thread_local_claim.proofs.claimed.ClaimedSlot.exchange.Statement.{statement}
 use Rattle.thread_local_claim.proofs.claimed.ClaimedSlot.exchange.Code as code
 
@@ -64,12 +64,12 @@ exchange_spec 𝓤 𝓛 𝓜 𝓡 wired X L =
     let y : (walk_of 𝓛 En hs c).Ghost = ((κs, qs, bounds, a, (u₀ ∷ [], (bv ∷ [], tt))), gh) in let Post : Val → SProp 𝓤 = (walk_of 𝓛 En hs c).post y in
     qed 𝓛 (((‵ (flft β q) ⊛ ‵ others) ⊛ ‵ (owns (types_at En.signature.params κs) a y.0.4)) ∷ raw (fact 𝓤 _) ∷ raw (fact 𝓤 (h.learnt ≡ Missing)) ∷ raw (fact 𝓤 Made) ∷ []) ∵
     keep ! (2 ∷ 3 ∷ 0 ∷ []) $ heard ! (h.learnt ≡ Missing) (λ gone. heard ! Made (λ blank. split ! $ split ! $ move ! (2 ∷ []) $ fsplit3 ! $ fsplit ! $ move ! (2 ∷ []) $ fsplit ! $ keep ! (3 ∷ 5 ∷ 6 ∷ 1 ∷ []) $
-    enter ! 𝓣.C 𝓣.Λ fn (u₀ ∷ bv ∷ []) Post $ alloc_all ! (λ l. pass_all ! refl (typed (kept_of h), (fields.block_good p, tt)) $ let Ev = env fn.locals l in
+    enter ! 𝓣.C 𝓣.Λ fn (u₀ ∷ bv ∷ []) Post $ alloc_all ! (λ l. pass_all ! refl (typed (kept_of h) (in_word ℓ R (kept_of h) (u₀ ∷ []) are.0.0), (fields.block_good p, tt)) $ let Ev = env fn.locals l in
     -- [what the claim owns; the token; the other tokens; the block]
     fsplit ! $ drop ! $ fpick ! (λ z. fsplit ! $ fpick ! (λ of. drop ! $ fsplit ! $ move ! (1 ∷ []) $ let d : BucketView = z.0 in let t : Turn = z.1 in let at : w ≡ block_ptr wb wo = at_block w of.0 in
     rewrite ! 0 (λ (k : Learnt X.Denot). ‵ (has R d t β pl k)) gone refl $ fsplit ! $ fpick ! (λ leads. drop ! $
     let J : Fml = fbor t.life (bucket_invariant R d t wb (wo + 0)) in let Blank : Ptr → Fml = λ u. block_owns R (ghosts.dealloc_token x.heap) u (empty_slots (len R d)) 0 in
-    let Owned : ℕ → ℕ → Fml = λ pb o. claim_owns R β h.table (claim_fields h.id i (block_ptr wb wo) (block_ptr pb o) h.sharing h.reserved) Vacant true false in let is_of : (u : Ptr) → IsOf R h.table (claim_fields h.id i (block_ptr wb wo) u h.sharing h.reserved) d = λ u. (tt, of.1, of.2, of.3, of.4, of.5, of.6) in
+    let Owned : ℕ → ℕ → Fml = λ pb o. claim_owns R β h.table (claim_fields h.id i (block_ptr wb wo) (block_ptr pb o) h.sharing h.reserved) Vacant 1 in let is_of : (u : Ptr) → IsOf R h.table (claim_fields h.id i (block_ptr wb wo) u h.sharing h.reserved) d = λ u. (tt, of.1, of.2, of.3, of.4, of.5, of.6) in
     let same : bucket_of h.id ≡ d.bucket = ap bucket_of (lies_at R d h.id i of.3) ∙ (place-id_at d.bucket i of.4).0 in
     move ! (1 ∷ []) $ fsplit ! $ use1 𝓛 (‵ (before β t.life) ⊛ ‵ (before β t.life)) (before_dup 𝓛 β t.life) $ split ! $
     -- [before, twice; the invariant; the pass; the token; the other tokens; the block]
@@ -103,16 +103,16 @@ exchange_spec 𝓤 𝓛 𝓜 𝓡 wired X L =
     let nothing_good : Good (layout Back) (live 0 vnil) = (tt, (record { fits = lit< tt }, tt)) in let pair_good : Good (layout Pair) (both (vptr pb o) (live 0 vnil)) = (tt, (tt, (nothing_good.1, tt))) in
     sets ! (of_opd ! (get ! refl)) refl (tt, tt) $ sets ! (agg ! (and_then ! (lit ! tt) (no_more !))) refl nothing_good $ sets_last ! (agg ! (and_then ! (get ! refl) (and_then ! (get ! refl) (no_more !)))) refl pair_good $
     exec ! 𝓣.C 𝓣.Λ Ev (after 6 fn.body) (at_ret Ev Post) $ sets ! (of_opd ! (get ! refl)) refl pair_good $ sets ! (of_opd ! (get_in ! (fld ! refl (stop !)) (sub ! 0 refl (whole !)))) refl (tt, tt) $ sets ! (of_opd ! (get_in ! (fld ! refl (stop !)) (sub ! 1 refl (whole !)))) refl nothing_good $
-    let m : Kept = record { at = block_ptr pb o; found = true; published = false } in let kept_good = typed m in
+    let m : Kept = record { at = block_ptr pb o; state = 1 } in let kept_good = typed m (lit< tt) in
     sets ! (agg ! (no_more !)) refl (tt, tt) $
-    sets ! (agg ! (and_then ! (get ! refl) (and_then ! (true_lit !) (and_then ! (false_lit !) (and_then ! (get ! refl) (no_more !)))))) refl kept_good $
+    sets ! (agg ! (and_then ! (get ! refl) (and_then ! (lit ! tt) (and_then ! (get ! refl) (no_more !))))) refl kept_good $
     sets ! (of_opd ! (get ! refl)) refl kept_good $ sets ! (of_opd ! (get ! refl)) refl nothing_good $
     let v : Val = both (value_of m) (live 0 vnil) in let good : Good (layout Out) v = (tt, (kept_good.1, (nothing_good.1, tt))) in
     sets ! (agg ! (and_then ! (get ! refl) (and_then ! (get ! refl) (no_more !)))) refl good $
     -- [the token; the claim; the other tokens]
     move ! (1 ∷ []) $
-    use0 𝓛 (‵ ((FieldsType ℓ R).own_val (fields_of ℓ R m) (value_of m ∷ []))) (made ℓ R 𝓛 m) $ fjoin ! $
-    let r : G.Denot = record { at = block_ptr pb o; found = true; published = false; marker = record {}; bucket = block_ptr wb wo; table = h.table; sharing = h.sharing; id = h.id; index = i; reserved = h.reserved; learnt = Vacant } in
+    use0 𝓛 (‵ ((FieldsType ℓ R).own_val (fields_of ℓ R m) (value_of m ∷ []))) (made ℓ R 𝓛 m (lit< tt)) $ fjoin ! $
+    let r : G.Denot = record { at = block_ptr pb o; state = 1; marker = record {}; bucket = block_ptr wb wo; table = h.table; sharing = h.sharing; id = h.id; index = i; reserved = h.reserved; learnt = Vacant } in
     use0 𝓛 (‵ (Back.own_val None (live 0 vnil ∷ []))) (none_of 𝓛 Bl) $ move ! (1 ∷ 0 ∷ []) $ pair_in G Back ! r None (value_of m) (live 0 vnil) $ move ! (1 ∷ 2 ∷ []) $ join ! $ move ! (1 ∷ []) $
     use0 𝓛 (raw (fact 𝓤 (F₃ (r, None)))) (fact_i 𝓤 (F₃ (r, None)) (emp 𝓤) tt) $ use0 𝓛 (raw (fact 𝓤 (F₂ (r, None)))) (fact_i 𝓤 (F₂ (r, None)) (emp 𝓤) (refl, refl)) $ join ! $ use0 𝓛 (raw (fact 𝓤 (F₁ (r, None)))) (fact_i 𝓤 (F₁ (r, None)) (emp 𝓤) (refl, refl, refl, refl)) $ join ! $
     nothing ! $ nothing ! $ fjoin ! $ nothing ! $ fjoin ! $ returns ! (look_at ! 0 refl) $ free_all ! refl $ keep ! (3 ∷ 0 ∷ 2 ∷ 1 ∷ []) $ by ! (leaves 𝓛 En hs c y v (r, None) (tt, (tt, tt)) (tt, (tt, tt))))
@@ -134,16 +134,16 @@ exchange_spec 𝓤 𝓛 𝓜 𝓡 wired X L =
     let pair_good : Good (layout Pair) (both (vptr pb o) back) = (and_tt _ held.0, (tt, (held.1, tt))) in
     sets ! (of_opd ! (get ! refl)) refl (tt, tt) $ sets ! (of_opd ! (get ! refl)) refl block_good $ sets ! (agg ! (and_then ! (lit ! tt) (and_then ! (get ! refl) (no_more !)))) refl held $ sets_last ! (agg ! (and_then ! (get ! refl) (and_then ! (get ! refl) (no_more !)))) refl pair_good $
     exec ! 𝓣.C 𝓣.Λ Ev (after 6 fn.body) (at_ret Ev Post) $ sets ! (of_opd ! (get ! refl)) refl pair_good $ sets ! (of_opd ! (get_in ! (fld ! refl (stop !)) (sub ! 0 refl (whole !)))) refl (tt, tt) $ sets ! (of_opd ! (get_in ! (fld ! refl (stop !)) (sub ! 1 refl (whole !)))) refl held $
-    let m : Kept = record { at = block_ptr pb o; found = true; published = false } in let kept_good = typed m in
+    let m : Kept = record { at = block_ptr pb o; state = 1 } in let kept_good = typed m (lit< tt) in
     sets ! (agg ! (no_more !)) refl (tt, tt) $
-    sets ! (agg ! (and_then ! (get ! refl) (and_then ! (true_lit !) (and_then ! (false_lit !) (and_then ! (get ! refl) (no_more !)))))) refl kept_good $
+    sets ! (agg ! (and_then ! (get ! refl) (and_then ! (lit ! tt) (and_then ! (get ! refl) (no_more !))))) refl kept_good $
     sets ! (of_opd ! (get ! refl)) refl kept_good $ sets ! (of_opd ! (get ! refl)) refl held $
     let v : Val = both (value_of m) back in let good : Good (layout Out) v = (and_tt _ held.0, (kept_good.1, (held.1, tt))) in
     sets ! (agg ! (and_then ! (get ! refl) (and_then ! (get ! refl) (no_more !)))) refl good $
     -- [the token; the claim; nothing; the block; the other tokens]
     move ! (1 ∷ 0 ∷ 4 ∷ 3 ∷ []) $
-    use0 𝓛 (‵ ((FieldsType ℓ R).own_val (fields_of ℓ R m) (value_of m ∷ []))) (made ℓ R 𝓛 m) $ fjoin ! $
-    let r : G.Denot = record { at = block_ptr pb o; found = true; published = false; marker = record {}; bucket = block_ptr wb wo; table = h.table; sharing = h.sharing; id = h.id; index = i; reserved = h.reserved; learnt = Vacant } in
+    use0 𝓛 (‵ ((FieldsType ℓ R).own_val (fields_of ℓ R m) (value_of m ∷ []))) (made ℓ R 𝓛 m (lit< tt)) $ fjoin ! $
+    let r : G.Denot = record { at = block_ptr pb o; state = 1; marker = record {}; bucket = block_ptr wb wo; table = h.table; sharing = h.sharing; id = h.id; index = i; reserved = h.reserved; learnt = Vacant } in
     -- [the claim; the token; the other tokens; the block; nothing]
     move ! (3 ∷ []) $ rewrite ! 0 (λ (u₂ : Ptr). ‵ (Blank u₂)) (sym e) refl $ rewrite ! 0 (λ (cs : List (Option X.Denot)). ‵ (block_owns R (ghosts.dealloc_token x.heap) p cs 0)) (sym (blank.0 ∙ ap (λ (n : ℕ). empty_slots (2 ^ n)) same)) refl $
     rewrite ! 0 (λ (n : ℕ). ‵ (block_owns R (ghosts.dealloc_token x.heap) p x.slots n)) (sym blank.1) refl $

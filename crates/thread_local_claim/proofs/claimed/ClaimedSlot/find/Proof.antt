@@ -4,7 +4,7 @@ use Rattle.thread_local_raw.proofs.Names.{Option, lit<, vbool, ◌≡◌, ℕ, �
 use Rattle.std.proofs.Common.{◌⊎◌, inl, inr, ◌/◌, ◌%◌}
 use base.Fml.{fres}
 use base.Before.{before}
-use types.Run.{skips, returns_within, true_lit, false_lit}
+use types.Run.{skips, returns_within}
 use types.Na.{before_dup}
 use denote.RawPtr.{tests_null}
 use denote.Param.Laws.{Laws, of_field}
@@ -19,21 +19,21 @@ use Rattle.thread_local_blocks.specs.Slots.{value_words, word_at, value_offset}
 use Rattle.thread_local_blocks.proofs.Flags.{in_chunks}
 use Rattle.thread_local_blocks.proofs.Slots.{IsWordNear, word_is_near}
 use Rattle.thread_local_bits.specs.Bits.{is_set}
-use Rattle.thread_local_bits.proofs.Word.{is_set-test, masked_fits, place_below, place_fits, shifted_right}
+use Rattle.thread_local_bits.proofs.Word.{masked_fits, place_below, place_fits, shifted_right}
 use Rattle.thread_local_raw.specs.Fact as facts
 use Rattle.thread_local_shared_bucket_logic.specs.Shared.{BucketView, Turn, StandingBlock, Sized, mark, len, bucket_invariant, loaded}
 use Rattle.thread_local_shared_bucket.proofs.Fields.{pointer_good}
 use Rattle.thread_local_shared_bucket_logic.proofs.Loads.{glimpse, reaches, reads}
 use Rattle.thread_local_model.specs.Learnt.{Learnt, Missing, Vacant, Finds}
-use Rattle.thread_local_claim_logic.specs.Known.{IsKnown, IsUnfound, in_vain, found_as}
-use Rattle.thread_local_claim_logic.proofs.Learning.{known_as, not_missing, kept_as, finds_nothing, finds_slot, unfound, found as found_in}
+use Rattle.thread_local_claim_logic.specs.Known.{IsKnown, IsUnfound, in_vain, state_by, found_as}
+use Rattle.thread_local_claim_logic.proofs.Learning.{known_as, not_missing, kept_as, state_by-fits, state_by-flag, finds_nothing, finds_slot, unfound, found as found_in}
 use Rattle.thread_local_claim_logic.specs.Claims.{ClaimFields, number_of_id, claim_fields, IsOf, IsKept, waits, has, has_slot, has_at}
 use Rattle.thread_local_claim.specs.contracts.claimed.ClaimedSlot as claim
 use Rattle.thread_local_claim.specs.contracts.claimed.ClaimedSlot.find.{ended, clauses}
 use Rattle.thread_local_claim.specs.contracts.claimed.ClaimedSlot.find.Key.{name as #self}
 use Rattle.thread_local_claim_logic.proofs.Early.{comes}
 use Rattle.thread_local_claim_logic.proofs.Steps as steps
-use Rattle.thread_local_claim.proofs.Fields.{Kept, kept_of, value_of, FieldsType, fields_of, told, made, typed, number_in}
+use Rattle.thread_local_claim.proofs.Fields.{Kept, kept_of, value_of, FieldsType, fields_of, told, in_word, made, typed, number_in}
 use Rattle.thread_local_claim.proofs.claimed.ClaimedSlot.find.Statement.{statement}
 use Rattle.thread_local_claim.proofs.claimed.ClaimedSlot.find.Code as code
 
@@ -54,7 +54,7 @@ find_spec 𝓤 𝓛 𝓜 𝓡 wired X L =
     let y : (walk_of 𝓛 En hs c).Ghost = ((κs, qs, bounds, a, (u₀ ∷ [], (vint w64 x ∷ [], (vint w64 num ∷ [], tt)))), gh) in let Post : Val → SProp 𝓤 = (walk_of 𝓛 En hs c).post y in
     qed 𝓛 (((‵ (flft β q) ⊛ ‵ others) ⊛ ‵ (owns (types_at En.signature.params κs) a y.0.4)) ∷ raw (fact 𝓤 _) ∷ raw (fact 𝓤 (IsUnfound l₀)) ∷ raw (fact 𝓤 (x ≡ i)) ∷ raw (fact 𝓤 (num ≡ number_of_id R h.id)) ∷ []) ∵
     keep ! (2 ∷ 3 ∷ 4 ∷ 0 ∷ []) $ heard ! (IsUnfound l₀) (λ unseen. heard ! (x ≡ i) (λ is_index. heard ! (num ≡ number_of_id R h.id) (λ numbered. split ! $ split ! $ move ! (2 ∷ []) $ fsplit3 ! $ fsplit ! $ keep ! (1 ∷ 4 ∷ 5 ∷ []) $
-    enter ! 𝓣.C 𝓣.Λ fn (u₀ ∷ vint w64 x ∷ vint w64 num ∷ []) Post $ alloc_all ! (λ l. pass_all ! refl (typed (kept_of h), ((tt, record { fits = are.1.0.1 }), ((tt, record { fits = are.1.1.0.1 }), tt))) $ let Ev = env fn.locals l in
+    enter ! 𝓣.C 𝓣.Λ fn (u₀ ∷ vint w64 x ∷ vint w64 num ∷ []) Post $ alloc_all ! (λ l. pass_all ! refl (typed (kept_of h) (in_word ℓ R (kept_of h) (u₀ ∷ []) are.0.0), ((tt, record { fits = are.1.0.1 }), ((tt, record { fits = are.1.1.0.1 }), tt))) $ let Ev = env fn.locals l in
     fsplit ! $ drop ! $ fpick ! (λ z. fsplit ! $ fpick ! (λ of. drop ! $ fsplit ! $ move ! (1 ∷ []) $ let d : BucketView = z.0 in let t : Turn = z.1 in let at : w ≡ block_ptr wb wo = at_block w of.0 in
     use1 𝓛 (‵ (fsep (facts.fact (h.at ≡ w)) (waits (in_vain l₀) d.table t.pass h.id))) (unfound 𝓛 R d t β pl l₀ unseen) $ fsplit ! $ fpick ! (λ leads. drop ! $
     -- [what it waits with; what is kept; the tokens]
@@ -74,13 +74,13 @@ find_spec 𝓤 𝓛 𝓜 𝓡 wired X L =
     move ! (1 ∷ []) $ fsplit ! $ fpick ! (λ free. drop ! $
     -- [the pass; the token; the invariant, twice; before, twice; the other tokens]
     sets ! (of_opd ! (get ! refl)) refl (pointer_good null_ptr) $ sets ! (bin ! (get ! refl) (lit ! tt) tt) refl (tt, tt) $ first ! $ branches ! (get ! refl)
-    (λ _. let m : Kept = record { at = block_ptr wb wo; found = false; published = false } in let pl' : ClaimFields = claim_fields h.id i (block_ptr wb wo) (block_ptr wb wo) h.sharing h.reserved in
-    let r : G.Denot = record { at = block_ptr wb wo; found = false; published = false; marker = record {}; bucket = block_ptr wb wo; table = h.table; sharing = h.sharing; id = h.id; index = i; reserved = h.reserved; learnt = gone } in
+    (λ _. let m : Kept = record { at = block_ptr wb wo; state = 0 } in let pl' : ClaimFields = claim_fields h.id i (block_ptr wb wo) (block_ptr wb wo) h.sharing h.reserved in
+    let r : G.Denot = record { at = block_ptr wb wo; state = 0; marker = record {}; bucket = block_ptr wb wo; table = h.table; sharing = h.sharing; id = h.id; index = i; reserved = h.reserved; learnt = gone } in
     sets ! (agg ! (no_more !)) refl (tt, tt) $
-    sets ! (agg ! (and_then ! (get ! refl) (and_then ! (false_lit !) (and_then ! (false_lit !) (and_then ! (get ! refl) (no_more !)))))) refl (typed m) $
+    sets ! (agg ! (and_then ! (get ! refl) (and_then ! (lit ! tt) (and_then ! (get ! refl) (no_more !))))) refl (typed m (lit< tt)) $
     nothing ! $ fpack ! (block_ptr wb wo ≡ block_ptr wb wo) (λ _. ftrue) refl $ fjoin ! $ move ! (4 ∷ 2 ∷ []) $ fjoin ! $ fjoin ! $ nothing ! $ fpack ! (IsOf R h.table pl' d) (λ _. ftrue) (tt, of.1, of.2, of.3, of.4, of.5, of.6) $ fjoin ! $
-    fpack ! (BucketView × Turn) (has_at R β h.table pl' gone) z $ nothing ! $ fpack ! (IsKept R false false gone) (λ _. ftrue) (refl, refl) $ fjoin ! $
-    use0 𝓛 (‵ ((FieldsType ℓ R).own_val (fields_of ℓ R m) (value_of m ∷ []))) (made ℓ R 𝓛 m) $ fjoin ! $ move ! (1 ∷ 4 ∷ []) $ join ! $ move ! (1 ∷ []) $
+    fpack ! (BucketView × Turn) (has_at R β h.table pl' gone) z $ nothing ! $ fpack ! (IsKept R 0 gone) (λ _. ftrue) refl $ fjoin ! $
+    use0 𝓛 (‵ ((FieldsType ℓ R).own_val (fields_of ℓ R m) (value_of m ∷ []))) (made ℓ R 𝓛 m (lit< tt)) $ fjoin ! $ move ! (1 ∷ 4 ∷ []) $ join ! $ move ! (1 ∷ []) $
     use0 𝓛 (raw (fact 𝓤 (F₅ r))) (fact_i 𝓤 (F₅ r) (emp 𝓤) (finds_nothing l₀ unseen)) $ use0 𝓛 (raw (fact 𝓤 (F₄ r))) (fact_i 𝓤 (F₄ r) (emp 𝓤) (refl, (λ is. let never : true ≡ false = sym is ∙ sym of.5 ∙ free in cc))) $ join ! $ use0 𝓛 (raw (fact 𝓤 (F₃ r))) (fact_i 𝓤 (F₃ r) (emp 𝓤) (λ _. inl refl)) $ join ! $ use0 𝓛 (raw (fact 𝓤 (F₂ r))) (fact_i 𝓤 (F₂ r) (emp 𝓤) tt) $ join ! $
     use0 𝓛 (raw (fact 𝓤 (F₁ r))) (fact_i 𝓤 (F₁ r) (emp 𝓤) (refl, refl, refl, refl)) $ join ! $ nothing ! $ nothing ! $ fjoin ! $ nothing ! $ fjoin ! $ nothing ! $ fjoin ! $ returns_within ! Post refl (look_at ! 0 refl) $ free_all ! refl $ keep ! (3 ∷ 0 ∷ 2 ∷ 1 ∷ []) $ by ! (leaves 𝓛 En hs c y (value_of m) r (tt, (tt, (tt, tt))) (tt, (tt, (tt, tt))))) (λ wrong. absurd wrong)))
     (λ pb po. let p : Ptr = block_ptr pb po in let k : ℕ = i / 64 in let j : ℕ = i % 64 in let at_word : ℕ = word_at R (len R d) po k in let e : ℕ = value_offset R po i in
@@ -105,15 +105,15 @@ find_spec 𝓤 𝓛 𝓜 𝓡 wired X L =
     Calls-last ! (fm 𝓛 𝓜 𝓡) (found aft) (and_then ! (get ! refl) (and_then ! (get ! refl) (no_more !))) (λ v. finds ! aft (λ n nf.
     lands_last ! refl (tt, record { fits = nf }) $ exec ! 𝓣.C 𝓣.Λ Ev (after 8 fn.body) (at_ret Ev Post) $ fsplit ! $ move ! (0 ∷ 4 ∷ []) $ use2 𝓛 (later (‵ (flft β q))) (apply∗ 𝓤 (𝓛.A.lft t.life s) (H.⇛ (𝓛.A.lft β q))) $ await ! tt $
     -- [the token; what was found; the row; the invariant; before; the other tokens]
-    let seen : Bool = is_set n j in let m : Kept = record { at = p; found = true; published = seen } in let pl' : ClaimFields = claim_fields h.id i (block_ptr wb wo) p h.sharing h.reserved in
+    let set : Bool = is_set n j in let seen : ℕ = state_by set in let seen_fits : seen < 2 ^ 64 = state_by-fits set in let m : Kept = record { at = p; state = seen } in let pl' : ClaimFields = claim_fields h.id i (block_ptr wb wo) p h.sharing h.reserved in
     sets ! (of_opd ! (get ! refl)) refl (tt, record { fits = nf }) $ sets ! (of_opd ! (get ! refl)) refl (tt, tt) $ sets ! (is ! (bin ! (get ! refl) (lit ! tt) (lit< tt)) (ap (λ (n' : ℕ). vint w64 (n' % 64)) is_index)) refl (tt, record { fits = place_fits i }) $ sets ! (of_opd ! (get ! refl)) refl (tt, record { fits = place_fits i }) $
     sets ! (bin ! (get ! refl) (get ! refl) (place_below i)) refl (tt, record { fits = shifted_right n j nf }) $ sets ! (bin ! (get ! refl) (lit ! tt) tt) refl (tt, record { fits = masked_fits (n / 2 ^ j) 1 (shifted_right n j nf) }) $
-    sets ! (is ! (bin ! (get ! refl) (lit ! tt) tt) (ap vbool (is_set-test n j))) refl (tt, tt) $ sets ! (agg ! (no_more !)) refl (tt, tt) $
-    sets ! (agg ! (and_then ! (get ! refl) (and_then ! (true_lit !) (and_then ! (get ! refl) (and_then ! (get ! refl) (no_more !)))))) refl (typed m) $
+    sets ! (is ! (bin ! (get ! refl) (lit ! tt) (record { fits = subst (λ (x' : ℕ). x' < 2 ^ 64) (sym (state_by-flag n j)) seen_fits })) (ap (vint w64) (state_by-flag n j))) refl (tt, record { fits = seen_fits }) $ sets ! (agg ! (no_more !)) refl (tt, tt) $
+    sets ! (agg ! (and_then ! (get ! refl) (and_then ! (get ! refl) (and_then ! (get ! refl) (no_more !))))) refl (typed m seen_fits) $
     move ! (1 ∷ []) $ fpick ! (λ v'. fsplit ! $ fpick ! (λ known. drop ! $ move ! (2 ∷ 0 ∷ []) $ fjoin ! $ nothing ! $ fpack ! (p ≡ p) (λ _. ftrue) refl $ fjoin ! $ fpack ! StandingBlock (has_slot R d t β pl' v') s' $ use1 𝓛 (‵ (has R d t β pl' (found_as v'))) (found_in 𝓛 R d t β pl' v') $
     move ! (3 ∷ 2 ∷ []) $ fjoin ! $ fjoin ! $ nothing ! $ fpack ! (IsOf R h.table pl' d) (λ _. ftrue) (tt, of.1, of.2, of.3, of.4, of.5, of.6) $ fjoin ! $
-    fpack ! (BucketView × Turn) (has_at R β h.table pl' (found_as v')) z $ nothing ! $ fpack ! (IsKept R true seen (found_as v')) (λ _. ftrue) (kept_as R v' seen known.0) $ fjoin ! $
-    use0 𝓛 (‵ ((FieldsType ℓ R).own_val (fields_of ℓ R m) (value_of m ∷ []))) (made ℓ R 𝓛 m) $ fjoin ! $ move ! (1 ∷ 2 ∷ []) $ join ! $ move ! (1 ∷ []) $
-    let r : G.Denot = record { at = p; found = true; published = seen; marker = record {}; bucket = block_ptr wb wo; table = h.table; sharing = h.sharing; id = h.id; index = i; reserved = h.reserved; learnt = found_as v' } in
+    fpack ! (BucketView × Turn) (has_at R β h.table pl' (found_as v')) z $ nothing ! $ fpack ! (IsKept R seen (found_as v')) (λ _. ftrue) (kept_as R v' set known.0) $ fjoin ! $
+    use0 𝓛 (‵ ((FieldsType ℓ R).own_val (fields_of ℓ R m) (value_of m ∷ []))) (made ℓ R 𝓛 m seen_fits) $ fjoin ! $ move ! (1 ∷ 2 ∷ []) $ join ! $ move ! (1 ∷ []) $
+    let r : G.Denot = record { at = p; state = seen; marker = record {}; bucket = block_ptr wb wo; table = h.table; sharing = h.sharing; id = h.id; index = i; reserved = h.reserved; learnt = found_as v' } in
     use0 𝓛 (raw (fact 𝓤 (F₅ r))) (fact_i 𝓤 (F₅ r) (emp 𝓤) (finds_slot l₀ unseen v')) $ use0 𝓛 (raw (fact 𝓤 (F₄ r))) (fact_i 𝓤 (F₄ r) (emp 𝓤) (refl, (λ _. not_missing v'))) $ join ! $ use0 𝓛 (raw (fact 𝓤 (F₃ r))) (fact_i 𝓤 (F₃ r) (emp 𝓤) (λ was. inr (ap found_as (known.1 (ap in_vain was))))) $ join ! $ use0 𝓛 (raw (fact 𝓤 (F₂ r))) (fact_i 𝓤 (F₂ r) (emp 𝓤) (known_as v')) $ join ! $
     use0 𝓛 (raw (fact 𝓤 (F₁ r))) (fact_i 𝓤 (F₁ r) (emp 𝓤) (refl, refl, refl, refl)) $ join ! $ nothing ! $ nothing ! $ fjoin ! $ nothing ! $ fjoin ! $ nothing ! $ fjoin ! $ returns ! (look_at ! 0 refl) $ free_all ! refl $ keep ! (3 ∷ 0 ∷ 2 ∷ 1 ∷ []) $ by ! (leaves 𝓛 En hs c y (value_of m) r (tt, (tt, (tt, tt))) (tt, (tt, (tt, tt)))))))))))))))))))))))

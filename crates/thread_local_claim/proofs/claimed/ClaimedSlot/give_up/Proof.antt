@@ -13,7 +13,7 @@ use Rattle.thread_local_claim_logic.specs.Claims.{claim_fields}
 use Rattle.thread_local_claim.specs.contracts.claimed.ClaimedSlot as claim
 use Rattle.thread_local_claim.specs.contracts.claimed.ClaimedSlot.give_up.{ended, clauses}
 use Rattle.thread_local_claim.specs.contracts.claimed.ClaimedSlot.give_up.Key.{name as #self}
-use Rattle.thread_local_claim.proofs.Fields.{kept_of, value_of, told, typed}
+use Rattle.thread_local_claim.proofs.Fields.{kept_of, value_of, told, in_word, typed}
 use Rattle.thread_local_claim_logic.proofs.Surrender.{surrenders}
 use Rattle.thread_local_claim.proofs.claimed.ClaimedSlot.give_up.Statement.{statement}
 use Rattle.thread_local_claim.proofs.claimed.ClaimedSlot.give_up.Code as code
@@ -29,9 +29,9 @@ give_up_spec 𝓤 𝓛 𝓜 𝓡 wired X L =
     let y : (walk_of 𝓛 En hs c).Ghost = ((κs, qs, bounds, a, (v ∷ [], tt)), gh) in let Post : Val → SProp 𝓤 = (walk_of 𝓛 En hs c).post y in
     qed 𝓛 (((‵ (flft β q) ⊛ ‵ others) ⊛ ‵ (owns (types_at En.signature.params κs) a y.0.4)) ∷ raw ((c κs a).requires gh) ∷ []) ∵
     split ! $ split ! $ move ! (2 ∷ []) $ fsplit ! $ fsplit ! $ keep ! (1 ∷ 3 ∷ 4 ∷ []) $
-    enter ! 𝓣.C 𝓣.Λ fn (v ∷ []) Post $ alloc_all ! (λ l. pass_all ! refl (typed (kept_of h), tt) $ let Ev = env fn.locals l in
+    enter ! 𝓣.C 𝓣.Λ fn (v ∷ []) Post $ alloc_all ! (λ l. pass_all ! refl (typed (kept_of h) (in_word ℓ R (kept_of h) (v ∷ []) are.0.0), tt) $ let Ev = env fn.locals l in
     -- [what the claim owns; the tokens]
-    move ! (0 ∷ 1 ∷ []) $ use2 𝓛 (later (‵ (right_owns h.table h.id) ⊛ ‵ (flft β q))) (surrenders 𝓛 R β h.table (claim_fields h.id h.index h.bucket h.at h.sharing h.reserved) 𝓡 h.learnt h.found h.published q) $ await ! tt $ split ! $
+    move ! (0 ∷ 1 ∷ []) $ use2 𝓛 (later (‵ (right_owns h.table h.id) ⊛ ‵ (flft β q))) (surrenders 𝓛 R β h.table (claim_fields h.id h.index h.bucket h.at h.sharing h.reserved) 𝓡 h.learnt h.state q) $ await ! tt $ split ! $
     move ! (1 ∷ 2 ∷ []) $ join ! $ move ! (1 ∷ []) $
     let k : takes.Ghost = ((tt, tt, tt, tt, tt), (h.table, h.id)) in
     nothing ! $ nothing ! $ join ! $ join ! $ use1 𝓛 (raw (takes.pre k)) (id⊢ 𝓤 (takes.pre k)) $

@@ -1,7 +1,6 @@
 -- `hold` joins the right with what a `&` to the bucket shows.
-use Rattle.thread_local_raw.proofs.Names.{Option, ◌≡◌, ℕ, ◌^◌, List, [], ◌∷◌, refl, sym, ap, ◌∙◌, w64, a_type, named, Val, vptr, vint, vunit, of_opd, inst_fn, SProp, emp, id⊢, Lft, Share, Fml, ftrue, fsep, flft, ‵, raw, ◌⊛◌, some, later, ◌$◌, ◌∵◌, !, qed, by, move, keep, drop, split, join, fsplit, fjoin, fpick, fpack, pick, use0, use1, await, rewrite, feq_l, stop, addr, no_more, and_then, returns, enter, alloc_all, pass_all, free_all, look_at, get, through, sets, env, agg, tables, fact, fact_i, yes, RattleType, owns, types_at, plain, named_lft, Ptr, block_ptr, nothing, heard, unhide, param, bounded, RefOf, shr_vals, shr_Tells, uint_vals, uint_Tells, Stays, stay_dropped, walk_of, Goes-dropped, proved, leaves, fm, ◌<◌, false, arith, dnil, lands_as, usize}
+use Rattle.thread_local_raw.proofs.Names.{Option, ◌≡◌, ℕ, ◌^◌, List, [], ◌∷◌, refl, sym, ap, ◌∙◌, w64, a_type, named, Val, vptr, vint, vunit, of_opd, inst_fn, SProp, emp, id⊢, Lft, Share, Fml, ftrue, fsep, flft, ‵, raw, ◌⊛◌, some, later, ◌$◌, ◌∵◌, !, qed, by, move, keep, drop, split, join, fsplit, fjoin, fpick, fpack, pick, use0, use1, await, rewrite, feq_l, stop, addr, no_more, and_then, returns, enter, alloc_all, pass_all, free_all, look_at, get, through, sets, env, agg, tables, fact, fact_i, yes, RattleType, owns, types_at, plain, named_lft, Ptr, block_ptr, nothing, heard, unhide, param, bounded, RefOf, shr_vals, shr_Tells, uint_vals, uint_Tells, Stays, stay_dropped, walk_of, Goes-dropped, proved, leaves, fm, ◌<◌, lit<, lit, arith, dnil, lands_as, usize}
 use base.Fml.{feq}
-use types.Run.{false_lit}
 use denote.Steps.{only}
 use denote.Triple.Call.{calls_at}
 use denote.Triple.Spec.{triple_of}
@@ -44,13 +43,13 @@ hold_spec 𝓤 𝓛 𝓜 𝓡 wired X L =
     use1 𝓛 (later (some (λ (_ : Unit {0}). (‵ ftrue ⊛ ‵ (feq (List Val) (u ∷ []) (vunit ∷ []))) ⊛ some (λ (_ : Unit {0} × Unit {0}). ‵ (fsep ftrue ftrue) ⊛ ‵ (right_owns r.table r.id))))) (id⊢ 𝓤 (lays.post k u)) $
     await ! tt $ pick ! (λ _. split ! $ split ! $ drop ! $ feq_l ! (λ eu. pick ! (λ _. split ! $ drop ! $ lands_as ! (ap only eu) refl (tt, tt) $ rewrite ! 0 (λ (n : ℕ). ‵ (right_owns n r.id)) same refl $
     sets ! (addr ! (through ! refl (stop !))) refl (tt, tt) $ sets ! (of_opd ! (get ! refl)) refl (tt, tt) $ sets ! (agg ! (no_more !)) refl (tt, tt) $
-    let m : Kept = record { at = p; found = false; published = false } in let pl : ClaimFields = claim_fields r.id i p p d.sharing d.reserved in let no : Learnt X.Denot = Unknown in
-    sets ! (agg ! (and_then ! (get ! refl) (and_then ! (false_lit !) (and_then ! (false_lit !) (and_then ! (get ! refl) (no_more !)))))) refl (typed m) $ nothing ! $ fpack ! (p ≡ p) (λ _. ftrue) refl $ fjoin ! $
+    let m : Kept = record { at = p; state = 0 } in let pl : ClaimFields = claim_fields r.id i p p d.sharing d.reserved in let no : Learnt X.Denot = Unknown in
+    sets ! (agg ! (and_then ! (get ! refl) (and_then ! (lit ! tt) (and_then ! (get ! refl) (no_more !))))) refl (typed m (lit< tt)) $ nothing ! $ fpack ! (p ≡ p) (λ _. ftrue) refl $ fjoin ! $
     move ! (1 ∷ []) $ unhide ! $ fsplit ! $ fpick ! (λ j. drop ! $ fpick ! (λ t. fjoin ! $
     nothing ! $ fpack ! (IsOf R r.table pl d) (λ _. ftrue) (tt, j, sym same, is_id ∙ omega arith, near, refl, refl) $ fjoin ! $ fpack ! (BucketView × Turn) (has_at R κ r.table pl no) (d, t) $
-    nothing ! $ fpack ! (IsKept R false false no) (λ _. ftrue) (refl, refl) $ fjoin ! $ use0 𝓛 (‵ ((FieldsType ℓ R).own_val (fields_of ℓ R m) (value_of m ∷ []))) (made ℓ R 𝓛 m) $ fjoin ! $
+    nothing ! $ fpack ! (IsKept R 0 no) (λ _. ftrue) refl $ fjoin ! $ use0 𝓛 (‵ ((FieldsType ℓ R).own_val (fields_of ℓ R m) (value_of m ∷ []))) (made ℓ R 𝓛 m (lit< tt)) $ fjoin ! $
     move ! (1 ∷ 2 ∷ []) $ join ! $ move ! (1 ∷ []) $
-    let h : G.Denot = record { at = p; found = false; published = false; marker = record {}; bucket = p; table = r.table; sharing = d.sharing; id = r.id; index = i; reserved = d.reserved; learnt = no } in
+    let h : G.Denot = record { at = p; state = 0; marker = record {}; bucket = p; table = r.table; sharing = d.sharing; id = r.id; index = i; reserved = d.reserved; learnt = no } in
     use0 𝓛 (raw (fact 𝓤 (h.reserved ≡ d.reserved))) (fact_i 𝓤 (h.reserved ≡ d.reserved) (emp 𝓤) refl) $ use0 𝓛 (raw (fact 𝓤 (h.learnt ≡ Unknown))) (fact_i 𝓤 (h.learnt ≡ Unknown) (emp 𝓤) refl) $ join ! $
     use0 𝓛 (raw (fact 𝓤 ((h.table ≡ r.table) × (◌≡◌ {A = Option ℕ} h.sharing d.sharing) × (h.id ≡ r.id) × (h.index ≡ i)))) (fact_i 𝓤 ((h.table ≡ r.table) × (◌≡◌ {A = Option ℕ} h.sharing d.sharing) × (h.id ≡ r.id) × (h.index ≡ i)) (emp 𝓤) (refl, refl, refl, refl)) $ join ! $ nothing ! $ nothing ! $ fjoin ! $ nothing ! $ fjoin ! $ nothing ! $ fjoin ! $
     returns ! (look_at ! 0 refl) $ free_all ! refl $ keep ! (3 ∷ 0 ∷ 2 ∷ 1 ∷ []) $ by ! (leaves 𝓛 En hs c y (value_of m) h (tt, (tt, (tt, tt))) (tt, (tt, (tt, tt)))))))))))))))

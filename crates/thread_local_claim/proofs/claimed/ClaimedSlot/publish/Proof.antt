@@ -11,7 +11,7 @@ use contract.Shared.{Lends-one}
 use ghost.Rules.{Toks}
 use types.Logic.{lfts}
 use types.Na.{before_dup}
-use types.Run.{Calls-last, true_lit}
+use types.Run.{Calls-last}
 use types.Tokens.{bor_open, obor_close}
 use denote.RawPtr.{ptr_val}
 use denote.Param.{bounded}
@@ -34,7 +34,7 @@ use Rattle.thread_local_claim.specs.contracts.claimed.ClaimedSlot as claim
 use Rattle.thread_local_claim.specs.contracts.claimed.ClaimedSlot.publish.{ended, clauses}
 use Rattle.thread_local_claim.specs.contracts.claimed.ClaimedSlot.publish.Key.{name as #self}
 use Rattle.thread_local_claim_logic.proofs.Steps as steps
-use Rattle.thread_local_claim.proofs.Fields.{Kept, kept_of, value_of, FieldsType, fields_of, told, made, typed, number_in, spaced, spaced_is}
+use Rattle.thread_local_claim.proofs.Fields.{Kept, kept_of, value_of, FieldsType, fields_of, told, in_word, made, typed, number_in, spaced, spaced_is}
 use Rattle.thread_local_claim.proofs.claimed.ClaimedSlot.publish.Statement.{statement}
 use Rattle.thread_local_claim.proofs.claimed.ClaimedSlot.publish.Code as code
 
@@ -54,7 +54,7 @@ publish_spec 𝓤 𝓛 𝓜 𝓡 wired X L =
     move ! (3 ∷ []) $ fsplit3 ! $ keep ! (4 ∷ 1 ∷ 6 ∷ 7 ∷ []) $
     move ! (1 ∷ []) $ rewrite ! 0 (λ (ws : List Val). ‵ (R.own_val x ws)) got.1 refl $ let us : List Val = u₀ ∷ vint w64 ix ∷ vint w64 num ∷ vx ∷ [] in
     suffices ! (Run us) (subst (λ (ws : List Val). ent 𝓤 (Run us) (Run ws)) (sym (λ j. seen j ++ (see_index j ++ (see_number j ++ (got.1 j ++ []))))) (id⊢ 𝓤 (Run us))) $
-    enter ! 𝓣.C 𝓣.Λ fn us Post $ alloc_all ! (λ l. pass_all ! refl (typed (kept_of h), ((tt, record { fits = are.1.0.1 }), ((tt, record { fits = are.1.1.0.1 }), (got.2, tt)))) $ let Ev = env fn.locals l in
+    enter ! 𝓣.C 𝓣.Λ fn us Post $ alloc_all ! (λ l. pass_all ! refl (typed (kept_of h) (in_word ℓ R (kept_of h) vss.0 are.0.0), ((tt, record { fits = are.1.0.1 }), ((tt, record { fits = are.1.1.0.1 }), (got.2, tt)))) $ let Ev = env fn.locals l in
     -- [the value; what the claim owns; the token; the other tokens]
     move ! (1 ∷ []) $ fsplit ! $ drop ! $ fpick ! (λ z. fsplit ! $ fpick ! (λ of. drop ! $ fsplit ! $ move ! (1 ∷ []) $ let d : BucketView = z.0 in let t : Turn = z.1 in
     rewrite ! 0 (λ (k : Learnt X.Denot). ‵ (has R d t β pl k)) empty refl $ fpick ! (λ s. fsplit ! $ fpick ! (λ leads. drop ! $ fsplit ! $ move ! (1 ∷ []) $ fsplit3 ! $
@@ -116,12 +116,12 @@ publish_spec 𝓤 𝓛 𝓜 𝓡 wired X L =
     -- [the life's token; filled and what is told; the way back; what is kept; the other tokens; for the claim; what
     -- is known; the row]
     move ! (0 ∷ 2 ∷ []) $ use2 𝓛 (later (‵ (flft β q))) (apply∗ 𝓤 (𝓛.A.lft t.life g') (H.⇛ (𝓛.A.lft β q))) $ await ! tt $
-    let k : Kept = record { at = p; found = true; published = true } in let pl' : ClaimFields = claim_fields h.id i w p h.sharing h.reserved in
+    let k : Kept = record { at = p; state = 2 } in let pl' : ClaimFields = claim_fields h.id i w p h.sharing h.reserved in
     sets ! (agg ! (no_more !)) refl (tt, tt) $
-    sets ! (agg ! (and_then ! (get ! refl) (and_then ! (true_lit !) (and_then ! (true_lit !) (and_then ! (get ! refl) (no_more !)))))) refl (typed k) $
+    sets ! (agg ! (and_then ! (get ! refl) (and_then ! (lit ! tt) (and_then ! (get ! refl) (no_more !))))) refl (typed k (lit< tt)) $
     move ! (1 ∷ []) $ fsplit ! $ move ! (6 ∷ 1 ∷ []) $ fjoin ! $ move ! (1 ∷ 0 ∷ 5 ∷ []) $ fjoin3 ! $ move ! (4 ∷ 0 ∷ []) $ fjoin ! $ nothing ! $ fpack ! (p ≡ s.at) (λ _. ftrue) (sym lies) $ fjoin ! $ fpack ! StandingBlock (has_slot R d t β pl' new) s $ move ! (2 ∷ 0 ∷ []) $ fjoin ! $
-    nothing ! $ fpack ! (IsOf R h.table pl' d) (λ _. ftrue) (of.0, of.1, of.2, of.3, of.4, of.5, of.6) $ fjoin ! $ fpack ! (BucketView × Turn) (has_at R β h.table pl' (Holding x)) z $ nothing ! $ fpack ! (IsKept R true true (Holding x)) (λ _. ftrue) (refl, refl) $ fjoin ! $
-    use0 𝓛 (‵ ((FieldsType ℓ R).own_val (fields_of ℓ R k) (value_of k ∷ []))) (made ℓ R 𝓛 k) $ fjoin ! $ move ! (1 ∷ 2 ∷ []) $ join ! $ move ! (1 ∷ []) $
-    let made_claim : G.Denot = record { at = p; found = true; published = true; marker = record {}; bucket = w; table = h.table; sharing = h.sharing; id = h.id; index = i; reserved = h.reserved; learnt = Holding x } in
+    nothing ! $ fpack ! (IsOf R h.table pl' d) (λ _. ftrue) (of.0, of.1, of.2, of.3, of.4, of.5, of.6) $ fjoin ! $ fpack ! (BucketView × Turn) (has_at R β h.table pl' (Holding x)) z $ nothing ! $ fpack ! (IsKept R 2 (Holding x)) (λ _. ftrue) refl $ fjoin ! $
+    use0 𝓛 (‵ ((FieldsType ℓ R).own_val (fields_of ℓ R k) (value_of k ∷ []))) (made ℓ R 𝓛 k (lit< tt)) $ fjoin ! $ move ! (1 ∷ 2 ∷ []) $ join ! $ move ! (1 ∷ []) $
+    let made_claim : G.Denot = record { at = p; state = 2; marker = record {}; bucket = w; table = h.table; sharing = h.sharing; id = h.id; index = i; reserved = h.reserved; learnt = Holding x } in
     use0 𝓛 (raw (fact 𝓤 (F₃ made_claim))) (fact_i 𝓤 (F₃ made_claim) (emp 𝓤) refl) $ use0 𝓛 (raw (fact 𝓤 (F₂ made_claim))) (fact_i 𝓤 (F₂ made_claim) (emp 𝓤) refl) $ join ! $ use0 𝓛 (raw (fact 𝓤 (F₁ made_claim))) (fact_i 𝓤 (F₁ made_claim) (emp 𝓤) (refl, refl, refl, refl)) $ join ! $
     nothing ! $ nothing ! $ fjoin ! $ nothing ! $ fjoin ! $ nothing ! $ fjoin ! $ nothing ! $ fjoin ! $ returns ! (look_at ! 0 refl) $ free_all ! refl $ keep ! (3 ∷ 0 ∷ 2 ∷ 1 ∷ []) $ by ! (leaves 𝓛 En hs c y (value_of k) made_claim (tt, (tt, (tt, (tt, tt)))) (tt, (tt, (tt, (tt, tt))))))))))))))))))))))

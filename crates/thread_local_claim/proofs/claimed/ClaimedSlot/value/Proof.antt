@@ -36,7 +36,7 @@ value_spec 𝓤 𝓛 𝓜 𝓡 wired X L =
     keep ! (2 ∷ 3 ∷ 0 ∷ []) $ heard ! (is_some (value_held l₀) ≡ true) (λ asked. heard ! (k ≡ i) (λ same. let held = holding l₀ asked in let x : X.Denot = held.0 in
     split ! $ split ! $ move ! (2 ∷ []) $ fsplit ! $ fsplit ! $ keep ! (1 ∷ 3 ∷ 4 ∷ []) $
     enter ! 𝓣.C 𝓣.Λ fn (vptr b o ∷ vint w64 k ∷ []) Post $ alloc_all ! (λ l. pass_all ! refl ((tt, tt), ((tt, record { fits = are.1.0.1 }), tt)) $ let Ev = env fn.locals l in
-    use1 𝓛 (‵ (hidden_shr D κ (fields_of ℓ R (kept_of h)) b o) ⊛ ‵ (fhide (claim_shares R β (claim_fields h.id i h.bucket p h.sharing h.reserved) l₀ h.found h.published κ)))
+    use1 𝓛 (‵ (hidden_shr D κ (fields_of ℓ R (kept_of h)) b o) ⊛ ‵ (fhide (claim_shares R β (claim_fields h.id i h.bucket p h.sharing h.reserved) l₀ h.state κ)))
     (lent_out 𝓛 (claim.struct ℓ R) (claim.the_codes X.Denot R.coded (marker.the_row (ShrRef ℓ.mir ℓ.lft R)).coded) (claim.the_heap β R) (claim.the_lent β R) κ h b o) $
     split ! $ move ! (1 ∷ []) $ unhide ! $ fsplit ! $ drop ! $ rewrite ! 0 (λ (u : Learnt X.Denot). ‵ (shows_value R β (claim_fields h.id i h.bucket p h.sharing h.reserved) (value_held u) κ)) held.1 refl $ rewrite ! 0 (λ (n : ℕ). ‵ (shows_value R β (claim_fields h.id n h.bucket p h.sharing h.reserved) (Some x) κ)) (sym same) refl $ fsplit ! $ fpick ! (λ inb. drop ! $ fsplit ! $ move ! (1 ∷ []) $ drop ! $ let at : p ≡ block_ptr pb po = at_block p inb.0 in let close : k * stride R < 2 ^ 64 = inb.1 in
     use1 𝓛 (‵ (hidden_shr R κ x pb e)) (shortens 𝓛 (shared_of R x pb e) (LR.shr_laws x pb e) (κ ++ β) κ (⊑_meet κ κ β (Incl-refl κ) bounds.0)) $ move ! (1 ∷ 2 ∷ []) $

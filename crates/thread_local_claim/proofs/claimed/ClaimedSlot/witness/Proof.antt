@@ -32,7 +32,7 @@ witness_spec 𝓤 𝓛 𝓜 𝓡 wired X L =
     keep ! (2 ∷ 0 ∷ []) $ heard ! Asked (λ asked. let held = holding l₀ asked in let x : X.Denot = held.0 in let r : S.Denot = record { marker = record {}; sharing = h.sharing; id = h.id; value = x } in
     split ! $ split ! $ move ! (2 ∷ []) $ fsplit ! $ fsplit ! $ keep ! (1 ∷ 3 ∷ 4 ∷ []) $
     enter ! 𝓣.C 𝓣.Λ fn (vptr b o ∷ []) Post $ alloc_all ! (λ l. pass_all ! refl ((tt, tt), tt) $
-    use1 𝓛 (‵ (hidden_shr D κ (fields_of ℓ R (kept_of h)) b o) ⊛ ‵ (fhide (claim_shares R β f l₀ h.found h.published κ)))
+    use1 𝓛 (‵ (hidden_shr D κ (fields_of ℓ R (kept_of h)) b o) ⊛ ‵ (fhide (claim_shares R β f l₀ h.state κ)))
     (lent_out 𝓛 (claim.struct ℓ R) (claim.the_codes X.Denot R.coded (marker.the_row (ShrRef ℓ.mir ℓ.lft R)).coded) (claim.the_heap β R) (claim.the_lent β R) κ h b o) $
     split ! $ move ! (1 ∷ []) $ unhide ! $ fsplit ! $ drop ! $ rewrite ! 0 (λ (u : Learnt X.Denot). ‵ (shows_value R β f (value_held u) κ)) held.1 refl $ fsplit ! $ drop ! $ fsplit ! $ drop ! $ fsplit ! $ drop ! $
     -- [what is told; the claim's fields; the tokens]
