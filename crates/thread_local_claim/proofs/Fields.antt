@@ -1,5 +1,5 @@
 -- The machine value of a claimed slot: what it keeps at run time. Assumes `Logic`.
-use Rattle.std.proofs.Common.{◌≡◌, ℕ, ◌+◌, ◌-◌, ◌*◌, ◌/◌, ◌^◌, ◌<◌, arith, T, w64, List, [], ◌∷◌, ◌++◌, refl, sym, ap, subst, ◌∙◌, lit<}
+use Rattle.std.proofs.Common.{◌≡◌, ℕ, ◌+◌, ◌-◌, ◌*◌, ◌/◌, ◌^◌, ◌<◌, ◌≤◌, le_of_lt, mul-le-mul_right, arith, T, w64, List, [], ◌∷◌, ◌++◌, refl, sym, ap, subst, ◌∙◌, lit<}
 use seplogic.Ra.Ura.{Ura}
 use mir.Syntax.{Ty, ty_int, ty_ptr, ty_struct, tcons, tnil}
 use mir.Val.{Val, vint, vstruct, vcons, vnil, of_list, has_ty, WT}
@@ -19,7 +19,7 @@ use denote.Struct.Owning.{shape}
 use Rattle.std.specs.contracts.marker.PhantomData as marker
 use Rattle.thread_local_model.specs.Place.{bucket_of, index_of, id_at}
 use Rattle.thread_local_model.proofs.PlaceLaws.{place-id_at}
-use Rattle.thread_local_blocks.specs.Slots.{word_number}
+use Rattle.thread_local_blocks.specs.Slots.{stride, value_words, word_number, word_at, value_offset}
 use Rattle.thread_local_blocks.proofs.Flags.{uncapped}
 use Rattle.thread_local_shared_bucket_logic.specs.Shared.{BucketView, len, first}
 use Rattle.thread_local_claim_logic.specs.Claims.{number_of_id}
@@ -85,6 +85,19 @@ typed_at null_ptr n fits = (tt, (record { fits = lit< tt }, (record { fits = fit
 
 pub typed : (c : Kept) → c.state < 2 ^ 64 → T (has_ty claim_ty (value_of c)) × WT (value_of c)
 typed c fits = typed_at c.at c.state fits
+
+-- the word of a slot's flag lies behind the slot's value, this many bytes from it
+abbrev pub distance : (R : RattleType) → ℕ → ℕ → ℕ
+distance R n i = (value_words R n + i / 64) * 8 - i * stride R
+
+pub lies_ahead : (R : RattleType) (n i : ℕ) → i < n → i * stride R ≤ (value_words R n + i / 64) * 8
+lies_ahead R n i near = let most : i * stride R ≤ n * stride R = mul-le-mul_right (stride R) (le_of_lt near) in omega arith
+
+pub distance_fits : (R : RattleType) (n i : ℕ) → (value_words R n + i / 64) * 8 < 2 ^ 64 → distance R n i < 2 ^ 64
+distance_fits R n i near = omega arith
+
+pub leads_to_word : (R : RattleType) (n o i : ℕ) → i < n → distance R n i + value_offset R o i ≡ word_at R n o (i / 64)
+leads_to_word R n o i near = let ahead = lies_ahead R n i near in omega arith
 
 -- code multiplies by the capped size, which is the size itself where i * k fits in 64 bits
 pub spaced : (i k : ℕ) → i * k < 2 ^ 64 → i * capped k < 2 ^ 64

@@ -114,7 +114,8 @@ impl<'a, T> Claim<'a, T> {
         ensures reserved { self.new.reserved ≡ self.old.reserved }
     {
         let len = self.thread.bucket_size();
-        if let Some(block) = replace_with(&mut self.slot, block, offered) {
+        let given = (block, self.thread.index);
+        if let Some(block) = replace_with(&mut self.slot, given, offered) {
             block.release(alloc, len);
         }
     }
@@ -165,7 +166,7 @@ impl<'a, T> Claim<'a, T> {
             self.now.learnt ≡ Holding x.now) }
     {
         if self.slot.is_published() {
-            Some(self.slot.value(self.thread.index))
+            Some(self.slot.value())
         } else {
             None
         }
@@ -229,7 +230,7 @@ impl<'a, T: Sync> Claim<'a, T> {
             self.now.learnt ≡ Holding x.now) }
     {
         if self.slot.is_published() {
-            Some(self.slot.lasting(self.thread.index))
+            Some(self.slot.lasting())
         } else {
             None
         }

@@ -1,5 +1,5 @@
 //! A claimed slot as it is stored: it points to the bucket's pointer until the bucket is found, and
-//! to the block from then on.
+//! to the slot's value from then on.
 ghost use Rattle.std.specs.Prelude.{◌≡◌, ◌≢◌, ◌<◌, ◌^◌, ◌⊎◌, ℕ, Bool, true, Option, is_some, IfSome};
 ghost use base.Stored.{coded_bool};
 ghost use Rattle.std.specs.Coded.{coded_option, coded_ℕ};
@@ -12,6 +12,7 @@ ghost use Rattle.thread_local_claim_logic.specs.Claims.{number_of_id, claim_fiel
 
 use std::alloc::Global;
 use std::marker::{Brand, Model, PhantomData};
+use std::mem::size_of;
 use std::sync::atomic::Ordering::SeqCst;
 use std::sync::atomic::raw;
 use std::sync::atomic::raw::ptr;
@@ -28,7 +29,7 @@ mod told;
 /// whether its bucket is reserved, the sharing, and what it has learnt of the slot. It stores no index: callers
 /// pass the index, and the number of the word that has the flag.
 pub(crate) struct ClaimedSlot<'a, T> {
-    /// The address of the bucket's pointer, and once the bucket is found, of its block.
+    /// The address of the bucket's pointer, and once the bucket is found, of the slot's value.
     at: *const (),
     /// What it has learnt: 0 before the bucket is found, then 1, and 2 where the slot holds a value.
     state: u64,
@@ -115,9 +116,10 @@ impl<'a, T> ClaimedSlot<'a, T> {
             };
         }
         let word = unsafe { (at as *const u64).add(number) };
+        let value = unsafe { (at as *const T).add(index) };
         let flags = unsafe { raw::load::<Brand>(word, SeqCst) };
         ClaimedSlot {
-            at: at as *const (),
+            at: value as *const (),
             state: (flags >> (index % 64) & 1) + 1,
             marker: PhantomData,
         }
@@ -142,8 +144,10 @@ impl<'a, T> ClaimedSlot<'a, T> {
             state: _,
             marker: _,
         } = self;
-        let word = unsafe { (at as *const u64).add(number) };
-        let slot = unsafe { (at as *mut T).add(index) };
+        // The words of flags lie behind the values.
+        let distance = number * 8 - index * size_of::<T>();
+        let word = unsafe { (at as *const u8).add(distance) } as *const u64;
+        let slot = at as *mut T;
         unsafe { slot.write(value) };
         unsafe { raw::fetch_add::<Brand>(word, 1 << (index % 64), SeqCst) };
         ClaimedSlot {
@@ -177,12 +181,11 @@ impl<'a, T> ClaimedSlot<'a, T> {
     }
 
     /// The value that the slot holds, for as long as the claim is borrowed.
-    pub(crate) fn value(&self, index: usize) -> &T
+    pub(crate) fn value(&self) -> &T
         requires published { is_some (value_held self.now.learnt) ≡ true }
-        requires index { index ≡ self.now.index }
         ensures { self.now.learnt ≡ Holding result.now }
     {
-        unsafe { &*(self.at as *const T).add(index) }
+        unsafe { &*(self.at as *const T) }
     }
 }
 
@@ -213,19 +216,21 @@ pub(crate) fn found_again<'a, T>(
 /// The slot once its bucket stands, and the offered block, unless that is the one that stands.
 pub(crate) fn offered<'a, T>(
     slot: ClaimedSlot<'a, T>,
-    block: Block<T, Global>,
+    given: (Block<T, Global>, usize),
 ) -> (ClaimedSlot<'a, T>, Option<Block<T, Global>>)
     requires missing { slot.learnt ≡ Missing }
-    requires made { (block.slots ≡ empty_slots (2 ^ bucket_of slot.id)) × (block.left ≡ 0) }
+    requires index { given.1 ≡ slot.index }
+    requires made { (given.0.slots ≡ empty_slots (2 ^ bucket_of slot.id)) × (given.0.left ≡ 0) }
     ensures right { (result.0.table ≡ slot.entry.table)
         × (result.0.sharing ≡ slot.entry.sharing)
         × (result.0.id ≡ slot.entry.id)
         × (result.0.index ≡ slot.entry.index) }
     ensures vacant { (result.0.learnt ≡ Vacant) × (result.0.reserved ≡ slot.entry.reserved) }
     ensures back { IfSome result.1 (λ back.
-        (back.heap ≡ block.heap) × (back.slots ≡ block.slots) × (back.left ≡ 0)) }
+        (back.heap ≡ given.0.heap) × (back.slots ≡ given.0.slots) × (back.left ≡ 0)) }
 {
-    slot.exchange(block)
+    let (block, index) = given;
+    slot.exchange(index, block)
 }
 
 /// The slot once the value is published in it.

@@ -23,7 +23,7 @@ use Rattle.thread_local_shared_bucket_logic.proofs.Inside.{Next, quietly}
 use Rattle.thread_local_shared_bucket_logic.proofs.Inside as inside
 use Rattle.thread_local_shared_bucket_logic.proofs.Steps as general
 use Rattle.thread_local_claim_logic.specs.Known.{IsKnown}
-use Rattle.thread_local_claim_logic.specs.Claims.{ClaimFields, IsOf, IsKept, has_slot, has, has_at, claim_owns}
+use Rattle.thread_local_claim_logic.specs.Claims.{ClaimFields, IsOf, IsKept, value_at, has_slot, has, has_at, claim_owns}
 use Rattle.thread_local_claim_logic.proofs.Moves as moves
 use Rattle.thread_local_claim_logic.proofs.Early as early
 
@@ -153,7 +153,7 @@ module _ {M : Type 1} {𝓤 : Ura M} (𝓛 : Logic 𝓤) (R : RattleType) (x : R
           move ! (1 ∷ []) $ fsplit ! $ move ! (6 ∷ []) $ rewrite ! 0 (λ (k : Option ℕ). ‵ (tells R k c.id (Some x))) (sym of.6) refl $ move ! (2 ∷ 0 ∷ []) $
           use2 𝓛 (given (Some y ≡ Some x) (‵ (tells R z.0.sharing c.id (Some y)) ⊛ ‵ (tells R z.0.sharing c.id (Some x)))) (tells_alike 𝓛 R z.0.sharing (named_in z.0 of.6) c.id (Some y) (Some x)) $ learn ! (λ same. split ! $
           -- [what is told, twice; the pin; filled; by; the row; kept; the token]
-          move ! (2 ∷ 0 ∷ []) $ fjoin ! $ move ! (2 ∷ 0 ∷ 3 ∷ []) $ fjoin3 ! $ move ! (2 ∷ 0 ∷ []) $ fjoin ! $ nothing ! $ fpack ! (c.at ≡ s.at) (λ _. ftrue) at $ fjoin ! $ fpack ! StandingBlock (has_slot R z.0 z.1 β c (Some y)) s $
+          move ! (2 ∷ 0 ∷ []) $ fjoin ! $ move ! (2 ∷ 0 ∷ 3 ∷ []) $ fjoin3 ! $ move ! (2 ∷ 0 ∷ []) $ fjoin ! $ nothing ! $ fpack ! (c.at ≡ value_at R s.at c.index) (λ _. ftrue) at $ fjoin ! $ fpack ! StandingBlock (has_slot R z.0 z.1 β c (Some y)) s $
           move ! (2 ∷ 0 ∷ []) $ fjoin ! $ nothing ! $ fpack ! (IsOf R table c z.0) (λ _. ftrue) of $ fjoin ! $ fpack ! (BucketView × Turn) (has_at R β table c (Holding y)) z $
           nothing ! $ fpack ! (IsKept R state (Holding y)) (λ _. ftrue) kept_so $ fjoin ! $ check ! (ap (λ (o : Option R.Denot). elim o as (λ _. Learnt R.Denot) [ None ↦ Vacant | Some v ↦ Holding v ]) same) $ keep ! (0 ∷ 2 ∷ []) $ done !))))))
 

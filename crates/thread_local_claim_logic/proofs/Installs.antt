@@ -17,7 +17,7 @@ use Rattle.thread_local_raw.specs.Fact.{fact}
 use Rattle.thread_local_shared_bucket_logic.specs.Shared.{BucketView, Turn, StandingBlock, Sized, mark, len, bucket_invariant, kept, loaded}
 use Rattle.thread_local_shared_bucket_logic.proofs.Loads.{part, reaches}
 use Rattle.thread_local_model.specs.Learnt.{Vacant}
-use Rattle.thread_local_claim_logic.specs.Claims.{ClaimFields, claim_fields, IsOf, IsKept, has_slot, has_at, claim_owns}
+use Rattle.thread_local_claim_logic.specs.Claims.{ClaimFields, claim_fields, IsOf, IsKept, value_at, has_slot, has_at, claim_owns}
 use Rattle.thread_local_claim_logic.proofs.Steps as steps
 
 module _ {M : Type 1} {𝓤 : Ura M} (𝓛 : Logic 𝓤) (R : RattleType) (d : BucketView) (t : Turn) (β : Lft) (wb wo pb o id i : ℕ) (sharing : Option ℕ) (reserved : Bool) where
@@ -45,7 +45,7 @@ module _ {M : Type 1} {𝓤 : Ura M} (𝓛 : Logic 𝓤) (R : RattleType) (d : B
 
   -- the claim once the block stands
   abbrev pub Now : ClaimFields
-  Now = claim_fields id i w p sharing reserved
+  Now = claim_fields id i w (value_at R p i) sharing reserved
 
   pub installs : (table : ℕ) (q : Share) (zz : StandingBlock × Share) → IsOf R table Now d →
       ⟦ part 𝓛 R d t p zz ⟧ ∗ ⟦ kept R d t wb (wo + 0) β ⟧ ∗ A.lft t.life q ∗ ⟦ right_owns t.pass id ⟧ ⊢ H.⇛ (A.lft t.life q ∗ ⟦ claim_owns R β table Now Vacant 1 ⟧)
@@ -61,6 +61,6 @@ module _ {M : Type 1} {𝓤 : Ura M} (𝓛 : Logic 𝓤) (R : RattleType) (d : B
       let low : i < length s.names = subst (λ (n : ℕ). i < n) (sym sized.0) of.4 in let Empty : Fml = steps.Holds 𝓛 R d t wb (wo + 0) s i id e pb low of.3 refl refl none in
       move ! (2 ∷ 5 ∷ 1 ∷ 6 ∷ []) $ group ! 4 $ use1 𝓛 (later (‵ Empty ⊛ ‵ (flft t.life q))) (steps.comes_in 𝓛 R d t wb (wo + 0) s i id e pb low of.3 refl refl q) $ await ! tt $ split ! $
       -- [what the slot holds; the token; the row; the invariant; before]
-      move ! (2 ∷ 0 ∷ []) $ fjoin ! $ nothing ! $ fpack ! (p ≡ p) (λ _. ftrue) refl $ fjoin ! $ fpack ! StandingBlock (has_slot R d t β Now none) s $
+      move ! (2 ∷ 0 ∷ []) $ fjoin ! $ nothing ! $ fpack ! (value_at R p i ≡ value_at R s.at i) (λ _. ftrue) refl $ fjoin ! $ fpack ! StandingBlock (has_slot R d t β Now none) s $
       move ! (3 ∷ 2 ∷ []) $ fjoin ! $ fjoin ! $ nothing ! $ fpack ! (IsOf R table Now d) (λ _. ftrue) of $ fjoin ! $ fpack ! (BucketView × Turn) (has_at R β table Now Vacant) (d, t) $
       nothing ! $ fpack ! (IsKept R 1 Vacant) (λ _. ftrue) refl $ fjoin ! $ move ! (1 ∷ 0 ∷ []) $ now ! $ done !))

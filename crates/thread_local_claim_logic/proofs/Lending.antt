@@ -16,7 +16,7 @@ use types.Tokens.{bor_open, obor_close, obor_alter}
 use types.Na.{before_dup, before_shorten}
 use denote.RattleType.{RattleType, RowLaws}
 use denote.Memory.{part_at, shared_of}
-use denote.RawPtr.{Ptr, block_of, count_of}
+use denote.RawPtr.{Ptr, InBlock, block_of, count_of}
 use denote.Sharing.{ShrLaws, said, nothing, beside, some as any}
 use denote.SharingLaws.{within_shr_laws, said_shr_laws, nothing_shr_laws, beside_shr_laws, some_shr_laws, held_shr_laws, contraction, shortens}
 use denote.Shares.{Shares}
@@ -31,12 +31,11 @@ use Rattle.thread_local_raw.specs.Fact.{fact}
 use Rattle.thread_local_published.specs.Told.{tells}
 use Rattle.thread_local_published.proofs.Elements.{told_dup}
 use Rattle.thread_local_published.proofs.Twice.{tells_laws}
-use Rattle.thread_local_blocks.proofs.Flags.{value_near}
 use Rattle.thread_local_shared_bucket_logic.specs.Shared.{name_at, BucketView, Turn, StandingBlock, Sized, len, value_code, pinned, tracked_value, age, kept, loaded}
 use Rattle.thread_local_shared_bucket_logic.specs.Shared as slots
 use Rattle.thread_local_model.specs.Learnt.{Learnt, Unknown, Missing, Standing, Vacant, Holding}
 use Rattle.thread_local_claim_logic.specs.Known.{value_held}
-use Rattle.thread_local_claim_logic.specs.Claims.{ClaimFields, has_slot, IsKept, IsOf, has_at, claim_owns, lasts, Reaches, shows_value, claim_shares}
+use Rattle.thread_local_claim_logic.specs.Claims.{ClaimFields, has_slot, IsKept, IsOf, has_at, claim_owns, value_at, lasts, shows_value, claim_shares}
 
 lasts_laws : (β : Lft) (R : RattleType) → RowLaws R → (b e : ℕ) (x : R.Denot) (j : Judged R) → ShrLaws (lasts R β b e x j)
 lasts_laws β R L b e x (inl j) = held_shr_laws β (shared_of R x b e) (L x b e)
@@ -44,8 +43,8 @@ lasts_laws β R L b e x (inr j) = nothing_shr_laws
 
 shown_laws : (β : Lft) (R : RattleType) → RowLaws R → (c : ClaimFields) (v : Option R.Denot) → ShrLaws (shows_value R β c v)
 shown_laws β R L c None = nothing_shr_laws
-shown_laws β R L c (Some x) = let b : ℕ = block_of c.at in let e : ℕ = value_offset R (count_of c.at) c.index in let S : Lft → Fml = shared_of R x b e in let W : Lft → Fml = denote.Sharing.within β S in
-    let F : Judged R → Lft → Fml = lasts R β b e x in let Told : Lft → Fml = said (tells R c.sharing c.id (Some x)) in let In : Fml = fact (Reaches R c.at c.index) in
+shown_laws β R L c (Some x) = let b : ℕ = block_of c.at in let e : ℕ = count_of c.at in let S : Lft → Fml = shared_of R x b e in let W : Lft → Fml = denote.Sharing.within β S in
+    let F : Judged R → Lft → Fml = lasts R β b e x in let Told : Lft → Fml = said (tells R c.sharing c.id (Some x)) in let In : Fml = fact (InBlock c.at) in
     beside_shr_laws (said In) (beside W (beside (any (Judged R) F) Told)) (said_shr_laws In (λ _. tt))
     (beside_shr_laws W (beside (any (Judged R) F) Told) (within_shr_laws β S (L x b e)) (beside_shr_laws (any (Judged R) F) Told (some_shr_laws (Judged R) F (lasts_laws β R L b e x)) (tells_laws R c.sharing c.id (Some x))))
 
@@ -92,7 +91,7 @@ module _ {M : Type 1} {𝓤 : Ura M} (𝓛 : Logic 𝓤) where
     b = block_of c.at
 
     abbrev e : ℕ
-    e = value_offset R (count_of c.at) c.index
+    e = count_of c.at
 
     -- the value is shared for as long as the bucket is borrowed, or it is borrowed with the claim
     abbrev pub Seen : Judged R → Fml
@@ -102,7 +101,7 @@ module _ {M : Type 1} {𝓤 : Ura M} (𝓛 : Logic 𝓤) where
     abbrev pub Saw : Fml
     Saw = fex (Judged R) Seen
 
-    module _ (told : IsKept R state l) (z : BucketView × Turn) (of : IsOf R table c z.0) (s : StandingBlock) (at : c.at ≡ s.at) where
+    module _ (told : IsKept R state l) (z : BucketView × Turn) (of : IsOf R table c z.0) (s : StandingBlock) (at : c.at ≡ value_at R s.at c.index) where
       abbrev d : BucketView
       d = z.0
 
@@ -148,11 +147,11 @@ module _ {M : Type 1} {𝓤 : Ura M} (𝓛 : Logic 𝓤) where
       -- the claim is put together again
       again : (j : Judged R) → ⟦ Kept ⟧ ∗ ⟦ Row ⟧ ∗ ⟦ Filled ⟧ ∗ ⟦ Pinned ⟧ ∗ ⟦ By j ⟧ ⊢ ⟦ C ⟧
       again j = qed 𝓛 (‵ Kept ∷ ‵ Row ∷ ‵ Filled ∷ ‵ Pinned ∷ ‵ (By j) ∷ []) ∵ move ! (4 ∷ []) $ fpack ! (Judged R) By j $ move ! (3 ∷ 4 ∷ 0 ∷ []) $ fjoin3 ! $ move ! (2 ∷ 0 ∷ []) $ fjoin ! $
-          anything ! $ fpack ! (c.at ≡ s.at) (λ _. ftrue) at $ fjoin ! $ fpack ! StandingBlock (has_slot R d t β c v) s $ move ! (1 ∷ 0 ∷ []) $ fjoin ! $
+          anything ! $ fpack ! (c.at ≡ value_at R s.at c.index) (λ _. ftrue) at $ fjoin ! $ fpack ! StandingBlock (has_slot R d t β c v) s $ move ! (1 ∷ 0 ∷ []) $ fjoin ! $
           anything ! $ fpack ! (IsOf R table c d) (λ _. ftrue) of $ fjoin ! $ fpack ! (BucketView × Turn) At z $ anything ! $ fpack ! (IsKept R state l) (λ _. ftrue) told $ fjoin ! $ done !
 
       there : ◌≡◌ {A = ℕ × ℕ} (sb, se) (b, e)
-      there = λ i. (block_of (sym at i), value_offset R (count_of (sym at i)) c.index)
+      there = λ i. (block_of (sym at i), count_of (sym at i))
 
       value_back : (o : Option R.Denot) → ⟦ fauth η (value_code R o) ⟧ ⊢ ⟦ fwand (fsep (fdead ν) (fseps (content_at R o sb se ∷ []))) (fupd Value) ⟧
       unfolding fseps
@@ -202,7 +201,7 @@ module _ {M : Type 1} {𝓤 : Ura M} (𝓛 : Logic 𝓤) where
     abbrev pub Tells : Fml
     Tells = tells R c.sharing c.id (Some x)
 
-    lends_at : (q : Share) → ⟦ fbor ν C ⟧ ∗ A.lft ν q ⊢ H.⇛ ((⟦ fact (IsKept R state l) ⟧ ∗ ⟦ fact (Reaches R c.at c.index) ⟧ ∗ ⟦ Tells ⟧ ∗ ⟦ Saw ⟧) ∗ A.lft ν q)
+    lends_at : (q : Share) → ⟦ fbor ν C ⟧ ∗ A.lft ν q ⊢ H.⇛ ((⟦ fact (IsKept R state l) ⟧ ∗ ⟦ fact (InBlock c.at) ⟧ ∗ ⟦ Tells ⟧ ∗ ⟦ Saw ⟧) ∗ A.lft ν q)
     lends_at q = qed 𝓛 (‵ (fbor ν C) ∷ ‵ (flft ν q) ∷ []) ∵ updating ! $ bor_open ! tt $ move ! (1 ∷ []) $ fsplit ! $ fpick ! (λ told. move ! (1 ∷ []) $ fpick ! (λ z. fsplit ! $ fpick ! (λ of. move ! (1 ∷ []) $ fsplit ! $ move ! (1 ∷ []) $
         fpick ! (λ s. fsplit ! $ fpick ! (λ at. drop ! $ fsplit ! $ move ! (1 ∷ []) $ fsplit3 ! $ let Known : Fml = slots.published R z.0.sharing c.id (name_at s.names c.index) x in
         -- [filled; published; by; the row; kept; nothing; nothing; the open borrow]
@@ -211,7 +210,7 @@ module _ {M : Type 1} {𝓤 : Ura M} (𝓛 : Logic 𝓤) where
         move ! (4 ∷ []) $ fsplit ! $ fpick ! (λ sized. fpack ! ((length s.names ≡ len R z.0) × Sized R (len R z.0) s.at) (λ _. ftrue) sized $ fjoin ! $
         move ! (4 ∷ []) $ fpick ! (λ j. move ! (8 ∷ 5 ∷ 1 ∷ 4 ∷ 3 ∷ 0 ∷ []) $ group ! 6 $ use1 𝓛 (later (‵ Saw ⊛ ‵ (flft ν q))) (lends_by told z of s at q j) $ await ! tt $ split ! $
         -- [what was seen; the token; what is told]
-        move ! (2 ∷ 0 ∷ []) $ join ! $ anything ! $ fpack ! (Reaches R c.at c.index) (λ _. ftrue) (subst (λ (u : Ptr). Reaches R u c.index) (sym at) (sized.1.0, value_near R (len R z.0) c.index sized.1.2 of.4)) $ join ! $
+        move ! (2 ∷ 0 ∷ []) $ join ! $ anything ! $ fpack ! (InBlock c.at) (λ _. ftrue) (subst (λ (u : Ptr). InBlock u) (sym at) tt) $ join ! $
         anything ! $ fpack ! (IsKept R state l) (λ _. ftrue) told $ join ! $ join ! $ now ! $ keep ! (0 ∷ []) $ done !)))))))
 
   module _ (β : Lft) (R : RattleType) (L : RowLaws R) (l : Lft) (le : Incl l β) (shares : Shares 𝓛 R l) (table : ℕ) (c : ClaimFields) (state : ℕ) where
@@ -220,7 +219,7 @@ module _ {M : Type 1} {𝓤 : Ura M} (𝓛 : Logic 𝓤) where
     vb = block_of c.at
 
     abbrev ve : ℕ
-    ve = value_offset R (count_of c.at) c.index
+    ve = count_of c.at
 
     -- what a claim keeps at run time is true of it
     told_of : (t : Learnt R.Denot) → ⟦ claim_owns R β table c t state ⟧ ⊢ monad.fact 𝓤 (IsKept R state t)
@@ -263,7 +262,7 @@ module _ {M : Type 1} {𝓤 : Ura M} (𝓛 : Logic 𝓤) where
 
     -- a borrow of a claim becomes a `&` to the value that its slot holds
     pub lends_claim : (t : Learnt R.Denot) → Lends 𝓛 (claim_owns R β table c t state) (claim_shares R β c t state) l
-    lends_claim (Holding x) = λ κ ts inc sp. let ν : Lft = κ ++ β in let P : Fml = claim_owns R β table c (Holding x) state in let Told : Fml = fact (IsKept R state (Holding x)) in let In : Fml = fact (Reaches R c.at c.index) in
+    lends_claim (Holding x) = λ κ ts inc sp. let ν : Lft = κ ++ β in let P : Fml = claim_owns R β table c (Holding x) state in let Told : Fml = fact (IsKept R state (Holding x)) in let In : Fml = fact (InBlock c.at) in
         let sm : Incl (span ts) ν = ⊑_meet (span ts) κ β sp (Incl-trans inc le) in
         let within : Incl ν β = meet_⊑_right κ β in let Known : Fml = tells R c.sharing c.id (Some x) in let Got : Pr = ⟦ Told ⟧ ∗ ⟦ In ⟧ ∗ ⟦ Known ⟧ ∗ ⟦ Saw β R L table c x state ν within ⟧ in
         qed 𝓛 (‵ (fbor κ P) ∷ raw (lfts 𝓛 ts) ∷ []) ∵ updating ! $ use1 𝓛 (‵ (fbor ν P)) (𝓛.bors.bor_shorten κ ν P (meet_⊑_left κ β)) $

@@ -11,11 +11,11 @@ use mathlib.Core.Logic.{inl, inr}
 use base.Fml.{Lft, GName, Fml, ffalse, fsep, fex}
 use denote.RattleType.{RattleType}
 use denote.Memory.{shared_of}
-use denote.RawPtr.{Ptr, InBlock, block_of, count_of}
+use denote.RawPtr.{Ptr, InBlock, block_ptr, block_of, count_of}
 use denote.Sharing.{said, beside, within, some, held, nothing}
 use Rattle.thread_local_rights.specs.Rights.{right_owns}
 use Rattle.thread_local_judged.specs.Judged.{Judged}
-use Rattle.thread_local_blocks.specs.Slots.{word_number, value_offset, stride}
+use Rattle.thread_local_blocks.specs.Slots.{word_number, value_offset}
 use Rattle.thread_local_raw.specs.Fact.{fact}
 use Rattle.thread_local_published.specs.Told.{tells}
 use Rattle.thread_local_shared_bucket_logic.specs.Shared.{name_at, BucketView, Turn, StandingBlock, holds, first, len, kept, loaded}
@@ -50,10 +50,14 @@ module _ (R : RattleType) where
   abbrev pub number_of_id : ℕ → ℕ
   number_of_id id = word_number R (2 ^ bucket_of id) (index_of id / 64)
 
+  -- the address of the value at an index, in a block at this pointer
+  abbrev pub value_at : Ptr → ℕ → Ptr
+  value_at p i = block_ptr (block_of p) (value_offset R (count_of p) i)
+
   module _ (d : BucketView) (t : Turn) (β : Lft) (c : ClaimFields) where
-    -- what a claim has of a standing block, where the slot holds v: it points to the block
+    -- what a claim has of a standing block, where the slot holds v: it points to the slot's value
     abbrev pub has_slot : Option R.Denot → StandingBlock → Fml
-    has_slot v s = fsep (fact (c.at ≡ s.at)) (fsep (loaded R d t s β) (holds R t (block_of s.at) s.own d.sharing c.id (value_offset R (count_of s.at) c.index) (name_at s.names c.index) v))
+    has_slot v s = fsep (fact (c.at ≡ value_at s.at c.index)) (fsep (loaded R d t s β) (holds R t (block_of s.at) s.own d.sharing c.id (value_offset R (count_of s.at) c.index) (name_at s.names c.index) v))
 
     -- what a claim has while it points to its bucket's pointer: the right or the pass, by the name
     abbrev pub has_no_slot : GName → Fml
@@ -89,16 +93,12 @@ module _ (R : RattleType) where
   lasts β b e x (inl _) = held β (shared_of R x b e)
   lasts β b e x (inr _) = nothing
 
-  -- a claim points to a block in which code reaches the value at this index
-  abbrev pub Reaches : Ptr → ℕ → Type 0
-  Reaches p i = InBlock p × (i * stride R < 2 ^ 64)
-
-  -- what a `&` to a claim shows: a `&` to the value at its index in the block, if its slot holds
-  -- one, and that it is told of its id
+  -- what a `&` to a claim shows: a `&` to the value that it points to, if its slot holds one, and
+  -- that it is told of its id
   abbrev pub shows_value : Lft → ClaimFields → Option R.Denot → Lft → Fml
   shows_value β c None = nothing
-  shows_value β c (Some x) = let b : ℕ = block_of c.at in let e : ℕ = value_offset R (count_of c.at) c.index in
-      beside (said (fact (Reaches c.at c.index))) (beside (within β (shared_of R x b e)) (beside (some (Judged R) (lasts β b e x)) (said (tells R c.sharing c.id (Some x)))))
+  shows_value β c (Some x) = let b : ℕ = block_of c.at in let e : ℕ = count_of c.at in
+      beside (said (fact (InBlock c.at))) (beside (within β (shared_of R x b e)) (beside (some (Judged R) (lasts β b e x)) (said (tells R c.sharing c.id (Some x)))))
 
   abbrev pub claim_shares : Lft → ClaimFields → Learnt R.Denot → ℕ → Lft → Fml
   claim_shares β c l state = beside (said (fact (IsKept state l))) (shows_value β c (value_held l))

@@ -18,9 +18,11 @@ impl<'a, T> ClaimedSlot<'a, T> {
     /// then on, and else the block comes back. Either way the slot is vacant from then on.
     pub(crate) fn exchange(
         self,
+        index: usize,
         block: Block<T, Global>,
     ) -> (ClaimedSlot<'a, T>, Option<Block<T, Global>>)
         requires missing { self.learnt ≡ Missing }
+        requires index { index ≡ self.index }
         requires made { (block.slots ≡ empty_slots (2 ^ bucket_of self.id)) × (block.left ≡ 0) }
         ensures right { (result.0.table ≡ self.entry.table)
             × (result.0.sharing ≡ self.entry.sharing)
@@ -52,8 +54,9 @@ impl<'a, T> ClaimedSlot<'a, T> {
             }
             Err(first) => (first as *const (), Some(block)),
         };
+        let value = unsafe { (standing as *const T).add(index) };
         let claim = ClaimedSlot {
-            at: standing,
+            at: value as *const (),
             state: 1,
             marker: PhantomData,
         };

@@ -8,11 +8,10 @@ use super::ClaimedSlot;
 impl<'a, T: Sync> ClaimedSlot<'a, T> {
     /// The value that the slot holds, for as long as the bucket is borrowed: it outlives the claim,
     /// since walks may borrow it.
-    pub(crate) fn lasting(&self, index: usize) -> &'a T
+    pub(crate) fn lasting(&self) -> &'a T
         requires published { is_some (value_held self.now.learnt) ≡ true }
-        requires index { index ≡ self.now.index }
         ensures { self.now.learnt ≡ Holding result.now }
     {
-        unsafe { &*(self.at as *const T).add(index) }
+        unsafe { &*(self.at as *const T) }
     }
 }

@@ -7,7 +7,6 @@ use denote.Ref.{NamedLft}
 use denote.Param.Send.{IsSync, Common}
 use Rattle.thread_local_judged.specs.Judged.{Judged}
 use Rattle.thread_local_claim_logic.specs.Known.{value_held}
-use Rattle.thread_local_blocks.specs.Slots.{value_offset}
 use Rattle.thread_local_claim_logic.specs.Claims.{ClaimFields, claim_fields, lasts, shows_value}
 use Rattle.thread_local_published.proofs.Elements.{tells_keyless}
 use Rattle.thread_local_claim.specs.contracts.claimed.ClaimedSlot.{the_row}
@@ -22,4 +21,4 @@ sync a T y = let fields : IsSync (FieldsType a T) = search denote.Param.Send.sen
 
     seen : (c : ClaimFields) (v : Option T.Denot) → Common (shows_value T a.lft c v)
     seen c None κ = tt
-    seen c (Some x) κ = let b : ℕ = block_of c.at in let e : ℕ = value_offset T (count_of c.at) c.index in ((λ _. tt), (y.shared x b e (κ ++ a.lft), ((λ j. long b e x j κ), tells_keyless T c.sharing c.id (Some x))))
+    seen c (Some x) κ = let b : ℕ = block_of c.at in let e : ℕ = count_of c.at in ((λ _. tt), (y.shared x b e (κ ++ a.lft), ((λ j. long b e x j κ), tells_keyless T c.sharing c.id (Some x))))

@@ -1,6 +1,6 @@
 -- `find` loads the bucket's pointer: at null, it takes the pass for the right. Else it loads the
 -- word of the slot's flag, and takes what the slot holds.
-use Rattle.thread_local_raw.proofs.Names.{Option, lit<, vbool, ◌≡◌, ℕ, ◌+◌, ◌^◌, [], ◌∷◌, refl, sym, ap, ◌∙◌, subst, true, a_type, Val, vptr, inst_fn, SProp, wand, emp, via, id⊢, apply∗, Lft, Share, Fml, ftrue, fsep, flft, fbor, finv, sem, ‵, raw, ◌⊛◌, some, later, mean, at_ret, ◌$◌, ◌∵◌, !, qed, by, move, keep, drop, split, join, fsplit, fjoin, fpick, fpack, pick, use0, use1, use2, use3, await, rewrite, group, fld, stop, addr, lit, of_opd, no_more, and_then, first, blocks, exec, Calls-last, returns, enter, alloc_all, pass_all, free_all, look_at, get, get_in, through, sets, sets_last, lands_last, env, agg, sub, whole, tables, fact, fact_i, no, RattleType, owns, types_at, plain, named_lft, Ptr, block_ptr, block_of, count_of, at_block, nothing, heard, param, bounded, Stays, stay_dropped, walk_of, Goes-dropped, proved, leaves, fm, found, finds, Lends-one, ◌*◌, ◌<◌, ◌≢◌, length, Bool, false, dnil, bin, branches, is, null_ptr, ptr_val, u64, after, uint_vals, uint_Tells, usize, yes, fsplit3, vint, w64}
+use Rattle.thread_local_raw.proofs.Names.{Option, lit<, vbool, ◌≡◌, ℕ, ◌+◌, ◌^◌, [], ◌∷◌, refl, sym, ap, ◌∙◌, subst, true, a_type, Val, vptr, inst_fn, SProp, wand, emp, via, id⊢, apply∗, Lft, Share, Fml, ftrue, fsep, flft, fbor, finv, sem, ‵, raw, ◌⊛◌, some, later, mean, at_ret, ◌$◌, ◌∵◌, !, qed, by, move, keep, drop, split, join, fsplit, fjoin, fpick, fpack, pick, use0, use1, use2, use3, await, rewrite, group, fld, stop, addr, lit, of_opd, no_more, and_then, first, blocks, exec, Calls-last, returns, enter, alloc_all, pass_all, free_all, look_at, get, get_in, through, sets, sets_last, size_word, lands_last, env, agg, sub, whole, tables, fact, fact_i, no, RattleType, owns, types_at, plain, named_lft, Ptr, block_ptr, block_of, count_of, at_block, nothing, heard, param, bounded, Stays, stay_dropped, walk_of, Goes-dropped, proved, leaves, fm, found, finds, Lends-one, ◌*◌, ◌<◌, ◌≢◌, length, Bool, false, dnil, bin, branches, is, null_ptr, ptr_val, u64, after, uint_vals, uint_Tells, usize, yes, fsplit3, vint, w64}
 use Rattle.std.proofs.Common.{◌⊎◌, inl, inr, ◌/◌, ◌%◌}
 use base.Fml.{fres}
 use base.Before.{before}
@@ -15,8 +15,8 @@ use Rattle.std.proofs.raw_atomic.Calls.{seq_cst, loads}
 use Rattle.std.proofs.raw_atomic.PtrCalls as calls
 use Rattle.std.proofs.raw_atomic.PtrCalls.{seq_cst_good}
 use Rattle.thread_local_rights.specs.Rights.{right_owns}
-use Rattle.thread_local_blocks.specs.Slots.{value_words, word_at, value_offset}
-use Rattle.thread_local_blocks.proofs.Flags.{in_chunks}
+use Rattle.thread_local_blocks.specs.Slots.{stride, value_words, word_at, value_offset}
+use Rattle.thread_local_blocks.proofs.Flags.{in_chunks, value_near}
 use Rattle.thread_local_blocks.proofs.Slots.{IsWordNear, word_is_near}
 use Rattle.thread_local_bits.specs.Bits.{is_set}
 use Rattle.thread_local_bits.proofs.Word.{masked_fits, place_below, place_fits, shifted_right}
@@ -27,13 +27,13 @@ use Rattle.thread_local_shared_bucket_logic.proofs.Loads.{glimpse, reaches, read
 use Rattle.thread_local_model.specs.Learnt.{Learnt, Missing, Vacant, Finds}
 use Rattle.thread_local_claim_logic.specs.Known.{IsKnown, IsUnfound, in_vain, state_by, found_as}
 use Rattle.thread_local_claim_logic.proofs.Learning.{known_as, not_missing, kept_as, state_by-fits, state_by-flag, finds_nothing, finds_slot, unfound, found as found_in}
-use Rattle.thread_local_claim_logic.specs.Claims.{ClaimFields, number_of_id, claim_fields, IsOf, IsKept, waits, has, has_slot, has_at}
+use Rattle.thread_local_claim_logic.specs.Claims.{ClaimFields, number_of_id, claim_fields, IsOf, IsKept, waits, value_at, has, has_slot, has_at}
 use Rattle.thread_local_claim.specs.contracts.claimed.ClaimedSlot as claim
 use Rattle.thread_local_claim.specs.contracts.claimed.ClaimedSlot.find.{ended, clauses}
 use Rattle.thread_local_claim.specs.contracts.claimed.ClaimedSlot.find.Key.{name as #self}
 use Rattle.thread_local_claim_logic.proofs.Early.{comes}
 use Rattle.thread_local_claim_logic.proofs.Steps as steps
-use Rattle.thread_local_claim.proofs.Fields.{Kept, kept_of, value_of, FieldsType, fields_of, told, in_word, made, typed, number_in}
+use Rattle.thread_local_claim.proofs.Fields.{Kept, kept_of, value_of, FieldsType, fields_of, told, in_word, made, typed, number_in, spaced, spaced_is}
 use Rattle.thread_local_claim.proofs.claimed.ClaimedSlot.find.Statement.{statement}
 use Rattle.thread_local_claim.proofs.claimed.ClaimedSlot.find.Code as code
 
@@ -83,7 +83,7 @@ find_spec 𝓤 𝓛 𝓜 𝓡 wired X L =
     use0 𝓛 (‵ ((FieldsType ℓ R).own_val (fields_of ℓ R m) (value_of m ∷ []))) (made ℓ R 𝓛 m (lit< tt)) $ fjoin ! $ move ! (1 ∷ 4 ∷ []) $ join ! $ move ! (1 ∷ []) $
     use0 𝓛 (raw (fact 𝓤 (F₅ r))) (fact_i 𝓤 (F₅ r) (emp 𝓤) (finds_nothing l₀ unseen)) $ use0 𝓛 (raw (fact 𝓤 (F₄ r))) (fact_i 𝓤 (F₄ r) (emp 𝓤) (refl, (λ is. let never : true ≡ false = sym is ∙ sym of.5 ∙ free in cc))) $ join ! $ use0 𝓛 (raw (fact 𝓤 (F₃ r))) (fact_i 𝓤 (F₃ r) (emp 𝓤) (λ _. inl refl)) $ join ! $ use0 𝓛 (raw (fact 𝓤 (F₂ r))) (fact_i 𝓤 (F₂ r) (emp 𝓤) tt) $ join ! $
     use0 𝓛 (raw (fact 𝓤 (F₁ r))) (fact_i 𝓤 (F₁ r) (emp 𝓤) (refl, refl, refl, refl)) $ join ! $ nothing ! $ nothing ! $ fjoin ! $ nothing ! $ fjoin ! $ nothing ! $ fjoin ! $ returns_within ! Post refl (look_at ! 0 refl) $ free_all ! refl $ keep ! (3 ∷ 0 ∷ 2 ∷ 1 ∷ []) $ by ! (leaves 𝓛 En hs c y (value_of m) r (tt, (tt, (tt, tt))) (tt, (tt, (tt, tt))))) (λ wrong. absurd wrong)))
-    (λ pb po. let p : Ptr = block_ptr pb po in let k : ℕ = i / 64 in let j : ℕ = i % 64 in let at_word : ℕ = word_at R (len R d) po k in let e : ℕ = value_offset R po i in
+    (λ pb po. let p : Ptr = block_ptr pb po in let k : ℕ = i / 64 in let j : ℕ = i % 64 in let at_word : ℕ = word_at R (len R d) po k in let e : ℕ = value_offset R po i in let slot_at : Ptr = block_ptr pb e in
     lands_last ! refl (pointer_good p) $ exec ! 𝓣.C 𝓣.Λ Ev (after 2 fn.body) (at_ret Ev Post) $ fsplit ! $ move ! (1 ∷ []) $ fsplit ! $ fpick ! (λ zz. move ! (0 ∷ 6 ∷ []) $
     use2 𝓛 (later (‵ (facts.fact ((zz.0.at ≡ p) × Sized R (len R d) p)) ⊛ ‵ (loaded R d t zz.0 β))) (reaches 𝓛 R d t β p zz) $ await ! tt $ split ! $ fpick ! (λ so. drop ! $
     let s' : StandingBlock = record zz.0 { at = p } in rewrite ! 0 (λ (x : StandingBlock). ‵ (loaded R d t x β)) (λ j. record zz.0 { at = so.0 j }) refl $
@@ -94,26 +94,30 @@ find_spec 𝓤 𝓛 𝓜 𝓡 wired X L =
     sets ! (of_opd ! (get ! refl)) refl (pointer_good p) $ sets ! (bin ! (get ! refl) (lit ! tt) (tests_null p so.1.1)) refl (tt, tt) $ first ! $ branches ! (get ! refl) (λ wrong. absurd wrong) (λ _. skips ! $ exec ! 𝓣.C 𝓣.Λ Ev (after 5 fn.body) (at_ret Ev Post) $
     let low : i < length s'.names = subst (λ (n : ℕ). i < n) (sym sized.0) of.4 in
     let here : IsWordNear R (len R d) k = word_is_near R (len R d) k so.1.2 (in_chunks (len R d) i of.4) in let number_at : num ≡ value_words R (len R d) + k = numbered ∙ number_in R d h.id i of.3 of.4 ∙ here.number in
+    let close : i * stride R < 2 ^ 64 = value_near R (len R d) i so.1.2 of.4 in let close_at : x * stride R < 2 ^ 64 = subst (λ (n : ℕ). n * stride R < 2 ^ 64) (sym is_index) close in
     let near : num * 8 < 2 ^ 64 = subst (λ (n : ℕ). n * 8 < 2 ^ 64) (sym number_at) here.near in
     first ! $ blocks ! $ sets ! (of_opd ! (get ! refl)) refl (tt, tt) $
     sets ! (is ! (bin ! (get ! refl) (lit ! tt) (record { fits = near })) (ap (λ (n : ℕ). vint w64 (n * 8)) number_at)) refl (tt, record { fits = here.near }) $
     sets_last ! (bin ! (get ! refl) (get ! refl) tt) refl (tt, tt) $ exec ! 𝓣.C 𝓣.Λ Ev (after 6 fn.body) (at_ret Ev Post) $ sets ! (of_opd ! (get ! refl)) refl (tt, tt) $
+    first ! $ blocks ! $ sets ! (of_opd ! (get ! refl)) refl (tt, tt) $
+    sets ! (is ! (bin ! (get ! refl) (size_word !) (record { fits = spaced x (stride R) close_at })) (spaced_is x (stride R) close_at ∙ ap (λ (n : ℕ). vint w64 (n * stride R)) is_index)) refl (tt, record { fits = close }) $
+    sets_last ! (bin ! (get ! refl) (get ! refl) tt) refl (tt, tt) $ exec ! 𝓣.C 𝓣.Λ Ev (after 8 fn.body) (at_ret Ev Post) $ sets ! (of_opd ! (get ! refl)) refl (tt, tt) $
     let Found : ℕ → Fml = steps.Finds 𝓛 R d t wb (wo + 0) s' i h.id e pb low of.3 refl refl (in_vain l₀) in let aft : ℕ → Fml = λ n. fsep (flft t.life s) (Found n) in
     first ! $ blocks ! $ sets ! (agg ! (and_then ! (lit ! tt) (no_more !))) refl seq_cst_good $ move ! (4 ∷ 3 ∷ 1 ∷ 2 ∷ []) $ group ! 4 $
     use1 𝓛 (raw (𝓣.C _ (vptr pb at_word ∷ seq_cst ∷ []) (λ v. mean 𝓛 (found aft v))))
     (via 𝓤 _ (steps.finds 𝓛 R d t wb (wo + 0) s' i h.id e pb low of.3 refl refl s (in_vain l₀)) (loads 𝓛 𝓜 𝓡 (code.calls-std::sync::atomic::raw::load 𝓡.env wired) (block_ptr pb at_word) aft)) $
     Calls-last ! (fm 𝓛 𝓜 𝓡) (found aft) (and_then ! (get ! refl) (and_then ! (get ! refl) (no_more !))) (λ v. finds ! aft (λ n nf.
-    lands_last ! refl (tt, record { fits = nf }) $ exec ! 𝓣.C 𝓣.Λ Ev (after 8 fn.body) (at_ret Ev Post) $ fsplit ! $ move ! (0 ∷ 4 ∷ []) $ use2 𝓛 (later (‵ (flft β q))) (apply∗ 𝓤 (𝓛.A.lft t.life s) (H.⇛ (𝓛.A.lft β q))) $ await ! tt $
+    lands_last ! refl (tt, record { fits = nf }) $ exec ! 𝓣.C 𝓣.Λ Ev (after 10 fn.body) (at_ret Ev Post) $ fsplit ! $ move ! (0 ∷ 4 ∷ []) $ use2 𝓛 (later (‵ (flft β q))) (apply∗ 𝓤 (𝓛.A.lft t.life s) (H.⇛ (𝓛.A.lft β q))) $ await ! tt $
     -- [the token; what was found; the row; the invariant; before; the other tokens]
-    let set : Bool = is_set n j in let seen : ℕ = state_by set in let seen_fits : seen < 2 ^ 64 = state_by-fits set in let m : Kept = record { at = p; state = seen } in let pl' : ClaimFields = claim_fields h.id i (block_ptr wb wo) p h.sharing h.reserved in
+    let set : Bool = is_set n j in let seen : ℕ = state_by set in let seen_fits : seen < 2 ^ 64 = state_by-fits set in let m : Kept = record { at = slot_at; state = seen } in let pl' : ClaimFields = claim_fields h.id i (block_ptr wb wo) slot_at h.sharing h.reserved in
     sets ! (of_opd ! (get ! refl)) refl (tt, record { fits = nf }) $ sets ! (of_opd ! (get ! refl)) refl (tt, tt) $ sets ! (is ! (bin ! (get ! refl) (lit ! tt) (lit< tt)) (ap (λ (n' : ℕ). vint w64 (n' % 64)) is_index)) refl (tt, record { fits = place_fits i }) $ sets ! (of_opd ! (get ! refl)) refl (tt, record { fits = place_fits i }) $
     sets ! (bin ! (get ! refl) (get ! refl) (place_below i)) refl (tt, record { fits = shifted_right n j nf }) $ sets ! (bin ! (get ! refl) (lit ! tt) tt) refl (tt, record { fits = masked_fits (n / 2 ^ j) 1 (shifted_right n j nf) }) $
     sets ! (is ! (bin ! (get ! refl) (lit ! tt) (record { fits = subst (λ (x' : ℕ). x' < 2 ^ 64) (sym (state_by-flag n j)) seen_fits })) (ap (vint w64) (state_by-flag n j))) refl (tt, record { fits = seen_fits }) $ sets ! (agg ! (no_more !)) refl (tt, tt) $
     sets ! (agg ! (and_then ! (get ! refl) (and_then ! (get ! refl) (and_then ! (get ! refl) (no_more !))))) refl (typed m seen_fits) $
-    move ! (1 ∷ []) $ fpick ! (λ v'. fsplit ! $ fpick ! (λ known. drop ! $ move ! (2 ∷ 0 ∷ []) $ fjoin ! $ nothing ! $ fpack ! (p ≡ p) (λ _. ftrue) refl $ fjoin ! $ fpack ! StandingBlock (has_slot R d t β pl' v') s' $ use1 𝓛 (‵ (has R d t β pl' (found_as v'))) (found_in 𝓛 R d t β pl' v') $
+    move ! (1 ∷ []) $ fpick ! (λ v'. fsplit ! $ fpick ! (λ known. drop ! $ move ! (2 ∷ 0 ∷ []) $ fjoin ! $ nothing ! $ fpack ! (slot_at ≡ value_at R p i) (λ _. ftrue) refl $ fjoin ! $ fpack ! StandingBlock (has_slot R d t β pl' v') s' $ use1 𝓛 (‵ (has R d t β pl' (found_as v'))) (found_in 𝓛 R d t β pl' v') $
     move ! (3 ∷ 2 ∷ []) $ fjoin ! $ fjoin ! $ nothing ! $ fpack ! (IsOf R h.table pl' d) (λ _. ftrue) (tt, of.1, of.2, of.3, of.4, of.5, of.6) $ fjoin ! $
     fpack ! (BucketView × Turn) (has_at R β h.table pl' (found_as v')) z $ nothing ! $ fpack ! (IsKept R seen (found_as v')) (λ _. ftrue) (kept_as R v' set known.0) $ fjoin ! $
     use0 𝓛 (‵ ((FieldsType ℓ R).own_val (fields_of ℓ R m) (value_of m ∷ []))) (made ℓ R 𝓛 m seen_fits) $ fjoin ! $ move ! (1 ∷ 2 ∷ []) $ join ! $ move ! (1 ∷ []) $
-    let r : G.Denot = record { at = p; state = seen; marker = record {}; bucket = block_ptr wb wo; table = h.table; sharing = h.sharing; id = h.id; index = i; reserved = h.reserved; learnt = found_as v' } in
+    let r : G.Denot = record { at = slot_at; state = seen; marker = record {}; bucket = block_ptr wb wo; table = h.table; sharing = h.sharing; id = h.id; index = i; reserved = h.reserved; learnt = found_as v' } in
     use0 𝓛 (raw (fact 𝓤 (F₅ r))) (fact_i 𝓤 (F₅ r) (emp 𝓤) (finds_slot l₀ unseen v')) $ use0 𝓛 (raw (fact 𝓤 (F₄ r))) (fact_i 𝓤 (F₄ r) (emp 𝓤) (refl, (λ _. not_missing v'))) $ join ! $ use0 𝓛 (raw (fact 𝓤 (F₃ r))) (fact_i 𝓤 (F₃ r) (emp 𝓤) (λ was. inr (ap found_as (known.1 (ap in_vain was))))) $ join ! $ use0 𝓛 (raw (fact 𝓤 (F₂ r))) (fact_i 𝓤 (F₂ r) (emp 𝓤) (known_as v')) $ join ! $
     use0 𝓛 (raw (fact 𝓤 (F₁ r))) (fact_i 𝓤 (F₁ r) (emp 𝓤) (refl, refl, refl, refl)) $ join ! $ nothing ! $ nothing ! $ fjoin ! $ nothing ! $ fjoin ! $ nothing ! $ fjoin ! $ returns ! (look_at ! 0 refl) $ free_all ! refl $ keep ! (3 ∷ 0 ∷ 2 ∷ 1 ∷ []) $ by ! (leaves 𝓛 En hs c y (value_of m) r (tt, (tt, (tt, tt))) (tt, (tt, (tt, tt)))))))))))))))))))))))

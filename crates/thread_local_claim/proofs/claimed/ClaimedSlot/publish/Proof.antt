@@ -1,7 +1,7 @@
 -- `publish` writes the value into the slot's room, shares it for good where it may be shared, and
 -- then sets the flag.
 use Rattle.thread_local_raw.proofs.Names.{bin, ◌≡◌, ℕ, ◌+◌, ◌^◌, List, [], ◌∷◌, ◌++◌, length, sym, refl, ap, subst, lit<, w64, Option, Some, None, true, a_type, bare, Val, vint, inst_fn, full_share, SProp, ent, wand, id⊢, emp, via, apply∗, Lft, Share, GName, Fml, ftrue, fsep, fat, froom, flft, fbor, fex, fobs, fauth, WpFn, ‵, raw, ◌⊛◌, given, some, later, mean, at_ret, ◌$◌, ◌∵◌, !, qed, by, move, keep, drop, use0, use1, use2, await, split, split3, join, pick, fsplit, fsplit3, fjoin, fjoin3, fpick, fpack, learn, group, suffices, rewrite, stop, fld, lit, of_opd, no_more, and_then, first, blocks, exec, returns, enter, init, assigns_last, alloc_all, pass_all, free_all, look_at, get, get_in, through, sets, lands_last, is, env, agg, sub, whole, tables, fact, fact_i, no, RattleType, owns, types_at, plain, Ptr, block_ptr, block_of, count_of, at_block, uint_Tells, usize, yes, size_word, sets_last, ◌*◌, ◌∙◌, nothing, heard, param, layout, param_laws, Stays, stay_dropped, walk_of, Goes-dropped, Member, proved_at, leaves, fm, after, one, gather}
-use Rattle.std.proofs.Common.{◌<◌, ◌/◌, ◌%◌}
+use Rattle.std.proofs.Common.{◌<◌, ◌≤◌, ◌/◌, ◌%◌}
 use mir.Syntax.{dnil}
 use mir.Val.{vptr}
 use base.Fml.{fres, finv, Incl, Incl-trans}
@@ -29,12 +29,12 @@ use Rattle.thread_local_shared_bucket_logic.specs.Shared.{name_at, BucketView, T
 use Rattle.thread_local_shared_bucket_logic.proofs.Rested.{publishes}
 use Rattle.thread_local_published.specs.Told.{tells}
 use Rattle.thread_local_model.specs.Learnt.{Learnt, Vacant, Holding}
-use Rattle.thread_local_claim_logic.specs.Claims.{ClaimFields, number_of_id, claim_fields, IsOf, IsKept, has, has_slot, has_at}
+use Rattle.thread_local_claim_logic.specs.Claims.{ClaimFields, number_of_id, claim_fields, IsOf, IsKept, value_at, has, has_slot, has_at}
 use Rattle.thread_local_claim.specs.contracts.claimed.ClaimedSlot as claim
 use Rattle.thread_local_claim.specs.contracts.claimed.ClaimedSlot.publish.{ended, clauses}
 use Rattle.thread_local_claim.specs.contracts.claimed.ClaimedSlot.publish.Key.{name as #self}
 use Rattle.thread_local_claim_logic.proofs.Steps as steps
-use Rattle.thread_local_claim.proofs.Fields.{Kept, kept_of, value_of, FieldsType, fields_of, told, in_word, made, typed, number_in, spaced, spaced_is}
+use Rattle.thread_local_claim.proofs.Fields.{Kept, kept_of, value_of, FieldsType, fields_of, told, in_word, made, typed, number_in, distance, distance_fits, lies_ahead, leads_to_word, spaced, spaced_is}
 use Rattle.thread_local_claim.proofs.claimed.ClaimedSlot.publish.Statement.{statement}
 use Rattle.thread_local_claim.proofs.claimed.ClaimedSlot.publish.Code as code
 
@@ -78,16 +78,18 @@ publish_spec 𝓤 𝓛 𝓜 𝓡 wired X L =
     use1 𝓛 (‵ (froom (layout X) pb e)) (𝓛.laws.raw-room (layout X) pb e) $
     let here : IsWordNear R (len R d) k = word_is_near R (len R d) k sized.1.2 (in_chunks (len R d) i of.4) in let number_at : num ≡ value_words R (len R d) + k = numbered ∙ number_in R d h.id i of.3 of.4 ∙ here.number in
     let near : num * 8 < 2 ^ 64 = subst (λ (n : ℕ). n * 8 < 2 ^ 64) (sym number_at) here.near in let close : i * stride R < 2 ^ 64 = value_near R (len R d) i sized.1.2 of.4 in let close_at : ix * stride R < 2 ^ 64 = subst (λ (n : ℕ). n * stride R < 2 ^ 64) (sym is_index) close in
-    let p : Ptr = block_ptr pb po in let lies : s.at ≡ p = at_block s.at sized.1.0 in
-    sets ! (is ! (of_opd ! (get_in ! (fld ! refl (stop !)) (sub ! 0 refl (whole !)))) (ap ptr_val (leads ∙ lies))) refl (tt, tt) $
-    first ! $ blocks ! $ sets ! (of_opd ! (get ! refl)) refl (tt, tt) $
+    let slot_at : Ptr = block_ptr pb e in
+    let ahead : i * stride R ≤ (value_words R (len R d) + k) * 8 = lies_ahead R (len R d) i of.4 in let far : ℕ = distance R (len R d) i in let far_fits : far < 2 ^ 64 = distance_fits R (len R d) i here.near in
+    sets ! (is ! (of_opd ! (get_in ! (fld ! refl (stop !)) (sub ! 0 refl (whole !)))) (ap ptr_val leads)) refl (tt, tt) $
+    sets ! (of_opd ! (get ! refl)) refl (tt, record { fits = are.1.1.0.1 }) $
     sets ! (is ! (bin ! (get ! refl) (lit ! tt) (record { fits = near })) (ap (λ (n : ℕ). vint w64 (n * 8)) number_at)) refl (tt, record { fits = here.near }) $
-    sets_last ! (bin ! (get ! refl) (get ! refl) tt) refl (tt, tt) $ exec ! 𝓣.C 𝓣.Λ Ev (after 2 fn.body) (at_ret Ev Post) $ sets ! (of_opd ! (get ! refl)) refl (tt, tt) $
-    first ! $ blocks ! $ sets ! (of_opd ! (get ! refl)) refl (tt, tt) $
+    sets ! (of_opd ! (get ! refl)) refl (tt, record { fits = are.1.0.1 }) $
     sets ! (is ! (bin ! (get ! refl) (size_word !) (record { fits = spaced ix (stride R) close_at })) (spaced_is ix (stride R) close_at ∙ ap (λ (n : ℕ). vint w64 (n * stride R)) is_index)) refl (tt, record { fits = close }) $
-    sets_last ! (bin ! (get ! refl) (get ! refl) tt) refl (tt, tt) $ exec ! 𝓣.C 𝓣.Λ Ev (after 4 fn.body) (at_ret Ev Post) $ sets ! (of_opd ! (get ! refl)) refl (tt, tt) $
-    first ! $ blocks ! $ sets ! (of_opd ! (get ! refl)) refl got.2 $ assigns_last ! (of_opd ! (get ! refl)) (through ! refl (stop !)) (init ! 0 refl got.2) $
-    exec ! 𝓣.C 𝓣.Λ Ev (after 6 fn.body) (at_ret Ev Post) $
+    sets ! (bin ! (get ! refl) (get ! refl) ahead) refl (tt, record { fits = far_fits }) $
+    first ! $ blocks ! $ sets ! (of_opd ! (get ! refl)) refl (tt, tt) $ sets ! (of_opd ! (get ! refl)) refl (tt, tt) $ sets ! (of_opd ! (get ! refl)) refl (tt, record { fits = far_fits }) $
+    sets_last ! (is ! (bin ! (get ! refl) (get ! refl) tt) (ap (vptr pb) (leads_to_word R (len R d) po i of.4))) refl (tt, tt) $ exec ! 𝓣.C 𝓣.Λ Ev (after 7 fn.body) (at_ret Ev Post) $ sets ! (of_opd ! (get ! refl)) refl (tt, tt) $ sets ! (of_opd ! (get ! refl)) refl (tt, tt) $ sets ! (of_opd ! (get ! refl)) refl (tt, tt) $ sets ! (of_opd ! (get ! refl)) refl (tt, tt) $
+    first ! $ blocks ! $ sets ! (of_opd ! (get ! refl)) refl (tt, tt) $ sets ! (of_opd ! (get ! refl)) refl got.2 $ assigns_last ! (of_opd ! (get ! refl)) (through ! refl (stop !)) (init ! 0 refl got.2) $
+    exec ! 𝓣.C 𝓣.Λ Ev (after 12 fn.body) (at_ret Ev Post) $
     use1 𝓛 (‵ (fat full_share (bare (layout X)) pb e vx)) (𝓛.laws.at_raw full_share (layout X) pb e vx) $ move ! (0 ∷ 11 ∷ []) $ gather m ! x vx pb e $
     move ! (0 ∷ 4 ∷ []) $ fjoin ! $ fpack ! (Option X.Denot) (λ k. fsep (content_at R k pb e) (fauth η (value_code R k))) new $ move ! (4 ∷ 0 ∷ []) $ obor_close ! tt $
     -- [the borrow; the block's token; what is known, thrice; the way back; the row; which block it
@@ -108,20 +110,21 @@ publish_spec 𝓤 𝓛 𝓜 𝓡 wired X L =
     move ! (2 ∷ 5 ∷ []) $ use2 𝓛 (later (some (λ (g' : Share). ‵ (flft t.life g') ⊛ raw (wand 𝓤 (𝓛.A.lft t.life g') (H.⇛ (𝓛.A.lft β q)))))) (Lends-one 𝓛 𝓜 𝓡 β t.life q) $ await ! tt $ pick ! (λ g'. split ! $
     let low = subst (λ (n : ℕ). i < n) (sym sized.0) of.4 in let out : Fml = fsep (flft t.life g') (fsep (right_owns t.filled h.id) (tells R d.sharing h.id (Some x))) in
     let flag : ℕ = steps.flag 𝓛 R d t wb (wo + 0) s i h.id e pb low of.3 refl refl in let flag_fits : flag < 2 ^ 64 = shifted_left 1 j in let after_it : ℕ → Fml = λ _. out in
-    first ! $ blocks ! $ sets ! (is ! (bin ! (get ! refl) (lit ! tt) (lit< tt)) (ap (λ (n : ℕ). vint w64 (n % 64)) is_index)) refl (tt, record { fits = place_fits i }) $ sets ! (of_opd ! (get ! refl)) refl (tt, record { fits = place_fits i }) $ sets ! (bin ! (lit ! tt) (get ! refl) (place_below i)) refl (tt, record { fits = flag_fits }) $
+    first ! $ blocks ! $ sets ! (of_opd ! (get ! refl)) refl (tt, tt) $ sets ! (of_opd ! (get ! refl)) refl (tt, record { fits = are.1.0.1 }) $ sets ! (is ! (bin ! (get ! refl) (lit ! tt) (lit< tt)) (ap (λ (n : ℕ). vint w64 (n % 64)) is_index)) refl (tt, record { fits = place_fits i }) $ sets ! (of_opd ! (get ! refl)) refl (tt, record { fits = place_fits i }) $ sets ! (bin ! (lit ! tt) (get ! refl) (place_below i)) refl (tt, record { fits = flag_fits }) $
     sets ! (agg ! (and_then ! (lit ! tt) (no_more !))) refl seq_cst_good $ move ! (3 ∷ 0 ∷ 9 ∷ 4 ∷ []) $ group ! 4 $
     use1 𝓛 (raw (𝓣.C _ (vptr pb at_word ∷ vint w64 flag ∷ seq_cst ∷ []) (λ v. mean 𝓛 (found after_it v))))
     (via 𝓤 _ (steps.publishes 𝓛 R d t wb (wo + 0) s i h.id e pb low of.3 refl refl g' x) (adds 𝓛 𝓜 𝓡 (code.calls-std::sync::atomic::raw::fetch_add 𝓡.env wired) (block_ptr pb at_word) flag flag_fits after_it)) $
-    Calls-last ! (fm 𝓛 𝓜 𝓡) (found after_it) (and_then ! (get ! refl) (and_then ! (get ! refl) (and_then ! (get ! refl) (no_more !)))) (λ v. finds ! after_it (λ n nf. lands_last ! refl (tt, record { fits = nf }) $ exec ! 𝓣.C 𝓣.Λ Ev (after 7 fn.body) (at_ret Ev Post) $ fsplit ! $
+    Calls-last ! (fm 𝓛 𝓜 𝓡) (found after_it) (and_then ! (get ! refl) (and_then ! (get ! refl) (and_then ! (get ! refl) (no_more !)))) (λ v. finds ! after_it (λ n nf. lands_last ! refl (tt, record { fits = nf }) $ exec ! 𝓣.C 𝓣.Λ Ev (after 13 fn.body) (at_ret Ev Post) $ fsplit ! $
     -- [the life's token; filled and what is told; the way back; what is kept; the other tokens; for the claim; what
     -- is known; the row]
     move ! (0 ∷ 2 ∷ []) $ use2 𝓛 (later (‵ (flft β q))) (apply∗ 𝓤 (𝓛.A.lft t.life g') (H.⇛ (𝓛.A.lft β q))) $ await ! tt $
-    let k : Kept = record { at = p; state = 2 } in let pl' : ClaimFields = claim_fields h.id i w p h.sharing h.reserved in
+    let k : Kept = record { at = slot_at; state = 2 } in let pl' : ClaimFields = claim_fields h.id i w slot_at h.sharing h.reserved in
+    sets ! (of_opd ! (get ! refl)) refl (tt, tt) $
     sets ! (agg ! (no_more !)) refl (tt, tt) $
     sets ! (agg ! (and_then ! (get ! refl) (and_then ! (lit ! tt) (and_then ! (get ! refl) (no_more !))))) refl (typed k (lit< tt)) $
-    move ! (1 ∷ []) $ fsplit ! $ move ! (6 ∷ 1 ∷ []) $ fjoin ! $ move ! (1 ∷ 0 ∷ 5 ∷ []) $ fjoin3 ! $ move ! (4 ∷ 0 ∷ []) $ fjoin ! $ nothing ! $ fpack ! (p ≡ s.at) (λ _. ftrue) (sym lies) $ fjoin ! $ fpack ! StandingBlock (has_slot R d t β pl' new) s $ move ! (2 ∷ 0 ∷ []) $ fjoin ! $
+    move ! (1 ∷ []) $ fsplit ! $ move ! (6 ∷ 1 ∷ []) $ fjoin ! $ move ! (1 ∷ 0 ∷ 5 ∷ []) $ fjoin3 ! $ move ! (4 ∷ 0 ∷ []) $ fjoin ! $ nothing ! $ fpack ! (slot_at ≡ value_at R s.at i) (λ _. ftrue) refl $ fjoin ! $ fpack ! StandingBlock (has_slot R d t β pl' new) s $ move ! (2 ∷ 0 ∷ []) $ fjoin ! $
     nothing ! $ fpack ! (IsOf R h.table pl' d) (λ _. ftrue) (of.0, of.1, of.2, of.3, of.4, of.5, of.6) $ fjoin ! $ fpack ! (BucketView × Turn) (has_at R β h.table pl' (Holding x)) z $ nothing ! $ fpack ! (IsKept R 2 (Holding x)) (λ _. ftrue) refl $ fjoin ! $
     use0 𝓛 (‵ ((FieldsType ℓ R).own_val (fields_of ℓ R k) (value_of k ∷ []))) (made ℓ R 𝓛 k (lit< tt)) $ fjoin ! $ move ! (1 ∷ 2 ∷ []) $ join ! $ move ! (1 ∷ []) $
-    let made_claim : G.Denot = record { at = p; state = 2; marker = record {}; bucket = w; table = h.table; sharing = h.sharing; id = h.id; index = i; reserved = h.reserved; learnt = Holding x } in
+    let made_claim : G.Denot = record { at = slot_at; state = 2; marker = record {}; bucket = w; table = h.table; sharing = h.sharing; id = h.id; index = i; reserved = h.reserved; learnt = Holding x } in
     use0 𝓛 (raw (fact 𝓤 (F₃ made_claim))) (fact_i 𝓤 (F₃ made_claim) (emp 𝓤) refl) $ use0 𝓛 (raw (fact 𝓤 (F₂ made_claim))) (fact_i 𝓤 (F₂ made_claim) (emp 𝓤) refl) $ join ! $ use0 𝓛 (raw (fact 𝓤 (F₁ made_claim))) (fact_i 𝓤 (F₁ made_claim) (emp 𝓤) (refl, refl, refl, refl)) $ join ! $
     nothing ! $ nothing ! $ fjoin ! $ nothing ! $ fjoin ! $ nothing ! $ fjoin ! $ nothing ! $ fjoin ! $ returns ! (look_at ! 0 refl) $ free_all ! refl $ keep ! (3 ∷ 0 ∷ 2 ∷ 1 ∷ []) $ by ! (leaves 𝓛 En hs c y (value_of k) made_claim (tt, (tt, (tt, (tt, tt)))) (tt, (tt, (tt, (tt, tt))))))))))))))))))))))

@@ -16,8 +16,7 @@ use Rattle.thread_local_claim_logic.specs.Claims.{claim_fields, shows_value, cla
 use Rattle.thread_local_claim.specs.contracts.claimed.ClaimedSlot as claim
 use Rattle.thread_local_claim.specs.contracts.claimed.ClaimedSlot.value.{ended, clauses}
 use Rattle.thread_local_claim.specs.contracts.claimed.ClaimedSlot.value.Key.{name as #self}
-use Rattle.thread_local_blocks.specs.Slots.{stride, value_offset}
-use Rattle.thread_local_claim.proofs.Fields.{kept_of, moved_to, value_of, FieldsType, fields_of, told, opened, spaced, spaced_is}
+use Rattle.thread_local_claim.proofs.Fields.{kept_of, moved_to, value_of, FieldsType, fields_of, told, opened}
 use Rattle.thread_local_claim.proofs.claimed.ClaimedSlot.value.Statement.{statement}
 use Rattle.thread_local_claim.proofs.claimed.ClaimedSlot.value.Code as code
 
@@ -25,28 +24,27 @@ pub value_spec : {M : Type 1} → statement M
 value_spec 𝓤 𝓛 𝓜 𝓡 wired X L =
     let H = 𝓛.H in let 𝓣 = tables 𝓤 H 𝓜 𝓡 𝓡.env in let R : RattleType = param 0 X in let En = ended X in let c = clauses X 𝓛 𝓜.mem 𝓡.returns in let LR = param_laws 0 X L in
     let inst = bounded (a_type ∷ []) (X, tt) dnil in let fn = inst_fn inst code.function in let closed = code.unfolded 𝓤 H 𝓜 𝓡 wired (X, tt) in
-    let row = plain (λ κs. claim.the_row (named_lft 3 1 tt κs) R) in let self = RefOf (0 ∷ []) tt row (λ _. tt) in let number = plain (λ _. usize) in let hs : Stays En.signature.params En.kept = (stay_dropped self yes, (stay_dropped number yes, tt)) in
-    proved 𝓛 En hs c 𝓜 𝓡 (Goes-dropped 𝓛 3 self yes (λ κs x f. refl), (Goes-dropped 𝓛 3 number yes (λ κs x f. refl), tt)) (#self inst) fn closed
-    (λ κs. (shr_vals, (uint_vals w64, tt))) (λ κs. (shr_Tells (named 0) κs.0 (claim.the_row (named_lft 3 1 tt κs) R), (uint_Tells w64, tt))) (λ κs qs bounds a gh are.
+    let row = plain (λ κs. claim.the_row (named_lft 3 1 tt κs) R) in let self = RefOf (0 ∷ []) tt row (λ _. tt) in let hs : Stays En.signature.params En.kept = (stay_dropped self yes, tt) in
+    proved 𝓛 En hs c 𝓜 𝓡 (Goes-dropped 𝓛 3 self yes (λ κs x f. refl), tt) (#self inst) fn closed
+    (λ κs. (shr_vals, tt)) (λ κs. (shr_Tells (named 0) κs.0 (claim.the_row (named_lft 3 1 tt κs) R), tt)) (λ κs qs bounds a gh are.
     let ℓ = named_lft 3 1 tt κs in let D : RattleType = FieldsType ℓ R in let b : ℕ = a.0.ref_ptr.0 in let o : ℕ = a.0.ref_ptr.1 in let κ : Lft = κs.0 in let β : Lft = κs.1.0 in
-    let h = a.0.now in let p : Ptr = h.at in let k : ℕ = a.1.0 in let i : ℕ = h.index in let l₀ : Learnt X.Denot = h.learnt in let others : Fml = fsep (flft β qs.1.0) (fsep (flft κs.1.1.0 qs.1.1.0) ftrue) in
-    let pb : ℕ = block_of p in let po : ℕ = count_of p in let e : ℕ = value_offset R po k in
-    let y : (walk_of 𝓛 En hs c).Ghost = ((κs, qs, bounds, a, (vptr b o ∷ [], (vint w64 k ∷ [], tt))), gh) in let Post : Val → SProp 𝓤 = (walk_of 𝓛 En hs c).post y in
-    qed 𝓛 (((‵ (flft κ qs.0) ⊛ ‵ others) ⊛ ‵ (owns (types_at En.signature.params κs) a y.0.4)) ∷ raw (fact 𝓤 _) ∷ raw (fact 𝓤 (is_some (value_held l₀) ≡ true)) ∷ raw (fact 𝓤 (k ≡ i)) ∷ []) ∵
-    keep ! (2 ∷ 3 ∷ 0 ∷ []) $ heard ! (is_some (value_held l₀) ≡ true) (λ asked. heard ! (k ≡ i) (λ same. let held = holding l₀ asked in let x : X.Denot = held.0 in
+    let h = a.0.now in let p : Ptr = h.at in let i : ℕ = h.index in let l₀ : Learnt X.Denot = h.learnt in let others : Fml = fsep (flft β qs.1.0) (fsep (flft κs.1.1.0 qs.1.1.0) ftrue) in
+    let pb : ℕ = block_of p in let po : ℕ = count_of p in let e : ℕ = po in
+    let y : (walk_of 𝓛 En hs c).Ghost = ((κs, qs, bounds, a, (vptr b o ∷ [], tt)), gh) in let Post : Val → SProp 𝓤 = (walk_of 𝓛 En hs c).post y in
+    qed 𝓛 (((‵ (flft κ qs.0) ⊛ ‵ others) ⊛ ‵ (owns (types_at En.signature.params κs) a y.0.4)) ∷ raw (fact 𝓤 _) ∷ raw (fact 𝓤 (is_some (value_held l₀) ≡ true)) ∷ []) ∵
+    keep ! (2 ∷ 0 ∷ []) $ heard ! (is_some (value_held l₀) ≡ true) (λ asked. let held = holding l₀ asked in let x : X.Denot = held.0 in
     split ! $ split ! $ move ! (2 ∷ []) $ fsplit ! $ fsplit ! $ keep ! (1 ∷ 3 ∷ 4 ∷ []) $
-    enter ! 𝓣.C 𝓣.Λ fn (vptr b o ∷ vint w64 k ∷ []) Post $ alloc_all ! (λ l. pass_all ! refl ((tt, tt), ((tt, record { fits = are.1.0.1 }), tt)) $ let Ev = env fn.locals l in
+    enter ! 𝓣.C 𝓣.Λ fn (vptr b o ∷ []) Post $ alloc_all ! (λ l. pass_all ! refl ((tt, tt), tt) $ let Ev = env fn.locals l in
     use1 𝓛 (‵ (hidden_shr D κ (fields_of ℓ R (kept_of h)) b o) ⊛ ‵ (fhide (claim_shares R β (claim_fields h.id i h.bucket p h.sharing h.reserved) l₀ h.state κ)))
     (lent_out 𝓛 (claim.struct ℓ R) (claim.the_codes X.Denot R.coded (marker.the_row (ShrRef ℓ.mir ℓ.lft R)).coded) (claim.the_heap β R) (claim.the_lent β R) κ h b o) $
-    split ! $ move ! (1 ∷ []) $ unhide ! $ fsplit ! $ drop ! $ rewrite ! 0 (λ (u : Learnt X.Denot). ‵ (shows_value R β (claim_fields h.id i h.bucket p h.sharing h.reserved) (value_held u) κ)) held.1 refl $ rewrite ! 0 (λ (n : ℕ). ‵ (shows_value R β (claim_fields h.id n h.bucket p h.sharing h.reserved) (Some x) κ)) (sym same) refl $ fsplit ! $ fpick ! (λ inb. drop ! $ fsplit ! $ move ! (1 ∷ []) $ drop ! $ let at : p ≡ block_ptr pb po = at_block p inb.0 in let close : k * stride R < 2 ^ 64 = inb.1 in
+    split ! $ move ! (1 ∷ []) $ unhide ! $ fsplit ! $ drop ! $ rewrite ! 0 (λ (u : Learnt X.Denot). ‵ (shows_value R β (claim_fields h.id i h.bucket p h.sharing h.reserved) (value_held u) κ)) held.1 refl $ fsplit ! $ fpick ! (λ inb. drop ! $ fsplit ! $ move ! (1 ∷ []) $ drop ! $ let at : p ≡ block_ptr pb po = at_block p inb in
     use1 𝓛 (‵ (hidden_shr R κ x pb e)) (shortens 𝓛 (shared_of R x pb e) (LR.shr_laws x pb e) (κ ++ β) κ (⊑_meet κ κ β (Incl-refl κ) bounds.0)) $ move ! (1 ∷ 2 ∷ []) $
     looks ! tt D (opened ℓ R 𝓛) (fields_of ℓ R (kept_of h)) b o (λ q vs. move ! (1 ∷ []) $ peeks ! D (Is D) (shows 𝓛 D) (fields_of ℓ R (kept_of h)) vs (λ is_so.
     let ev : vs ≡ value_of (moved_to (kept_of h) (block_ptr pb po)) ∷ [] = told ℓ R (kept_of h) vs is_so ∙ ap (λ (r : Ptr). value_of (moved_to (kept_of h) r) ∷ []) at in
     rewrite ! 1 (λ (ws : List Val). ‵ (cell_at q D.mir ws b o)) ev refl $ first ! $ blocks ! $
     sets ! (of_opd ! (load ! (through ! refl (fld ! refl (stop !))) (look_in ! 1 (sub ! 0 refl (whole !))))) refl (tt, tt) $ sets ! (of_opd ! (get ! refl)) refl (tt, tt) $
-    sets ! (is ! (bin ! (get ! refl) (size_word !) (record { fits = spaced k (stride R) close })) (spaced_is k (stride R) close)) refl (tt, record { fits = close }) $ sets ! (bin ! (get ! refl) (get ! refl) tt) refl (tt, tt) $
     sets_last ! (addr ! (through ! refl (stop !))) refl (tt, tt) $ exec ! 𝓣.C 𝓣.Λ Ev (tail fn.body) (at_ret Ev Post) $
     sets ! (of_opd ! (get ! refl)) refl (tt, tt) $ rewrite ! 1 (λ (ws : List Val). ‵ (cell_at q D.mir ws b o)) (sym ev) refl $ move ! (1 ∷ 0 ∷ 2 ∷ []) $ shuts ! tt D q (fields_of ℓ R (kept_of h)) vs b o $
     move ! (0 ∷ 3 ∷ []) $ join ! $ move ! (2 ∷ []) $ feq_i ! (List Val) (vptr pb e ∷ []) (vptr pb e ∷ []) refl $ fjoin ! $
-    use0 𝓛 (raw (fact 𝓤 (l₀ ≡ Holding x))) (fact_i 𝓤 (l₀ ≡ Holding x) (emp 𝓤) held.1) $ nothing ! $ nothing ! $ fjoin ! $ nothing ! $ fjoin ! $
-    returns ! (look_at ! 0 refl) $ free_all ! refl $ keep ! (3 ∷ 0 ∷ 2 ∷ 1 ∷ []) $ by ! (leaves 𝓛 En hs c y (vptr pb e) (record { ref_ptr = (pb, e); now = x }) (tt, (tt, tt)) (tt, (tt, tt))))))))))
+    use0 𝓛 (raw (fact 𝓤 (l₀ ≡ Holding x))) (fact_i 𝓤 (l₀ ≡ Holding x) (emp 𝓤) held.1) $ nothing ! $ nothing ! $ fjoin ! $
+    returns ! (look_at ! 0 refl) $ free_all ! refl $ keep ! (3 ∷ 0 ∷ 2 ∷ 1 ∷ []) $ by ! (leaves 𝓛 En hs c y (vptr pb e) (record { ref_ptr = (pb, e); now = x }) (tt, tt) (tt, tt))))))))
