@@ -24,14 +24,14 @@ use thread_local_thread_id::Thread;
 /// steps.
 pub struct Claim<'a, T> {
     slot: ClaimedSlot<'a, T>,
-    thread: Thread,
+    id: usize,
     /// The id's mark, which has no bytes.
     mark: Right,
 }
 
 impl<'a, T> Model for Claim<'a, T> {
-    ghost use Rattle.std.specs.Prelude.{◌≡◌, ◌+◌, ◌^◌};
-    ghost use Rattle.thread_local_model.specs.Place.{bucket_of, index_of};
+    ghost use Rattle.std.specs.Prelude.{◌≡◌, ◌+◌, ◌-◌, ◌^◌, ◌<◌};
+    ghost use Rattle.thread_local_model.specs.Place.{index_of};
     ghost use Rattle.thread_local_claim_logic.specs.Known.{IsKnown};
     ghost use Rattle.thread_local_claim.specs.Views.{ClaimView, claim_view_coded};
 
@@ -49,9 +49,9 @@ impl<'a, T> Model for Claim<'a, T> {
         } };
 
     ghost invariant = { λ c.
-        (c.thread.bucket ≡ bucket_of c.slot.id)
-        × (c.thread.index ≡ index_of c.slot.id)
-        × (c.slot.index ≡ c.thread.index)
+        (c.id ≡ c.slot.id)
+        × (c.slot.id < 2 ^ 63 - 1)
+        × (c.slot.index ≡ index_of c.slot.id)
         × IsKnown c.slot.learnt
         × (c.mark.table ≡ c.slot.table)
         × (c.mark.id ≡ c.slot.id + 2 ^ 63) };
@@ -74,11 +74,11 @@ impl<'a, T> Claim<'a, T> {
         ensures reserved { (result.reserved ≡ bucket.now.reserved)
             × (result.reserved ≡ true → result.learnt ≢ Missing) }
     {
-        let (_, right, mark) = held.into_parts();
+        let (id, right, mark) = held.into_parts();
         let slot = ClaimedSlot::hold(bucket, thread.index, right);
         Claim {
             slot: slot.find(thread.index, number_of_word::<T>(thread)),
-            thread,
+            id,
             mark,
         }
     }
@@ -95,8 +95,9 @@ impl<'a, T> Claim<'a, T> {
         ensures reserved { (self.new.reserved ≡ self.old.reserved)
             × (self.new.reserved ≡ true → self.new.learnt ≡ Vacant) }
     {
-        let number = number_of_word::<T>(self.thread);
-        replace_with(&mut self.slot, (self.thread.index, number), found_again)
+        let thread = Thread::new(self.id);
+        let number = number_of_word::<T>(thread);
+        replace_with(&mut self.slot, (thread.index, number), found_again)
     }
 
     /// Installs a block for the claim's bucket, which was missing, by one compare and exchange.
@@ -113,8 +114,9 @@ impl<'a, T> Claim<'a, T> {
         ensures learnt { learnt_by_install self.old.learnt ≡ Some self.new.learnt }
         ensures reserved { self.new.reserved ≡ self.old.reserved }
     {
-        let len = self.thread.bucket_size();
-        let given = (block, self.thread.index);
+        let thread = Thread::new(self.id);
+        let len = thread.bucket_size();
+        let given = (block, thread.index);
         if let Some(block) = replace_with(&mut self.slot, given, offered) {
             block.release(alloc, len);
         }
@@ -130,27 +132,23 @@ impl<'a, T> Claim<'a, T> {
         ensures learnt { learnt_by_publish self.old.learnt value ≡ Some self.new.learnt }
         ensures reserved { self.new.reserved ≡ self.old.reserved }
     {
-        let number = number_of_word::<T>(self.thread);
-        replace_with(
-            &mut self.slot,
-            (value, self.thread.index, number),
-            published,
-        )
+        let thread = Thread::new(self.id);
+        let number = number_of_word::<T>(thread);
+        replace_with(&mut self.slot, (value, thread.index, number), published)
     }
 
     /// The id whose slot it is.
-    #[tactic(auto, using(crate::proofs::IdLaws::id_of_place))]
     pub fn id(&self) -> usize
         ensures { result ≡ self.now.id }
     {
-        self.thread.id()
+        self.id
     }
 
     /// How many slots the id's bucket has.
     pub fn bucket_size(&self) -> usize
         ensures { result ≡ 2 ^ bucket_of self.now.id }
     {
-        self.thread.bucket_size()
+        Thread::new(self.id).bucket_size()
     }
 
     /// Whether the bucket was missing when the claim looked for it last.
@@ -174,7 +172,6 @@ impl<'a, T> Claim<'a, T> {
 
     /// What the slot was published with, as a token, where the slot holds a value. At run time it
     /// reads what the claim knows.
-    #[tactic(auto, using(crate::proofs::IdLaws::id_of_place))]
     pub fn published(&self) -> Option<Published<T>>
         ensures { MatchOption result ((self.now.learnt ≡ Missing) ⊎ (self.now.learnt ≡ Vacant)) (λ p.
             (p.sharing ≡ self.now.sharing)
@@ -184,7 +181,7 @@ impl<'a, T> Claim<'a, T> {
         if !self.slot.is_published() {
             return None;
         }
-        Some(Published::new(self.thread.id(), self.slot.witness()))
+        Some(Published::new(self.id, self.slot.witness()))
     }
 
     /// Shows that the slot holds what a token says that it was published with. At run time it does
@@ -200,13 +197,12 @@ impl<'a, T> Claim<'a, T> {
     }
 
     /// Gives the claim up, and returns the held id.
-    #[tactic(auto, using(crate::proofs::IdLaws::id_of_place))]
     pub fn give_up(self) -> HeldId
         ensures { (result.right.table ≡ self.entry.table) × (result.id ≡ self.entry.id) }
     {
-        let Self { slot, thread, mark } = self;
+        let Self { slot, id, mark } = self;
         HeldId {
-            id: thread.id(),
+            id,
             right: slot.give_up(),
             mark,
         }

@@ -1,5 +1,5 @@
 -- A claim that has looked holds what is told of its id. Assumes `Logic`.
-use Rattle.std.proofs.Common.{Bool, ◌≡◌, ℕ, ◌+◌, ◌%◌, ◌^◌, ◌<◌, [], ◌∷◌, length, refl, sym, ap, subst, Option, None, Some, IsSome}
+use Rattle.std.proofs.Common.{◌≡◌, ℕ, ◌+◌, ◌%◌, ◌^◌, ◌<◌, [], ◌∷◌, length, refl, sym, ap, subst, Option, None, Some, IsSome}
 use seplogic.Ra.Ura.{Ura}
 use base.Logic.{SProp, ent, sep, wand, ex, all, guard, upd, never_e}
 use base.Fml.{Lft, GName, Share, Fml, ftrue, ffalse, flft, fbor, finv}

@@ -1,6 +1,6 @@
 -- A claim that found its bucket missing has its slot, which is empty, once a block stands. Assumes
 -- `Logic`.
-use Rattle.std.proofs.Common.{◌≡◌, ℕ, ◌+◌, ◌<◌, Bool, true, false, [], ◌∷◌, length, refl, sym, subst, Option, None}
+use Rattle.std.proofs.Common.{◌≡◌, ℕ, ◌+◌, ◌<◌, Bool, [], ◌∷◌, length, refl, sym, subst, Option, None}
 use seplogic.Ra.Ura.{Ura}
 use base.Logic.{SProp, ent, sep}
 use base.Fml.{Lft, Share, Fml, ftrue, fbor, flft, fres, finv}

@@ -1,5 +1,5 @@
 -- What a claim owns names no thread, if its values may go to another thread.
-use Rattle.std.proofs.Common.{ℕ, ◌+◌, Bool, Option, None, Some}
+use Rattle.std.proofs.Common.{ℕ, ◌+◌, Option, None, Some}
 use mathlib.Core.Logic.{inl, inr}
 use base.Fml.{Lft, GName, fex}
 use base.Shift.{Keyless}

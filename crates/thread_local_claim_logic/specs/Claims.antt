@@ -3,7 +3,7 @@
 -- A claim begins with the right to an id, under one sharing of the id's bucket. Where it finds the
 -- bucket missing, it lays the right down in the bucket's invariant and takes the pass of its slot.
 -- Once the bucket stands, it has what the slot holds.
-use Rattle.std.specs.Prelude.{◌≡◌, ℕ, ◌+◌, ◌*◌, ◌/◌, ◌^◌, ◌<◌, Bool, true, false, Option, None, Some, is_some}
+use Rattle.std.specs.Prelude.{◌≡◌, ℕ, ◌+◌, ◌/◌, ◌^◌, ◌<◌, Bool, true, false, Option, None, Some, is_some}
 use Rattle.thread_local_model.specs.Place.{bucket_of, index_of}
 use Rattle.thread_local_model.specs.Learnt.{Learnt, Unknown, Missing, Standing, Vacant, Holding}
 use Rattle.thread_local_claim_logic.specs.Known.{state_of, value_held}

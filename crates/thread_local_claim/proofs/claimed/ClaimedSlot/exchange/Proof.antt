@@ -1,6 +1,6 @@
 -- `exchange` lends the block for a lifetime of its own, and ends that lifetime if another block was
 -- installed first. Either way the claim finds its slot empty.
-use Rattle.thread_local_raw.proofs.Names.{fpack, vint, w64, usize, uint_vals, uint_Tells, yes, ◌≡◌, ℕ, ◌+◌, ◌^◌, true, false, sem, List, [], ◌∷◌, refl, sym, ap, ◌∙◌, lit<, Option, None, Some, Body, a_type, Val, vptr, vcons, vnil, inst_fn, dnil, SProp, wand, emp, via, apply∗, Lft, Share, Fml, ftrue, fsep, flft, fbor, ‵, raw, ◌⊛◌, some, given, later, mean, at_ret, any_q, ◌$◌, ◌∵◌, !, qed, by, move, keep, drop, split, join, fsplit, fsplit3, fjoin, fpick, pick, learn, rewrite, use0, use1, use2, use3, await, group, stop, fld, addr, lit, of_opd, no_more, and_then, first, blocks, exec, switches_on, returns, enter, alloc_all, pass_all, free_all, look_at, get, get_in, get_tag, through, sets, sets_last, lands_last, env, is, agg, sub, whole, live, vrt, in_variant, tables, fact, fact_i, no, RattleType, owns, types_at, plain, Ptr, block_ptr, null_ptr, block_of, count_of, at_block, InBlock, ptr_val, nothing, heard, param, layout, Stays, stay_dropped, walk_of, Goes-dropped, proved, leaves, fm, after, u64}
+use Rattle.thread_local_raw.proofs.Names.{fpack, vint, w64, usize, uint_vals, uint_Tells, yes, ◌≡◌, ℕ, ◌+◌, ◌^◌, false, sem, List, [], ◌∷◌, refl, sym, ap, ◌∙◌, lit<, Option, None, Some, Body, a_type, Val, vptr, vcons, vnil, inst_fn, dnil, SProp, wand, emp, via, apply∗, Lft, Share, Fml, ftrue, fsep, flft, fbor, ‵, raw, ◌⊛◌, some, given, later, mean, at_ret, any_q, ◌$◌, ◌∵◌, !, qed, by, move, keep, drop, split, join, fsplit, fsplit3, fjoin, fpick, pick, learn, rewrite, use0, use1, use2, use3, await, group, stop, fld, addr, lit, of_opd, no_more, and_then, first, blocks, exec, switches_on, returns, enter, alloc_all, pass_all, free_all, look_at, get, get_in, get_tag, through, sets, sets_last, lands_last, env, is, agg, sub, whole, live, vrt, in_variant, tables, fact, fact_i, no, RattleType, owns, types_at, plain, Ptr, block_ptr, null_ptr, block_of, count_of, at_block, InBlock, ptr_val, nothing, heard, param, layout, Stays, stay_dropped, walk_of, Goes-dropped, proved, leaves, fm, after, u64}
 use Rattle.std.proofs.Common.{IfSome, length, ◌*◌, ◌<◌, subst}
 use Rattle.std.proofs.lemmas.List.{length-replicate}
 use seplogic.Ra.Ura.{Ura}

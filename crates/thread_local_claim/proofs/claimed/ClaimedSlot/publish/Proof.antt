@@ -1,6 +1,6 @@
 -- `publish` writes the value into the slot's room, shares it for good where it may be shared, and
 -- then sets the flag.
-use Rattle.thread_local_raw.proofs.Names.{bin, ◌≡◌, ℕ, ◌+◌, ◌^◌, List, [], ◌∷◌, ◌++◌, length, sym, refl, ap, subst, lit<, w64, Option, Some, None, true, a_type, bare, Val, vint, inst_fn, full_share, SProp, ent, wand, id⊢, emp, via, apply∗, Lft, Share, GName, Fml, ftrue, fsep, fat, froom, flft, fbor, fex, fobs, fauth, WpFn, ‵, raw, ◌⊛◌, given, some, later, mean, at_ret, ◌$◌, ◌∵◌, !, qed, by, move, keep, drop, use0, use1, use2, await, split, split3, join, pick, fsplit, fsplit3, fjoin, fjoin3, fpick, fpack, learn, group, suffices, rewrite, stop, fld, lit, of_opd, no_more, and_then, first, blocks, exec, returns, enter, init, assigns_last, alloc_all, pass_all, free_all, look_at, get, get_in, through, sets, lands_last, is, env, agg, sub, whole, tables, fact, fact_i, no, RattleType, owns, types_at, plain, Ptr, block_ptr, block_of, count_of, at_block, uint_Tells, usize, yes, size_word, sets_last, ◌*◌, ◌∙◌, nothing, heard, param, layout, param_laws, Stays, stay_dropped, walk_of, Goes-dropped, Member, proved_at, leaves, fm, after, one, gather}
+use Rattle.thread_local_raw.proofs.Names.{bin, ◌≡◌, ℕ, ◌+◌, ◌^◌, List, [], ◌∷◌, ◌++◌, length, sym, refl, ap, subst, lit<, w64, Option, Some, None, a_type, bare, Val, vint, inst_fn, full_share, SProp, ent, wand, id⊢, emp, via, apply∗, Lft, Share, GName, Fml, ftrue, fsep, fat, froom, flft, fbor, fex, fobs, fauth, WpFn, ‵, raw, ◌⊛◌, given, some, later, mean, at_ret, ◌$◌, ◌∵◌, !, qed, by, move, keep, drop, use0, use1, use2, await, split, split3, join, pick, fsplit, fsplit3, fjoin, fjoin3, fpick, fpack, learn, group, suffices, rewrite, stop, fld, lit, of_opd, no_more, and_then, first, blocks, exec, returns, enter, init, assigns_last, alloc_all, pass_all, free_all, look_at, get, get_in, through, sets, lands_last, is, env, agg, sub, whole, tables, fact, fact_i, no, RattleType, owns, types_at, plain, Ptr, block_ptr, block_of, count_of, uint_Tells, usize, yes, size_word, sets_last, ◌*◌, ◌∙◌, nothing, heard, param, layout, param_laws, Stays, stay_dropped, walk_of, Goes-dropped, Member, proved_at, leaves, fm, after, one, gather}
 use Rattle.std.proofs.Common.{◌<◌, ◌≤◌, ◌/◌, ◌%◌}
 use mir.Syntax.{dnil}
 use mir.Val.{vptr}

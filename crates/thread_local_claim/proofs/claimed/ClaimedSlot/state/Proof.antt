@@ -1,5 +1,5 @@
 -- `state` reads a field.
-use Rattle.thread_local_raw.proofs.Names.{◌≡◌, ℕ, List, [], ◌∷◌, sym, refl, dnil, a_type, named, Val, vptr, vint, w64, ◌^◌, inst_fn, SProp, emp, Lft, Fml, ftrue, fsep, flft, ‵, raw, ◌⊛◌, ◌$◌, ◌∵◌, !, qed, by, move, keep, drop, split, join, fsplit, fjoin, fpick, use0, use1, rewrite, feq_i, stop, fld, of_opd, returns, enter, alloc_all, pass_all, free_all, look_at, through, sets, env, sub, whole, look_in, tables, fact, fact_i, yes, RattleType, owns, types_at, plain, named_lft, Ptr, nothing, peeks, unhide, Is, shows, cell_at, param, bounded, param_laws, RefOf, agg, get, shr_vals, shr_Tells, Stays, stay_dropped, walk_of, Goes-dropped, proved, leaves, Bool, is_some, load, no_more, and_then, bool}
+use Rattle.thread_local_raw.proofs.Names.{◌≡◌, ℕ, List, [], ◌∷◌, sym, refl, dnil, a_type, named, Val, vptr, vint, w64, ◌^◌, inst_fn, SProp, emp, Lft, Fml, ftrue, fsep, flft, ‵, raw, ◌⊛◌, ◌$◌, ◌∵◌, !, qed, by, move, keep, drop, split, join, fsplit, fjoin, fpick, use0, use1, rewrite, feq_i, stop, fld, of_opd, returns, enter, alloc_all, pass_all, free_all, look_at, through, sets, env, sub, whole, look_in, tables, fact, fact_i, yes, RattleType, owns, types_at, plain, named_lft, Ptr, nothing, peeks, unhide, Is, shows, cell_at, param, bounded, param_laws, RefOf, shr_vals, shr_Tells, Stays, stay_dropped, walk_of, Goes-dropped, proved, leaves, load}
 use base.Fml.{fhide}
 use types.Kit.{flt_i}
 use denote.Steps.{looks, shuts}
