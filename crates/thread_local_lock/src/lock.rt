@@ -91,6 +91,7 @@ impl<V: Fits> Lock<V> {
     }
 
     /// Takes the lock if it is free, by one compare and exchange.
+    #[inline]
     pub fn try_lock(&self) -> Option<LockGuard<'_, V>>
         ensures tag { IfSome result (λ guard. (guard.tag ≡ self.now.tag) × (V.tag guard.value ≡ self.now.tag)) }
         ensures fits { IfSome result (λ guard. V.fits guard.value) }
@@ -100,15 +101,29 @@ impl<V: Fits> Lock<V> {
 
     /// Takes the lock. May wait: it tries for a while and yields in between, and then sleeps until
     /// a release wakes it, and tries again.
+    #[inline]
     pub fn lock<R: Wait>(&self, rt: &R) -> LockGuard<'_, V>
         ensures tag { (result.tag ≡ self.now.tag) × (V.tag result.value ≡ self.now.tag) }
         ensures fits { V.fits result.value }
     {
-        for _ in 0..TRIES {
+        if let Some(guard) = self.try_lock() {
+            return guard;
+        }
+        self.lock_contended(rt)
+    }
+
+    /// Takes the lock, which another thread had a moment ago.
+    #[cold]
+    #[inline(never)]
+    fn lock_contended<R: Wait>(&self, rt: &R) -> LockGuard<'_, V>
+        ensures tag { (result.tag ≡ self.now.tag) × (V.tag result.value ≡ self.now.tag) }
+        ensures fits { V.fits result.value }
+    {
+        for _ in 1..TRIES {
+            thread::yield_now();
             if let Some(guard) = self.try_lock() {
                 return guard;
             }
-            thread::yield_now();
         }
         for _ in rt.forever() {
             self.mark();
@@ -121,6 +136,7 @@ impl<V: Fits> Lock<V> {
     }
 
     /// Takes the lock if it is free: the word is `word` from then on.
+    #[inline]
     fn take(&self, word: u64) -> Option<LockGuard<'_, V>>
         requires { word ≢ 0 }
         ensures tag { IfSome result (λ guard. (guard.tag ≡ self.now.tag) × (V.tag guard.value ≡ self.now.tag)) }
@@ -163,6 +179,7 @@ impl<V: Fits + Drop> Drop for Lock<V> {
 }
 
 impl<V: Fits> Drop for LockGuard<'_, V> {
+    #[inline]
     fn drop(self)
         requires tag { V.tag self.value ≡ self.tag }
         requires fits { V.fits self.value }
@@ -175,10 +192,18 @@ impl<V: Fits> Drop for LockGuard<'_, V> {
 }
 
 /// Wakes a thread that sleeps on the word, if `seen` says that one may.
+#[inline]
 unsafe fn wake_if(word: *const u64, seen: u64) {
     if seen == AWAITED {
-        unsafe { raw::wake_one(word) };
+        unsafe { wake(word) };
     }
+}
+
+/// Wakes a thread that sleeps on the word.
+#[cold]
+#[inline(never)]
+unsafe fn wake(word: *const u64) {
+    unsafe { raw::wake_one(word) };
 }
 
 unsafe impl<V: Fits + Send> Send for Lock<V> {}
