@@ -60,8 +60,7 @@ impl<'a, T> Model for Seat<'a, T> {
     ghost invariant = { λ s. IsSeated s.table.now s.claim };
 }
 
-/// Finds or makes the bucket of an empty slot: where none was found the claim looks again, and
-/// installs one where there still is none.
+/// Finds or makes the bucket of an empty slot.
 fn reach<T>(table: &ThreadLocal<T>, claim: &mut Claim<'_, T>) -> Result<(), AllocError>
     requires in_range { claim.old.id < 2 ^ 63 - 1 }
     requires empty { (claim.old.learnt ≡ Missing) ⊎ (claim.old.learnt ≡ Vacant) }
@@ -72,11 +71,28 @@ fn reach<T>(table: &ThreadLocal<T>, claim: &mut Claim<'_, T>) -> Result<(), Allo
     ensures err { OnErr result ((claim.old.learnt ≡ Missing) × (claim.new.learnt ≡ Missing)) }
 {
     if claim.is_missing() {
-        claim.look_again();
-        if claim.is_missing() {
-            let block = Block::new(&table.alloc, claim.bucket_size())?;
-            claim.install(block, &table.alloc);
-        }
+        return make_bucket(table, claim);
+    }
+    Ok(())
+}
+
+/// Finds or makes the bucket of a claim that found none: the claim looks again, and installs one
+/// where there still is none.
+#[cold]
+#[inline(never)]
+fn make_bucket<T>(table: &ThreadLocal<T>, claim: &mut Claim<'_, T>) -> Result<(), AllocError>
+    requires in_range { claim.old.id < 2 ^ 63 - 1 }
+    requires missing { claim.old.learnt ≡ Missing }
+    ensures right { (claim.new.table ≡ claim.old.table)
+        × (claim.new.sharing ≡ claim.old.sharing)
+        × (claim.new.id ≡ claim.old.id) }
+    ensures ok { OnOk result (claim.new.learnt ≡ Vacant) }
+    ensures err { OnErr result (claim.new.learnt ≡ Missing) }
+{
+    claim.look_again();
+    if claim.is_missing() {
+        let block = Block::new(&table.alloc, claim.bucket_size())?;
+        claim.install(block, &table.alloc);
     }
     Ok(())
 }
