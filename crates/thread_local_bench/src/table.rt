@@ -10,6 +10,7 @@ use thread_local_judged::Judge;
 use thread_local_table::{Local, ThreadLocal};
 
 /// A `Local`, unless the call is refused.
+#[inline(always)]
 pub(crate) fn taken<'a, T, R: Wait>(
     table: &'a ThreadLocal<T>,
     rt: &'a R,

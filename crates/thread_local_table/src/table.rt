@@ -144,6 +144,7 @@ impl<T> ThreadLocal<T> {
     /// It asks for memory only where as many ids are held as ever were at once and there is no room
     /// for one more, and not for the first 64: `Memory` means out of memory. `Exhausted` means that
     /// all 2^63 - 1 ids are held. Rust's crate finds the running thread by itself.
+    #[inline(always)]
     pub fn local<'a, R: Wait>(&'a self, rt: &'a R) -> Result<Local<'a, T, R>, LocalError>
         ensures table { IfOk result (λ local.
             (local.table ≡ self.now.table)
