@@ -5,7 +5,7 @@ use Rattle.std.specs.Iterator.{YieldsFirst, Yields}
 use Rattle.thread_local_model.specs.Buckets.{values}
 use Rattle.thread_local_model.specs.Owned.{Owned}
 use Rattle.thread_local_model.specs.Walk.{walk}
-use Rattle.thread_local_owner_walk.specs.Cursor.{IsOwnerWalk}
+use Rattle.thread_local_owner_walk.specs.Cursor.{values_left, IsOwnerWalk}
 use Rattle.thread_local_buckets.specs.Emptied.{owned_emptied}
 use Rattle.thread_local_buckets.specs.declared.drain.Drain.{Drain}
 
@@ -16,7 +16,7 @@ module _ {X : Type 0} where
 
   -- how many there are, as `len` counts them
   abbrev pub drain_left : Drain X → ℕ
-  drain_left d = d.cursor.left
+  drain_left d = values_left d.cursor
 
   -- the buckets once the `Drain` is dropped
   abbrev pub drain_leaves : Drain X → Owned X

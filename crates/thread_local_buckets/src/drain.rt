@@ -1,8 +1,9 @@
 //! The walk that moves each value out of an owner's buckets, by ascending id, and leaves the
 //! buckets.
-ghost use Rattle.std.specs.Prelude.{◌≡◌, Some, IfSome};
+ghost use Rattle.std.specs.Prelude.{◌≡◌, ◌<◌, ◌^◌, Some, IfSome};
 ghost use Rattle.std.specs.Iterator.{UpTo, at_most};
 ghost use Rattle.std.specs.Iterator.SizeHint.{IsWithinCount};
+ghost use Rattle.thread_local_owner_walk.specs.Cursor.{values_left};
 ghost use Rattle.thread_local_owner_walk.specs.Owner.{emptied};
 
 use crate::buckets::Buckets;
@@ -17,7 +18,8 @@ use thread_local_owner_walk::OwnerCursor;
 pub struct Drain<'a, T> {
     pub(crate) buckets: &'a mut Buckets<T>,
     pub(crate) cursor: OwnerCursor,
-    pub(crate) ghost ends: { cursor.left ≡ 0 → emptied buckets.now.contents ≡ buckets.now.contents },
+    pub(crate) ghost few: { values_left cursor < 2 ^ 63 },
+    pub(crate) ghost ends: { values_left cursor ≡ 0 → emptied buckets.now.contents ≡ buckets.now.contents },
 }
 
 impl<'a, T: Drop> Drop for Drain<'a, T> {
@@ -27,7 +29,7 @@ impl<'a, T: Drop> Drop for Drain<'a, T> {
         ensures leaves { self.exit.0.now ≡ drain_leaves self.entry }
     {
         let Drain { buckets, cursor } = self;
-        buckets.drop_rest(cursor.left);
+        buckets.drop_rest(cursor.len());
     }
 }
 
@@ -44,7 +46,7 @@ impl<'a, T: Drop> Iterator for Drain<'a, T> {
 
     /// The next value, whose flag is cleared before it moves out.
     fn next(&mut self) -> Option<T> {
-        if self.cursor.left == 0 {
+        if self.cursor.is_over() {
             return None;
         }
         let (_, value) = self.buckets.take_next(&mut self.cursor);
@@ -65,7 +67,7 @@ impl<'a, T: Drop> Iterator for Drain<'a, T> {
 impl<T: Drop> ExactSizeIterator for Drain<'_, T> {
     /// The number of values still to come. They were counted when the walk was made.
     fn len(&self) -> usize {
-        self.cursor.left
+        self.cursor.len()
     }
 }
 
@@ -75,7 +77,7 @@ impl<T: fmt::Debug> fmt::Debug for Drain<'_, T> {
     /// Shows only where the walk is.
     fn fmt<W: fmt::Write>(&self, f: &mut fmt::Formatter<W>) -> fmt::Result {
         f.debug_struct("Drain")
-            .field("raw", &self.cursor.raw)
+            .field("raw", &self.cursor.raw())
             .finish()
     }
 }

@@ -47,7 +47,7 @@ impl<T: Drop> Iterator for IntoEntries<T> {
     #[tactic(auto, using(crate::proofs::EntriesLaws::no_entries))]
     #[inline]
     fn next(&mut self) -> Option<(usize, T)> {
-        if self.cursor.left == 0 {
+        if self.cursor.is_over() {
             return None;
         }
         Some(self.buckets.take_next(&mut self.cursor))
@@ -68,7 +68,7 @@ impl<T: Drop> ExactSizeIterator for IntoEntries<T> {
     /// The number of values still to come. They were counted when the walk was made.
     #[tactic(auto, using(crate::proofs::EntriesLaws::length_of_entries))]
     fn len(&self) -> usize {
-        self.cursor.left
+        self.cursor.len()
     }
 }
 
@@ -78,7 +78,7 @@ impl<T: fmt::Debug> fmt::Debug for IntoEntries<T> {
     /// Shows only where the walk is.
     fn fmt<W: fmt::Write>(&self, f: &mut fmt::Formatter<W>) -> fmt::Result {
         f.debug_struct("IntoEntries")
-            .field("raw", &self.cursor.raw)
+            .field("raw", &self.cursor.raw())
             .finish()
     }
 }
@@ -141,7 +141,7 @@ impl<T: fmt::Debug> fmt::Debug for IntoIter<T> {
     /// Shows only where the walk is. The Rust crate shows the table.
     fn fmt<W: fmt::Write>(&self, f: &mut fmt::Formatter<W>) -> fmt::Result {
         f.debug_struct("IntoIter")
-            .field("raw", &self.entries.cursor.raw)
+            .field("raw", &self.entries.cursor.raw())
             .finish()
     }
 }

@@ -29,18 +29,19 @@ impl<'a, T> Model for EntriesMut<'a, T> {
     ghost use Rattle.std.specs.Prelude.{ℕ, List, ◌≤◌};
     ghost use base.Fml.{GName};
     ghost use Rattle.thread_local_model.specs.Buckets.{values};
-    ghost use Rattle.thread_local_model.specs.Place.{id_at};
     ghost use Rattle.thread_local_model.specs.Walk.{walk, paired};
 
     ghost Value = { List (ℕ × T) × GName };
 
-    ghost use Rattle.thread_local_owner_walk.specs.Cursor.{IsOwnerWalk};
+    ghost use Rattle.thread_local_owner_walk.specs.Owner.{NoneBelow};
+    ghost use Rattle.thread_local_owner_walk.specs.Cursor.{read_to, IsOwnerWalk};
 
     ghost view = { λ it. (walk (paired (values it.loan.contents)), it.loan.name) };
 
     ghost invariant = { λ it.
         IsOwnerWalk it.loan.contents it.cursor
-        × (it.loan.given ≤ id_at it.cursor.raw.bucket it.cursor.raw.index) };
+        × NoneBelow (values it.loan.contents) it.loan.given
+        × (it.loan.given ≤ read_to it.cursor.raw) };
 }
 
 impl<'a, T> Iterator for EntriesMut<'a, T> {
@@ -54,7 +55,7 @@ impl<'a, T> Iterator for EntriesMut<'a, T> {
     #[tactic(auto, using(crate::proofs::EntriesLaws::no_entries))]
     #[inline]
     fn next(&mut self) -> Option<(usize, &'a mut T)> {
-        if self.cursor.left == 0 {
+        if self.cursor.is_over() {
             return None;
         }
         let index = self.cursor.pass(&mut self.loan);
@@ -77,7 +78,7 @@ impl<T> ExactSizeIterator for EntriesMut<'_, T> {
     /// The number of values still to come. They were counted when the walk was made.
     #[tactic(auto, using(crate::proofs::EntriesLaws::length_of_entries))]
     fn len(&self) -> usize {
-        self.cursor.left
+        self.cursor.len()
     }
 }
 
@@ -87,7 +88,7 @@ impl<T: fmt::Debug> fmt::Debug for EntriesMut<'_, T> {
     /// Shows only where the walk is.
     fn fmt<W: fmt::Write>(&self, f: &mut fmt::Formatter<W>) -> fmt::Result {
         f.debug_struct("EntriesMut")
-            .field("raw", &self.cursor.raw)
+            .field("raw", &self.cursor.raw())
             .finish()
     }
 }
@@ -164,7 +165,7 @@ impl<T: fmt::Debug> fmt::Debug for IterMut<'_, T> {
     /// Shows only where the walk is.
     fn fmt<W: fmt::Write>(&self, f: &mut fmt::Formatter<W>) -> fmt::Result {
         f.debug_struct("IterMut")
-            .field("raw", &self.entries.cursor.raw)
+            .field("raw", &self.entries.cursor.raw())
             .finish()
     }
 }

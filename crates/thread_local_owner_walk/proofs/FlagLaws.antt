@@ -5,16 +5,26 @@ use Rattle.std.proofs.Math.Nat.{two-pow-succ}
 use Rattle.std.specs.Int.{trailing_zeros}
 use Rattle.std.proofs.lemmas.List.{get_or_past}
 use Rattle.std.proofs.lemmas.Bool.{cases_lt}
-use Rattle.thread_local_bits.specs.Bits.{is_set}
+use Rattle.thread_local_bits.specs.Bits.{is_set, IsLowestSet}
 use Rattle.thread_local_bits.proofs.Word.{lowest_set, is_set-zero}
 use Rattle.thread_local_model.specs.Place.{id_at}
 use Rattle.thread_local_model.specs.Buckets.{Contents, row, values}
 use Rattle.thread_local_model.specs.Rows.{value_in}
 use Rattle.thread_local_owner_walk.specs.Owner.{NoneBelow}
-use Rattle.thread_local_owner_walk.specs.Cursor.{AreFlagsAt, IsAt, IsAtFlags, IsAtValue}
+use Rattle.thread_local_owner_walk.specs.Cursor.{AreFlagsAt, IsAt}
 use Rattle.thread_local_owner_walk.specs.declared.cursor.RawIter.{RawIter}
 use Rattle.thread_local_owner_walk.proofs.TakingLaws.{NoneBelow-slot}
 use Rattle.thread_local_owner_walk.proofs.ValueLaws.{values-id_at}
+
+-- a slot is the first that has a value, and these are the flags of its chunk, of which its own is
+-- the lowest that is set
+pub record IsFirst {V : Type 0} (c : Contents V) (raw : RawIter) (word index : ℕ) : Type 0 where
+  pub inside : index < 2 ^ raw.bucket
+  pub read : index < raw.index
+  pub behind : NoneBelow (values c) (id_at raw.bucket index)
+  pub whole : length (row c raw.bucket) ≡ 2 ^ raw.bucket
+  pub flags : AreFlagsAt c raw.bucket index word
+  pub first : IsLowestSet word (index % 64)
 
 module _ {V : Type 0} where
   -- empty slots are skipped
@@ -41,18 +51,18 @@ module _ {V : Type 0} where
   none_in_chunk c b i to flags from near inside none =
       none_to c b i (to - i) to (omega arith) inside none (λ k after below. unset_empty c b i 0 k flags (omega arith) (is_set-zero (k % 64)))
 
-  -- so a walk whose flags are 0 finds no value up to the end of its chunk
-  pub none_at_hand : (c : Contents V) (raw : RawIter) (to : ℕ) → IsAt c raw 0 → raw.index ≤ to → to ≤ (raw.index + 63) / 64 * 64 → to ≤ raw.bucket_size → NoneBelow (values c) (id_at raw.bucket to)
-  none_at_hand c raw to at from near inside =
+  -- so a walk whose flags are 0 finds no value before the place where it goes on
+  pub none_at_hand : (c : Contents V) (raw : RawIter) (to : ℕ) → IsAt c raw 0 → to ≤ raw.index → to ≤ raw.bucket_size → NoneBelow (values c) (id_at raw.bucket to)
+  none_at_hand c raw to at near inside =
       let size = at.size in
-      let P : ℕ → Type 0 = λ k. NoneBelow (values c) (id_at raw.bucket k) in
+      let round = at.round in
       ⊎_elim
-      (λ (start : raw.index % 64 < 1). let same : raw.index ≡ to = omega arith in subst P same at.behind)
-      (λ (after : 1 ≤ raw.index % 64). none_in_chunk c raw.bucket raw.index to (at.flags after) from (omega arith) (omega arith) at.behind)
-      (cases_lt (raw.index % 64) 1)
+      (λ (before : to < raw.index - 64 + 1). λ id below. at.behind id (omega arith))
+      (λ (after : raw.index - 64 + 1 ≤ to). none_in_chunk c raw.bucket (raw.index - 64) to (at.flags (omega arith)) (omega arith) (omega arith) (omega arith) at.behind)
+      (cases_lt to (raw.index - 64 + 1))
 
   -- a slot that has a value isn't skipped
-  not_passed : (c : Contents V) (b i j : ℕ) → i < 2 ^ b → NoneBelow (values c) (id_at b j) → is_some (value_in c b i) ≡ true → j ≤ i
+  pub not_passed : (c : Contents V) (b i j : ℕ) → i < 2 ^ b → NoneBelow (values c) (id_at b j) → is_some (value_in c b i) ≡ true → j ≤ i
   not_passed c b i j inside none some =
       ⊎_elim
       (λ (below : i < j).
@@ -62,37 +72,35 @@ module _ {V : Type 0} where
       (cases_lt i j)
 
   -- the lowest set bit of the flags is that of the first value
-  pub at_first : (c : Contents V) (raw : RawIter) (word : ℕ) → word < 2 ^ 64 → IsAtFlags c raw word
-      → (raw.index ≤ raw.index / 64 * 64 + trailing_zeros w64 word)
-      × IsAtValue c (record { yielded = raw.yielded; bucket = raw.bucket; bucket_size = raw.bucket_size; index = raw.index / 64 * 64 + trailing_zeros w64 word }) word
-  at_first c raw word fits at =
-      let some = at.some in
+  pub first_at_hand : (c : Contents V) (raw : RawIter) (word : ℕ) → word < 2 ^ 64 → 0 < word → IsAt c raw word → IsFirst c raw word (raw.index - 64 + trailing_zeros w64 word)
+  first_at_hand c raw word fits some at =
       let low = lowest_set word fits (omega arith) in
       let bit : ℕ = trailing_zeros w64 word in
       let within : bit < 64 = low.within in
-      let index : ℕ = raw.index / 64 * 64 + bit in
-      let chunk : index / 64 ≡ raw.index / 64 = omega arith in
+      let round = at.round in
+      let far : 0 < raw.index = ⊎_elim (λ (start : raw.index < 1). let nothing : word ≡ 0 = at.none (omega arith) in absurd (omega arith)) (λ (far : 1 ≤ raw.index). far) (cases_lt raw.index 1) in
+      let from : ℕ = raw.index - 64 in
+      let index : ℕ = from + bit in
+      let chunk : index / 64 ≡ from / 64 = omega arith in
       let place : index % 64 ≡ bit = omega arith in
+      let slot : from / 64 * 64 + bit ≡ index = omega arith in
       let size = at.size in
-      let whole = at.whole in
-      let here : is_some (value_in c raw.bucket index) ≡ true = sym (at.flags bit within) ∙ low.set in
+      let whole = at.whole far in
+      let flags = at.flags far in
+      let here : is_some (value_in c raw.bucket index) ≡ true = ap (λ i. is_some (value_in c raw.bucket i)) (sym slot) ∙ sym (flags bit within) ∙ low.set in
       let inside : index < raw.bucket_size = ⊎_elim
       (λ (near : index < raw.bucket_size). near)
       (λ past. absurd (true≢false (sym here ∙ ap is_some (get_or_past (row c raw.bucket) index None (omega arith)))))
       (cases_lt index raw.bucket_size) in
-      let after : raw.index ≤ index = not_passed c raw.bucket index raw.index (omega arith) at.behind here in (
-        after,
-        record {
-          in_table = at.in_table;
-          size = size;
-          inside = inside;
-          behind = none_to c raw.bucket raw.index (index - raw.index) index (omega arith) (omega arith) at.behind
-              (λ k from below. unset_empty c raw.bucket raw.index word k at.flags (omega arith) (low.lower (k % 64) (omega arith)));
-          whole = whole;
-          flags = rw chunk at.flags;
-          first = rw place low;
-        },
-      )
+      record {
+        inside = omega arith;
+        read = omega arith;
+        behind = none_to c raw.bucket from bit index (omega arith) (omega arith) at.behind
+            (λ k after below. unset_empty c raw.bucket from word k flags (omega arith) (low.lower (k % 64) (omega arith)));
+        whole = whole ∙ size;
+        flags = rw chunk flags;
+        first = rw place low;
+      }
 
   -- the flags of a chunk are those of the 64 slots from its first on
   pub chunk_read : (c : Contents V) (raw from : RawIter) (chunk word : ℕ) → from ≡ raw
@@ -101,18 +109,22 @@ module _ {V : Type 0} where
       let here : chunk * 64 / 64 ≡ chunk = omega arith in
       rw (here, ← same) read
 
-  pub at_chunk : (c : Contents V) (raw : RawIter) (chunk word : ℕ) → IsAt c raw 0 → length (row c raw.bucket) ≡ raw.bucket_size → chunk * 64 ≤ raw.bucket_size
-      → NoneBelow (values c) (id_at raw.bucket (chunk * 64)) → AreFlagsAt c raw.bucket (chunk * 64) word → 0 < word
-      → IsAtFlags c (record { yielded = raw.yielded; bucket = raw.bucket; bucket_size = raw.bucket_size; index = chunk * 64 }) word
-  at_chunk c raw chunk word at whole inside none flags some = record {
-    in_table = at.in_table;
-    size = at.size;
-    within = inside;
-    behind = none;
-    whole = whole;
-    flags = flags;
-    some = some;
-  }
+  -- behind a chunk whose flags were read
+  pub behind_chunk : (c : Contents V) (raw : RawIter) (chunk word : ℕ) → IsAt c raw 0 → length (row c raw.bucket) ≡ raw.bucket_size → chunk * 64 < raw.bucket_size
+      → NoneBelow (values c) (id_at raw.bucket (chunk * 64)) → AreFlagsAt c raw.bucket (chunk * 64) word
+      → IsAt c (record { yielded = raw.yielded; bucket = raw.bucket; bucket_size = raw.bucket_size; index = (chunk + 1) * 64 }) word
+  behind_chunk c raw chunk word at whole inside none flags =
+      let from : (chunk + 1) * 64 - 64 ≡ chunk * 64 = omega arith in
+      record {
+        in_table = at.in_table;
+        size = at.size;
+        round = omega arith;
+        within = omega arith;
+        behind = rw from none;
+        whole = λ _. whole;
+        flags = λ _. rw from flags;
+        none = λ start. absurd (omega arith);
+      }
 
   -- past the end of a bucket, a walk is at the first slot of the next
   pub at_next_bucket : (c : Contents V) (raw : RawIter) (b size : ℕ) → size ≡ 2 ^ b → b + 1 < 63 → NoneBelow (values c) (id_at (b + 1) 0)
@@ -120,8 +132,9 @@ module _ {V : Type 0} where
   at_next_bucket c raw b size whole low none = record {
     in_table = low;
     size = (let twice : 2 ^ (b + 1) ≡ 2 ^ b + 2 ^ b = rw add-one (two-pow-succ b) in omega arith);
+    round = omega arith;
     within = omega arith;
-    behind = none;
+    behind = λ id below. none id (omega arith);
     whole = λ more. absurd (omega arith);
     flags = λ more. absurd (omega arith);
     none = λ _. refl;

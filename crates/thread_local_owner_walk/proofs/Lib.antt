@@ -6,6 +6,7 @@ pub mod ClearingLaws
 pub mod FillingLaws
 pub mod InsertingLaws
 pub mod FlagLaws
+pub mod CountingLaws
 pub mod NextValue
 pub mod RefilledLaws
 pub mod EmptyingLaws

@@ -18,7 +18,7 @@ use Rattle.thread_local_owner_walk.proofs.ValueLaws.{values-absent, values-id_at
 module _ {V : Type 0} where
   -- where no id below n has a value and n has one, the walk is that value, and then the walk
   -- without it
-  walk_below-taken : (values others : ℕ → Option V) (n : ℕ) (v : V) → NoneBelow values n → values n ≡ Some v → others n ≡ None → ((id : ℕ) → id ≢ n → others id ≡ values id)
+  pub walk_below-taken : (values others : ℕ → Option V) (n : ℕ) (v : V) → NoneBelow values n → values n ≡ Some v → others n ≡ None → ((id : ℕ) → id ≢ n → others id ≡ values id)
       → (k : ℕ) → n < k → walk_below values k ≡ v ∷ walk_below others k
   unfolding walk_below
   walk_below-taken values others n v none here gone same zero lt = absurd (omega arith)

@@ -7,7 +7,7 @@ ghost use Rattle.thread_local_model.specs.Buckets.{Contents, row, stands, values
 ghost use Rattle.thread_local_model.specs.Rows.{value_in, with_slot};
 ghost use Rattle.thread_local_model.specs.Walk.{walk, paired};
 ghost use Rattle.thread_local_owner_walk.specs.Owner.{NoneBelow};
-ghost use Rattle.thread_local_owner_walk.specs.Cursor.{next_bucket, AreFlagsAt, IsAt, IsAtFlags, IsAtValue, IsOwnerWalk};
+ghost use Rattle.thread_local_owner_walk.specs.Cursor.{next_bucket, read_to, values_left, AreFlagsAt, IsAt, IsOwnerWalk};
 
 use thread_local_thread_id::BUCKETS;
 
@@ -45,7 +45,7 @@ pub trait FlagSource {
 
 /// How many values a walk has given, and the place that it looks at next. The number is shown by
 /// `Debug`, as in the Rust crate; no walk goes by it.
-#[derive(Debug, Drop)]
+#[derive(Clone, Copy, Debug)]
 pub struct RawIter {
     pub yielded: usize,
     pub bucket: usize,
@@ -79,39 +79,40 @@ impl RawIter {
     }
 }
 
-/// Advances to the bucket's next flags that aren't 0 and returns them, or returns 0 where there are
+/// Advances past the bucket's next flags that aren't 0 and returns them, or returns 0 where there are
 /// none.
 fn flags_in_bucket<P: FlagSource>(source: &mut P, raw: &mut RawIter) -> u64
     requires at { IsAt (P.contents source.old) raw.old 0 }
     requires whole { length (row (P.contents source.old) raw.old.bucket) ≡ raw.old.bucket_size }
-    requires ahead { P.given source.old ≤ id_at raw.old.bucket raw.old.index }
+    requires ahead { P.given source.old ≤ read_to raw.old }
     ensures same { source.new ≡ source.old }
-    ensures found { 0 < result → IsAtFlags (P.contents source.old) raw.new result }
-    ensures ahead { P.given source.old ≤ id_at raw.new.bucket raw.new.index }
+    ensures found { 0 < result → IsAt (P.contents source.old) raw.new result }
+    ensures ahead { P.given source.old ≤ read_to raw.new }
     ensures yielded { raw.new.yielded ≡ raw.old.yielded }
     ensures stays { result ≡ 0 → raw.new ≡ raw.old }
     ensures behind { result ≡ 0
         → NoneBelow (values (P.contents source.old)) (id_at raw.old.bucket raw.old.bucket_size) }
 {
-    for chunk in (raw.index + 63) / 64..(raw.bucket_size + 63) / 64 {
+    for chunk in raw.index / 64..(raw.bucket_size + 63) / 64 {
         let flags = source.flags(raw.bucket, chunk);
         if flags != 0 {
-            raw.index = chunk * 64;
+            raw.index = (chunk + 1) * 64;
             return flags;
         }
     }
     0
 }
 
-/// Advances to the next flags that aren't 0, in this bucket or a later one, and returns them. A
+/// Advances past the next flags that aren't 0, in this bucket or a later one, and returns them. A
 /// value must be left.
 fn next_flags<P: FlagSource>(source: &mut P, raw: &mut RawIter) -> u64
     requires at { IsAt (P.contents source.old) raw.old 0 }
-    requires ahead { P.given source.old ≤ id_at raw.old.bucket raw.old.index }
+    requires ahead { P.given source.old ≤ read_to raw.old }
     requires some { 0 < length (walk (values (P.contents source.old))) }
     ensures same { source.new ≡ source.old }
-    ensures at { IsAtFlags (P.contents source.old) raw.new result }
-    ensures ahead { P.given source.old ≤ id_at raw.new.bucket raw.new.index }
+    ensures at { IsAt (P.contents source.old) raw.new result }
+    ensures some { 0 < result }
+    ensures ahead { P.given source.old ≤ read_to raw.new }
     ensures yielded { raw.new.yielded ≡ raw.old.yielded }
 {
     for bucket in raw.bucket..BUCKETS {
@@ -126,41 +127,6 @@ fn next_flags<P: FlagSource>(source: &mut P, raw: &mut RawIter) -> u64
     unreachable!()
 }
 
-/// Advances to flags that aren't 0 and returns them: `rest`, which the walk has already read, or
-/// the next where `rest` is 0. A value must be left.
-#[inline]
-fn flags_ahead<P: FlagSource>(source: &mut P, raw: &mut RawIter, rest: u64) -> u64
-    requires at { IsAt (P.contents source.old) raw.old rest }
-    requires ahead { P.given source.old ≤ id_at raw.old.bucket raw.old.index }
-    requires some { 0 < length (walk (values (P.contents source.old))) }
-    ensures same { source.new ≡ source.old }
-    ensures at { IsAtFlags (P.contents source.old) raw.new result }
-    ensures ahead { P.given source.old ≤ id_at raw.new.bucket raw.new.index }
-    ensures yielded { raw.new.yielded ≡ raw.old.yielded }
-{
-    if rest != 0 {
-        return rest;
-    }
-    next_flags(source, raw)
-}
-
-/// Advances to the next value, of which there must be one. Returns the flags of its chunk from this
-/// value's on. `rest` are the flags that the walk has read and not passed yet. It takes no memory.
-#[inline]
-fn seek<P: FlagSource>(source: &mut P, raw: &mut RawIter, rest: u64) -> u64
-    requires at { IsAt (P.contents source.old) raw.old rest }
-    requires ahead { P.given source.old ≤ id_at raw.old.bucket raw.old.index }
-    requires some { 0 < length (walk (values (P.contents source.old))) }
-    ensures same { source.new ≡ source.old }
-    ensures at { IsAtValue (P.contents source.old) raw.new result }
-    ensures ahead { P.given source.old ≤ id_at raw.new.bucket raw.new.index }
-    ensures yielded { raw.new.yielded ≡ raw.old.yielded }
-{
-    let flags = flags_ahead(source, raw, rest);
-    raw.index = raw.index / 64 * 64 + flags.trailing_zeros() as usize;
-    flags
-}
-
 /// The flags, with the lowest set one cleared.
 #[inline]
 fn without_first(flags: u64) -> u64
@@ -170,16 +136,19 @@ fn without_first(flags: u64) -> u64
     flags & (flags - 1)
 }
 
-/// Where an owner's walk is, and how many values it has left. No call takes memory.
+/// Where an owner's walk is, and how many values it has left. It reads the flags of 64 slots at a
+/// time, and goes by these until all their values are passed. No call takes memory.
 #[derive(Drop)]
 pub struct OwnerCursor {
-    /// The place that the walk looks at next.
+    /// The place behind the slots whose flags it read last, and how many values it has given once
+    /// it is there.
     pub raw: RawIter,
-    /// The flags of the 64 slots that the walk is in, without those that it has passed. 0 where it
-    /// has read none.
+    /// The flags that it read last. 0 where it has read none.
+    pub read: u64,
+    /// Those of them whose values it hasn't passed.
     pub rest: u64,
-    /// How many values are still to come.
-    pub left: usize,
+    /// How many values lie behind these slots.
+    pub later: usize,
 }
 
 impl OwnerCursor {
@@ -187,12 +156,90 @@ impl OwnerCursor {
     pub fn new(left: usize) -> OwnerCursor
         ensures raw { result.raw ≡ record { yielded = 0; bucket = 0; bucket_size = 1; index = 0 } }
         ensures rest { result.rest ≡ 0 }
-        ensures left { result.left ≡ left }
+        ensures later { result.later ≡ left }
+        ensures left { values_left result ≡ left }
     {
         OwnerCursor {
             raw: RawIter::new(),
+            read: 0,
             rest: 0,
-            left,
+            later: left,
+        }
+    }
+
+    /// Whether no value is still to come.
+    #[inline]
+    pub fn is_over(&self) -> bool
+        ensures over { result ≡ true → values_left self.now ≡ 0 }
+        ensures goes_on { result ≡ false → 0 < values_left self.now }
+    {
+        self.rest == 0 && self.later == 0
+    }
+
+    /// How many values are still to come.
+    #[inline]
+    pub fn len(&self) -> usize
+        requires { values_left self.now < 2 ^ 64 }
+        ensures { result ≡ values_left self.now }
+    {
+        self.rest.count_ones() as usize + self.later
+    }
+
+    /// How many values the walk has given, and the place behind the last of them.
+    pub fn raw(&self) -> RawIter {
+        let passed = self.read & !self.rest;
+        RawIter {
+            yielded: self
+                .raw
+                .yielded
+                .saturating_sub(self.rest.count_ones() as usize),
+            bucket: self.raw.bucket,
+            bucket_size: self.raw.bucket_size,
+            index: self
+                .raw
+                .index
+                .saturating_sub(passed.leading_zeros() as usize),
+        }
+    }
+
+    /// Reads the next flags that aren't 0, where the values of those read last are all passed. A
+    /// value must be left.
+    #[inline]
+    fn read_on<P: FlagSource>(&mut self, source: &mut P)
+        requires walk { IsOwnerWalk (P.contents source.old) self.old }
+        requires ahead { P.given source.old ≤ read_to self.old.raw }
+        requires passed { self.old.rest ≡ 0 }
+        requires some { 0 < values_left self.old }
+        ensures same { source.new ≡ source.old }
+        ensures walk { IsOwnerWalk (P.contents source.old) self.new }
+        ensures ahead { P.given source.old ≤ read_to self.new.raw }
+        ensures some { 0 < self.new.rest }
+        ensures left { values_left self.new ≡ values_left self.old }
+    {
+        let mut raw = self.raw;
+        let flags = next_flags(source, &mut raw);
+        let count = flags.count_ones() as usize;
+        raw.yielded += count;
+        self.raw = raw;
+        self.read = flags;
+        self.rest = flags;
+        self.later -= count;
+    }
+
+    /// Reads on where no flag is at hand.
+    #[inline]
+    fn reach<P: FlagSource>(&mut self, source: &mut P)
+        requires walk { IsOwnerWalk (P.contents source.old) self.old }
+        requires ahead { P.given source.old ≤ read_to self.old.raw }
+        requires some { 0 < values_left self.old }
+        ensures same { source.new ≡ source.old }
+        ensures walk { IsOwnerWalk (P.contents source.old) self.new }
+        ensures ahead { P.given source.old ≤ read_to self.new.raw }
+        ensures some { 0 < self.new.rest }
+        ensures left { values_left self.new ≡ values_left self.old }
+    {
+        if self.rest == 0 {
+            self.read_on(source);
         }
     }
 
@@ -201,14 +248,15 @@ impl OwnerCursor {
     #[inline]
     pub fn pass<P: FlagSource>(&mut self, source: &mut P) -> usize
         requires walk { IsOwnerWalk (P.contents source.old) self.old }
-        requires ahead { P.given source.old ≤ id_at self.old.raw.bucket self.old.raw.index }
-        requires some { 0 < self.old.left }
+        requires ahead { P.given source.old ≤ read_to self.old.raw }
+        requires given { NoneBelow (values (P.contents source.old)) (P.given source.old) }
+        requires some { 0 < values_left self.old }
         ensures same { source.new ≡ source.old }
         ensures in_bucket { result < length (row (P.contents source.old) self.new.raw.bucket) }
         ensures published { IsSome (value_in (P.contents source.old) self.new.raw.bucket result) }
         ensures ahead { P.given source.old ≤ id_at self.new.raw.bucket result }
-        ensures index { self.new.raw.index ≡ result + 1 }
-        ensures left { self.new.left + 1 ≡ self.old.left }
+        ensures read { id_at self.new.raw.bucket result < read_to self.new.raw }
+        ensures left { values_left self.new + 1 ≡ values_left self.old }
 
         // What is left is a walk of the contents without the value, and the value comes first.
         ensures flags { AreFlagsAt
@@ -217,18 +265,18 @@ impl OwnerCursor {
         ensures walk { IsOwnerWalk
             (with_slot (P.contents source.old) self.new.raw.bucket result None)
             self.new }
+        ensures behind { NoneBelow
+            (values (with_slot (P.contents source.old) self.new.raw.bucket result None))
+            (id_at self.new.raw.bucket result + 1) }
         ensures first { (v : P.Value)
             → value_in (P.contents source.old) self.new.raw.bucket result ≡ Some v
             → walk (paired (values (P.contents source.old)))
             ≡ (id_at self.new.raw.bucket result, v)
             ∷ walk (paired (values (with_slot (P.contents source.old) self.new.raw.bucket result None))) }
     {
-        let flags = seek(source, &mut self.raw, self.rest);
-        self.rest = without_first(flags);
-        let index = self.raw.index;
-        self.raw.index += 1;
-        self.raw.yielded += 1;
-        self.left -= 1;
-        index
+        self.reach(source);
+        let bit = self.rest.trailing_zeros() as usize;
+        self.rest = without_first(self.rest);
+        self.raw.index - 64 + bit
     }
 }

@@ -2,7 +2,7 @@
 ghost use Rattle.std.specs.Prelude.{◌≡◌, ◌+◌, ◌<◌, ◌∷◌};
 ghost use Rattle.thread_local_model.specs.Buckets.{values};
 ghost use Rattle.thread_local_model.specs.Walk.{walk, paired};
-ghost use Rattle.thread_local_owner_walk.specs.Cursor.{IsOwnerWalk};
+ghost use Rattle.thread_local_owner_walk.specs.Cursor.{values_left, IsOwnerWalk};
 ghost use Rattle.thread_local_owner_walk.specs.Owner.{emptied};
 ghost use Rattle.thread_local_buckets.specs.Emptied.{owned_emptied};
 
@@ -14,7 +14,7 @@ impl<T> Buckets<T> {
     pub(crate) fn begin_walk(&mut self) -> OwnerCursor
         ensures same { self.new ≡ self.old }
         ensures walk { IsOwnerWalk self.old.contents result }
-        ensures ends { result.left ≡ 0 → emptied self.old.contents ≡ self.old.contents }
+        ensures ends { values_left result ≡ 0 → emptied self.old.contents ≡ self.old.contents }
     {
         OwnerCursor::new(self.pointers.count_values())
     }
@@ -24,11 +24,11 @@ impl<T> Buckets<T> {
     #[inline]
     pub(crate) fn take_next(&mut self, cursor: &mut OwnerCursor) -> (usize, T)
         requires walk { IsOwnerWalk self.old.contents cursor.old }
-        requires some { 0 < cursor.old.left }
+        requires some { 0 < values_left cursor.old }
         ensures walk { IsOwnerWalk self.new.contents cursor.new }
         ensures first { walk (paired (values self.old.contents)) ≡ result ∷ walk (paired (values self.new.contents)) }
-        ensures left { cursor.new.left + 1 ≡ cursor.old.left }
-        ensures ends { cursor.new.left ≡ 0 → emptied self.new.contents ≡ self.new.contents }
+        ensures left { values_left cursor.new + 1 ≡ values_left cursor.old }
+        ensures ends { values_left cursor.new ≡ 0 → emptied self.new.contents ≡ self.new.contents }
         ensures leaves { owned_emptied self.new ≡ owned_emptied self.old }
     {
         let index = cursor.pass(&mut self.pointers);
@@ -49,7 +49,7 @@ impl<T> Buckets<T> {
             return;
         }
         let mut cursor = self.begin_walk();
-        for _ in 0..cursor.left {
+        for _ in 0..cursor.len() {
             drop(self.take_next(&mut cursor));
         }
     }

@@ -3,7 +3,7 @@ use Rattle.thread_local_model.specs.Buckets.{Contents, IsTable}
 use Rattle.thread_local_model.specs.Owned.{Owned}
 use Rattle.thread_local_model.specs.Rows.{with_slot}
 use Rattle.thread_local_owner_walk.specs.Owner.{emptied}
-use Rattle.thread_local_owner_walk.specs.Cursor.{IsOwnerWalk}
+use Rattle.thread_local_owner_walk.specs.Cursor.{values_left, IsOwnerWalk}
 use Rattle.thread_local_owner_walk.specs.declared.cursor.OwnerCursor.{OwnerCursor}
 use Rattle.thread_local_owner_walk.proofs.RowLaws.{IsTable-with_slot}
 use Rattle.thread_local_owner_walk.proofs.EmptyingLaws.{emptied-with_slot, emptied-none}
@@ -14,7 +14,7 @@ use Rattle.thread_local_buckets.proofs.buckets.Buckets.take_next.Goals as goal
 -- walk has none left
 record Takes {V : Type 0} (before after : Contents V) (cursor : OwnerCursor) : Type 0 where
   leaves : emptied after ≡ emptied before
-  ends : cursor.left ≡ 0 → emptied after ≡ after
+  ends : values_left cursor ≡ 0 → emptied after ≡ after
 
 takes : {V : Type 0} (c d e : Contents V) (b i : ℕ) (cursor : OwnerCursor) → IsTable c → d ≡ c → e ≡ with_slot d b i None → IsOwnerWalk (with_slot c b i None) cursor → Takes c e cursor
 takes c d e b i cursor t same after on =

@@ -1,21 +1,37 @@
-use Rattle.std.proofs.Common.{◌%◌, arith}
+use Rattle.std.proofs.Common.{◌+◌, ◌-◌, arith}
+use Rattle.std.specs.Int.{w64, trailing_zeros}
 use Rattle.thread_local_owner_walk.proofs.NextValue.{Passes, passes}
 use Rattle.thread_local_owner_walk.proofs.cursor.OwnerCursor.pass.Goals as goal
 
-it_passes : (g : _) (c : goal.After-self-4-1 g) → Passes (g.P.FlagSource.contents c.args.source.now) c.seek-flags.new.raw c.without_first-self.result c.args.self.now.left
+it_passes : (g : _) (c : goal.After-self-1 g)
+    → Passes (g.P.FlagSource.contents c.args.source.now) c.reach.new.self c.without_first-self.result (g.P.FlagSource.given c.args.source.now) (c.reach.new.self.raw.index - 64 + trailing_zeros w64 c.reach.new.self.rest)
 it_passes g c =
-    let raw = c.seek-flags.new.raw in
-    let at = c.seek-flags.ensures.at in
-    let fits = c.requires.walk.fits in
-    let yielded = c.seek-flags.ensures.yielded in
-    passes (g.P.FlagSource.contents c.args.source.now) raw c.seek-flags.result c.without_first-self.result c.args.self.now.left at
-    (c.without_first-self.ensures (raw.index % 64) at.first) c.without_first-self.type_inv c.requires.walk.counted (omega arith)
+    passes (g.P.FlagSource.contents c.args.source.now) c.reach.new.self c.without_first-self.result (g.P.FlagSource.given c.args.source.now)
+    c.reach.ensures.walk (omega arith) c.reach.ensures.some c.without_first-self.type_inv c.without_first-self.ensures c.requires.given
+
+pub returns-clause-in_bucket : goal.returns-clause-in_bucket
+returns-clause-in_bucket g c = (it_passes g c).inside
+
+pub returns-clause-published : goal.returns-clause-published
+returns-clause-published g c = (it_passes g c).published
+
+pub returns-clause-ahead : goal.returns-clause-ahead
+returns-clause-ahead g c = (it_passes g c).ahead
+
+pub returns-clause-read : goal.returns-clause-read
+returns-clause-read g c = (it_passes g c).read
+
+pub returns-clause-left : goal.returns-clause-left
+returns-clause-left g c = omega (arith, (it_passes g c).left, c.reach.ensures.left)
 
 pub returns-clause-flags : goal.returns-clause-flags
 returns-clause-flags g c = (it_passes g c).flags
 
 pub returns-clause-walk : goal.returns-clause-walk
 returns-clause-walk g c = (it_passes g c).on
+
+pub returns-clause-behind : goal.returns-clause-behind
+returns-clause-behind g c = (it_passes g c).behind
 
 pub returns-clause-first : goal.returns-clause-first
 returns-clause-first g c = (it_passes g c).first

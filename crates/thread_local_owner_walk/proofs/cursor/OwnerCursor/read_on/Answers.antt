@@ -1,0 +1,17 @@
+use Rattle.thread_local_owner_walk.proofs.NextValue.{flags_few, reads_on}
+use Rattle.thread_local_owner_walk.proofs.cursor.OwnerCursor.read_on.Goals as goal
+
+pub overflow_sub-self : goal.overflow_sub-self
+overflow_sub-self g c =
+    let read = c.next_flags-flags in
+    flags_few (g.P.FlagSource.contents c.args.source.now) c.args.self.now read.new.raw read.result c.requires.walk c.requires.passed read.type_inv read.ensures.at
+
+pub returns-clause-walk : goal.returns-clause-walk
+returns-clause-walk g c =
+    let read = c.next_flags-flags in
+    (reads_on (g.P.FlagSource.contents c.args.source.now) c.args.self.now read.new.raw read.result c.requires.walk c.requires.passed read.type_inv read.ensures.at read.ensures.yielded).0
+
+pub returns-clause-left : goal.returns-clause-left
+returns-clause-left g c =
+    let read = c.next_flags-flags in
+    (reads_on (g.P.FlagSource.contents c.args.source.now) c.args.self.now read.new.raw read.result c.requires.walk c.requires.passed read.type_inv read.ensures.at read.ensures.yielded).1
