@@ -1,12 +1,14 @@
 //! The walks of an owner's buckets that lend each value as `&mut`, by ascending id.
-ghost use Rattle.std.specs.Prelude.{◌≡◌, length, Some, IfSome};
+ghost use Rattle.std.specs.Prelude.{◌≡◌, ◌<◌, ◌≤◌, length, Some, IfSome};
 ghost use types.Logic.{sem};
 ghost use Rattle.std.specs.Iterator.{YieldsFirstMut, YieldsFirstBy, UpTo, item_count};
 ghost use Rattle.std.specs.Iterator.SizeHint.{IsWithinCount};
 ghost use Rattle.thread_local_model.specs.Buckets.{values};
 ghost use Rattle.thread_local_model.specs.Walk.{walk};
 ghost use Rattle.thread_local_buckets.specs.IterMut.{iter_mut_rest, iter_mut_name, entries_mut_rest};
+ghost use Rattle.thread_local_owner_walk.specs.Cursor.{read_to, values_left, IsOwnerWalk};
 ghost use Rattle.thread_local_buckets.specs.LendingValues.{LendsValues};
+ghost use Rattle.thread_local_buckets.specs.Entered.{IsEntered};
 
 use crate::buckets::Buckets;
 use std::fmt;
@@ -26,7 +28,7 @@ pub struct EntriesMut<'a, T> {
 }
 
 impl<'a, T> Model for EntriesMut<'a, T> {
-    ghost use Rattle.std.specs.Prelude.{ℕ, List, ◌≤◌};
+    ghost use Rattle.std.specs.Prelude.{ℕ, List, ◌<◌, ◌≤◌};
     ghost use base.Fml.{GName};
     ghost use Rattle.thread_local_model.specs.Buckets.{values};
     ghost use Rattle.thread_local_model.specs.Walk.{walk, paired};
@@ -35,13 +37,37 @@ impl<'a, T> Model for EntriesMut<'a, T> {
 
     ghost use Rattle.thread_local_owner_walk.specs.Owner.{NoneBelow};
     ghost use Rattle.thread_local_owner_walk.specs.Cursor.{read_to, IsOwnerWalk};
+    ghost use Rattle.thread_local_buckets.specs.Entered.{IsEntered};
 
     ghost view = { λ it. (walk (paired (values it.loan.contents)), it.loan.name) };
 
     ghost invariant = { λ it.
         IsOwnerWalk it.loan.contents it.cursor
         × NoneBelow (values it.loan.contents) it.loan.given
-        × (it.loan.given ≤ read_to it.cursor.raw) };
+        × (it.loan.given ≤ read_to it.cursor.raw)
+        × (0 < it.cursor.rest → IsEntered it.loan it.cursor.raw) };
+}
+
+/// Reads on where no flag is at hand, and enters the chunk whose flags it reads.
+#[inline]
+fn lead<T>(loan: &mut Loan<'_, T>, cursor: &mut OwnerCursor)
+    requires walk { IsOwnerWalk loan.old.contents cursor.old }
+    requires ahead { loan.old.given ≤ read_to cursor.old.raw }
+    requires some { 0 < values_left cursor.old }
+    requires entered { 0 < cursor.old.rest → IsEntered loan.old cursor.old.raw }
+    ensures name { loan.new.name ≡ loan.old.name }
+    ensures contents { loan.new.contents ≡ loan.old.contents }
+    ensures given { loan.new.given ≡ loan.old.given }
+    ensures walk { IsOwnerWalk loan.old.contents cursor.new }
+    ensures ahead { loan.old.given ≤ read_to cursor.new.raw }
+    ensures some { 0 < cursor.new.rest }
+    ensures left { values_left cursor.new ≡ values_left cursor.old }
+    ensures entered { IsEntered loan.new cursor.new.raw }
+{
+    if cursor.rest == 0 {
+        cursor.read_on(loan);
+        loan.enter(cursor.raw.bucket, cursor.raw.index - 64);
+    }
 }
 
 impl<'a, T> Iterator for EntriesMut<'a, T> {
@@ -58,8 +84,10 @@ impl<'a, T> Iterator for EntriesMut<'a, T> {
         if self.cursor.is_over() {
             return None;
         }
-        let index = self.cursor.pass(&mut self.loan);
-        let item = self.loan.give(self.cursor.raw.bucket, index);
+        lead(&mut self.loan, &mut self.cursor);
+        let place = self.cursor.pass(&mut self.loan);
+        let item = self.loan.give(place);
+        let index = self.cursor.raw.index - 64 + place;
         Some((index + (self.cursor.raw.bucket_size - 1), item))
     }
 

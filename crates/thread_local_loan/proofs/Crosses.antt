@@ -42,14 +42,14 @@ module _ (R : RattleType) where
     values_cross (p ∷ ps) [] = tt
     values_cross (p ∷ ps) (r ∷ rs) = (each_cross (valued R (block_of p) (count_of p)) (value_crosses (block_of p) (count_of p)) r 0, values_cross ps rs)
 
-    owned_crosses : (κ : Lft) (p : Ptr) (name : GName) (left : Contents R.Denot) (given : ℕ) → Keyless (loan_owns κ R p name left given)
-    owned_crosses κ p name left given = λ z. ((λ _. tt), (frames_cross (block_of p) (count_of p) z.0 z.1.rows, (tt, (λ w. (((λ _. tt), values_cross z.0 w.contents.rows), tt)))))
+    owned_crosses : (κ : Lft) (p v : Ptr) (name : GName) (left : Contents R.Denot) (given bucket first : ℕ) → Keyless (loan_owns κ R p v name left given bucket first)
+    owned_crosses κ p v name left given bucket first = λ z. ((λ _. tt), (frames_cross (block_of p) (count_of p) z.0 z.1.rows, (tt, (λ w. (((λ _. tt), values_cross z.0 w.contents.rows), tt)))))
 
 pub loan_send : (a : NamedLft) (V : RattleType) → IsSend V → IsSend (loan.the_row a V)
 loan_send a V s =
     let O = loan.the_type a V in
-    let all : AllSend (fields O) = (search sendable, (search sendable, tt)) in
-    owning_send O all (λ d. owned_crosses V s a.lft d.pointers d.name d.contents d.given) (λ k. quiet (to O) (exits_of k (fields O)) ((struct_send (fields_shape O) all).leaving k))
+    let all : AllSend (fields O) = (search sendable, (search sendable, (search sendable, tt))) in
+    owning_send O all (λ d. owned_crosses V s a.lft d.pointers d.values d.name d.contents d.given d.bucket d.first) (λ k. quiet (to O) (exits_of k (fields O)) ((struct_send (fields_shape O) all).leaving k))
 
 pub loan_sync : (a : NamedLft) (V : RattleType) → IsSync V → IsSync (loan.the_row a V)
-loan_sync a V s = let O = loan.the_type a V in let all : AllSync (fields O) = (search sendable, (search sendable, tt)) in let both = (struct_sync (fields_shape O) all).shared in record { shared = λ d b o κ. (both (to O d) b o κ, tt) }
+loan_sync a V s = let O = loan.the_type a V in let all : AllSync (fields O) = (search sendable, (search sendable, (search sendable, tt))) in let both = (struct_sync (fields_shape O) all).shared in record { shared = λ d b o κ. (both (to O d) b o κ, tt) }

@@ -1,6 +1,6 @@
 -- Making a loan: the owner's borrow is split into what the loan owns and what is put aside. Assumes
 -- `Logic`.
-use Rattle.thread_local_raw.proofs.Names.{◌≡◌, ℕ, ◌+◌, List, [], ◌∷◌, length, refl, sym, ap, ◌∙◌, subst, arith, Option, Ura, SProp, ent, sep, ex, guard, Lft, Share, GName, Fml, ftrue, fsep, flft, fbor, fobor, fobs, fauth, Logic, sem, ‵, raw, ◌⊛◌, some, later, ◌$◌, ◌∵◌, !, qed, by, move, keep, drop, split, split3, fsplit, fjoin, fpick, fpack, pick, check, show, use1, use2, use3, await, updating, now, rewrite, group, join, done, RattleType, Ptr, block_ptr, InBlock, full_share, mem, part_at, param, nothing, SemTy}
+use Rattle.thread_local_raw.proofs.Names.{◌≡◌, ℕ, ◌+◌, List, [], ◌∷◌, length, refl, sym, ap, ◌∙◌, subst, arith, Option, Ura, SProp, ent, sep, ex, guard, Lft, Share, GName, Fml, ftrue, fsep, flft, fbor, fobor, fobs, fauth, Logic, sem, ‵, raw, ◌⊛◌, some, later, ◌$◌, ◌∵◌, !, qed, by, move, keep, drop, split, split3, fsplit, fjoin, fpick, fpack, pick, check, show, use1, use2, use3, await, updating, now, rewrite, group, join, done, RattleType, Ptr, block_ptr, full_share, mem, part_at, param, nothing, SemTy}
 use types.SemTy.{Body}
 use base.Fml.{fseps}
 use denote.Param.Laws.{Laws}
@@ -12,7 +12,7 @@ use Rattle.thread_local_model.specs.Owned.{Owned}
 use Rattle.thread_local_model.specs.Code.{owned_coded}
 use Rattle.thread_local_bucket_pointer.specs.declared.bucket_pointer.BucketPointer.{BucketPointer}
 use Rattle.thread_local_bucket_pointers.specs.contracts.bucket_pointers.BucketPointers as all_pointers
-use Rattle.thread_local_loan.specs.Lent.{shape, IsLeft, Lending, lending, loan_owns, frames, Values, values_at, lent_as}
+use Rattle.thread_local_loan.specs.Lent.{shape, Known, Lending, lending, loan_owns, frames, Values, values_at, lent_as}
 use Rattle.thread_local_owner_walk.specs.Refilled.{refilled}
 use Rattle.thread_local_loan.proofs.Opened.{open_pointers, close_pointers, Laid, Inside, view, good, remade}
 use Rattle.thread_local_loan.proofs.Refills.{refilled_same}
@@ -83,7 +83,7 @@ module _ {M : Type 1} {𝓤 : Ura M} (𝓛 : Logic 𝓤) (X : RattleType) (L : L
 
     module _ (κ : Lft) (q : Share) (γ : GName) where
       abbrev pub Lent : GName → SProp 𝓤
-      Lent ν = sep 𝓤 (sem 𝓛 (loan_owns κ R (block_ptr b o) ν c 0)) (sep 𝓤 (A.lft κ q) (sem 𝓛 (after (mem O) (Values R [] []) γ ν F)))
+      Lent ν = sep 𝓤 (sem 𝓛 (loan_owns κ R (block_ptr b o) (block_ptr b o) ν c 0 63 0)) (sep 𝓤 (A.lft κ q) (sem 𝓛 (after (mem O) (Values R [] []) γ ν F)))
 
       pub lends : (u v : base.Stored.Gv) → ent 𝓤 (sep 𝓤 (A.obor κ q (Body (mem O) ob oo γ)) (sep 𝓤 (A.obs γ u) (sep 𝓤 (A.auth γ v) (sep 𝓤 (sem 𝓛 (part_at Table full_share c b o)) Apart)))) (H.⇛ (guard 𝓤 (IsTable c) (ex 𝓤 Lent)))
       unfolding fseps
@@ -98,5 +98,5 @@ module _ {M : Type 1} {𝓤 : Ura M} (𝓛 : Logic 𝓤) (X : RattleType) (L : L
           use1 𝓛 (later (some (λ (ν : GName). ‵ (fobs ν (code (lent_as c))) ⊛ ‵ (fbor κ (Body Held' 0 0 ν)) ⊛ ‵ (flft κ q) ⊛ ‵ (after (mem O) (Values R [] []) γ ν F) ⊛ ‵ (fbor κ Frames') ⊛ ‵ ftrue)))
           (takes_beside 𝓛 (mem O) Held' F κ q ob oo 0 0 γ (Frames' ∷ []) (sep 𝓤 Rest' Apart) (owner_back a x.1.0 x.1.1) u v (lent_as c)) $ await ! tt $ pick ! (λ ν. split3 ! $ move ! (2 ∷ []) $ split3 ! $ move ! (2 ∷ []) $ split ! $
           -- [the frames; nothing; the token; what follows; the name; the values]
-          move ! (4 ∷ 5 ∷ []) $ fjoin ! $ move ! (1 ∷ 0 ∷ []) $ fjoin ! $ nothing ! $ fpack ! (InBlock (block_ptr b o) × IsLeft c c 0) (λ _. ftrue) (tt, record { table = t; rows = t.buckets; long = λ _. refl; ahead = λ _ _ _. refl }) $ fjoin ! $
-          fpack ! (Lending R) (lending R κ (block_ptr b o) ν c 0) (ps', c) $ now ! $ check ! t $ show ! Lent ν $ keep ! (0 ∷ 2 ∷ 3 ∷ []) $ done !))
+          move ! (4 ∷ 5 ∷ []) $ fjoin ! $ move ! (1 ∷ 0 ∷ []) $ fjoin ! $ nothing ! $ fpack ! (Known R (block_ptr b o) (block_ptr b o) c 0 63 0 (ps', c)) (λ _. ftrue) (tt, record { table = t; rows = t.buckets; long = λ _. refl; ahead = λ _ _ _. refl }, λ low. absurd (omega (arith, low))) $ fjoin ! $
+          fpack ! (Lending R) (lending R κ (block_ptr b o) (block_ptr b o) ν c 0 63 0) (ps', c) $ now ! $ check ! t $ show ! Lent ν $ keep ! (0 ∷ 2 ∷ 3 ∷ []) $ done !))

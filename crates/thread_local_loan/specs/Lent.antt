@@ -1,14 +1,14 @@
 -- What a loan of a table's pointers owns: a borrow of the pointers and flags, which don't change,
 -- and one of the values that it hasn't given. All else that the pointers own, such as the right to
 -- free a block, is put aside until both borrows end.
-use Rattle.std.specs.Prelude.{◌≡◌, ℕ, ◌+◌, ◌^◌, ◌<◌, ◌≤◌, Bool, List, [], ◌∷◌, length, map, is_some, Option, Some, None}
+use Rattle.std.specs.Prelude.{◌≡◌, ℕ, ◌+◌, ◌^◌, ◌<◌, ◌≤◌, Bool, List, [], ◌∷◌, length, get_or, map, is_some, Option, Some, None}
 use base.Fraction.{full_share}
 use base.Fml.{Lft, GName, Fml, ftrue, ffalse, fsep, fex, froom, fobs, fbor}
 use mir.Raw.{raw}
 use types.SemTy.{SemTy, Body}
 use denote.RattleType.{RattleType}
 use denote.Memory.{lone, part_at}
-use denote.RawPtr.{Ptr, null_ptr, block_of, count_of, InBlock}
+use denote.RawPtr.{Ptr, block_ptr, null_ptr, block_of, count_of, InBlock}
 use Rattle.std.specs.Sync.RawAtomic.Pointer.{cell}
 use Rattle.thread_local_model.specs.Place.{id_at}
 use Rattle.thread_local_model.specs.Buckets.{Contents, row, IsTable}
@@ -84,8 +84,16 @@ module _ (R : RattleType) where
   abbrev pub Lending : Type 0
   Lending = List Ptr × Contents R.Denot
 
-  abbrev pub lending : Lft → Ptr → GName → Contents R.Denot → ℕ → Lending → Fml
-  lending κ p name left given s = fsep (fact (InBlock p × IsLeft s.1 left given)) (fsep (fbor κ (frames (block_of p) (count_of p) s.0 s.1.rows)) (lent_values κ s.0 name left))
+  -- this is the address of the value of a slot, in a block that fits
+  abbrev pub IsValueAt : List Ptr → Contents R.Denot → Ptr → ℕ → ℕ → Type 0
+  IsValueAt ps whole v bucket first = (v ≡ block_ptr (block_of (get_or ps bucket null_ptr)) (value_offset R (count_of (get_or ps bucket null_ptr)) first)) × Fits R (length (row whole bucket))
 
-abbrev pub loan_owns : Lft → (R : RattleType) → Ptr → GName → Contents R.Denot → ℕ → Fml
-loan_owns κ R p name left given = fex (Lending R) (lending R κ p name left given)
+  -- what is known of a loan's addresses and contents
+  abbrev pub Known : Ptr → Ptr → Contents R.Denot → ℕ → ℕ → ℕ → Lending → Type 0
+  Known p v left given bucket first s = InBlock p × IsLeft s.1 left given × (bucket < 63 → IsValueAt s.0 s.1 v bucket first)
+
+  abbrev pub lending : Lft → Ptr → Ptr → GName → Contents R.Denot → ℕ → ℕ → ℕ → Lending → Fml
+  lending κ p v name left given bucket first s = fsep (fact (Known p v left given bucket first s)) (fsep (fbor κ (frames (block_of p) (count_of p) s.0 s.1.rows)) (lent_values κ s.0 name left))
+
+abbrev pub loan_owns : Lft → (R : RattleType) → Ptr → Ptr → GName → Contents R.Denot → ℕ → ℕ → ℕ → Fml
+loan_owns κ R p v name left given bucket first = fex (Lending R) (lending R κ p v name left given bucket first)

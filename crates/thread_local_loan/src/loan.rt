@@ -27,6 +27,8 @@ use thread_local_thread_id::bucket_size;
 pub struct Loan<'a, T> {
     /// The address of the pointers.
     pub pointers: *const *mut Chunk<T>,
+    /// The address of the value of the first slot of the chunk that was entered last.
+    pub values: *mut T,
     pub marker: PhantomData<&'a mut T>,
     /// The ghost name by which the owner's buckets learn what was written.
     pub ghost name: { GName },
@@ -34,10 +36,14 @@ pub struct Loan<'a, T> {
     pub ghost contents: { Contents T } by { contents_coded T.code },
     /// The id after the last one whose value was given.
     pub ghost given: { ℕ },
+    /// The bucket of the chunk that was entered last, no bucket of the table where none was.
+    pub ghost bucket: { ℕ },
+    /// The index of this chunk's first slot.
+    pub ghost first: { ℕ },
 }
 
 impl<'a, T> Model for Loan<'a, T> {
-    ghost also_owns = { λ l. loan_owns 'a T.row l.pointers l.name l.contents l.given };
+    ghost also_owns = { λ l. loan_owns 'a T.row l.pointers l.values l.name l.contents l.given l.bucket l.first };
 
     ghost also_shares = { λ _ _ _. ftrue };
 }
@@ -92,22 +98,42 @@ impl<'a, T> Loan<'a, T> {
         }
     }
 
-    /// Gives the value of a slot for as long as the pointers are lent.
+    /// Enters the chunk whose first slot this is.
     #[inline]
-    pub fn give(&mut self, bucket: usize, index: usize) -> &'a mut T
+    pub fn enter(&mut self, bucket: usize, first: usize)
         requires in_table { bucket < 63 }
-        requires in_bucket { index < length (row self.old.contents bucket) }
-        requires ahead { self.old.given ≤ id_at bucket index }
-        requires published { IsSome (value_in self.old.contents bucket index) }
-        ensures* ends { sem 𝓛 (ends_with_item T.row self.old.name result.ghost_name self.new.name bucket index) }
-        ensures value { value_in self.old.contents bucket index ≡ Some result.now }
-        ensures contents { self.new.contents ≡ with_slot self.old.contents bucket index None }
-        ensures given { self.new.given ≡ id_at bucket index + 1 }
+        requires in_bucket { first < length (row self.old.contents bucket) }
+        ensures name { self.new.name ≡ self.old.name }
+        ensures contents { self.new.contents ≡ self.old.contents }
+        ensures given { self.new.given ≡ self.old.given }
+        ensures bucket { self.new.bucket ≡ bucket }
+        ensures first { self.new.first ≡ first }
     {
-        unsafe {
+        let values = unsafe {
             let block = *self.pointers.add(bucket);
-            &mut *(block as *mut T).add(index)
-        }
+            (block as *mut T).add(first)
+        };
+        self.values = values;
+    }
+
+    /// Gives the value of a slot of the chunk that was entered, for as long as the pointers are
+    /// lent. `place` is the slot's number in the chunk.
+    #[inline]
+    pub fn give(&mut self, place: usize) -> &'a mut T
+        requires in_table { self.old.bucket < 63 }
+        requires in_bucket { self.old.first + place < length (row self.old.contents self.old.bucket) }
+        requires ahead { self.old.given ≤ id_at self.old.bucket (self.old.first + place) }
+        requires published { IsSome (value_in self.old.contents self.old.bucket (self.old.first + place)) }
+        ensures* ends { sem 𝓛 (ends_with_item T.row self.old.name result.ghost_name self.new.name
+            self.old.bucket (self.old.first + place)) }
+        ensures value { value_in self.old.contents self.old.bucket (self.old.first + place) ≡ Some result.now }
+        ensures contents { self.new.contents
+            ≡ with_slot self.old.contents self.old.bucket (self.old.first + place) None }
+        ensures given { self.new.given ≡ id_at self.old.bucket (self.old.first + place) + 1 }
+        ensures bucket { self.new.bucket ≡ self.old.bucket }
+        ensures first { self.new.first ≡ self.old.first }
+    {
+        unsafe { &mut *self.values.add(place) }
     }
 }
 

@@ -71,6 +71,14 @@ module _ {V : Type 0} where
       (λ from. from)
       (cases_lt i j)
 
+  -- flags at hand are those of a chunk of the bucket
+  pub chunk_at_hand : (c : Contents V) (raw : RawIter) (word : ℕ) → 0 < word → IsAt c raw word → (64 ≤ raw.index) × (raw.index - 64 < length (row c raw.bucket))
+  chunk_at_hand c raw word some at =
+      let far : 0 < raw.index = ⊎_elim (λ (start : raw.index < 1). let nothing : word ≡ 0 = at.none (omega arith) in absurd (omega arith)) (λ (far : 1 ≤ raw.index). far) (cases_lt raw.index 1) in
+      let round = at.round in
+      let within = at.within in
+      (omega arith, omega (arith, at.whole far))
+
   -- the lowest set bit of the flags is that of the first value
   pub first_at_hand : (c : Contents V) (raw : RawIter) (word : ℕ) → word < 2 ^ 64 → 0 < word → IsAt c raw word → IsFirst c raw word (raw.index - 64 + trailing_zeros w64 word)
   first_at_hand c raw word fits some at =

@@ -29,7 +29,8 @@ pub record Passes {V : Type 0} (c : Contents V) (cursor : OwnerCursor) (rest giv
   pub inside : index < length (row c cursor.raw.bucket)
   pub published : IsSome (value_in c cursor.raw.bucket index)
   pub ahead : given ≤ id_at cursor.raw.bucket index
-  pub read : id_at cursor.raw.bucket index < read_to cursor.raw
+  pub read : 64 ≤ cursor.raw.index
+  pub before : id_at cursor.raw.bucket index < read_to cursor.raw
   pub left : count_ones rest + 1 ≡ count_ones cursor.rest
   pub flags : AreFlagsAt (with_slot c cursor.raw.bucket index None) cursor.raw.bucket index rest
   pub on : IsOwnerWalk (with_slot c cursor.raw.bucket index None) (past cursor rest)
@@ -139,6 +140,7 @@ module _ {V : Type 0} where
             (λ (from : given ≤ id_at b i). from)
             (cases_lt (id_at b i) given);
         read = omega arith;
+        before = omega arith;
         left = left;
         flags = flags;
         on = record { at = on; counted = omega (arith, left, one, counted); few = omega (arith, left, one, counted, few); fits = walks.fits };

@@ -7,7 +7,7 @@ ghost use Rattle.thread_local_model.specs.Buckets.{Contents, row, stands, values
 ghost use Rattle.thread_local_model.specs.Rows.{value_in, with_slot};
 ghost use Rattle.thread_local_model.specs.Walk.{walk, paired};
 ghost use Rattle.thread_local_owner_walk.specs.Owner.{NoneBelow};
-ghost use Rattle.thread_local_owner_walk.specs.Cursor.{next_bucket, read_to, values_left, AreFlagsAt, IsAt, IsOwnerWalk};
+ghost use Rattle.thread_local_owner_walk.specs.Cursor.{next_bucket, read_to, slot_at, values_left, AreFlagsAt, IsAt, IsOwnerWalk};
 
 use thread_local_thread_id::BUCKETS;
 
@@ -205,7 +205,7 @@ impl OwnerCursor {
     /// Reads the next flags that aren't 0, where the values of those read last are all passed. A
     /// value must be left.
     #[inline]
-    fn read_on<P: FlagSource>(&mut self, source: &mut P)
+    pub fn read_on<P: FlagSource>(&mut self, source: &mut P)
         requires walk { IsOwnerWalk (P.contents source.old) self.old }
         requires ahead { P.given source.old ≤ read_to self.old.raw }
         requires passed { self.old.rest ≡ 0 }
@@ -228,7 +228,7 @@ impl OwnerCursor {
 
     /// Reads on where no flag is at hand.
     #[inline]
-    fn reach<P: FlagSource>(&mut self, source: &mut P)
+    pub fn reach<P: FlagSource>(&mut self, source: &mut P)
         requires walk { IsOwnerWalk (P.contents source.old) self.old }
         requires ahead { P.given source.old ≤ read_to self.old.raw }
         requires some { 0 < values_left self.old }
@@ -243,40 +243,44 @@ impl OwnerCursor {
         }
     }
 
-    /// Passes the next value, of which there must be one, and returns its index in the bucket
-    /// `raw.bucket`. The caller takes the value out of the source.
+    /// Passes the next value, whose flag must be at hand, and returns its slot's number in the
+    /// chunk. The caller takes the value out of the source.
     #[inline]
     pub fn pass<P: FlagSource>(&mut self, source: &mut P) -> usize
         requires walk { IsOwnerWalk (P.contents source.old) self.old }
-        requires ahead { P.given source.old ≤ read_to self.old.raw }
         requires given { NoneBelow (values (P.contents source.old)) (P.given source.old) }
-        requires some { 0 < values_left self.old }
+        requires some { 0 < self.old.rest }
         ensures same { source.new ≡ source.old }
-        ensures in_bucket { result < length (row (P.contents source.old) self.new.raw.bucket) }
-        ensures published { IsSome (value_in (P.contents source.old) self.new.raw.bucket result) }
-        ensures ahead { P.given source.old ≤ id_at self.new.raw.bucket result }
-        ensures read { id_at self.new.raw.bucket result < read_to self.new.raw }
+        ensures raw { self.new.raw ≡ self.old.raw }
+        ensures read { 64 ≤ self.new.raw.index }
+        ensures in_bucket { slot_at self.new.raw result
+            < length (row (P.contents source.old) self.new.raw.bucket) }
+        ensures published { IsSome
+            (value_in (P.contents source.old) self.new.raw.bucket (slot_at self.new.raw result)) }
+        ensures ahead { P.given source.old ≤ id_at self.new.raw.bucket (slot_at self.new.raw result) }
+        ensures before { id_at self.new.raw.bucket (slot_at self.new.raw result) < read_to self.new.raw }
         ensures left { values_left self.new + 1 ≡ values_left self.old }
 
         // What is left is a walk of the contents without the value, and the value comes first.
         ensures flags { AreFlagsAt
-            (with_slot (P.contents source.old) self.new.raw.bucket result None)
-            self.new.raw.bucket result self.new.rest }
+            (with_slot (P.contents source.old) self.new.raw.bucket (slot_at self.new.raw result) None)
+            self.new.raw.bucket (slot_at self.new.raw result) self.new.rest }
         ensures walk { IsOwnerWalk
-            (with_slot (P.contents source.old) self.new.raw.bucket result None)
+            (with_slot (P.contents source.old) self.new.raw.bucket (slot_at self.new.raw result) None)
             self.new }
         ensures behind { NoneBelow
-            (values (with_slot (P.contents source.old) self.new.raw.bucket result None))
-            (id_at self.new.raw.bucket result + 1) }
+            (values (with_slot (P.contents source.old) self.new.raw.bucket (slot_at self.new.raw result) None))
+            (id_at self.new.raw.bucket (slot_at self.new.raw result) + 1) }
         ensures first { (v : P.Value)
-            → value_in (P.contents source.old) self.new.raw.bucket result ≡ Some v
+            → value_in (P.contents source.old) self.new.raw.bucket (slot_at self.new.raw result) ≡ Some v
             → walk (paired (values (P.contents source.old)))
-            ≡ (id_at self.new.raw.bucket result, v)
-            ∷ walk (paired (values (with_slot (P.contents source.old) self.new.raw.bucket result None))) }
+            ≡ (id_at self.new.raw.bucket (slot_at self.new.raw result), v)
+            ∷ walk (paired (values
+            (with_slot (P.contents source.old) self.new.raw.bucket (slot_at self.new.raw result) None))) }
     {
-        self.reach(source);
-        let bit = self.rest.trailing_zeros() as usize;
+        let _ = source;
+        let place = self.rest.trailing_zeros() as usize;
         self.rest = without_first(self.rest);
-        self.raw.index - 64 + bit
+        place
     }
 }

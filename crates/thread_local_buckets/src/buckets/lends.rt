@@ -18,6 +18,7 @@ impl<T> Buckets<T> {
         let pointers = &raw mut self.pointers;
         Loan {
             pointers: pointers as *const *mut Chunk<T>,
+            values: pointers as *mut T,
             marker: PhantomData,
         }
     }

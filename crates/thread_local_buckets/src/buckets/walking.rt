@@ -14,6 +14,7 @@ impl<T> Buckets<T> {
     pub(crate) fn begin_walk(&mut self) -> OwnerCursor
         ensures same { self.new ≡ self.old }
         ensures walk { IsOwnerWalk self.old.contents result }
+        ensures rest { result.rest ≡ 0 }
         ensures ends { values_left result ≡ 0 → emptied self.old.contents ≡ self.old.contents }
     {
         OwnerCursor::new(self.pointers.count_values())
@@ -31,7 +32,9 @@ impl<T> Buckets<T> {
         ensures ends { values_left cursor.new ≡ 0 → emptied self.new.contents ≡ self.new.contents }
         ensures leaves { owned_emptied self.new ≡ owned_emptied self.old }
     {
-        let index = cursor.pass(&mut self.pointers);
+        cursor.reach(&mut self.pointers);
+        let place = cursor.pass(&mut self.pointers);
+        let index = cursor.raw.index - 64 + place;
         let value = self
             .pointers
             .take_and_store(cursor.raw.bucket, index, cursor.rest);

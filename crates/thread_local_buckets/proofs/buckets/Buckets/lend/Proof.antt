@@ -87,18 +87,18 @@ lend_spec 𝓤 𝓛 𝓜 𝓡 wired X L =
     qed 𝓛 (((‵ (flft κ q) ⊛ ‵ others) ⊛ ‵ (owns (types_at En.signature.params κs) a y.0.4)) ∷ raw ((c κs a).requires gh) ∷ []) ∵
     split ! $ split ! $ move ! (2 ∷ []) $ fsplit ! $ fsplit3 ! $ keep ! (1 ∷ 2 ∷ 4 ∷ 5 ∷ []) $
     enter ! 𝓣.C 𝓣.Λ fn (vptr b o ∷ []) Post $ alloc_all ! (λ l. pass_all ! refl ((tt, tt), tt) $
-    sets ! (addr ! (through ! refl (fld ! refl (stop !)))) refl (tt, tt) $ sets ! (of_opd ! (get ! refl)) refl (tt, tt) $
-    sets ! (agg ! (no_more !)) refl (tt, tt) $ sets ! (agg ! (and_then ! (get ! refl) (and_then ! (get ! refl) (no_more !)))) refl (tt, (tt, (tt, tt))) $
+    sets ! (addr ! (through ! refl (fld ! refl (stop !)))) refl (tt, tt) $ sets ! (of_opd ! (get ! refl)) refl (tt, tt) $ sets ! (of_opd ! (get ! refl)) refl (tt, tt) $
+    sets ! (agg ! (no_more !)) refl (tt, tt) $ sets ! (agg ! (and_then ! (get ! refl) (and_then ! (get ! refl) (and_then ! (get ! refl) (no_more !))))) refl (tt, (tt, (tt, (tt, tt)))) $
     open_ref ! tt (mem Owner) $
     use1 𝓛 (some (λ (x : (d : (Inside 𝓛 X L b o t).Denot) × ((view 𝓛 X L b o t d ≡ t) × good 𝓛 X L b o t d)). ‵ (part_at (Table 𝓛 X L b o t) full_share x.0.pointers b (o + 0)) ⊛ raw (Apart 𝓛 X L b o t x.0))) (opens 𝓛 X L b o t) $ pick ! (λ x. split ! $
     -- [the pointers; what is apart; the owner's open borrow, in three entries; the other tokens]
     let d = x.0 in let held : Contents R.Denot = d.pointers in let code_of = Owner.coded.code t in let p = block_ptr b (o + 0) in
     move ! (2 ∷ 3 ∷ 4 ∷ 0 ∷ 1 ∷ []) $ group ! 5 $
-    use1 𝓛 (later (given (IsTable held) (some (λ (ν : GName). ‵ (loan_owns κ R p ν held 0) ⊛ ‵ (flft κ q) ⊛ ‵ (follows Owner Owner γ ν (owned_refilled t))))))
+    use1 𝓛 (later (given (IsTable held) (some (λ (ν : GName). ‵ (loan_owns κ R p p ν held 0 63 0) ⊛ ‵ (flft κ q) ⊛ ‵ (follows Owner Owner γ ν (owned_refilled t))))))
     (lends 𝓛 X L b (o + 0) held Owner b o (owned_refilled t) (Apart 𝓛 X L b o t d) (shuts 𝓛 X L b o t d x.1.0 x.1.1) κ q γ code_of code_of) $ await ! tt $ learn ! (λ table. pick ! (λ ν. split3 ! $
     -- [what the loan owns; the token; what follows; the other tokens]
     move ! (1 ∷ 3 ∷ []) $ join ! $ use0 𝓛 (raw (fact 𝓤 (0 ≡ 0))) (fact_i 𝓤 (0 ≡ 0) (emp 𝓤) refl) $
     use0 𝓛 (raw (fact 𝓤 (held ≡ t.contents))) (fact_i 𝓤 (held ≡ t.contents) (emp 𝓤) (ap (λ (s : Owned R.Denot). s.contents) x.1.0)) $ join ! $ move ! (3 ∷ 0 ∷ []) $ join ! $ move ! (2 ∷ []) $
-    let h : Lo.Denot = record { pointers = p; marker = record {}; name = ν; contents = held; given = 0 } in
-    use0 𝓛 (‵ ((FieldsType ℓ R).own_val (p, (tt, tt)) (loan_val p ∷ []))) (made ℓ R 𝓛 p) $ fjoin ! $ nothing ! $ nothing ! $ fjoin ! $
-    returns ! (look_at ! 0 refl) $ free_all ! refl $ keep ! (3 ∷ 0 ∷ 1 ∷ 2 ∷ []) $ by ! (leaves 𝓛 En hs c y (loan_val p) h (tt, tt) (tt, tt)))))))
+    let h : Lo.Denot = record { pointers = p; values = p; marker = record {}; name = ν; contents = held; given = 0; bucket = 63; first = 0 } in
+    use0 𝓛 (‵ ((FieldsType ℓ R).own_val (p, (p, (tt, tt))) (loan_val p p ∷ []))) (made ℓ R 𝓛 p p) $ fjoin ! $ nothing ! $ nothing ! $ fjoin ! $
+    returns ! (look_at ! 0 refl) $ free_all ! refl $ keep ! (3 ∷ 0 ∷ 1 ∷ 2 ∷ []) $ by ! (leaves 𝓛 En hs c y (loan_val p p) h (tt, tt) (tt, tt)))))))

@@ -3,7 +3,7 @@ use Rattle.thread_local_model.specs.Buckets.{Contents, IsTable}
 use Rattle.thread_local_model.specs.Owned.{Owned}
 use Rattle.thread_local_model.specs.Rows.{with_slot}
 use Rattle.thread_local_owner_walk.specs.Owner.{emptied}
-use Rattle.thread_local_owner_walk.specs.Cursor.{values_left, IsOwnerWalk}
+use Rattle.thread_local_owner_walk.specs.Cursor.{values_left, slot_at, IsOwnerWalk}
 use Rattle.thread_local_owner_walk.specs.declared.cursor.OwnerCursor.{OwnerCursor}
 use Rattle.thread_local_owner_walk.proofs.RowLaws.{IsTable-with_slot}
 use Rattle.thread_local_owner_walk.proofs.EmptyingLaws.{emptied-with_slot, emptied-none}
@@ -23,10 +23,13 @@ takes c d e b i cursor t same after on =
     let P : Contents _ → Type 0 = λ w. Takes c w cursor in
     subst P (sym now) (record { leaves = emptied-with_slot c b i None; ends = λ none. emptied-none taken (IsTable-with_slot c b i None t) (sym on.counted ∙ none) })
 
-it_takes : (g : _) (c : goal.After-take_and_store-value g) → Takes c.self.inside.pointers c.take_and_store-value.new.self c.pass-index.new.self
+it_takes : (g : _) (c : goal.After-take_and_store-value g) → Takes c.self.inside.pointers c.take_and_store-value.new.self c.pass-place.new.self
 it_takes g c =
-    takes c.self.inside.pointers c.pass-index.new.source c.take_and_store-value.new.self c.pass-index.new.self.raw.bucket c.pass-index.result c.pass-index.new.self
-    c.self.invariant.table c.pass-index.ensures.same c.take_and_store-value.ensures.after c.pass-index.ensures.walk
+    let cursor = c.pass-place.new.self in
+    let i = slot_at cursor.raw c.pass-place.result in
+    let P : Contents g.row.T.Denot → Type 0 = λ w. IsOwnerWalk (with_slot w cursor.raw.bucket i None) cursor in
+    takes c.self.inside.pointers c.pass-place.new.source c.take_and_store-value.new.self cursor.raw.bucket i cursor
+    c.self.invariant.table (c.pass-place.ensures.same ∙ c.reach.ensures.same) c.take_and_store-value.ensures.after (subst P c.reach.ensures.same c.pass-place.ensures.walk)
 
 pub returns-clause-ends : goal.returns-clause-ends
 returns-clause-ends g c = (it_takes g c).ends

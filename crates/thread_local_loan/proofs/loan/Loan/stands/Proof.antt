@@ -1,12 +1,12 @@
 -- `stands` reads a bucket's pointer.
-use Rattle.thread_local_raw.proofs.Names.{drop, apply∗, sem, ◌≡◌, ℕ, ◌+◌, ◌*◌, ◌^◌, ◌<◌, List, [], ◌∷◌, sym, refl, ap, ◌∙◌, subst, arith, w64, Bool, a_type, named, Val, vint, vptr, inst_fn, full_share, SProp, emp, Fml, ftrue, fsep, flft, ‵, raw, ◌⊛◌, at_ret, ◌$◌, ◌∵◌, !, qed, by, move, keep, use0, use1, use2, split, join, fsplit, fsplit3, fjoin, fjoin3, fpick, fpack, rewrite, feq_i, stop, fld, load, lit, of_opd, bin, un, first, blocks, exec, returns, enter, look, alloc_all, pass_all, free_all, look_at, get, through, sets, sets_last, env, sub, look_in, whole, bor_open, obor_close, tables, fact_i, yes, RattleType, owns, types_at, plain, named_lft, Ptr, block_ptr, block_of, count_of, at_block, InBlock, nothing, heard, opens, closes, peeks, Is, shows, cell_at, param, layouts, usize, mut_vals, mut_Tells, uint_vals, uint_Tells, Stays, stay_dropped, stay_ref, walk_of, Goes-dropped, Goes-ref, proved, leaves}
+use Rattle.thread_local_raw.proofs.Names.{drop, apply∗, sem, ◌≡◌, ℕ, ◌+◌, ◌*◌, ◌^◌, ◌<◌, List, [], ◌∷◌, sym, refl, ap, ◌∙◌, subst, arith, w64, Bool, a_type, named, Val, vint, vptr, inst_fn, full_share, SProp, emp, Fml, ftrue, fsep, flft, ‵, raw, ◌⊛◌, at_ret, ◌$◌, ◌∵◌, !, qed, by, move, keep, use0, use1, use2, split, join, fsplit, fsplit3, fjoin, fjoin3, fpick, fpack, rewrite, feq_i, stop, fld, load, lit, of_opd, bin, un, first, blocks, exec, returns, enter, look, alloc_all, pass_all, free_all, look_at, get, through, sets, sets_last, env, sub, look_in, whole, bor_open, obor_close, tables, fact_i, yes, RattleType, owns, types_at, plain, named_lft, Ptr, block_ptr, block_of, count_of, at_block, nothing, heard, opens, closes, peeks, Is, shows, cell_at, param, layouts, usize, mut_vals, mut_Tells, uint_vals, uint_Tells, Stays, stay_dropped, stay_ref, walk_of, Goes-dropped, Goes-ref, proved, leaves}
 use contract.Monad.{fact}
 use mir.Val.{vbool, vnull, ptr_same}
 use denote.RawPtr.{ptr_val}
 use Rattle.std.specs.Prelude.{not, nat_lt}
 use Rattle.std.proofs.alloc.Shapes.{after}
 use Rattle.thread_local_model.specs.Buckets.{row, IsTable, stands}
-use Rattle.thread_local_loan.specs.Lent.{Lending, lending, framed, frames, PointsTo, IsLeft}
+use Rattle.thread_local_loan.specs.Lent.{Lending, Known, lending, framed, frames, PointsTo}
 use Rattle.thread_local_loan.specs.contracts.loan.Loan as loan
 use Rattle.thread_local_loan.specs.contracts.loan.Loan.stands.{ended, clauses}
 use Rattle.thread_local_loan.specs.contracts.loan.Loan.stands.Key.{name as #self}
@@ -32,11 +32,11 @@ stands_spec 𝓤 𝓛 𝓜 𝓡 wired X L =
     qed 𝓛 (((‵ (flft κs.0 qs.0) ⊛ ‵ others) ⊛ ‵ (owns (types_at En.signature.params κs) a y.0.4)) ∷ raw (fact 𝓤 _) ∷ raw (fact 𝓤 (k < 63)) ∷ []) ∵
     keep ! (2 ∷ 0 ∷ []) $ heard ! (k < 63) (λ small. split ! $ split ! $ move ! (2 ∷ []) $ fsplit ! $ fsplit3 ! $ keep ! (1 ∷ 2 ∷ 4 ∷ 5 ∷ []) $
     enter ! 𝓣.C 𝓣.Λ fn (vptr b o ∷ vint w64 k ∷ []) Post $ alloc_all ! (λ l. pass_all ! refl ((tt, tt), ((tt, record { fits = are.1.0.1 }), tt)) $ let Ev = env fn.locals l in
-    opens ! tt Lo b o (λ ts. move ! (1 ∷ []) $ fsplit ! $ peeks ! D (Is D) (shows 𝓛 D) (h.pointers, (tt, tt)) ts (λ is_so. move ! (1 ∷ []) $ fpick ! (λ s. fsplit ! $ fpick ! (λ so. drop ! $ fsplit ! $
+    opens ! tt Lo b o (λ ts. move ! (1 ∷ []) $ fsplit ! $ peeks ! D (Is D) (shows 𝓛 D) (h.pointers, (h.values, (tt, tt))) ts (λ is_so. move ! (1 ∷ []) $ fpick ! (λ s. fsplit ! $ fpick ! (λ so. drop ! $ fsplit ! $
     -- [the frames; the values; the fields; the loan's cell; its open borrow, in three entries; the
     -- other tokens]
     let at : h.pointers ≡ block_ptr (block_of h.pointers) (count_of h.pointers) = at_block h.pointers so.0 in let wb : ℕ = block_of h.pointers in let wo : ℕ = count_of h.pointers in let e : ℕ = k * 8 + wo in
-    let rs = s.1.rows in let p : Ptr = pointer s.0 k in let r = in_row rs k in let ev : ts ≡ loan_val (block_ptr wb wo) ∷ [] = told ℓ R h.pointers ts is_so ∙ ap (λ (q : Ptr). loan_val q ∷ []) at in
+    let rs = s.1.rows in let p : Ptr = pointer s.0 k in let r = in_row rs k in let ev : ts ≡ loan_val (block_ptr wb wo) h.values ∷ [] = told ℓ R h.pointers h.values ts is_so ∙ ap (λ (q : Ptr). loan_val q h.values ∷ []) at in
     move ! (7 ∷ []) $ fsplit ! $ move ! (2 ∷ 0 ∷ []) $ bor_open ! tt $ move ! (1 ∷ []) $
     use1 𝓛 (‵ (framed R wb e p r) ⊛ raw (Frame 𝓛 R wb wo s.0 rs k e)) (frame_out 𝓛 R wb s.0 rs k wo e refl (subst (λ n. k < n) (sym so.1.rows) small)) $ split ! $ fsplit3 ! $ move ! (1 ∷ []) $ fpick ! (λ lead. drop ! $
     -- [the pointer; the flags; the way back; the open frames; a token; the values; the fields; the
@@ -51,8 +51,8 @@ stands_spec 𝓤 𝓛 𝓜 𝓡 wired X L =
     sets ! (bin ! (get ! refl) (lit ! tt) (testable R p r lead)) refl (tt, tt) $
     sets ! (un ! (get ! refl) tt) refl (tt, tt) $
     nothing ! $ fpack ! (PointsTo R p r) (λ _. ftrue) lead $ move ! (1 ∷ 0 ∷ 2 ∷ []) $ fjoin3 ! $ use2 𝓛 (‵ (frames R wb wo s.0 rs)) (apply∗ 𝓤 (sem 𝓛 (framed R wb e p r)) (sem 𝓛 (frames R wb wo s.0 rs))) $
-    move ! (1 ∷ 0 ∷ []) $ obor_close ! tt $ move ! (0 ∷ 3 ∷ []) $ fjoin ! $ nothing ! $ fpack ! (InBlock h.pointers × IsLeft s.1 h.contents h.given) (λ _. ftrue) so $ fjoin ! $
-    fpack ! (Lending R) (lending R ℓ.lft h.pointers h.name h.contents h.given) s $
+    move ! (1 ∷ 0 ∷ []) $ obor_close ! tt $ move ! (0 ∷ 3 ∷ []) $ fjoin ! $ nothing ! $ fpack ! (Known R h.pointers h.values h.contents h.given h.bucket h.first s) (λ _. ftrue) so $ fjoin ! $
+    fpack ! (Lending R) (lending R ℓ.lft h.pointers h.values h.name h.contents h.given h.bucket h.first) s $
     -- [what the loan owns; two tokens; the fields; the loan's cell; its open borrow, in three
     -- entries]
     move ! (3 ∷ 0 ∷ []) $ fjoin ! $ rewrite ! 3 (λ (ws : List Val). ‵ (cell_at full_share Lo.mir ws b o)) (sym ev) refl $ move ! (3 ∷ 0 ∷ 4 ∷ 5 ∷ 6 ∷ []) $ closes ! tt Lo h ts b o $
