@@ -123,17 +123,18 @@ impl<T> BucketPointers<T> {
     }
 
     /// Stores `flags` for a slot's chunk, and then moves the slot's value out. `flags` are the
-    /// chunk's, with this slot's cleared.
+    /// chunk's, with this slot's cleared. The caller passes the bucket's size.
     #[inline]
-    pub fn take_and_store(&mut self, bucket: usize, index: usize, flags: u64) -> T
+    pub fn take_and_store(&mut self, bucket: usize, size: usize, index: usize, flags: u64) -> T
         requires in_table { bucket < 63 }
+        requires size { size ≡ 2 ^ bucket }
         requires in_bucket { index < length (row self.old bucket) }
         requires published { IsSome (value_in self.old bucket index) }
         requires flags { AreFlagsAt (with_slot self.old bucket index None) bucket index flags }
         ensures value { value_in self.old bucket index ≡ Some result }
         ensures after { self.new ≡ with_slot self.old bucket index None }
     {
-        let word = flag_word::<T>(bucket_size(bucket), index / 64);
+        let word = flag_word::<T>(size, index / 64);
         self.pointers
             .pointer_mut(bucket)
             .take_and_store(index, word, flags)

@@ -35,10 +35,11 @@ impl<T> Buckets<T> {
         cursor.reach(&mut self.pointers);
         let place = cursor.pass(&mut self.pointers);
         let index = cursor.raw.index - 64 + place;
+        let size = cursor.raw.bucket_size;
         let value = self
             .pointers
-            .take_and_store(cursor.raw.bucket, index, cursor.rest);
-        (index + (cursor.raw.bucket_size - 1), value)
+            .take_and_store(cursor.raw.bucket, size, index, cursor.rest);
+        (index + (size - 1), value)
     }
 
     /// Drops every value where a walk has some left, and keeps every bucket.

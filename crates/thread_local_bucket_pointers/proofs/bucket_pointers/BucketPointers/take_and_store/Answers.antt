@@ -22,4 +22,4 @@ returns-clause-after g c =
 
 pub take_and_store-requires-clause-word : goal.take_and_store-requires-clause-word
 take_and_store-requires-clause-word g c = c.flag_word-word.ensures
-    ∙ ap (λ (n : ℕ). word_number (T-row g.row.T) n (c.args.index / 64)) (size_of_pointer c.self.inside.pointers c.args.self.now c.args.bucket c.args.index c.bucket_size.result c.pointer_mut.result.now c.self.view_is c.self.invariant c.pointer_mut.ensures.value c.requires.in_bucket c.bucket_size.ensures)
+    ∙ ap (λ (n : ℕ). word_number (T-row g.row.T) n (c.args.index / 64)) (size_of_pointer c.self.inside.pointers c.args.self.now c.args.bucket c.args.index c.args.size c.pointer_mut.result.now c.self.view_is c.self.invariant c.pointer_mut.ensures.value c.requires.in_bucket c.requires.size)
