@@ -1,31 +1,36 @@
 -- Contents that are being cleared, bucket by bucket.
-use Rattle.std.proofs.Common.{◌≡◌, ◌≢◌, ℕ, ◌+◌, ◌^◌, ◌<◌, ◌≤◌, ◌⊎◌, List, length, Option, sym, ◌∙◌, subst, arith, ⊎_elim}
+use Rattle.std.proofs.Common.{◌≡◌, ◌≢◌, ℕ, ◌+◌, ◌^◌, ◌<◌, ◌≤◌, ◌⊎◌, List, length, Option, refl, sym, ◌∙◌, subst, arith, ⊎_elim}
 use Rattle.std.proofs.lemmas.Bool.{cases_lt}
 use Rattle.thread_local_model.specs.Buckets.{Contents, row, IsTable}
 use Rattle.thread_local_model.specs.Rows.{with_row}
 use Rattle.thread_local_owner_walk.specs.Owner.{cleared_row}
 use Rattle.thread_local_owner_walk.proofs.RowLaws.{row-with_row-same, row-with_row-other, IsTable-with_row}
+use Rattle.thread_local_bucket_pointers.specs.Clearing.{AreCleared}
 
--- the first n buckets are cleared, and the others are unchanged
-pub record IsCleared {V : Type 0} (first now : Contents V) (reserved n : ℕ) : Type 0 where
-  pub table : IsTable now
-  pub cleared : (k : ℕ) → k < n → row now k ≡ cleared_row reserved k
-  pub rest : (k : ℕ) → n ≤ k → row now k ≡ row first k
+-- no bucket is cleared yet
+pub AreCleared-none : {V : Type 0} (c : Contents V) (reserved first : ℕ) → IsTable c → AreCleared c c reserved first first
+AreCleared-none c reserved first table = record {
+  table = table;
+  cleared = λ k low high. absurd (omega arith);
+  before = λ k low. refl;
+  behind = λ k high. refl;
+}
 
 -- a further bucket is cleared
-pub IsCleared-more : {V : Type 0} (first now new : Contents V) (reserved b : ℕ) (r : List (Option V)) → IsCleared first now reserved b → b < 63
-    → (length r ≡ 0) ⊎ (length r ≡ 2 ^ b) → r ≡ cleared_row reserved b → new ≡ with_row now b r → IsCleared first new reserved (b + 1)
-IsCleared-more {V = V} first now new reserved b r h low long is made =
+pub AreCleared-more : {V : Type 0} (old now new : Contents V) (reserved first b : ℕ) (r : List (Option V)) → AreCleared old now reserved first b → first ≤ b → b < 63
+    → (length r ≡ 0) ⊎ (length r ≡ 2 ^ b) → r ≡ cleared_row reserved b → new ≡ with_row now b r → AreCleared old new reserved first (b + 1)
+AreCleared-more {V = V} old now new reserved first b r h start low long is made =
     let within : b < length now.rows = omega (arith, h.table.buckets) in
-    subst (λ (c : Contents V). IsCleared first c reserved (b + 1)) (sym made) (record {
+    subst (λ (c : Contents V). AreCleared old c reserved first (b + 1)) (sym made) (record {
       table = IsTable-with_row now b r h.table long;
-      cleared = λ k near.
+      cleared = λ k above near.
           ⊎_elim
-          (λ (before : k < b). let apart : k ≢ b = omega arith in row-with_row-other now b k r apart ∙ h.cleared k before)
+          (λ (before : k < b). let apart : k ≢ b = omega arith in row-with_row-other now b k r apart ∙ h.cleared k above before)
           (λ (behind : b ≤ k).
           let here : b ≡ k = omega arith in
           let P : ℕ → Type 0 = λ j. row (with_row now b r) j ≡ cleared_row reserved j in
           subst P here (row-with_row-same now b r within ∙ is))
           (cases_lt k b);
-      rest = λ k behind. let apart : k ≢ b = omega arith in row-with_row-other now b k r apart ∙ h.rest k (omega arith);
+      before = λ k below. let apart : k ≢ b = omega arith in row-with_row-other now b k r apart ∙ h.before k below;
+      behind = λ k behind. let apart : k ≢ b = omega arith in row-with_row-other now b k r apart ∙ h.behind k (omega arith);
     })

@@ -239,6 +239,8 @@ impl<T: Sync> Shared<T> {
 }
 
 impl<T: Drop> Drop for Shared<T> {
+    // Where the call isn't inlined, the caller copies the pointers once more.
+    #[inline(always)]
     fn drop(self) {
         drop(self.into_buckets());
     }
