@@ -362,14 +362,14 @@ fn by_threads(threads: u64, operations: u64, work: impl Fn(u64) + Sync) -> Round
 
 fn get_hit_by(threads: u64) -> Round {
     const FINDS: u64 = 10_000_000;
-    let tables = [ThreadLocal::new(), ThreadLocal::new()];
+    let tables: [ThreadLocal<Padded>; 2] = [ThreadLocal::new(), ThreadLocal::new()];
     by_threads(threads, FINDS, |_| {
         for table in &tables {
-            table.get_or(|| Cell::new(0));
+            table.get_or_default();
         }
         for number in 0..FINDS {
-            if let Some(count) = tables[(number & 1) as usize].get() {
-                add_one(count);
+            if let Some(counter) = tables[(number & 1) as usize].get() {
+                add_one(counter.cell());
             }
         }
     })

@@ -3,15 +3,17 @@
 
 use crate::table::{find_by_two, publish_all, taken};
 use crate::values::{fill, first, into_iter_of_many, iter_mut, sum_below};
-use crate::workers::add;
+use crate::workers::{Counter, add};
 use crate::{Round, least_of};
 use std::alloc::{AllocError, Global};
 use std::cell::Cell;
+use std::default::MadeWith;
 use std::io::Print;
 use std::sync::Wait;
 use std::thread::Threads;
 use std::time::{Clock, Instant};
 use std::{io, thread};
+use thread_local::Padded;
 use thread_local_judged::Judge;
 use thread_local_table::{Local, ThreadLocal};
 
@@ -58,10 +60,27 @@ impl Work {
         }
     }
 
-    /// The share of one of so many threads.
-    fn share<R: Clock + Wait>(
+    /// How long so many threads take. Where each finds its values again and again, no two of these
+    /// share a line of the cache: the time is that of the calls, and not of lines that are handed on.
+    fn timed<R: Clock + Threads + Wait + Sync>(
         self,
-        table: &ThreadLocal<Cell<u64>>,
+        rt: &R,
+        alloc: Global,
+        threads: u64,
+    ) -> io::Result<Round> {
+        Cell::<u64>::judge();
+        if let Work::GetHit = self {
+            let table = ThreadLocal::<Padded<Cell<u64>>>::made_with(alloc);
+            return by_threads(&table, rt, self, threads);
+        }
+        let table = ThreadLocal::<Cell<u64>>::new(alloc);
+        by_threads(&table, rt, self, threads)
+    }
+
+    /// The share of one of so many threads.
+    fn share<T: Counter, R: Clock + Wait>(
+        self,
+        table: &ThreadLocal<T>,
         rt: &R,
         thread: u64,
         threads: u64,
@@ -75,7 +94,7 @@ impl Work {
 }
 
 /// Finds the values of two `Local`s.
-fn find_all<R: Clock + Wait>(table: &ThreadLocal<Cell<u64>>, rt: &R) -> Result<(), AllocError> {
+fn find_all<T: Counter, R: Clock + Wait>(table: &ThreadLocal<T>, rt: &R) -> Result<(), AllocError> {
     match find_by_two(table, rt, FINDS, 1) {
         Ok(_) => Ok(()),
         Err(_) => Err(AllocError),
@@ -83,7 +102,7 @@ fn find_all<R: Clock + Wait>(table: &ThreadLocal<Cell<u64>>, rt: &R) -> Result<(
 }
 
 /// Takes `Local`s of a table and drops them.
-fn take_and_drop<R: Wait>(table: &ThreadLocal<Cell<u64>>, rt: &R) -> Result<(), AllocError> {
+fn take_and_drop<T, R: Wait>(table: &ThreadLocal<T>, rt: &R) -> Result<(), AllocError> {
     for _ in 0..PAIRS {
         drop(taken(table, rt)?);
     }
@@ -91,20 +110,16 @@ fn take_and_drop<R: Wait>(table: &ThreadLocal<Cell<u64>>, rt: &R) -> Result<(), 
 }
 
 /// So many threads work on one table. An operation is one of each thread, but of a tally one number.
-fn by_threads<R: Clock + Threads + Wait + Sync>(
-    rt: &R,
-    alloc: Global,
-    work: Work,
-    threads: u64,
-) -> io::Result<Round> {
-    Cell::<u64>::judge();
-    let table = ThreadLocal::new(alloc);
-    let shared = &table;
+fn by_threads<T, R>(table: &ThreadLocal<T>, rt: &R, work: Work, threads: u64) -> io::Result<Round>
+where
+    T: Counter + Send,
+    R: Clock + Threads + Wait + Sync,
+{
     let start = Instant::now(rt)?;
     let started = thread::scope(thread::scope_env(), rt, |scope| {
         for thread in 0..threads {
             if scope
-                .spawn(move || work.share(shared, rt, thread, threads))
+                .spawn(move || work.share(table, rt, thread, threads))
                 .is_err()
             {
                 return false;
@@ -209,7 +224,7 @@ pub(crate) fn run<R: Clock + Threads + Wait + Sync + Print>(
 ) -> io::Result<()> {
     for threads in [1u32, 2, 4] {
         for work in Work::ALL {
-            let time = least_of(rounds, || by_threads(rt, alloc, work, u64::from(threads)))?;
+            let time = least_of(rounds, || work.timed(rt, alloc, u64::from(threads)))?;
             report(rt, work.name(), threads, time)?;
         }
         let time = least_of(rounds, || publish_by(rt, alloc, threads))?;

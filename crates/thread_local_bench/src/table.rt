@@ -1,6 +1,7 @@
 //! A table that threads share: its `Local`s, and the values that they find and publish.
 
 use crate::Round;
+use crate::workers::Counter;
 use std::alloc::{AllocError, Global};
 use std::cell::Cell;
 use std::io;
@@ -19,14 +20,14 @@ pub(crate) fn taken<'a, T, R: Wait>(
 }
 
 /// Two `Local`s of a table, each with a count of 0.
-fn two_published<'a, R: Wait>(
-    table: &'a ThreadLocal<Cell<u64>>,
+fn two_published<'a, T: Counter, R: Wait>(
+    table: &'a ThreadLocal<T>,
     rt: &'a R,
-) -> Result<(Local<'a, Cell<u64>, R>, Local<'a, Cell<u64>, R>), AllocError> {
+) -> Result<(Local<'a, T, R>, Local<'a, T, R>), AllocError> {
     let mut first = taken(table, rt)?;
     let mut second = taken(table, rt)?;
-    first.get_or(|| Cell::new(0))?;
-    second.get_or(|| Cell::new(0))?;
+    first.get_or(|| T::zero())?;
+    second.get_or(|| T::zero())?;
     Ok((first, second))
 }
 
@@ -45,8 +46,8 @@ fn counted(counts: ThreadLocal<Cell<u64>>, operations: u64, time: Duration) -> R
 /// Finds the value of one of two `Local`s and adds to it, `times` times, and answers how long that
 /// took. Which of the two is asked goes by the bits of the look's number that are in the mask, and so
 /// is known at run time alone: no compiler finds it once for all.
-pub(crate) fn find_by_two<R: Clock + Wait>(
-    table: &ThreadLocal<Cell<u64>>,
+pub(crate) fn find_by_two<T: Counter, R: Clock + Wait>(
+    table: &ThreadLocal<T>,
     rt: &R,
     times: u64,
     mask: u64,
@@ -55,7 +56,8 @@ pub(crate) fn find_by_two<R: Clock + Wait>(
     let start = Instant::now(rt)?;
     for number in 0..times {
         let local = if number & mask == 0 { &first } else { &second };
-        if let Some(count) = local.get() {
+        if let Some(counter) = local.get() {
+            let count = counter.cell();
             count.set(count.get().wrapping_add(1));
         }
     }

@@ -12,17 +12,18 @@ use thread_local_judged::Judge;
 use thread_local_table::ThreadLocal;
 use thread_local_thread_id::LocalError;
 
-/// Adds each `workers`-th number below `end`, from the worker's own on, to the worker's cell, where
-/// `end` is a multiple of `workers`.
-pub(crate) fn add<R: Wait>(
-    table: &ThreadLocal<Cell<u64>>,
+/// Adds each `workers`-th number below `end`, from the worker's own on, to the worker's counter,
+/// where `end` is a multiple of `workers`.
+pub(crate) fn add<T: Counter, R: Wait>(
+    table: &ThreadLocal<T>,
     rt: &R,
     worker: u64,
     workers: u64,
     end: u64,
 ) -> Result<(), LocalError> {
     let mut local = table.local(rt)?;
-    if let Ok(sum) = local.get_or(|| Cell::new(0)) {
+    if let Ok(counter) = local.get_or(|| T::zero()) {
+        let sum = counter.cell();
         for turn in 0..end / workers.max(1) {
             let number = turn.wrapping_mul(workers).wrapping_add(worker);
             sum.set(sum.get().saturating_add(number));
