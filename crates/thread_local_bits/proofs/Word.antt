@@ -1,14 +1,14 @@
--- One 64-bit word: testing, setting and clearing a bit, finding the lowest set or unset one, and
--- counting the set ones.
-use Rattle.std.proofs.Common.{◌≡◌, ◌≢◌, ℕ, ◌+◌, ◌-◌, ◌*◌, ◌/◌, ◌%◌, ◌^◌, ◌<◌, Bool, true, false, cond, eqb, min, max, length, get_or, bit_and, bit_or, count_ones, zero-mul, refl, ap, sym, subst, ◌∙◌, arith, ⊎_elim}
+-- One 64-bit word: testing, setting and clearing a bit, finding the lowest set or unset one, keeping
+-- the highest, and counting the set ones.
+use Rattle.std.proofs.Common.{◌≡◌, ◌≢◌, ℕ, zero, suc, ◌+◌, ◌-◌, ◌*◌, ◌/◌, ◌%◌, ◌^◌, ◌<◌, ◌≤◌, Bool, true, false, cond, eqb, min, max, length, get_or, bit_and, bit_or, count_ones, zero-mul, refl, ap, sym, subst, ◌∙◌, arith, ⊎_elim}
 use Rattle.std.specs.Int.{w64, bit_not, bit_at, trailing_ones, trailing_zeros}
 use Rattle.std.specs.Int.Bits.{or_add_and}
 use Rattle.std.specs.List.{count_by}
 use Rattle.std.proofs.lemmas.Bool.{eq-eqb, ne_eqb, cases_eq, cases_lt}
 use Rattle.std.proofs.lemmas.List.{map-id}
 use Rattle.std.proofs.lemmas.List.FromFn.{length-map-range_with_len, get_or-map-range_with_len}
-use Rattle.std.proofs.Math.Nat.{div-le_self}
-use Rattle.std.proofs.lemmas.Nat.{pow_pos, pow_below, one_shl, or_lt, and_le_l}
+use Rattle.std.proofs.Math.Nat.{div-le_self, two-pow-succ}
+use Rattle.std.proofs.lemmas.Nat.{pow_pos, pow_below, one_shl, or_lt, and_le_l, and_mask}
 use Rattle.std.proofs.lemmas.Nat.Bits.{shr_and_one, bit_at-zero, bit_at-lt, bit_at_and, bit_at_or, and_pow, bit_at_ones, bit_at_ones_above, bit_at-trailing_zeros, bit_at_set_same, bit_at_set_other, bit_at_clear_same, bit_at_clear_other, bit_at-trailing_ones, same_from_bits_below}
 use Rattle.std.proofs.lemmas.Simd.{mask_l-lt, bit_mask_l, ones-mask_l}
 use lib.Lanes.{mask_l}
@@ -193,3 +193,12 @@ clear_lowest_at word bit fits low i inside =
     (cases_lt i bit) in
     rw (ne_eqb bit i apart) (ap (λ b. eqb b 1) same))
     (cases_eq bit i)
+
+-- setting the lowest bit, `word | 1`, adds 1 to an even number
+set_lowest : (word : ℕ) → bit_or word 1 ≡ word + 1 - word % 2
+set_lowest word = omega (arith, or_add_and word 1, and_mask word 1)
+
+-- so it keeps the highest bit of a number that isn't 0
+pub highest_kept : (word bit : ℕ) → 0 < word → 2 ^ bit ≤ bit_or word 1 → bit_or word 1 < 2 * 2 ^ bit → (2 ^ bit ≤ word) × (word < 2 * 2 ^ bit)
+highest_kept word zero some low high = let set = set_lowest word in (omega arith, omega arith)
+highest_kept word (suc bit) some low high = let set = set_lowest word in let twice = two-pow-succ bit in (omega arith, omega arith)

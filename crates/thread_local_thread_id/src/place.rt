@@ -1,5 +1,5 @@
 //! The place of an id in a table: its bucket, from 0 to 62, and its index in the bucket.
-ghost use Rattle.std.specs.Prelude.{◌≡◌, ◌-◌, ◌^◌, ◌<◌};
+ghost use Rattle.std.specs.Prelude.{◌≡◌, ◌*◌, ◌-◌, ◌^◌, ◌<◌, ◌≤◌};
 ghost use Rattle.thread_local_model.specs.Place.{bucket_of, index_of, id_at};
 
 /// How many buckets a table has.
@@ -12,6 +12,17 @@ pub fn bucket_size(bucket: usize) -> usize
     ensures { result ≡ 2 ^ bucket }
 {
     1 << bucket
+}
+
+/// The number of the highest set bit.
+fn highest_bit(number: usize) -> usize
+    requires { 0 < number }
+    ensures power { 2 ^ result ≤ number }
+    ensures next_power { number < 2 * 2 ^ result }
+    ensures bound { result < 64 }
+{
+    // Bit 0 is the highest of 1 alone. It tells the compiler that the number isn't 0.
+    (number | 1).ilog2() as usize
 }
 
 /// The place of an id in a table: its bucket, and its index in the bucket. No call waits or takes
@@ -36,7 +47,7 @@ impl Thread {
         ensures bucket { result.bucket ≡ bucket_of id }
         ensures index { result.index ≡ index_of id }
     {
-        let bucket = (id + 1).ilog2() as usize;
+        let bucket = highest_bit(id + 1);
         Thread {
             bucket,
             index: id - (bucket_size(bucket) - 1),

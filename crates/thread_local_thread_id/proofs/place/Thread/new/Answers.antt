@@ -4,11 +4,11 @@ use Rattle.thread_local_thread_id.proofs.place.Thread.new.Goals as goal
 
 pub returns-clause-bucket : goal.returns-clause-bucket
 returns-clause-bucket c =
-    let power = c.ilog2-bucket.ensures in
-    (only_place c.args.id c.ilog2-bucket.result (c.args.id + 1 - 2 ^ c.ilog2-bucket.result) (omega arith) (omega arith)).0
+    let power = c.highest_bit-bucket.ensures in
+    (only_place c.args.id c.highest_bit-bucket.result (c.args.id + 1 - 2 ^ c.highest_bit-bucket.result) (omega arith) (omega arith)).0
 
 pub returns-clause-index : goal.returns-clause-index
 returns-clause-index c =
-    let power = c.ilog2-bucket.ensures in
+    let power = c.highest_bit-bucket.ensures in
     let size = c.bucket_size.ensures in
-    (only_place c.args.id c.ilog2-bucket.result (c.args.id - (c.bucket_size.result - 1)) (omega arith) (omega arith)).1
+    (only_place c.args.id c.highest_bit-bucket.result (c.args.id - (c.bucket_size.result - 1)) (omega arith) (omega arith)).1
