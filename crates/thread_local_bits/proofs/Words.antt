@@ -1,13 +1,13 @@
--- A list of 64-bit words as one list of bits: setting and clearing a bit, finding the next unset
--- one, and counting the set ones.
-use Rattle.std.proofs.Common.{◌≡◌, ◌≢◌, ℕ, zero, suc, ◌+◌, ◌-◌, ◌*◌, ◌/◌, ◌%◌, ◌^◌, ◌<◌, ◌≤◌, Bool, true, false, cond, eqb, List, [], ◌∷◌, ◌++◌, length, get_or, set, replicate, bit_and, bit_or, count_ones, refl, ap, sym, ◌∙◌, arith, ⊎_elim}
-use Rattle.std.specs.Int.{w64, bit_not, trailing_ones}
+-- A list of 64-bit words as one list of bits: writing a bit, finding the next unset one, and counting
+-- the set ones.
+use Rattle.std.proofs.Common.{◌≡◌, ◌≢◌, ℕ, zero, suc, ◌+◌, ◌-◌, ◌*◌, ◌/◌, ◌%◌, ◌^◌, ◌<◌, ◌≤◌, Bool, true, false, cond, eqb, List, [], ◌∷◌, ◌++◌, length, get_or, set, replicate, count_ones, refl, ap, sym, ◌∙◌, arith, ⊎_elim}
+use Rattle.std.specs.Int.{w64, trailing_ones}
 use Rattle.std.specs.List.{sum_by, count_by}
 use Rattle.std.proofs.lemmas.Bool.{eq-eqb, ne_eqb, cases_eq, cases_lt}
-use Rattle.std.proofs.lemmas.List.{length-append, append_assoc, get_or_append_left, get_or-append_right, get_or-set_same, get_or-set_other, length-set, ext_get_or, get_or-replicate, get_or_past, get_or_read, length-replicate}
+use Rattle.std.proofs.lemmas.List.{length-append, append_assoc, get_or_append_left, get_or-append_right, get_or-set_same, get_or-set_other, length-set, ext_get_or, get_or-replicate, get_or_past, length-replicate}
 use Rattle.std.proofs.lemmas.List.Sums.{sum_by-cons, sum_by-append}
 use Rattle.thread_local_bits.specs.Bits.{is_set, is_set_in, low_bits, bits_of, IsNextUnset, IsWordBut}
-use Rattle.thread_local_bits.proofs.Word.{set_bit, clear_bit, is_set-zero, is_set-all_ones, lowest_unset, length-low_bits, get_or-low_bits, count_ones-counts}
+use Rattle.thread_local_bits.proofs.Word.{is_set-zero, is_set-all_ones, lowest_unset, length-low_bits, get_or-low_bits, count_ones-counts}
 
 -- there are 64 bits for each word
 pub length-bits_of : (words : List ℕ) → length (bits_of words) ≡ length words * 64
@@ -65,18 +65,6 @@ bits_of-set words bit word value within but =
     (λ (here : bit ≡ i). rw (here, eq-eqb i i refl) (sym (get_or-set_same (bits_of words) i value false (omega arith))))
     (λ apart. rw (ne_eqb bit i apart) (sym (get_or-bits_of words i) ∙ sym (get_or-set_other (bits_of words) bit i value false (λ e. apart (sym e)))))
     (cases_eq bit i))
-
--- setting a bit, `words[bit / 64] |= 1 << (bit % 64)`, changes that bit and no other
-pub bits_of-set_bit : (words : List ℕ) (bit word : ℕ) → bit / 64 < length words → word ≡ get_or words (bit / 64) word
-    → bits_of (set words (bit / 64) (bit_or word (1 * 2 ^ (bit % 64) % 2 ^ 64))) ≡ set (bits_of words) bit true
-bits_of-set_bit words bit word within read =
-    bits_of-set words bit _ true within (rw (← get_or_read words (bit / 64) word within read 0) (set_bit word (bit % 64) (omega arith)))
-
--- clearing a bit, `words[bit / 64] &= !(1 << (bit % 64))`, changes that bit and no other
-pub bits_of-clear_bit : (words : List ℕ) (bit word : ℕ) → bit / 64 < length words → word ≡ get_or words (bit / 64) word
-    → bits_of (set words (bit / 64) (bit_and word (bit_not w64 (1 * 2 ^ (bit % 64) % 2 ^ 64)))) ≡ set (bits_of words) bit false
-bits_of-clear_bit words bit word within read =
-    bits_of-set words bit _ false within (rw (← get_or_read words (bit / 64) word within read 0) (clear_bit word (bit % 64) (omega arith)))
 
 -- in words that are 0 no bit is set
 pub is_set_in-zeros : (count bit : ℕ) → is_set_in (replicate count 0) bit ≡ false

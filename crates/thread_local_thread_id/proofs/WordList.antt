@@ -2,41 +2,47 @@
 -- and which bit isn't set.
 use Rattle.std.proofs.Common.{◌≡◌, ◌≢◌, ℕ, suc, ◌+◌, ◌-◌, ◌*◌, ◌/◌, ◌%◌, ◌^◌, ◌<◌, ◌≤◌, Bool, List, ◌∷◌, length, get_or, take, set, refl, ap, subst, sym, ◌∙◌, arith}
 use Rattle.std.specs.Int.{w64, trailing_ones}
-use Rattle.std.proofs.lemmas.List.{take_all, length-set, length-take}
+use Rattle.std.proofs.lemmas.List.{take_all, get_or_read, length-set, length-take}
 use Rattle.thread_local_bits.specs.Bits.{bits_of, is_set_in, IsWordBut, IsNextUnset}
+use Rattle.thread_local_thread_id.specs.declared.words.Words.TheInside.{Inside}
+use Rattle.thread_local_thread_id.specs.WordList.{words_of, AreWords}
 use Rattle.thread_local_bits.proofs.Words.{bits_of-set, is_set_in-all_ones, next_unset, next_unset_from}
 
 -- where there is a word, all of them are the first and the rest
 all_words : (count first : ℕ) (rest : List ℕ) → length rest ≡ count - 1 → 0 < count → take count (first ∷ rest) ≡ first ∷ rest
 all_words count first rest are some = take_all count (first ∷ rest) (omega arith)
 
+-- where there is a bit, there is a word
+some_words : (w : Inside) (words : List ℕ) (bit : ℕ) → words_of w ≡ words → bit < length words * 64 → 0 < w.count
+some_words w words bit view within = omega (arith, ap length view, length-take w.count (w.first ∷ w.rest.items))
+
 -- a bit of the first word is written
-pub first_bit : (count first word : ℕ) (rest : List ℕ) (bit : ℕ) (value : Bool) → length rest ≡ count - 1 → bit < length (take count (first ∷ rest)) * 64 → bit < 64
-    → IsWordBut word first (bit % 64) value → bits_of (take count (word ∷ rest)) ≡ set (bits_of (take count (first ∷ rest))) bit value
-first_bit count first word rest bit value are within low but =
+pub first_bit : (w : Inside) (words : List ℕ) (bit word : ℕ) (value : Bool) → AreWords w → words_of w ≡ words → bit < length words * 64 → bit < 64
+    → IsWordBut word w.first (bit % 64) value → bits_of (take w.count (word ∷ w.rest.items)) ≡ set (bits_of words) bit value
+first_bit w words bit word value are view within low but =
     let at : bit / 64 ≡ 0 = omega arith in
-    let some : 0 < count = omega (arith, length-take count (first ∷ rest)) in
-    ap bits_of (all_words count word rest are some)
-    ∙ ap (λ k. bits_of (set (first ∷ rest) k word)) (sym at)
-    ∙ bits_of-set (first ∷ rest) bit word value (omega arith) (rw at but)
-    ∙ ap (λ words. set (bits_of words) bit value) (sym (all_words count first rest are some))
+    let some = some_words w words bit view within in
+    let all : w.first ∷ w.rest.items ≡ words = sym (all_words w.count w.first w.rest.items are some) ∙ view in
+    ap bits_of (all_words w.count word w.rest.items are some)
+    ∙ ap (λ k. bits_of (set (w.first ∷ w.rest.items) k word)) (sym at)
+    ∙ bits_of-set (w.first ∷ w.rest.items) bit word value (omega arith) (rw at but)
+    ∙ ap (λ words. set (bits_of words) bit value) all
 
--- the word of any other bit is one of the rest
-pub later_word : (count first : ℕ) (rest : List ℕ) (bit : ℕ) → length rest ≡ count - 1 → bit < length (take count (first ∷ rest)) * 64 → 64 ≤ bit → bit / 64 - 1 < length rest
-later_word count first rest bit are within high = omega (arith, length-take count (first ∷ rest))
-
--- such a bit is written
-pub later_bit : (count first word : ℕ) (rest : List ℕ) (bit : ℕ) (value : Bool) → length rest ≡ count - 1 → bit < length (take count (first ∷ rest)) * 64 → 64 ≤ bit
-    → IsWordBut word (get_or rest (bit / 64 - 1) 0) (bit % 64) value
-    → bits_of (take count (first ∷ set rest (bit / 64 - 1) word)) ≡ set (bits_of (take count (first ∷ rest))) bit value
-later_bit count first word rest bit value are within high but =
+-- a bit of a later word, which was `old`, is written
+pub later_bit : (w : Inside) (words : List ℕ) (bit old word : ℕ) (value : Bool) → AreWords w → words_of w ≡ words → bit < length words * 64 → 64 ≤ bit
+    → old ≡ get_or w.rest.items (bit / 64 - 1) old → IsWordBut word old (bit % 64) value
+    → bits_of (take w.count (w.first ∷ set w.rest.items (bit / 64 - 1) word)) ≡ set (bits_of words) bit value
+later_bit w words bit old word value are view within high read but =
     let at : ℕ = bit / 64 - 1 in
     let here : bit / 64 ≡ suc at = omega arith in
-    let inside = later_word count first rest bit are within high in
-    ap bits_of (all_words count first (set rest at word) (length-set rest at word ∙ are) (omega arith))
-    ∙ ap (λ k. bits_of (set (first ∷ rest) k word)) (sym here)
-    ∙ bits_of-set (first ∷ rest) bit word value (omega arith) (rw here but)
-    ∙ ap (λ words. set (bits_of words) bit value) (sym (all_words count first rest are (omega arith)))
+    let some = some_words w words bit view within in
+    let all : w.first ∷ w.rest.items ≡ words = sym (all_words w.count w.first w.rest.items are some) ∙ view in
+    let many : suc (length w.rest.items) ≡ length words = ap length all in
+    let was = get_or_read w.rest.items at old (omega arith) read 0 in
+    ap bits_of (all_words w.count w.first (set w.rest.items at word) (length-set w.rest.items at word ∙ are) some)
+    ∙ ap (λ k. bits_of (set (w.first ∷ w.rest.items) k word)) (sym here)
+    ∙ bits_of-set (w.first ∷ w.rest.items) bit word value (omega arith) (rw (here, ← was) but)
+    ∙ ap (λ words. set (bits_of words) bit value) all
 
 -- a bit behind the first word is a bit of the rest
 in_rest : (first : ℕ) (rest : List ℕ) (bit later : ℕ) → bit ≡ 64 + later → is_set_in (first ∷ rest) bit ≡ is_set_in rest later
