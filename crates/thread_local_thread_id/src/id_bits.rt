@@ -1,5 +1,5 @@
 //! A bit for each id, set where the id is held.
-ghost use Rattle.std.specs.Prelude.{◌≡◌, ◌+◌, ◌-◌, ◌^◌, ◌<◌, ◌≤◌, min, [], length, IsTrue, IsOk, OnOk, OnErr, IfOk};
+ghost use Rattle.std.specs.Prelude.{◌≡◌, ◌↔◌, ◌+◌, ◌-◌, ◌^◌, ◌<◌, ◌≤◌, min, [], length, IsTrue, IsOk, OnOk, OnErr, IfOk};
 ghost use Rattle.std.specs.Prelude.{alloc_error};
 ghost use Rattle.thread_local_model.specs.Held.{is_held, least, with_least, Takes, Gives, NeedsMemory, IsExhausted};
 
@@ -66,19 +66,37 @@ impl IdBits {
         })
     }
 
-    /// Takes the least id that isn't held. It asks for memory only where every id below the peak is
-    /// held and there is no room for one more, and not for the first 64 ids.
+    /// Takes the least id that isn't held, which `least_free` told before. It asks for memory only
+    /// where every id below the peak is held and there is no room for one more, and not for the
+    /// first 64 ids.
     #[inline(never)]
-    pub(crate) fn alloc(&mut self) -> Result<usize, LocalError>
-        ensures ok { IfOk result (λ id. Takes self.old self.new id) }
+    pub(crate) fn alloc(&mut self) -> Result<(), LocalError>
+        ensures ok { OnOk result (Takes self.old self.new (least self.old.held)) }
         ensures memory { result ≡ Err (LocalError.Memory alloc_error) → NeedsMemory self.old }
         ensures exhausted { result ≡ Err LocalError.Exhausted → IsExhausted self.old }
         ensures err { OnErr result (self.new ≡ self.old) }
     {
         let id = self.least_free();
+        if !self.has_room(id) {
+            return self.alloc_further(id);
+        }
+        self.hold(id);
+        Ok(())
+    }
+
+    /// The same where there may be no room for the id.
+    #[cold]
+    #[inline(never)]
+    fn alloc_further(&mut self, id: usize) -> Result<(), LocalError>
+        requires { id ≡ least self.old.held }
+        ensures ok { OnOk result (Takes self.old self.new id) }
+        ensures memory { result ≡ Err (LocalError.Memory alloc_error) → NeedsMemory self.old }
+        ensures exhausted { result ≡ Err LocalError.Exhausted → IsExhausted self.old }
+        ensures err { OnErr result (self.new ≡ self.old) }
+    {
         self.make_room(id)?;
         self.hold(id);
-        Ok(id)
+        Ok(())
     }
 
     /// The least id that isn't held.
@@ -87,6 +105,13 @@ impl IdBits {
         ensures in_room { result ≤ self.now.room }
     {
         self.mark
+    }
+
+    /// Whether the return of the id needs no further memory.
+    fn has_room(&self, id: usize) -> bool
+        ensures { IsTrue result ↔ (id < self.now.room) }
+    {
+        id < IDS && id / 64 < self.words.len()
     }
 
     /// Makes room for the return of the id, where there is none.
@@ -113,6 +138,7 @@ impl IdBits {
     }
 
     /// Marks the id as held.
+    #[inline]
     fn hold(&mut self, id: usize)
         requires least { id ≡ least self.old.held }
         requires room { id < self.old.room }

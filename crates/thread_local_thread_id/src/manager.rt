@@ -93,7 +93,8 @@ impl ThreadIdManager {
             self.returned = IDS;
             return Ok(id);
         }
-        self.bits.alloc()
+        self.bits.alloc()?;
+        Ok(least)
     }
 
     /// Whether an id is held. `id` may be any number.

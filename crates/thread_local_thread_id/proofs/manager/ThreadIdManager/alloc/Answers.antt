@@ -1,5 +1,4 @@
-use Rattle.std.proofs.Common.{◌≤◌, arith}
-use Rattle.std.proofs.lemmas.Result.{IfOk-weaker}
+use Rattle.std.proofs.Common.{◌≤◌, arith, rules}
 use Rattle.thread_local_model.specs.Held.{least}
 use Rattle.thread_local_thread_id.proofs.Returned.{takes_returned, takes_another, none_returned}
 use Rattle.thread_local_thread_id.proofs.manager.ThreadIdManager.alloc.Goals as goal
@@ -18,17 +17,18 @@ returns-then-self-least-clause-ok c =
 pub returns-clause-ok : goal.returns-clause-ok
 returns-clause-ok c =
     let at = (goal.at.returns-clause-ok c).After-alloc in
-    rw (← c.self.view_is) (IfOk-weaker c.alloc.result _ _ (λ id taken. takes_another c.self.inside.bits c.alloc.new.self c.self.inside.returned id c.self.invariant.returned (above at) taken) c.alloc.ensures.ok)
+    let first = c.least_free-least.ensures.least in
+    rw (← c.self.view_is, first) (takes_another c.self.inside.bits c.alloc.new.self c.self.inside.returned _ c.self.invariant.returned (above at) c.in_ok-alloc.ensures.ok)
 
-pub returns-clause-memory : goal.returns-clause-memory
-returns-clause-memory c = λ refused.
-    let at = (goal.at.returns-clause-memory c).After-alloc in
-    let needs = c.alloc.ensures.memory refused in
+pub returns-in_err-alloc-clause-memory : goal.returns-in_err-alloc-clause-memory
+returns-in_err-alloc-clause-memory c = λ refused.
+    let at = (goal.at.returns-in_err-alloc-clause-memory c).After-alloc in
+    let needs = c.alloc.ensures.memory (search rules) in
     rw (← c.self.view_is, none_returned c.self.inside.bits.held c.self.inside.returned needs.full (above at)) needs
 
-pub returns-clause-exhausted : goal.returns-clause-exhausted
-returns-clause-exhausted c = λ refused.
-    let at = (goal.at.returns-clause-exhausted c).After-alloc in
-    let none = c.alloc.ensures.exhausted refused in
+pub returns-in_err-alloc-clause-exhausted : goal.returns-in_err-alloc-clause-exhausted
+returns-in_err-alloc-clause-exhausted c = λ refused.
+    let at = (goal.at.returns-in_err-alloc-clause-exhausted c).After-alloc in
+    let none = c.alloc.ensures.exhausted (search rules) in
     let peak = none.peak in
     rw (← c.self.view_is, none_returned c.self.inside.bits.held c.self.inside.returned (λ id below. none.full id (omega arith)) (above at)) none
