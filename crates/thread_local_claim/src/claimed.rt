@@ -25,13 +25,22 @@ mod install;
 mod lasting;
 mod told;
 
+/// The number of a claim that has not found its bucket.
+const UNFOUND: u64 = 0;
+
+/// The number of a claim whose slot is vacant.
+const VACANT: u64 = 1;
+
+/// The number of a claim whose slot holds a value.
+const HOLDING: u64 = 2;
+
 /// The slot of an id that is claimed. Contracts see its table, its id with the index in its bucket,
 /// whether its bucket is reserved, the sharing, and what it has learnt of the slot. It stores no index: callers
 /// pass the index, and the number of the word that has the flag.
 pub(crate) struct ClaimedSlot<'a, T> {
     /// The address of the bucket's pointer, and once the bucket is found, of the slot's value.
     at: *const (),
-    /// What it has learnt: 0 before the bucket is found, then 1, and 2 where the slot holds a value.
+    /// What it has learnt: `UNFOUND`, `VACANT` or `HOLDING`.
     state: u64,
     marker: PhantomData<&'a T>,
     /// The address of the bucket's pointer.
@@ -77,7 +86,7 @@ impl<'a, T> ClaimedSlot<'a, T> {
         let _ = index;
         ClaimedSlot {
             at: bucket as *const SharedBucket<T> as *const (),
-            state: 0,
+            state: UNFOUND,
             marker: PhantomData,
         }
     }
@@ -111,7 +120,7 @@ impl<'a, T> ClaimedSlot<'a, T> {
         if at.is_null() {
             return ClaimedSlot {
                 at: bucket,
-                state: 0,
+                state: UNFOUND,
                 marker: PhantomData,
             };
         }
@@ -120,7 +129,8 @@ impl<'a, T> ClaimedSlot<'a, T> {
         let flags = unsafe { raw::load::<Brand>(word, SeqCst) };
         ClaimedSlot {
             at: value as *const (),
-            state: (flags >> (index % 64) & 1) + 1,
+            // With a flag that is set, the sum is `HOLDING`.
+            state: VACANT + (flags >> (index % 64) & 1),
             marker: PhantomData,
         }
     }
@@ -152,7 +162,7 @@ impl<'a, T> ClaimedSlot<'a, T> {
         unsafe { raw::fetch_add::<Brand>(word, 1 << (index % 64), SeqCst) };
         ClaimedSlot {
             at,
-            state: 2,
+            state: HOLDING,
             marker: PhantomData,
         }
     }
@@ -162,7 +172,7 @@ impl<'a, T> ClaimedSlot<'a, T> {
     pub(crate) fn is_found(&self) -> bool
         ensures { result ≡ is_found self.now.learnt }
     {
-        self.state() != 0
+        self.state() != UNFOUND
     }
 
     /// Whether the slot holds a value.
@@ -170,7 +180,7 @@ impl<'a, T> ClaimedSlot<'a, T> {
     pub(crate) fn is_published(&self) -> bool
         ensures { result ≡ is_some (value_held self.now.learnt) }
     {
-        self.state() == 2
+        self.state() == HOLDING
     }
 
     /// The number for what it has learnt.

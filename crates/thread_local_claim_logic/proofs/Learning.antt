@@ -60,9 +60,9 @@ pub state_by-fits : (set : Bool) → state_by set < 2 ^ 64
 state_by-fits false = lit< tt
 state_by-fits true = lit< tt
 
--- the number by the flag, as code computes it: `(word >> bit & 1) + 1`
-pub state_by-flag : (word bit : ℕ) → bit_and (word / 2 ^ bit) 1 + 1 ≡ state_by (is_set word bit)
-state_by-flag word bit = ap (λ n. n + 1) (shr_and_one word bit) ∙ ⊎_elim
+-- the number by the flag, as code computes it: `1 + (word >> bit & 1)`
+pub state_by-flag : (word bit : ℕ) → 1 + bit_and (word / 2 ^ bit) 1 ≡ state_by (is_set word bit)
+state_by-flag word bit = ap (λ n. 1 + n) (shr_and_one word bit) ∙ ⊎_elim
     (λ (one : bit_at word bit ≡ 1). rw one refl)
     (λ other. let none : bit_at word bit ≡ 0 = omega (arith, bit_at-lt word bit) in rw none refl)
     (cases_eq (bit_at word bit) 1)

@@ -4,7 +4,7 @@ ghost use Rattle.thread_local_blocks.specs.Slots.{empty_slots};
 ghost use Rattle.thread_local_model.specs.Learnt.{Missing, Vacant};
 ghost use Rattle.thread_local_model.specs.Place.{bucket_of};
 
-use super::ClaimedSlot;
+use super::{ClaimedSlot, VACANT};
 use std::alloc::Global;
 use std::marker::{Brand, PhantomData};
 use std::ptr::null_mut;
@@ -57,7 +57,7 @@ impl<'a, T> ClaimedSlot<'a, T> {
         let value = unsafe { (standing as *const T).add(index) };
         let claim = ClaimedSlot {
             at: value as *const (),
-            state: 1,
+            state: VACANT,
             marker: PhantomData,
         };
         (claim, back)

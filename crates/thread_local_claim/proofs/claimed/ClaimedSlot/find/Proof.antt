@@ -112,7 +112,7 @@ find_spec 𝓤 𝓛 𝓜 𝓡 wired X L =
     let set : Bool = is_set n j in let seen : ℕ = state_by set in let seen_fits : seen < 2 ^ 64 = state_by-fits set in let m : Kept = record { at = slot_at; state = seen } in let pl' : ClaimFields = claim_fields h.id i (block_ptr wb wo) slot_at h.sharing h.reserved in
     sets ! (of_opd ! (get ! refl)) refl (tt, record { fits = nf }) $ sets ! (of_opd ! (get ! refl)) refl (tt, tt) $ sets ! (is ! (bin ! (get ! refl) (lit ! tt) (lit< tt)) (ap (λ (n' : ℕ). vint w64 (n' % 64)) is_index)) refl (tt, record { fits = place_fits i }) $ sets ! (of_opd ! (get ! refl)) refl (tt, record { fits = place_fits i }) $
     sets ! (bin ! (get ! refl) (get ! refl) (place_below i)) refl (tt, record { fits = shifted_right n j nf }) $ sets ! (bin ! (get ! refl) (lit ! tt) tt) refl (tt, record { fits = masked_fits (n / 2 ^ j) 1 (shifted_right n j nf) }) $
-    sets ! (is ! (bin ! (get ! refl) (lit ! tt) (record { fits = subst (λ (x' : ℕ). x' < 2 ^ 64) (sym (state_by-flag n j)) seen_fits })) (ap (vint w64) (state_by-flag n j))) refl (tt, record { fits = seen_fits }) $ sets ! (agg ! (no_more !)) refl (tt, tt) $
+    sets ! (is ! (bin ! (lit ! tt) (get ! refl) (record { fits = subst (λ (x' : ℕ). x' < 2 ^ 64) (sym (state_by-flag n j)) seen_fits })) (ap (vint w64) (state_by-flag n j))) refl (tt, record { fits = seen_fits }) $ sets ! (agg ! (no_more !)) refl (tt, tt) $
     sets ! (agg ! (and_then ! (get ! refl) (and_then ! (get ! refl) (and_then ! (get ! refl) (no_more !))))) refl (typed m seen_fits) $
     move ! (1 ∷ []) $ fpick ! (λ v'. fsplit ! $ fpick ! (λ known. drop ! $ move ! (2 ∷ 0 ∷ []) $ fjoin ! $ nothing ! $ fpack ! (slot_at ≡ value_at R p i) (λ _. ftrue) refl $ fjoin ! $ fpack ! StandingBlock (has_slot R d t β pl' v') s' $ use1 𝓛 (‵ (has R d t β pl' (found_as v'))) (found_in 𝓛 R d t β pl' v') $
     move ! (3 ∷ 2 ∷ []) $ fjoin ! $ fjoin ! $ nothing ! $ fpack ! (IsOf R h.table pl' d) (λ _. ftrue) (tt, of.1, of.2, of.3, of.4, of.5, of.6) $ fjoin ! $
