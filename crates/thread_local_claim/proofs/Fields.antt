@@ -1,20 +1,27 @@
--- The machine value of a claimed slot: what it keeps at run time. Assumes `Logic`.
+-- The machine value of a claimed slot, which is what it keeps at run time, and what a `&` to one
+-- holds. Assumes `Logic`.
 use Rattle.std.proofs.Common.{◌≡◌, ℕ, ◌+◌, ◌-◌, ◌*◌, ◌/◌, ◌^◌, ◌<◌, ◌≤◌, le_of_lt, mul-le-mul_right, arith, T, w64, List, [], ◌∷◌, ◌++◌, refl, sym, ap, subst, ◌∙◌, lit<}
 use seplogic.Ra.Ura.{Ura}
 use mir.Syntax.{Ty, ty_int, ty_ptr, ty_struct, tcons, tnil}
 use mir.Val.{Val, vint, vstruct, vcons, vnil, of_list, has_ty, WT}
 use base.Logic.{ent, emp}
+use base.Fml.{Lft, Fml, fhide}
 use types.Logic.{Logic, sem}
+use types.Kit.{Item, Goal, Step, step, ‵, ◌⊛◌, ◌$◌, use1, move, split, fsplit}
 use prog.Memory.{capped}
 use denote.RattleType.{RattleType}
 use denote.Laws.{Is}
 use denote.Ref.{NamedLft, ShrRef}
-use denote.Opens.{Opens}
+use denote.Builtin.{RefOf}
+use denote.Memory.{hidden_shr}
+use denote.Signature.{Slot, plain, named_lft}
+use denote.Opens.{Opens, unhide}
 use denote.Copied.{Struct-Copied}
 use denote.RawPtr.{Ptr, block_ptr, null_ptr, ptr_val}
 use denote.Shadow.{makes_shadow}
 use denote.Struct.Laws.{RawPtr-copy, u64-copy, field_copy}
 use denote.Struct.Struct.{Struct}
+use denote.Struct.Lending.{lent_out}
 use denote.Struct.Owning.{shape}
 use Rattle.std.specs.contracts.marker.PhantomData as marker
 use Rattle.thread_local_model.specs.Place.{bucket_of, index_of, id_at}
@@ -22,7 +29,9 @@ use Rattle.thread_local_model.proofs.PlaceLaws.{place-id_at}
 use Rattle.thread_local_blocks.specs.Slots.{stride, value_words, word_number, word_at, value_offset}
 use Rattle.thread_local_blocks.proofs.Flags.{uncapped}
 use Rattle.thread_local_shared_bucket_logic.specs.Shared.{BucketView, len, first}
-use Rattle.thread_local_claim_logic.specs.Claims.{number_of_id}
+use Rattle.thread_local_raw.specs.Fact.{fact}
+use Rattle.thread_local_claim_logic.specs.Known.{value_held}
+use Rattle.thread_local_claim_logic.specs.Claims.{claim_fields, number_of_id, IsKept, shows_value, claim_shares}
 use Rattle.thread_local_claim.specs.declared.claimed.ClaimedSlot as claim_value
 use Rattle.thread_local_claim.specs.contracts.claimed.ClaimedSlot as claim
 
@@ -72,6 +81,23 @@ module _ (a : NamedLft) (R : RattleType) where
 
   pub opened : {M : Type 1} {𝓤 : Ura M} (𝓛 : Logic 𝓤) → Opens 𝓛 FieldsType
   opened {M} {𝓤 = 𝓤} 𝓛 = (Struct-Copied 𝓛 (shape (claim.the_type a R)) (refl, (refl, (refl, tt))) (RawPtr-copy.copied M 𝓤 𝓛, (u64-copy.copied M 𝓤 𝓛, ((field_copy (marker.the_type (ShrRef a.mir a.lft R)) tt).copied M 𝓤 𝓛, tt)))).opens
+
+-- a claim, and a `&` to it, by the lifetimes of a function that takes nothing else
+abbrev pub claim_at : RattleType → Slot 3
+claim_at R = plain (λ κs. claim.the_row (named_lft 3 1 tt κs) R)
+
+abbrev pub claim_ref : RattleType → Slot 3
+claim_ref R = RefOf (0 ∷ []) tt (claim_at R) (λ _. tt)
+
+-- what that `&` holds: what the claim's number tells, what the claim shows, and a `&` to what it
+-- keeps at run time
+module _ {M : Type 1} {𝓤 : Ura M} {𝓛 : Logic 𝓤} {K : Type 0} {Γ : List (Item 𝓤)} {G : Goal 𝓤 𝓛.H} where
+  pub splits_ref : K → (a : NamedLft) (R : RattleType) (κ : Lft) (h : claim_value.ClaimedSlot R.Denot) (b o : ℕ)
+      → Step K 𝓛 (‵ (fact (IsKept R h.state h.learnt)) ∷ ‵ (shows_value R a.lft (claim_fields h.id h.index h.bucket h.at h.sharing h.reserved) (value_held h.learnt) κ) ∷ ‵ (hidden_shr (FieldsType a R) κ (fields_of a R (kept_of h)) b o) ∷ Γ) G (‵ (hidden_shr (claim.the_row a R) κ h b o) ∷ Γ) G
+  splits_ref t a R κ h b o = let Shown : Fml = claim_shares R a.lft (claim_fields h.id h.index h.bucket h.at h.sharing h.reserved) h.learnt h.state κ in
+      step (λ s. use1 𝓛 (‵ (hidden_shr (FieldsType a R) κ (fields_of a R (kept_of h)) b o) ⊛ ‵ (fhide Shown))
+      (lent_out 𝓛 (claim.struct a R) (claim.the_codes R.Denot R.coded (marker.the_row (ShrRef a.mir a.lft R)).coded) (claim.the_heap a.lft R) (claim.the_lent a.lft R) κ h b o) $
+      split t $ move t (1 ∷ []) $ unhide t $ fsplit t $ s)
 
 abbrev pub claim_ty : Ty
 claim_ty = ty_struct [] (tcons ty_ptr (tcons (ty_int w64) (tcons (ty_struct [] tnil) tnil)))

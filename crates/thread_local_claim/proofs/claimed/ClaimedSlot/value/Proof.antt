@@ -1,22 +1,18 @@
 -- `value` lends the value that the slot holds.
-use Rattle.thread_local_raw.proofs.Names.{◌≡◌, ℕ, List, [], ◌∷◌, ◌++◌, sym, refl, ap, ◌∙◌, true, dnil, a_type, named, Val, vptr, inst_fn, SProp, emp, Lft, Fml, ftrue, fsep, flft, ‵, raw, ◌⊛◌, at_ret, ◌$◌, ◌∵◌, !, qed, by, move, keep, drop, split, join, fsplit, fjoin, fpick, use0, use1, rewrite, feq_i, stop, fld, addr, of_opd, first, blocks, exec, returns, enter, alloc_all, pass_all, free_all, look_at, get, through, sets, sets_last, env, sub, whole, look_in, tables, fact, fact_i, yes, RattleType, owns, types_at, plain, named_lft, Ptr, block_ptr, block_of, count_of, at_block, nothing, heard, peeks, unhide, Is, shows, cell_at, param, bounded, param_laws, RefOf, shr_vals, shr_Tells, Stays, stay_dropped, walk_of, Goes-dropped, proved, leaves, is_some, load}
-use base.Fml.{fhide, Incl-refl}
+use Rattle.thread_local_raw.proofs.Names.{◌≡◌, ℕ, List, [], ◌∷◌, ◌++◌, sym, refl, ap, ◌∙◌, true, dnil, a_type, named, Val, vptr, inst_fn, SProp, emp, Lft, Fml, ftrue, fsep, flft, ‵, raw, ◌⊛◌, at_ret, ◌$◌, ◌∵◌, !, qed, by, move, keep, drop, split, join, fsplit, fjoin, fpick, use0, use1, rewrite, feq_i, stop, fld, addr, of_opd, first, blocks, exec, returns, enter, alloc_all, pass_all, free_all, look_at, get, through, sets, sets_last, env, sub, whole, look_in, tables, fact, fact_i, yes, RattleType, owns, types_at, named_lft, Ptr, block_ptr, block_of, count_of, at_block, nothing, heard, peeks, Is, shows, cell_at, param, bounded, param_laws, shr_vals, shr_Tells, Stays, stay_dropped, walk_of, Goes-dropped, proved, leaves, is_some, load}
+use base.Fml.{Incl-refl}
 use contract.BorrowLft.{⊑_meet}
 use denote.Steps.{looks, shuts}
 use denote.Memory.{hidden_shr, shared_of}
-use denote.Ref.{ShrRef}
 use denote.SharingLaws.{shortens}
-use denote.Struct.Lending.{lent_out}
-use Rattle.std.specs.contracts.marker.PhantomData as marker
 use Rattle.thread_local_raw.proofs.Bodies.{tail}
 use Rattle.thread_local_model.specs.Learnt.{Learnt, Holding}
 use Rattle.thread_local_claim_logic.specs.Known.{value_held}
 use Rattle.thread_local_claim_logic.proofs.Learning.{holding}
-use Rattle.thread_local_claim_logic.specs.Claims.{claim_fields, shows_value, claim_shares}
-use Rattle.thread_local_claim.specs.contracts.claimed.ClaimedSlot as claim
+use Rattle.thread_local_claim_logic.specs.Claims.{claim_fields, shows_value}
 use Rattle.thread_local_claim.specs.contracts.claimed.ClaimedSlot.value.{ended, clauses}
 use Rattle.thread_local_claim.specs.contracts.claimed.ClaimedSlot.value.Key.{name as #self}
-use Rattle.thread_local_claim.proofs.Fields.{kept_of, moved_to, value_of, FieldsType, fields_of, told, opened}
+use Rattle.thread_local_claim.proofs.Fields.{kept_of, claim_at, claim_ref, splits_ref, moved_to, value_of, FieldsType, fields_of, told, opened}
 use Rattle.thread_local_claim.proofs.claimed.ClaimedSlot.value.Statement.{statement}
 use Rattle.thread_local_claim.proofs.claimed.ClaimedSlot.value.Code as code
 
@@ -24,20 +20,18 @@ pub value_spec : {M : Type 1} → statement M
 value_spec 𝓤 𝓛 𝓜 𝓡 wired X L =
     let H = 𝓛.H in let 𝓣 = tables 𝓤 H 𝓜 𝓡 𝓡.env in let R : RattleType = param 0 X in let En = ended X in let c = clauses X 𝓛 𝓜.mem 𝓡.returns in let LR = param_laws 0 X L in
     let inst = bounded (a_type ∷ []) (X, tt) dnil in let fn = inst_fn inst code.function in let closed = code.unfolded 𝓤 H 𝓜 𝓡 wired (X, tt) in
-    let row = plain (λ κs. claim.the_row (named_lft 3 1 tt κs) R) in let self = RefOf (0 ∷ []) tt row (λ _. tt) in let hs : Stays En.signature.params En.kept = (stay_dropped self yes, tt) in
+    let self = claim_ref R in let hs : Stays En.signature.params En.kept = (stay_dropped self yes, tt) in
     proved 𝓛 En hs c 𝓜 𝓡 (Goes-dropped 𝓛 3 self yes (λ κs x f. refl), tt) (#self inst) fn closed
-    (λ κs. (shr_vals, tt)) (λ κs. (shr_Tells (named 0) κs.0 (claim.the_row (named_lft 3 1 tt κs) R), tt)) (λ κs qs bounds a gh are.
+    (λ κs. (shr_vals, tt)) (λ κs. (shr_Tells (named 0) κs.0 ((claim_at R).row κs), tt)) (λ κs qs bounds a gh are.
     let ℓ = named_lft 3 1 tt κs in let D : RattleType = FieldsType ℓ R in let b : ℕ = a.0.ref_ptr.0 in let o : ℕ = a.0.ref_ptr.1 in let κ : Lft = κs.0 in let β : Lft = κs.1.0 in
-    let h = a.0.now in let p : Ptr = h.at in let i : ℕ = h.index in let l₀ : Learnt X.Denot = h.learnt in let others : Fml = fsep (flft β qs.1.0) (fsep (flft κs.1.1.0 qs.1.1.0) ftrue) in
+    let h = a.0.now in let p : Ptr = h.at in let l₀ : Learnt X.Denot = h.learnt in let others : Fml = fsep (flft β qs.1.0) (fsep (flft κs.1.1.0 qs.1.1.0) ftrue) in
     let pb : ℕ = block_of p in let po : ℕ = count_of p in let e : ℕ = po in
     let y : (walk_of 𝓛 En hs c).Ghost = ((κs, qs, bounds, a, (vptr b o ∷ [], tt)), gh) in let Post : Val → SProp 𝓤 = (walk_of 𝓛 En hs c).post y in
     qed 𝓛 (((‵ (flft κ qs.0) ⊛ ‵ others) ⊛ ‵ (owns (types_at En.signature.params κs) a y.0.4)) ∷ raw (fact 𝓤 _) ∷ raw (fact 𝓤 (is_some (value_held l₀) ≡ true)) ∷ []) ∵
     keep ! (2 ∷ 0 ∷ []) $ heard ! (is_some (value_held l₀) ≡ true) (λ asked. let held = holding l₀ asked in let x : X.Denot = held.0 in
     split ! $ split ! $ move ! (2 ∷ []) $ fsplit ! $ fsplit ! $ keep ! (1 ∷ 3 ∷ 4 ∷ []) $
     enter ! 𝓣.C 𝓣.Λ fn (vptr b o ∷ []) Post $ alloc_all ! (λ l. pass_all ! refl ((tt, tt), tt) $ let Ev = env fn.locals l in
-    use1 𝓛 (‵ (hidden_shr D κ (fields_of ℓ R (kept_of h)) b o) ⊛ ‵ (fhide (claim_shares R β (claim_fields h.id i h.bucket p h.sharing h.reserved) l₀ h.state κ)))
-    (lent_out 𝓛 (claim.struct ℓ R) (claim.the_codes X.Denot R.coded (marker.the_row (ShrRef ℓ.mir ℓ.lft R)).coded) (claim.the_heap β R) (claim.the_lent β R) κ h b o) $
-    split ! $ move ! (1 ∷ []) $ unhide ! $ fsplit ! $ drop ! $ rewrite ! 0 (λ (u : Learnt X.Denot). ‵ (shows_value R β (claim_fields h.id i h.bucket p h.sharing h.reserved) (value_held u) κ)) held.1 refl $ fsplit ! $ fpick ! (λ inb. drop ! $ fsplit ! $ move ! (1 ∷ []) $ drop ! $ let at : p ≡ block_ptr pb po = at_block p inb in
+    splits_ref ! ℓ R κ h b o $ drop ! $ rewrite ! 0 (λ (u : Learnt X.Denot). ‵ (shows_value R β (claim_fields h.id h.index h.bucket p h.sharing h.reserved) (value_held u) κ)) held.1 refl $ fsplit ! $ fpick ! (λ inb. drop ! $ fsplit ! $ move ! (1 ∷ []) $ drop ! $ let at : p ≡ block_ptr pb po = at_block p inb in
     use1 𝓛 (‵ (hidden_shr R κ x pb e)) (shortens 𝓛 (shared_of R x pb e) (LR.shr_laws x pb e) (κ ++ β) κ (⊑_meet κ κ β (Incl-refl κ) bounds.0)) $ move ! (1 ∷ 2 ∷ []) $
     looks ! tt D (opened ℓ R 𝓛) (fields_of ℓ R (kept_of h)) b o (λ q vs. move ! (1 ∷ []) $ peeks ! D (Is D) (shows 𝓛 D) (fields_of ℓ R (kept_of h)) vs (λ is_so.
     let ev : vs ≡ value_of (moved_to (kept_of h) (block_ptr pb po)) ∷ [] = told ℓ R (kept_of h) vs is_so ∙ ap (λ (r : Ptr). value_of (moved_to (kept_of h) r) ∷ []) at in
