@@ -1,7 +1,7 @@
 -- How many values the flags of a chunk count.
-use Rattle.std.proofs.Common.{◌≡◌, ◌⊎◌, inl, inr, ℕ, ◌+◌, ◌-◌, ◌*◌, ◌/◌, ◌%◌, ◌^◌, ◌<◌, ◌≤◌, min, length, count_ones, is_some, ap, ◌∙◌, arith, ⊎_elim}
+use Rattle.std.proofs.Common.{◌≡◌, ◌≢◌, ◌⊎◌, inl, inr, ℕ, ◌+◌, ◌-◌, ◌*◌, ◌/◌, ◌%◌, ◌^◌, ◌<◌, ◌≤◌, min, length, count_ones, is_some, ap, ◌∙◌, arith, ⊎_elim}
 use Rattle.std.proofs.lemmas.Bool.{cases_lt}
-use Rattle.std.proofs.lemmas.Nat.{pow_below, pow-add}
+use Rattle.std.proofs.lemmas.Nat.{pow_below, pow-add, zero_from_ones}
 use Rattle.thread_local_bits.specs.Bits.{is_set}
 use Rattle.thread_local_model.specs.Place.{id_at}
 use Rattle.thread_local_model.specs.Buckets.{Contents, row, values}
@@ -25,15 +25,22 @@ module _ {V : Type 0} (first now : Contents V) (b k word : ℕ) (same : now ≡ 
       let more = chunk_adds (omega arith) in
       omega (arith, before, more)
 
-  -- a word that is 0 counts nothing
-  pub none_counted : (k + 1) * 64 ≤ 2 ^ b → word ≡ 0 → first_to (k * 64) ≡ first_to ((k + 1) * 64)
-  unfolding lib.Count.ones
-  none_counted inside unset =
-      let none : count_ones word ≡ 0 = ap count_ones unset in
+  -- a chunk of 64 slots adds what its word counts
+  pub whole_counted : (k + 1) * 64 ≤ 2 ^ b → first_to ((k + 1) * 64) ≡ first_to (k * 64) + count_ones word
+  whole_counted inside =
       let end : min ((k + 1) * 64) (2 ^ b) ≡ (k + 1) * 64 = omega arith in
       let more = chunk_adds (omega arith) in
       let next = ap first_to end in
-      omega (arith, more, none, next)
+      omega (arith, more, next)
+
+  -- a word that is 0 counts nothing
+  pub none_counted : (k + 1) * 64 ≤ 2 ^ b → word ≡ 0 → first_to (k * 64) ≡ first_to ((k + 1) * 64)
+  unfolding lib.Count.ones
+  none_counted inside unset = let none : count_ones word ≡ 0 = ap count_ones unset in omega (arith, whole_counted inside, none)
+
+  -- and any other counts something
+  pub some_counted : (k + 1) * 64 ≤ 2 ^ b → word ≢ 0 → first_to (k * 64) < first_to ((k + 1) * 64)
+  some_counted inside set = let some : count_ones word ≢ 0 = λ none. set (zero_from_ones word none) in omega (arith, whole_counted inside, some)
 
 -- a bucket of 64 slots and more has whole chunks
 whole_chunks : (b : ℕ) → (2 ^ b < 64) ⊎ (2 ^ b % 64 ≡ 0)

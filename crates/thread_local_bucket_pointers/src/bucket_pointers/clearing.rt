@@ -4,7 +4,7 @@ ghost use Rattle.thread_local_model.specs.Place.{id_at};
 ghost use Rattle.thread_local_model.specs.Buckets.{row, stands, IsTable};
 ghost use Rattle.thread_local_model.specs.Rows.{with_row, empty_row};
 ghost use Rattle.thread_local_owner_walk.specs.Owner.{cleared_row};
-ghost use Rattle.thread_local_bucket_pointers.specs.Clearing.{AreCleared};
+ghost use Rattle.thread_local_bucket_pointers.specs.Clearing.{AreCleared, AnyStands};
 
 use super::BucketPointers;
 use thread_local_thread_id::{BUCKETS, bucket_size};
@@ -29,6 +29,7 @@ impl<T: Drop> BucketPointers<T> {
             → first ≤ bucket
             → bucket < first + 7
             → row self.old bucket ≡ [] }
+        ensures some { result ≡ true → AnyStands self.old first (first + 7) }
         ensures same { self.new ≡ self.old }
     {
         let mut any = false;

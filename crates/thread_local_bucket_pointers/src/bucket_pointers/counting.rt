@@ -1,5 +1,5 @@
 //! Counting the values of a table by the flags of its slots, 64 at a time.
-ghost use Rattle.std.specs.Prelude.{◌≡◌, ◌+◌, ◌*◌, ◌/◌, ◌^◌, ◌<◌, ◌≤◌, min, length};
+ghost use Rattle.std.specs.Prelude.{◌≡◌, ◌≢◌, ◌+◌, ◌*◌, ◌/◌, ◌^◌, ◌<◌, ◌≤◌, min, length};
 ghost use Rattle.thread_local_model.specs.Place.{id_at};
 ghost use Rattle.thread_local_model.specs.Buckets.{row, values};
 ghost use Rattle.thread_local_model.specs.Walk.{walk};
@@ -9,7 +9,7 @@ use super::BucketPointers;
 use thread_local_thread_id::BUCKETS;
 
 impl<T> BucketPointers<T> {
-    /// The flags of eight chunks, from this one on, or-ed together. They are 0 only where none of
+    /// The flags of eight chunks, from this one on, or-ed together. They are 0 exactly where none of
     /// the chunks has a value.
     #[inline]
     fn any_of_eight(&mut self, bucket: usize, chunk: usize) -> u64
@@ -20,6 +20,9 @@ impl<T> BucketPointers<T> {
         ensures none { result ≡ 0
             → count_below (values self.old) (id_at bucket (chunk * 64))
             ≡ count_below (values self.old) (id_at bucket ((chunk + 8) * 64)) }
+        ensures some { result ≢ 0
+            → count_below (values self.old) (id_at bucket (chunk * 64))
+            < count_below (values self.old) (id_at bucket ((chunk + 8) * 64)) }
     {
         let mut any = 0;
         for at in 0..8 {
