@@ -7,13 +7,13 @@ use thread_local_judged::Judge;
 
 mod lends;
 
-/// A value with room around it, so that the lines of 64 bytes that it lies on hold no other value of
-/// the table, wherever its bucket begins: a thread that writes its value doesn't take the lines of
-/// others' away from them. A slot of up to 8 bytes takes 128.
+/// A value with room around it, so that the lines of 64 bytes that it lies on hold no other value
+/// of the table, wherever its bucket begins: a thread that writes its value doesn't take the lines
+/// of others' away from them. A slot of up to 8 bytes takes 128.
 ///
-/// Contracts see the value. No call waits or takes memory, unless `T::default` does, which `default`
-/// runs. In Rust the crate's users pad by
-/// alignment, which a table here refuses above 16 bytes.
+/// Contracts see the value. No call waits or takes memory, unless `T::default` does, which
+/// `default` runs. In Rust the crate's users pad by alignment, which a table here refuses above 16
+/// bytes.
 #[derive(Drop)]
 #[repr(C)]
 pub struct Padded<T> {
