@@ -1,12 +1,12 @@
 //! The walks of an owner's buckets that lend each value as `&mut`, by ascending id.
-ghost use Rattle.std.specs.Prelude.{◌≡◌, ◌<◌, ◌≤◌, length, Some, IfSome};
+ghost use Rattle.std.specs.Prelude.{◌≡◌, ◌<◌, length, Some, IfSome};
 ghost use types.Logic.{sem};
 ghost use Rattle.std.specs.Iterator.{YieldsFirstMut, YieldsFirstBy, UpTo, item_count};
 ghost use Rattle.std.specs.Iterator.SizeHint.{IsWithinCount};
 ghost use Rattle.thread_local_model.specs.Buckets.{values};
 ghost use Rattle.thread_local_model.specs.Walk.{walk};
 ghost use Rattle.thread_local_buckets.specs.IterMut.{iter_mut_rest, iter_mut_name, entries_mut_rest};
-ghost use Rattle.thread_local_owner_walk.specs.Cursor.{read_to, values_left, IsOwnerWalk};
+ghost use Rattle.thread_local_owner_walk.specs.Cursor.{HasRead, MayRead};
 ghost use Rattle.thread_local_buckets.specs.LendingValues.{LendsValues};
 ghost use Rattle.thread_local_buckets.specs.Entered.{IsEntered};
 
@@ -51,17 +51,12 @@ impl<'a, T> Model for EntriesMut<'a, T> {
 /// Reads on where no flag is at hand, and enters the chunk whose flags it reads.
 #[inline]
 fn lead<T>(loan: &mut Loan<'_, T>, cursor: &mut OwnerCursor)
-    requires walk { IsOwnerWalk loan.old.contents cursor.old }
-    requires ahead { loan.old.given ≤ read_to cursor.old.raw }
-    requires some { 0 < values_left cursor.old }
+    requires may_read { MayRead loan.old.contents loan.old.given cursor.old }
     requires entered { 0 < cursor.old.rest → IsEntered loan.old cursor.old.raw }
     ensures name { loan.new.name ≡ loan.old.name }
     ensures contents { loan.new.contents ≡ loan.old.contents }
     ensures given { loan.new.given ≡ loan.old.given }
-    ensures walk { IsOwnerWalk loan.old.contents cursor.new }
-    ensures ahead { loan.old.given ≤ read_to cursor.new.raw }
-    ensures some { 0 < cursor.new.rest }
-    ensures left { values_left cursor.new ≡ values_left cursor.old }
+    ensures read { HasRead loan.old.contents loan.old.given cursor.old cursor.new }
     ensures entered { IsEntered loan.new cursor.new.raw }
 {
     if cursor.rest == 0 {

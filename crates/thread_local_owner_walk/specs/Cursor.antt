@@ -1,5 +1,5 @@
 -- Where an owner's walk is: behind slots whose flags it has read. No slot before these has a value.
-use Rattle.std.specs.Prelude.{◌≡◌, ℕ, ◌+◌, ◌-◌, ◌*◌, ◌/◌, ◌%◌, ◌^◌, ◌<◌, min, length, is_some, count_ones}
+use Rattle.std.specs.Prelude.{◌≡◌, ℕ, ◌+◌, ◌-◌, ◌*◌, ◌/◌, ◌%◌, ◌^◌, ◌<◌, ◌≤◌, min, length, is_some, count_ones}
 use Rattle.thread_local_bits.specs.Bits.{is_set}
 use Rattle.thread_local_model.specs.Place.{id_at}
 use Rattle.thread_local_model.specs.Buckets.{Contents, row, values}
@@ -47,3 +47,16 @@ pub record IsOwnerWalk {V : Type 0} (contents : Contents V) (cursor : OwnerCurso
   pub counted : values_left cursor ≡ length (walk (values contents))
   pub few : values_left cursor < 2 ^ 63
   pub fits : cursor.raw.yielded + cursor.later < 2 ^ 63
+
+-- the walk has a value left, and the flags that it hasn't read are of ids from `given` on
+pub record MayRead {V : Type 0} (contents : Contents V) (given : ℕ) (cursor : OwnerCursor) : Type 0 where
+  pub walk : IsOwnerWalk contents cursor
+  pub ahead : given ≤ read_to cursor.raw
+  pub some : 0 < values_left cursor
+
+-- the walk has flags at hand now, and has passed no value
+pub record HasRead {V : Type 0} (contents : Contents V) (given : ℕ) (before after : OwnerCursor) : Type 0 where
+  pub walk : IsOwnerWalk contents after
+  pub ahead : given ≤ read_to after.raw
+  pub some : 0 < after.rest
+  pub left : values_left after ≡ values_left before

@@ -7,7 +7,7 @@ ghost use Rattle.thread_local_model.specs.Buckets.{Contents, row, stands, values
 ghost use Rattle.thread_local_model.specs.Rows.{value_in, with_slot};
 ghost use Rattle.thread_local_model.specs.Walk.{walk, paired};
 ghost use Rattle.thread_local_owner_walk.specs.Owner.{NoneBelow};
-ghost use Rattle.thread_local_owner_walk.specs.Cursor.{next_bucket, read_to, slot_at, values_left, AreFlagsAt, IsAt, IsOwnerWalk};
+ghost use Rattle.thread_local_owner_walk.specs.Cursor.{next_bucket, read_to, slot_at, values_left, AreFlagsAt, HasRead, IsAt, IsOwnerWalk, MayRead};
 
 use thread_local_thread_id::BUCKETS;
 
@@ -206,15 +206,10 @@ impl OwnerCursor {
     /// value must be left.
     #[inline]
     pub fn read_on<P: FlagSource>(&mut self, source: &mut P)
-        requires walk { IsOwnerWalk (P.contents source.old) self.old }
-        requires ahead { P.given source.old ≤ read_to self.old.raw }
+        requires may_read { MayRead (P.contents source.old) (P.given source.old) self.old }
         requires passed { self.old.rest ≡ 0 }
-        requires some { 0 < values_left self.old }
         ensures same { source.new ≡ source.old }
-        ensures walk { IsOwnerWalk (P.contents source.old) self.new }
-        ensures ahead { P.given source.old ≤ read_to self.new.raw }
-        ensures some { 0 < self.new.rest }
-        ensures left { values_left self.new ≡ values_left self.old }
+        ensures read { HasRead (P.contents source.old) (P.given source.old) self.old self.new }
     {
         let mut raw = self.raw;
         let flags = next_flags(source, &mut raw);
@@ -229,14 +224,9 @@ impl OwnerCursor {
     /// Reads on where no flag is at hand.
     #[inline]
     pub fn reach<P: FlagSource>(&mut self, source: &mut P)
-        requires walk { IsOwnerWalk (P.contents source.old) self.old }
-        requires ahead { P.given source.old ≤ read_to self.old.raw }
-        requires some { 0 < values_left self.old }
+        requires may_read { MayRead (P.contents source.old) (P.given source.old) self.old }
         ensures same { source.new ≡ source.old }
-        ensures walk { IsOwnerWalk (P.contents source.old) self.new }
-        ensures ahead { P.given source.old ≤ read_to self.new.raw }
-        ensures some { 0 < self.new.rest }
-        ensures left { values_left self.new ≡ values_left self.old }
+        ensures read { HasRead (P.contents source.old) (P.given source.old) self.old self.new }
     {
         if self.rest == 0 {
             self.read_on(source);
