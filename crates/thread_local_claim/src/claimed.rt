@@ -35,8 +35,8 @@ const VACANT: u64 = 1;
 const HOLDING: u64 = 2;
 
 /// The slot of an id that is claimed. Contracts see its table, its id with the index in its bucket,
-/// whether its bucket is reserved, the sharing, and what it has learnt of the slot. It stores no index: callers
-/// pass the index, and the number of the word that has the flag.
+/// whether its bucket is reserved, the sharing, and what it has learnt of the slot. It stores no
+/// index: callers pass the index, and the number of the word that has the flag.
 pub(crate) struct ClaimedSlot<'a, T> {
     /// The address of the bucket's pointer, and once the bucket is found, of the slot's value.
     at: *const (),
