@@ -17,8 +17,8 @@ use thread_local_shared_bucket::SharedBucket;
 use thread_local_thread_id::Thread;
 
 /// The slot of an id, for whoever has the right to the id. Contracts see its table, the sharing, its
-/// id, whether its bucket is reserved, and what it has learnt of the slot: that the bucket was missing, that
-/// the slot is vacant, or the value that the slot holds.
+/// id, whether its bucket is reserved, and what it has learnt of the slot: that the bucket was
+/// missing, that the slot is vacant, or the value that the slot holds.
 ///
 /// No call waits or takes memory. Only `look`, `look_again`, `install` and `publish` make atomic
 /// steps.
