@@ -14,7 +14,6 @@ use std::thread::Threads;
 use std::time::{Clock, Instant};
 use std::{io, thread};
 use thread_local::Padded;
-use thread_local_judged::Judge;
 use thread_local_table::{Local, ThreadLocal};
 
 /// How many values all walks of a measurement meet together, and how many are published.
@@ -68,12 +67,11 @@ impl Work {
         alloc: Global,
         threads: u64,
     ) -> io::Result<Round> {
-        Cell::<u64>::judge();
         if let Work::GetHit = self {
             let table = ThreadLocal::<Padded<Cell<u64>>>::made_with(alloc);
             return by_threads(&table, rt, self, threads);
         }
-        let table = ThreadLocal::<Cell<u64>>::new(alloc);
+        let table = ThreadLocal::<Cell<u64>>::made_with(alloc);
         by_threads(&table, rt, self, threads)
     }
 
