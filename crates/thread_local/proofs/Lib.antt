@@ -1,1 +1,3 @@
 mod Padding
+pub mod Reserved
+pub mod Filled

@@ -2,6 +2,11 @@ pub use Rattle.thread_local_model.specs.Buckets
 pub use Rattle.thread_local_model.specs.Held
 pub use Rattle.thread_local_model.specs.Place
 pub use Rattle.thread_local_model.specs.Walk
-pub use Rattle.thread_local_published.specs.Views
+pub use Rattle.thread_local_tokens.specs.Views
 mod Bytes
 pub mod Pooled
+pub use Rattle.thread_local_model.specs.Answers
+pub use Rattle.thread_local_model.specs.Learnt
+pub mod Errors
+pub mod Seats
+pub mod Text

@@ -12,7 +12,8 @@ use std::marker::Model;
 use std::sync::Wait;
 use thread_local_buckets::{IntoIter, IterMut};
 use thread_local_judged::Judge;
-use thread_local_table::{Local, ThreadLocal};
+use crate::local::Local;
+use crate::table::ThreadLocal;
 use thread_local_thread_id::LocalError;
 
 /// A table with fewer calls. Deprecated: use `ThreadLocal`. Each call is the table's: it waits,

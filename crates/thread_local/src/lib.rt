@@ -33,11 +33,13 @@
 
 pub mod buckets;
 pub mod cached;
+mod error;
 pub mod iter;
 pub mod local;
 pub mod padded;
 pub mod schedule;
 pub mod scratch;
+mod seat;
 pub mod table;
 pub mod thread_id;
 

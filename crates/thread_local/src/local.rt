@@ -1,3 +1,212 @@
 //! What a thread has in a table: an id of its own, through which it finds or makes its value.
+ghost use Rattle.std.specs.Prelude.{◌≡◌, ◌≢◌, ◌-◌, ◌^◌, ◌<◌, nat_lt, ⊤, true, false, None, Ok, Err, OnOk, IfOk, IsSome, Some, option_map, MatchResult, alloc_error, Result};
+ghost use Rattle.thread_local_model.specs.Answers.{Get, GetOr, Found, Refused, Failed, answer};
+ghost use Rattle.thread_local_model.specs.Cursor.{fresh_cursor};
+ghost use Rattle.thread_local.specs.Seats.{knows, knowing, holding, own_of, published_of, IsAnswered, IsFilled, Fails, IsRefused};
 
-pub use thread_local_table::{Local, Seat, SetError, TryError};
+pub use crate::seat::{Seat, SetError, TryError};
+use std::alloc::AllocError;
+use std::fmt;
+use std::marker::Model;
+use std::sync::Wait;
+use thread_local_tokens::Published;
+use thread_local_shared_buckets::Iter;
+
+// `get_or` and `get_or_default` stand here.
+mod lends;
+
+/// What one thread has in a table: an id, its own until the drop, and what is known of the id's
+/// slot.
+///
+/// Dropping it keeps the value and gives the id back, under the table's lock: that may wait, and
+/// takes no memory. A forgotten one keeps its id until the table is cleared.
+///
+/// Each call is the seat's: none takes a lock, and only `set` and the `get_or` family (`get_or`,
+/// `get_or_default`, `get_or_try`, `try_fill`) take memory, for a bucket; the closure or the
+/// `T::default` that these run may wait, and so may the drop of a closure that they don't run.
+/// References that calls answer live no longer than the borrow of the `Local`.
+///
+/// Contracts see the table's name and its sharing, the id, the number of reserved slots, and what is
+/// known of the id's slot: its value, if there is one, and whether its bucket is known to stand.
+/// Rust's crate finds the running thread by itself, and has no such type.
+pub struct Local<'a, T, R: Wait> {
+    rt: &'a R,
+    seat: Seat<'a, T>,
+}
+
+impl<'a, T, R: Wait> Model for Local<'a, T, R> {
+    ghost use Rattle.thread_local.specs.Seats.{LocalView, local_view_coded};
+
+    ghost Value = { LocalView T };
+
+    ghost coded = { local_view_coded T.code };
+
+    ghost view = { λ local. local.seat };
+}
+
+impl<'a, T, R: Wait> Local<'a, T, R> {
+    /// A `Local` of a seat.
+    pub(crate) fn new(rt: &'a R, seat: Seat<'a, T>) -> Local<'a, T, R>
+        ensures { result ≡ seat.entry }
+    {
+        Local { rt, seat }
+    }
+
+    /// The seat, for code that isn't generic over the runtime `R`.
+    pub fn seat(&self) -> &Seat<'a, T>
+        ensures { result.now ≡ self.now }
+    {
+        &self.seat
+    }
+
+    /// The seat, for writing. Where two seats are swapped, each id still goes back to its own table
+    /// when its `Local` is dropped.
+    pub fn seat_mut(&mut self) -> &mut Seat<'a, T>
+        ensures { result.now ≡ self.old }
+    {
+        &mut self.seat
+    }
+
+    /// The value, or None. It reads what the `Local` knows already, without an atomic operation.
+    pub fn get(&self) -> Option<&T>
+        ensures { answer {E = ⊤} (knows self.now) Get ≡ Found (option_map (λ x. x.now) result) }
+    {
+        self.seat.get()
+    }
+
+    /// The id. Rust's crate keeps a thread's id to itself.
+    pub fn id(&self) -> usize
+        ensures id { result ≡ self.now.id }
+        ensures in_range { result < 2 ^ 63 - 1 }
+    {
+        self.seat.id()
+    }
+
+    /// What the slot was published with, as a token, where it holds a value: whoever has the token
+    /// reads that value through the table, for as long as the sharing lasts, and the owner finds it
+    /// when the sharing ends. It reads what the `Local` knows already, without an atomic operation.
+    /// Rust's crate has no such call.
+    pub fn published(&self) -> Option<Published<T>>
+        ensures { result ≡ published_of self.now }
+    {
+        self.seat.published()
+    }
+
+    /// Shows that the slot holds what a token of this id and this sharing says, whichever `Local`
+    /// had the id then. At run time it does nothing. Rust's crate has no such call.
+    pub fn agrees(&mut self, published: &Published<T>)
+        requires id { self.old.id ≡ published.now.id }
+        requires sharing { self.old.sharing ≡ published.now.sharing }
+        requires named { IsSome self.old.sharing }
+        ensures holds { self.old.value ≡ Some published.now.value }
+        ensures same { self.new ≡ self.old }
+    {
+        self.seat.agrees(published);
+    }
+
+    /// Shows that two `Local`s of one table have different ids. At run time it does nothing. Rust's
+    /// crate has no such call.
+    pub fn apart<S: Wait>(&mut self, other: &mut Local<'_, T, S>)
+        requires { self.old.table ≡ other.old.table }
+        ensures ids { self.old.id ≢ other.old.id }
+        ensures same { (self.new ≡ self.old) × (other.new ≡ other.old) }
+    {
+        self.seat.apart(&mut other.seat)
+    }
+
+    /// Whether the slot is one of the table's reserved slots. If so, the `get_or` family is never
+    /// refused memory. Rust's crate has no such call.
+    pub fn is_reserved(&self) -> bool
+        ensures reserved { result ≡ nat_lt self.now.id self.now.reserved }
+        ensures known { result ≡ true → self.now.known ≡ true }
+    {
+        self.seat.is_reserved()
+    }
+
+    /// Publishes a value that is at hand, where the slot is empty. `Occupied` gives it back where
+    /// the slot holds one, and `Memory` where its bucket is missing and memory has run out. As
+    /// `OnceCell::set` of Rust; the Rust crate has no such call.
+    pub fn set(&mut self, value: T) -> Result<(), SetError<T>>
+        ensures ok { OnOk result ((self.old.value ≡ None) × (self.new ≡ knowing self.old (holding value))) }
+        ensures occupied { (given : T)
+            → result ≡ Err (SetError.Occupied given)
+            → IsSome self.old.value × (given ≡ value) × (self.new ≡ self.old) }
+        ensures memory { (given : T)
+            → result ≡ Err (SetError.Memory given)
+            → (self.old.value ≡ None) × (self.old.known ≡ false) × (given ≡ value) × (self.new ≡ self.old) }
+    {
+        self.seat.set(value)
+    }
+
+    /// Fills the slot as `get_or_try` does, without answering the value. Its clauses also say what
+    /// the `Local` knows afterwards. Those of `get_or_try` don't: a clause on what a call leaves
+    /// beside a reference can't speak of errors of any type. Rust's crate has no such call.
+    pub fn try_fill<F: FnOnce() -> Result<T, E> + Drop, E>(
+        &mut self,
+        create: F,
+    ) -> Result<(), TryError<E>>
+        requires { self.old.value ≡ None → F.pre create }
+        ensures ok { OnOk result (IsFilled E (λ value. F.post create (Ok value)) self.old self.new) }
+        ensures create { (error : E)
+            → result ≡ Err (TryError.Create error)
+            → Fails (λ e. F.post create (Err e)) self.old self.new error }
+        ensures memory { result ≡ Err (TryError.Memory alloc_error) → IsRefused E self.old self.new }
+        ensures granted { self.old.known ≡ true → result ≢ Err (TryError.Memory alloc_error) }
+    {
+        self.seat.try_fill(create)
+    }
+
+    /// The value. Where the slot is empty, its bucket is found or made, then the closure is called
+    /// and its value is published. `Create` hands on the closure's error, and nothing is published.
+    /// `Memory` means out of memory for the bucket, and the closure isn't called. Rust's crate
+    /// makes the value before its bucket, takes `&self`, and doesn't answer out of memory.
+    pub fn get_or_try<F: FnOnce() -> Result<T, E> + Drop, E>(
+        &mut self,
+        create: F,
+    ) -> Result<&T, TryError<E>>
+        requires { self.old.value ≡ None → F.pre create }
+        ensures ok { IfOk result (λ there.
+            IsAnswered E (λ value. F.post create (Ok value)) self.old there.now) }
+        ensures create { (error : E)
+            → result ≡ Err (TryError.Create error)
+            → (answer (knows self.old) (GetOr (Err error) false) ≡ Failed error) × F.post create (Err error) }
+        ensures memory { result ≡ Err (TryError.Memory alloc_error)
+            → (made : Result T E)
+            → answer (knows self.old) (GetOr made true) ≡ Refused }
+        ensures granted { self.old.known ≡ true → result ≢ Err (TryError.Memory alloc_error) }
+    {
+        self.seat.try_fill(create)?;
+        Ok(self.seat.value())
+    }
+}
+
+impl<'a, T: Sync, R: Wait> Local<'a, T, R> {
+    /// The values of the table by ascending id, each lent as `&`, while others may publish more. A
+    /// walk that runs to its end gives the `Local`'s own value, where there is one. Rust's crate
+    /// has no such call.
+    pub fn iter(&self) -> Iter<'_, T>
+        ensures begins { result.cursor ≡ fresh_cursor }
+        ensures own { result.own ≡ own_of self.now }
+        ensures shown { result.shown ≡ true }
+    {
+        self.seat.iter()
+    }
+}
+
+impl<'a, T, R: Wait> Drop for Local<'a, T, R> {
+    fn drop(self) {
+        let Self { rt, seat } = self;
+        seat.give_back(rt);
+    }
+}
+
+impl<'a, T: fmt::Debug, R: Wait> fmt::Debug for Local<'a, T, R> {
+    ghost use Rattle.thread_local.specs.Text.{local_text};
+
+    ghost debug_output = { λ local. local_text T.debug_output local.value };
+
+    /// Writes the value, if there is one, as Rust's crate writes a whole table.
+    fn fmt<W: fmt::Write>(&self, f: &mut fmt::Formatter<W>) -> fmt::Result {
+        self.seat.fmt(f)
+    }
+}

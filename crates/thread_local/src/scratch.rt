@@ -6,7 +6,8 @@ use std::cell::Cell;
 use std::marker::Model;
 use std::sync::Wait;
 use thread_local_judged::Judge;
-use thread_local_table::{Local, ThreadLocal};
+use crate::local::Local;
+use crate::table::ThreadLocal;
 use thread_local_thread_id::LocalError;
 
 mod lends;

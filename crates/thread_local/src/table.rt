@@ -1,7 +1,361 @@
-//! The object that keeps a value for each thread, what the type of its values has to show, and
-//! tokens that say what its slots were published with.
+//! The object that keeps a value for each thread: the buckets that threads share, and the ids, under
+//! a lock. What the type of its values has to show, and tokens that say what its slots were
+//! published with, have their names here too.
+ghost use Rattle.std.specs.Prelude.{◌≡◌, ◌≢◌, ◌≤◌, ◌<◌, ◌-◌, ◌^◌, ℕ, Option, true, false, None, Some, Err, IfOk, IsSome, IsNone};
+ghost use Rattle.thread_local_model.specs.Capacity.{reserved_slots};
+ghost use Rattle.thread_local_judged.specs.Judged.{Judged};
+ghost use Rattle.thread_local_shared_buckets.specs.Walks.{fresh};
 
+use crate::local::Local;
+use crate::seat::Seat;
+use std::alloc::Global;
+use std::default::MadeWith;
+use std::marker::Model;
+use std::mem::replace;
+use std::sync::Wait;
 pub use thread_local_buckets::CapacityError;
+use thread_local_buckets::{Buckets, EntriesMut, IntoEntries, IntoIter, IterMut};
+use thread_local_ids::{Ids, Lock};
 pub use thread_local_judged::{Judge, judge_sync, judge_value};
-pub use thread_local_published::{Book, Published};
-pub use thread_local_table::ThreadLocal;
+use thread_local_shared_buckets::{Entries, Iter, Shared};
+use thread_local_tokens::Right;
+pub use thread_local_tokens::{Book, Published};
+use thread_local_thread_id::manager::IDS;
+use thread_local_thread_id::{LocalError, Thread};
+
+// `buckets_mut` and `drain` stand here.
+mod lends;
+
+/// One object that keeps a separate value for each thread that uses it.
+///
+/// A thread asks for a `Local`, which takes the least id that isn't held, and finds or makes that
+/// id's value through it. A value outlives its `Local`, and stays where it is until the exclusive
+/// owner of the table moves or drops it. The owner walks over all values by ascending id; if `T` is
+/// `Sync`, every thread may, while others publish more. Threads share a table through a `&`, and it
+/// can be sent to another thread. One can be made of every `T: Send` that is judged, as `new` says.
+///
+/// Only `local` and the drop of a `Local` take the table's lock, so no other call here waits; only
+/// `local` and `with_capacity` take memory. But `clear` drops values, as the drop of a table or of a
+/// walk by value does, and a value's drop may wait and may take memory: a value may hold a `Local`
+/// of another table.
+///
+/// A bucket of 2^58 bytes or more, and values aligned above 16, are refused as if out of memory, here
+/// and by every `Local`.
+///
+/// Contracts see the table's name, the number of reserved slots, and the sharing, if that has a name.
+/// A sharing begins when the table is made, cleared or renewed, and lasts until an owner has the table
+/// alone. While it lasts, tokens (`Published`) say what slots were published with.
+#[derive(Drop)]
+pub struct ThreadLocal<T> {
+    pub(crate) buckets: Shared<T>,
+    pub(crate) ids: Lock<Ids>,
+    own: Right,
+    pub(crate) alloc: Global,
+}
+
+impl<T> Model for ThreadLocal<T> {
+    ghost use Rattle.std.specs.Prelude.{◌≡◌, ◌-◌, ◌^◌};
+    ghost use Rattle.thread_local_shared_buckets.specs.TableView.{TableView, table_view_coded};
+
+    ghost Value = { TableView };
+
+    ghost coded = { table_view_coded };
+
+    ghost view = { λ table. table.buckets };
+
+    // The ids under the lock are those of the table whose buckets these are, and so is its own
+    // right.
+    ghost invariant = { λ table.
+        (table.ids.tag ≡ table.buckets.table)
+        × (table.own.table ≡ table.buckets.table)
+        × (table.own.id ≡ 2 ^ 63 - 1) };
+}
+
+impl<T> ThreadLocal<T> {
+    /// A table with no value, no bucket and no id held. The type of the values is judged: the check
+    /// shows that at most types, and `Judge` and `judge_sync` show it at the others. Rust's crate
+    /// takes no allocator.
+    pub fn new(alloc: Global) -> ThreadLocal<T>
+    where
+        T: Send,
+        requires judged { Judged T.row }
+        ensures sharing { IsSome result.sharing }
+        ensures reserved { result.reserved ≡ 0 }
+    {
+        ThreadLocal::empty(alloc)
+    }
+
+    /// As `new`, for callers that can't show `T: Send`: a trait's method doesn't know the bounds of
+    /// its impl.
+    fn empty(alloc: Global) -> ThreadLocal<T>
+        requires judged { Judged T.row }
+        ensures sharing { IsSome result.sharing }
+        ensures reserved { result.reserved ≡ 0 }
+    {
+        let mut ids = Ids::new(alloc);
+        let own = ids.own_right();
+        ThreadLocal::of(alloc, Buckets::new(alloc), ids, own)
+    }
+
+    /// Makes a table of an owner's buckets, their ids, and the table's own right.
+    fn of(alloc: Global, buckets: Buckets<T>, ids: Ids, own: Right) -> ThreadLocal<T>
+        ghost past: { Option ℕ }
+        requires judged { Judged T.row }
+        requires own { (own.table ≡ ids.table) × (own.id ≡ 2 ^ 63 - 1) }
+        ensures table { result.table ≡ ids.table }
+        ensures sharing { IsSome result.sharing × (result.sharing ≢ past) }
+        ensures reserved { result.reserved ≡ buckets.reserved }
+    {
+        ThreadLocal {
+            buckets: Shared::new_apart(buckets, &own),
+            ids: Lock::new(ids),
+            own,
+            alloc,
+        }
+    }
+
+    /// A table with no value and no id held, but with room for `capacity` ids, and with the first
+    /// buckets, one for each binary digit of the capacity. Their slots are reserved:
+    /// `Local::is_reserved` says of a `Local` whether its slot is one of them.
+    ///
+    /// `TooLarge` means that the capacity is 2^63 or more, and comes before memory is asked for.
+    /// `Memory` means out of memory, for ids beyond the first 64 or for a bucket; what was obtained
+    /// before is freed, though no clause says so. Rust's crate panics where this refuses.
+    pub fn with_capacity(alloc: Global, capacity: usize) -> Result<ThreadLocal<T>, CapacityError>
+    where
+        T: Drop + Send,
+        requires judged { Judged T.row }
+        ensures sharing { IfOk result (λ table. IsSome table.sharing) }
+        ensures reserved { IfOk result (λ table. table.reserved ≡ reserved_slots capacity) }
+        ensures too_large { 2 ^ 63 ≤ capacity → result ≡ Err CapacityError.TooLarge }
+        ensures not_too_large { result ≡ Err CapacityError.TooLarge → 2 ^ 63 ≤ capacity }
+    {
+        if capacity >= 1 << 63 {
+            return Err(CapacityError::TooLarge);
+        }
+        let mut ids = Ids::with_room(alloc, capacity)?;
+        let buckets = Buckets::with_capacity(alloc, capacity)?;
+        let own = ids.own_right();
+        Ok(ThreadLocal::of(alloc, buckets, ids, own))
+    }
+
+    /// A `Local` with the least id that isn't held. It takes the table's lock, so it may wait, and
+    /// looks once whether the id's slot holds a value, so that `get` needs no look.
+    ///
+    /// It asks for memory only where as many ids are held as ever were at once and there is no room
+    /// for one more, and not for the first 64: `Memory` means out of memory. `Exhausted` means that
+    /// all 2^63 - 1 ids are held. Rust's crate finds the running thread by itself.
+    #[inline(always)]
+    pub fn local<'a, R: Wait>(&'a self, rt: &'a R) -> Result<Local<'a, T, R>, LocalError>
+        ensures table { IfOk result (λ local.
+            (local.table ≡ self.now.table)
+            × (local.sharing ≡ self.now.sharing)
+            × (local.reserved ≡ self.now.reserved)) }
+        ensures in_range { IfOk result (λ local. local.id < 2 ^ 63 - 1) }
+    {
+        let held = self.ids.lock(rt).take()?;
+        Ok(Local::new(rt, Seat::new(self, held)))
+    }
+
+    /// How many slots the table's buckets have together. Rust's crate has no such call.
+    pub fn slots(&mut self) -> usize
+        ensures reserved { self.old.reserved ≤ result }
+        ensures same { self.new ≡ self.old }
+    {
+        self.buckets.slots()
+    }
+
+    /// The values by ascending id, each lent as `&mut`. It is the walk `iter_mut` of the buckets
+    /// that `buckets_mut` lends, whose contract says what it gives. Rust's crate promises no order.
+    pub fn iter_mut(&mut self) -> IterMut<'_, T> {
+        self.buckets.owner().iter_mut()
+    }
+
+    /// `iter_mut`, with the id of each value: the walk `entries_mut` of the buckets that
+    /// `buckets_mut` lends. Rust's crate has no such call.
+    pub fn entries_mut(&mut self) -> EntriesMut<'_, T> {
+        self.buckets.owner().entries_mut()
+    }
+
+    /// Lends the value at an id for writing, or answers `None` where there is none: it is `get_mut`
+    /// of the buckets that `buckets_mut` lends, whose contract says what it finds and what a write
+    /// changes. No `Local` has an id of 2^63 - 1 or more. Rust's crate has no such call.
+    pub fn get_mut(&mut self, id: usize) -> Option<&mut T>
+        ensures out_of_range { 2 ^ 63 - 1 ≤ id → IsNone result }
+    {
+        if id >= IDS {
+            return None;
+        }
+        self.buckets.owner().get_mut(Thread::new(id))
+    }
+
+    /// The buckets by value. Of what is in them the number of reserved slots is known, and the
+    /// calls of `Buckets` say what they find. The ids are dropped. Rust's crate has no such call.
+    pub fn into_buckets(self) -> Buckets<T>
+        ensures { result.reserved ≡ self.reserved }
+    {
+        self.into_published().0
+    }
+
+    /// The values by ascending id, each moved out with its id: the walk `into_entries` of the
+    /// buckets that `into_buckets` gives. Rust's crate has no such call.
+    pub fn into_entries(self) -> IntoEntries<T> {
+        self.into_buckets().into_entries()
+    }
+
+    /// The buckets by value, and what the slots were published with in the sharing that ends:
+    /// the book tells of each token of this sharing that its value is there, at its id. The ids are
+    /// dropped. Rust's crate has no such call.
+    pub fn into_published(self) -> (Buckets<T>, Book<T>)
+        ensures reserved { result.0.reserved ≡ self.reserved }
+        ensures sharing { result.1.sharing ≡ self.sharing }
+        ensures contents { result.1.contents ≡ result.0.contents }
+    {
+        let Self {
+            buckets,
+            ids: _,
+            own: _,
+            alloc: _,
+        } = self;
+        buckets.into_published()
+    }
+
+    /// Begins another sharing of the same buckets, with a name: an owner who has the table alone
+    /// ends the one before. Ids and values stay. Rust's crate has no such call.
+    pub fn renew(&mut self)
+        ensures table { self.new.table ≡ self.old.table }
+        ensures sharing { IsSome self.new.sharing × (self.new.sharing ≢ self.old.sharing) }
+        ensures reserved { self.new.reserved ≡ self.old.reserved }
+    {
+        self.buckets.judged();
+        self.buckets.renew(&self.own);
+    }
+
+    /// Drops every value, frees every bucket that isn't reserved, and takes every id back, those of
+    /// forgotten `Local`s too. The reserved buckets and the room for ids stay; in Rust's crate the
+    /// reserved buckets go too. For contracts the table is another one from then on.
+    pub fn clear(&mut self)
+    where
+        T: Drop,
+        ensures table { self.new.table ≢ self.old.table }
+        ensures sharing { IsSome self.new.sharing × (self.new.sharing ≢ self.old.sharing) }
+        ensures reserved { self.new.reserved ≡ self.old.reserved }
+    {
+        self.cleared();
+    }
+
+    /// `clear`, with a name for the sharing that isn't a given one.
+    fn cleared(&mut self)
+    where
+        T: Drop,
+        ghost past: { Option ℕ }
+        ensures table { self.new.table ≢ self.old.table }
+        ensures sharing { IsSome self.new.sharing × (self.new.sharing ≢ past) }
+        ensures reserved { self.new.reserved ≡ self.old.reserved }
+    {
+        self.buckets.judged();
+        let alloc = self.alloc;
+        let Self {
+            buckets,
+            ids,
+            mut own,
+            alloc: _,
+        } = replace(self, ThreadLocal::empty(alloc));
+        let mut buckets = buckets.into_buckets();
+        buckets.clear();
+        let mut ids = ids.into_inner();
+        ids.clear();
+        let mut fresh = ids.own_right();
+        own.apart(&mut fresh);
+        *self = ThreadLocal::of(alloc, buckets, ids, fresh);
+    }
+}
+
+impl<T: Sync> ThreadLocal<T> {
+    /// The values by ascending id, each lent as `&`, while threads may publish more. A value
+    /// published behind the walk isn't given, and one published ahead of it may be. Rust's crate
+    /// promises no order.
+    pub fn iter(&self) -> Iter<'_, T>
+        ensures { result ≡ fresh None true }
+    {
+        Iter::new(&self.buckets)
+    }
+
+    /// `iter`, with the id of each value: which worker's each is. Rust's crate has no such call.
+    pub fn entries(&self) -> Entries<'_, T>
+        ensures { result ≡ fresh None true }
+    {
+        self.iter().with_ids()
+    }
+
+    /// `iter`, which gives what a token says: a walk that runs to its end gives this value, at its
+    /// id. Rust's crate has no such call.
+    pub fn iter_with(&self, published: &Published<T>) -> Iter<'_, T>
+        requires sharing { published.now.sharing ≡ self.now.sharing }
+        requires named { IsSome self.now.sharing }
+        ensures { result ≡
+            fresh
+            (Some (record { id = published.now.id; value = published.now.value }))
+            true }
+    {
+        Iter::with_own(&self.buckets, published.id(), self.value(published))
+    }
+
+    /// The value that a token's slot was published with. It can't fail, and is one atomic load, of
+    /// the bucket's pointer. Rust's crate has no such call.
+    pub fn value<'a>(&'a self, published: &Published<T>) -> &'a T
+        requires sharing { published.now.sharing ≡ self.now.sharing }
+        requires named { IsSome self.now.sharing }
+        ensures { result.now ≡ published.now.value }
+    {
+        self.buckets.value(published)
+    }
+}
+
+impl<T: Judge + Send> MadeWith<Global> for ThreadLocal<T> {
+    ghost is_made_with = { λ table. IsSome table.sharing × (table.reserved ≡ 0) };
+
+    /// A table as `new` makes it. Rust has `Default` for it; here the bound shows that the type is
+    /// judged.
+    fn made_with(alloc: Global) -> ThreadLocal<T> {
+        T::judge();
+        ThreadLocal::empty(alloc)
+    }
+}
+
+impl<T: Drop> IntoIterator for ThreadLocal<T> {
+    type Item = T;
+
+    type IntoIter = IntoIter<T>;
+
+    /// The values by ascending id, each moved out. A walk that is dropped early drops the rest.
+    fn into_iter(self) -> IntoIter<T> {
+        self.into_buckets().into_iter()
+    }
+}
+
+impl<'a, T> IntoIterator for &'a mut ThreadLocal<T> {
+    type Item = &'a mut T;
+
+    type IntoIter = IterMut<'a, T>;
+
+    /// The values by ascending id, each lent as `&mut`, as `iter_mut`.
+    fn into_iter(self) -> IterMut<'a, T> {
+        self.iter_mut()
+    }
+}
+
+impl<'a, T: Sync> IntoIterator for &'a ThreadLocal<T> {
+    type Item = &'a T;
+
+    type IntoIter = Iter<'a, T>;
+
+    ghost into_iter_gives = { λ table walk. walk ≡ fresh None false };
+
+    /// The values by ascending id, each lent as `&`, as `iter`. The walk's `next` asks that threads
+    /// may share the values, which is shown where the walk is used: the check shows it at most
+    /// types and at a generic `T: Sync`, and `judge_sync` shows it at the others.
+    fn into_iter(self) -> Iter<'a, T> {
+        Iter::unshown(&self.buckets)
+    }
+}

@@ -14,7 +14,8 @@ use std::thread::Threads;
 use std::time::{Clock, Instant};
 use std::{io, thread};
 use thread_local::Padded;
-use thread_local_table::{Local, ThreadLocal};
+use thread_local::ThreadLocal;
+use thread_local::local::Local;
 
 /// How many values all walks of a measurement meet together, and how many are published.
 const VALUES: u32 = 1 << 20;

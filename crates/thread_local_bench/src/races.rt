@@ -11,7 +11,8 @@ use std::thread::Threads;
 use std::time::{Clock, Instant};
 use std::{io, thread};
 use thread_local_judged::judge_sync;
-use thread_local_table::{Local, SetError, ThreadLocal};
+use thread_local::ThreadLocal;
+use thread_local::local::{Local, SetError};
 
 /// How many `Local`s a thread holds at most.
 const LOCALS: usize = 8;

@@ -8,7 +8,8 @@ use std::io;
 use std::sync::Wait;
 use std::time::{Clock, Duration, Instant};
 use thread_local_judged::Judge;
-use thread_local_table::{Local, ThreadLocal};
+use thread_local::ThreadLocal;
+use thread_local::local::Local;
 
 /// A `Local`, unless the call is refused.
 #[inline(always)]

@@ -5,7 +5,7 @@ use std::sync::Arc;
 use std::sync::atomic::AtomicU64;
 use std::sync::atomic::Ordering::SeqCst;
 use thread_local_judged::judge_sync;
-use thread_local_table::ThreadLocal;
+use thread_local::ThreadLocal;
 
 /// How many values were dropped.
 #[derive(Drop)]

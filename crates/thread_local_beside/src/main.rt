@@ -15,7 +15,7 @@ use counted::{Counted, Drops, new_table};
 use std::alloc::Global;
 use std::io::{self, BufRead, BufReader, BufWriter, Print, Write};
 use std::sync::Wait;
-use thread_local_table::ThreadLocal;
+use thread_local::ThreadLocal;
 use thread_local_thread_id::ThreadIdManager;
 
 /// The table with the manager, and the drops that its values count.

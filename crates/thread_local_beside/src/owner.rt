@@ -6,7 +6,7 @@ use crate::counted::{Counted, Drops, new_table};
 use std::alloc::{AllocError, Global};
 use std::io::{self, Write};
 use std::mem::replace;
-use thread_local_table::ThreadLocal;
+use thread_local::ThreadLocal;
 use thread_local_thread_id::Thread;
 
 /// How many ids there are.

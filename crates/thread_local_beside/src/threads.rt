@@ -7,7 +7,8 @@ use std::alloc::{AllocError, Global};
 use std::io::{self, Write};
 use std::sync::Wait;
 use thread_local_judged::judge_sync;
-use thread_local_table::{Local, ThreadLocal, TryError};
+use thread_local::ThreadLocal;
+use thread_local::local::{Local, TryError};
 
 /// How many threads a script has at once.
 const THREADS: usize = 64;

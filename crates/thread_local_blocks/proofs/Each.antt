@@ -1,5 +1,5 @@
 -- Taking one element's share out of `each`, and putting it back. Assumes `Logic`.
-use Rattle.thread_local_raw.proofs.Names.{◌≡◌, ◌≢◌, ℕ, zero, suc, ◌+◌, ◌<◌, ◌≤◌, List, [], ◌∷◌, length, set, get_or, refl, sym, arith, Ura, SProp, ent, sep, wand, all, all_e, apply∗, Fml, Logic, sem, ‵, raw, ◌⊛◌, ◌$◌, ◌∵◌, !, qed, by, move, split, frame, each as for_each, assume, use1, use2, rewrite, done}
+use Rattle.thread_local_lemmas.proofs.Names.{◌≡◌, ◌≢◌, ℕ, zero, suc, ◌+◌, ◌<◌, ◌≤◌, List, [], ◌∷◌, length, set, get_or, refl, sym, arith, Ura, SProp, ent, sep, wand, all, all_e, apply∗, Fml, Logic, sem, ‵, raw, ◌⊛◌, ◌$◌, ◌∵◌, !, qed, by, move, split, frame, each as for_each, assume, use1, use2, rewrite, done}
 use Rattle.thread_local_blocks.specs.Slots.{each}
 
 module _ {M : Type 1} {𝓤 : Ura M} (𝓛 : Logic 𝓤) where

@@ -1,5 +1,5 @@
 -- The data fields of a block. Assumes `Logic`.
-use Rattle.thread_local_raw.proofs.Names.{◌≡◌, ℕ, T, List, [], ◌∷◌, ◌++◌, refl, ap, ◌∙◌, arith, lit<, Ura, tcons, tnil, ty_ptr, ty_struct, Val, vstruct, vcons, vnil, of_list, has_ty, WT, ent, emp, Logic, sem, RattleType, Is, Ptr, block_ptr, null_ptr, ptr_val}
+use Rattle.thread_local_lemmas.proofs.Names.{◌≡◌, ℕ, T, List, [], ◌∷◌, ◌++◌, refl, ap, ◌∙◌, arith, lit<, Ura, tcons, tnil, ty_ptr, ty_struct, Val, vstruct, vcons, vnil, of_list, has_ty, WT, ent, emp, Logic, sem, RattleType, Is, Ptr, block_ptr, null_ptr, ptr_val}
 use prog.Memory.{capped, size, align}
 use prog.Capped.{capped_is}
 use prog.RawLaws.{size-raw, align-raw}

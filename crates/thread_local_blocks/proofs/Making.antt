@@ -1,6 +1,6 @@
 -- Making a block: its room is cut into slots, and the flags of one chunk after another are made.
 -- Assumes `Logic`.
-use Rattle.thread_local_raw.proofs.Names.{◌≡◌, ℕ, suc, ◌+◌, List, [], ◌∷◌, ◌++◌, length, length-append, sym, refl, ap, ◌∙◌, subst, arith, w64, Option, None, Ura, Ty, ty_int, SProp, ent, sep, wand, guard, Fml, ftrue, froom, Logic, sem, ‵, ◌⊛◌, ◌$◌, ◌∵◌, !, qed, move, drop, split3, fsplit, fsplit3, fjoin, fpick, fpack, check, frame, assume, use1, use2, rewrite, done, RattleType, Ptr, block_ptr, block_of, count_of, InBlock, nothing, word}
+use Rattle.thread_local_lemmas.proofs.Names.{◌≡◌, ℕ, suc, ◌+◌, List, [], ◌∷◌, ◌++◌, length, length-append, sym, refl, ap, ◌∙◌, subst, arith, w64, Option, None, Ura, Ty, ty_int, SProp, ent, sep, wand, guard, Fml, ftrue, froom, Logic, sem, ‵, ◌⊛◌, ◌$◌, ◌∵◌, !, qed, move, drop, split3, fsplit, fsplit3, fjoin, fpick, fpack, check, frame, assume, use1, use2, rewrite, done, RattleType, Ptr, block_ptr, block_of, count_of, InBlock, nothing, word}
 use Rattle.std.specs.Prelude.{replicate}
 use Rattle.std.proofs.lemmas.List.{length-replicate}
 use Rattle.thread_local_blocks.specs.Slots.{empty_slots, chunks, AreFlags, Fits, each, word_at, flags_at, flag_room, flags_own, slot, back, block_ty, block_owns}

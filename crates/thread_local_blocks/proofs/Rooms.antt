@@ -1,6 +1,6 @@
 -- The room of a block, cut into room for each word and for each value, with the way back. Assumes
 -- `Logic`.
-use Rattle.thread_local_raw.proofs.Names.{◌≡◌, ℕ, zero, suc, ◌+◌, ◌*◌, List, [], ◌∷◌, ◌++◌, length, refl, sym, ap, ◌∙◌, subst, arith, w64, suc-mul, zero-mul, Option, None, Ura, Ty, ty_int, ty_array, tcons, tnil, bare, vint, SProp, ent, sep, wand, id⊢, apply∗, Fml, ftrue, fsep, froom, Logic, sem, ‵, raw, ◌⊛◌, ◌$◌, ◌∵◌, !, qed, by, move, drop, split, fsplit, fsplit3, fjoin, fjoin3, frame, assume, use1, rewrite, done, RattleType, lone, nothing}
+use Rattle.thread_local_lemmas.proofs.Names.{◌≡◌, ℕ, zero, suc, ◌+◌, ◌*◌, List, [], ◌∷◌, ◌++◌, length, refl, sym, ap, ◌∙◌, subst, arith, w64, suc-mul, zero-mul, Option, None, Ura, Ty, ty_int, ty_array, tcons, tnil, bare, vint, SProp, ent, sep, wand, id⊢, apply∗, Fml, ftrue, fsep, froom, Logic, sem, ‵, raw, ◌⊛◌, ◌$◌, ◌∵◌, !, qed, by, move, drop, split, fsplit, fsplit3, fjoin, fjoin3, frame, assume, use1, rewrite, done, RattleType, lone, nothing}
 use Rattle.std.specs.Prelude.{replicate}
 use prog.Memory.{size, up, align}
 use prog.RawLaws.{size-raw, align-raw}

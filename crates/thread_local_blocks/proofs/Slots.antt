@@ -1,10 +1,10 @@
 -- Taking a slot and its chunk's word out of a block, and putting them back. Assumes `Logic`.
-use Rattle.thread_local_raw.proofs.Names.{◌≡◌, ◌≢◌, ℕ, ◌+◌, ◌*◌, ◌^◌, ◌<◌, List, [], ◌∷◌, length, length-set, set, get_or, refl, sym, ap, ◌∙◌, subst, arith, lit<, T, false, Option, Some, None, is_some, Ura, Ty, ty_ptr, has_ty, WT, SProp, ent, sep, wand, ex, all, all_e, guard, apply∗, Fml, ftrue, Logic, sem, ‵, raw, ◌⊛◌, ◌$◌, ◌∵◌, !, qed, by, move, drop, split, fsplit, fsplit3, fjoin3, fpick, fpack, check, show, frame, each as for_each, assume, use1, use2, rewrite, done, RattleType, Ptr, block_ptr, null_ptr, ptr_val, block_of, count_of, InBlock, nothing}
+use Rattle.thread_local_lemmas.proofs.Names.{◌≡◌, ◌≢◌, ℕ, ◌+◌, ◌*◌, ◌^◌, ◌<◌, List, [], ◌∷◌, length, length-set, set, get_or, refl, sym, ap, ◌∙◌, subst, arith, lit<, T, false, Option, Some, None, is_some, Ura, Ty, ty_ptr, has_ty, WT, SProp, ent, sep, wand, ex, all, all_e, guard, apply∗, Fml, ftrue, Logic, sem, ‵, raw, ◌⊛◌, ◌$◌, ◌∵◌, !, qed, by, move, drop, split, fsplit, fsplit3, fjoin3, fpick, fpack, check, show, frame, each as for_each, assume, use1, use2, rewrite, done, RattleType, Ptr, block_ptr, null_ptr, ptr_val, block_of, count_of, InBlock, nothing}
 use Rattle.std.specs.Prelude.{◌/◌, ◌%◌, IsSome}
 use Rattle.std.proofs.Common.{true≢false, ⊎_elim}
 use Rattle.std.proofs.lemmas.Bool.{eq-eqb, ne_eqb, cases_eq}
 use Rattle.std.proofs.lemmas.List.{get_or-set_same, get_or-set_other, set-get_or}
-use Rattle.thread_local_bits.specs.Bits.{is_set, IsWordBut}
+use Rattle.thread_local_lemmas.specs.Bits.{is_set, IsWordBut}
 use Rattle.thread_local_blocks.specs.Slots.{slot_value, chunks, stride, value_words, Fits, word_number, AreFlags, each, flags_at, slot, back, flags_own, block_ty, block_owns}
 use Rattle.thread_local_blocks.proofs.Each.{Put, each_at}
 use Rattle.thread_local_blocks.proofs.Flags.{in_chunks, chunk_in, word_near, value_near, number_is, flag_read, flags_set}

@@ -3,12 +3,12 @@ use Rattle.std.proofs.Common.{◌≡◌, ℕ, zero, suc, ◌^◌, ◌<◌, subst
 use Rattle.std.specs.Prelude.{slice_index_or}
 use Rattle.std.proofs.lemmas.List.{map-set}
 use Rattle.thread_local_model.specs.Buckets.{Contents, row, no_contents, IsTable}
-use Rattle.thread_local_owner_walk.proofs.RowLaws.{row_whole}
+use Rattle.thread_local_model.proofs.RowLaws.{row_whole}
 use Rattle.thread_local_model.specs.Rows.{with_row, with_slot}
-use Rattle.thread_local_bucket_pointer.specs.declared.bucket_pointer.BucketPointer.{BucketPointer}
+use Rattle.thread_local_bucket_pointers.specs.declared.bucket_pointer.BucketPointer.{BucketPointer}
 use Rattle.thread_local_bucket_pointers.specs.declared.pointer_array.PointerArray.{PointerArray}
 use Rattle.thread_local_bucket_pointers.specs.Pointers.{null_pointer, with_pointer, pointers_with_value, slots_of, contents_of}
-use Rattle.thread_local_bucket_pointer.specs.LentValue.{with_slot_value}
+use Rattle.thread_local_bucket_pointers.specs.LentValue.{with_slot_value}
 
 module _ {X : Type 0} where
   abbrev as_contents : List (List (Option X)) → Contents X

@@ -2,12 +2,12 @@
 use Rattle.std.proofs.Common.{◌≡◌, ◌≢◌, ◌⊎◌, inl, inr, ℕ, ◌+◌, ◌-◌, ◌*◌, ◌/◌, ◌%◌, ◌^◌, ◌<◌, ◌≤◌, min, length, count_ones, is_some, ap, ◌∙◌, arith, ⊎_elim}
 use Rattle.std.proofs.lemmas.Bool.{cases_lt}
 use Rattle.std.proofs.lemmas.Nat.{pow_below, pow-add, zero_from_ones}
-use Rattle.thread_local_bits.specs.Bits.{is_set}
+use Rattle.thread_local_lemmas.specs.Bits.{is_set}
 use Rattle.thread_local_model.specs.Place.{id_at}
 use Rattle.thread_local_model.specs.Buckets.{Contents, row, values}
 use Rattle.thread_local_model.specs.Rows.{value_in}
-use Rattle.thread_local_owner_walk.specs.Counting.{count_below}
-use Rattle.thread_local_owner_walk.proofs.CountingLaws.{count_below-chunk}
+use Rattle.thread_local_model.specs.Counting.{count_below}
+use Rattle.thread_local_cursor.proofs.CountingLaws.{count_below-chunk}
 
 module _ {V : Type 0} (first now : Contents V) (b k word : ℕ) (same : now ≡ first) (whole : length (row first b) ≡ 2 ^ b) (fits : word < 2 ^ 64) (flags : (bit : ℕ) → bit < 64 → is_set word bit ≡ is_some (value_in now b (k * 64 + bit))) where
   -- how many values there were at first before the slot at this index

@@ -16,7 +16,7 @@ use denote.Index.{place, place_is, others, takes, puts}
 use denote.Struct.Members.{Member}
 use denote.Struct.CellSteps.{BackTo, only_out}
 use Rattle.std.specs.Prelude.{slice_index_or}
-use Rattle.thread_local_bucket_pointer.specs.contracts.bucket_pointer.BucketPointer as one_pointer
+use Rattle.thread_local_bucket_pointers.specs.contracts.bucket_pointer.BucketPointer as one_pointer
 use Rattle.thread_local_bucket_pointers.specs.Pointers.{null_pointer, with_pointer}
 use Rattle.thread_local_bucket_pointers.specs.contracts.pointer_array.PointerArray as array
 

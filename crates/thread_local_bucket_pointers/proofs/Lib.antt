@@ -2,3 +2,5 @@ pub mod Lent
 pub mod ContentsOf
 pub mod Clearing
 pub mod Counting
+pub mod PointerSteps
+pub mod LentValue

@@ -1,2 +1,4 @@
 pub mod Clearing
 pub mod Pointers
+pub mod LentValue
+pub mod PointerOwns

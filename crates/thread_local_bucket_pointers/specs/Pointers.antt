@@ -2,8 +2,8 @@
 use Rattle.std.specs.Prelude.{ℕ, List, Option, [], map, slice_set, slice_index_or}
 use denote.RawPtr.{null_ptr}
 use Rattle.thread_local_model.specs.Buckets.{Contents}
-use Rattle.thread_local_bucket_pointer.specs.declared.bucket_pointer.BucketPointer.{BucketPointer}
-use Rattle.thread_local_bucket_pointer.specs.LentValue.{with_slot_value}
+use Rattle.thread_local_bucket_pointers.specs.declared.bucket_pointer.BucketPointer.{BucketPointer}
+use Rattle.thread_local_bucket_pointers.specs.LentValue.{with_slot_value}
 use Rattle.thread_local_bucket_pointers.specs.declared.pointer_array.PointerArray.{PointerArray}
 
 -- a null pointer

@@ -1,15 +1,15 @@
 //! The pointers of a table, which contracts see as its contents.
 ghost use Rattle.std.specs.Prelude.{◌≡◌, ℕ, ◌+◌, ◌*◌, ◌^◌, ◌<◌, true, false, [], length, Some, None, is_some, OnOk, OnErr, IsSome};
-ghost use Rattle.thread_local_bits.specs.Bits.{is_set};
+ghost use Rattle.thread_local_lemmas.specs.Bits.{is_set};
 ghost use Rattle.thread_local_model.specs.Buckets.{row, stands, no_contents, IsTable};
 ghost use Rattle.thread_local_model.specs.Rows.{value_in, with_row, with_slot, empty_row};
-ghost use Rattle.thread_local_owner_walk.specs.Cursor.{AreFlagsAt};
+ghost use Rattle.thread_local_cursor.specs.Cursor.{AreFlagsAt};
 
 use crate::pointer_array::PointerArray;
 use std::alloc::{AllocError, Global};
 use std::marker::Model;
 use thread_local_blocks::{Block, flag_word};
-use thread_local_owner_walk::FlagSource;
+use thread_local_cursor::FlagSource;
 use thread_local_thread_id::{Thread, bucket_size};
 
 mod clearing;

@@ -3,7 +3,7 @@ ghost use Rattle.std.specs.Prelude.{◌≡◌};
 ghost use Rattle.thread_local_model.specs.Buckets.{no_contents, IsTable};
 ghost use Rattle.thread_local_bucket_pointers.specs.Pointers.{contents_of};
 
-use thread_local_bucket_pointer::BucketPointer;
+use crate::bucket_pointer::BucketPointer;
 use thread_local_thread_id::BUCKETS;
 
 mod lends;

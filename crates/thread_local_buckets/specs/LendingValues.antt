@@ -2,7 +2,7 @@
 use Rattle.std.specs.Borrow.{follows, MutBor, Fml, RattleType}
 use base.Fml.{GName}
 use Rattle.thread_local_model.specs.Owned.{Owned}
-use Rattle.thread_local_owner_walk.specs.Refilled.{refilled}
+use Rattle.thread_local_model.specs.Refilled.{refilled}
 use Rattle.thread_local_buckets.specs.contracts.buckets.Buckets.{the_row}
 
 -- the buckets with other values in the same slots

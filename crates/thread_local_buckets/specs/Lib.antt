@@ -6,3 +6,5 @@ pub mod Entered
 pub mod LendingValues
 pub mod Text
 pub mod Writing
+pub mod Lent
+pub mod Given

@@ -9,7 +9,7 @@ ghost use Rattle.thread_local_model.specs.Rows.{value_in};
 ghost use Rattle.thread_local_model.specs.Capacity.{binary_digits, reserves_bucket, reserved_slots};
 ghost use Rattle.thread_local_model.specs.Sheet.{moved};
 ghost use Rattle.thread_local_model.specs.Walk.{walk, paired, with_value};
-ghost use Rattle.thread_local_owner_walk.specs.Owner.{with_bucket, with_published, cleared_row, sheet_of, publish_or_keep};
+ghost use Rattle.thread_local_model.specs.Owner.{with_bucket, with_published, cleared_row, sheet_of, publish_or_keep};
 
 use crate::drain::Drain;
 use crate::iter::{IntoEntries, IntoIter};

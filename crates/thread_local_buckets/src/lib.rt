@@ -6,6 +6,7 @@ mod drain;
 mod error;
 pub mod iter;
 mod iter_mut;
+mod loan;
 
 pub use buckets::{Buckets, CapacityError};
 pub use iter::{Drain, EntriesMut, IntoEntries, IntoIter, IterMut};

@@ -28,10 +28,10 @@ use Rattle.thread_local_model.specs.Place.{bucket_of, index_of, id_at}
 use Rattle.thread_local_model.proofs.PlaceLaws.{place-id_at}
 use Rattle.thread_local_blocks.specs.Slots.{stride, value_words, word_number, word_at, value_offset}
 use Rattle.thread_local_blocks.proofs.Flags.{uncapped}
-use Rattle.thread_local_shared_bucket_logic.specs.Shared.{BucketView, len, first}
-use Rattle.thread_local_raw.specs.Fact.{fact}
-use Rattle.thread_local_claim_logic.specs.Known.{value_held}
-use Rattle.thread_local_claim_logic.specs.Claims.{claim_fields, number_of_id, IsKept, shows_value, claim_shares}
+use Rattle.thread_local_shared_bucket.specs.Shared.{BucketView, len, first}
+use Rattle.thread_local_lemmas.specs.Fact.{fact}
+use Rattle.thread_local_claim.specs.Known.{value_held}
+use Rattle.thread_local_claim.specs.Claims.{claim_fields, number_of_id, IsKept, shows_value, claim_shares}
 use Rattle.thread_local_claim.specs.declared.claimed.ClaimedSlot as claim_value
 use Rattle.thread_local_claim.specs.contracts.claimed.ClaimedSlot as claim
 

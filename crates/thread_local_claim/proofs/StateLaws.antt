@@ -1,7 +1,7 @@
 -- What the number tells that a claim keeps for what it has learnt.
 use Rattle.std.proofs.Common.{◌≡◌, not, eqb, refl, is_some}
 use Rattle.thread_local_model.specs.Learnt.{Learnt, Unknown, Missing, Standing, Vacant, Holding}
-use Rattle.thread_local_claim_logic.specs.Known.{is_found, state_of, value_held}
+use Rattle.thread_local_claim.specs.Known.{is_found, state_of, value_held}
 
 pub found_by : {X : Type 0} (l : Learnt X) → not (eqb (state_of l) 0) ≡ is_found l
 found_by Unknown = refl

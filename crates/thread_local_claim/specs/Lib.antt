@@ -1,2 +1,3 @@
-pub use Rattle.thread_local_claim_logic.specs.Known
+pub mod Claims
+pub mod Known
 pub mod Views

@@ -4,15 +4,15 @@ ghost use Rattle.std.specs.Prelude.{◌≡◌, ◌≢◌, ◌/◌, ◌^◌, ◌�
 ghost use Rattle.thread_local_model.specs.Learnt.{Unknown, Missing, Vacant, Holding, Finds, learnt_by_install, learnt_by_publish};
 ghost use Rattle.thread_local_model.specs.Place.{bucket_of, index_of};
 ghost use Rattle.thread_local_blocks.specs.Slots.{empty_slots, word_number};
-ghost use Rattle.thread_local_claim_logic.specs.Known.{IsKnown};
+ghost use Rattle.thread_local_claim.specs.Known.{IsKnown};
 
 use crate::claimed::{ClaimedSlot, found_again, offered, published};
 use std::alloc::Global;
 use std::marker::Model;
 use thread_local_blocks::{Block, flag_word};
-use thread_local_published::Published;
-use thread_local_raw::replace_with;
-use thread_local_rights::{HeldId, Right};
+use thread_local_tokens::Published;
+use core::mem::replace_with;
+use thread_local_tokens::{HeldId, Right};
 use thread_local_shared_bucket::SharedBucket;
 use thread_local_thread_id::Thread;
 
@@ -32,7 +32,7 @@ pub struct Claim<'a, T> {
 impl<'a, T> Model for Claim<'a, T> {
     ghost use Rattle.std.specs.Prelude.{◌≡◌, ◌+◌, ◌-◌, ◌^◌, ◌<◌};
     ghost use Rattle.thread_local_model.specs.Place.{index_of};
-    ghost use Rattle.thread_local_claim_logic.specs.Known.{IsKnown};
+    ghost use Rattle.thread_local_claim.specs.Known.{IsKnown};
     ghost use Rattle.thread_local_claim.specs.Views.{ClaimView, claim_view_coded};
 
     ghost Value = { ClaimView T };

@@ -7,8 +7,8 @@ ghost use denote.RawPtr.{Ptr, coded_ptr};
 ghost use Rattle.thread_local_blocks.specs.Slots.{empty_slots};
 ghost use Rattle.thread_local_model.specs.Learnt.{Learnt, learnt_coded, Unknown, Missing, Vacant, Holding, Finds};
 ghost use Rattle.thread_local_model.specs.Place.{bucket_of, id_at};
-ghost use Rattle.thread_local_claim_logic.specs.Known.{IsKnown, IsUnfound, is_found, state_of, value_held};
-ghost use Rattle.thread_local_claim_logic.specs.Claims.{number_of_id, claim_fields, claim_owns, claim_shares};
+ghost use Rattle.thread_local_claim.specs.Known.{IsKnown, IsUnfound, is_found, state_of, value_held};
+ghost use Rattle.thread_local_claim.specs.Claims.{number_of_id, claim_fields, claim_owns, claim_shares};
 
 use std::alloc::Global;
 use std::marker::{Brand, Model, PhantomData};
@@ -17,7 +17,7 @@ use std::sync::atomic::Ordering::SeqCst;
 use std::sync::atomic::raw;
 use std::sync::atomic::raw::ptr;
 use thread_local_blocks::Block;
-use thread_local_rights::Right;
+use thread_local_tokens::Right;
 use thread_local_shared_bucket::SharedBucket;
 
 mod give_up;

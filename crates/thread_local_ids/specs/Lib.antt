@@ -1,1 +1,3 @@
 pub mod Tied
+pub mod Guarded
+pub mod Locking

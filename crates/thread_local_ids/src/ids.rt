@@ -5,8 +5,8 @@ ghost use Rattle.thread_local_model.specs.Held.{is_held, Takes, Gives, NeedsMemo
 
 use std::alloc::{AllocError, Global};
 use std::marker::Model;
-use thread_local_lock::Fits;
-use thread_local_rights::{HeldId, Right, Rights};
+use crate::lock::Fits;
+use thread_local_tokens::{HeldId, Right, Rights};
 use thread_local_thread_id::manager::IDS;
 use thread_local_thread_id::{LocalError, ThreadIdManager};
 

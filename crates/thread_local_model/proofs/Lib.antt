@@ -7,3 +7,12 @@ pub mod SlotsLaws
 pub mod AnswersLaws
 pub mod CursorLaws
 pub mod LearntLaws
+pub mod RowLaws
+pub mod ValueLaws
+pub mod TakingLaws
+pub mod StandingLaws
+pub mod ClearingLaws
+pub mod FillingLaws
+pub mod InsertingLaws
+pub mod RefilledLaws
+pub mod EmptyingLaws

@@ -9,4 +9,7 @@ pub mod Answers
 pub mod Learnt
 pub mod Cursor
 pub mod Owned
+pub mod Owner
+pub mod Refilled
+pub mod Counting
 pub mod Code

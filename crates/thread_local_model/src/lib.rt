@@ -8,6 +8,7 @@ pub mod answers;
 pub mod capacity;
 pub mod cursor;
 pub mod held;
+pub mod owner;
 pub mod place;
 pub mod slots;
 pub mod walk;

@@ -7,3 +7,10 @@ pub mod WalkEvents
 pub mod Open
 pub mod EventRules
 pub mod Installs
+pub mod PeakLaws
+pub mod TakingBelow
+pub mod FourLocals
+pub mod FourValues
+pub mod Publishings
+pub mod Sayings
+pub mod MainTheorem

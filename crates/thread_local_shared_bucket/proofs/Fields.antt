@@ -1,5 +1,5 @@
 -- The machine value of a row, and that what a row owns can be duplicated. Assumes `Logic`.
-use Rattle.thread_local_raw.proofs.Names.{◌≡◌, ℕ, T, List, [], ◌∷◌, ◌++◌, refl, ap, ◌∙◌, lit<, Ura, tcons, tnil, ty_ptr, ty_struct, Val, vstruct, vcons, vnil, of_list, has_ty, WT, ent, sep, emp, Lft, Fml, ftrue, Logic, sem, ‵, ◌⊛◌, ◌$◌, ◌∵◌, !, qed, move, drop, split, fsplit, fsplit3, fjoin, fjoin3, fpick, fpack, frame, use1, nothing, done, RattleType, Is, Ptr, block_ptr, null_ptr, ptr_val, length}
+use Rattle.thread_local_lemmas.proofs.Names.{◌≡◌, ℕ, T, List, [], ◌∷◌, ◌++◌, refl, ap, ◌∙◌, lit<, Ura, tcons, tnil, ty_ptr, ty_struct, Val, vstruct, vcons, vnil, of_list, has_ty, WT, ent, sep, emp, Lft, Fml, ftrue, Logic, sem, ‵, ◌⊛◌, ◌$◌, ◌∵◌, !, qed, move, drop, split, fsplit, fsplit3, fjoin, fjoin3, fpick, fpack, frame, use1, nothing, done, RattleType, Is, Ptr, block_ptr, null_ptr, ptr_val, length}
 use base.Fml.{fbor, finv}
 use base.Before.{before}
 use types.Na.{before_dup}
@@ -17,7 +17,7 @@ use denote.Shadow.{makes_shadow}
 use denote.Struct.Struct.{Struct}
 use denote.Struct.Owning.{shape}
 use Rattle.thread_local_judged.specs.Judged.{Judged}
-use Rattle.thread_local_shared_bucket_logic.specs.Shared.{BucketView, Turn, StandingBlock, Sized, len, bucket_invariant, kept, loaded, Found, row_as, row_owns}
+use Rattle.thread_local_shared_bucket.specs.Shared.{BucketView, Turn, StandingBlock, Sized, len, bucket_invariant, kept, loaded, Found, row_as, row_owns}
 use Rattle.thread_local_shared_bucket.specs.contracts.row.Row as Row
 
 abbrev pub row_val : Ptr → Val

@@ -27,13 +27,13 @@ use denote.Struct.Parts.{PartsBack, Struct-parts, shape_of}
 use Rattle.std.specs.Sync.RawAtomic.Pointer.{cell}
 use Rattle.std.proofs.cell.Inside.{spread, gather}
 use Rattle.thread_local_judged.specs.Judged.{Judged}
-use Rattle.thread_local_raw.specs.Fact.{fact}
-use Rattle.thread_local_shared_bucket_logic.specs.Shared.{BucketView, Turn, StandingBlock, mark, block_stands, block_rests, Sized, len, first, all_unborn, pending, standing, beside_pointer, bucket_invariant, kept, at_rest, bucket_shares}
+use Rattle.thread_local_lemmas.specs.Fact.{fact}
+use Rattle.thread_local_shared_bucket.specs.Shared.{BucketView, Turn, StandingBlock, mark, block_stands, block_rests, Sized, len, first, all_unborn, pending, standing, beside_pointer, bucket_invariant, kept, at_rest, bucket_shares}
 use Rattle.thread_local_shared_bucket.specs.contracts.shared_bucket.SharedBucket as C
 use Rattle.thread_local_blocks.specs.Slots.{empty_slots}
-use Rattle.thread_local_published.specs.Told.{all_telling}
-use Rattle.thread_local_shared_bucket_logic.proofs.Tokens.{tokens_from, tokens_new}
-use Rattle.thread_local_shared_bucket_logic.proofs.Rested.{all_tokens, all_wait, none_born, wakes_block, rests_block}
+use Rattle.thread_local_tokens.specs.Told.{all_telling}
+use Rattle.thread_local_shared_bucket.proofs.Tokens.{tokens_from, tokens_new}
+use Rattle.thread_local_shared_bucket.proofs.Rested.{all_tokens, all_wait, none_born, wakes_block, rests_block}
 
 abbrev pub pointer : Member
 pointer = record { row = RawPtr; ty = ty_ptr }

@@ -1,5 +1,5 @@
 -- The machine value of a shared bucket: its one field, the pointer. Assumes `Logic`.
-use Rattle.thread_local_raw.proofs.Names.{T, [], ◌∷◌, refl, lit<, Ura, tcons, tnil, ty_ptr, ty_struct, Val, vstruct, vcons, vnil, has_ty, WT, ent, emp, Logic, sem, RattleType, Ptr, block_ptr, null_ptr, ptr_val}
+use Rattle.thread_local_lemmas.proofs.Names.{T, [], ◌∷◌, refl, lit<, Ura, tcons, tnil, ty_ptr, ty_struct, Val, vstruct, vcons, vnil, has_ty, WT, ent, emp, Logic, sem, RattleType, Ptr, block_ptr, null_ptr, ptr_val}
 use denote.Shadow.{makes_shadow}
 use Rattle.thread_local_shared_bucket.specs.contracts.shared_bucket.SharedBucket.TheInside as inside
 

@@ -4,7 +4,7 @@ ghost use Rattle.std.specs.Prelude.{◌≡◌, ℕ, ◌/◌, ◌^◌, ◌<◌, L
 ghost use types.Logic.{sem};
 ghost use Rattle.thread_local_judged.specs.Judged.{Shareable};
 ghost use Rattle.thread_local_blocks.specs.Slots.{word_number};
-ghost use Rattle.thread_local_shared_bucket_logic.specs.Shared.{BucketView, bucket_view_coded, row_owns, published_at};
+ghost use Rattle.thread_local_shared_bucket.specs.Shared.{BucketView, bucket_view_coded, row_owns, published_at};
 ghost use denote.Sharing.{said};
 
 use std::marker::{Brand, Model, PhantomData};

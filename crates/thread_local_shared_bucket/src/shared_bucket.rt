@@ -3,14 +3,14 @@
 ghost use Rattle.std.specs.Prelude.{◌≡◌, ◌^◌, ◌<◌, true, IfSome, IsSome};
 ghost use Rattle.thread_local_model.specs.Place.{id_at};
 ghost use Rattle.thread_local_judged.specs.Judged.{Judged};
-ghost use Rattle.thread_local_shared_bucket_logic.specs.Shared.{BucketView, bucket_view_coded, bucket_owns, bucket_shares};
+ghost use Rattle.thread_local_shared_bucket.specs.Shared.{BucketView, bucket_view_coded, bucket_owns, bucket_shares};
 
 use crate::row::Row;
 use std::marker::{Brand, Move, Owns, PhantomData};
 use std::sync::atomic::Ordering::SeqCst;
 use std::sync::atomic::raw::ptr;
 use thread_local_blocks::Chunk;
-use thread_local_published::Witness;
+use thread_local_tokens::Witness;
 
 /// A bucket that threads share: its pointer, which an owner sees as a `BucketPointer`. A contract
 /// sees its table, its number, and whether it is reserved.

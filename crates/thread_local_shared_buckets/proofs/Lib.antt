@@ -1,3 +1,6 @@
 pub mod Lists
 pub mod Redeemed
 pub mod Turned
+pub mod Fields
+pub mod StepLaws
+pub mod WalkLaws

@@ -11,7 +11,7 @@ use std::thread::Threads;
 use thread_local_buckets::Buckets;
 use thread_local_ids::Ids;
 use thread_local_judged::{Judge, judge_sync};
-use thread_local_rights::HeldId;
+use thread_local_tokens::HeldId;
 use thread_local_shared_buckets::Shared;
 use thread_local_thread_id::Thread;
 

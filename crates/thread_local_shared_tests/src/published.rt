@@ -11,8 +11,8 @@ use thread_local_buckets::Buckets;
 use thread_local_claim::Claim;
 use thread_local_ids::Ids;
 use thread_local_judged::{Judge, judge_sync};
-use thread_local_published::Published;
-use thread_local_rights::{HeldId, Right};
+use thread_local_tokens::Published;
+use thread_local_tokens::{HeldId, Right};
 use thread_local_shared_buckets::Shared;
 use thread_local_thread_id::Thread;
 

@@ -5,7 +5,7 @@ use std::alloc::Global;
 use thread_local_blocks::{Block, flag_word};
 use thread_local_buckets::Buckets;
 use thread_local_claim::Claim;
-use thread_local_rights::HeldId;
+use thread_local_tokens::HeldId;
 use thread_local_shared_buckets::Shared;
 use thread_local_thread_id::Thread;
 

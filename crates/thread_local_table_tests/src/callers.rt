@@ -7,8 +7,9 @@ use std::cell::{Cell, RefCell};
 use std::default::MadeWith;
 use std::sync::Wait;
 use thread_local_judged::{Judge, judge_sync};
-use thread_local_shared_walk::Iter;
-use thread_local_table::{Local, Seat, ThreadLocal, TryError};
+use thread_local_shared_buckets::Iter;
+use thread_local::ThreadLocal;
+use thread_local::local::{Local, Seat, TryError};
 
 fn crosses<X: Send + Sync>(_: &X) {}
 

@@ -7,7 +7,7 @@ use std::alloc::Global;
 use std::io::Print;
 use std::sync::Wait;
 use std::test::Fail;
-use thread_local_table::ThreadLocal;
+use thread_local::ThreadLocal;
 
 /// Eight `Local`s are held at once, and then publish in the order in which they were taken. Answers
 /// which of them weren't refused memory, or None where a `Local` was.

@@ -4,7 +4,7 @@ use crate::locals::{found_by_another, lends, published, published_by_another};
 use std::mem::forget;
 use std::sync::Wait;
 use std::test::Fail;
-use thread_local_table::ThreadLocal;
+use thread_local::ThreadLocal;
 
 /// What the slot of a `Local` holds that publishes a number and is forgotten.
 pub fn publish_and_forget<R: Wait>(table: &ThreadLocal<u32>, rt: &R, number: u32) -> Option<u32> {

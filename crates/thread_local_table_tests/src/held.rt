@@ -4,7 +4,8 @@ use crate::locals::published;
 use std::alloc::Global;
 use std::io::Print;
 use std::sync::Wait;
-use thread_local_table::{Local, ThreadLocal};
+use thread_local::ThreadLocal;
+use thread_local::local::Local;
 
 /// Room for so many `Local`s, asked for once more where it is refused.
 fn room<'a, R: Wait + Print>(

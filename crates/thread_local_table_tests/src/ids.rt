@@ -3,7 +3,7 @@
 use std::mem::forget;
 use std::sync::Wait;
 use std::test::Fail;
-use thread_local_table::ThreadLocal;
+use thread_local::ThreadLocal;
 
 /// The ids of three `Local`s that are held at once, and of one that is taken once the second is
 /// dropped.

@@ -1,7 +1,8 @@
 //! What single `Local`s of numbers find and publish, and what an owner's walk lends.
 
 use std::sync::Wait;
-use thread_local_table::{Local, ThreadLocal};
+use thread_local::ThreadLocal;
+use thread_local::local::Local;
 
 /// What a `Local` finds.
 pub fn found<R: Wait>(local: &Local<'_, u32, R>) -> Option<u32> {

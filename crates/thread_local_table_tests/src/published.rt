@@ -11,8 +11,9 @@ use std::test::Fail;
 use std::thread;
 use thread_local_buckets::Buckets;
 use thread_local_judged::{Judge, judge_sync};
-use thread_local_published::Published;
-use thread_local_table::{Local, SetError, ThreadLocal};
+use thread_local_tokens::Published;
+use thread_local::ThreadLocal;
+use thread_local::local::{Local, SetError};
 use thread_local_thread_id::Thread;
 
 /// Publishes a value with a new `Local`, and answers a token of what the slot holds.

@@ -7,7 +7,8 @@ use std::sync::atomic::{AtomicBool, AtomicU32};
 use std::test::Fail;
 use std::thread;
 use std::thread::Threads;
-use thread_local_table::{Local, ThreadLocal};
+use thread_local::ThreadLocal;
+use thread_local::local::Local;
 use thread_local_test_helpers::marks::is_seen;
 
 /// What `get`, `get_or` and `get` answer, where the closure answers how often it was called before.

@@ -5,7 +5,8 @@ use std::alloc::Global;
 use std::mem::swap;
 use std::sync::Wait;
 use std::test::Fail;
-use thread_local_table::{Local, ThreadLocal, TryError};
+use thread_local::ThreadLocal;
+use thread_local::local::{Local, TryError};
 
 #[test]
 fn the_first_value_stays(rt: HostRuntime) -> Result<(), Fail> {

@@ -13,7 +13,7 @@ use std::sync::Wait;
 use std::thread;
 use std::thread::Threads;
 use thread_local_judged::Judge;
-use thread_local_table::ThreadLocal;
+use thread_local::ThreadLocal;
 use thread_local_thread_id::LocalError;
 
 /// Adds up the numbers from 1 to `numbers` with `workers` workers, each a thread: worker w adds

@@ -3,7 +3,7 @@ ghost use Rattle.std.specs.Prelude.{◌≡◌, ℕ, ◌+◌, ◌<◌, ◌≤◌,
 ghost use Rattle.thread_local_model.specs.Place.{id_at};
 ghost use Rattle.thread_local_model.specs.Buckets.{row, stands, IsTable};
 ghost use Rattle.thread_local_model.specs.Rows.{with_row, empty_row};
-ghost use Rattle.thread_local_owner_walk.specs.Owner.{cleared_row};
+ghost use Rattle.thread_local_model.specs.Owner.{cleared_row};
 ghost use Rattle.thread_local_bucket_pointers.specs.Clearing.{AreCleared, AnyStands};
 
 use super::BucketPointers;

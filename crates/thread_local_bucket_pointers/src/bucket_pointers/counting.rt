@@ -3,7 +3,7 @@ ghost use Rattle.std.specs.Prelude.{◌≡◌, ◌≢◌, ◌+◌, ◌*◌, ◌/
 ghost use Rattle.thread_local_model.specs.Place.{id_at};
 ghost use Rattle.thread_local_model.specs.Buckets.{row, values};
 ghost use Rattle.thread_local_model.specs.Walk.{walk};
-ghost use Rattle.thread_local_owner_walk.specs.Counting.{count_below};
+ghost use Rattle.thread_local_model.specs.Counting.{count_below};
 
 use super::BucketPointers;
 use thread_local_thread_id::BUCKETS;

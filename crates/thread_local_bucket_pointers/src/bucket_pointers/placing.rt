@@ -2,7 +2,7 @@
 ghost use Rattle.std.specs.Prelude.{◌≡◌, ◌<◌, [], true, false, length, Some, None, is_some, IsSome, OnOk, OnErr};
 ghost use Rattle.thread_local_model.specs.Buckets.{row, stands, IsTable};
 ghost use Rattle.thread_local_model.specs.Rows.{value_in, with_slot};
-ghost use Rattle.thread_local_owner_walk.specs.Owner.{with_bucket};
+ghost use Rattle.thread_local_model.specs.Owner.{with_bucket};
 
 use super::BucketPointers;
 use std::alloc::AllocError;

@@ -3,14 +3,14 @@
 ghost use Rattle.std.specs.Prelude.{◌≡◌, ◌<◌, length, slice_index_or, Some, IsSome};
 ghost use types.Logic.{sem};
 ghost use Rattle.std.specs.Borrow.{follows};
-ghost use Rattle.thread_local_bucket_pointer.specs.contracts.bucket_pointer.BucketPointer.{the_row as pointer_row};
+ghost use Rattle.thread_local_bucket_pointers.specs.contracts.bucket_pointer.BucketPointer.{the_row as pointer_row};
 ghost use Rattle.thread_local_bucket_pointers.specs.contracts.pointer_array.PointerArray.{the_row};
 ghost use Rattle.thread_local_model.specs.Buckets.{row};
 ghost use Rattle.thread_local_model.specs.Rows.{value_in};
 ghost use Rattle.thread_local_bucket_pointers.specs.Pointers.{null_pointer, with_pointer, pointers_with_value, contents_of};
 
 use super::PointerArray;
-use thread_local_bucket_pointer::BucketPointer;
+use crate::bucket_pointer::BucketPointer;
 
 impl<T> PointerArray<T> {
     /// Lends the pointer of a bucket.

@@ -1,7 +1,7 @@
 //! The value of a claim's slot, lent for longer than the claim.
 ghost use Rattle.std.specs.Prelude.{◌≡◌, true, is_some};
 ghost use Rattle.thread_local_model.specs.Learnt.{Holding};
-ghost use Rattle.thread_local_claim_logic.specs.Known.{value_held};
+ghost use Rattle.thread_local_claim.specs.Known.{value_held};
 
 use super::ClaimedSlot;
 

@@ -1,11 +1,11 @@
 //! What a claim tells of its slot, and what it is told.
 ghost use Rattle.std.specs.Prelude.{◌≡◌, true, is_some, IsSome};
 ghost use Rattle.thread_local_model.specs.Learnt.{Holding};
-ghost use Rattle.thread_local_claim_logic.specs.Known.{IsKnown, value_held};
+ghost use Rattle.thread_local_claim.specs.Known.{IsKnown, value_held};
 
 use super::ClaimedSlot;
 use std::marker::PhantomData;
-use thread_local_published::Witness;
+use thread_local_tokens::Witness;
 
 impl<'a, T> ClaimedSlot<'a, T> {
     /// What shows with which value the slot was published. At run time it does nothing.

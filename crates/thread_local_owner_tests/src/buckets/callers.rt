@@ -3,7 +3,7 @@ ghost use Rattle.std.specs.Prelude.{◌≡◌, ℕ, None, IfOk, IsSome, is_some,
 ghost use Rattle.thread_local_model.specs.Buckets.{stands, values};
 ghost use Rattle.thread_local_model.specs.Rows.{value_in};
 ghost use Rattle.thread_local_model.specs.Walk.{walk};
-ghost use Rattle.thread_local_owner_walk.specs.Owner.{with_published};
+ghost use Rattle.thread_local_model.specs.Owner.{with_published};
 
 use std::alloc::{AllocError, Global};
 use std::cell::Cell;

@@ -6,7 +6,7 @@ use std::cell::{Cell, RefCell};
 use thread_local_blocks::flag_word;
 use thread_local_buckets::Buckets;
 use thread_local_judged::{Judge, judge_sync};
-use thread_local_rights::Right;
+use thread_local_tokens::Right;
 use thread_local_shared_bucket::{Row, SharedBucket};
 use thread_local_shared_buckets::Shared;
 use thread_local_thread_id::bucket_size;

@@ -8,7 +8,7 @@ use std::alloc::Global;
 use std::cell::{Cell, RefCell};
 use thread_local_blocks::Block;
 use thread_local_claim::Claim;
-use thread_local_rights::HeldId;
+use thread_local_tokens::HeldId;
 use thread_local_shared_bucket::SharedBucket;
 use thread_local_thread_id::Thread;
 

@@ -1,5 +1,5 @@
 -- `block_align` is the alignment of a block.
-use Rattle.thread_local_raw.proofs.Names.{◌≡◌, ℕ, ◌^◌, ◌<◌, List, [], ◌∷◌, refl, ap, w64, a_type, Val, vint, inst_fn, SProp, emp, ftrue, ‵, raw, ◌⊛◌, ◌$◌, ◌∵◌, !, qed, by, keep, use0, split, fjoin, feq_i, flt_i, align_word, of_opd, returns, enter, alloc_all, pass_all, free_all, look_at, sets, is, tables, fact, fact_i, RattleType, nothing, param, layouts, alive, walk_of, proved, leaves}
+use Rattle.thread_local_lemmas.proofs.Names.{◌≡◌, ℕ, ◌^◌, ◌<◌, List, [], ◌∷◌, refl, ap, w64, a_type, Val, vint, inst_fn, SProp, emp, ftrue, ‵, raw, ◌⊛◌, ◌$◌, ◌∵◌, !, qed, by, keep, use0, split, fjoin, feq_i, flt_i, align_word, of_opd, returns, enter, alloc_all, pass_all, free_all, look_at, sets, is, tables, fact, fact_i, RattleType, nothing, param, layouts, alive, walk_of, proved, leaves}
 use prog.Memory.{align}
 use prog.Capped.{capped_is}
 use Rattle.thread_local_blocks.specs.Slots.{slots_ty}

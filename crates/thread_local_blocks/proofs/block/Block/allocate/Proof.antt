@@ -1,5 +1,5 @@
 -- `allocate` asks the allocator for the room of a block.
-use Rattle.thread_local_raw.proofs.Names.{◌∙◌, ◌≡◌, ℕ, ◌^◌, ◌<◌, [], ◌∷◌, sym, refl, arith, lit<, w64, true, false, Ty, Body, a_type, dcons, dnil, named, Val, vint, vptr, vstruct, vcons, vnil, WT, inst_fn, SProp, emp, Lft, Share, Fml, ftrue, fsep, flft, ◌∵◌, ‵, raw, ◌⊛◌, later, at_ret, any_q, ◌$◌, !, qed, by, move, keep, use0, use1, use2, split, join, fsplit, fjoin, await, stop, fld, lit, align_word, of_opd, no_more, and_then, first, exec, switches_on, returns, enter, alloc_all, pass_all, free_all, look_at, get, get_in, get_tag, sets, sets_last, lands_as, env, agg, whole, live, vrt, in_variant, tables, fact, fact_i, yes, RattleType, owns, types_at, plain, Ptr, block_ptr, nothing, heard, param, bounded, RefOf, usize, shr_vals, shr_Tells, uint_vals, uint_Tells, Stays, stay_dropped, walk_of, Goes-dropped, proved, leaves, fm, after}
+use Rattle.thread_local_lemmas.proofs.Names.{◌∙◌, ◌≡◌, ℕ, ◌^◌, ◌<◌, [], ◌∷◌, sym, refl, arith, lit<, w64, true, false, Ty, Body, a_type, dcons, dnil, named, Val, vint, vptr, vstruct, vcons, vnil, WT, inst_fn, SProp, emp, Lft, Share, Fml, ftrue, fsep, flft, ◌∵◌, ‵, raw, ◌⊛◌, later, at_ret, any_q, ◌$◌, !, qed, by, move, keep, use0, use1, use2, split, join, fsplit, fjoin, await, stop, fld, lit, align_word, of_opd, no_more, and_then, first, exec, switches_on, returns, enter, alloc_all, pass_all, free_all, look_at, get, get_in, get_tag, sets, sets_last, lands_as, env, agg, whole, live, vrt, in_variant, tables, fact, fact_i, yes, RattleType, owns, types_at, plain, Ptr, block_ptr, nothing, heard, param, bounded, RefOf, usize, shr_vals, shr_Tells, uint_vals, uint_Tells, Stays, stay_dropped, walk_of, Goes-dropped, proved, leaves, fm, after}
 use base.Fml.{Incl-trans}
 use prog.Memory.{align, size, capped}
 use prog.Capped.{capped_fits}

@@ -1,5 +1,5 @@
 -- `push` writes 0 into the word of the next chunk.
-use Rattle.thread_local_raw.proofs.Names.{◌≡◌, ℕ, ◌+◌, ◌-◌, suc, ◌*◌, ◌^◌, ◌<◌, List, [], ◌∷◌, length, sym, refl, ap, ◌∙◌, subst, arith, lit<, w64, Option, Ty, ty_int, a_type, dcons, dnil, named, Val, vint, vptr, vunit, inst_fn, full_share, SProp, emp, apply∗, Fml, ftrue, fsep, froom, flft, sem, ‵, raw, ◌⊛◌, given, at_ret, ◌$◌, ◌∵◌, !, qed, by, move, keep, use0, use1, use2, split, join, fsplit, fsplit3, fjoin, fjoin3, learn, rewrite, feq_i, stop, fld, load, lit, unit_lit, of_opd, bin, first, blocks, exec, returns, enter, init, assigns_last, alloc_all, pass_all, free_all, look_at, get, through, sets, is, env, sub, look_in, whole, tables, fact, fact_i, yes, RattleType, owns, types_at, plain, Ptr, block_ptr, block_of, count_of, at_block, InBlock, nothing, heard, opens, closes, peeks, shows, param, bounded, usize, mut_vals, mut_Tells, uint_vals, uint_Tells, Stays, stay_dropped, stay_ref, walk_of, Goes-dropped, Goes-ref, cell_at, proved, leaves, word, after}
+use Rattle.thread_local_lemmas.proofs.Names.{◌≡◌, ℕ, ◌+◌, ◌-◌, suc, ◌*◌, ◌^◌, ◌<◌, List, [], ◌∷◌, length, sym, refl, ap, ◌∙◌, subst, arith, lit<, w64, Option, Ty, ty_int, a_type, dcons, dnil, named, Val, vint, vptr, vunit, inst_fn, full_share, SProp, emp, apply∗, Fml, ftrue, fsep, froom, flft, sem, ‵, raw, ◌⊛◌, given, at_ret, ◌$◌, ◌∵◌, !, qed, by, move, keep, use0, use1, use2, split, join, fsplit, fsplit3, fjoin, fjoin3, learn, rewrite, feq_i, stop, fld, load, lit, unit_lit, of_opd, bin, first, blocks, exec, returns, enter, init, assigns_last, alloc_all, pass_all, free_all, look_at, get, through, sets, is, env, sub, look_in, whole, tables, fact, fact_i, yes, RattleType, owns, types_at, plain, Ptr, block_ptr, block_of, count_of, at_block, InBlock, nothing, heard, opens, closes, peeks, shows, param, bounded, usize, mut_vals, mut_Tells, uint_vals, uint_Tells, Stays, stay_dropped, stay_ref, walk_of, Goes-dropped, Goes-ref, cell_at, proved, leaves, word, after}
 use Rattle.thread_local_blocks.specs.Slots.{chunks, value_words, word_at, word_number, block_owns}
 use Rattle.thread_local_blocks.proofs.Slots.{IsWordNear}
 use Rattle.thread_local_blocks.specs.contracts.block.Block as block

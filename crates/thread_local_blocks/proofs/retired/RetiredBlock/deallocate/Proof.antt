@@ -1,5 +1,5 @@
 -- `deallocate` gives the block's room back to the allocator.
-use Rattle.thread_local_raw.proofs.Names.{◌∙◌, ◌≡◌, ℕ, ◌+◌, ◌^◌, ◌<◌, List, [], ◌∷◌, sym, refl, subst, arith, w64, Option, Ty, a_type, dcons, dnil, named, Val, vint, vptr, vunit, inst_fn, SProp, ent, id⊢, Lft, Share, Fml, ftrue, fsep, froom, flft, WpFn, ‵, raw, ◌⊛◌, given, later, at_ret, ◌$◌, ◌∵◌, !, qed, by, move, keep, use1, use3, split, join, fsplit, fsplit3, fjoin, fpick, fpack, learn, suffices, await, rewrite, feq_i, stop, fld, unit_lit, align_word, of_opd, no_more, and_then, first, blocks, exec, returns, enter, alloc_all, pass_all, free_all, look_at, get, get_in, sets, lands_last, env, sub, whole, tables, fact, yes, no, RattleType, owns, types_at, plain, Ptr, block_ptr, block_of, count_of, at_block, InBlock, nothing, heard, param, bounded, RefOf, usize, shr_vals, shr_Tells, uint_vals, uint_Tells, Stays, stay_dropped, walk_of, Goes-dropped, proved, leaves, fm, after, length}
+use Rattle.thread_local_lemmas.proofs.Names.{◌∙◌, ◌≡◌, ℕ, ◌+◌, ◌^◌, ◌<◌, List, [], ◌∷◌, sym, refl, subst, arith, w64, Option, Ty, a_type, dcons, dnil, named, Val, vint, vptr, vunit, inst_fn, SProp, ent, id⊢, Lft, Share, Fml, ftrue, fsep, froom, flft, WpFn, ‵, raw, ◌⊛◌, given, later, at_ret, ◌$◌, ◌∵◌, !, qed, by, move, keep, use1, use3, split, join, fsplit, fsplit3, fjoin, fpick, fpack, learn, suffices, await, rewrite, feq_i, stop, fld, unit_lit, align_word, of_opd, no_more, and_then, first, blocks, exec, returns, enter, alloc_all, pass_all, free_all, look_at, get, get_in, sets, lands_last, env, sub, whole, tables, fact, yes, no, RattleType, owns, types_at, plain, Ptr, block_ptr, block_of, count_of, at_block, InBlock, nothing, heard, param, bounded, RefOf, usize, shr_vals, shr_Tells, uint_vals, uint_Tells, Stays, stay_dropped, walk_of, Goes-dropped, proved, leaves, fm, after, length}
 use base.Fml.{Incl-trans}
 use prog.Memory.{align, size, capped}
 use prog.Capped.{capped_fits}

@@ -1,12 +1,12 @@
 -- `is_next_published` reads the flag of the next slot, which becomes room where the flag isn't set.
-use Rattle.thread_local_raw.proofs.Names.{lit<, ◌≡◌, ℕ, ◌+◌, ◌*◌, ◌^◌, ◌<◌, List, [], ◌∷◌, length, sym, refl, ap, ◌∙◌, subst, w64, Bool, Option, Ty, a_type, dcons, dnil, named, Val, vint, vptr, inst_fn, full_share, SProp, emp, Fml, ftrue, fsep, flft, ‵, raw, ◌⊛◌, given, at_ret, ◌$◌, ◌∵◌, !, qed, by, move, keep, use0, use1, use2, split, join, fsplit, fsplit3, fjoin, fjoin3, learn, rewrite, feq_i, stop, fld, load, look, lit, of_opd, bin, first, blocks, exec, returns, enter, alloc_all, pass_all, free_all, look_at, get, through, sets, sets_last, is, env, sub, look_in, whole, tables, fact, fact_i, yes, RattleType, owns, types_at, plain, Ptr, block_ptr, block_of, count_of, at_block, nothing, heard, opens, closes, peeks, shows, param, bounded, usize, mut_vals, mut_Tells, uint_vals, uint_Tells, Stays, stay_dropped, stay_ref, walk_of, Goes-dropped, Goes-ref, cell_at, proved, leaves, after}
+use Rattle.thread_local_lemmas.proofs.Names.{lit<, ◌≡◌, ℕ, ◌+◌, ◌*◌, ◌^◌, ◌<◌, List, [], ◌∷◌, length, sym, refl, ap, ◌∙◌, subst, w64, Bool, Option, Ty, a_type, dcons, dnil, named, Val, vint, vptr, inst_fn, full_share, SProp, emp, Fml, ftrue, fsep, flft, ‵, raw, ◌⊛◌, given, at_ret, ◌$◌, ◌∵◌, !, qed, by, move, keep, use0, use1, use2, split, join, fsplit, fsplit3, fjoin, fjoin3, learn, rewrite, feq_i, stop, fld, load, look, lit, of_opd, bin, first, blocks, exec, returns, enter, alloc_all, pass_all, free_all, look_at, get, through, sets, sets_last, is, env, sub, look_in, whole, tables, fact, fact_i, yes, RattleType, owns, types_at, plain, Ptr, block_ptr, block_of, count_of, at_block, nothing, heard, opens, closes, peeks, shows, param, bounded, usize, mut_vals, mut_Tells, uint_vals, uint_Tells, Stays, stay_dropped, stay_ref, walk_of, Goes-dropped, Goes-ref, cell_at, proved, leaves, after}
 use Rattle.std.specs.Prelude.{◌/◌, ◌%◌, is_some, bit_and, if◌then◌else◌}
 use base.Logic.{apply∗}
 use types.Kit.{some, pick}
 use types.Logic.{sem}
 use mir.Val.{vbool}
 use lib.Dec.{eqb}
-use Rattle.thread_local_bits.proofs.Word.{is_set-test, masked_fits, place_below, place_fits, shifted_right}
+use Rattle.thread_local_lemmas.proofs.Word.{is_set-test, masked_fits, place_below, place_fits, shifted_right}
 use Rattle.thread_local_blocks.specs.Slots.{slot_value, value_words, word_number}
 use Rattle.thread_local_blocks.proofs.Slots.{flags_of}
 use Rattle.thread_local_blocks.specs.Retired.{retired_owns, rest}

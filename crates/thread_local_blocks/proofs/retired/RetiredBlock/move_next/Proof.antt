@@ -1,5 +1,5 @@
 -- `move_next` reads the value of the next slot, which becomes room, whatever its flag says.
-use Rattle.thread_local_raw.proofs.Names.{◌≡◌, ℕ, ◌+◌, ◌*◌, ◌^◌, ◌<◌, List, [], ◌∷◌, length, sym, refl, ap, ◌∙◌, subst, w64, Option, Some, Ty, a_type, dcons, dnil, named, Val, vint, vptr, inst_fn, bare, full_share, SProp, emp, Fml, ftrue, fsep, froom, flft, ‵, raw, ◌⊛◌, given, at_ret, ◌$◌, ◌∵◌, !, qed, by, move, keep, use0, use1, use2, split, join, fsplit, fsplit3, fjoin, fjoin3, learn, rewrite, feq_i, stop, fld, load, look_raw, size_word, of_opd, bin, first, blocks, exec, returns, enter, alloc_all, pass_all, free_all, look_at, get, through, sets, sets_last, is, env, sub, look_in, whole, tables, fact, fact_i, yes, RattleType, owns, types_at, plain, Ptr, block_ptr, block_of, count_of, at_block, InBlock, nothing, heard, opens, closes, peeks, shows, param, layout, param_laws, bounded, usize, mut_vals, mut_Tells, uint_vals, uint_Tells, Stays, stay_dropped, stay_ref, walk_of, Goes-dropped, Goes-ref, cell_at, Member, proved, leaves, after, spread}
+use Rattle.thread_local_lemmas.proofs.Names.{◌≡◌, ℕ, ◌+◌, ◌*◌, ◌^◌, ◌<◌, List, [], ◌∷◌, length, sym, refl, ap, ◌∙◌, subst, w64, Option, Some, Ty, a_type, dcons, dnil, named, Val, vint, vptr, inst_fn, bare, full_share, SProp, emp, Fml, ftrue, fsep, froom, flft, ‵, raw, ◌⊛◌, given, at_ret, ◌$◌, ◌∵◌, !, qed, by, move, keep, use0, use1, use2, split, join, fsplit, fsplit3, fjoin, fjoin3, learn, rewrite, feq_i, stop, fld, load, look_raw, size_word, of_opd, bin, first, blocks, exec, returns, enter, alloc_all, pass_all, free_all, look_at, get, through, sets, sets_last, is, env, sub, look_in, whole, tables, fact, fact_i, yes, RattleType, owns, types_at, plain, Ptr, block_ptr, block_of, count_of, at_block, InBlock, nothing, heard, opens, closes, peeks, shows, param, layout, param_laws, bounded, usize, mut_vals, mut_Tells, uint_vals, uint_Tells, Stays, stay_dropped, stay_ref, walk_of, Goes-dropped, Goes-ref, cell_at, Member, proved, leaves, after, spread}
 use Rattle.std.specs.Prelude.{IsSome}
 use base.Logic.{apply∗}
 use types.Logic.{sem}

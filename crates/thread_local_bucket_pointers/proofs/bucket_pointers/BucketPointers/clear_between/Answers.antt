@@ -4,7 +4,7 @@ use Rattle.std.proofs.lemmas.Bool.{cond-true, cond-false, lt-ltb, le-ltb}
 use Rattle.thread_local_model.specs.Place.{id_at}
 use Rattle.thread_local_model.specs.Buckets.{Contents, IsTable}
 use Rattle.thread_local_model.specs.Rows.{empty_row}
-use Rattle.thread_local_owner_walk.proofs.RowLaws.{length-empty_row}
+use Rattle.thread_local_model.proofs.RowLaws.{length-empty_row}
 use Rattle.thread_local_bucket_pointers.proofs.Clearing.{AreCleared-none, AreCleared-more}
 use Rattle.thread_local_bucket_pointers.proofs.bucket_pointers.BucketPointers.clear_between.Goals as goal
 use Rattle.thread_local_bucket_pointers.proofs.bucket_pointers.BucketPointers.clear_between.Goals.{then-bucket_size-reserved, else-bucket_size-reserved}

@@ -2,8 +2,8 @@ use Rattle.std.proofs.Common.{◌≡◌, ℕ, ◌+◌, ◌*◌, ◌^◌, ◌≤�
 use Rattle.std.proofs.Math.Nat.{two-pow-succ}
 use Rattle.thread_local_model.specs.Buckets.{Contents, row, values}
 use Rattle.thread_local_model.specs.Place.{id_at}
-use Rattle.thread_local_owner_walk.specs.Counting.{count_below}
-use Rattle.thread_local_owner_walk.proofs.TakingLaws.{count_below-le}
+use Rattle.thread_local_model.specs.Counting.{count_below}
+use Rattle.thread_local_model.proofs.TakingLaws.{count_below-le}
 use Rattle.thread_local_bucket_pointers.proofs.Counting.{chunk_counted}
 use Rattle.thread_local_bucket_pointers.proofs.bucket_pointers.BucketPointers.count_in_chunks.Goals as goal
 

@@ -2,8 +2,8 @@ use Rattle.std.proofs.Common.{◌≡◌, ◌+◌, ◌-◌, ◌^◌, ◌≤◌, �
 use Rattle.std.proofs.Math.Nat.{two-pow-succ}
 use Rattle.thread_local_model.specs.Place.{id_at}
 use Rattle.thread_local_model.specs.Buckets.{Contents, values, row}
-use Rattle.thread_local_owner_walk.specs.Counting.{count_below}
-use Rattle.thread_local_owner_walk.proofs.TakingLaws.{count_below-zero, count_below-absent, count_below-fits, count_below-walk}
+use Rattle.thread_local_model.specs.Counting.{count_below}
+use Rattle.thread_local_model.proofs.TakingLaws.{count_below-zero, count_below-absent, count_below-fits, count_below-walk}
 use Rattle.thread_local_bucket_pointers.proofs.bucket_pointers.BucketPointers.count_values.Goals as goal
 use Rattle.thread_local_bucket_pointers.proofs.bucket_pointers.BucketPointers.count_values.Goals.{then-stands, else-stands}
 

@@ -3,7 +3,7 @@ use Rattle.std.proofs.lemmas.Bool.{ltb-true}
 use Rattle.thread_local_model.specs.Buckets.{Contents, row, stands, IsTable}
 use Rattle.thread_local_model.specs.Rows.{with_row, empty_row}
 use Rattle.thread_local_blocks.specs.Slots.{empty_slots}
-use Rattle.thread_local_owner_walk.proofs.RowLaws.{row_whole, IsTable-with_row, length-empty_row}
+use Rattle.thread_local_model.proofs.RowLaws.{row_whole, IsTable-with_row, length-empty_row}
 use Rattle.thread_local_bucket_pointers.specs.Pointers.{contents_of}
 use Rattle.thread_local_bucket_pointers.proofs.ContentsOf.{row_of_pointer, row_changes}
 use Rattle.thread_local_bucket_pointers.proofs.bucket_pointers.BucketPointers.empty.Goals as goal

@@ -2,7 +2,7 @@ use Rattle.std.proofs.Common.{◌≡◌, ◌^◌, ℕ, List, Option, length, inr
 use Rattle.thread_local_model.specs.Buckets.{Contents, IsTable}
 use Rattle.thread_local_model.specs.Rows.{with_row, empty_row}
 use Rattle.thread_local_blocks.specs.Slots.{empty_slots}
-use Rattle.thread_local_owner_walk.proofs.RowLaws.{IsTable-with_row, length-empty_row}
+use Rattle.thread_local_model.proofs.RowLaws.{IsTable-with_row, length-empty_row}
 use Rattle.thread_local_bucket_pointers.specs.Pointers.{contents_of}
 use Rattle.thread_local_bucket_pointers.proofs.ContentsOf.{row_changes}
 use Rattle.thread_local_bucket_pointers.proofs.bucket_pointers.BucketPointers.install.Goals as goal

@@ -2,7 +2,7 @@ use Rattle.std.specs.Prelude.{◌/◌, ℕ}
 use Rattle.std.proofs.Common.{sym, ap, ◌∙◌, subst, None}
 use Rattle.thread_local_model.specs.Buckets.{Contents, IsTable}
 use Rattle.thread_local_model.specs.Rows.{with_slot}
-use Rattle.thread_local_owner_walk.proofs.RowLaws.{IsTable-with_slot}
+use Rattle.thread_local_model.proofs.RowLaws.{IsTable-with_slot}
 use Rattle.thread_local_bucket_pointers.specs.Pointers.{contents_of}
 use Rattle.thread_local_blocks.specs.Slots.{word_number}
 use Rattle.thread_local_bucket_pointers.specs.contracts.bucket_pointers.BucketPointers.take_and_store.{T-row}

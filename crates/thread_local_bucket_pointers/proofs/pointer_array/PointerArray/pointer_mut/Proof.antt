@@ -26,8 +26,8 @@ use denote.Steps.{nothing, heard}
 use denote.Triple.Walked.{Stays, stay_dropped, walk_of, Goes-dropped, Goes-spent_ref}
 use Rattle.std.specs.Prelude.{slice_index_or}
 use Rattle.std.proofs.raw_atomic.Walks.{proved, leaves}
-use Rattle.thread_local_bucket_pointer.specs.contracts.bucket_pointer.BucketPointer as one_pointer
-use Rattle.thread_local_bucket_pointer.proofs.bucket_pointer.BucketPointer.TheLaws as pointer_laws
+use Rattle.thread_local_bucket_pointers.specs.contracts.bucket_pointer.BucketPointer as one_pointer
+use Rattle.thread_local_bucket_pointers.proofs.bucket_pointer.BucketPointer.TheLaws as pointer_laws
 use Rattle.thread_local_bucket_pointers.specs.Pointers.{null_pointer, with_pointer}
 use Rattle.thread_local_bucket_pointers.specs.contracts.pointer_array.PointerArray as array
 use Rattle.thread_local_bucket_pointers.specs.contracts.pointer_array.PointerArray.pointer_mut.{ended, clauses}

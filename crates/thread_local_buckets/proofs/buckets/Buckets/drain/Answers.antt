@@ -1,4 +1,4 @@
-use Rattle.thread_local_owner_walk.proofs.EmptyingLaws.{values-emptied}
+use Rattle.thread_local_model.proofs.EmptyingLaws.{values-emptied}
 use Rattle.thread_local_buckets.proofs.DrainLaws.{keeps_along}
 use Rattle.thread_local_buckets.proofs.buckets.Buckets.drain.Goals as goal
 

@@ -7,8 +7,8 @@ use Rattle.thread_local_model.specs.Buckets.{Contents, stands, values, IsTable}
 use Rattle.thread_local_model.specs.Owned.{Owned}
 use Rattle.thread_local_model.specs.Rows.{value_in, with_slot, with_row, empty_row}
 use Rattle.thread_local_model.specs.Walk.{with_value}
-use Rattle.thread_local_owner_walk.specs.Owner.{with_published}
-use Rattle.thread_local_owner_walk.proofs.InsertingLaws.{published_values}
+use Rattle.thread_local_model.specs.Owner.{with_published}
+use Rattle.thread_local_model.proofs.InsertingLaws.{published_values}
 use Rattle.thread_local_buckets.specs.Inserting.{owned_with}
 use Rattle.thread_local_buckets.proofs.buckets.Buckets.get_mut.Goals as goal
 

@@ -6,9 +6,9 @@ use Rattle.thread_local_model.specs.Buckets.{Contents, row, stands, IsTable}
 use Rattle.thread_local_model.specs.Owned.{Owned, IsOwned}
 use Rattle.thread_local_model.specs.Rows.{value_in, with_slot}
 use Rattle.thread_local_model.specs.Sheet.{moved}
-use Rattle.thread_local_owner_walk.specs.Owner.{with_bucket, with_published, sheet_of, publish_or_keep}
-use Rattle.thread_local_owner_walk.proofs.StandingLaws.{row-absent, whole-with_bucket}
-use Rattle.thread_local_owner_walk.proofs.InsertingLaws.{ends, answers, IsOwned-with_published, published_moves, published_stands}
+use Rattle.thread_local_model.specs.Owner.{with_bucket, with_published, sheet_of, publish_or_keep}
+use Rattle.thread_local_model.proofs.StandingLaws.{row-absent, whole-with_bucket}
+use Rattle.thread_local_model.proofs.InsertingLaws.{ends, answers, IsOwned-with_published, published_moves, published_stands}
 use Rattle.thread_local_buckets.specs.Inserting.{owned_with}
 use Rattle.thread_local_buckets.proofs.buckets.Buckets.insert.Goals as goal
 

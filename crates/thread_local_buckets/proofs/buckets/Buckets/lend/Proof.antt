@@ -1,5 +1,5 @@
 -- `lend` takes the address of the pointers, and splits the owner's borrow to make what a loan owns.
-use Rattle.thread_local_raw.proofs.Names.{◌≡◌, ℕ, ◌+◌, [], ◌∷◌, refl, ap, full_share, a_type, named, Val, vptr, inst_fn, SProp, ent, ex, sep, sem, emp, Lft, Share, GName, Fml, ftrue, fsep, flft, ‵, raw, ◌⊛◌, some, given, later, ◌$◌, ◌∵◌, !, qed, by, move, keep, split, split3, join, fsplit, fsplit3, fjoin, pick, learn, group, use0, use1, use2, await, stop, fld, addr, of_opd, returns, enter, alloc_all, pass_all, free_all, look_at, get, through, sets, open_ref, tables, fact_i, no, RattleType, owns, types_at, plain, named_lft, block_ptr, nothing, mem, lone, part_at, param, param_laws, layouts, usize, RefMutOf, mut_vals, mut_Tells, Stays, stay_dropped, walk_of, proved, leaves, Member, w64}
+use Rattle.thread_local_lemmas.proofs.Names.{◌≡◌, ℕ, ◌+◌, [], ◌∷◌, refl, ap, full_share, a_type, named, Val, vptr, inst_fn, SProp, ent, ex, sep, sem, emp, Lft, Share, GName, Fml, ftrue, fsep, flft, ‵, raw, ◌⊛◌, some, given, later, ◌$◌, ◌∵◌, !, qed, by, move, keep, split, split3, join, fsplit, fsplit3, fjoin, pick, learn, group, use0, use1, use2, await, stop, fld, addr, of_opd, returns, enter, alloc_all, pass_all, free_all, look_at, get, through, sets, open_ref, tables, fact_i, no, RattleType, owns, types_at, plain, named_lft, block_ptr, nothing, mem, lone, part_at, param, param_laws, layouts, usize, RefMutOf, mut_vals, mut_Tells, Stays, stay_dropped, walk_of, proved, leaves, Member, w64}
 use contract.Monad.{fact}
 use types.Logic.{Logic}
 use types.Run.{no_more, and_then}
@@ -17,11 +17,11 @@ use Rattle.thread_local_model.specs.Buckets.{Contents, IsTable}
 use Rattle.thread_local_model.specs.Owned.{Owned}
 use Rattle.thread_local_bucket_pointers.specs.contracts.bucket_pointers.BucketPointers as all_pointers
 use Rattle.thread_local_bucket_pointers.proofs.bucket_pointers.BucketPointers.TheLaws as pointers_laws
-use Rattle.thread_local_loan.specs.Lent.{loan_owns}
-use Rattle.thread_local_owner_walk.specs.Refilled.{refilled}
-use Rattle.thread_local_loan.specs.contracts.loan.Loan as loan
-use Rattle.thread_local_loan.proofs.Fields.{FieldsType, loan_val, made}
-use Rattle.thread_local_loan.proofs.Lending.{lends}
+use Rattle.thread_local_buckets.specs.Lent.{loan_owns}
+use Rattle.thread_local_model.specs.Refilled.{refilled}
+use Rattle.thread_local_buckets.specs.contracts.loan.Loan as loan
+use Rattle.thread_local_buckets.proofs.Fields.{FieldsType, loan_val, made}
+use Rattle.thread_local_buckets.proofs.Lending.{lends}
 use Rattle.thread_local_buckets.specs.LendingValues.{owned_refilled}
 use Rattle.thread_local_buckets.specs.contracts.buckets.Buckets as buckets
 use Rattle.thread_local_buckets.specs.contracts.buckets.Buckets.TheInside as inside

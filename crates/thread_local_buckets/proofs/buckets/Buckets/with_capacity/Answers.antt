@@ -2,7 +2,7 @@ use Rattle.std.proofs.Common.{◌≡◌, ◌-◌, ◌^◌, ℕ, subst, sym, ap, 
 use Rattle.thread_local_model.specs.Buckets.{Contents}
 use Rattle.thread_local_model.specs.Owned.{IsOwned}
 use Rattle.thread_local_model.specs.Capacity.{binary_digits}
-use Rattle.thread_local_owner_walk.proofs.FillingLaws.{IsFilled, IsFilled-none, IsFilled-more, IsOwned-filled, slots-filled, reserved-digits}
+use Rattle.thread_local_model.proofs.FillingLaws.{IsFilled, IsFilled-none, IsFilled-more, IsOwned-filled, slots-filled, reserved-digits}
 use Rattle.thread_local_buckets.proofs.buckets.Buckets.with_capacity.Goals as goal
 
 -- once the loop ends, all buckets of the capacity are made

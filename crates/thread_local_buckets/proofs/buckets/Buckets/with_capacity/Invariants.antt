@@ -1,4 +1,4 @@
-use Rattle.thread_local_owner_walk.proofs.FillingLaws.{IsFilled}
+use Rattle.thread_local_model.proofs.FillingLaws.{IsFilled}
 use Rattle.thread_local_buckets.proofs.buckets.Buckets.with_capacity.Given as goal
 
 -- the buckets so far stand, without values

@@ -13,8 +13,8 @@ use denote.Struct.Laws.{RawPtr-copy, u64-copy, field_copy}
 use denote.Struct.Lending.{of_Lends}
 use Rattle.std.specs.contracts.marker.PhantomData as P
 use Rattle.thread_local_claim.specs.contracts.claimed.ClaimedSlot as C
-use Rattle.thread_local_claim_logic.specs.Claims.{claim_fields}
-use Rattle.thread_local_claim_logic.proofs.Lending.{claim_laws, lends_claim}
+use Rattle.thread_local_claim.specs.Claims.{claim_fields}
+use Rattle.thread_local_claim.proofs.Lending.{claim_laws, lends_claim}
 use Rattle.thread_local_claim.proofs.claimed.ClaimedSlot.TheLaw.Statement.{statement}
 
 pub shares : (a : NamedLft) (T : RattleType) (L : Laws T) → statement a T L

@@ -2,9 +2,9 @@
 use denote.RattleType.{RattleType}
 use denote.Ref.{NamedLft}
 use denote.Param.Send.{IsSend}
-use Rattle.thread_local_claim_logic.specs.Claims.{claim_fields}
+use Rattle.thread_local_claim.specs.Claims.{claim_fields}
 use Rattle.thread_local_claim.specs.contracts.claimed.ClaimedSlot.{the_row}
-use Rattle.thread_local_claim_logic.proofs.Sent.{claim_keyless}
+use Rattle.thread_local_claim.proofs.Sent.{claim_keyless}
 
 pub send : (a : NamedLft) (T : RattleType) → IsSend T → IsSend (the_row a T)
 send a T s = record { owned = λ d vs. ((λ vss. (tt, (tt, ((tt, tt), ((λ uss. (tt, tt)), tt))))), claim_keyless T s a.lft d.table (claim_fields d.id d.index d.bucket d.at d.sharing d.reserved) d.learnt d.state); leaving = λ k f vs. tt }

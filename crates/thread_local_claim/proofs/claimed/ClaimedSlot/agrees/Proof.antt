@@ -1,13 +1,13 @@
 -- `agrees` is a ghost step under the bucket's invariant: a claim that has found no value contradicts
 -- what is told of its id.
-use Rattle.thread_local_raw.proofs.Names.{◌≡◌, ℕ, List, [], ◌∷◌, refl, sym, Some, Option, dnil, a_type, named, Val, vptr, vunit, inst_fn, SProp, emp, Lft, Share, Fml, ftrue, fsep, flft, ‵, raw, ◌⊛◌, given, later, ◌$◌, ◌∵◌, !, qed, by, move, keep, drop, split, split3, join, fsplit, fsplit3, fjoin, fjoin3, learn, await, use0, use3, rewrite, feq_i, of_opd, unit_lit, returns, enter, alloc_all, pass_all, free_all, look_at, sets, tables, fact, fact_i, yes, RattleType, owns, types_at, plain, named_lft, opens, closes, nothing, heard, unhide, param, bounded, RefOf, mut_vals, mut_Tells, shr_vals, shr_Tells, Stays, stay_dropped, stay_ref, walk_of, Goes-dropped, Goes-ref, proved, leaves}
+use Rattle.thread_local_lemmas.proofs.Names.{◌≡◌, ℕ, List, [], ◌∷◌, refl, sym, Some, Option, dnil, a_type, named, Val, vptr, vunit, inst_fn, SProp, emp, Lft, Share, Fml, ftrue, fsep, flft, ‵, raw, ◌⊛◌, given, later, ◌$◌, ◌∵◌, !, qed, by, move, keep, drop, split, split3, join, fsplit, fsplit3, fjoin, fjoin3, learn, await, use0, use3, rewrite, feq_i, of_opd, unit_lit, returns, enter, alloc_all, pass_all, free_all, look_at, sets, tables, fact, fact_i, yes, RattleType, owns, types_at, plain, named_lft, opens, closes, nothing, heard, unhide, param, bounded, RefOf, mut_vals, mut_Tells, shr_vals, shr_Tells, Stays, stay_dropped, stay_ref, walk_of, Goes-dropped, Goes-ref, proved, leaves}
 use Rattle.std.proofs.Common.{IsSome}
 use Rattle.thread_local_model.specs.Learnt.{Learnt, Holding}
-use Rattle.thread_local_published.specs.Told.{tells}
-use Rattle.thread_local_published.specs.contracts.witness.Witness as Witness
-use Rattle.thread_local_claim_logic.specs.Known.{IsKnown}
-use Rattle.thread_local_claim_logic.specs.Claims.{ClaimFields, claim_fields, claim_owns}
-use Rattle.thread_local_claim_logic.proofs.Agreed as agreed
+use Rattle.thread_local_tokens.specs.Told.{tells}
+use Rattle.thread_local_tokens.specs.contracts.witness.Witness as Witness
+use Rattle.thread_local_claim.specs.Known.{IsKnown}
+use Rattle.thread_local_claim.specs.Claims.{ClaimFields, claim_fields, claim_owns}
+use Rattle.thread_local_claim.proofs.Agreed as agreed
 use Rattle.thread_local_claim.specs.contracts.claimed.ClaimedSlot as claim
 use Rattle.thread_local_claim.specs.contracts.claimed.ClaimedSlot.agrees.{ended, clauses}
 use Rattle.thread_local_claim.specs.contracts.claimed.ClaimedSlot.agrees.Key.{name as #self}

@@ -1,6 +1,6 @@
 -- `exchange` lends the block for a lifetime of its own, and ends that lifetime if another block was
 -- installed first. Either way the claim finds its slot empty.
-use Rattle.thread_local_raw.proofs.Names.{fpack, vint, w64, usize, uint_vals, uint_Tells, yes, ◌≡◌, ℕ, ◌+◌, ◌^◌, false, sem, List, [], ◌∷◌, refl, sym, ap, ◌∙◌, lit<, Option, None, Some, Body, a_type, Val, vptr, vcons, vnil, inst_fn, dnil, SProp, wand, emp, via, apply∗, Lft, Share, Fml, ftrue, fsep, flft, fbor, ‵, raw, ◌⊛◌, some, given, later, mean, at_ret, any_q, ◌$◌, ◌∵◌, !, qed, by, move, keep, drop, split, join, fsplit, fsplit3, fjoin, fpick, pick, learn, rewrite, use0, use1, use2, use3, await, group, stop, fld, addr, lit, of_opd, no_more, and_then, first, blocks, exec, switches_on, returns, enter, alloc_all, pass_all, free_all, look_at, get, get_in, get_tag, through, sets, sets_last, lands_last, env, is, agg, sub, whole, live, vrt, in_variant, tables, fact, fact_i, no, RattleType, owns, types_at, plain, Ptr, block_ptr, null_ptr, block_of, count_of, at_block, InBlock, ptr_val, nothing, heard, param, layout, Stays, stay_dropped, walk_of, Goes-dropped, proved, leaves, fm, after, u64}
+use Rattle.thread_local_lemmas.proofs.Names.{fpack, vint, w64, usize, uint_vals, uint_Tells, yes, ◌≡◌, ℕ, ◌+◌, ◌^◌, false, sem, List, [], ◌∷◌, refl, sym, ap, ◌∙◌, lit<, Option, None, Some, Body, a_type, Val, vptr, vcons, vnil, inst_fn, dnil, SProp, wand, emp, via, apply∗, Lft, Share, Fml, ftrue, fsep, flft, fbor, ‵, raw, ◌⊛◌, some, given, later, mean, at_ret, any_q, ◌$◌, ◌∵◌, !, qed, by, move, keep, drop, split, join, fsplit, fsplit3, fjoin, fpick, pick, learn, rewrite, use0, use1, use2, use3, await, group, stop, fld, addr, lit, of_opd, no_more, and_then, first, blocks, exec, switches_on, returns, enter, alloc_all, pass_all, free_all, look_at, get, get_in, get_tag, through, sets, sets_last, lands_last, env, is, agg, sub, whole, live, vrt, in_variant, tables, fact, fact_i, no, RattleType, owns, types_at, plain, Ptr, block_ptr, null_ptr, block_of, count_of, at_block, InBlock, ptr_val, nothing, heard, param, layout, Stays, stay_dropped, walk_of, Goes-dropped, proved, leaves, fm, after, u64}
 use Rattle.std.proofs.Common.{IfSome, length, ◌*◌, ◌<◌, subst}
 use Rattle.std.proofs.lemmas.List.{length-replicate}
 use seplogic.Ra.Ura.{Ura}
@@ -36,20 +36,20 @@ use Rattle.thread_local_model.specs.Place.{bucket_of}
 use Rattle.thread_local_model.proofs.PlaceLaws.{place-id_at}
 use Rattle.thread_local_blocks.specs.Slots.{block_owns, empty_slots, stride, Fits}
 use Rattle.thread_local_blocks.proofs.Flags.{value_near}
-use Rattle.thread_local_raw.specs.Fact.{fact as said_fact}
+use Rattle.thread_local_lemmas.specs.Fact.{fact as said_fact}
 use Rattle.thread_local_blocks.specs.contracts.block.Block as block
 use Rattle.thread_local_blocks.proofs.Fields as fields
-use Rattle.thread_local_shared_bucket_logic.specs.Shared.{BucketView, Turn, StandingBlock, len, bucket_invariant}
-use Rattle.thread_local_shared_bucket_logic.proofs.Loads.{glimpse}
-use Rattle.thread_local_shared_bucket_logic.proofs.Offers as offers
+use Rattle.thread_local_shared_bucket.specs.Shared.{BucketView, Turn, StandingBlock, len, bucket_invariant}
+use Rattle.thread_local_shared_bucket.proofs.Loads.{glimpse}
+use Rattle.thread_local_shared_bucket.proofs.Offers as offers
 use Rattle.thread_local_shared_bucket.proofs.Fields.{word_laws}
-use Rattle.thread_local_raw.proofs.Pairs.{both, pair_in}
+use Rattle.thread_local_lemmas.proofs.Pairs.{both, pair_in}
 use Rattle.thread_local_model.specs.Learnt.{Learnt, Missing, Vacant}
-use Rattle.thread_local_claim_logic.specs.Claims.{ClaimFields, claim_fields, IsOf, value_at, has, claim_owns}
+use Rattle.thread_local_claim.specs.Claims.{ClaimFields, claim_fields, IsOf, value_at, has, claim_owns}
 use Rattle.thread_local_claim.specs.contracts.claimed.ClaimedSlot as claim
 use Rattle.thread_local_claim.specs.contracts.claimed.ClaimedSlot.exchange.{ended, clauses}
 use Rattle.thread_local_claim.specs.contracts.claimed.ClaimedSlot.exchange.Key.{name as #self}
-use Rattle.thread_local_claim_logic.proofs.Installs.{installs}
+use Rattle.thread_local_claim.proofs.Installs.{installs}
 use Rattle.thread_local_claim.proofs.Fields.{Kept, kept_of, value_of, FieldsType, fields_of, told, in_word, made, typed, lies_at, spaced, spaced_is}
 use Rattle.thread_local_claim.proofs.claimed.ClaimedSlot.exchange.Statement.{statement}
 use Rattle.thread_local_claim.proofs.claimed.ClaimedSlot.exchange.Code as code

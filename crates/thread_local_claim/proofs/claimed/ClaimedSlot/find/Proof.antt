@@ -1,6 +1,6 @@
 -- `find` loads the bucket's pointer: at null, it takes the pass for the right. Else it loads the
 -- word of the slot's flag, and takes what the slot holds.
-use Rattle.thread_local_raw.proofs.Names.{Option, lit<, ◌≡◌, ℕ, ◌+◌, ◌^◌, [], ◌∷◌, refl, sym, ap, ◌∙◌, subst, true, a_type, Val, vptr, inst_fn, SProp, wand, emp, via, id⊢, apply∗, Lft, Share, Fml, ftrue, fsep, flft, fbor, finv, sem, ‵, raw, ◌⊛◌, some, later, mean, at_ret, ◌$◌, ◌∵◌, !, qed, by, move, keep, drop, split, join, fsplit, fjoin, fpick, fpack, pick, use0, use1, use2, use3, await, rewrite, group, fld, stop, addr, lit, of_opd, no_more, and_then, first, blocks, exec, Calls-last, returns, enter, alloc_all, pass_all, free_all, look_at, get, get_in, through, sets, sets_last, size_word, lands_last, env, agg, sub, whole, tables, fact, fact_i, no, RattleType, owns, types_at, plain, named_lft, Ptr, block_ptr, block_of, count_of, at_block, nothing, heard, param, bounded, Stays, stay_dropped, walk_of, Goes-dropped, proved, leaves, fm, found, finds, Lends-one, ◌*◌, ◌<◌, ◌≢◌, length, Bool, false, dnil, bin, branches, is, null_ptr, ptr_val, u64, after, uint_vals, uint_Tells, usize, yes, fsplit3, vint, w64}
+use Rattle.thread_local_lemmas.proofs.Names.{Option, lit<, ◌≡◌, ℕ, ◌+◌, ◌^◌, [], ◌∷◌, refl, sym, ap, ◌∙◌, subst, true, a_type, Val, vptr, inst_fn, SProp, wand, emp, via, id⊢, apply∗, Lft, Share, Fml, ftrue, fsep, flft, fbor, finv, sem, ‵, raw, ◌⊛◌, some, later, mean, at_ret, ◌$◌, ◌∵◌, !, qed, by, move, keep, drop, split, join, fsplit, fjoin, fpick, fpack, pick, use0, use1, use2, use3, await, rewrite, group, fld, stop, addr, lit, of_opd, no_more, and_then, first, blocks, exec, Calls-last, returns, enter, alloc_all, pass_all, free_all, look_at, get, get_in, through, sets, sets_last, size_word, lands_last, env, agg, sub, whole, tables, fact, fact_i, no, RattleType, owns, types_at, plain, named_lft, Ptr, block_ptr, block_of, count_of, at_block, nothing, heard, param, bounded, Stays, stay_dropped, walk_of, Goes-dropped, proved, leaves, fm, found, finds, Lends-one, ◌*◌, ◌<◌, ◌≢◌, length, Bool, false, dnil, bin, branches, is, null_ptr, ptr_val, u64, after, uint_vals, uint_Tells, usize, yes, fsplit3, vint, w64}
 use Rattle.std.proofs.Common.{◌⊎◌, inl, inr, ◌/◌, ◌%◌}
 use base.Fml.{fres}
 use base.Before.{before}
@@ -14,25 +14,25 @@ use denote.Struct.Laws.{u64-laws, u64-copy}
 use Rattle.std.proofs.raw_atomic.Calls.{seq_cst, loads}
 use Rattle.std.proofs.raw_atomic.PtrCalls as calls
 use Rattle.std.proofs.raw_atomic.PtrCalls.{seq_cst_good}
-use Rattle.thread_local_rights.specs.Rights.{right_owns}
+use Rattle.thread_local_tokens.specs.Rights.{right_owns}
 use Rattle.thread_local_blocks.specs.Slots.{stride, value_words, word_at, value_offset}
 use Rattle.thread_local_blocks.proofs.Flags.{in_chunks, value_near}
 use Rattle.thread_local_blocks.proofs.Slots.{IsWordNear, word_is_near}
-use Rattle.thread_local_bits.specs.Bits.{is_set}
-use Rattle.thread_local_bits.proofs.Word.{masked_fits, place_below, place_fits, shifted_right}
-use Rattle.thread_local_raw.specs.Fact as facts
-use Rattle.thread_local_shared_bucket_logic.specs.Shared.{BucketView, Turn, StandingBlock, Sized, mark, len, bucket_invariant, loaded}
+use Rattle.thread_local_lemmas.specs.Bits.{is_set}
+use Rattle.thread_local_lemmas.proofs.Word.{masked_fits, place_below, place_fits, shifted_right}
+use Rattle.thread_local_lemmas.specs.Fact as facts
+use Rattle.thread_local_shared_bucket.specs.Shared.{BucketView, Turn, StandingBlock, Sized, mark, len, bucket_invariant, loaded}
 use Rattle.thread_local_shared_bucket.proofs.Fields.{pointer_good}
-use Rattle.thread_local_shared_bucket_logic.proofs.Loads.{glimpse, reaches, reads}
+use Rattle.thread_local_shared_bucket.proofs.Loads.{glimpse, reaches, reads}
 use Rattle.thread_local_model.specs.Learnt.{Learnt, Missing, Vacant, Finds}
-use Rattle.thread_local_claim_logic.specs.Known.{IsKnown, IsUnfound, in_vain, state_by, found_as}
-use Rattle.thread_local_claim_logic.proofs.Learning.{known_as, not_missing, kept_as, state_by-fits, state_by-flag, finds_nothing, finds_slot, unfound, found as found_in}
-use Rattle.thread_local_claim_logic.specs.Claims.{ClaimFields, number_of_id, claim_fields, IsOf, IsKept, waits, value_at, has, has_slot, has_at}
+use Rattle.thread_local_claim.specs.Known.{IsKnown, IsUnfound, in_vain, state_by, found_as}
+use Rattle.thread_local_claim.proofs.Learning.{known_as, not_missing, kept_as, state_by-fits, state_by-flag, finds_nothing, finds_slot, unfound, found as found_in}
+use Rattle.thread_local_claim.specs.Claims.{ClaimFields, number_of_id, claim_fields, IsOf, IsKept, waits, value_at, has, has_slot, has_at}
 use Rattle.thread_local_claim.specs.contracts.claimed.ClaimedSlot as claim
 use Rattle.thread_local_claim.specs.contracts.claimed.ClaimedSlot.find.{ended, clauses}
 use Rattle.thread_local_claim.specs.contracts.claimed.ClaimedSlot.find.Key.{name as #self}
-use Rattle.thread_local_claim_logic.proofs.Early.{comes}
-use Rattle.thread_local_claim_logic.proofs.Steps as steps
+use Rattle.thread_local_claim.proofs.Early.{comes}
+use Rattle.thread_local_claim.proofs.Steps as steps
 use Rattle.thread_local_claim.proofs.Fields.{Kept, kept_of, value_of, FieldsType, fields_of, told, in_word, made, typed, number_in, spaced, spaced_is}
 use Rattle.thread_local_claim.proofs.claimed.ClaimedSlot.find.Statement.{statement}
 use Rattle.thread_local_claim.proofs.claimed.ClaimedSlot.find.Code as code

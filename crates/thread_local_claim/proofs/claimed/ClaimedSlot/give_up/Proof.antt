@@ -1,20 +1,20 @@
 -- `give_up` is a ghost step under the bucket's invariant: what the claim has of the slot goes back,
 -- for the right.
-use Rattle.thread_local_raw.proofs.Names.{◌≡◌, List, [], ◌∷◌, refl, ap, dnil, a_type, Val, inst_fn, SProp, emp, id⊢, Lft, Share, Fml, ftrue, fsep, flft, ‵, raw, ◌⊛◌, some, later, ◌$◌, ◌∵◌, !, qed, by, move, keep, drop, split, join, fsplit, fjoin, pick, use0, use1, use2, await, rewrite, no_more, returns, enter, alloc_all, pass_all, free_all, look_at, env, tables, fact, fact_i, no, RattleType, owns, types_at, plain, named_lft, nothing, heard, peeks, param, bounded, Stays, stay_dropped, walk_of, Goes-dropped, proved, leaves, fm, Is, shows, lands_as}
+use Rattle.thread_local_lemmas.proofs.Names.{◌≡◌, List, [], ◌∷◌, refl, ap, dnil, a_type, Val, inst_fn, SProp, emp, id⊢, Lft, Share, Fml, ftrue, fsep, flft, ‵, raw, ◌⊛◌, some, later, ◌$◌, ◌∵◌, !, qed, by, move, keep, drop, split, join, fsplit, fjoin, pick, use0, use1, use2, await, rewrite, no_more, returns, enter, alloc_all, pass_all, free_all, look_at, env, tables, fact, fact_i, no, RattleType, owns, types_at, plain, named_lft, nothing, heard, peeks, param, bounded, Stays, stay_dropped, walk_of, Goes-dropped, proved, leaves, fm, Is, shows, lands_as}
 use denote.Steps.{only}
 use denote.Triple.Call.{calls_at}
 use denote.Triple.Spec.{triple_of}
-use Rattle.thread_local_rights.specs.Rights.{right_owns}
-use Rattle.thread_local_rights.specs.contracts.right.Right as right
-use Rattle.thread_local_rights.specs.contracts.right.Right.take_up as taker
-use Rattle.thread_local_rights.proofs.Tokens.{token, told as right_told}
-use Rattle.thread_local_rights.proofs.right.Right.take_up.Met as taker_met
-use Rattle.thread_local_claim_logic.specs.Claims.{claim_fields}
+use Rattle.thread_local_tokens.specs.Rights.{right_owns}
+use Rattle.thread_local_tokens.specs.contracts.right.Right as right
+use Rattle.thread_local_tokens.specs.contracts.right.Right.take_up as taker
+use Rattle.thread_local_tokens.proofs.Markers.{token, told as right_told}
+use Rattle.thread_local_tokens.proofs.right.Right.take_up.Met as taker_met
+use Rattle.thread_local_claim.specs.Claims.{claim_fields}
 use Rattle.thread_local_claim.specs.contracts.claimed.ClaimedSlot as claim
 use Rattle.thread_local_claim.specs.contracts.claimed.ClaimedSlot.give_up.{ended, clauses}
 use Rattle.thread_local_claim.specs.contracts.claimed.ClaimedSlot.give_up.Key.{name as #self}
 use Rattle.thread_local_claim.proofs.Fields.{kept_of, value_of, told, in_word, typed}
-use Rattle.thread_local_claim_logic.proofs.Surrender.{surrenders}
+use Rattle.thread_local_claim.proofs.Surrender.{surrenders}
 use Rattle.thread_local_claim.proofs.claimed.ClaimedSlot.give_up.Statement.{statement}
 use Rattle.thread_local_claim.proofs.claimed.ClaimedSlot.give_up.Code as code
 
@@ -35,7 +35,7 @@ give_up_spec 𝓤 𝓛 𝓜 𝓡 wired X L =
     move ! (1 ∷ 2 ∷ []) $ join ! $ move ! (1 ∷ []) $
     let k : takes.Ghost = ((tt, tt, tt, tt, tt), (h.table, h.id)) in
     nothing ! $ nothing ! $ join ! $ join ! $ use1 𝓛 (raw (takes.pre k)) (id⊢ 𝓤 (takes.pre k)) $
-    calls_at ! (fm 𝓛 𝓜 𝓡) takes (taker_met.met 𝓤 𝓛 𝓜 𝓡 (code.calls-thread_local_rights::right::Right::take_up 𝓡.env wired)) k (no_more !) (λ u. let Given : right.the_row.Denot → Type 0 = λ r. (r.table ≡ h.table) × (r.id ≡ h.id) in
+    calls_at ! (fm 𝓛 𝓜 𝓡) takes (taker_met.met 𝓤 𝓛 𝓜 𝓡 (code.calls-thread_local_tokens::right::Right::take_up 𝓡.env wired)) k (no_more !) (λ u. let Given : right.the_row.Denot → Type 0 = λ r. (r.table ≡ h.table) × (r.id ≡ h.id) in
     use1 𝓛 (later (some (λ (r : right.the_row.Denot). (‵ ftrue ⊛ ‵ (right.the_row.own_val r (u ∷ []))) ⊛ some (λ (_ : Unit {0}). ‵ ftrue ⊛ raw (fact 𝓤 (Given r)))))) (id⊢ 𝓤 (takes.post k u)) $ await ! tt $ pick ! (λ r. split ! $ split ! $ drop ! $
     peeks ! right.the_row (Is right.the_row) (shows 𝓛 right.the_row) r (u ∷ []) (λ is. let e : u ∷ [] ≡ token ∷ [] = right_told (right.the_type).name (u ∷ []) is.0 in
     move ! (1 ∷ []) $ pick ! (λ _. split ! $ drop ! $ heard ! (Given r) (λ same. rewrite ! 0 (λ (ws : List Val). ‵ (right.the_row.own_val r ws)) e refl $

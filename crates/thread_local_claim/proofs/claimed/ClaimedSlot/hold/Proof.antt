@@ -1,19 +1,19 @@
 -- `hold` joins the right with what a `&` to the bucket shows.
-use Rattle.thread_local_raw.proofs.Names.{Option, ◌≡◌, ℕ, ◌^◌, List, [], ◌∷◌, refl, sym, ap, ◌∙◌, w64, a_type, named, Val, vptr, vint, vunit, of_opd, inst_fn, SProp, emp, id⊢, Lft, Share, Fml, ftrue, fsep, flft, ‵, raw, ◌⊛◌, some, later, ◌$◌, ◌∵◌, !, qed, by, move, keep, drop, split, join, fsplit, fjoin, fpick, fpack, pick, use0, use1, await, rewrite, feq_l, stop, addr, no_more, and_then, returns, enter, alloc_all, pass_all, free_all, look_at, get, through, sets, env, agg, tables, fact, fact_i, yes, RattleType, owns, types_at, plain, named_lft, Ptr, block_ptr, nothing, heard, unhide, param, bounded, RefOf, shr_vals, shr_Tells, uint_vals, uint_Tells, Stays, stay_dropped, walk_of, Goes-dropped, proved, leaves, fm, ◌<◌, lit<, lit, arith, dnil, lands_as, usize}
+use Rattle.thread_local_lemmas.proofs.Names.{Option, ◌≡◌, ℕ, ◌^◌, List, [], ◌∷◌, refl, sym, ap, ◌∙◌, w64, a_type, named, Val, vptr, vint, vunit, of_opd, inst_fn, SProp, emp, id⊢, Lft, Share, Fml, ftrue, fsep, flft, ‵, raw, ◌⊛◌, some, later, ◌$◌, ◌∵◌, !, qed, by, move, keep, drop, split, join, fsplit, fjoin, fpick, fpack, pick, use0, use1, await, rewrite, feq_l, stop, addr, no_more, and_then, returns, enter, alloc_all, pass_all, free_all, look_at, get, through, sets, env, agg, tables, fact, fact_i, yes, RattleType, owns, types_at, plain, named_lft, Ptr, block_ptr, nothing, heard, unhide, param, bounded, RefOf, shr_vals, shr_Tells, uint_vals, uint_Tells, Stays, stay_dropped, walk_of, Goes-dropped, proved, leaves, fm, ◌<◌, lit<, lit, arith, dnil, lands_as, usize}
 use base.Fml.{feq}
 use denote.Steps.{only}
 use denote.Triple.Call.{calls_at}
 use denote.Triple.Spec.{triple_of}
 use Rattle.thread_local_model.specs.Place.{id_at}
-use Rattle.thread_local_rights.specs.Rights.{right_owns}
-use Rattle.thread_local_rights.specs.contracts.right.Right as right
-use Rattle.thread_local_rights.specs.contracts.right.Right.lay_down as layer
-use Rattle.thread_local_rights.proofs.Tokens.{token, told as right_told}
-use Rattle.thread_local_rights.proofs.right.Right.lay_down.Met as layer_met
-use Rattle.thread_local_shared_bucket_logic.specs.Shared.{BucketView, Turn}
+use Rattle.thread_local_tokens.specs.Rights.{right_owns}
+use Rattle.thread_local_tokens.specs.contracts.right.Right as right
+use Rattle.thread_local_tokens.specs.contracts.right.Right.lay_down as layer
+use Rattle.thread_local_tokens.proofs.Markers.{token, told as right_told}
+use Rattle.thread_local_tokens.proofs.right.Right.lay_down.Met as layer_met
+use Rattle.thread_local_shared_bucket.specs.Shared.{BucketView, Turn}
 use Rattle.thread_local_shared_bucket.specs.contracts.shared_bucket.SharedBucket as one_bucket
 use Rattle.thread_local_model.specs.Learnt.{Learnt, Unknown}
-use Rattle.thread_local_claim_logic.specs.Claims.{ClaimFields, claim_fields, IsOf, IsKept, has_at}
+use Rattle.thread_local_claim.specs.Claims.{ClaimFields, claim_fields, IsOf, IsKept, has_at}
 use Rattle.thread_local_claim.specs.contracts.claimed.ClaimedSlot as claim
 use Rattle.thread_local_claim.specs.contracts.claimed.ClaimedSlot.hold.{ended, clauses}
 use Rattle.thread_local_claim.specs.contracts.claimed.ClaimedSlot.hold.Key.{name as #self}
@@ -39,7 +39,7 @@ hold_spec 𝓤 𝓛 𝓜 𝓡 wired X L =
     -- [the right; what a `&` to the bucket shows; the tokens]
     let k : lays.Ghost = ((tt, tt, tt, (r, tt), (token ∷ [], tt)), tt) in
     nothing ! $ move ! (1 ∷ 0 ∷ []) $ fjoin ! $ nothing ! $ join ! $ nothing ! $ move ! (1 ∷ 0 ∷ []) $ join ! $ use1 𝓛 (raw (lays.pre k)) (id⊢ 𝓤 (lays.pre k)) $
-    calls_at ! (fm 𝓛 𝓜 𝓡) lays (layer_met.met 𝓤 𝓛 𝓜 𝓡 (code.calls-thread_local_rights::right::Right::lay_down 𝓡.env wired)) k (and_then ! (get ! refl) (no_more !)) (λ u.
+    calls_at ! (fm 𝓛 𝓜 𝓡) lays (layer_met.met 𝓤 𝓛 𝓜 𝓡 (code.calls-thread_local_tokens::right::Right::lay_down 𝓡.env wired)) k (and_then ! (get ! refl) (no_more !)) (λ u.
     use1 𝓛 (later (some (λ (_ : Unit {0}). (‵ ftrue ⊛ ‵ (feq (List Val) (u ∷ []) (vunit ∷ []))) ⊛ some (λ (_ : Unit {0} × Unit {0}). ‵ (fsep ftrue ftrue) ⊛ ‵ (right_owns r.table r.id))))) (id⊢ 𝓤 (lays.post k u)) $
     await ! tt $ pick ! (λ _. split ! $ split ! $ drop ! $ feq_l ! (λ eu. pick ! (λ _. split ! $ drop ! $ lands_as ! (ap only eu) refl (tt, tt) $ rewrite ! 0 (λ (n : ℕ). ‵ (right_owns n r.id)) same refl $
     sets ! (addr ! (through ! refl (stop !))) refl (tt, tt) $ sets ! (of_opd ! (get ! refl)) refl (tt, tt) $ sets ! (agg ! (no_more !)) refl (tt, tt) $

@@ -1,16 +1,16 @@
 -- `lasting` lends the value that the slot holds for as long as the bucket is borrowed, since a `&`
 -- to it names no thread.
-use Rattle.thread_local_raw.proofs.Names.{◌≡◌, ℕ, List, [], ◌∷◌, sym, refl, ap, ◌∙◌, true, dnil, a_type, named, Val, vptr, inst_fn, SProp, emp, Lft, Fml, ftrue, fsep, flft, ‵, raw, ◌⊛◌, at_ret, ◌$◌, ◌∵◌, !, qed, by, move, keep, drop, split, join, fsplit, fjoin, fpick, use0, use1, rewrite, feq_i, stop, fld, addr, of_opd, first, blocks, exec, returns, enter, alloc_all, pass_all, free_all, look_at, get, through, sets, sets_last, env, sub, whole, look_in, tables, fact, fact_i, yes, RattleType, owns, types_at, named_lft, Ptr, block_ptr, block_of, count_of, at_block, nothing, heard, peeks, Is, shows, cell_at, param, bounded, shr_vals, shr_Tells, Stays, stay_dropped, walk_of, Goes-dropped, proved, leaves, is_some, Ura, ent, id⊢, Logic, sem, load}
+use Rattle.thread_local_lemmas.proofs.Names.{◌≡◌, ℕ, List, [], ◌∷◌, sym, refl, ap, ◌∙◌, true, dnil, a_type, named, Val, vptr, inst_fn, SProp, emp, Lft, Fml, ftrue, fsep, flft, ‵, raw, ◌⊛◌, at_ret, ◌$◌, ◌∵◌, !, qed, by, move, keep, drop, split, join, fsplit, fjoin, fpick, use0, use1, rewrite, feq_i, stop, fld, addr, of_opd, first, blocks, exec, returns, enter, alloc_all, pass_all, free_all, look_at, get, through, sets, sets_last, env, sub, whole, look_in, tables, fact, fact_i, yes, RattleType, owns, types_at, named_lft, Ptr, block_ptr, block_of, count_of, at_block, nothing, heard, peeks, Is, shows, cell_at, param, bounded, shr_vals, shr_Tells, Stays, stay_dropped, walk_of, Goes-dropped, proved, leaves, is_some, Ura, ent, id⊢, Logic, sem, load}
 use mathlib.Core.Logic.{inl, inr}
 use denote.Steps.{looks, shuts}
 use denote.Memory.{hidden_shr, shared_of}
 use denote.Param.Send.{IsSync}
 use Rattle.thread_local_judged.specs.Judged.{Shareable, Judged}
-use Rattle.thread_local_raw.proofs.Bodies.{tail}
+use Rattle.thread_local_lemmas.proofs.Bodies.{tail}
 use Rattle.thread_local_model.specs.Learnt.{Learnt, Holding}
-use Rattle.thread_local_claim_logic.specs.Known.{value_held}
-use Rattle.thread_local_claim_logic.proofs.Learning.{holding}
-use Rattle.thread_local_claim_logic.specs.Claims.{claim_fields, lasts, shows_value}
+use Rattle.thread_local_claim.specs.Known.{value_held}
+use Rattle.thread_local_claim.proofs.Learning.{holding}
+use Rattle.thread_local_claim.specs.Claims.{claim_fields, lasts, shows_value}
 use Rattle.thread_local_claim.specs.contracts.claimed.ClaimedSlot.lasting.{ended, clauses}
 use Rattle.thread_local_claim.specs.contracts.claimed.ClaimedSlot.lasting.Key.{name as #self}
 use Rattle.thread_local_claim.proofs.Fields.{kept_of, claim_at, claim_ref, splits_ref, moved_to, value_of, FieldsType, fields_of, told, opened}

@@ -1,6 +1,6 @@
 -- `publish` writes the value into the slot's room, shares it for good where it may be shared, and
 -- then sets the flag.
-use Rattle.thread_local_raw.proofs.Names.{bin, ◌≡◌, ℕ, ◌+◌, ◌^◌, List, [], ◌∷◌, ◌++◌, length, sym, refl, ap, subst, lit<, w64, Option, Some, None, a_type, bare, Val, vint, inst_fn, full_share, SProp, ent, wand, id⊢, emp, via, apply∗, Lft, Share, GName, Fml, ftrue, fsep, fat, froom, flft, fbor, fex, fobs, fauth, WpFn, ‵, raw, ◌⊛◌, given, some, later, mean, at_ret, ◌$◌, ◌∵◌, !, qed, by, move, keep, drop, use0, use1, use2, await, split, split3, join, pick, fsplit, fsplit3, fjoin, fjoin3, fpick, fpack, learn, group, suffices, rewrite, stop, fld, lit, of_opd, no_more, and_then, first, blocks, exec, returns, enter, init, assigns_last, alloc_all, pass_all, free_all, look_at, get, get_in, through, sets, lands_last, is, env, agg, sub, whole, tables, fact, fact_i, no, RattleType, owns, types_at, plain, Ptr, block_ptr, block_of, count_of, uint_Tells, usize, yes, size_word, sets_last, ◌*◌, ◌∙◌, nothing, heard, param, layout, param_laws, Stays, stay_dropped, walk_of, Goes-dropped, Member, proved_at, leaves, fm, after, one, gather}
+use Rattle.thread_local_lemmas.proofs.Names.{bin, ◌≡◌, ℕ, ◌+◌, ◌^◌, List, [], ◌∷◌, ◌++◌, length, sym, refl, ap, subst, lit<, w64, Option, Some, None, a_type, bare, Val, vint, inst_fn, full_share, SProp, ent, wand, id⊢, emp, via, apply∗, Lft, Share, GName, Fml, ftrue, fsep, fat, froom, flft, fbor, fex, fobs, fauth, WpFn, ‵, raw, ◌⊛◌, given, some, later, mean, at_ret, ◌$◌, ◌∵◌, !, qed, by, move, keep, drop, use0, use1, use2, await, split, split3, join, pick, fsplit, fsplit3, fjoin, fjoin3, fpick, fpack, learn, group, suffices, rewrite, stop, fld, lit, of_opd, no_more, and_then, first, blocks, exec, returns, enter, init, assigns_last, alloc_all, pass_all, free_all, look_at, get, get_in, through, sets, lands_last, is, env, agg, sub, whole, tables, fact, fact_i, no, RattleType, owns, types_at, plain, Ptr, block_ptr, block_of, count_of, uint_Tells, usize, yes, size_word, sets_last, ◌*◌, ◌∙◌, nothing, heard, param, layout, param_laws, Stays, stay_dropped, walk_of, Goes-dropped, Member, proved_at, leaves, fm, after, one, gather}
 use Rattle.std.proofs.Common.{◌<◌, ◌≤◌, ◌/◌, ◌%◌}
 use mir.Syntax.{dnil}
 use mir.Val.{vptr}
@@ -19,21 +19,21 @@ use denote.Signature.{named_lft}
 use Rattle.std.proofs.raw_atomic.Calls.{seq_cst, found, finds, adds}
 use Rattle.std.proofs.raw_atomic.PtrCalls.{seq_cst_good}
 use Rattle.std.specs.Coded.{coded_option}
-use Rattle.thread_local_bits.proofs.Word.{place_below, place_fits, shifted_left}
+use Rattle.thread_local_lemmas.proofs.Word.{place_below, place_fits, shifted_left}
 use Rattle.thread_local_judged.specs.Judged.{Judged}
-use Rattle.thread_local_rights.specs.Rights.{right_owns}
+use Rattle.thread_local_tokens.specs.Rights.{right_owns}
 use Rattle.thread_local_blocks.specs.Slots.{stride, value_words, word_at, value_offset, content_at}
 use Rattle.thread_local_blocks.proofs.Flags.{in_chunks, value_near}
 use Rattle.thread_local_blocks.proofs.Slots.{IsWordNear, word_is_near}
-use Rattle.thread_local_shared_bucket_logic.specs.Shared.{name_at, BucketView, Turn, StandingBlock, Sized, mark, len, value_code, tracked_value, pinned, age, opened, by as lent_by, bucket_invariant}
-use Rattle.thread_local_shared_bucket_logic.proofs.Rested.{publishes}
-use Rattle.thread_local_published.specs.Told.{tells}
+use Rattle.thread_local_shared_bucket.specs.Shared.{name_at, BucketView, Turn, StandingBlock, Sized, mark, len, value_code, tracked_value, pinned, age, opened, by as lent_by, bucket_invariant}
+use Rattle.thread_local_shared_bucket.proofs.Rested.{publishes}
+use Rattle.thread_local_tokens.specs.Told.{tells}
 use Rattle.thread_local_model.specs.Learnt.{Learnt, Vacant, Holding}
-use Rattle.thread_local_claim_logic.specs.Claims.{ClaimFields, number_of_id, claim_fields, IsOf, IsKept, value_at, has, has_slot, has_at}
+use Rattle.thread_local_claim.specs.Claims.{ClaimFields, number_of_id, claim_fields, IsOf, IsKept, value_at, has, has_slot, has_at}
 use Rattle.thread_local_claim.specs.contracts.claimed.ClaimedSlot as claim
 use Rattle.thread_local_claim.specs.contracts.claimed.ClaimedSlot.publish.{ended, clauses}
 use Rattle.thread_local_claim.specs.contracts.claimed.ClaimedSlot.publish.Key.{name as #self}
-use Rattle.thread_local_claim_logic.proofs.Steps as steps
+use Rattle.thread_local_claim.proofs.Steps as steps
 use Rattle.thread_local_claim.proofs.Fields.{Kept, kept_of, value_of, FieldsType, fields_of, told, in_word, made, typed, number_in, distance, distance_fits, lies_ahead, leads_to_word, spaced, spaced_is}
 use Rattle.thread_local_claim.proofs.claimed.ClaimedSlot.publish.Statement.{statement}
 use Rattle.thread_local_claim.proofs.claimed.ClaimedSlot.publish.Code as code

@@ -1,9 +1,9 @@
 -- `state` reads a field.
-use Rattle.thread_local_raw.proofs.Names.{◌≡◌, ℕ, List, [], ◌∷◌, sym, refl, dnil, a_type, named, Val, vptr, vint, w64, ◌^◌, inst_fn, SProp, emp, Lft, Fml, ftrue, fsep, flft, ‵, raw, ◌⊛◌, ◌$◌, ◌∵◌, !, qed, by, move, keep, drop, split, join, fsplit, fjoin, fpick, use0, rewrite, feq_i, stop, fld, of_opd, returns, enter, alloc_all, pass_all, free_all, look_at, through, sets, env, sub, whole, look_in, tables, fact, fact_i, yes, RattleType, owns, types_at, named_lft, nothing, peeks, Is, shows, cell_at, param, bounded, shr_vals, shr_Tells, Stays, stay_dropped, walk_of, Goes-dropped, proved, leaves, load}
+use Rattle.thread_local_lemmas.proofs.Names.{◌≡◌, ℕ, List, [], ◌∷◌, sym, refl, dnil, a_type, named, Val, vptr, vint, w64, ◌^◌, inst_fn, SProp, emp, Lft, Fml, ftrue, fsep, flft, ‵, raw, ◌⊛◌, ◌$◌, ◌∵◌, !, qed, by, move, keep, drop, split, join, fsplit, fjoin, fpick, use0, rewrite, feq_i, stop, fld, of_opd, returns, enter, alloc_all, pass_all, free_all, look_at, through, sets, env, sub, whole, look_in, tables, fact, fact_i, yes, RattleType, owns, types_at, named_lft, nothing, peeks, Is, shows, cell_at, param, bounded, shr_vals, shr_Tells, Stays, stay_dropped, walk_of, Goes-dropped, proved, leaves, load}
 use types.Kit.{flt_i}
 use denote.Steps.{looks, shuts}
 use Rattle.thread_local_model.specs.Learnt.{Learnt}
-use Rattle.thread_local_claim_logic.specs.Known.{state_of}
+use Rattle.thread_local_claim.specs.Known.{state_of}
 use Rattle.thread_local_claim.specs.contracts.claimed.ClaimedSlot.state.{ended, clauses}
 use Rattle.thread_local_claim.specs.contracts.claimed.ClaimedSlot.state.Key.{name as #self}
 use Rattle.thread_local_claim.proofs.Fields.{kept_of, claim_at, claim_ref, splits_ref, value_of, FieldsType, fields_of, told, in_word, opened}

@@ -1,11 +1,11 @@
 -- `witness` copies what a `&` to the claim holds that is told of its id.
-use Rattle.thread_local_raw.proofs.Names.{◌≡◌, ℕ, [], ◌∷◌, true, refl, Option, dnil, a_type, named, Val, vptr, inst_fn, SProp, emp, Lft, Fml, ftrue, fsep, flft, ‵, raw, ◌⊛◌, ◌$◌, ◌∵◌, !, qed, by, move, keep, drop, split, join, fsplit, fjoin, use0, use1, rewrite, no_more, and_then, returns, enter, alloc_all, pass_all, free_all, look_at, get, sets, agg, tables, fact, fact_i, yes, RattleType, owns, types_at, named_lft, nothing, heard, param, bounded, shr_vals, shr_Tells, Stays, stay_dropped, walk_of, Goes-dropped, proved, leaves, is_some}
+use Rattle.thread_local_lemmas.proofs.Names.{◌≡◌, ℕ, [], ◌∷◌, true, refl, Option, dnil, a_type, named, Val, vptr, inst_fn, SProp, emp, Lft, Fml, ftrue, fsep, flft, ‵, raw, ◌⊛◌, ◌$◌, ◌∵◌, !, qed, by, move, keep, drop, split, join, fsplit, fjoin, use0, use1, rewrite, no_more, and_then, returns, enter, alloc_all, pass_all, free_all, look_at, get, sets, agg, tables, fact, fact_i, yes, RattleType, owns, types_at, named_lft, nothing, heard, param, bounded, shr_vals, shr_Tells, Stays, stay_dropped, walk_of, Goes-dropped, proved, leaves, is_some}
 use Rattle.thread_local_model.specs.Learnt.{Learnt, Holding}
-use Rattle.thread_local_published.specs.contracts.witness.Witness as Witness
-use Rattle.thread_local_published.proofs.Made.{token_val, witness_made}
-use Rattle.thread_local_claim_logic.specs.Known.{value_held}
-use Rattle.thread_local_claim_logic.proofs.Learning.{holding}
-use Rattle.thread_local_claim_logic.specs.Claims.{ClaimFields, claim_fields, shows_value}
+use Rattle.thread_local_tokens.specs.contracts.witness.Witness as Witness
+use Rattle.thread_local_tokens.proofs.Made.{token_val, witness_made}
+use Rattle.thread_local_claim.specs.Known.{value_held}
+use Rattle.thread_local_claim.proofs.Learning.{holding}
+use Rattle.thread_local_claim.specs.Claims.{ClaimFields, claim_fields, shows_value}
 use Rattle.thread_local_claim.specs.contracts.claimed.ClaimedSlot.witness.{ended, clauses}
 use Rattle.thread_local_claim.specs.contracts.claimed.ClaimedSlot.witness.Key.{name as #self}
 use Rattle.thread_local_claim.proofs.Fields.{claim_at, claim_ref, splits_ref}

@@ -15,7 +15,7 @@ use denote.Struct.Field.{RawPtr-field}
 use denote.Struct.Laws.{RawPtr-copy, field_copy}
 use denote.Struct.Lending.{Lends, of_Lends}
 use Rattle.std.specs.contracts.marker.PhantomData as P
-use Rattle.thread_local_shared_bucket_logic.specs.Shared.{row_owns}
+use Rattle.thread_local_shared_bucket.specs.Shared.{row_owns}
 use Rattle.thread_local_shared_bucket.specs.contracts.row.Row as C
 use Rattle.thread_local_shared_bucket.proofs.Fields.{found_dup}
 use Rattle.thread_local_shared_bucket.proofs.row.Row.TheLaw.Statement.{statement}

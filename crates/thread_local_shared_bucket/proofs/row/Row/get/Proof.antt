@@ -1,6 +1,6 @@
 -- `get` is one load of the word that has the slot's flag: where the flag is set, it lends the value
 -- for as long as the row lasts.
-use Rattle.thread_local_raw.proofs.Names.{◌≡◌, ℕ, ◌+◌, ◌*◌, ◌^◌, ◌<◌, List, [], ◌∷◌, length, refl, sym, ap, ◌∙◌, subst, arith, lit<, w64, None, Some, a_type, named, Val, vint, vptr, vcons, vnil, inst_fn, SProp, ent, sep, wand, via, apply∗, Lft, Share, Fml, ftrue, fsep, flft, fbor, sem, ‵, raw, ◌⊛◌, some, later, mean, at_ret, any_q, ◌$◌, ◌∵◌, !, qed, by, move, keep, drop, split, split3, join, fsplit, fsplit3, fjoin, fpick, pick, use0, use1, use2, use3, await, rewrite, feq_i, stop, fld, load, addr, lit, size_word, of_opd, bin, no_more, and_then, first, blocks, exec, branches, returns, enter, alloc_all, pass_all, free_all, look_at, get, through, sets, sets_last, lands_last, env, is, agg, sub, look_in, whole, live, tables, fact, yes, RattleType, owns, types_at, plain, Ptr, block_ptr, block_of, count_of, at_block, InBlock, nothing, heard, peeks, Is, shows, cell_at, param, layouts, RefOf, usize, shr_vals, shr_Tells, uint_vals, uint_Tells, Stays, stay_dropped, walk_of, Goes-dropped, proved, leaves, fm, after, param_laws}
+use Rattle.thread_local_lemmas.proofs.Names.{◌≡◌, ℕ, ◌+◌, ◌*◌, ◌^◌, ◌<◌, List, [], ◌∷◌, length, refl, sym, ap, ◌∙◌, subst, arith, lit<, w64, None, Some, a_type, named, Val, vint, vptr, vcons, vnil, inst_fn, SProp, ent, sep, wand, via, apply∗, Lft, Share, Fml, ftrue, fsep, flft, fbor, sem, ‵, raw, ◌⊛◌, some, later, mean, at_ret, any_q, ◌$◌, ◌∵◌, !, qed, by, move, keep, drop, split, split3, join, fsplit, fsplit3, fjoin, fpick, pick, use0, use1, use2, use3, await, rewrite, feq_i, stop, fld, load, addr, lit, size_word, of_opd, bin, no_more, and_then, first, blocks, exec, branches, returns, enter, alloc_all, pass_all, free_all, look_at, get, through, sets, sets_last, lands_last, env, is, agg, sub, look_in, whole, live, tables, fact, yes, RattleType, owns, types_at, plain, Ptr, block_ptr, block_of, count_of, at_block, InBlock, nothing, heard, peeks, Is, shows, cell_at, param, layouts, RefOf, usize, shr_vals, shr_Tells, uint_vals, uint_Tells, Stays, stay_dropped, walk_of, Goes-dropped, proved, leaves, fm, after, param_laws}
 use lib.Dec.{eqb}
 use Rattle.std.proofs.Common.{◌/◌, ◌%◌, ◌≢◌, not, Bool, true, ⊎_elim}
 use mir.Syntax.{Body, seq, assign, place, rv_opd, copy, aggregate, int, w8}
@@ -23,14 +23,14 @@ use Rattle.std.specs.Prelude.{bit_and}
 use Rattle.std.proofs.lemmas.Bool.{cases_eq, eq-eqb}
 use Rattle.std.proofs.lemmas.Nat.Bits.{bit_at-lt, shr_and_one}
 use Rattle.std.specs.Sync.RawAtomic.{asks, always}
-use Rattle.thread_local_bits.specs.Bits.{is_set}
-use Rattle.thread_local_bits.proofs.Word.{is_set-test, masked_fits, place_below, place_fits, shifted_right}
+use Rattle.thread_local_lemmas.specs.Bits.{is_set}
+use Rattle.thread_local_lemmas.proofs.Word.{is_set-test, masked_fits, place_below, place_fits, shifted_right}
 use Rattle.thread_local_blocks.specs.Slots.{stride, value_words, word_number, word_at, value_offset}
 use Rattle.thread_local_blocks.proofs.Flags.{in_chunks, uncapped, value_near}
 use Rattle.thread_local_blocks.proofs.Slots.{IsWordNear, word_is_near}
-use Rattle.thread_local_shared_bucket_logic.specs.Shared.{BucketView, Turn, StandingBlock, name_at, mark, pinned, first as first_id, bucket_invariant, row_owns}
-use Rattle.thread_local_shared_bucket_logic.proofs.Looks as steps
-use Rattle.thread_local_shared_bucket_logic.proofs.Looks.{by_flag}
+use Rattle.thread_local_shared_bucket.specs.Shared.{BucketView, Turn, StandingBlock, name_at, mark, pinned, first as first_id, bucket_invariant, row_owns}
+use Rattle.thread_local_shared_bucket.proofs.Looks as steps
+use Rattle.thread_local_shared_bucket.proofs.Looks.{by_flag}
 use Rattle.thread_local_shared_bucket.specs.contracts.row.Row as Row
 use Rattle.thread_local_shared_bucket.specs.contracts.row.Row.get.{ended, clauses}
 use Rattle.thread_local_shared_bucket.specs.contracts.row.Row.get.Key.{name as #self}

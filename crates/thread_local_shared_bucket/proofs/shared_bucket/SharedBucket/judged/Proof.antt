@@ -1,5 +1,5 @@
 -- `judged` hands out a fact that a `&` to the bucket says.
-use Rattle.thread_local_raw.proofs.Names.{[], ◌∷◌, refl, yes, List, a_type, named, Val, vptr, vunit, inst_fn, SProp, emp, Lft, Share, Fml, ftrue, fsep, flft, ‵, raw, ◌⊛◌, ◌$◌, ◌∵◌, !, qed, by, move, keep, drop, split, join, fsplit, fjoin, fpick, use0, feq_i, of_opd, unit_lit, returns, enter, alloc_all, pass_all, free_all, look_at, sets, env, tables, fact, fact_i, RattleType, owns, types_at, plain, nothing, param, layouts, RefOf, shr_vals, shr_Tells, Stays, stay_dropped, walk_of, Goes-dropped, proved, leaves}
+use Rattle.thread_local_lemmas.proofs.Names.{[], ◌∷◌, refl, yes, List, a_type, named, Val, vptr, vunit, inst_fn, SProp, emp, Lft, Share, Fml, ftrue, fsep, flft, ‵, raw, ◌⊛◌, ◌$◌, ◌∵◌, !, qed, by, move, keep, drop, split, join, fsplit, fjoin, fpick, use0, feq_i, of_opd, unit_lit, returns, enter, alloc_all, pass_all, free_all, look_at, sets, env, tables, fact, fact_i, RattleType, owns, types_at, plain, nothing, param, layouts, RefOf, shr_vals, shr_Tells, Stays, stay_dropped, walk_of, Goes-dropped, proved, leaves}
 use Rattle.std.proofs.Common.{ℕ}
 use denote.Opens.{unhide}
 use Rattle.thread_local_judged.specs.Judged.{Judged}

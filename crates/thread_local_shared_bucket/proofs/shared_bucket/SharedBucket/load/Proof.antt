@@ -1,6 +1,6 @@
 -- `load` is one load of the pointer: it takes a part of the token of the block's lifetime, and
 -- gives it up so that the row lasts.
-use Rattle.thread_local_raw.proofs.Names.{◌≡◌, ℕ, ◌+◌, [], ◌∷◌, refl, sym, ◌∙◌, lit<, true, false, Option, None, Some, a_type, named, Val, vptr, vcons, vnil, inst_fn, SProp, wand, emp, via, id⊢, apply∗, Lft, Share, Fml, ftrue, fsep, flft, fbor, ‵, raw, ◌⊛◌, some, later, mean, at_ret, ◌$◌, ◌∵◌, !, qed, by, move, keep, drop, split, join, fsplit, fjoin, fjoin3, fpick, fpack, pick, use0, use1, use2, use3, await, stop, fld, addr, lit, of_opd, bin, no_more, and_then, first, blocks, exec, branches, returns, enter, alloc_all, pass_all, free_all, look_at, get, through, sets, sets_last, lands_last, env, agg, live, tables, fact, fact_i, yes, RattleType, owns, types_at, plain, Ptr, block_ptr, null_ptr, nothing, param, layouts, RefOf, u64, shr_vals, shr_Tells, Stays, stay_dropped, walk_of, Goes-dropped, proved, leaves, fm, after}
+use Rattle.thread_local_lemmas.proofs.Names.{◌≡◌, ℕ, ◌+◌, [], ◌∷◌, refl, sym, ◌∙◌, lit<, true, false, Option, None, Some, a_type, named, Val, vptr, vcons, vnil, inst_fn, SProp, wand, emp, via, id⊢, apply∗, Lft, Share, Fml, ftrue, fsep, flft, fbor, ‵, raw, ◌⊛◌, some, later, mean, at_ret, ◌$◌, ◌∵◌, !, qed, by, move, keep, drop, split, join, fsplit, fjoin, fjoin3, fpick, fpack, pick, use0, use1, use2, use3, await, stop, fld, addr, lit, of_opd, bin, no_more, and_then, first, blocks, exec, branches, returns, enter, alloc_all, pass_all, free_all, look_at, get, through, sets, sets_last, lands_last, env, agg, live, tables, fact, fact_i, yes, RattleType, owns, types_at, plain, Ptr, block_ptr, null_ptr, nothing, param, layouts, RefOf, u64, shr_vals, shr_Tells, Stays, stay_dropped, walk_of, Goes-dropped, proved, leaves, fm, after}
 use Rattle.std.proofs.Common.{IfSome, IsSome}
 use base.Fml.{finv}
 use base.Before.{before}
@@ -16,14 +16,14 @@ use Rattle.std.proofs.raw_atomic.PtrCalls as calls
 use Rattle.std.proofs.raw_atomic.PtrCalls.{seq_cst_good}
 use Rattle.std.specs.contracts.option.Option as Opt
 use Rattle.thread_local_judged.specs.Judged.{Judged}
-use Rattle.thread_local_raw.specs.Fact.{fact as said_fact}
-use Rattle.thread_local_shared_bucket_logic.specs.Shared.{BucketView, Sized, len, bucket_invariant, loaded, Found, row_as}
+use Rattle.thread_local_lemmas.specs.Fact.{fact as said_fact}
+use Rattle.thread_local_shared_bucket.specs.Shared.{BucketView, Sized, len, bucket_invariant, loaded, Found, row_as}
 use Rattle.thread_local_shared_bucket.specs.contracts.shared_bucket.SharedBucket as one_bucket
 use Rattle.thread_local_shared_bucket.specs.contracts.row.Row as Row
 use Rattle.thread_local_shared_bucket.specs.contracts.shared_bucket.SharedBucket.load.{ended, clauses}
 use Rattle.thread_local_shared_bucket.specs.contracts.shared_bucket.SharedBucket.load.Key.{name as #self}
 use Rattle.thread_local_shared_bucket.proofs.Fields.{row_val, row_good, pointer_good, FieldsType, made, word_laws}
-use Rattle.thread_local_shared_bucket_logic.proofs.Loads.{glimpse, reaches, reads}
+use Rattle.thread_local_shared_bucket.proofs.Loads.{glimpse, reaches, reads}
 use Rattle.thread_local_shared_bucket.proofs.shared_bucket.SharedBucket.load.Statement.{statement}
 use Rattle.thread_local_shared_bucket.proofs.shared_bucket.SharedBucket.load.Code as code
 

@@ -1,6 +1,6 @@
 -- `value` is one load of the pointer, which isn't null, since something is told of a slot of the
 -- bucket. A ghost step finds the value there, as a `&` to it names no thread.
-use Rattle.thread_local_raw.proofs.Names.{◌≡◌, ℕ, ◌+◌, ◌*◌, ◌^◌, ◌<◌, List, [], ◌∷◌, length, refl, sym, ap, subst, arith, never_e, group, w64, Some, dnil, a_type, named, Val, vint, vptr, inst_fn, SProp, wand, emp, via, id⊢, apply∗, Lft, Share, Fml, ftrue, ffalse, fsep, flft, fbor, finv, sem, ‵, raw, ◌⊛◌, some, given, later, mean, at_ret, ◌$◌, ◌∵◌, !, qed, by, move, keep, drop, split, join, fsplit, fsplit3, fjoin, fpick, pick, learn, use0, use1, use2, use3, await, rewrite, feq_i, stop, fld, addr, lit, size_word, of_opd, bin, no_more, and_then, first, blocks, exec, returns, enter, alloc_all, pass_all, free_all, look_at, get, through, sets, sets_last, lands_last, env, is, agg, tables, fact, fact_i, yes, RattleType, owns, types_at, plain, Ptr, block_ptr, null_ptr, block_of, count_of, nothing, heard, unhide, param, bounded, RefOf, usize, u64, shr_vals, shr_Tells, uint_vals, uint_Tells, Stays, stay_dropped, walk_of, Goes-dropped, proved, leaves, fm, after, param_laws}
+use Rattle.thread_local_lemmas.proofs.Names.{◌≡◌, ℕ, ◌+◌, ◌*◌, ◌^◌, ◌<◌, List, [], ◌∷◌, length, refl, sym, ap, subst, arith, never_e, group, w64, Some, dnil, a_type, named, Val, vint, vptr, inst_fn, SProp, wand, emp, via, id⊢, apply∗, Lft, Share, Fml, ftrue, ffalse, fsep, flft, fbor, finv, sem, ‵, raw, ◌⊛◌, some, given, later, mean, at_ret, ◌$◌, ◌∵◌, !, qed, by, move, keep, drop, split, join, fsplit, fsplit3, fjoin, fpick, pick, learn, use0, use1, use2, use3, await, rewrite, feq_i, stop, fld, addr, lit, size_word, of_opd, bin, no_more, and_then, first, blocks, exec, returns, enter, alloc_all, pass_all, free_all, look_at, get, through, sets, sets_last, lands_last, env, is, agg, tables, fact, fact_i, yes, RattleType, owns, types_at, plain, Ptr, block_ptr, null_ptr, block_of, count_of, nothing, heard, unhide, param, bounded, RefOf, usize, u64, shr_vals, shr_Tells, uint_vals, uint_Tells, Stays, stay_dropped, walk_of, Goes-dropped, proved, leaves, fm, after, param_laws}
 use Rattle.std.proofs.Common.{Option, IsSome}
 use base.Before.{before}
 use types.Na.{before_dup}
@@ -13,19 +13,19 @@ use Rattle.std.proofs.raw_atomic.Calls.{seq_cst}
 use Rattle.std.proofs.raw_atomic.PtrCalls as calls
 use Rattle.std.proofs.raw_atomic.PtrCalls.{seq_cst_good}
 use Rattle.thread_local_model.specs.Place.{id_at}
-use Rattle.thread_local_raw.specs.Fact.{fact as said_fact}
+use Rattle.thread_local_lemmas.specs.Fact.{fact as said_fact}
 use Rattle.thread_local_blocks.specs.Slots.{stride, value_offset}
 use Rattle.thread_local_blocks.proofs.Flags.{uncapped, value_near}
-use Rattle.thread_local_published.specs.Told.{tells}
-use Rattle.thread_local_published.proofs.Elements.{told_dup}
-use Rattle.thread_local_published.specs.contracts.witness.Witness as Witness
-use Rattle.thread_local_shared_bucket_logic.specs.Shared.{BucketView, StandingBlock, Sized, len, first as first_id, value_code, bucket_invariant, loaded}
+use Rattle.thread_local_tokens.specs.Told.{tells}
+use Rattle.thread_local_tokens.proofs.ToldElements.{told_dup}
+use Rattle.thread_local_tokens.specs.contracts.witness.Witness as Witness
+use Rattle.thread_local_shared_bucket.specs.Shared.{BucketView, StandingBlock, Sized, len, first as first_id, value_code, bucket_invariant, loaded}
 use Rattle.thread_local_shared_bucket.specs.contracts.shared_bucket.SharedBucket as one_bucket
 use Rattle.thread_local_shared_bucket.specs.contracts.shared_bucket.SharedBucket.value.{ended, clauses}
 use Rattle.thread_local_shared_bucket.specs.contracts.shared_bucket.SharedBucket.value.Key.{name as #self}
 use Rattle.thread_local_shared_bucket.proofs.Fields.{pointer_good, word_laws}
-use Rattle.thread_local_shared_bucket_logic.proofs.Loads.{glimpse, reaches, reads, unborn_untold}
-use Rattle.thread_local_shared_bucket_logic.proofs.Looks.{finds}
+use Rattle.thread_local_shared_bucket.proofs.Loads.{glimpse, reaches, reads, unborn_untold}
+use Rattle.thread_local_shared_bucket.proofs.Looks.{finds}
 use Rattle.thread_local_shared_bucket.proofs.shared_bucket.SharedBucket.value.Statement.{statement}
 use Rattle.thread_local_shared_bucket.proofs.shared_bucket.SharedBucket.value.Code as code
 

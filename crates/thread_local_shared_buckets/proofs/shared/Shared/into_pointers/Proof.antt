@@ -25,10 +25,10 @@ use Rattle.std.proofs.raw_atomic.Walks.{proved_at, leaves}
 use Rattle.std.proofs.cell.Inside.{Good}
 use Rattle.thread_local_model.specs.Owned.{IsOwned}
 use Rattle.thread_local_bucket_pointers.specs.contracts.bucket_pointers.BucketPointers as all_pointers
-use Rattle.thread_local_published.specs.Told.{book_owns}
-use Rattle.thread_local_published.specs.contracts.book.Book as Book
-use Rattle.thread_local_published.proofs.Made.{token_val, book_made}
-use Rattle.thread_local_raw.proofs.Pairs.{both, pair_in}
+use Rattle.thread_local_tokens.specs.Told.{book_owns}
+use Rattle.thread_local_tokens.specs.contracts.book.Book as Book
+use Rattle.thread_local_tokens.proofs.Made.{token_val, book_made}
+use Rattle.thread_local_lemmas.proofs.Pairs.{both, pair_in}
 use Rattle.std.proofs.ResultValues.{and_tt}
 use denote.Struct.Tuple.{Tuple}
 use Rattle.thread_local_bucket_pointers.proofs.bucket_pointers.BucketPointers.TheLaws as pointers'

@@ -2,7 +2,7 @@ use Rattle.std.proofs.Common.{◌≡◌, ◌≤◌, ◌*◌, ◌-◌, ◌^◌, �
 use Rattle.std.proofs.lemmas.List.{length_push, length-take}
 use Rattle.thread_local_model.specs.Held.{HoldsAllBelow}
 use Rattle.thread_local_model.proofs.HeldLaws.{least_lower, least_bounded}
-use Rattle.thread_local_bits.specs.Bits.{bits_of}
+use Rattle.thread_local_lemmas.specs.Bits.{bits_of}
 use Rattle.thread_local_thread_id.proofs.IdBits.{pushed}
 use Rattle.thread_local_thread_id.proofs.Views.{take-push}
 use Rattle.thread_local_thread_id.proofs.id_bits.IdBits.make_room.Goals as goal

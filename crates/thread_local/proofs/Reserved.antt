@@ -1,0 +1,26 @@
+-- A table's claim of a held id makes a seat: where the id is reserved, the claim has found its
+-- bucket.
+use Rattle.std.proofs.Common.{◌≡◌, ◌≢◌, ◌<◌, ◌-◌, ◌^◌, ℕ, subst, sym, arith}
+use Rattle.thread_local_model.specs.Place.{bucket_of, id_at}
+use Rattle.thread_local_model.specs.Learnt.{Missing}
+use Rattle.thread_local_model.proofs.PlaceLaws.{id_at-place}
+use Rattle.thread_local_claim.specs.Known.{IsKnown}
+use Rattle.thread_local_claim.specs.Views.{ClaimView}
+use Rattle.thread_local_shared_buckets.specs.TableView.{TableView}
+use Rattle.thread_local.specs.Seats.{IsSeated}
+
+-- where an id is below a number, so is the first id of its bucket
+first_below : (id n : ℕ) → id < n → id_at (bucket_of id) 0 < n
+first_below id n below = let same = id_at-place id in omega arith
+
+-- a held id and the claim that its table answers make a seat
+pub seated : {V : Type 0} (table : TableView) (claim : ClaimView V) (id : ℕ) → claim.table ≡ table.table → claim.sharing ≡ table.sharing → claim.id ≡ id → id < 2 ^ 63 - 1 → IsKnown claim.learnt
+    → (id_at (bucket_of id) 0 < table.reserved → claim.learnt ≢ Missing) → IsSeated table claim
+seated table claim id of shared same in_range known found =
+    record {
+      table = of;
+      sharing = shared;
+      in_range = subst (λ n. n < 2 ^ 63 - 1) (sym same) in_range;
+      known = known;
+      reserved = λ below. found (first_below id table.reserved (subst (λ n. n < table.reserved) same below));
+    }

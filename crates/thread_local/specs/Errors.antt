@@ -1,0 +1,13 @@
+-- What errors print.
+use Rattle.std.specs.Prelude.{ℕ, List, codes, Option, Some}
+use Rattle.thread_local.specs.declared.seat.TryError as try_error
+use Rattle.thread_local.specs.declared.seat.SetError as set_error
+
+-- the closure's error prints what it prints by itself
+abbrev pub try_error_text : {E : Type 0} → (E → Option (List ℕ)) → try_error.TryError E → Option (List ℕ)
+try_error_text output (try_error.TheVariants.Memory refused) = Some (codes "memory allocation failed")
+try_error_text output (try_error.TheVariants.Create error) = output error
+
+abbrev pub set_error_text : {T : Type 0} → set_error.SetError T → List ℕ
+set_error_text (set_error.TheVariants.Occupied value) = codes "the slot holds a value already"
+set_error_text (set_error.TheVariants.Memory value) = codes "memory allocation failed"

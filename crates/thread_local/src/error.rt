@@ -1,0 +1,43 @@
+//! What a `TryError` is made from by `?`, and what `TryError` and `SetError` print.
+ghost use Rattle.std.specs.Prelude.{◌≡◌, Some};
+ghost use Rattle.thread_local.specs.Errors.{try_error_text, set_error_text};
+ghost use Rattle.thread_local.specs.declared.seat.TryError.TheVariants.{Memory};
+
+use crate::seat::{SetError, TryError};
+use std::alloc::AllocError;
+use std::error::Error;
+use std::fmt;
+
+impl<E> From<AllocError> for TryError<E> {
+    ghost from_gives = { λ refused error. error ≡ Memory refused };
+
+    fn from(refused: AllocError) -> TryError<E> {
+        TryError::Memory(refused)
+    }
+}
+
+impl<E: fmt::Display> fmt::Display for TryError<E> {
+    ghost output = { try_error_text E.output };
+
+    fn fmt<W: fmt::Write>(&self, f: &mut fmt::Formatter<W>) -> fmt::Result {
+        match self {
+            TryError::Memory(_) => f.write_str("memory allocation failed"),
+            TryError::Create(error) => write!(f, "{error}"),
+        }
+    }
+}
+
+impl<E: Error> Error for TryError<E> {}
+
+impl<T> fmt::Display for SetError<T> {
+    ghost output = { λ error. Some (set_error_text error) };
+
+    fn fmt<W: fmt::Write>(&self, f: &mut fmt::Formatter<W>) -> fmt::Result {
+        match self {
+            SetError::Occupied(_) => f.write_str("the slot holds a value already"),
+            SetError::Memory(_) => f.write_str("memory allocation failed"),
+        }
+    }
+}
+
+impl<T: fmt::Debug + Drop> Error for SetError<T> {}

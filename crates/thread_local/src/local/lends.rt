@@ -1,0 +1,63 @@
+//! The calls of a `Local` that answer a reference and say what they leave as well. A file of its
+//! own, since their clauses import the `the_row` that is generated from the file that declares the
+//! type.
+ghost use Rattle.std.specs.Prelude.{◌≡◌, ⊤, true, None, IsOk, Result, [], MatchResult};
+ghost use types.Logic.{sem};
+ghost use denote.Follow.{follows_so};
+ghost use mathlib.Core.Option.{none};
+ghost use mir.Syntax.{named};
+ghost use Rattle.thread_local_model.specs.Answers.{GetOr, Refused, answer};
+ghost use Rattle.thread_local.specs.Seats.{knows, IsAnswered, Fills, IsRefused};
+ghost use Rattle.thread_local.specs.contracts.local.Local.{the_row};
+
+use super::Local;
+use std::alloc::AllocError;
+use std::sync::Wait;
+
+impl<'a, T, R: Wait> Local<'a, T, R> {
+    /// The value. Where the slot is empty, its bucket is found or made, then the closure is called
+    /// and its value is published. `Err` means out of memory for the bucket, and the closure isn't
+    /// called. Rust's crate makes the value before its bucket, takes `&self`, and doesn't answer
+    /// out of memory.
+    pub fn get_or<F: FnOnce() -> T + Drop>(&mut self, create: F) -> Result<&T, AllocError>
+        requires { self.old.value ≡ None → F.pre create }
+        // Once the borrow of the answer ends, the view has the value that was answered. Where
+        // memory was refused, it is the old view.
+        ensures* leaves { sem 𝓛
+            (follows_so (the_row (record { mir = named 1; lft = [] }) T.row R.row)
+            (the_row (record { mir = named 1; lft = [] }) T.row R.row) self.entry.ghost_name
+            none (λ _ _. ⊤)
+            (λ left.
+            MatchResult result
+            (λ there. Fills ⊤ (F.post create) self.old left there.now)
+            (λ _. IsRefused ⊤ self.old left))) }
+        ensures answers { MatchResult result (λ there. IsAnswered ⊤ (F.post create) self.old there.now) (λ _.
+            (made : Result T ⊤) → answer (knows self.old) (GetOr made true) ≡ Refused) }
+        ensures granted { self.old.known ≡ true → IsOk result }
+    {
+        self.seat.fill(create)?;
+        Ok(self.seat.value())
+    }
+
+    /// The value. Where the slot is empty, `T::default` makes it and it is published as by
+    /// `get_or`. `Err` means out of memory for the bucket.
+    pub fn get_or_default(&mut self) -> Result<&T, AllocError>
+    where
+        T: Default,
+        // Once the borrow of the answer ends, the view has the value that was answered. Where
+        // memory was refused, it is the old view.
+        ensures* leaves { sem 𝓛
+            (follows_so (the_row (record { mir = named 1; lft = [] }) T.row R.row)
+            (the_row (record { mir = named 1; lft = [] }) T.row R.row) self.entry.ghost_name
+            none (λ _ _. ⊤)
+            (λ left.
+            MatchResult result (λ there. Fills ⊤ T.is_default self.old left there.now)
+            (λ _. IsRefused ⊤ self.old left))) }
+        ensures answers { MatchResult result (λ there. IsAnswered ⊤ T.is_default self.old there.now) (λ _.
+            (made : Result T ⊤) → answer (knows self.old) (GetOr made true) ≡ Refused) }
+        ensures granted { self.old.known ≡ true → IsOk result }
+    {
+        self.seat.fill(|| T::default())?;
+        Ok(self.seat.value())
+    }
+}

@@ -1,0 +1,327 @@
+//! A seat: an id of a table, and what is known of the id's slot: no bucket was found, it is vacant,
+//! or it holds a value.
+ghost use Rattle.std.specs.Prelude.{◌≡◌, ◌≢◌, ◌-◌, ◌^◌, ◌<◌, nat_lt, ◌⊎◌, ⊤, is_some, true, None, Some, Ok, Err, OnOk, OnErr, IfOk, IsOk, IsSome, Result, false, alloc_error, option_map};
+ghost use Rattle.thread_local_model.specs.Learnt.{Missing, Vacant};
+ghost use Rattle.thread_local_model.specs.Answers.{Get, GetOr, Found, Refused, Failed, answer};
+ghost use Rattle.thread_local_model.specs.Cursor.{fresh_cursor};
+ghost use Rattle.thread_local.specs.Seats.{knows, knowing, own_of, published_of, vacant, holding, IsAnswered, IsFilled, Fails, IsRefused};
+
+use crate::table::ThreadLocal;
+use std::alloc::AllocError;
+use std::fmt;
+use std::marker::Model;
+use std::sync::Wait;
+use thread_local_blocks::Block;
+use thread_local_claim::Claim;
+use thread_local_tokens::Published;
+use thread_local_tokens::HeldId;
+use thread_local_shared_buckets::Iter;
+
+// `get_or` and `get_or_default` stand here.
+mod lends;
+
+/// Why `get_or_try` and `try_fill` have no value to answer.
+#[derive(Clone, Copy, Debug, Drop, PartialEq, Eq)]
+pub enum TryError<E> {
+    /// Out of memory for the slot's bucket.
+    Memory(AllocError),
+    /// The closure's own error.
+    Create(E),
+}
+
+/// Why `set` gives its value back.
+#[derive(Clone, Copy, Debug, Drop, PartialEq, Eq)]
+pub enum SetError<T> {
+    /// The slot holds a value.
+    Occupied(T),
+    /// Out of memory for the slot's bucket.
+    Memory(T),
+}
+
+/// An id of a table, and what is known of the id's slot. Each `Local` has one, and lends it. No
+/// call takes a lock, and only `set` and the `get_or` family (`get_or`, `get_or_default`,
+/// `get_or_try`, `try_fill`) take memory, for a bucket; the closure or the `T::default` that these
+/// run may wait, and so may the drop of a closure that they don't run. In Rust's crate the running
+/// thread is the seat.
+pub struct Seat<'a, T> {
+    table: &'a ThreadLocal<T>,
+    claim: Claim<'a, T>,
+}
+
+impl<'a, T> Model for Seat<'a, T> {
+    ghost use Rattle.thread_local.specs.Seats.{LocalView, local_view, local_view_coded, IsSeated};
+
+    ghost Value = { LocalView T };
+
+    ghost coded = { local_view_coded T.code };
+
+    ghost view = { λ s. local_view s.table.now s.claim };
+
+    ghost invariant = { λ s. IsSeated s.table.now s.claim };
+}
+
+/// Finds or makes the bucket of an empty slot.
+fn reach<T>(table: &ThreadLocal<T>, claim: &mut Claim<'_, T>) -> Result<(), AllocError>
+    requires in_range { claim.old.id < 2 ^ 63 - 1 }
+    requires empty { (claim.old.learnt ≡ Missing) ⊎ (claim.old.learnt ≡ Vacant) }
+    ensures right { (claim.new.table ≡ claim.old.table)
+        × (claim.new.sharing ≡ claim.old.sharing)
+        × (claim.new.id ≡ claim.old.id) }
+    ensures ok { OnOk result (claim.new.learnt ≡ Vacant) }
+    ensures err { OnErr result ((claim.old.learnt ≡ Missing) × (claim.new.learnt ≡ Missing)) }
+{
+    if claim.is_missing() {
+        return make_bucket(table, claim);
+    }
+    Ok(())
+}
+
+/// Finds or makes the bucket of a claim that found none: the claim looks again, and installs one
+/// where there still is none.
+#[cold]
+#[inline(never)]
+fn make_bucket<T>(table: &ThreadLocal<T>, claim: &mut Claim<'_, T>) -> Result<(), AllocError>
+    requires in_range { claim.old.id < 2 ^ 63 - 1 }
+    requires missing { claim.old.learnt ≡ Missing }
+    ensures right { (claim.new.table ≡ claim.old.table)
+        × (claim.new.sharing ≡ claim.old.sharing)
+        × (claim.new.id ≡ claim.old.id) }
+    ensures ok { OnOk result (claim.new.learnt ≡ Vacant) }
+    ensures err { OnErr result (claim.new.learnt ≡ Missing) }
+{
+    claim.look_again();
+    if claim.is_missing() {
+        let block = Block::new(&table.alloc, claim.bucket_size())?;
+        claim.install(block, &table.alloc);
+    }
+    Ok(())
+}
+
+impl<'a, T> Seat<'a, T> {
+    /// A seat for a held id of this table.
+    pub(crate) fn new(table: &'a ThreadLocal<T>, held: HeldId) -> Seat<'a, T>
+        requires { held.right.table ≡ table.now.table }
+        ensures table { (result.table ≡ table.now.table)
+            × (result.sharing ≡ table.now.sharing)
+            × (result.reserved ≡ table.now.reserved) }
+        ensures id { result.id ≡ held.id }
+    {
+        Seat {
+            table,
+            claim: table.buckets.claim(held),
+        }
+    }
+
+    /// The value, or None. It reads what the seat knows already, without an atomic operation.
+    pub fn get(&self) -> Option<&T>
+        ensures { answer {E = ⊤} (knows self.now) Get ≡ Found (option_map (λ x. x.now) result) }
+    {
+        self.claim.get()
+    }
+
+    /// The id. Rust's crate keeps a thread's id to itself.
+    pub fn id(&self) -> usize
+        ensures id { result ≡ self.now.id }
+        ensures in_range { result < 2 ^ 63 - 1 }
+    {
+        self.claim.id()
+    }
+
+    /// Whether the slot is one of the table's reserved slots. If so, the `get_or` family is never
+    /// refused memory. Rust's crate has no such call.
+    pub fn is_reserved(&self) -> bool
+        ensures reserved { result ≡ nat_lt self.now.id self.now.reserved }
+        ensures known { result ≡ true → self.now.known ≡ true }
+    {
+        let table = self.table;
+        self.claim.id() < table.buckets.reserved()
+    }
+
+    /// What the slot was published with, as a token, where it holds a value. It reads what the seat
+    /// knows already, without an atomic operation. Rust's crate has no such call.
+    pub fn published(&self) -> Option<Published<T>>
+        ensures { result ≡ published_of self.now }
+    {
+        self.claim.published()
+    }
+
+    /// Shows that the slot holds what a token of this id and this sharing says. At run time it does
+    /// nothing. Rust's crate has no such call.
+    pub fn agrees(&mut self, published: &Published<T>)
+        requires id { self.old.id ≡ published.now.id }
+        requires sharing { self.old.sharing ≡ published.now.sharing }
+        requires named { IsSome self.old.sharing }
+        ensures holds { self.old.value ≡ Some published.now.value }
+        ensures same { self.new ≡ self.old }
+    {
+        self.claim.agrees(published);
+    }
+
+    /// Finds or makes the bucket of the slot, which is empty.
+    fn find_bucket(&mut self) -> Result<(), AllocError>
+        requires { self.old.value ≡ None }
+        ensures ok { OnOk result (self.new ≡ knowing self.old vacant) }
+        ensures err { OnErr result ((self.old.known ≡ false) × (self.new ≡ self.old)) }
+    {
+        reach(self.table, &mut self.claim)
+    }
+
+    /// Publishes a value in the slot, which is vacant.
+    fn publish(&mut self, value: T)
+        requires { knows self.old ≡ vacant }
+        ensures { self.new ≡ knowing self.old (holding value) }
+    {
+        self.claim.publish(value);
+    }
+
+    /// The value, where the slot holds one.
+    pub(crate) fn value(&self) -> &T
+        requires { self.now.value ≢ None }
+        ensures { self.now.value ≡ Some result.now }
+    {
+        match self.get() {
+            Some(value) => value,
+            None => unreachable!(),
+        }
+    }
+
+    /// Whether the slot holds a value.
+    fn is_filled(&self) -> bool
+        ensures { result ≡ is_some self.now.value }
+    {
+        self.get().is_some()
+    }
+
+    /// Fills the slot if it is empty: finds or makes its bucket, then calls the closure and
+    /// publishes its value.
+    pub(crate) fn fill<F: FnOnce() -> T + Drop>(&mut self, create: F) -> Result<(), AllocError>
+        requires { self.old.value ≡ None → F.pre create }
+        ensures ok { OnOk result (IsFilled ⊤ (F.post create) self.old self.new) }
+        ensures err { OnErr result (IsRefused ⊤ self.old self.new) }
+        ensures granted { self.old.known ≡ true → IsOk result }
+    {
+        if !self.is_filled() {
+            self.find_bucket()?;
+            self.publish(create());
+        }
+        Ok(())
+    }
+
+    /// Publishes a value that is at hand, where the slot is empty. `Occupied` gives it back where
+    /// the slot holds one, and `Memory` where its bucket is missing and memory has run out. As
+    /// `OnceCell::set` of Rust; the Rust crate has no such call.
+    pub fn set(&mut self, value: T) -> Result<(), SetError<T>>
+        ensures ok { OnOk result ((self.old.value ≡ None) × (self.new ≡ knowing self.old (holding value))) }
+        ensures occupied { (given : T)
+            → result ≡ Err (SetError.Occupied given)
+            → IsSome self.old.value × (given ≡ value) × (self.new ≡ self.old) }
+        ensures memory { (given : T)
+            → result ≡ Err (SetError.Memory given)
+            → (self.old.value ≡ None) × (self.old.known ≡ false) × (given ≡ value) × (self.new ≡ self.old) }
+    {
+        if self.get().is_some() {
+            return Err(SetError::Occupied(value));
+        }
+        match self.find_bucket() {
+            Ok(()) => {
+                self.publish(value);
+                Ok(())
+            }
+            Err(_) => Err(SetError::Memory(value)),
+        }
+    }
+
+    /// Fills the slot as `get_or_try` does, without answering the value. Its clauses also say what
+    /// the seat knows afterwards. Those of `get_or_try` don't: a clause on what a call leaves
+    /// beside a reference can't speak of errors of any type. Rust's crate has no such call.
+    pub fn try_fill<F: FnOnce() -> Result<T, E> + Drop, E>(
+        &mut self,
+        create: F,
+    ) -> Result<(), TryError<E>>
+        requires { self.old.value ≡ None → F.pre create }
+        ensures ok { OnOk result (IsFilled E (λ v. F.post create (Ok v)) self.old self.new) }
+        ensures create { (error : E)
+            → result ≡ Err (TryError.Create error)
+            → Fails (λ e. F.post create (Err e)) self.old self.new error }
+        ensures memory { result ≡ Err (TryError.Memory alloc_error) → IsRefused E self.old self.new }
+        ensures granted { self.old.known ≡ true → result ≢ Err (TryError.Memory alloc_error) }
+    {
+        if self.is_filled() {
+            return Ok(());
+        }
+        self.find_bucket()?;
+        match create() {
+            Ok(value) => {
+                self.publish(value);
+                Ok(())
+            }
+            Err(error) => Err(TryError::Create(error)),
+        }
+    }
+
+    /// The value. Where the slot is empty, its bucket is found or made, then the closure is called
+    /// and its value is published. `Create` hands on the closure's error, and nothing is published.
+    /// `Memory` means out of memory for the bucket, and the closure isn't called. Rust's crate
+    /// makes the value before its bucket, takes `&self`, and doesn't answer out of memory.
+    pub fn get_or_try<F: FnOnce() -> Result<T, E> + Drop, E>(
+        &mut self,
+        create: F,
+    ) -> Result<&T, TryError<E>>
+        requires { self.old.value ≡ None → F.pre create }
+        ensures ok { IfOk result (λ there.
+            IsAnswered E (λ value. F.post create (Ok value)) self.old there.now) }
+        ensures create { (error : E)
+            → result ≡ Err (TryError.Create error)
+            → (answer (knows self.old) (GetOr (Err error) false) ≡ Failed error) × F.post create (Err error) }
+        ensures memory { result ≡ Err (TryError.Memory alloc_error)
+            → (made : Result T E)
+            → answer (knows self.old) (GetOr made true) ≡ Refused }
+        ensures granted { self.old.known ≡ true → result ≢ Err (TryError.Memory alloc_error) }
+    {
+        self.try_fill(create)?;
+        Ok(self.value())
+    }
+
+    /// Shows that two seats of one table have different ids. At run time it does nothing.
+    pub fn apart(&mut self, other: &mut Seat<'_, T>)
+        requires { self.old.table ≡ other.old.table }
+        ensures ids { self.old.id ≢ other.old.id }
+        ensures same { (self.new ≡ self.old) × (other.new ≡ other.old) }
+    {
+        self.claim.apart(&mut other.claim)
+    }
+
+    /// Gives the id back to the table that it is of. May wait, and takes no memory.
+    pub(crate) fn give_back<R: Wait>(self, rt: &R) {
+        let Self { table, claim } = self;
+        table.ids.lock(rt).give(claim.give_up());
+    }
+}
+
+impl<'a, T: Sync> Seat<'a, T> {
+    /// The values of the table by ascending id, each lent as `&`, while others may publish more. A
+    /// walk that runs to its end gives the seat's own value, where there is one. Rust's crate has
+    /// no such call.
+    pub fn iter(&self) -> Iter<'_, T>
+        ensures begins { result.cursor ≡ fresh_cursor }
+        ensures own { result.own ≡ own_of self.now }
+        ensures shown { result.shown ≡ true }
+    {
+        let table = self.table;
+        match self.claim.lasting() {
+            Some(value) => Iter::with_own(&table.buckets, self.claim.id(), value),
+            None => Iter::new(&table.buckets),
+        }
+    }
+}
+
+impl<'a, T: fmt::Debug> fmt::Debug for Seat<'a, T> {
+    ghost use Rattle.thread_local.specs.Text.{local_text};
+
+    ghost debug_output = { λ seat. local_text T.debug_output seat.value };
+
+    /// Writes the value, if there is one, as Rust's crate writes a whole table.
+    fn fmt<W: fmt::Write>(&self, f: &mut fmt::Formatter<W>) -> fmt::Result {
+        write!(f, "ThreadLocal {{ local_data: {:?} }}", self.get())
+    }
+}

@@ -1,0 +1,42 @@
+//! How a table lends its buckets to an owner. A file of its own, since the clause imports the
+//! `the_row` that is generated from the file that declares the type.
+ghost use Rattle.std.specs.Prelude.{◌≡◌};
+ghost use types.Logic.{sem};
+ghost use Rattle.std.specs.Borrow.{follows};
+ghost use Rattle.thread_local_buckets.specs.Drain.{drain_lender, drain_leaves, DrainCanStep, DrainKeepsAlong};
+ghost use Rattle.thread_local_buckets.specs.contracts.buckets.Buckets.{the_row as owner_row};
+ghost use Rattle.thread_local_shared_buckets.specs.Lent.{view_with};
+ghost use Rattle.thread_local.specs.contracts.table.ThreadLocal.{the_row};
+
+use super::ThreadLocal;
+use thread_local_buckets::{Buckets, Drain};
+
+impl<T> ThreadLocal<T> {
+    /// The buckets, for the exclusive owner. Of what is in them the number of reserved slots is
+    /// known, and the calls of `Buckets` say what they find and what they change. Rust's crate has
+    /// no such call.
+    pub fn buckets_mut(&mut self) -> &mut Buckets<T>
+        ensures* writes_back { sem 𝓛
+            (follows (the_row T.row) (owner_row T.row) self.entry.ghost_name result.ghost_name
+            (view_with self.old)) }
+        ensures reserved { result.now.reserved ≡ self.old.reserved }
+    {
+        self.buckets.owner()
+    }
+
+    /// The values by ascending id, each moved out, while buckets and ids stay. It is the walk
+    /// `drain` of the buckets that `buckets_mut` lends, whose contract says what it gives: of what
+    /// is in them the number of reserved slots is known. Rust's crate has no such call.
+    pub fn drain(&mut self) -> Drain<'_, T>
+    where
+        T: Drop,
+        ensures* writes_back { sem 𝓛
+            (follows (the_row T.row) (owner_row T.row) self.entry.ghost_name (drain_lender result)
+            (view_with self.old)) }
+        ensures ready { DrainCanStep result }
+        ensures reserved { (drain_leaves result).reserved ≡ self.old.reserved }
+        ensures stays { DrainKeepsAlong result }
+    {
+        self.buckets.owner().drain()
+    }
+}

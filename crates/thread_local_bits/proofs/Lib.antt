@@ -1,2 +1,0 @@
-pub mod Word
-pub mod Words

@@ -1,3 +1,0 @@
-pub use Rattle.thread_local_schedule.specs.Schedule
-pub mod Bounds
-pub mod Story

@@ -1,2 +1,0 @@
-pub mod PointerSteps
-pub mod LentValue

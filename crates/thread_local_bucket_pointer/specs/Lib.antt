@@ -1,2 +1,0 @@
-pub mod LentValue
-pub mod PointerOwns

@@ -1,0 +1,161 @@
+//! A loan of a table's pointers: each value is still in the loan, or lent out by it for as long as
+//! the loan lasts.
+ghost use Rattle.std.specs.Prelude.{true, false, [], ◌^◌, ◌≡◌, ◌≤◌, ◌<◌, ◌+◌, ◌*◌, ℕ, length, None, Some, is_some, IsSome};
+ghost use base.Fml.{GName, ftrue};
+ghost use Rattle.thread_local_model.specs.Place.{id_at};
+ghost use Rattle.thread_local_model.specs.Buckets.{Contents, row, stands, IsTable};
+ghost use Rattle.thread_local_model.specs.Rows.{value_in, with_slot};
+ghost use Rattle.thread_local_model.specs.Code.{contents_coded};
+ghost use types.Logic.{sem};
+ghost use Rattle.thread_local_lemmas.specs.Bits.{is_set};
+ghost use Rattle.thread_local_blocks.specs.Slots.{word_number};
+ghost use Rattle.thread_local_buckets.specs.Lent.{loan_owns};
+ghost use Rattle.thread_local_buckets.specs.Given.{ends_with_item};
+
+use std::marker::{Model, PhantomData};
+use thread_local_blocks::{Chunk, flag_word};
+use thread_local_cursor::FlagSource;
+use thread_local_thread_id::bucket_size;
+
+/// The pointers of an owner's buckets, lent to a walk that writes. It gives the values by ascending
+/// place, each at most once.
+///
+/// Contracts see the contents that it still has. The flag of a slot stays set when its value is
+/// given, so the flags are right only for chunks that begin at `given` or later. No call takes
+/// memory.
+#[derive(Drop)]
+pub struct Loan<'a, T> {
+    /// The address of the pointers.
+    pub pointers: *const *mut Chunk<T>,
+    /// The address of the value of the first slot of the chunk that was entered last.
+    pub values: *mut T,
+    pub marker: PhantomData<&'a mut T>,
+    /// The ghost name by which the owner's buckets learn what was written.
+    pub ghost name: { GName },
+    /// The contents that it still has.
+    pub ghost contents: { Contents T } by { contents_coded T.code },
+    /// The id after the last one whose value was given.
+    pub ghost given: { ℕ },
+    /// The bucket of the chunk that was entered last, no bucket of the table where none was.
+    pub ghost bucket: { ℕ },
+    /// The index of this chunk's first slot.
+    pub ghost first: { ℕ },
+}
+
+impl<'a, T> Model for Loan<'a, T> {
+    ghost also_owns = { λ l. loan_owns 'a T.row l.pointers l.values l.name l.contents l.given l.bucket l.first };
+
+    ghost also_shares = { λ _ _ _. ftrue };
+}
+
+impl<'a, T> Loan<'a, T> {
+    /// Whether the bucket stands.
+    #[inline]
+    pub fn stands(&mut self, bucket: usize) -> bool
+        requires { bucket < 63 }
+        ensures same { self.new ≡ self.old }
+        ensures value { result ≡ stands self.old.contents bucket }
+        ensures whole { result ≡ true → length (row self.old.contents bucket) ≡ 2 ^ bucket }
+        ensures absent { result ≡ false → row self.old.contents bucket ≡ [] }
+        ensures table { IsTable self.old.contents }
+    {
+        let block = unsafe { *self.pointers.add(bucket) };
+        !block.is_null()
+    }
+
+    /// The flags of a chunk's slots, of which no value has been given yet.
+    #[inline]
+    pub fn flags(&mut self, bucket: usize, chunk: usize) -> u64
+        requires in_table { bucket < 63 }
+        requires in_bucket { chunk * 64 < length (row self.old.contents bucket) }
+        requires ahead { self.old.given ≤ id_at bucket (chunk * 64) }
+        ensures same { self.new ≡ self.old }
+        ensures value { (bit : ℕ)
+            → bit < 64
+            → is_set result bit ≡ is_some (value_in self.old.contents bucket (chunk * 64 + bit)) }
+        ensures table { IsTable self.old.contents }
+    {
+        self.word_at(bucket, chunk, flag_word::<T>(bucket_size(bucket), chunk))
+    }
+
+    /// The same, by the number of the chunk's word.
+    #[inline]
+    fn word_at(&mut self, bucket: usize, chunk: usize, word: usize) -> u64
+        requires in_table { bucket < 63 }
+        requires in_bucket { chunk * 64 < length (row self.old.contents bucket) }
+        requires ahead { self.old.given ≤ id_at bucket (chunk * 64) }
+        requires word { word ≡ word_number T.row (2 ^ bucket) chunk }
+        ensures same { self.new ≡ self.old }
+        ensures value { (bit : ℕ)
+            → bit < 64
+            → is_set result bit ≡ is_some (value_in self.old.contents bucket (chunk * 64 + bit)) }
+        ensures table { IsTable self.old.contents }
+    {
+        let _ = chunk;
+        unsafe {
+            let block = *self.pointers.add(bucket);
+            *(block as *const u64).add(word)
+        }
+    }
+
+    /// Enters the chunk whose first slot this is.
+    #[inline]
+    pub fn enter(&mut self, bucket: usize, first: usize)
+        requires in_table { bucket < 63 }
+        requires in_bucket { first < length (row self.old.contents bucket) }
+        ensures name { self.new.name ≡ self.old.name }
+        ensures contents { self.new.contents ≡ self.old.contents }
+        ensures given { self.new.given ≡ self.old.given }
+        ensures bucket { self.new.bucket ≡ bucket }
+        ensures first { self.new.first ≡ first }
+    {
+        let values = unsafe {
+            let block = *self.pointers.add(bucket);
+            (block as *mut T).add(first)
+        };
+        self.values = values;
+    }
+
+    /// Gives the value of a slot of the chunk that was entered, for as long as the pointers are
+    /// lent. `place` is the slot's number in the chunk.
+    #[inline]
+    pub fn give(&mut self, place: usize) -> &'a mut T
+        requires in_table { self.old.bucket < 63 }
+        requires in_bucket { self.old.first + place < length (row self.old.contents self.old.bucket) }
+        requires ahead { self.old.given ≤ id_at self.old.bucket (self.old.first + place) }
+        requires published { IsSome (value_in self.old.contents self.old.bucket (self.old.first + place)) }
+        ensures* ends { sem 𝓛 (ends_with_item T.row self.old.name result.ghost_name self.new.name
+            self.old.bucket (self.old.first + place)) }
+        ensures value { value_in self.old.contents self.old.bucket (self.old.first + place) ≡ Some result.now }
+        ensures contents { self.new.contents
+            ≡ with_slot self.old.contents self.old.bucket (self.old.first + place) None }
+        ensures given { self.new.given ≡ id_at self.old.bucket (self.old.first + place) + 1 }
+        ensures bucket { self.new.bucket ≡ self.old.bucket }
+        ensures first { self.new.first ≡ self.old.first }
+    {
+        unsafe { &mut *self.values.add(place) }
+    }
+}
+
+impl<T> FlagSource for Loan<'_, T> {
+    type Value = T;
+
+    ghost contents = { λ loan. loan.contents };
+
+    ghost given = { λ loan. loan.given };
+
+    #[inline]
+    fn stands(&mut self, bucket: usize) -> bool {
+        self.stands(bucket)
+    }
+
+    #[inline]
+    fn flags(&mut self, bucket: usize, chunk: usize) -> u64 {
+        self.flags(bucket, chunk)
+    }
+}
+
+unsafe impl<T: Send> Send for Loan<'_, T> {}
+
+// A `&` to a loan gives access to none of the values.
+unsafe impl<T> Sync for Loan<'_, T> {}

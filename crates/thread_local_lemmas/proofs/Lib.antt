@@ -1,0 +1,5 @@
+pub mod Bodies
+pub mod Names
+pub mod Pairs
+pub mod Word
+pub mod Words

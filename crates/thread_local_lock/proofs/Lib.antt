@@ -1,6 +1,0 @@
-mod Fields
-mod Guards
-mod Handed
-mod Lent
-mod Steps
-mod Words

@@ -1,2 +1,0 @@
-pub mod Guarded
-pub mod Locking

@@ -1,0 +1,79 @@
+-- Contents without values, in which the first buckets are made one by one.
+use Rattle.std.proofs.Common.{◌≡◌, ◌≢◌, ℕ, zero, suc, ◌+◌, ◌-◌, ◌^◌, ◌<◌, ◌≤◌, inl, inr, Bool, true, false, cond, eqb, length, List, [], ◌∷◌, replicate, get_or, Option, None, refl, ap, sym, ◌∙◌, subst, arith, ⊎_elim, pow_mono}
+use Rattle.std.specs.Prelude.{nat_lt}
+use Rattle.std.proofs.lemmas.Bool.{cases_eq, cases_lt, cond-true, cond-false, eq-eqb, ne_eqb, lt-ltb, le-ltb}
+use Rattle.thread_local_model.specs.Place.{id_at}
+use Rattle.thread_local_model.specs.Buckets.{Contents, row, stands, values, no_contents, slots, IsTable}
+use Rattle.thread_local_model.specs.Rows.{with_row, empty_row}
+use Rattle.thread_local_model.specs.Owned.{IsOwned}
+use Rattle.thread_local_model.specs.Capacity.{binary_digits, reserves_bucket, reserved_slots}
+use Rattle.thread_local_model.proofs.CapacityLaws.{slots-reserved}
+use Rattle.thread_local_model.specs.Owner.{with_bucket}
+use Rattle.thread_local_model.proofs.RowLaws.{row-no_contents, IsTable-with_row, length-empty_row}
+use Rattle.thread_local_model.proofs.ValueLaws.{values-no_contents, stands-no_contents, values-with_empty_row}
+use Rattle.thread_local_model.proofs.StandingLaws.{stands-made, slots-same}
+
+-- the first n buckets stand, without values
+pub record IsFilled {V : Type 0} (contents : Contents V) (n : ℕ) : Type 0 where
+  pub table : IsTable contents
+  pub standing : (bucket : ℕ) → stands contents bucket ≡ nat_lt bucket n
+  pub empty : (id : ℕ) → values contents id ≡ None
+
+pub IsTable-no_contents : (V : Type 0) → IsTable (no_contents {V = V})
+IsTable-no_contents V = record { buckets = refl; whole = λ b. inl (ap length (row-no_contents V b)) }
+
+pub IsFilled-none : (V : Type 0) → IsFilled (no_contents {V = V}) 0
+IsFilled-none V = record {
+  table = IsTable-no_contents V;
+  standing = λ b. stands-no_contents V b ∙ sym (le-ltb b 0 (omega arith));
+  empty = values-no_contents V;
+}
+
+-- a further bucket stands
+next_standing : (b j : ℕ) (s : Bool) → s ≡ nat_lt j b → cond (eqb b j) true s ≡ nat_lt j (b + 1)
+next_standing b j s h =
+    ⊎_elim
+    (λ (here : b ≡ j). cond-true (eqb b j) true s (eq-eqb b j here) ∙ sym (lt-ltb j (b + 1) (omega arith)))
+    (λ (apart : b ≢ j). cond-false (eqb b j) true s (ne_eqb b j apart) ∙ h
+    ∙ ⊎_elim (λ (low : j < b). lt-ltb j b low ∙ sym (lt-ltb j (b + 1) (omega arith))) (λ (high : b ≤ j). le-ltb j b high ∙ sym (le-ltb j (b + 1) (omega arith))) (cases_lt j b))
+    (cases_eq b j)
+
+pub IsFilled-more : {V : Type 0} (c d : Contents V) (b : ℕ) → IsFilled c b → b < 63 → (stands c b ≡ false → row c b ≡ []) → d ≡ with_bucket c b → IsFilled d (b + 1)
+IsFilled-more c d b h low absent made =
+    let none : stands c b ≡ false = h.standing b ∙ le-ltb b b (omega arith) in
+    let so : d ≡ with_row c b (empty_row b) = made ∙ cond-false (stands c b) c (with_row c b (empty_row b)) none in
+    let within : b < length c.rows = omega (arith, h.table.buckets) in
+    let P : Contents _ → Type 0 = λ e. IsFilled e (b + 1) in
+    subst P (sym so) (record {
+      table = IsTable-with_row c b (empty_row b) h.table (inr (length-empty_row _ b));
+      standing = λ j. stands-made c b j within ∙ next_standing b j (stands c j) (h.standing j);
+      empty = λ id. values-with_empty_row c b id within (absent none) ∙ h.empty id;
+    })
+
+-- a bucket that has one of the first 2 ^ n - 1 slots is one of the first n
+pub below_reserved : (b n : ℕ) → id_at b 0 < 2 ^ n - 1 → b < n
+below_reserved b n h =
+    ⊎_elim (λ (low : b < n). low) (λ (high : n ≤ b). let up : 2 ^ n ≤ 2 ^ b = pow_mono high in absurd (omega arith)) (cases_lt b n)
+
+pub IsOwned-filled : {V : Type 0} (c : Contents V) (n : ℕ) → n ≤ 63 → IsFilled c n → IsOwned (record { contents = c; reserved = 2 ^ n - 1 })
+IsOwned-filled c n within h = record { table = h.table; first = record { buckets = n; in_table = within; all = refl }; standing = λ b low first. h.standing b ∙ lt-ltb b n (below_reserved b n first) }
+
+pub slots-filled : {V : Type 0} (c : Contents V) (capacity : ℕ) → capacity < 2 ^ 63 → IsFilled c (binary_digits capacity) → slots (stands c) ≡ reserved_slots capacity
+slots-filled c capacity h filled = slots-same (stands c) (reserves_bucket capacity) filled.standing ∙ slots-reserved capacity h
+
+pub reserved-digits : (capacity : ℕ) → 2 ^ binary_digits capacity - 1 ≡ reserved_slots capacity
+unfolding reserved_slots
+reserved-digits capacity = refl
+
+-- rows that are all empty
+rows-empty : {X : Type 0} (rows : List (List X)) (n : ℕ) → length rows ≡ n → ((k : ℕ) → k < n → get_or rows k [] ≡ []) → rows ≡ replicate n []
+rows-empty [] zero e h = refl
+rows-empty [] (suc n) e h = absurd (omega arith)
+rows-empty (r ∷ rows) zero e h = absurd (omega arith)
+rows-empty (r ∷ rows) (suc n) e h =
+    let first : r ≡ [] = h 0 (omega arith) in
+    let rest : rows ≡ replicate n [] = rows-empty rows n (omega arith) (λ k l. h (suc k) (omega arith)) in
+    ap (λ s. s ∷ rows) first ∙ ap (λ s. [] ∷ s) rest
+
+pub contents-empty : {V : Type 0} (c : Contents V) (n : ℕ) → length c.rows ≡ 63 → 63 ≤ n → ((b : ℕ) → b < n → row c b ≡ []) → c ≡ no_contents
+contents-empty c n e high h = let same : c.rows ≡ replicate 63 [] = rows-empty c.rows 63 e (λ k l. h k (omega arith)) in ap (λ (rows : List (List (Option _))). let d : Contents _ = record { rows = rows } in d) same

@@ -1,4 +1,0 @@
-pub mod Owner
-pub mod Counting
-pub mod Cursor
-pub mod Refilled

@@ -1,4 +1,0 @@
-mod BothLent
-pub mod Elements
-mod Facts
-pub mod Tokens

@@ -1,0 +1,11 @@
+pub mod WalkStepLaws
+pub mod OwnerLaws
+pub mod ClearedLaws
+pub mod OptionLaws
+pub mod HeldCounts
+pub mod SheetLaws
+pub mod PutLaws
+pub mod Numbers
+pub mod Parts
+pub mod CoreLaws
+pub mod ShownLaws

@@ -1,0 +1,57 @@
+-- Where a walk is, by what its code keeps, as the model's cursor.
+use Rattle.std.specs.Prelude.{◌≡◌, ℕ, ◌+◌, ◌^◌, ◌≤◌, ◌==◌, Bool, false, Option, Some, None, IfSome, option_map, if◌then◌else◌}
+use Rattle.thread_local_model.specs.Place.{id_at}
+use Rattle.thread_local_model.specs.Cursor.{Cursor, cursor_id, CursorFits}
+use Rattle.thread_local_cursor.specs.declared.cursor.RawIter.{RawIter}
+use Rattle.thread_local_shared_buckets.specs.declared.steps.Own.{Own}
+use Rattle.thread_local_shared_buckets.specs.Walks.{Owed, Yields, Ends}
+
+-- the cursor of a walk between two calls
+abbrev pub resting : RawIter → Cursor
+resting raw = record { bucket = raw.bucket; index = raw.index; looks = false }
+
+-- the walk past a slot of its bucket, whose value it gave
+abbrev pub past : RawIter → ℕ → RawIter
+past raw index = record { yielded = raw.yielded + 1; bucket = raw.bucket; bucket_size = raw.bucket_size; index = index + 1 }
+
+-- the walk at another index of its bucket
+abbrev pub at_index : RawIter → ℕ → RawIter
+at_index raw index = record { yielded = raw.yielded; bucket = raw.bucket; bucket_size = raw.bucket_size; index = index }
+
+module _ {V : Type 0} where
+  -- an own value with its id
+  abbrev pub owed : Own V → Owed V
+  owed own = record { id = id_at own.thread.bucket own.thread.index; value = own.value.now }
+
+  -- whether the own value, if there is one, lies in a bucket
+  abbrev pub lies_in : Option (Own V) → ℕ → Bool
+  lies_in None bucket = false
+  lies_in (Some own) bucket = own.thread.bucket == bucket
+
+  -- where the search in a bucket ends: at the own value, if it lies there, and else at the bucket's
+  -- end
+  abbrev pub search_end : RawIter → Option (Own V) → ℕ
+  search_end raw None = raw.bucket_size
+  search_end raw (Some own) = if own.thread.bucket == raw.bucket then own.thread.index else raw.bucket_size
+
+  -- the walk hasn't passed the own value
+  pub record IsAhead (raw : RawIter) (own : Own V) : Type 0 where
+    pub bucket : raw.bucket ≤ own.thread.bucket
+    pub index : own.thread.bucket ≡ raw.bucket → raw.index ≤ own.thread.index
+
+  -- the walk is in a bucket or past the last, it hasn't passed the own value, and it gave no more
+  -- values than it passed ids
+  pub record IsSharedWalk (raw : RawIter) (own : Option (Own V)) : Type 0 where
+    pub fits : CursorFits (resting raw)
+    pub size : raw.bucket_size ≡ 2 ^ raw.bucket
+    pub own_ahead : IfSome own (IsAhead raw)
+    pub yielded : raw.yielded ≤ cursor_id (resting raw)
+
+  -- a call that yields a value, from where the walk is to where it is then, with the own value that
+  -- is still to come
+  abbrev pub YieldsFrom : RawIter → Option (Own V) → V → RawIter → Option (Own V) → Type 0
+  YieldsFrom raw own v to left = Yields (resting raw) (option_map owed own) v (resting to) (option_map owed left)
+
+  -- a call that ends the walk
+  abbrev pub EndsFrom : RawIter → Option (Own V) → RawIter → Option (Own V) → Type 0
+  EndsFrom raw own to left = Ends (resting raw) (option_map owed own) (resting to) (option_map owed left)

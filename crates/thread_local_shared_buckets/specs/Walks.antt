@@ -1,0 +1,85 @@
+-- What a contract sees of a walk over buckets that threads share, and what a call of `next` does.
+use Rattle.std.specs.Prelude.{◌≡◌, ℕ, suc, ◌-◌, ◌^◌, ◌<◌, ◌≤◌, ◌⊎◌, Bool, true, IsTrue, Option, Some, None, MatchOption, IfSome, option_map, refl}
+use Rattle.std.specs.Iterator.{Count, at_most}
+use Rattle.std.specs.Coded.{Coded, coded_option, coded_ℕ, coded×, code_by}
+use base.Stored.{coded_bool}
+use denote.Ref.{Bor}
+use denote.RattleType.{RattleType}
+use Rattle.thread_local_model.specs.Cursor.{Cursor, fresh_cursor, cursor_id, is_complete, after_look}
+use Rattle.thread_local_judged.specs.Judged.{Shareable}
+use Rattle.thread_local_shared_buckets.specs.Steps.{Leads}
+
+-- an own value that a walk has still to give, and its id
+pub record Owed (V : Type 0) : Type 0 where
+  pub id : ℕ
+  pub value : V
+
+-- where a walk is, the own value that it has still to give, if any, and whether it was shown that
+-- threads may share the values
+pub record WalkView (V : Type 0) : Type 0 where
+  pub cursor : Cursor
+  pub own : Option (Owed V)
+  pub shown : Bool
+
+-- injective codes of such views, for ghost state
+abbrev cursor_coded : Coded Cursor
+cursor_coded = code_by (ℕ × (ℕ × Bool)) (coded× coded_ℕ (coded× coded_ℕ coded_bool)) (λ c. (c.bucket, (c.index, c.looks))) (λ p. record { bucket = p.0; index = p.1.0; looks = p.1.1 }) (λ _. refl)
+
+abbrev owed_coded : {V : Type 0} → Coded V → Coded (Owed V)
+owed_coded {V} c = code_by (ℕ × V) (coded× coded_ℕ c) (λ o. (o.id, o.value)) (λ p. record { id = p.0; value = p.1 }) (λ _. refl)
+
+abbrev pub walk_view_coded : {V : Type 0} → Coded V → Coded (WalkView V)
+walk_view_coded {V} c = code_by (Cursor × (Option (Owed V) × Bool)) (coded× cursor_coded (coded× (coded_option (owed_coded c)) coded_bool))
+    (λ w. (w.cursor, (w.own, w.shown))) (λ p. record { cursor = p.0; own = p.1.0; shown = p.1.1 }) (λ _. refl)
+
+-- a walk that has just begun, with an own value to give or none
+abbrev pub fresh : {V : Type 0} → Option (Owed V) → Bool → WalkView V
+fresh own shown = record { cursor = fresh_cursor; own = own; shown = shown }
+
+-- the own value, without its id
+abbrev pub owed_value : {V : Type 0} → Option (Owed V) → Option V
+owed_value None = None
+owed_value (Some owed) = Some owed.value
+
+-- what a walk has still to give after it gave a value at an id: that was the own value, or the own
+-- value lies ahead
+abbrev pub YieldsOwn : {V : Type 0} → Option (Owed V) → ℕ → V → Option (Owed V) → Type 0
+YieldsOwn None id v left = left ≡ None
+YieldsOwn (Some owed) id v left = ((owed ≡ record { id = id; value = v }) × (left ≡ None)) ⊎ ((id < owed.id) × (left ≡ Some owed))
+
+-- a call gave a value: steps that give nothing lead to its slot, at an id that the walk hadn't
+-- passed, and the look there found it
+pub record Yields {V : Type 0} (from : Cursor) (own : Option (Owed V)) (v : V) (to : Cursor) (left : Option (Owed V)) : Type 0 where
+  pub met : Cursor
+  pub leads : Leads from met
+  pub looks : IsTrue met.looks
+  pub found : to ≡ after_look met true
+  pub ahead : cursor_id from ≤ cursor_id met
+  pub in_range : cursor_id met < 2 ^ 63 - 1
+  pub passed : cursor_id to ≡ suc (cursor_id met)
+  pub own_given : YieldsOwn own (cursor_id met) v left
+
+-- a call gave nothing: such steps lead past the last bucket, and no own value is left to give
+pub record Ends {V : Type 0} (from : Cursor) (own : Option (Owed V)) (to : Cursor) (left : Option (Owed V)) : Type 0 where
+  pub leads : Leads from to
+  pub complete : IsTrue (is_complete to)
+  pub none_owed : own ≡ None
+  pub none_left : left ≡ None
+
+-- what a call of `next` does
+pub record Goes {V : Type 0} (walk : WalkView V) (item : Option (Bor V)) (left : WalkView V) : Type 0 where
+  pub gives : MatchOption item (Ends walk.cursor walk.own left.cursor left.own) (λ x. Yields walk.cursor walk.own x.now left.cursor left.own)
+  pub shown : left.shown ≡ walk.shown
+
+-- what a call of `next` does where it gives each value with its id, which is the last one passed
+pub record GoesWithIds {V : Type 0} (walk : WalkView V) (item : Option (ℕ × Bor V)) (left : WalkView V) : Type 0 where
+  pub goes : Goes walk (option_map (λ entry. entry.1) item) left
+  pub id : IfSome item (λ entry. cursor_id left.cursor ≡ suc entry.0)
+
+-- a walk may go on where it was shown that threads may share the values, or their type says so
+abbrev pub CanGo : {V : Type 0} → RattleType → WalkView V → Type 0
+CanGo R walk = (walk.shown ≡ true) ⊎ Shareable R
+
+-- a walk gives no more values than there are ids ahead of it
+abbrev pub ids_left : {V : Type 0} → WalkView V → Count
+ids_left walk = at_most (2 ^ 63 - 1 - cursor_id walk.cursor)

@@ -1,0 +1,157 @@
+//! The walk over shared buckets, by ascending id, while other threads publish values.
+ghost use Rattle.std.specs.Prelude.{◌≡◌, ◌+◌, ◌-◌, ◌^◌, ◌<◌, ◌⊎◌, true, false, None, Some, IfSome, is_some, option_map};
+ghost use Rattle.std.specs.Iterator.{UpTo};
+ghost use Rattle.std.specs.Iterator.SizeHint.{IsWithinCount};
+ghost use Rattle.thread_local_model.specs.Cursor.{cursor_id};
+ghost use Rattle.thread_local_judged.specs.Judged.{Shareable};
+ghost use Rattle.thread_local_shared_buckets.specs.Positions.{owed};
+ghost use Rattle.thread_local_shared_buckets.specs.Walks.{WalkView, fresh, Goes, CanGo, ids_left};
+
+use crate::shown::Shown;
+use crate::steps::{Own, advance};
+use std::fmt;
+use std::iter::FusedIterator;
+use std::marker::Model;
+use thread_local_cursor::RawIter;
+use crate::shared::Shared;
+use thread_local_thread_id::Thread;
+
+/// The values of shared buckets, by ascending id, each lent as `&`, while other threads may publish
+/// more. A value that is published behind the walk isn't given, and one ahead of it may be.
+///
+/// No call waits or takes memory. A contract sees the model's cursor, and the walker's own value as
+/// long as it is still to be given. Rust's crate promises no order, and its size hint counts the
+/// values.
+#[derive(Drop)]
+pub struct Iter<'a, T> {
+    buckets: &'a Shared<T>,
+    raw: RawIter,
+    own: Option<Own<'a, T>>,
+    shown: Option<Shown<'a, T>>,
+}
+
+impl<'a, T> Model for Iter<'a, T> {
+    ghost use Rattle.std.specs.Prelude.{option_map, is_some};
+    ghost use Rattle.thread_local_shared_buckets.specs.Walks.{WalkView, walk_view_coded};
+    ghost use Rattle.thread_local_shared_buckets.specs.Positions.{resting, owed, IsSharedWalk};
+
+    ghost Value = { WalkView T };
+
+    ghost coded = { walk_view_coded T.code };
+
+    ghost view = { λ it.
+        record {
+          cursor = resting it.raw;
+          own = option_map owed it.own;
+          shown = is_some it.shown;
+        } };
+
+    ghost invariant = { λ it. IsSharedWalk it.raw it.own };
+}
+
+impl<'a, T> Iter<'a, T> {
+    /// A walk at the first slot.
+    fn begun(
+        buckets: &'a Shared<T>,
+        own: Option<Own<'a, T>>,
+        shown: Option<Shown<'a, T>>,
+    ) -> Iter<'a, T>
+        ensures { result ≡ fresh (option_map owed own.entry) (is_some shown.entry) }
+    {
+        Iter {
+            buckets,
+            raw: RawIter::new(),
+            own,
+            shown,
+        }
+    }
+
+    /// A walk without the fact that threads may share the values: whoever calls `next` shows it.
+    pub fn unshown(buckets: &'a Shared<T>) -> Iter<'a, T>
+        ensures { result ≡ fresh None false }
+    {
+        Iter::begun(buckets, None, None)
+    }
+}
+
+impl<'a, T> Iter<'a, T> {
+    /// The last id that the walk has passed.
+    #[inline]
+    pub(crate) fn last_id(&self) -> usize
+        requires { 0 < cursor_id self.now.cursor }
+        ensures { cursor_id self.now.cursor ≡ result + 1 }
+    {
+        self.raw.index + self.raw.bucket_size - 2
+    }
+}
+
+impl<'a, T: Sync> Iter<'a, T> {
+    /// A walk over all values, from the first slot on.
+    pub fn new(buckets: &'a Shared<T>) -> Iter<'a, T>
+        ensures { result ≡ fresh None true }
+    {
+        Iter::begun(buckets, None, Some(Shown::new()))
+    }
+
+    /// A walk over all values, for the holder of an id who passes the value at that id. The walk
+    /// gives this value there, without a look at the flag.
+    pub fn with_own(buckets: &'a Shared<T>, id: usize, value: &'a T) -> Iter<'a, T>
+        requires { id < 2 ^ 63 - 1 }
+        ensures { result ≡ fresh (Some (record { id = id; value = value.now })) true }
+    {
+        let own = Own {
+            thread: Thread::new(id),
+            value,
+        };
+        Iter::begun(buckets, Some(own), Some(Shown::new()))
+    }
+}
+
+/// Shows that threads may share the values, where it was shown before or their type says so. At run
+/// time it does nothing.
+#[inline]
+fn tell<T>(shown: &Option<Shown<'_, T>>)
+    requires can_go { (is_some shown.now ≡ true) ⊎ Shareable T.row }
+    ensures shareable { Shareable T.row }
+{
+    match shown {
+        Some(shown) => shown.tell(),
+        None => {}
+    }
+}
+
+impl<'a, T: Sync> Iterator for Iter<'a, T> {
+    type Item = &'a T;
+
+    ghost can_next = { CanGo T.row };
+
+    ghost next_gives = { Goes };
+
+    ghost remaining = { ids_left };
+
+    /// The next value that a look finds. It loads the pointer of the bucket that it is in, again at
+    /// each call, and of each further bucket that it reaches. For each slot on the way but the own
+    /// one, it loads the word that has the slot's flag.
+    fn next(&mut self) -> Option<&'a T> {
+        tell(&self.shown);
+        advance(self.buckets, &mut self.raw, &mut self.own)
+    }
+
+    /// No value is promised, and there is no upper bound, since others publish meanwhile.
+    fn size_hint(&self) -> (usize, Option<usize>)
+        ensures hint { result ≡ (0, None) }
+        ensures lower { IsWithinCount result.0 (ids_left self.now) }
+        ensures upper { IfSome result.1 (UpTo (ids_left self.now)) }
+    {
+        (0, None)
+    }
+}
+
+impl<T: Sync> FusedIterator for Iter<'_, T> {}
+
+impl<T: fmt::Debug> fmt::Debug for Iter<'_, T> {
+    /// The walk's position alone. Rust's crate shows the table, too.
+    fn fmt<W: fmt::Write>(&self, f: &mut fmt::Formatter<W>) -> fmt::Result {
+        f.debug_struct("Iter").field("raw", &self.raw).finish()
+    }
+}

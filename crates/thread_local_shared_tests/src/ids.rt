@@ -1,0 +1,130 @@
+//! Tests of ids under a lock, each with its right.
+ghost use Rattle.std.specs.Prelude.{◌≡◌, ◌≢◌, ℕ, IfOk};
+
+use std::mem::{forget, swap};
+use std::sync::Wait;
+use std::sync::atomic::AtomicBool;
+use std::sync::atomic::Ordering::SeqCst;
+use std::test::Fail;
+use std::thread;
+use std::thread::Threads;
+use thread_local_ids::Ids;
+use thread_local_ids::Lock;
+use thread_local_tokens::HeldId;
+use thread_local_thread_id::LocalError;
+
+/// Two ids of one table are two.
+fn take_two(ids: &mut Ids) -> Result<(HeldId, HeldId), LocalError>
+    ensures { IfOk result (λ two. two.0.id ≢ two.1.id) }
+{
+    let mut first = ids.take()?;
+    let mut second = ids.take()?;
+    first.right.apart(&mut second.right);
+    Ok((first, second))
+}
+
+/// Takes an id and gives it back, `times` times. Answers how often another thread had the same id
+/// at that moment, or that memory ran out.
+fn take_and_give<R: Wait>(
+    ids: &Lock<Ids>,
+    rt: &R,
+    used: &[AtomicBool; 4],
+    times: u64,
+) -> Result<u64, LocalError> {
+    let mut shared = 0u64;
+    for _ in 0..times {
+        let held = ids.lock(rt).take()?;
+        if let Some(mark) = used.get(held.id) {
+            if mark.swap(true, SeqCst) {
+                shared = shared.saturating_add(1);
+            }
+            mark.store(false, SeqCst);
+        } else {
+            shared = shared.saturating_add(1);
+        }
+        ids.lock(rt).give(held);
+    }
+    Ok(shared)
+}
+
+/// Gives an id back.
+fn give_back<R: Wait>(ids: &Lock<Ids>, rt: &R, held: HeldId)
+    requires { held.right.table ≡ ids.now.tag }
+{
+    ids.lock(rt).give(held);
+}
+
+#[test]
+fn an_id_is_held_once(rt: HostRuntime) -> Result<(), Fail> {
+    let mut ids = Ids::new(rt.alloc());
+    let (first, second) = take_two(&mut ids)?;
+    assert_eq!(rt; (first.id, second.id), (0, 1));
+    Ok(())
+}
+
+#[test]
+fn room_that_was_made_is_enough(rt: HostRuntime) -> Result<(), Fail> {
+    let mut ids = Ids::with_room(rt.alloc(), 67)?;
+    // No memory is asked for here, so a refusal would be a fault of the manager's.
+    for id in 0..67usize {
+        assert_eq!(rt; ids.take()?.id, id);
+    }
+    assert!(rt; !ids.is_held(67));
+    Ok(())
+}
+
+#[test]
+fn threads_hold_unlike_ids(rt: HostRuntime) -> Result<(), Fail> {
+    let ids = Lock::new(Ids::new(rt.alloc()));
+    let used = [
+        AtomicBool::new(false),
+        AtomicBool::new(false),
+        AtomicBool::new(false),
+        AtomicBool::new(false),
+    ];
+    let (there, marks) = (&ids, &used);
+    let run = || take_and_give(there, &rt, marks, 10_000);
+    let (a, b) = thread::join(
+        &rt,
+        || thread::join(&rt, run, run),
+        || thread::join(&rt, run, run),
+    );
+    for shared in [a.0, a.1, b.0, b.1] {
+        assert_eq!(rt; shared, Ok(0));
+    }
+    // None of the ids is held, so the next are the first.
+    for id in 0..4 {
+        assert_eq!(rt; ids.lock(&rt).take()?.id, id);
+    }
+    Ok(())
+}
+
+#[test]
+fn held_ids_are_swapped_moved_and_forgotten(rt: HostRuntime) -> Result<(), Fail> {
+    let ids = Lock::new(Ids::new(rt.alloc()));
+    let mut first = ids.lock(&rt).take()?;
+    let mut second = ids.lock(&rt).take()?;
+    let third = ids.lock(&rt).take()?;
+    swap(&mut first, &mut second);
+    assert_eq!(rt; (first.id, second.id, third.id), (1, 0, 2));
+    let there = &ids;
+    let (_, id) = thread::join(
+        &rt,
+        || give_back(there, &rt, first),
+        || {
+            let id = second.id;
+            give_back(there, &rt, second);
+            id
+        },
+    );
+    assert_eq!(rt; id, 0);
+    forget(third);
+    let again = ids.lock(&rt).take()?;
+    assert_eq!(rt; again.id, 0);
+    ids.lock(&rt).give(again);
+    // The forgotten id is held, and no other.
+    for id in [0, 1, 3] {
+        assert_eq!(rt; ids.lock(&rt).take()?.id, id);
+    }
+    Ok(())
+}

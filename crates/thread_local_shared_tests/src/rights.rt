@@ -1,0 +1,60 @@
+//! Tests of rights: they go out and come back, take no bytes, and stand in types of one's own.
+ghost use Rattle.std.specs.Prelude.{◌≡◌, false};
+ghost use Rattle.thread_local_tokens.specs.Rights.{is_out};
+
+use std::mem;
+use std::test::Fail;
+use thread_local_tokens::{Right, Rights};
+
+/// Where a right may stand: in a struct and in an enum.
+#[derive(Drop)]
+enum Slot {
+    Taken(Held),
+    Vacant,
+}
+
+#[derive(Drop)]
+struct Held {
+    id: usize,
+    right: Right,
+    ghost own: { right.id ≡ id },
+}
+
+fn hold(rights: &mut Rights, id: usize) -> Held
+    requires { is_out rights.old.out id ≡ false }
+    ensures { (result.id ≡ id) × (result.right.table ≡ rights.old.table) × (rights.new.table ≡ rights.old.table) }
+{
+    let right = rights.take(id);
+    Held { id, right }
+}
+
+#[test]
+fn rights_go_out_and_come_back(rt: HostRuntime) -> Result<(), Fail> {
+    let mut rights = Rights::new();
+    let mut five = rights.take(5);
+    let mut seven = rights.take(7);
+    five.apart(&mut seven);
+    mem::swap(&mut five, &mut seven);
+    rights.put_back(five);
+    rights.put_back(seven);
+    let again = rights.take(5);
+    rights.put_back(again);
+    Ok(())
+}
+
+#[test]
+fn a_right_takes_no_bytes(rt: HostRuntime) {
+    assert_eq!(rt; (mem::size_of::<Right>(), mem::size_of::<Rights>()), (0, 0));
+}
+
+#[test]
+fn a_right_stands_in_a_struct_and_in_an_enum(rt: HostRuntime) {
+    let mut rights = Rights::new();
+    let mut slot = Slot::Taken(hold(&mut rights, 3));
+    let before = mem::replace(&mut slot, Slot::Vacant);
+    if let Slot::Taken(held) = before {
+        assert_eq!(rt; held.id, 3);
+        mem::forget(held);
+    }
+    drop(slot);
+}

@@ -1,0 +1,258 @@
+//! Requests for memory that are refused. `tools/refusals` runs these tests with the first request
+//! refused, with the second, and so on until no request is refused any more. Each test holds
+//! whichever it is, and says which call was refused; with ample memory it says nothing.
+
+use std::alloc::{AllocError, Global};
+use std::cell::Cell;
+use std::io::Print;
+use std::mem::forget;
+use std::sync::Wait;
+use std::test::Fail;
+use thread_local_buckets::{Buckets, CapacityError};
+use thread_local::ThreadLocal;
+use thread_local::local::{Local, SetError, TryError};
+use thread_local_thread_id::{LocalError, Thread};
+
+/// A call that publishes a value.
+#[derive(Clone, Copy, PartialEq, Eq)]
+enum Publishing {
+    GetOr,
+    GetOrTry,
+    GetOrDefault,
+    Set,
+}
+
+impl Publishing {
+    /// The call's name.
+    fn name(self) -> &'static str {
+        match self {
+            Publishing::GetOr => "get_or",
+            Publishing::GetOrTry => "get_or_try",
+            Publishing::GetOrDefault => "get_or_default",
+            Publishing::Set => "set",
+        }
+    }
+
+    /// Publishes a number, or the default, and counts the calls of the closure. An error is want of
+    /// memory.
+    fn publish<R: Wait>(
+        self,
+        local: &mut Local<'_, u32, R>,
+        number: u32,
+        calls: &Cell<u32>,
+    ) -> Result<u32, AllocError> {
+        let made = || {
+            calls.set(calls.get().wrapping_add(1));
+            number
+        };
+        match self {
+            Publishing::GetOr => Ok(*local.get_or(made)?),
+            Publishing::GetOrTry => match local.get_or_try(|| Ok::<u32, ()>(made())) {
+                Ok(value) => Ok(*value),
+                Err(TryError::Memory(error)) => Err(error),
+                Err(TryError::Create(())) => Ok(0),
+            },
+            Publishing::GetOrDefault => Ok(*local.get_or_default()?),
+            Publishing::Set => match local.set(number) {
+                Ok(()) => Ok(local.get().copied().unwrap_or(0)),
+                Err(SetError::Memory(back)) if back == number => Err(AllocError),
+                Err(_) => Ok(0),
+            },
+        }
+    }
+
+    /// Publishes a number, or the default, at a place that holds nothing. Answers whether the call
+    /// did as it promises. An error is want of memory, after which no closure was called, and the
+    /// place holds nothing.
+    fn tried<R: Wait + Print>(
+        self,
+        local: &mut Local<'_, u32, R>,
+        rt: &R,
+        number: u32,
+    ) -> Result<bool, AllocError> {
+        let calls = Cell::new(0);
+        match self.publish(local, number, &calls) {
+            Ok(got) => {
+                let (wanted, called) = self.wanted(number);
+                Ok(got == wanted && calls.get() == called && self.stands(local, number))
+            }
+            Err(error) => {
+                let _told = println!(rt; "refused: {}", self.name());
+                if calls.get() != 0 || local.get().is_some() {
+                    return Ok(false);
+                }
+                Err(error)
+            }
+        }
+    }
+
+    /// Whether a place finds what was published there for a number.
+    fn stands<R: Wait>(self, local: &Local<'_, u32, R>, number: u32) -> bool {
+        local.get() == Some(&self.wanted(number).0)
+    }
+
+    /// What is published in the place of a number, and how often a closure is called for it.
+    fn wanted(self, number: u32) -> (u32, u32) {
+        match self {
+            Publishing::GetOr | Publishing::GetOrTry => (number, 1),
+            Publishing::GetOrDefault => (0, 0),
+            Publishing::Set => (number, 0),
+        }
+    }
+
+    /// Three `Local`s that are held at once publish 6, 7 and 8. A call that is refused is made
+    /// again, once it is seen that the earlier places find what they found. Answers whether each
+    /// call did as it promises.
+    fn by_three<R: Wait + Print>(
+        self,
+        table: &ThreadLocal<u32>,
+        rt: &R,
+    ) -> Result<bool, LocalError> {
+        let mut first = match taken(table, rt) {
+            Ok(local) => local,
+            Err(_) => taken(table, rt)?,
+        };
+        let mut as_promised = match self.tried(&mut first, rt, 6) {
+            Ok(done) => done,
+            Err(_) => self.tried(&mut first, rt, 6) == Ok(true),
+        };
+        let mut second = match taken(table, rt) {
+            Ok(local) => local,
+            Err(_) => {
+                as_promised &= self.stands(&first, 6);
+                taken(table, rt)?
+            }
+        };
+        as_promised &= match self.tried(&mut second, rt, 7) {
+            Ok(done) => done,
+            Err(_) => self.stands(&first, 6) && self.tried(&mut second, rt, 7) == Ok(true),
+        };
+        as_promised &= self.stands(&first, 6);
+        let mut third = match taken(table, rt) {
+            Ok(local) => local,
+            Err(_) => {
+                as_promised &= self.stands(&first, 6) && self.stands(&second, 7);
+                taken(table, rt)?
+            }
+        };
+        as_promised &= match self.tried(&mut third, rt, 8) {
+            Ok(done) => done,
+            Err(_) => {
+                as_promised &= self.stands(&first, 6) && self.stands(&second, 7);
+                self.tried(&mut third, rt, 8) == Ok(true)
+            }
+        };
+        Ok(as_promised && self.stands(&first, 6) && self.stands(&second, 7))
+    }
+}
+
+/// A `Local`. An error that is want of memory is told.
+fn taken<'a, R: Wait + Print>(
+    table: &'a ThreadLocal<u32>,
+    rt: &'a R,
+) -> Result<Local<'a, u32, R>, LocalError> {
+    let had = table.local(rt);
+    if matches!(had, Err(LocalError::Memory(_))) {
+        let _told = println!(rt; "refused: local");
+    }
+    had
+}
+
+/// A table of which 62 ids are held, for good. Of the next three the last is the first that needs
+/// memory, and the first is the last of its bucket.
+fn with_62_held<R: Wait>(rt: &R, alloc: Global) -> Result<ThreadLocal<u32>, LocalError> {
+    let table = ThreadLocal::<u32>::new(alloc);
+    for _ in 0..62 {
+        forget(table.local(rt)?);
+    }
+    Ok(table)
+}
+
+#[test]
+fn a_call_that_was_refused_succeeds_when_it_is_made_again(rt: HostRuntime) -> Result<(), Fail> {
+    for call in [
+        Publishing::GetOr,
+        Publishing::GetOrTry,
+        Publishing::GetOrDefault,
+        Publishing::Set,
+    ] {
+        let table = with_62_held(&rt, rt.alloc())?;
+        let as_promised = call.by_three(&table, &rt) == Ok(true);
+        let mut values = table.into_iter();
+        let walked = [values.next(), values.next(), values.next(), values.next()];
+        let wanted = [6, 7, 8].map(|number| Some(call.wanted(number).0));
+        assert_eq!(rt;
+            (as_promised, walked),
+            (true, [wanted[0], wanted[1], wanted[2], None])
+        );
+    }
+    Ok(())
+}
+
+/// What is drained of a table, of the first four values.
+fn drained(table: &mut ThreadLocal<u32>) -> [Option<u32>; 4] {
+    let mut values = table.drain();
+    [values.next(), values.next(), values.next(), values.next()]
+}
+
+#[test]
+fn a_round_after_a_drain_is_refused_nothing(rt: HostRuntime) -> Result<(), Fail> {
+    let mut table = with_62_held(&rt, rt.alloc())?;
+    let first = Publishing::GetOr.by_three(&table, &rt) == Ok(true);
+    let numbers = drained(&mut table);
+    let second = Publishing::Set.by_three(&table, &rt) == Ok(true);
+    let again = drained(&mut table);
+    assert_eq!(rt; (first, second), (true, true));
+    assert_eq!(rt;
+        (numbers, again),
+        (
+            [Some(6), Some(7), Some(8), None],
+            [Some(6), Some(7), Some(8), None]
+        )
+    );
+    Ok(())
+}
+
+#[test]
+fn a_table_with_a_capacity_has_its_slots_or_is_refused(rt: HostRuntime) -> Result<(), Fail> {
+    match ThreadLocal::<u64>::with_capacity(rt.alloc(), 4) {
+        Ok(table) => {
+            let mut table = table;
+            assert_eq!(rt; table.slots(), 7);
+        }
+        Err(error) => {
+            println!(rt; "refused: with_capacity")?;
+            assert!(rt; matches!(error, CapacityError::Memory(_)));
+        }
+    }
+    Ok(())
+}
+
+#[test]
+fn a_refused_insert_hands_its_value_back(rt: HostRuntime) -> Result<(), Fail> {
+    let mut buckets = Buckets::new(rt.alloc());
+    let mut as_promised = true;
+    for (id, value) in [(0, 6u32), (1, 7), (3, 8)] {
+        let refused = match buckets.insert(Thread::new(id), value) {
+            Ok(_) => None,
+            Err(back) => Some(back),
+        };
+        if let Some(back) = refused {
+            println!(rt; "refused: insert")?;
+            as_promised &= back == value && buckets.insert(Thread::new(id), back).is_ok();
+        }
+    }
+    let mut values = buckets.into_iter();
+    let walked = [values.next(), values.next(), values.next(), values.next()];
+    assert_eq!(rt;
+        (as_promised, walked),
+        (true, [Some(6), Some(7), Some(8), None])
+    );
+    Ok(())
+}
+
+#[test]
+fn out_of_memory_never_stands_for_a_capacity_that_is_too_large(rt: HostRuntime) {
+    let too_large = ThreadLocal::<u64>::with_capacity(rt.alloc(), 9223372036854775808);
+    assert!(rt; matches!(too_large, Err(CapacityError::TooLarge)));
+}

@@ -1,0 +1,204 @@
+//! Walks over tables that threads share.
+
+use crate::numbers::publishes;
+use std::sync::Wait;
+use std::test::Fail;
+use thread_local_shared_buckets::{Entries, Iter};
+use thread_local::ThreadLocal;
+use thread_local::local::Local;
+
+/// Whether a walk gives these values and then none, and again none.
+fn gives(walk: Iter<'_, u32>, expected: &[u32]) -> bool {
+    let mut walk = walk;
+    for value in expected {
+        if walk.next() != Some(value) {
+            return false;
+        }
+    }
+    walk.next().is_none() && walk.next().is_none()
+}
+
+/// Whether a walk tells no bound, and then gives a value.
+fn goes_on(walk: &mut Iter<'_, u32>, value: u32) -> bool {
+    walk.size_hint() == (0, None) && walk.next() == Some(&value)
+}
+
+/// Whether a walk tells no bound, and then gives none, and again none.
+fn ends(walk: &mut Iter<'_, u32>) -> bool {
+    walk.size_hint() == (0, None) && walk.next().is_none() && walk.next().is_none()
+}
+
+/// The second of two `Local`s publishes 2, and the first 1 once a walk has passed it. Answers
+/// whether that walk gives 2 alone, and the next one both.
+fn publish_behind<R: Wait>(table: &ThreadLocal<u32>, rt: &R) -> Option<[bool; 5]> {
+    let mut first = table.local(rt).ok()?;
+    let mut second = table.local(rt).ok()?;
+    let before = publishes(&mut second, 2);
+    let mut walk = table.iter();
+    Some([
+        before,
+        goes_on(&mut walk, 2),
+        publishes(&mut first, 1),
+        ends(&mut walk),
+        gives(table.iter(), &[1, 2]),
+    ])
+}
+
+#[test]
+fn a_walk_gives_what_was_published_before_it_and_ahead_of_it(rt: HostRuntime) -> Result<(), Fail> {
+    let table = ThreadLocal::<u32>::new(rt.alloc());
+    assert_eq!(rt; publish_behind(&table, &rt), Some([true; 5]));
+    Ok(())
+}
+
+/// The first of two `Local`s publishes 1, and the second 2 once a walk has given 1. Answers whether
+/// that walk gives both.
+fn publish_ahead<R: Wait>(table: &ThreadLocal<u32>, rt: &R) -> Option<[bool; 5]> {
+    let mut first = table.local(rt).ok()?;
+    let mut second = table.local(rt).ok()?;
+    let before = publishes(&mut first, 1);
+    let mut walk = table.iter();
+    Some([
+        before,
+        goes_on(&mut walk, 1),
+        publishes(&mut second, 2),
+        goes_on(&mut walk, 2),
+        ends(&mut walk),
+    ])
+}
+
+#[test]
+fn a_walk_gives_what_is_published_ahead_of_it(rt: HostRuntime) -> Result<(), Fail> {
+    let table = ThreadLocal::<u32>::new(rt.alloc());
+    assert_eq!(rt; publish_ahead(&table, &rt), Some([true; 5]));
+    Ok(())
+}
+
+/// Two `Local`s publish 1 and 2. Answers whether they do, and the walk of the second gives both.
+fn publish_two<R: Wait>(first: &mut Local<'_, u32, R>, second: &mut Local<'_, u32, R>) -> bool {
+    publishes(first, 1) && publishes(second, 2) && gives(second.iter(), &[1, 2])
+}
+
+/// Whether the walk of a `Local` gives 1, 2 and 3.
+fn gives_three<R: Wait>(local: &Local<'_, u32, R>) -> bool {
+    gives(local.iter(), &[1, 2, 3])
+}
+
+/// How many values the walk of a new `Local`'s seat gives.
+fn count_of_a_new_one<R: Wait>(table: &ThreadLocal<u32>, rt: &R) -> Option<usize> {
+    let local = table.local(rt).ok()?;
+    Some(local.seat().iter().count())
+}
+
+/// Three `Local`s that are held at once publish 1, 2 and 3. Answers whether the walk of the second
+/// gives its own value and the first's, then whether the third publishes and each walk gives all
+/// three, and how many that of a fourth gives.
+fn three_walk<R: Wait>(
+    table: &ThreadLocal<u32>,
+    rt: &R,
+) -> Option<(bool, bool, [bool; 3], Option<usize>)> {
+    let mut first = table.local(rt).ok()?;
+    let mut second = table.local(rt).ok()?;
+    let mut third = table.local(rt).ok()?;
+    Some((
+        publish_two(&mut first, &mut second),
+        publishes(&mut third, 3),
+        [
+            gives_three(&first),
+            gives_three(&second),
+            gives_three(&third),
+        ],
+        count_of_a_new_one(table, rt),
+    ))
+}
+
+#[test]
+fn the_walk_of_a_local_gives_its_own_value_among_the_others(rt: HostRuntime) -> Result<(), Fail> {
+    let table = ThreadLocal::<u32>::new(rt.alloc());
+    assert_eq!(rt;
+        three_walk(&table, &rt),
+        Some((true, true, [true; 3], Some(3)))
+    );
+    Ok(())
+}
+
+/// Whether a walk gives these values with their ids and then none, and again none.
+fn gives_entries<T: Sync + PartialEq>(walk: Entries<'_, T>, expected: &[(usize, T)]) -> bool {
+    let mut walk = walk;
+    for (id, value) in expected {
+        if walk.size_hint() != (0, None) || walk.next() != Some((*id, value)) {
+            return false;
+        }
+    }
+    walk.next().is_none() && walk.next().is_none()
+}
+
+/// Three `Local`s publish 1 to 3, the second last. Answers whether the walks of the table and of
+/// the second give ids 0 and 2, then all three, and a walk that goes on with ids the rest.
+fn three_entries<R: Wait>(table: &ThreadLocal<u32>, rt: &R) -> Option<[bool; 6]> {
+    let mut first = table.local(rt).ok()?;
+    let mut second = table.local(rt).ok()?;
+    let mut third = table.local(rt).ok()?;
+    let apart = publishes(&mut third, 3) && publishes(&mut first, 1);
+    let two = gives_entries(table.entries(), &[(0, 1), (2, 3)]);
+    let filled = publishes(&mut second, 2);
+    let mut rest = table.iter();
+    let begun = goes_on(&mut rest, 1);
+    Some([
+        apart,
+        two,
+        filled,
+        gives_entries(table.entries(), &[(0, 1), (1, 2), (2, 3)])
+            && gives_entries(second.iter().with_ids(), &[(0, 1), (1, 2), (2, 3)]),
+        begun,
+        gives_entries(rest.with_ids(), &[(1, 2), (2, 3)]),
+    ])
+}
+
+#[test]
+fn values_come_with_the_ids_of_their_slots(rt: HostRuntime) -> Result<(), Fail> {
+    let table = ThreadLocal::<u32>::new(rt.alloc());
+    assert!(rt; gives_entries(table.entries(), &[]));
+    assert_eq!(rt; three_entries(&table, &rt), Some([true; 6]));
+    Ok(())
+}
+
+/// Whether the walks over a table, and those of a `Local`, give nothing.
+fn all_give_none<R: Wait>(table: &ThreadLocal<u32>, rt: &R) -> bool {
+    let Ok(local) = table.local(rt) else {
+        return false;
+    };
+    gives(table.iter(), &[]) && gives(local.iter(), &[]) && gives(local.seat().iter(), &[])
+}
+
+#[test]
+fn a_table_without_values_gives_none(rt: HostRuntime) -> Result<(), Fail> {
+    let table = ThreadLocal::<u32>::new(rt.alloc());
+    assert!(rt; all_give_none(&table, &rt));
+    Ok(())
+}
+
+/// What a new `Local` holds once it has published a number.
+fn published<R: Wait>(table: &ThreadLocal<u32>, rt: &R, number: u32) -> Option<u32> {
+    let mut local = table.local(rt).ok()?;
+    local.get_or(|| number).ok().copied()
+}
+
+/// The sum of the values, by a `for` loop.
+fn sum(table: &ThreadLocal<u32>) -> u32 {
+    let mut sum = 0u32;
+    for number in table {
+        sum = sum.wrapping_add(*number);
+    }
+    sum
+}
+
+#[test]
+fn a_table_is_walked_by_a_for_loop(rt: HostRuntime) -> Result<(), Fail> {
+    let table = ThreadLocal::<u32>::new(rt.alloc());
+    for number in 1..4 {
+        assert_eq!(rt; published(&table, &rt, number), Some(1));
+    }
+    assert_eq!(rt; sum(&table), 1);
+    Ok(())
+}

@@ -1,0 +1,138 @@
+//! Callers of walks at concrete types and generic ones, which are proved and not run.
+ghost use Rattle.std.specs.Prelude.{◌≡◌, true, Some};
+
+use std::sync::Wait;
+use thread_local_buckets::{IntoIter, IterMut};
+use thread_local_judged::judge_sync;
+use thread_local_shared_buckets::{Entries, Iter};
+use thread_local::ThreadLocal;
+use thread_local::local::Local;
+
+fn is_sent<X: Send>(_: &X) {}
+
+/// The walk of a `Local` that holds a value gives it.
+fn finds_own<R: Wait>(local: &Local<'_, u32, R>, number: u32) -> bool
+    requires { local.now.value ≡ Some number }
+    ensures { result ≡ true }
+{
+    for value in local.iter() {
+        if *value == number {
+            return true;
+        }
+    }
+    false
+}
+
+/// The greatest id that has a number.
+fn last_id(table: &ThreadLocal<u32>) -> Option<usize> {
+    let mut last = None;
+    for (id, _) in table.entries() {
+        last = Some(id);
+    }
+    last
+}
+
+fn numbers(table: &ThreadLocal<u32>) -> u32 {
+    let mut sum = 0u32;
+    for number in table {
+        sum = sum.wrapping_add(*number);
+    }
+    sum
+}
+
+/// At some types the check doesn't find that threads may share their values, and `judge_sync` shows
+/// it.
+fn texts(table: &ThreadLocal<String>) -> usize {
+    judge_sync::<String>();
+    let mut bytes = 0usize;
+    for text in table {
+        bytes = bytes.wrapping_add(text.len());
+    }
+    bytes
+}
+
+/// The walk that `iter` answers needs nothing shown.
+fn texts_by_iter(table: &ThreadLocal<String>) -> usize {
+    let mut bytes = 0usize;
+    for text in table.iter() {
+        bytes = bytes.wrapping_add(text.len());
+    }
+    bytes
+}
+
+fn counted<T: Send + Sync>(table: &ThreadLocal<T>) -> usize {
+    let mut count = 0usize;
+    for _ in table {
+        count = count.wrapping_add(1);
+    }
+    count
+}
+
+fn counted_by_entries<T: Send + Sync>(table: &ThreadLocal<T>) -> usize {
+    let mut count = 0usize;
+    for (_, _) in table.entries() {
+        count = count.wrapping_add(1);
+    }
+    count
+}
+
+fn counted_by_iter<T: Send + Sync>(table: &ThreadLocal<T>) -> usize {
+    table.iter().count()
+}
+
+/// A value that holds a reference.
+struct Reading<'a> {
+    number: &'a u64,
+}
+
+trait Numbered {
+    fn number(&self) -> u64;
+}
+
+impl Numbered for Reading<'_> {
+    fn number(&self) -> u64 {
+        *self.number
+    }
+}
+
+/// A loop over values that hold references stands in a function that is generic over them.
+fn summed<T: Numbered + Sync>(table: &ThreadLocal<T>) -> u64 {
+    let mut sum = 0u64;
+    for value in table.iter() {
+        sum = sum.wrapping_add(value.number());
+    }
+    sum
+}
+
+fn readings(table: &ThreadLocal<Reading<'_>>) -> (u64, usize) {
+    (summed(table), counted(table))
+}
+
+/// Or the walk is folded.
+fn readings_folded(table: &ThreadLocal<Reading<'_>>) -> u64 {
+    table
+        .iter()
+        .fold(0u64, |sum, reading| sum.wrapping_add(*reading.number))
+}
+
+fn readings_of_a_local<R: Wait>(local: &Local<'_, Reading<'_>, R>) -> u64 {
+    local
+        .iter()
+        .fold(0u64, |sum, reading| sum.wrapping_add(*reading.number))
+}
+
+fn shared_walk<T: Send + Sync>(walk: &Iter<'_, T>) {
+    is_sent(walk);
+}
+
+fn shared_entries<T: Send + Sync>(walk: &Entries<'_, T>) {
+    is_sent(walk);
+}
+
+fn lending_walk<T: Send>(walk: &IterMut<'_, T>) {
+    is_sent(walk);
+}
+
+fn taking_walk<T: Send>(walk: &IntoIter<T>) {
+    is_sent(walk);
+}

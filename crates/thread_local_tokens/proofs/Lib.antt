@@ -1,0 +1,9 @@
+mod BothLent
+mod Facts
+pub mod Made
+pub mod Markers
+pub mod RightElements
+pub mod Rows
+pub mod ToldElements
+pub mod Twice
+mod Whole

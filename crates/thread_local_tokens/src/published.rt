@@ -1,0 +1,78 @@
+//! A token that says what a slot was published with.
+ghost use Rattle.std.specs.Prelude.{◌≡◌, ◌-◌, ◌^◌, ◌<◌, IsSome};
+
+use crate::witness::Witness;
+use std::marker::Model;
+
+/// What the slot of an id was published with in one sharing of its table. A sharing begins when a
+/// table is made, cleared or renewed, and lasts until an owner has the table alone.
+///
+/// It is the id at run time. Contracts see the sharing, the id and the value, whatever the value
+/// does meanwhile: what a cell holds they don't tell. It may be sent and shared whatever the type
+/// is. No call waits or takes memory. Rust's crate has no such type.
+#[derive(Drop)]
+pub struct Published<T> {
+    id: usize,
+    witness: Witness<T>,
+}
+
+impl<T> Model for Published<T> {
+    ghost use Rattle.std.specs.Prelude.{◌≡◌, ◌-◌, ◌^◌, ◌<◌};
+    ghost use Rattle.thread_local_tokens.specs.Views.{PublishedView, published_view_coded};
+
+    ghost Value = { PublishedView T };
+
+    ghost coded = { published_view_coded T.code };
+
+    ghost view = { λ p. record { sharing = p.witness.sharing; id = p.id; value = p.witness.value } };
+
+    ghost invariant = { λ p. (p.witness.id ≡ p.id) × (p.id < 2 ^ 63 - 1) };
+}
+
+impl<T> Published<T> {
+    /// A token of what a witness shows.
+    pub fn new(id: usize, witness: Witness<T>) -> Published<T>
+        requires id { witness.id ≡ id }
+        requires in_range { id < 2 ^ 63 - 1 }
+        ensures id { (result.id ≡ id) × (result.sharing ≡ witness.sharing) }
+        ensures value { result.value ≡ witness.value }
+    {
+        Published { id, witness }
+    }
+
+    /// The id.
+    pub fn id(&self) -> usize
+        ensures id { result ≡ self.now.id }
+        ensures in_range { result < 2 ^ 63 - 1 }
+    {
+        self.id
+    }
+
+    /// What shows it, for calls that need no id at run time.
+    pub fn witness(&self) -> &Witness<T>
+        ensures id { (result.now.id ≡ self.now.id) × (result.now.sharing ≡ self.now.sharing) }
+        ensures value { result.now.value ≡ self.now.value }
+    {
+        &self.witness
+    }
+
+    /// The same token once more. The language makes no value `Copy` that owns what a proof knows.
+    pub fn again(&self) -> Published<T>
+        ensures { result ≡ self.now }
+    {
+        Published {
+            id: self.id,
+            witness: self.witness.again(),
+        }
+    }
+
+    /// Shows that two tokens of one id and one sharing have one value. At run time it does nothing.
+    pub fn agrees(&self, other: &Published<T>)
+        requires id { self.now.id ≡ other.now.id }
+        requires sharing { self.now.sharing ≡ other.now.sharing }
+        requires named { IsSome self.now.sharing }
+        ensures { self.now.value ≡ other.now.value }
+    {
+        self.witness.agrees(&other.witness);
+    }
+}
