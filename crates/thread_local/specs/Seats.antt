@@ -5,8 +5,8 @@ use base.Stored.{coded_bool}
 use Rattle.std.specs.Coded.{Coded, coded_option, coded_ℕ, coded×, code_by}
 use Rattle.thread_local_model.specs.Answers.{View, GetOr, Answered, Refused, Failed, Says, answer, view_of}
 use Rattle.thread_local_model.specs.Learnt.{Missing}
-use Rattle.thread_local_tokens.specs.Views.{PublishedView}
-use Rattle.thread_local_claim.specs.Known.{IsKnown}
+use Rattle.thread_local_tokens.specs.Views.{TokenView}
+use Rattle.thread_local_claim.specs.Known.{HasLooked}
 use Rattle.thread_local_claim.specs.Views.{ClaimView}
 use Rattle.thread_local_shared_buckets.specs.TableView.{TableView}
 use Rattle.thread_local_shared_buckets.specs.Walks.{Owed}
@@ -45,8 +45,8 @@ abbrev pub own_of : {V : Type 0} → LocalView V → Option (Owed V)
 own_of s = option_map (λ v. record { id = s.id; value = v }) s.value
 
 -- what the slot was published with, if it holds a value, as a token says it
-abbrev pub published_of : {V : Type 0} → LocalView V → Option (PublishedView V)
-published_of s = option_map (λ v. record { sharing = s.sharing; id = s.id; value = v }) s.value
+abbrev pub token_of : {V : Type 0} → LocalView V → Option (TokenView V)
+token_of s = option_map (λ v. record { sharing = s.sharing; id = s.id; value = v }) s.value
 
 -- it is the same `Local`, of the same table in the same sharing, with the same id
 pub record IsSameLocal {V : Type 0} (old new : LocalView V) : Type 0 where
@@ -61,7 +61,7 @@ pub record IsSeated {V : Type 0} (of : TableView) (claim : ClaimView V) : Type 0
   pub table : claim.table ≡ of.table
   pub sharing : claim.sharing ≡ of.sharing
   pub in_range : claim.id < 2 ^ 63 - 1
-  pub known : IsKnown claim.learnt
+  pub known : HasLooked claim.learnt
   pub reserved : claim.id < of.reserved → claim.learnt ≢ Missing
 
 -- what is known of a slot that is empty and whose bucket stands

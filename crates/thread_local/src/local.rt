@@ -2,14 +2,14 @@
 ghost use Rattle.std.specs.Prelude.{◌≡◌, ◌≢◌, ◌-◌, ◌^◌, ◌<◌, nat_lt, ⊤, true, false, None, Ok, Err, OnOk, IfOk, IsSome, Some, option_map, MatchResult, alloc_error, Result};
 ghost use Rattle.thread_local_model.specs.Answers.{Get, GetOr, Found, Refused, Failed, answer};
 ghost use Rattle.thread_local_model.specs.Cursor.{fresh_cursor};
-ghost use Rattle.thread_local.specs.Seats.{knows, knowing, holding, own_of, published_of, IsAnswered, IsFilled, Fails, IsRefused};
+ghost use Rattle.thread_local.specs.Seats.{knows, knowing, holding, own_of, token_of, IsAnswered, IsFilled, Fails, IsRefused};
 
 pub use crate::seat::{Seat, SetError, TryError};
 use std::alloc::AllocError;
 use std::fmt;
 use std::marker::Model;
 use std::sync::Wait;
-use thread_local_tokens::Published;
+use thread_local_tokens::Token;
 use thread_local_shared_buckets::Iter;
 
 // `get_or` and `get_or_default` stand here.
@@ -86,22 +86,22 @@ impl<'a, T, R: Wait> Local<'a, T, R> {
     /// reads that value through the table, for as long as the sharing lasts, and the owner finds it
     /// when the sharing ends. It reads what the `Local` knows already, without an atomic operation.
     /// Rust's crate has no such call.
-    pub fn published(&self) -> Option<Published<T>>
-        ensures { result ≡ published_of self.now }
+    pub fn token(&self) -> Option<Token<T>>
+        ensures { result ≡ token_of self.now }
     {
-        self.seat.published()
+        self.seat.token()
     }
 
     /// Shows that the slot holds what a token of this id and this sharing says, whichever `Local`
     /// had the id then. At run time it does nothing. Rust's crate has no such call.
-    pub fn agrees(&mut self, published: &Published<T>)
-        requires id { self.old.id ≡ published.now.id }
-        requires sharing { self.old.sharing ≡ published.now.sharing }
+    pub fn agrees(&mut self, token: &Token<T>)
+        requires id { self.old.id ≡ token.now.id }
+        requires sharing { self.old.sharing ≡ token.now.sharing }
         requires named { IsSome self.old.sharing }
-        ensures holds { self.old.value ≡ Some published.now.value }
+        ensures holds { self.old.value ≡ Some token.now.value }
         ensures same { self.new ≡ self.old }
     {
-        self.seat.agrees(published);
+        self.seat.agrees(token);
     }
 
     /// Shows that two `Local`s of one table have different ids. At run time it does nothing. Rust's

@@ -4,7 +4,7 @@ ghost use Rattle.std.specs.Prelude.{◌≡◌, ◌≢◌, ◌-◌, ◌^◌, ◌<
 ghost use Rattle.thread_local_model.specs.Learnt.{Missing, Vacant};
 ghost use Rattle.thread_local_model.specs.Answers.{Get, GetOr, Found, Refused, Failed, answer};
 ghost use Rattle.thread_local_model.specs.Cursor.{fresh_cursor};
-ghost use Rattle.thread_local.specs.Seats.{knows, knowing, own_of, published_of, vacant, holding, IsAnswered, IsFilled, Fails, IsRefused};
+ghost use Rattle.thread_local.specs.Seats.{knows, knowing, own_of, token_of, vacant, holding, IsAnswered, IsFilled, Fails, IsRefused};
 
 use crate::table::ThreadLocal;
 use std::alloc::AllocError;
@@ -13,7 +13,7 @@ use std::marker::Model;
 use std::sync::Wait;
 use thread_local_blocks::Block;
 use thread_local_claim::Claim;
-use thread_local_tokens::Published;
+use thread_local_tokens::Token;
 use thread_local_tokens::HeldId;
 use thread_local_shared_buckets::Iter;
 
@@ -139,22 +139,22 @@ impl<'a, T> Seat<'a, T> {
 
     /// What the slot was published with, as a token, where it holds a value. It reads what the seat
     /// knows already, without an atomic operation. Rust's crate has no such call.
-    pub fn published(&self) -> Option<Published<T>>
-        ensures { result ≡ published_of self.now }
+    pub fn token(&self) -> Option<Token<T>>
+        ensures { result ≡ token_of self.now }
     {
-        self.claim.published()
+        self.claim.token()
     }
 
     /// Shows that the slot holds what a token of this id and this sharing says. At run time it does
     /// nothing. Rust's crate has no such call.
-    pub fn agrees(&mut self, published: &Published<T>)
-        requires id { self.old.id ≡ published.now.id }
-        requires sharing { self.old.sharing ≡ published.now.sharing }
+    pub fn agrees(&mut self, token: &Token<T>)
+        requires id { self.old.id ≡ token.now.id }
+        requires sharing { self.old.sharing ≡ token.now.sharing }
         requires named { IsSome self.old.sharing }
-        ensures holds { self.old.value ≡ Some published.now.value }
+        ensures holds { self.old.value ≡ Some token.now.value }
         ensures same { self.new ≡ self.old }
     {
-        self.claim.agrees(published);
+        self.claim.agrees(token);
     }
 
     /// Finds or makes the bucket of the slot, which is empty.

@@ -19,7 +19,7 @@ use thread_local_ids::{Ids, Lock};
 pub use thread_local_judged::{Judge, judge_sync, judge_value};
 use thread_local_shared_buckets::{Entries, Iter, Shared};
 use thread_local_tokens::Right;
-pub use thread_local_tokens::{Book, Published};
+pub use thread_local_tokens::{Book, Token};
 use thread_local_thread_id::manager::IDS;
 use thread_local_thread_id::{LocalError, Thread};
 
@@ -44,7 +44,7 @@ mod lends;
 ///
 /// Contracts see the table's name, the number of reserved slots, and the sharing, if that has a name.
 /// A sharing begins when the table is made, cleared or renewed, and lasts until an owner has the table
-/// alone. While it lasts, tokens (`Published`) say what slots were published with.
+/// alone. While it lasts, tokens (`Token`) say what slots were published with.
 #[derive(Drop)]
 pub struct ThreadLocal<T> {
     pub(crate) buckets: Shared<T>,
@@ -194,7 +194,7 @@ impl<T> ThreadLocal<T> {
     pub fn into_buckets(self) -> Buckets<T>
         ensures { result.reserved ≡ self.reserved }
     {
-        self.into_published().0
+        self.into_buckets_and_book().0
     }
 
     /// The values by ascending id, each moved out with its id: the walk `into_entries` of the
@@ -206,7 +206,7 @@ impl<T> ThreadLocal<T> {
     /// The buckets by value, and what the slots were published with in the sharing that ends:
     /// the book tells of each token of this sharing that its value is there, at its id. The ids are
     /// dropped. Rust's crate has no such call.
-    pub fn into_published(self) -> (Buckets<T>, Book<T>)
+    pub fn into_buckets_and_book(self) -> (Buckets<T>, Book<T>)
         ensures reserved { result.0.reserved ≡ self.reserved }
         ensures sharing { result.1.sharing ≡ self.sharing }
         ensures contents { result.1.contents ≡ result.0.contents }
@@ -217,7 +217,7 @@ impl<T> ThreadLocal<T> {
             own: _,
             alloc: _,
         } = self;
-        buckets.into_published()
+        buckets.into_buckets_and_book()
     }
 
     /// Begins another sharing of the same buckets, with a name: an owner who has the table alone
@@ -290,25 +290,25 @@ impl<T: Sync> ThreadLocal<T> {
 
     /// `iter`, which gives what a token says: a walk that runs to its end gives this value, at its
     /// id. Rust's crate has no such call.
-    pub fn iter_with(&self, published: &Published<T>) -> Iter<'_, T>
-        requires sharing { published.now.sharing ≡ self.now.sharing }
+    pub fn iter_with(&self, token: &Token<T>) -> Iter<'_, T>
+        requires sharing { token.now.sharing ≡ self.now.sharing }
         requires named { IsSome self.now.sharing }
         ensures { result ≡
             fresh
-            (Some (record { id = published.now.id; value = published.now.value }))
+            (Some (record { id = token.now.id; value = token.now.value }))
             true }
     {
-        Iter::with_own(&self.buckets, published.id(), self.value(published))
+        Iter::with_own(&self.buckets, token.id(), self.value(token))
     }
 
     /// The value that a token's slot was published with. It can't fail, and is one atomic load, of
     /// the bucket's pointer. Rust's crate has no such call.
-    pub fn value<'a>(&'a self, published: &Published<T>) -> &'a T
-        requires sharing { published.now.sharing ≡ self.now.sharing }
+    pub fn value<'a>(&'a self, token: &Token<T>) -> &'a T
+        requires sharing { token.now.sharing ≡ self.now.sharing }
         requires named { IsSome self.now.sharing }
-        ensures { result.now ≡ published.now.value }
+        ensures { result.now ≡ token.now.value }
     {
-        self.buckets.value(published)
+        self.buckets.value(token)
     }
 }
 

@@ -12,7 +12,7 @@ use prog.Capped.{capped_is}
 use prog.Align.{up-ge, align_w, align-bytes}
 use Rattle.thread_local_lemmas.specs.Bits.{is_set, is_set_in, IsWordBut}
 use Rattle.thread_local_lemmas.proofs.Words.{is_set_in-set, is_set_in-zeros, get_or-push_zero, is_set_in-push_zero}
-use Rattle.thread_local_blocks.specs.Slots.{empty_slots, slot_value, chunks, AreFlagsFrom, AreFlags, stride, value_words, slots_ty, Fits, word_number}
+use Rattle.thread_local_blocks.specs.Slots.{empty_slots, slot_value, chunks, AreFlagsFrom, AreFlags, stride, value_words, slots_ty, Fits, flag_word_at}
 
 -- ---- how many chunks there are
 
@@ -68,7 +68,7 @@ module _ (R : RattleType) where
   value_near n j fits near = let most : j * stride R ≤ n * stride R = mul-le-mul_right (stride R) (le_of_lt near) in let less = words_near n 0 fits (omega arith) in omega arith
 
   -- what code computes is the number of the word
-  pub number_is : (n c : ℕ) → Fits R n → c ≤ chunks n → word_number R n c ≡ value_words R n + c
+  pub number_is : (n c : ℕ) → Fits R n → c ≤ chunks n → flag_word_at R n c ≡ value_words R n + c
   number_is n c fits near = let less = words_near n c fits near in let plain : n * capped (stride R) ≡ n * stride R = uncapped n (stride R) (omega arith) in omega arith
 
 -- ---- what the words say

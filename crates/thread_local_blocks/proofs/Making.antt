@@ -3,7 +3,7 @@
 use Rattle.thread_local_lemmas.proofs.Names.{◌≡◌, ℕ, suc, ◌+◌, List, [], ◌∷◌, ◌++◌, length, length-append, sym, refl, ap, ◌∙◌, subst, arith, w64, Option, None, Ura, Ty, ty_int, SProp, ent, sep, wand, guard, Fml, ftrue, froom, Logic, sem, ‵, ◌⊛◌, ◌$◌, ◌∵◌, !, qed, move, drop, split3, fsplit, fsplit3, fjoin, fpick, fpack, check, frame, assume, use1, use2, rewrite, done, RattleType, Ptr, block_ptr, block_of, count_of, InBlock, nothing, word}
 use Rattle.std.specs.Prelude.{replicate}
 use Rattle.std.proofs.lemmas.List.{length-replicate}
-use Rattle.thread_local_blocks.specs.Slots.{empty_slots, chunks, AreFlags, Fits, each, word_at, flags_at, flag_room, flags_own, slot, back, block_ty, block_owns}
+use Rattle.thread_local_blocks.specs.Slots.{empty_slots, chunks, AreFlags, Fits, each, word_offset, flags_at, flag_room, flags_own, slot, back, block_ty, block_owns}
 use Rattle.thread_local_blocks.proofs.Flags.{flags_none, flags_more}
 use Rattle.thread_local_blocks.proofs.Slots.{IsWordNear, word_is_near}
 use Rattle.thread_local_blocks.proofs.Rooms.{each_joined, block_cut}
@@ -48,10 +48,10 @@ module _ {M : Type 1} {𝓤 : Ura M} (𝓛 : Logic 𝓤) (R : RattleType) where
 
     -- the flags of the next chunk are made once its word is 0
     abbrev pub Filled : Ptr → List C → ℕ → ℕ → Pr
-    Filled p cs left c = ⟦ word (block_of p) (word_at R (length cs) (count_of p) c) 0 ⟧ -∗ ⟦ Owns p cs left ⟧
+    Filled p cs left c = ⟦ word (block_of p) (word_offset R (length cs) (count_of p) c) 0 ⟧ -∗ ⟦ Owns p cs left ⟧
 
     pub next_room : (p : Ptr) (cs : List C) (left c : ℕ) → c + suc left ≡ chunks (length cs)
-        → ⟦ Owns p cs (suc left) ⟧ ⊢ guard 𝓤 (InBlock p × IsWordNear R (length cs) c) (H.room (ty_int w64) (block_of p) (word_at R (length cs) (count_of p) c) ∗ Filled p cs left c)
+        → ⟦ Owns p cs (suc left) ⟧ ⊢ guard 𝓤 (InBlock p × IsWordNear R (length cs) c) (H.room (ty_int w64) (block_of p) (word_offset R (length cs) (count_of p) c) ∗ Filled p cs left c)
     next_room p cs left c is = let b : ℕ = block_of p in let o : ℕ = count_of p in let n : ℕ = length cs in let words : List ℕ → ℕ → Fml = each (flags_at R n b o) in
         qed 𝓛 (‵ (Owns p cs (suc left)) ∷ []) ∵ fsplit3 ! $ fpick ! (λ so. drop ! $ check ! (so.0, word_is_near R n c so.1 (omega arith)) $ fpick ! (λ ns. fsplit3 ! $ fpick ! (λ are. drop ! $
         let here : length ns ≡ c = (let z = are.0 in omega arith) in let ms : List ℕ = ns ++ 0 ∷ [] in let long : length ms ≡ suc c = length-append ns (0 ∷ []) ∙ (omega arith) in let ends : c ≡ length ns + 0 = omega arith in

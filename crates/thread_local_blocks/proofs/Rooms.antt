@@ -5,7 +5,7 @@ use Rattle.std.specs.Prelude.{replicate}
 use prog.Memory.{size, up, align}
 use prog.RawLaws.{size-raw, align-raw}
 use Rattle.thread_local_blocks.proofs.Flags.{values_start, words_start}
-use Rattle.thread_local_blocks.specs.Slots.{empty_slots, chunks, each, stride, value_words, block_ty, word_at, value_offset, flags_at, flag_room, slot, back}
+use Rattle.thread_local_blocks.specs.Slots.{empty_slots, chunks, each, stride, value_words, block_ty, word_offset, value_offset, flags_at, flag_room, slot, back}
 
 module _ {M : Type 1} {𝓤 : Ura M} (𝓛 : Logic 𝓤) where
   abbrev Pr : Type 2
@@ -60,13 +60,13 @@ module _ {M : Type 1} {𝓤 : Ura M} (𝓛 : Logic 𝓤) where
 
     -- a word is room for one
     word_room : (word c : ℕ) → ⟦ flags_at R n b o word c ⟧ ⊢ ⟦ flag_room R n b o 0 c ⟧
-    word_room word c = 𝓛.laws.at_room (ty_int w64) b (word_at R n o c) (vint w64 word)
+    word_room word c = 𝓛.laws.at_room (ty_int w64) b (word_offset R n o c) (vint w64 word)
 
     pub words_room : (ns : List ℕ) (c : ℕ) → ⟦ each (flags_at R n b o) ns c ⟧ ⊢ ⟦ each (flag_room R n b o) (replicate (length ns) 0) c ⟧
     words_room [] c = qed 𝓛 (‵ ftrue ∷ []) ∵ done !
     words_room (word ∷ ns) c = qed 𝓛 (‵ (flags_at R n b o word c) ∷ ‵ (each (flags_at R n b o) ns (suc c)) ∷ []) ∵ use1 𝓛 (‵ (flag_room R n b o 0 c)) (word_room word c) $ frame ! $ by ! (words_room ns (suc c))
 
-    next_word : (c : ℕ) → word_at R n o c + 8 ≡ word_at R n o (suc c)
+    next_word : (c : ℕ) → word_offset R n o c + 8 ≡ word_offset R n o (suc c)
     next_word c = omega arith
 
     next_value : (j : ℕ) → value_offset R o j + size τ ≡ value_offset R o (suc j)
@@ -77,7 +77,7 @@ module _ {M : Type 1} {𝓤 : Ura M} (𝓛 : Logic 𝓤) where
     Values = froom (ty_array τ n) b (value_offset R o 0)
 
     abbrev Flags : Fml
-    Flags = froom (ty_array (ty_int w64) (chunks n)) b (word_at R n o 0)
+    Flags = froom (ty_array (ty_int w64) (chunks n)) b (word_offset R n o 0)
 
     abbrev Parts : Fml
     Parts = fsep Values (fsep Flags ftrue)
@@ -86,8 +86,8 @@ module _ {M : Type 1} {𝓤 : Ura M} (𝓛 : Logic 𝓤) where
     spreads = let X : Pr = 𝓛.H.room (block_ty R n) b o in let k : ℕ = chunks n in let a : ℕ = align τ in let z : ℕ = up a 0 in let at : ℕ × ℕ → Fml = λ u. fsep (froom (ty_array τ n) b u.0) (fsep (froom (ty_array (ty_int w64) k) b u.1) ftrue) in
         let raws : z ≡ up (align (lone R.mir)) 0 = ap (λ (e : ℕ). up e 0) (align-raw (lone R.mir)) in
         let first : o + z ≡ value_offset R o 0 = (let s : z ≡ 0 = raws ∙ values_start R in omega (arith, zero-mul (stride R))) in
-        let w : ℕ = up 8 (z + n * size τ) in let second : o + w ≡ word_at R n o 0 = (let s : w ≡ value_words R n * 8 = (λ i. up 8 (raws i + n * size-raw (lone R.mir) i)) ∙ words_start R n in omega arith) in
-        subst (λ (u : ℕ × ℕ). X ⊢ ⟦ at u ⟧ ∗ (⟦ at u ⟧ -∗ X)) {x = (o + z, o + w)} {y = (value_offset R o 0, word_at R n o 0)} (λ i. (first i, second i)) (𝓛.laws.room_fields [] (tcons (ty_array τ n) (tcons (ty_array (ty_int w64) k) tnil)) b o)
+        let w : ℕ = up 8 (z + n * size τ) in let second : o + w ≡ word_offset R n o 0 = (let s : w ≡ value_words R n * 8 = (λ i. up 8 (raws i + n * size-raw (lone R.mir) i)) ∙ words_start R n in omega arith) in
+        subst (λ (u : ℕ × ℕ). X ⊢ ⟦ at u ⟧ ∗ (⟦ at u ⟧ -∗ X)) {x = (o + z, o + w)} {y = (value_offset R o 0, word_offset R n o 0)} (λ i. (first i, second i)) (𝓛.laws.room_fields [] (tcons (ty_array τ n) (tcons (ty_array (ty_int w64) k) tnil)) b o)
 
     abbrev Slots : Fml
     Slots = each (slot R b o) (empty_slots n) 0
@@ -102,10 +102,10 @@ module _ {M : Type 1} {𝓤 : Ura M} (𝓛 : Logic 𝓤) where
     values_together = together (slot R b o) None τ b (value_offset R o) next_value (λ j. id⊢ 𝓤 _) n 0
 
     words_apart : ⟦ Flags ⟧ ⊢ ⟦ FlagWords ⟧
-    words_apart = apart (flag_room R n b o) 0 (ty_int w64) b (word_at R n o) next_word (λ c. id⊢ 𝓤 _) (chunks n) 0
+    words_apart = apart (flag_room R n b o) 0 (ty_int w64) b (word_offset R n o) next_word (λ c. id⊢ 𝓤 _) (chunks n) 0
 
     words_together : ⟦ FlagWords ⟧ ⊢ ⟦ Flags ⟧
-    words_together = together (flag_room R n b o) 0 (ty_int w64) b (word_at R n o) next_word (λ c. id⊢ 𝓤 _) (chunks n) 0
+    words_together = together (flag_room R n b o) 0 (ty_int w64) b (word_offset R n o) next_word (λ c. id⊢ 𝓤 _) (chunks n) 0
 
     pub block_cut : 𝓛.H.room (block_ty R n) b o ⊢ ⟦ FlagWords ⟧ ∗ ⟦ Slots ⟧ ∗ ⟦ back R b o n ⟧
     block_cut = let X : Pr = 𝓛.H.room (block_ty R n) b o in qed 𝓛 (‵ (froom (block_ty R n) b o) ∷ []) ∵ use1 𝓛 (‵ Parts ⊛ raw (⟦ Parts ⟧ -∗ X)) spreads $ split ! $ fsplit3 ! $

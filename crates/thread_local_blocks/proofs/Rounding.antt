@@ -7,7 +7,7 @@ use mir.Val.{bytes}
 use prog.Memory.{size, align, up, capped}
 use prog.Capped.{capped_is, capped_small}
 use prog.Align.{align_w, align-bytes}
-use Rattle.thread_local_blocks.specs.Slots.{chunks, stride, value_words, slots_ty, Fits, word_number}
+use Rattle.thread_local_blocks.specs.Slots.{chunks, stride, value_words, slots_ty, Fits, flag_word_at}
 use Rattle.thread_local_blocks.proofs.Flags.{slots_size, words_near, number_is}
 
 -- the alignment of a block, by that of its values
@@ -40,10 +40,10 @@ module _ (R : RattleType) where
   aligned_fits = ⊎_elim (λ e. omega arith) (λ e. omega arith) aligned
 
   -- ---- what the code adds up
-  pub bytes_counted : (n : ℕ) → Fits R n → let a : ℕ = align (slots_ty R 64) in let end : ℕ = (word_number R n (chunks n) * 8 % 2 ^ 64 + (a - 1)) % 2 ^ 64 in end - end % a ≡ size (slots_ty R n)
+  pub bytes_counted : (n : ℕ) → Fits R n → let a : ℕ = align (slots_ty R 64) in let end : ℕ = (flag_word_at R n (chunks n) * 8 % 2 ^ 64 + (a - 1)) % 2 ^ 64 in end - end % a ≡ size (slots_ty R n)
   bytes_counted n fits = let a : ℕ = align (slots_ty R 64) in let whole : ℕ = (value_words R n + chunks n) * 8 in let near : whole < 2 ^ 63 = words_near R n (chunks n) fits (omega arith) in
       let number = number_is R n (chunks n) fits (omega arith) in
-      let end : (word_number R n (chunks n) * 8 % 2 ^ 64 + (a - 1)) % 2 ^ 64 ≡ whole + (a - 1) = ⊎_elim (λ (e : a ≡ 8). omega arith) (λ (e : a ≡ 16). omega arith) aligned in
+      let end : (flag_word_at R n (chunks n) * 8 % 2 ^ 64 + (a - 1)) % 2 ^ 64 ≡ whole + (a - 1) = ⊎_elim (λ (e : a ≡ 8). omega arith) (λ (e : a ≡ 16). omega arith) aligned in
       ap (λ (z : ℕ). z - z % a) end ∙ sym (sized n)
 
   pub fits_by : (n : ℕ) → n < 2 ^ 64 → n * capped (stride R) < 2 ^ 58 → Fits R n

@@ -5,7 +5,7 @@ use Rattle.std.proofs.Common.{true≢false, ⊎_elim}
 use Rattle.std.proofs.lemmas.Bool.{eq-eqb, ne_eqb, cases_eq}
 use Rattle.std.proofs.lemmas.List.{get_or-set_same, get_or-set_other, set-get_or}
 use Rattle.thread_local_lemmas.specs.Bits.{is_set, IsWordBut}
-use Rattle.thread_local_blocks.specs.Slots.{slot_value, chunks, stride, value_words, Fits, word_number, AreFlags, each, flags_at, slot, back, flags_own, block_ty, block_owns}
+use Rattle.thread_local_blocks.specs.Slots.{slot_value, chunks, stride, value_words, Fits, flag_word_at, AreFlags, each, flags_at, slot, back, flags_own, block_ty, block_owns}
 use Rattle.thread_local_blocks.proofs.Each.{Put, each_at}
 use Rattle.thread_local_blocks.proofs.Flags.{in_chunks, chunk_in, word_near, value_near, number_is, flag_read, flags_set}
 
@@ -25,7 +25,7 @@ pub record IsWordOf {X : Type 0} (slots : List (Option X)) (chunk word : ℕ) : 
 
 -- a chunk's word is inside a block of n slots, and code finds it
 pub record IsWordNear (R : RattleType) (n chunk : ℕ) : Type 0 where
-  pub number : word_number R n chunk ≡ value_words R n + chunk
+  pub number : flag_word_at R n chunk ≡ value_words R n + chunk
   pub near : (value_words R n + chunk) * 8 < 2 ^ 64
 
 -- what is known of a chunk's word in a block

@@ -79,13 +79,13 @@ module _ (R : RattleType) where
   Fits n = size (slots_ty n) < 2 ^ 63
 
   -- the offset of a chunk's word, for a block of n slots at offset o
-  abbrev pub word_at : ℕ → ℕ → ℕ → ℕ
-  word_at n o c = (value_words n + c) * 8 + o
+  abbrev pub word_offset : ℕ → ℕ → ℕ → ℕ
+  word_offset n o c = (value_words n + c) * 8 + o
 
   -- the number of that word from the start of the block, as code computes it: for a block that
   -- fits, this is how many words are before it
-  abbrev pub word_number : ℕ → ℕ → ℕ
-  word_number n c = ((n * capped stride % 2 ^ 64 + 7) % 2 ^ 64 / 8 + c) % 2 ^ 64
+  abbrev pub flag_word_at : ℕ → ℕ → ℕ
+  flag_word_at n c = ((n * capped stride % 2 ^ 64 + 7) % 2 ^ 64 / 8 + c) % 2 ^ 64
 
   -- the offset of the value of slot j, for a block at offset o
   abbrev pub value_offset : ℕ → ℕ → ℕ
@@ -99,10 +99,10 @@ module _ (R : RattleType) where
   module _ (n b o : ℕ) where
     -- a chunk's word in a block of n slots, and the room for one
     abbrev pub flags_at : ℕ → ℕ → Fml
-    flags_at word c = atomic b (word_at n o c) word
+    flags_at word c = atomic b (word_offset n o c) word
 
     abbrev pub flag_room : ℕ → ℕ → Fml
-    flag_room word c = froom (ty_int w64) b (word_at n o c)
+    flag_room word c = froom (ty_int w64) b (word_offset n o c)
 
   module _ (b o : ℕ) where
     -- the value of slot j, or the room for one

@@ -3,10 +3,10 @@ ghost use Rattle.std.specs.Prelude.{◌≡◌, ℕ, ◌+◌, ◌<◌, List, leng
 ghost use prog.Memory.{size};
 ghost use base.Stored.{coded_list};
 ghost use Rattle.std.specs.Coded.{coded_option};
-ghost use Rattle.thread_local_blocks.specs.Slots.{block_owns, chunks, slots_ty, word_number, Fits, empty_slots};
+ghost use Rattle.thread_local_blocks.specs.Slots.{block_owns, chunks, slots_ty, flag_word_at, Fits, empty_slots};
 
 use crate::bytes::{bytes_of_block, chunk_count, fits};
-use crate::chunk::{Chunk, flag_word};
+use crate::chunk::{Chunk, flag_word_at};
 use crate::retired::RetiredBlock;
 use std::alloc::{AllocError, Allocator};
 use std::marker::{Model, PhantomData};
@@ -44,18 +44,18 @@ impl<T, A: Allocator> Block<T, A> {
         }
     }
 
-    /// Makes the flags of the next chunk, none of them set. `word` is the number of their word.
+    /// Makes the flags of the next chunk, none of them set. `flag_word` is the number of their word.
     #[inline]
-    fn push(&mut self, chunk: usize, word: usize)
+    fn push(&mut self, chunk: usize, flag_word: usize)
         requires next { (chunk + self.old.left ≡ chunks (length self.old.slots)) × (0 < self.old.left) }
-        requires word { word ≡ word_number T.row (length self.old.slots) chunk }
+        requires flag_word { flag_word ≡ flag_word_at T.row (length self.old.slots) chunk }
         ensures { (self.new.heap ≡ self.old.heap)
             × (self.new.slots ≡ self.old.slots)
             × (self.new.left + 1 ≡ self.old.left) }
     {
         let _ = chunk;
         unsafe {
-            (self.at as *mut u64).add(word).write(0);
+            (self.at as *mut u64).add(flag_word).write(0);
         }
     }
 
@@ -69,7 +69,7 @@ impl<T, A: Allocator> Block<T, A> {
         }
         let mut block = Block::allocate(alloc, len, bytes_of_block::<T>(len))?;
         'chunks: for chunk in 0..chunk_count(len) {
-            block.push(chunk, flag_word::<T>(len, chunk));
+            block.push(chunk, flag_word_at::<T>(len, chunk));
         }
         Ok(block)
     }

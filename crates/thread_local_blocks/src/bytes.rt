@@ -4,7 +4,7 @@ ghost use Rattle.std.specs.Prelude.{◌≡◌, true};
 ghost use prog.Memory.{align, size};
 ghost use Rattle.thread_local_blocks.specs.Slots.{chunks, slots_ty, Fits};
 
-use crate::chunk::{Chunk, flag_word, value_size};
+use crate::chunk::{Chunk, flag_word_at, value_size};
 use std::mem::align_of;
 
 /// The values of a block take fewer bytes than this. A block, with its flags and padding, then
@@ -35,7 +35,7 @@ pub(crate) fn bytes_of_block<T>(len: usize) -> usize
     ensures { Fits T.row len → result ≡ size (slots_ty T.row len) }
 {
     let align = block_align::<T>();
-    let end = flag_word::<T>(len, chunk_count(len))
+    let end = flag_word_at::<T>(len, chunk_count(len))
         .wrapping_mul(8)
         .wrapping_add(align - 1);
     end - end % align

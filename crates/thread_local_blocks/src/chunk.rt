@@ -2,7 +2,7 @@
 //! of 64 slots.
 ghost use Rattle.std.specs.Prelude.{◌≡◌};
 ghost use prog.Memory.{capped};
-ghost use Rattle.thread_local_blocks.specs.Slots.{stride, word_number};
+ghost use Rattle.thread_local_blocks.specs.Slots.{stride, flag_word_at};
 
 use std::mem::size_of;
 
@@ -24,8 +24,8 @@ pub fn value_size<T>() -> usize
 /// The number of the word that has a chunk's flags, counted from the start of a block of `len`
 /// slots. It means nothing where such a block would be too large.
 #[inline]
-pub fn flag_word<T>(len: usize, chunk: usize) -> usize
-    ensures { result ≡ word_number T.row len chunk }
+pub fn flag_word_at<T>(len: usize, chunk: usize) -> usize
+    ensures { result ≡ flag_word_at T.row len chunk }
 {
     let bytes = len.wrapping_mul(value_size::<T>());
     (bytes.wrapping_add(7) / 8).wrapping_add(chunk)

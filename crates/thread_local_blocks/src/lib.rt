@@ -8,5 +8,5 @@ mod chunk;
 mod retired;
 
 pub use block::Block;
-pub use chunk::{Chunk, flag_word, value_size};
+pub use chunk::{Chunk, flag_word_at, value_size};
 pub use retired::RetiredBlock;

@@ -3,13 +3,13 @@
 ghost use Rattle.std.specs.Prelude.{◌≡◌, ℕ, ◌+◌, ◌/◌, ◌<◌, List, [], length, take, drop, Option, Some, is_some, IsSome, if◌then◌else◌};
 ghost use base.Stored.{coded_list};
 ghost use Rattle.std.specs.Coded.{coded_option};
-ghost use Rattle.thread_local_blocks.specs.Slots.{slot_value, empty_slots, slots_ty, word_number, Fits};
+ghost use Rattle.thread_local_blocks.specs.Slots.{slot_value, empty_slots, slots_ty, flag_word_at, Fits};
 ghost use prog.Memory.{size};
 ghost use Rattle.thread_local_blocks.specs.Retired.{retired_owns, rest};
 
 use crate::block::Block;
 use crate::bytes::bytes_of_block;
-use crate::chunk::{Chunk, flag_word};
+use crate::chunk::{Chunk, flag_word_at};
 use std::alloc::Allocator;
 use std::marker::{Model, PhantomData};
 use std::mem::align_of;
@@ -52,16 +52,16 @@ impl<T, A: Allocator> RetiredBlock<T, A> {
     /// Whether the next slot has a value, by its flag in the word of this number. A slot without
     /// one becomes room.
     #[inline]
-    fn is_next_published(&mut self, index: usize, word: usize) -> bool
+    fn is_next_published(&mut self, index: usize, flag_word: usize) -> bool
         requires next { (index ≡ self.old.gone) × (0 < length self.old.slots) }
-        requires word { word ≡ word_number T.row (self.old.gone + length self.old.slots) (index / 64) }
+        requires flag_word { flag_word ≡ flag_word_at T.row (self.old.gone + length self.old.slots) (index / 64) }
         ensures value { result ≡ is_some (slot_value self.old.slots 0) }
         ensures after { (self.new.heap ≡ self.old.heap)
             × (self.new.slots ≡ (if result then self.old.slots else rest self.old.slots))
             × (self.new.gone ≡ (if result then self.old.gone else self.old.gone + 1)) }
     {
         unsafe {
-            let flags = *(self.at as *mut u64).add(word);
+            let flags = *(self.at as *mut u64).add(flag_word);
             (flags >> (index % 64)) & 1 == 1
         }
     }
@@ -110,7 +110,7 @@ impl<T: Drop, A: Allocator> RetiredBlock<T, A> {
             × (self.new.slots ≡ rest self.old.slots)
             × (self.new.gone ≡ self.old.gone + 1) }
     {
-        if self.is_next_published(index, flag_word::<T>(len, index / 64)) {
+        if self.is_next_published(index, flag_word_at::<T>(len, index / 64)) {
             drop(self.move_next(index));
         }
     }

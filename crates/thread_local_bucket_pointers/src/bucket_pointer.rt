@@ -3,13 +3,13 @@ ghost use Rattle.std.specs.Prelude.{◌≡◌, ◌⊎◌, ℕ, ◌+◌, ◌*◌,
 ghost use base.Stored.{coded_list};
 ghost use Rattle.std.specs.Coded.{coded_option};
 ghost use Rattle.thread_local_lemmas.specs.Bits.{is_set};
-ghost use Rattle.thread_local_blocks.specs.Slots.{heap_token, slot_value, empty_slots, word_number};
+ghost use Rattle.thread_local_blocks.specs.Slots.{heap_token, slot_value, empty_slots, flag_word_at};
 ghost use Rattle.thread_local_bucket_pointers.specs.PointerOwns.{pointer_owns};
 
 use std::alloc::Global;
 use std::marker::{Model, PhantomData};
 use std::ptr::null_mut;
-use thread_local_blocks::{Block, Chunk, RetiredBlock, flag_word};
+use thread_local_blocks::{Block, Chunk, RetiredBlock, flag_word_at};
 
 mod lends;
 
@@ -68,66 +68,66 @@ impl<T> BucketPointer<T> {
 
     /// Whether the slot has a value, by its flag in the word of this number.
     #[inline]
-    pub fn is_published(&mut self, index: usize, word: usize) -> bool
+    pub fn is_published(&mut self, index: usize, flag_word: usize) -> bool
         requires in_block { index < length self.old.slots }
-        requires word { word ≡ word_number T.row (length self.old.slots) (index / 64) }
+        requires flag_word { flag_word ≡ flag_word_at T.row (length self.old.slots) (index / 64) }
         ensures value { result ≡ is_some (slot_value self.old.slots index) }
         ensures same { self.new ≡ self.old }
     {
-        let flags = self.flags(index / 64, word);
+        let flags = self.flags(index / 64, flag_word);
         flags >> (index % 64) & 1 == 1
     }
 
     /// The flags of a chunk's slots, a bit each: the word of this number. The bits past the last
     /// slot are 0.
     #[inline]
-    pub fn flags(&mut self, chunk: usize, word: usize) -> u64
+    pub fn flags(&mut self, chunk: usize, flag_word: usize) -> u64
         requires in_block { chunk * 64 < length self.old.slots }
-        requires word { word ≡ word_number T.row (length self.old.slots) chunk }
+        requires flag_word { flag_word ≡ flag_word_at T.row (length self.old.slots) chunk }
         ensures value { (bit : ℕ)
             → bit < 64
             → is_set result bit ≡ is_some (slot_value self.old.slots (chunk * 64 + bit)) }
         ensures same { self.new ≡ self.old }
     {
         let _ = chunk;
-        unsafe { *(self.at as *mut u64).add(word) }
+        unsafe { *(self.at as *mut u64).add(flag_word) }
     }
 
     /// Puts a value into an empty slot, and then sets its flag, in the word of this number.
     #[inline]
-    pub fn publish(&mut self, index: usize, word: usize, value: T)
+    pub fn publish(&mut self, index: usize, flag_word: usize, value: T)
         requires in_block { index < length self.old.slots }
-        requires word { word ≡ word_number T.row (length self.old.slots) (index / 64) }
+        requires flag_word { flag_word ≡ flag_word_at T.row (length self.old.slots) (index / 64) }
         requires empty { slot_value self.old.slots index ≡ None }
         ensures { self.new.slots ≡ slice_set self.old.slots index (Some value) }
     {
         let at = self.at;
         unsafe {
             (at as *mut T).add(index).write(value);
-            let flags = (at as *mut u64).add(word);
+            let flags = (at as *mut u64).add(flag_word);
             *flags |= 1 << (index % 64);
         }
     }
 
     /// Clears the flag of a slot, in the word of this number, and then moves its value out.
     #[inline]
-    pub fn take(&mut self, index: usize, word: usize) -> T
+    pub fn take(&mut self, index: usize, flag_word: usize) -> T
         requires in_block { index < length self.old.slots }
-        requires word { word ≡ word_number T.row (length self.old.slots) (index / 64) }
+        requires flag_word { flag_word ≡ flag_word_at T.row (length self.old.slots) (index / 64) }
         requires published { IsSome (slot_value self.old.slots index) }
         ensures value { slot_value self.old.slots index ≡ Some result }
         ensures after { self.new.slots ≡ slice_set self.old.slots index None }
     {
-        let flags = self.flags(index / 64, word);
-        self.take_and_store(index, word, flags & !(1 << (index % 64)))
+        let flags = self.flags(index / 64, flag_word);
+        self.take_and_store(index, flag_word, flags & !(1 << (index % 64)))
     }
 
     /// Stores `flags` as the word of this number, which is the slot's, and then moves the slot's
     /// value out. `flags` are those of the slot's chunk, with this slot's cleared.
     #[inline]
-    pub fn take_and_store(&mut self, index: usize, word: usize, flags: u64) -> T
+    pub fn take_and_store(&mut self, index: usize, flag_word: usize, flags: u64) -> T
         requires in_block { index < length self.old.slots }
-        requires word { word ≡ word_number T.row (length self.old.slots) (index / 64) }
+        requires flag_word { flag_word ≡ flag_word_at T.row (length self.old.slots) (index / 64) }
         requires published { IsSome (slot_value self.old.slots index) }
         requires flags { (bit : ℕ)
             → bit < 64
@@ -138,7 +138,7 @@ impl<T> BucketPointer<T> {
     {
         let at = self.at;
         unsafe {
-            (at as *mut u64).add(word).write(flags);
+            (at as *mut u64).add(flag_word).write(flags);
             (at as *mut T).add(index).read()
         }
     }
@@ -151,9 +151,9 @@ impl<T: Drop> BucketPointer<T> {
         ensures { self.new.slots ≡ empty_slots len }
     {
         'slots: for index in 0..len {
-            let word = flag_word::<T>(len, index / 64);
-            if self.is_published(index, word) {
-                drop(self.take(index, word));
+            let flag_word = flag_word_at::<T>(len, index / 64);
+            if self.is_published(index, flag_word) {
+                drop(self.take(index, flag_word));
             }
         }
     }

@@ -8,7 +8,7 @@ ghost use Rattle.thread_local_cursor.specs.Cursor.{AreFlagsAt};
 use crate::pointer_array::PointerArray;
 use std::alloc::{AllocError, Global};
 use std::marker::Model;
-use thread_local_blocks::{Block, flag_word};
+use thread_local_blocks::{Block, flag_word_at};
 use thread_local_cursor::FlagSource;
 use thread_local_thread_id::{Thread, bucket_size};
 
@@ -90,8 +90,8 @@ impl<T> BucketPointers<T> {
         ensures table { IsTable self.old }
         ensures same { self.new ≡ self.old }
     {
-        let word = flag_word::<T>(bucket_size(bucket), index / 64);
-        self.pointers.pointer_mut(bucket).is_published(index, word)
+        let flag_word = flag_word_at::<T>(bucket_size(bucket), index / 64);
+        self.pointers.pointer_mut(bucket).is_published(index, flag_word)
     }
 
     /// The flags of a chunk's slots, a bit each. The bits past the last slot are 0.
@@ -105,8 +105,8 @@ impl<T> BucketPointers<T> {
         ensures table { IsTable self.old }
         ensures same { self.new ≡ self.old }
     {
-        let word = flag_word::<T>(bucket_size(bucket), chunk);
-        self.pointers.pointer_mut(bucket).flags(chunk, word)
+        let flag_word = flag_word_at::<T>(bucket_size(bucket), chunk);
+        self.pointers.pointer_mut(bucket).flags(chunk, flag_word)
     }
 
     /// Publishes a value in the slot of a place, which must be empty.
@@ -116,10 +116,10 @@ impl<T> BucketPointers<T> {
         requires empty { value_in self.old thread.bucket thread.index ≡ None }
         ensures after { self.new ≡ with_slot self.old thread.bucket thread.index (Some value) }
     {
-        let word = flag_word::<T>(bucket_size(thread.bucket), thread.index / 64);
+        let flag_word = flag_word_at::<T>(bucket_size(thread.bucket), thread.index / 64);
         self.pointers
             .pointer_mut(thread.bucket)
-            .publish(thread.index, word, value);
+            .publish(thread.index, flag_word, value);
     }
 
     /// Stores `flags` for a slot's chunk, and then moves the slot's value out. `flags` are the
@@ -134,10 +134,10 @@ impl<T> BucketPointers<T> {
         ensures value { value_in self.old bucket index ≡ Some result }
         ensures after { self.new ≡ with_slot self.old bucket index None }
     {
-        let word = flag_word::<T>(size, index / 64);
+        let flag_word = flag_word_at::<T>(size, index / 64);
         self.pointers
             .pointer_mut(bucket)
-            .take_and_store(index, word, flags)
+            .take_and_store(index, flag_word, flags)
     }
 }
 

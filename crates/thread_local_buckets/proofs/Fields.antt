@@ -65,8 +65,8 @@ the_value_is (Some x) e = refl
 
 module _ (R : RattleType) where
   -- the address of a slot's value, from that of an earlier slot's value
-  pub value_apart : (o first place : ℕ) → place * stride R + value_offset R o first ≡ value_offset R o (first + place)
-  value_apart o first place = omega (arith, add-mul first place (stride R))
+  pub value_apart : (o first bit : ℕ) → bit * stride R + value_offset R o first ≡ value_offset R o (first + bit)
+  value_apart o first bit = omega (arith, add-mul first bit (stride R))
 
-  pub place_fits : (n first place : ℕ) → Fits R n → first + place < n → place * stride R < 2 ^ 64
-  place_fits n first place fits near = omega (arith, value_near R n (first + place) fits near, add-mul first place (stride R))
+  pub distance_fits : (n first bit : ℕ) → Fits R n → first + bit < n → bit * stride R < 2 ^ 64
+  distance_fits n first bit fits near = omega (arith, value_near R n (first + bit) fits near, add-mul first bit (stride R))

@@ -80,9 +80,9 @@ impl<'a, T> Iterator for EntriesMut<'a, T> {
             return None;
         }
         lead(&mut self.loan, &mut self.cursor);
-        let place = self.cursor.pass(&mut self.loan);
-        let item = self.loan.give(place);
-        let index = self.cursor.raw.index - 64 + place;
+        let bit = self.cursor.pass(&mut self.loan);
+        let item = self.loan.give(bit);
+        let index = self.cursor.raw.index - 64 + bit;
         Some((index + (self.cursor.raw.bucket_size - 1), item))
     }
 

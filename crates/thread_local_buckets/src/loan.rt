@@ -8,12 +8,12 @@ ghost use Rattle.thread_local_model.specs.Rows.{value_in, with_slot};
 ghost use Rattle.thread_local_model.specs.Code.{contents_coded};
 ghost use types.Logic.{sem};
 ghost use Rattle.thread_local_lemmas.specs.Bits.{is_set};
-ghost use Rattle.thread_local_blocks.specs.Slots.{word_number};
+ghost use Rattle.thread_local_blocks.specs.Slots.{flag_word_at};
 ghost use Rattle.thread_local_buckets.specs.Lent.{loan_owns};
 ghost use Rattle.thread_local_buckets.specs.Given.{ends_with_item};
 
 use std::marker::{Model, PhantomData};
-use thread_local_blocks::{Chunk, flag_word};
+use thread_local_blocks::{Chunk, flag_word_at};
 use thread_local_cursor::FlagSource;
 use thread_local_thread_id::bucket_size;
 
@@ -75,16 +75,16 @@ impl<'a, T> Loan<'a, T> {
             → is_set result bit ≡ is_some (value_in self.old.contents bucket (chunk * 64 + bit)) }
         ensures table { IsTable self.old.contents }
     {
-        self.word_at(bucket, chunk, flag_word::<T>(bucket_size(bucket), chunk))
+        self.flags_at(bucket, chunk, flag_word_at::<T>(bucket_size(bucket), chunk))
     }
 
     /// The same, by the number of the chunk's word.
     #[inline]
-    fn word_at(&mut self, bucket: usize, chunk: usize, word: usize) -> u64
+    fn flags_at(&mut self, bucket: usize, chunk: usize, flag_word: usize) -> u64
         requires in_table { bucket < 63 }
         requires in_bucket { chunk * 64 < length (row self.old.contents bucket) }
         requires ahead { self.old.given ≤ id_at bucket (chunk * 64) }
-        requires word { word ≡ word_number T.row (2 ^ bucket) chunk }
+        requires flag_word { flag_word ≡ flag_word_at T.row (2 ^ bucket) chunk }
         ensures same { self.new ≡ self.old }
         ensures value { (bit : ℕ)
             → bit < 64
@@ -94,7 +94,7 @@ impl<'a, T> Loan<'a, T> {
         let _ = chunk;
         unsafe {
             let block = *self.pointers.add(bucket);
-            *(block as *const u64).add(word)
+            *(block as *const u64).add(flag_word)
         }
     }
 
@@ -117,23 +117,23 @@ impl<'a, T> Loan<'a, T> {
     }
 
     /// Gives the value of a slot of the chunk that was entered, for as long as the pointers are
-    /// lent. `place` is the slot's number in the chunk.
+    /// lent. `bit` is the number of the slot's flag in the chunk's word.
     #[inline]
-    pub fn give(&mut self, place: usize) -> &'a mut T
+    pub fn give(&mut self, bit: usize) -> &'a mut T
         requires in_table { self.old.bucket < 63 }
-        requires in_bucket { self.old.first + place < length (row self.old.contents self.old.bucket) }
-        requires ahead { self.old.given ≤ id_at self.old.bucket (self.old.first + place) }
-        requires published { IsSome (value_in self.old.contents self.old.bucket (self.old.first + place)) }
+        requires in_bucket { self.old.first + bit < length (row self.old.contents self.old.bucket) }
+        requires ahead { self.old.given ≤ id_at self.old.bucket (self.old.first + bit) }
+        requires published { IsSome (value_in self.old.contents self.old.bucket (self.old.first + bit)) }
         ensures* ends { sem 𝓛 (ends_with_item T.row self.old.name result.ghost_name self.new.name
-            self.old.bucket (self.old.first + place)) }
-        ensures value { value_in self.old.contents self.old.bucket (self.old.first + place) ≡ Some result.now }
+            self.old.bucket (self.old.first + bit)) }
+        ensures value { value_in self.old.contents self.old.bucket (self.old.first + bit) ≡ Some result.now }
         ensures contents { self.new.contents
-            ≡ with_slot self.old.contents self.old.bucket (self.old.first + place) None }
-        ensures given { self.new.given ≡ id_at self.old.bucket (self.old.first + place) + 1 }
+            ≡ with_slot self.old.contents self.old.bucket (self.old.first + bit) None }
+        ensures given { self.new.given ≡ id_at self.old.bucket (self.old.first + bit) + 1 }
         ensures bucket { self.new.bucket ≡ self.old.bucket }
         ensures first { self.new.first ≡ self.old.first }
     {
-        unsafe { &mut *self.values.add(place) }
+        unsafe { &mut *self.values.add(bit) }
     }
 }
 

@@ -22,7 +22,7 @@ use Rattle.thread_local_shared_bucket.specs.Shared as slots
 use Rattle.thread_local_shared_bucket.proofs.Inside.{Next, quietly}
 use Rattle.thread_local_shared_bucket.proofs.Inside as inside
 use Rattle.thread_local_shared_bucket.proofs.Steps as general
-use Rattle.thread_local_claim.specs.Known.{IsKnown}
+use Rattle.thread_local_claim.specs.Known.{HasLooked}
 use Rattle.thread_local_claim.specs.Claims.{ClaimFields, IsOf, IsKept, value_at, has_slot, has, has_at, claim_owns}
 use Rattle.thread_local_claim.proofs.Moves as moves
 use Rattle.thread_local_claim.proofs.Early as early
@@ -158,7 +158,7 @@ module _ {M : Type 1} {𝓤 : Ura M} (𝓛 : Logic 𝓤) (R : RattleType) (x : R
           nothing ! $ fpack ! (IsKept R state (Holding y)) (λ _. ftrue) kept_so $ fjoin ! $ check ! (ap (λ (o : Option R.Denot). elim o as (λ _. Learnt R.Denot) [ None ↦ Vacant | Some v ↦ Holding v ]) same) $ keep ! (0 ∷ 2 ∷ []) $ done !))))))
 
       -- what a claim that has looked holds is what is told of its id
-      pub agrees : (l : Learnt R.Denot) → IsKnown l → (q : Share) → ⟦ Own l ⟧ ∗ ⟦ Tells ⟧ ∗ A.lft β q ⊢ H.⇛ (Agreed q l)
+      pub agrees : (l : Learnt R.Denot) → HasLooked l → (q : Share) → ⟦ Own l ⟧ ∗ ⟦ Tells ⟧ ∗ A.lft β q ⊢ H.⇛ (Agreed q l)
       agrees Unknown known q = absurd known
       agrees Missing known q = never Missing q (Agreed q Missing) never_vain
       agrees Standing known q = absurd known

@@ -26,12 +26,12 @@ use denote.Struct.Owning.{shape}
 use Rattle.std.specs.contracts.marker.PhantomData as marker
 use Rattle.thread_local_model.specs.Place.{bucket_of, index_of, id_at}
 use Rattle.thread_local_model.proofs.PlaceLaws.{place-id_at}
-use Rattle.thread_local_blocks.specs.Slots.{stride, value_words, word_number, word_at, value_offset}
+use Rattle.thread_local_blocks.specs.Slots.{stride, value_words, flag_word_at, word_offset, value_offset}
 use Rattle.thread_local_blocks.proofs.Flags.{uncapped}
 use Rattle.thread_local_shared_bucket.specs.Shared.{BucketView, len, first}
 use Rattle.thread_local_lemmas.specs.Fact.{fact}
 use Rattle.thread_local_claim.specs.Known.{value_held}
-use Rattle.thread_local_claim.specs.Claims.{claim_fields, number_of_id, IsKept, shows_value, claim_shares}
+use Rattle.thread_local_claim.specs.Claims.{claim_fields, flag_word_of, IsKept, shows_value, claim_shares}
 use Rattle.thread_local_claim.specs.declared.claimed.ClaimedSlot as claim_value
 use Rattle.thread_local_claim.specs.contracts.claimed.ClaimedSlot as claim
 
@@ -43,9 +43,9 @@ pub lies_at : (R : RattleType) (d : BucketView) (id i : ℕ) → id ≡ i + firs
 lies_at R d id i is = at_index id i (2 ^ d.bucket - 1) is
 
 -- the number of the word that has the slot's flag
-pub number_in : (R : RattleType) (d : BucketView) (id i : ℕ) → id ≡ i + first R d → i < len R d → number_of_id R id ≡ word_number R (len R d) (i / 64)
+pub number_in : (R : RattleType) (d : BucketView) (id i : ℕ) → id ≡ i + first R d → i < len R d → flag_word_of R id ≡ flag_word_at R (len R d) (i / 64)
 number_in R d id i is near = let lies : id ≡ id_at d.bucket i = lies_at R d id i is in let at = place-id_at d.bucket i near in let bucket = ap bucket_of lies ∙ at.0 in let index = ap index_of lies ∙ at.1 in
-    λ j. word_number R (2 ^ bucket j) (index j / 64)
+    λ j. flag_word_at R (2 ^ bucket j) (index j / 64)
 
 -- what a claim keeps at run time
 pub record Kept : Type 0 where
@@ -122,7 +122,7 @@ lies_ahead R n i near = let most : i * stride R ≤ n * stride R = mul-le-mul_ri
 pub distance_fits : (R : RattleType) (n i : ℕ) → (value_words R n + i / 64) * 8 < 2 ^ 64 → distance R n i < 2 ^ 64
 distance_fits R n i near = omega arith
 
-pub leads_to_word : (R : RattleType) (n o i : ℕ) → i < n → distance R n i + value_offset R o i ≡ word_at R n o (i / 64)
+pub leads_to_word : (R : RattleType) (n o i : ℕ) → i < n → distance R n i + value_offset R o i ≡ word_offset R n o (i / 64)
 leads_to_word R n o i near = let ahead = lies_ahead R n i near in omega arith
 
 -- code multiplies by the capped size, which is the size itself where i * k fits in 64 bits

@@ -142,7 +142,7 @@ module _ {M : Type 1} {𝓤 : Ura M} (𝓛 : Logic 𝓤) where
       Told = tells R d.sharing c.id (Some x)
 
       abbrev Pinned : Fml
-      Pinned = slots.published R d.sharing c.id η x
+      Pinned = slots.pinned_and_told R d.sharing c.id η x
 
       -- the claim is put together again
       again : (j : Judged R) → ⟦ Kept ⟧ ∗ ⟦ Row ⟧ ∗ ⟦ Filled ⟧ ∗ ⟦ Pinned ⟧ ∗ ⟦ By j ⟧ ⊢ ⟦ C ⟧
@@ -203,7 +203,7 @@ module _ {M : Type 1} {𝓤 : Ura M} (𝓛 : Logic 𝓤) where
 
     lends_at : (q : Share) → ⟦ fbor ν C ⟧ ∗ A.lft ν q ⊢ H.⇛ ((⟦ fact (IsKept R state l) ⟧ ∗ ⟦ fact (InBlock c.at) ⟧ ∗ ⟦ Tells ⟧ ∗ ⟦ Saw ⟧) ∗ A.lft ν q)
     lends_at q = qed 𝓛 (‵ (fbor ν C) ∷ ‵ (flft ν q) ∷ []) ∵ updating ! $ bor_open ! tt $ move ! (1 ∷ []) $ fsplit ! $ fpick ! (λ told. move ! (1 ∷ []) $ fpick ! (λ z. fsplit ! $ fpick ! (λ of. move ! (1 ∷ []) $ fsplit ! $ move ! (1 ∷ []) $
-        fpick ! (λ s. fsplit ! $ fpick ! (λ at. drop ! $ fsplit ! $ move ! (1 ∷ []) $ fsplit3 ! $ let Known : Fml = slots.published R z.0.sharing c.id (name_at s.names c.index) x in
+        fpick ! (λ s. fsplit ! $ fpick ! (λ at. drop ! $ fsplit ! $ move ! (1 ∷ []) $ fsplit3 ! $ let Known : Fml = slots.pinned_and_told R z.0.sharing c.id (name_at s.names c.index) x in
         -- [filled; published; by; the row; kept; nothing; nothing; the open borrow]
         move ! (1 ∷ []) $ use1 𝓛 (‵ Known ⊛ ‵ Known) (pinned_dup told z of s at) $ split ! $ fsplit ! $ drop ! $ rewrite ! 0 (λ (k : Option ℕ). ‵ (tells R k c.id (Some x))) of.6 refl $
         -- [what is told; published; filled; by; the row; kept; nothing; nothing; the open borrow]

@@ -1,14 +1,14 @@
 -- What the number tells that a claim keeps for what it has learnt.
-use Rattle.std.proofs.Common.{◌≡◌, not, eqb, refl, is_some}
+use Rattle.std.proofs.Common.{◌≡◌, eqb, refl, is_some}
 use Rattle.thread_local_model.specs.Learnt.{Learnt, Unknown, Missing, Standing, Vacant, Holding}
-use Rattle.thread_local_claim.specs.Known.{is_found, state_of, value_held}
+use Rattle.thread_local_claim.specs.Known.{is_missing, state_of, value_held}
 
-pub found_by : {X : Type 0} (l : Learnt X) → not (eqb (state_of l) 0) ≡ is_found l
-found_by Unknown = refl
-found_by Missing = refl
-found_by Standing = refl
-found_by Vacant = refl
-found_by (Holding x) = refl
+pub missing_by : {X : Type 0} (l : Learnt X) → eqb (state_of l) 0 ≡ is_missing l
+missing_by Unknown = refl
+missing_by Missing = refl
+missing_by Standing = refl
+missing_by Vacant = refl
+missing_by (Holding x) = refl
 
 pub published_by : {X : Type 0} (l : Learnt X) → eqb (state_of l) 2 ≡ is_some (value_held l)
 published_by Unknown = refl

@@ -12,7 +12,7 @@ use denote.Steps.{nothing}
 use denote.RawPtr.{Ptr, block_ptr, block_of, count_of}
 use Rattle.std.specs.Sync.RawAtomic.{asks, always}
 use Rattle.thread_local_tokens.specs.Rights.{right_owns}
-use Rattle.thread_local_blocks.specs.Slots.{word_at, value_offset}
+use Rattle.thread_local_blocks.specs.Slots.{word_offset, value_offset}
 use Rattle.thread_local_lemmas.specs.Fact.{fact}
 use Rattle.thread_local_lemmas.specs.Bits.{is_set}
 use Rattle.thread_local_lemmas.proofs.Word.{add_shifted, same_bit}
@@ -85,7 +85,7 @@ module _ {M : Type 1} {𝓤 : Ura M} (𝓛 : Logic 𝓤) (R : RattleType) (d : B
 
   -- the address of the word that has the slot's flag
   abbrev pub chunk_word : Ptr
-  chunk_word = block_ptr b (word_at R (len R d) (count_of s.at) (i / 64))
+  chunk_word = block_ptr b (word_offset R (len R d) (count_of s.at) (i / 64))
 
   -- what a look at the flag takes from the word it loads, for the right or for the pass
   abbrev pub Finds : Bool → ℕ → Fml

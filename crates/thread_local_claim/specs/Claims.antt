@@ -15,7 +15,7 @@ use denote.RawPtr.{Ptr, InBlock, block_ptr, block_of, count_of}
 use denote.Sharing.{said, beside, within, some, held, nothing}
 use Rattle.thread_local_tokens.specs.Rights.{right_owns}
 use Rattle.thread_local_judged.specs.Judged.{Judged}
-use Rattle.thread_local_blocks.specs.Slots.{word_number, value_offset}
+use Rattle.thread_local_blocks.specs.Slots.{flag_word_at, value_offset}
 use Rattle.thread_local_lemmas.specs.Fact.{fact}
 use Rattle.thread_local_tokens.specs.Told.{tells}
 use Rattle.thread_local_shared_bucket.specs.Shared.{name_at, BucketView, Turn, StandingBlock, holds, first, len, kept, loaded}
@@ -34,21 +34,21 @@ pub record ClaimFields : Type 0 where
 abbrev pub claim_fields : ℕ → ℕ → Ptr → Ptr → Option ℕ → Bool → ClaimFields
 claim_fields id index bucket at sharing reserved = record { id = id; index = index; bucket = bucket; at = at; sharing = sharing; reserved = reserved }
 
--- what a claim has before it has found the bucket: its right, or the pass of its slot once it has
--- looked in vain
+-- what a claim has where it has found no bucket: its right, or the pass of its slot once it has
+-- looked
 abbrev pub waits : Bool → GName → GName → ℕ → Fml
 waits false table pass id = right_owns table id
 waits true table pass id = right_owns pass id
 
--- what a look at the slot tells: the flag tells whether the slot holds a value, and a claim that
--- has looked in vain finds it empty
+-- what a look at the slot tells: the flag tells whether the slot holds a value, and a claim that had
+-- looked before finds it empty
 abbrev pub IsTold : {X : Type 0} → Bool → Bool → Option X → Type 0
 IsTold looked set v = (set ≡ is_some v) × (looked ≡ true → v ≡ None)
 
 module _ (R : RattleType) where
   -- the number of the word that has the flag of an id's slot, as the code computes it
-  abbrev pub number_of_id : ℕ → ℕ
-  number_of_id id = word_number R (2 ^ bucket_of id) (index_of id / 64)
+  abbrev pub flag_word_of : ℕ → ℕ
+  flag_word_of id = flag_word_at R (2 ^ bucket_of id) (index_of id / 64)
 
   -- the address of the value at an index, in a block at this pointer
   abbrev pub value_at : Ptr → ℕ → Ptr

@@ -5,30 +5,30 @@ use Rattle.thread_local_model.specs.Learnt.{Learnt, Unknown, Missing, Standing, 
 
 -- the claim has looked: its bucket was missing, or it has seen its slot. Every claim that a call
 -- hands out has
-abbrev pub IsKnown : {V : Type 0} → Learnt V → Type 0
-IsKnown Unknown = ⊥
-IsKnown Missing = ⊤
-IsKnown Standing = ⊥
-IsKnown Vacant = ⊤
-IsKnown (Holding v) = ⊤
+abbrev pub HasLooked : {V : Type 0} → Learnt V → Type 0
+HasLooked Unknown = ⊥
+HasLooked Missing = ⊤
+HasLooked Standing = ⊥
+HasLooked Vacant = ⊤
+HasLooked (Holding v) = ⊤
 
--- the claim hasn't found its bucket
-abbrev pub IsUnfound : {V : Type 0} → Learnt V → Type 0
-IsUnfound Unknown = ⊤
-IsUnfound Missing = ⊤
-IsUnfound Standing = ⊥
-IsUnfound Vacant = ⊥
-IsUnfound (Holding v) = ⊥
+-- the claim has found no bucket
+abbrev pub IsMissing : {V : Type 0} → Learnt V → Type 0
+IsMissing Unknown = ⊤
+IsMissing Missing = ⊤
+IsMissing Standing = ⊥
+IsMissing Vacant = ⊥
+IsMissing (Holding v) = ⊥
 
--- whether the claim has seen its slot
-abbrev pub is_found : {V : Type 0} → Learnt V → Bool
-is_found Unknown = false
-is_found Missing = false
-is_found Standing = false
-is_found Vacant = true
-is_found (Holding v) = true
+-- whether the claim has found no bucket, as the code keeps it
+abbrev pub is_missing : {V : Type 0} → Learnt V → Bool
+is_missing Unknown = true
+is_missing Missing = true
+is_missing Standing = true
+is_missing Vacant = false
+is_missing (Holding v) = false
 
--- the number by which a claim keeps what it has learnt: 0 before it has found its bucket, 1 where its
+-- the number by which a claim keeps what it has learnt: 0 where it has found no bucket, 1 where its
 -- slot is vacant, 2 where it holds a value
 abbrev pub state_of : {V : Type 0} → Learnt V → ℕ
 state_of Unknown = 0
@@ -42,13 +42,13 @@ abbrev pub state_by : Bool → ℕ
 state_by false = 1
 state_by true = 2
 
--- whether the claim has looked for its bucket in vain
-abbrev pub in_vain : {V : Type 0} → Learnt V → Bool
-in_vain Unknown = false
-in_vain Missing = true
-in_vain Standing = false
-in_vain Vacant = false
-in_vain (Holding v) = false
+-- whether a claim that has found no bucket has looked for it
+abbrev pub has_looked : {V : Type 0} → Learnt V → Bool
+has_looked Unknown = false
+has_looked Missing = true
+has_looked Standing = false
+has_looked Vacant = false
+has_looked (Holding v) = false
 
 -- the value that the slot is known to hold, if any
 abbrev pub value_held : {V : Type 0} → Learnt V → Option V

@@ -7,8 +7,8 @@ ghost use denote.RawPtr.{Ptr, coded_ptr};
 ghost use Rattle.thread_local_blocks.specs.Slots.{empty_slots};
 ghost use Rattle.thread_local_model.specs.Learnt.{Learnt, learnt_coded, Unknown, Missing, Vacant, Holding, Finds};
 ghost use Rattle.thread_local_model.specs.Place.{bucket_of, id_at};
-ghost use Rattle.thread_local_claim.specs.Known.{IsKnown, IsUnfound, is_found, state_of, value_held};
-ghost use Rattle.thread_local_claim.specs.Claims.{number_of_id, claim_fields, claim_owns, claim_shares};
+ghost use Rattle.thread_local_claim.specs.Known.{HasLooked, IsMissing, is_missing, state_of, value_held};
+ghost use Rattle.thread_local_claim.specs.Claims.{flag_word_of, claim_fields, claim_owns, claim_shares};
 
 use std::alloc::Global;
 use std::marker::{Brand, Model, PhantomData};
@@ -25,8 +25,8 @@ mod install;
 mod lasting;
 mod told;
 
-/// The number of a claim that has not found its bucket.
-const UNFOUND: u64 = 0;
+/// The number of a claim that has found no bucket.
+const MISSING: u64 = 0;
 
 /// The number of a claim whose slot is vacant.
 const VACANT: u64 = 1;
@@ -36,11 +36,11 @@ const HOLDING: u64 = 2;
 
 /// The slot of an id that is claimed. Contracts see its table, its id with the index in its bucket,
 /// whether its bucket is reserved, the sharing, and what it has learnt of the slot. It stores no
-/// index: callers pass the index, and the number of the word that has the flag.
+/// index: callers pass the index and, as `flag_word`, the number of the word that has the flag.
 pub(crate) struct ClaimedSlot<'a, T> {
     /// The address of the bucket's pointer, and once the bucket is found, of the slot's value.
     at: *const (),
-    /// What it has learnt: `UNFOUND`, `VACANT` or `HOLDING`.
+    /// What it has learnt: `MISSING`, `VACANT` or `HOLDING`.
     state: u64,
     marker: PhantomData<&'a T>,
     /// The address of the bucket's pointer.
@@ -75,7 +75,7 @@ impl<'a, T> ClaimedSlot<'a, T> {
         requires table { right.table ≡ bucket.now.table }
         requires id { right.id ≡ id_at bucket.now.bucket index }
         requires within { index < 2 ^ bucket.now.bucket }
-        ensures right { (result.table ≡ right.table)
+        ensures same_slot { (result.table ≡ right.table)
             × (result.sharing ≡ bucket.now.sharing)
             × (result.id ≡ right.id)
             × (result.index ≡ index) }
@@ -86,23 +86,23 @@ impl<'a, T> ClaimedSlot<'a, T> {
         let _ = index;
         ClaimedSlot {
             at: bucket as *const SharedBucket<T> as *const (),
-            state: UNFOUND,
+            state: MISSING,
             marker: PhantomData,
         }
     }
 
     /// Looks for the bucket, and where it stands, at the slot: one atomic load of the bucket's
-    /// pointer, and one of the word `number` of the block, which has the slot's flag. A claim that
+    /// pointer, and one of the word `flag_word` of the block, which has the slot's flag. A claim that
     /// has found its bucket missing finds the slot empty.
-    pub(crate) fn find(self, index: usize, number: usize) -> ClaimedSlot<'a, T>
-        requires unfound { IsUnfound self.learnt }
+    pub(crate) fn find(self, index: usize, flag_word: usize) -> ClaimedSlot<'a, T>
+        requires missing { IsMissing self.learnt }
         requires index { index ≡ self.index }
-        requires number { number ≡ number_of_id T.row self.id }
-        ensures right { (result.table ≡ self.entry.table)
+        requires flag_word { flag_word ≡ flag_word_of T.row self.id }
+        ensures same_slot { (result.table ≡ self.entry.table)
             × (result.sharing ≡ self.entry.sharing)
             × (result.id ≡ self.entry.id)
             × (result.index ≡ self.entry.index) }
-        ensures known { IsKnown result.learnt }
+        ensures looked { HasLooked result.learnt }
         ensures empty { self.entry.learnt ≡ Missing → (result.learnt ≡ Missing) ⊎ (result.learnt ≡ Vacant) }
         ensures reserved { (result.reserved ≡ self.entry.reserved)
             × (result.reserved ≡ true → result.learnt ≢ Missing) }
@@ -120,11 +120,11 @@ impl<'a, T> ClaimedSlot<'a, T> {
         if at.is_null() {
             return ClaimedSlot {
                 at: bucket,
-                state: UNFOUND,
+                state: MISSING,
                 marker: PhantomData,
             };
         }
-        let word = unsafe { (at as *const u64).add(number) };
+        let word = unsafe { (at as *const u64).add(flag_word) };
         let value = unsafe { (at as *const T).add(index) };
         let flags = unsafe { raw::load::<Brand>(word, SeqCst) };
         ClaimedSlot {
@@ -136,13 +136,13 @@ impl<'a, T> ClaimedSlot<'a, T> {
     }
 
     /// Publishes a value in a vacant slot: the value is written, and then the flag is set, by one
-    /// atomic addition to the word `number` of the block. The flag is unset, so the addition
+    /// atomic addition to the word `flag_word` of the block. The flag is unset, so the addition
     /// changes no other bit, whatever others publish in the same word.
-    pub(crate) fn publish(self, index: usize, number: usize, value: T) -> ClaimedSlot<'a, T>
+    pub(crate) fn publish(self, index: usize, flag_word: usize, value: T) -> ClaimedSlot<'a, T>
         requires vacant { self.learnt ≡ Vacant }
         requires index { index ≡ self.index }
-        requires number { number ≡ number_of_id T.row self.id }
-        ensures right { (result.table ≡ self.entry.table)
+        requires flag_word { flag_word ≡ flag_word_of T.row self.id }
+        ensures same_slot { (result.table ≡ self.entry.table)
             × (result.sharing ≡ self.entry.sharing)
             × (result.id ≡ self.entry.id)
             × (result.index ≡ self.entry.index) }
@@ -155,7 +155,7 @@ impl<'a, T> ClaimedSlot<'a, T> {
             marker: _,
         } = self;
         // The words of flags lie behind the values.
-        let distance = number * 8 - index * size_of::<T>();
+        let distance = flag_word * 8 - index * size_of::<T>();
         let word = unsafe { (at as *const u8).add(distance) } as *const u64;
         let slot = at as *mut T;
         unsafe { slot.write(value) };
@@ -167,12 +167,12 @@ impl<'a, T> ClaimedSlot<'a, T> {
         }
     }
 
-    /// Whether the bucket has been found.
-    #[tactic(auto, using(crate::proofs::StateLaws::found_by))]
-    pub(crate) fn is_found(&self) -> bool
-        ensures { result ≡ is_found self.now.learnt }
+    /// Whether no bucket has been found.
+    #[tactic(auto, using(crate::proofs::StateLaws::missing_by))]
+    pub(crate) fn is_missing(&self) -> bool
+        ensures { result ≡ is_missing self.now.learnt }
     {
-        self.state() != UNFOUND
+        self.state() == MISSING
     }
 
     /// Whether the slot holds a value.
@@ -197,69 +197,6 @@ impl<'a, T> ClaimedSlot<'a, T> {
     {
         unsafe { &*(self.at as *const T) }
     }
-}
-
-// The calls that change a claim in place, as functions that `replace_with` takes.
-
-/// The slot after one more look for its bucket.
-pub(crate) fn found_again<'a, T>(
-    slot: ClaimedSlot<'a, T>,
-    look: (usize, usize),
-) -> (ClaimedSlot<'a, T>, ())
-    requires missing { slot.learnt ≡ Missing }
-    requires index { look.0 ≡ slot.index }
-    requires number { look.1 ≡ number_of_id T.row slot.id }
-    ensures right { (result.0.table ≡ slot.entry.table)
-        × (result.0.sharing ≡ slot.entry.sharing)
-        × (result.0.id ≡ slot.entry.id)
-        × (result.0.index ≡ slot.entry.index) }
-    ensures found { Finds slot.entry.learnt result.0.learnt }
-    ensures learnt { (result.0.learnt ≡ Missing) ⊎ (result.0.learnt ≡ Vacant) }
-    ensures known { IsKnown result.0.learnt }
-    ensures reserved { (result.0.reserved ≡ slot.entry.reserved)
-        × (result.0.reserved ≡ true → result.0.learnt ≢ Missing) }
-{
-    let (index, number) = look;
-    (slot.find(index, number), ())
-}
-
-/// The slot once its bucket stands, and the offered block, unless that is the one that stands.
-pub(crate) fn offered<'a, T>(
-    slot: ClaimedSlot<'a, T>,
-    given: (Block<T, Global>, usize),
-) -> (ClaimedSlot<'a, T>, Option<Block<T, Global>>)
-    requires missing { slot.learnt ≡ Missing }
-    requires index { given.1 ≡ slot.index }
-    requires made { (given.0.slots ≡ empty_slots (2 ^ bucket_of slot.id)) × (given.0.left ≡ 0) }
-    ensures right { (result.0.table ≡ slot.entry.table)
-        × (result.0.sharing ≡ slot.entry.sharing)
-        × (result.0.id ≡ slot.entry.id)
-        × (result.0.index ≡ slot.entry.index) }
-    ensures vacant { (result.0.learnt ≡ Vacant) × (result.0.reserved ≡ slot.entry.reserved) }
-    ensures back { IfSome result.1 (λ back.
-        (back.heap ≡ given.0.heap) × (back.slots ≡ given.0.slots) × (back.left ≡ 0)) }
-{
-    let (block, index) = given;
-    slot.exchange(index, block)
-}
-
-/// The slot once the value is published in it.
-pub(crate) fn published<'a, T>(
-    slot: ClaimedSlot<'a, T>,
-    given: (T, usize, usize),
-) -> (ClaimedSlot<'a, T>, ())
-    requires vacant { slot.learnt ≡ Vacant }
-    requires index { given.1 ≡ slot.index }
-    requires number { given.2 ≡ number_of_id T.row slot.id }
-    ensures right { (result.0.table ≡ slot.entry.table)
-        × (result.0.sharing ≡ slot.entry.sharing)
-        × (result.0.id ≡ slot.entry.id)
-        × (result.0.index ≡ slot.entry.index) }
-    ensures learnt { result.0.learnt ≡ Holding given.0 }
-    ensures reserved { result.0.reserved ≡ slot.entry.reserved }
-{
-    let (value, index, number) = given;
-    (slot.publish(index, number, value), ())
 }
 
 unsafe impl<T: Send> Send for ClaimedSlot<'_, T> {}

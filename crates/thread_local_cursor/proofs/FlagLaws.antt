@@ -90,7 +90,7 @@ module _ {V : Type 0} where
       let from : ℕ = raw.index - 64 in
       let index : ℕ = from + bit in
       let chunk : index / 64 ≡ from / 64 = omega arith in
-      let place : index % 64 ≡ bit = omega arith in
+      let at_bit : index % 64 ≡ bit = omega arith in
       let slot : from / 64 * 64 + bit ≡ index = omega arith in
       let size = at.size in
       let whole = at.whole far in
@@ -107,7 +107,7 @@ module _ {V : Type 0} where
             (λ k after below. unset_empty c raw.bucket from word k flags (omega arith) (low.lower (k % 64) (omega arith)));
         whole = whole ∙ size;
         flags = rw chunk flags;
-        first = rw place low;
+        first = rw at_bit low;
       }
 
   -- the flags of a chunk are those of the 64 slots from its first on

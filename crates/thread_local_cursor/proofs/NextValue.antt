@@ -86,8 +86,8 @@ module _ {V : Type 0} where
   -- the first slot that has a value has one
   holds_value : (c : Contents V) (raw : RawIter) (word i : ℕ) → IsFirst c raw word i → IsSome (value_in c raw.bucket i)
   holds_value c raw word i at =
-      let place : i / 64 * 64 + i % 64 ≡ i = omega arith in
-      ap (λ k. is_some (value_in c raw.bucket k)) (sym place) ∙ sym (at.flags (i % 64) at.first.within) ∙ at.first.set
+      let whole : i / 64 * 64 + i % 64 ≡ i = omega arith in
+      ap (λ k. is_some (value_in c raw.bucket k)) (sym whole) ∙ sym (at.flags (i % 64) at.first.within) ∙ at.first.set
 
   pub passes : (c : Contents V) (cursor : OwnerCursor) (rest given : ℕ) → IsOwnerWalk c cursor → cursor.rest < 2 ^ 64 → 0 < cursor.rest → rest < 2 ^ 64
       → ((bit : ℕ) → IsLowestSet cursor.rest bit → IsWordBut rest cursor.rest bit false) → NoneBelow (values c) given

@@ -21,9 +21,9 @@ AreFlagsAt contents bucket index flags = (bit : ℕ) → bit < 64 → is_set fla
 abbrev pub read_to : RawIter → ℕ
 read_to raw = id_at raw.bucket (min raw.index raw.bucket_size)
 
--- the index of a slot, by its number in the chunk whose flags were read last
+-- the index of a slot, by the number of its flag's bit in the word that was read last
 abbrev pub slot_at : RawIter → ℕ → ℕ
-slot_at raw place = raw.index - 64 + place
+slot_at raw bit = raw.index - 64 + bit
 
 -- how many values the walk has left: those whose flags it has at hand, and those behind
 abbrev pub values_left : OwnerCursor → ℕ

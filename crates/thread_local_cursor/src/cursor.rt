@@ -233,8 +233,8 @@ impl OwnerCursor {
         }
     }
 
-    /// Passes the next value, whose flag must be at hand, and returns its slot's number in the
-    /// chunk. The caller takes the value out of the source.
+    /// Passes the next value, whose flag must be at hand, and returns the number of that flag's bit.
+    /// The caller takes the value out of the source.
     #[inline]
     pub fn pass<P: FlagSource>(&mut self, source: &mut P) -> usize
         requires walk { IsOwnerWalk (P.contents source.old) self.old }
@@ -269,8 +269,8 @@ impl OwnerCursor {
             (with_slot (P.contents source.old) self.new.raw.bucket (slot_at self.new.raw result) None))) }
     {
         let _ = source;
-        let place = self.rest.trailing_zeros() as usize;
+        let bit = self.rest.trailing_zeros() as usize;
         self.rest = without_first(self.rest);
-        place
+        bit
     }
 }

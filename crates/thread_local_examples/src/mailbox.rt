@@ -8,7 +8,7 @@ use std::thread;
 use std::thread::Threads;
 use thread_local::ThreadLocal;
 use thread_local::local::{Local, SetError};
-use thread_local::table::Published;
+use thread_local::table::Token;
 use thread_local::thread_id::LocalError;
 
 /// Why no letters were swapped.
@@ -26,7 +26,7 @@ fn post<'a, R: Wait>(
     letters: &'a ThreadLocal<u64>,
     rt: &'a R,
     letter: u64,
-) -> Result<(Local<'a, u64, R>, Published<u64>), MailError>
+) -> Result<(Local<'a, u64, R>, Token<u64>), MailError>
     ensures { IfOk result (λ posted. (posted.1.sharing ≡ letters.now.sharing) × (posted.1.value ≡ letter)) }
 {
     let mut local = letters.local(rt).map_err(MailError::Local)?;
@@ -35,7 +35,7 @@ fn post<'a, R: Wait>(
         Err(SetError::Occupied(_)) => return Err(MailError::Occupied),
         Err(SetError::Memory(_)) => return Err(MailError::Local(LocalError::Memory(AllocError))),
     }
-    match local.published() {
+    match local.token() {
         Some(token) => Ok((local, token)),
         None => unreachable!(),
     }
@@ -53,10 +53,10 @@ pub fn swap<R: Threads + Wait + Sync>(
 {
     let (one, other) = thread::join(
         rt,
-        || -> Result<(Local<'_, u64, R>, Published<u64>), MailError>
+        || -> Result<(Local<'_, u64, R>, Token<u64>), MailError>
             ensures { IfOk result (λ posted. (posted.1.sharing ≡ letters.entry.now.sharing) × (posted.1.value ≡ first)) }
         { post(letters, rt, first) },
-        || -> Result<(Local<'_, u64, R>, Published<u64>), MailError>
+        || -> Result<(Local<'_, u64, R>, Token<u64>), MailError>
             ensures { IfOk result (λ posted. (posted.1.sharing ≡ letters.entry.now.sharing) × (posted.1.value ≡ second)) }
         { post(letters, rt, second) },
     );

@@ -4,7 +4,7 @@ ghost use Rattle.std.specs.Prelude.{◌≡◌, IfOk, IfSome, IsSome};
 
 use std::sync::Wait;
 use thread_local::ThreadLocal;
-use thread_local::table::Published;
+use thread_local::table::Token;
 use thread_local::thread_id::LocalError;
 
 /// Publishes how far a worker came, unless an earlier holder of its id has published, and ends.
@@ -12,14 +12,14 @@ pub fn begin<R: Wait>(
     steps: &ThreadLocal<u64>,
     rt: &R,
     step: u64,
-) -> Result<Published<u64>, LocalError>
+) -> Result<Token<u64>, LocalError>
     ensures { IfOk result (λ token. token.sharing ≡ steps.now.sharing) }
 {
     let mut local = steps.local(rt)?;
     if local.get().is_none() {
         local.get_or(|| step)?;
     }
-    match local.published() {
+    match local.token() {
         Some(token) => Ok(token),
         None => unreachable!(),
     }
@@ -29,7 +29,7 @@ pub fn begin<R: Wait>(
 pub fn resume<R: Wait>(
     steps: &ThreadLocal<u64>,
     rt: &R,
-    begun: &Published<u64>,
+    begun: &Token<u64>,
 ) -> Result<Option<u64>, LocalError>
     requires sharing { begun.now.sharing ≡ steps.now.sharing }
     requires named { IsSome steps.now.sharing }

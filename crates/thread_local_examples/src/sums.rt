@@ -11,7 +11,7 @@ use std::thread::Threads;
 use thread_local::ThreadLocal;
 use thread_local::iter::IntoIter;
 use thread_local::local::{Local, SetError};
-use thread_local::table::Published;
+use thread_local::table::Token;
 use thread_local::thread_id::LocalError;
 
 /// Why no sum was answered.
@@ -28,7 +28,7 @@ fn publish<'a, R: Wait>(
     sums: &'a ThreadLocal<u64>,
     rt: &'a R,
     part: u64,
-) -> Result<(Local<'a, u64, R>, Published<u64>), SumError>
+) -> Result<(Local<'a, u64, R>, Token<u64>), SumError>
     ensures { IfOk result (λ kept. (kept.1.sharing ≡ sums.now.sharing) × (kept.1.value ≡ part)) }
 {
     let mut local = sums.local(rt).map_err(SumError::Local)?;
@@ -37,14 +37,14 @@ fn publish<'a, R: Wait>(
         Err(SetError::Occupied(_)) => return Err(SumError::Mixed),
         Err(SetError::Memory(_)) => return Err(SumError::Local(LocalError::Memory(AllocError))),
     }
-    match local.published() {
+    match local.token() {
         Some(token) => Ok((local, token)),
         None => unreachable!(),
     }
 }
 
 /// Whether no two tokens have one id.
-fn differ(tokens: &[Published<u64>]) -> bool
+fn differ(tokens: &[Token<u64>]) -> bool
     ensures { result ≡ true → AllPairs (λ one other. one.id ≢ other.id) tokens.now }
 {
     for one in 0..tokens.len() {
@@ -71,12 +71,12 @@ fn added_up(values: IntoIter<u64>) -> u128
 }
 
 /// The sum of the parts that the tokens name, where they are all that was published.
-fn total(sums: ThreadLocal<u64>, tokens: &[Published<u64>]) -> Result<u128, SumError>
+fn total(sums: ThreadLocal<u64>, tokens: &[Token<u64>]) -> Result<u128, SumError>
     requires sharing { All (λ token. token.sharing ≡ sums.sharing) tokens.now }
     requires named { IsSome sums.sharing }
     ensures { IfOk result (λ total. total ≡ sum (map (λ token. token.value) tokens.now)) }
 {
-    let (buckets, book) = sums.into_published();
+    let (buckets, book) = sums.into_buckets_and_book();
     let values = buckets.into_iter();
     if values.len() != tokens.len() || !differ(tokens) {
         return Err(SumError::Mixed);
@@ -89,9 +89,9 @@ fn total(sums: ThreadLocal<u64>, tokens: &[Published<u64>]) -> Result<u128, SumE
 fn tokens_of<R: Wait>(
     sums: &ThreadLocal<u64>,
     parts: &[u64],
-    answers: &[Result<(Local<'_, u64, R>, Published<u64>), SumError>],
+    answers: &[Result<(Local<'_, u64, R>, Token<u64>), SumError>],
     alloc: Global,
-) -> Result<Vec<Published<u64>>, SumError>
+) -> Result<Vec<Token<u64>>, SumError>
     requires as_many { length answers.now ≡ length parts.now }
     requires each { HaveParts sums.now.sharing parts.now answers.now }
     ensures sharing { IfOk result (λ tokens. All (λ token. token.sharing ≡ sums.now.sharing) tokens.items) }
@@ -132,7 +132,7 @@ fn published<R: Threads + Wait + Sync>(
     alloc: Global,
     sums: &ThreadLocal<u64>,
     parts: &[u64],
-) -> Result<Vec<Published<u64>>, SumError>
+) -> Result<Vec<Token<u64>>, SumError>
     ensures sharing { IfOk result (λ tokens. All (λ token. token.sharing ≡ sums.now.sharing) tokens.items) }
     ensures values { IfOk result (λ tokens. map (λ token. token.value) tokens.items ≡ parts.now) }
 {
@@ -140,7 +140,7 @@ fn published<R: Threads + Wait + Sync>(
         rt,
         alloc,
         parts.len(),
-        &|index: usize| -> Result<(Local<'_, u64, R>, Published<u64>), SumError>
+        &|index: usize| -> Result<(Local<'_, u64, R>, Token<u64>), SumError>
             requires { index < length parts.now }
             ensures { IfOk result (λ kept.
                 (kept.1.sharing ≡ sums.entry.now.sharing) × (kept.1.value ≡ slice_index_or parts.entry.now index 0)) }

@@ -131,8 +131,8 @@ shifted_left word places = omega arith
 pub place_below : (slot : ℕ) → slot % 64 < 64
 place_below slot = omega arith
 
-pub place_fits : (slot : ℕ) → slot % 64 < 2 ^ 64
-place_fits slot = omega arith
+pub bit_fits : (slot : ℕ) → slot % 64 < 2 ^ 64
+bit_fits slot = omega arith
 
 -- `trailing_zeros` of a word that isn't 0 is the lowest bit that is set
 pub lowest_set : (word : ℕ) → word < 2 ^ 64 → word ≢ 0 → IsLowestSet word (trailing_zeros w64 word)

@@ -1,6 +1,6 @@
 -- The place of an id: its bucket, and its index in the bucket. Bucket b has 2 ^ b slots, and ids
 -- fill the buckets in order.
-use Rattle.std.specs.Prelude.{ℕ, zero, suc, ◌+◌, ◌-◌, ◌^◌, ◌==◌, if◌then◌else◌}
+use Rattle.std.specs.Prelude.{◌≡◌, ℕ, zero, suc, ◌+◌, ◌-◌, ◌^◌, ◌==◌, if◌then◌else◌}
 
 -- where an id's slot is
 pub record Place : Type 0 where
@@ -30,3 +30,7 @@ index_of id = (place id).index
 -- the id at a place
 abbrev pub id_at : ℕ → ℕ → ℕ
 id_at bucket index = index + (2 ^ bucket - 1)
+
+-- this bucket and this index are the place of an id
+abbrev pub IsPlaceOf : ℕ → ℕ → ℕ → Type 0
+IsPlaceOf bucket index id = (bucket ≡ bucket_of id) × (index ≡ index_of id)

@@ -3,7 +3,7 @@
 use std::alloc::{AllocError, Global};
 use std::mem::size_of;
 use std::test::Fail;
-use thread_local_blocks::{Block, Chunk, flag_word, value_size};
+use thread_local_blocks::{Block, Chunk, flag_word_at, value_size};
 use thread_local_buckets::Buckets;
 use thread_local_test_helpers::memory::take_all_but;
 use thread_local_test_helpers::refusing::Refusing;
@@ -33,10 +33,10 @@ fn bytes_asked(len: usize) -> usize {
 #[test]
 fn the_words_of_flags_lie_behind_the_values(rt: HostRuntime) {
     let numbers = [
-        flag_word::<()>(64, 0),
-        flag_word::<u8>(1, 0),
-        flag_word::<u8>(128, 1),
-        flag_word::<u64>(128, 1),
+        flag_word_at::<()>(64, 0),
+        flag_word_at::<u8>(1, 0),
+        flag_word_at::<u8>(128, 1),
+        flag_word_at::<u64>(128, 1),
     ];
     assert_eq!(rt;
         (numbers, value_size::<()>(), value_size::<u64>()),

@@ -5,7 +5,7 @@ use std::alloc::{AllocError, Global};
 use std::cell::Cell;
 use std::mem::size_of;
 use std::test::Fail;
-use thread_local_blocks::{Block, flag_word};
+use thread_local_blocks::{Block, flag_word_at};
 use thread_local_bucket_pointers::BucketPointer;
 
 /// Puts a value into a block, takes it out again, and frees the block.
@@ -14,7 +14,7 @@ fn there_and_back<T: Send + Drop>(alloc: Global, value: T) -> Result<T, AllocErr
 {
     let mut pointer = BucketPointer::null();
     pointer.lay(Block::new(&alloc, 4)?);
-    let number = flag_word::<T>(4, 0);
+    let number = flag_word_at::<T>(4, 0);
     pointer.publish(2, number, value);
     let value = pointer.take(2, number);
     pointer.release(4, &alloc);
@@ -25,7 +25,7 @@ fn there_and_back<T: Send + Drop>(alloc: Global, value: T) -> Result<T, AllocErr
 fn seen_at_a_cell(alloc: Global) -> Result<(bool, bool, u64), AllocError> {
     let mut pointer = BucketPointer::null();
     pointer.lay(Block::new(&alloc, 1)?);
-    let number = flag_word::<Cell<u64>>(1, 0);
+    let number = flag_word_at::<Cell<u64>>(1, 0);
     pointer.publish(0, number, Cell::new(1u64));
     pointer.get_mut(0).set(2);
     let seen = (
@@ -42,7 +42,7 @@ fn seen_at_a_cell(alloc: Global) -> Result<(bool, bool, u64), AllocError> {
 fn flags_of_two_chunks(alloc: Global) -> Result<[u64; 3], AllocError> {
     let mut pointer = BucketPointer::null();
     pointer.lay(Block::new(&alloc, 128)?);
-    let (first, second) = (flag_word::<u64>(128, 0), flag_word::<u64>(128, 1));
+    let (first, second) = (flag_word_at::<u64>(128, 0), flag_word_at::<u64>(128, 1));
     pointer.publish(0, first, 1u64);
     pointer.publish(63, first, 2);
     pointer.publish(65, second, 3);

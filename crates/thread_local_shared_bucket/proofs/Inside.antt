@@ -18,7 +18,7 @@ use Rattle.std.specs.Sync.RawAtomic.{word}
 use Rattle.std.specs.Sync.RawAtomic.Pointer.{cell}
 use Rattle.thread_local_lemmas.specs.Bits.{is_set, is_set_in, IsWordBut}
 use Rattle.thread_local_lemmas.proofs.Words.{is_set_in-set}
-use Rattle.thread_local_blocks.specs.Slots.{AreWords, each, heap_token, block_ty, word_at, value_offset, flags_at, back}
+use Rattle.thread_local_blocks.specs.Slots.{AreWords, each, heap_token, block_ty, word_offset, value_offset, flags_at, back}
 use Rattle.thread_local_blocks.proofs.Each.{Put, each_at, each_turned}
 use Rattle.thread_local_blocks.proofs.Flags.{in_chunks}
 use Rattle.thread_local_shared_bucket.specs.Shared.{name_at, BucketView, Turn, StandingBlock, standing_coded, mark, shared_slot, numbered_slot, AreFlagWords, slots_under, len, first, Sized, settled, standing, beside_pointer, bucket_invariant}
@@ -109,7 +109,7 @@ module _ {M : Type 1} {𝓤 : Ura M} (𝓛 : Logic 𝓤) where
 
     -- the word that has its flag
     abbrev pub Flags : ℕ → Fml
-    Flags n = word b (word_at R (len R d) (count_of s.at) (i / 64)) n
+    Flags n = word b (word_offset R (len R d) (count_of s.at) (i / 64)) n
 
     -- the way back: the word is whole again, and only this slot's bit of it may have changed
     abbrev pub Back : Pr → (n : ℕ) → Next n (i % 64) → Pr

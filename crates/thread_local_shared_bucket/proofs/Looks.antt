@@ -16,7 +16,7 @@ use Rattle.std.specs.Sync.RawAtomic.{asks, always}
 use Rattle.thread_local_judged.specs.Judged.{Shareable}
 use Rattle.thread_local_lemmas.specs.Bits.{is_set}
 use Rattle.thread_local_lemmas.proofs.Word.{same_bit}
-use Rattle.thread_local_blocks.specs.Slots.{word_at, value_offset}
+use Rattle.thread_local_blocks.specs.Slots.{word_offset, value_offset}
 use Rattle.thread_local_shared_bucket.specs.Shared.{name_at, BucketView, Turn, StandingBlock, Who, mark, pinned, shared_value, opened, len, first, bucket_invariant}
 use Rattle.thread_local_shared_bucket.proofs.Rested.{opens_by}
 use Rattle.thread_local_shared_bucket.proofs.Steps.{Stays, Had, Left, Turned, moved, stepped}
@@ -65,7 +65,7 @@ module _ {M : Type 1} {𝓤 : Ura M} (𝓛 : Logic 𝓤) (R : RattleType) (L : L
       rewrite ! 0 (λ (u : Bool). ‵ (by_flag lent u)) (sym told) refl $ show ! F (Some x, w) $ check ! (fits, same_bit n (i % 64) true told) $ types.Kit.keep ! (1 ∷ 2 ∷ 0 ∷ []) $ done !
 
   pub looks : (q : Share) → A.inv (fbor t.life (bucket_invariant R d t wb wo)) ∗ (A.lft t.life q ∗ (⟦ fres t.which (mark s) ⟧ ∗ ⟦ ftrue ⟧))
-      ⊢ asks 𝓛 (block_ptr b (word_at R (len R d) (count_of s.at) (i / 64))) (λ n. n) always (λ n. fsep (flft t.life q) (seen n))
+      ⊢ asks 𝓛 (block_ptr b (word_offset R (len R d) (count_of s.at) (i / 64))) (λ n. n) always (λ n. fsep (flft t.life q) (seen n))
   looks q = stepped 𝓛 R d t wb wo s i k e b low at_k at_e at_b q (λ n. n) seen ftrue (looked q)
 
   -- a slot of whose id it is told that it was published with a value lends that value

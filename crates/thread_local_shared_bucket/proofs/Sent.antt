@@ -15,7 +15,7 @@ use Rattle.thread_local_judged.specs.Judged.{Judged}
 use Rattle.thread_local_tokens.proofs.ToldElements.{untold_keyless, tells_keyless, telling_keyless, all_telling_keyless}
 use Rattle.thread_local_lemmas.specs.Bits.{is_set_in}
 use Rattle.thread_local_blocks.specs.Slots.{heap_token, chunks, each, flag_room, flags_at, slot, empty_slots, value_offset, content_at, back, block_ty}
-use Rattle.thread_local_shared_bucket.specs.Shared.{BucketView, Turn, StandingBlock, Who, free, claimed, early, tracked_value, published, by, holds, stays, had, shared_slot, numbered_slot, waiting, all_unborn, rests, slots_rest, block_rests, block_stands, beside_pointer, kept, loaded, row_owns, at_rest, len, first}
+use Rattle.thread_local_shared_bucket.specs.Shared.{BucketView, Turn, StandingBlock, Who, free, claimed, early, tracked_value, pinned_and_told, by, holds, stays, had, shared_slot, numbered_slot, waiting, all_unborn, rests, slots_rest, block_rests, block_stands, beside_pointer, kept, loaded, row_owns, at_rest, len, first}
 
 pub chain_keyless : (νs : List Lft) (κ α : Lft) → Keyless (chain νs κ α)
 chain_keyless [] κ α = λ _. tt
@@ -48,7 +48,7 @@ module _ (R : RattleType) (s : IsSend R) where
     by_keyless e η x (inr refuted) = value_keyless b e η
 
     module _ (sharing : Option GName) where
-      published_keyless : (k : ℕ) (η : GName) (x : R.Denot) → Keyless (published R sharing k η x)
+      published_keyless : (k : ℕ) (η : GName) (x : R.Denot) → Keyless (pinned_and_told R sharing k η x)
       published_keyless k η x = (tt, tells_keyless R sharing k (Some x))
 
       pub holds_keyless : (k e : ℕ) (η : GName) (v : Option R.Denot) → Keyless (holds R t b ν sharing k e η v)

@@ -13,7 +13,7 @@ use Rattle.std.specs.Sync.RawAtomic.{asks, always}
 use Rattle.core.proofs.raw_atomic.Asked.{Again, Lies, borrowed}
 use Rattle.thread_local_lemmas.specs.Bits.{is_set, IsWordBut}
 use Rattle.thread_local_lemmas.proofs.Word.{same_bit}
-use Rattle.thread_local_blocks.specs.Slots.{word_at, value_offset}
+use Rattle.thread_local_blocks.specs.Slots.{word_offset, value_offset}
 use Rattle.thread_local_shared_bucket.specs.Shared.{name_at, BucketView, Turn, StandingBlock, Who, mark, age, tracked_value, shared_slot_as, shared_slot, len, first, bucket_invariant, stays, had, holds}
 use Rattle.thread_local_shared_bucket.proofs.Inside as inside
 use Rattle.thread_local_shared_bucket.proofs.Inside.{Next, quietly, slot_in}
@@ -99,8 +99,8 @@ module _ {M : Type 1} {𝓤 : Ura M} (𝓛 : Logic 𝓤) (R : RattleType) (d : B
     Turned n v z = guard 𝓤 ((f n < 2 ^ 64) × IsWordBut (f n) n (i % 64) (is_some z.0)) (⟦ Stays z.0 ⟧ ∗ ⟦ Had z.0 z.1 ⟧ ∗ ⟦ after n ⟧)
 
     pub stepped_by : (X : Fml) → ((n : ℕ) → n < 2 ^ 64 → (v : Option R.Denot) (w : Who) → is_set n (i % 64) ≡ is_some v → ⟦ Stays v ⟧ ∗ ⟦ Had v w ⟧ ∗ ⟦ X ⟧ ⊢ upd 𝓤 (ex 𝓤 (Turned n v)))
-        → A.inv (fbor t.life I) ∗ (A.lft t.life q ∗ (⟦ Which ⟧ ∗ ⟦ X ⟧)) ⊢ asks 𝓛 (block_ptr b (word_at R (len R d) (count_of s.at) (i / 64))) f always (λ n. fsep (flft t.life q) (after n))
-    stepped_by X law = let o : ℕ = word_at R (len R d) (count_of s.at) (i / 64) in let L : ℕ → Pr = Lies 𝓛 t.life q I b o f always after in borrowed 𝓛 t.life q I b o f always after (⟦ Which ⟧ ∗ ⟦ X ⟧) (qed 𝓛 (‵ I ∷ (‵ Which ⊛ ‵ X) ∷ []) ∵ suffices ! _ (upd_i 𝓤 (ex 𝓤 L)) $
+        → A.inv (fbor t.life I) ∗ (A.lft t.life q ∗ (⟦ Which ⟧ ∗ ⟦ X ⟧)) ⊢ asks 𝓛 (block_ptr b (word_offset R (len R d) (count_of s.at) (i / 64))) f always (λ n. fsep (flft t.life q) (after n))
+    stepped_by X law = let o : ℕ = word_offset R (len R d) (count_of s.at) (i / 64) in let L : ℕ → Pr = Lies 𝓛 t.life q I b o f always after in borrowed 𝓛 t.life q I b o f always after (⟦ Which ⟧ ∗ ⟦ X ⟧) (qed 𝓛 (‵ I ∷ (‵ Which ⊛ ‵ X) ∷ []) ∵ suffices ! _ (upd_i 𝓤 (ex 𝓤 L)) $
         move ! (1 ∷ []) $ split ! $ move ! (2 ∷ 0 ∷ []) $
         use2 𝓛 (some (λ (n : ℕ). given (n < 2 ^ 64) (‵ (Flags n) ⊛ ‵ (Slot (is_set n (i % 64))) ⊛ raw (all 𝓤 (Back n))))) (slot_in 𝓛 R d t wb wo s i k e b low at_k at_e at_b) $ pick ! (λ n. learn ! (λ fits. split3 ! $
         show ! L n $ frame ! $ each ! (λ (_ : always n). Again 𝓛 t.life q I b o f always after n) (λ _. assume ! (‵ (Flags (f n))) $ let Then : Pr = ⟦ I ⟧ ∗ ⟦ after n ⟧ in
@@ -114,5 +114,5 @@ module _ {M : Type 1} {𝓤 : Ura M} (𝓛 : Logic 𝓤) (R : RattleType) (d : B
 
     -- such a step that needs no update of its own
     pub stepped : (X : Fml) → ((n : ℕ) → n < 2 ^ 64 → (v : Option R.Denot) (w : Who) → is_set n (i % 64) ≡ is_some v → ⟦ Stays v ⟧ ∗ ⟦ Had v w ⟧ ∗ ⟦ X ⟧ ⊢ ex 𝓤 (Turned n v))
-        → A.inv (fbor t.life I) ∗ (A.lft t.life q ∗ (⟦ Which ⟧ ∗ ⟦ X ⟧)) ⊢ asks 𝓛 (block_ptr b (word_at R (len R d) (count_of s.at) (i / 64))) f always (λ n. fsep (flft t.life q) (after n))
+        → A.inv (fbor t.life I) ∗ (A.lft t.life q ∗ (⟦ Which ⟧ ∗ ⟦ X ⟧)) ⊢ asks 𝓛 (block_ptr b (word_offset R (len R d) (count_of s.at) (i / 64))) f always (λ n. fsep (flft t.life q) (after n))
     stepped X law = stepped_by X (λ n fits v w told. via 𝓤 (ex 𝓤 (Turned n v)) (law n fits v w told) (upd_i 𝓤 (ex 𝓤 (Turned n v))))

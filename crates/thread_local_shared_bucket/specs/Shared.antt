@@ -149,8 +149,8 @@ module _ (R : RattleType) where
   pinned η x = fres η (value_code (Some x))
 
   -- the same, and it is told of the slot's id
-  abbrev pub published : Option GName → ℕ → GName → R.Denot → Fml
-  published sharing k η x = fsep (pinned η x) (tells R sharing k (Some x))
+  abbrev pub pinned_and_told : Option GName → ℕ → GName → R.Denot → Fml
+  pinned_and_told sharing k η x = fsep (pinned η x) (tells R sharing k (Some x))
 
   -- the memory of a slot's value, with the name that tracks it
   abbrev pub tracked_value : ℕ → ℕ → GName → Fml
@@ -179,12 +179,12 @@ module _ (R : RattleType) where
       -- what the claim of the slot k has of it
       abbrev pub holds : ℕ → ℕ → GName → Option R.Denot → Fml
       holds k e η None = fsep (right_owns t.vacant k) (fsep (fobs η (value_code None)) (fbor age (tracked_value b e η)))
-      holds k e η (Some x) = fsep (right_owns t.filled k) (fsep (published sharing k η x) (fex (Judged R) (by e η x)))
+      holds k e η (Some x) = fsep (right_owns t.filled k) (fsep (pinned_and_told sharing k η x) (fex (Judged R) (by e η x)))
 
       -- what stays with the slot
       abbrev pub stays : ℕ → ℕ → GName → Option R.Denot → Fml
       stays k e η None = fsep (right_owns t.filled k) (untold_in sharing k)
-      stays k e η (Some x) = fsep (right_owns t.vacant k) (fsep (published sharing k η x) (opened e x))
+      stays k e η (Some x) = fsep (right_owns t.vacant k) (fsep (pinned_and_told sharing k η x) (opened e x))
 
       -- what lies with the slot, by who has the slot
       abbrev pub had : ℕ → ℕ → ℕ → GName → Option R.Denot → Who → Fml
@@ -342,6 +342,6 @@ module _ (R : RattleType) where
     row_owns β p = fex Found (row_as β p)
 
   -- a value that is found at an index is the one that the slot there holds for good
-  abbrev pub published_at : List ℕ → ℕ → Option R.Denot → Fml
-  published_at names i None = ftrue
-  published_at names i (Some x) = pinned (name_at names i) x
+  abbrev pub pinned_at : List ℕ → ℕ → Option R.Denot → Fml
+  pinned_at names i None = ftrue
+  pinned_at names i (Some x) = pinned (name_at names i) x

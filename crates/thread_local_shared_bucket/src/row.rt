@@ -3,8 +3,8 @@
 ghost use Rattle.std.specs.Prelude.{◌≡◌, ℕ, ◌/◌, ◌^◌, ◌<◌, List, option_map};
 ghost use types.Logic.{sem};
 ghost use Rattle.thread_local_judged.specs.Judged.{Shareable};
-ghost use Rattle.thread_local_blocks.specs.Slots.{word_number};
-ghost use Rattle.thread_local_shared_bucket.specs.Shared.{BucketView, bucket_view_coded, row_owns, published_at};
+ghost use Rattle.thread_local_blocks.specs.Slots.{flag_word_at};
+ghost use Rattle.thread_local_shared_bucket.specs.Shared.{BucketView, bucket_view_coded, row_owns, pinned_at};
 ghost use denote.Sharing.{said};
 
 use std::marker::{Brand, Model, PhantomData};
@@ -32,19 +32,19 @@ impl<'a, T> Row<'a, T> {
     /// The value of the slot at `index`, if one is published. The `&` lasts as long as the bucket
     /// is borrowed, whoever claims the slot meanwhile.
     ///
-    /// It is one atomic load of the word that has the slot's flag, which is the word `number` of
-    /// the block. It never waits and takes no memory.
+    /// It is one atomic load of the word that has the slot's flag, which is the word
+    /// `flag_word` of the block. It never waits and takes no memory.
     ///
     /// That threads may share a value is a clause and not a bound, since a walk calls this in
     /// `next`, and a trait's method isn't given the bounds of its impl.
-    pub fn get(&self, index: usize, number: usize) -> Option<&'a T>
+    pub fn get(&self, index: usize, flag_word: usize) -> Option<&'a T>
         requires shareable { Shareable T.row }
         requires inside { index < 2 ^ self.now.of.bucket }
-        requires number { number ≡ word_number T.row (2 ^ self.now.of.bucket) (index / 64) }
-        ensures* published { sem 𝓛 (published_at T.row self.now.names index (option_map (λ value. value.now) result)) }
+        requires flag_word { flag_word ≡ flag_word_at T.row (2 ^ self.now.of.bucket) (index / 64) }
+        ensures* published { sem 𝓛 (pinned_at T.row self.now.names index (option_map (λ value. value.now) result)) }
     {
         let at = self.at;
-        let word = unsafe { (at as *const u64).add(number) };
+        let word = unsafe { (at as *const u64).add(flag_word) };
         let flags = unsafe { raw::load::<Brand>(word, SeqCst) };
         if flags >> (index % 64) & 1 == 0 {
             None

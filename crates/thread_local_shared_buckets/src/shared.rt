@@ -5,7 +5,7 @@ ghost use Rattle.thread_local_model.specs.Learnt.{Unknown, Missing, Finds};
 ghost use Rattle.thread_local_model.specs.Owned.{IsOwned, AreOfFirstBuckets};
 ghost use Rattle.thread_local_model.specs.Place.{bucket_of, id_at};
 ghost use Rattle.thread_local_judged.specs.Judged.{Judged};
-ghost use Rattle.thread_local_claim.specs.Known.{IsKnown};
+ghost use Rattle.thread_local_claim.specs.Known.{HasLooked};
 ghost use Rattle.thread_local_shared_buckets.specs.TableView.{TableView, table_view_coded, bucket_view};
 ghost use Rattle.thread_local_shared_buckets.specs.Parts.{parts_own, parts_share};
 
@@ -14,7 +14,7 @@ use std::marker::{Move, Owns, PhantomData};
 use thread_local_bucket_pointers::BucketPointers;
 use thread_local_buckets::Buckets;
 use thread_local_claim::Claim;
-use thread_local_tokens::{Book, Published};
+use thread_local_tokens::{Book, Token};
 use core::mem::replace_with;
 use thread_local_tokens::{HeldId, Right};
 use thread_local_shared_bucket::{Row, SharedBucket};
@@ -109,11 +109,11 @@ impl<T> Shared<T> {
     pub fn into_buckets(self) -> Buckets<T>
         ensures { result.reserved ≡ self.reserved }
     {
-        self.into_published().0
+        self.into_buckets_and_book().0
     }
 
     /// `into_buckets`, with what the slots were published with in the sharing that ends.
-    pub fn into_published(self) -> (Buckets<T>, Book<T>)
+    pub fn into_buckets_and_book(self) -> (Buckets<T>, Book<T>)
         ensures reserved { result.0.reserved ≡ self.reserved }
         ensures sharing { result.1.sharing ≡ self.sharing }
         ensures contents { result.1.contents ≡ result.0.contents }
@@ -174,7 +174,7 @@ impl<T> Shared<T> {
             × (result.sharing ≡ self.now.sharing)
             × (result.id ≡ held.id) }
         ensures found { Finds Unknown result.learnt }
-        ensures learnt { IsKnown result.learnt }
+        ensures learnt { HasLooked result.learnt }
         ensures reserved { id_at (bucket_of held.id) 0 < self.now.reserved → result.learnt ≢ Missing }
     {
         let thread = Thread::new(held.id);
@@ -227,14 +227,14 @@ fn renewed<T>(shared: Shared<T>, own: &Right) -> (Shared<T>, ())
 impl<T: Sync> Shared<T> {
     /// The value that a token's slot was published with, for as long as the buckets are borrowed.
     /// It is one atomic load.
-    pub fn value<'a>(&'a self, published: &Published<T>) -> &'a T
-        requires sharing { published.now.sharing ≡ self.now.sharing }
+    pub fn value<'a>(&'a self, token: &Token<T>) -> &'a T
+        requires sharing { token.now.sharing ≡ self.now.sharing }
         requires named { IsSome self.now.sharing }
-        ensures { result.now ≡ published.now.value }
+        ensures { result.now ≡ token.now.value }
     {
-        let place = Thread::new(published.id());
+        let place = Thread::new(token.id());
         self.bucket(place.bucket)
-            .value(place.index, published.witness())
+            .value(place.index, token.witness())
     }
 }
 

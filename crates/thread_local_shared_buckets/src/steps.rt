@@ -5,7 +5,7 @@ ghost use Rattle.thread_local_judged.specs.Judged.{Shareable};
 ghost use Rattle.thread_local_cursor.specs.Cursor.{next_bucket};
 ghost use Rattle.thread_local_shared_buckets.specs.Positions.{past, at_index, search_end, lies_in, IsSharedWalk, YieldsFrom, EndsFrom};
 
-use thread_local_blocks::flag_word;
+use thread_local_blocks::flag_word_at;
 use thread_local_cursor::RawIter;
 use thread_local_shared_bucket::Row;
 use crate::shared::Shared;
@@ -71,8 +71,8 @@ fn search<'a, T>(row: &Row<'a, T>, raw: &mut RawIter, end: usize) -> Option<&'a 
         × (raw.new ≡ past raw.old (raw.new.index - 1))) }
 {
     for index in raw.index..end {
-        let number = flag_word::<T>(raw.bucket_size, index / 64);
-        if let Some(value) = row.get(index, number) {
+        let flag_word = flag_word_at::<T>(raw.bucket_size, index / 64);
+        if let Some(value) = row.get(index, flag_word) {
             raw.index = index + 1;
             raw.yielded += 1;
             return Some(value);

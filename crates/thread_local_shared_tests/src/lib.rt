@@ -25,10 +25,10 @@ mod moves;
 #[cfg(test)]
 mod place;
 #[cfg(test)]
-mod published;
-#[cfg(test)]
 mod races;
 #[cfg(test)]
 mod rights;
 #[cfg(test)]
 mod steps;
+#[cfg(test)]
+mod tokens;

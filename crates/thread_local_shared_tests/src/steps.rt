@@ -2,7 +2,7 @@
 ghost use Rattle.std.specs.Prelude.{◌≡◌, ◌-◌, ◌^◌, ◌<◌};
 
 use std::alloc::Global;
-use thread_local_blocks::{Block, flag_word};
+use thread_local_blocks::{Block, flag_word_at};
 use thread_local_buckets::Buckets;
 use thread_local_claim::Claim;
 use thread_local_tokens::HeldId;
@@ -73,6 +73,6 @@ pub fn look(shared: &Shared<u32>, id: usize) -> Option<u32>
 {
     let thread = Thread::new(id);
     let row = shared.load(thread.bucket)?;
-    let number = flag_word::<u32>(thread.bucket_size(), thread.index / 64);
+    let number = flag_word_at::<u32>(thread.bucket_size(), thread.index / 64);
     row.get(thread.index, number).copied()
 }

@@ -32,8 +32,6 @@ mod owners;
 #[cfg(test)]
 mod printed;
 #[cfg(test)]
-mod published;
-#[cfg(test)]
 mod races;
 #[cfg(test)]
 mod racing_walks;
@@ -47,6 +45,8 @@ mod shared_walks;
 mod slots;
 #[cfg(test)]
 mod threads;
+#[cfg(test)]
+mod tokens;
 #[cfg(test)]
 mod values;
 #[cfg(test)]

@@ -8,7 +8,7 @@ ghost use Rattle.thread_local_model.specs.Walk.{walk};
 ghost use Rattle.thread_local_tokens.specs.Told.{book_owns};
 ghost use denote.Sharing.{said};
 
-use crate::published::Published;
+use crate::token::Token;
 use crate::witness::Witness;
 use std::marker::{Model, PhantomData};
 
@@ -30,20 +30,20 @@ impl<T> Model for Book<T> {
 impl<T> Book<T> {
     /// Shows that the slot of a token's id had the token's value when the sharing ended. At run time
     /// it does nothing.
-    pub fn tells(&self, published: &Published<T>)
-        requires sharing { published.now.sharing ≡ self.now.sharing }
+    pub fn tells(&self, token: &Token<T>)
+        requires sharing { token.now.sharing ≡ self.now.sharing }
         requires named { IsSome self.now.sharing }
-        ensures value { values self.now.contents published.now.id ≡ Some published.now.value }
-        ensures in_range { published.now.id < 2 ^ 63 - 1 }
+        ensures value { values self.now.contents token.now.id ≡ Some token.now.value }
+        ensures in_range { token.now.id < 2 ^ 63 - 1 }
     {
-        let _ = published.id();
-        self.tells_of(published.witness());
+        let _ = token.id();
+        self.tells_of(token.witness());
     }
 
     /// Shows that tokens of different ids are all that was published, where there are as many of
     /// them as values: a walk gives their values, in some order. At run time it goes over the tokens
     /// and does nothing with them.
-    pub fn tells_all(&self, tokens: &[Published<T>])
+    pub fn tells_all(&self, tokens: &[Token<T>])
         requires sharing { All (λ token. token.sharing ≡ self.now.sharing) tokens.now }
         requires named { IsSome self.now.sharing }
         requires different { AllPairs (λ one other. one.id ≢ other.id) tokens.now }

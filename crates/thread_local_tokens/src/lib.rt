@@ -4,12 +4,12 @@
 
 pub mod book;
 pub mod held;
-pub mod published;
 pub mod right;
+pub mod token;
 pub mod witness;
 
 pub use book::Book;
 pub use held::HeldId;
-pub use published::Published;
 pub use right::{Right, Rights};
+pub use token::Token;
 pub use witness::Witness;

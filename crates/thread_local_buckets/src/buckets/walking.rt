@@ -33,8 +33,8 @@ impl<T> Buckets<T> {
         ensures leaves { owned_emptied self.new ≡ owned_emptied self.old }
     {
         cursor.reach(&mut self.pointers);
-        let place = cursor.pass(&mut self.pointers);
-        let index = cursor.raw.index - 64 + place;
+        let bit = cursor.pass(&mut self.pointers);
+        let index = cursor.raw.index - 64 + bit;
         let size = cursor.raw.bucket_size;
         let value = self
             .pointers

@@ -24,7 +24,7 @@ impl<'a, T> ClaimedSlot<'a, T> {
         requires missing { self.learnt ≡ Missing }
         requires index { index ≡ self.index }
         requires made { (block.slots ≡ empty_slots (2 ^ bucket_of self.id)) × (block.left ≡ 0) }
-        ensures right { (result.0.table ≡ self.entry.table)
+        ensures same_slot { (result.0.table ≡ self.entry.table)
             × (result.0.sharing ≡ self.entry.sharing)
             × (result.0.id ≡ self.entry.id)
             × (result.0.index ≡ self.entry.index) }

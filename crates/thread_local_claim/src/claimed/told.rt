@@ -1,7 +1,7 @@
 //! What a claim tells of its slot, and what it is told.
 ghost use Rattle.std.specs.Prelude.{◌≡◌, true, is_some, IsSome};
 ghost use Rattle.thread_local_model.specs.Learnt.{Holding};
-ghost use Rattle.thread_local_claim.specs.Known.{IsKnown, value_held};
+ghost use Rattle.thread_local_claim.specs.Known.{HasLooked, value_held};
 
 use super::ClaimedSlot;
 use std::marker::PhantomData;
@@ -24,7 +24,7 @@ impl<'a, T> ClaimedSlot<'a, T> {
         requires id { self.old.id ≡ witness.now.id }
         requires sharing { self.old.sharing ≡ witness.now.sharing }
         requires named { IsSome self.old.sharing }
-        requires known { IsKnown self.old.learnt }
+        requires looked { HasLooked self.old.learnt }
         ensures holds { self.old.learnt ≡ Holding witness.now.value }
         ensures same { self.new ≡ self.old }
     {}

@@ -3,7 +3,7 @@ ghost use Rattle.std.specs.Prelude.{◌≡◌, ◌^◌, ◌<◌, ◌≤◌};
 ghost use Rattle.thread_local_judged.specs.Judged.{Judged};
 
 use std::cell::{Cell, RefCell};
-use thread_local_blocks::flag_word;
+use thread_local_blocks::flag_word_at;
 use thread_local_buckets::Buckets;
 use thread_local_judged::{Judge, judge_sync};
 use thread_local_tokens::Right;
@@ -98,7 +98,7 @@ fn is_published(row: &Row<'_, String>, bucket: usize, index: usize) -> bool
     requires in_bucket { index < 2 ^ bucket }
 {
     judge_sync::<String>();
-    row.get(index, flag_word::<String>(bucket_size(bucket), index / 64))
+    row.get(index, flag_word_at::<String>(bucket_size(bucket), index / 64))
         .is_some()
 }
 

@@ -1,11 +1,11 @@
 -- Of which tokens it is known that their ids differ.
 use Rattle.std.proofs.Common.{◌≢◌, ◌<◌, ℕ, List, length, slice_index_or}
-use Rattle.thread_local.specs.Views.{PublishedView}
+use Rattle.thread_local.specs.Views.{TokenView}
 use Rattle.thread_local_examples.proofs.sums.differ.Given as goal
 
 -- the ids of two tokens differ
-abbrev pub Differ : List (PublishedView ℕ) → ℕ → ℕ → Type 0
-Differ tokens one other = (d : PublishedView ℕ) → (slice_index_or tokens one d).id ≢ (slice_index_or tokens other d).id
+abbrev pub Differ : List (TokenView ℕ) → ℕ → ℕ → Type 0
+Differ tokens one other = (d : TokenView ℕ) → (slice_index_or tokens one d).id ≢ (slice_index_or tokens other d).id
 
 -- this one's differs from those of the tokens behind it, up to there
 abbrev pub invariant-loop-other : goal.invariant-loop-other

@@ -1,6 +1,6 @@
 -- `push` writes 0 into the word of the next chunk.
 use Rattle.thread_local_lemmas.proofs.Names.{◌≡◌, ℕ, ◌+◌, ◌-◌, suc, ◌*◌, ◌^◌, ◌<◌, List, [], ◌∷◌, length, sym, refl, ap, ◌∙◌, subst, arith, lit<, w64, Option, Ty, ty_int, a_type, dcons, dnil, named, Val, vint, vptr, vunit, inst_fn, full_share, SProp, emp, apply∗, Fml, ftrue, fsep, froom, flft, sem, ‵, raw, ◌⊛◌, given, at_ret, ◌$◌, ◌∵◌, !, qed, by, move, keep, use0, use1, use2, split, join, fsplit, fsplit3, fjoin, fjoin3, learn, rewrite, feq_i, stop, fld, load, lit, unit_lit, of_opd, bin, first, blocks, exec, returns, enter, init, assigns_last, alloc_all, pass_all, free_all, look_at, get, through, sets, is, env, sub, look_in, whole, tables, fact, fact_i, yes, RattleType, owns, types_at, plain, Ptr, block_ptr, block_of, count_of, at_block, InBlock, nothing, heard, opens, closes, peeks, shows, param, bounded, usize, mut_vals, mut_Tells, uint_vals, uint_Tells, Stays, stay_dropped, stay_ref, walk_of, Goes-dropped, Goes-ref, cell_at, proved, leaves, word, after}
-use Rattle.thread_local_blocks.specs.Slots.{chunks, value_words, word_at, word_number, block_owns}
+use Rattle.thread_local_blocks.specs.Slots.{chunks, value_words, word_offset, flag_word_at, block_owns}
 use Rattle.thread_local_blocks.proofs.Slots.{IsWordNear}
 use Rattle.thread_local_blocks.specs.contracts.block.Block as block
 use Rattle.thread_local_blocks.specs.contracts.block.Block.push.{ended, clauses}
@@ -20,9 +20,9 @@ push_spec 𝓤 𝓛 𝓜 𝓡 wired T Al L _ ga da dd _ _ =
     (λ κs. (mut_vals, (uint_vals w64, (uint_vals w64, tt)))) (λ κs. (mut_Tells (named 0) κs.0 Bl, (uint_Tells w64, (uint_Tells w64, tt)))) (λ κs qs bounds a gh are.
     let y : (walk_of 𝓛 En hs c).Ghost = ((κs, qs, bounds, a, (vptr a.0.ref_ptr.0 a.0.ref_ptr.1 ∷ [], (vint w64 a.1.0 ∷ [], (vint w64 a.1.1.0 ∷ [], tt)))), gh) in let Post : Val → SProp 𝓤 = (walk_of 𝓛 En hs c).post y in
     let b' : ℕ = a.0.ref_ptr.0 in let o' : ℕ = a.0.ref_ptr.1 in let h : Bl.Denot = a.0.now in let token : Ty → Ptr → Fml = ga.dealloc_token h.heap in let p : Ptr = h.at in let j : ℕ = a.1.0 in let i : ℕ = a.1.1.0 in let left : ℕ = h.left - 1 in
-    let b : ℕ = block_of p in let cs : List (Option T.Denot) = h.slots in let n : ℕ = length cs in let e : ℕ = word_at R n (count_of p) j in let Asked : Type 0 = (j + h.left ≡ chunks (length cs)) × (0 < h.left) in let others : Fml = fsep (flft κs.1.0 qs.1.0) (fsep (flft κs.1.1.0 qs.1.1.0) ftrue) in
-    qed 𝓛 (((‵ (flft κs.0 qs.0) ⊛ ‵ others) ⊛ ‵ (owns (types_at En.signature.params κs) a y.0.4)) ∷ raw (fact 𝓤 _) ∷ raw (fact 𝓤 _) ∷ raw (fact 𝓤 Asked) ∷ raw (fact 𝓤 (i ≡ word_number R n j)) ∷ []) ∵
-    keep ! (3 ∷ 4 ∷ 0 ∷ []) $ heard ! Asked (λ asked. heard ! (i ≡ word_number R n j) (λ numbered. let pos : 0 < h.left = asked.1 in let same : h.left ≡ suc left = omega arith in split ! $ split ! $ move ! (2 ∷ []) $ fsplit ! $ fsplit3 ! $ keep ! (1 ∷ 2 ∷ 4 ∷ 5 ∷ []) $
+    let b : ℕ = block_of p in let cs : List (Option T.Denot) = h.slots in let n : ℕ = length cs in let e : ℕ = word_offset R n (count_of p) j in let Asked : Type 0 = (j + h.left ≡ chunks (length cs)) × (0 < h.left) in let others : Fml = fsep (flft κs.1.0 qs.1.0) (fsep (flft κs.1.1.0 qs.1.1.0) ftrue) in
+    qed 𝓛 (((‵ (flft κs.0 qs.0) ⊛ ‵ others) ⊛ ‵ (owns (types_at En.signature.params κs) a y.0.4)) ∷ raw (fact 𝓤 _) ∷ raw (fact 𝓤 _) ∷ raw (fact 𝓤 Asked) ∷ raw (fact 𝓤 (i ≡ flag_word_at R n j)) ∷ []) ∵
+    keep ! (3 ∷ 4 ∷ 0 ∷ []) $ heard ! Asked (λ asked. heard ! (i ≡ flag_word_at R n j) (λ numbered. let pos : 0 < h.left = asked.1 in let same : h.left ≡ suc left = omega arith in split ! $ split ! $ move ! (2 ∷ []) $ fsplit ! $ fsplit3 ! $ keep ! (1 ∷ 2 ∷ 4 ∷ 5 ∷ []) $
     enter ! 𝓣.C 𝓣.Λ fn (vptr b' o' ∷ vint w64 j ∷ vint w64 i ∷ []) Post $ alloc_all ! (λ l. pass_all ! refl ((tt, tt), ((tt, record { fits = are.1.0.1 }), ((tt, record { fits = are.1.1.0.1 }), tt))) $ let Ev = env fn.locals l in
     opens ! tt Bl b' o' (λ us. move ! (1 ∷ []) $ peeks ! Bl _ (shows 𝓛 Bl) h us (λ known. fsplit ! $ move ! (1 ∷ []) $
     rewrite ! 0 (λ (m : ℕ). ‵ (block_owns R token p cs m)) same refl $

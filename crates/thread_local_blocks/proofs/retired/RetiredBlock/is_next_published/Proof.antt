@@ -6,8 +6,8 @@ use types.Kit.{some, pick}
 use types.Logic.{sem}
 use mir.Val.{vbool}
 use lib.Dec.{eqb}
-use Rattle.thread_local_lemmas.proofs.Word.{is_set-test, masked_fits, place_below, place_fits, shifted_right}
-use Rattle.thread_local_blocks.specs.Slots.{slot_value, value_words, word_number}
+use Rattle.thread_local_lemmas.proofs.Word.{is_set-test, masked_fits, place_below, bit_fits, shifted_right}
+use Rattle.thread_local_blocks.specs.Slots.{slot_value, value_words, flag_word_at}
 use Rattle.thread_local_blocks.proofs.Slots.{flags_of}
 use Rattle.thread_local_blocks.specs.Retired.{retired_owns, rest}
 use Rattle.thread_local_blocks.specs.contracts.retired.RetiredBlock as retired
@@ -30,11 +30,11 @@ is_next_published_spec 𝓤 𝓛 𝓜 𝓡 wired T Al L _ ga da dd _ _ =
     let b' : ℕ = a.0.ref_ptr.0 in let o' : ℕ = a.0.ref_ptr.1 in let h : Lv.Denot = a.0.now in let token : Ty → Ptr → Fml = ga.dealloc_token h.heap in let p : Ptr = h.at in let cs : List (Option T.Denot) = h.slots in let j : ℕ = a.1.0 in
     let i : ℕ = a.1.1.0 in let b : ℕ = block_of p in let m : ℕ = j + length cs in let s : Option T.Denot = slot_value cs 0 in let Asked : Type 0 = (j ≡ h.gone) × (0 < length cs) in let others : Fml = fsep (flft κs.1.0 qs.1.0) (fsep (flft κs.1.1.0 qs.1.1.0) ftrue) in
     let r : Bool = is_some s in let k : ℕ = if r then j else j + 1 in let ds : List (Option T.Denot) = if r then cs else rest cs in
-    qed 𝓛 (((‵ (flft κs.0 qs.0) ⊛ ‵ others) ⊛ ‵ (owns (types_at En.signature.params κs) a y.0.4)) ∷ raw (fact 𝓤 _) ∷ raw (fact 𝓤 _) ∷ raw (fact 𝓤 Asked) ∷ raw (fact 𝓤 (i ≡ word_number R (h.gone + length cs) (j / 64))) ∷ []) ∵
-    keep ! (3 ∷ 4 ∷ 0 ∷ []) $ heard ! Asked (λ asked. heard ! (i ≡ word_number R (h.gone + length cs) (j / 64)) (λ numbered. let near : 0 < length cs = asked.1 in split ! $ split ! $ move ! (2 ∷ []) $ fsplit ! $ fsplit3 ! $ keep ! (1 ∷ 2 ∷ 4 ∷ 5 ∷ []) $
+    qed 𝓛 (((‵ (flft κs.0 qs.0) ⊛ ‵ others) ⊛ ‵ (owns (types_at En.signature.params κs) a y.0.4)) ∷ raw (fact 𝓤 _) ∷ raw (fact 𝓤 _) ∷ raw (fact 𝓤 Asked) ∷ raw (fact 𝓤 (i ≡ flag_word_at R (h.gone + length cs) (j / 64))) ∷ []) ∵
+    keep ! (3 ∷ 4 ∷ 0 ∷ []) $ heard ! Asked (λ asked. heard ! (i ≡ flag_word_at R (h.gone + length cs) (j / 64)) (λ numbered. let near : 0 < length cs = asked.1 in split ! $ split ! $ move ! (2 ∷ []) $ fsplit ! $ fsplit3 ! $ keep ! (1 ∷ 2 ∷ 4 ∷ 5 ∷ []) $
     enter ! 𝓣.C 𝓣.Λ fn (vptr b' o' ∷ vint w64 j ∷ vint w64 i ∷ []) Post $ alloc_all ! (λ l. pass_all ! refl ((tt, tt), ((tt, record { fits = are.1.0.1 }), ((tt, record { fits = are.1.1.0.1 }), tt))) $ let Ev = env fn.locals l in
     opens ! tt Lv b' o' (λ us. move ! (1 ∷ []) $ peeks ! Lv _ (shows 𝓛 Lv) h us (λ known. fsplit ! $ move ! (1 ∷ []) $ rewrite ! 0 (λ (m : ℕ). ‵ (retired_owns R token p m cs)) (sym asked.0) refl $
-    use1 𝓛 (some (λ (n : ℕ). given (Shown 𝓛 R token p j cs n) (‵ (flags_of R m p n (j / 64)) ⊛ raw (Again 𝓛 R token p j cs n)))) (next_word 𝓛 R token p j cs near) $ pick ! (λ n. learn ! (λ so. split ! $ let at : i ≡ value_words R m + j / 64 = numbered ∙ ap (λ (k : ℕ). word_number R (k + length cs) (j / 64)) (sym asked.0) ∙ so.1.number in let small : i * 8 < 2 ^ 64 = subst (λ (k : ℕ). k * 8 < 2 ^ 64) (sym at) so.1.near in
+    use1 𝓛 (some (λ (n : ℕ). given (Shown 𝓛 R token p j cs n) (‵ (flags_of R m p n (j / 64)) ⊛ raw (Again 𝓛 R token p j cs n)))) (next_word 𝓛 R token p j cs near) $ pick ! (λ n. learn ! (λ so. split ! $ let at : i ≡ value_words R m + j / 64 = numbered ∙ ap (λ (k : ℕ). flag_word_at R (k + length cs) (j / 64)) (sym asked.0) ∙ so.1.number in let small : i * 8 < 2 ^ 64 = subst (λ (k : ℕ). k * 8 < 2 ^ 64) (sym at) so.1.near in
     let read : Bool = eqb (bit_and (n / 2 ^ (j % 64)) 1) 1 in let tells : read ≡ r = is_set-test n (j % 64) ∙ so.3 in
     let seen : us ≡ block_val (block_ptr b (count_of p)) ∷ [] = told R Z ga p us known.0 ∙ ap (λ (u : Ptr). block_val u ∷ []) (at_block p so.0) in
     let Cell = λ (ws : List Val). ‵ (cell_at full_share Lv.mir ws b' o') in rewrite ! 3 Cell seen refl $
@@ -42,7 +42,7 @@ is_next_published_spec 𝓤 𝓛 𝓜 𝓡 wired T Al L _ ga da dd _ _ =
     first ! $ blocks ! $ sets ! (of_opd ! (load ! (through ! refl (fld ! refl (stop !))) (look_in ! 3 (sub ! 0 refl (whole !))))) refl (tt, tt) $
     sets ! (of_opd ! (get ! refl)) refl (tt, tt) $ sets ! (is ! (bin ! (get ! refl) (lit ! tt) (record { fits = small })) (ap (λ (k : ℕ). vint w64 (k * 8)) at)) refl (tt, record { fits = so.1.near }) $
     sets ! (bin ! (get ! refl) (get ! refl) tt) refl (tt, tt) $ sets ! (of_opd ! (load ! (through ! refl (stop !)) (look ! 0 refl))) refl (tt, record { fits = so.2 }) $
-    sets ! (bin ! (get ! refl) (lit ! tt) (lit< tt)) refl (tt, record { fits = place_fits j }) $ sets ! (of_opd ! (get ! refl)) refl (tt, record { fits = place_fits j }) $
+    sets ! (bin ! (get ! refl) (lit ! tt) (lit< tt)) refl (tt, record { fits = bit_fits j }) $ sets ! (of_opd ! (get ! refl)) refl (tt, record { fits = bit_fits j }) $
     sets ! (bin ! (get ! refl) (get ! refl) (place_below j)) refl (tt, record { fits = shifted_right n (j % 64) so.2 }) $ sets ! (bin ! (get ! refl) (lit ! tt) tt) refl (tt, record { fits = masked_fits (n / 2 ^ (j % 64)) 1 (shifted_right n (j % 64) so.2) }) $
     sets_last ! (is ! (bin ! (get ! refl) (lit ! tt) tt) (ap vbool tells)) refl (tt, tt) $ exec ! 𝓣.C 𝓣.Λ Ev (after 1 fn.body) (at_ret Ev Post) $ sets ! (of_opd ! (get ! refl)) refl (tt, tt) $
     use2 𝓛 (‵ (retired_owns R token p j cs)) (apply∗ 𝓤 (sem 𝓛 (flags_of R m p n (j / 64))) (sem 𝓛 (retired_owns R token p j cs))) $ use1 𝓛 (‵ (retired_owns R token p k ds)) (looked 𝓛 R token p j cs near) $

@@ -3,7 +3,7 @@ use Rattle.thread_local_lemmas.proofs.Names.{◌≡◌, ℕ, ◌+◌, ◌*◌, �
 use Rattle.std.specs.Prelude.{is_some}
 use types.Kit.{flt_i}
 use Rattle.thread_local_lemmas.specs.Bits.{is_set}
-use Rattle.thread_local_blocks.specs.Slots.{slot_value, value_words, word_number, heap_token}
+use Rattle.thread_local_blocks.specs.Slots.{slot_value, value_words, flag_word_at, heap_token}
 use Rattle.thread_local_blocks.proofs.Slots.{IsWordIn, flags_of}
 use Rattle.thread_local_bucket_pointers.specs.PointerOwns.{pointer_owns}
 use Rattle.thread_local_bucket_pointers.specs.contracts.bucket_pointer.BucketPointer as one_pointer
@@ -22,8 +22,8 @@ flags_spec 𝓤 𝓛 𝓜 𝓡 wired T L =
     let y : (walk_of 𝓛 En hs c).Ghost = ((κs, qs, bounds, a, (vptr a.0.ref_ptr.0 a.0.ref_ptr.1 ∷ [], (vint w64 a.1.0 ∷ [], (vint w64 a.1.1.0 ∷ [], tt)))), gh) in let Post : Val → SProp 𝓤 = (walk_of 𝓛 En hs c).post y in
     let b' : ℕ = a.0.ref_ptr.0 in let o' : ℕ = a.0.ref_ptr.1 in let h : PointerRow.Denot = a.0.now in let p : Ptr = h.at in let cs : List (Option T.Denot) = h.slots in let j : ℕ = a.1.0 in let w : ℕ = a.1.1.0 in let others : Fml = fsep (flft κs.1.0 qs.1.0) ftrue in
     let b : ℕ = block_of p in
-    qed 𝓛 (((‵ (flft κs.0 qs.0) ⊛ ‵ others) ⊛ ‵ (owns (types_at En.signature.params κs) a y.0.4)) ∷ raw (fact 𝓤 _) ∷ raw (fact 𝓤 (j * 64 < length cs)) ∷ raw (fact 𝓤 (w ≡ word_number R (length cs) j)) ∷ []) ∵
-    keep ! (2 ∷ 3 ∷ 0 ∷ []) $ heard ! (j * 64 < length cs) (λ near. heard ! (w ≡ word_number R (length cs) j) (λ numbered. split ! $ split ! $ move ! (2 ∷ []) $ fsplit ! $ fsplit3 ! $ keep ! (1 ∷ 2 ∷ 4 ∷ 5 ∷ []) $
+    qed 𝓛 (((‵ (flft κs.0 qs.0) ⊛ ‵ others) ⊛ ‵ (owns (types_at En.signature.params κs) a y.0.4)) ∷ raw (fact 𝓤 _) ∷ raw (fact 𝓤 (j * 64 < length cs)) ∷ raw (fact 𝓤 (w ≡ flag_word_at R (length cs) j)) ∷ []) ∵
+    keep ! (2 ∷ 3 ∷ 0 ∷ []) $ heard ! (j * 64 < length cs) (λ near. heard ! (w ≡ flag_word_at R (length cs) j) (λ numbered. split ! $ split ! $ move ! (2 ∷ []) $ fsplit ! $ fsplit3 ! $ keep ! (1 ∷ 2 ∷ 4 ∷ 5 ∷ []) $
     enter ! 𝓣.C 𝓣.Λ fn (vptr b' o' ∷ vint w64 j ∷ vint w64 w ∷ []) Post $ alloc_all ! (λ l. pass_all ! refl ((tt, tt), ((tt, record { fits = are.1.0.1 }), ((tt, record { fits = are.1.1.0.1 }), tt))) $ let Ev = env fn.locals l in
     opens ! tt PointerRow b' o' (λ us. move ! (1 ∷ []) $ peeks ! PointerRow _ (shows 𝓛 PointerRow) h us (λ known. fsplit ! $ move ! (1 ∷ []) $
     use1 𝓛 (some (λ (n : ℕ). given (IsWordIn R p cs j n) (‵ (flags_of R (length cs) p n j) ⊛ raw (Same R 𝓛 p cs j n)))) (pointer_chunk R 𝓛 p cs j near) $ pick ! (λ n. learn ! (λ so. split ! $ let number_at : w ≡ value_words R (length cs) + j = numbered ∙ so.place.number in let small : w * 8 < 2 ^ 64 = subst (λ (m : ℕ). m * 8 < 2 ^ 64) (sym number_at) so.place.near in

@@ -1,8 +1,8 @@
 -- `publish` writes the value of a slot, and then sets its bit in its chunk's word.
 use Rattle.thread_local_lemmas.proofs.Names.{◌≡◌, ℕ, ◌+◌, ◌*◌, ◌^◌, ◌<◌, List, [], ◌∷◌, ◌++◌, length, set, sym, refl, ap, ◌∙◌, subst, lit<, w64, Option, Some, None, a_type, bare, Val, vint, vptr, vunit, inst_fn, full_share, SProp, ent, id⊢, emp, Fml, ftrue, fsep, fat, froom, flft, WpFn, ‵, raw, ◌⊛◌, some, given, at_ret, ◌$◌, ◌∵◌, !, qed, by, move, keep, use0, use1, use3, split, split3, join, fsplit, fsplit3, fjoin, fjoin3, pick, learn, suffices, rewrite, feq_i, stop, fld, load, look, lit, unit_lit, size_word, of_opd, bin, first, blocks, exec, returns, enter, init, store, assigns, assigns_last, alloc_all, pass_all, free_all, look_at, get, through, sets, is, env, sub, look_in, whole, tables, fact, fact_i, yes, no, RattleType, owns, types_at, plain, Ptr, block_ptr, block_of, count_of, at_block, nothing, heard, opens, closes, peeks, shows, param, layout, layouts, param_laws, usize, Stays, stay_dropped, stay_ref, walk_of, Goes-dropped, Goes-ref, cell_at, Member, proved_at, leaves, after, one, gather}
 use Rattle.std.specs.Prelude.{◌/◌, ◌%◌, bit_or}
-use Rattle.thread_local_lemmas.proofs.Word.{set_bit, set_fits, place_below, place_fits, shifted_left}
-use Rattle.thread_local_blocks.specs.Slots.{slot_value, stride, value_words, word_number, value_offset, content_at, heap_token}
+use Rattle.thread_local_lemmas.proofs.Word.{set_bit, set_fits, place_below, bit_fits, shifted_left}
+use Rattle.thread_local_blocks.specs.Slots.{slot_value, stride, value_words, flag_word_at, value_offset, content_at, heap_token}
 use Rattle.thread_local_blocks.proofs.Slots.{IsSlotIn, Change, flags_of, slot_of}
 use Rattle.thread_local_blocks.proofs.Flags.{uncapped}
 use Rattle.thread_local_bucket_pointers.specs.PointerOwns.{pointer_owns}
@@ -23,8 +23,8 @@ publish_spec 𝓤 𝓛 𝓜 𝓡 wired T L =
     let b' : ℕ = a.0.ref_ptr.0 in let o' : ℕ = a.0.ref_ptr.1 in let h : PointerRow.Denot = a.0.now in let p : Ptr = h.at in let cs : List (Option T.Denot) = h.slots in let j : ℕ = a.1.0 in let w : ℕ = a.1.1.0 in let new : T.Denot = a.1.1.1.0 in let others : Fml = fsep (flft κs.1.0 qs.1.0) ftrue in
     let b : ℕ = block_of p in let k : ℕ = j / 64 in let i : ℕ = j % 64 in let at : ℕ = value_offset R (count_of p) j in let s : Option T.Denot = slot_value cs j in let LR = (param_laws 0 T L).lawful 𝓛 in let m : Member = record { row = R; ty = layout T } in
     let got = one (layout T) vss.1.1.1.0 (LR.typed new vss.1.1.1.0 are.1.1.1.0) in let vy : Val = got.0 in
-    qed 𝓛 (((‵ (flft κs.0 qs.0) ⊛ ‵ others) ⊛ ‵ (owns (types_at En.signature.params κs) a vss)) ∷ raw (fact 𝓤 _) ∷ raw (fact 𝓤 (j < length cs)) ∷ raw (fact 𝓤 (w ≡ word_number R (length cs) k)) ∷ raw (fact 𝓤 (s ≡ None)) ∷ []) ∵
-    keep ! (2 ∷ 3 ∷ 4 ∷ 0 ∷ []) $ heard ! (j < length cs) (λ near. heard ! (w ≡ word_number R (length cs) k) (λ numbered. heard ! (s ≡ None) (λ empty. split ! $ split ! $ move ! (2 ∷ []) $ fsplit3 ! $ fsplit3 ! $ move ! (4 ∷ []) $ fsplit3 ! $ keep ! (4 ∷ 5 ∷ 7 ∷ 1 ∷ 8 ∷ []) $
+    qed 𝓛 (((‵ (flft κs.0 qs.0) ⊛ ‵ others) ⊛ ‵ (owns (types_at En.signature.params κs) a vss)) ∷ raw (fact 𝓤 _) ∷ raw (fact 𝓤 (j < length cs)) ∷ raw (fact 𝓤 (w ≡ flag_word_at R (length cs) k)) ∷ raw (fact 𝓤 (s ≡ None)) ∷ []) ∵
+    keep ! (2 ∷ 3 ∷ 4 ∷ 0 ∷ []) $ heard ! (j < length cs) (λ near. heard ! (w ≡ flag_word_at R (length cs) k) (λ numbered. heard ! (s ≡ None) (λ empty. split ! $ split ! $ move ! (2 ∷ []) $ fsplit3 ! $ fsplit3 ! $ move ! (4 ∷ []) $ fsplit3 ! $ keep ! (4 ∷ 5 ∷ 7 ∷ 1 ∷ 8 ∷ []) $
     rewrite ! 3 (λ (ws : List Val). ‵ (R.own_val new ws)) got.1 refl $ let us : List Val = vptr b' o' ∷ vint w64 j ∷ vint w64 w ∷ vy ∷ [] in let Run : List Val → SProp 𝓤 = λ ws. WpFn 𝓤 H 𝓣.C 𝓣.Λ fn ws Post in
     suffices ! (Run us) (subst (λ (ws : List Val). ent 𝓤 (Run us) (Run ws)) (sym (λ i. are.0.0 i ++ (are.1.0.0 i ++ (are.1.1.0.0 i ++ (got.1 i ++ []))))) (id⊢ 𝓤 (Run us))) $
     enter ! 𝓣.C 𝓣.Λ fn us Post $ alloc_all ! (λ l. pass_all ! refl ((tt, tt), ((tt, record { fits = are.1.0.1 }), ((tt, record { fits = are.1.1.0.1 }), (got.2, tt)))) $ let Ev = env fn.locals l in
@@ -40,7 +40,7 @@ publish_spec 𝓤 𝓛 𝓜 𝓡 wired T L =
     sets ! (of_opd ! (load ! (through ! refl (fld ! refl (stop !))) (look_in ! 4 (sub ! 0 refl (whole !))))) refl (tt, tt) $
     first ! $ blocks ! $ sets ! (of_opd ! (get ! refl)) refl (tt, tt) $ sets ! (is ! (bin ! (get ! refl) (size_word !) (record { fits = subst (λ (m : ℕ). m < 2 ^ 64) (sym (uncapped j (stride R) near_value)) near_value })) (ap (vint w64) (uncapped j (stride R) near_value))) refl (tt, record { fits = near_value }) $ sets ! (bin ! (get ! refl) (get ! refl) tt) refl (tt, tt) $
     sets ! (of_opd ! (get ! refl)) refl got.2 $ assigns ! (of_opd ! (get ! refl)) (through ! refl (stop !)) (init ! 0 refl got.2) $ sets ! (of_opd ! (get ! refl)) refl (tt, tt) $ sets ! (is ! (bin ! (get ! refl) (lit ! tt) (record { fits = small })) (ap (λ (m : ℕ). vint w64 (m * 8)) number_at)) refl (tt, record { fits = so.place.near }) $ sets ! (bin ! (get ! refl) (get ! refl) tt) refl (tt, tt) $
-    sets ! (bin ! (get ! refl) (lit ! tt) (lit< tt)) refl (tt, record { fits = place_fits j }) $ sets ! (of_opd ! (get ! refl)) refl (tt, record { fits = place_fits j }) $ sets ! (bin ! (lit ! tt) (get ! refl) (place_below j)) refl (tt, record { fits = shifted_left 1 i }) $
+    sets ! (bin ! (get ! refl) (lit ! tt) (lit< tt)) refl (tt, record { fits = bit_fits j }) $ sets ! (of_opd ! (get ! refl)) refl (tt, record { fits = bit_fits j }) $ sets ! (bin ! (lit ! tt) (get ! refl) (place_below j)) refl (tt, record { fits = shifted_left 1 i }) $
     sets ! (of_opd ! (load ! (through ! refl (stop !)) (look ! 1 refl))) refl (tt, record { fits = read }) $ sets ! (bin ! (get ! refl) (get ! refl) tt) refl (tt, record { fits = fits }) $
     assigns_last ! (of_opd ! (get ! refl)) (through ! refl (stop !)) (store ! 1 refl (tt, record { fits = fits })) $ exec ! 𝓣.C 𝓣.Λ Ev (after 2 fn.body) (at_ret Ev Post) $ sets ! (of_opd ! (unit_lit !)) refl (tt, tt) $
     use1 𝓛 (‵ (fat full_share (bare (layout T)) b at vy)) (𝓛.laws.at_raw full_share (layout T) b at vy) $ move ! (0 ∷ 8 ∷ []) $ gather m ! new vy b at $ move ! (1 ∷ 0 ∷ 2 ∷ []) $

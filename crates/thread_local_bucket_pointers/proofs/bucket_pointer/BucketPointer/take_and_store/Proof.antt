@@ -3,7 +3,7 @@
 use Rattle.thread_local_lemmas.proofs.Names.{◌≡◌, ℕ, ◌+◌, ◌*◌, ◌^◌, ◌<◌, List, [], ◌∷◌, length, set, sym, refl, ap, ◌∙◌, subst, w64, Option, Some, None, a_type, named, bare, Val, vint, vptr, inst_fn, full_share, SProp, emp, Fml, ftrue, fsep, froom, flft, ‵, raw, ◌⊛◌, some, given, at_ret, ◌$◌, ◌∵◌, !, qed, by, move, keep, use0, use1, use3, split, split3, join, fsplit, fsplit3, fjoin, fjoin3, pick, learn, rewrite, feq_i, stop, fld, load, look_raw, lit, size_word, of_opd, bin, first, blocks, exec, returns, enter, store, assigns, alloc_all, pass_all, free_all, look_at, get, through, sets, sets_last, is, env, sub, look_in, whole, tables, fact, fact_i, yes, RattleType, owns, types_at, plain, Ptr, block_ptr, block_of, count_of, at_block, nothing, heard, opens, closes, peeks, shows, param, layout, layouts, param_laws, usize, u64, mut_vals, mut_Tells, uint_vals, uint_Tells, Stays, stay_dropped, stay_ref, walk_of, Goes-dropped, Goes-ref, cell_at, Member, proved, leaves, after, spread}
 use Rattle.std.specs.Prelude.{◌/◌, ◌%◌, is_some, IsSome}
 use Rattle.thread_local_lemmas.specs.Bits.{is_set}
-use Rattle.thread_local_blocks.specs.Slots.{slot_value, stride, value_words, word_number, value_offset, content_at, heap_token}
+use Rattle.thread_local_blocks.specs.Slots.{slot_value, stride, value_words, flag_word_at, value_offset, content_at, heap_token}
 use Rattle.thread_local_blocks.proofs.Slots.{IsSlotIn, Change, flags_of, slot_of, value_of, leaves_slot}
 use Rattle.thread_local_blocks.proofs.Flags.{uncapped}
 use Rattle.thread_local_bucket_pointers.specs.PointerOwns.{pointer_owns}
@@ -25,8 +25,8 @@ take_and_store_spec 𝓤 𝓛 𝓜 𝓡 wired T L =
     let b' : ℕ = a.0.ref_ptr.0 in let o' : ℕ = a.0.ref_ptr.1 in let h : PointerRow.Denot = a.0.now in let p : Ptr = h.at in let cs : List (Option T.Denot) = h.slots in let j : ℕ = a.1.0 in let w : ℕ = a.1.1.0 in let new : ℕ = a.1.1.1.0 in let others : Fml = fsep (flft κs.1.0 qs.1.0) ftrue in
     let b : ℕ = block_of p in let k : ℕ = j / 64 in let i : ℕ = j % 64 in let at : ℕ = value_offset R (count_of p) j in let s : Option T.Denot = slot_value cs j in let LR = (param_laws 0 T L).lawful 𝓛 in let m : Member = record { row = R; ty = layout T } in
     let RetiredBlock : Type 0 = (bit : ℕ) → bit < 64 → is_set new bit ≡ is_some (slot_value (set cs j None) (k * 64 + bit)) in
-    qed 𝓛 (((‵ (flft κs.0 qs.0) ⊛ ‵ others) ⊛ ‵ (owns (types_at En.signature.params κs) a y.0.4)) ∷ raw (fact 𝓤 _) ∷ (raw (fact 𝓤 (j < length cs)) ⊛ raw (fact 𝓤 (w ≡ word_number R (length cs) k)) ⊛ raw (fact 𝓤 (IsSome s)) ⊛ raw (fact 𝓤 RetiredBlock)) ∷ []) ∵
-    keep ! (2 ∷ 0 ∷ []) $ split3 ! $ heard ! (j < length cs) (λ near. heard ! (w ≡ word_number R (length cs) k) (λ numbered. split ! $ heard ! (IsSome s) (λ full. heard ! RetiredBlock (λ leaving. let x : T.Denot = (value_of s full).0 in let lies : s ≡ Some x = (value_of s full).1 in
+    qed 𝓛 (((‵ (flft κs.0 qs.0) ⊛ ‵ others) ⊛ ‵ (owns (types_at En.signature.params κs) a y.0.4)) ∷ raw (fact 𝓤 _) ∷ (raw (fact 𝓤 (j < length cs)) ⊛ raw (fact 𝓤 (w ≡ flag_word_at R (length cs) k)) ⊛ raw (fact 𝓤 (IsSome s)) ⊛ raw (fact 𝓤 RetiredBlock)) ∷ []) ∵
+    keep ! (2 ∷ 0 ∷ []) $ split3 ! $ heard ! (j < length cs) (λ near. heard ! (w ≡ flag_word_at R (length cs) k) (λ numbered. split ! $ heard ! (IsSome s) (λ full. heard ! RetiredBlock (λ leaving. let x : T.Denot = (value_of s full).0 in let lies : s ≡ Some x = (value_of s full).1 in
     split ! $ split ! $ move ! (2 ∷ []) $ fsplit ! $ fsplit3 ! $ keep ! (1 ∷ 2 ∷ 4 ∷ 5 ∷ []) $
     enter ! 𝓣.C 𝓣.Λ fn (vptr b' o' ∷ vint w64 j ∷ vint w64 w ∷ vint w64 new ∷ []) Post $ alloc_all ! (λ l. pass_all ! refl ((tt, tt), ((tt, record { fits = are.1.0.1 }), ((tt, record { fits = are.1.1.0.1 }), ((tt, record { fits = are.1.1.1.0.1 }), tt)))) $ let Ev = env fn.locals l in
     opens ! tt PointerRow b' o' (λ us. move ! (1 ∷ []) $ peeks ! PointerRow _ (shows 𝓛 PointerRow) h us (λ known. fsplit ! $ move ! (1 ∷ []) $

@@ -4,7 +4,7 @@ use Rattle.thread_local_model.specs.Buckets.{Contents, IsTable}
 use Rattle.thread_local_model.specs.Rows.{with_slot}
 use Rattle.thread_local_model.proofs.RowLaws.{IsTable-with_slot}
 use Rattle.thread_local_bucket_pointers.specs.Pointers.{contents_of}
-use Rattle.thread_local_blocks.specs.Slots.{word_number}
+use Rattle.thread_local_blocks.specs.Slots.{flag_word_at}
 use Rattle.thread_local_bucket_pointers.specs.contracts.bucket_pointers.BucketPointers.publish.{T-row}
 use Rattle.thread_local_bucket_pointers.proofs.ContentsOf.{size_of_pointer, slot_changes}
 use Rattle.thread_local_bucket_pointers.proofs.bucket_pointers.BucketPointers.publish.Goals as goal
@@ -21,6 +21,6 @@ returns g c = record {
       ∙ ap (λ (z : Contents g.row.T.Denot). with_slot z c.args.thread.bucket c.args.thread.index (Some c.args.value)) c.self.view_is;
 }
 
-pub publish-requires-clause-word : goal.publish-requires-clause-word
-publish-requires-clause-word g c = c.flag_word-word.ensures
-    ∙ ap (λ (n : ℕ). word_number (T-row g.row.T) n (c.args.thread.index / 64)) (size_of_pointer c.self.inside.pointers c.args.self.now c.args.thread.bucket c.args.thread.index c.bucket_size.result c.pointer_mut.result.now c.self.view_is c.self.invariant c.pointer_mut.ensures.value c.requires.in_bucket c.bucket_size.ensures)
+pub publish-requires-clause-flag_word : goal.publish-requires-clause-flag_word
+publish-requires-clause-flag_word g c = c.flag_word_at-word.ensures
+    ∙ ap (λ (n : ℕ). flag_word_at (T-row g.row.T) n (c.args.thread.index / 64)) (size_of_pointer c.self.inside.pointers c.args.self.now c.args.thread.bucket c.args.thread.index c.bucket_size.result c.pointer_mut.result.now c.self.view_is c.self.invariant c.pointer_mut.ensures.value c.requires.in_bucket c.bucket_size.ensures)

@@ -23,13 +23,13 @@ takes c d e b i cursor t same after on =
     let P : Contents _ → Type 0 = λ w. Takes c w cursor in
     subst P (sym now) (record { leaves = emptied-with_slot c b i None; ends = λ none. emptied-none taken (IsTable-with_slot c b i None t) (sym on.counted ∙ none) })
 
-it_takes : (g : _) (c : goal.After-take_and_store-value g) → Takes c.self.inside.pointers c.take_and_store-value.new.self c.pass-place.new.self
+it_takes : (g : _) (c : goal.After-take_and_store-value g) → Takes c.self.inside.pointers c.take_and_store-value.new.self c.pass-bit.new.self
 it_takes g c =
-    let cursor = c.pass-place.new.self in
-    let i = slot_at cursor.raw c.pass-place.result in
+    let cursor = c.pass-bit.new.self in
+    let i = slot_at cursor.raw c.pass-bit.result in
     let P : Contents g.row.T.Denot → Type 0 = λ w. IsOwnerWalk (with_slot w cursor.raw.bucket i None) cursor in
-    takes c.self.inside.pointers c.pass-place.new.source c.take_and_store-value.new.self cursor.raw.bucket i cursor
-    c.self.invariant.table (c.pass-place.ensures.same ∙ c.reach.ensures.same) c.take_and_store-value.ensures.after (subst P c.reach.ensures.same c.pass-place.ensures.walk)
+    takes c.self.inside.pointers c.pass-bit.new.source c.take_and_store-value.new.self cursor.raw.bucket i cursor
+    c.self.invariant.table (c.pass-bit.ensures.same ∙ c.reach.ensures.same) c.take_and_store-value.ensures.after (subst P c.reach.ensures.same c.pass-bit.ensures.walk)
 
 pub returns-clause-ends : goal.returns-clause-ends
 returns-clause-ends g c = (it_takes g c).ends

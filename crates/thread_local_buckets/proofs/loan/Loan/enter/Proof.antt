@@ -40,11 +40,11 @@ enter_spec 𝓤 𝓛 𝓜 𝓡 wired X L =
     let near : i < length r = subst (λ n. i < n) (sym (so.1.long k)) inside in let sb : ℕ = block_of p in let v : ℕ = value_offset R (count_of p) i in
     move ! (7 ∷ []) $ fsplit ! $ move ! (2 ∷ 0 ∷ []) $ bor_open ! tt $ move ! (1 ∷ []) $
     use1 𝓛 (‵ (framed R wb e p r) ⊛ raw (Frame 𝓛 R wb wo s.0 rs k e)) (frame_out 𝓛 R wb s.0 rs k wo e refl (subst (λ n. k < n) (sym so.1.rows) small)) $ split ! $ fsplit3 ! $ move ! (1 ∷ []) $ fpick ! (λ lead. drop ! $
-    let leads = leads_in R p r lead (omega arith) in let place : p ≡ block_ptr sb (count_of p) = at_block p leads.0 in let low : k * 8 < 2 ^ 64 = omega arith in let n : ℕ = length r in
+    let leads = leads_in R p r lead (omega arith) in let lies : p ≡ block_ptr sb (count_of p) = at_block p leads.0 in let low : k * 8 < 2 ^ 64 = omega arith in let n : ℕ = length r in
     let value_fits : i * stride R < 2 ^ 64 = value_near R n i leads.1 near in
     -- [the pointer; the flags; the way back; the open frames; a token; the values; the fields; the
     -- loan's cell; its open borrow, in three entries]
-    rewrite ! 7 (λ (ws : List Val). ‵ (cell_at full_share Lo.mir ws b o)) ev refl $ rewrite ! 0 (λ (q : Ptr). ‵ (cell wb e q)) place refl $
+    rewrite ! 7 (λ (ws : List Val). ‵ (cell_at full_share Lo.mir ws b o)) ev refl $ rewrite ! 0 (λ (q : Ptr). ‵ (cell wb e q)) lies refl $
     first ! $ blocks ! $ sets ! (of_opd ! (load ! (through ! refl (fld ! refl (stop !))) (look_in ! 7 (sub ! 0 refl (whole !))))) refl (tt, tt) $
     sets ! (bin ! (get ! refl) (lit ! tt) (record { fits = low })) refl (tt, record { fits = low }) $
     sets ! (bin ! (get ! refl) (get ! refl) tt) refl (tt, tt) $
@@ -52,7 +52,7 @@ enter_spec 𝓤 𝓛 𝓜 𝓡 wired X L =
     sets ! (of_opd ! (get ! refl)) refl (tt, tt) $ sets ! (is ! (bin ! (get ! refl) (size_word !) (record { fits = subst (λ (j : ℕ). j < 2 ^ 64) (sym (uncapped i (stride R) value_fits)) value_fits })) (ap (vint w64) (uncapped i (stride R) value_fits))) refl (tt, record { fits = value_fits }) $
     sets_last ! (bin ! (get ! refl) (get ! refl) tt) refl (tt, tt) $ exec ! 𝓣.C 𝓣.Λ Ev (after 1 fn.body) (at_ret Ev Post) $
     sets ! (of_opd ! (get ! refl)) refl (tt, tt) $ assigns ! (of_opd ! (get ! refl)) (through ! refl (fld ! refl (stop !))) (store_in ! 7 (sub ! 1 refl (whole !)) (tt, tt)) $ sets ! (of_opd ! (unit_lit !)) refl (tt, tt) $
-    rewrite ! 0 (λ (q : Ptr). ‵ (cell wb e q)) (sym place) refl $ nothing ! $ fpack ! (PointsTo R p r) (λ _. ftrue) lead $ move ! (1 ∷ 0 ∷ 2 ∷ []) $ fjoin3 ! $ use2 𝓛 (‵ (frames R wb wo s.0 rs)) (apply∗ 𝓤 (sem 𝓛 (framed R wb e p r)) (sem 𝓛 (frames R wb wo s.0 rs))) $
+    rewrite ! 0 (λ (q : Ptr). ‵ (cell wb e q)) (sym lies) refl $ nothing ! $ fpack ! (PointsTo R p r) (λ _. ftrue) lead $ move ! (1 ∷ 0 ∷ 2 ∷ []) $ fjoin3 ! $ use2 𝓛 (‵ (frames R wb wo s.0 rs)) (apply∗ 𝓤 (sem 𝓛 (framed R wb e p r)) (sem 𝓛 (frames R wb wo s.0 rs))) $
     move ! (1 ∷ 0 ∷ []) $ obor_close ! tt $
     -- [the frames; two tokens; the values; the fields; the loan's cell; its open borrow, in three
     -- entries]

@@ -15,7 +15,7 @@ use Rattle.thread_local_buckets.specs.Lent.{Lending, Known, lending, Values, len
 use Rattle.thread_local_buckets.specs.contracts.loan.Loan as loan
 use Rattle.thread_local_buckets.specs.contracts.loan.Loan.give.{ended, clauses}
 use Rattle.thread_local_buckets.specs.contracts.loan.Loan.give.Key.{name as #self}
-use Rattle.thread_local_buckets.proofs.Fields.{FieldsType, told, loan_val, the_value, the_value_is, value_apart, place_fits}
+use Rattle.thread_local_buckets.proofs.Fields.{FieldsType, told, loan_val, the_value, the_value_is, value_apart, distance_fits}
 use Rattle.thread_local_buckets.proofs.Left.{left_after}
 use Rattle.thread_local_buckets.proofs.Giving.{gives, less, whole_of}
 use Rattle.thread_local_buckets.proofs.Frames.{pointer, in_row}
@@ -47,7 +47,7 @@ give_spec 𝓤 𝓛 𝓜 𝓡 wired X L =
     let ev : ts ≡ loan_val (block_ptr wb wo) (block_ptr sb from) ∷ [] = told ℓ R h.pointers h.values ts is_so ∙ ap (λ (q : Ptr). loan_val q h.values ∷ []) at ∙ ap (λ (q : Ptr). loan_val (block_ptr wb wo) q ∷ []) based in
     let near : i < length r = subst (λ n. i < n) (sym (so.1.long k)) inside in let x : X.Denot = the_value (value_in h.contents k i) published in
     let had = the_value_is (value_in h.contents k i) published in let kept : k < length h.contents.rows = subst (λ n. k < n) (sym so.1.table.buckets) small in
-    let value_fits : j * stride R < 2 ^ 64 = place_fits R (length r) h.first j (so.2 small).1 near in
+    let value_fits : j * stride R < 2 ^ 64 = distance_fits R (length r) h.first j (so.2 small).1 near in
     move ! (7 ∷ []) $ fsplit ! $ move ! (2 ∷ []) $
     -- [the frames; two tokens; the values; the fields; the loan's cell; its open borrow, in three
     -- entries]

@@ -5,7 +5,7 @@ use Rattle.std.proofs.Common.{IsSome}
 use Rattle.thread_local_model.specs.Learnt.{Learnt, Holding}
 use Rattle.thread_local_tokens.specs.Told.{tells}
 use Rattle.thread_local_tokens.specs.contracts.witness.Witness as Witness
-use Rattle.thread_local_claim.specs.Known.{IsKnown}
+use Rattle.thread_local_claim.specs.Known.{HasLooked}
 use Rattle.thread_local_claim.specs.Claims.{ClaimFields, claim_fields, claim_owns}
 use Rattle.thread_local_claim.proofs.Agreed as agreed
 use Rattle.thread_local_claim.specs.contracts.claimed.ClaimedSlot as claim
@@ -24,7 +24,7 @@ agrees_spec 𝓤 𝓛 𝓜 𝓡 wired X L =
     let ℓ = named_lft 4 1 tt κs in let G : RattleType = claim.the_row ℓ R in let b : ℕ = a.0.ref_ptr.0 in let o : ℕ = a.0.ref_ptr.1 in let κ : Lft = κs.0 in let β : Lft = κs.1.0 in let q : Share = qs.1.0 in
     let h = a.0.now in let w = a.1.0.now in let x : X.Denot = w.value in let l₀ : Learnt X.Denot = h.learnt in let f : ClaimFields = claim_fields h.id h.index h.bucket h.at h.sharing h.reserved in let rest : Fml = fsep (flft κs.1.1.0 qs.1.1.0) (fsep (flft κs.1.1.1.0 qs.1.1.1.0) ftrue) in
     let p' : Val = vptr a.1.0.ref_ptr.0 a.1.0.ref_ptr.1 in let y : (walk_of 𝓛 En hs c).Ghost = ((κs, qs, bounds, a, (mut_vals a.0, (p' ∷ [], tt))), gh) in let Post : Val → SProp 𝓤 = (walk_of 𝓛 En hs c).post y in
-    let At : Type 0 = h.id ≡ w.id in let In : Type 0 = ◌≡◌ {A = Option ℕ} h.sharing w.sharing in let Named : Type 0 = IsSome h.sharing in let Known : Type 0 = IsKnown l₀ in let Holds : Type 0 = l₀ ≡ Holding x in let Same : Type 0 = h ≡ h in
+    let At : Type 0 = h.id ≡ w.id in let In : Type 0 = ◌≡◌ {A = Option ℕ} h.sharing w.sharing in let Named : Type 0 = IsSome h.sharing in let Known : Type 0 = HasLooked l₀ in let Holds : Type 0 = l₀ ≡ Holding x in let Same : Type 0 = h ≡ h in
     qed 𝓛 (((‵ (flft κ qs.0) ⊛ ‵ (flft β q) ⊛ ‵ rest) ⊛ ‵ (owns (types_at En.signature.params κs) a y.0.4)) ∷ raw (fact 𝓤 _) ∷ raw (fact 𝓤 At) ∷ raw (fact 𝓤 In) ∷ raw (fact 𝓤 Named) ∷ raw (fact 𝓤 Known) ∷ []) ∵
     keep ! (2 ∷ 3 ∷ 4 ∷ 5 ∷ 0 ∷ []) $ heard ! At (λ at. heard ! In (λ same. heard ! Named (λ named_so. heard ! Known (λ known.
     split ! $ split3 ! $ move ! (3 ∷ []) $ fsplit3 ! $ move ! (1 ∷ []) $ fsplit ! $ keep ! (1 ∷ 2 ∷ 4 ∷ 5 ∷ 6 ∷ []) $ unhide ! $ fsplit ! $ drop ! $

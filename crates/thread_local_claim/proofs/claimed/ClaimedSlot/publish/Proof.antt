@@ -19,17 +19,17 @@ use denote.Signature.{named_lft}
 use Rattle.std.proofs.raw_atomic.Calls.{seq_cst, found, finds, adds}
 use Rattle.std.proofs.raw_atomic.PtrCalls.{seq_cst_good}
 use Rattle.std.specs.Coded.{coded_option}
-use Rattle.thread_local_lemmas.proofs.Word.{place_below, place_fits, shifted_left}
+use Rattle.thread_local_lemmas.proofs.Word.{place_below, bit_fits, shifted_left}
 use Rattle.thread_local_judged.specs.Judged.{Judged}
 use Rattle.thread_local_tokens.specs.Rights.{right_owns}
-use Rattle.thread_local_blocks.specs.Slots.{stride, value_words, word_at, value_offset, content_at}
+use Rattle.thread_local_blocks.specs.Slots.{stride, value_words, word_offset, value_offset, content_at}
 use Rattle.thread_local_blocks.proofs.Flags.{in_chunks, value_near}
 use Rattle.thread_local_blocks.proofs.Slots.{IsWordNear, word_is_near}
 use Rattle.thread_local_shared_bucket.specs.Shared.{name_at, BucketView, Turn, StandingBlock, Sized, mark, len, value_code, tracked_value, pinned, age, opened, by as lent_by, bucket_invariant}
 use Rattle.thread_local_shared_bucket.proofs.Rested.{publishes}
 use Rattle.thread_local_tokens.specs.Told.{tells}
 use Rattle.thread_local_model.specs.Learnt.{Learnt, Vacant, Holding}
-use Rattle.thread_local_claim.specs.Claims.{ClaimFields, number_of_id, claim_fields, IsOf, IsKept, value_at, has, has_slot, has_at}
+use Rattle.thread_local_claim.specs.Claims.{ClaimFields, flag_word_of, claim_fields, IsOf, IsKept, value_at, has, has_slot, has_at}
 use Rattle.thread_local_claim.specs.contracts.claimed.ClaimedSlot as claim
 use Rattle.thread_local_claim.specs.contracts.claimed.ClaimedSlot.publish.{ended, clauses}
 use Rattle.thread_local_claim.specs.contracts.claimed.ClaimedSlot.publish.Key.{name as #self}
@@ -49,8 +49,8 @@ publish_spec 𝓤 𝓛 𝓜 𝓡 wired X L =
     let w : Ptr = h.bucket in let wb : ℕ = block_of w in let wo : ℕ = count_of w in let i : ℕ = h.index in let pl : ClaimFields = claim_fields h.id i w h.at h.sharing h.reserved in
     let seen = told ℓ R (kept_of h) vss.0 are.0.0 in let see_index = uint_Tells w64 ix vss.1.0 are.1.0 in let see_number = uint_Tells w64 num vss.1.1.0 are.1.1.0 in let m : Member = record { row = R; ty = layout X } in let got = one (layout X) vss.1.1.1.0 ((LR.lawful 𝓛).typed x vss.1.1.1.0 are.1.1.1.0) in let vx : Val = got.0 in
     let F₁ : G.Denot → Type 0 = λ g. (g.table ≡ h.table) × (◌≡◌ {A = Option ℕ} g.sharing h.sharing) × (g.id ≡ h.id) × (g.index ≡ i) in let F₂ : G.Denot → Type 0 = λ g. g.learnt ≡ Holding x in let F₃ : G.Denot → Type 0 = λ g. g.reserved ≡ h.reserved in let Run : List Val → SProp 𝓤 = λ ws. WpFn 𝓤 H 𝓣.C 𝓣.Λ fn ws Post in
-    qed 𝓛 (((‵ (flft β q) ⊛ ‵ others) ⊛ ‵ (owns (types_at En.signature.params κs) a vss)) ∷ raw (fact 𝓤 (Incl υ X.lives)) ∷ raw (fact 𝓤 (h.learnt ≡ Vacant)) ∷ raw (fact 𝓤 (ix ≡ i)) ∷ raw (fact 𝓤 (num ≡ number_of_id R h.id)) ∷ []) ∵
-    move ! (1 ∷ 2 ∷ 3 ∷ 4 ∷ []) $ heard ! (Incl υ X.lives) (λ alive. heard ! (h.learnt ≡ Vacant) (λ empty. heard ! (ix ≡ i) (λ is_index. heard ! (num ≡ number_of_id R h.id) (λ numbered. split ! $ split ! $ move ! (2 ∷ []) $ fsplit3 ! $ fsplit ! $
+    qed 𝓛 (((‵ (flft β q) ⊛ ‵ others) ⊛ ‵ (owns (types_at En.signature.params κs) a vss)) ∷ raw (fact 𝓤 (Incl υ X.lives)) ∷ raw (fact 𝓤 (h.learnt ≡ Vacant)) ∷ raw (fact 𝓤 (ix ≡ i)) ∷ raw (fact 𝓤 (num ≡ flag_word_of R h.id)) ∷ []) ∵
+    move ! (1 ∷ 2 ∷ 3 ∷ 4 ∷ []) $ heard ! (Incl υ X.lives) (λ alive. heard ! (h.learnt ≡ Vacant) (λ empty. heard ! (ix ≡ i) (λ is_index. heard ! (num ≡ flag_word_of R h.id) (λ numbered. split ! $ split ! $ move ! (2 ∷ []) $ fsplit3 ! $ fsplit ! $
     move ! (3 ∷ []) $ fsplit3 ! $ keep ! (4 ∷ 1 ∷ 6 ∷ 7 ∷ []) $
     move ! (1 ∷ []) $ rewrite ! 0 (λ (ws : List Val). ‵ (R.own_val x ws)) got.1 refl $ let us : List Val = u₀ ∷ vint w64 ix ∷ vint w64 num ∷ vx ∷ [] in
     suffices ! (Run us) (subst (λ (ws : List Val). ent 𝓤 (Run us) (Run ws)) (sym (λ j. seen j ++ (see_index j ++ (see_number j ++ (got.1 j ++ []))))) (id⊢ 𝓤 (Run us))) $
@@ -58,7 +58,7 @@ publish_spec 𝓤 𝓛 𝓜 𝓡 wired X L =
     -- [the value; what the claim owns; the token; the other tokens]
     move ! (1 ∷ []) $ fsplit ! $ drop ! $ fpick ! (λ z. fsplit ! $ fpick ! (λ of. drop ! $ fsplit ! $ move ! (1 ∷ []) $ let d : BucketView = z.0 in let t : Turn = z.1 in
     rewrite ! 0 (λ (k : Learnt X.Denot). ‵ (has R d t β pl k)) empty refl $ fpick ! (λ s. fsplit ! $ fpick ! (λ leads. drop ! $ fsplit ! $ move ! (1 ∷ []) $ fsplit3 ! $
-    let pb : ℕ = block_of s.at in let po : ℕ = count_of s.at in let k : ℕ = i / 64 in let j : ℕ = i % 64 in let at_word : ℕ = word_at R (len R d) (count_of s.at) k in let e : ℕ = value_offset R (count_of s.at) i in let η : GName = name_at s.names i in let life : Lft = age R t pb s.own in let V : Fml = tracked_value R pb e η in let J : Fml = fbor t.life (bucket_invariant R d t wb (wo + 0)) in let no : Option X.Denot = None in let new : Option X.Denot = Some x in
+    let pb : ℕ = block_of s.at in let po : ℕ = count_of s.at in let k : ℕ = i / 64 in let j : ℕ = i % 64 in let at_word : ℕ = word_offset R (len R d) (count_of s.at) k in let e : ℕ = value_offset R (count_of s.at) i in let η : GName = name_at s.names i in let life : Lft = age R t pb s.own in let V : Fml = tracked_value R pb e η in let J : Fml = fbor t.life (bucket_invariant R d t wb (wo + 0)) in let no : Option X.Denot = None in let new : Option X.Denot = Some x in
     -- [vacant; the name; the borrow; the row; what is kept; the value; the token; the other tokens]
     move ! (3 ∷ []) $ fsplit ! $ fpick ! (λ sized. move ! (1 ∷ []) $ fsplit ! $ use1 𝓛 (‵ (fres t.which (mark s)) ⊛ ‵ (fres t.which (mark s))) (𝓛.names.res_dup t.which (mark s)) $ split ! $
     move ! (2 ∷ []) $ use1 𝓛 (‵ (before β life) ⊛ ‵ (before β life)) (before_dup 𝓛 β life) $ split ! $ move ! (2 ∷ 0 ∷ []) $ fjoin ! $ move ! (3 ∷ []) $ fpack ! ((length s.names ≡ len R d) × Sized R (len R d) s.at) (λ _. ftrue) sized $ move ! (0 ∷ 1 ∷ []) $ fjoin ! $
@@ -110,7 +110,7 @@ publish_spec 𝓤 𝓛 𝓜 𝓡 wired X L =
     move ! (2 ∷ 5 ∷ []) $ use2 𝓛 (later (some (λ (g' : Share). ‵ (flft t.life g') ⊛ raw (wand 𝓤 (𝓛.A.lft t.life g') (H.⇛ (𝓛.A.lft β q)))))) (Lends-one 𝓛 𝓜 𝓡 β t.life q) $ await ! tt $ pick ! (λ g'. split ! $
     let low = subst (λ (n : ℕ). i < n) (sym sized.0) of.4 in let out : Fml = fsep (flft t.life g') (fsep (right_owns t.filled h.id) (tells R d.sharing h.id (Some x))) in
     let flag : ℕ = steps.flag 𝓛 R d t wb (wo + 0) s i h.id e pb low of.3 refl refl in let flag_fits : flag < 2 ^ 64 = shifted_left 1 j in let after_it : ℕ → Fml = λ _. out in
-    first ! $ blocks ! $ sets ! (of_opd ! (get ! refl)) refl (tt, tt) $ sets ! (of_opd ! (get ! refl)) refl (tt, record { fits = are.1.0.1 }) $ sets ! (is ! (bin ! (get ! refl) (lit ! tt) (lit< tt)) (ap (λ (n : ℕ). vint w64 (n % 64)) is_index)) refl (tt, record { fits = place_fits i }) $ sets ! (of_opd ! (get ! refl)) refl (tt, record { fits = place_fits i }) $ sets ! (bin ! (lit ! tt) (get ! refl) (place_below i)) refl (tt, record { fits = flag_fits }) $
+    first ! $ blocks ! $ sets ! (of_opd ! (get ! refl)) refl (tt, tt) $ sets ! (of_opd ! (get ! refl)) refl (tt, record { fits = are.1.0.1 }) $ sets ! (is ! (bin ! (get ! refl) (lit ! tt) (lit< tt)) (ap (λ (n : ℕ). vint w64 (n % 64)) is_index)) refl (tt, record { fits = bit_fits i }) $ sets ! (of_opd ! (get ! refl)) refl (tt, record { fits = bit_fits i }) $ sets ! (bin ! (lit ! tt) (get ! refl) (place_below i)) refl (tt, record { fits = flag_fits }) $
     sets ! (agg ! (and_then ! (lit ! tt) (no_more !))) refl seq_cst_good $ move ! (3 ∷ 0 ∷ 9 ∷ 4 ∷ []) $ group ! 4 $
     use1 𝓛 (raw (𝓣.C _ (vptr pb at_word ∷ vint w64 flag ∷ seq_cst ∷ []) (λ v. mean 𝓛 (found after_it v))))
     (via 𝓤 _ (steps.publishes 𝓛 R d t wb (wo + 0) s i h.id e pb low of.3 refl refl g' x) (adds 𝓛 𝓜 𝓡 (code.calls-std::sync::atomic::raw::fetch_add 𝓡.env wired) (block_ptr pb at_word) flag flag_fits after_it)) $

@@ -24,8 +24,8 @@ use Rattle.std.proofs.lemmas.Bool.{cases_eq, eq-eqb}
 use Rattle.std.proofs.lemmas.Nat.Bits.{bit_at-lt, shr_and_one}
 use Rattle.std.specs.Sync.RawAtomic.{asks, always}
 use Rattle.thread_local_lemmas.specs.Bits.{is_set}
-use Rattle.thread_local_lemmas.proofs.Word.{is_set-test, masked_fits, place_below, place_fits, shifted_right}
-use Rattle.thread_local_blocks.specs.Slots.{stride, value_words, word_number, word_at, value_offset}
+use Rattle.thread_local_lemmas.proofs.Word.{is_set-test, masked_fits, place_below, bit_fits, shifted_right}
+use Rattle.thread_local_blocks.specs.Slots.{stride, value_words, flag_word_at, word_offset, value_offset}
 use Rattle.thread_local_blocks.proofs.Flags.{in_chunks, uncapped, value_near}
 use Rattle.thread_local_blocks.proofs.Slots.{IsWordNear, word_is_near}
 use Rattle.thread_local_shared_bucket.specs.Shared.{BucketView, Turn, StandingBlock, name_at, mark, pinned, first as first_id, bucket_invariant, row_owns}
@@ -58,10 +58,10 @@ get_spec {M} 𝓤 𝓛 𝓜 𝓡 wired T L =
     proved 𝓛 En hs c 𝓜 𝓡 (Goes-dropped 𝓛 3 self yes (λ κs x f. refl), (goes, (goes, tt))) (#self inst) fn (code.unfolded 𝓤 H 𝓜 𝓡 wired (T, tt))
     (λ κs. (shr_vals, (uint_vals w64, (uint_vals w64, tt)))) (λ κs. (shr_Tells (named 0) κs.0 (Row.the_row (named_lft 3 1 tt κs) R), (uint_Tells w64, (uint_Tells w64, tt)))) (λ κs qs bounds a gh are.
     let ℓ = named_lft 3 1 tt κs in let D : RattleType = FieldsType ℓ R in let b : ℕ = a.0.ref_ptr.0 in let o : ℕ = a.0.ref_ptr.1 in let κ : Lft = κs.0 in let β : Lft = κs.1.0 in let q : Share = qs.1.0 in
-    let h = a.0.now in let p : Ptr = h.at in let d : BucketView = h.of in let i : ℕ = a.1.0 in let k : ℕ = a.1.1.0 in let many : ℕ = 2 ^ d.bucket in let rest : Fml = fsep (flft κs.1.1.0 qs.1.1.0) ftrue in let pb : ℕ = block_of p in let e : ℕ = value_offset R (count_of p) i in let w : ℕ = word_at R many (count_of p) (i / 64) in let bit : ℕ = i % 64 in let G : RattleType = ShrRef (named 1) β R in
+    let h = a.0.now in let p : Ptr = h.at in let d : BucketView = h.of in let i : ℕ = a.1.0 in let k : ℕ = a.1.1.0 in let many : ℕ = 2 ^ d.bucket in let rest : Fml = fsep (flft κs.1.1.0 qs.1.1.0) ftrue in let pb : ℕ = block_of p in let e : ℕ = value_offset R (count_of p) i in let w : ℕ = word_offset R many (count_of p) (i / 64) in let bit : ℕ = i % 64 in let G : RattleType = ShrRef (named 1) β R in
     let y : (walk_of 𝓛 En hs c).Ghost = ((κs, qs, bounds, a, (vptr b o ∷ [], (vint w64 i ∷ [], (vint w64 k ∷ [], tt)))), gh) in let Post : Val → SProp 𝓤 = (walk_of 𝓛 En hs c).post y in
-    qed 𝓛 (((‵ (flft κ qs.0) ⊛ ‵ (flft β q) ⊛ ‵ rest) ⊛ ‵ (owns (types_at En.signature.params κs) a y.0.4)) ∷ raw (fact 𝓤 _) ∷ raw (fact 𝓤 (Shareable R)) ∷ raw (fact 𝓤 (i < many)) ∷ raw (fact 𝓤 (k ≡ word_number R many (i / 64))) ∷ []) ∵
-    keep ! (2 ∷ 3 ∷ 4 ∷ 0 ∷ []) $ heard ! (Shareable R) (λ shareable. heard ! (i < many) (λ near. heard ! (k ≡ word_number R many (i / 64)) (λ numbered. split ! $ split3 ! $ move ! (3 ∷ []) $ fsplit3 ! $ fsplit ! $ keep ! (1 ∷ 4 ∷ 5 ∷ 6 ∷ []) $
+    qed 𝓛 (((‵ (flft κ qs.0) ⊛ ‵ (flft β q) ⊛ ‵ rest) ⊛ ‵ (owns (types_at En.signature.params κs) a y.0.4)) ∷ raw (fact 𝓤 _) ∷ raw (fact 𝓤 (Shareable R)) ∷ raw (fact 𝓤 (i < many)) ∷ raw (fact 𝓤 (k ≡ flag_word_at R many (i / 64))) ∷ []) ∵
+    keep ! (2 ∷ 3 ∷ 4 ∷ 0 ∷ []) $ heard ! (Shareable R) (λ shareable. heard ! (i < many) (λ near. heard ! (k ≡ flag_word_at R many (i / 64)) (λ numbered. split ! $ split3 ! $ move ! (3 ∷ []) $ fsplit3 ! $ fsplit ! $ keep ! (1 ∷ 4 ∷ 5 ∷ 6 ∷ []) $
     enter ! 𝓣.C 𝓣.Λ fn (vptr b o ∷ vint w64 i ∷ vint w64 k ∷ []) Post $ alloc_all ! (λ l. pass_all ! refl ((tt, tt), ((tt, record { fits = are.1.0.1 }), ((tt, record { fits = are.1.1.0.1 }), tt))) $ let Ev = env fn.locals l in
     use1 𝓛 (‵ (hidden_shr D κ (p, (record {}, tt)) b o) ⊛ ‵ (fhide (row_owns R d h.names β p)))
     (lent_out 𝓛 (Row.struct ℓ R) (Row.the_codes T.Denot R.coded (marker.the_row (ShrRef ℓ.mir ℓ.lft R)).coded) (Row.the_heap β R) (Row.the_lent β R) κ h b o) $
@@ -90,14 +90,14 @@ get_spec {M} 𝓤 𝓛 𝓜 𝓡 wired T L =
     first ! $ blocks ! $ sets ! (of_opd ! (get ! refl)) refl (tt, tt) $ sets ! (agg ! (and_then ! (lit ! tt) (no_more !))) refl (tt, (record { fits = lit< tt }, tt)) $
     nothing ! $ move ! (5 ∷ 0 ∷ []) $ join ! $ move ! (6 ∷ 3 ∷ 0 ∷ []) $ let out : ℕ → Fml = λ n. fsep (flft t.life s) (by_flag lent (is_set n bit)) in
     use3 𝓛 (raw (𝓣.C _ (vptr pb w ∷ seq_cst ∷ []) (λ v. mean 𝓛 (found out v))))
-    (via 𝓤 _ (subst (λ (u : Ptr). ent 𝓤 (sep 𝓤 (𝓛.A.inv J) (sep 𝓤 (𝓛.A.lft t.life s) (sep 𝓤 (sem 𝓛 Which) (sem 𝓛 ftrue)))) (asks 𝓛 (block_ptr pb (word_at R many (count_of u) (i / 64))) (λ n. n) always out)) so.0
+    (via 𝓤 _ (subst (λ (u : Ptr). ent 𝓤 (sep 𝓤 (𝓛.A.inv J) (sep 𝓤 (𝓛.A.lft t.life s) (sep 𝓤 (sem 𝓛 Which) (sem 𝓛 ftrue)))) (asks 𝓛 (block_ptr pb (word_offset R many (count_of u) (i / 64))) (λ n. n) always out)) so.0
     (steps.looks 𝓛 R LR shareable d t z.2 z.3 sd i (i + first_id R d) e pb low refl at_e at_b s)) (loads 𝓛 𝓜 𝓡 (code.calls-std::sync::atomic::raw::load 𝓡.env wired) (block_ptr pb w) out)) $
     Calls-last ! (fm 𝓛 𝓜 𝓡) (found out) (and_then ! (get ! refl) (and_then ! (get ! refl) (no_more !))) (λ v. finds ! out (λ n fits.
     lands_last ! refl (tt, record { fits = fits }) $ exec ! 𝓣.C 𝓣.Λ Ev (after 4 fn.body) (at_ret Ev Post) $ sets ! (of_opd ! (get ! refl)) refl (tt, record { fits = fits }) $
     fsplit ! $ move ! (0 ∷ 4 ∷ []) $ use2 𝓛 (later (‵ (flft β q))) (apply∗ 𝓤 (𝓛.A.lft t.life s) (H.⇛ (𝓛.A.lft β q))) $ await ! tt $
     -- [β's token; what was seen; κ's token; the fields; before the block's own; the others]
     move ! (0 ∷ 5 ∷ []) $ join ! $ move ! (2 ∷ 0 ∷ []) $ join ! $ sets ! (of_opd ! (get ! refl)) refl (tt, record { fits = fits }) $ sets ! (of_opd ! (get ! refl)) refl (tt, record { fits = are.1.0.1 }) $
-    sets ! (bin ! (get ! refl) (lit ! tt) (lit< tt)) refl (tt, record { fits = place_fits i }) $ sets ! (of_opd ! (get ! refl)) refl (tt, record { fits = place_fits i }) $
+    sets ! (bin ! (get ! refl) (lit ! tt) (lit< tt)) refl (tt, record { fits = bit_fits i }) $ sets ! (of_opd ! (get ! refl)) refl (tt, record { fits = bit_fits i }) $
     let shifted : n / 2 ^ bit < 2 ^ 64 = shifted_right n bit fits in
     sets ! (bin ! (get ! refl) (get ! refl) (place_below i)) refl (tt, record { fits = shifted }) $ sets ! (bin ! (get ! refl) (lit ! tt) tt) refl (tt, record { fits = masked_fits (n / 2 ^ bit) 1 shifted }) $
     sets ! (bin ! (get ! refl) (lit ! tt) tt) refl (tt, tt) $ first ! $ branches ! (get ! refl)

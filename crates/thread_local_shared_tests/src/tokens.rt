@@ -11,7 +11,7 @@ use thread_local_buckets::Buckets;
 use thread_local_claim::Claim;
 use thread_local_ids::Ids;
 use thread_local_judged::{Judge, judge_sync};
-use thread_local_tokens::Published;
+use thread_local_tokens::Token;
 use thread_local_tokens::{HeldId, Right};
 use thread_local_shared_buckets::Shared;
 use thread_local_thread_id::Thread;
@@ -22,7 +22,7 @@ fn told<T: Drop>(
     held: HeldId,
     alloc: Global,
     value: T,
-) -> (HeldId, Option<Published<T>>)
+) -> (HeldId, Option<Token<T>>)
     requires { held.right.table ≡ shared.now.table }
     ensures held { (result.0.right.table ≡ shared.now.table) × (result.0.id ≡ held.id) }
     ensures token { IfSome result.1 (λ token.
@@ -30,23 +30,23 @@ fn told<T: Drop>(
 {
     let (held, _) = publish(shared, held, alloc, value);
     let claim = shared.claim(held);
-    let token = claim.published();
+    let token = claim.token();
     (claim.give_up(), token)
 }
 
 /// A value is published in a vacant slot, and the token says it.
-fn settled<T>(claim: &mut Claim<'_, T>, value: T) -> Option<Published<T>>
+fn settled<T>(claim: &mut Claim<'_, T>, value: T) -> Option<Token<T>>
     requires { claim.old.learnt ≡ Vacant }
     ensures some { IsSome result }
     ensures token { IfSome result (λ token.
         (token.sharing ≡ claim.old.sharing) × (token.id ≡ claim.old.id) × (token.value ≡ value)) }
 {
     claim.publish(value);
-    claim.published()
+    claim.token()
 }
 
 /// What a claim of the same slot holds is what the token says.
-fn holds<T: Copy>(claim: &mut Claim<'_, T>, token: &Published<T>) -> T
+fn holds<T: Copy>(claim: &mut Claim<'_, T>, token: &Token<T>) -> T
     requires id { claim.old.id ≡ token.now.id }
     requires sharing { (claim.old.sharing ≡ token.now.sharing) × IsSome claim.old.sharing }
     ensures { result ≡ token.now.value }
@@ -59,20 +59,20 @@ fn holds<T: Copy>(claim: &mut Claim<'_, T>, token: &Published<T>) -> T
 }
 
 /// The owner finds what two tokens say, under their ids.
-fn owned<T>(shared: Shared<T>, one: &Published<T>, other: &Published<T>) -> Buckets<T>
+fn owned<T>(shared: Shared<T>, one: &Token<T>, other: &Token<T>) -> Buckets<T>
     requires sharing { (shared.sharing ≡ one.now.sharing) × (shared.sharing ≡ other.now.sharing) }
     requires named { IsSome shared.sharing }
     ensures one { values result.contents one.now.id ≡ Some one.now.value }
     ensures other { values result.contents other.now.id ≡ Some other.now.value }
 {
-    let (buckets, book) = shared.into_published();
+    let (buckets, book) = shared.into_buckets_and_book();
     book.tells(one);
     book.tells(other);
     buckets
 }
 
 /// Two tokens of one id say the same.
-fn are_one(one: &Published<u32>, other: &Published<u32>)
+fn are_one(one: &Token<u32>, other: &Token<u32>)
     requires { (one.now.id ≡ other.now.id) × (one.now.sharing ≡ other.now.sharing) × IsSome one.now.sharing }
     ensures { one.now.value ≡ other.now.value }
 {
@@ -80,7 +80,7 @@ fn are_one(one: &Published<u32>, other: &Published<u32>)
 }
 
 /// What any thread reads, whatever was published meanwhile.
-fn read<'a>(shared: &'a Shared<String>, token: &Published<String>) -> &'a String
+fn read<'a>(shared: &'a Shared<String>, token: &Token<String>) -> &'a String
     requires { (shared.now.sharing ≡ token.now.sharing) × IsSome shared.now.sharing }
     ensures { result.now ≡ token.now.value }
 {
@@ -103,7 +103,7 @@ fn a_token_says_what_was_published(rt: HostRuntime) -> Result<(), Fail> {
     let (held, token) = told(&shared, ids.take()?, rt.alloc(), 7u32);
     let token = token.expect(&rt, "a token");
     let mut claim = shared.claim(held);
-    let seen = (holds(&mut claim, &token), claim.published().map(|t| t.id()));
+    let seen = (holds(&mut claim, &token), claim.token().map(|t| t.id()));
     claim.give_up();
     let (_, other) = told(&shared, ids.take()?, rt.alloc(), 8);
     let other = other.expect(&rt, "a token");
@@ -125,7 +125,7 @@ fn a_vacant_slot_has_no_token(rt: HostRuntime) -> Result<(), Fail> {
     let mut ids = Ids::new(rt.alloc());
     let shared = Shared::<u32>::new(Buckets::with_capacity(rt.alloc(), 1)?, &ids.own_right());
     let mut claim = shared.claim(ids.take()?);
-    let before = claim.published().is_none();
+    let before = claim.token().is_none();
     let after = if claim.is_missing() || claim.get().is_some() {
         None
     } else {

@@ -11,22 +11,22 @@ use std::test::Fail;
 use std::thread;
 use thread_local_buckets::Buckets;
 use thread_local_judged::{Judge, judge_sync};
-use thread_local_tokens::Published;
+use thread_local_tokens::Token;
 use thread_local::ThreadLocal;
 use thread_local::local::{Local, SetError};
 use thread_local_thread_id::Thread;
 
 /// Publishes a value with a new `Local`, and answers a token of what the slot holds.
-fn told<T: Send + Drop, R: Wait>(table: &ThreadLocal<T>, rt: &R, value: T) -> Option<Published<T>>
+fn told<T: Send + Drop, R: Wait>(table: &ThreadLocal<T>, rt: &R, value: T) -> Option<Token<T>>
     ensures { IfSome result (λ token. token.sharing ≡ table.now.sharing) }
 {
     let mut local = table.local(rt).ok()?;
     local.get_or(move || value).ok()?;
-    local.published()
+    local.token()
 }
 
 /// A value that is set in an empty slot is what the token says.
-fn set_and_told<T, R: Wait>(local: &mut Local<'_, T, R>, value: T) -> Option<Published<T>>
+fn set_and_told<T, R: Wait>(local: &mut Local<'_, T, R>, value: T) -> Option<Token<T>>
 where
     T: Drop,
     requires { local.old.value ≡ None }
@@ -35,11 +35,11 @@ where
     ensures same { local.new.id ≡ local.old.id }
 {
     local.set(value).ok()?;
-    local.published()
+    local.token()
 }
 
 /// Where a `Local` has the token's id, it holds the token's value.
-fn resumed<T: Copy, R: Wait>(table: &ThreadLocal<T>, rt: &R, token: &Published<T>) -> Option<T>
+fn resumed<T: Copy, R: Wait>(table: &ThreadLocal<T>, rt: &R, token: &Token<T>) -> Option<T>
     requires { (token.now.sharing ≡ table.now.sharing) × IsSome table.now.sharing }
     ensures { IfSome result (λ value. value ≡ token.now.value) }
 {
@@ -55,7 +55,7 @@ fn resumed<T: Copy, R: Wait>(table: &ThreadLocal<T>, rt: &R, token: &Published<T
 }
 
 /// What a table with one sharing more reads by a token of the one that it has.
-fn read_at_last(table: &mut ThreadLocal<u32>, token: &Published<u32>) -> u32
+fn read_at_last(table: &mut ThreadLocal<u32>, token: &Token<u32>) -> u32
     requires { (token.now.sharing ≡ table.old.sharing) × IsSome table.old.sharing }
     ensures { result ≡ token.now.value }
 {
@@ -65,25 +65,25 @@ fn read_at_last(table: &mut ThreadLocal<u32>, token: &Published<u32>) -> u32
 }
 
 /// The owner's buckets hold what two tokens say, at their ids.
-fn owned<T>(table: ThreadLocal<T>, one: &Published<T>, other: &Published<T>) -> Buckets<T>
+fn owned<T>(table: ThreadLocal<T>, one: &Token<T>, other: &Token<T>) -> Buckets<T>
     requires sharing { (one.now.sharing ≡ table.sharing) × (other.now.sharing ≡ table.sharing) }
     requires named { IsSome table.sharing }
     ensures one { values result.contents one.now.id ≡ Some one.now.value }
     ensures other { values result.contents other.now.id ≡ Some other.now.value }
 {
-    let (buckets, book) = table.into_published();
+    let (buckets, book) = table.into_buckets_and_book();
     book.tells(one);
     book.tells(other);
     buckets
 }
 
 /// What an owner's buckets hold at a token's id.
-fn found<T: Copy>(buckets: &mut Buckets<T>, token: &Published<T>) -> Option<T> {
+fn found<T: Copy>(buckets: &mut Buckets<T>, token: &Token<T>) -> Option<T> {
     buckets.get_mut(Thread::new(token.id())).copied()
 }
 
 /// Whether a shared walk that runs to its end gives as many values as expected.
-fn walks_with<T: Sync>(table: &ThreadLocal<T>, token: &Published<T>, expected: usize) -> bool
+fn walks_with<T: Sync>(table: &ThreadLocal<T>, token: &Token<T>, expected: usize) -> bool
     requires { (token.now.sharing ≡ table.now.sharing) × IsSome table.now.sharing }
 {
     table.iter_with(token).count() == expected

@@ -11,33 +11,33 @@ use std::marker::Model;
 /// does meanwhile: what a cell holds they don't tell. It may be sent and shared whatever the type
 /// is. No call waits or takes memory. Rust's crate has no such type.
 #[derive(Drop)]
-pub struct Published<T> {
+pub struct Token<T> {
     id: usize,
     witness: Witness<T>,
 }
 
-impl<T> Model for Published<T> {
+impl<T> Model for Token<T> {
     ghost use Rattle.std.specs.Prelude.{◌≡◌, ◌-◌, ◌^◌, ◌<◌};
-    ghost use Rattle.thread_local_tokens.specs.Views.{PublishedView, published_view_coded};
+    ghost use Rattle.thread_local_tokens.specs.Views.{TokenView, token_view_coded};
 
-    ghost Value = { PublishedView T };
+    ghost Value = { TokenView T };
 
-    ghost coded = { published_view_coded T.code };
+    ghost coded = { token_view_coded T.code };
 
     ghost view = { λ p. record { sharing = p.witness.sharing; id = p.id; value = p.witness.value } };
 
     ghost invariant = { λ p. (p.witness.id ≡ p.id) × (p.id < 2 ^ 63 - 1) };
 }
 
-impl<T> Published<T> {
+impl<T> Token<T> {
     /// A token of what a witness shows.
-    pub fn new(id: usize, witness: Witness<T>) -> Published<T>
+    pub fn new(id: usize, witness: Witness<T>) -> Token<T>
         requires id { witness.id ≡ id }
         requires in_range { id < 2 ^ 63 - 1 }
         ensures id { (result.id ≡ id) × (result.sharing ≡ witness.sharing) }
         ensures value { result.value ≡ witness.value }
     {
-        Published { id, witness }
+        Token { id, witness }
     }
 
     /// The id.
@@ -57,17 +57,17 @@ impl<T> Published<T> {
     }
 
     /// The same token once more. The language makes no value `Copy` that owns what a proof knows.
-    pub fn again(&self) -> Published<T>
+    pub fn again(&self) -> Token<T>
         ensures { result ≡ self.now }
     {
-        Published {
+        Token {
             id: self.id,
             witness: self.witness.again(),
         }
     }
 
     /// Shows that two tokens of one id and one sharing have one value. At run time it does nothing.
-    pub fn agrees(&self, other: &Published<T>)
+    pub fn agrees(&self, other: &Token<T>)
         requires id { self.now.id ≡ other.now.id }
         requires sharing { self.now.sharing ≡ other.now.sharing }
         requires named { IsSome self.now.sharing }
