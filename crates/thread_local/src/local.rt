@@ -9,8 +9,8 @@ use std::alloc::AllocError;
 use std::fmt;
 use std::marker::Model;
 use std::sync::Wait;
-use thread_local_tokens::Token;
 use thread_local_shared_buckets::Iter;
+use thread_local_tokens::Token;
 
 // `get_or` and `get_or_default` stand here.
 mod lends;
@@ -138,6 +138,22 @@ impl<'a, T, R: Wait> Local<'a, T, R> {
         self.seat.set(value)
     }
 
+    /// `set`, which also answers a token of what it published.
+    pub fn publish(&mut self, value: T) -> Result<Token<T>, SetError<T>>
+        ensures ok { IfOk result (λ token.
+            (self.old.value ≡ None)
+            × (self.new ≡ knowing self.old (holding value))
+            × (token_of self.new ≡ Some token)) }
+        ensures occupied { (given : T)
+            → result ≡ Err (SetError.Occupied given)
+            → IsSome self.old.value × (given ≡ value) × (self.new ≡ self.old) }
+        ensures memory { (given : T)
+            → result ≡ Err (SetError.Memory given)
+            → (self.old.value ≡ None) × (self.old.known ≡ false) × (given ≡ value) × (self.new ≡ self.old) }
+    {
+        self.seat.publish(value)
+    }
+
     /// Fills the slot as `get_or_try` does, without answering the value. Its clauses also say what
     /// the `Local` knows afterwards. Those of `get_or_try` don't: a clause on what a call leaves
     /// beside a reference can't speak of errors of any type. Rust's crate has no such call.
@@ -175,8 +191,7 @@ impl<'a, T, R: Wait> Local<'a, T, R> {
             → answer (knows self.old) (GetOr made true) ≡ Refused }
         ensures granted { self.old.known ≡ true → result ≢ Err (TryError.Memory alloc_error) }
     {
-        self.seat.try_fill(create)?;
-        Ok(self.seat.value())
+        self.seat.get_or_try(create)
     }
 }
 

@@ -1,21 +1,22 @@
 //! A seat: an id of a table, and what is known of the id's slot: no bucket was found, it is vacant,
 //! or it holds a value.
-ghost use Rattle.std.specs.Prelude.{◌≡◌, ◌≢◌, ◌-◌, ◌^◌, ◌<◌, nat_lt, ◌⊎◌, ⊤, is_some, true, None, Some, Ok, Err, OnOk, OnErr, IfOk, IsOk, IsSome, Result, false, alloc_error, option_map};
+ghost use Rattle.std.specs.Prelude.{◌≡◌, ◌≢◌, ◌-◌, ◌^◌, ◌<◌, nat_lt, ⊤, is_some, true, None, Some, Ok, Err, OnOk, OnErr, IfOk, IsOk, IsSome, Result, false, alloc_error, option_map};
 ghost use Rattle.thread_local_model.specs.Learnt.{Missing, Vacant};
+ghost use Rattle.thread_local_model.specs.Place.{IsPlaceOf};
 ghost use Rattle.thread_local_model.specs.Answers.{Get, GetOr, Found, Refused, Failed, answer};
 ghost use Rattle.thread_local_model.specs.Cursor.{fresh_cursor};
 ghost use Rattle.thread_local.specs.Seats.{knows, knowing, own_of, token_of, vacant, holding, IsAnswered, IsFilled, Fails, IsRefused};
 
 use crate::table::ThreadLocal;
-use std::alloc::AllocError;
+use std::alloc::{AllocError, Global};
 use std::fmt;
 use std::marker::Model;
 use std::sync::Wait;
 use thread_local_blocks::Block;
 use thread_local_claim::Claim;
-use thread_local_tokens::Token;
-use thread_local_tokens::HeldId;
 use thread_local_shared_buckets::Iter;
+use thread_local_thread_id::Thread;
+use thread_local_tokens::{HeldId, Right, Token};
 
 // `get_or` and `get_or_default` stand here.
 mod lends;
@@ -60,47 +61,32 @@ impl<'a, T> Model for Seat<'a, T> {
     ghost invariant = { λ s. IsSeated s.table.now s.claim };
 }
 
-/// Finds or makes the bucket of an empty slot.
-fn reach<T>(table: &ThreadLocal<T>, claim: &mut Claim<'_, T>) -> Result<(), AllocError>
-    requires in_range { claim.old.id < 2 ^ 63 - 1 }
-    requires empty { (claim.old.learnt ≡ Missing) ⊎ (claim.old.learnt ≡ Vacant) }
-    ensures right { (claim.new.table ≡ claim.old.table)
-        × (claim.new.sharing ≡ claim.old.sharing)
-        × (claim.new.id ≡ claim.old.id) }
-    ensures ok { OnOk result (claim.new.learnt ≡ Vacant) }
-    ensures err { OnErr result ((claim.old.learnt ≡ Missing) × (claim.new.learnt ≡ Missing)) }
-{
-    if claim.is_missing() {
-        return make_bucket(table, claim);
-    }
-    Ok(())
-}
-
 /// Finds or makes the bucket of a claim that found none: the claim looks again, and installs one
 /// where there still is none.
 #[cold]
 #[inline(never)]
-fn make_bucket<T>(table: &ThreadLocal<T>, claim: &mut Claim<'_, T>) -> Result<(), AllocError>
-    requires in_range { claim.old.id < 2 ^ 63 - 1 }
+fn make_bucket<T>(alloc: &Global, claim: &mut Claim<'_, T>, thread: Thread) -> Result<(), AllocError>
     requires missing { claim.old.learnt ≡ Missing }
-    ensures right { (claim.new.table ≡ claim.old.table)
+    requires place { IsPlaceOf thread.bucket thread.index claim.old.id }
+    ensures same_slot { (claim.new.table ≡ claim.old.table)
         × (claim.new.sharing ≡ claim.old.sharing)
         × (claim.new.id ≡ claim.old.id) }
     ensures ok { OnOk result (claim.new.learnt ≡ Vacant) }
     ensures err { OnErr result (claim.new.learnt ≡ Missing) }
 {
-    claim.look_again();
+    claim.look_again(thread);
     if claim.is_missing() {
-        let block = Block::new(&table.alloc, claim.bucket_size())?;
-        claim.install(block, &table.alloc);
+        let block = Block::new(alloc, thread.bucket_size())?;
+        claim.install(thread, block, alloc);
     }
     Ok(())
 }
 
 impl<'a, T> Seat<'a, T> {
     /// A seat for a held id of this table.
-    pub(crate) fn new(table: &'a ThreadLocal<T>, held: HeldId) -> Seat<'a, T>
-        requires { held.right.table ≡ table.now.table }
+    pub(crate) fn new(table: &'a ThreadLocal<T>, held: HeldId, right: Right) -> Seat<'a, T>
+        requires table { (right.table ≡ table.now.table) × (held.mark.table ≡ table.now.table) }
+        requires id { right.id ≡ held.id }
         ensures table { (result.table ≡ table.now.table)
             × (result.sharing ≡ table.now.sharing)
             × (result.reserved ≡ table.now.reserved) }
@@ -108,7 +94,7 @@ impl<'a, T> Seat<'a, T> {
     {
         Seat {
             table,
-            claim: table.buckets.claim(held),
+            claim: table.buckets.claim(held, right),
         }
     }
 
@@ -157,21 +143,33 @@ impl<'a, T> Seat<'a, T> {
         self.claim.agrees(token);
     }
 
+    /// The place of the id.
+    fn place(&self) -> Thread
+        ensures { IsPlaceOf result.bucket result.index self.now.id }
+    {
+        self.claim.place()
+    }
+
     /// Finds or makes the bucket of the slot, which is empty.
-    fn find_bucket(&mut self) -> Result<(), AllocError>
-        requires { self.old.value ≡ None }
+    fn find_bucket(&mut self, thread: Thread) -> Result<(), AllocError>
+        requires empty { self.old.value ≡ None }
+        requires place { IsPlaceOf thread.bucket thread.index self.old.id }
         ensures ok { OnOk result (self.new ≡ knowing self.old vacant) }
         ensures err { OnErr result ((self.old.known ≡ false) × (self.new ≡ self.old)) }
     {
-        reach(self.table, &mut self.claim)
+        if self.claim.is_missing() {
+            return make_bucket(&self.table.alloc, &mut self.claim, thread);
+        }
+        Ok(())
     }
 
     /// Publishes a value in the slot, which is vacant.
-    fn publish(&mut self, value: T)
-        requires { knows self.old ≡ vacant }
+    fn publish_at(&mut self, thread: Thread, value: T)
+        requires vacant { knows self.old ≡ vacant }
+        requires place { IsPlaceOf thread.bucket thread.index self.old.id }
         ensures { self.new ≡ knowing self.old (holding value) }
     {
-        self.claim.publish(value);
+        self.claim.publish(thread, value);
     }
 
     /// The value, where the slot holds one.
@@ -185,8 +183,8 @@ impl<'a, T> Seat<'a, T> {
         }
     }
 
-    /// Whether the slot holds a value.
-    fn is_filled(&self) -> bool
+    /// Whether a value is published in the slot.
+    fn is_published(&self) -> bool
         ensures { result ≡ is_some self.now.value }
     {
         self.get().is_some()
@@ -200,9 +198,10 @@ impl<'a, T> Seat<'a, T> {
         ensures err { OnErr result (IsRefused ⊤ self.old self.new) }
         ensures granted { self.old.known ≡ true → IsOk result }
     {
-        if !self.is_filled() {
-            self.find_bucket()?;
-            self.publish(create());
+        if !self.is_published() {
+            let thread = self.place();
+            self.find_bucket(thread)?;
+            self.publish_at(thread, create());
         }
         Ok(())
     }
@@ -219,15 +218,44 @@ impl<'a, T> Seat<'a, T> {
             → result ≡ Err (SetError.Memory given)
             → (self.old.value ≡ None) × (self.old.known ≡ false) × (given ≡ value) × (self.new ≡ self.old) }
     {
-        if self.get().is_some() {
+        if self.is_published() {
             return Err(SetError::Occupied(value));
         }
-        match self.find_bucket() {
+        let thread = self.place();
+        match self.find_bucket(thread) {
             Ok(()) => {
-                self.publish(value);
+                self.publish_at(thread, value);
                 Ok(())
             }
             Err(_) => Err(SetError::Memory(value)),
+        }
+    }
+
+    /// `set`, which also answers a token of what it published.
+    pub fn publish(&mut self, value: T) -> Result<Token<T>, SetError<T>>
+        ensures ok { IfOk result (λ token.
+            (self.old.value ≡ None)
+            × (self.new ≡ knowing self.old (holding value))
+            × (token_of self.new ≡ Some token)) }
+        ensures occupied { (given : T)
+            → result ≡ Err (SetError.Occupied given)
+            → IsSome self.old.value × (given ≡ value) × (self.new ≡ self.old) }
+        ensures memory { (given : T)
+            → result ≡ Err (SetError.Memory given)
+            → (self.old.value ≡ None) × (self.old.known ≡ false) × (given ≡ value) × (self.new ≡ self.old) }
+    {
+        self.set(value)?;
+        Ok(self.token_held())
+    }
+
+    /// A token of what the slot was published with, where it holds a value.
+    fn token_held(&self) -> Token<T>
+        requires { self.now.value ≢ None }
+        ensures { token_of self.now ≡ Some result }
+    {
+        match self.token() {
+            Some(token) => token,
+            None => unreachable!(),
         }
     }
 
@@ -246,13 +274,14 @@ impl<'a, T> Seat<'a, T> {
         ensures memory { result ≡ Err (TryError.Memory alloc_error) → IsRefused E self.old self.new }
         ensures granted { self.old.known ≡ true → result ≢ Err (TryError.Memory alloc_error) }
     {
-        if self.is_filled() {
+        if self.is_published() {
             return Ok(());
         }
-        self.find_bucket()?;
+        let thread = self.place();
+        self.find_bucket(thread)?;
         match create() {
             Ok(value) => {
-                self.publish(value);
+                self.publish_at(thread, value);
                 Ok(())
             }
             Err(error) => Err(TryError::Create(error)),
@@ -294,7 +323,8 @@ impl<'a, T> Seat<'a, T> {
     /// Gives the id back to the table that it is of. May wait, and takes no memory.
     pub(crate) fn give_back<R: Wait>(self, rt: &R) {
         let Self { table, claim } = self;
-        table.ids.lock(rt).give(claim.give_up());
+        let (held, right) = claim.give_up();
+        table.ids.lock(rt).give(held, right);
     }
 }
 

@@ -49,7 +49,7 @@ mod lends;
 pub struct ThreadLocal<T> {
     pub(crate) buckets: Shared<T>,
     pub(crate) ids: Lock<Ids>,
-    own: Right,
+    table_right: Right,
     pub(crate) alloc: Global,
 }
 
@@ -63,12 +63,12 @@ impl<T> Model for ThreadLocal<T> {
 
     ghost view = { λ table. table.buckets };
 
-    // The ids under the lock are those of the table whose buckets these are, and so is its own
+    // The ids under the lock are those of the table whose buckets these are, and so is the table's
     // right.
     ghost invariant = { λ table.
         (table.ids.tag ≡ table.buckets.table)
-        × (table.own.table ≡ table.buckets.table)
-        × (table.own.id ≡ 2 ^ 63 - 1) };
+        × (table.table_right.table ≡ table.buckets.table)
+        × (table.table_right.id ≡ 2 ^ 63 - 1) };
 }
 
 impl<T> ThreadLocal<T> {
@@ -93,23 +93,23 @@ impl<T> ThreadLocal<T> {
         ensures reserved { result.reserved ≡ 0 }
     {
         let mut ids = Ids::new(alloc);
-        let own = ids.own_right();
-        ThreadLocal::of(alloc, Buckets::new(alloc), ids, own)
+        let right = ids.table_right();
+        ThreadLocal::of(alloc, Buckets::new(alloc), ids, right)
     }
 
-    /// Makes a table of an owner's buckets, their ids, and the table's own right.
-    fn of(alloc: Global, buckets: Buckets<T>, ids: Ids, own: Right) -> ThreadLocal<T>
+    /// Makes a table of an owner's buckets, their ids, and the table's right.
+    fn of(alloc: Global, buckets: Buckets<T>, ids: Ids, right: Right) -> ThreadLocal<T>
         ghost past: { Option ℕ }
         requires judged { Judged T.row }
-        requires own { (own.table ≡ ids.table) × (own.id ≡ 2 ^ 63 - 1) }
+        requires right { (right.table ≡ ids.table) × (right.id ≡ 2 ^ 63 - 1) }
         ensures table { result.table ≡ ids.table }
         ensures sharing { IsSome result.sharing × (result.sharing ≢ past) }
         ensures reserved { result.reserved ≡ buckets.reserved }
     {
         ThreadLocal {
-            buckets: Shared::new_apart(buckets, &own),
+            buckets: Shared::new_apart(buckets, &right),
             ids: Lock::new(ids),
-            own,
+            table_right: right,
             alloc,
         }
     }
@@ -135,8 +135,8 @@ impl<T> ThreadLocal<T> {
         }
         let mut ids = Ids::with_room(alloc, capacity)?;
         let buckets = Buckets::with_capacity(alloc, capacity)?;
-        let own = ids.own_right();
-        Ok(ThreadLocal::of(alloc, buckets, ids, own))
+        let right = ids.table_right();
+        Ok(ThreadLocal::of(alloc, buckets, ids, right))
     }
 
     /// A `Local` with the least id that isn't held. It takes the table's lock, so it may wait, and
@@ -153,8 +153,8 @@ impl<T> ThreadLocal<T> {
             × (local.reserved ≡ self.now.reserved)) }
         ensures in_range { IfOk result (λ local. local.id < 2 ^ 63 - 1) }
     {
-        let held = self.ids.lock(rt).take()?;
-        Ok(Local::new(rt, Seat::new(self, held)))
+        let (held, right) = self.ids.lock(rt).take()?;
+        Ok(Local::new(rt, Seat::new(self, held, right)))
     }
 
     /// How many slots the table's buckets have together. Rust's crate has no such call.
@@ -214,7 +214,7 @@ impl<T> ThreadLocal<T> {
         let Self {
             buckets,
             ids: _,
-            own: _,
+            table_right: _,
             alloc: _,
         } = self;
         buckets.into_buckets_and_book()
@@ -228,7 +228,7 @@ impl<T> ThreadLocal<T> {
         ensures reserved { self.new.reserved ≡ self.old.reserved }
     {
         self.buckets.judged();
-        self.buckets.renew(&self.own);
+        self.buckets.renew(&self.table_right);
     }
 
     /// Drops every value, frees every bucket that isn't reserved, and takes every id back, those of
@@ -258,15 +258,15 @@ impl<T> ThreadLocal<T> {
         let Self {
             buckets,
             ids,
-            mut own,
+            table_right: mut old,
             alloc: _,
         } = replace(self, ThreadLocal::empty(alloc));
         let mut buckets = buckets.into_buckets();
         buckets.clear();
         let mut ids = ids.into_inner();
         ids.clear();
-        let mut fresh = ids.own_right();
-        own.apart(&mut fresh);
+        let mut fresh = ids.table_right();
+        old.apart(&mut fresh);
         *self = ThreadLocal::of(alloc, buckets, ids, fresh);
     }
 }

@@ -53,19 +53,6 @@ impl<T> BucketPointers<T> {
         }
     }
 
-    /// Whether the bucket stands.
-    #[inline]
-    pub fn stands(&mut self, bucket: usize) -> bool
-        requires { bucket < 63 }
-        ensures value { result ≡ stands self.old bucket }
-        ensures whole { result ≡ true → length (row self.old bucket) ≡ 2 ^ bucket }
-        ensures absent { result ≡ false → row self.old bucket ≡ [] }
-        ensures table { IsTable self.old }
-        ensures same { self.new ≡ self.old }
-    {
-        self.pointers.pointer_mut(bucket).stands()
-    }
-
     /// Makes the bucket, with all its slots empty. It asks for memory once. `Err` means out of
     /// memory, and nothing has changed.
     pub fn install(&mut self, bucket: usize) -> Result<(), AllocError>
@@ -81,32 +68,18 @@ impl<T> BucketPointers<T> {
         Ok(())
     }
 
-    /// Whether the slot has a value.
+    /// The flag of a slot, whose bucket must stand.
     #[inline]
-    pub fn is_published(&mut self, bucket: usize, index: usize) -> bool
-        requires in_table { bucket < 63 }
-        requires in_bucket { index < length (row self.old bucket) }
-        ensures value { result ≡ is_some (value_in self.old bucket index) }
+    fn flag(&mut self, thread: Thread) -> bool
+        requires { thread.index < length (row self.old thread.bucket) }
+        ensures value { result ≡ is_some (value_in self.old thread.bucket thread.index) }
         ensures table { IsTable self.old }
         ensures same { self.new ≡ self.old }
     {
-        let flag_word = flag_word_at::<T>(bucket_size(bucket), index / 64);
-        self.pointers.pointer_mut(bucket).is_published(index, flag_word)
-    }
-
-    /// The flags of a chunk's slots, a bit each. The bits past the last slot are 0.
-    #[inline]
-    pub fn flags(&mut self, bucket: usize, chunk: usize) -> u64
-        requires in_table { bucket < 63 }
-        requires in_bucket { chunk * 64 < length (row self.old bucket) }
-        ensures value { (bit : ℕ)
-            → bit < 64
-            → is_set result bit ≡ is_some (value_in self.old bucket (chunk * 64 + bit)) }
-        ensures table { IsTable self.old }
-        ensures same { self.new ≡ self.old }
-    {
-        let flag_word = flag_word_at::<T>(bucket_size(bucket), chunk);
-        self.pointers.pointer_mut(bucket).flags(chunk, flag_word)
+        let flag_word = flag_word_at::<T>(bucket_size(thread.bucket), thread.index / 64);
+        self.pointers
+            .pointer_mut(thread.bucket)
+            .is_published(thread.index, flag_word)
     }
 
     /// Publishes a value in the slot of a place, which must be empty.
@@ -169,13 +142,33 @@ impl<T> FlagSource for BucketPointers<T> {
 
     ghost given = { λ _. 0 };
 
+    /// Whether the bucket stands.
     #[inline]
-    fn stands(&mut self, bucket: usize) -> bool {
-        self.stands(bucket)
+    fn stands(&mut self, bucket: usize) -> bool
+        requires { bucket < 63 }
+        ensures same { self.new ≡ self.old }
+        ensures value { result ≡ stands self.old bucket }
+        ensures whole { result ≡ true → length (row self.old bucket) ≡ 2 ^ bucket }
+        ensures absent { result ≡ false → row self.old bucket ≡ [] }
+        ensures table { IsTable self.old }
+    {
+        self.pointers.pointer_mut(bucket).stands()
     }
 
+    /// The flags of a chunk's slots, a bit each. The bits past the last slot are 0.
     #[inline]
-    fn flags(&mut self, bucket: usize, chunk: usize) -> u64 {
-        self.flags(bucket, chunk)
+    fn flags(&mut self, bucket: usize, chunk: usize) -> u64
+        requires in_table { bucket < 63 }
+        requires in_bucket { chunk * 64 < length (row self.old bucket) }
+        ensures same { self.new ≡ self.old }
+        ensures value { (bit : ℕ)
+            → bit < 64
+            → is_set result bit ≡ is_some (value_in self.old bucket (chunk * 64 + bit)) }
+        ensures table { IsTable self.old }
+    {
+        let flag_word = flag_word_at::<T>(bucket_size(bucket), chunk);
+        self.pointers
+            .pointer_mut(bucket)
+            .flags(chunk, flag_word)
     }
 }

@@ -17,6 +17,7 @@ use crate::iter_mut::{EntriesMut, IterMut};
 use std::alloc::{AllocError, Global};
 use std::marker::Model;
 use thread_local_bucket_pointers::BucketPointers;
+use thread_local_cursor::FlagSource;
 use thread_local_thread_id::{BUCKETS, Thread, bucket_size};
 
 mod lends;
@@ -159,7 +160,7 @@ impl<T> Buckets<T> {
             → values (with_published self.old.contents thread.bucket thread.index written) id ≡
             with_value (values self.old.contents) (id_at thread.bucket thread.index) written id }
     {
-        if self.pointers.holds_value(thread) {
+        if self.pointers.is_published(thread) {
             Some(self.pointers.get_mut(thread))
         } else {
             None

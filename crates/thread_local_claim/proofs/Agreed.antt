@@ -17,7 +17,7 @@ use Rattle.thread_local_blocks.specs.Slots.{value_offset}
 use Rattle.thread_local_tokens.specs.Told.{tells, untold_in}
 use Rattle.thread_local_tokens.proofs.ToldElements.{tells_alike, telling_alike}
 use Rattle.thread_local_model.specs.Learnt.{Learnt, Unknown, Missing, Standing, Vacant, Holding}
-use Rattle.thread_local_shared_bucket.specs.Shared.{name_at, BucketView, Turn, StandingBlock, Who, stays, had, len, Sized, mark, bucket_invariant, kept, loaded, value_code}
+use Rattle.thread_local_shared_bucket.specs.Shared.{name_at, BucketView, Turn, StandingBlock, Who, stays, had, len, Sized, block_code, bucket_invariant, kept, loaded, value_code}
 use Rattle.thread_local_shared_bucket.specs.Shared as slots
 use Rattle.thread_local_shared_bucket.proofs.Inside.{Next, quietly}
 use Rattle.thread_local_shared_bucket.proofs.Inside as inside
@@ -75,14 +75,14 @@ module _ {M : Type 1} {𝓤 : Ura M} (𝓛 : Logic 𝓤) (R : RattleType) (x : R
         keep ! (1 ∷ 5 ∷ []) $ by ! (empty Gone)
 
     born_gone : (s : StandingBlock) (l : i < length s.names) → ex 𝓤 (early.Out 𝓛 R d t wb wo i k low at_k s l ⟦ I ⟧) ∗ Both ⊢ Gone
-    born_gone s l = let b : ℕ = block_of s.at in let e : ℕ = value_offset R (count_of s.at) i in let η : GName = name_at s.names i in let bit : ℕ = i % 64 in let S : Option R.Denot → Fml = stays R t b s.own d.sharing k e η in let D : Option R.Denot → Who → Fml = had R t b s.own d.sharing d.table k e η in
+    born_gone s l = let b : ℕ = block_of s.at in let e : ℕ = value_offset R (count_of s.at) i in let η : GName = name_at s.names i in let bit : ℕ = i % 64 in let S : Option R.Denot → Fml = stays R t b s.block_life d.sharing k e η in let D : Option R.Denot → Who → Fml = had R t b s.block_life d.sharing d.table k e η in
         let Flags : ℕ → Fml = inside.Flags 𝓛 R d t wb wo s i k e b l at_k refl refl in let Slot : _ → Fml = inside.Slot 𝓛 R d t wb wo s i k e b l at_k refl refl in let Back : (n : ℕ) → Next n bit → Pr = inside.Back 𝓛 R d t wb wo s i k e b l at_k refl refl ⟦ I ⟧ in
-        let Empty : Fml = moves.Holds 𝓛 R t b s.own d.sharing d.table k e η None in
+        let Empty : Fml = moves.Holds 𝓛 R t b s.block_life d.sharing d.table k e η None in
         qed 𝓛 (some (λ (n : ℕ). given (n < 2 ^ 64) (‵ (Flags n) ⊛ ‵ (Slot (is_set n bit)) ⊛ raw (all 𝓤 (Back n)))) ∷ (‵ Pass ⊛ ‵ Told) ∷ []) ∵ pick ! (λ n. learn ! (λ fits. split3 ! $
         -- [the word; the slot; the way back; the pass and what is told]
         move ! (1 ∷ []) $ fsplit ! $ move ! (1 ∷ []) $ fpick ! (λ z. fsplit3 ! $ drop ! $ move ! (5 ∷ []) $ split ! $
         -- [the pass; what is told; what stands; who has it; the loan; the word; the way back]
-        move ! (2 ∷ 3 ∷ 0 ∷ []) $ use3 𝓛 (given (z.0 ≡ None) (‵ (S z.0) ⊛ ‵ (D z.0 slots.claimed) ⊛ ‵ Empty)) (moves.early_claims 𝓛 R t b s.own d.sharing d.table k e η z.0 z.1) $ learn ! (λ none. split ! $
+        move ! (2 ∷ 3 ∷ 0 ∷ []) $ use3 𝓛 (given (z.0 ≡ None) (‵ (S z.0) ⊛ ‵ (D z.0 slots.claimed) ⊛ ‵ Empty)) (moves.early_claims 𝓛 R t b s.block_life d.sharing d.table k e η z.0 z.1) $ learn ! (λ none. split ! $
         rewrite ! 0 (λ (v : Option R.Denot). ‵ (S v)) none refl $ fsplit ! $ keep ! (1 ∷ 3 ∷ []) $ by ! (empty Gone)))))
 
     missing : (q : Share) → A.inv (fbor t.life I) ∗ A.lft t.life q ∗ Both ⊢ H.⇛ (⟦ ffalse ⟧ ∗ A.lft t.life q)
@@ -103,7 +103,7 @@ module _ {M : Type 1} {𝓤 : Ura M} (𝓛 : Logic 𝓤) (R : RattleType) (x : R
       vacant q = let S : Option R.Denot → Fml = general.Stays 𝓛 R d t wb wo s i k e b l at_k refl refl in let D : Option R.Denot → Who → Fml = general.Had 𝓛 R d t wb wo s i k e b l at_k refl refl in
           general.moved 𝓛 R d t wb wo s i k e b l at_k refl refl q (⟦ Holds None ⟧ ∗ ⟦ Told ⟧) ⟦ ffalse ⟧ (λ v w. let F = general.Left 𝓛 R d t wb wo s i k e b l at_k refl refl v ⟦ ffalse ⟧ in
           qed 𝓛 (‵ (S v) ∷ ‵ (D v w) ∷ (‵ (Holds None) ⊛ ‵ Told) ∷ []) ∵ move ! (2 ∷ []) $ split ! $ move ! (2 ∷ 3 ∷ 0 ∷ []) $
-          use3 𝓛 (given (v ≡ None) (‵ (S v) ⊛ ‵ (D v slots.claimed) ⊛ ‵ (Holds None))) (moves.known 𝓛 R t b s.own d.sharing d.table k e (name_at s.names i) v None w) $ learn ! (λ none. split ! $
+          use3 𝓛 (given (v ≡ None) (‵ (S v) ⊛ ‵ (D v slots.claimed) ⊛ ‵ (Holds None))) (moves.known 𝓛 R t b s.block_life d.sharing d.table k e (name_at s.names i) v None w) $ learn ! (λ none. split ! $
           rewrite ! 0 (λ (u : Option R.Denot). ‵ (S u)) none refl $ fsplit ! $ keep ! (1 ∷ 3 ∷ []) $ by ! (empty (ex 𝓤 F))))
 
   module _ (β : Lft) (table : ℕ) (c : ClaimFields) (state : ℕ) (named : IsSome c.sharing) where

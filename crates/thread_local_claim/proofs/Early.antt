@@ -116,13 +116,13 @@ module _ {M : Type 1} {𝓤 : Ura M} (𝓛 : Logic 𝓤) (R : RattleType) where
         swaps false = qed 𝓛 (‵ Pass ∷ ‵ (right_owns t.vacant k) ∷ ‵ Empty ∷ raw (⟦ Unborn ⟧ -∗ ⟦ I ⟧) ∷ ‵ Pass ∷ []) ∵ keep ! (0 ∷ 4 ∷ []) $ by ! (right_once 𝓛 t.pass k Swapped)
 
     born_gives_up : (s : StandingBlock) (l : i < length s.names) → ex 𝓤 (Out s l ⟦ I ⟧) ∗ ⟦ Pass ⟧ ⊢ Swapped
-    born_gives_up s l = let b : ℕ = block_of s.at in let e : ℕ = place_in s in let η : GName = name_at s.names i in let bit : ℕ = i % 64 in let S : Option R.Denot → Fml = stays R t b s.own d.sharing k e η in let D : Option R.Denot → Who → Fml = had R t b s.own d.sharing d.table k e η in
+    born_gives_up s l = let b : ℕ = block_of s.at in let e : ℕ = place_in s in let η : GName = name_at s.names i in let bit : ℕ = i % 64 in let S : Option R.Denot → Fml = stays R t b s.block_life d.sharing k e η in let D : Option R.Denot → Who → Fml = had R t b s.block_life d.sharing d.table k e η in
         let Flags : ℕ → Fml = inside.Flags 𝓛 R d t wb wo s i k e b l at_k refl refl in let Slot : Bool → Fml = inside.Slot 𝓛 R d t wb wo s i k e b l at_k refl refl in let Back : (n : ℕ) → Next n bit → Pr = inside.Back 𝓛 R d t wb wo s i k e b l at_k refl refl ⟦ I ⟧ in
         qed 𝓛 (some (λ (n : ℕ). given (n < 2 ^ 64) (‵ (Flags n) ⊛ ‵ (Slot (is_set n bit)) ⊛ raw (all 𝓤 (Back n)))) ∷ ‵ Pass ∷ []) ∵ suffices ! _ (upd_i 𝓤 (⟦ I ⟧ ∗ ⟦ Right ⟧)) $ pick ! (λ n. learn ! (λ fits. split3 ! $
         -- [the word; the slot; the way back; the pass]
         move ! (1 ∷ []) $ fsplit ! $ move ! (1 ∷ []) $ fpick ! (λ z. fsplit3 ! $ fpick ! (λ is. drop ! $
         -- [what stands; who has it; the loan; the word; the way back; the pass]
-        move ! (0 ∷ 1 ∷ 5 ∷ []) $ use3 𝓛 (given (z.0 ≡ None) (‵ (S z.0) ⊛ ‵ (D z.0 free) ⊛ ‵ Right)) (moves.early_gives_up 𝓛 R t b s.own d.sharing d.table k e η z.0 z.1) $ learn ! (λ none. split3 ! $
+        move ! (0 ∷ 1 ∷ 5 ∷ []) $ use3 𝓛 (given (z.0 ≡ None) (‵ (S z.0) ⊛ ‵ (D z.0 free) ⊛ ‵ Right)) (moves.early_gives_up 𝓛 R t b s.block_life d.sharing d.table k e η z.0 z.1) $ learn ! (λ none. split3 ! $
         -- [what stands; who has it; the right; the loan; the word; the way back]
         move ! (4 ∷ 3 ∷ 0 ∷ 1 ∷ 5 ∷ []) $ group ! 5 $ use1 𝓛 (‵ I) (steps.again 𝓛 R d t wb wo s i k e b l at_k refl refl n n (z.0, free) fits (same_bit n bit (is_some z.0) is)) $ done !)))))
 

@@ -14,7 +14,7 @@ use denote.Steps.{nothing}
 use Rattle.thread_local_tokens.specs.Rights.{right_owns}
 use Rattle.thread_local_blocks.specs.Slots.{value_offset}
 use Rattle.thread_local_lemmas.specs.Fact.{fact}
-use Rattle.thread_local_shared_bucket.specs.Shared.{BucketView, Turn, StandingBlock, Sized, mark, len, bucket_invariant, kept, loaded}
+use Rattle.thread_local_shared_bucket.specs.Shared.{BucketView, Turn, StandingBlock, Sized, block_code, len, bucket_invariant, kept, loaded}
 use Rattle.thread_local_shared_bucket.proofs.Loads.{part, reaches}
 use Rattle.thread_local_model.specs.Learnt.{Vacant}
 use Rattle.thread_local_claim.specs.Claims.{ClaimFields, claim_fields, IsOf, IsKept, value_at, has_slot, has_at, claim_owns}
@@ -55,7 +55,7 @@ module _ {M : Type 1} {𝓤 : Ura M} (𝓛 : Logic 𝓤) (R : RattleType) (d : B
       -- [the invariant, twice; before, twice; the part; the token; the pass]
       move ! (4 ∷ 2 ∷ []) $ use2 𝓛 (later (‵ (fact ((zz.0.at ≡ p) × Sized R (len R d) p)) ⊛ ‵ (loaded R d t zz.0 β))) (reaches 𝓛 R d t β p zz) $ await ! tt $ split ! $ fpick ! (λ there. drop ! $
       let s : StandingBlock = record zz.0 { at = p } in rewrite ! 0 (λ (k : StandingBlock). ‵ (loaded R d t k β)) (λ j. record zz.0 { at = there.0 j }) refl $
-      fsplit ! $ fpick ! (λ sized. move ! (1 ∷ []) $ fsplit ! $ use1 𝓛 (‵ (fres t.which (mark s)) ⊛ ‵ (fres t.which (mark s))) (𝓛.names.res_dup t.which (mark s)) $ split ! $ move ! (1 ∷ 2 ∷ []) $ fjoin ! $ move ! (2 ∷ []) $
+      fsplit ! $ fpick ! (λ sized. move ! (1 ∷ []) $ fsplit ! $ use1 𝓛 (‵ (fres t.which (block_code s)) ⊛ ‵ (fres t.which (block_code s))) (𝓛.names.res_dup t.which (block_code s)) $ split ! $ move ! (1 ∷ 2 ∷ []) $ fjoin ! $ move ! (2 ∷ []) $
       fpack ! ((length s.names ≡ len R d) × Sized R (len R d) s.at) (λ _. ftrue) sized $ move ! (0 ∷ 1 ∷ []) $ fjoin ! $
       -- [the row; which block it is; the invariant, twice; before; the token; the pass]
       let low : i < length s.names = subst (λ (n : ℕ). i < n) (sym sized.0) of.4 in let Empty : Fml = steps.Holds 𝓛 R d t wb (wo + 0) s i id e pb low of.3 refl refl none in

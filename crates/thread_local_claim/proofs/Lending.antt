@@ -118,13 +118,13 @@ module _ {M : Type 1} {𝓤 : Ura M} (𝓛 : Logic 𝓤) where
       η = name_at s.names c.index
 
       abbrev life : Lft
-      life = age R t sb s.own
+      life = age R t sb s.block_life
 
       abbrev Value : Fml
       Value = tracked_value R sb se η
 
       abbrev By : Judged R → Fml
-      By j = slots.by R t sb s.own se η x j
+      By j = slots.by R t sb s.block_life se η x j
 
       abbrev Row : Fml
       Row = loaded R d t s β

@@ -88,8 +88,8 @@ module _ {M : Type 1} {𝓤 : Ura M} (𝓛 : Logic 𝓤) (R : RattleType) (t : T
   abbrev PinnedAndTold : R.Denot → Fml
   PinnedAndTold = pinned_and_told R sharing k η
 
-  pub pinned_alike : (x y : R.Denot) → ⟦ PinnedAndTold x ⟧ ∗ ⟦ PinnedAndTold y ⟧ ⊢ guard 𝓤 (x ≡ y) (⟦ PinnedAndTold x ⟧ ∗ ⟦ PinnedAndTold y ⟧)
-  pinned_alike x y = qed 𝓛 (‵ (PinnedAndTold x) ∷ ‵ (PinnedAndTold y) ∷ []) ∵ fsplit ! $ move ! (2 ∷ []) $ fsplit ! $ move ! (2 ∷ 0 ∷ []) $ use2 𝓛 (given (x ≡ y) (‵ (pinned R η x) ⊛ ‵ (pinned R η y))) (pinned_alike x y) $ learn ! (λ same. check ! same $ split ! $
+  pub pinned_and_told_alike : (x y : R.Denot) → ⟦ PinnedAndTold x ⟧ ∗ ⟦ PinnedAndTold y ⟧ ⊢ guard 𝓤 (x ≡ y) (⟦ PinnedAndTold x ⟧ ∗ ⟦ PinnedAndTold y ⟧)
+  pinned_and_told_alike x y = qed 𝓛 (‵ (PinnedAndTold x) ∷ ‵ (PinnedAndTold y) ∷ []) ∵ fsplit ! $ move ! (2 ∷ []) $ fsplit ! $ move ! (2 ∷ 0 ∷ []) $ use2 𝓛 (given (x ≡ y) (‵ (pinned R η x) ⊛ ‵ (pinned R η y))) (pinned_alike x y) $ learn ! (λ same. check ! same $ split ! $
       -- [the two pins; what is told of y, and of x]
       move ! (1 ∷ 2 ∷ []) $ fjoin ! $ move ! (1 ∷ 2 ∷ []) $ fjoin ! $ done !)
 
@@ -99,7 +99,7 @@ module _ {M : Type 1} {𝓤 : Ura M} (𝓛 : Logic 𝓤) (R : RattleType) (t : T
   known None None early = qed 𝓛 (‵ (Stays None) ∷ ‵ (Had None early) ∷ ‵ (Holds None) ∷ []) ∵ drop ! $ fsplit ! $ move ! (1 ∷ []) $ fsplit3 ! $ move ! (4 ∷ []) $ fsplit3 ! $ keep ! (0 ∷ 3 ∷ []) $ by ! (twice t.vacant _)
   known (Some x) (Some y) free = qed 𝓛 (‵ (Stays (Some x)) ∷ ‵ (Had (Some x) free) ∷ ‵ (Holds (Some y)) ∷ []) ∵ drop ! $ fsplit ! $ move ! (1 ∷ []) $ fsplit3 ! $ move ! (4 ∷ []) $ fsplit3 ! $ keep ! (0 ∷ 3 ∷ []) $ by ! (twice t.filled _)
   known (Some x) (Some y) claimed = qed 𝓛 (‵ (Stays (Some x)) ∷ ‵ (Had (Some x) claimed) ∷ ‵ (Holds (Some y)) ∷ []) ∵ fsplit3 ! $ move ! (4 ∷ []) $ fsplit3 ! $ move ! (4 ∷ 1 ∷ []) $
-      use2 𝓛 (given (x ≡ y) (‵ (PinnedAndTold x) ⊛ ‵ (PinnedAndTold y))) (pinned_alike x y) $ learn ! (λ same. check ! (ap Some same) $ split ! $
+      use2 𝓛 (given (x ≡ y) (‵ (PinnedAndTold x) ⊛ ‵ (PinnedAndTold y))) (pinned_and_told_alike x y) $ learn ! (λ same. check ! (ap Some same) $ split ! $
       -- [the two; filled; by; vacant; opened; had]
       move ! (4 ∷ 0 ∷ 5 ∷ []) $ fjoin3 ! $ move ! (2 ∷ 1 ∷ 3 ∷ []) $ fjoin3 ! $ move ! (1 ∷ 2 ∷ 0 ∷ []) $ done !)
   known (Some x) None w = qed 𝓛 (‵ (Stays (Some x)) ∷ ‵ (Had (Some x) w) ∷ ‵ (Holds None) ∷ []) ∵ fsplit3 ! $ move ! (4 ∷ []) $ fsplit3 ! $ keep ! (0 ∷ 3 ∷ []) $ by ! (twice t.vacant _)

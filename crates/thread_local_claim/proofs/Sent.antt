@@ -25,7 +25,7 @@ module _ (R : RattleType) (sent : IsSend R) where
   holds_keyless t b ν sharing k e η (Some x) = (right_keyless t.filled k, ((tt, tells_keyless R sharing k (Some x)), λ j. by_keyless t b ν e η x j))
 
   slot_keyless : (d : BucketView) (t : Turn) (β : Lft) (c : ClaimFields) (v : Option R.Denot) → Keyless (fex StandingBlock (has_slot R d t β c v))
-  slot_keyless d t β c v = λ s. ((λ _. tt), (row_keyless R sent d t s β, holds_keyless t (block_of s.at) s.own d.sharing c.id (value_offset R (count_of s.at) c.index) (name_at s.names c.index) v))
+  slot_keyless d t β c v = λ s. ((λ _. tt), (row_keyless R sent d t s β, holds_keyless t (block_of s.at) s.block_life d.sharing c.id (value_offset R (count_of s.at) c.index) (name_at s.names c.index) v))
 
   has_keyless : (d : BucketView) (t : Turn) (β : Lft) (c : ClaimFields) (l : Learnt R.Denot) → Keyless (has R d t β c l)
   has_keyless d t β c Unknown = ((λ _. tt), right_keyless d.table c.id)

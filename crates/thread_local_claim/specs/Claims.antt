@@ -57,7 +57,7 @@ module _ (R : RattleType) where
   module _ (d : BucketView) (t : Turn) (β : Lft) (c : ClaimFields) where
     -- what a claim has of a standing block, where the slot holds v: it points to the slot's value
     abbrev pub has_slot : Option R.Denot → StandingBlock → Fml
-    has_slot v s = fsep (fact (c.at ≡ value_at s.at c.index)) (fsep (loaded R d t s β) (holds R t (block_of s.at) s.own d.sharing c.id (value_offset R (count_of s.at) c.index) (name_at s.names c.index) v))
+    has_slot v s = fsep (fact (c.at ≡ value_at s.at c.index)) (fsep (loaded R d t s β) (holds R t (block_of s.at) s.block_life d.sharing c.id (value_offset R (count_of s.at) c.index) (name_at s.names c.index) v))
 
     -- what a claim has while it points to its bucket's pointer: the right or the pass, by the name
     abbrev pub has_no_slot : GName → Fml

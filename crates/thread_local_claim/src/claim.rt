@@ -95,8 +95,9 @@ impl<'a, T> Claim<'a, T> {
         ensures reserved { (self.new.reserved ≡ self.old.reserved)
             × (self.new.reserved ≡ true → self.new.learnt ≡ Vacant) }
     {
-        replace_with(&mut self.slot, thread, |slot, thread| {
-            (slot.find(thread.index, flag_word_of::<T>(thread)), ())
+        let given = (thread.index, flag_word_of::<T>(thread));
+        replace_with(&mut self.slot, given, |slot, (index, flag_word)| {
+            (slot.find(index, flag_word), ())
         })
     }
 
@@ -135,9 +136,9 @@ impl<'a, T> Claim<'a, T> {
         ensures learnt { learnt_by_publish self.old.learnt value ≡ Some self.new.learnt }
         ensures reserved { self.new.reserved ≡ self.old.reserved }
     {
-        let given = (thread, value);
-        replace_with(&mut self.slot, given, |slot, (thread, value)| {
-            (slot.publish(thread.index, flag_word_of::<T>(thread), value), ())
+        let given = (thread.index, flag_word_of::<T>(thread), value);
+        replace_with(&mut self.slot, given, |slot, (index, flag_word, value)| {
+            (slot.publish(index, flag_word, value), ())
         })
     }
 
@@ -215,7 +216,7 @@ impl<'a, T> Claim<'a, T> {
         ensures ids { self.old.id ≢ other.old.id }
         ensures same { (self.new ≡ self.old) × (other.new ≡ other.old) }
     {
-        self.held.mark.apart(&mut other.held.mark)
+        self.held.apart(&mut other.held)
     }
 }
 

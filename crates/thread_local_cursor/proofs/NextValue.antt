@@ -84,8 +84,8 @@ module _ {V : Type 0} where
       (cases_eq (i % 64) bit)
 
   -- the first slot that has a value has one
-  holds_value : (c : Contents V) (raw : RawIter) (word i : ℕ) → IsFirst c raw word i → IsSome (value_in c raw.bucket i)
-  holds_value c raw word i at =
+  is_published : (c : Contents V) (raw : RawIter) (word i : ℕ) → IsFirst c raw word i → IsSome (value_in c raw.bucket i)
+  is_published c raw word i at =
       let whole : i / 64 * 64 + i % 64 ≡ i = omega arith in
       ap (λ k. is_some (value_in c raw.bucket k)) (sym whole) ∙ sym (at.flags (i % 64) at.first.within) ∙ at.first.set
 
@@ -105,7 +105,7 @@ module _ {V : Type 0} where
       let inside = from.inside in
       let read = from.read in
       let whole = from.whole in
-      let published = holds_value c raw cursor.rest i from in
+      let published = is_published c raw cursor.rest i from in
       let there = the_value (value_in c b i) published in
       let after : Contents V = with_slot c b i None in
       let rows = in_rows c b whole in

@@ -22,7 +22,7 @@ use denote.Shares.{Shares, settles}
 use denote.Steps.{nothing}
 use denote.Struct.Lending.{Lends, Lends-false}
 use Rattle.std.proofs.cell.BorrowLemmas.{by_one, unnest_before}
-use Rattle.thread_local_ids.specs.Locking.{offset, Sharing, named_value, lock_kept, guarding, guard_owns, guard_shares}
+use Rattle.thread_local_ids.specs.Locking.{offset, LockTurn, named_value, lock_kept, guarding, guard_owns, guard_shares}
 
 pub guard_laws : (β : Lft) (R : RattleType) → RowLaws R → (p : Ptr) (x : R.Denot) → ShrLaws (guard_shares β R p x)
 guard_laws β R L (block_ptr b o) x = within_shr_laws β (shared_of R x b (o + offset R)) (L x b (o + offset R))
@@ -61,16 +61,16 @@ module _ {M : Type 1} {𝓤 : Ura M} (𝓛 : Logic 𝓤) where
     abbrev At : R.Denot → Fml
     At y = part_at R full_share y b (o + offset R)
 
-    abbrev Named : Sharing → Fml
+    abbrev Named : LockTurn → Fml
     Named = named_value R ok b o
 
-    abbrev Ob : Sharing → Fml
+    abbrev Ob : LockTurn → Fml
     Ob t = fobs t.1 (R.coded.code x)
 
-    again : (ν : Lft) (t : Sharing) → ⟦ lock_kept R ok b o t β ⟧ ⊢ ⟦ fwand (fsep (fdead ν) (fseps (Ob t ∷ fbor t.0 (Named t) ∷ []))) (fupd P) ⟧
+    again : (ν : Lft) (t : LockTurn) → ⟦ lock_kept R ok b o t β ⟧ ⊢ ⟦ fwand (fsep (fdead ν) (fseps (Ob t ∷ fbor t.0 (Named t) ∷ []))) (fupd P) ⟧
     unfolding fseps
     again ν t = qed 𝓛 (‵ (lock_kept R ok b o t β) ∷ []) ∵ assume ! (‵ (fsep (fdead ν) (fsep (Ob t) (fsep (fbor t.0 (Named t)) ftrue)))) $ suffices ! ⟦ P ⟧ (upd_i 𝓤 ⟦ P ⟧) $
-        fsplit ! $ drop ! $ fsplit ! $ move ! (1 ∷ []) $ fsplit ! $ move ! (2 ∷ 0 ∷ []) $ fjoin ! $ move ! (2 ∷ 0 ∷ []) $ fjoin ! $ fpack ! Sharing (λ s. guarding R ok b o s β x) t $ keep ! (0 ∷ []) $ done !
+        fsplit ! $ drop ! $ fsplit ! $ move ! (1 ∷ []) $ fsplit ! $ move ! (2 ∷ 0 ∷ []) $ fjoin ! $ move ! (2 ∷ 0 ∷ []) $ fjoin ! $ fpack ! LockTurn (λ s. guarding R ok b o s β x) t $ keep ! (0 ∷ []) $ done !
 
     lends_at : (ν : Lft) → Incl ν β → (q : Share) → A.bor ν P ∗ A.lft ν q ⊢ H.⇛ (A.bor ν (At x) ∗ A.lft ν q)
     unfolding fseps

@@ -28,7 +28,7 @@ use denote.Written.{Laid}
 use denote.Written.Laws.{Laid-in}
 use Rattle.std.specs.Sync.RawAtomic.{word}
 use Rattle.std.proofs.cell.BorrowLemmas.{flag}
-use Rattle.thread_local_ids.specs.Locking.{LockView, Fitting, offset, Sharing, named_value, fitting, with_word, lock_invariant, lock_kept, guarding, lock_shares, guard_owns}
+use Rattle.thread_local_ids.specs.Locking.{LockView, Fitting, offset, LockTurn, named_value, fitting, with_word, lock_invariant, lock_kept, guarding, lock_shares, guard_owns}
 use Rattle.thread_local_lemmas.specs.Fact.{fact}
 use Rattle.thread_local_ids.specs.declared.lock.Fits.{Ghosts}
 use Rattle.thread_local_ids.specs.contracts.lock.Lock as C
@@ -96,7 +96,7 @@ module _ {M : Type 1} {𝓤 : Ura M} (𝓛 : Logic 𝓤) (m : Member) (g : Ghost
   Back = PartsBack 𝓛 full_share [] ks b o
 
   module _ (γ : GName) where
-    abbrev t : Sharing
+    abbrev t : LockTurn
     t = (κ, γ)
 
     abbrev Named : Fml
@@ -166,7 +166,7 @@ module _ {M : Type 1} {𝓤 : Ura M} (𝓛 : Logic 𝓤) (m : Member) (g : Ghost
       move ! (1 ∷ 3 ∷ []) $ use2 𝓛 (‵ (with_word R ok b o (t γ) n)) (lends γ n) $ move ! (1 ∷ 0 ∷ []) $ fjoin ! $ fpack ! ℕ (λ w. fsep (word b (o + 0) w) (with_word R ok b o (t γ) w)) n $
       nothing ! $ move ! (1 ∷ 0 ∷ []) $ fjoin ! $ use0 𝓛 (‵ (fwand (fsep (fdead κ) (fseps (I γ ∷ []))) (fupd (Word γ)))) (word_back γ) $ move ! (2 ∷ 1 ∷ 0 ∷ []) $ obor_alter ! tt (I γ ∷ []) $
       use1 𝓛 (‵ (fbor κ (I γ)) ⊛ ‵ ftrue) (id⊢ 𝓤 _) $ split ! $ use1 𝓛 (later (‵ (finv (fbor κ (I γ))))) (𝓛.invs.inv_new (fbor κ (I γ))) $ await ! tt $
-      use0 𝓛 (‵ (before κ κ)) (before-Incl 𝓛 κ κ (Incl-refl κ)) $ fjoin ! $ fpack ! Sharing (λ u. lock_kept R ok b o u κ) (t γ) $ now ! $ keep ! (0 ∷ 2 ∷ []) $ done !)))
+      use0 𝓛 (‵ (before κ κ)) (before-Incl 𝓛 κ κ (Incl-refl κ)) $ fjoin ! $ fpack ! LockTurn (λ u. lock_kept R ok b o u κ) (t γ) $ now ! $ keep ! (0 ∷ 2 ∷ []) $ done !)))
 
   -- an owner has the right to the value, once the word says that the lock is taken
   module _ (δ : GName) where
@@ -222,5 +222,5 @@ module _ {M : Type 1} {𝓤 : Ura M} (𝓛 : Logic 𝓤) (m : Member) (g : Ghost
         move ! (7 ∷ 3 ∷ []) $ fjoin ! $ fpack ! R.Denot (λ y. fsep (At y) (fauth γ (R.coded.code y))) x $ nothing ! $ move ! (7 ∷ 0 ∷ []) $ fjoin ! $
         fpack ! ℕ (λ w. fsep (word b (o + 0) w) (with_word R ok b o (t γ) w)) 1 $ nothing ! $ move ! (1 ∷ 2 ∷ 0 ∷ []) $ fjoin3 ! $ move ! (5 ∷ 0 ∷ 1 ∷ []) $ obor_alter ! tt (I γ ∷ Named γ ∷ []) $
         use1 𝓛 (‵ (fbor κ (I γ)) ⊛ ‵ (fbor κ (Named γ)) ⊛ ‵ ftrue) (id⊢ 𝓤 _) $ split3 ! $ use1 𝓛 (later (‵ (finv (fbor κ (I γ))))) (𝓛.invs.inv_new (fbor κ (I γ))) $ await ! tt $
-        use0 𝓛 (‵ (before κ κ)) (before-Incl 𝓛 κ κ (Incl-refl κ)) $ fjoin ! $ move ! (5 ∷ 1 ∷ []) $ fjoin ! $ move ! (1 ∷ 0 ∷ []) $ fjoin ! $ fpack ! Sharing (λ u. guarding R ok b o u κ x) (t γ) $
+        use0 𝓛 (‵ (before κ κ)) (before-Incl 𝓛 κ κ (Incl-refl κ)) $ fjoin ! $ move ! (5 ∷ 1 ∷ []) $ fjoin ! $ move ! (1 ∷ 0 ∷ []) $ fjoin ! $ fpack ! LockTurn (λ u. guarding R ok b o u κ x) (t γ) $
         now ! $ show ! (Opened x q) γ' $ keep ! (0 ∷ 2 ∷ 3 ∷ []) $ done !))

@@ -12,10 +12,10 @@ use denote.RattleType.{RattleType}
 use denote.Steps.{nothing}
 use denote.RawPtr.{block_ptr}
 use Rattle.std.specs.Sync.RawAtomic.{word, asks, always}
-use Rattle.thread_local_ids.specs.Locking.{Sharing, with_word, lock_invariant}
+use Rattle.thread_local_ids.specs.Locking.{LockTurn, with_word, lock_invariant}
 use Rattle.core.proofs.raw_atomic.Asked.{Again, Lies, borrowed}
 
-module _ {M : Type 1} {𝓤 : Ura M} (𝓛 : Logic 𝓤) (R : RattleType) (ok : R.Denot → Type 0) (b o : ℕ) (t : Sharing) (q : Share) where
+module _ {M : Type 1} {𝓤 : Ura M} (𝓛 : Logic 𝓤) (R : RattleType) (ok : R.Denot → Type 0) (b o : ℕ) (t : LockTurn) (q : Share) where
   open 𝓛 use {A}
 
   abbrev I : Fml

@@ -36,11 +36,12 @@ offset R = up (align (lone R.mir)) 8
 abbrev pub lock_owns : (R : RattleType) → (R.Denot → Type 0) → (ℕ → R.Denot → Fml) → Fml
 lock_owns R ok fields = fex (ℕ × R.Denot) (λ s. fsep (fields s.0 s.1) (fact (s.0 ≡ 0 → ok s.1)))
 
--- a sharing: its lifetime α, and the name γ that tracks the value
-abbrev pub Sharing : Type 0
-Sharing = Lft × GName
+-- a turn of a lock, for as long as it is lent through `&`s: its lifetime α, and the name γ that
+-- tracks the value
+abbrev pub LockTurn : Type 0
+LockTurn = Lft × GName
 
-module _ (R : RattleType) (ok : R.Denot → Type 0) (b o : ℕ) (t : Sharing) where
+module _ (R : RattleType) (ok : R.Denot → Type 0) (b o : ℕ) (t : LockTurn) where
   -- the value, whatever it is, under the name that tracks it
   abbrev pub named_value : Fml
   named_value = Body (mem R) b (o + offset R) t.1
@@ -68,12 +69,12 @@ module _ (R : RattleType) (ok : R.Denot → Type 0) (b o : ℕ) (t : Sharing) wh
 
 -- what a `&` to the lock at an address holds
 abbrev pub lock_shares : (R : RattleType) → (R.Denot → Type 0) → Ptr → Lft → Fml
-lock_shares R ok (block_ptr b o) = some Sharing (lock_kept R ok b o)
+lock_shares R ok (block_ptr b o) = some LockTurn (lock_kept R ok b o)
 lock_shares R ok null_ptr = said ffalse
 
 -- what a guard of the lock at an address owns, where the value is x
 abbrev pub guard_owns : Lft → (R : RattleType) → (R.Denot → Type 0) → Ptr → R.Denot → Fml
-guard_owns β R ok (block_ptr b o) x = fex Sharing (λ t. guarding R ok b o t β x)
+guard_owns β R ok (block_ptr b o) x = fex LockTurn (λ t. guarding R ok b o t β x)
 guard_owns β R ok null_ptr x = ffalse
 
 -- what a `&` to that guard holds: a `&` to the value

@@ -4,15 +4,15 @@ use Rattle.thread_local_model.specs.Held.{Manager, is_held}
 use Rattle.thread_local_tokens.specs.Rights.{is_out}
 use Rattle.thread_local_ids.specs.declared.ids.Ids.TheInside.{Inside}
 
--- the manager of ids, the name of the table that the rights are to, and whether the table's own
--- right is out
+-- the manager of ids, the name of the table that the rights are to, and whether the table's
+-- right, to the number between the ids and their marks, is out
 pub record TableIds : Type 0 where
   pub manager : Manager
   pub table : ℕ
-  pub own : Bool
+  pub table_right_is_out : Bool
 
 abbrev pub ids_of : Inside → TableIds
-ids_of i = record { manager = i.manager; table = i.rights.table; own = is_out i.rights.out (2 ^ 63 - 1) }
+ids_of i = record { manager = i.manager; table = i.rights.table; table_right_is_out = is_out i.rights.out (2 ^ 63 - 1) }
 
 -- the right to an id is out exactly where the id is held, and so is its mark
 abbrev pub IsTied : Inside → Type 0

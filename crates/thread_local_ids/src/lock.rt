@@ -126,7 +126,7 @@ impl<V: Fits> Lock<V> {
             }
         }
         for _ in rt.forever() {
-            self.mark();
+            self.announce();
             self.sleep(rt, FOR_EVER);
             if let Some(guard) = self.take(AWAITED) {
                 return guard;
@@ -154,12 +154,12 @@ impl<V: Fits> Lock<V> {
     }
 
     /// Tells whoever has the lock that a thread may sleep for it.
-    fn mark(&self) {
+    fn announce(&self) {
         unsafe { exchange::<Brand>(&raw const self.word, TAKEN, AWAITED) };
     }
 
     /// Sleeps until a release wakes it, for at most `secs` seconds, unless the lock has been
-    /// released since `mark`.
+    /// released since `announce`.
     fn sleep<R: Wait>(&self, rt: &R, secs: u64) {
         unsafe { raw::park::<Brand, R>(rt, &raw const self.word, AWAITED, secs, 0) };
     }

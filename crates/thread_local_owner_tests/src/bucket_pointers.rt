@@ -6,6 +6,7 @@ use std::cell::Cell;
 use std::mem::replace;
 use std::test::Fail;
 use thread_local_bucket_pointers::BucketPointers;
+use thread_local_cursor::FlagSource;
 use thread_local_thread_id::Thread;
 
 /// Publishes a value, takes it for another, and drops the rest.
@@ -135,8 +136,14 @@ fn seen_beside(alloc: Global) -> Result<[bool; 4], AllocError> {
         1u32,
     );
     Ok([
-        pointers.is_published(2, 3),
-        pointers.is_published(2, 2),
+        pointers.is_published(Thread {
+            bucket: 2,
+            index: 3,
+        }),
+        pointers.is_published(Thread {
+            bucket: 2,
+            index: 2,
+        }),
         pointers.stands(2),
         pointers.stands(1),
     ])

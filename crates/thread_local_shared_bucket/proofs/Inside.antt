@@ -21,13 +21,13 @@ use Rattle.thread_local_lemmas.proofs.Words.{is_set_in-set}
 use Rattle.thread_local_blocks.specs.Slots.{AreWords, each, heap_token, block_ty, word_offset, value_offset, flags_at, back}
 use Rattle.thread_local_blocks.proofs.Each.{Put, each_at, each_turned}
 use Rattle.thread_local_blocks.proofs.Flags.{in_chunks}
-use Rattle.thread_local_shared_bucket.specs.Shared.{name_at, BucketView, Turn, StandingBlock, standing_coded, mark, shared_slot, numbered_slot, AreFlagWords, slots_under, len, first, Sized, settled, standing, beside_pointer, bucket_invariant}
+use Rattle.thread_local_shared_bucket.specs.Shared.{name_at, BucketView, Turn, StandingBlock, standing_coded, block_code, shared_slot, numbered_slot, AreFlagWords, slots_under, len, first, Sized, settled, standing, beside_pointer, bucket_invariant}
 
-mark-apart : {Z : Type 0} (s : StandingBlock) → mark s ≡ gnil → Z
-mark-apart s e = cc
+block_code-apart : {Z : Type 0} (s : StandingBlock) → block_code s ≡ gnil → Z
+block_code-apart s e = cc
 
-mark-alike : (s r : StandingBlock) → mark s ≡ mark r → s ≡ r
-mark-alike s r e = standing_coded.inj s r (ap second e)
+block_code-alike : (s r : StandingBlock) → block_code s ≡ block_code r → s ≡ r
+block_code-alike s r e = standing_coded.inj s r (ap second e)
   where
     second : Gv → Gv
     second (gcons x y) = y
@@ -101,11 +101,11 @@ module _ {M : Type 1} {𝓤 : Ura M} (𝓛 : Logic 𝓤) where
     I = bucket_invariant R d t wb wo
 
     abbrev pub Which : Fml
-    Which = fres t.which (mark s)
+    Which = fres t.which (block_code s)
 
     -- the slot, by whether its flag is set
     abbrev pub Slot : Bool → Fml
-    Slot set = shared_slot R t b s.own d.sharing d.table set k e (name_at s.names i)
+    Slot set = shared_slot R t b s.block_life d.sharing d.table set k e (name_at s.names i)
 
     -- the word that has its flag
     abbrev pub Flags : ℕ → Fml
@@ -126,7 +126,7 @@ module _ {M : Type 1} {𝓤 : Ura M} (𝓛 : Logic 𝓤) where
     o = count_of s.at
 
     abbrev Numbered : List ℕ → GName → ℕ → Fml
-    Numbered ns = numbered_slot R t b s.own d.sharing d.table (first R d) o ns
+    Numbered ns = numbered_slot R t b s.block_life d.sharing d.table (first R d) o ns
 
     abbrev Row : List ℕ → Fml
     Row ns = each (Numbered ns) s.names 0
@@ -135,11 +135,11 @@ module _ {M : Type 1} {𝓤 : Ura M} (𝓛 : Logic 𝓤) where
     Under ns = slots_under R (len R d) b o Row ns
 
     numbered_is : (ns : List ℕ) → ◌≡◌ {A = Fml} (Numbered ns (get_or s.names i 0) i) (Slot (is_set_in ns i))
-    numbered_is ns = let F : ℕ × ℕ × ℕ → Fml = λ z. shared_slot R t b s.own d.sharing d.table (is_set_in ns i) z.0 z.1 z.2 in
+    numbered_is ns = let F : ℕ × ℕ × ℕ → Fml = λ z. shared_slot R t b s.block_life d.sharing d.table (is_set_in ns i) z.0 z.1 z.2 in
         let same : ◌≡◌ {A = ℕ × ℕ × ℕ} (i + first R d, value_offset R o i, get_or s.names i 0) (k, e, name_at s.names i) = λ j. (sym at_k j, sym at_e j, name_at-get_or s.names i j) in ap F same
 
     apart_same : (ns : List ℕ) (inside : i / 64 < length ns) (y : Next (slice_index ns (i / 64)) (i % 64)) (η : GName) (m : ℕ) → m ≢ i → ⟦ Numbered ns η m ⟧ ⊢ ⟦ Numbered (turned R (len R d) i ns inside y) η m ⟧
-    apart_same ns inside y η m apart = subst (λ (u : Bool). ⟦ Numbered ns η m ⟧ ⊢ ⟦ shared_slot R t b s.own d.sharing d.table u (m + first R d) (value_offset R o m) η ⟧) (sym (turned_there R (len R d) i ns inside y m apart)) (id⊢ 𝓤 _)
+    apart_same ns inside y η m apart = subst (λ (u : Bool). ⟦ Numbered ns η m ⟧ ⊢ ⟦ shared_slot R t b s.block_life d.sharing d.table u (m + first R d) (value_offset R o m) η ⟧) (sym (turned_there R (len R d) i ns inside y m apart)) (id⊢ 𝓤 _)
 
     in_row : (ns : List ℕ) → length s.names ≡ len R d → ⟦ Under ns ⟧ ⊢ ex 𝓤 (Out ⟦ fex (List ℕ) Under ⟧)
     in_row ns long = let c : ℕ = i / 64 in let n : ℕ = slice_index ns c in let Fs : ℕ → ℕ → Fml = flags_at R (len R d) b o in let Found : ℕ → Pr = Out ⟦ fex (List ℕ) Under ⟧ in let name : ℕ = get_or s.names i 0 in
@@ -167,7 +167,7 @@ module _ {M : Type 1} {𝓤 : Ura M} (𝓛 : Logic 𝓤) where
 
     pub in_block : (p : Ptr) (r : Share) → ⟦ standing R d t p (s, r) ⟧ ⊢ ex 𝓤 (Out ⟦ standing R d t p (s, r) ⟧)
     in_block p r = let Q : Fml = standing R d t p (s, r) in let Known : Type 0 = (s.at ≡ p) × (length s.names ≡ len R d) × Sized R (len R d) p in let room : Fml = back R b o (len R d) in let token : Fml = heap_token (block_ty R (len R d)) p in
-        let own : Fml = flft (s.own ∷ []) r in let S : Fml = settled R d t s in let Body : ℕ × ℕ → Fml = λ z. fsep (fex (List ℕ) (slots_under R (len R d) z.0 z.1 (λ ns. each (numbered_slot R t z.0 s.own d.sharing d.table (first R d) z.1 ns) s.names 0))) (back R z.0 z.1 (len R d)) in
+        let own : Fml = flft (s.block_life ∷ []) r in let S : Fml = settled R d t s in let Body : ℕ × ℕ → Fml = λ z. fsep (fex (List ℕ) (slots_under R (len R d) z.0 z.1 (λ ns. each (numbered_slot R t z.0 s.block_life d.sharing d.table (first R d) z.1 ns) s.names 0))) (back R z.0 z.1 (len R d)) in
         qed 𝓛 (‵ Q ∷ []) ∵ fsplit ! $ fpick ! (λ h. let same : ◌≡◌ {A = ℕ × ℕ} (block_of p, count_of p) (b, o) = λ j. ((sym (ap block_of h.0) ∙ at_b) j, ap count_of (sym h.0) j) in move ! (1 ∷ []) $ fsplit3 ! $ move ! (2 ∷ []) $ fsplit ! $
         -- [what stands; the right to free; settled; the token; nothing]
         rewrite ! 0 (λ (z : ℕ × ℕ). ‵ (Body z)) same refl $ fsplit ! $ fpick ! (λ ns. use1 𝓛 (raw (ex 𝓤 (Out ⟦ fex (List ℕ) Under ⟧))) (in_row ns h.1) $ keep ! (0 ∷ 1 ∷ 2 ∷ 3 ∷ 4 ∷ []) $
@@ -176,11 +176,11 @@ module _ {M : Type 1} {𝓤 : Ura M} (𝓛 : Logic 𝓤) where
 
     in_bucket : (p : Ptr) → ⟦ Pointed p ⟧ ∗ ⟦ Which ⟧ ⊢ ex 𝓤 (Out ⟦ I ⟧)
     in_bucket null_ptr = qed 𝓛 (‵ (Pointed null_ptr) ∷ ‵ Which ∷ []) ∵ fsplit ! $ move ! (1 ∷ []) $ fsplit ! $ drop ! $ fsplit ! $ fsplit ! $ move ! (4 ∷ 1 ∷ []) $
-        use2 𝓛 (given (mark s ≡ gnil) (‵ Which ⊛ ‵ (fauth t.which gnil))) (𝓛.names.res_agree t.which (mark s) gnil) $ learn ! (λ e. absurd (mark-apart s e))
+        use2 𝓛 (given (block_code s ≡ gnil) (‵ Which ⊛ ‵ (fauth t.which gnil))) (𝓛.names.res_agree t.which (block_code s) gnil) $ learn ! (λ e. absurd (block_code-apart s e))
     in_bucket (block_ptr x y) = let p : Ptr = block_ptr x y in qed 𝓛 (‵ (Pointed p) ∷ ‵ Which ∷ []) ∵ fsplit ! $ move ! (1 ∷ []) $ fpick ! (λ z. fsplit ! $ fpick ! (λ h. move ! (1 ∷ []) $ fsplit ! $ fsplit ! $ move ! (5 ∷ 0 ∷ []) $
-        use2 𝓛 (given (mark s ≡ mark z.0) (‵ Which ⊛ ‵ (fauth t.which (mark z.0)))) (𝓛.names.res_agree t.which (mark s) (mark z.0)) $ learn ! (λ e. split ! $ drop ! $ fjoin ! $ fjoin ! $ move ! (1 ∷ []) $
+        use2 𝓛 (given (block_code s ≡ block_code z.0) (‵ Which ⊛ ‵ (fauth t.which (block_code z.0)))) (𝓛.names.res_agree t.which (block_code s) (block_code z.0)) $ learn ! (λ e. split ! $ drop ! $ fjoin ! $ fjoin ! $ move ! (1 ∷ []) $
         fpack ! ((z.0.at ≡ p) × (length z.0.names ≡ len R d) × Sized R (len R d) p) (λ _. ftrue) h $ fjoin ! $
-        rewrite ! 0 (λ (w : StandingBlock). ‵ (standing R d t p (w, z.1))) (sym (mark-alike s z.0 e)) refl $ let S : Fml = standing R d t p (s, z.1) in
+        rewrite ! 0 (λ (w : StandingBlock). ‵ (standing R d t p (w, z.1))) (sym (block_code-alike s z.0 e)) refl $ let S : Fml = standing R d t p (s, z.1) in
         use1 𝓛 (raw (ex 𝓤 (Out ⟦ S ⟧))) (in_block p z.1) $ by ! (lifted ⟦ S ⟧ ⟦ I ⟧ ⟦ cell wb wo p ⟧ (qed 𝓛 (‵ S ∷ ‵ (cell wb wo p) ∷ []) ∵
         fpack ! (StandingBlock × Share) (standing R d t p) (s, z.1) $ move ! (1 ∷ 0 ∷ []) $ fjoin ! $ fpack ! Ptr Pointed p $ done !)))))
 

@@ -28,7 +28,7 @@ use Rattle.std.specs.Sync.RawAtomic.Pointer.{cell}
 use Rattle.std.proofs.cell.Inside.{spread, gather}
 use Rattle.thread_local_judged.specs.Judged.{Judged}
 use Rattle.thread_local_lemmas.specs.Fact.{fact}
-use Rattle.thread_local_shared_bucket.specs.Shared.{BucketView, Turn, StandingBlock, mark, block_stands, block_rests, Sized, len, first, all_unborn, pending, standing, beside_pointer, bucket_invariant, kept, at_rest, bucket_shares}
+use Rattle.thread_local_shared_bucket.specs.Shared.{BucketView, Turn, StandingBlock, block_code, block_stands, block_rests, Sized, len, first, all_unborn, pending, standing, beside_pointer, bucket_invariant, kept, at_rest, bucket_shares}
 use Rattle.thread_local_shared_bucket.specs.contracts.shared_bucket.SharedBucket as C
 use Rattle.thread_local_blocks.specs.Slots.{empty_slots}
 use Rattle.thread_local_tokens.specs.Told.{all_telling}
@@ -71,8 +71,8 @@ module _ {M : Type 1} {𝓤 : Ura M} (𝓛 : Logic 𝓤) where
         use1 𝓛 (‵ (all_telling R d.sharing (first R d) (empty_slots (len R d)))) (none_born 𝓛 t R d.sharing d.table (len R d) (first R d)) $ move ! (1 ∷ 0 ∷ []) $ fjoin ! $ done !
     rests t (block_ptr b o) = let p : Ptr = block_ptr b o in qed 𝓛 (‵ (fdead t.life) ∷ ‵ (beside_pointer R d t p) ∷ []) ∵ move ! (1 ∷ []) $ fpick ! (λ s. fsplit ! $ fpick ! (λ so. drop ! $ fsplit3 ! $ move ! (2 ∷ []) $ fsplit ! $
         -- [the block; the right to free; settled; its own token; dead]
-        let κ : Lft = s.0.own ∷ t.life in move ! (4 ∷ []) $ use1 𝓛 (‵ (fdead κ)) (𝓛.lfts.dead-incl κ t.life (meet_⊑_right (s.0.own ∷ []) t.life)) $ move ! (0 ∷ 1 ∷ []) $
-        use2 𝓛 (‵ (block_rests R d.sharing (first R d) (len R d) b o)) (rests_block 𝓛 t R L b s.0.own d.sharing d.table (first R d) (len R d) o s.0.names so.1) $
+        let κ : Lft = s.0.block_life ∷ t.life in move ! (4 ∷ []) $ use1 𝓛 (‵ (fdead κ)) (𝓛.lfts.dead-incl κ t.life (meet_⊑_right (s.0.block_life ∷ []) t.life)) $ move ! (0 ∷ 1 ∷ []) $
+        use2 𝓛 (‵ (block_rests R d.sharing (first R d) (len R d) b o)) (rests_block 𝓛 t R L b s.0.block_life d.sharing d.table (first R d) (len R d) o s.0.names so.1) $
         keep ! (0 ∷ 1 ∷ []) $ nothing ! $ fpack ! (Sized R (len R d) p) (λ _. ftrue) so.2 $ fjoin3 ! $ done !))
 
     module _ (κ : Lft) where
@@ -101,10 +101,10 @@ module _ {M : Type 1} {𝓤 : Ura M} (𝓛 : Logic 𝓤) where
       wakes μ r inc sp j (block_ptr b o) = let p : Ptr = block_ptr b o in fresh p μ r (λ n. qed 𝓛 (‵ (pending R d (turn n)) ∷ ‵ (all_tokens 𝓛 (turn n) (first R d)) ∷ ‵ (at_rest R d p) ∷ ‵ (flft μ r) ∷ []) ∵ updating ! $
           let t : Turn = turn n in lft_new ! tt (λ ν. move ! (0 ∷ 4 ∷ []) $ join ! $ move ! (3 ∷ []) $ fsplit3 ! $ fpick ! (λ so. drop ! $ move ! (0 ∷ 4 ∷ 2 ∷ []) $
           -- [the block; the tokens; the lifetimes; the right to free; pending]
-          use3 𝓛 (later (some (λ (names : List ℕ). given (length names ≡ len R d) (‵ (block_stands R d t p record { at = p; own = ν; names = names }) ⊛ (‵ (flft (ν ∷ []) full_share) ⊛ ‵ (flft μ r))))))
+          use3 𝓛 (later (some (λ (names : List ℕ). given (length names ≡ len R d) (‵ (block_stands R d t p record { at = p; block_life = ν; names = names }) ⊛ (‵ (flft (ν ∷ []) full_share) ⊛ ‵ (flft μ r))))))
           (wakes_block 𝓛 t R L b ν d.sharing ((ν ∷ [], full_share) ∷ (μ, r) ∷ []) (Incl-trans (meet_⊑_right (ν ∷ []) μ) inc) (meet_within (ν ∷ []) κ μ sp) j d.table (first R d) (len R d) o) $ await ! tt $ pick ! (λ names. learn ! (λ long. split ! $ move ! (1 ∷ []) $ split ! $
           -- [its own token; μ's token; the block; the right to free; pending]
-          let s : StandingBlock = record { at = p; own = ν; names = names } in move ! (4 ∷ []) $ fsplit ! $ name_set ! tt (mark s) $ use1 𝓛 (‵ (fres t.which (mark s))) (𝓛.names.obs-res t.which (mark s)) $ move ! (1 ∷ 0 ∷ []) $ fjoin ! $
+          let s : StandingBlock = record { at = p; block_life = ν; names = names } in move ! (4 ∷ []) $ fsplit ! $ name_set ! tt (block_code s) $ use1 𝓛 (‵ (fres t.which (block_code s))) (𝓛.names.obs-res t.which (block_code s)) $ move ! (1 ∷ 0 ∷ []) $ fjoin ! $
           -- [settled; its own token; μ's token; the block; the right to free]
           move ! (3 ∷ 4 ∷ []) $ fjoin ! $ move ! (1 ∷ 2 ∷ 0 ∷ []) $ fjoin3 ! $ nothing ! $ fpack ! ((p ≡ p) × (length names ≡ len R d) × Sized R (len R d) p) (λ _. ftrue) (refl, long, so) $ fjoin ! $
           fpack ! (StandingBlock × Share) (standing R d t p) (s, full_share) $ now ! $ show ! (Woken μ r p) n $ done !)))))

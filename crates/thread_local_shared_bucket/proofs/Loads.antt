@@ -17,7 +17,7 @@ use Rattle.std.specs.Sync.RawAtomic.Pointer.{cell, asks_ptr}
 use Rattle.thread_local_lemmas.specs.Fact.{fact}
 use Rattle.thread_local_tokens.specs.Told.{untold_in, tells}
 use Rattle.thread_local_tokens.proofs.ToldElements.{telling_alike}
-use Rattle.thread_local_shared_bucket.specs.Shared.{BucketView, Turn, StandingBlock, mark, Sized, len, first, all_unborn, standing, beside_pointer, bucket_invariant, loaded}
+use Rattle.thread_local_shared_bucket.specs.Shared.{BucketView, Turn, StandingBlock, block_code, Sized, len, first, all_unborn, standing, beside_pointer, bucket_invariant, loaded}
 use Rattle.core.proofs.raw_atomic.Asked.{PtrLies, borrowed_ptr}
 
 module _ {M : Type 1} {𝓤 : Ura M} (𝓛 : Logic 𝓤) (R : RattleType) (sharing : Option GName) (named : IsSome sharing) (table : ℕ) (t : Turn) (x : R.Denot) (Z : SProp 𝓤) where
@@ -48,7 +48,7 @@ module _ {M : Type 1} {𝓤 : Ura M} (𝓛 : Logic 𝓤) (R : RattleType) (d : B
   infixr 35 ◌∗◌
   -- a part of the token of the block's own lifetime, and which block it is
   abbrev pub part : Ptr → StandingBlock × Share → Fml
-  part p z = fsep (fact ((z.0.at ≡ p) × (length z.0.names ≡ len R d) × Sized R (len R d) p)) (fsep (fres t.which (mark z.0)) (flft (z.0.own ∷ []) z.1))
+  part p z = fsep (fact ((z.0.at ≡ p) × (length z.0.names ≡ len R d) × Sized R (len R d) p)) (fsep (fres t.which (block_code z.0)) (flft (z.0.block_life ∷ []) z.1))
 
   -- what a load takes out of the invariant: `none` at null, and else `also` with a part of the
   -- token of the block's lifetime
@@ -57,7 +57,7 @@ module _ {M : Type 1} {𝓤 : Ura M} (𝓛 : Logic 𝓤) (R : RattleType) (d : B
   glimpse none also (block_ptr pb po) = fsep (fex (StandingBlock × Share) (part (block_ptr pb po))) also
 
   pub parted : (p : Ptr) (z : StandingBlock × Share) → ⟦ standing R d t p z ⟧ ⊢ ⟦ standing R d t p (z.0, left z.1) ⟧ ∗ ⟦ part p (z.0, right z.1) ⟧
-  parted p z = let ν : Lft = z.0.own ∷ [] in qed 𝓛 (‵ (standing R d t p z) ∷ []) ∵ fsplit ! $ fpick ! (λ so. drop ! $ fsplit3 ! $ fsplit ! $ move ! (1 ∷ []) $ res_dup ! $ move ! (3 ∷ []) $
+  parted p z = let ν : Lft = z.0.block_life ∷ [] in qed 𝓛 (‵ (standing R d t p z) ∷ []) ∵ fsplit ! $ fpick ! (λ so. drop ! $ fsplit3 ! $ fsplit ! $ move ! (1 ∷ []) $ res_dup ! $ move ! (3 ∷ []) $
       use1 𝓛 (‵ (flft ν (left z.1)) ⊛ ‵ (flft ν (right z.1))) (𝓛.lfts.lft_split ν z.1) $ split ! $
       -- [the left half; the right; which, twice; its authority; the slots with the right to free]
       move ! (4 ∷ 2 ∷ []) $ fjoin ! $ move ! (0 ∷ 1 ∷ 4 ∷ []) $ fjoin3 ! $ nothing ! $ fpack ! ((z.0.at ≡ p) × (length z.0.names ≡ len R d) × Sized R (len R d) p) (λ _. ftrue) so $ fjoin ! $ frame ! $
@@ -65,7 +65,7 @@ module _ {M : Type 1} {𝓤 : Ura M} (𝓛 : Logic 𝓤) (R : RattleType) (d : B
 
   -- giving the part up for good makes the block last as long as the reader's lifetime
   pub reaches : (κ : Lft) (p : Ptr) (z : StandingBlock × Share) → ⟦ part p z ⟧ ∗ ⟦ before κ t.life ⟧ ⊢ H.⇛ (⟦ fact ((z.0.at ≡ p) × Sized R (len R d) p) ⟧ ∗ ⟦ loaded R d t z.0 κ ⟧)
-  reaches κ p z = let ν : Lft = z.0.own ∷ [] in let α : Lft = t.life in
+  reaches κ p z = let ν : Lft = z.0.block_life ∷ [] in let α : Lft = t.life in
       qed 𝓛 (‵ (part p z) ∷ ‵ (before κ α) ∷ []) ∵ updating ! $ fsplit3 ! $ fpick ! (λ so. drop ! $ move ! (1 ∷ []) $ bor_new ! tt α $ bor_fracture ! tt (λ q. flft ν q) z.1 $ move ! (1 ∷ []) $ drop ! $
       use0 𝓛 (‵ (before (ν ++ α) (ν ++ α))) (before-Incl 𝓛 (ν ++ α) (ν ++ α) (Incl-refl (ν ++ α))) $ move ! (1 ∷ 0 ∷ []) $ use2 𝓛 (‵ (before α (ν ++ α))) (before_lent 𝓛 α ν (ν ++ α)) $ move ! (2 ∷ 0 ∷ []) $
       use2 𝓛 (‵ (before κ (ν ++ α))) ((ends_shr_laws (ν ++ α)).mono M 𝓤 𝓛 κ α) $ move ! (1 ∷ 0 ∷ []) $ nothing ! $

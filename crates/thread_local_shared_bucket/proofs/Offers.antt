@@ -28,7 +28,7 @@ use Rattle.std.proofs.GlobalToken.{dealloc_token-Testable}
 use Rattle.thread_local_tokens.specs.Rights.{right_owns}
 use Rattle.thread_local_lemmas.specs.Bits.{is_set_in}
 use Rattle.thread_local_blocks.specs.Slots.{each, chunks, AreFlags, flags_at, block_ty, value_offset, content_at, slot, flags, back, block_owns, empty_slots, slot_value, heap_token, Fits}
-use Rattle.thread_local_shared_bucket.specs.Shared.{BucketView, Turn, StandingBlock, Who, free, early, mark, value_code, tracked_value, age, holds, had, shared_slot_as, numbered_slot, AreFlagWords, slots_under, slots_stand, block_stands, waiting, all_unborn, Sized, len, first, standing, beside_pointer, bucket_invariant}
+use Rattle.thread_local_shared_bucket.specs.Shared.{BucketView, Turn, StandingBlock, Who, free, early, block_code, value_code, tracked_value, age, holds, had, shared_slot_as, numbered_slot, AreFlagWords, slots_under, slots_stand, block_stands, waiting, all_unborn, Sized, len, first, standing, beside_pointer, bucket_invariant}
 use Rattle.thread_local_tokens.specs.Told.{untold_in}
 use Rattle.core.proofs.raw_atomic.Asked.{Compared, borrowed_compares, alike_null}
 use Rattle.thread_local_shared_bucket.proofs.Loads.{part, glimpse, parted}
@@ -145,12 +145,12 @@ module _ {M : Type 1} {𝓤 : Ura M} (𝓛 : Logic 𝓤) (R : RattleType) (t : T
     -- a block whose room is lent: its flags, all unset, its slots, the way back, and the right to
     -- free it
     abbrev pub idle : Ptr → StandingBlock → Fml
-    idle p s = fsep (flags R (block_of p) (count_of p) (empty_slots n)) (fsep (each (bare_slot (block_of p) s.own (count_of p)) s.names 0)
+    idle p s = fsep (flags R (block_of p) (count_of p) (empty_slots n)) (fsep (each (bare_slot (block_of p) s.block_life (count_of p)) s.names 0)
         (fsep (back R (block_of p) (count_of p) n) (ghosts.dealloc_token a τ p)))
 
     -- a block that nobody else sees: the whole token of its own lifetime, and the block
     abbrev pub private : Ptr → StandingBlock → Fml
-    private p s = fsep (flft (s.own ∷ []) full_share) (idle p s)
+    private p s = fsep (flft (s.block_life ∷ []) full_share) (idle p s)
 
     abbrev Blank : Ptr → Fml
     Blank p = block_owns R (ghosts.dealloc_token a) p (empty_slots n) 0
@@ -175,15 +175,15 @@ module _ {M : Type 1} {𝓤 : Ura M} (𝓛 : Logic 𝓤) (R : RattleType) (t : T
         -- [its own token; the right to free; the way back; the slots; the words]
         move ! (3 ∷ []) $ use1 𝓛 (later (some (λ (names : List ℕ). given (length names ≡ n) (‵ (each (bare_slot b ν o) names 0))))) (lends_all b ν o n 0) $ await ! tt $ pick ! (λ names. learn ! (λ long.
         move ! (3 ∷ 2 ∷ []) $ fjoin ! $ move ! (3 ∷ 1 ∷ 0 ∷ []) $ fjoin3 ! $ move ! (1 ∷ 0 ∷ []) $ fjoin ! $
-        now ! $ show ! (Out p) record { at = p; own = ν; names = names } $ check ! (refl, long, (so.0, test, subst (Fits R) as_many so.1)) $ done !)))))
+        now ! $ show ! (Out p) record { at = p; block_life = ν; names = names } $ check ! (refl, long, (so.0, test, subst (Fits R) as_many so.1)) $ done !)))))
 
     -- the whole token ends the lifetime, and the block comes back
     pub take_back : (p : Ptr) (s : StandingBlock) → Lies p s → ⟦ private p s ⟧ ⊢ H.⇛ ⟦ Blank p ⟧
-    take_back p s so = let b : ℕ = block_of p in let o : ℕ = count_of p in let κ₀ : Lft = s.own ∷ t.life in
-        qed 𝓛 (‵ (private p s) ∷ []) ∵ updating ! $ fsplit3 ! $ lft_end ! tt $ use1 𝓛 (‵ (fdead κ₀)) (𝓛.lfts.dead-incl κ₀ (s.own ∷ []) (meet_⊑_left (s.own ∷ []) t.life)) $ move ! (2 ∷ []) $ fsplit3 ! $
+    take_back p s so = let b : ℕ = block_of p in let o : ℕ = count_of p in let κ₀ : Lft = s.block_life ∷ t.life in
+        qed 𝓛 (‵ (private p s) ∷ []) ∵ updating ! $ fsplit3 ! $ lft_end ! tt $ use1 𝓛 (‵ (fdead κ₀)) (𝓛.lfts.dead-incl κ₀ (s.block_life ∷ []) (meet_⊑_left (s.block_life ∷ []) t.life)) $ move ! (2 ∷ []) $ fsplit3 ! $
         -- [the slots; the way back; the right to free; its life is over; the words]
         move ! (1 ∷ []) $ rewrite ! 0 (λ (m : ℕ). ‵ (back R b o m)) (sym as_many) refl $ move ! (2 ∷ []) $ rewrite ! 0 (λ (m : ℕ). ‵ (ghosts.dealloc_token a (block_ty R m) p)) (sym as_many) refl $
-        move ! (1 ∷ 0 ∷ []) $ fjoin ! $ move ! (2 ∷ 1 ∷ []) $ use2 𝓛 (later (‵ (each (slot R b o) (empty_slots (length s.names)) 0))) (takes_all b s.own o s.names 0) $ await ! tt $
+        move ! (1 ∷ 0 ∷ []) $ fjoin ! $ move ! (2 ∷ 1 ∷ []) $ use2 𝓛 (later (‵ (each (slot R b o) (empty_slots (length s.names)) 0))) (takes_all b s.block_life o s.names 0) $ await ! tt $
         rewrite ! 0 (λ (m : ℕ). ‵ (each (slot R b o) (empty_slots m) 0)) so.1 refl $ move ! (2 ∷ 0 ∷ 1 ∷ []) $ fjoin3 ! $
         nothing ! $ fpack ! (InBlock p × Fits R many) (λ _. ftrue) (so.2.0, subst (Fits R) (sym as_many) so.2.2) $ fjoin ! $ now ! $ done !
 
@@ -194,7 +194,7 @@ module _ {M : Type 1} {𝓤 : Ura M} (𝓛 : Logic 𝓤) (R : RattleType) (t : T
         move ! (1 ∷ []) $ fsplit3 ! $ fpick ! (λ ns. fsplit3 ! $ fpick ! (λ are. drop ! $ move ! (1 ∷ []) $ drop ! $
         rewrite ! 0 (λ (m : ℕ). ‵ (each (flags_at R m b o) ns 0)) as_many refl $
         -- [the words; the slots; the way back and the right to free; what waits]
-        move ! (3 ∷ 1 ∷ []) $ use2 𝓛 (‵ (slots_stand R d t p s ns)) (born_all b s.own o d.sharing d.table k ns (none_set R n ns are.1) s.names 0) $ move ! (1 ∷ 0 ∷ []) $ fjoin ! $
+        move ! (3 ∷ 1 ∷ []) $ use2 𝓛 (‵ (slots_stand R d t p s ns)) (born_all b s.block_life o d.sharing d.table k ns (none_set R n ns are.1) s.names 0) $ move ! (1 ∷ 0 ∷ []) $ fjoin ! $
         nothing ! $ fpack ! (AreFlagWords R n ns) (λ _. ftrue) (clear_words R n ns are.1 are.0) $ fjoin ! $ fpack ! (List ℕ) (slots_under R n b o (slots_stand R d t p s)) ns $
         move ! (1 ∷ []) $ fsplit ! $ move ! (2 ∷ 0 ∷ []) $ fjoin ! $ move ! (1 ∷ []) $ fpack ! Global (λ z. ghosts.dealloc_token z τ p) a $ move ! (1 ∷ 0 ∷ []) $ fjoin ! $ done !))
 
@@ -219,7 +219,7 @@ module _ {M : Type 1} {𝓤 : Ura M} (𝓛 : Logic 𝓤) (R : RattleType) (t : T
       F = Compared 𝓛 t.life q J b o null_ptr new won lost
 
       found : (p : Ptr) → ⟦ cell b o p ⟧ ∗ ⟦ beside_pointer R d t p ⟧ ∗ ⟦ private new s ⟧ ⊢ ex 𝓤 F
-      found null_ptr = let m = mark s in let γ : GName = t.which in let G : Pr = ⟦ J ⟧ ∗ ⟦ won null_ptr ⟧ in
+      found null_ptr = let m = block_code s in let γ : GName = t.which in let G : Pr = ⟦ J ⟧ ∗ ⟦ won null_ptr ⟧ in
           qed 𝓛 (‵ (cell b o null_ptr) ∷ ‵ (beside_pointer R d t null_ptr) ∷ ‵ (private new s) ∷ []) ∵ show ! F (null_ptr, true) $ frame ! $ use0 𝓛 (‵ (alike null_ptr null_ptr true)) (alike_null 𝓛 null_ptr (lit< tt)) $ frame ! $
           assume ! (‵ (cell b o new)) $ move ! (1 ∷ []) $ fsplit3 ! $ drop ! $ use1 𝓛 (raw (upd 𝓤 (A.obs γ m ∗ A.auth γ m))) (𝓛.names.name_set_upd γ gnil gnil m) $ settle 𝓛 G (‵ (fobs γ m) ⊛ ‵ (fauth γ m)) $ suffices ! _ (upd_i 𝓤 G) $ split ! $
           use1 𝓛 (‵ (fres γ m)) (𝓛.names.obs-res γ m) $ move ! (1 ∷ 0 ∷ []) $ fjoin ! $ move ! (3 ∷ []) $ fsplit ! $

@@ -79,7 +79,7 @@ module _ (R : RattleType) (s : IsSend R) where
   unborn_keyless sharing table t (suc n) k = ((right_keyless t.vacant k, ((right_keyless t.filled k, untold_keyless sharing k), λ w. waiting_keyless w table t.pass k)), unborn_keyless sharing table t n (suc k))
 
   stands_keyless : (d : BucketView) (t : Turn) (p : Ptr) (z : StandingBlock) → Keyless (block_stands R d t p z)
-  stands_keyless d t p z = let b : ℕ = block_of p in let o : ℕ = count_of p in ((λ ns. ((λ _. tt), (words_keyless (len R d) b o ns, slots_keyless t b z.own d.sharing d.table (first R d) o z.names ns))), back_keyless b o (len R d))
+  stands_keyless d t p z = let b : ℕ = block_of p in let o : ℕ = count_of p in ((λ ns. ((λ _. tt), (words_keyless (len R d) b o ns, slots_keyless t b z.block_life d.sharing d.table (first R d) o z.names ns))), back_keyless b o (len R d))
 
   beside_keyless : (d : BucketView) (t : Turn) (p : Ptr) → Keyless (beside_pointer R d t p)
   beside_keyless d t null_ptr = ((λ _. tt), ((tt, tt), unborn_keyless d.sharing d.table t (len R d) (first R d)))
@@ -89,7 +89,7 @@ module _ (R : RattleType) (s : IsSend R) where
   kept_keyless d t b o κ = ((λ νs. chain_keyless νs κ t.life), λ p. (tt, beside_keyless d t p))
 
   pub row_keyless : (d : BucketView) (t : Turn) (z : StandingBlock) (κ : Lft) → Keyless (loaded R d t z κ)
-  row_keyless d t z κ = ((λ _. tt), (tt, λ νs. chain_keyless νs κ (z.own ∷ t.life)))
+  row_keyless d t z κ = ((λ _. tt), (tt, λ νs. chain_keyless νs κ (z.block_life ∷ t.life)))
 
   rests_keyless : (owed : Bool) (b e : ℕ) (v : Option R.Denot) → Keyless (rests R owed b e v)
   rests_keyless false b e v = place_keyless v b e

@@ -14,7 +14,7 @@ use Rattle.core.proofs.raw_atomic.Asked.{Again, Lies, borrowed}
 use Rattle.thread_local_lemmas.specs.Bits.{is_set, IsWordBut}
 use Rattle.thread_local_lemmas.proofs.Word.{same_bit}
 use Rattle.thread_local_blocks.specs.Slots.{word_offset, value_offset}
-use Rattle.thread_local_shared_bucket.specs.Shared.{name_at, BucketView, Turn, StandingBlock, Who, mark, age, tracked_value, shared_slot_as, shared_slot, len, first, bucket_invariant, stays, had, holds}
+use Rattle.thread_local_shared_bucket.specs.Shared.{name_at, BucketView, Turn, StandingBlock, Who, block_code, age, tracked_value, shared_slot_as, shared_slot, len, first, bucket_invariant, stays, had, holds}
 use Rattle.thread_local_shared_bucket.proofs.Inside as inside
 use Rattle.thread_local_shared_bucket.proofs.Inside.{Next, quietly, slot_in}
 
@@ -46,25 +46,25 @@ module _ {M : Type 1} {𝓤 : Ura M} (𝓛 : Logic 𝓤) (R : RattleType) (d : B
   I = bucket_invariant R d t wb wo
 
   abbrev pub Which : Fml
-  Which = fres t.which (mark s)
+  Which = fres t.which (block_code s)
 
   abbrev pub Slot : Bool → Fml
-  Slot set = shared_slot R t b s.own d.sharing d.table set k e η
+  Slot set = shared_slot R t b s.block_life d.sharing d.table set k e η
 
   abbrev pub Flags : ℕ → Fml
   Flags n = inside.Flags 𝓛 R d t wb wo s i k e b low at_k at_e at_b n
 
   abbrev pub Stays : Option R.Denot → Fml
-  Stays v = stays R t b s.own d.sharing k e η v
+  Stays v = stays R t b s.block_life d.sharing k e η v
 
   abbrev pub Had : Option R.Denot → Who → Fml
-  Had v w = had R t b s.own d.sharing d.table k e η v w
+  Had v w = had R t b s.block_life d.sharing d.table k e η v w
 
   abbrev pub Holds : Option R.Denot → Fml
-  Holds v = holds R t b s.own d.sharing k e η v
+  Holds v = holds R t b s.block_life d.sharing k e η v
 
   abbrev pub Lent : Fml
-  Lent = flent (age R t b s.own) (tracked_value R b e η)
+  Lent = flent (age R t b s.block_life) (tracked_value R b e η)
 
   -- a slot after a step that keeps its value, and what the step gains
   abbrev pub Left : Option R.Denot → Pr → Who → Pr
@@ -80,7 +80,7 @@ module _ {M : Type 1} {𝓤 : Ura M} (𝓛 : Logic 𝓤) (R : RattleType) (d : B
   pub again : (n m : ℕ) (z : Option R.Denot × Who) → m < 2 ^ 64 → IsWordBut m n (i % 64) (is_some z.0) → ⟦ Flags m ⟧ ∗ ⟦ Lent ⟧ ∗ ⟦ Stays z.0 ⟧ ∗ ⟦ Had z.0 z.1 ⟧ ∗ all 𝓤 (Back n) ⊢ ⟦ I ⟧
   again n m z fits but = let set : Bool = is_some z.0 in let y : Next n (i % 64) = record { word = m; set = set; fits = fits; but = but } in let T : Pr = ⟦ Flags m ⟧ ∗ ⟦ Slot set ⟧ in
       qed 𝓛 (‵ (Flags m) ∷ ‵ Lent ∷ ‵ (Stays z.0) ∷ ‵ (Had z.0 z.1) ∷ raw (all 𝓤 (Back n)) ∷ []) ∵ move ! (2 ∷ 3 ∷ []) $ fjoin ! $ nothing ! $ fpack ! (set ≡ is_some z.0) (λ _. ftrue) refl $ fjoin ! $
-      fpack ! (Option R.Denot × Who) (shared_slot_as R t b s.own d.sharing d.table set k e η) z $ move ! (2 ∷ 0 ∷ []) $ fjoin ! $ move ! (1 ∷ 0 ∷ []) $ join ! $ move ! (1 ∷ []) $
+      fpack ! (Option R.Denot × Who) (shared_slot_as R t b s.block_life d.sharing d.table set k e η) z $ move ! (2 ∷ 0 ∷ []) $ fjoin ! $ move ! (1 ∷ 0 ∷ []) $ join ! $ move ! (1 ∷ []) $
       use1 𝓛 (raw (Back n y)) (all_e 𝓤 (Back n) y) $ move ! (1 ∷ 0 ∷ []) $ use2 𝓛 (‵ I) (apply∗ 𝓤 T ⟦ I ⟧) $ done !
 
   -- a ghost step

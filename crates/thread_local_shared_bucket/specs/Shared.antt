@@ -110,12 +110,12 @@ pub record Turn : Type 0 where
 -- the block that a pointer leads to, its own lifetime, and the names of its slots
 pub record StandingBlock : Type 0 where
   pub at : Ptr
-  pub own : ℕ
+  pub block_life : ℕ
   pub names : List ℕ
 
 -- an injective code of such blocks, for ghost state
 abbrev pub standing_coded : Coded StandingBlock
-standing_coded = coded_via (coded× coded_ptr (coded× coded_ℕ (coded_list coded_ℕ))) (λ (s : StandingBlock). (s.at, (s.own, s.names))) (λ x y e i. record { at = (e i).0; own = (e i).1.0; names = (e i).1.1 })
+standing_coded = coded_via (coded× coded_ptr (coded× coded_ℕ (coded_list coded_ℕ))) (λ (s : StandingBlock). (s.at, (s.block_life, s.names))) (λ x y e i. record { at = (e i).0; block_life = (e i).1.0; names = (e i).1.1 })
 
 -- the name that tracks the slot at an index
 abbrev pub name_at : List ℕ → ℕ → ℕ
@@ -124,8 +124,8 @@ name_at (η ∷ names) zero = η
 name_at (η ∷ names) (suc i) = name_at names i
 
 -- what the name `which` says once a block stands
-abbrev pub mark : StandingBlock → Gv
-mark s = gcons gnil (standing_coded.code s)
+abbrev pub block_code : StandingBlock → Gv
+block_code s = gcons gnil (standing_coded.code s)
 
 -- a turn, a block that stands under it, and the address of the bucket's pointer
 abbrev pub Found : Type 0
@@ -284,11 +284,11 @@ module _ (R : RattleType) where
 
       -- the name `which` says for good which block stands
       abbrev pub settled : StandingBlock → Fml
-      settled s = fsep (fauth t.which (mark s)) (fres t.which (mark s))
+      settled s = fsep (fauth t.which (block_code s)) (fres t.which (block_code s))
 
       -- the slots of a block, one for each name, under the words of their flags
       abbrev pub slots_stand : Ptr → StandingBlock → List ℕ → Fml
-      slots_stand p s ns = each (numbered_slot t (block_of p) s.own d.sharing d.table first (count_of p) ns) s.names 0
+      slots_stand p s ns = each (numbered_slot t (block_of p) s.block_life d.sharing d.table first (count_of p) ns) s.names 0
 
       -- a standing block: its words, its slots, and the way back
       abbrev pub block_stands : Ptr → StandingBlock → Fml
@@ -297,7 +297,7 @@ module _ (R : RattleType) where
       -- what lies beside a pointer p to a block: the name that says which block it is, a part of
       -- the token of its own lifetime, its slots, and the right to free it
       abbrev pub standing : Ptr → StandingBlock × Share → Fml
-      standing p s = fsep (fact ((s.0.at ≡ p) × (length s.0.names ≡ len) × Sized len p)) (fsep (settled s.0) (fsep (flft (s.0.own ∷ []) s.1)
+      standing p s = fsep (fact ((s.0.at ≡ p) × (length s.0.names ≡ len) × Sized len p)) (fsep (settled s.0) (fsep (flft (s.0.block_life ∷ []) s.1)
           (fsep (block_stands p s.0) (heap_token (block_ty R len) p))))
 
       -- what lies beside the pointer, null or to a block
@@ -315,7 +315,7 @@ module _ (R : RattleType) where
 
       -- what a load hands out of a standing block: which block it is, and that it lasts
       abbrev pub loaded : StandingBlock → Lft → Fml
-      loaded s κ = fsep (fact ((length s.names ≡ len) × Sized len s.at)) (fsep (fres t.which (mark s)) (before κ (s.own ∷ t.life)))
+      loaded s κ = fsep (fact ((length s.names ≡ len) × Sized len s.at)) (fsep (fres t.which (block_code s)) (before κ (s.block_life ∷ t.life)))
 
     -- what a bucket at rest owns beside its pointer
     abbrev pub at_rest : Ptr → Fml

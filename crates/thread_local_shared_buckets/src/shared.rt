@@ -152,7 +152,7 @@ impl<T> Shared<T> {
         requires { bucket < 63 }
         ensures { result.now ≡ bucket_view self.now bucket }
     {
-        self.parts().bucket(bucket)
+        &self.parts().pointers.pointers.pointers[bucket]
     }
 
     /// The row of a bucket's slots, for as long as the buckets are borrowed, or `None` where the
@@ -168,9 +168,10 @@ impl<T> Shared<T> {
     /// Claims the slot of a held id, for as long as the buckets are borrowed: one atomic load of
     /// the bucket's pointer, and where the bucket stands, one of the word that has the slot's flag.
     /// The bucket of a reserved slot is never missing.
-    pub fn claim(&self, held: HeldId) -> Claim<'_, T>
-        requires { held.right.table ≡ self.now.table }
-        ensures right { (result.table ≡ self.now.table)
+    pub fn claim(&self, held: HeldId, right: Right) -> Claim<'_, T>
+        requires table { (right.table ≡ self.now.table) × (held.mark.table ≡ self.now.table) }
+        requires id { right.id ≡ held.id }
+        ensures same_slot { (result.table ≡ self.now.table)
             × (result.sharing ≡ self.now.sharing)
             × (result.id ≡ held.id) }
         ensures found { Finds Unknown result.learnt }
@@ -178,7 +179,7 @@ impl<T> Shared<T> {
         ensures reserved { id_at (bucket_of held.id) 0 < self.now.reserved → result.learnt ≢ Missing }
     {
         let thread = Thread::new(held.id);
-        Claim::look(self.bucket(thread.bucket), thread, held)
+        Claim::look(self.bucket(thread.bucket), thread, held, right)
     }
 
     /// Shows that the type of the values is judged, as it was when the buckets were shared. At run
@@ -194,7 +195,7 @@ impl<T> Shared<T> {
         ensures reserved { result ≡ self.now.reserved }
         ensures first { AreOfFirstBuckets result }
     {
-        self.parts().reserved()
+        self.parts().reserved
     }
 
     /// How many slots the buckets have together that a look at each finds. It is an atomic load for
@@ -232,9 +233,9 @@ impl<T: Sync> Shared<T> {
         requires named { IsSome self.now.sharing }
         ensures { result.now ≡ token.now.value }
     {
-        let place = Thread::new(token.id());
-        self.bucket(place.bucket)
-            .value(place.index, token.witness())
+        let thread = Thread::new(token.id());
+        self.bucket(thread.bucket)
+            .value(thread.index, token.witness())
     }
 }
 

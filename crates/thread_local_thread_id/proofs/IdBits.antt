@@ -1,4 +1,4 @@
--- What each step of the bits of ids makes of their words, their peak, mark and end.
+-- What each step of the bits of ids makes of their words, their peak, their lowest unset bit and their end.
 use Rattle.std.proofs.Common.{◌≡◌, ◌≢◌, ℕ, ◌+◌, ◌-◌, ◌*◌, ◌/◌, ◌^◌, ◌<◌, ◌≤◌, min, max, Bool, true, false, List, [], ◌∷◌, ◌++◌, length, take, set, replicate, sym, ◌∙◌, arith, ⊎_elim}
 use Rattle.std.proofs.lemmas.Bool.{both_ways, true_from_ne_false, cases_eq, cases_lt}
 use Rattle.std.proofs.lemmas.List.{length-replicate, length_push, length-take, get_or-set_same, get_or-set_other}
@@ -14,37 +14,37 @@ pub in_room : (m : Inside) → AreEntries m → length (take m.peak (bits_of m.w
 in_room m is = omega (arith, length-take m.peak (bits_of m.words), is.peak, is.in_range)
 
 -- words that are all 0 hold no id
-pub of_zeros : (new : Inside) (count : ℕ) → new.words ≡ replicate count 0 → count ≤ 2 ^ 57 → new.peak ≡ 0 → new.mark ≡ 0 → AreEntries new
-of_zeros new count zeros within peak mark =
+pub of_zeros : (new : Inside) (count : ℕ) → new.words ≡ replicate count 0 → count ≤ 2 ^ 57 → new.peak ≡ 0 → new.lowest_unset ≡ 0 → AreEntries new
+of_zeros new count zeros within peak lowest_unset =
     let free : (id : ℕ) → is_held (bits_of new.words) id ≡ false = λ id. rw zeros (get_or-bits_of (replicate count 0) id ∙ is_set_in-zeros count id) in
     record {
       words = rw zeros (omega (arith, length-replicate {A = ℕ} count 0));
       peak = omega arith;
       in_range = omega arith;
       above = λ id _. free id;
-      mark = λ id below. absurd (omega arith);
-      mark_free = free new.mark;
+      lowest_unset = λ id below. absurd (omega arith);
+      lowest_is_unset = free new.lowest_unset;
       end = λ id below _. absurd (omega arith);
     }
 
 -- a further word, all of whose bits are free
 pub pushed : (old new : Inside) → AreEntries old → new.words ≡ old.words ++ 0 ∷ [] → length old.words < 2 ^ 57
-    → new.peak ≡ old.peak → new.mark ≡ old.mark → new.end ≡ old.end → AreEntries new
-pushed old new is items within peak mark end = record {
+    → new.peak ≡ old.peak → new.lowest_unset ≡ old.lowest_unset → new.end ≡ old.end → AreEntries new
+pushed old new is items within peak lowest_unset end = record {
   words = rw items (omega (arith, length_push old.words 0));
   peak = rw (items, peak) (omega (arith, length_push old.words 0, is.peak));
   in_range = rw peak is.in_range;
   above = λ id from. rw (items, is_held-push old.words id) (is.above id (omega arith));
-  mark = λ id below. rw (items, is_held-push old.words id) (is.mark id (omega arith));
-  mark_free = rw (items, mark, is_held-push old.words old.mark) is.mark_free;
+  lowest_unset = λ id below. rw (items, is_held-push old.words id) (is.lowest_unset id (omega arith));
+  lowest_is_unset = rw (items, lowest_unset, is_held-push old.words old.lowest_unset) is.lowest_is_unset;
   end = λ id below free. let lower = is.end id (omega arith) (rw (items, is_held-push old.words id) at free) in omega arith;
 }
 
 -- the least free id is the peak, and is held from now on
 pub held_at_peak : (old new : Inside) (id : ℕ) → AreEntries old → bits_of new.words ≡ set (bits_of old.words) id true
     → length new.words ≡ length old.words → id ≡ least (bits_of old.words) → id ≡ old.peak → id < length old.words * 64 → id < 2 ^ 63 - 1
-    → new.peak ≡ old.peak + 1 → new.mark ≡ old.peak + 1 → AreEntries new
-held_at_peak old new id is bits many first at room range peak mark =
+    → new.peak ≡ old.peak + 1 → new.lowest_unset ≡ old.peak + 1 → AreEntries new
+held_at_peak old new id is bits many first at room range peak lowest_unset =
     let entries : List Bool = bits_of old.words in
     let held : HoldsAllBelow (id + 1) (set entries id true) = HoldsAllBelow-hold entries id (omega (arith, length-bits_of old.words)) first in
     let above : (k : ℕ) → old.peak + 1 ≤ k → is_held (set entries id true) k ≡ false = IsFreeFrom-set entries (old.peak + 1) id true (omega arith) (λ k from. is.above k (omega arith)) in
@@ -53,16 +53,16 @@ held_at_peak old new id is bits many first at room range peak mark =
       peak = omega arith;
       in_range = omega arith;
       above = rw (bits, peak) above;
-      mark = λ k below. rw bits (held k (omega arith));
-      mark_free = rw (bits, mark) (above (old.peak + 1) (omega arith));
+      lowest_unset = λ k below. rw bits (held k (omega arith));
+      lowest_is_unset = rw (bits, lowest_unset) (above (old.peak + 1) (omega arith));
       end = λ k below free. absurd (both_ways (is_held (set entries id true) k) (rw bits at free) (held k (omega arith)));
     }
 
 -- the least free id is the only free one below the peak, and is held from now on
 pub held_last : (old new : Inside) (id : ℕ) → AreEntries old → bits_of new.words ≡ set (bits_of old.words) id true
     → length new.words ≡ length old.words → id ≡ least (bits_of old.words) → id < old.peak → old.end ≤ id + 1
-    → new.peak ≡ old.peak → new.mark ≡ old.peak → AreEntries new
-held_last old new id is bits many first below end peak mark =
+    → new.peak ≡ old.peak → new.lowest_unset ≡ old.peak → AreEntries new
+held_last old new id is bits many first below end peak lowest_unset =
     let entries : List Bool = bits_of old.words in
     let inside : id < length entries = omega (arith, length-bits_of old.words, is.peak) in
     let lower : HoldsAllBelow (id + 1) (set entries id true) = HoldsAllBelow-hold entries id inside first in
@@ -76,15 +76,15 @@ held_last old new id is bits many first below end peak mark =
       peak = omega (arith, is.peak);
       in_range = rw peak is.in_range;
       above = rw (bits, peak) above;
-      mark = λ k under. rw bits (held k (omega arith));
-      mark_free = rw (bits, mark) (above old.peak (omega arith));
+      lowest_unset = λ k under. rw bits (held k (omega arith));
+      lowest_is_unset = rw (bits, lowest_unset) (above old.peak (omega arith));
       end = λ k under free. absurd (both_ways (is_held (set entries id true) k) (rw bits at free) (held k (omega arith)));
     }
 
 -- others below the peak may be free, and the next unset bit is known
 pub held_below_peak : (old new : Inside) (id : ℕ) → AreEntries old → bits_of new.words ≡ set (bits_of old.words) id true
     → length new.words ≡ length old.words → id ≡ least (bits_of old.words) → id < old.peak
-    → new.peak ≡ old.peak → new.end ≡ old.end → IsNextUnset new.words (id / 64 * 64) new.mark → AreEntries new
+    → new.peak ≡ old.peak → new.end ≡ old.end → IsNextUnset new.words (id / 64 * 64) new.lowest_unset → AreEntries new
 held_below_peak old new id is bits many first below peak end next =
     let entries : List Bool = bits_of old.words in
     let inside : id < length entries = omega (arith, length-bits_of old.words, is.peak) in
@@ -94,19 +94,19 @@ held_below_peak old new id is bits many first below peak end next =
       peak = omega (arith, is.peak);
       in_range = rw peak is.in_range;
       above = rw (bits, peak) (IsFreeFrom-set entries old.peak id true below is.above);
-      mark = λ k under.
+      lowest_unset = λ k under.
           ⊎_elim
           (λ before. rw bits (lower k (omega arith)))
           (λ from. get_or-bits_of new.words k ∙ next.between k from under)
           (cases_lt k (id / 64 * 64));
-      mark_free = get_or-bits_of new.words new.mark ∙ next.unset;
+      lowest_is_unset = get_or-bits_of new.words new.lowest_unset ∙ next.unset;
       end = λ k under free. let before = is.end k (omega arith) (was_free entries id k inside (rw bits at free)).1 in omega arith;
     }
 
 -- an id below the peak is freed
 pub freed : (old new : Inside) (id : ℕ) → AreEntries old → bits_of new.words ≡ set (bits_of old.words) id false
-    → length new.words ≡ length old.words → id < old.peak → new.peak ≡ old.peak → new.mark ≡ min old.mark id → new.end ≡ max old.end (id + 1) → AreEntries new
-freed old new id is bits many below peak mark end =
+    → length new.words ≡ length old.words → id < old.peak → new.peak ≡ old.peak → new.lowest_unset ≡ min old.lowest_unset id → new.end ≡ max old.end (id + 1) → AreEntries new
+freed old new id is bits many below peak lowest_unset end =
     let entries : List Bool = bits_of old.words in
     let inside : id < length entries = omega (arith, length-bits_of old.words, is.peak) in
     record {
@@ -114,16 +114,16 @@ freed old new id is bits many below peak mark end =
       peak = omega (arith, is.peak);
       in_range = rw peak is.in_range;
       above = rw (bits, peak) (IsFreeFrom-set entries old.peak id false below is.above);
-      mark = rw bits (HoldsAllBelow-set entries id new.mark false (omega arith) (λ k under. is.mark k (omega arith)));
-      mark_free =
+      lowest_unset = rw bits (HoldsAllBelow-set entries id new.lowest_unset false (omega arith) (λ k under. is.lowest_unset k (omega arith)));
+      lowest_is_unset =
           ⊎_elim
-          (λ (lower : old.mark < id).
-          let same : new.mark ≡ old.mark = omega arith in
-          rw (bits, same) (get_or-set_other entries id old.mark false false (omega arith) ∙ is.mark_free))
-          (λ (higher : id ≤ old.mark).
-          let same : new.mark ≡ id = omega arith in
+          (λ (lower : old.lowest_unset < id).
+          let same : new.lowest_unset ≡ old.lowest_unset = omega arith in
+          rw (bits, same) (get_or-set_other entries id old.lowest_unset false false (omega arith) ∙ is.lowest_is_unset))
+          (λ (higher : id ≤ old.lowest_unset).
+          let same : new.lowest_unset ≡ id = omega arith in
           rw (bits, same) (get_or-set_same entries id false false inside))
-          (cases_lt old.mark id);
+          (cases_lt old.lowest_unset id);
       end = λ k under free.
           ⊎_elim
           (λ (same : k ≡ id). omega arith)

@@ -9,13 +9,13 @@ use Rattle.thread_local_thread_id.specs.declared.id_bits.IdBits.TheInside.{Insid
 abbrev pub entries_of : Inside → Manager
 entries_of m = record { held = take m.peak (bits_of m.words); room = min (length m.words * 64) (2 ^ 63 - 1) }
 
--- no bit from the peak on is set, the mark is the lowest unset bit, each free id below the peak is
+-- no bit from the peak on is set, `lowest_unset` is the lowest bit that isn't set, each free id below the peak is
 -- less than the end, and there are no more words than all ids need
 pub record AreEntries (m : Inside) : Type 0 where
   pub words : length m.words ≤ 2 ^ 57
   pub peak : m.peak ≤ length m.words * 64
   pub in_range : m.peak ≤ 2 ^ 63 - 1
   pub above : (id : ℕ) → m.peak ≤ id → is_held (bits_of m.words) id ≡ false
-  pub mark : HoldsAllBelow m.mark (bits_of m.words)
-  pub mark_free : is_held (bits_of m.words) m.mark ≡ false
+  pub lowest_unset : HoldsAllBelow m.lowest_unset (bits_of m.words)
+  pub lowest_is_unset : is_held (bits_of m.words) m.lowest_unset ≡ false
   pub end : (id : ℕ) → id < m.peak → is_held (bits_of m.words) id ≡ false → id < m.end

@@ -18,7 +18,7 @@ pub(crate) struct IdBits {
     words: Words,
     peak: usize,
     // The lowest bit that isn't set, and so the least id that isn't held.
-    mark: usize,
+    lowest_unset: usize,
     // Each id below the peak that isn't held is less than this.
     end: usize,
 }
@@ -44,7 +44,7 @@ impl IdBits {
         IdBits {
             words: Words::new(alloc),
             peak: 0,
-            mark: 0,
+            lowest_unset: 0,
             end: 0,
         }
     }
@@ -61,7 +61,7 @@ impl IdBits {
         Ok(IdBits {
             words: Words::with_len(alloc, ids.min(IDS).div_ceil(64))?,
             peak: 0,
-            mark: 0,
+            lowest_unset: 0,
             end: 0,
         })
     }
@@ -104,7 +104,7 @@ impl IdBits {
         ensures least { result ≡ least self.now.held }
         ensures in_room { result ≤ self.now.room }
     {
-        self.mark
+        self.lowest_unset
     }
 
     /// Whether the return of the id needs no further memory.
@@ -151,14 +151,14 @@ impl IdBits {
         if id == self.peak {
             // Every id below the peak was held.
             self.peak += 1;
-            self.mark = self.peak;
+            self.lowest_unset = self.peak;
         } else if self.end <= id + 1 {
             // It was the last free id below the peak.
-            self.mark = self.peak;
+            self.lowest_unset = self.peak;
             self.end = 0;
         } else {
             // Another free id below the peak comes later.
-            self.mark = self.words.next_unset(id / 64);
+            self.lowest_unset = self.words.next_unset(id / 64);
         }
     }
 
@@ -178,7 +178,7 @@ impl IdBits {
         ensures { Gives self.old self.new id }
     {
         self.words.clear_bit(id);
-        self.mark = self.mark.min(id);
+        self.lowest_unset = self.lowest_unset.min(id);
         self.end = self.end.max(id + 1);
     }
 
@@ -190,7 +190,7 @@ impl IdBits {
     {
         self.words.clear();
         self.peak = 0;
-        self.mark = 0;
+        self.lowest_unset = 0;
         self.end = 0;
     }
 }

@@ -6,6 +6,7 @@ ghost use Rattle.thread_local_model.specs.Owner.{with_bucket};
 
 use super::BucketPointers;
 use std::alloc::AllocError;
+use thread_local_cursor::FlagSource;
 use thread_local_thread_id::Thread;
 
 impl<T> BucketPointers<T> {
@@ -26,13 +27,13 @@ impl<T> BucketPointers<T> {
     }
 
     /// Whether the slot of a place has a value. The bucket need not stand.
-    pub fn holds_value(&mut self, thread: Thread) -> bool
+    pub fn is_published(&mut self, thread: Thread) -> bool
         ensures same { self.new ≡ self.old }
         ensures value { result ≡ is_some (value_in self.old thread.bucket thread.index) }
         ensures within { result ≡ true → thread.index < length (row self.old thread.bucket) }
         ensures stands { result ≡ true → stands self.old thread.bucket ≡ true }
     {
-        self.stands(thread.bucket) && self.is_published(thread.bucket, thread.index)
+        self.stands(thread.bucket) && self.flag(thread)
     }
 }
 
@@ -44,7 +45,7 @@ impl<T: Drop> BucketPointers<T> {
         ensures published { value_in self.old thread.bucket thread.index ≡ None
             → self.new ≡ with_slot self.old thread.bucket thread.index (Some value) }
     {
-        if !self.is_published(thread.bucket, thread.index) {
+        if !self.is_published(thread) {
             self.publish(thread, value);
         }
     }

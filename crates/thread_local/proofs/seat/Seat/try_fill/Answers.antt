@@ -2,5 +2,5 @@ use Rattle.std.proofs.Common.{rules}
 use Rattle.thread_local.proofs.Filled.{is_filled}
 use Rattle.thread_local.proofs.seat.Seat.try_fill.Goals as goal
 
-pub returns-then-is_filled-clause-ok : goal.returns-then-is_filled-clause-ok
-returns-then-is_filled-clause-ok g c = is_filled _ _ c.args.self.now (search rules)
+pub returns-then-is_published-clause-ok : goal.returns-then-is_published-clause-ok
+returns-then-is_published-clause-ok g c = is_filled _ _ c.args.self.now (search rules)

@@ -22,5 +22,5 @@ returns g c = record {
 }
 
 pub publish-requires-clause-flag_word : goal.publish-requires-clause-flag_word
-publish-requires-clause-flag_word g c = c.flag_word_at-word.ensures
+publish-requires-clause-flag_word g c = c.flag_word_at-flag_word.ensures
     ∙ ap (λ (n : ℕ). flag_word_at (T-row g.row.T) n (c.args.thread.index / 64)) (size_of_pointer c.self.inside.pointers c.args.self.now c.args.thread.bucket c.args.thread.index c.bucket_size.result c.pointer_mut.result.now c.self.view_is c.self.invariant c.pointer_mut.ensures.value c.requires.in_bucket c.bucket_size.ensures)

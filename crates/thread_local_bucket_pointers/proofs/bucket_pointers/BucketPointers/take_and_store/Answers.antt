@@ -21,5 +21,5 @@ returns-clause-after g c =
     ∙ ap (λ (z : Contents g.row.T.Denot). with_slot z c.args.bucket c.args.index None) c.self.view_is
 
 pub take_and_store-requires-clause-flag_word : goal.take_and_store-requires-clause-flag_word
-take_and_store-requires-clause-flag_word g c = c.flag_word_at-word.ensures
+take_and_store-requires-clause-flag_word g c = c.flag_word_at-flag_word.ensures
     ∙ ap (λ (n : ℕ). flag_word_at (T-row g.row.T) n (c.args.index / 64)) (size_of_pointer c.self.inside.pointers c.args.self.now c.args.bucket c.args.index c.args.size c.pointer_mut.result.now c.self.view_is c.self.invariant c.pointer_mut.ensures.value c.requires.in_bucket c.requires.size)

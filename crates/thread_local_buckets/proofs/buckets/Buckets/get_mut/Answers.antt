@@ -33,30 +33,30 @@ none_of (Some x) h = cc
 nothing_at : {V : Type 0} (o now : Owned V) (b i : ℕ) → o ≡ now → is_some (value_in o.contents b i) ≡ false → value_in now.contents b i ≡ None
 nothing_at o now b i same none = ap (λ (s : Owned _). value_in s.contents b i) (sym same) ∙ none_of (value_in o.contents b i) none
 
-pub returns-then-holds_value : goal.returns-then-holds_value
-returns-then-holds_value g c =
+pub returns-then-is_published : goal.returns-then-is_published
+returns-then-is_published g c =
     let b = c.args.thread.bucket in
     let i = c.args.thread.index in
     let t = c.self.invariant.table in
     let first : Owned _ = record { contents = c.self.inside.pointers; reserved = c.self.inside.reserved } in (
-      ap (λ (f : _ → _). inl (c.get_mut.result.ghost_name, f)) (fun_ext (left_as first c.args.self.now c.holds_value.new.self b i c.self.view_is c.holds_value.ensures.same (c.holds_value.ensures.stands c.if-holds_value.true))),
+      ap (λ (f : _ → _). inl (c.get_mut.result.ghost_name, f)) (fun_ext (left_as first c.args.self.now c.is_published.new.self b i c.self.view_is c.is_published.ensures.same (c.is_published.ensures.stands c.if-is_published.true))),
       record {
         writes_back = tt;
-        value = ap (λ (s : Owned _). value_in s.contents b i) (sym c.self.view_is) ∙ ap (λ (k : Contents _). value_in k b i) (sym c.holds_value.ensures.same) ∙ c.get_mut.ensures.value;
+        value = ap (λ (s : Owned _). value_in s.contents b i) (sym c.self.view_is) ∙ ap (λ (k : Contents _). value_in k b i) (sym c.is_published.ensures.same) ∙ c.get_mut.ensures.value;
         would_map = map_of first c.args.self.now b i c.self.view_is t c.args.thread.in_table c.args.thread.in_bucket;
       },
     )
 
-pub returns-else-holds_value : goal.returns-else-holds_value
-returns-else-holds_value g c =
+pub returns-else-is_published : goal.returns-else-is_published
+returns-else-is_published g c =
     let b = c.args.thread.bucket in
     let i = c.args.thread.index in
     let t = c.self.invariant.table in
     let first : Owned _ = record { contents = c.self.inside.pointers; reserved = c.self.inside.reserved } in (
-      ap (λ (k : Contents _). let s : Owned _ = record { contents = k; reserved = c.self.inside.reserved } in inr s) c.holds_value.ensures.same ∙ ap (λ (s : Owned _). inr s) c.self.view_is,
+      ap (λ (k : Contents _). let s : Owned _ = record { contents = k; reserved = c.self.inside.reserved } in inr s) c.is_published.ensures.same ∙ ap (λ (s : Owned _). inr s) c.self.view_is,
       record {
         writes_back = tt;
-        value = nothing_at first c.args.self.now b i c.self.view_is (sym c.holds_value.ensures.value ∙ c.if-holds_value.false);
+        value = nothing_at first c.args.self.now b i c.self.view_is (sym c.is_published.ensures.value ∙ c.if-is_published.false);
         would_map = map_of first c.args.self.now b i c.self.view_is t c.args.thread.in_table c.args.thread.in_bucket;
       },
     )

@@ -21,7 +21,7 @@ use Rattle.thread_local_blocks.proofs.Slots.{IsWordNear, word_is_near}
 use Rattle.thread_local_lemmas.specs.Bits.{is_set}
 use Rattle.thread_local_lemmas.proofs.Word.{masked_fits, place_below, bit_fits, shifted_right}
 use Rattle.thread_local_lemmas.specs.Fact as facts
-use Rattle.thread_local_shared_bucket.specs.Shared.{BucketView, Turn, StandingBlock, Sized, mark, len, bucket_invariant, loaded}
+use Rattle.thread_local_shared_bucket.specs.Shared.{BucketView, Turn, StandingBlock, Sized, block_code, len, bucket_invariant, loaded}
 use Rattle.thread_local_shared_bucket.proofs.Fields.{pointer_good}
 use Rattle.thread_local_shared_bucket.proofs.Loads.{glimpse, reaches, reads}
 use Rattle.thread_local_model.specs.Learnt.{Learnt, Missing, Vacant, Finds}
@@ -87,7 +87,7 @@ find_spec 𝓤 𝓛 𝓜 𝓡 wired X L =
     lands_last ! refl (pointer_good p) $ exec ! 𝓣.C 𝓣.Λ Ev (after 2 fn.body) (at_ret Ev Post) $ fsplit ! $ move ! (1 ∷ []) $ fsplit ! $ fpick ! (λ zz. move ! (0 ∷ 6 ∷ []) $
     use2 𝓛 (later (‵ (facts.fact ((zz.0.at ≡ p) × Sized R (len R d) p)) ⊛ ‵ (loaded R d t zz.0 β))) (reaches 𝓛 R d t β p zz) $ await ! tt $ split ! $ fpick ! (λ so. drop ! $
     let s' : StandingBlock = record zz.0 { at = p } in rewrite ! 0 (λ (x : StandingBlock). ‵ (loaded R d t x β)) (λ j. record zz.0 { at = so.0 j }) refl $
-    fsplit ! $ fpick ! (λ sized. move ! (1 ∷ []) $ fsplit ! $ use1 𝓛 (‵ (fres t.which (mark s')) ⊛ ‵ (fres t.which (mark s'))) (𝓛.names.res_dup t.which (mark s')) $ split ! $ move ! (1 ∷ 2 ∷ []) $ fjoin ! $ move ! (2 ∷ []) $
+    fsplit ! $ fpick ! (λ sized. move ! (1 ∷ []) $ fsplit ! $ use1 𝓛 (‵ (fres t.which (block_code s')) ⊛ ‵ (fres t.which (block_code s'))) (𝓛.names.res_dup t.which (block_code s')) $ split ! $ move ! (1 ∷ 2 ∷ []) $ fjoin ! $ move ! (2 ∷ []) $
     fpack ! ((length s'.names ≡ len R d) × Sized R (len R d) s'.at) (λ _. ftrue) sized $ move ! (0 ∷ 1 ∷ []) $ fjoin ! $
     -- [the row; which block it is; what it waits with; the life's token; the invariant, twice; the
     -- way back; before; the other tokens]

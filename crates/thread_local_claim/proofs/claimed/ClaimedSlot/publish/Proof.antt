@@ -25,7 +25,7 @@ use Rattle.thread_local_tokens.specs.Rights.{right_owns}
 use Rattle.thread_local_blocks.specs.Slots.{stride, value_words, word_offset, value_offset, content_at}
 use Rattle.thread_local_blocks.proofs.Flags.{in_chunks, value_near}
 use Rattle.thread_local_blocks.proofs.Slots.{IsWordNear, word_is_near}
-use Rattle.thread_local_shared_bucket.specs.Shared.{name_at, BucketView, Turn, StandingBlock, Sized, mark, len, value_code, tracked_value, pinned, age, opened, by as lent_by, bucket_invariant}
+use Rattle.thread_local_shared_bucket.specs.Shared.{name_at, BucketView, Turn, StandingBlock, Sized, block_code, len, value_code, tracked_value, pinned, age, opened, by as lent_by, bucket_invariant}
 use Rattle.thread_local_shared_bucket.proofs.Rested.{publishes}
 use Rattle.thread_local_tokens.specs.Told.{tells}
 use Rattle.thread_local_model.specs.Learnt.{Learnt, Vacant, Holding}
@@ -58,9 +58,9 @@ publish_spec 𝓤 𝓛 𝓜 𝓡 wired X L =
     -- [the value; what the claim owns; the token; the other tokens]
     move ! (1 ∷ []) $ fsplit ! $ drop ! $ fpick ! (λ z. fsplit ! $ fpick ! (λ of. drop ! $ fsplit ! $ move ! (1 ∷ []) $ let d : BucketView = z.0 in let t : Turn = z.1 in
     rewrite ! 0 (λ (k : Learnt X.Denot). ‵ (has R d t β pl k)) empty refl $ fpick ! (λ s. fsplit ! $ fpick ! (λ leads. drop ! $ fsplit ! $ move ! (1 ∷ []) $ fsplit3 ! $
-    let pb : ℕ = block_of s.at in let po : ℕ = count_of s.at in let k : ℕ = i / 64 in let j : ℕ = i % 64 in let at_word : ℕ = word_offset R (len R d) (count_of s.at) k in let e : ℕ = value_offset R (count_of s.at) i in let η : GName = name_at s.names i in let life : Lft = age R t pb s.own in let V : Fml = tracked_value R pb e η in let J : Fml = fbor t.life (bucket_invariant R d t wb (wo + 0)) in let no : Option X.Denot = None in let new : Option X.Denot = Some x in
+    let pb : ℕ = block_of s.at in let po : ℕ = count_of s.at in let k : ℕ = i / 64 in let j : ℕ = i % 64 in let at_word : ℕ = word_offset R (len R d) (count_of s.at) k in let e : ℕ = value_offset R (count_of s.at) i in let η : GName = name_at s.names i in let life : Lft = age R t pb s.block_life in let V : Fml = tracked_value R pb e η in let J : Fml = fbor t.life (bucket_invariant R d t wb (wo + 0)) in let no : Option X.Denot = None in let new : Option X.Denot = Some x in
     -- [vacant; the name; the borrow; the row; what is kept; the value; the token; the other tokens]
-    move ! (3 ∷ []) $ fsplit ! $ fpick ! (λ sized. move ! (1 ∷ []) $ fsplit ! $ use1 𝓛 (‵ (fres t.which (mark s)) ⊛ ‵ (fres t.which (mark s))) (𝓛.names.res_dup t.which (mark s)) $ split ! $
+    move ! (3 ∷ []) $ fsplit ! $ fpick ! (λ sized. move ! (1 ∷ []) $ fsplit ! $ use1 𝓛 (‵ (fres t.which (block_code s)) ⊛ ‵ (fres t.which (block_code s))) (𝓛.names.res_dup t.which (block_code s)) $ split ! $
     move ! (2 ∷ []) $ use1 𝓛 (‵ (before β life) ⊛ ‵ (before β life)) (before_dup 𝓛 β life) $ split ! $ move ! (2 ∷ 0 ∷ []) $ fjoin ! $ move ! (3 ∷ []) $ fpack ! ((length s.names ≡ len R d) × Sized R (len R d) s.at) (λ _. ftrue) sized $ move ! (0 ∷ 1 ∷ []) $ fjoin ! $
     -- [the row; before; which block it is; vacant; the name; the borrow; what is kept; the value;
     -- the token; the other tokens]
@@ -96,7 +96,7 @@ publish_spec 𝓤 𝓛 𝓜 𝓡 wired X L =
     -- is; vacant; what is kept; the other tokens]
     let ts : Toks = (life, g) ∷ (υ, r) ∷ [] in
     move ! (10 ∷ []) $ fsplit ! $ move ! (4 ∷ 2 ∷ []) $ join ! $ move ! (3 ∷ 1 ∷ []) $ join ! $ move ! (1 ∷ 0 ∷ []) $
-    use2 𝓛 (later (‵ (opened R t pb s.own e x) ⊛ ‵ (fex (Judged R) (lent_by R t pb s.own e η x)) ⊛ raw (lfts 𝓛 ts))) (publishes 𝓛 t R LR pb s.own e η ts (Incl-trans (meet_⊑_right life υ) alive) (meet_⊑_left life υ) x of.1) $ await ! tt $ split3 ! $
+    use2 𝓛 (later (‵ (opened R t pb s.block_life e x) ⊛ ‵ (fex (Judged R) (lent_by R t pb s.block_life e η x)) ⊛ raw (lfts 𝓛 ts))) (publishes 𝓛 t R LR pb s.block_life e η ts (Incl-trans (meet_⊑_right life υ) alive) (meet_⊑_left life υ) x of.1) $ await ! tt $ split3 ! $
     move ! (2 ∷ []) $ use1 𝓛 (‵ (flft life g) ⊛ ‵ (flft υ r)) (id⊢ 𝓤 _) $ split ! $
     -- [the block's token; the other; for walkers; for the claim; nothing; what is known, twice; the
     -- way back; the row; which block it is; vacant; what is kept]

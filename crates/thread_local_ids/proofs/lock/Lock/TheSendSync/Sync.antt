@@ -6,7 +6,7 @@ use base.Before.{chain}
 use base.Shift.{Keyless}
 use denote.RattleType.{RattleType}
 use denote.Param.Send.{IsSend, IsSync, part_keyless}
-use Rattle.thread_local_ids.specs.Locking.{Fitting, offset, Sharing, with_word}
+use Rattle.thread_local_ids.specs.Locking.{Fitting, offset, LockTurn, with_word}
 use Rattle.thread_local_ids.specs.declared.lock.Fits.{Ghosts}
 use Rattle.thread_local_ids.specs.contracts.lock.Lock.{the_row}
 
@@ -14,7 +14,7 @@ chain_keyless : (νs : List Lft) (κ α : Lft) → Keyless (chain νs κ α)
 chain_keyless [] κ α = λ _. tt
 chain_keyless (ν ∷ νs) κ α = ((λ _. tt), chain_keyless νs (ν ++ κ) α)
 
-with_word_keyless : (R : RattleType) (ok : R.Denot → Type 0) → IsSend R → (b o : ℕ) (t : Sharing) (n : ℕ) → Keyless (with_word R ok b o t n)
+with_word_keyless : (R : RattleType) (ok : R.Denot → Type 0) → IsSend R → (b o : ℕ) (t : LockTurn) (n : ℕ) → Keyless (with_word R ok b o t n)
 with_word_keyless R ok s b o t zero = λ x. ((λ _. tt), (tt, λ z. (part_keyless R s full_share z b (o + offset R), tt)))
 with_word_keyless R ok s b o t (suc n) = tt
 

@@ -9,7 +9,7 @@ use types.Match.{live}
 use types.Na.{before_dup}
 use Rattle.std.proofs.option.Made.{Some-of, none_of}
 use Rattle.std.specs.contracts.option.Option as Opt
-use Rattle.thread_local_ids.specs.Locking.{Fitting, Sharing, with_word, lock_invariant, guarding}
+use Rattle.thread_local_ids.specs.Locking.{Fitting, LockTurn, with_word, lock_invariant, guarding}
 use Rattle.thread_local_ids.specs.contracts.lock.Lock as lock
 use Rattle.thread_local_ids.specs.contracts.lock.LockGuard as guard
 use Rattle.thread_local_ids.specs.contracts.lock.Lock.take.{ended, clauses}
@@ -51,7 +51,7 @@ take_spec 𝓤 𝓛 𝓜 𝓡 wired X L g d _ =
     sets ! (addr ! (through ! refl (stop !))) refl (tt, tt) $ sets ! (agg ! (no_more !)) refl (tt, tt) $ sets ! (agg ! (and_then ! (get ! refl) (and_then ! (get ! refl) (no_more !)))) refl (tt, (tt, (tt, tt))) $
     sets_last ! (agg ! (and_then ! (lit ! tt) (and_then ! (get ! refl) (no_more !)))) refl (tt, (record { fits = lit< tt }, ((tt, (tt, tt)), tt))) $ exec ! 𝓣.C 𝓣.Λ Ev last (at_ret Ev Post) $
     sets ! (of_opd ! (get ! refl)) refl (tt, (record { fits = lit< tt }, ((tt, (tt, tt)), tt))) $
-    move ! (1 ∷ []) $ rewrite ! 0 (λ (m : ℕ). ‵ (with_word R ok b o t m)) n0 refl $ fpick ! (λ x. fsplit ! $ fpick ! (λ fit. drop ! $ move ! (2 ∷ 0 ∷ []) $ fjoin ! $ fpack ! Sharing (λ z. guarding R ok b o z κ x) t $
+    move ! (1 ∷ []) $ rewrite ! 0 (λ (m : ℕ). ‵ (with_word R ok b o t m)) n0 refl $ fpick ! (λ x. fsplit ! $ fpick ! (λ fit. drop ! $ move ! (2 ∷ 0 ∷ []) $ fjoin ! $ fpack ! LockTurn (λ z. guarding R ok b o z κ x) t $
     let h : G.Denot = record { lock = p; marker = record {}; tag = tag; value = x } in let v : Val = live 1 (vcons (guard_of p) vnil) in
     use0 𝓛 (‵ ((FieldsType ℓ R g).own_val (p, (tt, tt)) (guard_of p ∷ []))) (made ℓ R g 𝓛 p) $ fjoin ! $ use1 𝓛 (‵ ((Opt.the_row G).own_val (Some h) (v ∷ []))) (Some-of 𝓛 G h (guard_of p)) $
     use0 𝓛 (raw (fact 𝓤 (Fit (Some h)))) (fact_i 𝓤 (Fit (Some h)) (emp 𝓤) fit.0) $ use0 𝓛 (raw (fact 𝓤 (Tag (Some h)))) (fact_i 𝓤 (Tag (Some h)) (emp 𝓤) (refl, fit.1)) $ join ! $ nothing ! $ nothing ! $ fjoin ! $ nothing ! $ fjoin ! $

@@ -28,7 +28,7 @@ use Rattle.thread_local_lemmas.proofs.Word.{is_set-test, masked_fits, place_belo
 use Rattle.thread_local_blocks.specs.Slots.{stride, value_words, flag_word_at, word_offset, value_offset}
 use Rattle.thread_local_blocks.proofs.Flags.{in_chunks, uncapped, value_near}
 use Rattle.thread_local_blocks.proofs.Slots.{IsWordNear, word_is_near}
-use Rattle.thread_local_shared_bucket.specs.Shared.{BucketView, Turn, StandingBlock, name_at, mark, pinned, first as first_id, bucket_invariant, row_owns}
+use Rattle.thread_local_shared_bucket.specs.Shared.{BucketView, Turn, StandingBlock, name_at, block_code, pinned, first as first_id, bucket_invariant, row_owns}
 use Rattle.thread_local_shared_bucket.proofs.Looks as steps
 use Rattle.thread_local_shared_bucket.proofs.Looks.{by_flag}
 use Rattle.thread_local_shared_bucket.specs.contracts.row.Row as Row
@@ -65,7 +65,7 @@ get_spec {M} 𝓤 𝓛 𝓜 𝓡 wired T L =
     enter ! 𝓣.C 𝓣.Λ fn (vptr b o ∷ vint w64 i ∷ vint w64 k ∷ []) Post $ alloc_all ! (λ l. pass_all ! refl ((tt, tt), ((tt, record { fits = are.1.0.1 }), ((tt, record { fits = are.1.1.0.1 }), tt))) $ let Ev = env fn.locals l in
     use1 𝓛 (‵ (hidden_shr D κ (p, (record {}, tt)) b o) ⊛ ‵ (fhide (row_owns R d h.names β p)))
     (lent_out 𝓛 (Row.struct ℓ R) (Row.the_codes T.Denot R.coded (marker.the_row (ShrRef ℓ.mir ℓ.lft R)).coded) (Row.the_heap β R) (Row.the_lent β R) κ h b o) $
-    split ! $ move ! (1 ∷ []) $ unhide ! $ fpick ! (λ z. let t : Turn = z.0 in let sd : StandingBlock = z.1 in let J : Fml = fbor t.life (bucket_invariant R d t z.2 z.3) in let Which : Fml = fres t.which (mark sd) in fsplit3 ! $ fpick ! (λ so. drop ! $ fsplit ! $ move ! (2 ∷ []) $ fsplit3 ! $ fpick ! (λ long. drop ! $
+    split ! $ move ! (1 ∷ []) $ unhide ! $ fpick ! (λ z. let t : Turn = z.0 in let sd : StandingBlock = z.1 in let J : Fml = fbor t.life (bucket_invariant R d t z.2 z.3) in let Which : Fml = fres t.which (block_code sd) in fsplit3 ! $ fpick ! (λ so. drop ! $ fsplit ! $ move ! (2 ∷ []) $ fsplit3 ! $ fpick ! (λ long. drop ! $
     -- [which; before the block's own; before; the invariant; the fields; κ's token; β's; the
     -- others]
     let inb : InBlock p = subst InBlock so.0 long.1.0 in let at : p ≡ block_ptr pb (count_of p) = at_block p inb in
@@ -105,7 +105,7 @@ get_spec {M} 𝓤 𝓛 𝓜 𝓡 wired T L =
     nothing ! $ use0 𝓛 (‵ ((Opt.the_row G).own_val None (live 0 vnil ∷ []))) (none_of 𝓛 G) $ nothing ! $ nothing ! $ fjoin ! $ nothing ! $ fjoin ! $ nothing ! $ fjoin ! $
     returns ! (look_at ! 0 refl) $ free_all ! refl $ keep ! (3 ∷ 0 ∷ 1 ∷ 2 ∷ []) $ by ! (leaves 𝓛 En hs c y (live 0 vnil) None (tt, (tt, (tt, tt))) (tt, (tt, (tt, tt)))))
     (λ set. move ! (1 ∷ []) $ rewrite ! 0 (λ (u : Bool). ‵ (by_flag lent u)) (tested n bit set) refl $ fpick ! (λ x. let S : Lft → Fml = shared_of R x pb e in fsplit ! $
-    rewrite ! 0 (λ (names : List ℕ). ‵ (pinned R (name_at names i) x)) so.1 refl $ move ! (4 ∷ 1 ∷ []) $ use2 𝓛 (‵ (S β)) ((LR.shr_laws x pb e).mono M 𝓤 𝓛 β (sd.own ∷ t.life)) $ hide ! $
+    rewrite ! 0 (λ (names : List ℕ). ‵ (pinned R (name_at names i) x)) so.1 refl $ move ! (4 ∷ 1 ∷ []) $ use2 𝓛 (‵ (S β)) ((LR.shr_laws x pb e).mono M 𝓤 𝓛 β (sd.block_life ∷ t.life)) $ hide ! $
     let Then = any_q (after_seq 𝓤 H (Wp 𝓤 H 𝓣.C 𝓣.Λ Ev (after 13 fn.body) (at_return 𝓤 H Ev Post)) (at_return 𝓤 H Ev Post)) in let r : G.Denot = record { ref_ptr = (pb, e); now = x } in let v₁ : Val = live 1 (vcons (vptr pb e) vnil) in
     first ! $ blocks ! $ sets ! (of_opd ! (get ! refl)) refl (tt, tt) $ sets ! (of_opd ! (get ! refl)) refl (tt, tt) $ sets ! (of_opd ! (get ! refl)) refl (tt, record { fits = are.1.0.1 }) $
     sets ! (is ! (bin ! (get ! refl) (size_word !) (record { fits = subst (λ (k : ℕ). k < 2 ^ 64) (sym (uncapped i (stride R) value_fits)) value_fits })) (ap (vint w64) (uncapped i (stride R) value_fits))) refl (tt, record { fits = value_fits }) $

@@ -65,9 +65,9 @@ value_spec {M} 𝓤 𝓛 𝓜 𝓡 wired T L =
     -- the invariant; the others]
     let low : i < length sd.names = subst (λ (n : ℕ). i < n) (sym long.0) near in let at_e : e ≡ value_offset R (count_of sd.at) i = ap (λ (r : Ptr). value_offset R (count_of r) i) (sym so.0) in let at_b : block_of sd.at ≡ pb = ap block_of so.0 in
     let close : i * stride R < 2 ^ 64 = value_near R (len R d) i so.1.2 near in
-    move ! (6 ∷ 3 ∷ 0 ∷ 2 ∷ []) $ group ! 4 $ use1 𝓛 (later (‵ (F (sd.own ∷ t.life)) ⊛ ‵ (flft t.life s))) (finds 𝓛 R LR sync.shared d t b (o + 0) sd i k e pb low refl at_e at_b named_so x s) $ await ! tt $ split ! $
+    move ! (6 ∷ 3 ∷ 0 ∷ 2 ∷ []) $ group ! 4 $ use1 𝓛 (later (‵ (F (sd.block_life ∷ t.life)) ⊛ ‵ (flft t.life s))) (finds 𝓛 R LR sync.shared d t b (o + 0) sd i k e pb low refl at_e at_b named_so x s) $ await ! tt $ split ! $
     move ! (1 ∷ 3 ∷ []) $ use2 𝓛 (later (‵ (flft κ q))) (apply∗ 𝓤 (𝓛.A.lft t.life s) (H.⇛ (𝓛.A.lft κ q))) $ await ! tt $ move ! (2 ∷ 1 ∷ []) $
-    use2 𝓛 (‵ (F κ)) ((LR.shr_laws x pb e).mono M 𝓤 𝓛 κ (sd.own ∷ t.life)) $ hide ! $
+    use2 𝓛 (‵ (F κ)) ((LR.shr_laws x pb e).mono M 𝓤 𝓛 κ (sd.block_life ∷ t.life)) $ hide ! $
     -- [the value; κ's token; what is told; the others]
     sets ! (of_opd ! (get ! refl)) refl (tt, tt) $ first ! $ blocks ! $ sets ! (of_opd ! (get ! refl)) refl (tt, tt) $
     sets ! (is ! (bin ! (get ! refl) (size_word !) (record { fits = subst (λ (n : ℕ). n < 2 ^ 64) (sym (uncapped i (stride R) close)) close })) (ap (vint w64) (uncapped i (stride R) close))) refl (tt, record { fits = close }) $

@@ -10,6 +10,6 @@ pub returns-clause-least : goal.returns-clause-least
 returns-clause-least c =
     let is = c.self.invariant in
     let bits = bits_of c.self.inside.words in
-    least_only bits c.self.inside.mark is.mark_free is.mark
+    least_only bits c.self.inside.lowest_unset is.lowest_is_unset is.lowest_unset
     ∙ sym (least-take bits c.self.inside.peak (omega (arith, length-bits_of c.self.inside.words, is.peak)) is.above)
     ∙ ap (λ m. least m.held) c.self.view_is

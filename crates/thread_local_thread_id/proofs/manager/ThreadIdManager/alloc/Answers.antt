@@ -6,11 +6,11 @@ use Rattle.thread_local_thread_id.proofs.manager.ThreadIdManager.alloc.Goals.{Af
 
 -- the least free bit is the lower one
 above : (c : After-alloc) → least c.self.inside.bits.held ≤ c.self.inside.returned
-above c = let mark = c.least_free-least.ensures.least in let higher = c.if-self-least.false in omega arith
+above c = let told = c.least_free-least.ensures.least in let higher = c.if-self-least.false in omega arith
 
 pub returns-then-self-least-clause-ok : goal.returns-then-self-least-clause-ok
 returns-then-self-least-clause-ok c =
-    let mark = c.least_free-least.ensures.least in
+    let told = c.least_free-least.ensures.least in
     let lower = c.if-self-least.true in
     rw (← c.self.view_is) (takes_returned c.self.inside.bits c.self.inside.returned (omega arith) c.self.invariant.peak_in_room c.self.invariant.room_in_range)
 

@@ -1,18 +1,18 @@
--- `mark` is one compare and exchange of TAKEN for AWAITED: the right to the value stays where it
+-- `announce` is one compare and exchange of TAKEN for AWAITED: the right to the value stays where it
 -- is.
 use Rattle.thread_local_lemmas.proofs.Names.{ℕ, ◌+◌, List, [], ◌∷◌, refl, lit<, w64, dcons, dnil, a_type, named, Val, vunit, vint, vptr, inst_fn, SProp, wand, via, apply∗, Lft, Share, Fml, ftrue, fsep, flft, fbor, ‵, raw, ◌⊛◌, some, later, mean, at_ret, ◌$◌, ◌∵◌, !, qed, by, move, keep, drop, split, join, fsplit, fjoin, fpick, pick, use2, use3, await, feq_i, stop, fld, addr, lit, unit_lit, of_opd, no_more, and_then, first, blocks, exec, Calls-last, returns, enter, alloc_all, pass_all, free_all, look_at, get, through, sets, lands_last, env, tables, Lends-one, yes, RattleType, owns, types_at, plain, block_ptr, nothing, unhide, param, bounded, RefOf, shr_vals, shr_Tells, Stays, stay_dropped, walk_of, Goes-dropped, proved, leaves, fm, found, finds, tail}
 use Rattle.std.proofs.Math.Nat.{suc-ne-zero}
 use Rattle.thread_local_ids.specs.Locking.{Fitting, lock_invariant}
 use Rattle.thread_local_ids.specs.contracts.lock.Lock as lock
-use Rattle.thread_local_ids.specs.contracts.lock.Lock.mark.{ended, clauses}
-use Rattle.thread_local_ids.specs.contracts.lock.Lock.mark.Key.{name as #self}
+use Rattle.thread_local_ids.specs.contracts.lock.Lock.announce.{ended, clauses}
+use Rattle.thread_local_ids.specs.contracts.lock.Lock.announce.Key.{name as #self}
 use Rattle.thread_local_ids.proofs.Calls.{exchanges}
 use Rattle.thread_local_ids.proofs.Steps.{gained, exchanged}
-use Rattle.thread_local_ids.proofs.lock.Lock.mark.Statement.{statement}
-use Rattle.thread_local_ids.proofs.lock.Lock.mark.Code as code
+use Rattle.thread_local_ids.proofs.lock.Lock.announce.Statement.{statement}
+use Rattle.thread_local_ids.proofs.lock.Lock.announce.Code as code
 
-pub mark_spec : {M : Type 1} → statement M
-mark_spec 𝓤 𝓛 𝓜 𝓡 wired X L g d _ =
+pub announce_spec : {M : Type 1} → statement M
+announce_spec 𝓤 𝓛 𝓜 𝓡 wired X L g d _ =
     let H = 𝓛.H in let 𝓣 = tables 𝓤 H 𝓜 𝓡 𝓡.env in let R : RattleType = param 0 X in let En = ended X g d in let c = clauses X g d 𝓛 𝓜.mem 𝓡.returns in
     let inst = bounded (a_type ∷ []) (X, tt) (dcons d dnil) in let fn = inst_fn inst code.function in let closed = code.unfolded 𝓤 H 𝓜 𝓡 wired (X, tt) d in let Row : RattleType = lock.the_row R g in
     let self = RefOf (0 ∷ []) tt (plain (λ _. Row)) (λ _. tt) in let hs : Stays En.signature.params En.kept = (stay_dropped self yes, tt) in
