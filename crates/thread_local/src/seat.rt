@@ -157,8 +157,9 @@ impl<'a, T> Seat<'a, T> {
         ensures ok { OnOk result (self.new ≡ knowing self.old vacant) }
         ensures err { OnErr result ((self.old.known ≡ false) × (self.new ≡ self.old)) }
     {
+        let table = self.table;
         if self.claim.is_missing() {
-            return make_bucket(&self.table.alloc, &mut self.claim, thread);
+            return make_bucket(&table.alloc, &mut self.claim, thread);
         }
         Ok(())
     }
