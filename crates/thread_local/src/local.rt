@@ -143,7 +143,7 @@ impl<'a, T, R: Wait> Local<'a, T, R> {
         ensures ok { IfOk result (λ token.
             (self.old.value ≡ None)
             × (self.new ≡ knowing self.old (holding value))
-            × (token_of self.new ≡ Some token)) }
+            × (token ≡ record { sharing = self.old.sharing; id = self.old.id; value = value })) }
         ensures occupied { (given : T)
             → result ≡ Err (SetError.Occupied given)
             → IsSome self.old.value × (given ≡ value) × (self.new ≡ self.old) }

@@ -68,7 +68,7 @@ impl<T> Buckets<T> {
     ghost use Rattle.thread_local_buckets.specs.Drain.{drain_rest, drain_lender, drain_leaves, DrainCanStep, DrainKeepsAlong};
     ghost use Rattle.thread_local_buckets.specs.Emptied.{owned_emptied};
     ghost use Rattle.thread_local_buckets.specs.IterMut.{iter_mut_rest, iter_mut_name, entries_mut_rest, entries_mut_name};
-    ghost use Rattle.thread_local_buckets.specs.LendingValues.{LendsValues, owned_refilled};
+    ghost use Rattle.thread_local_buckets.specs.LendingValues.{LendsValues, WouldStand, WouldBePublished};
     ghost use Rattle.thread_local_buckets.specs.Writing.{LendsSlot};
 
     /// Buckets of which none stands.
@@ -210,12 +210,8 @@ impl<T> Buckets<T> {
 
         // Whatever is written through the items, the same buckets stand and the same ids have a
         // value.
-        ensures would_stand { (written : Owned T) (bucket : ℕ)
-            → stands (owned_refilled self.old written).contents bucket
-            ≡ stands self.old.contents bucket }
-        ensures would_be_published { (written : Owned T) (id : ℕ)
-            → is_some (values (owned_refilled self.old written).contents id)
-            ≡ is_some (values self.old.contents id) }
+        ensures would_stand { WouldStand self.old }
+        ensures would_be_published { WouldBePublished self.old }
     {
         IterMut {
             entries: self.entries_mut(),
@@ -229,12 +225,8 @@ impl<T> Buckets<T> {
 
         // Whatever is written through the items, the same buckets stand and the same ids have a
         // value.
-        ensures would_stand { (written : Owned T) (bucket : ℕ)
-            → stands (owned_refilled self.old written).contents bucket
-            ≡ stands self.old.contents bucket }
-        ensures would_be_published { (written : Owned T) (id : ℕ)
-            → is_some (values (owned_refilled self.old written).contents id)
-            ≡ is_some (values self.old.contents id) }
+        ensures would_stand { WouldStand self.old }
+        ensures would_be_published { WouldBePublished self.old }
     {
         let cursor = self.begin_walk();
         EntriesMut {

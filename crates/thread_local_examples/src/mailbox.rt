@@ -30,14 +30,10 @@ fn post<'a, R: Wait>(
     ensures { IfOk result (λ posted. (posted.1.sharing ≡ letters.now.sharing) × (posted.1.value ≡ letter)) }
 {
     let mut local = letters.local(rt).map_err(MailError::Local)?;
-    match local.set(letter) {
-        Ok(()) => {}
-        Err(SetError::Occupied(_)) => return Err(MailError::Occupied),
-        Err(SetError::Memory(_)) => return Err(MailError::Local(LocalError::Memory(AllocError))),
-    }
-    match local.token() {
-        Some(token) => Ok((local, token)),
-        None => unreachable!(),
+    match local.publish(letter) {
+        Ok(token) => Ok((local, token)),
+        Err(SetError::Occupied(_)) => Err(MailError::Occupied),
+        Err(SetError::Memory(_)) => Err(MailError::Local(LocalError::Memory(AllocError))),
     }
 }
 

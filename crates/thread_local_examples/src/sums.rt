@@ -32,14 +32,10 @@ fn publish<'a, R: Wait>(
     ensures { IfOk result (λ kept. (kept.1.sharing ≡ sums.now.sharing) × (kept.1.value ≡ part)) }
 {
     let mut local = sums.local(rt).map_err(SumError::Local)?;
-    match local.set(part) {
-        Ok(()) => {}
-        Err(SetError::Occupied(_)) => return Err(SumError::Mixed),
-        Err(SetError::Memory(_)) => return Err(SumError::Local(LocalError::Memory(AllocError))),
-    }
-    match local.token() {
-        Some(token) => Ok((local, token)),
-        None => unreachable!(),
+    match local.publish(part) {
+        Ok(token) => Ok((local, token)),
+        Err(SetError::Occupied(_)) => Err(SumError::Mixed),
+        Err(SetError::Memory(_)) => Err(SumError::Local(LocalError::Memory(AllocError))),
     }
 }
 

@@ -25,17 +25,17 @@ fn a_forgotten_claim_costs_its_own_slot(rt: HostRuntime) -> Result<(), Fail> {
     let mut ids = Ids::new(rt.alloc());
     let mut buckets = Buckets::new(rt.alloc());
     assert!(rt; buckets.insert(Thread::new(0), 5u32).is_ok());
-    let shared = Shared::new(buckets, &ids.own_right());
+    let shared = Shared::new(buckets, &ids.table_right());
     let first = ids.take()?;
     let second = ids.take()?;
     let third = ids.take()?;
     let claimed = Kept {
-        claim: shared.claim(first),
+        claim: shared.claim(first.0, first.1),
     };
     let found = claimed.claim.get().copied();
     forget(claimed);
     forget(Kept {
-        claim: shared.claim(second),
+        claim: shared.claim(second.0, second.1),
     });
     let (_third, published) = publish(&shared, third, rt.alloc(), 6);
     assert_eq!(rt; (found, published), (Some(5), true));
@@ -52,9 +52,10 @@ fn a_forgotten_claim_costs_its_own_slot(rt: HostRuntime) -> Result<(), Fail> {
 fn a_claim_goes_to_another_thread(rt: HostRuntime) -> Result<(), Fail> {
     let mut ids = Ids::new(rt.alloc());
     Cell::<u64>::judge();
-    let shared = Shared::new(Buckets::with_capacity(rt.alloc(), 1)?, &ids.own_right());
+    let shared = Shared::new(Buckets::with_capacity(rt.alloc(), 1)?, &ids.table_right());
+    let (held, right) = ids.take()?;
     let claimed = Kept {
-        claim: shared.claim(ids.take()?),
+        claim: shared.claim(held, right),
     };
     let (published, _) = thread::join(&rt, || claimed.publish(Cell::new(7u64)), || ());
     assert!(rt; published);
@@ -73,8 +74,9 @@ fn threads_share_a_claim(rt: HostRuntime) -> Result<(), Fail> {
     let mut ids = Ids::new(rt.alloc());
     let mut buckets = Buckets::new(rt.alloc());
     assert!(rt; buckets.insert(Thread::new(0), 5u32).is_ok());
-    let shared = Shared::new(buckets, &ids.own_right());
-    let claim = shared.claim(ids.take()?);
+    let shared = Shared::new(buckets, &ids.table_right());
+    let (held, right) = ids.take()?;
+    let claim = shared.claim(held, right);
     let both = thread::join(&rt, || found(&claim), || found(&claim));
     assert_eq!(rt; both, (Some(5), Some(5)));
     claim.give_up();
@@ -84,14 +86,15 @@ fn threads_share_a_claim(rt: HostRuntime) -> Result<(), Fail> {
 #[test]
 fn reserved_buckets_stand(rt: HostRuntime) -> Result<(), Fail> {
     let mut ids = Ids::new(rt.alloc());
-    let shared = Shared::new(Buckets::with_capacity(rt.alloc(), 4)?, &ids.own_right());
+    let shared = Shared::new(Buckets::with_capacity(rt.alloc(), 4)?, &ids.table_right());
     let stand = [
         shared.load(0).is_some(),
         shared.load(2).is_some(),
         shared.load(3).is_some(),
     ];
     assert_eq!(rt; (shared.reserved(), stand), (7, [true, true, false]));
-    let claim = shared.claim(ids.take()?);
+    let (held, right) = ids.take()?;
+    let claim = shared.claim(held, right);
     let is_vacant = !claim.is_missing() && claim.get().is_none();
     let published = publish_claimed(claim, 1).1;
     let mut buckets = shared.into_buckets();

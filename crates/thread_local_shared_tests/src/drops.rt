@@ -70,7 +70,7 @@ fn each_published_value_is_dropped_once(rt: HostRuntime) -> Result<(), Fail> {
     let drops = Arc::new(rt.alloc(), AtomicU64::new(0))?;
     let mut ids = Ids::new(rt.alloc());
     judge_sync::<Counted>();
-    let shared = Shared::new(Buckets::new(rt.alloc()), &ids.own_right());
+    let shared = Shared::new(Buckets::new(rt.alloc()), &ids.table_right());
     let ids = Lock::new(ids);
     let published = publish_counted(&shared, &ids, &rt, rt.alloc(), &drops, 100);
     let given_way = drops.load(SeqCst);

@@ -11,16 +11,22 @@ use std::thread::Threads;
 use thread_local_buckets::Buckets;
 use thread_local_ids::Ids;
 use thread_local_judged::{Judge, judge_sync};
-use thread_local_tokens::HeldId;
 use thread_local_shared_buckets::Shared;
 use thread_local_thread_id::Thread;
+use thread_local_tokens::{HeldId, Right};
 
 /// Adds to the number at an id, and answers what was there.
-fn add(shared: &Shared<Cell<u64>>, held: HeldId, more: u64) -> (HeldId, Option<u64>)
-    requires { held.right.table ≡ shared.now.table }
-    ensures { (result.0.right.table ≡ shared.now.table) × (result.0.id ≡ held.id) }
+fn add(
+    shared: &Shared<Cell<u64>>,
+    held: (HeldId, Right),
+    more: u64,
+) -> ((HeldId, Right), Option<u64>)
+    requires table { (held.1.table ≡ shared.now.table) × (held.0.mark.table ≡ shared.now.table) }
+    requires id { held.1.id ≡ held.0.id }
+    ensures table { (result.0.1.table ≡ shared.now.table) × (result.0.0.mark.table ≡ shared.now.table) }
+    ensures id { (result.0.0.id ≡ held.0.id) × (result.0.1.id ≡ held.0.id) }
 {
-    let claim = shared.claim(held);
+    let claim = shared.claim(held.0, held.1);
     let found = match claim.get() {
         Some(cell) => {
             let found = cell.get();
@@ -36,13 +42,14 @@ fn add(shared: &Shared<Cell<u64>>, held: HeldId, more: u64) -> (HeldId, Option<u
 fn look_while_claimed<R: Threads>(
     rt: &R,
     shared: &Shared<u32>,
-    held: HeldId,
+    held: (HeldId, Right),
 ) -> (Option<u32>, Option<u32>)
-    requires table { held.right.table ≡ shared.now.table }
-    requires in_range { held.id < 2 ^ 63 - 1 }
+    requires table { (held.1.table ≡ shared.now.table) × (held.0.mark.table ≡ shared.now.table) }
+    requires id { held.1.id ≡ held.0.id }
+    requires in_range { held.0.id < 2 ^ 63 - 1 }
 {
-    let id = held.id;
-    let claim = shared.claim(held);
+    let id = held.0.id;
+    let claim = shared.claim(held.0, held.1);
     let (seen, _) = thread::join(rt, || look(shared, id), || ());
     let own = claim.get().copied();
     claim.give_up();
@@ -53,7 +60,7 @@ fn look_while_claimed<R: Threads>(
 fn a_number_is_handed_on_from_thread_to_thread(rt: HostRuntime) -> Result<(), Fail> {
     let mut ids = Ids::new(rt.alloc());
     Cell::<u64>::judge();
-    let shared = Shared::new(Buckets::new(rt.alloc()), &ids.own_right());
+    let shared = Shared::new(Buckets::new(rt.alloc()), &ids.table_right());
     let held = ids.take()?;
     let alloc = rt.alloc();
     let there = &shared;
@@ -74,7 +81,7 @@ fn a_walker_sees_a_value_that_is_claimed(rt: HostRuntime) -> Result<(), Fail> {
     let mut ids = Ids::new(rt.alloc());
     let mut buckets = Buckets::new(rt.alloc());
     assert!(rt; buckets.insert(Thread::new(0), 9).is_ok());
-    let mut shared = Shared::new(buckets, &ids.own_right());
+    let mut shared = Shared::new(buckets, &ids.table_right());
     let held = ids.take()?;
     let (own, seen) = look_while_claimed(&rt, &shared, held);
     assert_eq!(rt; [own, seen, look(&shared, 1)], [Some(9), Some(9), None]);
@@ -90,7 +97,7 @@ fn comes_back<T: Send + Drop>(alloc: Global, value: T) -> bool
     requires judged { Judged T.row }
 {
     let mut ids = Ids::new(alloc);
-    let shared = Shared::new(Buckets::new(alloc), &ids.own_right());
+    let shared = Shared::new(Buckets::new(alloc), &ids.table_right());
     let Ok(held) = ids.take() else {
         return false;
     };

@@ -10,16 +10,16 @@ use std::thread;
 use std::thread::Threads;
 use thread_local_ids::Ids;
 use thread_local_ids::Lock;
-use thread_local_tokens::HeldId;
 use thread_local_thread_id::LocalError;
+use thread_local_tokens::{HeldId, Right};
 
 /// Two ids of one table are two.
-fn take_two(ids: &mut Ids) -> Result<(HeldId, HeldId), LocalError>
-    ensures { IfOk result (λ two. two.0.id ≢ two.1.id) }
+fn take_two(ids: &mut Ids) -> Result<((HeldId, Right), (HeldId, Right)), LocalError>
+    ensures { IfOk result (λ two. two.0.0.id ≢ two.1.0.id) }
 {
     let mut first = ids.take()?;
     let mut second = ids.take()?;
-    first.right.apart(&mut second.right);
+    first.1.apart(&mut second.1);
     Ok((first, second))
 }
 
@@ -33,7 +33,7 @@ fn take_and_give<R: Wait>(
 ) -> Result<u64, LocalError> {
     let mut shared = 0u64;
     for _ in 0..times {
-        let held = ids.lock(rt).take()?;
+        let (held, right) = ids.lock(rt).take()?;
         if let Some(mark) = used.get(held.id) {
             if mark.swap(true, SeqCst) {
                 shared = shared.saturating_add(1);
@@ -42,23 +42,24 @@ fn take_and_give<R: Wait>(
         } else {
             shared = shared.saturating_add(1);
         }
-        ids.lock(rt).give(held);
+        ids.lock(rt).give(held, right);
     }
     Ok(shared)
 }
 
 /// Gives an id back.
-fn give_back<R: Wait>(ids: &Lock<Ids>, rt: &R, held: HeldId)
-    requires { held.right.table ≡ ids.now.tag }
+fn give_back<R: Wait>(ids: &Lock<Ids>, rt: &R, held: (HeldId, Right))
+    requires table { (held.1.table ≡ ids.now.tag) × (held.0.mark.table ≡ ids.now.tag) }
+    requires id { held.1.id ≡ held.0.id }
 {
-    ids.lock(rt).give(held);
+    ids.lock(rt).give(held.0, held.1);
 }
 
 #[test]
 fn an_id_is_held_once(rt: HostRuntime) -> Result<(), Fail> {
     let mut ids = Ids::new(rt.alloc());
     let (first, second) = take_two(&mut ids)?;
-    assert_eq!(rt; (first.id, second.id), (0, 1));
+    assert_eq!(rt; (first.0.id, second.0.id), (0, 1));
     Ok(())
 }
 
@@ -67,7 +68,7 @@ fn room_that_was_made_is_enough(rt: HostRuntime) -> Result<(), Fail> {
     let mut ids = Ids::with_room(rt.alloc(), 67)?;
     // No memory is asked for here, so a refusal would be a fault of the manager's.
     for id in 0..67usize {
-        assert_eq!(rt; ids.take()?.id, id);
+        assert_eq!(rt; ids.take()?.0.id, id);
     }
     assert!(rt; !ids.is_held(67));
     Ok(())
@@ -94,7 +95,7 @@ fn threads_hold_unlike_ids(rt: HostRuntime) -> Result<(), Fail> {
     }
     // None of the ids is held, so the next are the first.
     for id in 0..4 {
-        assert_eq!(rt; ids.lock(&rt).take()?.id, id);
+        assert_eq!(rt; ids.lock(&rt).take()?.0.id, id);
     }
     Ok(())
 }
@@ -106,25 +107,25 @@ fn held_ids_are_swapped_moved_and_forgotten(rt: HostRuntime) -> Result<(), Fail>
     let mut second = ids.lock(&rt).take()?;
     let third = ids.lock(&rt).take()?;
     swap(&mut first, &mut second);
-    assert_eq!(rt; (first.id, second.id, third.id), (1, 0, 2));
+    assert_eq!(rt; (first.0.id, second.0.id, third.0.id), (1, 0, 2));
     let there = &ids;
     let (_, id) = thread::join(
         &rt,
         || give_back(there, &rt, first),
         || {
-            let id = second.id;
+            let id = second.0.id;
             give_back(there, &rt, second);
             id
         },
     );
     assert_eq!(rt; id, 0);
     forget(third);
-    let again = ids.lock(&rt).take()?;
+    let (again, right) = ids.lock(&rt).take()?;
     assert_eq!(rt; again.id, 0);
-    ids.lock(&rt).give(again);
+    ids.lock(&rt).give(again, right);
     // The forgotten id is held, and no other.
     for id in [0, 1, 3] {
-        assert_eq!(rt; ids.lock(&rt).take()?.id, id);
+        assert_eq!(rt; ids.lock(&rt).take()?.0.id, id);
     }
     Ok(())
 }

@@ -13,10 +13,9 @@ use thread_local_buckets::Buckets;
 use thread_local_claim::Claim;
 use thread_local_ids::Ids;
 use thread_local_ids::Lock;
-use thread_local_tokens::HeldId;
 use thread_local_shared_buckets::Shared;
 use thread_local_test_helpers::memory::take_all_but;
-use thread_local_thread_id::Thread;
+use thread_local_tokens::{HeldId, Right};
 
 impl<'a, T> Kept<'a, T> {
     /// Offers a block for the claim's bucket if that was missing, and answers the claim if it did.
@@ -25,18 +24,19 @@ impl<'a, T> Kept<'a, T> {
         requires slots { block.slots ≡ empty_slots (2 ^ bucket_of self.claim.id) }
     {
         let mut claim = self.into_claim();
+        let thread = claim.place();
         if !claim.is_missing() {
-            block.release(alloc, claim.bucket_size());
+            block.release(alloc, thread.bucket_size());
             claim.give_up();
             return None;
         }
-        claim.install(block, alloc);
+        claim.install(thread, block, alloc);
         Some(claim)
     }
 
     /// Makes a block, offers it and gives the claim up. Answers whether it did.
     fn offer(self, alloc: &Global) -> bool {
-        let Ok(block) = Block::new(alloc, self.claim.bucket_size()) else {
+        let Ok(block) = Block::new(alloc, self.claim.place().bucket_size()) else {
             return false;
         };
         match self.offered(block, alloc) {
@@ -50,11 +50,12 @@ impl<'a, T> Kept<'a, T> {
 }
 
 /// Claims an id that is held.
-fn claim_early<T>(shared: &Shared<T>, held: HeldId) -> Kept<'_, T>
-    requires { held.right.table ≡ shared.now.table }
+fn claim_early<T>(shared: &Shared<T>, held: (HeldId, Right)) -> Kept<'_, T>
+    requires table { (held.1.table ≡ shared.now.table) × (held.0.mark.table ≡ shared.now.table) }
+    requires id { held.1.id ≡ held.0.id }
 {
     Kept {
-        claim: shared.claim(held),
+        claim: shared.claim(held.0, held.1),
     }
 }
 
@@ -98,7 +99,7 @@ fn offer_by_all<R: Wait>(
 #[test]
 fn blocks_that_come_second_are_freed(rt: HostRuntime) -> Result<(), Fail> {
     let mut ids = Ids::new(rt.alloc());
-    let shared = Shared::new(Buckets::new(rt.alloc()), &ids.own_right());
+    let shared = Shared::new(Buckets::new(rt.alloc()), &ids.table_right());
     for _ in 0..1_048_575 {
         let _held = ids.take()?;
     }
@@ -116,16 +117,16 @@ fn blocks_that_come_second_are_freed(rt: HostRuntime) -> Result<(), Fail> {
 #[test]
 fn the_second_of_two_blocks_gives_way(rt: HostRuntime) -> Result<(), Fail> {
     let mut ids = Ids::new(rt.alloc());
-    let shared = Shared::new(Buckets::new(rt.alloc()), &ids.own_right());
+    let shared = Shared::new(Buckets::new(rt.alloc()), &ids.table_right());
     let _first = ids.take()?;
     let second = claim_early(&shared, ids.take()?);
     let third = claim_early(&shared, ids.take()?);
     let alloc = rt.alloc();
-    let installed = Block::new(&alloc, second.claim.bucket_size())?;
-    let offered = match Block::new(&alloc, third.claim.bucket_size()) {
+    let installed = Block::new(&alloc, second.claim.place().bucket_size())?;
+    let offered = match Block::new(&alloc, third.claim.place().bucket_size()) {
         Ok(block) => block,
         Err(error) => {
-            installed.release(&alloc, second.claim.bucket_size());
+            installed.release(&alloc, second.claim.place().bucket_size());
             return Err(Fail::from(error));
         }
     };
@@ -153,14 +154,14 @@ fn publish_late(early: Kept<'_, u32>, value: u32) -> bool {
         claim.give_up();
         return false;
     }
-    claim.look_again();
+    claim.look_again(claim.place());
     publish_claimed(claim, value).1
 }
 
 #[test]
 fn an_early_claim_finds_its_bucket_later(rt: HostRuntime) -> Result<(), Fail> {
     let mut ids = Ids::new(rt.alloc());
-    let shared = Shared::new(Buckets::new(rt.alloc()), &ids.own_right());
+    let shared = Shared::new(Buckets::new(rt.alloc()), &ids.table_right());
     let _first = ids.take()?;
     let second = claim_early(&shared, ids.take()?);
     let third = claim_early(&shared, ids.take()?);

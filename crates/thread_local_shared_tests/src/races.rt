@@ -24,7 +24,7 @@ impl Racing {
     /// Empty buckets, and no id held.
     fn new(alloc: Global) -> Racing {
         let mut ids = Ids::new(alloc);
-        let shared = Shared::new(Buckets::new(alloc), &ids.own_right());
+        let shared = Shared::new(Buckets::new(alloc), &ids.table_right());
         let ids = Lock::new(ids);
         Racing { shared, ids }
     }
@@ -36,7 +36,7 @@ impl Racing {
             let Ok(held) = self.ids.lock(rt).take() else {
                 return published;
             };
-            let id = held.id;
+            let id = held.0.id;
             if publish(&self.shared, held, alloc, id).1 {
                 published = published.saturating_add(1);
             }

@@ -5,9 +5,9 @@ use std::alloc::Global;
 use thread_local_blocks::{Block, flag_word_at};
 use thread_local_buckets::Buckets;
 use thread_local_claim::Claim;
-use thread_local_tokens::HeldId;
 use thread_local_shared_buckets::Shared;
 use thread_local_thread_id::Thread;
+use thread_local_tokens::{HeldId, Right};
 
 /// A claim that is given up when this is dropped.
 pub struct Kept<'a, T> {
@@ -33,31 +33,41 @@ impl<T> Drop for Kept<'_, T> {
 
 /// Publishes a value at an id, whose bucket is made where it is missing, and answers whether it
 /// did.
-pub fn publish<T: Drop>(shared: &Shared<T>, held: HeldId, alloc: Global, value: T) -> (HeldId, bool)
-    requires { held.right.table ≡ shared.now.table }
-    ensures { (result.0.right.table ≡ shared.now.table) × (result.0.id ≡ held.id) }
+pub fn publish<T: Drop>(
+    shared: &Shared<T>,
+    held: (HeldId, Right),
+    alloc: Global,
+    value: T,
+) -> ((HeldId, Right), bool)
+    requires table { (held.1.table ≡ shared.now.table) × (held.0.mark.table ≡ shared.now.table) }
+    requires id { held.1.id ≡ held.0.id }
+    ensures table { (result.0.1.table ≡ shared.now.table) × (result.0.0.mark.table ≡ shared.now.table) }
+    ensures id { (result.0.0.id ≡ held.0.id) × (result.0.1.id ≡ held.0.id) }
 {
-    let mut claim = shared.claim(held);
+    let mut claim = shared.claim(held.0, held.1);
     if !claim.is_missing() {
         return publish_claimed(claim, value);
     }
-    let Ok(block) = Block::new(&alloc, claim.bucket_size()) else {
+    let thread = claim.place();
+    let Ok(block) = Block::new(&alloc, thread.bucket_size()) else {
         return (claim.give_up(), false);
     };
-    claim.install(block, &alloc);
-    claim.publish(value);
+    claim.install(thread, block, &alloc);
+    claim.publish(thread, value);
     (claim.give_up(), true)
 }
 
 /// Publishes a value in a slot that is vacant, and answers whether it did.
-pub fn publish_claimed<T: Drop>(claim: Claim<'_, T>, value: T) -> (HeldId, bool)
-    ensures { (result.0.right.table ≡ claim.entry.table) × (result.0.id ≡ claim.entry.id) }
+pub fn publish_claimed<T: Drop>(claim: Claim<'_, T>, value: T) -> ((HeldId, Right), bool)
+    ensures table { (result.0.1.table ≡ claim.entry.table)
+        × (result.0.0.mark.table ≡ claim.entry.table) }
+    ensures id { (result.0.0.id ≡ claim.entry.id) × (result.0.1.id ≡ claim.entry.id) }
 {
     let mut claim = claim;
     if claim.is_missing() || claim.get().is_some() {
         return (claim.give_up(), false);
     }
-    claim.publish(value);
+    claim.publish(claim.place(), value);
     (claim.give_up(), true)
 }
 
@@ -73,6 +83,6 @@ pub fn look(shared: &Shared<u32>, id: usize) -> Option<u32>
 {
     let thread = Thread::new(id);
     let row = shared.load(thread.bucket)?;
-    let number = flag_word_at::<u32>(thread.bucket_size(), thread.index / 64);
-    row.get(thread.index, number).copied()
+    let flag_word = flag_word_at::<u32>(thread.bucket_size(), thread.index / 64);
+    row.get(thread.index, flag_word).copied()
 }

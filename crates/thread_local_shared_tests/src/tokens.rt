@@ -11,25 +11,26 @@ use thread_local_buckets::Buckets;
 use thread_local_claim::Claim;
 use thread_local_ids::Ids;
 use thread_local_judged::{Judge, judge_sync};
-use thread_local_tokens::Token;
-use thread_local_tokens::{HeldId, Right};
 use thread_local_shared_buckets::Shared;
 use thread_local_thread_id::Thread;
+use thread_local_tokens::{HeldId, Right, Token};
 
 /// Publishes a value, and answers a token of what the slot was published with.
 fn told<T: Drop>(
     shared: &Shared<T>,
-    held: HeldId,
+    held: (HeldId, Right),
     alloc: Global,
     value: T,
-) -> (HeldId, Option<Token<T>>)
-    requires { held.right.table ≡ shared.now.table }
-    ensures held { (result.0.right.table ≡ shared.now.table) × (result.0.id ≡ held.id) }
+) -> ((HeldId, Right), Option<Token<T>>)
+    requires table { (held.1.table ≡ shared.now.table) × (held.0.mark.table ≡ shared.now.table) }
+    requires id { held.1.id ≡ held.0.id }
+    ensures table { (result.0.1.table ≡ shared.now.table) × (result.0.0.mark.table ≡ shared.now.table) }
+    ensures id { (result.0.0.id ≡ held.0.id) × (result.0.1.id ≡ held.0.id) }
     ensures token { IfSome result.1 (λ token.
-        (token.sharing ≡ shared.now.sharing) × (token.id ≡ held.id)) }
+        (token.sharing ≡ shared.now.sharing) × (token.id ≡ held.0.id)) }
 {
-    let (held, _) = publish(shared, held, alloc, value);
-    let claim = shared.claim(held);
+    let ((held, right), _) = publish(shared, held, alloc, value);
+    let claim = shared.claim(held, right);
     let token = claim.token();
     (claim.give_up(), token)
 }
@@ -41,7 +42,7 @@ fn settled<T>(claim: &mut Claim<'_, T>, value: T) -> Option<Token<T>>
     ensures token { IfSome result (λ token.
         (token.sharing ≡ claim.old.sharing) × (token.id ≡ claim.old.id) × (token.value ≡ value)) }
 {
-    claim.publish(value);
+    claim.publish(claim.place(), value);
     claim.token()
 }
 
@@ -99,10 +100,10 @@ fn renewed<T>(shared: &mut Shared<T>, own: &Right)
 #[test]
 fn a_token_says_what_was_published(rt: HostRuntime) -> Result<(), Fail> {
     let mut ids = Ids::new(rt.alloc());
-    let shared = Shared::new(Buckets::new(rt.alloc()), &ids.own_right());
+    let shared = Shared::new(Buckets::new(rt.alloc()), &ids.table_right());
     let (held, token) = told(&shared, ids.take()?, rt.alloc(), 7u32);
     let token = token.expect(&rt, "a token");
-    let mut claim = shared.claim(held);
+    let mut claim = shared.claim(held.0, held.1);
     let seen = (holds(&mut claim, &token), claim.token().map(|t| t.id()));
     claim.give_up();
     let (_, other) = told(&shared, ids.take()?, rt.alloc(), 8);
@@ -123,8 +124,9 @@ fn a_token_says_what_was_published(rt: HostRuntime) -> Result<(), Fail> {
 #[test]
 fn a_vacant_slot_has_no_token(rt: HostRuntime) -> Result<(), Fail> {
     let mut ids = Ids::new(rt.alloc());
-    let shared = Shared::<u32>::new(Buckets::with_capacity(rt.alloc(), 1)?, &ids.own_right());
-    let mut claim = shared.claim(ids.take()?);
+    let shared = Shared::<u32>::new(Buckets::with_capacity(rt.alloc(), 1)?, &ids.table_right());
+    let (held, right) = ids.take()?;
+    let mut claim = shared.claim(held, right);
     let before = claim.token().is_none();
     let after = if claim.is_missing() || claim.get().is_some() {
         None
@@ -141,7 +143,7 @@ fn a_vacant_slot_has_no_token(rt: HostRuntime) -> Result<(), Fail> {
 fn a_text_is_read_by_its_token(rt: HostRuntime) -> Result<(), Fail> {
     let mut ids = Ids::new(rt.alloc());
     judge_sync::<String>();
-    let shared = Shared::new(Buckets::new(rt.alloc()), &ids.own_right());
+    let shared = Shared::new(Buckets::new(rt.alloc()), &ids.table_right());
     let (_, token) = told(&shared, ids.take()?, rt.alloc(), String::new(rt.alloc()));
     let len = token.map(|token| read(&shared, &token).len());
     assert_eq!(rt; len, Some(0));
@@ -159,7 +161,7 @@ fn cells(alloc: Global, own: &Right) -> Shared<Cell<u32>>
 #[test]
 fn renewed_buckets_keep_their_values(rt: HostRuntime) -> Result<(), Fail> {
     let mut ids = Ids::new(rt.alloc());
-    let own = ids.own_right();
+    let own = ids.table_right();
     let mut shared = cells(rt.alloc(), &own);
     let (held, first) = told(&shared, ids.take()?, rt.alloc(), Cell::new(3));
     renewed(&mut shared, &own);

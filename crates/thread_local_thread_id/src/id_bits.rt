@@ -84,11 +84,12 @@ impl IdBits {
         Ok(())
     }
 
-    /// The same where there may be no room for the id.
+    /// The same where there is no room for the id.
     #[cold]
     #[inline(never)]
     fn alloc_further(&mut self, id: usize) -> Result<(), LocalError>
-        requires { id ≡ least self.old.held }
+        requires least { id ≡ least self.old.held }
+        requires no_room { self.old.room ≤ id }
         ensures ok { OnOk result (Takes self.old self.new id) }
         ensures memory { result ≡ Err (LocalError.Memory alloc_error) → NeedsMemory self.old }
         ensures exhausted { result ≡ Err LocalError.Exhausted → IsExhausted self.old }
@@ -114,24 +115,21 @@ impl IdBits {
         id < IDS && id / 64 < self.words.len()
     }
 
-    /// Makes room for the return of the id, where there is none.
+    /// Makes room for the return of the id, for which there is none.
     fn make_room(&mut self, id: usize) -> Result<(), LocalError>
-        requires { id ≡ least self.old.held }
+        requires least { id ≡ least self.old.held }
+        requires no_room { self.old.room ≤ id }
         ensures held { self.new.held ≡ self.old.held }
         ensures room { self.old.room ≤ self.new.room }
-        ensures stays { id < self.old.room → self.new.room ≡ self.old.room }
         ensures few { self.new.room ≤ self.old.room + 64 }
         ensures ok { OnOk result ((id < self.new.room) × (id < 2 ^ 63 - 1)) }
         ensures memory { result ≡ Err (LocalError.Memory alloc_error) → NeedsMemory self.old }
         ensures exhausted { result ≡ Err LocalError.Exhausted → IsExhausted self.old }
         ensures err { OnErr result (self.new ≡ self.old) }
     {
-        let words = self.words.len();
+        let _ = &self.words;
         if id >= IDS {
             return Err(LocalError::Exhausted);
-        }
-        if id / 64 < words {
-            return Ok(());
         }
         self.words.push_zero()?;
         Ok(())

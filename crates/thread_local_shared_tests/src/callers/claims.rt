@@ -2,15 +2,15 @@
 ghost use Rattle.std.specs.Prelude.{◌≡◌, ◌≢◌, ◌^◌, MatchOption};
 ghost use Rattle.thread_local_blocks.specs.Slots.{empty_slots};
 ghost use Rattle.thread_local_model.specs.Learnt.{Missing, Vacant, Holding};
-ghost use Rattle.thread_local_model.specs.Place.{bucket_of, index_of};
+ghost use Rattle.thread_local_model.specs.Place.{bucket_of, IsPlaceOf};
 
 use std::alloc::Global;
 use std::cell::{Cell, RefCell};
 use thread_local_blocks::Block;
 use thread_local_claim::Claim;
-use thread_local_tokens::HeldId;
 use thread_local_shared_bucket::SharedBucket;
 use thread_local_thread_id::Thread;
+use thread_local_tokens::{HeldId, Right};
 
 /// Publishes the value unless the slot holds one.
 fn offered<T: Send + Drop>(claim: &mut Claim<'_, T>, value: T)
@@ -19,12 +19,12 @@ fn offered<T: Send + Drop>(claim: &mut Claim<'_, T>, value: T)
     ensures published { claim.old.learnt ≡ Vacant → claim.new.learnt ≡ Holding value }
 {
     if claim.get().is_none() {
-        claim.publish(value);
+        claim.publish(claim.place(), value);
     }
 }
 
-fn number(claim: Claim<'_, u32>) -> HeldId
-    ensures { result.id ≡ claim.entry.id }
+fn number(claim: Claim<'_, u32>) -> (HeldId, Right)
+    ensures { (result.0.id ≡ claim.entry.id) × (result.1.id ≡ claim.entry.id) }
 {
     claim.give_up()
 }
@@ -57,30 +57,37 @@ fn ref_cell(claim: &mut Claim<'_, RefCell<String>>, value: RefCell<String>)
 }
 
 /// Looks, looks again where the bucket was missing, and gives the claim up.
-fn visit<T: Send>(bucket: &SharedBucket<T>, thread: Thread, held: HeldId) -> HeldId
-    requires table { held.right.table ≡ bucket.now.table }
-    requires place { (thread.bucket ≡ bucket_of held.id) × (thread.index ≡ index_of held.id) }
+fn visit<T: Send>(
+    bucket: &SharedBucket<T>,
+    thread: Thread,
+    held: HeldId,
+    right: Right,
+) -> (HeldId, Right)
+    requires table { (right.table ≡ bucket.now.table) × (held.mark.table ≡ bucket.now.table) }
+    requires id { right.id ≡ held.id }
+    requires place { IsPlaceOf thread.bucket thread.index held.id }
     requires bucket { bucket.now.bucket ≡ thread.bucket }
-    ensures { (result.right.table ≡ held.right.table) × (result.id ≡ held.id) }
+    ensures table { (result.1.table ≡ right.table) × (result.0.mark.table ≡ right.table) }
+    ensures id { (result.0.id ≡ held.id) × (result.1.id ≡ held.id) }
 {
-    let mut claim = Claim::look(bucket, thread, held);
+    let mut claim = Claim::look(bucket, thread, held, right);
     if claim.is_missing() {
-        claim.look_again();
+        claim.look_again(thread);
     }
     claim.give_up()
 }
 
 /// What the look lent outlives the claim.
-fn seen<'a, T: Send + Sync>(claim: Claim<'a, T>) -> (HeldId, Option<&'a T>)
+fn seen<'a, T: Send + Sync>(claim: Claim<'a, T>) -> ((HeldId, Right), Option<&'a T>)
     requires { claim.learnt ≢ Missing }
-    ensures id { result.0.id ≡ claim.entry.id }
+    ensures id { (result.0.0.id ≡ claim.entry.id) × (result.0.1.id ≡ claim.entry.id) }
     ensures value { MatchOption result.1 (claim.entry.learnt ≡ Vacant) (λ x. claim.entry.learnt ≡ Holding x.now) }
 {
     let value = claim.lasting();
     (claim.give_up(), value)
 }
 
-fn number_seen<'a>(claim: Claim<'a, u32>) -> (HeldId, Option<&'a u32>)
+fn number_seen<'a>(claim: Claim<'a, u32>) -> ((HeldId, Right), Option<&'a u32>)
     requires { claim.learnt ≢ Missing }
     ensures { MatchOption result.1 (claim.entry.learnt ≡ Vacant) (λ x. claim.entry.learnt ≡ Holding x.now) }
 {
@@ -94,8 +101,9 @@ fn settled<T: Send>(claim: &mut Claim<'_, T>, block: Block<T, Global>, alloc: &G
     requires slots { block.slots ≡ empty_slots (2 ^ bucket_of claim.old.id) }
     ensures { claim.new.learnt ≡ Holding value }
 {
-    claim.install(block, alloc);
-    claim.publish(value);
+    let thread = claim.place();
+    claim.install(thread, block, alloc);
+    claim.publish(thread, value);
 }
 
 fn settled_number(claim: &mut Claim<'_, u32>, block: Block<u32, Global>, alloc: &Global)
