@@ -6,22 +6,22 @@ use Rattle.thread_local_model.specs.Held.{is_held, least, HoldsAllBelow, is_gran
 use Rattle.thread_local_model.specs.Capacity.{reserves_bucket, is_reserved}
 use Rattle.thread_local_model.specs.Sheet.{Sheet, new_sheet, Clear, moved_if}
 use Rattle.thread_local_model.specs.Answers.{View, first_view}
-use Rattle.thread_local_schedule_steps.specs.Table.{empty_slot, slot_at, bucket_stands}
-use Rattle.thread_local_schedule_steps.specs.Local.{Local, fresh_local}
-use Rattle.thread_local_schedule_state.specs.Cleared.{cleared}
-use Rattle.thread_local_schedule_state.specs.Core.{Core, made_core, shadow, peak, is_alone}
+use Rattle.thread_local_schedule.specs.Table.{empty_slot, slot_at, bucket_stands}
+use Rattle.thread_local_schedule.specs.Local.{Local, fresh_local}
+use Rattle.thread_local_schedule.specs.Cleared.{cleared}
+use Rattle.thread_local_schedule.specs.Core.{Core, made_core, shadow, peak, is_alone}
 use Rattle.thread_local_schedule.specs.Events.{Event, TakeId, OfLocal, Owner, ClearTable, take_id, step_of, step, is_enabled, happens, run, GiveBack, Forget, OwnerCall, IterMut, after_owner}
 use Rattle.thread_local_schedule.specs.Schedule.{move, is_refused, is_granted_take, newcomer, IsReached, publishing, move_of, NoneTaken}
-use Rattle.thread_local_schedule_state.specs.CoreFits.{CoreFits}
+use Rattle.thread_local_schedule.specs.CoreFits.{CoreFits}
 use Rattle.thread_local_schedule.proofs.Kept.{happens-fits, run-fits}
 use Rattle.thread_local_schedule.proofs.EventSays.{Says, event_says}
-use Rattle.thread_local_schedule_state.proofs.PutLaws.{put_same}
-use Rattle.thread_local_schedule_state.proofs.Parts.{made_core-fits, no_locals}
-use Rattle.thread_local_schedule_state.proofs.ClearedLaws.{slot_at-cleared, bucket_stands-cleared}
-use Rattle.thread_local_schedule_state.proofs.CoreLaws.{none_if}
-use Rattle.thread_local_schedule_state.proofs.SheetLaws.{settled, untaken}
+use Rattle.thread_local_schedule.proofs.PutLaws.{put_same}
+use Rattle.thread_local_schedule.proofs.Parts.{made_core-fits, no_locals}
+use Rattle.thread_local_schedule.proofs.ClearedLaws.{slot_at-cleared, bucket_stands-cleared}
+use Rattle.thread_local_schedule.proofs.CoreLaws.{none_if}
+use Rattle.thread_local_schedule.proofs.SheetLaws.{settled, untaken}
 use Rattle.thread_local_schedule.proofs.Takes.{not_granted}
-use Rattle.thread_local_schedule_state.proofs.OptionLaws.{stays, some_step, some_and, tested}
+use Rattle.thread_local_schedule.proofs.OptionLaws.{stays, some_step, some_and, tested}
 
 -- a reached core fits
 pub fits : {V E : Type 0} (core : Core V E) → IsReached core → CoreFits core

@@ -2,18 +2,18 @@
 use Rattle.std.proofs.Common.{◌≡◌, ℕ, zero, suc, Bool, true, false, cond, Option, Some, None, is_some, IsTrue, IfSome, IsSomeAnd, refl, ap, sym, ◌∙◌, subst, arith}
 use Rattle.std.specs.Prelude.{unwrap_or, option_map, option_and_then}
 use Rattle.std.proofs.lemmas.Bool.{false≢true, and_parts, not-true}
-use Rattle.thread_local_schedule_steps.specs.Table.{Table}
-use Rattle.thread_local_schedule_steps.specs.Local.{Doing, Gets, Started, Private, Written, Local, LocalStep, local_step}
-use Rattle.thread_local_schedule_steps.specs.Calls.{gets_of, closure_of, HasNoCall, GoesOn}
-use Rattle.thread_local_schedule_steps.proofs.CallsLaws.{local_step-goes}
-use Rattle.thread_local_schedule_state.specs.Core.{Core, none_below, is_alone}
-use Rattle.thread_local_schedule_state.specs.CoreFits.{CoreFits}
-use Rattle.thread_local_schedule_state.proofs.PutLaws.{put_same}
-use Rattle.thread_local_schedule_state.proofs.Parts.{no_locals, no_walks}
+use Rattle.thread_local_schedule.specs.Table.{Table}
+use Rattle.thread_local_schedule.specs.Local.{Doing, Gets, Started, Private, Written, Local, LocalStep, local_step}
+use Rattle.thread_local_schedule.specs.Calls.{gets_of, closure_of, HasNoCall, GoesOn}
+use Rattle.thread_local_schedule.proofs.CallsLaws.{local_step-goes}
+use Rattle.thread_local_schedule.specs.Core.{Core, none_below, is_alone}
+use Rattle.thread_local_schedule.specs.CoreFits.{CoreFits}
+use Rattle.thread_local_schedule.proofs.PutLaws.{put_same}
+use Rattle.thread_local_schedule.proofs.Parts.{no_locals, no_walks}
 use Rattle.thread_local_model.specs.Held.{is_granted}
 use Rattle.thread_local_schedule.specs.Events.{Event, TakeId, OfLocal, GiveBack, Forget, BeginWalk, Owner, OwnerCall, take_id, with_step, is_idle, without_local, with_id_given, after_owner, step_of, step, is_enabled, happens}
 use Rattle.thread_local_schedule.specs.Schedule.{is_refused, IsAlone}
-use Rattle.thread_local_schedule_state.proofs.OptionLaws.{tested}
+use Rattle.thread_local_schedule.proofs.OptionLaws.{tested}
 use Rattle.thread_local_schedule.proofs.Clauses.{goes, enabled_step}
 
 -- until the table has ended, the event's own rule decides whether it is enabled

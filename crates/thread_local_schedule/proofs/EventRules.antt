@@ -5,15 +5,15 @@ use Rattle.std.proofs.lemmas.Bool.{false≢true, cond_both, cases_Bool}
 use Rattle.thread_local_model.specs.Held.{is_granted}
 use Rattle.thread_local_model.specs.Learnt.{Unknown, Missing, Vacant}
 use Rattle.thread_local_model.specs.Answers.{Failed}
-use Rattle.thread_local_schedule_steps.specs.Local.{Local, LocalStep, BeginGet, BeginGetOr, MakeBucket, WriteValue, local_step}
-use Rattle.thread_local_schedule_steps.specs.Calls.{closure_of, HasNoCall, GoesDown, EndsWith}
-use Rattle.thread_local_schedule_steps.proofs.EnabledSteps as step
-use Rattle.thread_local_schedule_steps.proofs.GoingOn as call
-use Rattle.thread_local_schedule_state.specs.SharedWalk.{WalkStep, walk_step}
-use Rattle.thread_local_schedule_state.specs.OwnerWalk.{rewritten}
-use Rattle.thread_local_schedule_state.specs.Core.{Core, made_core, is_alone}
-use Rattle.thread_local_schedule_state.specs.CoreFits.{CoreFits}
-use Rattle.thread_local_schedule_state.proofs.OptionLaws.{if_enabled, if_there, if_then, some_and, unwrapped}
+use Rattle.thread_local_schedule.specs.Local.{Local, LocalStep, BeginGet, BeginGetOr, MakeBucket, WriteValue, local_step}
+use Rattle.thread_local_schedule.specs.Calls.{closure_of, HasNoCall, GoesDown, EndsWith}
+use Rattle.thread_local_schedule.proofs.EnabledSteps as step
+use Rattle.thread_local_schedule.proofs.GoingOn as call
+use Rattle.thread_local_schedule.specs.SharedWalk.{WalkStep, walk_step}
+use Rattle.thread_local_schedule.specs.OwnerWalk.{rewritten}
+use Rattle.thread_local_schedule.specs.Core.{Core, made_core, is_alone}
+use Rattle.thread_local_schedule.specs.CoreFits.{CoreFits}
+use Rattle.thread_local_schedule.proofs.OptionLaws.{if_enabled, if_there, if_then, some_and, unwrapped}
 use Rattle.thread_local_schedule.specs.Events.{Event, TakeId, OfLocal, GiveBack, Forget, BeginWalk, OfWalk, EndWalk, Owner, OwnerCall, IterMut, Slots, ClearTable, IntoIter, DropTable, take_id, with_step, of_local, is_idle, without_local, with_id_given, give_back, forget, with_walk, of_walk, after_owner, step_of, step, is_enabled, happens, run}
 use Rattle.thread_local_schedule.specs.Schedule.{is_take, is_refused, is_granted_take, newcomer, IsReached}
 use Rattle.thread_local_schedule.proofs.Clauses as clause

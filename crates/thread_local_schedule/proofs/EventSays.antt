@@ -6,24 +6,24 @@ use Rattle.std.proofs.lemmas.Bool.{cond_both, false≢true, eqb-false}
 use Rattle.thread_local_model.specs.Held.{held_count, without, is_granted}
 use Rattle.thread_local_model.specs.Sheet.{moved_if, IsAllowed}
 use Rattle.thread_local_model.specs.Capacity.{reserves_bucket}
-use Rattle.thread_local_schedule_steps.specs.Table.{Table, published}
-use Rattle.thread_local_schedule_steps.specs.Local.{Local, LocalStep, local_step}
-use Rattle.thread_local_schedule_state.specs.SharedWalk.{fresh_walk, WalkStep, walk_step}
-use Rattle.thread_local_schedule_state.specs.OwnerWalk.{rewritten}
-use Rattle.thread_local_schedule_steps.specs.Fits.{StepFits, value_set, named}
-use Rattle.thread_local_schedule_steps.proofs.TableLaws.{same_function, named_stands}
-use Rattle.thread_local_schedule_steps.proofs.LocalLaws.{local_step-fits}
-use Rattle.thread_local_schedule_state.proofs.OwnerLaws.{published-rewritten, named-rewritten}
-use Rattle.thread_local_schedule_state.proofs.ClearedLaws.{none_cleared, named-cleared}
-use Rattle.thread_local_schedule_state.specs.Core.{Core, shadow, is_alone}
+use Rattle.thread_local_schedule.specs.Table.{Table, published}
+use Rattle.thread_local_schedule.specs.Local.{Local, LocalStep, local_step}
+use Rattle.thread_local_schedule.specs.SharedWalk.{fresh_walk, WalkStep, walk_step}
+use Rattle.thread_local_schedule.specs.OwnerWalk.{rewritten}
+use Rattle.thread_local_schedule.specs.Fits.{StepFits, value_set, named}
+use Rattle.thread_local_schedule.proofs.TableLaws.{same_function, named_stands}
+use Rattle.thread_local_schedule.proofs.LocalLaws.{local_step-fits}
+use Rattle.thread_local_schedule.proofs.OwnerLaws.{published-rewritten, named-rewritten}
+use Rattle.thread_local_schedule.proofs.ClearedLaws.{none_cleared, named-cleared}
+use Rattle.thread_local_schedule.specs.Core.{Core, shadow, is_alone}
 use Rattle.thread_local_schedule.specs.Events.{Event, TakeId, OfLocal, GiveBack, Forget, BeginWalk, OfWalk, EndWalk, Owner, OwnerCall, IterMut, Slots, ClearTable, IntoIter, DropTable, take_id, with_step, of_local, is_idle, without_local, with_id_given, give_back, forget, with_walk, of_walk, without_walk, after_owner, step_of, step, is_enabled, happens}
 use Rattle.thread_local_schedule.specs.Schedule.{move_of, is_take, refuses, is_exclusive, is_clear, is_of}
-use Rattle.thread_local_schedule_state.proofs.HeldCounts.{peak_counts, held_count-le}
-use Rattle.thread_local_schedule_state.specs.CoreFits.{CoreFits}
-use Rattle.thread_local_schedule_state.proofs.PutLaws.{put_cases, still, put_other}
-use Rattle.thread_local_schedule_state.proofs.Parts.{kept_value, no_locals}
-use Rattle.thread_local_schedule_state.proofs.CoreLaws.{published_moves, publishing_allowed}
-use Rattle.thread_local_schedule_state.proofs.OptionLaws.{if_enabled, if_mapped, if_there, if_then}
+use Rattle.thread_local_schedule.proofs.HeldCounts.{peak_counts, held_count-le}
+use Rattle.thread_local_schedule.specs.CoreFits.{CoreFits}
+use Rattle.thread_local_schedule.proofs.PutLaws.{put_cases, still, put_other}
+use Rattle.thread_local_schedule.proofs.Parts.{kept_value, no_locals}
+use Rattle.thread_local_schedule.proofs.CoreLaws.{published_moves, publishing_allowed}
+use Rattle.thread_local_schedule.proofs.OptionLaws.{if_enabled, if_mapped, if_there, if_then}
 use Rattle.thread_local_model.proofs.HeldLaws as ids
 
 -- what an enabled event says of the core before it and the core after it

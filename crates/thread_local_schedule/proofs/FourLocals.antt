@@ -3,14 +3,14 @@ use Rattle.std.proofs.Common.{◌≡◌, true, ℕ, [], ◌∷◌, Some, IsTrue,
 use Rattle.thread_local_model.specs.Place.{place, next_place, bucket_of, index_of}
 use Rattle.thread_local_model.specs.Capacity.{binary_digits, reserved_slots}
 use Rattle.thread_local_model.specs.Buckets.{slots, slots_below}
-use Rattle.thread_local_schedule_steps.specs.Table.{slot_at, published, bucket_stands, with_fresh_bucket, with_table_slot, made_table}
-use Rattle.thread_local_schedule_steps.specs.Local.{local_step}
+use Rattle.thread_local_schedule.specs.Table.{slot_at, published, bucket_stands, with_fresh_bucket, with_table_slot, made_table}
+use Rattle.thread_local_schedule.specs.Local.{local_step}
 use Rattle.thread_local_model.specs.Cursor.{is_complete}
-use Rattle.thread_local_schedule_state.specs.SharedWalk.{walk_step}
-use Rattle.thread_local_schedule_state.specs.OwnerWalk.{owner_walk, owner_walk_below}
+use Rattle.thread_local_schedule.specs.SharedWalk.{walk_step}
+use Rattle.thread_local_schedule.specs.OwnerWalk.{owner_walk, owner_walk_below}
 use Rattle.thread_local_model.specs.Walk.{walk_below}
 use Rattle.thread_local_model.specs.Answers.{Found, Answered}
-use Rattle.thread_local_schedule_state.specs.Core.{peak, installed_slots}
+use Rattle.thread_local_schedule.specs.Core.{peak, installed_slots}
 use Rattle.thread_local_schedule.specs.Events.{Owner, IterMut, ClearTable, step, happens, run, is_enabled}
 use Rattle.thread_local_schedule.specs.Story.{walk_on, whole_walk, four_publish, four_give_back, after_publishing, after_walking, after_giving_back, after_next, after_all}
 

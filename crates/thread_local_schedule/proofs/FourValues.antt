@@ -3,17 +3,17 @@
 use Rattle.std.proofs.Common.{◌≡◌, ℕ, zero, suc, [], ◌∷◌, None, IsTrue, refl, ap, arith, subst, sym}
 use Rattle.std.specs.Prelude.{slice_get}
 use Rattle.thread_local_model.specs.Sheet.{new_sheet}
-use Rattle.thread_local_schedule_steps.proofs.TableLaws.{same_function}
+use Rattle.thread_local_schedule.proofs.TableLaws.{same_function}
 use Rattle.thread_local_schedule.proofs.Kept.{run-fits}
-use Rattle.thread_local_schedule_steps.specs.Table.{published}
-use Rattle.thread_local_schedule_state.specs.Core.{new_core, shadow}
+use Rattle.thread_local_schedule.specs.Table.{published}
+use Rattle.thread_local_schedule.specs.Core.{new_core, shadow}
 use Rattle.thread_local_schedule.specs.Events.{Owner, ClearTable, happens, is_enabled, run}
 use Rattle.thread_local_schedule.specs.Story.{four_publish, after_publishing, after_all}
-use Rattle.thread_local_schedule_state.proofs.Parts.{made_core-fits}
-use Rattle.thread_local_schedule_state.proofs.CoreLaws.{none_if}
-use Rattle.thread_local_schedule_state.proofs.ClearedLaws.{none_cleared}
+use Rattle.thread_local_schedule.proofs.Parts.{made_core-fits}
+use Rattle.thread_local_schedule.proofs.CoreLaws.{none_if}
+use Rattle.thread_local_schedule.proofs.ClearedLaws.{none_cleared}
 use Rattle.thread_local_schedule.proofs.FourLocals.{by_steps, four_held, clears}
-use Rattle.thread_local_schedule_state.specs.CoreFits.{CoreFits}
+use Rattle.thread_local_schedule.specs.CoreFits.{CoreFits}
 
 module _ (T F : Type 0) (a b c d : T) where
   -- four ids are held, so no value is published above id 3

@@ -4,15 +4,15 @@ use Rattle.std.specs.Prelude.{unwrap_or}
 use Rattle.std.proofs.lemmas.Bool.{false≢true, cond_both}
 use Rattle.thread_local_model.specs.Place.{bucket_of}
 use Rattle.thread_local_model.specs.Held.{is_granted}
-use Rattle.thread_local_schedule_steps.specs.Table.{Bucket, Table, bucket_stands}
-use Rattle.thread_local_schedule_steps.specs.Local.{LocalStep, InstallBucket, local_step}
-use Rattle.thread_local_schedule_steps.proofs.Installing.{installs}
-use Rattle.thread_local_schedule_state.specs.SharedWalk.{fresh_walk, WalkStep, walk_step}
-use Rattle.thread_local_schedule_state.specs.Cleared.{emptied_bucket, cleared}
+use Rattle.thread_local_schedule.specs.Table.{Bucket, Table, bucket_stands}
+use Rattle.thread_local_schedule.specs.Local.{LocalStep, InstallBucket, local_step}
+use Rattle.thread_local_schedule.proofs.Installing.{installs}
+use Rattle.thread_local_schedule.specs.SharedWalk.{fresh_walk, WalkStep, walk_step}
+use Rattle.thread_local_schedule.specs.Cleared.{emptied_bucket, cleared}
 use Rattle.thread_local_model.specs.Capacity.{reserves_bucket}
-use Rattle.thread_local_schedule_state.specs.Core.{Core, is_alone}
-use Rattle.thread_local_schedule_state.proofs.OwnerLaws.{bucket_stands-rewritten}
-use Rattle.thread_local_schedule_state.proofs.OptionLaws.{if_enabled, if_mapped, if_there, if_then, unwrapped}
+use Rattle.thread_local_schedule.specs.Core.{Core, is_alone}
+use Rattle.thread_local_schedule.proofs.OwnerLaws.{bucket_stands-rewritten}
+use Rattle.thread_local_schedule.proofs.OptionLaws.{if_enabled, if_mapped, if_there, if_then, unwrapped}
 use Rattle.thread_local_schedule.specs.Events.{Event, TakeId, OfLocal, GiveBack, Forget, BeginWalk, OfWalk, EndWalk, Owner, OwnerCall, IterMut, Slots, ClearTable, IntoIter, DropTable, take_id, with_step, of_local, is_idle, without_local, with_id_given, give_back, forget, with_walk, of_walk, without_walk, after_owner, step_of, step, happens}
 
 -- a bucket that doesn't stand before an event stands after it only where the event installs it

@@ -4,23 +4,23 @@ use Rattle.std.proofs.lemmas.Bool.{cond_both, ne_eqb, false≢true}
 use Rattle.std.specs.Prelude.{unwrap_or}
 use Rattle.thread_local_model.specs.Held.{is_held, least, with_least, without, is_exhausted, is_granted}
 use Rattle.thread_local_model.specs.Answers.{first_view}
-use Rattle.thread_local_schedule_steps.specs.Local.{Local, LocalStep, fresh_local, local_step}
-use Rattle.thread_local_schedule_state.specs.SharedWalk.{SharedWalk, fresh_walk, WalkStep, walk_step}
-use Rattle.thread_local_schedule_steps.specs.Fits.{StepFits, value_set}
-use Rattle.thread_local_schedule_steps.specs.Calls.{HasLearnt}
-use Rattle.thread_local_schedule_steps.specs.Numbers.{NumbersGo}
-use Rattle.thread_local_schedule_steps.proofs.LocalLaws.{local_step-fits}
-use Rattle.thread_local_schedule_steps.proofs.NumbersLaws.{local_step-numbers}
-use Rattle.thread_local_schedule_steps.proofs.EnabledSteps.{learnt}
-use Rattle.thread_local_schedule_state.proofs.Numbers.{taken-NumbersFit, removed-NumbersFit}
-use Rattle.thread_local_schedule_state.proofs.WalkStepLaws.{walk_step-fits, fresh_walk-fits}
-use Rattle.thread_local_schedule_state.specs.Core.{Core, shadow, is_alone}
+use Rattle.thread_local_schedule.specs.Local.{Local, LocalStep, fresh_local, local_step}
+use Rattle.thread_local_schedule.specs.SharedWalk.{SharedWalk, fresh_walk, WalkStep, walk_step}
+use Rattle.thread_local_schedule.specs.Fits.{StepFits, value_set}
+use Rattle.thread_local_schedule.specs.Calls.{HasLearnt}
+use Rattle.thread_local_schedule.specs.Numbers.{NumbersGo}
+use Rattle.thread_local_schedule.proofs.LocalLaws.{local_step-fits}
+use Rattle.thread_local_schedule.proofs.NumbersLaws.{local_step-numbers}
+use Rattle.thread_local_schedule.proofs.EnabledSteps.{learnt}
+use Rattle.thread_local_schedule.proofs.Numbers.{taken-NumbersFit, removed-NumbersFit}
+use Rattle.thread_local_schedule.proofs.WalkStepLaws.{walk_step-fits, fresh_walk-fits}
+use Rattle.thread_local_schedule.specs.Core.{Core, shadow, is_alone}
 use Rattle.thread_local_schedule.specs.Events.{Event, TakeId, OfLocal, GiveBack, Forget, BeginWalk, OfWalk, EndWalk, Owner, OwnerCall, IterMut, Slots, ClearTable, IntoIter, DropTable, take_id, with_step, of_local, give_back, forget, begin_walk, of_walk, step_of, step, happens, run, is_idle, without_local, with_walk, with_id_given, without_walk, after_owner}
-use Rattle.thread_local_schedule_state.proofs.HeldCounts.{peak_after}
-use Rattle.thread_local_schedule_state.specs.CoreFits.{CoreFits}
-use Rattle.thread_local_schedule_state.proofs.Parts.{locals_put, locals_removed, given-ManagerFits, peak-TableFits, held_stays, least_held, fresh-LiveFits, stepped-fits, walks_put, came_before, rewritten-fits, cleared-fits}
+use Rattle.thread_local_schedule.proofs.HeldCounts.{peak_after}
+use Rattle.thread_local_schedule.specs.CoreFits.{CoreFits}
+use Rattle.thread_local_schedule.proofs.Parts.{locals_put, locals_removed, given-ManagerFits, peak-TableFits, held_stays, least_held, fresh-LiveFits, stepped-fits, walks_put, came_before, rewritten-fits, cleared-fits}
 use Rattle.thread_local_schedule.proofs.Takes.{granted_some, taken-ManagerFits}
-use Rattle.thread_local_schedule_state.proofs.OptionLaws.{if_enabled, unwrapped, if_mapped, if_both, if_there, if_then}
+use Rattle.thread_local_schedule.proofs.OptionLaws.{if_enabled, unwrapped, if_mapped, if_both, if_there, if_then}
 use Rattle.thread_local_model.proofs.HeldLaws as ids
 
 pub take_id-fits : {V E : Type 0} (core : Core V E) (growth : ℕ) → is_exhausted core.manager ≡ false → CoreFits core → CoreFits (take_id core growth)

@@ -5,11 +5,11 @@ use Rattle.std.specs.List.{AllByRecursion}
 use Rattle.std.specs.List.Sorted.{IsStrictlyIncreasing}
 use Rattle.thread_local_model.specs.Walk.{walk, paired}
 use Rattle.thread_local_model.proofs.WalkLaws.{map-walk_below, strictly_ascends, listed, in_list}
-use Rattle.thread_local_schedule_state.specs.OwnerWalk.{owner_walk}
-use Rattle.thread_local_schedule_state.specs.Core.{Core, made_core, shadow}
-use Rattle.thread_local_schedule_state.specs.CoreFits.{CoreFits}
-use Rattle.thread_local_schedule_state.proofs.OwnerLaws.{owner_walk-walk}
-use Rattle.thread_local_schedule_state.proofs.Parts.{made_core-fits}
+use Rattle.thread_local_schedule.specs.OwnerWalk.{owner_walk}
+use Rattle.thread_local_schedule.specs.Core.{Core, made_core, shadow}
+use Rattle.thread_local_schedule.specs.CoreFits.{CoreFits}
+use Rattle.thread_local_schedule.proofs.OwnerLaws.{owner_walk-walk}
+use Rattle.thread_local_schedule.proofs.Parts.{made_core-fits}
 use Rattle.thread_local_schedule.specs.Events.{Event, happens, run}
 use Rattle.thread_local_schedule.specs.Schedule.{is_exclusive}
 use Rattle.thread_local_schedule.proofs.Kept.{happens-fits, run-fits}

@@ -2,10 +2,10 @@
 use Rattle.std.proofs.Common.{◌≡◌, ℕ, true, false, Option, None, IfSome, refl, IsTrue, ap}
 use Rattle.std.specs.Prelude.{unwrap_or}
 use Rattle.std.proofs.lemmas.Bool.{cond_both}
-use Rattle.thread_local_schedule_steps.specs.Local.{LocalStep, local_step}
-use Rattle.thread_local_schedule_state.specs.SharedWalk.{WalkStep, walk_step}
-use Rattle.thread_local_schedule_state.specs.Core.{Core, is_alone}
-use Rattle.thread_local_schedule_state.proofs.OptionLaws.{if_enabled, unwrapped, if_there, if_then}
+use Rattle.thread_local_schedule.specs.Local.{LocalStep, local_step}
+use Rattle.thread_local_schedule.specs.SharedWalk.{WalkStep, walk_step}
+use Rattle.thread_local_schedule.specs.Core.{Core, is_alone}
+use Rattle.thread_local_schedule.proofs.OptionLaws.{if_enabled, unwrapped, if_there, if_then}
 use Rattle.thread_local_model.specs.Held.{is_granted}
 use Rattle.thread_local_schedule.specs.Events.{Event, TakeId, OfLocal, GiveBack, Forget, BeginWalk, OfWalk, EndWalk, Owner, OwnerCall, IterMut, Slots, ClearTable, IntoIter, DropTable, take_id, with_step, of_local, is_idle, without_local, with_id_given, give_back, forget, with_walk, of_walk, after_owner, step_of, step, happens, is_enabled}
 use Rattle.thread_local_schedule.specs.Schedule.{ends_table}

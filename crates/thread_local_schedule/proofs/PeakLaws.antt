@@ -8,20 +8,20 @@ use Rattle.thread_local_model.specs.Capacity.{reserves_bucket, reserved_slots, i
 use Rattle.thread_local_model.specs.Buckets.{slots}
 use Rattle.thread_local_model.specs.Answers.{Answer, Refused, answers}
 use Rattle.thread_local_model.proofs.AnswersLaws.{none_refused}
-use Rattle.thread_local_schedule_steps.specs.Table.{bucket_stands}
-use Rattle.thread_local_schedule_steps.specs.Local.{Local, MakeBucket, local_step}
-use Rattle.thread_local_schedule_steps.proofs.TableLaws.{same_function}
-use Rattle.thread_local_schedule_state.specs.Core.{Core, made_core, new_core, shadow, installed_slots, peak}
+use Rattle.thread_local_schedule.specs.Table.{bucket_stands}
+use Rattle.thread_local_schedule.specs.Local.{Local, MakeBucket, local_step}
+use Rattle.thread_local_schedule.proofs.TableLaws.{same_function}
+use Rattle.thread_local_schedule.specs.Core.{Core, made_core, new_core, shadow, installed_slots, peak}
 use Rattle.thread_local_schedule.specs.Events.{Event, TakeId, OfLocal, Owner, ClearTable, step_of, step, is_enabled, happens, run}
 use Rattle.thread_local_schedule.specs.Schedule.{move, is_clear, is_refused, IsReached}
-use Rattle.thread_local_schedule_state.specs.CoreFits.{CoreFits, ManagerFits}
+use Rattle.thread_local_schedule.specs.CoreFits.{CoreFits, ManagerFits}
 use Rattle.thread_local_schedule.proofs.Kept.{happens-fits, run-fits}
 use Rattle.thread_local_schedule.proofs.EventSays.{event_says}
-use Rattle.thread_local_schedule_state.proofs.HeldCounts.{held_below, least-le-held_count}
-use Rattle.thread_local_schedule_state.proofs.Parts.{made_core-fits}
-use Rattle.thread_local_schedule_state.proofs.CoreLaws.{installed_bound, never_missing}
-use Rattle.thread_local_schedule_state.proofs.SheetLaws.{same_capacity}
-use Rattle.thread_local_schedule_state.proofs.OptionLaws.{none_enabled, makes_none}
+use Rattle.thread_local_schedule.proofs.HeldCounts.{held_below, least-le-held_count}
+use Rattle.thread_local_schedule.proofs.Parts.{made_core-fits}
+use Rattle.thread_local_schedule.proofs.CoreLaws.{installed_bound, never_missing}
+use Rattle.thread_local_schedule.proofs.SheetLaws.{same_capacity}
+use Rattle.thread_local_schedule.proofs.OptionLaws.{none_enabled, makes_none}
 use Rattle.thread_local_schedule.specs.Bounds.{most_after_all}
 use Rattle.thread_local_schedule.proofs.Clauses as clause
 use Rattle.thread_local_model.proofs.CapacityLaws as reserve

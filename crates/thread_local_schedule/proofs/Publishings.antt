@@ -5,11 +5,11 @@ use Rattle.std.proofs.lemmas.Bool.{cases_order, ne_eqb, eq-eqb}
 use Rattle.thread_local_model.specs.Walk.{walk_below, walk, with_value}
 use Rattle.thread_local_model.proofs.WalkLaws.{walk_below-same, walk_below-none}
 use Rattle.thread_local_model.specs.Sheet.{Sheet, Move, Take, Give, Publish, Keep, Rewrite, Clear, moved_if, IsAllowed}
-use Rattle.thread_local_schedule_state.specs.Core.{Core, made_core, shadow, peak}
-use Rattle.thread_local_schedule_state.specs.CoreFits.{CoreFits}
-use Rattle.thread_local_schedule_state.proofs.HeldCounts.{held_below}
-use Rattle.thread_local_schedule_state.proofs.Parts.{made_core-fits}
-use Rattle.thread_local_schedule_state.proofs.CoreLaws.{published_bound}
+use Rattle.thread_local_schedule.specs.Core.{Core, made_core, shadow, peak}
+use Rattle.thread_local_schedule.specs.CoreFits.{CoreFits}
+use Rattle.thread_local_schedule.proofs.HeldCounts.{held_below}
+use Rattle.thread_local_schedule.proofs.Parts.{made_core-fits}
+use Rattle.thread_local_schedule.proofs.CoreLaws.{published_bound}
 use Rattle.thread_local_schedule.specs.Events.{Event, happens, run}
 use Rattle.thread_local_schedule.specs.Schedule.{move}
 use Rattle.thread_local_schedule.proofs.Kept.{happens-fits, run-fits}

@@ -2,9 +2,9 @@
 use Rattle.std.proofs.Common.{◌≡◌, ℕ, ◌^◌, ◌<◌, false, List, [], ◌∷◌, ◌++◌, Some, IsTrue, refl}
 use Rattle.thread_local_model.specs.Place.{bucket_of}
 use Rattle.thread_local_model.specs.Held.{held_count}
-use Rattle.thread_local_schedule_steps.specs.Local.{Doing, Gets, Started, Private, Written}
-use Rattle.thread_local_schedule_steps.specs.Numbers.{own_number}
-use Rattle.thread_local_schedule_state.specs.Core.{Core, private_slots}
+use Rattle.thread_local_schedule.specs.Local.{Doing, Gets, Started, Private, Written}
+use Rattle.thread_local_schedule.specs.Numbers.{own_number}
+use Rattle.thread_local_schedule.specs.Core.{Core, private_slots}
 use Rattle.thread_local_schedule.specs.Events.{Event, happens, run}
 use Rattle.thread_local_schedule.specs.Schedule.{is_take, is_refused}
 use Rattle.thread_local_schedule.specs.Bounds.{TakesBelow, NothingRefused}

@@ -2,8 +2,8 @@
 use Rattle.std.proofs.Common.{◌≡◌, ℕ, ◌-◌, ◌^◌, Bool, false, not, ◌&&◌, length, arith, ◌≤◌, ◌⊎◌, IsTrue, subst, ⊎_elim, inl, inr}
 use Rattle.std.proofs.lemmas.Bool.{eqb-false, and_parts, not-true, eqb-true, and_cases, not-false}
 use Rattle.thread_local_model.specs.Held.{Manager, least, HoldsAllBelow, is_exhausted, is_full, is_granted, taken_from}
-use Rattle.thread_local_schedule_state.proofs.HeldCounts.{peak_after}
-use Rattle.thread_local_schedule_state.specs.CoreFits.{ManagerFits}
+use Rattle.thread_local_schedule.proofs.HeldCounts.{peak_after}
+use Rattle.thread_local_schedule.specs.CoreFits.{ManagerFits}
 use Rattle.thread_local_model.proofs.HeldLaws as ids
 
 -- a refused take finds every id held, or no room and no memory

@@ -5,21 +5,21 @@ use Rattle.std.proofs.lemmas.Bool.{cases_Bool, lt-ltb, and_left, and_right}
 use Rattle.thread_local_model.specs.Held.{held_count}
 use Rattle.thread_local_model.specs.Sheet.{Move, Take, Give, Publish}
 use Rattle.thread_local_model.specs.Capacity.{reserved_slots}
-use Rattle.thread_local_schedule_steps.specs.Local.{Local, LocalStep, MakeBucket}
-use Rattle.thread_local_schedule_steps.specs.Fits.{value_set}
-use Rattle.thread_local_schedule_state.specs.Core.{Core, made_core, new_core, shadow, installed_slots, peak}
+use Rattle.thread_local_schedule.specs.Local.{Local, LocalStep, MakeBucket}
+use Rattle.thread_local_schedule.specs.Fits.{value_set}
+use Rattle.thread_local_schedule.specs.Core.{Core, made_core, new_core, shadow, installed_slots, peak}
 use Rattle.thread_local_schedule.specs.Events.{Event, TakeId, OfLocal, GiveBack, Owner, IterMut, ClearTable, step_of, step, is_enabled, happens, run}
 use Rattle.thread_local_schedule.specs.Schedule.{publishing, move, move_of, is_take, refuses, is_refused}
-use Rattle.thread_local_schedule_state.proofs.HeldCounts.{held_below}
-use Rattle.thread_local_schedule_state.specs.CoreFits.{CoreFits}
+use Rattle.thread_local_schedule.proofs.HeldCounts.{held_below}
+use Rattle.thread_local_schedule.specs.CoreFits.{CoreFits}
 use Rattle.thread_local_schedule.proofs.Kept.{happens-fits, run-fits}
 use Rattle.thread_local_schedule.proofs.EventSays.{event_says}
 use Rattle.thread_local_schedule.specs.Bounds.{TakesBelow, NothingRefused}
 use Rattle.thread_local_schedule.proofs.PeakLaws.{capacity_stays, run_capacity, within_capacity, reserved}
-use Rattle.thread_local_schedule_state.proofs.Parts.{made_core-fits}
-use Rattle.thread_local_schedule_state.proofs.CoreLaws.{installed_bound}
-use Rattle.thread_local_schedule_state.proofs.SheetLaws.{moved_peak, same_peak}
-use Rattle.thread_local_schedule_state.proofs.OptionLaws.{not_mapped, not_if, none_enabled}
+use Rattle.thread_local_schedule.proofs.Parts.{made_core-fits}
+use Rattle.thread_local_schedule.proofs.CoreLaws.{installed_bound}
+use Rattle.thread_local_schedule.proofs.SheetLaws.{moved_peak, same_peak}
+use Rattle.thread_local_schedule.proofs.OptionLaws.{not_mapped, not_if, none_enabled}
 use Rattle.thread_local_model.proofs.CapacityLaws as reserve
 
 -- the only move of a Local's step is a publishing

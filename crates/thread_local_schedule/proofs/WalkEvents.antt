@@ -4,15 +4,15 @@ use Rattle.std.specs.Prelude.{option_map, option_and_then, unwrap_or}
 use Rattle.std.proofs.lemmas.Option.{none-some}
 use Rattle.std.proofs.lemmas.Bool.{false≢true, eqb-false, cond_both}
 use Rattle.thread_local_model.specs.Cursor.{is_complete}
-use Rattle.thread_local_schedule_steps.specs.Table.{Table}
-use Rattle.thread_local_schedule_steps.specs.Local.{LocalStep, local_step}
-use Rattle.thread_local_schedule_state.specs.SharedWalk.{SharedWalk, fresh_walk, WalkStep, Load, Look, walk_step, next_step}
-use Rattle.thread_local_schedule_state.specs.WalkFits.{Adds}
-use Rattle.thread_local_schedule_state.proofs.WalkStepLaws.{walk_step-adds}
-use Rattle.thread_local_schedule_state.specs.Core.{Core, is_alone}
-use Rattle.thread_local_schedule_state.specs.CoreFits.{CoreFits}
-use Rattle.thread_local_schedule_state.proofs.PutLaws.{put_cases, put_same, put_other, still}
-use Rattle.thread_local_schedule_state.proofs.OptionLaws.{if_enabled, if_there, if_then}
+use Rattle.thread_local_schedule.specs.Table.{Table}
+use Rattle.thread_local_schedule.specs.Local.{LocalStep, local_step}
+use Rattle.thread_local_schedule.specs.SharedWalk.{SharedWalk, fresh_walk, WalkStep, Load, Look, walk_step, next_step}
+use Rattle.thread_local_schedule.specs.WalkFits.{Adds}
+use Rattle.thread_local_schedule.proofs.WalkStepLaws.{walk_step-adds}
+use Rattle.thread_local_schedule.specs.Core.{Core, is_alone}
+use Rattle.thread_local_schedule.specs.CoreFits.{CoreFits}
+use Rattle.thread_local_schedule.proofs.PutLaws.{put_cases, put_same, put_other, still}
+use Rattle.thread_local_schedule.proofs.OptionLaws.{if_enabled, if_there, if_then}
 use Rattle.thread_local_model.specs.Held.{is_granted}
 use Rattle.thread_local_schedule.specs.Events.{Event, TakeId, OfLocal, GiveBack, Forget, BeginWalk, OfWalk, EndWalk, Owner, OwnerCall, IterMut, Slots, ClearTable, IntoIter, DropTable, take_id, with_step, of_local, is_idle, without_local, with_id_given, give_back, forget, with_walk, begin_walk, of_walk, without_walk, after_owner, step_of, step, is_enabled, happens}
 use Rattle.thread_local_schedule.specs.Schedule.{begins_walk, is_of_walk}

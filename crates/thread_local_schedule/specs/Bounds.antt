@@ -3,7 +3,7 @@
 use Rattle.std.specs.Prelude.{◌≡◌, ℕ, suc, ◌<◌, max, false, ◌&&◌, List, [], ◌∷◌, Option, Some, IsTrue, ⊤, if◌then◌else◌}
 use Rattle.thread_local_model.specs.Held.{held_count}
 use Rattle.thread_local_model.specs.Sheet.{Move, Publish, Clear}
-use Rattle.thread_local_schedule_state.specs.Core.{Core}
+use Rattle.thread_local_schedule.specs.Core.{Core}
 use Rattle.thread_local_schedule.specs.Events.{Event, is_enabled, happens}
 use Rattle.thread_local_schedule.specs.Schedule.{move, is_take, is_clear, is_refused}
 

@@ -2,12 +2,12 @@
 use Rattle.std.specs.Prelude.{ℕ, zero, suc, Bool, true, false, List, [], ◌∷◌, Option, Some, None, is_some, option_map, option_and_then, unwrap_or, if◌then◌else◌}
 use Rattle.thread_local_model.specs.Held.{least, is_granted, taken_from, given_to}
 use Rattle.thread_local_model.specs.Answers.{first_view}
-use Rattle.thread_local_schedule_steps.specs.Local.{Doing, Gets, Local, fresh_local, LocalStep, local_step}
-use Rattle.thread_local_schedule_steps.specs.Table.{Table}
-use Rattle.thread_local_schedule_state.specs.SharedWalk.{SharedWalk, fresh_walk, WalkStep, walk_step}
-use Rattle.thread_local_schedule_state.specs.OwnerWalk.{rewritten}
-use Rattle.thread_local_schedule_state.specs.Cleared.{cleared}
-use Rattle.thread_local_schedule_state.specs.Core.{Core, shadow, put, is_alone}
+use Rattle.thread_local_schedule.specs.Local.{Doing, Gets, Local, fresh_local, LocalStep, local_step}
+use Rattle.thread_local_schedule.specs.Table.{Table}
+use Rattle.thread_local_schedule.specs.SharedWalk.{SharedWalk, fresh_walk, WalkStep, walk_step}
+use Rattle.thread_local_schedule.specs.OwnerWalk.{rewritten}
+use Rattle.thread_local_schedule.specs.Cleared.{cleared}
+use Rattle.thread_local_schedule.specs.Core.{Core, shadow, put, is_alone}
 
 -- what an exclusive owner does
 pub data OwnerCall (V : Type 0) : Type 0 where

@@ -3,9 +3,9 @@
 use Rattle.std.specs.Prelude.{◌≡◌, ℕ, ◌^◌, ◌<◌, Bool, true, false, not, ◌&&◌, List, [], ◌∷◌, Option, Some, None, option_map, ⊤, ◌==◌, if◌then◌else◌}
 use Rattle.thread_local_model.specs.Held.{is_granted}
 use Rattle.thread_local_model.specs.Sheet.{Move, Take, Give, Publish, Rewrite, Clear}
-use Rattle.thread_local_schedule_steps.specs.Local.{Local, LocalStep, MakeBucket}
-use Rattle.thread_local_schedule_steps.specs.Fits.{value_set}
-use Rattle.thread_local_schedule_state.specs.Core.{Core, made_core}
+use Rattle.thread_local_schedule.specs.Local.{Local, LocalStep, MakeBucket}
+use Rattle.thread_local_schedule.specs.Fits.{value_set}
+use Rattle.thread_local_schedule.specs.Core.{Core, made_core}
 use Rattle.thread_local_schedule.specs.Events.{Event, TakeId, OfLocal, GiveBack, Forget, BeginWalk, OfWalk, EndWalk, Owner, IterMut, ClearTable, IntoIter, DropTable, is_enabled, happens, run}
 
 -- the move of a Local's step: the value that it publishes, if any

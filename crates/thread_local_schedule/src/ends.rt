@@ -1,6 +1,6 @@
 //! What ends a table: `into_iter` and the drop.
 ghost use Rattle.std.specs.Prelude.{◌≡◌, true, false, IsTrue};
-ghost use Rattle.thread_local_schedule_state.specs.Core.{Core};
+ghost use Rattle.thread_local_schedule.specs.Core.{Core};
 ghost use Rattle.thread_local_schedule.specs.Events.{Event, Owner, IntoIter, DropTable, is_enabled, happens};
 ghost use Rattle.thread_local_schedule.specs.Schedule.{ends_table};
 

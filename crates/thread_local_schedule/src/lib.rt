@@ -1,18 +1,25 @@
-//! Theorems on a table's model over every schedule of atomic steps, what bounds it, the main theorem,
-//! which says in one contract what a table is for, and one schedule from `new` to `clear` in which
-//! most events come.
+//! Theorems on a table's model over every schedule of atomic steps. From the bottom up: what each
+//! step of a `Local` and of a walk keeps, what a clear leaves, that a new core fits, that the table
+//! shows an owner's buckets, what each event says, every schedule, its bounds, the main theorem,
+//! which says in one contract what a table is for, and one schedule in which most events come.
 //!
-//! The definitions are in specs/: the core, the events, and what a schedule is. Each function here
+//! The definitions are in specs/: the steps of a table and its `Local`s, the core (a table with its
+//! id manager, its `Local`s and its walks), the events, and what a schedule is. Each function here
 //! has an empty body: its contract is a set of theorems, for every list of events, from a table of
 //! `new` and from one of each capacity, whatever the values and the closures' errors are.
 #![tactic(auto)]
 
 pub mod bounds;
+pub mod cleared;
 pub mod ends;
 pub mod event;
+pub mod locals;
+pub mod made;
 pub mod main_theorem;
 pub mod schedule;
+pub mod shown;
 pub mod story;
+pub mod walks;
 
 pub use bounds::{bounds_say, every_bound};
 pub use ends::every_end;

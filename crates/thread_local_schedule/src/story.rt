@@ -3,8 +3,8 @@ ghost use Rattle.std.specs.Prelude.{◌≡◌, ℕ, [], ◌∷◌, Some, slice_g
 ghost use Rattle.thread_local_model.specs.Sheet.{new_sheet};
 ghost use Rattle.thread_local_model.specs.Answers.{Found, Answered};
 ghost use Rattle.thread_local_model.specs.Cursor.{is_complete};
-ghost use Rattle.thread_local_schedule_state.specs.OwnerWalk.{owner_walk};
-ghost use Rattle.thread_local_schedule_state.specs.Core.{shadow, installed_slots};
+ghost use Rattle.thread_local_schedule.specs.OwnerWalk.{owner_walk};
+ghost use Rattle.thread_local_schedule.specs.Core.{shadow, installed_slots};
 ghost use Rattle.thread_local_schedule.specs.Events.{Owner, IterMut, ClearTable, is_enabled, happens};
 ghost use Rattle.thread_local_schedule.specs.Story.{after_publishing, after_walking, after_next, after_all};
 

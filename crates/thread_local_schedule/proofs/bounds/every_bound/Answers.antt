@@ -1,11 +1,11 @@
 use Rattle.std.proofs.Common.{refl, arith}
-use Rattle.thread_local_schedule_state.proofs.CoreLaws as known
+use Rattle.thread_local_schedule.proofs.CoreLaws as known
 use Rattle.thread_local_schedule.proofs.Clauses as clause
 use Rattle.thread_local_schedule.proofs.PeakLaws as bound
 use Rattle.thread_local_schedule.proofs.Publishings as publishing
-use Rattle.thread_local_schedule_state.specs.Core.{made_core}
-use Rattle.thread_local_schedule_state.proofs.Parts.{made_core-fits}
-use Rattle.thread_local_schedule_state.proofs.HeldCounts.{held_below}
+use Rattle.thread_local_schedule.specs.Core.{made_core}
+use Rattle.thread_local_schedule.proofs.Parts.{made_core-fits}
+use Rattle.thread_local_schedule.proofs.HeldCounts.{held_below}
 use Rattle.thread_local_schedule.proofs.bounds.every_bound.Goals as goal
 
 pub returns-clause-peak : goal.returns-clause-peak

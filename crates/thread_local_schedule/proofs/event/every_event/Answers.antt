@@ -1,7 +1,7 @@
 use Rattle.std.proofs.Common.{refl}
-use Rattle.thread_local_schedule_steps.specs.Local.{LoadPointer, LookAtFlag}
-use Rattle.thread_local_schedule_steps.proofs.EnabledSteps as step
-use Rattle.thread_local_schedule_steps.proofs.GoingOn.{few_steps}
+use Rattle.thread_local_schedule.specs.Local.{LoadPointer, LookAtFlag}
+use Rattle.thread_local_schedule.proofs.EnabledSteps as step
+use Rattle.thread_local_schedule.proofs.GoingOn.{few_steps}
 use Rattle.thread_local_schedule.proofs.Clauses as clause
 use Rattle.thread_local_schedule.proofs.Enabled as may
 use Rattle.thread_local_schedule.proofs.EventRules as rule

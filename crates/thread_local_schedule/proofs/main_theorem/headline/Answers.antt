@@ -1,4 +1,4 @@
-use Rattle.thread_local_schedule_state.specs.Core.{made_core}
+use Rattle.thread_local_schedule.specs.Core.{made_core}
 use Rattle.thread_local_schedule.specs.Events.{run}
 use Rattle.thread_local_schedule.proofs.Clauses as clause
 use Rattle.thread_local_schedule.proofs.Enabled as may

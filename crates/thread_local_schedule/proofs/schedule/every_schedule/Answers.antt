@@ -1,7 +1,7 @@
-use Rattle.thread_local_schedule_state.proofs.CoreLaws as known
+use Rattle.thread_local_schedule.proofs.CoreLaws as known
 use Rattle.thread_local_schedule.proofs.Clauses as clause
 use Rattle.thread_local_schedule.proofs.Enabled as may
-use Rattle.thread_local_schedule_state.proofs.OwnerLaws.{owner_walk-walk}
+use Rattle.thread_local_schedule.proofs.OwnerLaws.{owner_walk-walk}
 use Rattle.thread_local_schedule.proofs.schedule.every_schedule.Goals as goal
 
 pub returns-clause-moves : goal.returns-clause-moves

@@ -1,4 +1,4 @@
-use Rattle.thread_local_schedule_state.proofs.CoreLaws as known
+use Rattle.thread_local_schedule.proofs.CoreLaws as known
 use Rattle.thread_local_schedule.proofs.Clauses as clause
 use Rattle.thread_local_schedule.proofs.WalkEvents as event
 use Rattle.thread_local_schedule.proofs.schedule.every_walk.Goals as goal

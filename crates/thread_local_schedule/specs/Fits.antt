@@ -1,0 +1,86 @@
+-- The invariant of a `Local` and its table, and what a step may change of both.
+use Rattle.std.specs.Prelude.{◌≡◌, ◌≢◌, ℕ, ◌⊎◌, false, Option, Some, None, option_map, IsTrue, is_some, IfSome, ⊤}
+use Rattle.thread_local_model.specs.Place.{bucket_of}
+use Rattle.thread_local_model.specs.Walk.{with_value}
+use Rattle.thread_local_model.specs.Answers.{View, answers, view_after_all}
+use Rattle.thread_local_schedule.specs.Table.{Slot, Table, slot_at, published, bucket_stands}
+use Rattle.thread_local_model.specs.Learnt.{Learnt, Unknown, Missing, Standing, Vacant, Holding}
+use Rattle.thread_local_schedule.specs.Local.{Doing, Gets, Started, Private, Written, Local, LocalStep, SetFlag, value_written}
+
+-- a slot whose flag is set holds the value that was written
+abbrev pub IsWritten : {V : Type 0} → Slot V → Type 0
+IsWritten slot = IsTrue slot.flag → IsTrue (is_some slot.written)
+
+-- every slot of the table that has its flag set does so
+abbrev pub AllWritten : {V : Type 0} → Table V → Type 0
+AllWritten table = (id : ℕ) → IsWritten (slot_at table id)
+
+-- the view of a Local now: its first view, after its ended calls
+abbrev pub view_now : {V E : Type 0} → Local V E → View V
+view_now local = view_after_all local.start local.calls
+
+-- what a Local has learnt still holds, and agrees with its view
+abbrev pub IsLearnt : {V : Type 0} → Table V → ℕ → View V → Learnt V → Type 0
+IsLearnt table id view Unknown = ⊤
+IsLearnt table id view Missing = ((slot_at table id).flag ≡ false) × (view.known ≡ false)
+IsLearnt table id view Standing = IsTrue (bucket_stands table (bucket_of id))
+IsLearnt table id view Vacant = IsTrue (bucket_stands table (bucket_of id)) × ((slot_at table id).flag ≡ false)
+IsLearnt table id view (Holding v) = published table id ≡ Some v
+
+-- a Local with a bucket of its own finds its flag unset, and one that has written also finds its
+-- value
+abbrev pub IsDoing : {V E : Type 0} → Table V → ℕ → Doing V E → Type 0
+IsDoing table id (Gets count) = ⊤
+IsDoing table id (Started create) = ⊤
+IsDoing table id (Private create number) = (slot_at table id).flag ≡ false
+IsDoing table id (Written v) = IsTrue (bucket_stands table (bucket_of id)) × (slot_at table id ≡ record { written = Some v; flag = false })
+
+-- A view has the value that its slot shows, a bucket that it knows to stand does stand, and what
+-- was learnt and done holds.
+pub record ViewFits {V E : Type 0} (table : Table V) (id : ℕ) (view : View V) (learnt : Learnt V) (doing : Doing V E) : Type 0 where
+  pub value : view.value ≡ published table id
+  pub known : IsTrue view.known → IsTrue (bucket_stands table (bucket_of id))
+  pub learnt_so : IsLearnt table id view learnt
+  pub doing_so : IsDoing table id doing
+
+-- The invariant of a Local: its answers are those of its first view and its calls, and its view now
+-- fits.
+pub record LocalFits {V E : Type 0} (table : Table V) (local : Local V E) : Type 0 where
+  pub answered : local.answered ≡ answers local.start local.calls
+  pub view : ViewFits table local.id (view_now local) local.learnt local.doing
+
+-- the number of the bucket that a pointer leads to, if any
+unfoldable pub named : {V : Type 0} → Table V → ℕ → Option ℕ
+named table bucket = option_map (λ here. here.number) (table.pointers bucket)
+
+-- Between two tables only the slot of this id may differ, and only its bucket may be new: a pointer
+-- that isn't null still leads to the same bucket.
+pub record ChangesOnly {V : Type 0} (old new : Table V) (id : ℕ) : Type 0 where
+  pub others : (other : ℕ) → id ≢ other → slot_at new other ≡ slot_at old other
+  pub naming : (bucket : ℕ) → IsTrue (bucket_stands old bucket) → IsTrue (bucket_stands new bucket) × (named new bucket ≡ named old bucket)
+  pub installed : (bucket : ℕ) → IsTrue (bucket_stands new bucket) → IsTrue (bucket_stands old bucket) ⊎ (bucket_of id ≡ bucket)
+  pub written : AllWritten new
+
+-- the value that a step publishes, if any
+abbrev pub value_set : {V E : Type 0} → Doing V E → LocalStep V E → Option V
+value_set doing SetFlag = value_written doing
+value_set doing step = None
+
+-- a map with one value more, if there is one
+abbrev pub with_value_if : {V : Type 0} → (ℕ → Option V) → ℕ → Option V → ℕ → Option V
+with_value_if values id None = values
+with_value_if values id (Some v) = with_value values id v
+
+-- a Local keeps its id and its first view
+pub record IsSameLocal {V E : Type 0} (before after : Local V E) : Type 0 where
+  pub id : after.id ≡ before.id
+  pub start : after.start ≡ before.start
+
+-- What a step leaves of a Local and its table. It publishes this value, where none was published,
+-- or none.
+pub record StepFits {V E : Type 0} (table : Table V) (local : Local V E) (set : Option V) (after : Table V × Local V E) : Type 0 where
+  pub fits : LocalFits after.0 after.1
+  pub changes : ChangesOnly table after.0 local.id
+  pub shown : (id : ℕ) → published after.0 id ≡ with_value_if (published table) local.id set id
+  pub empty : IfSome set (λ _. published table local.id ≡ None)
+  pub same : IsSameLocal local after.1

@@ -1,8 +1,0 @@
-use Rattle.thread_local_schedule_state.proofs.OwnerLaws as laws
-use Rattle.thread_local_schedule_state.proofs.walks.owner_walks.Goals as goal
-
-pub returns-clause-walk : goal.returns-clause-walk
-returns-clause-walk g c = laws.owner_walk-walk
-
-pub returns-clause-rewritten : goal.returns-clause-rewritten
-returns-clause-rewritten g c = laws.published-rewritten
