@@ -1,22 +1,18 @@
-//! Examples that use `thread_local` as its users do, and tests of the program `tls`.
+//! Examples that use `thread_local` as its users do, with their tests.
 #![tactic(auto)]
 
 #[cfg(test)]
 mod cached;
 #[cfg(test)]
+mod counting;
+#[cfg(test)]
 mod errors;
 pub mod examples;
-#[cfg(test)]
-mod moves;
 #[cfg(test)]
 mod padded;
 #[cfg(test)]
 mod pool;
 #[cfg(test)]
-mod run;
-#[cfg(test)]
 mod scratch;
-#[cfg(test)]
-mod tally;
 #[cfg(test)]
 mod written_rule;

@@ -1,11 +1,21 @@
 //! The program `tls`, with both commands: it passes on its arguments, its streams and the tally of
-//! `thread_local_tally`.
+//! its workers, which add up numbers in a table, each in a cell of its own.
 #![tactic(auto)]
+
+mod gate;
+#[cfg(test)]
+mod moves_tests;
+#[cfg(test)]
+mod run_tests;
+#[cfg(test)]
+mod tally_tests;
+mod workers;
 
 ghost use Rattle.thread_local_tls.specs.Limits.{IsWithinLimits};
 
+use crate::gate::Open;
+use crate::workers::tally;
 use std::process::ExitCode;
-use thread_local_tally::{Open, tally};
 use thread_local_thread_id::LocalError;
 use thread_local_tls::{read_arguments, run};
 

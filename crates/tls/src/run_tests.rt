@@ -1,6 +1,8 @@
 //! The program's answers: what it writes, and its status.
 ghost use Rattle.thread_local_tls.specs.Limits.{IsWithinLimits};
 
+use crate::gate::Open;
+use crate::workers::tally;
 use std::alloc::{AllocError, Global};
 use std::io;
 use std::io::Write;
@@ -8,7 +10,6 @@ use std::process::Abort;
 use std::sync::Wait;
 use std::test::Fail;
 use std::thread::Threads;
-use thread_local_tally::{Open, tally};
 use thread_local_thread_id::LocalError;
 use thread_local_tls::run;
 

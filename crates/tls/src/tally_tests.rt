@@ -1,14 +1,10 @@
 //! Workers that add at the same time.
 
-use crate::examples::{count, total};
-use std::cell::Cell;
+use crate::gate::Gate;
+use crate::workers::tally;
 use std::sync::atomic::Ordering::SeqCst;
 use std::sync::atomic::{AtomicBool, AtomicU64};
 use std::test::Fail;
-use std::thread;
-use thread_local::ThreadLocal;
-use thread_local::table::Judge;
-use thread_local_tally::{Gate, tally};
 use thread_local_test_helpers::marks::is_seen;
 
 /// A gate at which each of two workers waits for the other.
@@ -64,20 +60,5 @@ fn each_worker_passes_the_gate_once(rt: HostRuntime) -> Result<(), Fail> {
     };
     let sum = tally(&rt, rt.alloc(), 5, 10, &gate);
     assert_eq!(rt; (sum, gate.passed.load(SeqCst)), (Ok(55), 0b11111));
-    Ok(())
-}
-
-#[test]
-fn five_threads_count_to_five(rt: HostRuntime) -> Result<(), Fail> {
-    Cell::<u64>::judge();
-    let counters = ThreadLocal::new(rt.alloc());
-    let shared = &counters;
-    let handle = &rt;
-    thread::scope(thread::scope_env(), &rt, |scope| {
-        for _ in 0..5 {
-            let _started = scope.spawn(move || count(shared, handle, 1)).is_ok();
-        }
-    });
-    assert_eq!(rt; total(counters), 5);
     Ok(())
 }
