@@ -1,6 +1,5 @@
-//! Tests of the table that threads share, of its `Local`s, of the walks over it, and of what holds
-//! when things go wrong: memory is refused, `Local`s and walks are forgotten, threads race, and
-//! programs are a line away from ones that must not compile.
+//! Tests of the table that threads share: of its `Local`s, its owner's calls, its tokens, and the
+//! walks over it.
 #![tactic(auto)]
 
 #[cfg(test)]
@@ -12,31 +11,19 @@ mod drops;
 #[cfg(test)]
 mod forgotten;
 #[cfg(test)]
-mod freed;
-#[cfg(test)]
 mod held;
 #[cfg(test)]
 mod ids;
 #[cfg(test)]
 mod judged;
 #[cfg(test)]
-mod left_behind;
-#[cfg(test)]
 mod locals;
-#[cfg(test)]
-mod misuse;
 #[cfg(test)]
 mod numbers;
 #[cfg(test)]
 mod owners;
 #[cfg(test)]
 mod printed;
-#[cfg(test)]
-mod races;
-#[cfg(test)]
-mod racing_walks;
-#[cfg(test)]
-mod refusals;
 #[cfg(test)]
 mod refused;
 #[cfg(test)]

@@ -9,7 +9,7 @@ use std::thread;
 use std::thread::Threads;
 use thread_local::ThreadLocal;
 use thread_local::local::Local;
-use thread_local_test_helpers::marks::is_seen;
+use thread_local_test_helpers::signals::is_seen;
 
 /// What `get`, `get_or` and `get` answer, where the closure answers how often it was called before.
 fn found_made_found<R: Wait>(

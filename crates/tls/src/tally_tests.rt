@@ -5,7 +5,7 @@ use crate::workers::tally;
 use std::sync::atomic::Ordering::SeqCst;
 use std::sync::atomic::{AtomicBool, AtomicU64};
 use std::test::Fail;
-use thread_local_test_helpers::marks::is_seen;
+use thread_local_test_helpers::signals::is_seen;
 
 /// A gate at which each of two workers waits for the other.
 #[derive(Drop)]

@@ -9,7 +9,7 @@ use std::thread;
 use std::thread::{Threads, yield_now};
 use thread_local::ThreadLocal;
 use thread_local::local::Local;
-use thread_local_test_helpers::marks::LOOKS;
+use thread_local_test_helpers::signals::LOOKS;
 use thread_local_thread_id::LocalError;
 
 /// How many walks are made beside a race at most.

@@ -1,0 +1,16 @@
+//! Tests of what holds when things go wrong: memory is refused, `Local`s and walks are forgotten,
+//! threads race, and programs are a line away from ones that must not compile.
+#![tactic(auto)]
+
+#[cfg(test)]
+mod freed;
+#[cfg(test)]
+mod left_behind;
+#[cfg(test)]
+mod misuse;
+#[cfg(test)]
+mod races;
+#[cfg(test)]
+mod racing_walks;
+#[cfg(test)]
+mod refusals;
