@@ -7,7 +7,7 @@ ghost use Rattle.thread_local_blocks.specs.Slots.{empty_slots, flag_word_at};
 ghost use Rattle.thread_local_claim.specs.Known.{HasLooked};
 
 use crate::claimed::ClaimedSlot;
-use core::mem::replace_with;
+use crate::replaced::replace_with;
 use std::alloc::Global;
 use std::marker::Model;
 use thread_local_blocks::{Block, flag_word_at};

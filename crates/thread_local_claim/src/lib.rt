@@ -3,5 +3,7 @@
 
 pub mod claim;
 mod claimed;
+mod replaced;
 
 pub use claim::Claim;
+pub use replaced::replace_with;

@@ -7,13 +7,13 @@ use base.Logic.{SProp, ent, sep, ex, emp, upd_i}
 use base.Fml.{Share, Fml, ftrue, fsep, flft, fbor}
 use prog.Atomic.{either}
 use types.Logic.{Logic, sem}
-use types.Kit.{‵, rewrite, use0, use2, ◌$◌, ◌∵◌, !, qed, move, keep, drop, fsplit, fjoin, fpick, fpack, show, each, assume, suffices, frame, use1, done}
+use types.Kit.{‵, rewrite, use0, use2, ◌$◌, ◌∵◌, !, qed, move, keep, drop, fsplit, fjoin, fpick, fpack, show, assume, suffices, frame, use1, done}
 use denote.RattleType.{RattleType}
 use denote.Steps.{nothing}
 use denote.RawPtr.{block_ptr}
 use Rattle.std.specs.Sync.RawAtomic.{word, asks, always}
 use Rattle.thread_local_ids.specs.Locking.{LockTurn, with_word, lock_invariant}
-use Rattle.core.proofs.raw_atomic.Asked.{Again, Lies, borrowed}
+use Rattle.thread_local_lemmas.proofs.Opened.{Lies, opened}
 
 module _ {M : Type 1} {𝓤 : Ura M} (𝓛 : Logic 𝓤) (R : RattleType) (ok : R.Denot → Type 0) (b o : ℕ) (t : LockTurn) (q : Share) where
   open 𝓛 use {A}
@@ -46,9 +46,9 @@ module _ {M : Type 1} {𝓤 : Ura M} (𝓛 : Logic 𝓤) (R : RattleType) (ok : 
   -- a step that writes f n over the word n, and gains `after n`
   stepped : (f : ℕ → ℕ) (after : ℕ → Fml) (X : Fml) → ((n : ℕ) → ent 𝓤 (sep 𝓤 (sem 𝓛 (With n)) (sem 𝓛 X)) (sem 𝓛 (fsep (With (f n)) (after n))))
       → ent 𝓤 (sep 𝓤 (A.inv (fbor t.0 I)) (sep 𝓤 (A.lft t.0 q) (sem 𝓛 X))) (asks 𝓛 (block_ptr b (o + 0)) f always (λ n. fsep (flft t.0 q) (after n)))
-  stepped f after X h = let L : ℕ → Pr = Lies 𝓛 t.0 q I b (o + 0) f always after in borrowed 𝓛 t.0 q I b (o + 0) f always after (sem 𝓛 X) (qed 𝓛 (‵ I ∷ ‵ X ∷ []) ∵ suffices ! _ (upd_i 𝓤 (ex 𝓤 L)) $ fpick ! (λ n. fsplit ! $
-      show ! L n $ frame ! $ each ! (λ (_ : always n). Again 𝓛 t.0 q I b (o + 0) f always after n) (λ _. assume ! (‵ (word b (o + 0) (f n))) $ suffices ! _ (upd_i 𝓤 (sep 𝓤 (sem 𝓛 I) (sem 𝓛 (after n)))) $ move ! (1 ∷ 2 ∷ []) $ use2 𝓛 (‵ (fsep (With (f n)) (after n))) (h n) $ fsplit ! $ move ! (2 ∷ 0 ∷ []) $ fjoin ! $
-      fpack ! ℕ (λ m. fsep (word b (o + 0) m) (With m)) (f n) $ done !)))
+  stepped f after X h = let L : ℕ → Pr = Lies 𝓛 t.0 q I b (o + 0) f after in opened 𝓛 t.0 q I b (o + 0) f after (sem 𝓛 X) (qed 𝓛 (‵ I ∷ ‵ X ∷ []) ∵ suffices ! _ (upd_i 𝓤 (ex 𝓤 L)) $ fpick ! (λ n. fsplit ! $
+      show ! L n $ frame ! $ assume ! (‵ (word b (o + 0) (f n))) $ suffices ! _ (upd_i 𝓤 (sep 𝓤 (sem 𝓛 I) (sem 𝓛 (after n)))) $ move ! (1 ∷ 2 ∷ []) $ use2 𝓛 (‵ (fsep (With (f n)) (after n))) (h n) $ fsplit ! $ move ! (2 ∷ 0 ∷ []) $ fjoin ! $
+      fpack ! ℕ (λ m. fsep (word b (o + 0) m) (With m)) (f n) $ done !))
 
   pub exchanged : (old new : ℕ) → new ≢ 0 → ent 𝓤 (sep 𝓤 (A.inv (fbor t.0 I)) (sep 𝓤 (A.lft t.0 q) (sem 𝓛 ftrue))) (asks 𝓛 (block_ptr b (o + 0)) (λ n. either (eqb n old) new n) always (λ n. fsep (flft t.0 q) (gained old n)))
   exchanged old zero free = absurd (free refl)

@@ -3,3 +3,5 @@ pub mod Names
 pub mod Pairs
 pub mod Word
 pub mod Words
+pub mod Opened
+pub mod Pointers

@@ -18,7 +18,7 @@ use Rattle.thread_local_lemmas.specs.Fact.{fact}
 use Rattle.thread_local_tokens.specs.Told.{untold_in, tells}
 use Rattle.thread_local_tokens.proofs.ToldElements.{telling_alike}
 use Rattle.thread_local_shared_bucket.specs.Shared.{BucketView, Turn, StandingBlock, block_code, Sized, len, first, all_unborn, standing, beside_pointer, bucket_invariant, loaded}
-use Rattle.core.proofs.raw_atomic.Asked.{PtrLies, borrowed_ptr}
+use Rattle.thread_local_lemmas.proofs.Pointers.{Lies, opened}
 
 module _ {M : Type 1} {𝓤 : Ura M} (𝓛 : Logic 𝓤) (R : RattleType) (sharing : Option GName) (named : IsSome sharing) (table : ℕ) (t : Turn) (x : R.Denot) (Z : SProp 𝓤) where
   -- nothing is told of the id of a slot that has no block yet
@@ -84,7 +84,7 @@ module _ {M : Type 1} {𝓤 : Ura M} (𝓛 : Logic 𝓤) (R : RattleType) (d : B
         fpack ! (StandingBlock × Share) (standing R d t p) (z.0, left z.1) $ frame ! $ fpack ! (StandingBlock × Share) (part p) (z.0, right z.1) $ move ! (1 ∷ []) $ use1 𝓛 (‵ also) at_block $ move ! (1 ∷ 0 ∷ []) $ fjoin ! $ done !)
 
     pub reads : A.inv (fbor t.life J) ∗ (A.lft t.life s ∗ X) ⊢ asks_ptr 𝓛 (block_ptr b o) (λ p. p) (λ p. fsep (flft t.life s) (glimpse none also p))
-    reads = let F : Ptr → Pr = PtrLies 𝓛 t.life s J b o Ptr (λ p. p) (λ p. p) (λ _. ftrue) (glimpse none also) in
-        borrowed_ptr 𝓛 t.life s J b o Ptr (λ p. p) (λ p. p) (λ _. ftrue) (glimpse none also) X (qed 𝓛 (‵ J ∷ raw X ∷ []) ∵ suffices ! _ (upd_i 𝓤 (ex 𝓤 F)) $ fpick ! (λ p. fsplit ! $ show ! F p $ frame ! $ nothing ! $ frame ! $
+    reads = let F : Ptr → Pr = Lies 𝓛 t.life s J b o Ptr (λ p. p) (λ p. p) (λ _. ftrue) (glimpse none also) in
+        opened 𝓛 t.life s J b o Ptr (λ p. p) (λ p. p) (λ _. ftrue) (glimpse none also) X (qed 𝓛 (‵ J ∷ raw X ∷ []) ∵ suffices ! _ (upd_i 𝓤 (ex 𝓤 F)) $ fpick ! (λ p. fsplit ! $ show ! F p $ frame ! $ nothing ! $ frame ! $
         assume ! (‵ (cell b o p)) $ suffices ! _ (upd_i 𝓤 (⟦ J ⟧ ∗ ⟦ glimpse none also p ⟧)) $ move ! (1 ∷ 2 ∷ []) $ use2 𝓛 (‵ (beside_pointer R d t p) ⊛ ‵ (glimpse none also p)) (peek p) $ split ! $
         move ! (2 ∷ 0 ∷ []) $ fjoin ! $ fpack ! Ptr (λ u. fsep (cell b o u) (beside_pointer R d t u)) p $ done !))

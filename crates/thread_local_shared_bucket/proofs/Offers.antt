@@ -30,7 +30,7 @@ use Rattle.thread_local_lemmas.specs.Bits.{is_set_in}
 use Rattle.thread_local_blocks.specs.Slots.{each, chunks, AreFlags, flags_at, block_ty, value_offset, content_at, slot, flags, back, block_owns, empty_slots, slot_value, heap_token, Fits}
 use Rattle.thread_local_shared_bucket.specs.Shared.{BucketView, Turn, StandingBlock, Who, free, early, block_code, value_code, tracked_value, age, holds, had, shared_slot_as, numbered_slot, AreFlagWords, slots_under, slots_stand, block_stands, waiting, all_unborn, Sized, len, first, standing, beside_pointer, bucket_invariant}
 use Rattle.thread_local_tokens.specs.Told.{untold_in}
-use Rattle.core.proofs.raw_atomic.Asked.{Compared, borrowed_compares, alike_null}
+use Rattle.thread_local_lemmas.proofs.Pointers.{Compared, opened_to_compare, alike_null}
 use Rattle.thread_local_shared_bucket.proofs.Loads.{part, glimpse, parted}
 
 -- who has a slot that is born: the claim that took its pass before, or nobody
@@ -234,4 +234,4 @@ module _ {M : Type 1} {𝓤 : Ura M} (𝓛 : Logic 𝓤) (R : RattleType) (t : T
           fpack ! (StandingBlock × Share) (part 𝓛 R d t p) (z.0, right z.1) $ nothing ! $ move ! (1 ∷ 0 ∷ []) $ fjoin ! $ move ! (1 ∷ 0 ∷ []) $ fjoin ! $ done !))
 
       pub offers : A.inv (fbor t.life J) ∗ (A.lft t.life q ∗ ⟦ private new s ⟧) ⊢ compares 𝓛 (block_ptr b o) null_ptr new (λ p. fsep (flft t.life q) (won p)) (λ p. fsep (flft t.life q) (lost p))
-      offers = borrowed_compares 𝓛 t.life q J b o null_ptr new won lost ⟦ private new s ⟧ (qed 𝓛 (‵ J ∷ ‵ (private new s) ∷ []) ∵ suffices ! _ (upd_i 𝓤 (ex 𝓤 F)) $ fpick ! (λ p. fsplit ! $ by ! (found p)))
+      offers = opened_to_compare 𝓛 t.life q J b o null_ptr new won lost ⟦ private new s ⟧ (qed 𝓛 (‵ J ∷ ‵ (private new s) ∷ []) ∵ suffices ! _ (upd_i 𝓤 (ex 𝓤 F)) $ fpick ! (λ p. fsplit ! $ by ! (found p)))

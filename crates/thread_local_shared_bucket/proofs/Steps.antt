@@ -5,12 +5,13 @@ use seplogic.Ra.Ura.{Ura}
 use base.Logic.{SProp, ent, sep, wand, ex, all, all_e, guard, upd, upd_i, via, apply∗}
 use base.Fml.{GName, Share, Fml, ftrue, fsep, fres, fbor, flft, flent}
 use types.Logic.{Logic, sem}
-use types.Kit.{settle, ‵, raw, ◌⊛◌, given, some, show, each, frame, assume, suffices, ◌$◌, ◌∵◌, !, qed, move, drop, split, split3, pick, fsplit, fsplit3, fjoin, fpick, fpack, join, group, learn, use1, use2, use3, done}
+use types.Kit.{settle, ‵, raw, ◌⊛◌, given, some, show, frame, assume, suffices, ◌$◌, ◌∵◌, !, qed, move, drop, split, split3, pick, fsplit, fsplit3, fjoin, fpick, fpack, join, group, learn, use1, use2, use3, done}
 use denote.RattleType.{RattleType}
 use denote.RawPtr.{block_ptr, block_of, count_of}
 use denote.Steps.{nothing}
 use Rattle.std.specs.Sync.RawAtomic.{asks, always}
-use Rattle.core.proofs.raw_atomic.Asked.{Again, Lies, borrowed}
+use Rattle.thread_local_lemmas.proofs.Opened.{Lies}
+use Rattle.thread_local_lemmas.proofs.Opened as bucket_opened
 use Rattle.thread_local_lemmas.specs.Bits.{is_set, IsWordBut}
 use Rattle.thread_local_lemmas.proofs.Word.{same_bit}
 use Rattle.thread_local_blocks.specs.Slots.{word_offset, value_offset}
@@ -100,17 +101,17 @@ module _ {M : Type 1} {𝓤 : Ura M} (𝓛 : Logic 𝓤) (R : RattleType) (d : B
 
     pub stepped_by : (X : Fml) → ((n : ℕ) → n < 2 ^ 64 → (v : Option R.Denot) (w : Who) → is_set n (i % 64) ≡ is_some v → ⟦ Stays v ⟧ ∗ ⟦ Had v w ⟧ ∗ ⟦ X ⟧ ⊢ upd 𝓤 (ex 𝓤 (Turned n v)))
         → A.inv (fbor t.life I) ∗ (A.lft t.life q ∗ (⟦ Which ⟧ ∗ ⟦ X ⟧)) ⊢ asks 𝓛 (block_ptr b (word_offset R (len R d) (count_of s.at) (i / 64))) f always (λ n. fsep (flft t.life q) (after n))
-    stepped_by X law = let o : ℕ = word_offset R (len R d) (count_of s.at) (i / 64) in let L : ℕ → Pr = Lies 𝓛 t.life q I b o f always after in borrowed 𝓛 t.life q I b o f always after (⟦ Which ⟧ ∗ ⟦ X ⟧) (qed 𝓛 (‵ I ∷ (‵ Which ⊛ ‵ X) ∷ []) ∵ suffices ! _ (upd_i 𝓤 (ex 𝓤 L)) $
+    stepped_by X law = let o : ℕ = word_offset R (len R d) (count_of s.at) (i / 64) in let L : ℕ → Pr = Lies 𝓛 t.life q I b o f after in bucket_opened.opened 𝓛 t.life q I b o f after (⟦ Which ⟧ ∗ ⟦ X ⟧) (qed 𝓛 (‵ I ∷ (‵ Which ⊛ ‵ X) ∷ []) ∵ suffices ! _ (upd_i 𝓤 (ex 𝓤 L)) $
         move ! (1 ∷ []) $ split ! $ move ! (2 ∷ 0 ∷ []) $
         use2 𝓛 (some (λ (n : ℕ). given (n < 2 ^ 64) (‵ (Flags n) ⊛ ‵ (Slot (is_set n (i % 64))) ⊛ raw (all 𝓤 (Back n))))) (slot_in 𝓛 R d t wb wo s i k e b low at_k at_e at_b) $ pick ! (λ n. learn ! (λ fits. split3 ! $
-        show ! L n $ frame ! $ each ! (λ (_ : always n). Again 𝓛 t.life q I b o f always after n) (λ _. assume ! (‵ (Flags (f n))) $ let Then : Pr = ⟦ I ⟧ ∗ ⟦ after n ⟧ in
+        show ! L n $ frame ! $ assume ! (‵ (Flags (f n))) $ let Then : Pr = ⟦ I ⟧ ∗ ⟦ after n ⟧ in
         move ! (1 ∷ []) $ fsplit ! $ move ! (1 ∷ []) $ fpick ! (λ z. fsplit3 ! $ fpick ! (λ told. drop ! $
         -- [what stays; who has it; the loan; the word; the way back; X]
         move ! (0 ∷ 1 ∷ 5 ∷ []) $ use3 𝓛 (raw (upd 𝓤 (ex 𝓤 (Turned n z.0)))) (law n fits z.0 z.1 told) $
         settle 𝓛 Then (some (λ (y : Option R.Denot × Who). given ((f n < 2 ^ 64) × IsWordBut (f n) n (i % 64) (is_some y.0)) (‵ (Stays y.0) ⊛ ‵ (Had y.0 y.1) ⊛ ‵ (after n)))) $ suffices ! _ (upd_i 𝓤 Then) $
         pick ! (λ y. learn ! (λ next. split3 ! $
         -- [what stays; who has it; what is gained; the loan; the word; the way back]
-        move ! (4 ∷ 3 ∷ 0 ∷ 1 ∷ 5 ∷ []) $ group ! 5 $ use1 𝓛 (‵ I) (again n (f n) y next.0 next.1) $ done !))))))))
+        move ! (4 ∷ 3 ∷ 0 ∷ 1 ∷ 5 ∷ []) $ group ! 5 $ use1 𝓛 (‵ I) (again n (f n) y next.0 next.1) $ done !)))))))
 
     -- such a step that needs no update of its own
     pub stepped : (X : Fml) → ((n : ℕ) → n < 2 ^ 64 → (v : Option R.Denot) (w : Who) → is_set n (i % 64) ≡ is_some v → ⟦ Stays v ⟧ ∗ ⟦ Had v w ⟧ ∗ ⟦ X ⟧ ⊢ ex 𝓤 (Turned n v))

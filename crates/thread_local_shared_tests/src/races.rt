@@ -8,8 +8,7 @@ use std::test::Fail;
 use std::thread;
 use std::thread::Threads;
 use thread_local_buckets::Buckets;
-use thread_local_ids::Ids;
-use thread_local_ids::Lock;
+use thread_local_ids::{Ids, Lock};
 use thread_local_shared_buckets::Shared;
 
 /// Shared buckets, and the lock over their ids.

@@ -6,10 +6,10 @@ use std::cell::{Cell, RefCell};
 use thread_local_blocks::flag_word_at;
 use thread_local_buckets::Buckets;
 use thread_local_judged::{Judge, judge_sync};
-use thread_local_tokens::Right;
 use thread_local_shared_bucket::{Row, SharedBucket};
 use thread_local_shared_buckets::Shared;
 use thread_local_thread_id::bucket_size;
+use thread_local_tokens::Right;
 
 fn crosses<X: Send + Sync>(_there: &X) {}
 
@@ -98,8 +98,11 @@ fn is_published(row: &Row<'_, String>, bucket: usize, index: usize) -> bool
     requires in_bucket { index < 2 ^ bucket }
 {
     judge_sync::<String>();
-    row.get(index, flag_word_at::<String>(bucket_size(bucket), index / 64))
-        .is_some()
+    row.get(
+        index,
+        flag_word_at::<String>(bucket_size(bucket), index / 64),
+    )
+    .is_some()
 }
 
 fn bucket_crosses(bucket: &SharedBucket<RefCell<String>>) {

@@ -1,0 +1,15 @@
+//! Tests of ids: their places and their manager, the rights to them, the lock over them.
+#![tactic(auto)]
+
+#[cfg(test)]
+mod ids;
+#[cfg(test)]
+mod lock;
+#[cfg(test)]
+mod manager;
+#[cfg(test)]
+mod moves;
+#[cfg(test)]
+mod place;
+#[cfg(test)]
+mod rights;
