@@ -232,9 +232,9 @@ impl<T: Sync> Shared<T> {
         requires named { IsSome self.now.sharing }
         ensures { result.now ≡ token.now.value }
     {
-        let thread = Thread::new(token.id());
-        self.bucket(thread.bucket)
-            .value(thread.index, token.witness())
+        let place = Thread::new(token.id());
+        self.bucket(place.bucket)
+            .value(place.index, token.witness())
     }
 }
 
