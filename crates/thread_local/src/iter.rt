@@ -2,9 +2,8 @@
 //! `IterMut` and `IntoIter` for its exclusive owner; `Entries`, `EntriesMut` and `IntoEntries` with
 //! ids; and `Drain`, which leaves the buckets.
 //!
-//! A crate that loops over `&table` or `&mut table` lists `thread_local` too, and one that
-//! loops over `&mut buckets` `thread_local_buckets`, since an impl for a reference is found only in
-//! a crate that is listed. `iter` and `iter_mut` need no more.
+//! A crate that loops over `&mut buckets` lists `thread_local_buckets` too, since an impl for a
+//! reference is found only in a crate that is listed. `iter_mut` of the buckets needs no more.
 
 pub use thread_local_buckets::{Drain, EntriesMut, IntoEntries, IntoIter, IterMut};
 pub use thread_local_shared_buckets::{Entries, Iter};

@@ -21,14 +21,16 @@ mod lends;
 /// Dropping it keeps the value and gives the id back, under the table's lock: that may wait, and
 /// takes no memory. A forgotten one keeps its id until the table is cleared.
 ///
-/// Each call is the seat's: none takes a lock, and only `set` and the `get_or` family (`get_or`,
-/// `get_or_default`, `get_or_try`, `try_fill`) take memory, for a bucket; the closure or the
+/// Each call is the seat's. None takes a lock. Only `set`, `publish` and the `get_or` family (`get_or`,
+/// `get_or_default`, `get_or_try`, `try_fill`) take memory, for a bucket. The closure or the
 /// `T::default` that these run may wait, and so may the drop of a closure that they don't run.
 /// References that calls answer live no longer than the borrow of the `Local`.
 ///
 /// Contracts see the table's name and its sharing, the id, the number of reserved slots, and what is
 /// known of the id's slot: its value, if there is one, and whether its bucket is known to stand.
-/// Rust's crate finds the running thread by itself, and has no such type.
+///
+/// Rust's crate finds the running thread by itself, and has no such type. Its table has `get` and the
+/// `get_or` family but `try_fill`; the other calls are the port's own.
 pub struct Local<'a, T, R: Wait> {
     rt: &'a R,
     seat: Seat<'a, T>,
@@ -85,7 +87,6 @@ impl<'a, T, R: Wait> Local<'a, T, R> {
     /// What the slot was published with, as a token, where it holds a value: whoever has the token
     /// reads that value through the table, for as long as the sharing lasts, and the owner finds it
     /// when the sharing ends. It reads what the `Local` knows already, without an atomic operation.
-    /// Rust's crate has no such call.
     pub fn token(&self) -> Option<Token<T>>
         ensures { result ≡ token_of self.now }
     {
@@ -93,7 +94,7 @@ impl<'a, T, R: Wait> Local<'a, T, R> {
     }
 
     /// Shows that the slot holds what a token of this id and this sharing says, whichever `Local`
-    /// had the id then. At run time it does nothing. Rust's crate has no such call.
+    /// had the id then. At run time it does nothing.
     pub fn agrees(&mut self, token: &Token<T>)
         requires id { self.old.id ≡ token.now.id }
         requires sharing { self.old.sharing ≡ token.now.sharing }
@@ -104,8 +105,7 @@ impl<'a, T, R: Wait> Local<'a, T, R> {
         self.seat.agrees(token);
     }
 
-    /// Shows that two `Local`s of one table have different ids. At run time it does nothing. Rust's
-    /// crate has no such call.
+    /// Shows that two `Local`s of one table have different ids. At run time it does nothing.
     pub fn apart<S: Wait>(&mut self, other: &mut Local<'_, T, S>)
         requires { self.old.table ≡ other.old.table }
         ensures ids { self.old.id ≢ other.old.id }
@@ -115,7 +115,7 @@ impl<'a, T, R: Wait> Local<'a, T, R> {
     }
 
     /// Whether the slot is one of the table's reserved slots. If so, the `get_or` family is never
-    /// refused memory. Rust's crate has no such call.
+    /// refused memory.
     pub fn is_reserved(&self) -> bool
         ensures reserved { result ≡ nat_lt self.now.id self.now.reserved }
         ensures known { result ≡ true → self.now.known ≡ true }
@@ -125,7 +125,7 @@ impl<'a, T, R: Wait> Local<'a, T, R> {
 
     /// Publishes a value that is at hand, where the slot is empty. `Occupied` gives it back where
     /// the slot holds one, and `Memory` where its bucket is missing and memory has run out. As
-    /// `OnceCell::set` of Rust; the Rust crate has no such call.
+    /// `OnceCell::set` of Rust.
     pub fn set(&mut self, value: T) -> Result<(), SetError<T>>
         ensures ok { OnOk result ((self.old.value ≡ None) × (self.new ≡ knowing self.old (holding value))) }
         ensures occupied { (given : T)
@@ -154,9 +154,9 @@ impl<'a, T, R: Wait> Local<'a, T, R> {
         self.seat.publish(value)
     }
 
-    /// Fills the slot as `get_or_try` does, without answering the value. Its clauses also say what
-    /// the `Local` knows afterwards. Those of `get_or_try` don't: a clause on what a call leaves
-    /// beside a reference can't speak of errors of any type. Rust's crate has no such call.
+    /// `get_or_try` without the value. Call it where the proof has to know what the `Local` knows
+    /// afterwards: only this one says that. A call can't say what it leaves where it answers a
+    /// reference beside an error of any type.
     pub fn try_fill<F: FnOnce() -> Result<T, E> + Drop, E>(
         &mut self,
         create: F,
@@ -197,8 +197,7 @@ impl<'a, T, R: Wait> Local<'a, T, R> {
 
 impl<'a, T: Sync, R: Wait> Local<'a, T, R> {
     /// The values of the table by ascending id, each lent as `&`, while others may publish more. A
-    /// walk that runs to its end gives the `Local`'s own value, where there is one. Rust's crate
-    /// has no such call.
+    /// walk that runs to its end gives the `Local`'s own value, where there is one.
     pub fn iter(&self) -> Iter<'_, T>
         ensures begins { result.cursor ≡ fresh_cursor }
         ensures own { result.own ≡ own_of self.now }

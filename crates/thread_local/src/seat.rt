@@ -39,11 +39,14 @@ pub enum SetError<T> {
     Memory(T),
 }
 
-/// An id of a table, and what is known of the id's slot. Each `Local` has one, and lends it. No
-/// call takes a lock, and only `set` and the `get_or` family (`get_or`, `get_or_default`,
-/// `get_or_try`, `try_fill`) take memory, for a bucket; the closure or the `T::default` that these
-/// run may wait, and so may the drop of a closure that they don't run. In Rust's crate the running
-/// thread is the seat.
+/// An id of a table, and what is known of the id's slot. Each `Local` has one, and lends it.
+///
+/// No call takes a lock. Only `set`, `publish` and the `get_or` family (`get_or`, `get_or_default`,
+/// `get_or_try`, `try_fill`) take memory, for a bucket. The closure or the `T::default` that these
+/// run may wait, and so may the drop of a closure that they don't run.
+///
+/// In Rust's crate the running thread is the seat. It has `get` and the `get_or` family but
+/// `try_fill`; the other calls are the port's own.
 pub struct Seat<'a, T> {
     table: &'a ThreadLocal<T>,
     claim: Claim<'a, T>,
@@ -114,7 +117,7 @@ impl<'a, T> Seat<'a, T> {
     }
 
     /// Whether the slot is one of the table's reserved slots. If so, the `get_or` family is never
-    /// refused memory. Rust's crate has no such call.
+    /// refused memory.
     pub fn is_reserved(&self) -> bool
         ensures reserved { result ≡ nat_lt self.now.id self.now.reserved }
         ensures known { result ≡ true → self.now.known ≡ true }
@@ -124,7 +127,7 @@ impl<'a, T> Seat<'a, T> {
     }
 
     /// What the slot was published with, as a token, where it holds a value. It reads what the seat
-    /// knows already, without an atomic operation. Rust's crate has no such call.
+    /// knows already, without an atomic operation.
     pub fn token(&self) -> Option<Token<T>>
         ensures { result ≡ token_of self.now }
     {
@@ -132,7 +135,7 @@ impl<'a, T> Seat<'a, T> {
     }
 
     /// Shows that the slot holds what a token of this id and this sharing says. At run time it does
-    /// nothing. Rust's crate has no such call.
+    /// nothing.
     pub fn agrees(&mut self, token: &Token<T>)
         requires id { self.old.id ≡ token.now.id }
         requires sharing { self.old.sharing ≡ token.now.sharing }
@@ -209,7 +212,7 @@ impl<'a, T> Seat<'a, T> {
 
     /// Publishes a value that is at hand, where the slot is empty. `Occupied` gives it back where
     /// the slot holds one, and `Memory` where its bucket is missing and memory has run out. As
-    /// `OnceCell::set` of Rust; the Rust crate has no such call.
+    /// `OnceCell::set` of Rust.
     pub fn set(&mut self, value: T) -> Result<(), SetError<T>>
         ensures ok { OnOk result ((self.old.value ≡ None) × (self.new ≡ knowing self.old (holding value))) }
         ensures occupied { (given : T)
@@ -260,9 +263,9 @@ impl<'a, T> Seat<'a, T> {
         }
     }
 
-    /// Fills the slot as `get_or_try` does, without answering the value. Its clauses also say what
-    /// the seat knows afterwards. Those of `get_or_try` don't: a clause on what a call leaves
-    /// beside a reference can't speak of errors of any type. Rust's crate has no such call.
+    /// `get_or_try` without the value. Call it where the proof has to know what the seat knows
+    /// afterwards: only this one says that. A call can't say what it leaves where it answers a
+    /// reference beside an error of any type.
     pub fn try_fill<F: FnOnce() -> Result<T, E> + Drop, E>(
         &mut self,
         create: F,
@@ -331,8 +334,7 @@ impl<'a, T> Seat<'a, T> {
 
 impl<'a, T: Sync> Seat<'a, T> {
     /// The values of the table by ascending id, each lent as `&`, while others may publish more. A
-    /// walk that runs to its end gives the seat's own value, where there is one. Rust's crate has
-    /// no such call.
+    /// walk that runs to its end gives the seat's own value, where there is one.
     pub fn iter(&self) -> Iter<'_, T>
         ensures begins { result.cursor ≡ fresh_cursor }
         ensures own { result.own ≡ own_of self.now }

@@ -42,6 +42,9 @@ mod lends;
 /// A bucket of 2^58 bytes or more, and values aligned above 16, are refused as if out of memory, here
 /// and by every `Local`.
 ///
+/// Of its calls Rust's crate has `new`, `with_capacity`, `clear`, `iter`, `iter_mut` and the loops over
+/// a table; there the table also has the calls of a `Local`. All others are the port's own.
+///
 /// Contracts see the table's name, the number of reserved slots, and the sharing, if that has a name.
 /// A sharing begins when the table is made, cleared or renewed, and lasts until an owner has the table
 /// alone. While it lasts, tokens (`Token`) say what slots were published with.
@@ -157,7 +160,7 @@ impl<T> ThreadLocal<T> {
         Ok(Local::new(rt, Seat::new(self, held, right)))
     }
 
-    /// How many slots the table's buckets have together. Rust's crate has no such call.
+    /// How many slots the table's buckets have together.
     pub fn slots(&mut self) -> usize
         ensures reserved { self.old.reserved ≤ result }
         ensures same { self.new ≡ self.old }
@@ -172,14 +175,14 @@ impl<T> ThreadLocal<T> {
     }
 
     /// `iter_mut`, with the id of each value: the walk `entries_mut` of the buckets that
-    /// `buckets_mut` lends. Rust's crate has no such call.
+    /// `buckets_mut` lends.
     pub fn entries_mut(&mut self) -> EntriesMut<'_, T> {
         self.buckets.owner().entries_mut()
     }
 
     /// Lends the value at an id for writing, or answers `None` where there is none: it is `get_mut`
     /// of the buckets that `buckets_mut` lends, whose contract says what it finds and what a write
-    /// changes. No `Local` has an id of 2^63 - 1 or more. Rust's crate has no such call.
+    /// changes. No `Local` has an id of 2^63 - 1 or more.
     pub fn get_mut(&mut self, id: usize) -> Option<&mut T>
         ensures out_of_range { 2 ^ 63 - 1 ≤ id → IsNone result }
     {
@@ -190,7 +193,7 @@ impl<T> ThreadLocal<T> {
     }
 
     /// The buckets by value. Of what is in them the number of reserved slots is known, and the
-    /// calls of `Buckets` say what they find. The ids are dropped. Rust's crate has no such call.
+    /// calls of `Buckets` say what they find. The ids are dropped.
     pub fn into_buckets(self) -> Buckets<T>
         ensures { result.reserved ≡ self.reserved }
     {
@@ -198,14 +201,14 @@ impl<T> ThreadLocal<T> {
     }
 
     /// The values by ascending id, each moved out with its id: the walk `into_entries` of the
-    /// buckets that `into_buckets` gives. Rust's crate has no such call.
+    /// buckets that `into_buckets` gives.
     pub fn into_entries(self) -> IntoEntries<T> {
         self.into_buckets().into_entries()
     }
 
-    /// The buckets by value, and what the slots were published with in the sharing that ends:
-    /// the book tells of each token of this sharing that its value is there, at its id. The ids are
-    /// dropped. Rust's crate has no such call.
+    /// The buckets by value, and what the slots were published with in the sharing that ends: the
+    /// book tells of each token of this sharing that its value is there, at its id. The ids are
+    /// dropped.
     pub fn into_buckets_and_book(self) -> (Buckets<T>, Book<T>)
         ensures reserved { result.0.reserved ≡ self.reserved }
         ensures sharing { result.1.sharing ≡ self.sharing }
@@ -221,7 +224,7 @@ impl<T> ThreadLocal<T> {
     }
 
     /// Begins another sharing of the same buckets, with a name: an owner who has the table alone
-    /// ends the one before. Ids and values stay. Rust's crate has no such call.
+    /// ends the one before. Ids and values stay.
     pub fn renew(&mut self)
         ensures table { self.new.table ≡ self.old.table }
         ensures sharing { IsSome self.new.sharing × (self.new.sharing ≢ self.old.sharing) }
@@ -281,7 +284,7 @@ impl<T: Sync> ThreadLocal<T> {
         Iter::new(&self.buckets)
     }
 
-    /// `iter`, with the id of each value: which worker's each is. Rust's crate has no such call.
+    /// `iter`, with the id of each value: which worker's each is.
     pub fn entries(&self) -> Entries<'_, T>
         ensures { result ≡ fresh None true }
     {
@@ -289,7 +292,7 @@ impl<T: Sync> ThreadLocal<T> {
     }
 
     /// `iter`, which gives what a token says: a walk that runs to its end gives this value, at its
-    /// id. Rust's crate has no such call.
+    /// id.
     pub fn iter_with(&self, token: &Token<T>) -> Iter<'_, T>
         requires sharing { token.now.sharing ≡ self.now.sharing }
         requires named { IsSome self.now.sharing }
@@ -302,7 +305,7 @@ impl<T: Sync> ThreadLocal<T> {
     }
 
     /// The value that a token's slot was published with. It can't fail, and is one atomic load, of
-    /// the bucket's pointer. Rust's crate has no such call.
+    /// the bucket's pointer.
     pub fn value<'a>(&'a self, token: &Token<T>) -> &'a T
         requires sharing { token.now.sharing ≡ self.now.sharing }
         requires named { IsSome self.now.sharing }

@@ -251,7 +251,7 @@ impl<T> Buckets<T> {
     /// memory for the next values at the same ids. It begins with a count of the values.
     ///
     /// Dropping the walk drops the values still to come. A forgotten one leaves these in the
-    /// buckets. Rust's crate has no such call.
+    /// buckets.
     pub fn drain(&mut self) -> Drain<'_, T>
     where
         T: Drop,

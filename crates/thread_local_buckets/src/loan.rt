@@ -36,7 +36,7 @@ pub struct Loan<'a, T> {
     pub ghost contents: { Contents T } by { contents_coded T.code },
     /// The id after the last one whose value was given.
     pub ghost given: { ℕ },
-    /// The bucket of the chunk that was entered last, no bucket of the table where none was.
+    /// The bucket of the chunk that was entered last. Before the first it is 63, the number of no bucket.
     pub ghost bucket: { ℕ },
     /// The index of this chunk's first slot.
     pub ghost first: { ℕ },

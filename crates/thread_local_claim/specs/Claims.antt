@@ -59,7 +59,9 @@ module _ (R : RattleType) where
     abbrev pub has_slot : Option R.Denot → StandingBlock → Fml
     has_slot v s = fsep (fact (c.at ≡ value_at s.at c.index)) (fsep (loaded R d t s β) (holds R t (block_of s.at) s.block_life d.sharing c.id (value_offset R (count_of s.at) c.index) (name_at s.names c.index) v))
 
-    -- what a claim has while it points to its bucket's pointer: the right or the pass, by the name
+    -- what a claim has before it has found its bucket: its address is that of the bucket's pointer, and
+    -- it owns one right. `name` says which: the table's, its right to the id; the pass, what it was
+    -- given for that right when it looked in vain
     abbrev pub has_no_slot : GName → Fml
     has_no_slot name = fsep (fact (c.at ≡ c.bucket)) (right_owns name c.id)
 

@@ -221,8 +221,8 @@ impl<'a, T> Claim<'a, T> {
 }
 
 impl<'a, T: Sync> Claim<'a, T> {
-    /// The value that the slot holds, for as long as the bucket is borrowed: it outlives the claim,
-    /// as what a walk finds in the slot does.
+    /// The value, or `None`, as `get` answers it. But this one may be used after the claim is gone, for
+    /// as long as the bucket is borrowed: a published value stays in its slot until then.
     pub fn lasting(&self) -> Option<&'a T>
         ensures { MatchOption result ((self.now.learnt ≡ Missing) ⊎ (self.now.learnt ≡ Vacant)) (λ x.
             self.now.learnt ≡ Holding x.now) }

@@ -11,7 +11,9 @@ pub fn judge_sync<T: Sync>()
     ensures judged { Judged T.row }
 {}
 
-/// As `judge_sync`, for an impl of `Judge`: `value` shows that the type has one.
+/// For an impl of `Judge` of a type that threads may share. It shows what `judge` of the impl has to
+/// show, which `judge_sync` does not: the second clause is true only of a type that has a value, and
+/// `value` is one.
 pub fn judge_value<T: Sync>(value: &T)
     ensures shareable { Shareable T.row }
     ensures judged { Judged T.row }
@@ -20,10 +22,11 @@ pub fn judge_value<T: Sync>(value: &T)
     let _ = value;
 }
 
-/// A type that has a value and shows the fact about itself: numbers, texts, times and atomics,
-/// cells, and containers and tuples of such types. Maps, `Arc`s and locks have it not, since their
-/// impl would ask what threads may share, which a trait's method isn't told; `judge_sync` serves
-/// them.
+/// A type for which the fact can be shown by `T::judge()`. Numbers, texts, times, atomics and cells
+/// have an impl, and so have containers and tuples of types that have one.
+///
+/// Maps, `Arc` and locks have none: their impl would need to know that threads may share their parts,
+/// and a trait's method isn't told that. Call `judge_sync` for them.
 pub trait Judge {
     /// Shows the fact, and shows it for every address of a value, as containers of the type need
     /// it.

@@ -1,10 +1,12 @@
 -- What threads share of a bucket: its pointer, null or to a block, and the slots of that block.
 --
--- Each time a bucket is shared it takes a turn: a life, which is the lifetime of the sharing, and
--- fresh names. For that life, one invariant holds the pointer with all slots. Its terms:
+-- A sharing is what contracts see of the time in which threads share a table: its name, or none. What
+-- one bucket has of that time is its turn, which no contract sees: a life, which is the lifetime of
+-- the sharing, and fresh names. For that life, one invariant holds the bucket's pointer with all
+-- slots. Its terms:
 --     a standing block    its address, a lifetime of its own beside the turn's life, and for each
 --                         slot a name that tracks the slot's value
---     tokens              each turn has three for every id, with one holder each:
+--     rights of a turn    three for every id, with one holder each:
 --                         pass      lies with the slot, unless a claim took it before the block
 --                                   stood, and laid down its right instead
 --                         vacant    lies with the slot once a value is published, and until then

@@ -29,8 +29,7 @@ impl<'a, T> Model for Entries<'a, T> {
 }
 
 impl<'a, T> Iter<'a, T> {
-    /// This walk, with the id of each value. It goes on where the walk is. Rust's crate has no such
-    /// call.
+    /// This walk, with the id of each value. It goes on where the walk is.
     pub fn with_ids(self) -> Entries<'a, T>
         ensures { result ≡ self.entry }
     {

@@ -197,8 +197,8 @@ impl<T> Shared<T> {
         self.parts().reserved
     }
 
-    /// How many slots the buckets have together that a look at each finds. It is an atomic load for
-    /// each of the 63.
+    /// How many slots the buckets have that stand. Each of the 63 pointers is loaded once, one after
+    /// another, so a bucket that is installed meanwhile may be counted or not.
     pub fn slots(&self) -> usize
         ensures reserved { self.now.reserved ≤ result }
     {

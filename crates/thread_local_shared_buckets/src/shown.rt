@@ -31,7 +31,7 @@ impl<'a, T: Sync> Shown<'a, T> {
 }
 
 impl<'a, T> Shown<'a, T> {
-    /// Hands out the fact that is shown.
+    /// Tells the proof of its caller that threads may share the values. At run time it does nothing.
     pub fn tell(&self)
         ensures shareable { Shareable T.row }
     {}

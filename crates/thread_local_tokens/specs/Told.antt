@@ -31,7 +31,8 @@ untold γ id = entry once γ id pending
 unfoldable pub told : GName → ℕ → Gv → Fml
 told γ id g = entry once γ id (shot g)
 
--- the same under a sharing that may have no name: then nothing is said
+-- the same for a sharing, which is seen as its name or none. Where it has no name nothing is told of
+-- its ids, so this asks for nothing
 abbrev pub untold_in : Option GName → ℕ → Fml
 untold_in None id = ftrue
 untold_in (Some γ) id = untold γ id

@@ -48,7 +48,8 @@ impl<T> Token<T> {
         self.id
     }
 
-    /// What shows it, for calls that need no id at run time.
+    /// The part of the token that proofs need. It takes no bytes, so a call that has the id already asks
+    /// for this part alone.
     pub fn witness(&self) -> &Witness<T>
         ensures id { (result.now.id ≡ self.now.id) × (result.now.sharing ≡ self.now.sharing) }
         ensures value { result.now.value ≡ self.now.value }

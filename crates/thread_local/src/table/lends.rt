@@ -13,8 +13,7 @@ use thread_local_buckets::{Buckets, Drain};
 
 impl<T> ThreadLocal<T> {
     /// The buckets, for the exclusive owner. Of what is in them the number of reserved slots is
-    /// known, and the calls of `Buckets` say what they find and what they change. Rust's crate has
-    /// no such call.
+    /// known, and the calls of `Buckets` say what they find and what they change.
     pub fn buckets_mut(&mut self) -> &mut Buckets<T>
         ensures* writes_back { sem 𝓛
             (follows (the_row T.row) (owner_row T.row) self.entry.ghost_name result.ghost_name
@@ -26,7 +25,7 @@ impl<T> ThreadLocal<T> {
 
     /// The values by ascending id, each moved out, while buckets and ids stay. It is the walk
     /// `drain` of the buckets that `buckets_mut` lends, whose contract says what it gives: of what
-    /// is in them the number of reserved slots is known. Rust's crate has no such call.
+    /// is in them the number of reserved slots is known.
     pub fn drain(&mut self) -> Drain<'_, T>
     where
         T: Drop,
