@@ -6,14 +6,14 @@ ghost use Rattle.std.specs.Iterator.SizeHint.{IsWithinCount};
 ghost use Rattle.thread_local_buckets.specs.IterMut.{iter_mut_rest};
 ghost use Rattle.thread_local_judged.specs.Judged.{Judged};
 
+use crate::local::Local;
+use crate::table::ThreadLocal;
 use std::alloc::Global;
 use std::default::MadeWith;
 use std::marker::Model;
 use std::sync::Wait;
 use thread_local_buckets::{IntoIter, IterMut};
 use thread_local_judged::Judge;
-use crate::local::Local;
-use crate::table::ThreadLocal;
 use thread_local_thread_id::LocalError;
 
 /// A table with fewer calls. Deprecated: use `ThreadLocal`. Each call is the table's: it waits,

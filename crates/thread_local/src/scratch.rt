@@ -1,13 +1,13 @@
 //! A pool of values that threads use one after another, as buffers of bytes.
 ghost use Rattle.std.specs.Prelude.{◌≡◌, true, [], IfOk};
 
+use crate::local::Local;
+use crate::table::ThreadLocal;
 use std::alloc::Global;
 use std::cell::Cell;
 use std::marker::Model;
 use std::sync::Wait;
 use thread_local_judged::Judge;
-use crate::local::Local;
-use crate::table::ThreadLocal;
 use thread_local_thread_id::LocalError;
 
 mod lends;

@@ -68,7 +68,11 @@ impl<'a, T> Model for Seat<'a, T> {
 /// where there still is none.
 #[cold]
 #[inline(never)]
-fn make_bucket<T>(alloc: &Global, claim: &mut Claim<'_, T>, thread: Thread) -> Result<(), AllocError>
+fn make_bucket<T>(
+    alloc: &Global,
+    claim: &mut Claim<'_, T>,
+    thread: Thread,
+) -> Result<(), AllocError>
     requires missing { claim.old.learnt ≡ Missing }
     requires place { IsPlaceOf thread.bucket thread.index claim.old.id }
     ensures same_slot { (claim.new.table ≡ claim.old.table)

@@ -18,10 +18,10 @@ use thread_local_buckets::{Buckets, EntriesMut, IntoEntries, IntoIter, IterMut};
 use thread_local_ids::{Ids, Lock};
 pub use thread_local_judged::{Judge, judge_sync, judge_value};
 use thread_local_shared_buckets::{Entries, Iter, Shared};
-use thread_local_tokens::Right;
-pub use thread_local_tokens::{Book, Token};
 use thread_local_thread_id::manager::IDS;
 use thread_local_thread_id::{LocalError, Thread};
+use thread_local_tokens::Right;
+pub use thread_local_tokens::{Book, Token};
 
 // `buckets_mut` and `drain` stand here.
 mod lends;

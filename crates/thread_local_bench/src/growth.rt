@@ -13,9 +13,8 @@ use std::sync::Wait;
 use std::thread::Threads;
 use std::time::{Clock, Instant};
 use std::{io, thread};
-use thread_local::Padded;
-use thread_local::ThreadLocal;
 use thread_local::local::Local;
+use thread_local::{Padded, ThreadLocal};
 
 /// How many values all walks of a measurement meet together, and how many are published.
 const VALUES: u32 = 1 << 20;

@@ -7,8 +7,7 @@ use std::sync::{Mutex, Wait};
 use std::thread::Threads;
 use std::time::{Clock, Instant};
 use std::{io, thread};
-use thread_local_ids::Ids;
-use thread_local_ids::Lock;
+use thread_local_ids::{Ids, Lock};
 use thread_local_thread_id::ThreadIdManager;
 
 /// Prints the times of `pairs` pairs, five times. Each of four threads does a fourth of them.

@@ -7,9 +7,9 @@ use std::cell::Cell;
 use std::io;
 use std::sync::Wait;
 use std::time::{Clock, Duration, Instant};
-use thread_local_judged::Judge;
 use thread_local::ThreadLocal;
 use thread_local::local::Local;
+use thread_local_judged::Judge;
 
 /// A `Local`, unless the call is refused.
 #[inline(always)]

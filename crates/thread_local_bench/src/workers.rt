@@ -7,9 +7,8 @@ use std::sync::Wait;
 use std::thread::Threads;
 use std::time::{Clock, Duration, Instant};
 use std::{io, thread};
-use thread_local::Padded;
+use thread_local::{Padded, ThreadLocal};
 use thread_local_judged::Judge;
-use thread_local::ThreadLocal;
 use thread_local_thread_id::LocalError;
 
 /// Adds each `workers`-th number below `end`, from the worker's own on, to the worker's counter,

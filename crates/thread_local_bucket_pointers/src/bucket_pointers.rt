@@ -167,8 +167,6 @@ impl<T> FlagSource for BucketPointers<T> {
         ensures table { IsTable self.old }
     {
         let flag_word = flag_word_at::<T>(bucket_size(bucket), chunk);
-        self.pointers
-            .pointer_mut(bucket)
-            .flags(chunk, flag_word)
+        self.pointers.pointer_mut(bucket).flags(chunk, flag_word)
     }
 }

@@ -11,10 +11,10 @@ ghost use Rattle.thread_local_buckets.specs.LendingValues.{LendsValues};
 ghost use Rattle.thread_local_buckets.specs.Entered.{IsEntered};
 
 use crate::buckets::Buckets;
+use crate::loan::Loan;
 use std::fmt;
 use std::iter::FusedIterator;
 use std::marker::Model;
-use crate::loan::Loan;
 use thread_local_cursor::OwnerCursor;
 
 /// The values of a table's buckets with their ids, by ascending id, each lent as `&mut`. Contracts

@@ -17,8 +17,8 @@ use std::sync::atomic::Ordering::SeqCst;
 use std::sync::atomic::raw;
 use std::sync::atomic::raw::ptr;
 use thread_local_blocks::Block;
-use thread_local_tokens::Right;
 use thread_local_shared_bucket::SharedBucket;
+use thread_local_tokens::Right;
 
 mod give_up;
 mod install;

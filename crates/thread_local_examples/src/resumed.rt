@@ -8,11 +8,7 @@ use thread_local::table::Token;
 use thread_local::thread_id::LocalError;
 
 /// Publishes how far a worker came, unless an earlier holder of its id has published, and ends.
-pub fn begin<R: Wait>(
-    steps: &ThreadLocal<u64>,
-    rt: &R,
-    step: u64,
-) -> Result<Token<u64>, LocalError>
+pub fn begin<R: Wait>(steps: &ThreadLocal<u64>, rt: &R, step: u64) -> Result<Token<u64>, LocalError>
     ensures { IfOk result (λ token. token.sharing ≡ steps.now.sharing) }
 {
     let mut local = steps.local(rt)?;

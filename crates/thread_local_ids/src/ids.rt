@@ -3,12 +3,12 @@ ghost use Rattle.std.specs.Prelude.{◌≡◌, ◌≢◌, ◌+◌, ◌-◌, ◌^
 ghost use Rattle.std.specs.Prelude.{alloc_error};
 ghost use Rattle.thread_local_model.specs.Held.{is_held, Takes, Gives, NeedsMemory, IsExhausted};
 
+use crate::lock::Fits;
 use std::alloc::{AllocError, Global};
 use std::marker::Model;
-use crate::lock::Fits;
-use thread_local_tokens::{HeldId, Right, Rights};
 use thread_local_thread_id::manager::IDS;
 use thread_local_thread_id::{LocalError, ThreadIdManager};
+use thread_local_tokens::{HeldId, Right, Rights};
 
 /// The mark of an id is the right to the number that lies so far beyond it, and beyond every id.
 const FIRST_MARK: usize = 1 << 63;

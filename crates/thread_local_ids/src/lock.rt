@@ -3,12 +3,12 @@
 ghost use Rattle.std.specs.Prelude.{◌≡◌, ◌≢◌, ℕ, ◌<◌, IfSome};
 ghost use Rattle.thread_local_ids.specs.Locking.{LockView, lock_coded, lock_owns, lock_shares, guard_owns, guard_shares, Fitting};
 
+use crate::word::exchange;
 use std::marker::{Brand, Model, Move, Owns, PhantomData};
 use std::sync::Wait;
 use std::sync::atomic::Ordering::SeqCst;
 use std::sync::atomic::raw;
 use std::thread;
-use crate::word::exchange;
 
 mod lends;
 

@@ -8,8 +8,7 @@ use std::sync::atomic::Ordering::SeqCst;
 use std::test::Fail;
 use std::thread;
 use std::thread::Threads;
-use thread_local_ids::Ids;
-use thread_local_ids::Lock;
+use thread_local_ids::{Ids, Lock};
 use thread_local_thread_id::LocalError;
 use thread_local_tokens::{HeldId, Right};
 

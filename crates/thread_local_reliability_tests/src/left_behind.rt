@@ -6,9 +6,9 @@ use std::sync::atomic::AtomicU64;
 use std::sync::atomic::Ordering::SeqCst;
 use std::sync::{Arc, Wait};
 use std::test::Fail;
-use thread_local_judged::judge_sync;
 use thread_local::ThreadLocal;
 use thread_local::local::Local;
+use thread_local_judged::judge_sync;
 use thread_local_test_helpers::counted::Counted;
 use thread_local_thread_id::LocalError;
 

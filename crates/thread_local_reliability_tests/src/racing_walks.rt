@@ -5,9 +5,9 @@ use std::sync::Wait;
 use std::test::Fail;
 use std::thread;
 use std::thread::Threads;
-use thread_local_shared_buckets::Iter;
 use thread_local::ThreadLocal;
 use thread_local::local::Local;
+use thread_local_shared_buckets::Iter;
 use thread_local_thread_id::Thread;
 
 /// How many `Local`s publish during a walk.

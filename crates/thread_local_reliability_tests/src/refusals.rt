@@ -8,9 +8,9 @@ use std::io::Print;
 use std::mem::forget;
 use std::sync::Wait;
 use std::test::Fail;
-use thread_local_buckets::{Buckets, CapacityError};
 use thread_local::ThreadLocal;
 use thread_local::local::{Local, SetError, TryError};
+use thread_local_buckets::{Buckets, CapacityError};
 use thread_local_thread_id::{LocalError, Thread};
 
 /// A call that publishes a value.

@@ -7,13 +7,13 @@ ghost use Rattle.thread_local_judged.specs.Judged.{Shareable};
 ghost use Rattle.thread_local_shared_buckets.specs.Positions.{owed};
 ghost use Rattle.thread_local_shared_buckets.specs.Walks.{WalkView, fresh, Goes, CanGo, ids_left};
 
+use crate::shared::Shared;
 use crate::shown::Shown;
 use crate::steps::{Own, advance};
 use std::fmt;
 use std::iter::FusedIterator;
 use std::marker::Model;
 use thread_local_cursor::RawIter;
-use crate::shared::Shared;
 use thread_local_thread_id::Thread;
 
 /// The values of shared buckets, by ascending id, each lent as `&`, while other threads may publish

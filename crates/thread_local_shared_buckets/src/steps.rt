@@ -5,10 +5,10 @@ ghost use Rattle.thread_local_judged.specs.Judged.{Shareable};
 ghost use Rattle.thread_local_cursor.specs.Cursor.{next_bucket};
 ghost use Rattle.thread_local_shared_buckets.specs.Positions.{past, at_index, search_end, lies_in, IsSharedWalk, YieldsFrom, EndsFrom};
 
+use crate::shared::Shared;
 use thread_local_blocks::flag_word_at;
 use thread_local_cursor::RawIter;
 use thread_local_shared_bucket::Row;
-use crate::shared::Shared;
 use thread_local_thread_id::{BUCKETS, Thread};
 
 /// The walker's own value, and the place of its id.

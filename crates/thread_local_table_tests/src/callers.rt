@@ -6,10 +6,10 @@ use std::alloc::{AllocError, Global};
 use std::cell::{Cell, RefCell};
 use std::default::MadeWith;
 use std::sync::Wait;
-use thread_local_judged::{Judge, judge_sync};
-use thread_local_shared_buckets::Iter;
 use thread_local::ThreadLocal;
 use thread_local::local::{Local, Seat, TryError};
+use thread_local_judged::{Judge, judge_sync};
+use thread_local_shared_buckets::Iter;
 
 fn crosses<X: Send + Sync>(_: &X) {}
 

@@ -5,8 +5,8 @@ use std::sync::atomic::AtomicU64;
 use std::sync::atomic::Ordering::SeqCst;
 use std::sync::{Arc, Wait};
 use std::test::Fail;
-use thread_local_judged::judge_sync;
 use thread_local::ThreadLocal;
+use thread_local_judged::judge_sync;
 use thread_local_test_helpers::counted::Counted;
 
 /// `Local`s that are held at once each publish a counted value, as many as are asked for. Answers

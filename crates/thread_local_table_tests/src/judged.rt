@@ -11,8 +11,8 @@ use std::sync::atomic::AtomicU64;
 use std::sync::atomic::Ordering::SeqCst;
 use std::test::Fail;
 use std::time::Duration;
-use thread_local_judged::{Judge, judge_value};
 use thread_local::ThreadLocal;
+use thread_local_judged::{Judge, judge_value};
 
 /// Publishes a value in a table of its own. Answers what the table has then.
 fn kept<T: Judge + Send + Drop, R: Wait>(alloc: Global, rt: &R, value: T) -> Option<T> {

@@ -8,8 +8,8 @@ use crate::forgotten::publish_and_forget;
 use crate::locals::{lends, published_by_another};
 use std::alloc::AllocError;
 use std::test::Fail;
-use thread_local_buckets::{Buckets, IterMut};
 use thread_local::ThreadLocal;
+use thread_local_buckets::{Buckets, IterMut};
 use thread_local_thread_id::Thread;
 
 /// How many values a walk lends, and their sum.

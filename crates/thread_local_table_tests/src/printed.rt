@@ -4,9 +4,9 @@ use crate::numbers::{publish_held, publishes};
 use std::alloc::Global;
 use std::sync::Wait;
 use std::test::Fail;
+use thread_local::ThreadLocal;
 use thread_local_buckets::{IntoIter, IterMut};
 use thread_local_shared_buckets::{Entries, Iter};
-use thread_local::ThreadLocal;
 
 /// Whether a walk is shown so.
 fn is_shown(walk: &Iter<'_, u32>, alloc: Global, shown: &str) -> bool {

@@ -8,9 +8,9 @@ use std::cell::Cell;
 use std::io::Print;
 use std::sync::Wait;
 use std::test::Fail;
-use thread_local_buckets::CapacityError;
 use thread_local::ThreadLocal;
 use thread_local::local::{Local, TryError};
+use thread_local_buckets::CapacityError;
 
 /// Which of four `Local`s that are held at once aren't refused memory when they publish.
 fn four_held_publish<R: Wait + Print>(

@@ -3,9 +3,9 @@
 use crate::numbers::publishes;
 use std::sync::Wait;
 use std::test::Fail;
-use thread_local_shared_buckets::{Entries, Iter};
 use thread_local::ThreadLocal;
 use thread_local::local::Local;
+use thread_local_shared_buckets::{Entries, Iter};
 
 /// Whether a walk gives these values and then none, and again none.
 fn gives(walk: Iter<'_, u32>, expected: &[u32]) -> bool {

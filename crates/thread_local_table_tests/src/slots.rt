@@ -4,8 +4,8 @@ use crate::locals::published;
 use std::alloc::Global;
 use std::sync::Wait;
 use std::test::Fail;
-use thread_local_buckets::CapacityError;
 use thread_local::ThreadLocal;
+use thread_local_buckets::CapacityError;
 
 /// `Local`s that are held at once each publish their number, as many as are asked for. Answers
 /// whether none was refused.

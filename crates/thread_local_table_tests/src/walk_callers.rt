@@ -2,11 +2,11 @@
 ghost use Rattle.std.specs.Prelude.{◌≡◌, true, Some};
 
 use std::sync::Wait;
+use thread_local::ThreadLocal;
+use thread_local::local::Local;
 use thread_local_buckets::{IntoIter, IterMut};
 use thread_local_judged::judge_sync;
 use thread_local_shared_buckets::{Entries, Iter};
-use thread_local::ThreadLocal;
-use thread_local::local::Local;
 
 fn is_sent<X: Send>(_: &X) {}
 

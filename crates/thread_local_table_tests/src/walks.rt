@@ -5,8 +5,8 @@ use std::sync::Wait;
 use std::test::Fail;
 use std::thread;
 use std::thread::Threads;
-use thread_local_buckets::{IntoIter, IterMut};
 use thread_local::ThreadLocal;
+use thread_local_buckets::{IntoIter, IterMut};
 use thread_local_thread_id::LocalError;
 
 /// Three `Local`s that were taken in order publish 1, 2 and 3, each in a thread of its own, which

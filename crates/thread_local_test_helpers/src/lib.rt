@@ -3,7 +3,6 @@
 #![tactic(auto)]
 
 pub mod counted;
-
 pub mod memory;
 pub mod refusing;
 pub mod signals;

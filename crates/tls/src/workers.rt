@@ -12,8 +12,8 @@ use std::ops::RangeInclusive;
 use std::sync::Wait;
 use std::thread;
 use std::thread::Threads;
-use thread_local_judged::Judge;
 use thread_local::ThreadLocal;
+use thread_local_judged::Judge;
 use thread_local_thread_id::LocalError;
 
 /// Adds up the numbers from 1 to `numbers` with `workers` workers, each a thread: worker w adds
