@@ -1,7 +1,10 @@
-//! Tests of what holds when things go wrong: memory is refused, `Local`s and walks are forgotten,
-//! threads race, and programs are a line away from ones that must not compile.
+//! Tests of what holds when things go wrong or many act at once: memory is refused, values are
+//! dropped, `Local`s and walks are forgotten, threads race, and programs are a line away from ones that
+//! must not compile.
 #![tactic(auto)]
 
+#[cfg(test)]
+mod drops;
 #[cfg(test)]
 mod freed;
 #[cfg(test)]

@@ -1,4 +1,5 @@
-//! Examples that use `thread_local` as its users do, with their tests.
+//! Examples that use `thread_local` as its users do, with their tests, and tests of the walks over a
+//! table and of what else the face has.
 #![tactic(auto)]
 
 #[cfg(test)]
@@ -9,10 +10,20 @@ mod counting;
 mod errors;
 pub mod examples;
 #[cfg(test)]
+mod numbers;
+#[cfg(test)]
 mod padded;
 #[cfg(test)]
 mod pool;
 #[cfg(test)]
+mod printed;
+#[cfg(test)]
 mod scratch;
+#[cfg(test)]
+mod shared_walks;
+#[cfg(test)]
+mod walk_callers;
+#[cfg(test)]
+mod walks;
 #[cfg(test)]
 mod written_rule;
