@@ -14,7 +14,8 @@ at : RattleType → ℕ → ℕ
 at R o = o + up (align (lone R.mir)) 56
 
 -- what is said of a `&` to a padded value is said of a `&` to the value in it
-of_value : (R : RattleType) (x : R.Denot) (b o : ℕ) (κ : Lft) → Keyless ((the_row R).shr_at x b o κ) → Keyless (R.shr_at x b (at R o) κ)
+of_value : (R : RattleType) (x : R.Denot) (b o : ℕ) (κ : Lft) → Keyless ((the_row R).shr_at x b o κ)
+    → Keyless (R.shr_at x b (at R o) κ)
 unfolding at
 of_value R x b o κ k = (k (record { before = replicate 7 0; value = x; after = replicate 8 0 }, (refl, tt))).0.0.1.0
 

@@ -14,7 +14,9 @@ first_below : (id n : ℕ) → id < n → id_at (bucket_of id) 0 < n
 first_below id n below = let same = id_at-place id in omega arith
 
 -- a held id and the claim that its table answers make a seat
-pub seated : {V : Type 0} (table : TableView) (claim : ClaimView V) (id : ℕ) → claim.table ≡ table.table → claim.sharing ≡ table.sharing → claim.id ≡ id → id < 2 ^ 63 - 1 → HasLooked claim.learnt
+pub seated : {V : Type 0} (table : TableView) (claim : ClaimView V) (id : ℕ)
+    → claim.table ≡ table.table → claim.sharing ≡ table.sharing → claim.id ≡ id → id < 2 ^ 63 - 1
+    → HasLooked claim.learnt
     → (id_at (bucket_of id) 0 < table.reserved → claim.learnt ≢ Missing) → IsSeated table claim
 seated table claim id of shared same in_range known found =
     record {

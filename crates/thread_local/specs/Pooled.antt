@@ -10,7 +10,9 @@ pub record PooledView (V : Type 0) : Type 0 where
 
 -- an injective code of such views, for ghost state
 abbrev pub pooled_view_coded : {V : Type 0} → Coded V → Coded (PooledView V)
-pooled_view_coded {V} c = code_by (V × Bool) (coded× c coded_bool) (λ p. (p.value, p.is_new)) (λ p. record { value = p.0; is_new = p.1 }) (λ _. refl)
+pooled_view_coded {V} c =
+    code_by (V × Bool) (coded× c coded_bool) (λ p. (p.value, p.is_new))
+    (λ p. record { value = p.0; is_new = p.1 }) (λ _. refl)
 
 -- the view with another value
 abbrev pub with_pooled : {V : Type 0} → PooledView V → V → PooledView V

@@ -1,6 +1,7 @@
 -- What a contract sees of a `Local` and of its seat: the name of its table, the sharing if that has a
 -- name, its id, how many slots of the table are reserved, and what is known of the id's slot.
-use Rattle.std.specs.Prelude.{◌≡◌, ◌≢◌, ℕ, ◌<◌, ◌-◌, ◌^◌, Bool, true, false, Option, Some, None, option_map, Result, Ok, Err, refl}
+use Rattle.std.specs.Prelude.{◌≡◌, ◌≢◌, ℕ, ◌<◌, ◌-◌, ◌^◌, Bool, true, false, Option, Some, None, option_map, Result, Ok}
+use Rattle.std.specs.Prelude.{Err, refl}
 use base.Stored.{coded_bool}
 use Rattle.std.specs.Coded.{Coded, coded_option, coded_ℕ, coded×, code_by}
 use Rattle.thread_local_model.specs.Answers.{View, GetOr, Answered, Refused, Failed, Says, answer, view_of}
@@ -23,9 +24,20 @@ pub record LocalView (V : Type 0) : Type 0 where
 
 -- an injective code of such views, for ghost state
 abbrev pub local_view_coded : {V : Type 0} → Coded V → Coded (LocalView V)
-local_view_coded {V} c = code_by (ℕ × (Option ℕ × (ℕ × (ℕ × (Option V × Bool))))) (coded× coded_ℕ (coded× (coded_option coded_ℕ) (coded× coded_ℕ (coded× coded_ℕ (coded× (coded_option c) coded_bool)))))
+local_view_coded {V} c =
+    code_by (ℕ × (Option ℕ × (ℕ × (ℕ × (Option V × Bool)))))
+    (coded× coded_ℕ (coded× (coded_option coded_ℕ)
+    (coded× coded_ℕ (coded× coded_ℕ (coded× (coded_option c) coded_bool)))))
     (λ s. (s.table, (s.sharing, (s.id, (s.reserved, (s.value, s.known))))))
-    (λ p. record { table = p.0; sharing = p.1.0; id = p.1.1.0; reserved = p.1.1.1.0; value = p.1.1.1.1.0; known = p.1.1.1.1.1 }) (λ _. refl)
+    (λ p. record {
+      table = p.0;
+      sharing = p.1.0;
+      id = p.1.1.0;
+      reserved = p.1.1.1.0;
+      value = p.1.1.1.1.0;
+      known = p.1.1.1.1.1;
+    })
+    (λ _. refl)
 
 -- what is known of the slot
 abbrev pub knows : {V : Type 0} → LocalView V → View V
@@ -38,7 +50,14 @@ knowing s view = record { table = s.table; sharing = s.sharing; id = s.id; reser
 -- the view of a claim of a table's slot
 abbrev pub local_view : {V : Type 0} → TableView → ClaimView V → LocalView V
 local_view of claim =
-    record { table = of.table; sharing = of.sharing; id = claim.id; reserved = of.reserved; value = (view_of claim.learnt).value; known = (view_of claim.learnt).known }
+    record {
+      table = of.table;
+      sharing = of.sharing;
+      id = claim.id;
+      reserved = of.reserved;
+      value = (view_of claim.learnt).value;
+      known = (view_of claim.learnt).known;
+    }
 
 -- the own value that a walk has still to give, with its id
 abbrev pub own_of : {V : Type 0} → LocalView V → Option (Owed V)

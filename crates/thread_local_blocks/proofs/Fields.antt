@@ -1,5 +1,7 @@
 -- The data fields of a block. Assumes `Logic`.
-use Rattle.thread_local_lemmas.proofs.Names.{◌≡◌, ℕ, T, List, [], ◌∷◌, ◌++◌, refl, ap, ◌∙◌, arith, lit<, Ura, tcons, tnil, ty_ptr, ty_struct, Val, vstruct, vcons, vnil, of_list, has_ty, WT, ent, emp, Logic, sem, RattleType, Is, Ptr, block_ptr, null_ptr, ptr_val}
+use Rattle.thread_local_lemmas.proofs.Names.{◌≡◌, ℕ, T, List, [], ◌∷◌, ◌++◌, refl, ap, ◌∙◌, arith, lit<, Ura, tcons}
+use Rattle.thread_local_lemmas.proofs.Names.{tnil, ty_ptr, ty_struct, Val, vstruct, vcons, vnil, of_list, has_ty, WT}
+use Rattle.thread_local_lemmas.proofs.Names.{ent, emp, Logic, sem, RattleType, Is, Ptr, block_ptr, null_ptr, ptr_val}
 use prog.Memory.{capped, size, align}
 use prog.Capped.{capped_is}
 use prog.RawLaws.{size-raw, align-raw}
@@ -22,10 +24,17 @@ module _ (R Z : RattleType) (g : Ghosts Z.Denot) where
   FieldsType = Struct (shape (block.the_type R Z g))
 
   pub told : (p : Ptr) (vs : List Val) → Is FieldsType (p, (record {}, tt)) vs → vs ≡ block_val p ∷ []
-  told p vs is = is.1.0 ∙ ap (λ (ws : List Val). vstruct (of_list (ws ++ (is.0.1.0 ++ []))) ∷ []) is.1.1.0 ∙ ap (λ (ws : List Val). vstruct (of_list (ptr_val p ∷ (ws ++ []))) ∷ []) is.1.1.1.0.1.0
+  told p vs is =
+      is.1.0
+      ∙ ap (λ (ws : List Val). vstruct (of_list (ws ++ (is.0.1.0 ++ []))) ∷ []) is.1.1.0
+      ∙ ap (λ (ws : List Val). vstruct (of_list (ptr_val p ∷ (ws ++ []))) ∷ []) is.1.1.1.0.1.0
 
-  pub made : {M : Type 1} {𝓤 : Ura M} (𝓛 : Logic 𝓤) (p : Ptr) → ent 𝓤 (emp 𝓤) (sem 𝓛 (FieldsType.own_val (p, (record {}, tt)) (block_val p ∷ [])))
-  made 𝓛 p = makes_shadow 𝓛 (FieldsType.own_val (p, (record {}, tt)) (block_val p ∷ [])) (λ vss. (tt, (tt, ((λ uss. (tt, tt)), tt)))) ((ptr_val p ∷ [], (vstruct vnil ∷ [], tt)), (refl, (refl, ((tt, (refl, tt)), tt))))
+  pub made : {M : Type 1} {𝓤 : Ura M} (𝓛 : Logic 𝓤) (p : Ptr)
+      → ent 𝓤 (emp 𝓤) (sem 𝓛 (FieldsType.own_val (p, (record {}, tt)) (block_val p ∷ [])))
+  made 𝓛 p =
+      makes_shadow 𝓛 (FieldsType.own_val (p, (record {}, tt)) (block_val p ∷ []))
+      (λ vss. (tt, (tt, ((λ uss. (tt, tt)), tt))))
+      ((ptr_val p ∷ [], (vstruct vnil ∷ [], tt)), (refl, (refl, ((tt, (refl, tt)), tt))))
 
 pub block_size : (R : RattleType) (n : ℕ) → Fits R n → capped (size (block_ty R n)) ≡ size (slots_ty R n)
 block_size R n fits = ap capped (size-raw (slots_ty R n)) ∙ capped_is (size (slots_ty R n)) (omega arith)

@@ -15,11 +15,15 @@ rest (c ∷ cs) = cs
 -- words whose bits from `gone` on are the flags of the slots that are left; the bits before may be
 -- anything
 abbrev pub flags_left : (R : RattleType) → ℕ → ℕ → ℕ → List (Option R.Denot) → List ℕ → Fml
-flags_left R b o gone cs ns = fsep (fact ((length ns ≡ chunks (gone + length cs)) × AreWords ns × AreFlagsFrom gone ns cs)) (each (flags_at R (gone + length cs) b o) ns 0)
+flags_left R b o gone cs ns =
+    fsep (fact ((length ns ≡ chunks (gone + length cs)) × AreWords ns × AreFlagsFrom gone ns cs))
+    (each (flags_at R (gone + length cs) b o) ns 0)
 
 -- those words, room for the values of the first slots, the slots that are left, the way back to the
 -- block's room, and the right to free it
 abbrev pub retired_owns : (R : RattleType) → (Ty → Ptr → Fml) → Ptr → ℕ → List (Option R.Denot) → Fml
-retired_owns R token p gone cs = fsep (fact (InBlock p × Fits R (gone + length cs))) (fsep (fex (List ℕ) (flags_left R (block_of p) (count_of p) gone cs))
+retired_owns R token p gone cs =
+    fsep (fact (InBlock p × Fits R (gone + length cs))) (fsep
+    (fex (List ℕ) (flags_left R (block_of p) (count_of p) gone cs))
     (fsep (each (slot R (block_of p) (count_of p)) (empty_slots gone) 0) (fsep (each (slot R (block_of p) (count_of p)) cs gone)
     (fsep (back R (block_of p) (count_of p) (gone + length cs)) (token (block_ty R (gone + length cs)) p)))))

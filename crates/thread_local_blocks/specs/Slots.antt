@@ -7,7 +7,8 @@
 --
 -- Slots and chunks are numbered within their block: the flag of slot j is bit j % 64 of the word of
 -- chunk j / 64.
-use Rattle.std.specs.Prelude.{◌≡◌, ℕ, suc, ◌+◌, ◌*◌, ◌/◌, ◌%◌, ◌^◌, ◌<◌, List, [], ◌∷◌, length, replicate, Option, Some, None, is_some, slice_index, slice_index_or}
+use Rattle.std.specs.Prelude.{◌≡◌, ℕ, suc, ◌+◌, ◌*◌, ◌/◌, ◌%◌, ◌^◌, ◌<◌, List, [], ◌∷◌, length, replicate, Option, Some}
+use Rattle.std.specs.Prelude.{None, is_some, slice_index, slice_index_or}
 use base.Fraction.{full_share}
 use base.Fml.{Fml, ftrue, fsep, fex, fwand, froom}
 use mir.Syntax.{Ty, w64, ty_int, ty_array, ty_struct, tcons, tnil}
@@ -125,5 +126,8 @@ module _ (R : RattleType) where
   -- a block at a pointer: its slots, the words of all but the last `left` chunks, and the right to
   -- free it
   abbrev pub block_owns : (Ty → Ptr → Fml) → Ptr → List (Option R.Denot) → ℕ → Fml
-  block_owns token p slots left = fsep (fact (InBlock p × Fits (length slots))) (fsep (fex (List ℕ) (flags_own (block_of p) (count_of p) slots left))
-      (fsep (each (slot (block_of p) (count_of p)) slots 0) (fsep (back (block_of p) (count_of p) (length slots)) (token (block_ty (length slots)) p))))
+  block_owns token p slots left =
+      fsep (fact (InBlock p × Fits (length slots))) (fsep
+      (fex (List ℕ) (flags_own (block_of p) (count_of p) slots left))
+      (fsep (each (slot (block_of p) (count_of p)) slots 0)
+      (fsep (back (block_of p) (count_of p) (length slots)) (token (block_ty (length slots)) p))))

@@ -1,5 +1,6 @@
 -- Contents that are being cleared, bucket by bucket.
-use Rattle.std.proofs.Common.{◌≡◌, ◌≢◌, ℕ, ◌+◌, ◌^◌, ◌<◌, ◌≤◌, ◌⊎◌, List, length, Option, refl, sym, ◌∙◌, subst, arith, ⊎_elim}
+use Rattle.std.proofs.Common.{◌≡◌, ◌≢◌, ℕ, ◌+◌, ◌^◌, ◌<◌, ◌≤◌, ◌⊎◌, List, length, Option, refl, sym, ◌∙◌, subst, arith}
+use Rattle.std.proofs.Common.{⊎_elim}
 use Rattle.std.proofs.lemmas.Bool.{cases_lt}
 use Rattle.thread_local_model.specs.Buckets.{Contents, row, IsTable}
 use Rattle.thread_local_model.specs.Rows.{with_row}
@@ -17,8 +18,11 @@ AreCleared-none c reserved first table = record {
 }
 
 -- a further bucket is cleared
-pub AreCleared-more : {V : Type 0} (old now new : Contents V) (reserved first b : ℕ) (r : List (Option V)) → AreCleared old now reserved first b → first ≤ b → b < 63
-    → (length r ≡ 0) ⊎ (length r ≡ 2 ^ b) → r ≡ cleared_row reserved b → new ≡ with_row now b r → AreCleared old new reserved first (b + 1)
+pub AreCleared-more : {V : Type 0} (old now new : Contents V) (reserved first b : ℕ)
+    (r : List (Option V))
+    → AreCleared old now reserved first b → first ≤ b → b < 63
+    → (length r ≡ 0) ⊎ (length r ≡ 2 ^ b) → r ≡ cleared_row reserved b → new ≡ with_row now b r
+    → AreCleared old new reserved first (b + 1)
 AreCleared-more {V = V} old now new reserved first b r h start low long is made =
     let within : b < length now.rows = omega (arith, h.table.buckets) in
     subst (λ (c : Contents V). AreCleared old c reserved first (b + 1)) (sym made) (record {

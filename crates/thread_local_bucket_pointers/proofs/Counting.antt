@@ -1,5 +1,6 @@
 -- How many values the flags of a chunk count.
-use Rattle.std.proofs.Common.{◌≡◌, ◌≢◌, ◌⊎◌, inl, inr, ℕ, ◌+◌, ◌-◌, ◌*◌, ◌/◌, ◌%◌, ◌^◌, ◌<◌, ◌≤◌, min, length, count_ones, is_some, ap, ◌∙◌, arith, ⊎_elim}
+use Rattle.std.proofs.Common.{◌≡◌, ◌≢◌, ◌⊎◌, inl, inr, ℕ, ◌+◌, ◌-◌, ◌*◌, ◌/◌, ◌%◌, ◌^◌, ◌<◌, ◌≤◌, min, length}
+use Rattle.std.proofs.Common.{count_ones, is_some, ap, ◌∙◌, arith, ⊎_elim}
 use Rattle.std.proofs.lemmas.Bool.{cases_lt}
 use Rattle.std.proofs.lemmas.Nat.{pow_below, pow-add, zero_from_ones}
 use Rattle.thread_local_lemmas.specs.Bits.{is_set}
@@ -9,16 +10,22 @@ use Rattle.thread_local_model.specs.Rows.{value_in}
 use Rattle.thread_local_model.specs.Counting.{count_below}
 use Rattle.thread_local_cursor.proofs.CountingLaws.{count_below-chunk}
 
-module _ {V : Type 0} (first now : Contents V) (b k word : ℕ) (same : now ≡ first) (whole : length (row first b) ≡ 2 ^ b) (fits : word < 2 ^ 64) (flags : (bit : ℕ) → bit < 64 → is_set word bit ≡ is_some (value_in now b (k * 64 + bit))) where
+module _ {V : Type 0} (first now : Contents V) (b k word : ℕ) (same : now ≡ first)
+    (whole : length (row first b) ≡ 2 ^ b) (fits : word < 2 ^ 64)
+    (flags : (bit : ℕ) → bit < 64 → is_set word bit ≡ is_some (value_in now b (k * 64 + bit))) where
   -- how many values there were at first before the slot at this index
   abbrev first_to : ℕ → ℕ
   first_to i = count_below (values first) (id_at b i)
 
   chunk_adds : k * 64 ≤ 2 ^ b → first_to (min ((k + 1) * 64) (2 ^ b)) ≡ first_to (k * 64) + count_ones word
-  chunk_adds low = count_below-chunk first b k word whole low (λ bit within. flags bit within ∙ ap (λ w. is_some (value_in w b (k * 64 + bit))) same) fits
+  chunk_adds low =
+      count_below-chunk first b k word whole low
+      (λ bit within. flags bit within ∙ ap (λ w. is_some (value_in w b (k * 64 + bit))) same) fits
 
   -- a further chunk adds what its word counts
-  pub chunk_counted : (base count : ℕ) → k < (2 ^ b + 63) / 64 → base + count ≡ first_to (min (k * 64) (2 ^ b)) → base + (count + count_ones word) ≡ first_to (min ((k + 1) * 64) (2 ^ b))
+  pub chunk_counted : (base count : ℕ) → k < (2 ^ b + 63) / 64
+      → base + count ≡ first_to (min (k * 64) (2 ^ b))
+      → base + (count + count_ones word) ≡ first_to (min ((k + 1) * 64) (2 ^ b))
   chunk_counted base count inside counted =
       let here : min (k * 64) (2 ^ b) ≡ k * 64 = omega arith in
       let before : base + count ≡ first_to (k * 64) = counted ∙ ap first_to here in
@@ -40,7 +47,9 @@ module _ {V : Type 0} (first now : Contents V) (b k word : ℕ) (same : now ≡ 
 
   -- and any other counts something
   pub some_counted : (k + 1) * 64 ≤ 2 ^ b → word ≢ 0 → first_to (k * 64) < first_to ((k + 1) * 64)
-  some_counted inside set = let some : count_ones word ≢ 0 = λ none. set (zero_from_ones word none) in omega (arith, whole_counted inside, some)
+  some_counted inside set =
+      let some : count_ones word ≢ 0 = λ none. set (zero_from_ones word none) in
+      omega (arith, whole_counted inside, some)
 
 -- a bucket of 64 slots and more has whole chunks
 whole_chunks : (b : ℕ) → (2 ^ b < 64) ⊎ (2 ^ b % 64 ≡ 0)

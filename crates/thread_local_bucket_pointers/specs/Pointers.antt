@@ -23,4 +23,6 @@ contents_of pointers = record { rows = map slots_of pointers.pointers }
 
 -- the pointers with another value in a slot
 abbrev pub pointers_with_value : {X : Type 0} → PointerArray X → ℕ → ℕ → X → PointerArray X
-pointers_with_value pointers bucket index x = with_pointer pointers bucket (with_slot_value (slice_index_or pointers.pointers bucket null_pointer) index x)
+pointers_with_value pointers bucket index x =
+    with_pointer pointers bucket
+    (with_slot_value (slice_index_or pointers.pointers bucket null_pointer) index x)

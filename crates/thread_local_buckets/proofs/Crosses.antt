@@ -1,5 +1,6 @@
 -- A loan may be sent to another thread, or shared with it, where its values may.
-use Rattle.thread_local_lemmas.proofs.Names.{ℕ, suc, ◌+◌, List, [], ◌∷◌, Option, Some, None, full_share, Fml, RattleType, Ptr, block_of, count_of}
+use Rattle.thread_local_lemmas.proofs.Names.{ℕ, suc, ◌+◌, List, [], ◌∷◌, Option, Some, None, full_share, Fml}
+use Rattle.thread_local_lemmas.proofs.Names.{RattleType, Ptr, block_of, count_of}
 use base.Fml.{Lft, GName}
 use base.Shift.{Keyless}
 use denote.Exit.{Exit, unchanged, leaves, hidden, under}
@@ -16,7 +17,9 @@ quiet : {D X : Type 0} (f : D → X) (e : Exit X) → Quiet e → Quiet (hidden 
 quiet f unchanged q = λ x w. tt
 quiet f (leaves L l S s r₀) q = λ d. q (f d)
 
-each_cross : {X : Type 0} (F : X → ℕ → Fml) → ((x : X) (j : ℕ) → Keyless (F x j)) → (xs : List X) (j : ℕ) → Keyless (each F xs j)
+each_cross : {X : Type 0} (F : X → ℕ → Fml) → ((x : X) (j : ℕ) → Keyless (F x j))
+    → (xs : List X) (j : ℕ)
+    → Keyless (each F xs j)
 each_cross F k [] j = tt
 each_cross F k (x ∷ xs) j = (k x j, each_cross F k xs (suc j))
 
@@ -40,16 +43,34 @@ module _ (R : RattleType) where
     values_cross [] [] = tt
     values_cross [] (r ∷ rs) = tt
     values_cross (p ∷ ps) [] = tt
-    values_cross (p ∷ ps) (r ∷ rs) = (each_cross (valued R (block_of p) (count_of p)) (value_crosses (block_of p) (count_of p)) r 0, values_cross ps rs)
+    values_cross (p ∷ ps) (r ∷ rs) = (
+      each_cross (valued R (block_of p) (count_of p)) (value_crosses (block_of p) (count_of p))
+          r 0,
+      values_cross ps rs,
+    )
 
-    owned_crosses : (κ : Lft) (p v : Ptr) (name : GName) (left : Contents R.Denot) (given bucket first : ℕ) → Keyless (loan_owns κ R p v name left given bucket first)
-    owned_crosses κ p v name left given bucket first = λ z. ((λ _. tt), (frames_cross (block_of p) (count_of p) z.0 z.1.rows, (tt, (λ w. (((λ _. tt), values_cross z.0 w.contents.rows), tt)))))
+    owned_crosses : (κ : Lft) (p v : Ptr) (name : GName) (left : Contents R.Denot)
+        (given bucket first : ℕ)
+        → Keyless (loan_owns κ R p v name left given bucket first)
+    owned_crosses κ p v name left given bucket first = λ z. (
+      (λ _. tt),
+      (
+        frames_cross (block_of p) (count_of p) z.0 z.1.rows,
+        (tt, (λ w. (((λ _. tt), values_cross z.0 w.contents.rows), tt))),
+      ),
+    )
 
 pub loan_send : (a : NamedLft) (V : RattleType) → IsSend V → IsSend (loan.the_row a V)
 loan_send a V s =
     let O = loan.the_type a V in
     let all : AllSend (fields O) = (search sendable, (search sendable, (search sendable, tt))) in
-    owning_send O all (λ d. owned_crosses V s a.lft d.pointers d.values d.name d.contents d.given d.bucket d.first) (λ k. quiet (to O) (exits_of k (fields O)) ((struct_send (fields_shape O) all).leaving k))
+    owning_send O all
+    (λ d. owned_crosses V s a.lft d.pointers d.values d.name d.contents d.given d.bucket d.first)
+    (λ k. quiet (to O) (exits_of k (fields O)) ((struct_send (fields_shape O) all).leaving k))
 
 pub loan_sync : (a : NamedLft) (V : RattleType) → IsSync V → IsSync (loan.the_row a V)
-loan_sync a V s = let O = loan.the_type a V in let all : AllSync (fields O) = (search sendable, (search sendable, (search sendable, tt))) in let both = (struct_sync (fields_shape O) all).shared in record { shared = λ d b o κ. (both (to O d) b o κ, tt) }
+loan_sync a V s =
+    let O = loan.the_type a V in
+    let all : AllSync (fields O) = (search sendable, (search sendable, (search sendable, tt))) in
+    let both = (struct_sync (fields_shape O) all).shared in
+    record { shared = λ d b o κ. (both (to O d) b o κ, tt) }

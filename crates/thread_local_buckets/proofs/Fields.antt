@@ -1,5 +1,8 @@
 -- The data fields of a loan, and what a pointer points to. Assumes `Logic`.
-use Rattle.thread_local_lemmas.proofs.Names.{◌≡◌, ◌^◌, ◌<◌, T, true, List, [], ◌∷◌, ◌++◌, length, refl, ap, ◌∙◌, sym, subst, lit<, arith, Ura, ty_ptr, Val, vstruct, vcons, vnil, of_list, has_ty, WT, ent, emp, Logic, sem, RattleType, Is, Ptr, InBlock, block_ptr, null_ptr, ptr_val, count_of, Option}
+use Rattle.thread_local_lemmas.proofs.Names.{◌≡◌, ◌^◌, ◌<◌, T, true, List, [], ◌∷◌, ◌++◌, length, refl, ap, ◌∙◌, sym}
+use Rattle.thread_local_lemmas.proofs.Names.{subst, lit<, arith, Ura, ty_ptr, Val, vstruct, vcons, vnil, of_list}
+use Rattle.thread_local_lemmas.proofs.Names.{has_ty, WT, ent, emp, Logic, sem, RattleType, Is, Ptr, InBlock, block_ptr}
+use Rattle.thread_local_lemmas.proofs.Names.{null_ptr, ptr_val, count_of, Option}
 use Rattle.std.specs.Prelude.{nat_lt, not}
 use mir.Val.{vnull, ptr_same, ptr_eq_ok}
 use denote.RawPtr.{tests_null}
@@ -31,8 +34,11 @@ module _ (a : NamedLft) (R : RattleType) where
       ∙ ap (λ (ws : List Val). vstruct (of_list (ptr_val p ∷ (ws ++ (is.0.1.1.0 ++ [])))) ∷ []) is.1.1.1.0
       ∙ ap (λ (ws : List Val). vstruct (of_list (ptr_val p ∷ (ptr_val v ∷ (ws ++ [])))) ∷ []) is.1.1.1.1.0.1.0
 
-  pub made : {M : Type 1} {𝓤 : Ura M} (𝓛 : Logic 𝓤) (p v : Ptr) → ent 𝓤 (emp 𝓤) (sem 𝓛 (FieldsType.own_val (p, (v, (tt, tt))) (loan_val p v ∷ [])))
-  made 𝓛 p v = makes_shadow 𝓛 (FieldsType.own_val (p, (v, (tt, tt))) (loan_val p v ∷ [])) (λ vss. (tt, (tt, (tt, ((λ uss. (tt, tt)), tt)))))
+  pub made : {M : Type 1} {𝓤 : Ura M} (𝓛 : Logic 𝓤) (p v : Ptr)
+      → ent 𝓤 (emp 𝓤) (sem 𝓛 (FieldsType.own_val (p, (v, (tt, tt))) (loan_val p v ∷ [])))
+  made 𝓛 p v =
+      makes_shadow 𝓛 (FieldsType.own_val (p, (v, (tt, tt))) (loan_val p v ∷ []))
+      (λ vss. (tt, (tt, (tt, ((λ uss. (tt, tt)), tt)))))
       ((ptr_val p ∷ [], (ptr_val v ∷ [], (vstruct vnil ∷ [], tt))), (refl, (refl, (refl, ((tt, (refl, tt)), tt)))))
 
 -- ---- a pointer

@@ -1,5 +1,10 @@
 -- Taking the word of one chunk out of the flags of a block, for reading. Assumes `Logic`.
-use Rattle.thread_local_lemmas.proofs.Names.{◌≡◌, ℕ, ◌+◌, ◌*◌, ◌<◌, ◌≤◌, List, [], ◌∷◌, length, set, get_or, sym, refl, ap, ◌∙◌, arith, is_some, Option, Ura, SProp, ent, sep, wand, ex, all, all_e, guard, apply∗, Fml, ftrue, Logic, sem, ‵, raw, ◌⊛◌, ◌$◌, ◌∵◌, !, qed, move, drop, split, fsplit3, fjoin3, fpick, fpack, check, show, frame, assume, use1, use2, rewrite, done, RattleType, Ptr, block_of, count_of, nothing}
+use Rattle.thread_local_lemmas.proofs.Names.{◌≡◌, ℕ, ◌+◌, ◌*◌, ◌<◌, ◌≤◌, List, [], ◌∷◌, length, set, get_or, sym, refl}
+use Rattle.thread_local_lemmas.proofs.Names.{ap, ◌∙◌, arith, is_some, Option, Ura, SProp, ent, sep, wand, ex, all}
+use Rattle.thread_local_lemmas.proofs.Names.{all_e, guard, apply∗, Fml, ftrue, Logic, sem, ‵, raw, ◌⊛◌, ◌$◌, ◌∵◌, ! }
+use Rattle.thread_local_lemmas.proofs.Names.{qed, move, drop, split, fsplit3, fjoin3, fpick, fpack, check, show, frame}
+use Rattle.thread_local_lemmas.proofs.Names.{assume, use1, use2, rewrite, done, RattleType, Ptr, block_of, count_of}
+use Rattle.thread_local_lemmas.proofs.Names.{nothing}
 use Rattle.std.proofs.lemmas.List.{set-get_or}
 use Rattle.thread_local_lemmas.specs.Bits.{is_set}
 use Rattle.thread_local_model.specs.Place.{id_at}
@@ -13,9 +18,11 @@ use Rattle.thread_local_buckets.specs.Lent.{flagged, IsLeft}
 
 -- where no value of a chunk was given, its word says the same of the whole contents as of those
 -- that are left
-pub says_of_left : {X : Type 0} (whole left : Contents X) (given k c word : ℕ) → IsLeft whole left given → given ≤ id_at k (c * 64) → IsWordOf (row whole k) c word
+pub says_of_left : {X : Type 0} (whole left : Contents X) (given k c word : ℕ)
+    → IsLeft whole left given → given ≤ id_at k (c * 64) → IsWordOf (row whole k) c word
     → (bit : ℕ) → bit < 64 → is_set word bit ≡ is_some (value_in left k (c * 64 + bit))
-says_of_left whole left given k c word so ahead is bit within = is.flags bit within ∙ sym (ap is_some (so.ahead k (c * 64 + bit) (omega arith)))
+says_of_left whole left given k c word so ahead is bit within =
+    is.flags bit within ∙ sym (ap is_some (so.ahead k (c * 64 + bit) (omega arith)))
 
 module _ {M : Type 1} {𝓤 : Ura M} (𝓛 : Logic 𝓤) (R : RattleType) (p : Ptr) where
   abbrev Pr : Type 2
@@ -45,11 +52,21 @@ module _ {M : Type 1} {𝓤 : Ura M} (𝓛 : Logic 𝓤) (R : RattleType) (p : P
 
   pub word_out : (cs : List (Option R.Denot)) (c : ℕ) → c * 64 < length cs → ⟦ flagged R p cs ⟧ ⊢ ex 𝓤 (Word cs c)
   word_out [] c near = absurd (omega arith)
-  word_out (v ∷ vs) c near = let cs : List (Option R.Denot) = v ∷ vs in let many : ℕ = length cs in let G : ℕ → ℕ → Fml = F many in let Owns : List ℕ → Fml = flags_own R (block_of p) (count_of p) cs 0 in
+  word_out (v ∷ vs) c near =
+      let cs : List (Option R.Denot) = v ∷ vs in
+      let many : ℕ = length cs in
+      let G : ℕ → ℕ → Fml = F many in
+      let Owns : List ℕ → Fml = flags_own R (block_of p) (count_of p) cs 0 in
       qed 𝓛 (‵ (flagged R p cs) ∷ []) ∵ fpick ! (λ ns. fsplit3 ! $ fpick ! (λ so. drop ! $
-      let n : ℕ = get_or ns c 0 in let inside : c < length ns = (let within = chunk_in many c near in let long = so.0 in omega arith) in let first : c ≡ c + 0 = omega arith in
+      let n : ℕ = get_or ns c 0 in
+      let inside : c < length ns =
+      (let within = chunk_in many c near in let long = so.0 in omega arith) in
+      let first : c ≡ c + 0 = omega arith in
       show ! (Word cs c) n $ check ! (word_of cs ns c so.1) $
-      use1 𝓛 (‵ (G n c) ⊛ raw (all 𝓤 (Put 𝓛 G ns 0 c c))) (each_at 𝓛 G ns 0 c c 0 first inside) $ split ! $ frame ! $ assume ! (‵ (G n c)) $ move ! (1 ∷ []) $
-      use1 𝓛 (raw (Put 𝓛 G ns 0 c c n)) (all_e 𝓤 (Put 𝓛 G ns 0 c c) n) $ move ! (1 ∷ 0 ∷ []) $ use2 𝓛 (‵ (each G (set ns c n) 0)) (apply∗ 𝓤 ⟦ G n c ⟧ ⟦ each G (set ns c n) 0 ⟧) $
+      use1 𝓛 (‵ (G n c) ⊛ raw (all 𝓤 (Put 𝓛 G ns 0 c c))) (each_at 𝓛 G ns 0 c c 0 first inside) $
+      split ! $ frame ! $ assume ! (‵ (G n c)) $ move ! (1 ∷ []) $
+      use1 𝓛 (raw (Put 𝓛 G ns 0 c c n)) (all_e 𝓤 (Put 𝓛 G ns 0 c c) n) $ move ! (1 ∷ 0 ∷ []) $
+      use2 𝓛 (‵ (each G (set ns c n) 0)) (apply∗ 𝓤 ⟦ G n c ⟧ ⟦ each G (set ns c n) 0 ⟧) $
       rewrite ! 0 (λ (ms : List ℕ). ‵ (each G ms 0)) (set-get_or ns c 0) refl $
-      nothing ! $ fpack ! ((length ns + 0 ≡ chunks many) × AreFlags ns cs) (λ _. ftrue) so $ fjoin3 ! $ fpack ! (List ℕ) Owns ns $ done !))
+      nothing ! $ fpack ! ((length ns + 0 ≡ chunks many) × AreFlags ns cs) (λ _. ftrue) so $
+      fjoin3 ! $ fpack ! (List ℕ) Owns ns $ done !))

@@ -12,6 +12,8 @@ few_reserved owned so =
     let n = so.first.buckets in
     let all = so.first.all in
     let within = so.first.in_table in
-    let first = slots_of_first (stands owned.contents) n (λ b low. so.standing b (omega arith) (let below = first_reserved b n low in omega arith)) in
+    let first =
+    slots_of_first (stands owned.contents) n (λ b low.
+    so.standing b (omega arith) (let below = first_reserved b n low in omega arith)) in
     let more = slots_grow (stands owned.contents) n 63 within in
     omega arith

@@ -12,4 +12,6 @@ use Rattle.thread_local_model.specs.Code.{owned_coded}
 -- item's slot
 abbrev pub ends_with_item : RattleType → GName → GName → GName → ℕ → ℕ → Fml
 ends_with_item R loan item left bucket index =
-    both_by (Owned R.Denot) R.Denot (Owned R.Denot) (owned_coded R.coded).code R.coded.code (owned_coded R.coded).code loan item left (λ w rest. record rest { contents = with_slot rest.contents bucket index (Some w) })
+    both_by (Owned R.Denot) R.Denot (Owned R.Denot) (owned_coded R.coded).code R.coded.code
+    (owned_coded R.coded).code loan item left
+    (λ w rest. record rest { contents = with_slot rest.contents bucket index (Some w) })

@@ -17,8 +17,12 @@ LendsValues R s name = follows (the_row R) (the_row R) s.ghost_name name (owned_
 
 -- whatever is written, the same buckets stand
 abbrev pub WouldStand : {V : Type 0} → Owned V → Type 0
-WouldStand {V} old = (written : Owned V) (bucket : ℕ) → stands (owned_refilled old written).contents bucket ≡ stands old.contents bucket
+WouldStand {V} old =
+    (written : Owned V) (bucket : ℕ)
+    → stands (owned_refilled old written).contents bucket ≡ stands old.contents bucket
 
 -- whatever is written, the same ids have a value
 abbrev pub WouldBePublished : {V : Type 0} → Owned V → Type 0
-WouldBePublished {V} old = (written : Owned V) (id : ℕ) → is_some (values (owned_refilled old written).contents id) ≡ is_some (values old.contents id)
+WouldBePublished {V} old =
+    (written : Owned V) (id : ℕ)
+    → is_some (values (owned_refilled old written).contents id) ≡ is_some (values old.contents id)

@@ -1,7 +1,8 @@
 -- What a loan of a table's pointers owns: a borrow of the pointers and flags, which don't change,
 -- and one of the values that it hasn't given. All else that the pointers own, such as the right to
 -- free a block, is put aside until both borrows end.
-use Rattle.std.specs.Prelude.{◌≡◌, ℕ, ◌+◌, ◌^◌, ◌<◌, ◌≤◌, Bool, List, [], ◌∷◌, length, get_or, map, is_some, Option, Some, None}
+use Rattle.std.specs.Prelude.{◌≡◌, ℕ, ◌+◌, ◌^◌, ◌<◌, ◌≤◌, Bool, List, [], ◌∷◌, length, get_or, map, is_some, Option}
+use Rattle.std.specs.Prelude.{Some, None}
 use base.Fraction.{full_share}
 use base.Fml.{Lft, GName, Fml, ftrue, ffalse, fsep, fex, froom, fobs, fbor}
 use mir.Raw.{raw}
@@ -75,10 +76,17 @@ module _ (R : RattleType) where
 
   -- the values of contents that have a value in exactly these slots
   abbrev pub Values : List Ptr → List (List Bool) → SemTy
-  Values ps has = record { rep = Owned R.Denot; coded = owned_coded R.coded; size = 0; own_at = λ w _ _. fsep (fact (shape w.contents.rows ≡ has)) (values_at ps w.contents.rows) }
+  Values ps has = record {
+    rep = Owned R.Denot;
+    coded = owned_coded R.coded;
+    size = 0;
+    own_at = λ w _ _. fsep (fact (shape w.contents.rows ≡ has)) (values_at ps w.contents.rows);
+  }
 
   abbrev pub lent_values : Lft → List Ptr → GName → Contents R.Denot → Fml
-  lent_values κ ps name left = fsep (fobs name ((owned_coded R.coded).code (lent_as left))) (fbor κ (Body (Values ps (shape left.rows)) 0 0 name))
+  lent_values κ ps name left =
+      fsep (fobs name ((owned_coded R.coded).code (lent_as left)))
+      (fbor κ (Body (Values ps (shape left.rows)) 0 0 name))
 
   -- the addresses of the blocks, and the contents at the time of the loan
   abbrev pub Lending : Type 0
@@ -86,14 +94,21 @@ module _ (R : RattleType) where
 
   -- this is the address of the value of a slot, in a block that fits
   abbrev pub IsValueAt : List Ptr → Contents R.Denot → Ptr → ℕ → ℕ → Type 0
-  IsValueAt ps whole v bucket first = (v ≡ block_ptr (block_of (get_or ps bucket null_ptr)) (value_offset R (count_of (get_or ps bucket null_ptr)) first)) × Fits R (length (row whole bucket))
+  IsValueAt ps whole v bucket first =
+      (v
+      ≡ block_ptr (block_of (get_or ps bucket null_ptr))
+      (value_offset R (count_of (get_or ps bucket null_ptr)) first))
+      × Fits R (length (row whole bucket))
 
   -- what is known of a loan's addresses and contents
   abbrev pub Known : Ptr → Ptr → Contents R.Denot → ℕ → ℕ → ℕ → Lending → Type 0
   Known p v left given bucket first s = InBlock p × IsLeft s.1 left given × (bucket < 63 → IsValueAt s.0 s.1 v bucket first)
 
   abbrev pub lending : Lft → Ptr → Ptr → GName → Contents R.Denot → ℕ → ℕ → ℕ → Lending → Fml
-  lending κ p v name left given bucket first s = fsep (fact (Known p v left given bucket first s)) (fsep (fbor κ (frames (block_of p) (count_of p) s.0 s.1.rows)) (lent_values κ s.0 name left))
+  lending κ p v name left given bucket first s =
+      fsep (fact (Known p v left given bucket first s))
+      (fsep (fbor κ (frames (block_of p) (count_of p) s.0 s.1.rows))
+      (lent_values κ s.0 name left))
 
 abbrev pub loan_owns : Lft → (R : RattleType) → Ptr → Ptr → GName → Contents R.Denot → ℕ → ℕ → ℕ → Fml
 loan_owns κ R p v name left given bucket first = fex (Lending R) (lending R κ p v name left given bucket first)

@@ -1,6 +1,7 @@
 -- The machine value of a claimed slot, which is what it keeps at run time, and what a `&` to one
 -- holds. Assumes `Logic`.
-use Rattle.std.proofs.Common.{◌≡◌, ℕ, ◌+◌, ◌-◌, ◌*◌, ◌/◌, ◌^◌, ◌<◌, ◌≤◌, le_of_lt, mul-le-mul_right, arith, T, w64, List, [], ◌∷◌, ◌++◌, refl, sym, ap, subst, ◌∙◌, lit<}
+use Rattle.std.proofs.Common.{◌≡◌, ℕ, ◌+◌, ◌-◌, ◌*◌, ◌/◌, ◌^◌, ◌<◌, ◌≤◌, le_of_lt, mul-le-mul_right, arith, T, w64}
+use Rattle.std.proofs.Common.{List, [], ◌∷◌, ◌++◌, refl, sym, ap, subst, ◌∙◌, lit<}
 use seplogic.Ra.Ura.{Ura}
 use mir.Syntax.{Ty, ty_int, ty_ptr, ty_struct, tcons, tnil}
 use mir.Val.{Val, vint, vstruct, vcons, vnil, of_list, has_ty, WT}
@@ -43,8 +44,13 @@ pub lies_at : (R : RattleType) (d : BucketView) (id i : ℕ) → id ≡ i + firs
 lies_at R d id i is = at_index id i (2 ^ d.bucket - 1) is
 
 -- the number of the word that has the slot's flag
-pub number_in : (R : RattleType) (d : BucketView) (id i : ℕ) → id ≡ i + first R d → i < len R d → flag_word_of R id ≡ flag_word_at R (len R d) (i / 64)
-number_in R d id i is near = let lies : id ≡ id_at d.bucket i = lies_at R d id i is in let at = place-id_at d.bucket i near in let bucket = ap bucket_of lies ∙ at.0 in let index = ap index_of lies ∙ at.1 in
+pub number_in : (R : RattleType) (d : BucketView) (id i : ℕ) → id ≡ i + first R d → i < len R d
+    → flag_word_of R id ≡ flag_word_at R (len R d) (i / 64)
+number_in R d id i is near =
+    let lies : id ≡ id_at d.bucket i = lies_at R d id i is in
+    let at = place-id_at d.bucket i near in
+    let bucket = ap bucket_of lies ∙ at.0 in
+    let index = ap index_of lies ∙ at.1 in
     λ j. flag_word_at R (2 ^ bucket j) (index j / 64)
 
 -- what a claim keeps at run time
@@ -75,12 +81,22 @@ module _ (a : NamedLft) (R : RattleType) where
   pub in_word : (c : Kept) (vs : List Val) → Is FieldsType (fields_of c) vs → c.state < 2 ^ 64
   in_word c vs is = is.1.1.1.0.1
 
-  pub made : {M : Type 1} {𝓤 : Ura M} (𝓛 : Logic 𝓤) (c : Kept) → c.state < 2 ^ 64 → ent 𝓤 (emp 𝓤) (sem 𝓛 (FieldsType.own_val (fields_of c) (value_of c ∷ [])))
-  made 𝓛 c fits = makes_shadow 𝓛 (FieldsType.own_val (fields_of c) (value_of c ∷ [])) (λ vss. (tt, (tt, ((tt, tt), ((λ uss. (tt, tt)), tt)))))
+  pub made : {M : Type 1} {𝓤 : Ura M} (𝓛 : Logic 𝓤) (c : Kept) → c.state < 2 ^ 64
+      → ent 𝓤 (emp 𝓤) (sem 𝓛 (FieldsType.own_val (fields_of c) (value_of c ∷ [])))
+  made 𝓛 c fits =
+      makes_shadow 𝓛 (FieldsType.own_val (fields_of c) (value_of c ∷ []))
+      (λ vss. (tt, (tt, ((tt, tt), ((λ uss. (tt, tt)), tt)))))
       ((ptr_val c.at ∷ [], (vint w64 c.state ∷ [], (vstruct vnil ∷ [], tt))), (refl, (refl, ((refl, fits), ((tt, (refl, tt)), tt)))))
 
   pub opened : {M : Type 1} {𝓤 : Ura M} (𝓛 : Logic 𝓤) → Opens 𝓛 FieldsType
-  opened {M} {𝓤 = 𝓤} 𝓛 = (Struct-Copied 𝓛 (shape (claim.the_type a R)) (refl, (refl, (refl, tt))) (RawPtr-copy.copied M 𝓤 𝓛, (u64-copy.copied M 𝓤 𝓛, ((field_copy (marker.the_type (ShrRef a.mir a.lft R)) tt).copied M 𝓤 𝓛, tt)))).opens
+  opened {M} {𝓤 = 𝓤} 𝓛 =
+      (Struct-Copied 𝓛 (shape (claim.the_type a R)) (refl, (refl, (refl, tt))) (
+        RawPtr-copy.copied M 𝓤 𝓛,
+        (
+          u64-copy.copied M 𝓤 𝓛,
+          ((field_copy (marker.the_type (ShrRef a.mir a.lft R)) tt).copied M 𝓤 𝓛, tt),
+        ),
+      )).opens
 
 -- a claim, and a `&` to it, by the lifetimes of a function that takes nothing else
 abbrev pub claim_at : RattleType → Slot 3
@@ -93,10 +109,19 @@ claim_ref R = RefOf (0 ∷ []) tt (claim_at R) (λ _. tt)
 -- keeps at run time
 module _ {M : Type 1} {𝓤 : Ura M} {𝓛 : Logic 𝓤} {K : Type 0} {Γ : List (Item 𝓤)} {G : Goal 𝓤 𝓛.H} where
   pub splits_ref : K → (a : NamedLft) (R : RattleType) (κ : Lft) (h : claim_value.ClaimedSlot R.Denot) (b o : ℕ)
-      → Step K 𝓛 (‵ (fact (IsKept R h.state h.learnt)) ∷ ‵ (shows_value R a.lft (claim_fields h.id h.index h.bucket h.at h.sharing h.reserved) (value_held h.learnt) κ) ∷ ‵ (hidden_shr (FieldsType a R) κ (fields_of a R (kept_of h)) b o) ∷ Γ) G (‵ (hidden_shr (claim.the_row a R) κ h b o) ∷ Γ) G
-  splits_ref t a R κ h b o = let Shown : Fml = claim_shares R a.lft (claim_fields h.id h.index h.bucket h.at h.sharing h.reserved) h.learnt h.state κ in
+      → Step K 𝓛 (‵ (fact (IsKept R h.state h.learnt))
+      ∷ ‵ (shows_value R a.lft (claim_fields h.id h.index h.bucket h.at h.sharing h.reserved)
+      (value_held h.learnt) κ)
+      ∷ ‵ (hidden_shr (FieldsType a R) κ (fields_of a R (kept_of h)) b o) ∷ Γ)
+      G (‵ (hidden_shr (claim.the_row a R) κ h b o) ∷ Γ) G
+  splits_ref t a R κ h b o =
+      let Shown : Fml =
+      claim_shares R a.lft (claim_fields h.id h.index h.bucket h.at h.sharing h.reserved) h.learnt
+      h.state κ in
       step (λ s. use1 𝓛 (‵ (hidden_shr (FieldsType a R) κ (fields_of a R (kept_of h)) b o) ⊛ ‵ (fhide Shown))
-      (lent_out 𝓛 (claim.struct a R) (claim.the_codes R.Denot R.coded (marker.the_row (ShrRef a.mir a.lft R)).coded) (claim.the_heap a.lft R) (claim.the_lent a.lft R) κ h b o) $
+      (lent_out 𝓛 (claim.struct a R)
+      (claim.the_codes R.Denot R.coded (marker.the_row (ShrRef a.mir a.lft R)).coded)
+      (claim.the_heap a.lft R) (claim.the_lent a.lft R) κ h b o) $
       split t $ move t (1 ∷ []) $ unhide t $ fsplit t $ s)
 
 abbrev pub claim_ty : Ty

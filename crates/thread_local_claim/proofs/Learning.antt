@@ -1,5 +1,6 @@
 -- What a claim has, by what it has learnt. Assumes `Logic`.
-use Rattle.std.proofs.Common.{◌≡◌, ℕ, ◌+◌, ◌/◌, ◌^◌, ◌<◌, Bool, true, false, bit_and, refl, ap, ◌∙◌, arith, lit<, ⊎_elim, Option, None, Some, is_some}
+use Rattle.std.proofs.Common.{◌≡◌, ℕ, ◌+◌, ◌/◌, ◌^◌, ◌<◌, Bool, true, false, bit_and, refl, ap, ◌∙◌, arith, lit<}
+use Rattle.std.proofs.Common.{⊎_elim, Option, None, Some, is_some}
 use Rattle.std.specs.Int.{bit_at}
 use Rattle.std.proofs.lemmas.Bool.{cases_eq}
 use Rattle.std.proofs.lemmas.Nat.Bits.{shr_and_one, bit_at-lt}
@@ -70,7 +71,9 @@ state_by-flag word bit = ap (λ n. 1 + n) (shr_and_one word bit) ∙ ⊎_elim
 module _ {M : Type 1} {𝓤 : Ura M} (𝓛 : Logic 𝓤) (R : RattleType) (d : BucketView) (t : Turn) (β : Lft) (c : ClaimFields) where
   -- before a claim has found its bucket, it points to the bucket's pointer, and has its right or
   -- the pass
-  pub unfound : (l : Learnt R.Denot) → IsMissing l → ent 𝓤 (sem 𝓛 (has R d t β c l)) (sem 𝓛 (fsep (fact (c.at ≡ c.bucket)) (waits (has_looked l) d.table t.pass c.id)))
+  pub unfound : (l : Learnt R.Denot) → IsMissing l
+      → ent 𝓤 (sem 𝓛 (has R d t β c l))
+      (sem 𝓛 (fsep (fact (c.at ≡ c.bucket)) (waits (has_looked l) d.table t.pass c.id)))
   unfound Unknown h = id⊢ 𝓤 _
   unfound Missing h = id⊢ 𝓤 _
   unfound Standing h = absurd h
@@ -78,6 +81,8 @@ module _ {M : Type 1} {𝓤 : Ura M} (𝓛 : Logic 𝓤) (R : RattleType) (d : B
   unfound (Holding x) h = absurd h
 
   -- once a claim has found its bucket, it has what the slot holds
-  pub found : (v : Option R.Denot) → ent 𝓤 (sem 𝓛 (fex StandingBlock (has_slot R d t β c v))) (sem 𝓛 (has R d t β c (found_as v)))
+  pub found : (v : Option R.Denot)
+      → ent 𝓤 (sem 𝓛 (fex StandingBlock (has_slot R d t β c v)))
+      (sem 𝓛 (has R d t β c (found_as v)))
   found None = id⊢ 𝓤 _
   found (Some x) = id⊢ 𝓤 _

@@ -32,7 +32,14 @@ pub record ClaimFields : Type 0 where
   pub reserved : Bool
 
 abbrev pub claim_fields : ℕ → ℕ → Ptr → Ptr → Option ℕ → Bool → ClaimFields
-claim_fields id index bucket at sharing reserved = record { id = id; index = index; bucket = bucket; at = at; sharing = sharing; reserved = reserved }
+claim_fields id index bucket at sharing reserved = record {
+  id = id;
+  index = index;
+  bucket = bucket;
+  at = at;
+  sharing = sharing;
+  reserved = reserved;
+}
 
 -- what a claim has where it has found no bucket: its right, or the pass of its slot once it has
 -- looked
@@ -57,7 +64,10 @@ module _ (R : RattleType) where
   module _ (d : BucketView) (t : Turn) (β : Lft) (c : ClaimFields) where
     -- what a claim has of a standing block, where the slot holds v: it points to the slot's value
     abbrev pub has_slot : Option R.Denot → StandingBlock → Fml
-    has_slot v s = fsep (fact (c.at ≡ value_at s.at c.index)) (fsep (loaded R d t s β) (holds R t (block_of s.at) s.block_life d.sharing c.id (value_offset R (count_of s.at) c.index) (name_at s.names c.index) v))
+    has_slot v s =
+        fsep (fact (c.at ≡ value_at s.at c.index))
+        (fsep (loaded R d t s β) (holds R t (block_of s.at) s.block_life d.sharing c.id
+        (value_offset R (count_of s.at) c.index) (name_at s.names c.index) v))
 
     -- what a claim has before it has found its bucket: its address is that of the bucket's pointer, and
     -- it owns one right. `name` says which: the table's, its right to the id; the pass, what it was
@@ -80,7 +90,9 @@ module _ (R : RattleType) where
 
   -- the claim is of this bucket, and its id is the one at its index there
   abbrev pub IsOf : ℕ → ClaimFields → BucketView → Type 0
-  IsOf table c d = InBlock c.bucket × Judged R × (d.table ≡ table) × (c.id ≡ c.index + first R d) × (c.index < len R d) × (d.reserved ≡ c.reserved) × (d.sharing ≡ c.sharing)
+  IsOf table c d =
+      InBlock c.bucket × Judged R × (d.table ≡ table) × (c.id ≡ c.index + first R d)
+      × (c.index < len R d) × (d.reserved ≡ c.reserved) × (d.sharing ≡ c.sharing)
 
   module _ (β : Lft) (table : ℕ) (c : ClaimFields) (l : Learnt R.Denot) where
     -- a claim under one sharing of its bucket
@@ -100,7 +112,9 @@ module _ (R : RattleType) where
   abbrev pub shows_value : Lft → ClaimFields → Option R.Denot → Lft → Fml
   shows_value β c None = nothing
   shows_value β c (Some x) = let b : ℕ = block_of c.at in let e : ℕ = count_of c.at in
-      beside (said (fact (InBlock c.at))) (beside (within β (shared_of R x b e)) (beside (some (Judged R) (lasts β b e x)) (said (tells R c.sharing c.id (Some x)))))
+      beside (said (fact (InBlock c.at)))
+      (beside (within β (shared_of R x b e))
+      (beside (some (Judged R) (lasts β b e x)) (said (tells R c.sharing c.id (Some x)))))
 
   abbrev pub claim_shares : Lft → ClaimFields → Learnt R.Denot → ℕ → Lft → Fml
   claim_shares β c l state = beside (said (fact (IsKept state l))) (shows_value β c (value_held l))

@@ -15,5 +15,16 @@ pub record ClaimView (V : Type 0) : Type 0 where
 
 -- an injective code of such views, for ghost state
 abbrev pub claim_view_coded : {V : Type 0} → Coded V → Coded (ClaimView V)
-claim_view_coded {V} c = code_by (ℕ × (Option ℕ × (ℕ × (Bool × Learnt V)))) (coded× coded_ℕ (coded× (coded_option coded_ℕ) (coded× coded_ℕ (coded× coded_bool (learnt_coded c)))))
-    (λ v. (v.table, (v.sharing, (v.id, (v.reserved, v.learnt))))) (λ p. record { table = p.0; sharing = p.1.0; id = p.1.1.0; reserved = p.1.1.1.0; learnt = p.1.1.1.1 }) (λ _. refl)
+claim_view_coded {V} c =
+    code_by (ℕ × (Option ℕ × (ℕ × (Bool × Learnt V))))
+    (coded× coded_ℕ
+    (coded× (coded_option coded_ℕ) (coded× coded_ℕ (coded× coded_bool (learnt_coded c)))))
+    (λ v. (v.table, (v.sharing, (v.id, (v.reserved, v.learnt)))))
+    (λ p. record {
+      table = p.0;
+      sharing = p.1.0;
+      id = p.1.1.0;
+      reserved = p.1.1.1.0;
+      learnt = p.1.1.1.1;
+    })
+    (λ _. refl)

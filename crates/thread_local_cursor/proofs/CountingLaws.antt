@@ -1,5 +1,7 @@
 -- How many values a walk has left: those whose flags it has at hand, and those behind.
-use Rattle.std.proofs.Common.{◌≡◌, ℕ, zero, suc, ◌+◌, ◌-◌, ◌*◌, ◌/◌, ◌^◌, ◌<◌, ◌≤◌, min, cond, length, count_ones, ◌∷◌, Option, Some, None, is_some, refl, sym, ap, ◌∙◌, arith, ⊎_elim, length-append, pow_mono, ◌≢◌}
+use Rattle.std.proofs.Common.{◌≡◌, ℕ, zero, suc, ◌+◌, ◌-◌, ◌*◌, ◌/◌, ◌^◌, ◌<◌, ◌≤◌, min, cond, length, count_ones, ◌∷◌}
+use Rattle.std.proofs.Common.{Option, Some, None, is_some, refl, sym, ap, ◌∙◌, arith, ⊎_elim, length-append, pow_mono}
+use Rattle.std.proofs.Common.{◌≢◌}
 use Rattle.std.proofs.Math.Nat.{two-pow-succ}
 use Rattle.std.specs.List.{count_by}
 use Rattle.std.proofs.lemmas.Bool.{cases_lt}
@@ -28,24 +30,32 @@ low_count-zero word = refl
 
 low_count-more : (word n : ℕ) → low_count word (suc n) ≡ low_count word n + cond (is_set word n) 1 0
 unfolding low_bits low_count
-low_count-more word n = let one : suc n ≡ n + 1 = omega arith in ap (low_count word) one ∙ sum_by-map-range_with_len_more (λ v. cond v 1 0) (is_set word) 0 n n (omega arith)
+low_count-more word n =
+    let one : suc n ≡ n + 1 = omega arith in
+    ap (low_count word) one
+    ∙ sum_by-map-range_with_len_more (λ v. cond v 1 0) (is_set word) 0 n n (omega arith)
 
 low_count-all : (word : ℕ) → word < 2 ^ 64 → count_ones word ≡ low_count word 64
 unfolding low_count
 low_count-all word fits = count_ones-counts 64 word fits
 
-module _ {V : Type 0} (c : Contents V) (b k word : ℕ) (whole : length (row c b) ≡ 2 ^ b) (low : k * 64 ≤ 2 ^ b) (flags : (bit : ℕ) → bit < 64 → is_set word bit ≡ is_some (value_in c b (k * 64 + bit))) where
+module _ {V : Type 0} (c : Contents V) (b k word : ℕ) (whole : length (row c b) ≡ 2 ^ b)
+    (low : k * 64 ≤ 2 ^ b)
+    (flags : (bit : ℕ) → bit < 64 → is_set word bit ≡ is_some (value_in c b (k * 64 + bit))) where
   -- how many values there are before the slot at this index
   abbrev counted_to : ℕ → ℕ
   counted_to i = count_below (values c) (id_at b i)
 
   -- the lowest bits of a chunk's word count the values of as many of its slots
   count_below-bits : (n : ℕ) → n ≤ 64 → counted_to (min (k * 64 + n) (2 ^ b)) ≡ counted_to (k * 64) + low_count word n
-  count_below-bits zero near = let same : min (k * 64 + 0) (2 ^ b) ≡ k * 64 = omega arith in ap counted_to same ∙ (let none = low_count-zero word in omega arith)
+  count_below-bits zero near =
+      let same : min (k * 64 + 0) (2 ^ b) ≡ k * 64 = omega arith in
+      ap counted_to same ∙ (let none = low_count-zero word in omega arith)
   count_below-bits (suc n) near =
       let at : ℕ = k * 64 + n in
       let before = count_below-bits n (omega arith) in
-      let next : low_count word (suc n) ≡ low_count word n + cond (is_some (value_in c b at)) 1 0 = low_count-more word n ∙ ap (λ v. low_count word n + cond v 1 0) (flags n (omega arith)) in
+      let next : low_count word (suc n) ≡ low_count word n + cond (is_some (value_in c b at)) 1 0 =
+      low_count-more word n ∙ ap (λ v. low_count word n + cond v 1 0) (flags n (omega arith)) in
       ⊎_elim
       (λ (inside : at < 2 ^ b).
       let now : min (k * 64 + suc n) (2 ^ b) ≡ at + 1 = omega arith in
@@ -61,7 +71,9 @@ module _ {V : Type 0} (c : Contents V) (b k word : ℕ) (whole : length (row c b
       (cases_lt at (2 ^ b))
 
   -- and all its bits count the values of the chunk
-  pub count_below-chunk : word < 2 ^ 64 → count_below (values c) (id_at b (min ((k + 1) * 64) (2 ^ b))) ≡ count_below (values c) (id_at b (k * 64)) + count_ones word
+  pub count_below-chunk : word < 2 ^ 64
+      → count_below (values c) (id_at b (min ((k + 1) * 64) (2 ^ b)))
+      ≡ count_below (values c) (id_at b (k * 64)) + count_ones word
   count_below-chunk fits =
       let same : min ((k + 1) * 64) (2 ^ b) ≡ min (k * 64 + 64) (2 ^ b) = omega arith in
       ap counted_to same ∙ count_below-bits 64 (omega arith) ∙ ap (λ m. counted_to (k * 64) + m) (sym (low_count-all word fits))
@@ -76,7 +88,10 @@ module _ {V : Type 0} where
   count_below-more_ids : (values : ℕ → Option V) (n k : ℕ) → count_below values n ≤ count_below values (n + k)
   unfolding count_below
   count_below-more_ids values n k =
-      let both : length (walk_below values (n + k)) ≡ length (walk_below values n) + length (walk_below (λ i. values (n + i)) k) = ap length (walk_below-add values n k) ∙ length-append (walk_below values n) (walk_below (λ i. values (n + i)) k) in
+      let both : length (walk_below values (n + k))
+      ≡ length (walk_below values n) + length (walk_below (λ i. values (n + i)) k) =
+      ap length (walk_below-add values n k)
+      ∙ length-append (walk_below values n) (walk_below (λ i. values (n + i)) k) in
       omega (arith, both)
 
   -- a walk has fewer than 2 ^ 63 values
@@ -85,7 +100,9 @@ module _ {V : Type 0} where
   walk-few values = omega (arith, length-walk_below values (2 ^ 63 - 1))
 
   -- the flags at hand count the values up to the place where the walk goes on
-  pub counted_at_hand : (c : Contents V) (raw : RawIter) (rest : ℕ) → rest < 2 ^ 64 → IsAt c raw rest → count_below (values c) (read_to raw) ≡ count_ones rest
+  pub counted_at_hand : (c : Contents V) (raw : RawIter) (rest : ℕ) → rest < 2 ^ 64
+      → IsAt c raw rest
+      → count_below (values c) (read_to raw) ≡ count_ones rest
   unfolding lib.Count.ones
   counted_at_hand c raw rest fits at =
       let b : ℕ = raw.bucket in
@@ -102,15 +119,19 @@ module _ {V : Type 0} where
       let k : ℕ = raw.index / 64 - 1 in
       let first : k * 64 ≡ raw.index - 64 = omega arith in
       let chunk : (raw.index - 64) / 64 * 64 ≡ k * 64 = omega arith in
-      let flags : (bit : ℕ) → bit < 64 → is_set rest bit ≡ is_some (value_in c b (k * 64 + bit)) = λ bit inside. at.flags some bit inside ∙ ap (λ i. is_some (value_in c b (i + bit))) chunk in
+      let flags : (bit : ℕ) → bit < 64 → is_set rest bit ≡ is_some (value_in c b (k * 64 + bit)) =
+      λ bit inside. at.flags some bit inside ∙ ap (λ i. is_some (value_in c b (i + bit))) chunk in
       let here : read_to raw ≡ id_at b (min ((k + 1) * 64) (2 ^ b)) = omega arith in
-      let none : count_below (values c) (id_at b (k * 64)) ≡ 0 = count_below-nothing (values c) (id_at b (k * 64)) (λ id below. at.behind id (omega arith)) in
+      let none : count_below (values c) (id_at b (k * 64)) ≡ 0 =
+      count_below-nothing (values c) (id_at b (k * 64))
+      (λ id below. at.behind id (omega arith)) in
       let more = ap (count_below (values c)) here ∙ count_below-chunk c b k rest (at.whole some ∙ size) (omega arith) flags fits in
       omega (arith, more, none))
       (cases_lt raw.index 1)
 
   -- which are among those that the walk has left
-  pub few_at_hand : (c : Contents V) (raw : RawIter) (rest : ℕ) → rest < 2 ^ 64 → IsAt c raw rest → count_ones rest ≤ length (walk (values c))
+  pub few_at_hand : (c : Contents V) (raw : RawIter) (rest : ℕ) → rest < 2 ^ 64 → IsAt c raw rest
+      → count_ones rest ≤ length (walk (values c))
   few_at_hand c raw rest fits at =
       let size = at.size in
       let low = at.in_table in
@@ -118,13 +139,17 @@ module _ {V : Type 0} where
       let twice = two-pow-succ raw.bucket in
       let more = count_below-more_ids (values c) (read_to raw) (2 ^ 63 - 1 - read_to raw) in
       let end : read_to raw + (2 ^ 63 - 1 - read_to raw) ≡ 2 ^ 63 - 1 = omega arith in
-      let all : count_below (values c) (read_to raw + (2 ^ 63 - 1 - read_to raw)) ≡ length (walk (values c)) = ap (count_below (values c)) end ∙ count_below-walk (values c) in
+      let all : count_below (values c) (read_to raw + (2 ^ 63 - 1 - read_to raw))
+      ≡ length (walk (values c)) =
+      ap (count_below (values c)) end ∙ count_below-walk (values c) in
       omega (arith, counted_at_hand c raw rest fits at, more, all)
 
   -- once the first value, at n, is taken, one less is counted
-  pub count_below-taken : (values others : ℕ → Option V) (n : ℕ) (v : V) → NoneBelow values n → values n ≡ Some v → others n ≡ None → ((id : ℕ) → id ≢ n → others id ≡ values id)
+  pub count_below-taken : (values others : ℕ → Option V) (n : ℕ) (v : V) → NoneBelow values n
+      → values n ≡ Some v → others n ≡ None → ((id : ℕ) → id ≢ n → others id ≡ values id)
       → (k : ℕ) → n < k → count_below others k + 1 ≡ count_below values k
   unfolding count_below
   count_below-taken values others n v none here gone same k after =
-      let one : length (walk_below values k) ≡ length (v ∷ walk_below others k) = ap length (walk_below-taken values others n v none here gone same k after) in
+      let one : length (walk_below values k) ≡ length (v ∷ walk_below others k) =
+      ap length (walk_below-taken values others n v none here gone same k after) in
       omega (arith, one)

@@ -1,5 +1,6 @@
 -- How a walk finds its next value by the flags of 64 slots at a time.
-use Rattle.std.proofs.Common.{◌≡◌, ℕ, zero, suc, ◌+◌, ◌*◌, ◌/◌, ◌%◌, ◌^◌, ◌<◌, ◌≤◌, true, false, length, None, is_some, refl, ap, sym, ◌∙◌, subst, arith, ⊎_elim, true≢false, w64, ◌-◌}
+use Rattle.std.proofs.Common.{◌≡◌, ℕ, zero, suc, ◌+◌, ◌*◌, ◌/◌, ◌%◌, ◌^◌, ◌<◌, ◌≤◌, true, false, length, None, is_some}
+use Rattle.std.proofs.Common.{refl, ap, sym, ◌∙◌, subst, arith, ⊎_elim, true≢false, w64, ◌-◌}
 use Rattle.std.proofs.Common.{add-one}
 use Rattle.std.proofs.Math.Nat.{two-pow-succ}
 use Rattle.std.specs.Int.{trailing_zeros}
@@ -28,7 +29,9 @@ pub record IsFirst {V : Type 0} (c : Contents V) (raw : RawIter) (word index : �
 
 module _ {V : Type 0} where
   -- empty slots are skipped
-  pub none_to : (c : Contents V) (b i n to : ℕ) → to ≡ n + i → to ≤ 2 ^ b → NoneBelow (values c) (id_at b i) → ((k : ℕ) → i ≤ k → k < to → is_some (value_in c b k) ≡ false)
+  pub none_to : (c : Contents V) (b i n to : ℕ) → to ≡ n + i → to ≤ 2 ^ b
+      → NoneBelow (values c) (id_at b i)
+      → ((k : ℕ) → i ≤ k → k < to → is_some (value_in c b k) ≡ false)
       → NoneBelow (values c) (id_at b to)
   none_to c b i zero to is near none empty =
       let same : i ≡ to = omega arith in
@@ -41,28 +44,39 @@ module _ {V : Type 0} where
       subst P last (NoneBelow-slot c b (n + i) (omega arith) before (empty (n + i) (omega arith) (omega arith)))
 
   -- a slot whose bit isn't set among the flags is empty
-  unset_empty : (c : Contents V) (b i word k : ℕ) → AreFlagsAt c b i word → k / 64 ≡ i / 64 → is_set word (k % 64) ≡ false → is_some (value_in c b k) ≡ false
+  unset_empty : (c : Contents V) (b i word k : ℕ) → AreFlagsAt c b i word → k / 64 ≡ i / 64
+      → is_set word (k % 64) ≡ false
+      → is_some (value_in c b k) ≡ false
   unset_empty c b i word k flags chunk unset =
       let here : i / 64 * 64 + k % 64 ≡ k = omega arith in
       ap (λ j. is_some (value_in c b j)) (sym here) ∙ sym (flags (k % 64) (omega arith)) ∙ unset
 
   -- where flags are 0, none of their slots has a value
-  pub none_in_chunk : (c : Contents V) (b i to : ℕ) → AreFlagsAt c b i 0 → i ≤ to → to ≤ i / 64 * 64 + 64 → to ≤ 2 ^ b → NoneBelow (values c) (id_at b i) → NoneBelow (values c) (id_at b to)
+  pub none_in_chunk : (c : Contents V) (b i to : ℕ) → AreFlagsAt c b i 0 → i ≤ to
+      → to ≤ i / 64 * 64 + 64 → to ≤ 2 ^ b → NoneBelow (values c) (id_at b i)
+      → NoneBelow (values c) (id_at b to)
   none_in_chunk c b i to flags from near inside none =
-      none_to c b i (to - i) to (omega arith) inside none (λ k after below. unset_empty c b i 0 k flags (omega arith) (is_set-zero (k % 64)))
+      none_to c b i (to - i) to (omega arith) inside none
+      (λ k after below. unset_empty c b i 0 k flags (omega arith) (is_set-zero (k % 64)))
 
   -- so a walk whose flags are 0 finds no value before the place where it goes on
-  pub none_at_hand : (c : Contents V) (raw : RawIter) (to : ℕ) → IsAt c raw 0 → to ≤ raw.index → to ≤ raw.bucket_size → NoneBelow (values c) (id_at raw.bucket to)
+  pub none_at_hand : (c : Contents V) (raw : RawIter) (to : ℕ) → IsAt c raw 0 → to ≤ raw.index
+      → to ≤ raw.bucket_size
+      → NoneBelow (values c) (id_at raw.bucket to)
   none_at_hand c raw to at near inside =
       let size = at.size in
       let round = at.round in
       ⊎_elim
       (λ (before : to < raw.index - 64 + 1). λ id below. at.behind id (omega arith))
-      (λ (after : raw.index - 64 + 1 ≤ to). none_in_chunk c raw.bucket (raw.index - 64) to (at.flags (omega arith)) (omega arith) (omega arith) (omega arith) at.behind)
+      (λ (after : raw.index - 64 + 1 ≤ to).
+      none_in_chunk c raw.bucket (raw.index - 64) to (at.flags (omega arith)) (omega arith)
+      (omega arith) (omega arith) at.behind)
       (cases_lt to (raw.index - 64 + 1))
 
   -- a slot that has a value isn't skipped
-  pub not_passed : (c : Contents V) (b i j : ℕ) → i < 2 ^ b → NoneBelow (values c) (id_at b j) → is_some (value_in c b i) ≡ true → j ≤ i
+  pub not_passed : (c : Contents V) (b i j : ℕ) → i < 2 ^ b → NoneBelow (values c) (id_at b j)
+      → is_some (value_in c b i) ≡ true
+      → j ≤ i
   not_passed c b i j inside none some =
       ⊎_elim
       (λ (below : i < j).
@@ -72,21 +86,30 @@ module _ {V : Type 0} where
       (cases_lt i j)
 
   -- flags at hand are those of a chunk of the bucket
-  pub chunk_at_hand : (c : Contents V) (raw : RawIter) (word : ℕ) → 0 < word → IsAt c raw word → (64 ≤ raw.index) × (raw.index - 64 < length (row c raw.bucket))
+  pub chunk_at_hand : (c : Contents V) (raw : RawIter) (word : ℕ) → 0 < word → IsAt c raw word
+      → (64 ≤ raw.index) × (raw.index - 64 < length (row c raw.bucket))
   chunk_at_hand c raw word some at =
-      let far : 0 < raw.index = ⊎_elim (λ (start : raw.index < 1). let nothing : word ≡ 0 = at.none (omega arith) in absurd (omega arith)) (λ (far : 1 ≤ raw.index). far) (cases_lt raw.index 1) in
+      let far : 0 < raw.index =
+      ⊎_elim (λ (start : raw.index < 1).
+      let nothing : word ≡ 0 = at.none (omega arith) in absurd (omega arith))
+      (λ (far : 1 ≤ raw.index). far) (cases_lt raw.index 1) in
       let round = at.round in
       let within = at.within in
       (omega arith, omega (arith, at.whole far))
 
   -- the lowest set bit of the flags is that of the first value
-  pub first_at_hand : (c : Contents V) (raw : RawIter) (word : ℕ) → word < 2 ^ 64 → 0 < word → IsAt c raw word → IsFirst c raw word (raw.index - 64 + trailing_zeros w64 word)
+  pub first_at_hand : (c : Contents V) (raw : RawIter) (word : ℕ) → word < 2 ^ 64 → 0 < word
+      → IsAt c raw word
+      → IsFirst c raw word (raw.index - 64 + trailing_zeros w64 word)
   first_at_hand c raw word fits some at =
       let low = lowest_set word fits (omega arith) in
       let bit : ℕ = trailing_zeros w64 word in
       let within : bit < 64 = low.within in
       let round = at.round in
-      let far : 0 < raw.index = ⊎_elim (λ (start : raw.index < 1). let nothing : word ≡ 0 = at.none (omega arith) in absurd (omega arith)) (λ (far : 1 ≤ raw.index). far) (cases_lt raw.index 1) in
+      let far : 0 < raw.index =
+      ⊎_elim (λ (start : raw.index < 1).
+      let nothing : word ≡ 0 = at.none (omega arith) in absurd (omega arith))
+      (λ (far : 1 ≤ raw.index). far) (cases_lt raw.index 1) in
       let from : ℕ = raw.index - 64 in
       let index : ℕ = from + bit in
       let chunk : index / 64 ≡ from / 64 = omega arith in
@@ -95,7 +118,8 @@ module _ {V : Type 0} where
       let size = at.size in
       let whole = at.whole far in
       let flags = at.flags far in
-      let here : is_some (value_in c raw.bucket index) ≡ true = ap (λ i. is_some (value_in c raw.bucket i)) (sym slot) ∙ sym (flags bit within) ∙ low.set in
+      let here : is_some (value_in c raw.bucket index) ≡ true =
+      ap (λ i. is_some (value_in c raw.bucket i)) (sym slot) ∙ sym (flags bit within) ∙ low.set in
       let inside : index < raw.bucket_size = ⊎_elim
       (λ (near : index < raw.bucket_size). near)
       (λ past. absurd (true≢false (sym here ∙ ap is_some (get_or_past (row c raw.bucket) index None (omega arith)))))
@@ -112,13 +136,16 @@ module _ {V : Type 0} where
 
   -- the flags of a chunk are those of the 64 slots from its first on
   pub chunk_read : (c : Contents V) (raw from : RawIter) (chunk word : ℕ) → from ≡ raw
-      → ((bit : ℕ) → bit < 64 → is_set word bit ≡ is_some (value_in c from.bucket (chunk * 64 + bit))) → AreFlagsAt c raw.bucket (chunk * 64) word
+      → ((bit : ℕ) → bit < 64
+      → is_set word bit ≡ is_some (value_in c from.bucket (chunk * 64 + bit)))
+      → AreFlagsAt c raw.bucket (chunk * 64) word
   chunk_read c raw from chunk word same read =
       let here : chunk * 64 / 64 ≡ chunk = omega arith in
       rw (here, ← same) read
 
   -- behind a chunk whose flags were read
-  pub behind_chunk : (c : Contents V) (raw : RawIter) (chunk word : ℕ) → IsAt c raw 0 → length (row c raw.bucket) ≡ raw.bucket_size → chunk * 64 < raw.bucket_size
+  pub behind_chunk : (c : Contents V) (raw : RawIter) (chunk word : ℕ) → IsAt c raw 0
+      → length (row c raw.bucket) ≡ raw.bucket_size → chunk * 64 < raw.bucket_size
       → NoneBelow (values c) (id_at raw.bucket (chunk * 64)) → AreFlagsAt c raw.bucket (chunk * 64) word
       → IsAt c (record { yielded = raw.yielded; bucket = raw.bucket; bucket_size = raw.bucket_size; index = (chunk + 1) * 64 }) word
   behind_chunk c raw chunk word at whole inside none flags =
@@ -135,7 +162,8 @@ module _ {V : Type 0} where
       }
 
   -- past the end of a bucket, a walk is at the first slot of the next
-  pub at_next_bucket : (c : Contents V) (raw : RawIter) (b size : ℕ) → size ≡ 2 ^ b → b + 1 < 63 → NoneBelow (values c) (id_at (b + 1) 0)
+  pub at_next_bucket : (c : Contents V) (raw : RawIter) (b size : ℕ) → size ≡ 2 ^ b → b + 1 < 63
+      → NoneBelow (values c) (id_at (b + 1) 0)
       → IsAt c (record { yielded = raw.yielded; bucket = b + 1; bucket_size = size * 2; index = 0 }) 0
   at_next_bucket c raw b size whole low none = record {
     in_table = low;

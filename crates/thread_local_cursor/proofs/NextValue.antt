@@ -1,5 +1,6 @@
 -- The walk and the contents once the walk has passed its next value.
-use Rattle.std.proofs.Common.{◌≡◌, ◌≢◌, ℕ, ◌+◌, ◌-◌, ◌*◌, ◌/◌, ◌%◌, ◌^◌, ◌<◌, ◌≤◌, false, length, ◌∷◌, Option, Some, None, is_some, IsSome, count_ones, set, refl, ap, sym, ◌∙◌, arith, ⊎_elim}
+use Rattle.std.proofs.Common.{◌≡◌, ◌≢◌, ℕ, ◌+◌, ◌-◌, ◌*◌, ◌/◌, ◌%◌, ◌^◌, ◌<◌, ◌≤◌, false, length, ◌∷◌, Option, Some}
+use Rattle.std.proofs.Common.{None, is_some, IsSome, count_ones, set, refl, ap, sym, ◌∙◌, arith, ⊎_elim}
 use Rattle.std.specs.Int.{w64, trailing_zeros}
 use Rattle.std.proofs.lemmas.Bool.{cases_eq, eq-eqb, ne_eqb, cases_lt}
 use Rattle.std.proofs.lemmas.Nat.{zero_from_ones}
@@ -35,7 +36,10 @@ pub record Passes {V : Type 0} (c : Contents V) (cursor : OwnerCursor) (rest giv
   pub flags : AreFlagsAt (with_slot c cursor.raw.bucket index None) cursor.raw.bucket index rest
   pub on : IsOwnerWalk (with_slot c cursor.raw.bucket index None) (past cursor rest)
   pub behind : NoneBelow (values (with_slot c cursor.raw.bucket index None)) (id_at cursor.raw.bucket index + 1)
-  pub first : (v : V) → value_in c cursor.raw.bucket index ≡ Some v → walk (paired (values c)) ≡ (id_at cursor.raw.bucket index, v) ∷ walk (paired (values (with_slot c cursor.raw.bucket index None)))
+  pub first : (v : V) → value_in c cursor.raw.bucket index ≡ Some v
+      → walk (paired (values c))
+      ≡ (id_at cursor.raw.bucket index, v)
+      ∷ walk (paired (values (with_slot c cursor.raw.bucket index None)))
 
 -- a value that is there
 the_value : {V : Type 0} (o : Option V) → IsSome o → (v : V) × (o ≡ Some v)
@@ -62,11 +66,16 @@ no_ones rest none = ap count_ones none
 
 -- and flags that aren't 0 have a value
 pub some_ones : (rest : ℕ) → 0 < rest → 0 < count_ones rest
-some_ones rest some = ⊎_elim (λ (none : count_ones rest < 1). absurd (let nothing = zero_from_ones rest (omega arith) in omega arith)) (λ (more : 1 ≤ count_ones rest). more) (cases_lt (count_ones rest) 1)
+some_ones rest some =
+    ⊎_elim (λ (none : count_ones rest < 1).
+    absurd (let nothing = zero_from_ones rest (omega arith) in omega arith))
+    (λ (more : 1 ≤ count_ones rest). more) (cases_lt (count_ones rest) 1)
 
 module _ {V : Type 0} where
   -- the flags with the lowest cleared are those of the slots without that value
-  flags_left : (c : Contents V) (raw : RawIter) (word rest i : ℕ) → IsFirst c raw word i → IsWordBut rest word (i % 64) false → AreFlagsAt (with_slot c raw.bucket i None) raw.bucket i rest
+  flags_left : (c : Contents V) (raw : RawIter) (word rest i : ℕ) → IsFirst c raw word i
+      → IsWordBut rest word (i % 64) false
+      → AreFlagsAt (with_slot c raw.bucket i None) raw.bucket i rest
   flags_left c raw word rest i at but bit within =
       let b : ℕ = raw.bucket in
       let slot : ℕ = i / 64 * 64 + bit in
@@ -89,7 +98,8 @@ module _ {V : Type 0} where
       let whole : i / 64 * 64 + i % 64 ≡ i = omega arith in
       ap (λ k. is_some (value_in c raw.bucket k)) (sym whole) ∙ sym (at.flags (i % 64) at.first.within) ∙ at.first.set
 
-  pub passes : (c : Contents V) (cursor : OwnerCursor) (rest given : ℕ) → IsOwnerWalk c cursor → cursor.rest < 2 ^ 64 → 0 < cursor.rest → rest < 2 ^ 64
+  pub passes : (c : Contents V) (cursor : OwnerCursor) (rest given : ℕ) → IsOwnerWalk c cursor
+      → cursor.rest < 2 ^ 64 → 0 < cursor.rest → rest < 2 ^ 64
       → ((bit : ℕ) → IsLowestSet cursor.rest bit → IsWordBut rest cursor.rest bit false) → NoneBelow (values c) given
       → Passes c cursor rest given (cursor.raw.index - 64 + trailing_zeros w64 cursor.rest)
   passes c cursor rest given walks fit some fits cleared before =
@@ -127,39 +137,67 @@ module _ {V : Type 0} where
         none = λ start. absurd (omega arith);
       } in
       let fewer : count_below (values after) (read_to raw) + 1 ≡ count_below (values c) (read_to raw) =
-      count_below-taken (values c) (values after) (id_at b i) there.0 from.behind (values-id_at c b i inside ∙ there.1) (values-with_slot-same c b i None rows inside (omega arith))
+      count_below-taken (values c) (values after) (id_at b i) there.0 from.behind
+      (values-id_at c b i inside ∙ there.1)
+      (values-with_slot-same c b i None rows inside (omega arith))
       (λ id ne. values-with_slot-other c b i id None rows ne) (read_to raw) (omega arith) in
-      let left : count_ones rest + 1 ≡ count_ones cursor.rest = omega (arith, fewer, counted_at_hand c raw cursor.rest fit at, counted_at_hand after raw rest fits on) in
+      let left : count_ones rest + 1 ≡ count_ones cursor.rest =
+      omega (
+        arith,
+        fewer,
+        counted_at_hand c raw cursor.rest fit at,
+        counted_at_hand after raw rest fits on,
+      ) in
       let few = walk-few (values after) in
       let counted = walks.counted in
       record {
         inside = omega (arith, inside, whole);
         published = published;
         ahead = ⊎_elim
-            (λ (below : id_at b i < given). absurd (is_none (value_in c b i) (sym (values-id_at c b i inside) ∙ before (id_at b i) below) published))
+            (λ (below : id_at b i < given).
+            absurd (is_none (value_in c b i)
+            (sym (values-id_at c b i inside) ∙ before (id_at b i) below) published))
             (λ (from : given ≤ id_at b i). from)
             (cases_lt (id_at b i) given);
         read = omega arith;
         before = omega arith;
         left = left;
         flags = flags;
-        on = record { at = on; counted = omega (arith, left, one, counted); few = omega (arith, left, one, counted, few); fits = walks.fits };
+        on = record {
+          at = on;
+          counted = omega (arith, left, one, counted);
+          few = omega (arith, left, one, counted, few);
+          fits = walks.fits;
+        };
         behind = behind;
         first = λ v here. (taken v here).entries;
       }
 
   -- the flags that a walk reads are of values that were behind those that it passed
-  pub flags_few : (c : Contents V) (cursor : OwnerCursor) (raw : RawIter) (flags : ℕ) → IsOwnerWalk c cursor → cursor.rest ≡ 0 → flags < 2 ^ 64 → IsAt c raw flags → count_ones flags ≤ cursor.later
+  pub flags_few : (c : Contents V) (cursor : OwnerCursor) (raw : RawIter) (flags : ℕ)
+      → IsOwnerWalk c cursor → cursor.rest ≡ 0 → flags < 2 ^ 64 → IsAt c raw flags
+      → count_ones flags ≤ cursor.later
   flags_few c cursor raw flags walks none fits at = omega (arith, few_at_hand c raw flags fits at, walks.counted, no_ones cursor.rest none)
 
-  pub reads_on : (c : Contents V) (cursor : OwnerCursor) (raw : RawIter) (flags : ℕ) → IsOwnerWalk c cursor → cursor.rest ≡ 0 → flags < 2 ^ 64 → IsAt c raw flags → raw.yielded ≡ cursor.raw.yielded
+  pub reads_on : (c : Contents V) (cursor : OwnerCursor) (raw : RawIter) (flags : ℕ)
+      → IsOwnerWalk c cursor → cursor.rest ≡ 0 → flags < 2 ^ 64 → IsAt c raw flags
+      → raw.yielded ≡ cursor.raw.yielded
       → IsOwnerWalk c (behind_flags cursor raw flags) × (values_left (behind_flags cursor raw flags) ≡ values_left cursor)
   reads_on c cursor raw flags walks none fits at yielded =
       let few = flags_few c cursor raw flags walks none fits at in
       let nothing = no_ones cursor.rest none in
       let left : values_left (behind_flags cursor raw flags) ≡ values_left cursor = omega (arith, few, nothing) in (
         record {
-          at = record { in_table = at.in_table; size = at.size; round = at.round; within = at.within; behind = at.behind; whole = at.whole; flags = at.flags; none = at.none };
+          at = record {
+            in_table = at.in_table;
+            size = at.size;
+            round = at.round;
+            within = at.within;
+            behind = at.behind;
+            whole = at.whole;
+            flags = at.flags;
+            none = at.none;
+          };
           counted = left ∙ walks.counted;
           few = omega (arith, left, walks.few);
           fits = omega (arith, few, walks.fits, yielded);

@@ -15,7 +15,9 @@ next_bucket raw = record { yielded = raw.yielded; bucket = raw.bucket + 1; bucke
 
 -- these are the flags of the chunk that a place is in, a bit each
 abbrev pub AreFlagsAt : {V : Type 0} → Contents V → ℕ → ℕ → ℕ → Type 0
-AreFlagsAt contents bucket index flags = (bit : ℕ) → bit < 64 → is_set flags bit ≡ is_some (value_in contents bucket (index / 64 * 64 + bit))
+AreFlagsAt contents bucket index flags =
+    (bit : ℕ) → bit < 64
+    → is_set flags bit ≡ is_some (value_in contents bucket (index / 64 * 64 + bit))
 
 -- the first id whose flag the walk hasn't read
 abbrev pub read_to : RawIter → ℕ

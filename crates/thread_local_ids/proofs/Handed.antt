@@ -21,7 +21,8 @@ use Rattle.thread_local_ids.specs.Locking.{Fitting, offset, LockTurn, named_valu
 use Rattle.thread_local_ids.specs.contracts.lock.LockGuard as guard
 use Rattle.thread_local_ids.proofs.Fields.{FieldsType}
 
-module _ {M : Type 1} {𝓤 : Ura M} (𝓛 : Logic 𝓤) (a : NamedLft) (R : RattleType) (g : Ghosts R.Denot) (d : (guard.the_row a R g).Denot) (b o c e : ℕ) (at : d.lock ≡ block_ptr c e) where
+module _ {M : Type 1} {𝓤 : Ura M} (𝓛 : Logic 𝓤) (a : NamedLft) (R : RattleType) (g : Ghosts R.Denot)
+    (d : (guard.the_row a R g).Denot) (b o c e : ℕ) (at : d.lock ≡ block_ptr c e) where
   open 𝓛 use {H, A}
 
   abbrev G : RattleType
@@ -47,16 +48,36 @@ module _ {M : Type 1} {𝓤 : Ura M} (𝓛 : Logic 𝓤) (a : NamedLft) (R : Rat
   Rest t = sep 𝓤 (sem 𝓛 (finv (fbor t.0 (lock_invariant R ok c e t)))) (sem 𝓛 Data)
 
   abbrev Cut : R.Denot → LockTurn → SProp 𝓤
-  Cut w t = sep 𝓤 (sem 𝓛 (before a.lft t.0)) (sep 𝓤 (A.obs t.1 (R.coded.code w)) (sep 𝓤 (A.bor t.0 (Body (mem R) c (e + offset R) t.1)) (Rest t)))
+  Cut w t =
+      sep 𝓤 (sem 𝓛 (before a.lft t.0))
+      (sep 𝓤 (A.obs t.1 (R.coded.code w))
+      (sep 𝓤 (A.bor t.0 (Body (mem R) c (e + offset R) t.1)) (Rest t)))
 
   back : (t : LockTurn) (w : R.Denot) → ent 𝓤 (Cut w t) (sem 𝓛 (Whole w))
-  back t w = qed 𝓛 (‵ (before a.lft t.0) ∷ ‵ (fobs t.1 (R.coded.code w)) ∷ ‵ (fbor t.0 (named_value R ok c e t)) ∷ (‵ (finv (fbor t.0 (lock_invariant R ok c e t))) ⊛ ‵ Data) ∷ []) ∵ move ! (3 ∷ []) $ split ! $ move ! (2 ∷ 0 ∷ []) $ fjoin ! $ move ! (2 ∷ 3 ∷ []) $ fjoin ! $ move ! (1 ∷ 0 ∷ []) $ fjoin ! $
-      fpack ! LockTurn (λ s. guarding R ok c e s a.lft w) t $ rewrite ! 0 (λ (p : Ptr). ‵ (Had p w)) (sym at) refl $ move ! (1 ∷ 0 ∷ []) $ by ! (part_in 𝓛 (guard.the_type a R g) full_share (F w) b o)
+  back t w =
+      qed 𝓛 (‵ (before a.lft t.0) ∷ ‵ (fobs t.1 (R.coded.code w))
+      ∷ ‵ (fbor t.0 (named_value R ok c e t))
+      ∷ (‵ (finv (fbor t.0 (lock_invariant R ok c e t))) ⊛ ‵ Data) ∷ []) ∵
+      move ! (3 ∷ []) $ split ! $ move ! (2 ∷ 0 ∷ []) $ fjoin ! $ move ! (2 ∷ 3 ∷ []) $ fjoin ! $
+      move ! (1 ∷ 0 ∷ []) $ fjoin ! $
+      fpack ! LockTurn (λ s. guarding R ok c e s a.lft w) t $
+      rewrite ! 0 (λ (p : Ptr). ‵ (Had p w)) (sym at) refl $ move ! (1 ∷ 0 ∷ []) $
+      by ! (part_in 𝓛 (guard.the_type a R g) full_share (F w) b o)
 
   cut : ent 𝓤 (sem 𝓛 (part_at G full_share d b o)) (ex 𝓤 (Cut d.value))
-  cut = qed 𝓛 (‵ (part_at G full_share d b o) ∷ []) ∵ use1 𝓛 (‵ Data ⊛ ‵ (Had d.lock d.value)) (part_out 𝓛 (guard.the_type a R g) full_share d b o) $ split ! $ move ! (1 ∷ []) $ rewrite ! 0 (λ (p : Ptr). ‵ (Had p d.value)) at refl $
-      fpick ! (λ t. fsplit ! $ fsplit ! $ move ! (2 ∷ []) $ fsplit ! $ show ! (Cut d.value) t $ move ! (2 ∷ 0 ∷ 1 ∷ 3 ∷ []) $ done !)
+  cut =
+      qed 𝓛 (‵ (part_at G full_share d b o) ∷ []) ∵
+      use1 𝓛 (‵ Data ⊛ ‵ (Had d.lock d.value))
+      (part_out 𝓛 (guard.the_type a R g) full_share d b o) $
+      split ! $ move ! (1 ∷ []) $ rewrite ! 0 (λ (p : Ptr). ‵ (Had p d.value)) at refl $
+      fpick ! (λ t.
+      fsplit ! $ fsplit ! $ move ! (2 ∷ []) $ fsplit ! $ show ! (Cut d.value) t $
+      move ! (2 ∷ 0 ∷ 1 ∷ 3 ∷ []) $ done !)
 
   pub hands_value : (κ : Lft) (q : Share) (γ : GName) → Incl κ a.lft
-      → ent 𝓤 (sep 𝓤 (A.obs γ (G.coded.code d)) (sep 𝓤 (A.bor κ (Body (mem G) b o γ)) (A.lft κ q))) (H.⇛ (ex 𝓤 (Handed 𝓛 (mem G) (mem R) F (λ v w same. ap (λ (h : G.Denot). h.value) same) b o c (e + offset R) γ κ q d.value)))
-  hands_value κ q γ inc = hands_before 𝓛 (mem G) (mem R) F (λ v w same. ap (λ (h : G.Denot). h.value) same) b o c (e + offset R) γ κ a.lft inc LockTurn (λ t. t.0) (λ t. t.1) Rest back q d d.value cut
+      → ent 𝓤 (sep 𝓤 (A.obs γ (G.coded.code d)) (sep 𝓤 (A.bor κ (Body (mem G) b o γ)) (A.lft κ q)))
+      (H.⇛ (ex 𝓤 (Handed 𝓛 (mem G) (mem R) F (λ v w same. ap (λ (h : G.Denot). h.value) same) b
+      o c (e + offset R) γ κ q d.value)))
+  hands_value κ q γ inc =
+      hands_before 𝓛 (mem G) (mem R) F (λ v w same. ap (λ (h : G.Denot). h.value) same) b o c
+      (e + offset R) γ κ a.lft inc LockTurn (λ t. t.0) (λ t. t.1) Rest back q d d.value cut

@@ -18,9 +18,18 @@ use Rattle.std.proofs.cell.Inside.{spread, gather}
 
 module _ {M : Type 1} {𝓤 : Ura M} (𝓛 : Logic 𝓤) (b o n : ℕ) where
   pub word_out : ent 𝓤 (sem 𝓛 (part_at (UInt w64) full_share n b o)) (sem 𝓛 (word b o n))
-  word_out = qed 𝓛 (‵ (part_at (UInt w64) full_share n b o) ∷ []) ∵ spread flag ! (u64-laws.lawful 𝓛) n b o (λ v g. move ! (1 ∷ []) $ fsplit ! $ feq_l ! (λ ev. move ! (1 ∷ []) $
+  word_out =
+      qed 𝓛 (‵ (part_at (UInt w64) full_share n b o) ∷ []) ∵
+      spread flag ! (u64-laws.lawful 𝓛) n b o (λ v g. move ! (1 ∷ []) $ fsplit ! $ feq_l ! (λ ev.
+      move ! (1 ∷ []) $
       rewrite ! 0 (λ (u : Val). ‵ (fat full_share (ty_int w64) b o u)) (ap only ev) refl $ keep ! (0 ∷ []) $ done !))
 
   pub word_in : ent 𝓤 (sem 𝓛 (word b o n)) (sem 𝓛 (part_at (UInt w64) full_share n b o))
-  word_in = qed 𝓛 (‵ (word b o n) ∷ []) ∵ use1 𝓛 (given (T (has_ty (ty_int w64) (vint w64 n)) × WT (vint w64 n)) (‵ (word b o n))) (𝓛.laws.at_wt full_share (ty_int w64) b o (vint w64 n)) $ learn ! (λ typed.
-      flt_i ! n (2 ^ 64) typed.1.fits $ feq_i ! (List Val) (vint w64 n ∷ []) (vint w64 n ∷ []) refl $ fjoin ! $ move ! (1 ∷ 0 ∷ []) $ gather flag ! n (vint w64 n) b o $ done !)
+  word_in =
+      qed 𝓛 (‵ (word b o n) ∷ []) ∵
+      use1 𝓛 (given (T (has_ty (ty_int w64) (vint w64 n)) × WT (vint w64 n)) (‵ (word b o n)))
+      (𝓛.laws.at_wt full_share (ty_int w64) b o (vint w64 n)) $
+      learn ! (λ typed.
+      flt_i ! n (2 ^ 64) typed.1.fits $
+      feq_i ! (List Val) (vint w64 n ∷ []) (vint w64 n ∷ []) refl $ fjoin ! $ move ! (1 ∷ 0 ∷ []) $
+      gather flag ! n (vint w64 n) b o $ done !)

@@ -16,4 +16,7 @@ ids_of i = record { manager = i.manager; table = i.rights.table; table_right_is_
 
 -- the right to an id is out exactly where the id is held, and so is its mark
 abbrev pub IsTied : Inside → Type 0
-IsTied i = (id : ℕ) → id < 2 ^ 63 - 1 → (is_out i.rights.out id ≡ is_held i.manager.held id) × (is_out i.rights.out (id + 2 ^ 63) ≡ is_held i.manager.held id)
+IsTied i =
+    (id : ℕ) → id < 2 ^ 63 - 1
+    → (is_out i.rights.out id ≡ is_held i.manager.held id)
+    × (is_out i.rights.out (id + 2 ^ 63) ≡ is_held i.manager.held id)

@@ -1,6 +1,7 @@
 -- Any two proofs of `Judged` are equal.
 use Rattle.std.proofs.Common.{◌≡◌, inl, inr, ap, refl}
-use base.Fml.{Fml, ftrue, ffalse, feq, flt, fsep, fand, for, fwand, fex, fall, fupd, fhide, fat, froom, fleft, fdies, flft, fdead, fobs, fauth, fres, fown, fbor, fobor, flent, fshr_bor, finv, fnamed, ftok, fkid, fme, fsent}
+use base.Fml.{Fml, ftrue, ffalse, feq, flt, fsep, fand, for, fwand, fex, fall, fupd, fhide, fat, froom, fleft, fdies}
+use base.Fml.{flft, fdead, fobs, fauth, fres, fown, fbor, fobor, flent, fshr_bor, finv, fnamed, ftok, fkid, fme, fsent}
 use base.Shift.{Keyless}
 use denote.RattleType.{RattleType}
 use Rattle.thread_local_judged.specs.Judged.{Shareable, Judged}

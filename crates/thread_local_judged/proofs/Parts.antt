@@ -32,7 +32,9 @@ abbrev holds : (Fs : List Field) → ℕ → ℕ → ℕ → Values Fs → Lft �
 holds Fs e b o v κ = fields_shared (rows Fs) e (intos Fs v) b o κ
 
 abbrev FieldsJudged : List Field → Type 0
-FieldsJudged Fs = ((v : Values Fs) (e b o : ℕ) (κ : Lft) → Keyless (holds Fs e b o v κ)) ⊎ ((e b o : ℕ) → NamesThread (holds Fs e b o))
+FieldsJudged Fs =
+    ((v : Values Fs) (e b o : ℕ) (κ : Lft) → Keyless (holds Fs e b o v κ))
+    ⊎ ((e b o : ℕ) → NamesThread (holds Fs e b o))
 
 with_field : (F : Field) (Fs : List Field) → JudgedEverywhere (as_row F) → Values Fs → FieldsJudged Fs → FieldsJudged (F ∷ Fs)
 with_field F Fs (inl at) vs (inl rest) = inl (λ v e b o κ. (at.1 v.0 b _ κ, rest v.1 _ b o κ))
@@ -48,7 +50,9 @@ fields [] j = inl (λ v e b o κ. tt)
 fields (F ∷ Fs) j = with_field F Fs j.0 (values Fs j.1) (fields Fs j.1)
 
 -- a struct, whose ghost fields hold at all values
-pub structure : (T : struct.Declared) → ((v : Values T.parts) → T.cover.Ghost v) → FieldsHave JudgedEverywhere T.parts → JudgedEverywhere (struct.row T)
+pub structure : (T : struct.Declared) → ((v : Values T.parts) → T.cover.Ghost v)
+    → FieldsHave JudgedEverywhere T.parts
+    → JudgedEverywhere (struct.row T)
 structure T ghost j = elim (fields T.parts j) [
   | inl shared ↦ inl (
     T.cover.make (values T.parts j) (ghost _),
@@ -57,8 +61,14 @@ structure T ghost j = elim (fields T.parts j) [
   )
   | inr names ↦ inr (λ b o.
       let at = names 0 b o in
-      let is : T.to (T.cover.make at.value (ghost _)) ≡ intos T.parts at.value = T.to_is _ ∙ ap (intos T.parts) (T.cover.beta at.value (ghost _)) in
-      record { value = T.cover.make at.value (ghost _); lifetime = at.lifetime; names = λ k. at.names (subst (λ a. Keyless (fields_shared (rows T.parts) 0 a b o at.lifetime)) is k.0) })
+      let is : T.to (T.cover.make at.value (ghost _)) ≡ intos T.parts at.value =
+      T.to_is _ ∙ ap (intos T.parts) (T.cover.beta at.value (ghost _)) in
+      record {
+        value = T.cover.make at.value (ghost _);
+        lifetime = at.lifetime;
+        names = λ k.
+            at.names (subst (λ a. Keyless (fields_shared (rows T.parts) 0 a b o at.lifetime)) is k.0);
+      })
 ]
 
 -- what a `&` to an enum holds, of any tag k
@@ -74,14 +84,20 @@ LiveNames ω Fss = (b o : ℕ) → (c : enum.Choice Fss) × (κ : Lft) × ((k : 
 tag_sync : IsSync (UInt w8)
 tag_sync = search sendable
 
-either : (ω : Ty) (Fs : List Field) (Fss : List (List Field)) → ((v : Values Fs) (e b o : ℕ) (κ : Lft) → Keyless (holds Fs e b o v κ)) → LiveShared ω Fss → LiveShared ω (Fs ∷ Fss)
+either : (ω : Ty) (Fs : List Field) (Fss : List (List Field))
+    → ((v : Values Fs) (e b o : ℕ) (κ : Lft) → Keyless (holds Fs e b o v κ)) → LiveShared ω Fss
+    → LiveShared ω (Fs ∷ Fss)
 either ω Fs Fss each rest (inl v) k b o κ = ((tag_sync.shared k b _ κ, each v _ b o κ), λ q. tt)
 either ω Fs Fss each rest (inr c) k b o κ = rest c k b o κ
 
-with_variant : (ω : Ty) (Fs : List Field) (Fss : List (List Field)) → FieldsJudged Fs → LiveShared ω Fss ⊎ LiveNames ω Fss → LiveShared ω (Fs ∷ Fss) ⊎ LiveNames ω (Fs ∷ Fss)
+with_variant : (ω : Ty) (Fs : List Field) (Fss : List (List Field)) → FieldsJudged Fs
+    → LiveShared ω Fss ⊎ LiveNames ω Fss
+    → LiveShared ω (Fs ∷ Fss) ⊎ LiveNames ω (Fs ∷ Fss)
 with_variant ω Fs Fss (inl each) (inl rest) = inl (either ω Fs Fss each rest)
 with_variant ω Fs Fss (inl each) (inr names) = inr (λ b o. let at = names b o in (inr at.0, at.1, at.2))
-with_variant ω Fs Fss (inr names) rest = inr (λ b o. let at = names _ b o in (inl at.value, at.lifetime, λ k shared. at.names shared.0.1))
+with_variant ω Fs Fss (inr names) rest =
+    inr (λ b o.
+    let at = names _ b o in (inl at.value, at.lifetime, λ k shared. at.names shared.0.1))
 
 variants : (ω : Ty) (Fss : List (List Field)) → VariantsHave JudgedEverywhere Fss → LiveShared ω Fss ⊎ LiveNames ω Fss
 variants ω [] j = inl (λ c k b o κ. absurd c)
@@ -94,5 +110,14 @@ enumeration N value j = let ω = raw (layout (enum.shape (enum.declared N))) in
       | inl shared ↦ inl (value, λ d b o κ. shared (N.as_values d) _ b o κ)
       | inr names ↦ inr (λ b o.
           let at = names b o in
-          record { value = N.make at.0; lifetime = at.1; names = λ k. at.2 _ (subst (λ c. Keyless (live ω N.parts (tag (enum.rowss N.parts) (enum.intoss N.parts c)) b o c at.1)) (N.beta at.0) k) })
+          record {
+            value = N.make at.0;
+            lifetime = at.1;
+            names = λ k.
+                at.2 _
+                (subst (λ c.
+                Keyless (live ω N.parts (tag (enum.rowss N.parts) (enum.intoss N.parts c)) b o
+                c at.1))
+                (N.beta at.0) k);
+          })
     ]

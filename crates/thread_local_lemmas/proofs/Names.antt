@@ -1,5 +1,9 @@
 -- The names of the logic that proofs by hand use, exported from one file.
-pub use Rattle.std.proofs.Common.{◌≡◌, ℕ, zero, suc, ◌+◌, ◌-◌, ◌*◌, ◌^◌, ◌<◌, ◌≤◌, List, [], ◌∷◌, ◌++◌, length, length-append, length-set, set, refl, sym, ap, ◌∙◌, subst, lit<, arith, w64, Bool, true, false, T, mul-le-mul_right, suc-mul, zero-mul, ◌≢◌, get_or, map, mul-le-mul_left, mul-lt-mul_of_pos_right, is_some, IsSome, slice_index_or, slice_set, ◌&&◌}
+pub use Rattle.std.proofs.Common.{◌≡◌, ℕ, zero, suc, ◌+◌, ◌-◌, ◌*◌, ◌^◌, ◌<◌, ◌≤◌, List, [], ◌∷◌, ◌++◌, length}
+pub use Rattle.std.proofs.Common.{length-append, length-set, set, refl, sym, ap, ◌∙◌, subst, lit<, arith, w64, Bool}
+pub use Rattle.std.proofs.Common.{true, false, T, mul-le-mul_right, suc-mul, zero-mul, ◌≢◌, get_or, map}
+pub use Rattle.std.proofs.Common.{mul-le-mul_left, mul-lt-mul_of_pos_right, is_some, IsSome, slice_index_or, slice_set}
+pub use Rattle.std.proofs.Common.{◌&&◌}
 pub use Rattle.std.specs.Prelude.{Option, Some, None}
 pub use seplogic.Ra.Ura.{Ura}
 pub use mir.Syntax.{Ty, Body, dcons, dnil, a_type, named, ty_int, ty_ptr, ty_array, ty_struct, tcons, tnil}
@@ -11,9 +15,15 @@ pub use base.Logic.{SProp, ent, sep, wand, ex, all, all_e, guard, emp, via, id�
 pub use base.Fml.{Lft, Share, GName, Fml, ftrue, fsep, fex, fat, froom, fwand, flft, fbor, fobs, fauth, ffalse, fobor, finv}
 pub use prog.Wp.{WpFn}
 pub use types.Logic.{Logic, sem}
-pub use types.Kit.{‵, raw, ◌⊛◌, some, given, later, mean, at_ret, any_q, ◌$◌, ◌∵◌, !, qed, by, move, keep, drop, split, split3, join, fsplit, fsplit3, fjoin, fjoin3, fpick, fpack, pick, learn, check, show, frame, each, assume, use0, use1, use2, use3, await, updating, now, rewrite, feq_i, feq_l, flt_i, suffices, group, done}
-pub use types.Run.{stop, fld, hop, load, addr, lit, unit_lit, size_word, align_word, of_opd, bin, no_more, and_then, first, blocks, exec, switches_on, returns, enter, init, store, look, look_raw, assigns, assigns_last, branches, un, Calls-last}
-pub use types.ByLocal.{alloc_all, pass_all, free_all, look_at, get, get_in, get_tag, through, sets, sets_last, lands_as, lands_last, is, env}
+pub use types.Kit.{‵, raw, ◌⊛◌, some, given, later, mean, at_ret, any_q, ◌$◌, ◌∵◌, !, qed, by, move, keep, drop, split}
+pub use types.Kit.{split3, join, fsplit, fsplit3, fjoin, fjoin3, fpick, fpack, pick, learn, check, show, frame, each}
+pub use types.Kit.{assume, use0, use1, use2, use3, await, updating, now, rewrite, feq_i, feq_l, flt_i, suffices, group}
+pub use types.Kit.{done}
+pub use types.Run.{stop, fld, hop, load, addr, lit, unit_lit, size_word, align_word, of_opd, bin, no_more, and_then}
+pub use types.Run.{first, blocks, exec, switches_on, returns, enter, init, store, look, look_raw, assigns, assigns_last}
+pub use types.Run.{branches, un, Calls-last}
+pub use types.ByLocal.{alloc_all, pass_all, free_all, look_at, get, get_in, get_tag, through, sets, sets_last, lands_as}
+pub use types.ByLocal.{lands_last, is, env}
 pub use types.Part.{agg, sub, look_in, whole}
 pub use types.Match.{live, vrt, in_variant}
 pub use types.Mut.{open_ref}

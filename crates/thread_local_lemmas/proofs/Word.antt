@@ -1,6 +1,8 @@
 -- One 64-bit word: testing, setting and clearing a bit, finding the lowest set or unset one, keeping
 -- the highest, and counting the set ones.
-use Rattle.std.proofs.Common.{◌≡◌, ◌≢◌, ℕ, zero, suc, ◌+◌, ◌-◌, ◌*◌, ◌/◌, ◌%◌, ◌^◌, ◌<◌, ◌≤◌, Bool, true, false, cond, eqb, min, max, length, get_or, bit_and, bit_or, count_ones, zero-mul, refl, ap, sym, subst, ◌∙◌, arith, ⊎_elim}
+use Rattle.std.proofs.Common.{◌≡◌, ◌≢◌, ℕ, zero, suc, ◌+◌, ◌-◌, ◌*◌, ◌/◌, ◌%◌, ◌^◌, ◌<◌, ◌≤◌, Bool, true, false, cond}
+use Rattle.std.proofs.Common.{eqb, min, max, length, get_or, bit_and, bit_or, count_ones, zero-mul, refl, ap, sym}
+use Rattle.std.proofs.Common.{subst, ◌∙◌, arith, ⊎_elim}
 use Rattle.std.specs.Int.{w64, bit_not, bit_at, trailing_ones, trailing_zeros}
 use Rattle.std.specs.Int.Bits.{or_add_and}
 use Rattle.std.specs.List.{count_by}
@@ -9,7 +11,10 @@ use Rattle.std.proofs.lemmas.List.{map-id}
 use Rattle.std.proofs.lemmas.List.FromFn.{length-map-range_with_len, get_or-map-range_with_len}
 use Rattle.std.proofs.Math.Nat.{div-le_self, two-pow-succ}
 use Rattle.std.proofs.lemmas.Nat.{pow_pos, pow_below, one_shl, or_lt, and_le_l, and_mask}
-use Rattle.std.proofs.lemmas.Nat.Bits.{shr_and_one, bit_at-zero, bit_at-lt, bit_at_and, bit_at_or, and_pow, bit_at_ones, bit_at_ones_above, bit_at-trailing_zeros, bit_at_set_same, bit_at_set_other, bit_at_clear_same, bit_at_clear_other, bit_at-trailing_ones, same_from_bits_below}
+use Rattle.std.proofs.lemmas.Nat.Bits.{shr_and_one, bit_at-zero, bit_at-lt, bit_at_and, bit_at_or, and_pow, bit_at_ones}
+use Rattle.std.proofs.lemmas.Nat.Bits.{bit_at_ones_above, bit_at-trailing_zeros, bit_at_set_same, bit_at_set_other}
+use Rattle.std.proofs.lemmas.Nat.Bits.{bit_at_clear_same, bit_at_clear_other, bit_at-trailing_ones}
+use Rattle.std.proofs.lemmas.Nat.Bits.{same_from_bits_below}
 use Rattle.std.proofs.lemmas.Simd.{mask_l-lt, bit_mask_l, ones-mask_l}
 use lib.Lanes.{mask_l}
 use Rattle.thread_local_lemmas.specs.Bits.{is_set, low_bits, IsLowestUnset, IsLowestSet, IsWordBut}
@@ -68,13 +73,19 @@ bit_at-is word bit =
 -- a word is the number that its bits make
 low_bits-make : (count word : ℕ) → word < 2 ^ count → word ≡ mask_l (low_bits count word)
 low_bits-make count word fits =
-    same_from_bits_below count word (mask_l (low_bits count word)) fits (subst (λ n. mask_l (low_bits count word) < 2 ^ n) (length-low_bits count word) (mask_l-lt (low_bits count word)))
-    (λ i below. bit_at-is word i ∙ ap (λ b. cond b 1 0) (sym (get_or-low_bits count word i below)) ∙ sym (bit_mask_l (low_bits count word) i))
+    same_from_bits_below count word (mask_l (low_bits count word)) fits
+    (subst (λ n. mask_l (low_bits count word) < 2 ^ n) (length-low_bits count word)
+    (mask_l-lt (low_bits count word)))
+    (λ i below.
+    bit_at-is word i
+    ∙ ap (λ b. cond b 1 0) (sym (get_or-low_bits count word i below))
+    ∙ sym (bit_mask_l (low_bits count word) i))
 
 -- `count_ones` counts the bits that are set
 pub count_ones-counts : (count word : ℕ) → word < 2 ^ count → count_ones word ≡ count_by (λ b. b) (low_bits count word)
 count_ones-counts count word fits =
-    ap count_ones (low_bits-make count word fits ∙ ap mask_l (sym (map-id (low_bits count word)))) ∙ ones-mask_l (λ b. b) (low_bits count word)
+    ap count_ones (low_bits-make count word fits ∙ ap mask_l (sym (map-id (low_bits count word))))
+    ∙ ones-mask_l (λ b. b) (low_bits count word)
 
 -- a bit that isn't set is 0
 bit_at-unset : (word bit : ℕ) → is_set word bit ≡ false → bit_at word bit ≡ 0
@@ -82,11 +93,15 @@ bit_at-unset word bit unset = bit_at-is word bit ∙ ap (λ b. cond b 1 0) unset
 
 -- words with the same bits are equal
 pub same_bits : (a b : ℕ) → a < 2 ^ 64 → b < 2 ^ 64 → ((i : ℕ) → i < 64 → is_set a i ≡ is_set b i) → a ≡ b
-same_bits a b fits fit same = same_from_bits_below 64 a b fits fit (λ i inside. bit_at-is a i ∙ ap (λ v. cond v 1 0) (same i inside) ∙ sym (bit_at-is b i))
+same_bits a b fits fit same =
+    same_from_bits_below 64 a b fits fit
+    (λ i inside. bit_at-is a i ∙ ap (λ v. cond v 1 0) (same i inside) ∙ sym (bit_at-is b i))
 
 -- a word without a set bit is 0
 pub none_set : (word : ℕ) → word < 2 ^ 64 → ((i : ℕ) → i < 64 → is_set word i ≡ false) → word ≡ 0
-none_set word fits none = same_from_bits_below 64 word 0 fits (omega arith) (λ i within. bit_at-unset word i (none i within) ∙ sym (bit_at-zero i))
+none_set word fits none =
+    same_from_bits_below 64 word 0 fits (omega arith)
+    (λ i within. bit_at-unset word i (none i within) ∙ sym (bit_at-zero i))
 
 -- writing a bit as it is doesn't change the word
 pub same_bit : (word bit : ℕ) (value : Bool) → is_set word bit ≡ value → IsWordBut word word bit value
@@ -96,21 +111,26 @@ same_bit word bit value told i inside =
 -- where a bit isn't set, adding it sets it: nothing carries
 pub added_is : (word bit : ℕ) → is_set word bit ≡ false → word + 2 ^ bit ≡ bit_or word (2 ^ bit)
 added_is word bit unset =
-    let none : bit_and word (2 ^ bit) ≡ 0 = and_pow word bit ∙ ap (λ b. b * 2 ^ bit) (bit_at-unset word bit unset) ∙ zero-mul (2 ^ bit) in omega (arith, or_add_and word (2 ^ bit))
+    let none : bit_and word (2 ^ bit) ≡ 0 =
+    and_pow word bit ∙ ap (λ b. b * 2 ^ bit) (bit_at-unset word bit unset) ∙ zero-mul (2 ^ bit) in
+    omega (arith, or_add_and word (2 ^ bit))
 
 pub added_fits : (word bit : ℕ) → bit < 64 → word < 2 ^ 64 → is_set word bit ≡ false → word + 2 ^ bit < 2 ^ 64
 added_fits word bit within fits unset = rw (added_is word bit unset) (or_lt 64 word (2 ^ bit) fits (pow_below bit 64 within))
 
 -- so adding a bit that isn't set, `word + (1 << bit)`, changes that bit and no other
-pub add_bit : (word bit : ℕ) → bit < 64 → word < 2 ^ 64 → is_set word bit ≡ false → IsWordBut ((word + 2 ^ bit) % 2 ^ 64) word bit true
+pub add_bit : (word bit : ℕ) → bit < 64 → word < 2 ^ 64 → is_set word bit ≡ false
+    → IsWordBut ((word + 2 ^ bit) % 2 ^ 64) word bit true
 add_bit word bit within fits unset =
     let fit = added_fits word bit within fits unset in
     let plain : (word + 2 ^ bit) % 2 ^ 64 ≡ bit_or word (1 * 2 ^ bit % 2 ^ 64) =
-    (let same : (word + 2 ^ bit) % 2 ^ 64 ≡ word + 2 ^ bit = omega arith in same ∙ added_is word bit unset ∙ ap (bit_or word) (sym (one_shl bit 64 within))) in
+    (let same : (word + 2 ^ bit) % 2 ^ 64 ≡ word + 2 ^ bit = omega arith in
+    same ∙ added_is word bit unset ∙ ap (bit_or word) (sym (one_shl bit 64 within))) in
     rw plain (set_bit word bit within)
 
 -- the same in the form that code has
-pub add_shifted : (word bit : ℕ) → bit < 64 → word < 2 ^ 64 → is_set word bit ≡ false → IsWordBut ((word + 1 * 2 ^ bit % 2 ^ 64) % 2 ^ 64) word bit true
+pub add_shifted : (word bit : ℕ) → bit < 64 → word < 2 ^ 64 → is_set word bit ≡ false
+    → IsWordBut ((word + 1 * 2 ^ bit % 2 ^ 64) % 2 ^ 64) word bit true
 add_shifted word bit within fits unset = rw (one_shl bit 64 within) (add_bit word bit within fits unset)
 
 -- a word with a bit set or cleared is a word
@@ -141,13 +161,15 @@ lowest_set word fits apart =
     record { within = at.0; set = ap (λ b. eqb b 1) at.1; lower = λ i below. ap (λ b. eqb b 1) (at.2 i below) }
 
 -- a word is the sum of one of its set bits and the word without it
-cleared_and_bit : (word bit : ℕ) → bit < 64 → word < 2 ^ 64 → is_set word bit ≡ true → bit_and word (bit_not w64 (1 * 2 ^ bit % 2 ^ 64)) + 2 ^ bit ≡ word
+cleared_and_bit : (word bit : ℕ) → bit < 64 → word < 2 ^ 64 → is_set word bit ≡ true
+    → bit_and word (bit_not w64 (1 * 2 ^ bit % 2 ^ 64)) + 2 ^ bit ≡ word
 cleared_and_bit word bit within fits here =
     let rest : ℕ = bit_and word (bit_not w64 (1 * 2 ^ bit % 2 ^ 64)) in
     let but = clear_bit word bit within in
     let gone : is_set rest bit ≡ false = but bit within ∙ rw (eq-eqb bit bit refl) refl in
     let back = set_bit rest bit within in
-    let again : (i : ℕ) → i < 64 → is_set (bit_or rest (1 * 2 ^ bit % 2 ^ 64)) i ≡ is_set word i = λ i inside. back i inside ∙ ⊎_elim
+    let again : (i : ℕ) → i < 64 → is_set (bit_or rest (1 * 2 ^ bit % 2 ^ 64)) i ≡ is_set word i =
+    λ i inside. back i inside ∙ ⊎_elim
     (λ (same : bit ≡ i). rw (eq-eqb bit i same, ← same) (sym here))
     (λ apart. rw (ne_eqb bit i apart) (but i inside ∙ rw (ne_eqb bit i apart) refl))
     (cases_eq bit i) in
@@ -165,7 +187,9 @@ one_less word fits bit low =
     let both = bit_at_and rest (2 ^ bit - 1) i in
     let none : bit_at (bit_and rest (2 ^ bit - 1)) i ≡ 0 = ⊎_elim
     (λ (below : i < bit).
-    let off : bit_at rest i ≡ 0 = bit_at-unset rest i (but i inside ∙ rw (ne_eqb bit i (λ e. absurd (omega arith))) (low.lower i below)) in
+    let off : bit_at rest i ≡ 0 =
+    bit_at-unset rest i
+    (but i inside ∙ rw (ne_eqb bit i (λ e. absurd (omega arith))) (low.lower i below)) in
     omega arith)
     (λ from. let off : bit_at (2 ^ bit - 1) i ≡ 0 = bit_at_ones_above bit i from in omega arith)
     (cases_lt i bit) in
@@ -177,7 +201,8 @@ pub clear_lowest_at : (word bit : ℕ) → word < 2 ^ 64 → IsLowestSet word bi
 clear_lowest_at word bit fits low i inside =
     let rest : ℕ = bit_and word (bit_not w64 (1 * 2 ^ bit % 2 ^ 64)) in
     let but = clear_bit word bit low.within in
-    let less : bit_at (word - 1) i ≡ max (bit_at rest i) (bit_at (2 ^ bit - 1) i) = ap (λ w. bit_at w i) (one_less word fits bit low) ∙ bit_at_or rest (2 ^ bit - 1) i in
+    let less : bit_at (word - 1) i ≡ max (bit_at rest i) (bit_at (2 ^ bit - 1) i) =
+    ap (λ w. bit_at w i) (one_less word fits bit low) ∙ bit_at_or rest (2 ^ bit - 1) i in
     let both : bit_at (bit_and word (word - 1)) i ≡ min (bit_at word i) (bit_at (word - 1) i) = bit_at_and word (word - 1) i in
     ⊎_elim
     (λ (same : bit ≡ i).
@@ -186,7 +211,10 @@ clear_lowest_at word bit fits low i inside =
     let none : bit_at (bit_and word (word - 1)) i ≡ 0 = omega arith in
     rw (eq-eqb bit i same) (ap (λ b. eqb b 1) none))
     (λ (apart : bit ≢ i).
-    let keeps : bit_at rest i ≡ bit_at word i = bit_at-is rest i ∙ ap (λ b. cond b 1 0) (but i inside ∙ rw (ne_eqb bit i apart) refl) ∙ sym (bit_at-is word i) in
+    let keeps : bit_at rest i ≡ bit_at word i =
+    bit_at-is rest i
+    ∙ ap (λ b. cond b 1 0) (but i inside ∙ rw (ne_eqb bit i apart) refl)
+    ∙ sym (bit_at-is word i) in
     let same : bit_at (bit_and word (word - 1)) i ≡ bit_at word i = ⊎_elim
     (λ (below : i < bit). let off : bit_at word i ≡ 0 = bit_at-unset word i (low.lower i below) in omega arith)
     (λ from. let above : bit_at (2 ^ bit - 1) i ≡ 0 = bit_at_ones_above bit i from in omega arith)
@@ -199,6 +227,7 @@ set_lowest : (word : ℕ) → bit_or word 1 ≡ word + 1 - word % 2
 set_lowest word = omega (arith, or_add_and word 1, and_mask word 1)
 
 -- so it keeps the highest bit of a number that isn't 0
-pub highest_kept : (word bit : ℕ) → 0 < word → 2 ^ bit ≤ bit_or word 1 → bit_or word 1 < 2 * 2 ^ bit → (2 ^ bit ≤ word) × (word < 2 * 2 ^ bit)
+pub highest_kept : (word bit : ℕ) → 0 < word → 2 ^ bit ≤ bit_or word 1 → bit_or word 1 < 2 * 2 ^ bit
+    → (2 ^ bit ≤ word) × (word < 2 * 2 ^ bit)
 highest_kept word zero some low high = let set = set_lowest word in (omega arith, omega arith)
 highest_kept word (suc bit) some low high = let set = set_lowest word in let twice = two-pow-succ bit in (omega arith, omega arith)

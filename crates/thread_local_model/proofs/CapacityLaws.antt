@@ -1,5 +1,6 @@
 -- Binary digits, the buckets that a capacity reserves, and how many slots these have.
-use Rattle.std.proofs.Common.{◌≡◌, ℕ, zero, suc, ◌+◌, ◌-◌, ◌*◌, ◌^◌, ◌<◌, ◌≤◌, IsTrue, refl, arith, pow_mono, pow_pos, add-one, ⊎_elim}
+use Rattle.std.proofs.Common.{◌≡◌, ℕ, zero, suc, ◌+◌, ◌-◌, ◌*◌, ◌^◌, ◌<◌, ◌≤◌, IsTrue, refl, arith, pow_mono, pow_pos}
+use Rattle.std.proofs.Common.{add-one, ⊎_elim}
 use Rattle.std.specs.Prelude.{nat_lt, ◌↔◌}
 use Rattle.std.proofs.lemmas.Bool.{cases_lt, ltb-true, lt-ltb, le-ltb}
 use Rattle.std.proofs.Math.Nat.{two-pow-succ}
@@ -60,8 +61,13 @@ below_first k id h =
 pub reserved_buckets : (capacity id : ℕ) → IsTrue (is_reserved capacity id) ↔ IsTrue (reserves_bucket capacity (bucket_of id))
 unfolding reserved_slots
 reserved_buckets capacity id = (
-  (λ t. lt-ltb (bucket_of id) (binary_digits capacity) (in_first (binary_digits capacity) id (ltb-true id (2 ^ binary_digits capacity - 1) t))),
-  (λ t. lt-ltb id (2 ^ binary_digits capacity - 1) (below_first (binary_digits capacity) id (ltb-true (bucket_of id) (binary_digits capacity) t))),
+  (λ t.
+      lt-ltb (bucket_of id) (binary_digits capacity)
+      (in_first (binary_digits capacity) id (ltb-true id (2 ^ binary_digits capacity - 1) t))),
+  (λ t.
+      lt-ltb id (2 ^ binary_digits capacity - 1)
+      (below_first (binary_digits capacity) id
+      (ltb-true (bucket_of id) (binary_digits capacity) t))),
 )
 
 -- the first slot of each of the first n buckets is one of the first 2 ^ n - 1 slots

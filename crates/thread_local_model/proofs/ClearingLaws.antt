@@ -1,6 +1,7 @@
 -- Cleared contents: the reserved buckets stand, with all their slots empty, and no other bucket
 -- does.
-use Rattle.std.proofs.Common.{◌≡◌, ℕ, ◌-◌, ◌^◌, ◌<◌, ◌≤◌, Bool, true, false, cond, length, List, [], Option, None, get_or, refl, ap, sym, ◌∙◌, arith, ⊎_elim, pow_mono}
+use Rattle.std.proofs.Common.{◌≡◌, ℕ, ◌-◌, ◌^◌, ◌<◌, ◌≤◌, Bool, true, false, cond, length, List, [], Option, None}
+use Rattle.std.proofs.Common.{get_or, refl, ap, sym, ◌∙◌, arith, ⊎_elim, pow_mono}
 use Rattle.std.specs.Prelude.{nat_lt}
 use Rattle.std.proofs.lemmas.Bool.{cases_lt, cond-false, lt-ltb, le-ltb}
 use Rattle.std.proofs.lemmas.List.{get_or_past}
@@ -33,7 +34,8 @@ none-row V b i true = slot-empty_row V b i
 none-row V b i false = refl
 
 module _ {V : Type 0} where
-  module _ (c : Contents V) (reserved : ℕ) (table : IsTable c) (first : AreOfFirstBuckets reserved) (cleared : (b : ℕ) → b < 63 → row c b ≡ cleared_row reserved b) where
+  module _ (c : Contents V) (reserved : ℕ) (table : IsTable c) (first : AreOfFirstBuckets reserved)
+      (cleared : (b : ℕ) → b < 63 → row c b ≡ cleared_row reserved b) where
     -- past the last bucket there is nothing
     pub row-cleared : (b : ℕ) → row c b ≡ cleared_row reserved b
     row-cleared b =
@@ -43,7 +45,9 @@ module _ {V : Type 0} where
         let up : 2 ^ first.buckets ≤ 2 ^ b = pow_mono (let within = first.in_table in omega arith) in
         let past : length c.rows ≤ b = (let rows = table.buckets in omega arith) in
         let all = first.all in
-        get_or_past c.rows b [] past ∙ sym (cond-false (nat_lt (id_at b 0) reserved) (empty_row b) [] (le-ltb (id_at b 0) reserved (omega arith))))
+        get_or_past c.rows b [] past
+        ∙ sym (cond-false (nat_lt (id_at b 0) reserved) (empty_row b) []
+        (le-ltb (id_at b 0) reserved (omega arith))))
         (cases_lt b 63)
 
     -- exactly the reserved buckets stand
@@ -51,7 +55,9 @@ module _ {V : Type 0} where
     stands-cleared b = ap (λ (r : List (Option V)). nat_lt 0 (length r)) (row-cleared b) ∙ stands-row V b (nat_lt (id_at b 0) reserved)
 
     pub values-cleared : (id : ℕ) → values c id ≡ None
-    values-cleared id = ap (λ (r : List (Option V)). get_or r (index_of id) None) (row-cleared (bucket_of id)) ∙ none-row V (bucket_of id) (index_of id) (nat_lt (id_at (bucket_of id) 0) reserved)
+    values-cleared id =
+        ap (λ (r : List (Option V)). get_or r (index_of id) None) (row-cleared (bucket_of id))
+        ∙ none-row V (bucket_of id) (index_of id) (nat_lt (id_at (bucket_of id) 0) reserved)
 
     pub slots-cleared : slots (stands c) ≡ reserved
     slots-cleared =
@@ -59,4 +65,8 @@ module _ {V : Type 0} where
         ∙ slots-first first.buckets first.in_table ∙ sym first.all
 
     pub IsOwned-cleared : IsOwned (record { contents = c; reserved = reserved })
-    IsOwned-cleared = record { table = table; first = first; standing = λ b low below. stands-cleared b ∙ lt-ltb (id_at b 0) reserved below }
+    IsOwned-cleared = record {
+      table = table;
+      first = first;
+      standing = λ b low below. stands-cleared b ∙ lt-ltb (id_at b 0) reserved below;
+    }

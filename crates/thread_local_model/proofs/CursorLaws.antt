@@ -1,10 +1,12 @@
 -- The steps of a walk's cursor keep it well-formed and never lower its id.
-use Rattle.std.proofs.Common.{◌≡◌, ℕ, suc, ◌-◌, ◌^◌, ◌<◌, ◌≤◌, Bool, true, false, cond, eqb, IsTrue, refl, ap, sym, ◌∙◌, arith, pow_pos, pow_mono}
+use Rattle.std.proofs.Common.{◌≡◌, ℕ, suc, ◌-◌, ◌^◌, ◌<◌, ◌≤◌, Bool, true, false, cond, eqb, IsTrue, refl, ap, sym, ◌∙◌}
+use Rattle.std.proofs.Common.{arith, pow_pos, pow_mono}
 use Rattle.std.specs.Prelude.{nat_lt}
 use Rattle.std.proofs.lemmas.Bool.{cond_both, eqb-true, eqb-false, ltb-true, ltb-false, false≢true}
 use Rattle.std.proofs.Math.Nat.{two-pow-succ}
 use Rattle.thread_local_model.specs.Place.{bucket_of, index_of, id_at}
-use Rattle.thread_local_model.specs.Cursor.{Cursor, fresh_cursor, cursor_id, is_complete, may_load, at_next_bucket, at_place, after_load, after_look, CursorFits}
+use Rattle.thread_local_model.specs.Cursor.{Cursor, fresh_cursor, cursor_id, is_complete, may_load, at_next_bucket}
+use Rattle.thread_local_model.specs.Cursor.{at_place, after_load, after_look, CursorFits}
 use Rattle.thread_local_model.proofs.PlaceLaws.{place-id_at}
 
 pub fresh_cursor-fits : CursorFits fresh_cursor
@@ -47,11 +49,14 @@ loads_below cursor = below cursor.looks
     below true t = absurd (false≢true t)
     below false t = ltb-true cursor.bucket 63 t
 
-pub after_load-fits : (cursor : Cursor) (stands : Bool) → CursorFits cursor → IsTrue (may_load cursor) → CursorFits (after_load cursor stands)
+pub after_load-fits : (cursor : Cursor) (stands : Bool) → CursorFits cursor
+    → IsTrue (may_load cursor)
+    → CursorFits (after_load cursor stands)
 after_load-fits cursor true h t = at_place-fits cursor (loads_below cursor t) h.within
 after_load-fits cursor false h t = at_next_bucket-fits cursor (loads_below cursor t)
 
-pub after_look-fits : (cursor : Cursor) (published : Bool) → CursorFits cursor → IsTrue cursor.looks → CursorFits (after_look cursor published)
+pub after_look-fits : (cursor : Cursor) (published : Bool) → CursorFits cursor → IsTrue cursor.looks
+    → CursorFits (after_look cursor published)
 after_look-fits cursor true h t =
     let low = h.looks_in_table t in
     record {
@@ -69,7 +74,8 @@ next_bucket-id bucket = let twice = two-pow-succ bucket in let some = pow_pos bu
 
 pub at_place-id : (cursor : Cursor) → cursor_id (at_place cursor) ≡ cursor_id cursor
 at_place-id cursor =
-    cond_both {A = Cursor} (eqb cursor.index (2 ^ cursor.bucket)) (at_next_bucket cursor) (record cursor { looks = true }) (λ after. cursor_id after ≡ cursor_id cursor)
+    cond_both {A = Cursor} (eqb cursor.index (2 ^ cursor.bucket)) (at_next_bucket cursor)
+    (record cursor { looks = true }) (λ after. cursor_id after ≡ cursor_id cursor)
     (λ t. next_bucket-id cursor.bucket ∙ ap (id_at cursor.bucket) (sym (eqb-true cursor.index (2 ^ cursor.bucket) t)))
     (λ f. refl)
 

@@ -1,5 +1,7 @@
 -- Contents without values, in which the first buckets are made one by one.
-use Rattle.std.proofs.Common.{◌≡◌, ◌≢◌, ℕ, zero, suc, ◌+◌, ◌-◌, ◌^◌, ◌<◌, ◌≤◌, inl, inr, Bool, true, false, cond, eqb, length, List, [], ◌∷◌, replicate, get_or, Option, None, refl, ap, sym, ◌∙◌, subst, arith, ⊎_elim, pow_mono}
+use Rattle.std.proofs.Common.{◌≡◌, ◌≢◌, ℕ, zero, suc, ◌+◌, ◌-◌, ◌^◌, ◌<◌, ◌≤◌, inl, inr, Bool, true, false, cond, eqb}
+use Rattle.std.proofs.Common.{length, List, [], ◌∷◌, replicate, get_or, Option, None, refl, ap, sym, ◌∙◌, subst, arith}
+use Rattle.std.proofs.Common.{⊎_elim, pow_mono}
 use Rattle.std.specs.Prelude.{nat_lt}
 use Rattle.std.proofs.lemmas.Bool.{cases_eq, cases_lt, cond-true, cond-false, eq-eqb, ne_eqb, lt-ltb, le-ltb}
 use Rattle.thread_local_model.specs.Place.{id_at}
@@ -35,10 +37,13 @@ next_standing b j s h =
     ⊎_elim
     (λ (here : b ≡ j). cond-true (eqb b j) true s (eq-eqb b j here) ∙ sym (lt-ltb j (b + 1) (omega arith)))
     (λ (apart : b ≢ j). cond-false (eqb b j) true s (ne_eqb b j apart) ∙ h
-    ∙ ⊎_elim (λ (low : j < b). lt-ltb j b low ∙ sym (lt-ltb j (b + 1) (omega arith))) (λ (high : b ≤ j). le-ltb j b high ∙ sym (le-ltb j (b + 1) (omega arith))) (cases_lt j b))
+    ∙ ⊎_elim (λ (low : j < b). lt-ltb j b low ∙ sym (lt-ltb j (b + 1) (omega arith)))
+    (λ (high : b ≤ j). le-ltb j b high ∙ sym (le-ltb j (b + 1) (omega arith))) (cases_lt j b))
     (cases_eq b j)
 
-pub IsFilled-more : {V : Type 0} (c d : Contents V) (b : ℕ) → IsFilled c b → b < 63 → (stands c b ≡ false → row c b ≡ []) → d ≡ with_bucket c b → IsFilled d (b + 1)
+pub IsFilled-more : {V : Type 0} (c d : Contents V) (b : ℕ) → IsFilled c b → b < 63
+    → (stands c b ≡ false → row c b ≡ []) → d ≡ with_bucket c b
+    → IsFilled d (b + 1)
 IsFilled-more c d b h low absent made =
     let none : stands c b ≡ false = h.standing b ∙ le-ltb b b (omega arith) in
     let so : d ≡ with_row c b (empty_row b) = made ∙ cond-false (stands c b) c (with_row c b (empty_row b)) none in
@@ -55,10 +60,17 @@ pub below_reserved : (b n : ℕ) → id_at b 0 < 2 ^ n - 1 → b < n
 below_reserved b n h =
     ⊎_elim (λ (low : b < n). low) (λ (high : n ≤ b). let up : 2 ^ n ≤ 2 ^ b = pow_mono high in absurd (omega arith)) (cases_lt b n)
 
-pub IsOwned-filled : {V : Type 0} (c : Contents V) (n : ℕ) → n ≤ 63 → IsFilled c n → IsOwned (record { contents = c; reserved = 2 ^ n - 1 })
-IsOwned-filled c n within h = record { table = h.table; first = record { buckets = n; in_table = within; all = refl }; standing = λ b low first. h.standing b ∙ lt-ltb b n (below_reserved b n first) }
+pub IsOwned-filled : {V : Type 0} (c : Contents V) (n : ℕ) → n ≤ 63 → IsFilled c n
+    → IsOwned (record { contents = c; reserved = 2 ^ n - 1 })
+IsOwned-filled c n within h = record {
+  table = h.table;
+  first = record { buckets = n; in_table = within; all = refl };
+  standing = λ b low first. h.standing b ∙ lt-ltb b n (below_reserved b n first);
+}
 
-pub slots-filled : {V : Type 0} (c : Contents V) (capacity : ℕ) → capacity < 2 ^ 63 → IsFilled c (binary_digits capacity) → slots (stands c) ≡ reserved_slots capacity
+pub slots-filled : {V : Type 0} (c : Contents V) (capacity : ℕ) → capacity < 2 ^ 63
+    → IsFilled c (binary_digits capacity)
+    → slots (stands c) ≡ reserved_slots capacity
 slots-filled c capacity h filled = slots-same (stands c) (reserves_bucket capacity) filled.standing ∙ slots-reserved capacity h
 
 pub reserved-digits : (capacity : ℕ) → 2 ^ binary_digits capacity - 1 ≡ reserved_slots capacity
@@ -66,7 +78,9 @@ unfolding reserved_slots
 reserved-digits capacity = refl
 
 -- rows that are all empty
-rows-empty : {X : Type 0} (rows : List (List X)) (n : ℕ) → length rows ≡ n → ((k : ℕ) → k < n → get_or rows k [] ≡ []) → rows ≡ replicate n []
+rows-empty : {X : Type 0} (rows : List (List X)) (n : ℕ) → length rows ≡ n
+    → ((k : ℕ) → k < n → get_or rows k [] ≡ [])
+    → rows ≡ replicate n []
 rows-empty [] zero e h = refl
 rows-empty [] (suc n) e h = absurd (omega arith)
 rows-empty (r ∷ rows) zero e h = absurd (omega arith)
@@ -75,5 +89,9 @@ rows-empty (r ∷ rows) (suc n) e h =
     let rest : rows ≡ replicate n [] = rows-empty rows n (omega arith) (λ k l. h (suc k) (omega arith)) in
     ap (λ s. s ∷ rows) first ∙ ap (λ s. [] ∷ s) rest
 
-pub contents-empty : {V : Type 0} (c : Contents V) (n : ℕ) → length c.rows ≡ 63 → 63 ≤ n → ((b : ℕ) → b < n → row c b ≡ []) → c ≡ no_contents
-contents-empty c n e high h = let same : c.rows ≡ replicate 63 [] = rows-empty c.rows 63 e (λ k l. h k (omega arith)) in ap (λ (rows : List (List (Option _))). let d : Contents _ = record { rows = rows } in d) same
+pub contents-empty : {V : Type 0} (c : Contents V) (n : ℕ) → length c.rows ≡ 63 → 63 ≤ n
+    → ((b : ℕ) → b < n → row c b ≡ [])
+    → c ≡ no_contents
+contents-empty c n e high h =
+    let same : c.rows ≡ replicate 63 [] = rows-empty c.rows 63 e (λ k l. h k (omega arith)) in
+    ap (λ (rows : List (List (Option _))). let d : Contents _ = record { rows = rows } in d) same

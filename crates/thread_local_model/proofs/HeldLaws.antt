@@ -1,10 +1,13 @@
 -- Held ids: the least free one, what taking and giving back change, and when a take is refused.
-use Rattle.std.proofs.Common.{◌≡◌, ℕ, zero, suc, ◌+◌, ◌-◌, ◌^◌, ◌<◌, ◌≤◌, max, ap, ◌∙◌, Bool, true, false, not, ◌&&◌, cond, List, [], ◌∷◌, length, refl, arith, eqb, IsTrue, ⊎_elim}
+use Rattle.std.proofs.Common.{◌≡◌, ℕ, zero, suc, ◌+◌, ◌-◌, ◌^◌, ◌<◌, ◌≤◌, max, ap, ◌∙◌, Bool, true, false, not, ◌&&◌}
+use Rattle.std.proofs.Common.{cond, List, [], ◌∷◌, length, refl, arith, eqb, IsTrue, ⊎_elim}
 use Rattle.std.proofs.Math.Dec.{eqb-suc-suc}
 use Rattle.std.proofs.lemmas.Bool.{ne_eqb, eq-eqb, eqb-true, eqb-false, cond_both, cases_lt, both_ways}
 use Rattle.std.proofs.lemmas.Bool.Decides.{nat_tests}
 use Rattle.std.proofs.lemmas.Grind.{common_steps}
-use Rattle.thread_local_model.specs.Held.{is_held, least, with_least, without, held_count, HoldsAllBelow, Manager, is_exhausted, is_full, is_granted, taken_from, given_to, Takes, Gives, NeedsMemory, IsExhausted}
+use Rattle.thread_local_model.specs.Held.{is_held, least, with_least, without, held_count, HoldsAllBelow, Manager}
+use Rattle.thread_local_model.specs.Held.{is_exhausted, is_full, is_granted, taken_from, given_to, Takes, Gives}
+use Rattle.thread_local_model.specs.Held.{NeedsMemory, IsExhausted}
 
 pub least_free : (held : List Bool) → is_held held (least held) ≡ false
 least_free [] = refl
@@ -30,7 +33,8 @@ least_bounded [] = omega arith
 least_bounded (false ∷ held) = omega arith
 least_bounded (true ∷ held) = omega (arith, least_bounded held)
 
-pub is_held-with_least : (held : List Bool) (id : ℕ) → is_held (with_least held) id ≡ cond (eqb (least held) id) true (is_held held id)
+pub is_held-with_least : (held : List Bool) (id : ℕ)
+    → is_held (with_least held) id ≡ cond (eqb (least held) id) true (is_held held id)
 is_held-with_least [] zero = refl
 is_held-with_least [] (suc id) = rw (ne_eqb 0 (suc id) (omega arith)) refl
 is_held-with_least (false ∷ held) zero = refl
@@ -38,7 +42,9 @@ is_held-with_least (false ∷ held) (suc id) = rw (ne_eqb 0 (suc id) (omega arit
 is_held-with_least (true ∷ held) zero = rw (ne_eqb (suc (least held)) 0 (omega arith)) refl
 is_held-with_least (true ∷ held) (suc id) = rw (eqb-suc-suc (least held) id) (is_held-with_least held id)
 
-pub length-with_least : (held : List Bool) → length (with_least held) ≡ cond (eqb (least held) (length held)) (length held + 1) (length held)
+pub length-with_least : (held : List Bool)
+    → length (with_least held)
+    ≡ cond (eqb (least held) (length held)) (length held + 1) (length held)
 length-with_least [] = refl
 length-with_least (false ∷ held) = rw (ne_eqb 0 (suc (length held)) (omega arith)) refl
 length-with_least (true ∷ held) =
@@ -50,7 +56,8 @@ held_count-with_least [] = refl
 held_count-with_least (false ∷ held) = omega arith
 held_count-with_least (true ∷ held) = omega (arith, held_count-with_least held)
 
-pub is_held-without : (held : List Bool) (given id : ℕ) → is_held (without held given) id ≡ cond (eqb given id) false (is_held held id)
+pub is_held-without : (held : List Bool) (given id : ℕ)
+    → is_held (without held given) id ≡ cond (eqb given id) false (is_held held id)
 is_held-without [] zero zero = refl
 is_held-without [] zero (suc id) = rw (ne_eqb 0 (suc id) (omega arith)) refl
 is_held-without [] (suc given) zero = rw (ne_eqb (suc given) 0 (omega arith)) refl
@@ -63,7 +70,8 @@ is_held-without (h ∷ held) (suc given) (suc id) = rw (eqb-suc-suc given id) (i
 pub length-without : (held : List Bool) (given : ℕ) → length (without held given) ≡ length held
 length-without held given = grind (arith, common_steps)
 
-pub held_count-without : (held : List Bool) (given : ℕ) → IsTrue (is_held held given) → held_count (without held given) + 1 ≡ held_count held
+pub held_count-without : (held : List Bool) (given : ℕ) → IsTrue (is_held held given)
+    → held_count (without held given) + 1 ≡ held_count held
 held_count-without [] given h = cc
 held_count-without (true ∷ held) zero h = omega arith
 held_count-without (false ∷ held) zero h = cc
@@ -76,7 +84,9 @@ same_manager a b held room = ap (λ h. record { held = h; room = a.room }) held 
 
 -- the least free id becomes held, where the room is large enough: an id is taken
 pub takes : (old new : Manager) (id : ℕ) → id ≡ least old.held → id < 2 ^ 63 - 1 → new.held ≡ with_least old.held
-    → old.room ≤ new.room → (id < old.room → new.room ≡ old.room) → new.room ≤ old.room + 64 → length new.held ≤ new.room → new.room ≤ 2 ^ 63 - 1 → Takes old new id
+    → old.room ≤ new.room → (id < old.room → new.room ≡ old.room) → new.room ≤ old.room + 64
+    → length new.held ≤ new.room → new.room ≤ 2 ^ 63 - 1
+    → Takes old new id
 takes old new id first in_range held room stays few peak_in_room room_in_range = record {
   least = first;
   in_range = in_range;
@@ -125,7 +135,9 @@ no_ids : (exhausted : Bool) → (not exhausted && true) ≡ false → exhausted 
 no_ids true none = refl
 no_ids false none = cc
 
-no_memory : (exhausted full : Bool) → IsTrue (not exhausted && true) → (not exhausted && not full) ≡ false → (exhausted ≡ false) × (full ≡ true)
+no_memory : (exhausted full : Bool) → IsTrue (not exhausted && true)
+    → (not exhausted && not full) ≡ false
+    → (exhausted ≡ false) × (full ≡ true)
 no_memory true full some none = cc
 no_memory false true some none = (refl, refl)
 no_memory false false some none = cc
@@ -140,19 +152,37 @@ refused-needs manager within range refused =
     let room = eqb-true (least manager.held) manager.room parts.1 in
     record { full = λ id below. least_lower manager.held id (omega arith); no_room = omega arith; in_range = omega arith }
 
-pub needs-refused : (manager : Manager) → length manager.held ≤ manager.room → NeedsMemory manager → IsTrue (is_granted manager false) × (is_granted manager true ≡ false)
+pub needs-refused : (manager : Manager) → length manager.held ≤ manager.room → NeedsMemory manager
+    → IsTrue (is_granted manager false) × (is_granted manager true ≡ false)
 needs-refused manager within needs =
-    let top : least manager.held ≡ length manager.held = omega (arith, least_bounded manager.held, least_above manager.held (length manager.held) needs.full) in
+    let top : least manager.held ≡ length manager.held =
+    omega (
+      arith,
+      least_bounded manager.held,
+      least_above manager.held (length manager.held) needs.full,
+    ) in
     let room : least manager.held ≡ manager.room = omega (arith, needs.no_room) in
-    rw (ne_eqb (least manager.held) (2 ^ 63 - 1) (λ same. omega (arith, needs.in_range)), eq-eqb (least manager.held) manager.room room) (refl, refl)
+    rw (
+      ne_eqb (least manager.held) (2 ^ 63 - 1) (λ same. omega (arith, needs.in_range)),
+      eq-eqb (least manager.held) manager.room room,
+    )
+    (refl, refl)
 
 -- no id is left exactly where a take is refused even with memory
 pub exhausted-refused : (manager : Manager) → IsExhausted manager → is_granted manager false ≡ false
 exhausted-refused manager none =
-    let top : least manager.held ≡ 2 ^ 63 - 1 = omega (arith, least_bounded manager.held, least_above manager.held (2 ^ 63 - 1) none.full, none.peak) in
+    let top : least manager.held ≡ 2 ^ 63 - 1 =
+    omega (
+      arith,
+      least_bounded manager.held,
+      least_above manager.held (2 ^ 63 - 1) none.full,
+      none.peak,
+    ) in
     rw (eq-eqb (least manager.held) (2 ^ 63 - 1) top) refl
 
-pub refused-exhausted : (manager : Manager) → length manager.held ≤ manager.room → manager.room ≤ 2 ^ 63 - 1 → is_granted manager false ≡ false → IsExhausted manager
+pub refused-exhausted : (manager : Manager) → length manager.held ≤ manager.room
+    → manager.room ≤ 2 ^ 63 - 1 → is_granted manager false ≡ false
+    → IsExhausted manager
 refused-exhausted manager within range refused =
     let low = least_bounded manager.held in
     let top = eqb-true (least manager.held) (2 ^ 63 - 1) (no_ids (is_exhausted manager) refused) in

@@ -4,28 +4,35 @@ use Rattle.std.specs.Prelude.{MatchOption}
 use Rattle.thread_local_model.specs.Learnt.{Learnt, Unknown, Missing, Standing, Vacant, Holding, learnt_by_load, learnt_by_look}
 use Rattle.thread_local_model.specs.Answers.{view_of}
 
-pub load : {V : Type 0} (before after : Learnt V) (stands : Bool) → learnt_by_load before stands ≡ Some after → after ≡ cond stands Standing Missing
+pub load : {V : Type 0} (before after : Learnt V) (stands : Bool)
+    → learnt_by_load before stands ≡ Some after
+    → after ≡ cond stands Standing Missing
 load Unknown after stands e = cc
 load Missing after stands e = cc
 load Standing after stands e = cc
 load Vacant after stands e = cc
 load (Holding v) after stands e = cc
 
-pub loads : {V : Type 0} (before : Learnt V) (stands : Bool) → IsTrue (is_some (learnt_by_load before stands)) → (view_of before).known ≡ false
+pub loads : {V : Type 0} (before : Learnt V) (stands : Bool)
+    → IsTrue (is_some (learnt_by_load before stands))
+    → (view_of before).known ≡ false
 loads Unknown stands t = refl
 loads Missing stands t = refl
 loads Standing stands t = cc
 loads Vacant stands t = cc
 loads (Holding v) stands t = cc
 
-pub may_load : {V : Type 0} (before : Learnt V) (stands : Bool) → (view_of before).known ≡ false → IsTrue (is_some (learnt_by_load before stands))
+pub may_load : {V : Type 0} (before : Learnt V) (stands : Bool) → (view_of before).known ≡ false
+    → IsTrue (is_some (learnt_by_load before stands))
 may_load Unknown stands e = refl
 may_load Missing stands e = refl
 may_load Standing stands e = cc
 may_load Vacant stands e = cc
 may_load (Holding v) stands e = cc
 
-pub look : {V : Type 0} (before after : Learnt V) (shown : Option V) → learnt_by_look before shown ≡ Some after → MatchOption shown (after ≡ Vacant) (λ v. after ≡ Holding v)
+pub look : {V : Type 0} (before after : Learnt V) (shown : Option V)
+    → learnt_by_look before shown ≡ Some after
+    → MatchOption shown (after ≡ Vacant) (λ v. after ≡ Holding v)
 look Standing after None e = cc
 look Standing after (Some v) e = cc
 look Unknown after shown e = cc
@@ -44,5 +51,6 @@ looks_standing : {V : Type 0} (shown : Option V) → IsTrue (is_some (learnt_by_
 looks_standing None = refl
 looks_standing (Some v) = refl
 
-pub may_look : {V : Type 0} (before : Learnt V) (shown : Option V) → before ≡ Standing → IsTrue (is_some (learnt_by_look before shown))
+pub may_look : {V : Type 0} (before : Learnt V) (shown : Option V) → before ≡ Standing
+    → IsTrue (is_some (learnt_by_look before shown))
 may_look before shown e = rw e (looks_standing shown)

@@ -1,5 +1,6 @@
 -- The place of an id is the only solution of an equation, so ids and places correspond one to one.
-use Rattle.std.proofs.Common.{◌≡◌, ℕ, zero, suc, ◌+◌, ◌-◌, ◌^◌, ◌<◌, ◌≤◌, refl, ap, sym, arith, pow_pos, pow_mono, eqb-true, eqb, add-one, ⊎_elim}
+use Rattle.std.proofs.Common.{◌≡◌, ℕ, zero, suc, ◌+◌, ◌-◌, ◌^◌, ◌<◌, ◌≤◌, refl, ap, sym, arith, pow_pos, pow_mono}
+use Rattle.std.proofs.Common.{eqb-true, eqb, add-one, ⊎_elim}
 use Rattle.std.proofs.lemmas.Bool.{cond_both, eqb-false, cases_lt, cases_order}
 use Rattle.std.proofs.Math.Nat.{two-pow-succ}
 use Rattle.thread_local_model.specs.Place.{Place, next_place, place, bucket_of, index_of, id_at}
@@ -45,7 +46,8 @@ one_bucket a b i j e hi hj =
     (λ above. let up = ends_before b a above in absurd (omega arith)))
     (cases_order a b)
 
-pub only_place : (id bucket index : ℕ) → id + 1 ≡ 2 ^ bucket + index → index < 2 ^ bucket → (bucket ≡ bucket_of id) × (index ≡ index_of id)
+pub only_place : (id bucket index : ℕ) → id + 1 ≡ 2 ^ bucket + index → index < 2 ^ bucket
+    → (bucket ≡ bucket_of id) × (index ≡ index_of id)
 unfolding bucket_of index_of
 only_place id bucket index e h =
     let p = IsPlaceOf-place id in
@@ -69,7 +71,8 @@ id_at-place id =
     let some = pow_pos (bucket_of id) in
     omega arith
 
-pub place-id_at : (bucket index : ℕ) → index < 2 ^ bucket → (bucket_of (id_at bucket index) ≡ bucket) × (index_of (id_at bucket index) ≡ index)
+pub place-id_at : (bucket index : ℕ) → index < 2 ^ bucket
+    → (bucket_of (id_at bucket index) ≡ bucket) × (index_of (id_at bucket index) ≡ index)
 place-id_at bucket index h =
     let some = pow_pos bucket in
     let only = only_place (id_at bucket index) bucket index (omega arith) h in

@@ -22,14 +22,16 @@ module _ {V : Type 0} where
   refilled_row-none (c ∷ cs) = refl
 
   -- a slot of the refilled row is the row's slot, refilled
-  pub refilled_row-at : (cs ws : List (Option V)) (i : ℕ) → get_or (refilled_row cs ws) i None ≡ refilled_slot (get_or cs i None) (get_or ws i None)
+  pub refilled_row-at : (cs ws : List (Option V)) (i : ℕ)
+      → get_or (refilled_row cs ws) i None ≡ refilled_slot (get_or cs i None) (get_or ws i None)
   refilled_row-at [] ws i = refl
   refilled_row-at (c ∷ cs) [] i = sym (refilled_slot-none (get_or (c ∷ cs) i None))
   refilled_row-at (c ∷ cs) (w ∷ ws) zero = refl
   refilled_row-at (c ∷ cs) (w ∷ ws) (suc i) = refilled_row-at cs ws i
 
   -- a row of the refilled contents is the contents' row, refilled
-  pub refilled_rows-at : (rs ws : List (List (Option V))) (b : ℕ) → get_or (refilled_rows rs ws) b [] ≡ refilled_row (get_or rs b []) (get_or ws b [])
+  pub refilled_rows-at : (rs ws : List (List (Option V))) (b : ℕ)
+      → get_or (refilled_rows rs ws) b [] ≡ refilled_row (get_or rs b []) (get_or ws b [])
   refilled_rows-at [] ws b = refl
   refilled_rows-at (r ∷ rs) [] b = sym (refilled_row-none (get_or (r ∷ rs) b []))
   refilled_rows-at (r ∷ rs) (w ∷ ws) zero = refl

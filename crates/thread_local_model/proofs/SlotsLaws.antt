@@ -1,5 +1,6 @@
 -- How the slots of the buckets that stand add up.
-use Rattle.std.proofs.Common.{◌≡◌, ℕ, zero, suc, ◌+◌, ◌-◌, ◌*◌, ◌^◌, ◌<◌, ◌≤◌, Bool, true, false, cond, eqb, IsTrue, refl, ap, sym, ◌∙◌, arith, ⊎_elim}
+use Rattle.std.proofs.Common.{◌≡◌, ℕ, zero, suc, ◌+◌, ◌-◌, ◌*◌, ◌^◌, ◌<◌, ◌≤◌, Bool, true, false, cond, eqb, IsTrue}
+use Rattle.std.proofs.Common.{refl, ap, sym, ◌∙◌, arith, ⊎_elim}
 use Rattle.std.proofs.lemmas.Bool.{cases_lt, cases_eq, cond_both, cond-true, cond-false, eq-eqb, ne_eqb, lt-ltb, le-ltb}
 use Rattle.std.specs.Prelude.{nat_lt}
 use Rattle.std.proofs.Math.Nat.{two-pow-succ}
@@ -20,7 +21,8 @@ slots_below-lt stands (suc n) =
     cond_both (stands n) (2 ^ n) 0 (λ more. slots_below stands n + more < 2 ^ suc n) (λ _. omega arith) (λ _. omega arith)
 
 -- where the first n buckets stand, they have 2 ^ n - 1 slots
-pub slots_of_first : (stands : ℕ → Bool) (n : ℕ) → ((b : ℕ) → b < n → stands b ≡ true) → slots_below stands n + 1 ≡ 2 ^ n
+pub slots_of_first : (stands : ℕ → Bool) (n : ℕ) → ((b : ℕ) → b < n → stands b ≡ true)
+    → slots_below stands n + 1 ≡ 2 ^ n
 unfolding slots_below
 slots_of_first stands zero all = omega arith
 slots_of_first stands (suc n) all =
@@ -40,7 +42,9 @@ slots_grow stands n (suc m) h =
     (cases_lt n (suc m))
 
 -- buckets that don't stand add no slots
-pub slots_below-further : (stands : ℕ → Bool) (k n : ℕ) → k ≤ n → ((b : ℕ) → k ≤ b → b < n → stands b ≡ false) → slots_below stands n ≡ slots_below stands k
+pub slots_below-further : (stands : ℕ → Bool) (k n : ℕ) → k ≤ n
+    → ((b : ℕ) → k ≤ b → b < n → stands b ≡ false)
+    → slots_below stands n ≡ slots_below stands k
 unfolding slots_below
 slots_below-further stands k zero h none = let same : 0 ≡ k = omega arith in ap (slots_below stands) same
 slots_below-further stands k (suc n) h none =
@@ -75,18 +79,21 @@ slots_below-more stands bucket (suc n) h =
     (cases_eq bucket n)
 
 -- where each bucket that stands has at most m slots, all have at most 2 * m - 1
-pub slots_bounded : (stands : ℕ → Bool) (m n : ℕ) → ((b : ℕ) → IsTrue (stands b) → 2 ^ b ≤ m) → slots_below stands n ≤ 2 * m - 1
+pub slots_bounded : (stands : ℕ → Bool) (m n : ℕ) → ((b : ℕ) → IsTrue (stands b) → 2 ^ b ≤ m)
+    → slots_below stands n ≤ 2 * m - 1
 unfolding slots_below
 slots_bounded stands m zero small = omega arith
 slots_bounded stands m (suc n) small =
     let ih = slots_bounded stands m n small in
     let low = slots_below-lt stands n in
-    cond_both (stands n) (2 ^ n) 0 (λ more. slots_below stands n + more ≤ 2 * m - 1) (λ t. let here = small n t in omega arith) (λ _. omega arith)
+    cond_both (stands n) (2 ^ n) 0 (λ more. slots_below stands n + more ≤ 2 * m - 1)
+    (λ t. let here = small n t in omega arith) (λ _. omega arith)
 
 pub slots-none : slots (λ _. false) ≡ 0
 unfolding slots
 slots-none = slots_below-none 63
 
-pub slots-more : (stands : ℕ → Bool) (bucket : ℕ) → bucket < 63 → stands bucket ≡ false → slots (λ b. cond (eqb bucket b) true (stands b)) ≡ slots stands + 2 ^ bucket
+pub slots-more : (stands : ℕ → Bool) (bucket : ℕ) → bucket < 63 → stands bucket ≡ false
+    → slots (λ b. cond (eqb bucket b) true (stands b)) ≡ slots stands + 2 ^ bucket
 unfolding slots
 slots-more stands bucket h none = rw (slots_below-more stands bucket 63 none, lt-ltb bucket 63 h) refl

@@ -1,5 +1,6 @@
 -- Which buckets stand after a change, and how many slots they have together.
-use Rattle.std.proofs.Common.{◌≡◌, ◌≢◌, ℕ, zero, suc, ◌+◌, ◌^◌, ◌<◌, ◌⊎◌, inl, inr, Bool, true, false, cond, eqb, length, List, [], ◌∷◌, Option, refl, ap, sym, ◌∙◌, subst, arith, ⊎_elim, add-one, pow_pos}
+use Rattle.std.proofs.Common.{◌≡◌, ◌≢◌, ℕ, zero, suc, ◌+◌, ◌^◌, ◌<◌, ◌⊎◌, inl, inr, Bool, true, false, cond, eqb}
+use Rattle.std.proofs.Common.{length, List, [], ◌∷◌, Option, refl, ap, sym, ◌∙◌, subst, arith, ⊎_elim, add-one, pow_pos}
 use Rattle.std.specs.Prelude.{nat_lt}
 use Rattle.std.proofs.lemmas.Bool.{cases_eq, cond-true, cond-false, eq-eqb, ne_eqb, lt-ltb, ltb-true}
 use Rattle.thread_local_model.specs.Buckets.{Contents, row, stands, slots, slots_below, IsTable}
@@ -13,11 +14,15 @@ slots_below-zero f = refl
 
 pub slots_below-standing : (f : ℕ → Bool) (b : ℕ) → f b ≡ true → slots_below f (b + 1) ≡ slots_below f b + 2 ^ b
 unfolding slots_below
-slots_below-standing f b h = let here : cond (f b) (2 ^ b) 0 ≡ 2 ^ b = cond-true (f b) (2 ^ b) 0 h in rw add-one (ap (λ k. slots_below f b + k) here)
+slots_below-standing f b h =
+    let here : cond (f b) (2 ^ b) 0 ≡ 2 ^ b = cond-true (f b) (2 ^ b) 0 h in
+    rw add-one (ap (λ k. slots_below f b + k) here)
 
 pub slots_below-absent : (f : ℕ → Bool) (b : ℕ) → f b ≡ false → slots_below f (b + 1) ≡ slots_below f b
 unfolding slots_below
-slots_below-absent f b h = let none : cond (f b) (2 ^ b) 0 ≡ 0 = cond-false (f b) (2 ^ b) 0 h in rw add-one (ap (λ k. slots_below f b + k) none ∙ omega arith)
+slots_below-absent f b h =
+    let none : cond (f b) (2 ^ b) 0 ≡ 0 = cond-false (f b) (2 ^ b) 0 h in
+    rw add-one (ap (λ k. slots_below f b + k) none ∙ omega arith)
 
 pub slots-all : (f : ℕ → Bool) (n : ℕ) → n ≡ 63 → slots_below f n ≡ slots f
 unfolding slots
@@ -26,7 +31,9 @@ slots-all f n h = ap (slots_below f) h
 slots_below-same : (f g : ℕ → Bool) (n : ℕ) → ((b : ℕ) → f b ≡ g b) → slots_below f n ≡ slots_below g n
 unfolding slots_below
 slots_below-same f g zero h = refl
-slots_below-same f g (suc n) h = ap (λ k. k + cond (f n) (2 ^ n) 0) (slots_below-same f g n h) ∙ ap (λ b. slots_below g n + cond b (2 ^ n) 0) (h n)
+slots_below-same f g (suc n) h =
+    ap (λ k. k + cond (f n) (2 ^ n) 0) (slots_below-same f g n h)
+    ∙ ap (λ b. slots_below g n + cond b (2 ^ n) 0) (h n)
 
 -- the number of slots depends only on which buckets stand
 pub slots-same : (f g : ℕ → Bool) → ((b : ℕ) → f b ≡ g b) → slots f ≡ slots g
@@ -39,12 +46,15 @@ standing-whole r b h = lt-ltb 0 (length r) (omega (arith, pow_pos b))
 
 module _ {V : Type 0} where
   -- making a bucket makes it stand, and changes no other
-  pub stands-made : (c : Contents V) (b j : ℕ) → b < length c.rows → stands (with_row c b (empty_row b)) j ≡ cond (eqb b j) true (stands c j)
+  pub stands-made : (c : Contents V) (b j : ℕ) → b < length c.rows
+      → stands (with_row c b (empty_row b)) j ≡ cond (eqb b j) true (stands c j)
   stands-made c b j h =
       ⊎_elim
       (λ (here : b ≡ j).
       let P : ℕ → Type 0 = λ k. stands (with_row c b (empty_row b)) k ≡ true in
-      subst P here (ap (λ (r : List (Option V)). nat_lt 0 (length r)) (row-with_row-same c b (empty_row b) h) ∙ standing-whole (empty_row b) b (length-empty_row V b))
+      subst P here (ap (λ (r : List (Option V)). nat_lt 0 (length r))
+      (row-with_row-same c b (empty_row b) h)
+      ∙ standing-whole (empty_row b) b (length-empty_row V b))
       ∙ sym (cond-true (eqb b j) true (stands c j) (eq-eqb b j here)))
       (λ (apart : b ≢ j).
       ap (λ (r : List (Option V)). nat_lt 0 (length r)) (row-with_row-other c b j (empty_row b) (λ e. apart (sym e)))
@@ -63,7 +73,8 @@ module _ {V : Type 0} where
   pub whole-with_bucket : (c : Contents V) (b : ℕ) → IsTable c → b < 63 → length (row (with_bucket c b) b) ≡ 2 ^ b
   whole-with_bucket c b t low = go (stands c b) refl (t.whole b)
     where
-      go : (s : Bool) → stands c b ≡ s → (length (row c b) ≡ 0) ⊎ (length (row c b) ≡ 2 ^ b) → length (row (cond s c (with_row c b (empty_row b))) b) ≡ 2 ^ b
+      go : (s : Bool) → stands c b ≡ s → (length (row c b) ≡ 0) ⊎ (length (row c b) ≡ 2 ^ b)
+          → length (row (cond s c (with_row c b (empty_row b))) b) ≡ 2 ^ b
       go true h (inr whole) = whole
       go true h (inl none) = absurd (omega (arith, ltb-true 0 (length (row c b)) h))
       go false h _ = ap length (row-with_row-same c b (empty_row b) (omega (arith, t.buckets))) ∙ length-empty_row V b

@@ -1,5 +1,7 @@
 -- How a walk goes on once its first value is taken, and how values are counted.
-use Rattle.std.proofs.Common.{◌≡◌, ◌≢◌, ℕ, zero, suc, ◌+◌, ◌-◌, ◌^◌, ◌<◌, ◌≤◌, false, cond, length, [], ◌∷◌, ◌++◌, Option, Some, None, is_some, refl, ap, sym, ◌∙◌, subst, arith, ⊎_elim, length-append, add-one, pow_pos, pow_mono}
+use Rattle.std.proofs.Common.{◌≡◌, ◌≢◌, ℕ, zero, suc, ◌+◌, ◌-◌, ◌^◌, ◌<◌, ◌≤◌, false, cond, length, [], ◌∷◌, ◌++◌}
+use Rattle.std.proofs.Common.{Option, Some, None, is_some, refl, ap, sym, ◌∙◌, subst, arith, ⊎_elim, length-append}
+use Rattle.std.proofs.Common.{add-one, pow_pos, pow_mono}
 use Rattle.std.specs.Prelude.{option_to_list, option_map}
 use Rattle.std.proofs.lemmas.List.{get_or_past}
 use Rattle.std.proofs.lemmas.Bool.{cases_eq, cases_lt}
@@ -18,7 +20,8 @@ use Rattle.thread_local_model.proofs.ValueLaws.{values-absent, values-id_at, val
 module _ {V : Type 0} where
   -- where no id below n has a value and n has one, the walk is that value, and then the walk
   -- without it
-  pub walk_below-taken : (values others : ℕ → Option V) (n : ℕ) (v : V) → NoneBelow values n → values n ≡ Some v → others n ≡ None → ((id : ℕ) → id ≢ n → others id ≡ values id)
+  pub walk_below-taken : (values others : ℕ → Option V) (n : ℕ) (v : V) → NoneBelow values n
+      → values n ≡ Some v → others n ≡ None → ((id : ℕ) → id ≢ n → others id ≡ values id)
       → (k : ℕ) → n < k → walk_below values k ≡ v ∷ walk_below others k
   unfolding walk_below
   walk_below-taken values others n v none here gone same zero lt = absurd (omega arith)
@@ -26,7 +29,9 @@ module _ {V : Type 0} where
       ⊎_elim
       (λ (at : k ≡ n).
       let before : walk_below values k ≡ [] = walk_below-none values k (λ id l. none id (omega arith)) in
-      let after : walk_below others k ≡ [] = walk_below-none others k (λ id l. let apart : id ≢ n = omega arith in same id apart ∙ none id (omega arith)) in
+      let after : walk_below others k ≡ [] =
+      walk_below-none others k
+      (λ id l. let apart : id ≢ n = omega arith in same id apart ∙ none id (omega arith)) in
       let value : values k ≡ Some v = ap values at ∙ here in
       let nothing : others k ≡ None = ap others at ∙ gone in
       rw (before, after, value, nothing) refl)
@@ -35,7 +40,8 @@ module _ {V : Type 0} where
       ∙ ap (λ o. v ∷ (walk_below others k ++ option_to_list o)) (sym (same k apart)))
       (cases_eq k n)
 
-  pub walk-taken : (values others : ℕ → Option V) (n : ℕ) (v : V) → n < 2 ^ 63 - 1 → NoneBelow values n → values n ≡ Some v → others n ≡ None
+  pub walk-taken : (values others : ℕ → Option V) (n : ℕ) (v : V) → n < 2 ^ 63 - 1
+      → NoneBelow values n → values n ≡ Some v → others n ≡ None
       → ((id : ℕ) → id ≢ n → others id ≡ values id) → walk values ≡ v ∷ walk others
   unfolding walk
   walk-taken values others n v lt none here gone same = walk_below-taken values others n v none here gone same (2 ^ 63 - 1) lt
@@ -57,9 +63,12 @@ module _ {V : Type 0} where
   unfolding count_below walk_below
   count_below-zero values = refl
 
-  pub count_below-more : (values : ℕ → Option V) (n : ℕ) → count_below values (suc n) ≡ count_below values n + cond (is_some (values n)) 1 0
+  pub count_below-more : (values : ℕ → Option V) (n : ℕ)
+      → count_below values (suc n) ≡ count_below values n + cond (is_some (values n)) 1 0
   unfolding count_below walk_below
-  count_below-more values n = length-append (walk_below values n) (option_to_list (values n)) ∙ ap (λ k. length (walk_below values n) + k) (length-option_to_list (values n))
+  count_below-more values n =
+      length-append (walk_below values n) (option_to_list (values n))
+      ∙ ap (λ k. length (walk_below values n) + k) (length-option_to_list (values n))
 
   pub count_below-walk : (values : ℕ → Option V) → count_below values (2 ^ 63 - 1) ≡ length (walk values)
   unfolding count_below walk
@@ -71,7 +80,9 @@ module _ {V : Type 0} where
   NoneBelow-counted values zero nothing id l = absurd (omega arith)
   NoneBelow-counted values (suc n) nothing id l =
       let both = length-append (walk_below values n) (option_to_list (values n)) in
-      ⊎_elim (λ (at : id ≡ n). ap values at ∙ none_of (values n) (omega arith)) (λ (apart : id ≢ n). NoneBelow-counted values n (omega arith) id (omega arith)) (cases_eq id n)
+      ⊎_elim (λ (at : id ≡ n). ap values at ∙ none_of (values n) (omega arith))
+      (λ (apart : id ≢ n). NoneBelow-counted values n (omega arith) id (omega arith))
+      (cases_eq id n)
 
   pub NoneBelow-walk : (values : ℕ → Option V) → length (walk values) ≡ 0 → NoneBelow values (2 ^ 63 - 1)
   unfolding walk
@@ -82,11 +93,15 @@ module _ {V : Type 0} where
   count_below-le values n = length-walk_below values n
 
   -- ids without a value add none
-  pub count_below-none : (values : ℕ → Option V) (n k : ℕ) → ((i : ℕ) → i < k → values (n + i) ≡ None) → count_below values (n + k) ≡ count_below values n
+  pub count_below-none : (values : ℕ → Option V) (n k : ℕ)
+      → ((i : ℕ) → i < k → values (n + i) ≡ None)
+      → count_below values (n + k) ≡ count_below values n
   unfolding count_below
   count_below-none values n k none =
       ap length (walk_below-add values n k) ∙ length-append (walk_below values n) (walk_below (λ i. values (n + i)) k)
-      ∙ (let nothing : walk_below (λ i. values (n + i)) k ≡ [] = walk_below-none (λ i. values (n + i)) k none in rw nothing (omega arith))
+      ∙ (let nothing : walk_below (λ i. values (n + i)) k ≡ [] =
+      walk_below-none (λ i. values (n + i)) k none in
+      rw nothing (omega arith))
 
   -- no id below n + 1 has a value where none below n has, nor n
   pub NoneBelow-more : (values : ℕ → Option V) (n : ℕ) → NoneBelow values n → values n ≡ None → NoneBelow values (n + 1)
@@ -94,12 +109,16 @@ module _ {V : Type 0} where
       ⊎_elim (λ (at : id ≡ n). ap values at ∙ here) (λ (apart : id ≢ n). none id (omega arith)) (cases_eq id n)
 
   -- once the first value, at n, is taken, no id below n + 1 has one
-  pub NoneBelow-taken : (values others : ℕ → Option V) (n : ℕ) → NoneBelow values n → others n ≡ None → ((id : ℕ) → id ≢ n → others id ≡ values id) → NoneBelow others (n + 1)
+  pub NoneBelow-taken : (values others : ℕ → Option V) (n : ℕ) → NoneBelow values n
+      → others n ≡ None → ((id : ℕ) → id ≢ n → others id ≡ values id)
+      → NoneBelow others (n + 1)
   NoneBelow-taken values others n none gone same id l =
       ⊎_elim (λ (at : id ≡ n). ap others at ∙ gone) (λ (apart : id ≢ n). same id apart ∙ none id (omega arith)) (cases_eq id n)
 
   -- a bucket that doesn't stand is skipped
-  pub NoneBelow-absent : (c : Contents V) (b i : ℕ) → NoneBelow (values c) (id_at b i) → row c b ≡ [] → NoneBelow (values c) (id_at (b + 1) 0)
+  pub NoneBelow-absent : (c : Contents V) (b i : ℕ) → NoneBelow (values c) (id_at b i)
+      → row c b ≡ []
+      → NoneBelow (values c) (id_at (b + 1) 0)
   NoneBelow-absent c b i none absent id l =
       ⊎_elim
       (λ (here : bucket_of id ≡ b). values-absent c b id here absent)
@@ -122,20 +141,28 @@ empty (Some v) h = cc
 
 module _ {V : Type 0} where
   -- an empty slot is skipped
-  pub NoneBelow-slot : (c : Contents V) (b i : ℕ) → i < 2 ^ b → NoneBelow (values c) (id_at b i) → is_some (value_in c b i) ≡ false → NoneBelow (values c) (id_at b (i + 1))
+  pub NoneBelow-slot : (c : Contents V) (b i : ℕ) → i < 2 ^ b → NoneBelow (values c) (id_at b i)
+      → is_some (value_in c b i) ≡ false
+      → NoneBelow (values c) (id_at b (i + 1))
   NoneBelow-slot c b i inside none here =
       let next : id_at b i + 1 ≡ id_at b (i + 1) = omega arith in
       let P : ℕ → Type 0 = NoneBelow (values c) in
       subst P next (NoneBelow-more (values c) (id_at b i) none (values-id_at c b i inside ∙ empty (value_in c b i) here))
 
   -- a slot adds one where it has a value
-  pub count_below-slot : (c : Contents V) (b i : ℕ) → i < 2 ^ b → count_below (values c) (id_at b (i + 1)) ≡ count_below (values c) (id_at b i) + cond (is_some (value_in c b i)) 1 0
+  pub count_below-slot : (c : Contents V) (b i : ℕ) → i < 2 ^ b
+      → count_below (values c) (id_at b (i + 1))
+      ≡ count_below (values c) (id_at b i) + cond (is_some (value_in c b i)) 1 0
   count_below-slot c b i inside =
       let next : id_at b (i + 1) ≡ suc (id_at b i) = omega arith in
-      ap (count_below (values c)) next ∙ count_below-more (values c) (id_at b i) ∙ ap (λ (o : Option V). count_below (values c) (id_at b i) + cond (is_some o) 1 0) (values-id_at c b i inside)
+      ap (count_below (values c)) next
+      ∙ count_below-more (values c) (id_at b i)
+      ∙ ap (λ (o : Option V). count_below (values c) (id_at b i) + cond (is_some o) 1 0)
+      (values-id_at c b i inside)
 
   -- a bucket that doesn't stand adds none
-  pub count_below-absent : (c : Contents V) (b : ℕ) → row c b ≡ [] → count_below (values c) (id_at (b + 1) 0) ≡ count_below (values c) (id_at b 0)
+  pub count_below-absent : (c : Contents V) (b : ℕ) → row c b ≡ []
+      → count_below (values c) (id_at (b + 1) 0) ≡ count_below (values c) (id_at b 0)
   count_below-absent c b absent =
       let end : id_at (b + 1) 0 ≡ id_at b 0 + 2 ^ b = omega (arith, id_at-next b) in
       ap (count_below (values c)) end
@@ -152,7 +179,8 @@ module _ {V : Type 0} where
       omega arith
 
   -- past the end of a bucket is the start of the next
-  pub NoneBelow-end : (c : Contents V) (b i : ℕ) → i ≡ 2 ^ b → NoneBelow (values c) (id_at b i) → NoneBelow (values c) (id_at (b + 1) 0)
+  pub NoneBelow-end : (c : Contents V) (b i : ℕ) → i ≡ 2 ^ b → NoneBelow (values c) (id_at b i)
+      → NoneBelow (values c) (id_at (b + 1) 0)
   NoneBelow-end c b i last none = let P : ℕ → Type 0 = NoneBelow (values c) in subst P (ap (id_at b) last ∙ sym (id_at-next b)) none
 
   -- past the last bucket there is nothing
@@ -179,18 +207,25 @@ module _ {V : Type 0} where
       absurd (omega arith))
       (cases_lt b (length c.rows))
 
-  pub taking : (c d : Contents V) (b i : ℕ) (v : V) → b < 63 → i < 2 ^ b → length (row c b) ≡ 2 ^ b → NoneBelow (values c) (id_at b i)
+  pub taking : (c d : Contents V) (b i : ℕ) (v : V) → b < 63 → i < 2 ^ b → length (row c b) ≡ 2 ^ b
+      → NoneBelow (values c) (id_at b i)
       → value_in c b i ≡ Some v → d ≡ with_slot c b i None → Takes c d b i v
   taking c d b i v low inside whole none here after =
       let rows = in_rows c b whole in
       let gone : values (with_slot c b i None) (id_at b i) ≡ None = values-with_slot-same c b i None rows inside (omega arith) in
-      let same : (id : ℕ) → id ≢ id_at b i → values (with_slot c b i None) id ≡ values c id = λ id ne. values-with_slot-other c b i id None rows ne in
+      let same : (id : ℕ) → id ≢ id_at b i → values (with_slot c b i None) id ≡ values c id =
+      λ id ne. values-with_slot-other c b i id None rows ne in
       let next : id_at b i + 1 ≡ id_at b (i + 1) = omega arith in
       let P : ℕ → Type 0 = NoneBelow (values (with_slot c b i None)) in
       let taken : Takes c (with_slot c b i None) b i v = record {
-        walked = walk-taken (values c) (values (with_slot c b i None)) (id_at b i) v (place.id_at-below b i low inside) none (values-id_at c b i inside ∙ here) gone same;
-        entries = walk-taken (paired (values c)) (paired (values (with_slot c b i None))) (id_at b i) (id_at b i, v) (place.id_at-below b i low inside)
-            (λ id l. ap (option_map (λ w. (id, w))) (none id l)) (ap (option_map (λ w. (id_at b i, w))) (values-id_at c b i inside ∙ here))
+        walked =
+            walk-taken (values c) (values (with_slot c b i None)) (id_at b i) v
+            (place.id_at-below b i low inside) none (values-id_at c b i inside ∙ here) gone same;
+        entries =
+            walk-taken (paired (values c)) (paired (values (with_slot c b i None))) (id_at b i)
+            (id_at b i, v) (place.id_at-below b i low inside)
+            (λ id l. ap (option_map (λ w. (id, w))) (none id l))
+            (ap (option_map (λ w. (id_at b i, w))) (values-id_at c b i inside ∙ here))
             (ap (option_map (λ w. (id_at b i, w))) gone) (λ id ne. ap (option_map (λ w. (id, w))) (same id ne));
         behind = subst P next (NoneBelow-taken (values c) (values (with_slot c b i None)) (id_at b i) none gone same);
       } in

@@ -1,5 +1,6 @@
 -- What an owner's changes do to the map of values.
-use Rattle.std.proofs.Common.{◌≡◌, ◌≢◌, ℕ, ◌^◌, ◌<◌, false, length, List, [], Option, None, set, get_or, ap, sym, ◌∙◌, subst, ⊎_elim}
+use Rattle.std.proofs.Common.{◌≡◌, ◌≢◌, ℕ, ◌^◌, ◌<◌, false, length, List, [], Option, None, set, get_or, ap, sym, ◌∙◌}
+use Rattle.std.proofs.Common.{subst, ⊎_elim}
 use Rattle.std.proofs.lemmas.List.{get_or-set_same, get_or-set_other}
 use Rattle.std.proofs.lemmas.Bool.{cases_eq}
 use Rattle.std.specs.Prelude.{nat_lt}
@@ -17,13 +18,17 @@ module _ {V : Type 0} where
       ap (λ k. value_in c k (index_of (id_at b i))) p.0 ∙ ap (value_in c b) p.1
 
   -- a change of one slot changes the value at its id, and no other
-  pub values-with_slot-same : (c : Contents V) (b i : ℕ) (o : Option V) → b < length c.rows → i < 2 ^ b → i < length (row c b) → values (with_slot c b i o) (id_at b i) ≡ o
+  pub values-with_slot-same : (c : Contents V) (b i : ℕ) (o : Option V) → b < length c.rows
+      → i < 2 ^ b → i < length (row c b)
+      → values (with_slot c b i o) (id_at b i) ≡ o
   values-with_slot-same c b i o hb hi inside =
       values-id_at (with_slot c b i o) b i hi
       ∙ ap (λ (r : List (Option V)). get_or r i None) (row-with_row-same c b (set (row c b) i o) hb)
       ∙ get_or-set_same (row c b) i o None inside
 
-  pub values-with_slot-other : (c : Contents V) (b i id : ℕ) (o : Option V) → b < length c.rows → id ≢ id_at b i → values (with_slot c b i o) id ≡ values c id
+  pub values-with_slot-other : (c : Contents V) (b i id : ℕ) (o : Option V) → b < length c.rows
+      → id ≢ id_at b i
+      → values (with_slot c b i o) id ≡ values c id
   values-with_slot-other c b i id o hb ne =
       ⊎_elim
       (λ (here : bucket_of id ≡ b).
@@ -32,11 +37,14 @@ module _ {V : Type 0} where
       subst P (sym here)
       (ap (λ (r : List (Option V)). get_or r (index_of id) None) (row-with_row-same c b (set (row c b) i o) hb)
       ∙ get_or-set_other (row c b) i (index_of id) o None apart))
-      (λ (apart : bucket_of id ≢ b). ap (λ (r : List (Option V)). get_or r (index_of id) None) (row-with_row-other c b (bucket_of id) (set (row c b) i o) apart))
+      (λ (apart : bucket_of id ≢ b).
+      ap (λ (r : List (Option V)). get_or r (index_of id) None)
+      (row-with_row-other c b (bucket_of id) (set (row c b) i o) apart))
       (cases_eq (bucket_of id) b)
 
   -- a new bucket has no value
-  pub values-with_empty_row : (c : Contents V) (b id : ℕ) → b < length c.rows → row c b ≡ [] → values (with_row c b (empty_row b)) id ≡ values c id
+  pub values-with_empty_row : (c : Contents V) (b id : ℕ) → b < length c.rows → row c b ≡ []
+      → values (with_row c b (empty_row b)) id ≡ values c id
   values-with_empty_row c b id hb absent =
       ⊎_elim
       (λ (here : bucket_of id ≡ b).
@@ -45,7 +53,9 @@ module _ {V : Type 0} where
       (ap (λ (r : List (Option V)). get_or r (index_of id) None) (row-with_row-same c b (empty_row b) hb)
       ∙ slot-empty_row V b (index_of id)
       ∙ sym (ap (λ (r : List (Option V)). get_or r (index_of id) None) absent)))
-      (λ (apart : bucket_of id ≢ b). ap (λ (r : List (Option V)). get_or r (index_of id) None) (row-with_row-other c b (bucket_of id) (empty_row b) apart))
+      (λ (apart : bucket_of id ≢ b).
+      ap (λ (r : List (Option V)). get_or r (index_of id) None)
+      (row-with_row-other c b (bucket_of id) (empty_row b) apart))
       (cases_eq (bucket_of id) b)
 
   -- an id whose bucket doesn't stand has no value
@@ -53,7 +63,9 @@ module _ {V : Type 0} where
   values-absent c b id here absent = ap (λ (r : List (Option V)). get_or r (index_of id) None) (ap (row c) here ∙ absent)
 
   -- where a change in a slot keeps the length of a row, that bucket still stands or still doesn't
-  pub stands-with_slot : (c : Contents V) (b i j : ℕ) (o : Option V) → length (row (with_slot c b i o) j) ≡ length (row c j) → stands (with_slot c b i o) j ≡ stands c j
+  pub stands-with_slot : (c : Contents V) (b i j : ℕ) (o : Option V)
+      → length (row (with_slot c b i o) j) ≡ length (row c j)
+      → stands (with_slot c b i o) j ≡ stands c j
   stands-with_slot c b i j o same = ap (nat_lt 0) same
 
 pub values-no_contents : (V : Type 0) (id : ℕ) → values (no_contents {V = V}) id ≡ None

@@ -1,6 +1,7 @@
 -- A table's contents: 63 rows of slots, each empty (the bucket doesn't stand) or whole, and each
 -- slot with a value or without.
-use Rattle.std.specs.Prelude.{◌≡◌, ℕ, zero, suc, ◌+◌, ◌^◌, ◌⊎◌, Bool, if◌then◌else◌, nat_lt, List, [], length, replicate, Option, None, slice_index_or}
+use Rattle.std.specs.Prelude.{◌≡◌, ℕ, zero, suc, ◌+◌, ◌^◌, ◌⊎◌, Bool, if◌then◌else◌, nat_lt, List, [], length}
+use Rattle.std.specs.Prelude.{replicate, Option, None, slice_index_or}
 use Rattle.thread_local_model.specs.Place.{bucket_of, index_of}
 
 -- the sum of 2 ^ b over the buckets b below n that stand

@@ -1,6 +1,7 @@
 -- The held ids of a table: which id a take gets, what taking and giving back change, and when a
 -- take is refused.
-use Rattle.std.specs.Prelude.{◌≡◌, ℕ, suc, ◌+◌, ◌-◌, ◌^◌, ◌<◌, ◌≤◌, ◌==◌, max, Bool, true, false, not, ◌&&◌, List, [], ◌∷◌, length, slice_index_or, slice_set, IsTrue, if◌then◌else◌}
+use Rattle.std.specs.Prelude.{◌≡◌, ℕ, suc, ◌+◌, ◌-◌, ◌^◌, ◌<◌, ◌≤◌, ◌==◌, max, Bool, true, false, not, ◌&&◌, List, []}
+use Rattle.std.specs.Prelude.{◌∷◌, length, slice_index_or, slice_set, IsTrue, if◌then◌else◌}
 
 -- How contracts see a table's manager of ids. The list has a truth value for each id below the
 -- peak, true where the id is held. The room is the number of ids whose return needs no further

@@ -1,5 +1,6 @@
 -- What a walk over a map from ids to values gives: the values by ascending id.
-use Rattle.std.specs.Prelude.{ℕ, zero, suc, ◌-◌, ◌^◌, ◌<◌, length, slice_index, ◌==◌, if◌then◌else◌, List, [], ◌++◌, Option, Some, option_map, option_to_list}
+use Rattle.std.specs.Prelude.{ℕ, zero, suc, ◌-◌, ◌^◌, ◌<◌, length, slice_index, ◌==◌, if◌then◌else◌, List, [], ◌++◌}
+use Rattle.std.specs.Prelude.{Option, Some, option_map, option_to_list}
 use Rattle.std.specs.List.Sorted.{IsStrictlyIncreasing}
 
 -- the values of a map at the ids below n, by ascending id

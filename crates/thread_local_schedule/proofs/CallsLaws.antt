@@ -1,44 +1,70 @@
 -- No step loses a call or makes one up.
-use Rattle.std.proofs.Common.{◌≡◌, ℕ, zero, suc, Bool, true, false, [], ◌∷◌, ◌++◌, Option, Some, None, Result, Ok, Err, IfSome, IsSomeAnd, refl, ap, sym, subst, inl, inr, cond}
+use Rattle.std.proofs.Common.{◌≡◌, ℕ, zero, suc, Bool, true, false, [], ◌∷◌, ◌++◌, Option, Some, None, Result, Ok, Err}
+use Rattle.std.proofs.Common.{IfSome, IsSomeAnd, refl, ap, sym, subst, inl, inr, cond}
 use Rattle.thread_local_model.specs.Answers.{Get, GetOr, Answer, Answered}
-use Rattle.thread_local_model.specs.Learnt.{Learnt, Missing, Vacant, Holding, learnt_by_load, learnt_by_look, learnt_by_install, learnt_by_publish}
+use Rattle.thread_local_model.specs.Learnt.{Learnt, Missing, Vacant, Holding, learnt_by_load, learnt_by_look}
+use Rattle.thread_local_model.specs.Learnt.{learnt_by_install, learnt_by_publish}
 use Rattle.thread_local_schedule.specs.Table.{Table, published, bucket_stands, with_flag}
 use Rattle.thread_local_model.specs.Place.{bucket_of}
-use Rattle.thread_local_schedule.specs.Local.{Doing, Gets, Started, Private, Written, Local, after_call, is_calling, learns, load_pointer, look_at_flag, make_bucket, offered, install_bucket, write_value, set_flag, reply, local_step, LocalStep, BeginGet, BeginGetOr, LoadPointer, LookAtFlag, MakeBucket, InstallBucket, WriteValue, SetFlag, Reply, doing_with_get, doing_with_get_or, begin_call, closure_at_missing, closure_at_vacant, ending_of, private_bucket, value_written}
+use Rattle.thread_local_schedule.specs.Local.{Doing, Gets, Started, Private, Written, Local, after_call, is_calling}
+use Rattle.thread_local_schedule.specs.Local.{learns, load_pointer, look_at_flag, make_bucket, offered, install_bucket}
+use Rattle.thread_local_schedule.specs.Local.{write_value, set_flag, reply, local_step, LocalStep, BeginGet, BeginGetOr}
+use Rattle.thread_local_schedule.specs.Local.{LoadPointer, LookAtFlag, MakeBucket, InstallBucket, WriteValue, SetFlag}
+use Rattle.thread_local_schedule.specs.Local.{Reply, doing_with_get, doing_with_get_or, begin_call, closure_at_missing}
+use Rattle.thread_local_schedule.specs.Local.{closure_at_vacant, ending_of, private_bucket, value_written}
 use Rattle.std.specs.Prelude.{option_map, option_and_then}
 use Rattle.thread_local_schedule.specs.Calls.{gets_of, closure_of, CallsStay, PublishingEnds, CallsGo, GoesOn}
 
 -- a Local whose step changes only what it has learnt and does keeps its id and first view
-goes : {V E : Type 0} (step : LocalStep V E) (local : Local V E) (learnt : Learnt V) (doing : Doing V E) → CallsGo step local (record local { learnt = learnt; doing = doing })
+goes : {V E : Type 0} (step : LocalStep V E) (local : Local V E) (learnt : Learnt V)
+    (doing : Doing V E)
+    → CallsGo step local (record local { learnt = learnt; doing = doing })
     → GoesOn step local (record local { learnt = learnt; doing = doing })
 goes step local learnt doing calls = record { id = refl; start = refl; calls = calls }
 
-stay : {V E : Type 0} (local : Local V E) (learnt : Learnt V) (doing : Doing V E) → gets_of doing ≡ gets_of local.doing → closure_of doing ≡ closure_of local.doing
+stay : {V E : Type 0} (local : Local V E) (learnt : Learnt V) (doing : Doing V E)
+    → gets_of doing ≡ gets_of local.doing → closure_of doing ≡ closure_of local.doing
     → CallsStay local (record local { learnt = learnt; doing = doing })
 stay local learnt doing gets closure = record { gets = gets; closure = closure; calls = refl }
 
 -- a publishing call ends
-publishing_ends : {V E : Type 0} (local : Local V E) (create : Result V E) (refused : Bool) (told : Answer V E) (learnt : Learnt V) → gets_of local.doing ≡ 0
-    → closure_of local.doing ≡ Some create → PublishingEnds refused local (after_call local (GetOr create refused) told learnt (Gets 0))
+publishing_ends : {V E : Type 0} (local : Local V E) (create : Result V E) (refused : Bool)
+    (told : Answer V E) (learnt : Learnt V)
+    → gets_of local.doing ≡ 0
+    → closure_of local.doing ≡ Some create
+    → PublishingEnds refused local (after_call local (GetOr create refused) told learnt (Gets 0))
 publishing_ends local create refused told learnt gets closure = record {
   none = refl;
   gets = sym gets;
-  calls = subst (λ o. IsSomeAnd o (λ c. local.calls ++ GetOr create refused ∷ [] ≡ local.calls ++ GetOr c refused ∷ [])) (sym closure) refl;
+  calls =
+      subst (λ o.
+      IsSomeAnd o
+      (λ c. local.calls ++ GetOr create refused ∷ [] ≡ local.calls ++ GetOr c refused ∷ []))
+      (sym closure) refl;
 }
 
 get_ends : {V E : Type 0} (local : Local V E) (count : ℕ) (told : Answer V E) (learnt : Learnt V) → local.doing ≡ Gets (suc count)
     → GoesOn Reply local (after_call local Get told learnt (Gets count))
-get_ends local count told learnt e = record { id = refl; start = refl; calls = inl (record { gets = ap gets_of e; closure = sym (ap closure_of e); calls = refl }) }
+get_ends local count told learnt e = record {
+  id = refl;
+  start = refl;
+  calls = inl (record { gets = ap gets_of e; closure = sym (ap closure_of e); calls = refl });
+}
 
-begin_get-goes : {V E : Type 0} (table : Table V) (local : Local V E) (doing : Doing V E) → local.doing ≡ doing → IfSome (option_map (begin_call table local) (doing_with_get doing)) (λ after. GoesOn BeginGet local after.1)
+begin_get-goes : {V E : Type 0} (table : Table V) (local : Local V E) (doing : Doing V E)
+    → local.doing ≡ doing
+    → IfSome (option_map (begin_call table local) (doing_with_get doing))
+    (λ after. GoesOn BeginGet local after.1)
 begin_get-goes table local (Gets count) e =
-    goes BeginGet local local.learnt (Gets (suc count)) (record { gets = ap suc (sym (ap gets_of e)); closure = sym (ap closure_of e); calls = refl })
+    goes BeginGet local local.learnt (Gets (suc count))
+    (record { gets = ap suc (sym (ap gets_of e)); closure = sym (ap closure_of e); calls = refl })
 begin_get-goes table local _ e = tt
 
 begin_get_or-goes : {V E : Type 0} (table : Table V) (local : Local V E) (create : Result V E) (doing : Doing V E) → local.doing ≡ doing
     → IfSome (option_map (begin_call table local) (doing_with_get_or create doing)) (λ after. GoesOn (BeginGetOr create) local after.1)
 begin_get_or-goes table local create (Gets zero) e =
-    goes (BeginGetOr create) local local.learnt (Started create) (record { none = ap closure_of e; gets = sym (ap gets_of e); closure = refl; calls = refl })
+    goes (BeginGetOr create) local local.learnt (Started create)
+    (record { none = ap closure_of e; gets = sym (ap gets_of e); closure = refl; calls = refl })
 begin_get_or-goes table local create _ e = tt
 
 -- what holds for whatever is learnt, holds where something is learnt
@@ -48,32 +74,60 @@ whatever_is_learnt table local None P p = tt
 whatever_is_learnt table local (Some learnt) P p = p learnt
 
 learns-goes : {V E : Type 0} (step : LocalStep V E) (table : Table V) (local : Local V E) (o : Option (Learnt V))
-    → ((after : Local V E) → CallsStay local after → CallsGo step local after) → IfSome (learns table local o) (λ after. GoesOn step local after.1)
+    → ((after : Local V E) → CallsStay local after → CallsGo step local after)
+    → IfSome (learns table local o) (λ after. GoesOn step local after.1)
 learns-goes step table local o go =
     whatever_is_learnt table local o (λ after. GoesOn step local after.1)
-    (λ learnt. record { id = refl; start = refl; calls = go (record local { learnt = learnt }) (record { gets = refl; closure = refl; calls = refl }) })
+    (λ learnt. record {
+      id = refl;
+      start = refl;
+      calls =
+          go (record local { learnt = learnt }) (record { gets = refl; closure = refl; calls = refl });
+    })
 
-load_pointer-goes : {V E : Type 0} (table : Table V) (local : Local V E) (b : Bool) → IfSome (cond b (load_pointer table local) None) (λ after. GoesOn LoadPointer local after.1)
+load_pointer-goes : {V E : Type 0} (table : Table V) (local : Local V E) (b : Bool)
+    → IfSome (cond b (load_pointer table local) None) (λ after. GoesOn LoadPointer local after.1)
 load_pointer-goes table local false = tt
-load_pointer-goes table local true = learns-goes LoadPointer table local (learnt_by_load local.learnt (bucket_stands table (bucket_of local.id))) (λ after c. c)
+load_pointer-goes table local true =
+    learns-goes LoadPointer table local
+    (learnt_by_load local.learnt (bucket_stands table (bucket_of local.id))) (λ after c. c)
 
-look_at_flag-goes : {V E : Type 0} (table : Table V) (local : Local V E) (b : Bool) → IfSome (cond b (look_at_flag table local) None) (λ after. GoesOn LookAtFlag local after.1)
+look_at_flag-goes : {V E : Type 0} (table : Table V) (local : Local V E) (b : Bool)
+    → IfSome (cond b (look_at_flag table local) None) (λ after. GoesOn LookAtFlag local after.1)
 look_at_flag-goes table local false = tt
-look_at_flag-goes table local true = learns-goes LookAtFlag table local (learnt_by_look local.learnt (published table local.id)) (λ after c. c)
+look_at_flag-goes table local true =
+    learns-goes LookAtFlag table local (learnt_by_look local.learnt (published table local.id))
+    (λ after c. c)
 
-make_bucket-goes : {V E : Type 0} (table : Table V) (local : Local V E) (refused : Bool) (doing : Doing V E) (learnt : Learnt V) → local.doing ≡ doing
-    → IfSome (option_map (make_bucket table local refused) (closure_at_missing doing learnt)) (λ after. GoesOn (MakeBucket refused) local after.1)
+make_bucket-goes : {V E : Type 0} (table : Table V) (local : Local V E) (refused : Bool)
+    (doing : Doing V E) (learnt : Learnt V)
+    → local.doing ≡ doing
+    → IfSome (option_map (make_bucket table local refused) (closure_at_missing doing learnt))
+    (λ after. GoesOn (MakeBucket refused) local after.1)
 make_bucket-goes table local true (Started create) Missing e =
-    record { id = refl; start = refl; calls = record { ends = publishing_ends local create true _ Missing (ap gets_of e) (ap closure_of e); answered = refl } }
+    record {
+      id = refl;
+      start = refl;
+      calls = record {
+        ends = publishing_ends local create true _ Missing (ap gets_of e) (ap closure_of e);
+        answered = refl;
+      };
+    }
 make_bucket-goes table local false (Started create) Missing e =
-    goes (MakeBucket false) local local.learnt (Private create table.made) (stay local local.learnt (Private create table.made) (sym (ap gets_of e)) (sym (ap closure_of e)))
+    goes (MakeBucket false) local local.learnt (Private create table.made)
+    (stay local local.learnt (Private create table.made) (sym (ap gets_of e))
+    (sym (ap closure_of e)))
 make_bucket-goes table local refused _ _ e = tt
 
 install_bucket-goes : {V E : Type 0} (table : Table V) (local : Local V E) (doing : Doing V E) → local.doing ≡ doing
     → IfSome (option_and_then (install_bucket table local) (private_bucket doing)) (λ after. GoesOn InstallBucket local after.1)
 install_bucket-goes table local (Private create number) e =
-    whatever_is_learnt (offered table (bucket_of local.id) number) (record local { doing = Started create }) (learnt_by_install local.learnt) (λ after. GoesOn InstallBucket local after.1)
-    (λ learnt. goes InstallBucket local learnt (Started create) (stay local learnt (Started create) (sym (ap gets_of e)) (sym (ap closure_of e))))
+    whatever_is_learnt (offered table (bucket_of local.id) number)
+    (record local { doing = Started create }) (learnt_by_install local.learnt)
+    (λ after. GoesOn InstallBucket local after.1)
+    (λ learnt.
+    goes InstallBucket local learnt (Started create)
+    (stay local learnt (Started create) (sym (ap gets_of e)) (sym (ap closure_of e))))
 install_bucket-goes table local _ e = tt
 
 write_value-goes : {V E : Type 0} (table : Table V) (local : Local V E) (doing : Doing V E) (learnt : Learnt V) → local.doing ≡ doing
@@ -87,8 +141,14 @@ write_value-goes table local _ _ e = tt
 set_flag-goes : {V E : Type 0} (table : Table V) (local : Local V E) (doing : Doing V E) → local.doing ≡ doing
     → IfSome (option_and_then (set_flag table local) (value_written doing)) (λ after. GoesOn SetFlag local after.1)
 set_flag-goes table local (Written v) e =
-    whatever_is_learnt (with_flag table local.id) (after_call local (GetOr (Ok v) false) (Answered v) local.learnt (Gets 0)) (learnt_by_publish local.learnt v)
-    (λ after. GoesOn SetFlag local after.1) (λ learnt. record { id = refl; start = refl; calls = publishing_ends local (Ok v) false _ learnt (ap gets_of e) (ap closure_of e) })
+    whatever_is_learnt (with_flag table local.id)
+    (after_call local (GetOr (Ok v) false) (Answered v) local.learnt (Gets 0))
+    (learnt_by_publish local.learnt v)
+    (λ after. GoesOn SetFlag local after.1) (λ learnt. record {
+      id = refl;
+      start = refl;
+      calls = publishing_ends local (Ok v) false _ learnt (ap gets_of e) (ap closure_of e);
+    })
 set_flag-goes table local _ e = tt
 
 reply-goes : {V E : Type 0} (table : Table V) (local : Local V E) (doing : Doing V E) (learnt : Learnt V) → local.doing ≡ doing
@@ -101,7 +161,8 @@ reply-goes table local (Started create) (Holding v) e =
 reply-goes table local _ _ e = tt
 
 -- every step changes the calls of its Local as it says
-pub local_step-goes : {V E : Type 0} (table : Table V) (local : Local V E) (step : LocalStep V E) → IfSome (local_step table local step) (λ after. GoesOn step local after.1)
+pub local_step-goes : {V E : Type 0} (table : Table V) (local : Local V E) (step : LocalStep V E)
+    → IfSome (local_step table local step) (λ after. GoesOn step local after.1)
 unfolding local_step
 local_step-goes table local BeginGet = begin_get-goes table local local.doing refl
 local_step-goes table local (BeginGetOr create) = begin_get_or-goes table local create local.doing refl

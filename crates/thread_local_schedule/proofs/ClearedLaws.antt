@@ -11,23 +11,29 @@ use Rattle.thread_local_schedule.specs.Cleared.{emptied_bucket, cleared}
 
 -- a pointer that a clear keeps or sets to null: its slots are empty, and if kept it leads to the
 -- same bucket
-slot_of-kept : {V : Type 0} (b : Bool) (pointer : Option (Bucket V)) (index : ℕ) → slot_of (cond b (emptied_bucket pointer) None) index ≡ empty_slot
+slot_of-kept : {V : Type 0} (b : Bool) (pointer : Option (Bucket V)) (index : ℕ)
+    → slot_of (cond b (emptied_bucket pointer) None) index ≡ empty_slot
 slot_of-kept true None index = refl
 slot_of-kept true (Some here) index = refl
 slot_of-kept false pointer index = refl
 
-some-kept : {V : Type 0} (b : Bool) (pointer : Option (Bucket V)) → (IsTrue b → IsTrue (is_some pointer)) → is_some (cond b (emptied_bucket pointer) None) ≡ b
+some-kept : {V : Type 0} (b : Bool) (pointer : Option (Bucket V))
+    → (IsTrue b → IsTrue (is_some pointer))
+    → is_some (cond b (emptied_bucket pointer) None) ≡ b
 some-kept true None stood = absurd (false≢true (stood refl))
 some-kept true (Some here) stood = refl
 some-kept false pointer stood = refl
 
-number-kept : {V : Type 0} (b : Bool) (pointer : Option (Bucket V)) (k : ℕ) → option_map (λ here. here.number) (cond b (emptied_bucket pointer) None) ≡ Some k
+number-kept : {V : Type 0} (b : Bool) (pointer : Option (Bucket V)) (k : ℕ)
+    → option_map (λ here. here.number) (cond b (emptied_bucket pointer) None) ≡ Some k
     → option_map (λ here. here.number) pointer ≡ Some k
 number-kept true None k e = cc
 number-kept true (Some here) k e = e
 number-kept false pointer k e = cc
 
-number-stays : {V : Type 0} (b : Bool) (pointer : Option (Bucket V)) → IsTrue b → option_map (λ here. here.number) (cond b (emptied_bucket pointer) None) ≡ option_map (λ here. here.number) pointer
+number-stays : {V : Type 0} (b : Bool) (pointer : Option (Bucket V)) → IsTrue b
+    → option_map (λ here. here.number) (cond b (emptied_bucket pointer) None)
+    ≡ option_map (λ here. here.number) pointer
 number-stays true None t = refl
 number-stays true (Some here) t = refl
 number-stays false pointer t = absurd (false≢true t)
@@ -40,21 +46,28 @@ slot_at-cleared table capacity id = slot_of-kept (reserves_bucket capacity (buck
 -- nothing is published
 pub none_cleared : {V : Type 0} (table : Table V) (capacity : ℕ) → published (cleared table capacity) ≡ (λ _. None)
 none_cleared table capacity =
-    same_function (published (cleared table capacity)) (λ _. None) (λ id. published_unset (cleared table capacity) id (ap (λ slot. slot.flag) (slot_at-cleared table capacity id)))
+    same_function (published (cleared table capacity)) (λ _. None) (λ id.
+    published_unset (cleared table capacity) id
+    (ap (λ slot. slot.flag) (slot_at-cleared table capacity id)))
 
 -- exactly the reserved buckets stand, if they stood before
-pub bucket_stands-cleared : {V : Type 0} (table : Table V) (capacity bucket : ℕ) → (IsTrue (reserves_bucket capacity bucket) → IsTrue (bucket_stands table bucket))
+pub bucket_stands-cleared : {V : Type 0} (table : Table V) (capacity bucket : ℕ)
+    → (IsTrue (reserves_bucket capacity bucket) → IsTrue (bucket_stands table bucket))
     → bucket_stands (cleared table capacity) bucket ≡ reserves_bucket capacity bucket
 unfolding bucket_stands cleared
 bucket_stands-cleared table capacity bucket stood = some-kept (reserves_bucket capacity bucket) (table.pointers bucket) stood
 
 -- the pointer of a reserved bucket leads to the same bucket, and no pointer leads to another than
 -- before
-pub named-cleared : {V : Type 0} (table : Table V) (capacity bucket : ℕ) → IsTrue (reserves_bucket capacity bucket) → named (cleared table capacity) bucket ≡ named table bucket
+pub named-cleared : {V : Type 0} (table : Table V) (capacity bucket : ℕ)
+    → IsTrue (reserves_bucket capacity bucket)
+    → named (cleared table capacity) bucket ≡ named table bucket
 unfolding named cleared
 named-cleared table capacity bucket reserved = number-stays (reserves_bucket capacity bucket) (table.pointers bucket) reserved
 
-pub named_before_clear : {V : Type 0} (table : Table V) (capacity bucket k : ℕ) → named (cleared table capacity) bucket ≡ Some k → named table bucket ≡ Some k
+pub named_before_clear : {V : Type 0} (table : Table V) (capacity bucket k : ℕ)
+    → named (cleared table capacity) bucket ≡ Some k
+    → named table bucket ≡ Some k
 unfolding named cleared
 named_before_clear table capacity bucket k e = number-kept (reserves_bucket capacity bucket) (table.pointers bucket) k e
 

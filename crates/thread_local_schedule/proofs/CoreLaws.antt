@@ -1,6 +1,7 @@
 -- What the invariant of a core gives: bounds by the peak, reserved buckets that are found, and
 -- complete walks.
-use Rattle.std.proofs.Common.{◌≡◌, ℕ, ◌+◌, ◌-◌, ◌*◌, ◌^◌, ◌<◌, ◌≤◌, Bool, List, ◌++◌, append-nil, length, Option, Some, None, IsTrue, IfSome, refl, ap, sym, ◌∙◌, subst, arith, ⊎_elim}
+use Rattle.std.proofs.Common.{◌≡◌, ℕ, ◌+◌, ◌-◌, ◌*◌, ◌^◌, ◌<◌, ◌≤◌, Bool, List, ◌++◌, append-nil, length, Option, Some}
+use Rattle.std.proofs.Common.{None, IsTrue, IfSome, refl, ap, sym, ◌∙◌, subst, arith, ⊎_elim}
 use Rattle.std.specs.Prelude.{option_map, Contains}
 use Rattle.std.proofs.lemmas.Bool.{cases_Bool, false≢true}
 use Rattle.thread_local_model.specs.Place.{index_of, id_at}
@@ -31,27 +32,40 @@ none_if None h = refl
 none_if (Some x) h = absurd (h x refl)
 
 -- a map with values only below n has none from n on
-pub absent : {V : Type 0} (values : ℕ → Option V) (n id : ℕ) → ((v : V) → values id ≡ Some v → id < n) → n ≤ id → values id ≡ None
+pub absent : {V : Type 0} (values : ℕ → Option V) (n id : ℕ)
+    → ((v : V) → values id ≡ Some v → id < n) → n ≤ id
+    → values id ≡ None
 absent values n id below l = none_if (values id) (λ v e. omega (arith, below v e))
 
 -- a slot of a bucket holds a written value if its flag is set
-pub written_in : {V : Type 0} (pointer : Option (Bucket V)) (index : ℕ) → IsWritten (slot_of pointer index) → IfSome pointer (λ here. IsWritten (here.slot index))
+pub written_in : {V : Type 0} (pointer : Option (Bucket V)) (index : ℕ)
+    → IsWritten (slot_of pointer index)
+    → IfSome pointer (λ here. IsWritten (here.slot index))
 written_in None index w = tt
 written_in (Some here) index w = w
 
-pub flagged : {V : Type 0} (table : Table V) (bucket index : ℕ) → AllWritten table → index < 2 ^ bucket → IfSome (table.pointers bucket) (λ here. IsWritten (here.slot index))
+pub flagged : {V : Type 0} (table : Table V) (bucket index : ℕ) → AllWritten table
+    → index < 2 ^ bucket
+    → IfSome (table.pointers bucket) (λ here. IsWritten (here.slot index))
 unfolding slot_at
 flagged table bucket index written l =
     let at = place.place-id_at bucket index l in
-    written_in (table.pointers bucket) index (subst (λ i. IsWritten (slot_of (table.pointers bucket) i)) at.1 (subst (λ b. IsWritten (slot_of (table.pointers b) (index_of (id_at bucket index)))) at.0 (written (id_at bucket index))))
+    written_in (table.pointers bucket) index
+    (subst (λ i. IsWritten (slot_of (table.pointers bucket) i)) at.1
+    (subst (λ b. IsWritten (slot_of (table.pointers b) (index_of (id_at bucket index)))) at.0
+    (written (id_at bucket index))))
 
 -- the capacity and the peak bound the installed slots
-pub installed_bound : {V E : Type 0} (core : Core V E) (m : ℕ) → CoreFits core → core.capacity ≤ m → peak core ≤ m → installed_slots core ≤ 2 * m - 1
+pub installed_bound : {V E : Type 0} (core : Core V E) (m : ℕ) → CoreFits core → core.capacity ≤ m
+    → peak core ≤ m
+    → installed_slots core ≤ 2 * m - 1
 unfolding slots
 installed_bound core m h c p = slots_bounded (bucket_stands core.table) m 63 (λ b t. omega (arith, h.table.small b t))
 
 -- a call's own bucket has no more slots than the peak
-pub private_bound : {V E : Type 0} (held : List Bool) (id : ℕ) (doing : Doing V E) → IsTrue (is_held held id) → private_slots id doing ≤ length held
+pub private_bound : {V E : Type 0} (held : List Bool) (id : ℕ) (doing : Doing V E)
+    → IsTrue (is_held held id)
+    → private_slots id doing ≤ length held
 private_bound held id (Private create number) t = own_small held id t
 private_bound held id _ t = omega arith
 
@@ -64,18 +78,26 @@ published_bound core h =
     let whole : n + rest ≡ 2 ^ 63 - 1 = omega (arith, h.manager.peak_ids) in
     let values = published core.table in
     let none = walk_below-none (λ i. values (n + i)) rest (λ i l. absent values n (n + i) (h.table.below (n + i)) (omega arith)) in
-    let same = ap (walk_below values) (sym whole) ∙ walk_below-add values n rest ∙ ap (λ vs. walk_below values n ++ vs) none ∙ append-nil (walk_below values n) in
+    let same =
+    ap (walk_below values) (sym whole)
+    ∙ walk_below-add values n rest
+    ∙ ap (λ vs. walk_below values n ++ vs) none
+    ∙ append-nil (walk_below values n) in
     subst (λ vs. length vs ≤ n) (sym same) (length-walk_below values n)
 
 -- a Local with a reserved id never finds its pointer null, and so never asks for memory
-pub never_missing : {V E : Type 0} (core : Core V E) (n : ℕ) (local : Local V E) → CoreFits core → core.locals n ≡ Some local → IsTrue (is_reserved core.capacity local.id) → local.learnt ≡ Missing → ⊥
+pub never_missing : {V E : Type 0} (core : Core V E) (n : ℕ) (local : Local V E) → CoreFits core
+    → core.locals n ≡ Some local → IsTrue (is_reserved core.capacity local.id)
+    → local.learnt ≡ Missing
+    → ⊥
 never_missing core n local h at reserved e =
     let live = h.locals.each n local at in
     let missing = subst (IsLearnt core.table local.id (view_now local)) e live.local_fits.view.learnt_so in
     false≢true (sym missing.1 ∙ known_after_all local.start local.calls (live.known reserved))
 
 -- a complete walk has given all that it saw at first
-pub complete : {V E : Type 0} (core : Core V E) (n : ℕ) (walk : SharedWalk V) → CoreFits core → core.walks n ≡ Some walk → IsTrue (is_complete walk.cursor)
+pub complete : {V E : Type 0} (core : Core V E) (n : ℕ) (walk : SharedWalk V) → CoreFits core
+    → core.walks n ≡ Some walk → IsTrue (is_complete walk.cursor)
     → (id : ℕ) (v : V) → walk.first id ≡ Some v → Contains {X = ℕ × V} walk.given (id, v)
 complete core n walk h at done id v e =
     let fits = h.walks.each n walk at in
@@ -83,7 +105,9 @@ complete core n walk h at done id v e =
     fits.fits.passed id v e (omega (arith, h.manager.peak_ids, complete_cursor core.table walk fits done))
 
 -- a walk has loaded at most 63 pointers, and once more for each value given
-pub loads : {V E : Type 0} (core : Core V E) (n : ℕ) (walk : SharedWalk V) → CoreFits core → core.walks n ≡ Some walk → walk.loads ≤ 63 + length walk.given
+pub loads : {V E : Type 0} (core : Core V E) (n : ℕ) (walk : SharedWalk V) → CoreFits core
+    → core.walks n ≡ Some walk
+    → walk.loads ≤ 63 + length walk.given
 loads core n walk h at =
     let fits = h.walks.each n walk at in
     ⊎_elim
@@ -92,12 +116,18 @@ loads core n walk h at =
     (cases_Bool walk.cursor.looks)
 
 -- the published values change as a step says
-pub published_moves : {V E : Type 0} (core : Core V E) (table : Table V) (id : ℕ) (set : Option V) → ((j : ℕ) → published table j ≡ with_value_if (published core.table) id set j)
+pub published_moves : {V E : Type 0} (core : Core V E) (table : Table V) (id : ℕ) (set : Option V)
+    → ((j : ℕ) → published table j ≡ with_value_if (published core.table) id set j)
     → record (shadow core) { values = published table } ≡ moved_if (shadow core) (option_map (λ v. Publish id v) set)
-published_moves core table id None shown = ap (λ values. record (shadow core) { values = values }) (same_function (published table) (published core.table) shown)
-published_moves core table id (Some v) shown = ap (λ values. record (shadow core) { values = values }) (same_function (published table) (with_value_if (published core.table) id (Some v)) shown)
+published_moves core table id None shown =
+    ap (λ values. record (shadow core) { values = values })
+    (same_function (published table) (published core.table) shown)
+published_moves core table id (Some v) shown =
+    ap (λ values. record (shadow core) { values = values })
+    (same_function (published table) (with_value_if (published core.table) id (Some v)) shown)
 
-pub publishing_allowed : {V : Type 0} (sheet : Sheet V) (id : ℕ) (set : Option V) → IsTrue (is_held sheet.held id) → IfSome set (λ _. sheet.values id ≡ None)
+pub publishing_allowed : {V : Type 0} (sheet : Sheet V) (id : ℕ) (set : Option V)
+    → IsTrue (is_held sheet.held id) → IfSome set (λ _. sheet.values id ≡ None)
     → IfSome (option_map (λ v. Publish id v) set) (IsAllowed sheet)
 publishing_allowed sheet id None t empty = tt
 publishing_allowed sheet id (Some v) t empty = (empty, t)
@@ -105,4 +135,6 @@ publishing_allowed sheet id (Some v) t empty = (empty, t)
 -- nothing is published in a new table
 pub none_made : (T : Type 0) (capacity : ℕ) → published {V = T} (made_table capacity) ≡ (λ _. None)
 none_made T capacity =
-    same_function (published {V = T} (made_table capacity)) (λ _. None) (λ id. published_unset (made_table capacity) id (ap (λ slot. slot.flag) (slot_at-made_table {V = T} capacity id)))
+    same_function (published {V = T} (made_table capacity)) (λ _. None) (λ id.
+    published_unset (made_table capacity) id
+    (ap (λ slot. slot.flag) (slot_at-made_table {V = T} capacity id)))

@@ -1,27 +1,40 @@
 -- Which steps of a `Local` are enabled, and what they teach: a call under way always has one.
-use Rattle.std.proofs.Common.{◌≡◌, zero, suc, Bool, true, false, cond, Option, Some, None, Result, Ok, Err, is_some, IsTrue, IfSome, IsSomeAnd, refl, arith}
+use Rattle.std.proofs.Common.{◌≡◌, zero, suc, Bool, true, false, cond, Option, Some, None, Result, Ok, Err, is_some}
+use Rattle.std.proofs.Common.{IsTrue, IfSome, IsSomeAnd, refl, arith}
 use Rattle.std.specs.Prelude.{option_map, option_and_then, MatchOption}
 use Rattle.std.proofs.lemmas.Bool.{false≢true}
 use Rattle.thread_local_model.specs.Place.{bucket_of}
-use Rattle.thread_local_model.specs.Learnt.{Learnt, Unknown, Missing, Standing, Vacant, Holding, learnt_by_load, learnt_by_look, learnt_by_install, learnt_by_publish}
+use Rattle.thread_local_model.specs.Learnt.{Learnt, Unknown, Missing, Standing, Vacant, Holding, learnt_by_load}
+use Rattle.thread_local_model.specs.Learnt.{learnt_by_look, learnt_by_install, learnt_by_publish}
 use Rattle.thread_local_model.specs.Answers.{Failed, Answered, GetOr}
 use Rattle.thread_local_schedule.specs.Table.{Table, published, bucket_stands, with_flag}
-use Rattle.thread_local_schedule.specs.Local.{Doing, Gets, Started, Private, Written, Local, LocalStep, local_step, BeginGet, BeginGetOr, LoadPointer, LookAtFlag, MakeBucket, InstallBucket, WriteValue, SetFlag, Reply, doing_with_get, doing_with_get_or, begin_call, is_calling, learns, closure_at_missing, make_bucket, offered, private_bucket, install_bucket, closure_at_vacant, write_value, value_written, set_flag, after_call, ending_of, reply}
+use Rattle.thread_local_schedule.specs.Local.{Doing, Gets, Started, Private, Written, Local, LocalStep, local_step}
+use Rattle.thread_local_schedule.specs.Local.{BeginGet, BeginGetOr, LoadPointer, LookAtFlag, MakeBucket, InstallBucket}
+use Rattle.thread_local_schedule.specs.Local.{WriteValue, SetFlag, Reply, doing_with_get, doing_with_get_or, begin_call}
+use Rattle.thread_local_schedule.specs.Local.{is_calling, learns, closure_at_missing, make_bucket, offered}
+use Rattle.thread_local_schedule.specs.Local.{private_bucket, install_bucket, closure_at_vacant, write_value}
+use Rattle.thread_local_schedule.specs.Local.{value_written, set_flag, after_call, ending_of, reply}
 use Rattle.thread_local_schedule.specs.Calls.{gets_of, closure_of, HasNoCall, HasLearnt, EndsWith}
 
 -- a get begins where no publishing call is under way
-get_begins : {V E : Type 0} (table : Table V) (local : Local V E) (doing : Doing V E) → closure_of doing ≡ None → IsTrue (is_some (option_map (begin_call table local) (doing_with_get doing)))
+get_begins : {V E : Type 0} (table : Table V) (local : Local V E) (doing : Doing V E)
+    → closure_of doing ≡ None
+    → IsTrue (is_some (option_map (begin_call table local) (doing_with_get doing)))
 get_begins table local (Gets count) none = refl
 get_begins table local (Started create) none = cc
 get_begins table local (Private create number) none = cc
 get_begins table local (Written v) none = cc
 
-pub begins_get : {V E : Type 0} (table : Table V) (local : Local V E) → closure_of local.doing ≡ None → IsTrue (is_some (local_step table local BeginGet))
+pub begins_get : {V E : Type 0} (table : Table V) (local : Local V E)
+    → closure_of local.doing ≡ None
+    → IsTrue (is_some (local_step table local BeginGet))
 unfolding local_step
 begins_get table local none = get_begins table local local.doing none
 
 -- a publishing call begins where no call is under way
-get_or_begins : {V E : Type 0} (table : Table V) (local : Local V E) (create : Result V E) (doing : Doing V E) → gets_of doing ≡ 0 → closure_of doing ≡ None
+get_or_begins : {V E : Type 0} (table : Table V) (local : Local V E) (create : Result V E)
+    (doing : Doing V E)
+    → gets_of doing ≡ 0 → closure_of doing ≡ None
     → IsTrue (is_some (option_map (begin_call table local) (doing_with_get_or create doing)))
 get_or_begins table local create (Gets zero) gets none = refl
 get_or_begins table local create (Gets (suc count)) gets none = absurd (omega arith)
@@ -29,7 +42,9 @@ get_or_begins table local create (Started other) gets none = cc
 get_or_begins table local create (Private other number) gets none = cc
 get_or_begins table local create (Written v) gets none = cc
 
-pub begins_get_or : {V E : Type 0} (table : Table V) (local : Local V E) (create : Result V E) → HasNoCall local → IsTrue (is_some (local_step table local (BeginGetOr create)))
+pub begins_get_or : {V E : Type 0} (table : Table V) (local : Local V E) (create : Result V E)
+    → HasNoCall local
+    → IsTrue (is_some (local_step table local (BeginGetOr create)))
 unfolding local_step
 begins_get_or table local create none = get_or_begins table local create local.doing none.gets none.closure
 
@@ -44,7 +59,9 @@ load-learnt table local (Started create) (Some learnt) e = rw e tt
 load-learnt table local (Private create number) o e = tt
 load-learnt table local (Written v) o e = tt
 
-begin_get-learnt : {V E : Type 0} (table : Table V) (local : Local V E) (doing : Doing V E) → IfSome (option_map (begin_call table local) (doing_with_get doing)) (λ after. HasLearnt after.1.doing after.1.learnt)
+begin_get-learnt : {V E : Type 0} (table : Table V) (local : Local V E) (doing : Doing V E)
+    → IfSome (option_map (begin_call table local) (doing_with_get doing))
+    (λ after. HasLearnt after.1.doing after.1.learnt)
 begin_get-learnt table local (Gets count) = tt
 begin_get-learnt table local _ = tt
 
@@ -53,8 +70,11 @@ begin_get_or-learnt : {V E : Type 0} (table : Table V) (local : Local V E) (crea
 begin_get_or-learnt table local create (Gets zero) = tt
 begin_get_or-learnt table local create _ = tt
 
-make_bucket-learnt : {V E : Type 0} (table : Table V) (local : Local V E) (refused : Bool) (doing : Doing V E) (learnt : Learnt V) → local.learnt ≡ learnt
-    → IfSome (option_map (make_bucket table local refused) (closure_at_missing doing learnt)) (λ after. HasLearnt after.1.doing after.1.learnt)
+make_bucket-learnt : {V E : Type 0} (table : Table V) (local : Local V E) (refused : Bool)
+    (doing : Doing V E) (learnt : Learnt V)
+    → local.learnt ≡ learnt
+    → IfSome (option_map (make_bucket table local refused) (closure_at_missing doing learnt))
+    (λ after. HasLearnt after.1.doing after.1.learnt)
 make_bucket-learnt table local true (Started create) Missing e = tt
 make_bucket-learnt table local false (Started create) Missing e = e
 make_bucket-learnt table local refused _ _ e = tt
@@ -66,7 +86,9 @@ install-learnt table local create (Some learnt) = tt
 
 install_bucket-learnt : {V E : Type 0} (table : Table V) (local : Local V E) (doing : Doing V E)
     → IfSome (option_and_then (install_bucket table local) (private_bucket doing)) (λ after. HasLearnt after.1.doing after.1.learnt)
-install_bucket-learnt table local (Private create number) = install-learnt (offered table (bucket_of local.id) number) local create (learnt_by_install local.learnt)
+install_bucket-learnt table local (Private create number) =
+    install-learnt (offered table (bucket_of local.id) number) local create
+    (learnt_by_install local.learnt)
 install_bucket-learnt table local _ = tt
 
 write_value-learnt : {V E : Type 0} (table : Table V) (local : Local V E) (doing : Doing V E) (learnt : Learnt V)
@@ -76,7 +98,9 @@ write_value-learnt table local (Started (Err e)) Vacant = tt
 write_value-learnt table local _ _ = tt
 
 publish-learnt : {V E : Type 0} (table : Table V) (local : Local V E) (v : V) (o : Option (Learnt V))
-    → IfSome (learns table (after_call local (GetOr (Ok v) false) (Answered v) local.learnt (Gets 0)) o) (λ after. HasLearnt after.1.doing after.1.learnt)
+    → IfSome
+    (learns table (after_call local (GetOr (Ok v) false) (Answered v) local.learnt (Gets 0)) o)
+    (λ after. HasLearnt after.1.doing after.1.learnt)
 publish-learnt table local v None = tt
 publish-learnt table local v (Some learnt) = tt
 
@@ -98,7 +122,9 @@ pub learnt : {V E : Type 0} (table : Table V) (local : Local V E) (step : LocalS
 unfolding local_step
 learnt table local BeginGet h = begin_get-learnt table local local.doing
 learnt table local (BeginGetOr create) h = begin_get_or-learnt table local create local.doing
-learnt table local LoadPointer h = load-learnt table local local.doing (learnt_by_load local.learnt (bucket_stands table (bucket_of local.id))) refl
+learnt table local LoadPointer h =
+    load-learnt table local local.doing
+    (learnt_by_load local.learnt (bucket_stands table (bucket_of local.id))) refl
 learnt table local LookAtFlag h = load-learnt table local local.doing (learnt_by_look local.learnt (published table local.id)) refl
 learnt table local (MakeBucket refused) h = make_bucket-learnt table local refused local.doing local.learnt refl
 learnt table local InstallBucket h = install_bucket-learnt table local local.doing
@@ -108,7 +134,8 @@ learnt table local Reply h = reply-learnt table local local.doing local.learnt
 
 -- what a load and a look teach
 loaded : {V E : Type 0} (table : Table V) (local : Local V E) (calling : Bool) (stands : Bool) (before : Learnt V)
-    → IfSome (cond calling (learns table local (learnt_by_load before stands)) None) (λ after. after.1.learnt ≡ cond stands Standing Missing)
+    → IfSome (cond calling (learns table local (learnt_by_load before stands)) None)
+    (λ after. after.1.learnt ≡ cond stands Standing Missing)
 loaded table local true stands Unknown = refl
 loaded table local true stands Missing = refl
 loaded table local true stands Standing = tt
@@ -116,12 +143,15 @@ loaded table local true stands Vacant = tt
 loaded table local true stands (Holding v) = tt
 loaded table local false stands before = tt
 
-pub loads : {V E : Type 0} (table : Table V) (local : Local V E) → IfSome (local_step table local LoadPointer) (λ after. after.1.learnt ≡ cond (bucket_stands table (bucket_of local.id)) Standing Missing)
+pub loads : {V E : Type 0} (table : Table V) (local : Local V E)
+    → IfSome (local_step table local LoadPointer)
+    (λ after. after.1.learnt ≡ cond (bucket_stands table (bucket_of local.id)) Standing Missing)
 unfolding local_step
 loads table local = loaded table local (is_calling local.doing) (bucket_stands table (bucket_of local.id)) local.learnt
 
 looked : {V E : Type 0} (table : Table V) (local : Local V E) (calling : Bool) (shown : Option V) (before : Learnt V)
-    → IfSome (cond calling (learns table local (learnt_by_look before shown)) None) (λ after. MatchOption shown (after.1.learnt ≡ Vacant) (λ v. after.1.learnt ≡ Holding v))
+    → IfSome (cond calling (learns table local (learnt_by_look before shown)) None)
+    (λ after. MatchOption shown (after.1.learnt ≡ Vacant) (λ v. after.1.learnt ≡ Holding v))
 looked table local true None Standing = refl
 looked table local true (Some v) Standing = refl
 looked table local true shown Unknown = tt
@@ -131,7 +161,9 @@ looked table local true shown (Holding v) = tt
 looked table local false shown before = tt
 
 pub looks : {V E : Type 0} (table : Table V) (local : Local V E)
-    → IfSome (local_step table local LookAtFlag) (λ after. MatchOption (published table local.id) (after.1.learnt ≡ Vacant) (λ v. after.1.learnt ≡ Holding v))
+    → IfSome (local_step table local LookAtFlag) (λ after.
+    MatchOption (published table local.id) (after.1.learnt ≡ Vacant)
+    (λ v. after.1.learnt ≡ Holding v))
 unfolding local_step
 looks table local = looked table local (is_calling local.doing) (published table local.id) local.learnt
 
@@ -147,20 +179,28 @@ asked table local refused (Gets count) before t = absurd (false≢true t)
 asked table local refused (Private create number) before t = absurd (false≢true t)
 asked table local refused (Written v) before t = absurd (false≢true t)
 
-pub asks : {V E : Type 0} (table : Table V) (local : Local V E) (refused : Bool) → IsTrue (is_some (local_step table local (MakeBucket refused))) → local.learnt ≡ Missing
+pub asks : {V E : Type 0} (table : Table V) (local : Local V E) (refused : Bool)
+    → IsTrue (is_some (local_step table local (MakeBucket refused)))
+    → local.learnt ≡ Missing
 unfolding local_step
 asks table local refused t = asked table local refused local.doing local.learnt t
 
 -- a closure's error is handed on where the slot is vacant
-failed : {V E : Type 0} (table : Table V) (local : Local V E) (e : E) (doing : Doing V E) (before : Learnt V) → HasLearnt doing before → closure_of doing ≡ Some (Err e) → before ≡ Vacant
+failed : {V E : Type 0} (table : Table V) (local : Local V E) (e : E) (doing : Doing V E)
+    (before : Learnt V)
+    → HasLearnt doing before → closure_of doing ≡ Some (Err e) → before ≡ Vacant
     → IsSomeAnd (option_map (write_value table local) (closure_at_vacant doing before)) (λ after. EndsWith (Failed e) local after.1)
-failed table local e (Started (Err x)) before h c v = let same : x ≡ e = cc in rw (v, same) (record { none = record { gets = refl; closure = refl }; answered = refl })
+failed table local e (Started (Err x)) before h c v =
+    let same : x ≡ e = cc in
+    rw (v, same) (record { none = record { gets = refl; closure = refl }; answered = refl })
 failed table local e (Started (Ok x)) before h c v = cc
 failed table local e (Gets count) before h c v = cc
 failed table local e (Private create number) before h c v = cc
 failed table local e (Written x) before h c v = cc
 
-pub fails : {V E : Type 0} (table : Table V) (local : Local V E) (e : E) → HasLearnt local.doing local.learnt → closure_of local.doing ≡ Some (Err e) → local.learnt ≡ Vacant
+pub fails : {V E : Type 0} (table : Table V) (local : Local V E) (e : E)
+    → HasLearnt local.doing local.learnt → closure_of local.doing ≡ Some (Err e)
+    → local.learnt ≡ Vacant
     → IsSomeAnd (local_step table local WriteValue) (λ after. EndsWith (Failed e) local after.1)
 unfolding local_step
 fails table local e h c v = failed table local e local.doing local.learnt h c v

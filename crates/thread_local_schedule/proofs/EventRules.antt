@@ -1,5 +1,6 @@
 -- What every event needs and does, from its rule.
-use Rattle.std.proofs.Common.{◌≡◌, ℕ, ◌^◌, ◌<◌, ◌≤◌, Bool, true, false, cond, List, [], ◌∷◌, ◌++◌, Option, Some, None, Result, Err, is_some, IsTrue, IfSome, IsSomeAnd, refl, ap, sym, ◌∙◌, subst, arith, ⊎_elim}
+use Rattle.std.proofs.Common.{◌≡◌, ℕ, ◌^◌, ◌<◌, ◌≤◌, Bool, true, false, cond, List, [], ◌∷◌, ◌++◌, Option, Some, None}
+use Rattle.std.proofs.Common.{Result, Err, is_some, IsTrue, IfSome, IsSomeAnd, refl, ap, sym, ◌∙◌, subst, arith, ⊎_elim}
 use Rattle.std.specs.Prelude.{option_map, option_and_then, unwrap_or, IsSome}
 use Rattle.std.proofs.lemmas.Bool.{false≢true, cond_both, cases_Bool}
 use Rattle.thread_local_model.specs.Held.{is_granted}
@@ -14,19 +15,25 @@ use Rattle.thread_local_schedule.specs.OwnerWalk.{rewritten}
 use Rattle.thread_local_schedule.specs.Core.{Core, made_core, is_alone}
 use Rattle.thread_local_schedule.specs.CoreFits.{CoreFits}
 use Rattle.thread_local_schedule.proofs.OptionLaws.{if_enabled, if_there, if_then, some_and, unwrapped}
-use Rattle.thread_local_schedule.specs.Events.{Event, TakeId, OfLocal, GiveBack, Forget, BeginWalk, OfWalk, EndWalk, Owner, OwnerCall, IterMut, Slots, ClearTable, IntoIter, DropTable, take_id, with_step, of_local, is_idle, without_local, with_id_given, give_back, forget, with_walk, of_walk, after_owner, step_of, step, is_enabled, happens, run}
+use Rattle.thread_local_schedule.specs.Events.{Event, TakeId, OfLocal, GiveBack, Forget, BeginWalk, OfWalk, EndWalk}
+use Rattle.thread_local_schedule.specs.Events.{Owner, OwnerCall, IterMut, Slots, ClearTable, IntoIter, DropTable}
+use Rattle.thread_local_schedule.specs.Events.{take_id, with_step, of_local, is_idle, without_local, with_id_given}
+use Rattle.thread_local_schedule.specs.Events.{give_back, forget, with_walk, of_walk, after_owner, step_of, step}
+use Rattle.thread_local_schedule.specs.Events.{is_enabled, happens, run}
 use Rattle.thread_local_schedule.specs.Schedule.{is_take, is_refused, is_granted_take, newcomer, IsReached}
 use Rattle.thread_local_schedule.proofs.Clauses as clause
 use Rattle.thread_local_schedule.proofs.Clauses.{owner_goes, enabled_step}
 use Rattle.thread_local_schedule.proofs.Enabled.{may, step_leaves}
 
 -- a schedule and one event more
-pub run-append : {V E : Type 0} (core : Core V E) (events more : List (Event V E)) → run core (events ++ more) ≡ run (run core events) more
+pub run-append : {V E : Type 0} (core : Core V E) (events more : List (Event V E))
+    → run core (events ++ more) ≡ run (run core events) more
 unfolding run
 run-append core [] more = refl
 run-append core (event ∷ events) more = run-append (happens core event) events more
 
-pub run-one : {V E : Type 0} (core : Core V E) (events : List (Event V E)) (event : Event V E) → run core (events ++ event ∷ []) ≡ happens (run core events) event
+pub run-one : {V E : Type 0} (core : Core V E) (events : List (Event V E)) (event : Event V E)
+    → run core (events ++ event ∷ []) ≡ happens (run core events) event
 unfolding run
 run-one core events event = run-append core events (event ∷ [])
 
@@ -52,10 +59,14 @@ map_there : {A B : Type 0} (f : A → B) (o : Option A) → IsTrue (is_some (opt
 map_there f None t = absurd (false≢true t)
 map_there f (Some x) t = refl
 
-pub lives : {V E : Type 0} (core : Core V E) (n : ℕ) (step : LocalStep V E) → IsTrue (is_enabled core (OfLocal n step)) → IsSome (core.locals n)
+pub lives : {V E : Type 0} (core : Core V E) (n : ℕ) (step : LocalStep V E)
+    → IsTrue (is_enabled core (OfLocal n step))
+    → IsSome (core.locals n)
 lives core n step t = then_there _ (core.locals n) (enabled_step core (OfLocal n step) t)
 
-pub walks : {V E : Type 0} (core : Core V E) (n : ℕ) (step : WalkStep) → IsTrue (is_enabled core (OfWalk n step)) → IsSome (core.walks n)
+pub walks : {V E : Type 0} (core : Core V E) (n : ℕ) (step : WalkStep)
+    → IsTrue (is_enabled core (OfWalk n step))
+    → IsSome (core.walks n)
 walks core n step t = then_there _ (core.walks n) (enabled_step core (OfWalk n step) t)
 
 pub ends : {V E : Type 0} (core : Core V E) (n : ℕ) → IsTrue (is_enabled core (EndWalk n)) → IsSome (core.walks n)
@@ -66,24 +77,36 @@ mapped : {A B : Type 0} (f : A → B) (o : Option A) → IsTrue (is_some o) → 
 mapped f None t = t
 mapped f (Some x) t = refl
 
-pub may_step : {V E : Type 0} (core : Core V E) (n : ℕ) (local : Local V E) (step : LocalStep V E) → core.ended ≡ false → core.locals n ≡ Some local
+pub may_step : {V E : Type 0} (core : Core V E) (n : ℕ) (local : Local V E) (step : LocalStep V E)
+    → core.ended ≡ false → core.locals n ≡ Some local
     → IsTrue (is_some (local_step core.table local step)) → IsTrue (is_enabled core (OfLocal n step))
 may_step core n local step going at t =
     may core (OfLocal n step) going
-    (subst (λ o. IsTrue (is_some (option_and_then (λ l. option_map (with_step core n) (local_step core.table l step)) o))) (sym at) (mapped (with_step core n) (local_step core.table local step) t))
+    (subst (λ o.
+    IsTrue
+    (is_some
+    (option_and_then (λ l. option_map (with_step core n) (local_step core.table l step))
+    o)))
+    (sym at) (mapped (with_step core n) (local_step core.table local step) t))
 
-pub get_begins : {V E : Type 0} (core : Core V E) (n : ℕ) (local : Local V E) → core.ended ≡ false → core.locals n ≡ Some local → closure_of local.doing ≡ None
+pub get_begins : {V E : Type 0} (core : Core V E) (n : ℕ) (local : Local V E) → core.ended ≡ false
+    → core.locals n ≡ Some local → closure_of local.doing ≡ None
     → IsTrue (is_enabled core (OfLocal n BeginGet))
 get_begins core n local going at none = may_step core n local BeginGet going at (step.begins_get core.table local none)
 
-pub get_or_begins : {V E : Type 0} (core : Core V E) (n : ℕ) (local : Local V E) (create : Result V E) → core.ended ≡ false → core.locals n ≡ Some local → HasNoCall local
+pub get_or_begins : {V E : Type 0} (core : Core V E) (n : ℕ) (local : Local V E)
+    (create : Result V E)
+    → core.ended ≡ false → core.locals n ≡ Some local → HasNoCall local
     → IsTrue (is_enabled core (OfLocal n (BeginGetOr create)))
-get_or_begins core n local create going at none = may_step core n local (BeginGetOr create) going at (step.begins_get_or core.table local create none)
+get_or_begins core n local create going at none =
+    may_step core n local (BeginGetOr create) going at
+    (step.begins_get_or core.table local create none)
 
 pub newcomers : {V E : Type 0} (core : Core V E) (event : Event V E) → IsTrue (is_granted_take core event)
     → IsSomeAnd (newcomer core event) (λ local. HasNoCall local × (local.learnt ≡ Unknown))
 newcomers core event t =
-    some_and (newcomer core event) _ (λ local. HasNoCall local × (local.learnt ≡ Unknown)) (clause.new_local core event t) (record { gets = refl; closure = refl }, refl)
+    some_and (newcomer core event) _ (λ local. HasNoCall local × (local.learnt ≡ Unknown))
+    (clause.new_local core event t) (record { gets = refl; closure = refl }, refl)
 
 -- an owner's calls
 pub slots : {V E : Type 0} (core : Core V E) → happens core (Owner Slots) ≡ core
@@ -93,7 +116,9 @@ pub iter_mut : {V E : Type 0} (core : Core V E) (others : ℕ → V → V) → I
     → happens core (Owner (IterMut others)) ≡ record core { table = rewritten core.table others }
 iter_mut core others t = owner_goes core (IterMut others) t
 
-pub out_of_memory : {V E : Type 0} (core : Core V E) (n : ℕ) → IsTrue (is_enabled core (OfLocal n (MakeBucket true))) → IsTrue (is_refused core (OfLocal n (MakeBucket true)))
+pub out_of_memory : {V E : Type 0} (core : Core V E) (n : ℕ)
+    → IsTrue (is_enabled core (OfLocal n (MakeBucket true)))
+    → IsTrue (is_refused core (OfLocal n (MakeBucket true)))
 out_of_memory core n t = rw t refl
 
 -- the room changes by takes alone, and never falls
@@ -101,32 +126,44 @@ record RoomGoes {V E : Type 0} (core : Core V E) (event : Event V E) (after : Co
   stays : is_take event ≡ false → after.manager.room ≡ core.manager.room
   grows : core.manager.room ≤ after.manager.room
 
-same_room : {V E : Type 0} (core : Core V E) (event : Event V E) (after : Core V E) → after.manager.room ≡ core.manager.room → RoomGoes core event after
+same_room : {V E : Type 0} (core : Core V E) (event : Event V E) (after : Core V E)
+    → after.manager.room ≡ core.manager.room
+    → RoomGoes core event after
 same_room core event after e = record { stays = λ _. e; grows = omega (arith, e) }
 
-taken-room : {V E : Type 0} (core : Core V E) (refused : Bool) (growth : ℕ) (granted : Bool) → RoomGoes core (TakeId refused growth) (cond granted (take_id core growth) core)
+taken-room : {V E : Type 0} (core : Core V E) (refused : Bool) (growth : ℕ) (granted : Bool)
+    → RoomGoes core (TakeId refused growth) (cond granted (take_id core growth) core)
 taken-room core refused growth true = record { stays = λ f. absurd (false≢true (sym f)); grows = omega arith }
 taken-room core refused growth false = same_room core (TakeId refused growth) core refl
 
-of_local-room : {V E : Type 0} (core : Core V E) (number : ℕ) (step : LocalStep V E) → IfSome (of_local core number step) (RoomGoes core (OfLocal number step))
+of_local-room : {V E : Type 0} (core : Core V E) (number : ℕ) (step : LocalStep V E)
+    → IfSome (of_local core number step) (RoomGoes core (OfLocal number step))
 of_local-room core number step =
     if_then (RoomGoes core (OfLocal number step)) _ (core.locals number) (λ local at.
-    if_there (RoomGoes core (OfLocal number step)) (with_step core number) (local_step core.table local step) (λ after _. same_room core (OfLocal number step) (with_step core number after) refl))
+    if_there (RoomGoes core (OfLocal number step)) (with_step core number)
+    (local_step core.table local step)
+    (λ after _. same_room core (OfLocal number step) (with_step core number after) refl))
 
 give_back-room : {V E : Type 0} (core : Core V E) (number : ℕ) → IfSome (give_back core number) (RoomGoes core (GiveBack number))
 give_back-room core number =
     if_then (RoomGoes core (GiveBack number)) _ (core.locals number) (λ local at.
-    if_enabled (RoomGoes core (GiveBack number)) (is_idle local.doing) (with_id_given core number local.id) (same_room core (GiveBack number) (with_id_given core number local.id) refl))
+    if_enabled (RoomGoes core (GiveBack number)) (is_idle local.doing)
+    (with_id_given core number local.id)
+    (same_room core (GiveBack number) (with_id_given core number local.id) refl))
 
 forget-room : {V E : Type 0} (core : Core V E) (number : ℕ) → IfSome (forget core number) (RoomGoes core (Forget number))
 forget-room core number =
     if_then (RoomGoes core (Forget number)) _ (core.locals number) (λ local at.
-    if_enabled (RoomGoes core (Forget number)) (is_idle local.doing) (without_local core number) (same_room core (Forget number) (without_local core number) refl))
+    if_enabled (RoomGoes core (Forget number)) (is_idle local.doing) (without_local core number)
+    (same_room core (Forget number) (without_local core number) refl))
 
-of_walk-room : {V E : Type 0} (core : Core V E) (number : ℕ) (step : WalkStep) → IfSome (of_walk core number step) (RoomGoes core (OfWalk number step))
+of_walk-room : {V E : Type 0} (core : Core V E) (number : ℕ) (step : WalkStep)
+    → IfSome (of_walk core number step) (RoomGoes core (OfWalk number step))
 of_walk-room core number step =
     if_then (RoomGoes core (OfWalk number step)) _ (core.walks number) (λ walk at.
-    if_there (RoomGoes core (OfWalk number step)) (with_walk core number) (walk_step core.table walk step) (λ after _. same_room core (OfWalk number step) (with_walk core number after) refl))
+    if_there (RoomGoes core (OfWalk number step)) (with_walk core number)
+    (walk_step core.table walk step)
+    (λ after _. same_room core (OfWalk number step) (with_walk core number after) refl))
 
 after_owner-room : {V E : Type 0} (core : Core V E) (call : OwnerCall V) → RoomGoes core (Owner call) (after_owner core call)
 after_owner-room core (IterMut others) = same_room core (Owner (IterMut others)) _ refl
@@ -142,8 +179,12 @@ step_of-room core (GiveBack number) = give_back-room core number
 step_of-room core (Forget number) = forget-room core number
 step_of-room core BeginWalk = same_room core BeginWalk _ refl
 step_of-room core (OfWalk number step) = of_walk-room core number step
-step_of-room core (EndWalk number) = if_there (RoomGoes core (EndWalk number)) _ (core.walks number) (λ walk at. same_room core (EndWalk number) _ refl)
-step_of-room core (Owner call) = if_enabled (RoomGoes core (Owner call)) (is_alone core) (after_owner core call) (after_owner-room core call)
+step_of-room core (EndWalk number) =
+    if_there (RoomGoes core (EndWalk number)) _ (core.walks number)
+    (λ walk at. same_room core (EndWalk number) _ refl)
+step_of-room core (Owner call) =
+    if_enabled (RoomGoes core (Owner call)) (is_alone core) (after_owner core call)
+    (after_owner-room core call)
 
 room_goes : {V E : Type 0} (core : Core V E) (event : Event V E) → RoomGoes core event (happens core event)
 unfolding happens step
@@ -152,7 +193,8 @@ room_goes core event =
     (λ _. same_room core event core refl)
     (λ _. unwrapped (RoomGoes core event) (step_of core event) core (step_of-room core event) (same_room core event core refl))
 
-pub room_stays : {V E : Type 0} (core : Core V E) (event : Event V E) → is_take event ≡ false → (happens core event).manager.room ≡ core.manager.room
+pub room_stays : {V E : Type 0} (core : Core V E) (event : Event V E) → is_take event ≡ false
+    → (happens core event).manager.room ≡ core.manager.room
 room_stays core event f = (room_goes core event).stays f
 
 pub room_grows : {V E : Type 0} (core : Core V E) (event : Event V E) → core.manager.room ≤ (happens core event).manager.room
@@ -163,31 +205,49 @@ there : {A : Type 0} (o : Option A) (P : A → Type 0) → IsSomeAnd o P → IsT
 there None P p = absurd p
 there (Some x) P p = (refl, p)
 
-pub makes_step : {V E : Type 0} (core : Core V E) (n : ℕ) (local : Local V E) (step : LocalStep V E) (P : Local V E → Type 0) → core.ended ≡ false → core.locals n ≡ Some local
-    → IsSomeAnd (local_step core.table local step) (λ after. P after.1) → IsTrue (is_enabled core (OfLocal n step)) × IsSomeAnd ((happens core (OfLocal n step)).locals n) P
+pub makes_step : {V E : Type 0} (core : Core V E) (n : ℕ) (local : Local V E) (step : LocalStep V E)
+    (P : Local V E → Type 0)
+    → core.ended ≡ false → core.locals n ≡ Some local
+    → IsSomeAnd (local_step core.table local step) (λ after. P after.1)
+    → IsTrue (is_enabled core (OfLocal n step))
+    × IsSomeAnd ((happens core (OfLocal n step)).locals n) P
 makes_step core n local step P going at p =
     let both = there (local_step core.table local step) (λ after. P after.1) p in
     let enabled = may_step core n local step going at both.0 in
     (enabled, step_leaves core n step local P enabled at both.1)
 
-pub goes_on : {V E : Type 0} (core : Core V E) (n : ℕ) (local : Local V E) → CoreFits core → core.ended ≡ false → core.locals n ≡ Some local → (HasNoCall local → ⊥)
-    → (step : LocalStep V E) × IsTrue (is_enabled core (OfLocal n step)) × IsSomeAnd ((happens core (OfLocal n step)).locals n) (GoesDown local)
+pub goes_on : {V E : Type 0} (core : Core V E) (n : ℕ) (local : Local V E) → CoreFits core
+    → core.ended ≡ false → core.locals n ≡ Some local → (HasNoCall local → ⊥)
+    → (step : LocalStep V E) × IsTrue (is_enabled core (OfLocal n step))
+    × IsSomeAnd ((happens core (OfLocal n step)).locals n) (GoesDown local)
 goes_on core n local h going at busy =
     let next = call.goes_on core.table local (h.locals.each n local at).learnt busy in
     let made = makes_step core n local next.0 (GoesDown local) going at next.1 in
     (next.0, made.0, made.1)
 
-pub fails : {V E : Type 0} (core : Core V E) (n : ℕ) (local : Local V E) (e : E) → CoreFits core → core.ended ≡ false → core.locals n ≡ Some local
+pub fails : {V E : Type 0} (core : Core V E) (n : ℕ) (local : Local V E) (e : E) → CoreFits core
+    → core.ended ≡ false → core.locals n ≡ Some local
     → closure_of local.doing ≡ Some (Err e) → local.learnt ≡ Vacant
-    → IsTrue (is_enabled core (OfLocal n WriteValue)) × IsSomeAnd ((happens core (OfLocal n WriteValue)).locals n) (EndsWith (Failed e) local)
+    → IsTrue (is_enabled core (OfLocal n WriteValue))
+    × IsSomeAnd ((happens core (OfLocal n WriteValue)).locals n) (EndsWith (Failed e) local)
 fails core n local e h going at closure vacant =
-    makes_step core n local WriteValue (EndsWith (Failed e) local) going at (step.fails core.table local e (h.locals.each n local at).learnt closure vacant)
+    makes_step core n local WriteValue (EndsWith (Failed e) local) going at
+    (step.fails core.table local e (h.locals.each n local at).learnt closure vacant)
 
 -- memory is asked for only where the bucket was missing
 asked : {V E : Type 0} (core : Core V E) (n : ℕ) (refused : Bool) (o : Option (Local V E))
-    → IsTrue (is_some (option_and_then (λ local. option_map (with_step core n) (local_step core.table local (MakeBucket refused))) o)) → IsSomeAnd o (λ local. local.learnt ≡ Missing)
+    → IsTrue
+    (is_some
+    (option_and_then (λ local.
+    option_map (with_step core n) (local_step core.table local (MakeBucket refused)))
+    o))
+    → IsSomeAnd o (λ local. local.learnt ≡ Missing)
 asked core n refused None t = absurd (false≢true t)
-asked core n refused (Some local) t = step.asks core.table local refused (map_there (with_step core n) (local_step core.table local (MakeBucket refused)) t)
+asked core n refused (Some local) t =
+    step.asks core.table local refused
+    (map_there (with_step core n) (local_step core.table local (MakeBucket refused)) t)
 
-pub asks : {V E : Type 0} (core : Core V E) (n : ℕ) (refused : Bool) → IsTrue (is_enabled core (OfLocal n (MakeBucket refused))) → IsSomeAnd (core.locals n) (λ local. local.learnt ≡ Missing)
+pub asks : {V E : Type 0} (core : Core V E) (n : ℕ) (refused : Bool)
+    → IsTrue (is_enabled core (OfLocal n (MakeBucket refused)))
+    → IsSomeAnd (core.locals n) (λ local. local.learnt ≡ Missing)
 asks core n refused t = asked core n refused (core.locals n) (enabled_step core (OfLocal n (MakeBucket refused)) t)

@@ -7,7 +7,12 @@ use Rattle.thread_local_schedule.specs.Table.{slot_at, published, bucket_stands,
 use Rattle.thread_local_schedule.specs.Local.{fresh_local, local_step, local_steps, five_calls}
 
 -- each call comes to its end
-pub answers_come : (T F : Type 0) (v w : T) (e : F) → IsSomeAnd (local_steps (made_table 0) (fresh_local 0 (record { value = None; known = false })) (five_calls v w e))
-    (λ after. (published after.0 0 ≡ Some v) × (after.1.answered ≡ Refused ∷ Failed e ∷ Answered v ∷ Found (Some v) ∷ Answered v ∷ []))
-unfolding local_steps local_step slot_at published bucket_stands with_fresh_bucket with_table_slot made_table binary_digits bucket_of index_of place next_place
+pub answers_come : (T F : Type 0) (v w : T) (e : F)
+    → IsSomeAnd (local_steps (made_table 0) (fresh_local 0 (record { value = None; known = false }))
+    (five_calls v w e))
+    (λ after.
+    (published after.0 0 ≡ Some v)
+    × (after.1.answered ≡ Refused ∷ Failed e ∷ Answered v ∷ Found (Some v) ∷ Answered v ∷ []))
+unfolding local_steps local_step slot_at published bucket_stands with_fresh_bucket with_table_slot
+    made_table binary_digits bucket_of index_of place next_place
 answers_come T F v w e = (refl, refl)

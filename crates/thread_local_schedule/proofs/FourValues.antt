@@ -36,8 +36,15 @@ module _ (T F : Type 0) (a b c d : T) where
   first_four (suc (suc (suc (suc id)))) = none_above id
 
   pub four_values : (shadow (after_publishing {V = T} {E = F} a b c d)).values ≡ slice_get (a ∷ b ∷ c ∷ d ∷ [])
-  four_values = same_function (published (after_publishing {V = T} {E = F} a b c d).table) (slice_get (a ∷ b ∷ c ∷ d ∷ [])) first_four
+  four_values =
+      same_function (published (after_publishing {V = T} {E = F} a b c d).table)
+      (slice_get (a ∷ b ∷ c ∷ d ∷ [])) first_four
 
-  pub clear_of_four : IsTrue (is_enabled (after_all {V = T} {E = F} a b c d) (Owner ClearTable)) × (shadow (happens (after_all {V = T} {E = F} a b c d) (Owner ClearTable)) ≡ new_sheet)
+  pub clear_of_four : IsTrue (is_enabled (after_all {V = T} {E = F} a b c d) (Owner ClearTable))
+      × (shadow (happens (after_all {V = T} {E = F} a b c d) (Owner ClearTable)) ≡ new_sheet)
   unfolding by_steps
-  clear_of_four = (clears T F a b c d, ap (λ values. record { held = []; values = values; capacity = 0 }) (none_cleared (after_all {V = T} {E = F} a b c d).table 0))
+  clear_of_four = (
+    clears T F a b c d,
+    ap (λ values. record { held = []; values = values; capacity = 0 })
+        (none_cleared (after_all {V = T} {E = F} a b c d).table 0),
+  )

@@ -1,21 +1,28 @@
 -- A call under way has an enabled step that leaves fewer steps to make.
-use Rattle.std.proofs.Common.{◌≡◌, ℕ, zero, suc, ◌+◌, ◌<◌, ◌≤◌, Bool, true, false, cond, Option, Some, None, Result, Ok, Err, IsSomeAnd, refl, arith}
+use Rattle.std.proofs.Common.{◌≡◌, ℕ, zero, suc, ◌+◌, ◌<◌, ◌≤◌, Bool, true, false, cond, Option, Some, None, Result, Ok}
+use Rattle.std.proofs.Common.{Err, IsSomeAnd, refl, arith}
 use Rattle.thread_local_model.specs.Place.{bucket_of}
 use Rattle.thread_local_model.specs.Learnt.{Learnt, Unknown, Missing, Standing, Vacant, Holding, learnt_by_look}
 use Rattle.thread_local_schedule.specs.Table.{Table, published, bucket_stands}
-use Rattle.thread_local_schedule.specs.Local.{Doing, Gets, Started, Private, Written, Local, LocalStep, local_step, LoadPointer, LookAtFlag, MakeBucket, InstallBucket, WriteValue, SetFlag, Reply, learns}
+use Rattle.thread_local_schedule.specs.Local.{Doing, Gets, Started, Private, Written, Local, LocalStep, local_step}
+use Rattle.thread_local_schedule.specs.Local.{LoadPointer, LookAtFlag, MakeBucket, InstallBucket, WriteValue, SetFlag}
+use Rattle.thread_local_schedule.specs.Local.{Reply, learns}
 use Rattle.thread_local_schedule.specs.Calls.{gets_of, closure_of, HasNoCall, HasLearnt, GoesDown, looks_left, started_left, steps_left}
 
 -- a step of this Local leaves fewer steps than this
 abbrev HasStep : {V E : Type 0} → Table V → Local V E → ℕ → Type 0
-HasStep {V} {E} table local n = (step : LocalStep V E) × IsSomeAnd (local_step table local step) (λ after. steps_left after.1.doing after.1.learnt < n)
+HasStep {V} {E} table local n =
+    (step : LocalStep V E)
+    × IsSomeAnd (local_step table local step) (λ after. steps_left after.1.doing after.1.learnt < n)
 
 few_gets : (T F : Type 0) (count : ℕ) (learnt : Learnt T) → looks_left learnt ≡ 0 → steps_left {E = F} (Gets count) learnt ≤ count
 few_gets T F zero learnt e = omega arith
 few_gets T F (suc count) learnt e = omega (arith, e)
 
 -- a load and a look leave fewer steps, whatever they teach
-load_get : (T F : Type 0) (count : ℕ) (stands : Bool) → let learnt : Learnt T = cond stands Standing Missing in steps_left {E = F} (Gets (suc count)) learnt < suc count + 2
+load_get : (T F : Type 0) (count : ℕ) (stands : Bool)
+    → let learnt : Learnt T = cond stands Standing Missing in
+    steps_left {E = F} (Gets (suc count)) learnt < suc count + 2
 load_get T F count true = omega arith
 load_get T F count false = omega arith
 
@@ -28,23 +35,38 @@ look_get : {V E : Type 0} (table : Table V) (local : Local V E) (count : ℕ) (s
 look_get table local count None e = rw e (omega arith)
 look_get table local count (Some v) e = rw e (omega arith)
 
-look_started : {V E : Type 0} (table : Table V) (local : Local V E) (create : Result V E) (shown : Option V) → local.doing ≡ Started create
+look_started : {V E : Type 0} (table : Table V) (local : Local V E) (create : Result V E)
+    (shown : Option V)
+    → local.doing ≡ Started create
     → IsSomeAnd (learns table local (learnt_by_look Standing shown)) (λ after. steps_left after.1.doing after.1.learnt < 3)
 look_started table local create None e = rw e (omega arith)
 look_started table local create (Some v) e = rw e (omega arith)
 
-goes_by : {V E : Type 0} (table : Table V) (local : Local V E) (doing : Doing V E) (learnt : Learnt V) → local.doing ≡ doing → local.learnt ≡ learnt → HasLearnt doing learnt
+goes_by : {V E : Type 0} (table : Table V) (local : Local V E) (doing : Doing V E)
+    (learnt : Learnt V)
+    → local.doing ≡ doing → local.learnt ≡ learnt → HasLearnt doing learnt
     → (gets_of doing ≡ 0 → closure_of doing ≡ None → ⊥) → HasStep table local (steps_left doing learnt)
 unfolding local_step
 goes_by {V} {E} table local (Gets zero) learnt e l h busy = absurd (busy refl refl)
-goes_by {V} {E} table local (Gets (suc count)) Unknown e l h busy = (LoadPointer, rw (e, l) (load_get V E count (bucket_stands table (bucket_of local.id))))
-goes_by {V} {E} table local (Gets (suc count)) Standing e l h busy = (LookAtFlag, rw (e, l) (look_get table (record local { learnt = Standing; doing = Gets (suc count) }) count (published table local.id) refl))
+goes_by {V} {E} table local (Gets (suc count)) Unknown e l h busy =
+    (LoadPointer, rw (e, l) (load_get V E count (bucket_stands table (bucket_of local.id))))
+goes_by {V} {E} table local (Gets (suc count)) Standing e l h busy = (
+  LookAtFlag,
+  rw (e, l) (look_get table (record local { learnt = Standing; doing = Gets (suc count) }) count
+      (published table local.id) refl),
+)
 goes_by {V} {E} table local (Gets (suc count)) Missing e l h busy = (Reply, rw (e, l) (omega (arith, few_gets V E count Missing refl)))
 goes_by {V} {E} table local (Gets (suc count)) Vacant e l h busy = (Reply, rw (e, l) (omega (arith, few_gets V E count Vacant refl)))
-goes_by {V} {E} table local (Gets (suc count)) (Holding v) e l h busy = (Reply, rw (e, l) (omega (arith, few_gets V E count (Holding v) refl)))
-goes_by {V} {E} table local (Started create) Unknown e l h busy = (LoadPointer, rw (e, l) (load_started V (bucket_stands table (bucket_of local.id))))
+goes_by {V} {E} table local (Gets (suc count)) (Holding v) e l h busy =
+    (Reply, rw (e, l) (omega (arith, few_gets V E count (Holding v) refl)))
+goes_by {V} {E} table local (Started create) Unknown e l h busy =
+    (LoadPointer, rw (e, l) (load_started V (bucket_stands table (bucket_of local.id))))
 goes_by {V} {E} table local (Started create) Missing e l h busy = (MakeBucket false, rw (e, l) (omega arith))
-goes_by {V} {E} table local (Started create) Standing e l h busy = (LookAtFlag, rw (e, l) (look_started table (record local { learnt = Standing; doing = Started create }) create (published table local.id) refl))
+goes_by {V} {E} table local (Started create) Standing e l h busy = (
+  LookAtFlag,
+  rw (e, l) (look_started table (record local { learnt = Standing; doing = Started create })
+      create (published table local.id) refl),
+)
 goes_by {V} {E} table local (Started (Ok v)) Vacant e l h busy = (WriteValue, rw (e, l) (omega arith))
 goes_by {V} {E} table local (Started (Err x)) Vacant e l h busy = (WriteValue, rw (e, l) (omega arith))
 goes_by {V} {E} table local (Started create) (Holding v) e l h busy = (Reply, rw (e, l) (omega arith))
@@ -53,7 +75,9 @@ goes_by {V} {E} table local (Written v) learnt e l h busy = (SetFlag, rw (e, l, 
 
 pub goes_on : {V E : Type 0} (table : Table V) (local : Local V E) → HasLearnt local.doing local.learnt → (HasNoCall local → ⊥)
     → (step : LocalStep V E) × IsSomeAnd (local_step table local step) (λ after. GoesDown local after.1)
-goes_on table local h busy = goes_by table local local.doing local.learnt refl refl h (λ gets closure. busy (record { gets = gets; closure = closure }))
+goes_on table local h busy =
+    goes_by table local local.doing local.learnt refl refl h
+    (λ gets closure. busy (record { gets = gets; closure = closure }))
 
 -- few steps are left of any call
 started_few : {V : Type 0} (learnt : Learnt V) → started_left learnt ≤ 5

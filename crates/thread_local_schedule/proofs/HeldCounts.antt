@@ -1,5 +1,6 @@
 -- The peak against the number of held ids.
-use Rattle.std.proofs.Common.{◌≡◌, ℕ, zero, suc, ◌<◌, ◌≤◌, max, Bool, true, false, IsTrue, List, [], ◌∷◌, length, refl, arith}
+use Rattle.std.proofs.Common.{◌≡◌, ℕ, zero, suc, ◌<◌, ◌≤◌, max, Bool, true, false, IsTrue, List, [], ◌∷◌, length, refl}
+use Rattle.std.proofs.Common.{arith}
 use Rattle.thread_local_model.specs.Held.{is_held, least, with_least, held_count}
 use Rattle.thread_local_model.proofs.HeldLaws.{held_count-with_least, least_bounded}
 

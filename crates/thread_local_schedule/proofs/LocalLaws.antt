@@ -1,6 +1,7 @@
 -- Every step of a `Local` keeps its invariant and those of the others, and changes no slot but its
 -- own.
-use Rattle.std.proofs.Common.{◌≡◌, ℕ, zero, suc, ◌⊎◌, Bool, true, false, cond, eqb, [], ◌∷◌, ◌++◌, Option, Some, None, Result, Ok, Err, IsTrue, is_some, IfSome, refl, ap, sym, ◌∙◌, subst, ⊎_elim, inl, inr}
+use Rattle.std.proofs.Common.{◌≡◌, ℕ, zero, suc, ◌⊎◌, Bool, true, false, cond, eqb, [], ◌∷◌, ◌++◌, Option, Some, None}
+use Rattle.std.proofs.Common.{Result, Ok, Err, IsTrue, is_some, IfSome, refl, ap, sym, ◌∙◌, subst, ⊎_elim, inl, inr}
 use Rattle.std.specs.Prelude.{option_map, option_and_then}
 use Rattle.std.proofs.lemmas.Bool.{cases_eq, cond_both, eq-eqb, ne_eqb, false_from_ne_true, false≢true}
 use Rattle.thread_local_model.specs.Place.{bucket_of}
@@ -8,10 +9,20 @@ use Rattle.thread_local_model.specs.Answers.{View, Call, Get, GetOr, Answer, Fou
 use Rattle.thread_local_model.proofs.AnswersLaws as says
 use Rattle.thread_local_model.proofs.AnswersLaws.{answers-push, view_after_all-push}
 use Rattle.thread_local_schedule.specs.Table.{Slot, Table, slot_at, published, bucket_stands, value_of, with_table_slot, with_flag}
-use Rattle.thread_local_model.specs.Learnt.{Learnt, Unknown, Missing, Standing, Vacant, Holding, learnt_by_load, learnt_by_look, learnt_by_install, learnt_by_publish}
-use Rattle.thread_local_schedule.specs.Local.{Doing, Gets, Started, Private, Written, Local, after_call, is_calling, learns, load_pointer, look_at_flag, make_bucket, offered, install_bucket, write_value, set_flag, reply, local_step, LocalStep, BeginGet, BeginGetOr, LoadPointer, LookAtFlag, MakeBucket, InstallBucket, WriteValue, SetFlag, Reply, doing_with_get, doing_with_get_or, begin_call, closure_at_missing, closure_at_vacant, ending_of, private_bucket, value_written}
-use Rattle.thread_local_schedule.specs.Fits.{IsWritten, AllWritten, view_now, IsLearnt, IsDoing, ViewFits, LocalFits, named, ChangesOnly, value_set, StepFits}
-use Rattle.thread_local_schedule.proofs.TableLaws.{slot_at-none, published_unset, slot_at-offered, bucket_stands-offered, published-slot_at, slot_at-with_slot_same, slot_at-with_slot_other, bucket_stands-with_table_slot, slot_at-made, bucket_stands-made, named-made, named-offered, named-with_table_slot}
+use Rattle.thread_local_model.specs.Learnt.{Learnt, Unknown, Missing, Standing, Vacant, Holding, learnt_by_load}
+use Rattle.thread_local_model.specs.Learnt.{learnt_by_look, learnt_by_install, learnt_by_publish}
+use Rattle.thread_local_schedule.specs.Local.{Doing, Gets, Started, Private, Written, Local, after_call, is_calling}
+use Rattle.thread_local_schedule.specs.Local.{learns, load_pointer, look_at_flag, make_bucket, offered, install_bucket}
+use Rattle.thread_local_schedule.specs.Local.{write_value, set_flag, reply, local_step, LocalStep, BeginGet, BeginGetOr}
+use Rattle.thread_local_schedule.specs.Local.{LoadPointer, LookAtFlag, MakeBucket, InstallBucket, WriteValue, SetFlag}
+use Rattle.thread_local_schedule.specs.Local.{Reply, doing_with_get, doing_with_get_or, begin_call, closure_at_missing}
+use Rattle.thread_local_schedule.specs.Local.{closure_at_vacant, ending_of, private_bucket, value_written}
+use Rattle.thread_local_schedule.specs.Fits.{IsWritten, AllWritten, view_now, IsLearnt, IsDoing, ViewFits, LocalFits}
+use Rattle.thread_local_schedule.specs.Fits.{named, ChangesOnly, value_set, StepFits}
+use Rattle.thread_local_schedule.proofs.TableLaws.{slot_at-none, published_unset, slot_at-offered}
+use Rattle.thread_local_schedule.proofs.TableLaws.{bucket_stands-offered, published-slot_at, slot_at-with_slot_same}
+use Rattle.thread_local_schedule.proofs.TableLaws.{slot_at-with_slot_other, bucket_stands-with_table_slot, slot_at-made}
+use Rattle.thread_local_schedule.proofs.TableLaws.{bucket_stands-made, named-made, named-offered, named-with_table_slot}
 
 learnt_carried : {V : Type 0} (old new : Table V) (id : ℕ) (view : View V) (learnt : Learnt V)
     → slot_at new id ≡ slot_at old id → (IsTrue (bucket_stands old (bucket_of id)) → IsTrue (bucket_stands new (bucket_of id)))
@@ -51,7 +62,8 @@ same_table table id written = record {
 }
 
 -- a step that leaves the table and ends no call
-stays : {V E : Type 0} (table : Table V) (local : Local V E) (learnt : Learnt V) (doing : Doing V E) → AllWritten table → LocalFits table local
+stays : {V E : Type 0} (table : Table V) (local : Local V E) (learnt : Learnt V) (doing : Doing V E)
+    → AllWritten table → LocalFits table local
     → IsLearnt table local.id (view_now local) learnt → IsDoing table local.id doing
     → StepFits table local None (table, record local { learnt = learnt; doing = doing })
 stays table local learnt doing written h l d = record {
@@ -63,18 +75,22 @@ stays table local learnt doing written h l d = record {
 }
 
 -- a Local fits after a call that answers by its view, where the view after the call fits
-call_fits : {V E : Type 0} (table old : Table V) (local : Local V E) (call : Call V E) (told : Answer V E) (left : View V) (learnt : Learnt V) (doing : Doing V E)
+call_fits : {V E : Type 0} (table old : Table V) (local : Local V E) (call : Call V E)
+    (told : Answer V E) (left : View V) (learnt : Learnt V) (doing : Doing V E)
     → LocalFits old local → Says (view_now local) call told left → ViewFits table local.id left learnt doing
     → LocalFits table (after_call local call told learnt doing)
 call_fits table old local call told left learnt doing h says fits = record {
   answered =
       ap (λ xs. xs ++ told ∷ []) h.answered ∙ ap (λ x. answers local.start local.calls ++ x ∷ []) (sym says.answered)
       ∙ sym (answers-push local.start local.calls call);
-  view = subst (λ view. ViewFits table local.id view learnt doing) (sym (view_after_all-push local.start local.calls call ∙ says.leaves)) fits;
+  view =
+      subst (λ view. ViewFits table local.id view learnt doing)
+      (sym (view_after_all-push local.start local.calls call ∙ says.leaves)) fits;
 }
 
 -- such a call that leaves the table
-ends : {V E : Type 0} (table : Table V) (local : Local V E) (call : Call V E) (told : Answer V E) (left : View V) (learnt : Learnt V) (doing : Doing V E)
+ends : {V E : Type 0} (table : Table V) (local : Local V E) (call : Call V E) (told : Answer V E)
+    (left : View V) (learnt : Learnt V) (doing : Doing V E)
     → AllWritten table → LocalFits table local → Says (view_now local) call told left → ViewFits table local.id left learnt doing
     → StepFits table local None (table, after_call local call told learnt doing)
 ends table local call told left learnt doing written h says fits = record {
@@ -90,25 +106,30 @@ begin_get-fits : {V E : Type 0} (table : Table V) (local : Local V E) (doing : D
 begin_get-fits table local (Gets count) written h = stays table local local.learnt (Gets (suc count)) written h h.view.learnt_so tt
 begin_get-fits table local _ written h = tt
 
-begin_get_or-fits : {V E : Type 0} (table : Table V) (local : Local V E) (create : Result V E) (doing : Doing V E) → AllWritten table → LocalFits table local
+begin_get_or-fits : {V E : Type 0} (table : Table V) (local : Local V E) (create : Result V E)
+    (doing : Doing V E)
+    → AllWritten table → LocalFits table local
     → IfSome (option_map (begin_call table local) (doing_with_get_or create doing)) (StepFits table local None)
 begin_get_or-fits table local create (Gets zero) written h = stays table local local.learnt (Started create) written h h.view.learnt_so tt
 begin_get_or-fits table local create _ written h = tt
 
 -- what is learnt, if anything, holds
-learns-fits : {V E : Type 0} (table : Table V) (local : Local V E) (learnt : Option (Learnt V)) → AllWritten table → LocalFits table local
+learns-fits : {V E : Type 0} (table : Table V) (local : Local V E) (learnt : Option (Learnt V))
+    → AllWritten table → LocalFits table local
     → IfSome learnt (IsLearnt table local.id (view_now local)) → IfSome (learns table local learnt) (StepFits table local None)
 learns-fits table local None written h l = tt
 learns-fits table local (Some learnt) written h l = stays table local learnt local.doing written h l h.view.doing_so
 
 -- what a load teaches holds
-standing_so : {V : Type 0} (table : Table V) (id : ℕ) (view : View V) → (IsTrue view.known → IsTrue (bucket_stands table (bucket_of id))) → (b : Bool)
+standing_so : {V : Type 0} (table : Table V) (id : ℕ) (view : View V)
+    → (IsTrue view.known → IsTrue (bucket_stands table (bucket_of id))) → (b : Bool)
     → bucket_stands table (bucket_of id) ≡ b → IsLearnt table id view (cond b Standing Missing)
 standing_so table id view known true s = s
 standing_so table id view known false s =
     (ap (λ slot. slot.flag) (slot_at-none table id s), false_from_ne_true view.known (λ t. false≢true (sym s ∙ known t)))
 
-learnt_by_load_so : {V : Type 0} (table : Table V) (id : ℕ) (view : View V) (learnt : Learnt V) → (IsTrue view.known → IsTrue (bucket_stands table (bucket_of id)))
+learnt_by_load_so : {V : Type 0} (table : Table V) (id : ℕ) (view : View V) (learnt : Learnt V)
+    → (IsTrue view.known → IsTrue (bucket_stands table (bucket_of id)))
     → IfSome (learnt_by_load learnt (bucket_stands table (bucket_of id))) (IsLearnt table id view)
 learnt_by_load_so table id view Unknown known = standing_so table id view known (bucket_stands table (bucket_of id)) refl
 learnt_by_load_so table id view Missing known = standing_so table id view known (bucket_stands table (bucket_of id)) refl
@@ -118,15 +139,20 @@ load_pointer-fits : {V E : Type 0} (table : Table V) (local : Local V E) (b : Bo
     → IfSome (cond b (load_pointer table local) None) (StepFits table local None)
 load_pointer-fits table local false written h = tt
 load_pointer-fits table local true written h =
-    learns-fits table local (learnt_by_load local.learnt (bucket_stands table (bucket_of local.id))) written h (learnt_by_load_so table local.id (view_now local) local.learnt h.view.known)
+    learns-fits table local (learnt_by_load local.learnt (bucket_stands table (bucket_of local.id)))
+    written h (learnt_by_load_so table local.id (view_now local) local.learnt h.view.known)
 
 -- a slot that shows no value has its flag unset
-unset : {V : Type 0} (flag : Bool) (shown : Option V) → (IsTrue flag → IsTrue (is_some shown)) → cond flag shown None ≡ None → flag ≡ false
+unset : {V : Type 0} (flag : Bool) (shown : Option V) → (IsTrue flag → IsTrue (is_some shown))
+    → cond flag shown None ≡ None
+    → flag ≡ false
 unset false shown written e = refl
 unset true None written e = absurd (false≢true (written refl))
 unset true (Some v) written e = cc
 
-pub flag_unset : {V : Type 0} (table : Table V) (id : ℕ) → AllWritten table → published table id ≡ None → (slot_at table id).flag ≡ false
+pub flag_unset : {V : Type 0} (table : Table V) (id : ℕ) → AllWritten table
+    → published table id ≡ None
+    → (slot_at table id).flag ≡ false
 unfolding published
 flag_unset table id written e = unset (slot_at table id).flag (slot_at table id).written (written id) e
 
@@ -147,11 +173,14 @@ look_at_flag-fits table local true written h =
 -- no slot changes, no pointer changes that isn't null, and only the bucket of this id may be new
 record OffersOnly {V : Type 0} (old new : Table V) (id : ℕ) : Type 0 where
   same : (other : ℕ) → slot_at new other ≡ slot_at old other
-  naming : (bucket : ℕ) → IsTrue (bucket_stands old bucket) → IsTrue (bucket_stands new bucket) × (named new bucket ≡ named old bucket)
+  naming : (bucket : ℕ) → IsTrue (bucket_stands old bucket)
+      → IsTrue (bucket_stands new bucket) × (named new bucket ≡ named old bucket)
   installed : (bucket : ℕ) → IsTrue (bucket_stands new bucket) → IsTrue (bucket_stands old bucket) ⊎ (bucket_of id ≡ bucket)
 
 -- a step that changes no slot and ends no call
-offers : {V E : Type 0} (table after : Table V) (local : Local V E) (learnt : Learnt V) (doing : Doing V E) → AllWritten table → LocalFits table local
+offers : {V E : Type 0} (table after : Table V) (local : Local V E) (learnt : Learnt V)
+    (doing : Doing V E)
+    → AllWritten table → LocalFits table local
     → OffersOnly table after local.id → IsLearnt after local.id (view_now local) learnt → IsDoing after local.id doing
     → StepFits table local None (after, record local { learnt = learnt; doing = doing })
 offers table after local learnt doing written h only l d = record {
@@ -175,7 +204,9 @@ offers table after local learnt doing written h only l d = record {
   same = record { id = refl; start = refl };
 }
 
-make_bucket-fits : {V E : Type 0} (table : Table V) (local : Local V E) (refused : Bool) (doing : Doing V E) (learnt : Learnt V) → AllWritten table → LocalFits table local
+make_bucket-fits : {V E : Type 0} (table : Table V) (local : Local V E) (refused : Bool)
+    (doing : Doing V E) (learnt : Learnt V)
+    → AllWritten table → LocalFits table local
     → IsLearnt table local.id (view_now local) learnt → IsDoing table local.id doing
     → IfSome (option_map (make_bucket table local refused) (closure_at_missing doing learnt)) (StepFits table local None)
 make_bucket-fits table local true (Started create) Missing written h l d =
@@ -192,7 +223,8 @@ make_bucket-fits table local false (Started create) Missing written h l d =
       naming = λ bucket t. (standing bucket ∙ t, named-made table (suc table.made) bucket);
       installed = λ bucket t. inl (sym (standing bucket) ∙ t);
     })
-    (learnt_carried table after local.id (view_now local) local.learnt (same local.id) (λ t. standing (bucket_of local.id) ∙ t) h.view.learnt_so)
+    (learnt_carried table after local.id (view_now local) local.learnt (same local.id)
+    (λ t. standing (bucket_of local.id) ∙ t) h.view.learnt_so)
     (ap (λ slot. slot.flag) (same local.id) ∙ l.0)
 make_bucket-fits table local refused _ _ written h l d = tt
 
@@ -201,34 +233,51 @@ offered_only : {V : Type 0} (table : Table V) (id number : ℕ) → OffersOnly t
 offered_only table id number = record {
   same = slot_at-offered table (bucket_of id) number;
   naming = λ bucket t. (
-    (bucket_stands-offered table (bucket_of id) number bucket ∙ cond_both (eqb (bucket_of id) bucket) true (bucket_stands table bucket) (λ b. b ≡ true) (λ _. refl) (λ _. t)),
+    (bucket_stands-offered table (bucket_of id) number bucket
+        ∙ cond_both (eqb (bucket_of id) bucket) true (bucket_stands table bucket) (λ b. b ≡ true)
+        (λ _. refl) (λ _. t)),
     (named-offered table (bucket_of id) number bucket t),
   );
   installed = λ bucket t.
       ⊎_elim
       (λ here. inr here)
-      (λ apart. inl (sym (bucket_stands-offered table (bucket_of id) number bucket ∙ ap (λ b. cond b true (bucket_stands table bucket)) (ne_eqb (bucket_of id) bucket apart)) ∙ t))
+      (λ apart.
+      inl (sym (bucket_stands-offered table (bucket_of id) number bucket
+      ∙ ap (λ b. cond b true (bucket_stands table bucket))
+      (ne_eqb (bucket_of id) bucket apart))
+      ∙ t))
       (cases_eq (bucket_of id) bucket);
 }
 
 -- what an install teaches holds
-install-fits : {V E : Type 0} (table : Table V) (local : Local V E) (create : Result V E) (number : ℕ) (learnt : Learnt V) → AllWritten table → LocalFits table local
+install-fits : {V E : Type 0} (table : Table V) (local : Local V E) (create : Result V E)
+    (number : ℕ) (learnt : Learnt V)
+    → AllWritten table → LocalFits table local
     → (slot_at table local.id).flag ≡ false
-    → IfSome (learns (offered table (bucket_of local.id) number) (record local { doing = Started create }) (learnt_by_install learnt)) (StepFits table local None)
+    → IfSome (learns (offered table (bucket_of local.id) number)
+    (record local { doing = Started create }) (learnt_by_install learnt))
+    (StepFits table local None)
 install-fits table local create number Missing written h d =
     let b = bucket_of local.id in
-    offers table (offered table b number) local Vacant (Started create) written h (offered_only table local.id number)
-    ((bucket_stands-offered table b number b ∙ ap (λ here. cond here true (bucket_stands table b)) (eq-eqb b b refl)), ap (λ slot. slot.flag) (slot_at-offered table b number local.id) ∙ d)
+    offers table (offered table b number) local Vacant (Started create) written h (offered_only table local.id number) (
+      (bucket_stands-offered table b number b
+          ∙ ap (λ here. cond here true (bucket_stands table b)) (eq-eqb b b refl)),
+      ap (λ slot. slot.flag) (slot_at-offered table b number local.id) ∙ d,
+    )
     tt
 install-fits table local create number _ written h d = tt
 
-install_bucket-fits : {V E : Type 0} (table : Table V) (local : Local V E) (doing : Doing V E) → AllWritten table → LocalFits table local
-    → IsDoing table local.id doing → IfSome (option_and_then (install_bucket table local) (private_bucket doing)) (StepFits table local None)
+install_bucket-fits : {V E : Type 0} (table : Table V) (local : Local V E) (doing : Doing V E)
+    → AllWritten table → LocalFits table local
+    → IsDoing table local.id doing
+    → IfSome (option_and_then (install_bucket table local) (private_bucket doing))
+    (StepFits table local None)
 install_bucket-fits table local (Private create number) written h d = install-fits table local create number local.learnt written h d
 install_bucket-fits table local _ written h d = tt
 
 -- one slot changes, to one whose flag is set only over a written value
-slot_changes : {V : Type 0} (table : Table V) (id : ℕ) (slot : Slot V) → IsTrue (bucket_stands table (bucket_of id)) → AllWritten table → IsWritten slot
+slot_changes : {V : Type 0} (table : Table V) (id : ℕ) (slot : Slot V)
+    → IsTrue (bucket_stands table (bucket_of id)) → AllWritten table → IsWritten slot
     → ChangesOnly table (with_table_slot table id slot) id
 slot_changes table id slot t written here = record {
   others = λ other apart. slot_at-with_slot_other table id other slot apart;
@@ -236,21 +285,32 @@ slot_changes table id slot t written here = record {
   installed = λ bucket s. inl (sym (bucket_stands-with_table_slot table id bucket slot) ∙ s);
   written = λ other.
       ⊎_elim
-      (λ same. subst (λ j. IsWritten (slot_at (with_table_slot table id slot) j)) same (subst IsWritten (sym (slot_at-with_slot_same table id slot t)) here))
+      (λ same.
+      subst (λ j. IsWritten (slot_at (with_table_slot table id slot) j)) same
+      (subst IsWritten (sym (slot_at-with_slot_same table id slot t)) here))
       (λ apart. subst IsWritten (sym (slot_at-with_slot_other table id other slot apart)) (written other))
       (cases_eq id other);
 }
 
 -- what the changed slot shows, and what the others show
-shown_same : {V : Type 0} (table : Table V) (id : ℕ) (slot : Slot V) → IsTrue (bucket_stands table (bucket_of id)) → published (with_table_slot table id slot) id ≡ value_of slot
+shown_same : {V : Type 0} (table : Table V) (id : ℕ) (slot : Slot V)
+    → IsTrue (bucket_stands table (bucket_of id))
+    → published (with_table_slot table id slot) id ≡ value_of slot
 unfolding published
 shown_same table id slot t = ap value_of (slot_at-with_slot_same table id slot t)
 
-shown_other : {V : Type 0} (table : Table V) (id other : ℕ) (slot : Slot V) → (id ≡ other → ⊥) → published (with_table_slot table id slot) other ≡ published table other
-shown_other table id other slot apart = published-slot_at table (with_table_slot table id slot) other (slot_at-with_slot_other table id other slot apart)
+shown_other : {V : Type 0} (table : Table V) (id other : ℕ) (slot : Slot V) → (id ≡ other → ⊥)
+    → published (with_table_slot table id slot) other ≡ published table other
+shown_other table id other slot apart =
+    published-slot_at table (with_table_slot table id slot) other
+    (slot_at-with_slot_other table id other slot apart)
 
-write_value-fits : {V E : Type 0} (table : Table V) (local : Local V E) (doing : Doing V E) (learnt : Learnt V) → AllWritten table → LocalFits table local
-    → IsLearnt table local.id (view_now local) learnt → IfSome (option_map (write_value table local) (closure_at_vacant doing learnt)) (StepFits table local None)
+write_value-fits : {V E : Type 0} (table : Table V) (local : Local V E) (doing : Doing V E)
+    (learnt : Learnt V)
+    → AllWritten table → LocalFits table local
+    → IsLearnt table local.id (view_now local) learnt
+    → IfSome (option_map (write_value table local) (closure_at_vacant doing learnt))
+    (StepFits table local None)
 write_value-fits table local (Started (Ok v)) Vacant written h l =
     let id = local.id in
     let slot = record (slot_at table id) { written = Some v } in
@@ -281,13 +341,18 @@ write_value-fits table local (Started (Ok v)) Vacant written h l =
     }
 write_value-fits table local (Started (Err e)) Vacant written h l =
     let none = published_unset table local.id l.1 in
-    ends table local (GetOr (Err e) false) (Failed e) (record { value = None; known = true }) Vacant (Gets 0) written h (says.failed (view_now local) e (h.view.value ∙ none))
+    ends table local (GetOr (Err e) false) (Failed e) (record { value = None; known = true }) Vacant
+    (Gets 0) written h (says.failed (view_now local) e (h.view.value ∙ none))
     (record { value = sym none; known = λ t. l.0; learnt_so = l; doing_so = tt })
 write_value-fits table local _ _ written h l = tt
 
 -- what a publishing teaches holds
-publish-fits : {V E : Type 0} (table : Table V) (local : Local V E) (v : V) (learnt : Learnt V) → AllWritten table → LocalFits table local → IsDoing {E = E} table local.id (Written v)
-    → IfSome (learns (with_flag table local.id) (after_call local (GetOr (Ok v) false) (Answered v) local.learnt (Gets 0)) (learnt_by_publish learnt v)) (StepFits table local (Some v))
+publish-fits : {V E : Type 0} (table : Table V) (local : Local V E) (v : V) (learnt : Learnt V)
+    → AllWritten table → LocalFits table local → IsDoing {E = E} table local.id (Written v)
+    → IfSome (learns (with_flag table local.id)
+    (after_call local (GetOr (Ok v) false) (Answered v) local.learnt (Gets 0))
+    (learnt_by_publish learnt v))
+    (StepFits table local (Some v))
 publish-fits table local v Vacant written h d =
     let id = local.id in
     let slot = record (slot_at table id) { flag = true } in
@@ -311,45 +376,61 @@ publish-fits table local v Vacant written h d =
 publish-fits table local v _ written h d = tt
 
 set_flag-fits : {V E : Type 0} (table : Table V) (local : Local V E) (doing : Doing V E) → AllWritten table → LocalFits table local
-    → IsDoing table local.id doing → IfSome (option_and_then (set_flag table local) (value_written doing)) (StepFits table local (value_written doing))
+    → IsDoing table local.id doing
+    → IfSome (option_and_then (set_flag table local) (value_written doing))
+    (StepFits table local (value_written doing))
 set_flag-fits table local (Written v) written h d = publish-fits table local v local.learnt written h d
 set_flag-fits table local _ written h d = tt
 
 -- a get that ends with the value of the view
-get_ends : {V E : Type 0} (table : Table V) (local : Local V E) (found : Option V) (count : ℕ) → AllWritten table → LocalFits table local → published table local.id ≡ found
+get_ends : {V E : Type 0} (table : Table V) (local : Local V E) (found : Option V) (count : ℕ)
+    → AllWritten table → LocalFits table local → published table local.id ≡ found
     → StepFits table local None (table, after_call local Get (Found found) local.learnt (Gets count))
 get_ends table local found count written h e =
     ends table local Get (Found found) (view_now local) local.learnt (Gets count) written h
     (record { answered = ap Found (h.view.value ∙ e); leaves = refl })
     (record { value = h.view.value; known = h.view.known; learnt_so = h.view.learnt_so; doing_so = tt })
 
-reply-fits : {V E : Type 0} (table : Table V) (local : Local V E) (doing : Doing V E) (learnt : Learnt V) → AllWritten table → LocalFits table local
-    → IsLearnt table local.id (view_now local) learnt → IfSome (option_map (reply table local) (ending_of doing learnt)) (StepFits table local None)
-reply-fits table local (Gets (suc count)) Missing written h l = get_ends table local None count written h (published_unset table local.id l.0)
-reply-fits table local (Gets (suc count)) Vacant written h l = get_ends table local None count written h (published_unset table local.id l.1)
+reply-fits : {V E : Type 0} (table : Table V) (local : Local V E) (doing : Doing V E)
+    (learnt : Learnt V)
+    → AllWritten table → LocalFits table local
+    → IsLearnt table local.id (view_now local) learnt
+    → IfSome (option_map (reply table local) (ending_of doing learnt)) (StepFits table local None)
+reply-fits table local (Gets (suc count)) Missing written h l =
+    get_ends table local None count written h (published_unset table local.id l.0)
+reply-fits table local (Gets (suc count)) Vacant written h l =
+    get_ends table local None count written h (published_unset table local.id l.1)
 reply-fits table local (Gets (suc count)) (Holding v) written h l = get_ends table local (Some v) count written h l
 reply-fits table local (Started create) (Holding v) written h l =
-    ends table local (GetOr create false) (Answered v) (view_now local) local.learnt (Gets 0) written h (says.held (view_now local) v create false (h.view.value ∙ l))
+    ends table local (GetOr create false) (Answered v) (view_now local) local.learnt (Gets 0)
+    written h (says.held (view_now local) v create false (h.view.value ∙ l))
     (record { value = h.view.value; known = h.view.known; learnt_so = h.view.learnt_so; doing_so = tt })
 reply-fits table local _ _ written h l = tt
 
 -- every enabled step leaves the Local fitting, and changes no slot but its own
-pub local_step-fits : {V E : Type 0} (table : Table V) (local : Local V E) (step : LocalStep V E) → AllWritten table → LocalFits table local
+pub local_step-fits : {V E : Type 0} (table : Table V) (local : Local V E) (step : LocalStep V E)
+    → AllWritten table → LocalFits table local
     → IfSome (local_step table local step) (StepFits table local (value_set local.doing step))
 unfolding local_step
 local_step-fits table local BeginGet written h = begin_get-fits table local local.doing written h
 local_step-fits table local (BeginGetOr create) written h = begin_get_or-fits table local create local.doing written h
 local_step-fits table local LoadPointer written h = load_pointer-fits table local (is_calling local.doing) written h
 local_step-fits table local LookAtFlag written h = look_at_flag-fits table local (is_calling local.doing) written h
-local_step-fits table local (MakeBucket refused) written h = make_bucket-fits table local refused local.doing local.learnt written h h.view.learnt_so h.view.doing_so
+local_step-fits table local (MakeBucket refused) written h =
+    make_bucket-fits table local refused local.doing local.learnt written h h.view.learnt_so
+    h.view.doing_so
 local_step-fits table local InstallBucket written h = install_bucket-fits table local local.doing written h h.view.doing_so
 local_step-fits table local WriteValue written h = write_value-fits table local local.doing local.learnt written h h.view.learnt_so
 local_step-fits table local SetFlag written h = set_flag-fits table local local.doing written h h.view.doing_so
 local_step-fits table local Reply written h = reply-fits table local local.doing local.learnt written h h.view.learnt_so
 
 -- a Local still fits after a step of a Local with another id
-pub other_fits : {V E : Type 0} (old new : Table V) (id : ℕ) (local : Local V E) → ChangesOnly old new id → (id ≡ local.id → ⊥) → LocalFits old local → LocalFits new local
+pub other_fits : {V E : Type 0} (old new : Table V) (id : ℕ) (local : Local V E)
+    → ChangesOnly old new id → (id ≡ local.id → ⊥) → LocalFits old local
+    → LocalFits new local
 other_fits old new id local only apart h = record {
   answered = h.answered;
-  view = view_carried old new local.id (view_now local) local.learnt local.doing (only.others local.id apart) (λ t. (only.naming (bucket_of local.id) t).0) h.view;
+  view =
+      view_carried old new local.id (view_now local) local.learnt local.doing
+      (only.others local.id apart) (λ t. (only.naming (bucket_of local.id) t).0) h.view;
 }

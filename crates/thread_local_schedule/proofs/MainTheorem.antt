@@ -16,11 +16,14 @@ use Rattle.thread_local_schedule.proofs.Kept.{happens-fits, run-fits}
 use Rattle.thread_local_schedule.proofs.EventSays.{event_says}
 
 -- a core that a schedule reaches fits
-pub reached-fits : {V E : Type 0} (capacity extra : ℕ) (events : List (Event V E)) → capacity < 2 ^ 63 → CoreFits (run (made_core {V = V} {E = E} capacity extra) events)
+pub reached-fits : {V E : Type 0} (capacity extra : ℕ) (events : List (Event V E))
+    → capacity < 2 ^ 63
+    → CoreFits (run (made_core {V = V} {E = E} capacity extra) events)
 reached-fits capacity extra events l = run-fits (made_core capacity extra) events (made_core-fits capacity extra l)
 
 -- a published value stays over events that are no owner's call
-pub value_stays : {V E : Type 0} (core : Core V E) (between : List (Event V E)) (id : ℕ) (v : V) → CoreFits core → (shadow core).values id ≡ Some v
+pub value_stays : {V E : Type 0} (core : Core V E) (between : List (Event V E)) (id : ℕ) (v : V)
+    → CoreFits core → (shadow core).values id ≡ Some v
     → AllByRecursion (λ event. is_exclusive event ≡ false) between → (shadow (run core between)).values id ≡ Some v
 unfolding run
 value_stays core [] id v h e quiet = e

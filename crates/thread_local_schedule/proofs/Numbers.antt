@@ -1,5 +1,6 @@
 -- No event gives two buckets the same number.
-use Rattle.std.proofs.Common.{◌≡◌, ℕ, ◌<◌, ◌⊎◌, Bool, true, false, cond, Option, Some, None, IsTrue, refl, ap, sym, ◌∙◌, arith, ⊎_elim, inl, inr}
+use Rattle.std.proofs.Common.{◌≡◌, ℕ, ◌<◌, ◌⊎◌, Bool, true, false, cond, Option, Some, None, IsTrue, refl, ap, sym, ◌∙◌}
+use Rattle.std.proofs.Common.{arith, ⊎_elim, inl, inr}
 use Rattle.std.specs.Prelude.{option_map}
 use Rattle.std.proofs.lemmas.Bool.{ltb-true}
 use Rattle.thread_local_model.specs.Capacity.{binary_digits, reserves_bucket}
@@ -18,8 +19,10 @@ use Rattle.thread_local_schedule.proofs.PutLaws.{put_cases, still}
 
 -- the numbers fit where no pointer leads to another bucket than before, and no call owns one that
 -- it didn't
-carried : {V E : Type 0} (old new : Table V) (locals later : ℕ → Option (Local V E)) → new.made ≡ old.made → ((bucket k : ℕ) → named new bucket ≡ Some k → named old bucket ≡ Some k)
-    → ((n : ℕ) (local : Local V E) (k : ℕ) → later n ≡ Some local → own_number local.doing ≡ Some k → (was : Local V E) × (locals n ≡ Some was) × (own_number was.doing ≡ Some k))
+carried : {V E : Type 0} (old new : Table V) (locals later : ℕ → Option (Local V E))
+    → new.made ≡ old.made → ((bucket k : ℕ) → named new bucket ≡ Some k → named old bucket ≡ Some k)
+    → ((n : ℕ) (local : Local V E) (k : ℕ) → later n ≡ Some local → own_number local.doing ≡ Some k
+    → (was : Local V E) × (locals n ≡ Some was) × (own_number was.doing ≡ Some k))
     → NumbersFit old locals → NumbersFit new later
 carried old new locals later made names own h = record {
   named_made = λ bucket k e. omega (arith, made, h.named_made bucket k (names bucket k e));
@@ -33,7 +36,9 @@ carried old new locals later made names own h = record {
 }
 
 -- a new Local has no bucket of its own
-pub taken-NumbersFit : {V E : Type 0} (table : Table V) (locals : ℕ → Option (Local V E)) (number id : ℕ) (view : View V) → NumbersFit table locals
+pub taken-NumbersFit : {V E : Type 0} (table : Table V) (locals : ℕ → Option (Local V E))
+    (number id : ℕ) (view : View V)
+    → NumbersFit table locals
     → NumbersFit table (put locals number (Some (fresh_local id view)))
 taken-NumbersFit table locals number id view h =
     carried table table locals (put locals number (Some (fresh_local id view))) refl (λ bucket k e. e)
@@ -47,25 +52,43 @@ taken-NumbersFit table locals number id view h =
     (put_cases locals number (Some (fresh_local id view)) n local at))
     h
 
-pub removed-NumbersFit : {V E : Type 0} (table : Table V) (locals : ℕ → Option (Local V E)) (number : ℕ) → NumbersFit table locals → NumbersFit table (put locals number None)
+pub removed-NumbersFit : {V E : Type 0} (table : Table V) (locals : ℕ → Option (Local V E))
+    (number : ℕ)
+    → NumbersFit table locals
+    → NumbersFit table (put locals number None)
 removed-NumbersFit table locals number h =
-    carried table table locals (put locals number None) refl (λ bucket k e. e) (λ n local k at e. (local, (still locals number n local at).1, e)) h
+    carried table table locals (put locals number None) refl (λ bucket k e. e)
+    (λ n local k at e. (local, (still locals number n local at).1, e)) h
 
-pub rewritten-NumbersFit : {V E : Type 0} (table : Table V) (others : ℕ → V → V) (locals : ℕ → Option (Local V E)) → NumbersFit table locals → NumbersFit (rewritten table others) locals
+pub rewritten-NumbersFit : {V E : Type 0} (table : Table V) (others : ℕ → V → V)
+    (locals : ℕ → Option (Local V E))
+    → NumbersFit table locals
+    → NumbersFit (rewritten table others) locals
 rewritten-NumbersFit table others locals h =
-    carried table (rewritten table others) locals locals (made-rewritten table others) (λ bucket k e. sym (named-rewritten table others bucket) ∙ e) (λ n local k at e. (local, at, e)) h
+    carried table (rewritten table others) locals locals (made-rewritten table others)
+    (λ bucket k e. sym (named-rewritten table others bucket) ∙ e)
+    (λ n local k at e. (local, at, e)) h
 
-pub cleared-NumbersFit : {V E : Type 0} (table : Table V) (capacity : ℕ) (locals : ℕ → Option (Local V E)) → NumbersFit table locals → NumbersFit (cleared table capacity) locals
+pub cleared-NumbersFit : {V E : Type 0} (table : Table V) (capacity : ℕ)
+    (locals : ℕ → Option (Local V E))
+    → NumbersFit table locals
+    → NumbersFit (cleared table capacity) locals
 cleared-NumbersFit table capacity locals h =
-    carried table (cleared table capacity) locals locals (made-cleared table capacity) (named_before_clear table capacity) (λ n local k at e. (local, at, e)) h
+    carried table (cleared table capacity) locals locals (made-cleared table capacity)
+    (named_before_clear table capacity) (λ n local k at e. (local, at, e)) h
 
 -- each bucket of a new table has the number of its pointer
-named_by_digits : (T : Type 0) (b : Bool) (bucket number : ℕ) → option_map (λ here. here.number) (cond {A = Option (Bucket T)} b (Some (fresh_bucket bucket)) None) ≡ Some number
+named_by_digits : (T : Type 0) (b : Bool) (bucket number : ℕ)
+    → option_map (λ here. here.number)
+    (cond {A = Option (Bucket T)} b (Some (fresh_bucket bucket)) None)
+    ≡ Some number
     → (b ≡ true) × (bucket ≡ number)
 named_by_digits T true bucket number e = (refl, cc)
 named_by_digits T false bucket number e = cc
 
-named-made_table : (T : Type 0) (capacity bucket number : ℕ) → named {V = T} (made_table capacity) bucket ≡ Some number → IsTrue (reserves_bucket capacity bucket) × (bucket ≡ number)
+named-made_table : (T : Type 0) (capacity bucket number : ℕ)
+    → named {V = T} (made_table capacity) bucket ≡ Some number
+    → IsTrue (reserves_bucket capacity bucket) × (bucket ≡ number)
 unfolding named made_table
 named-made_table T capacity bucket number e = named_by_digits T (reserves_bucket capacity bucket) bucket number e
 
@@ -86,11 +109,13 @@ made-NumbersFit {V} {E} capacity = record {
 
 -- A step of a Local: a pointer that is newly set takes the call's own bucket, and a new bucket gets
 -- the next number.
-module _ {V E : Type 0} (table : Table V) (locals : ℕ → Option (Local V E)) (number : ℕ) (local : Local V E) (after : Table V × Local V E) (at : locals number ≡ Some local)
+module _ {V E : Type 0} (table : Table V) (locals : ℕ → Option (Local V E)) (number : ℕ)
+    (local : Local V E) (after : Table V × Local V E) (at : locals number ≡ Some local)
     (go : NumbersGo table local after) (h : NumbersFit table locals) where
   -- a bucket that a Local owns after the step was its own before, or is the next one made
   own_was : (n : ℕ) (then : Local V E) (k : ℕ) → put locals number (Some after.1) n ≡ Some then → own_number then.doing ≡ Some k
-      → ((was : Local V E) × (locals n ≡ Some was) × (own_number was.doing ≡ Some k)) ⊎ ((number ≡ n) × (k ≡ table.made) × (table.made < after.0.made))
+      → ((was : Local V E) × (locals n ≡ Some was) × (own_number was.doing ≡ Some k))
+      ⊎ ((number ≡ n) × (k ≡ table.made) × (table.made < after.0.made))
   own_was n then k e own =
       ⊎_elim
       (λ here.
@@ -102,7 +127,9 @@ module _ {V E : Type 0} (table : Table V) (locals : ℕ → Option (Local V E)) 
       (λ apart. inl (then, apart.1, own))
       (put_cases locals number (Some after.1) n then e)
 
-  below : (n : ℕ) (then : Local V E) (k : ℕ) → put locals number (Some after.1) n ≡ Some then → own_number then.doing ≡ Some k → k < after.0.made
+  below : (n : ℕ) (then : Local V E) (k : ℕ) → put locals number (Some after.1) n ≡ Some then
+      → own_number then.doing ≡ Some k
+      → k < after.0.made
   below n then k e own =
       ⊎_elim
       (λ was. omega (arith, go.made, h.own_made n was.0 k was.1 was.2))
@@ -110,7 +137,10 @@ module _ {V E : Type 0} (table : Table V) (locals : ℕ → Option (Local V E)) 
       (own_was n then k e own)
 
   -- after the step no Local owns a bucket that a pointer leads to
-  unnamed : (n : ℕ) (then : Local V E) (k bucket : ℕ) → put locals number (Some after.1) n ≡ Some then → own_number then.doing ≡ Some k → named after.0 bucket ≡ Some k → ⊥
+  unnamed : (n : ℕ) (then : Local V E) (k bucket : ℕ)
+      → put locals number (Some after.1) n ≡ Some then → own_number then.doing ≡ Some k
+      → named after.0 bucket ≡ Some k
+      → ⊥
   unnamed n then k bucket e own name =
       ⊎_elim
       (λ before.
@@ -143,7 +173,8 @@ module _ {V E : Type 0} (table : Table V) (locals : ℕ → Option (Local V E)) 
       (go.named_before b k f))
       (go.named_before a k e)
 
-  apart_own : (m n : ℕ) (a b : Local V E) (k : ℕ) → put locals number (Some after.1) m ≡ Some a → put locals number (Some after.1) n ≡ Some b
+  apart_own : (m n : ℕ) (a b : Local V E) (k : ℕ) → put locals number (Some after.1) m ≡ Some a
+      → put locals number (Some after.1) n ≡ Some b
       → own_number a.doing ≡ Some k → own_number b.doing ≡ Some k → m ≡ n
   apart_own m n a b k e f own_a own_b =
       ⊎_elim

@@ -1,21 +1,30 @@
 -- No step confuses two buckets: only the next number is given out, and only a call's own bucket is
 -- offered.
-use Rattle.std.proofs.Common.{◌≡◌, ℕ, zero, suc, ◌⊎◌, Bool, cond, true, false, Option, Some, None, Result, Ok, Err, IfSome, refl, ap, sym, ◌∙◌, arith, ⊎_elim, inl, inr}
+use Rattle.std.proofs.Common.{◌≡◌, ℕ, zero, suc, ◌⊎◌, Bool, cond, true, false, Option, Some, None, Result, Ok, Err}
+use Rattle.std.proofs.Common.{IfSome, refl, ap, sym, ◌∙◌, arith, ⊎_elim, inl, inr}
 use Rattle.std.specs.Prelude.{option_map, option_and_then}
 use Rattle.std.proofs.lemmas.Bool.{cases_eq, eq-eqb}
 use Rattle.thread_local_model.specs.Place.{bucket_of}
 use Rattle.thread_local_model.specs.Answers.{GetOr, Answered}
-use Rattle.thread_local_model.specs.Learnt.{Learnt, Missing, Vacant, Holding, learnt_by_load, learnt_by_look, learnt_by_install, learnt_by_publish}
+use Rattle.thread_local_model.specs.Learnt.{Learnt, Missing, Vacant, Holding, learnt_by_load, learnt_by_look}
+use Rattle.thread_local_model.specs.Learnt.{learnt_by_install, learnt_by_publish}
 use Rattle.thread_local_schedule.specs.Table.{Table, Slot, published, bucket_stands, with_fresh_bucket, with_table_slot, with_flag}
-use Rattle.thread_local_schedule.specs.Local.{Doing, Gets, Started, Private, Written, Local, after_call, is_calling, learns, load_pointer, look_at_flag, make_bucket, offered, install_bucket, write_value, set_flag, reply, local_step, LocalStep, BeginGet, BeginGetOr, LoadPointer, LookAtFlag, MakeBucket, InstallBucket, WriteValue, SetFlag, Reply, doing_with_get, doing_with_get_or, begin_call, closure_at_missing, closure_at_vacant, ending_of, private_bucket, value_written}
+use Rattle.thread_local_schedule.specs.Local.{Doing, Gets, Started, Private, Written, Local, after_call, is_calling}
+use Rattle.thread_local_schedule.specs.Local.{learns, load_pointer, look_at_flag, make_bucket, offered, install_bucket}
+use Rattle.thread_local_schedule.specs.Local.{write_value, set_flag, reply, local_step, LocalStep, BeginGet, BeginGetOr}
+use Rattle.thread_local_schedule.specs.Local.{LoadPointer, LookAtFlag, MakeBucket, InstallBucket, WriteValue, SetFlag}
+use Rattle.thread_local_schedule.specs.Local.{Reply, doing_with_get, doing_with_get_or, begin_call, closure_at_missing}
+use Rattle.thread_local_schedule.specs.Local.{closure_at_vacant, ending_of, private_bucket, value_written}
 use Rattle.thread_local_schedule.specs.Fits.{named}
 use Rattle.thread_local_schedule.specs.Numbers.{own_number, NumbersGo}
 use Rattle.thread_local_schedule.proofs.CallsLaws.{whatever_is_learnt}
 use Rattle.thread_local_schedule.proofs.TableLaws.{named-made, named-with_fresh_bucket, named-with_table_slot}
 
 -- a step that makes no bucket, changes no pointer, and gives the call no bucket
-same_numbers : {V E : Type 0} (table after : Table V) (local then : Local V E) → after.made ≡ table.made → ((bucket : ℕ) → named after bucket ≡ named table bucket)
-    → ((number : ℕ) → own_number then.doing ≡ Some number → own_number local.doing ≡ Some number) → NumbersGo table local (after, then)
+same_numbers : {V E : Type 0} (table after : Table V) (local then : Local V E)
+    → after.made ≡ table.made → ((bucket : ℕ) → named after bucket ≡ named table bucket)
+    → ((number : ℕ) → own_number then.doing ≡ Some number → own_number local.doing ≡ Some number)
+    → NumbersGo table local (after, then)
 same_numbers table after local then made names own = record {
   made = omega arith;
   named_before = λ bucket number e. inl (sym (names bucket) ∙ e);
@@ -23,34 +32,49 @@ same_numbers table after local then made names own = record {
 }
 
 -- the table stays, and the call has no bucket of its own afterwards
-none_own : {V E : Type 0} (table : Table V) (local then : Local V E) → own_number then.doing ≡ None → NumbersGo table local (table, then)
+none_own : {V E : Type 0} (table : Table V) (local then : Local V E) → own_number then.doing ≡ None
+    → NumbersGo table local (table, then)
 none_own table local then none = same_numbers table table local then refl (λ bucket. refl) (λ number e. cc)
 
 made-with_table_slot : {V : Type 0} (table : Table V) (id : ℕ) (slot : Slot V) → (with_table_slot table id slot).made ≡ table.made
 unfolding with_table_slot
 made-with_table_slot table id slot = refl
 
-none_own-with_table_slot : {V E : Type 0} (table : Table V) (id : ℕ) (slot : Slot V) (local then : Local V E) → own_number then.doing ≡ None → NumbersGo table local (with_table_slot table id slot, then)
+none_own-with_table_slot : {V E : Type 0} (table : Table V) (id : ℕ) (slot : Slot V)
+    (local then : Local V E)
+    → own_number then.doing ≡ None
+    → NumbersGo table local (with_table_slot table id slot, then)
 none_own-with_table_slot table id slot local then none =
-    same_numbers table (with_table_slot table id slot) local then (made-with_table_slot table id slot) (λ bucket. named-with_table_slot table id bucket slot) (λ number e. cc)
+    same_numbers table (with_table_slot table id slot) local then
+    (made-with_table_slot table id slot) (λ bucket. named-with_table_slot table id bucket slot)
+    (λ number e. cc)
 
-begin_get-numbers : {V E : Type 0} (table : Table V) (local : Local V E) (doing : Doing V E) → IfSome (option_map (begin_call table local) (doing_with_get doing)) (NumbersGo table local)
+begin_get-numbers : {V E : Type 0} (table : Table V) (local : Local V E) (doing : Doing V E)
+    → IfSome (option_map (begin_call table local) (doing_with_get doing)) (NumbersGo table local)
 begin_get-numbers table local (Gets count) = none_own table local _ refl
 begin_get-numbers table local _ = tt
 
-begin_get_or-numbers : {V E : Type 0} (table : Table V) (local : Local V E) (create : Result V E) (doing : Doing V E) → IfSome (option_map (begin_call table local) (doing_with_get_or create doing)) (NumbersGo table local)
+begin_get_or-numbers : {V E : Type 0} (table : Table V) (local : Local V E) (create : Result V E)
+    (doing : Doing V E)
+    → IfSome (option_map (begin_call table local) (doing_with_get_or create doing))
+    (NumbersGo table local)
 begin_get_or-numbers table local create (Gets zero) = none_own table local _ refl
 begin_get_or-numbers table local create _ = tt
 
-learns-numbers : {V E : Type 0} (table : Table V) (local : Local V E) (o : Option (Learnt V)) → IfSome (learns table local o) (NumbersGo table local)
+learns-numbers : {V E : Type 0} (table : Table V) (local : Local V E) (o : Option (Learnt V))
+    → IfSome (learns table local o) (NumbersGo table local)
 learns-numbers table local o =
-    whatever_is_learnt table local o (NumbersGo table local) (λ learnt. same_numbers table table local (record local { learnt = learnt }) refl (λ bucket. refl) (λ number e. e))
+    whatever_is_learnt table local o (NumbersGo table local) (λ learnt.
+    same_numbers table table local (record local { learnt = learnt }) refl (λ bucket. refl)
+    (λ number e. e))
 
-load_pointer-numbers : {V E : Type 0} (table : Table V) (local : Local V E) (b : Bool) → IfSome (cond b (load_pointer table local) None) (NumbersGo table local)
+load_pointer-numbers : {V E : Type 0} (table : Table V) (local : Local V E) (b : Bool)
+    → IfSome (cond b (load_pointer table local) None) (NumbersGo table local)
 load_pointer-numbers table local false = tt
 load_pointer-numbers table local true = learns-numbers table local (learnt_by_load local.learnt (bucket_stands table (bucket_of local.id)))
 
-look_at_flag-numbers : {V E : Type 0} (table : Table V) (local : Local V E) (b : Bool) → IfSome (cond b (look_at_flag table local) None) (NumbersGo table local)
+look_at_flag-numbers : {V E : Type 0} (table : Table V) (local : Local V E) (b : Bool)
+    → IfSome (cond b (look_at_flag table local) None) (NumbersGo table local)
 look_at_flag-numbers table local false = tt
 look_at_flag-numbers table local true = learns-numbers table local (learnt_by_look local.learnt (published table local.id))
 
@@ -66,30 +90,45 @@ make_bucket-numbers table local refused _ _ = tt
 
 -- a pointer that isn't null after an offer led to the same bucket before, or is the one offered to,
 -- which leads to the offered bucket
-named-with_bucket_same : {V : Type 0} (table : Table V) (bucket number : ℕ) → named (with_fresh_bucket table bucket number) bucket ≡ Some number
+named-with_bucket_same : {V : Type 0} (table : Table V) (bucket number : ℕ)
+    → named (with_fresh_bucket table bucket number) bucket ≡ Some number
 unfolding named with_fresh_bucket
 named-with_bucket_same table bucket number = rw (eq-eqb bucket bucket refl) refl
 
-made-with_fresh_bucket : {V : Type 0} (table : Table V) (bucket number : ℕ) → (with_fresh_bucket table bucket number).made ≡ table.made
+made-with_fresh_bucket : {V : Type 0} (table : Table V) (bucket number : ℕ)
+    → (with_fresh_bucket table bucket number).made ≡ table.made
 unfolding with_fresh_bucket
 made-with_fresh_bucket table bucket number = refl
 
-named_by_offer : {V : Type 0} (table : Table V) (bucket number : ℕ) (b : Bool) (other k : ℕ) → named (cond b table (with_fresh_bucket table bucket number)) other ≡ Some k
+named_by_offer : {V : Type 0} (table : Table V) (bucket number : ℕ) (b : Bool) (other k : ℕ)
+    → named (cond b table (with_fresh_bucket table bucket number)) other ≡ Some k
     → (named table other ≡ Some k) ⊎ ((Some number ≡ Some k) × (bucket ≡ other))
 named_by_offer table bucket number true other k e = inl e
 named_by_offer table bucket number false other k e =
     ⊎_elim
-    (λ here. inr (sym (named-with_bucket_same table bucket number) ∙ ap (named (with_fresh_bucket table bucket number)) here ∙ e, here))
+    (λ here.
+    inr (
+      sym (named-with_bucket_same table bucket number)
+          ∙ ap (named (with_fresh_bucket table bucket number)) here
+          ∙ e,
+      here,
+    ))
     (λ apart. inl (sym (named-with_fresh_bucket table bucket number other apart) ∙ e))
     (cases_eq bucket other)
 
-made-offer : {V : Type 0} (table : Table V) (bucket number : ℕ) (b : Bool) → (cond b table (with_fresh_bucket table bucket number)).made ≡ table.made
+made-offer : {V : Type 0} (table : Table V) (bucket number : ℕ) (b : Bool)
+    → (cond b table (with_fresh_bucket table bucket number)).made ≡ table.made
 made-offer table bucket number true = refl
 made-offer table bucket number false = made-with_fresh_bucket table bucket number
 
-install_bucket-numbers : {V E : Type 0} (table : Table V) (local : Local V E) (doing : Doing V E) → local.doing ≡ doing → IfSome (option_and_then (install_bucket table local) (private_bucket doing)) (NumbersGo table local)
+install_bucket-numbers : {V E : Type 0} (table : Table V) (local : Local V E) (doing : Doing V E)
+    → local.doing ≡ doing
+    → IfSome (option_and_then (install_bucket table local) (private_bucket doing))
+    (NumbersGo table local)
 install_bucket-numbers table local (Private create number) at =
-    whatever_is_learnt (offered table (bucket_of local.id) number) (record local { doing = Started create }) (learnt_by_install local.learnt) (NumbersGo table local)
+    whatever_is_learnt (offered table (bucket_of local.id) number)
+    (record local { doing = Started create }) (learnt_by_install local.learnt)
+    (NumbersGo table local)
     (λ learnt. record {
       made = omega (arith, made-offer table (bucket_of local.id) number (bucket_stands table (bucket_of local.id)));
       named_before = λ bucket k e.
@@ -101,18 +140,26 @@ install_bucket-numbers table local (Private create number) at =
     })
 install_bucket-numbers table local _ at = tt
 
-write_value-numbers : {V E : Type 0} (table : Table V) (local : Local V E) (doing : Doing V E) (learnt : Learnt V) → IfSome (option_map (write_value table local) (closure_at_vacant doing learnt)) (NumbersGo table local)
+write_value-numbers : {V E : Type 0} (table : Table V) (local : Local V E) (doing : Doing V E)
+    (learnt : Learnt V)
+    → IfSome (option_map (write_value table local) (closure_at_vacant doing learnt))
+    (NumbersGo table local)
 write_value-numbers table local (Started (Ok v)) Vacant = none_own-with_table_slot table local.id _ local _ refl
 write_value-numbers table local (Started (Err e)) Vacant = none_own table local _ refl
 write_value-numbers table local _ _ = tt
 
-set_flag-numbers : {V E : Type 0} (table : Table V) (local : Local V E) (doing : Doing V E) → IfSome (option_and_then (set_flag table local) (value_written doing)) (NumbersGo table local)
+set_flag-numbers : {V E : Type 0} (table : Table V) (local : Local V E) (doing : Doing V E)
+    → IfSome (option_and_then (set_flag table local) (value_written doing)) (NumbersGo table local)
 set_flag-numbers table local (Written v) =
-    whatever_is_learnt (with_flag table local.id) (after_call local (GetOr (Ok v) false) (Answered v) local.learnt (Gets 0)) (learnt_by_publish local.learnt v)
+    whatever_is_learnt (with_flag table local.id)
+    (after_call local (GetOr (Ok v) false) (Answered v) local.learnt (Gets 0))
+    (learnt_by_publish local.learnt v)
     (NumbersGo table local) (λ learnt. none_own-with_table_slot table local.id _ local _ refl)
 set_flag-numbers table local _ = tt
 
-reply-numbers : {V E : Type 0} (table : Table V) (local : Local V E) (doing : Doing V E) (learnt : Learnt V) → IfSome (option_map (reply table local) (ending_of doing learnt)) (NumbersGo table local)
+reply-numbers : {V E : Type 0} (table : Table V) (local : Local V E) (doing : Doing V E)
+    (learnt : Learnt V)
+    → IfSome (option_map (reply table local) (ending_of doing learnt)) (NumbersGo table local)
 reply-numbers table local (Gets (suc count)) Missing = none_own table local _ refl
 reply-numbers table local (Gets (suc count)) Vacant = none_own table local _ refl
 reply-numbers table local (Gets (suc count)) (Holding v) = none_own table local _ refl
@@ -120,7 +167,8 @@ reply-numbers table local (Started create) (Holding v) = none_own table local _ 
 reply-numbers table local _ _ = tt
 
 -- every step changes the numbers as it says
-pub local_step-numbers : {V E : Type 0} (table : Table V) (local : Local V E) (step : LocalStep V E) → IfSome (local_step table local step) (NumbersGo table local)
+pub local_step-numbers : {V E : Type 0} (table : Table V) (local : Local V E) (step : LocalStep V E)
+    → IfSome (local_step table local step) (NumbersGo table local)
 unfolding local_step
 local_step-numbers table local BeginGet = begin_get-numbers table local local.doing
 local_step-numbers table local (BeginGetOr create) = begin_get_or-numbers table local create local.doing

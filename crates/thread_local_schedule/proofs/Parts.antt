@@ -1,5 +1,7 @@
 -- The parts of a core's invariant, each kept by the changes that events make.
-use Rattle.std.proofs.Common.{◌≡◌, ℕ, zero, suc, ◌^◌, ◌<◌, ◌≤◌, ◌⊎◌, Bool, true, cond, eqb, List, [], length, Option, Some, None, is_some, is_none, IsTrue, IfSome, refl, ap, sym, ◌∙◌, subst, arith, ⊎_elim, inl, inr, pow_mono}
+use Rattle.std.proofs.Common.{◌≡◌, ℕ, zero, suc, ◌^◌, ◌<◌, ◌≤◌, ◌⊎◌, Bool, true, cond, eqb, List, [], length, Option}
+use Rattle.std.proofs.Common.{Some, None, is_some, is_none, IsTrue, IfSome, refl, ap, sym, ◌∙◌, subst, arith, ⊎_elim}
+use Rattle.std.proofs.Common.{inl, inr, pow_mono}
 use Rattle.std.proofs.lemmas.Bool.{cases_eq, cases_lt, cond_both, eq-eqb, ne_eqb, ltb-true, false≢true, or_cases, or_left, and_parts}
 use Rattle.std.specs.Prelude.{option_map}
 use Rattle.std.proofs.lemmas.Option.{none-some}
@@ -32,9 +34,11 @@ use Rattle.thread_local_model.proofs.CapacityLaws as reserve
 use Rattle.thread_local_model.proofs.HeldLaws as ids
 
 -- the Locals after one was replaced by another with its id
-pub locals_put : {V E : Type 0} (table : Table V) (held : List Bool) (capacity : ℕ) (locals : ℕ → Option (Local V E)) (taken number : ℕ) (local : Local V E)
+pub locals_put : {V E : Type 0} (table : Table V) (held : List Bool) (capacity : ℕ)
+    (locals : ℕ → Option (Local V E)) (taken number : ℕ) (local : Local V E)
     → number < taken → LiveFits table held capacity local
-    → ((n : ℕ) (other : Local V E) → (number ≡ n → ⊥) → locals n ≡ Some other → LiveFits table held capacity other × (local.id ≡ other.id → ⊥))
+    → ((n : ℕ) (other : Local V E) → (number ≡ n → ⊥) → locals n ≡ Some other
+    → LiveFits table held capacity other × (local.id ≡ other.id → ⊥))
     → ((m n : ℕ) (a b : Local V E) → locals m ≡ Some a → locals n ≡ Some b → a.id ≡ b.id → m ≡ n)
     → ((n : ℕ) → taken ≤ n → locals n ≡ None)
     → LocalsFit table held capacity (put locals number (Some local)) taken
@@ -61,7 +65,8 @@ locals_put table held capacity locals taken number local l here others unshared 
 }
 
 -- the Locals after one was removed
-pub locals_removed : {V E : Type 0} (table : Table V) (held : List Bool) (capacity : ℕ) (locals : ℕ → Option (Local V E)) (taken number : ℕ)
+pub locals_removed : {V E : Type 0} (table : Table V) (held : List Bool) (capacity : ℕ)
+    (locals : ℕ → Option (Local V E)) (taken number : ℕ)
     → ((n : ℕ) (other : Local V E) → (number ≡ n → ⊥) → locals n ≡ Some other → LiveFits table held capacity other)
     → ((m n : ℕ) (a b : Local V E) → locals m ≡ Some a → locals n ≡ Some b → a.id ≡ b.id → m ≡ n)
     → ((n : ℕ) → taken ≤ n → locals n ≡ None)
@@ -76,13 +81,21 @@ locals_removed table held capacity locals taken number others unshared none = re
       (cases_eq number n);
 }
 
-pub given-ManagerFits : (manager : Manager) (capacity id : ℕ) → ManagerFits manager capacity → ManagerFits (given_to manager id) capacity
+pub given-ManagerFits : (manager : Manager) (capacity id : ℕ) → ManagerFits manager capacity
+    → ManagerFits (given_to manager id) capacity
 given-ManagerFits manager capacity id h =
     let same = ids.length-without manager.held id in
-    record { peak_room = omega (arith, h.peak_room); capacity_room = h.capacity_room; peak_ids = omega (arith, h.peak_ids); capacity_ids = h.capacity_ids }
+    record {
+      peak_room = omega (arith, h.peak_room);
+      capacity_room = h.capacity_room;
+      peak_ids = omega (arith, h.peak_ids);
+      capacity_ids = h.capacity_ids;
+    }
 
 -- the table's part still fits where the peak grows
-pub peak-TableFits : {V : Type 0} (table : Table V) (capacity peak higher : ℕ) → peak ≤ higher → TableFits table capacity peak → TableFits table capacity higher
+pub peak-TableFits : {V : Type 0} (table : Table V) (capacity peak higher : ℕ) → peak ≤ higher
+    → TableFits table capacity peak
+    → TableFits table capacity higher
 peak-TableFits table capacity peak higher up h = record {
   written = h.written;
   small = λ b t. omega (arith, h.small b t);
@@ -96,13 +109,18 @@ some_value (Some x) t = (x, refl)
 
 -- a held id is still held after the least free one is taken
 pub held_stays : (held : List Bool) (id : ℕ) → IsTrue (is_held held id) → IsTrue (is_held (with_least held) id)
-held_stays held id t = ids.is_held-with_least held id ∙ cond_both (eqb (least held) id) true (is_held held id) IsTrue (λ _. refl) (λ _. t)
+held_stays held id t =
+    ids.is_held-with_least held id
+    ∙ cond_both (eqb (least held) id) true (is_held held id) IsTrue (λ _. refl) (λ _. t)
 
 pub least_held : (held : List Bool) → IsTrue (is_held (with_least held) (least held))
-least_held held = ids.is_held-with_least held (least held) ∙ ap (λ b. cond b true (is_held held (least held))) (eq-eqb (least held) (least held) refl)
+least_held held =
+    ids.is_held-with_least held (least held)
+    ∙ ap (λ b. cond b true (is_held held (least held))) (eq-eqb (least held) (least held) refl)
 
 -- a new Local fits
-pub fresh-LiveFits : {V E : Type 0} (core : Core V E) (held : List Bool) (id : ℕ) → TableFits core.table core.capacity (length core.manager.held) → IsTrue (is_held held id)
+pub fresh-LiveFits : {V E : Type 0} (core : Core V E) (held : List Bool) (id : ℕ)
+    → TableFits core.table core.capacity (length core.manager.held) → IsTrue (is_held held id)
     → LiveFits core.table held core.capacity (fresh_local {E = E} id (first_view (shadow core) id))
 fresh-LiveFits core held id h t = record {
   local_fits = record {
@@ -124,7 +142,9 @@ fresh-LiveFits core held id h t = record {
 }
 
 -- a map with one more value has at an id what it had before, or that value
-pub added : {V : Type 0} (values : ℕ → Option V) (own : ℕ) (set : Option V) (id : ℕ) (v : V) → with_value_if values own set id ≡ Some v → (values id ≡ Some v) ⊎ (own ≡ id)
+pub added : {V : Type 0} (values : ℕ → Option V) (own : ℕ) (set : Option V) (id : ℕ) (v : V)
+    → with_value_if values own set id ≡ Some v
+    → (values id ≡ Some v) ⊎ (own ≡ id)
 added values own None id v e = inl e
 added values own (Some w) id v e =
     ⊎_elim
@@ -133,7 +153,9 @@ added values own (Some w) id v e =
     (cases_eq own id)
 
 -- a map with one more value keeps what it had, if the value is at an id that had none
-pub kept_value : {V : Type 0} (values : ℕ → Option V) (own : ℕ) (set : Option V) (id : ℕ) (v : V) → IfSome set (λ _. values own ≡ None) → values id ≡ Some v → with_value_if values own set id ≡ Some v
+pub kept_value : {V : Type 0} (values : ℕ → Option V) (own : ℕ) (set : Option V) (id : ℕ) (v : V)
+    → IfSome set (λ _. values own ≡ None) → values id ≡ Some v
+    → with_value_if values own set id ≡ Some v
 kept_value values own None id v none e = e
 kept_value values own (Some w) id v none e =
     ⊎_elim
@@ -148,14 +170,21 @@ own_small held id t =
     let l = held_below held id t in
     omega arith
 
-pub step-TableFits : {V E : Type 0} (core : Core V E) (local : Local V E) (set : Option V) (after : Table V × Local V E) → IsTrue (is_held core.manager.held local.id)
-    → StepFits core.table local set after → TableFits core.table core.capacity (length core.manager.held) → TableFits after.0 core.capacity (length core.manager.held)
+pub step-TableFits : {V E : Type 0} (core : Core V E) (local : Local V E) (set : Option V)
+    (after : Table V × Local V E)
+    → IsTrue (is_held core.manager.held local.id)
+    → StepFits core.table local set after
+    → TableFits core.table core.capacity (length core.manager.held)
+    → TableFits after.0 core.capacity (length core.manager.held)
 step-TableFits core local set after t s h = record {
   written = s.changes.written;
   small = λ b stood.
       ⊎_elim
       (λ before. h.small b before)
-      (λ own. let l = own_small core.manager.held local.id t in let same : 2 ^ bucket_of local.id ≡ 2 ^ b = ap (λ k. 2 ^ k) own in omega arith)
+      (λ own.
+      let l = own_small core.manager.held local.id t in
+      let same : 2 ^ bucket_of local.id ≡ 2 ^ b = ap (λ k. 2 ^ k) own in
+      omega arith)
       (s.changes.installed b stood);
   reserved = λ b l. (s.changes.naming b (h.reserved b l)).0;
   below = λ id v e.
@@ -165,8 +194,12 @@ step-TableFits core local set after t s h = record {
       (added (published core.table) local.id set id v (sym (s.shown id) ∙ e));
 }
 
-pub stepped-fits : {V E : Type 0} (core : Core V E) (number : ℕ) (local : Local V E) (set : Option V) (after : Table V × Local V E) → core.locals number ≡ Some local
-    → StepFits core.table local set after → NumbersGo core.table local after → HasLearnt after.1.doing after.1.learnt → CoreFits core → CoreFits (record core { table = after.0; locals = put core.locals number (Some after.1) })
+pub stepped-fits : {V E : Type 0} (core : Core V E) (number : ℕ) (local : Local V E)
+    (set : Option V) (after : Table V × Local V E)
+    → core.locals number ≡ Some local
+    → StepFits core.table local set after → NumbersGo core.table local after
+    → HasLearnt after.1.doing after.1.learnt → CoreFits core
+    → CoreFits (record core { table = after.0; locals = put core.locals number (Some after.1) })
 stepped-fits core number local set after at s go learnt h =
     let live = h.locals.each number local at in
     let held = core.manager.held in
@@ -179,25 +212,38 @@ stepped-fits core number local set after at s go learnt h =
             local_fits = s.fits;
             learnt = learnt;
             id_held = subst (λ id. IsTrue (is_held held id)) (sym s.same.id) live.id_held;
-            known = λ reserved. ap (λ view. view.known) s.same.start ∙ live.known (subst (λ id. IsTrue (is_reserved core.capacity id)) s.same.id reserved);
+            known = λ reserved.
+                ap (λ view. view.known) s.same.start
+                ∙ live.known (subst (λ id. IsTrue (is_reserved core.capacity id)) s.same.id reserved);
           })
           (λ n other apart e.
           let there = h.locals.each n other e in
           let differ : local.id ≡ other.id → ⊥ = λ same. apart (h.locals.unshared number n local other at e same) in (
-            record { local_fits = other_fits core.table after.0 local.id other s.changes differ there.local_fits; learnt = there.learnt; id_held = there.id_held; known = there.known },
+            record {
+              local_fits =
+                  other_fits core.table after.0 local.id other s.changes differ there.local_fits;
+              learnt = there.learnt;
+              id_held = there.id_held;
+              known = there.known;
+            },
             (λ same. differ (sym s.same.id ∙ same)),
           ))
           h.locals.unshared
           h.locals.none_from;
       walks = record {
-        each = λ n walk e. walk_carried core.table after.0 walk (λ id v p. s.shown id ∙ kept_value (published core.table) local.id set id v s.empty p) (h.walks.each n walk e);
+        each = λ n walk e.
+            walk_carried core.table after.0 walk
+            (λ id v p. s.shown id ∙ kept_value (published core.table) local.id set id v s.empty p)
+            (h.walks.each n walk e);
         none_from = h.walks.none_from;
       };
       numbers = stepped-NumbersFit core.table core.locals number local after at go h.numbers;
     }
 
 -- the walks after one was replaced, or one more began
-pub walks_put : {V : Type 0} (table : Table V) (walks : ℕ → Option (SharedWalk V)) (walked more number : ℕ) (it : Option (SharedWalk V)) → walked ≤ more → number < more
+pub walks_put : {V : Type 0} (table : Table V) (walks : ℕ → Option (SharedWalk V))
+    (walked more number : ℕ) (it : Option (SharedWalk V))
+    → walked ≤ more → number < more
     → IfSome it (WalkFits table) → WalksFit table walks walked → WalksFit table (put walks number it) more
 walks_put table walks walked more number it up l here h = record {
   each = λ n x e. ⊎_elim (λ at. some_fits it x at.1 here) (λ at. h.each n x at.1) (put_cases walks number it n x e);
@@ -209,8 +255,13 @@ walks_put table walks walked more number it up l here h = record {
     some_fits (Some y) x e w = let same : y ≡ x = cc in subst (WalkFits table) same w
 
 -- a walk under way has a number already given out
-pub came_before : {V : Type 0} (table : Table V) (walks : ℕ → Option (SharedWalk V)) (walked number : ℕ) (walk : SharedWalk V) → WalksFit table walks walked → walks number ≡ Some walk → number < walked
-came_before table walks walked number walk h at = ⊎_elim (λ l. l) (λ above. let none = h.none_from number above in absurd cc) (cases_lt number walked)
+pub came_before : {V : Type 0} (table : Table V) (walks : ℕ → Option (SharedWalk V))
+    (walked number : ℕ) (walk : SharedWalk V)
+    → WalksFit table walks walked → walks number ≡ Some walk
+    → number < walked
+came_before table walks walked number walk h at =
+    ⊎_elim (λ l. l) (λ above. let none = h.none_from number above in absurd cc)
+    (cases_lt number walked)
 
 pub is_none_none : {A : Type 0} (o : Option A) → IsTrue (is_none o) → o ≡ None
 is_none_none None t = refl
@@ -237,27 +288,39 @@ no_walks core h alone n =
     ⊎_elim (λ l. none_at core.walks core.walked n both.1 l) (λ above. h.walks.none_from n above) (cases_lt n core.walked)
 
 -- so there is no Local, and the Locals fit whatever the table and the held ids are
-no_locals-fit : {V E : Type 0} (core : Core V E) (table : Table V) (held : List Bool) → IsTrue (is_alone core) → CoreFits core → LocalsFit table held core.capacity core.locals core.taken
+no_locals-fit : {V E : Type 0} (core : Core V E) (table : Table V) (held : List Bool)
+    → IsTrue (is_alone core) → CoreFits core
+    → LocalsFit table held core.capacity core.locals core.taken
 no_locals-fit core table held alone h = record {
   each = λ n local at. let none = no_locals core h alone n in absurd cc;
   unshared = h.locals.unshared;
   none_from = h.locals.none_from;
 }
 
-no_walks-fit : {V E : Type 0} (core : Core V E) (table : Table V) → IsTrue (is_alone core) → CoreFits core → WalksFit table core.walks core.walked
-no_walks-fit core table alone h = record { each = λ n walk at. let none = no_walks core h alone n in absurd cc; none_from = h.walks.none_from }
+no_walks-fit : {V E : Type 0} (core : Core V E) (table : Table V) → IsTrue (is_alone core)
+    → CoreFits core
+    → WalksFit table core.walks core.walked
+no_walks-fit core table alone h = record {
+  each = λ n walk at. let none = no_walks core h alone n in absurd cc;
+  none_from = h.walks.none_from;
+}
 
 pub mapped : {A : Type 0} (other : A → A) (o : Option A) (v : A) → option_map other o ≡ Some v → (w : A) × (o ≡ Some w)
 mapped other None v e = cc
 mapped other (Some w) v e = (w, refl)
 
 -- the table's part after an owner replaced values
-pub rewritten-TableFits : {V : Type 0} (table : Table V) (others : ℕ → V → V) (capacity peak : ℕ) → TableFits table capacity peak → TableFits (rewritten table others) capacity peak
+pub rewritten-TableFits : {V : Type 0} (table : Table V) (others : ℕ → V → V) (capacity peak : ℕ)
+    → TableFits table capacity peak
+    → TableFits (rewritten table others) capacity peak
 rewritten-TableFits table others capacity peak h = record {
   written = AllWritten-rewritten table others h.written;
   small = λ b t. h.small b (sym (bucket_stands-rewritten table others b) ∙ t);
   reserved = λ b l. bucket_stands-rewritten table others b ∙ h.reserved b l;
-  below = λ id v e. let was = mapped (others id) (published table id) v (sym (published-rewritten table others id) ∙ e) in h.below id was.0 was.1;
+  below = λ id v e.
+      let was =
+      mapped (others id) (published table id) v (sym (published-rewritten table others id) ∙ e) in
+      h.below id was.0 was.1;
 }
 
 -- a bucket for a binary digit of a capacity has no more slots than the capacity
@@ -269,11 +332,16 @@ made_small capacity bucket l =
     let few = reserve.digits_below capacity some in
     let twice = two-pow-succ bucket in
     omega arith)
-    (λ none. let zero_digits : binary_digits capacity ≡ binary_digits 0 = (let e : capacity ≡ 0 = omega arith in ap binary_digits e) in absurd (omega (arith, reserve.no_digits)))
+    (λ none.
+    let zero_digits : binary_digits capacity ≡ binary_digits 0 =
+    (let e : capacity ≡ 0 = omega arith in ap binary_digits e) in
+    absurd (omega (arith, reserve.no_digits)))
     (cases_lt 0 capacity)
 
 -- the table's part where all slots are empty and exactly the reserved buckets stand
-empty-TableFits : {V : Type 0} (table : Table V) (capacity : ℕ) → ((id : ℕ) → slot_at table id ≡ empty_slot) → ((bucket : ℕ) → bucket_stands table bucket ≡ reserves_bucket capacity bucket)
+empty-TableFits : {V : Type 0} (table : Table V) (capacity : ℕ)
+    → ((id : ℕ) → slot_at table id ≡ empty_slot)
+    → ((bucket : ℕ) → bucket_stands table bucket ≡ reserves_bucket capacity bucket)
     → TableFits table capacity 0
 empty-TableFits table capacity empty standing = record {
   written = λ id t. absurd (false≢true (sym (ap (λ slot. slot.flag) (empty id)) ∙ t));
@@ -293,7 +361,9 @@ made_core-fits {V} {E} capacity extra l = record {
 }
 
 -- a core fits after its owner replaced values
-pub rewritten-fits : {V E : Type 0} (core : Core V E) (others : ℕ → V → V) → IsTrue (is_alone core) → CoreFits core → CoreFits (record core { table = rewritten core.table others })
+pub rewritten-fits : {V E : Type 0} (core : Core V E) (others : ℕ → V → V) → IsTrue (is_alone core)
+    → CoreFits core
+    → CoreFits (record core { table = rewritten core.table others })
 rewritten-fits core others alone h = record {
   manager = h.manager;
   table = rewritten-TableFits core.table others core.capacity (length core.manager.held) h.table;
@@ -303,10 +373,20 @@ rewritten-fits core others alone h = record {
 }
 
 -- a core fits after a clear
-pub cleared-fits : {V E : Type 0} (core : Core V E) → IsTrue (is_alone core) → CoreFits core → CoreFits (record core { manager = record core.manager { held = [] }; table = cleared core.table core.capacity })
+pub cleared-fits : {V E : Type 0} (core : Core V E) → IsTrue (is_alone core) → CoreFits core
+    → CoreFits (record core
+    { manager = record core.manager { held = [] }; table = cleared core.table core.capacity })
 cleared-fits core alone h = record {
-  manager = record { peak_room = omega arith; capacity_room = h.manager.capacity_room; peak_ids = omega arith; capacity_ids = h.manager.capacity_ids };
-  table = empty-TableFits (cleared core.table core.capacity) core.capacity (slot_at-cleared core.table core.capacity) (λ b. bucket_stands-cleared core.table core.capacity b (h.table.reserved b));
+  manager = record {
+    peak_room = omega arith;
+    capacity_room = h.manager.capacity_room;
+    peak_ids = omega arith;
+    capacity_ids = h.manager.capacity_ids;
+  };
+  table =
+      empty-TableFits (cleared core.table core.capacity) core.capacity
+      (slot_at-cleared core.table core.capacity)
+      (λ b. bucket_stands-cleared core.table core.capacity b (h.table.reserved b));
   locals = no_locals-fit core (cleared core.table core.capacity) [] alone h;
   walks = no_walks-fit core (cleared core.table core.capacity) alone h;
   numbers = cleared-NumbersFit core.table core.capacity core.locals h.numbers;

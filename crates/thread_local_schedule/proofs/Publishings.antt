@@ -1,5 +1,6 @@
 -- A schedule has as many publishings since the last clear as the table has values.
-use Rattle.std.proofs.Common.{◌≡◌, ℕ, zero, suc, ◌+◌, ◌-◌, ◌^◌, ◌<◌, ◌≤◌, length, length-append, List, [], ◌∷◌, Option, Some, None, IfSome, refl, ap, sym, ◌∙◌, subst, arith, ⊎_elim}
+use Rattle.std.proofs.Common.{◌≡◌, ℕ, zero, suc, ◌+◌, ◌-◌, ◌^◌, ◌<◌, ◌≤◌, length, length-append, List, [], ◌∷◌, Option}
+use Rattle.std.proofs.Common.{Some, None, IfSome, refl, ap, sym, ◌∙◌, subst, arith, ⊎_elim}
 use Rattle.std.specs.Prelude.{option_to_list, option_map}
 use Rattle.std.proofs.lemmas.Bool.{cases_order, ne_eqb, eq-eqb}
 use Rattle.thread_local_model.specs.Walk.{walk_below, walk, with_value}
@@ -17,7 +18,8 @@ use Rattle.thread_local_schedule.proofs.EventSays.{event_says}
 use Rattle.thread_local_schedule.specs.Bounds.{publishings_with, publishings_after_all, publishings}
 
 -- a walk that ends before an id doesn't see a value published there
-before : {V : Type 0} (values : ℕ → Option V) (id : ℕ) (v : V) (n : ℕ) → n ≤ id → walk_below (with_value values id v) n ≡ walk_below values n
+before : {V : Type 0} (values : ℕ → Option V) (id : ℕ) (v : V) (n : ℕ) → n ≤ id
+    → walk_below (with_value values id v) n ≡ walk_below values n
 before values id v n l = walk_below-same (with_value values id v) values n (λ j below. rw (ne_eqb id j (λ e. omega arith)) refl)
 
 -- one that passes it gives one value more
@@ -26,7 +28,11 @@ one_more : {V : Type 0} (values : ℕ → Option V) (id : ℕ) (v : V) (n : ℕ)
 unfolding walk_below
 one_more values id v zero none l = absurd (omega arith)
 one_more values id v (suc n) none l =
-    rw (length-append (walk_below (with_value values id v) n) (option_to_list (with_value values id v n)), length-append (walk_below values n) (option_to_list (values n)))
+    rw (
+      length-append (walk_below (with_value values id v) n)
+          (option_to_list (with_value values id v n)),
+      length-append (walk_below values n) (option_to_list (values n)),
+    )
     (⊎_elim
     (λ here. rw (eq-eqb id n here, sym here, none, before values id v id (omega arith)) (omega arith))
     (⊎_elim
@@ -39,15 +45,23 @@ one_as_many f None = refl
 one_as_many f (Some x) = refl
 
 -- a rewrite leaves as many values
-as_many : {V : Type 0} (values : ℕ → Option V) (others : ℕ → V → V) (n : ℕ) → length (walk_below (λ id. option_map (others id) (values id)) n) ≡ length (walk_below values n)
+as_many : {V : Type 0} (values : ℕ → Option V) (others : ℕ → V → V) (n : ℕ)
+    → length (walk_below (λ id. option_map (others id) (values id)) n)
+    ≡ length (walk_below values n)
 unfolding walk_below
 as_many values others zero = refl
 as_many values others (suc n) =
-    rw (length-append (walk_below (λ id. option_map (others id) (values id)) n) (option_to_list (option_map (others n) (values n))), length-append (walk_below values n) (option_to_list (values n)), as_many values others n)
+    rw (
+      length-append (walk_below (λ id. option_map (others id) (values id)) n)
+          (option_to_list (option_map (others n) (values n))),
+      length-append (walk_below values n) (option_to_list (values n)),
+      as_many values others n,
+    )
     (ap (λ more. length (walk_below values n) + more) (one_as_many (others n) (values n)))
 
 -- a move changes the number of values as it changes the number of publishings
-counted : {V : Type 0} (sheet : Sheet V) (o : Option (Move V)) → ((id : ℕ) (v : V) → o ≡ Some (Publish id v) → id < 2 ^ 63 - 1) → IfSome o (IsAllowed sheet)
+counted : {V : Type 0} (sheet : Sheet V) (o : Option (Move V))
+    → ((id : ℕ) (v : V) → o ≡ Some (Publish id v) → id < 2 ^ 63 - 1) → IfSome o (IsAllowed sheet)
     → length (walk (moved_if sheet o).values) ≡ publishings_with (length (walk sheet.values)) o
 unfolding walk
 counted sheet None low allowed = refl
@@ -59,13 +73,16 @@ counted sheet (Some (Rewrite others)) low allowed = as_many sheet.values others 
 counted sheet (Some Clear) low allowed = ap length (walk_below-none (λ _. None) (2 ^ 63 - 1) (λ id l. refl))
 
 -- a value is published at a held id, so below 2^63 - 1
-low_id : {V E : Type 0} (core : Core V E) (o : Option (Move V)) → CoreFits core → IfSome o (IsAllowed (shadow core)) → (id : ℕ) (v : V) → o ≡ Some (Publish id v) → id < 2 ^ 63 - 1
+low_id : {V E : Type 0} (core : Core V E) (o : Option (Move V)) → CoreFits core
+    → IfSome o (IsAllowed (shadow core)) → (id : ℕ) (v : V) → o ≡ Some (Publish id v)
+    → id < 2 ^ 63 - 1
 low_id core o h allowed id v e =
     let may = subst (λ m. IfSome m (IsAllowed (shadow core))) e allowed in
     omega (arith, h.manager.peak_ids, held_below core.manager.held id may.1)
 
 -- so after a schedule there are as many publishings as values
-pub publishings_run : {V E : Type 0} (core : Core V E) (events : List (Event V E)) (n : ℕ) → CoreFits core → length (walk (shadow core).values) ≡ n
+pub publishings_run : {V E : Type 0} (core : Core V E) (events : List (Event V E)) (n : ℕ)
+    → CoreFits core → length (walk (shadow core).values) ≡ n
     → length (walk (shadow (run core events)).values) ≡ publishings_after_all n core events
 unfolding run
 publishings_run core [] n h e = e
@@ -86,4 +103,9 @@ as_many_as_values capacity extra events l =
 pub at_most_the_peak : {V E : Type 0} (capacity extra : ℕ) (events : List (Event V E)) → capacity < 2 ^ 63
     → publishings (made_core capacity extra) events ≤ peak (run (made_core capacity extra) events)
 at_most_the_peak capacity extra events l =
-    omega (arith, as_many_as_values capacity extra events l, published_bound (run (made_core capacity extra) events) (run-fits (made_core capacity extra) events (made_core-fits capacity extra l)))
+    omega (
+      arith,
+      as_many_as_values capacity extra events l,
+      published_bound (run (made_core capacity extra) events)
+          (run-fits (made_core capacity extra) events (made_core-fits capacity extra l)),
+    )

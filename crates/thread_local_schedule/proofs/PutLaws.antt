@@ -15,9 +15,13 @@ put_cases all number it n x e =
 pub put_same : {A : Type 0} (all : ℕ → Option A) (number : ℕ) (it : Option A) → put all number it number ≡ it
 put_same all number it = rw (eq-eqb number number refl) refl
 
-pub put_other : {A : Type 0} (all : ℕ → Option A) (number : ℕ) (it : Option A) (n : ℕ) → (number ≡ n → ⊥) → put all number it n ≡ all n
+pub put_other : {A : Type 0} (all : ℕ → Option A) (number : ℕ) (it : Option A) (n : ℕ)
+    → (number ≡ n → ⊥)
+    → put all number it n ≡ all n
 put_other all number it n apart = rw (ne_eqb number n apart) refl
 
 -- what is left after one was removed
-pub still : {A : Type 0} (all : ℕ → Option A) (number n : ℕ) (x : A) → put all number None n ≡ Some x → (number ≡ n → ⊥) × (all n ≡ Some x)
+pub still : {A : Type 0} (all : ℕ → Option A) (number n : ℕ) (x : A)
+    → put all number None n ≡ Some x
+    → (number ≡ n → ⊥) × (all n ≡ Some x)
 still all number n x e = ⊎_elim (λ at. absurd cc) (λ apart. apart) (put_cases all number None n x e)

@@ -9,13 +9,17 @@ use Rattle.thread_local_schedule.specs.Events.{Event, happens, run}
 use Rattle.thread_local_schedule.specs.Schedule.{is_take, is_refused}
 use Rattle.thread_local_schedule.specs.Bounds.{TakesBelow, NothingRefused}
 
-pub private : {V E : Type 0} (id : ℕ) (doing : Doing V E) (number : ℕ) → own_number doing ≡ Some number → private_slots id doing ≡ 2 ^ bucket_of id
+pub private : {V E : Type 0} (id : ℕ) (doing : Doing V E) (number : ℕ)
+    → own_number doing ≡ Some number
+    → private_slots id doing ≡ 2 ^ bucket_of id
 private id (Gets count) number e = cc
 private id (Started create) number e = cc
 private id (Private create own) number e = refl
 private id (Written v) number e = cc
 
-pub nothing : {V E : Type 0} (core : Core V E) (events later : List (Event V E)) (event : Event V E) → NothingRefused core (events ++ event ∷ later) → is_refused (run core events) event ≡ false
+pub nothing : {V E : Type 0} (core : Core V E) (events later : List (Event V E)) (event : Event V E)
+    → NothingRefused core (events ++ event ∷ later)
+    → is_refused (run core events) event ≡ false
 unfolding run
 nothing core [] later event none = none.0
 nothing core (first ∷ events) later event none = nothing (happens core first) events later event none.1

@@ -1,5 +1,6 @@
 -- How a move changes the peak and the capacity of a sheet.
-use Rattle.std.proofs.Common.{◌≡◌, suc, ◌≤◌, max, length, Option, Some, None, refl, arith, Bool, true, false, not, ◌&&◌, cond, IsTrue, sym}
+use Rattle.std.proofs.Common.{◌≡◌, suc, ◌≤◌, max, length, Option, Some, None, refl, arith, Bool, true, false, not, ◌&&◌}
+use Rattle.std.proofs.Common.{cond, IsTrue, sym}
 use Rattle.thread_local_model.specs.Held.{held_count}
 use Rattle.thread_local_model.specs.Sheet.{Sheet, Move, Take, Give, Publish, Keep, Rewrite, Clear, moved_if}
 use Rattle.thread_local_schedule.proofs.HeldCounts.{least-le-held_count, peak_after}
@@ -7,7 +8,8 @@ use Rattle.std.proofs.lemmas.Bool.{false≢true}
 use Rattle.thread_local_model.proofs.HeldLaws as ids
 
 -- only a take raises the peak, and to at most one above the number of ids held before
-pub moved_peak : {V : Type 0} (sheet : Sheet V) (o : Option (Move V)) → length (moved_if sheet o).held ≤ max (length sheet.held) (suc (held_count sheet.held))
+pub moved_peak : {V : Type 0} (sheet : Sheet V) (o : Option (Move V))
+    → length (moved_if sheet o).held ≤ max (length sheet.held) (suc (held_count sheet.held))
 moved_peak sheet None = omega arith
 moved_peak sheet (Some Take) = omega (arith, peak_after sheet.held, least-le-held_count sheet.held)
 moved_peak sheet (Some (Give id)) = omega (arith, ids.length-without sheet.held id)
@@ -16,7 +18,8 @@ moved_peak sheet (Some (Keep id v)) = omega arith
 moved_peak sheet (Some (Rewrite others)) = omega arith
 moved_peak sheet (Some Clear) = omega arith
 
-pub same_peak : {V : Type 0} (sheet : Sheet V) (o : Option (Move V)) → (o ≡ Some Take → ⊥) → length (moved_if sheet o).held ≤ length sheet.held
+pub same_peak : {V : Type 0} (sheet : Sheet V) (o : Option (Move V)) → (o ≡ Some Take → ⊥)
+    → length (moved_if sheet o).held ≤ length sheet.held
 same_peak sheet None h = omega arith
 same_peak sheet (Some Take) h = absurd (h refl)
 same_peak sheet (Some (Give id)) h = omega (arith, ids.length-without sheet.held id)
@@ -36,11 +39,15 @@ same_capacity sheet (Some (Rewrite others)) = refl
 same_capacity sheet (Some Clear) = refl
 
 -- a move that leaves the sheet leaves it whether it is made or not
-pub settled : {V : Type 0} (sheet : Sheet V) (b : Bool) (o : Option (Move V)) → moved_if sheet o ≡ sheet → moved_if sheet (cond b o None) ≡ sheet
+pub settled : {V : Type 0} (sheet : Sheet V) (b : Bool) (o : Option (Move V))
+    → moved_if sheet o ≡ sheet
+    → moved_if sheet (cond b o None) ≡ sheet
 settled sheet true o e = e
 settled sheet false o e = refl
 
-pub untaken : {V : Type 0} (sheet : Sheet V) (enabled granted : Bool) → (enabled && not (not granted)) ≡ false → moved_if sheet (cond enabled (cond granted (Some Take) None) None) ≡ sheet
+pub untaken : {V : Type 0} (sheet : Sheet V) (enabled granted : Bool)
+    → (enabled && not (not granted)) ≡ false
+    → moved_if sheet (cond enabled (cond granted (Some Take) None) None) ≡ sheet
 untaken sheet true true e = absurd (false≢true (sym e))
 untaken sheet true false e = refl
 untaken sheet false granted e = refl

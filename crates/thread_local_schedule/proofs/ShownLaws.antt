@@ -1,5 +1,7 @@
 -- What a table shows to an owner, bucket by bucket, and how its events change that.
-use Rattle.std.proofs.Common.{◌≡◌, ℕ, ◌-◌, ◌^◌, ◌<◌, ◌≤◌, ◌⊎◌, inl, inr, Bool, true, false, cond, eqb, List, [], length, set, get_or, Option, Some, None, is_some, IsTrue, refl, ap, sym, ◌∙◌, subst, arith, ⊎_elim, pow_pos, length-set}
+use Rattle.std.proofs.Common.{◌≡◌, ℕ, ◌-◌, ◌^◌, ◌<◌, ◌≤◌, ◌⊎◌, inl, inr, Bool, true, false, cond, eqb, List, [], length}
+use Rattle.std.proofs.Common.{set, get_or, Option, Some, None, is_some, IsTrue, refl, ap, sym, ◌∙◌, subst, arith}
+use Rattle.std.proofs.Common.{⊎_elim, pow_pos, length-set}
 use Rattle.std.specs.Prelude.{nat_lt, option_map, unwrap_or}
 use Rattle.std.proofs.lemmas.Bool.{cases_eq, cases_lt, eq-eqb, ne_eqb, lt-ltb, le-ltb, false≢true}
 use Rattle.std.proofs.lemmas.List.{ext_get_or, get_or-set_same, get_or-set_other, get_or_past, length-replicate, get_or-replicate}
@@ -17,11 +19,14 @@ use Rattle.thread_local_model.proofs.RowLaws.{row-with_row-same, row-with_row-ot
 use Rattle.thread_local_model.specs.Refilled.{refilled_slot, refilled_row, refilled}
 use Rattle.thread_local_model.proofs.FillingLaws.{contents-empty}
 use Rattle.thread_local_model.proofs.RefilledLaws.{length-refilled_row, length-refilled_rows, refilled_row-at, refilled_rows-at}
-use Rattle.thread_local_schedule.specs.Table.{Slot, Bucket, fresh_bucket, Table, value_of, slot_of, slot_at, published, bucket_stands, made_table, with_fresh_bucket, with_slot_of, with_table_slot, with_flag}
+use Rattle.thread_local_schedule.specs.Table.{Slot, Bucket, fresh_bucket, Table, value_of, slot_of, slot_at, published}
+use Rattle.thread_local_schedule.specs.Table.{bucket_stands, made_table, with_fresh_bucket, with_slot_of}
+use Rattle.thread_local_schedule.specs.Table.{with_table_slot, with_flag}
 use Rattle.thread_local_schedule.specs.Cleared.{emptied_bucket, cleared}
 use Rattle.thread_local_schedule.specs.OwnerWalk.{owner_walk, rewritten_slot, rewritten_bucket, rewritten}
 use Rattle.thread_local_schedule.proofs.TableLaws.{bucket_stands-made_table, slot_at-made_table}
-use Rattle.thread_local_schedule.proofs.OwnerLaws.{owner_walk-walk, value_of-rewritten_slot, slot_of-rewritten_bucket, published-rewritten, bucket_stands-rewritten}
+use Rattle.thread_local_schedule.proofs.OwnerLaws.{owner_walk-walk, value_of-rewritten_slot, slot_of-rewritten_bucket}
+use Rattle.thread_local_schedule.proofs.OwnerLaws.{published-rewritten, bucket_stands-rewritten}
 use Rattle.thread_local_schedule.specs.Shown.{shown_row, shown}
 
 module _ {V : Type 0} where
@@ -41,7 +46,8 @@ module _ {V : Type 0} where
   length-shown_row : (here : Bucket V) (b : ℕ) → length (shown_row (Some here) b) ≡ 2 ^ b
   length-shown_row here b = length-map-range_with_len (λ index. value_of (here.slot index)) 0 (2 ^ b)
 
-  shown-at : (pointer : Option (Bucket V)) (b i : ℕ) → i < 2 ^ b → get_or (shown_row pointer b) i None ≡ value_of (slot_of pointer i)
+  shown-at : (pointer : Option (Bucket V)) (b i : ℕ) → i < 2 ^ b
+      → get_or (shown_row pointer b) i None ≡ value_of (slot_of pointer i)
   shown-at None b i inside = refl
   shown-at (Some here) b i inside = get_or-map-range_with_len (λ index. value_of (here.slot index)) 0 (2 ^ b) i i None inside (omega arith)
 
@@ -54,7 +60,9 @@ module _ {V : Type 0} where
     buckets = rows-shown table;
     whole = λ b.
         ⊎_elim
-        (λ low. subst (λ (r : List (Option V)). (length r ≡ 0) ⊎ (length r ≡ 2 ^ b)) (sym (row-shown table b low)) (whole (table.pointers b) b))
+        (λ low.
+        subst (λ (r : List (Option V)). (length r ≡ 0) ⊎ (length r ≡ 2 ^ b))
+        (sym (row-shown table b low)) (whole (table.pointers b) b))
         (λ high. inl (ap length (row-past table b high)))
         (cases_lt b 63);
   }
@@ -65,7 +73,9 @@ module _ {V : Type 0} where
 
   pub bucket_stands-shown : (table : Table V) (b : ℕ) → b < 63 → stands_for_owner (shown table) b ≡ bucket_stands table b
   unfolding bucket_stands
-  bucket_stands-shown table b low = ap (λ (r : List (Option V)). nat_lt 0 (length r)) (row-shown table b low) ∙ standing (table.pointers b) b
+  bucket_stands-shown table b low =
+      ap (λ (r : List (Option V)). nat_lt 0 (length r)) (row-shown table b low)
+      ∙ standing (table.pointers b) b
 
   pub values-shown : (table : Table V) (id : ℕ) → id < 2 ^ 63 - 1 → values (shown table) id ≡ published table id
   unfolding published slot_at
@@ -75,10 +85,15 @@ module _ {V : Type 0} where
 
   pub owner_walk-shown : (table : Table V) → owner_walk table ≡ walk (values (shown table))
   unfolding walk
-  owner_walk-shown table = owner_walk-walk table ∙ walk_below-same (published table) (values (shown table)) (2 ^ 63 - 1) (λ id below. sym (values-shown table id below))
+  owner_walk-shown table =
+      owner_walk-walk table
+      ∙ walk_below-same (published table) (values (shown table)) (2 ^ 63 - 1)
+      (λ id below. sym (values-shown table id below))
 
   -- contents of 63 equal rows are the same
-  same_contents : (c d : Contents V) → length c.rows ≡ 63 → length d.rows ≡ 63 → ((b : ℕ) → b < 63 → row c b ≡ row d b) → c ≡ d
+  same_contents : (c d : Contents V) → length c.rows ≡ 63 → length d.rows ≡ 63
+      → ((b : ℕ) → b < 63 → row c b ≡ row d b)
+      → c ≡ d
   same_contents c d m n h =
       ap (λ (rows : List (List (Option V))). let e : Contents V = record { rows = rows } in e)
       (ext_get_or [] c.rows d.rows (m ∙ sym n) (λ i inside. h i (omega (arith, m, inside))))
@@ -92,24 +107,33 @@ module _ {V : Type 0} where
       let low : i < 2 ^ b = omega (arith, inside, length-shown_row (fresh_bucket {V = V} number) b) in
       shown-at (Some (fresh_bucket number)) b i low ∙ sym (get_or-replicate (2 ^ b) i None None low))
 
-  pub shown-with_fresh_bucket : (table : Table V) (b number : ℕ) → b < 63 → bucket_stands table b ≡ false → shown (with_fresh_bucket table b number) ≡ with_bucket (shown table) b
+  pub shown-with_fresh_bucket : (table : Table V) (b number : ℕ) → b < 63
+      → bucket_stands table b ≡ false
+      → shown (with_fresh_bucket table b number) ≡ with_bucket (shown table) b
   unfolding with_fresh_bucket
   shown-with_fresh_bucket table b number low none =
       let absent : stands_for_owner (shown table) b ≡ false = bucket_stands-shown table b low ∙ none in
       let within : b < length (shown table).rows = omega (arith, low, rows-shown table) in
-      same_contents (shown (with_fresh_bucket table b number)) (with_row (shown table) b (empty_row b)) (rows-shown (with_fresh_bucket table b number)) (length-set (shown table).rows b (empty_row b) ∙ rows-shown table)
+      same_contents (shown (with_fresh_bucket table b number))
+      (with_row (shown table) b (empty_row b)) (rows-shown (with_fresh_bucket table b number))
+      (length-set (shown table).rows b (empty_row b) ∙ rows-shown table)
       (λ j below.
       row-shown (with_fresh_bucket table b number) j below
       ∙ ⊎_elim
       (λ (here : b ≡ j).
-      let P : ℕ → Type 0 = λ k. shown_row (cond (eqb b k) (Some (fresh_bucket number)) (table.pointers k)) k ≡ row (with_row (shown table) b (empty_row b)) k in
+      let P : ℕ → Type 0 = λ k.
+      shown_row (cond (eqb b k) (Some (fresh_bucket number)) (table.pointers k)) k
+      ≡ row (with_row (shown table) b (empty_row b)) k in
       subst P here (rw (eq-eqb b b refl) (fresh number b ∙ sym (row-with_row-same (shown table) b (empty_row b) within))))
-      (λ apart. rw (ne_eqb b j apart) (sym (row-shown table j below) ∙ sym (row-with_row-other (shown table) b j (empty_row b) (λ e. apart (sym e)))))
+      (λ apart.
+      rw (ne_eqb b j apart) (sym (row-shown table j below)
+      ∙ sym (row-with_row-other (shown table) b j (empty_row b) (λ e. apart (sym e)))))
       (cases_eq b j))
       ∙ sym (ap (λ t. cond t (shown table) (with_row (shown table) b (empty_row b))) absent)
 
   -- a changed slot changes one entry of its row
-  shown_row-with_slot_of : (pointer : Option (Bucket V)) (b i : ℕ) (slot : Slot V) (v : V) → IsTrue (is_some pointer) → i < 2 ^ b → value_of slot ≡ Some v
+  shown_row-with_slot_of : (pointer : Option (Bucket V)) (b i : ℕ) (slot : Slot V) (v : V)
+      → IsTrue (is_some pointer) → i < 2 ^ b → value_of slot ≡ Some v
       → shown_row (with_slot_of pointer i slot) b ≡ set (shown_row pointer b) i (Some v)
   shown_row-with_slot_of None b i slot v t inside shows = cc
   shown_row-with_slot_of (Some here) b i slot v t inside shows =
@@ -121,12 +145,21 @@ module _ {V : Type 0} where
       shown-at (Some after) b j below
       ∙ ⊎_elim
       (λ (same : i ≡ j).
-      let P : ℕ → Type 0 = λ k. value_of (cond (eqb i k) slot (here.slot k)) ≡ get_or (set (shown_row (Some here) b) i (Some v)) k None in
-      subst P same (rw (eq-eqb i i refl) (shows ∙ sym (get_or-set_same (shown_row (Some here) b) i (Some v) None (omega (arith, inside, length-shown_row here b))))))
-      (λ apart. rw (ne_eqb i j apart) (sym (shown-at (Some here) b j below) ∙ sym (get_or-set_other (shown_row (Some here) b) i j (Some v) None (λ e. apart (sym e)))))
+      let P : ℕ → Type 0 = λ k.
+      value_of (cond (eqb i k) slot (here.slot k))
+      ≡ get_or (set (shown_row (Some here) b) i (Some v)) k None in
+      subst P same (rw (eq-eqb i i refl)
+      (shows
+      ∙ sym (get_or-set_same (shown_row (Some here) b) i (Some v) None
+      (omega (arith, inside, length-shown_row here b))))))
+      (λ apart.
+      rw (ne_eqb i j apart) (sym (shown-at (Some here) b j below)
+      ∙ sym
+      (get_or-set_other (shown_row (Some here) b) i j (Some v) None (λ e. apart (sym e)))))
       (cases_eq i j))
 
-  pub shown-with_flag : (table : Table V) (id : ℕ) (v : V) → id < 2 ^ 63 - 1 → IsTrue (bucket_stands table (bucket_of id)) → (slot_at table id).written ≡ Some v
+  pub shown-with_flag : (table : Table V) (id : ℕ) (v : V) → id < 2 ^ 63 - 1
+      → IsTrue (bucket_stands table (bucket_of id)) → (slot_at table id).written ≡ Some v
       → shown (with_flag table id) ≡ with_published (shown table) (bucket_of id) (index_of id) v
   unfolding with_table_slot bucket_stands
   shown-with_flag table id v below t written =
@@ -135,31 +168,52 @@ module _ {V : Type 0} where
       let low = place.bucket_of-below id below in
       let slot : Slot V = record (slot_at table id) { flag = true } in
       let within : b < length (shown table).rows = omega (arith, low, rows-shown table) in
-      same_contents (shown (with_flag table id)) (with_owners_slot (shown table) b i (Some v)) (rows-shown (with_flag table id)) (length-set (shown table).rows b (set (row (shown table) b) i (Some v)) ∙ rows-shown table)
+      same_contents (shown (with_flag table id)) (with_owners_slot (shown table) b i (Some v))
+      (rows-shown (with_flag table id))
+      (length-set (shown table).rows b (set (row (shown table) b) i (Some v)) ∙ rows-shown table)
       (λ j beneath.
       row-shown (with_flag table id) j beneath
       ∙ ⊎_elim
       (λ (here : b ≡ j).
-      let P : ℕ → Type 0 = λ k. shown_row (cond (eqb b k) (with_slot_of (table.pointers k) i slot) (table.pointers k)) k ≡ row (with_owners_slot (shown table) b i (Some v)) k in
+      let P : ℕ → Type 0 = λ k.
+      shown_row (cond (eqb b k) (with_slot_of (table.pointers k) i slot) (table.pointers k)) k
+      ≡ row (with_owners_slot (shown table) b i (Some v)) k in
       subst P here
       (rw (eq-eqb b b refl)
       (shown_row-with_slot_of (table.pointers b) b i slot v t (place.inside id) written
       ∙ sym (ap (λ (r : List (Option V)). set r i (Some v)) (row-shown table b low))
       ∙ sym (row-with_row-same (shown table) b (set (row (shown table) b) i (Some v)) within))))
-      (λ apart. rw (ne_eqb b j apart) (sym (row-shown table j beneath) ∙ sym (row-with_row-other (shown table) b j (set (row (shown table) b) i (Some v)) (λ e. apart (sym e)))))
+      (λ apart.
+      rw (ne_eqb b j apart) (sym (row-shown table j beneath)
+      ∙ sym (row-with_row-other (shown table) b j (set (row (shown table) b) i (Some v))
+      (λ e. apart (sym e)))))
       (cases_eq b j))
-      ∙ sym (ap (λ s. with_owners_slot (cond s (shown table) (with_row (shown table) b (empty_row b))) b i (Some v)) (bucket_stands-shown table b low ∙ t))
+      ∙ sym
+      (ap (λ s.
+      with_owners_slot (cond s (shown table) (with_row (shown table) b (empty_row b))) b i
+      (Some v))
+      (bucket_stands-shown table b low ∙ t))
 
-  pub values-shown-rewritten : (table : Table V) (others : ℕ → V → V) (id : ℕ) → id < 2 ^ 63 - 1 → values (shown (rewritten table others)) id ≡ option_map (others id) (values (shown table) id)
+  pub values-shown-rewritten : (table : Table V) (others : ℕ → V → V) (id : ℕ) → id < 2 ^ 63 - 1
+      → values (shown (rewritten table others)) id
+      ≡ option_map (others id) (values (shown table) id)
   values-shown-rewritten table others id below =
-      values-shown (rewritten table others) id below ∙ published-rewritten table others id ∙ sym (ap (option_map (others id)) (values-shown table id below))
+      values-shown (rewritten table others) id below
+      ∙ published-rewritten table others id
+      ∙ sym (ap (option_map (others id)) (values-shown table id below))
 
-  pub bucket_stands-shown-rewritten : (table : Table V) (others : ℕ → V → V) (b : ℕ) → b < 63 → stands_for_owner (shown (rewritten table others)) b ≡ stands_for_owner (shown table) b
-  bucket_stands-shown-rewritten table others b low = bucket_stands-shown (rewritten table others) b low ∙ bucket_stands-rewritten table others b ∙ sym (bucket_stands-shown table b low)
+  pub bucket_stands-shown-rewritten : (table : Table V) (others : ℕ → V → V) (b : ℕ) → b < 63
+      → stands_for_owner (shown (rewritten table others)) b ≡ stands_for_owner (shown table) b
+  bucket_stands-shown-rewritten table others b low =
+      bucket_stands-shown (rewritten table others) b low
+      ∙ bucket_stands-rewritten table others b
+      ∙ sym (bucket_stands-shown table b low)
 
   -- an owner's writes refill what is shown
   shown_row-refilled : (others : ℕ → V → V) (pointer : Option (Bucket V)) (b : ℕ) (ws : List (Option V))
-      → ((i : ℕ) → i < 2 ^ b → option_map (others i) (value_of (slot_of pointer i)) ≡ refilled_slot (value_of (slot_of pointer i)) (get_or ws i None))
+      → ((i : ℕ) → i < 2 ^ b
+      → option_map (others i) (value_of (slot_of pointer i))
+      ≡ refilled_slot (value_of (slot_of pointer i)) (get_or ws i None))
       → shown_row (rewritten_bucket others pointer) b ≡ refilled_row (shown_row pointer b) ws
   shown_row-refilled others None b ws h = refl
   shown_row-refilled others (Some here) b ws h =
@@ -175,11 +229,16 @@ module _ {V : Type 0} where
       ∙ sym (refilled_row-at (shown_row (Some here) b) ws i))
 
   shown-refilled : (table : Table V) (others : ℕ → V → V) (written : Contents V)
-      → ((b i : ℕ) → b < 63 → i < 2 ^ b → option_map (others (id_at b i)) (value_of (slot_of (table.pointers b) i)) ≡ refilled_slot (value_of (slot_of (table.pointers b) i)) (get_or (row written b) i None))
+      → ((b i : ℕ) → b < 63 → i < 2 ^ b
+      → option_map (others (id_at b i)) (value_of (slot_of (table.pointers b) i))
+      ≡ refilled_slot (value_of (slot_of (table.pointers b) i))
+      (get_or (row written b) i None))
       → shown (rewritten table others) ≡ refilled (shown table) written
   unfolding rewritten
   shown-refilled table others written h =
-      same_contents (shown (rewritten table others)) (refilled (shown table) written) (rows-shown (rewritten table others)) (length-refilled_rows (shown table).rows written.rows ∙ rows-shown table)
+      same_contents (shown (rewritten table others)) (refilled (shown table) written)
+      (rows-shown (rewritten table others))
+      (length-refilled_rows (shown table).rows written.rows ∙ rows-shown table)
       (λ b low.
       row-shown (rewritten table others) b low
       ∙ shown_row-refilled (λ i. others (id_at b i)) (table.pointers b) b (row written b) (λ i inside. h b i low inside)
@@ -191,7 +250,8 @@ module _ {V : Type 0} where
   by_itself f None = refl
   by_itself f (Some x) = refl
 
-  pub rewritten-refills : (table : Table V) (others : ℕ → V → V) → shown (rewritten table others) ≡ refilled (shown table) (shown (rewritten table others))
+  pub rewritten-refills : (table : Table V) (others : ℕ → V → V)
+      → shown (rewritten table others) ≡ refilled (shown table) (shown (rewritten table others))
   unfolding rewritten
   rewritten-refills table others =
       shown-refilled table others (shown (rewritten table others))
@@ -210,18 +270,23 @@ module _ {V : Type 0} where
   by_its_values (Some x) None = refl
   by_its_values (Some x) (Some y) = refl
 
-  pub refilled-rewrites : (table : Table V) (written : Contents V) → shown (rewritten table (λ id. unwrap_or (values written id))) ≡ refilled (shown table) written
+  pub refilled-rewrites : (table : Table V) (written : Contents V)
+      → shown (rewritten table (λ id. unwrap_or (values written id)))
+      ≡ refilled (shown table) written
   refilled-rewrites table written =
       shown-refilled table (λ id. unwrap_or (values written id)) written
       (λ b i low inside.
       let at = place.place-id_at b i inside in
       let slot = slot_of (table.pointers b) i in
       let there : values written (id_at b i) ≡ get_or (row written b) i None =
-      ap (λ (k : ℕ). get_or (row written k) (index_of (id_at b i)) None) at.0 ∙ ap (λ (k : ℕ). get_or (row written b) k None) at.1 in
-      ap (λ (w : Option V). option_map (unwrap_or w) (value_of slot)) there ∙ by_its_values (value_of slot) (get_or (row written b) i None))
+      ap (λ (k : ℕ). get_or (row written k) (index_of (id_at b i)) None) at.0
+      ∙ ap (λ (k : ℕ). get_or (row written b) k None) at.1 in
+      ap (λ (w : Option V). option_map (unwrap_or w) (value_of slot)) there
+      ∙ by_its_values (value_of slot) (get_or (row written b) i None))
 
 -- a table of a capacity shows its buckets, with no value
-pub bucket_stands-shown-made : (V : Type 0) (capacity b : ℕ) → b < 63 → stands_for_owner (shown (made_table {V = V} capacity)) b ≡ reserves_bucket capacity b
+pub bucket_stands-shown-made : (V : Type 0) (capacity b : ℕ) → b < 63
+    → stands_for_owner (shown (made_table {V = V} capacity)) b ≡ reserves_bucket capacity b
 bucket_stands-shown-made V capacity b low = bucket_stands-shown (made_table capacity) b low ∙ bucket_stands-made_table V capacity b
 
 pub values-shown-made : (V : Type 0) (capacity id : ℕ) → id < 2 ^ 63 - 1 → values (shown (made_table {V = V} capacity)) id ≡ None
@@ -239,7 +304,10 @@ pub shown-new : (V : Type 0) → shown (made_table {V = V} 0) ≡ no_contents
 unfolding bucket_stands binary_digits
 shown-new V =
     contents-empty (shown (made_table 0)) 63 (rows-shown (made_table 0)) (omega arith)
-    (λ b low. row-shown (made_table 0) b low ∙ no_row ((made_table {V = V} 0).pointers b) b (bucket_stands-made_table V 0 b ∙ none_below 0 b refl))
+    (λ b low.
+    row-shown (made_table 0) b low
+    ∙ no_row ((made_table {V = V} 0).pointers b) b
+    (bucket_stands-made_table V 0 b ∙ none_below 0 b refl))
 
 -- a cleared table shows the reserved buckets, with all slots empty, and no other
 row_of-emptied : {V : Type 0} (reserved : Bool) (pointer : Option (Bucket V)) (b : ℕ) → (IsTrue reserved → IsTrue (is_some pointer))
@@ -248,16 +316,23 @@ row_of-emptied true None b stood = absurd (false≢true (stood refl))
 row_of-emptied true (Some here) b stood = fresh here.number b
 row_of-emptied false pointer b stood = refl
 
-row_of-made : {V : Type 0} (reserved : Bool) (number b : ℕ) → shown_row {V = V} (cond reserved (Some (fresh_bucket number)) None) b ≡ cond reserved (empty_row b) []
+row_of-made : {V : Type 0} (reserved : Bool) (number b : ℕ)
+    → shown_row {V = V} (cond reserved (Some (fresh_bucket number)) None) b
+    ≡ cond reserved (empty_row b) []
 row_of-made true number b = fresh number b
 row_of-made false number b = refl
 
-row-cleared : {V : Type 0} (table : Table V) (capacity b : ℕ) → (IsTrue (reserves_bucket capacity b) → IsTrue (bucket_stands table b)) → b < 63
+row-cleared : {V : Type 0} (table : Table V) (capacity b : ℕ)
+    → (IsTrue (reserves_bucket capacity b) → IsTrue (bucket_stands table b)) → b < 63
     → row (shown (cleared table capacity)) b ≡ cond (reserves_bucket capacity b) (empty_row b) []
 unfolding cleared bucket_stands
-row-cleared table capacity b stood low = row-shown (cleared table capacity) b low ∙ row_of-emptied (reserves_bucket capacity b) (table.pointers b) b stood
+row-cleared table capacity b stood low =
+    row-shown (cleared table capacity) b low
+    ∙ row_of-emptied (reserves_bucket capacity b) (table.pointers b) b stood
 
-row-made : (V : Type 0) (capacity b : ℕ) → b < 63 → row (shown (made_table {V = V} capacity)) b ≡ cond (reserves_bucket capacity b) (empty_row b) []
+row-made : (V : Type 0) (capacity b : ℕ) → b < 63
+    → row (shown (made_table {V = V} capacity)) b
+    ≡ cond (reserves_bucket capacity b) (empty_row b) []
 unfolding made_table
 row-made V capacity b low = row-shown (made_table capacity) b low ∙ row_of-made (reserves_bucket capacity b) b b
 
@@ -275,14 +350,17 @@ reserved_first capacity b =
     (λ t. both.1 (subst (λ k. IsTrue (reserves_bucket capacity k)) (sym at) t))
     (λ t. subst (λ k. IsTrue (reserves_bucket capacity k)) at (both.0 t))
 
-pub shown-cleared_row : {V : Type 0} (table : Table V) (capacity b : ℕ) → (IsTrue (reserves_bucket capacity b) → IsTrue (bucket_stands table b)) → b < 63
+pub shown-cleared_row : {V : Type 0} (table : Table V) (capacity b : ℕ)
+    → (IsTrue (reserves_bucket capacity b) → IsTrue (bucket_stands table b)) → b < 63
     → row (shown (cleared table capacity)) b ≡ cond (is_reserved capacity (id_at b 0)) (empty_row b) []
 shown-cleared_row table capacity b stood low =
     row-cleared table capacity b stood low ∙ ap (λ reserved. cond reserved (empty_row b) []) (reserved_first capacity b)
 
 -- so a cleared table shows what a table made with the capacity does
-pub shown-cleared : {V : Type 0} (table : Table V) (capacity : ℕ) → ((b : ℕ) → IsTrue (reserves_bucket capacity b) → IsTrue (bucket_stands table b))
+pub shown-cleared : {V : Type 0} (table : Table V) (capacity : ℕ)
+    → ((b : ℕ) → IsTrue (reserves_bucket capacity b) → IsTrue (bucket_stands table b))
     → shown (cleared table capacity) ≡ shown (made_table capacity)
 shown-cleared table capacity stood =
-    same_contents (shown (cleared table capacity)) (shown (made_table capacity)) (rows-shown (cleared table capacity)) (rows-shown (made_table capacity))
+    same_contents (shown (cleared table capacity)) (shown (made_table capacity))
+    (rows-shown (cleared table capacity)) (rows-shown (made_table capacity))
     (λ b low. row-cleared table capacity b (stood b) low ∙ sym (row-made _ capacity b low))

@@ -1,9 +1,12 @@
 -- How installing a bucket and changing a slot change what a table shows.
-use Rattle.std.proofs.Common.{◌≡◌, ℕ, ◌^◌, Bool, true, false, cond, eqb, IsTrue, Option, Some, None, is_some, refl, ap, sym, ◌∙◌, arith, ⊎_elim}
+use Rattle.std.proofs.Common.{◌≡◌, ℕ, ◌^◌, Bool, true, false, cond, eqb, IsTrue, Option, Some, None, is_some, refl, ap}
+use Rattle.std.proofs.Common.{sym, ◌∙◌, arith, ⊎_elim}
 use Rattle.std.proofs.lemmas.Bool.{cases_eq, cases_Bool, eq-eqb, ne_eqb, false≢true}
 use Rattle.thread_local_model.specs.Place.{bucket_of, index_of}
 use Rattle.thread_local_model.proofs.PlaceLaws as place
-use Rattle.thread_local_schedule.specs.Table.{Slot, empty_slot, value_of, Bucket, fresh_bucket, Table, slot_of, slot_at, published, bucket_stands, with_fresh_bucket, with_slot_of, with_table_slot, made_table}
+use Rattle.thread_local_schedule.specs.Table.{Slot, empty_slot, value_of, Bucket, fresh_bucket, Table, slot_of, slot_at}
+use Rattle.thread_local_schedule.specs.Table.{published, bucket_stands, with_fresh_bucket, with_slot_of}
+use Rattle.thread_local_schedule.specs.Table.{with_table_slot, made_table}
 use Rattle.thread_local_model.specs.Capacity.{reserves_bucket}
 use Rattle.thread_local_schedule.specs.Local.{offered}
 use Rattle.thread_local_schedule.specs.Fits.{named}
@@ -21,32 +24,43 @@ same_id id other b i =
     omega arith
 
 -- one slot of a bucket changes, and the others stay
-slot_of-with_slot_of_same : {V : Type 0} (pointer : Option (Bucket V)) (index : ℕ) (slot : Slot V) → IsTrue (is_some pointer) → slot_of (with_slot_of pointer index slot) index ≡ slot
+slot_of-with_slot_of_same : {V : Type 0} (pointer : Option (Bucket V)) (index : ℕ) (slot : Slot V)
+    → IsTrue (is_some pointer)
+    → slot_of (with_slot_of pointer index slot) index ≡ slot
 slot_of-with_slot_of_same None index slot t = cc
 slot_of-with_slot_of_same (Some bucket) index slot t = rw (eq-eqb index index refl) refl
 
-slot_of-with_slot_of_other : {V : Type 0} (pointer : Option (Bucket V)) (index i : ℕ) (slot : Slot V) → (index ≡ i → ⊥) → slot_of (with_slot_of pointer index slot) i ≡ slot_of pointer i
+slot_of-with_slot_of_other : {V : Type 0} (pointer : Option (Bucket V)) (index i : ℕ)
+    (slot : Slot V)
+    → (index ≡ i → ⊥)
+    → slot_of (with_slot_of pointer index slot) i ≡ slot_of pointer i
 slot_of-with_slot_of_other None index i slot apart = refl
 slot_of-with_slot_of_other (Some bucket) index i slot apart = rw (ne_eqb index i apart) refl
 
 -- the slot of an id changes, and those of other ids stay
-pub slot_at-with_slot_same : {V : Type 0} (table : Table V) (id : ℕ) (slot : Slot V) → IsTrue (bucket_stands table (bucket_of id)) → slot_at (with_table_slot table id slot) id ≡ slot
+pub slot_at-with_slot_same : {V : Type 0} (table : Table V) (id : ℕ) (slot : Slot V)
+    → IsTrue (bucket_stands table (bucket_of id))
+    → slot_at (with_table_slot table id slot) id ≡ slot
 unfolding slot_at with_table_slot bucket_stands
 slot_at-with_slot_same table id slot t =
     rw (eq-eqb (bucket_of id) (bucket_of id) refl) (slot_of-with_slot_of_same (table.pointers (bucket_of id)) (index_of id) slot t)
 
-pub slot_at-with_slot_other : {V : Type 0} (table : Table V) (id other : ℕ) (slot : Slot V) → (id ≡ other → ⊥) → slot_at (with_table_slot table id slot) other ≡ slot_at table other
+pub slot_at-with_slot_other : {V : Type 0} (table : Table V) (id other : ℕ) (slot : Slot V)
+    → (id ≡ other → ⊥)
+    → slot_at (with_table_slot table id slot) other ≡ slot_at table other
 unfolding slot_at with_table_slot
 slot_at-with_slot_other table id other slot apart =
     ⊎_elim
     (λ same.
     rw (eq-eqb (bucket_of id) (bucket_of other) same)
-    (slot_of-with_slot_of_other (table.pointers (bucket_of other)) (index_of id) (index_of other) slot (λ i. apart (same_id id other same i))))
+    (slot_of-with_slot_of_other (table.pointers (bucket_of other)) (index_of id) (index_of other)
+    slot (λ i. apart (same_id id other same i))))
     (λ elsewhere. rw (ne_eqb (bucket_of id) (bucket_of other) elsewhere) refl)
     (cases_eq (bucket_of id) (bucket_of other))
 
 -- a changed slot leaves each pointer at the bucket that it led to
-some-with_slot_of : {V : Type 0} (pointer : Option (Bucket V)) (index : ℕ) (slot : Slot V) → is_some (with_slot_of pointer index slot) ≡ is_some pointer
+some-with_slot_of : {V : Type 0} (pointer : Option (Bucket V)) (index : ℕ) (slot : Slot V)
+    → is_some (with_slot_of pointer index slot) ≡ is_some pointer
 some-with_slot_of None index slot = refl
 some-with_slot_of (Some bucket) index slot = refl
 
@@ -54,30 +68,43 @@ same-cond : {A B : Type 0} (f : A → B) (b : Bool) (x y : A) → f x ≡ f y �
 same-cond f true x y h = h
 same-cond f false x y h = refl
 
-pub bucket_stands-with_table_slot : {V : Type 0} (table : Table V) (id bucket : ℕ) (slot : Slot V) → bucket_stands (with_table_slot table id slot) bucket ≡ bucket_stands table bucket
+pub bucket_stands-with_table_slot : {V : Type 0} (table : Table V) (id bucket : ℕ) (slot : Slot V)
+    → bucket_stands (with_table_slot table id slot) bucket ≡ bucket_stands table bucket
 unfolding bucket_stands with_table_slot
 bucket_stands-with_table_slot table id bucket slot =
-    same-cond is_some (eqb (bucket_of id) bucket) (with_slot_of (table.pointers bucket) (index_of id) slot) (table.pointers bucket) (some-with_slot_of (table.pointers bucket) (index_of id) slot)
+    same-cond is_some (eqb (bucket_of id) bucket)
+    (with_slot_of (table.pointers bucket) (index_of id) slot) (table.pointers bucket)
+    (some-with_slot_of (table.pointers bucket) (index_of id) slot)
 
 -- a null pointer has empty slots
-slot_of-none : {V : Type 0} (pointer : Option (Bucket V)) (index : ℕ) → is_some pointer ≡ false → slot_of pointer index ≡ empty_slot
+slot_of-none : {V : Type 0} (pointer : Option (Bucket V)) (index : ℕ) → is_some pointer ≡ false
+    → slot_of pointer index ≡ empty_slot
 slot_of-none None index none = refl
 slot_of-none (Some bucket) index none = cc
 
-pub slot_at-none : {V : Type 0} (table : Table V) (id : ℕ) → bucket_stands table (bucket_of id) ≡ false → slot_at table id ≡ empty_slot
+pub slot_at-none : {V : Type 0} (table : Table V) (id : ℕ)
+    → bucket_stands table (bucket_of id) ≡ false
+    → slot_at table id ≡ empty_slot
 unfolding slot_at bucket_stands
 slot_at-none table id none = slot_of-none (table.pointers (bucket_of id)) (index_of id) none
 
 -- a new bucket has empty slots, which its null pointer showed too
-pub slot_at-with_fresh_bucket : {V : Type 0} (table : Table V) (bucket number id : ℕ) → bucket_stands table bucket ≡ false → slot_at (with_fresh_bucket table bucket number) id ≡ slot_at table id
+pub slot_at-with_fresh_bucket : {V : Type 0} (table : Table V) (bucket number id : ℕ)
+    → bucket_stands table bucket ≡ false
+    → slot_at (with_fresh_bucket table bucket number) id ≡ slot_at table id
 unfolding slot_at with_fresh_bucket bucket_stands
 slot_at-with_fresh_bucket table bucket number id none =
     ⊎_elim
-    (λ here. rw (eq-eqb bucket (bucket_of id) here) (sym (slot_of-none (table.pointers (bucket_of id)) (index_of id) (ap (λ b. is_some (table.pointers b)) (sym here) ∙ none))))
+    (λ here.
+    rw (eq-eqb bucket (bucket_of id) here)
+    (sym (slot_of-none (table.pointers (bucket_of id)) (index_of id)
+    (ap (λ b. is_some (table.pointers b)) (sym here) ∙ none))))
     (λ apart. rw (ne_eqb bucket (bucket_of id) apart) refl)
     (cases_eq bucket (bucket_of id))
 
-pub bucket_stands-with_fresh_bucket : {V : Type 0} (table : Table V) (bucket number other : ℕ) → bucket_stands (with_fresh_bucket table bucket number) other ≡ cond (eqb bucket other) true (bucket_stands table other)
+pub bucket_stands-with_fresh_bucket : {V : Type 0} (table : Table V) (bucket number other : ℕ)
+    → bucket_stands (with_fresh_bucket table bucket number) other
+    ≡ cond (eqb bucket other) true (bucket_stands table other)
 unfolding bucket_stands with_fresh_bucket
 bucket_stands-with_fresh_bucket table bucket number other =
     ⊎_elim
@@ -86,15 +113,19 @@ bucket_stands-with_fresh_bucket table bucket number other =
     (cases_eq bucket other)
 
 -- an offer changes no slot, its bucket stands, and every other stands that stood
-slot_at-offer : {V : Type 0} (table : Table V) (bucket number id : ℕ) (b : Bool) → bucket_stands table bucket ≡ b → slot_at (cond b table (with_fresh_bucket table bucket number)) id ≡ slot_at table id
+slot_at-offer : {V : Type 0} (table : Table V) (bucket number id : ℕ) (b : Bool)
+    → bucket_stands table bucket ≡ b
+    → slot_at (cond b table (with_fresh_bucket table bucket number)) id ≡ slot_at table id
 slot_at-offer table bucket number id true t = refl
 slot_at-offer table bucket number id false f = slot_at-with_fresh_bucket table bucket number id f
 
-pub slot_at-offered : {V : Type 0} (table : Table V) (bucket number id : ℕ) → slot_at (offered table bucket number) id ≡ slot_at table id
+pub slot_at-offered : {V : Type 0} (table : Table V) (bucket number id : ℕ)
+    → slot_at (offered table bucket number) id ≡ slot_at table id
 slot_at-offered table bucket number id = slot_at-offer table bucket number id (bucket_stands table bucket) refl
 
 bucket_stands-offer : {V : Type 0} (table : Table V) (bucket number other : ℕ) (b : Bool) → bucket_stands table bucket ≡ b
-    → bucket_stands (cond b table (with_fresh_bucket table bucket number)) other ≡ cond (eqb bucket other) true (bucket_stands table other)
+    → bucket_stands (cond b table (with_fresh_bucket table bucket number)) other
+    ≡ cond (eqb bucket other) true (bucket_stands table other)
 bucket_stands-offer table bucket number other true t =
     ⊎_elim
     (λ here. rw (eq-eqb bucket other here) (ap (bucket_stands table) (sym here) ∙ t))
@@ -102,15 +133,19 @@ bucket_stands-offer table bucket number other true t =
     (cases_eq bucket other)
 bucket_stands-offer table bucket number other false f = bucket_stands-with_fresh_bucket table bucket number other
 
-pub bucket_stands-offered : {V : Type 0} (table : Table V) (bucket number other : ℕ) → bucket_stands (offered table bucket number) other ≡ cond (eqb bucket other) true (bucket_stands table other)
+pub bucket_stands-offered : {V : Type 0} (table : Table V) (bucket number other : ℕ)
+    → bucket_stands (offered table bucket number) other
+    ≡ cond (eqb bucket other) true (bucket_stands table other)
 bucket_stands-offered table bucket number other = bucket_stands-offer table bucket number other (bucket_stands table bucket) refl
 
-pub published-slot_at : {V : Type 0} (old new : Table V) (id : ℕ) → slot_at new id ≡ slot_at old id → published new id ≡ published old id
+pub published-slot_at : {V : Type 0} (old new : Table V) (id : ℕ) → slot_at new id ≡ slot_at old id
+    → published new id ≡ published old id
 unfolding published
 published-slot_at old new id same = ap value_of same
 
 -- a value is published only where the bucket stands
-pub published_stands : {V : Type 0} (table : Table V) (id : ℕ) (v : V) → published table id ≡ Some v → IsTrue (bucket_stands table (bucket_of id))
+pub published_stands : {V : Type 0} (table : Table V) (id : ℕ) (v : V) → published table id ≡ Some v
+    → IsTrue (bucket_stands table (bucket_of id))
 unfolding published
 published_stands table id v h =
     ⊎_elim (λ t. t)
@@ -127,7 +162,8 @@ pub slot_at-made : {V : Type 0} (table : Table V) (made id : ℕ) → slot_at (r
 unfolding slot_at
 slot_at-made table made id = refl
 
-pub bucket_stands-made : {V : Type 0} (table : Table V) (made bucket : ℕ) → bucket_stands (record table { made = made }) bucket ≡ bucket_stands table bucket
+pub bucket_stands-made : {V : Type 0} (table : Table V) (made bucket : ℕ)
+    → bucket_stands (record table { made = made }) bucket ≡ bucket_stands table bucket
 unfolding bucket_stands
 bucket_stands-made table made bucket = refl
 
@@ -136,30 +172,43 @@ unfolding named
 named-made table made bucket = refl
 
 -- a changed slot leaves every pointer at its bucket
-named-with_table_slot_of : {V : Type 0} (pointer : Option (Bucket V)) (index : ℕ) (slot : Slot V) → option_map (λ here. here.number) (with_slot_of pointer index slot) ≡ option_map (λ here. here.number) pointer
+named-with_table_slot_of : {V : Type 0} (pointer : Option (Bucket V)) (index : ℕ) (slot : Slot V)
+    → option_map (λ here. here.number) (with_slot_of pointer index slot)
+    ≡ option_map (λ here. here.number) pointer
 named-with_table_slot_of None index slot = refl
 named-with_table_slot_of (Some bucket) index slot = refl
 
-pub named-with_table_slot : {V : Type 0} (table : Table V) (id bucket : ℕ) (slot : Slot V) → named (with_table_slot table id slot) bucket ≡ named table bucket
+pub named-with_table_slot : {V : Type 0} (table : Table V) (id bucket : ℕ) (slot : Slot V)
+    → named (with_table_slot table id slot) bucket ≡ named table bucket
 unfolding named with_table_slot
 named-with_table_slot table id bucket slot =
-    same-cond (λ pointer. option_map (λ here. here.number) pointer) (eqb (bucket_of id) bucket) (with_slot_of (table.pointers bucket) (index_of id) slot) (table.pointers bucket) (named-with_table_slot_of (table.pointers bucket) (index_of id) slot)
+    same-cond (λ pointer. option_map (λ here. here.number) pointer) (eqb (bucket_of id) bucket)
+    (with_slot_of (table.pointers bucket) (index_of id) slot) (table.pointers bucket)
+    (named-with_table_slot_of (table.pointers bucket) (index_of id) slot)
 
 -- an offer leaves every other pointer at its bucket, and its own if it isn't null
-pub named-with_fresh_bucket : {V : Type 0} (table : Table V) (bucket number other : ℕ) → (bucket ≡ other → ⊥) → named (with_fresh_bucket table bucket number) other ≡ named table other
+pub named-with_fresh_bucket : {V : Type 0} (table : Table V) (bucket number other : ℕ)
+    → (bucket ≡ other → ⊥)
+    → named (with_fresh_bucket table bucket number) other ≡ named table other
 unfolding named with_fresh_bucket
 named-with_fresh_bucket table bucket number other apart = rw (ne_eqb bucket other apart) refl
 
-named-offer : {V : Type 0} (table : Table V) (bucket number other : ℕ) (b : Bool) → bucket_stands table bucket ≡ b → IsTrue (bucket_stands table other)
+named-offer : {V : Type 0} (table : Table V) (bucket number other : ℕ) (b : Bool)
+    → bucket_stands table bucket ≡ b → IsTrue (bucket_stands table other)
     → named (cond b table (with_fresh_bucket table bucket number)) other ≡ named table other
 named-offer table bucket number other true t stood = refl
-named-offer table bucket number other false f stood = named-with_fresh_bucket table bucket number other (λ same. false≢true (sym f ∙ ap (bucket_stands table) same ∙ stood))
+named-offer table bucket number other false f stood =
+    named-with_fresh_bucket table bucket number other
+    (λ same. false≢true (sym f ∙ ap (bucket_stands table) same ∙ stood))
 
-pub named-offered : {V : Type 0} (table : Table V) (bucket number other : ℕ) → IsTrue (bucket_stands table other) → named (offered table bucket number) other ≡ named table other
+pub named-offered : {V : Type 0} (table : Table V) (bucket number other : ℕ)
+    → IsTrue (bucket_stands table other)
+    → named (offered table bucket number) other ≡ named table other
 named-offered table bucket number other stood = named-offer table bucket number other (bucket_stands table bucket) refl stood
 
 -- the table of a capacity has a bucket for each binary digit, and empty slots
-slot_of-made : {V : Type 0} (b : Bool) (number index : ℕ) → slot_of {V = V} (cond b (Some (fresh_bucket number)) None) index ≡ empty_slot
+slot_of-made : {V : Type 0} (b : Bool) (number index : ℕ)
+    → slot_of {V = V} (cond b (Some (fresh_bucket number)) None) index ≡ empty_slot
 slot_of-made true number index = refl
 slot_of-made false number index = refl
 
@@ -171,7 +220,8 @@ some-made : {A : Type 0} (b : Bool) (x : A) → is_some (cond b (Some x) None) �
 some-made true x = refl
 some-made false x = refl
 
-pub bucket_stands-made_table : (T : Type 0) (capacity bucket : ℕ) → bucket_stands {V = T} (made_table capacity) bucket ≡ reserves_bucket capacity bucket
+pub bucket_stands-made_table : (T : Type 0) (capacity bucket : ℕ)
+    → bucket_stands {V = T} (made_table capacity) bucket ≡ reserves_bucket capacity bucket
 unfolding bucket_stands made_table
 bucket_stands-made_table T capacity bucket = some-made {A = Bucket T} (reserves_bucket capacity bucket) (fresh_bucket bucket)
 

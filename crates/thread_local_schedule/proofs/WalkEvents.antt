@@ -1,5 +1,6 @@
 -- What every event does to the shared walks: only a walk's own steps and its end change it.
-use Rattle.std.proofs.Common.{◌≡◌, ℕ, Bool, true, false, cond, Option, Some, None, is_some, IsTrue, IfSome, IsSomeAnd, refl, ap, sym, ◌∙◌, subst, arith, ⊎_elim}
+use Rattle.std.proofs.Common.{◌≡◌, ℕ, Bool, true, false, cond, Option, Some, None, is_some, IsTrue, IfSome, IsSomeAnd}
+use Rattle.std.proofs.Common.{refl, ap, sym, ◌∙◌, subst, arith, ⊎_elim}
 use Rattle.std.specs.Prelude.{option_map, option_and_then, unwrap_or}
 use Rattle.std.proofs.lemmas.Option.{none-some}
 use Rattle.std.proofs.lemmas.Bool.{false≢true, eqb-false, cond_both}
@@ -14,21 +15,33 @@ use Rattle.thread_local_schedule.specs.CoreFits.{CoreFits}
 use Rattle.thread_local_schedule.proofs.PutLaws.{put_cases, put_same, put_other, still}
 use Rattle.thread_local_schedule.proofs.OptionLaws.{if_enabled, if_there, if_then}
 use Rattle.thread_local_model.specs.Held.{is_granted}
-use Rattle.thread_local_schedule.specs.Events.{Event, TakeId, OfLocal, GiveBack, Forget, BeginWalk, OfWalk, EndWalk, Owner, OwnerCall, IterMut, Slots, ClearTable, IntoIter, DropTable, take_id, with_step, of_local, is_idle, without_local, with_id_given, give_back, forget, with_walk, begin_walk, of_walk, without_walk, after_owner, step_of, step, is_enabled, happens}
+use Rattle.thread_local_schedule.specs.Events.{Event, TakeId, OfLocal, GiveBack, Forget, BeginWalk, OfWalk, EndWalk}
+use Rattle.thread_local_schedule.specs.Events.{Owner, OwnerCall, IterMut, Slots, ClearTable, IntoIter, DropTable}
+use Rattle.thread_local_schedule.specs.Events.{take_id, with_step, of_local, is_idle, without_local, with_id_given}
+use Rattle.thread_local_schedule.specs.Events.{give_back, forget, with_walk, begin_walk, of_walk, without_walk}
+use Rattle.thread_local_schedule.specs.Events.{after_owner, step_of, step, is_enabled, happens}
 use Rattle.thread_local_schedule.specs.Schedule.{begins_walk, is_of_walk}
 use Rattle.thread_local_schedule.proofs.Clauses.{goes, enabled_step}
 use Rattle.thread_local_schedule.proofs.Enabled.{may}
 
 -- what an enabled event says of the walks
 pub record WalksSay {V E : Type 0} (core : Core V E) (event : Event V E) (after : Core V E) : Type 0 where
-  pub others : (n : ℕ) (walk : SharedWalk V) → is_of_walk n event ≡ false → core.walks n ≡ Some walk → after.walks n ≡ Some walk
-  pub comes : (n : ℕ) (walk : SharedWalk V) → core.walks n ≡ None → after.walks n ≡ Some walk → (walk ≡ fresh_walk) × IsTrue (begins_walk event) × (n ≡ core.walked)
+  pub others : (n : ℕ) (walk : SharedWalk V) → is_of_walk n event ≡ false → core.walks n ≡ Some walk
+      → after.walks n ≡ Some walk
+  pub comes : (n : ℕ) (walk : SharedWalk V) → core.walks n ≡ None → after.walks n ≡ Some walk
+      → (walk ≡ fresh_walk) × IsTrue (begins_walk event) × (n ≡ core.walked)
 
 -- an event that leaves all walks
-leaves : {V E : Type 0} (core : Core V E) (event : Event V E) (after : Core V E) → ((n : ℕ) → after.walks n ≡ core.walks n) → WalksSay core event after
-leaves core event after same = record { others = λ n walk _ at. same n ∙ at; comes = λ n walk none at. absurd (none-some walk (sym none ∙ sym (same n) ∙ at)) }
+leaves : {V E : Type 0} (core : Core V E) (event : Event V E) (after : Core V E)
+    → ((n : ℕ) → after.walks n ≡ core.walks n)
+    → WalksSay core event after
+leaves core event after same = record {
+  others = λ n walk _ at. same n ∙ at;
+  comes = λ n walk none at. absurd (none-some walk (sym none ∙ sym (same n) ∙ at));
+}
 
-of_local-says : {V E : Type 0} (core : Core V E) (number : ℕ) (step : LocalStep V E) → IfSome (of_local core number step) (WalksSay core (OfLocal number step))
+of_local-says : {V E : Type 0} (core : Core V E) (number : ℕ) (step : LocalStep V E)
+    → IfSome (of_local core number step) (WalksSay core (OfLocal number step))
 of_local-says core number step =
     if_then (WalksSay core (OfLocal number step)) _ (core.locals number) (λ local at.
     if_there (WalksSay core (OfLocal number step)) (with_step core number) (local_step core.table local step)
@@ -37,18 +50,24 @@ of_local-says core number step =
 give_back-says : {V E : Type 0} (core : Core V E) (number : ℕ) → IfSome (give_back core number) (WalksSay core (GiveBack number))
 give_back-says core number =
     if_then (WalksSay core (GiveBack number)) _ (core.locals number) (λ local at.
-    if_enabled (WalksSay core (GiveBack number)) (is_idle local.doing) (with_id_given core number local.id) (leaves core (GiveBack number) (with_id_given core number local.id) (λ n. refl)))
+    if_enabled (WalksSay core (GiveBack number)) (is_idle local.doing)
+    (with_id_given core number local.id)
+    (leaves core (GiveBack number) (with_id_given core number local.id) (λ n. refl)))
 
 forget-says : {V E : Type 0} (core : Core V E) (number : ℕ) → IfSome (forget core number) (WalksSay core (Forget number))
 forget-says core number =
     if_then (WalksSay core (Forget number)) _ (core.locals number) (λ local at.
-    if_enabled (WalksSay core (Forget number)) (is_idle local.doing) (without_local core number) (leaves core (Forget number) (without_local core number) (λ n. refl)))
+    if_enabled (WalksSay core (Forget number)) (is_idle local.doing) (without_local core number)
+    (leaves core (Forget number) (without_local core number) (λ n. refl)))
 
 -- a new walk gets a number that none has
 begin_walk-says : {V E : Type 0} (core : Core V E) → CoreFits core → IfSome (begin_walk core) (WalksSay core BeginWalk)
 begin_walk-says core h = record {
   others = λ n walk _ at.
-      put_other core.walks core.walked _ n (λ same. none-some walk (sym (h.walks.none_from core.walked (omega arith)) ∙ ap core.walks same ∙ at)) ∙ at;
+      put_other core.walks core.walked _ n (λ same.
+      none-some walk
+      (sym (h.walks.none_from core.walked (omega arith)) ∙ ap core.walks same ∙ at))
+      ∙ at;
   comes = λ n walk none at.
       ⊎_elim
       (λ here. let same : fresh_walk ≡ walk = (let some = here.1 in cc) in (sym same, refl, sym here.0))
@@ -56,7 +75,8 @@ begin_walk-says core h = record {
       (put_cases core.walks core.walked (Some fresh_walk) n walk at);
 }
 
-of_walk-says : {V E : Type 0} (core : Core V E) (number : ℕ) (step : WalkStep) → IfSome (of_walk core number step) (WalksSay core (OfWalk number step))
+of_walk-says : {V E : Type 0} (core : Core V E) (number : ℕ) (step : WalkStep)
+    → IfSome (of_walk core number step) (WalksSay core (OfWalk number step))
 of_walk-says core number step =
     if_then (WalksSay core (OfWalk number step)) _ (core.walks number) (λ walk at.
     if_there (WalksSay core (OfWalk number step)) (with_walk core number) (walk_step core.table walk step)
@@ -85,17 +105,24 @@ after_owner-says core DropTable = leaves core (Owner DropTable) _ (λ n. refl)
 step_of-says : {V E : Type 0} (core : Core V E) (event : Event V E) → CoreFits core → IfSome (step_of core event) (WalksSay core event)
 step_of-says core (TakeId refused growth) h =
     leaves core (TakeId refused growth) _
-    (λ n. cond_both (is_granted core.manager refused) (take_id core growth) core (λ after. after.walks n ≡ core.walks n) (λ _. refl) (λ _. refl))
+    (λ n.
+    cond_both (is_granted core.manager refused) (take_id core growth) core
+    (λ after. after.walks n ≡ core.walks n) (λ _. refl) (λ _. refl))
 step_of-says core (OfLocal number step) h = of_local-says core number step
 step_of-says core (GiveBack number) h = give_back-says core number
 step_of-says core (Forget number) h = forget-says core number
 step_of-says core BeginWalk h = begin_walk-says core h
 step_of-says core (OfWalk number step) h = of_walk-says core number step
-step_of-says core (EndWalk number) h = if_there (WalksSay core (EndWalk number)) _ (core.walks number) (λ walk at. end_walk-says core number)
+step_of-says core (EndWalk number) h =
+    if_there (WalksSay core (EndWalk number)) _ (core.walks number)
+    (λ walk at. end_walk-says core number)
 step_of-says core (Owner call) h =
-    cond_both {A = Option (Core _ _)} (is_alone core) (Some (after_owner core call)) None (λ o. IfSome o (WalksSay core (Owner call))) (λ _. after_owner-says core call) (λ _. tt)
+    cond_both {A = Option (Core _ _)} (is_alone core) (Some (after_owner core call)) None
+    (λ o. IfSome o (WalksSay core (Owner call))) (λ _. after_owner-says core call) (λ _. tt)
 
-says_of : {V E : Type 0} (core : Core V E) (event : Event V E) (o : Option (Core V E)) → IfSome o (WalksSay core event) → WalksSay core event (unwrap_or o core)
+says_of : {V E : Type 0} (core : Core V E) (event : Event V E) (o : Option (Core V E))
+    → IfSome o (WalksSay core event)
+    → WalksSay core event (unwrap_or o core)
 says_of core event None s = leaves core event core (λ n. refl)
 says_of core event (Some after) s = s
 
@@ -107,23 +134,38 @@ walks_say core event h =
     (λ _. says_of core event (step_of core event) (step_of-says core event h))
 
 -- a walk begins fresh
-pub begins : {V E : Type 0} (core : Core V E) → IsTrue (is_enabled core BeginWalk) → (happens core BeginWalk).walks core.walked ≡ Some fresh_walk
+pub begins : {V E : Type 0} (core : Core V E) → IsTrue (is_enabled core BeginWalk)
+    → (happens core BeginWalk).walks core.walked ≡ Some fresh_walk
 begins core t = ap (λ after. after.walks core.walked) (goes core BeginWalk t) ∙ put_same core.walks core.walked (Some fresh_walk)
 
 -- a step of a walk adds to its record as it says
-added : {V E : Type 0} (core : Core V E) (n : ℕ) (step : WalkStep) (o : Option (SharedWalk V)) (before : SharedWalk V) → IfSome o (Adds core.table step before)
-    → IsTrue (is_some (option_map (with_walk core n) o)) → IsSomeAnd ((unwrap_or (option_map (with_walk core n) o) core).walks n) (Adds core.table step before)
+added : {V E : Type 0} (core : Core V E) (n : ℕ) (step : WalkStep) (o : Option (SharedWalk V))
+    (before : SharedWalk V)
+    → IfSome o (Adds core.table step before)
+    → IsTrue (is_some (option_map (with_walk core n) o))
+    → IsSomeAnd ((unwrap_or (option_map (with_walk core n) o) core).walks n)
+    (Adds core.table step before)
 added core n step None before a t = absurd (false≢true t)
 added core n step (Some walk) before a t = rw (put_same core.walks n (Some walk)) a
 
-pub adds : {V E : Type 0} (core : Core V E) (n : ℕ) (step : WalkStep) (before : SharedWalk V) → CoreFits core → IsTrue (is_enabled core (OfWalk n step))
+pub adds : {V E : Type 0} (core : Core V E) (n : ℕ) (step : WalkStep) (before : SharedWalk V)
+    → CoreFits core → IsTrue (is_enabled core (OfWalk n step))
     → core.walks n ≡ Some before → IsSomeAnd ((happens core (OfWalk n step)).walks n) (Adds core.table step before)
 adds core n step before h t at =
     rw (goes core (OfWalk n step) t)
-    (rw at (added core n step (walk_step core.table before step) before (walk_step-adds core.table before step (h.walks.each n before at)) (subst (λ o. IsTrue (is_some (option_and_then (λ w. option_map (with_walk core n) (walk_step core.table w step)) o))) at (enabled_step core (OfWalk n step) t))))
+    (rw at (added core n step (walk_step core.table before step) before
+    (walk_step-adds core.table before step (h.walks.each n before at))
+    (subst (λ o.
+    IsTrue
+    (is_some
+    (option_and_then (λ w. option_map (with_walk core n) (walk_step core.table w step))
+    o)))
+    at (enabled_step core (OfWalk n step) t))))
 
 -- a walk that isn't complete can make a step
-loads : {V : Type 0} (table : Table V) (walk : SharedWalk V) (looks : Bool) → walk.cursor.looks ≡ looks → is_complete walk.cursor ≡ false → IsTrue (is_some (walk_step table walk (cond looks Look Load)))
+loads : {V : Type 0} (table : Table V) (walk : SharedWalk V) (looks : Bool)
+    → walk.cursor.looks ≡ looks → is_complete walk.cursor ≡ false
+    → IsTrue (is_some (walk_step table walk (cond looks Look Load)))
 unfolding walk_step
 loads table walk true e f = rw e refl
 loads table walk false e f = rw e (below _ _ f)
@@ -132,23 +174,38 @@ loads table walk false e f = rw e (below _ _ f)
     below true x f = refl
     below false x f = absurd (false≢true (sym f))
 
-stepped_on : {V E : Type 0} (core : Core V E) (n : ℕ) (o : Option (SharedWalk V)) → IsTrue (is_some o) → IsTrue (is_some (option_map (with_walk core n) o))
+stepped_on : {V E : Type 0} (core : Core V E) (n : ℕ) (o : Option (SharedWalk V))
+    → IsTrue (is_some o)
+    → IsTrue (is_some (option_map (with_walk core n) o))
 stepped_on core n None t = absurd (false≢true t)
 stepped_on core n (Some walk) t = refl
 
-pub goes_on : {V E : Type 0} (core : Core V E) (n : ℕ) (walk : SharedWalk V) → core.ended ≡ false → core.walks n ≡ Some walk → is_complete walk.cursor ≡ false
+pub goes_on : {V E : Type 0} (core : Core V E) (n : ℕ) (walk : SharedWalk V) → core.ended ≡ false
+    → core.walks n ≡ Some walk → is_complete walk.cursor ≡ false
     → IsTrue (is_enabled core (OfWalk n (next_step walk)))
 goes_on core n walk going at f =
     may core (OfWalk n (next_step walk)) going
-    (subst (λ o. IsTrue (is_some (option_and_then (λ w. option_map (with_walk core n) (walk_step core.table w (next_step walk))) o))) (sym at) (stepped_on core n (walk_step core.table walk (next_step walk)) (loads core.table walk walk.cursor.looks refl f)))
+    (subst (λ o.
+    IsTrue
+    (is_some
+    (option_and_then
+    (λ w. option_map (with_walk core n) (walk_step core.table w (next_step walk))) o)))
+    (sym at)
+    (stepped_on core n (walk_step core.table walk (next_step walk))
+    (loads core.table walk walk.cursor.looks refl f)))
 
 -- the end of a walk
-ended : {V E : Type 0} (core : Core V E) (n : ℕ) (o : Option (SharedWalk V)) → IsTrue (is_some (option_map (λ walk. without_walk core n) o)) → (unwrap_or (option_map (λ walk. without_walk core n) o) core).walks n ≡ None
+ended : {V E : Type 0} (core : Core V E) (n : ℕ) (o : Option (SharedWalk V))
+    → IsTrue (is_some (option_map (λ walk. without_walk core n) o))
+    → (unwrap_or (option_map (λ walk. without_walk core n) o) core).walks n ≡ None
 ended core n None t = absurd (false≢true t)
 ended core n (Some walk) t = put_same core.walks n None
 
-pub ends : {V E : Type 0} (core : Core V E) (n : ℕ) → IsTrue (is_enabled core (EndWalk n)) → (happens core (EndWalk n)).walks n ≡ None
+pub ends : {V E : Type 0} (core : Core V E) (n : ℕ) → IsTrue (is_enabled core (EndWalk n))
+    → (happens core (EndWalk n)).walks n ≡ None
 ends core n t = ap (λ after. after.walks n) (goes core (EndWalk n) t) ∙ ended core n (core.walks n) (enabled_step core (EndWalk n) t)
 
-pub may_end : {V E : Type 0} (core : Core V E) (n : ℕ) (walk : SharedWalk V) → core.ended ≡ false → core.walks n ≡ Some walk → IsTrue (is_enabled core (EndWalk n))
+pub may_end : {V E : Type 0} (core : Core V E) (n : ℕ) (walk : SharedWalk V) → core.ended ≡ false
+    → core.walks n ≡ Some walk
+    → IsTrue (is_enabled core (EndWalk n))
 may_end core n walk going at = may core (EndWalk n) going (rw at refl)

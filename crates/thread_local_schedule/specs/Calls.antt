@@ -1,9 +1,11 @@
 -- What a step does to the calls of its `Local`: one begins, none begins or ends, or one ends and is
 -- recorded. And how many steps a call under way still needs.
-use Rattle.std.specs.Prelude.{◌≡◌, ℕ, zero, suc, ◌+◌, ◌<◌, ◌⊎◌, ⊤, Bool, true, false, [], ◌∷◌, ◌++◌, Option, Some, None, IsSomeAnd, Result, Ok}
+use Rattle.std.specs.Prelude.{◌≡◌, ℕ, zero, suc, ◌+◌, ◌<◌, ◌⊎◌, ⊤, Bool, true, false, [], ◌∷◌, ◌++◌, Option, Some, None}
+use Rattle.std.specs.Prelude.{IsSomeAnd, Result, Ok}
 use Rattle.thread_local_model.specs.Learnt.{Learnt, Unknown, Missing, Standing, Vacant, Holding}
 use Rattle.thread_local_model.specs.Answers.{Answer, Get, GetOr, Refused}
-use Rattle.thread_local_schedule.specs.Local.{Doing, Gets, Started, Private, Written, Local, LocalStep, BeginGet, BeginGetOr, MakeBucket, WriteValue, SetFlag, Reply}
+use Rattle.thread_local_schedule.specs.Local.{Doing, Gets, Started, Private, Written, Local, LocalStep, BeginGet}
+use Rattle.thread_local_schedule.specs.Local.{BeginGetOr, MakeBucket, WriteValue, SetFlag, Reply}
 
 -- how many gets are under way
 abbrev pub gets_of : {V E : Type 0} → Doing V E → ℕ

@@ -1,5 +1,6 @@
 -- The core of the model: a table with its id manager, its `Local`s and its walks.
-use Rattle.std.specs.Prelude.{ℕ, zero, suc, ◌+◌, ◌^◌, length, Bool, true, false, ◌&&◌, [], Option, None, is_none, ◌==◌, if◌then◌else◌}
+use Rattle.std.specs.Prelude.{ℕ, zero, suc, ◌+◌, ◌^◌, length, Bool, true, false, ◌&&◌, [], Option, None, is_none, ◌==◌}
+use Rattle.std.specs.Prelude.{if◌then◌else◌}
 use Rattle.thread_local_model.specs.Place.{bucket_of}
 use Rattle.thread_local_model.specs.Held.{Manager}
 use Rattle.thread_local_model.specs.Buckets.{slots}

@@ -37,7 +37,8 @@ pub record LiveFits {V E : Type 0} (table : Table V) (held : List Bool) (capacit
   pub known : IsTrue (is_reserved capacity local.id) → IsTrue local.start.known
 
 -- each Local does so, and no two have the same id
-pub record LocalsFit {V E : Type 0} (table : Table V) (held : List Bool) (capacity : ℕ) (locals : ℕ → Option (Local V E)) (taken : ℕ) : Type 0 where
+pub record LocalsFit {V E : Type 0} (table : Table V) (held : List Bool) (capacity : ℕ)
+    (locals : ℕ → Option (Local V E)) (taken : ℕ) : Type 0 where
   pub each : (n : ℕ) (local : Local V E) → locals n ≡ Some local → LiveFits table held capacity local
   pub unshared : (m n : ℕ) (a b : Local V E) → locals m ≡ Some a → locals n ≡ Some b → a.id ≡ b.id → m ≡ n
   pub none_from : (n : ℕ) → taken ≤ n → locals n ≡ None
@@ -52,8 +53,12 @@ pub record WalksFit {V : Type 0} (table : Table V) (walks : ℕ → Option (Shar
 pub record NumbersFit {V E : Type 0} (table : Table V) (locals : ℕ → Option (Local V E)) : Type 0 where
   pub named_made : (bucket number : ℕ) → named table bucket ≡ Some number → number < table.made
   pub named_apart : (a b number : ℕ) → named table a ≡ Some number → named table b ≡ Some number → a ≡ b
-  pub own_made : (n : ℕ) (local : Local V E) (number : ℕ) → locals n ≡ Some local → own_number local.doing ≡ Some number → number < table.made
-  pub own_unnamed : (n : ℕ) (local : Local V E) (number bucket : ℕ) → locals n ≡ Some local → own_number local.doing ≡ Some number → named table bucket ≢ Some number
+  pub own_made : (n : ℕ) (local : Local V E) (number : ℕ) → locals n ≡ Some local
+      → own_number local.doing ≡ Some number
+      → number < table.made
+  pub own_unnamed : (n : ℕ) (local : Local V E) (number bucket : ℕ) → locals n ≡ Some local
+      → own_number local.doing ≡ Some number
+      → named table bucket ≢ Some number
   pub own_apart : (m n : ℕ) (a b : Local V E) (number : ℕ) → locals m ≡ Some a → locals n ≡ Some b
       → own_number a.doing ≡ Some number → own_number b.doing ≡ Some number → m ≡ n
 

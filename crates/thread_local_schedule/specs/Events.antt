@@ -1,5 +1,6 @@
 -- The events of a schedule, and the core after each.
-use Rattle.std.specs.Prelude.{ℕ, zero, suc, Bool, true, false, List, [], ◌∷◌, Option, Some, None, is_some, option_map, option_and_then, unwrap_or, if◌then◌else◌}
+use Rattle.std.specs.Prelude.{ℕ, zero, suc, Bool, true, false, List, [], ◌∷◌, Option, Some, None, is_some, option_map}
+use Rattle.std.specs.Prelude.{option_and_then, unwrap_or, if◌then◌else◌}
 use Rattle.thread_local_model.specs.Held.{least, is_granted, taken_from, given_to}
 use Rattle.thread_local_model.specs.Answers.{first_view}
 use Rattle.thread_local_schedule.specs.Local.{Doing, Gets, Local, fresh_local, LocalStep, local_step}

@@ -33,7 +33,9 @@ abbrev pub IsDoing : {V E : Type 0} → Table V → ℕ → Doing V E → Type 0
 IsDoing table id (Gets count) = ⊤
 IsDoing table id (Started create) = ⊤
 IsDoing table id (Private create number) = (slot_at table id).flag ≡ false
-IsDoing table id (Written v) = IsTrue (bucket_stands table (bucket_of id)) × (slot_at table id ≡ record { written = Some v; flag = false })
+IsDoing table id (Written v) =
+    IsTrue (bucket_stands table (bucket_of id))
+    × (slot_at table id ≡ record { written = Some v; flag = false })
 
 -- A view has the value that its slot shows, a bucket that it knows to stand does stand, and what
 -- was learnt and done holds.
@@ -57,7 +59,8 @@ named table bucket = option_map (λ here. here.number) (table.pointers bucket)
 -- that isn't null still leads to the same bucket.
 pub record ChangesOnly {V : Type 0} (old new : Table V) (id : ℕ) : Type 0 where
   pub others : (other : ℕ) → id ≢ other → slot_at new other ≡ slot_at old other
-  pub naming : (bucket : ℕ) → IsTrue (bucket_stands old bucket) → IsTrue (bucket_stands new bucket) × (named new bucket ≡ named old bucket)
+  pub naming : (bucket : ℕ) → IsTrue (bucket_stands old bucket)
+      → IsTrue (bucket_stands new bucket) × (named new bucket ≡ named old bucket)
   pub installed : (bucket : ℕ) → IsTrue (bucket_stands new bucket) → IsTrue (bucket_stands old bucket) ⊎ (bucket_of id ≡ bucket)
   pub written : AllWritten new
 

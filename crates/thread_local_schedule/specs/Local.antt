@@ -1,9 +1,11 @@
 -- A `Local` of the model and the atomic steps of its calls: `get`, and the publishing calls of the
 -- `get_or` family.
-use Rattle.std.specs.Prelude.{ℕ, zero, suc, Bool, true, false, List, [], ◌∷◌, ◌++◌, Option, Some, None, option_map, option_and_then, Result, Ok, Err, if◌then◌else◌}
+use Rattle.std.specs.Prelude.{ℕ, zero, suc, Bool, true, false, List, [], ◌∷◌, ◌++◌, Option, Some, None, option_map}
+use Rattle.std.specs.Prelude.{option_and_then, Result, Ok, Err, if◌then◌else◌}
 use Rattle.thread_local_model.specs.Place.{bucket_of}
 use Rattle.thread_local_model.specs.Answers.{View, Call, Get, GetOr, Answer, Found, Answered, Refused, Failed}
-use Rattle.thread_local_model.specs.Learnt.{Learnt, Unknown, Missing, Vacant, Holding, learnt_by_load, learnt_by_look, learnt_by_install, learnt_by_publish}
+use Rattle.thread_local_model.specs.Learnt.{Learnt, Unknown, Missing, Vacant, Holding, learnt_by_load, learnt_by_look}
+use Rattle.thread_local_model.specs.Learnt.{learnt_by_install, learnt_by_publish}
 use Rattle.thread_local_schedule.specs.Table.{Table, published, bucket_stands, with_fresh_bucket, with_written, with_flag}
 
 -- What a Local does: any number of gets are under way, or one publishing call. That one has begun,
@@ -131,7 +133,9 @@ value_written doing = None
 -- such a call sets its flag, which publishes the value, and ends
 abbrev pub set_flag : {V E : Type 0} → Table V → Local V E → V → Option (Table V × Local V E)
 set_flag table local v =
-    learns (with_flag table local.id) (after_call local (GetOr (Ok v) false) (Answered v) local.learnt (Gets 0)) (learnt_by_publish local.learnt v)
+    learns (with_flag table local.id)
+    (after_call local (GetOr (Ok v) false) (Answered v) local.learnt (Gets 0))
+    (learnt_by_publish local.learnt v)
 
 -- the end of a call: the call, its answer, and what the Local does then
 pub record Ending (V E : Type 0) : Type 0 where

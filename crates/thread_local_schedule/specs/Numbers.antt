@@ -17,6 +17,8 @@ own_number doing = None
 pub record NumbersGo {V E : Type 0} (table : Table V) (local : Local V E) (after : Table V × Local V E) : Type 0 where
   pub made : table.made ≤ after.0.made
   pub named_before : (bucket number : ℕ) → named after.0 bucket ≡ Some number
-      → (named table bucket ≡ Some number) ⊎ ((own_number local.doing ≡ Some number) × (bucket_of local.id ≡ bucket) × (own_number after.1.doing ≡ None))
+      → (named table bucket ≡ Some number)
+      ⊎ ((own_number local.doing ≡ Some number) × (bucket_of local.id ≡ bucket)
+      × (own_number after.1.doing ≡ None))
   pub own_before : (number : ℕ) → own_number after.1.doing ≡ Some number
       → (own_number local.doing ≡ Some number) ⊎ ((number ≡ table.made) × (table.made < after.0.made))

@@ -30,4 +30,8 @@ rewritten_bucket others (Some here) = Some (record here { slot = λ index. rewri
 
 -- the table after the owner replaced the value at each id that has one
 unfoldable pub rewritten : {V : Type 0} → Table V → (ℕ → V → V) → Table V
-rewritten table others = record table { pointers = λ bucket. rewritten_bucket (λ index. others (id_at bucket index)) (table.pointers bucket) }
+rewritten table others =
+    record table {
+      pointers =
+          λ bucket. rewritten_bucket (λ index. others (id_at bucket index)) (table.pointers bucket);
+    }

@@ -1,12 +1,15 @@
 -- What the theorems say of an event: its move, its refusal, whose it is; and which cores schedules
 -- reach.
-use Rattle.std.specs.Prelude.{◌≡◌, ℕ, ◌^◌, ◌<◌, Bool, true, false, not, ◌&&◌, List, [], ◌∷◌, Option, Some, None, option_map, ⊤, ◌==◌, if◌then◌else◌}
+use Rattle.std.specs.Prelude.{◌≡◌, ℕ, ◌^◌, ◌<◌, Bool, true, false, not, ◌&&◌, List, [], ◌∷◌, Option, Some, None}
+use Rattle.std.specs.Prelude.{option_map, ⊤, ◌==◌, if◌then◌else◌}
 use Rattle.thread_local_model.specs.Held.{is_granted}
 use Rattle.thread_local_model.specs.Sheet.{Move, Take, Give, Publish, Rewrite, Clear}
 use Rattle.thread_local_schedule.specs.Local.{Local, LocalStep, MakeBucket}
 use Rattle.thread_local_schedule.specs.Fits.{value_set}
 use Rattle.thread_local_schedule.specs.Core.{Core, made_core}
-use Rattle.thread_local_schedule.specs.Events.{Event, TakeId, OfLocal, GiveBack, Forget, BeginWalk, OfWalk, EndWalk, Owner, IterMut, ClearTable, IntoIter, DropTable, is_enabled, happens, run}
+use Rattle.thread_local_schedule.specs.Events.{Event, TakeId, OfLocal, GiveBack, Forget, BeginWalk, OfWalk, EndWalk}
+use Rattle.thread_local_schedule.specs.Events.{Owner, IterMut, ClearTable, IntoIter, DropTable, is_enabled, happens}
+use Rattle.thread_local_schedule.specs.Events.{run}
 
 -- the move of a Local's step: the value that it publishes, if any
 abbrev pub publishing : {V E : Type 0} → Option (Local V E) → LocalStep V E → Option (Move V)

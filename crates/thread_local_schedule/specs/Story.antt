@@ -1,7 +1,8 @@
 -- One schedule in parts: four `Local`s publish, a walk runs, the ids are given back, and the next
 -- `Local` calls.
 use Rattle.std.specs.Prelude.{ℕ, zero, suc, false, List, [], ◌∷◌, ◌++◌, Ok}
-use Rattle.thread_local_schedule.specs.Local.{LocalStep, BeginGet, BeginGetOr, LoadPointer, LookAtFlag, MakeBucket, InstallBucket, WriteValue, SetFlag, Reply}
+use Rattle.thread_local_schedule.specs.Local.{LocalStep, BeginGet, BeginGetOr, LoadPointer, LookAtFlag, MakeBucket}
+use Rattle.thread_local_schedule.specs.Local.{InstallBucket, WriteValue, SetFlag, Reply}
 use Rattle.thread_local_schedule.specs.SharedWalk.{Load, Look}
 use Rattle.thread_local_schedule.specs.Core.{Core, new_core}
 use Rattle.thread_local_schedule.specs.Events.{Event, TakeId, OfLocal, GiveBack, BeginWalk, OfWalk, EndWalk, run}

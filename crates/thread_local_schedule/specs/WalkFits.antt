@@ -1,5 +1,6 @@
 -- The invariant of a shared walk, and what each step adds to its record.
-use Rattle.std.specs.Prelude.{◌≡◌, ℕ, suc, ◌+◌, ◌<◌, List, [], ◌∷◌, ◌++◌, length, map, Contains, Option, Some, ◌==◌, if◌then◌else◌}
+use Rattle.std.specs.Prelude.{◌≡◌, ℕ, suc, ◌+◌, ◌<◌, List, [], ◌∷◌, ◌++◌, length, map, Contains, Option, Some, ◌==◌}
+use Rattle.std.specs.Prelude.{if◌then◌else◌}
 use Rattle.thread_local_model.specs.Walk.{IsAscendingBelow}
 use Rattle.thread_local_model.specs.Cursor.{cursor_id, CursorFits}
 use Rattle.thread_local_schedule.specs.Table.{Table, published}
@@ -8,7 +9,8 @@ use Rattle.thread_local_schedule.specs.SharedWalk.{SharedWalk, with_pair, WalkSt
 -- What holds of a walk's record, where `ahead` is the first id that the walk hasn't passed: what it
 -- saw at first is still published, and so is what it gave; ids were given and read in ascending
 -- order, below `ahead`; and what it saw at first below `ahead` was given.
-pub record RecordFits {V : Type 0} (table : Table V) (first : ℕ → Option V) (given : List (ℕ × V)) (read : List ℕ) (ahead : ℕ) : Type 0 where
+pub record RecordFits {V : Type 0} (table : Table V) (first : ℕ → Option V) (given : List (ℕ × V))
+    (read : List ℕ) (ahead : ℕ) : Type 0 where
   pub first_stays : (id : ℕ) (v : V) → first id ≡ Some v → published table id ≡ Some v
   pub given_stays : (id : ℕ) (v : V) → Contains {X = ℕ × V} given (id, v) → published table id ≡ Some v
   pub given_ascend : IsAscendingBelow (map (λ pair. pair.0) given) ahead

@@ -1,5 +1,7 @@
 -- The machine value of a shared bucket: its one field, the pointer. Assumes `Logic`.
-use Rattle.thread_local_lemmas.proofs.Names.{T, [], ◌∷◌, refl, lit<, Ura, tcons, tnil, ty_ptr, ty_struct, Val, vstruct, vcons, vnil, has_ty, WT, ent, emp, Logic, sem, RattleType, Ptr, block_ptr, null_ptr, ptr_val}
+use Rattle.thread_local_lemmas.proofs.Names.{T, [], ◌∷◌, refl, lit<, Ura, tcons, tnil, ty_ptr, ty_struct, Val, vstruct}
+use Rattle.thread_local_lemmas.proofs.Names.{vcons, vnil, has_ty, WT, ent, emp, Logic, sem, RattleType, Ptr, block_ptr}
+use Rattle.thread_local_lemmas.proofs.Names.{null_ptr, ptr_val}
 use denote.Shadow.{makes_shadow}
 use Rattle.thread_local_shared_bucket.specs.contracts.shared_bucket.SharedBucket.TheInside as inside
 
@@ -14,5 +16,8 @@ module _ (R : RattleType) where
   abbrev pub Field : RattleType
   Field = inside.the_row R
 
-  pub made : {M : Type 1} {𝓤 : Ura M} (𝓛 : Logic 𝓤) (p : Ptr) → ent 𝓤 (emp 𝓤) (sem 𝓛 (Field.own_val (record { at = p }) (word_val p ∷ [])))
-  made 𝓛 p = makes_shadow 𝓛 (Field.own_val (record { at = p }) (word_val p ∷ [])) (λ vss. (tt, (tt, tt))) ((ptr_val p ∷ [], tt), (refl, (refl, tt)))
+  pub made : {M : Type 1} {𝓤 : Ura M} (𝓛 : Logic 𝓤) (p : Ptr)
+      → ent 𝓤 (emp 𝓤) (sem 𝓛 (Field.own_val (record { at = p }) (word_val p ∷ [])))
+  made 𝓛 p =
+      makes_shadow 𝓛 (Field.own_val (record { at = p }) (word_val p ∷ [])) (λ vss. (tt, (tt, tt)))
+      ((ptr_val p ∷ [], tt), (refl, (refl, tt)))

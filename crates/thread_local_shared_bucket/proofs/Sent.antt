@@ -14,8 +14,13 @@ use Rattle.thread_local_tokens.proofs.RightElements.{right_keyless}
 use Rattle.thread_local_judged.specs.Judged.{Judged}
 use Rattle.thread_local_tokens.proofs.ToldElements.{untold_keyless, tells_keyless, telling_keyless, all_telling_keyless}
 use Rattle.thread_local_lemmas.specs.Bits.{is_set_in}
-use Rattle.thread_local_blocks.specs.Slots.{heap_token, chunks, each, flag_room, flags_at, slot, empty_slots, value_offset, content_at, back, block_ty}
-use Rattle.thread_local_shared_bucket.specs.Shared.{BucketView, Turn, StandingBlock, Who, free, claimed, early, tracked_value, pinned_and_told, by, holds, stays, had, shared_slot, numbered_slot, waiting, all_unborn, rests, slots_rest, block_rests, block_stands, beside_pointer, kept, loaded, row_owns, at_rest, len, first}
+use Rattle.thread_local_blocks.specs.Slots.{heap_token, chunks, each, flag_room, flags_at, slot, empty_slots}
+use Rattle.thread_local_blocks.specs.Slots.{value_offset, content_at, back, block_ty}
+use Rattle.thread_local_shared_bucket.specs.Shared.{BucketView, Turn, StandingBlock, Who, free, claimed, early}
+use Rattle.thread_local_shared_bucket.specs.Shared.{tracked_value, pinned_and_told, by, holds, stays, had, shared_slot}
+use Rattle.thread_local_shared_bucket.specs.Shared.{numbered_slot, waiting, all_unborn, rests, slots_rest, block_rests}
+use Rattle.thread_local_shared_bucket.specs.Shared.{block_stands, beside_pointer, kept, loaded, row_owns, at_rest, len}
+use Rattle.thread_local_shared_bucket.specs.Shared.{first}
 
 pub chain_keyless : (νs : List Lft) (κ α : Lft) → Keyless (chain νs κ α)
 chain_keyless [] κ α = λ _. tt
@@ -24,7 +29,9 @@ chain_keyless (ν ∷ νs) κ α = ((λ _. tt), chain_keyless νs (ν ++ κ) α)
 pub token_keyless : (τ : Ty) (p : Ptr) → Keyless (heap_token τ p)
 token_keyless τ p = λ a. frees.frees a τ p
 
-each_keyless : {X : Type 0} (F : X → ℕ → Fml) (xs : List X) (j : ℕ) → ((x : X) (k : ℕ) → Keyless (F x k)) → Keyless (each F xs j)
+each_keyless : {X : Type 0} (F : X → ℕ → Fml) (xs : List X) (j : ℕ)
+    → ((x : X) (k : ℕ) → Keyless (F x k))
+    → Keyless (each F xs j)
 each_keyless F [] j law = tt
 each_keyless F (x ∷ xs) j law = (law x j, each_keyless F xs (suc j) law)
 
@@ -34,7 +41,14 @@ module _ (R : RattleType) (s : IsSend R) where
   place_keyless (Some x) b e = part_keyless R s full_share x b e
 
   back_keyless : (b o n : ℕ) → Keyless (back R b o n)
-  back_keyless b o n = ((each_keyless (flag_room R n b o) (replicate (chunks n) 0) 0 (λ _ _. tt), each_keyless (slot R b o) (empty_slots n) 0 (λ v k. place_keyless v b (value_offset R o k))), tt)
+  back_keyless b o n = (
+    (
+      each_keyless (flag_room R n b o) (replicate (chunks n) 0) 0 (λ _ _. tt),
+      each_keyless (slot R b o) (empty_slots n) 0
+          (λ v k. place_keyless v b (value_offset R o k)),
+    ),
+    tt,
+  )
 
   words_keyless : (n b o : ℕ) (ns : List ℕ) → Keyless (each (flags_at R n b o) ns 0)
   words_keyless n b o ns = each_keyless (flags_at R n b o) ns 0 (λ _ _. tt)
@@ -65,10 +79,15 @@ module _ (R : RattleType) (s : IsSend R) where
       had_keyless table k e η v early = (right_keyless table k, holds_keyless k e η None)
 
       slot_keyless : (table : ℕ) (set : Bool) (k e : ℕ) (η : GName) → Keyless (shared_slot R t b ν sharing table set k e η)
-      slot_keyless table set k e η = (value_keyless b e η, λ z. ((λ _. tt), (stays_keyless k e η z.0, had_keyless table k e η z.0 z.1)))
+      slot_keyless table set k e η = (
+        value_keyless b e η,
+        λ z. ((λ _. tt), (stays_keyless k e η z.0, had_keyless table k e η z.0 z.1)),
+      )
 
       slots_keyless : (table k o : ℕ) (names ns : List ℕ) → Keyless (each (numbered_slot R t b ν sharing table k o ns) names 0)
-      slots_keyless table k o names ns = each_keyless (numbered_slot R t b ν sharing table k o ns) names 0 (λ η i. slot_keyless table (is_set_in ns i) (i + k) (value_offset R o i) η)
+      slots_keyless table k o names ns =
+          each_keyless (numbered_slot R t b ν sharing table k o ns) names 0
+          (λ η i. slot_keyless table (is_set_in ns i) (i + k) (value_offset R o i) η)
 
   waiting_keyless : (w : Bool) (table pass k : ℕ) → Keyless (waiting R w table pass k)
   waiting_keyless true table pass k = right_keyless table k
@@ -76,14 +95,46 @@ module _ (R : RattleType) (s : IsSend R) where
 
   unborn_keyless : (sharing : Option GName) (table : ℕ) (t : Turn) (n k : ℕ) → Keyless (all_unborn R sharing table t n k)
   unborn_keyless sharing table t zero k = tt
-  unborn_keyless sharing table t (suc n) k = ((right_keyless t.vacant k, ((right_keyless t.filled k, untold_keyless sharing k), λ w. waiting_keyless w table t.pass k)), unborn_keyless sharing table t n (suc k))
+  unborn_keyless sharing table t (suc n) k = (
+    (
+      right_keyless t.vacant k,
+      (
+        (right_keyless t.filled k, untold_keyless sharing k),
+        λ w. waiting_keyless w table t.pass k,
+      ),
+    ),
+    unborn_keyless sharing table t n (suc k),
+  )
 
   stands_keyless : (d : BucketView) (t : Turn) (p : Ptr) (z : StandingBlock) → Keyless (block_stands R d t p z)
-  stands_keyless d t p z = let b : ℕ = block_of p in let o : ℕ = count_of p in ((λ ns. ((λ _. tt), (words_keyless (len R d) b o ns, slots_keyless t b z.block_life d.sharing d.table (first R d) o z.names ns))), back_keyless b o (len R d))
+  stands_keyless d t p z =
+      let b : ℕ = block_of p in
+      let o : ℕ = count_of p in (
+        (λ ns. (
+          (λ _. tt),
+          (
+            words_keyless (len R d) b o ns,
+            slots_keyless t b z.block_life d.sharing d.table (first R d) o z.names ns,
+          ),
+        )),
+        back_keyless b o (len R d),
+      )
 
   beside_keyless : (d : BucketView) (t : Turn) (p : Ptr) → Keyless (beside_pointer R d t p)
   beside_keyless d t null_ptr = ((λ _. tt), ((tt, tt), unborn_keyless d.sharing d.table t (len R d) (first R d)))
-  beside_keyless d t (block_ptr b o) = λ z. ((λ _. tt), ((tt, tt), (tt, (stands_keyless d t (block_ptr b o) z.0, token_keyless (block_ty R (len R d)) (block_ptr b o)))))
+  beside_keyless d t (block_ptr b o) = λ z. (
+    (λ _. tt),
+    (
+      (tt, tt),
+      (
+        tt,
+        (
+          stands_keyless d t (block_ptr b o) z.0,
+          token_keyless (block_ty R (len R d)) (block_ptr b o),
+        ),
+      ),
+    ),
+  )
 
   pub kept_keyless : (d : BucketView) (t : Turn) (b o : ℕ) (κ : Lft) → Keyless (kept R d t b o κ)
   kept_keyless d t b o κ = ((λ νs. chain_keyless νs κ t.life), λ p. (tt, beside_keyless d t p))
@@ -98,14 +149,29 @@ module _ (R : RattleType) (s : IsSend R) where
 
   slots_rest_keyless : (sharing : Option GName) (k n i b o : ℕ) (ns : List ℕ) → Keyless (slots_rest R sharing k n i b o ns)
   slots_rest_keyless sharing k zero i b o ns = tt
-  slots_rest_keyless sharing k (suc n) i b o ns = ((λ z. ((λ _. tt), (telling_keyless R sharing (i + k) z.0, rests_keyless z.1 b (value_offset R o i) z.0))), slots_rest_keyless sharing k n (suc i) b o ns)
+  slots_rest_keyless sharing k (suc n) i b o ns = (
+    (λ z. (
+      (λ _. tt),
+      (telling_keyless R sharing (i + k) z.0, rests_keyless z.1 b (value_offset R o i) z.0),
+    )),
+    slots_rest_keyless sharing k n (suc i) b o ns,
+  )
 
   block_rests_keyless : (sharing : Option GName) (k n b o : ℕ) → Keyless (block_rests R sharing k n b o)
-  block_rests_keyless sharing k n b o = ((λ ns. ((λ _. tt), (words_keyless n b o ns, slots_rest_keyless sharing k n 0 b o ns))), back_keyless b o n)
+  block_rests_keyless sharing k n b o = (
+    (λ ns. ((λ _. tt), (words_keyless n b o ns, slots_rest_keyless sharing k n 0 b o ns))),
+    back_keyless b o n,
+  )
 
   pub at_rest_keyless : (d : BucketView) (p : Ptr) → Keyless (at_rest R d p)
   at_rest_keyless d null_ptr = ((λ _. tt), all_telling_keyless R d.sharing (first R d) (empty_slots (len R d)))
-  at_rest_keyless d (block_ptr b o) = ((λ _. tt), (block_rests_keyless d.sharing (first R d) (len R d) b o, token_keyless (block_ty R (len R d)) (block_ptr b o)))
+  at_rest_keyless d (block_ptr b o) = (
+    (λ _. tt),
+    (
+      block_rests_keyless d.sharing (first R d) (len R d) b o,
+      token_keyless (block_ty R (len R d)) (block_ptr b o),
+    ),
+  )
 
   pub found_keyless : (d : BucketView) (names : List ℕ) (β : Lft) (p : Ptr) → Keyless (row_owns R d names β p)
   found_keyless d names β p = λ z. ((λ _. tt), (kept_keyless d z.0 z.2 z.3 β, row_keyless d z.0 z.1 β))

@@ -67,7 +67,8 @@
 --     flent κ P              P comes back once κ has ended
 --     before κ α             κ ends before α does
 
-use Rattle.std.specs.Prelude.{◌≡◌, ℕ, zero, suc, ◌+◌, ◌^◌, ◌≤◌, Bool, true, false, List, [], ◌∷◌, length, Option, None, Some, is_some}
+use Rattle.std.specs.Prelude.{◌≡◌, ℕ, zero, suc, ◌+◌, ◌^◌, ◌≤◌, Bool, true, false, List, [], ◌∷◌, length, Option, None}
+use Rattle.std.specs.Prelude.{Some, is_some}
 use Rattle.std.specs.Coded.{coded_option}
 use mathlib.Core.Logic.{inl, inr}
 use base.Stored.{Gv, Coded, gnil, gcons, coded×, coded_ℕ, coded_list, coded_bool, coded_via}
@@ -82,7 +83,8 @@ use Rattle.thread_local_model.specs.Place.{id_at}
 use Rattle.thread_local_tokens.specs.Rights.{right_owns}
 use Rattle.thread_local_judged.specs.Judged.{Shareable, Judged}
 use Rattle.thread_local_lemmas.specs.Bits.{is_set_in}
-use Rattle.thread_local_blocks.specs.Slots.{heap_token, chunks, each, AreWords, block_ty, Fits, value_offset, flags_at, content_at, back, empty_slots}
+use Rattle.thread_local_blocks.specs.Slots.{heap_token, chunks, each, AreWords, block_ty, Fits, value_offset, flags_at}
+use Rattle.thread_local_blocks.specs.Slots.{content_at, back, empty_slots}
 use Rattle.thread_local_lemmas.specs.Fact.{fact}
 use Rattle.thread_local_tokens.specs.Told.{untold_in, tells, telling, all_telling}
 
@@ -98,7 +100,9 @@ pub record BucketView : Type 0 where
 
 -- an injective code of such views, for ghost state
 abbrev pub bucket_view_coded : Coded BucketView
-bucket_view_coded = coded_via (coded× coded_ℕ (coded× (coded_option coded_ℕ) (coded× coded_ℕ coded_bool))) (λ (d : BucketView). (d.table, (d.sharing, (d.bucket, d.reserved))))
+bucket_view_coded =
+    coded_via (coded× coded_ℕ (coded× (coded_option coded_ℕ) (coded× coded_ℕ coded_bool)))
+    (λ (d : BucketView). (d.table, (d.sharing, (d.bucket, d.reserved))))
     (λ x y e i. record { table = (e i).0; sharing = (e i).1.0; bucket = (e i).1.1.0; reserved = (e i).1.1.1 })
 
 -- the life and the names of one sharing
@@ -117,7 +121,10 @@ pub record StandingBlock : Type 0 where
 
 -- an injective code of such blocks, for ghost state
 abbrev pub standing_coded : Coded StandingBlock
-standing_coded = coded_via (coded× coded_ptr (coded× coded_ℕ (coded_list coded_ℕ))) (λ (s : StandingBlock). (s.at, (s.block_life, s.names))) (λ x y e i. record { at = (e i).0; block_life = (e i).1.0; names = (e i).1.1 })
+standing_coded =
+    coded_via (coded× coded_ptr (coded× coded_ℕ (coded_list coded_ℕ)))
+    (λ (s : StandingBlock). (s.at, (s.block_life, s.names)))
+    (λ x y e i. record { at = (e i).0; block_life = (e i).1.0; names = (e i).1.1 })
 
 -- the name that tracks the slot at an index
 abbrev pub name_at : List ℕ → ℕ → ℕ
@@ -225,7 +232,10 @@ module _ (R : RattleType) where
   -- a slot that has no block yet: its tokens, of which nothing is told, and the pass or the right
   -- that was laid down for it
   abbrev pub unborn : Option GName → ℕ → Turn → ℕ → Fml
-  unborn sharing table t k = fsep (right_owns t.vacant k) (fsep (fsep (right_owns t.filled k) (untold_in sharing k)) (fex Bool (λ early. waiting early table t.pass k)))
+  unborn sharing table t k =
+      fsep (right_owns t.vacant k)
+      (fsep (fsep (right_owns t.filled k) (untold_in sharing k))
+      (fex Bool (λ early. waiting early table t.pass k)))
 
   -- the same of n slots, from the id k on
   abbrev pub all_unborn : Option GName → ℕ → Turn → ℕ → ℕ → Fml
@@ -294,12 +304,16 @@ module _ (R : RattleType) where
 
       -- a standing block: its words, its slots, and the way back
       abbrev pub block_stands : Ptr → StandingBlock → Fml
-      block_stands p s = fsep (fex (List ℕ) (slots_under len (block_of p) (count_of p) (slots_stand p s))) (back R (block_of p) (count_of p) len)
+      block_stands p s =
+          fsep (fex (List ℕ) (slots_under len (block_of p) (count_of p) (slots_stand p s)))
+          (back R (block_of p) (count_of p) len)
 
       -- what lies beside a pointer p to a block: the name that says which block it is, a part of
       -- the token of its own lifetime, its slots, and the right to free it
       abbrev pub standing : Ptr → StandingBlock × Share → Fml
-      standing p s = fsep (fact ((s.0.at ≡ p) × (length s.0.names ≡ len) × Sized len p)) (fsep (settled s.0) (fsep (flft (s.0.block_life ∷ []) s.1)
+      standing p s =
+          fsep (fact ((s.0.at ≡ p) × (length s.0.names ≡ len) × Sized len p)) (fsep (settled s.0)
+          (fsep (flft (s.0.block_life ∷ []) s.1)
           (fsep (block_stands p s.0) (heap_token (block_ty R len) p))))
 
       -- what lies beside the pointer, null or to a block
@@ -317,12 +331,16 @@ module _ (R : RattleType) where
 
       -- what a load hands out of a standing block: which block it is, and that it lasts
       abbrev pub loaded : StandingBlock → Lft → Fml
-      loaded s κ = fsep (fact ((length s.names ≡ len) × Sized len s.at)) (fsep (fres t.which (block_code s)) (before κ (s.block_life ∷ t.life)))
+      loaded s κ =
+          fsep (fact ((length s.names ≡ len) × Sized len s.at))
+          (fsep (fres t.which (block_code s)) (before κ (s.block_life ∷ t.life)))
 
     -- what a bucket at rest owns beside its pointer
     abbrev pub at_rest : Ptr → Fml
     at_rest null_ptr = fsep (fact (d.reserved ≡ false)) (all_telling R d.sharing first (empty_slots len))
-    at_rest (block_ptr b o) = fsep (fact (Sized len (block_ptr b o))) (fsep (block_rests d.sharing first len b o) (heap_token (block_ty R len) (block_ptr b o)))
+    at_rest (block_ptr b o) =
+        fsep (fact (Sized len (block_ptr b o)))
+        (fsep (block_rests d.sharing first len b o) (heap_token (block_ty R len) (block_ptr b o)))
 
     -- a bucket at rest: its pointer with what lies beside it, and values of a type that is judged
     abbrev pub bucket_owns : (Ptr → Fml) → Fml

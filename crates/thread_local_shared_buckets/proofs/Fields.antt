@@ -13,5 +13,9 @@ module _ (a : NamedLft) (R : RattleType) where
   abbrev pub Bare : RattleType
   Bare = Struct (shape (Shown.the_type a R))
 
-  pub made : {M : Type 1} {𝓤 : Ura M} (𝓛 : Logic 𝓤) → ent 𝓤 (emp 𝓤) (sem 𝓛 (Bare.own_val (record {}, tt) (shown_val ∷ [])))
-  made 𝓛 = makes_shadow 𝓛 (Bare.own_val (record {}, tt) (shown_val ∷ [])) (λ vss. (tt, ((λ uss. (tt, tt)), tt))) ((vstruct vnil ∷ [], tt), (refl, ((tt, (refl, tt)), tt)))
+  pub made : {M : Type 1} {𝓤 : Ura M} (𝓛 : Logic 𝓤)
+      → ent 𝓤 (emp 𝓤) (sem 𝓛 (Bare.own_val (record {}, tt) (shown_val ∷ [])))
+  made 𝓛 =
+      makes_shadow 𝓛 (Bare.own_val (record {}, tt) (shown_val ∷ []))
+      (λ vss. (tt, ((λ uss. (tt, tt)), tt)))
+      ((vstruct vnil ∷ [], tt), (refl, ((tt, (refl, tt)), tt)))

@@ -1,6 +1,7 @@
 -- The list of a table's 63 buckets, and which of an owner's pointers fit it, as a whole and one by
 -- one.
-use Rattle.std.proofs.Common.{◌≡◌, ℕ, zero, suc, ◌+◌, ◌^◌, ◌<◌, ◌≤◌, Bool, true, false, List, [], ◌∷◌, length, refl, sym, ap, ◌∙◌, subst, arith, pow_pos, Option, map}
+use Rattle.std.proofs.Common.{◌≡◌, ℕ, zero, suc, ◌+◌, ◌^◌, ◌<◌, ◌≤◌, Bool, true, false, List, [], ◌∷◌, length, refl}
+use Rattle.std.proofs.Common.{sym, ap, ◌∙◌, subst, arith, pow_pos, Option, map}
 use Rattle.std.specs.Prelude.{slice_index_or, nat_lt, IsTrue, ◌⊎◌}
 use Rattle.std.proofs.lemmas.Bool.{lt-ltb, ltb-true, ltb-false}
 use Rattle.std.proofs.lemmas.List.{length-map, get_or_past}
@@ -25,7 +26,9 @@ pub all_buckets-at : (s : TableView) (n b i : ℕ) → i < n → bucket_at (all_
 unfolding all_buckets
 all_buckets-at s zero b i near = absurd (omega arith)
 all_buckets-at s (suc n) b zero near = let same : b ≡ 0 + b = omega arith in ap (bucket_view s) same
-all_buckets-at s (suc n) b (suc i) near = let same : i + suc b ≡ suc i + b = omega arith in all_buckets-at s n (suc b) i (omega arith) ∙ ap (bucket_view s) same
+all_buckets-at s (suc n) b (suc i) near =
+    let same : i + suc b ≡ suc i + b = omega arith in
+    all_buckets-at s n (suc b) i (omega arith) ∙ ap (bucket_view s) same
 
 -- the views of a table's buckets
 abbrev pub table_buckets : TableView → List BucketView
@@ -35,10 +38,21 @@ table_bucket : (s : TableView) (i : ℕ) → i < 63 → bucket_at (table_buckets
 table_bucket s i near = let same : i + 0 ≡ i = omega arith in all_buckets-at s 63 0 i near ∙ ap (bucket_view s) same
 
 pub table_named : (s : TableView) → AreBuckets (table_buckets s) s.reserved
-table_named s b near = table_bucket s b near ∙ sym (ap (λ (d : BucketView). record { table = d.table; sharing = d.sharing; bucket = b; reserved = nat_lt (id_at b 0) s.reserved }) (table_bucket s 0 (omega arith)))
+table_named s b near =
+    table_bucket s b near
+    ∙ sym
+    (ap (λ (d : BucketView). record {
+      table = d.table;
+      sharing = d.sharing;
+      bucket = b;
+      reserved = nat_lt (id_at b 0) s.reserved;
+    })
+    (table_bucket s 0 (omega arith)))
 
 pub table_seen : (s : TableView) → table_view_of (table_buckets s) s.reserved ≡ s
-table_seen s = ap (λ (d : BucketView). record { table = d.table; sharing = d.sharing; reserved = s.reserved }) (table_bucket s 0 (omega arith))
+table_seen s =
+    ap (λ (d : BucketView). record { table = d.table; sharing = d.sharing; reserved = s.reserved })
+    (table_bucket s 0 (omega arith))
 
 -- these are a table's buckets from this number on
 abbrev pub AreOf : TableView → ℕ → List BucketView → Type 0
@@ -50,15 +64,25 @@ unfolding all_buckets
 all_are_of s zero b = tt
 all_are_of s (suc n) b = (refl, all_are_of s n (suc b))
 
-are_of_from : (s : TableView) (b : ℕ) (ds : List BucketView) → ((i : ℕ) → i < length ds → bucket_at ds i ≡ bucket_view s (i + b)) → AreOf s b ds
+are_of_from : (s : TableView) (b : ℕ) (ds : List BucketView)
+    → ((i : ℕ) → i < length ds → bucket_at ds i ≡ bucket_view s (i + b))
+    → AreOf s b ds
 are_of_from s b [] all = tt
 are_of_from s b (d ∷ ds) all = let here : 0 + b ≡ b = omega arith in (
   all 0 (omega arith) ∙ ap (bucket_view s) here,
-  are_of_from s (suc b) ds (λ i near. let next : suc i + b ≡ i + suc b = omega arith in all (suc i) (omega arith) ∙ ap (bucket_view s) next),
+  are_of_from s (suc b) ds (λ i near.
+      let next : suc i + b ≡ i + suc b = omega arith in
+      all (suc i) (omega arith) ∙ ap (bucket_view s) next),
 )
 
-pub named_are_of : (ds : List BucketView) (reserved : ℕ) → length ds ≡ 63 → AreBuckets ds reserved → AreOf (table_view_of ds reserved) 0 ds
-named_are_of ds reserved long named = let s : TableView = table_view_of ds reserved in are_of_from s 0 ds (λ i near. let within : i < 63 = omega arith in let same : i ≡ i + 0 = omega arith in named i within ∙ ap (bucket_view s) same)
+pub named_are_of : (ds : List BucketView) (reserved : ℕ) → length ds ≡ 63 → AreBuckets ds reserved
+    → AreOf (table_view_of ds reserved) 0 ds
+named_are_of ds reserved long named =
+    let s : TableView = table_view_of ds reserved in
+    are_of_from s 0 ds (λ i near.
+    let within : i < 63 = omega arith in
+    let same : i ≡ i + 0 = omega arith in
+    named i within ∙ ap (bucket_view s) same)
 
 module _ {V W : Type 0} (slots : W → List (Option V)) where
   abbrev pub Fits : List BucketView → List W → Type 0
@@ -83,7 +107,9 @@ module _ {V W : Type 0} (slots : W → List (Option V)) where
   fits_at (d ∷ ds) (w ∷ ws) f zero near = f.0
   fits_at (d ∷ ds) (w ∷ ws) f (suc i) near = fits_at ds ws f.1 i (omega arith)
 
-  pub fits_from : (ds : List BucketView) (ws : List W) → length ws ≡ length ds → ((i : ℕ) → i < length ds → Fit (bucket_at ds i) (slots_at ws i)) → Fits ds ws
+  pub fits_from : (ds : List BucketView) (ws : List W) → length ws ≡ length ds
+      → ((i : ℕ) → i < length ds → Fit (bucket_at ds i) (slots_at ws i))
+      → Fits ds ws
   fits_from [] [] long all = tt
   fits_from [] (w ∷ ws) long all = absurd (omega arith)
   fits_from (d ∷ ds) [] long all = absurd (omega arith)
@@ -93,7 +119,8 @@ module _ {V W : Type 0} (slots : W → List (Option V)) where
   abbrev pub owned_of : List W → ℕ → Owned V
   owned_of ws reserved = record { contents = record { rows = map slots ws }; reserved = reserved }
 
-  whole_if : (d : BucketView) (cs : List (Option V)) (b : ℕ) → d.bucket ≡ b → Fit d cs → (length cs ≡ 0) ⊎ (length cs ≡ 2 ^ b)
+  whole_if : (d : BucketView) (cs : List (Option V)) (b : ℕ) → d.bucket ≡ b → Fit d cs
+      → (length cs ≡ 0) ⊎ (length cs ≡ 2 ^ b)
   whole_if d cs b same (inl f) = inl f.0
   whole_if d cs b same (inr f) = inr (f ∙ ap (λ (k : ℕ). 2 ^ k) same)
 
@@ -101,10 +128,16 @@ module _ {V W : Type 0} (slots : W → List (Option V)) where
   standing_if d cs kept (inl f) = let no : true ≡ false = sym kept ∙ f.1 in cc
   standing_if d cs kept (inr f) = let some_slots : 0 < 2 ^ d.bucket = pow_pos d.bucket in lt-ltb 0 (length cs) (omega arith)
 
-  module _ (ds : List BucketView) (ws : List W) (reserved : ℕ) (long : length ds ≡ 63) (named : AreBuckets ds reserved) (first : AreOfFirstBuckets reserved) (f : Fits ds ws) where
+  module _ (ds : List BucketView) (ws : List W) (reserved : ℕ) (long : length ds ≡ 63)
+      (named : AreBuckets ds reserved) (first : AreOfFirstBuckets reserved) (f : Fits ds ws) where
     whole_at : (b : ℕ) (t : Bool) → nat_lt b 63 ≡ t → (length (slots_at ws b) ≡ 0) ⊎ (length (slots_at ws b) ≡ 2 ^ b)
-    whole_at b true e = let near : b < 63 = ltb-true b 63 e in whole_if (bucket_at ds b) (slots_at ws b) b (ap (λ (d : BucketView). d.bucket) (named b near)) (fits_at ds ws f b (omega arith))
-    whole_at b false e = let past : 63 ≤ b = ltb-false b 63 e in let all : length (map slots ws) ≡ 63 = length-map ws slots ∙ fits_long ds ws f ∙ long in
+    whole_at b true e =
+        let near : b < 63 = ltb-true b 63 e in
+        whole_if (bucket_at ds b) (slots_at ws b) b
+        (ap (λ (d : BucketView). d.bucket) (named b near)) (fits_at ds ws f b (omega arith))
+    whole_at b false e =
+        let past : 63 ≤ b = ltb-false b 63 e in
+        let all : length (map slots ws) ≡ 63 = length-map ws slots ∙ fits_long ds ws f ∙ long in
         inl (ap length (get_or_past (map slots ws) b [] (omega arith)))
 
     pub are_owned : IsOwned (owned_of ws reserved)
@@ -114,15 +147,29 @@ module _ {V W : Type 0} (slots : W → List (Option V)) where
         whole = λ b. whole_at b (nat_lt b 63) refl;
       };
       first = first;
-      standing = λ b near low. standing_if (bucket_at ds b) (slots_at ws b) (ap (λ (d : BucketView). d.reserved) (named b near) ∙ lt-ltb (id_at b 0) reserved low) (fits_at ds ws f b (omega arith));
+      standing = λ b near low.
+          standing_if (bucket_at ds b) (slots_at ws b)
+          (ap (λ (d : BucketView). d.reserved) (named b near) ∙ lt-ltb (id_at b 0) reserved low)
+          (fits_at ds ws f b (omega arith));
     }
 
   module _ (s : TableView) (ws : List W) (owned : IsOwned (owned_of ws s.reserved)) where
-    fit_if : (i : ℕ) → i < 63 → (t : Bool) → nat_lt (id_at i 0) s.reserved ≡ t → (length (slots_at ws i) ≡ 0) ⊎ (length (slots_at ws i) ≡ 2 ^ i) → Fit (bucket_view s i) (slots_at ws i)
+    fit_if : (i : ℕ) → i < 63 → (t : Bool) → nat_lt (id_at i 0) s.reserved ≡ t
+        → (length (slots_at ws i) ≡ 0) ⊎ (length (slots_at ws i) ≡ 2 ^ i)
+        → Fit (bucket_view s i) (slots_at ws i)
     fit_if i near t e (inr all) = inr all
     fit_if i near false e (inl none) = inl (none, e)
-    fit_if i near true e (inl none) = let some_slots : 0 < length (slots_at ws i) = ltb-true 0 (length (slots_at ws i)) (owned.standing i near (ltb-true (id_at i 0) s.reserved e)) in absurd (omega arith)
+    fit_if i near true e (inl none) =
+        let some_slots : 0 < length (slots_at ws i) =
+        ltb-true 0 (length (slots_at ws i))
+        (owned.standing i near (ltb-true (id_at i 0) s.reserved e)) in
+        absurd (omega arith)
 
     pub fit_all : Fits (table_buckets s) ws
-    fit_all = let long : length (table_buckets s) ≡ 63 = all_buckets-length s 63 0 in fits_from (table_buckets s) ws (sym (length-map ws slots) ∙ owned.table.buckets ∙ sym long)
-        (λ i near. let within : i < 63 = omega arith in subst (λ (d : BucketView). Fit d (slots_at ws i)) (sym (table_bucket s i within)) (fit_if i within (nat_lt (id_at i 0) s.reserved) refl (owned.table.whole i)))
+    fit_all =
+        let long : length (table_buckets s) ≡ 63 = all_buckets-length s 63 0 in
+        fits_from (table_buckets s) ws (sym (length-map ws slots) ∙ owned.table.buckets ∙ sym long)
+        (λ i near.
+        let within : i < 63 = omega arith in
+        subst (λ (d : BucketView). Fit d (slots_at ws i)) (sym (table_bucket s i within))
+        (fit_if i within (nat_lt (id_at i 0) s.reserved) refl (owned.table.whole i)))

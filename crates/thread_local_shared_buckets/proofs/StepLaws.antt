@@ -1,5 +1,6 @@
 -- The laws of steps that give nothing: they compose, keep the cursor fitting, and never go back.
-use Rattle.std.proofs.Common.{◌≡◌, ℕ, zero, suc, ◌+◌, ◌-◌, ◌^◌, ◌<◌, ◌≤◌, Bool, true, false, cond, eqb, List, [], ◌∷◌, ◌++◌, IsTrue, refl, sym, subst, arith}
+use Rattle.std.proofs.Common.{◌≡◌, ℕ, zero, suc, ◌+◌, ◌-◌, ◌^◌, ◌<◌, ◌≤◌, Bool, true, false, cond, eqb, List, [], ◌∷◌}
+use Rattle.std.proofs.Common.{◌++◌, IsTrue, refl, sym, subst, arith}
 use Rattle.std.specs.Prelude.{MatchBool}
 use Rattle.std.proofs.lemmas.Bool.{cond_both, eqb-true, lt-ltb}
 use Rattle.thread_local_model.specs.Cursor.{Cursor, cursor_id, may_load, at_next_bucket, at_place, after_load, after_look, CursorFits}
@@ -24,7 +25,10 @@ pub leads_nowhere : (cursor : Cursor) → Leads cursor cursor
 leads_nowhere cursor = record { found = []; passes = refl }
 
 pub leads_then : (from met to : Cursor) → Leads from met → Leads met to → Leads from to
-leads_then from met to first after = record { found = first.found ++ after.found; passes = passes_then from met to first.found after.found first.passes after.passes }
+leads_then from met to first after = record {
+  found = first.found ++ after.found;
+  passes = passes_then from met to first.found after.found first.passes after.passes;
+}
 
 pub leads_step : (from : Cursor) (found : Bool) → GivesNothing from found → Leads from (after_step from found)
 leads_step from found nothing = record { found = found ∷ []; passes = (nothing, refl) }
@@ -36,9 +40,13 @@ pub record Further (from to : Cursor) : Type 0 where
   pub fits : CursorFits to
   pub no_lower : cursor_id from ≤ cursor_id to
 
-step_goes : (from : Cursor) (found looks : Bool) → from.looks ≡ looks → MatchBool looks (found ≡ false) (IsTrue (may_load from)) → CursorFits from
+step_goes : (from : Cursor) (found looks : Bool) → from.looks ≡ looks
+    → MatchBool looks (found ≡ false) (IsTrue (may_load from)) → CursorFits from
     → Further from (cond looks (after_look from found) (after_load from found))
-step_goes from found true is none fits = record { fits = after_look-fits from found fits is; no_lower = (let up = after_look-id from found in omega arith) }
+step_goes from found true is none fits = record {
+  fits = after_look-fits from found fits is;
+  no_lower = (let up = after_look-id from found in omega arith);
+}
 step_goes from found false is loads fits = record { fits = after_load-fits from found fits loads; no_lower = never_lower from found fits }
 
 passes_on : (from to : Cursor) (xs : List Bool) → Passes from xs to → CursorFits from → Further from to
@@ -55,7 +63,8 @@ leads_on from to leads fits = passes_on from to leads.found leads.passes fits
 
 at_place-inside : (bucket index : ℕ) → index < 2 ^ bucket → at_place (resting_at bucket index) ≡ looking_at bucket index
 at_place-inside bucket index inside =
-    cond_both {A = Cursor} (eqb index (2 ^ bucket)) (at_next_bucket (resting_at bucket index)) (looking_at bucket index) (λ c. c ≡ looking_at bucket index)
+    cond_both {A = Cursor} (eqb index (2 ^ bucket)) (at_next_bucket (resting_at bucket index))
+    (looking_at bucket index) (λ c. c ≡ looking_at bucket index)
     (λ t. let last = eqb-true index (2 ^ bucket) t in absurd (omega arith))
     (λ f. refl)
 
@@ -66,10 +75,14 @@ may_load-in_table bucket index low = lt-ltb bucket 63 low
 pub passes_bucket : (bucket index : ℕ) → bucket < 63 → Leads (resting_at bucket index) (resting_at (bucket + 1) 0)
 passes_bucket bucket index low =
     let next : suc bucket ≡ bucket + 1 = omega arith in
-    subst (λ (b : ℕ). Leads (resting_at bucket index) (resting_at b 0)) next (leads_step (resting_at bucket index) false (may_load-in_table bucket index low))
+    subst (λ (b : ℕ). Leads (resting_at bucket index) (resting_at b 0)) next
+    (leads_step (resting_at bucket index) false (may_load-in_table bucket index low))
 
 looks_past : (bucket from to n : ℕ) → from + n ≡ to → to < 2 ^ bucket → Leads (looking_at bucket from) (looking_at bucket to)
-looks_past bucket from to zero is inside = let same : from ≡ to = omega arith in subst (λ (k : ℕ). Leads (looking_at bucket from) (looking_at bucket k)) same (leads_nowhere (looking_at bucket from))
+looks_past bucket from to zero is inside =
+    let same : from ≡ to = omega arith in
+    subst (λ (k : ℕ). Leads (looking_at bucket from) (looking_at bucket k)) same
+    (leads_nowhere (looking_at bucket from))
 looks_past bucket from to (suc n) is inside =
     let further : suc from < 2 ^ bucket = omega arith in
     let one : Leads (looking_at bucket from) (at_place (resting_at bucket (suc from))) = leads_step (looking_at bucket from) false refl in
@@ -78,10 +91,15 @@ looks_past bucket from to (suc n) is inside =
     (looks_past bucket (suc from) to n (omega arith) inside)
 
 -- a load that finds the bucket, and looks that find nothing, lead to a slot of it
-pub leads_to_slot : (bucket from to : ℕ) → bucket < 63 → from ≤ to → to < 2 ^ bucket → Leads (resting_at bucket from) (looking_at bucket to)
+pub leads_to_slot : (bucket from to : ℕ) → bucket < 63 → from ≤ to → to < 2 ^ bucket
+    → Leads (resting_at bucket from) (looking_at bucket to)
 leads_to_slot bucket from to low ahead inside =
     let near : from < 2 ^ bucket = omega arith in
-    let found : Leads (resting_at bucket from) (at_place (resting_at bucket from)) = leads_step (resting_at bucket from) true (may_load-in_table bucket from low) in
-    let in_bucket : Leads (resting_at bucket from) (looking_at bucket from) = subst (λ (c : Cursor). Leads (resting_at bucket from) c) (at_place-inside bucket from near) found in
+    let found : Leads (resting_at bucket from) (at_place (resting_at bucket from)) =
+    leads_step (resting_at bucket from) true (may_load-in_table bucket from low) in
+    let in_bucket : Leads (resting_at bucket from) (looking_at bucket from) =
+    subst (λ (c : Cursor). Leads (resting_at bucket from) c)
+    (at_place-inside bucket from near) found in
     let n : ℕ = to - from in
-    leads_then (resting_at bucket from) (looking_at bucket from) (looking_at bucket to) in_bucket (looks_past bucket from to n (omega arith) inside)
+    leads_then (resting_at bucket from) (looking_at bucket from) (looking_at bucket to) in_bucket
+    (looks_past bucket from to n (omega arith) inside)

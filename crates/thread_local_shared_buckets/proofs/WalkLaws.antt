@@ -1,5 +1,7 @@
 -- The moves of the code keep the invariant of a walk, and do what the contract of `next` says.
-use Rattle.std.proofs.Common.{◌≡◌, ℕ, suc, ◌+◌, ◌-◌, ◌^◌, ◌<◌, ◌≤◌, Bool, true, false, eqb, cond, inl, inr, Option, None, Some, IfSome, IfNone, option_map, Bor, refl, ap, sym, subst, arith, pow_mono, add-one}
+use Rattle.std.proofs.Common.{◌≡◌, ℕ, suc, ◌+◌, ◌-◌, ◌^◌, ◌<◌, ◌≤◌, Bool, true, false, eqb, cond, inl, inr, Option}
+use Rattle.std.proofs.Common.{None, Some, IfSome, IfNone, option_map, Bor, refl, ap, sym, subst, arith, pow_mono}
+use Rattle.std.proofs.Common.{add-one}
 use Rattle.std.proofs.Math.Nat.{two-pow-succ}
 use Rattle.std.proofs.lemmas.Bool.{cond_both, eqb-true, eqb-false, le-ltb}
 use Rattle.thread_local_model.specs.Place.{id_at}
@@ -23,14 +25,18 @@ later_bucket a b i j later inside =
 module _ {V : Type 0} where
   -- 1. Moving on to the next bucket.
 
-  own_after_bucket : (raw : RawIter) (own : Option (Own V)) → IfSome own (IsAhead raw) → lies_in own raw.bucket ≡ false → IfSome own (IsAhead (next_bucket raw))
+  own_after_bucket : (raw : RawIter) (own : Option (Own V)) → IfSome own (IsAhead raw)
+      → lies_in own raw.bucket ≡ false
+      → IfSome own (IsAhead (next_bucket raw))
   own_after_bucket raw None ahead elsewhere = tt
   own_after_bucket raw (Some own) ahead elsewhere =
       let apart = eqb-false own.thread.bucket raw.bucket elsewhere in
       let low = ahead.bucket in
       record { bucket = omega arith; index = λ _. omega arith }
 
-  pub walk_after_bucket : (raw : RawIter) (own : Option (Own V)) → IsSharedWalk raw own → raw.bucket < 63 → lies_in own raw.bucket ≡ false → IsSharedWalk (next_bucket raw) own
+  pub walk_after_bucket : (raw : RawIter) (own : Option (Own V)) → IsSharedWalk raw own
+      → raw.bucket < 63 → lies_in own raw.bucket ≡ false
+      → IsSharedWalk (next_bucket raw) own
   walk_after_bucket raw own walk low elsewhere =
       let on = leads_on (resting raw) (resting (next_bucket raw)) (passes_bucket raw.bucket raw.index low) walk.fits in
       let twice : 2 ^ (raw.bucket + 1) ≡ 2 ^ raw.bucket + 2 ^ raw.bucket = rw add-one (two-pow-succ raw.bucket) in
@@ -46,8 +52,11 @@ module _ {V : Type 0} where
     pub walk : IsSharedWalk (past raw index) left
     pub gives : Yields (resting raw) (option_map owed own) v (resting (past raw index)) (option_map owed left)
 
-  given_at : (raw : RawIter) (own : Option (Own V)) (index : ℕ) (v : V) (left : Option (Own V)) → IsSharedWalk raw own → raw.bucket < 63 → raw.index ≤ index → index < 2 ^ raw.bucket
-      → IfSome left (IsAhead (past raw index)) → YieldsOwn (option_map owed own) (id_at raw.bucket index) v (option_map owed left) → Given raw own index v left
+  given_at : (raw : RawIter) (own : Option (Own V)) (index : ℕ) (v : V) (left : Option (Own V))
+      → IsSharedWalk raw own → raw.bucket < 63 → raw.index ≤ index → index < 2 ^ raw.bucket
+      → IfSome left (IsAhead (past raw index))
+      → YieldsOwn (option_map owed own) (id_at raw.bucket index) v (option_map owed left)
+      → Given raw own index v left
   given_at raw own index v left walk low ahead inside own_ahead own_given =
       let met : Cursor = looking_at raw.bucket index in
       let leads : Leads (resting raw) met = leads_to_slot raw.bucket raw.index index low ahead inside in
@@ -60,15 +69,28 @@ module _ {V : Type 0} where
       let up = on.no_lower in
       record {
         walk = record { fits = to_fits; size = walk.size; own_ahead = own_ahead; yielded = omega arith };
-        gives = record { met = met; leads = leads; looks = refl; found = sym found; ahead = on.no_lower; in_range = omega arith; passed = omega arith; own_given = own_given };
+        gives = record {
+          met = met;
+          leads = leads;
+          looks = refl;
+          found = sym found;
+          ahead = on.no_lower;
+          in_range = omega arith;
+          passed = omega arith;
+          own_given = own_given;
+        };
       }
 
   -- the slot lies before the own value
-  not_own : (raw : RawIter) (own : Option (Own V)) (index : ℕ) (v : V) → IfSome own (IsAhead raw) → index < search_end raw own → index < 2 ^ raw.bucket
+  not_own : (raw : RawIter) (own : Option (Own V)) (index : ℕ) (v : V) → IfSome own (IsAhead raw)
+      → index < search_end raw own → index < 2 ^ raw.bucket
       → IfSome own (IsAhead (past raw index)) × YieldsOwn (option_map owed own) (id_at raw.bucket index) v (option_map owed own)
   not_own raw None index v ahead near inside = (tt, refl)
   not_own raw (Some own) index v ahead near inside =
-      let P : ℕ → Type 0 = λ end. index < end → IsAhead (past raw index) own × (id_at raw.bucket index < id_at own.thread.bucket own.thread.index) in
+      let P : ℕ → Type 0 = λ end.
+      index < end
+      → IsAhead (past raw index) own
+      × (id_at raw.bucket index < id_at own.thread.bucket own.thread.index) in
       let both =
       cond_both {A = ℕ} (eqb own.thread.bucket raw.bucket) own.thread.index raw.bucket_size P
       (λ t below.
@@ -77,8 +99,10 @@ module _ {V : Type 0} where
       (record { bucket = ahead.bucket; index = λ _. omega arith }, omega arith))
       (λ f below.
       let apart = eqb-false own.thread.bucket raw.bucket f in
-      let low = ahead.bucket in
-      (record { bucket = ahead.bucket; index = λ same. absurd (apart same) }, later_bucket raw.bucket own.thread.bucket index own.thread.index (omega arith) inside))
+      let low = ahead.bucket in (
+        record { bucket = ahead.bucket; index = λ same. absurd (apart same) },
+        later_bucket raw.bucket own.thread.bucket index own.thread.index (omega arith) inside,
+      ))
       near in
       (both.0, inr (both.1, refl))
 
@@ -100,7 +124,9 @@ module _ {V : Type 0} where
       (λ f. let size = walk.size in let within = walk.fits.within in omega arith)
 
   -- a search of the row found a value at this slot
-  pub given_found : (raw : RawIter) (own : Option (Own V)) (index : ℕ) (v : V) → IsSharedWalk raw own → raw.bucket < 63 → raw.index ≤ index → index < search_end raw own → Given raw own index v own
+  pub given_found : (raw : RawIter) (own : Option (Own V)) (index : ℕ) (v : V)
+      → IsSharedWalk raw own → raw.bucket < 63 → raw.index ≤ index → index < search_end raw own
+      → Given raw own index v own
   given_found raw own index v walk low ahead near =
       let end = search_end-inside raw own walk in
       let inside : index < 2 ^ raw.bucket = omega arith in
@@ -108,7 +134,9 @@ module _ {V : Type 0} where
       given_at raw own index v own walk low ahead inside before.0 before.1
 
   -- the own value, which lies in the bucket, is given
-  pub given_own : (raw : RawIter) (own : Own V) → IsSharedWalk raw (Some own) → raw.bucket < 63 → lies_in (Some own) raw.bucket ≡ true → Given raw (Some own) own.thread.index own.value.now None
+  pub given_own : (raw : RawIter) (own : Own V) → IsSharedWalk raw (Some own) → raw.bucket < 63
+      → lies_in (Some own) raw.bucket ≡ true
+      → Given raw (Some own) own.thread.index own.value.now None
   given_own raw own walk low here =
       let same = eqb-true own.thread.bucket raw.bucket here in
       let power : 2 ^ own.thread.bucket ≡ 2 ^ raw.bucket = ap (λ k. 2 ^ k) same in
@@ -119,7 +147,9 @@ module _ {V : Type 0} where
 
   -- 3. A whole call.
 
-  pub gives_later : (from met to : Cursor) (own left : Option (Owed V)) (v : V) → Leads from met → CursorFits from → Yields met own v to left → Yields from own v to left
+  pub gives_later : (from met to : Cursor) (own left : Option (Owed V)) (v : V) → Leads from met
+      → CursorFits from → Yields met own v to left
+      → Yields from own v to left
   gives_later from met to own left v leads fits gives =
       let up = (leads_on from met leads fits).no_lower in
       let ahead = gives.ahead in
@@ -139,10 +169,19 @@ module _ {V : Type 0} where
   no_own raw (Some own) end ahead = let low = own.thread.in_table in let up = ahead.bucket in absurd (omega arith)
 
   -- past the last bucket nothing is owed
-  pub ends : (from : Cursor) (raw : RawIter) (own : Option (Own V)) → IsSharedWalk raw own → 63 ≤ raw.bucket → Leads from (resting raw) → Ends from (option_map owed own) (resting raw) (option_map owed own)
+  pub ends : (from : Cursor) (raw : RawIter) (own : Option (Own V)) → IsSharedWalk raw own
+      → 63 ≤ raw.bucket → Leads from (resting raw)
+      → Ends from (option_map owed own) (resting raw) (option_map owed own)
   ends from raw own walk end leads =
       let none : option_map owed own ≡ None = ap (option_map owed) (no_own raw own end walk.own_ahead) in
-      record { leads = leads; complete = (let past_last = le-ltb raw.bucket 63 end in ap (λ (low : Bool). cond low false true) past_last); none_owed = none; none_left = none }
+      record {
+        leads = leads;
+        complete =
+            (let past_last = le-ltb raw.bucket 63 end in
+            ap (λ (low : Bool). cond low false true) past_last);
+        none_owed = none;
+        none_left = none;
+      }
 
   -- 4. What the code's functions ensure.
 
@@ -155,7 +194,8 @@ module _ {V : Type 0} where
     pub walk : IsSharedWalk to left
     pub gives : Yields (resting raw) (option_map owed own) v (resting to) (option_map owed left)
 
-  pub given_search : (raw to : RawIter) (own : Option (Own V)) (end : ℕ) (v : V) → IsSharedWalk raw own → raw.bucket < 63 → end ≡ search_end raw own
+  pub given_search : (raw to : RawIter) (own : Option (Own V)) (end : ℕ) (v : V)
+      → IsSharedWalk raw own → raw.bucket < 63 → end ≡ search_end raw own
       → raw.index < to.index → to.index ≤ end → to ≡ past raw (to.index - 1) → GivenTo raw own v to own
   given_search raw to own end v walk low is ahead near left =
       let there = given_found raw own (to.index - 1) v walk low (omega arith) (omega arith) in
@@ -167,7 +207,10 @@ module _ {V : Type 0} where
   SaysNone raw own result to left = IfNone result ((lies_in own raw.bucket ≡ false) × (to ≡ next_bucket raw) × (left ≡ own))
 
   abbrev pub SaysSome : RawIter → Option (Own V) → Option (Bor V) → RawIter → Option (Own V) → Type 0
-  SaysSome raw own result to left = IfSome result (λ x. (lies_in own raw.bucket ≡ true) × (left ≡ None) × IfSome own (λ o. (x.now ≡ o.value.now) × (to ≡ past raw o.thread.index)))
+  SaysSome raw own result to left =
+      IfSome result (λ x.
+      (lies_in own raw.bucket ≡ true) × (left ≡ None)
+      × IfSome own (λ o. (x.now ≡ o.value.now) × (to ≡ past raw o.thread.index)))
 
   -- what a function on one bucket ensures
   pub record Ended (raw : RawIter) (own : Option (Own V)) (result : Option (Bor V)) (to : RawIter) (left : Option (Own V)) : Type 0 where
@@ -175,29 +218,41 @@ module _ {V : Type 0} where
     pub none : IfNone result ((left ≡ own) × (to ≡ next_bucket raw))
     pub some : IfSome result (λ x. Yields (resting raw) (option_map owed own) x.now (resting to) (option_map owed left))
 
-  missed : (raw to : RawIter) (own left : Option (Own V)) → IsSharedWalk raw own → raw.bucket < 63 → lies_in own raw.bucket ≡ false → to ≡ next_bucket raw → left ≡ own → Ended raw own None to left
+  missed : (raw to : RawIter) (own left : Option (Own V)) → IsSharedWalk raw own → raw.bucket < 63
+      → lies_in own raw.bucket ≡ false → to ≡ next_bucket raw → left ≡ own
+      → Ended raw own None to left
   missed raw to own left walk low elsewhere next same =
       let kept = walk_after_bucket raw own walk low elsewhere in
       let moved : IsSharedWalk to own = subst (λ (r : RawIter). IsSharedWalk r own) (sym next) kept in
       record { walk = subst (λ (o : Option (Own V)). IsSharedWalk to o) (sym same) moved; none = (same, next); some = tt }
 
-  gave : (raw to : RawIter) (own : Own V) (left : Option (Own V)) (x : Bor V) → IsSharedWalk raw (Some own) → raw.bucket < 63 → lies_in (Some own) raw.bucket ≡ true → left ≡ None
+  gave : (raw to : RawIter) (own : Own V) (left : Option (Own V)) (x : Bor V)
+      → IsSharedWalk raw (Some own) → raw.bucket < 63 → lies_in (Some own) raw.bucket ≡ true
+      → left ≡ None
       → x.now ≡ own.value.now → to ≡ past raw own.thread.index → Ended raw (Some own) (Some x) to left
   gave raw to own left x walk low here none value there =
       let given = given_own raw own walk low here in
       let all : GivenTo raw (Some own) own.value.now (past raw own.thread.index) None = record { walk = given.walk; gives = given.gives } in
-      let moved : GivenTo raw (Some own) own.value.now to None = subst (λ (r : RawIter). GivenTo raw (Some own) own.value.now r None) (sym there) all in
-      let emptied : GivenTo raw (Some own) own.value.now to left = subst (λ (o : Option (Own V)). GivenTo raw (Some own) own.value.now to o) (sym none) moved in
+      let moved : GivenTo raw (Some own) own.value.now to None =
+      subst (λ (r : RawIter). GivenTo raw (Some own) own.value.now r None) (sym there) all in
+      let emptied : GivenTo raw (Some own) own.value.now to left =
+      subst (λ (o : Option (Own V)). GivenTo raw (Some own) own.value.now to o)
+      (sym none) moved in
       let item : GivenTo raw (Some own) x.now to left = subst (λ (v : V). GivenTo raw (Some own) v to left) (sym value) emptied in
       record { walk = item.walk; none = tt; some = item.gives }
 
-  ended_at : (raw to : RawIter) (own left : Option (Own V)) (result : Option (Bor V)) → IsSharedWalk raw own → raw.bucket < 63 → SaysNone raw own result to left → SaysSome raw own result to left → Ended raw own result to left
+  ended_at : (raw to : RawIter) (own left : Option (Own V)) (result : Option (Bor V))
+      → IsSharedWalk raw own → raw.bucket < 63 → SaysNone raw own result to left
+      → SaysSome raw own result to left
+      → Ended raw own result to left
   ended_at raw to own left None walk low none some = missed raw to own left walk low none.0 none.1 none.2
   ended_at raw to None left (Some x) walk low none some = let never : false ≡ true = some.0 in cc
   ended_at raw to (Some own) left (Some x) walk low none some = gave raw to own left x walk low some.0 some.1 some.2.0 some.2.1
 
   -- the same once the row was searched up to an index
-  pub ended : (raw mid to : RawIter) (index : ℕ) (own left : Option (Own V)) (result : Option (Bor V)) → mid ≡ at_index raw index → IsSharedWalk raw own → raw.bucket < 63
+  pub ended : (raw mid to : RawIter) (index : ℕ) (own left : Option (Own V))
+      (result : Option (Bor V))
+      → mid ≡ at_index raw index → IsSharedWalk raw own → raw.bucket < 63
       → SaysNone mid own result to left → SaysSome mid own result to left → Ended raw own result to left
   ended raw mid to index own left result is walk low none some =
       ended_at raw to own left result walk low

@@ -12,7 +12,10 @@ pub record TableView : Type 0 where
   pub reserved : ℕ
 
 abbrev pub table_view_coded : Coded TableView
-table_view_coded = code_by (ℕ × (Option ℕ × ℕ)) (coded× coded_ℕ (coded× (coded_option coded_ℕ) coded_ℕ)) (λ s. (s.table, (s.sharing, s.reserved))) (λ p. record { table = p.0; sharing = p.1.0; reserved = p.1.1 }) (λ _. refl)
+table_view_coded =
+    code_by (ℕ × (Option ℕ × ℕ)) (coded× coded_ℕ (coded× (coded_option coded_ℕ) coded_ℕ))
+    (λ s. (s.table, (s.sharing, s.reserved)))
+    (λ p. record { table = p.0; sharing = p.1.0; reserved = p.1.1 }) (λ _. refl)
 
 -- the view of the bucket of this number
 abbrev pub bucket_view : TableView → ℕ → BucketView
@@ -28,9 +31,15 @@ bucket_at buckets bucket = slice_index_or buckets bucket no_bucket
 
 -- the view of these buckets and this number of reserved slots
 abbrev pub table_view_of : List BucketView → ℕ → TableView
-table_view_of buckets reserved = record { table = (bucket_at buckets 0).table; sharing = (bucket_at buckets 0).sharing; reserved = reserved }
+table_view_of buckets reserved = record {
+  table = (bucket_at buckets 0).table;
+  sharing = (bucket_at buckets 0).sharing;
+  reserved = reserved;
+}
 
 -- each bucket has its own number, all are of one table and one sharing, and each says whether it is
 -- reserved
 abbrev pub AreBuckets : List BucketView → ℕ → Type 0
-AreBuckets buckets reserved = (bucket : ℕ) → bucket < 63 → bucket_at buckets bucket ≡ bucket_view (table_view_of buckets reserved) bucket
+AreBuckets buckets reserved =
+    (bucket : ℕ) → bucket < 63
+    → bucket_at buckets bucket ≡ bucket_view (table_view_of buckets reserved) bucket

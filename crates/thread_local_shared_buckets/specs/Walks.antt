@@ -1,5 +1,6 @@
 -- What a contract sees of a walk over buckets that threads share, and what a call of `next` does.
-use Rattle.std.specs.Prelude.{◌≡◌, ℕ, suc, ◌-◌, ◌^◌, ◌<◌, ◌≤◌, ◌⊎◌, Bool, true, IsTrue, Option, Some, None, MatchOption, IfSome, option_map, refl}
+use Rattle.std.specs.Prelude.{◌≡◌, ℕ, suc, ◌-◌, ◌^◌, ◌<◌, ◌≤◌, ◌⊎◌, Bool, true, IsTrue, Option, Some, None, MatchOption}
+use Rattle.std.specs.Prelude.{IfSome, option_map, refl}
 use Rattle.std.specs.Iterator.{Count, at_most}
 use Rattle.std.specs.Coded.{Coded, coded_option, coded_ℕ, coded×, code_by}
 use base.Stored.{coded_bool}
@@ -23,13 +24,18 @@ pub record WalkView (V : Type 0) : Type 0 where
 
 -- injective codes of such views, for ghost state
 abbrev cursor_coded : Coded Cursor
-cursor_coded = code_by (ℕ × (ℕ × Bool)) (coded× coded_ℕ (coded× coded_ℕ coded_bool)) (λ c. (c.bucket, (c.index, c.looks))) (λ p. record { bucket = p.0; index = p.1.0; looks = p.1.1 }) (λ _. refl)
+cursor_coded =
+    code_by (ℕ × (ℕ × Bool)) (coded× coded_ℕ (coded× coded_ℕ coded_bool))
+    (λ c. (c.bucket, (c.index, c.looks)))
+    (λ p. record { bucket = p.0; index = p.1.0; looks = p.1.1 }) (λ _. refl)
 
 abbrev owed_coded : {V : Type 0} → Coded V → Coded (Owed V)
 owed_coded {V} c = code_by (ℕ × V) (coded× coded_ℕ c) (λ o. (o.id, o.value)) (λ p. record { id = p.0; value = p.1 }) (λ _. refl)
 
 abbrev pub walk_view_coded : {V : Type 0} → Coded V → Coded (WalkView V)
-walk_view_coded {V} c = code_by (Cursor × (Option (Owed V) × Bool)) (coded× cursor_coded (coded× (coded_option (owed_coded c)) coded_bool))
+walk_view_coded {V} c =
+    code_by (Cursor × (Option (Owed V) × Bool))
+    (coded× cursor_coded (coded× (coded_option (owed_coded c)) coded_bool))
     (λ w. (w.cursor, (w.own, w.shown))) (λ p. record { cursor = p.0; own = p.1.0; shown = p.1.1 }) (λ _. refl)
 
 -- a walk that has just begun, with an own value to give or none
@@ -68,7 +74,8 @@ pub record Ends {V : Type 0} (from : Cursor) (own : Option (Owed V)) (to : Curso
 
 -- what a call of `next` does
 pub record Goes {V : Type 0} (walk : WalkView V) (item : Option (Bor V)) (left : WalkView V) : Type 0 where
-  pub gives : MatchOption item (Ends walk.cursor walk.own left.cursor left.own) (λ x. Yields walk.cursor walk.own x.now left.cursor left.own)
+  pub gives : MatchOption item (Ends walk.cursor walk.own left.cursor left.own)
+      (λ x. Yields walk.cursor walk.own x.now left.cursor left.own)
   pub shown : left.shown ≡ walk.shown
 
 -- what a call of `next` does where it gives each value with its id, which is the last one passed

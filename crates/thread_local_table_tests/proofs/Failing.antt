@@ -4,7 +4,9 @@ use Rattle.thread_local_model.specs.Answers.{view_after_or}
 use Rattle.thread_local.specs.Seats.{LocalView, knows, Fails}
 
 -- the bucket stands
-pub known_after : {V E : Type 0} {makes : E → Type 0} {old new : LocalView V} {error : E} → old.value ≡ None → Fails makes old new error → new.known ≡ true
+pub known_after : {V E : Type 0} {makes : E → Type 0} {old new : LocalView V} {error : E}
+    → old.value ≡ None → Fails makes old new error
+    → new.known ≡ true
 known_after {V} {E} {makes} {old} {new} {error} none fails =
     let P : Option V → Type 0 = λ value. view_after_or (knows old) value false (Err error) ≡ knows new in
     sym (ap (λ view. view.known) (subst P none fails.says.leaves))

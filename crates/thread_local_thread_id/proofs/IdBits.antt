@@ -1,5 +1,6 @@
 -- What each step of the bits of ids makes of their words, their peak, their lowest unset bit and their end.
-use Rattle.std.proofs.Common.{◌≡◌, ◌≢◌, ℕ, ◌+◌, ◌-◌, ◌*◌, ◌/◌, ◌^◌, ◌<◌, ◌≤◌, min, max, Bool, true, false, List, [], ◌∷◌, ◌++◌, length, take, set, replicate, sym, ◌∙◌, arith, ⊎_elim}
+use Rattle.std.proofs.Common.{◌≡◌, ◌≢◌, ℕ, ◌+◌, ◌-◌, ◌*◌, ◌/◌, ◌^◌, ◌<◌, ◌≤◌, min, max, Bool, true, false, List, []}
+use Rattle.std.proofs.Common.{◌∷◌, ◌++◌, length, take, set, replicate, sym, ◌∙◌, arith, ⊎_elim}
 use Rattle.std.proofs.lemmas.Bool.{both_ways, true_from_ne_false, cases_eq, cases_lt}
 use Rattle.std.proofs.lemmas.List.{length-replicate, length_push, length-take, get_or-set_same, get_or-set_other}
 use Rattle.thread_local_lemmas.specs.Bits.{bits_of, IsNextUnset}
@@ -14,9 +15,12 @@ pub in_room : (m : Inside) → AreEntries m → length (take m.peak (bits_of m.w
 in_room m is = omega (arith, length-take m.peak (bits_of m.words), is.peak, is.in_range)
 
 -- words that are all 0 hold no id
-pub of_zeros : (new : Inside) (count : ℕ) → new.words ≡ replicate count 0 → count ≤ 2 ^ 57 → new.peak ≡ 0 → new.lowest_unset ≡ 0 → AreEntries new
+pub of_zeros : (new : Inside) (count : ℕ) → new.words ≡ replicate count 0 → count ≤ 2 ^ 57
+    → new.peak ≡ 0 → new.lowest_unset ≡ 0
+    → AreEntries new
 of_zeros new count zeros within peak lowest_unset =
-    let free : (id : ℕ) → is_held (bits_of new.words) id ≡ false = λ id. rw zeros (get_or-bits_of (replicate count 0) id ∙ is_set_in-zeros count id) in
+    let free : (id : ℕ) → is_held (bits_of new.words) id ≡ false =
+    λ id. rw zeros (get_or-bits_of (replicate count 0) id ∙ is_set_in-zeros count id) in
     record {
       words = rw zeros (omega (arith, length-replicate {A = ℕ} count 0));
       peak = omega arith;
@@ -42,12 +46,16 @@ pushed old new is items within peak lowest_unset end = record {
 
 -- the least free id is the peak, and is held from now on
 pub held_at_peak : (old new : Inside) (id : ℕ) → AreEntries old → bits_of new.words ≡ set (bits_of old.words) id true
-    → length new.words ≡ length old.words → id ≡ least (bits_of old.words) → id ≡ old.peak → id < length old.words * 64 → id < 2 ^ 63 - 1
+    → length new.words ≡ length old.words → id ≡ least (bits_of old.words) → id ≡ old.peak
+    → id < length old.words * 64 → id < 2 ^ 63 - 1
     → new.peak ≡ old.peak + 1 → new.lowest_unset ≡ old.peak + 1 → AreEntries new
 held_at_peak old new id is bits many first at room range peak lowest_unset =
     let entries : List Bool = bits_of old.words in
-    let held : HoldsAllBelow (id + 1) (set entries id true) = HoldsAllBelow-hold entries id (omega (arith, length-bits_of old.words)) first in
-    let above : (k : ℕ) → old.peak + 1 ≤ k → is_held (set entries id true) k ≡ false = IsFreeFrom-set entries (old.peak + 1) id true (omega arith) (λ k from. is.above k (omega arith)) in
+    let held : HoldsAllBelow (id + 1) (set entries id true) =
+    HoldsAllBelow-hold entries id (omega (arith, length-bits_of old.words)) first in
+    let above : (k : ℕ) → old.peak + 1 ≤ k → is_held (set entries id true) k ≡ false =
+    IsFreeFrom-set entries (old.peak + 1) id true (omega arith)
+    (λ k from. is.above k (omega arith)) in
     record {
       words = omega (arith, is.words);
       peak = omega arith;
@@ -70,7 +78,8 @@ held_last old new id is bits many first below end peak lowest_unset =
     true_from_ne_false (is_held (set entries id true) k) (λ free.
     let before = is.end k under (was_free entries id k inside free).1 in
     both_ways (is_held (set entries id true) k) free (lower k (omega arith))) in
-    let above : (k : ℕ) → old.peak ≤ k → is_held (set entries id true) k ≡ false = IsFreeFrom-set entries old.peak id true below is.above in
+    let above : (k : ℕ) → old.peak ≤ k → is_held (set entries id true) k ≡ false =
+    IsFreeFrom-set entries old.peak id true below is.above in
     record {
       words = omega (arith, is.words);
       peak = omega (arith, is.peak);
@@ -105,7 +114,9 @@ held_below_peak old new id is bits many first below peak end next =
 
 -- an id below the peak is freed
 pub freed : (old new : Inside) (id : ℕ) → AreEntries old → bits_of new.words ≡ set (bits_of old.words) id false
-    → length new.words ≡ length old.words → id < old.peak → new.peak ≡ old.peak → new.lowest_unset ≡ min old.lowest_unset id → new.end ≡ max old.end (id + 1) → AreEntries new
+    → length new.words ≡ length old.words → id < old.peak → new.peak ≡ old.peak
+    → new.lowest_unset ≡ min old.lowest_unset id → new.end ≡ max old.end (id + 1)
+    → AreEntries new
 freed old new id is bits many below peak lowest_unset end =
     let entries : List Bool = bits_of old.words in
     let inside : id < length entries = omega (arith, length-bits_of old.words, is.peak) in
@@ -114,7 +125,9 @@ freed old new id is bits many below peak lowest_unset end =
       peak = omega (arith, is.peak);
       in_range = rw peak is.in_range;
       above = rw (bits, peak) (IsFreeFrom-set entries old.peak id false below is.above);
-      lowest_unset = rw bits (HoldsAllBelow-set entries id new.lowest_unset false (omega arith) (λ k under. is.lowest_unset k (omega arith)));
+      lowest_unset =
+          rw bits (HoldsAllBelow-set entries id new.lowest_unset false (omega arith)
+          (λ k under. is.lowest_unset k (omega arith)));
       lowest_is_unset =
           ⊎_elim
           (λ (lower : old.lowest_unset < id).
@@ -127,6 +140,10 @@ freed old new id is bits many below peak lowest_unset end =
       end = λ k under free.
           ⊎_elim
           (λ (same : k ≡ id). omega arith)
-          (λ (apart : k ≢ id). let before = is.end k (omega arith) (sym (get_or-set_other entries id k false false apart) ∙ (rw bits at free)) in omega arith)
+          (λ (apart : k ≢ id).
+          let before =
+          is.end k (omega arith)
+          (sym (get_or-set_other entries id k false false apart) ∙ (rw bits at free)) in
+          omega arith)
           (cases_eq k id);
     }

@@ -1,6 +1,7 @@
 -- The held ids without one that was given back: the least free one, and what a take changes.
 -- Lists are the held ids that bits have, and `returned` is one of them or past all of them.
-use Rattle.std.proofs.Common.{◌≡◌, ℕ, zero, suc, ◌-◌, ◌^◌, ◌<◌, ◌≤◌, Bool, true, false, List, [], ◌∷◌, length, refl, ap, ◌∙◌, sym, arith, IsTrue, ◌⊎◌, ⊎_elim}
+use Rattle.std.proofs.Common.{◌≡◌, ℕ, zero, suc, ◌-◌, ◌^◌, ◌<◌, ◌≤◌, Bool, true, false, List, [], ◌∷◌, length, refl, ap}
+use Rattle.std.proofs.Common.{◌∙◌, sym, arith, IsTrue, ◌⊎◌, ⊎_elim}
 use Rattle.std.proofs.lemmas.Bool.{both_ways, cases_eq, cases_lt}
 use Rattle.thread_local_model.specs.Held.{Manager, is_held, least, with_least, without, HoldsAllBelow, Takes}
 use Rattle.thread_local_model.proofs.HeldLaws.{least_free, least_bounded, length-without, takes}
@@ -32,7 +33,8 @@ least-without_above (false ∷ held) (suc id) above = refl
 least-without_above (true ∷ held) zero above = absurd (omega arith)
 least-without_above (true ∷ held) (suc id) above = ap suc (least-without_above held id (omega arith))
 
-pub with_least-without_above : (held : List Bool) (id : ℕ) → least held < id → without (with_least held) id ≡ with_least (without held id)
+pub with_least-without_above : (held : List Bool) (id : ℕ) → least held < id
+    → without (with_least held) id ≡ with_least (without held id)
 with_least-without_above [] zero above = absurd (omega arith)
 with_least-without_above [] (suc id) above = refl
 with_least-without_above (false ∷ held) zero above = absurd (omega arith)
@@ -49,8 +51,10 @@ above_least held id here above =
     (cases_eq (least held) id)
 
 -- where the id is the lower one, it is taken, and the bits have what is held again
-pub takes_returned : (bits : Manager) (returned : ℕ) → returned < least bits.held → length bits.held ≤ bits.room → bits.room ≤ 2 ^ 63 - 1
-    → Takes (record { held = without bits.held returned; room = bits.room }) (record { held = without bits.held (2 ^ 63 - 1); room = bits.room }) returned
+pub takes_returned : (bits : Manager) (returned : ℕ) → returned < least bits.held
+    → length bits.held ≤ bits.room → bits.room ≤ 2 ^ 63 - 1
+    → Takes (record { held = without bits.held returned; room = bits.room })
+    (record { held = without bits.held (2 ^ 63 - 1); room = bits.room }) returned
 takes_returned bits returned below within range =
     takes _ _ returned
     (sym (least-without_below bits.held returned below))
@@ -61,8 +65,11 @@ takes_returned bits returned below within range =
     range
 
 -- where the least free bit is the lower one, its take is a take of what is held too
-pub takes_another : (old new : Manager) (returned id : ℕ) → (returned ≡ 2 ^ 63 - 1) ⊎ IsTrue (is_held old.held returned) → least old.held ≤ returned → Takes old new id
-    → Takes (record { held = without old.held returned; room = old.room }) (record { held = without new.held returned; room = new.room }) id
+pub takes_another : (old new : Manager) (returned id : ℕ)
+    → (returned ≡ 2 ^ 63 - 1) ⊎ IsTrue (is_held old.held returned) → least old.held ≤ returned
+    → Takes old new id
+    → Takes (record { held = without old.held returned; room = old.room })
+    (record { held = without new.held returned; room = new.room }) id
 takes_another old new returned id there above taken =
     let first = taken.least in
     let range = taken.in_range in
@@ -77,7 +84,9 @@ takes_another old new returned id there above taken =
     taken.room_in_range
 
 -- where every bit below the peak is set, there is no such id
-pub none_returned : (held : List Bool) (returned : ℕ) → HoldsAllBelow (length held) held → least held ≤ returned → without held returned ≡ held
+pub none_returned : (held : List Bool) (returned : ℕ) → HoldsAllBelow (length held) held
+    → least held ≤ returned
+    → without held returned ≡ held
 none_returned held returned full above =
     ⊎_elim
     (λ inside. absurd (both_ways (is_held held (least held)) (least_free held) (full (least held) inside)))

@@ -1,6 +1,7 @@
 -- The entries of a manager below the peak: all that contracts see, since every entry from the peak
 -- on is free.
-use Rattle.std.proofs.Common.{◌≡◌, ◌≢◌, ℕ, zero, suc, ◌+◌, ◌*◌, ◌<◌, ◌≤◌, Bool, true, false, List, [], ◌∷◌, length, take, set, ◌++◌, refl, ap, sym, ◌∙◌, arith, ⊎_elim}
+use Rattle.std.proofs.Common.{◌≡◌, ◌≢◌, ℕ, zero, suc, ◌+◌, ◌*◌, ◌<◌, ◌≤◌, Bool, true, false, List, [], ◌∷◌, length}
+use Rattle.std.proofs.Common.{take, set, ◌++◌, refl, ap, sym, ◌∙◌, arith, ⊎_elim}
 use Rattle.std.proofs.lemmas.List.{get_or-set_same, get_or-set_other, take-append-le}
 use Rattle.std.proofs.lemmas.Bool.{both_ways, cases_eq}
 use Rattle.thread_local_model.proofs.HeldLaws.{least_lower}
@@ -13,14 +14,16 @@ abbrev pub IsFreeFrom : ℕ → List Bool → Type 0
 IsFreeFrom peak entries = (id : ℕ) → peak ≤ id → is_held entries id ≡ false
 
 -- the entries from the peak on don't count
-pub is_held-take : (entries : List Bool) (peak id : ℕ) → IsFreeFrom peak entries → is_held (take peak entries) id ≡ is_held entries id
+pub is_held-take : (entries : List Bool) (peak id : ℕ) → IsFreeFrom peak entries
+    → is_held (take peak entries) id ≡ is_held entries id
 is_held-take [] zero id above = refl
 is_held-take [] (suc peak) id above = refl
 is_held-take (h ∷ entries) zero id above = sym (above id (omega arith))
 is_held-take (h ∷ entries) (suc peak) zero above = refl
 is_held-take (h ∷ entries) (suc peak) (suc id) above = is_held-take entries peak id (λ k p. above (suc k) (omega arith))
 
-pub least-take : (entries : List Bool) (peak : ℕ) → peak ≤ length entries → IsFreeFrom peak entries → least (take peak entries) ≡ least entries
+pub least-take : (entries : List Bool) (peak : ℕ) → peak ≤ length entries → IsFreeFrom peak entries
+    → least (take peak entries) ≡ least entries
 least-take [] zero within above = refl
 least-take [] (suc peak) within above = refl
 least-take (false ∷ entries) zero within above = refl
@@ -65,7 +68,9 @@ length-front (e ∷ entries) zero = omega arith
 length-front (e ∷ entries) (suc peak) = let front = length-front entries peak in omega arith
 
 -- a write below the peak doesn't change the entries from the peak on
-pub IsFreeFrom-set : (entries : List Bool) (peak id : ℕ) (value : Bool) → id < peak → IsFreeFrom peak entries → IsFreeFrom peak (set entries id value)
+pub IsFreeFrom-set : (entries : List Bool) (peak id : ℕ) (value : Bool) → id < peak
+    → IsFreeFrom peak entries
+    → IsFreeFrom peak (set entries id value)
 IsFreeFrom-set entries peak id value below above k h = let apart : k ≢ id = omega arith in rw get_or-set_other (above k h)
 
 -- the first free entry is at the peak or below it
@@ -73,21 +78,29 @@ pub least_within : (entries : List Bool) (peak : ℕ) → peak ≤ length entrie
 least_within [] peak within above = omega arith
 least_within (false ∷ entries) peak within above = omega arith
 least_within (true ∷ entries) zero within above = let first : true ≡ false = above 0 (omega arith) in cc
-least_within (true ∷ entries) (suc peak) within above = let rest = least_within entries peak (omega arith) (λ k p. above (suc k) (omega arith)) in omega arith
+least_within (true ∷ entries) (suc peak) within above =
+    let rest = least_within entries peak (omega arith) (λ k p. above (suc k) (omega arith)) in
+    omega arith
 
 -- a write doesn't change the entries before it
-pub HoldsAllBelow-set : (entries : List Bool) (id n : ℕ) (value : Bool) → n ≤ id → HoldsAllBelow n entries → HoldsAllBelow n (set entries id value)
+pub HoldsAllBelow-set : (entries : List Bool) (id n : ℕ) (value : Bool) → n ≤ id
+    → HoldsAllBelow n entries
+    → HoldsAllBelow n (set entries id value)
 HoldsAllBelow-set entries id n value before held k below = let apart : k ≢ id = omega arith in rw get_or-set_other (held k below)
 
 -- appending a word that is 0 changes neither what is held nor a prefix
 pub is_held-push : (words : List ℕ) (id : ℕ) → is_held (bits_of (words ++ 0 ∷ [])) id ≡ is_held (bits_of words) id
 is_held-push words id = get_or-bits_of (words ++ 0 ∷ []) id ∙ is_set_in-push_zero words id ∙ sym (get_or-bits_of words id)
 
-pub take-push : (words : List ℕ) (peak : ℕ) → peak ≤ length words * 64 → take peak (bits_of (words ++ 0 ∷ [])) ≡ take peak (bits_of words)
-take-push words peak within = ap (take peak) (bits_of-append words (0 ∷ [])) ∙ take-append-le peak (bits_of words) (bits_of (0 ∷ [])) (omega (arith, length-bits_of words))
+pub take-push : (words : List ℕ) (peak : ℕ) → peak ≤ length words * 64
+    → take peak (bits_of (words ++ 0 ∷ [])) ≡ take peak (bits_of words)
+take-push words peak within =
+    ap (take peak) (bits_of-append words (0 ∷ []))
+    ∙ take-append-le peak (bits_of words) (bits_of (0 ∷ [])) (omega (arith, length-bits_of words))
 
 -- once the least free id is held, every id up to it is
-pub HoldsAllBelow-hold : (entries : List Bool) (id : ℕ) → id < length entries → id ≡ least entries → HoldsAllBelow (id + 1) (set entries id true)
+pub HoldsAllBelow-hold : (entries : List Bool) (id : ℕ) → id < length entries → id ≡ least entries
+    → HoldsAllBelow (id + 1) (set entries id true)
 HoldsAllBelow-hold entries id within first k below =
     ⊎_elim
     (λ (same : k ≡ id). rw same (get_or-set_same entries id true false within))
@@ -95,7 +108,11 @@ HoldsAllBelow-hold entries id within first k below =
     (cases_eq k id)
 
 -- an entry that is free after one becomes held was free before, and is another
-pub was_free : (entries : List Bool) (id k : ℕ) → id < length entries → is_held (set entries id true) k ≡ false → (k ≢ id) × (is_held entries k ≡ false)
+pub was_free : (entries : List Bool) (id k : ℕ) → id < length entries
+    → is_held (set entries id true) k ≡ false
+    → (k ≢ id) × (is_held entries k ≡ false)
 was_free entries id k within free =
-    let apart : k ≢ id = λ same. both_ways (is_held (set entries id true) k) free (rw same (get_or-set_same entries id true false within)) in
+    let apart : k ≢ id = λ same.
+    both_ways (is_held (set entries id true) k) free
+    (rw same (get_or-set_same entries id true false within)) in
     (apart, rw (get_or-set_other entries id k true false apart) at free)

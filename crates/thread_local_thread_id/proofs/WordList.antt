@@ -1,6 +1,7 @@
 -- The words as one list: what a write of the first word, or of one of the rest, makes of their bits,
 -- and which bit isn't set.
-use Rattle.std.proofs.Common.{◌≡◌, ◌≢◌, ℕ, suc, ◌+◌, ◌-◌, ◌*◌, ◌/◌, ◌%◌, ◌^◌, ◌<◌, ◌≤◌, Bool, List, ◌∷◌, length, get_or, take, set, refl, ap, subst, sym, ◌∙◌, arith}
+use Rattle.std.proofs.Common.{◌≡◌, ◌≢◌, ℕ, suc, ◌+◌, ◌-◌, ◌*◌, ◌/◌, ◌%◌, ◌^◌, ◌<◌, ◌≤◌, Bool, List, ◌∷◌, length, get_or}
+use Rattle.std.proofs.Common.{take, set, refl, ap, subst, sym, ◌∙◌, arith}
 use Rattle.std.specs.Int.{w64, trailing_ones}
 use Rattle.std.proofs.lemmas.List.{take_all, get_or_read, length-set, length-take}
 use Rattle.thread_local_lemmas.specs.Bits.{bits_of, is_set_in, IsWordBut, IsNextUnset}
@@ -9,7 +10,8 @@ use Rattle.thread_local_thread_id.specs.WordList.{words_of, AreWords}
 use Rattle.thread_local_lemmas.proofs.Words.{bits_of-set, is_set_in-all_ones, next_unset, next_unset_from}
 
 -- where there is a word, all of them are the first and the rest
-all_words : (count first : ℕ) (rest : List ℕ) → length rest ≡ count - 1 → 0 < count → take count (first ∷ rest) ≡ first ∷ rest
+all_words : (count first : ℕ) (rest : List ℕ) → length rest ≡ count - 1 → 0 < count
+    → take count (first ∷ rest) ≡ first ∷ rest
 all_words count first rest are some = take_all count (first ∷ rest) (omega arith)
 
 -- where there is a bit, there is a word
@@ -17,7 +19,8 @@ some_words : (w : Inside) (words : List ℕ) (bit : ℕ) → words_of w ≡ word
 some_words w words bit view within = omega (arith, ap length view, length-take w.count (w.first ∷ w.rest.items))
 
 -- a bit of the first word is written
-pub first_bit : (w : Inside) (words : List ℕ) (bit word : ℕ) (value : Bool) → AreWords w → words_of w ≡ words → bit < length words * 64 → bit < 64
+pub first_bit : (w : Inside) (words : List ℕ) (bit word : ℕ) (value : Bool) → AreWords w
+    → words_of w ≡ words → bit < length words * 64 → bit < 64
     → IsWordBut word w.first (bit % 64) value → bits_of (take w.count (word ∷ w.rest.items)) ≡ set (bits_of words) bit value
 first_bit w words bit word value are view within low but =
     let at : bit / 64 ≡ 0 = omega arith in
@@ -29,7 +32,8 @@ first_bit w words bit word value are view within low but =
     ∙ ap (λ words. set (bits_of words) bit value) all
 
 -- a bit of a later word, which was `old`, is written
-pub later_bit : (w : Inside) (words : List ℕ) (bit old word : ℕ) (value : Bool) → AreWords w → words_of w ≡ words → bit < length words * 64 → 64 ≤ bit
+pub later_bit : (w : Inside) (words : List ℕ) (bit old word : ℕ) (value : Bool) → AreWords w
+    → words_of w ≡ words → bit < length words * 64 → 64 ≤ bit
     → old ≡ get_or w.rest.items (bit / 64 - 1) old → IsWordBut word old (bit % 64) value
     → bits_of (take w.count (w.first ∷ set w.rest.items (bit / 64 - 1) word)) ≡ set (bits_of words) bit value
 later_bit w words bit old word value are view within high read but =
@@ -45,14 +49,16 @@ later_bit w words bit old word value are view within high read but =
     ∙ ap (λ words. set (bits_of words) bit value) all
 
 -- a bit behind the first word is a bit of the rest
-in_rest : (first : ℕ) (rest : List ℕ) (bit later : ℕ) → bit ≡ 64 + later → is_set_in (first ∷ rest) bit ≡ is_set_in rest later
+in_rest : (first : ℕ) (rest : List ℕ) (bit later : ℕ) → bit ≡ 64 + later
+    → is_set_in (first ∷ rest) bit ≡ is_set_in rest later
 in_rest first rest bit later same =
     let word : bit / 64 ≡ suc (later / 64) = omega arith in
     let place : bit % 64 ≡ later % 64 = omega arith in
     rw (word, place) refl
 
 -- the next unset bit of the rest is that of all words, 64 bits further on
-pub next_in_rest : (count first : ℕ) (rest : List ℕ) (from later bit : ℕ) → length rest ≡ count - 1 → 0 < length (take count (first ∷ rest)) → from ≡ 64 + later → IsNextUnset rest later bit
+pub next_in_rest : (count first : ℕ) (rest : List ℕ) (from later bit : ℕ) → length rest ≡ count - 1
+    → 0 < length (take count (first ∷ rest)) → from ≡ 64 + later → IsNextUnset rest later bit
     → IsNextUnset (take count (first ∷ rest)) from (64 + bit)
 next_in_rest count first rest from later bit are some same next =
     let after = next.after in
@@ -64,12 +70,17 @@ next_in_rest count first rest from later bit are some same next =
     })
 
 -- where the first word isn't full, the first unset bit is there
-pub next_in_first : (words : List ℕ) (first : ℕ) → first ≡ get_or words 0 0 → first < 2 ^ 64 → first ≢ 2 ^ 64 - 1 → IsNextUnset words 0 (trailing_ones w64 first)
+pub next_in_first : (words : List ℕ) (first : ℕ) → first ≡ get_or words 0 0 → first < 2 ^ 64
+    → first ≢ 2 ^ 64 - 1
+    → IsNextUnset words 0 (trailing_ones w64 first)
 next_in_first words first read fits apart =
     let same : 0 * 64 + trailing_ones w64 first ≡ trailing_ones w64 first = omega arith in
     subst (IsNextUnset words 0) same (next_unset words 0 first read fits apart)
 
 -- where it is full, the first unset bit is behind it
-pub next_behind_first : (words : List ℕ) (first bit : ℕ) → first ≡ get_or words 0 0 → first ≡ 2 ^ 64 - 1 → IsNextUnset words 64 bit → IsNextUnset words 0 bit
+pub next_behind_first : (words : List ℕ) (first bit : ℕ) → first ≡ get_or words 0 0
+    → first ≡ 2 ^ 64 - 1 → IsNextUnset words 64 bit
+    → IsNextUnset words 0 bit
 next_behind_first words first bit read full next =
-    next_unset_from words 0 64 bit (omega arith) (λ i _ below. is_set_in-all_ones words 0 i (sym read ∙ full) (omega arith) (omega arith)) next
+    next_unset_from words 0 64 bit (omega arith)
+    (λ i _ below. is_set_in-all_ones words 0 i (sym read ∙ full) (omega arith) (omega arith)) next

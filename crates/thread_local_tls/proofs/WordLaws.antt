@@ -1,5 +1,7 @@
 -- A word that `parse` reads is the number that it spells, and moves are read one after another.
-use Rattle.std.proofs.Common.{◌≡◌, ℕ, ◌^◌, ◌<◌, ◌++◌, true, false, List, [], ◌∷◌, length, nat_lt, refl, ap, sym, ◌∙◌, arith, Result, Ok, Err, Option, Some, None, codes, bytes_eq, option_map, option_and_then, append_assoc, ⊎_elim, lt-ltb, le-ltb}
+use Rattle.std.proofs.Common.{◌≡◌, ℕ, ◌^◌, ◌<◌, ◌++◌, true, false, List, [], ◌∷◌, length, nat_lt, refl, ap, sym, ◌∙◌}
+use Rattle.std.proofs.Common.{arith, Result, Ok, Err, Option, Some, None, codes, bytes_eq, option_map, option_and_then}
+use Rattle.std.proofs.Common.{append_assoc, ⊎_elim, lt-ltb, le-ltb}
 use Rattle.std.proofs.lemmas.Bool.{and_parts, and_from, and_right, cond-true, cond-false, cases_lt}
 use Rattle.std.proofs.lemmas.Bool.Decides.{nat_tests}
 use Rattle.std.proofs.lemmas.Str.Parse.{IsDigitsTest, numerals_by_value, parse_digits}
@@ -36,23 +38,31 @@ number_is : {E : Type 0} (word : List ℕ) (r : Result ℕ E) → 0 < length wor
     → OkIff r ((0 < length word) × (digits_value 10 word < 2 ^ 64)) (digits_value 10 word) → result_ok r ≡ number_of word
 number_is word (Ok x) some digits p =
     ap Some p.1
-    ∙ sym (cond-true _ _ _ (and_from _ _ (and_from _ _ (lt-ltb 0 (length word) some) digits) (lt-ltb (digits_value 10 word) (2 ^ 64) p.0.1)))
+    ∙ sym (cond-true _ _ _ (and_from _ _ (and_from _ _ (lt-ltb 0 (length word) some) digits)
+    (lt-ltb (digits_value 10 word) (2 ^ 64) p.0.1)))
 number_is word (Err e) some digits p =
-    sym (cond-false _ _ _ (and_right _ (nat_lt (digits_value 10 word) (2 ^ 64)) (too_large (digits_value 10 word) (λ small. p (some, small)))))
+    sym (cond-false _ _ _ (and_right _ (nat_lt (digits_value 10 word) (2 ^ 64))
+    (too_large (digits_value 10 word) (λ small. p (some, small)))))
 
-pub parsed_number : {E : Type 0} (word : List ℕ) (r : Result ℕ E) → ParsesUnsigned 64 10 word r → 0 < length word → AreDigits word → result_ok r ≡ number_of word
-parsed_number word r parsed some digits = number_is word r some digits (parse_digits (numerals_by_value AreDigits tells_digits) 64 word r parsed digits)
+pub parsed_number : {E : Type 0} (word : List ℕ) (r : Result ℕ E) → ParsesUnsigned 64 10 word r
+    → 0 < length word → AreDigits word
+    → result_ok r ≡ number_of word
+parsed_number word r parsed some digits =
+    number_is word r some digits
+    (parse_digits (numerals_by_value AreDigits tells_digits) 64 word r parsed digits)
 
 -- these moves in front of others
 abbrev pub moves_then : List Move → Option (List Move) → Option (List Move)
 moves_then front moves = option_map (λ rest. front ++ rest) moves
 
-pub moves_of-take : (word : List ℕ) (words : List (List ℕ)) → bytes_eq word (codes "take") ≡ true → moves_of (word ∷ words) ≡ move_then Take (moves_of words)
+pub moves_of-take : (word : List ℕ) (words : List (List ℕ)) → bytes_eq word (codes "take") ≡ true
+    → moves_of (word ∷ words) ≡ move_then Take (moves_of words)
 unfolding moves_of
 moves_of-take word [] is = cond-true _ _ _ is
 moves_of-take word (next ∷ words) is = cond-true _ _ _ is
 
-pub moves_of-give : (word next : List ℕ) (words : List (List ℕ)) → bytes_eq word (codes "take") ≡ false → bytes_eq word (codes "give") ≡ true
+pub moves_of-give : (word next : List ℕ) (words : List (List ℕ))
+    → bytes_eq word (codes "take") ≡ false → bytes_eq word (codes "give") ≡ true
     → moves_of (word ∷ next ∷ words) ≡ option_and_then (λ id. move_then (Give id) (moves_of words)) (number_of next)
 unfolding moves_of
 moves_of-give word next words not_take is = cond-false _ _ _ not_take ∙ cond-true _ _ _ is
@@ -61,12 +71,15 @@ pub moves_of-alone : (word : List ℕ) → bytes_eq word (codes "take") ≡ fals
 unfolding moves_of
 moves_of-alone word not_take = cond-false _ _ _ not_take
 
-pub moves_of-other : (word : List ℕ) (words : List (List ℕ)) → bytes_eq word (codes "take") ≡ false → bytes_eq word (codes "give") ≡ false → moves_of (word ∷ words) ≡ None
+pub moves_of-other : (word : List ℕ) (words : List (List ℕ)) → bytes_eq word (codes "take") ≡ false
+    → bytes_eq word (codes "give") ≡ false
+    → moves_of (word ∷ words) ≡ None
 unfolding moves_of
 moves_of-other word [] not_take not_give = cond-false _ _ _ not_take
 moves_of-other word (next ∷ words) not_take not_give = cond-false _ _ _ not_take ∙ cond-false _ _ _ not_give
 
-pub moves_then-first : (front : List Move) (move : Move) (moves : Option (List Move)) → moves_then front (move_then move moves) ≡ moves_then (front ++ move ∷ []) moves
+pub moves_then-first : (front : List Move) (move : Move) (moves : Option (List Move))
+    → moves_then front (move_then move moves) ≡ moves_then (front ++ move ∷ []) moves
 moves_then-first front move None = refl
 moves_then-first front move (Some rest) = ap Some (sym (append_assoc front (move ∷ []) rest))
 
@@ -74,12 +87,14 @@ pub moves_of-none : moves_of [] ≡ Some []
 unfolding moves_of
 moves_of-none = refl
 
-pub moves_of-give_number : (word next : List ℕ) (words : List (List ℕ)) (id : ℕ) → bytes_eq word (codes "take") ≡ false → bytes_eq word (codes "give") ≡ true
+pub moves_of-give_number : (word next : List ℕ) (words : List (List ℕ)) (id : ℕ)
+    → bytes_eq word (codes "take") ≡ false → bytes_eq word (codes "give") ≡ true
     → number_of next ≡ Some id → moves_of (word ∷ next ∷ words) ≡ move_then (Give id) (moves_of words)
 moves_of-give_number word next words id not_take is number =
     moves_of-give word next words not_take is ∙ ap (λ o. option_and_then (λ k. move_then (Give k) (moves_of words)) o) number
 
-pub moves_of-give_other : (word next : List ℕ) (words : List (List ℕ)) → bytes_eq word (codes "take") ≡ false → bytes_eq word (codes "give") ≡ true
+pub moves_of-give_other : (word next : List ℕ) (words : List (List ℕ))
+    → bytes_eq word (codes "take") ≡ false → bytes_eq word (codes "give") ≡ true
     → number_of next ≡ None → moves_of (word ∷ next ∷ words) ≡ None
 moves_of-give_other word next words not_take is number =
     moves_of-give word next words not_take is ∙ ap (λ o. option_and_then (λ k. move_then (Give k) (moves_of words)) o) number

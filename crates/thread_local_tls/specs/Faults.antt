@@ -50,15 +50,22 @@ pub record IsToldAndWritten (told : Result ℕ LocalError → Type 0) (old new :
 
 -- what is written answers the words: the total where they spell a tally, and otherwise the ids that
 -- their moves take
-abbrev pub Answers : (ℕ → ℕ → Result ℕ LocalError → Type 0) → List (List ℕ) → Option (List ℕ) → Option (List ℕ) → Type 0
-Answers told words old new = MatchOption (tally_of words) (AnswersIds words old new) (λ tally. IsToldAndWritten (told tally.0 tally.1) old new)
+abbrev pub Answers : (ℕ → ℕ → Result ℕ LocalError → Type 0) → List (List ℕ) → Option (List ℕ)
+    → Option (List ℕ)
+    → Type 0
+Answers told words old new =
+    MatchOption (tally_of words) (AnswersIds words old new)
+    (λ tally. IsToldAndWritten (told tally.0 tally.1) old new)
 
 -- memory may have been asked for: `tally` answered that it was refused, or the words name moves
 abbrev pub MayBeRefused : (ℕ → ℕ → Result ℕ LocalError → Type 0) → List (List ℕ) → Type 0
-MayBeRefused told words = MatchOption (tally_of words) (NamesMoves words) (λ tally. (error : LocalError) × told tally.0 tally.1 (Err error))
+MayBeRefused told words =
+    MatchOption (tally_of words) (NamesMoves words)
+    (λ tally. (error : LocalError) × told tally.0 tally.1 (Err error))
 
 -- what holds where memory was refused, which is told: it may have been, and nothing is written
-pub record IsRefused (told : ℕ → ℕ → Result ℕ LocalError → Type 0) (words : List (List ℕ)) (old new old_err new_err : Option (List ℕ)) : Type 0 where
+pub record IsRefused (told : ℕ → ℕ → Result ℕ LocalError → Type 0) (words : List (List ℕ))
+    (old new old_err new_err : Option (List ℕ)) : Type 0 where
   pub may_be : MayBeRefused told words
   pub keeps : Keeps old new
   pub is_told : IsTold Memory old_err new_err

@@ -16,4 +16,6 @@ pub record IsWithinLimits (workers numbers : ℕ) : Type 0 where
 
 -- the workers and the numbers of a tally, if they are within the limits
 abbrev pub limited : ℕ → ℕ → Option (ℕ × ℕ)
-limited workers numbers = if nat_le 1 workers && nat_le workers most_workers && nat_le numbers most_numbers then Some (workers, numbers) else None
+limited workers numbers =
+    if nat_le 1 workers && nat_le workers most_workers
+    && nat_le numbers most_numbers then Some (workers, numbers) else None

@@ -1,5 +1,7 @@
 -- What the words of a command line spell: moves, a tally, or neither.
-use Rattle.std.specs.Prelude.{◌≡◌, ℕ, ◌^◌, ◌&&◌, ◌++◌, List, [], ◌∷◌, length, nat_lt, map, flat_map, Option, Some, None, option_map, option_and_then, MatchOption, if◌then◌else◌, codes, bytes_eq, decimal, String, string_bytes, IsTrue}
+use Rattle.std.specs.Prelude.{◌≡◌, ℕ, ◌^◌, ◌&&◌, ◌++◌, List, [], ◌∷◌, length, nat_lt, map, flat_map, Option, Some, None}
+use Rattle.std.specs.Prelude.{option_map, option_and_then, MatchOption, if◌then◌else◌, codes, bytes_eq, decimal, String}
+use Rattle.std.specs.Prelude.{string_bytes, IsTrue}
 use Rattle.std.specs.Char.{is_ascii_digit}
 use Rattle.std.specs.List.{list_all}
 use Rattle.std.specs.declared.alloc.Global.{Global}
@@ -48,7 +50,8 @@ tally_of [] = None
 tally_of (command ∷ []) = None
 tally_of (command ∷ workers ∷ []) = None
 tally_of (command ∷ workers ∷ numbers ∷ []) =
-    if bytes_eq command (codes "tally") then option_and_then (λ w. option_and_then (λ n. limited w n) (number_of numbers)) (number_of workers) else None
+    if bytes_eq command (codes "tally") then option_and_then
+    (λ w. option_and_then (λ n. limited w n) (number_of numbers)) (number_of workers) else None
 tally_of (command ∷ workers ∷ numbers ∷ more ∷ words) = None
 
 -- the words spell moves that may run

@@ -17,10 +17,21 @@ use Rattle.thread_local_tokens.specs.contracts.witness.Witness as Witness
 abbrev pub token_val : Val
 token_val = vstruct (vcons (vstruct vnil) vnil)
 
-pub witness_made : {M : Type 1} {𝓤 : Ura M} (𝓛 : Logic 𝓤) (R : RattleType) (w : (Witness.the_row R).Denot) → ent 𝓤 (sem 𝓛 (tells R w.sharing w.id (Some w.value))) (sem 𝓛 ((Witness.the_row R).own_val w (token_val ∷ [])))
+pub witness_made : {M : Type 1} {𝓤 : Ura M} (𝓛 : Logic 𝓤) (R : RattleType)
+    (w : (Witness.the_row R).Denot)
+    → ent 𝓤 (sem 𝓛 (tells R w.sharing w.id (Some w.value)))
+    (sem 𝓛 ((Witness.the_row R).own_val w (token_val ∷ [])))
 witness_made 𝓛 R w = let F = (Struct (shape (Witness.the_type R))).own_val (tt, tt) (token_val ∷ []) in
-    qed 𝓛 (‵ (tells R w.sharing w.id (Some w.value)) ∷ []) ∵ use0 𝓛 (‵ F) (makes_shadow 𝓛 F (λ vss. (tt, ((λ uss. (tt, tt)), tt))) ((vstruct vnil ∷ [], tt), (refl, ((tt, (refl, tt)), tt)))) $ done !
+    qed 𝓛 (‵ (tells R w.sharing w.id (Some w.value)) ∷ []) ∵
+    use0 𝓛 (‵ F) (makes_shadow 𝓛 F (λ vss. (tt, ((λ uss. (tt, tt)), tt)))
+    ((vstruct vnil ∷ [], tt), (refl, ((tt, (refl, tt)), tt)))) $
+    done !
 
-pub book_made : {M : Type 1} {𝓤 : Ura M} (𝓛 : Logic 𝓤) (R : RattleType) (b : (Book.the_row R).Denot) → ent 𝓤 (sem 𝓛 (book_owns R b.sharing b.contents)) (sem 𝓛 ((Book.the_row R).own_val b (token_val ∷ [])))
+pub book_made : {M : Type 1} {𝓤 : Ura M} (𝓛 : Logic 𝓤) (R : RattleType) (b : (Book.the_row R).Denot)
+    → ent 𝓤 (sem 𝓛 (book_owns R b.sharing b.contents))
+    (sem 𝓛 ((Book.the_row R).own_val b (token_val ∷ [])))
 book_made 𝓛 R b = let F = (Struct (shape (Book.the_type R))).own_val (tt, tt) (token_val ∷ []) in
-    qed 𝓛 (‵ (book_owns R b.sharing b.contents) ∷ []) ∵ use0 𝓛 (‵ F) (makes_shadow 𝓛 F (λ vss. (tt, ((λ uss. (tt, tt)), tt))) ((vstruct vnil ∷ [], tt), (refl, ((tt, (refl, tt)), tt)))) $ done !
+    qed 𝓛 (‵ (book_owns R b.sharing b.contents) ∷ []) ∵
+    use0 𝓛 (‵ F) (makes_shadow 𝓛 F (λ vss. (tt, ((λ uss. (tt, tt)), tt)))
+    ((vstruct vnil ∷ [], tt), (refl, ((tt, (refl, tt)), tt)))) $
+    done !

@@ -10,4 +10,7 @@ pub record TokenView (V : Type 0) : Type 0 where
 
 -- an injective code of such views, for ghost state
 abbrev pub token_view_coded : {V : Type 0} → Coded V → Coded (TokenView V)
-token_view_coded {V} c = code_by (Option ℕ × (ℕ × V)) (coded× (coded_option coded_ℕ) (coded× coded_ℕ c)) (λ p. (p.sharing, (p.id, p.value))) (λ p. record { sharing = p.0; id = p.1.0; value = p.1.1 }) (λ _. refl)
+token_view_coded {V} c =
+    code_by (Option ℕ × (ℕ × V)) (coded× (coded_option coded_ℕ) (coded× coded_ℕ c))
+    (λ p. (p.sharing, (p.id, p.value))) (λ p. record { sharing = p.0; id = p.1.0; value = p.1.1 })
+    (λ _. refl)

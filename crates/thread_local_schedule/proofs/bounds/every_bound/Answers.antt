@@ -9,10 +9,12 @@ use Rattle.thread_local_schedule.proofs.HeldCounts.{held_below}
 use Rattle.thread_local_schedule.proofs.bounds.every_bound.Goals as goal
 
 pub returns-clause-peak : goal.returns-clause-peak
-returns-clause-peak g c = λ capacity extra events l. bound.peak_run (made_core capacity extra) events 0 (made_core-fits capacity extra l) refl
+returns-clause-peak g c = λ capacity extra events l.
+    bound.peak_run (made_core capacity extra) events 0 (made_core-fits capacity extra l) refl
 
 pub returns-clause-below_peak : goal.returns-clause-below_peak
-returns-clause-below_peak g c = λ core n local r at. held_below core.manager.held local.id ((clause.fits core r).locals.each n local at).id_held
+returns-clause-below_peak g c = λ core n local r at.
+    held_below core.manager.held local.id ((clause.fits core r).locals.each n local at).id_held
 
 pub returns-clause-ids : goal.returns-clause-ids
 returns-clause-ids g c = λ core n local r at. bound.ids core n local (clause.fits core r) at
@@ -21,7 +23,8 @@ pub returns-clause-room : goal.returns-clause-room
 returns-clause-room g c = λ core r. (clause.fits core r).manager.peak_room
 
 pub returns-clause-capacity : goal.returns-clause-capacity
-returns-clause-capacity g c = λ capacity extra events l. bound.run_capacity (made_core capacity extra) events (made_core-fits capacity extra l)
+returns-clause-capacity g c = λ capacity extra events l.
+    bound.run_capacity (made_core capacity extra) events (made_core-fits capacity extra l)
 
 pub returns-clause-slots_of_new : goal.returns-clause-slots_of_new
 returns-clause-slots_of_new g c = bound.slots_of_new
@@ -36,7 +39,9 @@ pub returns-clause-slots_of_cleared : goal.returns-clause-slots_of_cleared
 returns-clause-slots_of_cleared g c = bound.slots_of_cleared
 
 pub returns-clause-private_slots : goal.returns-clause-private_slots
-returns-clause-private_slots g c = λ core n local r at. known.private_bound core.manager.held local.id local.doing ((clause.fits core r).locals.each n local at).id_held
+returns-clause-private_slots g c = λ core n local r at.
+    known.private_bound core.manager.held local.id local.doing
+    ((clause.fits core r).locals.each n local at).id_held
 
 pub returns-clause-published : goal.returns-clause-published
 returns-clause-published g c = λ core r. known.published_bound core (clause.fits core r)

@@ -7,7 +7,8 @@ pub returns-clause-fits : goal.returns-clause-fits
 returns-clause-fits g c = made_core-fits
 
 pub returns-clause-sheet : goal.returns-clause-sheet
-returns-clause-sheet g c = λ capacity extra. ap (λ values. record { held = []; values = values; capacity = capacity }) (none_made _ capacity)
+returns-clause-sheet g c = λ capacity extra.
+    ap (λ values. record { held = []; values = values; capacity = capacity }) (none_made _ capacity)
 
 pub returns-clause-open : goal.returns-clause-open
 returns-clause-open g c = λ capacity extra. refl

@@ -10,13 +10,18 @@ pub returns-clause-least_id : goal.returns-clause-least_id
 returns-clause-least_id g c = λ capacity extra events event l. clause.least_taken (run (made_core capacity extra) events) event
 
 pub returns-clause-first_value : goal.returns-clause-first_value
-returns-clause-first_value g c = λ capacity extra before between id v l. main.value_stays (run (made_core capacity extra) before) between id v (main.reached-fits capacity extra before l)
+returns-clause-first_value g c = λ capacity extra before between id v l.
+    main.value_stays (run (made_core capacity extra) before) between id v
+    (main.reached-fits capacity extra before l)
 
 pub returns-clause-alone : goal.returns-clause-alone
-returns-clause-alone g c = λ capacity extra events call l. may.alone (run (made_core capacity extra) events) call (main.reached-fits capacity extra events l)
+returns-clause-alone g c = λ capacity extra events call l.
+    may.alone (run (made_core capacity extra) events) call
+    (main.reached-fits capacity extra events l)
 
 pub returns-clause-owner : goal.returns-clause-owner
-returns-clause-owner g c = λ capacity extra events l. main.owner (run (made_core capacity extra) events) (main.reached-fits capacity extra events l)
+returns-clause-owner g c = λ capacity extra events l.
+    main.owner (run (made_core capacity extra) events) (main.reached-fits capacity extra events l)
 
 pub returns-clause-slots : goal.returns-clause-slots
 returns-clause-slots g c = bound.bounded

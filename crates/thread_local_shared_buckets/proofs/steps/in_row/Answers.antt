@@ -10,7 +10,9 @@ search-requires-clause-yielded g c = few c.args.raw.now c.args.own.now c.require
 found : (g : _) (c : goal.In-Some g) → GivenTo c.args.raw.now c.args.own.now c.in-Some.value.now c.search.new.raw c.args.own.now
 found g c =
     let some = c.in-Some.ensures.some in
-    given_search c.args.raw.now c.search.new.raw c.args.own.now c.search_end-end.result c.in-Some.value.now c.requires.walk c.requires.in_table c.search_end-end.ensures some.0 some.1 some.2
+    given_search c.args.raw.now c.search.new.raw c.args.own.now c.search_end-end.result
+    c.in-Some.value.now c.requires.walk c.requires.in_table c.search_end-end.ensures some.0
+    some.1 some.2
 
 pub returns-in-Some-clause-walk : goal.returns-in-Some-clause-walk
 returns-in-Some-clause-walk g c = (found g c).walk

@@ -10,4 +10,6 @@ pub returns-clause-power : goal.returns-clause-power
 returns-clause-power c = (highest_kept c.args.number c.ilog2.result c.requires c.ilog2.ensures.power_le c.ilog2.ensures.next_power_gt).0
 
 pub returns-clause-next_power : goal.returns-clause-next_power
-returns-clause-next_power c = (highest_kept c.args.number c.ilog2.result c.requires c.ilog2.ensures.power_le c.ilog2.ensures.next_power_gt).1
+returns-clause-next_power c =
+    (highest_kept c.args.number c.ilog2.result c.requires c.ilog2.ensures.power_le
+    c.ilog2.ensures.next_power_gt).1

@@ -23,4 +23,5 @@ returns c =
     let words = c.args.words.now in
     let within = c.requires.within in
     let end = c.loop-at-test.false in
-    next_unset_from words (c.args.from * 64) _ _ (omega arith) (λ i from below. c.loop-at.invariant i from (omega arith)) (none_behind words)
+    next_unset_from words (c.args.from * 64) _ _ (omega arith)
+    (λ i from below. c.loop-at.invariant i from (omega arith)) (none_behind words)

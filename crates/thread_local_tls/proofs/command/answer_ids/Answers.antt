@@ -1,4 +1,5 @@
-use Rattle.std.proofs.Common.{◌≡◌, Bool, true, false, IsTrue, if◌then◌else◌, Option, Some, None, List, [], ◌∷◌, ℕ, Ok, Err, OnOk, IfErr, MatchOption, Result, refl, sym, ap, ◌∙◌, subst}
+use Rattle.std.proofs.Common.{◌≡◌, Bool, true, false, IsTrue, if◌then◌else◌, Option, Some, None, List, [], ◌∷◌, ℕ, Ok}
+use Rattle.std.proofs.Common.{Err, OnOk, IfErr, MatchOption, Result, refl, sym, ap, ◌∙◌, subst}
 use Rattle.std.proofs.KnownBytes.{Keeps-refl}
 use Rattle.std.proofs.lemmas.Result.{err_from_is_err_and}
 use Rattle.std.specs.Io.KnownBytes.{Appends}
@@ -26,18 +27,26 @@ is_no_write (Local error) e = cc
 is_no_write NotHeld e = cc
 
 -- lines with the ids that the words' moves take answer the words
-answers : (words : List (List ℕ)) (old new : Option (List ℕ)) (ids : List ℕ) (result : Result (Unit {0}) Fault) (runnable : IsRunnable words)
+answers : (words : List (List ℕ)) (old new : Option (List ℕ)) (ids : List ℕ)
+    (result : Result (Unit {0}) Fault) (runnable : IsRunnable words)
     → ids ≡ ids_given [] runnable.moves → OnOk result (Appends old new (lines_of ids)) → OnOk result (AnswersIds words old new)
-answers words old new ids (Ok x) runnable given written = record { runnable = runnable; written = subst (λ l. Appends old new (lines_of l)) given written }
+answers words old new ids (Ok x) runnable given written = record {
+  runnable = runnable;
+  written = subst (λ l. Appends old new (lines_of l)) given written;
+}
 answers words old new ids (Err e) runnable given written = tt
 
 -- printing fails only with a failed write
-fault_is : (result : Result (Unit {0}) Fault) (fault : Fault) → IfErr result (λ f. f ≡ Write) → result ≡ Err fault → fault ≡ Write
+fault_is : (result : Result (Unit {0}) Fault) (fault : Fault) → IfErr result (λ f. f ≡ Write)
+    → result ≡ Err fault
+    → fault ≡ Write
 fault_is (Ok x) fault h is = cc
 fault_is (Err e) fault h is = cc
 
 -- moves that can't be run are a misuse
-misuse : (words : List (List ℕ)) (moves : List Move) → moves_named words ≡ Some moves → (MayRun [] moves → ⊥) → MayNotRun words
+misuse : (words : List (List ℕ)) (moves : List Move) → moves_named words ≡ Some moves
+    → (MayRun [] moves → ⊥)
+    → MayNotRun words
 misuse words moves read stuck = subst (λ o. MatchOption o (Unit {0}) (λ ms. MayRun [] ms → ⊥)) (sym read) stuck
 
 -- words that spell no command are a misuse
@@ -58,8 +67,11 @@ same_error p q = cc
 
 pub returns-in_err-moves-clause-misuse : goal.returns-in_err-moves-clause-misuse
 returns-in_err-moves-clause-misuse g c = λ is.
-    let p = err_from_is_err_and c.from_residual.result c.from_residual.ensures.1 in
-    (no_command (texts c.args.words.now) (c.moves_named.ensures.usage (c.in_err-moves.was ∙ ap Err (sym p.2 ∙ same_error p.1 is))), Keeps-refl (g.O.Write.contents c.args.out.now))
+    let p = err_from_is_err_and c.from_residual.result c.from_residual.ensures.1 in (
+      no_command (texts c.args.words.now)
+          (c.moves_named.ensures.usage (c.in_err-moves.was ∙ ap Err (sym p.2 ∙ same_error p.1 is))),
+      Keeps-refl (g.O.Write.contents c.args.out.now),
+    )
 
 pub returns-in_err-moves-clause-memory : goal.returns-in_err-moves-clause-memory
 returns-in_err-moves-clause-memory g c = λ _. Keeps-refl (g.O.Write.contents c.args.out.now)
@@ -79,7 +91,9 @@ returns-in_err-ids-clause-misuse g c = λ is.
     let p = err_from_is_err_and c.from_residual-in_err-ids.result c.from_residual-in_err-ids.ensures.1 in
     let not_held = is_not_held c.in_err-ids.field-0.0 (sym p.2 ∙ same_error p.1 is) in
     let stuck = c.in_err-ids.ensures.not_held (ap Err not_held) in (
-      misuse (texts c.args.words.now) c.deref.result.now (c.in_ok-moves.ensures.ok ∙ ap Some (sym c.deref.ensures.value)) (may_not_run c.deref.result.now stuck),
+      misuse (texts c.args.words.now) c.deref.result.now
+          (c.in_ok-moves.ensures.ok ∙ ap Some (sym c.deref.ensures.value))
+          (may_not_run c.deref.result.now stuck),
       Keeps-refl (g.O.Write.contents c.args.out.now),
     )
 
@@ -104,7 +118,8 @@ runnable g c = record {
 
 pub returns-clause-done : goal.returns-clause-done
 returns-clause-done g c =
-    answers (texts c.args.words.now) (g.O.Write.contents c.args.out.now) (g.O.Write.contents c.print.new.out) c.deref-2.result.now c.print.result (runnable g c)
+    answers (texts c.args.words.now) (g.O.Write.contents c.args.out.now)
+    (g.O.Write.contents c.print.new.out) c.deref-2.result.now c.print.result (runnable g c)
     (c.deref-2.ensures.value ∙ c.in_ok-ids.ensures.ok.0) c.print.ensures.written
 
 pub returns-clause-misuse : goal.returns-clause-misuse

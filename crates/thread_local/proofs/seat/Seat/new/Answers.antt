@@ -5,5 +5,10 @@ use Rattle.thread_local.proofs.Reserved.{seated}
 use Rattle.thread_local.proofs.seat.Seat.new.Goals as goal
 
 pub invariant_of-result : goal.invariant_of-result
-invariant_of-result g c = let made = c.claim in let given = c.args.held in subst (λ (t : TableView). IsSeated t made.result) c.table.view_is
-    (seated c.table.inside.buckets made.result given.id made.ensures.same_slot.0 made.ensures.same_slot.1 made.ensures.same_slot.2 given.in_range made.ensures.learnt made.ensures.reserved)
+invariant_of-result g c =
+    let made = c.claim in
+    let given = c.args.held in
+    subst (λ (t : TableView). IsSeated t made.result) c.table.view_is
+    (seated c.table.inside.buckets made.result given.id made.ensures.same_slot.0
+    made.ensures.same_slot.1 made.ensures.same_slot.2 given.in_range made.ensures.learnt
+    made.ensures.reserved)

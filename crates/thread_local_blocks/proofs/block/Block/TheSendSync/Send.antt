@@ -5,5 +5,13 @@ use Rattle.std.specs.declared.alloc.Allocator as Allocator
 use Rattle.thread_local_blocks.specs.contracts.block.Block.{the_row}
 use Rattle.thread_local_blocks.proofs.Sent.{block_keyless}
 
-pub send : (T A : RattleType) (g : Allocator.Ghosts A.Denot) → IsSend T → IsSend A → Frees g g.dealloc_token → IsSend (the_row T A g)
-send T A g s _ f = record { owned = λ d vs. ((λ vss. (tt, (tt, ((λ uss. (tt, tt)), tt)))), block_keyless T s (g.dealloc_token d.heap) (f.frees d.heap) d.at d.slots d.left); leaving = λ k x vs. tt }
+pub send : (T A : RattleType) (g : Allocator.Ghosts A.Denot) → IsSend T → IsSend A
+    → Frees g g.dealloc_token
+    → IsSend (the_row T A g)
+send T A g s _ f = record {
+  owned = λ d vs. (
+    (λ vss. (tt, (tt, ((λ uss. (tt, tt)), tt)))),
+    block_keyless T s (g.dealloc_token d.heap) (f.frees d.heap) d.at d.slots d.left,
+  );
+  leaving = λ k x vs. tt;
+}

@@ -1,5 +1,6 @@
 -- `take` stores the flags of the slot's chunk without the slot's own.
-use Rattle.std.proofs.Common.{◌^◌, w64, bit_and, ◌≡◌, ◌≢◌, ℕ, ◌+◌, ◌*◌, ◌/◌, ◌%◌, ◌<◌, List, length, Option, None, false, is_some, slice_set, refl, sym, subst, ◌∙◌, arith, ⊎_elim}
+use Rattle.std.proofs.Common.{◌^◌, w64, bit_and, ◌≡◌, ◌≢◌, ℕ, ◌+◌, ◌*◌, ◌/◌, ◌%◌, ◌<◌, List, length, Option, None}
+use Rattle.std.proofs.Common.{false, is_some, slice_set, refl, sym, subst, ◌∙◌, arith, ⊎_elim}
 use Rattle.std.proofs.lemmas.Bool.{cases_eq, eq-eqb, ne_eqb}
 use Rattle.std.proofs.lemmas.List.{get_or-set_same, get_or-set_other}
 use Rattle.std.specs.Int.{bit_not}
@@ -17,7 +18,8 @@ AreFlags slots chunk word = (bit : ℕ) → bit < 64 → is_set word bit ≡ is_
 abbrev without : ℕ → ℕ → ℕ
 without word bit = bit_and word (bit_not w64 (1 * 2 ^ bit % 2 ^ 64))
 
-flags_without : {V : Type 0} (slots : List (Option V)) (index word new : ℕ) → index < length slots → AreFlags slots (index / 64) word → IsWordBut new word (index % 64) false
+flags_without : {V : Type 0} (slots : List (Option V)) (index word new : ℕ) → index < length slots
+    → AreFlags slots (index / 64) word → IsWordBut new word (index % 64) false
     → AreFlags (slice_set slots index None) (index / 64) new
 flags_without slots index word new near flags but bit within =
     let slot : ℕ = index / 64 * 64 + bit in
@@ -32,5 +34,8 @@ flags_without slots index word new near flags but bit within =
 
 pub take_and_store-requires-clause-flags : goal.take_and_store-requires-clause-flags
 take_and_store-requires-clause-flags g c = let slots = c.args.self.now.slots in let index = c.args.index in let read = c.flags-flags in
-    subst (λ (later : BucketPointer g.row.T.Denot). AreFlags (slice_set later.slots index None) (index / 64) (without read.result (index % 64))) (sym read.ensures.same)
-    (flags_without slots index read.result _ c.requires.in_block read.ensures.value (clear_bit read.result (index % 64) (place_below index)))
+    subst (λ (later : BucketPointer g.row.T.Denot).
+    AreFlags (slice_set later.slots index None) (index / 64) (without read.result (index % 64)))
+    (sym read.ensures.same)
+    (flags_without slots index read.result _ c.requires.in_block read.ensures.value
+    (clear_bit read.result (index % 64) (place_below index)))

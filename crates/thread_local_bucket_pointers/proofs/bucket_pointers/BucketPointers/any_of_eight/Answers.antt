@@ -16,7 +16,9 @@ loop-at-init g c = let begins : c.args.chunk ≡ c.args.chunk + 0 = omega arith 
 
 pub flags-any-requires : goal.flags-any-requires
 flags-any-requires g c =
-    let long : length (row c.loop-at.self c.args.bucket) ≡ length (row c.args.self.now c.args.bucket) = ap (λ (w : Contents g.row.T.Denot). length (row w c.args.bucket)) c.loop-at.invariant.same in
+    let long : length (row c.loop-at.self c.args.bucket)
+    ≡ length (row c.args.self.now c.args.bucket) =
+    ap (λ (w : Contents g.row.T.Denot). length (row w c.args.bucket)) c.loop-at.invariant.same in
     (lit< tt, (c.requires.in_table, omega (arith, long, c.requires.whole, c.requires.inside, c.loop-at-test.true)))
 
 pub loop-at-preserved : goal.loop-at-preserved
@@ -35,13 +37,17 @@ loop-at-preserved g c =
       none = λ (zero : bit_or old word ≡ 0).
           let left = le_or_l old word in
           let right = le_or_r old word in
-          let here = none_counted c.args.self.now c.loop-at.self b k word kept.same c.requires.whole fits flags inside (omega (arith, right, zero)) in
+          let here =
+          none_counted c.args.self.now c.loop-at.self b k word kept.same c.requires.whole fits
+          flags inside (omega (arith, right, zero)) in
           kept.none (omega (arith, left, zero)) ∙ here ∙ ap to after;
       some = λ (set : bit_or old word ≢ 0).
           let next : to (k + 1) ≡ to (c.args.chunk + (c.loop-at.at + 1)) = ap to after in
           ⊎_elim {C = to c.args.chunk < to (c.args.chunk + (c.loop-at.at + 1))}
           (λ (zero : old ≡ 0).
-          let here = some_counted c.args.self.now c.loop-at.self b k word kept.same c.requires.whole fits flags inside (λ (unset : word ≡ 0). set (λ i. bit_or (zero i) (unset i))) in
+          let here =
+          some_counted c.args.self.now c.loop-at.self b k word kept.same c.requires.whole fits
+          flags inside (λ (unset : word ≡ 0). set (λ i. bit_or (zero i) (unset i))) in
           omega (arith, kept.none zero, here, next))
           (λ (more : old ≢ 0).
           let here = whole_counted c.args.self.now c.loop-at.self b k word kept.same c.requires.whole fits flags inside in
@@ -61,5 +67,7 @@ returns-clause-some g c = λ set.
     omega (arith, more, ends)
 
 pub returns-clause-none : goal.returns-clause-none
-returns-clause-none g c = λ zero. let last : c.args.chunk + c.loop-at.at ≡ c.args.chunk + 8 = omega (arith, c.loop-at-test.false, c.loop-at.auto.at-end) in
+returns-clause-none g c = λ zero.
+    let last : c.args.chunk + c.loop-at.at ≡ c.args.chunk + 8 =
+    omega (arith, c.loop-at-test.false, c.loop-at.auto.at-end) in
     c.loop-at.invariant.none zero ∙ ap (λ (i : ℕ). count_below (values c.args.self.now) (id_at c.args.bucket (i * 64))) last

@@ -7,7 +7,11 @@ use Rattle.thread_local_bucket_pointers.proofs.bucket_pointers.BucketPointers.an
 -- where the words so far are all 0, their chunks have no value, and else they have one
 abbrev pub invariant-loop-at : goal.invariant-loop-at
 invariant-loop-at g l = record {
-  none : l.any ≡ 0 → count_below (values l.initial.self) (id_at l.fn.bucket (l.fn.chunk * 64)) ≡ count_below (values l.initial.self) (id_at l.fn.bucket ((l.fn.chunk + l.at) * 64));
-  some : l.any ≢ 0 → count_below (values l.initial.self) (id_at l.fn.bucket (l.fn.chunk * 64)) < count_below (values l.initial.self) (id_at l.fn.bucket ((l.fn.chunk + l.at) * 64));
+  none : l.any ≡ 0
+      → count_below (values l.initial.self) (id_at l.fn.bucket (l.fn.chunk * 64))
+      ≡ count_below (values l.initial.self) (id_at l.fn.bucket ((l.fn.chunk + l.at) * 64));
+  some : l.any ≢ 0
+      → count_below (values l.initial.self) (id_at l.fn.bucket (l.fn.chunk * 64))
+      < count_below (values l.initial.self) (id_at l.fn.bucket ((l.fn.chunk + l.at) * 64));
   same : l.self ≡ l.initial.self;
 }

@@ -4,4 +4,6 @@ use Rattle.thread_local_bucket_pointers.proofs.Clearing.{AreCleared-none}
 use Rattle.thread_local_bucket_pointers.proofs.bucket_pointers.BucketPointers.clear.Goals as goal
 
 pub loop-group-init : goal.loop-group-init
-loop-group-init g c = AreCleared-none c.args.self.now c.args.reserved 0 (subst (λ (z : Contents g.row.T.Denot). IsTable z) c.self.view_is c.self.invariant)
+loop-group-init g c =
+    AreCleared-none c.args.self.now c.args.reserved 0
+    (subst (λ (z : Contents g.row.T.Denot). IsTable z) c.self.view_is c.self.invariant)

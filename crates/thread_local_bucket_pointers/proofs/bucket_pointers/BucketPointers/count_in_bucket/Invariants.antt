@@ -7,6 +7,7 @@ use Rattle.thread_local_bucket_pointers.proofs.bucket_pointers.BucketPointers.co
 -- the values of the chunks so far, eight in each step
 abbrev pub invariant-loop-group : goal.invariant-loop-group
 invariant-loop-group g l = record {
-  counted : count_below (values l.initial.self) (id_at l.fn.bucket 0) + l.count ≡ count_below (values l.initial.self) (id_at l.fn.bucket (l.group * 8 * 64));
+  counted : count_below (values l.initial.self) (id_at l.fn.bucket 0) + l.count
+      ≡ count_below (values l.initial.self) (id_at l.fn.bucket (l.group * 8 * 64));
   same : l.self ≡ l.initial.self;
 }

@@ -7,6 +7,10 @@ use Rattle.thread_local_bucket_pointers.proofs.bucket_pointers.BucketPointers.co
 -- the values of the chunks so far
 abbrev pub invariant-loop-chunk : goal.invariant-loop-chunk
 invariant-loop-chunk g l = record {
-  counted : count_below (values l.initial.self) (id_at l.fn.bucket (min (l.fn.from * 64) (2 ^ l.fn.bucket))) + l.count ≡ count_below (values l.initial.self) (id_at l.fn.bucket (min (l.chunk * 64) (2 ^ l.fn.bucket)));
+  counted : count_below (values l.initial.self)
+      (id_at l.fn.bucket (min (l.fn.from * 64) (2 ^ l.fn.bucket)))
+      + l.count
+      ≡ count_below (values l.initial.self)
+      (id_at l.fn.bucket (min (l.chunk * 64) (2 ^ l.fn.bucket)));
   same : l.self ≡ l.initial.self;
 }

@@ -1,4 +1,5 @@
-use Rattle.std.proofs.Common.{◌≡◌, ◌+◌, ◌-◌, ◌^◌, ◌≤◌, ◌*◌, sym, ◌∙◌, ap, subst, suc, ℕ, refl, arith, pow_mono, add-one, []}
+use Rattle.std.proofs.Common.{◌≡◌, ◌+◌, ◌-◌, ◌^◌, ◌≤◌, ◌*◌, sym, ◌∙◌, ap, subst, suc, ℕ, refl, arith, pow_mono, add-one}
+use Rattle.std.proofs.Common.{[]}
 use Rattle.std.proofs.Math.Nat.{two-pow-succ}
 use Rattle.thread_local_model.specs.Place.{id_at}
 use Rattle.thread_local_model.specs.Buckets.{Contents, values, row}
@@ -11,7 +12,10 @@ use Rattle.thread_local_bucket_pointers.proofs.bucket_pointers.BucketPointers.co
 counted_at_first : {V : Type 0} (now first : Contents V) (b n : ℕ) → now ≡ first
     → count_below (values now) (id_at b 0) + n ≡ count_below (values now) (id_at (b + 1) 0)
     → count_below (values first) (id_at b 0) + n ≡ count_below (values first) (id_at (b + 1) 0)
-counted_at_first now first b n same counted = subst (λ (w : Contents _). count_below (values w) (id_at b 0) + n ≡ count_below (values w) (id_at (b + 1) 0)) same counted
+counted_at_first now first b n same counted =
+    subst (λ (w : Contents _).
+    count_below (values w) (id_at b 0) + n ≡ count_below (values w) (id_at (b + 1) 0))
+    same counted
 
 pub loop-bucket-init : goal.loop-bucket-init
 loop-bucket-init g c = record { counted = sym (count_below-zero (values c.args.self.now)); size = refl; same = refl }
@@ -19,7 +23,9 @@ loop-bucket-init g c = record { counted = sym (count_below-zero (values c.args.s
 pub overflow_add-count : goal.overflow_add-count
 overflow_add-count g c =
     let kept = c.loop-bucket.invariant in
-    let here = counted_at_first _ c.args.self.now c.loop-bucket.bucket _ (c.stands.ensures.same ∙ kept.same) c.count_in_bucket-count.ensures.counted in
+    let here =
+    counted_at_first _ c.args.self.now c.loop-bucket.bucket _ (c.stands.ensures.same ∙ kept.same)
+    c.count_in_bucket-count.ensures.counted in
     let fits = count_below-fits (values c.args.self.now) (c.loop-bucket.bucket + 1) (omega arith) in
     omega (arith, here, kept.counted)
 
@@ -33,18 +39,24 @@ overflow_mul-size g c =
 pub loop-bucket-preserved : goal.loop-bucket-preserved
 loop-bucket-preserved g c =
     let kept = c.loop-bucket.invariant in
-    let twice : 2 ^ (c.loop-bucket.bucket + 1) ≡ 2 ^ c.loop-bucket.bucket + 2 ^ c.loop-bucket.bucket = rw add-one (two-pow-succ c.loop-bucket.bucket) in
+    let twice : 2 ^ (c.loop-bucket.bucket + 1)
+    ≡ 2 ^ c.loop-bucket.bucket + 2 ^ c.loop-bucket.bucket =
+    rw add-one (two-pow-succ c.loop-bucket.bucket) in
     let size : c.loop-bucket.size * 2 ≡ 2 ^ (c.loop-bucket.bucket + 1) = omega (arith, kept.size) in
     elim c.if-stands.branch [
       | then-stands w ↦
-          let here = counted_at_first _ c.args.self.now c.loop-bucket.bucket _ (c.stands.ensures.same ∙ kept.same) w.count_in_bucket-count.ensures.counted in
+          let here =
+          counted_at_first _ c.args.self.now c.loop-bucket.bucket _
+          (c.stands.ensures.same ∙ kept.same) w.count_in_bucket-count.ensures.counted in
           record {
             counted = omega (arith, here, kept.counted, w.count-is);
             size = size;
             same = w.self-is ∙ w.count_in_bucket-count.ensures.same ∙ c.stands.ensures.same ∙ kept.same;
           }
       | else-stands w ↦
-          let absent : row c.args.self.now c.loop-bucket.bucket ≡ [] = sym (ap (λ (w : Contents _). row w c.loop-bucket.bucket) kept.same) ∙ c.stands.ensures.absent w.if-stands.false in
+          let absent : row c.args.self.now c.loop-bucket.bucket ≡ [] =
+          sym (ap (λ (w : Contents _). row w c.loop-bucket.bucket) kept.same)
+          ∙ c.stands.ensures.absent w.if-stands.false in
           record {
             counted = w.count-is ∙ kept.counted ∙ sym (count_below-absent c.args.self.now c.loop-bucket.bucket absent);
             size = size;
@@ -53,12 +65,19 @@ loop-bucket-preserved g c =
     ]
 
 -- all buckets have been counted
-all_counted : {V : Type 0} (pointers : Contents V) (bucket count : ℕ) → bucket ≤ 63 → 63 ≤ bucket → count ≡ count_below (values pointers) (id_at bucket 0) → count ≡ count_below (values pointers) (2 ^ 63 - 1)
-all_counted pointers bucket count low high counted = let end : id_at bucket 0 ≡ 2 ^ 63 - 1 = (let last : bucket ≡ 63 = omega arith in ap (λ b. id_at b 0) last) in counted ∙ ap (count_below (values pointers)) end
+all_counted : {V : Type 0} (pointers : Contents V) (bucket count : ℕ) → bucket ≤ 63 → 63 ≤ bucket
+    → count ≡ count_below (values pointers) (id_at bucket 0)
+    → count ≡ count_below (values pointers) (2 ^ 63 - 1)
+all_counted pointers bucket count low high counted =
+    let end : id_at bucket 0 ≡ 2 ^ 63 - 1 =
+    (let last : bucket ≡ 63 = omega arith in ap (λ b. id_at b 0) last) in
+    counted ∙ ap (count_below (values pointers)) end
 
 pub returns-clause-counted : goal.returns-clause-counted
 returns-clause-counted g c =
-    all_counted c.args.self.now c.loop-bucket.bucket c.loop-bucket.count (omega arith) c.loop-bucket-test.false c.loop-bucket.invariant.counted ∙ count_below-walk (values c.args.self.now)
+    all_counted c.args.self.now c.loop-bucket.bucket c.loop-bucket.count (omega arith)
+    c.loop-bucket-test.false c.loop-bucket.invariant.counted
+    ∙ count_below-walk (values c.args.self.now)
 
 pub returns-clause-fits : goal.returns-clause-fits
 returns-clause-fits g c =

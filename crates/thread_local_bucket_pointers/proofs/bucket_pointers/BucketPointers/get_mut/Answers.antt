@@ -8,10 +8,26 @@ use Rattle.thread_local_bucket_pointers.proofs.bucket_pointers.BucketPointers.ge
 
 pub invariant_of-self-lent : goal.invariant_of-self-lent
 invariant_of-self-lent g c = λ w. let s = c.self.inside.pointers in
-    subst (λ (z : Contents g.row.T.Denot). IsTable z) (sym (value_changes s c.args.thread.bucket c.args.thread.index w)) (IsTable-with_slot (contents_of s) c.args.thread.bucket c.args.thread.index (Some w) c.self.invariant)
+    subst (λ (z : Contents g.row.T.Denot). IsTable z)
+    (sym (value_changes s c.args.thread.bucket c.args.thread.index w))
+    (IsTable-with_slot (contents_of s) c.args.thread.bucket c.args.thread.index (Some w)
+    c.self.invariant)
 
 pub returns : goal.returns
 returns g c = let s = c.self.inside.pointers in (
-  (refl, λ w. value_changes s c.args.thread.bucket c.args.thread.index w ∙ ap (λ (z : Contents g.row.T.Denot). with_slot z c.args.thread.bucket c.args.thread.index (Some w)) c.self.view_is),
-  record { writes_back = tt; value = subst (λ (z : Contents g.row.T.Denot). value_in z c.args.thread.bucket c.args.thread.index ≡ Some c.get_mut.result.now) c.self.view_is c.get_mut.ensures.value },
+  (
+    refl,
+    λ w.
+        value_changes s c.args.thread.bucket c.args.thread.index w
+        ∙ ap (λ (z : Contents g.row.T.Denot).
+        with_slot z c.args.thread.bucket c.args.thread.index (Some w))
+        c.self.view_is,
+  ),
+  record {
+    writes_back = tt;
+    value =
+        subst (λ (z : Contents g.row.T.Denot).
+        value_in z c.args.thread.bucket c.args.thread.index ≡ Some c.get_mut.result.now)
+        c.self.view_is c.get_mut.ensures.value;
+  },
 )

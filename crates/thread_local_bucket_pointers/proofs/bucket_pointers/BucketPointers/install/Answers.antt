@@ -14,7 +14,10 @@ new_row {X = X} slots size b made is = made ∙ ap (λ (n : ℕ). empty_slots {X
 pub lay-requires-clause-made : goal.lay-requires-clause-made
 lay-requires-clause-made g c =
     let b : ℕ = c.args.bucket in
-    let long : length c.in_ok-block.block.slots ≡ 2 ^ b = ap length (new_row c.in_ok-block.block.slots c.bucket_size.result b c.in_ok-block.ensures.1 c.bucket_size.ensures) ∙ length-empty_row _ b in
+    let long : length c.in_ok-block.block.slots ≡ 2 ^ b =
+    ap length (new_row c.in_ok-block.block.slots c.bucket_size.result b c.in_ok-block.ensures.1
+    c.bucket_size.ensures)
+    ∙ length-empty_row _ b in
     (c.in_ok-block.ensures.2, omega (arith, long, pow_pos b))
 
 pub invariant_of-self : goal.invariant_of-self
@@ -22,10 +25,14 @@ invariant_of-self g c =
     let b : ℕ = c.args.bucket in
     let made = new_row c.in_ok-block.block.slots c.bucket_size.result b c.in_ok-block.ensures.1 c.bucket_size.ensures in
     let s = c.self.inside.pointers in
-    subst (λ (z : Contents g.row.T.Denot). IsTable z) (sym (row_changes s b c.lay.new.self (empty_row b) (c.lay.ensures ∙ made))) (IsTable-with_row (contents_of s) b (empty_row b) c.self.invariant (inr (length-empty_row _ b)))
+    subst (λ (z : Contents g.row.T.Denot). IsTable z)
+    (sym (row_changes s b c.lay.new.self (empty_row b) (c.lay.ensures ∙ made)))
+    (IsTable-with_row (contents_of s) b (empty_row b) c.self.invariant
+    (inr (length-empty_row _ b)))
 
 pub returns-clause-ok : goal.returns-clause-ok
 returns-clause-ok g c =
     let b : ℕ = c.args.bucket in
     let made = new_row c.in_ok-block.block.slots c.bucket_size.result b c.in_ok-block.ensures.1 c.bucket_size.ensures in
-    row_changes c.self.inside.pointers b c.lay.new.self (empty_row b) (c.lay.ensures ∙ made) ∙ ap (λ (z : Contents g.row.T.Denot). with_row z b (empty_row b)) c.self.view_is
+    row_changes c.self.inside.pointers b c.lay.new.self (empty_row b) (c.lay.ensures ∙ made)
+    ∙ ap (λ (z : Contents g.row.T.Denot). with_row z b (empty_row b)) c.self.view_is

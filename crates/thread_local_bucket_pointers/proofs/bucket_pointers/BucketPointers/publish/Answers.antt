@@ -12,15 +12,25 @@ use Rattle.thread_local_bucket_pointers.proofs.bucket_pointers.BucketPointers.pu
 pub invariant_of-self : goal.invariant_of-self
 invariant_of-self g c =
     let s = c.self.inside.pointers in
-    let changed = slot_changes s c.args.thread.bucket c.pointer_mut.result.now c.publish.new.self c.args.thread.index (Some c.args.value) c.pointer_mut.ensures.value c.publish.ensures in
-    subst (λ (z : Contents g.row.T.Denot). IsTable z) (sym changed) (IsTable-with_slot (contents_of s) c.args.thread.bucket c.args.thread.index (Some c.args.value) c.self.invariant)
+    let changed =
+    slot_changes s c.args.thread.bucket c.pointer_mut.result.now c.publish.new.self
+    c.args.thread.index (Some c.args.value) c.pointer_mut.ensures.value c.publish.ensures in
+    subst (λ (z : Contents g.row.T.Denot). IsTable z) (sym changed)
+    (IsTable-with_slot (contents_of s) c.args.thread.bucket c.args.thread.index
+    (Some c.args.value) c.self.invariant)
 
 pub returns : goal.returns
 returns g c = record {
-  after = slot_changes c.self.inside.pointers c.args.thread.bucket c.pointer_mut.result.now c.publish.new.self c.args.thread.index (Some c.args.value) c.pointer_mut.ensures.value c.publish.ensures
+  after =
+      slot_changes c.self.inside.pointers c.args.thread.bucket c.pointer_mut.result.now
+      c.publish.new.self c.args.thread.index (Some c.args.value) c.pointer_mut.ensures.value
+      c.publish.ensures
       ∙ ap (λ (z : Contents g.row.T.Denot). with_slot z c.args.thread.bucket c.args.thread.index (Some c.args.value)) c.self.view_is;
 }
 
 pub publish-requires-clause-flag_word : goal.publish-requires-clause-flag_word
 publish-requires-clause-flag_word g c = c.flag_word_at-flag_word.ensures
-    ∙ ap (λ (n : ℕ). flag_word_at (T-row g.row.T) n (c.args.thread.index / 64)) (size_of_pointer c.self.inside.pointers c.args.self.now c.args.thread.bucket c.args.thread.index c.bucket_size.result c.pointer_mut.result.now c.self.view_is c.self.invariant c.pointer_mut.ensures.value c.requires.in_bucket c.bucket_size.ensures)
+    ∙ ap (λ (n : ℕ). flag_word_at (T-row g.row.T) n (c.args.thread.index / 64))
+    (size_of_pointer c.self.inside.pointers c.args.self.now c.args.thread.bucket
+    c.args.thread.index c.bucket_size.result c.pointer_mut.result.now c.self.view_is
+    c.self.invariant c.pointer_mut.ensures.value c.requires.in_bucket c.bucket_size.ensures)

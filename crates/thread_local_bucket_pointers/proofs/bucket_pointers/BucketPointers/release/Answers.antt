@@ -9,8 +9,11 @@ use Rattle.thread_local_bucket_pointers.proofs.bucket_pointers.BucketPointers.re
 pub invariant_of-self : goal.invariant_of-self
 invariant_of-self g c =
     let s = c.self.inside.pointers in
-    subst (λ (z : Contents g.row.T.Denot). IsTable z) (sym (row_changes s c.args.bucket c.release.new.self [] c.release.ensures)) (IsTable-with_row (contents_of s) c.args.bucket [] c.self.invariant (inl refl))
+    subst (λ (z : Contents g.row.T.Denot). IsTable z)
+    (sym (row_changes s c.args.bucket c.release.new.self [] c.release.ensures))
+    (IsTable-with_row (contents_of s) c.args.bucket [] c.self.invariant (inl refl))
 
 pub returns-clause-after : goal.returns-clause-after
 returns-clause-after g c =
-    row_changes c.self.inside.pointers c.args.bucket c.release.new.self [] c.release.ensures ∙ ap (λ (z : Contents g.row.T.Denot). with_row z c.args.bucket []) c.self.view_is
+    row_changes c.self.inside.pointers c.args.bucket c.release.new.self [] c.release.ensures
+    ∙ ap (λ (z : Contents g.row.T.Denot). with_row z c.args.bucket []) c.self.view_is

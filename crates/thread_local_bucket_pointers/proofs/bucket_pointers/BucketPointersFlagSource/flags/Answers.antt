@@ -7,4 +7,7 @@ use Rattle.thread_local_bucket_pointers.proofs.bucket_pointers.BucketPointersFla
 
 pub flags-requires-clause-flag_word : goal.flags-requires-clause-flag_word
 flags-requires-clause-flag_word g c = c.flag_word_at-flag_word.ensures
-    ∙ ap (λ (n : ℕ). flag_word_at (T-row g.row.T) n (c.args.chunk)) (size_of_pointer c.self.inside.pointers c.args.self.now c.args.bucket (c.args.chunk * 64) c.bucket_size.result c.pointer_mut.result.now c.self.view_is c.self.invariant c.pointer_mut.ensures.value c.requires.in_bucket c.bucket_size.ensures)
+    ∙ ap (λ (n : ℕ). flag_word_at (T-row g.row.T) n (c.args.chunk))
+    (size_of_pointer c.self.inside.pointers c.args.self.now c.args.bucket (c.args.chunk * 64)
+    c.bucket_size.result c.pointer_mut.result.now c.self.view_is c.self.invariant
+    c.pointer_mut.ensures.value c.requires.in_bucket c.bucket_size.ensures)

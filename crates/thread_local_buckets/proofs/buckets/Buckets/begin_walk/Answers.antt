@@ -7,4 +7,5 @@ use Rattle.thread_local_buckets.proofs.buckets.Buckets.begin_walk.Goals as goal
 pub returns-clause-ends : goal.returns-clause-ends
 returns-clause-ends g c = λ none.
     let P : Owned _ → Type 0 = λ s. emptied s.contents ≡ s.contents in
-    subst P c.self.view_is (emptied-none c.self.inside.pointers c.self.invariant.table (sym c.count_values.ensures.counted ∙ sym c.new.ensures.left ∙ none))
+    subst P c.self.view_is (emptied-none c.self.inside.pointers c.self.invariant.table
+    (sym c.count_values.ensures.counted ∙ sym c.new.ensures.left ∙ none))

@@ -10,7 +10,9 @@ pub clear-requires : goal.clear-requires
 clear-requires g c = (omega arith, c.self.invariant.standing)
 
 pub invariant_of-self : goal.invariant_of-self
-invariant_of-self g c = IsOwned-cleared c.clear.new.self c.self.inside.reserved c.clear.ensures.table c.self.invariant.first c.clear.ensures.rows
+invariant_of-self g c =
+    IsOwned-cleared c.clear.new.self c.self.inside.reserved c.clear.ensures.table
+    c.self.invariant.first c.clear.ensures.rows
 
 pub returns-clause-rows : goal.returns-clause-rows
 returns-clause-rows g c = λ b.
@@ -18,7 +20,9 @@ returns-clause-rows g c = λ b.
     ∙ ap (λ (o : Owned g.row.T.Denot). cleared_row o.reserved b) c.self.view_is
 
 pub returns-clause-empty : goal.returns-clause-empty
-returns-clause-empty g c = values-cleared c.clear.new.self c.self.inside.reserved c.clear.ensures.table c.self.invariant.first c.clear.ensures.rows
+returns-clause-empty g c =
+    values-cleared c.clear.new.self c.self.inside.reserved c.clear.ensures.table
+    c.self.invariant.first c.clear.ensures.rows
 
 pub returns-clause-stands : goal.returns-clause-stands
 returns-clause-stands g c = λ b.

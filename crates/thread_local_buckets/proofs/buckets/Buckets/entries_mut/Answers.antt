@@ -12,7 +12,9 @@ returns g c =
       (refl, λ w. ap (λ (s : Owned _). owned_refilled s w) counted),
       record {
         writes_back = tt;
-        rest = ap (λ (contents : Contents _). walk (paired (values contents))) c.lend.ensures.contents ∙ ap (λ (s : Owned _). walk (paired (values s.contents))) counted;
+        rest =
+            ap (λ (contents : Contents _). walk (paired (values contents))) c.lend.ensures.contents
+            ∙ ap (λ (s : Owned _). walk (paired (values s.contents))) counted;
         would_stand = refilled-stands c.args.self.now;
         would_be_published = refilled-published c.args.self.now;
       },

@@ -23,14 +23,21 @@ map_of o now b i same t low inside w id =
 left_as : {V : Type 0} (o now : Owned V) (d : Contents V) (b i : ℕ) → o ≡ now → d ≡ o.contents → stands o.contents b ≡ true
     → (w : V) → record { contents = with_slot d b i (Some w); reserved = o.reserved } ≡ owned_with now b i w
 left_as o now d b i same looked stood w =
-    ap (λ (k : Contents _). let s : Owned _ = record { contents = with_slot k b i (Some w); reserved = o.reserved } in s) (looked ∙ sym (cond-true (stands o.contents b) o.contents (with_row o.contents b (empty_row b)) stood))
+    ap (λ (k : Contents _).
+    let s : Owned _ = record { contents = with_slot k b i (Some w); reserved = o.reserved } in
+    s)
+    (looked
+    ∙ sym (cond-true (stands o.contents b) o.contents
+    (with_row o.contents b (empty_row b)) stood))
     ∙ ap (λ (s : Owned _). owned_with s b i w) same
 
 none_of : {V : Type 0} (x : Option V) → is_some x ≡ false → x ≡ None
 none_of None h = refl
 none_of (Some x) h = cc
 
-nothing_at : {V : Type 0} (o now : Owned V) (b i : ℕ) → o ≡ now → is_some (value_in o.contents b i) ≡ false → value_in now.contents b i ≡ None
+nothing_at : {V : Type 0} (o now : Owned V) (b i : ℕ) → o ≡ now
+    → is_some (value_in o.contents b i) ≡ false
+    → value_in now.contents b i ≡ None
 nothing_at o now b i same none = ap (λ (s : Owned _). value_in s.contents b i) (sym same) ∙ none_of (value_in o.contents b i) none
 
 pub returns-then-is_published : goal.returns-then-is_published
@@ -39,10 +46,15 @@ returns-then-is_published g c =
     let i = c.args.thread.index in
     let t = c.self.invariant.table in
     let first : Owned _ = record { contents = c.self.inside.pointers; reserved = c.self.inside.reserved } in (
-      ap (λ (f : _ → _). inl (c.get_mut.result.ghost_name, f)) (fun_ext (left_as first c.args.self.now c.is_published.new.self b i c.self.view_is c.is_published.ensures.same (c.is_published.ensures.stands c.if-is_published.true))),
+      ap (λ (f : _ → _). inl (c.get_mut.result.ghost_name, f))
+          (fun_ext (left_as first c.args.self.now c.is_published.new.self b i c.self.view_is
+          c.is_published.ensures.same (c.is_published.ensures.stands c.if-is_published.true))),
       record {
         writes_back = tt;
-        value = ap (λ (s : Owned _). value_in s.contents b i) (sym c.self.view_is) ∙ ap (λ (k : Contents _). value_in k b i) (sym c.is_published.ensures.same) ∙ c.get_mut.ensures.value;
+        value =
+            ap (λ (s : Owned _). value_in s.contents b i) (sym c.self.view_is)
+            ∙ ap (λ (k : Contents _). value_in k b i) (sym c.is_published.ensures.same)
+            ∙ c.get_mut.ensures.value;
         would_map = map_of first c.args.self.now b i c.self.view_is t c.args.thread.in_table c.args.thread.in_bucket;
       },
     )
@@ -53,7 +65,10 @@ returns-else-is_published g c =
     let i = c.args.thread.index in
     let t = c.self.invariant.table in
     let first : Owned _ = record { contents = c.self.inside.pointers; reserved = c.self.inside.reserved } in (
-      ap (λ (k : Contents _). let s : Owned _ = record { contents = k; reserved = c.self.inside.reserved } in inr s) c.is_published.ensures.same ∙ ap (λ (s : Owned _). inr s) c.self.view_is,
+      ap (λ (k : Contents _).
+          let s : Owned _ = record { contents = k; reserved = c.self.inside.reserved } in inr s)
+          c.is_published.ensures.same
+          ∙ ap (λ (s : Owned _). inr s) c.self.view_is,
       record {
         writes_back = tt;
         value = nothing_at first c.args.self.now b i c.self.view_is (sym c.is_published.ensures.value ∙ c.if-is_published.false);

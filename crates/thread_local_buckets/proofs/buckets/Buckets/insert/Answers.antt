@@ -1,4 +1,5 @@
-use Rattle.std.proofs.Common.{◌≡◌, ◌<◌, ◌^◌, ℕ, true, cond, eqb, length, Some, None, subst, sym, ap, ◌∙◌, arith, inl, inr, refl}
+use Rattle.std.proofs.Common.{◌≡◌, ◌<◌, ◌^◌, ℕ, true, cond, eqb, length, Some, None, subst, sym, ap, ◌∙◌, arith, inl}
+use Rattle.std.proofs.Common.{inr, refl}
 use Rattle.std.specs.Prelude.{unwrap_or, IsSome}
 use mathlib.Core.Path.{fun_ext}
 use Rattle.thread_local_model.specs.Place.{id_at}
@@ -14,27 +15,35 @@ use Rattle.thread_local_buckets.proofs.buckets.Buckets.insert.Goals as goal
 
 -- what holds of every insertion
 record Inserts {V : Type 0} (c : Contents V) (b i : ℕ) (value : V) : Type 0 where
-  moves : sheet_of (with_published c b i (unwrap_or (value_in c b i) value)) ≡ moved (sheet_of c) (publish_or_keep (value_in c b i) (id_at b i) value)
+  moves : sheet_of (with_published c b i (unwrap_or (value_in c b i) value))
+      ≡ moved (sheet_of c) (publish_or_keep (value_in c b i) (id_at b i) value)
   stand : (written : V) (bucket : ℕ) → stands (with_published c b i written) bucket ≡ cond (eqb b bucket) true (stands c bucket)
 
-inserts : {V : Type 0} (o now : Owned V) (b i : ℕ) (value : V) → o ≡ now → IsTable o.contents → b < 63 → i < 2 ^ b → Inserts now.contents b i value
+inserts : {V : Type 0} (o now : Owned V) (b i : ℕ) (value : V) → o ≡ now → IsTable o.contents
+    → b < 63 → i < 2 ^ b
+    → Inserts now.contents b i value
 inserts o now b i value same t low inside =
     let P : Owned _ → Type 0 = λ s. Inserts s.contents b i value in
     subst P same (record { moves = published_moves o.contents b t low i value inside; stand = published_stands o.contents b t low i })
 
 -- what the buckets end as, whatever is written: the bucket stands, and its slot has what was
 -- written
-left_as : {V : Type 0} (o now : Owned V) (d e : Contents V) (b i : ℕ) (value : V) → o ≡ now → IsTable o.contents → b < 63 → d ≡ with_bucket o.contents b
+left_as : {V : Type 0} (o now : Owned V) (d e : Contents V) (b i : ℕ) (value : V) → o ≡ now
+    → IsTable o.contents → b < 63 → d ≡ with_bucket o.contents b
     → (IsSome (value_in d b i) → e ≡ d) → (value_in d b i ≡ None → e ≡ with_slot d b i (Some value))
     → (w : V) → record { contents = with_slot e b i (Some w); reserved = o.reserved } ≡ owned_with now b i w
 left_as o now d e b i value same t low stood kept published w =
     let within : b < length o.contents.rows = omega (arith, t.buckets) in
-    ap (λ (k : Contents _). let s : Owned _ = record { contents = k; reserved = o.reserved } in s) (ends o.contents b within (row-absent o.contents b) d e i value stood kept published w)
+    ap (λ (k : Contents _). let s : Owned _ = record { contents = k; reserved = o.reserved } in s)
+    (ends o.contents b within (row-absent o.contents b) d e i value stood kept published w)
     ∙ ap (λ (s : Owned _). owned_with s b i w) same
 
 -- the value that is lent: the one in the slot
-answered : {V : Type 0} (o now : Owned V) (d e : Contents V) (b i : ℕ) (value there : V) → o ≡ now → IsTable o.contents → b < 63 → i < 2 ^ b → d ≡ with_bucket o.contents b
-    → (IsSome (value_in d b i) → e ≡ d) → (value_in d b i ≡ None → e ≡ with_slot d b i (Some value)) → value_in e b i ≡ Some there → there ≡ unwrap_or (value_in now.contents b i) value
+answered : {V : Type 0} (o now : Owned V) (d e : Contents V) (b i : ℕ) (value there : V) → o ≡ now
+    → IsTable o.contents → b < 63 → i < 2 ^ b → d ≡ with_bucket o.contents b
+    → (IsSome (value_in d b i) → e ≡ d) → (value_in d b i ≡ None → e ≡ with_slot d b i (Some value))
+    → value_in e b i ≡ Some there
+    → there ≡ unwrap_or (value_in now.contents b i) value
 answered o now d e b i value there same t low inside stood kept published found =
     let within : b < length o.contents.rows = omega (arith, t.buckets) in
     let whole : length (row d b) ≡ 2 ^ b = ap (λ (k : Contents _). length (row k b)) stood ∙ whole-with_bucket o.contents b t low in
@@ -42,18 +51,22 @@ answered o now d e b i value there same t low inside stood kept published found 
     ∙ ap (λ (s : Owned _). unwrap_or (value_in s.contents b i) value) same
 
 -- whatever is written, the buckets are still an owner's
-owned_still : {V : Type 0} (o : Owned V) (d e : Contents V) (b i : ℕ) (value : V) → IsOwned o → b < 63 → d ≡ with_bucket o.contents b
+owned_still : {V : Type 0} (o : Owned V) (d e : Contents V) (b i : ℕ) (value : V) → IsOwned o
+    → b < 63 → d ≡ with_bucket o.contents b
     → (IsSome (value_in d b i) → e ≡ d) → (value_in d b i ≡ None → e ≡ with_slot d b i (Some value))
     → (w : V) → IsOwned (record { contents = with_slot e b i (Some w); reserved = o.reserved })
 owned_still o d e b i value owned low stood kept published w =
     let within : b < length o.contents.rows = omega (arith, owned.table.buckets) in
     let P : Contents _ → Type 0 = λ k. IsOwned (record { contents = k; reserved = o.reserved }) in
-    subst P (sym (ends o.contents b within (row-absent o.contents b) d e i value stood kept published w)) (IsOwned-with_published o.contents b owned.table low o.reserved i w owned)
+    subst P
+    (sym (ends o.contents b within (row-absent o.contents b) d e i value stood kept published w))
+    (IsOwned-with_published o.contents b owned.table low o.reserved i w owned)
 
 pub invariant_of-self-lent : goal.invariant_of-self-lent
 invariant_of-self-lent g c =
     let first : Owned _ = record { contents = c.self.inside.pointers; reserved = c.self.inside.reserved } in
-    owned_still first c.ensure_bucket.new.self c.publish_or_drop.new.self c.args.thread.bucket c.args.thread.index c.args.value c.self.invariant c.args.thread.in_table
+    owned_still first c.ensure_bucket.new.self c.publish_or_drop.new.self c.args.thread.bucket
+    c.args.thread.index c.args.value c.self.invariant c.args.thread.in_table
     c.in-Ok.ensures.ok c.publish_or_drop.ensures.kept c.publish_or_drop.ensures.published
 
 pub returns-in-Ok : goal.returns-in-Ok
@@ -65,10 +78,17 @@ returns-in-Ok g c =
     let inside : i < 2 ^ b = c.args.thread.in_bucket in
     let first : Owned _ = record { contents = c.self.inside.pointers; reserved = c.self.inside.reserved } in
     let so = inserts first c.args.self.now b i c.args.value c.self.view_is t low inside in (
-      ap (λ (f : _ → _). inl (c.get_mut.result.ghost_name, f)) (fun_ext (left_as first c.args.self.now c.ensure_bucket.new.self c.publish_or_drop.new.self b i c.args.value c.self.view_is t low c.in-Ok.ensures.ok c.publish_or_drop.ensures.kept c.publish_or_drop.ensures.published)),
+      ap (λ (f : _ → _). inl (c.get_mut.result.ghost_name, f))
+          (fun_ext (left_as first c.args.self.now c.ensure_bucket.new.self c.publish_or_drop.new.self b
+          i c.args.value c.self.view_is t low c.in-Ok.ensures.ok c.publish_or_drop.ensures.kept
+          c.publish_or_drop.ensures.published)),
       record {
         writes_back = tt;
-        answers = answered first c.args.self.now c.ensure_bucket.new.self c.publish_or_drop.new.self b i c.args.value c.get_mut.result.now c.self.view_is t low inside c.in-Ok.ensures.ok c.publish_or_drop.ensures.kept c.publish_or_drop.ensures.published c.get_mut.ensures.value;
+        answers =
+            answered first c.args.self.now c.ensure_bucket.new.self c.publish_or_drop.new.self b i
+            c.args.value c.get_mut.result.now c.self.view_is t low inside c.in-Ok.ensures.ok
+            c.publish_or_drop.ensures.kept c.publish_or_drop.ensures.published
+            c.get_mut.ensures.value;
         would_move = so.moves;
         would_stand = so.stand;
         err = tt;
@@ -83,7 +103,10 @@ returns-in-Err g c =
     let t = c.self.invariant.table in
     let first : Owned _ = record { contents = c.self.inside.pointers; reserved = c.self.inside.reserved } in
     let so = inserts first c.args.self.now b i c.args.value c.self.view_is t c.args.thread.in_table c.args.thread.in_bucket in (
-      ap (λ (k : Contents _). let s : Owned _ = record { contents = k; reserved = c.self.inside.reserved } in inr s) c.in-Err.ensures.err ∙ ap (λ (s : Owned _). inr s) c.self.view_is,
+      ap (λ (k : Contents _).
+          let s : Owned _ = record { contents = k; reserved = c.self.inside.reserved } in inr s)
+          c.in-Err.ensures.err
+          ∙ ap (λ (s : Owned _). inr s) c.self.view_is,
       record {
         writes_back = tt;
         answers = tt;

@@ -20,7 +20,9 @@ pub loop-bucket-preserved : goal.loop-bucket-preserved
 loop-bucket-preserved g c =
     let kept = c.loop-bucket.invariant in
     let f : ℕ → Bool = stands c.self.inside.pointers in
-    let at_first : stands c.loop-bucket.self-inside.pointers c.loop-bucket.bucket ≡ f c.loop-bucket.bucket = ap (λ (w : Contents _). stands w c.loop-bucket.bucket) kept.same in
+    let at_first : stands c.loop-bucket.self-inside.pointers c.loop-bucket.bucket
+    ≡ f c.loop-bucket.bucket =
+    ap (λ (w : Contents _). stands w c.loop-bucket.bucket) kept.same in
     record {
       counted = elim c.if-stands.branch [
         | then-stands w ↦
@@ -36,7 +38,9 @@ loop-bucket-preserved g c =
 
 pub returns-clause-value : goal.returns-clause-value
 returns-clause-value g c =
-    c.loop-bucket.invariant.counted ∙ slots-all (stands c.self.inside.pointers) c.loop-bucket.bucket (omega arith) ∙ ap (λ (o : Owned _). slots (stands o.contents)) c.self.view_is
+    c.loop-bucket.invariant.counted
+    ∙ slots-all (stands c.self.inside.pointers) c.loop-bucket.bucket (omega arith)
+    ∙ ap (λ (o : Owned _). slots (stands o.contents)) c.self.view_is
 
 pub returns-clause-reserved : goal.returns-clause-reserved
 returns-clause-reserved g c =

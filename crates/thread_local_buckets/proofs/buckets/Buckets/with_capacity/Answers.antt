@@ -14,7 +14,9 @@ loop-bucket-init g c = let P : Contents _ → Type 0 = λ w. IsFilled w 0 in sub
 
 pub loop-bucket-preserved : goal.loop-bucket-preserved
 loop-bucket-preserved g c =
-    IsFilled-more c.loop-bucket.pointers c.ensure_bucket.new.self c.loop-bucket.bucket c.loop-bucket.invariant (omega arith) c.ensure_bucket.ensures.absent c.in_ok-ensure_bucket.ensures.ok
+    IsFilled-more c.loop-bucket.pointers c.ensure_bucket.new.self c.loop-bucket.bucket
+    c.loop-bucket.invariant (omega arith) c.ensure_bucket.ensures.absent
+    c.in_ok-ensure_bucket.ensures.ok
 
 pub invariant_of-result : goal.invariant_of-result
 invariant_of-result g c =
@@ -25,7 +27,9 @@ invariant_of-result g c =
 pub returns-clause-slots : goal.returns-clause-slots
 returns-clause-slots g c =
     let last : c.loop-bucket.bucket ≡ c.digits-first.result = omega arith in
-    slots-filled c.loop-bucket.pointers c.args.capacity (omega arith) (all_made c.loop-bucket.pointers c.loop-bucket.bucket (binary_digits c.args.capacity) (last ∙ c.digits-first.ensures.value) c.loop-bucket.invariant)
+    slots-filled c.loop-bucket.pointers c.args.capacity (omega arith)
+    (all_made c.loop-bucket.pointers c.loop-bucket.bucket (binary_digits c.args.capacity)
+    (last ∙ c.digits-first.ensures.value) c.loop-bucket.invariant)
 
 pub returns-clause-reserved : goal.returns-clause-reserved
 returns-clause-reserved g c =

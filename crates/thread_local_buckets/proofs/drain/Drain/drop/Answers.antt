@@ -7,4 +7,10 @@ use Rattle.thread_local_buckets.proofs.drain.Drain.drop.Goals as goal
 pub invariant_of-self : goal.invariant_of-self
 invariant_of-self g c =
     let left = c.drop_rest.ensures in
-    record { few = c.args.self.few; ends = λ _. ap (λ (s : Owned _). emptied s.contents) left ∙ emptied-emptied c.args.self.buckets.now.contents ∙ ap (λ (s : Owned _). s.contents) (sym left) }
+    record {
+      few = c.args.self.few;
+      ends = λ _.
+          ap (λ (s : Owned _). emptied s.contents) left
+          ∙ emptied-emptied c.args.self.buckets.now.contents
+          ∙ ap (λ (s : Owned _). s.contents) (sym left);
+    }

@@ -18,8 +18,28 @@ use Rattle.thread_local_claim.proofs.Lending.{claim_laws, lends_claim}
 use Rattle.thread_local_claim.proofs.claimed.ClaimedSlot.TheLaw.Statement.{statement}
 
 pub shares : (a : NamedLft) (T : RattleType) (L : Laws T) → statement a T L
-shares a T L = of_Lends (C.struct a T) (C.the_codes T.Denot T.coded (P.the_row (ShrRef a.mir a.lft T)).coded) (C.the_heap a.lft T) (C.the_lent a.lft T) (λ d p. claim_laws a.lft T L.shr_laws (claim_fields d.id d.index d.bucket d.at d.sharing d.reserved) d.learnt d.state)
-    (copy_shared RawPtr-field RawPtr-copy, (copy_shared u64-field u64-copy, (copy_shared (P.the_field (ShrRef a.mir a.lft T)) (field_copy (P.the_type (ShrRef a.mir a.lft T)) tt), tt))) (λ M 𝓤 𝓛 d p.
+shares a T L =
+    of_Lends (C.struct a T) (C.the_codes T.Denot T.coded (P.the_row (ShrRef a.mir a.lft T)).coded)
+    (C.the_heap a.lft T) (C.the_lent a.lft T)
+    (λ d p.
+    claim_laws a.lft T L.shr_laws (claim_fields d.id d.index d.bucket d.at d.sharing d.reserved)
+    d.learnt d.state) (
+      copy_shared RawPtr-field RawPtr-copy,
+      (
+        copy_shared u64-field u64-copy,
+        (
+          copy_shared (P.the_field (ShrRef a.mir a.lft T))
+              (field_copy (P.the_type (ShrRef a.mir a.lft T)) tt),
+          tt,
+        ),
+      ),
+    )
+    (λ M 𝓤 𝓛 d p.
     let l = (C.the_row a T).lives in let s = (ShrRef a.mir a.lft T).lives in
-    lends_claim 𝓛 a.lft T L.shr_laws l (Incl-trans (meet_⊑_right (T.lives ++ []) (((s ++ []) ++ []) ++ [])) (Incl-trans (meet_⊑_left ((s ++ []) ++ []) []) (Incl-trans (meet_⊑_left (s ++ []) [])
-    (Incl-trans (meet_⊑_left s []) (meet_⊑_left a.lft T.lives))))) (Shares-less 𝓛 T T.lives l (Incl-trans (meet_⊑_left (T.lives ++ []) _) (meet_⊑_left T.lives [])) (L.shares 𝓛)) d.table (claim_fields d.id d.index d.bucket d.at d.sharing d.reserved) d.state d.learnt)
+    lends_claim 𝓛 a.lft T L.shr_laws l (Incl-trans
+    (meet_⊑_right (T.lives ++ []) (((s ++ []) ++ []) ++ [])) (Incl-trans
+    (meet_⊑_left ((s ++ []) ++ []) []) (Incl-trans (meet_⊑_left (s ++ []) [])
+    (Incl-trans (meet_⊑_left s []) (meet_⊑_left a.lft T.lives)))))
+    (Shares-less 𝓛 T T.lives l (Incl-trans (meet_⊑_left (T.lives ++ []) _) (meet_⊑_left T.lives []))
+    (L.shares 𝓛))
+    d.table (claim_fields d.id d.index d.bucket d.at d.sharing d.reserved) d.state d.learnt)

@@ -7,4 +7,11 @@ use Rattle.thread_local_claim.specs.contracts.claimed.ClaimedSlot.{the_row}
 use Rattle.thread_local_claim.proofs.Sent.{claim_keyless}
 
 pub send : (a : NamedLft) (T : RattleType) → IsSend T → IsSend (the_row a T)
-send a T s = record { owned = λ d vs. ((λ vss. (tt, (tt, ((tt, tt), ((λ uss. (tt, tt)), tt))))), claim_keyless T s a.lft d.table (claim_fields d.id d.index d.bucket d.at d.sharing d.reserved) d.learnt d.state); leaving = λ k f vs. tt }
+send a T s = record {
+  owned = λ d vs. (
+    (λ vss. (tt, (tt, ((tt, tt), ((λ uss. (tt, tt)), tt))))),
+    claim_keyless T s a.lft d.table (claim_fields d.id d.index d.bucket d.at d.sharing d.reserved)
+        d.learnt d.state,
+  );
+  leaving = λ k f vs. tt;
+}

@@ -13,7 +13,18 @@ use Rattle.thread_local_claim.specs.contracts.claimed.ClaimedSlot.{the_row}
 use Rattle.thread_local_claim.proofs.Fields.{FieldsType}
 
 pub sync : (a : NamedLft) (T : RattleType) → IsSync T → IsSync (the_row a T)
-sync a T y = let fields : IsSync (FieldsType a T) = search denote.Param.Send.sendable depth 20 in record { shared = λ d b o κ. (fields.shared (d.at, (d.state, (tt, tt))) b o κ, ((λ _. tt), seen (claim_fields d.id d.index d.bucket d.at d.sharing d.reserved) (value_held d.learnt) κ)) }
+sync a T y =
+    let fields : IsSync (FieldsType a T) = search denote.Param.Send.sendable depth 20 in
+    record {
+      shared = λ d b o κ. (
+        fields.shared (d.at, (d.state, (tt, tt))) b o κ,
+        (
+          (λ _. tt),
+          seen (claim_fields d.id d.index d.bucket d.at d.sharing d.reserved)
+              (value_held d.learnt) κ,
+        ),
+      );
+    }
   where
     long : (b e : ℕ) (x : T.Denot) (j : Judged T) → Common (lasts T a.lft b e x j)
     long b e x (inl j) κ = y.shared x b e a.lft
@@ -21,4 +32,12 @@ sync a T y = let fields : IsSync (FieldsType a T) = search denote.Param.Send.sen
 
     seen : (c : ClaimFields) (v : Option T.Denot) → Common (shows_value T a.lft c v)
     seen c None κ = tt
-    seen c (Some x) κ = let b : ℕ = block_of c.at in let e : ℕ = count_of c.at in ((λ _. tt), (y.shared x b e (κ ++ a.lft), ((λ j. long b e x j κ), tells_keyless T c.sharing c.id (Some x))))
+    seen c (Some x) κ =
+        let b : ℕ = block_of c.at in
+        let e : ℕ = count_of c.at in (
+          (λ _. tt),
+          (
+            y.shared x b e (κ ++ a.lft),
+            ((λ j. long b e x j κ), tells_keyless T c.sharing c.id (Some x)),
+          ),
+        )

@@ -4,7 +4,9 @@ use Rattle.thread_local_cursor.proofs.NextValue.{Passes, passes}
 use Rattle.thread_local_cursor.proofs.cursor.OwnerCursor.pass.Goals as goal
 
 it_passes : (g : _) (c : goal.After-self-1 g)
-    → Passes (g.P.FlagSource.contents c.args.source.now) c.args.self.now c.without_first-self.result (g.P.FlagSource.given c.args.source.now) (c.args.self.now.raw.index - 64 + trailing_zeros w64 c.args.self.now.rest)
+    → Passes (g.P.FlagSource.contents c.args.source.now) c.args.self.now c.without_first-self.result
+    (g.P.FlagSource.given c.args.source.now)
+    (c.args.self.now.raw.index - 64 + trailing_zeros w64 c.args.self.now.rest)
 it_passes g c =
     passes (g.P.FlagSource.contents c.args.source.now) c.args.self.now c.without_first-self.result (g.P.FlagSource.given c.args.source.now)
     c.requires.walk (omega arith) c.requires.some c.without_first-self.type_inv c.without_first-self.ensures c.requires.given

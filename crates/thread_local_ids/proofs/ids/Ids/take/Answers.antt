@@ -13,5 +13,10 @@ pub take-mark-requires : goal.take-mark-requires
 take-mark-requires c = let held = c.self.inside.manager.held in let id = c.in_ok-id.id in let low = c.in_ok-id.ensures.ok.in_range in
     let out = c.self.inside.rights.out in
     let beyond : id ≢ id + 2 ^ 63 = λ same. omega (arith, same) in
-    let left : (if id == id + 2 ^ 63 then true else is_out out (id + 2 ^ 63)) ≡ is_out out (id + 2 ^ 63) = rw (ne_eqb id (id + 2 ^ 63) beyond) refl in
-    c.take-right.ensures.out (id + 2 ^ 63) ∙ left ∙ (c.self.invariant id low).1 ∙ ap (is_held held) c.in_ok-id.ensures.ok.least ∙ least_free held
+    let left : (if id == id + 2 ^ 63 then true else is_out out (id + 2 ^ 63))
+    ≡ is_out out (id + 2 ^ 63) = rw (ne_eqb id (id + 2 ^ 63) beyond) refl in
+    c.take-right.ensures.out (id + 2 ^ 63)
+    ∙ left
+    ∙ (c.self.invariant id low).1
+    ∙ ap (is_held held) c.in_ok-id.ensures.ok.least
+    ∙ least_free held

@@ -5,4 +5,7 @@ use Rattle.thread_local_ids.specs.declared.lock.Fits.{Ghosts}
 use Rattle.thread_local_ids.specs.contracts.lock.Lock.{the_row}
 
 pub send : (V : RattleType) (g : Ghosts V.Denot) → IsSend V → IsSend (the_row V g)
-send V g s = record { owned = λ d vs. ((λ _. tt), λ z. ((λ vss. (tt, ((tt, tt), (s.owned z.1 vss.1.0, tt)))), λ _. tt)); leaving = λ k d w. tt }
+send V g s = record {
+  owned = λ d vs. ((λ _. tt), λ z. ((λ vss. (tt, ((tt, tt), (s.owned z.1 vss.1.0, tt)))), λ _. tt));
+  leaving = λ k d w. tt;
+}

@@ -14,9 +14,16 @@ chain_keyless : (νs : List Lft) (κ α : Lft) → Keyless (chain νs κ α)
 chain_keyless [] κ α = λ _. tt
 chain_keyless (ν ∷ νs) κ α = ((λ _. tt), chain_keyless νs (ν ++ κ) α)
 
-with_word_keyless : (R : RattleType) (ok : R.Denot → Type 0) → IsSend R → (b o : ℕ) (t : LockTurn) (n : ℕ) → Keyless (with_word R ok b o t n)
+with_word_keyless : (R : RattleType) (ok : R.Denot → Type 0) → IsSend R
+    → (b o : ℕ) (t : LockTurn) (n : ℕ)
+    → Keyless (with_word R ok b o t n)
 with_word_keyless R ok s b o t zero = λ x. ((λ _. tt), (tt, λ z. (part_keyless R s full_share z b (o + offset R), tt)))
 with_word_keyless R ok s b o t (suc n) = tt
 
 pub sync : (V : RattleType) (g : Ghosts V.Denot) → IsSend V → IsSync (the_row V g)
-sync V g s = record { shared = λ d b o κ t. ((λ νs. chain_keyless νs κ t.0), λ n. (tt, with_word_keyless V (Fitting g.tag g.fits d.tag) s b o t n)) }
+sync V g s = record {
+  shared = λ d b o κ t. (
+    (λ νs. chain_keyless νs κ t.0),
+    λ n. (tt, with_word_keyless V (Fitting g.tag g.fits d.tag) s b o t n),
+  );
+}

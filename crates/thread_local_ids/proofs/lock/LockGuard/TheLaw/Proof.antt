@@ -18,8 +18,23 @@ use Rattle.thread_local_ids.proofs.lock.LockGuard.TheLaw.Statement.{statement}
 use Rattle.thread_local_ids.proofs.Guards.{guard_laws, lends_guard}
 
 pub shares : (a : NamedLft) (T : RattleType) (g : Ghosts T.Denot) (L : Laws T) → statement a T g L
-shares a T g L = of_Lends (C.struct a T g) (C.the_codes T.Denot T.coded (P.the_row (ShrRef a.mir a.lft T)).coded) (C.the_heap a.lft T g) (C.the_lent a.lft T g) (λ d p. guard_laws a.lft T L.shr_laws d.lock d.value)
-    (copy_shared RawPtr-field RawPtr-copy, (copy_shared (P.the_field (ShrRef a.mir a.lft T)) (field_copy (P.the_type (ShrRef a.mir a.lft T)) tt), tt)) (λ M 𝓤 𝓛 d p.
+shares a T g L =
+    of_Lends (C.struct a T g) (C.the_codes T.Denot T.coded (P.the_row (ShrRef a.mir a.lft T)).coded)
+    (C.the_heap a.lft T g) (C.the_lent a.lft T g)
+    (λ d p. guard_laws a.lft T L.shr_laws d.lock d.value) (
+      copy_shared RawPtr-field RawPtr-copy,
+      (
+        copy_shared (P.the_field (ShrRef a.mir a.lft T))
+            (field_copy (P.the_type (ShrRef a.mir a.lft T)) tt),
+        tt,
+      ),
+    )
+    (λ M 𝓤 𝓛 d p.
     let l = (C.the_row a T g).lives in let s = (ShrRef a.mir a.lft T).lives in
-    lends_guard 𝓛 a.lft T (Fitting g.tag g.fits d.tag) l (Incl-trans (meet_⊑_right (T.lives ++ []) (((s ++ []) ++ []) ++ [])) (Incl-trans (meet_⊑_left ((s ++ []) ++ []) []) (Incl-trans (meet_⊑_left (s ++ []) [])
-    (Incl-trans (meet_⊑_left s []) (meet_⊑_left a.lft T.lives))))) (Shares-less 𝓛 T T.lives l (Incl-trans (meet_⊑_left (T.lives ++ []) _) (meet_⊑_left T.lives [])) (L.shares 𝓛)) d.lock d.value)
+    lends_guard 𝓛 a.lft T (Fitting g.tag g.fits d.tag) l (Incl-trans
+    (meet_⊑_right (T.lives ++ []) (((s ++ []) ++ []) ++ [])) (Incl-trans
+    (meet_⊑_left ((s ++ []) ++ []) []) (Incl-trans (meet_⊑_left (s ++ []) [])
+    (Incl-trans (meet_⊑_left s []) (meet_⊑_left a.lft T.lives)))))
+    (Shares-less 𝓛 T T.lives l (Incl-trans (meet_⊑_left (T.lives ++ []) _) (meet_⊑_left T.lives []))
+    (L.shares 𝓛))
+    d.lock d.value)

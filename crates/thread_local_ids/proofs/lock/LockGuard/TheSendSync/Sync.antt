@@ -10,7 +10,9 @@ use Rattle.thread_local_ids.specs.contracts.lock.LockGuard.{the_row}
 use Rattle.thread_local_ids.proofs.Fields.{FieldsType}
 
 pub sync : (a : NamedLft) (V : RattleType) (g : Ghosts V.Denot) → IsSync V → IsSync (the_row a V g)
-sync a V g y = let fields : IsSync (FieldsType a V g) = search denote.Param.Send.sendable depth 20 in record { shared = λ d b o κ. (fields.shared (d.lock, (tt, tt)) b o κ, seen d.lock d.value κ) }
+sync a V g y =
+    let fields : IsSync (FieldsType a V g) = search denote.Param.Send.sendable depth 20 in
+    record { shared = λ d b o κ. (fields.shared (d.lock, (tt, tt)) b o κ, seen d.lock d.value κ) }
   where
     seen : (p : Ptr) (x : V.Denot) → Common (guard_shares a.lft V p x)
     seen (block_ptr b o) x κ = y.shared x b (o + offset V) (κ ++ a.lft)

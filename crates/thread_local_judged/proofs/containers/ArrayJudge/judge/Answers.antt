@@ -5,4 +5,6 @@ use Rattle.thread_local_judged.proofs.Containing.{array}
 use Rattle.thread_local_judged.proofs.containers.ArrayJudge.judge.Goals as goal
 
 pub returns : goal.returns
-returns g c = let j = array (param 0 g.row.T) (param 1 (number g.row.N)) c.judge.ensures.everywhere in record { judged = known j; everywhere = j }
+returns g c =
+    let j = array (param 0 g.row.T) (param 1 (number g.row.N)) c.judge.ensures.everywhere in
+    record { judged = known j; everywhere = j }

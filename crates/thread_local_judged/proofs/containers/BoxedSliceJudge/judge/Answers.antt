@@ -9,4 +9,8 @@ use Rattle.thread_local_judged.proofs.Containing.{vector}
 use Rattle.thread_local_judged.proofs.containers.BoxedSliceJudge.judge.Goals as goal
 
 pub returns : goal.returns
-returns g c = let j = structure (the_type (param 0 g.row.T) heap.the_row ghosts) (λ v. tt) (vector (param 0 g.row.T) c.judge.ensures.everywhere, tt) in record { judged = known j; everywhere = j }
+returns g c =
+    let j =
+    structure (the_type (param 0 g.row.T) heap.the_row ghosts) (λ v. tt)
+    (vector (param 0 g.row.T) c.judge.ensures.everywhere, tt) in
+    record { judged = known j; everywhere = j }

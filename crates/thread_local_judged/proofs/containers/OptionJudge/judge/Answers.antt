@@ -7,4 +7,7 @@ use Rattle.thread_local_judged.proofs.Parts.{enumeration}
 use Rattle.thread_local_judged.proofs.containers.OptionJudge.judge.Goals as goal
 
 pub returns : goal.returns
-returns g c = let j = enumeration (enum (param 0 g.row.T)) None (tt, ((c.judge.ensures.everywhere, tt), tt)) in record { judged = known j; everywhere = j }
+returns g c =
+    let j =
+    enumeration (enum (param 0 g.row.T)) None (tt, ((c.judge.ensures.everywhere, tt), tt)) in
+    record { judged = known j; everywhere = j }

@@ -7,4 +7,9 @@ use Rattle.thread_local_judged.proofs.Parts.{a_value, enumeration}
 use Rattle.thread_local_judged.proofs.containers.ResultJudge.judge.Goals as goal
 
 pub returns : goal.returns
-returns g c = let j = enumeration (enum (param 0 g.row.T) (param 1 g.row.E)) (Ok (a_value (param 0 g.row.T) c.judge.ensures.everywhere)) ((c.judge.ensures.everywhere, tt), ((c.judge-2.ensures.everywhere, tt), tt)) in record { judged = known j; everywhere = j }
+returns g c =
+    let j =
+    enumeration (enum (param 0 g.row.T) (param 1 g.row.E))
+    (Ok (a_value (param 0 g.row.T) c.judge.ensures.everywhere))
+    ((c.judge.ensures.everywhere, tt), ((c.judge-2.ensures.everywhere, tt), tt)) in
+    record { judged = known j; everywhere = j }

@@ -7,4 +7,8 @@ use Rattle.thread_local_judged.proofs.Parts.{structure}
 use Rattle.thread_local_judged.proofs.containers.Tuple2Judge.judge.Goals as goal
 
 pub returns : goal.returns
-returns g c = let j = structure (tuple_type (param 0 g.row.A ∷ param 1 g.row.B ∷ [])) (λ v. tt) (c.judge.ensures.everywhere, (c.judge-2.ensures.everywhere, tt)) in record { judged = known j; everywhere = j }
+returns g c =
+    let j =
+    structure (tuple_type (param 0 g.row.A ∷ param 1 g.row.B ∷ [])) (λ v. tt)
+    (c.judge.ensures.everywhere, (c.judge-2.ensures.everywhere, tt)) in
+    record { judged = known j; everywhere = j }

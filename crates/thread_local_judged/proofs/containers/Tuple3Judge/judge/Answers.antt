@@ -7,4 +7,10 @@ use Rattle.thread_local_judged.proofs.Parts.{structure}
 use Rattle.thread_local_judged.proofs.containers.Tuple3Judge.judge.Goals as goal
 
 pub returns : goal.returns
-returns g c = let j = structure (tuple_type (param 0 g.row.A ∷ param 1 g.row.B ∷ param 2 g.row.C ∷ [])) (λ v. tt) (c.judge.ensures.everywhere, (c.judge-2.ensures.everywhere, (c.judge-3.ensures.everywhere, tt))) in record { judged = known j; everywhere = j }
+returns g c =
+    let j =
+    structure (tuple_type (param 0 g.row.A ∷ param 1 g.row.B ∷ param 2 g.row.C ∷ [])) (λ v. tt) (
+      c.judge.ensures.everywhere,
+      (c.judge-2.ensures.everywhere, (c.judge-3.ensures.everywhere, tt)),
+    ) in
+    record { judged = known j; everywhere = j }

@@ -7,4 +7,22 @@ use Rattle.thread_local_judged.proofs.Parts.{structure}
 use Rattle.thread_local_judged.proofs.containers.Tuple6Judge.judge.Goals as goal
 
 pub returns : goal.returns
-returns g c = let j = structure (tuple_type (param 0 g.row.A ∷ param 1 g.row.B ∷ param 2 g.row.C ∷ param 3 g.row.D ∷ param 4 g.row.E ∷ param 5 g.row.F ∷ [])) (λ v. tt) (c.judge.ensures.everywhere, (c.judge-2.ensures.everywhere, (c.judge-3.ensures.everywhere, (c.judge-4.ensures.everywhere, (c.judge-5.ensures.everywhere, (c.judge-6.ensures.everywhere, tt)))))) in record { judged = known j; everywhere = j }
+returns g c =
+    let j =
+    structure
+    (tuple_type (param 0 g.row.A ∷ param 1 g.row.B ∷ param 2 g.row.C ∷ param 3 g.row.D
+    ∷ param 4 g.row.E ∷ param 5 g.row.F ∷ []))
+    (λ v. tt) (
+      c.judge.ensures.everywhere,
+      (
+        c.judge-2.ensures.everywhere,
+        (
+          c.judge-3.ensures.everywhere,
+          (
+            c.judge-4.ensures.everywhere,
+            (c.judge-5.ensures.everywhere, (c.judge-6.ensures.everywhere, tt)),
+          ),
+        ),
+      ),
+    ) in
+    record { judged = known j; everywhere = j }

@@ -6,4 +6,6 @@ use Rattle.thread_local_judged.proofs.Parts.{structure}
 use Rattle.thread_local_judged.proofs.containers.WrappingJudge.judge.Goals as goal
 
 pub returns : goal.returns
-returns g c = let j = structure (the_type (param 0 g.row.T)) (λ v. tt) (c.judge.ensures.everywhere, tt) in record { judged = known j; everywhere = j }
+returns g c =
+    let j = structure (the_type (param 0 g.row.T)) (λ v. tt) (c.judge.ensures.everywhere, tt) in
+    record { judged = known j; everywhere = j }

@@ -10,15 +10,22 @@ use Rattle.thread_local_owner_tests.proofs.buckets.callers.written.Goals as goal
 
 -- nothing stands in new buckets
 nothing_stands : (c : Contents ℕ) (b i v : ℕ) → c ≡ no_contents → unwrap_or (value_in c b i) v ≡ v
-nothing_stands c b i v new = ap (λ (d : Contents ℕ). unwrap_or (value_in d b i) v) new ∙ ap (λ (o : Option ℕ). unwrap_or o v) (slot-no_contents ℕ b i)
+nothing_stands c b i v new =
+    ap (λ (d : Contents ℕ). unwrap_or (value_in d b i) v) new
+    ∙ ap (λ (o : Option ℕ). unwrap_or o v) (slot-no_contents ℕ b i)
 
 pub overflow_add-there : goal.overflow_add-there
 overflow_add-there c =
-    let four = c.in_ok-there.ensures.answers ∙ nothing_stands c.new-buckets.result.contents c.new.result.bucket c.new.result.index 4 c.new-buckets.ensures.contents in
+    let four =
+    c.in_ok-there.ensures.answers
+    ∙ nothing_stands c.new-buckets.result.contents c.new.result.bucket c.new.result.index 4
+    c.new-buckets.ensures.contents in
     omega arith
 
 -- what was written stands, and is kept
-written_stands : (c : Contents ℕ) (b i k j n other : ℕ) → c ≡ no_contents → b < 63 → i < 2 ^ b → k ≡ b → j ≡ i → unwrap_or (value_in (with_published c b i n) k j) other ≡ n
+written_stands : (c : Contents ℕ) (b i k j n other : ℕ) → c ≡ no_contents → b < 63 → i < 2 ^ b
+    → k ≡ b → j ≡ i
+    → unwrap_or (value_in (with_published c b i n) k j) other ≡ n
 written_stands c b i k j n other new low inside same_bucket same_index =
     let t : IsTable c = (let P : Contents ℕ → Type 0 = IsTable in subst P (sym new) (IsTable-no_contents ℕ)) in
     ap (λ m. unwrap_or (value_in (with_published c b i n) m j) other) same_bucket
@@ -27,8 +34,14 @@ written_stands c b i k j n other new low inside same_bucket same_index =
 
 pub returns : goal.returns
 returns c =
-    let four = c.in_ok-there.ensures.answers ∙ nothing_stands c.new-buckets.result.contents c.new.result.bucket c.new.result.index 4 c.new-buckets.ensures.contents in
+    let four =
+    c.in_ok-there.ensures.answers
+    ∙ nothing_stands c.new-buckets.result.contents c.new.result.bucket c.new.result.index 4
+    c.new-buckets.ensures.contents in
     c.in_ok-there-2.ensures.answers
-    ∙ written_stands c.new-buckets.result.contents c.new.result.bucket c.new.result.index c.new-2.result.bucket c.new-2.result.index (c.in_ok-there.there.now + 1) 9 c.new-buckets.ensures.contents
-    c.new.result.in_table c.new.result.in_bucket (c.new-2.ensures.bucket ∙ sym c.new.ensures.bucket) (c.new-2.ensures.index ∙ sym c.new.ensures.index)
+    ∙ written_stands c.new-buckets.result.contents c.new.result.bucket c.new.result.index
+    c.new-2.result.bucket c.new-2.result.index (c.in_ok-there.there.now + 1) 9
+    c.new-buckets.ensures.contents
+    c.new.result.in_table c.new.result.in_bucket (c.new-2.ensures.bucket ∙ sym c.new.ensures.bucket)
+    (c.new-2.ensures.index ∙ sym c.new.ensures.index)
     ∙ omega arith

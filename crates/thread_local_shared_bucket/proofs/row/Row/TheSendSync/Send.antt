@@ -6,4 +6,8 @@ use Rattle.thread_local_shared_bucket.specs.contracts.row.Row.{the_row}
 use Rattle.thread_local_shared_bucket.proofs.Sent.{found_keyless}
 
 pub send : (a : NamedLft) (T : RattleType) → IsSend T → IsSend (the_row a T)
-send a T s = record { owned = λ d vs. ((λ vss. (tt, (tt, ((λ uss. (tt, tt)), tt)))), found_keyless T s d.of d.names a.lft d.at); leaving = λ k f vs. tt }
+send a T s = record {
+  owned = λ d vs.
+      ((λ vss. (tt, (tt, ((λ uss. (tt, tt)), tt)))), found_keyless T s d.of d.names a.lft d.at);
+  leaving = λ k f vs. tt;
+}

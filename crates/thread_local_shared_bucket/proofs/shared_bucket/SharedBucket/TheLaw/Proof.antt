@@ -18,8 +18,15 @@ use Rattle.thread_local_shared_bucket.proofs.shared_bucket.SharedBucket.TheLaw.S
 
 pub shares : (T : RattleType) (L : Laws T) → statement T L
 shares T L = record {
-  shr_laws = λ d b o. beside_shr_laws (said (fact (Judged T))) (some Turn (λ t. kept T d t b (o + 0))) (said_shr_laws (fact (Judged T)) (λ _. tt))
-      (some_shr_laws Turn (λ t. kept T d t b (o + 0)) (λ t. beside_shr_laws (ends t.life) (always (fbor t.life (bucket_invariant T d t b (o + 0)))) (ends_shr_laws t.life) (always_shr_laws (fbor t.life (bucket_invariant T d t b (o + 0))))));
-  shares = λ M 𝓤 𝓛 d κ ts b o inc sp. by_one 𝓛 (span ts) ts (Incl-refl (span ts)) (𝓛.A.bor κ (P 𝓛 T L d κ b o)) (sem 𝓛 (bucket_shares T d (block_ptr b o) κ))
+  shr_laws = λ d b o.
+      beside_shr_laws (said (fact (Judged T))) (some Turn (λ t. kept T d t b (o + 0)))
+      (said_shr_laws (fact (Judged T)) (λ _. tt))
+      (some_shr_laws Turn (λ t. kept T d t b (o + 0)) (λ t.
+      beside_shr_laws (ends t.life) (always (fbor t.life (bucket_invariant T d t b (o + 0))))
+      (ends_shr_laws t.life)
+      (always_shr_laws (fbor t.life (bucket_invariant T d t b (o + 0))))));
+  shares = λ M 𝓤 𝓛 d κ ts b o inc sp.
+      by_one 𝓛 (span ts) ts (Incl-refl (span ts)) (𝓛.A.bor κ (P 𝓛 T L d κ b o))
+      (sem 𝓛 (bucket_shares T d (block_ptr b o) κ))
       (lends_by 𝓛 T L d κ b o (span ts) (Incl-trans inc (Incl-trans (meet_⊑_left (T.lives ++ []) _) (meet_⊑_left T.lives []))) sp);
 }

@@ -5,4 +5,7 @@ use Rattle.thread_local_shared_bucket.specs.contracts.shared_bucket.SharedBucket
 use Rattle.thread_local_shared_bucket.proofs.Sent.{at_rest_keyless}
 
 pub send : (T : RattleType) → IsSend T → IsSend (the_row T)
-send T s = record { owned = λ d vs. ((λ _. tt), ((λ _. tt), λ p. ((λ vss. (tt, (tt, tt))), at_rest_keyless T s d p))); leaving = λ k d w. tt }
+send T s = record {
+  owned = λ d vs. ((λ _. tt), ((λ _. tt), λ p. ((λ vss. (tt, (tt, tt))), at_rest_keyless T s d p)));
+  leaving = λ k d w. tt;
+}

@@ -6,7 +6,8 @@ use mir.MapTy.{inst_fn}
 use base.Logic.{SProp, ent, emp, id⊢}
 use base.Fml.{ftrue, fsep}
 use prog.Wp.{WpFn}
-use types.Kit.{‵, raw, ◌⊛◌, some, given, later, ◌$◌, ◌∵◌, !, qed, by, move, keep, use0, use1, split, join, fsplit, fjoin, pick, learn, await, rewrite, suffices}
+use types.Kit.{‵, raw, ◌⊛◌, some, given, later, ◌$◌, ◌∵◌, !, qed, by, move, keep, use0, use1, split, join, fsplit}
+use types.Kit.{fjoin, pick, learn, await, rewrite, suffices}
 use types.Run.{stop, fld, of_opd, no_more, and_then, returns, enter}
 use types.ByLocal.{alloc_all, pass_all, free_all, look_at, get, get_in, sets}
 use types.Part.{agg, sub, whole}
@@ -42,26 +43,64 @@ use Rattle.thread_local_shared_buckets.proofs.shared.Shared.into_pointers.Code a
 
 pub into_pointers_spec : {M : Type 1} → statement M
 into_pointers_spec 𝓤 𝓛 𝓜 𝓡 wired T L =
-    let H = 𝓛.H in let 𝓣 = tables 𝓤 H 𝓜 𝓡 𝓡.env in let R : RattleType = param 0 T in let LR : Laws R = param_laws 0 T L in let Sh : RattleType = shared.the_row R in let Ws : RattleType = all_pointers.the_row R in let Bk : RattleType = Book.the_row R in let Pair : RattleType = Tuple (Ws ∷ Bk ∷ []) in
-    let En = ended T in let c = clauses T 𝓛 𝓜.mem 𝓡.returns in let inst = layouts (a_type ∷ []) (T, tt) in let fn = inst_fn inst code.function in let self = plain (λ _. Sh) in let hs : Stays En.signature.params En.kept = (stay_dropped self no, tt) in
-    proved_at 𝓛 En hs c 𝓜 𝓡 (Goes-dropped 𝓛 1 self no (λ κs x f. refl), tt) (#self inst) fn (code.unfolded 𝓤 H 𝓜 𝓡 wired (T, tt)) (λ z are.
-    let s : TableView = z.0.3.0 in let vs : List Val = z.0.4.0 in let known = are.0.1 in let fields = known.1.0 in let there = fields.1.1.0 in
-    let v : Val = vstruct (of_list (there.0.0 ++ (there.0.1.0 ++ []))) in let u : Val = vint w64 known.0.0.reserved in let V : Val = vstruct (vcons v (vcons u vnil)) in
-    let whole_is : vs ≡ V ∷ [] = fields.1.0 ∙ (λ i. vstruct (of_list (there.1.0 i ++ (fields.1.1.1.0.0 i ++ []))) ∷ []) in let typed : Typed Sh.mir (V ∷ []) = subst (Typed Sh.mir) whole_is are.0.0.0 in
-    let Post : Val → SProp 𝓤 = (walk_of 𝓛 En hs c).post z in let Run : List Val → SProp 𝓤 = λ ws. WpFn 𝓤 H 𝓣.C 𝓣.Λ fn ws Post in let Owned : Ws.Denot → Type 0 = λ w. IsOwned (record { contents = w; reserved = s.reserved }) in
-    qed 𝓛 ((raw (alive 𝓛 En.signature z.0.0 z.0.1) ⊛ ‵ (fsep (Sh.own_val s vs) ftrue)) ∷ raw ((c z.0.0 z.0.3).requires z.1) ∷ []) ∵ keep ! (0 ∷ []) $ split ! $ move ! (1 ∷ []) $ fsplit ! $ keep ! (0 ∷ 2 ∷ []) $
+    let H = 𝓛.H in
+    let 𝓣 = tables 𝓤 H 𝓜 𝓡 𝓡.env in
+    let R : RattleType = param 0 T in
+    let LR : Laws R = param_laws 0 T L in
+    let Sh : RattleType = shared.the_row R in
+    let Ws : RattleType = all_pointers.the_row R in
+    let Bk : RattleType = Book.the_row R in
+    let Pair : RattleType = Tuple (Ws ∷ Bk ∷ []) in
+    let En = ended T in
+    let c = clauses T 𝓛 𝓜.mem 𝓡.returns in
+    let inst = layouts (a_type ∷ []) (T, tt) in
+    let fn = inst_fn inst code.function in
+    let self = plain (λ _. Sh) in
+    let hs : Stays En.signature.params En.kept = (stay_dropped self no, tt) in
+    proved_at 𝓛 En hs c 𝓜 𝓡 (Goes-dropped 𝓛 1 self no (λ κs x f. refl), tt) (#self inst) fn
+    (code.unfolded 𝓤 H 𝓜 𝓡 wired (T, tt)) (λ z are.
+    let s : TableView = z.0.3.0 in
+    let vs : List Val = z.0.4.0 in
+    let known = are.0.1 in
+    let fields = known.1.0 in
+    let there = fields.1.1.0 in
+    let v : Val = vstruct (of_list (there.0.0 ++ (there.0.1.0 ++ []))) in
+    let u : Val = vint w64 known.0.0.reserved in
+    let V : Val = vstruct (vcons v (vcons u vnil)) in
+    let whole_is : vs ≡ V ∷ [] =
+    fields.1.0 ∙ (λ i. vstruct (of_list (there.1.0 i ++ (fields.1.1.1.0.0 i ++ []))) ∷ []) in
+    let typed : Typed Sh.mir (V ∷ []) = subst (Typed Sh.mir) whole_is are.0.0.0 in
+    let Post : Val → SProp 𝓤 = (walk_of 𝓛 En hs c).post z in
+    let Run : List Val → SProp 𝓤 = λ ws. WpFn 𝓤 H 𝓣.C 𝓣.Λ fn ws Post in
+    let Owned : Ws.Denot → Type 0 = λ w. IsOwned (record { contents = w; reserved = s.reserved }) in
+    qed 𝓛 ((raw (alive 𝓛 En.signature z.0.0 z.0.1) ⊛ ‵ (fsep (Sh.own_val s vs) ftrue))
+    ∷ raw ((c z.0.0 z.0.3).requires z.1) ∷ []) ∵
+    keep ! (0 ∷ []) $ split ! $ move ! (1 ∷ []) $ fsplit ! $ keep ! (0 ∷ 2 ∷ []) $
     rewrite ! 0 (λ (ws : List Val). ‵ (Sh.own_val s ws)) whole_is refl $
-    suffices ! (Run (V ∷ [])) (subst (λ (ws : List Val). ent 𝓤 (Run (V ∷ [])) (Run ws)) (sym (λ i. whole_is i ++ [])) (id⊢ 𝓤 (Run (V ∷ [])))) $
+    suffices ! (Run (V ∷ [])) (subst (λ (ws : List Val). ent 𝓤 (Run (V ∷ [])) (Run ws))
+    (sym (λ i. whole_is i ++ [])) (id⊢ 𝓤 (Run (V ∷ [])))) $
     enter ! 𝓣.C 𝓣.Λ fn (V ∷ []) Post $ alloc_all ! (λ l. pass_all ! refl (typed.0, tt) $
-    use1 𝓛 (later (some (λ (w : Ws.Denot). given (Owned w) (‵ (Ws.own_val w (v ∷ [])) ⊛ ‵ (book_owns R s.sharing w))))) (takes_pointers 𝓛 R LR s v u) $ await ! tt $ pick ! (λ w. learn ! (λ owned. split ! $ peeks ! Ws (Is Ws) (shows 𝓛 Ws) w (v ∷ []) (λ it.
-    let fine : Good (layout Ws) v = (((pointers'.the_row_laws R LR).lawful 𝓛).typed w (v ∷ []) it).0 in let r : Bk.Denot = record { marker = record {}; sharing = s.sharing; contents = w } in
+    use1 𝓛 (later (some (λ (w : Ws.Denot).
+    given (Owned w) (‵ (Ws.own_val w (v ∷ [])) ⊛ ‵ (book_owns R s.sharing w)))))
+    (takes_pointers 𝓛 R LR s v u) $
+    await ! tt $ pick ! (λ w. learn ! (λ owned. split ! $
+    peeks ! Ws (Is Ws) (shows 𝓛 Ws) w (v ∷ []) (λ it.
+    let fine : Good (layout Ws) v =
+    (((pointers'.the_row_laws R LR).lawful 𝓛).typed w (v ∷ []) it).0 in
+    let r : Bk.Denot = record { marker = record {}; sharing = s.sharing; contents = w } in
     let both_fine : Good (layout Pair) (both v token_val) = (and_tt (has_ty (layout Ws) v) fine.0, (fine.1, ((tt, tt), tt))) in
     -- [the pointers; what is told; the tokens]
     move ! (1 ∷ []) $ use1 𝓛 (‵ (Bk.own_val r (token_val ∷ []))) (book_made 𝓛 R r) $
-    sets ! (of_opd ! (get_in ! (fld ! refl (stop !)) (sub ! 0 refl (whole !)))) refl fine $ sets ! (agg ! (no_more !)) refl (tt, tt) $ sets ! (agg ! (and_then ! (get ! refl) (no_more !))) refl (tt, (tt, tt)) $
+    sets ! (of_opd ! (get_in ! (fld ! refl (stop !)) (sub ! 0 refl (whole !)))) refl fine $
+    sets ! (agg ! (no_more !)) refl (tt, tt) $
+    sets ! (agg ! (and_then ! (get ! refl) (no_more !))) refl (tt, (tt, tt)) $
     sets ! (of_opd ! (get ! refl)) refl fine $ sets ! (of_opd ! (get ! refl)) refl (tt, (tt, tt)) $
-    sets ! (agg ! (and_then ! (get ! refl) (and_then ! (get ! refl) (no_more !)))) refl both_fine $ move ! (1 ∷ 0 ∷ []) $ pair_in Ws Bk ! w r v token_val $
-    let Alike : Type 0 = (r.sharing ≡ s.sharing) × (r.contents ≡ w) in use0 𝓛 (raw (fact 𝓤 Alike)) (fact_i 𝓤 Alike (emp 𝓤) (refl, refl)) $ use0 𝓛 (raw (fact 𝓤 (Owned w))) (fact_i 𝓤 (Owned w) (emp 𝓤) owned) $ join ! $
+    sets ! (agg ! (and_then ! (get ! refl) (and_then ! (get ! refl) (no_more !)))) refl both_fine $
+    move ! (1 ∷ 0 ∷ []) $ pair_in Ws Bk ! w r v token_val $
+    let Alike : Type 0 = (r.sharing ≡ s.sharing) × (r.contents ≡ w) in
+    use0 𝓛 (raw (fact 𝓤 Alike)) (fact_i 𝓤 Alike (emp 𝓤) (refl, refl)) $
+    use0 𝓛 (raw (fact 𝓤 (Owned w))) (fact_i 𝓤 (Owned w) (emp 𝓤) owned) $ join ! $
     nothing ! $ nothing ! $ fjoin ! $
     -- [nothing; the facts; what comes out; the tokens]
-    returns ! (look_at ! 0 refl) $ free_all ! refl $ keep ! (3 ∷ 0 ∷ 2 ∷ 1 ∷ []) $ by ! (leaves 𝓛 En hs c z (both v token_val) (w, r) (tt, tt) (tt, tt)))))))
+    returns ! (look_at ! 0 refl) $ free_all ! refl $ keep ! (3 ∷ 0 ∷ 2 ∷ 1 ∷ []) $
+    by ! (leaves 𝓛 En hs c z (both v token_val) (w, r) (tt, tt) (tt, tt)))))))

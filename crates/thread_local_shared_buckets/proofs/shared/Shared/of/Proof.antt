@@ -8,7 +8,8 @@ use base.Logic.{SProp, ent, emp, id⊢, via}
 use base.Fml.{GName}
 use types.Owned.{basic}
 use prog.Wp.{WpFn}
-use types.Kit.{some, given, later, await, pick, learn, use2, ‵, raw, ◌⊛◌, ◌$◌, ◌∵◌, !, qed, by, move, keep, use0, use1, split, join, fsplit, fjoin, rewrite, suffices}
+use types.Kit.{some, given, later, await, pick, learn, use2, ‵, raw, ◌⊛◌, ◌$◌, ◌∵◌, !, qed, by, move, keep, use0, use1}
+use types.Kit.{split, join, fsplit, fjoin, rewrite, suffices}
 use types.Run.{of_opd, no_more, and_then, returns, enter}
 use types.ByLocal.{alloc_all, pass_all, free_all, look_at, get, sets}
 use types.Part.{agg}
@@ -46,28 +47,67 @@ use Rattle.thread_local_shared_buckets.proofs.shared.Shared.of.Code as code
 
 pub of_spec : {M : Type 1} → statement M
 of_spec 𝓤 𝓛 𝓜 𝓡 wired T L =
-    let H = 𝓛.H in let 𝓣 = tables 𝓤 H 𝓜 𝓡 𝓡.env in let R : RattleType = param 0 T in let LR : Laws R = param_laws 0 T L in let Sh : RattleType = shared.the_row R in let Ws : RattleType = all_pointers.the_row R in
-    let En = ended T in let c = clauses T 𝓛 𝓜.mem 𝓡.returns in let inst = layouts (a_type ∷ []) (T, tt) in let fn = inst_fn inst code.function in
-    let self = plain (λ _. Ws) in let number = plain (λ _. usize) in let ref = RefOf (0 ∷ []) tt (plain (λ _. right.the_row)) (λ _. tt) in let hs : Stays En.signature.params En.kept = (stay_dropped self no, (stay_dropped number yes, (stay_dropped ref yes, tt))) in
-    proved_at 𝓛 En hs c 𝓜 𝓡 (Goes-dropped 𝓛 2 self no (λ κs x f. refl), (Goes-dropped 𝓛 2 number yes (λ κs x f. refl), (Goes-dropped 𝓛 2 ref yes (λ κs x f. refl), tt))) (#self inst) fn (code.unfolded 𝓤 H 𝓜 𝓡 wired (T, tt)) (λ z are.
+    let H = 𝓛.H in
+    let 𝓣 = tables 𝓤 H 𝓜 𝓡 𝓡.env in
+    let R : RattleType = param 0 T in
+    let LR : Laws R = param_laws 0 T L in
+    let Sh : RattleType = shared.the_row R in
+    let Ws : RattleType = all_pointers.the_row R in
+    let En = ended T in
+    let c = clauses T 𝓛 𝓜.mem 𝓡.returns in
+    let inst = layouts (a_type ∷ []) (T, tt) in
+    let fn = inst_fn inst code.function in
+    let self = plain (λ _. Ws) in
+    let number = plain (λ _. usize) in
+    let ref = RefOf (0 ∷ []) tt (plain (λ _. right.the_row)) (λ _. tt) in
+    let hs : Stays En.signature.params En.kept =
+    (stay_dropped self no, (stay_dropped number yes, (stay_dropped ref yes, tt))) in
+    proved_at 𝓛 En hs c 𝓜 𝓡 (
+      Goes-dropped 𝓛 2 self no (λ κs x f. refl),
+      (
+        Goes-dropped 𝓛 2 number yes (λ κs x f. refl),
+        (Goes-dropped 𝓛 2 ref yes (λ κs x f. refl), tt),
+      ),
+    )
+    (#self inst) fn (code.unfolded 𝓤 H 𝓜 𝓡 wired (T, tt)) (λ z are.
     let w : Ws.Denot = z.0.3.0 in let n : ℕ = z.0.3.1.0 in let table : ℕ = z.0.3.1.1.0.now.table in let past : Option ℕ = z.1 in
-    let got = one (layout Ws) z.0.4.0 (((pointers'.the_row_laws R LR).lawful 𝓛).typed w z.0.4.0 are.0) in let v : Val = got.0 in let fine : Good (layout Ws) v = got.2 in
+    let got =
+    one (layout Ws) z.0.4.0 (((pointers'.the_row_laws R LR).lawful 𝓛).typed w z.0.4.0 are.0) in
+    let v : Val = got.0 in
+    let fine : Good (layout Ws) v = got.2 in
     let ref_is = shr_Tells (named 0) z.0.0.0 right.the_row z.0.3.1.1.0 z.0.4.1.1.0 are.1.1.0 in
-    let Post : Val → SProp 𝓤 = (walk_of 𝓛 En hs c).post z in let Run : List Val → SProp 𝓤 = λ ws. WpFn 𝓤 H 𝓣.C 𝓣.Λ fn ws Post in
+    let Post : Val → SProp 𝓤 = (walk_of 𝓛 En hs c).post z in
+    let Run : List Val → SProp 𝓤 = λ ws. WpFn 𝓤 H 𝓣.C 𝓣.Λ fn ws Post in
     let p : Val = vptr z.0.3.1.1.0.ref_ptr.0 z.0.3.1.1.0.ref_ptr.1 in let us : List Val = v ∷ vint w64 n ∷ p ∷ [] in
-    let fits : n < 2 ^ 64 = are.1.0.1 in let typed : Typed Sh.mir (pair_val v n ∷ []) = ((and_tt (has_ty (layout Ws) v) fine.0, (fine.1, (record { fits = fits }, tt))), tt) in let Owned : Type 0 = IsOwned (record { contents = w; reserved = n }) in
-    qed 𝓛 ((raw (alive 𝓛 En.signature z.0.0 z.0.1) ⊛ ‵ (owns (types_at En.signature.params z.0.0) z.0.3 z.0.4)) ∷ raw (fact 𝓤 _) ∷ raw (fact 𝓤 _) ∷ raw (fact 𝓤 _) ∷ raw (fact 𝓤 (Judged R)) ∷ raw (fact 𝓤 Owned) ∷ []) ∵
-    keep ! (4 ∷ 5 ∷ 0 ∷ []) $ heard ! (Judged R) (λ j. heard ! Owned (λ owned. split ! $ move ! (1 ∷ []) $ fsplit ! $ keep ! (0 ∷ 2 ∷ []) $
+    let fits : n < 2 ^ 64 = are.1.0.1 in
+    let typed : Typed Sh.mir (pair_val v n ∷ []) =
+    ((and_tt (has_ty (layout Ws) v) fine.0, (fine.1, (record { fits = fits }, tt))), tt) in
+    let Owned : Type 0 = IsOwned (record { contents = w; reserved = n }) in
+    qed 𝓛 ((raw (alive 𝓛 En.signature z.0.0 z.0.1)
+    ⊛ ‵ (owns (types_at En.signature.params z.0.0) z.0.3 z.0.4))
+    ∷ raw (fact 𝓤 _) ∷ raw (fact 𝓤 _) ∷ raw (fact 𝓤 _) ∷ raw (fact 𝓤 (Judged R))
+    ∷ raw (fact 𝓤 Owned) ∷ []) ∵
+    keep ! (4 ∷ 5 ∷ 0 ∷ []) $ heard ! (Judged R) (λ j. heard ! Owned (λ owned. split ! $
+    move ! (1 ∷ []) $ fsplit ! $ keep ! (0 ∷ 2 ∷ []) $
     -- [the pointers; the tokens]
     rewrite ! 0 (λ (ws : List Val). ‵ (Ws.own_val w ws)) got.1 refl $
-    suffices ! (Run us) (subst (λ (ws : List Val). ent 𝓤 (Run us) (Run ws)) (sym (λ i. got.1 i ++ (are.1.0.0 i ++ (ref_is i ++ [])))) (id⊢ 𝓤 (Run us))) $
+    suffices ! (Run us) (subst (λ (ws : List Val). ent 𝓤 (Run us) (Run ws))
+    (sym (λ i. got.1 i ++ (are.1.0.0 i ++ (ref_is i ++ [])))) (id⊢ 𝓤 (Run us))) $
     enter ! 𝓣.C 𝓣.Λ fn us Post $ alloc_all ! (λ l. pass_all ! refl (fine, ((tt, record { fits = fits }), ((tt, tt), tt))) $
-    use0 𝓛 (later (some (λ (γ : GName). given (Some γ ≢ past) (‵ (source 𝓛 γ 0))))) (via 𝓤 _ (source_new 𝓛 past) (basic 𝓛 _)) $ await ! tt $ pick ! (λ γ. learn ! (λ new. let s : TableView = record { table = table; sharing = Some γ; reserved = n } in
-    use1 𝓛 (later (‵ (rows_telling R (Some γ) 0 w.rows))) (via 𝓤 _ (rows_drawn 𝓛 R γ 0 w.rows (table_whole w owned.table)) (basic 𝓛 _)) $ await ! tt $ move ! (1 ∷ 0 ∷ []) $
+    use0 𝓛 (later (some (λ (γ : GName). given (Some γ ≢ past) (‵ (source 𝓛 γ 0)))))
+    (via 𝓤 _ (source_new 𝓛 past) (basic 𝓛 _)) $
+    await ! tt $ pick ! (λ γ. learn ! (λ new.
+    let s : TableView = record { table = table; sharing = Some γ; reserved = n } in
+    use1 𝓛 (later (‵ (rows_telling R (Some γ) 0 w.rows)))
+    (via 𝓤 _ (rows_drawn 𝓛 R γ 0 w.rows (table_whole w owned.table)) (basic 𝓛 _)) $
+    await ! tt $ move ! (1 ∷ 0 ∷ []) $
     use2 𝓛 (‵ (Sh.own_val s (pair_val v n ∷ []))) (makes_shared 𝓛 R LR j s w v fits owned typed) $
     sets ! (of_opd ! (get ! refl)) refl fine $ sets ! (agg ! (and_then ! (get ! refl) (and_then ! (get ! refl) (no_more !)))) refl typed.0 $
-    let Named : Type 0 = IsSome (Some γ) × (Some γ ≢ past) in use0 𝓛 (raw (fact 𝓤 (n ≡ n))) (fact_i 𝓤 (n ≡ n) (emp 𝓤) refl) $ use0 𝓛 (raw (fact 𝓤 Named)) (fact_i 𝓤 Named (emp 𝓤) (refl, new)) $ join ! $
+    let Named : Type 0 = IsSome (Some γ) × (Some γ ≢ past) in
+    use0 𝓛 (raw (fact 𝓤 (n ≡ n))) (fact_i 𝓤 (n ≡ n) (emp 𝓤) refl) $
+    use0 𝓛 (raw (fact 𝓤 Named)) (fact_i 𝓤 Named (emp 𝓤) (refl, new)) $ join ! $
     use0 𝓛 (raw (fact 𝓤 (table ≡ table))) (fact_i 𝓤 (table ≡ table) (emp 𝓤) refl) $ join ! $
     nothing ! $ nothing ! $ fjoin ! $ nothing ! $ fjoin ! $ nothing ! $ fjoin ! $
     -- [nothing; the facts; what is shared; the tokens]
-    returns ! (look_at ! 0 refl) $ free_all ! refl $ keep ! (3 ∷ 0 ∷ 2 ∷ 1 ∷ []) $ by ! (leaves 𝓛 En hs c z (pair_val v n) s (tt, (tt, (tt, tt))) (tt, (tt, (tt, tt))))))))))
+    returns ! (look_at ! 0 refl) $ free_all ! refl $ keep ! (3 ∷ 0 ∷ 2 ∷ 1 ∷ []) $
+    by ! (leaves 𝓛 En hs c z (pair_val v n) s (tt, (tt, (tt, tt))) (tt, (tt, (tt, tt))))))))))

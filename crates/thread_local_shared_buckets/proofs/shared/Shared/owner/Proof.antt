@@ -8,7 +8,8 @@ use base.Logic.{SProp, emp, id⊢, via, fst∗}
 use base.Fml.{Lft, Share, GName, Fml, ftrue, fsep, flft}
 use types.Logic.{sem}
 use types.Mut.{open_ref}
-use types.Kit.{‵, raw, ◌⊛◌, some, given, later, at_ret, ◌$◌, ◌∵◌, !, qed, by, move, keep, use0, use1, split, split3, join, group, fsplit, fsplit3, fjoin, pick, learn, await}
+use types.Kit.{‵, raw, ◌⊛◌, some, given, later, at_ret, ◌$◌, ◌∵◌, !, qed, by, move, keep, use0, use1, split, split3}
+use types.Kit.{join, group, fsplit, fsplit3, fjoin, pick, learn, await}
 use types.Run.{stop, addr, of_opd, first, blocks, exec, returns, enter}
 use types.ByLocal.{alloc_all, pass_all, free_all, look_at, get, through, sets, sets_last, env}
 use contract.Running.{tables}
@@ -39,23 +40,65 @@ use Rattle.thread_local_shared_buckets.proofs.shared.Shared.owner.Code as code
 
 pub owner_spec : {M : Type 1} → statement M
 owner_spec 𝓤 𝓛 𝓜 𝓡 wired T L =
-    let H = 𝓛.H in let 𝓣 = tables 𝓤 H 𝓜 𝓡 𝓡.env in let R : RattleType = param 0 T in let LR : Laws R = param_laws 0 T L in let Sh : RattleType = shared.the_row R in let Ow : RattleType = buckets.the_row R in
-    let En = ended T in let c = clauses T 𝓛 𝓜.mem 𝓡.returns in let inst = layouts (a_type ∷ []) (T, tt) in let fn = inst_fn inst code.function in
-    let row = plain (λ _. Sh) in let self = RefMutOf (0 ∷ []) tt row (λ _. tt) in let hs : Stays En.signature.params En.kept = (stay_dropped self no, tt) in
-    proved 𝓛 En hs c 𝓜 𝓡 (Goes-spent_ref 𝓛 2 (0 ∷ []) tt row, tt) (#self inst) fn (code.unfolded 𝓤 H 𝓜 𝓡 wired (T, tt)) (λ κs. (mut_vals, tt)) (λ κs. (mut_Tells (named 0) κs.0 Sh, tt)) (λ κs qs bounds a gh are.
-    let b : ℕ = a.0.ref_ptr.0 in let o : ℕ = a.0.ref_ptr.1 in let d : TableView = a.0.now in let κ : Lft = κs.0 in let q : Share = qs.0 in let γ : GName = a.0.ghost_name in let others : Fml = fsep (flft κs.1.0 qs.1.0) ftrue in
-    let y : (walk_of 𝓛 En hs c).Ghost = ((κs, qs, bounds, a, (vptr b o ∷ [], tt)), gh) in let Post : Val → SProp 𝓤 = (walk_of 𝓛 En hs c).post y in let F : Ow.Denot → TableView = view_with d in
-    qed 𝓛 (((‵ (flft κ q) ⊛ ‵ others) ⊛ ‵ (owns (types_at En.signature.params κs) a y.0.4)) ∷ raw ((c κs a).requires gh) ∷ []) ∵
+    let H = 𝓛.H in
+    let 𝓣 = tables 𝓤 H 𝓜 𝓡 𝓡.env in
+    let R : RattleType = param 0 T in
+    let LR : Laws R = param_laws 0 T L in
+    let Sh : RattleType = shared.the_row R in
+    let Ow : RattleType = buckets.the_row R in
+    let En = ended T in
+    let c = clauses T 𝓛 𝓜.mem 𝓡.returns in
+    let inst = layouts (a_type ∷ []) (T, tt) in
+    let fn = inst_fn inst code.function in
+    let row = plain (λ _. Sh) in
+    let self = RefMutOf (0 ∷ []) tt row (λ _. tt) in
+    let hs : Stays En.signature.params En.kept = (stay_dropped self no, tt) in
+    proved 𝓛 En hs c 𝓜 𝓡 (Goes-spent_ref 𝓛 2 (0 ∷ []) tt row, tt) (#self inst) fn
+    (code.unfolded 𝓤 H 𝓜 𝓡 wired (T, tt)) (λ κs. (mut_vals, tt))
+    (λ κs. (mut_Tells (named 0) κs.0 Sh, tt)) (λ κs qs bounds a gh are.
+    let b : ℕ = a.0.ref_ptr.0 in
+    let o : ℕ = a.0.ref_ptr.1 in
+    let d : TableView = a.0.now in
+    let κ : Lft = κs.0 in
+    let q : Share = qs.0 in
+    let γ : GName = a.0.ghost_name in
+    let others : Fml = fsep (flft κs.1.0 qs.1.0) ftrue in
+    let y : (walk_of 𝓛 En hs c).Ghost = ((κs, qs, bounds, a, (vptr b o ∷ [], tt)), gh) in
+    let Post : Val → SProp 𝓤 = (walk_of 𝓛 En hs c).post y in
+    let F : Ow.Denot → TableView = view_with d in
+    qed 𝓛 (((‵ (flft κ q) ⊛ ‵ others) ⊛ ‵ (owns (types_at En.signature.params κs) a y.0.4))
+    ∷ raw ((c κs a).requires gh) ∷ []) ∵
     keep ! (0 ∷ []) $ split ! $ split ! $ move ! (2 ∷ []) $ fsplit ! $ fsplit3 ! $ keep ! (1 ∷ 2 ∷ 4 ∷ 5 ∷ []) $
-    enter ! 𝓣.C 𝓣.Λ fn (vptr b o ∷ []) Post $ alloc_all ! (λ l. pass_all ! refl ((tt, tt), tt) $ let Ev = env fn.locals l in open_ref ! tt (mem Sh) $
-    use1 𝓛 (later (some (λ (w : Ow.Denot). given (Judged R × (w.reserved ≡ d.reserved)) (‵ (part_at Ow full_share w b o))))) (lies_plain 𝓛 R LR d b o) $ await ! tt $ pick ! (λ w. learn ! (λ so.
+    enter ! 𝓣.C 𝓣.Λ fn (vptr b o ∷ []) Post $ alloc_all ! (λ l. pass_all ! refl ((tt, tt), tt) $
+    let Ev = env fn.locals l in
+    open_ref ! tt (mem Sh) $
+    use1 𝓛 (later (some (λ (w : Ow.Denot).
+    given (Judged R × (w.reserved ≡ d.reserved)) (‵ (part_at Ow full_share w b o)))))
+    (lies_plain 𝓛 R LR d b o) $
+    await ! tt $ pick ! (λ w. learn ! (λ so.
     -- [an owner's buckets; the open borrow, and its name; the other tokens]
-    first ! $ blocks ! $ sets ! (addr ! (through ! refl (stop !))) refl (tt, tt) $ sets ! (of_opd ! (get ! refl)) refl (tt, tt) $ sets_last ! (addr ! (through ! refl (stop !))) refl (tt, tt) $
+    first ! $ blocks ! $ sets ! (addr ! (through ! refl (stop !))) refl (tt, tt) $
+    sets ! (of_opd ! (get ! refl)) refl (tt, tt) $
+    sets_last ! (addr ! (through ! refl (stop !))) refl (tt, tt) $
     exec ! 𝓣.C 𝓣.Λ Ev (after 1 fn.body) (at_ret Ev Post) $ sets ! (of_opd ! (get ! refl)) refl (tt, tt) $
-    let Rest : SProp 𝓤 = sem 𝓛 ftrue in let back = λ (u : Ow.Denot). via 𝓤 (sem 𝓛 (part_at Ow full_share u b o)) (fst∗ 𝓤 (sem 𝓛 (part_at Ow full_share u b o)) Rest) (lies_shared 𝓛 R LR so.0 d b o u) in
+    let Rest : SProp 𝓤 = sem 𝓛 ftrue in
+    let back = λ (u : Ow.Denot).
+    via 𝓤 (sem 𝓛 (part_at Ow full_share u b o))
+    (fst∗ 𝓤 (sem 𝓛 (part_at Ow full_share u b o)) Rest) (lies_shared 𝓛 R LR so.0 d b o u) in
     nothing ! $ move ! (2 ∷ 3 ∷ 4 ∷ 1 ∷ 0 ∷ []) $ group ! 5 $
-    use1 𝓛 (later (some (λ (δ : GName). raw (Part 𝓛 Sh Ow F (named 0) κ q b o b o γ Rest back w δ)))) (lends_Part 𝓛 Sh Ow F (named 0) κ q b o b o γ Rest back (Sh.coded.code d) (Sh.coded.code d) w) $ await ! tt $ pick ! (λ δ.
+    use1 𝓛
+    (later (some (λ (δ : GName). raw (Part 𝓛 Sh Ow F (named 0) κ q b o b o γ Rest back w δ))))
+    (lends_Part 𝓛 Sh Ow F (named 0) κ q b o b o γ Rest back (Sh.coded.code d)
+    (Sh.coded.code d) w) $
+    await ! tt $ pick ! (λ δ.
     let r : MutBor Ow.Denot = record { ref_ptr = (b, o); ghost_name = δ; now = w } in
-    use1 𝓛 (‵ ((MutRef (named 0) κ Ow).own_val r (vptr b o ∷ [])) ⊛ ‵ (flft κ q) ⊛ ‵ (follows Sh Ow γ δ F)) (id⊢ 𝓤 _) $ split3 ! $
-    move ! (1 ∷ 3 ∷ []) $ join ! $ use0 𝓛 (raw (fact 𝓤 (w.reserved ≡ d.reserved))) (fact_i 𝓤 (w.reserved ≡ d.reserved) (emp 𝓤) so.1) $ move ! (3 ∷ 0 ∷ []) $ join ! $ nothing ! $ nothing ! $ fjoin ! $
-    returns ! (look_at ! 0 refl) $ free_all ! refl $ keep ! (2 ∷ 0 ∷ 3 ∷ 1 ∷ []) $ by ! (leaves 𝓛 En hs c y (vptr b o) r (tt, tt) (tt, tt)))))))
+    use1 𝓛 (‵ ((MutRef (named 0) κ Ow).own_val r (vptr b o ∷ [])) ⊛ ‵ (flft κ q)
+    ⊛ ‵ (follows Sh Ow γ δ F))
+    (id⊢ 𝓤 _) $
+    split3 ! $
+    move ! (1 ∷ 3 ∷ []) $ join ! $
+    use0 𝓛 (raw (fact 𝓤 (w.reserved ≡ d.reserved)))
+    (fact_i 𝓤 (w.reserved ≡ d.reserved) (emp 𝓤) so.1) $
+    move ! (3 ∷ 0 ∷ []) $ join ! $ nothing ! $ nothing ! $ fjoin ! $
+    returns ! (look_at ! 0 refl) $ free_all ! refl $ keep ! (2 ∷ 0 ∷ 3 ∷ 1 ∷ []) $
+    by ! (leaves 𝓛 En hs c y (vptr b o) r (tt, tt) (tt, tt)))))))

@@ -7,4 +7,9 @@ returns g c =
     let first = c.reserved.ensures.first in let few : 2 ^ first.buckets ≤ 2 ^ 63 = pow_mono first.in_table in
     let end : c.loop-bucket.bucket ≡ 63 = omega (arith, c.loop-bucket-test.false, c.loop-bucket.auto.bucket-end) in
     let known : c.args.self.now.reserved ≤ 2 ^ 63 - 1 = omega (arith, few, first.all, c.reserved.ensures.reserved) in
-    record { reserved = subst (λ (b : ℕ). c.args.self.now.reserved ≤ 2 ^ b - 1 → c.args.self.now.reserved ≤ c.loop-bucket.slots) end c.loop-bucket.invariant.all known }
+    record {
+      reserved =
+          subst (λ (b : ℕ).
+          c.args.self.now.reserved ≤ 2 ^ b - 1 → c.args.self.now.reserved ≤ c.loop-bucket.slots)
+          end c.loop-bucket.invariant.all known;
+    }

@@ -8,4 +8,5 @@ returns-clause-ok c =
     let room = c.hold.ensures.room in
     let top = c.hold.ensures.room_in_range in
     let first = c.least_free-id.ensures.least in
-    takes c.args.self.now _ _ refl (omega arith) c.hold.ensures.held (omega arith) (λ _. room) (omega arith) c.hold.ensures.peak_in_room top
+    takes c.args.self.now _ _ refl (omega arith) c.hold.ensures.held (omega arith) (λ _. room)
+    (omega arith) c.hold.ensures.peak_in_room top

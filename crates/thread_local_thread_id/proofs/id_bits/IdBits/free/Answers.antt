@@ -10,15 +10,21 @@ use Rattle.thread_local_thread_id.proofs.id_bits.IdBits.free.Goals.{After-clear_
 
 -- the id is held, and so is below the peak
 below : (c : After-clear_bit) → c.args.id < c.self.inside.peak
-below c = below_peak (bits_of c.self.inside.words) c.self.inside.peak c.args.id (ap (λ m. is_held m.held c.args.id) c.self.view_is ∙ c.requires)
+below c =
+    below_peak (bits_of c.self.inside.words) c.self.inside.peak c.args.id
+    (ap (λ m. is_held m.held c.args.id) c.self.view_is ∙ c.requires)
 
 pub invariant_of-self : goal.invariant_of-self
 invariant_of-self c =
     let at = (goal.at.invariant_of-self c).After-clear_bit in
-    freed c.self.inside _ c.args.id c.self.invariant c.clear_bit.ensures.bits c.clear_bit.ensures.len (below at) refl (search rules) (search rules)
+    freed c.self.inside _ c.args.id c.self.invariant c.clear_bit.ensures.bits
+    c.clear_bit.ensures.len (below at) refl (search rules) (search rules)
 
 pub returns : goal.returns
 returns c =
     let at = (goal.at.returns c).After-clear_bit in
-    let held = ap (take c.self.inside.peak) c.clear_bit.ensures.bits ∙ take-set-lt c.self.inside.peak (bits_of c.self.inside.words) c.args.id false (below at) ∙ ap (λ m. without m.held c.args.id) c.self.view_is in
+    let held =
+    ap (take c.self.inside.peak) c.clear_bit.ensures.bits
+    ∙ take-set-lt c.self.inside.peak (bits_of c.self.inside.words) c.args.id false (below at)
+    ∙ ap (λ m. without m.held c.args.id) c.self.view_is in
     gives c.args.self.now _ c.args.id c.requires held (search rules) (in_room _ (invariant_of-self c)) (search rules)

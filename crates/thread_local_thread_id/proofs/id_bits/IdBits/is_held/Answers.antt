@@ -9,4 +9,7 @@ pub returns-clause-held : goal.returns-clause-held
 returns-clause-held c =
     let words = c.self.inside.words in
     let id = c.args.id in
-    c.is_set.ensures ∙ sym (get_or-bits_of words id) ∙ sym (is_held-take (bits_of words) c.self.inside.peak id c.self.invariant.above) ∙ ap (λ m. is_held m.held id) c.self.view_is
+    c.is_set.ensures
+    ∙ sym (get_or-bits_of words id)
+    ∙ sym (is_held-take (bits_of words) c.self.inside.peak id c.self.invariant.above)
+    ∙ ap (λ m. is_held m.held id) c.self.view_is

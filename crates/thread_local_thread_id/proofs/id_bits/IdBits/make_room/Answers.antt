@@ -52,7 +52,10 @@ invariant_of-self-2 c =
     pushed c.self.inside _ c.self.invariant c.in_ok-push_zero.ensures.ok (omega arith) refl refl refl
 
 pub returns-clause-held : goal.returns-clause-held
-returns-clause-held c = rw c.in_ok-push_zero.ensures.ok (take-push c.self.inside.words c.self.inside.peak c.self.invariant.peak ∙ ap (λ m. m.held) c.self.view_is)
+returns-clause-held c =
+    rw c.in_ok-push_zero.ensures.ok
+    (take-push c.self.inside.words c.self.inside.peak c.self.invariant.peak
+    ∙ ap (λ m. m.held) c.self.view_is)
 
 pub returns-clause-ok : goal.returns-clause-ok
 returns-clause-ok c =

@@ -12,13 +12,16 @@ pub returns-then-self-least-clause-ok : goal.returns-then-self-least-clause-ok
 returns-then-self-least-clause-ok c =
     let told = c.least_free-least.ensures.least in
     let lower = c.if-self-least.true in
-    rw (← c.self.view_is) (takes_returned c.self.inside.bits c.self.inside.returned (omega arith) c.self.invariant.peak_in_room c.self.invariant.room_in_range)
+    rw (← c.self.view_is) (takes_returned c.self.inside.bits c.self.inside.returned (omega arith)
+    c.self.invariant.peak_in_room c.self.invariant.room_in_range)
 
 pub returns-clause-ok : goal.returns-clause-ok
 returns-clause-ok c =
     let at = (goal.at.returns-clause-ok c).After-alloc in
     let first = c.least_free-least.ensures.least in
-    rw (← c.self.view_is, first) (takes_another c.self.inside.bits c.alloc.new.self c.self.inside.returned _ c.self.invariant.returned (above at) c.in_ok-alloc.ensures.ok)
+    rw (← c.self.view_is, first)
+    (takes_another c.self.inside.bits c.alloc.new.self c.self.inside.returned _
+    c.self.invariant.returned (above at) c.in_ok-alloc.ensures.ok)
 
 pub returns-in_err-alloc-clause-memory : goal.returns-in_err-alloc-clause-memory
 returns-in_err-alloc-clause-memory c = λ refused.
@@ -31,4 +34,9 @@ returns-in_err-alloc-clause-exhausted c = λ refused.
     let at = (goal.at.returns-in_err-alloc-clause-exhausted c).After-alloc in
     let none = c.alloc.ensures.exhausted (search rules) in
     let peak = none.peak in
-    rw (← c.self.view_is, none_returned c.self.inside.bits.held c.self.inside.returned (λ id below. none.full id (omega arith)) (above at)) none
+    rw (
+      ← c.self.view_is,
+      none_returned c.self.inside.bits.held c.self.inside.returned
+          (λ id below. none.full id (omega arith)) (above at),
+    )
+    none

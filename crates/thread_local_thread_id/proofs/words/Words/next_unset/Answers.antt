@@ -9,12 +9,15 @@ returns-then-from-gt0 c =
     let within = c.requires.within in
     let some : 0 < length c.args.self.now = omega arith in
     let next = rw c.deref.ensures.value at c.next_unset.ensures in
-    rw (← c.self.view_is) (next_in_rest w.count w.first w.rest.items (from * 64) ((from - 1) * 64) _ c.self.invariant (rw (← c.self.view_is) at some) (omega arith) next)
+    rw (← c.self.view_is) (next_in_rest w.count w.first w.rest.items (from * 64) ((from - 1) * 64) _
+    c.self.invariant (rw (← c.self.view_is) at some) (omega arith) next)
 
 pub returns-then-first : goal.returns-then-first
 returns-then-first c =
     let start : c.args.from ≡ 0 = omega arith in
-    rw (start, c.trailing_ones.ensures) (next_in_first c.args.self.now c.word-first.result c.word-first.ensures c.word-first.type_inv c.if-first.true)
+    rw (start, c.trailing_ones.ensures)
+    (next_in_first c.args.self.now c.word-first.result c.word-first.ensures c.word-first.type_inv
+    c.if-first.true)
 
 pub returns : goal.returns
 returns c =
@@ -25,4 +28,5 @@ returns c =
     let next = rw c.deref-2.ensures.value at c.next_unset-2.ensures in
     rw start
     (next_behind_first c.args.self.now c.word-first.result _ c.word-first.ensures c.if-first.false
-    (rw (← c.self.view_is) (next_in_rest w.count w.first w.rest.items 64 0 _ c.self.invariant (rw (← c.self.view_is) at some) (omega arith) next)))
+    (rw (← c.self.view_is) (next_in_rest w.count w.first w.rest.items 64 0 _ c.self.invariant
+    (rw (← c.self.view_is) at some) (omega arith) next)))

@@ -13,5 +13,6 @@ pub returns-else-bit-lt64-clause-bits : goal.returns-else-bit-lt64-clause-bits
 returns-else-bit-lt64-clause-bits c =
     let bit = c.args.bit in
     let word = c.index_mut.result.now in
-    later_bit c.self.inside c.args.self.now bit word _ true c.self.invariant c.self.view_is c.requires c.if-bit-lt64.false c.index_mut.ensures.value
+    later_bit c.self.inside c.args.self.now bit word _ true c.self.invariant c.self.view_is
+    c.requires c.if-bit-lt64.false c.index_mut.ensures.value
     (set_bit word (bit % 64) (place_below bit))

@@ -5,4 +5,10 @@ use Rattle.thread_local_tokens.proofs.Rows.{rows_keyless}
 use Rattle.thread_local_tokens.specs.contracts.book.Book.{the_row}
 
 pub send : (T : RattleType) → IsSend (the_row T)
-send T = record { owned = λ d vs. ((λ vss. (tt, ((λ uss. (tt, tt)), tt))), ((λ _. tt), rows_keyless T d.sharing 0 d.contents.rows)); leaving = λ k f vs. tt }
+send T = record {
+  owned = λ d vs. (
+    (λ vss. (tt, ((λ uss. (tt, tt)), tt))),
+    ((λ _. tt), rows_keyless T d.sharing 0 d.contents.rows),
+  );
+  leaving = λ k f vs. tt;
+}

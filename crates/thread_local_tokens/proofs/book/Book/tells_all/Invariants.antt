@@ -5,4 +5,7 @@ use Rattle.thread_local_model.specs.Buckets.{values}
 use Rattle.thread_local_tokens.proofs.book.Book.tells_all.Given as goal
 
 abbrev pub invariant-loop-index : goal.invariant-loop-index
-invariant-loop-index g l = AllWithin (λ token. (token.id < 2 ^ 63 - 1) × (values l.self.contents token.id ≡ Some token.value)) l.tokens 0 l.index
+invariant-loop-index g l =
+    AllWithin
+    (λ token. (token.id < 2 ^ 63 - 1) × (values l.self.contents token.id ≡ Some token.value))
+    l.tokens 0 l.index

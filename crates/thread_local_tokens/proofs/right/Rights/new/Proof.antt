@@ -25,11 +25,22 @@ stayed = tt
 
 pub new_spec : {M : Type 1} → statement M
 new_spec 𝓤 𝓛 𝓜 𝓡 wired =
-    let c = f.clauses 𝓛 𝓜.mem 𝓡.returns in let W = walk_of 𝓛 f.ended stayed c in let 𝓣 = tables 𝓤 𝓛.H 𝓜 𝓡 𝓡.env in
-    proved 𝓛 f.ended stayed c 𝓜 𝓡 tt f.Key.name code.function (code.unfolded 𝓤 𝓛.H 𝓜 𝓡 wired) (λ κs. tt) (λ κs. tt) (λ κs qs bounds a g are.
+    let c = f.clauses 𝓛 𝓜.mem 𝓡.returns in
+    let W = walk_of 𝓛 f.ended stayed c in
+    let 𝓣 = tables 𝓤 𝓛.H 𝓜 𝓡 𝓡.env in
+    proved 𝓛 f.ended stayed c 𝓜 𝓡 tt f.Key.name code.function (code.unfolded 𝓤 𝓛.H 𝓜 𝓡 wired)
+    (λ κs. tt) (λ κs. tt) (λ κs qs bounds a g are.
     let y : W.Ghost = ((κs, qs, bounds, a, tt), g) in
-    qed 𝓛 ((‵ ftrue ⊛ ‵ ftrue) ∷ ‵ ftrue ∷ []) ∵ keep ! [] $ enter ! 𝓣.C 𝓣.Λ code.function [] _ $ alloc_all ! (λ l. pass_all ! refl tt $
+    qed 𝓛 ((‵ ftrue ⊛ ‵ ftrue) ∷ ‵ ftrue ∷ []) ∵ keep ! [] $ enter ! 𝓣.C 𝓣.Λ code.function [] _ $
+    alloc_all ! (λ l. pass_all ! refl tt $
     sets ! (agg ! (no_more !)) refl (tt, tt) $ sets ! (agg ! (and_then ! (get ! refl) (no_more !))) refl (tt, (tt, tt)) $
-    use0 𝓛 (later (some (λ (γ : _). ‵ (rights_own γ [])))) (via 𝓤 _ (rights_new 𝓛) (basic 𝓛 (ex 𝓤 (λ (γ : _). sem 𝓛 (rights_own γ []))))) $ await ! tt $ pick ! (λ γ.
-    returns ! (look_at ! 0 refl) $ free_all ! refl $ suffices ! _ (ends_at 𝓛 f.ended stayed c y token record { marker = record {}; table = γ; out = [] } tt tt) $ says ! refl $
-    use0 𝓛 (‵ ((Mark (rights.the_type).name).own_val (tt, tt) (token ∷ []))) (made (rights.the_type).name 𝓛) $ fjoin ! $ nothing ! $ join ! $ nothing ! $ join ! $ done !)))
+    use0 𝓛 (later (some (λ (γ : _). ‵ (rights_own γ []))))
+    (via 𝓤 _ (rights_new 𝓛) (basic 𝓛 (ex 𝓤 (λ (γ : _). sem 𝓛 (rights_own γ []))))) $
+    await ! tt $ pick ! (λ γ.
+    returns ! (look_at ! 0 refl) $ free_all ! refl $
+    suffices ! _ (ends_at 𝓛 f.ended stayed c y token
+    record { marker = record {}; table = γ; out = [] } tt tt) $
+    says ! refl $
+    use0 𝓛 (‵ ((Mark (rights.the_type).name).own_val (tt, tt) (token ∷ [])))
+    (made (rights.the_type).name 𝓛) $
+    fjoin ! $ nothing ! $ join ! $ nothing ! $ join ! $ done !)))

@@ -17,4 +17,7 @@ pub shares : (T : RattleType) (L : Laws T) → statement T L
 shares T L = of_Lends (C.struct T) (C.the_codes T.Denot T.coded (P.the_row T).coded) (C.the_heap T) (C.the_lent T)
     (λ d p. tells_laws T d.sharing d.id (Some d.value))
     (copy_shared (P.the_field T) (field_copy (P.the_type T) tt), tt)
-    (λ M 𝓤 𝓛 d p. lends_twice 𝓛 (tells T d.sharing d.id (Some d.value)) (told_dup 𝓛 d.sharing d.id ((coded_option T.coded).code (Some d.value))) (C.the_row T).lives)
+    (λ M 𝓤 𝓛 d p.
+    lends_twice 𝓛 (tells T d.sharing d.id (Some d.value))
+    (told_dup 𝓛 d.sharing d.id ((coded_option T.coded).code (Some d.value)))
+    (C.the_row T).lives)

@@ -6,4 +6,8 @@ use Rattle.thread_local_tokens.proofs.ToldElements.{tells_keyless}
 use Rattle.thread_local_tokens.specs.contracts.witness.Witness.{the_row}
 
 pub send : (T : RattleType) → IsSend (the_row T)
-send T = record { owned = λ d vs. ((λ vss. (tt, ((λ uss. (tt, tt)), tt))), tells_keyless T d.sharing d.id (Some d.value)); leaving = λ k f vs. tt }
+send T = record {
+  owned =
+      λ d vs. ((λ vss. (tt, ((λ uss. (tt, tt)), tt))), tells_keyless T d.sharing d.id (Some d.value));
+  leaving = λ k f vs. tt;
+}
