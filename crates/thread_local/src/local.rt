@@ -1,11 +1,10 @@
 //! What a thread has in a table: an id of its own, through which it finds or makes its value.
-ghost use Rattle.std.specs.Prelude.{◌≡◌, ◌≢◌, ◌-◌, ◌^◌, ◌<◌, nat_lt, ⊤, true, false, None, Ok, Err, OnOk, IfOk, IsSome, Some, option_map, MatchResult, alloc_error, Result};
+ghost use Rattle.std.specs.Prelude.{◌≡◌, ◌≢◌, ◌-◌, ◌^◌, ◌<◌, nat_lt, ⊤, true, false, None, Ok, Err, OnOk, IfOk, IsSome, Some, option_map, alloc_error, Result};
 ghost use Rattle.thread_local_model.specs.Answers.{Get, GetOr, Found, Refused, Failed, answer};
 ghost use Rattle.thread_local_model.specs.Cursor.{fresh_cursor};
 ghost use Rattle.thread_local.specs.Seats.{knows, knowing, holding, own_of, token_of, IsAnswered, IsFilled, Fails, IsRefused};
 
 pub use crate::seat::{Seat, SetError, TryError};
-use std::alloc::AllocError;
 use std::fmt;
 use std::marker::Model;
 use std::sync::Wait;
@@ -21,7 +20,7 @@ mod lends;
 /// Dropping it keeps the value and gives the id back, under the table's lock: that may wait, and
 /// takes no memory. A forgotten one keeps its id until the table is cleared.
 ///
-/// Each call is the seat's. None takes a lock. Only `set`, `publish` and the `get_or` family (`get_or`,
+/// Each call does what the seat's of that name does. None takes a lock. Only `set`, `publish` and the `get_or` family (`get_or`,
 /// `get_or_default`, `get_or_try`, `try_fill`) take memory, for a bucket. The closure or the
 /// `T::default` that these run may wait, and so may the drop of a closure that they don't run.
 /// References that calls answer live no longer than the borrow of the `Local`.

@@ -21,7 +21,7 @@ use thread_local_tokens::{HeldId, Right, Token};
 // `get_or` and `get_or_default` stand here.
 mod lends;
 
-/// Why `get_or_try` and `try_fill` have no value to answer.
+/// Why `get_or_try` and `try_fill` leave the slot empty.
 #[derive(Clone, Copy, Debug, Drop, PartialEq, Eq)]
 pub enum TryError<E> {
     /// Out of memory for the slot's bucket.

@@ -46,8 +46,8 @@ mod lends;
 /// a table; there the table also has the calls of a `Local`. All others are the port's own.
 ///
 /// Contracts see the table's name, the number of reserved slots, and the sharing, if that has a name.
-/// A sharing begins when the table is made, cleared or renewed, and lasts until an owner has the table
-/// alone. While it lasts, tokens (`Token`) say what slots were published with.
+/// A sharing begins when the table is made, cleared or renewed, and lasts until an owner's call lends
+/// or takes the values. While it lasts, tokens (`Token`) say which values slots hold.
 #[derive(Drop)]
 pub struct ThreadLocal<T> {
     pub(crate) buckets: Shared<T>,
@@ -192,8 +192,8 @@ impl<T> ThreadLocal<T> {
         self.buckets.owner().get_mut(Thread::new(id))
     }
 
-    /// The buckets by value. Of what is in them the number of reserved slots is known, and the
-    /// calls of `Buckets` say what they find. The ids are dropped.
+    /// The buckets by value. The ids are dropped. A contract knows the number of reserved slots, and
+    /// not which values there are: the calls of `Buckets` say what they find.
     pub fn into_buckets(self) -> Buckets<T>
         ensures { result.reserved ≡ self.reserved }
     {

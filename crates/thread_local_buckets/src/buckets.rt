@@ -1,15 +1,15 @@
 //! The buckets of a table in the hands of their exclusive owner: each bucket stands or doesn't, and
 //! each slot has a value or none.
-ghost use Rattle.std.specs.Prelude.{◌≡◌, ℕ, ◌^◌, ◌<◌, ◌≤◌, nat_lt, [], length, true, false, Option, Err, OnErr, IfOk, IfErr, unwrap_or, Some, is_some, MatchOption, ◌==◌, if◌then◌else◌};
+ghost use Rattle.std.specs.Prelude.{◌≡◌, ℕ, ◌^◌, ◌<◌, ◌≤◌, nat_lt, true, false, Option, Err, OnErr, IfOk, IfErr, unwrap_or, Some, MatchOption, ◌==◌, if◌then◌else◌};
 ghost use Rattle.std.specs.Borrow.{sem};
 ghost use Rattle.thread_local_model.specs.Place.{id_at};
-ghost use Rattle.thread_local_model.specs.Buckets.{row, stands, slots, values, no_contents, IsTable};
+ghost use Rattle.thread_local_model.specs.Buckets.{row, stands, slots, values, no_contents};
 ghost use Rattle.thread_local_model.specs.Owned.{Owned, IsOwned};
 ghost use Rattle.thread_local_model.specs.Rows.{value_in};
 ghost use Rattle.thread_local_model.specs.Capacity.{binary_digits, reserves_bucket, reserved_slots};
 ghost use Rattle.thread_local_model.specs.Sheet.{moved};
 ghost use Rattle.thread_local_model.specs.Walk.{walk, paired, with_value};
-ghost use Rattle.thread_local_model.specs.Owner.{with_bucket, with_published, cleared_row, sheet_of, publish_or_keep};
+ghost use Rattle.thread_local_model.specs.Owner.{with_published, cleared_row, sheet_of, publish_or_keep};
 
 use crate::drain::Drain;
 use crate::iter::{IntoEntries, IntoIter};

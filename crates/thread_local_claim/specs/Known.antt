@@ -12,7 +12,7 @@ HasLooked Standing = ⊥
 HasLooked Vacant = ⊤
 HasLooked (Holding v) = ⊤
 
--- the claim has found no bucket
+-- the claim has not looked yet, or has found no bucket: it may look for its bucket
 abbrev pub IsMissing : {V : Type 0} → Learnt V → Type 0
 IsMissing Unknown = ⊤
 IsMissing Missing = ⊤
@@ -20,7 +20,8 @@ IsMissing Standing = ⊥
 IsMissing Vacant = ⊥
 IsMissing (Holding v) = ⊥
 
--- whether the claim has found no bucket, as the code keeps it
+-- whether the claim points to its bucket's pointer, and not to its slot: so the code keeps all states
+-- in which the slot was not found
 abbrev pub is_missing : {V : Type 0} → Learnt V → Bool
 is_missing Unknown = true
 is_missing Missing = true

@@ -1,25 +1,23 @@
 //! A claimed slot as it is stored: it points to the bucket's pointer until the bucket is found, and
 //! to the slot's value from then on.
-ghost use Rattle.std.specs.Prelude.{◌≡◌, ◌≢◌, ◌<◌, ◌^◌, ◌⊎◌, ℕ, Bool, true, Option, is_some, IfSome};
+ghost use Rattle.std.specs.Prelude.{◌≡◌, ◌≢◌, ◌<◌, ◌^◌, ◌⊎◌, ℕ, Bool, true, Option, is_some};
 ghost use base.Stored.{coded_bool};
 ghost use Rattle.std.specs.Coded.{coded_option, coded_ℕ};
 ghost use denote.RawPtr.{Ptr, coded_ptr};
-ghost use Rattle.thread_local_blocks.specs.Slots.{empty_slots};
 ghost use Rattle.thread_local_model.specs.Learnt.{Learnt, learnt_coded, Unknown, Missing, Vacant, Holding, Finds};
-ghost use Rattle.thread_local_model.specs.Place.{bucket_of, id_at};
+ghost use Rattle.thread_local_model.specs.Place.{id_at};
 ghost use Rattle.thread_local_claim.specs.Known.{HasLooked, IsMissing, is_missing, state_of, value_held};
 ghost use Rattle.thread_local_claim.specs.Claims.{flag_word_of, claim_fields, claim_owns, claim_shares};
 
-use std::alloc::Global;
 use std::marker::{Brand, Model, PhantomData};
 use std::mem::size_of;
 use std::sync::atomic::Ordering::SeqCst;
 use std::sync::atomic::raw;
 use std::sync::atomic::raw::ptr;
-use thread_local_blocks::Block;
 use thread_local_shared_bucket::SharedBucket;
 use thread_local_tokens::Right;
 
+// `exchange` stands in `install`, `witness` and `agrees` in `told`.
 mod give_up;
 mod install;
 mod lasting;

@@ -43,8 +43,9 @@ pub trait FlagSource {
             → is_set result bit ≡ is_some (value_in (contents self.old) bucket (chunk * 64 + bit)) };
 }
 
-/// How many values a walk has given, and the place that it looks at next. The number is shown by
-/// `Debug`, as in the Rust crate; no walk goes by it.
+/// How many values a walk has given, and a place: the one that a shared walk looks at next, or behind
+/// the flags that an owner's has read. The number is shown by `Debug`, as in the Rust crate; no walk
+/// goes by it.
 #[derive(Clone, Copy, Debug)]
 pub struct RawIter {
     pub yielded: usize,

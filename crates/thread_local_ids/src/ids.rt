@@ -10,7 +10,8 @@ use thread_local_thread_id::manager::IDS;
 use thread_local_thread_id::{LocalError, ThreadIdManager};
 use thread_local_tokens::{HeldId, Right, Rights};
 
-/// The mark of an id is the right to the number that lies so far beyond it, and beyond every id.
+/// The mark of an id is the right to this number more than the id. It is no id: all ids are less than
+/// this number.
 const FIRST_MARK: usize = 1 << 63;
 
 /// Gives out the least id that isn't held, with the right to it, and takes both back. The first 64

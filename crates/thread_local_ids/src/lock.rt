@@ -33,7 +33,7 @@ const AWAITED: u64 = 2;
 /// How many seconds a thread sleeps, unless it is woken.
 const FOR_EVER: u64 = i64::MAX as u64;
 
-/// How often a thread tries again, and yields in between, before it sleeps.
+/// How often a thread tries, and yields in between, before it sleeps.
 const TRIES: u64 = 100;
 
 /// A value that one thread at a time writes through a `&`, and that fits whenever the lock is free.

@@ -1,5 +1,5 @@
 //! Tests of ids under a lock, each with its right.
-ghost use Rattle.std.specs.Prelude.{◌≡◌, ◌≢◌, ℕ, IfOk};
+ghost use Rattle.std.specs.Prelude.{◌≡◌, ◌≢◌, IfOk};
 
 use std::mem::{forget, swap};
 use std::sync::Wait;

@@ -1,5 +1,5 @@
 //! Tests of a lock: who takes it finds what was left there, and one thread at a time has it.
-ghost use Rattle.std.specs.Prelude.{◌≡◌, ◌≢◌, ℕ, ◌≤◌};
+ghost use Rattle.std.specs.Prelude.{◌≤◌};
 
 use std::sync::Wait;
 use std::sync::atomic::AtomicBool;

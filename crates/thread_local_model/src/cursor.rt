@@ -1,6 +1,6 @@
 //! How a walk over shared buckets advances: it loads a bucket's pointer, or looks at a slot, and
 //! passes each id once.
-ghost use Rattle.std.specs.Prelude.{◌≡◌, ℕ, suc, ◌-◌, ◌^◌, ◌≤◌, Bool, true, false, IsTrue};
+ghost use Rattle.std.specs.Prelude.{◌≡◌, suc, ◌-◌, ◌^◌, ◌≤◌, Bool, true, false, IsTrue};
 ghost use Rattle.thread_local_model.specs.Place.{id_at, bucket_of, index_of};
 ghost use Rattle.thread_local_model.specs.Cursor.{Cursor, fresh_cursor, cursor_id, is_complete, may_load, after_load, after_look, CursorFits};
 

@@ -1,7 +1,7 @@
 //! A new core fits, is open, and has no `Local` and no walk.
 ghost use Rattle.std.specs.Prelude.{◌≡◌, ℕ, ◌^◌, ◌<◌, false, None};
-ghost use Rattle.thread_local_model.specs.Sheet.{Sheet, new_sheet};
-ghost use Rattle.thread_local_schedule.specs.Core.{Core, made_core, new_core, shadow};
+ghost use Rattle.thread_local_model.specs.Sheet.{new_sheet};
+ghost use Rattle.thread_local_schedule.specs.Core.{made_core, shadow};
 ghost use Rattle.thread_local_schedule.specs.CoreFits.{CoreFits};
 
 /// A new core fits, with any capacity below 2^63, and shows a sheet with no id held and no value.

@@ -1,7 +1,7 @@
 //! What the model's table shows to an owner, and how its events change that.
-ghost use Rattle.std.specs.Prelude.{◌≡◌, ℕ, ◌-◌, ◌^◌, ◌<◌, false, [], Some, option_map, IsTrue, None, unwrap_or, if◌then◌else◌};
+ghost use Rattle.std.specs.Prelude.{◌≡◌, ℕ, ◌-◌, ◌^◌, ◌<◌, false, Some, option_map, IsTrue, None, unwrap_or};
 ghost use Rattle.thread_local_model.specs.Capacity.{reserves_bucket, reserved_slots};
-ghost use Rattle.thread_local_model.specs.Place.{bucket_of, index_of, id_at};
+ghost use Rattle.thread_local_model.specs.Place.{bucket_of, index_of};
 ghost use Rattle.thread_local_model.specs.Buckets.{Contents, row, stands as stands_for_owner, values, no_contents, IsTable};
 ghost use Rattle.thread_local_model.specs.Walk.{walk};
 ghost use Rattle.thread_local_model.specs.Owner.{with_bucket, with_published, cleared_row};

@@ -13,7 +13,7 @@ use thread_local_blocks::Chunk;
 use thread_local_tokens::Witness;
 
 /// A bucket that threads share: its pointer, which an owner sees as a `BucketPointer`. A contract
-/// sees its table, its number, and whether it is reserved.
+/// sees its table, the sharing, its number, and whether it is reserved.
 pub struct SharedBucket<T> {
     pub at: *mut Chunk<T>,
 }

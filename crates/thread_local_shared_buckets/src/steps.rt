@@ -1,6 +1,6 @@
 //! One call of a walk: it loads a bucket's pointer, looks at the slots of the row, and goes on to
 //! the next bucket until it finds a value.
-ghost use Rattle.std.specs.Prelude.{◌≡◌, ◌≢◌, ◌-◌, ◌^◌, ◌<◌, ◌≤◌, true, false, None, Some, IfSome, IfNone, MatchOption, MatchBool};
+ghost use Rattle.std.specs.Prelude.{◌≡◌, ◌-◌, ◌^◌, ◌<◌, ◌≤◌, true, false, None, Some, IfSome, IfNone, MatchOption};
 ghost use Rattle.thread_local_judged.specs.Judged.{Shareable};
 ghost use Rattle.thread_local_cursor.specs.Cursor.{next_bucket};
 ghost use Rattle.thread_local_shared_buckets.specs.Positions.{past, at_index, search_end, lies_in, IsSharedWalk, YieldsFrom, EndsFrom};

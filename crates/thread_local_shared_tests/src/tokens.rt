@@ -1,7 +1,7 @@
 //! What slots were published with, as tokens say it: to claims, to walkers and to an owner.
-ghost use Rattle.std.specs.Prelude.{◌≡◌, ◌≢◌, ◌-◌, ◌^◌, ◌<◌, Some, IfSome, IsSome};
+ghost use Rattle.std.specs.Prelude.{◌≡◌, ◌≢◌, ◌-◌, ◌<◌, Some, IfSome, IsSome};
 ghost use Rattle.thread_local_model.specs.Buckets.{values};
-ghost use Rattle.thread_local_model.specs.Learnt.{Vacant, Holding};
+ghost use Rattle.thread_local_model.specs.Learnt.{Vacant};
 
 use crate::steps::publish;
 use std::alloc::Global;

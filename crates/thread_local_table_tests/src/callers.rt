@@ -1,5 +1,5 @@
 //! Callers at concrete types and generic ones, which are proved and not run.
-ghost use Rattle.std.specs.Prelude.{◌≡◌, IfOk, IfSome, None, true, OnErr};
+ghost use Rattle.std.specs.Prelude.{◌≡◌, IfOk, IfSome, None, true};
 ghost use Rattle.thread_local_judged.specs.Judged.{Judged};
 
 use std::alloc::{AllocError, Global};

@@ -1,4 +1,4 @@
-//! What every slot of a table was published with in a sharing that has ended.
+//! What every slot of a table held at the end of a sharing.
 ghost use Rattle.std.specs.Prelude.{◌≡◌, ◌≢◌, ◌-◌, ◌^◌, ◌<◌, ℕ, Option, Some, IsSome, All, map, length, IsPermutation};
 ghost use Rattle.std.specs.List.{AllPairs};
 ghost use Rattle.std.specs.Coded.{coded_option, coded_ℕ};
@@ -12,9 +12,8 @@ use crate::token::Token;
 use crate::witness::Witness;
 use std::marker::{Model, PhantomData};
 
-/// What the slots of a table were published with in one sharing, and that the others were not. An
-/// owner who takes the buckets gets it beside them. It has no bytes, and no call waits or takes
-/// memory.
+/// What each slot of a table held when a sharing ended: a published value or none. An owner who takes
+/// the buckets gets it beside them. It has no bytes, and no call waits or takes memory.
 pub struct Book<T> {
     pub marker: PhantomData<T>,
     pub ghost sharing: { Option ℕ } by { coded_option coded_ℕ },

@@ -1,11 +1,11 @@
-//! A token that says what a slot was published with.
+//! A token that says which value a slot holds while a sharing lasts.
 ghost use Rattle.std.specs.Prelude.{◌≡◌, ◌-◌, ◌^◌, ◌<◌, IsSome};
 
 use crate::witness::Witness;
 use std::marker::Model;
 
-/// What the slot of an id was published with in one sharing of its table. A sharing begins when a
-/// table is made, cleared or renewed, and lasts until an owner has the table alone.
+/// Stands for the published value of one id in one sharing of its table. A sharing begins when a
+/// table is made, cleared or renewed, and lasts until an owner's call lends or takes the values.
 ///
 /// It is the id at run time. Contracts see the sharing, the id and the value, whatever the value
 /// does meanwhile: what a cell holds they don't tell. It may be sent and shared whatever the type

@@ -1,4 +1,4 @@
-//! What shows that the slot of an id was published with a value.
+//! What shows to proofs which value the slot of an id holds.
 ghost use Rattle.std.specs.Prelude.{◌≡◌, ℕ, Option, Some, IsSome};
 ghost use Rattle.std.specs.Coded.{coded_option, coded_ℕ};
 ghost use Rattle.thread_local_tokens.specs.Told.{tells};
@@ -6,8 +6,8 @@ ghost use denote.Sharing.{said};
 
 use std::marker::{Model, PhantomData};
 
-/// Shows with which value the slot of an id was published in a sharing. It has no bytes, and no call
-/// does anything at run time.
+/// Shows to proofs which value the slot of an id holds while a sharing lasts. It has no bytes, and no
+/// call does anything at run time.
 pub struct Witness<T> {
     pub marker: PhantomData<T>,
     pub ghost sharing: { Option ℕ } by { coded_option coded_ℕ },

@@ -12,8 +12,8 @@ use super::ThreadLocal;
 use thread_local_buckets::{Buckets, Drain};
 
 impl<T> ThreadLocal<T> {
-    /// The buckets, for the exclusive owner. Of what is in them the number of reserved slots is
-    /// known, and the calls of `Buckets` say what they find and what they change.
+    /// The buckets, for the exclusive owner. A contract knows the number of reserved slots, and not
+    /// which values there are: the calls of `Buckets` say what they find and what they change.
     pub fn buckets_mut(&mut self) -> &mut Buckets<T>
         ensures* writes_back { sem 𝓛
             (follows (the_row T.row) (owner_row T.row) self.entry.ghost_name result.ghost_name
@@ -24,8 +24,7 @@ impl<T> ThreadLocal<T> {
     }
 
     /// The values by ascending id, each moved out, while buckets and ids stay. It is the walk
-    /// `drain` of the buckets that `buckets_mut` lends, whose contract says what it gives: of what
-    /// is in them the number of reserved slots is known.
+    /// `drain` of the buckets that `buckets_mut` lends, whose contract says what it gives.
     pub fn drain(&mut self) -> Drain<'_, T>
     where
         T: Drop,
