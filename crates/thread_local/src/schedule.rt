@@ -2,6 +2,5 @@
 //! functions without parameters. The main theorem is [`headline`].
 
 pub use thread_local_schedule::{
-    bounds_say, every_bound, every_bucket, every_end, every_event, every_schedule, every_walk,
-    four_locals, headline,
+    events_say, every_schedule, every_walk, headline, words_say,
 };

@@ -1,13 +1,30 @@
--- What the words of the bounds say of a schedule's events, one by one.
-use Rattle.std.proofs.Common.{◌≡◌, ℕ, ◌^◌, ◌<◌, false, List, [], ◌∷◌, ◌++◌, Some, IsTrue, refl}
+-- What the words of the theorems say, each from the side on which it promises nothing.
+use Rattle.std.proofs.Common.{◌≡◌, ℕ, ◌^◌, ◌<◌, false, List, [], ◌∷◌, ◌++◌, Some, IsTrue, refl, ◌↔◌, ◌⊎◌, Bool, true}
+use Rattle.std.proofs.Common.{not, ◌&&◌, Option, None, IsSomeAnd, Result, sym, ap, ◌∙◌}
 use Rattle.thread_local_model.specs.Place.{bucket_of}
-use Rattle.thread_local_model.specs.Held.{held_count}
-use Rattle.thread_local_schedule.specs.Local.{Doing, Gets, Started, Private, Written}
+use Rattle.thread_local_model.specs.Held.{held_count, is_granted}
+use Rattle.thread_local_schedule.specs.Local.{Doing, Gets, Started, Private, Written, Local, LocalStep, MakeBucket}
 use Rattle.thread_local_schedule.specs.Numbers.{own_number}
 use Rattle.thread_local_schedule.specs.Core.{Core, private_slots}
-use Rattle.thread_local_schedule.specs.Events.{Event, happens, run}
-use Rattle.thread_local_schedule.specs.Schedule.{is_take, is_refused}
+use Rattle.thread_local_schedule.specs.Events.{Event, happens, run, TakeId, OfLocal, GiveBack, Forget, BeginWalk}
+use Rattle.thread_local_schedule.specs.Events.{OfWalk, EndWalk, Owner, OwnerCall, IterMut, Slots, ClearTable, IntoIter}
+use Rattle.thread_local_schedule.specs.Events.{DropTable, is_enabled}
+use Rattle.thread_local_schedule.specs.Schedule.{is_take, is_refused, is_exclusive, is_of, is_of_walk, begins_walk}
+use Rattle.thread_local_schedule.specs.Schedule.{ends_table, is_granted_take, newcomer, NoneTaken}
 use Rattle.thread_local_schedule.specs.Bounds.{TakesBelow, NothingRefused}
+use mathlib.Core.Logic.{inl, inr}
+use Rattle.std.proofs.Common.{suc, ⊎_elim}
+use Rattle.thread_local_model.specs.Answers.{Get, GetOr}
+use Rattle.thread_local_schedule.specs.Calls.{gets_of, closure_of, CallsStay, GoesOn}
+use Rattle.thread_local_schedule.specs.Local.{LoadPointer, LookAtFlag, InstallBucket, WriteValue, Reply}
+use Rattle.std.proofs.lemmas.Bool.{false≢true, eqb-true}
+use Rattle.std.specs.Prelude.{⊤, option_map}
+use Rattle.thread_local_schedule.specs.Table.{Table, Bucket}
+use Rattle.thread_local_schedule.specs.SharedWalk.{WalkStep}
+use Rattle.thread_local_schedule.specs.Fits.{named}
+use Rattle.thread_local_schedule.specs.CoreFits.{CoreFits}
+use Rattle.thread_local_schedule.proofs.Clauses.{comes}
+use Rattle.std.proofs.lemmas.Option.{none-some}
 
 pub private : {V E : Type 0} (id : ℕ) (doing : Doing V E) (number : ℕ)
     → own_number doing ≡ Some number
@@ -29,3 +46,121 @@ pub takes : {V E : Type 0} (p : ℕ) (core : Core V E) (events : List (Event V E
 unfolding run
 takes p core [] event few last = (last, tt)
 takes p core (first ∷ events) event few last = (few.0, takes p (happens core first) events event few.1 last)
+
+pub take : {V E : Type 0} (event : Event V E) → IsTrue (is_take event)
+    → (refused : Bool) × (growth : ℕ) × (event ≡ TakeId refused growth)
+take (TakeId refused growth) t = (refused, growth, refl)
+take _ t = absurd (false≢true t)
+
+pub owners : {V E : Type 0} (event : Event V E) → IsTrue (is_exclusive event) → (call : OwnerCall V) × (event ≡ Owner call)
+owners (Owner call) t = (call, refl)
+owners _ t = absurd (false≢true t)
+
+pub local : {V E : Type 0} (n : ℕ) (event : Event V E) → IsTrue (is_of n event)
+    → ((step : LocalStep V E) × (event ≡ OfLocal n step)) ⊎ ((event ≡ GiveBack n) ⊎ (event ≡ Forget n))
+local n (OfLocal number step) t = inl (step, ap (λ m. OfLocal m step) (eqb-true number n t))
+local n (GiveBack number) t = inr (inl (ap GiveBack (eqb-true number n t)))
+local n (Forget number) t = inr (inr (ap Forget (eqb-true number n t)))
+local n _ t = absurd (false≢true t)
+
+pub walk : {V E : Type 0} (n : ℕ) (event : Event V E) → IsTrue (is_of_walk n event)
+    → ((step : WalkStep) × (event ≡ OfWalk n step)) ⊎ (event ≡ EndWalk n)
+walk n (OfWalk number step) t = inl (step, ap (λ m. OfWalk m step) (eqb-true number n t))
+walk n (EndWalk number) t = inr (ap EndWalk (eqb-true number n t))
+walk n _ t = absurd (false≢true t)
+
+pub begins : {V E : Type 0} (event : Event V E) → IsTrue (begins_walk event) → event ≡ BeginWalk
+begins BeginWalk t = refl
+begins _ t = absurd (false≢true t)
+
+pub ends : {V E : Type 0} (event : Event V E) → IsTrue (ends_table event)
+    → (event ≡ Owner IntoIter) ⊎ (event ≡ Owner DropTable)
+ends (Owner IntoIter) t = inl refl
+ends (Owner DropTable) t = inr refl
+ends _ t = absurd (false≢true t)
+
+-- an enabled take that isn't granted is refused
+ungranted_of : (enabled granted : Bool) → IsTrue enabled → (enabled && not (not granted)) ≡ false → IsTrue (enabled && not granted)
+ungranted_of true true t f = absurd (false≢true (sym f))
+ungranted_of true false t f = refl
+ungranted_of false granted t f = absurd (false≢true t)
+
+pub ungranted : {V E : Type 0} (core : Core V E) (refused : Bool) (growth : ℕ) → IsTrue (is_enabled core (TakeId refused growth))
+    → is_granted_take core (TakeId refused growth) ≡ false
+    → IsTrue (is_refused core (TakeId refused growth))
+ungranted core refused growth t f = ungranted_of (is_enabled core (TakeId refused growth)) (is_granted core.manager refused) t f
+
+none_made : (enabled : Bool) → (enabled && false) ≡ false
+none_made true = refl
+none_made false = refl
+
+pub made : {V E : Type 0} (core : Core V E) (n : ℕ) → is_refused core (OfLocal n (MakeBucket false)) ≡ false
+made core n = none_made (is_enabled core (OfLocal n (MakeBucket false)))
+
+pub own : {V E : Type 0} (create : Result V E) (number : ℕ) → own_number (Private create number) ≡ Some number
+own create number = refl
+
+pub own_slots : {V E : Type 0} (id number : ℕ) (create : Result V E) → private_slots id (Private create number) ≡ 2 ^ bucket_of id
+own_slots id number create = refl
+
+pub none_taken : {V E : Type 0} (core : Core V E) (events : List (Event V E)) (event : Event V E) → NoneTaken core events
+    → is_granted_take (run core events) event ≡ false
+    → NoneTaken core (events ++ event ∷ [])
+unfolding run
+none_taken core [] event none last = (last, tt)
+none_taken core (first ∷ events) event none last = (none.0, none_taken (happens core first) events event none.1 last)
+
+-- the Local that comes is the newcomer
+pub newcomer_comes : {V E : Type 0} (core : Core V E) (event : Event V E) (n : ℕ) (local : Local V E) → CoreFits core
+    → core.locals n ≡ None
+    → (happens core event).locals n ≡ Some local
+    → newcomer core event ≡ Some local
+newcomer_comes core event n local h none at = ap (happens core event).locals (sym (comes core event n local h none at).1) ∙ at
+
+-- a pointer's name is the number of the bucket that it leads to
+name_of : {V : Type 0} (here : Option (Bucket V)) (number : ℕ)
+    → (option_map (λ bucket. bucket.number) here ≡ Some number) ↔ IsSomeAnd here (λ bucket. bucket.number ≡ number)
+name_of None number = (λ e. absurd (none-some number e), λ e. absurd e)
+name_of (Some here) number = (λ e. cc, λ e. ap Some e)
+
+pub names : {V : Type 0} (table : Table V) (bucket number : ℕ)
+    → (named table bucket ≡ Some number) ↔ IsSomeAnd (table.pointers bucket) (λ here. here.number ≡ number)
+unfolding named
+names table bucket number = name_of (table.pointers bucket) number
+
+-- no call begins or ends
+abbrev Stay : {V E : Type 0} → Local V E → Local V E → Type 0
+Stay before after =
+    (gets_of after.doing ≡ gets_of before.doing) × (closure_of after.doing ≡ closure_of before.doing)
+    × (after.calls ≡ before.calls)
+
+stays_of : {V E : Type 0} (before after : Local V E) → CallsStay before after → Stay before after
+stays_of before after x = (x.gets, x.closure, x.calls)
+
+pub calls_stay : {V E : Type 0} (before after : Local V E)
+    → GoesOn LoadPointer before after
+    ⊎ (GoesOn LookAtFlag before after
+    ⊎ (GoesOn (MakeBucket false) before after ⊎ GoesOn InstallBucket before after))
+    → Stay before after
+calls_stay before after (inl x) = stays_of before after x.calls
+calls_stay before after (inr (inl x)) = stays_of before after x.calls
+calls_stay before after (inr (inr (inl x))) = stays_of before after x.calls
+calls_stay before after (inr (inr (inr x))) = stays_of before after x.calls
+
+-- the publishing call ends
+abbrev End : {V E : Type 0} → Local V E → Local V E → Type 0
+End before after =
+    (closure_of after.doing ≡ None)
+    × IsSomeAnd (closure_of before.doing) (λ create. after.calls ≡ before.calls ++ GetOr create false ∷ [])
+
+pub writes : {V E : Type 0} (before after : Local V E) → GoesOn WriteValue before after
+    → Stay before after ⊎ End before after
+writes before after x =
+    ⊎_elim (λ stays. inl (stays_of before after stays)) (λ ends. inr (ends.none, ends.calls)) x.calls
+
+pub replies : {V E : Type 0} (before after : Local V E) → GoesOn Reply before after
+    → ((gets_of before.doing ≡ suc (gets_of after.doing)) × (closure_of after.doing ≡ closure_of before.doing)
+    × (after.calls ≡ before.calls ++ Get ∷ []))
+    ⊎ End before after
+replies before after x =
+    ⊎_elim (λ ends. inl (ends.gets, ends.closure, ends.calls)) (λ ends. inr (ends.none, ends.calls)) x.calls

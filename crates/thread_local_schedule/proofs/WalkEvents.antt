@@ -1,16 +1,16 @@
 -- What every event does to the shared walks: only a walk's own steps and its end change it.
 use Rattle.std.proofs.Common.{◌≡◌, ℕ, Bool, true, false, cond, Option, Some, None, is_some, IsTrue, IfSome, IsSomeAnd}
 use Rattle.std.proofs.Common.{refl, ap, sym, ◌∙◌, subst, arith, ⊎_elim}
-use Rattle.std.specs.Prelude.{option_map, option_and_then, unwrap_or}
+use Rattle.std.specs.Prelude.{option_map, option_and_then, unwrap_or, suc, ◌++◌, [], ◌∷◌, ◌==◌, if◌then◌else◌}
 use Rattle.std.proofs.lemmas.Option.{none-some}
 use Rattle.std.proofs.lemmas.Bool.{false≢true, eqb-false, cond_both}
-use Rattle.thread_local_model.specs.Cursor.{is_complete}
+use Rattle.thread_local_model.specs.Cursor.{is_complete, cursor_id}
 use Rattle.thread_local_schedule.specs.Table.{Table}
 use Rattle.thread_local_schedule.specs.Local.{LocalStep, local_step}
-use Rattle.thread_local_schedule.specs.SharedWalk.{SharedWalk, fresh_walk, WalkStep, Load, Look, walk_step, next_step}
+use Rattle.thread_local_schedule.specs.SharedWalk.{SharedWalk, fresh_walk, with_pair, WalkStep, Load, Look, walk_step, next_step}
 use Rattle.thread_local_schedule.specs.WalkFits.{Adds}
 use Rattle.thread_local_schedule.proofs.WalkStepLaws.{walk_step-adds}
-use Rattle.thread_local_schedule.specs.Core.{Core, is_alone}
+use Rattle.thread_local_schedule.specs.Core.{Core, shadow, is_alone}
 use Rattle.thread_local_schedule.specs.CoreFits.{CoreFits}
 use Rattle.thread_local_schedule.proofs.PutLaws.{put_cases, put_same, put_other, still}
 use Rattle.thread_local_schedule.proofs.OptionLaws.{if_enabled, if_there, if_then}
@@ -161,6 +161,30 @@ adds core n step before h t at =
     (option_and_then (λ w. option_map (with_walk core n) (walk_step core.table w step))
     o)))
     at (enabled_step core (OfWalk n step) t))))
+
+-- what holds of a walk holds of what it is some value of
+some_and : {A : Type 0} (o : Option A) (P Q : A → Type 0) → ((x : A) → P x → Q x) → IsSomeAnd o P → IsSomeAnd o Q
+some_and None P Q f p = p
+some_and (Some x) P Q f p = f x p
+
+pub load_adds : {V E : Type 0} (core : Core V E) (n : ℕ) (before : SharedWalk V) → CoreFits core
+    → IsTrue (is_enabled core (OfWalk n Load))
+    → core.walks n ≡ Some before
+    → IsSomeAnd ((happens core (OfWalk n Load)).walks n) (λ after.
+    (after.first ≡ (if before.loads == 0 then (shadow core).values else before.first))
+    × (after.given ≡ before.given) × (after.read ≡ before.read) × (after.loads ≡ suc before.loads))
+load_adds core n before h t at =
+    some_and _ (Adds core.table Load before) _ (λ after a. (a.first, a.given, a.read, a.loads)) (adds core n Load before h t at)
+
+pub look_adds : {V E : Type 0} (core : Core V E) (n : ℕ) (before : SharedWalk V) → CoreFits core
+    → IsTrue (is_enabled core (OfWalk n Look))
+    → core.walks n ≡ Some before
+    → let id : ℕ = cursor_id before.cursor in IsSomeAnd ((happens core (OfWalk n Look)).walks n) (λ after.
+    (after.first ≡ before.first)
+    × (after.given ≡ with_pair before.given id ((shadow core).values id))
+    × (after.read ≡ before.read ++ id ∷ []) × (after.loads ≡ before.loads))
+look_adds core n before h t at =
+    some_and _ (Adds core.table Look before) _ (λ after a. (a.first, a.given, a.read, a.loads)) (adds core n Look before h t at)
 
 -- a walk that isn't complete can make a step
 loads : {V : Type 0} (table : Table V) (walk : SharedWalk V) (looks : Bool)

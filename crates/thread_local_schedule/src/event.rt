@@ -14,7 +14,7 @@ ghost use Rattle.thread_local_schedule.specs.Schedule.{is_take, is_refused, is_g
 
 /// What every event needs and does, beside what the other theorems say: so that those aren't about
 /// nothing, and no event does more than it says.
-pub fn every_event<V, E>()
+pub fn events_say<V, E>()
     // A new table is open. What schedules reach are the tables made with a capacity below 2^63, and
     // what any event makes of a reached one.
     ensures made_open { (capacity extra : ℕ)

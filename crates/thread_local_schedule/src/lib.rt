@@ -1,7 +1,7 @@
 //! Theorems on a table's model over every schedule of atomic steps. From the bottom up: what each
 //! step of a `Local` and of a walk keeps, what a clear leaves, that a new core fits, that the table
-//! shows an owner's buckets, what each event says, every schedule, its bounds, the main theorem,
-//! which says in one contract what a table is for, and one schedule in which most events come.
+//! shows an owner's buckets, what each event and each word of the theorems says, every schedule, every
+//! shared walk, and the main theorem, which says in one contract what a table is for.
 //!
 //! The definitions are in specs/: the steps of a table and its `Local`s, the core (a table with its
 //! id manager, its `Local`s and its walks), the events, and what a schedule is. Each function here
@@ -9,21 +9,19 @@
 //! `new` and from one of each capacity, whatever the values and the closures' errors are.
 #![tactic(auto)]
 
-pub mod bounds;
 pub mod cleared;
-pub mod ends;
 pub mod event;
 pub mod locals;
 pub mod made;
 pub mod main_theorem;
 pub mod schedule;
+pub mod shared_walk;
 pub mod shown;
-pub mod story;
 pub mod walks;
+pub mod words;
 
-pub use bounds::{bounds_say, every_bound};
-pub use ends::every_end;
-pub use event::every_event;
+pub use event::events_say;
 pub use main_theorem::headline;
-pub use schedule::{every_bucket, every_schedule, every_walk};
-pub use story::four_locals;
+pub use schedule::every_schedule;
+pub use shared_walk::every_walk;
+pub use words::words_say;

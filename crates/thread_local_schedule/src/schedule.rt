@@ -1,29 +1,30 @@
-//! What holds of ids, values, buckets and shared walks after every event of every schedule.
-ghost use Rattle.std.specs.Prelude.{◌≡◌, ◌≢◌, ℕ, ◌+◌, ◌-◌, ◌^◌, ◌<◌, ◌≤◌, ◌⊎◌, Bool, false, List, [], length, map, Contains, Some, None, IsTrue, IfSome, IsSomeAnd};
-ghost use Rattle.std.specs.List.Sorted.{IsStrictlyIncreasing};
-ghost use Rattle.thread_local_model.specs.Held.{is_held, least, HoldsAllBelow};
+//! What holds of a table over every schedule of atomic steps.
+ghost use Rattle.std.specs.Prelude.{◌≡◌, ◌≢◌, ℕ, ◌-◌, ◌^◌, ◌<◌, ◌≤◌, ◌⊎◌, Bool, false, List, [], length, Contains, Some, None, IsTrue, IfSome, IsSomeAnd, ◌*◌, max, ◌∷◌, true, slice_get, if◌then◌else◌};
+ghost use Rattle.thread_local_model.specs.Held.{is_held, least, HoldsAllBelow, held_count};
 ghost use Rattle.thread_local_model.specs.Walk.{walk};
 ghost use Rattle.thread_local_model.specs.Cursor.{is_complete};
-ghost use Rattle.thread_local_model.specs.Capacity.{reserves_bucket, is_reserved};
+ghost use Rattle.thread_local_model.specs.Capacity.{reserves_bucket, is_reserved, reserved_slots};
 ghost use Rattle.thread_local_model.specs.Sheet.{new_sheet, moved_if, IsAllowed};
-ghost use Rattle.thread_local_model.specs.Answers.{answers, first_view};
+ghost use Rattle.thread_local_model.specs.Answers.{answers, first_view, Answer, Refused, Found, Answered};
 ghost use Rattle.thread_local_schedule.specs.Table.{empty_slot, slot_at, bucket_stands};
-ghost use Rattle.thread_local_schedule.specs.Local.{Local, LocalStep};
-ghost use Rattle.thread_local_schedule.specs.SharedWalk.{SharedWalk, fresh_walk, WalkStep, next_step};
+ghost use Rattle.thread_local_schedule.specs.Local.{Local, LocalStep, MakeBucket};
 ghost use Rattle.thread_local_schedule.specs.OwnerWalk.{owner_walk};
 ghost use Rattle.thread_local_schedule.specs.Cleared.{cleared};
 ghost use Rattle.thread_local_schedule.specs.Fits.{IsWritten, named};
 ghost use Rattle.thread_local_schedule.specs.Calls.{HasNoCall, GoesOn};
 ghost use Rattle.thread_local_schedule.specs.Numbers.{own_number};
-ghost use Rattle.thread_local_schedule.specs.WalkFits.{Adds};
-ghost use Rattle.thread_local_schedule.specs.Core.{Core, shadow, peak};
-ghost use Rattle.thread_local_schedule.specs.Events.{Event, TakeId, OfLocal, GiveBack, Forget, BeginWalk, OfWalk, EndWalk, OwnerCall, Owner, ClearTable, is_enabled, happens, run};
-ghost use Rattle.thread_local_schedule.specs.Schedule.{move, begins_walk, is_exclusive, is_of, is_of_walk, IsAlone, is_refused, is_granted_take, newcomer, IsReached, NoneTaken};
+ghost use Rattle.thread_local_schedule.specs.Core.{Core, shadow, peak, made_core, new_core, installed_slots, private_slots};
+ghost use Rattle.thread_local_schedule.specs.Events.{Event, TakeId, OfLocal, GiveBack, Forget, BeginWalk, OwnerCall, Owner, ClearTable, is_enabled, happens, run, IntoIter, DropTable, IterMut};
+ghost use Rattle.thread_local_schedule.specs.Schedule.{move, is_exclusive, is_of, IsAlone, is_refused, is_granted_take, newcomer, IsReached, NoneTaken, ends_table};
+ghost use Rattle.thread_local_model.specs.Buckets.{slots};
+ghost use Rattle.thread_local_schedule.specs.Bounds.{most_held, publishings};
+ghost use Rattle.thread_local_schedule.specs.Story.{after_publishing, after_walking, after_next, after_all};
 
 /// What holds of a table over every schedule of atomic steps, from a table of `new` and from one of
 /// each capacity below 2^63: each `Local` gets the least id not held; a slot's first published
-/// value stays until a call of the exclusive owner; and that owner walks exactly the published
-/// values, each once, by ascending id.
+/// value stays until a call of the exclusive owner; that owner walks exactly the published values,
+/// each once, by ascending id; and the most ids held at once bounds, with the capacity, what is
+/// installed, made, published and refused.
 ///
 /// A clause about a reached core holds after every event of every schedule.
 pub fn every_schedule<V, E>()
@@ -155,13 +156,21 @@ pub fn every_schedule<V, E>()
     ensures refusal { (core : Core V E) (refused : Bool) (growth : ℕ)
         → IsTrue (is_refused core (TakeId refused growth))
         → happens core (TakeId refused growth) ≡ core }
-{}
 
-/// What holds of the pointers over every schedule: one that isn't null leads to the same bucket
-/// until an owner's call, and that of a reserved bucket always does; no two pointers lead to one
-/// bucket; and a bucket that a call has made and not yet offered is that call's alone.
-pub fn every_bucket<V, E>()
-    ensures stays { (core : Core V E) (event : Event V E) (bucket number : ℕ)
+    // After `into_iter` or the drop no event is enabled, and nothing else ends a table.
+    ensures into_iter_ends { (core : Core V E) → IsTrue (is_enabled core (Owner IntoIter))
+        → (happens core (Owner IntoIter)).ended ≡ true }
+    ensures drop_ends { (core : Core V E) → IsTrue (is_enabled core (Owner DropTable))
+        → (happens core (Owner DropTable)).ended ≡ true }
+    ensures ended { (core : Core V E) (event : Event V E)
+        → core.ended ≡ true → is_enabled core event ≡ false }
+    ensures stays_open { (core : Core V E) (event : Event V E)
+        → core.ended ≡ false → ends_table event ≡ false → (happens core event).ended ≡ false }
+
+    // A pointer that isn't null leads to the same bucket until an owner's call, and that of a
+    // reserved bucket always does. No two pointers lead to one bucket, and a bucket that a call has
+    // made and not yet offered is that call's alone.
+    ensures pointer_stays { (core : Core V E) (event : Event V E) (bucket number : ℕ)
         → IsReached core
         → is_exclusive event ≡ false
         → named core.table bucket ≡ Some number
@@ -175,7 +184,7 @@ pub fn every_bucket<V, E>()
         → IsTrue (reserves_bucket (shadow core).capacity bucket)
         → named core.table bucket ≡ Some number
         → named (happens core event).table bucket ≡ Some number }
-    ensures apart { (core : Core V E) (a b number : ℕ) → IsReached core
+    ensures pointers_apart { (core : Core V E) (a b number : ℕ) → IsReached core
         → named core.table a ≡ Some number → named core.table b ≡ Some number → a ≡ b }
     ensures unnamed { (core : Core V E) (n : ℕ) (local : Local V E) (number bucket : ℕ)
         → IsReached core
@@ -185,53 +194,83 @@ pub fn every_bucket<V, E>()
     ensures one_call { (core : Core V E) (m n : ℕ) (a b : Local V E) (number : ℕ) → IsReached core
         → core.locals m ≡ Some a → core.locals n ≡ Some b
         → own_number a.doing ≡ Some number → own_number b.doing ≡ Some number → m ≡ n }
-{}
 
-/// What holds of a shared walk over every schedule, whatever happens between its steps: a complete
-/// one gives every value that was published at its first load, and only published ones, by strictly
-/// ascending id; it reads each slot at most once; and it loads pointers at most 63 times, and once
-/// more for each value given.
-pub fn every_walk<V, E>()
-    // A walk comes only where one begins, which begins fresh. Only its own steps and its end change
-    // it, and it can go on until it is complete.
-    ensures begins { (core : Core V E)
-        → IsTrue (is_enabled core BeginWalk)
-        → (happens core BeginWalk).walks core.walked ≡ Some fresh_walk }
-    ensures comes { (core : Core V E) (event : Event V E) (n : ℕ) (shared : SharedWalk V)
-        → IsReached core
-        → core.walks n ≡ None
-        → (happens core event).walks n ≡ Some shared
-        → (shared ≡ fresh_walk) × IsTrue (begins_walk event) × (n ≡ core.walked) }
-    ensures others { (core : Core V E) (event : Event V E) (n : ℕ) (shared : SharedWalk V)
-        → IsReached core
-        → is_of_walk n event ≡ false
-        → core.walks n ≡ Some shared
-        → (happens core event).walks n ≡ Some shared }
-    ensures goes_on { (core : Core V E) (n : ℕ) (shared : SharedWalk V)
-        → core.ended ≡ false → core.walks n ≡ Some shared → is_complete shared.cursor ≡ false
-        → IsTrue (is_enabled core (OfWalk n (next_step shared))) }
-    ensures ends { (core : Core V E) (n : ℕ)
-        → IsTrue (is_enabled core (EndWalk n)) → (happens core (EndWalk n)).walks n ≡ None }
-    ensures may_end { (core : Core V E) (n : ℕ) (shared : SharedWalk V)
-        → core.ended ≡ false → core.walks n ≡ Some shared → IsTrue (is_enabled core (EndWalk n)) }
+    // The peak is the most ids held at once. Each id taken lies below it, and the manager has room
+    // for that many.
+    ensures peak { (capacity extra : ℕ) (events : List (Event V E))
+        → capacity < 2 ^ 63
+        → peak (run (made_core capacity extra) events) ≡ most_held (made_core capacity extra) events }
+    ensures below_peak { (core : Core V E) (n : ℕ) (local : Local V E) → IsReached core
+        → core.locals n ≡ Some local → local.id < peak core }
+    ensures ids { (core : Core V E) (n : ℕ) (local : Local V E) → IsReached core
+        → core.locals n ≡ Some local → local.id < 2 ^ 63 - 1 }
+    ensures room { (core : Core V E) → IsReached core → peak core ≤ core.manager.room }
 
-    // Its record: what was published at its first load, what it gave and read, and how often it
-    // loaded a pointer.
-    ensures adds { (core : Core V E) (n : ℕ) (step : WalkStep) (before : SharedWalk V)
+    // The capacity never changes.
+    ensures capacity { (capacity extra : ℕ) (events : List (Event V E)) → capacity < 2 ^ 63
+        → (shadow (run (made_core capacity extra) events)).capacity ≡ capacity }
+
+    // The peak bounds the installed slots, those made but not installed yet, and the values.
+    ensures slots_of_new { (events : List (Event V E))
+        → installed_slots (run new_core events) ≤ 2 * peak (run new_core events) - 1 }
+    ensures no_slots { (events : List (Event V E))
+        → peak (run new_core events) ≡ 0 → installed_slots (run new_core events) ≡ 0 }
+    ensures slots_of_capacity { (capacity extra : ℕ) (events : List (Event V E)) → capacity < 2 ^ 63
+        → installed_slots (run (made_core capacity extra) events)
+        ≤ 2 * max capacity (peak (run (made_core capacity extra) events)) - 1 }
+    ensures slots_of_cleared { (core : Core V E)
         → IsReached core
-        → IsTrue (is_enabled core (OfWalk n step))
-        → core.walks n ≡ Some before
-        → IsSomeAnd ((happens core (OfWalk n step)).walks n) (Adds core.table step before) }
-    ensures complete { (core : Core V E) (n : ℕ) (shared : SharedWalk V) → IsReached core
-        → core.walks n ≡ Some shared → IsTrue (is_complete shared.cursor)
-        → (id : ℕ) (v : V) → shared.first id ≡ Some v → Contains shared.given (id, v) }
-    ensures published { (core : Core V E) (n : ℕ) (shared : SharedWalk V) → IsReached core
-        → core.walks n ≡ Some shared
-        → (id : ℕ) (v : V) → Contains shared.given (id, v) → (shadow core).values id ≡ Some v }
-    ensures ascending { (core : Core V E) (n : ℕ) (shared : SharedWalk V) → IsReached core
-        → core.walks n ≡ Some shared → IsStrictlyIncreasing (map (λ pair. pair.0) shared.given) }
-    ensures reads_once { (core : Core V E) (n : ℕ) (shared : SharedWalk V) → IsReached core
-        → core.walks n ≡ Some shared → IsStrictlyIncreasing shared.read }
-    ensures loads { (core : Core V E) (n : ℕ) (shared : SharedWalk V) → IsReached core
-        → core.walks n ≡ Some shared → shared.loads ≤ 63 + length shared.given }
+        → IsTrue (is_enabled core (Owner ClearTable))
+        → installed_slots (happens core (Owner ClearTable)) ≡ reserved_slots (shadow core).capacity }
+    ensures private_slots { (core : Core V E) (n : ℕ) (local : Local V E) → IsReached core
+        → core.locals n ≡ Some local → private_slots local.id local.doing ≤ peak core }
+    ensures values { (core : Core V E) → IsReached core → length (walk (shadow core).values) ≤ peak core }
+
+    // Since a table was made or cleared there were as many publishings as there are values, and so
+    // at most as many as ids were held at once.
+    ensures publishings { (capacity extra : ℕ) (events : List (Event V E))
+        → capacity < 2 ^ 63
+        → publishings (made_core capacity extra) events ≡ length
+        (walk (shadow (run (made_core capacity extra) events)).values) }
+    ensures few_publishings { (capacity extra : ℕ) (events : List (Event V E))
+        → capacity < 2 ^ 63
+        → publishings (made_core capacity extra) events ≤ peak
+        (run (made_core capacity extra) events) }
+
+    // While fewer ids than the capacity are held no take is refused. At a reserved id no publishing
+    // is refused, also after a clear.
+    ensures within_capacity { (core : Core V E) (refused : Bool) (growth : ℕ) → IsReached core
+        → held_count (shadow core).held < (shadow core).capacity
+        → is_refused core (TakeId refused growth) ≡ false }
+    ensures reserved_publishes { (core : Core V E) (n : ℕ) (local : Local V E) (refused : Bool)
+        → IsReached core
+        → core.locals n ≡ Some local
+        → IsTrue (is_reserved (shadow core).capacity local.id)
+        → is_refused core (OfLocal n (MakeBucket refused)) ≡ false }
+    ensures reserved_answers { (core : Core V E) (n : ℕ) (local : Local V E) (told : Answer V E)
+        → IsReached core
+        → core.locals n ≡ Some local
+        → IsTrue (is_reserved (shadow core).capacity local.id)
+        → Contains local.answered told
+        → told ≢ Refused }
+
+    // One schedule from `new` to `clear`, computed: it shows that the events do occur. Four Locals
+    // publish in a new table. A walk gives the four values; the next Local finds the first and keeps
+    // it; an owner's walk gives the four; and `clear` leaves the sheet of `new`.
+    ensures four_values { (a b c d : V)
+        → (shadow (after_publishing {E = E} a b c d)).values ≡ slice_get (a ∷ b ∷ c ∷ d ∷ []) }
+    ensures seven_slots { (a b c d : V) → installed_slots (after_publishing {E = E} a b c d) ≡ 7 }
+    ensures walk_of_four { (a b c d : V)
+        → IsSomeAnd ((after_walking {E = E} a b c d).walks 0) (λ shared.
+        IsTrue (is_complete shared.cursor)
+        × (shared.given ≡ (0, a) ∷ (1, b) ∷ (2, c) ∷ (3, d) ∷ [])) }
+    ensures next_of_four { (a b c d : V) → IsSomeAnd ((after_next {E = E} a b c d).locals 4)
+        (λ local. (local.id ≡ 0) × (local.start.value ≡ Some a)
+        × (local.answered ≡ Found (Some a) ∷ Answered a ∷ [])) }
+    ensures owner_of_four { (a b c d : V) (others : ℕ → V → V)
+        → IsTrue (is_enabled (after_all {E = E} a b c d) (Owner (IterMut others)))
+        × (owner_walk (after_all {E = E} a b c d).table ≡ a ∷ b ∷ c ∷ d ∷ []) }
+    ensures clear_of_four { (a b c d : V)
+        → IsTrue (is_enabled (after_all {E = E} a b c d) (Owner ClearTable))
+        × (shadow (happens (after_all {E = E} a b c d) (Owner ClearTable)) ≡ new_sheet) }
 {}

@@ -2,6 +2,15 @@ use Rattle.thread_local_schedule.proofs.CoreLaws as known
 use Rattle.thread_local_schedule.proofs.Clauses as clause
 use Rattle.thread_local_schedule.proofs.Enabled as may
 use Rattle.thread_local_schedule.proofs.OwnerLaws.{owner_walk-walk}
+use Rattle.thread_local_schedule.proofs.Open as ending
+use Rattle.std.proofs.Common.{refl, arith}
+use Rattle.thread_local_schedule.proofs.PeakLaws as bound
+use Rattle.thread_local_schedule.proofs.Publishings as publishing
+use Rattle.thread_local_schedule.specs.Core.{made_core}
+use Rattle.thread_local_schedule.proofs.Parts.{made_core-fits}
+use Rattle.thread_local_schedule.proofs.HeldCounts.{held_below}
+use Rattle.thread_local_schedule.proofs.FourLocals as story
+use Rattle.thread_local_schedule.proofs.FourValues as four
 use Rattle.thread_local_schedule.proofs.schedule.every_schedule.Goals as goal
 
 pub returns-clause-moves : goal.returns-clause-moves
@@ -96,3 +105,104 @@ returns-clause-refused_take g c = λ core refused growth r. clause.refused_take 
 
 pub returns-clause-refusal : goal.returns-clause-refusal
 returns-clause-refusal g c = may.refusal
+
+pub returns-clause-into_iter_ends : goal.returns-clause-into_iter_ends
+returns-clause-into_iter_ends g c = ending.into_iter_ends
+
+pub returns-clause-drop_ends : goal.returns-clause-drop_ends
+returns-clause-drop_ends g c = ending.drop_ends
+
+pub returns-clause-ended : goal.returns-clause-ended
+returns-clause-ended g c = ending.ended
+
+pub returns-clause-stays_open : goal.returns-clause-stays_open
+returns-clause-stays_open g c = ending.stays_open
+
+pub returns-clause-pointer_stays : goal.returns-clause-pointer_stays
+returns-clause-pointer_stays g c = λ core event bucket number r quiet. (clause.says core event r).names quiet bucket number
+
+pub returns-clause-reserved_stands : goal.returns-clause-reserved_stands
+returns-clause-reserved_stands g c = λ core bucket r. (clause.fits core r).table.reserved bucket
+
+pub returns-clause-reserved_stays : goal.returns-clause-reserved_stays
+returns-clause-reserved_stays g c = λ core event bucket number r reserved. (clause.says core event r).reserved_stays bucket reserved number
+
+pub returns-clause-pointers_apart : goal.returns-clause-pointers_apart
+returns-clause-pointers_apart g c = λ core a b number r. (clause.fits core r).numbers.named_apart a b number
+
+pub returns-clause-unnamed : goal.returns-clause-unnamed
+returns-clause-unnamed g c = λ core n local number bucket r. (clause.fits core r).numbers.own_unnamed n local number bucket
+
+pub returns-clause-one_call : goal.returns-clause-one_call
+returns-clause-one_call g c = λ core m n a b number r. (clause.fits core r).numbers.own_apart m n a b number
+
+pub returns-clause-peak : goal.returns-clause-peak
+returns-clause-peak g c = λ capacity extra events l.
+    bound.peak_run (made_core capacity extra) events 0 (made_core-fits capacity extra l) refl
+
+pub returns-clause-below_peak : goal.returns-clause-below_peak
+returns-clause-below_peak g c = λ core n local r at.
+    held_below core.manager.held local.id ((clause.fits core r).locals.each n local at).id_held
+
+pub returns-clause-ids : goal.returns-clause-ids
+returns-clause-ids g c = λ core n local r at. bound.ids core n local (clause.fits core r) at
+
+pub returns-clause-room : goal.returns-clause-room
+returns-clause-room g c = λ core r. (clause.fits core r).manager.peak_room
+
+pub returns-clause-capacity : goal.returns-clause-capacity
+returns-clause-capacity g c = λ capacity extra events l.
+    bound.run_capacity (made_core capacity extra) events (made_core-fits capacity extra l)
+
+pub returns-clause-slots_of_new : goal.returns-clause-slots_of_new
+returns-clause-slots_of_new g c = bound.slots_of_new
+
+pub returns-clause-no_slots : goal.returns-clause-no_slots
+returns-clause-no_slots g c = λ events none. omega (arith, bound.slots_of_new events)
+
+pub returns-clause-slots_of_capacity : goal.returns-clause-slots_of_capacity
+returns-clause-slots_of_capacity g c = bound.slots_of_capacity
+
+pub returns-clause-slots_of_cleared : goal.returns-clause-slots_of_cleared
+returns-clause-slots_of_cleared g c = bound.slots_of_cleared
+
+pub returns-clause-private_slots : goal.returns-clause-private_slots
+returns-clause-private_slots g c = λ core n local r at.
+    known.private_bound core.manager.held local.id local.doing
+    ((clause.fits core r).locals.each n local at).id_held
+
+pub returns-clause-values : goal.returns-clause-values
+returns-clause-values g c = λ core r. known.published_bound core (clause.fits core r)
+
+pub returns-clause-publishings : goal.returns-clause-publishings
+returns-clause-publishings g c = publishing.as_many_as_values
+
+pub returns-clause-few_publishings : goal.returns-clause-few_publishings
+returns-clause-few_publishings g c = publishing.at_most_the_peak
+
+pub returns-clause-within_capacity : goal.returns-clause-within_capacity
+returns-clause-within_capacity g c = λ core refused growth r. bound.within_capacity core refused growth (clause.fits core r)
+
+pub returns-clause-reserved_publishes : goal.returns-clause-reserved_publishes
+returns-clause-reserved_publishes g c = λ core n local refused r. bound.reserved core n local refused (clause.fits core r)
+
+pub returns-clause-reserved_answers : goal.returns-clause-reserved_answers
+returns-clause-reserved_answers g c = λ core n local told r. bound.reserved_answers core n local told (clause.fits core r)
+
+pub returns-clause-four_values : goal.returns-clause-four_values
+returns-clause-four_values g c = four.four_values _ _
+
+pub returns-clause-seven_slots : goal.returns-clause-seven_slots
+returns-clause-seven_slots g c = story.first_slots _ _
+
+pub returns-clause-walk_of_four : goal.returns-clause-walk_of_four
+returns-clause-walk_of_four g c = story.walk_gives _ _
+
+pub returns-clause-next_of_four : goal.returns-clause-next_of_four
+returns-clause-next_of_four g c = story.next_gets _ _
+
+pub returns-clause-owner_of_four : goal.returns-clause-owner_of_four
+returns-clause-owner_of_four g c = story.owner_gets _ _
+
+pub returns-clause-clear_of_four : goal.returns-clause-clear_of_four
+returns-clause-clear_of_four g c = four.clear_of_four _ _

@@ -6,7 +6,7 @@ use Rattle.thread_local_schedule.proofs.Clauses as clause
 use Rattle.thread_local_schedule.proofs.Enabled as may
 use Rattle.thread_local_schedule.proofs.EventRules as rule
 use Rattle.thread_local_schedule.proofs.Installs.{event_installs}
-use Rattle.thread_local_schedule.proofs.event.every_event.Goals as goal
+use Rattle.thread_local_schedule.proofs.event.events_say.Goals as goal
 
 pub returns-clause-made_open : goal.returns-clause-made_open
 returns-clause-made_open g c = λ capacity extra. refl

@@ -1,7 +1,7 @@
 use Rattle.thread_local_schedule.proofs.CoreLaws as known
 use Rattle.thread_local_schedule.proofs.Clauses as clause
 use Rattle.thread_local_schedule.proofs.WalkEvents as event
-use Rattle.thread_local_schedule.proofs.schedule.every_walk.Goals as goal
+use Rattle.thread_local_schedule.proofs.shared_walk.every_walk.Goals as goal
 
 pub returns-clause-begins : goal.returns-clause-begins
 returns-clause-begins g c = event.begins
@@ -21,8 +21,11 @@ returns-clause-ends g c = event.ends
 pub returns-clause-may_end : goal.returns-clause-may_end
 returns-clause-may_end g c = event.may_end
 
-pub returns-clause-adds : goal.returns-clause-adds
-returns-clause-adds g c = λ core n step before r. event.adds core n step before (clause.fits core r)
+pub returns-clause-load_adds : goal.returns-clause-load_adds
+returns-clause-load_adds g c = λ core n before r. event.load_adds core n before (clause.fits core r)
+
+pub returns-clause-look_adds : goal.returns-clause-look_adds
+returns-clause-look_adds g c = λ core n before r. event.look_adds core n before (clause.fits core r)
 
 pub returns-clause-complete : goal.returns-clause-complete
 returns-clause-complete g c = λ core n walk r at done id v e. known.complete core n walk (clause.fits core r) at done id v e

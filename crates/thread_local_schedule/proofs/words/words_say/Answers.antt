@@ -1,0 +1,109 @@
+use Rattle.std.proofs.Common.{refl}
+use Rattle.thread_local_schedule.proofs.Sayings as says
+use Rattle.thread_local_schedule.proofs.Clauses as clause
+use Rattle.thread_local_schedule.proofs.words.words_say.Goals as goal
+
+pub returns-clause-installed : goal.returns-clause-installed
+returns-clause-installed g c = λ core. refl
+
+pub returns-clause-private : goal.returns-clause-private
+returns-clause-private g c = says.private
+
+pub returns-clause-nothing : goal.returns-clause-nothing
+returns-clause-nothing g c = says.nothing
+
+pub returns-clause-takes : goal.returns-clause-takes
+returns-clause-takes g c = says.takes
+
+pub returns-clause-take : goal.returns-clause-take
+returns-clause-take g c = says.take
+
+pub returns-clause-owners : goal.returns-clause-owners
+returns-clause-owners g c = says.owners
+
+pub returns-clause-of_local : goal.returns-clause-of_local
+returns-clause-of_local g c = says.local
+
+pub returns-clause-of_walk : goal.returns-clause-of_walk
+returns-clause-of_walk g c = says.walk
+
+pub returns-clause-walk_begins : goal.returns-clause-walk_begins
+returns-clause-walk_begins g c = says.begins
+
+pub returns-clause-table_ends : goal.returns-clause-table_ends
+returns-clause-table_ends g c = says.ends
+
+pub returns-clause-ungranted : goal.returns-clause-ungranted
+returns-clause-ungranted g c = says.ungranted
+
+pub returns-clause-made : goal.returns-clause-made
+returns-clause-made g c = says.made
+
+pub returns-clause-newcomer : goal.returns-clause-newcomer
+returns-clause-newcomer g c = λ core event n local r. says.newcomer_comes core event n local (clause.fits core r)
+
+pub returns-clause-named : goal.returns-clause-named
+returns-clause-named g c = says.names
+
+pub returns-clause-own : goal.returns-clause-own
+returns-clause-own g c = says.own
+
+pub returns-clause-own_slots : goal.returns-clause-own_slots
+returns-clause-own_slots g c = says.own_slots
+
+pub returns-clause-no_event : goal.returns-clause-no_event
+returns-clause-no_event g c = λ core. tt
+
+pub returns-clause-none_taken : goal.returns-clause-none_taken
+returns-clause-none_taken g c = says.none_taken
+
+pub returns-clause-no_take : goal.returns-clause-no_take
+returns-clause-no_take g c = λ p core. tt
+
+pub returns-clause-alone : goal.returns-clause-alone
+returns-clause-alone g c = λ core n x. (x.locals n, x.walks n)
+
+pub returns-clause-no_call : goal.returns-clause-no_call
+returns-clause-no_call g c = λ local x. (x.gets, x.closure)
+
+pub returns-clause-all_below : goal.returns-clause-all_below
+returns-clause-all_below g c = λ n id held x. x id
+
+pub returns-clause-written : goal.returns-clause-written
+returns-clause-written g c = λ slot x. x
+
+pub returns-clause-allows_give : goal.returns-clause-allows_give
+returns-clause-allows_give g c = λ sheet id x. x
+
+pub returns-clause-allows_publish : goal.returns-clause-allows_publish
+returns-clause-allows_publish g c = λ sheet id v x. x
+
+pub returns-clause-step_keeps : goal.returns-clause-step_keeps
+returns-clause-step_keeps g c = λ step before after x. (x.id, x.start)
+
+pub returns-clause-get_begins : goal.returns-clause-get_begins
+returns-clause-get_begins g c = λ before after x. (x.calls.gets, x.calls.closure, x.calls.calls)
+
+pub returns-clause-publishing_begins : goal.returns-clause-publishing_begins
+returns-clause-publishing_begins g c = λ create before after x. (x.calls.none, x.calls.gets, x.calls.closure, x.calls.calls)
+
+pub returns-clause-calls_stay : goal.returns-clause-calls_stay
+returns-clause-calls_stay g c = says.calls_stay
+
+pub returns-clause-memory_refused : goal.returns-clause-memory_refused
+returns-clause-memory_refused g c = λ before after x. (x.calls.ends.none, x.calls.ends.gets, x.calls.ends.calls, x.calls.answered)
+
+pub returns-clause-writes : goal.returns-clause-writes
+returns-clause-writes g c = says.writes
+
+pub returns-clause-sets_flag : goal.returns-clause-sets_flag
+returns-clause-sets_flag g c = λ before after x. (x.calls.none, x.calls.gets, x.calls.calls)
+
+pub returns-clause-replies : goal.returns-clause-replies
+returns-clause-replies g c = says.replies
+
+pub returns-clause-goes_down : goal.returns-clause-goes_down
+returns-clause-goes_down g c = λ before after x. x
+
+pub returns-clause-ends_with : goal.returns-clause-ends_with
+returns-clause-ends_with g c = λ told before after x. (x.none, x.answered)

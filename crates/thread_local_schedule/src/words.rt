@@ -1,0 +1,154 @@
+//! What the words of the theorems say, each from the side on which it promises nothing.
+ghost use Rattle.std.specs.Prelude.{◌≡◌, ℕ, ◌+◌, ◌^◌, ◌<◌, ◌⊎◌, Bool, true, false, List, [], Some, None, IsTrue, IsSomeAnd, ◌∷◌, ◌++◌, Result, ◌↔◌, suc, IsSome};
+ghost use Rattle.thread_local_model.specs.Held.{held_count, HoldsAllBelow, is_held};
+ghost use Rattle.thread_local_model.specs.Walk.{walk};
+ghost use Rattle.thread_local_schedule.specs.Table.{bucket_stands, Table, Slot};
+ghost use Rattle.thread_local_schedule.specs.Local.{Local, LocalStep, Doing, MakeBucket, Private, BeginGet, BeginGetOr, LoadPointer, LookAtFlag, InstallBucket, WriteValue, SetFlag, Reply};
+ghost use Rattle.thread_local_schedule.specs.SharedWalk.{WalkStep};
+ghost use Rattle.thread_local_schedule.specs.Fits.{named, IsWritten};
+ghost use Rattle.thread_local_schedule.specs.Numbers.{own_number};
+ghost use Rattle.thread_local_schedule.specs.Core.{Core, installed_slots, private_slots};
+ghost use Rattle.thread_local_schedule.specs.Events.{Event, TakeId, OfLocal, GiveBack, Forget, BeginWalk, OfWalk, EndWalk, OwnerCall, Owner, is_enabled, happens, run, IntoIter, DropTable};
+ghost use Rattle.thread_local_schedule.specs.Schedule.{begins_walk, is_exclusive, is_of, is_of_walk, is_refused, is_granted_take, newcomer, IsReached, NoneTaken, is_take, ends_table, IsAlone};
+ghost use Rattle.thread_local_model.specs.Place.{bucket_of};
+ghost use Rattle.thread_local_model.specs.Buckets.{slots};
+ghost use Rattle.thread_local_schedule.specs.Bounds.{TakesBelow, NothingRefused};
+ghost use Rattle.thread_local_model.specs.Sheet.{Sheet, IsAllowed, Give, Publish};
+ghost use Rattle.thread_local_model.specs.Answers.{Answer, Refused, Get, GetOr};
+ghost use Rattle.thread_local_schedule.specs.Calls.{gets_of, closure_of, HasNoCall, GoesOn, steps_left, GoesDown, EndsWith};
+
+/// What the words say in which the theorems are told, each by what makes it true and by what it
+/// makes true: so that no clause holds only because a word in it is true of nothing.
+pub fn words_say<V, E>()
+    // The installed slots are those of the buckets that stand, a bucket not offered yet has all slots
+    // of its id's bucket, a schedule that refuses nothing refuses none of its events, and takes below
+    // a number are those that each come while fewer ids are held.
+    ensures installed { (core : Core V E)
+        → installed_slots core ≡ slots (bucket_stands core.table) }
+    ensures private { (id : ℕ) (doing : Doing V E) (number : ℕ)
+        → own_number doing ≡ Some number → private_slots id doing ≡ 2 ^ bucket_of id }
+    ensures nothing { (core : Core V E) (events later : List (Event V E)) (event : Event V E)
+        → NothingRefused core (events ++ event ∷ later)
+        → is_refused (run core events) event ≡ false }
+    ensures takes { (p : ℕ) (core : Core V E) (events : List (Event V E)) (event : Event V E)
+        → TakesBelow p core events
+        → (IsTrue (is_take event) → held_count (run core events).manager.held < p)
+        → TakesBelow p core (events ++ event ∷ []) }
+
+    // What makes an event a take, an owner's call, one of this Local or walk, the beginning of a walk
+    // or the end of a table.
+    ensures take { (event : Event V E) → IsTrue (is_take event)
+        → (refused : Bool) × (growth : ℕ) × (event ≡ TakeId refused growth) }
+    ensures owners { (event : Event V E) → IsTrue (is_exclusive event)
+        → (call : OwnerCall V) × (event ≡ Owner call) }
+    ensures of_local { (n : ℕ) (event : Event V E) → IsTrue (is_of n event)
+        → ((step : LocalStep V E) × (event ≡ OfLocal n step))
+        ⊎ ((event ≡ GiveBack n) ⊎ (event ≡ Forget n)) }
+    ensures of_walk { (n : ℕ) (event : Event V E) → IsTrue (is_of_walk n event)
+        → ((step : WalkStep) × (event ≡ OfWalk n step)) ⊎ (event ≡ EndWalk n) }
+    ensures walk_begins { (event : Event V E) → IsTrue (begins_walk event) → event ≡ BeginWalk }
+    ensures table_ends { (event : Event V E) → IsTrue (ends_table event)
+        → (event ≡ Owner IntoIter) ⊎ (event ≡ Owner DropTable) }
+
+    // A take that is enabled is granted or refused, a bucket that gets its memory isn't refused, and
+    // the newcomer is the Local that comes.
+    ensures ungranted { (core : Core V E) (refused : Bool) (growth : ℕ)
+        → IsTrue (is_enabled core (TakeId refused growth))
+        → is_granted_take core (TakeId refused growth) ≡ false
+        → IsTrue (is_refused core (TakeId refused growth)) }
+    ensures made { (core : Core V E) (n : ℕ)
+        → is_refused core (OfLocal n (MakeBucket false)) ≡ false }
+    ensures newcomer { (core : Core V E) (event : Event V E) (n : ℕ) (local : Local V E)
+        → IsReached core
+        → core.locals n ≡ None
+        → (happens core event).locals n ≡ Some local
+        → newcomer core event ≡ Some local }
+
+    // The name of a pointer is the number of its bucket, and a call's own number that of the bucket
+    // that it has made.
+    ensures named { (table : Table V) (bucket number : ℕ)
+        → (named table bucket ≡ Some number)
+        ↔ IsSomeAnd (table.pointers bucket) (λ here. here.number ≡ number) }
+    ensures own { (create : Result V E) (number : ℕ)
+        → own_number (Private create number) ≡ Some number }
+    ensures own_slots { (id number : ℕ) (create : Result V E)
+        → private_slots id (Private create number) ≡ 2 ^ bucket_of id }
+
+    // None is taken by no event, and by one more where that is no granted take. No event is a take
+    // that comes too late.
+    ensures no_event { (core : Core V E) → NoneTaken core [] }
+    ensures none_taken { (core : Core V E) (events : List (Event V E)) (event : Event V E)
+        → NoneTaken core events
+        → is_granted_take (run core events) event ≡ false
+        → NoneTaken core (events ++ event ∷ []) }
+    ensures no_take { (p : ℕ) (core : Core V E) → TakesBelow p core [] }
+
+    // There is nobody else where the table is alone; a Local without a call has no get and no
+    // closure under way; all ids below a number are held where each is; a slot is written where its
+    // flag says so; and what a move requires.
+    ensures alone { (core : Core V E) (n : ℕ)
+        → IsAlone core → (core.locals n ≡ None) × (core.walks n ≡ None) }
+    ensures no_call { (local : Local V E) → HasNoCall local
+        → (gets_of local.doing ≡ 0) × (closure_of local.doing ≡ None) }
+    ensures all_below { (n id : ℕ) (held : List Bool) → HoldsAllBelow n held → id < n
+        → IsTrue (is_held held id) }
+    ensures written { (slot : Slot V) → IsWritten slot → IsTrue slot.flag → IsSome slot.written }
+    ensures allows_give { (sheet : Sheet V) (id : ℕ)
+        → IsAllowed sheet (Give id) → IsTrue (is_held sheet.held id) }
+    ensures allows_publish { (sheet : Sheet V) (id : ℕ) (v : V) → IsAllowed sheet (Publish id v)
+        → (sheet.values id ≡ None) × IsTrue (is_held sheet.held id) }
+
+    // What a step does to the calls of its Local: a get begins, a publishing call begins, none begins
+    // or ends, one is refused memory, one ends or goes on, or a get or a publishing call ends.
+    ensures step_keeps { (step : LocalStep V E) (before after : Local V E) → GoesOn step before after
+        → (after.id ≡ before.id) × (after.start ≡ before.start) }
+    ensures get_begins { (before after : Local V E) → GoesOn BeginGet before after
+        → (gets_of after.doing ≡ suc (gets_of before.doing))
+        × (closure_of after.doing ≡ closure_of before.doing)
+        × (after.calls ≡ before.calls) }
+    ensures publishing_begins { (create : Result V E) (before after : Local V E)
+        → GoesOn (BeginGetOr create) before after
+        → (closure_of before.doing ≡ None)
+        × (gets_of after.doing ≡ gets_of before.doing)
+        × (closure_of after.doing ≡ Some create)
+        × (after.calls ≡ before.calls) }
+    ensures calls_stay { (before after : Local V E)
+        → GoesOn LoadPointer before after
+        ⊎ (GoesOn LookAtFlag before after
+        ⊎ (GoesOn (MakeBucket false) before after ⊎ GoesOn InstallBucket before after))
+        → (gets_of after.doing ≡ gets_of before.doing)
+        × (closure_of after.doing ≡ closure_of before.doing)
+        × (after.calls ≡ before.calls) }
+    ensures memory_refused { (before after : Local V E) → GoesOn (MakeBucket true) before after
+        → (closure_of after.doing ≡ None)
+        × (gets_of after.doing ≡ gets_of before.doing)
+        × IsSomeAnd (closure_of before.doing) (λ create.
+        after.calls ≡ before.calls ++ GetOr create true ∷ [])
+        × (after.answered ≡ before.answered ++ Refused ∷ []) }
+    ensures writes { (before after : Local V E) → GoesOn WriteValue before after
+        → ((gets_of after.doing ≡ gets_of before.doing)
+        × (closure_of after.doing ≡ closure_of before.doing)
+        × (after.calls ≡ before.calls))
+        ⊎
+        ((closure_of after.doing ≡ None)
+        × IsSomeAnd (closure_of before.doing) (λ create.
+        after.calls ≡ before.calls ++ GetOr create false ∷ [])) }
+    ensures sets_flag { (before after : Local V E) → GoesOn SetFlag before after
+        → (closure_of after.doing ≡ None)
+        × (gets_of after.doing ≡ gets_of before.doing)
+        × IsSomeAnd (closure_of before.doing) (λ create.
+        after.calls ≡ before.calls ++ GetOr create false ∷ []) }
+    ensures replies { (before after : Local V E) → GoesOn Reply before after
+        → ((gets_of before.doing ≡ suc (gets_of after.doing))
+        × (closure_of after.doing ≡ closure_of before.doing)
+        × (after.calls ≡ before.calls ++ Get ∷ []))
+        ⊎
+        ((closure_of after.doing ≡ None)
+        × IsSomeAnd (closure_of before.doing) (λ create.
+        after.calls ≡ before.calls ++ GetOr create false ∷ [])) }
+    ensures goes_down { (before after : Local V E) → GoesDown before after
+        → steps_left after.doing after.learnt < steps_left before.doing before.learnt }
+    ensures ends_with { (told : Answer V E) (before after : Local V E)
+        → EndsWith told before after
+        → HasNoCall after × (after.answered ≡ before.answered ++ told ∷ []) }
+{}
