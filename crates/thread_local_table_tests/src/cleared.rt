@@ -3,6 +3,7 @@
 //! whichever it is, and says which call was refused; with ample memory it says nothing.
 
 use crate::held::{four_publish, is_one_reserved, latter_four_publish, taken};
+use crate::locals::numbers;
 use std::alloc::Global;
 use std::io::Print;
 use std::sync::Wait;
@@ -31,6 +32,51 @@ fn reserved_and_published<R: Wait + Print>(
     Some((is_one_reserved(&locals), four_publish(&mut locals)))
 }
 
+// A table with a capacity, or None where it was refused, which is told.
+fn with_capacity<R: Print>(
+    rt: &R,
+    alloc: Global,
+    capacity: usize,
+) -> Result<Option<ThreadLocal<u32>>, Fail> {
+    let table = ThreadLocal::with_capacity(alloc, capacity).ok();
+    if table.is_none() {
+        println!(rt; "refused: with_capacity")?;
+    }
+    Ok(table)
+}
+
+// Tells that a value was refused memory, where it was.
+fn tell<R: Print>(rt: &R, is_refused: bool) -> Result<(), Fail> {
+    if is_refused {
+        println!(rt; "refused: get_or")?;
+    }
+    Ok(())
+}
+
+// Whether all eight published. Where a value was refused memory, that is told.
+fn are_eight_published<R: Print>(
+    rt: &R,
+    published: Option<([bool; 4], [bool; 4])>,
+) -> Result<bool, Fail> {
+    let are_all = published == Some(([true; 4], [true; 4]));
+    tell(rt, !are_all && published.is_some())?;
+    Ok(are_all)
+}
+
+// What eight answer where the eighth alone may be refused memory, and how many slots stand then.
+fn seven_and_eighth(is_eighth: bool) -> (Option<([bool; 4], [bool; 4])>, usize) {
+    (
+        Some(([true; 4], [true, true, true, is_eighth])),
+        if is_eighth { 15 } else { 7 },
+    )
+}
+
+fn slots_around_clear(table: &mut ThreadLocal<u32>) -> (usize, usize) {
+    let before = table.slots();
+    table.clear();
+    (before, table.slots())
+}
+
 /// How many values an owner's walk has still to give.
 fn count(table: &mut ThreadLocal<u32>) -> usize {
     table.iter_mut().len()
@@ -38,28 +84,21 @@ fn count(table: &mut ThreadLocal<u32>) -> usize {
 
 #[test]
 fn a_cleared_table_keeps_its_reserved_slots(rt: HostRuntime) -> Result<(), Fail> {
-    let Ok(mut table) = ThreadLocal::<u32>::with_capacity(rt.alloc(), 4) else {
-        println!(rt; "refused: with_capacity")?;
+    let Some(mut table) = with_capacity(&rt, rt.alloc(), 4)? else {
         return Ok(());
     };
-    let published = eight_publish(&table, &rt, rt.alloc());
-    if published != Some(([true; 4], [true; 4])) {
-        if published.is_some() {
-            println!(rt; "refused: get_or")?;
-        }
+    if !are_eight_published(&rt, eight_publish(&table, &rt, rt.alloc()))? {
         return Ok(());
     }
-    let before = table.slots();
-    table.clear();
-    assert_eq!(rt; (before, table.slots(), count(&mut table)), (15, 7, 0));
+    let slots = slots_around_clear(&mut table);
+    let count = count(&mut table);
     // From here on seven values are never refused memory. Whether the eighth is, its bucket shows.
     let published = eight_publish(&table, &rt, rt.alloc());
-    let is_eighth = published == Some(([true; 4], [true; 4]));
-    if !is_eighth {
-        println!(rt; "refused: get_or")?;
-        assert_eq!(rt; published, Some(([true; 4], [true, true, true, false])));
-    }
-    assert_eq!(rt; table.slots(), if is_eighth { 15 } else { 7 });
+    let is_eighth = are_eight_published(&rt, published)?;
+    assert_eq!(rt;
+        (slots, count, (published, table.slots())),
+        ((15, 7), 0, seven_and_eighth(is_eighth))
+    );
     Ok(())
 }
 
@@ -79,27 +118,34 @@ fn slots_of(published: [bool; 4]) -> usize {
     slots
 }
 
+// Whether none of four is reserved and all published. Where a value was refused memory, that is
+// told.
+fn are_four_published<R: Print>(rt: &R, found: Option<(bool, [bool; 4])>) -> Result<bool, Fail> {
+    let are_all = found == Some((false, [true; 4]));
+    tell(rt, !are_all && found.is_some())?;
+    Ok(are_all)
+}
+
+// What four answer none of which is reserved, whichever published, and how many slots stand then.
+fn unreserved(found: Option<(bool, [bool; 4])>) -> (Option<(bool, [bool; 4])>, usize) {
+    let published = found.map_or([false; 4], |(_, published)| published);
+    (Some((false, published)), slots_of(published))
+}
+
 #[test]
 fn a_cleared_table_of_no_capacity_keeps_no_slots(rt: HostRuntime) -> Result<(), Fail> {
-    let mut table = ThreadLocal::<u32>::new(rt.alloc());
-    let found = reserved_and_published(&table, &rt, rt.alloc());
-    if found != Some((false, [true; 4])) {
-        if found.is_some() {
-            println!(rt; "refused: get_or")?;
-        }
+    let mut table = numbers(rt.alloc());
+    if !are_four_published(&rt, reserved_and_published(&table, &rt, rt.alloc()))? {
         return Ok(());
     }
-    let before = table.slots();
-    table.clear();
-    assert_eq!(rt; (before, table.slots()), (7, 0));
+    let slots = slots_around_clear(&mut table);
     // Which values are refused memory, the buckets show.
     let found = reserved_and_published(&table, &rt, rt.alloc());
-    let published = found.map_or([false; 4], |(_, published)| published);
-    assert_eq!(rt; found, Some((false, published)));
-    if published != [true; 4] {
-        println!(rt; "refused: get_or")?;
-    }
-    assert_eq!(rt; table.slots(), slots_of(published));
+    are_four_published(&rt, found)?;
+    assert_eq!(rt;
+        (slots, (found, table.slots())),
+        ((7, 0), unreserved(found))
+    );
     Ok(())
 }
 
@@ -111,7 +157,7 @@ fn are_65_held<R: Wait + Print>(table: &ThreadLocal<u32>, rt: &R, alloc: Global)
 
 #[test]
 fn a_cleared_table_keeps_its_room_for_ids(rt: HostRuntime) {
-    let mut table = ThreadLocal::<u32>::new(rt.alloc());
+    let mut table = numbers(rt.alloc());
     if are_65_held(&table, &rt, rt.alloc()) {
         table.clear();
         // From here on so many ids are never refused memory.
@@ -121,8 +167,7 @@ fn a_cleared_table_keeps_its_room_for_ids(rt: HostRuntime) {
 
 #[test]
 fn a_table_with_a_capacity_has_room_for_ids_and_keeps_it(rt: HostRuntime) -> Result<(), Fail> {
-    let Ok(mut table) = ThreadLocal::<u32>::with_capacity(rt.alloc(), 65) else {
-        println!(rt; "refused: with_capacity")?;
+    let Some(mut table) = with_capacity(&rt, rt.alloc(), 65)? else {
         return Ok(());
     };
     // From here on so many ids are never refused memory.

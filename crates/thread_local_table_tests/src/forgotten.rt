@@ -1,9 +1,8 @@
 //! `Local`s that are forgotten keep their ids.
 
-use crate::locals::{found_by_another, lends, published, published_by_another};
+use crate::locals::{found_by_another, lends, numbers, published, published_by_another};
 use std::mem::forget;
 use std::sync::Wait;
-use std::test::Fail;
 use thread_local::ThreadLocal;
 
 /// What the slot of a `Local` holds that publishes a number and is forgotten.
@@ -25,28 +24,43 @@ fn forget_at_once<R: Wait>(table: &ThreadLocal<u32>, rt: &R) -> bool {
     }
 }
 
-#[test]
-fn a_forgotten_local_keeps_its_id_until_the_table_is_cleared(rt: HostRuntime) -> Result<(), Fail> {
-    let mut table = ThreadLocal::<u32>::new(rt.alloc());
-    let forgotten = publish_and_forget(&table, &rt, 5);
-    let found = found_by_another(&table, &rt);
-    let lent = lends(&mut table, &[5]);
-    assert_eq!(rt; (forgotten, found, lent), (Some(5), Some(None), true));
+// A table is cleared. Answers what a new `Local` then finds and publishes, and how many slots there
+// are.
+fn published_afresh<R: Wait>(
+    table: &mut ThreadLocal<u32>,
+    rt: &R,
+) -> (Option<[Option<u32>; 3]>, usize) {
     table.clear();
-    let afresh = published_by_another(&table, &rt, 8);
-    assert_eq!(rt;
-        (afresh, table.slots()),
-        (Some([None, Some(8), Some(8)]), 1)
-    );
-    Ok(())
+    let published = published_by_another(table, rt, 8);
+    (published, table.slots())
 }
 
 #[test]
-fn a_forgotten_local_that_published_nothing_has_no_slot(rt: HostRuntime) -> Result<(), Fail> {
-    let mut table = ThreadLocal::<u32>::new(rt.alloc());
+fn a_forgotten_local_keeps_its_id_until_the_table_is_cleared(rt: HostRuntime) {
+    let mut table = numbers(rt.alloc());
+    let forgotten = publish_and_forget(&table, &rt, 5);
+    let found = found_by_another(&table, &rt);
+    let lent = lends(&mut table, &[5]);
+    let afresh = published_afresh(&mut table, &rt);
+    assert_eq!(rt;
+        (forgotten, found, lent, afresh),
+        (
+            Some(5),
+            Some(None),
+            true,
+            (Some([None, Some(8), Some(8)]), 1)
+        )
+    );
+}
+
+#[test]
+fn a_forgotten_local_that_published_nothing_has_no_slot(rt: HostRuntime) {
+    let mut table = numbers(rt.alloc());
     let forgotten = forget_at_once(&table, &rt);
-    assert_eq!(rt; (forgotten, table.slots()), (true, 0));
+    let slots = table.slots();
     let next = published_by_another(&table, &rt, 1);
-    assert_eq!(rt; (next, table.slots()), (Some([None, Some(1), Some(1)]), 2));
-    Ok(())
+    assert_eq!(rt;
+        (forgotten, slots, next, table.slots()),
+        (true, 0, Some([None, Some(1), Some(1)]), 2)
+    );
 }

@@ -1,6 +1,6 @@
 //! Tables of types that judge themselves.
 
-use std::alloc::Global;
+use std::alloc::{AllocError, Global};
 use std::cell::{Cell, OnceCell};
 use std::cmp::Reverse;
 use std::collections::{BinaryHeap, VecDeque};
@@ -48,54 +48,114 @@ impl Judge for Point {
     }
 }
 
+fn plain_values<R: Wait>(
+    alloc: Global,
+    rt: &R,
+) -> (
+    Option<i64>,
+    Option<char>,
+    Option<NonZeroU32>,
+    Option<Duration>,
+) {
+    (
+        kept(alloc, rt, -5),
+        kept(alloc, rt, 'a'),
+        kept(alloc, rt, NonZeroU32::MAX),
+        kept(alloc, rt, Duration::from_secs(3)),
+    )
+}
+
+fn counter<R: Wait>(alloc: Global, rt: &R) -> Option<u64> {
+    kept(alloc, rt, AtomicU64::new(7)).map(|it| it.load(SeqCst))
+}
+
+fn is_text_kept<R: Wait>(alloc: Global, rt: &R) -> Result<bool, AllocError> {
+    let text = format!(in alloc; "seven")?;
+    Ok(kept(alloc, rt, text).is_some_and(|it| it.as_str() == "seven"))
+}
+
 #[test]
 fn tables_keep_values_without_parts(rt: HostRuntime) -> Result<(), Fail> {
-    let alloc = rt.alloc();
-    assert_eq!(rt; kept(alloc, &rt, -5i64), Some(-5));
-    assert_eq!(rt; kept(alloc, &rt, 'a'), Some('a'));
-    assert_eq!(rt; kept(alloc, &rt, NonZeroU32::MAX), Some(NonZeroU32::MAX));
+    let is_text_kept = is_text_kept(rt.alloc(), &rt)?;
     assert_eq!(rt;
-        kept(alloc, &rt, Duration::from_secs(3)),
-        Some(Duration::from_secs(3))
+        plain_values(rt.alloc(), &rt),
+        (
+            Some(-5),
+            Some('a'),
+            Some(NonZeroU32::MAX),
+            Some(Duration::from_secs(3))
+        )
     );
     assert_eq!(rt;
-        kept_where_made(alloc, &rt, Point { across: 3, up: 4 }),
-        Some(Point { across: 3, up: 4 })
+        (
+            kept_where_made(rt.alloc(), &rt, Point { across: 3, up: 4 }),
+            counter(rt.alloc(), &rt),
+            is_text_kept
+        ),
+        (Some(Point { across: 3, up: 4 }), Some(7), true)
     );
-    let counter = kept(alloc, &rt, AtomicU64::new(7));
-    assert_eq!(rt; counter.map(|it| it.load(SeqCst)), Some(7));
-    let text = kept(alloc, &rt, format!(in alloc; "seven")?);
-    assert!(rt; text.is_some_and(|it| it.as_str() == "seven"));
     Ok(())
+}
+
+fn values_of_parts<R: Wait>(
+    alloc: Global,
+    rt: &R,
+) -> (
+    Option<(u8, u32)>,
+    Option<(u8, char, Option<u32>)>,
+    Option<[u64; 3]>,
+    Option<Result<u8, bool>>,
+) {
+    (
+        kept(alloc, rt, (1, 2)),
+        kept(alloc, rt, (1, 'b', Some(2))),
+        kept(alloc, rt, [1, 2, 3]),
+        kept(alloc, rt, Err(true)),
+    )
+}
+
+fn front<R: Wait>(alloc: Global, rt: &R) -> Result<Option<u8>, AllocError> {
+    let mut queue = VecDeque::new(alloc);
+    queue.push_back(Cell::new(6u8))?;
+    Ok(kept(alloc, rt, queue).and_then(|it| it.front().map(|cell| cell.get())))
+}
+
+fn greatest<R: Wait>(alloc: Global, rt: &R) -> Result<Option<u8>, AllocError> {
+    let mut heap = BinaryHeap::new(alloc);
+    heap.push(3u8)?;
+    heap.push(8)?;
+    Ok(kept(alloc, rt, heap).and_then(|it| it.peek().copied()))
+}
+
+fn is_unset_cell_kept<R: Wait>(alloc: Global, rt: &R) -> bool {
+    kept(alloc, rt, OnceCell::<u8>::new()).is_some_and(|it| it.get().is_none())
 }
 
 #[test]
 fn tables_keep_values_of_parts(rt: HostRuntime) -> Result<(), Fail> {
-    let alloc = rt.alloc();
-    assert_eq!(rt; kept(alloc, &rt, (1u8, 2u32)), Some((1, 2)));
+    let collections = (front(rt.alloc(), &rt)?, greatest(rt.alloc(), &rt)?);
     assert_eq!(rt;
-        kept(alloc, &rt, (1u8, 'b', Some(2u32))),
-        Some((1, 'b', Some(2)))
+        values_of_parts(rt.alloc(), &rt),
+        (
+            Some((1, 2)),
+            Some((1, 'b', Some(2))),
+            Some([1, 2, 3]),
+            Some(Err(true))
+        )
     );
-    assert_eq!(rt; kept(alloc, &rt, [1u64, 2, 3]), Some([1, 2, 3]));
-    assert_eq!(rt; kept(alloc, &rt, Err::<u8, bool>(true)), Some(Err(true)));
     assert_eq!(rt;
-        kept_where_made(alloc, &rt, Wrapping(9u8)),
-        Some(Wrapping(9))
+        (
+            kept_where_made(rt.alloc(), &rt, Wrapping(9u8)),
+            kept(rt.alloc(), &rt, Reverse(4u8)),
+            collections,
+            is_unset_cell_kept(rt.alloc(), &rt)
+        ),
+        (
+            Some(Wrapping(9)),
+            Some(Reverse(4)),
+            (Some(6), Some(8)),
+            true
+        )
     );
-    assert_eq!(rt; kept(alloc, &rt, Reverse(4u8)), Some(Reverse(4)));
-    let mut queue = VecDeque::new(alloc);
-    queue.push_back(Cell::new(6u8))?;
-    let queue = kept(alloc, &rt, queue).and_then(|it| it.front().map(|cell| cell.get()));
-    assert_eq!(rt; queue, Some(6));
-    let mut heap = BinaryHeap::new(alloc);
-    heap.push(3u8)?;
-    heap.push(8)?;
-    assert_eq!(rt;
-        kept(alloc, &rt, heap).and_then(|it| it.peek().copied()),
-        Some(8)
-    );
-    let once = kept(alloc, &rt, OnceCell::<u8>::new());
-    assert!(rt; once.is_some_and(|it| it.get().is_none()));
     Ok(())
 }

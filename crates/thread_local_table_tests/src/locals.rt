@@ -1,8 +1,13 @@
 //! What single `Local`s of numbers find and publish, and what an owner's walk lends.
 
+use std::alloc::Global;
 use std::sync::Wait;
 use thread_local::ThreadLocal;
 use thread_local::local::Local;
+
+pub fn numbers(alloc: Global) -> ThreadLocal<u32> {
+    ThreadLocal::new(alloc)
+}
 
 /// What a `Local` finds.
 pub fn found<R: Wait>(local: &Local<'_, u32, R>) -> Option<u32> {

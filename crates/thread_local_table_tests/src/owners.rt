@@ -5,7 +5,7 @@ ghost use Rattle.thread_local_model.specs.Walk.{walk};
 ghost use Rattle.thread_local_buckets.specs.IterMut.{iter_mut_rest};
 
 use crate::forgotten::publish_and_forget;
-use crate::locals::{lends, published_by_another};
+use crate::locals::{lends, numbers, published_by_another};
 use std::alloc::AllocError;
 use std::test::Fail;
 use thread_local::ThreadLocal;
@@ -59,20 +59,21 @@ fn put(table: &mut ThreadLocal<u32>, value: u32) -> Result<(), AllocError> {
     }
 }
 
+fn counted_twice(table: &mut ThreadLocal<u32>) -> ((usize, u128), usize) {
+    (counted_in_a_table(table), counted_of_any_type(table))
+}
+
 #[test]
 fn an_owner_finds_and_puts_values_in_a_table(rt: HostRuntime) -> Result<(), Fail> {
-    let mut table = ThreadLocal::<u32>::new(rt.alloc());
+    let mut table = numbers(rt.alloc());
     let published = published_by_another(&table, &rt, 7);
     put(&mut table, 30)?;
-    let found = (
-        counted_in_a_table(&mut table),
-        counted_of_any_type(&mut table),
-    );
+    let found = counted_twice(&mut table);
+    let are_lent = lends(&mut table, &[7, 30]);
     assert_eq!(rt;
-        (published, found),
-        (Some([None, Some(7), Some(7)]), ((2, 37), 2))
+        (published, found, are_lent),
+        (Some([None, Some(7), Some(7)]), ((2, 37), 2), true)
     );
-    assert!(rt; lends(&mut table, &[7, 30]));
     Ok(())
 }
 
@@ -117,21 +118,26 @@ fn drop_each_in_a_table<T: Drop>(table: &mut ThreadLocal<T>)
     drop_each(table.buckets_mut());
 }
 
+// Drains a table twice, and drops what is left. Answers whether there were values either time, and
+// how many slots it had then.
+fn drained_twice(table: &mut ThreadLocal<u32>) -> (bool, bool, usize) {
+    let taken = (drained(table), drained(table), table.slots());
+    drop_each_in_a_table(table);
+    taken
+}
+
 #[test]
 fn an_owner_finds_ids_and_drains_a_table(rt: HostRuntime) -> Result<(), Fail> {
-    let mut table = ThreadLocal::<u32>::new(rt.alloc());
+    let mut table = numbers(rt.alloc());
     let forgotten = publish_and_forget(&table, &rt, 7);
     put(&mut table, 30)?;
-    assert_eq!(rt;
-        (forgotten, first_two(&mut table)),
-        (Some(7), [Some((0, 7)), Some((2, 30))])
-    );
-    let taken = (drained(&mut table), drained(&mut table), table.slots());
-    drop_each_in_a_table(&mut table);
+    let first = (forgotten, first_two(&mut table));
+    let taken = drained_twice(&mut table);
     let next = published_by_another(&table, &rt, 8);
     assert_eq!(rt;
-        (taken, next, first_id(table)),
+        (first, taken, next, first_id(table)),
         (
+            (Some(7), [Some((0, 7)), Some((2, 30))]),
             (true, false, 1 + 2),
             Some([None, Some(8), Some(8)]),
             Some(1)
@@ -157,7 +163,7 @@ fn past_the_last(table: &mut ThreadLocal<u32>) -> bool
 
 #[test]
 fn an_owner_reaches_a_value_by_its_id(rt: HostRuntime) -> Result<(), Fail> {
-    let mut table = ThreadLocal::<u32>::new(rt.alloc());
+    let mut table = numbers(rt.alloc());
     put(&mut table, 30)?;
     let written = [2, 0, 3, 9223372036854775806].map(|id| write_at(&mut table, id, 40));
     let again = write_at(&mut table, 2, 50);

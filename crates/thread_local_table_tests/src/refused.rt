@@ -3,6 +3,7 @@
 //! whichever it is, and says which call was refused; with ample memory it says nothing.
 
 use crate::held::{four_publish, taken};
+use crate::locals::numbers;
 use std::alloc::Global;
 use std::cell::Cell;
 use std::io::Print;
@@ -73,7 +74,7 @@ fn calls_once<R: Wait + Print>(mut local: Local<'_, u32, R>, rt: &R) -> bool {
 
 #[test]
 fn a_refusal_calls_no_closure(rt: HostRuntime) -> Result<(), Fail> {
-    let table = ThreadLocal::<u32>::new(rt.alloc());
+    let table = numbers(rt.alloc());
     let Some(local) = had(&table, &rt) else {
         return Ok(());
     };
@@ -101,7 +102,7 @@ fn publishes_after_errors<R: Wait + Print>(mut local: Local<'_, u32, R>, rt: &R)
 
 #[test]
 fn nothing_is_refused_after_an_error_of_the_closure(rt: HostRuntime) -> Result<(), Fail> {
-    let table = ThreadLocal::<u32>::new(rt.alloc());
+    let table = numbers(rt.alloc());
     let Some(local) = had(&table, &rt) else {
         return Ok(());
     };

@@ -1,6 +1,6 @@
 //! How large a table grows.
 
-use crate::locals::published;
+use crate::locals::{numbers, published};
 use std::alloc::Global;
 use std::sync::Wait;
 use std::test::Fail;
@@ -22,6 +22,10 @@ fn publish_held<R: Wait>(table: &ThreadLocal<u32>, rt: &R, alloc: Global, count:
     true
 }
 
+fn with_capacity(alloc: Global, capacity: usize) -> Result<ThreadLocal<u32>, CapacityError> {
+    ThreadLocal::with_capacity(alloc, capacity)
+}
+
 /// Whether a new `Local` publishes a number, and isn't refused.
 fn publish_alone<R: Wait>(table: &ThreadLocal<u32>, rt: &R, number: u32) -> bool {
     match table.local(rt) {
@@ -30,33 +34,49 @@ fn publish_alone<R: Wait>(table: &ThreadLocal<u32>, rt: &R, number: u32) -> bool
     }
 }
 
-#[test]
-fn locals_one_after_another_use_one_slot(rt: HostRuntime) -> Result<(), Fail> {
-    let mut table = ThreadLocal::<u32>::new(rt.alloc());
-    for number in 0..1000 {
-        assert!(rt; publish_alone(&table, &rt, number));
+fn publish_in_turn<R: Wait>(table: &ThreadLocal<u32>, rt: &R, count: u32) -> bool {
+    for number in 0..count {
+        if !publish_alone(table, rt, number) {
+            return false;
+        }
     }
-    assert_eq!(rt; table.slots(), 1);
-    Ok(())
+    true
 }
 
 #[test]
-fn locals_held_at_once_use_fewer_than_twice_as_many_slots(rt: HostRuntime) -> Result<(), Fail> {
+fn locals_one_after_another_use_one_slot(rt: HostRuntime) {
+    let mut table = numbers(rt.alloc());
+    let published = publish_in_turn(&table, &rt, 1000);
+    assert_eq!(rt; (published, table.slots()), (true, 1));
+}
+
+// Whether so many publish in a table while they are held, and how many slots it has then.
+fn held_and_slots<R: Wait>(
+    mut table: ThreadLocal<u32>,
+    rt: &R,
+    alloc: Global,
+    count: u32,
+) -> (bool, usize) {
+    let published = publish_held(&table, rt, alloc, count);
+    (published, table.slots())
+}
+
+#[test]
+fn locals_held_at_once_use_fewer_than_twice_as_many_slots(rt: HostRuntime) {
     for (count, slots) in [(1, 1), (2, 3), (3, 3), (4, 7), (7, 7), (8, 15)] {
-        let mut table = ThreadLocal::<u32>::new(rt.alloc());
-        let published = publish_held(&table, &rt, rt.alloc(), count);
-        assert_eq!(rt; (published, table.slots()), (true, slots));
+        assert_eq!(rt;
+            held_and_slots(numbers(rt.alloc()), &rt, rt.alloc(), count),
+            (true, slots)
+        );
     }
-    Ok(())
 }
 
 #[test]
 fn locals_held_beyond_a_capacity_use_no_more_slots_than_without(
     rt: HostRuntime,
 ) -> Result<(), Fail> {
-    let mut table = ThreadLocal::<u32>::with_capacity(rt.alloc(), 4)?;
-    let published = publish_held(&table, &rt, rt.alloc(), 9);
-    assert_eq!(rt; (published, table.slots()), (true, 15));
+    let table = with_capacity(rt.alloc(), 4)?;
+    assert_eq!(rt; held_and_slots(table, &rt, rt.alloc(), 9), (true, 15));
     Ok(())
 }
 
@@ -78,8 +98,8 @@ fn moves_out_none(table: ThreadLocal<u32>) -> bool {
 }
 
 #[test]
-fn a_new_table_has_no_slots_and_no_values(rt: HostRuntime) -> Result<(), Fail> {
-    let mut table = ThreadLocal::<u32>::new(rt.alloc());
+fn a_new_table_has_no_slots_and_no_values(rt: HostRuntime) {
+    let mut table = numbers(rt.alloc());
     let slots = table.slots();
     let shared = shares_none(&table);
     let lent = lends_none(&mut table);
@@ -87,25 +107,26 @@ fn a_new_table_has_no_slots_and_no_values(rt: HostRuntime) -> Result<(), Fail> {
         (slots, shared, lent, moves_out_none(table)),
         (0, true, true, true)
     );
-    Ok(())
+}
+
+fn reserved(alloc: Global, capacity: usize) -> Result<usize, CapacityError> {
+    Ok(with_capacity(alloc, capacity)?.slots())
 }
 
 #[test]
 fn a_capacity_reserves_the_slots_of_its_binary_digits(rt: HostRuntime) -> Result<(), Fail> {
     for (capacity, slots) in [(0, 0), (1, 1), (3, 3), (4, 7), (7, 7), (8, 15)] {
-        let mut table = ThreadLocal::<u32>::with_capacity(rt.alloc(), capacity)?;
-        assert_eq!(rt; table.slots(), slots);
+        assert_eq!(rt; reserved(rt.alloc(), capacity)?, slots);
     }
     Ok(())
 }
 
 #[test]
-fn a_capacity_may_be_too_large(rt: HostRuntime) -> Result<(), Fail> {
-    let too_large = ThreadLocal::<u32>::with_capacity(rt.alloc(), 9223372036854775808);
+fn a_capacity_may_be_too_large(rt: HostRuntime) {
+    let too_large = reserved(rt.alloc(), 9223372036854775808);
     assert!(rt; matches!(too_large, Err(CapacityError::TooLarge)));
-    let refused = ThreadLocal::<u32>::with_capacity(rt.alloc(), 9223372036854775807);
+    let refused = reserved(rt.alloc(), 9223372036854775807);
     assert!(rt; matches!(refused, Err(CapacityError::Memory(_))));
-    Ok(())
 }
 
 /// `Local`s that are held at once are reserved or not, each as is expected.
@@ -129,10 +150,10 @@ fn are_reserved<R: Wait>(
 
 #[test]
 fn places_below_the_reserved_slots_are_reserved(rt: HostRuntime) -> Result<(), Fail> {
-    let table = ThreadLocal::<u32>::with_capacity(rt.alloc(), 4)?;
+    let table = with_capacity(rt.alloc(), 4)?;
     let expected = [true, true, true, true, true, true, true, false];
     let as_expected = are_reserved(&table, &rt, rt.alloc(), &expected);
-    let other = ThreadLocal::<u32>::new(rt.alloc());
+    let other = numbers(rt.alloc());
     let other_as_expected = are_reserved(&other, &rt, rt.alloc(), &[false]);
     assert_eq!(rt; (as_expected, other_as_expected), (true, true));
     Ok(())

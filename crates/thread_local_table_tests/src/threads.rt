@@ -1,6 +1,6 @@
 //! Threads use one table, and `Local`s move between them.
 
-use crate::locals::{found, lends, published};
+use crate::locals::{found, lends, numbers, published};
 use std::sync::Wait;
 use std::sync::atomic::Ordering::SeqCst;
 use std::sync::atomic::{AtomicBool, AtomicU32};
@@ -46,8 +46,8 @@ fn beside_another<R: Threads + Wait + Sync>(
 }
 
 #[test]
-fn each_thread_has_its_own_value(rt: HostRuntime) -> Result<(), Fail> {
-    let table = ThreadLocal::<u32>::new(rt.alloc());
+fn each_thread_has_its_own_value(rt: HostRuntime) {
+    let table = numbers(rt.alloc());
     assert_eq!(rt;
         beside_another(&table, &rt),
         Some([
@@ -56,7 +56,6 @@ fn each_thread_has_its_own_value(rt: HostRuntime) -> Result<(), Fail> {
             (Some(0), Some(0), Some(0)),
         ])
     );
-    Ok(())
 }
 
 /// Publishes 3, and hands the `Local` back.
@@ -67,7 +66,7 @@ fn publish_three<'a, R: Wait>(mut local: Local<'a, u32, R>) -> Local<'a, u32, R>
 
 #[test]
 fn a_local_moves_to_another_thread_and_back(rt: HostRuntime) -> Result<(), Fail> {
-    let table = ThreadLocal::<u32>::new(rt.alloc());
+    let table = numbers(rt.alloc());
     let local = table.local(&rt)?;
     let (local, _) = thread::join(&rt, || publish_three(local), || ());
     assert_eq!(rt; found(&local), Some(3));
@@ -148,35 +147,62 @@ fn publish_within_by_its_own<R: Wait>(
     }
 }
 
-#[test]
-fn no_lock_is_held_while_a_closure_runs(rt: HostRuntime) -> Result<(), Fail> {
-    let table = ThreadLocal::<u32>::new(rt.alloc());
+// Two threads do so, each by a `Local` of its own.
+fn publish_one_within_another<R: Threads + Wait + Sync>(
+    table: &ThreadLocal<u32>,
+    rt: &R,
+) -> ((Option<u32>, bool), (Option<u32>, bool)) {
     let begun = AtomicBool::new(false);
     let answered = AtomicBool::new(false);
-    let (first, second) = thread::join(
-        &rt,
-        || publish_around_by_its_own(&table, &rt, &begun, &answered),
-        || publish_within_by_its_own(&table, &rt, &begun, &answered),
-    );
-    assert_eq!(rt; (first, second), ((Some(1), true), (Some(2), true)));
-    Ok(())
+    thread::join(
+        rt,
+        || publish_around_by_its_own(table, rt, &begun, &answered),
+        || publish_within_by_its_own(table, rt, &begun, &answered),
+    )
 }
 
 #[test]
-fn a_closure_that_waits_for_another_thread_may_take_a_local(rt: HostRuntime) -> Result<(), Fail> {
-    let mut table = ThreadLocal::<u32>::new(rt.alloc());
+fn no_lock_is_held_while_a_closure_runs(rt: HostRuntime) {
+    let table = numbers(rt.alloc());
+    let both = publish_one_within_another(&table, &rt);
+    assert_eq!(rt; both, ((Some(1), true), (Some(2), true)));
+}
+
+// Two threads do so with `Local`s that were taken before, and the first's closure publishes 9.
+fn publish_nine_beside_two<'a, R: Threads + Wait + Sync>(
+    first: Local<'a, u32, R>,
+    second: Local<'a, u32, R>,
+    table: &'a ThreadLocal<u32>,
+    rt: &'a R,
+) -> ((Option<u32>, bool), (Option<u32>, bool)) {
     let begun = AtomicBool::new(false);
     let answered = AtomicBool::new(false);
-    let first = table.local(&rt)?;
-    let second = table.local(&rt)?;
-    let both = thread::join(
-        &rt,
-        || publish_around(first, Some(&table), &rt, &begun, &answered),
+    thread::join(
+        rt,
+        || publish_around(first, Some(table), rt, &begun, &answered),
         || publish_within(second, &begun, &answered),
+    )
+}
+
+// What the two answer, or None where a `Local` was refused.
+fn take_two_and_publish<R: Threads + Wait + Sync>(
+    table: &ThreadLocal<u32>,
+    rt: &R,
+) -> Option<((Option<u32>, bool), (Option<u32>, bool))> {
+    let first = table.local(rt).ok()?;
+    let second = table.local(rt).ok()?;
+    Some(publish_nine_beside_two(first, second, table, rt))
+}
+
+#[test]
+fn a_closure_that_waits_for_another_thread_may_take_a_local(rt: HostRuntime) {
+    let mut table = numbers(rt.alloc());
+    let both = take_two_and_publish(&table, &rt);
+    let are_lent = lends(&mut table, &[1, 2, 9]);
+    assert_eq!(rt;
+        (both, are_lent),
+        (Some(((Some(1), true), (Some(2), true))), true)
     );
-    assert_eq!(rt; both, ((Some(1), true), (Some(2), true)));
-    assert!(rt; lends(&mut table, &[1, 2, 9]));
-    Ok(())
 }
 
 /// One more than what a `Local` of its own holds once it has published 6, or 0 where it can't.
@@ -206,17 +232,27 @@ fn publish_through_another_within<R: Wait>(
     (got, seen)
 }
 
-#[test]
-fn a_closure_may_use_another_local_of_the_table(rt: HostRuntime) -> Result<(), Fail> {
-    let mut table = ThreadLocal::<u32>::new(rt.alloc());
+// Two threads publish, the second through another `Local` within the first's closure.
+fn publish_through_another_within_one<R: Threads + Wait + Sync>(
+    table: &ThreadLocal<u32>,
+    rt: &R,
+) -> ((Option<u32>, bool), (Option<u32>, bool)) {
     let begun = AtomicBool::new(false);
     let answered = AtomicBool::new(false);
-    let (first, second) = thread::join(
-        &rt,
-        || publish_around_by_its_own(&table, &rt, &begun, &answered),
-        || publish_through_another_within(&table, &rt, &begun, &answered),
+    thread::join(
+        rt,
+        || publish_around_by_its_own(table, rt, &begun, &answered),
+        || publish_through_another_within(table, rt, &begun, &answered),
+    )
+}
+
+#[test]
+fn a_closure_may_use_another_local_of_the_table(rt: HostRuntime) {
+    let mut table = numbers(rt.alloc());
+    let both = publish_through_another_within_one(&table, &rt);
+    let are_lent = lends(&mut table, &[1, 7, 6]);
+    assert_eq!(rt;
+        (both, are_lent),
+        (((Some(1), true), (Some(7), true)), true)
     );
-    assert_eq!(rt; (first, second), ((Some(1), true), (Some(7), true)));
-    assert!(rt; lends(&mut table, &[1, 7, 6]));
-    Ok(())
 }

@@ -9,6 +9,7 @@ use std::cell::Cell;
 use std::sync::Wait;
 use std::test::Fail;
 use std::thread;
+use std::thread::Threads;
 use thread_local::ThreadLocal;
 use thread_local::local::{Local, SetError};
 use thread_local_buckets::Buckets;
@@ -82,11 +83,39 @@ fn found<T: Copy>(buckets: &mut Buckets<T>, token: &Token<T>) -> Option<T> {
     buckets.get_mut(Thread::new(token.id())).copied()
 }
 
+fn owned_and_found<T: Copy>(
+    table: ThreadLocal<T>,
+    one: &Token<T>,
+    other: &Token<T>,
+) -> (Option<T>, Option<T>)
+    requires sharing { (one.now.sharing ≡ table.sharing) × (other.now.sharing ≡ table.sharing) }
+    requires named { IsSome table.sharing }
+{
+    let mut buckets = owned(table, one, other);
+    (found(&mut buckets, one), found(&mut buckets, other))
+}
+
 /// Whether a shared walk that runs to its end gives as many values as expected.
 fn walks_with<T: Sync>(table: &ThreadLocal<T>, token: &Token<T>, expected: usize) -> bool
     requires { (token.now.sharing ≡ table.now.sharing) × IsSome table.now.sharing }
 {
     table.iter_with(token).count() == expected
+}
+
+// What two threads read, each by the other's token, and whether walks with the tokens give two.
+fn read_and_walked<R: Threads>(
+    table: &ThreadLocal<u32>,
+    rt: &R,
+    mine: &Token<u32>,
+    yours: &Token<u32>,
+) -> ((u32, u32), (bool, bool))
+    requires mine { mine.now.sharing ≡ table.now.sharing }
+    requires yours { yours.now.sharing ≡ table.now.sharing }
+    requires named { IsSome table.now.sharing }
+{
+    let read = thread::join(rt, || *table.value(yours), || *table.value(mine));
+    let walked = (walks_with(table, mine, 2), walks_with(table, yours, 2));
+    (read, walked)
 }
 
 #[test]
@@ -100,25 +129,37 @@ fn threads_read_each_other_by_tokens(rt: HostRuntime) -> Result<(), Fail> {
     let (yours, ()) = thread::join(&rt, || told(&table, &rt, 5), || {});
     let mine = mine.expect(&rt, "a token");
     let yours = yours.expect(&rt, "a token");
-    let read = thread::join(&rt, || *table.value(&yours), || *table.value(&mine));
-    let walked = (walks_with(&table, &mine, 2), walks_with(&table, &yours, 2));
+    let answers = read_and_walked(&table, &rt, &mine, &yours);
     drop(first);
-    let mut buckets = owned(table, &mine, &yours);
-    let owned = (found(&mut buckets, &mine), found(&mut buckets, &yours));
-    assert_eq!(rt; (read, walked), ((5, 3), (true, true)));
-    assert_eq!(rt; (mine.id(), yours.id(), owned), (0, 1, (Some(3), Some(5))));
+    let owned = owned_and_found(table, &mine, &yours);
+    assert_eq!(rt;
+        (answers, mine.id(), yours.id(), owned),
+        (((5, 3), (true, true)), 0, 1, (Some(3), Some(5)))
+    );
     Ok(())
 }
 
+// What a `Local` of another thread has by a token, and then one beside another, with the other's id.
+fn resumed_apart_and_beside<R: Threads + Wait + Sync>(
+    table: &ThreadLocal<u32>,
+    rt: &R,
+    token: &Token<u32>,
+) -> Option<(Option<u32>, Option<u32>, usize)>
+    requires { (token.now.sharing ≡ table.now.sharing) × IsSome table.now.sharing }
+{
+    let apart = thread::join(rt, || resumed(table, rt, token), || {}).0;
+    let first = table.local(rt).ok()?;
+    Some((apart, resumed(table, rt, token), first.id()))
+}
+
 #[test]
-fn the_next_holder_of_an_id_goes_on(rt: HostRuntime) -> Result<(), Fail> {
+fn the_next_holder_of_an_id_goes_on(rt: HostRuntime) {
     let table = ThreadLocal::<u32>::new(rt.alloc());
     let token = told(&table, &rt, 8).expect(&rt, "a token");
-    let resumed = thread::join(&rt, || resumed(&table, &rt, &token), || {}).0;
-    let first = table.local(&rt)?;
-    let other = self::resumed(&table, &rt, &token);
-    assert_eq!(rt; (resumed, other, first.id()), (Some(8), None, 0));
-    Ok(())
+    assert_eq!(rt;
+        resumed_apart_and_beside(&table, &rt, &token),
+        Some((Some(8), None, 0))
+    );
 }
 
 #[test]
@@ -141,17 +182,22 @@ fn cells(alloc: Global) -> ThreadLocal<Cell<u32>>
     ThreadLocal::new(alloc)
 }
 
+fn owned_cell(table: ThreadLocal<Cell<u32>>, token: &Token<Cell<u32>>) -> Option<u32>
+    requires { (token.now.sharing ≡ table.sharing) × IsSome table.sharing }
+{
+    let mut buckets = owned(table, token, &token.again());
+    buckets
+        .get_mut(Thread::new(token.id()))
+        .map(|cell| cell.get())
+}
+
 #[test]
-fn an_owner_finds_a_cell_by_its_token(rt: HostRuntime) -> Result<(), Fail> {
+fn an_owner_finds_a_cell_by_its_token(rt: HostRuntime) {
     let table = cells(rt.alloc());
     let (token, ()) = thread::join(&rt, || told(&table, &rt, Cell::new(4)), || {});
     let token = token.expect(&rt, "a token");
-    let mut buckets = owned(table, &token, &token.again());
-    let cell = buckets
-        .get_mut(Thread::new(token.id()))
-        .map(|cell| cell.get());
+    let cell = owned_cell(table, &token);
     assert_eq!(rt; (token.id(), cell), (0, Some(4)));
-    Ok(())
 }
 
 /// A token of a table of any type, for whoever has the table next.
@@ -163,33 +209,51 @@ fn generic<T: Send + Drop, R: Wait>(alloc: Global, rt: &R, value: T) -> Option<B
     Some(owned(table, &token, &token))
 }
 
-#[test]
-fn another_sharing_has_other_tokens(rt: HostRuntime) -> Result<(), Fail> {
-    let mut table = ThreadLocal::<u32>::new(rt.alloc());
-    let first = told(&table, &rt, 6).expect(&rt, "a token");
-    let read = read_at_last(&mut table, &first);
+fn add_one(table: &mut ThreadLocal<u32>) {
     for value in table.iter_mut() {
         *value = value.wrapping_add(1);
     }
-    table.renew();
-    let renewed = told(&table, &rt, 0).expect(&rt, "a token");
-    let read = (read, *table.value(&renewed));
-    table.clear();
-    let cleared = told(&table, &rt, 9).expect(&rt, "a token");
-    let cleared = (cleared.id(), *table.value(&cleared));
-    assert_eq!(rt; (read, cleared), ((6, 7), (0, 9)));
-    assert!(rt; generic(rt.alloc(), &rt, 2u8).is_some());
-    Ok(())
+}
+
+// Publishes a value with a new `Local`. Answers its id, and what is read by its token.
+fn told_and_read<R: Wait>(table: &ThreadLocal<u32>, rt: &R, value: u32) -> Option<(usize, u32)>
+    requires { IsSome table.now.sharing }
+{
+    let token = told(table, rt, value)?;
+    Some((token.id(), *table.value(&token)))
 }
 
 #[test]
-fn a_value_is_set_once(rt: HostRuntime) -> Result<(), Fail> {
-    let table = ThreadLocal::<u32>::new(rt.alloc());
-    let mut local = table.local(&rt)?;
-    let set = (local.set(1), local.set(2));
+fn another_sharing_has_other_tokens(rt: HostRuntime) {
+    let mut table = ThreadLocal::<u32>::new(rt.alloc());
+    let first = told(&table, &rt, 6).expect(&rt, "a token");
+    let read = read_at_last(&mut table, &first);
+    add_one(&mut table);
+    table.renew();
+    let renewed = told_and_read(&table, &rt, 0).expect(&rt, "a token").1;
+    table.clear();
+    let cleared = told_and_read(&table, &rt, 9);
+    let is_any_type_told = generic(rt.alloc(), &rt, 2u8).is_some();
     assert_eq!(rt;
-        (set, local.get()),
-        ((Ok(()), Err(SetError::Occupied(2))), Some(&1))
+        (read, renewed, cleared, is_any_type_told),
+        (6, 7, Some((0, 9)), true)
     );
-    Ok(())
+}
+
+// What a new `Local` is told when it sets 1, and when it then sets 2, and what it finds.
+fn set_twice<R: Wait>(
+    table: &ThreadLocal<u32>,
+    rt: &R,
+) -> Option<([Result<(), SetError<u32>>; 2], Option<u32>)> {
+    let mut local = table.local(rt).ok()?;
+    Some(([local.set(1), local.set(2)], local.get().copied()))
+}
+
+#[test]
+fn a_value_is_set_once(rt: HostRuntime) {
+    let table = ThreadLocal::<u32>::new(rt.alloc());
+    assert_eq!(rt;
+        set_twice(&table, &rt),
+        Some(([Ok(()), Err(SetError::Occupied(2))], Some(1)))
+    );
 }

@@ -1,25 +1,24 @@
 //! What a `Local` finds at its id, and what it publishes there.
 
-use crate::locals::{found, found_by_another, published, published_by_another};
+use crate::locals::{found, found_by_another, numbers, published, published_by_another};
 use std::alloc::Global;
+use std::fmt::Debug;
 use std::mem::swap;
 use std::sync::Wait;
-use std::test::Fail;
 use thread_local::ThreadLocal;
 use thread_local::local::{Local, TryError};
 
 #[test]
-fn the_first_value_stays(rt: HostRuntime) -> Result<(), Fail> {
-    let table = ThreadLocal::<u32>::new(rt.alloc());
+fn the_first_value_stays(rt: HostRuntime) {
+    let table = numbers(rt.alloc());
     assert_eq!(rt;
         published_by_another(&table, &rt, 5),
         Some([None, Some(5), Some(5)])
     );
-    Ok(())
 }
 
 /// Whether a `Local` is shown so.
-fn is_shown<R: Wait>(local: &Local<'_, u32, R>, alloc: Global, shown: &str) -> bool {
+fn is_shown<T: Debug, R: Wait>(local: &Local<'_, T, R>, alloc: Global, shown: &str) -> bool {
     match format!(in alloc; "{local:?}") {
         Ok(text) => text.as_str() == shown,
         Err(_) => false,
@@ -62,8 +61,8 @@ fn shown_and_asked<R: Wait>(
 }
 
 #[test]
-fn a_closure_is_called_once(rt: HostRuntime) -> Result<(), Fail> {
-    let mut table = ThreadLocal::<u32>::new(rt.alloc());
+fn a_closure_is_called_once(rt: HostRuntime) {
+    let mut table = numbers(rt.alloc());
     let answers = shown_and_asked(&table, &rt, rt.alloc());
     table.clear();
     let found = found_by_another(&table, &rt);
@@ -71,17 +70,20 @@ fn a_closure_is_called_once(rt: HostRuntime) -> Result<(), Fail> {
         (answers, found),
         (Some((true, (true, 1), true)), Some(None))
     );
-    Ok(())
 }
 
 #[test]
-fn a_reused_id_finds_the_earlier_value(rt: HostRuntime) -> Result<(), Fail> {
-    let table = ThreadLocal::<u32>::new(rt.alloc());
+fn a_reused_id_finds_the_earlier_value(rt: HostRuntime) {
+    let table = numbers(rt.alloc());
     let first = published_by_another(&table, &rt, 7);
     let second = published_by_another(&table, &rt, 9);
-    assert_eq!(rt; first, Some([None, Some(7), Some(7)]));
-    assert_eq!(rt; second, Some([Some(7), Some(7), Some(7)]));
-    Ok(())
+    assert_eq!(rt;
+        [first, second],
+        [
+            Some([None, Some(7), Some(7)]),
+            Some([Some(7), Some(7), Some(7)])
+        ]
+    );
 }
 
 /// Whether a closure's error is told as such, and leaves the slot of a new `Local` empty.
@@ -96,36 +98,44 @@ fn fails<R: Wait>(table: &ThreadLocal<u32>, rt: &R) -> bool {
 }
 
 #[test]
-fn an_error_leaves_the_slot_empty_and_its_bucket_standing(rt: HostRuntime) -> Result<(), Fail> {
-    let mut table = ThreadLocal::<u32>::new(rt.alloc());
+fn an_error_leaves_the_slot_empty_and_its_bucket_standing(rt: HostRuntime) {
+    let mut table = numbers(rt.alloc());
     let failed = fails(&table, &rt);
-    assert_eq!(rt; (failed, table.slots()), (true, 1));
+    let slots = table.slots();
     let next = published_by_another(&table, &rt, 4);
-    assert_eq!(rt; (next, table.slots()), (Some([None, Some(4), Some(4)]), 1));
-    Ok(())
+    assert_eq!(rt;
+        (failed, slots, next, table.slots()),
+        (true, 1, Some([None, Some(4), Some(4)]), 1)
+    );
+}
+
+// What a `Local` is told when it fills its slot, and what it finds then.
+fn filled<R: Wait>(
+    local: &mut Local<'_, u32, R>,
+    made: Result<u32, &'static str>,
+) -> (Result<(), TryError<&'static str>>, Option<u32>) {
+    let told = local.try_fill(move || made);
+    (told, found(local))
 }
 
 /// Fills the slot of a new `Local`, first with a closure that fails, then with one that makes 4,
 /// then with one that makes 5. Answers whether each is told as it ends, and what is found after each.
 fn filled_thrice<R: Wait>(table: &ThreadLocal<u32>, rt: &R) -> Option<(bool, [Option<u32>; 3])> {
     let mut local = table.local(rt).ok()?;
-    let failed = local.try_fill(|| Err("no"));
-    let first = found(&local);
-    let filled = local.try_fill(|| Ok::<u32, &str>(4));
-    let second = found(&local);
-    let kept = local.try_fill(|| Ok::<u32, &str>(5));
-    let told = (failed, filled, kept) == (Err(TryError::Create("no")), Ok(()), Ok(()));
-    Some((told, [first, second, found(&local)]))
+    let (failed, first) = filled(&mut local, Err("no"));
+    let (once, second) = filled(&mut local, Ok(4));
+    let (kept, third) = filled(&mut local, Ok(5));
+    let told = [failed, once, kept] == [Err(TryError::Create("no")), Ok(()), Ok(())];
+    Some((told, [first, second, third]))
 }
 
 #[test]
-fn a_slot_is_filled_once(rt: HostRuntime) -> Result<(), Fail> {
-    let table = ThreadLocal::<u32>::new(rt.alloc());
+fn a_slot_is_filled_once(rt: HostRuntime) {
+    let table = numbers(rt.alloc());
     assert_eq!(rt;
         filled_thrice(&table, &rt),
         Some((true, [None, Some(4), Some(4)]))
     );
-    Ok(())
 }
 
 /// What a new `Local` is told when it publishes the default, and what it finds then.
@@ -136,10 +146,9 @@ fn default_published<R: Wait>(table: &ThreadLocal<u32>, rt: &R) -> Option<[Optio
 }
 
 #[test]
-fn a_default_is_published(rt: HostRuntime) -> Result<(), Fail> {
-    let table = ThreadLocal::<u32>::new(rt.alloc());
+fn a_default_is_published(rt: HostRuntime) {
+    let table = numbers(rt.alloc());
     assert_eq!(rt; default_published(&table, &rt), Some([Some(0), Some(0)]));
-    Ok(())
 }
 
 /// Whether a new `Local` that publishes -3 is shown with it.
@@ -147,20 +156,14 @@ fn shows_a_negative_number<R: Wait>(table: &ThreadLocal<i32>, rt: &R, alloc: Glo
     let Ok(mut local) = table.local(rt) else {
         return false;
     };
-    if local.get_or(|| -3) != Ok(&-3) {
-        return false;
-    }
-    match format!(in alloc; "{local:?}") {
-        Ok(text) => text.as_str() == "ThreadLocal { local_data: Some(-3) }",
-        Err(_) => false,
-    }
+    let told = local.get_or(|| -3).ok().copied();
+    told == Some(-3) && is_shown(&local, alloc, "ThreadLocal { local_data: Some(-3) }")
 }
 
 #[test]
-fn a_negative_number_is_shown(rt: HostRuntime) -> Result<(), Fail> {
+fn a_negative_number_is_shown(rt: HostRuntime) {
     let table = ThreadLocal::<i32>::new(rt.alloc());
     assert!(rt; shows_a_negative_number(&table, &rt, rt.alloc()));
-    Ok(())
 }
 
 /// Beside a first `Local`, one of its table and one of another publish 2 and 3, and their seats are
@@ -202,14 +205,16 @@ fn found_by_two<R: Wait>(table: &ThreadLocal<u32>, rt: &R) -> Option<[Option<u32
 }
 
 #[test]
-fn swapped_seats_go_back_to_their_tables(rt: HostRuntime) -> Result<(), Fail> {
-    let table = ThreadLocal::<u32>::new(rt.alloc());
-    let other = ThreadLocal::<u32>::new(rt.alloc());
+fn swapped_seats_go_back_to_their_tables(rt: HostRuntime) {
+    let table = numbers(rt.alloc());
+    let other = numbers(rt.alloc());
+    let swapped = swap_the_latter_two(&table, &other, &rt);
+    let found = (found_by_two(&table, &rt), found_by_another(&other, &rt));
     assert_eq!(rt;
-        swap_the_latter_two(&table, &other, &rt),
-        Some((Some(1), Some(([Some(2), Some(3)], [Some(1), Some(1)]))))
+        (swapped, found),
+        (
+            Some((Some(1), Some(([Some(2), Some(3)], [Some(1), Some(1)])))),
+            (Some([Some(1), Some(2)]), Some(Some(3)))
+        )
     );
-    assert_eq!(rt; found_by_two(&table, &rt), Some([Some(1), Some(2)]));
-    assert_eq!(rt; found_by_another(&other, &rt), Some(Some(3)));
-    Ok(())
 }
