@@ -47,7 +47,7 @@ def walking(core):
 
 
 def is_granted_take(m):
-    return m.event[0] == "TakeId" and model.is_enabled(m.before, m.event) and not model.is_refused(m.before, m.event)
+    return model.is_granted_take(m.before, m.event)
 
 
 def is_clear(m):
@@ -74,7 +74,7 @@ def clause_least(m):
     """A granted take makes a Local with the least id that isn't held, and with no call behind it."""
     if not is_granted_take(m):
         return True
-    made = live_local(m.after, len(m.before.locals))
+    made = model.newcomer(m.before, m.event)
     return made is not None and made.id == least(model.shadow(m.before).held) and made.calls == () and made.answers == ()
 
 
@@ -103,7 +103,7 @@ def clause_answers(m):
 def clause_start(m):
     if not is_granted_take(m):
         return True
-    made, sheet = live_local(m.after, len(m.before.locals)), model.shadow(m.before)
+    made, sheet = model.newcomer(m.before, m.event), model.shadow(m.before)
     value = sheet.values[made.id]
     return made.start == View(value, is_reserved(sheet.capacity, made.id) or value is not None)
 
@@ -121,12 +121,11 @@ def clause_history(m):
 
 def clause_others(m):
     """Only a Local's own events change it."""
-    own = m.event[1] if m.event[0] in ("OfLocal", "GiveBack", "Forget") else None
-    return all(n == own or live_local(m.after, n) == it for n, it in live(m.before))
+    return all(model.is_of(n, m.event) or live_local(m.after, n) == it for n, it in live(m.before))
 
 
 def clause_ends(m):
-    ends = m.event in (("Owner", ("IntoIter",)), ("Owner", ("DropTable",))) and model.is_enabled(m.before, m.event)
+    ends = model.ends_table(m.event) and model.is_enabled(m.before, m.event)
     return m.after.ended == (m.before.ended or ends)
 
 
@@ -148,7 +147,7 @@ def clause_slots_of_cleared(m):
 
 
 def clause_after_clear(m):
-    if not is_clear(m):
+    if not is_clear(m) or not model.none_taken(m.after, ()):
         return True
     made = live_local(model.happens(m.after, ("TakeId", False, 0)), len(m.after.locals))
     return made is not None and made.id == 0 and made.start == View(None, is_reserved(m.capacity, 0))
@@ -305,10 +304,6 @@ def has_no_call(local):
     return local is not None and under_way(local.doing) == (0, None)
 
 
-def own_number(local):
-    return local.doing[2] if local.doing[0] == "Private" else None
-
-
 def clause_takes(m):
     return m.after.ended or all(model.is_enabled(m.after, ("TakeId", refused, 0)) for refused in (False, True))
 
@@ -394,8 +389,8 @@ def clause_goes_on(m):
 
 def clause_numbers(m):
     """Two pointers lead to two buckets, and to a bucket of a call's own no pointer leads and it is of no other call."""
-    named = [it.number for it in m.after.table.pointers if it is not None]
-    own = [own_number(it) for _, it in live(m.after) if own_number(it) is not None]
+    named = [it for it in (model.named(m.after.table, b) for b in range(model.BUCKETS)) if it is not None]
+    own = [it for it in (model.own_number(local.doing) for _, local in live(m.after)) if it is not None]
     return len(set(named + own)) == len(named + own)
 
 
@@ -405,16 +400,15 @@ def clause_ids(m):
 
 def clause_walks_come(m):
     """A walk begins fresh, and comes by its beginning alone."""
-    begins = m.event == ("BeginWalk",) and model.is_enabled(m.before, m.event)
+    begins = model.begins_walk(m.event) and model.is_enabled(m.before, m.event)
     new = [(n, it) for n, it in walking(m.after) if live_walk(m.before, n) is None]
     return new == ([(len(m.before.walks), model.Walk())] if begins else [])
 
 
 def clause_walks_apart(m):
     """No event but a walk's own steps and its end changes it; after its end it is under way no longer."""
-    own = m.event[1] if m.event[0] in ("OfWalk", "EndWalk") else None
-    ended = m.event[0] != "EndWalk" or live_walk(m.after, own) is None
-    return ended and all(n == own or live_walk(m.after, n) == it for n, it in walking(m.before))
+    ended = m.event[0] != "EndWalk" or live_walk(m.after, m.event[1]) is None
+    return ended and all(model.is_of_walk(n, m.event) or live_walk(m.after, n) == it for n, it in walking(m.before))
 
 
 def clause_walks_go_on(m):
@@ -473,7 +467,7 @@ def clause_newcomers(m):
     """A Local comes with no call under way, and has learnt nothing."""
     if not is_granted_take(m):
         return True
-    made = live_local(m.after, len(m.before.locals))
+    made = model.newcomer(m.before, m.event)
     return has_no_call(made) and made.learnt == ("Unknown",)
 
 
@@ -571,15 +565,83 @@ def clause_known_answers(m):
     return all(told(view, it, True) == told(view, it, False) for view in views for it in (("Ok", "any"), ("Err", "any")))
 
 
-# ---- clauses on what the words of the bounds say -----------------------------------------------------------
+# ---- clauses on what the words say -------------------------------------------------------------------------
 
 
 def clause_installed(m):
     return model.slots(m.after.table) == sum(2**b for b in range(model.BUCKETS) if model.bucket_stands(m.after.table, b))
 
 
+def offering(m):
+    """The Locals whose calls have made a bucket and not yet offered it."""
+    return [it for _, it in live(m.after) if it.doing[0] == "Private"]
+
+
+def clause_own(m):
+    return all(model.own_number(it.doing) == it.doing[2] for it in offering(m))
+
+
 def clause_own_slots(m):
-    return all(own_number(it) is None or model.private_slots(it.id, it.doing) == 2 ** bucket_of(it.id) for _, it in live(m.after))
+    return all(model.private_slots(it.id, it.doing) == 2 ** bucket_of(it.id) for it in offering(m))
+
+
+def clause_named(m):
+    return all(model.named(m.after.table, b) == (it and it.number) for b, it in enumerate(m.after.table.pointers))
+
+
+def clause_take(m):
+    return not model.is_take(m.event) or m.event[0] == "TakeId"
+
+
+def clause_owners(m):
+    return not model.is_exclusive(m.event) or m.event[0] == "Owner"
+
+
+def clause_of_local(m):
+    """What is called an event of a Local is a step of it, its drop, or its being forgotten."""
+    numbers = range(len(m.after.locals))
+    return all(not model.is_of(n, m.event) or (m.event[0] in ("OfLocal", "GiveBack", "Forget") and m.event[1] == n) for n in numbers)
+
+
+def clause_of_walk(m):
+    numbers = range(len(m.after.walks))
+    return all(not model.is_of_walk(n, m.event) or (m.event[0] in ("OfWalk", "EndWalk") and m.event[1] == n) for n in numbers)
+
+
+def clause_walk_begins(m):
+    return not model.begins_walk(m.event) or m.event == ("BeginWalk",)
+
+
+def clause_table_ends(m):
+    return not model.ends_table(m.event) or m.event in (("Owner", ("IntoIter",)), ("Owner", ("DropTable",)))
+
+
+def clause_ungranted(m):
+    """A take that is enabled is granted or refused."""
+    enabled = m.event[0] == "TakeId" and model.is_enabled(m.before, m.event)
+    return not enabled or model.is_granted_take(m.before, m.event) or model.is_refused(m.before, m.event)
+
+
+def clause_made(m):
+    """A bucket that gets its memory isn't refused."""
+    return m.event[0] != "OfLocal" or m.event[2] != ("MakeBucket", False) or not model.is_refused(m.before, m.event)
+
+
+def clause_newcomer(m):
+    """The Local that comes is the newcomer."""
+    return all(live_local(m.before, n) is not None or model.newcomer(m.before, m.event) == it for n, it in live(m.after))
+
+
+def clause_no_event(m):
+    return model.none_taken(m.after, ())
+
+
+def clause_none_taken(m):
+    return model.is_granted_take(m.before, m.event) or model.none_taken(m.before, (m.event,))
+
+
+def clause_no_take(m):
+    return model.takes_below(0, m.after, ())
 
 
 @dataclass
@@ -1135,7 +1197,20 @@ def wrong_effects():
         after = model.walk_look(table, it)
         return after if after is None else replace(after, read=it.read)
 
+    def never_taken(core, event):
+        return event[0] == "TakeId" and model.is_enabled(core, event) and model.is_granted(core, event[1])
+
+    def made_up(core, event):
+        identity = least(core.held)
+        return model.Local(identity, ("Unknown",), ("Gets", 0), model.first_view(model.shadow(core), identity))
+
+    def takes_another_view(core, refused, growth):
+        after = right["take"](core, refused, growth)
+        n = len(core.locals)
+        return after if after is core else model.with_local(after, n, replace(after.locals[n], start=View("another", True)))
+
     kept_view, kept_below, kept_nothing = model.view_after, model.takes_below, model.refuses_nothing
+    kept_of, kept_of_walk, kept_ends, kept_begins = model.is_of, model.is_of_walk, model.ends_table, model.begins_walk
 
     def steps(**it):
         return {"LOCAL_STEPS": {**model.LOCAL_STEPS, **it}}
@@ -1170,6 +1245,22 @@ def wrong_effects():
         "takes below a bound may meet it": {"takes_below": lambda bound, core, events: kept_below(bound + 1, core, events)},
         "takes below a bound come below a lower one": {"takes_below": lambda bound, core, events: kept_below(bound - 1, core, events)},
         "nothing refused is said of the first event": {"refuses_nothing": lambda core, events: kept_nothing(core, events[:1])},
+        "takes below a bound are none, not even of no event": {"takes_below": lambda bound, core, events: False},
+        "every event is exclusive": {"is_exclusive": lambda event: True},
+        "every event is a take": {"is_take": lambda event: True},
+        "a take is never said to be refused": {
+            "is_refused": lambda core, event: event[0] != "TakeId" and right["is_refused"](core, event),
+            "is_granted_take": never_taken,
+        },
+        "a newcomer is made up, and another one comes": {"newcomer": made_up, "take": takes_another_view},
+        "each give back is of every Local": {"is_of": lambda n, event: event[0] == "GiveBack" or kept_of(n, event)},
+        "each walk's end is of every walk": {"is_of_walk": lambda n, event: event[0] == "EndWalk" or kept_of_walk(n, event)},
+        "a take is said to end a table": {"ends_table": lambda event: event[0] == "TakeId" or kept_ends(event)},
+        "a forget is said to begin a walk": {"begins_walk": lambda event: event[0] == "Forget" or kept_begins(event)},
+        "none is taken by no event alone": {"none_taken": lambda core, events: not events},
+        "none is never taken": {"none_taken": lambda core, events: False},
+        "a pointer has no name": {"named": lambda table, bucket: None},
+        "a bucket of a call's own has no number": {"own_number": lambda doing: None},
     }
 
 

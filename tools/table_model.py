@@ -602,6 +602,53 @@ def is_take(event):
     return event[0] == "TakeId"
 
 
+def is_of(number, event):
+    """A step of this Local, its drop, or its being forgotten."""
+    return event[0] in ("OfLocal", "GiveBack", "Forget") and event[1] == number
+
+
+def is_of_walk(number, event):
+    """A step or the end of this walk."""
+    return event[0] in ("OfWalk", "EndWalk") and event[1] == number
+
+
+def begins_walk(event):
+    return event == ("BeginWalk",)
+
+
+def ends_table(event):
+    return event in (("Owner", ("IntoIter",)), ("Owner", ("DropTable",)))
+
+
+def is_granted_take(core, event):
+    """A take that is enabled and isn't refused."""
+    return is_take(event) and is_enabled(core, event) and not is_refused(core, event)
+
+
+def newcomer(core, event):
+    """The Local that a granted take makes."""
+    return live_local(happens(core, event), len(core.locals))
+
+
+def none_taken(core, events):
+    """No event of a schedule gives an id to a Local."""
+    for event in events:
+        if is_granted_take(core, event):
+            return False
+        core = happens(core, event)
+    return True
+
+
+def named(table, bucket):
+    """The number of the bucket that a pointer leads to."""
+    return None if table.pointers[bucket] is None else table.pointers[bucket].number
+
+
+def own_number(doing):
+    """The number of the bucket that a call has made and not yet offered."""
+    return doing[2] if doing[0] == "Private" else None
+
+
 def refuses_nothing(core, events):
     """No event of a schedule ends in a refusal."""
     for event in events:
