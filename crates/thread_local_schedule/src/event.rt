@@ -1,15 +1,18 @@
 //! What every event needs and does, and which cores schedules reach.
-ghost use Rattle.std.specs.Prelude.{◌≡◌, ℕ, ◌+◌, ◌^◌, ◌<◌, ◌≤◌, Bool, true, false, Result, Err, Some, None, IsTrue, IsSome, IsSomeAnd, MatchOption, if◌then◌else◌};
+ghost use Rattle.std.specs.Prelude.{◌≡◌, ℕ, ◌+◌, ◌^◌, ◌<◌, ◌≤◌, Bool, true, false, Result, Err, Some, None, IsTrue};
+ghost use Rattle.std.specs.Prelude.{IsSome, IsSomeAnd, MatchOption, if◌then◌else◌};
 ghost use Rattle.thread_local_model.specs.Place.{bucket_of};
 ghost use Rattle.thread_local_model.specs.Learnt.{Unknown, Missing, Standing, Vacant, Holding};
 ghost use Rattle.thread_local_model.specs.Answers.{Failed};
 ghost use Rattle.thread_local_schedule.specs.Table.{bucket_stands};
-ghost use Rattle.thread_local_schedule.specs.Local.{Local, LocalStep, BeginGet, BeginGetOr, LoadPointer, LookAtFlag, MakeBucket, InstallBucket, WriteValue};
+ghost use Rattle.thread_local_schedule.specs.Local.{Local, LocalStep, BeginGet, BeginGetOr, LoadPointer};
+ghost use Rattle.thread_local_schedule.specs.Local.{LookAtFlag, MakeBucket, InstallBucket, WriteValue};
 ghost use Rattle.thread_local_schedule.specs.Calls.{gets_of, closure_of, HasNoCall, steps_left, GoesDown, EndsWith};
 ghost use Rattle.thread_local_schedule.specs.SharedWalk.{WalkStep};
 ghost use Rattle.thread_local_schedule.specs.OwnerWalk.{rewritten};
 ghost use Rattle.thread_local_schedule.specs.Core.{Core, made_core, shadow};
-ghost use Rattle.thread_local_schedule.specs.Events.{Event, OfLocal, OfWalk, EndWalk, Owner, IterMut, Slots, is_enabled, happens};
+ghost use Rattle.thread_local_schedule.specs.Events.{Event, OfLocal, OfWalk, EndWalk, Owner, IterMut, Slots};
+ghost use Rattle.thread_local_schedule.specs.Events.{is_enabled, happens};
 ghost use Rattle.thread_local_schedule.specs.Schedule.{is_take, is_refused, is_granted_take, newcomer, IsReached};
 
 /// What every event needs and does, beside what the other theorems say: so that those aren't about

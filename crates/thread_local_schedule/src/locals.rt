@@ -1,10 +1,13 @@
 //! What each atomic step of a `Local` keeps, and what its calls answer.
-ghost use Rattle.std.specs.Prelude.{◌≡◌, ◌≢◌, ℕ, ◌∷◌, [], Bool, false, Some, None, Result, Err, IsTrue, IsSome, IfSome, IsSomeAnd, MatchOption, if◌then◌else◌};
+ghost use Rattle.std.specs.Prelude.{◌≡◌, ◌≢◌, ℕ, ◌∷◌, [], Bool, false, Some, None, Result, Err, IsTrue, IsSome};
+ghost use Rattle.std.specs.Prelude.{IfSome, IsSomeAnd, MatchOption, if◌then◌else◌};
 ghost use Rattle.thread_local_model.specs.Place.{bucket_of};
 ghost use Rattle.thread_local_model.specs.Learnt.{Missing, Standing, Vacant, Holding};
 ghost use Rattle.thread_local_model.specs.Answers.{Found, Answered, Refused, Failed};
 ghost use Rattle.thread_local_schedule.specs.Table.{Table, made_table, published, bucket_stands};
-ghost use Rattle.thread_local_schedule.specs.Local.{Local, LocalStep, BeginGet, BeginGetOr, LoadPointer, LookAtFlag, MakeBucket, InstallBucket, WriteValue, fresh_local, local_step, local_steps, five_calls};
+ghost use Rattle.thread_local_schedule.specs.Local.{Local, LocalStep, BeginGet, BeginGetOr, LoadPointer};
+ghost use Rattle.thread_local_schedule.specs.Local.{LookAtFlag, MakeBucket, InstallBucket, WriteValue, fresh_local};
+ghost use Rattle.thread_local_schedule.specs.Local.{local_step, local_steps, five_calls};
 ghost use Rattle.thread_local_schedule.specs.Fits.{AllWritten, LocalFits, ChangesOnly, StepFits, value_set};
 ghost use Rattle.thread_local_schedule.specs.Calls.{closure_of, HasNoCall, GoesOn, HasLearnt, GoesDown, EndsWith};
 ghost use Rattle.thread_local_schedule.specs.Numbers.{NumbersGo};

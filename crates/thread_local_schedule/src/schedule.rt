@@ -1,5 +1,7 @@
 //! What holds of a table over every schedule of atomic steps.
-ghost use Rattle.std.specs.Prelude.{◌≡◌, ◌≢◌, ℕ, ◌-◌, ◌^◌, ◌<◌, ◌≤◌, ◌⊎◌, Bool, false, List, [], length, Contains, Some, None, IsTrue, IfSome, IsSomeAnd, ◌*◌, max, ◌∷◌, true, slice_get, if◌then◌else◌};
+ghost use Rattle.std.specs.Prelude.{◌≡◌, ◌≢◌, ℕ, ◌-◌, ◌^◌, ◌<◌, ◌≤◌, ◌⊎◌, Bool, false, List, [], length, Contains};
+ghost use Rattle.std.specs.Prelude.{Some, None, IsTrue, IfSome, IsSomeAnd, ◌*◌, max, ◌∷◌, true, slice_get};
+ghost use Rattle.std.specs.Prelude.{if◌then◌else◌};
 ghost use Rattle.thread_local_model.specs.Held.{is_held, least, HoldsAllBelow, held_count};
 ghost use Rattle.thread_local_model.specs.Walk.{walk};
 ghost use Rattle.thread_local_model.specs.Cursor.{is_complete};
@@ -13,9 +15,13 @@ ghost use Rattle.thread_local_schedule.specs.Cleared.{cleared};
 ghost use Rattle.thread_local_schedule.specs.Fits.{IsWritten, named};
 ghost use Rattle.thread_local_schedule.specs.Calls.{HasNoCall, GoesOn};
 ghost use Rattle.thread_local_schedule.specs.Numbers.{own_number};
-ghost use Rattle.thread_local_schedule.specs.Core.{Core, shadow, peak, made_core, new_core, installed_slots, private_slots};
-ghost use Rattle.thread_local_schedule.specs.Events.{Event, TakeId, OfLocal, GiveBack, Forget, BeginWalk, OwnerCall, Owner, ClearTable, is_enabled, happens, run, IntoIter, DropTable, IterMut};
-ghost use Rattle.thread_local_schedule.specs.Schedule.{move, is_exclusive, is_of, IsAlone, is_refused, is_granted_take, newcomer, IsReached, NoneTaken, ends_table};
+ghost use Rattle.thread_local_schedule.specs.Core.{Core, shadow, peak, made_core, new_core, installed_slots};
+ghost use Rattle.thread_local_schedule.specs.Core.{private_slots};
+ghost use Rattle.thread_local_schedule.specs.Events.{Event, TakeId, OfLocal, GiveBack, Forget, BeginWalk};
+ghost use Rattle.thread_local_schedule.specs.Events.{OwnerCall, Owner, ClearTable, is_enabled, happens, run};
+ghost use Rattle.thread_local_schedule.specs.Events.{IntoIter, DropTable, IterMut};
+ghost use Rattle.thread_local_schedule.specs.Schedule.{move, is_exclusive, is_of, IsAlone, is_refused};
+ghost use Rattle.thread_local_schedule.specs.Schedule.{is_granted_take, newcomer, IsReached, NoneTaken, ends_table};
 ghost use Rattle.thread_local_model.specs.Buckets.{slots};
 ghost use Rattle.thread_local_schedule.specs.Bounds.{most_held, publishings};
 ghost use Rattle.thread_local_schedule.specs.Story.{after_publishing, after_walking, after_next, after_all};

@@ -1,21 +1,29 @@
 //! What the words of the theorems say, each from the side on which it promises nothing.
-ghost use Rattle.std.specs.Prelude.{◌≡◌, ℕ, ◌+◌, ◌^◌, ◌<◌, ◌⊎◌, Bool, true, false, List, [], Some, None, IsTrue, IsSomeAnd, ◌∷◌, ◌++◌, Result, ◌↔◌, suc, IsSome};
+ghost use Rattle.std.specs.Prelude.{◌≡◌, ℕ, ◌+◌, ◌^◌, ◌<◌, ◌⊎◌, Bool, true, false, List, [], Some, None, IsTrue};
+ghost use Rattle.std.specs.Prelude.{IsSomeAnd, ◌∷◌, ◌++◌, Result, ◌↔◌, suc, IsSome};
 ghost use Rattle.thread_local_model.specs.Held.{held_count, HoldsAllBelow, is_held};
 ghost use Rattle.thread_local_model.specs.Walk.{walk};
 ghost use Rattle.thread_local_schedule.specs.Table.{bucket_stands, Table, Slot};
-ghost use Rattle.thread_local_schedule.specs.Local.{Local, LocalStep, Doing, MakeBucket, Private, BeginGet, BeginGetOr, LoadPointer, LookAtFlag, InstallBucket, WriteValue, SetFlag, Reply};
+ghost use Rattle.thread_local_schedule.specs.Local.{Local, LocalStep, Doing, MakeBucket, Private, BeginGet};
+ghost use Rattle.thread_local_schedule.specs.Local.{BeginGetOr, LoadPointer, LookAtFlag, InstallBucket, WriteValue};
+ghost use Rattle.thread_local_schedule.specs.Local.{SetFlag, Reply};
 ghost use Rattle.thread_local_schedule.specs.SharedWalk.{WalkStep};
 ghost use Rattle.thread_local_schedule.specs.Fits.{named, IsWritten};
 ghost use Rattle.thread_local_schedule.specs.Numbers.{own_number};
 ghost use Rattle.thread_local_schedule.specs.Core.{Core, installed_slots, private_slots};
-ghost use Rattle.thread_local_schedule.specs.Events.{Event, TakeId, OfLocal, GiveBack, Forget, BeginWalk, OfWalk, EndWalk, OwnerCall, Owner, is_enabled, happens, run, IntoIter, DropTable};
-ghost use Rattle.thread_local_schedule.specs.Schedule.{begins_walk, is_exclusive, is_of, is_of_walk, is_refused, is_granted_take, newcomer, IsReached, NoneTaken, is_take, ends_table, IsAlone};
+ghost use Rattle.thread_local_schedule.specs.Events.{Event, TakeId, OfLocal, GiveBack, Forget, BeginWalk, OfWalk};
+ghost use Rattle.thread_local_schedule.specs.Events.{EndWalk, OwnerCall, Owner, is_enabled, happens, run, IntoIter};
+ghost use Rattle.thread_local_schedule.specs.Events.{DropTable};
+ghost use Rattle.thread_local_schedule.specs.Schedule.{begins_walk, is_exclusive, is_of, is_of_walk, is_refused};
+ghost use Rattle.thread_local_schedule.specs.Schedule.{is_granted_take, newcomer, IsReached, NoneTaken, is_take};
+ghost use Rattle.thread_local_schedule.specs.Schedule.{ends_table, IsAlone};
 ghost use Rattle.thread_local_model.specs.Place.{bucket_of};
 ghost use Rattle.thread_local_model.specs.Buckets.{slots};
 ghost use Rattle.thread_local_schedule.specs.Bounds.{TakesBelow, NothingRefused};
 ghost use Rattle.thread_local_model.specs.Sheet.{Sheet, IsAllowed, Give, Publish};
 ghost use Rattle.thread_local_model.specs.Answers.{Answer, Refused, Get, GetOr};
-ghost use Rattle.thread_local_schedule.specs.Calls.{gets_of, closure_of, HasNoCall, GoesOn, steps_left, GoesDown, EndsWith};
+ghost use Rattle.thread_local_schedule.specs.Calls.{gets_of, closure_of, HasNoCall, GoesOn, steps_left, GoesDown};
+ghost use Rattle.thread_local_schedule.specs.Calls.{EndsWith};
 
 /// What the words say in which the theorems are told, each by what makes it true and by what it
 /// makes true: so that no clause holds only because a word in it is true of nothing.

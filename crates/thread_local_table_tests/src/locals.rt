@@ -5,6 +5,7 @@ use std::sync::Wait;
 use thread_local::ThreadLocal;
 use thread_local::local::Local;
 
+/// A table of numbers.
 pub fn numbers(alloc: Global) -> ThreadLocal<u32> {
     ThreadLocal::new(alloc)
 }
