@@ -1,6 +1,6 @@
 -- How many values the flags of a chunk count.
 use Rattle.std.proofs.Common.{◌≡◌, ◌≢◌, ◌⊎◌, inl, inr, ℕ, ◌+◌, ◌-◌, ◌*◌, ◌/◌, ◌%◌, ◌^◌, ◌<◌, ◌≤◌, min, length}
-use Rattle.std.proofs.Common.{count_ones, is_some, ap, ◌∙◌, arith, ⊎_elim}
+use Rattle.std.proofs.Common.{zero, suc, [], count_ones, is_some, ap, ◌∙◌, arith, ⊎_elim}
 use Rattle.std.proofs.lemmas.Bool.{cases_lt}
 use Rattle.std.proofs.lemmas.Nat.{pow_below, pow-add, zero_from_ones}
 use Rattle.thread_local_lemmas.specs.Bits.{is_set}
@@ -8,6 +8,7 @@ use Rattle.thread_local_model.specs.Place.{id_at}
 use Rattle.thread_local_model.specs.Buckets.{Contents, row, values}
 use Rattle.thread_local_model.specs.Rows.{value_in}
 use Rattle.thread_local_model.specs.Counting.{count_below}
+use Rattle.thread_local_model.proofs.TakingLaws.{count_below-absent}
 use Rattle.thread_local_cursor.proofs.CountingLaws.{count_below-chunk}
 
 module _ {V : Type 0} (first now : Contents V) (b k word : ℕ) (same : now ≡ first)
@@ -64,3 +65,14 @@ whole_chunks b =
 -- groups of eight chunks are inside their bucket
 pub groups_inside : (b groups : ℕ) → groups ≤ (2 ^ b + 63) / 64 / 8 → groups * 8 * 64 ≤ 2 ^ b
 groups_inside b groups few = ⊎_elim (λ (small : 2 ^ b < 64). omega arith) (λ (whole : 2 ^ b % 64 ≡ 0). omega arith) (whole_chunks b)
+
+-- buckets that don't stand add none
+pub absent_counted : {V : Type 0} (c : Contents V) (first n : ℕ)
+    → ((k : ℕ) → first ≤ k → k < first + n → row c k ≡ [])
+    → count_below (values c) (id_at (first + n) 0) ≡ count_below (values c) (id_at first 0)
+absent_counted c first zero absent = let none : first + 0 ≡ first = omega arith in ap (λ b. count_below (values c) (id_at b 0)) none
+absent_counted c first (suc n) absent =
+    let next : first + suc n ≡ first + n + 1 = omega arith in
+    ap (λ b. count_below (values c) (id_at b 0)) next
+    ∙ count_below-absent c (first + n) (absent (first + n) (omega arith) (omega arith))
+    ∙ absent_counted c first n (λ k from within. absent k from (omega (arith, within)))

@@ -10,20 +10,10 @@ use super::BucketPointers;
 use thread_local_cursor::FlagSource;
 use thread_local_thread_id::{BUCKETS, bucket_size};
 
-impl<T: Drop> BucketPointers<T> {
-    /// Drops the values of a bucket that stands, and keeps the bucket.
-    fn empty(&mut self, bucket: usize)
-        requires in_table { bucket < 63 }
-        requires stands { stands self.old bucket ≡ true }
-        ensures after { self.new ≡ with_row self.old bucket (empty_row bucket) }
-        ensures table { IsTable self.old }
-    {
-        self.pointers.pointer_mut(bucket).empty(bucket_size(bucket));
-    }
-
+impl<T> BucketPointers<T> {
     /// Whether any of seven buckets stands, from this one on.
     #[inline]
-    fn any_of_seven(&mut self, first: usize) -> bool
+    pub(super) fn any_of_seven(&mut self, first: usize) -> bool
         requires { first + 7 ≤ 63 }
         ensures none { result ≡ false
             → (bucket : ℕ)
@@ -38,6 +28,18 @@ impl<T: Drop> BucketPointers<T> {
             any |= self.stands(first + at);
         }
         any
+    }
+}
+
+impl<T: Drop> BucketPointers<T> {
+    /// Drops the values of a bucket that stands, and keeps the bucket.
+    fn empty(&mut self, bucket: usize)
+        requires in_table { bucket < 63 }
+        requires stands { stands self.old bucket ≡ true }
+        ensures after { self.new ≡ with_row self.old bucket (empty_row bucket) }
+        ensures table { IsTable self.old }
+    {
+        self.pointers.pointer_mut(bucket).empty(bucket_size(bucket));
     }
 
     /// Drops the values of the buckets `first..end`, and frees those of them that have none of the

@@ -7,7 +7,7 @@ ghost use Rattle.thread_local_model.specs.Counting.{count_below};
 
 use super::BucketPointers;
 use thread_local_cursor::FlagSource;
-use thread_local_thread_id::BUCKETS;
+use thread_local_thread_id::{BUCKETS, bucket_size};
 
 impl<T> BucketPointers<T> {
     /// The flags of eight chunks, from this one on, or-ed together. They are 0 exactly where none of
@@ -72,21 +72,41 @@ impl<T> BucketPointers<T> {
         count + self.count_in_chunks(bucket, groups * 8, chunks)
     }
 
-    /// How many values there are. It reads the flags of all slots of the buckets that stand.
+    /// How many values the buckets `first..end` have.
+    #[inline(never)]
+    fn count_between(&mut self, first: usize, end: usize) -> usize
+        requires order { first < end }
+        requires inside { end ≤ 63 }
+        ensures same { self.new ≡ self.old }
+        ensures counted { count_below (values self.old) (id_at first 0) + result
+            ≡ count_below (values self.old) (id_at end 0) }
+    {
+        let mut count = 0;
+        // The size is doubled, not shifted anew: the loop over a bucket's chunks then ends at a
+        // plain number.
+        let mut size = bucket_size(first);
+        for bucket in first..end {
+            if self.stands(bucket) {
+                count += self.count_in_bucket(bucket, size);
+            }
+            size *= 2;
+        }
+        count
+    }
+
+    /// How many values there are. It reads the flags of all slots of the buckets that stand. Seven
+    /// buckets of which none stands are skipped at once.
     pub fn count_values(&mut self) -> usize
         ensures same { self.new ≡ self.old }
         ensures counted { result ≡ length (walk (values self.old)) }
         ensures fits { result < 2 ^ 63 }
     {
         let mut count = 0;
-        // The size is doubled, not shifted anew: the loop over a bucket's chunks then ends at a
-        // plain number.
-        let mut size = 1;
-        for bucket in 0..BUCKETS {
-            if self.stands(bucket) {
-                count += self.count_in_bucket(bucket, size);
+        for group in 0..BUCKETS / 7 {
+            let first = group * 7;
+            if self.any_of_seven(first) {
+                count += self.count_between(first, first + 7);
             }
-            size *= 2;
         }
         count
     }

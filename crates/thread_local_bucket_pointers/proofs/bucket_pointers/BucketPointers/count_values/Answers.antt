@@ -1,85 +1,82 @@
-use Rattle.std.proofs.Common.{◌≡◌, ◌+◌, ◌-◌, ◌^◌, ◌≤◌, ◌*◌, sym, ◌∙◌, ap, subst, suc, ℕ, refl, arith, pow_mono, add-one}
-use Rattle.std.proofs.Common.{[]}
-use Rattle.std.proofs.Math.Nat.{two-pow-succ}
+use Rattle.std.proofs.Common.{◌≡◌, ◌+◌, ◌-◌, ◌^◌, ◌≤◌, ◌<◌, ◌*◌, sym, ◌∙◌, ap, subst, ℕ, refl, arith, []}
 use Rattle.thread_local_model.specs.Place.{id_at}
 use Rattle.thread_local_model.specs.Buckets.{Contents, values, row}
 use Rattle.thread_local_model.specs.Counting.{count_below}
-use Rattle.thread_local_model.proofs.TakingLaws.{count_below-zero, count_below-absent, count_below-fits, count_below-walk}
+use Rattle.thread_local_model.proofs.TakingLaws.{count_below-zero, count_below-fits, count_below-walk}
+use Rattle.thread_local_bucket_pointers.proofs.Counting.{absent_counted}
 use Rattle.thread_local_bucket_pointers.proofs.bucket_pointers.BucketPointers.count_values.Goals as goal
-use Rattle.thread_local_bucket_pointers.proofs.bucket_pointers.BucketPointers.count_values.Goals.{then-stands, else-stands}
+use Rattle.thread_local_bucket_pointers.proofs.bucket_pointers.BucketPointers.count_values.Goals.{then-any_of_seven, else-any_of_seven}
 
--- the count of a bucket, which is the same for the pointers as they were at first
-counted_at_first : {V : Type 0} (now first : Contents V) (b n : ℕ) → now ≡ first
-    → count_below (values now) (id_at b 0) + n ≡ count_below (values now) (id_at (b + 1) 0)
-    → count_below (values first) (id_at b 0) + n ≡ count_below (values first) (id_at (b + 1) 0)
-counted_at_first now first b n same counted =
+-- the count up to the end of a group, from the count up to its start
+group_counted : {V : Type 0} (now first : Contents V) (group count more : ℕ) → now ≡ first
+    → count_below (values now) (id_at (group * 7) 0) + more ≡ count_below (values now) (id_at (group * 7 + 7) 0)
+    → count ≡ count_below (values first) (id_at (group * 7) 0)
+    → count + more ≡ count_below (values first) (id_at ((group + 1) * 7) 0)
+group_counted now first group count more same told counted =
+    let here : count_below (values first) (id_at (group * 7) 0) + more ≡ count_below (values first) (id_at (group * 7 + 7) 0) =
     subst (λ (w : Contents _).
-    count_below (values w) (id_at b 0) + n ≡ count_below (values w) (id_at (b + 1) 0))
-    same counted
+    count_below (values w) (id_at (group * 7) 0) + more ≡ count_below (values w) (id_at (group * 7 + 7) 0))
+    same told in
+    let next : group * 7 + 7 ≡ (group + 1) * 7 = omega arith in
+    let ends = ap (λ b. count_below (values first) (id_at b 0)) next in
+    omega (arith, here, counted, ends)
 
-pub loop-bucket-init : goal.loop-bucket-init
-loop-bucket-init g c = record { counted = sym (count_below-zero (values c.args.self.now)); size = refl; same = refl }
+pub loop-group-init : goal.loop-group-init
+loop-group-init g c = record { counted = sym (count_below-zero (values c.args.self.now)); same = refl }
 
 pub overflow_add-count : goal.overflow_add-count
 overflow_add-count g c =
-    let kept = c.loop-bucket.invariant in
+    let kept = c.loop-group.invariant in
     let here =
-    counted_at_first _ c.args.self.now c.loop-bucket.bucket _ (c.stands.ensures.same ∙ kept.same)
-    c.count_in_bucket-count.ensures.counted in
-    let fits = count_below-fits (values c.args.self.now) (c.loop-bucket.bucket + 1) (omega arith) in
-    omega (arith, here, kept.counted)
+    group_counted c.any_of_seven.new.self c.args.self.now c.loop-group.group c.loop-group.count
+    c.count_between-count.result (c.any_of_seven.ensures.same ∙ kept.same)
+    c.count_between-count.ensures.counted kept.counted in
+    let fits = count_below-fits (values c.args.self.now) ((c.loop-group.group + 1) * 7) (omega arith) in
+    omega (arith, here, fits)
 
-pub overflow_mul-size : goal.overflow_mul-size
-overflow_mul-size g c =
-    let up : 2 ^ suc c.loop-bucket.bucket ≤ 2 ^ 63 = pow_mono c.loop-bucket-test.true in
-    let twice = two-pow-succ c.loop-bucket.bucket in
-    let size = c.loop-bucket.invariant.size in
-    omega arith
-
-pub loop-bucket-preserved : goal.loop-bucket-preserved
-loop-bucket-preserved g c =
-    let kept = c.loop-bucket.invariant in
-    let twice : 2 ^ (c.loop-bucket.bucket + 1)
-    ≡ 2 ^ c.loop-bucket.bucket + 2 ^ c.loop-bucket.bucket =
-    rw add-one (two-pow-succ c.loop-bucket.bucket) in
-    let size : c.loop-bucket.size * 2 ≡ 2 ^ (c.loop-bucket.bucket + 1) = omega (arith, kept.size) in
-    elim c.if-stands.branch [
-      | then-stands w ↦
-          let here =
-          counted_at_first _ c.args.self.now c.loop-bucket.bucket _
-          (c.stands.ensures.same ∙ kept.same) w.count_in_bucket-count.ensures.counted in
+pub loop-group-preserved : goal.loop-group-preserved
+loop-group-preserved g c =
+    let kept = c.loop-group.invariant in
+    elim c.if-any_of_seven.branch [
+      | then-any_of_seven w ↦ record {
+        counted = w.count-is
+            ∙ group_counted c.any_of_seven.new.self c.args.self.now c.loop-group.group c.loop-group.count
+            w.count_between-count.result (c.any_of_seven.ensures.same ∙ kept.same)
+            w.count_between-count.ensures.counted kept.counted;
+        same = w.self-is ∙ w.count_between-count.ensures.same ∙ c.any_of_seven.ensures.same ∙ kept.same;
+      }
+      | else-any_of_seven w ↦
+          let absent : (k : ℕ) → c.loop-group.group * 7 ≤ k → k < c.loop-group.group * 7 + 7 → row c.args.self.now k ≡ [] =
+          λ k from within.
+          sym (ap (λ (w : Contents _). row w k) kept.same) ∙ c.any_of_seven.ensures.none w.if-any_of_seven.false k from within in
+          let none = absent_counted c.args.self.now (c.loop-group.group * 7) 7 absent in
+          let next : c.loop-group.group * 7 + 7 ≡ (c.loop-group.group + 1) * 7 = omega arith in
           record {
-            counted = omega (arith, here, kept.counted, w.count-is);
-            size = size;
-            same = w.self-is ∙ w.count_in_bucket-count.ensures.same ∙ c.stands.ensures.same ∙ kept.same;
-          }
-      | else-stands w ↦
-          let absent : row c.args.self.now c.loop-bucket.bucket ≡ [] =
-          sym (ap (λ (w : Contents _). row w c.loop-bucket.bucket) kept.same)
-          ∙ c.stands.ensures.absent w.if-stands.false in
-          record {
-            counted = w.count-is ∙ kept.counted ∙ sym (count_below-absent c.args.self.now c.loop-bucket.bucket absent);
-            size = size;
-            same = w.self-is ∙ c.stands.ensures.same ∙ kept.same;
+            counted =
+                w.count-is
+                ∙ kept.counted
+                ∙ sym none
+                ∙ ap (λ b. count_below (values c.args.self.now) (id_at b 0)) next;
+            same = w.self-is ∙ c.any_of_seven.ensures.same ∙ kept.same;
           }
     ]
 
 -- all buckets have been counted
-all_counted : {V : Type 0} (pointers : Contents V) (bucket count : ℕ) → bucket ≤ 63 → 63 ≤ bucket
-    → count ≡ count_below (values pointers) (id_at bucket 0)
+all_counted : {V : Type 0} (pointers : Contents V) (group count : ℕ) → group ≤ 9 → 9 ≤ group
+    → count ≡ count_below (values pointers) (id_at (group * 7) 0)
     → count ≡ count_below (values pointers) (2 ^ 63 - 1)
-all_counted pointers bucket count low high counted =
-    let end : id_at bucket 0 ≡ 2 ^ 63 - 1 =
-    (let last : bucket ≡ 63 = omega arith in ap (λ b. id_at b 0) last) in
+all_counted pointers group count low high counted =
+    let end : id_at (group * 7) 0 ≡ 2 ^ 63 - 1 =
+    (let last : group * 7 ≡ 63 = omega arith in ap (λ b. id_at b 0) last) in
     counted ∙ ap (count_below (values pointers)) end
 
 pub returns-clause-counted : goal.returns-clause-counted
 returns-clause-counted g c =
-    all_counted c.args.self.now c.loop-bucket.bucket c.loop-bucket.count (omega arith)
-    c.loop-bucket-test.false c.loop-bucket.invariant.counted
+    all_counted c.args.self.now c.loop-group.group c.loop-group.count (omega arith)
+    c.loop-group-test.false c.loop-group.invariant.counted
     ∙ count_below-walk (values c.args.self.now)
 
 pub returns-clause-fits : goal.returns-clause-fits
 returns-clause-fits g c =
-    let fits = count_below-fits (values c.args.self.now) c.loop-bucket.bucket (omega arith) in
-    omega (arith, c.loop-bucket.invariant.counted)
+    let fits = count_below-fits (values c.args.self.now) (c.loop-group.group * 7) (omega arith) in
+    omega (arith, c.loop-group.invariant.counted, fits)

@@ -1,13 +1,12 @@
-use Rattle.std.proofs.Common.{◌≡◌, ◌^◌}
+use Rattle.std.proofs.Common.{◌≡◌, ◌*◌}
 use Rattle.thread_local_model.specs.Place.{id_at}
 use Rattle.thread_local_model.specs.Buckets.{values}
 use Rattle.thread_local_model.specs.Counting.{count_below}
 use Rattle.thread_local_bucket_pointers.proofs.bucket_pointers.BucketPointers.count_values.Given as goal
 
--- the values in the buckets so far
-abbrev pub invariant-loop-bucket : goal.invariant-loop-bucket
-invariant-loop-bucket g l = record {
-  counted : l.count ≡ count_below (values l.initial.self) (id_at l.bucket 0);
-  size : l.size ≡ 2 ^ l.bucket;
+-- the values in the groups of buckets so far
+abbrev pub invariant-loop-group : goal.invariant-loop-group
+invariant-loop-group g l = record {
+  counted : l.count ≡ count_below (values l.initial.self) (id_at (l.group * 7) 0);
   same : l.self ≡ l.initial.self;
 }
