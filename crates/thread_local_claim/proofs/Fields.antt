@@ -25,6 +25,7 @@ use denote.Struct.Struct.{Struct}
 use denote.Struct.Lending.{lent_out}
 use denote.Struct.Owning.{shape}
 use Rattle.std.specs.contracts.marker.PhantomData as marker
+use Rattle.thread_local_shared_bucket.specs.contracts.shared_bucket.SharedBucket as one_bucket
 use Rattle.thread_local_model.specs.Place.{bucket_of, index_of, id_at}
 use Rattle.thread_local_model.proofs.PlaceLaws.{place-id_at}
 use Rattle.thread_local_blocks.specs.Slots.{stride, value_words, flag_word_at, word_offset, value_offset}
@@ -94,7 +95,7 @@ module _ (a : NamedLft) (R : RattleType) where
         RawPtr-copy.copied M 𝓤 𝓛,
         (
           u64-copy.copied M 𝓤 𝓛,
-          ((field_copy (marker.the_type (ShrRef a.mir a.lft R)) tt).copied M 𝓤 𝓛, tt),
+          ((field_copy (marker.the_type (ShrRef a.mir a.lft (one_bucket.the_row R))) tt).copied M 𝓤 𝓛, tt),
         ),
       )).opens
 
@@ -120,7 +121,8 @@ module _ {M : Type 1} {𝓤 : Ura M} {𝓛 : Logic 𝓤} {K : Type 0} {Γ : List
       h.state κ in
       step (λ s. use1 𝓛 (‵ (hidden_shr (FieldsType a R) κ (fields_of a R (kept_of h)) b o) ⊛ ‵ (fhide Shown))
       (lent_out 𝓛 (claim.struct a R)
-      (claim.the_codes R.Denot R.coded (marker.the_row (ShrRef a.mir a.lft R)).coded)
+      (claim.the_codes R.Denot R.coded (marker.the_row (ShrRef a.mir a.lft (one_bucket.the_row R))).coded
+      (one_bucket.the_row R).coded)
       (claim.the_heap a.lft R) (claim.the_lent a.lft R) κ h b o) $
       split t $ move t (1 ∷ []) $ unhide t $ fsplit t $ s)
 

@@ -40,7 +40,8 @@ pub(crate) struct ClaimedSlot<'a, T> {
     at: *const (),
     /// What it has learnt: `MISSING`, `VACANT` or `HOLDING`.
     state: u64,
-    marker: PhantomData<&'a T>,
+    /// A claim publishes into a bucket that others share, so its type varies no more than a bucket's.
+    marker: PhantomData<&'a SharedBucket<T>>,
     /// The address of the bucket's pointer.
     pub ghost bucket: { Ptr } by { coded_ptr },
     pub ghost table: { ℕ },

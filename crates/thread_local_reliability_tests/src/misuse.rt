@@ -9,6 +9,12 @@ use std::thread;
 use std::thread::Threads;
 use thread_local::ThreadLocal;
 use thread_local::local::Local;
+use thread_local_claim::Claim;
+
+/// A claim is handed on as one of a bucket of these values.
+fn handed_on<'s, 'a>(claim: Claim<'a, &'static u64>) -> Claim<'a, &'static u64> {
+    claim
+}
 
 /// What `get` answers is used before its `Local` is dropped.
 fn found_before_the_drop<R: Wait>(table: &ThreadLocal<u32>, rt: &R) -> Option<u32> {

@@ -12,6 +12,7 @@ use denote.Struct.Field.{RawPtr-field, u64-field}
 use denote.Struct.Laws.{RawPtr-copy, u64-copy, field_copy}
 use denote.Struct.Lending.{of_Lends}
 use Rattle.std.specs.contracts.marker.PhantomData as P
+use Rattle.thread_local_shared_bucket.specs.contracts.shared_bucket.SharedBucket as one_bucket
 use Rattle.thread_local_claim.specs.contracts.claimed.ClaimedSlot as C
 use Rattle.thread_local_claim.specs.Claims.{claim_fields}
 use Rattle.thread_local_claim.proofs.Lending.{claim_laws, lends_claim}
@@ -19,7 +20,8 @@ use Rattle.thread_local_claim.proofs.claimed.ClaimedSlot.TheLaw.Statement.{state
 
 pub shares : (a : NamedLft) (T : RattleType) (L : Laws T) → statement a T L
 shares a T L =
-    of_Lends (C.struct a T) (C.the_codes T.Denot T.coded (P.the_row (ShrRef a.mir a.lft T)).coded)
+    of_Lends (C.struct a T) (C.the_codes T.Denot T.coded (P.the_row (ShrRef a.mir a.lft (one_bucket.the_row T))).coded
+    (one_bucket.the_row T).coded)
     (C.the_heap a.lft T) (C.the_lent a.lft T)
     (λ d p.
     claim_laws a.lft T L.shr_laws (claim_fields d.id d.index d.bucket d.at d.sharing d.reserved)
@@ -28,18 +30,18 @@ shares a T L =
       (
         copy_shared u64-field u64-copy,
         (
-          copy_shared (P.the_field (ShrRef a.mir a.lft T))
-              (field_copy (P.the_type (ShrRef a.mir a.lft T)) tt),
+          copy_shared (P.the_field (ShrRef a.mir a.lft (one_bucket.the_row T)))
+              (field_copy (P.the_type (ShrRef a.mir a.lft (one_bucket.the_row T))) tt),
           tt,
         ),
       ),
     )
     (λ M 𝓤 𝓛 d p.
-    let l = (C.the_row a T).lives in let s = (ShrRef a.mir a.lft T).lives in
+    let l = (C.the_row a T).lives in let s = (ShrRef a.mir a.lft (one_bucket.the_row T)).lives in
     lends_claim 𝓛 a.lft T L.shr_laws l (Incl-trans
     (meet_⊑_right (T.lives ++ []) (((s ++ []) ++ []) ++ [])) (Incl-trans
     (meet_⊑_left ((s ++ []) ++ []) []) (Incl-trans (meet_⊑_left (s ++ []) [])
-    (Incl-trans (meet_⊑_left s []) (meet_⊑_left a.lft T.lives)))))
+    (Incl-trans (meet_⊑_left s []) (meet_⊑_left a.lft (one_bucket.the_row T).lives)))))
     (Shares-less 𝓛 T T.lives l (Incl-trans (meet_⊑_left (T.lives ++ []) _) (meet_⊑_left T.lives []))
     (L.shares 𝓛))
     d.table (claim_fields d.id d.index d.bucket d.at d.sharing d.reserved) d.state d.learnt)
