@@ -4,6 +4,7 @@ ghost use Rattle.std.specs.Prelude.{◌≡◌, ◌≢◌, ℕ, ◌<◌, IfSome};
 ghost use Rattle.thread_local_ids.specs.Locking.{LockView, lock_coded, lock_owns, lock_shares, guard_owns, guard_shares, Fitting};
 
 use crate::word::exchange;
+use std::hint::spin_loop;
 use std::marker::{Brand, Model, Move, Owns, PhantomData};
 use std::sync::Wait;
 use std::sync::atomic::Ordering::SeqCst;
@@ -32,6 +33,9 @@ const AWAITED: u64 = 2;
 
 /// How many seconds a thread sleeps, unless it is woken.
 const FOR_EVER: u64 = i64::MAX as u64;
+
+/// How often a thread tries, and waits for a moment in between, before it yields.
+const TURNS: u64 = 6;
 
 /// How often a thread tries, and yields in between, before it sleeps.
 const TRIES: u64 = 100;
@@ -99,8 +103,8 @@ impl<V: Fits> Lock<V> {
         self.take(TAKEN)
     }
 
-    /// Takes the lock. May wait: it tries for a while and yields in between, and then sleeps until
-    /// a release wakes it, and tries again.
+    /// Takes the lock. May wait: it tries for a while, first with short waits in between and then
+    /// with yields. Then it sleeps until a release wakes it, and tries again.
     #[inline]
     pub fn lock<R: Wait>(&self, rt: &R) -> LockGuard<'_, V>
         ensures tag { (result.tag ≡ self.now.tag) × (V.tag result.value ≡ self.now.tag) }
@@ -119,6 +123,12 @@ impl<V: Fits> Lock<V> {
         ensures tag { (result.tag ≡ self.now.tag) × (V.tag result.value ≡ self.now.tag) }
         ensures fits { V.fits result.value }
     {
+        for turn in 0..TURNS {
+            pause(turn);
+            if let Some(guard) = self.try_lock() {
+                return guard;
+            }
+        }
         for _ in 1..TRIES {
             thread::yield_now();
             if let Some(guard) = self.try_lock() {
@@ -188,6 +198,15 @@ impl<V: Fits> Drop for LockGuard<'_, V> {
         let word = unsafe { &raw const (*lock).word };
         let seen = unsafe { raw::swap::<Brand>(word, FREE, SeqCst) };
         unsafe { wake_if(word, seen) };
+    }
+}
+
+/// Waits for a moment, which doubles from turn to turn, and goes on running.
+fn pause(turn: u64)
+    requires { turn < 64 }
+{
+    for _ in 0..1u64 << turn {
+        spin_loop();
     }
 }
 
