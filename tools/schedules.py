@@ -443,6 +443,15 @@ def clause_made_open(m):
     return not model.made_core(m.capacity, 0).ended
 
 
+def clause_made_room(m):
+    """A new table has room for its capacity and for as many ids more as is chosen."""
+    return all(model.made_core(m.capacity, extra).room == m.capacity + extra for extra in (0, 3))
+
+
+def clause_made_new(m):
+    return model.new_core() == model.made_core(0, 0)
+
+
 def clause_lives(m):
     """Only a Local makes steps of a Local, and only a walk under way goes on and ends."""
     family = {"OfLocal": live_local, "OfWalk": live_walk, "EndWalk": live_walk}.get(m.event[0])
@@ -473,7 +482,7 @@ def clause_newcomers(m):
 
 def clause_calls_go_on(m):
     """A call under way has a step that is enabled and brings it nearer to its end."""
-    steps = [("LoadPointer",), ("LookAtFlag",), ("MakeBucket", False), ("InstallBucket",), ("WriteValue",), ("SetFlag",), ("Reply",)]
+    steps = [("LoadPointer",), ("LookAtFlag",), ("MakeBucket", False), ("MakeBucket", True), ("InstallBucket",), ("WriteValue",), ("SetFlag",), ("Reply",)]
 
     def goes_on(n, it):
         after = [model.step(m.after, ("OfLocal", n, step)) for step in steps]
@@ -552,6 +561,32 @@ def clause_room_stays(m):
 
 def clause_room_grows(m):
     return m.before.room <= m.after.room
+
+
+def clause_room_of_take(m):
+    """A take makes room for the peak, and for as many ids more as is chosen."""
+    return not is_granted_take(m) or m.after.room == max(m.before.room, len(m.after.held)) + m.event[2]
+
+
+def clause_memory_is_chosen(m):
+    """A call that may ask for memory may get it and may be refused, and comes nearer to its end by either."""
+
+    def goes_on(n, it, refused):
+        after = model.step(m.after, ("OfLocal", n, ("MakeBucket", refused)))
+        return after is not None and model.steps_left(live_local(after, n)) < model.steps_left(it)
+
+    def asks(n):
+        return any(model.is_enabled(m.after, ("OfLocal", n, ("MakeBucket", refused))) for refused in (False, True))
+
+    return all(not asks(n) or all(goes_on(n, it, refused) for refused in (False, True)) for n, it in changed(m))
+
+
+def clause_takes_need_memory(m):
+    """A take for which no room is left is refused exactly where memory is, while an id is left."""
+    core = m.after
+    if core.ended or not all(core.held) or not len(core.held) == core.room < model.IDS:
+        return True
+    return all(model.is_refused(core, ("TakeId", refused, 0)) == refused for refused in (False, True))
 
 
 def clause_known_answers(m):
@@ -671,13 +706,6 @@ WHOLE = {name[len("whole_") :]: it for name, it in list(globals().items()) if na
 # ---- the story -----------------------------------------------------------------------------------------
 
 
-def publishes(number, value, missing):
-    """The steps of a Local's first publishing call, where its bucket is missing or stands."""
-    steps = [("BeginGetOr", ("Ok", value)), ("LoadPointer",)]
-    steps += [("MakeBucket", False), ("InstallBucket",)] if missing else [("LookAtFlag",)]
-    return [("OfLocal", number, it) for it in steps + [("WriteValue",), ("SetFlag",)]]
-
-
 def story():
     """Four Locals publish in a new table, a walk gives the four, and the next Local finds the first again.
 
@@ -686,26 +714,29 @@ def story():
     if model.IDS < 4:
         return None
     four = ["a", "b", "c", "d"]
-    core = model.run(new_core(), [("TakeId", False, 0)] * 4)
-    for k in range(4):
-        core = model.run(core, publishes(k, four[k], k in (0, 1, 3)))
+    parts = [
+        (model.after_publishing, model.four_publish(four)),
+        (model.after_walking, model.whole_walk()),
+        (model.after_next, model.four_give_back() + model.next_calls("b")),
+        (model.after_all, [("GiveBack", 4)]),
+    ]
+    core = new_core()
+    for part, events in parts:
+        core = model.run(core, events)
+        if part(four) != core:
+            return "each core is reached"
+    core = model.after_publishing(four)
     if model.walk(model.shadow(core).values) != four or model.shadow(core).values[:4] != tuple(four):
         return "four values"
     if model.slots(core.table) != 7:
         return "seven slots"
-    core = model.happens(core, ("BeginWalk",))
-    for _ in range(200):
-        core = model.run(core, [("OfWalk", 0, "Load"), ("OfWalk", 0, "Look")])
-    it = live_walk(core, 0)
+    it = live_walk(model.after_walking(four), 0)
     if it is None or not model.is_complete(it) or list(reversed(it.given)) != list(enumerate(four)):
         return "the walk gives the four"
-    core = model.run(core, [("EndWalk", 0)] + [("GiveBack", k) for k in range(4)] + [("TakeId", False, 0)])
-    calls = [("BeginGet",), ("LoadPointer",), ("LookAtFlag",), ("Reply",), ("BeginGetOr", ("Ok", "b")), ("Reply",)]
-    core = model.run(core, [("OfLocal", 4, it) for it in calls])
-    it = live_local(core, 4)
+    it = live_local(model.after_next(four), 4)
     if it is None or it.id != 0 or it.start.value != "a" or it.answers != (("Found", "a"), ("Answered", "a")):
         return "the next finds the first value"
-    core = model.happens(core, ("GiveBack", 4))
+    core = model.after_all(four)
     if not model.is_enabled(core, ("Owner", ("IterMut", Rewriter(0)))) or model.owner_walk(core.table) != four:
         return "the owner's walk gives the four"
     core = model.happens(core, ("Owner", ("ClearTable",)))
@@ -1095,7 +1126,19 @@ def wrong_effects():
     """Wrong bodies that do more than they say, or whose words say less."""
     right = {
         name: getattr(model, name)
-        for name in ("made_core", "take", "local_step", "give_back", "forget", "end_walk", "owner_call", "cleared", "is_refused", "slots")
+        for name in (
+            "made_core",
+            "take",
+            "local_step",
+            "give_back",
+            "forget",
+            "end_walk",
+            "owner_call",
+            "cleared",
+            "is_refused",
+            "slots",
+            "after_all",
+        )
     }
 
     def ends_made(capacity, extra):
@@ -1185,6 +1228,35 @@ def wrong_effects():
         stuck = local.doing[0] == "Started" and local.doing[1][0] == "Err" and local.id != 0
         return None if stuck else model.write_value(table, local)
 
+    def made_with_room(capacity, extra):
+        return right["made_core"](capacity, extra + 1)
+
+    def asks_where(may):
+        """The request for memory is enabled only where the id and the answer are such."""
+        return steps(MakeBucket=lambda table, local, refused: model.make_bucket(table, local, refused) if may(local.id, refused) else None)
+
+    def loses_memory(table, local, refused):
+        after = model.make_bucket(table, local, refused)
+        return (table, local) if after is not None and not refused and local.id == 5 else after
+
+    def takes_with_room(core, refused, growth):
+        return right["take"](core, refused, growth + 1)
+
+    def leaves_get(name):
+        """The step of that name ends a publishing call with a get under way that nobody began."""
+        it = model.LOCAL_STEPS[name]
+
+        def ends(table, local):
+            after = it(table, local)
+            if after is None or local.doing[0] != "Started" or after[1].calls == local.calls:
+                return after
+            return after[0], replace(after[1], doing=("Gets", 1))
+
+        return steps(**{name: ends})
+
+    def made_up_core(four):
+        return replace(right["after_all"](four), walks=(None,) * 9)
+
     def refuses_takes_alone(core, event):
         return event[0] == "TakeId" and right["is_refused"](core, event)
 
@@ -1259,6 +1331,16 @@ def wrong_effects():
         "a forget is said to begin a walk": {"begins_walk": lambda event: event[0] == "Forget" or kept_begins(event)},
         "none is taken by no event alone": {"none_taken": lambda core, events: not events},
         "none is never taken": {"none_taken": lambda core, events: False},
+        "a made core has room beyond its capacity": {"made_core": made_with_room},
+        "a new table has room already": {"new_core": lambda: right["made_core"](0, 4)},
+        "memory is refused at id 0 alone": asks_where(lambda identity, refused: not refused or identity == 0),
+        "memory is only refused at id 5": asks_where(lambda identity, refused: refused or identity != 5),
+        "memory that comes is lost at id 5": steps(MakeBucket=loses_memory),
+        "no take is refused memory": {"is_granted": lambda core, refused: not model.is_exhausted(core)},
+        "a take grows room by more than it says": {"take": takes_with_room},
+        "a failing call leaves a get under way": leaves_get("WriteValue"),
+        "a call that replies leaves a get under way": leaves_get("Reply"),
+        "a core of the example is made up": {"after_all": made_up_core},
         "a pointer has no name": {"named": lambda table, bucket: None},
         "a bucket of a call's own has no number": {"own_number": lambda doing: None},
     }

@@ -594,6 +594,58 @@ def run(core, events):
     return core
 
 
+# ---- one schedule in parts -----------------------------------------------------------------------------
+
+
+def steps_of(number, steps):
+    return [("OfLocal", number, it) for it in steps]
+
+
+def publishes(number, value, missing):
+    """The steps of a Local's first publishing call, where its bucket is missing or stands."""
+    steps = [("BeginGetOr", ("Ok", value)), ("LoadPointer",)]
+    steps += [("MakeBucket", False), ("InstallBucket",)] if missing else [("LookAtFlag",)]
+    return steps_of(number, steps + [("WriteValue",), ("SetFlag",)])
+
+
+def four_publish(four):
+    """Four Locals are made, and then publish one after another."""
+    events = [("TakeId", False, 0)] * 4
+    for k, value in enumerate(four):
+        events += publishes(k, value, k in (0, 1, 3))
+    return events
+
+
+def whole_walk():
+    return [("BeginWalk",)] + [("OfWalk", 0, name) for _ in range(70) for name in ("Load", "Look")]
+
+
+def four_give_back():
+    return [("EndWalk", 0)] + [("GiveBack", k) for k in range(4)]
+
+
+def next_calls(other):
+    """The next Local is taken, and gets a value and publishes another."""
+    calls = [("BeginGet",), ("LoadPointer",), ("LookAtFlag",), ("Reply",), ("BeginGetOr", ("Ok", other)), ("Reply",)]
+    return [("TakeId", False, 0)] + steps_of(4, calls)
+
+
+def after_publishing(four):
+    return run(new_core(), four_publish(four))
+
+
+def after_walking(four):
+    return run(after_publishing(four), whole_walk())
+
+
+def after_next(four):
+    return run(after_walking(four), four_give_back() + next_calls(four[1]))
+
+
+def after_all(four):
+    return run(after_next(four), [("GiveBack", 4)])
+
+
 def is_exclusive(event):
     return event[0] == "Owner"
 

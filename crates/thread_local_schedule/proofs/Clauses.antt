@@ -60,18 +60,22 @@ owner_goes core call t =
     goes core (Owner call) t
     ∙ (tested (is_alone core) (after_owner core call) core (enabled_step core (Owner call) t)).1
 
+-- the core after a granted take
+pub granted : {V E : Type 0} (core : Core V E) (refused : Bool) (growth : ℕ)
+    → IsTrue (is_granted_take core (TakeId refused growth))
+    → happens core (TakeId refused growth) ≡ take_id core growth
+granted core refused growth t =
+    let parts = and_parts (is_enabled core (TakeId refused growth)) (not (not (is_granted core.manager refused))) t in
+    goes core (TakeId refused growth) parts.0
+    ∙ ap (λ b. cond b (take_id core growth) core)
+    (not-false (is_granted core.manager refused)
+    (not-true (not (is_granted core.manager refused)) parts.1))
+
 -- a granted take makes a Local with the least id that isn't held, whose first view is what its slot
 -- shows
 pub taken : {V E : Type 0} (core : Core V E) (event : Event V E) → IsTrue (is_granted_take core event)
     → (growth : ℕ) × (happens core event ≡ take_id core growth)
-taken core (TakeId refused growth) t =
-    let parts = and_parts (is_enabled core (TakeId refused growth)) (not (not (is_granted core.manager refused))) t in (
-      growth,
-      goes core (TakeId refused growth) parts.0
-          ∙ ap (λ b. cond b (take_id core growth) core)
-          (not-false (is_granted core.manager refused)
-          (not-true (not (is_granted core.manager refused)) parts.1)),
-    )
+taken core (TakeId refused growth) t = (growth, granted core refused growth t)
 taken core _ t = absurd (false≢true t)
 
 pub new_local : {V E : Type 0} (core : Core V E) (event : Event V E) → IsTrue (is_granted_take core event)

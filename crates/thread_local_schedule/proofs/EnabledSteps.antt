@@ -1,5 +1,5 @@
 -- Which steps of a `Local` are enabled, and what they teach: a call under way always has one.
-use Rattle.std.proofs.Common.{◌≡◌, zero, suc, Bool, true, false, cond, Option, Some, None, Result, Ok, Err, is_some}
+use Rattle.std.proofs.Common.{◌≡◌, ◌<◌, zero, suc, Bool, true, false, cond, Option, Some, None, Result, Ok, Err, is_some}
 use Rattle.std.proofs.Common.{IsTrue, IfSome, IsSomeAnd, refl, arith}
 use Rattle.std.specs.Prelude.{option_map, option_and_then, MatchOption}
 use Rattle.std.proofs.lemmas.Bool.{false≢true}
@@ -14,7 +14,7 @@ use Rattle.thread_local_schedule.specs.Local.{WriteValue, SetFlag, Reply, doing_
 use Rattle.thread_local_schedule.specs.Local.{is_calling, learns, closure_at_missing, make_bucket, offered}
 use Rattle.thread_local_schedule.specs.Local.{private_bucket, install_bucket, closure_at_vacant, write_value}
 use Rattle.thread_local_schedule.specs.Local.{value_written, set_flag, after_call, ending_of, reply}
-use Rattle.thread_local_schedule.specs.Calls.{gets_of, closure_of, HasNoCall, HasLearnt, EndsWith}
+use Rattle.thread_local_schedule.specs.Calls.{gets_of, closure_of, HasNoCall, HasLearnt, EndsWith, GoesDown, steps_left}
 
 -- a get begins where no publishing call is under way
 get_begins : {V E : Type 0} (table : Table V) (local : Local V E) (doing : Doing V E)
@@ -184,6 +184,27 @@ pub asks : {V E : Type 0} (table : Table V) (local : Local V E) (refused : Bool)
     → local.learnt ≡ Missing
 unfolding local_step
 asks table local refused t = asked table local refused local.doing local.learnt t
+
+-- a request for memory may be made with either answer, and goes on by both
+asked_either : {V E : Type 0} (table : Table V) (local : Local V E) (refused other : Bool) (doing : Doing V E) (before : Learnt V)
+    → IsTrue (is_some (option_map (make_bucket table local refused) (closure_at_missing doing before)))
+    → IsSomeAnd (option_map (make_bucket table local other) (closure_at_missing doing before))
+    (λ after. steps_left after.1.doing after.1.learnt < steps_left doing before)
+asked_either table local refused true (Started create) Missing t = omega arith
+asked_either table local refused false (Started create) Missing t = omega arith
+asked_either table local refused other (Started create) Unknown t = absurd (false≢true t)
+asked_either table local refused other (Started create) Standing t = absurd (false≢true t)
+asked_either table local refused other (Started create) Vacant t = absurd (false≢true t)
+asked_either table local refused other (Started create) (Holding v) t = absurd (false≢true t)
+asked_either table local refused other (Gets count) before t = absurd (false≢true t)
+asked_either table local refused other (Private create number) before t = absurd (false≢true t)
+asked_either table local refused other (Written v) before t = absurd (false≢true t)
+
+pub asks_either : {V E : Type 0} (table : Table V) (local : Local V E) (refused other : Bool)
+    → IsTrue (is_some (local_step table local (MakeBucket refused)))
+    → IsSomeAnd (local_step table local (MakeBucket other)) (λ after. GoesDown local after.1)
+unfolding local_step
+asks_either table local refused other t = asked_either table local refused other local.doing local.learnt t
 
 -- a closure's error is handed on where the slot is vacant
 failed : {V E : Type 0} (table : Table V) (local : Local V E) (e : E) (doing : Doing V E)

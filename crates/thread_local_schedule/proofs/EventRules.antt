@@ -1,9 +1,11 @@
 -- What every event needs and does, from its rule.
-use Rattle.std.proofs.Common.{◌≡◌, ℕ, ◌^◌, ◌<◌, ◌≤◌, Bool, true, false, cond, List, [], ◌∷◌, ◌++◌, Option, Some, None}
+use Rattle.std.proofs.Common.{◌≡◌, ℕ, ◌+◌, ◌-◌, ◌^◌, ◌<◌, ◌≤◌, max, Bool, true, false, not, ◌&&◌, cond, List, [], ◌∷◌, ◌++◌, Option}
+use Rattle.std.proofs.Common.{Some, None}
 use Rattle.std.proofs.Common.{Result, Err, is_some, IsTrue, IfSome, IsSomeAnd, refl, ap, sym, ◌∙◌, subst, arith, ⊎_elim}
 use Rattle.std.specs.Prelude.{option_map, option_and_then, unwrap_or, IsSome}
 use Rattle.std.proofs.lemmas.Bool.{false≢true, cond_both, cases_Bool}
-use Rattle.thread_local_model.specs.Held.{is_granted}
+use Rattle.thread_local_model.specs.Held.{is_granted, HoldsAllBelow}
+use Rattle.thread_local_model.proofs.HeldLaws.{needs-refused}
 use Rattle.thread_local_model.specs.Learnt.{Unknown, Missing, Vacant}
 use Rattle.thread_local_model.specs.Answers.{Failed}
 use Rattle.thread_local_schedule.specs.Local.{Local, LocalStep, BeginGet, BeginGetOr, MakeBucket, WriteValue, local_step}
@@ -12,9 +14,9 @@ use Rattle.thread_local_schedule.proofs.EnabledSteps as step
 use Rattle.thread_local_schedule.proofs.GoingOn as call
 use Rattle.thread_local_schedule.specs.SharedWalk.{WalkStep, walk_step}
 use Rattle.thread_local_schedule.specs.OwnerWalk.{rewritten}
-use Rattle.thread_local_schedule.specs.Core.{Core, made_core, is_alone}
+use Rattle.thread_local_schedule.specs.Core.{Core, made_core, shadow, peak, is_alone}
 use Rattle.thread_local_schedule.specs.CoreFits.{CoreFits}
-use Rattle.thread_local_schedule.proofs.OptionLaws.{if_enabled, if_there, if_then, some_and, unwrapped}
+use Rattle.thread_local_schedule.proofs.OptionLaws.{if_enabled, if_there, if_then, some_and, some_step, unwrapped}
 use Rattle.thread_local_schedule.specs.Events.{Event, TakeId, OfLocal, GiveBack, Forget, BeginWalk, OfWalk, EndWalk}
 use Rattle.thread_local_schedule.specs.Events.{Owner, OwnerCall, IterMut, Slots, ClearTable, IntoIter, DropTable}
 use Rattle.thread_local_schedule.specs.Events.{take_id, with_step, of_local, is_idle, without_local, with_id_given}
@@ -23,7 +25,7 @@ use Rattle.thread_local_schedule.specs.Events.{is_enabled, happens, run}
 use Rattle.thread_local_schedule.specs.Schedule.{is_take, is_refused, is_granted_take, newcomer, IsReached}
 use Rattle.thread_local_schedule.proofs.Clauses as clause
 use Rattle.thread_local_schedule.proofs.Clauses.{owner_goes, enabled_step}
-use Rattle.thread_local_schedule.proofs.Enabled.{may, step_leaves}
+use Rattle.thread_local_schedule.proofs.Enabled.{may, takes, step_leaves}
 
 -- a schedule and one event more
 pub run-append : {V E : Type 0} (core : Core V E) (events more : List (Event V E))
@@ -120,6 +122,35 @@ pub out_of_memory : {V E : Type 0} (core : Core V E) (n : ℕ)
     → IsTrue (is_enabled core (OfLocal n (MakeBucket true)))
     → IsTrue (is_refused core (OfLocal n (MakeBucket true)))
 out_of_memory core n t = rw t refl
+
+-- what is enabled is so in a table that hasn't ended
+open_where : {V E : Type 0} (core : Core V E) (event : Event V E) → IsTrue (is_enabled core event) → core.ended ≡ false
+unfolding is_enabled step
+open_where core event t = (some_step core.ended (step_of core event) t).0
+
+-- a take for which no room is left, and an id is, is refused exactly where memory is
+as_chosen : (granted : Bool → Bool) (enabled refused : Bool) → IsTrue enabled → IsTrue (granted false) × (granted true ≡ false)
+    → (enabled && not (granted refused)) ≡ refused
+as_chosen granted true true t both = rw both.1 refl
+as_chosen granted true false t both = rw both.0 refl
+as_chosen granted false refused t both = absurd (false≢true t)
+
+pub takes_need_memory : {V E : Type 0} (core : Core V E) (refused : Bool) (growth : ℕ)
+    → CoreFits core → core.ended ≡ false
+    → HoldsAllBelow (peak core) (shadow core).held → peak core ≡ core.manager.room → peak core < 2 ^ 63 - 1
+    → is_refused core (TakeId refused growth) ≡ refused
+takes_need_memory core refused growth h going full no_room left =
+    as_chosen (is_granted core.manager) (is_enabled core (TakeId refused growth)) refused
+    (takes core refused growth going)
+    (needs-refused core.manager h.manager.peak_room
+    (record { full = full; no_room = no_room; in_range = omega (arith, no_room, left) }))
+
+pub room_of_take : {V E : Type 0} (core : Core V E) (refused : Bool) (growth : ℕ)
+    → IsTrue (is_granted_take core (TakeId refused growth))
+    → (happens core (TakeId refused growth)).manager.room
+    ≡ max core.manager.room (peak (happens core (TakeId refused growth))) + growth
+room_of_take core refused growth t =
+    let done = clause.granted core refused growth t in rw done refl
 
 -- the room changes by takes alone, and never falls
 record RoomGoes {V E : Type 0} (core : Core V E) (event : Event V E) (after : Core V E) : Type 0 where
@@ -251,3 +282,21 @@ pub asks : {V E : Type 0} (core : Core V E) (n : ℕ) (refused : Bool)
     → IsTrue (is_enabled core (OfLocal n (MakeBucket refused)))
     → IsSomeAnd (core.locals n) (λ local. local.learnt ≡ Missing)
 asks core n refused t = asked core n refused (core.locals n) (enabled_step core (OfLocal n (MakeBucket refused)) t)
+
+-- a request that may be made with one answer may be made with the other, and goes on by it
+pub memory_is_chosen : {V E : Type 0} (core : Core V E) (n : ℕ) (local : Local V E) (refused other : Bool)
+    → IsTrue (is_enabled core (OfLocal n (MakeBucket refused))) → core.locals n ≡ Some local
+    → IsTrue (is_enabled core (OfLocal n (MakeBucket other)))
+    × IsSomeAnd ((happens core (OfLocal n (MakeBucket other))).locals n) (GoesDown local)
+memory_is_chosen core n local refused other t at =
+    makes_step core n local (MakeBucket other) (GoesDown local)
+    (open_where core (OfLocal n (MakeBucket refused)) t) at
+    (step.asks_either core.table local refused other
+    (map_there (with_step core n) (local_step core.table local (MakeBucket refused))
+    (subst (λ o.
+    IsTrue
+    (is_some
+    (option_and_then (λ l.
+    option_map (with_step core n) (local_step core.table l (MakeBucket refused)))
+    o)))
+    at (enabled_step core (OfLocal n (MakeBucket refused)) t))))

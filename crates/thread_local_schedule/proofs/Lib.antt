@@ -10,6 +10,7 @@ pub mod Installs
 pub mod PeakLaws
 pub mod TakingBelow
 pub mod FourLocals
+pub mod FourReached
 pub mod FourValues
 pub mod Publishings
 pub mod Sayings

@@ -7,7 +7,7 @@ use Rattle.thread_local_schedule.specs.Local.{Doing, Gets, Started, Private, Wri
 use Rattle.thread_local_schedule.specs.Numbers.{own_number}
 use Rattle.thread_local_schedule.specs.Core.{Core, private_slots}
 use Rattle.thread_local_schedule.specs.Events.{Event, happens, run, TakeId, OfLocal, GiveBack, Forget, BeginWalk}
-use Rattle.thread_local_schedule.specs.Events.{OfWalk, EndWalk, Owner, OwnerCall, IterMut, Slots, ClearTable, IntoIter}
+use Rattle.thread_local_schedule.specs.Events.{OfWalk, EndWalk, Owner, OwnerCall, IntoIter}
 use Rattle.thread_local_schedule.specs.Events.{DropTable, is_enabled}
 use Rattle.thread_local_schedule.specs.Schedule.{is_take, is_refused, is_exclusive, is_of, is_of_walk, begins_walk}
 use Rattle.thread_local_schedule.specs.Schedule.{ends_table, is_granted_take, newcomer, NoneTaken}
@@ -18,7 +18,7 @@ use Rattle.thread_local_model.specs.Answers.{Get, GetOr}
 use Rattle.thread_local_schedule.specs.Calls.{gets_of, closure_of, CallsStay, GoesOn}
 use Rattle.thread_local_schedule.specs.Local.{LoadPointer, LookAtFlag, InstallBucket, WriteValue, Reply}
 use Rattle.std.proofs.lemmas.Bool.{false≢true, eqb-true}
-use Rattle.std.specs.Prelude.{⊤, option_map}
+use Rattle.std.specs.Prelude.{option_map}
 use Rattle.thread_local_schedule.specs.Table.{Table, Bucket}
 use Rattle.thread_local_schedule.specs.SharedWalk.{WalkStep}
 use Rattle.thread_local_schedule.specs.Fits.{named}
@@ -150,17 +150,17 @@ calls_stay before after (inr (inr (inr x))) = stays_of before after x.calls
 -- the publishing call ends
 abbrev End : {V E : Type 0} → Local V E → Local V E → Type 0
 End before after =
-    (closure_of after.doing ≡ None)
+    (closure_of after.doing ≡ None) × (gets_of after.doing ≡ gets_of before.doing)
     × IsSomeAnd (closure_of before.doing) (λ create. after.calls ≡ before.calls ++ GetOr create false ∷ [])
 
 pub writes : {V E : Type 0} (before after : Local V E) → GoesOn WriteValue before after
     → Stay before after ⊎ End before after
 writes before after x =
-    ⊎_elim (λ stays. inl (stays_of before after stays)) (λ ends. inr (ends.none, ends.calls)) x.calls
+    ⊎_elim (λ stays. inl (stays_of before after stays)) (λ ends. inr (ends.none, ends.gets, ends.calls)) x.calls
 
 pub replies : {V E : Type 0} (before after : Local V E) → GoesOn Reply before after
     → ((gets_of before.doing ≡ suc (gets_of after.doing)) × (closure_of after.doing ≡ closure_of before.doing)
     × (after.calls ≡ before.calls ++ Get ∷ []))
     ⊎ End before after
 replies before after x =
-    ⊎_elim (λ ends. inl (ends.gets, ends.closure, ends.calls)) (λ ends. inr (ends.none, ends.calls)) x.calls
+    ⊎_elim (λ ends. inl (ends.gets, ends.closure, ends.calls)) (λ ends. inr (ends.none, ends.gets, ends.calls)) x.calls

@@ -1,6 +1,7 @@
 //! What every event needs and does, and which cores schedules reach.
 ghost use Rattle.std.specs.Prelude.{◌≡◌, ℕ, ◌+◌, ◌^◌, ◌<◌, ◌≤◌, Bool, true, false, Result, Err, Some, None, IsTrue};
-ghost use Rattle.std.specs.Prelude.{IsSome, IsSomeAnd, MatchOption, if◌then◌else◌};
+ghost use Rattle.std.specs.Prelude.{IsSome, IsSomeAnd, MatchOption, if◌then◌else◌, max, ◌-◌};
+ghost use Rattle.thread_local_model.specs.Held.{HoldsAllBelow};
 ghost use Rattle.thread_local_model.specs.Place.{bucket_of};
 ghost use Rattle.thread_local_model.specs.Learnt.{Unknown, Missing, Standing, Vacant, Holding};
 ghost use Rattle.thread_local_model.specs.Answers.{Failed};
@@ -10,18 +11,22 @@ ghost use Rattle.thread_local_schedule.specs.Local.{LookAtFlag, MakeBucket, Inst
 ghost use Rattle.thread_local_schedule.specs.Calls.{gets_of, closure_of, HasNoCall, steps_left, GoesDown, EndsWith};
 ghost use Rattle.thread_local_schedule.specs.SharedWalk.{WalkStep};
 ghost use Rattle.thread_local_schedule.specs.OwnerWalk.{rewritten};
-ghost use Rattle.thread_local_schedule.specs.Core.{Core, made_core, shadow};
-ghost use Rattle.thread_local_schedule.specs.Events.{Event, OfLocal, OfWalk, EndWalk, Owner, IterMut, Slots};
+ghost use Rattle.thread_local_schedule.specs.Core.{Core, made_core, new_core, shadow, peak};
+ghost use Rattle.thread_local_schedule.specs.Events.{Event, TakeId, OfLocal, OfWalk, EndWalk, Owner, IterMut, Slots};
 ghost use Rattle.thread_local_schedule.specs.Events.{is_enabled, happens};
 ghost use Rattle.thread_local_schedule.specs.Schedule.{is_take, is_refused, is_granted_take, newcomer, IsReached};
 
 /// What every event needs and does, beside what the other theorems say: so that those aren't about
 /// nothing, and no event does more than it says.
 pub fn events_say<V, E>()
-    // A new table is open. What schedules reach are the tables made with a capacity below 2^63, and
-    // what any event makes of a reached one.
+    // A new table is open. It has room for its capacity and for as many ids more as is chosen, and
+    // that of `new` for none. What schedules reach are the tables made with a capacity below 2^63,
+    // and what any event makes of a reached one.
     ensures made_open { (capacity extra : ℕ)
         → (made_core {V = V} {E = E} capacity extra).ended ≡ false }
+    ensures made_room { (capacity extra : ℕ)
+        → (made_core {V = V} {E = E} capacity extra).manager.room ≡ capacity + extra }
+    ensures made_new { new_core {V = V} {E = E} ≡ made_core 0 0 }
     ensures reached_first { (capacity extra : ℕ)
         → capacity < 2 ^ 63 → IsReached {V = V} {E = E} (made_core capacity extra) }
     ensures reached_next { (core : Core V E) (event : Event V E)
@@ -101,8 +106,24 @@ pub fn events_say<V, E>()
         → happens core (Owner (IterMut others))
         ≡ record core { table = rewritten core.table others } }
 
+    // Whether memory is refused is chosen at each request: a call that may ask for it may get it
+    // and may be refused, and comes nearer to its end by either. A take for which no room is left
+    // is refused exactly where memory is, while an id is left.
+    ensures memory_is_chosen { (core : Core V E) (n : ℕ) (local : Local V E) (refused other : Bool)
+        → IsTrue (is_enabled core (OfLocal n (MakeBucket refused)))
+        → core.locals n ≡ Some local
+        → IsTrue (is_enabled core (OfLocal n (MakeBucket other)))
+        × IsSomeAnd ((happens core (OfLocal n (MakeBucket other))).locals n) (GoesDown local) }
+    ensures takes_need_memory { (core : Core V E) (refused : Bool) (growth : ℕ)
+        → IsReached core
+        → core.ended ≡ false
+        → HoldsAllBelow (peak core) (shadow core).held
+        → peak core ≡ core.manager.room
+        → peak core < 2 ^ 63 - 1
+        → is_refused core (TakeId refused growth) ≡ refused }
+
     // A call that is out of memory ends in a refusal. The room changes by takes alone, and never
-    // falls.
+    // falls: a take makes room for the peak, and for as many ids more as is chosen.
     ensures out_of_memory { (core : Core V E) (n : ℕ)
         → IsTrue (is_enabled core (OfLocal n (MakeBucket true)))
         → IsTrue (is_refused core (OfLocal n (MakeBucket true))) }
@@ -110,4 +131,8 @@ pub fn events_say<V, E>()
         → is_take event ≡ false → (happens core event).manager.room ≡ core.manager.room }
     ensures room_grows { (core : Core V E) (event : Event V E)
         → core.manager.room ≤ (happens core event).manager.room }
+    ensures room_of_take { (core : Core V E) (refused : Bool) (growth : ℕ)
+        → IsTrue (is_granted_take core (TakeId refused growth))
+        → let after = happens core (TakeId refused growth) in
+        after.manager.room ≡ max core.manager.room (peak after) + growth }
 {}

@@ -260,9 +260,15 @@ pub fn every_schedule<V, E>()
         → Contains local.answered told
         → told ≢ Refused }
 
-    // One schedule from `new` to `clear`, computed: it shows that the events do occur. Four Locals
-    // publish in a new table. A walk gives the four values; the next Local finds the first and keeps
-    // it; an owner's walk gives the four; and `clear` leaves the sheet of `new`.
+    // One schedule from `new` to `clear`, computed: it shows that the events do occur, since each of
+    // its cores is reached. Four Locals publish in a new table. A walk gives the four values; the
+    // next Local finds the first and keeps it; an owner's walk gives the four; and `clear` leaves
+    // the sheet of `new`.
+    ensures four_are_reached { (a b c d : V)
+        → IsReached (after_publishing {E = E} a b c d)
+        × IsReached (after_walking {E = E} a b c d)
+        × IsReached (after_next {E = E} a b c d)
+        × IsReached (after_all {E = E} a b c d) }
     ensures four_values { (a b c d : V)
         → (shadow (after_publishing {E = E} a b c d)).values ≡ slice_get (a ∷ b ∷ c ∷ d ∷ []) }
     ensures seven_slots { (a b c d : V) → installed_slots (after_publishing {E = E} a b c d) ≡ 7 }

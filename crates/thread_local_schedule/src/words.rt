@@ -139,6 +139,7 @@ pub fn words_say<V, E>()
         × (after.calls ≡ before.calls))
         ⊎
         ((closure_of after.doing ≡ None)
+        × (gets_of after.doing ≡ gets_of before.doing)
         × IsSomeAnd (closure_of before.doing) (λ create.
         after.calls ≡ before.calls ++ GetOr create false ∷ [])) }
     ensures sets_flag { (before after : Local V E) → GoesOn SetFlag before after
@@ -152,6 +153,7 @@ pub fn words_say<V, E>()
         × (after.calls ≡ before.calls ++ Get ∷ []))
         ⊎
         ((closure_of after.doing ≡ None)
+        × (gets_of after.doing ≡ gets_of before.doing)
         × IsSomeAnd (closure_of before.doing) (λ create.
         after.calls ≡ before.calls ++ GetOr create false ∷ [])) }
     ensures goes_down { (before after : Local V E) → GoesDown before after

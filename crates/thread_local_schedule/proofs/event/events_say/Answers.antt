@@ -11,6 +11,12 @@ use Rattle.thread_local_schedule.proofs.event.events_say.Goals as goal
 pub returns-clause-made_open : goal.returns-clause-made_open
 returns-clause-made_open g c = λ capacity extra. refl
 
+pub returns-clause-made_room : goal.returns-clause-made_room
+returns-clause-made_room g c = λ capacity extra. refl
+
+pub returns-clause-made_new : goal.returns-clause-made_new
+returns-clause-made_new g c = refl
+
 pub returns-clause-reached_first : goal.returns-clause-reached_first
 returns-clause-reached_first g c = rule.reached_first
 
@@ -62,6 +68,12 @@ returns-clause-slots g c = rule.slots
 pub returns-clause-iter_mut : goal.returns-clause-iter_mut
 returns-clause-iter_mut g c = rule.iter_mut
 
+pub returns-clause-memory_is_chosen : goal.returns-clause-memory_is_chosen
+returns-clause-memory_is_chosen g c = rule.memory_is_chosen
+
+pub returns-clause-takes_need_memory : goal.returns-clause-takes_need_memory
+returns-clause-takes_need_memory g c = λ core refused growth r. rule.takes_need_memory core refused growth (clause.fits core r)
+
 pub returns-clause-out_of_memory : goal.returns-clause-out_of_memory
 returns-clause-out_of_memory g c = rule.out_of_memory
 
@@ -70,3 +82,6 @@ returns-clause-room_stays g c = rule.room_stays
 
 pub returns-clause-room_grows : goal.returns-clause-room_grows
 returns-clause-room_grows g c = rule.room_grows
+
+pub returns-clause-room_of_take : goal.returns-clause-room_of_take
+returns-clause-room_of_take g c = rule.room_of_take

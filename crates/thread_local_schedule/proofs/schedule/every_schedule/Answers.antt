@@ -11,6 +11,7 @@ use Rattle.thread_local_schedule.proofs.Parts.{made_core-fits}
 use Rattle.thread_local_schedule.proofs.HeldCounts.{held_below}
 use Rattle.thread_local_schedule.proofs.FourLocals as story
 use Rattle.thread_local_schedule.proofs.FourValues as four
+use Rattle.thread_local_schedule.proofs.FourReached as reach
 use Rattle.thread_local_schedule.proofs.schedule.every_schedule.Goals as goal
 
 pub returns-clause-moves : goal.returns-clause-moves
@@ -188,6 +189,9 @@ returns-clause-reserved_publishes g c = λ core n local refused r. bound.reserve
 
 pub returns-clause-reserved_answers : goal.returns-clause-reserved_answers
 returns-clause-reserved_answers g c = λ core n local told r. bound.reserved_answers core n local told (clause.fits core r)
+
+pub returns-clause-four_are_reached : goal.returns-clause-four_are_reached
+returns-clause-four_are_reached g c = λ a b c d. reach.four_are_reached a b c d
 
 pub returns-clause-four_values : goal.returns-clause-four_values
 returns-clause-four_values g c = four.four_values _ _
