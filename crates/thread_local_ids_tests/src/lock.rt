@@ -5,8 +5,9 @@ use std::sync::Wait;
 use std::sync::atomic::AtomicBool;
 use std::sync::atomic::Ordering::SeqCst;
 use std::test::Fail;
-use std::thread;
 use std::thread::Threads;
+use std::time::{Clock, CpuClock, Duration};
+use std::{io, thread};
 use thread_local_ids::{Fits, Lock};
 
 /// How many goods a shelf has, of which there is room for `room`.
@@ -123,6 +124,41 @@ fn each_sleeper_is_woken(rt: HostRuntime) -> Result<(), Fail> {
         ),
     );
     assert_eq!(rt; (puts, shelf.into_inner().goods), ((1, 1), 2));
+    Ok(())
+}
+
+/// Takes the lock, says so, and has it for a second.
+fn hold_for_a_second<R: Clock + Wait>(shelf: &Lock<Shelf>, rt: &R, is_held: &AtomicBool) {
+    let _guard = shelf.lock(rt);
+    is_held.store(true, SeqCst);
+    thread::sleep(rt, Duration::from_secs(1));
+}
+
+/// How much of the processor's time a thread takes to put one there once another thread has the
+/// lock.
+fn time_of_late<R: CpuClock + Wait>(
+    shelf: &Lock<Shelf>,
+    rt: &R,
+    is_held: &AtomicBool,
+) -> io::Result<Duration> {
+    let before = rt.thread_cpu_time()?;
+    put_late(shelf, rt, is_held);
+    Ok(rt.thread_cpu_time()?.saturating_sub(before))
+}
+
+// A thread that tries again and again would take that second of its processor.
+#[test]
+fn a_thread_that_waits_for_long_sleeps(rt: HostRuntime) -> Result<(), Fail> {
+    let shelf = Lock::new(Shelf { room: 5, goods: 0 });
+    let is_held = AtomicBool::new(false);
+    let (there, mark) = (&shelf, &is_held);
+    let (_, time) = thread::join(
+        &rt,
+        || hold_for_a_second(there, &rt, mark),
+        || time_of_late(there, &rt, mark),
+    );
+    assert_eq!(rt; shelf.into_inner().goods, 1);
+    assert!(rt; time? < Duration::from_millis(200));
     Ok(())
 }
 

@@ -10,6 +10,8 @@ mod freed;
 #[cfg(test)]
 mod left_behind;
 #[cfg(test)]
+mod looked_again;
+#[cfg(test)]
 mod misuse;
 #[cfg(test)]
 mod races;

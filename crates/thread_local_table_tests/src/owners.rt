@@ -146,6 +146,24 @@ fn an_owner_finds_ids_and_drains_a_table(rt: HostRuntime) -> Result<(), Fail> {
     Ok(())
 }
 
+/// What a drain gives first, of three values.
+fn first_three_drained(table: &mut ThreadLocal<u32>) -> [Option<u32>; 3] {
+    let mut values = table.drain();
+    [values.next(), values.next(), values.next()]
+}
+
+#[test]
+fn a_table_is_drained_of_each_value(rt: HostRuntime) -> Result<(), Fail> {
+    let mut table = numbers(rt.alloc());
+    let forgotten = publish_and_forget(&table, &rt, 7);
+    put(&mut table, 30)?;
+    assert_eq!(rt;
+        (forgotten, first_three_drained(&mut table)),
+        (Some(7), [Some(7), Some(30), None])
+    );
+    Ok(())
+}
+
 /// Writes the value at an id, and answers what stood there.
 fn write_at<T>(table: &mut ThreadLocal<T>, id: usize, value: T) -> Result<T, T> {
     match table.get_mut(id) {

@@ -139,13 +139,14 @@ fn a_refused_capacity_says_so(rt: HostRuntime) -> Result<(), Fail> {
     Ok(())
 }
 
-// A thousand tables take 8.1 MiB each, where no more than 126 of them can be had at a time.
+// A thousand tables take 8 MiB each, where no more than 127 of them can be had at a time. Large values
+// in few slots, since each slot costs time.
 #[test]
 fn blocks_are_freed(rt: HostRuntime) -> Result<(), Fail> {
     let _taken = take_all_but(rt.alloc(), 1 << 30)?;
     for _ in 0..1000 {
-        let mut buckets = Buckets::<u64>::with_capacity(rt.alloc(), 1048575)?;
-        assert_eq!(rt; buckets.slots(), 1048575);
+        let mut buckets = Buckets::<[u64; 512]>::with_capacity(rt.alloc(), 2047)?;
+        assert_eq!(rt; buckets.slots(), 2047);
     }
     Ok(())
 }

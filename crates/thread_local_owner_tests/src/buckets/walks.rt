@@ -162,3 +162,58 @@ fn walks_print_their_cursor(rt: HostRuntime) -> Result<(), Fail> {
     assert_eq!(rt; (lending, taking), (true, true));
     Ok(())
 }
+
+/// Ids in buckets 0, 1, 2 and 7, and in both chunks of the last. Beside each stands where a walk over
+/// them is behind it: how many values it gave, the bucket and its size, and the next slot's number.
+const PLACES: [(u32, &str); 6] = [
+    (0, "yielded: 1, bucket: 0, bucket_size: 1, index: 1"),
+    (2, "yielded: 2, bucket: 1, bucket_size: 2, index: 2"),
+    (4, "yielded: 3, bucket: 2, bucket_size: 4, index: 2"),
+    (130, "yielded: 4, bucket: 7, bucket_size: 128, index: 4"),
+    (132, "yielded: 5, bucket: 7, bucket_size: 128, index: 6"),
+    (197, "yielded: 6, bucket: 7, bucket_size: 128, index: 71"),
+];
+
+/// Whether a walk prints its name and this place.
+fn is_at<W: fmt::Debug>(
+    alloc: Global,
+    walk: &W,
+    name: &str,
+    place: &str,
+) -> Result<bool, AllocError> {
+    let text = format!(in alloc; "{name} {{ raw: RawIter {{ {place} }} }}")?;
+    prints(alloc, walk, text.as_str())
+}
+
+/// Whether a walk prints where it is behind each value, and once more behind the last at its end.
+fn taking_prints_each(alloc: Global, buckets: Buckets<u32>) -> Result<bool, AllocError> {
+    let mut walk = buckets.into_iter();
+    let mut fits = true;
+    for (id, place) in PLACES {
+        fits &= walk.next() == Some(id) && is_at(alloc, &walk, "IntoIter", place)?;
+    }
+    Ok(fits && walk.next().is_none() && is_at(alloc, &walk, "IntoIter", PLACES[5].1)?)
+}
+
+/// The same of a walk that lends.
+fn lending_prints_each(alloc: Global, buckets: &mut Buckets<u32>) -> Result<bool, AllocError> {
+    let mut walk = buckets.iter_mut();
+    let mut fits = true;
+    for (id, place) in PLACES {
+        fits &= walk.next().map(|there| *there) == Some(id)
+            && is_at(alloc, &walk, "IterMut", place)?;
+    }
+    Ok(fits && walk.next().is_none() && is_at(alloc, &walk, "IterMut", PLACES[5].1)?)
+}
+
+#[test]
+fn an_owners_walk_prints_where_it_is_in_each_bucket(rt: HostRuntime) -> Result<(), Fail> {
+    let mut buckets = Buckets::new(rt.alloc());
+    for (id, _place) in PLACES {
+        insert(&mut buckets, id, id)?;
+    }
+    let lending = lending_prints_each(rt.alloc(), &mut buckets)?;
+    let taking = taking_prints_each(rt.alloc(), buckets)?;
+    assert_eq!(rt; (lending, taking), (true, true));
+    Ok(())
+}
