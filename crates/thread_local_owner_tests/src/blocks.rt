@@ -72,6 +72,15 @@ fn a_slot_takes_a_bit_and_a_value(rt: HostRuntime) {
     );
 }
 
+// The values of the first take half of the limit of 2^58 bytes, and those of the second all of it.
+#[test]
+fn a_block_below_the_limit_is_asked_for(rt: HostRuntime) {
+    assert_eq!(rt;
+        (bytes_asked(1 << 54), bytes_asked(1 << 55)),
+        (146_366_987_889_541_120, 0)
+    );
+}
+
 #[test]
 fn a_block_that_is_too_large_is_refused(rt: HostRuntime) {
     let refused = (

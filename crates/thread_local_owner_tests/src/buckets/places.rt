@@ -139,7 +139,7 @@ fn a_refused_capacity_says_so(rt: HostRuntime) -> Result<(), Fail> {
     Ok(())
 }
 
-// A thousand tables take 8 MiB each, where no more than 127 of them can be had at a time. Large values
+// A thousand tables take 8 MiB each, where no more than 128 of them can be had at a time. Large values
 // in few slots, since each slot costs time.
 #[test]
 fn blocks_are_freed(rt: HostRuntime) -> Result<(), Fail> {
