@@ -1,5 +1,5 @@
 //! A pool of values that threads use one after another, as buffers of bytes.
-ghost use Rattle.std.specs.Prelude.{◌≡◌, true, [], IfOk};
+ghost use Rattle.std.specs.Prelude.{◌≡◌, true, Some, None, is_none, [], IfOk};
 
 use crate::local::Local;
 use crate::table::ThreadLocal;
@@ -15,9 +15,9 @@ mod lends;
 /// Values that are expensive to make, which threads borrow and give back. Threads share a pool
 /// through a `&`. Only `get`, `buffer` and the drop of what they answer may wait for the lock of the
 /// pool's table, and only `get` and `buffer` take memory. Dropping the pool drops its values, whose
-/// drop may wait. Rust's crate has no such type.
+/// drop may wait. A `Pool` without a type is one of bytes. Rust's crate has no such type.
 #[derive(Drop)]
-pub struct Pool<T> {
+pub struct Pool<T = Vec<u8>> {
     table: ThreadLocal<Cell<Option<T>>>,
     alloc: Global,
 }
@@ -50,18 +50,8 @@ impl<T> Pool<T> {
         ensures created { IfOk result (λ pooled. pooled.is_new ≡ true → F.post create pooled.value) }
     {
         let mut local = self.table.local(rt)?;
-        Ok(match local.get_or(|| Cell::new(None))?.replace(None) {
-            Some(value) => Pooled {
-                local,
-                value,
-                is_new: false,
-            },
-            None => Pooled {
-                local,
-                value: create(),
-                is_new: true,
-            },
-        })
+        let found = local.get_or(|| Cell::new(None))?.replace(None);
+        Ok(Pooled::of(local, found, create))
     }
 }
 
@@ -72,9 +62,9 @@ impl Pool<Vec<u8>> {
         ensures empty { IfOk result (λ buffer. buffer ≡ []) }
     {
         let alloc = self.alloc;
-        let (local, mut bytes) = self.get(rt, || Vec::new(alloc))?.into_parts();
-        bytes.clear();
-        Ok(Buffer { local, bytes })
+        let (local, mut left) = self.get(rt, || Vec::new(alloc))?.into_parts();
+        left.clear();
+        Ok(Buffer { local, bytes: left })
     }
 }
 
@@ -100,6 +90,31 @@ impl<'a, T, R: Wait> Model for Pooled<'a, T, R> {
 }
 
 impl<'a, T, R: Wait> Pooled<'a, T, R> {
+    /// The value that was found in the cell of a `Local`, or a new one that the closure makes.
+    fn of<F: FnOnce() -> T + Drop>(
+        local: Local<'a, Cell<Option<T>>, R>,
+        found: Option<T>,
+        create: F,
+    ) -> Pooled<'a, T, R>
+        requires { found ≡ None → F.pre create }
+        ensures is_new { result.is_new ≡ is_none found }
+        ensures kept { (value : T) → found ≡ Some value → result.value ≡ value }
+        ensures created { found ≡ None → F.post create result.value }
+    {
+        match found {
+            Some(value) => Pooled {
+                local,
+                value,
+                is_new: false,
+            },
+            None => Pooled {
+                local,
+                value: create(),
+                is_new: true,
+            },
+        }
+    }
+
     /// Whether `get` called its closure, and no earlier holder had the value.
     pub fn is_new(&self) -> bool
         ensures { result ≡ self.now.is_new }
@@ -131,9 +146,9 @@ impl<'a, T: Drop, R: Wait> Drop for Pooled<'a, T, R> {
     }
 }
 
-/// A buffer of a pool. Dropping it puts it back with its room, and gives its id back, which may
-/// wait. A forgotten one keeps its id and its bytes. No other call waits or takes memory. Contracts
-/// see the bytes.
+/// A buffer of a pool. Dropping it empties it, puts it back with its room, and gives its id back,
+/// which may wait. A forgotten one keeps its id and its bytes. No other call waits or takes memory.
+/// Contracts see the bytes.
 pub struct Buffer<'a, R: Wait> {
     local: Local<'a, Cell<Option<Vec<u8>>>, R>,
     bytes: Vec<u8>,
@@ -158,7 +173,8 @@ impl<'a, R: Wait> Buffer<'a, R> {
 
 impl<'a, R: Wait> Drop for Buffer<'a, R> {
     fn drop(self) {
-        let Self { local, bytes } = self;
+        let Self { local, mut bytes } = self;
+        bytes.clear();
         put_back(local, bytes);
     }
 }

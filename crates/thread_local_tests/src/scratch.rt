@@ -170,6 +170,42 @@ fn eight_threads_get_empty_buffers(rt: HostRuntime) -> Result<(), Fail> {
     Ok(())
 }
 
+/// Of a vector that the pool has, how many bytes it holds and whether it has room for 1000. None
+/// where the pool had none.
+fn measure_what_was_left<R: Wait>(pool: &Pool, rt: &R, alloc: Global) -> Option<(usize, bool)> {
+    let bytes = pool.get(rt, || Vec::new(alloc)).ok()?;
+    if bytes.is_new() {
+        return None;
+    }
+    Some((bytes.len(), bytes.capacity() >= 1000))
+}
+
+#[test]
+fn a_dropped_buffer_leaves_no_byte(rt: HostRuntime) -> Result<(), Fail> {
+    let pool = Pool::new(rt.alloc());
+    let filled = fill(pool.buffer(&rt)?, 1000);
+    assert_eq!(rt;
+        (filled, measure_what_was_left(&pool, &rt, rt.alloc())),
+        (Ok(true), Some((0, true)))
+    );
+    Ok(())
+}
+
+/// A struct that holds a pool of bytes.
+#[derive(Drop)]
+struct Bytes {
+    pool: Pool,
+}
+
+#[test]
+fn a_pool_without_a_type_is_one_of_bytes(rt: HostRuntime) -> Result<(), Fail> {
+    let bytes = Bytes {
+        pool: Pool::new(rt.alloc()),
+    };
+    assert_eq!(rt; measure_another(&bytes.pool, &rt), Some((0, 0)));
+    Ok(())
+}
+
 /// What is told when 5 is written to a new buffer, and whether it stands there.
 fn write_five<R: Wait>(pool: &Pool<Vec<u8>>, rt: &R) -> Option<(usize, bool)> {
     let mut buffer = pool.buffer(rt).ok()?;
