@@ -1,6 +1,6 @@
 //! `CachedThreadLocal`, a deprecated wrapper of `ThreadLocal`: once a faster table, now as fast,
 //! and with fewer calls.
-ghost use Rattle.std.specs.Prelude.{◌≡◌, ◌≢◌, length, Some, IfSome, IsSome};
+ghost use Rattle.std.specs.Prelude.{◌≡◌, ◌≢◌, ◌-◌, ◌^◌, ◌<◌, length, Some, IfSome, IfOk, IsSome};
 ghost use Rattle.std.specs.Iterator.{YieldsFirst, YieldsFirstMut, UpTo, item_count};
 ghost use Rattle.std.specs.Iterator.SizeHint.{IsWithinCount};
 ghost use Rattle.thread_local_buckets.specs.IterMut.{iter_mut_rest};
@@ -50,7 +50,13 @@ impl<T> CachedThreadLocal<T> {
     }
 
     /// A `Local` with the least id that isn't held. May wait, and may take memory.
-    pub fn local<'a, R: Wait>(&'a self, rt: &'a R) -> Result<Local<'a, T, R>, LocalError> {
+    pub fn local<'a, R: Wait>(&'a self, rt: &'a R) -> Result<Local<'a, T, R>, LocalError>
+        ensures table { IfOk result (λ local.
+            (local.table ≡ self.now.table)
+            × (local.sharing ≡ self.now.sharing)
+            × (local.reserved ≡ self.now.reserved)) }
+        ensures in_range { IfOk result (λ local. local.id < 2 ^ 63 - 1) }
+    {
         self.table.local(rt)
     }
 

@@ -1,10 +1,13 @@
 //! The deprecated name of a table, in use.
+ghost use Rattle.std.specs.Prelude.{◌≢◌, IfSome};
 
+use std::alloc::Global;
 use std::cell::Cell;
 use std::default::MadeWith;
 use std::sync::Wait;
 use std::test::Fail;
 use thread_local::cached::{CachedIntoIter, CachedIterMut, CachedThreadLocal};
+use thread_local::local::{Local, TryError};
 
 /// What a new `Local` finds, and what it is told when it publishes 3.
 fn publish_three<R: Wait>(table: &CachedThreadLocal<u32>, rt: &R) -> Option<[Option<u32>; 2]> {
@@ -78,5 +81,65 @@ fn values_of_a_deprecated_table_are_written_and_moved_out(rt: HostRuntime) -> Re
         (published, moves_out_two(table.into_iter())),
         (Some([true; 2]), true)
     );
+    Ok(())
+}
+
+/// Whether a closure's error is told as such and publishes nothing, and what is told when the next
+/// closure makes 4.
+fn try_twice<R: Wait>(local: &mut Local<'_, u32, R>) -> (bool, Option<u32>) {
+    let failed = matches!(local.get_or_try(|| Err("no")), Err(TryError::Create("no")));
+    let is_empty = local.get().is_none();
+    let made = local.get_or_try(|| Ok::<u32, u8>(4)).ok().copied();
+    (failed && is_empty, made)
+}
+
+/// Whether a `Local` is shown so.
+fn is_shown<R: Wait>(local: &Local<'_, u32, R>, alloc: Global, shown: &str) -> bool {
+    match format!(in alloc; "{local:?}") {
+        Ok(text) => text.as_str() == shown,
+        Err(_) => false,
+    }
+}
+
+/// Whether a first `Local` publishes 4 once a closure has failed, and is shown with it, and whether
+/// a second one publishes the default.
+fn ask_the_locals_of_a_deprecated_table<R: Wait>(
+    table: &CachedThreadLocal<u32>,
+    rt: &R,
+    alloc: Global,
+) -> Option<[bool; 4]> {
+    let mut first = table.local(rt).ok()?;
+    let mut second = table.local(rt).ok()?;
+    let is_shown_empty = is_shown(&first, alloc, "ThreadLocal { local_data: None }");
+    let tried = try_twice(&mut first) == (true, Some(4));
+    let is_shown_with_four = is_shown(&first, alloc, "ThreadLocal { local_data: Some(4) }");
+    let default = second.get_or_default().ok().copied() == Some(0);
+    Some([is_shown_empty, tried, is_shown_with_four, default])
+}
+
+#[test]
+fn the_locals_of_a_deprecated_table_have_each_call(rt: HostRuntime) -> Result<(), Fail> {
+    let table = CachedThreadLocal::<u32>::new(rt.alloc());
+    assert_eq!(rt;
+        ask_the_locals_of_a_deprecated_table(&table, &rt, rt.alloc()),
+        Some([true; 4])
+    );
+    Ok(())
+}
+
+/// Shows that two `Local`s of a deprecated table have two ids.
+fn have_two_ids<R: Wait>(table: &CachedThreadLocal<u32>, rt: &R) -> Option<(usize, usize)>
+    ensures { IfSome result (λ ids. ids.0 ≢ ids.1) }
+{
+    let mut first = table.local(rt).ok()?;
+    let mut second = table.local(rt).ok()?;
+    first.apart(&mut second);
+    Some((first.id(), second.id()))
+}
+
+#[test]
+fn two_locals_of_a_deprecated_table_have_two_ids(rt: HostRuntime) -> Result<(), Fail> {
+    let table = CachedThreadLocal::<u32>::new(rt.alloc());
+    assert_eq!(rt; have_two_ids(&table, &rt), Some((0, 1)));
     Ok(())
 }
