@@ -19,3 +19,5 @@ mod races;
 mod racing_walks;
 #[cfg(test)]
 mod refusals;
+#[cfg(test)]
+mod without_memory;

@@ -15,7 +15,7 @@ use thread_local_thread_id::{LocalError, Thread};
 
 /// A call that publishes a value.
 #[derive(Clone, Copy, PartialEq, Eq)]
-enum Publishing {
+pub enum Publishing {
     GetOr,
     GetOrTry,
     GetOrDefault,
@@ -23,6 +23,14 @@ enum Publishing {
 }
 
 impl Publishing {
+    /// Each of them.
+    pub const ALL: [Publishing; 4] = [
+        Publishing::GetOr,
+        Publishing::GetOrTry,
+        Publishing::GetOrDefault,
+        Publishing::Set,
+    ];
+
     /// The call's name.
     fn name(self) -> &'static str {
         match self {
@@ -35,7 +43,7 @@ impl Publishing {
 
     /// Publishes a number, or the default, and counts the calls of the closure. An error is want of
     /// memory.
-    fn publish<R: Wait>(
+    pub fn publish<R: Wait>(
         self,
         local: &mut Local<'_, u32, R>,
         number: u32,
@@ -92,7 +100,7 @@ impl Publishing {
     }
 
     /// What is published in the place of a number, and how often a closure is called for it.
-    fn wanted(self, number: u32) -> (u32, u32) {
+    pub fn wanted(self, number: u32) -> (u32, u32) {
         match self {
             Publishing::GetOr | Publishing::GetOrTry => (number, 1),
             Publishing::GetOrDefault => (0, 0),
@@ -170,12 +178,7 @@ fn with_62_held<R: Wait>(rt: &R, alloc: Global) -> Result<ThreadLocal<u32>, Loca
 
 #[test]
 fn a_call_that_was_refused_succeeds_when_it_is_made_again(rt: HostRuntime) -> Result<(), Fail> {
-    for call in [
-        Publishing::GetOr,
-        Publishing::GetOrTry,
-        Publishing::GetOrDefault,
-        Publishing::Set,
-    ] {
+    for call in Publishing::ALL {
         let table = with_62_held(&rt, rt.alloc())?;
         let as_promised = call.by_three(&table, &rt) == Ok(true);
         let mut values = table.into_iter();

@@ -1,5 +1,5 @@
-//! A bound on a test's memory: all the rest is taken first, so that a leak is refused on any
-//! machine.
+//! A bound on a test's memory: all the rest is taken first. So a leak is refused on any machine, or
+//! every request is. `rt try` doesn't end on a test that calls these: it marks each byte of a block.
 
 use std::alloc::{AllocError, Global};
 
@@ -30,5 +30,25 @@ pub fn take_all_but(alloc: Global, bytes: usize) -> Result<Vec<Vec<u8>>, AllocEr
         size /= 2;
     }
     drop(spare);
+    Ok(blocks)
+}
+
+/// Takes all memory, so that each request is refused until the blocks are dropped.
+///
+/// Below 2 KiB each size is taken by itself: the C library keeps small blocks by their sizes, and
+/// may grant one where it refuses a smaller one.
+pub fn take_all(alloc: Global) -> Result<Vec<Vec<u8>>, AllocError> {
+    let mut blocks = take_all_but(alloc, 0)?;
+    let mut size = 1usize << 21;
+    for _ in 0..10 {
+        take_until_refused(&mut blocks, alloc, size);
+        size /= 2;
+    }
+    let mut size = 2048usize;
+    for _ in 0..128 {
+        take_until_refused(&mut blocks, alloc, size);
+        size = size.saturating_sub(16);
+    }
+    take_until_refused(&mut blocks, alloc, 8);
     Ok(blocks)
 }

@@ -1,0 +1,325 @@
+//! What each call answers where no memory is left. A test takes all memory before such a call, so
+//! every request is refused, and frees it before it compares.
+
+use crate::refusals::Publishing;
+use std::alloc::{AllocError, Global};
+use std::cell::Cell;
+use std::sync::Wait;
+use std::test::Fail;
+use thread_local::ThreadLocal;
+use thread_local::local::{Local, TryError};
+use thread_local::scratch::Pool;
+use thread_local_buckets::{Buckets, CapacityError};
+use thread_local_test_helpers::memory::take_all;
+use thread_local_thread_id::{LocalError, Thread, ThreadIdManager};
+
+/// A table of numbers that asked for nothing yet.
+fn numbers(alloc: Global) -> ThreadLocal<u32> {
+    ThreadLocal::new(alloc)
+}
+
+/// A table of numbers with this capacity.
+fn with_capacity(alloc: Global, capacity: usize) -> Result<ThreadLocal<u32>, CapacityError> {
+    ThreadLocal::with_capacity(alloc, capacity)
+}
+
+/// What a call that publishes 6 answers, and how often its closure was called.
+fn publish_six<R: Wait>(
+    call: Publishing,
+    local: &mut Local<'_, u32, R>,
+) -> (Result<u32, AllocError>, u32) {
+    let calls = Cell::new(0);
+    let answer = call.publish(local, 6, &calls);
+    (answer, calls.get())
+}
+
+/// What such a call answers without memory, what its `Local` finds then, and what the same call
+/// answers with memory.
+fn publish_twice<R: Wait>(
+    call: Publishing,
+    local: &mut Local<'_, u32, R>,
+    alloc: Global,
+) -> Result<
+    (
+        (Result<u32, AllocError>, u32),
+        bool,
+        (Result<u32, AllocError>, u32),
+    ),
+    AllocError,
+> {
+    let taken = take_all(alloc)?;
+    let refused = publish_six(call, local);
+    let is_empty = local.get().is_none();
+    drop(taken);
+    Ok((refused, is_empty, publish_six(call, local)))
+}
+
+#[test]
+fn a_refused_value_calls_no_closure_and_comes_later(rt: HostRuntime) -> Result<(), Fail> {
+    for call in Publishing::ALL {
+        let table = numbers(rt.alloc());
+        let mut local = table.local(&rt)?;
+        let (answer, calls) = call.wanted(6);
+        assert_eq!(rt;
+            publish_twice(call, &mut local, rt.alloc())?,
+            ((Err(AllocError), 0), true, (Ok(answer), calls))
+        );
+    }
+    Ok(())
+}
+
+/// What is told of a closure's error. None: out of memory, or a value.
+fn error_told<R: Wait>(local: &mut Local<'_, u32, R>, error: &'static str) -> Option<&'static str> {
+    match local.get_or_try(|| Err(error)) {
+        Err(TryError::Create(told)) => Some(told),
+        _ => None,
+    }
+}
+
+/// What is told of two errors of a closure, and what `get_or` answers then, where no memory is left
+/// after the first.
+fn publish_after_errors<R: Wait>(
+    local: &mut Local<'_, u32, R>,
+    alloc: Global,
+) -> Result<
+    (
+        Option<&'static str>,
+        Option<&'static str>,
+        Result<u32, AllocError>,
+    ),
+    AllocError,
+> {
+    let first = error_told(local, "a");
+    let taken = take_all(alloc)?;
+    let second = error_told(local, "b");
+    let answer = local.get_or(|| 9).copied();
+    drop(taken);
+    Ok((first, second, answer))
+}
+
+#[test]
+fn no_memory_is_needed_after_an_error_of_the_closure(rt: HostRuntime) -> Result<(), Fail> {
+    let table = numbers(rt.alloc());
+    let mut local = table.local(&rt)?;
+    assert_eq!(rt;
+        publish_after_errors(&mut local, rt.alloc())?,
+        (Some("a"), Some("b"), Ok(9))
+    );
+    Ok(())
+}
+
+/// `Local`s that are held at once publish, where no memory is left if so asked. Answers which of
+/// those that were had did.
+fn publish_held<R: Wait>(
+    table: &ThreadLocal<u32>,
+    rt: &R,
+    alloc: Global,
+    count: usize,
+    is_left: bool,
+) -> Result<Vec<bool>, AllocError> {
+    let mut locals = Vec::with_capacity(alloc, count)?;
+    let mut published = Vec::with_capacity(alloc, count)?;
+    let taken = if is_left {
+        Vec::new(alloc)
+    } else {
+        take_all(alloc)?
+    };
+    for _ in 0..count {
+        if let Ok(local) = table.local(rt) {
+            locals.push(local)?;
+        }
+    }
+    for local in locals.iter_mut() {
+        published.push(local.get_or(|| 5).is_ok())?;
+    }
+    drop(taken);
+    Ok(published)
+}
+
+/// Of eight `Local`s with seven reserved slots the last alone needs memory.
+const SEVEN_OF_EIGHT: [bool; 8] = [true, true, true, true, true, true, true, false];
+
+#[test]
+fn reserved_slots_need_no_memory(rt: HostRuntime) -> Result<(), Fail> {
+    let table = with_capacity(rt.alloc(), 4)?;
+    let published = publish_held(&table, &rt, rt.alloc(), 8, false)?;
+    assert_eq!(rt; published.as_slice(), SEVEN_OF_EIGHT.as_slice());
+    Ok(())
+}
+
+/// How many slots a table has, then how many after a clear, and how many values an owner's walk has
+/// to give.
+fn slots_and_clear(table: &mut ThreadLocal<u32>) -> (usize, usize, usize) {
+    let before = table.slots();
+    table.clear();
+    let after = table.slots();
+    (before, after, table.iter_mut().len())
+}
+
+#[test]
+fn a_cleared_table_needs_no_memory_for_its_reserved_slots(rt: HostRuntime) -> Result<(), Fail> {
+    let mut table = with_capacity(rt.alloc(), 4)?;
+    let first = publish_held(&table, &rt, rt.alloc(), 8, true)?;
+    assert_eq!(rt; first.as_slice(), [true; 8].as_slice());
+    assert_eq!(rt; slots_and_clear(&mut table), (15, 7, 0));
+    let second = publish_held(&table, &rt, rt.alloc(), 8, false)?;
+    assert_eq!(rt; second.as_slice(), SEVEN_OF_EIGHT.as_slice());
+    Ok(())
+}
+
+/// Whether the slot of a new `Local` is reserved.
+fn is_reserved<R: Wait>(table: &ThreadLocal<u32>, rt: &R) -> Result<bool, LocalError> {
+    Ok(table.local(rt)?.is_reserved())
+}
+
+#[test]
+fn a_cleared_table_of_no_capacity_needs_memory_for_each_bucket(
+    rt: HostRuntime,
+) -> Result<(), Fail> {
+    let mut table = numbers(rt.alloc());
+    let first = publish_held(&table, &rt, rt.alloc(), 4, true)?;
+    assert_eq!(rt; first.as_slice(), [true; 4].as_slice());
+    assert_eq!(rt; slots_and_clear(&mut table), (7, 0, 0));
+    let second = publish_held(&table, &rt, rt.alloc(), 4, false)?;
+    assert_eq!(rt; second.as_slice(), [false; 4].as_slice());
+    assert_eq!(rt; is_reserved(&table, &rt)?, false);
+    Ok(())
+}
+
+/// Whether a `Local` is refused memory.
+fn is_refused<R: Wait>(table: &ThreadLocal<u32>, rt: &R) -> bool {
+    matches!(table.local(rt), Err(LocalError::Memory(_)))
+}
+
+/// How many of 64 `Local`s that are held at once are had without memory, then whether one more is
+/// refused, and whether it is where there is memory again.
+fn hold_64<R: Wait>(
+    table: &ThreadLocal<u32>,
+    rt: &R,
+    alloc: Global,
+) -> Result<(usize, bool, bool), AllocError> {
+    let mut locals = Vec::with_capacity(alloc, 64)?;
+    let taken = take_all(alloc)?;
+    for _ in 0..64 {
+        if let Ok(local) = table.local(rt) {
+            locals.push(local)?;
+        }
+    }
+    let without = is_refused(table, rt);
+    drop(taken);
+    Ok((locals.len(), without, is_refused(table, rt)))
+}
+
+#[test]
+fn a_local_past_the_room_is_refused_and_comes_later(rt: HostRuntime) -> Result<(), Fail> {
+    let table = numbers(rt.alloc());
+    assert_eq!(rt; hold_64(&table, &rt, rt.alloc())?, (64, true, false));
+    Ok(())
+}
+
+/// How many ids a manager gives without memory, each the least, of as many as are asked for.
+fn count_given(
+    manager: &mut ThreadIdManager,
+    alloc: Global,
+    asked: usize,
+) -> Result<usize, AllocError> {
+    let taken = take_all(alloc)?;
+    let mut count = 0usize;
+    for id in 0..asked {
+        if manager.alloc() != Ok(id) {
+            break;
+        }
+        count = count.saturating_add(1);
+    }
+    drop(taken);
+    Ok(count)
+}
+
+// The first word is the manager's own. Past it there is room for two and for three whole words, and
+// there may be more.
+#[test]
+fn room_for_ids_is_made_in_whole_words(rt: HostRuntime) -> Result<(), Fail> {
+    for (room, asked, given) in [(0, 65, 64), (3, 65, 64), (65, 128, 128), (129, 192, 192)] {
+        let mut manager = ThreadIdManager::with_room(rt.alloc(), room)?;
+        assert_eq!(rt; count_given(&mut manager, rt.alloc(), asked)?, given);
+    }
+    Ok(())
+}
+
+/// What an insert without memory answers, how many slots there are then, what the same insert
+/// answers with memory, and how many there are then.
+fn insert_twice(alloc: Global) -> Result<((Option<u32>, usize), (Option<u32>, usize)), AllocError> {
+    let mut buckets = Buckets::new(alloc);
+    let taken = take_all(alloc)?;
+    let refused = buckets.insert(Thread::new(0), 5u32).err();
+    let slots = buckets.slots();
+    drop(taken);
+    let granted = buckets.insert(Thread::new(0), 5).ok().copied();
+    Ok(((refused, slots), (granted, buckets.slots())))
+}
+
+#[test]
+fn a_refused_insert_hands_back_its_value_and_makes_no_slot(rt: HostRuntime) -> Result<(), Fail> {
+    assert_eq!(rt; insert_twice(rt.alloc())?, ((Some(5), 0), (Some(5), 1)));
+    Ok(())
+}
+
+/// Whether a capacity is refused memory, and whether one that is too large is told as such, where
+/// no memory is left.
+fn make_without_memory(alloc: Global) -> Result<(bool, bool), AllocError> {
+    let taken = take_all(alloc)?;
+    let four = with_capacity(alloc, 4);
+    let too_many = with_capacity(alloc, 9223372036854775808);
+    drop(taken);
+    Ok((
+        matches!(four, Err(CapacityError::Memory(_))),
+        matches!(too_many, Err(CapacityError::TooLarge)),
+    ))
+}
+
+#[test]
+fn a_capacity_that_is_too_large_is_told_without_memory(rt: HostRuntime) -> Result<(), Fail> {
+    assert_eq!(rt; make_without_memory(rt.alloc())?, (true, true));
+    Ok(())
+}
+
+/// Whether a buffer is refused memory.
+fn is_buffer_refused<R: Wait>(pool: &Pool<Vec<u8>>, rt: &R) -> bool {
+    matches!(pool.buffer(rt), Err(LocalError::Memory(_)))
+}
+
+/// Whether a buffer is refused where no memory is left.
+fn is_buffer_refused_without_memory<R: Wait>(
+    pool: &Pool<Vec<u8>>,
+    rt: &R,
+    alloc: Global,
+) -> Result<bool, AllocError> {
+    let taken = take_all(alloc)?;
+    let is_refused = is_buffer_refused(pool, rt);
+    drop(taken);
+    Ok(is_refused)
+}
+
+/// Two buffers that are held at once, each asked for without memory first. Answers whether each was
+/// refused, and how many bytes it held when it came.
+fn take_two<R: Wait>(
+    pool: &Pool<Vec<u8>>,
+    rt: &R,
+    alloc: Global,
+) -> Result<[(bool, usize); 2], LocalError> {
+    let first_refused = is_buffer_refused_without_memory(pool, rt, alloc)?;
+    let first = pool.buffer(rt)?;
+    let second_refused = is_buffer_refused_without_memory(pool, rt, alloc)?;
+    let second = pool.buffer(rt)?;
+    Ok([
+        (first_refused, first.bytes().len()),
+        (second_refused, second.bytes().len()),
+    ])
+}
+
+#[test]
+fn a_refused_buffer_comes_later_and_is_empty(rt: HostRuntime) -> Result<(), Fail> {
+    let pool = Pool::new(rt.alloc());
+    assert_eq!(rt; take_two(&pool, &rt, rt.alloc())?, [(true, 0), (true, 0)]);
+    Ok(())
+}
