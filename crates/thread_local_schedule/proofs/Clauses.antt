@@ -1,13 +1,13 @@
 -- The clauses of the theorems, from the invariant and from what every event says.
 use Rattle.std.proofs.Common.{◌≡◌, ℕ, ◌-◌, ◌^◌, ◌⊎◌, Bool, true, false, not, ◌||◌, cond, List, [], ◌∷◌, Some, None}
-use Rattle.std.proofs.Common.{is_some, IsTrue, IsSomeAnd, refl, ap, sym, ◌∙◌, subst}
+use Rattle.std.proofs.Common.{is_some, IsTrue, IfSome, IsSomeAnd, refl, ap, sym, ◌∙◌, subst}
 use Rattle.std.specs.Prelude.{unwrap_or}
 use Rattle.std.proofs.lemmas.Bool.{false≢true, and_parts, not-true, not-false, cond_both}
 use Rattle.thread_local_model.specs.Held.{is_held, least, HoldsAllBelow, is_granted}
 use Rattle.thread_local_model.specs.Capacity.{reserves_bucket, is_reserved}
 use Rattle.thread_local_model.specs.Sheet.{Sheet, new_sheet, Clear, moved_if}
 use Rattle.thread_local_model.specs.Answers.{View, first_view}
-use Rattle.thread_local_schedule.specs.Table.{empty_slot, slot_at, bucket_stands}
+use Rattle.thread_local_schedule.specs.Table.{bucket_stands}
 use Rattle.thread_local_schedule.specs.Local.{Local, fresh_local}
 use Rattle.thread_local_schedule.specs.Cleared.{cleared}
 use Rattle.thread_local_schedule.specs.Core.{Core, made_core, shadow, peak, is_alone}
@@ -20,7 +20,7 @@ use Rattle.thread_local_schedule.proofs.Kept.{happens-fits, run-fits}
 use Rattle.thread_local_schedule.proofs.EventSays.{Says, event_says}
 use Rattle.thread_local_schedule.proofs.PutLaws.{put_same}
 use Rattle.thread_local_schedule.proofs.Parts.{made_core-fits, no_locals}
-use Rattle.thread_local_schedule.proofs.ClearedLaws.{slot_at-cleared, bucket_stands-cleared}
+use Rattle.thread_local_schedule.proofs.ClearedLaws.{slots-cleared, bucket_stands-cleared}
 use Rattle.thread_local_schedule.proofs.CoreLaws.{none_if}
 use Rattle.thread_local_schedule.proofs.SheetLaws.{settled, untaken}
 use Rattle.thread_local_schedule.proofs.Takes.{not_granted}
@@ -129,10 +129,11 @@ cleared_stands core bucket r t =
     ∙ bucket_stands-cleared core.table core.capacity bucket ((fits core r).table.reserved bucket)
 
 -- and every slot is empty
-pub cleared_slots : {V E : Type 0} (core : Core V E) (id : ℕ)
+pub cleared_slots : {V E : Type 0} (core : Core V E) (bucket index : ℕ)
     → IsTrue (is_enabled core (Owner ClearTable))
-    → slot_at (happens core (Owner ClearTable)).table id ≡ empty_slot
-cleared_slots core id t = ap (λ after. slot_at after.table id) (cleared_core core t) ∙ slot_at-cleared core.table core.capacity id
+    → IfSome ((happens core (Owner ClearTable)).table.pointers bucket)
+    (λ here. ((here.slot index).written ≡ None) × ((here.slot index).flag ≡ false))
+cleared_slots core bucket index t = rw (cleared_core core t) (slots-cleared core.table core.capacity bucket index)
 
 -- a take is refused only where it may be
 pub refused_take : {V E : Type 0} (core : Core V E) (refused : Bool) (growth : ℕ) → CoreFits core

@@ -1,5 +1,5 @@
 -- What a clear leaves of a table: empty slots, no value, and the reserved buckets.
-use Rattle.std.proofs.Common.{◌≡◌, ℕ, Bool, true, false, cond, Option, Some, None, is_some, IsTrue, refl, ap}
+use Rattle.std.proofs.Common.{◌≡◌, ℕ, Bool, true, false, cond, Option, Some, None, is_some, IsTrue, IfSome, refl, ap}
 use Rattle.std.specs.Prelude.{option_map}
 use Rattle.std.proofs.lemmas.Bool.{false≢true}
 use Rattle.thread_local_model.specs.Place.{bucket_of, index_of}
@@ -42,6 +42,20 @@ number-stays false pointer t = absurd (false≢true t)
 pub slot_at-cleared : {V : Type 0} (table : Table V) (capacity id : ℕ) → slot_at (cleared table capacity) id ≡ empty_slot
 unfolding slot_at cleared
 slot_at-cleared table capacity id = slot_of-kept (reserves_bucket capacity (bucket_of id)) (table.pointers (bucket_of id)) (index_of id)
+
+-- every slot of a bucket that stands is empty
+empty-kept : {V : Type 0} (b : Bool) (pointer : Option (Bucket V)) (index : ℕ)
+    → IfSome (cond b (emptied_bucket pointer) None)
+    (λ here. ((here.slot index).written ≡ None) × ((here.slot index).flag ≡ false))
+empty-kept true None index = tt
+empty-kept true (Some here) index = (refl, refl)
+empty-kept false pointer index = tt
+
+pub slots-cleared : {V : Type 0} (table : Table V) (capacity bucket index : ℕ)
+    → IfSome ((cleared table capacity).pointers bucket)
+    (λ here. ((here.slot index).written ≡ None) × ((here.slot index).flag ≡ false))
+unfolding cleared
+slots-cleared table capacity bucket index = empty-kept (reserves_bucket capacity bucket) (table.pointers bucket) index
 
 -- nothing is published
 pub none_cleared : {V : Type 0} (table : Table V) (capacity : ℕ) → published (cleared table capacity) ≡ (λ _. None)

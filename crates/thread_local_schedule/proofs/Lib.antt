@@ -14,6 +14,7 @@ pub mod FourReached
 pub mod FourValues
 pub mod Publishings
 pub mod Sayings
+pub mod Counted
 pub mod MainTheorem
 pub mod FirstCalls
 pub mod TableLaws

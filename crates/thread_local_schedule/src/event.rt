@@ -1,11 +1,13 @@
 //! What every event needs and does, and which cores schedules reach.
 ghost use Rattle.std.specs.Prelude.{◌≡◌, ℕ, ◌+◌, ◌^◌, ◌<◌, ◌≤◌, Bool, true, false, Result, Err, Some, None, IsTrue};
-ghost use Rattle.std.specs.Prelude.{IsSome, IsSomeAnd, MatchOption, if◌then◌else◌, max, ◌-◌};
+ghost use Rattle.std.specs.Prelude.{IsSome, IfSome, IsSomeAnd, MatchOption, if◌then◌else◌, max, ◌-◌, []};
 ghost use Rattle.thread_local_model.specs.Held.{HoldsAllBelow};
 ghost use Rattle.thread_local_model.specs.Place.{bucket_of};
 ghost use Rattle.thread_local_model.specs.Learnt.{Unknown, Missing, Standing, Vacant, Holding};
 ghost use Rattle.thread_local_model.specs.Answers.{Failed};
 ghost use Rattle.thread_local_schedule.specs.Table.{bucket_stands};
+ghost use Rattle.thread_local_schedule.specs.Cleared.{cleared};
+ghost use Rattle.thread_local_model.specs.Capacity.{reserves_bucket};
 ghost use Rattle.thread_local_schedule.specs.Local.{Local, LocalStep, BeginGet, BeginGetOr, LoadPointer};
 ghost use Rattle.thread_local_schedule.specs.Local.{LookAtFlag, MakeBucket, InstallBucket, WriteValue};
 ghost use Rattle.thread_local_schedule.specs.Calls.{gets_of, closure_of, HasNoCall, steps_left, GoesDown, EndsWith};
@@ -13,7 +15,7 @@ ghost use Rattle.thread_local_schedule.specs.SharedWalk.{WalkStep};
 ghost use Rattle.thread_local_schedule.specs.OwnerWalk.{rewritten};
 ghost use Rattle.thread_local_schedule.specs.Core.{Core, made_core, new_core, shadow, peak};
 ghost use Rattle.thread_local_schedule.specs.Events.{Event, TakeId, OfLocal, OfWalk, EndWalk, Owner, IterMut, Slots};
-ghost use Rattle.thread_local_schedule.specs.Events.{is_enabled, happens};
+ghost use Rattle.thread_local_schedule.specs.Events.{ClearTable, is_enabled, happens};
 ghost use Rattle.thread_local_schedule.specs.Schedule.{is_take, is_refused, is_granted_take, newcomer, IsReached};
 
 /// What every event needs and does, beside what the other theorems say: so that those aren't about
@@ -105,6 +107,23 @@ pub fn events_say<V, E>()
         → IsTrue (is_enabled core (Owner (IterMut others)))
         → happens core (Owner (IterMut others))
         ≡ record core { table = rewritten core.table others } }
+
+    // A clear leaves no id held and the table cleared, and changes nothing else. So exactly the
+    // reserved buckets stand afterwards, and every slot is empty.
+    ensures cleared_core { (core : Core V E) → IsTrue (is_enabled core (Owner ClearTable))
+        → happens core (Owner ClearTable) ≡ record core {
+          manager = record { held = []; room = core.manager.room };
+          table = cleared core.table core.capacity;
+        } }
+    ensures cleared_stands { (core : Core V E) (bucket : ℕ)
+        → IsReached core
+        → IsTrue (is_enabled core (Owner ClearTable))
+        → bucket_stands (happens core (Owner ClearTable)).table bucket
+        ≡ reserves_bucket (shadow core).capacity bucket }
+    ensures cleared_slots { (core : Core V E) (bucket index : ℕ)
+        → IsTrue (is_enabled core (Owner ClearTable))
+        → IfSome ((happens core (Owner ClearTable)).table.pointers bucket) (λ here.
+        ((here.slot index).written ≡ None) × ((here.slot index).flag ≡ false)) }
 
     // Whether memory is refused is chosen at each request: a call that may ask for it may get it
     // and may be refused, and comes nearer to its end by either. A take for which no room is left

@@ -8,10 +8,9 @@ ghost use Rattle.thread_local_model.specs.Cursor.{is_complete};
 ghost use Rattle.thread_local_model.specs.Capacity.{reserves_bucket, is_reserved, reserved_slots};
 ghost use Rattle.thread_local_model.specs.Sheet.{new_sheet, moved_if, IsAllowed};
 ghost use Rattle.thread_local_model.specs.Answers.{answers, first_view, Answer, Refused, Found, Answered};
-ghost use Rattle.thread_local_schedule.specs.Table.{empty_slot, slot_at, bucket_stands};
+ghost use Rattle.thread_local_schedule.specs.Table.{bucket_stands};
 ghost use Rattle.thread_local_schedule.specs.Local.{Local, LocalStep, MakeBucket};
 ghost use Rattle.thread_local_schedule.specs.OwnerWalk.{owner_walk};
-ghost use Rattle.thread_local_schedule.specs.Cleared.{cleared};
 ghost use Rattle.thread_local_schedule.specs.Fits.{IsWritten, named};
 ghost use Rattle.thread_local_schedule.specs.Calls.{HasNoCall, GoesOn};
 ghost use Rattle.thread_local_schedule.specs.Numbers.{own_number};
@@ -119,27 +118,13 @@ pub fn every_schedule<V, E>()
         → core.locals n ≡ Some local
         → (happens core event).locals n ≡ Some local }
 
-    // After `clear` no id is held and the table is cleared, and nothing else has changed. So the
-    // sheet is that of `new` with the same capacity, exactly the reserved buckets stand, and every
-    // slot is empty. The next Local gets id 0, finds no value, and knows its bucket to stand
-    // exactly where id 0 is reserved.
-    ensures cleared_core { (core : Core V E) → IsTrue (is_enabled core (Owner ClearTable))
-        → happens core (Owner ClearTable) ≡ record core {
-          manager = record { held = []; room = core.manager.room };
-          table = cleared core.table core.capacity;
-        } }
+    // After `clear` the sheet is that of `new` with the same capacity. The next Local gets id 0,
+    // finds no value, and knows its bucket to stand exactly where id 0 is reserved.
     ensures cleared { (core : Core V E)
         → IsReached core
         → IsTrue (is_enabled core (Owner ClearTable))
         → shadow (happens core (Owner ClearTable))
         ≡ record new_sheet { capacity = (shadow core).capacity } }
-    ensures cleared_stands { (core : Core V E) (bucket : ℕ)
-        → IsReached core
-        → IsTrue (is_enabled core (Owner ClearTable))
-        → bucket_stands (happens core (Owner ClearTable)).table bucket
-        ≡ reserves_bucket (shadow core).capacity bucket }
-    ensures cleared_slots { (core : Core V E) (id : ℕ) → IsTrue (is_enabled core (Owner ClearTable))
-        → slot_at (happens core (Owner ClearTable)).table id ≡ empty_slot }
     ensures after_clear { (core : Core V E) (events : List (Event V E)) (event : Event V E)
         → IsReached core
         → IsTrue (is_enabled core (Owner ClearTable))

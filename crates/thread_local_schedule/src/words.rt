@@ -1,6 +1,6 @@
 //! What the words of the theorems say, each from the side on which it promises nothing.
 ghost use Rattle.std.specs.Prelude.{◌≡◌, ℕ, ◌+◌, ◌^◌, ◌<◌, ◌⊎◌, Bool, true, false, List, [], Some, None, IsTrue};
-ghost use Rattle.std.specs.Prelude.{IsSomeAnd, ◌∷◌, ◌++◌, Result, ◌↔◌, suc, IsSome};
+ghost use Rattle.std.specs.Prelude.{◌≢◌, max, IsSomeAnd, ◌∷◌, ◌++◌, Result, ◌↔◌, suc, IsSome};
 ghost use Rattle.thread_local_model.specs.Held.{held_count, HoldsAllBelow, is_held};
 ghost use Rattle.thread_local_model.specs.Walk.{walk};
 ghost use Rattle.thread_local_schedule.specs.Table.{bucket_stands, Table, Slot};
@@ -13,14 +13,14 @@ ghost use Rattle.thread_local_schedule.specs.Numbers.{own_number};
 ghost use Rattle.thread_local_schedule.specs.Core.{Core, installed_slots, private_slots};
 ghost use Rattle.thread_local_schedule.specs.Events.{Event, TakeId, OfLocal, GiveBack, Forget, BeginWalk, OfWalk};
 ghost use Rattle.thread_local_schedule.specs.Events.{EndWalk, OwnerCall, Owner, is_enabled, happens, run, IntoIter};
-ghost use Rattle.thread_local_schedule.specs.Events.{DropTable};
+ghost use Rattle.thread_local_schedule.specs.Events.{DropTable, ClearTable};
 ghost use Rattle.thread_local_schedule.specs.Schedule.{begins_walk, is_exclusive, is_of, is_of_walk, is_refused};
 ghost use Rattle.thread_local_schedule.specs.Schedule.{is_granted_take, newcomer, IsReached, NoneTaken, is_take};
-ghost use Rattle.thread_local_schedule.specs.Schedule.{ends_table, IsAlone};
+ghost use Rattle.thread_local_schedule.specs.Schedule.{ends_table, IsAlone, move};
 ghost use Rattle.thread_local_model.specs.Place.{bucket_of};
 ghost use Rattle.thread_local_model.specs.Buckets.{slots};
-ghost use Rattle.thread_local_schedule.specs.Bounds.{TakesBelow, NothingRefused};
-ghost use Rattle.thread_local_model.specs.Sheet.{Sheet, IsAllowed, Give, Publish};
+ghost use Rattle.thread_local_schedule.specs.Bounds.{TakesBelow, NothingRefused, most_held, publishings};
+ghost use Rattle.thread_local_model.specs.Sheet.{Sheet, IsAllowed, Give, Publish, Clear};
 ghost use Rattle.thread_local_model.specs.Answers.{Answer, Refused, Get, GetOr};
 ghost use Rattle.thread_local_schedule.specs.Calls.{gets_of, closure_of, HasNoCall, GoesOn, steps_left, GoesDown};
 ghost use Rattle.thread_local_schedule.specs.Calls.{EndsWith};
@@ -42,6 +42,28 @@ pub fn words_say<V, E>()
         → TakesBelow p core events
         → (IsTrue (is_take event) → held_count (run core events).manager.held < p)
         → TakesBelow p core (events ++ event ∷ []) }
+
+    // The most ids held at once and the publishings are counted event by event, and a clear begins
+    // both anew.
+    ensures most_at_first { (core : Core V E) → most_held core [] ≡ 0 }
+    ensures most_later { (core : Core V E) (events : List (Event V E)) (event : Event V E)
+        → (IsTrue (is_enabled (run core events) event) → event ≢ Owner ClearTable)
+        → let later = events ++ event ∷ [] in
+        most_held core later ≡ max (most_held core events) (held_count (run core later).manager.held) }
+    ensures most_cleared { (core : Core V E) (events : List (Event V E))
+        → IsTrue (is_enabled (run core events) (Owner ClearTable))
+        → most_held core (events ++ Owner ClearTable ∷ []) ≡ 0 }
+    ensures none_published { (core : Core V E) → publishings core [] ≡ 0 }
+    ensures one_published { (core : Core V E) (events : List (Event V E)) (event : Event V E) (id : ℕ) (v : V)
+        → move (run core events) event ≡ Some (Publish id v)
+        → publishings core (events ++ event ∷ []) ≡ suc (publishings core events) }
+    ensures published_anew { (core : Core V E) (events : List (Event V E)) (event : Event V E)
+        → move (run core events) event ≡ Some Clear
+        → publishings core (events ++ event ∷ []) ≡ 0 }
+    ensures as_many_published { (core : Core V E) (events : List (Event V E)) (event : Event V E)
+        → ((id : ℕ) (v : V) → move (run core events) event ≢ Some (Publish id v))
+        → move (run core events) event ≢ Some Clear
+        → publishings core (events ++ event ∷ []) ≡ publishings core events }
 
     // What makes an event a take, an owner's call, one of this Local or walk, the beginning of a walk
     // or the end of a table.

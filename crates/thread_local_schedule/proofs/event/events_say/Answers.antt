@@ -68,6 +68,15 @@ returns-clause-slots g c = rule.slots
 pub returns-clause-iter_mut : goal.returns-clause-iter_mut
 returns-clause-iter_mut g c = rule.iter_mut
 
+pub returns-clause-cleared_core : goal.returns-clause-cleared_core
+returns-clause-cleared_core g c = clause.cleared_core
+
+pub returns-clause-cleared_stands : goal.returns-clause-cleared_stands
+returns-clause-cleared_stands g c = clause.cleared_stands
+
+pub returns-clause-cleared_slots : goal.returns-clause-cleared_slots
+returns-clause-cleared_slots g c = clause.cleared_slots
+
 pub returns-clause-memory_is_chosen : goal.returns-clause-memory_is_chosen
 returns-clause-memory_is_chosen g c = rule.memory_is_chosen
 

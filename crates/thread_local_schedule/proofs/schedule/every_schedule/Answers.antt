@@ -86,17 +86,8 @@ returns-clause-goes_on g c = may.goes_on
 pub returns-clause-others : goal.returns-clause-others
 returns-clause-others g c = λ core event n local r. (clause.says core event r).others n local
 
-pub returns-clause-cleared_core : goal.returns-clause-cleared_core
-returns-clause-cleared_core g c = clause.cleared_core
-
 pub returns-clause-cleared : goal.returns-clause-cleared
 returns-clause-cleared g c = clause.cleared_sheet
-
-pub returns-clause-cleared_stands : goal.returns-clause-cleared_stands
-returns-clause-cleared_stands g c = clause.cleared_stands
-
-pub returns-clause-cleared_slots : goal.returns-clause-cleared_slots
-returns-clause-cleared_slots g c = clause.cleared_slots
 
 pub returns-clause-after_clear : goal.returns-clause-after_clear
 returns-clause-after_clear g c = clause.after_clear

@@ -1,5 +1,6 @@
 use Rattle.std.proofs.Common.{refl}
 use Rattle.thread_local_schedule.proofs.Sayings as says
+use Rattle.thread_local_schedule.proofs.Counted as counted
 use Rattle.thread_local_schedule.proofs.Clauses as clause
 use Rattle.thread_local_schedule.proofs.words.words_say.Goals as goal
 
@@ -14,6 +15,27 @@ returns-clause-nothing g c = says.nothing
 
 pub returns-clause-takes : goal.returns-clause-takes
 returns-clause-takes g c = says.takes
+
+pub returns-clause-most_at_first : goal.returns-clause-most_at_first
+returns-clause-most_at_first g c = λ core. refl
+
+pub returns-clause-most_later : goal.returns-clause-most_later
+returns-clause-most_later g c = counted.most_later
+
+pub returns-clause-most_cleared : goal.returns-clause-most_cleared
+returns-clause-most_cleared g c = counted.most_cleared
+
+pub returns-clause-none_published : goal.returns-clause-none_published
+returns-clause-none_published g c = λ core. refl
+
+pub returns-clause-one_published : goal.returns-clause-one_published
+returns-clause-one_published g c = counted.one_published
+
+pub returns-clause-published_anew : goal.returns-clause-published_anew
+returns-clause-published_anew g c = counted.published_anew
+
+pub returns-clause-as_many_published : goal.returns-clause-as_many_published
+returns-clause-as_many_published g c = counted.as_many_published
 
 pub returns-clause-take : goal.returns-clause-take
 returns-clause-take g c = says.take
