@@ -20,11 +20,11 @@ use Rattle.thread_local_lemmas.specs.Bits.{is_set}
 use Rattle.thread_local_lemmas.proofs.Word.{same_bit}
 use Rattle.thread_local_blocks.specs.Slots.{word_offset, value_offset}
 use Rattle.thread_local_shared_bucket.specs.Shared.{name_at, BucketView, Turn, StandingBlock, Who, block_code, pinned}
-use Rattle.thread_local_shared_bucket.specs.Shared.{shared_value, opened, len, first, bucket_invariant}
+use Rattle.thread_local_shared_bucket.specs.Shared.{value_code, shared_value, opened, len, first, bucket_invariant}
 use Rattle.thread_local_shared_bucket.proofs.Rested.{opens_by}
 use Rattle.thread_local_shared_bucket.proofs.Steps.{Stays, Had, Left, Turned, moved, stepped}
 use Rattle.thread_local_tokens.specs.Told.{tells, telling}
-use Rattle.thread_local_tokens.proofs.ToldElements.{tells_alike, telling_alike}
+use Rattle.thread_local_tokens.proofs.ToldElements.{told_dup, tells_alike, telling_alike}
 
 same_value : {X : Type 0} (x y : X) → Some x ≡ Some y → x ≡ y
 same_value {X} x y e = ap (λ (o : Option X). elim o [ None ↦ x | Some z ↦ z ]) e
@@ -51,9 +51,9 @@ module _ {M : Type 1} {𝓤 : Ura M} (𝓛 : Logic 𝓤) (R : RattleType) (L : L
 
   infix 26 ◌⊢◌
   infixr 35 ◌∗◌
-  -- the value is the one that the slot holds for good, and is shared
+  -- the value is the one that the slot holds for good, it is told of the slot's id, and is shared
   abbrev pub lent : R.Denot → Fml
-  lent x = fsep (pinned R (name_at s.names i) x) (shared_value R t b s.block_life e x)
+  lent x = fsep (pinned R (name_at s.names i) x) (fsep (tells R d.sharing k (Some x)) (shared_value R t b s.block_life e x))
 
   abbrev pub seen : ℕ → Fml
   seen n = by_flag lent (is_set n (i % 64))
@@ -72,18 +72,24 @@ module _ {M : Type 1} {𝓤 : Ura M} (𝓛 : Logic 𝓤) (R : RattleType) (L : L
       let F = Turned 𝓛 R d t wb wo s i k e b low at_k at_e at_b q (λ m. m) seen n (Some x) in
       let S : Lft → Fml = shared_of R x b e in
       let shared : R.Denot → Fml = shared_value R t b s.block_life e in
+      let Told : Fml = tells R d.sharing k (Some x) in
       qed 𝓛 (‵ (Stays 𝓛 R d t wb wo s i k e b low at_k at_e at_b (Some x))
       ∷ ‵ (Had 𝓛 R d t wb wo s i k e b low at_k at_e at_b (Some x) w) ∷ ‵ ftrue ∷ []) ∵
-      fsplit3 ! $ move ! (1 ∷ []) $ fsplit ! $ res_dup ! $ move ! (1 ∷ 2 ∷ []) $ fjoin ! $
-      move ! (3 ∷ []) $
+      fsplit3 ! $ move ! (1 ∷ []) $ fsplit ! $ res_dup ! $ move ! (2 ∷ []) $
+      use1 𝓛 (‵ Told ⊛ ‵ Told) (told_dup 𝓛 d.sharing k (value_code R (Some x))) $ split ! $
+      -- [what is told, twice; the pin, twice; the token; opened; who has it]
+      move ! (2 ∷ 0 ∷ []) $ fjoin ! $
+      -- [what is published; what is told; the pin; the token; opened; who has it]
+      move ! (4 ∷ []) $
       use1 𝓛 (‵ (shared x)) (all_e 𝓤 (λ (_ : Shareable R). ⟦ shared x ⟧) j) $
       use1 𝓛 (‵ (shared x) ⊛ ‵ (shared x))
       (contraction 𝓛 S (L.shr_laws x b e) (s.block_life ∷ t.life)) $
       split ! $
-      -- [what is shared, twice; what is published; the pin; the token; what else is owned]
+      -- [what is shared, twice; what is published; what is told; the pin; the token; what else is
+      -- owned]
       use1 𝓛 (‵ (opened R t b s.block_life e x))
       (opens_by 𝓛 t R L b s.block_life e (name_at s.names i) x) $
-      move ! (4 ∷ 2 ∷ 0 ∷ []) $ fjoin3 ! $ move ! (2 ∷ 1 ∷ []) $ fjoin ! $ fpack ! R.Denot lent x $
+      move ! (5 ∷ 2 ∷ 0 ∷ []) $ fjoin3 ! $ move ! (3 ∷ 2 ∷ 1 ∷ []) $ fjoin3 ! $ fpack ! R.Denot lent x $
       rewrite ! 0 (λ (u : Bool). ‵ (by_flag lent u)) (sym told) refl $ show ! F (Some x, w) $
       check ! (fits, same_bit n (i % 64) true told) $ types.Kit.keep ! (1 ∷ 2 ∷ 0 ∷ []) $ done !
 

@@ -1,18 +1,20 @@
 -- The moves of the code keep the invariant of a walk, and do what the contract of `next` says.
 use Rattle.std.proofs.Common.{◌≡◌, ℕ, suc, ◌+◌, ◌-◌, ◌^◌, ◌<◌, ◌≤◌, Bool, true, false, eqb, cond, inl, inr, Option}
-use Rattle.std.proofs.Common.{None, Some, IfSome, IfNone, option_map, Bor, refl, ap, sym, subst, arith, pow_mono}
+use Rattle.std.proofs.Common.{None, Some, IfSome, IfNone, option_map, refl, ap, sym, ◌∙◌, subst, arith, pow_mono}
 use Rattle.std.proofs.Common.{add-one}
 use Rattle.std.proofs.Math.Nat.{two-pow-succ}
 use Rattle.std.proofs.lemmas.Bool.{cond_both, eqb-true, eqb-false, le-ltb}
 use Rattle.thread_local_model.specs.Place.{id_at}
-use Rattle.thread_local_model.specs.Cursor.{Cursor, after_look, CursorFits}
+use Rattle.thread_local_model.specs.Cursor.{Cursor, cursor_id, after_look, CursorFits}
 use Rattle.thread_local_model.proofs.CursorLaws.{after_look-fits, bounded}
 use Rattle.thread_local_cursor.specs.declared.cursor.RawIter.{RawIter}
 use Rattle.thread_local_shared_buckets.specs.declared.steps.Own.{Own}
 use Rattle.thread_local_shared_buckets.specs.Steps.{Leads}
 use Rattle.thread_local_shared_buckets.specs.Walks.{Owed, YieldsOwn, Yields, Ends}
 use Rattle.thread_local_cursor.specs.Cursor.{next_bucket}
-use Rattle.thread_local_shared_buckets.specs.Positions.{resting, past, at_index, search_end, owed, lies_in, IsAhead, IsSharedWalk}
+use Rattle.thread_local_tokens.specs.declared.witness.Witness.{Witness}
+use Rattle.thread_local_shared_buckets.specs.Positions.{resting, past, at_index, search_end, owed, lies_in, Found, OwnIsTold}
+use Rattle.thread_local_shared_buckets.specs.Positions.{IsToldAt, IsAhead, IsSharedWalk}
 use Rattle.thread_local_shared_buckets.proofs.StepLaws.{resting_at, looking_at, leads_then, leads_on, passes_bucket, leads_to_slot}
 
 -- a place in a later bucket has a greater id
@@ -203,34 +205,62 @@ module _ {V : Type 0} where
       subst (λ (r : RawIter). GivenTo raw own v r own) (sym left) all
 
   -- what `give_own` ensures, from an index of the bucket
-  abbrev pub SaysNone : RawIter → Option (Own V) → Option (Bor V) → RawIter → Option (Own V) → Type 0
+  abbrev pub SaysNone : RawIter → Option (Own V) → Option (Found V) → RawIter → Option (Own V) → Type 0
   SaysNone raw own result to left = IfNone result ((lies_in own raw.bucket ≡ false) × (to ≡ next_bucket raw) × (left ≡ own))
 
-  abbrev pub SaysSome : RawIter → Option (Own V) → Option (Bor V) → RawIter → Option (Own V) → Type 0
+  abbrev pub SaysSome : RawIter → Option (Own V) → Option (Found V) → RawIter → Option (Own V) → Type 0
   SaysSome raw own result to left =
       IfSome result (λ x.
       (lies_in own raw.bucket ≡ true) × (left ≡ None)
-      × IfSome own (λ o. (x.now ≡ o.value.now) × (to ≡ past raw o.thread.index)))
+      × IfSome own (λ o.
+      (x.0 ≡ o.witness) × (x.1.now ≡ o.value.now) × (to ≡ past raw o.thread.index)))
 
-  -- what a function on one bucket ensures
-  pub record Ended (raw : RawIter) (own : Option (Own V)) (result : Option (Bor V)) (to : RawIter) (left : Option (Own V)) : Type 0 where
+  -- what a function on one bucket ensures, of the sharing of this name
+  pub record Ended (name : Option ℕ) (raw : RawIter) (own : Option (Own V)) (result : Option (Found V)) (to : RawIter) (left : Option (Own V)) : Type 0 where
     pub walk : IsSharedWalk to left
     pub none : IfNone result ((left ≡ own) × (to ≡ next_bucket raw))
-    pub some : IfSome result (λ x. Yields (resting raw) (option_map owed own) x.now (resting to) (option_map owed left))
+    pub some : IfSome result (λ x. Yields (resting raw) (option_map owed own) x.1.now (resting to) (option_map owed left))
+    pub told : IfSome result (IsToldAt name to)
+    pub own_told : IfSome left (OwnIsTold name)
 
-  missed : (raw to : RawIter) (own left : Option (Own V)) → IsSharedWalk raw own → raw.bucket < 63
+  missed : (name : Option ℕ) (raw to : RawIter) (own left : Option (Own V)) → IsSharedWalk raw own
+      → raw.bucket < 63 → IfSome own (OwnIsTold name)
       → lies_in own raw.bucket ≡ false → to ≡ next_bucket raw → left ≡ own
-      → Ended raw own None to left
-  missed raw to own left walk low elsewhere next same =
+      → Ended name raw own None to left
+  missed name raw to own left walk low told elsewhere next same =
       let kept = walk_after_bucket raw own walk low elsewhere in
       let moved : IsSharedWalk to own = subst (λ (r : RawIter). IsSharedWalk r own) (sym next) kept in
-      record { walk = subst (λ (o : Option (Own V)). IsSharedWalk to o) (sym same) moved; none = (same, next); some = tt }
+      record {
+        walk = subst (λ (o : Option (Own V)). IsSharedWalk to o) (sym same) moved;
+        none = (same, next);
+        some = tt;
+        told = tt;
+        own_told = subst (λ (o : Option (Own V)). IfSome o (OwnIsTold name)) (sym same) told;
+      }
 
-  gave : (raw to : RawIter) (own : Own V) (left : Option (Own V)) (x : Bor V)
-      → IsSharedWalk raw (Some own) → raw.bucket < 63 → lies_in (Some own) raw.bucket ≡ true
-      → left ≡ None
-      → x.now ≡ own.value.now → to ≡ past raw own.thread.index → Ended raw (Some own) (Some x) to left
-  gave raw to own left x walk low here none value there =
+  -- the own value's witness tells of the id that was passed with it
+  own_told_at : (name : Option ℕ) (raw to : RawIter) (own : Own V) (x : Found V)
+      → OwnIsTold name own → lies_in (Some own) raw.bucket ≡ true
+      → x.0 ≡ own.witness → x.1.now ≡ own.value.now → to ≡ past raw own.thread.index
+      → IsToldAt name to x
+  own_told_at name raw to own x told here witness value there =
+      let same = eqb-true own.thread.bucket raw.bucket here in
+      let power : 2 ^ own.thread.bucket ≡ 2 ^ raw.bucket = ap (λ k. 2 ^ k) same in
+      let id : own.witness.id ≡ id_at own.thread.bucket own.thread.index = told.id in
+      let of : x.0.id ≡ own.witness.id = ap (λ (w : Witness V). w.id) witness in
+      let at : cursor_id (resting (past raw own.thread.index)) ≡ suc x.0.id = omega arith in
+      record {
+        sharing = ap (λ (w : Witness V). w.sharing) witness ∙ told.sharing;
+        id = ap (λ (r : RawIter). cursor_id (resting r)) there ∙ at;
+        value = ap (λ (w : Witness V). w.value) witness ∙ told.value ∙ sym value;
+      }
+
+  gave : (name : Option ℕ) (raw to : RawIter) (own : Own V) (left : Option (Own V)) (x : Found V)
+      → IsSharedWalk raw (Some own) → raw.bucket < 63 → OwnIsTold name own
+      → lies_in (Some own) raw.bucket ≡ true → left ≡ None → x.0 ≡ own.witness
+      → x.1.now ≡ own.value.now → to ≡ past raw own.thread.index
+      → Ended name raw (Some own) (Some x) to left
+  gave name raw to own left x walk low told here none witness value there =
       let given = given_own raw own walk low here in
       let all : GivenTo raw (Some own) own.value.now (past raw own.thread.index) None = record { walk = given.walk; gives = given.gives } in
       let moved : GivenTo raw (Some own) own.value.now to None =
@@ -238,23 +268,33 @@ module _ {V : Type 0} where
       let emptied : GivenTo raw (Some own) own.value.now to left =
       subst (λ (o : Option (Own V)). GivenTo raw (Some own) own.value.now to o)
       (sym none) moved in
-      let item : GivenTo raw (Some own) x.now to left = subst (λ (v : V). GivenTo raw (Some own) v to left) (sym value) emptied in
-      record { walk = item.walk; none = tt; some = item.gives }
+      let item : GivenTo raw (Some own) x.1.now to left = subst (λ (v : V). GivenTo raw (Some own) v to left) (sym value) emptied in
+      record {
+        walk = item.walk;
+        none = tt;
+        some = item.gives;
+        told = own_told_at name raw to own x told here witness value there;
+        own_told = subst (λ (o : Option (Own V)). IfSome o (OwnIsTold name)) (sym none) tt;
+      }
 
-  ended_at : (raw to : RawIter) (own left : Option (Own V)) (result : Option (Bor V))
-      → IsSharedWalk raw own → raw.bucket < 63 → SaysNone raw own result to left
-      → SaysSome raw own result to left
-      → Ended raw own result to left
-  ended_at raw to own left None walk low none some = missed raw to own left walk low none.0 none.1 none.2
-  ended_at raw to None left (Some x) walk low none some = let never : false ≡ true = some.0 in cc
-  ended_at raw to (Some own) left (Some x) walk low none some = gave raw to own left x walk low some.0 some.1 some.2.0 some.2.1
+  ended_at : (name : Option ℕ) (raw to : RawIter) (own left : Option (Own V))
+      (result : Option (Found V))
+      → IsSharedWalk raw own → raw.bucket < 63 → IfSome own (OwnIsTold name)
+      → SaysNone raw own result to left → SaysSome raw own result to left
+      → Ended name raw own result to left
+  ended_at name raw to own left None walk low told none some = missed name raw to own left walk low told none.0 none.1 none.2
+  ended_at name raw to None left (Some x) walk low told none some = let never : false ≡ true = some.0 in cc
+  ended_at name raw to (Some own) left (Some x) walk low told none some =
+      gave name raw to own left x walk low told some.0 some.1 some.2.0 some.2.1 some.2.2
 
   -- the same once the row was searched up to an index
-  pub ended : (raw mid to : RawIter) (index : ℕ) (own left : Option (Own V))
-      (result : Option (Bor V))
+  pub ended : (name : Option ℕ) (raw mid to : RawIter) (index : ℕ) (own left : Option (Own V))
+      (result : Option (Found V))
       → mid ≡ at_index raw index → IsSharedWalk raw own → raw.bucket < 63
-      → SaysNone mid own result to left → SaysSome mid own result to left → Ended raw own result to left
-  ended raw mid to index own left result is walk low none some =
-      ended_at raw to own left result walk low
+      → IfSome own (OwnIsTold name)
+      → SaysNone mid own result to left → SaysSome mid own result to left
+      → Ended name raw own result to left
+  ended name raw mid to index own left result is walk low told none some =
+      ended_at name raw to own left result walk low told
       (subst (λ (m : RawIter). SaysNone m own result to left) is none)
       (subst (λ (m : RawIter). SaysSome m own result to left) is some)

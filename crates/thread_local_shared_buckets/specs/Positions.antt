@@ -1,8 +1,10 @@
 -- Where a walk is, by what its code keeps, as the model's cursor.
-use Rattle.std.specs.Prelude.{◌≡◌, ℕ, ◌+◌, ◌^◌, ◌≤◌, ◌==◌, Bool, false, Option, Some, None, IfSome, option_map}
+use Rattle.std.specs.Prelude.{◌≡◌, ℕ, suc, ◌+◌, ◌^◌, ◌≤◌, ◌==◌, Bool, false, Option, Some, None, IfSome, option_map}
 use Rattle.std.specs.Prelude.{if◌then◌else◌}
 use Rattle.thread_local_model.specs.Place.{id_at}
 use Rattle.thread_local_model.specs.Cursor.{Cursor, cursor_id, CursorFits}
+use denote.Ref.{Bor}
+use Rattle.thread_local_tokens.specs.declared.witness.Witness.{Witness}
 use Rattle.thread_local_cursor.specs.declared.cursor.RawIter.{RawIter}
 use Rattle.thread_local_shared_buckets.specs.declared.steps.Own.{Own}
 use Rattle.thread_local_shared_buckets.specs.Walks.{Owed, Yields, Ends}
@@ -19,6 +21,10 @@ past raw index = record { yielded = raw.yielded + 1; bucket = raw.bucket; bucket
 abbrev pub at_index : RawIter → ℕ → RawIter
 at_index raw index = record { yielded = raw.yielded; bucket = raw.bucket; bucket_size = raw.bucket_size; index = index }
 
+-- what a walk gives: a value, and a witness that its slot was published with it
+abbrev pub Found : Type 0 → Type 0
+Found V = Witness V × Bor V
+
 module _ {V : Type 0} where
   -- an own value with its id
   abbrev pub owed : Own V → Owed V
@@ -34,6 +40,20 @@ module _ {V : Type 0} where
   abbrev pub search_end : RawIter → Option (Own V) → ℕ
   search_end raw None = raw.bucket_size
   search_end raw (Some own) = if own.thread.bucket == raw.bucket then own.thread.index else raw.bucket_size
+
+  -- the own value's witness tells of its id that its slot was published with this value, in this
+  -- sharing
+  pub record OwnIsTold (name : Option ℕ) (own : Own V) : Type 0 where
+    pub sharing : own.witness.sharing ≡ name
+    pub id : own.witness.id ≡ id_at own.thread.bucket own.thread.index
+    pub value : own.witness.value ≡ own.value.now
+
+  -- the witness tells of the id that the walk has just passed that its slot was published with the
+  -- value, in this sharing
+  pub record IsToldAt (name : Option ℕ) (to : RawIter) (found : Found V) : Type 0 where
+    pub sharing : found.0.sharing ≡ name
+    pub id : cursor_id (resting to) ≡ suc found.0.id
+    pub value : found.0.value ≡ found.1.now
 
   -- the walk hasn't passed the own value
   pub record IsAhead (raw : RawIter) (own : Own V) : Type 0 where

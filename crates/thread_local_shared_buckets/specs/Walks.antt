@@ -8,6 +8,7 @@ use denote.Ref.{Bor}
 use denote.RattleType.{RattleType}
 use Rattle.thread_local_model.specs.Cursor.{Cursor, fresh_cursor, cursor_id, is_complete, after_look}
 use Rattle.thread_local_judged.specs.Judged.{Shareable}
+use Rattle.thread_local_tokens.specs.Views.{TokenView}
 use Rattle.thread_local_shared_buckets.specs.Steps.{Leads}
 
 -- an own value that a walk has still to give, and its id
@@ -15,9 +16,10 @@ pub record Owed (V : Type 0) : Type 0 where
   pub id : ℕ
   pub value : V
 
--- where a walk is, the own value that it has still to give, if any, and whether it was shown that
--- threads may share the values
+-- the sharing that a walk goes over, if that has a name, where the walk is, the own value that it has
+-- still to give, if any, and whether it was shown that threads may share the values
 pub record WalkView (V : Type 0) : Type 0 where
+  pub sharing : Option ℕ
   pub cursor : Cursor
   pub own : Option (Owed V)
   pub shown : Bool
@@ -34,13 +36,15 @@ owed_coded {V} c = code_by (ℕ × V) (coded× coded_ℕ c) (λ o. (o.id, o.valu
 
 abbrev pub walk_view_coded : {V : Type 0} → Coded V → Coded (WalkView V)
 walk_view_coded {V} c =
-    code_by (Cursor × (Option (Owed V) × Bool))
-    (coded× cursor_coded (coded× (coded_option (owed_coded c)) coded_bool))
-    (λ w. (w.cursor, (w.own, w.shown))) (λ p. record { cursor = p.0; own = p.1.0; shown = p.1.1 }) (λ _. refl)
+    code_by (Option ℕ × (Cursor × (Option (Owed V) × Bool)))
+    (coded× (coded_option coded_ℕ)
+    (coded× cursor_coded (coded× (coded_option (owed_coded c)) coded_bool)))
+    (λ w. (w.sharing, (w.cursor, (w.own, w.shown))))
+    (λ p. record { sharing = p.0; cursor = p.1.0; own = p.1.1.0; shown = p.1.1.1 }) (λ _. refl)
 
--- a walk that has just begun, with an own value to give or none
-abbrev pub fresh : {V : Type 0} → Option (Owed V) → Bool → WalkView V
-fresh own shown = record { cursor = fresh_cursor; own = own; shown = shown }
+-- a walk over a sharing that has just begun, with an own value to give or none
+abbrev pub fresh : {V : Type 0} → Option ℕ → Option (Owed V) → Bool → WalkView V
+fresh sharing own shown = record { sharing = sharing; cursor = fresh_cursor; own = own; shown = shown }
 
 -- the own value, without its id
 abbrev pub owed_value : {V : Type 0} → Option (Owed V) → Option V
@@ -77,11 +81,24 @@ pub record Goes {V : Type 0} (walk : WalkView V) (item : Option (Bor V)) (left :
   pub gives : MatchOption item (Ends walk.cursor walk.own left.cursor left.own)
       (λ x. Yields walk.cursor walk.own x.now left.cursor left.own)
   pub shown : left.shown ≡ walk.shown
+  pub sharing : left.sharing ≡ walk.sharing
 
 -- what a call of `next` does where it gives each value with its id, which is the last one passed
 pub record GoesWithIds {V : Type 0} (walk : WalkView V) (item : Option (ℕ × Bor V)) (left : WalkView V) : Type 0 where
   pub goes : Goes walk (option_map (λ entry. entry.1) item) left
   pub id : IfSome item (λ entry. cursor_id left.cursor ≡ suc entry.0)
+
+-- a token that comes with a value says what the slot of the last id that was passed was published
+-- with, in the walk's sharing: it was this value
+pub record IsTokenOf {V : Type 0} (walk left : WalkView V) (entry : TokenView V × Bor V) : Type 0 where
+  pub sharing : entry.0.sharing ≡ walk.sharing
+  pub id : cursor_id left.cursor ≡ suc entry.0.id
+  pub value : entry.0.value ≡ entry.1.now
+
+-- what a call of `next` does where it gives each value with such a token
+pub record GoesWithTokens {V : Type 0} (walk : WalkView V) (item : Option (TokenView V × Bor V)) (left : WalkView V) : Type 0 where
+  pub goes : Goes walk (option_map (λ entry. entry.1) item) left
+  pub told : IfSome item (IsTokenOf walk left)
 
 -- a walk may go on where it was shown that threads may share the values, or their type says so
 abbrev pub CanGo : {V : Type 0} → RattleType → WalkView V → Type 0

@@ -1,10 +1,10 @@
 //! The walk over shared buckets, by ascending id, while other threads publish values.
-ghost use Rattle.std.specs.Prelude.{◌≡◌, ◌+◌, ◌-◌, ◌^◌, ◌<◌, ◌⊎◌, true, false, None, Some, IfSome, is_some, option_map};
+ghost use Rattle.std.specs.Prelude.{◌≡◌, suc, ◌+◌, ◌-◌, ◌^◌, ◌<◌, ◌⊎◌, true, false, None, Some, IfSome, is_some, option_map};
 ghost use Rattle.std.specs.Iterator.{UpTo};
 ghost use Rattle.std.specs.Iterator.SizeHint.{IsWithinCount};
 ghost use Rattle.thread_local_model.specs.Cursor.{cursor_id};
 ghost use Rattle.thread_local_judged.specs.Judged.{Shareable};
-ghost use Rattle.thread_local_shared_buckets.specs.Positions.{owed};
+ghost use Rattle.thread_local_shared_buckets.specs.Positions.{owed, OwnIsTold};
 ghost use Rattle.thread_local_shared_buckets.specs.Walks.{WalkView, fresh, Goes, CanGo, ids_left};
 
 use crate::shared::Shared;
@@ -15,13 +15,15 @@ use std::iter::FusedIterator;
 use std::marker::Model;
 use thread_local_cursor::RawIter;
 use thread_local_thread_id::Thread;
+use thread_local_tokens::{Token, Witness};
 
 /// The values of shared buckets, by ascending id, each lent as `&`, while other threads may publish
 /// more. A value that is published behind the walk isn't given, and one ahead of it may be.
 ///
-/// No call waits or takes memory. A contract sees the model's cursor, and the walker's own value as
-/// long as it is still to be given. Rust's crate promises no order, and its size hint counts the
-/// values.
+/// No call waits or takes memory. A contract sees the sharing, the model's cursor, and the walker's
+/// own value as long as it is still to be given. No contract says which value an item is, but for the
+/// own one: `with_tokens` gives each value with a token, which says it. Rust's crate promises no order,
+/// and its size hint counts the values.
 #[derive(Drop)]
 pub struct Iter<'a, T> {
     buckets: &'a Shared<T>,
@@ -31,9 +33,9 @@ pub struct Iter<'a, T> {
 }
 
 impl<'a, T> Model for Iter<'a, T> {
-    ghost use Rattle.std.specs.Prelude.{option_map, is_some};
+    ghost use Rattle.std.specs.Prelude.{option_map, is_some, IfSome};
     ghost use Rattle.thread_local_shared_buckets.specs.Walks.{WalkView, walk_view_coded};
-    ghost use Rattle.thread_local_shared_buckets.specs.Positions.{resting, owed, IsSharedWalk};
+    ghost use Rattle.thread_local_shared_buckets.specs.Positions.{resting, owed, OwnIsTold, IsSharedWalk};
 
     ghost Value = { WalkView T };
 
@@ -41,12 +43,13 @@ impl<'a, T> Model for Iter<'a, T> {
 
     ghost view = { λ it.
         record {
+          sharing = it.buckets.now.sharing;
           cursor = resting it.raw;
           own = option_map owed it.own;
           shown = is_some it.shown;
         } };
 
-    ghost invariant = { λ it. IsSharedWalk it.raw it.own };
+    ghost invariant = { λ it. IsSharedWalk it.raw it.own × IfSome it.own (OwnIsTold it.buckets.now.sharing) };
 }
 
 impl<'a, T> Iter<'a, T> {
@@ -56,7 +59,8 @@ impl<'a, T> Iter<'a, T> {
         own: Option<Own<'a, T>>,
         shown: Option<Shown<'a, T>>,
     ) -> Iter<'a, T>
-        ensures { result ≡ fresh (option_map owed own.entry) (is_some shown.entry) }
+        requires told { IfSome own (OwnIsTold buckets.now.sharing) }
+        ensures { result ≡ fresh buckets.now.sharing (option_map owed own.entry) (is_some shown.entry) }
     {
         Iter {
             buckets,
@@ -68,13 +72,27 @@ impl<'a, T> Iter<'a, T> {
 
     /// A walk without the fact that threads may share the values: whoever calls `next` shows it.
     pub fn unshown(buckets: &'a Shared<T>) -> Iter<'a, T>
-        ensures { result ≡ fresh None false }
+        ensures { result ≡ fresh buckets.now.sharing None false }
     {
         Iter::begun(buckets, None, None)
     }
 }
 
 impl<'a, T> Iter<'a, T> {
+    /// The next value, with what shows that its slot was published with it.
+    #[inline]
+    pub(crate) fn step(&mut self) -> Option<(Witness<T>, &'a T)>
+        requires can_go { CanGo T.row self.old }
+        ensures goes { Goes self.old (option_map (λ found. found.1) result) self.new }
+        ensures told { IfSome result (λ found.
+            (found.0.sharing ≡ self.old.sharing)
+            × (cursor_id self.new.cursor ≡ suc found.0.id)
+            × (found.0.value ≡ found.1.now)) }
+    {
+        tell(&self.shown);
+        advance(self.buckets, &mut self.raw, &mut self.own)
+    }
+
     /// The last id that the walk has passed.
     #[inline]
     pub(crate) fn last_id(&self) -> usize
@@ -88,20 +106,26 @@ impl<'a, T> Iter<'a, T> {
 impl<'a, T: Sync> Iter<'a, T> {
     /// A walk over all values, from the first slot on.
     pub fn new(buckets: &'a Shared<T>) -> Iter<'a, T>
-        ensures { result ≡ fresh None true }
+        ensures { result ≡ fresh buckets.now.sharing None true }
     {
         Iter::begun(buckets, None, Some(Shown::new()))
     }
 
-    /// A walk over all values, for the holder of an id who passes the value at that id. The walk
-    /// gives this value there, without a look at the flag.
-    pub fn with_own(buckets: &'a Shared<T>, id: usize, value: &'a T) -> Iter<'a, T>
-        requires { id < 2 ^ 63 - 1 }
-        ensures { result ≡ fresh (Some (record { id = id; value = value.now })) true }
+    /// A walk over all values, for who passes the value that a token is of. The walk gives this
+    /// value at the token's id, without a look at the flag.
+    pub fn with_own(buckets: &'a Shared<T>, token: &Token<T>, value: &'a T) -> Iter<'a, T>
+        requires sharing { token.now.sharing ≡ buckets.now.sharing }
+        requires value { token.now.value ≡ value.now }
+        ensures { result ≡
+            fresh
+            buckets.now.sharing
+            (Some (record { id = token.now.id; value = value.now }))
+            true }
     {
         let own = Own {
-            thread: Thread::new(id),
+            thread: Thread::new(token.id()),
             value,
+            witness: token.witness().again(),
         };
         Iter::begun(buckets, Some(own), Some(Shown::new()))
     }
@@ -133,8 +157,8 @@ impl<'a, T: Sync> Iterator for Iter<'a, T> {
     /// each call, and of each further bucket that it reaches. For each slot on the way but the own
     /// one, it loads the word that has the slot's flag.
     fn next(&mut self) -> Option<&'a T> {
-        tell(&self.shown);
-        advance(self.buckets, &mut self.raw, &mut self.own)
+        let (_, value) = self.step()?;
+        Some(value)
     }
 
     /// No value is promised, and there is no upper bound, since others publish meanwhile.

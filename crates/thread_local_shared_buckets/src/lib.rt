@@ -7,8 +7,10 @@ mod parts;
 pub mod shared;
 pub mod shown;
 mod steps;
+pub mod tokens;
 
 pub use entries::Entries;
 pub use iter::Iter;
 pub use shared::Shared;
 pub use shown::Shown;
+pub use tokens::Tokens;

@@ -13,10 +13,10 @@ pub returns-in-Some-clause-goes : goal.returns-in-Some-clause-goes
 returns-in-Some-clause-goes g c =
     let kept = c.loop-bucket.invariant in
     let P : Option (Own _) → Type 0 = λ own.
-    Yields (resting c.loop-bucket.raw) (option_map owed own) c.in-Some.value.now
+    Yields (resting c.loop-bucket.raw) (option_map owed own) c.in-Some.found.1.now
     (resting c.in_bucket.new.raw) (option_map owed c.in_bucket.new.own) in
     gives_later (resting c.args.raw.now) (resting c.loop-bucket.raw) (resting c.in_bucket.new.raw)
-    (option_map owed c.args.own.now) (option_map owed c.in_bucket.new.own) c.in-Some.value.now
+    (option_map owed c.args.own.now) (option_map owed c.in_bucket.new.own) c.in-Some.found.1.now
     kept.leads c.requires.walk.fits (subst P kept.own c.in-Some.ensures.some)
 
 pub loop-bucket-preserved : goal.loop-bucket-preserved

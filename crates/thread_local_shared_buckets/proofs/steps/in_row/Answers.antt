@@ -7,11 +7,11 @@ use Rattle.thread_local_shared_buckets.proofs.steps.in_row.Goals as goal
 pub search-requires-clause-yielded : goal.search-requires-clause-yielded
 search-requires-clause-yielded g c = few c.args.raw.now c.args.own.now c.requires.walk
 
-found : (g : _) (c : goal.In-Some g) → GivenTo c.args.raw.now c.args.own.now c.in-Some.value.now c.search.new.raw c.args.own.now
+found : (g : _) (c : goal.In-Some g) → GivenTo c.args.raw.now c.args.own.now c.in-Some.found.1.now c.search.new.raw c.args.own.now
 found g c =
     let some = c.in-Some.ensures.some in
     given_search c.args.raw.now c.search.new.raw c.args.own.now c.search_end-end.result
-    c.in-Some.value.now c.requires.walk c.requires.in_table c.search_end-end.ensures some.0
+    c.in-Some.found.1.now c.requires.walk c.requires.in_table c.search_end-end.ensures some.0
     some.1 some.2
 
 pub returns-in-Some-clause-walk : goal.returns-in-Some-clause-walk
@@ -25,10 +25,10 @@ give_own-requires-clause-yielded g c =
     let start = few c.args.raw.now c.args.own.now c.requires.walk in
     subst (λ (r : RawIter). r.yielded < 2 ^ 63) (sym c.in_default.ensures.none) start
 
-left : (g : _) (c : goal.After-give_own g) → Ended c.args.raw.now c.args.own.now c.give_own.result c.give_own.new.raw c.give_own.new.own
+left : (g : _) (c : goal.After-give_own g) → Ended c.args.row.now.of.sharing c.args.raw.now c.args.own.now c.give_own.result c.give_own.new.raw c.give_own.new.own
 left g c =
-    ended c.args.raw.now c.search.new.raw c.give_own.new.raw c.search_end-end.result c.args.own.now c.give_own.new.own c.give_own.result
-    c.in_default.ensures.none c.requires.walk c.requires.in_table c.give_own.ensures.none c.give_own.ensures.some
+    ended c.args.row.now.of.sharing c.args.raw.now c.search.new.raw c.give_own.new.raw c.search_end-end.result c.args.own.now c.give_own.new.own c.give_own.result
+    c.in_default.ensures.none c.requires.walk c.requires.in_table c.requires.told c.give_own.ensures.none c.give_own.ensures.some
 
 pub returns-clause-walk : goal.returns-clause-walk
 returns-clause-walk g c = (left g c).walk
@@ -38,3 +38,9 @@ returns-clause-none g c = (left g c).none
 
 pub returns-clause-some : goal.returns-clause-some
 returns-clause-some g c = (left g c).some
+
+pub returns-clause-told : goal.returns-clause-told
+returns-clause-told g c = (left g c).told
+
+pub returns-clause-own_told : goal.returns-clause-own_told
+returns-clause-own_told g c = (left g c).own_told

@@ -1,12 +1,12 @@
 -- `get` is one load of the word that has the slot's flag: where the flag is set, it lends the value
--- for as long as the row lasts.
+-- for as long as the row lasts, and copies what is told of the slot's id.
 use Rattle.thread_local_lemmas.proofs.Names.{◌≡◌, ℕ, ◌+◌, ◌*◌, ◌^◌, ◌<◌, List, [], ◌∷◌, length, refl, sym, ap, ◌∙◌}
 use Rattle.thread_local_lemmas.proofs.Names.{subst, arith, lit<, w64, None, Some, a_type, named, Val, vint, vptr, vcons}
 use Rattle.thread_local_lemmas.proofs.Names.{vnil, inst_fn, SProp, ent, sep, wand, via, apply∗, Lft, Share, Fml, ftrue}
 use Rattle.thread_local_lemmas.proofs.Names.{fsep, flft, fbor, sem, ‵, raw, ◌⊛◌, some, later, mean, at_ret, any_q, ◌$◌}
 use Rattle.thread_local_lemmas.proofs.Names.{◌∵◌, !, qed, by, move, keep, drop, split, split3, join, fsplit, fsplit3}
 use Rattle.thread_local_lemmas.proofs.Names.{fjoin, fpick, pick, use0, use1, use2, use3, await, rewrite, feq_i, stop}
-use Rattle.thread_local_lemmas.proofs.Names.{fld, load, addr, lit, size_word, of_opd, bin, no_more, and_then, first}
+use Rattle.thread_local_lemmas.proofs.Names.{emp, fact_i, Option, fld, load, addr, lit, size_word, of_opd, bin, no_more, and_then, first}
 use Rattle.thread_local_lemmas.proofs.Names.{blocks, exec, branches, returns, enter, alloc_all, pass_all, free_all}
 use Rattle.thread_local_lemmas.proofs.Names.{look_at, get, through, sets, sets_last, lands_last, env, is, agg, sub}
 use Rattle.thread_local_lemmas.proofs.Names.{look_in, whole, live, tables, fact, yes, RattleType, owns, types_at, plain}
@@ -26,21 +26,26 @@ use denote.Steps.{looks, shuts}
 use denote.Memory.{hidden_shr, shared_of}
 use denote.Opens.{unhide, hide}
 use denote.Ref.{ShrRef}
+use denote.Struct.Tuple.{Tuple}
 use Rattle.thread_local_judged.specs.Judged.{Shareable}
 use denote.Struct.Lending.{lent_out}
 use Rattle.std.specs.contracts.marker.PhantomData as marker
 use Rattle.std.specs.contracts.option.Option as Opt
 use Rattle.std.proofs.option.Made.{Some-of, none_of}
 use Rattle.std.proofs.raw_atomic.Calls.{found, finds, loads, seq_cst}
-use Rattle.std.specs.Prelude.{bit_and}
+use Rattle.std.specs.Prelude.{IfSome, bit_and}
 use Rattle.std.proofs.lemmas.Bool.{cases_eq, eq-eqb}
 use Rattle.std.proofs.lemmas.Nat.Bits.{bit_at-lt, shr_and_one}
 use Rattle.std.specs.Sync.RawAtomic.{asks, always}
 use Rattle.thread_local_lemmas.specs.Bits.{is_set}
+use Rattle.thread_local_lemmas.proofs.Pairs.{both, pair_in}
 use Rattle.thread_local_lemmas.proofs.Word.{is_set-test, masked_fits, place_below, bit_fits, shifted_right}
 use Rattle.thread_local_blocks.specs.Slots.{stride, value_words, flag_word_at, word_offset, value_offset}
 use Rattle.thread_local_blocks.proofs.Flags.{in_chunks, uncapped, value_near}
 use Rattle.thread_local_blocks.proofs.Slots.{IsWordNear, word_is_near}
+use Rattle.thread_local_model.specs.Place.{id_at}
+use Rattle.thread_local_tokens.specs.contracts.witness.Witness as Witness
+use Rattle.thread_local_tokens.proofs.Made.{token_val, witness_made}
 use Rattle.thread_local_shared_bucket.specs.Shared.{BucketView, Turn, StandingBlock, name_at, block_code, pinned}
 use Rattle.thread_local_shared_bucket.specs.Shared.{first as first_id, bucket_invariant, row_owns}
 use Rattle.thread_local_shared_bucket.proofs.Looks as steps
@@ -54,7 +59,13 @@ use Rattle.thread_local_shared_bucket.proofs.row.Row.get.Code as code
 
 -- the rest of the branch that found the flag set
 abbrev wraps : Body
-wraps = seq (assign (place 23 []) (rv_opd (copy (place 24 [])))) (assign (place 22 []) (aggregate (int w8 1 ∷ copy (place 23 []) ∷ [])))
+wraps =
+    seq (assign (place 7 []) (rv_opd (copy (place 20 []))))
+    (seq (assign (place 24 []) (aggregate []))
+    (seq (assign (place 8 []) (aggregate (copy (place 24 []) ∷ [])))
+    (seq (assign (place 25 []) (rv_opd (copy (place 8 []))))
+    (seq (assign (place 26 []) (aggregate (copy (place 25 []) ∷ copy (place 7 []) ∷ [])))
+    (assign (place 19 []) (aggregate (int w8 1 ∷ copy (place 26 []) ∷ [])))))))
 
 -- the test of a bit is 0 or 1
 bit_below : (n bit : ℕ) → bit_and (n / 2 ^ bit) 1 < 2
@@ -109,6 +120,11 @@ get_spec {M} 𝓤 𝓛 𝓜 𝓡 wired T L =
     let w : ℕ = word_offset R many (count_of p) (i / 64) in
     let bit : ℕ = i % 64 in
     let G : RattleType = ShrRef (named 1) β R in
+    let S : RattleType = Witness.the_row R in
+    let Pair : RattleType = Tuple (S ∷ G ∷ []) in
+    let IsTold : Option Pair.Denot → Type 0 = λ found.
+    IfSome found (λ z.
+    (◌≡◌ {A = Option ℕ} z.0.sharing d.sharing) × (z.0.id ≡ id_at d.bucket i) × (z.0.value ≡ z.1.now)) in
     let y : (walk_of 𝓛 En hs c).Ghost =
     ((κs, qs, bounds, a, (vptr b o ∷ [], (vint w64 i ∷ [], (vint w64 k ∷ [], tt)))), gh) in
     let Post : Val → SProp 𝓤 = (walk_of 𝓛 En hs c).post y in
@@ -165,15 +181,13 @@ get_spec {M} 𝓤 𝓛 𝓜 𝓡 wired T L =
     -- [κ's token; the fields; the life's token; the way back; which; before the block's own; the
     -- invariant; the others]
     first ! $ blocks ! $ sets ! (of_opd ! (get ! refl)) refl (tt, tt) $
-    sets ! (of_opd ! (get ! refl)) refl (tt, tt) $
-    sets ! (of_opd ! (get ! refl)) refl (tt, record { fits = are.1.1.0.1 }) $
     sets ! (is ! (bin ! (get ! refl) (lit ! tt) (record { fits = small }))
     (ap (λ (m : ℕ). vint w64 (m * 8)) number_at))
     refl (tt, record { fits = here.near }) $
     sets_last ! (bin ! (get ! refl) (get ! refl) tt) refl (tt, tt) $
     exec ! 𝓣.C 𝓣.Λ Ev (after 2 fn.body) (at_ret Ev Post) $
     sets ! (of_opd ! (get ! refl)) refl (tt, tt) $
-    first ! $ blocks ! $ sets ! (of_opd ! (get ! refl)) refl (tt, tt) $
+    first ! $ blocks ! $
     sets ! (agg ! (and_then ! (lit ! tt) (no_more !))) refl (tt, (record { fits = lit< tt }, tt)) $
     nothing ! $ move ! (5 ∷ 0 ∷ []) $ join ! $ move ! (6 ∷ 3 ∷ 0 ∷ []) $
     let out : ℕ → Fml = λ n. fsep (flft t.life s) (by_flag lent (is_set n bit)) in
@@ -194,8 +208,6 @@ get_spec {M} 𝓤 𝓛 𝓜 𝓡 wired T L =
     use2 𝓛 (later (‵ (flft β q))) (apply∗ 𝓤 (𝓛.A.lft t.life s) (H.⇛ (𝓛.A.lft β q))) $ await ! tt $
     -- [β's token; what was seen; κ's token; the fields; before the block's own; the others]
     move ! (0 ∷ 5 ∷ []) $ join ! $ move ! (2 ∷ 0 ∷ []) $ join ! $
-    sets ! (of_opd ! (get ! refl)) refl (tt, record { fits = fits }) $
-    sets ! (of_opd ! (get ! refl)) refl (tt, record { fits = are.1.0.1 }) $
     sets ! (bin ! (get ! refl) (lit ! tt) (lit< tt)) refl (tt, record { fits = bit_fits i }) $
     sets ! (of_opd ! (get ! refl)) refl (tt, record { fits = bit_fits i }) $
     let shifted : n / 2 ^ bit < 2 ^ 64 = shifted_right n bit fits in
@@ -206,27 +218,29 @@ get_spec {M} 𝓤 𝓛 𝓜 𝓡 wired T L =
     (λ _.
     sets_last ! (agg ! (and_then ! (lit ! tt) (no_more !))) refl
     (tt, (record { fits = lit< tt }, tt)) $
-    exec ! 𝓣.C 𝓣.Λ Ev (after 13 fn.body) (at_ret Ev Post) $
+    exec ! 𝓣.C 𝓣.Λ Ev (after 11 fn.body) (at_ret Ev Post) $
     sets ! (of_opd ! (get ! refl)) refl (tt, (record { fits = lit< tt }, tt)) $
-    nothing ! $ use0 𝓛 (‵ ((Opt.the_row G).own_val None (live 0 vnil ∷ []))) (none_of 𝓛 G) $
+    use0 𝓛 (raw (fact 𝓤 (IsTold None))) (fact_i 𝓤 (IsTold None) (emp 𝓤) tt) $ nothing ! $ join ! $
+    use0 𝓛 (‵ ((Opt.the_row Pair).own_val None (live 0 vnil ∷ []))) (none_of 𝓛 Pair) $
     nothing ! $ nothing ! $ fjoin ! $ nothing ! $ fjoin ! $ nothing ! $ fjoin ! $
     returns ! (look_at ! 0 refl) $ free_all ! refl $ keep ! (3 ∷ 0 ∷ 1 ∷ 2 ∷ []) $
     by ! (leaves 𝓛 En hs c y (live 0 vnil) None (tt, (tt, (tt, tt))) (tt, (tt, (tt, tt)))))
     (λ set. move ! (1 ∷ []) $
     rewrite ! 0 (λ (u : Bool). ‵ (by_flag lent u)) (tested n bit set) refl $ fpick ! (λ x.
-    let S : Lft → Fml = shared_of R x pb e in
-    fsplit ! $
+    let Lent : Lft → Fml = shared_of R x pb e in
+    fsplit3 ! $
     rewrite ! 0 (λ (names : List ℕ). ‵ (pinned R (name_at names i) x)) so.1 refl $
-    move ! (4 ∷ 1 ∷ []) $
-    use2 𝓛 (‵ (S β)) ((LR.shr_laws x pb e).mono M 𝓤 𝓛 β (sd.block_life ∷ t.life)) $ hide ! $
+    -- [the pin; what is told; the value; the tokens; the fields; before the block's own]
+    move ! (5 ∷ 2 ∷ []) $
+    use2 𝓛 (‵ (Lent β)) ((LR.shr_laws x pb e).mono M 𝓤 𝓛 β (sd.block_life ∷ t.life)) $ hide ! $
     let Then =
-    any_q (after_seq 𝓤 H (Wp 𝓤 H 𝓣.C 𝓣.Λ Ev (after 13 fn.body) (at_return 𝓤 H Ev Post))
+    any_q (after_seq 𝓤 H (Wp 𝓤 H 𝓣.C 𝓣.Λ Ev (after 11 fn.body) (at_return 𝓤 H Ev Post))
     (at_return 𝓤 H Ev Post)) in
     let r : G.Denot = record { ref_ptr = (pb, e); now = x } in
-    let v₁ : Val = live 1 (vcons (vptr pb e) vnil) in
+    let w₁ : S.Denot = record { marker = record {}; sharing = d.sharing; id = i + first_id R d; value = x } in
+    let u₁ : Val = both token_val (vptr pb e) in
+    let v₁ : Val = live 1 (vcons u₁ vnil) in
     first ! $ blocks ! $ sets ! (of_opd ! (get ! refl)) refl (tt, tt) $
-    sets ! (of_opd ! (get ! refl)) refl (tt, tt) $
-    sets ! (of_opd ! (get ! refl)) refl (tt, record { fits = are.1.0.1 }) $
     sets !
     (is ! (bin ! (get ! refl) (size_word !) (record {
       fits = subst (λ (k : ℕ). k < 2 ^ 64) (sym (uncapped i (stride R) value_fits)) value_fits;
@@ -236,12 +250,25 @@ get_spec {M} 𝓤 𝓛 𝓜 𝓡 wired T L =
     sets ! (bin ! (get ! refl) (get ! refl) tt) refl (tt, tt) $
     sets_last ! (addr ! (through ! refl (stop !))) refl (tt, tt) $ exec ! 𝓣.C 𝓣.Λ Ev wraps Then $
     sets ! (of_opd ! (get ! refl)) refl (tt, tt) $
+    sets ! (agg ! (no_more !)) refl (tt, tt) $
+    sets ! (agg ! (and_then ! (get ! refl) (no_more !))) refl (tt, (tt, tt)) $
+    sets ! (of_opd ! (get ! refl)) refl (tt, (tt, tt)) $
+    sets ! (agg ! (and_then ! (get ! refl) (and_then ! (get ! refl) (no_more !)))) refl
+    (tt, ((tt, tt), (tt, tt))) $
     sets_last ! (agg ! (and_then ! (lit ! tt) (and_then ! (get ! refl) (no_more !)))) refl
-    (tt, (record { fits = lit< tt }, (tt, tt))) $
-    exec ! 𝓣.C 𝓣.Λ Ev (after 13 fn.body) (at_ret Ev Post) $
-    sets ! (of_opd ! (get ! refl)) refl (tt, (record { fits = lit< tt }, (tt, tt))) $
+    (tt, (record { fits = lit< tt }, (((tt, tt), (tt, tt)), tt))) $
+    exec ! 𝓣.C 𝓣.Λ Ev (after 11 fn.body) (at_ret Ev Post) $
+    sets ! (of_opd ! (get ! refl)) refl
+    (tt, (record { fits = lit< tt }, (((tt, tt), (tt, tt)), tt))) $
     feq_i ! (List Val) (vptr pb e ∷ []) (vptr pb e ∷ []) refl $ fjoin ! $
-    use1 𝓛 (‵ ((Opt.the_row G).own_val (Some r) (v₁ ∷ []))) (Some-of 𝓛 G r (vptr pb e)) $
+    -- [the `&`; the pin; what is told; the tokens; the fields]
+    move ! (2 ∷ []) $ use1 𝓛 (‵ (S.own_val w₁ (token_val ∷ []))) (witness_made 𝓛 R w₁) $
+    pair_in S G ! w₁ r token_val (vptr pb e) $
+    use1 𝓛 (‵ ((Opt.the_row Pair).own_val (Some (w₁, r)) (v₁ ∷ []))) (Some-of 𝓛 Pair (w₁, r) u₁) $
+    let at_id : i + first_id R d ≡ id_at d.bucket i = omega arith in
+    use0 𝓛 (raw (fact 𝓤 (IsTold (Some (w₁, r)))))
+    (fact_i 𝓤 (IsTold (Some (w₁, r))) (emp 𝓤) (refl, at_id, refl)) $
+    move ! (2 ∷ 0 ∷ []) $ join ! $ move ! (1 ∷ []) $
     nothing ! $ nothing ! $ fjoin ! $ nothing ! $ fjoin ! $ nothing ! $ fjoin ! $
     returns ! (look_at ! 0 refl) $ free_all ! refl $ keep ! (3 ∷ 0 ∷ 1 ∷ 2 ∷ []) $
-    by ! (leaves 𝓛 En hs c y v₁ (Some r) (tt, (tt, (tt, tt))) (tt, (tt, (tt, tt)))))))))))))))))))
+    by ! (leaves 𝓛 En hs c y v₁ (Some (w₁, r)) (tt, (tt, (tt, tt))) (tt, (tt, (tt, tt)))))))))))))))))))
