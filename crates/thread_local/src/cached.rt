@@ -3,7 +3,7 @@
 ghost use Rattle.std.specs.Prelude.{◌≡◌, ◌≢◌, ◌-◌, ◌^◌, ◌<◌, length, Some, IfSome, IfOk, IsSome};
 ghost use Rattle.std.specs.Iterator.{YieldsFirst, YieldsFirstMut, UpTo, item_count};
 ghost use Rattle.std.specs.Iterator.SizeHint.{IsWithinCount};
-ghost use Rattle.thread_local_buckets.specs.IterMut.{iter_mut_rest};
+ghost use Rattle.thread_local_buckets.specs.IterMut.{iter_mut_rest, iter_mut_given};
 ghost use Rattle.thread_local_judged.specs.Judged.{Judged};
 
 use crate::local::Local;
@@ -61,7 +61,9 @@ impl<T> CachedThreadLocal<T> {
     }
 
     /// The values by ascending id, each lent as `&mut`.
-    pub fn iter_mut(&mut self) -> CachedIterMut<'_, T> {
+    pub fn iter_mut(&mut self) -> CachedIterMut<'_, T>
+        ensures fresh { iter_mut_given result ≡ 0 }
+    {
         CachedIterMut {
             walk: self.table.iter_mut(),
         }
@@ -108,6 +110,8 @@ impl<'a, T> IntoIterator for &'a mut CachedThreadLocal<T> {
 
     type IntoIter = CachedIterMut<'a, T>;
 
+    ghost into_iter_gives = { λ _ walk. iter_mut_given walk ≡ 0 };
+
     /// The values by ascending id, each lent as `&mut`.
     fn into_iter(self) -> CachedIterMut<'a, T> {
         self.iter_mut()
@@ -115,17 +119,17 @@ impl<'a, T> IntoIterator for &'a mut CachedThreadLocal<T> {
 }
 
 /// The walk of `CachedThreadLocal::iter_mut`. Deprecated: use `IterMut`. It takes no lock and no
-/// memory. Contracts see the values still to come, and the name of their loan.
+/// memory. Contracts see what they see of an `IterMut`.
 #[derive(Drop)]
 pub struct CachedIterMut<'a, T> {
     walk: IterMut<'a, T>,
 }
 
 impl<'a, T> Model for CachedIterMut<'a, T> {
-    ghost use Rattle.std.specs.Prelude.{List};
+    ghost use Rattle.std.specs.Prelude.{ℕ, List};
     ghost use base.Fml.{GName};
 
-    ghost Value = { List T × GName };
+    ghost Value = { List T × (GName × ℕ) };
 
     ghost view = { λ it. it.walk };
 }

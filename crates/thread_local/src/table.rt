@@ -3,6 +3,7 @@
 //! published with, have their names here too.
 ghost use Rattle.std.specs.Prelude.{◌≡◌, ◌≢◌, ◌≤◌, ◌<◌, ◌-◌, ◌^◌, ℕ, Option, true, false, None, Some, Err, IfOk, IsSome, IsNone};
 ghost use Rattle.thread_local_model.specs.Capacity.{reserved_slots};
+ghost use Rattle.thread_local_buckets.specs.IterMut.{iter_mut_given, entries_mut_given};
 ghost use Rattle.thread_local_judged.specs.Judged.{Judged};
 ghost use Rattle.thread_local_shared_buckets.specs.Walks.{fresh};
 
@@ -170,13 +171,17 @@ impl<T> ThreadLocal<T> {
 
     /// The values by ascending id, each lent as `&mut`. It is the walk `iter_mut` of the buckets
     /// that `buckets_mut` lends, whose contract says what it gives. Rust's crate promises no order.
-    pub fn iter_mut(&mut self) -> IterMut<'_, T> {
+    pub fn iter_mut(&mut self) -> IterMut<'_, T>
+        ensures fresh { iter_mut_given result ≡ 0 }
+    {
         self.buckets.owner().iter_mut()
     }
 
     /// `iter_mut`, with the id of each value: the walk `entries_mut` of the buckets that
     /// `buckets_mut` lends.
-    pub fn entries_mut(&mut self) -> EntriesMut<'_, T> {
+    pub fn entries_mut(&mut self) -> EntriesMut<'_, T>
+        ensures fresh { entries_mut_given result ≡ 0 }
+    {
         self.buckets.owner().entries_mut()
     }
 
@@ -341,6 +346,8 @@ impl<'a, T> IntoIterator for &'a mut ThreadLocal<T> {
     type Item = &'a mut T;
 
     type IntoIter = IterMut<'a, T>;
+
+    ghost into_iter_gives = { λ _ walk. iter_mut_given walk ≡ 0 };
 
     /// The values by ascending id, each lent as `&mut`, as `iter_mut`.
     fn into_iter(self) -> IterMut<'a, T> {

@@ -30,6 +30,10 @@ module _ {X : Type 0} where
   abbrev pub DrainCanStep : Drain X → Type 0
   DrainCanStep d = IsOwnerWalk d.buckets.now.contents d.cursor
 
+  -- the walk has passed no slot
+  abbrev pub DrainIsFresh : Drain X → Type 0
+  DrainIsFresh d = d.cursor.raw ≡ record { yielded = 0; bucket = 0; bucket_size = 1; index = 0 }
+
   -- old and new borrow the same buckets, and leave the same once dropped
   abbrev pub DrainKeeps : Drain X → Drain X → Type 0
   DrainKeeps old new = (drain_lender new ≡ drain_lender old) × (drain_leaves new ≡ drain_leaves old)

@@ -65,9 +65,9 @@ impl<T> Model for Buckets<T> {
 
 impl<T> Buckets<T> {
     ghost use Rattle.thread_local_buckets.specs.Inserting.{LendsInserted};
-    ghost use Rattle.thread_local_buckets.specs.Drain.{drain_rest, drain_lender, drain_leaves, DrainCanStep, DrainKeepsAlong};
+    ghost use Rattle.thread_local_buckets.specs.Drain.{drain_rest, drain_lender, drain_leaves, DrainCanStep, DrainIsFresh, DrainKeepsAlong};
     ghost use Rattle.thread_local_buckets.specs.Emptied.{owned_emptied};
-    ghost use Rattle.thread_local_buckets.specs.IterMut.{iter_mut_rest, iter_mut_name, entries_mut_rest, entries_mut_name};
+    ghost use Rattle.thread_local_buckets.specs.IterMut.{iter_mut_rest, iter_mut_name, iter_mut_given, entries_mut_rest, entries_mut_name, entries_mut_given};
     ghost use Rattle.thread_local_buckets.specs.LendingValues.{LendsValues, WouldStand, WouldBePublished};
     ghost use Rattle.thread_local_buckets.specs.Writing.{LendsSlot};
 
@@ -207,6 +207,7 @@ impl<T> Buckets<T> {
     pub fn iter_mut(&mut self) -> IterMut<'_, T>
         ensures* writes_back { sem 𝓛 (LendsValues T.row self.entry (iter_mut_name result)) }
         ensures rest { iter_mut_rest result ≡ walk (values self.old.contents) }
+        ensures fresh { iter_mut_given result ≡ 0 }
 
         // Whatever is written through the items, the same buckets stand and the same ids have a
         // value.
@@ -222,6 +223,7 @@ impl<T> Buckets<T> {
     pub fn entries_mut(&mut self) -> EntriesMut<'_, T>
         ensures* writes_back { sem 𝓛 (LendsValues T.row self.entry (entries_mut_name result)) }
         ensures rest { entries_mut_rest result ≡ walk (paired (values self.old.contents)) }
+        ensures fresh { entries_mut_given result ≡ 0 }
 
         // Whatever is written through the items, the same buckets stand and the same ids have a
         // value.
@@ -257,6 +259,7 @@ impl<T> Buckets<T> {
         T: Drop,
         ensures ready { DrainCanStep result }
         ensures rest { drain_rest result ≡ walk (values self.old.contents) }
+        ensures fresh { DrainIsFresh result }
 
         // Once dropped it leaves the same buckets without a value, also after calls of `next`.
         ensures same_reference { drain_lender result ≡ self.entry.ghost_name }

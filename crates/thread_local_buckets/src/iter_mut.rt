@@ -5,7 +5,7 @@ ghost use Rattle.std.specs.Iterator.{YieldsFirstMut, YieldsFirstBy, UpTo, item_c
 ghost use Rattle.std.specs.Iterator.SizeHint.{IsWithinCount};
 ghost use Rattle.thread_local_model.specs.Buckets.{values};
 ghost use Rattle.thread_local_model.specs.Walk.{walk};
-ghost use Rattle.thread_local_buckets.specs.IterMut.{iter_mut_rest, iter_mut_name, entries_mut_rest};
+ghost use Rattle.thread_local_buckets.specs.IterMut.{iter_mut_rest, iter_mut_name, iter_mut_given, entries_mut_rest};
 ghost use Rattle.thread_local_cursor.specs.Cursor.{HasRead, MayRead};
 ghost use Rattle.thread_local_buckets.specs.LendingValues.{LendsValues};
 ghost use Rattle.thread_local_buckets.specs.Entered.{IsEntered};
@@ -18,7 +18,7 @@ use std::marker::Model;
 use thread_local_cursor::OwnerCursor;
 
 /// The values of a table's buckets with their ids, by ascending id, each lent as `&mut`. Contracts
-/// see those still to come, and the name of their loan.
+/// see those still to come, the name of their loan, and the id after the last one that was given.
 ///
 /// No call takes memory or waits. The Rust crate has no such walk.
 #[derive(Drop)]
@@ -33,13 +33,13 @@ impl<'a, T> Model for EntriesMut<'a, T> {
     ghost use Rattle.thread_local_model.specs.Buckets.{values};
     ghost use Rattle.thread_local_model.specs.Walk.{walk, paired};
 
-    ghost Value = { List (ℕ × T) × GName };
+    ghost Value = { List (ℕ × T) × (GName × ℕ) };
 
     ghost use Rattle.thread_local_model.specs.Owner.{NoneBelow};
     ghost use Rattle.thread_local_cursor.specs.Cursor.{read_to, IsOwnerWalk};
     ghost use Rattle.thread_local_buckets.specs.Entered.{IsEntered};
 
-    ghost view = { λ it. (walk (paired (values it.loan.contents)), it.loan.name) };
+    ghost view = { λ it. (walk (paired (values it.loan.contents)), (it.loan.name, it.loan.given)) };
 
     ghost invariant = { λ it.
         IsOwnerWalk it.loan.contents it.cursor
@@ -117,7 +117,7 @@ impl<T: fmt::Debug> fmt::Debug for EntriesMut<'_, T> {
 }
 
 /// The values of a table's buckets, by ascending id, each lent as `&mut`. Contracts see those still
-/// to come, and the name of their loan.
+/// to come, the name of their loan, and the id after the last one that was given.
 ///
 /// No call takes memory or waits. The Rust crate promises no order.
 #[derive(Drop)]
@@ -126,10 +126,10 @@ pub struct IterMut<'a, T> {
 }
 
 impl<'a, T> Model for IterMut<'a, T> {
-    ghost use Rattle.std.specs.Prelude.{List, map};
+    ghost use Rattle.std.specs.Prelude.{ℕ, List, map};
     ghost use base.Fml.{GName};
 
-    ghost Value = { List T × GName };
+    ghost Value = { List T × (GName × ℕ) };
 
     ghost view = { λ it. (map (λ entry. entry.1) it.entries.0, it.entries.1) };
 }
@@ -145,6 +145,7 @@ impl<'a, T> IntoIterator for &'a mut Buckets<T> {
     fn into_iter(self) -> IterMut<'a, T>
         ensures* writes_back { sem 𝓛 (LendsValues T.row self.entry (iter_mut_name result)) }
         ensures into_iter_gives { iter_mut_rest result ≡ walk (values self.old.contents) }
+        ensures fresh { iter_mut_given result ≡ 0 }
     {
         self.iter_mut()
     }

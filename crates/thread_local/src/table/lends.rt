@@ -3,7 +3,7 @@
 ghost use Rattle.std.specs.Prelude.{◌≡◌};
 ghost use types.Logic.{sem};
 ghost use Rattle.std.specs.Borrow.{follows};
-ghost use Rattle.thread_local_buckets.specs.Drain.{drain_lender, drain_leaves, DrainCanStep, DrainKeepsAlong};
+ghost use Rattle.thread_local_buckets.specs.Drain.{drain_lender, drain_leaves, DrainCanStep, DrainIsFresh, DrainKeepsAlong};
 ghost use Rattle.thread_local_buckets.specs.contracts.buckets.Buckets.{the_row as owner_row};
 ghost use Rattle.thread_local_shared_buckets.specs.Lent.{view_with};
 ghost use Rattle.thread_local.specs.contracts.table.ThreadLocal.{the_row};
@@ -32,6 +32,7 @@ impl<T> ThreadLocal<T> {
             (follows (the_row T.row) (owner_row T.row) self.entry.ghost_name (drain_lender result)
             (view_with self.old)) }
         ensures ready { DrainCanStep result }
+        ensures fresh { DrainIsFresh result }
         ensures reserved { (drain_leaves result).reserved ≡ self.old.reserved }
         ensures stays { DrainKeepsAlong result }
     {

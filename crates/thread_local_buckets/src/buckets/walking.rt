@@ -14,6 +14,7 @@ impl<T> Buckets<T> {
     pub(crate) fn begin_walk(&mut self) -> OwnerCursor
         ensures same { self.new ≡ self.old }
         ensures walk { IsOwnerWalk self.old.contents result }
+        ensures raw { result.raw ≡ record { yielded = 0; bucket = 0; bucket_size = 1; index = 0 } }
         ensures rest { result.rest ≡ 0 }
         ensures ends { values_left result ≡ 0 → emptied self.old.contents ≡ self.old.contents }
     {

@@ -15,6 +15,7 @@ returns g c =
         rest =
             ap (λ (contents : Contents _). walk (paired (values contents))) c.lend.ensures.contents
             ∙ ap (λ (s : Owned _). walk (paired (values s.contents))) counted;
+        fresh = c.lend.ensures.given;
         would_stand = refilled-stands c.args.self.now;
         would_be_published = refilled-published c.args.self.now;
       },

@@ -9,6 +9,7 @@ returns g c = (
   record {
     writes_back = tt;
     rest = ap (map (λ (entry : ℕ × _). entry.1)) c.entries_mut.ensures.rest ∙ walk_of_entries (values c.args.self.now.contents);
+    fresh = c.entries_mut.ensures.fresh;
     would_stand = c.entries_mut.ensures.would_stand;
     would_be_published = c.entries_mut.ensures.would_be_published;
   },
