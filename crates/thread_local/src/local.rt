@@ -22,7 +22,7 @@ mod lends;
 ///
 /// Each call does what the seat's of that name does. None takes a lock. Only `set`, `publish` and the `get_or` family (`get_or`,
 /// `get_or_default`, `get_or_try`, `try_fill`) take memory, for a bucket. The closure or the
-/// `T::default` that these run may wait, and so may the drop of a closure that they don't run.
+/// `T::made_with` that these run may wait, and so may the drop of a closure that they don't run.
 /// References that calls answer live no longer than the borrow of the `Local`.
 ///
 /// Contracts see the table's name and its sharing, the id, the number of reserved slots, and what is

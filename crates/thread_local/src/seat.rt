@@ -42,13 +42,13 @@ pub enum SetError<T> {
 /// An id of a table, and what is known of the id's slot. Each `Local` has one, and lends it.
 ///
 /// No call takes a lock. Only `set`, `publish` and the `get_or` family (`get_or`, `get_or_default`,
-/// `get_or_try`, `try_fill`) take memory, for a bucket. The closure or the `T::default` that these
-/// run may wait, and so may the drop of a closure that they don't run.
+/// `get_or_try`, `try_fill`) take memory, for a bucket. The closure or the `T::made_with` that
+/// these run may wait, and so may the drop of a closure that they don't run.
 ///
 /// In Rust's crate the running thread is the seat. It has `get` and the `get_or` family but
 /// `try_fill`; the other calls are the port's own.
 pub struct Seat<'a, T> {
-    table: &'a ThreadLocal<T>,
+    pub(crate) table: &'a ThreadLocal<T>,
     claim: Claim<'a, T>,
 }
 

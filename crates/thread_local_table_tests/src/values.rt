@@ -2,11 +2,13 @@
 
 use crate::locals::{found, found_by_another, numbers, published, published_by_another};
 use std::alloc::Global;
+use std::cell::Cell;
 use std::fmt::Debug;
 use std::mem::swap;
 use std::sync::Wait;
 use thread_local::ThreadLocal;
 use thread_local::local::{Local, TryError};
+use thread_local::table::Judge;
 
 #[test]
 fn the_first_value_stays(rt: HostRuntime) {
@@ -149,6 +151,56 @@ fn default_published<R: Wait>(table: &ThreadLocal<u32>, rt: &R) -> Option<[Optio
 fn a_default_is_published(rt: HostRuntime) {
     let table = numbers(rt.alloc());
     assert_eq!(rt; default_published(&table, &rt), Some([Some(0), Some(0)]));
+}
+
+/// Whether a new `Local` of a table of lists publishes an empty one by default.
+fn a_default_list_is_empty<R: Wait>(table: &ThreadLocal<Vec<u64>>, rt: &R) -> Option<bool> {
+    let mut local = table.local(rt).ok()?;
+    let told = local.get_or_default().ok()?.is_empty();
+    let found = local.get()?;
+    Some(told && found.is_empty())
+}
+
+/// Whether a new `Local` of a table of texts publishes an empty one by default.
+fn a_default_text_is_empty<R: Wait>(table: &ThreadLocal<String>, rt: &R) -> Option<bool> {
+    let mut local = table.local(rt).ok()?;
+    let told = local.get_or_default().ok()?.is_empty();
+    let found = local.get()?;
+    Some(told && found.is_empty())
+}
+
+// Neither type has `Default`, since both need an allocator.
+#[test]
+fn lists_and_texts_have_defaults(rt: HostRuntime) {
+    Vec::<u64>::judge();
+    String::judge();
+    let lists = ThreadLocal::new(rt.alloc());
+    let texts = ThreadLocal::new(rt.alloc());
+    assert_eq!(rt;
+        (
+            a_default_list_is_empty(&lists, &rt),
+            a_default_text_is_empty(&texts, &rt)
+        ),
+        (Some(true), Some(true))
+    );
+}
+
+/// What two `Local`s that are held at once publish by default in cells, once the first has written 3
+/// to its own.
+fn default_cells<R: Wait>(table: &ThreadLocal<Cell<u64>>, rt: &R) -> Option<[u64; 2]> {
+    let mut first = table.local(rt).ok()?;
+    let mut second = table.local(rt).ok()?;
+    first.get_or_default().ok()?.set(3);
+    let other = second.get_or_default().ok()?.get();
+    let kept = first.get_or_default().ok()?.get();
+    Some([kept, other])
+}
+
+#[test]
+fn a_default_replaces_no_value(rt: HostRuntime) {
+    Cell::<u64>::judge();
+    let table = ThreadLocal::new(rt.alloc());
+    assert_eq!(rt; default_cells(&table, &rt), Some([3, 0]));
 }
 
 /// Whether a new `Local` that publishes -3 is shown with it.

@@ -12,7 +12,8 @@ ghost use Rattle.thread_local.specs.Seats.{knows, IsAnswered, Fills, IsRefused};
 ghost use Rattle.thread_local.specs.contracts.local.Local.{the_row};
 
 use super::Local;
-use std::alloc::AllocError;
+use std::alloc::{AllocError, Global};
+use std::default::MadeWith;
 use std::sync::Wait;
 
 impl<'a, T, R: Wait> Local<'a, T, R> {
@@ -40,11 +41,12 @@ impl<'a, T, R: Wait> Local<'a, T, R> {
         Ok(self.seat.value())
     }
 
-    /// The value. Where the slot is empty, `T::default` makes it and it is published as by
-    /// `get_or`. `Err` means out of memory for the bucket.
+    /// The value. Where the slot is empty, `T::made_with` makes it and it is published as by
+    /// `get_or`. `Err` means out of memory for the bucket. Each `T: Default` has `MadeWith`, which
+    /// calls `T::default`; texts and collections have it too, and keep the table's allocator.
     pub fn get_or_default(&mut self) -> Result<&T, AllocError>
     where
-        T: Default,
+        T: MadeWith<Global>,
         // Once the borrow of the answer ends, the view has the value that was answered. Where
         // memory was refused, it is the old view.
         ensures* leaves { sem 𝓛
@@ -52,13 +54,15 @@ impl<'a, T, R: Wait> Local<'a, T, R> {
             (the_row (record { mir = named 1; lft = [] }) T.row R.row) self.entry.ghost_name
             none (λ _ _. ⊤)
             (λ left.
-            MatchResult result (λ there. Fills ⊤ T.is_default self.old left there.now)
+            MatchResult result (λ there. Fills ⊤ T.is_made_with self.old left there.now)
             (λ _. IsRefused ⊤ self.old left))) }
-        ensures answers { MatchResult result (λ there. IsAnswered ⊤ T.is_default self.old there.now) (λ _.
+        ensures answers { MatchResult result (λ there. IsAnswered ⊤ T.is_made_with self.old there.now) (λ _.
             (made : Result T ⊤) → answer (knows self.old) (GetOr made true) ≡ Refused) }
         ensures granted { self.old.known ≡ true → IsOk result }
     {
-        self.seat.fill(|| T::default())?;
+        let table = self.seat.table;
+        let alloc = table.alloc;
+        self.seat.fill(|| T::made_with(alloc))?;
         Ok(self.seat.value())
     }
 }

@@ -10,7 +10,8 @@ ghost use Rattle.thread_local.specs.Seats.{knows, IsAnswered, Fills, IsRefused};
 ghost use Rattle.thread_local.specs.contracts.seat.Seat.{the_row};
 
 use super::Seat;
-use std::alloc::AllocError;
+use std::alloc::{AllocError, Global};
+use std::default::MadeWith;
 
 impl<'a, T> Seat<'a, T> {
     /// The value. Where the slot is empty, its bucket is found or made, then the closure is called
@@ -37,11 +38,12 @@ impl<'a, T> Seat<'a, T> {
         Ok(self.value())
     }
 
-    /// The value. Where the slot is empty, `T::default` makes it and it is published as by
-    /// `get_or`. `Err` means out of memory for the bucket.
+    /// The value. Where the slot is empty, `T::made_with` makes it and it is published as by
+    /// `get_or`. `Err` means out of memory for the bucket. Each `T: Default` has `MadeWith`, which
+    /// calls `T::default`; texts and collections have it too, and keep the table's allocator.
     pub fn get_or_default(&mut self) -> Result<&T, AllocError>
     where
-        T: Default,
+        T: MadeWith<Global>,
         // Once the borrow of the answer ends, the view has the value that was answered. Where
         // memory was refused, it is the old view.
         ensures* leaves { sem 𝓛
@@ -49,13 +51,15 @@ impl<'a, T> Seat<'a, T> {
             (the_row (record { mir = named 1; lft = [] }) T.row) self.entry.ghost_name none
             (λ _ _. ⊤)
             (λ left.
-            MatchResult result (λ there. Fills ⊤ T.is_default self.old left there.now)
+            MatchResult result (λ there. Fills ⊤ T.is_made_with self.old left there.now)
             (λ _. IsRefused ⊤ self.old left))) }
-        ensures answers { MatchResult result (λ there. IsAnswered ⊤ T.is_default self.old there.now) (λ _.
+        ensures answers { MatchResult result (λ there. IsAnswered ⊤ T.is_made_with self.old there.now) (λ _.
             (made : Result T ⊤) → answer (knows self.old) (GetOr made true) ≡ Refused) }
         ensures granted { self.old.known ≡ true → IsOk result }
     {
-        self.fill(|| T::default())?;
+        let table = self.table;
+        let alloc = table.alloc;
+        self.fill(|| T::made_with(alloc))?;
         Ok(self.value())
     }
 }
