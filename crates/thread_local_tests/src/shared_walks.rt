@@ -1,6 +1,7 @@
 //! Walks over tables that threads share.
 
 use crate::numbers::publishes;
+use std::mem::forget;
 use std::sync::Wait;
 use std::test::Fail;
 use thread_local::ThreadLocal;
@@ -175,6 +176,36 @@ fn all_give_none<R: Wait>(table: &ThreadLocal<u32>, rt: &R) -> bool {
 fn a_table_without_values_gives_none(rt: HostRuntime) -> Result<(), Fail> {
     let table = ThreadLocal::<u32>::new(rt.alloc());
     assert!(rt; all_give_none(&table, &rt));
+    Ok(())
+}
+
+/// The first `Local` of the eleventh bucket publishes a number, while those of the ten buckets before
+/// it are forgotten. Answers its id, whether it published, and whether walks give that value alone.
+fn publish_past_ten_buckets<R: Wait>(
+    table: &ThreadLocal<u32>,
+    rt: &R,
+) -> Option<(usize, bool, bool, bool)> {
+    for _ in 0..1023 {
+        forget(table.local(rt).ok()?);
+    }
+    let mut local = table.local(rt).ok()?;
+    Some((
+        local.id(),
+        publishes(&mut local, 5),
+        gives(table.iter(), &[5]),
+        gives_entries(table.entries(), &[(1023, 5)]),
+    ))
+}
+
+#[test]
+fn a_walk_passes_ten_missing_buckets(rt: HostRuntime) -> Result<(), Fail> {
+    let mut table = ThreadLocal::<u32>::new(rt.alloc());
+    let found = publish_past_ten_buckets(&table, &rt);
+    // No bucket but that of 1024 slots was made.
+    assert_eq!(rt;
+        (found, table.slots()),
+        (Some((1023, true, true, true)), 1024)
+    );
     Ok(())
 }
 
