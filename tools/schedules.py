@@ -482,7 +482,8 @@ def clause_newcomers(m):
 
 def clause_calls_go_on(m):
     """A call under way has a step that is enabled and brings it nearer to its end."""
-    steps = [("LoadPointer",), ("LookAtFlag",), ("MakeBucket", False), ("MakeBucket", True), ("InstallBucket",), ("WriteValue",), ("SetFlag",), ("Reply",)]
+    steps = [("LoadPointer",), ("LookAtFlag",), ("MakeBucket", False), ("MakeBucket", True)]
+    steps += [("InstallBucket",), ("WriteValue",), ("SetFlag",), ("Reply",)]
 
     def goes_on(n, it):
         after = [model.step(m.after, ("OfLocal", n, step)) for step in steps]
@@ -687,6 +688,8 @@ class Schedule:
     events: list
     bound: int  # each take came while fewer ids than this were held
     refusals: int
+    most: int  # the greatest number of ids held at once since the table was made or cleared
+    publishings: int  # how many values were published since then
 
 
 def whole_nothing(s):
@@ -697,6 +700,14 @@ def whole_nothing(s):
 def whole_takes(s):
     """The takes come below the bound, and below no smaller one."""
     return model.takes_below(s.bound, s.first, s.events) and (s.bound == 0 or not model.takes_below(s.bound - 1, s.first, s.events))
+
+
+def whole_most(s):
+    return model.most_held(s.first, s.events) == s.most
+
+
+def whole_publishings(s):
+    return model.publishings(s.first, s.events) == s.publishings
 
 
 CLAUSES = {name[len("clause_") :]: it for name, it in list(globals().items()) if name.startswith("clause_")}
@@ -864,7 +875,7 @@ def one_schedule(seed, length, seen):
         core = after
         if core.ended and chance.random() < 0.2:
             break
-    return first_failed(WHOLE, Schedule(first, events, bound, refusals)), events
+    return first_failed(WHOLE, Schedule(first, events, bound, refusals, most, publishings)), events
 
 
 def try_runs(seed, runs, length):
@@ -1282,6 +1293,10 @@ def wrong_effects():
         return after if after is core else model.with_local(after, n, replace(after.locals[n], start=View("another", True)))
 
     kept_view, kept_below, kept_nothing = model.view_after, model.takes_below, model.refuses_nothing
+    def counts_on(core, events):
+        moves = [model.move_of(model.run(core, events[:k]), it)[0] for k, it in enumerate(events)]
+        return moves.count("Publish")
+
     kept_of, kept_of_walk, kept_ends, kept_begins = model.is_of, model.is_of_walk, model.ends_table, model.begins_walk
 
     def steps(**it):
@@ -1340,6 +1355,8 @@ def wrong_effects():
         "a take grows room by more than it says": {"take": takes_with_room},
         "a failing call leaves a get under way": leaves_get("WriteValue"),
         "a call that replies leaves a get under way": leaves_get("Reply"),
+        "the most held is what is held at last": {"most_held": lambda core, events: held_count(model.run(core, events).held)},
+        "publishings are counted across a clear": {"publishings": counts_on},
         "a core of the example is made up": {"after_all": made_up_core},
         "a pointer has no name": {"named": lambda table, bucket: None},
         "a bucket of a call's own has no number": {"own_number": lambda doing: None},

@@ -719,6 +719,26 @@ def takes_below(bound, core, events):
     return True
 
 
+def most_held(core, events):
+    """The most ids held at once since the table was made, or cleared by these events."""
+    most = 0
+    for event in events:
+        cleared = event == ("Owner", ("ClearTable",)) and is_enabled(core, event)
+        core = happens(core, event)
+        most = 0 if cleared else max(most, held_count(core.held))
+    return most
+
+
+def publishings(core, events):
+    """How many values were published since the table was made, or cleared by these events."""
+    count = 0
+    for event in events:
+        move = move_of(core, event)[0]
+        count = 0 if move == "Clear" else count + (move == "Publish")
+        core = happens(core, event)
+    return count
+
+
 def is_refused(core, event):
     """The event is refused memory or an id."""
     if not is_enabled(core, event):
