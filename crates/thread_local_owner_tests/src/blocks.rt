@@ -105,12 +105,12 @@ fn tables(alloc: Global, count: u32, slots: usize) -> Result<Vec<Buckets<u64>>, 
     Ok(tables)
 }
 
-// Where the 1048575 slots of a table took 16 bytes each, 64 tables would fit into 1 GiB.
+// Where the 1048575 slots of a table took 16 bytes each, 32 tables would fit into half a GiB.
 #[test]
-fn a_hundred_and_twenty_large_tables_fit_into_a_gib(rt: HostRuntime) -> Result<(), Fail> {
+fn sixty_large_tables_fit_into_half_a_gib(rt: HostRuntime) -> Result<(), Fail> {
     let alloc = rt.alloc();
-    let taken = take_all_but(alloc, 1 << 30)?;
-    let made = tables(alloc, 120, 1_048_575).is_ok();
+    let taken = take_all_but(alloc, 1 << 29)?;
+    let made = tables(alloc, 60, 1_048_575).is_ok();
     drop(taken);
     assert!(rt; made);
     Ok(())

@@ -6,6 +6,7 @@ use std::sync::Wait;
 use std::test::Fail;
 use thread_local::ThreadLocal;
 use thread_local::local::Local;
+use thread_local_judged::judge_sync;
 use thread_local_test_helpers::memory::take_all_but;
 use thread_local_thread_id::LocalError;
 
@@ -14,6 +15,7 @@ type Large = [u64; 512];
 
 /// A table of which 1023 ids are held, for good. The next id is the first of bucket 10.
 fn with_1023_held<R: Wait>(rt: &R, alloc: Global) -> Result<ThreadLocal<Large>, LocalError> {
+    judge_sync::<Large>();
     let table = ThreadLocal::<Large>::new(alloc);
     for _ in 0..1023 {
         forget(table.local(rt)?);
