@@ -1,6 +1,6 @@
 //! A table's buckets while threads share them through a `&`. By value or through a `&mut` they are
 //! an owner's `Buckets` again.
-ghost use Rattle.std.specs.Prelude.{◌≡◌, ◌≢◌, ◌<◌, ◌≤◌, ℕ, Option, IfSome, IsSome};
+ghost use Rattle.std.specs.Prelude.{◌≡◌, ◌≢◌, ◌^◌, ◌<◌, ◌≤◌, ℕ, Option, IfSome, IsSome};
 ghost use Rattle.thread_local_model.specs.Learnt.{Unknown, Missing, Finds};
 ghost use Rattle.thread_local_model.specs.Owned.{IsOwned, AreOfFirstBuckets};
 ghost use Rattle.thread_local_model.specs.Place.{bucket_of, id_at};
@@ -200,6 +200,7 @@ impl<T> Shared<T> {
     /// another, so a bucket that is installed meanwhile may be counted or not.
     pub fn slots(&self) -> usize
         ensures reserved { self.now.reserved ≤ result }
+        ensures most { result < 2 ^ 63 }
     {
         // That these are the slots of the first buckets shows that there aren't more.
         let _ = self.reserved();

@@ -1,5 +1,5 @@
 -- the reserved slots are those of the first buckets, at most all 63, so the walk has met them
-use Rattle.std.proofs.Common.{◌≡◌, ◌≤◌, ◌-◌, ◌^◌, ℕ, arith, pow_mono, subst}
+use Rattle.std.proofs.Common.{◌≡◌, ◌≤◌, ◌-◌, ◌^◌, ℕ, arith, pow_mono, pow_pos, subst}
 use Rattle.thread_local_shared_buckets.proofs.shared.Shared.slots.Goals as goal
 
 pub returns : goal.returns
@@ -12,4 +12,8 @@ returns g c =
           subst (λ (b : ℕ).
           c.args.self.now.reserved ≤ 2 ^ b - 1 → c.args.self.now.reserved ≤ c.loop-bucket.slots)
           end c.loop-bucket.invariant.all known;
+      most =
+          (let below : c.loop-bucket.slots ≤ 2 ^ 63 - 1 =
+          subst (λ (b : ℕ). c.loop-bucket.slots ≤ 2 ^ b - 1) end c.loop-bucket.invariant.most in
+          let some = pow_pos 63 in omega arith);
     }
