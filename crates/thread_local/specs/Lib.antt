@@ -8,5 +8,6 @@ pub mod Pooled
 pub use Rattle.thread_local_model.specs.Answers
 pub use Rattle.thread_local_model.specs.Learnt
 pub mod Errors
+pub mod Owners
 pub mod Seats
 pub mod Text

@@ -1,9 +1,10 @@
 //! The object that keeps a value for each thread: the buckets that threads share, and the ids, under
 //! a lock. What the type of its values has to show, and tokens that say what its slots were
 //! published with, have their names here too.
-ghost use Rattle.std.specs.Prelude.{◌≡◌, ◌≢◌, ◌≤◌, ◌<◌, ◌-◌, ◌^◌, ℕ, Option, true, false, None, Some, Err, IfOk, IsSome, IsNone};
+ghost use Rattle.std.specs.Prelude.{◌≡◌, ◌≢◌, ◌≤◌, ◌<◌, ◌-◌, ◌^◌, ℕ, Option, true, false, None, Some, Err, IfOk, IsSome, map};
+ghost use Rattle.std.specs.List.Sorted.{IsStrictlyIncreasing};
 ghost use Rattle.thread_local_model.specs.Capacity.{reserved_slots};
-ghost use Rattle.thread_local_buckets.specs.IterMut.{iter_mut_given, entries_mut_given};
+ghost use Rattle.thread_local_buckets.specs.IterMut.{iter_mut_given, entries_mut_given, entries_mut_rest};
 ghost use Rattle.thread_local_judged.specs.Judged.{Judged};
 ghost use Rattle.thread_local_shared_buckets.specs.Walks.{fresh};
 
@@ -18,13 +19,13 @@ pub use thread_local_buckets::CapacityError;
 use thread_local_buckets::{Buckets, EntriesMut, IntoEntries, IntoIter, IterMut};
 use thread_local_ids::{Ids, Lock};
 pub use thread_local_judged::{Judge, judge_sync, judge_value};
+use thread_local_model::walk::walk_lists_the_map;
 use thread_local_shared_buckets::{Entries, Iter, Shared};
-use thread_local_thread_id::manager::IDS;
-use thread_local_thread_id::{LocalError, Thread};
+use thread_local_thread_id::LocalError;
 use thread_local_tokens::Right;
 pub use thread_local_tokens::{Book, Token};
 
-// `buckets_mut` and `drain` stand here.
+// `buckets_mut`, `drain` and `get_mut` stand here.
 mod lends;
 
 /// One object that keeps a separate value for each thread that uses it.
@@ -181,20 +182,11 @@ impl<T> ThreadLocal<T> {
     /// `buckets_mut` lends.
     pub fn entries_mut(&mut self) -> EntriesMut<'_, T>
         ensures fresh { entries_mut_given result ≡ 0 }
+        ensures ascending { IsStrictlyIncreasing (map (λ entry. entry.0) (entries_mut_rest result)) }
     {
+        // That the ids of a walk ascend.
+        walk_lists_the_map::<T>();
         self.buckets.owner().entries_mut()
-    }
-
-    /// Lends the value at an id for writing, or answers `None` where there is none: it is `get_mut`
-    /// of the buckets that `buckets_mut` lends, whose contract says what it finds and what a write
-    /// changes. No `Local` has an id of 2^63 - 1 or more.
-    pub fn get_mut(&mut self, id: usize) -> Option<&mut T>
-        ensures out_of_range { 2 ^ 63 - 1 ≤ id → IsNone result }
-    {
-        if id >= IDS {
-            return None;
-        }
-        self.buckets.owner().get_mut(Thread::new(id))
     }
 
     /// The buckets by value. The ids are dropped. A contract knows the number of reserved slots, and
@@ -207,7 +199,11 @@ impl<T> ThreadLocal<T> {
 
     /// The values by ascending id, each moved out with its id: the walk `into_entries` of the
     /// buckets that `into_buckets` gives.
-    pub fn into_entries(self) -> IntoEntries<T> {
+    pub fn into_entries(self) -> IntoEntries<T>
+        ensures ascending { IsStrictlyIncreasing (map (λ entry. entry.0) result) }
+    {
+        // That the ids of a walk ascend.
+        walk_lists_the_map::<T>();
         self.into_buckets().into_entries()
     }
 

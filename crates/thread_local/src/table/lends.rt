@@ -1,15 +1,19 @@
 //! How a table lends its buckets to an owner. A file of its own, since the clause imports the
 //! `the_row` that is generated from the file that declares the type.
-ghost use Rattle.std.specs.Prelude.{◌≡◌};
+ghost use Rattle.std.specs.Prelude.{◌≡◌, ◌≤◌, ◌-◌, ◌^◌, IsNone};
 ghost use types.Logic.{sem};
-ghost use Rattle.std.specs.Borrow.{follows};
+ghost use Rattle.std.specs.Borrow.{follows, follows_so};
+ghost use Rattle.std.specs.Option.{ghost_name_of};
 ghost use Rattle.thread_local_buckets.specs.Drain.{drain_lender, drain_leaves, DrainCanStep, DrainIsFresh, DrainKeepsAlong};
 ghost use Rattle.thread_local_buckets.specs.contracts.buckets.Buckets.{the_row as owner_row};
 ghost use Rattle.thread_local_shared_buckets.specs.Lent.{view_with};
+ghost use Rattle.thread_local.specs.Owners.{KeepsReserved};
 ghost use Rattle.thread_local.specs.contracts.table.ThreadLocal.{the_row};
 
 use super::ThreadLocal;
 use thread_local_buckets::{Buckets, Drain};
+use thread_local_thread_id::Thread;
+use thread_local_thread_id::manager::IDS;
 
 impl<T> ThreadLocal<T> {
     /// The buckets, for the exclusive owner. A contract knows the number of reserved slots, and not
@@ -37,5 +41,21 @@ impl<T> ThreadLocal<T> {
         ensures stays { DrainKeepsAlong result }
     {
         self.buckets.owner().drain()
+    }
+
+    /// Lends the value at an id for writing, or answers `None` where there is none: it is `get_mut`
+    /// of the buckets that `buckets_mut` lends, whose contract says what it finds and what a write
+    /// changes. No `Local` has an id of 2^63 - 1 or more.
+    pub fn get_mut(&mut self, id: usize) -> Option<&mut T>
+        // Whatever is written through the answer, the table keeps its name and its reserved slots.
+        ensures* writes_back { sem 𝓛
+            (follows_so (the_row T.row) T.row self.entry.ghost_name (ghost_name_of result)
+            (λ _. KeepsReserved self.old) (KeepsReserved self.old)) }
+        ensures out_of_range { 2 ^ 63 - 1 ≤ id → IsNone result }
+    {
+        if id >= IDS {
+            return None;
+        }
+        self.buckets.owner().get_mut(Thread::new(id))
     }
 }
