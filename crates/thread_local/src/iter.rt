@@ -1,9 +1,9 @@
 //! Walks over the values of a table, by ascending id: `Iter` over a table that threads share,
 //! `IterMut` and `IntoIter` for its exclusive owner; `Entries`, `EntriesMut` and `IntoEntries` with
-//! ids; and `Drain`, which leaves the buckets.
+//! ids; `Tokens` with tokens; and `Drain`, which leaves the buckets.
 //!
 //! A crate that loops over `&mut buckets` lists `thread_local_buckets` too, since an impl for a
 //! reference is found only in a crate that is listed. `iter_mut` of the buckets needs no more.
 
 pub use thread_local_buckets::{Drain, EntriesMut, IntoEntries, IntoIter, IterMut};
-pub use thread_local_shared_buckets::{Entries, Iter};
+pub use thread_local_shared_buckets::{Entries, Iter, Tokens};

@@ -44,6 +44,6 @@ pub mod table;
 pub mod thread_id;
 
 pub use cached::{CachedIntoIter, CachedIterMut, CachedThreadLocal};
-pub use iter::{Drain, Entries, EntriesMut, IntoEntries, IntoIter, Iter, IterMut};
+pub use iter::{Drain, Entries, EntriesMut, IntoEntries, IntoIter, Iter, IterMut, Tokens};
 pub use padded::Padded;
 pub use table::ThreadLocal;

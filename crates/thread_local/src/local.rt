@@ -8,7 +8,7 @@ pub use crate::seat::{Seat, SetError, TryError};
 use std::fmt;
 use std::marker::Model;
 use std::sync::Wait;
-use thread_local_shared_buckets::Iter;
+use thread_local_shared_buckets::{Iter, Tokens};
 use thread_local_tokens::Token;
 
 // `get_or` and `get_or_default` stand here.
@@ -201,8 +201,19 @@ impl<'a, T: Sync, R: Wait> Local<'a, T, R> {
         ensures begins { result.cursor ≡ fresh_cursor }
         ensures own { result.own ≡ own_of self.now }
         ensures shown { result.shown ≡ true }
+        ensures sharing { result.sharing ≡ self.now.sharing }
     {
         self.seat.iter()
+    }
+
+    /// `iter`, with a token of each value, as `ThreadLocal::tokens` gives them.
+    pub fn tokens(&self) -> Tokens<'_, T>
+        ensures begins { result.cursor ≡ fresh_cursor }
+        ensures own { result.own ≡ own_of self.now }
+        ensures shown { result.shown ≡ true }
+        ensures sharing { result.sharing ≡ self.now.sharing }
+    {
+        self.iter().with_tokens()
     }
 }
 

@@ -343,10 +343,11 @@ impl<'a, T: Sync> Seat<'a, T> {
         ensures begins { result.cursor ≡ fresh_cursor }
         ensures own { result.own ≡ own_of self.now }
         ensures shown { result.shown ≡ true }
+        ensures sharing { result.sharing ≡ self.now.sharing }
     {
         let table = self.table;
         match self.claim.lasting() {
-            Some(value) => Iter::with_own(&table.buckets, self.claim.id(), value),
+            Some((token, value)) => Iter::with_own(&table.buckets, &token, value),
             None => Iter::new(&table.buckets),
         }
     }

@@ -20,7 +20,7 @@ use thread_local_buckets::{Buckets, EntriesMut, IntoEntries, IntoIter, IterMut};
 use thread_local_ids::{Ids, Lock};
 pub use thread_local_judged::{Judge, judge_sync, judge_value};
 use thread_local_model::walk::walk_lists_the_map;
-use thread_local_shared_buckets::{Entries, Iter, Shared};
+use thread_local_shared_buckets::{Entries, Iter, Shared, Tokens};
 use thread_local_thread_id::LocalError;
 use thread_local_tokens::Right;
 pub use thread_local_tokens::{Book, Token};
@@ -280,16 +280,25 @@ impl<T: Sync> ThreadLocal<T> {
     /// published behind the walk isn't given, and one published ahead of it may be. Rust's crate
     /// promises no order.
     pub fn iter(&self) -> Iter<'_, T>
-        ensures { result ≡ fresh None true }
+        ensures { result ≡ fresh self.now.sharing None true }
     {
         Iter::new(&self.buckets)
     }
 
     /// `iter`, with the id of each value: which worker's each is.
     pub fn entries(&self) -> Entries<'_, T>
-        ensures { result ≡ fresh None true }
+        ensures { result ≡ fresh self.now.sharing None true }
     {
         self.iter().with_ids()
+    }
+
+    /// `iter`, with a token of each value. The token says with which value the slot was published,
+    /// and the value lent beside it is this one. So two such walks of one sharing give one value at
+    /// one id, and it is the value of every other token of that id (`Token::agrees`).
+    pub fn tokens(&self) -> Tokens<'_, T>
+        ensures { result ≡ fresh self.now.sharing None true }
+    {
+        self.iter().with_tokens()
     }
 
     /// `iter`, which gives what a token says: a walk that runs to its end gives this value, at its
@@ -299,10 +308,11 @@ impl<T: Sync> ThreadLocal<T> {
         requires named { IsSome self.now.sharing }
         ensures { result ≡
             fresh
+            self.now.sharing
             (Some (record { id = token.now.id; value = token.now.value }))
             true }
     {
-        Iter::with_own(&self.buckets, token.id(), self.value(token))
+        Iter::with_own(&self.buckets, token, self.value(token))
     }
 
     /// The value that a token's slot was published with. It can't fail, and is one atomic load, of
@@ -356,7 +366,7 @@ impl<'a, T: Sync> IntoIterator for &'a ThreadLocal<T> {
 
     type IntoIter = Iter<'a, T>;
 
-    ghost into_iter_gives = { λ table walk. walk ≡ fresh None false };
+    ghost into_iter_gives = { λ table walk. walk ≡ fresh table.now.sharing None false };
 
     /// The values by ascending id, each lent as `&`, as `iter`. The walk's `next` asks that threads
     /// may share the values, which is shown where the walk is used: the check shows it at most

@@ -221,14 +221,19 @@ impl<'a, T> Claim<'a, T> {
 }
 
 impl<'a, T: Sync> Claim<'a, T> {
-    /// The value, or `None`, as `get` answers it. But this one may be used after the claim is gone, for
-    /// as long as the bucket is borrowed: a published value stays in its slot until then.
-    pub fn lasting(&self) -> Option<&'a T>
+    /// The value with a token of it, or `None`, as `get` and `token` answer them. But this value may be
+    /// used after the claim is gone, for as long as the bucket is borrowed: a published value stays
+    /// in its slot until then.
+    pub fn lasting(&self) -> Option<(Token<T>, &'a T)>
         ensures { MatchOption result ((self.now.learnt ≡ Missing) ⊎ (self.now.learnt ≡ Vacant)) (λ x.
-            self.now.learnt ≡ Holding x.now) }
+            (x.0.sharing ≡ self.now.sharing)
+            × (x.0.id ≡ self.now.id)
+            × (x.0.value ≡ x.1.now)
+            × (self.now.learnt ≡ Holding x.1.now)) }
     {
         if self.slot.is_published() {
-            Some(self.slot.lasting())
+            let token = Token::new(self.held.id, self.slot.witness());
+            Some((token, self.slot.lasting()))
         } else {
             None
         }

@@ -84,5 +84,6 @@ pub fn look(shared: &Shared<u32>, id: usize) -> Option<u32>
     let thread = Thread::new(id);
     let row = shared.load(thread.bucket)?;
     let flag_word = flag_word_at::<u32>(thread.bucket_size(), thread.index / 64);
-    row.get(thread.index, flag_word).copied()
+    let (_, value) = row.get(thread.index, flag_word)?;
+    Some(*value)
 }

@@ -14,6 +14,7 @@ use thread_local::ThreadLocal;
 use thread_local::local::{Local, SetError};
 use thread_local_buckets::Buckets;
 use thread_local_judged::{Judge, judge_sync};
+use thread_local_shared_buckets::Tokens;
 use thread_local_thread_id::Thread;
 use thread_local_tokens::Token;
 
@@ -116,6 +117,99 @@ fn read_and_walked<R: Threads>(
     let read = thread::join(rt, || *table.value(yours), || *table.value(mine));
     let walked = (walks_with(table, mine, 2), walks_with(table, yours, 2));
     (read, walked)
+}
+
+/// Where two walks of one sharing come to one id, they give one value.
+fn give_the_same(one: &mut Tokens<'_, u32>, other: &mut Tokens<'_, u32>) -> bool
+    requires { (one.old.sharing ≡ other.old.sharing) × IsSome one.old.sharing }
+    ensures { result ≡ true }
+{
+    let (Some((token, value)), Some((other_token, other_value))) = (one.next(), other.next()) else {
+        return true;
+    };
+    if token.id() != other_token.id() {
+        return true;
+    }
+    token.agrees(&other_token);
+    *value == *other_value
+}
+
+/// Where a walk comes to the id of a token, it gives the token's value.
+fn gives_what_is_told(walk: &mut Tokens<'_, u32>, told: &Token<u32>, value: u32) -> bool
+    requires sharing { (walk.old.sharing ≡ told.now.sharing) × IsSome told.now.sharing }
+    requires value { told.now.value ≡ value }
+    ensures { result ≡ true }
+{
+    let Some((token, item)) = walk.next() else {
+        return true;
+    };
+    if token.id() != told.id() {
+        return true;
+    }
+    told.agrees(&token);
+    *item == value
+}
+
+/// So is the value of a `Local` what a walk gives at its id, whoever walks.
+fn is_given_as_it_is_held<R: Wait>(
+    table: &ThreadLocal<u32>,
+    local: &mut Local<'_, u32, R>,
+    value: u32,
+) -> bool
+    requires sharing { (local.old.sharing ≡ table.now.sharing) × IsSome table.now.sharing }
+    requires value { local.old.value ≡ Some value }
+    ensures { result ≡ true }
+{
+    match local.token() {
+        Some(token) => gives_what_is_told(&mut table.tokens(), &token, value),
+        None => false,
+    }
+}
+
+/// The id and the value that a walk gives with a token.
+fn entry(item: (Token<u32>, &u32)) -> (usize, u32) {
+    let (token, value) = item;
+    (token.id(), *value)
+}
+
+/// What a walk gives first and second, and whether it gives no more and tells no bound.
+fn first_two(walk: Tokens<'_, u32>) -> (Option<(usize, u32)>, Option<(usize, u32)>, bool) {
+    let mut walk = walk;
+    let first = walk.next().map(entry);
+    let second = walk.next().map(entry);
+    let over = walk.size_hint() == (0, None) && walk.next().is_none() && walk.next().is_none();
+    (first, second, over)
+}
+
+/// How many values a walk with tokens gives.
+fn counted<T: Sync>(table: &ThreadLocal<T>) -> usize {
+    table.tokens().count()
+}
+
+/// What the walks with tokens of a table and of a `Local` give, where two `Local`s published 6 and 7.
+fn published_and_walked<R: Wait>(
+    table: &ThreadLocal<u32>,
+    rt: &R,
+) -> Option<[(Option<(usize, u32)>, Option<(usize, u32)>, bool); 3]> {
+    let mut first = table.local(rt).ok()?;
+    let mut second = table.local(rt).ok()?;
+    first.set(6).ok()?;
+    second.set(7).ok()?;
+    let of_the_second = first_two(second.tokens());
+    Some([
+        first_two(table.tokens()),
+        first_two(first.tokens()),
+        of_the_second,
+    ])
+}
+
+#[test]
+fn walks_give_each_value_with_a_token(rt: HostRuntime) {
+    let table = ThreadLocal::<u32>::new(rt.alloc());
+    let both = (Some((0, 6)), Some((1, 7)), true);
+    assert_eq!(rt; published_and_walked(&table, &rt), Some([both; 3]));
+    assert_eq!(rt; counted(&table), 2);
+    assert!(rt; give_the_same(&mut table.tokens(), &mut table.tokens()));
 }
 
 #[test]

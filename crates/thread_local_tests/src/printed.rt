@@ -6,7 +6,7 @@ use std::sync::Wait;
 use std::test::Fail;
 use thread_local::ThreadLocal;
 use thread_local_buckets::{IntoIter, IterMut};
-use thread_local_shared_buckets::{Entries, Iter};
+use thread_local_shared_buckets::{Entries, Iter, Tokens};
 
 /// Whether a walk is shown so.
 fn is_shown(walk: &Iter<'_, u32>, alloc: Global, shown: &str) -> bool {
@@ -51,6 +51,14 @@ fn is_shown_with_ids(walk: &Entries<'_, u32>, alloc: Global, shown: &str) -> boo
     }
 }
 
+/// Whether a walk with tokens is shown so.
+fn is_shown_with_tokens(walk: &Tokens<'_, u32>, alloc: Global, shown: &str) -> bool {
+    match format!(in alloc; "{walk:?}") {
+        Ok(text) => text.as_str() == shown,
+        Err(_) => false,
+    }
+}
+
 #[test]
 fn a_shared_walk_prints_its_cursor(rt: HostRuntime) -> Result<(), Fail> {
     let table = ThreadLocal::<u32>::new(rt.alloc());
@@ -58,6 +66,9 @@ fn a_shared_walk_prints_its_cursor(rt: HostRuntime) -> Result<(), Fail> {
     let fresh =
         "Entries { walk: Iter { raw: RawIter { yielded: 0, bucket: 0, bucket_size: 1, index: 0 } } }";
     assert!(rt; is_shown_with_ids(&table.entries(), rt.alloc(), fresh));
+    let fresh =
+        "Tokens { walk: Iter { raw: RawIter { yielded: 0, bucket: 0, bucket_size: 1, index: 0 } } }";
+    assert!(rt; is_shown_with_tokens(&table.tokens(), rt.alloc(), fresh));
     Ok(())
 }
 

@@ -6,7 +6,7 @@ use thread_local::ThreadLocal;
 use thread_local::local::Local;
 use thread_local_buckets::{IntoIter, IterMut};
 use thread_local_judged::judge_sync;
-use thread_local_shared_buckets::{Entries, Iter};
+use thread_local_shared_buckets::{Entries, Iter, Tokens};
 
 fn is_sent<X: Send>(_: &X) {}
 
@@ -126,6 +126,10 @@ fn shared_walk<T: Send + Sync>(walk: &Iter<'_, T>) {
 }
 
 fn shared_entries<T: Send + Sync>(walk: &Entries<'_, T>) {
+    is_sent(walk);
+}
+
+fn shared_tokens<T: Send + Sync>(walk: &Tokens<'_, T>) {
     is_sent(walk);
 }
 

@@ -10,7 +10,7 @@ use thread_local_blocks::Block;
 use thread_local_claim::Claim;
 use thread_local_shared_bucket::SharedBucket;
 use thread_local_thread_id::Thread;
-use thread_local_tokens::{HeldId, Right};
+use thread_local_tokens::{HeldId, Right, Token};
 
 /// Publishes the value unless the slot holds one.
 fn offered<T: Send + Drop>(claim: &mut Claim<'_, T>, value: T)
@@ -77,19 +77,20 @@ fn visit<T: Send>(
     claim.give_up()
 }
 
-/// What the look lent outlives the claim.
-fn seen<'a, T: Send + Sync>(claim: Claim<'a, T>) -> ((HeldId, Right), Option<&'a T>)
+/// What the look lent outlives the claim, and so does a token of it.
+fn seen<'a, T: Send + Sync>(claim: Claim<'a, T>) -> ((HeldId, Right), Option<(Token<T>, &'a T)>)
     requires { claim.learnt ≢ Missing }
     ensures id { (result.0.0.id ≡ claim.entry.id) × (result.0.1.id ≡ claim.entry.id) }
-    ensures value { MatchOption result.1 (claim.entry.learnt ≡ Vacant) (λ x. claim.entry.learnt ≡ Holding x.now) }
+    ensures value { MatchOption result.1 (claim.entry.learnt ≡ Vacant) (λ x.
+        (x.0.value ≡ x.1.now) × (claim.entry.learnt ≡ Holding x.1.now)) }
 {
     let value = claim.lasting();
     (claim.give_up(), value)
 }
 
-fn number_seen<'a>(claim: Claim<'a, u32>) -> ((HeldId, Right), Option<&'a u32>)
+fn number_seen<'a>(claim: Claim<'a, u32>) -> ((HeldId, Right), Option<(Token<u32>, &'a u32)>)
     requires { claim.learnt ≢ Missing }
-    ensures { MatchOption result.1 (claim.entry.learnt ≡ Vacant) (λ x. claim.entry.learnt ≡ Holding x.now) }
+    ensures { MatchOption result.1 (claim.entry.learnt ≡ Vacant) (λ x. claim.entry.learnt ≡ Holding x.1.now) }
 {
     seen(claim)
 }
