@@ -42,7 +42,7 @@ mod lends;
 /// of another table.
 ///
 /// A bucket of 2^58 bytes or more, and values aligned above 16, are refused as if out of memory, here
-/// and by every `Local`.
+/// and by every `Local`. No type was found that is aligned so: the language refuses `repr(align)`.
 ///
 /// Of its calls Rust's crate has `new`, `with_capacity`, `clear`, `iter`, `iter_mut` and the loops over
 /// a table; there the table also has the calls of a `Local`. All others are the port's own.

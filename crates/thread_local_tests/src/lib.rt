@@ -10,6 +10,8 @@ mod counting;
 mod errors;
 pub mod examples;
 #[cfg(test)]
+mod nested;
+#[cfg(test)]
 mod numbers;
 #[cfg(test)]
 mod padded;
