@@ -2,7 +2,8 @@
 
 use crate::locals::{found, found_by_another, numbers, published, published_by_another};
 use std::alloc::Global;
-use std::cell::Cell;
+use std::cell::{Cell, RefCell};
+use std::default::MadeWith;
 use std::fmt::Debug;
 use std::mem::swap;
 use std::sync::Wait;
@@ -183,6 +184,27 @@ fn lists_and_texts_have_defaults(rt: HostRuntime) {
         ),
         (Some(true), Some(true))
     );
+}
+
+/// Whether a new `Local` publishes an empty list in a cell, and how many numbers the list has once
+/// one is put into it.
+fn list_in_a_cell<R: Wait>(
+    table: &ThreadLocal<RefCell<Vec<u64>>>,
+    rt: &R,
+    alloc: Global,
+) -> Option<(bool, usize)> {
+    let mut local = table.local(rt).ok()?;
+    let list = local.get_or(|| RefCell::new(Vec::new(alloc))).ok()?;
+    let was_empty = list.try_borrow().ok()?.is_empty();
+    list.try_borrow_mut().ok()?.push(7).ok()?;
+    Some((was_empty, list.try_borrow().ok()?.len()))
+}
+
+// Such a cell has no default, so a closure makes it.
+#[test]
+fn a_table_is_made_of_lists_in_cells(rt: HostRuntime) {
+    let table = ThreadLocal::<RefCell<Vec<u64>>>::made_with(rt.alloc());
+    assert_eq!(rt; list_in_a_cell(&table, &rt, rt.alloc()), Some((true, 1)));
 }
 
 /// What two `Local`s that are held at once publish by default in cells, once the first has written 3
