@@ -1,21 +1,28 @@
 //! A pool of values that threads use one after another, as buffers of bytes.
-ghost use Rattle.std.specs.Prelude.{◌≡◌, true, Some, None, is_none, [], IfOk};
+ghost use Rattle.std.specs.Prelude.{◌≡◌, true, Some, None, is_none, [], Ok, Err, IfOk, IsOkAnd, MatchResult};
 
 use crate::local::Local;
 use crate::table::ThreadLocal;
 use std::alloc::Global;
 use std::cell::Cell;
+use std::fmt;
 use std::marker::Model;
 use std::sync::Wait;
 use thread_local_judged::Judge;
 use thread_local_thread_id::LocalError;
 
 mod lends;
+mod walks;
+
+pub use walks::{PoolDrain, PoolIntoIter, PoolIterMut};
 
 /// Values that are expensive to make, which threads borrow and give back. Threads share a pool
-/// through a `&`. Only `get`, `buffer` and the drop of what they answer may wait for the lock of the
-/// pool's table, and only `get` and `buffer` take memory. Dropping the pool drops its values, whose
-/// drop may wait. A `Pool` without a type is one of bytes. Rust's crate has no such type.
+/// through a `&`. Only `get`, `get_or_try`, `buffer`, `Pooled::take` and the drop of what they lend
+/// may wait for the lock of the pool's table, and only the first three take memory. Dropping the pool
+/// drops its values, whose drop may wait. A `Pool` without a type is one of bytes. Rust's crate has
+/// no such type.
+///
+/// Whoever has the pool alone is its owner, and walks over the values that were put back.
 #[derive(Drop)]
 pub struct Pool<T = Vec<u8>> {
     table: ThreadLocal<Cell<Option<T>>>,
@@ -53,6 +60,35 @@ impl<T> Pool<T> {
         let found = local.get_or(|| Cell::new(None))?.replace(None);
         Ok(Pooled::of(local, found, create))
     }
+
+    /// `get`, where the closure may fail. Its error is the inner one: the id goes back with an empty
+    /// cell, and its next holder makes a value. It waits, takes memory and refuses as `get` does.
+    pub fn get_or_try<'a, F: FnOnce() -> Result<T, E> + Drop, E, R: Wait>(
+        &'a self,
+        rt: &'a R,
+        create: F,
+    ) -> Result<Result<Pooled<'a, T, R>, E>, LocalError>
+        requires { F.pre create }
+        ensures created { IfOk result (λ told.
+            MatchResult told
+            (λ pooled. pooled.is_new ≡ true → F.post create (Ok pooled.value))
+            (λ error. F.post create (Err error))) }
+    {
+        let mut local = self.table.local(rt)?;
+        let found = local.get_or(|| Cell::new(None))?.replace(None);
+        Ok(Pooled::tried(local, found, create))
+    }
+}
+
+impl<T> fmt::Debug for Pool<T> {
+    ghost use Rattle.std.specs.Prelude.{codes};
+
+    ghost debug_output = { λ _. Some (codes "Pool { .. }") };
+
+    /// Shows no value, since threads may hold them.
+    fn fmt<W: fmt::Write>(&self, f: &mut fmt::Formatter<W>) -> fmt::Result {
+        f.write_str("Pool { .. }")
+    }
 }
 
 impl Pool<Vec<u8>> {
@@ -69,8 +105,9 @@ impl Pool<Vec<u8>> {
 }
 
 /// A value of a pool, reached by `*`. Dropping it puts the value back as it is then, and gives its
-/// id back, which may wait. A forgotten one keeps its id and its value. No other call waits or takes
-/// memory. The value is moved out of the pool and back: put a large one into a `Box`.
+/// id back, which may wait. A forgotten one keeps its id and its value. Beside the drop only `take`
+/// waits, and no call takes memory. The value is moved out of the pool and back: put a large one into
+/// a `Box`.
 ///
 /// Contracts see the value, and whether it is new.
 pub struct Pooled<'a, T, R: Wait> {
@@ -90,6 +127,17 @@ impl<'a, T, R: Wait> Model for Pooled<'a, T, R> {
 }
 
 impl<'a, T, R: Wait> Pooled<'a, T, R> {
+    /// A value that came from the cell of a `Local`, or was made for it.
+    fn new(local: Local<'a, Cell<Option<T>>, R>, value: T, is_new: bool) -> Pooled<'a, T, R>
+        ensures { result ≡ record { value = value; is_new = is_new } }
+    {
+        Pooled {
+            local,
+            value,
+            is_new,
+        }
+    }
+
     /// The value that was found in the cell of a `Local`, or a new one that the closure makes.
     fn of<F: FnOnce() -> T + Drop>(
         local: Local<'a, Cell<Option<T>>, R>,
@@ -102,24 +150,46 @@ impl<'a, T, R: Wait> Pooled<'a, T, R> {
         ensures created { found ≡ None → F.post create result.value }
     {
         match found {
-            Some(value) => Pooled {
-                local,
-                value,
-                is_new: false,
-            },
-            None => Pooled {
-                local,
-                value: create(),
-                is_new: true,
+            Some(value) => Pooled::new(local, value, false),
+            None => Pooled::new(local, create(), true),
+        }
+    }
+
+    /// `of`, where the closure may fail.
+    fn tried<F: FnOnce() -> Result<T, E> + Drop, E>(
+        local: Local<'a, Cell<Option<T>>, R>,
+        found: Option<T>,
+        create: F,
+    ) -> Result<Pooled<'a, T, R>, E>
+        requires { found ≡ None → F.pre create }
+        ensures is_new { IfOk result (λ pooled. pooled.is_new ≡ is_none found) }
+        ensures kept { (value : T) → found ≡ Some value → IsOkAnd result (λ pooled. pooled.value ≡ value) }
+        ensures created { MatchResult result
+            (λ pooled. pooled.is_new ≡ true → F.post create (Ok pooled.value))
+            (λ error. F.post create (Err error)) }
+    {
+        match found {
+            Some(value) => Ok(Pooled::new(local, value, false)),
+            None => match create() {
+                Ok(value) => Ok(Pooled::new(local, value, true)),
+                Err(error) => Err(error),
             },
         }
     }
 
-    /// Whether `get` called its closure, and no earlier holder had the value.
+    /// Whether `get` or `get_or_try` called its closure, and no earlier holder had the value.
     pub fn is_new(&self) -> bool
         ensures { result ≡ self.now.is_new }
     {
         self.is_new
+    }
+
+    /// The value, moved out. The id goes back with an empty cell, so its next holder makes another
+    /// value. May wait, as the drop does, and takes no memory.
+    pub fn take(self) -> T
+        ensures { result ≡ self.entry.value }
+    {
+        self.into_parts().1
     }
 
     /// The `Local` whose cell the value came from, and the value.

@@ -176,3 +176,135 @@ fn a_value_that_was_refused_is_had_the_second_time(rt: HostRuntime) -> Result<()
     assert_eq!(rt; two_at_once(&pool, &rt), Some((0, 1, 2)));
     Ok(())
 }
+
+/// Values 1, 2 and 3 of a pool, of which the second is forgotten.
+fn put_three<R: Wait>(pool: &Pool<u64>, rt: &R) -> Option<()> {
+    let first = pool.get(rt, || 1).ok()?;
+    let second = pool.get(rt, || 2).ok()?;
+    let third = pool.get(rt, || 3).ok()?;
+    forget(second);
+    drop(third);
+    drop(first);
+    Some(())
+}
+
+/// Adds ten to each value that a pool has. Answers how many slots it has.
+fn add_ten(pool: &mut Pool<u64>) -> usize {
+    for value in pool.iter_mut() {
+        *value = value.wrapping_add(10);
+    }
+    pool.slots()
+}
+
+/// The values of a pool that are moved out, as digits to the base of 100.
+fn moved_out(pool: Pool<u64>) -> u64 {
+    let mut digits = 0u64;
+    for value in pool {
+        digits = digits.wrapping_mul(100).wrapping_add(value);
+    }
+    digits
+}
+
+/// The same of a pool that is drained.
+fn drained(pool: &mut Pool<u64>) -> u64 {
+    let mut digits = 0u64;
+    for value in pool.drain() {
+        digits = digits.wrapping_mul(100).wrapping_add(value);
+    }
+    digits
+}
+
+#[test]
+fn an_owner_walks_over_the_values_of_a_pool(rt: HostRuntime) -> Result<(), Fail> {
+    let mut pool = Pool::new(rt.alloc());
+    let put = put_three(&pool, &rt);
+    let slots = add_ten(&mut pool);
+    assert_eq!(rt; (put, slots), (Some(()), 3));
+    assert_eq!(rt; moved_out(pool), 1113);
+    Ok(())
+}
+
+/// Whether a value of the pool is new, and what it is.
+fn another<R: Wait>(pool: &Pool<u64>, rt: &R) -> Option<(bool, u64)> {
+    let pooled = pool.get(rt, || 9).ok()?;
+    Some((pooled.is_new(), *pooled))
+}
+
+#[test]
+fn a_drained_pool_keeps_its_slots_and_a_cleared_one_has_none(rt: HostRuntime) -> Result<(), Fail> {
+    let mut pool = Pool::new(rt.alloc());
+    let put = put_three(&pool, &rt);
+    let drained = drained(&mut pool);
+    assert_eq!(rt; (put, drained, pool.slots()), (Some(()), 103, 3));
+    assert_eq!(rt; another(&pool, &rt), Some((true, 9)));
+    pool.clear();
+    assert_eq!(rt; (pool.slots(), another(&pool, &rt)), (0, Some((true, 9))));
+    Ok(())
+}
+
+/// What is told where a closure fails, where the next makes 5, and where a third would make 6 though
+/// 5 was put back.
+fn try_thrice<R: Wait>(pool: &Pool<u64>, rt: &R) -> Option<[Result<(bool, u64), u8>; 3]> {
+    Some([
+        tried(pool, rt, Err(1))?,
+        tried(pool, rt, Ok(5))?,
+        tried(pool, rt, Ok(6))?,
+    ])
+}
+
+/// Whether a value is new and what it is, or the error of what would make it.
+fn tried<R: Wait>(
+    pool: &Pool<u64>,
+    rt: &R,
+    made: Result<u64, u8>,
+) -> Option<Result<(bool, u64), u8>> {
+    match pool.get_or_try(rt, move || made).ok()? {
+        Ok(pooled) => Some(Ok((pooled.is_new(), *pooled))),
+        Err(error) => Some(Err(error)),
+    }
+}
+
+#[test]
+fn a_closure_that_fails_leaves_the_cell_empty(rt: HostRuntime) -> Result<(), Fail> {
+    let pool = Pool::new(rt.alloc());
+    assert_eq!(rt;
+        try_thrice(&pool, &rt),
+        Some([Err(1), Ok((true, 5)), Ok((false, 5))])
+    );
+    Ok(())
+}
+
+/// A value that is taken out of a pool, and whether the next is new.
+fn take_out<R: Wait>(pool: &Pool<u64>, rt: &R) -> Option<(u64, bool)> {
+    let taken = pool.get(rt, || 5).ok()?.take();
+    Some((taken, another(pool, rt)?.0))
+}
+
+#[test]
+fn a_value_that_is_taken_out_is_made_anew(rt: HostRuntime) -> Result<(), Fail> {
+    let pool = Pool::new(rt.alloc());
+    assert_eq!(rt; take_out(&pool, &rt), Some((5, true)));
+    Ok(())
+}
+
+/// Has two counted values made and put back, and walks over the pool by value as far as the first.
+/// Answers how many were dropped before the walk is.
+fn walk_to_the_first<R: Wait>(
+    pool: Pool<Option<Counted>>,
+    rt: &R,
+    drops: &Arc<AtomicU64, Global>,
+) -> Option<u64> {
+    hold_and_forget(&pool, rt, drops)?;
+    let mut values = pool.into_iter();
+    drop(values.next());
+    Some(drops.load(SeqCst))
+}
+
+// The forgotten one isn't in the pool, so it is never dropped.
+#[test]
+fn a_walk_that_ends_early_drops_the_rest_of_a_pool(rt: HostRuntime) -> Result<(), Fail> {
+    let drops = Arc::new(rt.alloc(), AtomicU64::new(0))?;
+    let walked = walk_to_the_first(Pool::new(rt.alloc()), &rt, &drops);
+    assert_eq!(rt; (walked, drops.load(SeqCst)), (Some(1), 2));
+    Ok(())
+}
