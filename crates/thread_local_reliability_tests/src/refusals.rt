@@ -15,7 +15,7 @@ use thread_local_thread_id::{LocalError, Thread};
 
 /// A call that publishes a value.
 #[derive(Clone, Copy, PartialEq, Eq)]
-pub enum Publishing {
+pub(crate) enum Publishing {
     GetOr,
     GetOrTry,
     GetOrDefault,
@@ -24,7 +24,7 @@ pub enum Publishing {
 
 impl Publishing {
     /// Each of them.
-    pub const ALL: [Publishing; 4] = [
+    pub(crate) const ALL: [Publishing; 4] = [
         Publishing::GetOr,
         Publishing::GetOrTry,
         Publishing::GetOrDefault,
@@ -43,7 +43,7 @@ impl Publishing {
 
     /// Publishes a number, or the default, and counts the calls of the closure. An error is want of
     /// memory.
-    pub fn publish<R: Wait>(
+    pub(crate) fn publish<R: Wait>(
         self,
         local: &mut Local<'_, u32, R>,
         number: u32,
@@ -100,7 +100,7 @@ impl Publishing {
     }
 
     /// What is published in the place of a number, and how often a closure is called for it.
-    pub fn wanted(self, number: u32) -> (u32, u32) {
+    pub(crate) fn wanted(self, number: u32) -> (u32, u32) {
         match self {
             Publishing::GetOr | Publishing::GetOrTry => (number, 1),
             Publishing::GetOrDefault => (0, 0),
