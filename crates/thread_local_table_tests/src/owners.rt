@@ -6,7 +6,7 @@ ghost use Rattle.thread_local_buckets.specs.IterMut.{iter_mut_rest};
 
 use crate::forgotten::publish_and_forget;
 use crate::locals::{lends, numbers, published_by_another};
-use std::alloc::AllocError;
+use std::alloc::{AllocError, Global};
 use std::test::Fail;
 use thread_local::ThreadLocal;
 use thread_local_buckets::{Buckets, IterMut};
@@ -164,8 +164,45 @@ fn a_table_is_drained_of_each_value(rt: HostRuntime) -> Result<(), Fail> {
     Ok(())
 }
 
-/// Writes the value at an id, and answers what stood there.
-fn write_at<T>(table: &mut ThreadLocal<T>, id: usize, value: T) -> Result<T, T> {
+/// Clears the buckets that a table lends, and answers how many slots they have then: the reserved
+/// ones and no more.
+fn slots_once_cleared(table: &mut ThreadLocal<u32>) -> usize
+    ensures { result ≡ table.old.reserved }
+{
+    let buckets = table.buckets_mut();
+    buckets.clear();
+    buckets.slots()
+}
+
+// Makes the bucket of the id 3, which is the fourth.
+fn put_fourth(table: &mut ThreadLocal<u32>) -> bool {
+    table.buckets_mut().insert(Thread::new(3), 40).is_ok()
+}
+
+// How many slots a table of the capacity 2 has with a fourth value, and once its buckets are cleared.
+fn slots_of_two(alloc: Global) -> Option<(bool, usize, usize, usize)> {
+    let mut table = ThreadLocal::with_capacity(alloc, 2).ok()?;
+    let is_made = put_fourth(&mut table);
+    let before = table.slots();
+    Some((
+        is_made,
+        before,
+        slots_once_cleared(&mut table),
+        table.slots(),
+    ))
+}
+
+#[test]
+fn cleared_buckets_have_the_reserved_slots(rt: HostRuntime) -> Result<(), Fail> {
+    assert_eq!(rt; slots_of_two(rt.alloc()), Some((true, 1 + 2 + 4, 3, 3)));
+    Ok(())
+}
+
+/// Writes the value at an id, and answers what stood there. The table keeps its name and its
+/// reserved slots.
+fn write_at<T>(table: &mut ThreadLocal<T>, id: usize, value: T) -> Result<T, T>
+    ensures { (table.new.table ≡ table.old.table) × (table.new.reserved ≡ table.old.reserved) }
+{
     match table.get_mut(id) {
         Some(there) => Ok(std::mem::replace(there, value)),
         None => Err(value),
