@@ -61,7 +61,8 @@ impl<'a, T, R: Wait> Local<'a, T, R> {
     }
 
     /// The seat, for writing. Where two seats are swapped, each id still goes back to its own table
-    /// when its `Local` is dropped.
+    /// when its `Local` is dropped. What a write leaves of the `Local`, no clause says: each call of
+    /// the seat is one of the `Local` too, which says it.
     pub fn seat_mut(&mut self) -> &mut Seat<'a, T>
         ensures { result.now ≡ self.old }
     {
