@@ -76,8 +76,6 @@ impl<T: Drop> FusedIterator for Drain<'_, T> {}
 impl<T: fmt::Debug> fmt::Debug for Drain<'_, T> {
     /// Shows only where the walk is.
     fn fmt<W: fmt::Write>(&self, f: &mut fmt::Formatter<W>) -> fmt::Result {
-        f.debug_struct("Drain")
-            .field("raw", &self.cursor.raw())
-            .finish()
+        self.cursor.write_as(f, "Drain")
     }
 }

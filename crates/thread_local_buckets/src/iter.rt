@@ -77,9 +77,7 @@ impl<T: Drop> FusedIterator for IntoEntries<T> {}
 impl<T: fmt::Debug> fmt::Debug for IntoEntries<T> {
     /// Shows only where the walk is.
     fn fmt<W: fmt::Write>(&self, f: &mut fmt::Formatter<W>) -> fmt::Result {
-        f.debug_struct("IntoEntries")
-            .field("raw", &self.cursor.raw())
-            .finish()
+        self.cursor.write_as(f, "IntoEntries")
     }
 }
 
@@ -140,8 +138,6 @@ impl<T: Drop> FusedIterator for IntoIter<T> {}
 impl<T: fmt::Debug> fmt::Debug for IntoIter<T> {
     /// Shows only where the walk is. The Rust crate shows the table.
     fn fmt<W: fmt::Write>(&self, f: &mut fmt::Formatter<W>) -> fmt::Result {
-        f.debug_struct("IntoIter")
-            .field("raw", &self.entries.cursor.raw())
-            .finish()
+        self.entries.cursor.write_as(f, "IntoIter")
     }
 }

@@ -110,9 +110,7 @@ impl<T> FusedIterator for EntriesMut<'_, T> {}
 impl<T: fmt::Debug> fmt::Debug for EntriesMut<'_, T> {
     /// Shows only where the walk is.
     fn fmt<W: fmt::Write>(&self, f: &mut fmt::Formatter<W>) -> fmt::Result {
-        f.debug_struct("EntriesMut")
-            .field("raw", &self.cursor.raw())
-            .finish()
+        self.cursor.write_as(f, "EntriesMut")
     }
 }
 
@@ -188,8 +186,6 @@ impl<T> FusedIterator for IterMut<'_, T> {}
 impl<T: fmt::Debug> fmt::Debug for IterMut<'_, T> {
     /// Shows only where the walk is.
     fn fmt<W: fmt::Write>(&self, f: &mut fmt::Formatter<W>) -> fmt::Result {
-        f.debug_struct("IterMut")
-            .field("raw", &self.entries.cursor.raw())
-            .finish()
+        self.entries.cursor.write_as(f, "IterMut")
     }
 }

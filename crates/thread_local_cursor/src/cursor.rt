@@ -9,6 +9,7 @@ ghost use Rattle.thread_local_model.specs.Walk.{walk, paired};
 ghost use Rattle.thread_local_model.specs.Owner.{NoneBelow};
 ghost use Rattle.thread_local_cursor.specs.Cursor.{next_bucket, read_to, slot_at, values_left, AreFlagsAt, HasRead, IsAt, IsOwnerWalk, MayRead};
 
+use std::fmt;
 use thread_local_thread_id::BUCKETS;
 
 /// What a walk reads: which buckets stand, and the flags of their slots, 64 to a word. A flag is
@@ -78,6 +79,17 @@ impl RawIter {
         self.bucket_size *= 2;
         self.index = 0;
     }
+}
+
+/// Writes a struct of one field, as a derived `Debug` does: what a walk's `Debug` writes. It stands
+/// here once, since a builder's steps cost a check more than all else of such an impl.
+pub fn write_struct<W: fmt::Write, D: fmt::Debug>(
+    f: &mut fmt::Formatter<W>,
+    name: &str,
+    field: &str,
+    value: &D,
+) -> fmt::Result {
+    f.debug_struct(name).field(field, value).finish()
 }
 
 /// Advances past the bucket's next flags that aren't 0 and returns them, or returns 0 where there are
@@ -201,6 +213,11 @@ impl OwnerCursor {
                 .index
                 .saturating_sub(passed.leading_zeros() as usize),
         }
+    }
+
+    /// Writes where the walk is, under the walk's name: the `Debug` of an owner's walks.
+    pub fn write_as<W: fmt::Write>(&self, f: &mut fmt::Formatter<W>, name: &str) -> fmt::Result {
+        write_struct(f, name, "raw", &self.raw())
     }
 
     /// Reads the next flags that aren't 0, where the values of those read last are all passed. A

@@ -4,4 +4,4 @@
 
 pub mod cursor;
 
-pub use cursor::{FlagSource, OwnerCursor, RawIter};
+pub use cursor::{FlagSource, OwnerCursor, RawIter, write_struct};

@@ -8,6 +8,7 @@ use crate::iter::Iter;
 use std::fmt;
 use std::iter::FusedIterator;
 use std::marker::Model;
+use thread_local_cursor::write_struct;
 
 /// What `Iter` gives, each value with the id of its slot: the ids ascend strictly. Contracts see the
 /// walk.
@@ -67,6 +68,6 @@ impl<T: Sync> FusedIterator for Entries<'_, T> {}
 impl<T: fmt::Debug> fmt::Debug for Entries<'_, T> {
     /// The walk's position alone.
     fn fmt<W: fmt::Write>(&self, f: &mut fmt::Formatter<W>) -> fmt::Result {
-        f.debug_struct("Entries").field("walk", &self.walk).finish()
+        write_struct(f, "Entries", "walk", &self.walk)
     }
 }

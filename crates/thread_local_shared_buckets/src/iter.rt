@@ -13,7 +13,7 @@ use crate::steps::{Own, advance};
 use std::fmt;
 use std::iter::FusedIterator;
 use std::marker::Model;
-use thread_local_cursor::RawIter;
+use thread_local_cursor::{RawIter, write_struct};
 use thread_local_thread_id::Thread;
 use thread_local_tokens::{Token, Witness};
 
@@ -176,6 +176,6 @@ impl<T: Sync> FusedIterator for Iter<'_, T> {}
 impl<T: fmt::Debug> fmt::Debug for Iter<'_, T> {
     /// The walk's position alone. Rust's crate shows the table, too.
     fn fmt<W: fmt::Write>(&self, f: &mut fmt::Formatter<W>) -> fmt::Result {
-        f.debug_struct("Iter").field("raw", &self.raw).finish()
+        write_struct(f, "Iter", "raw", &self.raw)
     }
 }
