@@ -1,8 +1,8 @@
 -- Taking one element's share out of `each`, and putting it back. Assumes `Logic`.
-use Rattle.thread_local_lemmas.proofs.Names.{◌≡◌, ◌≢◌, ℕ, zero, suc, ◌+◌, ◌<◌, ◌≤◌, List, [], ◌∷◌, length, set, get_or}
-use Rattle.thread_local_lemmas.proofs.Names.{refl, sym, arith, Ura, SProp, ent, sep, wand, all, all_e, apply∗, Fml}
-use Rattle.thread_local_lemmas.proofs.Names.{Logic, sem, ‵, raw, ◌⊛◌, ◌$◌, ◌∵◌, !, qed, by, move, split, frame}
-use Rattle.thread_local_lemmas.proofs.Names.{each as for_each, assume, use1, use2, rewrite, done}
+use Rattle.thread_local_model.proofs.Names.{◌≡◌, ◌≢◌, ℕ, zero, suc, ◌+◌, ◌<◌, ◌≤◌, List, [], ◌∷◌, length, set, get_or}
+use Rattle.thread_local_model.proofs.Names.{refl, sym, arith, Ura, SProp, ent, sep, wand, all, all_e, apply∗, Fml}
+use Rattle.thread_local_model.proofs.Names.{Logic, sem, ‵, raw, ◌⊛◌, ◌$◌, ◌∵◌, !, qed, by, move, split, frame}
+use Rattle.thread_local_model.proofs.Names.{each as for_each, assume, use1, use2, rewrite, done}
 use Rattle.thread_local_blocks.specs.Slots.{each}
 
 module _ {M : Type 1} {𝓤 : Ura M} (𝓛 : Logic 𝓤) where

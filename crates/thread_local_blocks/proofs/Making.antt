@@ -1,11 +1,11 @@
 -- Making a block: its room is cut into slots, and the flags of one chunk after another are made.
 -- Assumes `Logic`.
-use Rattle.thread_local_lemmas.proofs.Names.{◌≡◌, ℕ, suc, ◌+◌, List, [], ◌∷◌, ◌++◌, length, length-append, sym, refl}
-use Rattle.thread_local_lemmas.proofs.Names.{ap, ◌∙◌, subst, arith, w64, Option, None, Ura, Ty, ty_int, SProp, ent, sep}
-use Rattle.thread_local_lemmas.proofs.Names.{wand, guard, Fml, ftrue, froom, Logic, sem, ‵, ◌⊛◌, ◌$◌, ◌∵◌, !, qed, move}
-use Rattle.thread_local_lemmas.proofs.Names.{drop, split3, fsplit, fsplit3, fjoin, fpick, fpack, check, frame, assume}
-use Rattle.thread_local_lemmas.proofs.Names.{use1, use2, rewrite, done, RattleType, Ptr, block_ptr, block_of, count_of}
-use Rattle.thread_local_lemmas.proofs.Names.{InBlock, nothing, word}
+use Rattle.thread_local_model.proofs.Names.{◌≡◌, ℕ, suc, ◌+◌, List, [], ◌∷◌, ◌++◌, length, length-append, sym, refl}
+use Rattle.thread_local_model.proofs.Names.{ap, ◌∙◌, subst, arith, w64, Option, None, Ura, Ty, ty_int, SProp, ent, sep}
+use Rattle.thread_local_model.proofs.Names.{wand, guard, Fml, ftrue, froom, Logic, sem, ‵, ◌⊛◌, ◌$◌, ◌∵◌, !, qed, move}
+use Rattle.thread_local_model.proofs.Names.{drop, split3, fsplit, fsplit3, fjoin, fpick, fpack, check, frame, assume}
+use Rattle.thread_local_model.proofs.Names.{use1, use2, rewrite, done, RattleType, Ptr, block_ptr, block_of, count_of}
+use Rattle.thread_local_model.proofs.Names.{InBlock, nothing, word}
 use Rattle.std.specs.Prelude.{replicate}
 use Rattle.std.proofs.lemmas.List.{length-replicate}
 use Rattle.thread_local_blocks.specs.Slots.{empty_slots, chunks, AreFlags, Fits, each, word_offset, flags_at, flag_room}

@@ -1,19 +1,19 @@
 -- Retiring a block: its slots become room one by one, from the first on. Assumes `Logic`.
-use Rattle.thread_local_lemmas.proofs.Names.{◌≡◌, ℕ, suc, ◌+◌, ◌*◌, ◌^◌, ◌<◌, List, [], ◌∷◌, ◌++◌, length}
-use Rattle.thread_local_lemmas.proofs.Names.{length-append, set, sym, refl, ap, ◌∙◌, subst, arith, Option, Some, None}
-use Rattle.thread_local_lemmas.proofs.Names.{Ura, Ty, Val, SProp, ent, emp, sep, wand, ex, all, all_e, guard, apply∗}
-use Rattle.thread_local_lemmas.proofs.Names.{Fml, ftrue, fsep, froom, Logic, sem, ‵, raw, ◌⊛◌, given, learn, ◌$◌, ◌∵◌}
-use Rattle.thread_local_lemmas.proofs.Names.{ !, qed, by, move, drop, split, fsplit, fsplit3, fjoin, fjoin3, fpick}
-use Rattle.thread_local_lemmas.proofs.Names.{fpack, show, check, frame, assume, use1, use2, rewrite, done, RattleType}
-use Rattle.thread_local_lemmas.proofs.Names.{Is, Ptr, block_ptr, block_of, count_of, InBlock, ptr_val, nothing, vstruct}
-use Rattle.thread_local_lemmas.proofs.Names.{vnil, of_list}
+use Rattle.thread_local_model.proofs.Names.{◌≡◌, ℕ, suc, ◌+◌, ◌*◌, ◌^◌, ◌<◌, List, [], ◌∷◌, ◌++◌, length}
+use Rattle.thread_local_model.proofs.Names.{length-append, set, sym, refl, ap, ◌∙◌, subst, arith, Option, Some, None}
+use Rattle.thread_local_model.proofs.Names.{Ura, Ty, Val, SProp, ent, emp, sep, wand, ex, all, all_e, guard, apply∗}
+use Rattle.thread_local_model.proofs.Names.{Fml, ftrue, fsep, froom, Logic, sem, ‵, raw, ◌⊛◌, given, learn, ◌$◌, ◌∵◌}
+use Rattle.thread_local_model.proofs.Names.{ !, qed, by, move, drop, split, fsplit, fsplit3, fjoin, fjoin3, fpick}
+use Rattle.thread_local_model.proofs.Names.{fpack, show, check, frame, assume, use1, use2, rewrite, done, RattleType}
+use Rattle.thread_local_model.proofs.Names.{Is, Ptr, block_ptr, block_of, count_of, InBlock, ptr_val, nothing, vstruct}
+use Rattle.thread_local_model.proofs.Names.{vnil, of_list}
 use Rattle.std.specs.Prelude.{◌/◌, ◌%◌, is_some, slice_index, replicate, take, drop as but_first, if◌then◌else◌}
 use Rattle.std.proofs.lemmas.List.{take-append-drop, get_or-drop, length-replicate, replicate_more, set-get_or}
 use denote.Shadow.{makes_shadow}
 use denote.Struct.Struct.{Struct}
 use denote.Struct.Owning.{shape}
 use Rattle.std.specs.declared.alloc.Allocator.{Ghosts}
-use Rattle.thread_local_lemmas.specs.Bits.{is_set}
+use Rattle.thread_local_model.specs.Bits.{is_set}
 use Rattle.thread_local_blocks.specs.Slots.{empty_slots, slot_value, chunks, Fits, AreWords, AreFlagsFrom, each, stride}
 use Rattle.thread_local_blocks.specs.Slots.{flags_at, flag_room, slot, back, block_ty, block_owns}
 use Rattle.thread_local_blocks.proofs.Each.{Put, each_at}

@@ -1,11 +1,11 @@
 -- The room of a block, cut into room for each word and for each value, with the way back. Assumes
 -- `Logic`.
-use Rattle.thread_local_lemmas.proofs.Names.{◌≡◌, ℕ, zero, suc, ◌+◌, ◌*◌, List, [], ◌∷◌, ◌++◌, length, refl, sym, ap}
-use Rattle.thread_local_lemmas.proofs.Names.{◌∙◌, subst, arith, w64, suc-mul, zero-mul, Option, None, Ura, Ty, ty_int}
-use Rattle.thread_local_lemmas.proofs.Names.{ty_array, tcons, tnil, bare, vint, SProp, ent, sep, wand, id⊢, apply∗, Fml}
-use Rattle.thread_local_lemmas.proofs.Names.{ftrue, fsep, froom, Logic, sem, ‵, raw, ◌⊛◌, ◌$◌, ◌∵◌, !, qed, by, move}
-use Rattle.thread_local_lemmas.proofs.Names.{drop, split, fsplit, fsplit3, fjoin, fjoin3, frame, assume, use1, rewrite}
-use Rattle.thread_local_lemmas.proofs.Names.{done, RattleType, lone, nothing}
+use Rattle.thread_local_model.proofs.Names.{◌≡◌, ℕ, zero, suc, ◌+◌, ◌*◌, List, [], ◌∷◌, ◌++◌, length, refl, sym, ap}
+use Rattle.thread_local_model.proofs.Names.{◌∙◌, subst, arith, w64, suc-mul, zero-mul, Option, None, Ura, Ty, ty_int}
+use Rattle.thread_local_model.proofs.Names.{ty_array, tcons, tnil, bare, vint, SProp, ent, sep, wand, id⊢, apply∗, Fml}
+use Rattle.thread_local_model.proofs.Names.{ftrue, fsep, froom, Logic, sem, ‵, raw, ◌⊛◌, ◌$◌, ◌∵◌, !, qed, by, move}
+use Rattle.thread_local_model.proofs.Names.{drop, split, fsplit, fsplit3, fjoin, fjoin3, frame, assume, use1, rewrite}
+use Rattle.thread_local_model.proofs.Names.{done, RattleType, lone, nothing}
 use Rattle.std.specs.Prelude.{replicate}
 use prog.Memory.{size, up, align}
 use prog.RawLaws.{size-raw, align-raw}

@@ -1,17 +1,17 @@
 -- Taking a slot and its chunk's word out of a block, and putting them back. Assumes `Logic`.
-use Rattle.thread_local_lemmas.proofs.Names.{◌≡◌, ◌≢◌, ℕ, ◌+◌, ◌*◌, ◌^◌, ◌<◌, List, [], ◌∷◌, length, length-set, set}
-use Rattle.thread_local_lemmas.proofs.Names.{get_or, refl, sym, ap, ◌∙◌, subst, arith, lit<, T, false, Option, Some}
-use Rattle.thread_local_lemmas.proofs.Names.{None, is_some, Ura, Ty, ty_ptr, has_ty, WT, SProp, ent, sep, wand, ex, all}
-use Rattle.thread_local_lemmas.proofs.Names.{all_e, guard, apply∗, Fml, ftrue, Logic, sem, ‵, raw, ◌⊛◌, ◌$◌, ◌∵◌, ! }
-use Rattle.thread_local_lemmas.proofs.Names.{qed, by, move, drop, split, fsplit, fsplit3, fjoin3, fpick, fpack, check}
-use Rattle.thread_local_lemmas.proofs.Names.{show, frame, each as for_each, assume, use1, use2, rewrite, done}
-use Rattle.thread_local_lemmas.proofs.Names.{RattleType, Ptr, block_ptr, null_ptr, ptr_val, block_of, count_of, InBlock}
-use Rattle.thread_local_lemmas.proofs.Names.{nothing}
+use Rattle.thread_local_model.proofs.Names.{◌≡◌, ◌≢◌, ℕ, ◌+◌, ◌*◌, ◌^◌, ◌<◌, List, [], ◌∷◌, length, length-set, set}
+use Rattle.thread_local_model.proofs.Names.{get_or, refl, sym, ap, ◌∙◌, subst, arith, lit<, T, false, Option, Some}
+use Rattle.thread_local_model.proofs.Names.{None, is_some, Ura, Ty, ty_ptr, has_ty, WT, SProp, ent, sep, wand, ex, all}
+use Rattle.thread_local_model.proofs.Names.{all_e, guard, apply∗, Fml, ftrue, Logic, sem, ‵, raw, ◌⊛◌, ◌$◌, ◌∵◌, ! }
+use Rattle.thread_local_model.proofs.Names.{qed, by, move, drop, split, fsplit, fsplit3, fjoin3, fpick, fpack, check}
+use Rattle.thread_local_model.proofs.Names.{show, frame, each as for_each, assume, use1, use2, rewrite, done}
+use Rattle.thread_local_model.proofs.Names.{RattleType, Ptr, block_ptr, null_ptr, ptr_val, block_of, count_of, InBlock}
+use Rattle.thread_local_model.proofs.Names.{nothing}
 use Rattle.std.specs.Prelude.{◌/◌, ◌%◌, IsSome}
 use Rattle.std.proofs.Common.{true≢false, ⊎_elim}
 use Rattle.std.proofs.lemmas.Bool.{eq-eqb, ne_eqb, cases_eq}
 use Rattle.std.proofs.lemmas.List.{get_or-set_same, get_or-set_other, set-get_or}
-use Rattle.thread_local_lemmas.specs.Bits.{is_set, IsWordBut}
+use Rattle.thread_local_model.specs.Bits.{is_set, IsWordBut}
 use Rattle.thread_local_blocks.specs.Slots.{slot_value, chunks, stride, value_words, Fits, flag_word_at, AreFlags, each}
 use Rattle.thread_local_blocks.specs.Slots.{flags_at, slot, back, flags_own, block_ty, block_owns}
 use Rattle.thread_local_blocks.proofs.Each.{Put, each_at}

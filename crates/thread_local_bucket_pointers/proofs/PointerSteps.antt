@@ -1,12 +1,12 @@
 -- A bucket's pointer as a value, and taking a slot or a chunk's word out of its block and putting
 -- it back. Assumes `Logic`.
-use Rattle.thread_local_lemmas.proofs.Names.{◌≡◌, ℕ, ◌*◌, ◌<◌, List, [], ◌∷◌, ◌++◌, length, length-set, set, refl, sym}
-use Rattle.thread_local_lemmas.proofs.Names.{ap, ◌∙◌, subst, arith, lit<, T, Option, Ura, Ty, ty_ptr, ty_struct, tcons}
-use Rattle.thread_local_lemmas.proofs.Names.{tnil, Val, vstruct, vcons, vnil, of_list, has_ty, WT, SProp, ent, sep}
-use Rattle.thread_local_lemmas.proofs.Names.{wand, ex, all, guard, emp, via, id⊢, apply∗, Fml, Logic, sem, ‵, raw, ◌⊛◌}
-use Rattle.thread_local_lemmas.proofs.Names.{some, given, ◌$◌, ◌∵◌, !, qed, by, move, keep, drop, split, fsplit3}
-use Rattle.thread_local_lemmas.proofs.Names.{fjoin3, fpick, fpack, pick, check, show, learn, frame, assume, use1, use2}
-use Rattle.thread_local_lemmas.proofs.Names.{done, fact_i, RattleType, Is, Ptr, block_ptr, null_ptr, InBlock, ptr_val}
+use Rattle.thread_local_model.proofs.Names.{◌≡◌, ℕ, ◌*◌, ◌<◌, List, [], ◌∷◌, ◌++◌, length, length-set, set, refl, sym}
+use Rattle.thread_local_model.proofs.Names.{ap, ◌∙◌, subst, arith, lit<, T, Option, Ura, Ty, ty_ptr, ty_struct, tcons}
+use Rattle.thread_local_model.proofs.Names.{tnil, Val, vstruct, vcons, vnil, of_list, has_ty, WT, SProp, ent, sep}
+use Rattle.thread_local_model.proofs.Names.{wand, ex, all, guard, emp, via, id⊢, apply∗, Fml, Logic, sem, ‵, raw, ◌⊛◌}
+use Rattle.thread_local_model.proofs.Names.{some, given, ◌$◌, ◌∵◌, !, qed, by, move, keep, drop, split, fsplit3}
+use Rattle.thread_local_model.proofs.Names.{fjoin3, fpick, fpack, pick, check, show, learn, frame, assume, use1, use2}
+use Rattle.thread_local_model.proofs.Names.{done, fact_i, RattleType, Is, Ptr, block_ptr, null_ptr, InBlock, ptr_val}
 use Rattle.std.specs.Prelude.{◌/◌, not, nat_lt}
 use Rattle.std.proofs.lemmas.Bool.{lt-ltb}
 use mir.Val.{ptr_same, vnull}

@@ -1,6 +1,6 @@
 //! The pointers of a table, which contracts see as its contents.
 ghost use Rattle.std.specs.Prelude.{◌≡◌, ℕ, ◌+◌, ◌*◌, ◌^◌, ◌<◌, true, false, [], length, Some, None, is_some, OnOk, OnErr, IsSome};
-ghost use Rattle.thread_local_lemmas.specs.Bits.{is_set};
+ghost use Rattle.thread_local_model.specs.Bits.{is_set};
 ghost use Rattle.thread_local_model.specs.Buckets.{row, stands, no_contents, IsTable};
 ghost use Rattle.thread_local_model.specs.Rows.{value_in, with_row, with_slot, empty_row};
 ghost use Rattle.thread_local_cursor.specs.Cursor.{AreFlagsAt};

@@ -1,10 +1,10 @@
 -- Taking one pointer, or the value of one slot, out of all of them, and putting it back. Assumes
 -- `Logic`.
-use Rattle.thread_local_lemmas.proofs.Names.{◌≡◌, ℕ, zero, suc, ◌+◌, ◌*◌, ◌<◌, List, [], ◌∷◌, length, set, get_or, refl}
-use Rattle.thread_local_lemmas.proofs.Names.{sym, arith, Option, None, Ura, SProp, ent, sep, wand, all, all_e, apply∗}
-use Rattle.thread_local_lemmas.proofs.Names.{never_e, Fml, Logic, sem, ‵, raw, ◌⊛◌, ◌$◌, ◌∵◌, !, qed, move, split}
-use Rattle.thread_local_lemmas.proofs.Names.{frame, each as for_each, assume, use1, use2, rewrite, done, RattleType}
-use Rattle.thread_local_lemmas.proofs.Names.{Ptr, null_ptr, block_of, count_of}
+use Rattle.thread_local_model.proofs.Names.{◌≡◌, ℕ, zero, suc, ◌+◌, ◌*◌, ◌<◌, List, [], ◌∷◌, length, set, get_or, refl}
+use Rattle.thread_local_model.proofs.Names.{sym, arith, Option, None, Ura, SProp, ent, sep, wand, all, all_e, apply∗}
+use Rattle.thread_local_model.proofs.Names.{never_e, Fml, Logic, sem, ‵, raw, ◌⊛◌, ◌$◌, ◌∵◌, !, qed, move, split}
+use Rattle.thread_local_model.proofs.Names.{frame, each as for_each, assume, use1, use2, rewrite, done, RattleType}
+use Rattle.thread_local_model.proofs.Names.{Ptr, null_ptr, block_of, count_of}
 use Rattle.thread_local_blocks.specs.Slots.{each, slot_value}
 use Rattle.thread_local_blocks.proofs.Each.{each_at, Put}
 use Rattle.thread_local_buckets.specs.Lent.{valued, framed, frames, values_at}

@@ -1,11 +1,11 @@
 -- Giving a value: the value of one slot is split from those that a loan has left. Assumes `Logic`.
-use Rattle.thread_local_lemmas.proofs.Names.{◌≡◌, ℕ, ◌<◌, List, [], ◌∷◌, length, refl, sym, ap, subst, ◌∙◌, false}
-use Rattle.thread_local_lemmas.proofs.Names.{is_some, Option, Some, None, Ura, SProp, ent, sep, ex, all, all_e, emp}
-use Rattle.thread_local_lemmas.proofs.Names.{apply∗, Lft, Share, GName, Fml, ftrue, flft, fbor, fobs, Logic, sem, ‵}
-use Rattle.thread_local_lemmas.proofs.Names.{raw, ◌⊛◌, some, later, ◌$◌, ◌∵◌, !, qed, move, keep, drop, split, split3}
-use Rattle.thread_local_lemmas.proofs.Names.{fsplit, fjoin, fpick, fpack, pick, show, use1, use2, await, updating, now}
-use Rattle.thread_local_lemmas.proofs.Names.{rewrite, group, done, open_ref, RattleType, Ptr, block_of, count_of, mem}
-use Rattle.thread_local_lemmas.proofs.Names.{part_at, full_share, nothing}
+use Rattle.thread_local_model.proofs.Names.{◌≡◌, ℕ, ◌<◌, List, [], ◌∷◌, length, refl, sym, ap, subst, ◌∙◌, false}
+use Rattle.thread_local_model.proofs.Names.{is_some, Option, Some, None, Ura, SProp, ent, sep, ex, all, all_e, emp}
+use Rattle.thread_local_model.proofs.Names.{apply∗, Lft, Share, GName, Fml, ftrue, flft, fbor, fobs, Logic, sem, ‵}
+use Rattle.thread_local_model.proofs.Names.{raw, ◌⊛◌, some, later, ◌$◌, ◌∵◌, !, qed, move, keep, drop, split, split3}
+use Rattle.thread_local_model.proofs.Names.{fsplit, fjoin, fpick, fpack, pick, show, use1, use2, await, updating, now}
+use Rattle.thread_local_model.proofs.Names.{rewrite, group, done, open_ref, RattleType, Ptr, block_of, count_of, mem}
+use Rattle.thread_local_model.proofs.Names.{part_at, full_share, nothing}
 use types.Follow.{after₂, takes_two}
 use types.SemTy.{SemTy, Body}
 use Rattle.thread_local_model.specs.Buckets.{Contents}

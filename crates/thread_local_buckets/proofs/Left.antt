@@ -1,6 +1,6 @@
 -- What a loan has left once it has given the value of a slot.
-use Rattle.thread_local_lemmas.proofs.Names.{◌≡◌, ℕ, zero, suc, ◌+◌, ◌≤◌, List, [], ◌∷◌, length, length-set, set}
-use Rattle.thread_local_lemmas.proofs.Names.{get_or, refl, sym, ap, ◌∙◌, subst, arith, Option, None}
+use Rattle.thread_local_model.proofs.Names.{◌≡◌, ℕ, zero, suc, ◌+◌, ◌≤◌, List, [], ◌∷◌, length, length-set, set}
+use Rattle.thread_local_model.proofs.Names.{get_or, refl, sym, ap, ◌∙◌, subst, arith, Option, None}
 use Rattle.std.proofs.lemmas.List.{get_or-set_other}
 use Rattle.std.proofs.Common.{inl, inr, true, false}
 use Rattle.std.proofs.lemmas.Bool.{lt-ltb, ltb-true, true≢false}

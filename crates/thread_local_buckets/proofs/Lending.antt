@@ -1,12 +1,12 @@
 -- Making a loan: the owner's borrow is split into what the loan owns and what is put aside. Assumes
 -- `Logic`.
-use Rattle.thread_local_lemmas.proofs.Names.{◌≡◌, ℕ, ◌+◌, List, [], ◌∷◌, length, refl, sym, ap, ◌∙◌, subst, arith}
-use Rattle.thread_local_lemmas.proofs.Names.{Option, Ura, SProp, ent, sep, ex, guard, Lft, Share, GName, Fml, ftrue}
-use Rattle.thread_local_lemmas.proofs.Names.{fsep, flft, fbor, fobor, fobs, fauth, Logic, sem, ‵, raw, ◌⊛◌, some, later}
-use Rattle.thread_local_lemmas.proofs.Names.{◌$◌, ◌∵◌, !, qed, by, move, keep, drop, split, split3, fsplit, fjoin}
-use Rattle.thread_local_lemmas.proofs.Names.{fpick, fpack, pick, check, show, use1, use2, use3, await, updating, now}
-use Rattle.thread_local_lemmas.proofs.Names.{rewrite, group, join, done, RattleType, Ptr, block_ptr, full_share, mem}
-use Rattle.thread_local_lemmas.proofs.Names.{part_at, param, nothing, SemTy}
+use Rattle.thread_local_model.proofs.Names.{◌≡◌, ℕ, ◌+◌, List, [], ◌∷◌, length, refl, sym, ap, ◌∙◌, subst, arith}
+use Rattle.thread_local_model.proofs.Names.{Option, Ura, SProp, ent, sep, ex, guard, Lft, Share, GName, Fml, ftrue}
+use Rattle.thread_local_model.proofs.Names.{fsep, flft, fbor, fobor, fobs, fauth, Logic, sem, ‵, raw, ◌⊛◌, some, later}
+use Rattle.thread_local_model.proofs.Names.{◌$◌, ◌∵◌, !, qed, by, move, keep, drop, split, split3, fsplit, fjoin}
+use Rattle.thread_local_model.proofs.Names.{fpick, fpack, pick, check, show, use1, use2, use3, await, updating, now}
+use Rattle.thread_local_model.proofs.Names.{rewrite, group, join, done, RattleType, Ptr, block_ptr, full_share, mem}
+use Rattle.thread_local_model.proofs.Names.{part_at, param, nothing, SemTy}
 use types.SemTy.{Body}
 use base.Fml.{fseps}
 use denote.Param.Laws.{Laws}

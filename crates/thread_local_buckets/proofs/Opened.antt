@@ -1,9 +1,9 @@
 -- A table's pointers in memory are 63 pointers one after another, and 63 such pointers are a
 -- table's. Assumes `Logic`.
-use Rattle.thread_local_lemmas.proofs.Names.{◌≡◌, ℕ, ◌+◌, List, [], ◌∷◌, length, full_share, Ura, SProp, ent, sep, ex}
-use Rattle.thread_local_lemmas.proofs.Names.{Fml, Logic, sem, ‵, raw, ◌⊛◌, some, ◌$◌, ◌∵◌, !, qed, by, move, split}
-use Rattle.thread_local_lemmas.proofs.Names.{fjoin, pick, show, use1, use2, feq_l, feq_i, join, done, RattleType}
-use Rattle.thread_local_lemmas.proofs.Names.{Member, lone, part_at, param, param_laws}
+use Rattle.thread_local_model.proofs.Names.{◌≡◌, ℕ, ◌+◌, List, [], ◌∷◌, length, full_share, Ura, SProp, ent, sep, ex}
+use Rattle.thread_local_model.proofs.Names.{Fml, Logic, sem, ‵, raw, ◌⊛◌, some, ◌$◌, ◌∵◌, !, qed, by, move, split}
+use Rattle.thread_local_model.proofs.Names.{fjoin, pick, show, use1, use2, feq_l, feq_i, join, done, RattleType}
+use Rattle.thread_local_model.proofs.Names.{Member, lone, part_at, param, param_laws}
 use base.Fml.{feq}
 use denote.Param.Laws.{Laws}
 use denote.Array.{Array, Array-Lawful}

@@ -1,12 +1,12 @@
 -- Taking the word of one chunk out of the flags of a block, for reading. Assumes `Logic`.
-use Rattle.thread_local_lemmas.proofs.Names.{◌≡◌, ℕ, ◌+◌, ◌*◌, ◌<◌, ◌≤◌, List, [], ◌∷◌, length, set, get_or, sym, refl}
-use Rattle.thread_local_lemmas.proofs.Names.{ap, ◌∙◌, arith, is_some, Option, Ura, SProp, ent, sep, wand, ex, all}
-use Rattle.thread_local_lemmas.proofs.Names.{all_e, guard, apply∗, Fml, ftrue, Logic, sem, ‵, raw, ◌⊛◌, ◌$◌, ◌∵◌, ! }
-use Rattle.thread_local_lemmas.proofs.Names.{qed, move, drop, split, fsplit3, fjoin3, fpick, fpack, check, show, frame}
-use Rattle.thread_local_lemmas.proofs.Names.{assume, use1, use2, rewrite, done, RattleType, Ptr, block_of, count_of}
-use Rattle.thread_local_lemmas.proofs.Names.{nothing}
+use Rattle.thread_local_model.proofs.Names.{◌≡◌, ℕ, ◌+◌, ◌*◌, ◌<◌, ◌≤◌, List, [], ◌∷◌, length, set, get_or, sym, refl}
+use Rattle.thread_local_model.proofs.Names.{ap, ◌∙◌, arith, is_some, Option, Ura, SProp, ent, sep, wand, ex, all}
+use Rattle.thread_local_model.proofs.Names.{all_e, guard, apply∗, Fml, ftrue, Logic, sem, ‵, raw, ◌⊛◌, ◌$◌, ◌∵◌, ! }
+use Rattle.thread_local_model.proofs.Names.{qed, move, drop, split, fsplit3, fjoin3, fpick, fpack, check, show, frame}
+use Rattle.thread_local_model.proofs.Names.{assume, use1, use2, rewrite, done, RattleType, Ptr, block_of, count_of}
+use Rattle.thread_local_model.proofs.Names.{nothing}
 use Rattle.std.proofs.lemmas.List.{set-get_or}
-use Rattle.thread_local_lemmas.specs.Bits.{is_set}
+use Rattle.thread_local_model.specs.Bits.{is_set}
 use Rattle.thread_local_model.specs.Place.{id_at}
 use Rattle.thread_local_model.specs.Buckets.{Contents, row}
 use Rattle.thread_local_model.specs.Rows.{value_in}

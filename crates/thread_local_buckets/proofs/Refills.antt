@@ -1,5 +1,5 @@
 -- Contents refilled from contents with a value in the same slots are the latter.
-use Rattle.thread_local_lemmas.proofs.Names.{◌≡◌, List, [], ◌∷◌, length, refl, ap, arith, is_some, Option, Some, None}
+use Rattle.thread_local_model.proofs.Names.{◌≡◌, List, [], ◌∷◌, length, refl, ap, arith, is_some, Option, Some, None}
 use Rattle.std.proofs.lemmas.Bool.{true≢false, false≢true}
 use Rattle.thread_local_model.specs.Buckets.{Contents}
 use Rattle.thread_local_buckets.specs.Lent.{shape}

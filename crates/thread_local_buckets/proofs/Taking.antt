@@ -1,12 +1,12 @@
 -- A table's pointers are split into the pointers with their flags, the values and the rest, and put
 -- together again with any values in the same slots. Assumes `Logic`.
-use Rattle.thread_local_lemmas.proofs.Names.{id⊢, ◌≡◌, ℕ, zero, ◌+◌, List, [], ◌∷◌, length, map, refl, sym, ap, arith}
-use Rattle.thread_local_lemmas.proofs.Names.{full_share, Bool, Option, Ura, SProp, ent, sep, wand, all, all_e, emp}
-use Rattle.thread_local_lemmas.proofs.Names.{apply∗, Fml, ftrue, fsep, Logic, sem, ‵, raw, ◌⊛◌, given, ◌$◌, ◌∵◌, !, qed}
-use Rattle.thread_local_lemmas.proofs.Names.{by, move, keep, drop, split, split3, fsplit, fsplit3, fjoin, fjoin3, fpick}
-use Rattle.thread_local_lemmas.proofs.Names.{fpack, learn, frame, each as for_each, assume, use1, use2, use3, rewrite}
-use Rattle.thread_local_lemmas.proofs.Names.{feq_l, feq_i, done, RattleType, Ptr, ptr_val, ty_ptr, Val, Member, mem}
-use Rattle.thread_local_lemmas.proofs.Names.{part_at, cell_at, cell, nothing, block_of, count_of, join}
+use Rattle.thread_local_model.proofs.Names.{id⊢, ◌≡◌, ℕ, zero, ◌+◌, List, [], ◌∷◌, length, map, refl, sym, ap, arith}
+use Rattle.thread_local_model.proofs.Names.{full_share, Bool, Option, Ura, SProp, ent, sep, wand, all, all_e, emp}
+use Rattle.thread_local_model.proofs.Names.{apply∗, Fml, ftrue, fsep, Logic, sem, ‵, raw, ◌⊛◌, given, ◌$◌, ◌∵◌, !, qed}
+use Rattle.thread_local_model.proofs.Names.{by, move, keep, drop, split, split3, fsplit, fsplit3, fjoin, fjoin3, fpick}
+use Rattle.thread_local_model.proofs.Names.{fpack, learn, frame, each as for_each, assume, use1, use2, use3, rewrite}
+use Rattle.thread_local_model.proofs.Names.{feq_l, feq_i, done, RattleType, Ptr, ptr_val, ty_ptr, Val, Member, mem}
+use Rattle.thread_local_model.proofs.Names.{part_at, cell_at, cell, nothing, block_of, count_of, join}
 use types.Share.{parts}
 use denote.RawPtr.{RawPtr, rawptr_Lawful}
 use denote.Memory.{part_of, shares}

@@ -17,7 +17,7 @@ use Rattle.thread_local_model.specs.Rows.{value_in}
 use Rattle.thread_local_model.specs.Owned.{Owned}
 use Rattle.thread_local_model.specs.Code.{owned_coded}
 use Rattle.thread_local_blocks.specs.Slots.{each, flags, value_offset, Fits}
-use Rattle.thread_local_lemmas.specs.Fact.{fact}
+use Rattle.thread_local_model.specs.Fact.{fact}
 
 -- which slots have a value
 abbrev pub shape : {X : Type 0} → List (List (Option X)) → List (List Bool)

@@ -7,7 +7,7 @@ ghost use Rattle.thread_local_model.specs.Buckets.{Contents, row, stands, IsTabl
 ghost use Rattle.thread_local_model.specs.Rows.{value_in, with_slot};
 ghost use Rattle.thread_local_model.specs.Code.{contents_coded};
 ghost use types.Logic.{sem};
-ghost use Rattle.thread_local_lemmas.specs.Bits.{is_set};
+ghost use Rattle.thread_local_model.specs.Bits.{is_set};
 ghost use Rattle.thread_local_blocks.specs.Slots.{flag_word_at};
 ghost use Rattle.thread_local_buckets.specs.Lent.{loan_owns};
 ghost use Rattle.thread_local_buckets.specs.Given.{ends_with_item};

@@ -15,7 +15,7 @@ use denote.RattleType.{RattleType}
 use denote.RawPtr.{block_of, count_of}
 use denote.Steps.{nothing}
 use Rattle.thread_local_tokens.specs.Rights.{right_owns}
-use Rattle.thread_local_lemmas.specs.Bits.{is_set}
+use Rattle.thread_local_model.specs.Bits.{is_set}
 use Rattle.thread_local_blocks.specs.Slots.{value_offset}
 use Rattle.thread_local_tokens.specs.Told.{tells, untold_in}
 use Rattle.thread_local_tokens.proofs.ToldElements.{tells_alike, telling_alike}

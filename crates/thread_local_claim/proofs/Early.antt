@@ -13,8 +13,8 @@ use denote.RawPtr.{Ptr, block_ptr, null_ptr, block_of, count_of}
 use Rattle.std.specs.Sync.RawAtomic.Pointer.{cell}
 use Rattle.thread_local_tokens.specs.Rights.{right_owns}
 use Rattle.thread_local_tokens.proofs.RightElements.{right_once}
-use Rattle.thread_local_lemmas.specs.Bits.{is_set}
-use Rattle.thread_local_lemmas.proofs.Word.{same_bit}
+use Rattle.thread_local_model.specs.Bits.{is_set}
+use Rattle.thread_local_model.proofs.Word.{same_bit}
 use Rattle.thread_local_blocks.specs.Slots.{value_offset}
 use Rattle.thread_local_shared_bucket.specs.Shared.{name_at, BucketView, Turn, StandingBlock, Who, free, stays, had}
 use Rattle.thread_local_shared_bucket.specs.Shared.{unborn, all_unborn, waiting, len, first, Sized, pending, standing}

@@ -31,7 +31,7 @@ use Rattle.thread_local_model.proofs.PlaceLaws.{place-id_at}
 use Rattle.thread_local_blocks.specs.Slots.{stride, value_words, flag_word_at, word_offset, value_offset}
 use Rattle.thread_local_blocks.proofs.Flags.{uncapped}
 use Rattle.thread_local_shared_bucket.specs.Shared.{BucketView, len, first}
-use Rattle.thread_local_lemmas.specs.Fact.{fact}
+use Rattle.thread_local_model.specs.Fact.{fact}
 use Rattle.thread_local_claim.specs.Known.{value_held}
 use Rattle.thread_local_claim.specs.Claims.{claim_fields, flag_word_of, IsKept, shows_value, claim_shares}
 use Rattle.thread_local_claim.specs.declared.claimed.ClaimedSlot as claim_value

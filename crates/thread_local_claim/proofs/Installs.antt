@@ -14,7 +14,7 @@ use denote.RawPtr.{Ptr, block_ptr}
 use denote.Steps.{nothing}
 use Rattle.thread_local_tokens.specs.Rights.{right_owns}
 use Rattle.thread_local_blocks.specs.Slots.{value_offset}
-use Rattle.thread_local_lemmas.specs.Fact.{fact}
+use Rattle.thread_local_model.specs.Fact.{fact}
 use Rattle.thread_local_shared_bucket.specs.Shared.{BucketView, Turn, StandingBlock, Sized, block_code, len, bucket_invariant, kept, loaded}
 use Rattle.thread_local_shared_bucket.proofs.Loads.{part, reaches}
 use Rattle.thread_local_model.specs.Learnt.{Vacant}

@@ -30,7 +30,7 @@ use Rattle.std.proofs.cell.BorrowLemmas.{by_one, unnest_before}
 use Rattle.thread_local_judged.specs.Judged.{Shareable, Judged}
 use Rattle.thread_local_tokens.specs.Rights.{right_owns}
 use Rattle.thread_local_blocks.specs.Slots.{value_offset, content_at}
-use Rattle.thread_local_lemmas.specs.Fact.{fact}
+use Rattle.thread_local_model.specs.Fact.{fact}
 use Rattle.thread_local_tokens.specs.Told.{tells}
 use Rattle.thread_local_tokens.proofs.ToldElements.{told_dup}
 use Rattle.thread_local_tokens.proofs.Twice.{tells_laws}

@@ -14,7 +14,7 @@ use denote.RattleType.{RattleType}
 use denote.RawPtr.{Ptr, block_of, count_of}
 use Rattle.thread_local_tokens.specs.Rights.{right_owns}
 use Rattle.thread_local_blocks.specs.Slots.{value_offset}
-use Rattle.thread_local_lemmas.specs.Fact.{fact}
+use Rattle.thread_local_model.specs.Fact.{fact}
 use Rattle.thread_local_shared_bucket.specs.Shared.{BucketView, Turn, StandingBlock, bucket_invariant}
 use Rattle.thread_local_model.specs.Learnt.{Learnt, Unknown, Missing, Standing, Vacant, Holding}
 use Rattle.thread_local_claim.specs.Claims.{ClaimFields, IsOf, has_slot, has, claim_owns, waits}

@@ -16,7 +16,7 @@ use denote.Sharing.{said, beside, within, some, held, nothing}
 use Rattle.thread_local_tokens.specs.Rights.{right_owns}
 use Rattle.thread_local_judged.specs.Judged.{Judged}
 use Rattle.thread_local_blocks.specs.Slots.{flag_word_at, value_offset}
-use Rattle.thread_local_lemmas.specs.Fact.{fact}
+use Rattle.thread_local_model.specs.Fact.{fact}
 use Rattle.thread_local_tokens.specs.Told.{tells}
 use Rattle.thread_local_shared_bucket.specs.Shared.{name_at, BucketView, Turn, StandingBlock, holds, first, len, kept, loaded}
 

@@ -7,8 +7,8 @@ use Rattle.std.specs.List.{count_by}
 use Rattle.std.proofs.lemmas.Bool.{cases_lt}
 use Rattle.std.proofs.lemmas.List.{get_or_past}
 use Rattle.std.proofs.lemmas.List.FromFn.{sum_by-map-range_with_len_more}
-use Rattle.thread_local_lemmas.specs.Bits.{is_set, low_bits}
-use Rattle.thread_local_lemmas.proofs.Word.{count_ones-counts}
+use Rattle.thread_local_model.specs.Bits.{is_set, low_bits}
+use Rattle.thread_local_model.proofs.Word.{count_ones-counts}
 use Rattle.thread_local_model.specs.Place.{id_at}
 use Rattle.thread_local_model.specs.Buckets.{Contents, row, values}
 use Rattle.thread_local_model.specs.Rows.{value_in}

@@ -6,8 +6,8 @@ use Rattle.std.proofs.Math.Nat.{two-pow-succ}
 use Rattle.std.specs.Int.{trailing_zeros}
 use Rattle.std.proofs.lemmas.List.{get_or_past}
 use Rattle.std.proofs.lemmas.Bool.{cases_lt}
-use Rattle.thread_local_lemmas.specs.Bits.{is_set, IsLowestSet}
-use Rattle.thread_local_lemmas.proofs.Word.{lowest_set, is_set-zero}
+use Rattle.thread_local_model.specs.Bits.{is_set, IsLowestSet}
+use Rattle.thread_local_model.proofs.Word.{lowest_set, is_set-zero}
 use Rattle.thread_local_model.specs.Place.{id_at}
 use Rattle.thread_local_model.specs.Buckets.{Contents, row, values}
 use Rattle.thread_local_model.specs.Rows.{value_in}

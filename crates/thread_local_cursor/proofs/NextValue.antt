@@ -5,7 +5,7 @@ use Rattle.std.specs.Int.{w64, trailing_zeros}
 use Rattle.std.proofs.lemmas.Bool.{cases_eq, eq-eqb, ne_eqb, cases_lt}
 use Rattle.std.proofs.lemmas.Nat.{zero_from_ones}
 use Rattle.std.proofs.lemmas.List.{get_or-set_same, get_or-set_other}
-use Rattle.thread_local_lemmas.specs.Bits.{IsLowestSet, IsWordBut}
+use Rattle.thread_local_model.specs.Bits.{IsLowestSet, IsWordBut}
 use Rattle.thread_local_model.specs.Place.{id_at}
 use Rattle.thread_local_model.specs.Buckets.{Contents, row, values}
 use Rattle.thread_local_model.specs.Walk.{walk, paired}

@@ -1,6 +1,6 @@
 -- Where an owner's walk is: behind slots whose flags it has read. No slot before these has a value.
 use Rattle.std.specs.Prelude.{◌≡◌, ℕ, ◌+◌, ◌-◌, ◌*◌, ◌/◌, ◌%◌, ◌^◌, ◌<◌, ◌≤◌, min, length, is_some, count_ones}
-use Rattle.thread_local_lemmas.specs.Bits.{is_set}
+use Rattle.thread_local_model.specs.Bits.{is_set}
 use Rattle.thread_local_model.specs.Place.{id_at}
 use Rattle.thread_local_model.specs.Buckets.{Contents, row, values}
 use Rattle.thread_local_model.specs.Rows.{value_in}

@@ -1,7 +1,7 @@
 //! How an owner's walk finds its next value: it reads the flags of 64 slots at a time, and skips
 //! flags that are all 0.
 ghost use Rattle.std.specs.Prelude.{◌≡◌, ◌+◌, ◌*◌, ◌^◌, ◌<◌, ◌≤◌, true, false, [], ◌∷◌, ℕ, length, Some, None, is_some, IsSome};
-ghost use Rattle.thread_local_lemmas.specs.Bits.{is_set, IsLowestSet, IsWordBut};
+ghost use Rattle.thread_local_model.specs.Bits.{is_set, IsLowestSet, IsWordBut};
 ghost use Rattle.thread_local_model.specs.Place.{id_at};
 ghost use Rattle.thread_local_model.specs.Buckets.{Contents, row, stands, values};
 ghost use Rattle.thread_local_model.specs.Rows.{value_in, with_slot};

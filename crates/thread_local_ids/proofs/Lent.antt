@@ -32,7 +32,7 @@ use Rattle.std.specs.Sync.RawAtomic.{word}
 use Rattle.std.proofs.cell.BorrowLemmas.{flag}
 use Rattle.thread_local_ids.specs.Locking.{LockView, Fitting, offset, LockTurn, named_value, fitting, with_word}
 use Rattle.thread_local_ids.specs.Locking.{lock_invariant, lock_kept, guarding, lock_shares, guard_owns}
-use Rattle.thread_local_lemmas.specs.Fact.{fact}
+use Rattle.thread_local_model.specs.Fact.{fact}
 use Rattle.thread_local_ids.specs.declared.lock.Fits.{Ghosts}
 use Rattle.thread_local_ids.specs.contracts.lock.Lock as C
 use Rattle.thread_local_ids.proofs.Words.{word_out, word_in}

@@ -16,3 +16,10 @@ pub mod FillingLaws
 pub mod InsertingLaws
 pub mod RefilledLaws
 pub mod EmptyingLaws
+pub mod Bodies
+pub mod Names
+pub mod Pairs
+pub mod Word
+pub mod Words
+pub mod Opened
+pub mod Pointers

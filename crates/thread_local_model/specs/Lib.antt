@@ -13,3 +13,5 @@ pub mod Owner
 pub mod Refilled
 pub mod Counting
 pub mod Code
+pub mod Bits
+pub mod Fact

@@ -19,8 +19,8 @@ use denote.RawPtr.{Ptr, block_ptr, null_ptr, block_of, count_of}
 use denote.Steps.{nothing}
 use Rattle.std.specs.Sync.RawAtomic.{word}
 use Rattle.std.specs.Sync.RawAtomic.Pointer.{cell}
-use Rattle.thread_local_lemmas.specs.Bits.{is_set, is_set_in, IsWordBut}
-use Rattle.thread_local_lemmas.proofs.Words.{is_set_in-set}
+use Rattle.thread_local_model.specs.Bits.{is_set, is_set_in, IsWordBut}
+use Rattle.thread_local_model.proofs.Words.{is_set_in-set}
 use Rattle.thread_local_blocks.specs.Slots.{AreWords, each, heap_token, block_ty, word_offset, value_offset, flags_at, back}
 use Rattle.thread_local_blocks.proofs.Each.{Put, each_at, each_turned}
 use Rattle.thread_local_blocks.proofs.Flags.{in_chunks}

@@ -29,7 +29,7 @@ use denote.Struct.Parts.{PartsBack, Struct-parts, shape_of}
 use Rattle.std.specs.Sync.RawAtomic.Pointer.{cell}
 use Rattle.std.proofs.cell.Inside.{spread, gather}
 use Rattle.thread_local_judged.specs.Judged.{Judged}
-use Rattle.thread_local_lemmas.specs.Fact.{fact}
+use Rattle.thread_local_model.specs.Fact.{fact}
 use Rattle.thread_local_shared_bucket.specs.Shared.{BucketView, Turn, StandingBlock, block_code, block_stands}
 use Rattle.thread_local_shared_bucket.specs.Shared.{block_rests, Sized, len, first, all_unborn, pending, standing}
 use Rattle.thread_local_shared_bucket.specs.Shared.{beside_pointer, bucket_invariant, kept, at_rest, bucket_shares}

@@ -16,12 +16,12 @@ use denote.RawPtr.{Ptr, block_ptr, null_ptr}
 use denote.Steps.{nothing}
 use denote.SharingLaws.{ends_shr_laws}
 use Rattle.std.specs.Sync.RawAtomic.Pointer.{cell, asks_ptr}
-use Rattle.thread_local_lemmas.specs.Fact.{fact}
+use Rattle.thread_local_model.specs.Fact.{fact}
 use Rattle.thread_local_tokens.specs.Told.{untold_in, tells}
 use Rattle.thread_local_tokens.proofs.ToldElements.{telling_alike}
 use Rattle.thread_local_shared_bucket.specs.Shared.{BucketView, Turn, StandingBlock, block_code, Sized, len, first}
 use Rattle.thread_local_shared_bucket.specs.Shared.{all_unborn, standing, beside_pointer, bucket_invariant, loaded}
-use Rattle.thread_local_lemmas.proofs.Pointers.{Lies, opened}
+use Rattle.thread_local_model.proofs.Pointers.{Lies, opened}
 
 module _ {M : Type 1} {𝓤 : Ura M} (𝓛 : Logic 𝓤) (R : RattleType) (sharing : Option GName)
     (named : IsSome sharing) (table : ℕ) (t : Turn) (x : R.Denot) (Z : SProp 𝓤) where

@@ -16,8 +16,8 @@ use denote.SharingLaws.{contraction}
 use denote.Param.Laws.{Laws}
 use Rattle.std.specs.Sync.RawAtomic.{asks, always}
 use Rattle.thread_local_judged.specs.Judged.{Shareable}
-use Rattle.thread_local_lemmas.specs.Bits.{is_set}
-use Rattle.thread_local_lemmas.proofs.Word.{same_bit}
+use Rattle.thread_local_model.specs.Bits.{is_set}
+use Rattle.thread_local_model.proofs.Word.{same_bit}
 use Rattle.thread_local_blocks.specs.Slots.{word_offset, value_offset}
 use Rattle.thread_local_shared_bucket.specs.Shared.{name_at, BucketView, Turn, StandingBlock, Who, block_code, pinned}
 use Rattle.thread_local_shared_bucket.specs.Shared.{value_code, shared_value, opened, len, first, bucket_invariant}

@@ -29,7 +29,7 @@ use Rattle.std.specs.declared.alloc.Global.{Global}
 use Rattle.std.specs.contracts.impls.GlobalAllocator.TheImpl.{ghosts}
 use Rattle.std.proofs.GlobalToken.{dealloc_token-Testable}
 use Rattle.thread_local_tokens.specs.Rights.{right_owns}
-use Rattle.thread_local_lemmas.specs.Bits.{is_set_in}
+use Rattle.thread_local_model.specs.Bits.{is_set_in}
 use Rattle.thread_local_blocks.specs.Slots.{each, chunks, AreFlags, flags_at, block_ty, value_offset, content_at, slot}
 use Rattle.thread_local_blocks.specs.Slots.{flags, back, block_owns, empty_slots, slot_value, heap_token, Fits}
 use Rattle.thread_local_shared_bucket.specs.Shared.{BucketView, Turn, StandingBlock, Who, free, early, block_code}
@@ -38,7 +38,7 @@ use Rattle.thread_local_shared_bucket.specs.Shared.{numbered_slot, AreFlagWords,
 use Rattle.thread_local_shared_bucket.specs.Shared.{waiting, all_unborn, Sized, len, first, standing, beside_pointer}
 use Rattle.thread_local_shared_bucket.specs.Shared.{bucket_invariant}
 use Rattle.thread_local_tokens.specs.Told.{untold_in}
-use Rattle.thread_local_lemmas.proofs.Pointers.{Compared, opened_to_compare, alike_null}
+use Rattle.thread_local_model.proofs.Pointers.{Compared, opened_to_compare, alike_null}
 use Rattle.thread_local_shared_bucket.proofs.Loads.{part, glimpse, parted}
 
 -- who has a slot that is born: the claim that took its pass before, or nobody

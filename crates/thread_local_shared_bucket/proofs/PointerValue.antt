@@ -1,7 +1,7 @@
 -- The machine value of a shared bucket: its one field, the pointer. Assumes `Logic`.
-use Rattle.thread_local_lemmas.proofs.Names.{T, [], ◌∷◌, refl, lit<, Ura, tcons, tnil, ty_ptr, ty_struct, Val, vstruct}
-use Rattle.thread_local_lemmas.proofs.Names.{vcons, vnil, has_ty, WT, ent, emp, Logic, sem, RattleType, Ptr, block_ptr}
-use Rattle.thread_local_lemmas.proofs.Names.{null_ptr, ptr_val}
+use Rattle.thread_local_model.proofs.Names.{T, [], ◌∷◌, refl, lit<, Ura, tcons, tnil, ty_ptr, ty_struct, Val, vstruct}
+use Rattle.thread_local_model.proofs.Names.{vcons, vnil, has_ty, WT, ent, emp, Logic, sem, RattleType, Ptr, block_ptr}
+use Rattle.thread_local_model.proofs.Names.{null_ptr, ptr_val}
 use denote.Shadow.{makes_shadow}
 use Rattle.thread_local_shared_bucket.specs.contracts.shared_bucket.SharedBucket.TheInside as inside
 

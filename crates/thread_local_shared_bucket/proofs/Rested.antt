@@ -26,7 +26,7 @@ use denote.Param.Laws.{Laws}
 use Rattle.std.proofs.cell.BorrowLemmas.{by_one}
 use Rattle.thread_local_tokens.specs.Rights.{right_owns}
 use Rattle.thread_local_judged.specs.Judged.{Shareable, Judged}
-use Rattle.thread_local_lemmas.specs.Bits.{is_set_in}
+use Rattle.thread_local_model.specs.Bits.{is_set_in}
 use Rattle.thread_local_blocks.specs.Slots.{value_offset, content_at, each, back, empty_slots}
 use Rattle.thread_local_shared_bucket.specs.Shared.{Turn, Who, free, value_code, pinned, tracked_value, age}
 use Rattle.thread_local_shared_bucket.specs.Shared.{shared_value, opened, by as lent_by, stays, had, shared_slot_as}

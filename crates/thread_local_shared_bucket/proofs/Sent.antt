@@ -13,7 +13,7 @@ use Rattle.std.proofs.Crossing.{frees}
 use Rattle.thread_local_tokens.proofs.RightElements.{right_keyless}
 use Rattle.thread_local_judged.specs.Judged.{Judged}
 use Rattle.thread_local_tokens.proofs.ToldElements.{untold_keyless, tells_keyless, telling_keyless, all_telling_keyless}
-use Rattle.thread_local_lemmas.specs.Bits.{is_set_in}
+use Rattle.thread_local_model.specs.Bits.{is_set_in}
 use Rattle.thread_local_blocks.specs.Slots.{heap_token, chunks, each, flag_room, flags_at, slot, empty_slots}
 use Rattle.thread_local_blocks.specs.Slots.{value_offset, content_at, back, block_ty}
 use Rattle.thread_local_shared_bucket.specs.Shared.{BucketView, Turn, StandingBlock, Who, free, claimed, early}

@@ -11,10 +11,10 @@ use denote.RattleType.{RattleType}
 use denote.RawPtr.{block_ptr, block_of, count_of}
 use denote.Steps.{nothing}
 use Rattle.std.specs.Sync.RawAtomic.{asks, always}
-use Rattle.thread_local_lemmas.proofs.Opened.{Lies}
-use Rattle.thread_local_lemmas.proofs.Opened as bucket_opened
-use Rattle.thread_local_lemmas.specs.Bits.{is_set, IsWordBut}
-use Rattle.thread_local_lemmas.proofs.Word.{same_bit}
+use Rattle.thread_local_model.proofs.Opened.{Lies}
+use Rattle.thread_local_model.proofs.Opened as bucket_opened
+use Rattle.thread_local_model.specs.Bits.{is_set, IsWordBut}
+use Rattle.thread_local_model.proofs.Word.{same_bit}
 use Rattle.thread_local_blocks.specs.Slots.{word_offset, value_offset}
 use Rattle.thread_local_shared_bucket.specs.Shared.{name_at, BucketView, Turn, StandingBlock, Who, block_code, age}
 use Rattle.thread_local_shared_bucket.specs.Shared.{tracked_value, shared_slot_as, shared_slot, len, first}

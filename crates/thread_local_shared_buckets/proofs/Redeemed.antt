@@ -20,7 +20,7 @@ use denote.Param.Laws.{Laws}
 use Rattle.std.specs.declared.alloc.Global.{Global}
 use Rattle.std.specs.contracts.impls.GlobalAllocator.TheImpl.{ghosts}
 use Rattle.std.proofs.GlobalToken.{dealloc_token-Testable}
-use Rattle.thread_local_lemmas.specs.Bits.{is_set_in}
+use Rattle.thread_local_model.specs.Bits.{is_set_in}
 use Rattle.thread_local_blocks.specs.Slots.{heap_token, chunks, each, AreFlags, flags_at, slot_value, block_ty, Fits}
 use Rattle.thread_local_blocks.specs.Slots.{value_offset, content_at, slot, flags_own, back}
 use Rattle.thread_local_bucket_pointers.specs.PointerOwns.{pointer_owns}

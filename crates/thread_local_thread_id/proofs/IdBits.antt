@@ -3,8 +3,8 @@ use Rattle.std.proofs.Common.{◌≡◌, ◌≢◌, ℕ, ◌+◌, ◌-◌, ◌*�
 use Rattle.std.proofs.Common.{◌∷◌, ◌++◌, length, take, set, replicate, sym, ◌∙◌, arith, ⊎_elim}
 use Rattle.std.proofs.lemmas.Bool.{both_ways, true_from_ne_false, cases_eq, cases_lt}
 use Rattle.std.proofs.lemmas.List.{length-replicate, length_push, length-take, get_or-set_same, get_or-set_other}
-use Rattle.thread_local_lemmas.specs.Bits.{bits_of, IsNextUnset}
-use Rattle.thread_local_lemmas.proofs.Words.{length-bits_of, get_or-bits_of, is_set_in-zeros}
+use Rattle.thread_local_model.specs.Bits.{bits_of, IsNextUnset}
+use Rattle.thread_local_model.proofs.Words.{length-bits_of, get_or-bits_of, is_set_in-zeros}
 use Rattle.thread_local_model.specs.Held.{is_held, least, HoldsAllBelow}
 use Rattle.thread_local_thread_id.proofs.Views.{IsFreeFrom-set, HoldsAllBelow-set, HoldsAllBelow-hold, was_free, is_held-push}
 use Rattle.thread_local_thread_id.specs.Entries.{AreEntries}

@@ -5,8 +5,8 @@ use Rattle.std.proofs.Common.{take, set, ◌++◌, refl, ap, sym, ◌∙◌, ari
 use Rattle.std.proofs.lemmas.List.{get_or-set_same, get_or-set_other, take-append-le}
 use Rattle.std.proofs.lemmas.Bool.{both_ways, cases_eq}
 use Rattle.thread_local_model.proofs.HeldLaws.{least_lower}
-use Rattle.thread_local_lemmas.specs.Bits.{bits_of}
-use Rattle.thread_local_lemmas.proofs.Words.{length-bits_of, get_or-bits_of, bits_of-append, is_set_in-push_zero}
+use Rattle.thread_local_model.specs.Bits.{bits_of}
+use Rattle.thread_local_model.proofs.Words.{length-bits_of, get_or-bits_of, bits_of-append, is_set_in-push_zero}
 use Rattle.thread_local_model.specs.Held.{is_held, least, with_least, HoldsAllBelow}
 
 -- no entry from the peak on is held

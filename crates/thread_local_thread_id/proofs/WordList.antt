@@ -4,10 +4,10 @@ use Rattle.std.proofs.Common.{◌≡◌, ◌≢◌, ℕ, suc, ◌+◌, ◌-◌, 
 use Rattle.std.proofs.Common.{take, set, refl, ap, subst, sym, ◌∙◌, arith}
 use Rattle.std.specs.Int.{w64, trailing_ones}
 use Rattle.std.proofs.lemmas.List.{take_all, get_or_read, length-set, length-take}
-use Rattle.thread_local_lemmas.specs.Bits.{bits_of, is_set_in, IsWordBut, IsNextUnset}
+use Rattle.thread_local_model.specs.Bits.{bits_of, is_set_in, IsWordBut, IsNextUnset}
 use Rattle.thread_local_thread_id.specs.declared.words.Words.TheInside.{Inside}
 use Rattle.thread_local_thread_id.specs.WordList.{words_of, AreWords}
-use Rattle.thread_local_lemmas.proofs.Words.{bits_of-set, is_set_in-all_ones, next_unset, next_unset_from}
+use Rattle.thread_local_model.proofs.Words.{bits_of-set, is_set_in-all_ones, next_unset, next_unset_from}
 
 -- where there is a word, all of them are the first and the rest
 all_words : (count first : ℕ) (rest : List ℕ) → length rest ≡ count - 1 → 0 < count

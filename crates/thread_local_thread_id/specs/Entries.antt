@@ -1,7 +1,7 @@
 -- How contracts see the bits of the ids, and what always holds of their fields.
 use Rattle.std.specs.Prelude.{◌≡◌, ℕ, ◌-◌, ◌*◌, ◌^◌, ◌<◌, ◌≤◌, min, false, length, take}
 use Rattle.thread_local_model.specs.Held.{Manager, is_held, HoldsAllBelow}
-use Rattle.thread_local_lemmas.specs.Bits.{bits_of}
+use Rattle.thread_local_model.specs.Bits.{bits_of}
 use Rattle.thread_local_thread_id.specs.declared.id_bits.IdBits.TheInside.{Inside}
 
 -- the bits below the peak are the held ids, and the room is the number of bits, or that of all ids

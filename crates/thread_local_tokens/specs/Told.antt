@@ -14,7 +14,7 @@ use denote.RattleType.{RattleType}
 use Rattle.thread_local_model.specs.Place.{id_at}
 use Rattle.thread_local_model.specs.Rows.{empty_row}
 use Rattle.thread_local_model.specs.Buckets.{Contents, IsTable}
-use Rattle.thread_local_lemmas.specs.Fact.{fact}
+use Rattle.thread_local_model.specs.Fact.{fact}
 
 abbrev code_of_code : Coded Gv
 code_of_code = record { code = λ g. g; inj = λ x y e. e }

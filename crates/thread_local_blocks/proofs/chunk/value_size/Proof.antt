@@ -1,9 +1,9 @@
 -- `value_size` is the size of a value.
-use Rattle.thread_local_lemmas.proofs.Names.{◌≡◌, ℕ, ◌^◌, ◌<◌, List, [], ◌∷◌, refl, w64, a_type, Val, vint, inst_fn}
-use Rattle.thread_local_lemmas.proofs.Names.{SProp, emp, ftrue, ‵, raw, ◌⊛◌, ◌$◌, ◌∵◌, !, qed, by, keep, use0, split}
-use Rattle.thread_local_lemmas.proofs.Names.{fjoin, feq_i, flt_i, size_word, of_opd, returns, enter, alloc_all}
-use Rattle.thread_local_lemmas.proofs.Names.{pass_all, free_all, look_at, sets, tables, fact, fact_i, RattleType}
-use Rattle.thread_local_lemmas.proofs.Names.{nothing, param, layouts, alive, walk_of, proved, leaves}
+use Rattle.thread_local_model.proofs.Names.{◌≡◌, ℕ, ◌^◌, ◌<◌, List, [], ◌∷◌, refl, w64, a_type, Val, vint, inst_fn}
+use Rattle.thread_local_model.proofs.Names.{SProp, emp, ftrue, ‵, raw, ◌⊛◌, ◌$◌, ◌∵◌, !, qed, by, keep, use0, split}
+use Rattle.thread_local_model.proofs.Names.{fjoin, feq_i, flt_i, size_word, of_opd, returns, enter, alloc_all}
+use Rattle.thread_local_model.proofs.Names.{pass_all, free_all, look_at, sets, tables, fact, fact_i, RattleType}
+use Rattle.thread_local_model.proofs.Names.{nothing, param, layouts, alive, walk_of, proved, leaves}
 use prog.Memory.{capped}
 use prog.Capped.{capped_fits}
 use Rattle.thread_local_blocks.specs.Slots.{stride}

@@ -1,6 +1,6 @@
 use Rattle.std.proofs.Common.{◌≡◌, ℕ, ◌+◌, ◌*◌, ◌<◌, ◌≤◌, refl, ◌∙◌, subst, is_some, arith, ⊎_elim}
 use Rattle.std.proofs.lemmas.Bool.{cases_lt}
-use Rattle.thread_local_lemmas.specs.Bits.{is_set}
+use Rattle.thread_local_model.specs.Bits.{is_set}
 use Rattle.thread_local_model.specs.Rows.{value_in}
 use Rattle.thread_local_cursor.specs.Cursor.{AreFlagsAt}
 use Rattle.thread_local_cursor.proofs.FlagLaws.{none_at_hand, none_in_chunk, chunk_read, behind_chunk}

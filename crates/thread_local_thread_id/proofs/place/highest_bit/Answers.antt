@@ -1,6 +1,6 @@
 use Rattle.std.proofs.Common.{arith}
 use Rattle.std.proofs.lemmas.Nat.{le_or_r}
-use Rattle.thread_local_lemmas.proofs.Word.{highest_kept}
+use Rattle.thread_local_model.proofs.Word.{highest_kept}
 use Rattle.thread_local_thread_id.proofs.place.highest_bit.Goals as goal
 
 pub ilog2-requires : goal.ilog2-requires

@@ -1,5 +1,5 @@
 use Rattle.std.proofs.Common.{◌≡◌, ℕ, ◌*◌, ◌<◌, ◌≤◌, true}
-use Rattle.thread_local_lemmas.specs.Bits.{is_set_in}
+use Rattle.thread_local_model.specs.Bits.{is_set_in}
 use Rattle.thread_local_thread_id.proofs.words.next_unset.Given as goal
 
 -- every bit of the words so far is set

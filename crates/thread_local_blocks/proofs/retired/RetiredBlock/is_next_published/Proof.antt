@@ -1,23 +1,23 @@
 -- `is_next_published` reads the flag of the next slot, which becomes room where the flag isn't set.
-use Rattle.thread_local_lemmas.proofs.Names.{lit<, ◌≡◌, ℕ, ◌+◌, ◌*◌, ◌^◌, ◌<◌, List, [], ◌∷◌, length, sym, refl, ap}
-use Rattle.thread_local_lemmas.proofs.Names.{◌∙◌, subst, w64, Bool, Option, Ty, a_type, dcons, dnil, named, Val, vint}
-use Rattle.thread_local_lemmas.proofs.Names.{vptr, inst_fn, full_share, SProp, emp, Fml, ftrue, fsep, flft, ‵, raw, ◌⊛◌}
-use Rattle.thread_local_lemmas.proofs.Names.{given, at_ret, ◌$◌, ◌∵◌, !, qed, by, move, keep, use0, use1, use2, split}
-use Rattle.thread_local_lemmas.proofs.Names.{join, fsplit, fsplit3, fjoin, fjoin3, learn, rewrite, feq_i, stop, fld}
-use Rattle.thread_local_lemmas.proofs.Names.{load, look, lit, of_opd, bin, first, blocks, exec, returns, enter}
-use Rattle.thread_local_lemmas.proofs.Names.{alloc_all, pass_all, free_all, look_at, get, through, sets, sets_last, is}
-use Rattle.thread_local_lemmas.proofs.Names.{env, sub, look_in, whole, tables, fact, fact_i, yes, RattleType, owns}
-use Rattle.thread_local_lemmas.proofs.Names.{types_at, plain, Ptr, block_ptr, block_of, count_of, at_block, nothing}
-use Rattle.thread_local_lemmas.proofs.Names.{heard, opens, closes, peeks, shows, param, bounded, usize, mut_vals}
-use Rattle.thread_local_lemmas.proofs.Names.{mut_Tells, uint_vals, uint_Tells, Stays, stay_dropped, stay_ref, walk_of}
-use Rattle.thread_local_lemmas.proofs.Names.{Goes-dropped, Goes-ref, cell_at, proved, leaves, after}
+use Rattle.thread_local_model.proofs.Names.{lit<, ◌≡◌, ℕ, ◌+◌, ◌*◌, ◌^◌, ◌<◌, List, [], ◌∷◌, length, sym, refl, ap}
+use Rattle.thread_local_model.proofs.Names.{◌∙◌, subst, w64, Bool, Option, Ty, a_type, dcons, dnil, named, Val, vint}
+use Rattle.thread_local_model.proofs.Names.{vptr, inst_fn, full_share, SProp, emp, Fml, ftrue, fsep, flft, ‵, raw, ◌⊛◌}
+use Rattle.thread_local_model.proofs.Names.{given, at_ret, ◌$◌, ◌∵◌, !, qed, by, move, keep, use0, use1, use2, split}
+use Rattle.thread_local_model.proofs.Names.{join, fsplit, fsplit3, fjoin, fjoin3, learn, rewrite, feq_i, stop, fld}
+use Rattle.thread_local_model.proofs.Names.{load, look, lit, of_opd, bin, first, blocks, exec, returns, enter}
+use Rattle.thread_local_model.proofs.Names.{alloc_all, pass_all, free_all, look_at, get, through, sets, sets_last, is}
+use Rattle.thread_local_model.proofs.Names.{env, sub, look_in, whole, tables, fact, fact_i, yes, RattleType, owns}
+use Rattle.thread_local_model.proofs.Names.{types_at, plain, Ptr, block_ptr, block_of, count_of, at_block, nothing}
+use Rattle.thread_local_model.proofs.Names.{heard, opens, closes, peeks, shows, param, bounded, usize, mut_vals}
+use Rattle.thread_local_model.proofs.Names.{mut_Tells, uint_vals, uint_Tells, Stays, stay_dropped, stay_ref, walk_of}
+use Rattle.thread_local_model.proofs.Names.{Goes-dropped, Goes-ref, cell_at, proved, leaves, after}
 use Rattle.std.specs.Prelude.{◌/◌, ◌%◌, is_some, bit_and, if◌then◌else◌}
 use base.Logic.{apply∗}
 use types.Kit.{some, pick}
 use types.Logic.{sem}
 use mir.Val.{vbool}
 use lib.Dec.{eqb}
-use Rattle.thread_local_lemmas.proofs.Word.{is_set-test, masked_fits, place_below, bit_fits, shifted_right}
+use Rattle.thread_local_model.proofs.Word.{is_set-test, masked_fits, place_below, bit_fits, shifted_right}
 use Rattle.thread_local_blocks.specs.Slots.{slot_value, value_words, flag_word_at}
 use Rattle.thread_local_blocks.proofs.Slots.{flags_of}
 use Rattle.thread_local_blocks.specs.Retired.{retired_owns, rest}

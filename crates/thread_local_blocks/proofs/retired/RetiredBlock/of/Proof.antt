@@ -1,12 +1,12 @@
 -- `of` takes the block's pointer.
-use Rattle.thread_local_lemmas.proofs.Names.{◌≡◌, ℕ, List, [], ◌∷◌, refl, w64, Option, Ty, a_type, dcons, dnil, Val}
-use Rattle.thread_local_lemmas.proofs.Names.{vint, inst_fn, SProp, emp, Fml, ‵, raw, ◌⊛◌, ◌$◌, ◌∵◌, !, qed, by, move}
-use Rattle.thread_local_lemmas.proofs.Names.{keep, use0, use1, split, fsplit, fjoin, rewrite, stop, fld, of_opd}
-use Rattle.thread_local_lemmas.proofs.Names.{no_more, and_then, returns, enter, alloc_all, pass_all, free_all, look_at}
-use Rattle.thread_local_lemmas.proofs.Names.{get, get_in, sets, agg, sub, whole, tables, fact, fact_i, yes, no}
-use Rattle.thread_local_lemmas.proofs.Names.{RattleType, owns, types_at, plain, Ptr, nothing, heard, param, bounded}
-use Rattle.thread_local_lemmas.proofs.Names.{alive, usize, uint_vals, uint_Tells, Stays, stay_dropped, walk_of}
-use Rattle.thread_local_lemmas.proofs.Names.{Goes-dropped, proved, leaves}
+use Rattle.thread_local_model.proofs.Names.{◌≡◌, ℕ, List, [], ◌∷◌, refl, w64, Option, Ty, a_type, dcons, dnil, Val}
+use Rattle.thread_local_model.proofs.Names.{vint, inst_fn, SProp, emp, Fml, ‵, raw, ◌⊛◌, ◌$◌, ◌∵◌, !, qed, by, move}
+use Rattle.thread_local_model.proofs.Names.{keep, use0, use1, split, fsplit, fjoin, rewrite, stop, fld, of_opd}
+use Rattle.thread_local_model.proofs.Names.{no_more, and_then, returns, enter, alloc_all, pass_all, free_all, look_at}
+use Rattle.thread_local_model.proofs.Names.{get, get_in, sets, agg, sub, whole, tables, fact, fact_i, yes, no}
+use Rattle.thread_local_model.proofs.Names.{RattleType, owns, types_at, plain, Ptr, nothing, heard, param, bounded}
+use Rattle.thread_local_model.proofs.Names.{alive, usize, uint_vals, uint_Tells, Stays, stay_dropped, walk_of}
+use Rattle.thread_local_model.proofs.Names.{Goes-dropped, proved, leaves}
 use Rattle.std.specs.Prelude.{take, drop as but_first}
 use Rattle.thread_local_blocks.specs.Slots.{empty_slots, block_owns}
 use Rattle.thread_local_blocks.specs.Retired.{retired_owns}

@@ -1,9 +1,9 @@
 -- `null` makes a null pointer, which owns nothing.
-use Rattle.thread_local_lemmas.proofs.Names.{◌≡◌, [], ◌∷◌, refl, a_type, Val, inst_fn, SProp, emp, ftrue, ‵, raw, ◌⊛◌}
-use Rattle.thread_local_lemmas.proofs.Names.{◌$◌, ◌∵◌, !, qed, by, keep, use0, split, fjoin, fpack, lit, no_more}
-use Rattle.thread_local_lemmas.proofs.Names.{and_then, returns, enter, alloc_all, pass_all, free_all, look_at, sets}
-use Rattle.thread_local_lemmas.proofs.Names.{agg, tables, fact, fact_i, RattleType, null_ptr, nothing, param, layouts}
-use Rattle.thread_local_lemmas.proofs.Names.{alive, walk_of, proved, leaves}
+use Rattle.thread_local_model.proofs.Names.{◌≡◌, [], ◌∷◌, refl, a_type, Val, inst_fn, SProp, emp, ftrue, ‵, raw, ◌⊛◌}
+use Rattle.thread_local_model.proofs.Names.{◌$◌, ◌∵◌, !, qed, by, keep, use0, split, fjoin, fpack, lit, no_more}
+use Rattle.thread_local_model.proofs.Names.{and_then, returns, enter, alloc_all, pass_all, free_all, look_at, sets}
+use Rattle.thread_local_model.proofs.Names.{agg, tables, fact, fact_i, RattleType, null_ptr, nothing, param, layouts}
+use Rattle.thread_local_model.proofs.Names.{alive, walk_of, proved, leaves}
 use Rattle.thread_local_bucket_pointers.specs.contracts.bucket_pointer.BucketPointer as one_pointer
 use Rattle.thread_local_bucket_pointers.specs.contracts.bucket_pointer.BucketPointer.null.{ended, clauses}
 use Rattle.thread_local_bucket_pointers.specs.contracts.bucket_pointer.BucketPointer.null.Key.{name as #self}

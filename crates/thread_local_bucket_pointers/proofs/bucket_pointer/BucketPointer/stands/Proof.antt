@@ -1,13 +1,13 @@
 -- `stands` tests the pointer, which is null where there are no slots.
-use Rattle.thread_local_lemmas.proofs.Names.{◌≡◌, ℕ, List, [], ◌∷◌, sym, refl, Bool, Option, a_type, named, Val, vptr}
-use Rattle.thread_local_lemmas.proofs.Names.{inst_fn, full_share, SProp, emp, guard_i, Fml, ftrue, fsep, flft, sem, ‵}
-use Rattle.thread_local_lemmas.proofs.Names.{raw, ◌⊛◌, given, ◌$◌, ◌∵◌, !, qed, by, move, keep, use0, use1, split, join}
-use Rattle.thread_local_lemmas.proofs.Names.{fsplit, fsplit3, fjoin, fjoin3, learn, rewrite, feq_i, stop, fld, load}
-use Rattle.thread_local_lemmas.proofs.Names.{lit, of_opd, bin, returns, enter, alloc_all, pass_all, free_all, look_at}
-use Rattle.thread_local_lemmas.proofs.Names.{get, through, sets, sub, look_in, whole, tables, fact, fact_i, fact_use}
-use Rattle.thread_local_lemmas.proofs.Names.{RattleType, owns, types_at, plain, Ptr, ptr_val, nothing, opens, closes}
-use Rattle.thread_local_lemmas.proofs.Names.{peeks, shows, param, layouts, mut_vals, mut_Tells, Stays, stay_ref}
-use Rattle.thread_local_lemmas.proofs.Names.{walk_of, Goes-ref, cell_at, proved, leaves, length}
+use Rattle.thread_local_model.proofs.Names.{◌≡◌, ℕ, List, [], ◌∷◌, sym, refl, Bool, Option, a_type, named, Val, vptr}
+use Rattle.thread_local_model.proofs.Names.{inst_fn, full_share, SProp, emp, guard_i, Fml, ftrue, fsep, flft, sem, ‵}
+use Rattle.thread_local_model.proofs.Names.{raw, ◌⊛◌, given, ◌$◌, ◌∵◌, !, qed, by, move, keep, use0, use1, split, join}
+use Rattle.thread_local_model.proofs.Names.{fsplit, fsplit3, fjoin, fjoin3, learn, rewrite, feq_i, stop, fld, load}
+use Rattle.thread_local_model.proofs.Names.{lit, of_opd, bin, returns, enter, alloc_all, pass_all, free_all, look_at}
+use Rattle.thread_local_model.proofs.Names.{get, through, sets, sub, look_in, whole, tables, fact, fact_i, fact_use}
+use Rattle.thread_local_model.proofs.Names.{RattleType, owns, types_at, plain, Ptr, ptr_val, nothing, opens, closes}
+use Rattle.thread_local_model.proofs.Names.{peeks, shows, param, layouts, mut_vals, mut_Tells, Stays, stay_ref}
+use Rattle.thread_local_model.proofs.Names.{walk_of, Goes-ref, cell_at, proved, leaves, length}
 use Rattle.std.specs.Prelude.{not, nat_lt}
 use mir.Val.{ptr_same, vnull, vbool}
 use types.Run.{un}

@@ -1,14 +1,14 @@
 -- `lend` takes the address of the pointers, and splits the owner's borrow to make what a loan owns.
-use Rattle.thread_local_lemmas.proofs.Names.{◌≡◌, ℕ, ◌+◌, [], ◌∷◌, refl, ap, full_share, a_type, named, Val, vptr}
-use Rattle.thread_local_lemmas.proofs.Names.{inst_fn, SProp, ent, ex, sep, sem, emp, Lft, Share, GName, Fml, ftrue}
-use Rattle.thread_local_lemmas.proofs.Names.{fsep, flft, ‵, raw, ◌⊛◌, some, given, later, ◌$◌, ◌∵◌, !, qed, by, move}
-use Rattle.thread_local_lemmas.proofs.Names.{keep, split, split3, join, fsplit, fsplit3, fjoin, pick, learn, group}
-use Rattle.thread_local_lemmas.proofs.Names.{use0, use1, use2, await, stop, fld, addr, of_opd, returns, enter}
-use Rattle.thread_local_lemmas.proofs.Names.{alloc_all, pass_all, free_all, look_at, get, through, sets, open_ref}
-use Rattle.thread_local_lemmas.proofs.Names.{tables, fact_i, no, RattleType, owns, types_at, plain, named_lft}
-use Rattle.thread_local_lemmas.proofs.Names.{block_ptr, nothing, mem, lone, part_at, param, param_laws, layouts, usize}
-use Rattle.thread_local_lemmas.proofs.Names.{RefMutOf, mut_vals, mut_Tells, Stays, stay_dropped, walk_of, proved}
-use Rattle.thread_local_lemmas.proofs.Names.{leaves, Member, w64}
+use Rattle.thread_local_model.proofs.Names.{◌≡◌, ℕ, ◌+◌, [], ◌∷◌, refl, ap, full_share, a_type, named, Val, vptr}
+use Rattle.thread_local_model.proofs.Names.{inst_fn, SProp, ent, ex, sep, sem, emp, Lft, Share, GName, Fml, ftrue}
+use Rattle.thread_local_model.proofs.Names.{fsep, flft, ‵, raw, ◌⊛◌, some, given, later, ◌$◌, ◌∵◌, !, qed, by, move}
+use Rattle.thread_local_model.proofs.Names.{keep, split, split3, join, fsplit, fsplit3, fjoin, pick, learn, group}
+use Rattle.thread_local_model.proofs.Names.{use0, use1, use2, await, stop, fld, addr, of_opd, returns, enter}
+use Rattle.thread_local_model.proofs.Names.{alloc_all, pass_all, free_all, look_at, get, through, sets, open_ref}
+use Rattle.thread_local_model.proofs.Names.{tables, fact_i, no, RattleType, owns, types_at, plain, named_lft}
+use Rattle.thread_local_model.proofs.Names.{block_ptr, nothing, mem, lone, part_at, param, param_laws, layouts, usize}
+use Rattle.thread_local_model.proofs.Names.{RefMutOf, mut_vals, mut_Tells, Stays, stay_dropped, walk_of, proved}
+use Rattle.thread_local_model.proofs.Names.{leaves, Member, w64}
 use contract.Monad.{fact}
 use types.Logic.{Logic}
 use types.Run.{no_more, and_then}

@@ -3,19 +3,19 @@
 use types.Part.{store_in}
 use Rattle.thread_local_blocks.specs.Slots.{stride, value_offset}
 use Rattle.thread_local_blocks.proofs.Flags.{uncapped, value_near}
-use Rattle.thread_local_lemmas.proofs.Names.{drop, is, size_word, assigns, unit_lit, vunit, cell, length, apply∗, sem}
-use Rattle.thread_local_lemmas.proofs.Names.{◌≡◌, ℕ, ◌+◌, ◌*◌, ◌^◌, ◌<◌, List, [], ◌∷◌, sym, refl, ap, ◌∙◌, subst}
-use Rattle.thread_local_lemmas.proofs.Names.{arith, w64, a_type, named, Val, vint, vptr, inst_fn, full_share, SProp}
-use Rattle.thread_local_lemmas.proofs.Names.{emp, Fml, ftrue, fsep, flft, ‵, raw, ◌⊛◌, at_ret, ◌$◌, ◌∵◌, !, qed, by}
-use Rattle.thread_local_lemmas.proofs.Names.{move, keep, use0, use1, use2, split, join, fsplit, fsplit3, fjoin, fjoin3}
-use Rattle.thread_local_lemmas.proofs.Names.{fpick, fpack, rewrite, feq_i, stop, fld, load, lit, of_opd, bin, first}
-use Rattle.thread_local_lemmas.proofs.Names.{blocks, exec, returns, enter, look, alloc_all, pass_all, free_all, look_at}
-use Rattle.thread_local_lemmas.proofs.Names.{get, through, sets, sets_last, env, sub, look_in, whole, bor_open}
-use Rattle.thread_local_lemmas.proofs.Names.{obor_close, tables, fact_i, yes, RattleType, owns, types_at, plain}
-use Rattle.thread_local_lemmas.proofs.Names.{named_lft, Ptr, block_ptr, block_of, count_of, at_block, nothing, heard}
-use Rattle.thread_local_lemmas.proofs.Names.{opens, closes, peeks, Is, shows, cell_at, param, layouts, usize, mut_vals}
-use Rattle.thread_local_lemmas.proofs.Names.{mut_Tells, uint_vals, uint_Tells, Stays, stay_dropped, stay_ref, walk_of}
-use Rattle.thread_local_lemmas.proofs.Names.{Goes-dropped, Goes-ref, proved, leaves}
+use Rattle.thread_local_model.proofs.Names.{drop, is, size_word, assigns, unit_lit, vunit, cell, length, apply∗, sem}
+use Rattle.thread_local_model.proofs.Names.{◌≡◌, ℕ, ◌+◌, ◌*◌, ◌^◌, ◌<◌, List, [], ◌∷◌, sym, refl, ap, ◌∙◌, subst}
+use Rattle.thread_local_model.proofs.Names.{arith, w64, a_type, named, Val, vint, vptr, inst_fn, full_share, SProp}
+use Rattle.thread_local_model.proofs.Names.{emp, Fml, ftrue, fsep, flft, ‵, raw, ◌⊛◌, at_ret, ◌$◌, ◌∵◌, !, qed, by}
+use Rattle.thread_local_model.proofs.Names.{move, keep, use0, use1, use2, split, join, fsplit, fsplit3, fjoin, fjoin3}
+use Rattle.thread_local_model.proofs.Names.{fpick, fpack, rewrite, feq_i, stop, fld, load, lit, of_opd, bin, first}
+use Rattle.thread_local_model.proofs.Names.{blocks, exec, returns, enter, look, alloc_all, pass_all, free_all, look_at}
+use Rattle.thread_local_model.proofs.Names.{get, through, sets, sets_last, env, sub, look_in, whole, bor_open}
+use Rattle.thread_local_model.proofs.Names.{obor_close, tables, fact_i, yes, RattleType, owns, types_at, plain}
+use Rattle.thread_local_model.proofs.Names.{named_lft, Ptr, block_ptr, block_of, count_of, at_block, nothing, heard}
+use Rattle.thread_local_model.proofs.Names.{opens, closes, peeks, Is, shows, cell_at, param, layouts, usize, mut_vals}
+use Rattle.thread_local_model.proofs.Names.{mut_Tells, uint_vals, uint_Tells, Stays, stay_dropped, stay_ref, walk_of}
+use Rattle.thread_local_model.proofs.Names.{Goes-dropped, Goes-ref, proved, leaves}
 use contract.Monad.{fact}
 use Rattle.std.proofs.alloc.Shapes.{after}
 use Rattle.thread_local_model.specs.Buckets.{row}

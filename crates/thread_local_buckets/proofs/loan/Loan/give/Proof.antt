@@ -1,18 +1,18 @@
 -- `give` computes the address of a slot's value, and splits the value from those that the loan has
 -- left.
-use Rattle.thread_local_lemmas.proofs.Names.{drop, split3, Some, IsSome, pick, some, later, await, fobs, addr, MutBor}
-use Rattle.thread_local_lemmas.proofs.Names.{mem, is, size_word, length, None, ◌≤◌, ◌≡◌, ℕ, ◌+◌, ◌*◌, ◌^◌, ◌<◌, List}
-use Rattle.thread_local_lemmas.proofs.Names.{[], ◌∷◌, sym, refl, ap, ◌∙◌, subst, w64, a_type, named, Val, vint, vptr}
-use Rattle.thread_local_lemmas.proofs.Names.{inst_fn, full_share, SProp, emp, GName, Fml, ftrue, fsep, flft, fbor, ‵}
-use Rattle.thread_local_lemmas.proofs.Names.{raw, ◌⊛◌, at_ret, ◌$◌, ◌∵◌, !, qed, by, move, keep, use0, use2, split}
-use Rattle.thread_local_lemmas.proofs.Names.{join, fsplit, fsplit3, fjoin, fjoin3, fpick, fpack, rewrite, feq_i, stop}
-use Rattle.thread_local_lemmas.proofs.Names.{fld, load, of_opd, bin, first, blocks, exec, returns, enter, alloc_all}
-use Rattle.thread_local_lemmas.proofs.Names.{pass_all, free_all, look_at, get, through, sets, sets_last, env, sub}
-use Rattle.thread_local_lemmas.proofs.Names.{look_in, whole, tables, fact_i, yes, RattleType, owns, types_at, plain}
-use Rattle.thread_local_lemmas.proofs.Names.{named_lft, Ptr, block_ptr, block_of, count_of, at_block, nothing, heard}
-use Rattle.thread_local_lemmas.proofs.Names.{opens, closes, peeks, Is, shows, cell_at, param, layouts, usize, mut_vals}
-use Rattle.thread_local_lemmas.proofs.Names.{mut_Tells, uint_vals, uint_Tells, Stays, stay_dropped, stay_ref, walk_of}
-use Rattle.thread_local_lemmas.proofs.Names.{Goes-dropped, Goes-ref, proved, leaves}
+use Rattle.thread_local_model.proofs.Names.{drop, split3, Some, IsSome, pick, some, later, await, fobs, addr, MutBor}
+use Rattle.thread_local_model.proofs.Names.{mem, is, size_word, length, None, ◌≤◌, ◌≡◌, ℕ, ◌+◌, ◌*◌, ◌^◌, ◌<◌, List}
+use Rattle.thread_local_model.proofs.Names.{[], ◌∷◌, sym, refl, ap, ◌∙◌, subst, w64, a_type, named, Val, vint, vptr}
+use Rattle.thread_local_model.proofs.Names.{inst_fn, full_share, SProp, emp, GName, Fml, ftrue, fsep, flft, fbor, ‵}
+use Rattle.thread_local_model.proofs.Names.{raw, ◌⊛◌, at_ret, ◌$◌, ◌∵◌, !, qed, by, move, keep, use0, use2, split}
+use Rattle.thread_local_model.proofs.Names.{join, fsplit, fsplit3, fjoin, fjoin3, fpick, fpack, rewrite, feq_i, stop}
+use Rattle.thread_local_model.proofs.Names.{fld, load, of_opd, bin, first, blocks, exec, returns, enter, alloc_all}
+use Rattle.thread_local_model.proofs.Names.{pass_all, free_all, look_at, get, through, sets, sets_last, env, sub}
+use Rattle.thread_local_model.proofs.Names.{look_in, whole, tables, fact_i, yes, RattleType, owns, types_at, plain}
+use Rattle.thread_local_model.proofs.Names.{named_lft, Ptr, block_ptr, block_of, count_of, at_block, nothing, heard}
+use Rattle.thread_local_model.proofs.Names.{opens, closes, peeks, Is, shows, cell_at, param, layouts, usize, mut_vals}
+use Rattle.thread_local_model.proofs.Names.{mut_Tells, uint_vals, uint_Tells, Stays, stay_dropped, stay_ref, walk_of}
+use Rattle.thread_local_model.proofs.Names.{Goes-dropped, Goes-ref, proved, leaves}
 use types.SemTy.{Body}
 use contract.Monad.{fact}
 use denote.Follow.{both_by}

@@ -1,16 +1,16 @@
 -- `stands` reads a bucket's pointer.
-use Rattle.thread_local_lemmas.proofs.Names.{drop, apply∗, sem, ◌≡◌, ℕ, ◌+◌, ◌*◌, ◌^◌, ◌<◌, List, [], ◌∷◌, sym, refl}
-use Rattle.thread_local_lemmas.proofs.Names.{ap, ◌∙◌, subst, arith, w64, Bool, a_type, named, Val, vint, vptr, inst_fn}
-use Rattle.thread_local_lemmas.proofs.Names.{full_share, SProp, emp, Fml, ftrue, fsep, flft, ‵, raw, ◌⊛◌, at_ret, ◌$◌}
-use Rattle.thread_local_lemmas.proofs.Names.{◌∵◌, !, qed, by, move, keep, use0, use1, use2, split, join, fsplit}
-use Rattle.thread_local_lemmas.proofs.Names.{fsplit3, fjoin, fjoin3, fpick, fpack, rewrite, feq_i, stop, fld, load, lit}
-use Rattle.thread_local_lemmas.proofs.Names.{of_opd, bin, un, first, blocks, exec, returns, enter, look, alloc_all}
-use Rattle.thread_local_lemmas.proofs.Names.{pass_all, free_all, look_at, get, through, sets, sets_last, env, sub}
-use Rattle.thread_local_lemmas.proofs.Names.{look_in, whole, bor_open, obor_close, tables, fact_i, yes, RattleType}
-use Rattle.thread_local_lemmas.proofs.Names.{owns, types_at, plain, named_lft, Ptr, block_ptr, block_of, count_of}
-use Rattle.thread_local_lemmas.proofs.Names.{at_block, nothing, heard, opens, closes, peeks, Is, shows, cell_at, param}
-use Rattle.thread_local_lemmas.proofs.Names.{layouts, usize, mut_vals, mut_Tells, uint_vals, uint_Tells, Stays}
-use Rattle.thread_local_lemmas.proofs.Names.{stay_dropped, stay_ref, walk_of, Goes-dropped, Goes-ref, proved, leaves}
+use Rattle.thread_local_model.proofs.Names.{drop, apply∗, sem, ◌≡◌, ℕ, ◌+◌, ◌*◌, ◌^◌, ◌<◌, List, [], ◌∷◌, sym, refl}
+use Rattle.thread_local_model.proofs.Names.{ap, ◌∙◌, subst, arith, w64, Bool, a_type, named, Val, vint, vptr, inst_fn}
+use Rattle.thread_local_model.proofs.Names.{full_share, SProp, emp, Fml, ftrue, fsep, flft, ‵, raw, ◌⊛◌, at_ret, ◌$◌}
+use Rattle.thread_local_model.proofs.Names.{◌∵◌, !, qed, by, move, keep, use0, use1, use2, split, join, fsplit}
+use Rattle.thread_local_model.proofs.Names.{fsplit3, fjoin, fjoin3, fpick, fpack, rewrite, feq_i, stop, fld, load, lit}
+use Rattle.thread_local_model.proofs.Names.{of_opd, bin, un, first, blocks, exec, returns, enter, look, alloc_all}
+use Rattle.thread_local_model.proofs.Names.{pass_all, free_all, look_at, get, through, sets, sets_last, env, sub}
+use Rattle.thread_local_model.proofs.Names.{look_in, whole, bor_open, obor_close, tables, fact_i, yes, RattleType}
+use Rattle.thread_local_model.proofs.Names.{owns, types_at, plain, named_lft, Ptr, block_ptr, block_of, count_of}
+use Rattle.thread_local_model.proofs.Names.{at_block, nothing, heard, opens, closes, peeks, Is, shows, cell_at, param}
+use Rattle.thread_local_model.proofs.Names.{layouts, usize, mut_vals, mut_Tells, uint_vals, uint_Tells, Stays}
+use Rattle.thread_local_model.proofs.Names.{stay_dropped, stay_ref, walk_of, Goes-dropped, Goes-ref, proved, leaves}
 use contract.Monad.{fact}
 use mir.Val.{vbool, vnull, ptr_same}
 use denote.RawPtr.{ptr_val}

@@ -1,14 +1,14 @@
 -- `agrees` is a ghost step under the bucket's invariant: a claim that has found no value contradicts
 -- what is told of its id.
-use Rattle.thread_local_lemmas.proofs.Names.{◌≡◌, ℕ, List, [], ◌∷◌, refl, sym, Some, Option, dnil, a_type, named, Val}
-use Rattle.thread_local_lemmas.proofs.Names.{vptr, vunit, inst_fn, SProp, emp, Lft, Share, Fml, ftrue, fsep, flft, ‵}
-use Rattle.thread_local_lemmas.proofs.Names.{raw, ◌⊛◌, given, later, ◌$◌, ◌∵◌, !, qed, by, move, keep, drop, split}
-use Rattle.thread_local_lemmas.proofs.Names.{split3, join, fsplit, fsplit3, fjoin, fjoin3, learn, await, use0, use3}
-use Rattle.thread_local_lemmas.proofs.Names.{rewrite, feq_i, of_opd, unit_lit, returns, enter, alloc_all, pass_all}
-use Rattle.thread_local_lemmas.proofs.Names.{free_all, look_at, sets, tables, fact, fact_i, yes, RattleType, owns}
-use Rattle.thread_local_lemmas.proofs.Names.{types_at, plain, named_lft, opens, closes, nothing, heard, unhide, param}
-use Rattle.thread_local_lemmas.proofs.Names.{bounded, RefOf, mut_vals, mut_Tells, shr_vals, shr_Tells, Stays}
-use Rattle.thread_local_lemmas.proofs.Names.{stay_dropped, stay_ref, walk_of, Goes-dropped, Goes-ref, proved, leaves}
+use Rattle.thread_local_model.proofs.Names.{◌≡◌, ℕ, List, [], ◌∷◌, refl, sym, Some, Option, dnil, a_type, named, Val}
+use Rattle.thread_local_model.proofs.Names.{vptr, vunit, inst_fn, SProp, emp, Lft, Share, Fml, ftrue, fsep, flft, ‵}
+use Rattle.thread_local_model.proofs.Names.{raw, ◌⊛◌, given, later, ◌$◌, ◌∵◌, !, qed, by, move, keep, drop, split}
+use Rattle.thread_local_model.proofs.Names.{split3, join, fsplit, fsplit3, fjoin, fjoin3, learn, await, use0, use3}
+use Rattle.thread_local_model.proofs.Names.{rewrite, feq_i, of_opd, unit_lit, returns, enter, alloc_all, pass_all}
+use Rattle.thread_local_model.proofs.Names.{free_all, look_at, sets, tables, fact, fact_i, yes, RattleType, owns}
+use Rattle.thread_local_model.proofs.Names.{types_at, plain, named_lft, opens, closes, nothing, heard, unhide, param}
+use Rattle.thread_local_model.proofs.Names.{bounded, RefOf, mut_vals, mut_Tells, shr_vals, shr_Tells, Stays}
+use Rattle.thread_local_model.proofs.Names.{stay_dropped, stay_ref, walk_of, Goes-dropped, Goes-ref, proved, leaves}
 use Rattle.std.proofs.Common.{IsSome}
 use Rattle.thread_local_model.specs.Learnt.{Learnt, Holding}
 use Rattle.thread_local_tokens.specs.Told.{tells}

@@ -1,19 +1,19 @@
 -- `find` loads the bucket's pointer: at null, it takes the pass for the right. Else it loads the
 -- word of the slot's flag, and takes what the slot holds.
-use Rattle.thread_local_lemmas.proofs.Names.{Option, lit<, ◌≡◌, ℕ, ◌+◌, ◌^◌, [], ◌∷◌, refl, sym, ap, ◌∙◌, subst, true}
-use Rattle.thread_local_lemmas.proofs.Names.{a_type, Val, vptr, inst_fn, SProp, wand, emp, via, id⊢, apply∗, Lft, Share}
-use Rattle.thread_local_lemmas.proofs.Names.{Fml, ftrue, fsep, flft, fbor, finv, sem, ‵, raw, ◌⊛◌, some, later, mean}
-use Rattle.thread_local_lemmas.proofs.Names.{at_ret, ◌$◌, ◌∵◌, !, qed, by, move, keep, drop, split, join, fsplit, fjoin}
-use Rattle.thread_local_lemmas.proofs.Names.{fpick, fpack, pick, use0, use1, use2, use3, await, rewrite, group, fld}
-use Rattle.thread_local_lemmas.proofs.Names.{stop, addr, lit, of_opd, no_more, and_then, first, blocks, exec}
-use Rattle.thread_local_lemmas.proofs.Names.{Calls-last, returns, enter, alloc_all, pass_all, free_all, look_at, get}
-use Rattle.thread_local_lemmas.proofs.Names.{get_in, through, sets, sets_last, size_word, lands_last, env, agg, sub}
-use Rattle.thread_local_lemmas.proofs.Names.{whole, tables, fact, fact_i, no, RattleType, owns, types_at, plain}
-use Rattle.thread_local_lemmas.proofs.Names.{named_lft, Ptr, block_ptr, block_of, count_of, at_block, nothing, heard}
-use Rattle.thread_local_lemmas.proofs.Names.{param, bounded, Stays, stay_dropped, walk_of, Goes-dropped, proved, leaves}
-use Rattle.thread_local_lemmas.proofs.Names.{fm, found, finds, Lends-one, ◌*◌, ◌<◌, ◌≢◌, length, Bool, false, dnil, bin}
-use Rattle.thread_local_lemmas.proofs.Names.{branches, is, null_ptr, ptr_val, u64, after, uint_vals, uint_Tells, usize}
-use Rattle.thread_local_lemmas.proofs.Names.{yes, fsplit3, vint, w64}
+use Rattle.thread_local_model.proofs.Names.{Option, lit<, ◌≡◌, ℕ, ◌+◌, ◌^◌, [], ◌∷◌, refl, sym, ap, ◌∙◌, subst, true}
+use Rattle.thread_local_model.proofs.Names.{a_type, Val, vptr, inst_fn, SProp, wand, emp, via, id⊢, apply∗, Lft, Share}
+use Rattle.thread_local_model.proofs.Names.{Fml, ftrue, fsep, flft, fbor, finv, sem, ‵, raw, ◌⊛◌, some, later, mean}
+use Rattle.thread_local_model.proofs.Names.{at_ret, ◌$◌, ◌∵◌, !, qed, by, move, keep, drop, split, join, fsplit, fjoin}
+use Rattle.thread_local_model.proofs.Names.{fpick, fpack, pick, use0, use1, use2, use3, await, rewrite, group, fld}
+use Rattle.thread_local_model.proofs.Names.{stop, addr, lit, of_opd, no_more, and_then, first, blocks, exec}
+use Rattle.thread_local_model.proofs.Names.{Calls-last, returns, enter, alloc_all, pass_all, free_all, look_at, get}
+use Rattle.thread_local_model.proofs.Names.{get_in, through, sets, sets_last, size_word, lands_last, env, agg, sub}
+use Rattle.thread_local_model.proofs.Names.{whole, tables, fact, fact_i, no, RattleType, owns, types_at, plain}
+use Rattle.thread_local_model.proofs.Names.{named_lft, Ptr, block_ptr, block_of, count_of, at_block, nothing, heard}
+use Rattle.thread_local_model.proofs.Names.{param, bounded, Stays, stay_dropped, walk_of, Goes-dropped, proved, leaves}
+use Rattle.thread_local_model.proofs.Names.{fm, found, finds, Lends-one, ◌*◌, ◌<◌, ◌≢◌, length, Bool, false, dnil, bin}
+use Rattle.thread_local_model.proofs.Names.{branches, is, null_ptr, ptr_val, u64, after, uint_vals, uint_Tells, usize}
+use Rattle.thread_local_model.proofs.Names.{yes, fsplit3, vint, w64}
 use Rattle.std.proofs.Common.{◌⊎◌, inl, inr, ◌/◌, ◌%◌}
 use base.Fml.{fres}
 use base.Before.{before}
@@ -31,9 +31,9 @@ use Rattle.thread_local_tokens.specs.Rights.{right_owns}
 use Rattle.thread_local_blocks.specs.Slots.{stride, value_words, word_offset, value_offset}
 use Rattle.thread_local_blocks.proofs.Flags.{in_chunks, value_near}
 use Rattle.thread_local_blocks.proofs.Slots.{IsWordNear, word_is_near}
-use Rattle.thread_local_lemmas.specs.Bits.{is_set}
-use Rattle.thread_local_lemmas.proofs.Word.{masked_fits, place_below, bit_fits, shifted_right}
-use Rattle.thread_local_lemmas.specs.Fact as facts
+use Rattle.thread_local_model.specs.Bits.{is_set}
+use Rattle.thread_local_model.proofs.Word.{masked_fits, place_below, bit_fits, shifted_right}
+use Rattle.thread_local_model.specs.Fact as facts
 use Rattle.thread_local_shared_bucket.specs.Shared.{BucketView, Turn, StandingBlock, Sized, block_code, len, bucket_invariant, loaded}
 use Rattle.thread_local_shared_bucket.proofs.Fields.{pointer_good}
 use Rattle.thread_local_shared_bucket.proofs.Loads.{glimpse, reaches, reads}

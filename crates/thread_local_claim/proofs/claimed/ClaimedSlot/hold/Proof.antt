@@ -1,15 +1,15 @@
 -- `hold` joins the right with what a `&` to the bucket shows.
-use Rattle.thread_local_lemmas.proofs.Names.{Option, ◌≡◌, ℕ, ◌^◌, List, [], ◌∷◌, refl, sym, ap, ◌∙◌, w64, a_type, named}
-use Rattle.thread_local_lemmas.proofs.Names.{Val, vptr, vint, vunit, of_opd, inst_fn, SProp, emp, id⊢, Lft, Share, Fml}
-use Rattle.thread_local_lemmas.proofs.Names.{ftrue, fsep, flft, ‵, raw, ◌⊛◌, some, later, ◌$◌, ◌∵◌, !, qed, by, move}
-use Rattle.thread_local_lemmas.proofs.Names.{keep, drop, split, join, fsplit, fjoin, fpick, fpack, pick, use0, use1}
-use Rattle.thread_local_lemmas.proofs.Names.{await, rewrite, feq_l, stop, addr, no_more, and_then, returns, enter}
-use Rattle.thread_local_lemmas.proofs.Names.{alloc_all, pass_all, free_all, look_at, get, through, sets, env, agg}
-use Rattle.thread_local_lemmas.proofs.Names.{tables, fact, fact_i, yes, RattleType, owns, types_at, plain, named_lft}
-use Rattle.thread_local_lemmas.proofs.Names.{Ptr, block_ptr, nothing, heard, unhide, param, bounded, RefOf, shr_vals}
-use Rattle.thread_local_lemmas.proofs.Names.{shr_Tells, uint_vals, uint_Tells, Stays, stay_dropped, walk_of}
-use Rattle.thread_local_lemmas.proofs.Names.{Goes-dropped, proved, leaves, fm, ◌<◌, lit<, lit, arith, dnil, lands_as}
-use Rattle.thread_local_lemmas.proofs.Names.{usize}
+use Rattle.thread_local_model.proofs.Names.{Option, ◌≡◌, ℕ, ◌^◌, List, [], ◌∷◌, refl, sym, ap, ◌∙◌, w64, a_type, named}
+use Rattle.thread_local_model.proofs.Names.{Val, vptr, vint, vunit, of_opd, inst_fn, SProp, emp, id⊢, Lft, Share, Fml}
+use Rattle.thread_local_model.proofs.Names.{ftrue, fsep, flft, ‵, raw, ◌⊛◌, some, later, ◌$◌, ◌∵◌, !, qed, by, move}
+use Rattle.thread_local_model.proofs.Names.{keep, drop, split, join, fsplit, fjoin, fpick, fpack, pick, use0, use1}
+use Rattle.thread_local_model.proofs.Names.{await, rewrite, feq_l, stop, addr, no_more, and_then, returns, enter}
+use Rattle.thread_local_model.proofs.Names.{alloc_all, pass_all, free_all, look_at, get, through, sets, env, agg}
+use Rattle.thread_local_model.proofs.Names.{tables, fact, fact_i, yes, RattleType, owns, types_at, plain, named_lft}
+use Rattle.thread_local_model.proofs.Names.{Ptr, block_ptr, nothing, heard, unhide, param, bounded, RefOf, shr_vals}
+use Rattle.thread_local_model.proofs.Names.{shr_Tells, uint_vals, uint_Tells, Stays, stay_dropped, walk_of}
+use Rattle.thread_local_model.proofs.Names.{Goes-dropped, proved, leaves, fm, ◌<◌, lit<, lit, arith, dnil, lands_as}
+use Rattle.thread_local_model.proofs.Names.{usize}
 use base.Fml.{feq}
 use denote.Steps.{only}
 use denote.Triple.Call.{calls_at}

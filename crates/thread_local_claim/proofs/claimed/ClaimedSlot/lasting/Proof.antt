@@ -1,21 +1,21 @@
 -- `lasting` lends the value that the slot holds for as long as the bucket is borrowed, since a `&`
 -- to it names no thread.
-use Rattle.thread_local_lemmas.proofs.Names.{◌≡◌, ℕ, List, [], ◌∷◌, sym, refl, ap, ◌∙◌, true, dnil, a_type, named, Val}
-use Rattle.thread_local_lemmas.proofs.Names.{vptr, inst_fn, SProp, emp, Lft, Fml, ftrue, fsep, flft, ‵, raw, ◌⊛◌}
-use Rattle.thread_local_lemmas.proofs.Names.{at_ret, ◌$◌, ◌∵◌, !, qed, by, move, keep, drop, split, join, fsplit, fjoin}
-use Rattle.thread_local_lemmas.proofs.Names.{fpick, use0, use1, rewrite, feq_i, stop, fld, addr, of_opd, first, blocks}
-use Rattle.thread_local_lemmas.proofs.Names.{exec, returns, enter, alloc_all, pass_all, free_all, look_at, get, through}
-use Rattle.thread_local_lemmas.proofs.Names.{sets, sets_last, env, sub, whole, look_in, tables, fact, fact_i, yes}
-use Rattle.thread_local_lemmas.proofs.Names.{RattleType, owns, types_at, named_lft, Ptr, block_ptr, block_of, count_of}
-use Rattle.thread_local_lemmas.proofs.Names.{at_block, nothing, heard, peeks, Is, shows, cell_at, param, bounded}
-use Rattle.thread_local_lemmas.proofs.Names.{shr_vals, shr_Tells, Stays, stay_dropped, walk_of, Goes-dropped, proved}
-use Rattle.thread_local_lemmas.proofs.Names.{leaves, is_some, Ura, ent, id⊢, Logic, sem, load}
+use Rattle.thread_local_model.proofs.Names.{◌≡◌, ℕ, List, [], ◌∷◌, sym, refl, ap, ◌∙◌, true, dnil, a_type, named, Val}
+use Rattle.thread_local_model.proofs.Names.{vptr, inst_fn, SProp, emp, Lft, Fml, ftrue, fsep, flft, ‵, raw, ◌⊛◌}
+use Rattle.thread_local_model.proofs.Names.{at_ret, ◌$◌, ◌∵◌, !, qed, by, move, keep, drop, split, join, fsplit, fjoin}
+use Rattle.thread_local_model.proofs.Names.{fpick, use0, use1, rewrite, feq_i, stop, fld, addr, of_opd, first, blocks}
+use Rattle.thread_local_model.proofs.Names.{exec, returns, enter, alloc_all, pass_all, free_all, look_at, get, through}
+use Rattle.thread_local_model.proofs.Names.{sets, sets_last, env, sub, whole, look_in, tables, fact, fact_i, yes}
+use Rattle.thread_local_model.proofs.Names.{RattleType, owns, types_at, named_lft, Ptr, block_ptr, block_of, count_of}
+use Rattle.thread_local_model.proofs.Names.{at_block, nothing, heard, peeks, Is, shows, cell_at, param, bounded}
+use Rattle.thread_local_model.proofs.Names.{shr_vals, shr_Tells, Stays, stay_dropped, walk_of, Goes-dropped, proved}
+use Rattle.thread_local_model.proofs.Names.{leaves, is_some, Ura, ent, id⊢, Logic, sem, load}
 use mathlib.Core.Logic.{inl, inr}
 use denote.Steps.{looks, shuts}
 use denote.Memory.{hidden_shr, shared_of}
 use denote.Param.Send.{IsSync}
 use Rattle.thread_local_judged.specs.Judged.{Shareable, Judged}
-use Rattle.thread_local_lemmas.proofs.Bodies.{tail}
+use Rattle.thread_local_model.proofs.Bodies.{tail}
 use Rattle.thread_local_model.specs.Learnt.{Learnt, Holding}
 use Rattle.thread_local_claim.specs.Known.{value_held}
 use Rattle.thread_local_claim.proofs.Learning.{holding}

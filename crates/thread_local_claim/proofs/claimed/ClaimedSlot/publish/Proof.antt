@@ -1,19 +1,19 @@
 -- `publish` writes the value into the slot's room, shares it for good where it may be shared, and
 -- then sets the flag.
-use Rattle.thread_local_lemmas.proofs.Names.{bin, ◌≡◌, ℕ, ◌+◌, ◌^◌, List, [], ◌∷◌, ◌++◌, length, sym, refl, ap, subst}
-use Rattle.thread_local_lemmas.proofs.Names.{lit<, w64, Option, Some, None, a_type, bare, Val, vint, inst_fn}
-use Rattle.thread_local_lemmas.proofs.Names.{full_share, SProp, ent, wand, id⊢, emp, via, apply∗, Lft, Share, GName}
-use Rattle.thread_local_lemmas.proofs.Names.{Fml, ftrue, fsep, fat, froom, flft, fbor, fex, fobs, fauth, WpFn, ‵, raw}
-use Rattle.thread_local_lemmas.proofs.Names.{◌⊛◌, given, some, later, mean, at_ret, ◌$◌, ◌∵◌, !, qed, by, move, keep}
-use Rattle.thread_local_lemmas.proofs.Names.{drop, use0, use1, use2, await, split, split3, join, pick, fsplit, fsplit3}
-use Rattle.thread_local_lemmas.proofs.Names.{fjoin, fjoin3, fpick, fpack, learn, group, suffices, rewrite, stop, fld}
-use Rattle.thread_local_lemmas.proofs.Names.{lit, of_opd, no_more, and_then, first, blocks, exec, returns, enter, init}
-use Rattle.thread_local_lemmas.proofs.Names.{assigns_last, alloc_all, pass_all, free_all, look_at, get, get_in, through}
-use Rattle.thread_local_lemmas.proofs.Names.{sets, lands_last, is, env, agg, sub, whole, tables, fact, fact_i, no}
-use Rattle.thread_local_lemmas.proofs.Names.{RattleType, owns, types_at, plain, Ptr, block_ptr, block_of, count_of}
-use Rattle.thread_local_lemmas.proofs.Names.{uint_Tells, usize, yes, size_word, sets_last, ◌*◌, ◌∙◌, nothing, heard}
-use Rattle.thread_local_lemmas.proofs.Names.{param, layout, param_laws, Stays, stay_dropped, walk_of, Goes-dropped}
-use Rattle.thread_local_lemmas.proofs.Names.{Member, proved_at, leaves, fm, after, one, gather}
+use Rattle.thread_local_model.proofs.Names.{bin, ◌≡◌, ℕ, ◌+◌, ◌^◌, List, [], ◌∷◌, ◌++◌, length, sym, refl, ap, subst}
+use Rattle.thread_local_model.proofs.Names.{lit<, w64, Option, Some, None, a_type, bare, Val, vint, inst_fn}
+use Rattle.thread_local_model.proofs.Names.{full_share, SProp, ent, wand, id⊢, emp, via, apply∗, Lft, Share, GName}
+use Rattle.thread_local_model.proofs.Names.{Fml, ftrue, fsep, fat, froom, flft, fbor, fex, fobs, fauth, WpFn, ‵, raw}
+use Rattle.thread_local_model.proofs.Names.{◌⊛◌, given, some, later, mean, at_ret, ◌$◌, ◌∵◌, !, qed, by, move, keep}
+use Rattle.thread_local_model.proofs.Names.{drop, use0, use1, use2, await, split, split3, join, pick, fsplit, fsplit3}
+use Rattle.thread_local_model.proofs.Names.{fjoin, fjoin3, fpick, fpack, learn, group, suffices, rewrite, stop, fld}
+use Rattle.thread_local_model.proofs.Names.{lit, of_opd, no_more, and_then, first, blocks, exec, returns, enter, init}
+use Rattle.thread_local_model.proofs.Names.{assigns_last, alloc_all, pass_all, free_all, look_at, get, get_in, through}
+use Rattle.thread_local_model.proofs.Names.{sets, lands_last, is, env, agg, sub, whole, tables, fact, fact_i, no}
+use Rattle.thread_local_model.proofs.Names.{RattleType, owns, types_at, plain, Ptr, block_ptr, block_of, count_of}
+use Rattle.thread_local_model.proofs.Names.{uint_Tells, usize, yes, size_word, sets_last, ◌*◌, ◌∙◌, nothing, heard}
+use Rattle.thread_local_model.proofs.Names.{param, layout, param_laws, Stays, stay_dropped, walk_of, Goes-dropped}
+use Rattle.thread_local_model.proofs.Names.{Member, proved_at, leaves, fm, after, one, gather}
 use Rattle.std.proofs.Common.{◌<◌, ◌≤◌, ◌/◌, ◌%◌}
 use mir.Syntax.{dnil}
 use mir.Val.{vptr}
@@ -32,7 +32,7 @@ use denote.Signature.{named_lft}
 use Rattle.std.proofs.raw_atomic.Calls.{seq_cst, found, finds, adds}
 use Rattle.std.proofs.raw_atomic.PtrCalls.{seq_cst_good}
 use Rattle.std.specs.Coded.{coded_option}
-use Rattle.thread_local_lemmas.proofs.Word.{place_below, bit_fits, shifted_left}
+use Rattle.thread_local_model.proofs.Word.{place_below, bit_fits, shifted_left}
 use Rattle.thread_local_judged.specs.Judged.{Judged}
 use Rattle.thread_local_tokens.specs.Rights.{right_owns}
 use Rattle.thread_local_blocks.specs.Slots.{stride, value_words, word_offset, value_offset, content_at}

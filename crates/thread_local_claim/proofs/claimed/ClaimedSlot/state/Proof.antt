@@ -1,12 +1,12 @@
 -- `state` reads a field.
-use Rattle.thread_local_lemmas.proofs.Names.{◌≡◌, ℕ, List, [], ◌∷◌, sym, refl, dnil, a_type, named, Val, vptr, vint}
-use Rattle.thread_local_lemmas.proofs.Names.{w64, ◌^◌, inst_fn, SProp, emp, Lft, Fml, ftrue, fsep, flft, ‵, raw, ◌⊛◌}
-use Rattle.thread_local_lemmas.proofs.Names.{◌$◌, ◌∵◌, !, qed, by, move, keep, drop, split, join, fsplit, fjoin, fpick}
-use Rattle.thread_local_lemmas.proofs.Names.{use0, rewrite, feq_i, stop, fld, of_opd, returns, enter, alloc_all}
-use Rattle.thread_local_lemmas.proofs.Names.{pass_all, free_all, look_at, through, sets, env, sub, whole, look_in}
-use Rattle.thread_local_lemmas.proofs.Names.{tables, fact, fact_i, yes, RattleType, owns, types_at, named_lft, nothing}
-use Rattle.thread_local_lemmas.proofs.Names.{peeks, Is, shows, cell_at, param, bounded, shr_vals, shr_Tells, Stays}
-use Rattle.thread_local_lemmas.proofs.Names.{stay_dropped, walk_of, Goes-dropped, proved, leaves, load}
+use Rattle.thread_local_model.proofs.Names.{◌≡◌, ℕ, List, [], ◌∷◌, sym, refl, dnil, a_type, named, Val, vptr, vint}
+use Rattle.thread_local_model.proofs.Names.{w64, ◌^◌, inst_fn, SProp, emp, Lft, Fml, ftrue, fsep, flft, ‵, raw, ◌⊛◌}
+use Rattle.thread_local_model.proofs.Names.{◌$◌, ◌∵◌, !, qed, by, move, keep, drop, split, join, fsplit, fjoin, fpick}
+use Rattle.thread_local_model.proofs.Names.{use0, rewrite, feq_i, stop, fld, of_opd, returns, enter, alloc_all}
+use Rattle.thread_local_model.proofs.Names.{pass_all, free_all, look_at, through, sets, env, sub, whole, look_in}
+use Rattle.thread_local_model.proofs.Names.{tables, fact, fact_i, yes, RattleType, owns, types_at, named_lft, nothing}
+use Rattle.thread_local_model.proofs.Names.{peeks, Is, shows, cell_at, param, bounded, shr_vals, shr_Tells, Stays}
+use Rattle.thread_local_model.proofs.Names.{stay_dropped, walk_of, Goes-dropped, proved, leaves, load}
 use types.Kit.{flt_i}
 use denote.Steps.{looks, shuts}
 use Rattle.thread_local_model.specs.Learnt.{Learnt}

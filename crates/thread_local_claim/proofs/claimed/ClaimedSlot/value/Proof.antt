@@ -1,20 +1,20 @@
 -- `value` lends the value that the slot holds.
-use Rattle.thread_local_lemmas.proofs.Names.{◌≡◌, ℕ, List, [], ◌∷◌, ◌++◌, sym, refl, ap, ◌∙◌, true, dnil, a_type, named}
-use Rattle.thread_local_lemmas.proofs.Names.{Val, vptr, inst_fn, SProp, emp, Lft, Fml, ftrue, fsep, flft, ‵, raw, ◌⊛◌}
-use Rattle.thread_local_lemmas.proofs.Names.{at_ret, ◌$◌, ◌∵◌, !, qed, by, move, keep, drop, split, join, fsplit, fjoin}
-use Rattle.thread_local_lemmas.proofs.Names.{fpick, use0, use1, rewrite, feq_i, stop, fld, addr, of_opd, first, blocks}
-use Rattle.thread_local_lemmas.proofs.Names.{exec, returns, enter, alloc_all, pass_all, free_all, look_at, get, through}
-use Rattle.thread_local_lemmas.proofs.Names.{sets, sets_last, env, sub, whole, look_in, tables, fact, fact_i, yes}
-use Rattle.thread_local_lemmas.proofs.Names.{RattleType, owns, types_at, named_lft, Ptr, block_ptr, block_of, count_of}
-use Rattle.thread_local_lemmas.proofs.Names.{at_block, nothing, heard, peeks, Is, shows, cell_at, param, bounded}
-use Rattle.thread_local_lemmas.proofs.Names.{param_laws, shr_vals, shr_Tells, Stays, stay_dropped, walk_of}
-use Rattle.thread_local_lemmas.proofs.Names.{Goes-dropped, proved, leaves, is_some, load}
+use Rattle.thread_local_model.proofs.Names.{◌≡◌, ℕ, List, [], ◌∷◌, ◌++◌, sym, refl, ap, ◌∙◌, true, dnil, a_type, named}
+use Rattle.thread_local_model.proofs.Names.{Val, vptr, inst_fn, SProp, emp, Lft, Fml, ftrue, fsep, flft, ‵, raw, ◌⊛◌}
+use Rattle.thread_local_model.proofs.Names.{at_ret, ◌$◌, ◌∵◌, !, qed, by, move, keep, drop, split, join, fsplit, fjoin}
+use Rattle.thread_local_model.proofs.Names.{fpick, use0, use1, rewrite, feq_i, stop, fld, addr, of_opd, first, blocks}
+use Rattle.thread_local_model.proofs.Names.{exec, returns, enter, alloc_all, pass_all, free_all, look_at, get, through}
+use Rattle.thread_local_model.proofs.Names.{sets, sets_last, env, sub, whole, look_in, tables, fact, fact_i, yes}
+use Rattle.thread_local_model.proofs.Names.{RattleType, owns, types_at, named_lft, Ptr, block_ptr, block_of, count_of}
+use Rattle.thread_local_model.proofs.Names.{at_block, nothing, heard, peeks, Is, shows, cell_at, param, bounded}
+use Rattle.thread_local_model.proofs.Names.{param_laws, shr_vals, shr_Tells, Stays, stay_dropped, walk_of}
+use Rattle.thread_local_model.proofs.Names.{Goes-dropped, proved, leaves, is_some, load}
 use base.Fml.{Incl-refl}
 use contract.BorrowLft.{⊑_meet}
 use denote.Steps.{looks, shuts}
 use denote.Memory.{hidden_shr, shared_of}
 use denote.SharingLaws.{shortens}
-use Rattle.thread_local_lemmas.proofs.Bodies.{tail}
+use Rattle.thread_local_model.proofs.Bodies.{tail}
 use Rattle.thread_local_model.specs.Learnt.{Learnt, Holding}
 use Rattle.thread_local_claim.specs.Known.{value_held}
 use Rattle.thread_local_claim.proofs.Learning.{holding}

@@ -1,11 +1,11 @@
 -- `witness` copies what a `&` to the claim holds that is told of its id.
-use Rattle.thread_local_lemmas.proofs.Names.{◌≡◌, ℕ, [], ◌∷◌, true, refl, Option, dnil, a_type, named, Val, vptr}
-use Rattle.thread_local_lemmas.proofs.Names.{inst_fn, SProp, emp, Lft, Fml, ftrue, fsep, flft, ‵, raw, ◌⊛◌, ◌$◌, ◌∵◌, ! }
-use Rattle.thread_local_lemmas.proofs.Names.{qed, by, move, keep, drop, split, join, fsplit, fjoin, use0, use1, rewrite}
-use Rattle.thread_local_lemmas.proofs.Names.{no_more, and_then, returns, enter, alloc_all, pass_all, free_all, look_at}
-use Rattle.thread_local_lemmas.proofs.Names.{get, sets, agg, tables, fact, fact_i, yes, RattleType, owns, types_at}
-use Rattle.thread_local_lemmas.proofs.Names.{named_lft, nothing, heard, param, bounded, shr_vals, shr_Tells, Stays}
-use Rattle.thread_local_lemmas.proofs.Names.{stay_dropped, walk_of, Goes-dropped, proved, leaves, is_some}
+use Rattle.thread_local_model.proofs.Names.{◌≡◌, ℕ, [], ◌∷◌, true, refl, Option, dnil, a_type, named, Val, vptr}
+use Rattle.thread_local_model.proofs.Names.{inst_fn, SProp, emp, Lft, Fml, ftrue, fsep, flft, ‵, raw, ◌⊛◌, ◌$◌, ◌∵◌, ! }
+use Rattle.thread_local_model.proofs.Names.{qed, by, move, keep, drop, split, join, fsplit, fjoin, use0, use1, rewrite}
+use Rattle.thread_local_model.proofs.Names.{no_more, and_then, returns, enter, alloc_all, pass_all, free_all, look_at}
+use Rattle.thread_local_model.proofs.Names.{get, sets, agg, tables, fact, fact_i, yes, RattleType, owns, types_at}
+use Rattle.thread_local_model.proofs.Names.{named_lft, nothing, heard, param, bounded, shr_vals, shr_Tells, Stays}
+use Rattle.thread_local_model.proofs.Names.{stay_dropped, walk_of, Goes-dropped, proved, leaves, is_some}
 use Rattle.thread_local_model.specs.Learnt.{Learnt, Holding}
 use Rattle.thread_local_tokens.specs.contracts.witness.Witness as Witness
 use Rattle.thread_local_tokens.proofs.Made.{token_val, witness_made}

@@ -1,15 +1,15 @@
 -- `announce` is one compare and exchange of TAKEN for AWAITED: the right to the value stays where it
 -- is.
-use Rattle.thread_local_lemmas.proofs.Names.{ℕ, ◌+◌, List, [], ◌∷◌, refl, lit<, w64, dcons, dnil, a_type, named, Val}
-use Rattle.thread_local_lemmas.proofs.Names.{vunit, vint, vptr, inst_fn, SProp, wand, via, apply∗, Lft, Share, Fml}
-use Rattle.thread_local_lemmas.proofs.Names.{ftrue, fsep, flft, fbor, ‵, raw, ◌⊛◌, some, later, mean, at_ret, ◌$◌, ◌∵◌}
-use Rattle.thread_local_lemmas.proofs.Names.{ !, qed, by, move, keep, drop, split, join, fsplit, fjoin, fpick, pick}
-use Rattle.thread_local_lemmas.proofs.Names.{use2, use3, await, feq_i, stop, fld, addr, lit, unit_lit, of_opd, no_more}
-use Rattle.thread_local_lemmas.proofs.Names.{and_then, first, blocks, exec, Calls-last, returns, enter, alloc_all}
-use Rattle.thread_local_lemmas.proofs.Names.{pass_all, free_all, look_at, get, through, sets, lands_last, env, tables}
-use Rattle.thread_local_lemmas.proofs.Names.{Lends-one, yes, RattleType, owns, types_at, plain, block_ptr, nothing}
-use Rattle.thread_local_lemmas.proofs.Names.{unhide, param, bounded, RefOf, shr_vals, shr_Tells, Stays, stay_dropped}
-use Rattle.thread_local_lemmas.proofs.Names.{walk_of, Goes-dropped, proved, leaves, fm, found, finds, tail}
+use Rattle.thread_local_model.proofs.Names.{ℕ, ◌+◌, List, [], ◌∷◌, refl, lit<, w64, dcons, dnil, a_type, named, Val}
+use Rattle.thread_local_model.proofs.Names.{vunit, vint, vptr, inst_fn, SProp, wand, via, apply∗, Lft, Share, Fml}
+use Rattle.thread_local_model.proofs.Names.{ftrue, fsep, flft, fbor, ‵, raw, ◌⊛◌, some, later, mean, at_ret, ◌$◌, ◌∵◌}
+use Rattle.thread_local_model.proofs.Names.{ !, qed, by, move, keep, drop, split, join, fsplit, fjoin, fpick, pick}
+use Rattle.thread_local_model.proofs.Names.{use2, use3, await, feq_i, stop, fld, addr, lit, unit_lit, of_opd, no_more}
+use Rattle.thread_local_model.proofs.Names.{and_then, first, blocks, exec, Calls-last, returns, enter, alloc_all}
+use Rattle.thread_local_model.proofs.Names.{pass_all, free_all, look_at, get, through, sets, lands_last, env, tables}
+use Rattle.thread_local_model.proofs.Names.{Lends-one, yes, RattleType, owns, types_at, plain, block_ptr, nothing}
+use Rattle.thread_local_model.proofs.Names.{unhide, param, bounded, RefOf, shr_vals, shr_Tells, Stays, stay_dropped}
+use Rattle.thread_local_model.proofs.Names.{walk_of, Goes-dropped, proved, leaves, fm, found, finds, tail}
 use Rattle.std.proofs.Math.Nat.{suc-ne-zero}
 use Rattle.thread_local_ids.specs.Locking.{Fitting, lock_invariant}
 use Rattle.thread_local_ids.specs.contracts.lock.Lock as lock

@@ -1,13 +1,13 @@
 -- `new` puts a value that fits behind the word FREE.
-use Rattle.thread_local_lemmas.proofs.Names.{◌≡◌, ℕ, ◌^◌, ◌&&◌, T, true, List, [], ◌∷◌, ◌++◌, sym, refl, subst, lit<}
-use Rattle.thread_local_lemmas.proofs.Names.{w64, dcons, dnil, a_type, Val, vint, vstruct, vcons, vnil, has_ty, WT}
-use Rattle.thread_local_lemmas.proofs.Names.{inst_fn, SProp, ent, emp, id⊢, ftrue, fsep, WpFn, ‵, raw, ◌⊛◌, ◌$◌, ◌∵◌, ! }
-use Rattle.thread_local_lemmas.proofs.Names.{qed, by, move, keep, drop, split, fsplit, fjoin, fjoin3, fpack, use0}
-use Rattle.thread_local_lemmas.proofs.Names.{rewrite, feq_i, flt_i, suffices, lit, of_opd, no_more, and_then, returns}
-use Rattle.thread_local_lemmas.proofs.Names.{enter, alloc_all, pass_all, free_all, look_at, get, sets, agg, tables}
-use Rattle.thread_local_lemmas.proofs.Names.{fact, fact_i, no, RattleType, owns, types_at, plain, nothing, heard, param}
-use Rattle.thread_local_lemmas.proofs.Names.{layout, bounded, u64, alive, Stays, stay_dropped, walk_of, Goes-dropped}
-use Rattle.thread_local_lemmas.proofs.Names.{El, lawful, Good, and_tt, proved_at, leaves}
+use Rattle.thread_local_model.proofs.Names.{◌≡◌, ℕ, ◌^◌, ◌&&◌, T, true, List, [], ◌∷◌, ◌++◌, sym, refl, subst, lit<}
+use Rattle.thread_local_model.proofs.Names.{w64, dcons, dnil, a_type, Val, vint, vstruct, vcons, vnil, has_ty, WT}
+use Rattle.thread_local_model.proofs.Names.{inst_fn, SProp, ent, emp, id⊢, ftrue, fsep, WpFn, ‵, raw, ◌⊛◌, ◌$◌, ◌∵◌, ! }
+use Rattle.thread_local_model.proofs.Names.{qed, by, move, keep, drop, split, fsplit, fjoin, fjoin3, fpack, use0}
+use Rattle.thread_local_model.proofs.Names.{rewrite, feq_i, flt_i, suffices, lit, of_opd, no_more, and_then, returns}
+use Rattle.thread_local_model.proofs.Names.{enter, alloc_all, pass_all, free_all, look_at, get, sets, agg, tables}
+use Rattle.thread_local_model.proofs.Names.{fact, fact_i, no, RattleType, owns, types_at, plain, nothing, heard, param}
+use Rattle.thread_local_model.proofs.Names.{layout, bounded, u64, alive, Stays, stay_dropped, walk_of, Goes-dropped}
+use Rattle.thread_local_model.proofs.Names.{El, lawful, Good, and_tt, proved_at, leaves}
 use Rattle.std.proofs.mem.Param.{one}
 use base.Fml.{fex}
 use denote.RattleType.{Valss}

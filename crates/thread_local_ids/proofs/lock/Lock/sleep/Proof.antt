@@ -1,15 +1,15 @@
 -- `sleep` parks on the word, and takes nothing out of the lock's invariant.
-use Rattle.thread_local_lemmas.proofs.Names.{ℕ, ◌+◌, List, [], ◌∷◌, refl, lit<, w64, dcons, dnil, a_type, named, Val}
-use Rattle.thread_local_lemmas.proofs.Names.{vunit, vint, vptr, inst_fn, SProp, wand, apply∗, Lft, Share, Fml, ftrue}
-use Rattle.thread_local_lemmas.proofs.Names.{fsep, flft, ‵, raw, ◌⊛◌, some, later, mean, at_ret, ◌$◌, ◌∵◌, !, qed, by}
-use Rattle.thread_local_lemmas.proofs.Names.{move, keep, group, fsplit3, split, split3, join, fsplit, fjoin, fpick}
-use Rattle.thread_local_lemmas.proofs.Names.{pick, use1, use2, use3, await, feq_i, stop, fld, addr, lit, unit_lit}
-use Rattle.thread_local_lemmas.proofs.Names.{of_opd, no_more, and_then, first, blocks, exec, Calls-last, returns, enter}
-use Rattle.thread_local_lemmas.proofs.Names.{alloc_all, pass_all, free_all, look_at, get, through, sets, lands_last}
-use Rattle.thread_local_lemmas.proofs.Names.{env, tables, fact, Lends-one, yes, RattleType, owns, types_at, plain}
-use Rattle.thread_local_lemmas.proofs.Names.{block_ptr, nothing, heard, unhide, param, bounded, RefOf, u64, shr_vals}
-use Rattle.thread_local_lemmas.proofs.Names.{shr_Tells, uint_vals, uint_Tells, Stays, stay_dropped, walk_of}
-use Rattle.thread_local_lemmas.proofs.Names.{Goes-dropped, proved, leaves, fm, stored, has_stored, tail}
+use Rattle.thread_local_model.proofs.Names.{ℕ, ◌+◌, List, [], ◌∷◌, refl, lit<, w64, dcons, dnil, a_type, named, Val}
+use Rattle.thread_local_model.proofs.Names.{vunit, vint, vptr, inst_fn, SProp, wand, apply∗, Lft, Share, Fml, ftrue}
+use Rattle.thread_local_model.proofs.Names.{fsep, flft, ‵, raw, ◌⊛◌, some, later, mean, at_ret, ◌$◌, ◌∵◌, !, qed, by}
+use Rattle.thread_local_model.proofs.Names.{move, keep, group, fsplit3, split, split3, join, fsplit, fjoin, fpick}
+use Rattle.thread_local_model.proofs.Names.{pick, use1, use2, use3, await, feq_i, stop, fld, addr, lit, unit_lit}
+use Rattle.thread_local_model.proofs.Names.{of_opd, no_more, and_then, first, blocks, exec, Calls-last, returns, enter}
+use Rattle.thread_local_model.proofs.Names.{alloc_all, pass_all, free_all, look_at, get, through, sets, lands_last}
+use Rattle.thread_local_model.proofs.Names.{env, tables, fact, Lends-one, yes, RattleType, owns, types_at, plain}
+use Rattle.thread_local_model.proofs.Names.{block_ptr, nothing, heard, unhide, param, bounded, RefOf, u64, shr_vals}
+use Rattle.thread_local_model.proofs.Names.{shr_Tells, uint_vals, uint_Tells, Stays, stay_dropped, walk_of}
+use Rattle.thread_local_model.proofs.Names.{Goes-dropped, proved, leaves, fm, stored, has_stored, tail}
 use contract.BorrowLft.{◌⊑◌}
 use Rattle.std.specs.Sync.RawAtomic.{asks, always}
 use Rattle.thread_local_ids.specs.Locking.{Fitting}

@@ -1,19 +1,19 @@
 -- `get` is one load of the word that has the slot's flag: where the flag is set, it lends the value
 -- for as long as the row lasts, and copies what is told of the slot's id.
-use Rattle.thread_local_lemmas.proofs.Names.{◌≡◌, ℕ, ◌+◌, ◌*◌, ◌^◌, ◌<◌, List, [], ◌∷◌, length, refl, sym, ap, ◌∙◌}
-use Rattle.thread_local_lemmas.proofs.Names.{subst, arith, lit<, w64, None, Some, a_type, named, Val, vint, vptr, vcons}
-use Rattle.thread_local_lemmas.proofs.Names.{vnil, inst_fn, SProp, ent, sep, wand, via, apply∗, Lft, Share, Fml, ftrue}
-use Rattle.thread_local_lemmas.proofs.Names.{fsep, flft, fbor, sem, ‵, raw, ◌⊛◌, some, later, mean, at_ret, any_q, ◌$◌}
-use Rattle.thread_local_lemmas.proofs.Names.{◌∵◌, !, qed, by, move, keep, drop, split, split3, join, fsplit, fsplit3}
-use Rattle.thread_local_lemmas.proofs.Names.{fjoin, fpick, pick, use0, use1, use2, use3, await, rewrite, feq_i, stop}
-use Rattle.thread_local_lemmas.proofs.Names.{emp, fact_i, Option, fld, load, addr, lit, size_word, of_opd, bin, no_more, and_then, first}
-use Rattle.thread_local_lemmas.proofs.Names.{blocks, exec, branches, returns, enter, alloc_all, pass_all, free_all}
-use Rattle.thread_local_lemmas.proofs.Names.{look_at, get, through, sets, sets_last, lands_last, env, is, agg, sub}
-use Rattle.thread_local_lemmas.proofs.Names.{look_in, whole, live, tables, fact, yes, RattleType, owns, types_at, plain}
-use Rattle.thread_local_lemmas.proofs.Names.{Ptr, block_ptr, block_of, count_of, at_block, InBlock, nothing, heard}
-use Rattle.thread_local_lemmas.proofs.Names.{peeks, Is, shows, cell_at, param, layouts, RefOf, usize, shr_vals}
-use Rattle.thread_local_lemmas.proofs.Names.{shr_Tells, uint_vals, uint_Tells, Stays, stay_dropped, walk_of}
-use Rattle.thread_local_lemmas.proofs.Names.{Goes-dropped, proved, leaves, fm, after, param_laws}
+use Rattle.thread_local_model.proofs.Names.{◌≡◌, ℕ, ◌+◌, ◌*◌, ◌^◌, ◌<◌, List, [], ◌∷◌, length, refl, sym, ap, ◌∙◌}
+use Rattle.thread_local_model.proofs.Names.{subst, arith, lit<, w64, None, Some, a_type, named, Val, vint, vptr, vcons}
+use Rattle.thread_local_model.proofs.Names.{vnil, inst_fn, SProp, ent, sep, wand, via, apply∗, Lft, Share, Fml, ftrue}
+use Rattle.thread_local_model.proofs.Names.{fsep, flft, fbor, sem, ‵, raw, ◌⊛◌, some, later, mean, at_ret, any_q, ◌$◌}
+use Rattle.thread_local_model.proofs.Names.{◌∵◌, !, qed, by, move, keep, drop, split, split3, join, fsplit, fsplit3}
+use Rattle.thread_local_model.proofs.Names.{fjoin, fpick, pick, use0, use1, use2, use3, await, rewrite, feq_i, stop}
+use Rattle.thread_local_model.proofs.Names.{emp, fact_i, Option, fld, load, addr, lit, size_word, of_opd, bin, no_more, and_then, first}
+use Rattle.thread_local_model.proofs.Names.{blocks, exec, branches, returns, enter, alloc_all, pass_all, free_all}
+use Rattle.thread_local_model.proofs.Names.{look_at, get, through, sets, sets_last, lands_last, env, is, agg, sub}
+use Rattle.thread_local_model.proofs.Names.{look_in, whole, live, tables, fact, yes, RattleType, owns, types_at, plain}
+use Rattle.thread_local_model.proofs.Names.{Ptr, block_ptr, block_of, count_of, at_block, InBlock, nothing, heard}
+use Rattle.thread_local_model.proofs.Names.{peeks, Is, shows, cell_at, param, layouts, RefOf, usize, shr_vals}
+use Rattle.thread_local_model.proofs.Names.{shr_Tells, uint_vals, uint_Tells, Stays, stay_dropped, walk_of}
+use Rattle.thread_local_model.proofs.Names.{Goes-dropped, proved, leaves, fm, after, param_laws}
 use lib.Dec.{eqb}
 use Rattle.std.proofs.Common.{◌/◌, ◌%◌, ◌≢◌, not, Bool, true, ⊎_elim}
 use mir.Syntax.{Body, seq, assign, place, rv_opd, copy, aggregate, int, w8}
@@ -37,9 +37,9 @@ use Rattle.std.specs.Prelude.{IfSome, bit_and}
 use Rattle.std.proofs.lemmas.Bool.{cases_eq, eq-eqb}
 use Rattle.std.proofs.lemmas.Nat.Bits.{bit_at-lt, shr_and_one}
 use Rattle.std.specs.Sync.RawAtomic.{asks, always}
-use Rattle.thread_local_lemmas.specs.Bits.{is_set}
-use Rattle.thread_local_lemmas.proofs.Pairs.{both, pair_in}
-use Rattle.thread_local_lemmas.proofs.Word.{is_set-test, masked_fits, place_below, bit_fits, shifted_right}
+use Rattle.thread_local_model.specs.Bits.{is_set}
+use Rattle.thread_local_model.proofs.Pairs.{both, pair_in}
+use Rattle.thread_local_model.proofs.Word.{is_set-test, masked_fits, place_below, bit_fits, shifted_right}
 use Rattle.thread_local_blocks.specs.Slots.{stride, value_words, flag_word_at, word_offset, value_offset}
 use Rattle.thread_local_blocks.proofs.Flags.{in_chunks, uncapped, value_near}
 use Rattle.thread_local_blocks.proofs.Slots.{IsWordNear, word_is_near}

@@ -1,11 +1,11 @@
 -- `judged` hands out a fact that a `&` to the bucket says.
-use Rattle.thread_local_lemmas.proofs.Names.{[], ◌∷◌, refl, yes, List, a_type, named, Val, vptr, vunit, inst_fn, SProp}
-use Rattle.thread_local_lemmas.proofs.Names.{emp, Lft, Share, Fml, ftrue, fsep, flft, ‵, raw, ◌⊛◌, ◌$◌, ◌∵◌, !, qed, by}
-use Rattle.thread_local_lemmas.proofs.Names.{move, keep, drop, split, join, fsplit, fjoin, fpick, use0, feq_i, of_opd}
-use Rattle.thread_local_lemmas.proofs.Names.{unit_lit, returns, enter, alloc_all, pass_all, free_all, look_at, sets}
-use Rattle.thread_local_lemmas.proofs.Names.{env, tables, fact, fact_i, RattleType, owns, types_at, plain, nothing}
-use Rattle.thread_local_lemmas.proofs.Names.{param, layouts, RefOf, shr_vals, shr_Tells, Stays, stay_dropped, walk_of}
-use Rattle.thread_local_lemmas.proofs.Names.{Goes-dropped, proved, leaves}
+use Rattle.thread_local_model.proofs.Names.{[], ◌∷◌, refl, yes, List, a_type, named, Val, vptr, vunit, inst_fn, SProp}
+use Rattle.thread_local_model.proofs.Names.{emp, Lft, Share, Fml, ftrue, fsep, flft, ‵, raw, ◌⊛◌, ◌$◌, ◌∵◌, !, qed, by}
+use Rattle.thread_local_model.proofs.Names.{move, keep, drop, split, join, fsplit, fjoin, fpick, use0, feq_i, of_opd}
+use Rattle.thread_local_model.proofs.Names.{unit_lit, returns, enter, alloc_all, pass_all, free_all, look_at, sets}
+use Rattle.thread_local_model.proofs.Names.{env, tables, fact, fact_i, RattleType, owns, types_at, plain, nothing}
+use Rattle.thread_local_model.proofs.Names.{param, layouts, RefOf, shr_vals, shr_Tells, Stays, stay_dropped, walk_of}
+use Rattle.thread_local_model.proofs.Names.{Goes-dropped, proved, leaves}
 use Rattle.std.proofs.Common.{ℕ}
 use denote.Opens.{unhide}
 use Rattle.thread_local_judged.specs.Judged.{Judged}

@@ -1,16 +1,16 @@
 -- `load` is one load of the pointer: it takes a part of the token of the block's lifetime, and
 -- gives it up so that the row lasts.
-use Rattle.thread_local_lemmas.proofs.Names.{◌≡◌, ℕ, ◌+◌, [], ◌∷◌, refl, sym, ◌∙◌, lit<, true, false, Option, None}
-use Rattle.thread_local_lemmas.proofs.Names.{Some, a_type, named, Val, vptr, vcons, vnil, inst_fn, SProp, wand, emp}
-use Rattle.thread_local_lemmas.proofs.Names.{via, id⊢, apply∗, Lft, Share, Fml, ftrue, fsep, flft, fbor, ‵, raw, ◌⊛◌}
-use Rattle.thread_local_lemmas.proofs.Names.{some, later, mean, at_ret, ◌$◌, ◌∵◌, !, qed, by, move, keep, drop, split}
-use Rattle.thread_local_lemmas.proofs.Names.{join, fsplit, fjoin, fjoin3, fpick, fpack, pick, use0, use1, use2, use3}
-use Rattle.thread_local_lemmas.proofs.Names.{await, stop, fld, addr, lit, of_opd, bin, no_more, and_then, first, blocks}
-use Rattle.thread_local_lemmas.proofs.Names.{exec, branches, returns, enter, alloc_all, pass_all, free_all, look_at}
-use Rattle.thread_local_lemmas.proofs.Names.{get, through, sets, sets_last, lands_last, env, agg, live, tables, fact}
-use Rattle.thread_local_lemmas.proofs.Names.{fact_i, yes, RattleType, owns, types_at, plain, Ptr, block_ptr, null_ptr}
-use Rattle.thread_local_lemmas.proofs.Names.{nothing, param, layouts, RefOf, u64, shr_vals, shr_Tells, Stays}
-use Rattle.thread_local_lemmas.proofs.Names.{stay_dropped, walk_of, Goes-dropped, proved, leaves, fm, after}
+use Rattle.thread_local_model.proofs.Names.{◌≡◌, ℕ, ◌+◌, [], ◌∷◌, refl, sym, ◌∙◌, lit<, true, false, Option, None}
+use Rattle.thread_local_model.proofs.Names.{Some, a_type, named, Val, vptr, vcons, vnil, inst_fn, SProp, wand, emp}
+use Rattle.thread_local_model.proofs.Names.{via, id⊢, apply∗, Lft, Share, Fml, ftrue, fsep, flft, fbor, ‵, raw, ◌⊛◌}
+use Rattle.thread_local_model.proofs.Names.{some, later, mean, at_ret, ◌$◌, ◌∵◌, !, qed, by, move, keep, drop, split}
+use Rattle.thread_local_model.proofs.Names.{join, fsplit, fjoin, fjoin3, fpick, fpack, pick, use0, use1, use2, use3}
+use Rattle.thread_local_model.proofs.Names.{await, stop, fld, addr, lit, of_opd, bin, no_more, and_then, first, blocks}
+use Rattle.thread_local_model.proofs.Names.{exec, branches, returns, enter, alloc_all, pass_all, free_all, look_at}
+use Rattle.thread_local_model.proofs.Names.{get, through, sets, sets_last, lands_last, env, agg, live, tables, fact}
+use Rattle.thread_local_model.proofs.Names.{fact_i, yes, RattleType, owns, types_at, plain, Ptr, block_ptr, null_ptr}
+use Rattle.thread_local_model.proofs.Names.{nothing, param, layouts, RefOf, u64, shr_vals, shr_Tells, Stays}
+use Rattle.thread_local_model.proofs.Names.{stay_dropped, walk_of, Goes-dropped, proved, leaves, fm, after}
 use Rattle.std.proofs.Common.{IfSome, IsSome}
 use base.Fml.{finv}
 use base.Before.{before}
@@ -26,7 +26,7 @@ use Rattle.std.proofs.raw_atomic.PtrCalls as calls
 use Rattle.std.proofs.raw_atomic.PtrCalls.{seq_cst_good}
 use Rattle.std.specs.contracts.option.Option as Opt
 use Rattle.thread_local_judged.specs.Judged.{Judged}
-use Rattle.thread_local_lemmas.specs.Fact.{fact as said_fact}
+use Rattle.thread_local_model.specs.Fact.{fact as said_fact}
 use Rattle.thread_local_shared_bucket.specs.Shared.{BucketView, Sized, len, bucket_invariant, loaded, Found, row_as}
 use Rattle.thread_local_shared_bucket.specs.contracts.shared_bucket.SharedBucket as one_bucket
 use Rattle.thread_local_shared_bucket.specs.contracts.row.Row as Row

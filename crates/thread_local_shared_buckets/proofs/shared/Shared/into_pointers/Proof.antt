@@ -29,7 +29,7 @@ use Rattle.thread_local_bucket_pointers.specs.contracts.bucket_pointers.BucketPo
 use Rattle.thread_local_tokens.specs.Told.{book_owns}
 use Rattle.thread_local_tokens.specs.contracts.book.Book as Book
 use Rattle.thread_local_tokens.proofs.Made.{token_val, book_made}
-use Rattle.thread_local_lemmas.proofs.Pairs.{both, pair_in}
+use Rattle.thread_local_model.proofs.Pairs.{both, pair_in}
 use Rattle.std.proofs.ResultValues.{and_tt}
 use denote.Struct.Tuple.{Tuple}
 use Rattle.thread_local_bucket_pointers.proofs.bucket_pointers.BucketPointers.TheLaws as pointers'

@@ -2,7 +2,7 @@ use Rattle.std.proofs.Common.{◌∙◌, ◌<◌, take, false, ap, refl, rules}
 use Rattle.std.proofs.Math.Seq.{take-set-lt}
 use Rattle.thread_local_model.specs.Held.{is_held, without}
 use Rattle.thread_local_model.proofs.HeldLaws.{gives}
-use Rattle.thread_local_lemmas.specs.Bits.{bits_of}
+use Rattle.thread_local_model.specs.Bits.{bits_of}
 use Rattle.thread_local_thread_id.proofs.IdBits.{freed, in_room}
 use Rattle.thread_local_thread_id.proofs.Views.{below_peak}
 use Rattle.thread_local_thread_id.proofs.id_bits.IdBits.free.Goals as goal

@@ -1,7 +1,7 @@
 use Rattle.std.proofs.Common.{◌≡◌, ◌∙◌, ◌*◌, ◌-◌, ◌^◌, ◌<◌, length, take, ap, sym, arith, refl, add-one}
 use Rattle.thread_local_model.specs.Held.{least, with_least}
-use Rattle.thread_local_lemmas.specs.Bits.{bits_of}
-use Rattle.thread_local_lemmas.proofs.Words.{length-bits_of}
+use Rattle.thread_local_model.specs.Bits.{bits_of}
+use Rattle.thread_local_model.proofs.Words.{length-bits_of}
 use Rattle.thread_local_thread_id.proofs.IdBits.{held_at_peak, held_last, held_below_peak}
 use Rattle.thread_local_thread_id.proofs.Views.{least-take, least_within, taken_at_peak, taken_below_peak}
 use Rattle.thread_local_thread_id.proofs.id_bits.IdBits.hold.Goals as goal

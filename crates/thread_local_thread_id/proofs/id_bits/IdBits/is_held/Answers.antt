@@ -1,7 +1,7 @@
 use Rattle.std.proofs.Common.{◌∙◌, ap, sym}
 use Rattle.thread_local_model.specs.Held.{is_held}
-use Rattle.thread_local_lemmas.specs.Bits.{bits_of}
-use Rattle.thread_local_lemmas.proofs.Words.{get_or-bits_of}
+use Rattle.thread_local_model.specs.Bits.{bits_of}
+use Rattle.thread_local_model.proofs.Words.{get_or-bits_of}
 use Rattle.thread_local_thread_id.proofs.Views.{is_held-take}
 use Rattle.thread_local_thread_id.proofs.id_bits.IdBits.is_held.Goals as goal
 

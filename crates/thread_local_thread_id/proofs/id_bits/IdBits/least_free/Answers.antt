@@ -1,8 +1,8 @@
 use Rattle.std.proofs.Common.{◌∙◌, sym, ap, arith}
 use Rattle.thread_local_model.specs.Held.{least}
 use Rattle.thread_local_model.proofs.HeldLaws.{least_only}
-use Rattle.thread_local_lemmas.specs.Bits.{bits_of}
-use Rattle.thread_local_lemmas.proofs.Words.{length-bits_of}
+use Rattle.thread_local_model.specs.Bits.{bits_of}
+use Rattle.thread_local_model.proofs.Words.{length-bits_of}
 use Rattle.thread_local_thread_id.proofs.Views.{least-take}
 use Rattle.thread_local_thread_id.proofs.id_bits.IdBits.least_free.Goals as goal
 

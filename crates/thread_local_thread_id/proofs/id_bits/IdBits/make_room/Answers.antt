@@ -2,7 +2,7 @@ use Rattle.std.proofs.Common.{◌≡◌, ◌≤◌, ◌<◌, ◌*◌, ◌-◌, �
 use Rattle.std.proofs.lemmas.List.{length_push, length-take}
 use Rattle.thread_local_model.specs.Held.{HoldsAllBelow, Manager, least}
 use Rattle.thread_local_model.proofs.HeldLaws.{least_lower, least_bounded}
-use Rattle.thread_local_lemmas.specs.Bits.{bits_of}
+use Rattle.thread_local_model.specs.Bits.{bits_of}
 use Rattle.thread_local_thread_id.specs.Entries.{entries_of, AreEntries}
 use Rattle.thread_local_thread_id.specs.declared.id_bits.IdBits.TheInside.{Inside}
 use Rattle.thread_local_thread_id.proofs.IdBits.{pushed}

@@ -1,5 +1,5 @@
 use Rattle.std.proofs.Common.{◌%◌, false}
-use Rattle.thread_local_lemmas.proofs.Word.{clear_bit, place_below}
+use Rattle.thread_local_model.proofs.Word.{clear_bit, place_below}
 use Rattle.thread_local_thread_id.proofs.WordList.{first_bit, later_bit}
 use Rattle.thread_local_thread_id.proofs.words.Words.clear_bit.Goals as goal
 

@@ -1,5 +1,5 @@
 use Rattle.std.proofs.Common.{◌%◌, true}
-use Rattle.thread_local_lemmas.proofs.Word.{set_bit, place_below}
+use Rattle.thread_local_model.proofs.Word.{set_bit, place_below}
 use Rattle.thread_local_thread_id.proofs.WordList.{first_bit, later_bit}
 use Rattle.thread_local_thread_id.proofs.words.Words.set_bit.Goals as goal
 

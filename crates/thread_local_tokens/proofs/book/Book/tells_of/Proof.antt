@@ -1,11 +1,11 @@
 -- What a book tells of an id is what a witness shows of it.
-use Rattle.thread_local_lemmas.proofs.Names.{◌≡◌, ℕ, List, [], ◌∷◌, refl, Some, Option, a_type, named, Val, vptr, vunit}
-use Rattle.thread_local_lemmas.proofs.Names.{inst_fn, SProp, emp, ‵, raw, ◌⊛◌, given, ◌$◌, ◌∵◌, !, qed, by, move, keep}
-use Rattle.thread_local_lemmas.proofs.Names.{drop, split, fsplit, fsplit3, fjoin, learn, rewrite, feq_i, use0, use2}
-use Rattle.thread_local_lemmas.proofs.Names.{of_opd, unit_lit, returns, enter, alloc_all, pass_all, free_all, look_at}
-use Rattle.thread_local_lemmas.proofs.Names.{sets, tables, fact, fact_i, yes, RattleType, owns, types_at, plain}
-use Rattle.thread_local_lemmas.proofs.Names.{nothing, heard, param, layouts, RefOf, shr_vals, shr_Tells, Stays}
-use Rattle.thread_local_lemmas.proofs.Names.{stay_dropped, walk_of, Goes-dropped, proved, leaves, alive, unhide}
+use Rattle.thread_local_model.proofs.Names.{◌≡◌, ℕ, List, [], ◌∷◌, refl, Some, Option, a_type, named, Val, vptr, vunit}
+use Rattle.thread_local_model.proofs.Names.{inst_fn, SProp, emp, ‵, raw, ◌⊛◌, given, ◌$◌, ◌∵◌, !, qed, by, move, keep}
+use Rattle.thread_local_model.proofs.Names.{drop, split, fsplit, fsplit3, fjoin, learn, rewrite, feq_i, use0, use2}
+use Rattle.thread_local_model.proofs.Names.{of_opd, unit_lit, returns, enter, alloc_all, pass_all, free_all, look_at}
+use Rattle.thread_local_model.proofs.Names.{sets, tables, fact, fact_i, yes, RattleType, owns, types_at, plain}
+use Rattle.thread_local_model.proofs.Names.{nothing, heard, param, layouts, RefOf, shr_vals, shr_Tells, Stays}
+use Rattle.thread_local_model.proofs.Names.{stay_dropped, walk_of, Goes-dropped, proved, leaves, alive, unhide}
 use Rattle.std.proofs.Common.{IsSome, ◌-◌, ◌^◌, ◌<◌}
 use types.Kit.{fpick, use1}
 use Rattle.thread_local_model.specs.Buckets.{values}

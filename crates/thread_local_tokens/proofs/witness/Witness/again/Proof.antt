@@ -1,10 +1,10 @@
 -- `again` copies what the witness says.
-use Rattle.thread_local_lemmas.proofs.Names.{◌≡◌, [], ◌∷◌, refl, a_type, named, Val, vptr, inst_fn, SProp, emp, ‵, raw}
-use Rattle.thread_local_lemmas.proofs.Names.{◌⊛◌, ◌$◌, ◌∵◌, !, qed, by, keep, drop, split, fsplit, fjoin, use0, use1}
-use Rattle.thread_local_lemmas.proofs.Names.{no_more, and_then, returns, enter, alloc_all, pass_all, free_all, look_at}
-use Rattle.thread_local_lemmas.proofs.Names.{get, sets, agg, tables, fact, fact_i, yes, RattleType, owns, types_at}
-use Rattle.thread_local_lemmas.proofs.Names.{plain, nothing, param, layouts, RefOf, shr_vals, shr_Tells, Stays}
-use Rattle.thread_local_lemmas.proofs.Names.{stay_dropped, walk_of, Goes-dropped, proved, leaves, alive, unhide}
+use Rattle.thread_local_model.proofs.Names.{◌≡◌, [], ◌∷◌, refl, a_type, named, Val, vptr, inst_fn, SProp, emp, ‵, raw}
+use Rattle.thread_local_model.proofs.Names.{◌⊛◌, ◌$◌, ◌∵◌, !, qed, by, keep, drop, split, fsplit, fjoin, use0, use1}
+use Rattle.thread_local_model.proofs.Names.{no_more, and_then, returns, enter, alloc_all, pass_all, free_all, look_at}
+use Rattle.thread_local_model.proofs.Names.{get, sets, agg, tables, fact, fact_i, yes, RattleType, owns, types_at}
+use Rattle.thread_local_model.proofs.Names.{plain, nothing, param, layouts, RefOf, shr_vals, shr_Tells, Stays}
+use Rattle.thread_local_model.proofs.Names.{stay_dropped, walk_of, Goes-dropped, proved, leaves, alive, unhide}
 use Rattle.thread_local_tokens.specs.contracts.witness.Witness as Witness
 use Rattle.thread_local_tokens.proofs.Made.{token_val, witness_made}
 use Rattle.thread_local_tokens.specs.contracts.witness.Witness.again.{ended, clauses}

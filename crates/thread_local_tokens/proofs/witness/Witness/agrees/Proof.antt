@@ -1,12 +1,12 @@
 -- Two witnesses of one id in one sharing show one value.
-use Rattle.thread_local_lemmas.proofs.Names.{sym, ◌≡◌, ℕ, List, [], ◌∷◌, refl, ap, Some, None, Option, a_type, named}
-use Rattle.thread_local_lemmas.proofs.Names.{Val, vptr, vunit, inst_fn, SProp, emp, ‵, raw, ◌⊛◌, given, ◌$◌, ◌∵◌, ! }
-use Rattle.thread_local_lemmas.proofs.Names.{qed, by, move, keep, drop, split, fsplit, fsplit3, fjoin, learn, rewrite}
-use Rattle.thread_local_lemmas.proofs.Names.{feq_i, use0, use2, of_opd, unit_lit, returns, enter, alloc_all, pass_all}
-use Rattle.thread_local_lemmas.proofs.Names.{free_all, look_at, sets, tables, fact, fact_i, yes, RattleType, owns}
-use Rattle.thread_local_lemmas.proofs.Names.{types_at, plain, nothing, heard, param, layouts, RefOf, shr_vals}
-use Rattle.thread_local_lemmas.proofs.Names.{shr_Tells, Stays, stay_dropped, walk_of, Goes-dropped, proved, leaves}
-use Rattle.thread_local_lemmas.proofs.Names.{alive, unhide}
+use Rattle.thread_local_model.proofs.Names.{sym, ◌≡◌, ℕ, List, [], ◌∷◌, refl, ap, Some, None, Option, a_type, named}
+use Rattle.thread_local_model.proofs.Names.{Val, vptr, vunit, inst_fn, SProp, emp, ‵, raw, ◌⊛◌, given, ◌$◌, ◌∵◌, ! }
+use Rattle.thread_local_model.proofs.Names.{qed, by, move, keep, drop, split, fsplit, fsplit3, fjoin, learn, rewrite}
+use Rattle.thread_local_model.proofs.Names.{feq_i, use0, use2, of_opd, unit_lit, returns, enter, alloc_all, pass_all}
+use Rattle.thread_local_model.proofs.Names.{free_all, look_at, sets, tables, fact, fact_i, yes, RattleType, owns}
+use Rattle.thread_local_model.proofs.Names.{types_at, plain, nothing, heard, param, layouts, RefOf, shr_vals}
+use Rattle.thread_local_model.proofs.Names.{shr_Tells, Stays, stay_dropped, walk_of, Goes-dropped, proved, leaves}
+use Rattle.thread_local_model.proofs.Names.{alive, unhide}
 use Rattle.std.proofs.Common.{IsSome}
 use Rattle.thread_local_tokens.specs.Told.{tells}
 use Rattle.thread_local_tokens.specs.contracts.witness.Witness as Witness

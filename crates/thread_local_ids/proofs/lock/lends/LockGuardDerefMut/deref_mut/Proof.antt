@@ -1,17 +1,17 @@
 -- `deref_mut` lends the value, and the guard follows what is written to it.
-use Rattle.thread_local_lemmas.proofs.Names.{◌≡◌, ℕ, ◌+◌, List, [], ◌∷◌, sym, refl, ap, ◌∙◌, dcons, dnil, a_type, named}
-use Rattle.thread_local_lemmas.proofs.Names.{Val, vptr, inst_fn, full_share, SProp, emp, guard_i, Lft, GName, Share}
-use Rattle.thread_local_lemmas.proofs.Names.{Fml, ftrue, fsep, fbor, flft, sem, ‵, raw, ◌⊛◌, some, given, later, at_ret}
-use Rattle.thread_local_lemmas.proofs.Names.{◌$◌, ◌∵◌, !, qed, by, move, keep, split, split3, join, fsplit, fsplit3}
-use Rattle.thread_local_lemmas.proofs.Names.{fjoin, fjoin3, fpick, fpack, pick, learn, use0, use1, use2, use3, await}
-use Rattle.thread_local_lemmas.proofs.Names.{rewrite, feq_i, stop, fld, hop, addr, of_opd, first, blocks, exec, returns}
-use Rattle.thread_local_lemmas.proofs.Names.{enter, alloc_all, pass_all, free_all, look_at, get, through, sets}
-use Rattle.thread_local_lemmas.proofs.Names.{sets_last, env, open_ref, sub, whole, look_in, tables, fact, fact_i}
-use Rattle.thread_local_lemmas.proofs.Names.{fact_use, no, RattleType, owns, types_at, plain, named_lft, Ptr, InBlock}
-use Rattle.thread_local_lemmas.proofs.Names.{block_ptr, block_of, count_of, at_block, nothing, peeks, Is, shows}
-use Rattle.thread_local_lemmas.proofs.Names.{cell_at, part_at, mem, param, bounded, RefMutOf, mut_vals, mut_Tells}
-use Rattle.thread_local_lemmas.proofs.Names.{follows, Stays, stay_dropped, walk_of, Goes-spent_ref, proved, leaves}
-use Rattle.thread_local_lemmas.proofs.Names.{tail}
+use Rattle.thread_local_model.proofs.Names.{◌≡◌, ℕ, ◌+◌, List, [], ◌∷◌, sym, refl, ap, ◌∙◌, dcons, dnil, a_type, named}
+use Rattle.thread_local_model.proofs.Names.{Val, vptr, inst_fn, full_share, SProp, emp, guard_i, Lft, GName, Share}
+use Rattle.thread_local_model.proofs.Names.{Fml, ftrue, fsep, fbor, flft, sem, ‵, raw, ◌⊛◌, some, given, later, at_ret}
+use Rattle.thread_local_model.proofs.Names.{◌$◌, ◌∵◌, !, qed, by, move, keep, split, split3, join, fsplit, fsplit3}
+use Rattle.thread_local_model.proofs.Names.{fjoin, fjoin3, fpick, fpack, pick, learn, use0, use1, use2, use3, await}
+use Rattle.thread_local_model.proofs.Names.{rewrite, feq_i, stop, fld, hop, addr, of_opd, first, blocks, exec, returns}
+use Rattle.thread_local_model.proofs.Names.{enter, alloc_all, pass_all, free_all, look_at, get, through, sets}
+use Rattle.thread_local_model.proofs.Names.{sets_last, env, open_ref, sub, whole, look_in, tables, fact, fact_i}
+use Rattle.thread_local_model.proofs.Names.{fact_use, no, RattleType, owns, types_at, plain, named_lft, Ptr, InBlock}
+use Rattle.thread_local_model.proofs.Names.{block_ptr, block_of, count_of, at_block, nothing, peeks, Is, shows}
+use Rattle.thread_local_model.proofs.Names.{cell_at, part_at, mem, param, bounded, RefMutOf, mut_vals, mut_Tells}
+use Rattle.thread_local_model.proofs.Names.{follows, Stays, stay_dropped, walk_of, Goes-spent_ref, proved, leaves}
+use Rattle.thread_local_model.proofs.Names.{tail}
 use base.Fml.{fobs}
 use types.SemTy.{Body}
 use types.Mut.{close_ref}

@@ -56,5 +56,5 @@ pub use Rattle.std.proofs.cell.Inside.{one, spread, gather}
 pub use Rattle.std.specs.Sync.RawAtomic.{word}
 pub use Rattle.std.specs.Sync.RawAtomic.Pointer.{cell}
 pub use Rattle.std.proofs.ResultValues.{and_tt}
-pub use Rattle.thread_local_lemmas.proofs.Bodies.{tail}
+pub use Rattle.thread_local_model.proofs.Bodies.{tail}
 pub use Rattle.std.proofs.mem.Param.{El, lawful, Good}

@@ -11,7 +11,7 @@ use types.Kit.{fpack, keep, use2}
 use denote.RawPtr.{Ptr, block_ptr, ptr_val, Testable, tests_null}
 use denote.Steps.{nothing}
 use Rattle.std.specs.Sync.RawAtomic.Pointer.{cell, alike, found_ptr, asks_by_cases, compares}
-use Rattle.thread_local_lemmas.proofs.Opened.{enters_for, leaves_with}
+use Rattle.thread_local_model.proofs.Opened.{enters_for, leaves_with}
 
 module _ {M : Type 1} {𝓤 : Ura M} (𝓛 : Logic 𝓤) where
   open 𝓛 use {A}

@@ -1,6 +1,6 @@
 -- What a pair owns, put together from what its two parts own. Assumes `Logic`.
-use Rattle.thread_local_lemmas.proofs.Names.{List, [], ◌∷◌, refl, Ura, Val, vstruct, vcons, vnil, Logic, ‵, ◌$◌, move}
-use Rattle.thread_local_lemmas.proofs.Names.{fjoin, fjoin3, fpack, feq_i, nothing, RattleType}
+use Rattle.thread_local_model.proofs.Names.{List, [], ◌∷◌, refl, Ura, Val, vstruct, vcons, vnil, Logic, ‵, ◌$◌, move}
+use Rattle.thread_local_model.proofs.Names.{fjoin, fjoin3, fpack, feq_i, nothing, RattleType}
 use types.Kit.{Item, Goal, Step, step}
 use denote.RattleType.{Valss}
 use denote.Struct.Struct.{within}

@@ -10,8 +10,8 @@ use Rattle.std.proofs.lemmas.List.{length-append, append_assoc, get_or_append_le
 use Rattle.std.proofs.lemmas.List.{get_or-set_same, get_or-set_other, length-set, ext_get_or, get_or-replicate}
 use Rattle.std.proofs.lemmas.List.{get_or_past, length-replicate}
 use Rattle.std.proofs.lemmas.List.Sums.{sum_by-cons, sum_by-append}
-use Rattle.thread_local_lemmas.specs.Bits.{is_set, is_set_in, low_bits, bits_of, IsNextUnset, IsWordBut}
-use Rattle.thread_local_lemmas.proofs.Word.{is_set-zero, is_set-all_ones, lowest_unset, length-low_bits, get_or-low_bits, count_ones-counts}
+use Rattle.thread_local_model.specs.Bits.{is_set, is_set_in, low_bits, bits_of, IsNextUnset, IsWordBut}
+use Rattle.thread_local_model.proofs.Word.{is_set-zero, is_set-all_ones, lowest_unset, length-low_bits, get_or-low_bits, count_ones-counts}
 
 -- there are 64 bits for each word
 pub length-bits_of : (words : List ℕ) → length (bits_of words) ≡ length words * 64

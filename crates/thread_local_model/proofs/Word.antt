@@ -17,7 +17,7 @@ use Rattle.std.proofs.lemmas.Nat.Bits.{bit_at_clear_same, bit_at_clear_other, bi
 use Rattle.std.proofs.lemmas.Nat.Bits.{same_from_bits_below}
 use Rattle.std.proofs.lemmas.Simd.{mask_l-lt, bit_mask_l, ones-mask_l}
 use lib.Lanes.{mask_l}
-use Rattle.thread_local_lemmas.specs.Bits.{is_set, low_bits, IsLowestUnset, IsLowestSet, IsWordBut}
+use Rattle.thread_local_model.specs.Bits.{is_set, low_bits, IsLowestUnset, IsLowestSet, IsWordBut}
 
 -- a test as code makes it, `word >> bit & 1 == 1`, tells whether the bit is set
 pub is_set-test : (word bit : ℕ) → eqb (bit_and (word / 2 ^ bit) 1) 1 ≡ is_set word bit
