@@ -1,6 +1,6 @@
 //! What slots were published with, as tokens say it: to threads, to whoever takes an id later, and
 //! to the owner.
-ghost use Rattle.std.specs.Prelude.{◌≡◌, IfSome, IsSome, None, Some};
+ghost use Rattle.std.specs.Prelude.{◌≡◌, true, IfSome, IsSome, None, Some};
 ghost use Rattle.thread_local_judged.specs.Judged.{Judged};
 ghost use Rattle.thread_local_model.specs.Buckets.{values};
 
