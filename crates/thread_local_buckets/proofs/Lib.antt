@@ -2,6 +2,7 @@ mod DrainLaws
 mod EntriesLaws
 mod Refilling
 mod Reserving
+mod Descending
 mod Frames
 mod Reading
 mod Shapes

@@ -103,8 +103,9 @@ impl<T> Buckets<T> {
         }
         let first = digits(capacity);
         let mut pointers = BucketPointers::new(alloc);
-        for bucket in 0..first {
-            pointers.ensure_bucket(bucket)?;
+        // The largest bucket first: where its memory can't be had, no work is done for the others.
+        for made in 0..first {
+            pointers.ensure_bucket(first - 1 - made)?;
         }
         Ok(Buckets {
             pointers,
