@@ -20,8 +20,9 @@ mod lends;
 /// Dropping it keeps the value and gives the id back, under the table's lock: that may wait, and
 /// takes no memory. A forgotten one keeps its id until the table is cleared.
 ///
-/// Each call does what the seat's of that name does. None takes a lock. Only `set`, `publish` and the `get_or` family (`get_or`,
-/// `get_or_default`, `get_or_try`, `try_fill`) take memory, for a bucket. The closure or the
+/// Each call but `seat`, `seat_mut` and `tokens` does what the seat's of that name does. None takes
+/// a lock. Only `set`, `publish` and the `get_or` family (`get_or`, `get_or_default`, `get_or_try`,
+/// `try_fill`) take memory, for a bucket. The closure or the
 /// `T::made_with` that these run may wait, and so may the drop of a closure that they don't run.
 /// References that calls answer live no longer than the borrow of the `Local`.
 ///

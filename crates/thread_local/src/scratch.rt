@@ -43,7 +43,8 @@ impl<T> Pool<T> {
     }
 
     /// A value of the pool, as its last holder left it, or one that the closure makes. It takes the
-    /// least id that isn't held: where at most n values are held at once, at most n are ever made.
+    /// least id that isn't held. So where at most n values are held at once, at most n are made,
+    /// unless one is taken out (`Pooled::take`) or the owner drains or clears the pool.
     ///
     /// May wait, and takes memory, as `ThreadLocal::local` and `Local::get_or` do; the closure runs
     /// with no lock held, and may wait, too. `Memory` means out of memory, and `Exhausted` that all
@@ -93,7 +94,8 @@ impl<T> fmt::Debug for Pool<T> {
 
 impl Pool<Vec<u8>> {
     /// An empty buffer, with the room that its last holder left. Where at most n buffers are held at
-    /// once, at most n are ever made. It may wait, takes memory and refuses as `get` does.
+    /// once, at most n are made, unless the owner drains or clears the pool. It may wait, takes
+    /// memory and refuses as `get` does.
     pub fn buffer<'a, R: Wait>(&'a self, rt: &'a R) -> Result<Buffer<'a, R>, LocalError>
         ensures empty { IfOk result (λ buffer. buffer ≡ []) }
     {

@@ -86,7 +86,7 @@ impl<T> Buckets<T> {
     /// slots. No slot has a value.
     ///
     /// `TooLarge` means a capacity of 2^63 or more, and comes before memory is asked for. `Memory`
-    /// means out of memory for a bucket; those made before it are freed.
+    /// means out of memory for a bucket; those made before it are freed, though no clause says so.
     pub fn with_capacity(alloc: Global, capacity: usize) -> Result<Buckets<T>, CapacityError>
     where
         T: Drop,
