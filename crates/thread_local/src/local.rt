@@ -8,8 +8,8 @@ pub use crate::seat::{Seat, SetError, TryError};
 use std::fmt;
 use std::marker::Model;
 use std::sync::Wait;
+use thread_local_ids::Token;
 use thread_local_shared_buckets::{Iter, Tokens};
-use thread_local_tokens::Token;
 
 // `get_or` and `get_or_default` stand here.
 mod lends;

@@ -12,11 +12,11 @@ use std::alloc::{AllocError, Global};
 use std::fmt;
 use std::marker::Model;
 use std::sync::Wait;
-use thread_local_blocks::Block;
+use thread_local_bucket_pointers::Block;
 use thread_local_claim::Claim;
+use thread_local_ids::{HeldId, Right, Token};
 use thread_local_shared_buckets::Iter;
 use thread_local_thread_id::Thread;
-use thread_local_tokens::{HeldId, Right, Token};
 
 // `get_or` and `get_or_default` stand here.
 mod lends;

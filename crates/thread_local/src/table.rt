@@ -17,13 +17,12 @@ use std::mem::replace;
 use std::sync::Wait;
 pub use thread_local_buckets::CapacityError;
 use thread_local_buckets::{Buckets, EntriesMut, IntoEntries, IntoIter, IterMut};
-use thread_local_ids::{Ids, Lock};
+use thread_local_ids::{Ids, Lock, Right};
+pub use thread_local_ids::{Book, Token};
 pub use thread_local_judged::{Judge, judge_sync, judge_value};
 use thread_local_model::walk::walk_lists_the_map;
 use thread_local_shared_buckets::{Entries, Iter, Shared, Tokens};
 use thread_local_thread_id::LocalError;
-use thread_local_tokens::Right;
-pub use thread_local_tokens::{Book, Token};
 
 // `buckets_mut`, `drain` and `get_mut` stand here.
 mod lends;

@@ -9,7 +9,7 @@ use Rattle.thread_local_model.specs.Buckets.{Contents, row, values}
 use Rattle.thread_local_model.specs.Rows.{value_in}
 use Rattle.thread_local_model.specs.Counting.{count_below}
 use Rattle.thread_local_model.proofs.TakingLaws.{count_below-absent}
-use Rattle.thread_local_cursor.proofs.CountingLaws.{count_below-chunk}
+use Rattle.thread_local_bucket_pointers.proofs.CountingLaws.{count_below-chunk}
 
 module _ {V : Type 0} (first now : Contents V) (b k word : ℕ) (same : now ≡ first)
     (whole : length (row first b) ≡ 2 ^ b) (fits : word < 2 ^ 64)

@@ -8,8 +8,8 @@ use denote.Memory.{part_of}
 use Rattle.thread_local_model.specs.Bits.{is_set}
 use Rattle.thread_local_model.proofs.Word.{same_bit}
 use Rattle.thread_local_bucket_pointers.specs.LentValue.{with_slot_value}
-use Rattle.thread_local_blocks.specs.Slots.{value_offset, heap_token}
-use Rattle.thread_local_blocks.proofs.Slots.{Change, flags_of}
+use Rattle.thread_local_bucket_pointers.specs.Slots.{value_offset, heap_token}
+use Rattle.thread_local_bucket_pointers.proofs.Slots.{Change, flags_of}
 use Rattle.thread_local_bucket_pointers.specs.PointerOwns.{pointer_owns}
 use Rattle.thread_local_bucket_pointers.specs.contracts.bucket_pointer.BucketPointer as one_pointer
 use Rattle.thread_local_bucket_pointers.proofs.PointerSteps.{FieldsType, Again, pointer_again}

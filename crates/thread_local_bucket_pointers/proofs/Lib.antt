@@ -4,3 +4,15 @@ pub mod Clearing
 pub mod Counting
 pub mod PointerSteps
 pub mod LentValue
+pub mod CountingLaws
+pub mod FlagLaws
+pub mod NextValue
+pub mod Each
+pub mod Flags
+pub mod Rooms
+pub mod Slots
+pub mod Fields
+pub mod Making
+pub mod Rounding
+pub mod Sent
+pub mod RetiredBlocks

@@ -18,10 +18,10 @@ use denote.Struct.Owning.{shape}
 use Rattle.std.specs.declared.alloc.Global.{Global}
 use Rattle.std.specs.contracts.impls.GlobalAllocator.TheImpl.{ghosts}
 use Rattle.std.proofs.GlobalToken.{dealloc_token-Testable}
-use Rattle.thread_local_blocks.specs.Slots.{slot_value, block_ty, heap_token, block_owns}
+use Rattle.thread_local_bucket_pointers.specs.Slots.{slot_value, block_ty, heap_token, block_owns}
 use Rattle.thread_local_bucket_pointers.specs.PointerOwns.{pointer_owns}
 use Rattle.thread_local_bucket_pointers.specs.contracts.bucket_pointer.BucketPointer as one_pointer
-use Rattle.thread_local_blocks.proofs.Slots.{IsWordIn, IsSlotIn, Change, flags_of, slot_of, Back, slot_out, slot_back, word_out}
+use Rattle.thread_local_bucket_pointers.proofs.Slots.{IsWordIn, IsSlotIn, Change, flags_of, slot_of, Back, slot_out, slot_back, word_out}
 
 abbrev pub pointer_val : Ptr → Val
 pointer_val p = vstruct (vcons (ptr_val p) vnil)

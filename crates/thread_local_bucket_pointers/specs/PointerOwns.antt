@@ -4,7 +4,7 @@ use base.Fml.{Fml}
 use mir.Syntax.{Ty}
 use denote.RattleType.{RattleType}
 use denote.RawPtr.{Ptr, null_ptr}
-use Rattle.thread_local_blocks.specs.Slots.{block_owns}
+use Rattle.thread_local_bucket_pointers.specs.Slots.{block_owns}
 use Rattle.thread_local_model.specs.Fact.{fact}
 
 -- the pointer is null where there are no slots, and else points to a block of these

@@ -3,13 +3,13 @@ ghost use Rattle.std.specs.Prelude.{◌≡◌, ◌⊎◌, ℕ, ◌+◌, ◌*◌,
 ghost use base.Stored.{coded_list};
 ghost use Rattle.std.specs.Coded.{coded_option};
 ghost use Rattle.thread_local_model.specs.Bits.{is_set};
-ghost use Rattle.thread_local_blocks.specs.Slots.{heap_token, slot_value, empty_slots, flag_word_at};
+ghost use Rattle.thread_local_bucket_pointers.specs.Slots.{heap_token, slot_value, empty_slots, flag_word_at};
 ghost use Rattle.thread_local_bucket_pointers.specs.PointerOwns.{pointer_owns};
 
+use crate::{Block, Chunk, RetiredBlock, flag_word_at};
 use std::alloc::Global;
 use std::marker::{Model, PhantomData};
 use std::ptr::null_mut;
-use thread_local_blocks::{Block, Chunk, RetiredBlock, flag_word_at};
 
 mod lends;
 

@@ -3,13 +3,12 @@ ghost use Rattle.std.specs.Prelude.{◌≡◌, ℕ, ◌+◌, ◌*◌, ◌^◌, �
 ghost use Rattle.thread_local_model.specs.Bits.{is_set};
 ghost use Rattle.thread_local_model.specs.Buckets.{row, stands, no_contents, IsTable};
 ghost use Rattle.thread_local_model.specs.Rows.{value_in, with_row, with_slot, empty_row};
-ghost use Rattle.thread_local_cursor.specs.Cursor.{AreFlagsAt};
+ghost use Rattle.thread_local_bucket_pointers.specs.Cursor.{AreFlagsAt};
 
 use crate::pointer_array::PointerArray;
+use crate::{Block, FlagSource, flag_word_at};
 use std::alloc::{AllocError, Global};
 use std::marker::Model;
-use thread_local_blocks::{Block, flag_word_at};
-use thread_local_cursor::FlagSource;
 use thread_local_thread_id::{Thread, bucket_size};
 
 mod clearing;

@@ -11,7 +11,7 @@ use denote.RawPtr.{Testable}
 use Rattle.std.proofs.lemmas.Bool.{true≢false, false≢true}
 use Rattle.std.proofs.lemmas.List.{length-map}
 use Rattle.std.proofs.GlobalToken.{dealloc_token-Testable}
-use Rattle.thread_local_blocks.specs.Slots.{block_ty, chunks, Fits, AreFlags, flags_at, slot, each, flags, flags_own, back, heap_token}
+use Rattle.thread_local_bucket_pointers.specs.Slots.{block_ty, chunks, Fits, AreFlags, flags_at, slot, each, flags, flags_own, back, heap_token}
 use Rattle.thread_local_model.specs.Fact.{fact}
 use Rattle.thread_local_bucket_pointers.specs.PointerOwns.{pointer_owns}
 use Rattle.thread_local_buckets.specs.Lent.{flagged, valued, bare, PointsTo}

@@ -12,8 +12,8 @@ use denote.Struct.Struct.{Struct}
 use denote.Struct.Owning.{shape}
 use Rattle.std.proofs.lemmas.Bool.{lt-ltb, false≢true}
 use Rattle.std.proofs.Common.{IsSome, Some, None, ℕ, ◌+◌, ◌*◌, add-mul}
-use Rattle.thread_local_blocks.specs.Slots.{stride, value_offset, Fits}
-use Rattle.thread_local_blocks.proofs.Flags.{value_near}
+use Rattle.thread_local_bucket_pointers.specs.Slots.{stride, value_offset, Fits}
+use Rattle.thread_local_bucket_pointers.proofs.Flags.{value_near}
 use Rattle.thread_local_buckets.specs.Lent.{PointsTo}
 use Rattle.thread_local_buckets.specs.contracts.loan.Loan as loan
 

@@ -10,10 +10,10 @@ use Rattle.thread_local_model.specs.Bits.{is_set}
 use Rattle.thread_local_model.specs.Place.{id_at}
 use Rattle.thread_local_model.specs.Buckets.{Contents, row}
 use Rattle.thread_local_model.specs.Rows.{value_in}
-use Rattle.thread_local_blocks.specs.Slots.{chunks, AreFlags, each, flags_at, flags_own}
-use Rattle.thread_local_blocks.proofs.Each.{Put, each_at}
-use Rattle.thread_local_blocks.proofs.Flags.{chunk_in}
-use Rattle.thread_local_blocks.proofs.Slots.{IsWordOf, word_of}
+use Rattle.thread_local_bucket_pointers.specs.Slots.{chunks, AreFlags, each, flags_at, flags_own}
+use Rattle.thread_local_bucket_pointers.proofs.Each.{Put, each_at}
+use Rattle.thread_local_bucket_pointers.proofs.Flags.{chunk_in}
+use Rattle.thread_local_bucket_pointers.proofs.Slots.{IsWordOf, word_of}
 use Rattle.thread_local_buckets.specs.Lent.{flagged, IsLeft}
 
 -- where no value of a chunk was given, its word says the same of the whole contents as of those

@@ -14,7 +14,7 @@ use denote.RattleType.{Denots}
 use denote.Struct.Members.{rows_of, parts_at}
 use denote.Struct.Parts.{PartsBack, Struct-parts}
 use denote.Struct.OwningLaws.{part_out, part_in}
-use Rattle.thread_local_blocks.specs.Slots.{each, heap_token}
+use Rattle.thread_local_bucket_pointers.specs.Slots.{each, heap_token}
 use Rattle.thread_local_bucket_pointers.specs.PointerOwns.{pointer_owns}
 use Rattle.thread_local_bucket_pointers.specs.declared.bucket_pointer.BucketPointer.{BucketPointer}
 use Rattle.thread_local_bucket_pointers.specs.contracts.bucket_pointer.BucketPointer as one_pointer

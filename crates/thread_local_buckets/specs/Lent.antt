@@ -16,7 +16,7 @@ use Rattle.thread_local_model.specs.Buckets.{Contents, row, IsTable}
 use Rattle.thread_local_model.specs.Rows.{value_in}
 use Rattle.thread_local_model.specs.Owned.{Owned}
 use Rattle.thread_local_model.specs.Code.{owned_coded}
-use Rattle.thread_local_blocks.specs.Slots.{each, flags, value_offset, Fits}
+use Rattle.thread_local_bucket_pointers.specs.Slots.{each, flags, value_offset, Fits}
 use Rattle.thread_local_model.specs.Fact.{fact}
 
 -- which slots have a value

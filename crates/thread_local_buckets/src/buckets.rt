@@ -16,8 +16,7 @@ use crate::iter::{IntoEntries, IntoIter};
 use crate::iter_mut::{EntriesMut, IterMut};
 use std::alloc::{AllocError, Global};
 use std::marker::Model;
-use thread_local_bucket_pointers::BucketPointers;
-use thread_local_cursor::FlagSource;
+use thread_local_bucket_pointers::{BucketPointers, FlagSource};
 use thread_local_thread_id::{BUCKETS, Thread, bucket_size};
 
 mod lends;

@@ -14,18 +14,18 @@ use types.Kit.{use3, done}
 use denote.RattleType.{RattleType}
 use denote.RawPtr.{block_of, count_of}
 use denote.Steps.{nothing}
-use Rattle.thread_local_tokens.specs.Rights.{right_owns}
+use Rattle.thread_local_ids.specs.Rights.{right_owns}
 use Rattle.thread_local_model.specs.Bits.{is_set}
-use Rattle.thread_local_blocks.specs.Slots.{value_offset}
-use Rattle.thread_local_tokens.specs.Told.{tells, untold_in}
-use Rattle.thread_local_tokens.proofs.ToldElements.{tells_alike, telling_alike}
+use Rattle.thread_local_bucket_pointers.specs.Slots.{value_offset}
+use Rattle.thread_local_ids.specs.Told.{tells, untold_in}
+use Rattle.thread_local_ids.proofs.ToldElements.{tells_alike, telling_alike}
 use Rattle.thread_local_model.specs.Learnt.{Learnt, Unknown, Missing, Standing, Vacant, Holding}
-use Rattle.thread_local_shared_bucket.specs.Shared.{name_at, BucketView, Turn, StandingBlock, Who, stays, had, len}
-use Rattle.thread_local_shared_bucket.specs.Shared.{Sized, block_code, bucket_invariant, kept, loaded, value_code}
-use Rattle.thread_local_shared_bucket.specs.Shared as slots
-use Rattle.thread_local_shared_bucket.proofs.Inside.{Next, quietly}
-use Rattle.thread_local_shared_bucket.proofs.Inside as inside
-use Rattle.thread_local_shared_bucket.proofs.Steps as general
+use Rattle.thread_local_claim.specs.Shared.{name_at, BucketView, Turn, StandingBlock, Who, stays, had, len}
+use Rattle.thread_local_claim.specs.Shared.{Sized, block_code, bucket_invariant, kept, loaded, value_code}
+use Rattle.thread_local_claim.specs.Shared as slots
+use Rattle.thread_local_claim.proofs.Inside.{Next, quietly}
+use Rattle.thread_local_claim.proofs.Inside as inside
+use Rattle.thread_local_claim.proofs.SlotSteps as general
 use Rattle.thread_local_claim.specs.Known.{HasLooked}
 use Rattle.thread_local_claim.specs.Claims.{ClaimFields, IsOf, IsKept, value_at, has_slot, has, has_at, claim_owns}
 use Rattle.thread_local_claim.proofs.Moves as moves

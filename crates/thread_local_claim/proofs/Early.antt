@@ -11,19 +11,19 @@ use types.Kit.{split3, rewrite, group, fsplit, fsplit3, fjoin, fjoin3, fpick, fp
 use denote.RattleType.{RattleType}
 use denote.RawPtr.{Ptr, block_ptr, null_ptr, block_of, count_of}
 use Rattle.std.specs.Sync.RawAtomic.Pointer.{cell}
-use Rattle.thread_local_tokens.specs.Rights.{right_owns}
-use Rattle.thread_local_tokens.proofs.RightElements.{right_once}
+use Rattle.thread_local_ids.specs.Rights.{right_owns}
+use Rattle.thread_local_ids.proofs.RightElements.{right_once}
 use Rattle.thread_local_model.specs.Bits.{is_set}
 use Rattle.thread_local_model.proofs.Word.{same_bit}
-use Rattle.thread_local_blocks.specs.Slots.{value_offset}
-use Rattle.thread_local_shared_bucket.specs.Shared.{name_at, BucketView, Turn, StandingBlock, Who, free, stays, had}
-use Rattle.thread_local_shared_bucket.specs.Shared.{unborn, all_unborn, waiting, len, first, Sized, pending, standing}
-use Rattle.thread_local_shared_bucket.specs.Shared.{beside_pointer, bucket_invariant}
+use Rattle.thread_local_bucket_pointers.specs.Slots.{value_offset}
+use Rattle.thread_local_claim.specs.Shared.{name_at, BucketView, Turn, StandingBlock, Who, free, stays, had}
+use Rattle.thread_local_claim.specs.Shared.{unborn, all_unborn, waiting, len, first, Sized, pending, standing}
+use Rattle.thread_local_claim.specs.Shared.{beside_pointer, bucket_invariant}
 use Rattle.thread_local_claim.specs.Claims.{waits}
-use Rattle.thread_local_tokens.specs.Told.{untold_in}
-use Rattle.thread_local_shared_bucket.proofs.Inside.{Next, quietly}
-use Rattle.thread_local_shared_bucket.proofs.Inside as inside
-use Rattle.thread_local_shared_bucket.proofs.Steps as steps
+use Rattle.thread_local_ids.specs.Told.{untold_in}
+use Rattle.thread_local_claim.proofs.Inside.{Next, quietly}
+use Rattle.thread_local_claim.proofs.Inside as inside
+use Rattle.thread_local_claim.proofs.SlotSteps as steps
 use Rattle.thread_local_claim.proofs.Moves as moves
 
 module _ {M : Type 1} {𝓤 : Ura M} (𝓛 : Logic 𝓤) (R : RattleType) where

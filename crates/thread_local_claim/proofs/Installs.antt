@@ -12,11 +12,11 @@ use types.Kit.{updating, now, use1, use2, done}
 use denote.RattleType.{RattleType}
 use denote.RawPtr.{Ptr, block_ptr}
 use denote.Steps.{nothing}
-use Rattle.thread_local_tokens.specs.Rights.{right_owns}
-use Rattle.thread_local_blocks.specs.Slots.{value_offset}
+use Rattle.thread_local_ids.specs.Rights.{right_owns}
+use Rattle.thread_local_bucket_pointers.specs.Slots.{value_offset}
 use Rattle.thread_local_model.specs.Fact.{fact}
-use Rattle.thread_local_shared_bucket.specs.Shared.{BucketView, Turn, StandingBlock, Sized, block_code, len, bucket_invariant, kept, loaded}
-use Rattle.thread_local_shared_bucket.proofs.Loads.{part, reaches}
+use Rattle.thread_local_claim.specs.Shared.{BucketView, Turn, StandingBlock, Sized, block_code, len, bucket_invariant, kept, loaded}
+use Rattle.thread_local_claim.proofs.Loads.{part, reaches}
 use Rattle.thread_local_model.specs.Learnt.{Vacant}
 use Rattle.thread_local_claim.specs.Claims.{ClaimFields, claim_fields, IsOf, IsKept, value_at, has_slot, has_at, claim_owns}
 use Rattle.thread_local_claim.proofs.Steps as steps

@@ -12,7 +12,7 @@ use types.Logic.{Logic, sem}
 use denote.RattleType.{RattleType}
 use Rattle.thread_local_model.specs.Learnt.{Learnt, Unknown, Missing, Standing, Vacant, Holding, learnt_by_look, Finds}
 use Rattle.thread_local_model.specs.Fact.{fact}
-use Rattle.thread_local_shared_bucket.specs.Shared.{BucketView, Turn, StandingBlock}
+use Rattle.thread_local_claim.specs.Shared.{BucketView, Turn, StandingBlock}
 use Rattle.thread_local_claim.specs.Known.{HasLooked, IsMissing, has_looked, state_by, value_held, found_as}
 use Rattle.thread_local_claim.specs.Claims.{ClaimFields, has_slot, has, waits, IsKept}
 

@@ -28,15 +28,15 @@ use Rattle.std.specs.Coded.{coded_option}
 use denote.Struct.Lending.{Lends}
 use Rattle.std.proofs.cell.BorrowLemmas.{by_one, unnest_before}
 use Rattle.thread_local_judged.specs.Judged.{Shareable, Judged}
-use Rattle.thread_local_tokens.specs.Rights.{right_owns}
-use Rattle.thread_local_blocks.specs.Slots.{value_offset, content_at}
+use Rattle.thread_local_ids.specs.Rights.{right_owns}
+use Rattle.thread_local_bucket_pointers.specs.Slots.{value_offset, content_at}
 use Rattle.thread_local_model.specs.Fact.{fact}
-use Rattle.thread_local_tokens.specs.Told.{tells}
-use Rattle.thread_local_tokens.proofs.ToldElements.{told_dup}
-use Rattle.thread_local_tokens.proofs.Twice.{tells_laws}
-use Rattle.thread_local_shared_bucket.specs.Shared.{name_at, BucketView, Turn, StandingBlock, Sized, len, value_code}
-use Rattle.thread_local_shared_bucket.specs.Shared.{pinned, tracked_value, age, kept, loaded}
-use Rattle.thread_local_shared_bucket.specs.Shared as slots
+use Rattle.thread_local_ids.specs.Told.{tells}
+use Rattle.thread_local_ids.proofs.ToldElements.{told_dup}
+use Rattle.thread_local_ids.proofs.Twice.{tells_laws}
+use Rattle.thread_local_claim.specs.Shared.{name_at, BucketView, Turn, StandingBlock, Sized, len, value_code}
+use Rattle.thread_local_claim.specs.Shared.{pinned, tracked_value, age, kept, loaded}
+use Rattle.thread_local_claim.specs.Shared as slots
 use Rattle.thread_local_model.specs.Learnt.{Learnt, Unknown, Missing, Standing, Vacant, Holding}
 use Rattle.thread_local_claim.specs.Known.{value_held}
 use Rattle.thread_local_claim.specs.Claims.{ClaimFields, has_slot, IsKept, IsOf, has_at, claim_owns, value_at, lasts}

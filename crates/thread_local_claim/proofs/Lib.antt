@@ -10,3 +10,14 @@ pub mod Moves
 pub mod Sent
 pub mod Steps
 pub mod Surrender
+pub mod RowFields
+pub mod Lent
+pub mod PointerValue
+pub mod Inside
+pub mod Loads
+pub mod Looks
+pub mod Offers
+pub mod Rested
+pub mod BucketSent
+pub mod SlotSteps
+pub mod Tokens

@@ -11,12 +11,12 @@ use types.Kit.{‵, raw, ◌⊛◌, given, settle, suffices, use1, check, ◌$�
 use types.Kit.{rewrite, fsplit, fsplit3, fjoin, fjoin3, learn, use2, use3, split3, done}
 use denote.RattleType.{RattleType}
 use Rattle.std.specs.Coded.{coded_option}
-use Rattle.thread_local_tokens.specs.Rights.{right_owns}
-use Rattle.thread_local_tokens.proofs.RightElements.{right_once}
-use Rattle.thread_local_shared_bucket.specs.Shared.{Turn, Who, free, claimed, early, value_code, pinned}
-use Rattle.thread_local_shared_bucket.specs.Shared.{pinned_and_told, opened, holds, stays, had}
-use Rattle.thread_local_tokens.specs.Told.{tells}
-use Rattle.thread_local_tokens.proofs.ToldElements.{told_dup, tells_it}
+use Rattle.thread_local_ids.specs.Rights.{right_owns}
+use Rattle.thread_local_ids.proofs.RightElements.{right_once}
+use Rattle.thread_local_claim.specs.Shared.{Turn, Who, free, claimed, early, value_code, pinned}
+use Rattle.thread_local_claim.specs.Shared.{pinned_and_told, opened, holds, stays, had}
+use Rattle.thread_local_ids.specs.Told.{tells}
+use Rattle.thread_local_ids.proofs.ToldElements.{told_dup, tells_it}
 
 some_alike : {X : Type 0} {x y : X} → ◌≡◌ {A = Option X} (Some x) (Some y) → x ≡ y
 some_alike {X} {x} e = ap {A = Option X} (λ o. elim o as (λ _. X) [ Some z ↦ z | None ↦ x ]) e

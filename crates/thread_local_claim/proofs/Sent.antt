@@ -7,11 +7,11 @@ use denote.RattleType.{RattleType}
 use denote.Param.Send.{IsSend}
 use denote.RawPtr.{block_of, count_of}
 use Rattle.thread_local_judged.specs.Judged.{Judged}
-use Rattle.thread_local_tokens.proofs.ToldElements.{tells_keyless}
-use Rattle.thread_local_tokens.proofs.RightElements.{right_keyless}
-use Rattle.thread_local_blocks.specs.Slots.{value_offset}
-use Rattle.thread_local_shared_bucket.specs.Shared.{name_at, BucketView, Turn, StandingBlock, age, by, holds}
-use Rattle.thread_local_shared_bucket.proofs.Sent.{value_keyless, kept_keyless, row_keyless}
+use Rattle.thread_local_ids.proofs.ToldElements.{tells_keyless}
+use Rattle.thread_local_ids.proofs.RightElements.{right_keyless}
+use Rattle.thread_local_bucket_pointers.specs.Slots.{value_offset}
+use Rattle.thread_local_claim.specs.Shared.{name_at, BucketView, Turn, StandingBlock, age, by, holds}
+use Rattle.thread_local_claim.proofs.BucketSent.{value_keyless, kept_keyless, row_keyless}
 use Rattle.thread_local_model.specs.Learnt.{Learnt, Unknown, Missing, Standing, Vacant, Holding}
 use Rattle.thread_local_claim.specs.Claims.{ClaimFields, has_slot, has, claim_owns}
 

@@ -13,14 +13,14 @@ use denote.RattleType.{RattleType}
 use denote.Steps.{nothing}
 use denote.RawPtr.{Ptr, block_ptr, block_of, count_of}
 use Rattle.std.specs.Sync.RawAtomic.{asks, always}
-use Rattle.thread_local_tokens.specs.Rights.{right_owns}
-use Rattle.thread_local_blocks.specs.Slots.{word_offset, value_offset}
+use Rattle.thread_local_ids.specs.Rights.{right_owns}
+use Rattle.thread_local_bucket_pointers.specs.Slots.{word_offset, value_offset}
 use Rattle.thread_local_model.specs.Fact.{fact}
 use Rattle.thread_local_model.specs.Bits.{is_set}
 use Rattle.thread_local_model.proofs.Word.{add_shifted, same_bit}
-use Rattle.thread_local_shared_bucket.specs.Shared.{name_at, BucketView, Turn, StandingBlock, Who, free, claimed, len, first}
+use Rattle.thread_local_claim.specs.Shared.{name_at, BucketView, Turn, StandingBlock, Who, free, claimed, len, first}
 use Rattle.thread_local_claim.specs.Claims.{waits, IsTold}
-use Rattle.thread_local_shared_bucket.proofs.Steps as general
+use Rattle.thread_local_claim.proofs.SlotSteps as general
 use Rattle.thread_local_claim.proofs.Moves as moves
 
 module _ {M : Type 1} {𝓤 : Ura M} (𝓛 : Logic 𝓤) (R : RattleType) (d : BucketView) (t : Turn)

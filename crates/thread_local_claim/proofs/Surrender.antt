@@ -12,10 +12,10 @@ use types.Kit.{‵, raw, ◌⊛◌, some, later, ◌$◌, ◌∵◌, !, qed, by,
 use types.Kit.{fpick, await, updating, now, use2, use3, done}
 use denote.RattleType.{RattleType}
 use denote.RawPtr.{Ptr, block_of, count_of}
-use Rattle.thread_local_tokens.specs.Rights.{right_owns}
-use Rattle.thread_local_blocks.specs.Slots.{value_offset}
+use Rattle.thread_local_ids.specs.Rights.{right_owns}
+use Rattle.thread_local_bucket_pointers.specs.Slots.{value_offset}
 use Rattle.thread_local_model.specs.Fact.{fact}
-use Rattle.thread_local_shared_bucket.specs.Shared.{BucketView, Turn, StandingBlock, bucket_invariant}
+use Rattle.thread_local_claim.specs.Shared.{BucketView, Turn, StandingBlock, bucket_invariant}
 use Rattle.thread_local_model.specs.Learnt.{Learnt, Unknown, Missing, Standing, Vacant, Holding}
 use Rattle.thread_local_claim.specs.Claims.{ClaimFields, IsOf, has_slot, has, claim_owns, waits}
 use Rattle.thread_local_claim.proofs.Early as early

@@ -13,12 +13,12 @@ use denote.RattleType.{RattleType}
 use denote.Memory.{shared_of}
 use denote.RawPtr.{Ptr, InBlock, block_ptr, block_of, count_of}
 use denote.Sharing.{said, beside, within, some, held, nothing}
-use Rattle.thread_local_tokens.specs.Rights.{right_owns}
+use Rattle.thread_local_ids.specs.Rights.{right_owns}
 use Rattle.thread_local_judged.specs.Judged.{Judged}
-use Rattle.thread_local_blocks.specs.Slots.{flag_word_at, value_offset}
+use Rattle.thread_local_bucket_pointers.specs.Slots.{flag_word_at, value_offset}
 use Rattle.thread_local_model.specs.Fact.{fact}
-use Rattle.thread_local_tokens.specs.Told.{tells}
-use Rattle.thread_local_shared_bucket.specs.Shared.{name_at, BucketView, Turn, StandingBlock, holds, first, len, kept, loaded}
+use Rattle.thread_local_ids.specs.Told.{tells}
+use Rattle.thread_local_claim.specs.Shared.{name_at, BucketView, Turn, StandingBlock, holds, first, len, kept, loaded}
 
 -- a claim without the value that its slot holds: its id, the index of its slot, the address of its
 -- bucket's pointer, where it points itself, the sharing if that has a name, and whether the bucket is

@@ -1,3 +1,4 @@
 pub mod Claims
 pub mod Known
 pub mod Views
+pub mod Shared

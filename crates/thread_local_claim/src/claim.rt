@@ -3,17 +3,17 @@
 ghost use Rattle.std.specs.Prelude.{◌≡◌, ◌≢◌, ◌/◌, ◌^◌, ◌⊎◌, true, Some, IsSome, MatchBool, MatchOption};
 ghost use Rattle.thread_local_model.specs.Learnt.{Unknown, Missing, Vacant, Holding, Finds, learnt_by_install, learnt_by_publish};
 ghost use Rattle.thread_local_model.specs.Place.{IsPlaceOf};
-ghost use Rattle.thread_local_blocks.specs.Slots.{empty_slots, flag_word_at};
+ghost use Rattle.thread_local_bucket_pointers.specs.Slots.{empty_slots, flag_word_at};
 ghost use Rattle.thread_local_claim.specs.Known.{HasLooked};
 
+use crate::SharedBucket;
 use crate::claimed::ClaimedSlot;
 use crate::replaced::replace_with;
 use std::alloc::Global;
 use std::marker::Model;
-use thread_local_blocks::{Block, flag_word_at};
-use thread_local_shared_bucket::SharedBucket;
+use thread_local_bucket_pointers::{Block, flag_word_at};
+use thread_local_ids::{HeldId, Right, Token};
 use thread_local_thread_id::Thread;
-use thread_local_tokens::{HeldId, Right, Token};
 
 /// The slot of an id, for whoever has the right to the id. Contracts see its table, the sharing, its
 /// id, whether its bucket is reserved, and what it has learnt of the slot: that the bucket was

@@ -9,13 +9,13 @@ ghost use Rattle.thread_local_model.specs.Place.{id_at};
 ghost use Rattle.thread_local_claim.specs.Known.{HasLooked, IsMissing, is_missing, state_of, value_held};
 ghost use Rattle.thread_local_claim.specs.Claims.{flag_word_of, claim_fields, claim_owns, claim_shares};
 
+use crate::SharedBucket;
 use std::marker::{Brand, Model, PhantomData};
 use std::mem::size_of;
 use std::sync::atomic::Ordering::SeqCst;
 use std::sync::atomic::raw;
 use std::sync::atomic::raw::ptr;
-use thread_local_shared_bucket::SharedBucket;
-use thread_local_tokens::Right;
+use thread_local_ids::Right;
 
 // `exchange` stands in `install`, `witness` and `agrees` in `told`.
 mod give_up;

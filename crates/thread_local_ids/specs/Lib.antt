@@ -1,3 +1,6 @@
 pub mod Tied
 pub mod Guarded
 pub mod Locking
+pub mod Told
+pub mod Views
+pub mod Rights

@@ -1,7 +1,7 @@
 -- What a contract sees of a table's ids, and how the held ids are tied to the rights that are out.
 use Rattle.std.specs.Prelude.{◌≡◌, ℕ, ◌+◌, ◌-◌, ◌^◌, ◌<◌, Bool}
 use Rattle.thread_local_model.specs.Held.{Manager, is_held}
-use Rattle.thread_local_tokens.specs.Rights.{is_out}
+use Rattle.thread_local_ids.specs.Rights.{is_out}
 use Rattle.thread_local_ids.specs.declared.ids.Ids.TheInside.{Inside}
 
 -- the manager of ids, the name of the table that the rights are to, and whether the table's

@@ -4,11 +4,11 @@ ghost use Rattle.std.specs.Prelude.{alloc_error};
 ghost use Rattle.thread_local_model.specs.Held.{is_held, Takes, Gives, NeedsMemory, IsExhausted};
 
 use crate::lock::Fits;
+use crate::{HeldId, Right, Rights};
 use std::alloc::{AllocError, Global};
 use std::marker::Model;
 use thread_local_thread_id::manager::IDS;
 use thread_local_thread_id::{LocalError, ThreadIdManager};
-use thread_local_tokens::{HeldId, Right, Rights};
 
 /// The mark of an id is the right to this number more than the id. It is no id: all ids are less than
 /// this number.

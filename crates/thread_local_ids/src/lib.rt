@@ -1,9 +1,20 @@
-//! The ids of a table, each with its right, and the lock under which a table keeps them.
+//! The ids of a table, each with its right, and the lock under which a table keeps them; and tokens,
+//! which say what the slots of ids were published with.
 #![tactic(auto)]
 
+pub mod book;
+pub mod held;
 pub mod ids;
 pub mod lock;
+pub mod right;
+pub mod token;
+pub mod witness;
 pub mod word;
 
+pub use book::Book;
+pub use held::HeldId;
 pub use ids::Ids;
 pub use lock::{Fits, Lock, LockGuard};
+pub use right::{Right, Rights};
+pub use token::Token;
+pub use witness::Witness;

@@ -8,9 +8,8 @@ use std::sync::atomic::Ordering::SeqCst;
 use std::test::Fail;
 use std::thread;
 use std::thread::Threads;
-use thread_local_ids::{Ids, Lock};
+use thread_local_ids::{HeldId, Ids, Lock, Right};
 use thread_local_thread_id::LocalError;
-use thread_local_tokens::{HeldId, Right};
 
 /// Two ids of one table are two.
 fn take_two(ids: &mut Ids) -> Result<((HeldId, Right), (HeldId, Right)), LocalError>

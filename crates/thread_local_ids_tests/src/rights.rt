@@ -1,10 +1,10 @@
 //! Tests of rights: they go out and come back, take no bytes, and stand in types of one's own.
 ghost use Rattle.std.specs.Prelude.{◌≡◌, false};
-ghost use Rattle.thread_local_tokens.specs.Rights.{is_out};
+ghost use Rattle.thread_local_ids.specs.Rights.{is_out};
 
 use std::mem;
 use std::test::Fail;
-use thread_local_tokens::{Right, Rights};
+use thread_local_ids::{Right, Rights};
 
 /// Where a right may stand: in a struct and in an enum.
 #[derive(Drop)]

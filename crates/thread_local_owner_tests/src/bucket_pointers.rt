@@ -5,8 +5,7 @@ use std::alloc::{AllocError, Global};
 use std::cell::Cell;
 use std::mem::replace;
 use std::test::Fail;
-use thread_local_bucket_pointers::BucketPointers;
-use thread_local_cursor::FlagSource;
+use thread_local_bucket_pointers::{BucketPointers, FlagSource};
 use thread_local_thread_id::Thread;
 
 /// Publishes a value, takes it for another, and drops the rest.

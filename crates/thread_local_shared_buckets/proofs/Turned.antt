@@ -27,14 +27,14 @@ use Rattle.std.specs.contracts.alloc.Global as heap
 use Rattle.thread_local_model.specs.Buckets.{Contents, IsTable}
 use Rattle.thread_local_model.specs.Owned.{Owned, AreOfFirstBuckets, IsOwned}
 use Rattle.thread_local_judged.specs.Judged.{Judged}
-use Rattle.thread_local_blocks.specs.Slots.{heap_token}
+use Rattle.thread_local_bucket_pointers.specs.Slots.{heap_token}
 use Rattle.thread_local_bucket_pointers.specs.PointerOwns.{pointer_owns}
 use Rattle.thread_local_bucket_pointers.specs.contracts.bucket_pointer.BucketPointer as plain
 use Rattle.thread_local_bucket_pointers.proofs.bucket_pointer.BucketPointer.TheLaws as plain'
-use Rattle.thread_local_shared_bucket.specs.Shared.{BucketView, first, at_rest}
-use Rattle.thread_local_tokens.specs.Told.{all_telling, whole_row, rows_telling, rows_tell, book_owns}
-use Rattle.thread_local_tokens.proofs.Rows.{none_rows, rows_end}
-use Rattle.thread_local_shared_bucket.specs.contracts.shared_bucket.SharedBucket as shared
+use Rattle.thread_local_claim.specs.Shared.{BucketView, first, at_rest}
+use Rattle.thread_local_ids.specs.Told.{all_telling, whole_row, rows_telling, rows_tell, book_owns}
+use Rattle.thread_local_ids.proofs.Rows.{none_rows, rows_end}
+use Rattle.thread_local_claim.specs.contracts.shared_bucket.SharedBucket as shared
 use Rattle.thread_local_bucket_pointers.specs.Pointers.{contents_of}
 use Rattle.thread_local_bucket_pointers.specs.contracts.pointer_array.PointerArray as array
 use Rattle.thread_local_bucket_pointers.specs.contracts.bucket_pointers.BucketPointers as all_pointers

@@ -7,12 +7,12 @@ use Rattle.std.proofs.lemmas.Bool.{cond_both, eqb-true, eqb-false, le-ltb}
 use Rattle.thread_local_model.specs.Place.{id_at}
 use Rattle.thread_local_model.specs.Cursor.{Cursor, cursor_id, after_look, CursorFits}
 use Rattle.thread_local_model.proofs.CursorLaws.{after_look-fits, bounded}
-use Rattle.thread_local_cursor.specs.declared.cursor.RawIter.{RawIter}
+use Rattle.thread_local_bucket_pointers.specs.declared.cursor.RawIter.{RawIter}
 use Rattle.thread_local_shared_buckets.specs.declared.steps.Own.{Own}
 use Rattle.thread_local_shared_buckets.specs.Steps.{Leads}
 use Rattle.thread_local_shared_buckets.specs.Walks.{Owed, YieldsOwn, Yields, Ends}
-use Rattle.thread_local_cursor.specs.Cursor.{next_bucket}
-use Rattle.thread_local_tokens.specs.declared.witness.Witness.{Witness}
+use Rattle.thread_local_bucket_pointers.specs.Cursor.{next_bucket}
+use Rattle.thread_local_ids.specs.declared.witness.Witness.{Witness}
 use Rattle.thread_local_shared_buckets.specs.Positions.{resting, past, at_index, search_end, owed, lies_in, Found, OwnIsTold}
 use Rattle.thread_local_shared_buckets.specs.Positions.{IsToldAt, IsAhead, IsSharedWalk}
 use Rattle.thread_local_shared_buckets.proofs.StepLaws.{resting_at, looking_at, leads_then, leads_on, passes_bucket, leads_to_slot}

@@ -4,8 +4,8 @@ use Rattle.std.specs.Prelude.{if◌then◌else◌}
 use Rattle.thread_local_model.specs.Place.{id_at}
 use Rattle.thread_local_model.specs.Cursor.{Cursor, cursor_id, CursorFits}
 use denote.Ref.{Bor}
-use Rattle.thread_local_tokens.specs.declared.witness.Witness.{Witness}
-use Rattle.thread_local_cursor.specs.declared.cursor.RawIter.{RawIter}
+use Rattle.thread_local_ids.specs.declared.witness.Witness.{Witness}
+use Rattle.thread_local_bucket_pointers.specs.declared.cursor.RawIter.{RawIter}
 use Rattle.thread_local_shared_buckets.specs.declared.steps.Own.{Own}
 use Rattle.thread_local_shared_buckets.specs.Walks.{Owed, Yields, Ends}
 

@@ -8,7 +8,7 @@ use denote.Ref.{Bor}
 use denote.RattleType.{RattleType}
 use Rattle.thread_local_model.specs.Cursor.{Cursor, fresh_cursor, cursor_id, is_complete, after_look}
 use Rattle.thread_local_judged.specs.Judged.{Shareable}
-use Rattle.thread_local_tokens.specs.Views.{TokenView}
+use Rattle.thread_local_ids.specs.Views.{TokenView}
 use Rattle.thread_local_shared_buckets.specs.Steps.{Leads}
 
 -- an own value that a walk has still to give, and its id

@@ -8,7 +8,7 @@ use crate::iter::Iter;
 use std::fmt;
 use std::iter::FusedIterator;
 use std::marker::Model;
-use thread_local_cursor::write_struct;
+use thread_local_bucket_pointers::write_struct;
 
 /// What `Iter` gives, each value with the id of its slot: the ids ascend strictly. Contracts see the
 /// walk.

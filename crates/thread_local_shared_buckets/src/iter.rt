@@ -13,9 +13,9 @@ use crate::steps::{Own, advance};
 use std::fmt;
 use std::iter::FusedIterator;
 use std::marker::Model;
-use thread_local_cursor::{RawIter, write_struct};
+use thread_local_bucket_pointers::{RawIter, write_struct};
+use thread_local_ids::{Token, Witness};
 use thread_local_thread_id::Thread;
-use thread_local_tokens::{Token, Witness};
 
 /// The values of shared buckets, by ascending id, each lent as `&`, while other threads may publish
 /// more. A value that is published behind the walk isn't given, and one ahead of it may be.

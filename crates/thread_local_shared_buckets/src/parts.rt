@@ -5,7 +5,7 @@ ghost use Rattle.thread_local_shared_buckets.specs.TableView.{TableView, table_v
 
 use std::alloc::Global;
 use std::marker::Model;
-use thread_local_shared_bucket::SharedBucket;
+use thread_local_claim::SharedBucket;
 use thread_local_thread_id::BUCKETS;
 
 /// The 63 buckets, by number.

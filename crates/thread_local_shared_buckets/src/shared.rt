@@ -13,10 +13,9 @@ use crate::parts::SharedParts;
 use std::marker::{Move, Owns, PhantomData};
 use thread_local_bucket_pointers::BucketPointers;
 use thread_local_buckets::Buckets;
-use thread_local_claim::{Claim, replace_with};
-use thread_local_shared_bucket::{Row, SharedBucket};
+use thread_local_claim::{Claim, Row, SharedBucket, replace_with};
+use thread_local_ids::{Book, HeldId, Right, Token};
 use thread_local_thread_id::{BUCKETS, Thread, bucket_size};
-use thread_local_tokens::{Book, HeldId, Right, Token};
 
 mod lends;
 

@@ -2,15 +2,14 @@
 //! the next bucket until it finds a value.
 ghost use Rattle.std.specs.Prelude.{◌≡◌, ◌-◌, ◌^◌, ◌<◌, ◌≤◌, true, false, None, Some, IfSome, IfNone, MatchOption};
 ghost use Rattle.thread_local_judged.specs.Judged.{Shareable};
-ghost use Rattle.thread_local_cursor.specs.Cursor.{next_bucket};
+ghost use Rattle.thread_local_bucket_pointers.specs.Cursor.{next_bucket};
 ghost use Rattle.thread_local_shared_buckets.specs.Positions.{past, at_index, search_end, lies_in, OwnIsTold, IsToldAt, IsSharedWalk, YieldsFrom, EndsFrom};
 
 use crate::shared::Shared;
-use thread_local_blocks::flag_word_at;
-use thread_local_cursor::RawIter;
-use thread_local_shared_bucket::Row;
+use thread_local_bucket_pointers::{RawIter, flag_word_at};
+use thread_local_claim::Row;
+use thread_local_ids::Witness;
 use thread_local_thread_id::{BUCKETS, Thread};
-use thread_local_tokens::Witness;
 
 /// The walker's own value, the place of its id, and what shows that its slot was published with it.
 #[derive(Drop)]

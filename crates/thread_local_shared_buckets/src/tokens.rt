@@ -8,7 +8,7 @@ use crate::iter::Iter;
 use std::fmt;
 use std::iter::FusedIterator;
 use std::marker::Model;
-use thread_local_tokens::Token;
+use thread_local_ids::Token;
 
 /// What `Iter` gives, each value with a token that says that the slot of the token's id was
 /// published with it: the ids ascend strictly. Contracts see the walk.

@@ -8,12 +8,11 @@ use std::sync::atomic::Ordering::SeqCst;
 use std::sync::{Arc, Wait};
 use std::test::Fail;
 use thread_local_buckets::Buckets;
-use thread_local_ids::{Ids, Lock};
+use thread_local_ids::{Ids, Lock, Rights};
 use thread_local_judged::judge_sync;
 use thread_local_shared_buckets::Shared;
 use thread_local_test_helpers::counted::Counted;
 use thread_local_thread_id::Thread;
-use thread_local_tokens::Rights;
 
 #[test]
 fn each_value_is_dropped_once(rt: HostRuntime) -> Result<(), Fail> {

@@ -9,11 +9,10 @@ use std::test::Fail;
 use std::thread;
 use std::thread::Threads;
 use thread_local_buckets::Buckets;
-use thread_local_ids::Ids;
+use thread_local_ids::{HeldId, Ids, Right};
 use thread_local_judged::{Judge, judge_sync};
 use thread_local_shared_buckets::Shared;
 use thread_local_thread_id::Thread;
-use thread_local_tokens::{HeldId, Right};
 
 /// Adds to the number at an id, and answers what was there.
 fn add(

@@ -1,6 +1,6 @@
 //! Blocks are installed, and those that come second give way.
 ghost use Rattle.std.specs.Prelude.{◌≡◌, ◌^◌};
-ghost use Rattle.thread_local_blocks.specs.Slots.{empty_slots};
+ghost use Rattle.thread_local_bucket_pointers.specs.Slots.{empty_slots};
 ghost use Rattle.thread_local_model.specs.Place.{bucket_of};
 
 use crate::steps::{Kept, first_three, look, publish_claimed};
@@ -8,13 +8,12 @@ use std::alloc::Global;
 use std::cell::{Cell, RefCell};
 use std::sync::Wait;
 use std::test::Fail;
-use thread_local_blocks::Block;
+use thread_local_bucket_pointers::Block;
 use thread_local_buckets::Buckets;
 use thread_local_claim::Claim;
-use thread_local_ids::{Ids, Lock};
+use thread_local_ids::{HeldId, Ids, Lock, Right};
 use thread_local_shared_buckets::Shared;
 use thread_local_test_helpers::memory::take_all_but;
-use thread_local_tokens::{HeldId, Right};
 
 impl<'a, T> Kept<'a, T> {
     /// Offers a block for the claim's bucket if that was missing, and answers the claim if it did.

@@ -2,12 +2,12 @@
 ghost use Rattle.std.specs.Prelude.{◌≡◌, ◌-◌, ◌^◌, ◌<◌};
 
 use std::alloc::Global;
-use thread_local_blocks::{Block, flag_word_at};
+use thread_local_bucket_pointers::{Block, flag_word_at};
 use thread_local_buckets::Buckets;
 use thread_local_claim::Claim;
+use thread_local_ids::{HeldId, Right};
 use thread_local_shared_buckets::Shared;
 use thread_local_thread_id::Thread;
-use thread_local_tokens::{HeldId, Right};
 
 /// A claim that is given up when this is dropped.
 pub struct Kept<'a, T> {

@@ -9,11 +9,10 @@ use std::cell::Cell;
 use std::test::Fail;
 use thread_local_buckets::Buckets;
 use thread_local_claim::Claim;
-use thread_local_ids::Ids;
+use thread_local_ids::{HeldId, Ids, Right, Token};
 use thread_local_judged::{Judge, judge_sync};
 use thread_local_shared_buckets::Shared;
 use thread_local_thread_id::Thread;
-use thread_local_tokens::{HeldId, Right, Token};
 
 /// Publishes a value, and answers a token of what the slot was published with.
 fn told<T: Drop>(

@@ -4,7 +4,7 @@ ghost use Rattle.std.specs.Prelude.{◌≡◌, ◌<◌, length, Some, IsSome};
 ghost use types.Logic.{sem};
 ghost use Rattle.std.specs.Borrow.{follows};
 ghost use Rattle.thread_local_bucket_pointers.specs.contracts.bucket_pointer.BucketPointer.{the_row};
-ghost use Rattle.thread_local_blocks.specs.Slots.{slot_value};
+ghost use Rattle.thread_local_bucket_pointers.specs.Slots.{slot_value};
 ghost use Rattle.thread_local_bucket_pointers.specs.LentValue.{with_slot_value};
 
 use super::BucketPointer;

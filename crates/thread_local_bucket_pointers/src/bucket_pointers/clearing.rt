@@ -7,7 +7,7 @@ ghost use Rattle.thread_local_model.specs.Owner.{cleared_row};
 ghost use Rattle.thread_local_bucket_pointers.specs.Clearing.{AreCleared, AnyStands};
 
 use super::BucketPointers;
-use thread_local_cursor::FlagSource;
+use crate::FlagSource;
 use thread_local_thread_id::{BUCKETS, bucket_size};
 
 impl<T> BucketPointers<T> {

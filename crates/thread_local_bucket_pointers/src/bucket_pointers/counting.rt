@@ -6,7 +6,7 @@ ghost use Rattle.thread_local_model.specs.Walk.{walk};
 ghost use Rattle.thread_local_model.specs.Counting.{count_below};
 
 use super::BucketPointers;
-use thread_local_cursor::FlagSource;
+use crate::FlagSource;
 use thread_local_thread_id::{BUCKETS, bucket_size};
 
 impl<T> BucketPointers<T> {

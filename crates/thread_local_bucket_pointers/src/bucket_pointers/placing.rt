@@ -5,8 +5,8 @@ ghost use Rattle.thread_local_model.specs.Rows.{value_in, with_slot};
 ghost use Rattle.thread_local_model.specs.Owner.{with_bucket};
 
 use super::BucketPointers;
+use crate::FlagSource;
 use std::alloc::AllocError;
-use thread_local_cursor::FlagSource;
 use thread_local_thread_id::Thread;
 
 impl<T> BucketPointers<T> {

@@ -2,12 +2,12 @@
 ghost use Rattle.std.specs.Prelude.{◌≡◌, ◌+◌, ◌<◌, ◌∷◌};
 ghost use Rattle.thread_local_model.specs.Buckets.{values};
 ghost use Rattle.thread_local_model.specs.Walk.{walk, paired};
-ghost use Rattle.thread_local_cursor.specs.Cursor.{values_left, IsOwnerWalk};
+ghost use Rattle.thread_local_bucket_pointers.specs.Cursor.{values_left, IsOwnerWalk};
 ghost use Rattle.thread_local_model.specs.Owner.{emptied};
 ghost use Rattle.thread_local_buckets.specs.Emptied.{owned_emptied};
 
 use super::Buckets;
-use thread_local_cursor::OwnerCursor;
+use thread_local_bucket_pointers::OwnerCursor;
 
 impl<T> Buckets<T> {
     /// The cursor of a walk over all values, which it counts.

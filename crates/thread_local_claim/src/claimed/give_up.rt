@@ -2,7 +2,7 @@
 ghost use Rattle.std.specs.Prelude.{◌≡◌};
 
 use super::ClaimedSlot;
-use thread_local_tokens::Right;
+use thread_local_ids::Right;
 
 impl<'a, T> ClaimedSlot<'a, T> {
     /// Gives the claim up, and returns its right.

@@ -1,17 +1,17 @@
 //! A claim that found its bucket missing installs a block for it.
 ghost use Rattle.std.specs.Prelude.{◌≡◌, ◌^◌, IfSome};
-ghost use Rattle.thread_local_blocks.specs.Slots.{empty_slots};
+ghost use Rattle.thread_local_bucket_pointers.specs.Slots.{empty_slots};
 ghost use Rattle.thread_local_model.specs.Learnt.{Missing, Vacant};
 ghost use Rattle.thread_local_model.specs.Place.{bucket_of};
 
 use super::{ClaimedSlot, VACANT};
+use crate::SharedBucket;
 use std::alloc::Global;
 use std::marker::{Brand, PhantomData};
 use std::ptr::null_mut;
 use std::sync::atomic::Ordering::SeqCst;
 use std::sync::atomic::raw::ptr;
-use thread_local_blocks::Block;
-use thread_local_shared_bucket::SharedBucket;
+use thread_local_bucket_pointers::Block;
 
 impl<'a, T> ClaimedSlot<'a, T> {
     /// One compare and exchange: where the bucket's pointer is null, it points to the block from

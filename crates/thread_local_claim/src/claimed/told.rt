@@ -5,7 +5,7 @@ ghost use Rattle.thread_local_claim.specs.Known.{HasLooked, value_held};
 
 use super::ClaimedSlot;
 use std::marker::PhantomData;
-use thread_local_tokens::Witness;
+use thread_local_ids::Witness;
 
 impl<'a, T> ClaimedSlot<'a, T> {
     /// What shows with which value the slot was published. At run time it does nothing.

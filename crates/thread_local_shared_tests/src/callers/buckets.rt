@@ -3,13 +3,13 @@ ghost use Rattle.std.specs.Prelude.{◌≡◌, ◌^◌, ◌<◌, ◌≤◌};
 ghost use Rattle.thread_local_judged.specs.Judged.{Judged};
 
 use std::cell::{Cell, RefCell};
-use thread_local_blocks::flag_word_at;
+use thread_local_bucket_pointers::flag_word_at;
 use thread_local_buckets::Buckets;
+use thread_local_claim::{Row, SharedBucket};
+use thread_local_ids::Right;
 use thread_local_judged::{Judge, judge_sync};
-use thread_local_shared_bucket::{Row, SharedBucket};
 use thread_local_shared_buckets::Shared;
 use thread_local_thread_id::bucket_size;
-use thread_local_tokens::Right;
 
 fn crosses<X: Send + Sync>(_there: &X) {}
 

@@ -1,6 +1,6 @@
 -- A bucket that gives nothing is passed, and the first one that gives a value ends the call.
 use Rattle.std.proofs.Common.{◌+◌, ◌<◌, ◌≤◌, Option, option_map, ap, sym, ◌∙◌, subst, arith}
-use Rattle.thread_local_cursor.specs.declared.cursor.RawIter.{RawIter}
+use Rattle.thread_local_bucket_pointers.specs.declared.cursor.RawIter.{RawIter}
 use Rattle.thread_local_shared_buckets.specs.declared.steps.Own.{Own}
 use Rattle.thread_local_shared_buckets.specs.Positions.{resting, owed}
 use Rattle.thread_local_shared_buckets.specs.Walks.{Yields, Ends}

@@ -1,6 +1,6 @@
 -- The row gives what the search finds, and else what `give_own` gives.
 use Rattle.std.proofs.Common.{◌<◌, ◌^◌, subst, sym}
-use Rattle.thread_local_cursor.specs.declared.cursor.RawIter.{RawIter}
+use Rattle.thread_local_bucket_pointers.specs.declared.cursor.RawIter.{RawIter}
 use Rattle.thread_local_shared_buckets.proofs.WalkLaws.{few, given_search, GivenTo, ended, Ended}
 use Rattle.thread_local_shared_buckets.proofs.steps.in_row.Goals as goal
 

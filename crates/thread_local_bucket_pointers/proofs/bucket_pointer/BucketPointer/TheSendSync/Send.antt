@@ -5,8 +5,8 @@ use base.Shift.{Keyless}
 use denote.RattleType.{RattleType}
 use denote.RawPtr.{Ptr}
 use denote.Param.Send.{IsSend}
-use Rattle.thread_local_blocks.specs.Slots.{heap_token}
-use Rattle.thread_local_blocks.proofs.Sent.{token_keyless, block_keyless}
+use Rattle.thread_local_bucket_pointers.specs.Slots.{heap_token}
+use Rattle.thread_local_bucket_pointers.proofs.Sent.{token_keyless, block_keyless}
 use Rattle.thread_local_bucket_pointers.specs.PointerOwns.{pointer_owns}
 use Rattle.thread_local_bucket_pointers.specs.contracts.bucket_pointer.BucketPointer.{the_row}
 

@@ -1,5 +1,5 @@
 use Rattle.std.proofs.Common.{◌≡◌, ℕ, zero, suc, ◌<◌, List, [], ◌∷◌, length, Option, None, refl, ap, ◌∙◌, arith}
-use Rattle.thread_local_blocks.specs.Slots.{slot_value, empty_slots}
+use Rattle.thread_local_bucket_pointers.specs.Slots.{slot_value, empty_slots}
 use Rattle.thread_local_bucket_pointers.proofs.bucket_pointer.BucketPointer.empty.Goals as goal
 
 -- slots that are all empty

@@ -1,5 +1,5 @@
 use Rattle.std.proofs.Common.{◌≡◌, ℕ, ◌<◌, length, None}
-use Rattle.thread_local_blocks.specs.Slots.{slot_value}
+use Rattle.thread_local_bucket_pointers.specs.Slots.{slot_value}
 use Rattle.thread_local_bucket_pointers.proofs.bucket_pointer.BucketPointer.empty.Given as goal
 
 -- the slots so far are empty, and there are as many as before

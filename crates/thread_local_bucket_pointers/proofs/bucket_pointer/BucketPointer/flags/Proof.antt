@@ -14,8 +14,8 @@ use Rattle.thread_local_model.proofs.Names.{Goes-dropped, Goes-ref, cell_at, pro
 use Rattle.std.specs.Prelude.{is_some}
 use types.Kit.{flt_i}
 use Rattle.thread_local_model.specs.Bits.{is_set}
-use Rattle.thread_local_blocks.specs.Slots.{slot_value, value_words, flag_word_at, heap_token}
-use Rattle.thread_local_blocks.proofs.Slots.{IsWordIn, flags_of}
+use Rattle.thread_local_bucket_pointers.specs.Slots.{slot_value, value_words, flag_word_at, heap_token}
+use Rattle.thread_local_bucket_pointers.proofs.Slots.{IsWordIn, flags_of}
 use Rattle.thread_local_bucket_pointers.specs.PointerOwns.{pointer_owns}
 use Rattle.thread_local_bucket_pointers.specs.contracts.bucket_pointer.BucketPointer as one_pointer
 use Rattle.thread_local_bucket_pointers.specs.contracts.bucket_pointer.BucketPointer.flags.{ended, clauses}

@@ -19,9 +19,9 @@ use Rattle.std.specs.Prelude.{◌/◌, ◌%◌, is_some, IsSome}
 use Rattle.thread_local_model.specs.Bits.{is_set}
 use Rattle.thread_local_bucket_pointers.specs.LentValue.{with_slot_value}
 use Rattle.thread_local_bucket_pointers.proofs.LentValue.{Rest, back}
-use Rattle.thread_local_blocks.specs.Slots.{slot_value, stride, value_offset, content_at}
-use Rattle.thread_local_blocks.proofs.Slots.{IsSlotIn, flags_of, slot_of, value_of, slot_flag}
-use Rattle.thread_local_blocks.proofs.Flags.{uncapped}
+use Rattle.thread_local_bucket_pointers.specs.Slots.{slot_value, stride, value_offset, content_at}
+use Rattle.thread_local_bucket_pointers.proofs.Slots.{IsSlotIn, flags_of, slot_of, value_of, slot_flag}
+use Rattle.thread_local_bucket_pointers.proofs.Flags.{uncapped}
 use Rattle.thread_local_bucket_pointers.specs.contracts.bucket_pointer.BucketPointer as one_pointer
 use Rattle.thread_local_bucket_pointers.specs.contracts.bucket_pointer.BucketPointer.get_mut.{ended, clauses}
 use Rattle.thread_local_bucket_pointers.specs.contracts.bucket_pointer.BucketPointer.get_mut.Key.{name as #self}

@@ -12,14 +12,14 @@ use Rattle.thread_local_model.proofs.Names.{walk_of, Goes-dropped, Goes-ref, cel
 use types.Part.{store_in}
 use Rattle.std.specs.contracts.alloc.Global as heap
 use Rattle.std.specs.contracts.impls.GlobalAllocator.TheImpl.{ghosts}
-use Rattle.thread_local_blocks.specs.Slots.{block_owns}
-use Rattle.thread_local_blocks.specs.contracts.block.Block as block
+use Rattle.thread_local_bucket_pointers.specs.Slots.{block_owns}
+use Rattle.thread_local_bucket_pointers.specs.contracts.block.Block as block
 use Rattle.thread_local_bucket_pointers.specs.contracts.bucket_pointer.BucketPointer as one_pointer
 use Rattle.thread_local_bucket_pointers.specs.contracts.bucket_pointer.BucketPointer.lift.{ended, clauses}
 use Rattle.thread_local_bucket_pointers.specs.contracts.bucket_pointer.BucketPointer.lift.Key.{name as #self}
-use Rattle.thread_local_blocks.proofs.Fields as fields
+use Rattle.thread_local_bucket_pointers.proofs.Fields as fields
 use Rattle.thread_local_bucket_pointers.proofs.PointerSteps.{pointer_val, told, FieldsType, made, lifts}
-use Rattle.thread_local_blocks.proofs.Slots.{ptr_good}
+use Rattle.thread_local_bucket_pointers.proofs.Slots.{ptr_good}
 use Rattle.thread_local_bucket_pointers.proofs.bucket_pointer.BucketPointer.lift.Statement.{statement}
 use Rattle.thread_local_bucket_pointers.proofs.bucket_pointer.BucketPointer.lift.Code as code
 

@@ -15,9 +15,9 @@ use Rattle.thread_local_model.proofs.Names.{walk_of, Goes-dropped, Goes-ref, cel
 use Rattle.thread_local_model.proofs.Names.{one, gather}
 use Rattle.std.specs.Prelude.{◌/◌, ◌%◌, bit_or}
 use Rattle.thread_local_model.proofs.Word.{set_bit, set_fits, place_below, bit_fits, shifted_left}
-use Rattle.thread_local_blocks.specs.Slots.{slot_value, stride, value_words, flag_word_at, value_offset, content_at, heap_token}
-use Rattle.thread_local_blocks.proofs.Slots.{IsSlotIn, Change, flags_of, slot_of}
-use Rattle.thread_local_blocks.proofs.Flags.{uncapped}
+use Rattle.thread_local_bucket_pointers.specs.Slots.{slot_value, stride, value_words, flag_word_at, value_offset, content_at, heap_token}
+use Rattle.thread_local_bucket_pointers.proofs.Slots.{IsSlotIn, Change, flags_of, slot_of}
+use Rattle.thread_local_bucket_pointers.proofs.Flags.{uncapped}
 use Rattle.thread_local_bucket_pointers.specs.PointerOwns.{pointer_owns}
 use Rattle.thread_local_bucket_pointers.specs.contracts.bucket_pointer.BucketPointer as one_pointer
 use Rattle.thread_local_bucket_pointers.specs.contracts.bucket_pointer.BucketPointer.publish.{ended, clauses}

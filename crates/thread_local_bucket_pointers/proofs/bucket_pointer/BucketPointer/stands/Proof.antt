@@ -12,13 +12,13 @@ use Rattle.std.specs.Prelude.{not, nat_lt}
 use mir.Val.{ptr_same, vnull, vbool}
 use types.Run.{un}
 use denote.RawPtr.{tests_null}
-use Rattle.thread_local_blocks.specs.Slots.{heap_token}
+use Rattle.thread_local_bucket_pointers.specs.Slots.{heap_token}
 use Rattle.thread_local_bucket_pointers.specs.PointerOwns.{pointer_owns}
 use Rattle.thread_local_bucket_pointers.specs.contracts.bucket_pointer.BucketPointer as one_pointer
 use Rattle.thread_local_bucket_pointers.specs.contracts.bucket_pointer.BucketPointer.stands.{ended, clauses}
 use Rattle.thread_local_bucket_pointers.specs.contracts.bucket_pointer.BucketPointer.stands.Key.{name as #self}
 use Rattle.thread_local_bucket_pointers.proofs.PointerSteps.{pointer_val, told, Tells, pointer_tells}
-use Rattle.thread_local_blocks.proofs.Slots.{ptr_good}
+use Rattle.thread_local_bucket_pointers.proofs.Slots.{ptr_good}
 use Rattle.thread_local_bucket_pointers.proofs.bucket_pointer.BucketPointer.stands.Statement.{statement}
 use Rattle.thread_local_bucket_pointers.proofs.bucket_pointer.BucketPointer.stands.Code as code
 

@@ -15,9 +15,9 @@ use Rattle.thread_local_model.proofs.Names.{mut_Tells, uint_vals, uint_Tells, St
 use Rattle.thread_local_model.proofs.Names.{Goes-dropped, Goes-ref, cell_at, Member, proved, leaves, after, spread}
 use Rattle.std.specs.Prelude.{◌/◌, ◌%◌, is_some, IsSome}
 use Rattle.thread_local_model.specs.Bits.{is_set}
-use Rattle.thread_local_blocks.specs.Slots.{slot_value, stride, value_words, flag_word_at, value_offset, content_at, heap_token}
-use Rattle.thread_local_blocks.proofs.Slots.{IsSlotIn, Change, flags_of, slot_of, value_of, leaves_slot}
-use Rattle.thread_local_blocks.proofs.Flags.{uncapped}
+use Rattle.thread_local_bucket_pointers.specs.Slots.{slot_value, stride, value_words, flag_word_at, value_offset, content_at, heap_token}
+use Rattle.thread_local_bucket_pointers.proofs.Slots.{IsSlotIn, Change, flags_of, slot_of, value_of, leaves_slot}
+use Rattle.thread_local_bucket_pointers.proofs.Flags.{uncapped}
 use Rattle.thread_local_bucket_pointers.specs.PointerOwns.{pointer_owns}
 use Rattle.thread_local_bucket_pointers.specs.contracts.bucket_pointer.BucketPointer as one_pointer
 use Rattle.thread_local_bucket_pointers.specs.contracts.bucket_pointer.BucketPointer.take_and_store.{ended, clauses}

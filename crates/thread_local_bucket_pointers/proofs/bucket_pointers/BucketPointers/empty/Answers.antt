@@ -2,7 +2,7 @@ use Rattle.std.proofs.Common.{◌≡◌, ◌^◌, ℕ, inr, length, List, Option
 use Rattle.std.proofs.lemmas.Bool.{ltb-true}
 use Rattle.thread_local_model.specs.Buckets.{Contents, row, stands, IsTable}
 use Rattle.thread_local_model.specs.Rows.{with_row, empty_row}
-use Rattle.thread_local_blocks.specs.Slots.{empty_slots}
+use Rattle.thread_local_bucket_pointers.specs.Slots.{empty_slots}
 use Rattle.thread_local_model.proofs.RowLaws.{row_whole, IsTable-with_row, length-empty_row}
 use Rattle.thread_local_bucket_pointers.specs.Pointers.{contents_of}
 use Rattle.thread_local_bucket_pointers.proofs.ContentsOf.{row_of_pointer, row_changes}

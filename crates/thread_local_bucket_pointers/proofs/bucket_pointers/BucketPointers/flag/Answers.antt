@@ -1,6 +1,6 @@
 use Rattle.std.proofs.Common.{◌∙◌, ap}
 use Rattle.std.specs.Prelude.{◌/◌, ℕ}
-use Rattle.thread_local_blocks.specs.Slots.{flag_word_at}
+use Rattle.thread_local_bucket_pointers.specs.Slots.{flag_word_at}
 use Rattle.thread_local_bucket_pointers.specs.contracts.bucket_pointers.BucketPointers.flag.{T-row}
 use Rattle.thread_local_bucket_pointers.proofs.ContentsOf.{size_of_pointer}
 use Rattle.thread_local_bucket_pointers.proofs.bucket_pointers.BucketPointers.flag.Goals as goal

@@ -1,7 +1,7 @@
 use Rattle.std.proofs.Common.{◌≡◌, ◌^◌, ℕ, List, Option, length, inr, sym, ap, ◌∙◌, subst, arith, pow_pos}
 use Rattle.thread_local_model.specs.Buckets.{Contents, IsTable}
 use Rattle.thread_local_model.specs.Rows.{with_row, empty_row}
-use Rattle.thread_local_blocks.specs.Slots.{empty_slots}
+use Rattle.thread_local_bucket_pointers.specs.Slots.{empty_slots}
 use Rattle.thread_local_model.proofs.RowLaws.{IsTable-with_row, length-empty_row}
 use Rattle.thread_local_bucket_pointers.specs.Pointers.{contents_of}
 use Rattle.thread_local_bucket_pointers.proofs.ContentsOf.{row_changes}

@@ -4,7 +4,7 @@ use Rattle.thread_local_model.specs.Buckets.{Contents, IsTable}
 use Rattle.thread_local_model.specs.Rows.{with_slot}
 use Rattle.thread_local_model.proofs.RowLaws.{IsTable-with_slot}
 use Rattle.thread_local_bucket_pointers.specs.Pointers.{contents_of}
-use Rattle.thread_local_blocks.specs.Slots.{flag_word_at}
+use Rattle.thread_local_bucket_pointers.specs.Slots.{flag_word_at}
 use Rattle.thread_local_bucket_pointers.specs.contracts.bucket_pointers.BucketPointers.take_and_store.{T-row}
 use Rattle.thread_local_bucket_pointers.proofs.ContentsOf.{size_of_pointer, slot_changes}
 use Rattle.thread_local_bucket_pointers.proofs.bucket_pointers.BucketPointers.take_and_store.Goals as goal

@@ -3,8 +3,8 @@ use Rattle.thread_local_model.specs.Buckets.{Contents, IsTable}
 use Rattle.thread_local_model.specs.Owned.{Owned}
 use Rattle.thread_local_model.specs.Rows.{with_slot}
 use Rattle.thread_local_model.specs.Owner.{emptied}
-use Rattle.thread_local_cursor.specs.Cursor.{values_left, slot_at, IsOwnerWalk}
-use Rattle.thread_local_cursor.specs.declared.cursor.OwnerCursor.{OwnerCursor}
+use Rattle.thread_local_bucket_pointers.specs.Cursor.{values_left, slot_at, IsOwnerWalk}
+use Rattle.thread_local_bucket_pointers.specs.declared.cursor.OwnerCursor.{OwnerCursor}
 use Rattle.thread_local_model.proofs.RowLaws.{IsTable-with_slot}
 use Rattle.thread_local_model.proofs.EmptyingLaws.{emptied-with_slot, emptied-none}
 use Rattle.thread_local_buckets.specs.Emptied.{owned_emptied}

@@ -1,8 +1,8 @@
 -- `enter` reads a bucket's pointer, and writes the address of a slot's value in the block that it
 -- points to.
 use types.Part.{store_in}
-use Rattle.thread_local_blocks.specs.Slots.{stride, value_offset}
-use Rattle.thread_local_blocks.proofs.Flags.{uncapped, value_near}
+use Rattle.thread_local_bucket_pointers.specs.Slots.{stride, value_offset}
+use Rattle.thread_local_bucket_pointers.proofs.Flags.{uncapped, value_near}
 use Rattle.thread_local_model.proofs.Names.{drop, is, size_word, assigns, unit_lit, vunit, cell, length, apply∗, sem}
 use Rattle.thread_local_model.proofs.Names.{◌≡◌, ℕ, ◌+◌, ◌*◌, ◌^◌, ◌<◌, List, [], ◌∷◌, sym, refl, ap, ◌∙◌, subst}
 use Rattle.thread_local_model.proofs.Names.{arith, w64, a_type, named, Val, vint, vptr, inst_fn, full_share, SProp}

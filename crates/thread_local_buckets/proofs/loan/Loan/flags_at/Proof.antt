@@ -18,9 +18,9 @@ use Rattle.thread_local_model.specs.Buckets.{row, IsTable}
 use Rattle.thread_local_model.specs.Place.{id_at}
 use Rattle.thread_local_model.specs.Rows.{value_in}
 use Rattle.thread_local_model.specs.Bits.{is_set}
-use Rattle.thread_local_blocks.specs.Slots.{value_words, flag_word_at, flags_at}
-use Rattle.thread_local_blocks.proofs.Flags.{chunk_in}
-use Rattle.thread_local_blocks.proofs.Slots.{IsWordOf, IsWordNear, word_is_near}
+use Rattle.thread_local_bucket_pointers.specs.Slots.{value_words, flag_word_at, flags_at}
+use Rattle.thread_local_bucket_pointers.proofs.Flags.{chunk_in}
+use Rattle.thread_local_bucket_pointers.proofs.Slots.{IsWordOf, IsWordNear, word_is_near}
 use Rattle.thread_local_model.proofs.RowLaws.{row_whole}
 use Rattle.thread_local_buckets.specs.Lent.{Lending, Known, lending, framed, frames, flagged, PointsTo}
 use Rattle.thread_local_buckets.specs.contracts.loan.Loan as loan

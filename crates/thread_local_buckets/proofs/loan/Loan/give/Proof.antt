@@ -21,8 +21,8 @@ use Rattle.std.proofs.alloc.Shapes.{after}
 use Rattle.thread_local_model.specs.Buckets.{Contents, row}
 use Rattle.thread_local_model.specs.Place.{id_at}
 use Rattle.thread_local_model.specs.Rows.{value_in, with_slot}
-use Rattle.thread_local_blocks.specs.Slots.{stride, value_offset}
-use Rattle.thread_local_blocks.proofs.Flags.{uncapped}
+use Rattle.thread_local_bucket_pointers.specs.Slots.{stride, value_offset}
+use Rattle.thread_local_bucket_pointers.proofs.Flags.{uncapped}
 use Rattle.thread_local_buckets.specs.Lent.{Lending, Known, lending, Values, lent_values, shape}
 use Rattle.thread_local_buckets.specs.contracts.loan.Loan as loan
 use Rattle.thread_local_buckets.specs.contracts.loan.Loan.give.{ended, clauses}

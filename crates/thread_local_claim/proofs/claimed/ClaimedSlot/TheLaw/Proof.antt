@@ -12,7 +12,7 @@ use denote.Struct.Field.{RawPtr-field, u64-field}
 use denote.Struct.Laws.{RawPtr-copy, u64-copy, field_copy}
 use denote.Struct.Lending.{of_Lends}
 use Rattle.std.specs.contracts.marker.PhantomData as P
-use Rattle.thread_local_shared_bucket.specs.contracts.shared_bucket.SharedBucket as one_bucket
+use Rattle.thread_local_claim.specs.contracts.shared_bucket.SharedBucket as one_bucket
 use Rattle.thread_local_claim.specs.contracts.claimed.ClaimedSlot as C
 use Rattle.thread_local_claim.specs.Claims.{claim_fields}
 use Rattle.thread_local_claim.proofs.Lending.{claim_laws, lends_claim}

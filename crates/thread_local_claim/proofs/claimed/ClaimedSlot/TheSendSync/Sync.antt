@@ -8,7 +8,7 @@ use denote.Param.Send.{IsSync, Common}
 use Rattle.thread_local_judged.specs.Judged.{Judged}
 use Rattle.thread_local_claim.specs.Known.{value_held}
 use Rattle.thread_local_claim.specs.Claims.{ClaimFields, claim_fields, lasts, shows_value}
-use Rattle.thread_local_tokens.proofs.ToldElements.{tells_keyless}
+use Rattle.thread_local_ids.proofs.ToldElements.{tells_keyless}
 use Rattle.thread_local_claim.specs.contracts.claimed.ClaimedSlot.{the_row}
 use Rattle.thread_local_claim.proofs.Fields.{FieldsType}
 

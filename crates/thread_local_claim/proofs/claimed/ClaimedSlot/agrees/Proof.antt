@@ -11,8 +11,8 @@ use Rattle.thread_local_model.proofs.Names.{bounded, RefOf, mut_vals, mut_Tells,
 use Rattle.thread_local_model.proofs.Names.{stay_dropped, stay_ref, walk_of, Goes-dropped, Goes-ref, proved, leaves}
 use Rattle.std.proofs.Common.{IsSome}
 use Rattle.thread_local_model.specs.Learnt.{Learnt, Holding}
-use Rattle.thread_local_tokens.specs.Told.{tells}
-use Rattle.thread_local_tokens.specs.contracts.witness.Witness as Witness
+use Rattle.thread_local_ids.specs.Told.{tells}
+use Rattle.thread_local_ids.specs.contracts.witness.Witness as Witness
 use Rattle.thread_local_claim.specs.Known.{HasLooked}
 use Rattle.thread_local_claim.specs.Claims.{ClaimFields, claim_fields, claim_owns}
 use Rattle.thread_local_claim.proofs.Agreed as agreed

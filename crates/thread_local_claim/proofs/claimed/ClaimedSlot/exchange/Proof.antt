@@ -47,15 +47,15 @@ use Rattle.std.specs.contracts.alloc.Global as heap
 use Rattle.std.specs.contracts.impls.GlobalAllocator.TheImpl.{ghosts}
 use Rattle.thread_local_model.specs.Place.{bucket_of}
 use Rattle.thread_local_model.proofs.PlaceLaws.{place-id_at}
-use Rattle.thread_local_blocks.specs.Slots.{block_owns, empty_slots, stride, Fits}
-use Rattle.thread_local_blocks.proofs.Flags.{value_near}
+use Rattle.thread_local_bucket_pointers.specs.Slots.{block_owns, empty_slots, stride, Fits}
+use Rattle.thread_local_bucket_pointers.proofs.Flags.{value_near}
 use Rattle.thread_local_model.specs.Fact.{fact as said_fact}
-use Rattle.thread_local_blocks.specs.contracts.block.Block as block
-use Rattle.thread_local_blocks.proofs.Fields as fields
-use Rattle.thread_local_shared_bucket.specs.Shared.{BucketView, Turn, StandingBlock, len, bucket_invariant}
-use Rattle.thread_local_shared_bucket.proofs.Loads.{glimpse}
-use Rattle.thread_local_shared_bucket.proofs.Offers as offers
-use Rattle.thread_local_shared_bucket.proofs.Fields.{word_laws}
+use Rattle.thread_local_bucket_pointers.specs.contracts.block.Block as block
+use Rattle.thread_local_bucket_pointers.proofs.Fields as fields
+use Rattle.thread_local_claim.specs.Shared.{BucketView, Turn, StandingBlock, len, bucket_invariant}
+use Rattle.thread_local_claim.proofs.Loads.{glimpse}
+use Rattle.thread_local_claim.proofs.Offers as offers
+use Rattle.thread_local_claim.proofs.RowFields.{word_laws}
 use Rattle.thread_local_model.proofs.Pairs.{both, pair_in}
 use Rattle.thread_local_model.specs.Learnt.{Learnt, Missing, Vacant}
 use Rattle.thread_local_claim.specs.Claims.{ClaimFields, claim_fields, IsOf, value_at, has, claim_owns}

@@ -27,16 +27,16 @@ use denote.Struct.Laws.{u64-laws, u64-copy}
 use Rattle.std.proofs.raw_atomic.Calls.{seq_cst, loads}
 use Rattle.std.proofs.raw_atomic.PtrCalls as calls
 use Rattle.std.proofs.raw_atomic.PtrCalls.{seq_cst_good}
-use Rattle.thread_local_tokens.specs.Rights.{right_owns}
-use Rattle.thread_local_blocks.specs.Slots.{stride, value_words, word_offset, value_offset}
-use Rattle.thread_local_blocks.proofs.Flags.{in_chunks, value_near}
-use Rattle.thread_local_blocks.proofs.Slots.{IsWordNear, word_is_near}
+use Rattle.thread_local_ids.specs.Rights.{right_owns}
+use Rattle.thread_local_bucket_pointers.specs.Slots.{stride, value_words, word_offset, value_offset}
+use Rattle.thread_local_bucket_pointers.proofs.Flags.{in_chunks, value_near}
+use Rattle.thread_local_bucket_pointers.proofs.Slots.{IsWordNear, word_is_near}
 use Rattle.thread_local_model.specs.Bits.{is_set}
 use Rattle.thread_local_model.proofs.Word.{masked_fits, place_below, bit_fits, shifted_right}
 use Rattle.thread_local_model.specs.Fact as facts
-use Rattle.thread_local_shared_bucket.specs.Shared.{BucketView, Turn, StandingBlock, Sized, block_code, len, bucket_invariant, loaded}
-use Rattle.thread_local_shared_bucket.proofs.Fields.{pointer_good}
-use Rattle.thread_local_shared_bucket.proofs.Loads.{glimpse, reaches, reads}
+use Rattle.thread_local_claim.specs.Shared.{BucketView, Turn, StandingBlock, Sized, block_code, len, bucket_invariant, loaded}
+use Rattle.thread_local_claim.proofs.RowFields.{pointer_good}
+use Rattle.thread_local_claim.proofs.Loads.{glimpse, reaches, reads}
 use Rattle.thread_local_model.specs.Learnt.{Learnt, Missing, Vacant, Finds}
 use Rattle.thread_local_claim.specs.Known.{HasLooked, IsMissing, has_looked, state_by, found_as}
 use Rattle.thread_local_claim.proofs.Learning.{known_as, not_missing, kept_as, state_by-fits, state_by-flag}

@@ -34,15 +34,15 @@ use Rattle.std.proofs.raw_atomic.PtrCalls.{seq_cst_good}
 use Rattle.std.specs.Coded.{coded_option}
 use Rattle.thread_local_model.proofs.Word.{place_below, bit_fits, shifted_left}
 use Rattle.thread_local_judged.specs.Judged.{Judged}
-use Rattle.thread_local_tokens.specs.Rights.{right_owns}
-use Rattle.thread_local_blocks.specs.Slots.{stride, value_words, word_offset, value_offset, content_at}
-use Rattle.thread_local_blocks.proofs.Flags.{in_chunks, value_near}
-use Rattle.thread_local_blocks.proofs.Slots.{IsWordNear, word_is_near}
-use Rattle.thread_local_shared_bucket.specs.Shared.{name_at, BucketView, Turn, StandingBlock, Sized, block_code, len}
-use Rattle.thread_local_shared_bucket.specs.Shared.{value_code, tracked_value, pinned, age, opened, by as lent_by}
-use Rattle.thread_local_shared_bucket.specs.Shared.{bucket_invariant}
-use Rattle.thread_local_shared_bucket.proofs.Rested.{publishes}
-use Rattle.thread_local_tokens.specs.Told.{tells}
+use Rattle.thread_local_ids.specs.Rights.{right_owns}
+use Rattle.thread_local_bucket_pointers.specs.Slots.{stride, value_words, word_offset, value_offset, content_at}
+use Rattle.thread_local_bucket_pointers.proofs.Flags.{in_chunks, value_near}
+use Rattle.thread_local_bucket_pointers.proofs.Slots.{IsWordNear, word_is_near}
+use Rattle.thread_local_claim.specs.Shared.{name_at, BucketView, Turn, StandingBlock, Sized, block_code, len}
+use Rattle.thread_local_claim.specs.Shared.{value_code, tracked_value, pinned, age, opened, by as lent_by}
+use Rattle.thread_local_claim.specs.Shared.{bucket_invariant}
+use Rattle.thread_local_claim.proofs.Rested.{publishes}
+use Rattle.thread_local_ids.specs.Told.{tells}
 use Rattle.thread_local_model.specs.Learnt.{Learnt, Vacant, Holding}
 use Rattle.thread_local_claim.specs.Claims.{ClaimFields, flag_word_of, claim_fields, IsOf, IsKept, value_at, has, has_slot, has_at}
 use Rattle.thread_local_claim.specs.contracts.claimed.ClaimedSlot as claim

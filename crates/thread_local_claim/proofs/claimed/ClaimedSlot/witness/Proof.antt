@@ -7,8 +7,8 @@ use Rattle.thread_local_model.proofs.Names.{get, sets, agg, tables, fact, fact_i
 use Rattle.thread_local_model.proofs.Names.{named_lft, nothing, heard, param, bounded, shr_vals, shr_Tells, Stays}
 use Rattle.thread_local_model.proofs.Names.{stay_dropped, walk_of, Goes-dropped, proved, leaves, is_some}
 use Rattle.thread_local_model.specs.Learnt.{Learnt, Holding}
-use Rattle.thread_local_tokens.specs.contracts.witness.Witness as Witness
-use Rattle.thread_local_tokens.proofs.Made.{token_val, witness_made}
+use Rattle.thread_local_ids.specs.contracts.witness.Witness as Witness
+use Rattle.thread_local_ids.proofs.Made.{token_val, witness_made}
 use Rattle.thread_local_claim.specs.Known.{value_held}
 use Rattle.thread_local_claim.proofs.Learning.{holding}
 use Rattle.thread_local_claim.specs.Claims.{ClaimFields, claim_fields, shows_value}

@@ -1,7 +1,7 @@
 -- The right to the least free id isn't out, since that id isn't held, and nor is its mark.
 use Rattle.std.proofs.Common.{◌≡◌, ◌≢◌, ◌+◌, ◌^◌, ◌==◌, true, refl, ap, ◌∙◌, arith, if◌then◌else◌, ne_eqb}
 use Rattle.thread_local_model.specs.Held.{is_held}
-use Rattle.thread_local_tokens.specs.Rights.{is_out}
+use Rattle.thread_local_ids.specs.Rights.{is_out}
 use Rattle.thread_local_model.proofs.HeldLaws.{least_free}
 use Rattle.thread_local_ids.proofs.ids.Ids.take.Goals as goal
 

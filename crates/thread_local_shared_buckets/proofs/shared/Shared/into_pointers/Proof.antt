@@ -26,9 +26,9 @@ use Rattle.std.proofs.raw_atomic.Walks.{proved_at, leaves}
 use Rattle.std.proofs.cell.Inside.{Good}
 use Rattle.thread_local_model.specs.Owned.{IsOwned}
 use Rattle.thread_local_bucket_pointers.specs.contracts.bucket_pointers.BucketPointers as all_pointers
-use Rattle.thread_local_tokens.specs.Told.{book_owns}
-use Rattle.thread_local_tokens.specs.contracts.book.Book as Book
-use Rattle.thread_local_tokens.proofs.Made.{token_val, book_made}
+use Rattle.thread_local_ids.specs.Told.{book_owns}
+use Rattle.thread_local_ids.specs.contracts.book.Book as Book
+use Rattle.thread_local_ids.proofs.Made.{token_val, book_made}
 use Rattle.thread_local_model.proofs.Pairs.{both, pair_in}
 use Rattle.std.proofs.ResultValues.{and_tt}
 use denote.Struct.Tuple.{Tuple}

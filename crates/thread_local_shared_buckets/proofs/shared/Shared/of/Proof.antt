@@ -30,11 +30,11 @@ use Rattle.std.proofs.raw_atomic.Walks.{proved_at, leaves}
 use Rattle.std.proofs.cell.Inside.{one, Good}
 use Rattle.std.proofs.ResultValues.{and_tt}
 use Rattle.thread_local_model.specs.Owned.{IsOwned}
-use Rattle.thread_local_tokens.specs.Told.{rows_telling}
-use Rattle.thread_local_tokens.proofs.ToldElements.{source, source_new}
-use Rattle.thread_local_tokens.proofs.Rows.{table_whole, rows_drawn}
+use Rattle.thread_local_ids.specs.Told.{rows_telling}
+use Rattle.thread_local_ids.proofs.ToldElements.{source, source_new}
+use Rattle.thread_local_ids.proofs.Rows.{table_whole, rows_drawn}
 use Rattle.thread_local_judged.specs.Judged.{Judged}
-use Rattle.thread_local_tokens.specs.contracts.right.Right as right
+use Rattle.thread_local_ids.specs.contracts.right.Right as right
 use Rattle.thread_local_bucket_pointers.specs.contracts.bucket_pointers.BucketPointers as all_pointers
 use Rattle.thread_local_bucket_pointers.proofs.bucket_pointers.BucketPointers.TheLaws as pointers'
 use Rattle.thread_local_shared_buckets.specs.TableView.{TableView}

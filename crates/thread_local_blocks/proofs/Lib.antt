@@ -1,9 +1,0 @@
-pub mod Each
-pub mod Flags
-pub mod Rooms
-pub mod Slots
-pub mod Fields
-pub mod Making
-pub mod Rounding
-pub mod Sent
-pub mod RetiredBlocks

@@ -1,3 +1,0 @@
-pub mod CountingLaws
-pub mod FlagLaws
-pub mod NextValue

@@ -1,0 +1,193 @@
+-- The elements that rights own: how they are made, split, joined and compared. Assumes `Logic`.
+use Rattle.std.proofs.Common.{◌≡◌, ◌≢◌, ℕ, suc, ◌+◌, ◌≤◌, ◌==◌, Bool, true, false, not, List, [], ◌∷◌, if◌then◌else◌}
+use Rattle.std.proofs.Common.{refl, subst, arith, ne_eqb}
+use Rattle.std.proofs.lemmas.Bool.Decides.{nat_tests}
+use Rattle.std.proofs.lemmas.Grind.{common_steps}
+use Rattle.std.proofs.lemmas.Bool.{eqb-true, eq-eqb}
+use native.Mathlib.Decide.{ℕ_discrete}
+use mathlib.Core.Logic.{dite}
+use mathlib.Core.Option.{Option, some}
+use mathlib.Mathlib.Data.Part.{Part, ◌∈◌}
+use seplogic.Ra.Pcs.{OpDef}
+use seplogic.Ra.Ura.{Ura}
+use seplogic.Ra.Constructions.Opt
+use seplogic.Ra.Instances.Excl
+use seplogic.Ra.IProd.{mem-op_iff}
+use base.Logic.{SProp, ent, sep, ex, guard, emp, upd, id⊢, via, guard_i}
+use base.Fml.{GName, Fml}
+use base.Shift.{Keyless}
+use types.Logic.{Logic, sem}
+use types.Keyed.{keyed, token}
+use types.Owned.{own_new, own_sum, own_glued, own_join}
+use Rattle.thread_local_ids.specs.Rights.{is_out, less, element_if, right_owns, rights_own}
+
+-- what is out once an id's right is put back
+pub is_out-less : (out : List ℕ) (id j : ℕ) → is_out (less out id) j ≡ (if id == j then false else is_out out j)
+is_out-less [] id j = elim (id == j) as (λ t. false ≡ (if t then false else false)) [ true ↦ refl | false ↦ refl ]
+is_out-less (x ∷ out) id j =
+    let rest : is_out (less out id) j ≡ (if id == j then false else is_out out j) =
+    is_out-less out id j in
+    grind (arith, common_steps, nat_tests)
+
+abbrev Row : Type 0
+Row = ℕ → Option (Unit {0})
+
+abbrev at_key : Option (Unit {0}) → Option (Unit {0}) → Part {0, 0} (Option (Unit {0}))
+at_key = Opt.op token.op
+
+at_each_key : (f g h : Row) → ((j : ℕ) → h j ∈ at_key (f j) (g j)) → h ∈ (keyed token).op f g
+at_each_key f g h = (mem-op_iff {A = λ (_ : ℕ). Option (Unit {0})} (λ _. at_key) {f = f} {g = g} {h = h}).1
+
+abbrev one_at : ℕ → Row
+one_at id j = element_if (id == j)
+
+abbrev all_but : List ℕ → Row
+all_but out j = element_if (not (is_out out j))
+
+cut_at : (is gone : Bool) → (is ≡ true → gone ≡ false)
+    → element_if (not gone) ∈ at_key (element_if is) (element_if (not (if is then true else gone)))
+cut_at true true none_gone = let no : true ≡ false = none_gone refl in cc
+cut_at true false none_gone = Opt.mem-op-none token.op (some tt)
+cut_at false gone none_gone = Opt.mem-none-op token.op (element_if (not gone))
+
+joined_at : (is gone : Bool) → (is ≡ true → gone ≡ true)
+    → element_if (not (if is then false else gone)) ∈ at_key (element_if is) (element_if (not gone))
+joined_at true true all_gone = Opt.mem-op-none token.op (some tt)
+joined_at true false all_gone = let no : false ≡ true = all_gone refl in cc
+joined_at false gone all_gone = Opt.mem-none-op token.op (element_if (not gone))
+
+clash : (is gone : Bool) → is ≡ true → gone ≡ false → OpDef at_key (element_if is) (element_if (not gone)) → ⊥
+clash true true e f d = cc
+clash true false e f d = Excl.not-OpDef tt tt d
+clash false gone e f d = cc
+
+twice : (is : Bool) → is ≡ true → OpDef at_key (element_if is) (element_if is) → ⊥
+twice true e d = Excl.not-OpDef tt tt d
+twice false e d = cc
+
+both_in : (gone here : Bool) → gone ≡ false → here ≡ false → OpDef at_key (element_if (not gone)) (element_if (not here)) → ⊥
+both_in true here e f d = cc
+both_in false true e f d = cc
+both_in false false e f d = Excl.not-OpDef tt tt d
+
+-- a number greater than every id that is out
+above : List ℕ → ℕ
+above [] = 0
+above (x ∷ out) = suc x + above out
+
+is_out-above : (out : List ℕ) (n : ℕ) → above out ≤ n → is_out out n ≡ false
+unfolding above
+is_out-above [] n low = refl
+is_out-above (x ∷ out) n low =
+    let rest : is_out out n ≡ false = is_out-above out n (omega arith) in
+    let differs : x ≢ n = omega arith in
+    let test : (x == n) ≡ false = ne_eqb x n differs in
+    rw test rest
+
+module _ {M : Type 1} {𝓤 : Ura M} (𝓛 : Logic 𝓤) where
+  abbrev Pr : Type 2
+  Pr = SProp 𝓤
+
+  abbrev ◌⊢◌ : Pr → Pr → Type 1
+  P ⊢ Q = ent 𝓤 P Q
+
+  abbrev ◌∗◌ : Pr → Pr → Pr
+  P ∗ Q = sep 𝓤 P Q
+
+  abbrev ⟦◌⟧ : Fml → Pr
+  ⟦ P ⟧ = sem 𝓛 P
+
+  infix 26 ◌⊢◌
+  infixr 35 ◌∗◌
+  -- all rights of a new table, under a fresh name
+  pub rights_new : emp 𝓤 ⊢ upd 𝓤 (ex 𝓤 (λ (γ : GName). ⟦ rights_own γ [] ⟧))
+  unfolding rights_own
+  rights_new = own_new 𝓛 (keyed token) (all_but [])
+
+  -- an id's right is taken out
+  pub rights_cut : (γ : GName) (out : List ℕ) (id : ℕ) → is_out out id ≡ false
+      → ⟦ rights_own γ out ⟧ ⊢ ⟦ right_owns γ id ⟧ ∗ ⟦ rights_own γ (id ∷ out) ⟧
+  unfolding right_owns rights_own
+  rights_cut γ out id free = 𝓛.algebras.own_cut (keyed token) γ (one_at id) (all_but (id ∷ out)) (all_but out)
+      (at_each_key (one_at id) (all_but (id ∷ out)) (all_but out)
+      (λ j. cut_at (id == j) (is_out out j) (λ is. rw (← eqb-true id j is) free)))
+
+  abbrev Out : ℕ → List ℕ → ℕ → Pr → Pr
+  Out γ out id Z = guard 𝓤 (is_out out id ≡ true) Z
+
+  seen : (γ : GName) (out : List ℕ) (id : ℕ) (Z : Pr)
+      → (is_out out id ≡ true → ⟦ right_owns γ id ⟧ ∗ ⟦ rights_own γ out ⟧ ⊢ Z)
+      → ⟦ right_owns γ id ⟧ ∗ ⟦ rights_own γ out ⟧ ⊢ Out γ out id Z
+  unfolding right_owns rights_own
+  seen γ out id Z so = own_sum 𝓛 (keyed token) γ (one_at id) (all_but out) (Out γ out id Z) (λ c m. tell (is_out out id) refl m.0)
+    where
+      tell : (t : Bool) → is_out out id ≡ t → OpDef (keyed token).op (one_at id) (all_but out)
+          → ⟦ right_owns γ id ⟧ ∗ ⟦ rights_own γ out ⟧ ⊢ Out γ out id Z
+      tell true e d = via 𝓤 Z (so e) (guard_i 𝓤 (is_out out id ≡ true) Z e)
+      tell false e d = absurd (clash (id == id) (is_out out id) (eq-eqb id id refl) e (d id))
+
+  -- a right that someone has is out
+  pub right_is_out : (γ : GName) (out : List ℕ) (id : ℕ)
+      → ⟦ right_owns γ id ⟧ ∗ ⟦ rights_own γ out ⟧
+      ⊢ Out γ out id (⟦ right_owns γ id ⟧ ∗ ⟦ rights_own γ out ⟧)
+  right_is_out γ out id =
+      seen γ out id (⟦ right_owns γ id ⟧ ∗ ⟦ rights_own γ out ⟧)
+      (λ _. id⊢ 𝓤 (⟦ right_owns γ id ⟧ ∗ ⟦ rights_own γ out ⟧))
+
+  -- a right is put back
+  pub rights_join : (γ : GName) (out : List ℕ) (id : ℕ)
+      → ⟦ right_owns γ id ⟧ ∗ ⟦ rights_own γ out ⟧ ⊢ Out γ out id ⟦ rights_own γ (less out id) ⟧
+  unfolding right_owns rights_own
+  rights_join γ out id =
+      seen γ out id ⟦ rights_own γ (less out id) ⟧ (λ gone.
+      own_join 𝓛 (keyed token) γ (one_at id) (all_but out) (all_but (less out id))
+      (at_each_key (one_at id) (all_but out) (all_but (less out id)) (λ j.
+      rw is_out-less (joined_at (id == j) (is_out out j) (λ is. rw (← eqb-true id j is) gone)))))
+
+  -- no two rights are to the same id
+  pub right_once : (γ : GName) (id : ℕ) (Z : Pr) → ⟦ right_owns γ id ⟧ ∗ ⟦ right_owns γ id ⟧ ⊢ Z
+  unfolding right_owns
+  right_once γ id Z =
+      own_glued 𝓛 (keyed token) γ (one_at id) (one_at id) Z
+      (λ c m. absurd (twice (id == id) (eq-eqb id id refl) (m.0 id)))
+
+  -- two rights of one table are to different ids
+  pub right_apart : (γ δ : GName) (i j : ℕ)
+      → ⟦ right_owns γ i ⟧ ∗ ⟦ right_owns δ j ⟧
+      ⊢ guard 𝓤 (γ ≡ δ → i ≢ j) (⟦ right_owns γ i ⟧ ∗ ⟦ right_owns δ j ⟧)
+  right_apart γ δ i j =
+      let Both : Pr = ⟦ right_owns γ i ⟧ ∗ ⟦ right_owns δ j ⟧ in
+      let Apart : Type 0 = γ ≡ δ → i ≢ j in
+      dite (ℕ_discrete i j)
+      (λ e. dite (ℕ_discrete γ δ)
+      (λ same.
+      subst (λ (x : ℕ × ℕ). ⟦ right_owns γ i ⟧ ∗ ⟦ right_owns x.0 x.1 ⟧ ⊢ guard 𝓤 Apart Both)
+      (λ k. (same k, e k)) (right_once γ i (guard 𝓤 Apart Both)))
+      (λ differ. guard_i 𝓤 Apart Both (λ same. absurd (differ same))))
+      (λ differ. guard_i 𝓤 Apart Both (λ _. differ))
+
+  -- no table has two `Rights`
+  pub rights_once : (γ : GName) (out gone : List ℕ) (Z : Pr) → ⟦ rights_own γ out ⟧ ∗ ⟦ rights_own γ gone ⟧ ⊢ Z
+  unfolding rights_own
+  rights_once γ out gone Z =
+      let n : ℕ = above out + above gone in
+      own_glued 𝓛 (keyed token) γ (all_but out) (all_but gone) Z (λ c m.
+      absurd (both_in (is_out out n) (is_out gone n) (is_out-above out n (omega arith)) (is_out-above gone n (omega arith)) (m.0 n)))
+
+  -- two `Rights` belong to tables of different names
+  pub rights_apart : (γ δ : GName) (out gone : List ℕ)
+      → ⟦ rights_own γ out ⟧ ∗ ⟦ rights_own δ gone ⟧
+      ⊢ guard 𝓤 (γ ≢ δ) (⟦ rights_own γ out ⟧ ∗ ⟦ rights_own δ gone ⟧)
+  rights_apart γ δ out gone = let Both : Pr = ⟦ rights_own γ out ⟧ ∗ ⟦ rights_own δ gone ⟧ in dite (ℕ_discrete γ δ)
+      (λ e.
+      subst (λ (x : ℕ). ⟦ rights_own γ out ⟧ ∗ ⟦ rights_own x gone ⟧ ⊢ guard 𝓤 (γ ≢ δ) Both) e
+      (rights_once γ out gone (guard 𝓤 (γ ≢ δ) Both)))
+      (guard_i 𝓤 (γ ≢ δ) Both)
+
+pub right_keyless : (γ : GName) (id : ℕ) → Keyless (right_owns γ id)
+unfolding right_owns
+right_keyless γ id = tt
+
+pub rights_keyless : (γ : GName) (out : List ℕ) → Keyless (rights_own γ out)
+unfolding rights_own
+rights_keyless γ out = tt

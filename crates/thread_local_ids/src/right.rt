@@ -1,0 +1,110 @@
+//! The right to an id is out, as a `Right` with one holder, or it is in the table's `Rights`. The same
+//! holds of numbers that are no ids, which marks and the table's own right are to. Neither type has
+//! bytes, and no call does anything at run time.
+ghost use Rattle.std.specs.Prelude.{◌≡◌, ◌≢◌, ℕ, ◌==◌, true, false, List, [], if◌then◌else◌};
+ghost use types.Logic.{sem};
+ghost use Rattle.thread_local_ids.specs.Rights.{is_out, right_owns, rights_own};
+
+use std::marker::{Model, PhantomData};
+
+/// The right to one id of one table: no two values are the right to the same id.
+///
+/// One that is dropped or forgotten is lost for good, and its id stays out.
+#[derive(Drop)]
+pub struct Right {
+    marker: PhantomData<()>,
+    pub ghost table: { ℕ },
+    pub ghost id: { ℕ },
+}
+
+impl Model for Right {
+    ghost also_owns = { λ r. right_owns r.table r.id };
+}
+
+/// A table's rights to all ids but those that are out, which were taken and not put back.
+#[derive(Drop)]
+pub struct Rights {
+    marker: PhantomData<()>,
+    pub ghost table: { ℕ },
+    pub ghost out: { List ℕ },
+}
+
+impl Model for Rights {
+    ghost also_owns = { λ r. rights_own r.table r.out };
+}
+
+impl Rights {
+    /// All rights of a new table, under a fresh name that no other table has.
+    pub fn new() -> Rights
+        ensures { result.out ≡ [] }
+    {
+        Rights {
+            marker: PhantomData,
+        }
+    }
+
+    /// Hands out the right to an id that isn't out yet.
+    pub fn take(&mut self, id: usize) -> Right
+        requires { is_out self.old.out id ≡ false }
+        ensures right { (result.table ≡ self.old.table) × (result.id ≡ id) }
+        ensures table { self.new.table ≡ self.old.table }
+        ensures out { (j : ℕ) → is_out self.new.out j ≡ (if id == j then true else is_out self.old.out j) }
+    {
+        Right {
+            marker: PhantomData,
+        }
+    }
+
+    /// Puts a right back, which shows that it was out.
+    pub fn put_back(&mut self, right: Right)
+        requires { right.table ≡ self.old.table }
+        ensures was_out { is_out self.old.out right.id ≡ true }
+        ensures table { self.new.table ≡ self.old.table }
+        ensures out { (j : ℕ)
+            → is_out self.new.out j ≡ (if right.id == j then false else is_out self.old.out j) }
+    {
+        let Right { marker: _ } = right;
+    }
+
+    /// Shows that two `Rights` belong to tables of different names.
+    pub fn apart(&mut self, other: &mut Rights)
+        ensures tables { self.old.table ≢ other.old.table }
+        ensures same { (self.new ≡ self.old) × (other.new ≡ other.old) }
+    {}
+}
+
+impl Right {
+    /// Shows that two rights of one table are to different ids, and so that two to one id are of
+    /// tables of different names.
+    pub fn apart(&mut self, other: &mut Right)
+        ensures ids { self.old.table ≡ other.old.table → self.old.id ≢ other.old.id }
+        ensures same { (self.new ≡ self.old) × (other.new ≡ other.old) }
+    {}
+
+    /// Leaves the right with the caller's proof, as for an invariant of its own. At run time it
+    /// does nothing.
+    pub fn lay_down(self)
+        ensures* { sem 𝓛 (right_owns self.table self.id) }
+    {
+        let Right { marker: _ } = self;
+    }
+
+    /// Makes a right again out of what `lay_down` gave to the proof.
+    pub fn take_up() -> Right
+        ghost of: { ℕ × ℕ }
+        requires* { sem 𝓛 (right_owns of.0 of.1) }
+        ensures { (result.table ≡ of.0) × (result.id ≡ of.1) }
+    {
+        Right {
+            marker: PhantomData,
+        }
+    }
+}
+
+unsafe impl Send for Right {}
+
+unsafe impl Send for Rights {}
+
+unsafe impl Sync for Right {}
+
+unsafe impl Sync for Rights {}

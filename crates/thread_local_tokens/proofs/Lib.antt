@@ -1,9 +1,0 @@
-mod BothLent
-mod Facts
-pub mod Made
-pub mod Markers
-pub mod RightElements
-pub mod Rows
-pub mod ToldElements
-pub mod Twice
-mod Whole
