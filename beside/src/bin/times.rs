@@ -74,14 +74,23 @@ fn local_and_drop() -> Round {
     (TIMES, start.elapsed())
 }
 
-fn publish() -> Round {
-    const IDS: usize = (1 << 20) - 1;
-    let table = ThreadLocal::with_capacity(IDS);
-    let start = Instant::now();
-    for id in 0..IDS {
-        opened::insert(&table, id, id as u64);
+/// Publishes a value at each reserved id of so many tables. The ids are read from memory, as
+/// `Local`s are on the other side: each is at hand in a register, and none is known beforehand.
+fn publish(count: usize, tables: usize) -> Round {
+    let ids: Vec<usize> = black_box((0..count).collect());
+    let mut time = Duration::ZERO;
+    for _ in 0..tables {
+        let table = ThreadLocal::with_capacity(count);
+        let start = Instant::now();
+        let mut number = 0;
+        for &id in &ids {
+            opened::insert(&table, id, number);
+            number += 1;
+        }
+        time += start.elapsed();
+        black_box(&table);
     }
-    (IDS as u64, start.elapsed())
+    ((count * tables) as u64, time)
 }
 
 /// What a table is filled with.
@@ -114,7 +123,8 @@ const VALUES: usize = 1 << 20;
 const LARGE: usize = 1 << 18;
 const NEAR: usize = 1023;
 const SPARSE: usize = 1 << 14;
-const WALKS: usize = 1000;
+const WALKS: usize = 20_000;
+const TABLES: usize = 1000;
 
 /// A table with so many values, each so many ids behind the one before it.
 fn filled<T: Value>(count: usize, apart: usize) -> ThreadLocal<T> {
@@ -140,43 +150,76 @@ fn insert<T: Value>(count: usize) -> Round {
     (count as u64, time)
 }
 
-fn iter() -> Round {
-    let table = filled::<u64>(VALUES, 1);
+/// Walks so often over a table that threads may share, and answers how long that took.
+fn walk(table: &ThreadLocal<u64>, wanted: u64, walks: usize) -> Duration {
     let mut sum = 0u64;
     let start = Instant::now();
-    for value in &table {
-        sum = sum.wrapping_add(*value);
+    for _ in 0..walks {
+        for value in table {
+            sum = sum.wrapping_add(*value);
+        }
     }
     let time = start.elapsed();
-    assert_eq!(sum, sum_below(VALUES));
-    (VALUES as u64, time)
+    assert_eq!(sum, wanted * walks as u64);
+    time
+}
+
+/// Reads each value of a table in so many walks. An operation is one value.
+fn iter(count: usize, apart: usize, walks: usize) -> Round {
+    let table = filled::<u64>(count, apart);
+    let time = walk(&table, sum_below(count), walks);
+    ((count * walks) as u64, time)
+}
+
+/// Walks over a table with reserved slots and four values. An operation is one walk.
+fn iter_reserved() -> Round {
+    const WALKS: usize = 10;
+    (WALKS as u64, walk(&reserved(), sum_below(4), WALKS))
+}
+
+/// A table with many reserved slots and four values.
+fn reserved() -> ThreadLocal<u64> {
+    let table = ThreadLocal::with_capacity(1 << 20);
+    for id in 0..4 {
+        opened::insert(&table, id, id as u64);
+    }
+    table
 }
 
 fn sum_below(end: usize) -> u64 {
     (end * (end - 1) / 2) as u64
 }
 
-fn iter_mut<T: Value>(count: usize, apart: usize, times: usize) -> Round {
+/// Writes each value of a table in so many walks, and answers the table too.
+fn written<T: Value>(count: usize, apart: usize, walks: usize) -> (u64, Duration, ThreadLocal<T>) {
     let mut table = filled::<T>(count, apart);
     let start = Instant::now();
-    for _ in 0..times {
+    for _ in 0..walks {
         write_all(&mut table);
     }
     let time = start.elapsed();
-    black_box(&table);
-    ((count * times) as u64, time)
+    ((count * walks) as u64, time, black_box(table))
+}
+
+fn iter_mut<T: Value>(count: usize, apart: usize, walks: usize) -> Round {
+    let (operations, time, _) = written::<T>(count, apart, walks);
+    (operations, time)
 }
 
 fn iter_mut_reserved() -> Round {
-    let mut table = ThreadLocal::<u64>::with_capacity(1 << 20);
-    for id in 0..4 {
-        opened::insert(&table, id, id as u64);
-    }
+    let mut table = reserved();
     let start = Instant::now();
     for _ in 0..10 {
         write_all(&mut table);
     }
     (10, start.elapsed())
+}
+
+/// Writes each value of a small table, in so many walks. An operation is one value.
+fn iter_mut_small(count: usize, walks: usize) -> Round {
+    let (operations, time, table) = written::<u64>(count, 1, walks);
+    assert_eq!(table.into_iter().sum::<u64>(), sum_below(count) + operations);
+    (operations, time)
 }
 
 fn into_iter<T: Value>(count: usize, apart: usize, tables: usize) -> Round {
@@ -192,6 +235,162 @@ fn into_iter<T: Value>(count: usize, apart: usize, tables: usize) -> Round {
     let time = start.elapsed();
     assert_eq!(sum, sum_below(count) * made as u64);
     ((count * made) as u64, time)
+}
+
+/// Tables that are made before each timed part: how many values each has, how many tables there are,
+/// and how often they are made. They are so few that they stay in the processor's cache.
+#[derive(Clone, Copy)]
+struct Batches {
+    values: usize,
+    tables: usize,
+    times: usize,
+}
+
+const FRESH: Batches = Batches { values: 0, tables: 64, times: 8_000 };
+const EIGHT: Batches = Batches { values: 8, tables: 64, times: 2_000 };
+const LENGTHS: Batches = Batches { values: 8, tables: 16, times: 25_000 };
+const STORM: Batches = Batches { values: 0, tables: 20_000, times: 1 };
+const THOUSAND: Batches = Batches { values: 1023, tables: 16, times: 100 };
+
+impl Batches {
+    /// A batch's tables. Each has its number at each of the first ids.
+    fn filled<T: Send>(self, value: impl Fn(u64) -> T) -> Vec<ThreadLocal<T>> {
+        let table = |_| {
+            let table = ThreadLocal::new();
+            for id in 0..self.values {
+                opened::insert(&table, id, value(id as u64));
+            }
+            table
+        };
+        (0..self.tables).map(table).collect()
+    }
+
+    /// Runs the timed part on each batch of tables.
+    fn timed<T: Send, A>(
+        self,
+        value: impl Fn(u64) -> T,
+        mut part: impl FnMut(Vec<ThreadLocal<T>>) -> A,
+    ) -> Duration {
+        let mut time = Duration::ZERO;
+        for _ in 0..self.times {
+            let tables = black_box(self.filled(&value));
+            let start = Instant::now();
+            let left = part(tables);
+            time += start.elapsed();
+            drop(left);
+        }
+        time
+    }
+
+    /// The round in which each table was worked on once. An operation is one table.
+    fn by_table(self, time: Duration) -> Round {
+        ((self.tables * self.times) as u64, time)
+    }
+
+    /// The round of walks that met values with this sum. An operation is one value.
+    fn by_value(self, sum: u64, time: Duration) -> Round {
+        let tables = self.tables * self.times;
+        assert_eq!(sum, sum_below(self.values) * tables as u64);
+        ((self.values * tables) as u64, time)
+    }
+}
+
+/// Publishes the first value of a table that was just made.
+fn first_in_fresh() -> Round {
+    let mut sum = 0;
+    let mut time = Duration::ZERO;
+    for _ in 0..FRESH.times {
+        let tables = black_box(FRESH.filled(|number| number));
+        let start = Instant::now();
+        publish_one_each(&tables);
+        time += start.elapsed();
+        sum += tables.into_iter().flatten().sum::<u64>();
+    }
+    assert_eq!(sum, sum_below(FRESH.tables) * FRESH.times as u64);
+    FRESH.by_table(time)
+}
+
+/// Publishes the number of each table in it, as this thread's first value there.
+fn publish_one_each(tables: &[ThreadLocal<u64>]) {
+    let mut number = 0;
+    for table in tables {
+        table.get_or(|| number);
+        number += 1;
+    }
+}
+
+/// Four threads publish their first values in tables that were just made, each thread in each table.
+/// An operation is one value of each thread. All have their ids before one begins, so that no id is
+/// used again.
+fn first_4_threads() -> Round {
+    let tables = black_box(STORM.filled(|number| number));
+    let have_ids = Barrier::new(4);
+    let round = by_threads(4, STORM.tables as u64, |_| {
+        black_box(opened::own_id());
+        have_ids.wait();
+        publish_one_each(&tables);
+    });
+    assert_eq!(tables.into_iter().flatten().sum::<u64>(), 4 * sum_below(STORM.tables));
+    round
+}
+
+fn into_iter_small(batches: Batches) -> Round {
+    let mut sum = 0u64;
+    let time = batches.timed(
+        |number| number,
+        |tables| {
+            for table in tables {
+                for value in table {
+                    sum = sum.wrapping_add(value);
+                }
+            }
+        },
+    );
+    batches.by_value(sum, time)
+}
+
+/// What there is beside `drain`: a walk that takes each value out of an `Option`.
+fn drain_small(batches: Batches) -> Round {
+    let mut sum = 0u64;
+    let time = batches.timed(Some, |mut tables| {
+        for table in &mut tables {
+            for value in table.iter_mut() {
+                if let Some(number) = value.take() {
+                    sum = sum.wrapping_add(number);
+                }
+            }
+        }
+        tables
+    });
+    batches.by_value(sum, time)
+}
+
+fn clear_small(batches: Batches) -> Round {
+    let time = batches.timed(
+        |number| number,
+        |mut tables| {
+            for table in &mut tables {
+                table.clear();
+            }
+            tables
+        },
+    );
+    batches.by_table(time)
+}
+
+/// Asks walks over a batch's tables for their lengths, again and again. An operation is one walk.
+fn len_small(batches: Batches) -> Round {
+    let mut tables = batches.filled(|number| number);
+    let mut sum = 0;
+    let start = Instant::now();
+    for _ in 0..batches.times {
+        for table in black_box(&mut tables) {
+            sum += table.iter_mut().size_hint().0;
+        }
+    }
+    let time = start.elapsed();
+    assert_eq!(sum, batches.values * batches.tables * batches.times);
+    batches.by_table(time)
 }
 
 fn clear() -> Round {
@@ -334,6 +533,55 @@ fn counters_4_threads<T: Counter>() -> Round {
     (TIMES, time)
 }
 
+/// What there is beside a `Pool`: each use takes an id under a lock, takes that id's value out, adds
+/// one to it, puts it back, and gives the id back.
+fn pool(threads: u64, uses: u64) -> Round {
+    let manager = Mutex::new(Manager::new());
+    let table: ThreadLocal<Cell<Option<u64>>> = ThreadLocal::new();
+    let round = by_threads(threads, uses, |_| {
+        for _ in 0..uses {
+            let id = manager.lock().unwrap().take();
+            let cell = match opened::get(&table, id) {
+                Some(cell) => cell,
+                None => opened::insert(&table, id, Cell::new(None)),
+            };
+            let value = cell.take().unwrap_or(0);
+            cell.set(Some(value.wrapping_add(1)));
+            manager.lock().unwrap().give(id);
+        }
+    });
+    assert_eq!(table.into_iter().filter_map(Cell::into_inner).sum::<u64>(), threads * uses);
+    round
+}
+
+/// A value that is taken out of its cell while it is used.
+#[derive(Default)]
+#[repr(align(128))]
+struct Own(Cell<Option<u64>>);
+
+/// Takes the thread's value out of its cell, adds one to it, and puts it back. It isn't inlined, so
+/// that each use looks for the cell.
+#[inline(never)]
+fn use_own(table: &ThreadLocal<Own>) {
+    let cell = &table.get_or_default().0;
+    let value = cell.take().unwrap_or(0);
+    cell.set(Some(value.wrapping_add(1)));
+}
+
+/// Four threads use their own values, as pools of `regex` and others do that are written on the
+/// crate: no lock is taken.
+fn own_value_4_threads() -> Round {
+    const USES: u64 = 10_000_000;
+    let table = ThreadLocal::new();
+    let round = by_threads(4, USES, |_| {
+        for _ in 0..USES {
+            use_own(&table);
+        }
+    });
+    assert_eq!(table.into_iter().filter_map(|own| own.0.into_inner()).sum::<u64>(), 4 * USES);
+    round
+}
+
 fn thread_come_and_go() -> Round {
     const TIMES: u64 = 2_000;
     let table = ThreadLocal::new();
@@ -381,11 +629,10 @@ fn tally_by(threads: u64) -> Round {
     by_threads(threads, NUMBERS, |thread| add(&table, thread, threads, NUMBERS))
 }
 
-fn local_and_drop_by(threads: u64) -> Round {
-    const PAIRS: u64 = 1_000_000;
+fn local_and_drop_by(threads: u64, pairs: u64) -> Round {
     let manager = Mutex::new(Manager::new());
-    by_threads(threads, PAIRS, |_| {
-        for _ in 0..PAIRS {
+    by_threads(threads, pairs, |_| {
+        for _ in 0..pairs {
             let id = manager.lock().unwrap().take();
             manager.lock().unwrap().give(id);
         }
@@ -403,21 +650,6 @@ fn publish_by(threads: u64) -> Round {
     })
 }
 
-fn iter_over(values: usize) -> Round {
-    let table = filled::<u64>(values, 1);
-    let walks = VALUES / values;
-    let mut sum = 0u64;
-    let start = Instant::now();
-    for _ in 0..walks {
-        for value in &table {
-            sum = sum.wrapping_add(*value);
-        }
-    }
-    let time = start.elapsed();
-    assert_eq!(sum, sum_below(values) * walks as u64);
-    ((values * walks) as u64, time)
-}
-
 /// Measures each call at each of its sizes.
 fn growth(rounds: u32) {
     let report = |name: &str, size: u64, round: &dyn Fn() -> Round| {
@@ -426,13 +658,13 @@ fn growth(rounds: u32) {
     for threads in [1, 2, 4] {
         report("get_hit", threads, &|| get_hit_by(threads));
         report("tally", threads, &|| tally_by(threads));
-        report("local_and_drop", threads, &|| local_and_drop_by(threads));
+        report("local_and_drop", threads, &|| local_and_drop_by(threads, 1_000_000));
         report("publish", threads, &|| publish_by(threads));
     }
     for power in [10, 12, 14, 16, 18, 20] {
         let values = 1usize << power;
         let walks = VALUES / values;
-        report("iter", values as u64, &|| iter_over(values));
+        report("iter", values as u64, &|| iter(values, 1, walks));
         report("iter_mut", values as u64, &|| iter_mut::<u64>(values, 1, walks));
         report("into_iter", values as u64, &|| into_iter::<u64>(values, 1, walks));
     }
@@ -440,28 +672,50 @@ fn growth(rounds: u32) {
 
 type Workload = (&'static str, fn() -> Round);
 
-const ALL: [Workload; 25] = [
+const ALL: [Workload; 46] = [
+    ("first_in_fresh", first_in_fresh),
+    ("new_first_drop", new_first_drop),
+    ("iter_8", || iter(8, 1, 400_000)),
+    ("iter_mut_8", || iter_mut_small(8, 400_000)),
+    ("into_iter_8", || into_iter_small(EIGHT)),
+    ("drain_8", || drain_small(EIGHT)),
+    ("clear_8", || clear_small(EIGHT)),
+    ("len_8", || len_small(LENGTHS)),
+    ("iter_64", || iter(64, 1, 100_000)),
+    ("iter_mut_64", || iter_mut_small(64, 100_000)),
+    // Threads that wait for one another take longer for a use.
+    ("pool_1", || pool(1, 800_000)),
+    ("pool_2", || pool(2, 200_000)),
+    ("pool_4", || pool(4, 50_000)),
     ("get_hit", get_hit),
     ("get_or_hit", get_or_hit),
-    ("new_first_drop", new_first_drop),
     ("local_and_drop", local_and_drop),
-    ("publish", publish),
+    ("publish_1023", || publish(NEAR, TABLES)),
+    ("iter_1023", || iter(NEAR, 1, WALKS)),
+    ("iter_mut_1023", || iter_mut::<u64>(NEAR, 1, WALKS)),
+    ("into_iter_1023", || into_iter::<u64>(NEAR, 1, TABLES)),
+    ("clear_1023", || clear_small(THOUSAND)),
+    ("publish", || publish(VALUES - 1, 1)),
     ("insert", || insert::<u64>(VALUES)),
-    ("iter", iter),
+    ("iter", || iter(VALUES, 1, 1)),
     ("iter_mut", || iter_mut::<u64>(VALUES, 1, 1)),
     ("into_iter", || into_iter::<u64>(VALUES, 1, 1)),
     ("clear", clear),
-    ("iter_mut_1023", || iter_mut::<u64>(NEAR, 1, WALKS)),
-    ("into_iter_1023", || into_iter::<u64>(NEAR, 1, WALKS)),
     ("insert_64_bytes", || insert::<[u64; 8]>(LARGE)),
     ("iter_mut_64_bytes", || iter_mut::<[u64; 8]>(LARGE, 1, 1)),
     ("into_iter_64_bytes", || into_iter::<[u64; 8]>(LARGE, 1, 1)),
+    ("iter_sparse", || iter(SPARSE, 64, 10)),
     ("iter_mut_sparse", || iter_mut::<u64>(SPARSE, 64, 1)),
     ("into_iter_sparse", || into_iter::<u64>(SPARSE, 64, 1)),
+    ("iter_reserved", iter_reserved),
     ("iter_mut_reserved", iter_mut_reserved),
     ("ids_few", ids_few),
     ("ids_many", ids_many),
     ("ids_highest", ids_highest),
+    ("first_4_threads", first_4_threads),
+    ("publish_4_threads", || publish_by(4)),
+    ("local_and_drop_4_threads", || local_and_drop_by(4, 100_000)),
+    ("own_value_4_threads", own_value_4_threads),
     ("tally_4_threads", tally_4_threads),
     ("counters_4_threads", counters_4_threads::<Cell<u64>>),
     ("counters_4_threads_padded", counters_4_threads::<Padded>),

@@ -1,8 +1,8 @@
 //! How the cost of calls grows: with the number of threads that make them at once on one table, and
 //! with the number of values that a walk meets.
 
-use crate::table::{find_by_two, publish_all, taken};
-use crate::values::{fill, first, into_iter_of_many, iter_mut, sum_below};
+use crate::table::{find_by_two, iter, publish_all, taken};
+use crate::values::{fill, first, into_iter_of_many, iter_mut};
 use crate::workers::{Counter, add};
 use crate::{Round, least_of};
 use std::alloc::{AllocError, Global};
@@ -30,44 +30,46 @@ const PAIRS: u64 = 1_000_000;
 /// How many numbers the threads add up together.
 const NUMBERS: u64 = 16_000_000;
 
-/// What several threads do at once.
+/// What several threads do at once, and how often: of a tally all threads together, else each.
 #[derive(Clone, Copy)]
-enum Work {
-    GetHit,
-    Tally,
-    LocalAndDrop,
+pub(crate) enum Work {
+    GetHit(u64),
+    Tally(u64),
+    LocalAndDrop(u64),
 }
 
 impl Work {
-    const ALL: [Work; 3] = [Work::GetHit, Work::Tally, Work::LocalAndDrop];
+    const ALL: [Work; 3] = [
+        Work::GetHit(FINDS),
+        Work::Tally(NUMBERS),
+        Work::LocalAndDrop(PAIRS),
+    ];
 
     /// The work's name, as it is printed.
     fn name(self) -> &'static str {
         match self {
-            Work::GetHit => "get_hit",
-            Work::Tally => "tally",
-            Work::LocalAndDrop => "local_and_drop",
+            Work::GetHit(_) => "get_hit",
+            Work::Tally(_) => "tally",
+            Work::LocalAndDrop(_) => "local_and_drop",
         }
     }
 
     /// For how many operations a time is given.
     fn operations(self) -> u64 {
         match self {
-            Work::GetHit => FINDS,
-            Work::Tally => NUMBERS,
-            Work::LocalAndDrop => PAIRS,
+            Work::GetHit(times) | Work::Tally(times) | Work::LocalAndDrop(times) => times,
         }
     }
 
     /// How long so many threads take. Where each finds its values again and again, no two of these
     /// share a line of the cache: the time is that of the calls, and not of lines that are handed on.
-    fn timed<R: Clock + Threads + Wait + Sync>(
+    pub(crate) fn timed<R: Clock + Threads + Wait + Sync>(
         self,
         rt: &R,
         alloc: Global,
         threads: u64,
     ) -> io::Result<Round> {
-        if let Work::GetHit = self {
+        if let Work::GetHit(_) = self {
             let table = ThreadLocal::<Padded<Cell<u64>>>::made_with(alloc);
             return by_threads(&table, rt, self, threads);
         }
@@ -84,24 +86,28 @@ impl Work {
         threads: u64,
     ) -> Result<(), AllocError> {
         match self {
-            Work::GetHit => find_all(table, rt),
-            Work::Tally => add(table, rt, thread, threads, NUMBERS).map_err(|_| AllocError),
-            Work::LocalAndDrop => take_and_drop(table, rt),
+            Work::GetHit(times) => find_all(table, rt, times),
+            Work::Tally(times) => add(table, rt, thread, threads, times).map_err(|_| AllocError),
+            Work::LocalAndDrop(times) => take_and_drop(table, rt, times),
         }
     }
 }
 
 /// Finds the values of two `Local`s.
-fn find_all<T: Counter, R: Clock + Wait>(table: &ThreadLocal<T>, rt: &R) -> Result<(), AllocError> {
-    match find_by_two(table, rt, FINDS, 1) {
+fn find_all<T: Counter, R: Clock + Wait>(
+    table: &ThreadLocal<T>,
+    rt: &R,
+    times: u64,
+) -> Result<(), AllocError> {
+    match find_by_two(table, rt, times, 1) {
         Ok(_) => Ok(()),
         Err(_) => Err(AllocError),
     }
 }
 
 /// Takes `Local`s of a table and drops them.
-fn take_and_drop<T, R: Wait>(table: &ThreadLocal<T>, rt: &R) -> Result<(), AllocError> {
-    for _ in 0..PAIRS {
+fn take_and_drop<T, R: Wait>(table: &ThreadLocal<T>, rt: &R, times: u64) -> Result<(), AllocError> {
+    for _ in 0..times {
         drop(taken(table, rt)?);
     }
     Ok(())
@@ -135,18 +141,19 @@ where
     })
 }
 
-/// `Local`s of all reserved ids of a table, dealt to so many threads: each gets every so-manieth id.
+/// `Local`s of a table, dealt to so many threads: each gets every so-manieth id, and so many of them.
 fn dealt<'a, R: Wait>(
     table: &'a ThreadLocal<u64>,
     rt: &'a R,
     alloc: Global,
     threads: u32,
+    each: u32,
 ) -> Result<Vec<Vec<Local<'a, u64, R>>>, AllocError> {
     let mut hands = Vec::with_capacity(alloc, threads as usize)?;
     for _ in 0..threads {
-        hands.push(Vec::with_capacity(alloc, (VALUES / threads.max(1)) as usize)?)?;
+        hands.push(Vec::with_capacity(alloc, each as usize)?)?;
     }
-    for _ in 0..VALUES / threads.max(1) {
+    for _ in 0..each {
         for hand in &mut hands {
             hand.push(taken(table, rt)?)?;
         }
@@ -154,16 +161,19 @@ fn dealt<'a, R: Wait>(
     Ok(hands)
 }
 
-/// So many threads publish a value at each reserved id of one table.
-fn publish_by<R: Clock + Threads + Wait + Sync>(
+/// So many threads publish a value at each reserved id of one table. An operation is one of each
+/// thread.
+pub(crate) fn publish_by<R: Clock + Threads + Wait + Sync>(
     rt: &R,
     alloc: Global,
     threads: u32,
+    values: u32,
 ) -> io::Result<Round> {
-    let Ok(table) = ThreadLocal::<u64>::with_capacity(alloc, VALUES as usize) else {
+    let Ok(table) = ThreadLocal::<u64>::with_capacity(alloc, values as usize) else {
         return Err(io::Error::from(AllocError));
     };
-    let mut hands = dealt(&table, rt, alloc, threads)?;
+    let each = values / threads.max(1);
+    let mut hands = dealt(&table, rt, alloc, threads, each)?;
     let start = Instant::now(rt)?;
     let started = thread::scope(thread::scope_env(), rt, |scope| {
         for hand in &mut hands {
@@ -179,28 +189,7 @@ fn publish_by<R: Clock + Threads + Wait + Sync>(
         return Err(io::Error::from(AllocError));
     }
     Ok(Round {
-        operations: u64::from(VALUES / threads.max(1)),
-        time,
-    })
-}
-
-/// Reads each of so many values of a table that threads may share, in several walks.
-fn iter_over<R: Clock>(rt: &R, alloc: Global, values: u32) -> io::Result<Round> {
-    let mut table = ThreadLocal::<u64>::new(alloc);
-    fill(table.buckets_mut(), first(values))?;
-    let walks = VALUES / values.max(1);
-    let mut sum = 0u64;
-    let start = Instant::now(rt)?;
-    for _ in 0..walks {
-        for value in &table {
-            sum = sum.wrapping_add(*value);
-        }
-    }
-    let time = start.elapsed(rt)?;
-    let wanted = sum_below(values).wrapping_mul(u64::from(walks));
-    let operations = u64::from(values) * u64::from(walks);
-    Ok(Round {
-        operations: if sum == wanted { operations } else { 0 },
+        operations: u64::from(each),
         time,
     })
 }
@@ -225,12 +214,12 @@ pub(crate) fn run<R: Clock + Threads + Wait + Sync + Print>(
             let time = least_of(rounds, || work.timed(rt, alloc, u64::from(threads)))?;
             report(rt, work.name(), threads, time)?;
         }
-        let time = least_of(rounds, || publish_by(rt, alloc, threads))?;
+        let time = least_of(rounds, || publish_by(rt, alloc, threads, VALUES))?;
         report(rt, "publish", threads, time)?;
     }
     for values in SIZES {
         let walks = VALUES / values.max(1);
-        let time = least_of(rounds, || iter_over(rt, alloc, values))?;
+        let time = least_of(rounds, || iter(rt, alloc, first(values), walks))?;
         report(rt, "iter", values, time)?;
         let time = least_of(
             rounds,

@@ -1,6 +1,7 @@
 //! A table that threads share: its `Local`s, and the values that they find and publish.
 
 use crate::Round;
+use crate::values::{Ids, fill, first, sum_below};
 use crate::workers::Counter;
 use std::alloc::{AllocError, Global};
 use std::cell::Cell;
@@ -170,39 +171,100 @@ pub(crate) fn publish_all<R: Wait>(locals: &mut Vec<Local<'_, u64, R>>) -> Resul
     Ok(())
 }
 
-/// Publishes a value at each reserved id of a table, whose `Local`s were taken before.
-pub(crate) fn publish<R: Clock + Wait>(rt: &R, alloc: Global, values: u32) -> io::Result<Round> {
+/// Publishes a number at each of the first ids of a table, by `Local`s that are dropped then.
+pub(crate) fn publish_first<R: Wait>(
+    table: &ThreadLocal<u64>,
+    rt: &R,
+    alloc: Global,
+    values: u32,
+) -> Result<(), AllocError> {
+    let mut locals = all_taken(table, rt, alloc, values)?;
+    publish_all(&mut locals)
+}
+
+/// Publishes a value at each reserved id of a new table, whose `Local`s are taken before, and answers
+/// how long that took.
+fn publish_reserved<R: Clock + Wait>(rt: &R, alloc: Global, values: u32) -> io::Result<Duration> {
     let Ok(table) = ThreadLocal::<u64>::with_capacity(alloc, values as usize) else {
         return Err(io::Error::from(AllocError));
     };
     let mut locals = all_taken(&table, rt, alloc, values)?;
     let start = Instant::now(rt)?;
     publish_all(&mut locals)?;
-    let time = start.elapsed(rt)?;
-    drop(locals);
+    start.elapsed(rt)
+}
+
+/// Publishes a value at each reserved id of so many tables. Each `Local` is read from memory, as the
+/// ids are on the Rust crate's side.
+pub(crate) fn publish<R: Clock + Wait>(
+    rt: &R,
+    alloc: Global,
+    values: u32,
+    tables: u32,
+) -> io::Result<Round> {
+    let mut time = Duration::ZERO;
+    for _ in 0..tables {
+        time = time.saturating_add(publish_reserved(rt, alloc, values)?);
+    }
     Ok(Round {
-        operations: u64::from(values),
+        operations: u64::from(values) * u64::from(tables),
         time,
     })
 }
 
-/// Reads each value of a table that threads may share. Their sum is looked at, so that no compiler
-/// leaves the walk out.
-pub(crate) fn iter<R: Clock + Wait>(rt: &R, alloc: Global, values: u32) -> io::Result<Round> {
-    let table = ThreadLocal::<u64>::new(alloc);
-    {
-        let mut locals = all_taken(&table, rt, alloc, values)?;
-        publish_all(&mut locals)?;
-    }
-    let mut sum = 0u64;
-    let start = Instant::now(rt)?;
-    for value in &table {
+/// Reads each value of a table, and adds them to a sum.
+fn read_all(table: &ThreadLocal<u64>, mut sum: u64) -> u64 {
+    for value in table {
         sum = sum.wrapping_add(*value);
     }
+    sum
+}
+
+/// Walks so often over a table that threads may share, and answers how long that took. The sum of
+/// the values is looked at, so that no compiler leaves a walk out.
+fn walk<R: Clock>(
+    rt: &R,
+    table: &ThreadLocal<u64>,
+    wanted: u64,
+    walks: u32,
+) -> io::Result<Duration> {
+    let mut sum = 0u64;
+    let start = Instant::now(rt)?;
+    for _ in 0..walks {
+        sum = read_all(table, sum);
+    }
     let time = start.elapsed(rt)?;
-    let wanted = u64::from(values).wrapping_mul(u64::from(values).wrapping_sub(1)) / 2;
+    if sum != wanted.wrapping_mul(u64::from(walks)) {
+        return Err(io::Error::from(AllocError));
+    }
+    Ok(time)
+}
+
+/// Reads each value of a table in so many walks. An operation is one value.
+pub(crate) fn iter<R: Clock>(rt: &R, alloc: Global, ids: Ids, walks: u32) -> io::Result<Round> {
+    let mut table = ThreadLocal::<u64>::new(alloc);
+    fill(table.buckets_mut(), ids)?;
+    let time = walk(rt, &table, sum_below(ids.count), walks)?;
     Ok(Round {
-        operations: if sum == wanted { u64::from(values) } else { 0 },
+        operations: u64::from(ids.count) * u64::from(walks),
+        time,
+    })
+}
+
+/// Walks so often over a table with reserved slots and four values. An operation is one walk.
+pub(crate) fn iter_reserved<R: Clock>(
+    rt: &R,
+    alloc: Global,
+    reserved: u32,
+    walks: u32,
+) -> io::Result<Round> {
+    let Ok(mut table) = ThreadLocal::<u64>::with_capacity(alloc, reserved as usize) else {
+        return Err(io::Error::from(AllocError));
+    };
+    fill(table.buckets_mut(), first(4))?;
+    let time = walk(rt, &table, sum_below(4), walks)?;
+    Ok(Round {
+        operations: u64::from(walks),
         time,
     })
 }
