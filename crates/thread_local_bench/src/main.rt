@@ -23,14 +23,11 @@ mod values;
 mod workers;
 mod workload;
 
-use sizes::{FEW, MANY};
-use std::alloc::Global;
+use sizes::{FEW, MANY, Sizes};
 use std::io;
 use std::io::Print;
-use std::sync::Wait;
-use std::thread::Threads;
-use std::time::{Clock, Duration};
-use workload::{Alone, Small, Together, Workload};
+use std::time::Duration;
+use workload::{Alone, Small, Together};
 
 /// What one round of a workload made: how many operations, and in what time.
 #[derive(Drop)]
@@ -44,11 +41,45 @@ fn number(word: &Option<String>) -> Option<u64> {
     word.as_ref().and_then(|word| word.parse::<u64>().ok())
 }
 
-/// Whether a word names the workload, or there is none.
-fn is_asked(word: &Option<String>, name: &str) -> bool {
-    match word {
-        Some(word) => word.as_str() == name,
-        None => true,
+/// What is asked for: how many rounds, if the workloads are to be timed, and a workload's name, if no
+/// other is to run.
+#[derive(Drop)]
+struct Asked {
+    rounds: Option<u64>,
+    name: Option<String>,
+}
+
+impl Asked {
+    /// Whether the workload of this name is to run.
+    fn is_for(&self, name: &str) -> bool {
+        match &self.name {
+            Some(word) => word.as_str() == name,
+            None => true,
+        }
+    }
+
+    /// Runs a workload if it is asked for, and prints its line: so many rounds, or once on few ids.
+    fn run<F: Fn(&Sizes) -> io::Result<Round>, R: Print>(
+        &self,
+        rt: &R,
+        name: &str,
+        round: F,
+    ) -> io::Result<()>
+        requires { F.IsAlwaysCallable round }
+    {
+        if !self.is_for(name) {
+            return Ok(());
+        }
+        match self.rounds {
+            None => {
+                round(&FEW)?;
+                println!(rt; "{name}")
+            }
+            Some(rounds) => {
+                let picoseconds = least_of(rounds, || round(&MANY))?;
+                println!(rt; "{name} {}.{:03}", picoseconds / 1000, picoseconds % 1000)
+            }
+        }
     }
 }
 
@@ -69,41 +100,32 @@ fn main(rt: HostRuntime) -> io::Result<()> {
         }
         _ => {}
     }
-    let rounds = number(&first);
+    let asked = Asked {
+        rounds: number(&first),
+        name: second,
+    };
     for workload in Small::ALL {
-        run(&rt, rt.alloc(), &workload, rounds, &second)?;
+        asked.run(
+            &rt,
+            workload.name(),
+            |sizes| workload.round(&rt, rt.alloc(), sizes),
+        )?;
     }
     for workload in Alone::ALL {
-        run(&rt, rt.alloc(), &workload, rounds, &second)?;
+        asked.run(
+            &rt,
+            workload.name(),
+            |sizes| workload.round(&rt, rt.alloc(), sizes),
+        )?;
     }
     for workload in Together::ALL {
-        run(&rt, rt.alloc(), &workload, rounds, &second)?;
+        asked.run(
+            &rt,
+            workload.name(),
+            |sizes| workload.round(&rt, rt.alloc(), sizes),
+        )?;
     }
     Ok(())
-}
-
-/// Runs a workload if it is asked for: so many rounds, or once on few ids.
-fn run<W: Workload, R: Clock + Threads + Wait + Sync + Print>(
-    rt: &R,
-    alloc: Global,
-    workload: &W,
-    rounds: Option<u64>,
-    asked: &Option<String>,
-) -> io::Result<()> {
-    let name = workload.name();
-    if !is_asked(asked, name) {
-        return Ok(());
-    }
-    match rounds {
-        None => {
-            workload.round(rt, alloc, &FEW)?;
-            println!(rt; "{name}")
-        }
-        Some(rounds) => {
-            let picoseconds = least_of(rounds, || workload.round(rt, alloc, &MANY))?;
-            println!(rt; "{name} {}.{:03}", picoseconds / 1000, picoseconds % 1000)
-        }
-    }
 }
 
 /// The picoseconds of one operation, in the round that took the least.

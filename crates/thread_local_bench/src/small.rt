@@ -41,11 +41,16 @@ impl Batches {
     }
 }
 
+/// A table with no value.
+fn fresh(alloc: Global) -> ThreadLocal<u64> {
+    ThreadLocal::<u64>::new(alloc)
+}
+
 /// Tables with no value, as many as a batch has.
 fn empty(alloc: Global, batches: Batches) -> Result<Vec<ThreadLocal<u64>>, AllocError> {
     let mut tables = Vec::with_capacity(alloc, batches.tables as usize)?;
     for _ in 0..batches.tables {
-        tables.push(ThreadLocal::<u64>::new(alloc))?;
+        tables.push(fresh(alloc))?;
     }
     Ok(tables)
 }
@@ -228,7 +233,7 @@ pub(crate) fn iter_mut<R: Clock + Wait>(
     values: u32,
     walks: u32,
 ) -> io::Result<Round> {
-    let mut table = ThreadLocal::<u64>::new(alloc);
+    let mut table = fresh(alloc);
     publish_first(&table, rt, alloc, values)?;
     let start = Instant::now(rt)?;
     for _ in 0..walks {

@@ -12,20 +12,6 @@ use std::thread::Threads;
 use std::time::Clock;
 use thread_local::Padded;
 
-/// What is timed.
-pub(crate) trait Workload {
-    /// The workload's name, as it is printed.
-    fn name(&self) -> &'static str;
-
-    /// Runs the workload once, of those sizes.
-    fn round<R: Clock + Threads + Wait + Sync>(
-        &self,
-        rt: &R,
-        alloc: Global,
-        sizes: &Sizes,
-    ) -> io::Result<Round>;
-}
-
 /// Workloads on tables that have as many values as a program has threads.
 #[derive(Clone, Copy)]
 pub(crate) enum Small {
@@ -60,10 +46,9 @@ impl Small {
         Small::Pool2,
         Small::Pool4,
     ];
-}
 
-impl Workload for Small {
-    fn name(&self) -> &'static str {
+    /// The workload's name, as it is printed.
+    pub(crate) fn name(self) -> &'static str {
         match self {
             Small::FirstInFresh => "first_in_fresh",
             Small::NewFirstDrop => "new_first_drop",
@@ -81,8 +66,9 @@ impl Workload for Small {
         }
     }
 
-    fn round<R: Clock + Threads + Wait + Sync>(
-        &self,
+    /// Runs the workload once, of those sizes.
+    pub(crate) fn round<R: Clock + Threads + Wait + Sync>(
+        self,
         rt: &R,
         alloc: Global,
         sizes: &Sizes,
@@ -164,10 +150,9 @@ impl Alone {
         Alone::IdsMany,
         Alone::IdsHighest,
     ];
-}
 
-impl Workload for Alone {
-    fn name(&self) -> &'static str {
+    /// The workload's name, as it is printed.
+    pub(crate) fn name(self) -> &'static str {
         match self {
             Alone::GetHit => "get_hit",
             Alone::GetOrHit => "get_or_hit",
@@ -197,8 +182,9 @@ impl Workload for Alone {
         }
     }
 
-    fn round<R: Clock + Threads + Wait + Sync>(
-        &self,
+    /// Runs the workload once, of those sizes.
+    pub(crate) fn round<R: Clock + Threads + Wait + Sync>(
+        self,
         rt: &R,
         alloc: Global,
         sizes: &Sizes,
@@ -263,10 +249,9 @@ impl Together {
         Together::CountersFourThreadsPadded,
         Together::ThreadComeAndGo,
     ];
-}
 
-impl Workload for Together {
-    fn name(&self) -> &'static str {
+    /// The workload's name, as it is printed.
+    pub(crate) fn name(self) -> &'static str {
         match self {
             Together::FirstFourThreads => "first_4_threads",
             Together::PublishFourThreads => "publish_4_threads",
@@ -279,8 +264,9 @@ impl Workload for Together {
         }
     }
 
-    fn round<R: Clock + Threads + Wait + Sync>(
-        &self,
+    /// Runs the workload once, of those sizes.
+    pub(crate) fn round<R: Clock + Threads + Wait + Sync>(
+        self,
         rt: &R,
         alloc: Global,
         sizes: &Sizes,
