@@ -1,6 +1,7 @@
 //! Times the Rust crate's calls with the workloads of `crates/thread_local_bench`: a line for each,
 //! with its name and the nanoseconds of one operation, the least of several rounds. The arguments
-//! are the number of rounds, and the name of one workload if no other is to run.
+//! are the number of rounds, and the name of one workload if no other is to run. What one operation
+//! is stands there in `src/workload.rt`.
 //!
 //! With `growth ROUNDS` it times calls by one, two and four threads, and walks over 2^10 to 2^20
 //! values. With `hold N` it makes a table of N values and drops it.
@@ -74,18 +75,15 @@ fn local_and_drop() -> Round {
     (TIMES, start.elapsed())
 }
 
-/// Publishes a value at each reserved id of so many tables. The ids are read from memory, as
-/// `Local`s are on the other side: each is at hand in a register, and none is known beforehand.
+/// Publishes a value at each reserved id of so many tables. The ids are counted, so each is in a
+/// register. On the other side each is a `Local`'s, of which a thousand lie in the processor's cache.
 fn publish(count: usize, tables: usize) -> Round {
-    let ids: Vec<usize> = black_box((0..count).collect());
     let mut time = Duration::ZERO;
     for _ in 0..tables {
         let table = ThreadLocal::with_capacity(count);
         let start = Instant::now();
-        let mut number = 0;
-        for &id in &ids {
-            opened::insert(&table, id, number);
-            number += 1;
+        for id in 0..count {
+            opened::insert(&table, id, id as u64);
         }
         time += start.elapsed();
         black_box(&table);
@@ -238,7 +236,8 @@ fn into_iter<T: Value>(count: usize, apart: usize, tables: usize) -> Round {
 }
 
 /// Tables that are made before each timed part: how many values each has, how many tables there are,
-/// and how often they are made. They are so few that they stay in the processor's cache.
+/// and how often they are made. Small tables are so few that they stay in the processor's cache, as
+/// one does that was just used. A thousand tables of 1023 values don't.
 #[derive(Clone, Copy)]
 struct Batches {
     values: usize,
@@ -250,7 +249,7 @@ const FRESH: Batches = Batches { values: 0, tables: 64, times: 8_000 };
 const EIGHT: Batches = Batches { values: 8, tables: 64, times: 2_000 };
 const LENGTHS: Batches = Batches { values: 8, tables: 16, times: 25_000 };
 const STORM: Batches = Batches { values: 0, tables: 20_000, times: 1 };
-const THOUSAND: Batches = Batches { values: 1023, tables: 16, times: 100 };
+const THOUSAND: Batches = Batches { values: 1023, tables: 1000, times: 2 };
 
 impl Batches {
     /// A batch's tables. Each has its number at each of the first ids.

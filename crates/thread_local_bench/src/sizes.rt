@@ -24,7 +24,7 @@ pub(crate) struct Sizes {
     pub(crate) near: u32,
     pub(crate) walks: u32,
     pub(crate) near_tables: u32,
-    pub(crate) near_batches: Batches,
+    pub(crate) cleared: Batches,
     pub(crate) large: u32,
     pub(crate) sparse: u32,
     pub(crate) room: u32,
@@ -75,10 +75,10 @@ pub(crate) const MANY: Sizes = Sizes {
     near: 1023,
     walks: 20_000,
     near_tables: 1_000,
-    near_batches: Batches {
+    cleared: Batches {
         values: 1023,
-        tables: 16,
-        times: 100,
+        tables: 1000,
+        times: 2,
     },
     large: 1 << 18,
     sparse: 1 << 14,
@@ -127,7 +127,7 @@ pub(crate) const FEW: Sizes = Sizes {
     near: 100,
     walks: 10,
     near_tables: 2,
-    near_batches: Batches {
+    cleared: Batches {
         values: 100,
         tables: 2,
         times: 2,

@@ -194,8 +194,8 @@ fn publish_reserved<R: Clock + Wait>(rt: &R, alloc: Global, values: u32) -> io::
     start.elapsed(rt)
 }
 
-/// Publishes a value at each reserved id of so many tables. Each `Local` is read from memory, as the
-/// ids are on the Rust crate's side.
+/// Publishes a value at each reserved id of so many tables. The `Local`s of a table with a thousand
+/// slots lie in the processor's cache.
 pub(crate) fn publish<R: Clock + Wait>(
     rt: &R,
     alloc: Global,

@@ -1,4 +1,9 @@
 //! The workloads by name: those on tables of few values, those of one thread, and those of several.
+//!
+//! An operation is one value of a walk, of a table that is filled, and of `clear`; one table of
+//! `first_in_fresh`, `new_first_drop`, `clear_8`, `clear_1023` and `first_4_threads`; one walk of
+//! `len_8` and of the walks over a reserved table; one use of a pool; and else one call. Where threads
+//! work at once it is one of each, but of a tally one number.
 
 use crate::growth::{Work, publish_by};
 use crate::sizes::Sizes;
@@ -203,7 +208,7 @@ impl Alone {
             Alone::IntoIter1023 => {
                 values::into_iter_of_many(rt, alloc, sizes.near, sizes.near_tables)
             }
-            Alone::Clear1023 => small::clear(rt, alloc, sizes.near_batches),
+            Alone::Clear1023 => small::clear(rt, alloc, sizes.cleared),
             Alone::Publish => table::publish(rt, alloc, sizes.reserved, 1),
             Alone::Insert => values::insert::<u64, R>(rt, alloc, sizes.values),
             Alone::Iter => table::iter(rt, alloc, values, 1),
