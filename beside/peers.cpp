@@ -326,7 +326,7 @@ static void report_walks(int rounds) {
     }
     Threads many(1023);
     report(Tbb::name, "iter_1023", rounds, [&] { return walk(many, 1023, 5'000); });
-    report(Tbb::name, "clear_1023", rounds, [&] { return clear(many, 16, 5); });
+    report(Tbb::name, "clear_1023", rounds, [&] { return clear(many, 100, 2); });
 }
 #endif
 
@@ -339,7 +339,7 @@ int main(int count, char **words) {
     report_walks(rounds);
 #endif
 #ifdef WITH_BOOST
-    std::printf("%s|version|%s\n", Boost::name, BOOST_LIB_VERSION);
+    std::printf("%s|version|%d.%d\n", Boost::name, BOOST_VERSION / 100000, BOOST_VERSION / 100 % 1000);
     report_objects<Boost>(rounds);
 #endif
     report_objects<Key>(rounds);

@@ -212,7 +212,7 @@ fn main() {
     report(map, "iter_8", &|| walk(&eight, 400_000));
     report(map, "iter_1023", &|| walk(&many, 5_000));
     report(map, "clear_8", &|| clear(&eight, 64, 500));
-    report(map, "clear_1023", &|| clear(&many, 16, 20));
+    report(map, "clear_1023", &|| clear(&many, 1000, 2));
     report(map, "tally_4_threads", &tally);
     report(map, "first_4_threads", &storm);
 }
