@@ -68,6 +68,11 @@ impl<T, A: Allocator> Block<T, A> {
             return Err(AllocError);
         }
         let mut block = Block::allocate(alloc, len, bytes_of_block::<T>(len))?;
+        // Most blocks have one chunk, whose word needs no loop.
+        if chunk_count(len) == 1 {
+            block.push(0, flag_word_at::<T>(len, 0));
+            return Ok(block);
+        }
         'chunks: for chunk in 0..chunk_count(len) {
             block.push(chunk, flag_word_at::<T>(len, chunk));
         }
