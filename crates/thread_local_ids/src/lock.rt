@@ -34,11 +34,11 @@ const AWAITED: u64 = 2;
 /// How many seconds a thread sleeps, unless it is woken.
 const FOR_EVER: u64 = i64::MAX as u64;
 
-/// How often a thread tries, and waits for a moment in between, before it yields.
-const TURNS: u64 = 6;
+/// How often a thread waits for a moment and looks, before it yields. The waits double.
+const TURNS: u64 = 10;
 
-/// How often a thread tries, and yields in between, before it sleeps.
-const TRIES: u64 = 100;
+/// How often a thread yields and looks, before it sleeps.
+const YIELDS: u64 = 99;
 
 /// A value that one thread at a time writes through a `&`, and that fits whenever the lock is free.
 /// A contract sees the tag of the value.
@@ -103,8 +103,9 @@ impl<V: Fits> Lock<V> {
         self.take(TAKEN)
     }
 
-    /// Takes the lock. May wait: it tries for a while, first with short waits in between and then
-    /// with yields. Then it sleeps until a release wakes it, and tries again.
+    /// Takes the lock. May wait: it looks for a while, first with short waits in between and then
+    /// with yields, and tries where the lock is free. Then it sleeps until a release wakes it, and
+    /// tries again.
     #[inline]
     pub fn lock<R: Wait>(&self, rt: &R) -> LockGuard<'_, V>
         ensures tag { (result.tag ≡ self.now.tag) × (V.tag result.value ≡ self.now.tag) }
@@ -125,13 +126,13 @@ impl<V: Fits> Lock<V> {
     {
         for turn in 0..TURNS {
             pause(turn);
-            if let Some(guard) = self.try_lock() {
+            if let Some(guard) = self.look_and_try() {
                 return guard;
             }
         }
-        for _ in 1..TRIES {
+        for _ in 0..YIELDS {
             thread::yield_now();
-            if let Some(guard) = self.try_lock() {
+            if let Some(guard) = self.look_and_try() {
                 return guard;
             }
         }
@@ -143,6 +144,24 @@ impl<V: Fits> Lock<V> {
             }
         }
         unreachable!()
+    }
+
+    /// `try_lock`, where a look finds the lock free. Even a try that fails takes the word's line of
+    /// the cache away from whoever has the lock, and a look doesn't.
+    fn look_and_try(&self) -> Option<LockGuard<'_, V>>
+        ensures tag { IfSome result (λ guard. (guard.tag ≡ self.now.tag) × (V.tag guard.value ≡ self.now.tag)) }
+        ensures fits { IfSome result (λ guard. V.fits guard.value) }
+    {
+        if self.seen() == FREE {
+            self.try_lock()
+        } else {
+            None
+        }
+    }
+
+    /// The word as it was at one atomic load.
+    fn seen(&self) -> u64 {
+        unsafe { raw::load::<Brand>(&raw const self.word, SeqCst) }
     }
 
     /// Takes the lock if it is free: the word is `word` from then on.
