@@ -1,12 +1,12 @@
 -- What each step of the bits of ids makes of their words, their peak, their lowest unset bit and their end.
 use Rattle.std.proofs.Common.{◌≡◌, ◌≢◌, ℕ, ◌+◌, ◌-◌, ◌*◌, ◌/◌, ◌^◌, ◌<◌, ◌≤◌, min, max, Bool, true, false, List, []}
-use Rattle.std.proofs.Common.{◌∷◌, ◌++◌, length, take, set, replicate, sym, ◌∙◌, arith, ⊎_elim}
+use Rattle.std.proofs.Common.{◌∷◌, ◌++◌, length, take, set, replicate, refl, sym, ◌∙◌, arith, ⊎_elim}
 use Rattle.std.proofs.lemmas.Bool.{both_ways, true_from_ne_false, cases_eq, cases_lt}
 use Rattle.std.proofs.lemmas.List.{length-replicate, length_push, length-take, get_or-set_same, get_or-set_other}
 use Rattle.thread_local_model.specs.Bits.{bits_of, IsNextUnset}
 use Rattle.thread_local_model.proofs.Words.{length-bits_of, get_or-bits_of, is_set_in-zeros}
 use Rattle.thread_local_model.specs.Held.{is_held, least, HoldsAllBelow}
-use Rattle.thread_local_thread_id.proofs.Views.{IsFreeFrom-set, HoldsAllBelow-set, HoldsAllBelow-hold, was_free, is_held-push}
+use Rattle.thread_local_thread_id.proofs.Views.{IsFreeFrom-set, HoldsAllBelow-set, HoldsAllBelow-hold, was_free, is_held-push, take-push}
 use Rattle.thread_local_thread_id.specs.Entries.{AreEntries}
 use Rattle.thread_local_thread_id.specs.declared.id_bits.IdBits.TheInside.{Inside}
 
@@ -43,6 +43,42 @@ pushed old new is items within peak lowest_unset end = record {
   lowest_is_unset = rw (items, lowest_unset, is_held-push old.words old.lowest_unset) is.lowest_is_unset;
   end = λ id below free. let lower = is.end id (omega arith) (rw (items, is_held-push old.words id) at free) in omega arith;
 }
+
+-- a first word, all of whose bits are free, where there was none
+module _ (old new : List ℕ) (kept : 0 < length old → new ≡ old) (made : length old ≡ 0 → new ≡ old ++ 0 ∷ []) where
+  pub begun_length : length new ≡ max (length old) 1
+  begun_length =
+      ⊎_elim
+      (λ (none : length old ≡ 0). rw (made none) (omega (arith, length_push old 0, none)))
+      (λ (some : length old ≢ 0). rw (kept (omega (arith, some))) (omega (arith, some)))
+      (cases_eq (length old) 0)
+
+  pub begun_held : (peak : ℕ) → peak ≤ length old * 64 → take peak (bits_of new) ≡ take peak (bits_of old)
+  begun_held peak within =
+      ⊎_elim
+      (λ (none : length old ≡ 0). rw (made none) (take-push old peak within))
+      (λ (some : length old ≢ 0). rw (kept (omega (arith, some))) refl)
+      (cases_eq (length old) 0)
+
+pub begun : (old new : Inside) → AreEntries old
+    → (0 < length old.words → new.words ≡ old.words)
+    → (length old.words ≡ 0 → new.words ≡ old.words ++ 0 ∷ [])
+    → new.peak ≡ old.peak → new.lowest_unset ≡ old.lowest_unset → new.end ≡ old.end → AreEntries new
+begun old new is kept made peak lowest_unset end =
+    ⊎_elim
+    (λ (none : length old.words ≡ 0). pushed old new is (made none) (omega (arith, none)) peak lowest_unset end)
+    (λ (some : length old.words ≢ 0).
+    let items : new.words ≡ old.words = kept (omega (arith, some)) in
+    record {
+      words = rw items is.words;
+      peak = rw (items, peak) is.peak;
+      in_range = rw peak is.in_range;
+      above = λ id from. rw items (is.above id (omega arith));
+      lowest_unset = λ id below. rw items (is.lowest_unset id (omega arith));
+      lowest_is_unset = rw (items, lowest_unset) is.lowest_is_unset;
+      end = λ id below free. let lower = is.end id (omega arith) (rw items at free) in omega arith;
+    })
+    (cases_eq (length old.words) 0)
 
 -- the least free id is the peak, and is held from now on
 pub held_at_peak : (old new : Inside) (id : ℕ) → AreEntries old → bits_of new.words ≡ set (bits_of old.words) id true

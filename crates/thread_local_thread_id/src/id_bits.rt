@@ -77,6 +77,10 @@ impl IdBits {
         ensures err { OnErr result (self.new ≡ self.old) }
     {
         let id = self.least_free();
+        if id < 64 {
+            self.alloc_first(id);
+            return Ok(());
+        }
         if !self.has_room(id) {
             return self.alloc_further(id);
         }
@@ -84,7 +88,18 @@ impl IdBits {
         Ok(())
     }
 
-    /// The same where there is no room for the id.
+    /// `alloc` of one of the first 64 ids, which are the bits of the first word. It needs no memory.
+    #[inline]
+    fn alloc_first(&mut self, id: usize)
+        requires least { id ≡ least self.old.held }
+        requires first { id < 64 }
+        ensures { Takes self.old self.new id }
+    {
+        self.make_first_room();
+        self.hold(id);
+    }
+
+    /// `alloc` where there is no room for the id.
     #[cold]
     #[inline(never)]
     fn alloc_further(&mut self, id: usize) -> Result<(), LocalError>
@@ -113,6 +128,18 @@ impl IdBits {
         ensures { IsTrue result ↔ (id < self.now.room) }
     {
         id < IDS && id / 64 < self.words.len()
+    }
+
+    /// Makes room for the return of the first 64 ids, where there is none. It needs no memory.
+    #[inline]
+    fn make_first_room(&mut self)
+        ensures held { self.new.held ≡ self.old.held }
+        ensures first { 64 ≤ self.new.room }
+        ensures room { self.old.room ≤ self.new.room }
+        ensures few { self.new.room ≤ self.old.room + 64 }
+        ensures kept { 0 < self.old.room → self.new.room ≡ self.old.room }
+    {
+        self.words.begin();
     }
 
     /// Makes room for the return of the id, for which there is none.

@@ -62,6 +62,18 @@ impl Words {
         self.count
     }
 
+    /// Makes the first word, which is 0, where there is none. It needs no memory.
+    #[inline]
+    pub(crate) fn begin(&mut self)
+        ensures kept { 0 < length self.old → self.new ≡ self.old }
+        ensures begun { length self.old ≡ 0 → self.new ≡ self.old ++ 0 ∷ [] }
+    {
+        if self.count == 0 {
+            self.first = 0;
+            self.count = 1;
+        }
+    }
+
     /// Appends a word that is 0. `Err` means out of memory, which the first word doesn't need.
     pub(crate) fn push_zero(&mut self) -> Result<(), AllocError>
         requires { length self.old < 2 ^ 57 }

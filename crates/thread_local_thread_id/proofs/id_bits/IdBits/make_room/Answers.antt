@@ -1,9 +1,9 @@
-use Rattle.std.proofs.Common.{◌≡◌, ◌≤◌, ◌<◌, ◌*◌, ◌-◌, ◌^◌, ◌∙◌, ap, length, arith, sym, min, refl, ℕ, List}
+use Rattle.std.proofs.Common.{◌≡◌, ◌≤◌, ◌*◌, ◌-◌, ◌^◌, ◌∙◌, ap, length, arith, sym, min, refl, ℕ}
 use Rattle.std.proofs.lemmas.List.{length_push, length-take}
 use Rattle.thread_local_model.specs.Held.{HoldsAllBelow, Manager, least}
 use Rattle.thread_local_model.proofs.HeldLaws.{least_lower, least_bounded}
 use Rattle.thread_local_model.specs.Bits.{bits_of}
-use Rattle.thread_local_thread_id.specs.Entries.{entries_of, AreEntries}
+use Rattle.thread_local_thread_id.specs.Entries.{entries_of}
 use Rattle.thread_local_thread_id.specs.declared.id_bits.IdBits.TheInside.{Inside}
 use Rattle.thread_local_thread_id.proofs.IdBits.{pushed}
 use Rattle.thread_local_thread_id.proofs.Views.{take-push}
