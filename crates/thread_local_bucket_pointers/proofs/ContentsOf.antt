@@ -3,6 +3,7 @@ use Rattle.std.proofs.Common.{◌≡◌, ℕ, zero, suc, ◌^◌, ◌<◌, subst
 use Rattle.std.proofs.Common.{ap, ◌∙◌, arith, Option, Some}
 use Rattle.std.specs.Prelude.{slice_index_or}
 use Rattle.std.proofs.lemmas.List.{map-set}
+use Rattle.std.proofs.Math.Seq.{map-set_same}
 use Rattle.thread_local_model.specs.Buckets.{Contents, row, no_contents, IsTable}
 use Rattle.thread_local_model.proofs.RowLaws.{row_whole}
 use Rattle.thread_local_model.specs.Rows.{with_row, with_slot}
@@ -24,6 +25,12 @@ module _ {X : Type 0} where
   -- a bucket's row is the slots of its pointer
   pub row_of_pointer : (s : PointerArray X) (b : ℕ) → row (contents_of s) b ≡ slots_of (slice_index_or s.pointers b null_pointer)
   row_of_pointer s b = slots_at s.pointers b
+
+  -- a bucket's row, as a contract sees it, is the slots of its pointer
+  pub row_seen : (s : PointerArray X) (v : Contents X) (b : ℕ) (w : BucketPointer X) → contents_of s ≡ v
+      → w ≡ slice_index_or s.pointers b null_pointer
+      → row v b ≡ w.slots
+  row_seen s v b w seen is = ap (λ (z : Contents X). row z b) (sym seen) ∙ row_of_pointer s b ∙ sym (ap slots_of is)
 
   -- where a bucket has a slot, its pointer points to a block of the bucket's size
   pub size_of_pointer : (s : PointerArray X) (v : Contents X) (b i size : ℕ) (w : BucketPointer X)
@@ -51,6 +58,11 @@ module _ {X : Type 0} where
       row_changes s b w (set (row (contents_of s) b) i h)
       (is
       ∙ ap (λ (cs : List (Option X)). set cs i h) (ap slots_of was ∙ sym (row_of_pointer s b)))
+
+  -- a pointer that stays as it was leaves the contents as they were
+  pub contents_stay : (s : PointerArray X) (b : ℕ) (w : BucketPointer X) → w ≡ slice_index_or s.pointers b null_pointer
+      → contents_of (with_pointer s b w) ≡ contents_of s
+  contents_stay s b w is = ap as_contents (map-set_same slots_of s.pointers b w null_pointer (ap slots_of is))
 
   nulls : (ws : List (BucketPointer X)) (n : ℕ) → length ws ≡ n
       → ((i : ℕ) (d : BucketPointer X) → i < n → (slice_index_or ws i d).slots ≡ [])

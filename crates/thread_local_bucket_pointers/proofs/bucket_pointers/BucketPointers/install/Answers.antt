@@ -4,7 +4,7 @@ use Rattle.thread_local_model.specs.Rows.{with_row, empty_row}
 use Rattle.thread_local_bucket_pointers.specs.Slots.{empty_slots}
 use Rattle.thread_local_model.proofs.RowLaws.{IsTable-with_row, length-empty_row}
 use Rattle.thread_local_bucket_pointers.specs.Pointers.{contents_of}
-use Rattle.thread_local_bucket_pointers.proofs.ContentsOf.{row_changes}
+use Rattle.thread_local_bucket_pointers.proofs.ContentsOf.{row_changes, row_seen}
 use Rattle.thread_local_bucket_pointers.proofs.bucket_pointers.BucketPointers.install.Goals as goal
 
 -- the slots of a new block are those of an empty bucket
@@ -36,3 +36,12 @@ returns-clause-ok g c =
     let made = new_row c.in_ok-block.block.slots c.bucket_size.result b c.in_ok-block.ensures.1 c.bucket_size.ensures in
     row_changes c.self.inside.pointers b c.lay.new.self (empty_row b) (c.lay.ensures ∙ made)
     ∙ ap (λ (z : Contents g.row.T.Denot). with_row z b (empty_row b)) c.self.view_is
+
+pub lay-requires-clause-null : goal.lay-requires-clause-null
+lay-requires-clause-null g c =
+    sym (row_seen c.self.inside.pointers c.args.self.now c.args.bucket c.pointer_mut.result.now c.self.view_is
+    c.pointer_mut.ensures.value)
+    ∙ c.requires.absent
+
+pub returns-clause-table : goal.returns-clause-table
+returns-clause-table g c = subst (λ (z : Contents g.row.T.Denot). IsTable z) c.self.view_is c.self.invariant

@@ -1,12 +1,12 @@
-use Rattle.std.specs.Prelude.{◌/◌, ℕ}
-use Rattle.std.proofs.Common.{sym, ap, ◌∙◌, subst, Some}
+use Rattle.std.specs.Prelude.{◌/◌, ◌<◌, ℕ, slice_index_or}
+use Rattle.std.proofs.Common.{sym, ap, ◌∙◌, subst, List, Option, Some, None, length}
 use Rattle.thread_local_model.specs.Buckets.{Contents, IsTable}
 use Rattle.thread_local_model.specs.Rows.{with_slot}
 use Rattle.thread_local_model.proofs.RowLaws.{IsTable-with_slot}
 use Rattle.thread_local_bucket_pointers.specs.Pointers.{contents_of}
 use Rattle.thread_local_bucket_pointers.specs.Slots.{flag_word_at}
 use Rattle.thread_local_bucket_pointers.specs.contracts.bucket_pointers.BucketPointers.publish.{T-row}
-use Rattle.thread_local_bucket_pointers.proofs.ContentsOf.{size_of_pointer, slot_changes}
+use Rattle.thread_local_bucket_pointers.proofs.ContentsOf.{size_of_pointer, slot_changes, row_seen}
 use Rattle.thread_local_bucket_pointers.proofs.bucket_pointers.BucketPointers.publish.Goals as goal
 
 pub invariant_of-self : goal.invariant_of-self
@@ -34,3 +34,17 @@ publish-requires-clause-flag_word g c = c.flag_word_at-flag_word.ensures
     (size_of_pointer c.self.inside.pointers c.args.self.now c.args.thread.bucket
     c.args.thread.index c.bucket_size.result c.pointer_mut.result.now c.self.view_is
     c.self.invariant c.pointer_mut.ensures.value c.requires.in_bucket c.bucket_size.ensures)
+
+pub publish-requires-clause-in_block : goal.publish-requires-clause-in_block
+publish-requires-clause-in_block g c =
+    subst (λ (cs : List (Option _)). c.args.thread.index < length cs)
+    (row_seen c.self.inside.pointers c.args.self.now c.args.thread.bucket c.pointer_mut.result.now c.self.view_is
+    c.pointer_mut.ensures.value)
+    c.requires.in_bucket
+
+pub publish-requires-clause-empty : goal.publish-requires-clause-empty
+publish-requires-clause-empty g c =
+    ap (λ (cs : List (Option g.row.T.Denot)). slice_index_or cs c.args.thread.index None)
+    (sym (row_seen c.self.inside.pointers c.args.self.now c.args.thread.bucket c.pointer_mut.result.now c.self.view_is
+    c.pointer_mut.ensures.value))
+    ∙ c.requires.empty
