@@ -1,6 +1,8 @@
--- A slot that holds a value is filled by a call that leaves it as it is.
-use Rattle.std.proofs.Common.{◌≡◌, subst, Option, Some, None, is_some, true, refl}
-use Rattle.thread_local.specs.Seats.{LocalView, IsFilled, Fails}
+-- What a call of the `get_or` family does: a slot that holds a value stays as it is, and an empty one
+-- is filled, unless the closure fails or memory is refused.
+use Rattle.std.proofs.Common.{◌≡◌, subst, sym, Option, Some, None, Result, Ok, Err, is_some, true, false, refl}
+use Rattle.std.specs.Prelude.{OnErr}
+use Rattle.thread_local.specs.Seats.{LocalView, knowing, vacant, holding, IsFilled, Fails, IsRefused}
 
 filled_at : {V : Type 0} (E : Type 0) (makes : V → Type 0) (view : LocalView V) (value : Option V)
     → view.value ≡ value → is_some value ≡ true
@@ -27,3 +29,49 @@ pub fails_at : {V E : Type 0} {makes : E → Type 0} {old seen new : LocalView V
     → Fails makes old new error
 fails_at {V} {E} {makes} {old} {seen} {new} {error} same fails =
     subst (λ (view : LocalView V). Fails {V = V} {E = E} makes view new error) same fails
+
+-- a slot that shows no value is empty
+pub none_of : {V : Type 0} (value : Option V) → is_some value ≡ false → value ≡ None
+none_of None shows_none = refl
+none_of (Some v) shows_none = cc
+
+-- a call that publishes a value in an empty slot fills it
+pub filled_empty : {V : Type 0} (E : Type 0) (makes : V → Type 0) (old new : LocalView V) (value : V)
+    → old.value ≡ None → new ≡ knowing old (holding value) → makes value
+    → IsFilled E makes old new
+filled_empty {V} E makes old new value none left made =
+    subst (λ (view : LocalView V). IsFilled E makes old view) (sym left) (record {
+      value = value;
+      fills = record {
+        says = record { answered = rw none refl; leaves = rw none refl };
+        made = λ _. made;
+        same = record { table = refl; sharing = refl; id = refl; reserved = refl };
+      };
+    })
+
+-- a call whose closure fails leaves an empty slot empty
+pub fails_empty : {V E : Type 0} (makes : E → Type 0) (old new : LocalView V) (made error : E) → made ≡ error
+    → old.value ≡ None → new ≡ knowing old vacant → makes made
+    → Fails makes old new error
+fails_empty {V} {E} makes old new made error same none left holds =
+    let fails : Fails makes old (knowing old vacant) made = record {
+      says = record { answered = rw none refl; leaves = rw none refl };
+      made = holds;
+      same = record { table = refl; sharing = refl; id = refl; reserved = refl };
+    } in
+    subst (λ (e : E). Fails makes old new e) same
+    (subst (λ (view : LocalView V). Fails makes old view made) (sym left) fails)
+
+-- a call is refused memory only where the slot is empty and its bucket isn't known to stand
+pub refused_at : {V : Type 0} (E : Type 0) (old new : LocalView V) → old.value ≡ None → old.known ≡ false → new ≡ old
+    → IsRefused E old new
+refused_at {V} E old new none unknown stays =
+    subst (λ (view : LocalView V). IsRefused E old view) (sym stays) (record {
+      says = λ create. record { answered = rw (none, unknown) refl; leaves = rw (none, unknown) refl };
+      stays = refl;
+    })
+
+-- a fact that holds anyway holds at an error
+pub on_err : {A E : Type 0} (result : Result A E) (P : Type 0) → P → OnErr result P
+on_err (Ok x) P holds = tt
+on_err (Err e) P holds = holds

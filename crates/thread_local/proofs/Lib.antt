@@ -1,3 +1,4 @@
 mod Padding
 pub mod Reserved
 pub mod Filled
+pub mod Told

@@ -1,6 +1,68 @@
-use Rattle.std.proofs.Common.{rules}
-use Rattle.thread_local.proofs.Filled.{is_filled}
+use Rattle.std.proofs.Common.{◌≡◌, ◌∙◌, sym, ap, subst, rules, Err}
+use Rattle.thread_local_model.specs.Place.{IsPlaceOf}
+use Rattle.thread_local.specs.Seats.{LocalView, knows, knowing, holding}
+use Rattle.thread_local.proofs.Filled.{is_filled, none_of, filled_empty, fails_empty, refused_at}
+use Rattle.thread_local.proofs.Told.{ok_not_err, same_create, create_not_memory}
 use Rattle.thread_local.proofs.seat.Seat.try_fill.Goals as goal
 
 pub returns-then-is_published-clause-ok : goal.returns-then-is_published-clause-ok
 returns-then-is_published-clause-ok g c = is_filled _ _ c.args.self.now (search rules)
+
+-- The search for these takes seconds.
+pub returns-then-is_published-clause-create : goal.returns-then-is_published-clause-create
+returns-then-is_published-clause-create g c = λ error told. absurd (ok_not_err told)
+
+pub returns-then-is_published-clause-memory : goal.returns-then-is_published-clause-memory
+returns-then-is_published-clause-memory g c = λ told. absurd (ok_not_err told)
+
+pub returns-then-is_published-clause-granted : goal.returns-then-is_published-clause-granted
+returns-then-is_published-clause-granted g c = λ known told. ok_not_err told
+
+pub find_bucket-requires-clause-empty : goal.find_bucket-requires-clause-empty
+find_bucket-requires-clause-empty g c = none_of c.args.self.now.value (sym c.is_published.ensures ∙ c.if-is_published.false)
+
+pub find_bucket-requires-clause-place : goal.find_bucket-requires-clause-place
+find_bucket-requires-clause-place g c = c.place-thread.ensures
+
+pub returns-in_err-find_bucket-clause-memory : goal.returns-in_err-find_bucket-clause-memory
+returns-in_err-find_bucket-clause-memory g c =
+    let refused = c.in_err-find_bucket.ensures.err in
+    λ told. refused_at _ c.args.self.now c.find_bucket.new.self (none_of c.args.self.now.value (sym c.is_published.ensures ∙ c.if-is_published.false)) refused.0 refused.1
+
+pub publish_at-requires-clause-vacant : goal.publish_at-requires-clause-vacant
+publish_at-requires-clause-vacant g c = ap (λ (view : LocalView g.row.T.Denot). knows view) c.in_ok-find_bucket.ensures.ok
+
+pub publish_at-requires-clause-place : goal.publish_at-requires-clause-place
+publish_at-requires-clause-place g c =
+    subst (λ (view : LocalView g.row.T.Denot). IsPlaceOf c.place-thread.result.bucket c.place-thread.result.index view.id)
+    (sym c.in_ok-find_bucket.ensures.ok)
+    c.place-thread.ensures
+
+pub returns-in-Ok-clause-ok : goal.returns-in-Ok-clause-ok
+returns-in-Ok-clause-ok g c =
+    filled_empty _ _ c.args.self.now c.publish_at.new.self c.in-Ok.value
+    (none_of c.args.self.now.value (sym c.is_published.ensures ∙ c.if-is_published.false))
+    (c.publish_at.ensures ∙ ap (λ (view : LocalView g.row.T.Denot). knowing view (holding c.in-Ok.value)) c.in_ok-find_bucket.ensures.ok)
+    c.in-Ok.ensures
+
+pub returns-in-Ok-clause-create : goal.returns-in-Ok-clause-create
+returns-in-Ok-clause-create g c = λ error told. absurd (ok_not_err told)
+
+pub returns-in-Ok-clause-memory : goal.returns-in-Ok-clause-memory
+returns-in-Ok-clause-memory g c = λ told. absurd (ok_not_err told)
+
+pub returns-in-Ok-clause-granted : goal.returns-in-Ok-clause-granted
+returns-in-Ok-clause-granted g c = λ known told. ok_not_err told
+
+pub returns-in-Err-clause-create : goal.returns-in-Err-clause-create
+returns-in-Err-clause-create g c = λ error told.
+    fails_empty _ c.args.self.now c.find_bucket.new.self c.in-Err.error error (same_create told)
+    (none_of c.args.self.now.value (sym c.is_published.ensures ∙ c.if-is_published.false))
+    c.in_ok-find_bucket.ensures.ok
+    c.in-Err.ensures
+
+pub returns-in-Err-clause-memory : goal.returns-in-Err-clause-memory
+returns-in-Err-clause-memory g c = λ told. absurd (create_not_memory told)
+
+pub returns-in-Err-clause-granted : goal.returns-in-Err-clause-granted
+returns-in-Err-clause-granted g c = λ known told. create_not_memory told
