@@ -18,6 +18,28 @@ all_words count first rest are some = take_all count (first ∷ rest) (omega ari
 some_words : (w : Inside) (words : List ℕ) (bit : ℕ) → words_of w ≡ words → bit < length words * 64 → 0 < w.count
 some_words w words bit view within = omega (arith, ap length view, length-take w.count (w.first ∷ w.rest.items))
 
+-- a word, as contracts see it, is the first or one of the rest
+module _ (w : Inside) (words : List ℕ) (are : AreWords w) (view : words_of w ≡ words) where
+  all_seen : 0 < length words → w.first ∷ w.rest.items ≡ words
+  all_seen some =
+      let counted : 0 < w.count = omega (arith, ap length view, length-take w.count (w.first ∷ w.rest.items)) in
+      sym (all_words w.count w.first w.rest.items are counted) ∙ view
+
+  pub first_word : (at : ℕ) → at < length words → at ≡ 0 → w.first ≡ get_or words at 0
+  first_word at within start =
+      ap (λ (ws : List ℕ). get_or ws 0 0) (all_seen (omega arith)) ∙ ap (λ (k : ℕ). get_or words k 0) (sym start)
+
+  pub within_rest : (at : ℕ) → at < length words → 1 ≤ at → at - 1 < length w.rest.items
+  within_rest at within later = omega (arith, ap length (all_seen (omega arith)))
+
+  pub rest_word : (at word : ℕ) → at < length words → 1 ≤ at → word ≡ get_or w.rest.items (at - 1) word
+      → word ≡ get_or words at 0
+  rest_word at word within later read =
+      let here : suc (at - 1) ≡ at = omega arith in
+      get_or_read w.rest.items (at - 1) word (within_rest at within later) read 0
+      ∙ ap (λ (k : ℕ). get_or (w.first ∷ w.rest.items) k 0) here
+      ∙ ap (λ (ws : List ℕ). get_or ws at 0) (all_seen (omega arith))
+
 -- a bit of the first word is written
 pub first_bit : (w : Inside) (words : List ℕ) (bit word : ℕ) (value : Bool) → AreWords w
     → words_of w ≡ words → bit < length words * 64 → bit < 64

@@ -1,4 +1,4 @@
-use Rattle.std.proofs.Common.{◌≡◌, ◌∙◌, sym, ap, subst, refl}
+use Rattle.std.proofs.Common.{◌∙◌, rules, sym, ap, subst, refl}
 use Rattle.thread_local_model.specs.Place.{IsPlaceOf}
 use Rattle.thread_local.specs.Seats.{LocalView, knows, knowing, holding}
 use Rattle.thread_local.proofs.Filled.{none_of}
@@ -13,7 +13,7 @@ pub returns-then-is_published-clause-memory : goal.returns-then-is_published-cla
 returns-then-is_published-clause-memory g c = λ given told. absurd (occupied_not_memory told)
 
 pub find_bucket-requires-clause-empty : goal.find_bucket-requires-clause-empty
-find_bucket-requires-clause-empty g c = none_of c.args.self.now.value (sym c.is_published.ensures ∙ c.if-is_published.false)
+find_bucket-requires-clause-empty g c = none_of c.args.self.now.value (search rules)
 
 pub find_bucket-requires-clause-place : goal.find_bucket-requires-clause-place
 find_bucket-requires-clause-place g c = c.place-thread.ensures
@@ -29,7 +29,7 @@ publish_at-requires-clause-place g c =
 
 pub returns-in-Ok-clause-ok : goal.returns-in-Ok-clause-ok
 returns-in-Ok-clause-ok g c = (
-  none_of c.args.self.now.value (sym c.is_published.ensures ∙ c.if-is_published.false),
+  none_of c.args.self.now.value (search rules),
   c.publish_at.ensures ∙ ap (λ (view : LocalView g.row.T.Denot). knowing view (holding c.args.value)) c.in-Ok.ensures.ok,
 )
 
@@ -46,7 +46,7 @@ pub returns-in-Err-clause-memory : goal.returns-in-Err-clause-memory
 returns-in-Err-clause-memory g c =
     let refused = c.in-Err.ensures.err in
     λ given told. (
-      none_of c.args.self.now.value (sym c.is_published.ensures ∙ c.if-is_published.false),
+      none_of c.args.self.now.value (search rules),
       refused.0,
       same_memory told,
       refused.1,

@@ -19,7 +19,7 @@ pub returns-then-is_published-clause-granted : goal.returns-then-is_published-cl
 returns-then-is_published-clause-granted g c = λ known told. ok_not_err told
 
 pub find_bucket-requires-clause-empty : goal.find_bucket-requires-clause-empty
-find_bucket-requires-clause-empty g c = none_of c.args.self.now.value (sym c.is_published.ensures ∙ c.if-is_published.false)
+find_bucket-requires-clause-empty g c = none_of c.args.self.now.value (search rules)
 
 pub find_bucket-requires-clause-place : goal.find_bucket-requires-clause-place
 find_bucket-requires-clause-place g c = c.place-thread.ensures
@@ -27,7 +27,7 @@ find_bucket-requires-clause-place g c = c.place-thread.ensures
 pub returns-in_err-find_bucket-clause-memory : goal.returns-in_err-find_bucket-clause-memory
 returns-in_err-find_bucket-clause-memory g c =
     let refused = c.in_err-find_bucket.ensures.err in
-    λ told. refused_at _ c.args.self.now c.find_bucket.new.self (none_of c.args.self.now.value (sym c.is_published.ensures ∙ c.if-is_published.false)) refused.0 refused.1
+    λ told. refused_at _ c.args.self.now c.find_bucket.new.self (none_of c.args.self.now.value (search rules)) refused.0 refused.1
 
 pub publish_at-requires-clause-vacant : goal.publish_at-requires-clause-vacant
 publish_at-requires-clause-vacant g c = ap (λ (view : LocalView g.row.T.Denot). knows view) c.in_ok-find_bucket.ensures.ok
@@ -41,7 +41,7 @@ publish_at-requires-clause-place g c =
 pub returns-in-Ok-clause-ok : goal.returns-in-Ok-clause-ok
 returns-in-Ok-clause-ok g c =
     filled_empty _ _ c.args.self.now c.publish_at.new.self c.in-Ok.value
-    (none_of c.args.self.now.value (sym c.is_published.ensures ∙ c.if-is_published.false))
+    (none_of c.args.self.now.value (search rules))
     (c.publish_at.ensures ∙ ap (λ (view : LocalView g.row.T.Denot). knowing view (holding c.in-Ok.value)) c.in_ok-find_bucket.ensures.ok)
     c.in-Ok.ensures
 
@@ -57,7 +57,7 @@ returns-in-Ok-clause-granted g c = λ known told. ok_not_err told
 pub returns-in-Err-clause-create : goal.returns-in-Err-clause-create
 returns-in-Err-clause-create g c = λ error told.
     fails_empty _ c.args.self.now c.find_bucket.new.self c.in-Err.error error (same_create told)
-    (none_of c.args.self.now.value (sym c.is_published.ensures ∙ c.if-is_published.false))
+    (none_of c.args.self.now.value (search rules))
     c.in_ok-find_bucket.ensures.ok
     c.in-Err.ensures
 

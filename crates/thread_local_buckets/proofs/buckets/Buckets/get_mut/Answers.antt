@@ -1,14 +1,14 @@
-use Rattle.std.proofs.Common.{◌≡◌, ◌<◌, ◌^◌, ℕ, true, false, Option, Some, None, subst, sym, ap, ◌∙◌, inl, inr, refl}
-use Rattle.std.specs.Prelude.{is_some}
+use Rattle.std.proofs.Common.{◌≡◌, ◌<◌, ◌^◌, ℕ, true, false, Option, Some, None, length, lit<, subst, sym, ap, ◌∙◌, inl, inr, refl}
+use Rattle.std.specs.Prelude.{is_some, IsSome}
 use Rattle.std.proofs.lemmas.Bool.{cond-true}
 use mathlib.Core.Path.{fun_ext}
 use Rattle.thread_local_model.specs.Place.{id_at}
-use Rattle.thread_local_model.specs.Buckets.{Contents, stands, values, IsTable}
-use Rattle.thread_local_model.specs.Owned.{Owned}
+use Rattle.thread_local_model.specs.Buckets.{Contents, row, stands, values, IsTable}
+use Rattle.thread_local_model.specs.Owned.{Owned, IsOwned}
 use Rattle.thread_local_model.specs.Rows.{value_in, with_slot, with_row, empty_row}
 use Rattle.thread_local_model.specs.Walk.{with_value}
 use Rattle.thread_local_model.specs.Owner.{with_published}
-use Rattle.thread_local_model.proofs.InsertingLaws.{published_values}
+use Rattle.thread_local_model.proofs.InsertingLaws.{published_values, IsOwned-with_published}
 use Rattle.thread_local_buckets.specs.Inserting.{owned_with}
 use Rattle.thread_local_buckets.proofs.buckets.Buckets.get_mut.Goals as goal
 
@@ -39,6 +39,40 @@ nothing_at : {V : Type 0} (o now : Owned V) (b i : ℕ) → o ≡ now
     → is_some (value_in o.contents b i) ≡ false
     → value_in now.contents b i ≡ None
 nothing_at o now b i same none = ap (λ (s : Owned _). value_in s.contents b i) (sym same) ∙ none_of (value_in o.contents b i) none
+
+-- whatever is written, the buckets are still an owner's
+owned_still : {V : Type 0} (o : Owned V) (d : Contents V) (b i : ℕ) → IsOwned o → b < 63 → d ≡ o.contents
+    → stands o.contents b ≡ true
+    → (w : V) → IsOwned (record { contents = with_slot d b i (Some w); reserved = o.reserved })
+owned_still {V} o d b i owned low looked stood w =
+    let as_published : with_slot d b i (Some w) ≡ with_published o.contents b i w =
+    ap (λ (k : Contents V). with_slot k b i (Some w))
+    (looked ∙ sym (cond-true (stands o.contents b) o.contents (with_row o.contents b (empty_row b)) stood)) in
+    subst (λ (k : Contents V). IsOwned (record { contents = k; reserved = o.reserved })) (sym as_published)
+    (IsOwned-with_published o.contents b owned.table low o.reserved i w owned)
+
+-- The search for these takes a second.
+pub get_mut-requires : goal.get_mut-requires
+get_mut-requires g c =
+    let b = c.args.thread.bucket in
+    let i = c.args.thread.index in
+    let P : Contents g.row.T.Denot → Type 0 = λ k. (i < length (row k b)) × IsSome (value_in k b i) in (
+      lit< tt,
+      subst P (sym c.is_published.ensures.same)
+          (c.is_published.ensures.within c.if-is_published.true, sym c.is_published.ensures.value ∙ c.if-is_published.true),
+    )
+
+pub invariant_of-self-lent : goal.invariant_of-self-lent
+invariant_of-self-lent g c =
+    let first : Owned _ = record { contents = c.self.inside.pointers; reserved = c.self.inside.reserved } in
+    owned_still first c.is_published.new.self c.args.thread.bucket c.args.thread.index c.self.invariant
+    c.args.thread.in_table c.is_published.ensures.same (c.is_published.ensures.stands c.if-is_published.true)
+
+pub invariant_of-self : goal.invariant_of-self
+invariant_of-self g c =
+    subst (λ (k : Contents g.row.T.Denot). IsOwned (record { contents = k; reserved = c.self.inside.reserved }))
+    (sym c.is_published.ensures.same)
+    c.self.invariant
 
 pub returns-then-is_published : goal.returns-then-is_published
 returns-then-is_published g c =
