@@ -1,8 +1,9 @@
 -- What a call of the `get_or` family does: a slot that holds a value stays as it is, and an empty one
 -- is filled, unless the closure fails or memory is refused.
-use Rattle.std.proofs.Common.{◌≡◌, subst, sym, Option, Some, None, Result, Ok, Err, is_some, true, false, refl}
+use Rattle.std.proofs.Common.{◌≡◌, subst, sym, Option, Some, None, Result, Ok, Err, Bool, is_some, true, false, refl, ap}
 use Rattle.std.specs.Prelude.{OnErr}
-use Rattle.thread_local.specs.Seats.{LocalView, knowing, vacant, holding, IsFilled, Fails, IsRefused}
+use Rattle.thread_local_model.specs.Answers.{View, Answered, answer_or, view_after_or}
+use Rattle.thread_local.specs.Seats.{LocalView, knows, knowing, vacant, holding, IsFilled, IsAnswered, Fails, IsRefused}
 
 filled_at : {V : Type 0} (E : Type 0) (makes : V → Type 0) (view : LocalView V) (value : Option V)
     → view.value ≡ value → is_some value ≡ true
@@ -75,3 +76,36 @@ refused_at {V} E old new none unknown stays =
 pub on_err : {A E : Type 0} (result : Result A E) (P : Type 0) → P → OnErr result P
 on_err (Ok x) P holds = tt
 on_err (Err e) P holds = holds
+
+-- what a call that fills the slot leaves there
+left_there : {V E : Type 0} (before : Option V) (known : Bool) (value : V) (after : View V)
+    → answer_or {E = E} before false (Ok value) ≡ Answered value
+    → view_after_or {E = E} (record { value = before; known = known }) before false (Ok value) ≡ after
+    → after.value ≡ Some value
+left_there (Some there) known value after told leaves =
+    let kept : Some there ≡ after.value = ap (λ view. view.value) leaves in
+    cc
+left_there None known value after told leaves =
+    let made : Some value ≡ after.value = ap (λ view. view.value) leaves in
+    cc
+
+pub holds_filled : {V : Type 0} (E : Type 0) (makes : V → Type 0) (old new : LocalView V) (filled : IsFilled E makes old new)
+    → new.value ≡ Some filled.value
+holds_filled E makes old new filled =
+    left_there {E = E} old.value old.known filled.value (knows new) filled.fills.says.answered filled.fills.says.leaves
+
+pub some_filled : {V : Type 0} (E : Type 0) (makes : V → Type 0) (old new : LocalView V) → IsFilled E makes old new
+    → new.value ≡ None
+    → ⊥
+some_filled E makes old new filled none =
+    let some = holds_filled E makes old new filled in
+    cc
+
+-- the value in the slot then is what the call answers
+pub answered_by : {V : Type 0} (E : Type 0) (makes : V → Type 0) (old new : LocalView V) (there : V)
+    → IsFilled E makes old new → new.value ≡ Some there
+    → IsAnswered E makes old there
+answered_by {V} E makes old new there filled held =
+    let some = holds_filled E makes old new filled in
+    let same : filled.value ≡ there = cc in
+    subst (λ (value : V). IsAnswered E makes old value) same (record { answered = filled.fills.says.answered; made = filled.fills.made })

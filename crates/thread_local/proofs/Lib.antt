@@ -1,4 +1,5 @@
 mod Padding
 pub mod Reserved
 pub mod Filled
+pub mod Seated
 pub mod Told

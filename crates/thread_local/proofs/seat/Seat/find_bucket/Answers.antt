@@ -7,6 +7,7 @@ use Rattle.thread_local_claim.specs.Known.{HasLooked}
 use Rattle.thread_local_claim.specs.Views.{ClaimView}
 use Rattle.thread_local_shared_buckets.specs.TableView.{TableView}
 use Rattle.thread_local.specs.Seats.{LocalView, local_view, knowing, vacant}
+use Rattle.thread_local.proofs.Seated.{with_learnt, now_knowing}
 use Rattle.thread_local.proofs.seat.Seat.find_bucket.Goals as goal
 
 -- the bucket was made, or memory was refused: the claim has looked
@@ -33,22 +34,11 @@ known_standing Vacant has found = refl
 known_standing (Holding v) has found = refl
 
 module _ {V : Type 0} (of : TableView) (old : ClaimView V) (now : LocalView V) (seen : local_view of old ≡ now) where
-  -- the view of a claim of the same slot, by what it has learnt
-  same_slot : (new : ClaimView V) → new.id ≡ old.id → (learnt : Learnt V) → new.learnt ≡ learnt
-      → local_view of new ≡ local_view of (record old { learnt = learnt })
-  same_slot new same learnt is =
-      let by_id : ℕ → LocalView V = λ id. local_view of (record new { id = id }) in
-      let by_learnt : Learnt V → LocalView V = λ k. local_view of (record old { learnt = k }) in
-      ap by_id same ∙ ap by_learnt is
-
-  made : (new : ClaimView V) → new.id ≡ old.id → new.learnt ≡ Vacant → local_view of new ≡ knowing now vacant
-  made new same is = same_slot new same Vacant is ∙ ap (λ (view : LocalView V). knowing view vacant) seen
-
   refused : (new : ClaimView V) → new.id ≡ old.id → old.learnt ≡ Missing → new.learnt ≡ Missing
       → (now.known ≡ false) × (local_view of new ≡ now)
   refused new same missing is = (
     sym (ap (λ (view : LocalView V). view.known) seen) ∙ ap (λ (k : Learnt V). (view_of k).known) missing,
-    same_slot new same old.learnt (is ∙ sym missing) ∙ seen,
+    with_learnt of old new same old.learnt (is ∙ sym missing) ∙ seen,
   )
 
   found : HasLooked old.learnt → (old.learnt ≡ Missing → ⊥) → now.value ≡ None → now ≡ knowing now vacant
@@ -83,7 +73,8 @@ invariant_of-self g c =
 pub returns-then-is_missing-clause-ok : goal.returns-then-is_missing-clause-ok
 returns-then-is_missing-clause-ok g c =
     on_ok c.make_bucket.result
-    (made c.self.inside.table.now c.self.inside.claim c.args.self.now c.self.view_is c.make_bucket.new.claim c.make_bucket.ensures.same_slot.2)
+    (now_knowing c.self.inside.table.now c.self.inside.claim c.make_bucket.new.claim
+    c.make_bucket.ensures.same_slot.2 c.args.self.now c.self.view_is Vacant)
     c.make_bucket.ensures.ok
 
 pub returns-then-is_missing-clause-err : goal.returns-then-is_missing-clause-err
