@@ -1,4 +1,4 @@
-use Rattle.std.proofs.Common.{◌≡◌, ◌∙◌, ℕ, Option, sym, ap, subst}
+use Rattle.std.proofs.Common.{◌∙◌, ℕ, Option, sym, ap, subst}
 use Rattle.std.specs.Prelude.{IsSome}
 use Rattle.thread_local_model.specs.Learnt.{Learnt}
 use Rattle.thread_local_model.specs.Answers.{view_of}

@@ -1,4 +1,4 @@
-use Rattle.std.proofs.Common.{◌≡◌, ◌∙◌, sym, ap, subst, rules, Err}
+use Rattle.std.proofs.Common.{◌∙◌, sym, ap, subst, rules}
 use Rattle.thread_local_model.specs.Place.{IsPlaceOf}
 use Rattle.thread_local.specs.Seats.{LocalView, knows, knowing, holding}
 use Rattle.thread_local.proofs.Filled.{is_filled, none_of, filled_empty, fails_empty, refused_at}

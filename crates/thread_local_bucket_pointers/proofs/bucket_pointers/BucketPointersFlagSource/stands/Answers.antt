@@ -1,5 +1,5 @@
 use Rattle.std.proofs.Common.{◌∙◌, ap, sym, subst, List, Option, length}
-use Rattle.std.specs.Prelude.{ℕ, nat_lt}
+use Rattle.std.specs.Prelude.{nat_lt}
 use borrow.Author.Tests.{ltb-true}
 use Rattle.thread_local_model.specs.Buckets.{Contents, IsTable, row}
 use Rattle.thread_local_model.proofs.RowLaws.{row_whole}
