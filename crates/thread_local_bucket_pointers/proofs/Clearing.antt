@@ -38,3 +38,17 @@ AreCleared-more {V = V} old now new reserved first b r h start low long is made 
       before = λ k below. let apart : k ≢ b = omega arith in row-with_row-other now b k r apart ∙ h.before k below;
       behind = λ k behind. let apart : k ≢ b = omega arith in row-with_row-other now b k r apart ∙ h.behind k (omega arith);
     })
+
+-- the buckets before those that are cleared are cleared too
+pub AreCleared-join : {V : Type 0} (old now new : Contents V) (reserved first middle end : ℕ) → first ≤ middle → middle ≤ end
+    → AreCleared old now reserved middle end → AreCleared now new reserved first middle → AreCleared old new reserved first end
+AreCleared-join old now new reserved first middle end low high behind before = record {
+  table = before.table;
+  cleared = λ k from below.
+      ⊎_elim
+      (λ (near : k < middle). before.cleared k from near)
+      (λ (far : middle ≤ k). before.behind k far ∙ behind.cleared k far below)
+      (cases_lt k middle);
+  before = λ k below. before.before k below ∙ behind.before k (omega arith);
+  behind = λ k past. before.behind k (omega arith) ∙ behind.behind k past;
+}

@@ -1,6 +1,6 @@
 -- How many values the flags of a chunk count.
 use Rattle.std.proofs.Common.{◌≡◌, ◌≢◌, ◌⊎◌, inl, inr, ℕ, ◌+◌, ◌-◌, ◌*◌, ◌/◌, ◌%◌, ◌^◌, ◌<◌, ◌≤◌, min, length}
-use Rattle.std.proofs.Common.{zero, suc, [], count_ones, is_some, ap, ◌∙◌, arith, ⊎_elim}
+use Rattle.std.proofs.Common.{zero, suc, [], count_ones, is_some, ap, subst, ◌∙◌, arith, ⊎_elim}
 use Rattle.std.proofs.lemmas.Bool.{cases_lt}
 use Rattle.std.proofs.lemmas.Nat.{pow_below, pow-add, zero_from_ones}
 use Rattle.thread_local_model.specs.Bits.{is_set}
@@ -76,3 +76,12 @@ absent_counted c first (suc n) absent =
     ap (λ b. count_below (values c) (id_at b 0)) next
     ∙ count_below-absent c (first + n) (absent (first + n) (omega arith) (omega arith))
     ∙ absent_counted c first n (λ k from within. absent k from (omega (arith, within)))
+
+-- the count of a bucket, which is the same for the pointers as they were at first
+pub counted_at_first : {V : Type 0} (now first : Contents V) (b n : ℕ) → now ≡ first
+    → count_below (values now) (id_at b 0) + n ≡ count_below (values now) (id_at (b + 1) 0)
+    → count_below (values first) (id_at b 0) + n ≡ count_below (values first) (id_at (b + 1) 0)
+counted_at_first now first b n same counted =
+    subst (λ (w : Contents _).
+    count_below (values w) (id_at b 0) + n ≡ count_below (values w) (id_at (b + 1) 0))
+    same counted

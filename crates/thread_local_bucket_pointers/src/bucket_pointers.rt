@@ -128,7 +128,7 @@ impl<T: Drop> BucketPointers<T> {
 
 impl<T: Drop> Drop for BucketPointers<T> {
     fn drop(mut self) {
-        self.clear(0);
+        self.release_all();
         let Self { pointers, alloc: _ } = self;
         drop(pointers);
     }

@@ -8,23 +8,23 @@ ghost use Rattle.thread_local_bucket_pointers.specs.Clearing.{AreCleared, AnySta
 
 use super::BucketPointers;
 use crate::FlagSource;
-use thread_local_thread_id::{BUCKETS, bucket_size};
+use thread_local_thread_id::bucket_size;
 
 impl<T> BucketPointers<T> {
-    /// Whether any of seven buckets stands, from this one on.
+    /// Whether any of eight buckets stands, from this one on. Eight pointers are tested at once.
     #[inline]
-    pub(super) fn any_of_seven(&mut self, first: usize) -> bool
-        requires { first + 7 ≤ 63 }
+    pub(super) fn any_stands(&mut self, first: usize) -> bool
+        requires { first + 8 ≤ 63 }
         ensures none { result ≡ false
             → (bucket : ℕ)
             → first ≤ bucket
-            → bucket < first + 7
+            → bucket < first + 8
             → row self.old bucket ≡ [] }
-        ensures some { result ≡ true → AnyStands self.old first (first + 7) }
+        ensures some { result ≡ true → AnyStands self.old first (first + 8) }
         ensures same { self.new ≡ self.old }
     {
         let mut any = false;
-        for at in 0..7 {
+        for at in 0..8 {
             any |= self.stands(first + at);
         }
         any
@@ -42,9 +42,24 @@ impl<T: Drop> BucketPointers<T> {
         self.pointers.pointer_mut(bucket).empty(bucket_size(bucket));
     }
 
+    /// Drops the values of a bucket, and frees it unless it has one of the first `reserved` slots.
+    #[inline]
+    fn clear_bucket(&mut self, bucket: usize, reserved: usize)
+        requires in_table { bucket < 63 }
+        requires standing { id_at bucket 0 < reserved → IsTrue (stands self.old bucket) }
+        ensures { AreCleared self.old self.new reserved bucket (bucket + 1) }
+    {
+        if bucket_size(bucket) <= reserved {
+            self.empty(bucket);
+        } else {
+            self.release(bucket);
+        }
+    }
+
     /// Drops the values of the buckets `first..end`, and frees those of them that have none of the
-    /// first `reserved` slots.
-    #[inline(never)]
+    /// first `reserved` slots. The last comes first: an allocator that joins what is freed with what
+    /// lies behind it has less to do so.
+    #[inline]
     fn clear_between(&mut self, first: usize, end: usize, reserved: usize)
         requires order { first ≤ end }
         requires inside { end ≤ 63 }
@@ -56,29 +71,60 @@ impl<T: Drop> BucketPointers<T> {
         ensures { AreCleared self.old self.new reserved first end }
     {
         let _ = &self.pointers;
-        'buckets: for bucket in first..end {
-            if bucket_size(bucket) <= reserved {
-                self.empty(bucket);
-            } else {
-                self.release(bucket);
-            }
+        'buckets: for done in 0..end - first {
+            self.clear_bucket(end - 1 - done, reserved);
         }
     }
 
+    /// `clear_between` of eight buckets, from this one on.
+    #[inline(never)]
+    fn clear_eight(&mut self, first: usize, reserved: usize)
+        requires inside { first + 8 ≤ 63 }
+        requires standing { (bucket : ℕ)
+            → first ≤ bucket
+            → bucket < first + 8
+            → id_at bucket 0 < reserved
+            → IsTrue (stands self.old bucket) }
+        ensures { AreCleared self.old self.new reserved first (first + 8) }
+    {
+        self.clear_between(first, first + 8, reserved);
+    }
+
     /// Drops every value. A bucket that has one of the first `reserved` slots stays, and every
-    /// other is freed. Seven buckets of which none stands are skipped at once.
+    /// other is freed. Behind the first seven buckets, eight of which none stands are skipped at once.
+    #[inline(always)]
+    fn clear_all(&mut self, reserved: usize)
+        requires standing { (bucket : ℕ) → bucket < 63 → id_at bucket 0 < reserved → IsTrue (stands self.old bucket) }
+        ensures rows { (bucket : ℕ) → bucket < 63 → row self.new bucket ≡ cleared_row reserved bucket }
+        ensures table { IsTable self.new }
+    {
+        let _ = &self.pointers;
+        for done in 0..7 {
+            let first = 55 - done * 8;
+            if self.any_stands(first) {
+                self.clear_eight(first, reserved);
+            }
+        }
+        self.clear_between(0, 7, reserved);
+    }
+
+    /// Drops every value. A bucket that has one of the first `reserved` slots stays, and every
+    /// other is freed.
     #[inline(never)]
     pub fn clear(&mut self, reserved: usize)
         requires standing { (bucket : ℕ) → bucket < 63 → id_at bucket 0 < reserved → IsTrue (stands self.old bucket) }
         ensures rows { (bucket : ℕ) → bucket < 63 → row self.new bucket ≡ cleared_row reserved bucket }
         ensures table { IsTable self.new }
     {
-        let _ = &self.pointers;
-        for group in 0..BUCKETS / 7 {
-            let first = group * 7;
-            if self.any_of_seven(first) {
-                self.clear_between(first, first + 7, reserved);
-            }
-        }
+        self.clear_all(reserved);
+    }
+
+    /// Drops every value and frees every bucket. It stands apart from `clear`, so that no bucket is
+    /// asked whether it is reserved.
+    #[inline(never)]
+    pub(super) fn release_all(&mut self)
+        ensures { (bucket : ℕ) → bucket < 63 → row self.new bucket ≡ [] }
+    {
+        self.clear_all(0);
     }
 }

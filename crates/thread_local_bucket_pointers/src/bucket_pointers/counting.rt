@@ -7,7 +7,7 @@ ghost use Rattle.thread_local_model.specs.Counting.{count_below};
 
 use super::BucketPointers;
 use crate::FlagSource;
-use thread_local_thread_id::{BUCKETS, bucket_size};
+use thread_local_thread_id::bucket_size;
 
 impl<T> BucketPointers<T> {
     /// The flags of eight chunks, from this one on, or-ed together. They are 0 exactly where none of
@@ -94,18 +94,46 @@ impl<T> BucketPointers<T> {
         count
     }
 
-    /// How many values there are. It reads the flags of all slots of the buckets that stand. Seven
-    /// buckets of which none stands are skipped at once.
+    /// How many values a bucket of at most 64 slots has. Their flags are one word.
+    #[inline]
+    fn count_in_word(&mut self, bucket: usize) -> usize
+        requires small { bucket < 7 }
+        requires whole { length (row self.old bucket) ≡ 2 ^ bucket }
+        ensures same { self.new ≡ self.old }
+        ensures counted { count_below (values self.old) (id_at bucket 0) + result
+            ≡ count_below (values self.old) (id_at (bucket + 1) 0) }
+    {
+        self.count_in_chunks(bucket, 0, 1)
+    }
+
+    /// How many values the first seven buckets have.
+    #[inline]
+    fn count_in_first(&mut self) -> usize
+        ensures same { self.new ≡ self.old }
+        ensures counted { result ≡ count_below (values self.old) (id_at 7 0) }
+    {
+        let mut count = 0;
+        for bucket in 0..7 {
+            if self.stands(bucket) {
+                count += self.count_in_word(bucket);
+            }
+        }
+        count
+    }
+
+    /// How many values there are. It reads the flags of all slots of the buckets that stand. Behind
+    /// the first seven buckets, eight of which none stands are skipped at once.
+    #[inline(never)]
     pub fn count_values(&mut self) -> usize
         ensures same { self.new ≡ self.old }
         ensures counted { result ≡ length (walk (values self.old)) }
         ensures fits { result < 2 ^ 63 }
     {
-        let mut count = 0;
-        for group in 0..BUCKETS / 7 {
-            let first = group * 7;
-            if self.any_of_seven(first) {
-                count += self.count_between(first, first + 7);
+        let mut count = self.count_in_first();
+        for group in 0..7 {
+            let first = group * 8 + 7;
+            if self.any_stands(first) {
+                count += self.count_between(first, first + 8);
             }
         }
         count

@@ -1,21 +1,11 @@
-use Rattle.std.proofs.Common.{◌≡◌, ◌+◌, ◌^◌, ◌≤◌, ◌*◌, sym, ◌∙◌, ap, subst, suc, ℕ, arith, pow_mono, add-one}
+use Rattle.std.proofs.Common.{◌≡◌, ◌+◌, ◌^◌, ◌≤◌, ◌*◌, sym, ◌∙◌, ap, suc, arith, pow_mono, add-one}
 use Rattle.std.proofs.Common.{[]}
 use Rattle.std.proofs.Math.Nat.{two-pow-succ}
-use Rattle.thread_local_model.specs.Place.{id_at}
 use Rattle.thread_local_model.specs.Buckets.{Contents, values, row}
-use Rattle.thread_local_model.specs.Counting.{count_below}
 use Rattle.thread_local_model.proofs.TakingLaws.{count_below-absent, count_below-fits}
+use Rattle.thread_local_bucket_pointers.proofs.Counting.{counted_at_first}
 use Rattle.thread_local_bucket_pointers.proofs.bucket_pointers.BucketPointers.count_between.Goals as goal
 use Rattle.thread_local_bucket_pointers.proofs.bucket_pointers.BucketPointers.count_between.Goals.{then-stands, else-stands}
-
--- the count of a bucket, which is the same for the pointers as they were at first
-counted_at_first : {V : Type 0} (now first : Contents V) (b n : ℕ) → now ≡ first
-    → count_below (values now) (id_at b 0) + n ≡ count_below (values now) (id_at (b + 1) 0)
-    → count_below (values first) (id_at b 0) + n ≡ count_below (values first) (id_at (b + 1) 0)
-counted_at_first now first b n same counted =
-    subst (λ (w : Contents _).
-    count_below (values w) (id_at b 0) + n ≡ count_below (values w) (id_at (b + 1) 0))
-    same counted
 
 pub overflow_add-count : goal.overflow_add-count
 overflow_add-count g c =

@@ -1,7 +1,7 @@
 use Rattle.std.proofs.Common.{◌≡◌, ℕ, ◌+◌, ◌<◌, ◌≤◌, true, false, []}
 use Rattle.thread_local_model.specs.Buckets.{row}
 use Rattle.thread_local_bucket_pointers.specs.Clearing.{AnyStands}
-use Rattle.thread_local_bucket_pointers.proofs.bucket_pointers.BucketPointers.any_of_seven.Given as goal
+use Rattle.thread_local_bucket_pointers.proofs.bucket_pointers.BucketPointers.any_stands.Given as goal
 
 -- where none of the buckets so far stands, they have no slots, and else one of them stands
 abbrev pub invariant-loop-at : goal.invariant-loop-at

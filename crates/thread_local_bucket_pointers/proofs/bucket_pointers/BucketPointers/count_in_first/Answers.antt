@@ -1,0 +1,51 @@
+use Rattle.std.proofs.Common.{◌≡◌, ◌+◌, [], ℕ, sym, ◌∙◌, ap, refl, arith}
+use Rattle.thread_local_model.specs.Place.{id_at}
+use Rattle.thread_local_model.specs.Buckets.{Contents, values, row}
+use Rattle.thread_local_model.specs.Counting.{count_below}
+use Rattle.thread_local_model.proofs.TakingLaws.{count_below-zero, count_below-absent, count_below-fits}
+use Rattle.thread_local_bucket_pointers.proofs.Counting.{counted_at_first}
+use Rattle.thread_local_bucket_pointers.proofs.bucket_pointers.BucketPointers.count_in_first.Goals as goal
+use Rattle.thread_local_bucket_pointers.proofs.bucket_pointers.BucketPointers.count_in_first.Goals.{then-stands, else-stands}
+
+pub loop-bucket-init : goal.loop-bucket-init
+loop-bucket-init g c = record { counted = sym (count_below-zero (values c.args.self.now)); same = refl }
+
+pub overflow_add-count : goal.overflow_add-count
+overflow_add-count g c =
+    let kept = c.loop-bucket.invariant in
+    let here =
+    counted_at_first _ c.args.self.now c.loop-bucket.bucket _ (c.stands.ensures.same ∙ kept.same)
+    c.count_in_word-count.ensures.counted in
+    let fits = count_below-fits (values c.args.self.now) (c.loop-bucket.bucket + 1) (omega (arith, c.loop-bucket-test.true)) in
+    omega (arith, here, kept.counted)
+
+pub loop-bucket-preserved : goal.loop-bucket-preserved
+loop-bucket-preserved g c =
+    let kept = c.loop-bucket.invariant in
+    elim c.if-stands.branch [
+      | then-stands w ↦
+          let here =
+          counted_at_first _ c.args.self.now c.loop-bucket.bucket _
+          (c.stands.ensures.same ∙ kept.same) w.count_in_word-count.ensures.counted in
+          record {
+            counted = omega (arith, here, kept.counted, w.count-is);
+            same = w.self-is ∙ w.count_in_word-count.ensures.same ∙ c.stands.ensures.same ∙ kept.same;
+          }
+      | else-stands w ↦
+          let absent : row c.args.self.now c.loop-bucket.bucket ≡ [] =
+          sym (ap (λ (w : Contents _). row w c.loop-bucket.bucket) kept.same)
+          ∙ c.stands.ensures.absent w.if-stands.false in
+          let none = count_below-absent c.args.self.now c.loop-bucket.bucket absent in
+          record {
+            counted = omega (arith, none, kept.counted, w.count-is);
+            same = w.self-is ∙ c.stands.ensures.same ∙ kept.same;
+          }
+    ]
+
+pub returns-clause-counted : goal.returns-clause-counted
+returns-clause-counted g c =
+    let last : c.loop-bucket.bucket ≡ 7 = omega (arith, c.loop-bucket-test.false, c.loop-bucket.auto.bucket-end) in
+    c.loop-bucket.invariant.counted ∙ ap (λ (b : ℕ). count_below (values c.args.self.now) (id_at b 0)) last
+
+pub returns-clause-same : goal.returns-clause-same
+returns-clause-same g c = c.loop-bucket.invariant.same
