@@ -57,8 +57,8 @@ impl<T: Drop> BucketPointers<T> {
     }
 
     /// Drops the values of the buckets `first..end`, and frees those of them that have none of the
-    /// first `reserved` slots. The last comes first: an allocator that joins what is freed with what
-    /// lies behind it has less to do so.
+    /// first `reserved` slots. The last bucket comes first, since the heap takes blocks back faster in
+    /// this order.
     #[inline]
     fn clear_between(&mut self, first: usize, end: usize, reserved: usize)
         requires order { first ≤ end }
