@@ -1,7 +1,7 @@
 -- A `&` to a `Meter` names a thread, as its first cell does: it holds the token of the one that may use the cell.
 use Rattle.std.proofs.Common.{[], inr, false}
 use Rattle.thread_local_judged.proofs.Everywhere.{known}
-use Rattle.thread_local_examples.proofs.meters.MeterJudge.judge.Goals as goal
+use Rattle.thread_local_uses.proofs.meters.MeterJudge.judge.Goals as goal
 
 pub returns-clause-everywhere : goal.returns-clause-everywhere
 returns-clause-everywhere c =
