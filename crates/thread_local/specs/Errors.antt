@@ -1,7 +1,12 @@
--- What errors print.
-use Rattle.std.specs.Prelude.{ℕ, List, codes, Option, Some}
+-- What errors say, and what they print.
+use Rattle.std.specs.Prelude.{⊤, ℕ, List, codes, Option, Some}
 use Rattle.thread_local.specs.declared.seat.TryError as try_error
 use Rattle.thread_local.specs.declared.seat.SetError as set_error
+
+-- this holds of the closure's error, if it is one
+abbrev pub IfCreate : {E : Type 0} → try_error.TryError E → (E → Type 0) → Type 0
+IfCreate (try_error.TheVariants.Memory refused) P = ⊤
+IfCreate (try_error.TheVariants.Create error) P = P error
 
 -- the closure's error prints what it prints by itself
 abbrev pub try_error_text : {E : Type 0} → (E → Option (List ℕ)) → try_error.TryError E → Option (List ℕ)

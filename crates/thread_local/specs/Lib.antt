@@ -11,3 +11,7 @@ pub mod Errors
 pub mod Owners
 pub mod Seats
 pub mod Text
+pub use Rattle.thread_local_buckets.specs.IterMut
+pub use Rattle.thread_local_buckets.specs.Drain
+pub use Rattle.thread_local_shared_buckets.specs.Walks
+pub use Rattle.thread_local_shared_buckets.specs.TableView

@@ -1,7 +1,8 @@
 //! What a thread has in a table: an id of its own, through which it finds or makes its value.
-ghost use Rattle.std.specs.Prelude.{◌≡◌, ◌≢◌, ◌-◌, ◌^◌, ◌<◌, nat_lt, ⊤, true, false, None, Ok, Err, OnOk, IfOk, IsSome, Some, option_map, alloc_error, Result};
+ghost use Rattle.std.specs.Prelude.{◌≡◌, ◌≢◌, ◌-◌, ◌^◌, ◌<◌, nat_lt, ⊤, true, false, None, Ok, Err, OnOk, IfOk, IfErr, IsOk, IsSome, Some, option_map, alloc_error, Result};
 ghost use Rattle.thread_local_model.specs.Answers.{Get, GetOr, Found, Refused, Failed, answer};
 ghost use Rattle.thread_local_model.specs.Cursor.{fresh_cursor};
+ghost use Rattle.thread_local.specs.Errors.{IfCreate};
 ghost use Rattle.thread_local.specs.Seats.{knows, knowing, holding, own_of, token_of, IsAnswered, IsFilled, Fails, IsRefused};
 
 pub use crate::seat::{Seat, SetError, TryError};
@@ -169,6 +170,8 @@ impl<'a, T, R: Wait> Local<'a, T, R> {
             → Fails (λ e. F.post create (Err e)) self.old self.new error }
         ensures memory { result ≡ Err (TryError.Memory alloc_error) → IsRefused E self.old self.new }
         ensures granted { self.old.known ≡ true → result ≢ Err (TryError.Memory alloc_error) }
+        ensures held { IsSome self.old.value → IsOk result }
+        ensures failed { IfErr result (λ error. IfCreate error (λ e. F.post create (Err e))) }
     {
         self.seat.try_fill(create)
     }
@@ -191,6 +194,8 @@ impl<'a, T, R: Wait> Local<'a, T, R> {
             → (made : Result T E)
             → answer (knows self.old) (GetOr made true) ≡ Refused }
         ensures granted { self.old.known ≡ true → result ≢ Err (TryError.Memory alloc_error) }
+        ensures held { IsSome self.old.value → IsOk result }
+        ensures failed { IfErr result (λ error. IfCreate error (λ e. F.post create (Err e))) }
     {
         self.seat.get_or_try(create)
     }

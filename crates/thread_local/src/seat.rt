@@ -1,10 +1,11 @@
 //! A seat: an id of a table, and what is known of the id's slot: no bucket was found, it is vacant,
 //! or it holds a value.
-ghost use Rattle.std.specs.Prelude.{◌≡◌, ◌≢◌, ◌-◌, ◌^◌, ◌<◌, nat_lt, ⊤, is_some, true, None, Some, Ok, Err, OnOk, OnErr, IfOk, IsOk, IsSome, Result, false, alloc_error, option_map};
+ghost use Rattle.std.specs.Prelude.{◌≡◌, ◌≢◌, ◌-◌, ◌^◌, ◌<◌, nat_lt, ⊤, is_some, true, None, Some, Ok, Err, OnOk, OnErr, IfOk, IfErr, IsOk, IsSome, Result, false, alloc_error, option_map};
 ghost use Rattle.thread_local_model.specs.Learnt.{Missing, Vacant};
 ghost use Rattle.thread_local_model.specs.Place.{IsPlaceOf};
 ghost use Rattle.thread_local_model.specs.Answers.{Get, GetOr, Found, Refused, Failed, answer};
 ghost use Rattle.thread_local_model.specs.Cursor.{fresh_cursor};
+ghost use Rattle.thread_local.specs.Errors.{IfCreate};
 ghost use Rattle.thread_local.specs.Seats.{knows, knowing, own_of, token_of, vacant, holding, IsAnswered, IsFilled, Fails, IsRefused};
 
 use crate::table::ThreadLocal;
@@ -205,6 +206,7 @@ impl<'a, T> Seat<'a, T> {
         ensures ok { OnOk result (IsFilled ⊤ (F.post create) self.old self.new) }
         ensures err { OnErr result (IsRefused ⊤ self.old self.new) }
         ensures granted { self.old.known ≡ true → IsOk result }
+        ensures held { IsSome self.old.value → IsOk result }
     {
         if !self.is_published() {
             let thread = self.place();
@@ -281,6 +283,8 @@ impl<'a, T> Seat<'a, T> {
             → Fails (λ e. F.post create (Err e)) self.old self.new error }
         ensures memory { result ≡ Err (TryError.Memory alloc_error) → IsRefused E self.old self.new }
         ensures granted { self.old.known ≡ true → result ≢ Err (TryError.Memory alloc_error) }
+        ensures held { IsSome self.old.value → IsOk result }
+        ensures failed { IfErr result (λ error. IfCreate error (λ e. F.post create (Err e))) }
     {
         if self.is_published() {
             return Ok(());
@@ -314,6 +318,8 @@ impl<'a, T> Seat<'a, T> {
             → (made : Result T E)
             → answer (knows self.old) (GetOr made true) ≡ Refused }
         ensures granted { self.old.known ≡ true → result ≢ Err (TryError.Memory alloc_error) }
+        ensures held { IsSome self.old.value → IsOk result }
+        ensures failed { IfErr result (λ error. IfCreate error (λ e. F.post create (Err e))) }
     {
         self.try_fill(create)?;
         Ok(self.value())

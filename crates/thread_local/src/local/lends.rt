@@ -2,7 +2,7 @@
 //! own, since their clauses import the `the_row` that is generated from the file that declares the
 //! type. Their bodies are those of the seat's calls and don't call these: the clause `leaves` names the
 //! row of its own type, and no proof leads from a clause on a seat's row to one on a `Local`'s.
-ghost use Rattle.std.specs.Prelude.{◌≡◌, ⊤, true, None, IsOk, Result, [], MatchResult};
+ghost use Rattle.std.specs.Prelude.{◌≡◌, ⊤, true, None, IsOk, IsSome, Result, [], MatchResult};
 ghost use types.Logic.{sem};
 ghost use denote.Follow.{follows_so};
 ghost use mathlib.Core.Option.{none};
@@ -36,6 +36,7 @@ impl<'a, T, R: Wait> Local<'a, T, R> {
         ensures answers { MatchResult result (λ there. IsAnswered ⊤ (F.post create) self.old there.now) (λ _.
             (made : Result T ⊤) → answer (knows self.old) (GetOr made true) ≡ Refused) }
         ensures granted { self.old.known ≡ true → IsOk result }
+        ensures held { IsSome self.old.value → IsOk result }
     {
         self.seat.fill(create)?;
         Ok(self.seat.value())
@@ -59,6 +60,7 @@ impl<'a, T, R: Wait> Local<'a, T, R> {
         ensures answers { MatchResult result (λ there. IsAnswered ⊤ T.is_made_with self.old there.now) (λ _.
             (made : Result T ⊤) → answer (knows self.old) (GetOr made true) ≡ Refused) }
         ensures granted { self.old.known ≡ true → IsOk result }
+        ensures held { IsSome self.old.value → IsOk result }
     {
         let table = self.seat.table;
         let alloc = table.alloc;

@@ -1,6 +1,6 @@
 //! The calls of a seat that answer a reference and say what they leave as well. A file of its own,
 //! since their clauses import the `the_row` that is generated from the file that declares the type.
-ghost use Rattle.std.specs.Prelude.{◌≡◌, ⊤, true, None, IsOk, Result, [], MatchResult};
+ghost use Rattle.std.specs.Prelude.{◌≡◌, ⊤, true, None, IsOk, IsSome, Result, [], MatchResult};
 ghost use types.Logic.{sem};
 ghost use denote.Follow.{follows_so};
 ghost use mathlib.Core.Option.{none};
@@ -33,6 +33,7 @@ impl<'a, T> Seat<'a, T> {
         ensures answers { MatchResult result (λ there. IsAnswered ⊤ (F.post create) self.old there.now) (λ _.
             (made : Result T ⊤) → answer (knows self.old) (GetOr made true) ≡ Refused) }
         ensures granted { self.old.known ≡ true → IsOk result }
+        ensures held { IsSome self.old.value → IsOk result }
     {
         self.fill(create)?;
         Ok(self.value())
@@ -56,6 +57,7 @@ impl<'a, T> Seat<'a, T> {
         ensures answers { MatchResult result (λ there. IsAnswered ⊤ T.is_made_with self.old there.now) (λ _.
             (made : Result T ⊤) → answer (knows self.old) (GetOr made true) ≡ Refused) }
         ensures granted { self.old.known ≡ true → IsOk result }
+        ensures held { IsSome self.old.value → IsOk result }
     {
         let table = self.table;
         let alloc = table.alloc;
