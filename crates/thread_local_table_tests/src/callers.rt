@@ -1,5 +1,6 @@
 //! Callers at concrete types and generic ones, which are proved and not run.
-ghost use Rattle.std.specs.Prelude.{◌≡◌, IfOk, IfSome, None, true};
+ghost use Rattle.std.specs.Prelude.{◌≡◌, IfOk, IfSome, IsSome, None, true, sum};
+ghost use Rattle.thread_local.specs.IterMut.{iter_mut_rest};
 ghost use Rattle.thread_local_judged.specs.Judged.{Judged};
 
 use std::alloc::{AllocError, Global};
@@ -7,6 +8,7 @@ use std::cell::{Cell, RefCell};
 use std::default::MadeWith;
 use std::sync::Wait;
 use thread_local::ThreadLocal;
+use thread_local::iter::IterMut;
 use thread_local::local::{Local, Seat, TryError};
 use thread_local_judged::{Judge, judge_sync};
 use thread_local_shared_buckets::Iter;
@@ -54,6 +56,66 @@ fn held<R: Wait>(local: &mut Local<'_, u32, R>, value: u32) -> Result<u32, Alloc
 {
     local.get_or(|| value)?;
     Ok(*local.get_or(|| unreachable!())?)
+}
+
+/// Where a value is held, no call is refused memory, and none ends with an error of its closure.
+fn held_is_answered<R: Wait>(local: &mut Local<'_, u32, R>, value: u32) -> bool
+    requires { IsSome local.old.value }
+    ensures { result ≡ true }
+{
+    local.get_or(|| value).is_ok()
+}
+
+fn held_is_answered_by_default<R: Wait>(local: &mut Local<'_, u32, R>) -> bool
+    ensures { result ≡ true }
+{
+    local.get().is_none() || local.get_or_default().is_ok()
+}
+
+fn held_is_no_error<R: Wait>(local: &mut Local<'_, u32, R>) -> bool
+    requires { IsSome local.old.value }
+    ensures { result ≡ true }
+{
+    local.get_or_try(|| Err::<u32, bool>(false)).is_ok()
+}
+
+fn held_is_full(seat: &mut Seat<'_, u32>) -> bool
+    requires { IsSome seat.old.value }
+    ensures { result ≡ true }
+{
+    seat.try_fill(|| Err::<u32, bool>(false)).is_ok()
+}
+
+/// The error is what the closure answered.
+fn error_of_the_closure<R: Wait>(local: &mut Local<'_, u32, R>, error: u64) -> u64
+    ensures { result ≡ error }
+{
+    match local.get_or_try(|| Err::<u32, u64>(error)) {
+        Err(TryError::Create(told)) => told,
+        _ => error,
+    }
+}
+
+fn error_of_a_filling(seat: &mut Seat<'_, u32>, error: u64) -> u64
+    ensures { result ≡ error }
+{
+    match seat.try_fill(|| Err::<u32, u64>(error)) {
+        Err(TryError::Create(told)) => told,
+        _ => error,
+    }
+}
+
+/// The sum of what an owner's walk has still to give.
+fn added_up(values: IterMut<'_, u64>) -> u128
+    ensures { result ≡ sum (iter_mut_rest values.entry) }
+{
+    // So the count fits.
+    let _ = values.len();
+    let mut total = 0u128;
+    for value in values {
+        total += u128::from(*value);
+    }
+    total
 }
 
 /// A reserved `Local` is not refused memory.
