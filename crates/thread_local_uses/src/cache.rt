@@ -1,33 +1,39 @@
-//! A cache: a thread finds the matcher of its id, or makes one, which is expensive.
-use std::alloc::Global;
+//! A cache: a worker finds the matcher of its id, or makes one, which is expensive. Whoever made it,
+//! it is of the cache's pattern. That is a rule of its type: the ghost field states it, and each later
+//! holder, walk and owner of the table finds it kept.
+ghost use Rattle.std.specs.Prelude.{◌≡◌, IfOk, eqb};
+ghost use Rattle.std.specs.List.{list_any};
+ghost use Rattle.thread_local_uses.specs.declared.cache.TheConstants.{PATTERN};
+
+use std::alloc::{AllocError, Global};
 use std::sync::Wait;
 use std::sync::atomic::{AtomicU64, Ordering};
 use thread_local::ThreadLocal;
+use thread_local::local::Local;
 use thread_local::table::judge_sync;
-use thread_local::thread_id::LocalError;
 
-/// A set of bytes, compiled to a table, so that one look tells whether a byte is in it.
+/// The pattern: texts that have this byte.
+pub const PATTERN: u8 = b',';
+
+/// Finds out which texts are of the pattern.
 #[derive(Drop)]
 pub struct Matcher {
-    is_in: [bool; 256],
+    looks_for: u8,
+    ghost of_the_pattern: { looks_for ≡ PATTERN },
 }
 
 impl Matcher {
-    /// Compiles a set, and counts the compilation.
-    pub fn compile(bytes: &[u8], compiled: &AtomicU64) -> Matcher {
+    /// A matcher, at a cost that `compiled` counts.
+    pub fn compile(compiled: &AtomicU64) -> Matcher {
         compiled.fetch_add(1, Ordering::Relaxed);
-        let mut is_in = [false; 256];
-        for byte in bytes {
-            is_in[*byte as usize] = true;
-        }
-        Matcher { is_in }
+        Matcher { looks_for: PATTERN }
     }
 
-    /// How many bytes of a text are in the set.
-    pub fn count(&self, text: &[u8]) -> usize {
-        text.iter()
-            .filter(|byte| self.is_in[**byte as usize])
-            .count()
+    /// Whether a text is of the pattern.
+    pub fn matches(&self, text: &[u8]) -> bool
+        ensures { result ≡ list_any (λ byte. eqb byte PATTERN) text.now }
+    {
+        text.contains(&self.looks_for)
     }
 }
 
@@ -37,21 +43,16 @@ pub fn matchers(alloc: Global) -> ThreadLocal<Matcher> {
     ThreadLocal::new(alloc)
 }
 
-/// How many vowels the lines have, counted by this thread's matcher, which an earlier holder of its
-/// id may have made.
-pub fn vowels<R: Wait>(
-    matchers: &ThreadLocal<Matcher>,
-    rt: &R,
-    lines: &[&str],
+/// Whether a text is of the pattern, by the matcher of a worker that keeps its `Local` for all texts.
+/// The answer doesn't depend on who made the matcher.
+pub fn matches<R: Wait>(
+    local: &mut Local<'_, Matcher, R>,
+    text: &[u8],
     compiled: &AtomicU64,
-) -> Result<usize, LocalError> {
-    let mut local = matchers.local(rt)?;
-    let matcher = local.get_or(|| Matcher::compile(b"aeiou", compiled))?;
-    let mut found = 0usize;
-    for line in lines {
-        found = found.wrapping_add(matcher.count(line.as_bytes()));
-    }
-    Ok(found)
+) -> Result<bool, AllocError>
+    ensures { IfOk result (λ found. found ≡ list_any (λ byte. eqb byte PATTERN) text.now) }
+{
+    Ok(local.get_or(|| Matcher::compile(compiled))?.matches(text))
 }
 
 #[cfg(test)]
@@ -59,6 +60,24 @@ mod tests {
     use super::*;
     use std::test::Fail;
     use std::thread;
+    use thread_local::thread_id::LocalError;
+
+    /// How many of the texts have a comma.
+    fn with_comma<R: Wait>(
+        matchers: &ThreadLocal<Matcher>,
+        rt: &R,
+        texts: &[&str],
+        compiled: &AtomicU64,
+    ) -> Result<u64, LocalError> {
+        let mut local = matchers.local(rt)?;
+        let mut found = 0u64;
+        for text in texts {
+            if matches(&mut local, text.as_bytes(), compiled)? {
+                found = found.wrapping_add(1);
+            }
+        }
+        Ok(found)
+    }
 
     #[test]
     fn two_threads_compile_at_most_two_matchers(rt: HostRuntime) -> Result<(), Fail> {
@@ -67,10 +86,10 @@ mod tests {
         for _ in 0..100 {
             let found = thread::join(
                 &rt,
-                || vowels(&matchers, &rt, &["one", "two"], &compiled),
-                || vowels(&matchers, &rt, &["three", "four", "five"], &compiled),
+                || with_comma(&matchers, &rt, &["a,b", "ab", ","], &compiled),
+                || with_comma(&matchers, &rt, &["", "one, two"], &compiled),
             );
-            assert_eq!(rt; found, (Ok(3), Ok(6)));
+            assert_eq!(rt; found, (Ok(2), Ok(1)));
         }
         assert!(rt; (1..=2).contains(&compiled.load(Ordering::Relaxed)));
         Ok(())

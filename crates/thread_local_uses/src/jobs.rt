@@ -1,8 +1,9 @@
-//! Many short jobs: a worker takes a `Local` once, keeps it for all its jobs, and does each in the
-//! same room, as with `map_init` of rayon.
+//! Many short jobs: workers take them from one queue. Each worker takes a `Local` once, keeps it for
+//! all jobs that come to it, and does each in the same room, as with `map_init` of rayon.
 use std::alloc::Global;
 use std::cell::Cell;
 use std::sync::Wait;
+use std::sync::atomic::{AtomicUsize, Ordering};
 use thread_local::ThreadLocal;
 use thread_local::table::Judge;
 use thread_local::thread_id::LocalError;
@@ -30,20 +31,47 @@ fn digits(number: u64, room: &mut Vec<u8>) -> Result<u64, LocalError> {
     )
 }
 
-/// Does the jobs of one worker. `local` for each job would cost more than the job, and another
-/// worker's room might come.
+/// Jobs that workers take one after another.
+#[derive(Drop)]
+pub struct Queue<'a> {
+    jobs: &'a [u64],
+    taken: AtomicUsize,
+}
+
+impl<'a> Queue<'a> {
+    /// A queue of these jobs.
+    pub fn new(jobs: &'a [u64]) -> Queue<'a> {
+        Queue {
+            jobs,
+            taken: AtomicUsize::new(0),
+        }
+    }
+
+    /// The next job that no worker has taken.
+    fn take(&self) -> Option<u64> {
+        self.jobs
+            .get(self.taken.fetch_add(1, Ordering::Relaxed))
+            .copied()
+    }
+}
+
+/// Does jobs until the queue has none. A `Local` for each job would cost more than the job, and
+/// another worker's room might come.
 pub fn work<R: Wait>(
     workers: &ThreadLocal<Kept>,
     rt: &R,
     alloc: Global,
-    jobs: &[u64],
+    queue: &Queue<'_>,
 ) -> Result<u64, LocalError> {
     let mut local = workers.local(rt)?;
     let kept = local.get_or(|| Cell::new((Vec::new(alloc), 0)))?;
     let (mut room, mut done) = kept.replace((Vec::new(alloc), 0));
     let mut sum = 0u64;
-    for job in jobs {
-        sum = sum.wrapping_add(digits(*job, &mut room)?);
+    for _ in 0..queue.jobs.len() {
+        let Some(job) = queue.take() else {
+            break;
+        };
+        sum = sum.wrapping_add(digits(job, &mut room)?);
         done = done.wrapping_add(1);
     }
     kept.set((room, done));
@@ -57,18 +85,20 @@ mod tests {
     use std::thread;
 
     #[test]
-    fn two_workers_do_their_jobs(rt: HostRuntime) -> Result<(), Fail> {
+    fn two_workers_do_all_jobs(rt: HostRuntime) -> Result<(), Fail> {
         let alloc = rt.alloc();
         let table = workers(alloc);
-        let sums = thread::join(
+        let queue = Queue::new(&[123, 9, 1000, 99, 5]);
+        let (first, second) = thread::join(
             &rt,
-            || work(&table, &rt, alloc, &[123, 9]),
-            || work(&table, &rt, alloc, &[1000, 99, 5]),
+            || work(&table, &rt, alloc, &queue),
+            || work(&table, &rt, alloc, &queue),
         );
+        let sum = first?.wrapping_add(second?);
         let done = table
             .into_iter()
             .fold(0u64, |done, kept| done.wrapping_add(kept.into_inner().1));
-        assert_eq!(rt; (sums, done), ((Ok(15), Ok(24)), 5));
+        assert_eq!(rt; (sum, done), (39, 5));
         Ok(())
     }
 }

@@ -9,6 +9,7 @@ pub mod jobs;
 pub mod mailbox;
 pub mod matcher;
 pub mod meters;
+pub mod metrics;
 pub mod posted;
 pub mod registry;
 pub mod resumed;

@@ -3,7 +3,7 @@
 use std::alloc::{AllocError, Global};
 use std::sync::Wait;
 use std::sync::atomic::{AtomicU64, Ordering};
-use thread_local::scratch::Pool;
+use thread_local::scratch::{Pool, Pooled};
 use thread_local::thread_id::LocalError;
 
 /// Finds a set of bytes in texts, and notes where. The room for its notes stays from text to text.
@@ -39,22 +39,30 @@ impl Matcher {
     }
 }
 
-/// Where the last vowel of each line is, the places added up. A matcher is compiled only where as
-/// many threads match at once as never before.
-pub fn last_vowels<R: Wait>(
-    matchers: &Pool<Matcher>,
-    rt: &R,
-    alloc: Global,
-    lines: &[&str],
-    compiled: &AtomicU64,
-) -> Result<usize, LocalError> {
-    let mut matcher = matchers.get(rt, || Matcher::compile(b"aeiou", alloc, compiled))?;
-    let mut places = 0usize;
-    for line in lines {
-        let found = matcher.find(line.as_bytes())?;
-        places = places.wrapping_add(found.last().copied().unwrap_or(0));
+/// A worker that keeps its matcher from line to line. Only to take it and to put it back takes the
+/// pool's lock, so a worker that lives long is as fast as one that owns its matcher.
+#[derive(Drop)]
+pub struct Worker<'a, R: Wait> {
+    matcher: Pooled<'a, Matcher, R>,
+}
+
+impl<'a, R: Wait> Worker<'a, R> {
+    /// A worker. A matcher is compiled only where as many are in use at once as never before.
+    pub fn new(
+        matchers: &'a Pool<Matcher>,
+        rt: &'a R,
+        alloc: Global,
+        compiled: &AtomicU64,
+    ) -> Result<Worker<'a, R>, LocalError> {
+        let matcher = matchers.get(rt, || Matcher::compile(b"aeiou", alloc, compiled))?;
+        Ok(Worker { matcher })
     }
-    Ok(places)
+
+    /// Where the last vowel of a line is, or 0 where it has none.
+    pub fn last_vowel(&mut self, line: &str) -> Result<usize, AllocError> {
+        let found = self.matcher.find(line.as_bytes())?;
+        Ok(found.last().copied().unwrap_or(0))
+    }
 }
 
 #[cfg(test)]
@@ -62,6 +70,22 @@ mod tests {
     use super::*;
     use std::test::Fail;
     use std::thread;
+
+    /// Where the last vowel of each line is, the places added up.
+    fn last_vowels<R: Wait>(
+        matchers: &Pool<Matcher>,
+        rt: &R,
+        alloc: Global,
+        lines: &[&str],
+        compiled: &AtomicU64,
+    ) -> Result<usize, LocalError> {
+        let mut worker = Worker::new(matchers, rt, alloc, compiled)?;
+        let mut places = 0usize;
+        for line in lines {
+            places = places.wrapping_add(worker.last_vowel(line)?);
+        }
+        Ok(places)
+    }
 
     #[test]
     fn two_threads_compile_at_most_two_matchers(rt: HostRuntime) -> Result<(), Fail> {

@@ -1,5 +1,7 @@
 //! Rounds of work: in each, workers count, and between two rounds the owner takes the counts out. The
-//! buckets stay, so a later round asks for no memory where an earlier one was as large.
+//! buckets stay, so a later round asks for no memory where an earlier one was as large. What a value
+//! itself has of memory goes with it: where it should stay, reset the values through `iter_mut`, as
+//! `spans.rt` does.
 use std::alloc::Global;
 use std::cell::Cell;
 use std::sync::Wait;
@@ -13,15 +15,18 @@ pub fn counts(alloc: Global) -> ThreadLocal<Cell<u64>> {
     ThreadLocal::new(alloc)
 }
 
-/// Adds to what was counted under this worker's id in this round.
+/// Adds numbers to what was counted under this worker's id in this round. The worker keeps its
+/// `Local` for all of them, and gives it back for the owner to end the round.
 pub fn count<R: Wait>(
     counts: &ThreadLocal<Cell<u64>>,
     rt: &R,
-    number: u64,
+    numbers: &[u64],
 ) -> Result<(), LocalError> {
     let mut local = counts.local(rt)?;
     let counted = local.get_or(|| Cell::new(0))?;
-    counted.set(counted.get().saturating_add(number));
+    for number in numbers {
+        counted.set(counted.get().saturating_add(*number));
+    }
     Ok(())
 }
 
@@ -45,7 +50,7 @@ mod tests {
     fn round<R: Wait + Threads + Sync>(
         counts: &mut ThreadLocal<Cell<u64>>,
         rt: &R,
-        numbers: (u64, u64),
+        numbers: (&[u64], &[u64]),
     ) -> (bool, u64, usize) {
         let shared = &*counts;
         let counted = thread::join(
@@ -59,8 +64,8 @@ mod tests {
     #[test]
     fn each_round_begins_at_nothing(rt: HostRuntime) -> Result<(), Fail> {
         let mut counts = counts(rt.alloc());
-        let first = round(&mut counts, &rt, (1, 10));
-        let second = round(&mut counts, &rt, (200, 3000));
+        let first = round(&mut counts, &rt, (&[1], &[4, 6]));
+        let second = round(&mut counts, &rt, (&[200], &[1000, 2000]));
         assert_eq!(rt;
             (first.0, first.1, second.0, second.1),
             (true, 11, true, 3200)
