@@ -47,6 +47,8 @@ pub fn swap<R: Threads + Wait + Sync>(
     requires named { IsSome letters.now.sharing }
     ensures { IfOk result (λ read. (read.0 ≡ second) × (read.1 ≡ first)) }
 {
+    // Of a table of this function's own, which the closures borrow, the clauses would say
+    // `letters.sharing`.
     let (one, other) = thread::join(
         rt,
         || -> Result<(Local<'_, u64, R>, Token<u64>), MailError>
