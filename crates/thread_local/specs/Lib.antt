@@ -15,3 +15,5 @@ pub use Rattle.thread_local_buckets.specs.IterMut
 pub use Rattle.thread_local_buckets.specs.Drain
 pub use Rattle.thread_local_shared_buckets.specs.Walks
 pub use Rattle.thread_local_shared_buckets.specs.TableView
+pub use Rattle.thread_local_model.specs.Capacity
+pub use Rattle.thread_local_judged.specs.Judged

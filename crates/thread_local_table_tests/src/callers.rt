@@ -1,7 +1,8 @@
 //! Callers at concrete types and generic ones, which are proved and not run.
 ghost use Rattle.std.specs.Prelude.{◌≡◌, IfOk, IfSome, IsSome, None, true, sum};
+ghost use Rattle.thread_local.specs.Capacity.{reserved_slots};
 ghost use Rattle.thread_local.specs.IterMut.{iter_mut_rest};
-ghost use Rattle.thread_local_judged.specs.Judged.{Judged};
+ghost use Rattle.thread_local.specs.Judged.{Judged};
 
 use std::alloc::{AllocError, Global};
 use std::cell::{Cell, RefCell};
@@ -10,6 +11,7 @@ use std::sync::Wait;
 use thread_local::ThreadLocal;
 use thread_local::iter::IterMut;
 use thread_local::local::{Local, Seat, TryError};
+use thread_local::table::CapacityError;
 use thread_local_judged::{Judge, judge_sync};
 use thread_local_shared_buckets::Iter;
 
@@ -195,6 +197,12 @@ fn generic<T: Send>(alloc: Global) -> ThreadLocal<T>
     let table = ThreadLocal::new(alloc);
     crosses(&table);
     table
+}
+
+fn with_room(alloc: Global, ids: usize) -> Result<ThreadLocal<u32>, CapacityError>
+    ensures { IfOk result (λ table. table.reserved ≡ reserved_slots ids) }
+{
+    ThreadLocal::with_capacity(alloc, ids)
 }
 
 fn sync<T: Send + Sync>(alloc: Global) -> ThreadLocal<T> {
