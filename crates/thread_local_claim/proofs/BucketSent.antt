@@ -20,7 +20,7 @@ use Rattle.thread_local_claim.specs.Shared.{BucketView, Turn, StandingBlock, Who
 use Rattle.thread_local_claim.specs.Shared.{tracked_value, pinned_and_told, by, holds, stays, had, shared_slot}
 use Rattle.thread_local_claim.specs.Shared.{numbered_slot, waiting, all_unborn, rests, slots_rest, block_rests}
 use Rattle.thread_local_claim.specs.Shared.{block_stands, beside_pointer, kept, loaded, row_owns, at_rest, len}
-use Rattle.thread_local_claim.specs.Shared.{first}
+use Rattle.thread_local_claim.specs.Shared.{first, if_set, seen_value, seen_slot, seen_owns}
 
 pub chain_keyless : (νs : List Lft) (κ α : Lft) → Keyless (chain νs κ α)
 chain_keyless [] κ α = λ _. tt
@@ -175,3 +175,22 @@ module _ (R : RattleType) (s : IsSend R) where
 
   pub found_keyless : (d : BucketView) (names : List ℕ) (β : Lft) (p : Ptr) → Keyless (row_owns R d names β p)
   found_keyless d names β p = λ z. ((λ _. tt), (kept_keyless d z.0 z.2 z.3 β, row_keyless d z.0 z.1 β))
+
+  seen_value_keyless : (d : BucketView) (p : Ptr) (κ : Lft) (η : GName) (i : ℕ) (set : Bool)
+      → Keyless (if_set R (seen_value R d p κ η i) set)
+  seen_value_keyless d p κ η i false = tt
+  seen_value_keyless d p κ η i true = λ x. (
+    (tt, tells_keyless R d.sharing (i + first R d) (Some x)),
+    λ j. j x (block_of p) (value_offset R (count_of p) i) κ,
+  )
+
+  pub seen_keyless : (d : BucketView) (p : Ptr) (names : List ℕ) (chunk flags : ℕ) (values : Ptr) (β : Lft)
+      → Keyless (seen_owns R d p names chunk flags values β)
+  seen_keyless d p names chunk flags values β = λ z. (
+    (λ _. tt),
+    (
+      (λ νs. chain_keyless νs β z.0),
+      each_keyless (seen_slot R d p z.0 z.1) names 0
+          (λ η i. seen_value_keyless d p z.0 η i (is_set_in z.1 i)),
+    ),
+  )

@@ -116,6 +116,86 @@ module _ {M : Type 1} {𝓤 : Ura M} (𝓛 : Logic 𝓤) where
           suffices ! _ (upd_i 𝓤 (⟦ I ⟧ ∗ ⟦ ftrue ⟧ ∗ Q)) $ split ! $ move ! (0 ∷ 2 ∷ 1 ∷ []) $
           done !
 
+  -- The slots of a standing block, taken apart wherever they lie. `Out P` is what is taken out of P,
+  -- with the way back to P.
+  module _ (R : RattleType) (d : BucketView) (t : Turn) (wb wo : ℕ) (s : StandingBlock) (b : ℕ)
+      (at_b : block_of s.at ≡ b) where
+    abbrev Whole : Fml
+    Whole = bucket_invariant R d t wb wo
+
+    abbrev This : Fml
+    This = fres t.which (block_code s)
+
+    abbrev Pointed : Ptr → Fml
+    Pointed p = fsep (cell wb wo p) (beside_pointer R d t p)
+
+    abbrev start : ℕ
+    start = count_of s.at
+
+    -- the slots under these words, with the words
+    abbrev pub Under : List ℕ → Fml
+    Under ns =
+        slots_under R (len R d) b start (λ ms.
+        each (numbered_slot R t b s.block_life d.sharing d.table (first R d) start ms) s.names 0)
+        ns
+
+    module _ (Out : Pr → Pr) (lifted : (P Q X : Pr) → P ∗ X ⊢ Q → Out P ∗ X ⊢ Out Q)
+        (in_row : (ns : List ℕ) → length s.names ≡ len R d → ⟦ Under ns ⟧ ⊢ Out ⟦ fex (List ℕ) Under ⟧) where
+      pub block_in : (p : Ptr) (r : Share) → ⟦ standing R d t p (s, r) ⟧ ⊢ Out ⟦ standing R d t p (s, r) ⟧
+      block_in p r =
+          let Q : Fml = standing R d t p (s, r) in
+          let Known : Type 0 = (s.at ≡ p) × (length s.names ≡ len R d) × Sized R (len R d) p in
+          let room : Fml = back R b start (len R d) in
+          let token : Fml = heap_token (block_ty R (len R d)) p in
+          let own : Fml = flft (s.block_life ∷ []) r in
+          let S : Fml = settled R d t s in
+          let Body : ℕ × ℕ → Fml = λ z.
+          fsep (fex (List ℕ) (slots_under R (len R d) z.0 z.1 (λ ns.
+          each (numbered_slot R t z.0 s.block_life d.sharing d.table (first R d) z.1 ns)
+          s.names 0)))
+          (back R z.0 z.1 (len R d)) in
+          qed 𝓛 (‵ Q ∷ []) ∵ fsplit ! $ fpick ! (λ h.
+          let same : ◌≡◌ {A = ℕ × ℕ} (block_of p, count_of p) (b, start) =
+          λ j. ((sym (ap block_of h.0) ∙ at_b) j, ap count_of (sym h.0) j) in
+          move ! (1 ∷ []) $ fsplit3 ! $ move ! (2 ∷ []) $ fsplit ! $
+          -- [what stands; the right to free; settled; the token; nothing]
+          rewrite ! 0 (λ (z : ℕ × ℕ). ‵ (Body z)) same refl $ fsplit ! $ fpick ! (λ ns.
+          use1 𝓛 (raw (Out ⟦ fex (List ℕ) Under ⟧)) (in_row ns h.1) $
+          keep ! (0 ∷ 1 ∷ 2 ∷ 3 ∷ 4 ∷ []) $
+          by ! (lifted ⟦ fex (List ℕ) Under ⟧ ⟦ Q ⟧ (⟦ room ⟧ ∗ ⟦ token ⟧ ∗ ⟦ S ⟧ ∗ ⟦ own ⟧) (qed 𝓛
+          (‵ (fex (List ℕ) Under) ∷ ‵ room ∷ ‵ token ∷ ‵ S ∷ ‵ own ∷ []) ∵
+          fjoin ! $ rewrite ! 0 (λ (z : ℕ × ℕ). ‵ (Body z)) (sym same) refl $ fjoin ! $
+          move ! (1 ∷ 2 ∷ 0 ∷ []) $ fjoin3 ! $ nothing ! $ fpack ! Known (λ _. ftrue) h $ fjoin ! $
+          done !))))
+
+      in_bucket : (p : Ptr) → ⟦ Pointed p ⟧ ∗ ⟦ This ⟧ ⊢ Out ⟦ Whole ⟧
+      in_bucket null_ptr =
+          qed 𝓛 (‵ (Pointed null_ptr) ∷ ‵ This ∷ []) ∵ fsplit ! $ move ! (1 ∷ []) $ fsplit ! $
+          drop ! $ fsplit ! $ fsplit ! $ move ! (4 ∷ 1 ∷ []) $
+          use2 𝓛 (given (block_code s ≡ gnil) (‵ This ⊛ ‵ (fauth t.which gnil)))
+          (𝓛.names.res_agree t.which (block_code s) gnil) $
+          learn ! (λ e. absurd (block_code-apart s e))
+      in_bucket (block_ptr x y) =
+          let p : Ptr = block_ptr x y in
+          qed 𝓛 (‵ (Pointed p) ∷ ‵ This ∷ []) ∵ fsplit ! $ move ! (1 ∷ []) $ fpick ! (λ z. fsplit ! $
+          fpick ! (λ h. move ! (1 ∷ []) $ fsplit ! $ fsplit ! $ move ! (5 ∷ 0 ∷ []) $
+          use2 𝓛
+          (given (block_code s ≡ block_code z.0) (‵ This ⊛ ‵ (fauth t.which (block_code z.0))))
+          (𝓛.names.res_agree t.which (block_code s) (block_code z.0)) $
+          learn ! (λ e. split ! $ drop ! $ fjoin ! $ fjoin ! $ move ! (1 ∷ []) $
+          fpack ! ((z.0.at ≡ p) × (length z.0.names ≡ len R d) × Sized R (len R d) p) (λ _. ftrue) h $ fjoin ! $
+          rewrite ! 0 (λ (w : StandingBlock). ‵ (standing R d t p (w, z.1)))
+          (sym (block_code-alike s z.0 e)) refl $
+          let S : Fml = standing R d t p (s, z.1) in
+          use1 𝓛 (raw (Out ⟦ S ⟧)) (block_in p z.1) $
+          by ! (lifted ⟦ S ⟧ ⟦ Whole ⟧ ⟦ cell wb wo p ⟧ (qed 𝓛 (‵ S ∷ ‵ (cell wb wo p) ∷ []) ∵
+          fpack ! (StandingBlock × Share) (standing R d t p) (s, z.1) $ move ! (1 ∷ 0 ∷ []) $
+          fjoin ! $ fpack ! Ptr Pointed p $ done !)))))
+
+      -- taken out of the invariant of a bucket whose block stands
+      pub in_invariant : ⟦ Whole ⟧ ∗ ⟦ This ⟧ ⊢ Out ⟦ Whole ⟧
+      in_invariant = qed 𝓛 (‵ Whole ∷ ‵ This ∷ []) ∵ fpick ! (λ p. by ! (in_bucket p))
+
   module _ (R : RattleType) (d : BucketView) (t : Turn) (wb wo : ℕ) (s : StandingBlock)
       (i k e b : ℕ) (low : i < length s.names) (at_k : k ≡ i + first R d)
       (at_e : e ≡ value_offset R (count_of s.at) i) (at_b : block_of s.at ≡ b) where
@@ -141,9 +221,6 @@ module _ {M : Type 1} {𝓤 : Ura M} (𝓛 : Logic 𝓤) where
     abbrev pub Out : Pr → ℕ → Pr
     Out P n = guard 𝓤 (n < 2 ^ 64) (⟦ Flags n ⟧ ∗ ⟦ Slot (is_set n (i % 64)) ⟧ ∗ all 𝓤 (Back P n))
 
-    abbrev Pointed : Ptr → Fml
-    Pointed p = fsep (cell wb wo p) (beside_pointer R d t p)
-
     abbrev o : ℕ
     o = count_of s.at
 
@@ -153,8 +230,8 @@ module _ {M : Type 1} {𝓤 : Ura M} (𝓛 : Logic 𝓤) where
     abbrev Row : List ℕ → Fml
     Row ns = each (Numbered ns) s.names 0
 
-    abbrev Under : List ℕ → Fml
-    Under ns = slots_under R (len R d) b o Row ns
+    abbrev Slots : List ℕ → Fml
+    Slots = Under R d t wb wo s b at_b
 
     numbered_is : (ns : List ℕ) → ◌≡◌ {A = Fml} (Numbered ns (get_or s.names i 0) i) (Slot (is_set_in ns i))
     numbered_is ns =
@@ -175,14 +252,14 @@ module _ {M : Type 1} {𝓤 : Ura M} (𝓛 : Logic 𝓤) where
         (value_offset R o m) η ⟧)
         (sym (turned_there R (len R d) i ns inside y m apart)) (id⊢ 𝓤 _)
 
-    in_row : (ns : List ℕ) → length s.names ≡ len R d → ⟦ Under ns ⟧ ⊢ ex 𝓤 (Out ⟦ fex (List ℕ) Under ⟧)
+    in_row : (ns : List ℕ) → length s.names ≡ len R d → ⟦ Slots ns ⟧ ⊢ ex 𝓤 (Out ⟦ fex (List ℕ) Slots ⟧)
     in_row ns long =
         let c : ℕ = i / 64 in
         let n : ℕ = slice_index ns c in
         let Fs : ℕ → ℕ → Fml = flags_at R (len R d) b o in
-        let Found : ℕ → Pr = Out ⟦ fex (List ℕ) Under ⟧ in
+        let Found : ℕ → Pr = Out ⟦ fex (List ℕ) Slots ⟧ in
         let name : ℕ = get_or s.names i 0 in
-        qed 𝓛 (‵ (Under ns) ∷ []) ∵ fsplit3 ! $ fpick ! (λ are. drop ! $
+        qed 𝓛 (‵ (Slots ns) ∷ []) ∵ fsplit3 ! $ fpick ! (λ are. drop ! $
         let inside : c < length ns =
         subst (λ (m : ℕ). c < m) (sym are.0)
         (in_chunks (len R d) i (subst (λ (m : ℕ). i < m) long low)) in
@@ -197,7 +274,7 @@ module _ {M : Type 1} {𝓤 : Ura M} (𝓛 : Logic 𝓤) where
         rewrite ! 0 (λ (G : Fml). ‵ G) (numbered_is ns) refl $
         -- [the slot; its way back; the word; its way back]
         show ! Found n $ check ! (are.1 c) $ move ! (2 ∷ 0 ∷ []) $ frame ! $ frame ! $
-        for_each ! (Back ⟦ fex (List ℕ) Under ⟧ n) (λ y.
+        for_each ! (Back ⟦ fex (List ℕ) Slots ⟧ n) (λ y.
         let W : Pr = ⟦ each Fs (T y) 0 ⟧ in
         assume ! (‵ (Flags y.word) ⊛ ‵ (Slot y.set)) $ split ! $ move ! (3 ∷ []) $
         use1 𝓛 (raw (Put 𝓛 Fs ns 0 c c y.word)) (all_e 𝓤 (Put 𝓛 Fs ns 0 c c) y.word) $
@@ -210,7 +287,7 @@ module _ {M : Type 1} {𝓤 : Ura M} (𝓛 : Logic 𝓤) where
         nothing ! $
         fpack ! (AreFlagWords R (len R d) (T y)) (λ _. ftrue)
         (turned_flags R (len R d) i ns inside y (subst (λ (m : ℕ). i < m) long low) are) $
-        fjoin3 ! $ fpack ! (List ℕ) Under (T y) $ done !))
+        fjoin3 ! $ fpack ! (List ℕ) Slots (T y) $ done !))
 
     -- the same, taken out of more than what holds them
     pub lifted : (P Q X : Pr) → P ∗ X ⊢ Q → ex 𝓤 (Out P) ∗ X ⊢ ex 𝓤 (Out Q)
@@ -227,56 +304,8 @@ module _ {M : Type 1} {𝓤 : Ura M} (𝓛 : Logic 𝓤) where
         use2 𝓛 (raw P) (apply∗ 𝓤 T P) $ by ! law)))
 
     pub in_block : (p : Ptr) (r : Share) → ⟦ standing R d t p (s, r) ⟧ ⊢ ex 𝓤 (Out ⟦ standing R d t p (s, r) ⟧)
-    in_block p r =
-        let Q : Fml = standing R d t p (s, r) in
-        let Known : Type 0 = (s.at ≡ p) × (length s.names ≡ len R d) × Sized R (len R d) p in
-        let room : Fml = back R b o (len R d) in
-        let token : Fml = heap_token (block_ty R (len R d)) p in
-        let own : Fml = flft (s.block_life ∷ []) r in
-        let S : Fml = settled R d t s in
-        let Body : ℕ × ℕ → Fml = λ z.
-        fsep (fex (List ℕ) (slots_under R (len R d) z.0 z.1 (λ ns.
-        each (numbered_slot R t z.0 s.block_life d.sharing d.table (first R d) z.1 ns)
-        s.names 0)))
-        (back R z.0 z.1 (len R d)) in
-        qed 𝓛 (‵ Q ∷ []) ∵ fsplit ! $ fpick ! (λ h.
-        let same : ◌≡◌ {A = ℕ × ℕ} (block_of p, count_of p) (b, o) =
-        λ j. ((sym (ap block_of h.0) ∙ at_b) j, ap count_of (sym h.0) j) in
-        move ! (1 ∷ []) $ fsplit3 ! $ move ! (2 ∷ []) $ fsplit ! $
-        -- [what stands; the right to free; settled; the token; nothing]
-        rewrite ! 0 (λ (z : ℕ × ℕ). ‵ (Body z)) same refl $ fsplit ! $ fpick ! (λ ns.
-        use1 𝓛 (raw (ex 𝓤 (Out ⟦ fex (List ℕ) Under ⟧))) (in_row ns h.1) $
-        keep ! (0 ∷ 1 ∷ 2 ∷ 3 ∷ 4 ∷ []) $
-        by ! (lifted ⟦ fex (List ℕ) Under ⟧ ⟦ Q ⟧ (⟦ room ⟧ ∗ ⟦ token ⟧ ∗ ⟦ S ⟧ ∗ ⟦ own ⟧) (qed 𝓛
-        (‵ (fex (List ℕ) Under) ∷ ‵ room ∷ ‵ token ∷ ‵ S ∷ ‵ own ∷ []) ∵
-        fjoin ! $ rewrite ! 0 (λ (z : ℕ × ℕ). ‵ (Body z)) (sym same) refl $ fjoin ! $
-        move ! (1 ∷ 2 ∷ 0 ∷ []) $ fjoin3 ! $ nothing ! $ fpack ! Known (λ _. ftrue) h $ fjoin ! $
-        done !))))
-
-    in_bucket : (p : Ptr) → ⟦ Pointed p ⟧ ∗ ⟦ Which ⟧ ⊢ ex 𝓤 (Out ⟦ I ⟧)
-    in_bucket null_ptr =
-        qed 𝓛 (‵ (Pointed null_ptr) ∷ ‵ Which ∷ []) ∵ fsplit ! $ move ! (1 ∷ []) $ fsplit ! $
-        drop ! $ fsplit ! $ fsplit ! $ move ! (4 ∷ 1 ∷ []) $
-        use2 𝓛 (given (block_code s ≡ gnil) (‵ Which ⊛ ‵ (fauth t.which gnil)))
-        (𝓛.names.res_agree t.which (block_code s) gnil) $
-        learn ! (λ e. absurd (block_code-apart s e))
-    in_bucket (block_ptr x y) =
-        let p : Ptr = block_ptr x y in
-        qed 𝓛 (‵ (Pointed p) ∷ ‵ Which ∷ []) ∵ fsplit ! $ move ! (1 ∷ []) $ fpick ! (λ z. fsplit ! $
-        fpick ! (λ h. move ! (1 ∷ []) $ fsplit ! $ fsplit ! $ move ! (5 ∷ 0 ∷ []) $
-        use2 𝓛
-        (given (block_code s ≡ block_code z.0) (‵ Which ⊛ ‵ (fauth t.which (block_code z.0))))
-        (𝓛.names.res_agree t.which (block_code s) (block_code z.0)) $
-        learn ! (λ e. split ! $ drop ! $ fjoin ! $ fjoin ! $ move ! (1 ∷ []) $
-        fpack ! ((z.0.at ≡ p) × (length z.0.names ≡ len R d) × Sized R (len R d) p) (λ _. ftrue) h $ fjoin ! $
-        rewrite ! 0 (λ (w : StandingBlock). ‵ (standing R d t p (w, z.1)))
-        (sym (block_code-alike s z.0 e)) refl $
-        let S : Fml = standing R d t p (s, z.1) in
-        use1 𝓛 (raw (ex 𝓤 (Out ⟦ S ⟧))) (in_block p z.1) $
-        by ! (lifted ⟦ S ⟧ ⟦ I ⟧ ⟦ cell wb wo p ⟧ (qed 𝓛 (‵ S ∷ ‵ (cell wb wo p) ∷ []) ∵
-        fpack ! (StandingBlock × Share) (standing R d t p) (s, z.1) $ move ! (1 ∷ 0 ∷ []) $
-        fjoin ! $ fpack ! Ptr Pointed p $ done !)))))
+    in_block = block_in R d t wb wo s b at_b (λ P. ex 𝓤 (Out P)) lifted in_row
 
     -- the same, taken out of the invariant of a bucket whose block stands
     pub slot_in : ⟦ I ⟧ ∗ ⟦ Which ⟧ ⊢ ex 𝓤 (Out ⟦ I ⟧)
-    slot_in = qed 𝓛 (‵ I ∷ ‵ Which ∷ []) ∵ fpick ! (λ p. by ! (in_bucket p))
+    slot_in = in_invariant R d t wb wo s b at_b (λ P. ex 𝓤 (Out P)) lifted in_row

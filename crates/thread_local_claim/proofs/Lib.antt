@@ -11,11 +11,13 @@ pub mod Sent
 pub mod Steps
 pub mod Surrender
 pub mod RowFields
+pub mod SeenFields
 pub mod Lent
 pub mod PointerValue
 pub mod Inside
 pub mod Loads
 pub mod Looks
+pub mod ChunkLooks
 pub mod Offers
 pub mod Rested
 pub mod BucketSent

@@ -67,8 +67,8 @@
 --     flent κ P              P comes back once κ has ended
 --     before κ α             κ ends before α does
 
-use Rattle.std.specs.Prelude.{◌≡◌, ℕ, zero, suc, ◌+◌, ◌^◌, ◌≤◌, Bool, true, false, List, [], ◌∷◌, length, Option, None}
-use Rattle.std.specs.Prelude.{Some, is_some}
+use Rattle.std.specs.Prelude.{◌≡◌, ℕ, zero, suc, ◌+◌, ◌*◌, ◌^◌, ◌≤◌, Bool, true, false, List, [], ◌∷◌, length, Option, None}
+use Rattle.std.specs.Prelude.{Some, is_some, slice_index}
 use Rattle.std.specs.Coded.{coded_option}
 use mathlib.Core.Logic.{inl, inr}
 use base.Stored.{Gv, Coded, gnil, gcons, coded×, coded_ℕ, coded_list, coded_bool, coded_via}
@@ -361,7 +361,42 @@ module _ (R : RattleType) where
     abbrev pub row_owns : Lft → Ptr → Fml
     row_owns β p = fex Found (row_as β p)
 
-  -- a value that is found at an index is the one that the slot there holds for good
-  abbrev pub pinned_at : List ℕ → ℕ → Option R.Denot → Fml
-  pinned_at names i None = ftrue
-  pinned_at names i (Some x) = pinned (name_at names i) x
+  -- 7. What a look at the flags of a chunk hands out, as a value: what it saw of the slots.
+
+  -- the value that the slot at an index holds for good
+  abbrev pub pinned_at : List ℕ → ℕ → R.Denot → Fml
+  pinned_at names i x = pinned (name_at names i) x
+
+  -- what a look has of a slot, by whether it saw the flag set
+  abbrev pub if_set : {X : Type 0} → (X → Fml) → Bool → Fml
+  if_set F false = ftrue
+  if_set {X} F true = fex X F
+
+  module _ (d : BucketView) (p : Ptr) where
+    -- a slot with the value x whose flag was set: its value for good, what is told of its id, and a
+    -- `&` to the value for whoever shows that it names no thread
+    abbrev pub seen_value : Lft → GName → ℕ → R.Denot → Fml
+    seen_value κ η i x =
+        fsep (pinned_and_told d.sharing (i + first d) η x)
+        (fall (Shareable R) (λ _. shared_of R x (block_of p) (value_offset R (count_of p) i) κ))
+
+    -- the same of each slot whose flag is set in these words
+    abbrev pub seen_slot : Lft → List ℕ → GName → ℕ → Fml
+    seen_slot κ ns η i = if_set (seen_value κ η i) (is_set_in ns i)
+
+    module _ (names : List ℕ) (chunk flags : ℕ) (values : Ptr) where
+      -- the word of the chunk had these flags, the block is one of the bucket, threads may share its
+      -- values, and the chunk's values begin here
+      abbrev pub WereFlags : List ℕ → Type 0
+      WereFlags ns =
+          (slice_index ns chunk ≡ flags) × AreFlagWords (len d) ns × (length names ≡ len d)
+          × Sized (len d) p × Shareable R
+          × (values ≡ block_ptr (block_of p) (value_offset R (count_of p) (chunk * 64)))
+
+      -- what was seen, for as long as a lifetime that lasts longer than β
+      abbrev pub seen_as : Lft → Lft × List ℕ → Fml
+      seen_as β z = fsep (fact (WereFlags z.1)) (fsep (before β z.0) (each (seen_slot z.0 z.1) names 0))
+
+      -- the slots at one instant, at which the word of the chunk had these flags
+      abbrev pub seen_owns : Lft → Fml
+      seen_owns β = fex (Lft × List ℕ) (seen_as β)

@@ -1,18 +1,17 @@
 //! The slots of a bucket that stands, seen by any thread: each is empty until its flag is set, and
 //! holds its value from then on.
-ghost use Rattle.std.specs.Prelude.{◌≡◌, ℕ, ◌/◌, ◌^◌, ◌<◌, List, IfSome, option_map};
-ghost use types.Logic.{sem};
-ghost use Rattle.thread_local_model.specs.Place.{id_at};
+ghost use Rattle.std.specs.Prelude.{◌≡◌, ℕ, ◌+◌, ◌*◌, ◌^◌, ◌<◌, true, List};
+ghost use Rattle.thread_local_model.specs.Bits.{is_set};
 ghost use Rattle.thread_local_judged.specs.Judged.{Shareable};
 ghost use Rattle.thread_local_bucket_pointers.specs.Slots.{flag_word_at};
-ghost use Rattle.thread_local_claim.specs.Shared.{BucketView, bucket_view_coded, row_owns, pinned_at};
+ghost use Rattle.thread_local_claim.specs.Shared.{BucketView, bucket_view_coded, row_owns};
 ghost use denote.Sharing.{said};
 
+use crate::seen::Seen;
 use std::marker::{Brand, Model, PhantomData};
 use std::sync::atomic::Ordering::SeqCst;
 use std::sync::atomic::raw;
 use thread_local_bucket_pointers::Chunk;
-use thread_local_ids::Witness;
 
 /// The slots of a bucket, for as long as the bucket is borrowed. A contract sees which bucket it
 /// is, and for each slot a name, under which it is known what the slot holds.
@@ -31,36 +30,32 @@ impl<'a, T> Model for Row<'a, T> {
 }
 
 impl<'a, T> Row<'a, T> {
-    /// The value of the slot at `index`, if one is published, and a witness that the slot of that id
-    /// was published with it. The `&` lasts as long as the bucket is borrowed, whoever claims the
-    /// slot meanwhile.
-    ///
-    /// It is one atomic load of the word that has the slot's flag, which is the word
-    /// `flag_word` of the block. It never waits and takes no memory.
+    /// Looks at the slots of a chunk: one atomic load of the word with their flags, which is the word
+    /// `flag_word` of the block. It sees all of them at one instant. It never waits and takes no
+    /// memory.
     ///
     /// That threads may share a value is a clause and not a bound, since a walk calls this in
     /// `next`, and a trait's method isn't given the bounds of its impl.
-    pub fn get(&self, index: usize, flag_word: usize) -> Option<(Witness<T>, &'a T)>
+    pub fn look(&self, chunk: usize, flag_word: usize) -> Seen<'a, T>
         requires shareable { Shareable T.row }
-        requires inside { index < 2 ^ self.now.of.bucket }
-        requires flag_word { flag_word ≡ flag_word_at T.row (2 ^ self.now.of.bucket) (index / 64) }
-        ensures* published { sem 𝓛 (pinned_at T.row self.now.names index (option_map (λ found. found.1.now) result)) }
-        ensures told { IfSome result (λ found.
-            (found.0.sharing ≡ self.now.of.sharing)
-            × (found.0.id ≡ id_at self.now.of.bucket index)
-            × (found.0.value ≡ found.1.now)) }
+        requires in_table { self.now.of.bucket < 63 }
+        requires inside { chunk * 64 < 2 ^ self.now.of.bucket }
+        requires flag_word { flag_word ≡ flag_word_at T.row (2 ^ self.now.of.bucket) chunk }
+        ensures of { (result.of ≡ self.now.of) × (result.names ≡ self.now.names) × (result.chunk ≡ chunk) }
+        ensures inside { (bit : ℕ)
+            → bit < 64
+            → is_set result.flags bit ≡ true
+            → chunk * 64 + bit < 2 ^ self.now.of.bucket }
     {
         let at = self.at;
+        let first = chunk * 64;
+        let values = unsafe { (at as *const T).add(first) };
         let word = unsafe { (at as *const u64).add(flag_word) };
         let flags = unsafe { raw::load::<Brand>(word, SeqCst) };
-        if flags >> (index % 64) & 1 == 0 {
-            None
-        } else {
-            let value = unsafe { &*(at as *const T).add(index) };
-            let witness = Witness {
-                marker: PhantomData,
-            };
-            Some((witness, value))
+        Seen {
+            values,
+            flags,
+            marker: PhantomData,
         }
     }
 }
