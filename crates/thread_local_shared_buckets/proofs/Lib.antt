@@ -4,3 +4,4 @@ pub mod Turned
 pub mod Fields
 pub mod StepLaws
 pub mod WalkLaws
+pub mod AtHandLaws

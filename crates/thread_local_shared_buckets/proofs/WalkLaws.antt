@@ -1,9 +1,9 @@
 -- The moves of the code keep the invariant of a walk, and do what the contract of `next` says.
-use Rattle.std.proofs.Common.{◌≡◌, ℕ, suc, ◌+◌, ◌-◌, ◌^◌, ◌<◌, ◌≤◌, Bool, true, false, eqb, cond, inl, inr, Option}
-use Rattle.std.proofs.Common.{None, Some, IfSome, IfNone, option_map, refl, ap, sym, ◌∙◌, subst, arith, pow_mono}
+use Rattle.std.proofs.Common.{◌≡◌, ℕ, suc, ◌+◌, ◌-◌, ◌^◌, ◌<◌, ◌≤◌, Bool, true, false, eqb, cond, inl, inr, ⊎_elim, Option}
+use Rattle.std.proofs.Common.{None, Some, IfSome, option_map, refl, ap, sym, ◌∙◌, subst, arith, pow_mono}
 use Rattle.std.proofs.Common.{add-one}
 use Rattle.std.proofs.Math.Nat.{two-pow-succ}
-use Rattle.std.proofs.lemmas.Bool.{cond_both, eqb-true, eqb-false, le-ltb}
+use Rattle.std.proofs.lemmas.Bool.{eqb-true, eqb-false, cases_eq, le-ltb}
 use Rattle.thread_local_model.specs.Place.{id_at}
 use Rattle.thread_local_model.specs.Cursor.{Cursor, cursor_id, after_look, CursorFits}
 use Rattle.thread_local_model.proofs.CursorLaws.{after_look-fits, bounded}
@@ -13,7 +13,7 @@ use Rattle.thread_local_shared_buckets.specs.Steps.{Leads}
 use Rattle.thread_local_shared_buckets.specs.Walks.{Owed, YieldsOwn, Yields, Ends}
 use Rattle.thread_local_bucket_pointers.specs.Cursor.{next_bucket}
 use Rattle.thread_local_ids.specs.declared.witness.Witness.{Witness}
-use Rattle.thread_local_shared_buckets.specs.Positions.{resting, past, at_index, search_end, owed, lies_in, Found, OwnIsTold}
+use Rattle.thread_local_shared_buckets.specs.Positions.{resting, past, owed, lies_in, Found, OwnIsTold}
 use Rattle.thread_local_shared_buckets.specs.Positions.{IsToldAt, IsAhead, IsSharedWalk}
 use Rattle.thread_local_shared_buckets.proofs.StepLaws.{resting_at, looking_at, leads_then, leads_on, passes_bucket, leads_to_slot}
 
@@ -83,55 +83,35 @@ module _ {V : Type 0} where
         };
       }
 
-  -- the slot lies before the own value
+  -- the slot lies before the own value, if that lies in the bucket
+  abbrev pub IsBefore : RawIter → ℕ → Own V → Type 0
+  IsBefore raw index own = own.thread.bucket ≡ raw.bucket → index < own.thread.index
+
   not_own : (raw : RawIter) (own : Option (Own V)) (index : ℕ) (v : V) → IfSome own (IsAhead raw)
-      → index < search_end raw own → index < 2 ^ raw.bucket
+      → IfSome own (IsBefore raw index) → index < 2 ^ raw.bucket
       → IfSome own (IsAhead (past raw index)) × YieldsOwn (option_map owed own) (id_at raw.bucket index) v (option_map owed own)
   not_own raw None index v ahead near inside = (tt, refl)
   not_own raw (Some own) index v ahead near inside =
-      let P : ℕ → Type 0 = λ end.
-      index < end
-      → IsAhead (past raw index) own
-      × (id_at raw.bucket index < id_at own.thread.bucket own.thread.index) in
-      let both =
-      cond_both {A = ℕ} (eqb own.thread.bucket raw.bucket) own.thread.index raw.bucket_size P
-      (λ t below.
-      let same = eqb-true own.thread.bucket raw.bucket t in
+      let both : IsAhead (past raw index) own × (id_at raw.bucket index < id_at own.thread.bucket own.thread.index) =
+      ⊎_elim
+      (λ (same : own.thread.bucket ≡ raw.bucket).
       let power : 2 ^ own.thread.bucket ≡ 2 ^ raw.bucket = ap (λ k. 2 ^ k) same in
+      let below = near same in
       (record { bucket = ahead.bucket; index = λ _. omega arith }, omega arith))
-      (λ f below.
-      let apart = eqb-false own.thread.bucket raw.bucket f in
+      (λ apart.
       let low = ahead.bucket in (
         record { bucket = ahead.bucket; index = λ same. absurd (apart same) },
         later_bucket raw.bucket own.thread.bucket index own.thread.index (omega arith) inside,
       ))
-      near in
+      (cases_eq own.thread.bucket raw.bucket) in
       (both.0, inr (both.1, refl))
 
-  pub search_end-inside : (raw : RawIter) (own : Option (Own V)) → IsSharedWalk raw own → search_end raw own ≤ 2 ^ raw.bucket
-  search_end-inside raw None walk = let size = walk.size in omega arith
-  search_end-inside raw (Some own) walk =
-      cond_both {A = ℕ} (eqb own.thread.bucket raw.bucket) own.thread.index raw.bucket_size (λ end. end ≤ 2 ^ raw.bucket)
-      (λ t.
-      let power : 2 ^ own.thread.bucket ≡ 2 ^ raw.bucket = ap (λ k. 2 ^ k) (eqb-true own.thread.bucket raw.bucket t) in
-      let inside = own.thread.in_bucket in
-      omega arith)
-      (λ f. let size = walk.size in omega arith)
-
-  pub search_end-from : (raw : RawIter) (own : Option (Own V)) → IsSharedWalk raw own → raw.index ≤ search_end raw own
-  search_end-from raw None walk = let size = walk.size in let within = walk.fits.within in omega arith
-  search_end-from raw (Some own) walk =
-      cond_both {A = ℕ} (eqb own.thread.bucket raw.bucket) own.thread.index raw.bucket_size (λ end. raw.index ≤ end)
-      (λ t. walk.own_ahead.index (eqb-true own.thread.bucket raw.bucket t))
-      (λ f. let size = walk.size in let within = walk.fits.within in omega arith)
-
-  -- a search of the row found a value at this slot
+  -- a look found a value at this slot
   pub given_found : (raw : RawIter) (own : Option (Own V)) (index : ℕ) (v : V)
-      → IsSharedWalk raw own → raw.bucket < 63 → raw.index ≤ index → index < search_end raw own
+      → IsSharedWalk raw own → raw.bucket < 63 → raw.index ≤ index
+      → IfSome own (IsBefore raw index) → index < 2 ^ raw.bucket
       → Given raw own index v own
-  given_found raw own index v walk low ahead near =
-      let end = search_end-inside raw own walk in
-      let inside : index < 2 ^ raw.bucket = omega arith in
+  given_found raw own index v walk low ahead near inside =
       let before = not_own raw own index v walk.own_ahead near inside in
       given_at raw own index v own walk low ahead inside before.0 before.1
 
@@ -185,58 +165,17 @@ module _ {V : Type 0} where
         none_left = none;
       }
 
-  -- 4. What the code's functions ensure.
+  -- 4. What the code gives.
 
   -- a walk gave no more values than there are ids
   pub few : (raw : RawIter) (own : Option (Own V)) → IsSharedWalk raw own → raw.yielded < 2 ^ 63
   few raw own walk = let all = bounded (resting raw) walk.fits in let low = walk.yielded in omega arith
 
-  -- a value was given, and the walk goes on from there
-  pub record GivenTo (raw : RawIter) (own : Option (Own V)) (v : V) (to : RawIter) (left : Option (Own V)) : Type 0 where
+  -- a call gave a value of the sharing of this name
+  pub record Gave (name : Option ℕ) (raw : RawIter) (own : Option (Own V)) (x : Found V) (to : RawIter) (left : Option (Own V)) : Type 0 where
     pub walk : IsSharedWalk to left
-    pub gives : Yields (resting raw) (option_map owed own) v (resting to) (option_map owed left)
-
-  pub given_search : (raw to : RawIter) (own : Option (Own V)) (end : ℕ) (v : V)
-      → IsSharedWalk raw own → raw.bucket < 63 → end ≡ search_end raw own
-      → raw.index < to.index → to.index ≤ end → to ≡ past raw (to.index - 1) → GivenTo raw own v to own
-  given_search raw to own end v walk low is ahead near left =
-      let there = given_found raw own (to.index - 1) v walk low (omega arith) (omega arith) in
-      let all : GivenTo raw own v (past raw (to.index - 1)) own = record { walk = there.walk; gives = there.gives } in
-      subst (λ (r : RawIter). GivenTo raw own v r own) (sym left) all
-
-  -- what `give_own` ensures, from an index of the bucket
-  abbrev pub SaysNone : RawIter → Option (Own V) → Option (Found V) → RawIter → Option (Own V) → Type 0
-  SaysNone raw own result to left = IfNone result ((lies_in own raw.bucket ≡ false) × (to ≡ next_bucket raw) × (left ≡ own))
-
-  abbrev pub SaysSome : RawIter → Option (Own V) → Option (Found V) → RawIter → Option (Own V) → Type 0
-  SaysSome raw own result to left =
-      IfSome result (λ x.
-      (lies_in own raw.bucket ≡ true) × (left ≡ None)
-      × IfSome own (λ o.
-      (x.0 ≡ o.witness) × (x.1.now ≡ o.value.now) × (to ≡ past raw o.thread.index)))
-
-  -- what a function on one bucket ensures, of the sharing of this name
-  pub record Ended (name : Option ℕ) (raw : RawIter) (own : Option (Own V)) (result : Option (Found V)) (to : RawIter) (left : Option (Own V)) : Type 0 where
-    pub walk : IsSharedWalk to left
-    pub none : IfNone result ((left ≡ own) × (to ≡ next_bucket raw))
-    pub some : IfSome result (λ x. Yields (resting raw) (option_map owed own) x.1.now (resting to) (option_map owed left))
-    pub told : IfSome result (IsToldAt name to)
-    pub own_told : IfSome left (OwnIsTold name)
-
-  missed : (name : Option ℕ) (raw to : RawIter) (own left : Option (Own V)) → IsSharedWalk raw own
-      → raw.bucket < 63 → IfSome own (OwnIsTold name)
-      → lies_in own raw.bucket ≡ false → to ≡ next_bucket raw → left ≡ own
-      → Ended name raw own None to left
-  missed name raw to own left walk low told elsewhere next same =
-      let kept = walk_after_bucket raw own walk low elsewhere in
-      let moved : IsSharedWalk to own = subst (λ (r : RawIter). IsSharedWalk r own) (sym next) kept in
-      record {
-        walk = subst (λ (o : Option (Own V)). IsSharedWalk to o) (sym same) moved;
-        none = (same, next);
-        some = tt;
-        told = tt;
-        own_told = subst (λ (o : Option (Own V)). IfSome o (OwnIsTold name)) (sym same) told;
-      }
+    pub gives : Yields (resting raw) (option_map owed own) x.1.now (resting to) (option_map owed left)
+    pub told : IsToldAt name to x
 
   -- the own value's witness tells of the id that was passed with it
   own_told_at : (name : Option ℕ) (raw to : RawIter) (own : Own V) (x : Found V)
@@ -255,46 +194,18 @@ module _ {V : Type 0} where
         value = ap (λ (w : Witness V). w.value) witness ∙ told.value ∙ sym value;
       }
 
-  gave : (name : Option ℕ) (raw to : RawIter) (own : Own V) (left : Option (Own V)) (x : Found V)
-      → IsSharedWalk raw (Some own) → raw.bucket < 63 → OwnIsTold name own
-      → lies_in (Some own) raw.bucket ≡ true → left ≡ None → x.0 ≡ own.witness
-      → x.1.now ≡ own.value.now → to ≡ past raw own.thread.index
-      → Ended name raw (Some own) (Some x) to left
-  gave name raw to own left x walk low told here none witness value there =
+  pub gave_own : (name : Option ℕ) (raw : RawIter) (own : Own V) (x : Found V) → IsSharedWalk raw (Some own)
+      → raw.bucket < 63 → OwnIsTold name own → lies_in (Some own) raw.bucket ≡ true
+      → x.0 ≡ own.witness → x.1.now ≡ own.value.now
+      → Gave name raw (Some own) x (past raw own.thread.index) None
+  gave_own name raw own x walk low told here witness value =
       let given = given_own raw own walk low here in
-      let all : GivenTo raw (Some own) own.value.now (past raw own.thread.index) None = record { walk = given.walk; gives = given.gives } in
-      let moved : GivenTo raw (Some own) own.value.now to None =
-      subst (λ (r : RawIter). GivenTo raw (Some own) own.value.now r None) (sym there) all in
-      let emptied : GivenTo raw (Some own) own.value.now to left =
-      subst (λ (o : Option (Own V)). GivenTo raw (Some own) own.value.now to o)
-      (sym none) moved in
-      let item : GivenTo raw (Some own) x.1.now to left = subst (λ (v : V). GivenTo raw (Some own) v to left) (sym value) emptied in
       record {
-        walk = item.walk;
-        none = tt;
-        some = item.gives;
-        told = own_told_at name raw to own x told here witness value there;
-        own_told = subst (λ (o : Option (Own V)). IfSome o (OwnIsTold name)) (sym none) tt;
+        walk = given.walk;
+        gives =
+            subst (λ (v : V).
+            Yields (resting raw) (option_map owed (Some own)) v
+            (resting (past raw own.thread.index)) None)
+            (sym value) given.gives;
+        told = own_told_at name raw (past raw own.thread.index) own x told here witness value refl;
       }
-
-  ended_at : (name : Option ℕ) (raw to : RawIter) (own left : Option (Own V))
-      (result : Option (Found V))
-      → IsSharedWalk raw own → raw.bucket < 63 → IfSome own (OwnIsTold name)
-      → SaysNone raw own result to left → SaysSome raw own result to left
-      → Ended name raw own result to left
-  ended_at name raw to own left None walk low told none some = missed name raw to own left walk low told none.0 none.1 none.2
-  ended_at name raw to None left (Some x) walk low told none some = let never : false ≡ true = some.0 in cc
-  ended_at name raw to (Some own) left (Some x) walk low told none some =
-      gave name raw to own left x walk low told some.0 some.1 some.2.0 some.2.1 some.2.2
-
-  -- the same once the row was searched up to an index
-  pub ended : (name : Option ℕ) (raw mid to : RawIter) (index : ℕ) (own left : Option (Own V))
-      (result : Option (Found V))
-      → mid ≡ at_index raw index → IsSharedWalk raw own → raw.bucket < 63
-      → IfSome own (OwnIsTold name)
-      → SaysNone mid own result to left → SaysSome mid own result to left
-      → Ended name raw own result to left
-  ended name raw mid to index own left result is walk low told none some =
-      ended_at name raw to own left result walk low told
-      (subst (λ (m : RawIter). SaysNone m own result to left) is none)
-      (subst (λ (m : RawIter). SaysSome m own result to left) is some)

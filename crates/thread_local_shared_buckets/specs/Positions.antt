@@ -1,5 +1,5 @@
 -- Where a walk is, by what its code keeps, as the model's cursor.
-use Rattle.std.specs.Prelude.{◌≡◌, ℕ, suc, ◌+◌, ◌^◌, ◌≤◌, ◌==◌, Bool, false, Option, Some, None, IfSome, option_map}
+use Rattle.std.specs.Prelude.{◌≡◌, ℕ, suc, ◌+◌, ◌/◌, ◌^◌, ◌≤◌, ◌==◌, Bool, false, Option, Some, None, IfSome, option_map}
 use Rattle.std.specs.Prelude.{if◌then◌else◌}
 use Rattle.thread_local_model.specs.Place.{id_at}
 use Rattle.thread_local_model.specs.Cursor.{Cursor, cursor_id, CursorFits}
@@ -17,10 +17,6 @@ resting raw = record { bucket = raw.bucket; index = raw.index; looks = false }
 abbrev pub past : RawIter → ℕ → RawIter
 past raw index = record { yielded = raw.yielded + 1; bucket = raw.bucket; bucket_size = raw.bucket_size; index = index + 1 }
 
--- the walk at another index of its bucket
-abbrev pub at_index : RawIter → ℕ → RawIter
-at_index raw index = record { yielded = raw.yielded; bucket = raw.bucket; bucket_size = raw.bucket_size; index = index }
-
 -- what a walk gives: a value, and a witness that its slot was published with it
 abbrev pub Found : Type 0 → Type 0
 Found V = Witness V × Bor V
@@ -35,11 +31,15 @@ module _ {V : Type 0} where
   lies_in None bucket = false
   lies_in (Some own) bucket = own.thread.bucket == bucket
 
-  -- where the search in a bucket ends: at the own value, if it lies there, and else at the bucket's
-  -- end
-  abbrev pub search_end : RawIter → Option (Own V) → ℕ
-  search_end raw None = raw.bucket_size
-  search_end raw (Some own) = if own.thread.bucket == raw.bucket then own.thread.index else raw.bucket_size
+  -- whether it lies at this index of a bucket
+  abbrev pub is_at : Option (Own V) → ℕ → ℕ → Bool
+  is_at None bucket index = false
+  is_at (Some own) bucket index = if own.thread.bucket == bucket then own.thread.index == index else false
+
+  -- whether it lies in this chunk of a bucket
+  abbrev pub in_chunk : Option (Own V) → ℕ → ℕ → Bool
+  in_chunk None bucket chunk = false
+  in_chunk (Some own) bucket chunk = if own.thread.bucket == bucket then own.thread.index / 64 == chunk else false
 
   -- the own value's witness tells of its id that its slot was published with this value, in this
   -- sharing

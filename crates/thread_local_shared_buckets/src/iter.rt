@@ -9,11 +9,11 @@ ghost use Rattle.thread_local_shared_buckets.specs.Walks.{WalkView, fresh, Goes,
 
 use crate::shared::Shared;
 use crate::shown::Shown;
-use crate::steps::{Own, advance};
+use crate::steps::{Own, Walk};
 use std::fmt;
 use std::iter::FusedIterator;
 use std::marker::Model;
-use thread_local_bucket_pointers::{RawIter, write_struct};
+use thread_local_bucket_pointers::write_struct;
 use thread_local_ids::{Token, Witness};
 use thread_local_thread_id::Thread;
 
@@ -26,16 +26,15 @@ use thread_local_thread_id::Thread;
 /// and its size hint counts the values.
 #[derive(Drop)]
 pub struct Iter<'a, T> {
-    buckets: &'a Shared<T>,
-    raw: RawIter,
-    own: Option<Own<'a, T>>,
+    walk: Walk<'a, T>,
     shown: Option<Shown<'a, T>>,
 }
 
 impl<'a, T> Model for Iter<'a, T> {
-    ghost use Rattle.std.specs.Prelude.{option_map, is_some, IfSome};
+    ghost use Rattle.std.specs.Prelude.{option_map, is_some};
     ghost use Rattle.thread_local_shared_buckets.specs.Walks.{WalkView, walk_view_coded};
-    ghost use Rattle.thread_local_shared_buckets.specs.Positions.{resting, owed, OwnIsTold, IsSharedWalk};
+    ghost use Rattle.thread_local_shared_buckets.specs.Positions.{resting, owed};
+    ghost use Rattle.thread_local_shared_buckets.specs.AtHand.{IsWalk};
 
     ghost Value = { WalkView T };
 
@@ -43,13 +42,13 @@ impl<'a, T> Model for Iter<'a, T> {
 
     ghost view = { λ it.
         record {
-          sharing = it.buckets.now.sharing;
-          cursor = resting it.raw;
-          own = option_map owed it.own;
+          sharing = it.walk.buckets.now.sharing;
+          cursor = resting it.walk.raw;
+          own = option_map owed it.walk.own;
           shown = is_some it.shown;
         } };
 
-    ghost invariant = { λ it. IsSharedWalk it.raw it.own × IfSome it.own (OwnIsTold it.buckets.now.sharing) };
+    ghost invariant = { λ it. IsWalk it.walk };
 }
 
 impl<'a, T> Iter<'a, T> {
@@ -63,9 +62,7 @@ impl<'a, T> Iter<'a, T> {
         ensures { result ≡ fresh buckets.now.sharing (option_map owed own.entry) (is_some shown.entry) }
     {
         Iter {
-            buckets,
-            raw: RawIter::new(),
-            own,
+            walk: Walk::new(buckets, own),
             shown,
         }
     }
@@ -90,7 +87,7 @@ impl<'a, T> Iter<'a, T> {
             × (found.0.value ≡ found.1.now)) }
     {
         tell(&self.shown);
-        advance(self.buckets, &mut self.raw, &mut self.own)
+        self.walk.advance()
     }
 
     /// The last id that the walk has passed.
@@ -99,7 +96,7 @@ impl<'a, T> Iter<'a, T> {
         requires { 0 < cursor_id self.now.cursor }
         ensures { cursor_id self.now.cursor ≡ result + 1 }
     {
-        self.raw.index + self.raw.bucket_size - 2
+        self.walk.raw.index + self.walk.raw.bucket_size - 2
     }
 }
 
@@ -153,9 +150,10 @@ impl<'a, T: Sync> Iterator for Iter<'a, T> {
 
     ghost remaining = { ids_left };
 
-    /// The next value that a look finds. It loads the pointer of the bucket that it is in, again at
-    /// each call, and of each further bucket that it reaches. For each slot on the way but the own
-    /// one, it loads the word that has the slot's flag.
+    /// The next value that a look finds. One load of a word of flags is a look at up to 64 slots at one
+    /// instant. The call gives the next value that such a look has found, and looks on where all are
+    /// given. A walk loads each word of flags once at most. Behind a missing bucket it loads eight
+    /// pointers at a time, and once more where one of them isn't null.
     fn next(&mut self) -> Option<&'a T> {
         let (_, value) = self.step()?;
         Some(value)
@@ -176,6 +174,6 @@ impl<T: Sync> FusedIterator for Iter<'_, T> {}
 impl<T: fmt::Debug> fmt::Debug for Iter<'_, T> {
     /// The walk's position alone. Rust's crate shows the table, too.
     fn fmt<W: fmt::Write>(&self, f: &mut fmt::Formatter<W>) -> fmt::Result {
-        write_struct(f, "Iter", "raw", &self.raw)
+        write_struct(f, "Iter", "raw", &self.walk.raw)
     }
 }

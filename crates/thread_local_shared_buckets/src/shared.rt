@@ -1,6 +1,6 @@
 //! A table's buckets while threads share them through a `&`. By value or through a `&mut` they are
 //! an owner's `Buckets` again.
-ghost use Rattle.std.specs.Prelude.{◌≡◌, ◌≢◌, ◌^◌, ◌<◌, ◌≤◌, ℕ, Option, IfSome, IsSome};
+ghost use Rattle.std.specs.Prelude.{◌≡◌, ◌≢◌, ◌+◌, ◌^◌, ◌<◌, ◌≤◌, ℕ, Option, IfSome, IsSome};
 ghost use Rattle.thread_local_model.specs.Learnt.{Unknown, Missing, Finds};
 ghost use Rattle.thread_local_model.specs.Owned.{IsOwned, AreOfFirstBuckets};
 ghost use Rattle.thread_local_model.specs.Place.{bucket_of, id_at};
@@ -160,6 +160,23 @@ impl<T> Shared<T> {
         ensures reserved { id_at bucket 0 < self.now.reserved → IsSome result }
     {
         self.bucket(bucket).load()
+    }
+
+    /// Whether one of the eight buckets from `first` on stands. Each of their pointers is loaded once, so
+    /// a bucket that is installed meanwhile may be missed.
+    #[inline]
+    pub(crate) fn any_stands(&self, first: usize) -> bool
+        requires { first + 8 ≤ 63 }
+    {
+        let low = self.load(first).is_none()
+            & self.load(first + 1).is_none()
+            & self.load(first + 2).is_none()
+            & self.load(first + 3).is_none();
+        let high = self.load(first + 4).is_none()
+            & self.load(first + 5).is_none()
+            & self.load(first + 6).is_none()
+            & self.load(first + 7).is_none();
+        !(low & high)
     }
 
     /// Claims the slot of a held id, for as long as the buckets are borrowed: one atomic load of

@@ -1,5 +1,6 @@
 //! What a test does with one id of a table.
 ghost use Rattle.std.specs.Prelude.{◌≡◌, ◌-◌, ◌^◌, ◌<◌};
+ghost use Rattle.thread_local_model.specs.Bits.{is_set};
 
 use std::alloc::Global;
 use thread_local_bucket_pointers::{Block, flag_word_at};
@@ -77,13 +78,26 @@ pub fn first_three(buckets: Buckets<u32>) -> [Option<u32>; 3] {
     [values.next(), values.next(), values.next()]
 }
 
+/// Whether a bit of a word is set.
+pub fn has_bit(word: u64, bit: usize) -> bool
+    requires { bit < 64 }
+    ensures { result ≡ is_set word bit }
+{
+    word >> bit & 1 == 1
+}
+
 /// What a walker finds at an id.
 pub fn look(shared: &Shared<u32>, id: usize) -> Option<u32>
     requires { id < 2 ^ 63 - 1 }
 {
     let thread = Thread::new(id);
     let row = shared.load(thread.bucket)?;
-    let flag_word = flag_word_at::<u32>(thread.bucket_size(), thread.index / 64);
-    let (_, value) = row.get(thread.index, flag_word)?;
+    let chunk = thread.index / 64;
+    let seen = row.look(chunk, flag_word_at::<u32>(thread.bucket_size(), chunk));
+    let bit = thread.index % 64;
+    if !has_bit(seen.flags(), bit) {
+        return None;
+    }
+    let (_, value) = seen.give(bit);
     Some(*value)
 }

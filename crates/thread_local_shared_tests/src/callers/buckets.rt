@@ -2,6 +2,7 @@
 ghost use Rattle.std.specs.Prelude.{◌≡◌, ◌^◌, ◌<◌, ◌≤◌};
 ghost use Rattle.thread_local_judged.specs.Judged.{Judged};
 
+use crate::steps::has_bit;
 use std::cell::{Cell, RefCell};
 use thread_local_bucket_pointers::flag_word_at;
 use thread_local_buckets::Buckets;
@@ -92,17 +93,20 @@ fn anew<T>(shared: Shared<T>, own: &Right) -> Shared<T>
     Shared::new(shared.into_buckets(), own)
 }
 
-fn is_published(row: &Row<'_, String>, bucket: usize, index: usize) -> bool
+fn published<'a>(row: &Row<'a, String>, bucket: usize, index: usize) -> Option<&'a String>
     requires bucket { row.now.of.bucket ≡ bucket }
     requires in_table { bucket < 63 }
     requires in_bucket { index < 2 ^ bucket }
 {
     judge_sync::<String>();
-    row.get(
-        index,
-        flag_word_at::<String>(bucket_size(bucket), index / 64),
-    )
-    .is_some()
+    let chunk = index / 64;
+    let seen = row.look(chunk, flag_word_at::<String>(bucket_size(bucket), chunk));
+    let bit = index % 64;
+    if !has_bit(seen.flags(), bit) {
+        return None;
+    }
+    let (_, text) = seen.give(bit);
+    Some(text)
 }
 
 fn bucket_crosses(bucket: &SharedBucket<RefCell<String>>) {

@@ -5,7 +5,7 @@ use Rattle.thread_local_shared_buckets.proofs.iter.Iter.last_id.Goals as goal
 
 pub overflow_add-result : goal.overflow_add-result
 overflow_add-result g c =
-    let raw = c.self.inside.raw in
-    let size = c.self.invariant.0.size in
+    let raw = c.self.inside.walk.raw in
+    let size = c.self.invariant.walk.size in
     let some = pow_pos raw.bucket in
-    omega (arith, bounded (resting raw) c.self.invariant.0.fits)
+    omega (arith, bounded (resting raw) c.self.invariant.walk.fits)
