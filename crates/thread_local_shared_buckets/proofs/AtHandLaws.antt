@@ -4,7 +4,6 @@ use Rattle.std.proofs.Common.{Option, None, Some, IfSome, option_map, refl, ap, 
 use Rattle.std.proofs.lemmas.Bool.{cond_both, eqb-true, eqb-false, eq-eqb, ne_eqb, cases_lt}
 use Rattle.thread_local_model.specs.Bits.{is_set, IsLowestSet, IsWordBut}
 use Rattle.thread_local_model.specs.Place.{id_at}
-use Rattle.thread_local_model.specs.Cursor.{cursor_id}
 use Rattle.thread_local_model.proofs.CursorLaws.{fresh_cursor-fits}
 use Rattle.thread_local_model.proofs.Word.{is_set-zero, lowest_set}
 use Rattle.std.specs.Int.{w64, trailing_zeros}

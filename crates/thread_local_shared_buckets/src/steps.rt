@@ -1,12 +1,9 @@
 //! One call of a walk: it gives the value of the lowest flag at hand. Where no flag is at hand, it
 //! loads the next words of flags first, until one has a flag that is set.
-ghost use Rattle.std.specs.Prelude.{◌≡◌, ℕ, suc, ◌+◌, ◌-◌, ◌*◌, ◌/◌, ◌%◌, ◌^◌, ◌<◌, ◌≤◌, true, false, Option, None, Some, IfSome, IfNone, MatchOption};
+ghost use Rattle.std.specs.Prelude.{◌≡◌, ℕ, ◌+◌, ◌%◌, ◌^◌, ◌<◌, ◌≤◌, true, false, None, IfSome, IfNone, MatchOption};
 ghost use Rattle.thread_local_judged.specs.Judged.{Shareable};
 ghost use Rattle.thread_local_model.specs.Bits.{is_set, IsLowestSet, IsWordBut};
-ghost use Rattle.thread_local_model.specs.Place.{id_at};
 ghost use Rattle.thread_local_bucket_pointers.specs.Cursor.{next_bucket};
-ghost use Rattle.thread_local_claim.specs.Shared.{BucketView};
-ghost use Rattle.thread_local_shared_buckets.specs.TableView.{bucket_view};
 ghost use Rattle.thread_local_shared_buckets.specs.Steps.{Leads};
 ghost use Rattle.thread_local_shared_buckets.specs.Positions.{resting, lies_in, is_at, in_chunk, OwnIsTold, IsToldAt, YieldsFrom, EndsFrom};
 ghost use Rattle.thread_local_shared_buckets.specs.AtHand.{IsSetIn, IsGivenBy, IsRowOf, IsReadOf, IsWalk};
@@ -23,17 +20,6 @@ pub(crate) struct Own<'a, T> {
     pub(crate) thread: Thread,
     pub(crate) value: &'a T,
     pub(crate) witness: Witness<T>,
-}
-
-/// Whether the own value lies in a bucket.
-#[inline]
-fn is_in<T>(own: &Option<Own<'_, T>>, bucket: usize) -> bool
-    ensures { result ≡ lies_in own.now bucket }
-{
-    match own {
-        Some(own) => own.thread.bucket == bucket,
-        None => false,
-    }
 }
 
 /// Whether the own value lies in this slot of a bucket.

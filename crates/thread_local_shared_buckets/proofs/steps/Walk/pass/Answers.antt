@@ -1,4 +1,4 @@
-use Rattle.std.proofs.Common.{◌^◌, arith}
+use Rattle.std.proofs.Common.{arith}
 use Rattle.std.specs.Int.{w64, trailing_zeros}
 use Rattle.thread_local_shared_buckets.proofs.AtHandLaws.{near, lowest_of, set_lowest, after_pass, Passed, passed}
 use Rattle.thread_local_shared_buckets.proofs.steps.Walk.pass.Goals as goal

@@ -1,5 +1,5 @@
 -- The walk has passed so many buckets.
-use Rattle.std.proofs.Common.{◌≡◌, ◌+◌, ◌≤◌}
+use Rattle.std.proofs.Common.{◌≡◌, ◌+◌}
 use Rattle.thread_local_shared_buckets.specs.Positions.{resting}
 use Rattle.thread_local_shared_buckets.specs.AtHand.{IsWalk}
 use Rattle.thread_local_shared_buckets.specs.Steps.{Leads}

@@ -1,4 +1,4 @@
-use Rattle.std.proofs.Common.{◌≡◌, ℕ, ap, ◌∙◌, subst, arith}
+use Rattle.std.proofs.Common.{◌≡◌, ap, ◌∙◌, subst, arith}
 use Rattle.thread_local_bucket_pointers.specs.declared.cursor.RawIter.{RawIter}
 use Rattle.thread_local_shared_buckets.specs.Positions.{resting}
 use Rattle.thread_local_shared_buckets.specs.Steps.{Leads}
