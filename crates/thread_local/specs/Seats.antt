@@ -97,7 +97,8 @@ pub record IsAnswered {V : Type 0} (E : Type 0) (makes : V → Type 0) (old : Lo
   pub answered : answer {E = E} (knows old) (GetOr (Ok value) false) ≡ Answered value
   pub made : old.value ≡ None → makes value
 
--- such a call's answer, and the view that the call leaves
+-- such a call's answer, and the view that the call leaves, in which the slot holds this value; it may
+-- have held it before
 pub record Fills {V : Type 0} (E : Type 0) (makes : V → Type 0) (old new : LocalView V) (value : V) : Type 0 where
   pub says : Says {V = V} {E = E} (knows old) (GetOr (Ok value) false) (Answered value) (knows new)
   pub made : old.value ≡ None → makes value

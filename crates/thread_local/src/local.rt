@@ -12,7 +12,7 @@ use std::sync::Wait;
 use thread_local_ids::Token;
 use thread_local_shared_buckets::{Iter, Tokens};
 
-// `get_or` and `get_or_default` stand here.
+// `get_or` and `get_or_default` stand in local/lends.rt.
 mod lends;
 
 /// What one thread has in a table: an id, its own until the drop, and what is known of the id's
@@ -87,8 +87,9 @@ impl<'a, T, R: Wait> Local<'a, T, R> {
     }
 
     /// What the slot was published with, as a token, where it holds a value: whoever has the token
-    /// reads that value through the table, for as long as the sharing lasts, and the owner finds it
-    /// when the sharing ends. It reads what the `Local` knows already, without an atomic operation.
+    /// reads that value through the table, for as long as the sharing lasts, and an owner finds it who
+    /// ends the sharing by `into_buckets_and_book`. Without a sharing it answers a token that is good for
+    /// nothing. It reads what the `Local` knows already, without an atomic operation.
     pub fn token(&self) -> Option<Token<T>>
         ensures { result ≡ token_of self.now }
     {
@@ -96,7 +97,8 @@ impl<'a, T, R: Wait> Local<'a, T, R> {
     }
 
     /// Shows that the slot holds what a token of this id and this sharing says, whichever `Local`
-    /// had the id then. At run time it does nothing.
+    /// had the id then. At run time it does nothing. It takes `&mut`, since only who has a claim alone
+    /// knows what proofs keep of it.
     pub fn agrees(&mut self, token: &Token<T>)
         requires id { self.old.id ≡ token.now.id }
         requires sharing { self.old.sharing ≡ token.now.sharing }

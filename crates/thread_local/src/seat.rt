@@ -19,7 +19,7 @@ use thread_local_ids::{HeldId, Right, Token};
 use thread_local_shared_buckets::Iter;
 use thread_local_thread_id::Thread;
 
-// `get_or` and `get_or_default` stand here.
+// `get_or` and `get_or_default` stand in seat/lends.rt.
 mod lends;
 
 /// Why `get_or_try` and `try_fill` leave the slot empty.

@@ -24,7 +24,7 @@ use thread_local_model::walk::walk_lists_the_map;
 use thread_local_shared_buckets::{Entries, Iter, Shared, Tokens};
 use thread_local_thread_id::LocalError;
 
-// `buckets_mut`, `drain` and `get_mut` stand here.
+// `buckets_mut`, `drain` and `get_mut` stand in table/lends.rt.
 mod lends;
 
 /// One object that keeps a separate value for each thread that uses it.
@@ -36,8 +36,8 @@ mod lends;
 /// can be sent to another thread. One can be made of every `T: Send` that is judged, as `new` says.
 ///
 /// Only `local` and the drop of a `Local` take the table's lock, so no other call here waits; only
-/// `local` and `with_capacity` take memory. But `clear` drops values, as the drop of a table or of a
-/// walk by value does, and a value's drop may wait and may take memory: a value may hold a `Local`
+/// `local` and `with_capacity` take memory. But `clear` drops values, as the drop of a table, of a
+/// walk by value or of a `Drain` does, and a value's drop may wait and may take memory: a value may hold a `Local`
 /// of another table.
 ///
 /// A bucket of 2^58 bytes or more, and values aligned above 16, are refused as if out of memory, here
@@ -143,8 +143,9 @@ impl<T> ThreadLocal<T> {
         Ok(ThreadLocal::of(alloc, buckets, ids, right))
     }
 
-    /// A `Local` with the least id that isn't held. It takes the table's lock, so it may wait, and
-    /// looks once whether the id's slot holds a value, so that `get` needs no look.
+    /// A `Local` with the least id that isn't held; no clause says which id that is. It takes the
+    /// table's lock, so it may wait, and looks once whether the id's slot holds a value, so that `get`
+    /// needs no look.
     ///
     /// It asks for memory only where as many ids are held as ever were at once and there is no room
     /// for one more, and not for the first 64: `Memory` means out of memory. `Exhausted` means that
@@ -247,7 +248,7 @@ impl<T> ThreadLocal<T> {
         self.cleared();
     }
 
-    /// `clear`, with a name for the sharing that isn't a given one.
+    /// `clear`, with a name for the sharing other than `past`.
     fn cleared(&mut self)
     where
         T: Drop,
@@ -276,7 +277,8 @@ impl<T> ThreadLocal<T> {
 
 impl<T: Sync> ThreadLocal<T> {
     /// The values by ascending id, each lent as `&`, while threads may publish more. A value
-    /// published behind the walk isn't given, and one published ahead of it may be. Rust's crate
+    /// that is published at an id that the walk has passed isn't given, and one published ahead of it may
+    /// be. Rust's crate
     /// promises no order.
     pub fn iter(&self) -> Iter<'_, T>
         ensures { result ≡ fresh self.now.sharing None true }

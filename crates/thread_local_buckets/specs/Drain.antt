@@ -26,7 +26,8 @@ module _ {X : Type 0} where
   abbrev pub drain_lender : Drain X → GName
   drain_lender d = d.buckets.ghost_name
 
-  -- the walk is before the values that its count says, as `drain` and `next` leave it
+  -- the cursor is right: it has counted exactly the values that are still in the buckets. `drain` and
+  -- `next` leave it so
   abbrev pub DrainCanStep : Drain X → Type 0
   DrainCanStep d = IsOwnerWalk d.buckets.now.contents d.cursor
 
@@ -42,6 +43,7 @@ module _ {X : Type 0} where
   abbrev pub DrainSteps : Drain X → Option X → Drain X → Type 0
   DrainSteps old item new = YieldsFirst drain_rest old item new × DrainKeeps old new × DrainCanStep new
 
-  -- each state that calls of `next` lead to keeps what the first keeps
+  -- after any number of calls of `next` it borrows the same buckets, and leaves them the same once
+  -- dropped
   abbrev pub DrainKeepsAlong : Drain X → Type 0
   DrainKeepsAlong first = (items : List X) (later : Drain X) → Yields DrainSteps first items later → DrainKeeps first later

@@ -27,7 +27,7 @@ mod walking;
 pub enum CapacityError {
     /// The capacity is 2^63 or more.
     TooLarge,
-    /// Out of memory: for a bucket or, where a whole table is made, for the return of its ids.
+    /// Out of memory: for a bucket or, where a whole table is made, for the bits of its ids.
     Memory(AllocError),
 }
 

@@ -14,11 +14,13 @@ use thread_local_bucket_pointers::OwnerCursor;
 /// The values of a table's buckets, by ascending id, each moved out. The buckets stay.
 ///
 /// No call takes a lock or memory. Dropping it drops the values still to come, whose drop may wait.
-/// The Rust crate has no such walk.
+/// `next` requires that the walk comes of `drain` (`DrainCanStep`). The Rust crate has no such walk.
 pub struct Drain<'a, T> {
     pub(crate) buckets: &'a mut Buckets<T>,
     pub(crate) cursor: OwnerCursor,
+    // The cursor has counted fewer values than there are ids.
     pub(crate) ghost few: { values_left cursor < 2 ^ 63 },
+    // Where no value is left to give, the buckets have none.
     pub(crate) ghost ends: { values_left cursor ≡ 0 → emptied buckets.now.contents ≡ buckets.now.contents },
 }
 

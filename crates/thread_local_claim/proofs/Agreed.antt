@@ -20,7 +20,7 @@ use Rattle.thread_local_bucket_pointers.specs.Slots.{value_offset}
 use Rattle.thread_local_ids.specs.Told.{tells, untold_in}
 use Rattle.thread_local_ids.proofs.ToldElements.{tells_alike, telling_alike}
 use Rattle.thread_local_model.specs.Learnt.{Learnt, Unknown, Missing, Standing, Vacant, Holding}
-use Rattle.thread_local_claim.specs.Shared.{name_at, BucketView, Turn, StandingBlock, Who, stays, had, len}
+use Rattle.thread_local_claim.specs.Shared.{name_at, BucketView, Turn, StandingBlock, Who, stays, lies_with_slot, len}
 use Rattle.thread_local_claim.specs.Shared.{Sized, block_code, bucket_invariant, kept, loaded, value_code}
 use Rattle.thread_local_claim.specs.Shared as slots
 use Rattle.thread_local_claim.proofs.Inside.{Next, quietly}
@@ -96,7 +96,7 @@ module _ {M : Type 1} {𝓤 : Ura M} (𝓛 : Logic 𝓤) (R : RattleType) (x : R
         let η : GName = name_at s.names i in
         let bit : ℕ = i % 64 in
         let S : Option R.Denot → Fml = stays R t b s.block_life d.sharing k e η in
-        let D : Option R.Denot → Who → Fml = had R t b s.block_life d.sharing d.table k e η in
+        let D : Option R.Denot → Who → Fml = lies_with_slot R t b s.block_life d.sharing d.table k e η in
         let Flags : ℕ → Fml = inside.Flags 𝓛 R d t wb wo s i k e b l at_k refl refl in
         let Slot : _ → Fml = inside.Slot 𝓛 R d t wb wo s i k e b l at_k refl refl in
         let Back : (n : ℕ) → Next n bit → Pr =

@@ -12,13 +12,13 @@ use mir.Syntax.{Ty}
 use Rattle.std.proofs.Crossing.{frees}
 use Rattle.thread_local_ids.proofs.RightElements.{right_keyless}
 use Rattle.thread_local_judged.specs.Judged.{Judged}
-use Rattle.thread_local_ids.proofs.ToldElements.{untold_keyless, tells_keyless, telling_keyless, all_telling_keyless}
+use Rattle.thread_local_ids.proofs.ToldElements.{untold_keyless, tells_keyless, told_or_untold_keyless, all_telling_keyless}
 use Rattle.thread_local_model.specs.Bits.{is_set_in}
 use Rattle.thread_local_bucket_pointers.specs.Slots.{heap_token, chunks, each, flag_room, flags_at, slot, empty_slots}
 use Rattle.thread_local_bucket_pointers.specs.Slots.{value_offset, content_at, back, block_ty}
 use Rattle.thread_local_claim.specs.Shared.{BucketView, Turn, StandingBlock, Who, free, claimed, early}
-use Rattle.thread_local_claim.specs.Shared.{tracked_value, pinned_and_told, by, holds, stays, had, shared_slot}
-use Rattle.thread_local_claim.specs.Shared.{numbered_slot, waiting, all_unborn, rests, slots_rest, block_rests}
+use Rattle.thread_local_claim.specs.Shared.{tracked_value, pinned_and_told, by, holds, stays, lies_with_slot, shared_slot}
+use Rattle.thread_local_claim.specs.Shared.{numbered_slot, slots_side, all_unborn, rests, slots_rest, block_rests}
 use Rattle.thread_local_claim.specs.Shared.{block_stands, beside_pointer, kept, loaded, row_owns, at_rest, len}
 use Rattle.thread_local_claim.specs.Shared.{first, if_set, seen_value, seen_slot, seen_owns}
 
@@ -73,15 +73,15 @@ module _ (R : RattleType) (s : IsSend R) where
       stays_keyless k e η None = (right_keyless t.filled k, untold_keyless sharing k)
       stays_keyless k e η (Some x) = (right_keyless t.vacant k, (published_keyless k η x, λ j. j x b e (ν ∷ t.life)))
 
-      pub had_keyless : (table k e : ℕ) (η : GName) (v : Option R.Denot) (w : Who) → Keyless (had R t b ν sharing table k e η v w)
-      had_keyless table k e η v free = (right_keyless t.pass k, holds_keyless k e η v)
-      had_keyless table k e η v claimed = (right_keyless table k, right_keyless t.pass k)
-      had_keyless table k e η v early = (right_keyless table k, holds_keyless k e η None)
+      pub lies_with_slot_keyless : (table k e : ℕ) (η : GName) (v : Option R.Denot) (w : Who) → Keyless (lies_with_slot R t b ν sharing table k e η v w)
+      lies_with_slot_keyless table k e η v free = (right_keyless t.pass k, holds_keyless k e η v)
+      lies_with_slot_keyless table k e η v claimed = (right_keyless table k, right_keyless t.pass k)
+      lies_with_slot_keyless table k e η v early = (right_keyless table k, holds_keyless k e η None)
 
       slot_keyless : (table : ℕ) (set : Bool) (k e : ℕ) (η : GName) → Keyless (shared_slot R t b ν sharing table set k e η)
       slot_keyless table set k e η = (
         value_keyless b e η,
-        λ z. ((λ _. tt), (stays_keyless k e η z.0, had_keyless table k e η z.0 z.1)),
+        λ z. ((λ _. tt), (stays_keyless k e η z.0, lies_with_slot_keyless table k e η z.0 z.1)),
       )
 
       slots_keyless : (table k o : ℕ) (names ns : List ℕ) → Keyless (each (numbered_slot R t b ν sharing table k o ns) names 0)
@@ -89,9 +89,9 @@ module _ (R : RattleType) (s : IsSend R) where
           each_keyless (numbered_slot R t b ν sharing table k o ns) names 0
           (λ η i. slot_keyless table (is_set_in ns i) (i + k) (value_offset R o i) η)
 
-  waiting_keyless : (w : Bool) (table pass k : ℕ) → Keyless (waiting R w table pass k)
-  waiting_keyless true table pass k = right_keyless table k
-  waiting_keyless false table pass k = right_keyless pass k
+  slots_side_keyless : (w : Bool) (table pass k : ℕ) → Keyless (slots_side R w table pass k)
+  slots_side_keyless true table pass k = right_keyless table k
+  slots_side_keyless false table pass k = right_keyless pass k
 
   unborn_keyless : (sharing : Option GName) (table : ℕ) (t : Turn) (n k : ℕ) → Keyless (all_unborn R sharing table t n k)
   unborn_keyless sharing table t zero k = tt
@@ -100,7 +100,7 @@ module _ (R : RattleType) (s : IsSend R) where
       right_keyless t.vacant k,
       (
         (right_keyless t.filled k, untold_keyless sharing k),
-        λ w. waiting_keyless w table t.pass k,
+        λ w. slots_side_keyless w table t.pass k,
       ),
     ),
     unborn_keyless sharing table t n (suc k),
@@ -152,7 +152,7 @@ module _ (R : RattleType) (s : IsSend R) where
   slots_rest_keyless sharing k (suc n) i b o ns = (
     (λ z. (
       (λ _. tt),
-      (telling_keyless R sharing (i + k) z.0, rests_keyless z.1 b (value_offset R o i) z.0),
+      (told_or_untold_keyless R sharing (i + k) z.0, rests_keyless z.1 b (value_offset R o i) z.0),
     )),
     slots_rest_keyless sharing k n (suc i) b o ns,
   )

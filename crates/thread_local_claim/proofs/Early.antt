@@ -16,10 +16,10 @@ use Rattle.thread_local_ids.proofs.RightElements.{right_once}
 use Rattle.thread_local_model.specs.Bits.{is_set}
 use Rattle.thread_local_model.proofs.Word.{same_bit}
 use Rattle.thread_local_bucket_pointers.specs.Slots.{value_offset}
-use Rattle.thread_local_claim.specs.Shared.{name_at, BucketView, Turn, StandingBlock, Who, free, stays, had}
-use Rattle.thread_local_claim.specs.Shared.{unborn, all_unborn, waiting, len, first, Sized, pending, standing}
+use Rattle.thread_local_claim.specs.Shared.{name_at, BucketView, Turn, StandingBlock, Who, free, stays, lies_with_slot}
+use Rattle.thread_local_claim.specs.Shared.{unborn, all_unborn, slots_side, len, first, Sized, pending, standing}
 use Rattle.thread_local_claim.specs.Shared.{beside_pointer, bucket_invariant}
-use Rattle.thread_local_claim.specs.Claims.{waits}
+use Rattle.thread_local_claim.specs.Claims.{claims_side}
 use Rattle.thread_local_ids.specs.Told.{untold_in}
 use Rattle.thread_local_claim.proofs.Inside.{Next, quietly}
 use Rattle.thread_local_claim.proofs.Inside as inside
@@ -159,14 +159,14 @@ module _ {M : Type 1} {𝓤 : Ura M} (𝓛 : Logic 𝓤) (R : RattleType) where
         fpick ! (λ w. by ! (swaps w))
       where
         swaps : (w : Bool)
-            → ⟦ waiting R w d.table t.pass k ⟧ ∗ ⟦ right_owns t.vacant k ⟧ ∗ ⟦ Empty ⟧
+            → ⟦ slots_side R w d.table t.pass k ⟧ ∗ ⟦ right_owns t.vacant k ⟧ ∗ ⟦ Empty ⟧
             ∗ (⟦ Unborn ⟧ -∗ ⟦ I ⟧) ∗ ⟦ Pass ⟧
             ⊢ Swapped
         swaps true =
             qed 𝓛 (‵ Right ∷ ‵ (right_owns t.vacant k) ∷ ‵ Empty ∷ raw (⟦ Unborn ⟧ -∗ ⟦ I ⟧)
             ∷ ‵ Pass ∷ []) ∵
             suffices ! _ (upd_i 𝓤 (⟦ I ⟧ ∗ ⟦ Right ⟧)) $ move ! (4 ∷ []) $
-            fpack ! Bool (λ early. waiting R early d.table t.pass k) false $
+            fpack ! Bool (λ early. slots_side R early d.table t.pass k) false $
             move ! (2 ∷ 3 ∷ 0 ∷ []) $ fjoin3 ! $ move ! (0 ∷ 2 ∷ []) $
             use2 𝓛 (‵ I) (apply∗ 𝓤 ⟦ Unborn ⟧ ⟦ I ⟧) $ done !
         swaps false =
@@ -181,7 +181,7 @@ module _ {M : Type 1} {𝓤 : Ura M} (𝓛 : Logic 𝓤) (R : RattleType) where
         let η : GName = name_at s.names i in
         let bit : ℕ = i % 64 in
         let S : Option R.Denot → Fml = stays R t b s.block_life d.sharing k e η in
-        let D : Option R.Denot → Who → Fml = had R t b s.block_life d.sharing d.table k e η in
+        let D : Option R.Denot → Who → Fml = lies_with_slot R t b s.block_life d.sharing d.table k e η in
         let Flags : ℕ → Fml = inside.Flags 𝓛 R d t wb wo s i k e b l at_k refl refl in
         let Slot : Bool → Fml = inside.Slot 𝓛 R d t wb wo s i k e b l at_k refl refl in
         let Back : (n : ℕ) → Next n bit → Pr =
@@ -212,7 +212,7 @@ module _ {M : Type 1} {𝓤 : Ura M} (𝓛 : Logic 𝓤) (R : RattleType) where
 
     -- a claim that finds null lays its right down and takes the pass, unless it has the pass
     -- already
-    pub comes : (looked : Bool) → ⟦ All ⟧ ∗ ⟦ waits looked d.table t.pass k ⟧ ⊢ ⟦ All ⟧ ∗ ⟦ Pass ⟧
+    pub comes : (looked : Bool) → ⟦ All ⟧ ∗ ⟦ claims_side looked d.table t.pass k ⟧ ⊢ ⟦ All ⟧ ∗ ⟦ Pass ⟧
     comes true = id⊢ 𝓤 _
     comes false =
         qed 𝓛 (‵ All ∷ ‵ Right ∷ []) ∵
@@ -221,13 +221,13 @@ module _ {M : Type 1} {𝓤 : Ura M} (𝓛 : Logic 𝓤) (R : RattleType) where
         split ! $ fsplit3 ! $ move ! (2 ∷ []) $ fpick ! (λ w. by ! (swaps w))
       where
         swaps : (w : Bool)
-            → ⟦ waiting R w d.table t.pass k ⟧ ∗ ⟦ right_owns t.vacant k ⟧ ∗ ⟦ Empty ⟧
+            → ⟦ slots_side R w d.table t.pass k ⟧ ∗ ⟦ right_owns t.vacant k ⟧ ∗ ⟦ Empty ⟧
             ∗ (⟦ Unborn ⟧ -∗ ⟦ All ⟧) ∗ ⟦ Right ⟧
             ⊢ ⟦ All ⟧ ∗ ⟦ Pass ⟧
         swaps false =
             qed 𝓛 (‵ Pass ∷ ‵ (right_owns t.vacant k) ∷ ‵ Empty ∷ raw (⟦ Unborn ⟧ -∗ ⟦ All ⟧)
             ∷ ‵ Right ∷ []) ∵
-            move ! (4 ∷ []) $ fpack ! Bool (λ early. waiting R early d.table t.pass k) true $
+            move ! (4 ∷ []) $ fpack ! Bool (λ early. slots_side R early d.table t.pass k) true $
             move ! (2 ∷ 3 ∷ 0 ∷ []) $ fjoin3 ! $
             move ! (0 ∷ 2 ∷ []) $ use2 𝓛 (‵ All) (apply∗ 𝓤 ⟦ Unborn ⟧ ⟦ All ⟧) $ done !
         swaps true =

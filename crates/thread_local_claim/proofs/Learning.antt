@@ -13,8 +13,8 @@ use denote.RattleType.{RattleType}
 use Rattle.thread_local_model.specs.Learnt.{Learnt, Unknown, Missing, Standing, Vacant, Holding, learnt_by_look, Finds}
 use Rattle.thread_local_model.specs.Fact.{fact}
 use Rattle.thread_local_claim.specs.Shared.{BucketView, Turn, StandingBlock}
-use Rattle.thread_local_claim.specs.Known.{HasLooked, IsMissing, has_looked, state_by, value_held, found_as}
-use Rattle.thread_local_claim.specs.Claims.{ClaimFields, has_slot, has, waits, IsKept}
+use Rattle.thread_local_claim.specs.Known.{HasLooked, MayLook, looked_in_vain, state_by, value_held, found_as}
+use Rattle.thread_local_claim.specs.Claims.{ClaimFields, has_slot, has, claims_side, IsKept}
 
 pub known_as : {X : Type 0} (v : Option X) → HasLooked (found_as v)
 known_as None = tt
@@ -26,7 +26,7 @@ not_missing (Some x) e = cc
 
 -- what it is to find in the model: a load of null, or a load of a pointer to a block and then a
 -- look at the slot
-pub finds_nothing : {X : Type 0} (l : Learnt X) → IsMissing l → Finds l Missing
+pub finds_nothing : {X : Type 0} (l : Learnt X) → MayLook l → Finds l Missing
 finds_nothing Unknown h = record { stands = false; shown = None; learnt = refl }
 finds_nothing Missing h = record { stands = false; shown = None; learnt = refl }
 finds_nothing Standing h = absurd h
@@ -37,7 +37,7 @@ looked_at : {X : Type 0} (v : Option X) → learnt_by_look Standing v ≡ Some (
 looked_at None = refl
 looked_at (Some x) = refl
 
-pub finds_slot : {X : Type 0} (l : Learnt X) → IsMissing l → (v : Option X) → Finds l (found_as v)
+pub finds_slot : {X : Type 0} (l : Learnt X) → MayLook l → (v : Option X) → Finds l (found_as v)
 finds_slot Unknown h v = record { stands = true; shown = v; learnt = looked_at v }
 finds_slot Missing h v = record { stands = true; shown = v; learnt = looked_at v }
 finds_slot Standing h v = absurd h
@@ -71,9 +71,9 @@ state_by-flag word bit = ap (λ n. 1 + n) (shr_and_one word bit) ∙ ⊎_elim
 module _ {M : Type 1} {𝓤 : Ura M} (𝓛 : Logic 𝓤) (R : RattleType) (d : BucketView) (t : Turn) (β : Lft) (c : ClaimFields) where
   -- before a claim has found its bucket, it points to the bucket's pointer, and has its right or
   -- the pass
-  pub unfound : (l : Learnt R.Denot) → IsMissing l
+  pub unfound : (l : Learnt R.Denot) → MayLook l
       → ent 𝓤 (sem 𝓛 (has R d t β c l))
-      (sem 𝓛 (fsep (fact (c.at ≡ c.bucket)) (waits (has_looked l) d.table t.pass c.id)))
+      (sem 𝓛 (fsep (fact (c.at ≡ c.bucket)) (claims_side (looked_in_vain l) d.table t.pass c.id)))
   unfound Unknown h = id⊢ 𝓤 _
   unfound Missing h = id⊢ 𝓤 _
   unfound Standing h = absurd h

@@ -35,7 +35,7 @@ use Rattle.thread_local_claim.specs.Shared.{block_rests, Sized, len, first, all_
 use Rattle.thread_local_claim.specs.Shared.{beside_pointer, bucket_invariant, kept, at_rest, bucket_shares}
 use Rattle.thread_local_claim.specs.contracts.shared_bucket.SharedBucket as C
 use Rattle.thread_local_bucket_pointers.specs.Slots.{empty_slots}
-use Rattle.thread_local_ids.specs.Told.{all_telling}
+use Rattle.thread_local_ids.specs.Told.{all_told_or_untold}
 use Rattle.thread_local_claim.proofs.Tokens.{tokens_from, tokens_new}
 use Rattle.thread_local_claim.proofs.Rested.{all_tokens, all_wait, none_born, wakes_block, rests_block}
 
@@ -78,7 +78,7 @@ module _ {M : Type 1} {𝓤 : Ura M} (𝓛 : Logic 𝓤) where
     rests t null_ptr =
         qed 𝓛 (‵ (fdead t.life) ∷ ‵ (beside_pointer R d t null_ptr) ∷ []) ∵ move ! (1 ∷ []) $
         fsplit3 ! $ keep ! (0 ∷ 2 ∷ []) $ move ! (1 ∷ []) $
-        use1 𝓛 (‵ (all_telling R d.sharing (first R d) (empty_slots (len R d))))
+        use1 𝓛 (‵ (all_told_or_untold R d.sharing (first R d) (empty_slots (len R d))))
         (none_born 𝓛 t R d.sharing d.table (len R d) (first R d)) $
         move ! (1 ∷ 0 ∷ []) $ fjoin ! $ done !
     rests t (block_ptr b o) =

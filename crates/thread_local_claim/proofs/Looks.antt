@@ -19,7 +19,7 @@ use Rattle.thread_local_claim.specs.Shared.{name_at, BucketView, Turn, StandingB
 use Rattle.thread_local_claim.specs.Shared.{shared_value, opened, first, bucket_invariant}
 use Rattle.thread_local_claim.proofs.Rested.{opens_by}
 use Rattle.thread_local_claim.proofs.SlotSteps.{Stays, Had, Left, moved}
-use Rattle.thread_local_ids.specs.Told.{tells, telling}
+use Rattle.thread_local_ids.specs.Told.{tells, told_or_untold}
 use Rattle.thread_local_ids.proofs.ToldElements.{tells_alike, telling_alike}
 
 same_value : {X : Type 0} (x y : X) → Some x ≡ Some y → x ≡ y
@@ -61,7 +61,7 @@ module _ {M : Type 1} {𝓤 : Ura M} (𝓛 : Logic 𝓤) (R : RattleType) (L : L
 
     found : (v : Option R.Denot) (w : Who) → ⟦ Stay v ⟧ ∗ ⟦ Have v w ⟧ ∗ ⟦ Told ⟧ ⊢ ex 𝓤 (Found v)
     found None w = qed 𝓛 (‵ (Stay None) ∷ ‵ (Have None w) ∷ ‵ Told ∷ []) ∵ fsplit ! $ move ! (1 ∷ 3 ∷ []) $
-        use2 𝓛 (given (None ≡ Some x) (‵ (telling R d.sharing k None) ⊛ ‵ Told))
+        use2 𝓛 (given (None ≡ Some x) (‵ (told_or_untold R d.sharing k None) ⊛ ‵ Told))
         (telling_alike 𝓛 R d.sharing named k None x) $
         learn ! (λ none. absurd (cc))
     found (Some y) w =

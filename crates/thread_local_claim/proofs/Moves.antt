@@ -14,7 +14,7 @@ use Rattle.std.specs.Coded.{coded_option}
 use Rattle.thread_local_ids.specs.Rights.{right_owns}
 use Rattle.thread_local_ids.proofs.RightElements.{right_once}
 use Rattle.thread_local_claim.specs.Shared.{Turn, Who, free, claimed, early, value_code, pinned}
-use Rattle.thread_local_claim.specs.Shared.{pinned_and_told, opened, holds, stays, had}
+use Rattle.thread_local_claim.specs.Shared.{pinned_and_told, opened, holds, stays, lies_with_slot}
 use Rattle.thread_local_ids.specs.Told.{tells}
 use Rattle.thread_local_ids.proofs.ToldElements.{told_dup, tells_it}
 
@@ -54,7 +54,7 @@ module _ {M : Type 1} {𝓤 : Ura M} (𝓛 : Logic 𝓤) (R : RattleType) (t : T
   Stays v = stays R t b ν sharing k e η v
 
   abbrev pub Had : Option R.Denot → Who → Fml
-  Had v w = had R t b ν sharing table k e η v w
+  Had v w = lies_with_slot R t b ν sharing table k e η v w
 
   abbrev pub Right : Fml
   Right = right_owns table k

@@ -33,9 +33,9 @@ use Rattle.thread_local_model.specs.Bits.{is_set_in}
 use Rattle.thread_local_bucket_pointers.specs.Slots.{each, chunks, AreFlags, flags_at, block_ty, value_offset, content_at, slot}
 use Rattle.thread_local_bucket_pointers.specs.Slots.{flags, back, block_owns, empty_slots, slot_value, heap_token, Fits}
 use Rattle.thread_local_claim.specs.Shared.{BucketView, Turn, StandingBlock, Who, free, early, block_code}
-use Rattle.thread_local_claim.specs.Shared.{value_code, tracked_value, age, holds, had, shared_slot_as}
+use Rattle.thread_local_claim.specs.Shared.{value_code, tracked_value, age, holds, lies_with_slot, shared_slot_as}
 use Rattle.thread_local_claim.specs.Shared.{numbered_slot, AreFlagWords, slots_under, slots_stand, block_stands}
-use Rattle.thread_local_claim.specs.Shared.{waiting, all_unborn, Sized, len, first, standing, beside_pointer}
+use Rattle.thread_local_claim.specs.Shared.{slots_side, all_unborn, Sized, len, first, standing, beside_pointer}
 use Rattle.thread_local_claim.specs.Shared.{bucket_invariant}
 use Rattle.thread_local_ids.specs.Told.{untold_in}
 use Rattle.thread_local_model.proofs.Pointers.{Compared, opened_to_compare, alike_null}
@@ -140,8 +140,8 @@ module _ {M : Type 1} {𝓤 : Ura M} (𝓛 : Logic 𝓤) (R : RattleType) (t : T
           await ! tt $ move ! (1 ∷ 0 ∷ []) $ fjoin ! $ now ! $ done !
 
       waited : (sharing : Option GName) (table k e : ℕ) (η : GName) (w : Bool)
-          → ⟦ waiting R w table t.pass k ⟧ ∗ ⟦ holds R t b ν sharing k e η None ⟧
-          ⊢ ⟦ had R t b ν sharing table k e η None (who w) ⟧
+          → ⟦ slots_side R w table t.pass k ⟧ ∗ ⟦ holds R t b ν sharing k e η None ⟧
+          ⊢ ⟦ lies_with_slot R t b ν sharing table k e η None (who w) ⟧
       waited sharing table k e η true =
           qed 𝓛 (‵ (right_owns table k) ∷ ‵ (holds R t b ν sharing k e η None) ∷ []) ∵ fjoin ! $
           done !
@@ -156,19 +156,19 @@ module _ {M : Type 1} {𝓤 : Ura M} (𝓛 : Logic 𝓤) (R : RattleType) (t : T
 
         born_one : (i : ℕ) (η : GName) (w : Bool)
             → ⟦ right_owns t.vacant (i + k) ⟧ ∗ ⟦ Unborn (i + k) ⟧
-            ∗ ⟦ waiting R w table t.pass (i + k) ⟧ ∗ ⟦ bare_slot η i ⟧
+            ∗ ⟦ slots_side R w table t.pass (i + k) ⟧ ∗ ⟦ bare_slot η i ⟧
             ⊢ ⟦ numbered_slot R t b ν sharing table k o ns η i ⟧
         born_one i η w =
             let j : ℕ = i + k in
             let e : ℕ = value_offset R o i in
             let set : Bool = is_set_in ns i in
             let v : Option R.Denot = None in
-            qed 𝓛 (‵ (right_owns t.vacant j) ∷ ‵ (Unborn j) ∷ ‵ (waiting R w table t.pass j)
+            qed 𝓛 (‵ (right_owns t.vacant j) ∷ ‵ (Unborn j) ∷ ‵ (slots_side R w table t.pass j)
             ∷ ‵ (bare e η) ∷ []) ∵
             move ! (3 ∷ []) $ fsplit3 ! $
             -- [the way to its end; its name; the borrow; vacant; filled; what waits]
             move ! (3 ∷ 1 ∷ 2 ∷ []) $ fjoin3 ! $ move ! (3 ∷ 0 ∷ []) $
-            use2 𝓛 (‵ (had R t b ν sharing table j e η None (who w)))
+            use2 𝓛 (‵ (lies_with_slot R t b ν sharing table j e η None (who w)))
             (waited sharing table j e η w) $
             move ! (2 ∷ 0 ∷ []) $ fjoin ! $
             nothing ! $ fpack ! (set ≡ is_some v) (λ _. ftrue) (clear i) $ fjoin ! $

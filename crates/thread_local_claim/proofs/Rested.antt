@@ -29,10 +29,10 @@ use Rattle.thread_local_judged.specs.Judged.{Shareable, Judged}
 use Rattle.thread_local_model.specs.Bits.{is_set_in}
 use Rattle.thread_local_bucket_pointers.specs.Slots.{value_offset, content_at, each, back, empty_slots}
 use Rattle.thread_local_claim.specs.Shared.{Turn, Who, free, value_code, pinned, tracked_value, age}
-use Rattle.thread_local_claim.specs.Shared.{shared_value, opened, by as lent_by, stays, had, shared_slot_as}
-use Rattle.thread_local_claim.specs.Shared.{shared_slot, numbered_slot, slots_under, waiting, all_unborn, due}
+use Rattle.thread_local_claim.specs.Shared.{shared_value, opened, by as lent_by, stays, lies_with_slot, shared_slot_as}
+use Rattle.thread_local_claim.specs.Shared.{shared_slot, numbered_slot, slots_under, slots_side, all_unborn, due}
 use Rattle.thread_local_claim.specs.Shared.{rests, slot_rests_as, slot_rests, slots_rest, block_rests}
-use Rattle.thread_local_ids.specs.Told.{untold_in, tells, telling, all_telling}
+use Rattle.thread_local_ids.specs.Told.{untold_in, tells, told_or_untold, all_told_or_untold}
 use Rattle.thread_local_ids.proofs.ToldElements.{told_dup}
 use Rattle.thread_local_claim.proofs.Tokens.{tokens_from, token_off}
 
@@ -120,26 +120,26 @@ module _ {M : Type 1} {𝓤 : Ura M} (𝓛 : Logic 𝓤) where
 
     -- the tokens make the slots of a bucket that has no block yet
     pub all_wait : (R : RattleType) (sharing : Option GName) (table n k : ℕ)
-        → ⟦ all_tokens k ⟧ ∗ ⟦ all_telling R sharing k (empty_slots n) ⟧
+        → ⟦ all_tokens k ⟧ ∗ ⟦ all_told_or_untold R sharing k (empty_slots n) ⟧
         ⊢ ⟦ all_unborn R sharing table t n k ⟧
     all_wait R sharing table zero k = qed 𝓛 (‵ (all_tokens k) ∷ ‵ ftrue ∷ []) ∵ drop ! $ done !
     all_wait R sharing table (suc n) k =
-        qed 𝓛 (‵ (all_tokens k) ∷ ‵ (all_telling R sharing k (empty_slots (suc n))) ∷ []) ∵
+        qed 𝓛 (‵ (all_tokens k) ∷ ‵ (all_told_or_untold R sharing k (empty_slots (suc n))) ∷ []) ∵
         use1 𝓛 (‵ (tokens k) ⊛ ‵ (all_tokens (suc k))) (tokens_step k) $ split ! $ fsplit3 ! $
         move ! (2 ∷ []) $
-        fpack ! Bool (λ early. waiting R early table t.pass k) false $ move ! (4 ∷ []) $ fsplit ! $
+        fpack ! Bool (λ early. slots_side R early table t.pass k) false $ move ! (4 ∷ []) $ fsplit ! $
         -- [untold; the other slots; what waits; vacant; filled; the other tokens]
         move ! (4 ∷ 0 ∷ []) $ fjoin ! $ move ! (3 ∷ 0 ∷ 2 ∷ []) $ fjoin3 ! $ frame ! $
         move ! (1 ∷ 0 ∷ []) $ by ! (all_wait R sharing table n (suc k))
 
     -- what is told of slots that have no block yet
     pub none_born : (R : RattleType) (sharing : Option GName) (table n k : ℕ)
-        → ⟦ all_unborn R sharing table t n k ⟧ ⊢ ⟦ all_telling R sharing k (empty_slots n) ⟧
+        → ⟦ all_unborn R sharing table t n k ⟧ ⊢ ⟦ all_told_or_untold R sharing k (empty_slots n) ⟧
     none_born R sharing table zero k = id⊢ 𝓤 _
     none_born R sharing table (suc n) k =
         qed 𝓛 (‵ (all_unborn R sharing table t (suc n) k) ∷ []) ∵ fsplit ! $ fsplit3 ! $
         move ! (1 ∷ []) $ fsplit ! $ keep ! (1 ∷ 4 ∷ []) $ move ! (1 ∷ []) $
-        use1 𝓛 (‵ (all_telling R sharing (suc k) (empty_slots n)))
+        use1 𝓛 (‵ (all_told_or_untold R sharing (suc k) (empty_slots n)))
         (none_born R sharing table n (suc k)) $
         move ! (1 ∷ 0 ∷ []) $ fjoin ! $ done !
 
@@ -227,10 +227,10 @@ module _ {M : Type 1} {𝓤 : Ura M} (𝓛 : Logic 𝓤) where
           abbrev pub Born : Option R.Denot → GName → Pr
           Born v η =
               ⟦ flent κ (tracked_value R b e η) ⟧ ∗ ⟦ stays R t b ν sharing k e η v ⟧
-              ∗ ⟦ had R t b ν sharing table k e η v free ⟧ ∗ X
+              ∗ ⟦ lies_with_slot R t b ν sharing table k e η v free ⟧ ∗ X
 
         born : (ts : Toks) → Incl (span ts) R.lives → Incl (span ts) κ → Judged R → (table k e : ℕ) (v : Option R.Denot)
-            → ⟦ content_at R v b e ⟧ ∗ ⟦ tokens k ⟧ ∗ ⟦ telling R sharing k v ⟧ ∗ lfts 𝓛 ts
+            → ⟦ content_at R v b e ⟧ ∗ ⟦ tokens k ⟧ ∗ ⟦ told_or_untold R sharing k v ⟧ ∗ lfts 𝓛 ts
             ⊢ H.⇛ (ex 𝓤 (Born table k e (lfts 𝓛 ts) v))
         born ts inc sp j table k e None =
             qed 𝓛 (‵ (content_at R None b e) ∷ ‵ (tokens k) ∷ ‵ (untold_in sharing k)
@@ -285,7 +285,7 @@ module _ {M : Type 1} {𝓤 : Ura M} (𝓛 : Logic 𝓤) where
             await ! tt $ move ! (0 ∷ 2 ∷ 1 ∷ 3 ∷ []) $ group ! 4 $
             use1 𝓛 (later (some (λ (η : GName).
             ‵ (flent κ (tracked_value R b e η)) ⊛ ‵ (stays R t b ν sharing k e η s.0)
-            ⊛ ‵ (had R t b ν sharing table k e η s.0 free) ⊛ raw (lfts 𝓛 ts))))
+            ⊛ ‵ (lies_with_slot R t b ν sharing table k e η s.0 free) ⊛ raw (lfts 𝓛 ts))))
             (born ts inc sp j table k e s.0) $
             await ! tt $ pick ! (λ η. split3 ! $ move ! (2 ∷ []) $ split ! $
             -- [had; the lifetimes; the way to the end; what stays]
@@ -362,7 +362,7 @@ module _ {M : Type 1} {𝓤 : Ura M} (𝓛 : Logic 𝓤) where
 
         owed : (k e : ℕ) (η : GName) (v : Option R.Denot)
             → A.dead κ ∗ ⟦ flent κ (tracked_value R b e η) ⟧ ∗ ⟦ stays R t b ν sharing k e η v ⟧
-            ⊢ ⟦ telling R sharing k v ⟧ ∗ ⟦ rests R true b e v ⟧
+            ⊢ ⟦ told_or_untold R sharing k v ⟧ ∗ ⟦ rests R true b e v ⟧
         owed k e η None =
             qed 𝓛 (‵ (fdead κ) ∷ ‵ (flent κ (tracked_value R b e η))
             ∷ ‵ (stays R t b ν sharing k e η None) ∷ []) ∵
@@ -384,7 +384,7 @@ module _ {M : Type 1} {𝓤 : Ura M} (𝓛 : Logic 𝓤) where
             move ! (1 ∷ []) $ fsplit ! $ move ! (1 ∷ []) $ fpick ! (λ s. fsplit3 ! $
             -- [the flag; what stays; had; the way to the end; dead]
             move ! (4 ∷ 3 ∷ 1 ∷ []) $
-            use3 𝓛 (‵ (telling R sharing k s.0) ⊛ ‵ (rests R true b e s.0)) (owed k e η s.0) $
+            use3 𝓛 (‵ (told_or_untold R sharing k s.0) ⊛ ‵ (rests R true b e s.0)) (owed k e η s.0) $
             split ! $ move ! (2 ∷ 0 ∷ 1 ∷ []) $ fjoin3 ! $
             fpack ! (Option R.Denot × Bool) (slot_rests_as R sharing k set b e) (s.0, true) $
             keep ! (0 ∷ []) $ done !)

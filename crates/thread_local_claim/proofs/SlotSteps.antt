@@ -18,7 +18,7 @@ use Rattle.thread_local_model.proofs.Word.{same_bit}
 use Rattle.thread_local_bucket_pointers.specs.Slots.{word_offset, value_offset}
 use Rattle.thread_local_claim.specs.Shared.{name_at, BucketView, Turn, StandingBlock, Who, block_code, age}
 use Rattle.thread_local_claim.specs.Shared.{tracked_value, shared_slot_as, shared_slot, len, first}
-use Rattle.thread_local_claim.specs.Shared.{bucket_invariant, stays, had, holds}
+use Rattle.thread_local_claim.specs.Shared.{bucket_invariant, stays, lies_with_slot, holds}
 use Rattle.thread_local_claim.proofs.Inside as inside
 use Rattle.thread_local_claim.proofs.Inside.{Next, quietly, slot_in}
 
@@ -65,7 +65,7 @@ module _ {M : Type 1} {𝓤 : Ura M} (𝓛 : Logic 𝓤) (R : RattleType) (d : B
   Stays v = stays R t b s.block_life d.sharing k e η v
 
   abbrev pub Had : Option R.Denot → Who → Fml
-  Had v w = had R t b s.block_life d.sharing d.table k e η v w
+  Had v w = lies_with_slot R t b s.block_life d.sharing d.table k e η v w
 
   abbrev pub Holds : Option R.Denot → Fml
   Holds v = holds R t b s.block_life d.sharing k e η v

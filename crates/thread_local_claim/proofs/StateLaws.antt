@@ -1,9 +1,9 @@
 -- What the number tells that a claim keeps for what it has learnt.
 use Rattle.std.proofs.Common.{◌≡◌, eqb, refl, is_some}
 use Rattle.thread_local_model.specs.Learnt.{Learnt, Unknown, Missing, Standing, Vacant, Holding}
-use Rattle.thread_local_claim.specs.Known.{is_missing, state_of, value_held}
+use Rattle.thread_local_claim.specs.Known.{points_to_pointer, state_of, value_held}
 
-pub missing_by : {X : Type 0} (l : Learnt X) → eqb (state_of l) 0 ≡ is_missing l
+pub missing_by : {X : Type 0} (l : Learnt X) → eqb (state_of l) 0 ≡ points_to_pointer l
 missing_by Unknown = refl
 missing_by Missing = refl
 missing_by Standing = refl

@@ -19,7 +19,7 @@ use Rattle.thread_local_model.specs.Fact.{fact}
 use Rattle.thread_local_model.specs.Bits.{is_set}
 use Rattle.thread_local_model.proofs.Word.{add_shifted, same_bit}
 use Rattle.thread_local_claim.specs.Shared.{name_at, BucketView, Turn, StandingBlock, Who, free, claimed, len, first}
-use Rattle.thread_local_claim.specs.Claims.{waits, IsTold}
+use Rattle.thread_local_claim.specs.Claims.{claims_side, IsTold}
 use Rattle.thread_local_claim.proofs.SlotSteps as general
 use Rattle.thread_local_claim.proofs.Moves as moves
 
@@ -110,11 +110,11 @@ module _ {M : Type 1} {𝓤 : Ura M} (𝓛 : Logic 𝓤) (R : RattleType) (d : B
   Finds looked n = Found looked (is_set n (i % 64))
 
   pub finds : (q : Share) (looked : Bool)
-      → A.inv (fbor t.life I) ∗ (A.lft t.life q ∗ (⟦ Which ⟧ ∗ ⟦ waits looked d.table t.pass k ⟧))
+      → A.inv (fbor t.life I) ∗ (A.lft t.life q ∗ (⟦ Which ⟧ ∗ ⟦ claims_side looked d.table t.pass k ⟧))
       ⊢ asks 𝓛 chunk_word (λ n. n) always (λ n. fsep (flft t.life q) (Finds looked n))
   finds q looked =
       general.stepped 𝓛 R d t wb wo s i k e b low at_k at_e at_b q (λ n. n) (Finds looked)
-      (waits looked d.table t.pass k) (law looked)
+      (claims_side looked d.table t.pass k) (law looked)
     where
       found : (l : Bool) (n : ℕ) → n < 2 ^ 64 → (v u : Option R.Denot)
           → is_set n (i % 64) ≡ is_some v → IsTold l (is_set n (i % 64)) u
@@ -130,7 +130,7 @@ module _ {M : Type 1} {𝓤 : Ura M} (𝓛 : Logic 𝓤) (R : RattleType) (d : B
 
       law : (l : Bool) (n : ℕ) → n < 2 ^ 64 → (v : Option R.Denot) (w : Who)
           → is_set n (i % 64) ≡ is_some v
-          → ⟦ Stays v ⟧ ∗ ⟦ Had v w ⟧ ∗ ⟦ waits l d.table t.pass k ⟧
+          → ⟦ Stays v ⟧ ∗ ⟦ Had v w ⟧ ∗ ⟦ claims_side l d.table t.pass k ⟧
           ⊢ ex 𝓤 (Turned q (λ n. n) (Finds l) n v)
       law false n fits v w is =
           qed 𝓛 (‵ (Stays v) ∷ ‵ (Had v w) ∷ ‵ Right ∷ []) ∵ move ! (1 ∷ 2 ∷ []) $

@@ -17,7 +17,7 @@ use Rattle.thread_local_bucket_pointers.specs.Slots.{value_offset}
 use Rattle.thread_local_model.specs.Fact.{fact}
 use Rattle.thread_local_claim.specs.Shared.{BucketView, Turn, StandingBlock, bucket_invariant}
 use Rattle.thread_local_model.specs.Learnt.{Learnt, Unknown, Missing, Standing, Vacant, Holding}
-use Rattle.thread_local_claim.specs.Claims.{ClaimFields, IsOf, has_slot, has, claim_owns, waits}
+use Rattle.thread_local_claim.specs.Claims.{ClaimFields, IsOf, has_slot, has, claim_owns, claims_side}
 use Rattle.thread_local_claim.proofs.Early as early
 use Rattle.thread_local_claim.proofs.Steps as steps
 
@@ -55,7 +55,7 @@ module _ {M : Type 1} {𝓤 : Ura M} (𝓛 : Logic 𝓤) (R : RattleType) (β : 
     Right = right_owns d.table c.id
 
     waited : (looked : Bool)
-        → A.inv J ∗ A.lft t.life q ∗ ⟦ waits looked d.table t.pass c.id ⟧
+        → A.inv J ∗ A.lft t.life q ∗ ⟦ claims_side looked d.table t.pass c.id ⟧
         ⊢ H.⇛ (⟦ Right ⟧ ∗ A.lft t.life q)
     waited true = early.gives_up 𝓛 R d t (block_of w) (count_of w + 0) c.index c.id of.4 of.3 q
     waited false =
@@ -64,11 +64,11 @@ module _ {M : Type 1} {𝓤 : Ura M} (𝓛 : Logic 𝓤) (R : RattleType) (β : 
 
     waiting_gives : (looked : Bool)
         → A.inv J ∗ A.lft t.life q
-        ∗ ⟦ fsep (fact (c.at ≡ c.bucket)) (waits looked d.table t.pass c.id) ⟧
+        ∗ ⟦ fsep (fact (c.at ≡ c.bucket)) (claims_side looked d.table t.pass c.id) ⟧
         ⊢ H.⇛ (⟦ Right ⟧ ∗ A.lft t.life q)
     waiting_gives looked =
         qed 𝓛 (‵ (finv J) ∷ ‵ (flft t.life q)
-        ∷ ‵ (fsep (fact (c.at ≡ c.bucket)) (waits looked d.table t.pass c.id)) ∷ []) ∵
+        ∷ ‵ (fsep (fact (c.at ≡ c.bucket)) (claims_side looked d.table t.pass c.id)) ∷ []) ∵
         move ! (2 ∷ []) $ fsplit ! $ drop ! $ move ! (1 ∷ 2 ∷ 0 ∷ []) $ by ! (waited looked)
 
     slot_gives : (v : Option R.Denot)

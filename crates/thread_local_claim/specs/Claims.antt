@@ -1,8 +1,8 @@
 -- What a claim owns, by what it has learnt of its slot, and what a `&` to it shows.
 --
--- A claim begins with the right to an id, under one sharing of the id's bucket. Where it finds the
--- bucket missing, it lays the right down in the bucket's invariant and takes the pass of its slot.
--- Once the bucket stands, it has what the slot holds.
+-- A claim begins with the right to an id, under one sharing of the id's bucket. As soon as it has
+-- looked, the right lies in the bucket's invariant. Where the bucket was missing, the claim has the
+-- pass of its slot for it. Once the bucket stands, it has what the slot holds.
 use Rattle.std.specs.Prelude.{◌≡◌, ℕ, ◌+◌, ◌/◌, ◌^◌, ◌<◌, Bool, true, false, Option, None, Some, is_some}
 use Rattle.thread_local_model.specs.Place.{bucket_of, index_of}
 use Rattle.thread_local_model.specs.Learnt.{Learnt, Unknown, Missing, Standing, Vacant, Holding}
@@ -42,10 +42,10 @@ claim_fields id index bucket at sharing reserved = record {
 }
 
 -- what a claim has where it has found no bucket: its right, or the pass of its slot once it has
--- looked
-abbrev pub waits : Bool → GName → GName → ℕ → Fml
-waits false table pass id = right_owns table id
-waits true table pass id = right_owns pass id
+-- looked. `slots_side` is what lies with the slot meanwhile
+abbrev pub claims_side : Bool → GName → GName → ℕ → Fml
+claims_side false table pass id = right_owns table id
+claims_side true table pass id = right_owns pass id
 
 -- what a look at the slot tells: the flag tells whether the slot holds a value, and a claim that had
 -- looked before finds it empty
@@ -84,7 +84,7 @@ module _ (R : RattleType) where
     has Vacant = fex StandingBlock (has_slot None)
     has (Holding x) = fex StandingBlock (has_slot (Some x))
 
-  -- what a claim keeps at run time is true of it
+  -- the number that a claim keeps at run time is that of what it has learnt
   abbrev pub IsKept : ℕ → Learnt R.Denot → Type 0
   IsKept state l = state ≡ state_of l
 

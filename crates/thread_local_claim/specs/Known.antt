@@ -12,22 +12,22 @@ HasLooked Standing = ⊥
 HasLooked Vacant = ⊤
 HasLooked (Holding v) = ⊤
 
--- the claim has not looked yet, or has found no bucket: it may look for its bucket
-abbrev pub IsMissing : {V : Type 0} → Learnt V → Type 0
-IsMissing Unknown = ⊤
-IsMissing Missing = ⊤
-IsMissing Standing = ⊥
-IsMissing Vacant = ⊥
-IsMissing (Holding v) = ⊥
+-- the claim has not looked yet, or has found its bucket missing: it may look for its bucket
+abbrev pub MayLook : {V : Type 0} → Learnt V → Type 0
+MayLook Unknown = ⊤
+MayLook Missing = ⊤
+MayLook Standing = ⊥
+MayLook Vacant = ⊥
+MayLook (Holding v) = ⊥
 
--- whether the claim points to its bucket's pointer, and not to its slot: so the code keeps all states
--- in which the slot was not found
-abbrev pub is_missing : {V : Type 0} → Learnt V → Bool
-is_missing Unknown = true
-is_missing Missing = true
-is_missing Standing = true
-is_missing Vacant = false
-is_missing (Holding v) = false
+-- whether the claim points to its bucket's pointer, and not to its slot: true unless it is vacant or
+-- holding
+abbrev pub points_to_pointer : {V : Type 0} → Learnt V → Bool
+points_to_pointer Unknown = true
+points_to_pointer Missing = true
+points_to_pointer Standing = true
+points_to_pointer Vacant = false
+points_to_pointer (Holding v) = false
 
 -- the number by which a claim keeps what it has learnt: 0 where it has found no bucket, 1 where its
 -- slot is vacant, 2 where it holds a value
@@ -43,13 +43,13 @@ abbrev pub state_by : Bool → ℕ
 state_by false = 1
 state_by true = 2
 
--- whether a claim that has found no bucket has looked for it
-abbrev pub has_looked : {V : Type 0} → Learnt V → Bool
-has_looked Unknown = false
-has_looked Missing = true
-has_looked Standing = false
-has_looked Vacant = false
-has_looked (Holding v) = false
+-- whether the claim has looked for its bucket and found it missing
+abbrev pub looked_in_vain : {V : Type 0} → Learnt V → Bool
+looked_in_vain Unknown = false
+looked_in_vain Missing = true
+looked_in_vain Standing = false
+looked_in_vain Vacant = false
+looked_in_vain (Holding v) = false
 
 -- the value that the slot is known to hold, if any
 abbrev pub value_held : {V : Type 0} → Learnt V → Option V

@@ -10,7 +10,8 @@
 --                         pass      lies with the slot, unless a claim took it before the block
 --                                   stood, and laid down its right instead
 --                         vacant    lies with the slot once a value is published, and until then
---                                   with whoever may publish it
+--                                   with whoever may publish it, or with the slot too while nobody
+--                                   may
 --                         filled    the other way round
 --     holds, stays        what the claim of a slot has of it, and what stays with the slot, by the
 --                         value that is published
@@ -86,7 +87,7 @@ use Rattle.thread_local_model.specs.Bits.{is_set_in}
 use Rattle.thread_local_bucket_pointers.specs.Slots.{heap_token, chunks, each, AreWords, block_ty, Fits, value_offset, flags_at}
 use Rattle.thread_local_bucket_pointers.specs.Slots.{content_at, back, empty_slots}
 use Rattle.thread_local_model.specs.Fact.{fact}
-use Rattle.thread_local_ids.specs.Told.{untold_in, tells, telling, all_telling}
+use Rattle.thread_local_ids.specs.Told.{untold_in, tells, told_or_untold, all_told_or_untold}
 
 -- 1. What is known of a bucket, of a sharing and of a block.
 
@@ -105,7 +106,8 @@ bucket_view_coded =
     (λ (d : BucketView). (d.table, (d.sharing, (d.bucket, d.reserved))))
     (λ x y e i. record { table = (e i).0; sharing = (e i).1.0; bucket = (e i).1.1.0; reserved = (e i).1.1.1 })
 
--- the life and the names of one sharing
+-- the life and the names that one bucket has in one sharing; `which` is the name that says which block
+-- stands
 pub record Turn : Type 0 where
   pub life : Lft
   pub pass : GName
@@ -196,14 +198,14 @@ module _ (R : RattleType) where
       stays k e η (Some x) = fsep (right_owns t.vacant k) (fsep (pinned_and_told sharing k η x) (opened e x))
 
       -- what lies with the slot, by who has the slot
-      abbrev pub had : ℕ → ℕ → ℕ → GName → Option R.Denot → Who → Fml
-      had table k e η v free = fsep (right_owns t.pass k) (holds k e η v)
-      had table k e η v claimed = fsep (right_owns table k) (right_owns t.pass k)
-      had table k e η v early = fsep (right_owns table k) (holds k e η None)
+      abbrev pub lies_with_slot : ℕ → ℕ → ℕ → GName → Option R.Denot → Who → Fml
+      lies_with_slot table k e η v free = fsep (right_owns t.pass k) (holds k e η v)
+      lies_with_slot table k e η v claimed = fsep (right_owns table k) (right_owns t.pass k)
+      lies_with_slot table k e η v early = fsep (right_owns table k) (holds k e η None)
 
       -- a slot of which it is known what it holds and who has it
       abbrev pub shared_slot_as : ℕ → Bool → ℕ → ℕ → GName → Option R.Denot × Who → Fml
-      shared_slot_as table set k e η s = fsep (fact (set ≡ is_some s.0)) (fsep (stays k e η s.0) (had table k e η s.0 s.1))
+      shared_slot_as table set k e η s = fsep (fact (set ≡ is_some s.0)) (fsep (stays k e η s.0) (lies_with_slot table k e η s.0 s.1))
 
       -- a slot, with the loan of its memory
       abbrev pub shared_slot : ℕ → Bool → ℕ → ℕ → GName → Fml
@@ -224,18 +226,18 @@ module _ (R : RattleType) where
   slots_under n b o slots ns = fsep (fact (AreFlagWords n ns)) (fsep (each (flags_at R n b o) ns 0) (slots ns))
 
   -- what lies with a slot that has no block yet: the right of the claim that took the pass, or else
-  -- the pass
-  abbrev pub waiting : Bool → GName → GName → ℕ → Fml
-  waiting true table pass k = right_owns table k
-  waiting false table pass k = right_owns pass k
+  -- the pass. `claims_side` is what the claim has meanwhile
+  abbrev pub slots_side : Bool → GName → GName → ℕ → Fml
+  slots_side true table pass k = right_owns table k
+  slots_side false table pass k = right_owns pass k
 
-  -- a slot that has no block yet: its tokens, of which nothing is told, and the pass or the right
-  -- that was laid down for it
+  -- a slot that has no block yet: its rights `vacant` and `filled`, with nothing told, and the pass or
+  -- the right that was laid down for it
   abbrev pub unborn : Option GName → ℕ → Turn → ℕ → Fml
   unborn sharing table t k =
       fsep (right_owns t.vacant k)
       (fsep (fsep (right_owns t.filled k) (untold_in sharing k))
-      (fex Bool (λ early. waiting early table t.pass k)))
+      (fex Bool (λ early. slots_side early table t.pass k)))
 
   -- the same of n slots, from the id k on
   abbrev pub all_unborn : Option GName → ℕ → Turn → ℕ → ℕ → Fml
@@ -258,7 +260,7 @@ module _ (R : RattleType) where
   module _ (sharing : Option GName) (k : ℕ) where
     -- the slot at rest of the id k
     abbrev pub slot_rests_as : Bool → ℕ → ℕ → Option R.Denot × Bool → Fml
-    slot_rests_as set b e s = fsep (fact (set ≡ is_some s.0)) (fsep (telling R sharing k s.0) (rests s.1 b e s.0))
+    slot_rests_as set b e s = fsep (fact (set ≡ is_some s.0)) (fsep (told_or_untold R sharing k s.0) (rests s.1 b e s.0))
 
     -- the same, whatever it holds
     abbrev pub slot_rests : Bool → ℕ → ℕ → Fml
@@ -337,7 +339,7 @@ module _ (R : RattleType) where
 
     -- what a bucket at rest owns beside its pointer
     abbrev pub at_rest : Ptr → Fml
-    at_rest null_ptr = fsep (fact (d.reserved ≡ false)) (all_telling R d.sharing first (empty_slots len))
+    at_rest null_ptr = fsep (fact (d.reserved ≡ false)) (all_told_or_untold R d.sharing first (empty_slots len))
     at_rest (block_ptr b o) =
         fsep (fact (Sized len (block_ptr b o)))
         (fsep (block_rests d.sharing first len b o) (heap_token (block_ty R len) (block_ptr b o)))

@@ -6,7 +6,7 @@ ghost use Rattle.std.specs.Coded.{coded_option, coded_ℕ};
 ghost use denote.RawPtr.{Ptr, coded_ptr};
 ghost use Rattle.thread_local_model.specs.Learnt.{Learnt, learnt_coded, Unknown, Missing, Vacant, Holding, Finds};
 ghost use Rattle.thread_local_model.specs.Place.{id_at};
-ghost use Rattle.thread_local_claim.specs.Known.{HasLooked, IsMissing, is_missing, state_of, value_held};
+ghost use Rattle.thread_local_claim.specs.Known.{HasLooked, MayLook, points_to_pointer, state_of, value_held};
 ghost use Rattle.thread_local_claim.specs.Claims.{flag_word_of, claim_fields, claim_owns, claim_shares};
 
 use crate::SharedBucket;
@@ -91,10 +91,10 @@ impl<'a, T> ClaimedSlot<'a, T> {
     }
 
     /// Looks for the bucket, and where it stands, at the slot: one atomic load of the bucket's
-    /// pointer, and one of the word `flag_word` of the block, which has the slot's flag. A claim that
-    /// has found its bucket missing finds the slot empty.
+    /// pointer, and one of the word `flag_word` of the block, which has the slot's flag. After an
+    /// earlier miss it finds the slot empty.
     pub(crate) fn find(self, index: usize, flag_word: usize) -> ClaimedSlot<'a, T>
-        requires missing { IsMissing self.learnt }
+        requires missing { MayLook self.learnt }
         requires index { index ≡ self.index }
         requires flag_word { flag_word ≡ flag_word_of T.row self.id }
         ensures same_slot { (result.table ≡ self.entry.table)
@@ -169,7 +169,7 @@ impl<'a, T> ClaimedSlot<'a, T> {
     /// Whether no bucket has been found.
     #[tactic(auto, using(crate::proofs::StateLaws::missing_by))]
     pub(crate) fn is_missing(&self) -> bool
-        ensures { result ≡ is_missing self.now.learnt }
+        ensures { result ≡ points_to_pointer self.now.learnt }
     {
         self.state() == MISSING
     }

@@ -17,7 +17,7 @@ use denote.RattleType.{RattleType}
 use denote.Steps.{nothing}
 use Rattle.thread_local_model.specs.Place.{id_at, bucket_of, index_of}
 use Rattle.thread_local_model.specs.Buckets.{Contents, IsTable, row, values}
-use Rattle.thread_local_ids.specs.Told.{tells, all_tell, all_telling, whole_row, rows_telling, rows_tell}
+use Rattle.thread_local_ids.specs.Told.{tells, all_tell, all_told_or_untold, whole_row, rows_telling, rows_tell}
 use Rattle.thread_local_ids.proofs.ToldElements.{all_end, all_dup, none_telling, source, all_drawn, told_at, tells_keyless}
 
 -- the row of a bucket is empty or whole
@@ -86,7 +86,7 @@ module _ {M : Type 1} {𝓤 : Ura M} (𝓛 : Logic 𝓤) (R : RattleType) where
   pub none_rows : (bucket : ℕ) (rows : Rows) → emp 𝓤 ⊢ ⟦ rows_telling R None bucket rows ⟧
   none_rows bucket [] = qed 𝓛 [] ∵ nothing ! $ done !
   none_rows bucket (row ∷ rows) = qed 𝓛 [] ∵ use0 𝓛 (‵ (rows_telling R None (suc bucket) rows)) (none_rows (suc bucket) rows) $
-      use0 𝓛 (‵ (all_telling R None (id_at bucket 0) (whole_row bucket row)))
+      use0 𝓛 (‵ (all_told_or_untold R None (id_at bucket 0) (whole_row bucket row)))
       (none_telling 𝓛 R (id_at bucket 0) (whole_row bucket row)) $
       fjoin ! $ done !
 
@@ -104,9 +104,9 @@ module _ {M : Type 1} {𝓤 : Ura M} (𝓛 : Logic 𝓤) (R : RattleType) where
       let at : next ≡ length slots + id =
       next_first bucket ∙ sym (ap (λ (n : ℕ). n + id) (whole_length bucket row are.0)) in
       qed 𝓛 (‵ (source 𝓛 γ id) ∷ []) ∵
-      use1 𝓛 (raw (upd 𝓤 (⟦ all_telling R (Some γ) id slots ⟧ ∗ ⟦ source 𝓛 γ next ⟧)))
+      use1 𝓛 (raw (upd 𝓤 (⟦ all_told_or_untold R (Some γ) id slots ⟧ ∗ ⟦ source 𝓛 γ next ⟧)))
       (all_drawn 𝓛 R γ id next slots at) $
-      settle 𝓛 Z (‵ (all_telling R (Some γ) id slots) ⊛ ‵ (source 𝓛 γ next)) $ split ! $
+      settle 𝓛 Z (‵ (all_told_or_untold R (Some γ) id slots) ⊛ ‵ (source 𝓛 γ next)) $ split ! $
       move ! (1 ∷ []) $
       use1 𝓛 (raw (upd 𝓤 ⟦ rows_telling R (Some γ) (suc bucket) rows ⟧))
       (rows_drawn γ (suc bucket) rows are.1) $

@@ -16,7 +16,7 @@ use types.Kit.{‵, raw, ◌⊛◌, settle, suffices, frame, move, keep, split, 
 use types.Kit.{◌$◌, ◌∵◌, ! }
 use types.Keyed.{entry, entries_from, entry_cut, entry_glue, entry_set, entries_take, entry_keyless, keyed, from}
 use denote.RattleType.{RattleType}
-use Rattle.thread_local_ids.specs.Told.{once, untold, told, untold_in, told_in, tells, telling, all_tell, all_telling}
+use Rattle.thread_local_ids.specs.Told.{once, untold, told, untold_in, told_in, tells, told_or_untold, all_tell, all_told_or_untold}
 
 module _ {M : Type 1} {𝓤 : Ura M} (𝓛 : Logic 𝓤) where
   abbrev Pr : Type 2
@@ -113,22 +113,22 @@ module _ {M : Type 1} {𝓤 : Ura M} (𝓛 : Logic 𝓤) where
 
     -- a slot holds what is told of its id
     pub telling_alike : (sharing : Option GName) → IsSome sharing → (id : ℕ) (v : V) (x : R.Denot)
-        → ⟦ telling R sharing id v ⟧ ∗ ⟦ tells R sharing id (Some x) ⟧
-        ⊢ guard 𝓤 (v ≡ Some x) (⟦ telling R sharing id v ⟧ ∗ ⟦ tells R sharing id (Some x) ⟧)
+        → ⟦ told_or_untold R sharing id v ⟧ ∗ ⟦ tells R sharing id (Some x) ⟧
+        ⊢ guard 𝓤 (v ≡ Some x) (⟦ told_or_untold R sharing id v ⟧ ∗ ⟦ tells R sharing id (Some x) ⟧)
     telling_alike sharing named id None x = never_told sharing named id ((coded_option R.coded).code (Some x)) _
     telling_alike sharing named id (Some y) x = tells_alike sharing named id (Some y) (Some x)
 
     -- at the end of a sharing it is told what each slot was published with
-    ends : (sharing : Option GName) (id : ℕ) (v : V) → ⟦ telling R sharing id v ⟧ ⊢ upd 𝓤 ⟦ tells R sharing id v ⟧
+    ends : (sharing : Option GName) (id : ℕ) (v : V) → ⟦ told_or_untold R sharing id v ⟧ ⊢ upd 𝓤 ⟦ tells R sharing id v ⟧
     ends sharing id None = tells_it sharing id ((coded_option R.coded).code None)
     ends sharing id (Some x) = upd_i 𝓤 ⟦ tells R sharing id (Some x) ⟧
 
     pub all_end : (sharing : Option GName) (id : ℕ) (slots : List V)
-        → ⟦ all_telling R sharing id slots ⟧ ⊢ upd 𝓤 ⟦ all_tell R sharing id slots ⟧
+        → ⟦ all_told_or_untold R sharing id slots ⟧ ⊢ upd 𝓤 ⟦ all_tell R sharing id slots ⟧
     all_end sharing id [] = upd_i 𝓤 ⟦ ftrue ⟧
     all_end sharing id (v ∷ slots) =
         let Z : Pr = ⟦ all_tell R sharing id (v ∷ slots) ⟧ in
-        qed 𝓛 (‵ (all_telling R sharing id (v ∷ slots)) ∷ []) ∵ fsplit ! $
+        qed 𝓛 (‵ (all_told_or_untold R sharing id (v ∷ slots)) ∷ []) ∵ fsplit ! $
         use1 𝓛 (raw (upd 𝓤 ⟦ tells R sharing id v ⟧)) (ends sharing id v) $
         settle 𝓛 Z (‵ (tells R sharing id v)) $ move ! (1 ∷ []) $
         use1 𝓛 (raw (upd 𝓤 ⟦ all_tell R sharing (suc id) slots ⟧))
@@ -150,13 +150,13 @@ module _ {M : Type 1} {𝓤 : Ura M} (𝓛 : Logic 𝓤) where
         move ! (2 ∷ 0 ∷ []) $ fjoin ! $ frame ! $ move ! (1 ∷ 0 ∷ []) $ fjoin ! $ done !
 
     -- where no sharing is named, nothing has to be told
-    pub none_telling : (id : ℕ) (slots : List V) → emp 𝓤 ⊢ ⟦ all_telling R None id slots ⟧
+    pub none_telling : (id : ℕ) (slots : List V) → emp 𝓤 ⊢ ⟦ all_told_or_untold R None id slots ⟧
     none_telling id [] = qed 𝓛 [] ∵ nothing ! $ done !
     none_telling id (None ∷ slots) =
-        qed 𝓛 [] ∵ use0 𝓛 (‵ (all_telling R None (suc id) slots)) (none_telling (suc id) slots) $
+        qed 𝓛 [] ∵ use0 𝓛 (‵ (all_told_or_untold R None (suc id) slots)) (none_telling (suc id) slots) $
         nothing ! $ fjoin ! $ done !
     none_telling id (Some x ∷ slots) =
-        qed 𝓛 [] ∵ use0 𝓛 (‵ (all_telling R None (suc id) slots)) (none_telling (suc id) slots) $
+        qed 𝓛 [] ∵ use0 𝓛 (‵ (all_told_or_untold R None (suc id) slots)) (none_telling (suc id) slots) $
         nothing ! $ fjoin ! $ done !
 
     -- ---- a new sharing
@@ -206,7 +206,7 @@ module _ {M : Type 1} {𝓤 : Ura M} (𝓛 : Logic 𝓤) where
       (ex_i 𝓤 (New old) γ)))))
 
   module _ (R : RattleType) (γ : GName) where
-    one_drawn : (id : ℕ) (v : Option R.Denot) → ⟦ untold γ id ⟧ ⊢ upd 𝓤 ⟦ telling R (Some γ) id v ⟧
+    one_drawn : (id : ℕ) (v : Option R.Denot) → ⟦ untold γ id ⟧ ⊢ upd 𝓤 ⟦ told_or_untold R (Some γ) id v ⟧
     one_drawn id None = upd_i 𝓤 ⟦ untold γ id ⟧
     one_drawn id (Some x) = tell γ id ((coded_option R.coded).code (Some x))
 
@@ -216,21 +216,21 @@ module _ {M : Type 1} {𝓤 : Ura M} (𝓛 : Logic 𝓤) where
 
     -- the slots from an id on get what lies with them
     pub all_drawn : (id next : ℕ) (slots : List (Option R.Denot)) → next ≡ length slots + id
-        → ⟦ source γ id ⟧ ⊢ upd 𝓤 (⟦ all_telling R (Some γ) id slots ⟧ ∗ ⟦ source γ next ⟧)
+        → ⟦ source γ id ⟧ ⊢ upd 𝓤 (⟦ all_told_or_untold R (Some γ) id slots ⟧ ∗ ⟦ source γ next ⟧)
     all_drawn id next [] is =
         let same : id ≡ next = omega arith in
         let Z : Pr = ⟦ ftrue ⟧ ∗ ⟦ source γ next ⟧ in
         qed 𝓛 (‵ (source γ id) ∷ []) ∵ suffices ! _ (upd_i 𝓤 Z) $
         rewrite ! 0 (λ (k : ℕ). ‵ (source γ k)) same refl $ nothing ! $ done !
     all_drawn id next (v ∷ slots) is =
-        let Z : Pr = ⟦ all_telling R (Some γ) id (v ∷ slots) ⟧ ∗ ⟦ source γ next ⟧ in
+        let Z : Pr = ⟦ all_told_or_untold R (Some γ) id (v ∷ slots) ⟧ ∗ ⟦ source γ next ⟧ in
         qed 𝓛 (‵ (source γ id) ∷ []) ∵
         use1 𝓛 (‵ (untold γ id) ⊛ ‵ (source γ (suc id))) (source_off id) $ split ! $
-        use1 𝓛 (raw (upd 𝓤 ⟦ telling R (Some γ) id v ⟧)) (one_drawn id v) $
-        settle 𝓛 Z (‵ (telling R (Some γ) id v)) $ move ! (1 ∷ []) $
-        use1 𝓛 (raw (upd 𝓤 (⟦ all_telling R (Some γ) (suc id) slots ⟧ ∗ ⟦ source γ next ⟧)))
+        use1 𝓛 (raw (upd 𝓤 ⟦ told_or_untold R (Some γ) id v ⟧)) (one_drawn id v) $
+        settle 𝓛 Z (‵ (told_or_untold R (Some γ) id v)) $ move ! (1 ∷ []) $
+        use1 𝓛 (raw (upd 𝓤 (⟦ all_told_or_untold R (Some γ) (suc id) slots ⟧ ∗ ⟦ source γ next ⟧)))
         (all_drawn (suc id) next slots (omega arith)) $
-        settle 𝓛 Z (‵ (all_telling R (Some γ) (suc id) slots) ⊛ ‵ (source γ next)) $
+        settle 𝓛 Z (‵ (all_told_or_untold R (Some γ) (suc id) slots) ⊛ ‵ (source γ next)) $
         suffices ! _ (upd_i 𝓤 Z) $ split ! $ move ! (2 ∷ 0 ∷ []) $ fjoin ! $ done !
 
 pub untold_keyless : (sharing : Option GName) (id : ℕ) → Keyless (untold_in sharing id)
@@ -247,10 +247,10 @@ module _ (R : RattleType) (sharing : Option GName) where
   pub tells_keyless : (id : ℕ) (v : Option R.Denot) → Keyless (tells R sharing id v)
   tells_keyless id v = told_keyless sharing id ((coded_option R.coded).code v)
 
-  pub telling_keyless : (id : ℕ) (v : Option R.Denot) → Keyless (telling R sharing id v)
-  telling_keyless id None = untold_keyless sharing id
-  telling_keyless id (Some x) = tells_keyless id (Some x)
+  pub told_or_untold_keyless : (id : ℕ) (v : Option R.Denot) → Keyless (told_or_untold R sharing id v)
+  told_or_untold_keyless id None = untold_keyless sharing id
+  told_or_untold_keyless id (Some x) = tells_keyless id (Some x)
 
-  pub all_telling_keyless : (id : ℕ) (slots : List (Option R.Denot)) → Keyless (all_telling R sharing id slots)
+  pub all_telling_keyless : (id : ℕ) (slots : List (Option R.Denot)) → Keyless (all_told_or_untold R sharing id slots)
   all_telling_keyless id [] = tt
-  all_telling_keyless id (v ∷ slots) = (telling_keyless id v, all_telling_keyless (suc id) slots)
+  all_telling_keyless id (v ∷ slots) = (told_or_untold_keyless id v, all_telling_keyless (suc id) slots)

@@ -20,7 +20,7 @@ abbrev pub element_if : Bool → Option (Unit {0})
 element_if true = some tt
 element_if false = none
 
--- the right to an id of a table
+-- the one element at a key under a name: under a table's name, the right to an id of the table
 unfoldable pub right_owns : ℕ → ℕ → Fml
 right_owns table id = fown (keyed token) table (λ j. element_if (id == j))
 

@@ -46,19 +46,20 @@ module _ (R : RattleType) (sharing : Option GName) where
   abbrev pub tells : ℕ → Option R.Denot → Fml
   tells id v = told_in sharing id ((coded_option R.coded).code v)
 
-  -- what lies with the slot of an id that holds this
-  abbrev pub telling : ℕ → Option R.Denot → Fml
-  telling id None = untold_in sharing id
-  telling id (Some x) = tells id (Some x)
+  -- what lies with the slot of an id that holds this: told of a value, and untold of none
+  abbrev pub told_or_untold : ℕ → Option R.Denot → Fml
+  told_or_untold id None = untold_in sharing id
+  told_or_untold id (Some x) = tells id (Some x)
 
-  -- the same of slots one after another, the first of which is for this id
+  -- `tells` of slots one after another, the first of which is for this id
   abbrev pub all_tell : ℕ → List (Option R.Denot) → Fml
   all_tell id [] = ftrue
   all_tell id (v ∷ slots) = fsep (tells id v) (all_tell (suc id) slots)
 
-  abbrev pub all_telling : ℕ → List (Option R.Denot) → Fml
-  all_telling id [] = ftrue
-  all_telling id (v ∷ slots) = fsep (telling id v) (all_telling (suc id) slots)
+  -- `told_or_untold` of slots one after another
+  abbrev pub all_told_or_untold : ℕ → List (Option R.Denot) → Fml
+  all_told_or_untold id [] = ftrue
+  all_told_or_untold id (v ∷ slots) = fsep (told_or_untold id v) (all_told_or_untold (suc id) slots)
 
 -- the slots of a bucket by its row: empty ones where it doesn't stand
 abbrev pub whole_row : {V : Type 0} → ℕ → List (Option V) → List (Option V)
@@ -69,7 +70,7 @@ module _ (R : RattleType) (sharing : Option GName) where
   -- what lies with the slots of the buckets from this number on, by their rows
   abbrev pub rows_telling : ℕ → List (List (Option R.Denot)) → Fml
   rows_telling bucket [] = ftrue
-  rows_telling bucket (row ∷ rows) = fsep (all_telling R sharing (id_at bucket 0) (whole_row bucket row)) (rows_telling (suc bucket) rows)
+  rows_telling bucket (row ∷ rows) = fsep (all_told_or_untold R sharing (id_at bucket 0) (whole_row bucket row)) (rows_telling (suc bucket) rows)
 
   -- it is told of every id of these buckets what its slot was published with
   abbrev pub rows_tell : ℕ → List (List (Option R.Denot)) → Fml

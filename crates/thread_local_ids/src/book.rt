@@ -35,6 +35,7 @@ impl<T> Book<T> {
         ensures value { values self.now.contents token.now.id ≡ Some token.now.value }
         ensures in_range { token.now.id < 2 ^ 63 - 1 }
     {
+        // That the id is in range.
         let _ = token.id();
         self.tells_of(token.witness());
     }

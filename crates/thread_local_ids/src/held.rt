@@ -4,7 +4,7 @@ ghost use Rattle.std.specs.Prelude.{◌≡◌, ◌≢◌, ◌+◌, ◌-◌, ◌^
 use crate::right::Right;
 
 /// A held id, as one value from the moment the id is taken until it is given back. One that is
-/// dropped or forgotten stays held for good.
+/// dropped or forgotten stays held until the ids are cleared.
 ///
 /// Its right comes beside it, and lies with the id's slot while that is claimed. Its mark is a second
 /// right, to a number that is no id: it stays in the holder's hands all the time, and shows that no

@@ -10,8 +10,8 @@ use std::marker::Model;
 use thread_local_thread_id::manager::IDS;
 use thread_local_thread_id::{LocalError, ThreadIdManager};
 
-/// The mark of an id is the right to this number more than the id. It is no id: all ids are less than
-/// this number.
+/// The mark of an id is the right to `id + FIRST_MARK`. That is no id: all ids are less than this
+/// number.
 const FIRST_MARK: usize = 1 << 63;
 
 /// Gives out the least id that isn't held, with the right to it, and takes both back. The first 64

@@ -4,8 +4,8 @@ use Rattle.std.specs.Prelude.{◌≡◌, ℕ, suc, ◌+◌, ◌-◌, ◌^◌, �
 use Rattle.std.specs.Prelude.{◌∷◌, length, slice_index_or, slice_set, IsTrue, if◌then◌else◌}
 
 -- How contracts see a table's manager of ids. The list has a truth value for each id below the
--- peak, true where the id is held. The room is the number of ids whose return needs no further
--- memory.
+-- peak, true where the id is held. The room says how many ids have a bit, so that
+-- taking and returning them needs no further memory.
 pub record Manager : Type 0 where
   pub held : List Bool
   pub room : ℕ

@@ -26,7 +26,7 @@ use Rattle.thread_local_bucket_pointers.specs.Slots.{value_offset, content_at, s
 use Rattle.thread_local_bucket_pointers.specs.PointerOwns.{pointer_owns}
 use Rattle.thread_local_claim.specs.Shared.{BucketView, AreFlagWords, slots_under, slot_rests_as, slot_rests}
 use Rattle.thread_local_claim.specs.Shared.{slots_rest, Sized, len, first, at_rest}
-use Rattle.thread_local_ids.specs.Told.{telling, all_telling, whole_row}
+use Rattle.thread_local_ids.specs.Told.{told_or_untold, all_told_or_untold, whole_row}
 use Rattle.thread_local_claim.proofs.Rested.{redeems}
 use Rattle.thread_local_shared_buckets.specs.Fit.{Fit}
 
@@ -108,7 +108,7 @@ module _ {M : Type 1} {𝓤 : Ura M} (𝓛 : Logic 𝓤) (R : RattleType) (L : L
   -- ---- the slots of a block: their contents, and what is told of them
   module _ (sharing : Option GName) (k b : ℕ) where
     abbrev OneRedeemed : Bool → ℕ → ℕ → C → Pr
-    OneRedeemed set id e v = guard 𝓤 (set ≡ is_some v) (⟦ content_at R v b e ⟧ ∗ ⟦ telling R sharing id v ⟧)
+    OneRedeemed set id e v = guard 𝓤 (set ≡ is_some v) (⟦ content_at R v b e ⟧ ∗ ⟦ told_or_untold R sharing id v ⟧)
 
     redeems_slot : (set : Bool) (id e : ℕ) → ⟦ slot_rests R sharing id set b e ⟧ ⊢ H.⇛ (ex 𝓤 (OneRedeemed set id e))
     redeems_slot set id e =
@@ -121,7 +121,7 @@ module _ {M : Type 1} {𝓤 : Ura M} (𝓛 : Logic 𝓤) (R : RattleType) (L : L
       abbrev AllRedeemed : ℕ → ℕ → List C → Pr
       AllRedeemed n i cs =
           guard 𝓤 ((length cs ≡ n) × Told ns i cs)
-          (⟦ each (slot R b o) cs i ⟧ ∗ ⟦ all_telling R sharing (i + k) cs ⟧)
+          (⟦ each (slot R b o) cs i ⟧ ∗ ⟦ all_told_or_untold R sharing (i + k) cs ⟧)
 
       redeems_slots : (n i : ℕ) → ⟦ slots_rest R sharing k n i b o ns ⟧ ⊢ H.⇛ (ex 𝓤 (AllRedeemed n i))
       redeems_slots zero i =
@@ -133,44 +133,44 @@ module _ {M : Type 1} {𝓤 : Ura M} (𝓛 : Logic 𝓤) (R : RattleType) (L : L
           let next : suc i + k ≡ suc (i + k) = omega arith in
           qed 𝓛 (‵ (slots_rest R sharing k (suc n) i b o ns) ∷ []) ∵ updating ! $ fsplit ! $
           use1 𝓛 (later (some (λ (v : C).
-          given (set ≡ is_some v) (‵ (content_at R v b e) ⊛ ‵ (telling R sharing (i + k) v)))))
+          given (set ≡ is_some v) (‵ (content_at R v b e) ⊛ ‵ (told_or_untold R sharing (i + k) v)))))
           (redeems_slot set (i + k) e) $
           await ! tt $ pick ! (λ v. learn ! (λ is. move ! (1 ∷ []) $
           use1 𝓛 (later (some (λ (cs : List C).
           given ((length cs ≡ n) × Told ns (suc i) cs)
-          (‵ (each (slot R b o) cs (suc i)) ⊛ ‵ (all_telling R sharing (suc i + k) cs)))))
+          (‵ (each (slot R b o) cs (suc i)) ⊛ ‵ (all_told_or_untold R sharing (suc i + k) cs)))))
           (redeems_slots n (suc i)) $
           await ! tt $ pick ! (λ cs. learn ! (λ so.
           split ! $ move ! (2 ∷ []) $ split ! $
           -- [the slot; what is told of it; the other slots; what is told of them]
           move ! (0 ∷ 2 ∷ []) $ fjoin ! $ move ! (2 ∷ []) $
-          rewrite ! 0 (λ (m : ℕ). ‵ (all_telling R sharing m cs)) next refl $ move ! (2 ∷ 0 ∷ []) $
+          rewrite ! 0 (λ (m : ℕ). ‵ (all_told_or_untold R sharing m cs)) next refl $ move ! (2 ∷ 0 ∷ []) $
           fjoin ! $ move ! (1 ∷ 0 ∷ []) $
           now ! $ show ! (AllRedeemed (suc n) i) (v ∷ cs) $ check ! (ap suc so.0, told_more ns i v cs is so.1) $ done !))))
 
       rests_slot : (i : ℕ) (v : C) → is_set_in ns i ≡ is_some v
-          → ⟦ slot R b o v i ⟧ ∗ ⟦ telling R sharing (i + k) v ⟧
+          → ⟦ slot R b o v i ⟧ ∗ ⟦ told_or_untold R sharing (i + k) v ⟧
           ⊢ ⟦ slot_rests R sharing (i + k) (is_set_in ns i) b (value_offset R o i) ⟧
       rests_slot i v is = let e : ℕ = value_offset R o i in let set : Bool = is_set_in ns i in
-          qed 𝓛 (‵ (content_at R v b e) ∷ ‵ (telling R sharing (i + k) v) ∷ []) ∵
+          qed 𝓛 (‵ (content_at R v b e) ∷ ‵ (told_or_untold R sharing (i + k) v) ∷ []) ∵
           move ! (1 ∷ 0 ∷ []) $ nothing ! $ fpack ! (set ≡ is_some v) (λ _. ftrue) is $ fjoin3 ! $
           fpack ! (C × Bool) (slot_rests_as R sharing (i + k) set b e) (v, false) $ done !
 
       rests_slots : (cs : List C) (i : ℕ) → Told ns i cs
-          → ⟦ each (slot R b o) cs i ⟧ ∗ ⟦ all_telling R sharing (i + k) cs ⟧
+          → ⟦ each (slot R b o) cs i ⟧ ∗ ⟦ all_told_or_untold R sharing (i + k) cs ⟧
           ⊢ ⟦ slots_rest R sharing k (length cs) i b o ns ⟧
       rests_slots [] i told = qed 𝓛 (‵ ftrue ∷ ‵ ftrue ∷ []) ∵ drop ! $ done !
       rests_slots (c ∷ cs) i told =
           let next : suc (i + k) ≡ suc i + k = omega arith in
           qed 𝓛
-          (‵ (each (slot R b o) (c ∷ cs) i) ∷ ‵ (all_telling R sharing (i + k) (c ∷ cs)) ∷ []) ∵
+          (‵ (each (slot R b o) (c ∷ cs) i) ∷ ‵ (all_told_or_untold R sharing (i + k) (c ∷ cs)) ∷ []) ∵
           fsplit ! $ move ! (2 ∷ []) $ fsplit ! $
           -- [what is told of the slot, and of the others; the slot; the others]
           move ! (2 ∷ 0 ∷ []) $
           use2 𝓛 (‵ (slot_rests R sharing (i + k) (is_set_in ns i) b (value_offset R o i)))
           (rests_slot i c (told_first ns i c cs told)) $
           move ! (1 ∷ []) $
-          rewrite ! 0 (λ (m : ℕ). ‵ (all_telling R sharing m cs)) next refl $ move ! (2 ∷ 0 ∷ []) $
+          rewrite ! 0 (λ (m : ℕ). ‵ (all_told_or_untold R sharing m cs)) next refl $ move ! (2 ∷ 0 ∷ []) $
           use2 𝓛 (‵ (slots_rest R sharing k (length cs) (suc i) b o ns))
           (rests_slots cs (suc i) (told_rest ns i c cs told)) $
           move ! (1 ∷ 0 ∷ []) $ fjoin ! $ done !
@@ -199,13 +199,13 @@ module _ {M : Type 1} {𝓤 : Ura M} (𝓛 : Logic 𝓤) (R : RattleType) (L : L
 
     -- what is told of the bucket's slots, by its row
     abbrev pub Tells : List C → Fml
-    Tells cs = all_telling R d.sharing k (whole_row d.bucket cs)
+    Tells cs = all_told_or_untold R d.sharing k (whole_row d.bucket cs)
 
     abbrev Slotted : ℕ → ℕ → Fml
     Slotted b o = fex (List ℕ) (slots_under R n b o (slots_rest R d.sharing k n 0 b o))
 
     abbrev Redeemed : ℕ → ℕ → List C → Pr
-    Redeemed b o cs = guard 𝓤 (length cs ≡ n) (⟦ Slots b o cs ⟧ ∗ ⟦ all_telling R d.sharing k cs ⟧)
+    Redeemed b o cs = guard 𝓤 (length cs ≡ n) (⟦ Slots b o cs ⟧ ∗ ⟦ all_told_or_untold R d.sharing k cs ⟧)
 
     redeems_block : (b o : ℕ) → ⟦ Slotted b o ⟧ ⊢ H.⇛ (ex 𝓤 (Redeemed b o))
     redeems_block b o =
@@ -214,7 +214,7 @@ module _ {M : Type 1} {𝓤 : Ura M} (𝓛 : Logic 𝓤) (R : RattleType) (L : L
         drop ! $ move ! (1 ∷ []) $
         use1 𝓛 (later (some (λ (cs : List C).
         given ((length cs ≡ n) × Told ns 0 cs)
-        (‵ (each (slot R b o) cs 0) ⊛ ‵ (all_telling R d.sharing (0 + k) cs)))))
+        (‵ (each (slot R b o) cs 0) ⊛ ‵ (all_told_or_untold R d.sharing (0 + k) cs)))))
         (redeems_slots d.sharing k b o ns n 0) $
         await ! tt $ pick ! (λ cs. learn ! (λ so. split ! $
         -- [the slots; what is told of them; the words]
@@ -225,17 +225,17 @@ module _ {M : Type 1} {𝓤 : Ura M} (𝓛 : Logic 𝓤) (R : RattleType) (L : L
         fpack ! ((length ns + 0 ≡ chunks (length cs)) × AreFlags ns cs) (λ _. ftrue)
         (are_flags R n ns cs so.0 are so.1) $
         fjoin ! $ fpack ! (List ℕ) (flags_own R b o cs 0) ns $ fjoin ! $
-        move ! (1 ∷ []) $ rewrite ! 0 (λ (m : ℕ). ‵ (all_telling R d.sharing m cs)) at refl $
+        move ! (1 ∷ []) $ rewrite ! 0 (λ (m : ℕ). ‵ (all_told_or_untold R d.sharing m cs)) at refl $
         move ! (1 ∷ 0 ∷ []) $ now ! $ show ! (Redeemed b o) cs $ check ! so.0 $ done !))))
 
     rests_block : (b o : ℕ) (cs : List C) → length cs ≡ n
-        → ⟦ Slots b o cs ⟧ ∗ ⟦ all_telling R d.sharing k cs ⟧ ⊢ ⟦ Slotted b o ⟧
+        → ⟦ Slots b o cs ⟧ ∗ ⟦ all_told_or_untold R d.sharing k cs ⟧ ⊢ ⟦ Slotted b o ⟧
     rests_block b o cs long =
         let at : k ≡ 0 + k = omega arith in
-        qed 𝓛 (‵ (Slots b o cs) ∷ ‵ (all_telling R d.sharing k cs) ∷ []) ∵ fsplit ! $ fpick ! (λ ns.
+        qed 𝓛 (‵ (Slots b o cs) ∷ ‵ (all_told_or_untold R d.sharing k cs) ∷ []) ∵ fsplit ! $ fpick ! (λ ns.
         fsplit3 ! $ fpick ! (λ are. drop ! $ move ! (1 ∷ []) $ drop ! $
         -- [the words; the slots; what is told of them]
-        move ! (2 ∷ []) $ rewrite ! 0 (λ (m : ℕ). ‵ (all_telling R d.sharing m cs)) at refl $ move ! (2 ∷ 0 ∷ []) $
+        move ! (2 ∷ []) $ rewrite ! 0 (λ (m : ℕ). ‵ (all_told_or_untold R d.sharing m cs)) at refl $ move ! (2 ∷ 0 ∷ []) $
         use2 𝓛 (‵ (slots_rest R d.sharing k (length cs) 0 b o ns))
         (rests_slots d.sharing k b o ns cs 0 (told_flags ns cs are.1)) $
         rewrite ! 0 (λ (m : ℕ). ‵ (slots_rest R d.sharing k m 0 b o ns)) long refl $
@@ -262,7 +262,7 @@ module _ {M : Type 1} {𝓤 : Ura M} (𝓛 : Logic 𝓤) (R : RattleType) (L : L
     Plain p cs = guard 𝓤 (Fit d cs) (⟦ pointer_owns R heap_token p cs ⟧ ∗ ⟦ Tells cs ⟧)
 
     -- what is told of the slots of a bucket that stands
-    tells_whole : (cs : List C) → length cs ≡ n → ⟦ all_telling R d.sharing k cs ⟧ ⊢ ⟦ Tells cs ⟧
+    tells_whole : (cs : List C) → length cs ≡ n → ⟦ all_told_or_untold R d.sharing k cs ⟧ ⊢ ⟦ Tells cs ⟧
     tells_whole [] long = let some_slots : 0 < 2 ^ d.bucket = pow_pos d.bucket in absurd (omega arith)
     tells_whole (c ∷ cs) long = id⊢ 𝓤 _
 
@@ -276,7 +276,7 @@ module _ {M : Type 1} {𝓤 : Ura M} (𝓛 : Logic 𝓤) (R : RattleType) (L : L
         let p : Ptr = block_ptr b o in
         qed 𝓛 (‵ (at_rest R d p) ∷ []) ∵ updating ! $ fsplit3 ! $ fpick ! (λ so. drop ! $ fsplit ! $
         use1 𝓛 (later (some (λ (cs : List C).
-        given (length cs ≡ n) (‵ (Slots b o cs) ⊛ ‵ (all_telling R d.sharing k cs)))))
+        given (length cs ≡ n) (‵ (Slots b o cs) ⊛ ‵ (all_told_or_untold R d.sharing k cs)))))
         (redeems_block b o) $
         await ! tt $ pick ! (λ cs. learn ! (λ long. split ! $
         -- [the slots; what is told of them; the way back; the right to free]

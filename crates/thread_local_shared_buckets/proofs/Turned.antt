@@ -32,7 +32,7 @@ use Rattle.thread_local_bucket_pointers.specs.PointerOwns.{pointer_owns}
 use Rattle.thread_local_bucket_pointers.specs.contracts.bucket_pointer.BucketPointer as plain
 use Rattle.thread_local_bucket_pointers.proofs.bucket_pointer.BucketPointer.TheLaws as plain'
 use Rattle.thread_local_claim.specs.Shared.{BucketView, first, at_rest}
-use Rattle.thread_local_ids.specs.Told.{all_telling, whole_row, rows_telling, rows_tell, book_owns}
+use Rattle.thread_local_ids.specs.Told.{all_told_or_untold, whole_row, rows_telling, rows_tell, book_owns}
 use Rattle.thread_local_ids.proofs.Rows.{none_rows, rows_end}
 use Rattle.thread_local_claim.specs.contracts.shared_bucket.SharedBucket as shared
 use Rattle.thread_local_bucket_pointers.specs.Pointers.{contents_of}
@@ -95,7 +95,7 @@ module _ {M : Type 1} {𝓤 : Ura M} (𝓛 : Logic 𝓤) (R : RattleType) (L : L
 
   -- ---- one bucket: an owner's pointer, and what is told of its slots
   abbrev Tells : BucketView → List C → Fml
-  Tells d cs = all_telling R d.sharing (first R d) (whole_row d.bucket cs)
+  Tells d cs = all_told_or_untold R d.sharing (first R d) (whole_row d.bucket cs)
 
   abbrev Turned : BucketView → List Val → W.Denot → Pr
   Turned d vs w = guard 𝓤 (Fit d w.slots) (⟦ W.own_val w vs ⟧ ∗ ⟦ Tells d w.slots ⟧)

@@ -53,7 +53,7 @@ impl<T> Shared<T> {
         Shared::new_apart(buckets, own)
     }
 
-    /// `new`, with a name for the sharing that isn't a given one.
+    /// `new`, with a name for the sharing other than `past`.
     pub fn new_apart(buckets: Buckets<T>, own: &Right) -> Shared<T>
         ghost past: { Option ℕ }
         requires judged { Judged T.row }
@@ -137,7 +137,7 @@ impl<T> Shared<T> {
     }
 
     /// The same memory as `SharedParts`: what an owner sees as a `BucketPointer` is a
-    /// `SharedBucket` there. The two lie alike.
+    /// `SharedBucket` there. The two structs have fields of the same layout in the same order.
     fn parts(&self) -> &SharedParts<T>
         ensures { result.now ≡ self.now }
     {

@@ -123,7 +123,7 @@ impl IdBits {
         self.lowest_unset
     }
 
-    /// Whether the return of the id needs no further memory.
+    /// Whether the id has a bit already.
     fn has_room(&self, id: usize) -> bool
         ensures { IsTrue result ↔ (id < self.now.room) }
     {
@@ -142,7 +142,7 @@ impl IdBits {
         self.words.begin();
     }
 
-    /// Makes room for the return of the id, for which there is none.
+    /// Makes room for the id's bit, for which there is none.
     fn make_room(&mut self, id: usize) -> Result<(), LocalError>
         requires least { id ≡ least self.old.held }
         requires no_room { self.old.room ≤ id }

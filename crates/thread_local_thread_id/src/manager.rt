@@ -13,7 +13,7 @@ pub const IDS: usize = (1 << 63) - 1;
 /// Why a call obtained no id.
 #[derive(Clone, Copy, Debug, PartialEq, Eq)]
 pub enum LocalError {
-    /// Out of memory, for the return of a further id or for anything else that the call allocates.
+    /// Out of memory, for the bit of a further id or for anything else that the call allocates.
     Memory(AllocError),
     /// Every id is held.
     Exhausted,
@@ -21,14 +21,14 @@ pub enum LocalError {
 
 /// Gives out the least id that isn't held, and takes ids back.
 ///
-/// Contracts see the held ids, as a truth value for each id below the peak, and the room: the
-/// number of ids whose return needs no further memory. The peak is the greatest number of ids held
+/// Contracts see the held ids, as a truth value for each id below the peak, and the room: how
+/// many ids have a bit, so that taking them needs no memory. The peak is the greatest number of ids held
 /// at one moment.
 ///
 /// No call waits. The first 64 ids need no memory; for further ones `with_room` and `alloc` take it.
 ///
-/// Unlike in the Rust crate it is public, one for each table, and the memory that an id's return
-/// needs is taken with the id. In the Rust crate `alloc` returns the bare id, and there is no
+/// Unlike in the Rust crate it is public, one for each table, and the memory for an id's bit
+/// is taken with the id, so that its return needs none. In the Rust crate `alloc` returns the bare id, and there is no
 /// `with_room`, `is_held` or `clear`.
 #[derive(Drop)]
 pub struct ThreadIdManager {

@@ -27,8 +27,9 @@ impl<T> ThreadLocal<T> {
         self.buckets.owner()
     }
 
-    /// The values by ascending id, each moved out, while buckets and ids stay. It is the walk
-    /// `drain` of the buckets that `buckets_mut` lends, whose contract says what it gives.
+    /// The values by ascending id, each moved out, while buckets and ids stay. `drain` of
+    /// the buckets that `buckets_mut` lends is the same walk, and says which values it gives; this call
+    /// doesn't.
     pub fn drain(&mut self) -> Drain<'_, T>
     where
         T: Drop,

@@ -43,7 +43,8 @@ impl<T> Buckets<T> {
         (index + (size - 1), value)
     }
 
-    /// Drops every value where a walk has some left, and keeps every bucket.
+    /// Drops every value where a walk has some left, and keeps every bucket. It counts the values anew:
+    /// a drop can't lend the cursor that its value has.
     pub(crate) fn drop_rest(&mut self, left: usize)
     where
         T: Drop,

@@ -1,4 +1,5 @@
-//! What a claim tells of its slot, and what it is told.
+//! What shows with which value a claim's slot was published (`witness`), and that a claim holds what
+//! another such thing says (`agrees`).
 ghost use Rattle.std.specs.Prelude.{◌≡◌, true, is_some, IsSome};
 ghost use Rattle.thread_local_model.specs.Learnt.{Holding};
 ghost use Rattle.thread_local_claim.specs.Known.{HasLooked, value_held};

@@ -38,10 +38,10 @@ use Rattle.thread_local_claim.specs.Shared.{BucketView, Turn, StandingBlock, Siz
 use Rattle.thread_local_claim.proofs.RowFields.{pointer_good}
 use Rattle.thread_local_claim.proofs.Loads.{glimpse, reaches, reads}
 use Rattle.thread_local_model.specs.Learnt.{Learnt, Missing, Vacant, Finds}
-use Rattle.thread_local_claim.specs.Known.{HasLooked, IsMissing, has_looked, state_by, found_as}
+use Rattle.thread_local_claim.specs.Known.{HasLooked, MayLook, looked_in_vain, state_by, found_as}
 use Rattle.thread_local_claim.proofs.Learning.{known_as, not_missing, kept_as, state_by-fits, state_by-flag}
 use Rattle.thread_local_claim.proofs.Learning.{finds_nothing, finds_slot, unfound, found as found_in}
-use Rattle.thread_local_claim.specs.Claims.{ClaimFields, flag_word_of, claim_fields, IsOf, IsKept, waits, value_at, has, has_slot, has_at}
+use Rattle.thread_local_claim.specs.Claims.{ClaimFields, flag_word_of, claim_fields, IsOf, IsKept, claims_side, value_at, has, has_slot, has_at}
 use Rattle.thread_local_claim.specs.contracts.claimed.ClaimedSlot as claim
 use Rattle.thread_local_claim.specs.contracts.claimed.ClaimedSlot.find.{ended, clauses}
 use Rattle.thread_local_claim.specs.contracts.claimed.ClaimedSlot.find.Key.{name as #self}
@@ -112,9 +112,9 @@ find_spec 𝓤 𝓛 𝓜 𝓡 wired X L =
     ((κs, qs, bounds, a, (u₀ ∷ [], (vint w64 x ∷ [], (vint w64 num ∷ [], tt)))), gh) in
     let Post : Val → SProp 𝓤 = (walk_of 𝓛 En hs c).post y in
     qed 𝓛 (((‵ (flft β q) ⊛ ‵ others) ⊛ ‵ (owns (types_at En.signature.params κs) a y.0.4))
-    ∷ raw (fact 𝓤 _) ∷ raw (fact 𝓤 (IsMissing l₀)) ∷ raw (fact 𝓤 (x ≡ i))
+    ∷ raw (fact 𝓤 _) ∷ raw (fact 𝓤 (MayLook l₀)) ∷ raw (fact 𝓤 (x ≡ i))
     ∷ raw (fact 𝓤 (num ≡ flag_word_of R h.id)) ∷ []) ∵
-    keep ! (2 ∷ 3 ∷ 4 ∷ 0 ∷ []) $ heard ! (IsMissing l₀) (λ unseen. heard ! (x ≡ i) (λ is_index.
+    keep ! (2 ∷ 3 ∷ 4 ∷ 0 ∷ []) $ heard ! (MayLook l₀) (λ unseen. heard ! (x ≡ i) (λ is_index.
     heard ! (num ≡ flag_word_of R h.id) (λ numbered. split ! $ split ! $ move ! (2 ∷ []) $
     fsplit3 ! $ fsplit ! $ keep ! (1 ∷ 4 ∷ 5 ∷ []) $
     enter ! 𝓣.C 𝓣.Λ fn (u₀ ∷ vint w64 x ∷ vint w64 num ∷ []) Post $ alloc_all ! (λ l.
@@ -128,12 +128,12 @@ find_spec 𝓤 𝓛 𝓜 𝓡 wired X L =
     let d : BucketView = z.0 in
     let t : Turn = z.1 in
     let at : w ≡ block_ptr wb wo = at_block w of.0 in
-    use1 𝓛 (‵ (fsep (facts.fact (h.at ≡ w)) (waits (has_looked l₀) d.table t.pass h.id)))
+    use1 𝓛 (‵ (fsep (facts.fact (h.at ≡ w)) (claims_side (looked_in_vain l₀) d.table t.pass h.id)))
     (unfound 𝓛 R d t β pl l₀ unseen) $
     fsplit ! $ fpick ! (λ leads. drop ! $
     -- [what it waits with; what is kept; the tokens]
     let J : Fml = fbor t.life (bucket_invariant R d t wb (wo + 0)) in
-    let W : Fml = waits (has_looked l₀) d.table t.pass h.id in
+    let W : Fml = claims_side (looked_in_vain l₀) d.table t.pass h.id in
     let Pass : Fml = right_owns t.pass h.id in
     move ! (1 ∷ []) $ fsplit ! $
     use1 𝓛 (‵ (before β t.life) ⊛ ‵ (before β t.life)) (before_dup 𝓛 β t.life) $ split ! $
@@ -155,7 +155,7 @@ find_spec 𝓤 𝓛 𝓜 𝓡 wired X L =
     move ! (0 ∷ 3 ∷ 7 ∷ []) $
     use3 𝓛 (raw (𝓣.C _ (vptr wb (wo + 0) ∷ seq_cst ∷ []) (λ u. mean 𝓛 (calls.found 𝓛 out u))))
     (via 𝓤 _ (reads 𝓛 R d t wb (wo + 0) s (sem 𝓛 W) Pass W
-    (comes 𝓛 R d t wb (wo + 0) i h.id of.4 of.3 (has_looked l₀)) (id⊢ 𝓤 _))
+    (comes 𝓛 R d t wb (wo + 0) i h.id of.4 of.3 (looked_in_vain l₀)) (id⊢ 𝓤 _))
     (calls.loads 𝓛 𝓜 𝓡 (code.calls-std::sync::atomic::raw::ptr::load 𝓡.env wired) u64 word_laws
     (block_ptr wb (wo + 0)) out)) $
     Calls-last ! (fm 𝓛 𝓜 𝓡) (calls.found 𝓛 out)
@@ -254,12 +254,12 @@ find_spec 𝓤 𝓛 𝓜 𝓡 wired X L =
     exec ! 𝓣.C 𝓣.Λ Ev (after 8 fn.body) (at_ret Ev Post) $
     sets ! (of_opd ! (get ! refl)) refl (tt, tt) $
     let Found : ℕ → Fml =
-    steps.Finds 𝓛 R d t wb (wo + 0) s' i h.id e pb low of.3 refl refl (has_looked l₀) in
+    steps.Finds 𝓛 R d t wb (wo + 0) s' i h.id e pb low of.3 refl refl (looked_in_vain l₀) in
     let aft : ℕ → Fml = λ n. fsep (flft t.life s) (Found n) in
     first ! $ blocks ! $ sets ! (agg ! (and_then ! (lit ! tt) (no_more !))) refl seq_cst_good $
     move ! (4 ∷ 3 ∷ 1 ∷ 2 ∷ []) $ group ! 4 $
     use1 𝓛 (raw (𝓣.C _ (vptr pb at_word ∷ seq_cst ∷ []) (λ v. mean 𝓛 (found aft v))))
-    (via 𝓤 _ (steps.finds 𝓛 R d t wb (wo + 0) s' i h.id e pb low of.3 refl refl s (has_looked l₀))
+    (via 𝓤 _ (steps.finds 𝓛 R d t wb (wo + 0) s' i h.id e pb low of.3 refl refl s (looked_in_vain l₀))
     (loads 𝓛 𝓜 𝓡 (code.calls-std::sync::atomic::raw::load 𝓡.env wired)
     (block_ptr pb at_word) aft)) $
     Calls-last ! (fm 𝓛 𝓜 𝓡) (found aft)
@@ -317,7 +317,7 @@ find_spec 𝓤 𝓛 𝓜 𝓡 wired X L =
     use0 𝓛 (raw (fact 𝓤 (F₅ r))) (fact_i 𝓤 (F₅ r) (emp 𝓤) (finds_slot l₀ unseen v')) $
     use0 𝓛 (raw (fact 𝓤 (F₄ r))) (fact_i 𝓤 (F₄ r) (emp 𝓤) (refl, (λ _. not_missing v'))) $ join ! $
     use0 𝓛 (raw (fact 𝓤 (F₃ r)))
-    (fact_i 𝓤 (F₃ r) (emp 𝓤) (λ was. inr (ap found_as (known.1 (ap has_looked was))))) $
+    (fact_i 𝓤 (F₃ r) (emp 𝓤) (λ was. inr (ap found_as (known.1 (ap looked_in_vain was))))) $
     join ! $ use0 𝓛 (raw (fact 𝓤 (F₂ r))) (fact_i 𝓤 (F₂ r) (emp 𝓤) (known_as v')) $ join ! $
     use0 𝓛 (raw (fact 𝓤 (F₁ r))) (fact_i 𝓤 (F₁ r) (emp 𝓤) (refl, refl, refl, refl)) $ join ! $
     nothing ! $ nothing ! $ fjoin ! $ nothing ! $ fjoin ! $ nothing ! $ fjoin ! $
