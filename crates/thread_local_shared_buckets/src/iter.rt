@@ -152,8 +152,8 @@ impl<'a, T: Sync> Iterator for Iter<'a, T> {
 
     /// The next value that a look finds. One load of a word of flags is a look at up to 64 slots at one
     /// instant. The call gives the next value that such a look has found, and looks on where all are
-    /// given. A walk loads each word of flags once at most. Behind a missing bucket it loads eight
-    /// pointers at a time, and once more where one of them isn't null.
+    /// given. A walk loads each word of flags at most once, and each pointer at most twice: once by
+    /// itself, and that of a bucket behind the first seven once among eight.
     fn next(&mut self) -> Option<&'a T> {
         let (_, value) = self.step()?;
         Some(value)

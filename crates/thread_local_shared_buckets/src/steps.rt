@@ -286,7 +286,8 @@ impl<'a, T> Walk<'a, T> {
         }
     }
 
-    /// Passes missing buckets, eight at a time.
+    /// Passes missing buckets, eight at a time: first the eight behind the first seven buckets, then
+    /// the next eight. So a pointer is loaded once among eight, and once by itself.
     #[inline]
     fn skip_missing(&mut self)
         requires walk { IsWalk self.old }
@@ -298,7 +299,7 @@ impl<'a, T> Walk<'a, T> {
         ensures further { self.old.raw.bucket ≤ self.new.raw.bucket }
     {
         for _ in 0..8 {
-            if self.own.is_some() || self.raw.bucket + 8 > BUCKETS {
+            if self.own.is_some() || self.raw.bucket % 8 != 7 || self.raw.bucket + 8 > BUCKETS {
                 return;
             }
             if self.buckets.any_stands(self.raw.bucket) {
@@ -321,11 +322,7 @@ impl<'a, T> Walk<'a, T> {
         ensures leads { Leads (resting self.old.raw) (resting self.new.raw) }
         ensures further { self.old.raw.bucket < self.new.raw.bucket }
     {
-        let stands = self.row.is_some();
         self.leave();
-        if stands {
-            return;
-        }
         self.skip_missing();
     }
 
