@@ -518,7 +518,11 @@ fn counters_4_threads<T: Counter>() -> Round {
             for _ in 0..4 {
                 scope.spawn(|| {
                     let counter = table.get_or_default();
-                    for _ in 0..TIMES {
+                    // Four counts in each turn, so that where the loop lies in memory matters less.
+                    for _ in 0..TIMES / 4 {
+                        count(counter.cell());
+                        count(counter.cell());
+                        count(counter.cell());
                         count(counter.cell());
                     }
                 });

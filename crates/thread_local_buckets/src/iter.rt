@@ -109,6 +109,7 @@ impl<T: Drop> Iterator for IntoIter<T> {
     ghost remaining = { item_count (λ rest. rest) };
 
     /// The next value, whose flag is cleared before it moves out.
+    #[inline]
     fn next(&mut self) -> Option<T> {
         match self.entries.next() {
             Some((_, value)) => Some(value),
