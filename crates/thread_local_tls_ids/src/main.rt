@@ -1,5 +1,5 @@
 //! The program `tls` with the command `ids` alone: it uses no table, so it is proved and built in
-//! two minutes. `tally` is a wrong argument here.
+//! three minutes. `tally` is a wrong argument here.
 #![tactic(auto)]
 
 use std::process::ExitCode;
