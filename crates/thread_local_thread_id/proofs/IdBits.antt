@@ -1,6 +1,7 @@
 -- What each step of the bits of ids makes of their words, their peak, their lowest unset bit and their end.
 use Rattle.std.proofs.Common.{◌≡◌, ◌≢◌, ℕ, ◌+◌, ◌-◌, ◌*◌, ◌/◌, ◌^◌, ◌<◌, ◌≤◌, min, max, Bool, true, false, List, []}
-use Rattle.std.proofs.Common.{◌∷◌, ◌++◌, length, take, set, replicate, refl, sym, ◌∙◌, arith, ⊎_elim}
+use Rattle.std.proofs.Common.{◌∷◌, ◌++◌, length, take, set, replicate, refl, ap, sym, ◌∙◌, arith, ⊎_elim}
+use Rattle.std.specs.Int.{div_ceil}
 use Rattle.std.proofs.lemmas.Bool.{both_ways, true_from_ne_false, cases_eq, cases_lt}
 use Rattle.std.proofs.lemmas.List.{length-replicate, length_push, length-take, get_or-set_same, get_or-set_other}
 use Rattle.thread_local_model.specs.Bits.{bits_of, IsNextUnset}
@@ -13,6 +14,18 @@ use Rattle.thread_local_thread_id.specs.declared.id_bits.IdBits.TheInside.{Insid
 -- the held ids that contracts see fit into the room
 pub in_room : (m : Inside) → AreEntries m → length (take m.peak (bits_of m.words)) ≤ min (length m.words * 64) (2 ^ 63 - 1)
 in_room m is = omega (arith, length-take m.peak (bits_of m.words), is.peak, is.in_range)
+
+-- the room is no more than there are ids
+pub room_bounded : (count : ℕ) → min (count * 64) (2 ^ 63 - 1) ≤ 2 ^ 63 - 1
+room_bounded count = omega arith
+
+-- room for the ids that are asked for, in whole words
+pub room_for : (ids bits count : ℕ) (words : List ℕ) → bits ≡ min ids (2 ^ 63 - 1) → count ≡ div_ceil bits 64
+    → words ≡ replicate count 0
+    → (min ids (2 ^ 63 - 1) ≤ min (length words * 64) (2 ^ 63 - 1))
+    × (min (length words * 64) (2 ^ 63 - 1) < min ids (2 ^ 63 - 1) + 64)
+room_for ids bits count words fewer counted zeros =
+    let many : length words ≡ count = ap length zeros ∙ length-replicate count 0 in (omega arith, omega arith)
 
 -- words that are all 0 hold no id
 pub of_zeros : (new : Inside) (count : ℕ) → new.words ≡ replicate count 0 → count ≤ 2 ^ 57

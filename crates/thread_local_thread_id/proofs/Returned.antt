@@ -1,8 +1,8 @@
 -- The held ids without one that was given back: the least free one, and what a take changes.
 -- Lists are the held ids that bits have, and `returned` is one of them or past all of them.
 use Rattle.std.proofs.Common.{◌≡◌, ℕ, zero, suc, ◌-◌, ◌^◌, ◌<◌, ◌≤◌, Bool, true, false, List, [], ◌∷◌, length, refl, ap}
-use Rattle.std.proofs.Common.{◌∙◌, sym, arith, IsTrue, ◌⊎◌, ⊎_elim}
-use Rattle.std.proofs.lemmas.Bool.{both_ways, cases_eq, cases_lt}
+use Rattle.std.proofs.Common.{◌∙◌, sym, arith, IsTrue, ◌⊎◌, ⊎_elim, inl, inr, cond, eqb}
+use Rattle.std.proofs.lemmas.Bool.{both_ways, cond_both, cases_eq, cases_lt}
 use Rattle.thread_local_model.specs.Held.{Manager, is_held, least, with_least, without, HoldsAllBelow, Takes}
 use Rattle.thread_local_model.proofs.HeldLaws.{least_free, least_bounded, length-without, takes}
 
@@ -92,3 +92,19 @@ none_returned held returned full above =
     (λ inside. absurd (both_ways (is_held held (least held)) (least_free held) (full (least held) inside)))
     (λ past. without_past held returned (omega arith))
     (cases_lt (least held) (length held))
+
+-- a take leaves an id held that was held
+pub still_held : (old new : Manager) (returned id : ℕ)
+    → (returned ≡ 2 ^ 63 - 1) ⊎ IsTrue (is_held old.held returned) → Takes old new id
+    → (returned ≡ 2 ^ 63 - 1) ⊎ IsTrue (is_held new.held returned)
+still_held old new returned id there taken =
+    ⊎_elim
+    (λ none. inl none)
+    (λ held. inr (taken.at returned
+    ∙ ap (λ (b : Bool). cond (eqb id returned) true b) held
+    ∙ cond_both (eqb id returned) true true (λ (b : Bool). b ≡ true) (λ _. refl) (λ _. refl)))
+    there
+
+-- the ids that contracts see fit into the room
+pub fits : (held : List Bool) (room returned : ℕ) → length held ≤ room → length (without held returned) ≤ room
+fits held room returned within = omega (arith, length-without held returned)

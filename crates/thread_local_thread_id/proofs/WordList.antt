@@ -1,13 +1,16 @@
 -- The words as one list: what a write of the first word, or of one of the rest, makes of their bits,
 -- and which bit isn't set.
-use Rattle.std.proofs.Common.{◌≡◌, ◌≢◌, ℕ, suc, ◌+◌, ◌-◌, ◌*◌, ◌/◌, ◌%◌, ◌^◌, ◌<◌, ◌≤◌, Bool, List, ◌∷◌, length, get_or}
-use Rattle.std.proofs.Common.{take, set, refl, ap, subst, sym, ◌∙◌, arith}
+use Rattle.std.proofs.Common.{◌≡◌, ◌≢◌, ℕ, suc, ◌+◌, ◌-◌, ◌*◌, ◌/◌, ◌%◌, ◌^◌, ◌<◌, ◌≤◌, Bool, false, List, ◌∷◌, length, get_or}
+use Rattle.std.proofs.Common.{zero, [], ◌++◌, replicate, take, set, refl, ap, subst, sym, ◌∙◌, arith, ⊎_elim}
 use Rattle.std.specs.Int.{w64, trailing_ones}
-use Rattle.std.proofs.lemmas.List.{take_all, get_or_read, length-set, length-take}
-use Rattle.thread_local_model.specs.Bits.{bits_of, is_set_in, IsWordBut, IsNextUnset}
+use Rattle.std.proofs.lemmas.List.{take_all, get_or_read, get_or_past, length-set, length-take, length_push, take-replicate}
+use Rattle.std.proofs.lemmas.Bool.{both_ways, cases_lt}
+use Rattle.std.proofs.Math.Seq.{take-nil}
+use Rattle.thread_local_model.specs.Bits.{bits_of, is_set, is_set_in, IsWordBut, IsNextUnset}
+use Rattle.thread_local_model.proofs.Word.{is_set-zero}
 use Rattle.thread_local_thread_id.specs.declared.words.Words.TheInside.{Inside}
 use Rattle.thread_local_thread_id.specs.WordList.{words_of, AreWords}
-use Rattle.thread_local_model.proofs.Words.{bits_of-set, is_set_in-all_ones, next_unset, next_unset_from}
+use Rattle.thread_local_model.proofs.Words.{bits_of-set, is_set_in-all_ones, next_unset, next_unset_from, none_behind}
 
 -- where there is a word, all of them are the first and the rest
 all_words : (count first : ℕ) (rest : List ℕ) → length rest ≡ count - 1 → 0 < count
@@ -24,6 +27,9 @@ module _ (w : Inside) (words : List ℕ) (are : AreWords w) (view : words_of w �
   all_seen some =
       let counted : 0 < w.count = omega (arith, ap length view, length-take w.count (w.first ∷ w.rest.items)) in
       sym (all_words w.count w.first w.rest.items are counted) ∙ view
+
+  pub rest_length : 0 < length words → suc (length w.rest.items) ≡ length words
+  rest_length some = ap length (all_seen some)
 
   pub first_word : (at : ℕ) → at < length words → at ≡ 0 → w.first ≡ get_or words at 0
   first_word at within start =
@@ -106,3 +112,64 @@ pub next_behind_first : (words : List ℕ) (first bit : ℕ) → first ≡ get_o
 next_behind_first words first bit read full next =
     next_unset_from words 0 64 bit (omega arith)
     (λ i _ below. is_set_in-all_ones words 0 i (sym read ∙ full) (omega arith) (omega arith)) next
+
+-- nor is it further than the end of the words
+pub next_within : (words : List ℕ) (from bit : ℕ) → IsNextUnset words from bit → from ≤ length words * 64
+    → bit ≤ length words * 64
+next_within words from bit next within =
+    ⊎_elim
+    (λ past. absurd (both_ways _ (none_behind words).unset (next.between (length words * 64) within past)))
+    (λ inside. inside)
+    (cases_lt (length words * 64) bit)
+
+-- past the last word no bit is set
+pub unset_past : (words : List ℕ) (bit : ℕ) → length words ≤ bit / 64 → false ≡ is_set_in words bit
+unset_past words bit past =
+    sym (ap (λ (word : ℕ). is_set word (bit % 64)) (get_or_past words (bit / 64) 0 past) ∙ is_set-zero (bit % 64))
+
+-- a write doesn't change how many words there are
+pub first_written : (w : Inside) (words : List ℕ) (word : ℕ) → words_of w ≡ words
+    → length (take w.count (word ∷ w.rest.items)) ≡ length words
+first_written w words word view =
+    omega (arith, length-take w.count (word ∷ w.rest.items), length-take w.count (w.first ∷ w.rest.items), ap length view)
+
+pub later_written : (w : Inside) (words : List ℕ) (at word : ℕ) → words_of w ≡ words
+    → length (take w.count (w.first ∷ set w.rest.items at word)) ≡ length words
+later_written w words at word view =
+    omega (
+      arith,
+      length-take w.count (w.first ∷ set w.rest.items at word),
+      length-set w.rest.items at word,
+      length-take w.count (w.first ∷ w.rest.items),
+      ap length view,
+    )
+
+-- a first word that is 0, and as many zeros as make `len` words
+pub all_zeros : (len more before : ℕ) (none items : List ℕ) → more ≡ len - 1 → before ≡ 0 → none ≡ []
+    → items ≡ take more none ++ replicate (more - before) 0
+    → take len (0 ∷ items) ≡ replicate len 0
+all_zeros zero more before none items short start empty filled = refl
+all_zeros (suc n) more before none items short start empty filled =
+    let count : more - before ≡ n = omega arith in
+    let zeros : items ≡ replicate n 0 =
+    filled ∙ rw (empty, count) (ap (λ (l : List ℕ). l ++ replicate n 0) (take-nil more)) in
+    ap (λ (l : List ℕ). 0 ∷ l) (ap (take n) zeros ∙ take-replicate n n 0 (omega arith))
+
+-- words that are all cleared
+pub cleared : (count first left : ℕ) (rest now words : List ℕ) → length rest ≡ count - 1 → left ≡ length rest
+    → take count (first ∷ rest) ≡ words → now ≡ replicate left 0
+    → take count (0 ∷ now) ≡ replicate (length words) 0
+cleared zero first left rest now words are many view filled = ap (λ (ws : List ℕ). replicate (length ws) 0) view
+cleared (suc n) first left rest now words are many view filled =
+    let all : suc n ≡ length words = omega (arith, ap length view, length-take (suc n) (first ∷ rest)) in
+    ap (λ (ws : List ℕ). 0 ∷ ws) (ap (λ (ws : List ℕ). take n ws) filled ∙ take-replicate n left 0 (omega arith))
+    ∙ ap (λ (k : ℕ). replicate k 0) all
+
+-- a further word behind the others
+pub one_more : (count first : ℕ) (rest now words : List ℕ) → length rest ≡ count - 1 → 0 < count
+    → take count (first ∷ rest) ≡ words → now ≡ rest ++ 0 ∷ []
+    → take (count + 1) (first ∷ now) ≡ words ++ 0 ∷ []
+one_more count first rest now words are some view pushed =
+    ap (λ (ws : List ℕ). take (count + 1) (first ∷ ws)) pushed
+    ∙ take_all (count + 1) (first ∷ (rest ++ 0 ∷ [])) (omega (arith, length_push rest 0))
+    ∙ ap (λ (ws : List ℕ). ws ++ 0 ∷ []) (sym (all_words count first rest are some) ∙ view)

@@ -28,10 +28,10 @@ impl fmt::Display for LocalError {
     ghost output = { λ error. Some (local_error_text error) };
 
     fn fmt<W: fmt::Write>(&self, f: &mut fmt::Formatter<W>) -> fmt::Result {
-        match self {
-            LocalError::Memory(_) => f.write_str("memory allocation failed"),
-            LocalError::Exhausted => f.write_str("every id is held"),
-        }
+        f.write_str(match self {
+            LocalError::Memory(_) => "memory allocation failed",
+            LocalError::Exhausted => "every id is held",
+        })
     }
 }
 

@@ -1,8 +1,8 @@
-use Rattle.std.proofs.Common.{◌≡◌, ◌∙◌, ◌*◌, ◌-◌, ◌^◌, ◌<◌, length, take, ap, sym, arith, refl, add-one}
+use Rattle.std.proofs.Common.{◌≡◌, ◌∙◌, ℕ, min, ◌*◌, ◌-◌, ◌^◌, ◌<◌, length, take, ap, sym, arith, refl, add-one}
 use Rattle.thread_local_model.specs.Held.{least, with_least}
 use Rattle.thread_local_model.specs.Bits.{bits_of}
 use Rattle.thread_local_model.proofs.Words.{length-bits_of}
-use Rattle.thread_local_thread_id.proofs.IdBits.{held_at_peak, held_last, held_below_peak}
+use Rattle.thread_local_thread_id.proofs.IdBits.{in_room, held_at_peak, held_last, held_below_peak}
 use Rattle.thread_local_thread_id.proofs.Views.{least-take, least_within, taken_at_peak, taken_below_peak}
 use Rattle.thread_local_thread_id.proofs.id_bits.IdBits.hold.Goals as goal
 use Rattle.thread_local_thread_id.proofs.id_bits.IdBits.hold.Goals.{After-set_bit}
@@ -77,3 +77,34 @@ invariant_of-self-else-self-id c =
 
 pub returns-else-self-id-clause-held : goal.returns-else-self-id-clause-held
 returns-else-self-id-clause-held c = taken (goal.at.returns-else-self-id-clause-held c).After-set_bit c.if-id-self.false
+
+-- The search for these takes seconds.
+-- the room is as it was
+kept_room : (c : After-set_bit) → min (length c.set_bit.new.self * 64) (2 ^ 63 - 1) ≡ c.args.self.now.room
+kept_room c = ap (λ (count : ℕ). min (count * 64) (2 ^ 63 - 1)) c.set_bit.ensures.len ∙ ap (λ m. m.room) c.self.view_is
+
+pub returns-then-id-self-clause-room : goal.returns-then-id-self-clause-room
+returns-then-id-self-clause-room c = kept_room (goal.at.returns-then-id-self-clause-room c).After-set_bit
+
+pub returns-then-self-id-clause-room : goal.returns-then-self-id-clause-room
+returns-then-self-id-clause-room c = kept_room (goal.at.returns-then-self-id-clause-room c).After-set_bit
+
+pub returns-else-self-id-clause-room : goal.returns-else-self-id-clause-room
+returns-else-self-id-clause-room c = kept_room (goal.at.returns-else-self-id-clause-room c).After-set_bit
+
+pub returns-then-id-self-clause-peak_in_room : goal.returns-then-id-self-clause-peak_in_room
+returns-then-id-self-clause-peak_in_room c = in_room _ (invariant_of-self c)
+
+pub returns-then-self-id-clause-peak_in_room : goal.returns-then-self-id-clause-peak_in_room
+returns-then-self-id-clause-peak_in_room c = in_room _ (invariant_of-self-then-self-id c)
+
+pub returns-else-self-id-clause-peak_in_room : goal.returns-else-self-id-clause-peak_in_room
+returns-else-self-id-clause-peak_in_room c = in_room _ (invariant_of-self-else-self-id c)
+
+pub overflow_add-id : goal.overflow_add-id
+overflow_add-id c = omega (arith, (has_room (goal.at.overflow_add-id c).After-set_bit).1)
+
+pub next_unset-self-inside-requires-clause-within : goal.next_unset-self-inside-requires-clause-within
+next_unset-self-inside-requires-clause-within c =
+    let at = (goal.at.next_unset-self-inside-requires-clause-within c).After-set_bit in
+    omega (arith, (has_room at).0, c.set_bit.ensures.len)

@@ -1,7 +1,8 @@
-use Rattle.std.proofs.Common.{◌∙◌, ap, sym}
+use Rattle.std.proofs.Common.{◌∙◌, length, ap, sym}
 use Rattle.thread_local_model.specs.Held.{is_held}
 use Rattle.thread_local_model.specs.Bits.{bits_of}
 use Rattle.thread_local_model.proofs.Words.{get_or-bits_of}
+use Rattle.thread_local_thread_id.proofs.IdBits.{in_room, room_bounded}
 use Rattle.thread_local_thread_id.proofs.Views.{is_held-take}
 use Rattle.thread_local_thread_id.proofs.id_bits.IdBits.is_held.Goals as goal
 
@@ -13,3 +14,10 @@ returns-clause-held c =
     ∙ sym (get_or-bits_of words id)
     ∙ sym (is_held-take (bits_of words) c.self.inside.peak id c.self.invariant.above)
     ∙ ap (λ m. is_held m.held id) c.self.view_is
+
+-- The search for these takes a while.
+pub returns-clause-peak_in_room : goal.returns-clause-peak_in_room
+returns-clause-peak_in_room c = rw (← c.self.view_is) (in_room c.self.inside c.self.invariant)
+
+pub returns-clause-room_in_range : goal.returns-clause-room_in_range
+returns-clause-room_in_range c = rw (← c.self.view_is) (room_bounded (length c.self.inside.words))

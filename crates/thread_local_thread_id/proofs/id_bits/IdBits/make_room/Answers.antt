@@ -64,3 +64,14 @@ returns-clause-ok c =
     let under = c.self.invariant.peak in
     let range = c.if-id-ge-IDS.false in
     (rw c.in_ok-push_zero.ensures.ok (omega (arith, length_push c.self.inside.words 0)), range)
+
+-- The search for these takes a while.
+pub returns-clause-room : goal.returns-clause-room
+returns-clause-room c =
+    let room = ap (λ (m : Manager). m.room) c.self.view_is in
+    omega (arith, room, ap length c.in_ok-push_zero.ensures.ok, length_push c.self.inside.words 0)
+
+pub returns-clause-few : goal.returns-clause-few
+returns-clause-few c =
+    let room = ap (λ (m : Manager). m.room) c.self.view_is in
+    omega (arith, room, ap length c.in_ok-push_zero.ensures.ok, length_push c.self.inside.words 0)

@@ -1,6 +1,6 @@
 use Rattle.std.proofs.Common.{◌≤◌, arith, rules}
 use Rattle.thread_local_model.specs.Held.{least}
-use Rattle.thread_local_thread_id.proofs.Returned.{takes_returned, takes_another, none_returned}
+use Rattle.thread_local_thread_id.proofs.Returned.{takes_returned, takes_another, none_returned, still_held}
 use Rattle.thread_local_thread_id.proofs.manager.ThreadIdManager.alloc.Goals as goal
 use Rattle.thread_local_thread_id.proofs.manager.ThreadIdManager.alloc.Goals.{After-alloc}
 
@@ -40,3 +40,16 @@ returns-in_err-alloc-clause-exhausted c = λ refused.
           (λ id below. none.full id (omega arith)) (above at),
     )
     none
+
+-- The search for these takes a while.
+pub invariant_of-self-2 : goal.invariant_of-self-2
+invariant_of-self-2 c =
+    let taken = c.in_ok-alloc.ensures.ok in
+    record {
+      returned = still_held c.self.inside.bits c.alloc.new.self c.self.inside.returned _ c.self.invariant.returned taken;
+      peak_in_room = taken.peak_in_room;
+      room_in_range = taken.room_in_range;
+    }
+
+pub invariant_of-self-in_err-alloc : goal.invariant_of-self-in_err-alloc
+invariant_of-self-in_err-alloc c = rw c.in_err-alloc.ensures.err c.self.invariant

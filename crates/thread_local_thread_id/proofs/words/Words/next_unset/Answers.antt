@@ -1,5 +1,5 @@
 use Rattle.std.proofs.Common.{◌-◌, ◌*◌, ◌≡◌, ◌<◌, length, arith}
-use Rattle.thread_local_thread_id.proofs.WordList.{next_in_rest, next_in_first, next_behind_first}
+use Rattle.thread_local_thread_id.proofs.WordList.{next_in_rest, next_in_first, next_behind_first, next_within, rest_length}
 use Rattle.thread_local_thread_id.proofs.words.Words.next_unset.Goals as goal
 
 pub returns-then-from-gt0 : goal.returns-then-from-gt0
@@ -30,3 +30,18 @@ returns c =
     (next_behind_first c.args.self.now c.word-first.result _ c.word-first.ensures c.if-first.false
     (rw (← c.self.view_is) (next_in_rest w.count w.first w.rest.items 64 0 _ c.self.invariant
     (rw (← c.self.view_is) at some) (omega arith) next)))
+
+-- The search for these takes a second.
+pub overflow_add-result : goal.overflow_add-result
+overflow_add-result c =
+    let within = c.requires.within in
+    let many = rest_length c.self.inside c.args.self.now c.self.invariant c.self.view_is (omega (arith, within)) in
+    let next = rw c.deref.ensures.value at c.next_unset.ensures in
+    omega (arith, next_within c.self.inside.rest.items ((c.args.from - 1) * 64) _ next (omega (arith, within, many)), many, c.requires.few)
+
+pub overflow_add-result-2 : goal.overflow_add-result-2
+overflow_add-result-2 c =
+    let within = c.requires.within in
+    let many = rest_length c.self.inside c.args.self.now c.self.invariant c.self.view_is (omega (arith, within)) in
+    let next = rw c.deref-2.ensures.value at c.next_unset-2.ensures in
+    omega (arith, next_within c.self.inside.rest.items 0 _ next (omega arith), many, c.requires.few)

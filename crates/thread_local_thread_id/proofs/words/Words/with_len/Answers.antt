@@ -1,0 +1,7 @@
+use Rattle.thread_local_thread_id.proofs.WordList.{all_zeros}
+use Rattle.thread_local_thread_id.proofs.words.Words.with_len.Goals as goal
+
+-- The search for this takes a second.
+pub returns-clause-zeros : goal.returns-clause-zeros
+returns-clause-zeros c =
+    all_zeros c.args.len _ _ _ _ c.saturating_sub.ensures c.new-rest.ensures.len c.new-rest.ensures.items c.in_ok-resize.ensures.items
