@@ -1,4 +1,5 @@
-//! `Judge` for values without parts: numbers, times, atomics, texts.
+//! `Judge` for values without parts: numbers, times, atomics, texts. Where a body is empty, the check
+//! finds a value of the type and shows the fact by itself.
 use crate::judged::{Judge, judge_sync, judge_value};
 use std::boxed::BoxedStr;
 use std::cmp::Ordering;
@@ -15,39 +16,27 @@ use std::sync::atomic::{
 use std::time::{Duration, Instant, SystemTime};
 
 impl Judge for u8 {
-    fn judge() {
-        judge_value(&0u8);
-    }
+    fn judge() {}
 }
 
 impl Judge for u16 {
-    fn judge() {
-        judge_value(&0u16);
-    }
+    fn judge() {}
 }
 
 impl Judge for u32 {
-    fn judge() {
-        judge_value(&0u32);
-    }
+    fn judge() {}
 }
 
 impl Judge for u64 {
-    fn judge() {
-        judge_value(&0u64);
-    }
+    fn judge() {}
 }
 
 impl Judge for u128 {
-    fn judge() {
-        judge_value(&0u128);
-    }
+    fn judge() {}
 }
 
 impl Judge for usize {
-    fn judge() {
-        judge_value(&0usize);
-    }
+    fn judge() {}
 }
 
 impl Judge for i8 {
@@ -87,69 +76,47 @@ impl Judge for isize {
 }
 
 impl Judge for f32 {
-    fn judge() {
-        judge_value(&0.0f32);
-    }
+    fn judge() {}
 }
 
 impl Judge for f64 {
-    fn judge() {
-        judge_value(&0.0f64);
-    }
+    fn judge() {}
 }
 
 impl Judge for bool {
-    fn judge() {
-        judge_value(&false);
-    }
+    fn judge() {}
 }
 
 impl Judge for char {
-    fn judge() {
-        judge_value(&'a');
-    }
+    fn judge() {}
 }
 
 impl Judge for () {
-    fn judge() {
-        judge_value(&());
-    }
+    fn judge() {}
 }
 
 impl Judge for NonZeroU8 {
-    fn judge() {
-        judge_value(&NonZeroU8::MIN);
-    }
+    fn judge() {}
 }
 
 impl Judge for NonZeroU16 {
-    fn judge() {
-        judge_value(&NonZeroU16::MIN);
-    }
+    fn judge() {}
 }
 
 impl Judge for NonZeroU32 {
-    fn judge() {
-        judge_value(&NonZeroU32::MIN);
-    }
+    fn judge() {}
 }
 
 impl Judge for NonZeroU64 {
-    fn judge() {
-        judge_value(&NonZeroU64::MIN);
-    }
+    fn judge() {}
 }
 
 impl Judge for NonZeroU128 {
-    fn judge() {
-        judge_value(&NonZeroU128::MIN);
-    }
+    fn judge() {}
 }
 
 impl Judge for NonZeroUsize {
-    fn judge() {
-        judge_value(&NonZeroUsize::MIN);
-    }
+    fn judge() {}
 }
 
 impl Judge for NonZeroI8 {
@@ -189,15 +156,11 @@ impl Judge for NonZeroIsize {
 }
 
 impl Judge for Ordering {
-    fn judge() {
-        judge_value(&Ordering::Equal);
-    }
+    fn judge() {}
 }
 
 impl Judge for Duration {
-    fn judge() {
-        judge_value(&Duration::ZERO);
-    }
+    fn judge() {}
 }
 
 impl Judge for Instant {
@@ -207,74 +170,72 @@ impl Judge for Instant {
 }
 
 impl Judge for SystemTime {
-    fn judge() {
-        judge_value(&SystemTime::UNIX_EPOCH);
-    }
+    fn judge() {}
 }
 
 impl Judge for AtomicBool {
     fn judge() {
-        judge_value(&AtomicBool::new(false));
+        judge_sync::<AtomicBool>();
     }
 }
 
 impl Judge for AtomicU8 {
     fn judge() {
-        judge_value(&AtomicU8::new(0));
+        judge_sync::<AtomicU8>();
     }
 }
 
 impl Judge for AtomicU16 {
     fn judge() {
-        judge_value(&AtomicU16::new(0));
+        judge_sync::<AtomicU16>();
     }
 }
 
 impl Judge for AtomicU32 {
     fn judge() {
-        judge_value(&AtomicU32::new(0));
+        judge_sync::<AtomicU32>();
     }
 }
 
 impl Judge for AtomicU64 {
     fn judge() {
-        judge_value(&AtomicU64::new(0));
+        judge_sync::<AtomicU64>();
     }
 }
 
 impl Judge for AtomicUsize {
     fn judge() {
-        judge_value(&AtomicUsize::new(0));
+        judge_sync::<AtomicUsize>();
     }
 }
 
 impl Judge for AtomicI8 {
     fn judge() {
-        judge_value(&AtomicI8::new(0));
+        judge_sync::<AtomicI8>();
     }
 }
 
 impl Judge for AtomicI16 {
     fn judge() {
-        judge_value(&AtomicI16::new(0));
+        judge_sync::<AtomicI16>();
     }
 }
 
 impl Judge for AtomicI32 {
     fn judge() {
-        judge_value(&AtomicI32::new(0));
+        judge_sync::<AtomicI32>();
     }
 }
 
 impl Judge for AtomicI64 {
     fn judge() {
-        judge_value(&AtomicI64::new(0));
+        judge_sync::<AtomicI64>();
     }
 }
 
 impl Judge for AtomicIsize {
     fn judge() {
-        judge_value(&AtomicIsize::new(0));
+        judge_sync::<AtomicIsize>();
     }
 }
 
