@@ -162,8 +162,9 @@ pub cleared : (count first left : ℕ) (rest now words : List ℕ) → length re
 cleared zero first left rest now words are many view filled = ap (λ (ws : List ℕ). replicate (length ws) 0) view
 cleared (suc n) first left rest now words are many view filled =
     let all : suc n ≡ length words = omega (arith, ap length view, length-take (suc n) (first ∷ rest)) in
-    ap (λ (ws : List ℕ). 0 ∷ ws) (ap (λ (ws : List ℕ). take n ws) filled ∙ take-replicate n left 0 (omega arith))
-    ∙ ap (λ (k : ℕ). replicate k 0) all
+    let zeros : take n now ≡ replicate n 0 =
+    ap (λ (ws : List ℕ). take n ws) filled ∙ take-replicate n left 0 (omega arith) in
+    ap (λ (ws : List ℕ). 0 ∷ ws) zeros ∙ ap (λ (k : ℕ). replicate k 0) all
 
 -- a further word behind the others
 pub one_more : (count first : ℕ) (rest now words : List ℕ) → length rest ≡ count - 1 → 0 < count

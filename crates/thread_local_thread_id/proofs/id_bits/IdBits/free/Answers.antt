@@ -34,7 +34,16 @@ returns c =
     gives c.args.self.now _ c.args.id c.requires held room (in_room _ (invariant_of-self c))
     (room_bounded (length c.clear_bit.new.self))
 
--- The search for this takes a second.
+-- The search for these takes a second.
+pub clear_bit-requires : goal.clear_bit-requires
+clear_bit-requires c =
+    omega (
+      arith,
+      below_peak (bits_of c.self.inside.words) c.self.inside.peak c.args.id
+          (ap (λ m. is_held m.held c.args.id) c.self.view_is ∙ c.requires),
+      c.self.invariant.peak,
+    )
+
 pub overflow_add-id : goal.overflow_add-id
 overflow_add-id c =
     let at = (goal.at.overflow_add-id c).After-clear_bit in

@@ -75,3 +75,15 @@ pub returns-clause-few : goal.returns-clause-few
 returns-clause-few c =
     let room = ap (λ (m : Manager). m.room) c.self.view_is in
     omega (arith, room, ap length c.in_ok-push_zero.ensures.ok, length_push c.self.inside.words 0)
+
+pub returns-in_err-push_zero-clause-held : goal.returns-in_err-push_zero-clause-held
+returns-in_err-push_zero-clause-held c =
+    rw c.in_err-push_zero.ensures.err (ap (λ (m : Manager). m.held) c.self.view_is)
+
+pub returns-in_err-push_zero-clause-room : goal.returns-in_err-push_zero-clause-room
+returns-in_err-push_zero-clause-room c =
+    omega (arith, ap length c.in_err-push_zero.ensures.err, ap (λ (m : Manager). m.room) c.self.view_is)
+
+pub returns-in_err-push_zero-clause-few : goal.returns-in_err-push_zero-clause-few
+returns-in_err-push_zero-clause-few c =
+    omega (arith, ap length c.in_err-push_zero.ensures.err, ap (λ (m : Manager). m.room) c.self.view_is)

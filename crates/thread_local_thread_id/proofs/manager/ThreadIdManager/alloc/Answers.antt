@@ -1,4 +1,4 @@
-use Rattle.std.proofs.Common.{◌≤◌, arith, rules}
+use Rattle.std.proofs.Common.{◌≤◌, arith, rules, refl, inl}
 use Rattle.thread_local_model.specs.Held.{least}
 use Rattle.thread_local_thread_id.proofs.Returned.{takes_returned, takes_another, none_returned, still_held}
 use Rattle.thread_local_thread_id.proofs.manager.ThreadIdManager.alloc.Goals as goal
@@ -53,3 +53,11 @@ invariant_of-self-2 c =
 
 pub invariant_of-self-in_err-alloc : goal.invariant_of-self-in_err-alloc
 invariant_of-self-in_err-alloc c = rw c.in_err-alloc.ensures.err c.self.invariant
+
+pub invariant_of-self : goal.invariant_of-self
+invariant_of-self c =
+    record {
+      returned = inl refl;
+      peak_in_room = c.self.invariant.peak_in_room;
+      room_in_range = c.self.invariant.room_in_range;
+    }

@@ -1,4 +1,4 @@
-use Rattle.std.proofs.Common.{◌-◌, ◌*◌, ◌≡◌, ◌<◌, length, arith}
+use Rattle.std.proofs.Common.{◌-◌, ◌*◌, ◌≡◌, ◌<◌, length, arith, ap}
 use Rattle.thread_local_thread_id.proofs.WordList.{next_in_rest, next_in_first, next_behind_first, next_within, rest_length}
 use Rattle.thread_local_thread_id.proofs.words.Words.next_unset.Goals as goal
 
@@ -45,3 +45,21 @@ overflow_add-result-2 c =
     let many = rest_length c.self.inside c.args.self.now c.self.invariant c.self.view_is (omega (arith, within)) in
     let next = rw c.deref-2.ensures.value at c.next_unset-2.ensures in
     omega (arith, next_within c.self.inside.rest.items 0 _ next (omega arith), many, c.requires.few)
+
+pub next_unset-requires-clause-within : goal.next_unset-requires-clause-within
+next_unset-requires-clause-within c =
+    let within = c.requires.within in
+    let many = rest_length c.self.inside c.args.self.now c.self.invariant c.self.view_is (omega (arith, within)) in
+    omega (arith, ap length c.deref.ensures.value, many, within)
+
+pub next_unset-requires-clause-few : goal.next_unset-requires-clause-few
+next_unset-requires-clause-few c =
+    let within = c.requires.within in
+    let many = rest_length c.self.inside c.args.self.now c.self.invariant c.self.view_is (omega (arith, within)) in
+    omega (arith, ap length c.deref.ensures.value, many, c.requires.few)
+
+pub next_unset-requires-2-clause-few : goal.next_unset-requires-2-clause-few
+next_unset-requires-2-clause-few c =
+    let within = c.requires.within in
+    let many = rest_length c.self.inside c.args.self.now c.self.invariant c.self.view_is (omega (arith, within)) in
+    omega (arith, ap length c.deref-2.ensures.value, many, c.requires.few)
