@@ -18,6 +18,10 @@ use types.Keyed.{entry, entries_from, entry_cut, entry_glue, entry_set, entries_
 use denote.RattleType.{RattleType}
 use Rattle.thread_local_ids.specs.Told.{once, untold, told, untold_in, told_in, tells, told_or_untold, all_tell, all_told_or_untold}
 
+-- a sharing without a name has none
+nameless : IsSome {T = GName} None → ⊥
+nameless named = cc
+
 module _ {M : Type 1} {𝓤 : Ura M} (𝓛 : Logic 𝓤) where
   abbrev Pr : Type 2
   Pr = SProp 𝓤
@@ -89,12 +93,12 @@ module _ {M : Type 1} {𝓤 : Ura M} (𝓛 : Logic 𝓤) where
   alike : (sharing : Option GName) → IsSome sharing → (id : ℕ) (g h : Gv)
       → ⟦ told_in sharing id g ⟧ ∗ ⟦ told_in sharing id h ⟧
       ⊢ guard 𝓤 (g ≡ h) (⟦ told_in sharing id g ⟧ ∗ ⟦ told_in sharing id h ⟧)
-  alike None named id g h = cc
+  alike None named id g h = absurd (nameless named)
   alike (Some γ) named id g h = told_alike γ id g h
 
   never_told : (sharing : Option GName) → IsSome sharing → (id : ℕ) (g : Gv) (Z : Pr)
       → ⟦ untold_in sharing id ⟧ ∗ ⟦ told_in sharing id g ⟧ ⊢ Z
-  never_told None named id g Z = cc
+  never_told None named id g Z = absurd (nameless named)
   never_told (Some γ) named id g Z = untold_no γ id g Z
 
   module _ (R : RattleType) where

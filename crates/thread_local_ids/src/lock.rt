@@ -124,14 +124,8 @@ impl<V: Fits> Lock<V> {
         ensures tag { (result.tag ≡ self.now.tag) × (V.tag result.value ≡ self.now.tag) }
         ensures fits { V.fits result.value }
     {
-        for turn in 0..TURNS {
+        for turn in 0..TURNS + YIELDS {
             pause(turn);
-            if let Some(guard) = self.look_and_try() {
-                return guard;
-            }
-        }
-        for _ in 0..YIELDS {
-            thread::yield_now();
             if let Some(guard) = self.look_and_try() {
                 return guard;
             }
@@ -220,12 +214,15 @@ impl<V: Fits> Drop for LockGuard<'_, V> {
     }
 }
 
-/// Waits for a moment, which doubles from turn to turn, and goes on running.
-fn pause(turn: u64)
-    requires { turn < 64 }
-{
-    for _ in 0..1u64 << turn {
-        spin_loop();
+/// Waits for a moment and goes on running. The moment doubles from turn to turn, and after `TURNS`
+/// turns each is a yield.
+fn pause(turn: u64) {
+    if turn < TURNS {
+        for _ in 0..1u64 << turn {
+            spin_loop();
+        }
+    } else {
+        thread::yield_now();
     }
 }
 

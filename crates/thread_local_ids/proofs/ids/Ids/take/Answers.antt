@@ -2,6 +2,7 @@
 use Rattle.std.proofs.Common.{◌≡◌, ◌≢◌, ◌+◌, ◌^◌, ◌==◌, true, refl, ap, ◌∙◌, arith, if◌then◌else◌, ne_eqb}
 use Rattle.thread_local_model.specs.Held.{is_held}
 use Rattle.thread_local_ids.specs.Rights.{is_out}
+use Rattle.thread_local_ids.specs.Tied.{TableIds}
 use Rattle.thread_local_model.proofs.HeldLaws.{least_free}
 use Rattle.thread_local_ids.proofs.ids.Ids.take.Goals as goal
 
@@ -20,3 +21,16 @@ take-mark-requires c = let held = c.self.inside.manager.held in let id = c.in_ok
     ∙ (c.self.invariant id low).1
     ∙ ap (is_held held) c.in_ok-id.ensures.ok.least
     ∙ least_free held
+
+-- The search for these takes a while.
+pub returns-clause-ok : goal.returns-clause-ok
+returns-clause-ok c = rw (← c.self.view_is) c.in_ok-id.ensures.ok
+
+pub returns-clause-right : goal.returns-clause-right
+returns-clause-right c =
+    let right = c.take-right.ensures.right in
+    (right.0 ∙ ap (λ (t : TableIds). t.table) c.self.view_is, right.1)
+
+pub returns-clause-mark : goal.returns-clause-mark
+returns-clause-mark c =
+    c.take-mark.ensures.right.0 ∙ c.take-right.ensures.table ∙ ap (λ (t : TableIds). t.table) c.self.view_is
