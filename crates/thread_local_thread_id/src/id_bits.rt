@@ -99,11 +99,12 @@ impl IdBits {
         self.hold(id);
     }
 
-    /// `alloc` where there is no room for the id.
+    /// `alloc` of an id past the first 64, where there is no room for it.
     #[cold]
     #[inline(never)]
     fn alloc_further(&mut self, id: usize) -> Result<(), LocalError>
         requires least { id ≡ least self.old.held }
+        requires further { 64 ≤ id }
         requires no_room { self.old.room ≤ id }
         ensures ok { OnOk result (Takes self.old self.new id) }
         ensures memory { result ≡ Err (LocalError.Memory alloc_error) → NeedsMemory self.old }
@@ -142,9 +143,10 @@ impl IdBits {
         self.words.begin();
     }
 
-    /// Makes room for the id's bit, for which there is none.
+    /// Makes room for the bit of an id past the first 64, for which there is none.
     fn make_room(&mut self, id: usize) -> Result<(), LocalError>
         requires least { id ≡ least self.old.held }
+        requires further { 64 ≤ id }
         requires no_room { self.old.room ≤ id }
         ensures held { self.new.held ≡ self.old.held }
         ensures room { self.old.room ≤ self.new.room }

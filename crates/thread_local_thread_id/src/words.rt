@@ -74,17 +74,13 @@ impl Words {
         }
     }
 
-    /// Appends a word that is 0. `Err` means out of memory, which the first word doesn't need.
+    /// Appends a word that is 0, where there is a first one. `Err` means out of memory.
     pub(crate) fn push_zero(&mut self) -> Result<(), AllocError>
-        requires { length self.old < 2 ^ 57 }
+        requires begun { 0 < length self.old }
+        requires few { length self.old < 2 ^ 57 }
         ensures ok { OnOk result (self.new ≡ self.old ++ 0 ∷ []) }
         ensures err { OnErr result (self.new ≡ self.old) }
     {
-        if self.count == 0 {
-            self.first = 0;
-            self.count = 1;
-            return Ok(());
-        }
         self.rest.push(0)?;
         self.count += 1;
         Ok(())

@@ -87,3 +87,8 @@ returns-in_err-push_zero-clause-room c =
 pub returns-in_err-push_zero-clause-few : goal.returns-in_err-push_zero-clause-few
 returns-in_err-push_zero-clause-few c =
     omega (arith, ap length c.in_err-push_zero.ensures.err, ap (λ (m : Manager). m.room) c.self.view_is)
+
+pub push_zero-requires-clause-begun : goal.push_zero-requires-clause-begun
+push_zero-requires-clause-begun c =
+    let s = stands c.args.self.now c.self.inside c.args.id c.self.view_is c.requires.least in
+    omega (arith, s.peak, s.within, c.self.invariant.peak, c.requires.further)
