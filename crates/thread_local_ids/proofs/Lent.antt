@@ -259,18 +259,6 @@ module _ {M : Type 1} {𝓤 : Ura M} (𝓛 : Logic 𝓤) (m : Member) (g : Ghost
     abbrev pub Parts : ℕ × R.Denot → Pr
     Parts s = ⟦ word b (o + 0) s.0 ⟧ ∗ ⟦ At s.1 ⟧ ∗ Back
 
-    pub parts_out : ⟦ part_at Lock full_share d b o ⟧ ⊢ ex 𝓤 Parts
-    unfolding part_of
-    parts_out =
-        qed 𝓛 (‵ (part_at Lock full_share d b o) ∷ []) ∵ fpick ! (λ vs. fsplit3 ! $
-        move ! (2 ∷ []) $ fpick ! (λ s. fsplit ! $ move ! (2 ∷ 0 ∷ []) $ fjoin ! $
-        fpack ! (List Val)
-        (λ us. fsep (cell_at full_share Data.mir us b o) (Data.own_val (s.0, (s.1, tt)) us)) vs $
-        use1 𝓛 ((‵ (wd s.0) ⊛ ‵ (At s.1) ⊛ ‵ ftrue) ⊛ raw Back)
-        (Struct-parts 𝓛 full_share [] ks (u64-laws.lawful 𝓛, (L, tt)) (s.0, (s.1, tt)) b o) $
-        split ! $ split3 ! $
-        use1 𝓛 (‵ (word b (o + 0) s.0)) (word_out 𝓛 b (o + 0) s.0) $ show ! Parts s $ keep ! (0 ∷ 1 ∷ 3 ∷ []) $ done !))
-
     abbrev Turns : GName → Pr
     Turns γ' = all 𝓤 (λ (w : LockView). A.auth γ' (code w) -∗ A.auth δ (code d))
 

@@ -13,7 +13,7 @@ use seplogic.Ra.Ura.{Ura}
 use seplogic.Ra.Constructions.Opt
 use seplogic.Ra.Instances.Excl
 use seplogic.Ra.IProd.{mem-op_iff}
-use base.Logic.{SProp, ent, sep, ex, guard, emp, upd, id⊢, via, guard_i}
+use base.Logic.{SProp, ent, sep, ex, guard, emp, upd, via, guard_i}
 use base.Fml.{GName, Fml}
 use base.Shift.{Keyless}
 use types.Logic.{Logic, sem}
@@ -125,14 +125,6 @@ module _ {M : Type 1} {𝓤 : Ura M} (𝓛 : Logic 𝓤) where
           → ⟦ right_owns γ id ⟧ ∗ ⟦ rights_own γ out ⟧ ⊢ Out γ out id Z
       tell true e d = via 𝓤 Z (so e) (guard_i 𝓤 (is_out out id ≡ true) Z e)
       tell false e d = absurd (clash (id == id) (is_out out id) (eq-eqb id id refl) e (d id))
-
-  -- a right that someone has is out
-  pub right_is_out : (γ : GName) (out : List ℕ) (id : ℕ)
-      → ⟦ right_owns γ id ⟧ ∗ ⟦ rights_own γ out ⟧
-      ⊢ Out γ out id (⟦ right_owns γ id ⟧ ∗ ⟦ rights_own γ out ⟧)
-  right_is_out γ out id =
-      seen γ out id (⟦ right_owns γ id ⟧ ∗ ⟦ rights_own γ out ⟧)
-      (λ _. id⊢ 𝓤 (⟦ right_owns γ id ⟧ ∗ ⟦ rights_own γ out ⟧))
 
   -- a right is put back
   pub rights_join : (γ : GName) (out : List ℕ) (id : ℕ)

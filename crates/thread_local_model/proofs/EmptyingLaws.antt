@@ -4,9 +4,8 @@ use Rattle.std.proofs.Common.{◌∙◌, arith}
 use Rattle.std.proofs.lemmas.List.{length-map, ext_get_or}
 use Rattle.std.proofs.Math.ListN.{get_or-map}
 use Rattle.std.proofs.Math.Seq.{map-set_same}
-use Rattle.std.specs.Prelude.{nat_lt}
 use Rattle.thread_local_model.specs.Place.{bucket_of, index_of, id_at}
-use Rattle.thread_local_model.specs.Buckets.{Contents, row, stands, values, IsTable}
+use Rattle.thread_local_model.specs.Buckets.{Contents, row, values, IsTable}
 use Rattle.thread_local_model.specs.Rows.{value_in, with_slot}
 use Rattle.thread_local_model.specs.Walk.{walk}
 use Rattle.thread_local_model.proofs.PlaceLaws as place
@@ -27,9 +26,6 @@ module _ {V : Type 0} where
   values-emptied c id =
       ap (λ (r : List (Option V)). get_or r (index_of id) None) (row-emptied c (bucket_of id))
       ∙ get_or-map none (row c (bucket_of id)) (index_of id) None
-
-  pub stands-emptied : (c : Contents V) (b : ℕ) → stands (emptied c) b ≡ stands c b
-  stands-emptied c b = ap (λ (r : List (Option V)). nat_lt 0 (length r)) (row-emptied c b) ∙ ap (nat_lt 0) (length-map (row c b) none)
 
   -- a slot that is emptied before changes nothing
   pub emptied-with_slot : (c : Contents V) (b i : ℕ) (o : Option V) → emptied (with_slot c b i o) ≡ emptied c

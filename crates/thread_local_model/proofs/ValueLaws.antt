@@ -62,12 +62,6 @@ module _ {V : Type 0} where
   pub values-absent : (c : Contents V) (b id : ℕ) → bucket_of id ≡ b → row c b ≡ [] → values c id ≡ None
   values-absent c b id here absent = ap (λ (r : List (Option V)). get_or r (index_of id) None) (ap (row c) here ∙ absent)
 
-  -- where a change in a slot keeps the length of a row, that bucket still stands or still doesn't
-  pub stands-with_slot : (c : Contents V) (b i j : ℕ) (o : Option V)
-      → length (row (with_slot c b i o) j) ≡ length (row c j)
-      → stands (with_slot c b i o) j ≡ stands c j
-  stands-with_slot c b i j o same = ap (nat_lt 0) same
-
 pub values-no_contents : (V : Type 0) (id : ℕ) → values (no_contents {V = V}) id ≡ None
 values-no_contents V id = ap (λ (r : List (Option V)). get_or r (index_of id) None) (row-no_contents V (bucket_of id))
 
