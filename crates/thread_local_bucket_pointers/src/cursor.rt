@@ -142,7 +142,7 @@ fn next_flags<P: FlagSource>(source: &mut P, raw: &mut RawIter) -> u64
 
 /// The flags, with the lowest set one cleared.
 #[inline]
-fn without_first(flags: u64) -> u64
+pub fn without_first(flags: u64) -> u64
     requires { 0 < flags }
     ensures { (first : ℕ) → IsLowestSet flags first → IsWordBut result flags first false }
 {

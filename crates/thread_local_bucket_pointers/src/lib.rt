@@ -15,5 +15,5 @@ pub use block::Block;
 pub use bucket_pointer::BucketPointer;
 pub use bucket_pointers::BucketPointers;
 pub use chunk::{Chunk, flag_word_at, value_size};
-pub use cursor::{FlagSource, OwnerCursor, RawIter, write_struct};
+pub use cursor::{FlagSource, OwnerCursor, RawIter, without_first, write_struct};
 pub use retired::RetiredBlock;
