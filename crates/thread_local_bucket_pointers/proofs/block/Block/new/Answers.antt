@@ -1,5 +1,5 @@
-use Rattle.std.proofs.Common.{◌≡◌, ℕ, ◌+◌, length, sym, ap, ◌∙◌, subst, arith}
-use Rattle.std.specs.Prelude.{None}
+use Rattle.std.proofs.Common.{◌≡◌, ℕ, ◌+◌, ◌<◌, List, length, sym, ap, ◌∙◌, subst, arith}
+use Rattle.std.specs.Prelude.{None, replicate}
 use Rattle.std.proofs.lemmas.List.{length-replicate}
 use Rattle.thread_local_bucket_pointers.specs.Slots.{chunks, flag_word_at}
 use Rattle.thread_local_bucket_pointers.proofs.block.Block.new.Goals as goal
@@ -33,3 +33,37 @@ returns g c =
     let count = c.chunk_count-chunk-end.ensures in
     let test = c.chunks-test.false in
     (kept.0, kept.1, (let all = kept.2 in omega arith))
+
+-- a block of one chunk has room for it
+one_left : {X : Type 0} (slots : List X) (x : X) (n left count : ℕ) → slots ≡ replicate n x
+    → left ≡ chunks n → count ≡ chunks n → count ≡ 1
+    → (0 + left ≡ chunks (length slots)) × (0 < left)
+one_left slots x n left count empty all counted one =
+    let long : length slots ≡ n = ap length empty ∙ length-replicate n x in (
+      subst (λ (k : ℕ). 0 + left ≡ chunks k) (sym long) (let z : 0 + left ≡ chunks n = omega (arith, all) in z),
+      omega (arith, all, counted, one),
+    )
+
+none_left : (n left after count : ℕ) → left ≡ chunks n → after + 1 ≡ left → count ≡ chunks n → count ≡ 1 → after ≡ 0
+none_left n left after count all pushed counted one = omega (arith, all, pushed, counted, one)
+
+pub push-requires-clause-next : goal.push-requires-clause-next
+push-requires-clause-next g c =
+    let made = c.in_ok-block.ensures in
+    one_left c.in_ok-block.block.slots None c.args.len c.in_ok-block.block.left c.chunk_count.result made.1 made.2
+    c.chunk_count.ensures c.if-chunk_count-eq1.true
+
+pub push-requires-clause-flag_word : goal.push-requires-clause-flag_word
+push-requires-clause-flag_word g c =
+    let long : length c.in_ok-block.block.slots ≡ c.args.len = ap length c.in_ok-block.ensures.1 ∙ length-replicate c.args.len None in
+    c.flag_word_at.ensures ∙ ap (λ (n : ℕ). flag_word_at g.row.T n 0) (sym long)
+
+pub returns-then-chunk_count-eq1 : goal.returns-then-chunk_count-eq1
+returns-then-chunk_count-eq1 g c =
+    let made = c.in_ok-block.ensures in
+    let after = c.push.ensures in (
+      after.0 ∙ made.0,
+      after.1 ∙ made.1,
+      none_left c.args.len c.in_ok-block.block.left c.push.new.self.left c.chunk_count.result made.2 after.2
+      c.chunk_count.ensures c.if-chunk_count-eq1.true,
+    )
