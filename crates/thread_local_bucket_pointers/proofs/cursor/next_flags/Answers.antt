@@ -1,5 +1,5 @@
 -- The walk goes from bucket to bucket until it finds flags that aren't 0.
-use Rattle.std.proofs.Common.{◌≡◌, ◌+◌, ◌-◌, ◌*◌, ◌^◌, ◌<◌, ◌≤◌, ℕ, sym, ◌∙◌, ap, subst, arith, [], refl}
+use Rattle.std.proofs.Common.{◌≡◌, ◌+◌, ◌-◌, ◌*◌, ◌^◌, ◌<◌, ◌≤◌, ℕ, sym, ◌∙◌, ap, subst, arith, [], refl, length}
 use Rattle.thread_local_model.specs.Place.{id_at}
 use Rattle.thread_local_model.specs.Buckets.{Contents, values, row}
 use Rattle.thread_local_model.specs.Owner.{NoneBelow}
@@ -101,3 +101,61 @@ unreachable-requires g c =
     walk-met (g.P.FlagSource.contents c.args.source.now) c.loop-bucket.bucket
     (c.loop-bucket.raw.index - 64) c.loop-bucket-test.false c.loop-bucket.invariant.behind in
     omega (arith, none, c.requires.some)
+
+-- The search for all of these takes two seconds.
+pub loop-bucket-init : goal.loop-bucket-init
+loop-bucket-init g c = let at = c.requires.at in record {
+  here = refl;
+  at = λ _. at;
+  behind = at.behind;
+  same = refl;
+  ahead = λ _. c.requires.ahead;
+  yielded = refl;
+}
+
+pub stands-requires : goal.stands-requires
+stands-requires g c = c.loop-bucket-test.true
+
+pub flags_in_bucket-flags-requires-clause-at : goal.flags_in_bucket-flags-requires-clause-at
+flags_in_bucket-flags-requires-clause-at g c = let kept = c.loop-bucket.invariant in
+    subst (λ l. IsAt (g.P.FlagSource.contents l) c.loop-bucket.raw 0)
+    (sym (c.stands.ensures.same ∙ kept.same))
+    (kept.at c.loop-bucket-test.true)
+
+pub flags_in_bucket-flags-requires-clause-whole : goal.flags_in_bucket-flags-requires-clause-whole
+flags_in_bucket-flags-requires-clause-whole g c =
+    let kept = c.loop-bucket.invariant in
+    let whole : length (row (g.P.FlagSource.contents c.loop-bucket.source) c.loop-bucket.bucket) ≡ 2 ^ c.loop-bucket.bucket =
+    c.stands.ensures.whole c.if-stands.true in
+    ap (λ l. length (row (g.P.FlagSource.contents l) c.loop-bucket.raw.bucket)) c.stands.ensures.same
+    ∙ ap (λ (b : ℕ). length (row (g.P.FlagSource.contents c.loop-bucket.source) b)) kept.here
+    ∙ whole
+    ∙ ap (λ (b : ℕ). 2 ^ b) (sym kept.here)
+    ∙ sym (kept.at c.loop-bucket-test.true).size
+
+pub flags_in_bucket-flags-requires-clause-ahead : goal.flags_in_bucket-flags-requires-clause-ahead
+flags_in_bucket-flags-requires-clause-ahead g c = let kept = c.loop-bucket.invariant in
+    subst (λ l. g.P.FlagSource.given l ≤ read_to c.loop-bucket.raw)
+    (sym (c.stands.ensures.same ∙ kept.same))
+    (kept.ahead c.loop-bucket-test.true)
+
+pub returns-then-flags-ne0-clause-same : goal.returns-then-flags-ne0-clause-same
+returns-then-flags-ne0-clause-same g c =
+    c.flags_in_bucket-flags.ensures.same ∙ c.stands.ensures.same ∙ c.loop-bucket.invariant.same
+
+pub returns-then-flags-ne0-clause-at : goal.returns-then-flags-ne0-clause-at
+returns-then-flags-ne0-clause-at g c =
+    let found = c.flags_in_bucket-flags in
+    let some : 0 < found.result = (let test = c.if-flags-ne0.true in omega (arith, test)) in
+    subst (λ l. IsAt (g.P.FlagSource.contents l) found.new.raw found.result)
+    (c.stands.ensures.same ∙ c.loop-bucket.invariant.same)
+    (found.ensures.found some)
+
+pub returns-then-flags-ne0-clause-ahead : goal.returns-then-flags-ne0-clause-ahead
+returns-then-flags-ne0-clause-ahead g c = let found = c.flags_in_bucket-flags in
+    subst (λ l. g.P.FlagSource.given l ≤ read_to found.new.raw)
+    (c.stands.ensures.same ∙ c.loop-bucket.invariant.same)
+    found.ensures.ahead
+
+pub returns-then-flags-ne0-clause-yielded : goal.returns-then-flags-ne0-clause-yielded
+returns-then-flags-ne0-clause-yielded g c = c.flags_in_bucket-flags.ensures.yielded ∙ c.loop-bucket.invariant.yielded

@@ -65,5 +65,5 @@ returns-then-chunk_count-eq1 g c =
       after.0 ∙ made.0,
       after.1 ∙ made.1,
       none_left c.args.len c.in_ok-block.block.left c.push.new.self.left c.chunk_count.result made.2 after.2
-      c.chunk_count.ensures c.if-chunk_count-eq1.true,
+          c.chunk_count.ensures c.if-chunk_count-eq1.true,
     )
