@@ -1,11 +1,16 @@
-use Rattle.std.proofs.Common.{◌≡◌, ℕ, None, ap, sym, ◌∙◌, subst}
-use Rattle.thread_local_model.specs.Buckets.{Contents, IsTable}
-use Rattle.thread_local_model.specs.Owned.{Owned}
-use Rattle.thread_local_model.specs.Rows.{with_slot}
+use Rattle.std.proofs.Common.{◌≡◌, ◌+◌, ◌-◌, ◌^◌, ◌<◌, ◌≤◌, ℕ, None, ◌∷◌, ap, sym, ◌∙◌, subst, length, arith, pow_pos, lit<}
+use Rattle.std.specs.Prelude.{IsSome, IsTrue}
+use Rattle.thread_local_model.specs.Place.{id_at}
+use Rattle.thread_local_model.specs.Buckets.{Contents, IsTable, row, values}
+use Rattle.thread_local_model.specs.Owned.{Owned, IsOwned}
+use Rattle.thread_local_model.specs.Rows.{value_in, with_slot}
 use Rattle.thread_local_model.specs.Owner.{emptied}
-use Rattle.thread_local_bucket_pointers.specs.Cursor.{values_left, slot_at, IsOwnerWalk}
+use Rattle.thread_local_model.specs.Walk.{walk, paired}
+use Rattle.thread_local_bucket_pointers.specs.Cursor.{values_left, read_to, slot_at, AreFlagsAt, IsOwnerWalk}
 use Rattle.thread_local_bucket_pointers.specs.declared.cursor.OwnerCursor.{OwnerCursor}
-use Rattle.thread_local_model.proofs.RowLaws.{IsTable-with_slot}
+use Rattle.thread_local_model.proofs.PlaceLaws.{id_at-below}
+use Rattle.thread_local_model.proofs.RowLaws.{IsTable-with_slot, length-row-with_slot, row_whole}
+use Rattle.thread_local_model.proofs.ValueLaws.{stands-with_slot}
 use Rattle.thread_local_model.proofs.EmptyingLaws.{emptied-with_slot, emptied-none}
 use Rattle.thread_local_buckets.specs.Emptied.{owned_emptied}
 use Rattle.thread_local_buckets.proofs.buckets.Buckets.take_next.Goals as goal
@@ -37,6 +42,134 @@ it_takes g c =
     takes c.self.inside.pointers c.pass-bit.new.source c.take_and_store-value.new.self cursor.raw.bucket i cursor
     c.self.invariant.table (c.pass-bit.ensures.same ∙ c.reach.ensures.same)
     c.take_and_store-value.ensures.after (subst P c.reach.ensures.same c.pass-bit.ensures.walk)
+
+-- the slot is one of its bucket's, and its id is a `usize`
+slot_near : {V : Type 0} (c d : Contents V) (b i : ℕ) → IsTable c → d ≡ c → i < length (row d b) → i < 2 ^ b
+slot_near c d b i t same inside =
+    let near : i < length (row c b) = subst (λ (w : Contents _). i < length (row w b)) same inside in
+    subst (λ (n : ℕ). i < n) (row_whole c b i t near) near
+
+record IsNear (i size : ℕ) : Type 0 where
+  some : 1 ≤ size
+  index : i < 2 ^ 64
+  id : i + (size - 1) < 2 ^ 64
+
+is_near : {V : Type 0} (c d : Contents V) (b i size : ℕ) → IsTable c → d ≡ c → i < length (row d b) → b < 63
+    → size ≡ 2 ^ b → IsNear i size
+is_near c d b i size t same inside low all =
+    let below = id_at-below b i low (slot_near c d b i t same inside) in
+    let some = pow_pos b in
+    record { some = omega (arith, some, all); index = omega (arith, below); id = omega (arith, below, all) }
+
+not_below : (n : ℕ) → 0 ≤ n
+not_below n = omega arith
+
+owned_still : {V : Type 0} (c d e : Contents V) (reserved b i : ℕ) → IsOwned (record { contents = c; reserved = reserved })
+    → d ≡ c → e ≡ with_slot d b i None → IsOwned (record { contents = e; reserved = reserved })
+owned_still c d e reserved b i owned same after =
+    let taken : Contents _ = with_slot c b i None in
+    let now : e ≡ taken = after ∙ ap (λ (w : Contents _). with_slot w b i None) same in
+    let P : Contents _ → Type 0 = λ w. IsOwned (record { contents = w; reserved = reserved }) in
+    subst P (sym now) (record {
+      table = IsTable-with_slot c b i None owned.table;
+      first = owned.first;
+      standing = λ bucket low below.
+          subst IsTrue (sym (stands-with_slot c b i bucket None (length-row-with_slot c b i bucket None)))
+          (owned.standing bucket low below);
+    })
+
+-- The search for all that follows takes six seconds.
+pub reach-requires-room-P-FlagSource : goal.reach-requires-room-P-FlagSource
+reach-requires-room-P-FlagSource g c κs within = lit< tt
+
+pub pass-bit-requires-room-P-FlagSource : goal.pass-bit-requires-room-P-FlagSource
+pass-bit-requires-room-P-FlagSource g c κs within = lit< tt
+
+pub reach-requires : goal.reach-requires
+reach-requires g c =
+    let cursor = c.args.cursor.now in
+    let walk = subst (λ (s : Owned _). IsOwnerWalk s.contents cursor) (sym c.self.view_is) c.requires.walk in
+    record { may_read = record { walk = walk; ahead = not_below (read_to cursor.raw); some = c.requires.some } }
+
+pub pass-bit-requires-clause-walk : goal.pass-bit-requires-clause-walk
+pass-bit-requires-clause-walk g c =
+    subst (λ (w : Contents _). IsOwnerWalk w c.reach.new.self) (sym c.reach.ensures.same) c.reach.ensures.read.walk
+
+pub pass-bit-requires-clause-given : goal.pass-bit-requires-clause-given
+pass-bit-requires-clause-given g c = λ id below. absurd (omega (arith, below))
+
+pub pass-bit-requires-clause-some : goal.pass-bit-requires-clause-some
+pass-bit-requires-clause-some g c = c.reach.ensures.read.some
+
+pub overflow_sub-index : goal.overflow_sub-index
+overflow_sub-index g c = c.pass-bit.ensures.read
+
+pub overflow_add-index : goal.overflow_add-index
+overflow_add-index g c =
+    let cursor = c.pass-bit.new.self in
+    let near =
+    is_near c.self.inside.pointers c.reach.new.source cursor.raw.bucket (slot_at cursor.raw c.pass-bit.result)
+    cursor.raw.bucket_size c.self.invariant.table c.reach.ensures.same c.pass-bit.ensures.in_bucket
+    c.pass-bit.ensures.walk.at.in_table c.pass-bit.ensures.walk.at.size in
+    record { fits = near.index }
+
+pub take_and_store-value-requires : goal.take_and_store-value-requires
+take_and_store-value-requires g c =
+    let cursor = c.pass-bit.new.self in
+    let b = cursor.raw.bucket in
+    let i = slot_at cursor.raw c.pass-bit.result in
+    let P : Contents g.row.T.Denot → Type 0 = λ w.
+    (i < length (row w b)) × IsSome (value_in w b i) × AreFlagsAt (with_slot w b i None) b i cursor.rest in
+    let passed = c.pass-bit.ensures in
+    let there = subst P (sym passed.same) (passed.in_bucket, passed.published, passed.flags) in
+    (lit< tt, (passed.walk.at.in_table, (passed.walk.at.size, (there.0, (there.1, there.2)))))
+
+pub overflow_sub-result : goal.overflow_sub-result
+overflow_sub-result g c =
+    let cursor = c.pass-bit.new.self in
+    let some : (b size : ℕ) → size ≡ 2 ^ b → 1 ≤ size = λ b size all. (let some = pow_pos b in omega (arith, some, all)) in
+    some cursor.raw.bucket cursor.raw.bucket_size c.pass-bit.ensures.walk.at.size
+
+pub overflow_add-result : goal.overflow_add-result
+overflow_add-result g c =
+    let cursor = c.pass-bit.new.self in
+    let near =
+    is_near c.self.inside.pointers c.reach.new.source cursor.raw.bucket (slot_at cursor.raw c.pass-bit.result)
+    cursor.raw.bucket_size c.self.invariant.table c.reach.ensures.same c.pass-bit.ensures.in_bucket
+    c.pass-bit.ensures.walk.at.in_table c.pass-bit.ensures.walk.at.size in
+    record { fits = near.id }
+
+pub invariant_of-self : goal.invariant_of-self
+invariant_of-self g c =
+    let cursor = c.pass-bit.new.self in
+    owned_still c.self.inside.pointers c.pass-bit.new.source c.take_and_store-value.new.self c.self.inside.reserved
+    cursor.raw.bucket (slot_at cursor.raw c.pass-bit.result) c.self.invariant
+    (c.pass-bit.ensures.same ∙ c.reach.ensures.same) c.take_and_store-value.ensures.after
+
+pub returns-clause-walk : goal.returns-clause-walk
+returns-clause-walk g c =
+    let cursor = c.pass-bit.new.self in
+    let i = slot_at cursor.raw c.pass-bit.result in
+    let now = c.take_and_store-value.ensures.after ∙ ap (λ (w : Contents _). with_slot w cursor.raw.bucket i None) c.pass-bit.ensures.same in
+    subst (λ (w : Contents _). IsOwnerWalk w cursor) (sym now) c.pass-bit.ensures.walk
+
+pub returns-clause-first : goal.returns-clause-first
+returns-clause-first g c =
+    let cursor = c.pass-bit.new.self in
+    let b = cursor.raw.bucket in
+    let i = slot_at cursor.raw c.pass-bit.result in
+    let value = c.take_and_store-value.result in
+    let now = c.take_and_store-value.ensures.after ∙ ap (λ (w : Contents _). with_slot w b i None) c.pass-bit.ensures.same in
+    let there = ap (λ (w : Contents _). value_in w b i) (sym c.pass-bit.ensures.same) ∙ c.take_and_store-value.ensures.value in
+    let size = sym c.pass-bit.ensures.walk.at.size in
+    let left = sym now in
+    sym (ap (λ (s : Owned _). walk (paired (values s.contents))) c.self.view_is)
+    ∙ ap (λ (w : Contents _). walk (paired (values w))) (sym c.reach.ensures.same)
+    ∙ c.pass-bit.ensures.first value there
+    ∙ (λ j. (i + (size j - 1), value) ∷ walk (paired (values (left j))))
+
+pub returns-clause-left : goal.returns-clause-left
+returns-clause-left g c = c.pass-bit.ensures.left ∙ c.reach.ensures.read.left
 
 pub returns-clause-ends : goal.returns-clause-ends
 returns-clause-ends g c = (it_takes g c).ends

@@ -1,0 +1,187 @@
+use Rattle.std.proofs.Common.{◌≡◌, ◌+◌, ◌-◌, ◌^◌, ◌<◌, ◌≤◌, ℕ, None, Some, ◌∷◌, ap, sym, ◌∙◌, subst, length, arith, pow_pos}
+use Rattle.std.specs.Prelude.{IsSome}
+use Rattle.thread_local_model.specs.Place.{id_at}
+use Rattle.thread_local_model.specs.Buckets.{Contents, row, values}
+use Rattle.thread_local_model.specs.Rows.{value_in, with_slot}
+use Rattle.thread_local_model.specs.Walk.{walk, paired}
+use Rattle.thread_local_bucket_pointers.specs.Cursor.{slot_at, read_to, IsAt, IsOwnerWalk}
+use Rattle.thread_local_bucket_pointers.specs.declared.cursor.RawIter.{RawIter}
+use Rattle.thread_local_model.proofs.PlaceLaws.{id_at-below}
+use Rattle.thread_local_buckets.specs.Entered.{IsEntered}
+use Rattle.thread_local_buckets.specs.IterMut.{entries_mut_rest}
+use Rattle.thread_local_buckets.specs.declared.loan.Loan.{Loan}
+use Rattle.thread_local_buckets.proofs.iter_mut.EntriesMutIterator.next.Goals as goal
+
+-- the slot that the loan gives is the one that the walk passes
+record IsThere {V : Type 0} (l m : Loan V) (raw : RawIter) (bit : ℕ) : Type 0 where
+  same : l ≡ m
+  bucket : l.bucket ≡ raw.bucket
+  first : l.first ≡ raw.index - 64
+  slot : l.first + bit ≡ slot_at raw bit
+
+is_there : {V : Type 0} (l m : Loan V) (raw old : RawIter) (bit : ℕ) → l ≡ m → IsEntered m old → raw ≡ old
+    → IsThere l m raw bit
+is_there l m raw old bit same entered is =
+    let first : l.first ≡ raw.index - 64 =
+    ap (λ (w : Loan _). w.first) same ∙ entered.1 ∙ ap (λ (r : RawIter). r.index - 64) (sym is) in
+    record {
+      same = same;
+      bucket = ap (λ (w : Loan _). w.bucket) same ∙ entered.0 ∙ ap (λ (r : RawIter). r.bucket) (sym is);
+      first = first;
+      slot = ap (λ (n : ℕ). n + bit) first;
+    }
+
+it_is_there : (g : _) (c : goal.After-give-arg-1 g)
+    → IsThere c.pass-bit.new.source c.lead.new.loan c.pass-bit.new.self.raw c.pass-bit.result
+it_is_there g c =
+    is_there c.pass-bit.new.source c.lead.new.loan c.pass-bit.new.self.raw c.lead.new.cursor.raw c.pass-bit.result
+    c.pass-bit.ensures.same c.lead.ensures.entered c.pass-bit.ensures.raw
+
+it_is_there_still : (g : _) (c : goal.After-give-item g)
+    → IsThere c.pass-bit.new.source c.lead.new.loan c.pass-bit.new.self.raw c.pass-bit.result
+it_is_there_still g c =
+    is_there c.pass-bit.new.source c.lead.new.loan c.pass-bit.new.self.raw c.lead.new.cursor.raw c.pass-bit.result
+    c.pass-bit.ensures.same c.lead.ensures.entered c.pass-bit.ensures.raw
+
+record IsNear (i size : ℕ) : Type 0 where
+  some : 1 ≤ size
+  index : i < 2 ^ 64
+  id : i + (size - 1) < 2 ^ 64
+
+-- the slot is one of its bucket's, and its id is a `usize`
+is_near : {V : Type 0} (c d : Contents V) (raw old : RawIter) (rest i : ℕ) → IsAt c old rest → raw ≡ old → d ≡ c
+    → 64 ≤ raw.index → i < length (row d raw.bucket) → IsNear i raw.bucket_size
+is_near c d raw old rest i at is same = let P : RawIter → Type 0 = λ r. 64 ≤ r.index → i < length (row d r.bucket) → IsNear i r.bucket_size in
+    subst P (sym is) (λ read inside.
+    let long : length (row d old.bucket) ≡ 2 ^ old.bucket =
+    ap (λ (w : Contents _). length (row w old.bucket)) same ∙ at.whole (omega (arith, read)) ∙ at.size in
+    let below = id_at-below old.bucket i at.in_table (subst (λ (n : ℕ). i < n) long inside) in
+    let some = pow_pos old.bucket in
+    let all = at.size in
+    record { some = omega (arith, some, all); index = omega (arith, below); id = omega (arith, below, all) })
+
+it_is_near : (g : _) (c : goal.After-give-item g) → IsNear (slot_at c.pass-bit.new.self.raw c.pass-bit.result) c.pass-bit.new.self.raw.bucket_size
+it_is_near g c =
+    is_near c.self.inside.loan.contents c.lead.new.loan.contents c.pass-bit.new.self.raw c.lead.new.cursor.raw c.lead.new.cursor.rest
+    (slot_at c.pass-bit.new.self.raw c.pass-bit.result) c.lead.ensures.read.walk.at c.pass-bit.ensures.raw
+    c.lead.ensures.contents c.pass-bit.ensures.read c.pass-bit.ensures.in_bucket
+
+-- what the loan has left, and up to where it has given values
+record Gave {V : Type 0} (l m now : Loan V) (raw : RawIter) (bit : ℕ) : Type 0 where
+  contents : now.contents ≡ with_slot m.contents raw.bucket (slot_at raw bit) None
+  given : now.given ≡ id_at raw.bucket (slot_at raw bit) + 1
+
+gave : {V : Type 0} (l m now : Loan V) (raw : RawIter) (bit : ℕ) → IsThere l m raw bit
+    → now.contents ≡ with_slot l.contents l.bucket (l.first + bit) None
+    → now.given ≡ id_at l.bucket (l.first + bit) + 1
+    → Gave l m now raw bit
+gave l m now raw bit there contents given =
+    let same = there.same in
+    let bucket = there.bucket in
+    let slot = there.slot in
+    record {
+      contents = contents ∙ (λ j. with_slot (same j).contents (bucket j) (slot j) None);
+      given = given ∙ (λ j. id_at (bucket j) (slot j) + 1);
+    }
+
+it_gave : (g : _) (c : goal.After-give-item g)
+    → Gave c.pass-bit.new.source c.lead.new.loan c.give-item.new.self c.pass-bit.new.self.raw c.pass-bit.result
+it_gave g c =
+    gave c.pass-bit.new.source c.lead.new.loan c.give-item.new.self c.pass-bit.new.self.raw c.pass-bit.result
+    (it_is_there_still g c) c.give-item.ensures.contents c.give-item.ensures.given
+
+-- The search for all that follows takes three seconds.
+pub lead-requires-clause-may_read : goal.lead-requires-clause-may_read
+lead-requires-clause-may_read g c = record {
+  walk = c.self.invariant.0;
+  ahead = c.self.invariant.2;
+  some = c.is_over.ensures.goes_on c.if-is_over.false;
+}
+
+pub lead-requires-clause-entered : goal.lead-requires-clause-entered
+lead-requires-clause-entered g c = c.self.invariant.3
+
+pub pass-bit-requires-clause-walk : goal.pass-bit-requires-clause-walk
+pass-bit-requires-clause-walk g c =
+    subst (λ (w : Contents _). IsOwnerWalk w c.lead.new.cursor) (sym c.lead.ensures.contents) c.lead.ensures.read.walk
+
+pub pass-bit-requires-clause-given : goal.pass-bit-requires-clause-given
+pass-bit-requires-clause-given g c = λ id below.
+    ap (λ (w : Contents _). values w id) c.lead.ensures.contents
+    ∙ c.self.invariant.1 id (subst (λ (n : ℕ). id < n) c.lead.ensures.given below)
+
+pub pass-bit-requires-clause-some : goal.pass-bit-requires-clause-some
+pass-bit-requires-clause-some g c = c.lead.ensures.read.some
+
+pub give-item-requires-clause-in_table : goal.give-item-requires-clause-in_table
+give-item-requires-clause-in_table g c =
+    subst (λ (b : ℕ). b < 63) (sym (it_is_there g c).bucket) c.pass-bit.ensures.walk.at.in_table
+
+pub give-item-requires-clause-in_bucket : goal.give-item-requires-clause-in_bucket
+give-item-requires-clause-in_bucket g c =
+    let there = it_is_there g c in
+    let same = sym there.same in
+    let bucket = sym there.bucket in
+    let slot = sym there.slot in
+    subst (λ (t : Type 0). t) (λ j. slot j < length (row (same j).contents (bucket j))) c.pass-bit.ensures.in_bucket
+
+pub give-item-requires-clause-ahead : goal.give-item-requires-clause-ahead
+give-item-requires-clause-ahead g c =
+    let there = it_is_there g c in
+    let same = sym there.same in
+    let bucket = sym there.bucket in
+    let slot = sym there.slot in
+    subst (λ (t : Type 0). t) (λ j. (same j).given ≤ id_at (bucket j) (slot j)) c.pass-bit.ensures.ahead
+
+pub give-item-requires-clause-published : goal.give-item-requires-clause-published
+give-item-requires-clause-published g c =
+    let there = it_is_there g c in
+    let same = sym there.same in
+    let bucket = sym there.bucket in
+    let slot = sym there.slot in
+    subst (λ (t : Type 0). t) (λ j. IsSome (value_in (same j).contents (bucket j) (slot j))) c.pass-bit.ensures.published
+
+pub overflow_sub-index : goal.overflow_sub-index
+overflow_sub-index g c = c.pass-bit.ensures.read
+
+pub overflow_add-index : goal.overflow_add-index
+overflow_add-index g c = record { fits = (it_is_near g c).index }
+
+pub overflow_sub-result : goal.overflow_sub-result
+overflow_sub-result g c = (it_is_near g c).some
+
+pub overflow_add-result : goal.overflow_add-result
+overflow_add-result g c = record { fits = (it_is_near g c).id }
+
+pub invariant_of-self : goal.invariant_of-self
+invariant_of-self g c =
+    let cursor = c.pass-bit.new.self in
+    let there = it_is_there_still g c in
+    let now = it_gave g c in
+    let next : (a b : ℕ) → a < b → a + 1 ≤ b = λ a b less. omega (arith, less) in (
+      subst (λ (w : Contents _). IsOwnerWalk w cursor) (sym now.contents) c.pass-bit.ensures.walk,
+      (λ id below.
+          ap (λ (w : Contents _). values w id) now.contents
+          ∙ c.pass-bit.ensures.behind id (subst (λ (n : ℕ). id < n) now.given below)),
+      subst (λ (n : ℕ). n ≤ read_to cursor.raw) (sym now.given)
+          (next (id_at cursor.raw.bucket (slot_at cursor.raw c.pass-bit.result)) (read_to cursor.raw) c.pass-bit.ensures.before),
+      (λ _. (c.give-item.ensures.bucket ∙ there.bucket, c.give-item.ensures.first ∙ there.first)),
+    )
+
+pub returns-clause-steps : goal.returns-clause-steps
+returns-clause-steps g c =
+    let raw = c.pass-bit.new.self.raw in
+    let i = slot_at raw c.pass-bit.result in
+    let item = c.give-item.result.now in
+    let there = it_is_there_still g c in
+    let same = sym there.same in
+    let bucket = sym there.bucket in
+    let slot = sym there.slot in
+    let value : value_in c.lead.new.loan.contents raw.bucket i ≡ Some item =
+    (λ j. value_in (same j).contents (bucket j) (slot j)) ∙ c.give-item.ensures.value in
+    let size = sym c.pass-bit.ensures.walk.at.size in
+    let left = sym (it_gave g c).contents in
+    sym (ap entries_mut_rest c.self.view_is)
+    ∙ ap (λ (w : Contents _). walk (paired (values w))) (sym c.lead.ensures.contents)
+    ∙ c.pass-bit.ensures.first item value
+    ∙ (λ j. (i + (size j - 1), item) ∷ walk (paired (values (left j))))
