@@ -1,10 +1,15 @@
-use Rattle.std.proofs.Common.{◌≡◌, ℕ, ◌+◌, ◌*◌, ◌<◌, ◌≤◌, refl, ◌∙◌, subst, is_some, arith, ⊎_elim}
+use Rattle.std.proofs.Common.{◌≡◌, ℕ, ◌+◌, ◌*◌, ◌<◌, ◌≤◌, ◌/◌, length, refl, sym, ap, ◌∙◌, subst, is_some, arith, ⊎_elim}
 use Rattle.std.proofs.lemmas.Bool.{cases_lt}
 use Rattle.thread_local_model.specs.Bits.{is_set}
+use Rattle.thread_local_model.specs.Buckets.{row}
 use Rattle.thread_local_model.specs.Rows.{value_in}
-use Rattle.thread_local_bucket_pointers.specs.Cursor.{AreFlagsAt}
+use Rattle.thread_local_bucket_pointers.specs.Cursor.{AreFlagsAt, read_to}
+use Rattle.thread_local_bucket_pointers.specs.declared.cursor.RawIter.{RawIter}
 use Rattle.thread_local_bucket_pointers.proofs.FlagLaws.{none_at_hand, none_in_chunk, chunk_read, behind_chunk}
 use Rattle.thread_local_bucket_pointers.proofs.cursor.flags_in_bucket.Goals as goal
+
+inside : (chunk size long : ℕ) → size ≡ long → chunk < (size + 63) / 64 → chunk * 64 < long
+inside chunk size long all near = omega (arith, all, near)
 
 pub loop-chunk-init : goal.loop-chunk-init
 loop-chunk-init g c = let round = c.requires.at.round in record {
@@ -65,3 +70,45 @@ pub returns-clause-behind : goal.returns-clause-behind
 returns-clause-behind g c = λ none.
     c.loop-chunk.invariant.behind c.args.raw.now.bucket_size
     (omega (arith, c.loop-chunk-test.false)) (omega arith)
+
+-- The search for those that follow takes a second.
+pub flags-flags-requires-clause-in_table : goal.flags-flags-requires-clause-in_table
+flags-flags-requires-clause-in_table g c =
+    subst (λ (r : RawIter). r.bucket < 63) (sym c.loop-chunk.invariant.raw) c.requires.at.in_table
+
+pub flags-flags-requires-clause-in_bucket : goal.flags-flags-requires-clause-in_bucket
+flags-flags-requires-clause-in_bucket g c =
+    let raw = sym c.loop-chunk.invariant.raw in
+    let same = sym c.loop-chunk.invariant.same in
+    inside c.loop-chunk.chunk c.args.raw.now.bucket_size _
+    (sym c.requires.whole ∙ (λ j. length (row (g.P.FlagSource.contents (same j)) (raw j).bucket)))
+    c.loop-chunk-test.true
+
+pub returns-then-flags-ne0-clause-same : goal.returns-then-flags-ne0-clause-same
+returns-then-flags-ne0-clause-same g c = c.flags-flags.ensures.same ∙ c.loop-chunk.invariant.same
+
+pub returns-then-flags-ne0-clause-yielded : goal.returns-then-flags-ne0-clause-yielded
+returns-then-flags-ne0-clause-yielded g c = ap (λ (r : RawIter). r.yielded) c.loop-chunk.invariant.raw
+
+pub returns-then-flags-ne0-clause-stays : goal.returns-then-flags-ne0-clause-stays
+returns-then-flags-ne0-clause-stays g c = λ none. absurd (let test = c.if-flags-ne0.true in omega (arith, test, none))
+
+pub returns-then-flags-ne0-clause-behind : goal.returns-then-flags-ne0-clause-behind
+returns-then-flags-ne0-clause-behind g c = λ none. absurd (let test = c.if-flags-ne0.true in omega (arith, test, none))
+
+pub returns-clause-same : goal.returns-clause-same
+returns-clause-same g c = c.loop-chunk.invariant.same
+
+pub returns-clause-found : goal.returns-clause-found
+returns-clause-found g c = λ some. absurd (omega (arith, some))
+
+pub returns-clause-ahead : goal.returns-clause-ahead
+returns-clause-ahead g c =
+    let raw = sym c.loop-chunk.invariant.raw in
+    subst (λ (t : Type 0). t) (λ j. g.P.FlagSource.given c.args.source.now ≤ read_to (raw j)) c.requires.ahead
+
+pub returns-clause-yielded : goal.returns-clause-yielded
+returns-clause-yielded g c = ap (λ (r : RawIter). r.yielded) c.loop-chunk.invariant.raw
+
+pub returns-clause-stays : goal.returns-clause-stays
+returns-clause-stays g c = λ none. c.loop-chunk.invariant.raw

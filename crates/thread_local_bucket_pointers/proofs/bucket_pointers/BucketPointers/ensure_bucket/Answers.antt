@@ -14,7 +14,16 @@ on_err : {A E : Type 0} (result : Result A E) {P Q : Type 0} → (P → Q) → O
 on_err (Ok x) leads holds = tt
 on_err (Err e) leads holds = leads holds
 
--- The search for these takes a second.
+-- The search for these takes two seconds.
+pub stands-requires : goal.stands-requires
+stands-requires g c = (lit< tt, c.requires)
+
+pub returns-then-stands-clause-err : goal.returns-then-stands-clause-err
+returns-then-stands-clause-err g c = tt
+
+pub returns-then-stands-clause-refused : goal.returns-then-stands-clause-refused
+returns-then-stands-clause-refused g c = tt
+
 pub returns-then-stands-clause-ok : goal.returns-then-stands-clause-ok
 returns-then-stands-clause-ok g c =
     let now = c.args.self.now in
