@@ -1,5 +1,5 @@
 -- A walk with ids, and the one without.
-use Rattle.std.proofs.Common.{◌≡◌, ℕ, ◌-◌, ◌^◌, List, [], ◌∷◌, length, map, Option, refl, sym, ap, ◌∙◌, arith}
+use Rattle.std.proofs.Common.{◌≡◌, ℕ, ◌-◌, ◌^◌, ◌<◌, List, [], ◌∷◌, length, map, Option, refl, sym, ap, ◌∙◌, arith}
 use Rattle.std.proofs.lemmas.List.{length-map}
 use Rattle.thread_local_model.specs.Walk.{walk, paired}
 use Rattle.thread_local_model.proofs.WalkLaws.{map-walk_below}
@@ -7,6 +7,10 @@ use Rattle.thread_local_model.proofs.WalkLaws.{map-walk_below}
 empty : {X : Type 0} (xs : List X) → length xs ≡ 0 → xs ≡ []
 empty [] h = refl
 empty (x ∷ xs) h = absurd (omega (arith, h))
+
+-- what is left once an item is given is shorter
+pub shorter : {X : Type 0} (before after : List X) (x : X) → before ≡ x ∷ after → length after < length before
+shorter before after x is = let long : length before ≡ length (x ∷ after) = ap length is in omega (arith, long)
 
 module _ {V : Type 0} where
   -- the values of the entries are those of the map

@@ -1,7 +1,10 @@
-use Rattle.std.proofs.Common.{ℕ, ◌∷◌, List, map, refl, ap, sym, ◌∙◌}
+use Rattle.std.proofs.Common.{◌≡◌, ◌+◌, ◌<◌, ℕ, arith, ◌∷◌, List, map, refl, ap, sym, ◌∙◌}
 use Rattle.thread_local_model.specs.Buckets.{values}
 use Rattle.thread_local_buckets.proofs.EntriesLaws.{walk_of_entries}
 use Rattle.thread_local_buckets.proofs.drain.DrainIterator.next.Goals as goal
+
+fewer : (after before : ℕ) → after + 1 ≡ before → after < before
+fewer after before is = omega (arith, is)
 
 pub returns-clause-steps : goal.returns-clause-steps
 returns-clause-steps g c =
@@ -11,3 +14,11 @@ returns-clause-steps g c =
       (refl, taken.ensures.leaves),
       taken.ensures.walk,
     )
+
+pub returns-then-is_over-clause-goes : goal.returns-then-is_over-clause-goes
+returns-then-is_over-clause-goes g c = record { on = λ _. tt; keeps = tt; rests = λ _. tt }
+
+pub returns-clause-goes : goal.returns-clause-goes
+returns-clause-goes g c =
+    let walk = c.take_next-value.ensures.walk in
+    record { on = λ _. (walk, tt, fewer _ _ c.take_next-value.ensures.left); keeps = walk; rests = λ _. tt }

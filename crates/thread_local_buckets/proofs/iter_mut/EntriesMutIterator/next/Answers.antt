@@ -10,6 +10,7 @@ use Rattle.thread_local_model.proofs.PlaceLaws.{id_at-below}
 use Rattle.thread_local_buckets.specs.Entered.{IsEntered}
 use Rattle.thread_local_buckets.specs.IterMut.{entries_mut_rest}
 use Rattle.thread_local_buckets.specs.declared.loan.Loan.{Loan}
+use Rattle.thread_local_buckets.proofs.EntriesLaws.{no_entries, shorter}
 use Rattle.thread_local_buckets.proofs.iter_mut.EntriesMutIterator.next.Goals as goal
 
 -- the slot that the loan gives is the one that the walk passes
@@ -168,8 +169,24 @@ invariant_of-self g c =
       (λ _. (c.give-item.ensures.bucket ∙ there.bucket, c.give-item.ensures.first ∙ there.first)),
     )
 
-pub returns-clause-steps : goal.returns-clause-steps
-returns-clause-steps g c =
+pub is_over-requires : goal.is_over-requires
+is_over-requires g c = tt
+
+pub returns-then-is_over-clause-steps : goal.returns-then-is_over-clause-steps
+returns-then-is_over-clause-steps g c =
+    let none =
+    sym (ap entries_mut_rest c.self.view_is)
+    ∙ no_entries (values c.self.inside.loan.contents) (sym c.self.invariant.0.counted ∙ c.is_over.ensures.over c.if-is_over.true) in
+    (none, none)
+
+pub returns-then-is_over-clause-goes : goal.returns-then-is_over-clause-goes
+returns-then-is_over-clause-goes g c = record { on = λ _. tt; keeps = tt; rests = λ _. tt }
+
+it_steps : (g : _) (c : goal.After-give-item g)
+    → entries_mut_rest c.args.self.now
+    ≡ (slot_at c.pass-bit.new.self.raw c.pass-bit.result + (c.pass-bit.new.self.raw.bucket_size - 1), c.give-item.result.now)
+    ∷ walk (paired (values c.give-item.new.self.contents))
+it_steps g c =
     let raw = c.pass-bit.new.self.raw in
     let i = slot_at raw c.pass-bit.result in
     let item = c.give-item.result.now in
@@ -185,3 +202,9 @@ returns-clause-steps g c =
     ∙ ap (λ (w : Contents _). walk (paired (values w))) (sym c.lead.ensures.contents)
     ∙ c.pass-bit.ensures.first item value
     ∙ (λ j. (i + (size j - 1), item) ∷ walk (paired (values (left j))))
+
+pub returns-clause-steps : goal.returns-clause-steps
+returns-clause-steps g c = it_steps g c
+
+pub returns-clause-goes : goal.returns-clause-goes
+returns-clause-goes g c = record { on = λ _. (tt, tt, shorter _ _ _ (it_steps g c)); keeps = tt; rests = λ _. tt }
