@@ -45,3 +45,6 @@ returns-clause-after g c =
     row_emptied c.empty.new.self.slots c.bucket_size.result b c.empty.ensures
     c.bucket_size.ensures in
     row_changes s b c.empty.new.self (empty_row b) made ∙ ap (λ (z : Contents g.row.T.Denot). with_row z b (empty_row b)) c.self.view_is
+
+pub returns-clause-table : goal.returns-clause-table
+returns-clause-table g c = subst (λ (z : Contents g.row.T.Denot). IsTable z) c.self.view_is c.self.invariant
