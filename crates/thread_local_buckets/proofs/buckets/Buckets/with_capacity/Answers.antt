@@ -1,4 +1,4 @@
-use Rattle.std.proofs.Common.{◌≡◌, ◌+◌, ◌-◌, ◌^◌, ℕ, refl, subst, sym, ap, ◌∙◌, arith}
+use Rattle.std.proofs.Common.{◌≡◌, ◌+◌, ◌-◌, ◌^◌, ◌≤◌, ℕ, refl, subst, sym, ap, ◌∙◌, arith}
 use Rattle.thread_local_model.specs.Buckets.{Contents}
 use Rattle.thread_local_model.specs.Owned.{IsOwned}
 use Rattle.thread_local_model.specs.Capacity.{binary_digits}
@@ -14,6 +14,9 @@ told pointers low other n e h = let P : ℕ → Type 0 = λ k. IsFilledFrom poin
 all_made : {V : Type 0} (pointers : Contents V) (low n end : ℕ) → low ≡ 0 → n ≡ end → IsFilledFrom pointers low n → IsFilled pointers end
 all_made pointers low n end e same h =
     let P : ℕ → Type 0 = IsFilled pointers in subst P same (IsFilledFrom-all pointers n (told pointers low 0 n e h))
+
+none_to_make : (first made : ℕ) → first ≤ made → first - made ≡ 0
+none_to_make first made past = omega (arith, past)
 
 pub loop-made-init : goal.loop-made-init
 loop-made-init g c =
@@ -34,16 +37,29 @@ loop-made-preserved g c =
 pub invariant_of-result : goal.invariant_of-result
 invariant_of-result g c =
     let first = c.digits-first.result in
-    let filled = all_made c.loop-made.pointers (first - c.loop-made.made) first first (omega arith) refl c.loop-made.invariant in
+    let filled = all_made c.loop-made.pointers (first - c.loop-made.made) first first
+    (none_to_make first c.loop-made.made c.loop-made-test.false) refl c.loop-made.invariant in
     let P : ℕ → Type 0 = λ n. IsOwned (record { contents = c.loop-made.pointers; reserved = n - 1 }) in
     subst P (sym c.bucket_size.ensures) (IsOwned-filled c.loop-made.pointers first c.digits-first.ensures.bounded filled)
+
+pub returns-clause-empty : goal.returns-clause-empty
+returns-clause-empty g c =
+    let first = c.digits-first.result in
+    (all_made c.loop-made.pointers (first - c.loop-made.made) first first
+    (none_to_make first c.loop-made.made c.loop-made-test.false) refl c.loop-made.invariant).empty
+
+pub returns-clause-stands : goal.returns-clause-stands
+returns-clause-stands g c =
+    let first = c.digits-first.result in
+    (all_made c.loop-made.pointers (first - c.loop-made.made) first (binary_digits c.args.capacity)
+    (none_to_make first c.loop-made.made c.loop-made-test.false) c.digits-first.ensures.value c.loop-made.invariant).standing
 
 pub returns-clause-slots : goal.returns-clause-slots
 returns-clause-slots g c =
     let first = c.digits-first.result in
     slots-filled c.loop-made.pointers c.args.capacity (omega arith)
     (all_made c.loop-made.pointers (first - c.loop-made.made) first (binary_digits c.args.capacity)
-    (omega arith) c.digits-first.ensures.value c.loop-made.invariant)
+    (none_to_make first c.loop-made.made c.loop-made-test.false) c.digits-first.ensures.value c.loop-made.invariant)
 
 pub returns-clause-reserved : goal.returns-clause-reserved
 returns-clause-reserved g c =
