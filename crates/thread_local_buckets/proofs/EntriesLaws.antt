@@ -1,7 +1,8 @@
 -- A walk with ids, and the one without.
-use Rattle.std.proofs.Common.{◌≡◌, ℕ, ◌-◌, ◌^◌, ◌<◌, List, [], ◌∷◌, length, map, Option, refl, sym, ap, ◌∙◌, arith}
+use Rattle.std.proofs.Common.{◌≡◌, ℕ, ◌-◌, ◌^◌, ◌<◌, List, [], ◌∷◌, length, map, Option, refl, sym, ap, ◌∙◌, arith, ◌+◌, ◌≤◌, pow_pos}
 use Rattle.std.proofs.lemmas.List.{length-map}
 use Rattle.thread_local_model.specs.Walk.{walk, paired}
+use Rattle.thread_local_model.proofs.PlaceLaws.{id_at-below}
 use Rattle.thread_local_model.proofs.WalkLaws.{map-walk_below}
 
 empty : {X : Type 0} (xs : List X) → length xs ≡ 0 → xs ≡ []
@@ -11,6 +12,18 @@ empty (x ∷ xs) h = absurd (omega (arith, h))
 -- what is left once an item is given is shorter
 pub shorter : {X : Type 0} (before after : List X) (x : X) → before ≡ x ∷ after → length after < length before
 shorter before after x is = let long : length before ≡ length (x ∷ after) = ap length is in omega (arith, long)
+
+-- a slot's index and its id are both a `usize`
+pub record IsNear (i size : ℕ) : Type 0 where
+  pub some : 1 ≤ size
+  pub index : i < 2 ^ 64
+  pub id : i + (size - 1) < 2 ^ 64
+
+pub is_near : (b i size : ℕ) → b < 63 → i < 2 ^ b → size ≡ 2 ^ b → IsNear i size
+is_near b i size low near all =
+    let below = id_at-below b i low near in
+    let some = pow_pos b in
+    record { some = omega (arith, some, all); index = omega (arith, below); id = omega (arith, below, all) }
 
 module _ {V : Type 0} where
   -- the values of the entries are those of the map

@@ -7,11 +7,11 @@ use Rattle.thread_local_model.specs.Owner.{emptied}
 use Rattle.thread_local_model.specs.Walk.{walk, paired}
 use Rattle.thread_local_bucket_pointers.specs.Cursor.{values_left, read_to, slot_at, AreFlagsAt, IsOwnerWalk}
 use Rattle.thread_local_bucket_pointers.specs.declared.cursor.OwnerCursor.{OwnerCursor}
-use Rattle.thread_local_model.proofs.PlaceLaws.{id_at-below}
 use Rattle.thread_local_model.proofs.RowLaws.{IsTable-with_slot, length-row-with_slot, row_whole}
 use Rattle.thread_local_model.proofs.ValueLaws.{stands-with_slot}
 use Rattle.thread_local_model.proofs.EmptyingLaws.{emptied-with_slot, emptied-none}
 use Rattle.thread_local_buckets.specs.Emptied.{owned_emptied}
+use Rattle.thread_local_buckets.proofs.EntriesLaws.{IsNear, is_near}
 use Rattle.thread_local_buckets.proofs.buckets.Buckets.take_next.Goals as goal
 
 -- a value is taken from a table: it has the same buckets without their values, and is that where the
@@ -42,23 +42,15 @@ it_takes g c =
     c.self.invariant.table (c.pass-bit.ensures.same ∙ c.reach.ensures.same)
     c.take_and_store-value.ensures.after (subst P c.reach.ensures.same c.pass-bit.ensures.walk)
 
--- the slot is one of its bucket's, and its id is a `usize`
+-- the slot is one of its bucket's
 slot_near : {V : Type 0} (c d : Contents V) (b i : ℕ) → IsTable c → d ≡ c → i < length (row d b) → i < 2 ^ b
 slot_near c d b i t same inside =
     let near : i < length (row c b) = subst (λ (w : Contents _). i < length (row w b)) same inside in
     subst (λ (n : ℕ). i < n) (row_whole c b i t near) near
 
-record IsNear (i size : ℕ) : Type 0 where
-  some : 1 ≤ size
-  index : i < 2 ^ 64
-  id : i + (size - 1) < 2 ^ 64
-
-is_near : {V : Type 0} (c d : Contents V) (b i size : ℕ) → IsTable c → d ≡ c → i < length (row d b) → b < 63
+slot_is_near : {V : Type 0} (c d : Contents V) (b i size : ℕ) → IsTable c → d ≡ c → i < length (row d b) → b < 63
     → size ≡ 2 ^ b → IsNear i size
-is_near c d b i size t same inside low all =
-    let below = id_at-below b i low (slot_near c d b i t same inside) in
-    let some = pow_pos b in
-    record { some = omega (arith, some, all); index = omega (arith, below); id = omega (arith, below, all) }
+slot_is_near c d b i size t same inside low all = is_near b i size low (slot_near c d b i t same inside) all
 
 not_below : (n : ℕ) → 0 ≤ n
 not_below n = omega arith
@@ -107,7 +99,7 @@ pub overflow_add-index : goal.overflow_add-index
 overflow_add-index g c =
     let cursor = c.pass-bit.new.self in
     let near =
-    is_near c.self.inside.pointers c.reach.new.source cursor.raw.bucket (slot_at cursor.raw c.pass-bit.result)
+    slot_is_near c.self.inside.pointers c.reach.new.source cursor.raw.bucket (slot_at cursor.raw c.pass-bit.result)
     cursor.raw.bucket_size c.self.invariant.table c.reach.ensures.same c.pass-bit.ensures.in_bucket
     c.pass-bit.ensures.walk.at.in_table c.pass-bit.ensures.walk.at.size in
     record { fits = near.index }
@@ -133,7 +125,7 @@ pub overflow_add-result : goal.overflow_add-result
 overflow_add-result g c =
     let cursor = c.pass-bit.new.self in
     let near =
-    is_near c.self.inside.pointers c.reach.new.source cursor.raw.bucket (slot_at cursor.raw c.pass-bit.result)
+    slot_is_near c.self.inside.pointers c.reach.new.source cursor.raw.bucket (slot_at cursor.raw c.pass-bit.result)
     cursor.raw.bucket_size c.self.invariant.table c.reach.ensures.same c.pass-bit.ensures.in_bucket
     c.pass-bit.ensures.walk.at.in_table c.pass-bit.ensures.walk.at.size in
     record { fits = near.id }

@@ -1,4 +1,4 @@
-use Rattle.std.proofs.Common.{◌≡◌, ◌+◌, ◌-◌, ◌^◌, ◌<◌, ◌≤◌, ℕ, None, Some, ◌∷◌, ap, sym, ◌∙◌, subst, length, arith, pow_pos}
+use Rattle.std.proofs.Common.{◌≡◌, ◌+◌, ◌-◌, ◌^◌, ◌<◌, ◌≤◌, ℕ, None, Some, ◌∷◌, ap, sym, ◌∙◌, subst, length, arith}
 use Rattle.std.specs.Prelude.{IsSome}
 use Rattle.thread_local_model.specs.Place.{id_at}
 use Rattle.thread_local_model.specs.Buckets.{Contents, row, values}
@@ -6,11 +6,10 @@ use Rattle.thread_local_model.specs.Rows.{value_in, with_slot}
 use Rattle.thread_local_model.specs.Walk.{walk, paired}
 use Rattle.thread_local_bucket_pointers.specs.Cursor.{slot_at, read_to, IsAt, IsOwnerWalk}
 use Rattle.thread_local_bucket_pointers.specs.declared.cursor.RawIter.{RawIter}
-use Rattle.thread_local_model.proofs.PlaceLaws.{id_at-below}
 use Rattle.thread_local_buckets.specs.Entered.{IsEntered}
 use Rattle.thread_local_buckets.specs.IterMut.{entries_mut_rest}
 use Rattle.thread_local_buckets.specs.declared.loan.Loan.{Loan}
-use Rattle.thread_local_buckets.proofs.EntriesLaws.{no_entries, shorter}
+use Rattle.thread_local_buckets.proofs.EntriesLaws.{IsNear, is_near, no_entries, shorter}
 use Rattle.thread_local_buckets.proofs.iter_mut.EntriesMutIterator.next.Goals as goal
 
 -- the slot that the loan gives is the one that the walk passes
@@ -44,26 +43,18 @@ it_is_there_still g c =
     is_there c.pass-bit.new.source c.lead.new.loan c.pass-bit.new.self.raw c.lead.new.cursor.raw c.pass-bit.result
     c.pass-bit.ensures.same c.lead.ensures.entered c.pass-bit.ensures.raw
 
-record IsNear (i size : ℕ) : Type 0 where
-  some : 1 ≤ size
-  index : i < 2 ^ 64
-  id : i + (size - 1) < 2 ^ 64
-
 -- the slot is one of its bucket's, and its id is a `usize`
-is_near : {V : Type 0} (c d : Contents V) (raw old : RawIter) (rest i : ℕ) → IsAt c old rest → raw ≡ old → d ≡ c
+slot_is_near : {V : Type 0} (c d : Contents V) (raw old : RawIter) (rest i : ℕ) → IsAt c old rest → raw ≡ old → d ≡ c
     → 64 ≤ raw.index → i < length (row d raw.bucket) → IsNear i raw.bucket_size
-is_near c d raw old rest i at is same = let P : RawIter → Type 0 = λ r. 64 ≤ r.index → i < length (row d r.bucket) → IsNear i r.bucket_size in
+slot_is_near c d raw old rest i at is same = let P : RawIter → Type 0 = λ r. 64 ≤ r.index → i < length (row d r.bucket) → IsNear i r.bucket_size in
     subst P (sym is) (λ read inside.
     let long : length (row d old.bucket) ≡ 2 ^ old.bucket =
     ap (λ (w : Contents _). length (row w old.bucket)) same ∙ at.whole (omega (arith, read)) ∙ at.size in
-    let below = id_at-below old.bucket i at.in_table (subst (λ (n : ℕ). i < n) long inside) in
-    let some = pow_pos old.bucket in
-    let all = at.size in
-    record { some = omega (arith, some, all); index = omega (arith, below); id = omega (arith, below, all) })
+    is_near old.bucket i old.bucket_size at.in_table (subst (λ (n : ℕ). i < n) long inside) at.size)
 
 it_is_near : (g : _) (c : goal.After-give-item g) → IsNear (slot_at c.pass-bit.new.self.raw c.pass-bit.result) c.pass-bit.new.self.raw.bucket_size
 it_is_near g c =
-    is_near c.self.inside.loan.contents c.lead.new.loan.contents c.pass-bit.new.self.raw c.lead.new.cursor.raw c.lead.new.cursor.rest
+    slot_is_near c.self.inside.loan.contents c.lead.new.loan.contents c.pass-bit.new.self.raw c.lead.new.cursor.raw c.lead.new.cursor.rest
     (slot_at c.pass-bit.new.self.raw c.pass-bit.result) c.lead.ensures.read.walk.at c.pass-bit.ensures.raw
     c.lead.ensures.contents c.pass-bit.ensures.read c.pass-bit.ensures.in_bucket
 
