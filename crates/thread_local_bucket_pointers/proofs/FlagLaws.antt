@@ -15,7 +15,6 @@ use Rattle.thread_local_model.specs.Owner.{NoneBelow}
 use Rattle.thread_local_bucket_pointers.specs.Cursor.{AreFlagsAt, IsAt}
 use Rattle.thread_local_bucket_pointers.specs.declared.cursor.RawIter.{RawIter}
 use Rattle.thread_local_model.proofs.TakingLaws.{NoneBelow-slot}
-use Rattle.thread_local_model.proofs.ValueLaws.{values-id_at}
 
 -- a slot is the first that has a value, and these are the flags of its chunk, of which its own is
 -- the lowest that is set
@@ -72,30 +71,6 @@ module _ {V : Type 0} where
       none_in_chunk c raw.bucket (raw.index - 64) to (at.flags (omega arith)) (omega arith)
       (omega arith) (omega arith) at.behind)
       (cases_lt to (raw.index - 64 + 1))
-
-  -- a slot that has a value isn't skipped
-  pub not_passed : (c : Contents V) (b i j : ℕ) → i < 2 ^ b → NoneBelow (values c) (id_at b j)
-      → is_some (value_in c b i) ≡ true
-      → j ≤ i
-  not_passed c b i j inside none some =
-      ⊎_elim
-      (λ (below : i < j).
-      let gone : value_in c b i ≡ None = sym (values-id_at c b i inside) ∙ none (id_at b i) (omega arith) in
-      absurd (true≢false (sym some ∙ ap is_some gone)))
-      (λ from. from)
-      (cases_lt i j)
-
-  -- flags at hand are those of a chunk of the bucket
-  pub chunk_at_hand : (c : Contents V) (raw : RawIter) (word : ℕ) → 0 < word → IsAt c raw word
-      → (64 ≤ raw.index) × (raw.index - 64 < length (row c raw.bucket))
-  chunk_at_hand c raw word some at =
-      let far : 0 < raw.index =
-      ⊎_elim (λ (start : raw.index < 1).
-      let nothing : word ≡ 0 = at.none (omega arith) in absurd (omega arith))
-      (λ (far : 1 ≤ raw.index). far) (cases_lt raw.index 1) in
-      let round = at.round in
-      let within = at.within in
-      (omega arith, omega (arith, at.whole far))
 
   -- the lowest set bit of the flags is that of the first value
   pub first_at_hand : (c : Contents V) (raw : RawIter) (word : ℕ) → word < 2 ^ 64 → 0 < word

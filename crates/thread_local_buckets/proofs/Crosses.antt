@@ -4,7 +4,7 @@ use Rattle.thread_local_model.proofs.Names.{RattleType, Ptr, block_of, count_of}
 use base.Fml.{Lft, GName}
 use base.Shift.{Keyless}
 use denote.Exit.{Exit, unchanged, leaves, hidden, under}
-use denote.Param.Send.{IsSend, IsSync, Quiet, AllSend, AllSync, part_keyless, owning_send, struct_send, struct_sync, sendable}
+use denote.Param.Send.{IsSend, Quiet, AllSend, part_keyless, owning_send, struct_send, sendable}
 use denote.Ref.{NamedLft}
 use denote.Struct.Owning.{shape as fields_shape, fields, to}
 use denote.Struct.Struct.{exits_of}
@@ -67,10 +67,3 @@ loan_send a V s =
     owning_send O all
     (λ d. owned_crosses V s a.lft d.pointers d.values d.name d.contents d.given d.bucket d.first)
     (λ k. quiet (to O) (exits_of k (fields O)) ((struct_send (fields_shape O) all).leaving k))
-
-pub loan_sync : (a : NamedLft) (V : RattleType) → IsSync V → IsSync (loan.the_row a V)
-loan_sync a V s =
-    let O = loan.the_type a V in
-    let all : AllSync (fields O) = (search sendable, (search sendable, (search sendable, tt))) in
-    let both = (struct_sync (fields_shape O) all).shared in
-    record { shared = λ d b o κ. (both (to O d) b o κ, tt) }
