@@ -168,15 +168,11 @@ impl<T> Shared<T> {
     pub(crate) fn any_stands(&self, first: usize) -> bool
         requires { first + 8 ≤ 63 }
     {
-        let low = self.load(first).is_none()
-            & self.load(first + 1).is_none()
-            & self.load(first + 2).is_none()
-            & self.load(first + 3).is_none();
-        let high = self.load(first + 4).is_none()
-            & self.load(first + 5).is_none()
-            & self.load(first + 6).is_none()
-            & self.load(first + 7).is_none();
-        !(low & high)
+        let mut any = false;
+        for at in 0..8 {
+            any |= self.load(first + at).is_some();
+        }
+        any
     }
 
     /// Claims the slot of a held id, for as long as the buckets are borrowed: one atomic load of

@@ -8,6 +8,7 @@ use crate::iter::Iter;
 use std::fmt;
 use std::iter::FusedIterator;
 use std::marker::Model;
+use thread_local_bucket_pointers::write_struct;
 use thread_local_ids::Token;
 
 /// What `Iter` gives, each value with a token that says that the slot of the token's id was
@@ -72,6 +73,6 @@ impl<T: Sync> FusedIterator for Tokens<'_, T> {}
 impl<T: fmt::Debug> fmt::Debug for Tokens<'_, T> {
     /// The walk's position alone.
     fn fmt<W: fmt::Write>(&self, f: &mut fmt::Formatter<W>) -> fmt::Result {
-        f.debug_struct("Tokens").field("walk", &self.walk).finish()
+        write_struct(f, "Tokens", "walk", &self.walk)
     }
 }
