@@ -1,9 +1,12 @@
 -- The moves of the code keep what is at hand true, and do what the contract of `next` says.
 use Rattle.std.proofs.Common.{◌≡◌, ◌≢◌, ℕ, zero, suc, ◌+◌, ◌-◌, ◌*◌, ◌/◌, ◌%◌, ◌^◌, ◌<◌, ◌≤◌, ◌⊎◌, Bool, true, false, cond, eqb}
-use Rattle.std.proofs.Common.{Option, None, Some, IfSome, option_map, refl, ap, sym, ◌∙◌, subst, arith, ⊎_elim, inl, inr, pow_mono}
-use Rattle.std.proofs.lemmas.Bool.{cond_both, eqb-true, eqb-false, eq-eqb, ne_eqb, cases_lt}
+use Rattle.std.proofs.Common.{Option, None, Some, IfSome, is_some, option_map, refl, ap, sym, ◌∙◌, subst, arith, ⊎_elim, inl, inr, pow_mono, lit<}
+use Rattle.std.proofs.Common.{add-one, MatchBool}
+use Rattle.std.proofs.Math.Nat.{two-pow-succ}
+use Rattle.std.proofs.lemmas.Bool.{cond_both, eqb-true, eqb-false, eq-eqb, ne_eqb, cases_lt, cases_eq}
 use Rattle.thread_local_model.specs.Bits.{is_set, IsLowestSet, IsWordBut}
 use Rattle.thread_local_model.specs.Place.{id_at}
+use Rattle.thread_local_model.specs.Cursor.{cursor_id}
 use Rattle.thread_local_model.proofs.CursorLaws.{fresh_cursor-fits}
 use Rattle.thread_local_model.proofs.Word.{is_set-zero, lowest_set}
 use Rattle.std.specs.Int.{w64, trailing_zeros}
@@ -15,12 +18,12 @@ use Rattle.thread_local_bucket_pointers.specs.Cursor.{next_bucket}
 use Rattle.thread_local_shared_buckets.specs.declared.steps.Own.{Own}
 use Rattle.thread_local_shared_buckets.specs.declared.steps.Walk.{Walk}
 use Rattle.thread_local_shared_buckets.specs.Walks.{Yields}
-use Rattle.thread_local_shared_buckets.specs.Positions.{resting, past, owed, lies_in, is_at, in_chunk, Found, OwnIsTold}
-use Rattle.thread_local_shared_buckets.specs.Positions.{IsToldAt, IsAhead, IsSharedWalk}
-use Rattle.thread_local_shared_buckets.specs.AtHand.{IsSetIn, IsGivenBy, IsRead, IsReadOf, IsRowOf, slot_of, HasSeen, IsAtHand, IsKept, IsWalk}
-use Rattle.thread_local_shared_buckets.proofs.StepLaws.{passes_bucket}
-use Rattle.thread_local_shared_buckets.specs.Steps.{Leads}
-use Rattle.thread_local_shared_buckets.proofs.WalkLaws.{few, IsBefore, given_found, Gave, gave_own, walk_after_bucket}
+use Rattle.thread_local_shared_buckets.specs.Positions.{resting, past, owed, lies_in, is_at, own_index, Found, OwnIsTold}
+use Rattle.thread_local_shared_buckets.specs.Positions.{IsToldAt, IsAhead, IsSharedWalk, MovesOn, MovesBehind}
+use Rattle.thread_local_shared_buckets.specs.AtHand.{IsSetIn, IsGivenBy, IsRead, IsAlone, LooksAt, HasLooked, IsRowOf, slot_of, HasSeen, IsAtHand}
+use Rattle.thread_local_shared_buckets.specs.AtHand.{IsKept, IsWalk, LooksIn, GoesOn}
+use Rattle.thread_local_shared_buckets.proofs.StepLaws.{passes_bucket, leads_on, leads_nowhere, leads_then}
+use Rattle.thread_local_shared_buckets.proofs.WalkLaws.{few, IsBefore, given_found, Gave, gave_own, own_after_bucket}
 
 -- 1. Tests and bits.
 
@@ -83,13 +86,104 @@ by_test : {X : Type 0} (u : Bool) → (u ≡ true → X) → (u ≡ false → X)
 by_test true t f = t refl
 by_test false t f = f refl
 
-pub leads_next : (raw to : RawIter) → raw.bucket < 63 → to ≡ next_bucket raw → Leads (resting raw) (resting to)
-leads_next raw to low next =
-    subst (λ (r : RawIter). Leads (resting raw) (resting r)) (sym next)
-    (passes_bucket raw.bucket raw.index low)
+-- by what a walk's search answers
+pub ended : (answer : Bool) (rest bucket : ℕ) → answer ≡ false → MatchBool answer (0 < rest) (63 ≤ bucket) → 63 ≤ bucket
+ended answer rest bucket is by = subst (λ (u : Bool). MatchBool u (0 < rest) (63 ≤ bucket)) is by
+
+pub found : (answer : Bool) (rest bucket : ℕ) → answer ≡ true → MatchBool answer (0 < rest) (63 ≤ bucket) → 0 < rest
+found answer rest bucket is by = subst (λ (u : Bool). MatchBool u (0 < rest) (63 ≤ bucket)) is by
+
+pub moves_nowhere : (raw : RawIter) → raw.bucket_size ≡ 2 ^ raw.bucket → MovesOn raw raw
+moves_nowhere raw size = record {
+  leads = leads_nowhere (resting raw);
+  size = size;
+  yielded = refl;
+  further = omega arith;
+  index = omega arith;
+}
+
+pub moves_then : (from met to : RawIter) → MovesOn from met → MovesOn met to → MovesOn from to
+moves_then from met to first after =
+    let a = first.further in
+    let b = after.further in
+    let i = first.index in
+    let j = after.index in
+    record {
+      leads = leads_then (resting from) (resting met) (resting to) first.leads after.leads;
+      size = after.size;
+      yielded = after.yielded ∙ first.yielded;
+      further = omega arith;
+      index = omega arith;
+    }
+
+pub moves_next : (raw to : RawIter) → raw.bucket_size ≡ 2 ^ raw.bucket → raw.bucket < 63 → to ≡ next_bucket raw → MovesOn raw to
+moves_next raw to size low next =
+    let twice : 2 ^ (raw.bucket + 1) ≡ 2 ^ raw.bucket + 2 ^ raw.bucket = rw add-one (two-pow-succ raw.bucket) in
+    subst (λ (r : RawIter). MovesOn raw r) (sym next) record {
+      leads = passes_bucket raw.bucket raw.index low;
+      size = omega arith;
+      yielded = refl;
+      further = omega arith;
+      index = omega arith;
+    }
+
+pub moves_one : (raw to : RawIter) (owed : Bool) → raw.bucket_size ≡ 2 ^ raw.bucket → raw.bucket < 63 → to ≡ next_bucket raw
+    → MovesBehind raw owed to
+moves_one raw to owed size low next = record {
+  moves = moves_next raw to size low next;
+  further = (let one : to.bucket ≡ raw.bucket + 1 = ap (λ (r : RawIter). r.bucket) next in omega arith);
+  one = λ _. next;
+  first = ap (λ (r : RawIter). r.index) next;
+}
+
+pub moves_far : (raw met to : RawIter) (owed : Bool) → owed ≡ false → raw.bucket_size ≡ 2 ^ raw.bucket → raw.bucket < 63
+    → met ≡ next_bucket raw → MovesOn met to
+    → MovesBehind raw owed to
+moves_far raw met to owed none size low next on =
+    let one : met.bucket ≡ raw.bucket + 1 = ap (λ (r : RawIter). r.bucket) next in
+    let first : met.index ≡ 0 = ap (λ (r : RawIter). r.index) next in
+    let further : met.bucket ≤ to.bucket = on.further in
+    let index : to.index ≤ met.index = on.index in
+    record {
+      moves = moves_then raw met to (moves_next raw met size low next) on;
+      further = omega arith;
+      one = λ so. (let never : true ≡ false = sym so ∙ none in cc);
+      first = omega arith;
+    }
+
+-- 2. Indices and chunks.
+
+none_at : (i : ℕ) → 18446744073709551615 ≡ i → i < 18446744073709551615 → ⊥
+none_at i same small = omega arith
+
+in_table : (bucket index : ℕ) → bucket < 63 → index < 2 ^ bucket → index < 2 ^ 63
+in_table bucket index low inside =
+    let below : bucket ≤ 63 = omega arith in let most : 2 ^ bucket ≤ 2 ^ 63 = pow_mono below in omega arith
+
+pub room : (size bucket : ℕ) → size ≡ 2 ^ bucket → bucket < 63 → size < 2 ^ 63
+room size bucket is low =
+    let below : bucket ≤ 62 = omega arith in
+    let most : 2 ^ bucket ≤ 2 ^ 62 = pow_mono below in
+    let less : 2 ^ 62 < 2 ^ 63 = lit< tt in
+    omega arith
+
+-- no own slot lies in the chunks so far, if none lies in this one
+pub none_further : (own from chunk : ℕ) → ((k : ℕ) → from ≤ k → k < chunk → own / 64 ≢ k) → own / 64 ≢ chunk
+    → (k : ℕ) → from ≤ k → k < chunk + 1 → own / 64 ≢ k
+none_further own from chunk before here k late below =
+    ⊎_elim (λ (less : k < chunk). before k late less)
+    (λ (more : chunk ≤ k). let same : k ≡ chunk = omega arith in λ at. here (at ∙ same))
+    (cases_lt k chunk)
+
+-- where no flag of a chunk is set, the own slot lies elsewhere
+pub none_in_chunk : (own chunk flags word : ℕ) → (own / 64 ≡ chunk → IsWordBut word flags (own % 64) true) → word ≡ 0
+    → own / 64 ≢ chunk
+none_in_chunk own chunk flags word adds none at =
+    let small : own % 64 < 64 = omega arith in
+    none_set word (own % 64) none (added_set word flags (own % 64) (adds at) small)
 
 module _ {V : Type 0} where
-  -- 2. A value is given.
+  -- 3. A value is given.
 
   pub set_in : (sharing : Option ℕ) (bucket chunks bit : ℕ) (seen : Option (Seen V))
       → HasSeen sharing bucket chunks bit seen
@@ -281,7 +375,7 @@ module _ {V : Type 0} where
       subst (λ (o : Option (Own V)). Passed w x (after_pass w low rest o)) (sym (seen apart).0)
       (passed_seen w low rest x walk lowest but apart (seen apart).1))
 
-  -- 3. Flags come to hand.
+  -- 4. Flags come to hand.
 
   -- the own slot alone
   pub own_comes : (w : Walk V) (own : Own V) (chunks rest : ℕ) → w.own ≡ Some own → IsWalk w
@@ -326,26 +420,54 @@ module _ {V : Type 0} where
             ));
       }
 
-  -- the walk once it has read these flags
-  abbrev pub after_read : Walk V → Option (Row V) → ℕ → Seen V × ℕ → Walk V
-  after_read w row chunks x = record w { row = row; seen = Some x.0; chunks = chunks; rest = x.1 }
+  -- where the own slot lies in a bucket, by its index there
+  at_index : (own : Option (Own V)) (bucket i : ℕ) → own_index own bucket ≡ i → i < 18446744073709551615 → is_at own bucket i ≡ true
+  at_index None bucket i here small = absurd (none_at i here small)
+  at_index (Some own) bucket i here small =
+      by_test (eqb own.thread.bucket bucket)
+      (λ t.
+      let index : own.thread.index ≡ i = sym (ap (λ (u : Bool). cond u own.thread.index 18446744073709551615) t) ∙ here in
+      both_so own.thread.bucket bucket own.thread.index i (eqb-true own.thread.bucket bucket t) index)
+      (λ f.
+      let none : 18446744073709551615 ≡ i = sym (ap (λ (u : Bool). cond u own.thread.index 18446744073709551615) f) ∙ here in
+      absurd (none_at i none small))
 
-  read_in : (w : Walk V) (of : BucketView) (own : Option (Own V)) (chunks : ℕ) (x : Seen V × ℕ)
-      → IsRead of w.raw.bucket own w.chunks chunks x → (bit : ℕ) → bit < 64 → is_set x.1 bit ≡ true
-      → (is_at own w.raw.bucket (x.0.chunk * 64 + bit) ≡ true) ⊎ (is_set x.0.flags bit ≡ true)
-  read_in w of None chunks x read bit small set =
-      inr (subst (λ (n : ℕ). is_set n bit ≡ true) (read.other refl) set)
-  read_in w of (Some own) chunks x read bit small set =
-      by_test (in_chunk (Some own) w.raw.bucket x.0.chunk)
-      (λ at.
-      let same = both_if own.thread.bucket w.raw.bucket (own.thread.index / 64) x.0.chunk at in
+  index_of_own : (own : Own V) (bucket : ℕ) → own.thread.bucket ≡ bucket → own_index (Some own) bucket ≡ own.thread.index
+  index_of_own own bucket same =
+      ap (λ (u : Bool). cond u own.thread.index 18446744073709551615) (eq-eqb own.thread.bucket bucket same)
+
+  -- it lies in no bucket but where it has an index
+  pub elsewhere : (own : Option (Own V)) (bucket : ℕ) → own_index own bucket ≡ 18446744073709551615 → lies_in own bucket ≡ false
+  elsewhere None bucket none = refl
+  elsewhere (Some own) bucket none =
+      by_test (eqb own.thread.bucket bucket)
+      (λ t.
+      let index : own.thread.index ≡ 18446744073709551615 =
+      sym (index_of_own own bucket (eqb-true own.thread.bucket bucket t)) ∙ none in
+      let small : own.thread.index < 2 ^ 63 = in_table own.thread.bucket own.thread.index own.thread.in_table own.thread.in_bucket in
+      absurd (omega arith))
+      (λ f. f)
+
+  -- the walk once it has looked on: its row, what it saw, how many chunks, and the flags at hand
+  abbrev pub after_look : Walk V → Option (Row V) → Option (Seen V) → ℕ → ℕ → Walk V
+  after_look w row seen chunks flags = record w { row = row; seen = seen; chunks = chunks; rest = flags }
+
+  read_in : (w : Walk V) (of : BucketView) (seen : Seen V) (chunks flags : ℕ)
+      → IsRead of (own_index w.own w.raw.bucket) w.chunks seen chunks flags → (bit : ℕ) → bit < 64 → is_set flags bit ≡ true
+      → (is_at w.own w.raw.bucket (seen.chunk * 64 + bit) ≡ true) ⊎ (is_set seen.flags bit ≡ true)
+  read_in w of seen chunks flags read bit small set =
+      let e : ℕ = own_index w.own w.raw.bucket in
       ⊎_elim
-      (λ (one : own.thread.index % 64 ≡ bit).
-      let chunk : own.thread.index / 64 ≡ x.0.chunk = same.1 in
-      inl (both_so own.thread.bucket w.raw.bucket own.thread.index (x.0.chunk * 64 + bit) same.0 (omega arith)))
+      (λ (at : e / 64 ≡ seen.chunk).
+      ⊎_elim
+      (λ (one : e % 64 ≡ bit).
+      let near : seen.chunk * 64 < 2 ^ 63 = read.near in
+      let here : e ≡ seen.chunk * 64 + bit = omega arith in
+      inl (at_index w.own w.raw.bucket (seen.chunk * 64 + bit) here (omega arith)))
       (λ old. inr old)
-      (was_set x.1 x.0.flags (own.thread.index % 64) bit (read.adds at) small set))
+      (was_set flags seen.flags (e % 64) bit (read.adds at) small set))
       (λ apart. inr (subst (λ (n : ℕ). is_set n bit ≡ true) (read.other apart) set))
+      (cases_eq (e / 64) seen.chunk)
 
   inside_own : (own : Option (Own V)) (bucket index : ℕ) → is_at own bucket index ≡ true → index < 2 ^ bucket
   inside_own None bucket index at = let never : false ≡ true = at in cc
@@ -356,46 +478,47 @@ module _ {V : Type 0} where
       let inside : own.thread.index < 2 ^ own.thread.bucket = own.thread.in_bucket in
       omega arith
 
-  kept_read : (w : Walk V) (row : Option (Row V)) (of : BucketView) (own : Option (Own V)) (chunks : ℕ) (x : Seen V × ℕ)
-      → IfSome own (IsKept w) → w.rest ≡ 0 → IsRead of w.raw.bucket own w.chunks chunks x
-      → IfSome own (IsKept (after_read w row chunks x))
-  kept_read w row of None chunks x kept none read = tt
-  kept_read w row of (Some own) chunks x kept none read = λ same seen.
+  kept_read : (w to : Walk V) (of : BucketView) (own : Option (Own V)) (seen : Seen V)
+      → to.raw.bucket ≡ w.raw.bucket
+      → IfSome own (IsKept w) → w.rest ≡ 0 → IsRead of (own_index own w.raw.bucket) w.chunks seen to.chunks to.rest
+      → IfSome own (IsKept to)
+  kept_read w to of None seen stays kept none read = tt
+  kept_read w to of (Some own) seen stays kept none read = λ same within_seen.
+      let here : own.thread.bucket ≡ w.raw.bucket = same ∙ stays in
       let i : ℕ = own.thread.index in
-      let c : ℕ = x.0.chunk in
-      let counted : chunks ≡ c + 1 = read.chunk in
+      let c : ℕ = seen.chunk in
+      let e : own_index (Some own) w.raw.bucket ≡ i = index_of_own own w.raw.bucket here in
+      let counted : to.chunks ≡ c + 1 = read.chunk in
       let within : i / 64 ≤ c = omega arith in
       let from : w.chunks ≤ i / 64 =
       ⊎_elim
       (λ (before : i < w.chunks * 64).
-      none_set w.rest (i - (w.chunks - 1) * 64) none (kept same before).1)
+      none_set w.rest (i - (w.chunks - 1) * 64) none (kept here before).1)
       (λ (behind : w.chunks * 64 ≤ i). omega arith) (cases_lt i (w.chunks * 64)) in
       let last : i / 64 ≡ c =
       ⊎_elim
-      (λ (before : i / 64 < c).
-      let never : true ≡ false =
-      sym (both_so own.thread.bucket w.raw.bucket (i / 64) (i / 64) same refl) ∙ read.none_before (i / 64) from before in
-      cc)
+      (λ (before : i / 64 < c). absurd (read.none_before (i / 64) from before (ap (λ k. k / 64) e)))
       (λ (late : c ≤ i / 64). omega arith) (cases_lt (i / 64) c) in
-      let base : (chunks - 1) * 64 ≤ i = omega arith in
-      let bit : i - (chunks - 1) * 64 ≡ i % 64 = omega arith in (
+      let base : (to.chunks - 1) * 64 ≤ i = omega arith in
+      let bit : i - (to.chunks - 1) * 64 ≡ i % 64 = omega arith in
+      let adds : IsWordBut to.rest seen.flags (i % 64) true =
+      subst (λ (k : ℕ). IsWordBut to.rest seen.flags (k % 64) true) e (read.adds (ap (λ k. k / 64) e ∙ last)) in (
         base,
-        subst (λ (k : ℕ). is_set x.1 k ≡ true) (sym bit)
-            (added_set x.1 x.0.flags (i % 64)
-            (read.adds (both_so own.thread.bucket w.raw.bucket (i / 64) c same last)) (omega arith)),
+        subst (λ (k : ℕ). is_set to.rest k ≡ true) (sym bit) (added_set to.rest seen.flags (i % 64) adds (omega arith)),
       )
 
-  read_comes : (w : Walk V) (row : Option (Row V)) (of : BucketView) (chunks : ℕ) (x : Seen V × ℕ)
+  read_comes : (w : Walk V) (row : Option (Row V)) (of : BucketView) (seen : Seen V) (chunks flags : ℕ)
       → IsWalk w → w.rest ≡ 0 → w.raw.bucket < 63
       → IfSome row (IsRowOf w.buckets.now.sharing w.raw.bucket)
       → of.bucket ≡ w.raw.bucket → of.sharing ≡ w.buckets.now.sharing
-      → IsRead of w.raw.bucket w.own w.chunks chunks x
-      → IsWalk (after_read w row chunks x)
-  read_comes w row of chunks x walk none low rows bucket sharing read =
-      let c : ℕ = x.0.chunk in
+      → IsRead of (own_index w.own w.raw.bucket) w.chunks seen chunks flags
+      → IsWalk (after_look w row (Some seen) chunks flags)
+  read_comes w row of seen chunks flags walk none low rows bucket sharing read =
+      let c : ℕ = seen.chunk in
       let counted : chunks ≡ c + 1 = read.chunk in
       let from : w.chunks ≤ c = read.later in
       let to : w.raw.index ≤ w.chunks * 64 = walk.seen_to in
+      let power : 2 ^ of.bucket ≡ 2 ^ w.raw.bucket = ap (λ k. 2 ^ k) bucket in
       record {
         walk = walk.walk;
         told = walk.told;
@@ -403,7 +526,7 @@ module _ {V : Type 0} where
         row = rows;
         at_hand = λ bit small set.
             let at : (chunks - 1) * 64 + bit ≡ c * 64 + bit = omega arith in
-            let either = read_in w of w.own chunks x read bit small set in
+            let either = read_in w of seen chunks flags read bit small set in
             record {
               in_table = low;
               some = omega arith;
@@ -411,66 +534,151 @@ module _ {V : Type 0} where
               inside =
                   subst (λ (i : ℕ). i < 2 ^ w.raw.bucket) (sym at)
                   (⊎_elim (λ own. inside_own w.own w.raw.bucket (c * 64 + bit) own)
-                  (λ seen. read.inside bit small seen) either);
+                  (λ was. subst (λ (n : ℕ). c * 64 + bit < n) power (read.inside bit small was)) either);
               by = λ apart.
                   ⊎_elim
                   (λ own.
                   let never : true ≡ false =
                   sym (subst (λ (i : ℕ). is_at w.own w.raw.bucket i ≡ true) (sym at) own) ∙ apart in
                   cc)
-                  (λ seen. (
+                  (λ was. (
                     ap (λ (d : BucketView). d.sharing) read.of ∙ sharing,
                     ap (λ (d : BucketView). d.bucket) read.of ∙ bucket,
                     counted,
-                    seen,
+                    was,
                   ))
                   either;
             };
-        kept = kept_read w row of w.own chunks x walk.kept none read;
+        kept = kept_read w (after_look w row (Some seen) chunks flags) of w.own seen refl walk.kept none read;
       }
 
-  pub read_of_comes : (w : Walk V) (row : Option (Row V)) (chunks : ℕ) (x : Seen V × ℕ) → IsWalk w → w.rest ≡ 0
-      → w.raw.bucket < 63 → IfSome row (IsRowOf w.buckets.now.sharing w.raw.bucket)
-      → IsReadOf row w.raw.bucket w.own w.chunks chunks x
-      → IsWalk (after_read w row chunks x)
-  read_of_comes w None chunks x walk none low of read = absurd read
-  read_of_comes w (Some row) chunks x walk none low of read =
-      read_comes w (Some row) row.of chunks x walk none low of of.0 of.1 read
-
-  -- the walk with another row of the same bucket
-  pub with_row : (w : Walk V) (row : Option (Row V)) → IsWalk w → IfSome row (IsRowOf w.buckets.now.sharing w.raw.bucket)
-      → IsWalk (record w { row = row })
-  with_row w row walk of = record {
+  -- the walk with another row of the same bucket, of which it has seen nothing that is at hand
+  unseen : (w : Walk V) (row : Option (Row V)) → IsWalk w → w.rest ≡ 0 → IfSome row (IsRowOf w.buckets.now.sharing w.raw.bucket)
+      → IsWalk (record w { row = row; seen = None })
+  unseen w row walk none of = record {
     walk = walk.walk;
     told = walk.told;
     seen_to = walk.seen_to;
     row = of;
-    at_hand = λ bit small set. let there = walk.at_hand bit small set in record {
-      in_table = there.in_table;
-      some = there.some;
-      ahead = there.ahead;
-      inside = there.inside;
-      by = there.by;
-    };
+    at_hand = λ bit small set. none_set w.rest bit none set;
     kept = walk.kept;
   }
 
-  -- 4. The walk moves on.
+  -- the own slot alone comes to hand, at its index in the bucket
+  alone_comes : (w : Walk V) (own : Option (Own V)) (chunks rest : ℕ) → w.own ≡ own → IsWalk w
+      → own_index own w.raw.bucket < 18446744073709551615 → chunks ≡ own_index own w.raw.bucket / 64 + 1
+      → IsWordBut rest 0 (own_index own w.raw.bucket % 64) true
+      → IsWalk (record w { chunks = chunks; rest = rest })
+  alone_comes w None chunks rest is walk small counted but = absurd (none_at 18446744073709551615 refl small)
+  alone_comes w (Some own) chunks rest is walk small counted but =
+      by_test (eqb own.thread.bucket w.raw.bucket)
+      (λ t.
+      let same = eqb-true own.thread.bucket w.raw.bucket t in
+      let e : own_index (Some own) w.raw.bucket ≡ own.thread.index = index_of_own own w.raw.bucket same in
+      own_comes w own chunks rest is walk same (counted ∙ ap (λ k. k / 64 + 1) e)
+      (subst (λ (k : ℕ). IsWordBut rest 0 (k % 64) true) e but))
+      (λ f.
+      let none : 18446744073709551615 ≡ own_index (Some own) w.raw.bucket =
+      sym (ap (λ (u : Bool). cond u own.thread.index 18446744073709551615) f) in
+      absurd (none_at (own_index (Some own) w.raw.bucket) none small))
+
+  looks_in : (w : Walk V) (row : Option (Row V)) (seen : Option (Seen V)) (chunks flags : ℕ)
+      → IsWalk (after_look w row seen chunks flags) → (flags ≡ 0 → lies_in w.own w.raw.bucket ≡ false)
+      → LooksIn w (after_look w row seen chunks flags)
+  looks_in w row seen chunks flags walk none = record { walk = walk; buckets = refl; raw = refl; own = refl; none = none }
+
+  looked_seen : (w : Walk V) (row : Option (Row V)) (seen : Seen V) (chunks flags : ℕ) → IsWalk w → w.rest ≡ 0
+      → w.raw.bucket < 63 → IfSome row (IsRowOf w.buckets.now.sharing w.raw.bucket)
+      → LooksAt row (own_index w.own w.raw.bucket) w.chunks seen chunks flags
+      → LooksIn w (after_look w row (Some seen) chunks flags)
+  looked_seen w None seen chunks flags walk none low of read = absurd read
+  looked_seen w (Some row) seen chunks flags walk none low of read =
+      looks_in w (Some row) (Some seen) chunks flags
+      (read_comes w (Some row) row.of seen chunks flags walk none low of of.0 of.1 read)
+      (λ zero. let some : 0 < flags = read.some in absurd (omega arith))
+
+  looked_alone : (w : Walk V) (row : Option (Row V)) (chunks flags : ℕ) → IsWalk w → w.rest ≡ 0
+      → IfSome row (IsRowOf w.buckets.now.sharing w.raw.bucket)
+      → IsAlone (own_index w.own w.raw.bucket) w.chunks chunks flags
+      → LooksIn w (after_look w row None chunks flags)
+  looked_alone w row chunks flags walk none of alone =
+      let bare : Walk V = record w { row = row; seen = None } in
+      let begun : IsWalk bare = unseen w row walk none of in
+      ⊎_elim
+      (λ nothing.
+      let stays : IsWalk (record bare { rest = flags }) =
+      subst (λ (n : ℕ). IsWalk (record bare { rest = n })) (none ∙ sym nothing.2) begun in
+      looks_in w row None chunks flags
+      (subst (λ (n : ℕ). IsWalk (record bare { chunks = n; rest = flags })) (sym nothing.1) stays)
+      (λ zero. elsewhere w.own w.raw.bucket nothing.0))
+      (λ own.
+      looks_in w row None chunks flags (alone_comes bare w.own chunks flags refl begun own.0 own.1 own.2)
+      (λ zero.
+      let small : own_index w.own w.raw.bucket % 64 < 64 = omega arith in
+      none_set flags (own_index w.own w.raw.bucket % 64) zero
+      (added_set flags 0 (own_index w.own w.raw.bucket % 64) own.2 small)))
+      alone
+
+  looked_by : (w : Walk V) (row : Option (Row V)) (seen : Option (Seen V)) (chunks flags : ℕ) → IsWalk w → w.rest ≡ 0
+      → w.raw.bucket < 63 → IfSome row (IsRowOf w.buckets.now.sharing w.raw.bucket)
+      → HasLooked row (own_index w.own w.raw.bucket) w.chunks (seen, chunks, flags)
+      → LooksIn w (after_look w row seen chunks flags)
+  looked_by w row None chunks flags walk none low of x = looked_alone w row chunks flags walk none of x
+  looked_by w row (Some seen) chunks flags walk none low of x = looked_seen w row seen chunks flags walk none low of x
+
+  pub looked_on : (w : Walk V) (row : Option (Row V)) (own : ℕ) (x : Option (Seen V) × ℕ × ℕ) → IsWalk w → w.rest ≡ 0
+      → w.raw.bucket < 63 → IfSome row (IsRowOf w.buckets.now.sharing w.raw.bucket)
+      → own ≡ own_index w.own w.raw.bucket
+      → HasLooked row own w.chunks x
+      → LooksIn w (after_look w row x.0 x.1 x.2)
+  looked_on w row own x walk none low of is looked =
+      looked_by w row x.0 x.1 x.2 walk none low of (subst (λ (e : ℕ). HasLooked row e w.chunks x) is looked)
+
+  -- 5. The walk moves on.
 
   none_kept : (w : Walk V) (own : Option (Own V)) → w.chunks ≡ 0 → IfSome own (IsKept w)
   none_kept w None none = tt
   none_kept w (Some own) none = λ same seen. absurd (omega arith)
 
-  pub leaves_bucket : (w : Walk V) → IsWalk w → w.rest ≡ 0 → w.raw.bucket < 63 → lies_in w.own w.raw.bucket ≡ false
-      → IsWalk (record w { raw = next_bucket w.raw; row = None; chunks = 0 })
-  leaves_bucket w walk none low elsewhere = record {
-    walk = walk_after_bucket w.raw w.own walk.walk low elsewhere;
-    told = walk.told;
-    seen_to = omega arith;
-    row = tt;
-    at_hand = λ bit small set. none_set w.rest bit none set;
-    kept = none_kept (record w { raw = next_bucket w.raw; row = None; chunks = 0 }) w.own refl;
-  }
+  -- it passes buckets, one of them if an own value is still to be given
+  moved_ahead : (raw to : RawIter) (own : Option (Own V)) → IfSome own (IsAhead raw) → lies_in own raw.bucket ≡ false
+      → (is_some own ≡ true → to ≡ next_bucket raw)
+      → IfSome own (IsAhead to)
+  moved_ahead raw to None ahead elsewhere one = tt
+  moved_ahead raw to (Some own) ahead elsewhere one =
+      subst (λ (r : RawIter). IsAhead r own) (sym (one refl))
+      (own_after_bucket raw (Some own) ahead elsewhere)
+
+  pub moves_on : (w : Walk V) (raw : RawIter) (owed : Bool) → IsWalk w → w.rest ≡ 0 → w.raw.bucket < 63
+      → lies_in w.own w.raw.bucket ≡ false
+      → owed ≡ is_some w.own → MovesBehind w.raw owed raw
+      → GoesOn w (record w { raw = raw; row = None; chunks = 0 })
+  moves_on w raw owed walk none low elsewhere is on =
+      let further = leads_on (resting w.raw) (resting raw) on.moves.leads walk.walk.fits in
+      let no_lower : cursor_id (resting w.raw) ≤ cursor_id (resting raw) = further.no_lower in
+      let few : w.raw.yielded ≤ cursor_id (resting w.raw) = walk.walk.yielded in
+      let same : raw.yielded ≡ w.raw.yielded = on.moves.yielded in
+      let first : raw.index ≡ 0 = on.first in
+      record {
+        walk = record {
+          walk = record {
+            fits = further.fits;
+            size = on.moves.size;
+            own_ahead = moved_ahead w.raw raw w.own walk.walk.own_ahead elsewhere (λ some. on.one (is ∙ some));
+            yielded = omega arith;
+          };
+          told = walk.told;
+          seen_to = omega arith;
+          row = tt;
+          at_hand = λ bit small set. none_set w.rest bit none set;
+          kept = none_kept (record w { raw = raw; row = None; chunks = 0 }) w.own refl;
+        };
+        passed = none;
+        buckets = refl;
+        own = refl;
+        leads = on.moves.leads;
+        further = on.further;
+      }
 
   begins_shared : (raw : RawIter) (own : Option (Own V)) → raw ≡ record { yielded = 0; bucket = 0; bucket_size = 1; index = 0 }
       → IsSharedWalk raw own
@@ -501,55 +709,27 @@ module _ {V : Type 0} where
     kept = none_kept w w.own unseen;
   }
 
-  -- 5. What single functions ask.
+  -- 6. What single functions ask.
 
-  pub own_added : (own : Option (Own V)) (o : Own V) (flags word : ℕ) → own ≡ Some o
-      → IsWordBut word flags (o.thread.index % 64) true
-      → IfSome own (λ w. IsWordBut word flags (w.thread.index % 64) true)
-  own_added own o flags word is but =
-      subst (λ (u : Option (Own V)). IfSome u (λ w. IsWordBut word flags (w.thread.index % 64) true))
-      (sym is) but
-
-  pub none_in : (own : Option (Own V)) (bucket : ℕ) → own ≡ None → lies_in own bucket ≡ false
-  none_in own bucket none = ap (λ (o : Option (Own V)). lies_in o bucket) none
-
-  pub own_comes_by : (w : Walk V) (own : Own V) (rest : ℕ) → w.own ≡ Some own → IsWalk w
-      → own.thread.bucket ≡ w.raw.bucket
-      → (in_chunk w.own w.raw.bucket (own.thread.index / 64) ≡ true
-      → IfSome w.own (λ o. IsWordBut rest 0 (o.thread.index % 64) true))
-      → IsWalk (record w { chunks = own.thread.index / 64 + 1; rest = rest }) × (0 < rest)
-  own_comes_by w own rest is walk same adds =
-      let P : Option (Own V) → Type 0 = λ u.
-      in_chunk u w.raw.bucket (own.thread.index / 64) ≡ true
-      → IfSome u (λ o. IsWordBut rest 0 (o.thread.index % 64) true) in
-      let adds_own : P (Some own) = subst P is adds in
-      let but : IsWordBut rest 0 (own.thread.index % 64) true =
-      adds_own (both_so own.thread.bucket w.raw.bucket (own.thread.index / 64) (own.thread.index / 64) same refl) in (
-        own_comes w own (own.thread.index / 64 + 1) rest is walk same refl but,
-        some_set rest (own.thread.index % 64) (added_set rest 0 (own.thread.index % 64) but (omega arith)),
-      )
-
-  pub none_in_chunk : (own : Option (Own V)) (bucket chunk flags word : ℕ)
-      → (in_chunk own bucket chunk ≡ true → IfSome own (λ o. IsWordBut word flags (o.thread.index % 64) true))
-      → word ≡ 0 → in_chunk own bucket chunk ≡ false
-  none_in_chunk None bucket chunk flags word adds none = refl
-  none_in_chunk (Some own) bucket chunk flags word adds none =
-      by_test (in_chunk (Some own) bucket chunk)
-      (λ at.
-      none_set word (own.thread.index % 64) none
-      (added_set word flags (own.thread.index % 64) (adds at) (omega arith)))
-      (λ apart. apart)
-
-  pub none_further : (own : Option (Own V)) (bucket from chunk : ℕ)
-      → ((k : ℕ) → from ≤ k → k < chunk → in_chunk own bucket k ≡ false)
-      → in_chunk own bucket chunk ≡ false
-      → (k : ℕ) → from ≤ k → k < chunk + 1 → in_chunk own bucket k ≡ false
-  none_further own bucket from chunk before here k late below =
-      ⊎_elim (λ (less : k < chunk). before k late less)
-      (λ (more : chunk ≤ k).
-      let same : chunk ≡ k = omega arith in
-      subst (λ (m : ℕ). in_chunk own bucket m ≡ false) same here)
-      (cases_lt k chunk)
+  -- a look at a chunk of the row finds a flag
+  pub read_at : (row : Option (Row V)) (r : Row V) (own from chunk given word : ℕ) (seen : Seen V) → row ≡ Some r
+      → seen.of ≡ r.of → seen.chunk ≡ chunk → given ≡ seen.flags → from ≤ chunk → chunk * 64 < 2 ^ 63
+      → ((bit : ℕ) → bit < 64 → is_set seen.flags bit ≡ true → chunk * 64 + bit < 2 ^ r.of.bucket)
+      → ((k : ℕ) → from ≤ k → k < chunk → own / 64 ≢ k)
+      → (own / 64 ≡ chunk → IsWordBut word given (own % 64) true) → (own / 64 ≢ chunk → word ≡ given) → word ≢ 0
+      → HasLooked row own from (Some seen, chunk + 1, word)
+  read_at row r own from chunk given word seen is of at flags later near inside none adds other some =
+      subst (λ (u : Option (Row V)). LooksAt u own from seen (chunk + 1) word) (sym is) record {
+        of = of;
+        later = omega arith;
+        chunk = ap (λ k. k + 1) (sym at);
+        some = omega arith;
+        inside = λ bit small set. subst (λ (k : ℕ). k * 64 + bit < 2 ^ r.of.bucket) (sym at) (inside bit small set);
+        near = subst (λ (k : ℕ). k * 64 < 2 ^ 63) (sym at) near;
+        adds = λ here. subst (λ (n : ℕ). IsWordBut word n (own % 64) true) flags (adds (here ∙ at));
+        other = λ apart. other (λ here. apart (here ∙ sym at)) ∙ flags;
+        none_before = λ k late below. none k late (omega arith);
+      }
 
   -- the lowest flag at hand
   pub lowest_of : (w : Walk V) → w.rest < 2 ^ 64 → 0 < w.rest → IsLowestSet w.rest (trailing_zeros w64 w.rest)

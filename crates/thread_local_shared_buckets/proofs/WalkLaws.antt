@@ -1,7 +1,6 @@
 -- The moves of the code keep the invariant of a walk, and do what the contract of `next` says.
 use Rattle.std.proofs.Common.{◌≡◌, ℕ, suc, ◌+◌, ◌-◌, ◌^◌, ◌<◌, ◌≤◌, Bool, true, false, cond, inl, inr, ⊎_elim, Option}
 use Rattle.std.proofs.Common.{None, Some, IfSome, option_map, refl, ap, sym, ◌∙◌, subst, arith, pow_mono}
-use Rattle.std.proofs.Common.{add-one}
 use Rattle.std.proofs.Math.Nat.{two-pow-succ}
 use Rattle.std.proofs.lemmas.Bool.{eqb-true, eqb-false, cases_eq, le-ltb}
 use Rattle.thread_local_model.specs.Place.{id_at}
@@ -15,7 +14,7 @@ use Rattle.thread_local_bucket_pointers.specs.Cursor.{next_bucket}
 use Rattle.thread_local_ids.specs.declared.witness.Witness.{Witness}
 use Rattle.thread_local_shared_buckets.specs.Positions.{resting, past, owed, lies_in, Found, OwnIsTold}
 use Rattle.thread_local_shared_buckets.specs.Positions.{IsToldAt, IsAhead, IsSharedWalk}
-use Rattle.thread_local_shared_buckets.proofs.StepLaws.{resting_at, looking_at, leads_then, leads_on, passes_bucket, leads_to_slot}
+use Rattle.thread_local_shared_buckets.proofs.StepLaws.{resting_at, looking_at, leads_then, leads_on, leads_to_slot}
 
 -- a place in a later bucket has a greater id
 later_bucket : (a b i j : ℕ) → a < b → i < 2 ^ a → id_at a i < id_at b j
@@ -27,7 +26,7 @@ later_bucket a b i j later inside =
 module _ {V : Type 0} where
   -- 1. Moving on to the next bucket.
 
-  own_after_bucket : (raw : RawIter) (own : Option (Own V)) → IfSome own (IsAhead raw)
+  pub own_after_bucket : (raw : RawIter) (own : Option (Own V)) → IfSome own (IsAhead raw)
       → lies_in own raw.bucket ≡ false
       → IfSome own (IsAhead (next_bucket raw))
   own_after_bucket raw None ahead elsewhere = tt
@@ -35,17 +34,6 @@ module _ {V : Type 0} where
       let apart = eqb-false own.thread.bucket raw.bucket elsewhere in
       let low = ahead.bucket in
       record { bucket = omega arith; index = λ _. omega arith }
-
-  pub walk_after_bucket : (raw : RawIter) (own : Option (Own V)) → IsSharedWalk raw own
-      → raw.bucket < 63 → lies_in own raw.bucket ≡ false
-      → IsSharedWalk (next_bucket raw) own
-  walk_after_bucket raw own walk low elsewhere =
-      let on = leads_on (resting raw) (resting (next_bucket raw)) (passes_bucket raw.bucket raw.index low) walk.fits in
-      let twice : 2 ^ (raw.bucket + 1) ≡ 2 ^ raw.bucket + 2 ^ raw.bucket = rw add-one (two-pow-succ raw.bucket) in
-      let size = walk.size in
-      let few = walk.yielded in
-      let up = on.no_lower in
-      record { fits = on.fits; size = omega arith; own_ahead = own_after_bucket raw own walk.own_ahead elsewhere; yielded = omega arith }
 
   -- 2. Giving a value at a slot of the bucket.
 

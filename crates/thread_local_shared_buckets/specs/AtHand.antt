@@ -1,5 +1,6 @@
 -- What a walk has at hand: the flags that it loaded whose values it hasn't given.
-use Rattle.std.specs.Prelude.{◌≡◌, ℕ, ◌+◌, ◌-◌, ◌*◌, ◌%◌, ◌^◌, ◌<◌, ◌≤◌, true, false, Option, None, Some, IfSome}
+use Rattle.std.specs.Prelude.{◌≡◌, ℕ, ◌≢◌, ◌+◌, ◌-◌, ◌*◌, ◌/◌, ◌%◌, ◌^◌, ◌<◌, ◌≤◌, ◌⊎◌, true, false, Option, None}
+use Rattle.std.specs.Prelude.{Some, IfSome, MatchOption, Bool, MatchBool}
 use Rattle.thread_local_model.specs.Bits.{is_set, IsWordBut}
 use Rattle.thread_local_model.specs.Place.{id_at}
 use Rattle.thread_local_claim.specs.Shared.{BucketView}
@@ -7,7 +8,14 @@ use Rattle.thread_local_claim.specs.declared.row.Row.{Row}
 use Rattle.thread_local_claim.specs.declared.seen.Seen.{Seen}
 use Rattle.thread_local_shared_buckets.specs.declared.steps.Own.{Own}
 use Rattle.thread_local_shared_buckets.specs.declared.steps.Walk.{Walk}
-use Rattle.thread_local_shared_buckets.specs.Positions.{Found, is_at, in_chunk, OwnIsTold, IsSharedWalk}
+use Rattle.thread_local_shared_buckets.specs.Positions.{Found, resting, lies_in, is_at, OwnIsTold, IsSharedWalk}
+use Rattle.thread_local_shared_buckets.specs.Steps.{Leads}
+
+-- no look found a flag: the own slot's flag is at hand, or nothing is
+abbrev pub IsAlone : ℕ → ℕ → ℕ → ℕ → Type 0
+IsAlone own from chunks flags =
+    ((own ≡ 18446744073709551615) × (chunks ≡ from) × (flags ≡ 0))
+    ⊎ ((own < 18446744073709551615) × (chunks ≡ own / 64 + 1) × IsWordBut flags 0 (own % 64) true)
 
 module _ {V : Type 0} where
   -- 1. What a look saw.
@@ -23,26 +31,31 @@ module _ {V : Type 0} where
     pub id : found.0.id ≡ id_at seen.of.bucket (seen.chunk * 64 + bit)
     pub value : found.0.value ≡ found.1.now
 
-  -- A look at this row, from the chunk `from` on, and the flags that the walk takes from it: those
-  -- that are set and that of the own slot, if it lies there. Before this chunk there is no own slot.
-  pub record IsRead (d : BucketView) (bucket : ℕ) (own : Option (Own V)) (from chunks : ℕ) (x : Seen V × ℕ) : Type 0 where
-    pub of : x.0.of ≡ d
-    pub later : from ≤ x.0.chunk
-    pub chunk : chunks ≡ x.0.chunk + 1
-    pub some : 0 < x.1
-    pub inside : (bit : ℕ) → bit < 64 → is_set x.0.flags bit ≡ true → x.0.chunk * 64 + bit < 2 ^ bucket
-    pub adds : in_chunk own bucket x.0.chunk ≡ true → IfSome own (λ o. IsWordBut x.1 x.0.flags (o.thread.index % 64) true)
-    pub other : in_chunk own bucket x.0.chunk ≡ false → x.1 ≡ x.0.flags
-    pub none_before : (chunk : ℕ) → from ≤ chunk → chunk < x.0.chunk → in_chunk own bucket chunk ≡ false
+  -- A look at a row of this bucket, from the chunk `from` on, how many chunks were seen, and the flags
+  -- that the walk takes from the last: those that are set and that of the own slot, which lies at the
+  -- index `own`, if it lies there. Before this chunk there is no own slot.
+  pub record IsRead (d : BucketView) (own from : ℕ) (seen : Seen V) (chunks flags : ℕ) : Type 0 where
+    pub of : seen.of ≡ d
+    pub later : from ≤ seen.chunk
+    pub chunk : chunks ≡ seen.chunk + 1
+    pub some : 0 < flags
+    pub inside : (bit : ℕ) → bit < 64 → is_set seen.flags bit ≡ true → seen.chunk * 64 + bit < 2 ^ d.bucket
+    pub near : seen.chunk * 64 < 2 ^ 63
+    pub adds : own / 64 ≡ seen.chunk → IsWordBut flags seen.flags (own % 64) true
+    pub other : own / 64 ≢ seen.chunk → flags ≡ seen.flags
+    pub none_before : (chunk : ℕ) → from ≤ chunk → chunk < seen.chunk → own / 64 ≢ chunk
+
+  -- what looks at the chunks of a row find, from the chunk `from` on
+  abbrev pub LooksAt : Option (Row V) → ℕ → ℕ → Seen V → ℕ → ℕ → Type 0
+  LooksAt None own from seen chunks flags = ⊥
+  LooksAt (Some row) own from seen chunks flags = IsRead row.of own from seen chunks flags
+
+  abbrev pub HasLooked : Option (Row V) → ℕ → ℕ → Option (Seen V) × ℕ × ℕ → Type 0
+  HasLooked row own from x = MatchOption x.0 (IsAlone own from x.1 x.2) (λ seen. LooksAt row own from seen x.1 x.2)
 
   -- the row is that of this bucket, in this sharing
   abbrev pub IsRowOf : Option ℕ → ℕ → Row V → Type 0
   IsRowOf sharing bucket row = (row.of.bucket ≡ bucket) × (row.of.sharing ≡ sharing)
-
-  -- such a look at the row of a bucket that stands
-  abbrev pub IsReadOf : Option (Row V) → ℕ → Option (Own V) → ℕ → ℕ → Seen V × ℕ → Type 0
-  IsReadOf None bucket own from chunks x = ⊥
-  IsReadOf (Some row) bucket own from chunks x = IsRead row.of bucket own from chunks x
 
   -- 2. What the walk has at hand.
 
@@ -82,3 +95,30 @@ module _ {V : Type 0} where
     pub row : IfSome w.row (IsRowOf w.buckets.now.sharing w.raw.bucket)
     pub at_hand : (bit : ℕ) → bit < 64 → is_set w.rest bit ≡ true → IsAtHand w bit
     pub kept : IfSome w.own (IsKept w)
+
+  -- 3. What single steps of a call do.
+
+  -- the walk has looked on in its bucket; where no flag is at hand then, the own value lies elsewhere
+  pub record LooksIn (w to : Walk V) : Type 0 where
+    pub walk : IsWalk to
+    pub buckets : to.buckets.now ≡ w.buckets.now
+    pub raw : to.raw ≡ w.raw
+    pub own : to.own ≡ w.own
+    pub none : to.rest ≡ 0 → lies_in to.own to.raw.bucket ≡ false
+
+  -- the walk has moved on to a later bucket
+  pub record GoesOn (w to : Walk V) : Type 0 where
+    pub walk : IsWalk to
+    pub passed : to.rest ≡ 0
+    pub buckets : to.buckets.now ≡ w.buckets.now
+    pub own : to.own ≡ w.own
+    pub leads : Leads (resting w.raw) (resting to.raw)
+    pub further : w.raw.bucket < to.raw.bucket
+
+  -- the walk has looked on until a flag is at hand, or to the end
+  pub record Reaches (w : Walk V) (found : Bool) (to : Walk V) : Type 0 where
+    pub walk : IsWalk to
+    pub buckets : to.buckets.now ≡ w.buckets.now
+    pub own : to.own ≡ w.own
+    pub leads : Leads (resting w.raw) (resting to.raw)
+    pub by : MatchBool found (0 < to.rest) (63 ≤ to.raw.bucket)

@@ -1,12 +1,14 @@
 -- Where a walk is, by what its code keeps, as the model's cursor.
-use Rattle.std.specs.Prelude.{◌≡◌, ℕ, suc, ◌+◌, ◌/◌, ◌^◌, ◌≤◌, ◌==◌, Bool, false, Option, Some, None, IfSome, option_map}
+use Rattle.std.specs.Prelude.{◌≡◌, ℕ, suc, ◌+◌, ◌^◌, ◌≤◌, ◌<◌, ◌==◌, Bool, true, false, Option, Some, None, IfSome, option_map}
 use Rattle.std.specs.Prelude.{if◌then◌else◌}
 use Rattle.thread_local_model.specs.Place.{id_at}
 use Rattle.thread_local_model.specs.Cursor.{Cursor, cursor_id, CursorFits}
 use denote.Ref.{Bor}
 use Rattle.thread_local_ids.specs.declared.witness.Witness.{Witness}
 use Rattle.thread_local_bucket_pointers.specs.declared.cursor.RawIter.{RawIter}
+use Rattle.thread_local_bucket_pointers.specs.Cursor.{next_bucket}
 use Rattle.thread_local_shared_buckets.specs.declared.steps.Own.{Own}
+use Rattle.thread_local_shared_buckets.specs.Steps.{Leads}
 use Rattle.thread_local_shared_buckets.specs.Walks.{Owed, Yields, Ends}
 
 -- the cursor of a walk between two calls
@@ -16,6 +18,21 @@ resting raw = record { bucket = raw.bucket; index = raw.index; looks = false }
 -- the walk past a slot of its bucket, whose value it gave
 abbrev pub past : RawIter → ℕ → RawIter
 past raw index = record { yielded = raw.yielded + 1; bucket = raw.bucket; bucket_size = raw.bucket_size; index = index + 1 }
+
+-- the walk has passed buckets alone, and gave nothing
+pub record MovesOn (from to : RawIter) : Type 0 where
+  pub leads : Leads (resting from) (resting to)
+  pub size : to.bucket_size ≡ 2 ^ to.bucket
+  pub yielded : to.yielded ≡ from.yielded
+  pub further : from.bucket ≤ to.bucket
+  pub index : to.index ≤ from.index
+
+-- the walk has passed at least its own bucket, and no other if an own value is still owed
+pub record MovesBehind (from : RawIter) (owed : Bool) (to : RawIter) : Type 0 where
+  pub moves : MovesOn from to
+  pub further : from.bucket < to.bucket
+  pub one : owed ≡ true → to ≡ next_bucket from
+  pub first : to.index ≡ 0
 
 -- what a walk gives: a value, and a witness that its slot was published with it
 abbrev pub Found : Type 0 → Type 0
@@ -36,10 +53,10 @@ module _ {V : Type 0} where
   is_at None bucket index = false
   is_at (Some own) bucket index = if own.thread.bucket == bucket then own.thread.index == index else false
 
-  -- whether it lies in this chunk of a bucket
-  abbrev pub in_chunk : Option (Own V) → ℕ → ℕ → Bool
-  in_chunk None bucket chunk = false
-  in_chunk (Some own) bucket chunk = if own.thread.bucket == bucket then own.thread.index / 64 == chunk else false
+  -- its index in a bucket, or, where it lies elsewhere or there is none, the greatest word
+  abbrev pub own_index : Option (Own V) → ℕ → ℕ
+  own_index None bucket = 18446744073709551615
+  own_index (Some own) bucket = if own.thread.bucket == bucket then own.thread.index else 18446744073709551615
 
   -- the own value's witness tells of its id that its slot was published with this value, in this
   -- sharing

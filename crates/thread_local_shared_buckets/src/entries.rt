@@ -49,8 +49,10 @@ impl<'a, T: Sync> Iterator for Entries<'a, T> {
 
     /// The next value that a look finds, and its id, by the same steps as `Iter` goes by.
     fn next(&mut self) -> Option<(usize, &'a T)> {
-        let value = self.walk.next()?;
-        Some((self.walk.last_id(), value))
+        match self.walk.next() {
+            Some(value) => Some((self.walk.last_id(), value)),
+            None => None,
+        }
     }
 
     /// No value is promised, and there is no upper bound, since others publish meanwhile.

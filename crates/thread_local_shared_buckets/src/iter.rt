@@ -155,8 +155,10 @@ impl<'a, T: Sync> Iterator for Iter<'a, T> {
     /// given. A walk loads each word of flags at most once, and each pointer at most twice: once by
     /// itself, and that of a bucket behind the first seven once among eight.
     fn next(&mut self) -> Option<&'a T> {
-        let (_, value) = self.step()?;
-        Some(value)
+        match self.step() {
+            Some((_, value)) => Some(value),
+            None => None,
+        }
     }
 
     /// No value is promised, and there is no upper bound, since others publish meanwhile.

@@ -1,12 +1,10 @@
 //! One call of a walk: it gives the value of the lowest flag at hand. Where no flag is at hand, it
 //! loads the next words of flags first, until one has a flag that is set.
-ghost use Rattle.std.specs.Prelude.{◌≡◌, ℕ, ◌+◌, ◌%◌, ◌^◌, ◌<◌, ◌≤◌, true, false, None, IfSome, IfNone, MatchOption};
+ghost use Rattle.std.specs.Prelude.{◌≡◌, ◌≢◌, ℕ, ◌+◌, ◌/◌, ◌%◌, ◌^◌, ◌<◌, ◌≤◌, true, false, None, IfSome, MatchOption};
 ghost use Rattle.thread_local_judged.specs.Judged.{Shareable};
 ghost use Rattle.thread_local_model.specs.Bits.{is_set, IsLowestSet, IsWordBut};
-ghost use Rattle.thread_local_bucket_pointers.specs.Cursor.{next_bucket};
-ghost use Rattle.thread_local_shared_buckets.specs.Steps.{Leads};
-ghost use Rattle.thread_local_shared_buckets.specs.Positions.{resting, lies_in, is_at, in_chunk, OwnIsTold, IsToldAt, YieldsFrom, EndsFrom};
-ghost use Rattle.thread_local_shared_buckets.specs.AtHand.{IsSetIn, IsGivenBy, IsRowOf, IsReadOf, IsWalk};
+ghost use Rattle.thread_local_shared_buckets.specs.Positions.{lies_in, is_at, own_index, OwnIsTold, IsToldAt, MovesOn, MovesBehind, YieldsFrom, EndsFrom};
+ghost use Rattle.thread_local_shared_buckets.specs.AtHand.{IsSetIn, IsGivenBy, IsRowOf, HasLooked, IsWalk, LooksIn, GoesOn, Reaches};
 
 use crate::shared::Shared;
 use thread_local_bucket_pointers::{RawIter, flag_word_at};
@@ -72,22 +70,36 @@ fn without_first(flags: u64) -> u64
     flags & (flags - 1)
 }
 
-/// A chunk's flags, with that of the own slot set if it lies there.
+/// The index that stands for no slot: the own value lies in another bucket, or there is none.
+const ELSEWHERE: usize = usize::MAX;
+
+/// The index of the own slot in a bucket, or `ELSEWHERE`.
 #[inline]
-fn with_own<T>(flags: u64, own: &Option<Own<'_, T>>, bucket: usize, chunk: usize) -> u64
-    ensures own { in_chunk own.now bucket chunk ≡ true
-        → IfSome own.now (λ o. IsWordBut result flags (o.thread.index % 64) true) }
-    ensures other { in_chunk own.now bucket chunk ≡ false → result ≡ flags }
+fn own_index<T>(own: &Option<Own<'_, T>>, bucket: usize) -> usize
+    ensures { result ≡ own_index own.now bucket }
 {
     match own {
         Some(own) => {
-            if own.thread.bucket == bucket && own.thread.index / 64 == chunk {
-                flags | 1 << (own.thread.index % 64)
+            if own.thread.bucket == bucket {
+                own.thread.index
             } else {
-                flags
+                ELSEWHERE
             }
         }
-        None => flags,
+        None => ELSEWHERE,
+    }
+}
+
+/// A chunk's flags, with that of the own slot set if it lies there.
+#[inline]
+fn with_own(flags: u64, own: usize, chunk: usize) -> u64
+    ensures own { own / 64 ≡ chunk → IsWordBut result flags (own % 64) true }
+    ensures other { own / 64 ≢ chunk → result ≡ flags }
+{
+    if own / 64 == chunk {
+        flags | 1 << (own % 64)
+    } else {
+        flags
     }
 }
 
@@ -108,32 +120,74 @@ fn row_of<'a, T>(
     }
 }
 
-/// Looks at the next chunks of a row, until one has a flag that is set or the own slot. Each look is
-/// one atomic load. It counts in `chunks` how many of the row's chunks were seen.
+/// Looks at the chunks of a row from the chunk `from` on, until one has a flag that is set or the own
+/// slot, which lies at the index `own`. Each look is one atomic load. Answers what it saw last, how
+/// many of the row's chunks were seen, and the flags at hand. Where no look finds a flag, these are
+/// that of the own slot alone: it is found before where the bucket stands. The bucket of the own value
+/// always stands, but the code doesn't depend on it.
 #[inline]
 fn look_on<'a, T>(
     row: &Option<Row<'a, T>>,
-    raw: &RawIter,
-    own: &Option<Own<'a, T>>,
-    chunks: &mut usize,
-) -> Option<(Seen<'a, T>, u64)>
+    size: usize,
+    own: usize,
+    from: usize,
+) -> (Option<Seen<'a, T>>, usize, u64)
     requires shareable { Shareable T.row }
-    requires of { IfSome row.now (λ r. r.of.bucket ≡ raw.now.bucket) }
-    requires in_table { raw.now.bucket < 63 }
-    requires size { raw.now.bucket_size ≡ 2 ^ raw.now.bucket }
-    ensures stays { IfNone result (chunks.new ≡ chunks.old) }
-    ensures read { IfSome result (IsReadOf row.now raw.now.bucket own.now chunks.old chunks.new) }
+    requires of { IfSome row.now (λ r. (r.of.bucket < 63) × (size ≡ 2 ^ r.of.bucket)) }
+    requires size { size < 2 ^ 63 }
+    ensures { HasLooked row.now own from result }
 {
-    let row = row.as_ref()?;
-    for chunk in *chunks..(raw.bucket_size + 63) / 64 {
-        let seen = row.look(chunk, flag_word_at::<T>(raw.bucket_size, chunk));
-        let flags = with_own(seen.flags(), own, raw.bucket, chunk);
-        if flags != 0 {
-            *chunks = chunk + 1;
-            return Some((seen, flags));
+    if let Some(row) = row {
+        for chunk in from..(size + 63) / 64 {
+            let seen = row.look(chunk, flag_word_at::<T>(size, chunk));
+            let flags = with_own(seen.flags(), own, chunk);
+            if flags != 0 {
+                return (Some(seen), chunk + 1, flags);
+            }
         }
     }
-    None
+    if own == ELSEWHERE {
+        (None, from, 0)
+    } else {
+        (None, own / 64 + 1, with_own(0, own, own / 64))
+    }
+}
+
+/// Passes eight buckets.
+#[inline]
+fn pass_eight(raw: &mut RawIter)
+    requires size { raw.old.bucket_size ≡ 2 ^ raw.old.bucket }
+    requires in_table { raw.old.bucket + 8 ≤ 63 }
+    ensures { MovesOn raw.old raw.new }
+{
+    for passed in 0..8usize {
+        let _ = passed;
+        raw.next_bucket();
+    }
+}
+
+/// Moves on behind the bucket that a walk is in. Where no own value is still to be given, it passes
+/// missing buckets, too, eight at a time: first the eight behind the first seven buckets, then the
+/// next eight. So a pointer is loaded once among eight, and once by itself.
+#[inline]
+fn move_on<T>(buckets: &Shared<T>, raw: &mut RawIter, owed: bool)
+    requires size { raw.old.bucket_size ≡ 2 ^ raw.old.bucket }
+    requires in_table { raw.old.bucket < 63 }
+    ensures { MovesBehind raw.old owed raw.new }
+{
+    raw.next_bucket();
+    if owed {
+        return;
+    }
+    for _ in 0..8 {
+        if raw.bucket % 8 != 7 || raw.bucket > BUCKETS - 8 {
+            return;
+        }
+        if buckets.any_stands(raw.bucket) {
+            return;
+        }
+        pass_eight(raw);
+    }
 }
 
 /// Where a walk is, and what it has at hand there.
@@ -194,119 +248,22 @@ impl<'a, T> Walk<'a, T> {
         take(&mut self.own, &self.seen, self.raw.bucket, index, bit)
     }
 
-    /// Sets the flag of the own slot at hand, if it lies in the bucket. It is set before, with its
-    /// chunk, where the bucket stands. The bucket of the own value always stands, but the code doesn't
-    /// depend on it.
-    #[inline]
-    fn own_at_hand(&mut self) -> bool
-        requires walk { IsWalk self.old }
-        requires passed { self.old.rest ≡ 0 }
-        ensures walk { IsWalk self.new }
-        ensures same { (self.new.buckets.now ≡ self.old.buckets.now)
-            × (self.new.raw ≡ self.old.raw)
-            × (self.new.own ≡ self.old.own) }
-        ensures found { result ≡ true → 0 < self.new.rest }
-        ensures none { result ≡ false
-            → (self.new.rest ≡ 0) × (lies_in self.new.own self.new.raw.bucket ≡ false) }
-    {
-        match &self.own {
-            Some(own) => {
-                if own.thread.bucket == self.raw.bucket {
-                    self.chunks = own.thread.index / 64 + 1;
-                    self.rest = with_own(0, &self.own, self.raw.bucket, own.thread.index / 64);
-                    true
-                } else {
-                    false
-                }
-            }
-            None => false,
-        }
-    }
-
     /// Looks on in the bucket that the walk is in, until a flag is at hand. It loads the bucket's
     /// pointer where it hasn't found the bucket yet.
     #[inline]
-    fn look_in(&mut self) -> bool
+    fn look_in(&mut self)
         requires shareable { Shareable T.row }
         requires walk { IsWalk self.old }
         requires passed { self.old.rest ≡ 0 }
         requires in_table { self.old.raw.bucket < 63 }
-        ensures walk { IsWalk self.new }
-        ensures same { (self.new.buckets.now ≡ self.old.buckets.now)
-            × (self.new.raw ≡ self.old.raw)
-            × (self.new.own ≡ self.old.own) }
-        ensures found { result ≡ true → 0 < self.new.rest }
-        ensures none { result ≡ false
-            → (self.new.rest ≡ 0) × (lies_in self.new.own self.new.raw.bucket ≡ false) }
+        ensures { LooksIn self.old self.new }
     {
         self.row = row_of(self.buckets, self.row.take(), self.raw.bucket);
-        match look_on(&self.row, &self.raw, &self.own, &mut self.chunks) {
-            Some((seen, flags)) => {
-                self.seen = Some(seen);
-                self.rest = flags;
-                true
-            }
-            None => self.own_at_hand(),
-        }
-    }
-
-    /// Moves on to the next bucket.
-    #[inline]
-    fn leave(&mut self)
-        requires walk { IsWalk self.old }
-        requires passed { self.old.rest ≡ 0 }
-        requires in_table { self.old.raw.bucket < 63 }
-        requires elsewhere { lies_in self.old.own self.old.raw.bucket ≡ false }
-        ensures walk { IsWalk self.new }
-        ensures passed { self.new.rest ≡ 0 }
-        ensures same { (self.new.buckets.now ≡ self.old.buckets.now) × (self.new.own ≡ self.old.own) }
-        ensures next { self.new.raw ≡ next_bucket self.old.raw }
-    {
-        self.raw.next_bucket();
-        self.row = None;
-        self.chunks = 0;
-    }
-
-    /// Passes eight buckets.
-    #[inline]
-    fn pass_eight(&mut self)
-        requires walk { IsWalk self.old }
-        requires passed { self.old.rest ≡ 0 }
-        requires in_table { self.old.raw.bucket + 8 ≤ 63 }
-        requires none_owed { self.old.own ≡ None }
-        ensures walk { IsWalk self.new }
-        ensures passed { self.new.rest ≡ 0 }
-        ensures same { (self.new.buckets.now ≡ self.old.buckets.now) × (self.new.own ≡ self.old.own) }
-        ensures leads { Leads (resting self.old.raw) (resting self.new.raw) }
-        ensures further { self.old.raw.bucket ≤ self.new.raw.bucket }
-    {
-        for passed in 0..8usize {
-            let _ = passed;
-            self.leave();
-        }
-    }
-
-    /// Passes missing buckets, eight at a time: first the eight behind the first seven buckets, then
-    /// the next eight. So a pointer is loaded once among eight, and once by itself.
-    #[inline]
-    fn skip_missing(&mut self)
-        requires walk { IsWalk self.old }
-        requires passed { self.old.rest ≡ 0 }
-        ensures walk { IsWalk self.new }
-        ensures passed { self.new.rest ≡ 0 }
-        ensures same { (self.new.buckets.now ≡ self.old.buckets.now) × (self.new.own ≡ self.old.own) }
-        ensures leads { Leads (resting self.old.raw) (resting self.new.raw) }
-        ensures further { self.old.raw.bucket ≤ self.new.raw.bucket }
-    {
-        for _ in 0..8 {
-            if self.own.is_some() || self.raw.bucket % 8 != 7 || self.raw.bucket + 8 > BUCKETS {
-                return;
-            }
-            if self.buckets.any_stands(self.raw.bucket) {
-                return;
-            }
-            self.pass_eight();
-        }
+        let own = own_index(&self.own, self.raw.bucket);
+        let (seen, chunks, rest) = look_on(&self.row, self.raw.bucket_size, own, self.chunks);
+        self.seen = seen;
+        self.chunks = chunks;
+        self.rest = rest;
     }
 
     /// Moves on behind the bucket that the walk is in, and behind missing ones.
@@ -316,58 +273,36 @@ impl<'a, T> Walk<'a, T> {
         requires passed { self.old.rest ≡ 0 }
         requires in_table { self.old.raw.bucket < 63 }
         requires elsewhere { lies_in self.old.own self.old.raw.bucket ≡ false }
-        ensures walk { IsWalk self.new }
-        ensures passed { self.new.rest ≡ 0 }
-        ensures same { (self.new.buckets.now ≡ self.old.buckets.now) × (self.new.own ≡ self.old.own) }
-        ensures leads { Leads (resting self.old.raw) (resting self.new.raw) }
-        ensures further { self.old.raw.bucket < self.new.raw.bucket }
+        ensures { GoesOn self.old self.new }
     {
-        self.leave();
-        self.skip_missing();
+        let owed = self.own.is_some();
+        move_on(self.buckets, &mut self.raw, owed);
+        self.row = None;
+        self.chunks = 0;
     }
 
     /// Looks on until a flag is at hand, in this bucket or a later one. Answers whether one is.
-    #[inline]
+    #[inline(always)]
     fn reach(&mut self) -> bool
         requires shareable { Shareable T.row }
         requires walk { IsWalk self.old }
-        requires passed { self.old.rest ≡ 0 }
-        ensures walk { IsWalk self.new }
-        ensures same { (self.new.buckets.now ≡ self.old.buckets.now) × (self.new.own ≡ self.old.own) }
-        ensures leads { Leads (resting self.old.raw) (resting self.new.raw) }
-        ensures found { result ≡ true → 0 < self.new.rest }
-        ensures ended { result ≡ false → 63 ≤ self.new.raw.bucket }
+        ensures { Reaches self.old result self.new }
     {
+        if self.rest > 0 {
+            return true;
+        }
         for bucket in self.raw.bucket..BUCKETS {
             let _ = bucket;
             if self.raw.bucket >= BUCKETS {
                 return false;
             }
-            if self.look_in() {
+            self.look_in();
+            if self.rest != 0 {
                 return true;
             }
             self.go_on();
         }
         false
-    }
-
-    /// What the walk gives next, where no flag is at hand.
-    #[inline]
-    fn pass_next(&mut self) -> Option<(Witness<T>, &'a T)>
-        requires shareable { Shareable T.row }
-        requires walk { IsWalk self.old }
-        requires passed { self.old.rest ≡ 0 }
-        ensures walk { IsWalk self.new }
-        ensures sharing { self.new.buckets.now ≡ self.old.buckets.now }
-        ensures goes { MatchOption result
-            (EndsFrom self.old.raw self.old.own self.new.raw self.new.own)
-            (λ x. YieldsFrom self.old.raw self.old.own x.1.now self.new.raw self.new.own) }
-        ensures told { IfSome result (IsToldAt self.old.buckets.now.sharing self.new.raw) }
-    {
-        if !self.reach() {
-            return None;
-        }
-        Some(self.pass())
     }
 
     /// What the walk gives next.
@@ -382,8 +317,8 @@ impl<'a, T> Walk<'a, T> {
             (λ x. YieldsFrom self.old.raw self.old.own x.1.now self.new.raw self.new.own) }
         ensures told { IfSome result (IsToldAt self.old.buckets.now.sharing self.new.raw) }
     {
-        if self.rest == 0 {
-            return self.pass_next();
+        if !self.reach() {
+            return None;
         }
         Some(self.pass())
     }

@@ -54,8 +54,10 @@ impl<'a, T: Sync> Iterator for Tokens<'a, T> {
 
     /// The next value that a look finds, and a token of it, by the same steps as `Iter` goes by.
     fn next(&mut self) -> Option<(Token<T>, &'a T)> {
-        let (witness, value) = self.walk.step()?;
-        Some((Token::new(self.walk.last_id(), witness), value))
+        match self.walk.step() {
+            Some((witness, value)) => Some((Token::new(self.walk.last_id(), witness), value)),
+            None => None,
+        }
     }
 
     /// No value is promised, and there is no upper bound, since others publish meanwhile.

@@ -1,15 +1,35 @@
-use Rattle.thread_local_shared_buckets.proofs.AtHandLaws.{none_in_chunk, none_further}
+-- The search for these takes seconds.
+use Rattle.std.proofs.Common.{◌≡◌, ◌^◌, ◌*◌, ◌+◌, ◌<◌, refl, inl, inr, arith}
+use Rattle.thread_local_shared_buckets.proofs.AtHandLaws.{read_at, none_in_chunk, none_further}
 use Rattle.thread_local_shared_buckets.proofs.steps.look_on.Goals as goal
+
+pub loop-chunk-init : goal.loop-chunk-init
+loop-chunk-init g c = record { later = omega arith; none_before = λ k late below. absurd (omega (arith, late, below)) }
+
+pub returns-then-flags-ne0 : goal.returns-then-flags-ne0
+returns-then-flags-ne0 g c =
+    let kept = c.loop-chunk.invariant in
+    let look = c.look-seen.ensures in
+    read_at c.args.row.now c.in-Some.row c.args.own c.args.from c.loop-chunk.chunk c.flags.result c.with_own-flags.result
+    c.look-seen.result c.in-Some.is look.of.0 look.of.2 c.flags.ensures kept.later
+    (omega (arith, c.loop-chunk-test.true, c.loop-chunk.auto.chunk-end, c.requires.size))
+    look.inside kept.none_before c.with_own-flags.ensures.own c.with_own-flags.ensures.other c.if-flags-ne0.true
 
 pub loop-chunk-preserved : goal.loop-chunk-preserved
 loop-chunk-preserved g c =
     let kept = c.loop-chunk.invariant in
     let here =
-    none_in_chunk c.args.own.now c.args.raw.now.bucket c.loop-chunk.chunk _ c.with_own-flags.result
-    c.with_own-flags.ensures.own c.if-flags-ne0.false in
+    none_in_chunk c.args.own c.loop-chunk.chunk c.flags.result c.with_own-flags.result c.with_own-flags.ensures.own
+    c.if-flags-ne0.false in
     record {
-      counted = kept.counted;
-      none_before =
-          none_further c.args.own.now c.args.raw.now.bucket c.args.chunks.now c.loop-chunk.chunk
-          kept.none_before here;
+      later = omega (arith, kept.later);
+      none_before = none_further c.args.own c.args.from c.loop-chunk.chunk kept.none_before here;
     }
+
+pub returns-then-own-eq-ELSEWHERE : goal.returns-then-own-eq-ELSEWHERE
+returns-then-own-eq-ELSEWHERE g c = inl (c.if-own-eq-ELSEWHERE.true, refl, refl)
+
+pub returns-else-own-eq-ELSEWHERE : goal.returns-else-own-eq-ELSEWHERE
+returns-else-own-eq-ELSEWHERE g c =
+    let all : 18446744073709551615 + 1 ≡ 2 ^ 64 = refl in
+    inr (omega (arith, all, c.if-own-eq-ELSEWHERE.false, c.ranges.own.fits), refl, c.with_own.ensures.own refl)

@@ -1,8 +1,11 @@
-use Rattle.thread_local_shared_buckets.proofs.AtHandLaws.{read_of_comes}
+use Rattle.thread_local_shared_buckets.proofs.AtHandLaws.{looked_on, room}
 use Rattle.thread_local_shared_buckets.proofs.steps.Walk.look_in.Goals as goal
 
-pub returns-in-Some-clause-walk : goal.returns-in-Some-clause-walk
-returns-in-Some-clause-walk g c =
-    read_of_comes c.args.self.now c.row_of-self.result c.look_on.new.chunks
-    (c.in-Some.seen, c.in-Some.flags) c.requires.walk c.requires.passed c.requires.in_table
-    c.row_of-self.ensures c.in-Some.ensures.read
+pub returns : goal.returns
+returns g c =
+    looked_on c.args.self.now c.row_of-self.result c.own_index-own.result c.look_on-seen.result c.requires.walk c.requires.passed
+    c.requires.in_table c.row_of-self.ensures c.own_index-own.ensures c.look_on-seen.ensures
+
+pub look_on-seen-requires-clause-size : goal.look_on-seen-requires-clause-size
+look_on-seen-requires-clause-size g c =
+    room c.args.self.now.raw.bucket_size c.args.self.now.raw.bucket c.requires.walk.walk.size c.requires.in_table
