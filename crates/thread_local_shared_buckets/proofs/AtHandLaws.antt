@@ -1,8 +1,7 @@
 -- The moves of the code keep what is at hand true, and do what the contract of `next` says.
 use Rattle.std.proofs.Common.{◌≡◌, ◌≢◌, ℕ, zero, suc, ◌+◌, ◌-◌, ◌*◌, ◌/◌, ◌%◌, ◌^◌, ◌<◌, ◌≤◌, ◌⊎◌, Bool, true, false, cond, eqb}
 use Rattle.std.proofs.Common.{Option, None, Some, IfSome, is_some, option_map, refl, ap, sym, ◌∙◌, subst, arith, ⊎_elim, inl, inr, pow_mono, lit<}
-use Rattle.std.proofs.Common.{add-one, MatchBool}
-use Rattle.std.proofs.Math.Nat.{two-pow-succ}
+use Rattle.std.proofs.Common.{MatchBool}
 use Rattle.std.proofs.lemmas.Bool.{cond_both, eqb-true, eqb-false, eq-eqb, ne_eqb, cases_lt, cases_eq}
 use Rattle.thread_local_model.specs.Bits.{is_set, IsLowestSet, IsWordBut}
 use Rattle.thread_local_model.specs.Place.{id_at}
@@ -19,10 +18,10 @@ use Rattle.thread_local_shared_buckets.specs.declared.steps.Own.{Own}
 use Rattle.thread_local_shared_buckets.specs.declared.steps.Walk.{Walk}
 use Rattle.thread_local_shared_buckets.specs.Walks.{Yields}
 use Rattle.thread_local_shared_buckets.specs.Positions.{resting, past, owed, lies_in, is_at, own_index, Found, OwnIsTold}
-use Rattle.thread_local_shared_buckets.specs.Positions.{IsToldAt, IsAhead, IsSharedWalk, MovesOn, MovesBehind}
+use Rattle.thread_local_shared_buckets.specs.Positions.{IsToldAt, IsAhead, IsSharedWalk, MovesBehind}
 use Rattle.thread_local_shared_buckets.specs.AtHand.{IsSetIn, IsGivenBy, IsRead, IsAlone, LooksAt, HasLooked, IsRowOf, slot_of, HasSeen, IsAtHand}
 use Rattle.thread_local_shared_buckets.specs.AtHand.{IsKept, IsWalk, LooksIn, GoesOn}
-use Rattle.thread_local_shared_buckets.proofs.StepLaws.{passes_bucket, leads_on, leads_nowhere, leads_then}
+use Rattle.thread_local_shared_buckets.proofs.StepLaws.{leads_on}
 use Rattle.thread_local_shared_buckets.proofs.WalkLaws.{few, IsBefore, given_found, Gave, gave_own, own_after_bucket}
 
 -- 1. Tests and bits.
@@ -93,64 +92,6 @@ ended answer rest bucket is by = subst (λ (u : Bool). MatchBool u (0 < rest) (6
 pub found : (answer : Bool) (rest bucket : ℕ) → answer ≡ true → MatchBool answer (0 < rest) (63 ≤ bucket) → 0 < rest
 found answer rest bucket is by = subst (λ (u : Bool). MatchBool u (0 < rest) (63 ≤ bucket)) is by
 
-pub moves_nowhere : (raw : RawIter) → raw.bucket_size ≡ 2 ^ raw.bucket → MovesOn raw raw
-moves_nowhere raw size = record {
-  leads = leads_nowhere (resting raw);
-  size = size;
-  yielded = refl;
-  further = omega arith;
-  index = omega arith;
-}
-
-pub moves_then : (from met to : RawIter) → MovesOn from met → MovesOn met to → MovesOn from to
-moves_then from met to first after =
-    let a = first.further in
-    let b = after.further in
-    let i = first.index in
-    let j = after.index in
-    record {
-      leads = leads_then (resting from) (resting met) (resting to) first.leads after.leads;
-      size = after.size;
-      yielded = after.yielded ∙ first.yielded;
-      further = omega arith;
-      index = omega arith;
-    }
-
-pub moves_next : (raw to : RawIter) → raw.bucket_size ≡ 2 ^ raw.bucket → raw.bucket < 63 → to ≡ next_bucket raw → MovesOn raw to
-moves_next raw to size low next =
-    let twice : 2 ^ (raw.bucket + 1) ≡ 2 ^ raw.bucket + 2 ^ raw.bucket = rw add-one (two-pow-succ raw.bucket) in
-    subst (λ (r : RawIter). MovesOn raw r) (sym next) record {
-      leads = passes_bucket raw.bucket raw.index low;
-      size = omega arith;
-      yielded = refl;
-      further = omega arith;
-      index = omega arith;
-    }
-
-pub moves_one : (raw to : RawIter) (owed : Bool) → raw.bucket_size ≡ 2 ^ raw.bucket → raw.bucket < 63 → to ≡ next_bucket raw
-    → MovesBehind raw owed to
-moves_one raw to owed size low next = record {
-  moves = moves_next raw to size low next;
-  further = (let one : to.bucket ≡ raw.bucket + 1 = ap (λ (r : RawIter). r.bucket) next in omega arith);
-  one = λ _. next;
-  first = ap (λ (r : RawIter). r.index) next;
-}
-
-pub moves_far : (raw met to : RawIter) (owed : Bool) → owed ≡ false → raw.bucket_size ≡ 2 ^ raw.bucket → raw.bucket < 63
-    → met ≡ next_bucket raw → MovesOn met to
-    → MovesBehind raw owed to
-moves_far raw met to owed none size low next on =
-    let one : met.bucket ≡ raw.bucket + 1 = ap (λ (r : RawIter). r.bucket) next in
-    let first : met.index ≡ 0 = ap (λ (r : RawIter). r.index) next in
-    let further : met.bucket ≤ to.bucket = on.further in
-    let index : to.index ≤ met.index = on.index in
-    record {
-      moves = moves_then raw met to (moves_next raw met size low next) on;
-      further = omega arith;
-      one = λ so. (let never : true ≡ false = sym so ∙ none in cc);
-      first = omega arith;
-    }
-
 -- 2. Indices and chunks.
 
 none_at : (i : ℕ) → 18446744073709551615 ≡ i → i < 18446744073709551615 → ⊥
@@ -159,6 +100,9 @@ none_at i same small = omega arith
 in_table : (bucket index : ℕ) → bucket < 63 → index < 2 ^ bucket → index < 2 ^ 63
 in_table bucket index low inside =
     let below : bucket ≤ 63 = omega arith in let most : 2 ^ bucket ≤ 2 ^ 63 = pow_mono below in omega arith
+
+below_all : (i : ℕ) → i < 2 ^ 63 → i < 18446744073709551615
+below_all i small = omega arith
 
 pub room : (size bucket : ℕ) → size ≡ 2 ^ bucket → bucket < 63 → size < 2 ^ 63
 room size bucket is low =
@@ -183,6 +127,35 @@ none_in_chunk own chunk flags word adds none at =
     none_set word (own % 64) none (added_set word flags (own % 64) (adds at) small)
 
 module _ {V : Type 0} where
+  -- where the own slot lies in a bucket, by its index there
+  at_index : (own : Option (Own V)) (bucket i : ℕ) → own_index own bucket ≡ i → i < 18446744073709551615 → is_at own bucket i ≡ true
+  at_index None bucket i here small = absurd (none_at i here small)
+  at_index (Some own) bucket i here small =
+      by_test (eqb own.thread.bucket bucket)
+      (λ t.
+      let index : own.thread.index ≡ i = sym (ap (λ (u : Bool). cond u own.thread.index 18446744073709551615) t) ∙ here in
+      both_so own.thread.bucket bucket own.thread.index i (eqb-true own.thread.bucket bucket t) index)
+      (λ f.
+      let none : 18446744073709551615 ≡ i = sym (ap (λ (u : Bool). cond u own.thread.index 18446744073709551615) f) ∙ here in
+      absurd (none_at i none small))
+
+  index_of_own : (own : Own V) (bucket : ℕ) → own.thread.bucket ≡ bucket → own_index (Some own) bucket ≡ own.thread.index
+  index_of_own own bucket same =
+      ap (λ (u : Bool). cond u own.thread.index 18446744073709551615) (eq-eqb own.thread.bucket bucket same)
+
+  index_at : (own : Option (Own V)) (bucket i : ℕ) → is_at own bucket i ≡ true → own_index own bucket ≡ i
+  index_at None bucket i at = let never : false ≡ true = at in cc
+  index_at (Some own) bucket i at =
+      let same = both_if own.thread.bucket bucket own.thread.index i at in
+      index_of_own own bucket same.0 ∙ same.1
+
+  not_at : (own : Option (Own V)) (bucket i : ℕ) → i < 2 ^ 63 → is_at own bucket i ≡ false → own_index own bucket ≢ i
+  not_at own bucket i small apart here =
+      let never : true ≡ false = sym (at_index own bucket i here (below_all i small)) ∙ apart in cc
+
+  is_apart : (own : Option (Own V)) (bucket i : ℕ) → own_index own bucket ≢ i → is_at own bucket i ≡ false
+  is_apart own bucket i apart = by_test (is_at own bucket i) (λ at. absurd (apart (index_at own bucket i at))) (λ off. off)
+
   -- 3. A value is given.
 
   pub set_in : (sharing : Option ℕ) (bucket chunks bit : ℕ) (seen : Option (Seen V))
@@ -344,12 +317,12 @@ module _ {V : Type 0} where
   -- what `take` ensures
   abbrev pub TakesOwn : Option (Own V) → ℕ → ℕ → Found V → Option (Own V) → Type 0
   TakesOwn own bucket index x left =
-      is_at own bucket index ≡ true
+      own_index own bucket ≡ index
       → (left ≡ None) × IfSome own (λ o. (x.0 ≡ o.witness) × (x.1.now ≡ o.value.now))
 
   abbrev pub TakesSeen : Option (Own V) → Option (Seen V) → ℕ → ℕ → ℕ → Found V → Option (Own V) → Type 0
   TakesSeen own seen bucket index bit x left =
-      is_at own bucket index ≡ false
+      own_index own bucket ≢ index
       → (left ≡ own) × IfSome seen (IsGivenBy bit x)
 
   passed_one : (w : Walk V) (low rest : ℕ) (own left : Option (Own V)) (x : Found V) → w.own ≡ own → IsWalk w
@@ -359,7 +332,7 @@ module _ {V : Type 0} where
       → Passed w x (after_pass w low rest left)
   passed_one w low rest None left x is walk lowest but at takes = let never : false ≡ true = at in cc
   passed_one w low rest (Some own) left x is walk lowest but at takes =
-      let taken = takes at in
+      let taken = takes (index_at (Some own) w.raw.bucket (slot_of w low) at) in
       subst (λ (o : Option (Own V)). Passed w x (after_pass w low rest o)) (sym taken.0)
       (passed_own w low rest own x is walk lowest but at taken.1.0 taken.1.1)
 
@@ -372,8 +345,11 @@ module _ {V : Type 0} where
       by_test (is_at w.own w.raw.bucket (slot_of w low))
       (λ at. passed_one w low rest w.own left x refl walk lowest but at own)
       (λ apart.
-      subst (λ (o : Option (Own V)). Passed w x (after_pass w low rest o)) (sym (seen apart).0)
-      (passed_seen w low rest x walk lowest but apart (seen apart).1))
+      let there = walk.at_hand low lowest.within lowest.set in
+      let small : slot_of w low < 2 ^ 63 = in_table w.raw.bucket (slot_of w low) there.in_table there.inside in
+      let given = seen (not_at w.own w.raw.bucket (slot_of w low) small apart) in
+      subst (λ (o : Option (Own V)). Passed w x (after_pass w low rest o)) (sym given.0)
+      (passed_seen w low rest x walk lowest but apart given.1))
 
   -- 4. Flags come to hand.
 
@@ -419,22 +395,6 @@ module _ {V : Type 0} where
                   (added_set rest 0 (i % 64) but (omega arith)),
             ));
       }
-
-  -- where the own slot lies in a bucket, by its index there
-  at_index : (own : Option (Own V)) (bucket i : ℕ) → own_index own bucket ≡ i → i < 18446744073709551615 → is_at own bucket i ≡ true
-  at_index None bucket i here small = absurd (none_at i here small)
-  at_index (Some own) bucket i here small =
-      by_test (eqb own.thread.bucket bucket)
-      (λ t.
-      let index : own.thread.index ≡ i = sym (ap (λ (u : Bool). cond u own.thread.index 18446744073709551615) t) ∙ here in
-      both_so own.thread.bucket bucket own.thread.index i (eqb-true own.thread.bucket bucket t) index)
-      (λ f.
-      let none : 18446744073709551615 ≡ i = sym (ap (λ (u : Bool). cond u own.thread.index 18446744073709551615) f) ∙ here in
-      absurd (none_at i none small))
-
-  index_of_own : (own : Own V) (bucket : ℕ) → own.thread.bucket ≡ bucket → own_index (Some own) bucket ≡ own.thread.index
-  index_of_own own bucket same =
-      ap (λ (u : Bool). cond u own.thread.index 18446744073709551615) (eq-eqb own.thread.bucket bucket same)
 
   -- it lies in no bucket but where it has an index
   pub elsewhere : (own : Option (Own V)) (bucket : ℕ) → own_index own bucket ≡ 18446744073709551615 → lies_in own bucket ≡ false
@@ -752,10 +712,10 @@ module _ {V : Type 0} where
       record { some = there.some; slot = omega arith; small = lowest.within; few = few w.raw w.own walk.walk }
 
   pub set_lowest : (w : Walk V) → IsWalk w → w.rest < 2 ^ 64 → 0 < w.rest
-      → is_at w.own w.raw.bucket (slot_of w (trailing_zeros w64 w.rest)) ≡ false
+      → own_index w.own w.raw.bucket ≢ slot_of w (trailing_zeros w64 w.rest)
       → IsSetIn w.seen (trailing_zeros w64 w.rest)
   set_lowest w walk fits some apart =
       let lowest = lowest_of w fits some in
       let there = walk.at_hand (trailing_zeros w64 w.rest) lowest.within lowest.set in
       set_in w.buckets.now.sharing w.raw.bucket w.chunks (trailing_zeros w64 w.rest) w.seen
-      (there.by apart)
+      (there.by (is_apart w.own w.raw.bucket (slot_of w (trailing_zeros w64 w.rest)) apart))

@@ -3,7 +3,7 @@
 ghost use Rattle.std.specs.Prelude.{◌≡◌, ◌≢◌, ℕ, ◌+◌, ◌/◌, ◌%◌, ◌^◌, ◌<◌, ◌≤◌, true, false, None, IfSome, MatchOption};
 ghost use Rattle.thread_local_judged.specs.Judged.{Shareable};
 ghost use Rattle.thread_local_model.specs.Bits.{is_set, IsLowestSet, IsWordBut};
-ghost use Rattle.thread_local_shared_buckets.specs.Positions.{lies_in, is_at, own_index, OwnIsTold, IsToldAt, MovesOn, MovesBehind, YieldsFrom, EndsFrom};
+ghost use Rattle.thread_local_shared_buckets.specs.Positions.{lies_in, own_index, OwnIsTold, IsToldAt, MovesOn, MovesBehind, YieldsFrom, EndsFrom};
 ghost use Rattle.thread_local_shared_buckets.specs.AtHand.{IsSetIn, IsGivenBy, IsRowOf, HasLooked, IsWalk, LooksIn, GoesOn, Reaches};
 
 use crate::shared::Shared;
@@ -18,56 +18,6 @@ pub(crate) struct Own<'a, T> {
     pub(crate) thread: Thread,
     pub(crate) value: &'a T,
     pub(crate) witness: Witness<T>,
-}
-
-/// Whether the own value lies in this slot of a bucket.
-#[inline]
-fn is_at<T>(own: &Option<Own<'_, T>>, bucket: usize, index: usize) -> bool
-    ensures { result ≡ is_at own.now bucket index }
-{
-    match own {
-        Some(own) => own.thread.bucket == bucket && own.thread.index == index,
-        None => false,
-    }
-}
-
-/// The value of a slot: the own value, if it lies there, and else what was seen with this bit.
-#[inline]
-fn take<'a, T>(
-    own: &mut Option<Own<'a, T>>,
-    seen: &Option<Seen<'a, T>>,
-    bucket: usize,
-    index: usize,
-    bit: usize,
-) -> (Witness<T>, &'a T)
-    requires within { bit < 64 }
-    requires by { is_at own.old bucket index ≡ false → IsSetIn seen.now bit }
-    ensures own { is_at own.old bucket index ≡ true
-        → (own.new ≡ None)
-        × IfSome own.old (λ o. (result.0 ≡ o.witness) × (result.1.now ≡ o.value.now)) }
-    ensures other { is_at own.old bucket index ≡ false
-        → (own.new ≡ own.old) × IfSome seen.now (IsGivenBy bit result) }
-{
-    if is_at(own, bucket, index) {
-        match own.take() {
-            Some(own) => (own.witness, own.value),
-            None => unreachable!(),
-        }
-    } else {
-        match seen {
-            Some(seen) => seen.give(bit),
-            None => unreachable!(),
-        }
-    }
-}
-
-/// The flags, with the lowest set one cleared.
-#[inline]
-fn without_first(flags: u64) -> u64
-    requires { 0 < flags }
-    ensures { (first : ℕ) → IsLowestSet flags first → IsWordBut result flags first false }
-{
-    flags & (flags - 1)
 }
 
 /// The index that stands for no slot: the own value lies in another bucket, or there is none.
@@ -88,6 +38,46 @@ fn own_index<T>(own: &Option<Own<'_, T>>, bucket: usize) -> usize
         }
         None => ELSEWHERE,
     }
+}
+
+/// The value of a slot: the own value, if it lies there, and else what was seen with this bit.
+#[inline]
+fn take<'a, T>(
+    own: &mut Option<Own<'a, T>>,
+    seen: &Option<Seen<'a, T>>,
+    bucket: usize,
+    index: usize,
+    bit: usize,
+) -> (Witness<T>, &'a T)
+    requires within { bit < 64 }
+    requires inside { index < 2 ^ 63 }
+    requires by { own_index own.old bucket ≢ index → IsSetIn seen.now bit }
+    ensures own { own_index own.old bucket ≡ index
+        → (own.new ≡ None)
+        × IfSome own.old (λ o. (result.0 ≡ o.witness) × (result.1.now ≡ o.value.now)) }
+    ensures other { own_index own.old bucket ≢ index
+        → (own.new ≡ own.old) × IfSome seen.now (IsGivenBy bit result) }
+{
+    if own_index(own, bucket) == index {
+        match own.take() {
+            Some(own) => (own.witness, own.value),
+            None => unreachable!(),
+        }
+    } else {
+        match seen {
+            Some(seen) => seen.give(bit),
+            None => unreachable!(),
+        }
+    }
+}
+
+/// The flags, with the lowest set one cleared.
+#[inline]
+fn without_first(flags: u64) -> u64
+    requires { 0 < flags }
+    ensures { (first : ℕ) → IsLowestSet flags first → IsWordBut result flags first false }
+{
+    flags & (flags - 1)
 }
 
 /// A chunk's flags, with that of the own slot set if it lies there.

@@ -1,4 +1,4 @@
-use Rattle.thread_local_shared_buckets.proofs.AtHandLaws.{moves_nowhere, moves_next, moves_then, moves_one, moves_far}
+use Rattle.thread_local_shared_buckets.proofs.MoveLaws.{moves_nowhere, moves_next, moves_then, moves_one, moves_far}
 use Rattle.thread_local_shared_buckets.proofs.steps.move_on.Goals as goal
 
 pub returns-then-owed : goal.returns-then-owed

@@ -1,6 +1,6 @@
 use Rattle.std.proofs.Common.{◌≡◌, ◌+◌, ap, arith}
 use Rattle.thread_local_bucket_pointers.specs.declared.cursor.RawIter.{RawIter}
-use Rattle.thread_local_shared_buckets.proofs.AtHandLaws.{moves_nowhere, moves_next, moves_then}
+use Rattle.thread_local_shared_buckets.proofs.MoveLaws.{moves_nowhere, moves_next, moves_then}
 use Rattle.thread_local_shared_buckets.proofs.steps.pass_eight.Goals as goal
 
 pub loop-passed-init : goal.loop-passed-init

@@ -24,6 +24,9 @@ overflow_add-self g c =
 pub overflow_add-self-2 : goal.overflow_add-self-2
 overflow_add-self-2 g c = let at = near c.args.self.now c.requires.walk (omega arith) c.requires.some in omega (arith, at.few)
 
+pub take-requires-clause-inside : goal.take-requires-clause-inside
+take-requires-clause-inside g c = (near c.args.self.now c.requires.walk (omega arith) c.requires.some).slot
+
 pub take-requires-clause-by : goal.take-requires-clause-by
 take-requires-clause-by g c = set_lowest c.args.self.now c.requires.walk (omega arith) c.requires.some
 
