@@ -5,4 +5,9 @@ pub mod Fields
 pub mod StepLaws
 pub mod MoveLaws
 pub mod WalkLaws
+pub mod BitLaws
+pub mod Indices
+pub mod OwnLaws
+pub mod PassLaws
+pub mod LookLaws
 pub mod AtHandLaws

@@ -1,9 +1,9 @@
 //! One call of a walk: it gives the value of the lowest flag at hand. Where no flag is at hand, it
 //! loads the next words of flags first, until one has a flag that is set.
-ghost use Rattle.std.specs.Prelude.{◌≡◌, ◌≢◌, ℕ, ◌+◌, ◌/◌, ◌%◌, ◌^◌, ◌<◌, ◌≤◌, true, false, None, IfSome, MatchOption};
+ghost use Rattle.std.specs.Prelude.{◌≡◌, ◌≢◌, ℕ, ◌+◌, ◌-◌, ◌*◌, ◌/◌, ◌%◌, ◌^◌, ◌<◌, ◌≤◌, true, false, None, IfSome, MatchOption};
 ghost use Rattle.thread_local_judged.specs.Judged.{Shareable};
 ghost use Rattle.thread_local_model.specs.Bits.{is_set, IsLowestSet, IsWordBut};
-ghost use Rattle.thread_local_shared_buckets.specs.Positions.{lies_in, own_index, OwnIsTold, IsToldAt, MovesOn, MovesBehind, YieldsFrom, EndsFrom};
+ghost use Rattle.thread_local_shared_buckets.specs.Positions.{past, lies_in, own_index, OwnIsTold, IsToldAt, MovesOn, MovesBehind, YieldsFrom, EndsFrom};
 ghost use Rattle.thread_local_shared_buckets.specs.AtHand.{IsSetIn, IsGivenBy, IsRowOf, HasLooked, IsWalk, LooksIn, GoesOn, Reaches};
 
 use crate::shared::Shared;
@@ -143,6 +143,27 @@ fn look_on<'a, T>(
     }
 }
 
+/// The index of the slot with this bit in the last of the chunks that were seen.
+#[inline]
+fn slot_at(chunks: usize, bit: usize) -> usize
+    requires some { 0 < chunks }
+    requires inside { (chunks - 1) * 64 + bit < 2 ^ 63 }
+    ensures { result ≡ (chunks - 1) * 64 + bit }
+{
+    (chunks - 1) * 64 + bit
+}
+
+/// Passes the slots up to this one, whose value is given.
+#[inline]
+fn pass_slot(raw: &mut RawIter, index: usize)
+    requires inside { index < 2 ^ 63 }
+    requires few { raw.old.yielded < 2 ^ 63 }
+    ensures { raw.new ≡ past raw.old index }
+{
+    raw.index = index + 1;
+    raw.yielded += 1;
+}
+
 /// Passes eight buckets.
 #[inline]
 fn pass_eight(raw: &mut RawIter)
@@ -232,10 +253,10 @@ impl<'a, T> Walk<'a, T> {
     {
         let bit = self.rest.trailing_zeros() as usize;
         self.rest = without_first(self.rest);
-        let index = (self.chunks - 1) * 64 + bit;
-        self.raw.index = index + 1;
-        self.raw.yielded += 1;
-        take(&mut self.own, &self.seen, self.raw.bucket, index, bit)
+        let index = slot_at(self.chunks, bit);
+        let found = take(&mut self.own, &self.seen, self.raw.bucket, index, bit);
+        pass_slot(&mut self.raw, index);
+        found
     }
 
     /// Looks on in the bucket that the walk is in, until a flag is at hand. It loads the bucket's

@@ -2,7 +2,7 @@ use Rattle.std.proofs.Common.{Option, option_map, subst}
 use Rattle.thread_local_shared_buckets.specs.declared.steps.Own.{Own}
 use Rattle.thread_local_shared_buckets.specs.Positions.{resting, owed}
 use Rattle.thread_local_shared_buckets.specs.Walks.{Yields, Ends}
-use Rattle.thread_local_shared_buckets.proofs.AtHandLaws.{ended, found}
+use Rattle.thread_local_shared_buckets.proofs.BitLaws.{ended, found}
 use Rattle.thread_local_shared_buckets.proofs.WalkLaws.{gives_later, ends}
 use Rattle.thread_local_shared_buckets.proofs.steps.Walk.advance.Goals as goal
 

@@ -1,4 +1,5 @@
-use Rattle.thread_local_shared_buckets.proofs.AtHandLaws.{looked_on, room}
+use Rattle.thread_local_shared_buckets.proofs.LookLaws.{looked_on}
+use Rattle.thread_local_shared_buckets.proofs.Indices.{room}
 use Rattle.thread_local_shared_buckets.proofs.steps.Walk.look_in.Goals as goal
 
 pub returns : goal.returns

@@ -1,44 +1,38 @@
 use Rattle.std.proofs.Common.{arith}
 use Rattle.std.specs.Int.{w64, trailing_zeros}
-use Rattle.thread_local_shared_buckets.proofs.AtHandLaws.{near, lowest_of, set_lowest, after_pass, Passed, passed}
+use Rattle.thread_local_shared_buckets.proofs.PassLaws.{near, lowest_of, set_lowest, Passed, passed_by}
 use Rattle.thread_local_shared_buckets.proofs.steps.Walk.pass.Goals as goal
 
-pub overflow_sub-index : goal.overflow_sub-index
-overflow_sub-index g c = let at = near c.args.self.now c.requires.walk (omega arith) c.requires.some in omega (arith, at.some)
+pub slot_at-index-requires-clause-some : goal.slot_at-index-requires-clause-some
+slot_at-index-requires-clause-some g c = (near c.args.self.now c.requires.walk (omega arith) c.requires.some).some
 
-pub overflow_mul-index : goal.overflow_mul-index
-overflow_mul-index g c =
-    let at = near c.args.self.now c.requires.walk (omega arith) c.requires.some in
-    omega (arith, at.some, at.slot)
+pub slot_at-index-requires-clause-inside : goal.slot_at-index-requires-clause-inside
+slot_at-index-requires-clause-inside g c = (near c.args.self.now c.requires.walk (omega arith) c.requires.some).slot
 
-pub overflow_add-index : goal.overflow_add-index
-overflow_add-index g c =
-    let at = near c.args.self.now c.requires.walk (omega arith) c.requires.some in
-    omega (arith, at.some, at.slot)
+pub take-found-requires-clause-inside : goal.take-found-requires-clause-inside
+take-found-requires-clause-inside g c =
+    let at = near c.args.self.now c.requires.walk (omega arith) c.requires.some in omega (arith, at.slot, c.slot_at-index.ensures)
 
-pub overflow_add-self : goal.overflow_add-self
-overflow_add-self g c =
-    let at = near c.args.self.now c.requires.walk (omega arith) c.requires.some in
-    omega (arith, at.some, at.slot)
+pub take-found-requires-clause-by : goal.take-found-requires-clause-by
+take-found-requires-clause-by g c =
+    set_lowest c.args.self.now c.slot_at-index.result c.slot_at-index.ensures c.requires.walk (omega arith) c.requires.some
 
-pub overflow_add-self-2 : goal.overflow_add-self-2
-overflow_add-self-2 g c = let at = near c.args.self.now c.requires.walk (omega arith) c.requires.some in omega (arith, at.few)
+pub pass_slot-requires-clause-inside : goal.pass_slot-requires-clause-inside
+pass_slot-requires-clause-inside g c =
+    let at = near c.args.self.now c.requires.walk (omega arith) c.requires.some in omega (arith, at.slot, c.slot_at-index.ensures)
 
-pub take-requires-clause-inside : goal.take-requires-clause-inside
-take-requires-clause-inside g c = (near c.args.self.now c.requires.walk (omega arith) c.requires.some).slot
+pub pass_slot-requires-clause-few : goal.pass_slot-requires-clause-few
+pass_slot-requires-clause-few g c = (near c.args.self.now c.requires.walk (omega arith) c.requires.some).few
 
-pub take-requires-clause-by : goal.take-requires-clause-by
-take-requires-clause-by g c = set_lowest c.args.self.now c.requires.walk (omega arith) c.requires.some
-
-it_passes : (g : _) (c : goal.After-take g)
-    → Passed c.args.self.now c.take.result
-    (after_pass c.args.self.now (trailing_zeros w64 c.args.self.now.rest) c.without_first-self.result
-    c.take.new.own)
+it_passes : (g : _) (c : goal.After-pass_slot g)
+    → Passed c.args.self.now c.take-found.result
+    (record c.args.self.now { raw = c.pass_slot.new.raw; own = c.take-found.new.own; rest = c.without_first-self.result })
 it_passes g c =
     let w = c.args.self.now in
     let lowest = lowest_of w (omega arith) c.requires.some in
-    passed w (trailing_zeros w64 w.rest) c.without_first-self.result c.take.new.own c.take.result
-    c.requires.walk lowest (c.without_first-self.ensures (trailing_zeros w64 w.rest) lowest) c.take.ensures.own c.take.ensures.other
+    passed_by w (trailing_zeros w64 w.rest) c.without_first-self.result c.take-found.new.own c.take-found.result
+    c.slot_at-index.result c.pass_slot.new.raw c.pass_slot.ensures c.slot_at-index.ensures
+    c.requires.walk lowest (c.without_first-self.ensures (trailing_zeros w64 w.rest) lowest) c.take-found.ensures.own c.take-found.ensures.other
 
 pub returns-clause-walk : goal.returns-clause-walk
 returns-clause-walk g c = (it_passes g c).walk

@@ -1,0 +1,90 @@
+-- Tests, bits and indices.
+use Rattle.std.proofs.Common.{◌≡◌, ◌≢◌, ℕ, zero, suc, ◌+◌, ◌-◌, ◌/◌, ◌%◌, ◌^◌, ◌<◌, ◌≤◌, ◌⊎◌, Bool, true, false, cond, eqb}
+use Rattle.std.proofs.Common.{refl, ap, sym, ◌∙◌, subst, arith, ⊎_elim, inl, inr, pow_mono, lit<}
+use Rattle.std.proofs.Common.{MatchBool}
+use Rattle.std.proofs.lemmas.Bool.{cond_both, eqb-true, eqb-false, eq-eqb, ne_eqb, cases_lt}
+use Rattle.thread_local_model.specs.Bits.{is_set, IsLowestSet, IsWordBut}
+use Rattle.thread_local_model.proofs.Word.{is_set-zero}
+
+-- Tests and bits.
+
+pub both_so : (a b c d : ℕ) → a ≡ b → c ≡ d → cond (eqb a b) (eqb c d) false ≡ true
+both_so a b c d e f = ap (λ (u : Bool). cond u (eqb c d) false) (eq-eqb a b e) ∙ eq-eqb c d f
+
+pub both_if : (a b c d : ℕ) → cond (eqb a b) (eqb c d) false ≡ true → (a ≡ b) × (c ≡ d)
+both_if a b c d =
+    cond_both {A = Bool} (eqb a b) (eqb c d) false (λ (u : Bool). u ≡ true → (a ≡ b) × (c ≡ d))
+    (λ t set. (eqb-true a b t, eqb-true c d set)) (λ f set. let never : false ≡ true = set in cc)
+
+pub some_set : (word bit : ℕ) → is_set word bit ≡ true → 0 < word
+some_set zero bit set = let never : true ≡ false = sym set ∙ is_set-zero bit in cc
+some_set (suc n) bit set = omega arith
+
+pub none_set : {X : Type 0} (word bit : ℕ) → word ≡ 0 → is_set word bit ≡ true → X
+none_set word bit none set =
+    let never : true ≡ false = sym set ∙ ap (λ (n : ℕ). is_set n bit) none ∙ is_set-zero bit in
+    cc
+
+-- a bit that is set once the lowest is cleared: it is another one, was set, and is higher
+pub record IsLater (word low bit : ℕ) : Type 0 where
+  pub set : is_set word bit ≡ true
+  pub higher : low < bit
+
+pub later : (rest word low bit : ℕ) → IsLowestSet word low → IsWordBut rest word low false → bit < 64 → is_set rest bit ≡ true
+    → IsLater word low bit
+later rest word low bit lowest but small set =
+    let e : cond (eqb low bit) false (is_set word bit) ≡ true = sym (but bit small) ∙ set in
+    let both : (low ≢ bit) × (is_set word bit ≡ true) =
+    cond_both {A = Bool} (eqb low bit) false (is_set word bit)
+    (λ (u : Bool). u ≡ true → (low ≢ bit) × (is_set word bit ≡ true))
+    (λ t unset. let never : false ≡ true = unset in cc) (λ f here. (eqb-false low bit f, here)) e in
+    record {
+      set = both.1;
+      higher =
+          ⊎_elim (λ (below : bit < low). let never : true ≡ false = sym both.1 ∙ lowest.lower bit below in cc)
+          (λ (above : low ≤ bit). let apart = both.0 in omega arith) (cases_lt bit low);
+    }
+
+-- a bit that was set, and isn't the lowest, is set still
+pub stays_set : (rest word low bit : ℕ) → IsWordBut rest word low false → bit < 64 → low ≢ bit → is_set word bit ≡ true
+    → is_set rest bit ≡ true
+stays_set rest word low bit but small apart set =
+    but bit small ∙ ap (λ (u : Bool). cond u false (is_set word bit)) (ne_eqb low bit apart) ∙ set
+
+-- where one bit is set in addition, that bit is set, and any other was set before
+pub added_set : (word old bit : ℕ) → IsWordBut word old bit true → bit < 64 → is_set word bit ≡ true
+added_set word old bit but small =
+    but bit small ∙ ap (λ (u : Bool). cond u true (is_set old bit)) (eq-eqb bit bit refl)
+
+pub was_set : (word old one bit : ℕ) → IsWordBut word old one true → bit < 64 → is_set word bit ≡ true
+    → (one ≡ bit) ⊎ (is_set old bit ≡ true)
+was_set word old one bit but small set =
+    let e : cond (eqb one bit) true (is_set old bit) ≡ true = sym (but bit small) ∙ set in
+    cond_both {A = Bool} (eqb one bit) true (is_set old bit) (λ (u : Bool). u ≡ true → (one ≡ bit) ⊎ (is_set old bit ≡ true))
+    (λ t _. inl (eqb-true one bit t)) (λ f here. inr here) e
+
+pub by_test : {X : Type 0} (u : Bool) → (u ≡ true → X) → (u ≡ false → X) → X
+by_test true t f = t refl
+by_test false t f = f refl
+
+-- by what a walk's search answers
+pub ended : (answer : Bool) (rest bucket : ℕ) → answer ≡ false → MatchBool answer (0 < rest) (63 ≤ bucket) → 63 ≤ bucket
+ended answer rest bucket is by = subst (λ (u : Bool). MatchBool u (0 < rest) (63 ≤ bucket)) is by
+
+pub found : (answer : Bool) (rest bucket : ℕ) → answer ≡ true → MatchBool answer (0 < rest) (63 ≤ bucket) → 0 < rest
+found answer rest bucket is by = subst (λ (u : Bool). MatchBool u (0 < rest) (63 ≤ bucket)) is by
+
+-- no own slot lies in the chunks so far, if none lies in this one
+pub none_further : (own from chunk : ℕ) → ((k : ℕ) → from ≤ k → k < chunk → own / 64 ≢ k) → own / 64 ≢ chunk
+    → (k : ℕ) → from ≤ k → k < chunk + 1 → own / 64 ≢ k
+none_further own from chunk before here k late below =
+    ⊎_elim (λ (less : k < chunk). before k late less)
+    (λ (more : chunk ≤ k). let same : k ≡ chunk = omega arith in λ at. here (at ∙ same))
+    (cases_lt k chunk)
+
+-- where no flag of a chunk is set, the own slot lies elsewhere
+pub none_in_chunk : (own chunk flags word : ℕ) → (own / 64 ≡ chunk → IsWordBut word flags (own % 64) true) → word ≡ 0
+    → own / 64 ≢ chunk
+none_in_chunk own chunk flags word adds none at =
+    let small : own % 64 < 64 = omega arith in
+    none_set word (own % 64) none (added_set word flags (own % 64) (adds at) small)

@@ -1,0 +1,257 @@
+-- A walk gives the value of the lowest flag at hand.
+use Rattle.std.proofs.Common.{◌≡◌, ◌≢◌, ℕ, ◌+◌, ◌-◌, ◌*◌, ◌^◌, ◌<◌, ◌≤◌, ◌⊎◌, true, false}
+use Rattle.std.proofs.Common.{Option, None, Some, IfSome, option_map, refl, ap, sym, ◌∙◌, subst, arith, ⊎_elim, pow_mono}
+use Rattle.std.proofs.lemmas.Bool.{eq-eqb, cases_lt}
+use Rattle.thread_local_model.specs.Bits.{is_set, IsLowestSet, IsWordBut}
+use Rattle.thread_local_model.specs.Place.{id_at}
+use Rattle.thread_local_model.proofs.Word.{lowest_set}
+use Rattle.std.specs.Int.{w64, trailing_zeros}
+use Rattle.thread_local_claim.specs.declared.seen.Seen.{Seen}
+use Rattle.thread_local_bucket_pointers.specs.declared.cursor.RawIter.{RawIter}
+use Rattle.thread_local_shared_buckets.specs.declared.steps.Own.{Own}
+use Rattle.thread_local_shared_buckets.specs.declared.steps.Walk.{Walk}
+use Rattle.thread_local_shared_buckets.specs.Walks.{Yields}
+use Rattle.thread_local_shared_buckets.specs.Positions.{resting, past, owed, is_at, own_index, Found, OwnIsTold}
+use Rattle.thread_local_shared_buckets.specs.Positions.{IsToldAt, IsSharedWalk}
+use Rattle.thread_local_shared_buckets.specs.AtHand.{IsSetIn, IsGivenBy, slot_of, HasSeen, IsAtHand}
+use Rattle.thread_local_shared_buckets.specs.AtHand.{IsKept, IsWalk}
+use Rattle.thread_local_shared_buckets.proofs.WalkLaws.{few, IsBefore, given_found, Gave, gave_own}
+use Rattle.thread_local_shared_buckets.proofs.BitLaws.{both_if, both_so, by_test, later, stays_set}
+use Rattle.thread_local_shared_buckets.proofs.Indices.{in_table}
+use Rattle.thread_local_shared_buckets.proofs.OwnLaws.{index_at, is_apart, not_at}
+
+module _ {V : Type 0} where
+  pub set_in : (sharing : Option ℕ) (bucket chunks bit : ℕ) (seen : Option (Seen V))
+      → HasSeen sharing bucket chunks bit seen
+      → IsSetIn seen bit
+  set_in sharing bucket chunks bit None h = h
+  set_in sharing bucket chunks bit (Some seen) h = h.3
+
+  told_seen : (sharing : Option ℕ) (raw : RawIter) (chunks bit : ℕ) (x : Found V) (seen : Option (Seen V))
+      → HasSeen sharing raw.bucket chunks bit seen → IfSome seen (IsGivenBy bit x)
+      → IsToldAt sharing (past raw ((chunks - 1) * 64 + bit)) x
+  told_seen sharing raw chunks bit x None h given = absurd h
+  told_seen sharing raw chunks bit x (Some seen) h given =
+      let power : 2 ^ seen.of.bucket ≡ 2 ^ raw.bucket = ap (λ k. 2 ^ k) h.1 in
+      let chunk : chunks ≡ seen.chunk + 1 = h.2 in
+      let id : x.0.id ≡ id_at seen.of.bucket (seen.chunk * 64 + bit) = given.id in
+      record { sharing = given.sharing ∙ h.0; id = omega arith; value = given.value }
+
+  -- the walk once it gave the value of this bit
+  abbrev pub after_pass : Walk V → ℕ → ℕ → Option (Own V) → Walk V
+  after_pass w bit rest own = record w { raw = past w.raw (slot_of w bit); own = own; rest = rest }
+
+  at_hand_later : (w : Walk V) (low rest : ℕ) (own : Option (Own V)) → IsWalk w → IsLowestSet w.rest low
+      → IsWordBut rest w.rest low false
+      → ((bit : ℕ) → low < bit → is_at own w.raw.bucket (slot_of w bit) ≡ false
+      → is_at w.own w.raw.bucket (slot_of w bit) ≡ false)
+      → (bit : ℕ) → bit < 64 → is_set rest bit ≡ true → IsAtHand (after_pass w low rest own) bit
+  at_hand_later w low rest own walk lowest but same bit small set =
+      let on = later rest w.rest low bit lowest but small set in
+      let there = walk.at_hand bit small on.set in
+      let higher : low < bit = on.higher in
+      record {
+        in_table = there.in_table;
+        some = there.some;
+        ahead = omega arith;
+        inside = there.inside;
+        by = λ apart. there.by (same bit on.higher apart);
+      }
+
+  pub record Passed (w : Walk V) (x : Found V) (to : Walk V) : Type 0 where
+    pub walk : IsWalk to
+    pub gives : Yields (resting w.raw) (option_map owed w.own) x.1.now (resting to.raw) (option_map owed to.own)
+    pub told : IsToldAt w.buckets.now.sharing to.raw x
+
+  passed_own : (w : Walk V) (low rest : ℕ) (own : Own V) (x : Found V) → w.own ≡ Some own → IsWalk w
+      → IsLowestSet w.rest low → IsWordBut rest w.rest low false
+      → is_at (Some own) w.raw.bucket (slot_of w low) ≡ true
+      → x.0 ≡ own.witness → x.1.now ≡ own.value.now
+      → Passed w x (after_pass w low rest None)
+  passed_own w low rest own x is walk lowest but at witness value =
+      let there = walk.at_hand low lowest.within lowest.set in
+      let same = both_if own.thread.bucket w.raw.bucket own.thread.index (slot_of w low) at in
+      let shared : IsSharedWalk w.raw (Some own) = subst (IsSharedWalk w.raw) is walk.walk in
+      let told : OwnIsTold w.buckets.now.sharing own =
+      subst (λ (o : Option (Own V)). IfSome o (OwnIsTold w.buckets.now.sharing)) is walk.told in
+      let gave = gave_own w.buckets.now.sharing w.raw own x shared there.in_table told
+      (eq-eqb own.thread.bucket w.raw.bucket same.0) witness value in
+      let to : RawIter = past w.raw (slot_of w low) in
+      let all : Gave w.buckets.now.sharing w.raw (Some own) x to None =
+      subst (λ (i : ℕ). Gave w.buckets.now.sharing w.raw (Some own) x (past w.raw i) None)
+      same.1 gave in
+      record {
+        walk = record {
+          walk = all.walk;
+          told = tt;
+          seen_to =
+              (let few : low < 64 = lowest.within in let some : 0 < w.chunks = there.some in
+              omega arith);
+          row = walk.row;
+          at_hand =
+              at_hand_later w low rest None walk lowest but (λ bit higher _.
+              by_test (is_at w.own w.raw.bucket (slot_of w bit))
+              (λ here.
+              let again = both_if own.thread.bucket w.raw.bucket own.thread.index (slot_of w bit)
+              (subst (λ (o : Option (Own V)). is_at o w.raw.bucket (slot_of w bit) ≡ true) is here) in
+              let one : own.thread.index ≡ slot_of w low = same.1 in
+              let two : own.thread.index ≡ slot_of w bit = again.1 in
+              absurd (omega arith))
+              (λ apart. apart));
+          kept = tt;
+        };
+        gives =
+            subst (λ (o : Option (Own V)).
+            Yields (resting w.raw) (option_map owed o) x.1.now (resting to) None)
+            (sym is) all.gives;
+        told = all.told;
+      }
+
+  -- the own value lies behind the lowest flag at hand, if its flag is another one
+  before_own : (w : Walk V) (low : ℕ) (own : Option (Own V)) → 0 < w.chunks → IfSome own (IsKept w)
+      → IsLowestSet w.rest low → is_at own w.raw.bucket (slot_of w low) ≡ false
+      → IfSome own (IsBefore w.raw (slot_of w low))
+  before_own w low None some kept lowest apart = tt
+  before_own w low (Some own) some kept lowest apart = λ same.
+      let few : low < 64 = lowest.within in
+      let base : ℕ = (w.chunks - 1) * 64 in
+      ⊎_elim
+      (λ (seen : own.thread.index < w.chunks * 64).
+      let here = kept same seen in
+      let from : base ≤ own.thread.index = here.0 in
+      let bit : ℕ = own.thread.index - base in
+      let least : low ≤ bit =
+      ⊎_elim (λ (below : bit < low). let never : true ≡ false = sym here.1 ∙ lowest.lower bit below in cc)
+      (λ (above : low ≤ bit). above) (cases_lt bit low) in
+      ⊎_elim (λ (before : slot_of w low < own.thread.index). before)
+      (λ (past : own.thread.index ≤ slot_of w low).
+      let equal : own.thread.index ≡ slot_of w low = omega arith in
+      let never : true ≡ false =
+      sym (both_so own.thread.bucket w.raw.bucket own.thread.index (slot_of w low) same equal) ∙ apart in
+      cc)
+      (cases_lt (slot_of w low) own.thread.index))
+      (λ (behind : w.chunks * 64 ≤ own.thread.index). omega arith)
+      (cases_lt own.thread.index (w.chunks * 64))
+
+  kept_later : (w : Walk V) (low rest : ℕ) (own : Option (Own V)) → 0 < w.chunks → IfSome own (IsKept w)
+      → IsLowestSet w.rest low → IsWordBut rest w.rest low false
+      → is_at own w.raw.bucket (slot_of w low) ≡ false
+      → IfSome own (IsKept (after_pass w low rest own))
+  kept_later w low rest None some kept lowest but apart = tt
+  kept_later w low rest (Some own) some kept lowest but apart = λ same seen.
+      let here = kept same seen in
+      let base : ℕ = (w.chunks - 1) * 64 in
+      let from : base ≤ own.thread.index = here.0 in
+      let bit : ℕ = own.thread.index - base in
+      let small : bit < 64 = omega arith in
+      let other : low ≢ bit = λ e.
+      (let equal : own.thread.index ≡ slot_of w low = omega arith in
+      let never : true ≡ false =
+      sym (both_so own.thread.bucket w.raw.bucket own.thread.index (slot_of w low) same equal) ∙ apart in
+      cc) in
+      (here.0, stays_set rest w.rest low bit but small other here.1)
+
+  passed_seen : (w : Walk V) (low rest : ℕ) (x : Found V) → IsWalk w → IsLowestSet w.rest low
+      → IsWordBut rest w.rest low false → is_at w.own w.raw.bucket (slot_of w low) ≡ false
+      → IfSome w.seen (IsGivenBy low x)
+      → Passed w x (after_pass w low rest w.own)
+  passed_seen w low rest x walk lowest but apart given =
+      let there = walk.at_hand low lowest.within lowest.set in
+      let all =
+      given_found w.raw w.own (slot_of w low) x.1.now walk.walk there.in_table there.ahead
+      (before_own w low w.own there.some walk.kept lowest apart) there.inside in
+      record {
+        walk = record {
+          walk = all.walk;
+          told = walk.told;
+          seen_to =
+              (let few : low < 64 = lowest.within in let some : 0 < w.chunks = there.some in
+              omega arith);
+          row = walk.row;
+          at_hand = at_hand_later w low rest w.own walk lowest but (λ bit higher elsewhere. elsewhere);
+          kept = kept_later w low rest w.own there.some walk.kept lowest but apart;
+        };
+        gives = all.gives;
+        told =
+            told_seen w.buckets.now.sharing w.raw w.chunks low x w.seen
+            (there.by apart) given;
+      }
+
+  -- what `take` ensures
+  abbrev pub TakesOwn : Option (Own V) → ℕ → ℕ → Found V → Option (Own V) → Type 0
+  TakesOwn own bucket index x left =
+      own_index own bucket ≡ index
+      → (left ≡ None) × IfSome own (λ o. (x.0 ≡ o.witness) × (x.1.now ≡ o.value.now))
+
+  abbrev pub TakesSeen : Option (Own V) → Option (Seen V) → ℕ → ℕ → ℕ → Found V → Option (Own V) → Type 0
+  TakesSeen own seen bucket index bit x left =
+      own_index own bucket ≢ index
+      → (left ≡ own) × IfSome seen (IsGivenBy bit x)
+
+  passed_one : (w : Walk V) (low rest : ℕ) (own left : Option (Own V)) (x : Found V) → w.own ≡ own → IsWalk w
+      → IsLowestSet w.rest low → IsWordBut rest w.rest low false
+      → is_at own w.raw.bucket (slot_of w low) ≡ true
+      → TakesOwn own w.raw.bucket (slot_of w low) x left
+      → Passed w x (after_pass w low rest left)
+  passed_one w low rest None left x is walk lowest but at takes = let never : false ≡ true = at in cc
+  passed_one w low rest (Some own) left x is walk lowest but at takes =
+      let taken = takes (index_at (Some own) w.raw.bucket (slot_of w low) at) in
+      subst (λ (o : Option (Own V)). Passed w x (after_pass w low rest o)) (sym taken.0)
+      (passed_own w low rest own x is walk lowest but at taken.1.0 taken.1.1)
+
+  pub passed : (w : Walk V) (low rest : ℕ) (left : Option (Own V)) (x : Found V) → IsWalk w
+      → IsLowestSet w.rest low → IsWordBut rest w.rest low false
+      → TakesOwn w.own w.raw.bucket (slot_of w low) x left
+      → TakesSeen w.own w.seen w.raw.bucket (slot_of w low) low x left
+      → Passed w x (after_pass w low rest left)
+  passed w low rest left x walk lowest but own seen =
+      by_test (is_at w.own w.raw.bucket (slot_of w low))
+      (λ at. passed_one w low rest w.own left x refl walk lowest but at own)
+      (λ apart.
+      let there = walk.at_hand low lowest.within lowest.set in
+      let small : slot_of w low < 2 ^ 63 = in_table w.raw.bucket (slot_of w low) there.in_table there.inside in
+      let given = seen (not_at w.own w.raw.bucket (slot_of w low) small apart) in
+      subst (λ (o : Option (Own V)). Passed w x (after_pass w low rest o)) (sym given.0)
+      (passed_seen w low rest x walk lowest but apart given.1))
+
+  -- the same, by the place and the index that the code has
+  pub passed_by : (w : Walk V) (low rest : ℕ) (left : Option (Own V)) (x : Found V) (index : ℕ) (raw : RawIter)
+      → raw ≡ past w.raw index → index ≡ slot_of w low → IsWalk w
+      → IsLowestSet w.rest low → IsWordBut rest w.rest low false
+      → TakesOwn w.own w.raw.bucket index x left
+      → TakesSeen w.own w.seen w.raw.bucket index low x left
+      → Passed w x (record w { raw = raw; own = left; rest = rest })
+  passed_by w low rest left x index raw is at walk lowest but own seen =
+      subst (λ (r : RawIter). Passed w x (record w { raw = r; own = left; rest = rest })) (sym (is ∙ ap (past w.raw) at))
+      (passed w low rest left x walk lowest but
+      (subst (λ (i : ℕ). TakesOwn w.own w.raw.bucket i x left) at own)
+      (subst (λ (i : ℕ). TakesSeen w.own w.seen w.raw.bucket i low x left) at seen))
+
+  -- the lowest flag at hand
+  pub lowest_of : (w : Walk V) → w.rest < 2 ^ 64 → 0 < w.rest → IsLowestSet w.rest (trailing_zeros w64 w.rest)
+  lowest_of w fits some = lowest_set w.rest fits (λ none. absurd (omega arith))
+
+  -- its slot is one of the table
+  pub record IsNear (w : Walk V) (bit : ℕ) : Type 0 where
+    pub some : 0 < w.chunks
+    pub slot : slot_of w bit < 2 ^ 63
+    pub small : bit < 64
+    pub few : w.raw.yielded < 2 ^ 63
+
+  pub near : (w : Walk V) → IsWalk w → w.rest < 2 ^ 64 → 0 < w.rest → IsNear w (trailing_zeros w64 w.rest)
+  near w walk fits some =
+      let lowest = lowest_of w fits some in
+      let there = walk.at_hand (trailing_zeros w64 w.rest) lowest.within lowest.set in
+      let low : w.raw.bucket ≤ 63 = (let low = there.in_table in omega arith) in
+      let most : 2 ^ w.raw.bucket ≤ 2 ^ 63 = pow_mono low in
+      let inside : slot_of w (trailing_zeros w64 w.rest) < 2 ^ w.raw.bucket = there.inside in
+      record { some = there.some; slot = omega arith; small = lowest.within; few = few w.raw w.own walk.walk }
+
+  pub set_lowest : (w : Walk V) (index : ℕ) → index ≡ slot_of w (trailing_zeros w64 w.rest) → IsWalk w → w.rest < 2 ^ 64 → 0 < w.rest
+      → own_index w.own w.raw.bucket ≢ index
+      → IsSetIn w.seen (trailing_zeros w64 w.rest)
+  set_lowest w index at walk fits some apart =
+      let lowest = lowest_of w fits some in
+      let there = walk.at_hand (trailing_zeros w64 w.rest) lowest.within lowest.set in
+      set_in w.buckets.now.sharing w.raw.bucket w.chunks (trailing_zeros w64 w.rest) w.seen
+      (there.by (is_apart w.own w.raw.bucket (slot_of w (trailing_zeros w64 w.rest)) (λ here. apart (here ∙ sym at))))
