@@ -15,9 +15,9 @@ use thread_local_bucket_pointers::{Block, flag_word_at};
 use thread_local_ids::{HeldId, Right, Token};
 use thread_local_thread_id::Thread;
 
-/// The slot of an id, for the holder of the id, whose right lies with the slot meanwhile. Contracts see its table, the sharing, its
-/// id, whether its bucket is reserved, and what it has learnt of the slot: that the bucket was
-/// missing, that the slot is vacant, or the value that the slot holds.
+/// The slot of an id, for the holder of the id, whose right lies with the slot meanwhile. Contracts
+/// see its table, the sharing, its id, whether its bucket is reserved, and what it has learnt of the
+/// slot: that the bucket was missing, that the slot is vacant, or the value that the slot holds.
 ///
 /// No call waits or takes memory. Only `look`, `look_again`, `install` and `publish` make atomic
 /// steps. These ask for the place of the id, which the caller computes once.
