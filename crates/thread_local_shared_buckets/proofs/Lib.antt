@@ -11,3 +11,4 @@ pub mod OwnLaws
 pub mod PassLaws
 pub mod LookLaws
 pub mod AtHandLaws
+pub mod NextLaws

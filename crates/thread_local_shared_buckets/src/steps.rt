@@ -113,8 +113,8 @@ fn row_of<'a, T>(
 /// Looks at the chunks of a row from the chunk `from` on, until one has a flag that is set or the own
 /// slot, which lies at the index `own`. Each look is one atomic load. Answers what it saw last, how
 /// many of the row's chunks were seen, and the flags at hand. Where no look finds a flag, these are
-/// that of the own slot alone: it is found before where the bucket stands. The bucket of the own value
-/// always stands, but the code doesn't depend on it.
+/// that of the own slot alone, or 0 where it lies elsewhere. The bucket of the own value always
+/// stands, so a look finds its flag, but the code doesn't depend on it.
 #[inline]
 fn look_on<'a, T>(
     row: &Option<Row<'a, T>>,
