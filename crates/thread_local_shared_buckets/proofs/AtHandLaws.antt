@@ -1,5 +1,5 @@
 -- A walk begins and moves on.
-use Rattle.std.proofs.Common.{◌≡◌, ◌-◌, ◌<◌, ◌≤◌, Bool, true, false}
+use Rattle.std.proofs.Common.{◌≡◌, ◌<◌, ◌≤◌, Bool, true, false}
 use Rattle.std.proofs.Common.{Option, None, Some, IfSome, is_some, refl, ap, sym, ◌∙◌, subst, arith}
 use Rattle.thread_local_model.specs.Cursor.{cursor_id}
 use Rattle.thread_local_model.proofs.CursorLaws.{fresh_cursor-fits}

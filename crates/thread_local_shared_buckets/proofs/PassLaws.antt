@@ -1,5 +1,5 @@
 -- A walk gives the value of the lowest flag at hand.
-use Rattle.std.proofs.Common.{◌≡◌, ◌≢◌, ℕ, ◌+◌, ◌-◌, ◌*◌, ◌^◌, ◌<◌, ◌≤◌, ◌⊎◌, true, false}
+use Rattle.std.proofs.Common.{◌≡◌, ◌≢◌, ℕ, ◌+◌, ◌-◌, ◌*◌, ◌^◌, ◌<◌, ◌≤◌, true, false}
 use Rattle.std.proofs.Common.{Option, None, Some, IfSome, option_map, refl, ap, sym, ◌∙◌, subst, arith, ⊎_elim, pow_mono}
 use Rattle.std.proofs.lemmas.Bool.{eq-eqb, cases_lt}
 use Rattle.thread_local_model.specs.Bits.{is_set, IsLowestSet, IsWordBut}

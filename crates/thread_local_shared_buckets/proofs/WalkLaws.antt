@@ -1,5 +1,5 @@
 -- The moves of the code keep the invariant of a walk, and do what the contract of `next` says.
-use Rattle.std.proofs.Common.{◌≡◌, ℕ, suc, ◌+◌, ◌-◌, ◌^◌, ◌<◌, ◌≤◌, Bool, true, false, cond, inl, inr, ⊎_elim, Option}
+use Rattle.std.proofs.Common.{◌≡◌, ℕ, suc, ◌+◌, ◌^◌, ◌<◌, ◌≤◌, Bool, true, false, cond, inl, inr, ⊎_elim, Option}
 use Rattle.std.proofs.Common.{None, Some, IfSome, option_map, refl, ap, sym, ◌∙◌, subst, arith, pow_mono}
 use Rattle.std.proofs.Math.Nat.{two-pow-succ}
 use Rattle.std.proofs.lemmas.Bool.{eqb-true, eqb-false, cases_eq, le-ltb}

@@ -1,5 +1,5 @@
 -- The search for these takes seconds.
-use Rattle.std.proofs.Common.{◌≡◌, ◌^◌, ◌*◌, ◌+◌, ◌<◌, refl, inl, inr, arith}
+use Rattle.std.proofs.Common.{◌≡◌, ◌^◌, ◌+◌, refl, inl, inr, arith}
 use Rattle.thread_local_shared_buckets.proofs.LookLaws.{read_at}
 use Rattle.thread_local_shared_buckets.proofs.BitLaws.{none_in_chunk, none_further}
 use Rattle.thread_local_shared_buckets.proofs.steps.look_on.Goals as goal
