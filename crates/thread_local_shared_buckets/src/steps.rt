@@ -293,6 +293,7 @@ impl<'a, T> Walk<'a, T> {
     }
 
     /// Looks on until a flag is at hand, in this bucket or a later one. Answers whether one is.
+    // Inlined, a call that has a flag at hand makes the first test alone.
     #[inline(always)]
     fn reach(&mut self) -> bool
         requires shareable { Shareable T.row }
