@@ -1,13 +1,13 @@
 //! One call of a walk: it gives the value of the lowest flag at hand. Where no flag is at hand, it
 //! loads the next words of flags first, until one has a flag that is set.
-ghost use Rattle.std.specs.Prelude.{◌≡◌, ◌≢◌, ℕ, ◌+◌, ◌-◌, ◌*◌, ◌/◌, ◌%◌, ◌^◌, ◌<◌, ◌≤◌, true, false, None, IfSome, MatchOption};
+ghost use Rattle.std.specs.Prelude.{◌≡◌, ◌≢◌, ◌+◌, ◌-◌, ◌*◌, ◌/◌, ◌%◌, ◌^◌, ◌<◌, ◌≤◌, true, false, None, IfSome, MatchOption};
 ghost use Rattle.thread_local_judged.specs.Judged.{Shareable};
-ghost use Rattle.thread_local_model.specs.Bits.{is_set, IsLowestSet, IsWordBut};
+ghost use Rattle.thread_local_model.specs.Bits.{IsWordBut};
 ghost use Rattle.thread_local_shared_buckets.specs.Positions.{past, lies_in, own_index, OwnIsTold, IsToldAt, MovesOn, MovesBehind, YieldsFrom, EndsFrom};
 ghost use Rattle.thread_local_shared_buckets.specs.AtHand.{IsSetIn, IsGivenBy, IsRowOf, HasLooked, IsWalk, LooksIn, GoesOn, Reaches};
 
 use crate::shared::Shared;
-use thread_local_bucket_pointers::{RawIter, flag_word_at};
+use thread_local_bucket_pointers::{RawIter, flag_word_at, without_first};
 use thread_local_claim::{Row, Seen};
 use thread_local_ids::Witness;
 use thread_local_thread_id::{BUCKETS, Thread};
@@ -69,15 +69,6 @@ fn take<'a, T>(
             None => unreachable!(),
         }
     }
-}
-
-/// The flags, with the lowest set one cleared.
-#[inline]
-fn without_first(flags: u64) -> u64
-    requires { 0 < flags }
-    ensures { (first : ℕ) → IsLowestSet flags first → IsWordBut result flags first false }
-{
-    flags & (flags - 1)
 }
 
 /// A chunk's flags, with that of the own slot set if it lies there.

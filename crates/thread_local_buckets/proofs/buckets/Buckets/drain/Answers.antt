@@ -1,12 +1,23 @@
-use Rattle.std.proofs.Common.{ap, sym, subst}
-use Rattle.thread_local_model.specs.Buckets.{values}
+use Rattle.std.proofs.Common.{◌≡◌, ℕ, List, [], Option, None, length, map, ap, sym, ◌∙◌, subst}
+use Rattle.std.specs.Prelude.{nat_lt}
+use Rattle.std.proofs.lemmas.List.{length-map}
+use Rattle.std.proofs.Math.ListN.{get_or-map}
+use Rattle.thread_local_model.specs.Buckets.{Contents, row, stands, values}
 use Rattle.thread_local_model.specs.Owned.{Owned}
+use Rattle.thread_local_model.specs.Owner.{emptied}
 use Rattle.thread_local_model.specs.Walk.{walk}
-use Rattle.thread_local_model.proofs.EmptyingLaws.{stands-emptied, values-emptied}
+use Rattle.thread_local_model.proofs.EmptyingLaws.{values-emptied}
 use Rattle.thread_local_bucket_pointers.specs.Cursor.{IsOwnerWalk}
 use Rattle.thread_local_buckets.specs.Emptied.{owned_emptied}
 use Rattle.thread_local_buckets.proofs.DrainLaws.{keeps_along}
 use Rattle.thread_local_buckets.proofs.buckets.Buckets.drain.Goals as goal
+
+-- the same buckets stand without their values
+still_stand : {V : Type 0} (c : Contents V) (b : ℕ) → stands (emptied c) b ≡ stands c b
+still_stand {V} c b =
+    let none : Option V → Option V = λ _. None in
+    ap (λ (r : List (Option V)). nat_lt 0 (length r)) (get_or-map (map none) c.rows b [])
+    ∙ ap (nat_lt 0) (length-map (row c b) none)
 
 pub returns-clause-ready : goal.returns-clause-ready
 returns-clause-ready g c = let begun = c.begin_walk-cursor in
@@ -25,4 +36,4 @@ pub returns-clause-would_be_empty : goal.returns-clause-would_be_empty
 returns-clause-would_be_empty g c = values-emptied c.args.self.now.contents
 
 pub returns-clause-would_stand : goal.returns-clause-would_stand
-returns-clause-would_stand g c = stands-emptied c.args.self.now.contents
+returns-clause-would_stand g c = still_stand c.args.self.now.contents

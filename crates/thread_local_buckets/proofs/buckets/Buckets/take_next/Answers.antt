@@ -1,5 +1,5 @@
 use Rattle.std.proofs.Common.{◌≡◌, ◌+◌, ◌-◌, ◌^◌, ◌<◌, ◌≤◌, ℕ, None, ◌∷◌, ap, sym, ◌∙◌, subst, length, arith, pow_pos, lit<}
-use Rattle.std.specs.Prelude.{IsSome, IsTrue}
+use Rattle.std.specs.Prelude.{IsSome, IsTrue, nat_lt}
 use Rattle.thread_local_model.specs.Buckets.{Contents, IsTable, row, values}
 use Rattle.thread_local_model.specs.Owned.{Owned, IsOwned}
 use Rattle.thread_local_model.specs.Rows.{value_in, with_slot}
@@ -8,7 +8,6 @@ use Rattle.thread_local_model.specs.Walk.{walk, paired}
 use Rattle.thread_local_bucket_pointers.specs.Cursor.{values_left, read_to, slot_at, AreFlagsAt, IsOwnerWalk}
 use Rattle.thread_local_bucket_pointers.specs.declared.cursor.OwnerCursor.{OwnerCursor}
 use Rattle.thread_local_model.proofs.RowLaws.{IsTable-with_slot, length-row-with_slot, row_whole}
-use Rattle.thread_local_model.proofs.ValueLaws.{stands-with_slot}
 use Rattle.thread_local_model.proofs.EmptyingLaws.{emptied-with_slot, emptied-none}
 use Rattle.thread_local_buckets.specs.Emptied.{owned_emptied}
 use Rattle.thread_local_buckets.proofs.EntriesLaws.{IsNear, is_near}
@@ -65,7 +64,7 @@ owned_still c d e reserved b i owned same after =
       table = IsTable-with_slot c b i None owned.table;
       first = owned.first;
       standing = λ bucket low below.
-          subst IsTrue (sym (stands-with_slot c b i bucket None (length-row-with_slot c b i bucket None)))
+          subst IsTrue (sym (ap (nat_lt 0) (length-row-with_slot c b i bucket None)))
           (owned.standing bucket low below);
     })
 
