@@ -23,15 +23,15 @@ mod lends;
 ///
 /// Each call but `seat`, `seat_mut` and `tokens` does what the seat's of that name does. None takes
 /// a lock. Only `set`, `publish` and the `get_or` family (`get_or`, `get_or_default`, `get_or_try`,
-/// `try_fill`) take memory, for a bucket. The closure or the
-/// `T::made_with` that these run may wait, and so may the drop of a closure that they don't run.
-/// References that calls answer live no longer than the borrow of the `Local`.
+/// `try_fill`) take memory, for a bucket. The closure or the `T::made_with` that these run may
+/// wait, and so may the drop of a closure that they don't run. References that calls answer live no
+/// longer than the borrow of the `Local`.
 ///
-/// Contracts see the table's name and its sharing, the id, the number of reserved slots, and what is
-/// known of the id's slot: its value, if there is one, and whether its bucket is known to stand.
+/// Contracts see the table's name and its sharing, the id, the number of reserved slots, and what
+/// is known of the id's slot: its value, if there is one, and whether its bucket is known to stand.
 ///
-/// Rust's crate finds the running thread by itself, and has no such type. Its table has `get` and the
-/// `get_or` family but `try_fill`; the other calls are the port's own.
+/// Rust's crate finds the running thread by itself, and has no such type. Its table has `get` and
+/// the `get_or` family but `try_fill`; the other calls are the port's own.
 pub struct Local<'a, T, R: Wait> {
     rt: &'a R,
     seat: Seat<'a, T>,
@@ -63,8 +63,8 @@ impl<'a, T, R: Wait> Local<'a, T, R> {
     }
 
     /// The seat, for writing. Where two seats are swapped, each id still goes back to its own table
-    /// when its `Local` is dropped. What a write leaves of the `Local`, no clause says: each call of
-    /// the seat is one of the `Local` too, which says it.
+    /// when its `Local` is dropped. What a write leaves of the `Local`, no clause says: each call
+    /// of the seat is one of the `Local` too, which says it.
     pub fn seat_mut(&mut self) -> &mut Seat<'a, T>
         ensures { result.now ≡ self.old }
     {
@@ -87,9 +87,9 @@ impl<'a, T, R: Wait> Local<'a, T, R> {
     }
 
     /// What the slot was published with, as a token, where it holds a value: whoever has the token
-    /// reads that value through the table, for as long as the sharing lasts, and an owner finds it who
-    /// ends the sharing by `into_buckets_and_book`. Without a sharing it answers a token that is good for
-    /// nothing. It reads what the `Local` knows already, without an atomic operation.
+    /// reads that value through the table, for as long as the sharing lasts, and an owner finds it
+    /// who ends the sharing by `into_buckets_and_book`. Without a sharing it answers a token that
+    /// is good for nothing. It reads what the `Local` knows already, without an atomic operation.
     pub fn token(&self) -> Option<Token<T>>
         ensures { result ≡ token_of self.now }
     {
@@ -97,8 +97,8 @@ impl<'a, T, R: Wait> Local<'a, T, R> {
     }
 
     /// Shows that the slot holds what a token of this id and this sharing says, whichever `Local`
-    /// had the id then. At run time it does nothing. It takes `&mut`, since only who has a claim alone
-    /// knows what proofs keep of it.
+    /// had the id then. At run time it does nothing. It takes `&mut`, since only who has a claim
+    /// alone knows what proofs keep of it.
     pub fn agrees(&mut self, token: &Token<T>)
         requires id { self.old.id ≡ token.now.id }
         requires sharing { self.old.sharing ≡ token.now.sharing }

@@ -18,9 +18,9 @@ pub use walks::{PoolDrain, PoolIntoIter, PoolIterMut};
 
 /// Values that are expensive to make, which threads borrow and give back. Threads share a pool
 /// through a `&`. Only `get`, `get_or_try`, `buffer`, `Pooled::take` and the drop of what they lend
-/// may wait for the lock of the pool's table, and only the first three take memory. Dropping the pool
-/// drops its values, whose drop may wait. A `Pool` without a type is one of bytes. Rust's crate has
-/// no such type.
+/// may wait for the lock of the pool's table, and only the first three take memory. Dropping the
+/// pool drops its values, whose drop may wait. A `Pool` without a type is one of bytes. Rust's
+/// crate has no such type.
 ///
 /// Whoever has the pool alone is its owner, and walks over the values that were put back.
 #[derive(Drop)]
@@ -62,8 +62,9 @@ impl<T> Pool<T> {
         Ok(Pooled::of(local, found, create))
     }
 
-    /// `get`, where the closure may fail. Its error is the inner one: the id goes back with an empty
-    /// cell, and its next holder makes a value. It waits, takes memory and refuses as `get` does.
+    /// `get`, where the closure may fail. Its error is the inner one: the id goes back with an
+    /// empty cell, and its next holder makes a value. It waits, takes memory and refuses as `get`
+    /// does.
     pub fn get_or_try<'a, F: FnOnce() -> Result<T, E> + Drop, E, R: Wait>(
         &'a self,
         rt: &'a R,
@@ -93,8 +94,8 @@ impl<T> fmt::Debug for Pool<T> {
 }
 
 impl Pool<Vec<u8>> {
-    /// An empty buffer, with the room that its last holder left. Where at most n buffers are held at
-    /// once, at most n are made, unless the owner drains or clears the pool. It may wait, takes
+    /// An empty buffer, with the room that its last holder left. Where at most n buffers are held
+    /// at once, at most n are made, unless the owner drains or clears the pool. It may wait, takes
     /// memory and refuses as `get` does.
     pub fn buffer<'a, R: Wait>(&'a self, rt: &'a R) -> Result<Buffer<'a, R>, LocalError>
         ensures empty { IfOk result (λ buffer. buffer ≡ []) }
@@ -108,8 +109,8 @@ impl Pool<Vec<u8>> {
 
 /// A value of a pool, reached by `*`. Dropping it puts the value back as it is then, and gives its
 /// id back, which may wait. A forgotten one keeps its id and its value. Beside the drop only `take`
-/// waits, and no call takes memory. The value is moved out of the pool and back: put a large one into
-/// a `Box`.
+/// waits, and no call takes memory. The value is moved out of the pool and back: put a large one
+/// into a `Box`.
 ///
 /// Contracts see the value, and whether it is new.
 pub struct Pooled<'a, T, R: Wait> {

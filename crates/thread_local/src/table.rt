@@ -1,5 +1,5 @@
-//! The object that keeps a value for each thread: the buckets that threads share, and the ids, under
-//! a lock. What the type of its values has to show, and tokens that say what its slots were
+//! The object that keeps a value for each thread: the buckets that threads share, and the ids,
+//! under a lock. What the type of its values has to show, and tokens that say what its slots were
 //! published with, have their names here too.
 ghost use Rattle.std.specs.Prelude.{◌≡◌, ◌≢◌, ◌≤◌, ◌<◌, ◌-◌, ◌^◌, ℕ, Option, true, false, None, Some, Err, IfOk, IsSome, map};
 ghost use Rattle.std.specs.List.Sorted.{IsStrictlyIncreasing};
@@ -37,18 +37,19 @@ mod lends;
 ///
 /// Only `local` and the drop of a `Local` take the table's lock, so no other call here waits; only
 /// `local` and `with_capacity` take memory. But `clear` drops values, as the drop of a table, of a
-/// walk by value or of a `Drain` does, and a value's drop may wait and may take memory: a value may hold a `Local`
-/// of another table.
+/// walk by value or of a `Drain` does, and a value's drop may wait and may take memory: a value may
+/// hold a `Local` of another table.
 ///
-/// A bucket of 2^58 bytes or more, and values aligned above 16, are refused as if out of memory, here
-/// and by every `Local`. No type was found that is aligned so: the language refuses `repr(align)`.
+/// A bucket of 2^58 bytes or more, and values aligned above 16, are refused as if out of memory,
+/// here and by every `Local`. No type was found that is aligned so: the language refuses
+/// `repr(align)`.
 ///
-/// Of its calls Rust's crate has `new`, `with_capacity`, `clear`, `iter`, `iter_mut` and the loops over
-/// a table; there the table also has the calls of a `Local`. All others are the port's own.
+/// Of its calls Rust's crate has `new`, `with_capacity`, `clear`, `iter`, `iter_mut` and the loops
+/// over a table; there the table also has the calls of a `Local`. All others are the port's own.
 ///
-/// Contracts see the table's name, the number of reserved slots, and the sharing, if that has a name.
-/// A sharing begins when the table is made, cleared or renewed, and lasts until an owner's call lends
-/// or takes the values. While it lasts, tokens (`Token`) say which values slots hold.
+/// Contracts see the table's name, the number of reserved slots, and the sharing, if that has a
+/// name. A sharing begins when the table is made, cleared or renewed, and lasts until an owner's
+/// call lends or takes the values. While it lasts, tokens (`Token`) say which values slots hold.
 #[derive(Drop)]
 pub struct ThreadLocal<T> {
     pub(crate) buckets: Shared<T>,
@@ -144,8 +145,8 @@ impl<T> ThreadLocal<T> {
     }
 
     /// A `Local` with the least id that isn't held; no clause says which id that is. It takes the
-    /// table's lock, so it may wait, and looks once whether the id's slot holds a value, so that `get`
-    /// needs no look.
+    /// table's lock, so it may wait, and looks once whether the id's slot holds a value, so that
+    /// `get` needs no look.
     ///
     /// It asks for memory only where as many ids are held as ever were at once and there is no room
     /// for one more, and not for the first 64: `Memory` means out of memory. `Exhausted` means that
@@ -189,8 +190,8 @@ impl<T> ThreadLocal<T> {
         self.buckets.owner().entries_mut()
     }
 
-    /// The buckets by value. The ids are dropped. A contract knows the number of reserved slots, and
-    /// not which values there are: the calls of `Buckets` say what they find.
+    /// The buckets by value. The ids are dropped. A contract knows the number of reserved slots,
+    /// and not which values there are: the calls of `Buckets` say what they find.
     pub fn into_buckets(self) -> Buckets<T>
         ensures { result.reserved ≡ self.reserved }
     {
@@ -276,10 +277,9 @@ impl<T> ThreadLocal<T> {
 }
 
 impl<T: Sync> ThreadLocal<T> {
-    /// The values by ascending id, each lent as `&`, while threads may publish more. A value
-    /// that is published at an id that the walk has passed isn't given, and one published ahead of it may
-    /// be. Rust's crate
-    /// promises no order.
+    /// The values by ascending id, each lent as `&`, while threads may publish more. A value that
+    /// is published at an id that the walk has passed isn't given, and one published ahead of it
+    /// may be. Rust's crate promises no order.
     pub fn iter(&self) -> Iter<'_, T>
         ensures { result ≡ fresh self.now.sharing None true }
     {

@@ -1,7 +1,8 @@
 //! The calls of a `Local` that answer a reference and say what they leave as well. A file of its
 //! own, since their clauses import the `the_row` that is generated from the file that declares the
-//! type. Their bodies are those of the seat's calls, and don't call the seat's: the clause `leaves` names the
-//! row of its own type, and no proof leads from a clause on a seat's row to one on a `Local`'s.
+//! type. Their bodies are those of the seat's calls, and don't call the seat's: the clause `leaves`
+//! names the row of its own type, and no proof leads from a clause on a seat's row to one on a
+//! `Local`'s.
 ghost use Rattle.std.specs.Prelude.{◌≡◌, ⊤, true, None, IsOk, IsSome, Result, [], MatchResult};
 ghost use types.Logic.{sem};
 ghost use denote.Follow.{follows_so};

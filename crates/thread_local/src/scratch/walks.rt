@@ -20,7 +20,8 @@ impl<T> Pool<T> {
     }
 
     /// The values by ascending id, each moved out, while the cells stay: the next values need no
-    /// memory at the same ids. Dropping the walk drops the values still to come, whose drop may wait.
+    /// memory at the same ids. Dropping the walk drops the values still to come, whose drop may
+    /// wait.
     pub fn drain(&mut self) -> PoolDrain<'_, T>
     where
         T: Drop,

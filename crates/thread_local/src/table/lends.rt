@@ -27,8 +27,8 @@ impl<T> ThreadLocal<T> {
         self.buckets.owner()
     }
 
-    /// The values by ascending id, each moved out, while buckets and ids stay. `drain` of
-    /// the buckets that `buckets_mut` lends is the same walk, and says which values it gives; this call
+    /// The values by ascending id, each moved out, while buckets and ids stay. `drain` of the
+    /// buckets that `buckets_mut` lends is the same walk, and says which values it gives; this call
     /// doesn't.
     pub fn drain(&mut self) -> Drain<'_, T>
     where
