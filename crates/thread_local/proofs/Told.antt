@@ -1,10 +1,19 @@
--- What tells the answers of `set` and of the `get_or` family apart. A search among all that a
+-- What tells answers apart, as those of `set` and of the `get_or` family. A search among all that a
 -- function knows takes seconds for what these say at once.
-use Rattle.std.proofs.Common.{◌≡◌, Result, Ok, Err, alloc_error}
+use Rattle.std.proofs.Common.{◌≡◌, Option, Some, None, Result, Ok, Err, Bool, true, false, alloc_error}
 use Rattle.thread_local.specs.declared.seat.TryError.{TryError}
 use Rattle.thread_local.specs.declared.seat.TryError.TheVariants as tries
 use Rattle.thread_local.specs.declared.seat.SetError.{SetError}
 use Rattle.thread_local.specs.declared.seat.SetError.TheVariants as sets
+
+pub same_some : {A : Type 0} {x y : A} → Some x ≡ Some y → x ≡ y
+same_some told = cc
+
+pub some_not_none : {A : Type 0} {x : A} → ◌≡◌ {A = Option A} (Some x) None → ⊥
+some_not_none told = cc
+
+pub false_not_true : ◌≡◌ {A = Bool} false true → ⊥
+false_not_true told = cc
 
 pub ok_not_err : {A E : Type 0} {x : A} {e : E} → ◌≡◌ {A = Result A E} (Ok x) (Err e) → ⊥
 ok_not_err told = cc

@@ -1,0 +1,54 @@
+use Rattle.std.proofs.Common.{◌≢◌, ◌∙◌, sym, ap, subst, lit<}
+use Rattle.std.specs.Prelude.{IsSome}
+use Rattle.thread_local_ids.specs.declared.right.Right.{Right}
+use Rattle.thread_local_shared_buckets.specs.TableView.{TableView}
+use Rattle.thread_local.proofs.table.ThreadLocal.cleared.Goals as goal
+
+-- The search for these takes seconds.
+pub of-requires : goal.of-requires
+of-requires g c = λ κs within.
+    let right = c.table_right-fresh.ensures.right in
+    let same = c.apart.ensures.same.1 in (
+      within,
+      (
+        lit< tt,
+        (
+          lit< tt,
+          (
+            c.judged.ensures.judged,
+            (
+              ap (λ (r : Right). r.table) same ∙ right.0 ∙ sym c.table_right-fresh.ensures.same.1,
+              ap (λ (r : Right). r.id) same ∙ right.1,
+            ),
+          ),
+        ),
+      ),
+    )
+
+-- both names are those of rights to one id
+pub returns-clause-table : goal.returns-clause-table
+returns-clause-table g c = λ same.
+    let right = c.table_right-fresh.ensures.right in
+    c.apart.ensures.ids
+    (c.buckets.invariant.1
+    ∙ ap (λ (t : TableView). t.table) c.buckets.view_is
+    ∙ ap (λ (t : TableView). t.table) c.replace.ensures.value
+    ∙ sym same
+    ∙ ap (λ (t : TableView). t.table) c.drop.view_is
+    ∙ c.of.ensures.table
+    ∙ c.table_right-fresh.ensures.same.1
+    ∙ sym right.0)
+    (c.buckets.invariant.2 ∙ sym right.1)
+
+pub returns-clause-sharing : goal.returns-clause-sharing
+returns-clause-sharing g c =
+    subst (λ (t : TableView). IsSome t.sharing × (t.sharing ≢ g.past)) (sym c.drop.view_is) c.of.ensures.sharing
+
+pub returns-clause-reserved : goal.returns-clause-reserved
+returns-clause-reserved g c =
+    ap (λ (t : TableView). t.reserved) c.drop.view_is
+    ∙ c.of.ensures.reserved
+    ∙ c.clear.ensures.reserved
+    ∙ c.into_buckets-buckets.ensures
+    ∙ ap (λ (t : TableView). t.reserved) c.buckets.view_is
+    ∙ ap (λ (t : TableView). t.reserved) c.replace.ensures.value

@@ -1,0 +1,35 @@
+use Rattle.std.proofs.Common.{◌≡◌, ◌∙◌, ℕ, ◌<◌, ◌-◌, ◌^◌, sym, ap, subst, lit<}
+use Rattle.thread_local_shared_buckets.specs.TableView.{TableView}
+use Rattle.thread_local.specs.Seats.{LocalView}
+use Rattle.thread_local.proofs.table.ThreadLocal.local.Goals as goal
+
+-- The search for these takes a second.
+pub drop-lock-requires-clause-tag : goal.drop-lock-requires-clause-tag
+drop-lock-requires-clause-tag g c =
+    c.take.ensures.table.0 ∙ rw c.deref_mut.ensures.value (c.lock.ensures.tag.1 ∙ sym c.lock.ensures.tag.0)
+
+pub drop-lock-requires-2-clause-tag : goal.drop-lock-requires-2-clause-tag
+drop-lock-requires-2-clause-tag g c =
+    c.take.ensures.table.0 ∙ rw c.deref_mut.ensures.value (c.lock.ensures.tag.1 ∙ sym c.lock.ensures.tag.0)
+
+pub new-requires : goal.new-requires
+new-requires g c =
+    let taken = c.in_ok-held.ensures in
+    let table : c.deref_mut.result.now.table ≡ c.args.self.now.table =
+    rw c.deref_mut.ensures.value
+    (c.lock.ensures.tag.1 ∙ c.self.invariant.0 ∙ ap (λ (t : TableView). t.table) c.self.view_is)
+    in (lit< tt, ((taken.right.0 ∙ table, taken.mark ∙ table), taken.right.1))
+
+pub returns-clause-table : goal.returns-clause-table
+returns-clause-table g c =
+    let seat = c.new.ensures.table in (
+      ap (λ (view : LocalView g.row.T.Denot). view.table) c.new-2.ensures ∙ seat.0,
+      ap (λ (view : LocalView g.row.T.Denot). view.sharing) c.new-2.ensures ∙ seat.1,
+      ap (λ (view : LocalView g.row.T.Denot). view.reserved) c.new-2.ensures ∙ seat.2,
+    )
+
+pub returns-clause-in_range : goal.returns-clause-in_range
+returns-clause-in_range g c =
+    subst (λ (id : ℕ). id < 2 ^ 63 - 1)
+    (sym (ap (λ (view : LocalView g.row.T.Denot). view.id) c.new-2.ensures ∙ c.new.ensures.id))
+    c.in_ok-held.held.in_range
