@@ -57,8 +57,7 @@ impl<T> Pool<T> {
         requires { F.pre create }
         ensures created { IfOk result (λ pooled. pooled.is_new ≡ true → F.post create pooled.value) }
     {
-        let mut local = self.table.local(rt)?;
-        let found = local.get_or(|| Cell::new(None))?.replace(None);
+        let (local, found) = self.take_out(rt)?;
         Ok(Pooled::of(local, found, create))
     }
 
@@ -76,9 +75,18 @@ impl<T> Pool<T> {
             (λ pooled. pooled.is_new ≡ true → F.post create (Ok pooled.value))
             (λ error. F.post create (Err error))) }
     {
+        let (local, found) = self.take_out(rt)?;
+        Ok(Pooled::tried(local, found, create))
+    }
+
+    /// A `Local`, and the value of its cell, if there was one. The cell is empty then.
+    fn take_out<'a, R: Wait>(
+        &'a self,
+        rt: &'a R,
+    ) -> Result<(Local<'a, Cell<Option<T>>, R>, Option<T>), LocalError> {
         let mut local = self.table.local(rt)?;
         let found = local.get_or(|| Cell::new(None))?.replace(None);
-        Ok(Pooled::tried(local, found, create))
+        Ok((local, found))
     }
 }
 
@@ -100,8 +108,8 @@ impl Pool<Vec<u8>> {
     pub fn buffer<'a, R: Wait>(&'a self, rt: &'a R) -> Result<Buffer<'a, R>, LocalError>
         ensures empty { IfOk result (λ buffer. buffer ≡ []) }
     {
-        let alloc = self.alloc;
-        let (local, mut left) = self.get(rt, || Vec::new(alloc))?.into_parts();
+        let (local, found) = self.take_out(rt)?;
+        let mut left = found.unwrap_or(Vec::new(self.alloc));
         left.clear();
         Ok(Buffer { local, bytes: left })
     }
@@ -192,19 +200,12 @@ impl<'a, T, R: Wait> Pooled<'a, T, R> {
     pub fn take(self) -> T
         ensures { result ≡ self.entry.value }
     {
-        self.into_parts().1
-    }
-
-    /// The `Local` whose cell the value came from, and the value.
-    fn into_parts(self) -> (Local<'a, Cell<Option<T>>, R>, T)
-        ensures { result.1 ≡ self.entry.value }
-    {
         let Self {
-            local,
+            local: _,
             value,
             is_new: _,
         } = self;
-        (local, value)
+        value
     }
 }
 
