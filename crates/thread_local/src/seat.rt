@@ -10,6 +10,7 @@ ghost use Rattle.thread_local.specs.Seats.{knows, knowing, own_of, token_of, vac
 
 use crate::table::ThreadLocal;
 use std::alloc::{AllocError, Global};
+use std::default::MadeWith;
 use std::fmt;
 use std::marker::Model;
 use std::sync::Wait;
@@ -49,7 +50,7 @@ pub enum SetError<T> {
 /// In Rust's crate the running thread is the seat. It has `get` and the `get_or` family but
 /// `try_fill`; the other calls are the port's own.
 pub struct Seat<'a, T> {
-    pub(crate) table: &'a ThreadLocal<T>,
+    table: &'a ThreadLocal<T>,
     claim: Claim<'a, T>,
 }
 
@@ -214,6 +215,20 @@ impl<'a, T> Seat<'a, T> {
             self.publish_at(thread, create());
         }
         Ok(())
+    }
+
+    /// `fill`, with the value that `T::made_with` makes.
+    pub(crate) fn fill_default(&mut self) -> Result<(), AllocError>
+    where
+        T: MadeWith<Global>,
+        ensures ok { OnOk result (IsFilled ⊤ T.is_made_with self.old self.new) }
+        ensures err { OnErr result (IsRefused ⊤ self.old self.new) }
+        ensures granted { self.old.known ≡ true → IsOk result }
+        ensures held { IsSome self.old.value → IsOk result }
+    {
+        let table = self.table;
+        let alloc = table.alloc;
+        self.fill(|| T::made_with(alloc))
     }
 
     /// Publishes a value that is at hand, where the slot is empty. `Occupied` gives it back where

@@ -63,9 +63,7 @@ impl<'a, T, R: Wait> Local<'a, T, R> {
         ensures granted { self.old.known ≡ true → IsOk result }
         ensures held { IsSome self.old.value → IsOk result }
     {
-        let table = self.seat.table;
-        let alloc = table.alloc;
-        self.seat.fill(|| T::made_with(alloc))?;
+        self.seat.fill_default()?;
         Ok(self.seat.value())
     }
 }

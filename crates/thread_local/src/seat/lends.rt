@@ -59,9 +59,7 @@ impl<'a, T> Seat<'a, T> {
         ensures granted { self.old.known ≡ true → IsOk result }
         ensures held { IsSome self.old.value → IsOk result }
     {
-        let table = self.table;
-        let alloc = table.alloc;
-        self.fill(|| T::made_with(alloc))?;
+        self.fill_default()?;
         Ok(self.value())
     }
 }
