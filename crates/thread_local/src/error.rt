@@ -22,7 +22,7 @@ impl<E: fmt::Display> fmt::Display for TryError<E> {
     fn fmt<W: fmt::Write>(&self, f: &mut fmt::Formatter<W>) -> fmt::Result {
         match self {
             TryError::Memory(_) => f.write_str("memory allocation failed"),
-            TryError::Create(error) => write!(f, "{error}"),
+            TryError::Create(error) => error.fmt(f),
         }
     }
 }
