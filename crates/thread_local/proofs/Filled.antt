@@ -3,7 +3,7 @@
 use Rattle.std.proofs.Common.{◌≡◌, subst, sym, Option, Some, None, Result, Ok, Err, Bool, is_some, true, false, refl, ap}
 use Rattle.std.specs.Prelude.{OnErr}
 use Rattle.thread_local_model.specs.Answers.{View, Answered, answer_or, view_after_or}
-use Rattle.thread_local.specs.Seats.{LocalView, knows, knowing, vacant, holding, IsFilled, IsAnswered, Fails, IsRefused}
+use Rattle.thread_local.specs.Seats.{LocalView, knows, knowing, vacant, holding, IsFilled, IsAnswered, Fails, Fills, IsRefused}
 
 filled_at : {V : Type 0} (E : Type 0) (makes : V → Type 0) (view : LocalView V) (value : Option V)
     → view.value ≡ value → is_some value ≡ true
@@ -102,10 +102,17 @@ some_filled E makes old new filled none =
     cc
 
 -- the value in the slot then is what the call answers
+pub fills_by : {V : Type 0} (E : Type 0) (makes : V → Type 0) (old new : LocalView V) (there : V)
+    → IsFilled E makes old new → new.value ≡ Some there
+    → Fills E makes old new there
+fills_by {V} E makes old new there filled held =
+    let some = holds_filled E makes old new filled in
+    let same : filled.value ≡ there = cc in
+    subst (λ (value : V). Fills E makes old new value) same filled.fills
+
 pub answered_by : {V : Type 0} (E : Type 0) (makes : V → Type 0) (old new : LocalView V) (there : V)
     → IsFilled E makes old new → new.value ≡ Some there
     → IsAnswered E makes old there
 answered_by {V} E makes old new there filled held =
-    let some = holds_filled E makes old new filled in
-    let same : filled.value ≡ there = cc in
-    subst (λ (value : V). IsAnswered E makes old value) same (record { answered = filled.fills.says.answered; made = filled.fills.made })
+    let fills = fills_by E makes old new there filled held in
+    record { answered = fills.says.answered; made = fills.made }

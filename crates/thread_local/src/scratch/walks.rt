@@ -110,7 +110,7 @@ impl<T: Drop> Iterator for PoolIntoIter<T> {
 
     /// The value of the next cell that has one.
     fn next(&mut self) -> Option<T> {
-        self.cells.find_map(|cell| cell.into_inner())
+        self.cells.find_map(Cell::into_inner)
     }
 
     /// At most as many values as cells are still to come.
@@ -134,7 +134,7 @@ impl<T: Drop> Iterator for PoolDrain<'_, T> {
 
     /// The value of the next cell that has one.
     fn next(&mut self) -> Option<T> {
-        self.cells.find_map(|cell| cell.into_inner())
+        self.cells.find_map(Cell::into_inner)
     }
 
     /// At most as many values as cells are still to come.

@@ -1,4 +1,4 @@
-use Rattle.std.proofs.Common.{◌≡◌, ◌∙◌, ◌⊎◌, inl, inr, ℕ, Option, Some, None, option_map, sym, ap, lit<}
+use Rattle.std.proofs.Common.{◌≡◌, ◌∙◌, ◌⊎◌, inl, inr, ℕ, Some, None, option_map, sym, ap, lit<}
 use Rattle.thread_local_model.specs.Learnt.{Learnt, Missing, Vacant, Holding}
 use Rattle.thread_local_model.specs.Answers.{view_of}
 use Rattle.thread_local_claim.specs.Views.{ClaimView}
@@ -24,6 +24,12 @@ module _ {V : Type 0} (of : TableView) (claim : ClaimView V) where
   own_none (inr vacant) = sym (ap (λ (learnt : Learnt V). option_map (owed claim.id) (view_of learnt).value) vacant)
 
 -- The search for these takes seconds.
+pub lasting-requires : goal.lasting-requires
+lasting-requires g c = c.type_bounds.sync-T
+
+pub new-requires : goal.new-requires
+new-requires g c = (c.type_bounds.sync-T, lit< tt)
+
 pub with_own-requires : goal.with_own-requires
 with_own-requires g c =
     let told = c.in-Some.ensures in (

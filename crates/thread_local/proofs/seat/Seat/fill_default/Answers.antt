@@ -1,0 +1,11 @@
+use Rattle.thread_local.proofs.seat.Seat.fill_default.Goals as goal
+
+-- What `fill` says. The search for these takes some time.
+pub returns-clause-err : goal.returns-clause-err
+returns-clause-err g c = c.fill.ensures.err
+
+pub returns-clause-granted : goal.returns-clause-granted
+returns-clause-granted g c = c.fill.ensures.granted
+
+pub returns-clause-held : goal.returns-clause-held
+returns-clause-held g c = c.fill.ensures.held

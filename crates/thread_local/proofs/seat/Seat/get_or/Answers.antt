@@ -1,0 +1,19 @@
+use Rattle.std.proofs.Common.{refl}
+use Rattle.thread_local.proofs.Filled.{some_filled, fills_by}
+use Rattle.thread_local.proofs.seat.Seat.get_or.Goals as goal
+
+-- The search for these takes a second.
+pub value-requires : goal.value-requires
+value-requires g c = some_filled _ _ c.args.self.now c.fill.new.self c.in_ok-fill.ensures.ok
+
+pub returns : goal.returns
+returns g c =
+    let fills = fills_by _ _ c.args.self.now c.fill.new.self c.value.result.now c.in_ok-fill.ensures.ok c.value.ensures in (
+      (refl, (λ _. tt), fills),
+      record {
+        leaves = tt;
+        answers = record { answered = fills.says.answered; made = fills.made };
+        granted = λ _. refl;
+        held = λ _. refl;
+      },
+    )

@@ -1,0 +1,20 @@
+use Rattle.std.proofs.Common.{◌≡◌, ◌∙◌, sym, ap}
+use Rattle.thread_local_shared_buckets.specs.TableView.{TableView}
+use Rattle.thread_local.proofs.seat.Seat.give_back.Goals as goal
+
+-- The search for these takes some time.
+pub give-requires : goal.give-requires
+give-requires g c =
+    let given = c.give_up-held.ensures in
+    let table : c.deref_mut.result.now.table ≡ c.self.inside.claim.table =
+    rw c.deref_mut.ensures.value
+    (c.lock.ensures.tag.1
+    ∙ c.table.invariant.0
+    ∙ ap (λ (t : TableView). t.table) c.table.view_is
+    ∙ sym c.self.invariant.table)
+    in
+    record { table = (given.table.0 ∙ sym table, given.table.1 ∙ sym table); id = given.id.1 ∙ sym given.id.0 }
+
+pub drop-lock-requires-clause-tag : goal.drop-lock-requires-clause-tag
+drop-lock-requires-clause-tag g c =
+    c.give.ensures.table.0 ∙ rw c.deref_mut.ensures.value (c.lock.ensures.tag.1 ∙ sym c.lock.ensures.tag.0)
