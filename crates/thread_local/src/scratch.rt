@@ -85,7 +85,7 @@ impl<T> Pool<T> {
         rt: &'a R,
     ) -> Result<(Local<'a, Cell<Option<T>>, R>, Option<T>), LocalError> {
         let mut local = self.table.local(rt)?;
-        let found = local.get_or(|| Cell::new(None))?.replace(None);
+        let found = local.get_or_default()?.replace(None);
         Ok((local, found))
     }
 }
