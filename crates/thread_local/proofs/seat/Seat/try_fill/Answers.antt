@@ -1,12 +1,13 @@
-use Rattle.std.proofs.Common.{◌∙◌, sym, ap, subst, rules}
+use Rattle.std.proofs.Common.{◌∙◌, Option, sym, ap, subst, refl}
+use Rattle.std.specs.Prelude.{IsSome}
 use Rattle.thread_local_model.specs.Place.{IsPlaceOf}
 use Rattle.thread_local.specs.Seats.{LocalView, knows, knowing, holding}
 use Rattle.thread_local.proofs.Filled.{is_filled, none_of, filled_empty, fails_empty, refused_at}
-use Rattle.thread_local.proofs.Told.{ok_not_err, same_create, create_not_memory}
+use Rattle.thread_local.proofs.Told.{false_not_true, ok_not_err, same_create, create_not_memory}
 use Rattle.thread_local.proofs.seat.Seat.try_fill.Goals as goal
 
 pub returns-then-is_published-clause-ok : goal.returns-then-is_published-clause-ok
-returns-then-is_published-clause-ok g c = is_filled _ _ c.args.self.now (search rules)
+returns-then-is_published-clause-ok g c = is_filled _ _ c.args.self.now (sym c.is_published.ensures ∙ c.if-is_published.true)
 
 -- The search for these takes seconds.
 pub returns-then-is_published-clause-create : goal.returns-then-is_published-clause-create
@@ -18,8 +19,11 @@ returns-then-is_published-clause-memory g c = λ told. absurd (ok_not_err told)
 pub returns-then-is_published-clause-granted : goal.returns-then-is_published-clause-granted
 returns-then-is_published-clause-granted g c = λ known told. ok_not_err told
 
+pub returns-then-is_published-clause-held : goal.returns-then-is_published-clause-held
+returns-then-is_published-clause-held g c = λ some. refl
+
 pub find_bucket-requires-clause-empty : goal.find_bucket-requires-clause-empty
-find_bucket-requires-clause-empty g c = none_of c.args.self.now.value (search rules)
+find_bucket-requires-clause-empty g c = none_of c.args.self.now.value (sym c.is_published.ensures ∙ c.if-is_published.false)
 
 pub find_bucket-requires-clause-place : goal.find_bucket-requires-clause-place
 find_bucket-requires-clause-place g c = c.place-thread.ensures
@@ -27,7 +31,22 @@ find_bucket-requires-clause-place g c = c.place-thread.ensures
 pub returns-in_err-find_bucket-clause-memory : goal.returns-in_err-find_bucket-clause-memory
 returns-in_err-find_bucket-clause-memory g c =
     let refused = c.in_err-find_bucket.ensures.err in
-    λ told. refused_at _ c.args.self.now c.find_bucket.new.self (none_of c.args.self.now.value (search rules)) refused.0 refused.1
+    λ told.
+    refused_at _ c.args.self.now c.find_bucket.new.self
+    (none_of c.args.self.now.value (sym c.is_published.ensures ∙ c.if-is_published.false))
+    refused.0 refused.1
+
+pub returns-in_err-find_bucket-clause-granted : goal.returns-in_err-find_bucket-clause-granted
+returns-in_err-find_bucket-clause-granted g c = λ known. absurd (false_not_true (sym c.in_err-find_bucket.ensures.err.0 ∙ known))
+
+pub returns-in_err-find_bucket-clause-held : goal.returns-in_err-find_bucket-clause-held
+returns-in_err-find_bucket-clause-held g c = λ some.
+    absurd (false_not_true (subst (λ (value : Option g.row.T.Denot). IsSome value)
+    (none_of c.args.self.now.value (sym c.is_published.ensures ∙ c.if-is_published.false))
+    some))
+
+pub create-requires : goal.create-requires
+create-requires g c = c.requires (none_of c.args.self.now.value (sym c.is_published.ensures ∙ c.if-is_published.false))
 
 pub publish_at-requires-clause-vacant : goal.publish_at-requires-clause-vacant
 publish_at-requires-clause-vacant g c = ap (λ (view : LocalView g.row.T.Denot). knows view) c.in_ok-find_bucket.ensures.ok
@@ -41,7 +60,7 @@ publish_at-requires-clause-place g c =
 pub returns-in-Ok-clause-ok : goal.returns-in-Ok-clause-ok
 returns-in-Ok-clause-ok g c =
     filled_empty _ _ c.args.self.now c.publish_at.new.self c.in-Ok.value
-    (none_of c.args.self.now.value (search rules))
+    (none_of c.args.self.now.value (sym c.is_published.ensures ∙ c.if-is_published.false))
     (c.publish_at.ensures ∙ ap (λ (view : LocalView g.row.T.Denot). knowing view (holding c.in-Ok.value)) c.in_ok-find_bucket.ensures.ok)
     c.in-Ok.ensures
 
@@ -57,7 +76,7 @@ returns-in-Ok-clause-granted g c = λ known told. ok_not_err told
 pub returns-in-Err-clause-create : goal.returns-in-Err-clause-create
 returns-in-Err-clause-create g c = λ error told.
     fails_empty _ c.args.self.now c.find_bucket.new.self c.in-Err.error error (same_create told)
-    (none_of c.args.self.now.value (search rules))
+    (none_of c.args.self.now.value (sym c.is_published.ensures ∙ c.if-is_published.false))
     c.in_ok-find_bucket.ensures.ok
     c.in-Err.ensures
 
@@ -66,3 +85,12 @@ returns-in-Err-clause-memory g c = λ told. absurd (create_not_memory told)
 
 pub returns-in-Err-clause-granted : goal.returns-in-Err-clause-granted
 returns-in-Err-clause-granted g c = λ known told. create_not_memory told
+
+pub returns-in-Ok-clause-held : goal.returns-in-Ok-clause-held
+returns-in-Ok-clause-held g c = λ some. refl
+
+pub returns-in-Err-clause-held : goal.returns-in-Err-clause-held
+returns-in-Err-clause-held g c = λ some.
+    absurd (false_not_true (subst (λ (value : Option g.row.T.Denot). IsSome value)
+    (none_of c.args.self.now.value (sym c.is_published.ensures ∙ c.if-is_published.false))
+    some))
