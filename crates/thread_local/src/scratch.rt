@@ -79,7 +79,7 @@ impl<T> Pool<T> {
         Ok(Pooled::tried(local, found, create))
     }
 
-    /// A `Local`, and the value of its cell, if there was one. The cell is empty then.
+    /// A `Local` whose cell is empty, and the value that the cell held, if there was one.
     fn take_out<'a, R: Wait>(
         &'a self,
         rt: &'a R,

@@ -21,7 +21,7 @@ module _ {V : Type 0} where
   none_kept w None none = tt
   none_kept w (Some own) none = λ same seen. absurd (omega arith)
 
-  -- it passes buckets, one of them if an own value is still to be given
+  -- the own value stays ahead: the walk moves on by one bucket alone while it is still to be given
   moved_ahead : (raw to : RawIter) (own : Option (Own V)) → IfSome own (IsAhead raw) → lies_in own raw.bucket ≡ false
       → (is_some own ≡ true → to ≡ next_bucket raw)
       → IfSome own (IsAhead to)

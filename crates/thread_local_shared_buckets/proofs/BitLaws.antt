@@ -1,12 +1,10 @@
--- Tests, bits and indices.
+-- Tests, bits and chunks.
 use Rattle.std.proofs.Common.{◌≡◌, ◌≢◌, ℕ, zero, suc, ◌+◌, ◌/◌, ◌%◌, ◌<◌, ◌≤◌, ◌⊎◌, Bool, true, false, cond, eqb}
 use Rattle.std.proofs.Common.{refl, ap, sym, ◌∙◌, subst, arith, ⊎_elim, inl, inr}
 use Rattle.std.proofs.Common.{MatchBool}
 use Rattle.std.proofs.lemmas.Bool.{cond_both, eqb-true, eqb-false, eq-eqb, ne_eqb, cases_lt}
 use Rattle.thread_local_model.specs.Bits.{is_set, IsLowestSet, IsWordBut}
 use Rattle.thread_local_model.proofs.Word.{is_set-zero}
-
--- Tests and bits.
 
 pub both_so : (a b c d : ℕ) → a ≡ b → c ≡ d → cond (eqb a b) (eqb c d) false ≡ true
 both_so a b c d e f = ap (λ (u : Bool). cond u (eqb c d) false) (eq-eqb a b e) ∙ eq-eqb c d f

@@ -1,4 +1,4 @@
--- What `next` of a walk with ids or tokens does, by what the step under it does.
+-- What `next` of a shared walk does, with ids, tokens or neither, by what the step under it does.
 use Rattle.std.proofs.Common.{◌≡◌, ℕ, suc, ◌+◌, ◌-◌, ◌^◌, ◌<◌, ◌≤◌, Option, None, Some, IfSome, option_map, ap, sym, ◌∙◌, subst, arith}
 use Rattle.std.proofs.Common.{inl, inr, ⊎_elim}
 use Rattle.std.specs.Iterator.{MakesProgress}

@@ -31,9 +31,9 @@ module _ {V : Type 0} where
     pub id : found.0.id ≡ id_at seen.of.bucket (seen.chunk * 64 + bit)
     pub value : found.0.value ≡ found.1.now
 
-  -- A look at a row of this bucket, from the chunk `from` on, how many chunks were seen, and the flags
-  -- that the walk takes from the last: those that are set and that of the own slot, which lies at the
-  -- index `own`, if it lies there. Before this chunk there is no own slot.
+  -- A look at a chunk of this bucket, the chunk `from` or a later one, after which so many chunks were
+  -- seen. The walk takes these flags from it: those that are set, and that of the own slot if its
+  -- index `own` lies in the chunk. The own slot lies in none of the chunks before, from `from` on.
   pub record IsRead (d : BucketView) (own from : ℕ) (seen : Seen V) (chunks flags : ℕ) : Type 0 where
     pub of : seen.of ≡ d
     pub later : from ≤ seen.chunk

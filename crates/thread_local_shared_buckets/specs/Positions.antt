@@ -27,7 +27,7 @@ pub record MovesOn (from to : RawIter) : Type 0 where
   pub further : from.bucket ≤ to.bucket
   pub index : to.index ≤ from.index
 
--- the walk has passed at least its own bucket, and no other if an own value is still owed
+-- the walk has passed at least the bucket that it was in, and no other if an own value is still owed
 pub record MovesBehind (from : RawIter) (owed : Bool) (to : RawIter) : Type 0 where
   pub moves : MovesOn from to
   pub further : from.bucket < to.bucket

@@ -10,8 +10,8 @@ use std::iter::FusedIterator;
 use std::marker::Model;
 use thread_local_bucket_pointers::write_struct;
 
-/// What `Iter` gives, each value with the id of its slot: the ids ascend strictly. Contracts see the
-/// walk.
+/// What `Iter` gives, each value with the id of its slot: the ids ascend strictly. Contracts see
+/// the walk.
 ///
 /// No call waits or takes memory. Rust's crate has no such walk.
 #[derive(Drop)]

@@ -21,9 +21,9 @@ use thread_local_thread_id::Thread;
 /// more. A value that is published behind the walk isn't given, and one ahead of it may be.
 ///
 /// No call waits or takes memory. A contract sees the sharing, the model's cursor, and the walker's
-/// own value as long as it is still to be given. No contract says which value an item is, but for the
-/// own one: `with_tokens` gives each value with a token, which says it. Rust's crate promises no order,
-/// and its size hint counts the values.
+/// own value as long as it is still to be given. No contract says which value an item is, but for
+/// the own one: `with_tokens` gives each value with a token, which says it. Rust's crate promises
+/// no order, and its size hint counts the values.
 #[derive(Drop)]
 pub struct Iter<'a, T> {
     walk: Walk<'a, T>,
@@ -150,10 +150,10 @@ impl<'a, T: Sync> Iterator for Iter<'a, T> {
 
     ghost remaining = { ids_left };
 
-    /// The next value that a look finds. One load of a word of flags is a look at up to 64 slots at one
-    /// instant. The call gives the next value that such a look has found, and looks on where all are
-    /// given. A walk loads each word of flags at most once, and each pointer at most twice: once by
-    /// itself, and that of a bucket behind the first seven once among eight.
+    /// The next value that a look finds. One load of a word of flags is a look at up to 64 slots at
+    /// one instant. The call gives the next value that such a look has found, and looks on where
+    /// all are given. A walk loads each word of flags at most once, and each pointer at most twice:
+    /// once by itself, and that of a bucket behind the first seven once among eight.
     fn next(&mut self) -> Option<&'a T> {
         match self.step() {
             Some((_, value)) => Some(value),

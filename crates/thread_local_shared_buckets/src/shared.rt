@@ -162,8 +162,8 @@ impl<T> Shared<T> {
         self.bucket(bucket).load()
     }
 
-    /// Whether one of the eight buckets from `first` on stands. Each of their pointers is loaded once, so
-    /// a bucket that is installed meanwhile may be missed.
+    /// Whether one of the eight buckets from `first` on stands. Each of their pointers is loaded
+    /// once, so a bucket that is installed meanwhile may be missed.
     #[inline]
     pub(crate) fn any_stands(&self, first: usize) -> bool
         requires { first + 8 ≤ 63 }
@@ -208,8 +208,8 @@ impl<T> Shared<T> {
         self.parts().reserved
     }
 
-    /// How many slots the buckets have that stand. Each of the 63 pointers is loaded once, one after
-    /// another, so a bucket that is installed meanwhile may be counted or not.
+    /// How many slots the buckets have that stand. Each of the 63 pointers is loaded once, one
+    /// after another, so a bucket that is installed meanwhile may be counted or not.
     pub fn slots(&self) -> usize
         ensures reserved { self.now.reserved ≤ result }
         ensures most { result < 2 ^ 63 }

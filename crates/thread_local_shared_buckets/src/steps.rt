@@ -101,11 +101,13 @@ fn row_of<'a, T>(
     }
 }
 
-/// Looks at the chunks of a row from the chunk `from` on, until one has a flag that is set or the own
-/// slot, which lies at the index `own`. Each look is one atomic load. Answers what it saw last, how
-/// many of the row's chunks were seen, and the flags at hand. Where no look finds a flag, these are
-/// that of the own slot alone, or 0 where it lies elsewhere. The bucket of the own value always
-/// stands, so a look finds its flag, but the code doesn't depend on it.
+/// Looks at the chunks of a row from the chunk `from` on, until one has a flag that is set or the
+/// own slot, which lies at the index `own`. Each look is one atomic load. Answers what that look
+/// saw, how many of the row's chunks were seen by then, and the flags at hand.
+///
+/// Where no look finds one, it answers `None` and the flag of the own slot, with the chunks up to
+/// it, or `from` and 0 where that slot lies elsewhere. The bucket of the own value always stands,
+/// so a look finds its flag, but the code doesn't depend on it.
 #[inline]
 fn look_on<'a, T>(
     row: &Option<Row<'a, T>>,
@@ -170,7 +172,7 @@ fn pass_eight(raw: &mut RawIter)
 
 /// Moves on behind the bucket that a walk is in. Where no own value is still to be given, it passes
 /// missing buckets, too, eight at a time: first the eight behind the first seven buckets, then the
-/// next eight. So a pointer is loaded once among eight, and once by itself.
+/// next eight. So a pointer is loaded at most once among eight, and at most once by itself.
 #[inline]
 fn move_on<T>(buckets: &Shared<T>, raw: &mut RawIter, owed: bool)
     requires size { raw.old.bucket_size ≡ 2 ^ raw.old.bucket }
@@ -203,12 +205,12 @@ pub(crate) struct Walk<'a, T> {
     /// The row of the bucket that it is in, once it has loaded the bucket's pointer and it wasn't
     /// null.
     pub(crate) row: Option<Row<'a, T>>,
-    /// What it saw last.
+    /// What its last look saw, where that found a flag.
     pub(crate) seen: Option<Seen<'a, T>>,
     /// How many chunks of its bucket it has seen.
     pub(crate) chunks: usize,
-    /// Those flags of the last of these chunks whose values it hasn't given. The flag of the own slot
-    /// is among them, if it lies there.
+    /// Those flags of the last of these chunks whose values it hasn't given. The flag of the own
+    /// slot is among them, if it lies there.
     pub(crate) rest: u64,
 }
 

@@ -53,8 +53,8 @@ fn differ(tokens: &[Token<u64>]) -> bool
     true
 }
 
-/// The sum of the values that a walk has still to give. Who copies it also copies what the proof knows
-/// at each turn of its loop: `proofs/sums/added_up/Invariants.antt`.
+/// The sum of the values that a walk has still to give. Who copies it also copies what the proof
+/// knows at each turn of its loop: `proofs/sums/added_up/Invariants.antt`.
 fn added_up(values: IntoIter<u64>) -> u128
     ensures { result ≡ sum values }
 {
