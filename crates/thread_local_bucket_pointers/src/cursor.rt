@@ -44,9 +44,9 @@ pub trait FlagSource {
             → is_set result bit ≡ is_some (value_in (contents self.old) bucket (chunk * 64 + bit)) };
 }
 
-/// How many values a walk has given, and a place: the one that a shared walk looks at next, or behind
-/// the flags that an owner's has read. The number is shown by `Debug`, as in the Rust crate; no walk
-/// goes by it.
+/// How many values a walk has given, and a place: behind the last value that a shared walk gave, or
+/// behind the flags that an owner's has read. The number is shown by `Debug`, as in the Rust crate;
+/// no walk goes by it.
 #[derive(Clone, Copy, Debug)]
 pub struct RawIter {
     pub yielded: usize,
@@ -92,8 +92,8 @@ pub fn write_struct<W: fmt::Write, D: fmt::Debug>(
     f.debug_struct(name).field(field, value).finish()
 }
 
-/// Advances past the bucket's next flags that aren't 0 and returns them, or returns 0 where there are
-/// none.
+/// Advances past the bucket's next flags that aren't 0 and returns them, or returns 0 where there
+/// are none.
 fn flags_in_bucket<P: FlagSource>(source: &mut P, raw: &mut RawIter) -> u64
     requires at { IsAt (P.contents source.old) raw.old 0 }
     requires whole { length (row (P.contents source.old) raw.old.bucket) ≡ raw.old.bucket_size }
@@ -251,8 +251,8 @@ impl OwnerCursor {
         }
     }
 
-    /// Passes the next value, whose flag must be at hand, and returns the number of that flag's bit.
-    /// The caller takes the value out of the source.
+    /// Passes the next value, whose flag must be at hand, and returns the number of that flag's
+    /// bit. The caller takes the value out of the source.
     #[inline]
     pub fn pass<P: FlagSource>(&mut self, source: &mut P) -> usize
         requires walk { IsOwnerWalk (P.contents source.old) self.old }

@@ -1,4 +1,4 @@
--- A loan may be sent to another thread, or shared with it, where its values may.
+-- A loan may be sent to another thread where its values may.
 use Rattle.thread_local_model.proofs.Names.{ℕ, suc, ◌+◌, List, [], ◌∷◌, Option, Some, None, full_share, Fml}
 use Rattle.thread_local_model.proofs.Names.{RattleType, Ptr, block_of, count_of}
 use base.Fml.{Lft, GName}

@@ -21,7 +21,7 @@ module _ {V : Type 0} where
   row-emptied : (c : Contents V) (b : ℕ) → row (emptied c) b ≡ map none (row c b)
   row-emptied c b = get_or-map (map none) c.rows b []
 
-  -- no id has a value, and the same buckets stand
+  -- no id has a value
   pub values-emptied : (c : Contents V) (id : ℕ) → values (emptied c) id ≡ None
   values-emptied c id =
       ap (λ (r : List (Option V)). get_or r (index_of id) None) (row-emptied c (bucket_of id))

@@ -1,4 +1,4 @@
--- Contents without values, in which the first buckets are made one by one.
+-- Contents without values, whose first buckets stand.
 use Rattle.std.proofs.Common.{◌≡◌, ℕ, zero, suc, ◌-◌, ◌^◌, ◌<◌, ◌≤◌, inl}
 use Rattle.std.proofs.Common.{length, List, [], ◌∷◌, replicate, get_or, Option, None, refl, ap, ◌∙◌, arith}
 use Rattle.std.proofs.Common.{⊎_elim, pow_mono}

@@ -1,5 +1,5 @@
 -- The words as one list: what a write of the first word, or of one of the rest, makes of their bits,
--- and which bit isn't set.
+-- which bit isn't set, and what they are once they are made, cleared or added to.
 use Rattle.std.proofs.Common.{◌≡◌, ◌≢◌, ℕ, suc, ◌+◌, ◌-◌, ◌*◌, ◌/◌, ◌%◌, ◌^◌, ◌<◌, ◌≤◌, Bool, false, List, ◌∷◌, length, get_or}
 use Rattle.std.proofs.Common.{zero, [], ◌++◌, replicate, take, set, refl, ap, subst, sym, ◌∙◌, arith, ⊎_elim}
 use Rattle.std.specs.Int.{w64, trailing_ones}
@@ -113,7 +113,7 @@ next_behind_first words first bit read full next =
     next_unset_from words 0 64 bit (omega arith)
     (λ i _ below. is_set_in-all_ones words 0 i (sym read ∙ full) (omega arith) (omega arith)) next
 
--- nor is it further than the end of the words
+-- the next unset bit is no further than the end of the words
 pub next_within : (words : List ℕ) (from bit : ℕ) → IsNextUnset words from bit → from ≤ length words * 64
     → bit ≤ length words * 64
 next_within words from bit next within =

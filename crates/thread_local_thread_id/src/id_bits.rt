@@ -88,7 +88,8 @@ impl IdBits {
         Ok(())
     }
 
-    /// `alloc` of one of the first 64 ids, which are the bits of the first word. It needs no memory.
+    /// `alloc` of one of the first 64 ids, which are the bits of the first word. It needs no
+    /// memory.
     #[inline]
     fn alloc_first(&mut self, id: usize)
         requires least { id ≡ least self.old.held }
