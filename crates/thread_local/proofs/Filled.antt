@@ -110,9 +110,7 @@ fills_by {V} E makes old new there filled held =
     let same : filled.value ≡ there = cc in
     subst (λ (value : V). Fills E makes old new value) same filled.fills
 
-pub answered_by : {V : Type 0} (E : Type 0) (makes : V → Type 0) (old new : LocalView V) (there : V)
-    → IsFilled E makes old new → new.value ≡ Some there
+pub answered : {V E : Type 0} {makes : V → Type 0} {old new : LocalView V} {there : V}
+    → Fills E makes old new there
     → IsAnswered E makes old there
-answered_by {V} E makes old new there filled held =
-    let fills = fills_by E makes old new there filled held in
-    record { answered = fills.says.answered; made = fills.made }
+answered fills = record { answered = fills.says.answered; made = fills.made }

@@ -16,8 +16,9 @@ use thread_local_ids::{HeldId, Right, Token};
 use thread_local_thread_id::Thread;
 
 /// The slot of an id, for the holder of the id, whose right lies with the slot meanwhile. Contracts
-/// see its table, the sharing, its id, whether its bucket is reserved, and what it has learnt of the
-/// slot: that the bucket was missing, that the slot is vacant, or the value that the slot holds.
+/// see its table, the sharing, its id, whether its bucket is reserved, and what it has learnt of
+/// the slot: that the bucket was missing, that the slot is vacant, or the value that the slot
+/// holds.
 ///
 /// No call waits or takes memory. Only `look`, `look_again`, `install` and `publish` make atomic
 /// steps. These ask for the place of the id, which the caller computes once.
@@ -175,8 +176,8 @@ impl<'a, T> Claim<'a, T> {
         }
     }
 
-    /// A token of what the slot was published with, where it holds a value. At run time it reads what
-    /// the claim knows.
+    /// A token of what the slot was published with, where it holds a value. At run time it reads
+    /// what the claim knows.
     pub fn token(&self) -> Option<Token<T>>
         ensures { MatchOption result ((self.now.learnt ≡ Missing) ⊎ (self.now.learnt ≡ Vacant)) (λ p.
             (p.sharing ≡ self.now.sharing)
@@ -221,9 +222,9 @@ impl<'a, T> Claim<'a, T> {
 }
 
 impl<'a, T: Sync> Claim<'a, T> {
-    /// The value with a token of it, or `None`, as `get` and `token` answer them. But this value may be
-    /// used after the claim is gone, for as long as the bucket is borrowed: a published value stays
-    /// in its slot until then.
+    /// The value with a token of it, or `None`, as `get` and `token` answer them. But this value
+    /// may be used after the claim is gone, for as long as the bucket is borrowed: a published
+    /// value stays in its slot until then.
     pub fn lasting(&self) -> Option<(Token<T>, &'a T)>
         ensures { MatchOption result ((self.now.learnt ≡ Missing) ⊎ (self.now.learnt ≡ Vacant)) (λ x.
             (x.0.sharing ≡ self.now.sharing)

@@ -214,8 +214,8 @@ impl<V: Fits> Drop for LockGuard<'_, V> {
     }
 }
 
-/// Waits for a moment and goes on running. The moment doubles from turn to turn, and after `TURNS`
-/// turns each is a yield.
+/// Waits for a moment and goes on running. The moment doubles from turn to turn. After `TURNS`
+/// turns it yields in place of that.
 fn pause(turn: u64) {
     if turn < TURNS {
         for _ in 0..1u64 << turn {

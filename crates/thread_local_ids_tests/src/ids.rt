@@ -45,12 +45,19 @@ fn take_and_give<R: Wait>(
     Ok(shared)
 }
 
-/// Gives an id back.
-fn give_back<R: Wait>(ids: &Lock<Ids>, rt: &R, held: (HeldId, Right))
+/// Gives an id back, and answers it.
+fn give_back<R: Wait>(ids: &Lock<Ids>, rt: &R, held: (HeldId, Right)) -> usize
     requires table { (held.1.table ≡ ids.now.tag) × (held.0.mark.table ≡ ids.now.tag) }
     requires id { held.1.id ≡ held.0.id }
 {
+    let id = held.0.id;
     ids.lock(rt).give(held.0, held.1);
+    id
+}
+
+/// Takes an id, and never gives it back.
+fn take_for_ever<R: Wait>(ids: &Lock<Ids>, rt: &R) -> Result<usize, LocalError> {
+    Ok(ids.lock(rt).take()?.0.id)
 }
 
 #[test]
@@ -93,7 +100,7 @@ fn threads_hold_unlike_ids(rt: HostRuntime) -> Result<(), Fail> {
     }
     // None of the ids is held, so the next are the first.
     for id in 0..4 {
-        assert_eq!(rt; ids.lock(&rt).take()?.0.id, id);
+        assert_eq!(rt; take_for_ever(&ids, &rt)?, id);
     }
     Ok(())
 }
@@ -105,25 +112,20 @@ fn held_ids_are_swapped_moved_and_forgotten(rt: HostRuntime) -> Result<(), Fail>
     let mut second = ids.lock(&rt).take()?;
     let third = ids.lock(&rt).take()?;
     swap(&mut first, &mut second);
-    assert_eq!(rt; (first.0.id, second.0.id, third.0.id), (1, 0, 2));
+    let swapped = (first.0.id, second.0.id, third.0.id);
     let there = &ids;
-    let (_, id) = thread::join(
+    let given = thread::join(
         &rt,
         || give_back(there, &rt, first),
-        || {
-            let id = second.0.id;
-            give_back(there, &rt, second);
-            id
-        },
+        || give_back(there, &rt, second),
     );
-    assert_eq!(rt; id, 0);
     forget(third);
-    let (again, right) = ids.lock(&rt).take()?;
-    assert_eq!(rt; again.id, 0);
-    ids.lock(&rt).give(again, right);
+    let again = ids.lock(&rt).take()?;
+    let again = give_back(&ids, &rt, again);
+    assert_eq!(rt; (swapped, given, again), ((1, 0, 2), (1, 0), 0));
     // The forgotten id is held, and no other.
     for id in [0, 1, 3] {
-        assert_eq!(rt; ids.lock(&rt).take()?.0.id, id);
+        assert_eq!(rt; take_for_ever(&ids, &rt)?, id);
     }
     Ok(())
 }

@@ -1,5 +1,6 @@
 //! Tests of the manager of ids: the least id comes, and neither the first 64 nor a returned one
 //! needs memory.
+use std::alloc::Global;
 use std::io::Print;
 use std::process::Abort;
 use std::test::Fail;
@@ -28,22 +29,48 @@ fn take(
     }
 }
 
+/// Takes an id where no memory is asked for, so a refusal would be a fault of the manager's.
+fn take_at_hand(manager: &mut ThreadIdManager) -> Result<usize, LocalError> {
+    manager.alloc()
+}
+
+/// Gives an id back if it is held, and answers whether it was.
+fn give(manager: &mut ThreadIdManager, id: usize) -> bool {
+    let is_held = manager.is_held(id);
+    if is_held {
+        manager.free(id);
+    }
+    is_held
+}
+
+/// Which of the first four ids are held.
+fn first_held(manager: &ThreadIdManager) -> [bool; 4] {
+    [
+        manager.is_held(0),
+        manager.is_held(1),
+        manager.is_held(2),
+        manager.is_held(3),
+    ]
+}
+
 #[test]
 fn least_ids_in_turn(rt: HostRuntime) -> Result<(), Fail> {
     let mut manager = ThreadIdManager::new(rt.alloc());
-    assert!(rt; !manager.is_held(0));
-    assert_eq!(rt; take(&rt, &mut manager, &[])?, 0);
-    assert_eq!(rt; take(&rt, &mut manager, &[0])?, 1);
-    assert_eq!(rt; take(&rt, &mut manager, &[0, 1])?, 2);
-    assert!(rt; manager.is_held(1));
-    manager.free(1);
-    assert!(rt; manager.is_held(0));
-    manager.free(0);
-    assert!(rt; manager.is_held(2));
-    assert!(rt; !manager.is_held(0) && !manager.is_held(1) && !manager.is_held(3));
-    assert_eq!(rt; take(&rt, &mut manager, &[2])?, 0);
-    assert_eq!(rt; take(&rt, &mut manager, &[0, 2])?, 1);
-    assert_eq!(rt; take(&rt, &mut manager, &[0, 1, 2])?, 3);
+    let before = first_held(&manager);
+    let taken = [
+        take(&rt, &mut manager, &[])?,
+        take(&rt, &mut manager, &[0])?,
+        take(&rt, &mut manager, &[0, 1])?,
+    ];
+    let given = [give(&mut manager, 1), give(&mut manager, 0)];
+    let left = first_held(&manager);
+    let again = [
+        take(&rt, &mut manager, &[2])?,
+        take(&rt, &mut manager, &[0, 2])?,
+        take(&rt, &mut manager, &[0, 1, 2])?,
+    ];
+    assert_eq!(rt; (before, taken, given), ([false; 4], [0, 1, 2], [true; 2]));
+    assert_eq!(rt; (left, again), ([false, false, true, false], [0, 1, 3]));
     Ok(())
 }
 
@@ -54,14 +81,22 @@ fn a_returned_id_needs_no_memory(rt: HostRuntime) -> Result<(), Fail> {
     for id in 0..70usize {
         assert_eq!(rt; take(&rt, &mut manager, &first[..id.min(8)])?, id);
     }
-    assert!(rt; manager.is_held(33) && manager.is_held(7));
-    manager.free(33);
-    assert!(rt; manager.is_held(7));
-    manager.free(7);
-    // No memory is asked for here, so a refusal would be a fault of the manager's.
-    assert_eq!(rt; manager.alloc()?, 7);
-    assert_eq!(rt; manager.alloc()?, 33);
+    let given = [give(&mut manager, 33), give(&mut manager, 7)];
+    let again = [take_at_hand(&mut manager)?, take_at_hand(&mut manager)?];
+    assert_eq!(rt; (given, again), ([true; 2], [7, 33]));
     Ok(())
+}
+
+/// The first id of a manager with room for no id.
+fn first_without_room(rt: &(impl Abort + Print), alloc: Global) -> Result<usize, LocalError> {
+    let mut empty = ThreadIdManager::with_room(alloc, 0)?;
+    assert!(rt; !empty.is_held(0));
+    take(rt, &mut empty, &[])
+}
+
+/// Whether room for so many ids is refused.
+fn is_refused(alloc: Global, ids: usize) -> bool {
+    ThreadIdManager::with_room(alloc, ids).is_err()
 }
 
 #[test]
@@ -70,20 +105,13 @@ fn room_that_was_made_is_enough(rt: HostRuntime) -> Result<(), Fail> {
         println!(rt; "refused: with_room")?;
         return Ok(());
     };
-    // No memory is asked for here, so a refusal would be a fault of the manager's.
     for id in 0..67usize {
-        assert_eq!(rt; manager.alloc()?, id);
+        assert_eq!(rt; take_at_hand(&mut manager)?, id);
     }
     assert!(rt; !manager.is_held(67));
-    let mut empty = ThreadIdManager::with_room(rt.alloc(), 0)?;
-    assert!(rt; !empty.is_held(0));
-    assert_eq!(rt; take(&rt, &mut empty, &[])?, 0);
-    for ids in [9223372036854775807, usize::MAX] {
-        assert!(rt;
-            ThreadIdManager::with_room(rt.alloc(), ids).is_err(),
-            "{ids}"
-        );
-    }
+    let first = first_without_room(&rt, rt.alloc())?;
+    let refused = [9223372036854775807, usize::MAX].map(|ids| is_refused(rt.alloc(), ids));
+    assert_eq!(rt; (first, refused), (0, [true; 2]));
     Ok(())
 }
 
@@ -93,9 +121,8 @@ fn room_is_made_in_whole_words(rt: HostRuntime) -> Result<(), Fail> {
         println!(rt; "refused: with_room")?;
         return Ok(());
     };
-    // No memory is asked for here, so a refusal would be a fault of the manager's.
     for id in 0..128usize {
-        assert_eq!(rt; manager.alloc()?, id);
+        assert_eq!(rt; take_at_hand(&mut manager)?, id);
     }
     assert_eq!(rt; take(&rt, &mut manager, &[0, 1, 2, 3, 4, 5, 6, 7])?, 128);
     Ok(())
@@ -103,9 +130,8 @@ fn room_is_made_in_whole_words(rt: HostRuntime) -> Result<(), Fail> {
 
 /// Takes 64 ids, which need no memory, and one more.
 fn take_65(rt: &(impl Abort + Print), manager: &mut ThreadIdManager) -> Result<usize, LocalError> {
-    // No memory is asked for here, so a refusal would be a fault of the manager's.
     for id in 0..64usize {
-        assert_eq!(rt; manager.alloc()?, id);
+        assert_eq!(rt; take_at_hand(manager)?, id);
     }
     take(rt, manager, &[0, 1, 2, 3, 4, 5, 6, 7])
 }

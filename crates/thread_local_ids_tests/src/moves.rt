@@ -1,7 +1,7 @@
 //! Ten thousand takes and gives beside a set of the ids held.
 use std::collections::BTreeSet;
 use std::test::Fail;
-use thread_local_thread_id::ThreadIdManager;
+use thread_local_thread_id::{LocalError, ThreadIdManager};
 
 /// The least number that isn't in the set.
 fn least_absent(held: &BTreeSet<usize>) -> usize {
@@ -22,6 +22,20 @@ fn nth_of(held: &BTreeSet<usize>, n: u64) -> Option<usize> {
         return None;
     }
     held.iter().nth((n % count) as usize).copied()
+}
+
+/// Gives an id back if it is held, and answers whether it was, and whether it isn't any more.
+fn give(manager: &mut ThreadIdManager, id: usize) -> bool {
+    if !manager.is_held(id) {
+        return false;
+    }
+    manager.free(id);
+    !manager.is_held(id)
+}
+
+/// Takes an id.
+fn take(manager: &mut ThreadIdManager) -> Result<usize, LocalError> {
+    manager.alloc()
 }
 
 /// Each move draws a number, by one multiplication and one addition. Of 5000 moves three of four
@@ -45,12 +59,10 @@ fn ten_thousand_moves_give_the_least_ids(rt: HostRuntime) -> Result<(), Fail> {
             nth_of(&held, draw / 4)
         };
         if let Some(id) = given {
-            assert!(rt; manager.is_held(id), "id {id} at move {turn}");
-            manager.free(id);
-            assert!(rt; !manager.is_held(id), "id {id} at move {turn}");
+            assert!(rt; give(&mut manager, id), "id {id} at move {turn}");
             held.remove(&id);
         } else {
-            let id = manager.alloc()?;
+            let id = take(&mut manager)?;
             assert_eq!(rt; id, least_absent(&held), "move {turn}");
             held.insert(id)?;
         }

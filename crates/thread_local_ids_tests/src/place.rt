@@ -20,9 +20,9 @@ fn places_of_ids(rt: HostRuntime) {
     for (id, bucket, index, size) in places {
         assert!(rt; id < 9223372036854775807);
         let thread = Thread::new(id);
-        assert_eq!(rt; thread.bucket, bucket, "the bucket of {id}");
-        assert_eq!(rt; thread.index, index, "the index of {id}");
-        assert_eq!(rt; thread.bucket_size(), size, "the bucket size of {id}");
-        assert_eq!(rt; thread.id(), id);
+        assert_eq!(rt;
+            (thread.bucket, thread.index, thread.bucket_size(), thread.id()),
+            (bucket, index, size, id)
+        );
     }
 }

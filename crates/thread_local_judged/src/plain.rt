@@ -1,5 +1,6 @@
-//! `Judge` for values without parts: numbers, times, atomics, texts. Where a body is empty, the check
-//! finds a value of the type and shows the fact by itself.
+//! `Judge` for values without parts: numbers, times, atomics, texts. Where a body names no value,
+//! the check finds one of the type by itself. Where it is empty, the check also shows by itself
+//! that threads may share such values.
 use crate::judged::{Judge, judge_sync, judge_value};
 use std::boxed::BoxedStr;
 use std::cmp::Ordering;

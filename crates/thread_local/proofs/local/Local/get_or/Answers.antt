@@ -1,6 +1,6 @@
 use Rattle.std.proofs.Common.{◌∙◌, sym, ap, refl}
 use Rattle.thread_local.specs.Seats.{LocalView}
-use Rattle.thread_local.proofs.Filled.{some_filled, fills_by}
+use Rattle.thread_local.proofs.Filled.{some_filled, fills_by, answered}
 use Rattle.thread_local.proofs.local.Local.get_or.Goals as goal
 
 -- The search for these takes a second.
@@ -17,7 +17,7 @@ returns g c =
       (refl, (λ _. tt), fills),
       record {
         leaves = tt;
-        answers = record { answered = fills.says.answered; made = fills.made };
+        answers = answered fills;
         granted = λ _. refl;
         held = λ _. refl;
       },

@@ -1,6 +1,7 @@
-use Rattle.std.proofs.Common.{◌∙◌, Option, is_none, sym, ap}
+use Rattle.std.proofs.Common.{◌∙◌, sym, ap}
 use Rattle.thread_local.specs.Pooled.{PooledView}
-use Rattle.thread_local.proofs.Told.{same_some, some_not_none, false_not_true}
+use Rattle.thread_local.proofs.Lent.{newness, as_found}
+use Rattle.thread_local.proofs.Told.{some_not_none, false_not_true}
 use Rattle.thread_local.proofs.scratch.Pooled.tried.Goals as goal
 
 -- The search for these takes a second.
@@ -8,22 +9,17 @@ pub create-requires : goal.create-requires
 create-requires g c = c.requires c.in-None.is
 
 pub returns-in-Some-clause-is_new : goal.returns-in-Some-clause-is_new
-returns-in-Some-clause-is_new g c =
-    ap (λ (pooled : PooledView g.row.T.Denot). pooled.is_new) c.new.ensures
-    ∙ sym (ap (λ (found : Option g.row.T.Denot). is_none found) c.in-Some.is)
+returns-in-Some-clause-is_new g c = newness c.in-Some.is c.new.ensures
 
 pub returns-in-Some-clause-kept : goal.returns-in-Some-clause-kept
-returns-in-Some-clause-kept g c = λ value found.
-    ap (λ (pooled : PooledView g.row.T.Denot). pooled.value) c.new.ensures ∙ same_some (sym c.in-Some.is ∙ found)
+returns-in-Some-clause-kept g c = as_found c.in-Some.is c.new.ensures
 
 pub returns-in-Some-clause-created : goal.returns-in-Some-clause-created
 returns-in-Some-clause-created g c = λ new.
     absurd (false_not_true (sym (ap (λ (pooled : PooledView g.row.T.Denot). pooled.is_new) c.new.ensures) ∙ new))
 
 pub returns-in-Ok-clause-is_new : goal.returns-in-Ok-clause-is_new
-returns-in-Ok-clause-is_new g c =
-    ap (λ (pooled : PooledView g.row.T.Denot). pooled.is_new) c.new-in-Ok.ensures
-    ∙ sym (ap (λ (found : Option g.row.T.Denot). is_none found) c.in-None.is)
+returns-in-Ok-clause-is_new g c = newness c.in-None.is c.new-in-Ok.ensures
 
 pub returns-in-Ok-clause-kept : goal.returns-in-Ok-clause-kept
 returns-in-Ok-clause-kept g c = λ value found. absurd (some_not_none (sym found ∙ c.in-None.is))

@@ -1,4 +1,4 @@
-use Rattle.thread_local.proofs.Filled.{some_filled, answered_by}
+use Rattle.thread_local.proofs.Filled.{some_filled, fills_by, answered}
 use Rattle.thread_local.proofs.Told.{ok_not_err}
 use Rattle.thread_local.proofs.seat.Seat.get_or_try.Goals as goal
 
@@ -7,7 +7,8 @@ pub value-requires : goal.value-requires
 value-requires g c = some_filled _ _ c.args.self.now c.try_fill.new.self c.in_ok-try_fill.ensures.ok
 
 pub returns-clause-ok : goal.returns-clause-ok
-returns-clause-ok g c = answered_by _ _ c.args.self.now c.try_fill.new.self c.value.result.now c.in_ok-try_fill.ensures.ok c.value.ensures
+returns-clause-ok g c =
+    answered (fills_by _ _ c.args.self.now c.try_fill.new.self c.value.result.now c.in_ok-try_fill.ensures.ok c.value.ensures)
 
 pub returns-clause-create : goal.returns-clause-create
 returns-clause-create g c = λ error told. absurd (ok_not_err told)
