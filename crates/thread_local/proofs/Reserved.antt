@@ -4,8 +4,8 @@ use Rattle.std.proofs.Common.{◌≡◌, ◌≢◌, ◌<◌, ◌-◌, ◌^◌, �
 use Rattle.thread_local_model.specs.Place.{bucket_of, id_at}
 use Rattle.thread_local_model.specs.Learnt.{Missing}
 use Rattle.thread_local_model.proofs.PlaceLaws.{id_at-place}
-use Rattle.thread_local_claim.specs.Known.{HasLooked}
-use Rattle.thread_local_claim.specs.Views.{ClaimView}
+use Rattle.thread_local_shared_buckets.specs.Known.{HasLooked}
+use Rattle.thread_local_shared_buckets.specs.Views.{ClaimView}
 use Rattle.thread_local_shared_buckets.specs.TableView.{TableView}
 use Rattle.thread_local.specs.Seats.{IsSeated}
 

@@ -2,7 +2,7 @@
 use Rattle.std.proofs.Common.{◌≡◌, ◌∙◌, ℕ, ap}
 use Rattle.thread_local_model.specs.Learnt.{Learnt}
 use Rattle.thread_local_model.specs.Answers.{view_of}
-use Rattle.thread_local_claim.specs.Views.{ClaimView}
+use Rattle.thread_local_shared_buckets.specs.Views.{ClaimView}
 use Rattle.thread_local_shared_buckets.specs.TableView.{TableView}
 use Rattle.thread_local.specs.Seats.{LocalView, local_view, knowing}
 

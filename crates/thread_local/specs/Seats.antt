@@ -7,8 +7,8 @@ use Rattle.std.specs.Coded.{Coded, coded_option, coded_ℕ, coded×, code_by}
 use Rattle.thread_local_model.specs.Answers.{View, GetOr, Answered, Refused, Failed, Says, answer, view_of}
 use Rattle.thread_local_model.specs.Learnt.{Missing}
 use Rattle.thread_local_ids.specs.Views.{TokenView}
-use Rattle.thread_local_claim.specs.Known.{HasLooked}
-use Rattle.thread_local_claim.specs.Views.{ClaimView}
+use Rattle.thread_local_shared_buckets.specs.Known.{HasLooked}
+use Rattle.thread_local_shared_buckets.specs.Views.{ClaimView}
 use Rattle.thread_local_shared_buckets.specs.TableView.{TableView}
 use Rattle.thread_local_shared_buckets.specs.Walks.{Owed}
 

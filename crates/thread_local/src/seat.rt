@@ -15,9 +15,8 @@ use std::fmt;
 use std::marker::Model;
 use std::sync::Wait;
 use thread_local_bucket_pointers::Block;
-use thread_local_claim::Claim;
 use thread_local_ids::{HeldId, Right, Token};
-use thread_local_shared_buckets::Iter;
+use thread_local_shared_buckets::{Claim, Iter};
 use thread_local_thread_id::Thread;
 
 // `get_or` and `get_or_default` stand in seat/lends.rt.

@@ -9,7 +9,7 @@ use std::thread;
 use std::thread::Threads;
 use thread_local::ThreadLocal;
 use thread_local::local::Local;
-use thread_local_claim::Claim;
+use thread_local_shared_buckets::Claim;
 
 /// A claim is handed on as one of a bucket of these values.
 fn handed_on<'s, 'a>(claim: Claim<'a, &'static u64>) -> Claim<'a, &'static u64> {

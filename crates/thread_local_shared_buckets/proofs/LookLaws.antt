@@ -3,9 +3,9 @@ use Rattle.std.proofs.Common.{◌≡◌, ◌≢◌, ℕ, ◌+◌, ◌-◌, ◌*�
 use Rattle.std.proofs.Common.{Option, None, Some, IfSome, refl, ap, sym, ◌∙◌, subst, arith, ⊎_elim, inl, inr}
 use Rattle.std.proofs.lemmas.Bool.{eqb-true, cases_lt, cases_eq}
 use Rattle.thread_local_model.specs.Bits.{is_set, IsWordBut}
-use Rattle.thread_local_claim.specs.Shared.{BucketView}
-use Rattle.thread_local_claim.specs.declared.seen.Seen.{Seen}
-use Rattle.thread_local_claim.specs.declared.row.Row.{Row}
+use Rattle.thread_local_shared_buckets.specs.Shared.{BucketView}
+use Rattle.thread_local_shared_buckets.specs.declared.seen.Seen.{Seen}
+use Rattle.thread_local_shared_buckets.specs.declared.row.Row.{Row}
 use Rattle.thread_local_shared_buckets.specs.declared.steps.Own.{Own}
 use Rattle.thread_local_shared_buckets.specs.declared.steps.Walk.{Walk}
 use Rattle.thread_local_shared_buckets.specs.Positions.{lies_in, is_at, own_index}

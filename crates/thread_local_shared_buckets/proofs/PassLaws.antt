@@ -6,7 +6,7 @@ use Rattle.thread_local_model.specs.Bits.{is_set, IsLowestSet, IsWordBut}
 use Rattle.thread_local_model.specs.Place.{id_at}
 use Rattle.thread_local_model.proofs.Word.{lowest_set}
 use Rattle.std.specs.Int.{w64, trailing_zeros}
-use Rattle.thread_local_claim.specs.declared.seen.Seen.{Seen}
+use Rattle.thread_local_shared_buckets.specs.declared.seen.Seen.{Seen}
 use Rattle.thread_local_bucket_pointers.specs.declared.cursor.RawIter.{RawIter}
 use Rattle.thread_local_shared_buckets.specs.declared.steps.Own.{Own}
 use Rattle.thread_local_shared_buckets.specs.declared.steps.Walk.{Walk}

@@ -31,10 +31,10 @@ use Rattle.thread_local_bucket_pointers.specs.Slots.{heap_token}
 use Rattle.thread_local_bucket_pointers.specs.PointerOwns.{pointer_owns}
 use Rattle.thread_local_bucket_pointers.specs.contracts.bucket_pointer.BucketPointer as plain
 use Rattle.thread_local_bucket_pointers.proofs.bucket_pointer.BucketPointer.TheLaws as plain'
-use Rattle.thread_local_claim.specs.Shared.{BucketView, first, at_rest}
+use Rattle.thread_local_shared_buckets.specs.Shared.{BucketView, first, at_rest}
 use Rattle.thread_local_ids.specs.Told.{all_told_or_untold, whole_row, rows_telling, rows_tell, book_owns}
 use Rattle.thread_local_ids.proofs.Rows.{none_rows, rows_end}
-use Rattle.thread_local_claim.specs.contracts.shared_bucket.SharedBucket as shared
+use Rattle.thread_local_shared_buckets.specs.contracts.shared_bucket.SharedBucket as shared
 use Rattle.thread_local_bucket_pointers.specs.Pointers.{contents_of}
 use Rattle.thread_local_bucket_pointers.specs.contracts.pointer_array.PointerArray as array
 use Rattle.thread_local_bucket_pointers.specs.contracts.bucket_pointers.BucketPointers as all_pointers

@@ -3,9 +3,9 @@ use Rattle.std.specs.Prelude.{◌≡◌, ℕ, ◌≢◌, ◌+◌, ◌-◌, ◌*�
 use Rattle.std.specs.Prelude.{Some, IfSome, MatchOption, Bool, MatchBool}
 use Rattle.thread_local_model.specs.Bits.{is_set, IsWordBut}
 use Rattle.thread_local_model.specs.Place.{id_at}
-use Rattle.thread_local_claim.specs.Shared.{BucketView}
-use Rattle.thread_local_claim.specs.declared.row.Row.{Row}
-use Rattle.thread_local_claim.specs.declared.seen.Seen.{Seen}
+use Rattle.thread_local_shared_buckets.specs.Shared.{BucketView}
+use Rattle.thread_local_shared_buckets.specs.declared.row.Row.{Row}
+use Rattle.thread_local_shared_buckets.specs.declared.seen.Seen.{Seen}
 use Rattle.thread_local_shared_buckets.specs.declared.steps.Own.{Own}
 use Rattle.thread_local_shared_buckets.specs.declared.steps.Walk.{Walk}
 use Rattle.thread_local_shared_buckets.specs.Positions.{Found, resting, lies_in, is_at, OwnIsTold, IsSharedWalk}

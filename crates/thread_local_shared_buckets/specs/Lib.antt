@@ -7,3 +7,7 @@ pub mod Steps
 pub mod Walks
 pub mod Positions
 pub mod AtHand
+pub mod Claims
+pub mod Known
+pub mod Views
+pub mod Shared

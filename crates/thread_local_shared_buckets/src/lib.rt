@@ -1,16 +1,30 @@
-//! The buckets of a table while threads share them, and the walks over them.
+//! The buckets of a table while threads share them. `Shared` has all 63, and `SharedBucket` is one:
+//! a pointer that is null or leads to a block. A `Claim` is the slot of an id, for whoever has the
+//! right to the id. A `Row` is the slots of a block, for any thread, and `Seen` what a look at 64 of
+//! them saw. `Iter`, `Entries` and `Tokens` are the walks.
 #![tactic(auto)]
 
+pub mod claim;
+mod claimed;
 pub mod entries;
 pub mod iter;
 mod parts;
+mod replaced;
+pub mod row;
+pub mod seen;
 pub mod shared;
+pub mod shared_bucket;
 pub mod shown;
 mod steps;
 pub mod tokens;
 
+pub use claim::Claim;
 pub use entries::Entries;
 pub use iter::Iter;
+pub use replaced::replace_with;
+pub use row::Row;
+pub use seen::Seen;
 pub use shared::Shared;
+pub use shared_bucket::SharedBucket;
 pub use shown::Shown;
 pub use tokens::Tokens;

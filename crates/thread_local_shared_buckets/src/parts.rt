@@ -3,9 +3,9 @@
 ghost use Rattle.thread_local_model.specs.Owned.{AreOfFirstBuckets};
 ghost use Rattle.thread_local_shared_buckets.specs.TableView.{TableView, table_view_coded, table_view_of, AreBuckets};
 
+use crate::SharedBucket;
 use std::alloc::Global;
 use std::marker::Model;
-use thread_local_claim::SharedBucket;
 use thread_local_thread_id::BUCKETS;
 
 /// The 63 buckets, by number.

@@ -5,15 +5,15 @@ ghost use Rattle.thread_local_model.specs.Learnt.{Unknown, Missing, Finds};
 ghost use Rattle.thread_local_model.specs.Owned.{IsOwned, AreOfFirstBuckets};
 ghost use Rattle.thread_local_model.specs.Place.{bucket_of, id_at};
 ghost use Rattle.thread_local_judged.specs.Judged.{Judged};
-ghost use Rattle.thread_local_claim.specs.Known.{HasLooked};
+ghost use Rattle.thread_local_shared_buckets.specs.Known.{HasLooked};
 ghost use Rattle.thread_local_shared_buckets.specs.TableView.{TableView, table_view_coded, bucket_view};
 ghost use Rattle.thread_local_shared_buckets.specs.Parts.{parts_own, parts_share};
 
 use crate::parts::SharedParts;
+use crate::{Claim, Row, SharedBucket, replace_with};
 use std::marker::{Move, Owns, PhantomData};
 use thread_local_bucket_pointers::BucketPointers;
 use thread_local_buckets::Buckets;
-use thread_local_claim::{Claim, Row, SharedBucket, replace_with};
 use thread_local_ids::{Book, HeldId, Right, Token};
 use thread_local_thread_id::{BUCKETS, Thread, bucket_size};
 

@@ -7,8 +7,8 @@ ghost use Rattle.thread_local_shared_buckets.specs.Positions.{past, lies_in, own
 ghost use Rattle.thread_local_shared_buckets.specs.AtHand.{IsSetIn, IsGivenBy, IsRowOf, HasLooked, IsWalk, LooksIn, GoesOn, Reaches};
 
 use crate::shared::Shared;
+use crate::{Row, Seen};
 use thread_local_bucket_pointers::{RawIter, flag_word_at, without_first};
-use thread_local_claim::{Row, Seen};
 use thread_local_ids::Witness;
 use thread_local_thread_id::{BUCKETS, Thread};
 

@@ -5,10 +5,9 @@ use std::mem::forget;
 use std::test::Fail;
 use std::thread;
 use thread_local_buckets::Buckets;
-use thread_local_claim::Claim;
 use thread_local_ids::Ids;
 use thread_local_judged::Judge;
-use thread_local_shared_buckets::Shared;
+use thread_local_shared_buckets::{Claim, Shared};
 use thread_local_thread_id::Thread;
 
 impl<T: Drop> Kept<'_, T> {

@@ -10,9 +10,8 @@ use std::sync::Wait;
 use std::test::Fail;
 use thread_local_bucket_pointers::Block;
 use thread_local_buckets::Buckets;
-use thread_local_claim::Claim;
 use thread_local_ids::{HeldId, Ids, Lock, Right};
-use thread_local_shared_buckets::Shared;
+use thread_local_shared_buckets::{Claim, Shared};
 use thread_local_test_helpers::memory::take_all_but;
 
 impl<'a, T> Kept<'a, T> {

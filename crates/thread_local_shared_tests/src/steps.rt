@@ -5,9 +5,8 @@ ghost use Rattle.thread_local_model.specs.Bits.{is_set};
 use std::alloc::Global;
 use thread_local_bucket_pointers::{Block, flag_word_at};
 use thread_local_buckets::Buckets;
-use thread_local_claim::Claim;
 use thread_local_ids::{HeldId, Right};
-use thread_local_shared_buckets::Shared;
+use thread_local_shared_buckets::{Claim, Shared};
 use thread_local_thread_id::Thread;
 
 /// A claim that is given up when this is dropped.

@@ -8,10 +8,9 @@ use std::alloc::Global;
 use std::cell::Cell;
 use std::test::Fail;
 use thread_local_buckets::Buckets;
-use thread_local_claim::Claim;
 use thread_local_ids::{HeldId, Ids, Right, Token};
 use thread_local_judged::{Judge, judge_sync};
-use thread_local_shared_buckets::Shared;
+use thread_local_shared_buckets::{Claim, Shared};
 use thread_local_thread_id::Thread;
 
 /// Publishes a value, and answers a token of what the slot was published with.

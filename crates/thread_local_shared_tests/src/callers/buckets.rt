@@ -6,10 +6,9 @@ use crate::steps::has_bit;
 use std::cell::{Cell, RefCell};
 use thread_local_bucket_pointers::flag_word_at;
 use thread_local_buckets::Buckets;
-use thread_local_claim::{Row, SharedBucket};
 use thread_local_ids::Right;
 use thread_local_judged::{Judge, judge_sync};
-use thread_local_shared_buckets::Shared;
+use thread_local_shared_buckets::{Row, Shared, SharedBucket};
 use thread_local_thread_id::bucket_size;
 
 fn crosses<X: Send + Sync>(_there: &X) {}

@@ -7,8 +7,8 @@ ghost use Rattle.thread_local_model.specs.Place.{bucket_of, IsPlaceOf};
 use std::alloc::Global;
 use std::cell::{Cell, RefCell};
 use thread_local_bucket_pointers::Block;
-use thread_local_claim::{Claim, SharedBucket};
 use thread_local_ids::{HeldId, Right, Token};
+use thread_local_shared_buckets::{Claim, SharedBucket};
 use thread_local_thread_id::Thread;
 
 /// Publishes the value unless the slot holds one.

@@ -1,6 +1,6 @@
 -- The search for these takes half a second.
 use Rattle.std.proofs.Common.{◌≡◌, ◌^◌, ◌<◌, ℕ, Option, None, ap, sym, ◌∙◌, subst}
-use Rattle.thread_local_claim.specs.declared.seen.Seen.{Seen}
+use Rattle.thread_local_shared_buckets.specs.declared.seen.Seen.{Seen}
 use Rattle.thread_local_shared_buckets.specs.declared.steps.Own.{Own}
 use Rattle.thread_local_shared_buckets.specs.Positions.{own_index}
 use Rattle.thread_local_shared_buckets.specs.AtHand.{IsSetIn}

@@ -2,7 +2,7 @@ use Rattle.std.proofs.Common.{◌∙◌, ℕ, Option, sym, ap, subst}
 use Rattle.std.specs.Prelude.{IsSome}
 use Rattle.thread_local_model.specs.Learnt.{Learnt}
 use Rattle.thread_local_model.specs.Answers.{view_of}
-use Rattle.thread_local_claim.specs.Views.{ClaimView}
+use Rattle.thread_local_shared_buckets.specs.Views.{ClaimView}
 use Rattle.thread_local.specs.Seats.{LocalView, local_view, IsSeated}
 use Rattle.thread_local.proofs.seat.Seat.agrees.Goals as goal
 

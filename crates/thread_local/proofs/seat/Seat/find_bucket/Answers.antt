@@ -3,8 +3,8 @@ use Rattle.std.specs.Prelude.{OnOk, OnErr}
 use Rattle.thread_local_model.specs.Place.{IsPlaceOf}
 use Rattle.thread_local_model.specs.Learnt.{Learnt, Unknown, Missing, Standing, Vacant, Holding}
 use Rattle.thread_local_model.specs.Answers.{view_of}
-use Rattle.thread_local_claim.specs.Known.{HasLooked}
-use Rattle.thread_local_claim.specs.Views.{ClaimView}
+use Rattle.thread_local_shared_buckets.specs.Known.{HasLooked}
+use Rattle.thread_local_shared_buckets.specs.Views.{ClaimView}
 use Rattle.thread_local_shared_buckets.specs.TableView.{TableView}
 use Rattle.thread_local.specs.Seats.{LocalView, local_view, knowing, vacant}
 use Rattle.thread_local.proofs.Seated.{with_learnt, now_knowing}

@@ -1,7 +1,7 @@
 use Rattle.std.proofs.Common.{◌≡◌, ◌∙◌, ◌⊎◌, inl, inr, ℕ, Some, None, option_map, sym, ap, lit<}
 use Rattle.thread_local_model.specs.Learnt.{Learnt, Missing, Vacant, Holding}
 use Rattle.thread_local_model.specs.Answers.{view_of}
-use Rattle.thread_local_claim.specs.Views.{ClaimView}
+use Rattle.thread_local_shared_buckets.specs.Views.{ClaimView}
 use Rattle.thread_local_shared_buckets.specs.TableView.{TableView}
 use Rattle.thread_local_shared_buckets.specs.Walks.{WalkView, Owed}
 use Rattle.thread_local.specs.Seats.{LocalView, local_view, own_of}

@@ -2,8 +2,8 @@ use Rattle.std.proofs.Common.{◌≡◌, ℕ, ◌<◌, ◌-◌, ◌^◌, true, S
 use Rattle.thread_local_model.specs.Place.{IsPlaceOf}
 use Rattle.thread_local_model.specs.Learnt.{Learnt, Unknown, Missing, Standing, Vacant, Holding, learnt_by_publish}
 use Rattle.thread_local_model.specs.Answers.{View, view_of}
-use Rattle.thread_local_claim.specs.Known.{HasLooked}
-use Rattle.thread_local_claim.specs.Views.{ClaimView}
+use Rattle.thread_local_shared_buckets.specs.Known.{HasLooked}
+use Rattle.thread_local_shared_buckets.specs.Views.{ClaimView}
 use Rattle.thread_local_shared_buckets.specs.TableView.{TableView}
 use Rattle.thread_local.specs.Seats.{LocalView, local_view, knows, vacant}
 use Rattle.thread_local.proofs.Seated.{now_knowing}

@@ -1,6 +1,6 @@
 -- The search for these takes half a second.
 use Rattle.std.proofs.Common.{ap, sym, ◌∙◌}
-use Rattle.thread_local_claim.specs.Shared.{BucketView}
+use Rattle.thread_local_shared_buckets.specs.Shared.{BucketView}
 use Rattle.thread_local_shared_buckets.proofs.shared.Shared.claim.Goals as goal
 
 pub look-requires-clause-table : goal.look-requires-clause-table

@@ -1,4 +1,0 @@
-pub mod Claims
-pub mod Known
-pub mod Views
-pub mod Shared

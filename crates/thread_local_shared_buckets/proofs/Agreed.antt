@@ -1,0 +1,250 @@
+-- A claim that has looked holds what is told of its id. Assumes `Logic`.
+use Rattle.std.proofs.Common.{◌≡◌, ℕ, ◌+◌, ◌%◌, ◌^◌, ◌<◌, [], ◌∷◌, length, refl, sym, ap, subst, Option, None, Some}
+use Rattle.std.proofs.Common.{IsSome}
+use seplogic.Ra.Ura.{Ura}
+use base.Logic.{SProp, ent, sep, wand, ex, all, guard, upd, never_e}
+use base.Fml.{Lft, GName, Share, Fml, ftrue, ffalse, flft, fbor, finv}
+use prog.Model.{Model}
+use contract.Running.{Running}
+use contract.Shared.{Lends-one}
+use types.Logic.{Logic, sem}
+use types.Kit.{‵, raw, ◌⊛◌, some, given, later, pick, learn, check, ◌$◌, ◌∵◌, !, qed, by, move, keep, drop, split}
+use types.Kit.{split3, rewrite, group, fsplit, fsplit3, fjoin, fjoin3, fpick, fpack, await, updating, now, use1, use2}
+use types.Kit.{use3, done}
+use denote.RattleType.{RattleType}
+use denote.RawPtr.{block_of, count_of}
+use denote.Steps.{nothing}
+use Rattle.thread_local_ids.specs.Rights.{right_owns}
+use Rattle.thread_local_model.specs.Bits.{is_set}
+use Rattle.thread_local_bucket_pointers.specs.Slots.{value_offset}
+use Rattle.thread_local_ids.specs.Told.{tells, untold_in}
+use Rattle.thread_local_ids.proofs.ToldElements.{tells_alike, telling_alike}
+use Rattle.thread_local_model.specs.Learnt.{Learnt, Unknown, Missing, Standing, Vacant, Holding}
+use Rattle.thread_local_shared_buckets.specs.Shared.{name_at, BucketView, Turn, StandingBlock, Who, stays, lies_with_slot, len}
+use Rattle.thread_local_shared_buckets.specs.Shared.{Sized, block_code, bucket_invariant, kept, loaded, value_code}
+use Rattle.thread_local_shared_buckets.specs.Shared as slots
+use Rattle.thread_local_shared_buckets.proofs.Inside.{Next, quietly}
+use Rattle.thread_local_shared_buckets.proofs.Inside as inside
+use Rattle.thread_local_shared_buckets.proofs.SlotSteps as general
+use Rattle.thread_local_shared_buckets.specs.Known.{HasLooked}
+use Rattle.thread_local_shared_buckets.specs.Claims.{ClaimFields, IsOf, IsKept, value_at, has_slot, has, has_at, claim_owns}
+use Rattle.thread_local_shared_buckets.proofs.Moves as moves
+use Rattle.thread_local_shared_buckets.proofs.Early as early
+
+module _ {M : Type 1} {𝓤 : Ura M} (𝓛 : Logic 𝓤) (R : RattleType) (x : R.Denot) where
+  open 𝓛 use {H, A}
+
+  abbrev Pr : Type 2
+  Pr = SProp 𝓤
+
+  abbrev ◌⊢◌ : Pr → Pr → Type 1
+  P ⊢ Q = ent 𝓤 P Q
+
+  abbrev ◌∗◌ : Pr → Pr → Pr
+  P ∗ Q = sep 𝓤 P Q
+
+  abbrev ◌-∗◌ : Pr → Pr → Pr
+  P -∗ Q = wand 𝓤 P Q
+
+  abbrev ⟦◌⟧ : Fml → Pr
+  ⟦ P ⟧ = sem 𝓛 P
+
+  infix 26 ◌⊢◌
+  infixr 35 ◌∗◌
+  infixr 30 ◌-∗◌
+  module _ (d : BucketView) (named : IsSome d.sharing) (t : Turn) (wb wo i k : ℕ)
+      (low : i < len R d) (at_k : k ≡ i + slots.first R d) where
+    abbrev I : Fml
+    I = bucket_invariant R d t wb wo
+
+    abbrev Told : Fml
+    Told = tells R d.sharing k (Some x)
+
+    abbrev Pass : Fml
+    Pass = right_owns t.pass k
+
+    -- nothing is told of the id of an empty slot
+    empty : (Z : Pr) → ⟦ untold_in d.sharing k ⟧ ∗ ⟦ Told ⟧ ⊢ Z
+    empty Z =
+        qed 𝓛 (‵ (untold_in d.sharing k) ∷ ‵ Told ∷ []) ∵
+        use2 𝓛 (given (None ≡ Some x) (‵ (untold_in d.sharing k) ⊛ ‵ Told))
+        (telling_alike 𝓛 R d.sharing named k None x) $
+        learn ! (λ no. absurd (cc))
+
+    -- so no claim of the id has found its bucket missing
+    abbrev Both : Pr
+    Both = ⟦ Pass ⟧ ∗ ⟦ Told ⟧
+
+    abbrev Gone : Pr
+    Gone = upd 𝓤 (⟦ I ⟧ ∗ ⟦ ffalse ⟧)
+
+    unborn_gone : ⟦ early.Unborn 𝓛 R d t wb wo i k low at_k ⟧
+        ∗ (⟦ early.Unborn 𝓛 R d t wb wo i k low at_k ⟧ -∗ ⟦ I ⟧) ∗ Both
+        ⊢ Gone
+    unborn_gone =
+        let U : Fml = early.Unborn 𝓛 R d t wb wo i k low at_k in
+        qed 𝓛 (‵ U ∷ raw (⟦ U ⟧ -∗ ⟦ I ⟧) ∷ (‵ Pass ⊛ ‵ Told) ∷ []) ∵ move ! (2 ∷ []) $ split ! $
+        move ! (2 ∷ []) $ fsplit3 ! $ move ! (1 ∷ []) $ fsplit ! $
+        -- [filled; untold; vacant; what waits; the pass; what is told; the way back]
+        keep ! (1 ∷ 5 ∷ []) $ by ! (empty Gone)
+
+    born_gone : (s : StandingBlock) (l : i < length s.names)
+        → ex 𝓤 (early.Out 𝓛 R d t wb wo i k low at_k s l ⟦ I ⟧) ∗ Both ⊢ Gone
+    born_gone s l =
+        let b : ℕ = block_of s.at in
+        let e : ℕ = value_offset R (count_of s.at) i in
+        let η : GName = name_at s.names i in
+        let bit : ℕ = i % 64 in
+        let S : Option R.Denot → Fml = stays R t b s.block_life d.sharing k e η in
+        let D : Option R.Denot → Who → Fml = lies_with_slot R t b s.block_life d.sharing d.table k e η in
+        let Flags : ℕ → Fml = inside.Flags 𝓛 R d t wb wo s i k e b l at_k refl refl in
+        let Slot : _ → Fml = inside.Slot 𝓛 R d t wb wo s i k e b l at_k refl refl in
+        let Back : (n : ℕ) → Next n bit → Pr =
+        inside.Back 𝓛 R d t wb wo s i k e b l at_k refl refl ⟦ I ⟧ in
+        let Empty : Fml = moves.Holds 𝓛 R t b s.block_life d.sharing d.table k e η None in
+        qed 𝓛 (some (λ (n : ℕ).
+        given (n < 2 ^ 64) (‵ (Flags n) ⊛ ‵ (Slot (is_set n bit)) ⊛ raw (all 𝓤 (Back n))))
+        ∷ (‵ Pass ⊛ ‵ Told) ∷ []) ∵
+        pick ! (λ n. learn ! (λ fits. split3 ! $
+        -- [the word; the slot; the way back; the pass and what is told]
+        move ! (1 ∷ []) $ fsplit ! $ move ! (1 ∷ []) $ fpick ! (λ z. fsplit3 ! $ drop ! $ move ! (5 ∷ []) $ split ! $
+        -- [the pass; what is told; what stands; who has it; the loan; the word; the way back]
+        move ! (2 ∷ 3 ∷ 0 ∷ []) $
+        use3 𝓛 (given (z.0 ≡ None) (‵ (S z.0) ⊛ ‵ (D z.0 slots.claimed) ⊛ ‵ Empty))
+        (moves.early_claims 𝓛 R t b s.block_life d.sharing d.table k e η z.0 z.1) $
+        learn ! (λ none. split ! $
+        rewrite ! 0 (λ (v : Option R.Denot). ‵ (S v)) none refl $ fsplit ! $ keep ! (1 ∷ 3 ∷ []) $ by ! (empty Gone)))))
+
+    missing : (q : Share) → A.inv (fbor t.life I) ∗ A.lft t.life q ∗ Both ⊢ H.⇛ (⟦ ffalse ⟧ ∗ A.lft t.life q)
+    missing q = quietly 𝓛 t.life q I Both ⟦ ffalse ⟧ (early.by_bucket 𝓛 R d t wb wo i k low at_k Both Gone unborn_gone born_gone)
+
+    -- and none that its slot is vacant
+    module _ (s : StandingBlock) (l : i < length s.names) where
+      abbrev b : ℕ
+      b = block_of s.at
+
+      abbrev e : ℕ
+      e = value_offset R (count_of s.at) i
+
+      abbrev Holds : Option R.Denot → Fml
+      Holds = general.Holds 𝓛 R d t wb wo s i k e b l at_k refl refl
+
+      vacant : (q : Share)
+          → A.inv (fbor t.life I) ∗ A.lft t.life q
+          ∗ ⟦ general.Which 𝓛 R d t wb wo s i k e b l at_k refl refl ⟧ ∗ ⟦ Holds None ⟧
+          ∗ ⟦ Told ⟧
+          ⊢ H.⇛ (⟦ ffalse ⟧ ∗ A.lft t.life q)
+      vacant q =
+          let S : Option R.Denot → Fml = general.Stays 𝓛 R d t wb wo s i k e b l at_k refl refl in
+          let D : Option R.Denot → Who → Fml =
+          general.Had 𝓛 R d t wb wo s i k e b l at_k refl refl in
+          general.moved 𝓛 R d t wb wo s i k e b l at_k refl refl q (⟦ Holds None ⟧ ∗ ⟦ Told ⟧)
+          ⟦ ffalse ⟧ (λ v w.
+          let F = general.Left 𝓛 R d t wb wo s i k e b l at_k refl refl v ⟦ ffalse ⟧ in
+          qed 𝓛 (‵ (S v) ∷ ‵ (D v w) ∷ (‵ (Holds None) ⊛ ‵ Told) ∷ []) ∵ move ! (2 ∷ []) $ split ! $
+          move ! (2 ∷ 3 ∷ 0 ∷ []) $
+          use3 𝓛 (given (v ≡ None) (‵ (S v) ⊛ ‵ (D v slots.claimed) ⊛ ‵ (Holds None)))
+          (moves.known 𝓛 R t b s.block_life d.sharing d.table k e (name_at s.names i) v None w) $
+          learn ! (λ none. split ! $
+          rewrite ! 0 (λ (u : Option R.Denot). ‵ (S u)) none refl $ fsplit ! $ keep ! (1 ∷ 3 ∷ []) $ by ! (empty (ex 𝓤 F))))
+
+  module _ (β : Lft) (table : ℕ) (c : ClaimFields) (state : ℕ) (named : IsSome c.sharing) where
+    abbrev Own : Learnt R.Denot → Fml
+    Own l = claim_owns R β table c l state
+
+    abbrev Tells : Fml
+    Tells = tells R c.sharing c.id (Some x)
+
+    abbrev Agreed : Share → Learnt R.Denot → Pr
+    Agreed q l = guard 𝓤 (l ≡ Holding x) (⟦ Own l ⟧ ∗ A.lft β q)
+
+    named_in : (d : BucketView) → d.sharing ≡ c.sharing → IsSome d.sharing
+    named_in d same = subst (λ (z : Option ℕ). IsSome z) (sym same) named
+
+    module _ (z : BucketView × Turn) (of : IsOf R table c z.0) where
+      abbrev J : Fml
+      J = fbor z.1.life (bucket_invariant R z.0 z.1 (block_of c.bucket) (count_of c.bucket + 0))
+
+      abbrev Known : Fml
+      Known = tells R z.0.sharing c.id (Some x)
+
+      -- a claim that has found no value contradicts what is told
+      never_vain : (q : Share)
+          → A.inv J ∗ A.lft z.1.life q ∗ ⟦ has R z.0 z.1 β c Missing ⟧ ∗ ⟦ Known ⟧
+          ⊢ H.⇛ (⟦ ffalse ⟧ ∗ A.lft z.1.life q)
+      never_vain q =
+          qed 𝓛 (‵ (finv J) ∷ ‵ (flft z.1.life q) ∷ ‵ (has R z.0 z.1 β c Missing) ∷ ‵ Known ∷ []) ∵
+          move ! (2 ∷ []) $ fsplit ! $ drop ! $ move ! (1 ∷ 2 ∷ 0 ∷ 3 ∷ []) $
+          by ! (missing z.0 (named_in z.0 of.6) z.1 (block_of c.bucket) (count_of c.bucket + 0) c.index c.id of.4 of.3 q)
+
+      never_vacant : (q : Share)
+          → A.inv J ∗ A.lft z.1.life q ∗ ⟦ has R z.0 z.1 β c Vacant ⟧ ∗ ⟦ Known ⟧
+          ⊢ H.⇛ (⟦ ffalse ⟧ ∗ A.lft z.1.life q)
+      never_vacant q =
+          qed 𝓛 (‵ (finv J) ∷ ‵ (flft z.1.life q) ∷ ‵ (has R z.0 z.1 β c Vacant) ∷ ‵ Known ∷ []) ∵
+          move ! (2 ∷ []) $ fpick ! (λ s. fsplit ! $ fpick ! (λ at. drop ! $ fsplit ! $ fsplit3 ! $
+          fpick ! (λ sized. drop ! $
+          -- [what is known of the block; it lasts; what the slot holds; the invariant; the token;
+          -- what is told]
+          let l : c.index < length s.names = subst (λ (n : ℕ). c.index < n) (sym sized.0) of.4 in
+          move ! (3 ∷ 4 ∷ 0 ∷ 2 ∷ 5 ∷ []) $ keep ! (0 ∷ 1 ∷ 2 ∷ 3 ∷ 4 ∷ []) $
+          by ! (vacant z.0 (named_in z.0 of.6) z.1 (block_of c.bucket) (count_of c.bucket + 0)
+          c.index c.id of.4 of.3 s l q))))
+
+    module _ {𝓜 : Model 𝓤 H} (𝓡 : Running 𝓤 H 𝓜) where
+      never : (l : Learnt R.Denot) (q : Share) (Z : Pr)
+          → ((z : BucketView × Turn) (of : IsOf R table c z.0) (r : Share)
+          → A.inv (J z of) ∗ A.lft z.1.life r ∗ ⟦ has R z.0 z.1 β c l ⟧ ∗ ⟦ Known z of ⟧
+          ⊢ H.⇛ (⟦ ffalse ⟧ ∗ A.lft z.1.life r))
+          → ⟦ Own l ⟧ ∗ ⟦ Tells ⟧ ∗ A.lft β q ⊢ H.⇛ Z
+      never l q Z law =
+          qed 𝓛 (‵ (Own l) ∷ ‵ Tells ∷ ‵ (flft β q) ∷ []) ∵ updating ! $ fsplit ! $ drop ! $
+          fpick ! (λ z. fsplit ! $ fpick ! (λ of. drop ! $ fsplit ! $ fsplit ! $
+          let life : Lft = z.1.life in
+          -- [the sharing lasts; the invariant; what the claim has; what is told; the token]
+          move ! (0 ∷ 4 ∷ []) $
+          use2 𝓛 (later (some (λ (r : Share).
+          ‵ (flft life r) ⊛ raw (wand 𝓤 (A.lft life r) (H.⇛ (A.lft β q))))))
+          (Lends-one 𝓛 𝓜 𝓡 β life q) $
+          await ! tt $ pick ! (λ r. split ! $
+          move ! (4 ∷ []) $
+          rewrite ! 0 (λ (k : Option ℕ). ‵ (tells R k c.id (Some x))) (sym of.6) refl $
+          move ! (3 ∷ 1 ∷ 4 ∷ 0 ∷ []) $ group ! 4 $
+          use1 𝓛 (later (‵ ffalse ⊛ ‵ (flft life r))) (law z of r) $ await ! tt $ split ! $
+          use1 𝓛 (given ⊥ (‵ ftrue)) (never_e 𝓤 _) $ learn ! (λ no. absurd no))))
+
+      agreed : (y : R.Denot) (q : Share) → ⟦ Own (Holding y) ⟧ ∗ ⟦ Tells ⟧ ∗ A.lft β q ⊢ Agreed q (Holding y)
+      agreed y q =
+          qed 𝓛 (‵ (Own (Holding y)) ∷ ‵ Tells ∷ ‵ (flft β q) ∷ []) ∵ fsplit ! $ fpick ! (λ kept_so.
+          drop ! $ fpick ! (λ z. fsplit ! $ fpick ! (λ of. drop ! $ fsplit ! $ move ! (1 ∷ []) $
+          fpick ! (λ s. fsplit ! $ fpick ! (λ at. drop ! $ fsplit ! $ move ! (1 ∷ []) $ fsplit3 ! $
+          move ! (1 ∷ []) $ fsplit ! $ move ! (6 ∷ []) $
+          rewrite ! 0 (λ (k : Option ℕ). ‵ (tells R k c.id (Some x))) (sym of.6) refl $
+          move ! (2 ∷ 0 ∷ []) $
+          use2 𝓛 (given (Some y ≡ Some x)
+          (‵ (tells R z.0.sharing c.id (Some y)) ⊛ ‵ (tells R z.0.sharing c.id (Some x))))
+          (tells_alike 𝓛 R z.0.sharing (named_in z.0 of.6) c.id (Some y) (Some x)) $
+          learn ! (λ same. split ! $
+          -- [what is told, twice; the pin; filled; by; the row; kept; the token]
+          move ! (2 ∷ 0 ∷ []) $ fjoin ! $ move ! (2 ∷ 0 ∷ 3 ∷ []) $ fjoin3 ! $ move ! (2 ∷ 0 ∷ []) $
+          fjoin ! $ nothing ! $ fpack ! (c.at ≡ value_at R s.at c.index) (λ _. ftrue) at $ fjoin ! $
+          fpack ! StandingBlock (has_slot R z.0 z.1 β c (Some y)) s $
+          move ! (2 ∷ 0 ∷ []) $ fjoin ! $ nothing ! $ fpack ! (IsOf R table c z.0) (λ _. ftrue) of $
+          fjoin ! $ fpack ! (BucketView × Turn) (has_at R β table c (Holding y)) z $
+          nothing ! $ fpack ! (IsKept R state (Holding y)) (λ _. ftrue) kept_so $ fjoin ! $
+          check !
+          (ap (λ (o : Option R.Denot).
+          elim o as (λ _. Learnt R.Denot) [ None ↦ Vacant | Some v ↦ Holding v ])
+          same) $
+          keep ! (0 ∷ 2 ∷ []) $ done !))))))
+
+      -- what a claim that has looked holds is what is told of its id
+      pub agrees : (l : Learnt R.Denot) → HasLooked l → (q : Share)
+          → ⟦ Own l ⟧ ∗ ⟦ Tells ⟧ ∗ A.lft β q ⊢ H.⇛ (Agreed q l)
+      agrees Unknown known q = absurd known
+      agrees Missing known q = never Missing q (Agreed q Missing) never_vain
+      agrees Standing known q = absurd known
+      agrees Vacant known q = never Vacant q (Agreed q Vacant) never_vacant
+      agrees (Holding y) known q =
+          qed 𝓛 (‵ (Own (Holding y)) ∷ ‵ Tells ∷ ‵ (flft β q) ∷ []) ∵ updating ! $
+          use3 𝓛 (raw (Agreed q (Holding y))) (agreed y q) $ now ! $ done !

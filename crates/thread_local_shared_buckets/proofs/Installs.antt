@@ -1,0 +1,92 @@
+-- A claim that found its bucket missing has its slot, which is empty, once a block stands. Assumes
+-- `Logic`.
+use Rattle.std.proofs.Common.{◌≡◌, ℕ, ◌+◌, ◌<◌, Bool, [], ◌∷◌, length, refl, sym, subst, Option, None}
+use seplogic.Ra.Ura.{Ura}
+use base.Logic.{SProp, ent, sep}
+use base.Fml.{Lft, Share, Fml, ftrue, fbor, flft, fres, finv}
+use base.Before.{before}
+use types.Logic.{Logic, sem}
+use types.Na.{before_dup}
+use types.Kit.{‵, ◌⊛◌, later, ◌$◌, ◌∵◌, !, qed, move, drop, split, rewrite, group, fsplit, fjoin, fpick, fpack, await}
+use types.Kit.{updating, now, use1, use2, done}
+use denote.RattleType.{RattleType}
+use denote.RawPtr.{Ptr, block_ptr}
+use denote.Steps.{nothing}
+use Rattle.thread_local_ids.specs.Rights.{right_owns}
+use Rattle.thread_local_bucket_pointers.specs.Slots.{value_offset}
+use Rattle.thread_local_model.specs.Fact.{fact}
+use Rattle.thread_local_shared_buckets.specs.Shared.{BucketView, Turn, StandingBlock, Sized, block_code, len, bucket_invariant, kept, loaded}
+use Rattle.thread_local_shared_buckets.proofs.Loads.{part, reaches}
+use Rattle.thread_local_model.specs.Learnt.{Vacant}
+use Rattle.thread_local_shared_buckets.specs.Claims.{ClaimFields, claim_fields, IsOf, IsKept, value_at, has_slot, has_at, claim_owns}
+use Rattle.thread_local_shared_buckets.proofs.ClaimSteps as steps
+
+module _ {M : Type 1} {𝓤 : Ura M} (𝓛 : Logic 𝓤) (R : RattleType) (d : BucketView) (t : Turn)
+    (β : Lft) (wb wo pb o id i : ℕ) (sharing : Option ℕ) (reserved : Bool) where
+  open 𝓛 use {H, A}
+
+  abbrev Pr : Type 2
+  Pr = SProp 𝓤
+
+  abbrev ◌⊢◌ : Pr → Pr → Type 1
+  P ⊢ Q = ent 𝓤 P Q
+
+  abbrev ◌∗◌ : Pr → Pr → Pr
+  P ∗ Q = sep 𝓤 P Q
+
+  abbrev ⟦◌⟧ : Fml → Pr
+  ⟦ P ⟧ = sem 𝓛 P
+
+  infix 26 ◌⊢◌
+  infixr 35 ◌∗◌
+  abbrev w : Ptr
+  w = block_ptr wb wo
+
+  abbrev p : Ptr
+  p = block_ptr pb o
+
+  -- the claim once the block stands
+  abbrev pub Now : ClaimFields
+  Now = claim_fields id i w (value_at R p i) sharing reserved
+
+  pub installs : (table : ℕ) (q : Share) (zz : StandingBlock × Share) → IsOf R table Now d →
+      ⟦ part 𝓛 R d t p zz ⟧ ∗ ⟦ kept R d t wb (wo + 0) β ⟧ ∗ A.lft t.life q
+      ∗ ⟦ right_owns t.pass id ⟧
+      ⊢ H.⇛ (A.lft t.life q ∗ ⟦ claim_owns R β table Now Vacant 1 ⟧)
+  installs table q zz of =
+      let J : Fml = fbor t.life (bucket_invariant R d t wb (wo + 0)) in
+      let none : Option R.Denot = None in
+      let e : ℕ = value_offset R o i in
+      qed 𝓛 (‵ (part 𝓛 R d t p zz) ∷ ‵ (kept R d t wb (wo + 0) β) ∷ ‵ (flft t.life q)
+      ∷ ‵ (right_owns t.pass id) ∷ []) ∵
+      updating ! $ move ! (1 ∷ []) $ fsplit ! $
+      use1 𝓛 (‵ (before β t.life) ⊛ ‵ (before β t.life)) (before_dup 𝓛 β t.life) $ split ! $
+      move ! (2 ∷ []) $ use1 𝓛 (‵ (finv J) ⊛ ‵ (finv J)) (𝓛.invs.inv_dup J) $ split ! $
+      -- [the invariant, twice; before, twice; the part; the token; the pass]
+      move ! (4 ∷ 2 ∷ []) $
+      use2 𝓛 (later (‵ (fact ((zz.0.at ≡ p) × Sized R (len R d) p)) ⊛ ‵ (loaded R d t zz.0 β)))
+      (reaches 𝓛 R d t β p zz) $
+      await ! tt $ split ! $ fpick ! (λ there. drop ! $
+      let s : StandingBlock = record zz.0 { at = p } in
+      rewrite ! 0 (λ (k : StandingBlock). ‵ (loaded R d t k β))
+      (λ j. record zz.0 { at = there.0 j }) refl $
+      fsplit ! $ fpick ! (λ sized. move ! (1 ∷ []) $ fsplit ! $
+      use1 𝓛 (‵ (fres t.which (block_code s)) ⊛ ‵ (fres t.which (block_code s)))
+      (𝓛.names.res_dup t.which (block_code s)) $
+      split ! $ move ! (1 ∷ 2 ∷ []) $ fjoin ! $ move ! (2 ∷ []) $
+      fpack ! ((length s.names ≡ len R d) × Sized R (len R d) s.at) (λ _. ftrue) sized $ move ! (0 ∷ 1 ∷ []) $ fjoin ! $
+      -- [the row; which block it is; the invariant, twice; before; the token; the pass]
+      let low : i < length s.names = subst (λ (n : ℕ). i < n) (sym sized.0) of.4 in
+      let Empty : Fml = steps.Holds 𝓛 R d t wb (wo + 0) s i id e pb low of.3 refl refl none in
+      move ! (2 ∷ 5 ∷ 1 ∷ 6 ∷ []) $ group ! 4 $
+      use1 𝓛 (later (‵ Empty ⊛ ‵ (flft t.life q)))
+      (steps.comes_in 𝓛 R d t wb (wo + 0) s i id e pb low of.3 refl refl q) $
+      await ! tt $ split ! $
+      -- [what the slot holds; the token; the row; the invariant; before]
+      move ! (2 ∷ 0 ∷ []) $ fjoin ! $ nothing ! $
+      fpack ! (value_at R p i ≡ value_at R s.at i) (λ _. ftrue) refl $ fjoin ! $
+      fpack ! StandingBlock (has_slot R d t β Now none) s $
+      move ! (3 ∷ 2 ∷ []) $ fjoin ! $ fjoin ! $ nothing ! $
+      fpack ! (IsOf R table Now d) (λ _. ftrue) of $ fjoin ! $
+      fpack ! (BucketView × Turn) (has_at R β table Now Vacant) (d, t) $
+      nothing ! $ fpack ! (IsKept R 1 Vacant) (λ _. ftrue) refl $ fjoin ! $ move ! (1 ∷ 0 ∷ []) $ now ! $ done !))

@@ -1,0 +1,17 @@
+-- A claimed slot may go to another thread if its values may.
+use denote.RattleType.{RattleType}
+use denote.Ref.{NamedLft}
+use denote.Param.Send.{IsSend}
+use Rattle.thread_local_shared_buckets.specs.Claims.{claim_fields}
+use Rattle.thread_local_shared_buckets.specs.contracts.claimed.ClaimedSlot.{the_row}
+use Rattle.thread_local_shared_buckets.proofs.Sent.{claim_keyless}
+
+pub send : (a : NamedLft) (T : RattleType) → IsSend T → IsSend (the_row a T)
+send a T s = record {
+  owned = λ d vs. (
+    (λ vss. (tt, (tt, ((tt, tt), ((λ uss. (tt, tt)), tt))))),
+    claim_keyless T s a.lft d.table (claim_fields d.id d.index d.bucket d.at d.sharing d.reserved)
+        d.learnt d.state,
+  );
+  leaving = λ k f vs. tt;
+}

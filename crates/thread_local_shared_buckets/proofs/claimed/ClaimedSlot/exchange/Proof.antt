@@ -1,0 +1,388 @@
+-- `exchange` lends the block for a lifetime of its own, and ends that lifetime if another block was
+-- installed first. Either way the claim finds its slot empty.
+use Rattle.thread_local_model.proofs.Names.{fpack, vint, w64, usize, uint_vals, uint_Tells, yes, ◌≡◌, ℕ, ◌+◌, ◌^◌}
+use Rattle.thread_local_model.proofs.Names.{false, sem, List, [], ◌∷◌, refl, sym, ap, ◌∙◌, lit<, Option, None, Some}
+use Rattle.thread_local_model.proofs.Names.{Body, a_type, Val, vptr, vcons, vnil, inst_fn, dnil, SProp, wand, emp, via}
+use Rattle.thread_local_model.proofs.Names.{apply∗, Lft, Share, Fml, ftrue, fsep, flft, fbor, ‵, raw, ◌⊛◌, some, given}
+use Rattle.thread_local_model.proofs.Names.{later, mean, at_ret, any_q, ◌$◌, ◌∵◌, !, qed, by, move, keep, drop, split}
+use Rattle.thread_local_model.proofs.Names.{join, fsplit, fsplit3, fjoin, fpick, pick, learn, rewrite, use0, use1}
+use Rattle.thread_local_model.proofs.Names.{use2, use3, await, group, stop, fld, addr, lit, of_opd, no_more, and_then}
+use Rattle.thread_local_model.proofs.Names.{first, blocks, exec, switches_on, returns, enter, alloc_all, pass_all}
+use Rattle.thread_local_model.proofs.Names.{free_all, look_at, get, get_in, get_tag, through, sets, sets_last}
+use Rattle.thread_local_model.proofs.Names.{lands_last, env, is, agg, sub, whole, live, vrt, in_variant, tables, fact}
+use Rattle.thread_local_model.proofs.Names.{fact_i, no, RattleType, owns, types_at, plain, Ptr, block_ptr, null_ptr}
+use Rattle.thread_local_model.proofs.Names.{block_of, count_of, at_block, InBlock, ptr_val, nothing, heard, param}
+use Rattle.thread_local_model.proofs.Names.{layout, Stays, stay_dropped, walk_of, Goes-dropped, proved, leaves, fm}
+use Rattle.thread_local_model.proofs.Names.{after, u64}
+use Rattle.std.proofs.Common.{IfSome, length, ◌*◌, ◌<◌, subst}
+use Rattle.std.proofs.lemmas.List.{length-replicate}
+use seplogic.Ra.Ura.{Ura}
+use mir.Syntax.{Ty}
+use base.Logic.{ent, guard}
+use types.Logic.{Logic}
+use types.Kit.{check, done}
+use types.Run.{bin, size_word}
+use mir.Val.{vnull}
+use base.Logic.{snd∗, never}
+use base.Fml.{finv, ffalse}
+use base.Before.{before}
+use prog.Wp.{Wp, after_seq, at_return}
+use types.Na.{before_dup}
+use types.Run.{Calls-last}
+use contract.Shared.{Lends-one}
+use denote.Signature.{named_lft}
+use denote.RawPtr.{RawPtr, in_a_block}
+use denote.Param.{bounded}
+use denote.Struct.Tuple.{Tuple}
+use Rattle.std.proofs.ResultValues.{and_tt}
+use Rattle.std.proofs.option.Made.{Some-of, none_of}
+use Rattle.std.proofs.alloc.Shapes.{head, arm_body}
+use Rattle.std.proofs.cell.Inside.{Good}
+use Rattle.std.proofs.raw_atomic.Calls.{seq_cst}
+use Rattle.std.proofs.raw_atomic.PtrCalls as calls
+use Rattle.std.proofs.raw_atomic.PtrCalls.{seq_cst_good}
+use Rattle.std.specs.contracts.option.Option as Opt
+use Rattle.std.specs.declared.result.Result.TheVariants.{Ok, Err}
+use Rattle.std.specs.contracts.alloc.Global as heap
+use Rattle.std.specs.contracts.impls.GlobalAllocator.TheImpl.{ghosts}
+use Rattle.thread_local_model.specs.Place.{bucket_of}
+use Rattle.thread_local_model.proofs.PlaceLaws.{place-id_at}
+use Rattle.thread_local_bucket_pointers.specs.Slots.{block_owns, empty_slots, stride, Fits}
+use Rattle.thread_local_bucket_pointers.proofs.Flags.{value_near}
+use Rattle.thread_local_model.specs.Fact.{fact as said_fact}
+use Rattle.thread_local_bucket_pointers.specs.contracts.block.Block as block
+use Rattle.thread_local_bucket_pointers.proofs.Fields as fields
+use Rattle.thread_local_shared_buckets.specs.Shared.{BucketView, Turn, StandingBlock, len, bucket_invariant}
+use Rattle.thread_local_shared_buckets.proofs.Loads.{glimpse}
+use Rattle.thread_local_shared_buckets.proofs.Offers as offers
+use Rattle.thread_local_shared_buckets.proofs.RowFields.{word_laws}
+use Rattle.thread_local_model.proofs.Pairs.{both, pair_in}
+use Rattle.thread_local_model.specs.Learnt.{Learnt, Missing, Vacant}
+use Rattle.thread_local_shared_buckets.specs.Claims.{ClaimFields, claim_fields, IsOf, value_at, has, claim_owns}
+use Rattle.thread_local_shared_buckets.specs.contracts.claimed.ClaimedSlot as claim
+use Rattle.thread_local_shared_buckets.specs.contracts.claimed.ClaimedSlot.exchange.{ended, clauses}
+use Rattle.thread_local_shared_buckets.specs.contracts.claimed.ClaimedSlot.exchange.Key.{name as #self}
+use Rattle.thread_local_shared_buckets.proofs.Installs.{installs}
+use Rattle.thread_local_shared_buckets.proofs.ClaimedFields.{Kept, kept_of, value_of, FieldsType, fields_of, told, in_word, made, typed}
+use Rattle.thread_local_shared_buckets.proofs.ClaimedFields.{lies_at, spaced, spaced_is}
+use Rattle.thread_local_shared_buckets.proofs.claimed.ClaimedSlot.exchange.Statement.{statement}
+use Rattle.thread_local_shared_buckets.proofs.claimed.ClaimedSlot.exchange.Code as code
+
+-- a block whose slots are all empty fits in memory
+fits_so : {M : Type 1} {𝓤 : Ura M} (𝓛 : Logic 𝓤) (R : RattleType) (token : Ty → Ptr → Fml) (p : Ptr)
+    (n : ℕ)
+    → ent 𝓤 (sem 𝓛 (block_owns R token p (empty_slots n) 0))
+    (guard 𝓤 (Fits R n) (sem 𝓛 (block_owns R token p (empty_slots n) 0)))
+fits_so 𝓛 R token p n =
+    let none : Option R.Denot = None in
+    qed 𝓛 (‵ (block_owns R token p (empty_slots n) 0) ∷ []) ∵ fsplit ! $ fpick ! (λ so. drop ! $
+    check ! (subst (Fits R) (length-replicate n none) so.1) $
+    nothing ! $ fpack ! (InBlock p × Fits R (length (empty_slots n))) (λ _. ftrue) so $ fjoin ! $ done !)
+
+pub exchange_spec : {M : Type 1} → statement M
+exchange_spec 𝓤 𝓛 𝓜 𝓡 wired X L =
+    let H = 𝓛.H in
+    let 𝓣 = tables 𝓤 H 𝓜 𝓡 𝓡.env in
+    let R : RattleType = param 0 X in
+    let En = ended X in
+    let c = clauses X 𝓛 𝓜.mem 𝓡.returns in
+    let inst = bounded (a_type ∷ []) (X, tt) dnil in
+    let fn = inst_fn inst code.function in
+    let closed = code.unfolded 𝓤 H 𝓜 𝓡 wired (X, tt) in
+    let Z : RattleType = heap.the_row in let Bl : RattleType = block.the_row R Z ghosts in let Back : RattleType = Opt.the_row Bl in
+    let self = plain (λ κs. claim.the_row (named_lft 2 0 tt κs) R) in let number = plain (λ _. usize) in let lot = plain (λ _. Bl) in
+    let hs : Stays En.signature.params En.kept = (stay_dropped self no, (stay_dropped number yes, (stay_dropped lot no, tt))) in
+    proved 𝓛 En hs c 𝓜 𝓡 (
+      Goes-dropped 𝓛 2 self no (λ κs x f. refl),
+      (
+        Goes-dropped 𝓛 2 number yes (λ κs x f. refl),
+        (Goes-dropped 𝓛 2 lot no (λ κs x f. refl), tt),
+      ),
+    )
+    (#self inst) fn closed
+    (λ κs.
+    ((λ x. value_of (kept_of x) ∷ []), (uint_vals w64, ((λ x. fields.block_val x.at ∷ []), tt))))
+    (λ κs. (
+      (λ x vs so. told (named_lft 2 0 tt κs) R (kept_of x) vs so.0),
+      (uint_Tells w64, ((λ x vs so. fields.told R Z ghosts x.at vs so.0), tt)),
+    ))
+    (λ κs qs bounds a gh are.
+    let h = a.0 in
+    let β : Lft = κs.0 in
+    let q : Share = qs.0 in
+    let others : Fml = fsep (flft κs.1.0 qs.1.0) ftrue in
+    let ℓ = named_lft 2 0 tt κs in
+    let G : RattleType = claim.the_row ℓ R in
+    let u₀ : Val = value_of (kept_of h) in
+    let ix : ℕ = a.1.0 in
+    let x : Bl.Denot = a.1.1.0 in
+    let p : Ptr = x.at in
+    let nb : ℕ = block_of p in
+    let no' : ℕ = count_of p in
+    let new : Ptr = block_ptr nb no' in
+    let bv : Val = fields.block_val p in
+    let Res : Type 0 = G.Denot × Back.Denot in
+    let Out : RattleType = Tuple (G ∷ Back ∷ []) in
+    let Pair : RattleType = Tuple (RawPtr ∷ Back ∷ []) in
+    let F₁ : Res → Type 0 = λ r.
+    (r.0.table ≡ h.table) × (◌≡◌ {A = Option ℕ} r.0.sharing h.sharing) × (r.0.id ≡ h.id)
+    × (r.0.index ≡ h.index) in
+    let F₂ : Res → Type 0 = λ r. (r.0.learnt ≡ Vacant) × (r.0.reserved ≡ h.reserved) in
+    let F₃ : Res → Type 0 =
+    λ r. IfSome r.1 (λ back. (back.heap ≡ x.heap) × (back.slots ≡ x.slots) × (back.left ≡ 0)) in
+    let Made : Type 0 = (x.slots ≡ empty_slots (2 ^ bucket_of h.id)) × (x.left ≡ 0) in let none : Option X.Denot = None in
+    let w : Ptr = h.bucket in
+    let wb : ℕ = block_of w in
+    let wo : ℕ = count_of w in
+    let i : ℕ = h.index in
+    let pl : ClaimFields = claim_fields h.id i w h.at h.sharing h.reserved in
+    let y : (walk_of 𝓛 En hs c).Ghost =
+    ((κs, qs, bounds, a, (u₀ ∷ [], (vint w64 ix ∷ [], (bv ∷ [], tt)))), gh) in
+    let Post : Val → SProp 𝓤 = (walk_of 𝓛 En hs c).post y in
+    qed 𝓛 (((‵ (flft β q) ⊛ ‵ others) ⊛ ‵ (owns (types_at En.signature.params κs) a y.0.4))
+    ∷ raw (fact 𝓤 _) ∷ raw (fact 𝓤 (h.learnt ≡ Missing)) ∷ raw (fact 𝓤 (ix ≡ i))
+    ∷ raw (fact 𝓤 Made) ∷ []) ∵
+    keep ! (2 ∷ 3 ∷ 4 ∷ 0 ∷ []) $ heard ! (h.learnt ≡ Missing) (λ gone.
+    heard ! (ix ≡ i) (λ is_index. heard ! Made (λ blank. split ! $ split ! $ move ! (2 ∷ []) $
+    fsplit3 ! $ fsplit ! $ move ! (3 ∷ []) $ fsplit ! $ fsplit ! $ keep ! (4 ∷ 6 ∷ 7 ∷ 1 ∷ []) $
+    enter ! 𝓣.C 𝓣.Λ fn (u₀ ∷ vint w64 ix ∷ bv ∷ []) Post $ alloc_all ! (λ l.
+    pass_all ! refl (
+      typed (kept_of h) (in_word ℓ R (kept_of h) (u₀ ∷ []) are.0.0),
+      ((tt, record { fits = are.1.0.1 }), (fields.block_good p, tt)),
+    ) $
+    let Ev = env fn.locals l in
+    -- [what the claim owns; the token; the other tokens; the block]
+    fsplit ! $ drop ! $ fpick ! (λ z. fsplit ! $ fpick ! (λ of. drop ! $ fsplit ! $
+    move ! (1 ∷ []) $
+    let d : BucketView = z.0 in
+    let t : Turn = z.1 in
+    let at : w ≡ block_ptr wb wo = at_block w of.0 in
+    rewrite ! 0 (λ (k : Learnt X.Denot). ‵ (has R d t β pl k)) gone refl $ fsplit ! $ fpick ! (λ leads. drop ! $
+    let J : Fml = fbor t.life (bucket_invariant R d t wb (wo + 0)) in
+    let Blank : Ptr → Fml =
+    λ u. block_owns R (ghosts.dealloc_token x.heap) u (empty_slots (len R d)) 0 in
+    let Owned : ℕ → ℕ → Fml = λ pb o.
+    claim_owns R β h.table
+    (claim_fields h.id i (block_ptr wb wo) (value_at R (block_ptr pb o) i) h.sharing h.reserved)
+    Vacant 1 in
+    let is_of : (u : Ptr)
+    → IsOf R h.table (claim_fields h.id i (block_ptr wb wo) u h.sharing h.reserved) d =
+    λ u. (tt, of.1, of.2, of.3, of.4, of.5, of.6) in
+    let same : bucket_of h.id ≡ d.bucket = ap bucket_of (lies_at R d h.id i of.3) ∙ (place-id_at d.bucket i of.4).0 in
+    move ! (1 ∷ []) $ fsplit ! $ use1 𝓛 (‵ (before β t.life) ⊛ ‵ (before β t.life)) (before_dup 𝓛 β t.life) $ split ! $
+    -- [before, twice; the invariant; the pass; the token; the other tokens; the block]
+    move ! (0 ∷ 4 ∷ []) $
+    use2 𝓛 (later (some (λ (s : Share).
+    ‵ (flft t.life s) ⊛ raw (wand 𝓤 (𝓛.A.lft t.life s) (H.⇛ (𝓛.A.lft β q))))))
+    (Lends-one 𝓛 𝓜 𝓡 β t.life q) $
+    await ! tt $ pick ! (λ s. split ! $
+    -- [the life's token; the way back; before; the invariant; the pass; the other tokens; the
+    -- block]
+    move ! (3 ∷ []) $ use1 𝓛 (‵ (finv J) ⊛ ‵ (finv J)) (𝓛.invs.inv_dup J) $ split ! $ move ! (4 ∷ 1 ∷ []) $ fjoin ! $
+    -- [the sharing lasts; the invariant; the life's token; the way back; the pass; the other
+    -- tokens; the block]
+    move ! (6 ∷ []) $ rewrite ! 0 (λ (m : ℕ). ‵ (block_owns R (ghosts.dealloc_token x.heap) p x.slots m)) blank.1 refl $
+    rewrite ! 0
+    (λ (cs : List (Option X.Denot)). ‵ (block_owns R (ghosts.dealloc_token x.heap) p cs 0))
+    (blank.0 ∙ ap (λ (n : ℕ). empty_slots (2 ^ n)) same) refl $
+    use1 𝓛 (given (Fits R (len R d)) (‵ (Blank p)))
+    (fits_so 𝓛 R (ghosts.dealloc_token x.heap) p (len R d)) $
+    learn ! (λ fits.
+    let close : i * stride R < 2 ^ 64 = value_near R (len R d) i fits of.4 in
+    let close_at : ix * stride R < 2 ^ 64 =
+    subst (λ (n : ℕ). n * stride R < 2 ^ 64) (sym is_index) close in
+    use1 𝓛 (given (InBlock p) (‵ (Blank p))) (offers.placed 𝓛 R t d x.heap p) $ learn ! (λ lies.
+    let e : p ≡ new = at_block p lies in
+    rewrite ! 0 (λ (u : Ptr). ‵ (Blank u)) e refl $
+    use1 𝓛 (later (some (λ (zn : StandingBlock).
+    given (offers.Lies 𝓛 R t d x.heap new zn) (‵ (offers.private 𝓛 R t d x.heap new zn)))))
+    (offers.lend_out 𝓛 R t d x.heap new) $
+    await ! tt $ pick ! (λ zn. learn ! (λ so.
+    let won₀ : Ptr → Fml = offers.won 𝓛 R t d x.heap wb (wo + 0) s nb no' zn so in
+    let lost₀ : Ptr → Fml = offers.lost 𝓛 R t d x.heap wb (wo + 0) s nb no' zn so in
+    let won : Ptr → Fml = λ u. fsep (flft t.life s) (won₀ u) in
+    let lost : Ptr → Fml = λ u. fsep (flft t.life s) (lost₀ u) in
+    -- [the private block; the sharing lasts; the invariant; the life's token; the way back; the
+    -- pass; the other tokens]
+    sets ! (is ! (of_opd ! (get_in ! (fld ! refl (stop !)) (sub ! 0 refl (whole !))))
+    (ap ptr_val (leads ∙ at)))
+    refl (tt, tt) $
+    sets ! (of_opd ! (get ! refl)) refl (tt, tt) $
+    sets ! (is ! (of_opd ! (get_in ! (fld ! refl (stop !)) (sub ! 0 refl (whole !)))) (ap ptr_val e)) refl (tt, tt) $
+    first ! $ blocks ! $ sets ! (addr ! (through ! refl (fld ! refl (stop !)))) refl (tt, tt) $
+    sets ! (of_opd ! (get ! refl)) refl (tt, tt) $
+    sets ! (agg ! (and_then ! (lit ! tt) (no_more !))) refl seq_cst_good $
+    sets ! (agg ! (and_then ! (lit ! tt) (no_more !))) refl seq_cst_good $ move ! (2 ∷ 3 ∷ 0 ∷ []) $
+    use3 𝓛
+    (raw (𝓣.C _ (vptr wb (wo + 0) ∷ vnull ∷ vptr nb no' ∷ seq_cst ∷ seq_cst ∷ [])
+    (λ u. mean 𝓛 (calls.answered 𝓛 won lost u))))
+    (via 𝓤 _ (offers.offers 𝓛 R t d x.heap wb (wo + 0) s nb no' zn so)
+    (calls.exchanges 𝓛 𝓜 𝓡 (code.calls-std::sync::atomic::raw::ptr::compare_exchange 𝓡.env wired)
+    u64 word_laws (block_ptr wb (wo + 0)) null_ptr new won lost)) $
+    let arms : Body = head (after 5 fn.body) in
+    let Then =
+    any_q (after_seq 𝓤 H (Wp 𝓤 H 𝓣.C 𝓣.Λ Ev (after 6 fn.body) (at_return 𝓤 H Ev Post))
+    (at_return 𝓤 H Ev Post)) in
+    Calls-last ! (fm 𝓛 𝓜 𝓡) (calls.answered 𝓛 won lost)
+    (and_then ! (get ! refl) (and_then ! (lit ! tt)
+    (and_then ! (get ! refl) (and_then ! (get ! refl) (and_then ! (get ! refl) (no_more !))))))
+    (λ u.
+    calls.hears ! won lost
+    (λ u₁. lands_last ! refl (calls.answer_good (Ok u₁)) $
+    exec ! 𝓣.C 𝓣.Λ Ev (after 4 fn.body) (at_ret Ev Post) $
+    sets ! (of_opd ! (get ! refl)) refl (calls.answer_good (Ok u₁)) $ fsplit ! $
+    -- [the life's token; the part; the sharing lasts; the way back; the pass; the other tokens]
+    let pb : ℕ = nb in let o : ℕ = no' in move ! (1 ∷ 2 ∷ 0 ∷ 4 ∷ []) $ group ! 4 $
+    use1 𝓛 (later (‵ (flft t.life s) ⊛ ‵ (Owned pb o)))
+    (installs 𝓛 R d t β wb wo pb o h.id i h.sharing h.reserved h.table s (zn, _)
+    (is_of (value_at R new i))) $
+    await ! tt $ split ! $
+    -- [the life's token; the claim; the way back; the other tokens]
+    move ! (0 ∷ 2 ∷ []) $
+    use2 𝓛 (later (‵ (flft β q))) (apply∗ 𝓤 (𝓛.A.lft t.life s) (H.⇛ (𝓛.A.lft β q))) $ await ! tt $
+    first ! $ switches_on ! (get_tag ! (vrt ! refl (fld ! refl (stop !))) (whole !)) $ exec ! 𝓣.C 𝓣.Λ Ev (arm_body 0 arms) Then $
+    let nothing_good : Good (layout Back) (live 0 vnil) = (tt, (record { fits = lit< tt }, tt)) in
+    let pair_good : Good (layout Pair) (both (vptr pb o) (live 0 vnil)) =
+    (tt, (tt, (nothing_good.1, tt))) in
+    sets ! (of_opd ! (get ! refl)) refl (tt, tt) $
+    sets ! (agg ! (and_then ! (lit ! tt) (no_more !))) refl nothing_good $
+    sets_last ! (agg ! (and_then ! (get ! refl) (and_then ! (get ! refl) (no_more !)))) refl
+    pair_good $
+    exec ! 𝓣.C 𝓣.Λ Ev (after 6 fn.body) (at_ret Ev Post) $
+    sets ! (of_opd ! (get ! refl)) refl pair_good $
+    sets ! (of_opd ! (get_in ! (fld ! refl (stop !)) (sub ! 0 refl (whole !)))) refl (tt, tt) $
+    sets ! (of_opd ! (get_in ! (fld ! refl (stop !)) (sub ! 1 refl (whole !)))) refl nothing_good $
+    first ! $ blocks ! $ sets ! (of_opd ! (get ! refl)) refl (tt, tt) $
+    sets !
+    (is ! (bin ! (get ! refl) (size_word !) (record { fits = spaced ix (stride R) close_at }))
+    (spaced_is ix (stride R) close_at ∙ ap (λ (n : ℕ). vint w64 (n * stride R)) is_index))
+    refl (tt, record { fits = close }) $
+    sets_last ! (bin ! (get ! refl) (get ! refl) tt) refl (tt, tt) $
+    exec ! 𝓣.C 𝓣.Λ Ev (after 10 fn.body) (at_ret Ev Post) $
+    sets ! (of_opd ! (get ! refl)) refl (tt, tt) $ sets ! (of_opd ! (get ! refl)) refl (tt, tt) $
+    let m : Kept = record { at = value_at R (block_ptr pb o) i; state = 1 } in let kept_good = typed m (lit< tt) in
+    sets ! (agg ! (no_more !)) refl (tt, tt) $
+    sets ! (agg ! (and_then ! (get ! refl) (and_then ! (lit ! tt) (and_then ! (get ! refl) (no_more !))))) refl kept_good $
+    sets ! (of_opd ! (get ! refl)) refl kept_good $ sets ! (of_opd ! (get ! refl)) refl nothing_good $
+    let v : Val = both (value_of m) (live 0 vnil) in let good : Good (layout Out) v = (tt, (kept_good.1, (nothing_good.1, tt))) in
+    sets ! (agg ! (and_then ! (get ! refl) (and_then ! (get ! refl) (no_more !)))) refl good $
+    -- [the token; the claim; the other tokens]
+    move ! (1 ∷ []) $
+    use0 𝓛 (‵ ((FieldsType ℓ R).own_val (fields_of ℓ R m) (value_of m ∷ []))) (made ℓ R 𝓛 m (lit< tt)) $ fjoin ! $
+    let r : G.Denot = record {
+      at = value_at R (block_ptr pb o) i;
+      state = 1;
+      marker = record {};
+      bucket = block_ptr wb wo;
+      table = h.table;
+      sharing = h.sharing;
+      id = h.id;
+      index = i;
+      reserved = h.reserved;
+      learnt = Vacant;
+    } in
+    use0 𝓛 (‵ (Back.own_val None (live 0 vnil ∷ []))) (none_of 𝓛 Bl) $ move ! (1 ∷ 0 ∷ []) $
+    pair_in G Back ! r None (value_of m) (live 0 vnil) $ move ! (1 ∷ 2 ∷ []) $ join ! $
+    move ! (1 ∷ []) $
+    use0 𝓛 (raw (fact 𝓤 (F₃ (r, None)))) (fact_i 𝓤 (F₃ (r, None)) (emp 𝓤) tt) $
+    use0 𝓛 (raw (fact 𝓤 (F₂ (r, None)))) (fact_i 𝓤 (F₂ (r, None)) (emp 𝓤) (refl, refl)) $ join ! $
+    use0 𝓛 (raw (fact 𝓤 (F₁ (r, None))))
+    (fact_i 𝓤 (F₁ (r, None)) (emp 𝓤) (refl, refl, refl, refl)) $
+    join ! $
+    nothing ! $ nothing ! $ fjoin ! $ nothing ! $ fjoin ! $ nothing ! $ fjoin ! $
+    returns ! (look_at ! 0 refl) $ free_all ! refl $ keep ! (3 ∷ 0 ∷ 2 ∷ 1 ∷ []) $
+    by ! (leaves 𝓛 En hs c y v (r, None) (tt, (tt, (tt, tt))) (tt, (tt, (tt, tt)))))
+    (λ u₁. lands_last ! refl (calls.answer_good (Err u₁)) $
+    exec ! 𝓣.C 𝓣.Λ Ev (after 4 fn.body) (at_ret Ev Post) $
+    sets ! (of_opd ! (get ! refl)) refl (calls.answer_good (Err u₁)) $ fsplit ! $
+    -- [the life's token; what came back; the sharing lasts; the way back; the pass; the other
+    -- tokens]
+    move ! (1 ∷ []) $ fsplit ! $
+    use1 𝓛 (later (‵ (Blank new))) (offers.take_back 𝓛 R t d x.heap new zn so) $ await ! tt $
+    move ! (1 ∷ []) $
+    in_a_block ! u₁ (glimpse 𝓛 R d t ffalse ftrue)
+    (snd∗ 𝓤 (sem 𝓛 (said_fact (d.reserved ≡ false))) (never 𝓤)) (λ pb o found.
+    let first_at : Ptr = block_ptr pb o in
+    fsplit ! $ fpick ! (λ zz.
+    -- [the part; nothing; the block; the life's token; the sharing lasts; the way back; the pass;
+    -- the other tokens]
+    move ! (0 ∷ 4 ∷ 3 ∷ 6 ∷ []) $ group ! 4 $
+    use1 𝓛 (later (‵ (flft t.life s) ⊛ ‵ (Owned pb o)))
+    (installs 𝓛 R d t β wb wo pb o h.id i h.sharing h.reserved h.table s zz
+    (is_of (value_at R first_at i))) $
+    await ! tt $ split ! $
+    -- [the life's token; the claim; nothing; the block; the way back; the other tokens]
+    move ! (0 ∷ 4 ∷ []) $
+    use2 𝓛 (later (‵ (flft β q))) (apply∗ 𝓤 (𝓛.A.lft t.life s) (H.⇛ (𝓛.A.lft β q))) $ await ! tt $
+    -- [the token; the claim; nothing; the block; the other tokens]
+    let back : Val = live 1 (vcons bv vnil) in
+    let block_good = fields.block_good p in
+    let held : Good (layout Back) back =
+    (and_tt _ block_good.0, (record { fits = lit< tt }, (block_good.1, tt))) in
+    first ! $ switches_on ! (get_tag ! (vrt ! refl (fld ! refl (stop !))) (whole !)) $ exec ! 𝓣.C 𝓣.Λ Ev (arm_body 1 arms) Then $
+    sets !
+    (is !
+    (of_opd !
+    (get_in ! (vrt ! refl (fld ! refl (stop !))) (in_variant ! 1 0 refl refl (whole !))))
+    (ap ptr_val found))
+    refl (tt, tt) $
+    let pair_good : Good (layout Pair) (both (vptr pb o) back) = (and_tt _ held.0, (tt, (held.1, tt))) in
+    sets ! (of_opd ! (get ! refl)) refl (tt, tt) $ sets ! (of_opd ! (get ! refl)) refl block_good $
+    sets ! (agg ! (and_then ! (lit ! tt) (and_then ! (get ! refl) (no_more !)))) refl held $
+    sets_last ! (agg ! (and_then ! (get ! refl) (and_then ! (get ! refl) (no_more !)))) refl
+    pair_good $
+    exec ! 𝓣.C 𝓣.Λ Ev (after 6 fn.body) (at_ret Ev Post) $
+    sets ! (of_opd ! (get ! refl)) refl pair_good $
+    sets ! (of_opd ! (get_in ! (fld ! refl (stop !)) (sub ! 0 refl (whole !)))) refl (tt, tt) $
+    sets ! (of_opd ! (get_in ! (fld ! refl (stop !)) (sub ! 1 refl (whole !)))) refl held $
+    first ! $ blocks ! $ sets ! (of_opd ! (get ! refl)) refl (tt, tt) $
+    sets !
+    (is ! (bin ! (get ! refl) (size_word !) (record { fits = spaced ix (stride R) close_at }))
+    (spaced_is ix (stride R) close_at ∙ ap (λ (n : ℕ). vint w64 (n * stride R)) is_index))
+    refl (tt, record { fits = close }) $
+    sets_last ! (bin ! (get ! refl) (get ! refl) tt) refl (tt, tt) $
+    exec ! 𝓣.C 𝓣.Λ Ev (after 10 fn.body) (at_ret Ev Post) $
+    sets ! (of_opd ! (get ! refl)) refl (tt, tt) $ sets ! (of_opd ! (get ! refl)) refl (tt, tt) $
+    let m : Kept = record { at = value_at R (block_ptr pb o) i; state = 1 } in let kept_good = typed m (lit< tt) in
+    sets ! (agg ! (no_more !)) refl (tt, tt) $
+    sets ! (agg ! (and_then ! (get ! refl) (and_then ! (lit ! tt) (and_then ! (get ! refl) (no_more !))))) refl kept_good $
+    sets ! (of_opd ! (get ! refl)) refl kept_good $ sets ! (of_opd ! (get ! refl)) refl held $
+    let v : Val = both (value_of m) back in let good : Good (layout Out) v = (and_tt _ held.0, (kept_good.1, (held.1, tt))) in
+    sets ! (agg ! (and_then ! (get ! refl) (and_then ! (get ! refl) (no_more !)))) refl good $
+    -- [the token; the claim; nothing; the block; the other tokens]
+    move ! (1 ∷ 0 ∷ 4 ∷ 3 ∷ []) $
+    use0 𝓛 (‵ ((FieldsType ℓ R).own_val (fields_of ℓ R m) (value_of m ∷ []))) (made ℓ R 𝓛 m (lit< tt)) $ fjoin ! $
+    let r : G.Denot = record {
+      at = value_at R (block_ptr pb o) i;
+      state = 1;
+      marker = record {};
+      bucket = block_ptr wb wo;
+      table = h.table;
+      sharing = h.sharing;
+      id = h.id;
+      index = i;
+      reserved = h.reserved;
+      learnt = Vacant;
+    } in
+    -- [the claim; the token; the other tokens; the block; nothing]
+    move ! (3 ∷ []) $ rewrite ! 0 (λ (u₂ : Ptr). ‵ (Blank u₂)) (sym e) refl $
+    rewrite ! 0
+    (λ (cs : List (Option X.Denot)). ‵ (block_owns R (ghosts.dealloc_token x.heap) p cs 0))
+    (sym (blank.0 ∙ ap (λ (n : ℕ). empty_slots (2 ^ n)) same)) refl $
+    rewrite ! 0 (λ (n : ℕ). ‵ (block_owns R (ghosts.dealloc_token x.heap) p x.slots n)) (sym blank.1) refl $
+    use0 𝓛 (‵ ((fields.FieldsType R Z ghosts).own_val (p, (record {}, tt)) (bv ∷ [])))
+    (fields.made R Z ghosts 𝓛 p) $
+    fjoin ! $ use1 𝓛 (‵ (Back.own_val (Some x) (back ∷ []))) (Some-of 𝓛 Bl x bv) $
+    move ! (1 ∷ 0 ∷ []) $
+    pair_in G Back ! r (Some x) (value_of m) back $ move ! (1 ∷ 2 ∷ []) $ join ! $ move ! (1 ∷ []) $
+    use0 𝓛 (raw (fact 𝓤 (F₃ (r, Some x))))
+    (fact_i 𝓤 (F₃ (r, Some x)) (emp 𝓤) (refl, refl, blank.1)) $
+    use0 𝓛 (raw (fact 𝓤 (F₂ (r, Some x)))) (fact_i 𝓤 (F₂ (r, Some x)) (emp 𝓤) (refl, refl)) $
+    join ! $
+    use0 𝓛 (raw (fact 𝓤 (F₁ (r, Some x))))
+    (fact_i 𝓤 (F₁ (r, Some x)) (emp 𝓤) (refl, refl, refl, refl)) $
+    join ! $
+    nothing ! $ nothing ! $ fjoin ! $ nothing ! $ fjoin ! $ nothing ! $ fjoin ! $
+    returns ! (look_at ! 0 refl) $ free_all ! refl $ keep ! (3 ∷ 0 ∷ 2 ∷ 1 ∷ []) $
+    by !
+    (leaves 𝓛 En hs c y v (r, Some x) (tt, (tt, (tt, tt))) (tt, (tt, (tt, tt)))))))))))))))))))))

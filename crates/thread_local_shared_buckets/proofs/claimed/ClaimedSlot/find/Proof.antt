@@ -1,0 +1,326 @@
+-- `find` loads the bucket's pointer: at null, it takes the pass for the right. Else it loads the
+-- word of the slot's flag, and takes what the slot holds.
+use Rattle.thread_local_model.proofs.Names.{Option, lit<, ◌≡◌, ℕ, ◌+◌, ◌^◌, [], ◌∷◌, refl, sym, ap, ◌∙◌, subst, true}
+use Rattle.thread_local_model.proofs.Names.{a_type, Val, vptr, inst_fn, SProp, wand, emp, via, id⊢, apply∗, Lft, Share}
+use Rattle.thread_local_model.proofs.Names.{Fml, ftrue, fsep, flft, fbor, finv, sem, ‵, raw, ◌⊛◌, some, later, mean}
+use Rattle.thread_local_model.proofs.Names.{at_ret, ◌$◌, ◌∵◌, !, qed, by, move, keep, drop, split, join, fsplit, fjoin}
+use Rattle.thread_local_model.proofs.Names.{fpick, fpack, pick, use0, use1, use2, use3, await, rewrite, group, fld}
+use Rattle.thread_local_model.proofs.Names.{stop, addr, lit, of_opd, no_more, and_then, first, blocks, exec}
+use Rattle.thread_local_model.proofs.Names.{Calls-last, returns, enter, alloc_all, pass_all, free_all, look_at, get}
+use Rattle.thread_local_model.proofs.Names.{get_in, through, sets, sets_last, size_word, lands_last, env, agg, sub}
+use Rattle.thread_local_model.proofs.Names.{whole, tables, fact, fact_i, no, RattleType, owns, types_at, plain}
+use Rattle.thread_local_model.proofs.Names.{named_lft, Ptr, block_ptr, block_of, count_of, at_block, nothing, heard}
+use Rattle.thread_local_model.proofs.Names.{param, bounded, Stays, stay_dropped, walk_of, Goes-dropped, proved, leaves}
+use Rattle.thread_local_model.proofs.Names.{fm, found, finds, Lends-one, ◌*◌, ◌<◌, ◌≢◌, length, Bool, false, dnil, bin}
+use Rattle.thread_local_model.proofs.Names.{branches, is, null_ptr, ptr_val, u64, after, uint_vals, uint_Tells, usize}
+use Rattle.thread_local_model.proofs.Names.{yes, fsplit3, vint, w64}
+use Rattle.std.proofs.Common.{◌⊎◌, inl, inr, ◌/◌, ◌%◌}
+use base.Fml.{fres}
+use base.Before.{before}
+use types.Run.{skips, returns_within}
+use types.Na.{before_dup}
+use denote.RawPtr.{tests_null}
+use denote.Param.Laws.{Laws, of_field}
+use denote.Param.Shared.{copy_shared}
+use denote.Struct.Field.{u64-field}
+use denote.Struct.Laws.{u64-laws, u64-copy}
+use Rattle.std.proofs.raw_atomic.Calls.{seq_cst, loads}
+use Rattle.std.proofs.raw_atomic.PtrCalls as calls
+use Rattle.std.proofs.raw_atomic.PtrCalls.{seq_cst_good}
+use Rattle.thread_local_ids.specs.Rights.{right_owns}
+use Rattle.thread_local_bucket_pointers.specs.Slots.{stride, value_words, word_offset, value_offset}
+use Rattle.thread_local_bucket_pointers.proofs.Flags.{in_chunks, value_near}
+use Rattle.thread_local_bucket_pointers.proofs.Slots.{IsWordNear, word_is_near}
+use Rattle.thread_local_model.specs.Bits.{is_set}
+use Rattle.thread_local_model.proofs.Word.{masked_fits, place_below, bit_fits, shifted_right}
+use Rattle.thread_local_model.specs.Fact as facts
+use Rattle.thread_local_shared_buckets.specs.Shared.{BucketView, Turn, StandingBlock, Sized, block_code, len, bucket_invariant, loaded}
+use Rattle.thread_local_shared_buckets.proofs.RowFields.{pointer_good}
+use Rattle.thread_local_shared_buckets.proofs.Loads.{glimpse, reaches, reads}
+use Rattle.thread_local_model.specs.Learnt.{Learnt, Missing, Vacant, Finds}
+use Rattle.thread_local_shared_buckets.specs.Known.{HasLooked, MayLook, looked_in_vain, state_by, found_as}
+use Rattle.thread_local_shared_buckets.proofs.Learning.{known_as, not_missing, kept_as, state_by-fits, state_by-flag}
+use Rattle.thread_local_shared_buckets.proofs.Learning.{finds_nothing, finds_slot, unfound, found as found_in}
+use Rattle.thread_local_shared_buckets.specs.Claims.{ClaimFields, flag_word_of, claim_fields, IsOf, IsKept, claims_side, value_at, has, has_slot, has_at}
+use Rattle.thread_local_shared_buckets.specs.contracts.claimed.ClaimedSlot as claim
+use Rattle.thread_local_shared_buckets.specs.contracts.claimed.ClaimedSlot.find.{ended, clauses}
+use Rattle.thread_local_shared_buckets.specs.contracts.claimed.ClaimedSlot.find.Key.{name as #self}
+use Rattle.thread_local_shared_buckets.proofs.Early.{comes}
+use Rattle.thread_local_shared_buckets.proofs.ClaimSteps as steps
+use Rattle.thread_local_shared_buckets.proofs.ClaimedFields.{Kept, kept_of, value_of, FieldsType, fields_of, told, in_word, made, typed}
+use Rattle.thread_local_shared_buckets.proofs.ClaimedFields.{number_in, spaced, spaced_is}
+use Rattle.thread_local_shared_buckets.proofs.claimed.ClaimedSlot.find.Statement.{statement}
+use Rattle.thread_local_shared_buckets.proofs.claimed.ClaimedSlot.find.Code as code
+
+word_laws : Laws u64
+word_laws = of_field u64-field u64-laws refl (copy_shared u64-field u64-copy)
+
+pub find_spec : {M : Type 1} → statement M
+find_spec 𝓤 𝓛 𝓜 𝓡 wired X L =
+    let H = 𝓛.H in
+    let 𝓣 = tables 𝓤 H 𝓜 𝓡 𝓡.env in
+    let R : RattleType = param 0 X in
+    let En = ended X in
+    let c = clauses X 𝓛 𝓜.mem 𝓡.returns in
+    let inst = bounded (a_type ∷ []) (X, tt) dnil in
+    let fn = inst_fn inst code.function in
+    let closed = code.unfolded 𝓤 H 𝓜 𝓡 wired (X, tt) in
+    let self = plain (λ κs. claim.the_row (named_lft 2 0 tt κs) R) in
+    let number = plain (λ _. usize) in
+    let hs : Stays En.signature.params En.kept =
+    (stay_dropped self no, (stay_dropped number yes, (stay_dropped number yes, tt))) in
+    proved 𝓛 En hs c 𝓜 𝓡 (
+      Goes-dropped 𝓛 2 self no (λ κs x f. refl),
+      (
+        Goes-dropped 𝓛 2 number yes (λ κs x f. refl),
+        (Goes-dropped 𝓛 2 number yes (λ κs x f. refl), tt),
+      ),
+    )
+    (#self inst) fn closed
+    (λ κs. ((λ x. value_of (kept_of x) ∷ []), (uint_vals w64, (uint_vals w64, tt))))
+    (λ κs. (
+      (λ x vs so. told (named_lft 2 0 tt κs) R (kept_of x) vs so.0),
+      (uint_Tells w64, (uint_Tells w64, tt)),
+    ))
+    (λ κs qs bounds a gh are.
+    let h = a.0 in
+    let x : ℕ = a.1.0 in
+    let num : ℕ = a.1.1.0 in
+    let β : Lft = κs.0 in
+    let q : Share = qs.0 in
+    let others : Fml = fsep (flft κs.1.0 qs.1.0) ftrue in
+    let ℓ = named_lft 2 0 tt κs in
+    let G : RattleType = claim.the_row ℓ R in
+    let u₀ : Val = value_of (kept_of h) in
+    let F₁ : G.Denot → Type 0 = λ r.
+    (r.table ≡ h.table) × (◌≡◌ {A = Option ℕ} r.sharing h.sharing) × (r.id ≡ h.id)
+    × (r.index ≡ h.index) in
+    let F₂ : G.Denot → Type 0 = λ r. HasLooked r.learnt in
+    let F₃ : G.Denot → Type 0 =
+    λ r. h.learnt ≡ Missing → (r.learnt ≡ Missing) ⊎ (r.learnt ≡ Vacant) in
+    let F₄ : G.Denot → Type 0 =
+    λ r. (r.reserved ≡ h.reserved) × (r.reserved ≡ true → r.learnt ≢ Missing) in
+    let l₀ : Learnt X.Denot = h.learnt in
+    let F₅ : G.Denot → Type 0 = λ r. Finds l₀ r.learnt in
+    let gone : Learnt X.Denot = Missing in
+    let w : Ptr = h.bucket in
+    let wb : ℕ = block_of w in
+    let wo : ℕ = count_of w in
+    let i : ℕ = h.index in
+    let pl : ClaimFields = claim_fields h.id i w h.at h.sharing h.reserved in
+    let y : (walk_of 𝓛 En hs c).Ghost =
+    ((κs, qs, bounds, a, (u₀ ∷ [], (vint w64 x ∷ [], (vint w64 num ∷ [], tt)))), gh) in
+    let Post : Val → SProp 𝓤 = (walk_of 𝓛 En hs c).post y in
+    qed 𝓛 (((‵ (flft β q) ⊛ ‵ others) ⊛ ‵ (owns (types_at En.signature.params κs) a y.0.4))
+    ∷ raw (fact 𝓤 _) ∷ raw (fact 𝓤 (MayLook l₀)) ∷ raw (fact 𝓤 (x ≡ i))
+    ∷ raw (fact 𝓤 (num ≡ flag_word_of R h.id)) ∷ []) ∵
+    keep ! (2 ∷ 3 ∷ 4 ∷ 0 ∷ []) $ heard ! (MayLook l₀) (λ unseen. heard ! (x ≡ i) (λ is_index.
+    heard ! (num ≡ flag_word_of R h.id) (λ numbered. split ! $ split ! $ move ! (2 ∷ []) $
+    fsplit3 ! $ fsplit ! $ keep ! (1 ∷ 4 ∷ 5 ∷ []) $
+    enter ! 𝓣.C 𝓣.Λ fn (u₀ ∷ vint w64 x ∷ vint w64 num ∷ []) Post $ alloc_all ! (λ l.
+    pass_all ! refl (
+      typed (kept_of h) (in_word ℓ R (kept_of h) (u₀ ∷ []) are.0.0),
+      ((tt, record { fits = are.1.0.1 }), ((tt, record { fits = are.1.1.0.1 }), tt)),
+    ) $
+    let Ev = env fn.locals l in
+    fsplit ! $ drop ! $ fpick ! (λ z. fsplit ! $ fpick ! (λ of. drop ! $ fsplit ! $
+    move ! (1 ∷ []) $
+    let d : BucketView = z.0 in
+    let t : Turn = z.1 in
+    let at : w ≡ block_ptr wb wo = at_block w of.0 in
+    use1 𝓛 (‵ (fsep (facts.fact (h.at ≡ w)) (claims_side (looked_in_vain l₀) d.table t.pass h.id)))
+    (unfound 𝓛 R d t β pl l₀ unseen) $
+    fsplit ! $ fpick ! (λ leads. drop ! $
+    -- [what it waits with; what is kept; the tokens]
+    let J : Fml = fbor t.life (bucket_invariant R d t wb (wo + 0)) in
+    let W : Fml = claims_side (looked_in_vain l₀) d.table t.pass h.id in
+    let Pass : Fml = right_owns t.pass h.id in
+    move ! (1 ∷ []) $ fsplit ! $
+    use1 𝓛 (‵ (before β t.life) ⊛ ‵ (before β t.life)) (before_dup 𝓛 β t.life) $ split ! $
+    use1 𝓛 (‵ (before β t.life) ⊛ ‵ (before β t.life)) (before_dup 𝓛 β t.life) $ split ! $
+    move ! (0 ∷ 5 ∷ []) $
+    use2 𝓛 (later (some (λ (s : Share).
+    ‵ (flft t.life s) ⊛ raw (wand 𝓤 (𝓛.A.lft t.life s) (H.⇛ (𝓛.A.lft β q))))))
+    (Lends-one 𝓛 𝓜 𝓡 β t.life q) $
+    await ! tt $ pick ! (λ s. split ! $
+    -- [the life's token; the way back; before, twice; the invariant; what it waits with; the other
+    -- tokens]
+    move ! (4 ∷ []) $ use1 𝓛 (‵ (finv J) ⊛ ‵ (finv J)) (𝓛.invs.inv_dup J) $ split ! $
+    use1 𝓛 (‵ (finv J) ⊛ ‵ (finv J)) (𝓛.invs.inv_dup J) $ split ! $
+    let out : Ptr → Fml = λ p. fsep (flft t.life s) (glimpse 𝓛 R d t Pass W p) in
+    sets ! (is ! (of_opd ! (get_in ! (fld ! refl (stop !)) (sub ! 0 refl (whole !)))) (ap ptr_val (leads ∙ at))) refl (tt, tt) $
+    first ! $ blocks ! $ sets ! (of_opd ! (get ! refl)) refl (tt, tt) $
+    sets ! (addr ! (through ! refl (fld ! refl (stop !)))) refl (tt, tt) $
+    sets ! (agg ! (and_then ! (lit ! tt) (no_more !))) refl seq_cst_good $
+    move ! (0 ∷ 3 ∷ 7 ∷ []) $
+    use3 𝓛 (raw (𝓣.C _ (vptr wb (wo + 0) ∷ seq_cst ∷ []) (λ u. mean 𝓛 (calls.found 𝓛 out u))))
+    (via 𝓤 _ (reads 𝓛 R d t wb (wo + 0) s (sem 𝓛 W) Pass W
+    (comes 𝓛 R d t wb (wo + 0) i h.id of.4 of.3 (looked_in_vain l₀)) (id⊢ 𝓤 _))
+    (calls.loads 𝓛 𝓜 𝓡 (code.calls-std::sync::atomic::raw::ptr::load 𝓡.env wired) u64 word_laws
+    (block_ptr wb (wo + 0)) out)) $
+    Calls-last ! (fm 𝓛 𝓜 𝓡) (calls.found 𝓛 out)
+    (and_then ! (get ! refl) (and_then ! (get ! refl) (no_more !))) (λ u.
+    calls.finds_either ! out
+    (lands_last ! refl (pointer_good null_ptr) $
+    exec ! 𝓣.C 𝓣.Λ Ev (after 2 fn.body) (at_ret Ev Post) $ fsplit ! $ move ! (0 ∷ 4 ∷ []) $
+    use2 𝓛 (later (‵ (flft β q))) (apply∗ 𝓤 (𝓛.A.lft t.life s) (H.⇛ (𝓛.A.lft β q))) $ await ! tt $
+    move ! (1 ∷ []) $ fsplit ! $ fpick ! (λ free. drop ! $
+    -- [the pass; the token; the invariant, twice; before, twice; the other tokens]
+    sets ! (of_opd ! (get ! refl)) refl (pointer_good null_ptr) $
+    sets ! (bin ! (get ! refl) (lit ! tt) tt) refl (tt, tt) $ first ! $ branches ! (get ! refl)
+    (λ _.
+    let m : Kept = record { at = block_ptr wb wo; state = 0 } in
+    let pl' : ClaimFields =
+    claim_fields h.id i (block_ptr wb wo) (block_ptr wb wo) h.sharing h.reserved in
+    let r : G.Denot = record {
+      at = block_ptr wb wo;
+      state = 0;
+      marker = record {};
+      bucket = block_ptr wb wo;
+      table = h.table;
+      sharing = h.sharing;
+      id = h.id;
+      index = i;
+      reserved = h.reserved;
+      learnt = gone;
+    } in
+    sets ! (agg ! (no_more !)) refl (tt, tt) $
+    sets ! (agg ! (and_then ! (get ! refl) (and_then ! (lit ! tt) (and_then ! (get ! refl) (no_more !))))) refl (typed m (lit< tt)) $
+    nothing ! $ fpack ! (block_ptr wb wo ≡ block_ptr wb wo) (λ _. ftrue) refl $ fjoin ! $
+    move ! (4 ∷ 2 ∷ []) $ fjoin ! $ fjoin ! $ nothing ! $
+    fpack ! (IsOf R h.table pl' d) (λ _. ftrue) (tt, of.1, of.2, of.3, of.4, of.5, of.6) $ fjoin ! $
+    fpack ! (BucketView × Turn) (has_at R β h.table pl' gone) z $ nothing ! $ fpack ! (IsKept R 0 gone) (λ _. ftrue) refl $ fjoin ! $
+    use0 𝓛 (‵ ((FieldsType ℓ R).own_val (fields_of ℓ R m) (value_of m ∷ [])))
+    (made ℓ R 𝓛 m (lit< tt)) $
+    fjoin ! $ move ! (1 ∷ 4 ∷ []) $ join ! $ move ! (1 ∷ []) $
+    use0 𝓛 (raw (fact 𝓤 (F₅ r))) (fact_i 𝓤 (F₅ r) (emp 𝓤) (finds_nothing l₀ unseen)) $
+    use0 𝓛 (raw (fact 𝓤 (F₄ r)))
+    (fact_i 𝓤 (F₄ r) (emp 𝓤)
+    (refl, (λ is. let never : true ≡ false = sym is ∙ sym of.5 ∙ free in cc))) $
+    join ! $ use0 𝓛 (raw (fact 𝓤 (F₃ r))) (fact_i 𝓤 (F₃ r) (emp 𝓤) (λ _. inl refl)) $ join ! $
+    use0 𝓛 (raw (fact 𝓤 (F₂ r))) (fact_i 𝓤 (F₂ r) (emp 𝓤) tt) $ join ! $
+    use0 𝓛 (raw (fact 𝓤 (F₁ r))) (fact_i 𝓤 (F₁ r) (emp 𝓤) (refl, refl, refl, refl)) $ join ! $
+    nothing ! $ nothing ! $ fjoin ! $ nothing ! $ fjoin ! $ nothing ! $ fjoin ! $
+    returns_within ! Post refl (look_at ! 0 refl) $ free_all ! refl $ keep ! (3 ∷ 0 ∷ 2 ∷ 1 ∷ []) $
+    by ! (leaves 𝓛 En hs c y (value_of m) r (tt, (tt, (tt, tt))) (tt, (tt, (tt, tt)))))
+    (λ wrong. absurd wrong)))
+    (λ pb po.
+    let p : Ptr = block_ptr pb po in
+    let k : ℕ = i / 64 in
+    let j : ℕ = i % 64 in
+    let at_word : ℕ = word_offset R (len R d) po k in
+    let e : ℕ = value_offset R po i in
+    let slot_at : Ptr = block_ptr pb e in
+    lands_last ! refl (pointer_good p) $ exec ! 𝓣.C 𝓣.Λ Ev (after 2 fn.body) (at_ret Ev Post) $
+    fsplit ! $ move ! (1 ∷ []) $ fsplit ! $ fpick ! (λ zz. move ! (0 ∷ 6 ∷ []) $
+    use2 𝓛 (later (‵ (facts.fact ((zz.0.at ≡ p) × Sized R (len R d) p)) ⊛ ‵ (loaded R d t zz.0 β)))
+    (reaches 𝓛 R d t β p zz) $
+    await ! tt $ split ! $ fpick ! (λ so. drop ! $
+    let s' : StandingBlock = record zz.0 { at = p } in
+    rewrite ! 0 (λ (x : StandingBlock). ‵ (loaded R d t x β))
+    (λ j. record zz.0 { at = so.0 j }) refl $
+    fsplit ! $ fpick ! (λ sized. move ! (1 ∷ []) $ fsplit ! $
+    use1 𝓛 (‵ (fres t.which (block_code s')) ⊛ ‵ (fres t.which (block_code s')))
+    (𝓛.names.res_dup t.which (block_code s')) $
+    split ! $ move ! (1 ∷ 2 ∷ []) $ fjoin ! $ move ! (2 ∷ []) $
+    fpack ! ((length s'.names ≡ len R d) × Sized R (len R d) s'.at) (λ _. ftrue) sized $ move ! (0 ∷ 1 ∷ []) $ fjoin ! $
+    -- [the row; which block it is; what it waits with; the life's token; the invariant, twice; the
+    -- way back; before; the other tokens]
+    sets ! (of_opd ! (get ! refl)) refl (pointer_good p) $
+    sets ! (bin ! (get ! refl) (lit ! tt) (tests_null p so.1.1)) refl (tt, tt) $ first ! $
+    branches ! (get ! refl) (λ wrong. absurd wrong) (λ _. skips ! $
+    exec ! 𝓣.C 𝓣.Λ Ev (after 5 fn.body) (at_ret Ev Post) $
+    let low : i < length s'.names = subst (λ (n : ℕ). i < n) (sym sized.0) of.4 in
+    let here : IsWordNear R (len R d) k =
+    word_is_near R (len R d) k so.1.2 (in_chunks (len R d) i of.4) in
+    let number_at : num ≡ value_words R (len R d) + k =
+    numbered ∙ number_in R d h.id i of.3 of.4 ∙ here.number in
+    let close : i * stride R < 2 ^ 64 = value_near R (len R d) i so.1.2 of.4 in
+    let close_at : x * stride R < 2 ^ 64 =
+    subst (λ (n : ℕ). n * stride R < 2 ^ 64) (sym is_index) close in
+    let near : num * 8 < 2 ^ 64 = subst (λ (n : ℕ). n * 8 < 2 ^ 64) (sym number_at) here.near in
+    first ! $ blocks ! $ sets ! (of_opd ! (get ! refl)) refl (tt, tt) $
+    sets ! (is ! (bin ! (get ! refl) (lit ! tt) (record { fits = near }))
+    (ap (λ (n : ℕ). vint w64 (n * 8)) number_at))
+    refl (tt, record { fits = here.near }) $
+    sets_last ! (bin ! (get ! refl) (get ! refl) tt) refl (tt, tt) $
+    exec ! 𝓣.C 𝓣.Λ Ev (after 6 fn.body) (at_ret Ev Post) $
+    sets ! (of_opd ! (get ! refl)) refl (tt, tt) $
+    first ! $ blocks ! $ sets ! (of_opd ! (get ! refl)) refl (tt, tt) $
+    sets ! (is ! (bin ! (get ! refl) (size_word !) (record { fits = spaced x (stride R) close_at }))
+    (spaced_is x (stride R) close_at ∙ ap (λ (n : ℕ). vint w64 (n * stride R)) is_index))
+    refl (tt, record { fits = close }) $
+    sets_last ! (bin ! (get ! refl) (get ! refl) tt) refl (tt, tt) $
+    exec ! 𝓣.C 𝓣.Λ Ev (after 8 fn.body) (at_ret Ev Post) $
+    sets ! (of_opd ! (get ! refl)) refl (tt, tt) $
+    let Found : ℕ → Fml =
+    steps.Finds 𝓛 R d t wb (wo + 0) s' i h.id e pb low of.3 refl refl (looked_in_vain l₀) in
+    let aft : ℕ → Fml = λ n. fsep (flft t.life s) (Found n) in
+    first ! $ blocks ! $ sets ! (agg ! (and_then ! (lit ! tt) (no_more !))) refl seq_cst_good $
+    move ! (4 ∷ 3 ∷ 1 ∷ 2 ∷ []) $ group ! 4 $
+    use1 𝓛 (raw (𝓣.C _ (vptr pb at_word ∷ seq_cst ∷ []) (λ v. mean 𝓛 (found aft v))))
+    (via 𝓤 _ (steps.finds 𝓛 R d t wb (wo + 0) s' i h.id e pb low of.3 refl refl s (looked_in_vain l₀))
+    (loads 𝓛 𝓜 𝓡 (code.calls-std::sync::atomic::raw::load 𝓡.env wired)
+    (block_ptr pb at_word) aft)) $
+    Calls-last ! (fm 𝓛 𝓜 𝓡) (found aft)
+    (and_then ! (get ! refl) (and_then ! (get ! refl) (no_more !))) (λ v.
+    finds ! aft (λ n nf.
+    lands_last ! refl (tt, record { fits = nf }) $
+    exec ! 𝓣.C 𝓣.Λ Ev (after 10 fn.body) (at_ret Ev Post) $ fsplit ! $ move ! (0 ∷ 4 ∷ []) $
+    use2 𝓛 (later (‵ (flft β q))) (apply∗ 𝓤 (𝓛.A.lft t.life s) (H.⇛ (𝓛.A.lft β q))) $ await ! tt $
+    -- [the token; what was found; the row; the invariant; before; the other tokens]
+    let set : Bool = is_set n j in
+    let seen : ℕ = state_by set in
+    let seen_fits : seen < 2 ^ 64 = state_by-fits set in
+    let m : Kept = record { at = slot_at; state = seen } in
+    let pl' : ClaimFields = claim_fields h.id i (block_ptr wb wo) slot_at h.sharing h.reserved in
+    sets ! (of_opd ! (get ! refl)) refl (tt, record { fits = nf }) $
+    sets ! (of_opd ! (get ! refl)) refl (tt, tt) $
+    sets ! (is ! (bin ! (get ! refl) (lit ! tt) (lit< tt))
+    (ap (λ (n' : ℕ). vint w64 (n' % 64)) is_index))
+    refl (tt, record { fits = bit_fits i }) $
+    sets ! (of_opd ! (get ! refl)) refl (tt, record { fits = bit_fits i }) $
+    sets ! (bin ! (get ! refl) (get ! refl) (place_below i)) refl
+    (tt, record { fits = shifted_right n j nf }) $
+    sets ! (bin ! (get ! refl) (lit ! tt) tt) refl
+    (tt, record { fits = masked_fits (n / 2 ^ j) 1 (shifted_right n j nf) }) $
+    sets !
+    (is ! (bin ! (lit ! tt) (get ! refl)
+    (record { fits = subst (λ (x' : ℕ). x' < 2 ^ 64) (sym (state_by-flag n j)) seen_fits }))
+    (ap (vint w64) (state_by-flag n j)))
+    refl (tt, record { fits = seen_fits }) $
+    sets ! (agg ! (no_more !)) refl (tt, tt) $
+    sets ! (agg ! (and_then ! (get ! refl) (and_then ! (get ! refl) (and_then ! (get ! refl) (no_more !))))) refl (typed m seen_fits) $
+    move ! (1 ∷ []) $ fpick ! (λ v'. fsplit ! $ fpick ! (λ known. drop ! $ move ! (2 ∷ 0 ∷ []) $
+    fjoin ! $ nothing ! $ fpack ! (slot_at ≡ value_at R p i) (λ _. ftrue) refl $ fjoin ! $
+    fpack ! StandingBlock (has_slot R d t β pl' v') s' $
+    use1 𝓛 (‵ (has R d t β pl' (found_as v'))) (found_in 𝓛 R d t β pl' v') $
+    move ! (3 ∷ 2 ∷ []) $ fjoin ! $ fjoin ! $ nothing ! $
+    fpack ! (IsOf R h.table pl' d) (λ _. ftrue) (tt, of.1, of.2, of.3, of.4, of.5, of.6) $ fjoin ! $
+    fpack ! (BucketView × Turn) (has_at R β h.table pl' (found_as v')) z $ nothing ! $
+    fpack ! (IsKept R seen (found_as v')) (λ _. ftrue) (kept_as R v' set known.0) $ fjoin ! $
+    use0 𝓛 (‵ ((FieldsType ℓ R).own_val (fields_of ℓ R m) (value_of m ∷ [])))
+    (made ℓ R 𝓛 m seen_fits) $
+    fjoin ! $ move ! (1 ∷ 2 ∷ []) $ join ! $ move ! (1 ∷ []) $
+    let r : G.Denot = record {
+      at = slot_at;
+      state = seen;
+      marker = record {};
+      bucket = block_ptr wb wo;
+      table = h.table;
+      sharing = h.sharing;
+      id = h.id;
+      index = i;
+      reserved = h.reserved;
+      learnt = found_as v';
+    } in
+    use0 𝓛 (raw (fact 𝓤 (F₅ r))) (fact_i 𝓤 (F₅ r) (emp 𝓤) (finds_slot l₀ unseen v')) $
+    use0 𝓛 (raw (fact 𝓤 (F₄ r))) (fact_i 𝓤 (F₄ r) (emp 𝓤) (refl, (λ _. not_missing v'))) $ join ! $
+    use0 𝓛 (raw (fact 𝓤 (F₃ r)))
+    (fact_i 𝓤 (F₃ r) (emp 𝓤) (λ was. inr (ap found_as (known.1 (ap looked_in_vain was))))) $
+    join ! $ use0 𝓛 (raw (fact 𝓤 (F₂ r))) (fact_i 𝓤 (F₂ r) (emp 𝓤) (known_as v')) $ join ! $
+    use0 𝓛 (raw (fact 𝓤 (F₁ r))) (fact_i 𝓤 (F₁ r) (emp 𝓤) (refl, refl, refl, refl)) $ join ! $
+    nothing ! $ nothing ! $ fjoin ! $ nothing ! $ fjoin ! $ nothing ! $ fjoin ! $
+    returns ! (look_at ! 0 refl) $ free_all ! refl $ keep ! (3 ∷ 0 ∷ 2 ∷ 1 ∷ []) $
+    by ! (leaves 𝓛 En hs c y (value_of m) r (tt, (tt, (tt, tt)))
+    (tt, (tt, (tt, tt)))))))))))))))))))))))

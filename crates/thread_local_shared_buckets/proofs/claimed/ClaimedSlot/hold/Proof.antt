@@ -1,0 +1,144 @@
+-- `hold` joins the right with what a `&` to the bucket shows.
+use Rattle.thread_local_model.proofs.Names.{Option, ◌≡◌, ℕ, ◌^◌, List, [], ◌∷◌, refl, sym, ap, ◌∙◌, w64, a_type, named}
+use Rattle.thread_local_model.proofs.Names.{Val, vptr, vint, vunit, of_opd, inst_fn, SProp, emp, id⊢, Lft, Share, Fml}
+use Rattle.thread_local_model.proofs.Names.{ftrue, fsep, flft, ‵, raw, ◌⊛◌, some, later, ◌$◌, ◌∵◌, !, qed, by, move}
+use Rattle.thread_local_model.proofs.Names.{keep, drop, split, join, fsplit, fjoin, fpick, fpack, pick, use0, use1}
+use Rattle.thread_local_model.proofs.Names.{await, rewrite, feq_l, stop, addr, no_more, and_then, returns, enter}
+use Rattle.thread_local_model.proofs.Names.{alloc_all, pass_all, free_all, look_at, get, through, sets, env, agg}
+use Rattle.thread_local_model.proofs.Names.{tables, fact, fact_i, yes, RattleType, owns, types_at, plain, named_lft}
+use Rattle.thread_local_model.proofs.Names.{Ptr, block_ptr, nothing, heard, unhide, param, bounded, RefOf, shr_vals}
+use Rattle.thread_local_model.proofs.Names.{shr_Tells, uint_vals, uint_Tells, Stays, stay_dropped, walk_of}
+use Rattle.thread_local_model.proofs.Names.{Goes-dropped, proved, leaves, fm, ◌<◌, lit<, lit, arith, dnil, lands_as}
+use Rattle.thread_local_model.proofs.Names.{usize}
+use base.Fml.{feq}
+use denote.Steps.{only}
+use denote.Triple.Call.{calls_at}
+use denote.Triple.Spec.{triple_of}
+use Rattle.thread_local_model.specs.Place.{id_at}
+use Rattle.thread_local_ids.specs.Rights.{right_owns}
+use Rattle.thread_local_ids.specs.contracts.right.Right as right
+use Rattle.thread_local_ids.specs.contracts.right.Right.lay_down as layer
+use Rattle.thread_local_ids.proofs.Markers.{token, told as right_told}
+use Rattle.thread_local_ids.proofs.right.Right.lay_down.Met as layer_met
+use Rattle.thread_local_shared_buckets.specs.Shared.{BucketView, Turn}
+use Rattle.thread_local_shared_buckets.specs.contracts.shared_bucket.SharedBucket as one_bucket
+use Rattle.thread_local_model.specs.Learnt.{Learnt, Unknown}
+use Rattle.thread_local_shared_buckets.specs.Claims.{ClaimFields, claim_fields, IsOf, IsKept, has_at}
+use Rattle.thread_local_shared_buckets.specs.contracts.claimed.ClaimedSlot as claim
+use Rattle.thread_local_shared_buckets.specs.contracts.claimed.ClaimedSlot.hold.{ended, clauses}
+use Rattle.thread_local_shared_buckets.specs.contracts.claimed.ClaimedSlot.hold.Key.{name as #self}
+use Rattle.thread_local_shared_buckets.proofs.ClaimedFields.{Kept, value_of, FieldsType, fields_of, made, typed}
+use Rattle.thread_local_shared_buckets.proofs.claimed.ClaimedSlot.hold.Statement.{statement}
+use Rattle.thread_local_shared_buckets.proofs.claimed.ClaimedSlot.hold.Code as code
+
+pub hold_spec : {M : Type 1} → statement M
+hold_spec 𝓤 𝓛 𝓜 𝓡 wired X L =
+    let H = 𝓛.H in
+    let 𝓣 = tables 𝓤 H 𝓜 𝓡 𝓡.env in
+    let R : RattleType = param 0 X in
+    let En = ended X in
+    let c = clauses X 𝓛 𝓜.mem 𝓡.returns in
+    let inst = bounded (a_type ∷ []) (X, tt) dnil in
+    let fn = inst_fn inst code.function in
+    let closed = code.unfolded 𝓤 H 𝓜 𝓡 wired (X, tt) in
+    let W : RattleType = one_bucket.the_row R in
+    let self = RefOf (0 ∷ []) tt (plain (λ _. W)) (λ _. tt) in
+    let number = plain (λ _. usize) in
+    let mine = plain (λ _. right.the_row) in
+    let lays = triple_of 𝓛 layer.signature (layer.spec 𝓛 𝓜.mem 𝓡.returns) in
+    let hs : Stays En.signature.params En.kept = (stay_dropped self yes, (stay_dropped number yes, (stay_dropped mine yes, tt))) in
+    proved 𝓛 En hs c 𝓜 𝓡 (
+      Goes-dropped 𝓛 2 self yes (λ κs x f. refl),
+      (
+        Goes-dropped 𝓛 2 number yes (λ κs x f. refl),
+        (Goes-dropped 𝓛 2 mine yes (λ κs x f. refl), tt),
+      ),
+    )
+    (#self inst) fn closed
+    (λ κs. (shr_vals, (uint_vals w64, ((λ x. token ∷ []), tt))))
+    (λ κs. (
+      shr_Tells (named 0) κs.0 W,
+      (uint_Tells w64, ((λ x vs is. right_told (right.the_type).name vs is.0), tt)),
+    ))
+    (λ κs qs bounds a gh are.
+    let b : ℕ = a.0.ref_ptr.0 in
+    let o : ℕ = a.0.ref_ptr.1 in
+    let κ : Lft = κs.0 in
+    let q : Share = qs.0 in
+    let d : BucketView = a.0.now in
+    let i : ℕ = a.1.0 in
+    let r = a.1.1.0 in
+    let others : Fml = fsep (flft κs.1.0 qs.1.0) ftrue in
+    let ℓ = named_lft 2 0 tt κs in let G : RattleType = claim.the_row ℓ R in let p : Ptr = block_ptr b o in
+    let y : (walk_of 𝓛 En hs c).Ghost =
+    ((κs, qs, bounds, a, (vptr b o ∷ [], (vint w64 i ∷ [], (token ∷ [], tt)))), gh) in
+    let Post : Val → SProp 𝓤 = (walk_of 𝓛 En hs c).post y in
+    qed 𝓛 (((‵ (flft κ q) ⊛ ‵ others) ⊛ ‵ (owns (types_at En.signature.params κs) a y.0.4))
+    ∷ raw (fact 𝓤 _) ∷ raw (fact 𝓤 (r.table ≡ d.table)) ∷ raw (fact 𝓤 (r.id ≡ id_at d.bucket i))
+    ∷ raw (fact 𝓤 (i < 2 ^ d.bucket)) ∷ []) ∵
+    keep ! (2 ∷ 3 ∷ 4 ∷ 0 ∷ []) $ heard ! (r.table ≡ d.table) (λ same.
+    heard ! (r.id ≡ id_at d.bucket i) (λ is_id. heard ! (i < 2 ^ d.bucket) (λ near.
+    split ! $ split ! $ move ! (2 ∷ []) $ fsplit ! $ fsplit ! $ drop ! $ move ! (1 ∷ []) $
+    fsplit ! $ drop ! $ fsplit ! $ keep ! (0 ∷ 2 ∷ 3 ∷ 4 ∷ []) $
+    enter ! 𝓣.C 𝓣.Λ fn (vptr b o ∷ vint w64 i ∷ token ∷ []) Post $ alloc_all ! (λ l.
+    pass_all ! refl ((tt, tt), ((tt, record { fits = are.1.0.1 }), ((tt, (tt, tt)), tt))) $
+    let Ev = env fn.locals l in
+    -- [the right; what a `&` to the bucket shows; the tokens]
+    let k : lays.Ghost = ((tt, tt, tt, (r, tt), (token ∷ [], tt)), tt) in
+    nothing ! $ move ! (1 ∷ 0 ∷ []) $ fjoin ! $ nothing ! $ join ! $ nothing ! $
+    move ! (1 ∷ 0 ∷ []) $ join ! $ use1 𝓛 (raw (lays.pre k)) (id⊢ 𝓤 (lays.pre k)) $
+    calls_at ! (fm 𝓛 𝓜 𝓡) lays
+    (layer_met.met 𝓤 𝓛 𝓜 𝓡 (code.calls-thread_local_ids::right::Right::lay_down 𝓡.env wired)) k
+    (and_then ! (get ! refl) (no_more !)) (λ u.
+    use1 𝓛 (later (some (λ (_ : Unit {0}).
+    (‵ ftrue ⊛ ‵ (feq (List Val) (u ∷ []) (vunit ∷ [])))
+    ⊛ some (λ (_ : Unit {0} × Unit {0}). ‵ (fsep ftrue ftrue) ⊛ ‵ (right_owns r.table r.id)))))
+    (id⊢ 𝓤 (lays.post k u)) $
+    await ! tt $ pick ! (λ _. split ! $ split ! $ drop ! $ feq_l ! (λ eu. pick ! (λ _. split ! $
+    drop ! $ lands_as ! (ap only eu) refl (tt, tt) $
+    rewrite ! 0 (λ (n : ℕ). ‵ (right_owns n r.id)) same refl $
+    sets ! (addr ! (through ! refl (stop !))) refl (tt, tt) $
+    sets ! (of_opd ! (get ! refl)) refl (tt, tt) $ sets ! (agg ! (no_more !)) refl (tt, tt) $
+    let m : Kept = record { at = p; state = 0 } in
+    let pl : ClaimFields = claim_fields r.id i p p d.sharing d.reserved in
+    let no : Learnt X.Denot = Unknown in
+    sets !
+    (agg !
+    (and_then ! (get ! refl) (and_then ! (lit ! tt) (and_then ! (get ! refl) (no_more !)))))
+    refl (typed m (lit< tt)) $
+    nothing ! $ fpack ! (p ≡ p) (λ _. ftrue) refl $ fjoin ! $
+    move ! (1 ∷ []) $ unhide ! $ fsplit ! $ fpick ! (λ j. drop ! $ fpick ! (λ t. fjoin ! $
+    nothing ! $
+    fpack ! (IsOf R r.table pl d) (λ _. ftrue)
+    (tt, j, sym same, is_id ∙ omega arith, near, refl, refl) $
+    fjoin ! $ fpack ! (BucketView × Turn) (has_at R κ r.table pl no) (d, t) $
+    nothing ! $ fpack ! (IsKept R 0 no) (λ _. ftrue) refl $ fjoin ! $
+    use0 𝓛 (‵ ((FieldsType ℓ R).own_val (fields_of ℓ R m) (value_of m ∷ [])))
+    (made ℓ R 𝓛 m (lit< tt)) $
+    fjoin ! $
+    move ! (1 ∷ 2 ∷ []) $ join ! $ move ! (1 ∷ []) $
+    let h : G.Denot = record {
+      at = p;
+      state = 0;
+      marker = record {};
+      bucket = p;
+      table = r.table;
+      sharing = d.sharing;
+      id = r.id;
+      index = i;
+      reserved = d.reserved;
+      learnt = no;
+    } in
+    use0 𝓛 (raw (fact 𝓤 (h.reserved ≡ d.reserved)))
+    (fact_i 𝓤 (h.reserved ≡ d.reserved) (emp 𝓤) refl) $
+    use0 𝓛 (raw (fact 𝓤 (h.learnt ≡ Unknown))) (fact_i 𝓤 (h.learnt ≡ Unknown) (emp 𝓤) refl) $
+    join ! $
+    use0 𝓛
+    (raw (fact 𝓤 ((h.table ≡ r.table) × (◌≡◌ {A = Option ℕ} h.sharing d.sharing) × (h.id ≡ r.id)
+    × (h.index ≡ i))))
+    (fact_i 𝓤 ((h.table ≡ r.table) × (◌≡◌ {A = Option ℕ} h.sharing d.sharing) × (h.id ≡ r.id)
+    × (h.index ≡ i))
+    (emp 𝓤) (refl, refl, refl, refl)) $
+    join ! $ nothing ! $ nothing ! $ fjoin ! $ nothing ! $ fjoin ! $ nothing ! $ fjoin ! $
+    returns ! (look_at ! 0 refl) $ free_all ! refl $ keep ! (3 ∷ 0 ∷ 2 ∷ 1 ∷ []) $
+    by ! (leaves 𝓛 En hs c y (value_of m) h (tt, (tt, (tt, tt))) (tt, (tt, (tt, tt)))))))))))))))

@@ -1,0 +1,250 @@
+//! A claim of a slot, in three states: its bucket was missing, the slot is vacant, the slot holds a
+//! value. It begins in any of them, and goes on from one to the next.
+ghost use Rattle.std.specs.Prelude.{◌≡◌, ◌≢◌, ◌/◌, ◌^◌, ◌⊎◌, true, Some, IsSome, MatchBool, MatchOption};
+ghost use Rattle.thread_local_model.specs.Learnt.{Unknown, Missing, Vacant, Holding, Finds, learnt_by_install, learnt_by_publish};
+ghost use Rattle.thread_local_model.specs.Place.{IsPlaceOf};
+ghost use Rattle.thread_local_bucket_pointers.specs.Slots.{empty_slots, flag_word_at};
+ghost use Rattle.thread_local_shared_buckets.specs.Known.{HasLooked};
+
+use crate::SharedBucket;
+use crate::claimed::ClaimedSlot;
+use crate::replaced::replace_with;
+use std::alloc::Global;
+use std::marker::Model;
+use thread_local_bucket_pointers::{Block, flag_word_at};
+use thread_local_ids::{HeldId, Right, Token};
+use thread_local_thread_id::Thread;
+
+/// The slot of an id, for the holder of the id, whose right lies with the slot meanwhile. Contracts
+/// see its table, the sharing, its id, whether its bucket is reserved, and what it has learnt of
+/// the slot: that the bucket was missing, that the slot is vacant, or the value that the slot
+/// holds.
+///
+/// No call waits or takes memory. Only `look`, `look_again`, `install` and `publish` make atomic
+/// steps. These ask for the place of the id, which the caller computes once.
+pub struct Claim<'a, T> {
+    slot: ClaimedSlot<'a, T>,
+    held: HeldId,
+}
+
+impl<'a, T> Model for Claim<'a, T> {
+    ghost use Rattle.std.specs.Prelude.{◌≡◌};
+    ghost use Rattle.thread_local_model.specs.Place.{index_of};
+    ghost use Rattle.thread_local_shared_buckets.specs.Known.{HasLooked};
+    ghost use Rattle.thread_local_shared_buckets.specs.Views.{ClaimView, claim_view_coded};
+
+    ghost Value = { ClaimView T };
+
+    ghost coded = { claim_view_coded T.code };
+
+    ghost view = { λ c.
+        record {
+          table = c.slot.table;
+          sharing = c.slot.sharing;
+          id = c.held.id;
+          reserved = c.slot.reserved;
+          learnt = c.slot.learnt;
+        } };
+
+    ghost invariant = { λ c.
+        (c.slot.id ≡ c.held.id)
+        × (c.slot.index ≡ index_of c.held.id)
+        × HasLooked c.slot.learnt
+        × (c.held.mark.table ≡ c.slot.table) };
+}
+
+impl<'a, T> Claim<'a, T> {
+    /// Claims the slot of a held id, in the bucket of the id's place: one atomic load of the
+    /// bucket's pointer, and where the bucket stands, one of the word that has the slot's flag. A
+    /// reserved bucket is never missing.
+    #[tactic(auto, using(crate::proofs::IdLaws::id_of_place))]
+    pub fn look(
+        bucket: &'a SharedBucket<T>,
+        thread: Thread,
+        held: HeldId,
+        right: Right,
+    ) -> Claim<'a, T>
+        requires table { (right.table ≡ bucket.now.table) × (held.mark.table ≡ bucket.now.table) }
+        requires id { right.id ≡ held.id }
+        requires place { IsPlaceOf thread.bucket thread.index held.id }
+        requires bucket { bucket.now.bucket ≡ thread.bucket }
+        ensures same_slot { (result.table ≡ right.table)
+            × (result.sharing ≡ bucket.now.sharing)
+            × (result.id ≡ held.id) }
+        ensures found { Finds Unknown result.learnt }
+        ensures learnt { HasLooked result.learnt }
+        ensures reserved { (result.reserved ≡ bucket.now.reserved)
+            × (result.reserved ≡ true → result.learnt ≢ Missing) }
+    {
+        let slot = ClaimedSlot::hold(bucket, thread.index, right);
+        Claim {
+            slot: slot.find(thread.index, flag_word_of::<T>(thread)),
+            held,
+        }
+    }
+
+    /// Looks again for a bucket that was missing, by the same loads as `look`. Where the bucket
+    /// stands now, the slot is vacant, whoever installed the block.
+    pub fn look_again(&mut self, thread: Thread)
+        requires missing { self.old.learnt ≡ Missing }
+        requires place { IsPlaceOf thread.bucket thread.index self.old.id }
+        ensures same_slot { (self.new.table ≡ self.old.table)
+            × (self.new.sharing ≡ self.old.sharing)
+            × (self.new.id ≡ self.old.id) }
+        ensures found { Finds self.old.learnt self.new.learnt }
+        ensures learnt { (self.new.learnt ≡ Missing) ⊎ (self.new.learnt ≡ Vacant) }
+        ensures reserved { (self.new.reserved ≡ self.old.reserved)
+            × (self.new.reserved ≡ true → self.new.learnt ≡ Vacant) }
+    {
+        let given = (thread.index, flag_word_of::<T>(thread));
+        replace_with(&mut self.slot, given, |slot, (index, flag_word)| {
+            (slot.find(index, flag_word), ())
+        })
+    }
+
+    /// Installs a block for the claim's bucket, which was missing, by one compare and exchange.
+    /// Where another block was installed first, that one stays, and this one is freed. Either way
+    /// the slot is vacant from then on.
+    pub fn install(&mut self, thread: Thread, block: Block<T, Global>, alloc: &Global)
+        requires missing { self.old.learnt ≡ Missing }
+        requires place { IsPlaceOf thread.bucket thread.index self.old.id }
+        requires block { (block.heap ≡ alloc.now)
+            × (block.slots ≡ empty_slots (2 ^ thread.bucket))
+            × (block.left ≡ 0) }
+        ensures same_slot { (self.new.table ≡ self.old.table)
+            × (self.new.sharing ≡ self.old.sharing)
+            × (self.new.id ≡ self.old.id) }
+        ensures learnt { learnt_by_install self.old.learnt ≡ Some self.new.learnt }
+        ensures reserved { self.new.reserved ≡ self.old.reserved }
+    {
+        let given = (thread.index, block);
+        let back = replace_with(&mut self.slot, given, |slot, (index, block)| {
+            slot.exchange(index, block)
+        });
+        if let Some(block) = back {
+            block.release(alloc, thread.bucket_size());
+        }
+    }
+
+    /// Publishes a value in a vacant slot: the value is written, and then the flag is set, by one
+    /// atomic addition that never has to be tried again.
+    pub fn publish(&mut self, thread: Thread, value: T)
+        requires vacant { self.old.learnt ≡ Vacant }
+        requires place { IsPlaceOf thread.bucket thread.index self.old.id }
+        ensures same_slot { (self.new.table ≡ self.old.table)
+            × (self.new.sharing ≡ self.old.sharing)
+            × (self.new.id ≡ self.old.id) }
+        ensures learnt { learnt_by_publish self.old.learnt value ≡ Some self.new.learnt }
+        ensures reserved { self.new.reserved ≡ self.old.reserved }
+    {
+        let given = (thread.index, flag_word_of::<T>(thread), value);
+        replace_with(&mut self.slot, given, |slot, (index, flag_word, value)| {
+            (slot.publish(index, flag_word, value), ())
+        })
+    }
+
+    /// The id whose slot it is.
+    pub fn id(&self) -> usize
+        ensures { result ≡ self.now.id }
+    {
+        self.held.id
+    }
+
+    /// The place of the id.
+    pub fn place(&self) -> Thread
+        ensures { IsPlaceOf result.bucket result.index self.now.id }
+    {
+        Thread::new(self.held.id)
+    }
+
+    /// Whether the bucket was missing when the claim looked for it last.
+    pub fn is_missing(&self) -> bool
+        ensures { MatchBool result (self.now.learnt ≡ Missing) (self.now.learnt ≢ Missing) }
+    {
+        self.slot.is_missing()
+    }
+
+    /// The value that the slot holds, for as long as the claim is borrowed.
+    pub fn get(&self) -> Option<&T>
+        ensures { MatchOption result ((self.now.learnt ≡ Missing) ⊎ (self.now.learnt ≡ Vacant)) (λ x.
+            self.now.learnt ≡ Holding x.now) }
+    {
+        if self.slot.is_published() {
+            Some(self.slot.value())
+        } else {
+            None
+        }
+    }
+
+    /// A token of what the slot was published with, where it holds a value. At run time it reads
+    /// what the claim knows.
+    pub fn token(&self) -> Option<Token<T>>
+        ensures { MatchOption result ((self.now.learnt ≡ Missing) ⊎ (self.now.learnt ≡ Vacant)) (λ p.
+            (p.sharing ≡ self.now.sharing)
+            × (p.id ≡ self.now.id)
+            × (self.now.learnt ≡ Holding p.value)) }
+    {
+        if !self.slot.is_published() {
+            return None;
+        }
+        Some(Token::new(self.held.id, self.slot.witness()))
+    }
+
+    /// Shows that the slot holds what a token says that it was published with. At run time it does
+    /// nothing.
+    pub fn agrees(&mut self, token: &Token<T>)
+        requires id { self.old.id ≡ token.now.id }
+        requires sharing { self.old.sharing ≡ token.now.sharing }
+        requires named { IsSome self.old.sharing }
+        ensures holds { self.old.learnt ≡ Holding token.now.value }
+        ensures same { self.new ≡ self.old }
+    {
+        self.slot.agrees(token.witness());
+    }
+
+    /// Gives the claim up, and returns the held id with its right.
+    pub fn give_up(self) -> (HeldId, Right)
+        ensures table { (result.1.table ≡ self.entry.table) × (result.0.mark.table ≡ self.entry.table) }
+        ensures id { (result.0.id ≡ self.entry.id) × (result.1.id ≡ self.entry.id) }
+    {
+        let Self { slot, held } = self;
+        (held, slot.give_up())
+    }
+
+    /// Shows that two claims of one table are of different slots. At run time it does nothing.
+    pub fn apart(&mut self, other: &mut Claim<'_, T>)
+        requires { self.old.table ≡ other.old.table }
+        ensures ids { self.old.id ≢ other.old.id }
+        ensures same { (self.new ≡ self.old) × (other.new ≡ other.old) }
+    {
+        self.held.apart(&mut other.held)
+    }
+}
+
+impl<'a, T: Sync> Claim<'a, T> {
+    /// The value with a token of it, or `None`, as `get` and `token` answer them. But this value
+    /// may be used after the claim is gone, for as long as the bucket is borrowed: a published
+    /// value stays in its slot until then.
+    pub fn lasting(&self) -> Option<(Token<T>, &'a T)>
+        ensures { MatchOption result ((self.now.learnt ≡ Missing) ⊎ (self.now.learnt ≡ Vacant)) (λ x.
+            (x.0.sharing ≡ self.now.sharing)
+            × (x.0.id ≡ self.now.id)
+            × (x.0.value ≡ x.1.now)
+            × (self.now.learnt ≡ Holding x.1.now)) }
+    {
+        if self.slot.is_published() {
+            let token = Token::new(self.held.id, self.slot.witness());
+            Some((token, self.slot.lasting()))
+        } else {
+            None
+        }
+    }
+}
+
+/// The number of the word that has the flag of the slot at a place.
+#[inline]
+fn flag_word_of<T>(thread: Thread) -> usize
+    ensures { result ≡ flag_word_at T.row (2 ^ thread.bucket) (thread.index / 64) }
+{
+    flag_word_at::<T>(thread.bucket_size(), thread.index / 64)
+}

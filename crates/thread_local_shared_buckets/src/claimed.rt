@@ -1,0 +1,203 @@
+//! A claimed slot as it is stored: it points to the bucket's pointer until the bucket is found, and
+//! to the slot's value from then on.
+ghost use Rattle.std.specs.Prelude.{◌≡◌, ◌≢◌, ◌<◌, ◌^◌, ◌⊎◌, ℕ, Bool, true, Option, is_some};
+ghost use base.Stored.{coded_bool};
+ghost use Rattle.std.specs.Coded.{coded_option, coded_ℕ};
+ghost use denote.RawPtr.{Ptr, coded_ptr};
+ghost use Rattle.thread_local_model.specs.Learnt.{Learnt, learnt_coded, Unknown, Missing, Vacant, Holding, Finds};
+ghost use Rattle.thread_local_model.specs.Place.{id_at};
+ghost use Rattle.thread_local_shared_buckets.specs.Known.{HasLooked, MayLook, points_to_pointer, state_of, value_held};
+ghost use Rattle.thread_local_shared_buckets.specs.Claims.{flag_word_of, claim_fields, claim_owns, claim_shares};
+
+use crate::SharedBucket;
+use std::marker::{Brand, Model, PhantomData};
+use std::mem::size_of;
+use std::sync::atomic::Ordering::SeqCst;
+use std::sync::atomic::raw;
+use std::sync::atomic::raw::ptr;
+use thread_local_ids::Right;
+
+// `exchange` stands in `install`, `witness` and `agrees` in `told`.
+mod give_up;
+mod install;
+mod lasting;
+mod told;
+
+/// The number of a claim that has found no bucket.
+const MISSING: u64 = 0;
+
+/// The number of a claim whose slot is vacant.
+const VACANT: u64 = 1;
+
+/// The number of a claim whose slot holds a value.
+const HOLDING: u64 = 2;
+
+/// The slot of an id that is claimed. Contracts see its table, its id with the index in its bucket,
+/// whether its bucket is reserved, the sharing, and what it has learnt of the slot. It stores no
+/// index: callers pass the index and, as `flag_word`, the number of the word that has the flag.
+pub(crate) struct ClaimedSlot<'a, T> {
+    /// The address of the bucket's pointer, and once the bucket is found, of the slot's value.
+    at: *const (),
+    /// What it has learnt: `MISSING`, `VACANT` or `HOLDING`.
+    state: u64,
+    /// A claim publishes into a bucket that others share, so its type varies no more than a bucket's.
+    marker: PhantomData<&'a SharedBucket<T>>,
+    /// The address of the bucket's pointer.
+    pub ghost bucket: { Ptr } by { coded_ptr },
+    pub ghost table: { ℕ },
+    /// The sharing, if it has a name.
+    pub ghost sharing: { Option ℕ } by { coded_option coded_ℕ },
+    pub ghost id: { ℕ },
+    pub ghost index: { ℕ },
+    /// Whether the bucket is reserved.
+    pub ghost reserved: { Bool } by { coded_bool },
+    pub ghost learnt: { Learnt T } by { learnt_coded T.code },
+}
+
+impl<'a, T> Model for ClaimedSlot<'a, T> {
+    ghost also_owns = { λ c.
+        claim_owns T.row 'a c.table (claim_fields c.id c.index c.bucket c.at c.sharing c.reserved)
+        c.learnt c.state };
+
+    ghost also_shares = { λ c _ κ.
+        claim_shares T.row 'a (claim_fields c.id c.index c.bucket c.at c.sharing c.reserved)
+        c.learnt c.state κ };
+}
+
+impl<'a, T> ClaimedSlot<'a, T> {
+    /// A claim that has the right to its id, and has not looked for its slot yet.
+    pub(crate) fn hold(
+        bucket: &'a SharedBucket<T>,
+        index: usize,
+        right: Right,
+    ) -> ClaimedSlot<'a, T>
+        requires table { right.table ≡ bucket.now.table }
+        requires id { right.id ≡ id_at bucket.now.bucket index }
+        requires within { index < 2 ^ bucket.now.bucket }
+        ensures same_slot { (result.table ≡ right.table)
+            × (result.sharing ≡ bucket.now.sharing)
+            × (result.id ≡ right.id)
+            × (result.index ≡ index) }
+        ensures unknown { result.learnt ≡ Unknown }
+        ensures reserved { result.reserved ≡ bucket.now.reserved }
+    {
+        right.lay_down();
+        let _ = index;
+        ClaimedSlot {
+            at: bucket as *const SharedBucket<T> as *const (),
+            state: MISSING,
+            marker: PhantomData,
+        }
+    }
+
+    /// Looks for the bucket, and where it stands, at the slot: one atomic load of the bucket's
+    /// pointer, and one of the word `flag_word` of the block, which has the slot's flag. After an
+    /// earlier miss it finds the slot empty.
+    pub(crate) fn find(self, index: usize, flag_word: usize) -> ClaimedSlot<'a, T>
+        requires missing { MayLook self.learnt }
+        requires index { index ≡ self.index }
+        requires flag_word { flag_word ≡ flag_word_of T.row self.id }
+        ensures same_slot { (result.table ≡ self.entry.table)
+            × (result.sharing ≡ self.entry.sharing)
+            × (result.id ≡ self.entry.id)
+            × (result.index ≡ self.entry.index) }
+        ensures looked { HasLooked result.learnt }
+        ensures empty { self.entry.learnt ≡ Missing → (result.learnt ≡ Missing) ⊎ (result.learnt ≡ Vacant) }
+        ensures reserved { (result.reserved ≡ self.entry.reserved)
+            × (result.reserved ≡ true → result.learnt ≢ Missing) }
+        ensures found { Finds self.entry.learnt result.learnt }
+    {
+        let Self {
+            at: bucket,
+            state: _,
+            marker: _,
+        } = self;
+        let at = unsafe {
+            let bucket = bucket as *const SharedBucket<T>;
+            ptr::load::<u64, Brand>(&raw const (*bucket).at as *const *mut u64, SeqCst)
+        };
+        if at.is_null() {
+            return ClaimedSlot {
+                at: bucket,
+                state: MISSING,
+                marker: PhantomData,
+            };
+        }
+        let word = unsafe { (at as *const u64).add(flag_word) };
+        let value = unsafe { (at as *const T).add(index) };
+        let flags = unsafe { raw::load::<Brand>(word, SeqCst) };
+        ClaimedSlot {
+            at: value as *const (),
+            // With a flag that is set, the sum is `HOLDING`.
+            state: VACANT + (flags >> (index % 64) & 1),
+            marker: PhantomData,
+        }
+    }
+
+    /// Publishes a value in a vacant slot: the value is written, and then the flag is set, by one
+    /// atomic addition to the word `flag_word` of the block. The flag is unset, so the addition
+    /// changes no other bit, whatever others publish in the same word.
+    pub(crate) fn publish(self, index: usize, flag_word: usize, value: T) -> ClaimedSlot<'a, T>
+        requires vacant { self.learnt ≡ Vacant }
+        requires index { index ≡ self.index }
+        requires flag_word { flag_word ≡ flag_word_of T.row self.id }
+        ensures same_slot { (result.table ≡ self.entry.table)
+            × (result.sharing ≡ self.entry.sharing)
+            × (result.id ≡ self.entry.id)
+            × (result.index ≡ self.entry.index) }
+        ensures value { result.learnt ≡ Holding value }
+        ensures reserved { result.reserved ≡ self.entry.reserved }
+    {
+        let Self {
+            at,
+            state: _,
+            marker: _,
+        } = self;
+        // The words of flags lie behind the values.
+        let distance = flag_word * 8 - index * size_of::<T>();
+        let word = unsafe { (at as *const u8).add(distance) } as *const u64;
+        let slot = at as *mut T;
+        unsafe { slot.write(value) };
+        unsafe { raw::fetch_add::<Brand>(word, 1 << (index % 64), SeqCst) };
+        ClaimedSlot {
+            at,
+            state: HOLDING,
+            marker: PhantomData,
+        }
+    }
+
+    /// Whether no bucket has been found.
+    #[tactic(auto, using(crate::proofs::StateLaws::missing_by))]
+    pub(crate) fn is_missing(&self) -> bool
+        ensures { result ≡ points_to_pointer self.now.learnt }
+    {
+        self.state() == MISSING
+    }
+
+    /// Whether the slot holds a value.
+    #[tactic(auto, using(crate::proofs::StateLaws::published_by))]
+    pub(crate) fn is_published(&self) -> bool
+        ensures { result ≡ is_some (value_held self.now.learnt) }
+    {
+        self.state() == HOLDING
+    }
+
+    /// The number for what it has learnt.
+    fn state(&self) -> u64
+        ensures { result ≡ state_of self.now.learnt }
+    {
+        self.state
+    }
+
+    /// The value that the slot holds, for as long as the claim is borrowed.
+    pub(crate) fn value(&self) -> &T
+        requires published { is_some (value_held self.now.learnt) ≡ true }
+        ensures { self.now.learnt ≡ Holding result.now }
+    {
+        unsafe { &*(self.at as *const T) }
+    }
+}
+
+unsafe impl<T: Send> Send for ClaimedSlot<'_, T> {}
+
+unsafe impl<T: Sync> Sync for ClaimedSlot<'_, T> {}

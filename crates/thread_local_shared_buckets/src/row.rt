@@ -1,0 +1,65 @@
+//! The slots of a bucket that stands, seen by any thread: each is empty until its flag is set, and
+//! holds its value from then on.
+ghost use Rattle.std.specs.Prelude.{◌≡◌, ℕ, ◌+◌, ◌*◌, ◌^◌, ◌<◌, true, List};
+ghost use Rattle.thread_local_model.specs.Bits.{is_set};
+ghost use Rattle.thread_local_judged.specs.Judged.{Shareable};
+ghost use Rattle.thread_local_bucket_pointers.specs.Slots.{flag_word_at};
+ghost use Rattle.thread_local_shared_buckets.specs.Shared.{BucketView, bucket_view_coded, row_owns};
+ghost use denote.Sharing.{said};
+
+use crate::seen::Seen;
+use std::marker::{Brand, Model, PhantomData};
+use std::sync::atomic::Ordering::SeqCst;
+use std::sync::atomic::raw;
+use thread_local_bucket_pointers::Chunk;
+
+/// The slots of a bucket, for as long as the bucket is borrowed. A contract sees which bucket it
+/// is, and for each slot a name, under which it is known what the slot holds.
+#[derive(Drop)]
+pub struct Row<'a, T> {
+    pub at: *mut Chunk<T>,
+    pub marker: PhantomData<&'a T>,
+    pub ghost of: { BucketView } by { bucket_view_coded },
+    pub ghost names: { List ℕ },
+}
+
+impl<'a, T> Model for Row<'a, T> {
+    ghost also_owns = { λ r. row_owns T.row r.of r.names 'a r.at };
+
+    ghost also_shares = { λ r _ κ. said (row_owns T.row r.of r.names 'a r.at) κ };
+}
+
+impl<'a, T> Row<'a, T> {
+    /// Looks at the slots of a chunk: one atomic load of the word with their flags, which is the word
+    /// `flag_word` of the block. It sees all of them at one instant. It never waits and takes no
+    /// memory.
+    ///
+    /// That threads may share a value is a clause and not a bound, since a walk calls this in
+    /// `next`, and a trait's method isn't given the bounds of its impl.
+    pub fn look(&self, chunk: usize, flag_word: usize) -> Seen<'a, T>
+        requires shareable { Shareable T.row }
+        requires in_table { self.now.of.bucket < 63 }
+        requires inside { chunk * 64 < 2 ^ self.now.of.bucket }
+        requires flag_word { flag_word ≡ flag_word_at T.row (2 ^ self.now.of.bucket) chunk }
+        ensures of { (result.of ≡ self.now.of) × (result.names ≡ self.now.names) × (result.chunk ≡ chunk) }
+        ensures inside { (bit : ℕ)
+            → bit < 64
+            → is_set result.flags bit ≡ true
+            → chunk * 64 + bit < 2 ^ self.now.of.bucket }
+    {
+        let at = self.at;
+        let first = chunk * 64;
+        let values = unsafe { (at as *const T).add(first) };
+        let word = unsafe { (at as *const u64).add(flag_word) };
+        let flags = unsafe { raw::load::<Brand>(word, SeqCst) };
+        Seen {
+            values,
+            flags,
+            marker: PhantomData,
+        }
+    }
+}
+
+unsafe impl<T: Send> Send for Row<'_, T> {}
+
+unsafe impl<T: Send> Sync for Row<'_, T> {}
