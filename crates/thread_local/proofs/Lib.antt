@@ -3,3 +3,4 @@ pub mod Reserved
 pub mod Filled
 pub mod Seated
 pub mod Told
+mod Lent
