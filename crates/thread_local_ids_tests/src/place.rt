@@ -21,7 +21,12 @@ fn places_of_ids(rt: HostRuntime) {
         assert!(rt; id < 9223372036854775807);
         let thread = Thread::new(id);
         assert_eq!(rt;
-            (thread.bucket, thread.index, thread.bucket_size(), thread.id()),
+            (
+                thread.bucket,
+                thread.index,
+                thread.bucket_size(),
+                thread.id()
+            ),
             (bucket, index, size, id)
         );
     }
