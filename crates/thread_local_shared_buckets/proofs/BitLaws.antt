@@ -1,10 +1,11 @@
 -- Tests, bits and chunks.
 use Rattle.std.proofs.Common.{◌≡◌, ◌≢◌, ℕ, zero, suc, ◌+◌, ◌/◌, ◌%◌, ◌<◌, ◌≤◌, ◌⊎◌, Bool, true, false, cond, eqb}
 use Rattle.std.proofs.Common.{refl, ap, sym, ◌∙◌, subst, arith, ⊎_elim, inl, inr}
-use Rattle.std.proofs.Common.{MatchBool}
+use Rattle.std.proofs.Common.{MatchBool, Option, None, Some, IfSome}
 use Rattle.std.proofs.lemmas.Bool.{cond_both, eqb-true, eqb-false, eq-eqb, ne_eqb, cases_lt}
 use Rattle.thread_local_model.specs.Bits.{is_set, IsLowestSet, IsWordBut}
 use Rattle.thread_local_model.proofs.Word.{is_set-zero}
+use Rattle.thread_local_shared_buckets.specs.AtHand.{LiesOutside}
 
 pub both_so : (a b c d : ℕ) → a ≡ b → c ≡ d → cond (eqb a b) (eqb c d) false ≡ true
 both_so a b c d e f = ap (λ (u : Bool). cond u (eqb c d) false) (eq-eqb a b e) ∙ eq-eqb c d f
@@ -73,16 +74,18 @@ pub found : (answer : Bool) (rest bucket : ℕ) → answer ≡ true → MatchBoo
 found answer rest bucket is by = subst (λ (u : Bool). MatchBool u (0 < rest) (63 ≤ bucket)) is by
 
 -- no own slot lies in the chunks so far, if none lies in this one
-pub none_further : (own from chunk : ℕ) → ((k : ℕ) → from ≤ k → k < chunk → own / 64 ≢ k) → own / 64 ≢ chunk
-    → (k : ℕ) → from ≤ k → k < chunk + 1 → own / 64 ≢ k
+pub none_further : (own : Option ℕ) (from chunk : ℕ) → ((k : ℕ) → from ≤ k → k < chunk → LiesOutside own k) → LiesOutside own chunk
+    → (k : ℕ) → from ≤ k → k < chunk + 1 → LiesOutside own k
 none_further own from chunk before here k late below =
     ⊎_elim (λ (less : k < chunk). before k late less)
-    (λ (more : chunk ≤ k). let same : k ≡ chunk = omega arith in λ at. here (at ∙ same))
+    (λ (more : chunk ≤ k). let same : chunk ≡ k = omega arith in subst (LiesOutside own) same here)
     (cases_lt k chunk)
 
 -- where no flag of a chunk is set, the own slot lies elsewhere
-pub none_in_chunk : (own chunk flags word : ℕ) → (own / 64 ≡ chunk → IsWordBut word flags (own % 64) true) → word ≡ 0
-    → own / 64 ≢ chunk
-none_in_chunk own chunk flags word adds none at =
-    let small : own % 64 < 64 = omega arith in
-    none_set word (own % 64) none (added_set word flags (own % 64) (adds at) small)
+pub none_in_chunk : (own : Option ℕ) (chunk flags word : ℕ)
+    → IfSome own (λ index. index / 64 ≡ chunk → IsWordBut word flags (index % 64) true) → word ≡ 0
+    → LiesOutside own chunk
+none_in_chunk None chunk flags word adds none = tt
+none_in_chunk (Some index) chunk flags word adds none = λ at.
+    let small : index % 64 < 64 = omega arith in
+    none_set word (index % 64) none (added_set word flags (index % 64) (adds at) small)

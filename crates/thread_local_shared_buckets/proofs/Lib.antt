@@ -6,7 +6,6 @@ pub mod StepLaws
 pub mod MoveLaws
 pub mod WalkLaws
 pub mod BitLaws
-pub mod Indices
 pub mod OwnLaws
 pub mod PassLaws
 pub mod LookLaws

@@ -1,7 +1,7 @@
 -- Flags come to hand.
-use Rattle.std.proofs.Common.{◌≡◌, ◌≢◌, ℕ, ◌+◌, ◌-◌, ◌*◌, ◌/◌, ◌%◌, ◌^◌, ◌<◌, ◌≤◌, ◌⊎◌, Bool, true, false, cond, eqb}
+use Rattle.std.proofs.Common.{◌≡◌, ◌≢◌, ℕ, ◌+◌, ◌-◌, ◌*◌, ◌/◌, ◌%◌, ◌^◌, ◌<◌, ◌≤◌, ◌⊎◌, true, false}
 use Rattle.std.proofs.Common.{Option, None, Some, IfSome, refl, ap, sym, ◌∙◌, subst, arith, ⊎_elim, inl, inr}
-use Rattle.std.proofs.lemmas.Bool.{eqb-true, cases_lt, cases_eq}
+use Rattle.std.proofs.lemmas.Bool.{cases_lt, cases_eq}
 use Rattle.thread_local_model.specs.Bits.{is_set, IsWordBut}
 use Rattle.thread_local_shared_buckets.specs.Shared.{BucketView}
 use Rattle.thread_local_shared_buckets.specs.declared.seen.Seen.{Seen}
@@ -10,11 +10,10 @@ use Rattle.thread_local_shared_buckets.specs.declared.steps.Own.{Own}
 use Rattle.thread_local_shared_buckets.specs.declared.steps.Walk.{Walk}
 use Rattle.thread_local_shared_buckets.specs.Positions.{lies_in, is_at, own_index}
 use Rattle.thread_local_shared_buckets.specs.Positions.{IsAhead}
-use Rattle.thread_local_shared_buckets.specs.AtHand.{IsRead, IsAlone, LooksAt, HasLooked, IsRowOf, slot_of}
+use Rattle.thread_local_shared_buckets.specs.AtHand.{LiesOutside, IsRead, IsAlone, LooksAt, HasLooked, IsRowOf, slot_of}
 use Rattle.thread_local_shared_buckets.specs.AtHand.{IsKept, IsWalk, LooksIn}
-use Rattle.thread_local_shared_buckets.proofs.BitLaws.{added_set, both_if, both_so, by_test, none_set, was_set}
-use Rattle.thread_local_shared_buckets.proofs.Indices.{none_at}
-use Rattle.thread_local_shared_buckets.proofs.OwnLaws.{at_index, elsewhere, index_of_own}
+use Rattle.thread_local_shared_buckets.proofs.BitLaws.{added_set, both_if, both_so, none_set, was_set}
+use Rattle.thread_local_shared_buckets.proofs.OwnLaws.{at_index, at_own_index, elsewhere, index_of_own}
 
 module _ {V : Type 0} where
   -- the own slot alone
@@ -64,22 +63,23 @@ module _ {V : Type 0} where
   abbrev pub after_look : Walk V → Option (Row V) → Option (Seen V) → ℕ → ℕ → Walk V
   after_look w row seen chunks flags = record w { row = row; seen = seen; chunks = chunks; rest = flags }
 
-  read_in : (w : Walk V) (of : BucketView) (seen : Seen V) (chunks flags : ℕ)
-      → IsRead of (own_index w.own w.raw.bucket) w.chunks seen chunks flags → (bit : ℕ) → bit < 64 → is_set flags bit ≡ true
+  read_in : (w : Walk V) (of : BucketView) (seen : Seen V) (chunks flags : ℕ) (own : Option ℕ)
+      → own_index w.own w.raw.bucket ≡ own
+      → IsRead of own w.chunks seen chunks flags → (bit : ℕ) → bit < 64 → is_set flags bit ≡ true
       → (is_at w.own w.raw.bucket (seen.chunk * 64 + bit) ≡ true) ⊎ (is_set seen.flags bit ≡ true)
-  read_in w of seen chunks flags read bit small set =
-      let e : ℕ = own_index w.own w.raw.bucket in
+  read_in w of seen chunks flags None is read bit small set =
+      inr (subst (λ (n : ℕ). is_set n bit ≡ true) (read.other tt) set)
+  read_in w of seen chunks flags (Some i) is read bit small set =
       ⊎_elim
-      (λ (at : e / 64 ≡ seen.chunk).
+      (λ (at : i / 64 ≡ seen.chunk).
       ⊎_elim
-      (λ (one : e % 64 ≡ bit).
-      let near : seen.chunk * 64 < 2 ^ 63 = read.near in
-      let here : e ≡ seen.chunk * 64 + bit = omega arith in
-      inl (at_index w.own w.raw.bucket (seen.chunk * 64 + bit) here (omega arith)))
+      (λ (one : i % 64 ≡ bit).
+      let here : i ≡ seen.chunk * 64 + bit = omega arith in
+      inl (at_index w.own w.raw.bucket (seen.chunk * 64 + bit) (is ∙ ap Some here)))
       (λ old. inr old)
-      (was_set flags seen.flags (e % 64) bit (read.adds at) small set))
+      (was_set flags seen.flags (i % 64) bit (read.adds at) small set))
       (λ apart. inr (subst (λ (n : ℕ). is_set n bit ≡ true) (read.other apart) set))
-      (cases_eq (e / 64) seen.chunk)
+      (cases_eq (i / 64) seen.chunk)
 
   inside_own : (own : Option (Own V)) (bucket index : ℕ) → is_at own bucket index ≡ true → index < 2 ^ bucket
   inside_own None bucket index at = let never : false ≡ true = at in cc
@@ -99,7 +99,8 @@ module _ {V : Type 0} where
       let here : own.thread.bucket ≡ w.raw.bucket = same ∙ stays in
       let i : ℕ = own.thread.index in
       let c : ℕ = seen.chunk in
-      let e : own_index (Some own) w.raw.bucket ≡ i = index_of_own own w.raw.bucket here in
+      let at_own : IsRead of (Some i) w.chunks seen to.chunks to.rest =
+      subst (λ (o : Option ℕ). IsRead of o w.chunks seen to.chunks to.rest) (index_of_own own w.raw.bucket here) read in
       let counted : to.chunks ≡ c + 1 = read.chunk in
       let within : i / 64 ≤ c = omega arith in
       let from : w.chunks ≤ i / 64 =
@@ -109,14 +110,13 @@ module _ {V : Type 0} where
       (λ (behind : w.chunks * 64 ≤ i). omega arith) (cases_lt i (w.chunks * 64)) in
       let last : i / 64 ≡ c =
       ⊎_elim
-      (λ (before : i / 64 < c). absurd (read.none_before (i / 64) from before (ap (λ k. k / 64) e)))
+      (λ (before : i / 64 < c). absurd (at_own.none_before (i / 64) from before refl))
       (λ (late : c ≤ i / 64). omega arith) (cases_lt (i / 64) c) in
       let base : (to.chunks - 1) * 64 ≤ i = omega arith in
-      let bit : i - (to.chunks - 1) * 64 ≡ i % 64 = omega arith in
-      let adds : IsWordBut to.rest seen.flags (i % 64) true =
-      subst (λ (k : ℕ). IsWordBut to.rest seen.flags (k % 64) true) e (read.adds (ap (λ k. k / 64) e ∙ last)) in (
+      let bit : i - (to.chunks - 1) * 64 ≡ i % 64 = omega arith in (
         base,
-        subst (λ (k : ℕ). is_set to.rest k ≡ true) (sym bit) (added_set to.rest seen.flags (i % 64) adds (omega arith)),
+        subst (λ (k : ℕ). is_set to.rest k ≡ true) (sym bit)
+            (added_set to.rest seen.flags (i % 64) (at_own.adds last) (omega arith)),
       )
 
   read_comes : (w : Walk V) (row : Option (Row V)) (of : BucketView) (seen : Seen V) (chunks flags : ℕ)
@@ -138,7 +138,7 @@ module _ {V : Type 0} where
         row = rows;
         at_hand = λ bit small set.
             let at : (chunks - 1) * 64 + bit ≡ c * 64 + bit = omega arith in
-            let either = read_in w of seen chunks flags read bit small set in
+            let either = read_in w of seen chunks flags (own_index w.own w.raw.bucket) refl read bit small set in
             record {
               in_table = low;
               some = omega arith;
@@ -177,22 +177,15 @@ module _ {V : Type 0} where
   }
 
   -- the own slot alone comes to hand, at its index in the bucket
-  alone_comes : (w : Walk V) (own : Option (Own V)) (chunks rest : ℕ) → w.own ≡ own → IsWalk w
-      → own_index own w.raw.bucket < 18446744073709551615 → chunks ≡ own_index own w.raw.bucket / 64 + 1
-      → IsWordBut rest 0 (own_index own w.raw.bucket % 64) true
+  alone_comes : (w : Walk V) (own : Option (Own V)) (i chunks rest : ℕ) → w.own ≡ own → IsWalk w
+      → own_index own w.raw.bucket ≡ Some i → chunks ≡ i / 64 + 1 → IsWordBut rest 0 (i % 64) true
       → IsWalk (record w { chunks = chunks; rest = rest })
-  alone_comes w None chunks rest is walk small counted but = absurd (none_at 18446744073709551615 refl small)
-  alone_comes w (Some own) chunks rest is walk small counted but =
-      by_test (eqb own.thread.bucket w.raw.bucket)
-      (λ t.
-      let same = eqb-true own.thread.bucket w.raw.bucket t in
-      let e : own_index (Some own) w.raw.bucket ≡ own.thread.index = index_of_own own w.raw.bucket same in
-      own_comes w own chunks rest is walk same (counted ∙ ap (λ k. k / 64 + 1) e)
-      (subst (λ (k : ℕ). IsWordBut rest 0 (k % 64) true) e but))
-      (λ f.
-      let none : 18446744073709551615 ≡ own_index (Some own) w.raw.bucket =
-      sym (ap (λ (u : Bool). cond u own.thread.index 18446744073709551615) f) in
-      absurd (none_at (own_index (Some own) w.raw.bucket) none small))
+  alone_comes w None i chunks rest is walk here counted but = cc
+  alone_comes w (Some own) i chunks rest is walk here counted but =
+      let at = at_own_index own w.raw.bucket i here in
+      let index : i ≡ own.thread.index = sym at.1 in
+      own_comes w own chunks rest is walk at.0 (counted ∙ ap (λ k. k / 64 + 1) index)
+      (subst (λ (k : ℕ). IsWordBut rest 0 (k % 64) true) index but)
 
   looks_in : (w : Walk V) (row : Option (Row V)) (seen : Option (Seen V)) (chunks flags : ℕ)
       → IsWalk (after_look w row seen chunks flags) → (flags ≡ 0 → lies_in w.own w.raw.bucket ≡ false)
@@ -209,59 +202,61 @@ module _ {V : Type 0} where
       (read_comes w (Some row) row.of seen chunks flags walk none low of of.0 of.1 read)
       (λ zero. let some : 0 < flags = read.some in absurd (omega arith))
 
-  looked_alone : (w : Walk V) (row : Option (Row V)) (chunks flags : ℕ) → IsWalk w → w.rest ≡ 0
+  looked_alone : (w : Walk V) (row : Option (Row V)) (chunks flags : ℕ) (own : Option ℕ) → IsWalk w → w.rest ≡ 0
       → IfSome row (IsRowOf w.buckets.now.sharing w.raw.bucket)
-      → IsAlone (own_index w.own w.raw.bucket) w.chunks chunks flags
+      → own_index w.own w.raw.bucket ≡ own
+      → IsAlone own w.chunks chunks flags
       → LooksIn w (after_look w row None chunks flags)
-  looked_alone w row chunks flags walk none of alone =
+  looked_alone w row chunks flags None walk none of is alone =
       let bare : Walk V = record w { row = row; seen = None } in
       let begun : IsWalk bare = unseen w row walk none of in
-      ⊎_elim
-      (λ nothing.
       let stays : IsWalk (record bare { rest = flags }) =
-      subst (λ (n : ℕ). IsWalk (record bare { rest = n })) (none ∙ sym nothing.2) begun in
+      subst (λ (n : ℕ). IsWalk (record bare { rest = n })) (none ∙ sym alone.1) begun in
       looks_in w row None chunks flags
-      (subst (λ (n : ℕ). IsWalk (record bare { chunks = n; rest = flags })) (sym nothing.1) stays)
-      (λ zero. elsewhere w.own w.raw.bucket nothing.0))
-      (λ own.
-      looks_in w row None chunks flags (alone_comes bare w.own chunks flags refl begun own.0 own.1 own.2)
+      (subst (λ (n : ℕ). IsWalk (record bare { chunks = n; rest = flags })) (sym alone.0) stays)
+      (λ zero. elsewhere w.own w.raw.bucket is)
+  looked_alone w row chunks flags (Some i) walk none of is alone =
+      let bare : Walk V = record w { row = row; seen = None } in
+      looks_in w row None chunks flags
+      (alone_comes bare w.own i chunks flags refl (unseen w row walk none of) is alone.0 alone.1)
       (λ zero.
-      let small : own_index w.own w.raw.bucket % 64 < 64 = omega arith in
-      none_set flags (own_index w.own w.raw.bucket % 64) zero
-      (added_set flags 0 (own_index w.own w.raw.bucket % 64) own.2 small)))
-      alone
+      let small : i % 64 < 64 = omega arith in
+      none_set flags (i % 64) zero (added_set flags 0 (i % 64) alone.1 small))
 
   looked_by : (w : Walk V) (row : Option (Row V)) (seen : Option (Seen V)) (chunks flags : ℕ) → IsWalk w → w.rest ≡ 0
       → w.raw.bucket < 63 → IfSome row (IsRowOf w.buckets.now.sharing w.raw.bucket)
       → HasLooked row (own_index w.own w.raw.bucket) w.chunks (seen, chunks, flags)
       → LooksIn w (after_look w row seen chunks flags)
-  looked_by w row None chunks flags walk none low of x = looked_alone w row chunks flags walk none of x
+  looked_by w row None chunks flags walk none low of x =
+      looked_alone w row chunks flags (own_index w.own w.raw.bucket) walk none of refl x
   looked_by w row (Some seen) chunks flags walk none low of x = looked_seen w row seen chunks flags walk none low of x
 
-  pub looked_on : (w : Walk V) (row : Option (Row V)) (own : ℕ) (x : Option (Seen V) × ℕ × ℕ) → IsWalk w → w.rest ≡ 0
+  pub looked_on : (w : Walk V) (row : Option (Row V)) (own : Option ℕ) (x : Option (Seen V) × ℕ × ℕ) → IsWalk w → w.rest ≡ 0
       → w.raw.bucket < 63 → IfSome row (IsRowOf w.buckets.now.sharing w.raw.bucket)
       → own ≡ own_index w.own w.raw.bucket
       → HasLooked row own w.chunks x
       → LooksIn w (after_look w row x.0 x.1 x.2)
   looked_on w row own x walk none low of is looked =
-      looked_by w row x.0 x.1 x.2 walk none low of (subst (λ (e : ℕ). HasLooked row e w.chunks x) is looked)
+      looked_by w row x.0 x.1 x.2 walk none low of (subst (λ (o : Option ℕ). HasLooked row o w.chunks x) is looked)
 
   -- a look at a chunk of the row finds a flag
-  pub read_at : (row : Option (Row V)) (r : Row V) (own from chunk given word : ℕ) (seen : Seen V) → row ≡ Some r
-      → seen.of ≡ r.of → seen.chunk ≡ chunk → given ≡ seen.flags → from ≤ chunk → chunk * 64 < 2 ^ 63
+  pub read_at : (row : Option (Row V)) (r : Row V) (own : Option ℕ) (from chunk given word : ℕ) (seen : Seen V) → row ≡ Some r
+      → seen.of ≡ r.of → seen.chunk ≡ chunk → given ≡ seen.flags → from ≤ chunk
       → ((bit : ℕ) → bit < 64 → is_set seen.flags bit ≡ true → chunk * 64 + bit < 2 ^ r.of.bucket)
-      → ((k : ℕ) → from ≤ k → k < chunk → own / 64 ≢ k)
-      → (own / 64 ≡ chunk → IsWordBut word given (own % 64) true) → (own / 64 ≢ chunk → word ≡ given) → word ≢ 0
+      → ((k : ℕ) → from ≤ k → k < chunk → LiesOutside own k)
+      → IfSome own (λ index. index / 64 ≡ chunk → IsWordBut word given (index % 64) true)
+      → (LiesOutside own chunk → word ≡ given) → word ≢ 0
       → HasLooked row own from (Some seen, chunk + 1, word)
-  read_at row r own from chunk given word seen is of at flags later near inside none adds other some =
+  read_at row r own from chunk given word seen is of at flags later inside none adds other some =
       subst (λ (u : Option (Row V)). LooksAt u own from seen (chunk + 1) word) (sym is) record {
         of = of;
         later = omega arith;
         chunk = ap (λ k. k + 1) (sym at);
         some = omega arith;
         inside = λ bit small set. subst (λ (k : ℕ). k * 64 + bit < 2 ^ r.of.bucket) (sym at) (inside bit small set);
-        near = subst (λ (k : ℕ). k * 64 < 2 ^ 63) (sym at) near;
-        adds = λ here. subst (λ (n : ℕ). IsWordBut word n (own % 64) true) flags (adds (here ∙ at));
-        other = λ apart. other (λ here. apart (here ∙ sym at)) ∙ flags;
+        adds =
+            subst (λ (n : ℕ). IfSome own (λ index. index / 64 ≡ seen.chunk → IsWordBut word n (index % 64) true)) flags
+            (subst (λ (k : ℕ). IfSome own (λ index. index / 64 ≡ k → IsWordBut word given (index % 64) true)) (sym at) adds);
+        other = λ apart. other (subst (LiesOutside own) at apart) ∙ flags;
         none_before = λ k late below. none k late (omega arith);
       }

@@ -1,10 +1,11 @@
 -- The moves of a place past buckets.
-use Rattle.std.proofs.Common.{◌≡◌, ◌+◌, ◌^◌, ◌<◌, ◌≤◌, Bool, true, false, refl, ap, sym, ◌∙◌, subst, arith, add-one}
+use Rattle.std.proofs.Common.{◌≡◌, ℕ, zero, suc, ◌-◌, ◌+◌, ◌^◌, ◌<◌, ◌≤◌, Bool, true, false, refl, ap, sym, ◌∙◌, subst, arith, add-one}
 use Rattle.std.proofs.Math.Nat.{two-pow-succ}
 use Rattle.thread_local_bucket_pointers.specs.declared.cursor.RawIter.{RawIter}
 use Rattle.thread_local_bucket_pointers.specs.Cursor.{next_bucket}
 use Rattle.thread_local_shared_buckets.specs.Positions.{resting, MovesOn, MovesBehind}
-use Rattle.thread_local_shared_buckets.proofs.StepLaws.{passes_bucket, leads_nowhere, leads_then}
+use Rattle.thread_local_shared_buckets.specs.Steps.{Leads}
+use Rattle.thread_local_shared_buckets.proofs.StepLaws.{resting_at, passes_bucket, leads_nowhere, leads_then}
 
 pub moves_nowhere : (raw : RawIter) → raw.bucket_size ≡ 2 ^ raw.bucket → MovesOn raw raw
 moves_nowhere raw size = record {
@@ -37,6 +38,32 @@ moves_next raw to size low next =
       size = omega arith;
       yielded = refl;
       further = omega arith;
+      index = omega arith;
+    }
+
+-- a walk at the first slot of a bucket passes buckets up to another one
+passes_buckets : (bucket n : ℕ) → bucket + n ≤ 63 → Leads (resting_at bucket 0) (resting_at (bucket + n) 0)
+passes_buckets bucket zero near =
+    let same : bucket ≡ bucket + 0 = omega arith in
+    subst (λ (b : ℕ). Leads (resting_at bucket 0) (resting_at b 0)) same (leads_nowhere (resting_at bucket 0))
+passes_buckets bucket (suc n) near =
+    let next : bucket + n + 1 ≡ bucket + suc n = omega arith in
+    leads_then (resting_at bucket 0) (resting_at (bucket + n) 0) (resting_at (bucket + suc n) 0)
+    (passes_buckets bucket n (omega arith))
+    (subst (λ (b : ℕ). Leads (resting_at (bucket + n) 0) (resting_at b 0)) next (passes_bucket (bucket + n) 0 (omega arith)))
+
+pub moves_to : (raw : RawIter) (bucket size : ℕ) → raw.index ≡ 0 → raw.bucket ≤ bucket → bucket ≤ 63 → size ≡ 2 ^ bucket
+    → MovesOn raw (record raw { bucket = bucket; bucket_size = size })
+moves_to raw bucket size first ahead near power =
+    let n : ℕ = bucket - raw.bucket in
+    let there : raw.bucket + n ≡ bucket = omega arith in
+    let passes : Leads (resting_at raw.bucket 0) (resting_at bucket 0) =
+    subst (λ (b : ℕ). Leads (resting_at raw.bucket 0) (resting_at b 0)) there (passes_buckets raw.bucket n (omega arith)) in
+    record {
+      leads = subst (λ (i : ℕ). Leads (resting_at raw.bucket i) (resting_at bucket i)) (sym first) passes;
+      size = power;
+      yielded = refl;
+      further = ahead;
       index = omega arith;
     }
 

@@ -11,14 +11,12 @@ use Rattle.thread_local_bucket_pointers.specs.declared.cursor.RawIter.{RawIter}
 use Rattle.thread_local_shared_buckets.specs.declared.steps.Own.{Own}
 use Rattle.thread_local_shared_buckets.specs.declared.steps.Walk.{Walk}
 use Rattle.thread_local_shared_buckets.specs.Walks.{Yields}
-use Rattle.thread_local_shared_buckets.specs.Positions.{resting, past, owed, is_at, own_index, Found, OwnIsTold}
+use Rattle.thread_local_shared_buckets.specs.Positions.{resting, past, owed, is_at, Found, OwnIsTold}
 use Rattle.thread_local_shared_buckets.specs.Positions.{IsToldAt, IsSharedWalk}
 use Rattle.thread_local_shared_buckets.specs.AtHand.{IsSetIn, IsGivenBy, slot_of, HasSeen, IsAtHand}
 use Rattle.thread_local_shared_buckets.specs.AtHand.{IsKept, IsWalk}
 use Rattle.thread_local_shared_buckets.proofs.WalkLaws.{few, IsBefore, given_found, Gave, gave_own}
 use Rattle.thread_local_shared_buckets.proofs.BitLaws.{both_if, both_so, by_test, later, stays_set}
-use Rattle.thread_local_shared_buckets.proofs.Indices.{in_table}
-use Rattle.thread_local_shared_buckets.proofs.OwnLaws.{index_at, is_apart, not_at}
 
 module _ {V : Type 0} where
   pub set_in : (sharing : Option ℕ) (bucket chunks bit : ℕ) (seen : Option (Seen V))
@@ -180,12 +178,12 @@ module _ {V : Type 0} where
   -- what `take` ensures
   abbrev pub TakesOwn : Option (Own V) → ℕ → ℕ → Found V → Option (Own V) → Type 0
   TakesOwn own bucket index x left =
-      own_index own bucket ≡ index
+      is_at own bucket index ≡ true
       → (left ≡ None) × IfSome own (λ o. (x.0 ≡ o.witness) × (x.1.now ≡ o.value.now))
 
   abbrev pub TakesSeen : Option (Own V) → Option (Seen V) → ℕ → ℕ → ℕ → Found V → Option (Own V) → Type 0
   TakesSeen own seen bucket index bit x left =
-      own_index own bucket ≢ index
+      is_at own bucket index ≡ false
       → (left ≡ own) × IfSome seen (IsGivenBy bit x)
 
   passed_one : (w : Walk V) (low rest : ℕ) (own left : Option (Own V)) (x : Found V) → w.own ≡ own → IsWalk w
@@ -195,7 +193,7 @@ module _ {V : Type 0} where
       → Passed w x (after_pass w low rest left)
   passed_one w low rest None left x is walk lowest but at takes = let never : false ≡ true = at in cc
   passed_one w low rest (Some own) left x is walk lowest but at takes =
-      let taken = takes (index_at (Some own) w.raw.bucket (slot_of w low) at) in
+      let taken = takes at in
       subst (λ (o : Option (Own V)). Passed w x (after_pass w low rest o)) (sym taken.0)
       (passed_own w low rest own x is walk lowest but at taken.1.0 taken.1.1)
 
@@ -208,9 +206,7 @@ module _ {V : Type 0} where
       by_test (is_at w.own w.raw.bucket (slot_of w low))
       (λ at. passed_one w low rest w.own left x refl walk lowest but at own)
       (λ apart.
-      let there = walk.at_hand low lowest.within lowest.set in
-      let small : slot_of w low < 2 ^ 63 = in_table w.raw.bucket (slot_of w low) there.in_table there.inside in
-      let given = seen (not_at w.own w.raw.bucket (slot_of w low) small apart) in
+      let given = seen apart in
       subst (λ (o : Option (Own V)). Passed w x (after_pass w low rest o)) (sym given.0)
       (passed_seen w low rest x walk lowest but apart given.1))
 
@@ -248,10 +244,10 @@ module _ {V : Type 0} where
       record { some = there.some; slot = omega arith; small = lowest.within; few = few w.raw w.own walk.walk }
 
   pub set_lowest : (w : Walk V) (index : ℕ) → index ≡ slot_of w (trailing_zeros w64 w.rest) → IsWalk w → w.rest < 2 ^ 64 → 0 < w.rest
-      → own_index w.own w.raw.bucket ≢ index
+      → is_at w.own w.raw.bucket index ≡ false
       → IsSetIn w.seen (trailing_zeros w64 w.rest)
   set_lowest w index at walk fits some apart =
       let lowest = lowest_of w fits some in
       let there = walk.at_hand (trailing_zeros w64 w.rest) lowest.within lowest.set in
       set_in w.buckets.now.sharing w.raw.bucket w.chunks (trailing_zeros w64 w.rest) w.seen
-      (there.by (is_apart w.own w.raw.bucket (slot_of w (trailing_zeros w64 w.rest)) (λ here. apart (here ∙ sym at))))
+      (there.by (subst (λ (i : ℕ). is_at w.own w.raw.bucket i ≡ false) at apart))

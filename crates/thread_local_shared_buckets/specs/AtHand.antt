@@ -1,5 +1,5 @@
 -- What a walk has at hand: the flags that it loaded whose values it hasn't given.
-use Rattle.std.specs.Prelude.{◌≡◌, ℕ, ◌≢◌, ◌+◌, ◌-◌, ◌*◌, ◌/◌, ◌%◌, ◌^◌, ◌<◌, ◌≤◌, ◌⊎◌, true, false, Option, None}
+use Rattle.std.specs.Prelude.{◌≡◌, ℕ, ◌≢◌, ◌+◌, ◌-◌, ◌*◌, ◌/◌, ◌%◌, ◌^◌, ◌<◌, ◌≤◌, true, false, Option, None}
 use Rattle.std.specs.Prelude.{Some, IfSome, MatchOption, Bool, MatchBool}
 use Rattle.thread_local_model.specs.Bits.{is_set, IsWordBut}
 use Rattle.thread_local_model.specs.Place.{id_at}
@@ -11,11 +11,15 @@ use Rattle.thread_local_shared_buckets.specs.declared.steps.Walk.{Walk}
 use Rattle.thread_local_shared_buckets.specs.Positions.{Found, resting, lies_in, is_at, OwnIsTold, IsSharedWalk}
 use Rattle.thread_local_shared_buckets.specs.Steps.{Leads}
 
+-- the own slot, if it has an index in the bucket, lies in another chunk
+abbrev pub LiesOutside : Option ℕ → ℕ → Type 0
+LiesOutside own chunk = IfSome own (λ index. index / 64 ≢ chunk)
+
 -- no look found a flag: the own slot's flag is at hand, or nothing is
-abbrev pub IsAlone : ℕ → ℕ → ℕ → ℕ → Type 0
+abbrev pub IsAlone : Option ℕ → ℕ → ℕ → ℕ → Type 0
 IsAlone own from chunks flags =
-    ((own ≡ 18446744073709551615) × (chunks ≡ from) × (flags ≡ 0))
-    ⊎ ((own < 18446744073709551615) × (chunks ≡ own / 64 + 1) × IsWordBut flags 0 (own % 64) true)
+    MatchOption own ((chunks ≡ from) × (flags ≡ 0))
+    (λ index. (chunks ≡ index / 64 + 1) × IsWordBut flags 0 (index % 64) true)
 
 module _ {V : Type 0} where
   -- 1. What a look saw.
@@ -34,23 +38,22 @@ module _ {V : Type 0} where
   -- A look at a chunk of this bucket, the chunk `from` or a later one, after which so many chunks were
   -- seen. The walk takes these flags from it: those that are set, and that of the own slot if its
   -- index `own` lies in the chunk. The own slot lies in none of the chunks before, from `from` on.
-  pub record IsRead (d : BucketView) (own from : ℕ) (seen : Seen V) (chunks flags : ℕ) : Type 0 where
+  pub record IsRead (d : BucketView) (own : Option ℕ) (from : ℕ) (seen : Seen V) (chunks flags : ℕ) : Type 0 where
     pub of : seen.of ≡ d
     pub later : from ≤ seen.chunk
     pub chunk : chunks ≡ seen.chunk + 1
     pub some : 0 < flags
     pub inside : (bit : ℕ) → bit < 64 → is_set seen.flags bit ≡ true → seen.chunk * 64 + bit < 2 ^ d.bucket
-    pub near : seen.chunk * 64 < 2 ^ 63
-    pub adds : own / 64 ≡ seen.chunk → IsWordBut flags seen.flags (own % 64) true
-    pub other : own / 64 ≢ seen.chunk → flags ≡ seen.flags
-    pub none_before : (chunk : ℕ) → from ≤ chunk → chunk < seen.chunk → own / 64 ≢ chunk
+    pub adds : IfSome own (λ index. index / 64 ≡ seen.chunk → IsWordBut flags seen.flags (index % 64) true)
+    pub other : LiesOutside own seen.chunk → flags ≡ seen.flags
+    pub none_before : (chunk : ℕ) → from ≤ chunk → chunk < seen.chunk → LiesOutside own chunk
 
   -- what looks at the chunks of a row find, from the chunk `from` on
-  abbrev pub LooksAt : Option (Row V) → ℕ → ℕ → Seen V → ℕ → ℕ → Type 0
+  abbrev pub LooksAt : Option (Row V) → Option ℕ → ℕ → Seen V → ℕ → ℕ → Type 0
   LooksAt None own from seen chunks flags = ⊥
   LooksAt (Some row) own from seen chunks flags = IsRead row.of own from seen chunks flags
 
-  abbrev pub HasLooked : Option (Row V) → ℕ → ℕ → Option (Seen V) × ℕ × ℕ → Type 0
+  abbrev pub HasLooked : Option (Row V) → Option ℕ → ℕ → Option (Seen V) × ℕ × ℕ → Type 0
   HasLooked row own from x = MatchOption x.0 (IsAlone own from x.1 x.2) (λ seen. LooksAt row own from seen x.1 x.2)
 
   -- the row is that of this bucket, in this sharing

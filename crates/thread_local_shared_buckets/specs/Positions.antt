@@ -53,10 +53,10 @@ module _ {V : Type 0} where
   is_at None bucket index = false
   is_at (Some own) bucket index = if own.thread.bucket == bucket then own.thread.index == index else false
 
-  -- its index in a bucket, or, where it lies elsewhere or there is none, the greatest word
-  abbrev pub own_index : Option (Own V) → ℕ → ℕ
-  own_index None bucket = 18446744073709551615
-  own_index (Some own) bucket = if own.thread.bucket == bucket then own.thread.index else 18446744073709551615
+  -- its index in a bucket, if it lies there
+  abbrev pub own_index : Option (Own V) → ℕ → Option ℕ
+  own_index None bucket = None
+  own_index (Some own) bucket = if own.thread.bucket == bucket then Some own.thread.index else None
 
   -- the own value's witness tells of its id that its slot was published with this value, in this
   -- sharing

@@ -165,7 +165,7 @@ impl<T> Shared<T> {
     /// Whether one of the eight buckets from `first` on stands. Each of their pointers is loaded
     /// once, so a bucket that is installed meanwhile may be missed.
     #[inline]
-    pub(crate) fn any_stands(&self, first: usize) -> bool
+    fn any_stands(&self, first: usize) -> bool
         requires { first + 8 ≤ 63 }
     {
         let mut any = false;
@@ -173,6 +173,22 @@ impl<T> Shared<T> {
             any |= self.load(first + at).is_some();
         }
         any
+    }
+
+    /// Passes missing buckets from `first` on, eight at a time, and answers the first one that it
+    /// hasn't passed.
+    // Out of line, it takes no register from the loop that gives values.
+    #[inline(never)]
+    pub(crate) fn behind_missing(&self, first: usize) -> usize
+        requires in_table { first ≤ 63 }
+        ensures ahead { first ≤ result }
+        ensures in_table { result ≤ 63 }
+    {
+        let mut at = first;
+        while at <= BUCKETS - 8 && !self.any_stands(at) {
+            at += 8;
+        }
+        at
     }
 
     /// Claims the slot of a held id, for as long as the buckets are borrowed: one atomic load of

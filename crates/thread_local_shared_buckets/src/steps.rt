@@ -3,14 +3,14 @@
 ghost use Rattle.std.specs.Prelude.{◌≡◌, ◌≢◌, ◌+◌, ◌-◌, ◌*◌, ◌/◌, ◌%◌, ◌^◌, ◌<◌, ◌≤◌, true, false, None, IfSome, MatchOption};
 ghost use Rattle.thread_local_judged.specs.Judged.{Shareable};
 ghost use Rattle.thread_local_model.specs.Bits.{IsWordBut};
-ghost use Rattle.thread_local_shared_buckets.specs.Positions.{past, lies_in, own_index, OwnIsTold, IsToldAt, MovesOn, MovesBehind, YieldsFrom, EndsFrom};
-ghost use Rattle.thread_local_shared_buckets.specs.AtHand.{IsSetIn, IsGivenBy, IsRowOf, HasLooked, IsWalk, LooksIn, GoesOn, Reaches};
+ghost use Rattle.thread_local_shared_buckets.specs.Positions.{past, lies_in, is_at, own_index, OwnIsTold, IsToldAt, MovesBehind, YieldsFrom, EndsFrom};
+ghost use Rattle.thread_local_shared_buckets.specs.AtHand.{LiesOutside, IsSetIn, IsGivenBy, IsRowOf, HasLooked, IsWalk, LooksIn, GoesOn, Reaches};
 
 use crate::shared::Shared;
 use crate::{Row, Seen};
 use thread_local_bucket_pointers::{RawIter, flag_word_at, without_first};
 use thread_local_ids::Witness;
-use thread_local_thread_id::{BUCKETS, Thread};
+use thread_local_thread_id::{BUCKETS, Thread, bucket_size};
 
 /// The walker's own value, the place of its id, and what shows that its slot was published with it.
 #[derive(Drop)]
@@ -20,23 +20,31 @@ pub(crate) struct Own<'a, T> {
     pub(crate) witness: Witness<T>,
 }
 
-/// The index that stands for no slot: the own value lies in another bucket, or there is none.
-const ELSEWHERE: usize = usize::MAX;
-
-/// The index of the own slot in a bucket, or `ELSEWHERE`.
+/// The index of the own slot in a bucket, if it lies there.
 #[inline]
-fn own_index<T>(own: &Option<Own<'_, T>>, bucket: usize) -> usize
+fn own_index<T>(own: &Option<Own<'_, T>>, bucket: usize) -> Option<usize>
     ensures { result ≡ own_index own.now bucket }
 {
     match own {
         Some(own) => {
             if own.thread.bucket == bucket {
-                own.thread.index
+                Some(own.thread.index)
             } else {
-                ELSEWHERE
+                None
             }
         }
-        None => ELSEWHERE,
+        None => None,
+    }
+}
+
+/// Whether the own value lies in this slot of a bucket.
+#[inline]
+fn is_at<T>(own: &Option<Own<'_, T>>, bucket: usize, index: usize) -> bool
+    ensures { result ≡ is_at own.now bucket index }
+{
+    match own {
+        Some(own) => own.thread.bucket == bucket && own.thread.index == index,
+        None => false,
     }
 }
 
@@ -50,15 +58,14 @@ fn take<'a, T>(
     bit: usize,
 ) -> (Witness<T>, &'a T)
     requires within { bit < 64 }
-    requires inside { index < 2 ^ 63 }
-    requires by { own_index own.old bucket ≢ index → IsSetIn seen.now bit }
-    ensures own { own_index own.old bucket ≡ index
+    requires by { is_at own.old bucket index ≡ false → IsSetIn seen.now bit }
+    ensures own { is_at own.old bucket index ≡ true
         → (own.new ≡ None)
         × IfSome own.old (λ o. (result.0 ≡ o.witness) × (result.1.now ≡ o.value.now)) }
-    ensures other { own_index own.old bucket ≢ index
+    ensures other { is_at own.old bucket index ≡ false
         → (own.new ≡ own.old) × IfSome seen.now (IsGivenBy bit result) }
 {
-    if own_index(own, bucket) == index {
+    if is_at(own, bucket, index) {
         match own.take() {
             Some(own) => (own.witness, own.value),
             None => unreachable!(),
@@ -73,14 +80,19 @@ fn take<'a, T>(
 
 /// A chunk's flags, with that of the own slot set if it lies there.
 #[inline]
-fn with_own(flags: u64, own: usize, chunk: usize) -> u64
-    ensures own { own / 64 ≡ chunk → IsWordBut result flags (own % 64) true }
-    ensures other { own / 64 ≢ chunk → result ≡ flags }
+fn with_own(flags: u64, own: Option<usize>, chunk: usize) -> u64
+    ensures own { IfSome own (λ index. index / 64 ≡ chunk → IsWordBut result flags (index % 64) true) }
+    ensures other { LiesOutside own chunk → result ≡ flags }
 {
-    if own / 64 == chunk {
-        flags | 1 << (own % 64)
-    } else {
-        flags
+    match own {
+        Some(index) => {
+            if index / 64 == chunk {
+                flags | 1 << (index % 64)
+            } else {
+                flags
+            }
+        }
+        None => flags,
     }
 }
 
@@ -102,8 +114,8 @@ fn row_of<'a, T>(
 }
 
 /// Looks at the chunks of a row from the chunk `from` on, until one has a flag that is set or the
-/// own slot, which lies at the index `own`. Each look is one atomic load. Answers what that look
-/// saw, how many of the row's chunks were seen by then, and the flags at hand.
+/// own slot, whose index in the bucket is `own`. Each look is one atomic load. Answers what that
+/// look saw, how many of the row's chunks were seen by then, and the flags at hand.
 ///
 /// Where no look finds one, it answers `None` and the flag of the own slot, with the chunks up to
 /// it, or `from` and 0 where that slot lies elsewhere. The bucket of the own value always stands,
@@ -112,7 +124,7 @@ fn row_of<'a, T>(
 fn look_on<'a, T>(
     row: &Option<Row<'a, T>>,
     size: usize,
-    own: usize,
+    own: Option<usize>,
     from: usize,
 ) -> (Option<Seen<'a, T>>, usize, u64)
     requires shareable { Shareable T.row }
@@ -129,10 +141,9 @@ fn look_on<'a, T>(
             }
         }
     }
-    if own == ELSEWHERE {
-        (None, from, 0)
-    } else {
-        (None, own / 64 + 1, with_own(0, own, own / 64))
+    match own {
+        Some(index) => (None, index / 64 + 1, with_own(0, own, index / 64)),
+        None => (None, from, 0),
     }
 }
 
@@ -157,19 +168,6 @@ fn pass_slot(raw: &mut RawIter, index: usize)
     raw.yielded += 1;
 }
 
-/// Passes eight buckets.
-#[inline]
-fn pass_eight(raw: &mut RawIter)
-    requires size { raw.old.bucket_size ≡ 2 ^ raw.old.bucket }
-    requires in_table { raw.old.bucket + 8 ≤ 63 }
-    ensures { MovesOn raw.old raw.new }
-{
-    for passed in 0..8usize {
-        let _ = passed;
-        raw.next_bucket();
-    }
-}
-
 /// Moves on behind the bucket that a walk is in. Where no own value is still to be given, it passes
 /// missing buckets, too, eight at a time: first the eight behind the first seven buckets, then the
 /// next eight. So a pointer is loaded at most once among eight, and at most once by itself.
@@ -180,17 +178,9 @@ fn move_on<T>(buckets: &Shared<T>, raw: &mut RawIter, owed: bool)
     ensures { MovesBehind raw.old owed raw.new }
 {
     raw.next_bucket();
-    if owed {
-        return;
-    }
-    for _ in 0..8 {
-        if raw.bucket % 8 != 7 || raw.bucket > BUCKETS - 8 {
-            return;
-        }
-        if buckets.any_stands(raw.bucket) {
-            return;
-        }
-        pass_eight(raw);
+    if !owed && raw.bucket % 8 == 7 {
+        raw.bucket = buckets.behind_missing(raw.bucket);
+        raw.bucket_size = bucket_size(raw.bucket);
     }
 }
 
@@ -286,21 +276,14 @@ impl<'a, T> Walk<'a, T> {
     }
 
     /// Looks on until a flag is at hand, in this bucket or a later one. Answers whether one is.
-    // Inlined, a call that has a flag at hand makes the first test alone.
     #[inline(always)]
     fn reach(&mut self) -> bool
         requires shareable { Shareable T.row }
         requires walk { IsWalk self.old }
+        requires passed { self.old.rest ≡ 0 }
         ensures { Reaches self.old result self.new }
     {
-        if self.rest > 0 {
-            return true;
-        }
-        for bucket in self.raw.bucket..BUCKETS {
-            let _ = bucket;
-            if self.raw.bucket >= BUCKETS {
-                return false;
-            }
+        while self.raw.bucket < BUCKETS {
             self.look_in();
             if self.rest != 0 {
                 return true;
@@ -322,7 +305,7 @@ impl<'a, T> Walk<'a, T> {
             (λ x. YieldsFrom self.old.raw self.old.own x.1.now self.new.raw self.new.own) }
         ensures told { IfSome result (IsToldAt self.old.buckets.now.sharing self.new.raw) }
     {
-        if !self.reach() {
+        if self.rest == 0 && !self.reach() {
             return None;
         }
         Some(self.pass())

@@ -1,5 +1,5 @@
 -- The search for these takes seconds.
-use Rattle.std.proofs.Common.{◌≡◌, ◌^◌, ◌+◌, refl, inl, inr, arith}
+use Rattle.std.proofs.Common.{arith}
 use Rattle.thread_local_shared_buckets.proofs.LookLaws.{read_at}
 use Rattle.thread_local_shared_buckets.proofs.BitLaws.{none_in_chunk, none_further}
 use Rattle.thread_local_shared_buckets.proofs.steps.look_on.Goals as goal
@@ -13,7 +13,6 @@ returns-then-flags-ne0 g c =
     let look = c.look-seen.ensures in
     read_at c.args.row.now c.in-Some.row c.args.own c.args.from c.loop-chunk.chunk c.flags.result c.with_own-flags.result
     c.look-seen.result c.in-Some.is look.of.0 look.of.2 c.flags.ensures kept.later
-    (omega (arith, c.loop-chunk-test.true, c.loop-chunk.auto.chunk-end, c.requires.size))
     look.inside kept.none_before c.with_own-flags.ensures.own c.with_own-flags.ensures.other c.if-flags-ne0.true
 
 pub loop-chunk-preserved : goal.loop-chunk-preserved
@@ -26,11 +25,3 @@ loop-chunk-preserved g c =
       later = omega (arith, kept.later);
       none_before = none_further c.args.own c.args.from c.loop-chunk.chunk kept.none_before here;
     }
-
-pub returns-then-own-eq-ELSEWHERE : goal.returns-then-own-eq-ELSEWHERE
-returns-then-own-eq-ELSEWHERE g c = inl (c.if-own-eq-ELSEWHERE.true, refl, refl)
-
-pub returns-else-own-eq-ELSEWHERE : goal.returns-else-own-eq-ELSEWHERE
-returns-else-own-eq-ELSEWHERE g c =
-    let all : 18446744073709551615 + 1 ≡ 2 ^ 64 = refl in
-    inr (omega (arith, all, c.if-own-eq-ELSEWHERE.false, c.ranges.own.fits), refl, c.with_own.ensures.own refl)

@@ -1,9 +1,10 @@
 -- The chunks before this one have no own slot.
-use Rattle.std.proofs.Common.{◌≢◌, ◌≤◌, ◌<◌, ◌/◌, ℕ}
+use Rattle.std.proofs.Common.{◌≤◌, ◌<◌, ℕ}
+use Rattle.thread_local_shared_buckets.specs.AtHand.{LiesOutside}
 use Rattle.thread_local_shared_buckets.proofs.steps.look_on.Given as goal
 
 abbrev pub invariant-loop-chunk : goal.invariant-loop-chunk
 invariant-loop-chunk g l = record {
   later : l.from ≤ l.chunk;
-  none_before : (k : ℕ) → l.from ≤ k → k < l.chunk → l.own / 64 ≢ k;
+  none_before : (k : ℕ) → l.from ≤ k → k < l.chunk → LiesOutside l.own k;
 }

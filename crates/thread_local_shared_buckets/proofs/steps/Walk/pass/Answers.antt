@@ -9,10 +9,6 @@ slot_at-index-requires-clause-some g c = (near c.args.self.now c.requires.walk (
 pub slot_at-index-requires-clause-inside : goal.slot_at-index-requires-clause-inside
 slot_at-index-requires-clause-inside g c = (near c.args.self.now c.requires.walk (omega arith) c.requires.some).slot
 
-pub take-found-requires-clause-inside : goal.take-found-requires-clause-inside
-take-found-requires-clause-inside g c =
-    let at = near c.args.self.now c.requires.walk (omega arith) c.requires.some in omega (arith, at.slot, c.slot_at-index.ensures)
-
 pub take-found-requires-clause-by : goal.take-found-requires-clause-by
 take-found-requires-clause-by g c =
     set_lowest c.args.self.now c.slot_at-index.result c.slot_at-index.ensures c.requires.walk (omega arith) c.requires.some

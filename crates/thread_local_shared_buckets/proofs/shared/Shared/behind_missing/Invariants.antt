@@ -1,0 +1,12 @@
+-- It passes eight buckets in each turn, and none beyond the last.
+use Rattle.std.proofs.Common.{◌≤◌, ◌-◌}
+use Rattle.thread_local_shared_buckets.proofs.shared.Shared.behind_missing.Given as goal
+
+abbrev pub invariant-loop-at : goal.invariant-loop-at
+invariant-loop-at g l = record {
+  ahead : l.first ≤ l.at;
+  in_table : l.at ≤ 63;
+}
+
+abbrev pub decreases-loop-at : goal.decreases-loop-at
+decreases-loop-at g l = 63 - l.at
