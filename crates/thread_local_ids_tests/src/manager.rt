@@ -30,12 +30,12 @@ fn take(
 }
 
 /// Takes an id where no memory is asked for, so a refusal would be a fault of the manager's.
-fn take_at_hand(manager: &mut ThreadIdManager) -> Result<usize, LocalError> {
+pub fn take_at_hand(manager: &mut ThreadIdManager) -> Result<usize, LocalError> {
     manager.alloc()
 }
 
 /// Gives an id back if it is held, and answers whether it was.
-fn give(manager: &mut ThreadIdManager, id: usize) -> bool {
+pub fn give(manager: &mut ThreadIdManager, id: usize) -> bool {
     let is_held = manager.is_held(id);
     if is_held {
         manager.free(id);
@@ -53,22 +53,27 @@ fn first_held(manager: &ThreadIdManager) -> [bool; 4] {
     ]
 }
 
+/// Takes three ids, before each of which these are held.
+fn take_three(
+    rt: &(impl Abort + Print),
+    manager: &mut ThreadIdManager,
+    held: [&[usize]; 3],
+) -> Result<[usize; 3], LocalError> {
+    Ok([
+        take(rt, manager, held[0])?,
+        take(rt, manager, held[1])?,
+        take(rt, manager, held[2])?,
+    ])
+}
+
 #[test]
 fn least_ids_in_turn(rt: HostRuntime) -> Result<(), Fail> {
     let mut manager = ThreadIdManager::new(rt.alloc());
     let before = first_held(&manager);
-    let taken = [
-        take(&rt, &mut manager, &[])?,
-        take(&rt, &mut manager, &[0])?,
-        take(&rt, &mut manager, &[0, 1])?,
-    ];
+    let taken = take_three(&rt, &mut manager, [&[], &[0], &[0, 1]])?;
     let given = [give(&mut manager, 1), give(&mut manager, 0)];
     let left = first_held(&manager);
-    let again = [
-        take(&rt, &mut manager, &[2])?,
-        take(&rt, &mut manager, &[0, 2])?,
-        take(&rt, &mut manager, &[0, 1, 2])?,
-    ];
+    let again = take_three(&rt, &mut manager, [&[2], &[0, 2], &[0, 1, 2]])?;
     assert_eq!(rt; (before, taken, given), ([false; 4], [0, 1, 2], [true; 2]));
     assert_eq!(rt; (left, again), ([false, false, true, false], [0, 1, 3]));
     Ok(())
@@ -99,15 +104,25 @@ fn is_refused(alloc: Global, ids: usize) -> bool {
     ThreadIdManager::with_room(alloc, ids).is_err()
 }
 
+/// Takes ids that need no memory, and looks that they are the first so many.
+fn take_first(
+    rt: &impl Abort,
+    manager: &mut ThreadIdManager,
+    count: usize,
+) -> Result<(), LocalError> {
+    for id in 0..count {
+        assert_eq!(rt; take_at_hand(manager)?, id);
+    }
+    Ok(())
+}
+
 #[test]
 fn room_that_was_made_is_enough(rt: HostRuntime) -> Result<(), Fail> {
     let Ok(mut manager) = ThreadIdManager::with_room(rt.alloc(), 67) else {
         println!(rt; "refused: with_room")?;
         return Ok(());
     };
-    for id in 0..67usize {
-        assert_eq!(rt; take_at_hand(&mut manager)?, id);
-    }
+    take_first(&rt, &mut manager, 67)?;
     assert!(rt; !manager.is_held(67));
     let first = first_without_room(&rt, rt.alloc())?;
     let refused = [9223372036854775807, usize::MAX].map(|ids| is_refused(rt.alloc(), ids));
@@ -121,18 +136,14 @@ fn room_is_made_in_whole_words(rt: HostRuntime) -> Result<(), Fail> {
         println!(rt; "refused: with_room")?;
         return Ok(());
     };
-    for id in 0..128usize {
-        assert_eq!(rt; take_at_hand(&mut manager)?, id);
-    }
+    take_first(&rt, &mut manager, 128)?;
     assert_eq!(rt; take(&rt, &mut manager, &[0, 1, 2, 3, 4, 5, 6, 7])?, 128);
     Ok(())
 }
 
 /// Takes 64 ids, which need no memory, and one more.
 fn take_65(rt: &(impl Abort + Print), manager: &mut ThreadIdManager) -> Result<usize, LocalError> {
-    for id in 0..64usize {
-        assert_eq!(rt; take_at_hand(manager)?, id);
-    }
+    take_first(rt, manager, 64)?;
     take(rt, manager, &[0, 1, 2, 3, 4, 5, 6, 7])
 }
 

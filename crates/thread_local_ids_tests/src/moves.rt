@@ -1,4 +1,5 @@
 //! Ten thousand takes and gives beside a set of the ids held.
+use crate::manager::{give, take_at_hand};
 use std::collections::BTreeSet;
 use std::test::Fail;
 use thread_local_thread_id::{LocalError, ThreadIdManager};
@@ -24,18 +25,32 @@ fn nth_of(held: &BTreeSet<usize>, n: u64) -> Option<usize> {
     held.iter().nth((n % count) as usize).copied()
 }
 
-/// Gives an id back if it is held, and answers whether it was, and whether it isn't any more.
-fn give(manager: &mut ThreadIdManager, id: usize) -> bool {
-    if !manager.is_held(id) {
-        return false;
+/// Gives back the held id that a number draws, if there is one and the number asks for it, or else
+/// takes an id. Of four numbers so many ask for a take. Answers whether the id was held until it was
+/// given back, or was the least that wasn't held.
+fn make_move(
+    manager: &mut ThreadIdManager,
+    held: &mut BTreeSet<usize>,
+    draw: u64,
+    takes: u64,
+) -> Result<bool, LocalError> {
+    let given = if draw % 4 < takes {
+        None
+    } else {
+        nth_of(held, draw / 4)
+    };
+    match given {
+        Some(id) => {
+            held.remove(&id);
+            Ok(give(manager, id) && !manager.is_held(id))
+        }
+        None => {
+            let least = least_absent(held);
+            let id = take_at_hand(manager)?;
+            held.insert(id)?;
+            Ok(id == least)
+        }
     }
-    manager.free(id);
-    !manager.is_held(id)
-}
-
-/// Takes an id.
-fn take(manager: &mut ThreadIdManager) -> Result<usize, LocalError> {
-    manager.alloc()
 }
 
 /// Each move draws a number, by one multiplication and one addition. Of 5000 moves three of four
@@ -51,21 +66,11 @@ fn ten_thousand_moves_give_the_least_ids(rt: HostRuntime) -> Result<(), Fail> {
         state = state
             .wrapping_mul(6364136223846793005)
             .wrapping_add(1442695040888963407);
-        let draw = state >> 33;
         let takes = if turn % 5000 < 2500 { 3 } else { 1 };
-        let given = if draw % 4 < takes {
-            None
-        } else {
-            nth_of(&held, draw / 4)
-        };
-        if let Some(id) = given {
-            assert!(rt; give(&mut manager, id), "id {id} at move {turn}");
-            held.remove(&id);
-        } else {
-            let id = take(&mut manager)?;
-            assert_eq!(rt; id, least_absent(&held), "move {turn}");
-            held.insert(id)?;
-        }
+        assert!(rt;
+            make_move(&mut manager, &mut held, state >> 33, takes)?,
+            "move {turn}"
+        );
         most = most.max(held.len());
     }
     assert!(rt;

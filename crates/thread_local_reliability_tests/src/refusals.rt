@@ -2,6 +2,8 @@
 //! refused, with the second, and so on until no request is refused any more. Each test holds
 //! whichever it is, and says which call was refused; with ample memory it says nothing.
 
+ghost use Rattle.std.specs.Prelude.{◌-◌, ◌^◌, ◌<◌};
+
 use std::alloc::{AllocError, Global};
 use std::cell::Cell;
 use std::io::Print;
@@ -10,7 +12,7 @@ use std::sync::Wait;
 use std::test::Fail;
 use thread_local::ThreadLocal;
 use thread_local::local::{Local, SetError, TryError};
-use thread_local_buckets::{Buckets, CapacityError};
+use thread_local_buckets::{Buckets, CapacityError, IntoIter};
 use thread_local_thread_id::{LocalError, Thread};
 
 /// A call that publishes a value.
@@ -108,49 +110,48 @@ impl Publishing {
         }
     }
 
-    /// Three `Local`s that are held at once publish 6, 7 and 8. A call that is refused is made
-    /// again, once it is seen that the earlier places find what they found. Answers whether each
-    /// call did as it promises.
+    /// Takes a `Local`, which publishes a number. A call that is refused is made again, once it is
+    /// seen that the earlier places find what they found. Answers the `Local`, and whether each call
+    /// did as it promises.
+    fn joined<'a, R: Wait + Print, F: Fn() -> bool>(
+        self,
+        table: &'a ThreadLocal<u32>,
+        rt: &'a R,
+        number: u32,
+        earlier_stand: F,
+    ) -> Result<(Local<'a, u32, R>, bool), LocalError>
+        requires { F.IsAlwaysCallable earlier_stand }
+    {
+        let (mut local, stood) = match taken(table, rt) {
+            Ok(local) => (local, true),
+            Err(_) => {
+                let stood = earlier_stand();
+                (taken(table, rt)?, stood)
+            }
+        };
+        let done = match self.tried(&mut local, rt, number) {
+            Ok(done) => done,
+            Err(_) => earlier_stand() && self.tried(&mut local, rt, number) == Ok(true),
+        };
+        Ok((local, stood && done && earlier_stand()))
+    }
+
+    /// Three `Local`s that are held at once publish 6, 7 and 8. Answers whether each call did as it
+    /// promises.
     fn by_three<R: Wait + Print>(
         self,
         table: &ThreadLocal<u32>,
         rt: &R,
     ) -> Result<bool, LocalError> {
-        let mut first = match taken(table, rt) {
-            Ok(local) => local,
-            Err(_) => taken(table, rt)?,
-        };
-        let mut as_promised = match self.tried(&mut first, rt, 6) {
-            Ok(done) => done,
-            Err(_) => self.tried(&mut first, rt, 6) == Ok(true),
-        };
-        let mut second = match taken(table, rt) {
-            Ok(local) => local,
-            Err(_) => {
-                as_promised &= self.stands(&first, 6);
-                taken(table, rt)?
-            }
-        };
-        as_promised &= match self.tried(&mut second, rt, 7) {
-            Ok(done) => done,
-            Err(_) => self.stands(&first, 6) && self.tried(&mut second, rt, 7) == Ok(true),
-        };
-        as_promised &= self.stands(&first, 6);
-        let mut third = match taken(table, rt) {
-            Ok(local) => local,
-            Err(_) => {
-                as_promised &= self.stands(&first, 6) && self.stands(&second, 7);
-                taken(table, rt)?
-            }
-        };
-        as_promised &= match self.tried(&mut third, rt, 8) {
-            Ok(done) => done,
-            Err(_) => {
-                as_promised &= self.stands(&first, 6) && self.stands(&second, 7);
-                self.tried(&mut third, rt, 8) == Ok(true)
-            }
-        };
-        Ok(as_promised && self.stands(&first, 6) && self.stands(&second, 7))
+        let (first, one) = self.joined(table, rt, 6, || true)?;
+        let (second, two) = self.joined(table, rt, 7, || self.stands(&first, 6))?;
+        let (_third, three) = self.joined(
+            table,
+            rt,
+            8,
+            || self.stands(&first, 6) && self.stands(&second, 7),
+        )?;
+        Ok(one && two && three)
     }
 }
 
@@ -176,16 +177,19 @@ fn with_62_held<R: Wait>(rt: &R, alloc: Global) -> Result<ThreadLocal<u32>, Loca
     Ok(table)
 }
 
+/// What a walk by value gives, of the first four values.
+fn first_four(mut values: IntoIter<u32>) -> [Option<u32>; 4] {
+    [values.next(), values.next(), values.next(), values.next()]
+}
+
 #[test]
 fn a_call_that_was_refused_succeeds_when_it_is_made_again(rt: HostRuntime) -> Result<(), Fail> {
     for call in Publishing::ALL {
         let table = with_62_held(&rt, rt.alloc())?;
         let as_promised = call.by_three(&table, &rt) == Ok(true);
-        let mut values = table.into_iter();
-        let walked = [values.next(), values.next(), values.next(), values.next()];
         let wanted = [6, 7, 8].map(|number| Some(call.wanted(number).0));
         assert_eq!(rt;
-            (as_promised, walked),
+            (as_promised, first_four(table.into_iter())),
             (true, [wanted[0], wanted[1], wanted[2], None])
         );
     }
@@ -231,27 +235,36 @@ fn a_table_with_a_capacity_has_its_slots_or_is_refused(rt: HostRuntime) -> Resul
     Ok(())
 }
 
-#[test]
-fn a_refused_insert_hands_its_value_back(rt: HostRuntime) -> Result<(), Fail> {
-    let mut buckets = Buckets::new(rt.alloc());
-    let mut as_promised = true;
-    for (id, value) in [(0, 6u32), (1, 7), (3, 8)] {
-        let refused = match buckets.insert(Thread::new(id), value) {
-            Ok(_) => None,
-            Err(back) => Some(back),
-        };
-        if let Some(back) = refused {
-            println!(rt; "refused: insert")?;
-            as_promised &= back == value && buckets.insert(Thread::new(id), back).is_ok();
+/// Inserts a value, a second time where the first is refused, which is told. Answers whether the
+/// first then handed the value back, and the value was inserted.
+fn insert(buckets: &mut Buckets<u32>, id: usize, value: u32, rt: &impl Print) -> bool
+    requires { id < 2 ^ 63 - 1 }
+{
+    let refused = match buckets.insert(Thread::new(id), value) {
+        Ok(_) => None,
+        Err(back) => Some(back),
+    };
+    match refused {
+        None => true,
+        Some(back) => {
+            let _told = println!(rt; "refused: insert");
+            back == value && buckets.insert(Thread::new(id), back).is_ok()
         }
     }
-    let mut values = buckets.into_iter();
-    let walked = [values.next(), values.next(), values.next(), values.next()];
+}
+
+#[test]
+fn a_refused_insert_hands_its_value_back(rt: HostRuntime) {
+    let mut buckets = Buckets::new(rt.alloc());
+    let as_promised = [
+        insert(&mut buckets, 0, 6, &rt),
+        insert(&mut buckets, 1, 7, &rt),
+        insert(&mut buckets, 3, 8, &rt),
+    ];
     assert_eq!(rt;
-        (as_promised, walked),
-        (true, [Some(6), Some(7), Some(8), None])
+        (as_promised, first_four(buckets.into_iter())),
+        ([true; 3], [Some(6), Some(7), Some(8), None])
     );
-    Ok(())
 }
 
 #[test]

@@ -1,11 +1,13 @@
 //! Claims that are forgotten, sent or shared, and those of reserved buckets.
-use crate::steps::{Kept, first_three, look, publish, publish_claimed};
+ghost use Rattle.std.specs.Prelude.{◌≡◌};
+
+use crate::steps::{Kept, first_three, left, look, publish, publish_claimed};
 use std::cell::Cell;
 use std::mem::forget;
 use std::test::Fail;
 use std::thread;
 use thread_local_buckets::Buckets;
-use thread_local_ids::Ids;
+use thread_local_ids::{HeldId, Ids, Right};
 use thread_local_judged::Judge;
 use thread_local_shared_buckets::{Claim, Shared};
 use thread_local_thread_id::Thread;
@@ -17,6 +19,19 @@ impl<T: Drop> Kept<'_, T> {
     }
 }
 
+/// What a new claim holds, which is forgotten then.
+fn found_and_forgotten(shared: &Shared<u32>, held: (HeldId, Right)) -> Option<u32>
+    requires table { (held.1.table ≡ shared.now.table) × (held.0.mark.table ≡ shared.now.table) }
+    requires id { held.1.id ≡ held.0.id }
+{
+    let claimed = Kept {
+        claim: shared.claim(held.0, held.1),
+    };
+    let found = claimed.claim.get().copied();
+    forget(claimed);
+    found
+}
+
 // The first is forgotten where a value stands, the second before its bucket does, which the third
 // then makes.
 #[test]
@@ -25,19 +40,12 @@ fn a_forgotten_claim_costs_its_own_slot(rt: HostRuntime) -> Result<(), Fail> {
     let mut buckets = Buckets::new(rt.alloc());
     assert!(rt; buckets.insert(Thread::new(0), 5u32).is_ok());
     let shared = Shared::new(buckets, &ids.table_right());
-    let first = ids.take()?;
-    let second = ids.take()?;
-    let third = ids.take()?;
-    let claimed = Kept {
-        claim: shared.claim(first.0, first.1),
-    };
-    let found = claimed.claim.get().copied();
-    forget(claimed);
-    forget(Kept {
-        claim: shared.claim(second.0, second.1),
-    });
-    let (_third, published) = publish(&shared, third, rt.alloc(), 6);
-    assert_eq!(rt; (found, published), (Some(5), true));
+    let found = [
+        found_and_forgotten(&shared, ids.take()?),
+        found_and_forgotten(&shared, ids.take()?),
+    ];
+    let (_third, published) = publish(&shared, ids.take()?, rt.alloc(), 6);
+    assert_eq!(rt; (found, published), ([Some(5), None], true));
     let seen = [look(&shared, 0), look(&shared, 1), look(&shared, 2)];
     assert_eq!(rt; seen, [Some(5), None, Some(6)]);
     assert_eq!(rt;
@@ -82,25 +90,30 @@ fn threads_share_a_claim(rt: HostRuntime) -> Result<(), Fail> {
     Ok(())
 }
 
+/// Whether the buckets 0, 2 and 3 stand.
+fn stand(shared: &Shared<u32>) -> [bool; 3] {
+    [
+        shared.load(0).is_some(),
+        shared.load(2).is_some(),
+        shared.load(3).is_some(),
+    ]
+}
+
 #[test]
 fn reserved_buckets_stand(rt: HostRuntime) -> Result<(), Fail> {
     let mut ids = Ids::new(rt.alloc());
     let shared = Shared::new(Buckets::with_capacity(rt.alloc(), 4)?, &ids.table_right());
-    let stand = [
-        shared.load(0).is_some(),
-        shared.load(2).is_some(),
-        shared.load(3).is_some(),
-    ];
-    assert_eq!(rt; (shared.reserved(), stand), (7, [true, true, false]));
+    assert_eq!(rt;
+        (shared.reserved(), stand(&shared)),
+        (7, [true, true, false])
+    );
     let (held, right) = ids.take()?;
     let claim = shared.claim(held, right);
     let is_vacant = !claim.is_missing() && claim.get().is_none();
     let published = publish_claimed(claim, 1).1;
-    let mut buckets = shared.into_buckets();
-    let slots = buckets.slots();
     assert_eq!(rt;
-        (is_vacant, published, slots, first_three(buckets)),
-        (true, true, 7, [Some(1), None, None])
+        (is_vacant, published, left(shared)),
+        (true, true, (7, [Some(1), None, None]))
     );
     Ok(())
 }

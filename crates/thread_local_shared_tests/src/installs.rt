@@ -3,7 +3,7 @@ ghost use Rattle.std.specs.Prelude.{◌≡◌, ◌^◌};
 ghost use Rattle.thread_local_bucket_pointers.specs.Slots.{empty_slots};
 ghost use Rattle.thread_local_model.specs.Place.{bucket_of};
 
-use crate::steps::{Kept, first_three, look, publish_claimed};
+use crate::steps::{Kept, left, look, publish_claimed};
 use std::alloc::Global;
 use std::cell::{Cell, RefCell};
 use std::sync::Wait;
@@ -109,6 +109,50 @@ fn blocks_that_come_second_are_freed(rt: HostRuntime) -> Result<(), Fail> {
     Ok(())
 }
 
+/// Offers a block by a claim, and publishes a value. Answers what a walker finds at id 1 once the
+/// block was offered, and whether the value was published.
+fn offer_and_publish(
+    shared: &Shared<u32>,
+    claim: Kept<'_, u32>,
+    block: Block<u32, Global>,
+    alloc: &Global,
+    value: u32,
+) -> (Option<u32>, bool)
+    requires heap { (block.heap ≡ alloc.now) × (block.left ≡ 0) }
+    requires slots { block.slots ≡ empty_slots (2 ^ bucket_of claim.claim.id) }
+{
+    match claim.offered(block, alloc) {
+        Some(claim) => {
+            let found = look(shared, 1);
+            (found, publish_claimed(claim, value).1)
+        }
+        None => (None, false),
+    }
+}
+
+/// Two claims of one bucket make a block each, before either is offered. Then the one publishes 1
+/// and the other 2. Answers what walkers found meanwhile, and whether both were published.
+fn offer_two(
+    shared: &Shared<u32>,
+    one: Kept<'_, u32>,
+    other: Kept<'_, u32>,
+    alloc: &Global,
+) -> Option<[(Option<u32>, bool); 2]> {
+    let size = one.claim.place().bucket_size();
+    let first = Block::new(alloc, size).ok()?;
+    let second = match Block::new(alloc, other.claim.place().bucket_size()) {
+        Ok(block) => block,
+        Err(_) => {
+            first.release(alloc, size);
+            return None;
+        }
+    };
+    Some([
+        offer_and_publish(shared, one, first, alloc, 1),
+        offer_and_publish(shared, other, second, alloc, 2),
+    ])
+}
+
 // Both blocks are made before the first is installed. The second offer, and what comes after both,
 // goes on with the first's block.
 #[test]
@@ -118,28 +162,9 @@ fn the_second_of_two_blocks_gives_way(rt: HostRuntime) -> Result<(), Fail> {
     let _first = ids.take()?;
     let second = claim_early(&shared, ids.take()?);
     let third = claim_early(&shared, ids.take()?);
-    let alloc = rt.alloc();
-    let installed = Block::new(&alloc, second.claim.place().bucket_size())?;
-    let offered = match Block::new(&alloc, third.claim.place().bucket_size()) {
-        Ok(block) => block,
-        Err(error) => {
-            installed.release(&alloc, second.claim.place().bucket_size());
-            return Err(Fail::from(error));
-        }
-    };
-    let second = second.offered(installed, &alloc).expect(&rt, "an offer");
-    let before = look(&shared, 1);
-    let first = publish_claimed(second, 1).1;
-    let third = third.offered(offered, &alloc).expect(&rt, "an offer");
-    let after = look(&shared, 1);
-    let published = [first, publish_claimed(third, 2).1];
-    assert_eq!(rt; (before, after, published), (None, Some(1), [true; 2]));
-    let mut buckets = shared.into_buckets();
-    let slots = buckets.slots();
-    assert_eq!(rt;
-        (slots, first_three(buckets)),
-        (2, [Some(1), Some(2), None])
-    );
+    let offered = offer_two(&shared, second, third, &rt.alloc());
+    assert_eq!(rt; offered, Some([(None, true), (Some(1), true)]));
+    assert_eq!(rt; left(shared), (2, [Some(1), Some(2), None]));
     Ok(())
 }
 

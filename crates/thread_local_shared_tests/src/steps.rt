@@ -77,6 +77,12 @@ pub fn first_three(buckets: Buckets<u32>) -> [Option<u32>; 3] {
     [values.next(), values.next(), values.next()]
 }
 
+/// How many slots an owner has then, and what its walk gives first, second and third.
+pub fn left(shared: Shared<u32>) -> (usize, [Option<u32>; 3]) {
+    let mut buckets = shared.into_buckets();
+    (buckets.slots(), first_three(buckets))
+}
+
 /// Whether a bit of a word is set.
 pub fn has_bit(word: u64, bit: usize) -> bool
     requires { bit < 64 }

@@ -95,27 +95,51 @@ fn renewed<T>(shared: &mut Shared<T>, own: &Right)
     shared.renew(own);
 }
 
+/// What the next claim of a token's slot holds, and the id of the token that it answers.
+fn held_again(
+    shared: &Shared<u32>,
+    held: (HeldId, Right),
+    token: &Token<u32>,
+) -> (u32, Option<usize>)
+    requires table { (held.1.table ≡ shared.now.table) × (held.0.mark.table ≡ shared.now.table) }
+    requires id { (held.1.id ≡ held.0.id) × (held.0.id ≡ token.now.id) }
+    requires sharing { (shared.now.sharing ≡ token.now.sharing) × IsSome shared.now.sharing }
+{
+    let mut claim = shared.claim(held.0, held.1);
+    let seen = (holds(&mut claim, token), claim.token().map(|t| t.id()));
+    claim.give_up();
+    seen
+}
+
+/// What stands at the ids of two tokens.
+fn found_by_two(
+    mut buckets: Buckets<u32>,
+    one: &Token<u32>,
+    other: &Token<u32>,
+) -> [Option<u32>; 2] {
+    [
+        buckets.get_mut(Thread::new(one.id())).copied(),
+        buckets.get_mut(Thread::new(other.id())).copied(),
+    ]
+}
+
 #[test]
 fn a_token_says_what_was_published(rt: HostRuntime) -> Result<(), Fail> {
     let mut ids = Ids::new(rt.alloc());
     let shared = Shared::new(Buckets::new(rt.alloc()), &ids.table_right());
     let (held, token) = told(&shared, ids.take()?, rt.alloc(), 7u32);
     let token = token.expect(&rt, "a token");
-    let mut claim = shared.claim(held.0, held.1);
-    let seen = (holds(&mut claim, &token), claim.token().map(|t| t.id()));
-    claim.give_up();
+    let seen = held_again(&shared, held, &token);
     let (_, other) = told(&shared, ids.take()?, rt.alloc(), 8);
     let other = other.expect(&rt, "a token");
-    let read = (*shared.value(&token.again()), *shared.value(&other));
     are_one(&token, &token.again());
+    let read = (*shared.value(&token.again()), *shared.value(&other));
     let ids = (token.id(), other.id());
-    let mut buckets = owned(shared, &token, &other);
-    let found = (
-        buckets.get_mut(Thread::new(token.id())).copied(),
-        buckets.get_mut(Thread::new(other.id())).copied(),
+    let found = found_by_two(owned(shared, &token, &other), &token, &other);
+    assert_eq!(rt;
+        (seen, read, ids, found),
+        ((7, Some(0)), (7, 8), (0, 1), [Some(7), Some(8)])
     );
-    assert_eq!(rt; (seen, read), ((7, Some(0)), (7, 8)));
-    assert_eq!(rt; (ids, found), ((0, 1), (Some(7), Some(8))));
     Ok(())
 }
 

@@ -4,12 +4,12 @@ use crate::locals::{found, found_by_another, numbers, published, published_by_an
 use std::alloc::Global;
 use std::cell::{Cell, RefCell};
 use std::default::MadeWith;
-use std::fmt::Debug;
 use std::mem::swap;
 use std::sync::Wait;
 use thread_local::ThreadLocal;
 use thread_local::local::{Local, TryError};
 use thread_local::table::Judge;
+use thread_local_test_helpers::printed::prints;
 
 #[test]
 fn the_first_value_stays(rt: HostRuntime) {
@@ -18,14 +18,6 @@ fn the_first_value_stays(rt: HostRuntime) {
         published_by_another(&table, &rt, 5),
         Some([None, Some(5), Some(5)])
     );
-}
-
-/// Whether a `Local` is shown so.
-fn is_shown<T: Debug, R: Wait>(local: &Local<'_, T, R>, alloc: Global, shown: &str) -> bool {
-    match format!(in alloc; "{local:?}") {
-        Ok(text) => text.as_str() == shown,
-        Err(_) => false,
-    }
 }
 
 /// Asks three times for a value. Answers whether each answer, and what is found then, is 0, and how
@@ -57,9 +49,9 @@ fn shown_and_asked<R: Wait>(
     let mut local = table.local(rt).ok()?;
     let is_empty = local.get().is_none();
     Some((
-        is_empty && is_shown(&local, alloc, "ThreadLocal { local_data: None }"),
+        is_empty && prints(&local, alloc, "ThreadLocal { local_data: None }"),
         ask_thrice(&mut local),
-        is_shown(&local, alloc, "ThreadLocal { local_data: Some(0) }"),
+        prints(&local, alloc, "ThreadLocal { local_data: Some(0) }"),
     ))
 }
 
@@ -231,11 +223,11 @@ fn shows_a_negative_number<R: Wait>(table: &ThreadLocal<i32>, rt: &R, alloc: Glo
         return false;
     };
     let told = local.get_or(|| -3).ok().copied();
-    told == Some(-3) && is_shown(&local, alloc, "ThreadLocal { local_data: Some(-3) }")
+    told == Some(-3) && prints(&local, alloc, "ThreadLocal { local_data: Some(-3) }")
 }
 
 #[test]
-fn a_negative_number_is_shown(rt: HostRuntime) {
+fn a_negative_number_prints(rt: HostRuntime) {
     let table = ThreadLocal::<i32>::new(rt.alloc());
     assert!(rt; shows_a_negative_number(&table, &rt, rt.alloc()));
 }

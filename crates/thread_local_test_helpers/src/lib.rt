@@ -1,8 +1,9 @@
 //! What test crates share: values that count their drops, signals that threads wait for, a bound on
-//! memory, and an allocator that refuses every request.
+//! memory, an allocator that refuses every request, and a look at what a value prints.
 #![tactic(auto)]
 
 pub mod counted;
 pub mod memory;
+pub mod printed;
 pub mod refusing;
 pub mod signals;

@@ -8,6 +8,7 @@ use std::sync::Wait;
 use std::test::Fail;
 use thread_local::cached::{CachedIntoIter, CachedIterMut, CachedThreadLocal};
 use thread_local::local::{Local, TryError};
+use thread_local_test_helpers::printed::prints;
 
 /// What a new `Local` finds, and what it is told when it publishes 3.
 fn publish_three<R: Wait>(table: &CachedThreadLocal<u32>, rt: &R) -> Option<[Option<u32>; 2]> {
@@ -93,14 +94,6 @@ fn try_twice<R: Wait>(local: &mut Local<'_, u32, R>) -> (bool, Option<u32>) {
     (failed && is_empty, made)
 }
 
-/// Whether a `Local` is shown so.
-fn is_shown<R: Wait>(local: &Local<'_, u32, R>, alloc: Global, shown: &str) -> bool {
-    match format!(in alloc; "{local:?}") {
-        Ok(text) => text.as_str() == shown,
-        Err(_) => false,
-    }
-}
-
 /// Whether a first `Local` publishes 4 once a closure has failed, and is shown with it, and whether
 /// a second one publishes the default.
 fn ask_the_locals_of_a_deprecated_table<R: Wait>(
@@ -110,9 +103,9 @@ fn ask_the_locals_of_a_deprecated_table<R: Wait>(
 ) -> Option<[bool; 4]> {
     let mut first = table.local(rt).ok()?;
     let mut second = table.local(rt).ok()?;
-    let is_shown_empty = is_shown(&first, alloc, "ThreadLocal { local_data: None }");
+    let is_shown_empty = prints(&first, alloc, "ThreadLocal { local_data: None }");
     let tried = try_twice(&mut first) == (true, Some(4));
-    let is_shown_with_four = is_shown(&first, alloc, "ThreadLocal { local_data: Some(4) }");
+    let is_shown_with_four = prints(&first, alloc, "ThreadLocal { local_data: Some(4) }");
     let default = second.get_or_default().ok().copied() == Some(0);
     Some([is_shown_empty, tried, is_shown_with_four, default])
 }

@@ -7,9 +7,40 @@ use thread_local::buckets::CapacityError;
 use thread_local::local::{SetError, TryError};
 use thread_local::thread_id::LocalError;
 
-/// What an error prints.
-fn printed<E: Error>(error: &E, alloc: Global) -> Result<String, AllocError> {
-    format!(in alloc; "{error}")
+/// Whether an error prints this text.
+fn says<E: Error>(error: &E, alloc: Global, text: &str) -> bool {
+    match format!(in alloc; "{error}") {
+        Ok(printed) => printed.as_str() == text,
+        Err(_) => false,
+    }
+}
+
+/// What an error says of memory that was refused.
+const REFUSED: &str = "memory allocation failed";
+
+/// Whether the errors of ids and capacities say what they are.
+fn refusals_are_told(alloc: Global) -> [bool; 4] {
+    [
+        says(&LocalError::Exhausted, alloc, "every id is held"),
+        says(&LocalError::Memory(AllocError), alloc, REFUSED),
+        says(&CapacityError::TooLarge, alloc, "capacity is 2^63 or more"),
+        says(&CapacityError::Memory(AllocError), alloc, REFUSED),
+    ]
+}
+
+/// The same of the errors of `set` and of a closure, which may be an error of ids.
+fn errors_of_values_are_told(alloc: Global) -> [bool; 4] {
+    let failed = TryError::Create(LocalError::Exhausted);
+    [
+        says(
+            &SetError::Occupied(5),
+            alloc,
+            "the slot holds a value already",
+        ),
+        says(&SetError::Memory(5), alloc, REFUSED),
+        says(&failed, alloc, "every id is held"),
+        says(&TryError::<LocalError>::Memory(AllocError), alloc, REFUSED),
+    ]
 }
 
 /// What `?` makes of memory that was refused.
@@ -27,37 +58,12 @@ fn errors_are_made_of_missing_memory(rt: HostRuntime) -> Result<(), Fail> {
 }
 
 #[test]
-fn errors_are_printed(rt: HostRuntime) -> Result<(), Fail> {
-    let alloc = rt.alloc();
-    let memory = "memory allocation failed";
+fn errors_are_printed(rt: HostRuntime) {
     assert_eq!(rt;
-        printed(&LocalError::Exhausted, alloc)?.as_str(),
-        "every id is held"
+        (
+            refusals_are_told(rt.alloc()),
+            errors_of_values_are_told(rt.alloc())
+        ),
+        ([true; 4], [true; 4])
     );
-    assert_eq!(rt;
-        printed(&LocalError::Memory(AllocError), alloc)?.as_str(),
-        memory
-    );
-    assert_eq!(rt;
-        printed(&CapacityError::TooLarge, alloc)?.as_str(),
-        "capacity is 2^63 or more"
-    );
-    assert_eq!(rt;
-        printed(&CapacityError::Memory(AllocError), alloc)?.as_str(),
-        memory
-    );
-    assert_eq!(rt;
-        printed(&SetError::Occupied(5), alloc)?.as_str(),
-        "the slot holds a value already"
-    );
-    assert_eq!(rt; printed(&SetError::Memory(5), alloc)?.as_str(), memory);
-    assert_eq!(rt;
-        printed(&TryError::Create(LocalError::Exhausted), alloc)?.as_str(),
-        "every id is held"
-    );
-    assert_eq!(rt;
-        printed(&TryError::<LocalError>::Memory(AllocError), alloc)?.as_str(),
-        memory
-    );
-    Ok(())
 }

@@ -1,12 +1,13 @@
 //! What a drain gives, in which order, and what it leaves in the buckets.
 
 use super::insert;
-use super::walks::{has_left, prints, three};
+use super::walks::{has_left, three};
 use std::alloc::{AllocError, Global};
 use std::mem::forget;
 use std::test::Fail;
 use thread_local_buckets::Buckets;
 use thread_local_test_helpers::memory::take_all_but;
+use thread_local_test_helpers::printed::prints;
 use thread_local_thread_id::Thread;
 
 /// Whether a drain gives three values, counted down, and then nothing for good.
@@ -128,8 +129,8 @@ fn a_drain_prints_its_cursor(rt: HostRuntime) -> Result<(), Fail> {
     let mut buckets = Buckets::new(rt.alloc());
     insert(&mut buckets, 0, 5u32)?;
     let mut walk = buckets.drain();
-    let fresh = prints(rt.alloc(), &walk, FRESH)? && walk.next() == Some(5);
-    let ended = prints(rt.alloc(), &walk, ENDED)? && walk.next().is_none();
+    let fresh = prints(&walk, rt.alloc(), FRESH) && walk.next() == Some(5);
+    let ended = prints(&walk, rt.alloc(), ENDED) && walk.next().is_none();
     assert_eq!(rt; (fresh, ended), (true, true));
     Ok(())
 }

@@ -1,10 +1,11 @@
 //! What the walks give that go by ids and values.
 
 use super::insert;
-use super::walks::{has_left, prints, three};
+use super::walks::{has_left, three};
 use std::alloc::{AllocError, Global};
 use std::test::Fail;
 use thread_local_buckets::{Buckets, IntoEntries};
+use thread_local_test_helpers::printed::prints;
 
 /// Whether a walk gives three values with their ids, counted down, and then nothing for good.
 fn gives(walk: IntoEntries<u32>, entries: [(usize, u32); 3]) -> bool {
@@ -92,23 +93,23 @@ const LENT: &str =
     "EntriesMut { raw: RawIter { yielded: 1, bucket: 0, bucket_size: 1, index: 1 } }";
 
 /// Whether a walk over the value 5 at id 0 prints its cursor behind it.
-fn taking_prints(alloc: Global, buckets: Buckets<u32>) -> Result<bool, AllocError> {
+fn taking_prints(alloc: Global, buckets: Buckets<u32>) -> bool {
     let mut walk = buckets.into_entries();
-    Ok(walk.next() == Some((0, 5)) && prints(alloc, &walk, TAKEN)?)
+    walk.next() == Some((0, 5)) && prints(&walk, alloc, TAKEN)
 }
 
 /// The same of a walk that lends.
-fn lending_prints(alloc: Global, buckets: &mut Buckets<u32>) -> Result<bool, AllocError> {
+fn lending_prints(alloc: Global, buckets: &mut Buckets<u32>) -> bool {
     let mut walk = buckets.entries_mut();
-    Ok(walk.next().is_some() && prints(alloc, &walk, LENT)?)
+    walk.next().is_some() && prints(&walk, alloc, LENT)
 }
 
 #[test]
 fn entries_print_their_cursor(rt: HostRuntime) -> Result<(), Fail> {
     let mut buckets = Buckets::new(rt.alloc());
     insert(&mut buckets, 0, 5u32)?;
-    let lending = lending_prints(rt.alloc(), &mut buckets)?;
-    let taking = taking_prints(rt.alloc(), buckets)?;
+    let lending = lending_prints(rt.alloc(), &mut buckets);
+    let taking = taking_prints(rt.alloc(), buckets);
     assert_eq!(rt; (lending, taking), (true, true));
     Ok(())
 }
