@@ -1,5 +1,6 @@
 //! What a thread has in a table: an id of its own, through which it finds or makes its value.
-ghost use Rattle.std.specs.Prelude.{◌≡◌, ◌≢◌, ◌-◌, ◌^◌, ◌<◌, nat_lt, ⊤, true, false, None, Ok, Err, OnOk, IfOk, IfErr, IsOk, IsSome, Some, option_map, alloc_error, Result};
+ghost use Rattle.std.specs.Prelude.{◌≡◌, ◌≢◌, ◌-◌, ◌^◌, ◌<◌, nat_lt, ⊤, true, false, None, Ok, Err};
+ghost use Rattle.std.specs.Prelude.{OnOk, IfOk, IfErr, IsOk, IsSome, Some, option_map, alloc_error, Result};
 ghost use Rattle.thread_local_model.specs.Answers.{Get, GetOr, Found, Refused, Failed, answer};
 ghost use Rattle.thread_local_model.specs.Cursor.{fresh_cursor};
 ghost use Rattle.thread_local.specs.Errors.{IfCreate};

@@ -1,6 +1,7 @@
 //! A seat: an id of a table, and what is known of the id's slot: no bucket was found, it is vacant,
 //! or it holds a value.
-ghost use Rattle.std.specs.Prelude.{◌≡◌, ◌≢◌, ◌-◌, ◌^◌, ◌<◌, nat_lt, ⊤, is_some, true, None, Some, Ok, Err, OnOk, OnErr, IfOk, IfErr, IsOk, IsSome, Result, false, alloc_error, option_map};
+ghost use Rattle.std.specs.Prelude.{◌≡◌, ◌≢◌, ◌-◌, ◌^◌, ◌<◌, nat_lt, ⊤, is_some, true, None, Some};
+ghost use Rattle.std.specs.Prelude.{Ok, Err, OnOk, OnErr, IfOk, IfErr, IsOk, IsSome, Result, false, alloc_error, option_map};
 ghost use Rattle.thread_local_model.specs.Learnt.{Missing, Vacant};
 ghost use Rattle.thread_local_model.specs.Place.{IsPlaceOf};
 ghost use Rattle.thread_local_model.specs.Answers.{Get, GetOr, Found, Refused, Failed, answer};

@@ -1,6 +1,7 @@
 //! The buckets of a table in the hands of their exclusive owner: each bucket stands or doesn't, and
 //! each slot has a value or none.
-ghost use Rattle.std.specs.Prelude.{◌≡◌, ℕ, ◌^◌, ◌<◌, ◌≤◌, nat_lt, true, false, Option, Err, OnErr, IfOk, IfErr, unwrap_or, Some, MatchOption, ◌==◌, if◌then◌else◌};
+ghost use Rattle.std.specs.Prelude.{◌≡◌, ℕ, ◌^◌, ◌<◌, ◌≤◌, nat_lt, true, false, Option, Err, OnErr};
+ghost use Rattle.std.specs.Prelude.{IfOk, IfErr, unwrap_or, Some, MatchOption, ◌==◌, if◌then◌else◌};
 ghost use Rattle.std.specs.Borrow.{sem};
 ghost use Rattle.thread_local_model.specs.Place.{id_at};
 ghost use Rattle.thread_local_model.specs.Buckets.{row, stands, slots, values, no_contents};

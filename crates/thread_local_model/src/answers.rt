@@ -3,7 +3,8 @@
 ghost use Rattle.std.specs.Prelude.{◌≡◌, ◌↔◌, ◌⊎◌, ℕ, Bool, true, false, Option, Some, None, Result, Ok, Err, IsTrue, IsSome, MatchOption, if◌then◌else◌};
 ghost use Rattle.thread_local_model.specs.Capacity.{is_reserved};
 ghost use Rattle.thread_local_model.specs.Sheet.{Sheet};
-ghost use Rattle.thread_local_model.specs.Learnt.{Learnt, Missing, Standing, Vacant, Holding, Finds, learnt_by_load, learnt_by_look, learnt_by_install, learnt_by_publish};
+ghost use Rattle.thread_local_model.specs.Learnt.{Learnt, Missing, Standing, Vacant, Holding};
+ghost use Rattle.thread_local_model.specs.Learnt.{Finds, learnt_by_load, learnt_by_look, learnt_by_install, learnt_by_publish};
 ghost use Rattle.thread_local_model.specs.Answers.{View, first_view, view_of, Get, GetOr, Found, Answered, Refused, Failed, answer, view_after, Says};
 
 /// A call's answer and the view after it depend only on the call and the view before it.

@@ -1,7 +1,8 @@
 //! The laws of held ids: which id a take gets, what taking and giving back change, and when a take
 //! is refused.
 ghost use Rattle.std.specs.Prelude.{◌≡◌, ℕ, ◌+◌, ◌-◌, ◌^◌, ◌≤◌, ◌↔◌, ◌==◌, Bool, true, false, List, length, IsTrue, if◌then◌else◌};
-ghost use Rattle.thread_local_model.specs.Held.{Manager, is_held, least, with_least, without, held_count, HoldsAllBelow, is_granted, Takes, NeedsMemory, IsExhausted};
+ghost use Rattle.thread_local_model.specs.Held.{Manager, is_held, least, with_least, without};
+ghost use Rattle.thread_local_model.specs.Held.{held_count, HoldsAllBelow, is_granted, Takes, NeedsMemory, IsExhausted};
 
 /// `least` is the least free id: it isn't held, and every lower id is.
 pub fn least_is_least()

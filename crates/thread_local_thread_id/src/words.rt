@@ -1,5 +1,6 @@
 //! The words of the bits, the first of which lies in the struct.
-ghost use Rattle.std.specs.Prelude.{◌≡◌, ◌*◌, ◌/◌, ◌^◌, ◌<◌, ◌≤◌, ◌++◌, ◌∷◌, [], true, false, length, replicate, slice_index, slice_set, IsOk, OnOk, OnErr, IfOk};
+ghost use Rattle.std.specs.Prelude.{◌≡◌, ◌*◌, ◌/◌, ◌^◌, ◌<◌, ◌≤◌, ◌++◌, ◌∷◌, [], true, false};
+ghost use Rattle.std.specs.Prelude.{length, replicate, slice_index, slice_set, IsOk, OnOk, OnErr, IfOk};
 ghost use Rattle.thread_local_model.specs.Bits.{bits_of, is_set_in, IsNextUnset};
 
 use std::alloc::{AllocError, Global};

@@ -109,8 +109,10 @@ get_mut-requires g c =
     let low : b < 63 = c.args.thread.in_table in
     let t = c.self.invariant.table in
     let stood = c.in-Ok.ensures.ok in
+    let absent = row-absent c.self.inside.pointers b in
+    let rows = rows-with_bucket c.self.inside.pointers b (omega (arith, t.buckets)) absent in
     let within : b < length c.ensure_bucket.new.self.rows =
-    omega (arith, ap (λ (k : Contents _). length k.rows) stood, rows-with_bucket c.self.inside.pointers b (omega (arith, t.buckets)) (row-absent c.self.inside.pointers b), t.buckets) in
+    omega (arith, ap (λ (k : Contents _). length k.rows) stood, rows, t.buckets) in
     let inside : c.args.thread.index < length (row c.ensure_bucket.new.self b) =
     subst (λ (n : ℕ). c.args.thread.index < n) (sym (whole c.self.inside.pointers c.ensure_bucket.new.self b t low stood)) c.args.thread.in_bucket in
     let has = filled c.ensure_bucket.new.self c.publish_or_drop.new.self b c.args.thread.index c.args.value within
