@@ -141,6 +141,18 @@ where
     })
 }
 
+/// Deals a `Local` to each thread.
+fn deal<'a, R: Wait>(
+    table: &'a ThreadLocal<u64>,
+    rt: &'a R,
+    hands: &mut Vec<Vec<Local<'a, u64, R>>>,
+) -> Result<(), AllocError> {
+    for hand in hands {
+        hand.push(taken(table, rt)?)?;
+    }
+    Ok(())
+}
+
 /// `Local`s of a table, dealt to so many threads: each gets every so-manieth id, and so many of them.
 fn dealt<'a, R: Wait>(
     table: &'a ThreadLocal<u64>,
@@ -154,9 +166,7 @@ fn dealt<'a, R: Wait>(
         hands.push(Vec::with_capacity(alloc, each as usize)?)?;
     }
     for _ in 0..each {
-        for hand in &mut hands {
-            hand.push(taken(table, rt)?)?;
-        }
+        deal(table, rt, &mut hands)?;
     }
     Ok(hands)
 }
@@ -203,31 +213,46 @@ fn report<R: Print>(rt: &R, name: &str, size: u32, picoseconds: u128) -> io::Res
     )
 }
 
-/// Measures each call at each of its sizes: the least of so many rounds.
+/// Measures the calls that so many threads make at once: the least of so many rounds.
+fn run_calls<R: Clock + Threads + Wait + Sync + Print>(
+    rt: &R,
+    alloc: Global,
+    rounds: u64,
+    threads: u32,
+) -> io::Result<()> {
+    for work in Work::ALL {
+        let time = least_of(rounds, || work.timed(rt, alloc, u64::from(threads)))?;
+        report(rt, work.name(), threads, time)?;
+    }
+    let time = least_of(rounds, || publish_by(rt, alloc, threads, VALUES))?;
+    report(rt, "publish", threads, time)
+}
+
+/// Measures the walks over so many values.
+fn run_walks<R: Clock + Print>(rt: &R, alloc: Global, rounds: u64, values: u32) -> io::Result<()> {
+    let walks = VALUES / values.max(1);
+    let time = least_of(rounds, || iter(rt, alloc, first(values), walks))?;
+    report(rt, "iter", values, time)?;
+    let time = least_of(
+        rounds,
+        || iter_mut::<u64, R>(rt, alloc, first(values), walks),
+    )?;
+    report(rt, "iter_mut", values, time)?;
+    let time = least_of(rounds, || into_iter_of_many(rt, alloc, values, walks))?;
+    report(rt, "into_iter", values, time)
+}
+
+/// Measures each call at each of its sizes.
 pub(crate) fn run<R: Clock + Threads + Wait + Sync + Print>(
     rt: &R,
     alloc: Global,
     rounds: u64,
 ) -> io::Result<()> {
     for threads in [1u32, 2, 4] {
-        for work in Work::ALL {
-            let time = least_of(rounds, || work.timed(rt, alloc, u64::from(threads)))?;
-            report(rt, work.name(), threads, time)?;
-        }
-        let time = least_of(rounds, || publish_by(rt, alloc, threads, VALUES))?;
-        report(rt, "publish", threads, time)?;
+        run_calls(rt, alloc, rounds, threads)?;
     }
     for values in SIZES {
-        let walks = VALUES / values.max(1);
-        let time = least_of(rounds, || iter(rt, alloc, first(values), walks))?;
-        report(rt, "iter", values, time)?;
-        let time = least_of(
-            rounds,
-            || iter_mut::<u64, R>(rt, alloc, first(values), walks),
-        )?;
-        report(rt, "iter_mut", values, time)?;
-        let time = least_of(rounds, || into_iter_of_many(rt, alloc, values, walks))?;
-        report(rt, "into_iter", values, time)?;
+        run_walks(rt, alloc, rounds, values)?;
     }
     Ok(())
 }

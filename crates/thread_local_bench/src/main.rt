@@ -3,19 +3,16 @@
 //! rounds. The arguments are the number of rounds, and the name of one workload if no other is to
 //! run. With none each workload runs once, on few ids, and its name alone is printed.
 //!
-//! With `locks N` it compares two locks over N pairs of taking and giving. With `races SECONDS
-//! THREADS` threads race on one table for so long, four if their number is left out; it prints what
-//! was counted, and ends with status 1 where a check failed. With `growth ROUNDS` it times calls by
-//! one, two and four threads, and walks over 2^10 to 2^20 values: a line for each, with the name, the
-//! number of threads or values, and the nanoseconds. With `hold N` it makes a table of N values and
-//! drops it.
+//! With `locks N` it compares two locks over N pairs of taking and giving. With `growth ROUNDS` it
+//! times calls by one, two and four threads, and walks over 2^10 to 2^20 values: a line for each,
+//! with the name, the number of threads or values, and the nanoseconds. With `hold N` it makes a
+//! table of N values and drops it.
 #![tactic(auto)]
 
 mod growth;
 mod ids;
 mod lock;
 mod pools;
-mod races;
 mod sizes;
 mod small;
 mod table;
@@ -24,9 +21,12 @@ mod workers;
 mod workload;
 
 use sizes::{FEW, MANY, Sizes};
+use std::alloc::Global;
 use std::io;
 use std::io::Print;
-use std::time::Duration;
+use std::sync::Wait;
+use std::thread::Threads;
+use std::time::{Clock, Duration};
 use workload::{Alone, Small, Together};
 
 /// What one round of a workload made: how many operations, and in what time.
@@ -81,22 +81,66 @@ impl Asked {
             }
         }
     }
+
+    /// Runs those of the workloads on tables of few values that are asked for.
+    fn run_small<R: Clock + Threads + Wait + Sync + Print>(
+        &self,
+        rt: &R,
+        alloc: Global,
+    ) -> io::Result<()> {
+        for workload in Small::ALL {
+            self.run(
+                rt,
+                workload.name(),
+                |sizes| workload.round(rt, alloc, sizes),
+            )?;
+        }
+        Ok(())
+    }
+
+    /// Runs those of one thread.
+    fn run_alone<R: Clock + Threads + Wait + Sync + Print>(
+        &self,
+        rt: &R,
+        alloc: Global,
+    ) -> io::Result<()> {
+        for workload in Alone::ALL {
+            self.run(
+                rt,
+                workload.name(),
+                |sizes| workload.round(rt, alloc, sizes),
+            )?;
+        }
+        Ok(())
+    }
+
+    /// Runs those of several threads.
+    fn run_together<R: Clock + Threads + Wait + Sync + Print>(
+        &self,
+        rt: &R,
+        alloc: Global,
+    ) -> io::Result<()> {
+        for workload in Together::ALL {
+            self.run(
+                rt,
+                workload.name(),
+                |sizes| workload.round(rt, alloc, sizes),
+            )?;
+        }
+        Ok(())
+    }
 }
 
-/// Reads the arguments, and runs the workloads, compares the locks or lets threads race.
+/// Reads the arguments, and runs the workloads, compares the locks, or measures how cost grows.
 fn main(rt: HostRuntime) -> io::Result<()> {
     let mut words = std::env::args(&rt)?.skip(1);
     let first = words.next();
     let second = words.next();
-    let third = number(&words.next());
     match (first.as_ref().map(|word| word.as_str()), number(&second)) {
         (Some("locks"), Some(pairs)) => return lock::compare(&rt, rt.alloc(), pairs),
         (Some("growth"), Some(rounds)) => return growth::run(&rt, rt.alloc(), rounds),
         (Some("hold"), Some(values)) => {
             return growth::hold(rt.alloc(), u32::try_from(values).unwrap_or(u32::MAX));
-        }
-        (Some("races"), Some(seconds)) => {
-            return races::run(&rt, rt.alloc(), seconds, third.unwrap_or(4));
         }
         _ => {}
     }
@@ -104,28 +148,9 @@ fn main(rt: HostRuntime) -> io::Result<()> {
         rounds: number(&first),
         name: second,
     };
-    for workload in Small::ALL {
-        asked.run(
-            &rt,
-            workload.name(),
-            |sizes| workload.round(&rt, rt.alloc(), sizes),
-        )?;
-    }
-    for workload in Alone::ALL {
-        asked.run(
-            &rt,
-            workload.name(),
-            |sizes| workload.round(&rt, rt.alloc(), sizes),
-        )?;
-    }
-    for workload in Together::ALL {
-        asked.run(
-            &rt,
-            workload.name(),
-            |sizes| workload.round(&rt, rt.alloc(), sizes),
-        )?;
-    }
-    Ok(())
+    asked.run_small(&rt, rt.alloc())?;
+    asked.run_alone(&rt, rt.alloc())?;
+    asked.run_together(&rt, rt.alloc())
 }
 
 /// The picoseconds of one operation, in the round that took the least.

@@ -21,16 +21,14 @@ pub(crate) fn taken<'a, T, R: Wait>(
     table.local(rt).map_err(|_| AllocError)
 }
 
-/// Two `Local`s of a table, each with a count of 0.
-fn two_published<'a, T: Counter, R: Wait>(
+/// A `Local` of a table, with a count of 0.
+fn published<'a, T: Counter, R: Wait>(
     table: &'a ThreadLocal<T>,
     rt: &'a R,
-) -> Result<(Local<'a, T, R>, Local<'a, T, R>), AllocError> {
-    let mut first = taken(table, rt)?;
-    let mut second = taken(table, rt)?;
-    first.get_or(|| T::zero())?;
-    second.get_or(|| T::zero())?;
-    Ok((first, second))
+) -> Result<Local<'a, T, R>, AllocError> {
+    let mut local = taken(table, rt)?;
+    local.get_or(|| T::zero())?;
+    Ok(local)
 }
 
 /// The round of `operations` operations, if they added up to as many.
@@ -54,7 +52,8 @@ pub(crate) fn find_by_two<T: Counter, R: Clock + Wait>(
     times: u64,
     mask: u64,
 ) -> io::Result<Duration> {
-    let (first, second) = two_published(table, rt)?;
+    let first = published(table, rt)?;
+    let second = published(table, rt)?;
     let start = Instant::now(rt)?;
     for number in 0..times {
         let local = if number & mask == 0 { &first } else { &second };
@@ -96,7 +95,8 @@ pub(crate) fn get_or_hit<R: Clock + Wait>(
     Cell::<u64>::judge();
     let table = ThreadLocal::new(alloc);
     let time = {
-        let (mut first, mut second) = two_published(&table, rt)?;
+        let mut first = published(&table, rt)?;
+        let mut second = published(&table, rt)?;
         let start = Instant::now(rt)?;
         for number in 0..times {
             if number & mask == 0 {

@@ -161,16 +161,13 @@ fn count_up<T: Counter, R: Wait>(
     Ok(())
 }
 
-/// Four threads count, each in its own counter, while ids 0 to 2 are held, so that the slots of the
-/// four are neighbours. Answers how long it took, or None where a thread was refused.
+/// Four threads count, each in its own counter. Answers how long it took, or None where a thread was
+/// refused.
 fn count_by_four<T, R>(table: &ThreadLocal<T>, rt: &R, times: u64) -> io::Result<Option<Duration>>
 where
     T: Counter + Send,
     R: Clock + Threads + Wait + Sync,
 {
-    let _first = table.local(rt).map_err(|_| AllocError)?;
-    let _second = table.local(rt).map_err(|_| AllocError)?;
-    let _third = table.local(rt).map_err(|_| AllocError)?;
     let start = Instant::now(rt)?;
     let started = thread::scope(thread::scope_env(), rt, |scope| {
         for _ in 0..4 {
@@ -184,6 +181,22 @@ where
     Ok(started.then_some(time))
 }
 
+/// The same while ids 0 to 2 are held, so that the slots of the four are neighbours.
+fn count_side_by_side<T, R>(
+    table: &ThreadLocal<T>,
+    rt: &R,
+    times: u64,
+) -> io::Result<Option<Duration>>
+where
+    T: Counter + Send,
+    R: Clock + Threads + Wait + Sync,
+{
+    let _first = table.local(rt).map_err(|_| AllocError)?;
+    let _second = table.local(rt).map_err(|_| AllocError)?;
+    let _third = table.local(rt).map_err(|_| AllocError)?;
+    count_by_four(table, rt, times)
+}
+
 /// Four threads count, each in its own counter. An operation is a count of each.
 pub(crate) fn counters_4_threads<T, R>(rt: &R, alloc: Global, times: u64) -> io::Result<Round>
 where
@@ -191,7 +204,7 @@ where
     R: Clock + Threads + Wait + Sync,
 {
     let table = ThreadLocal::<T>::made_with(alloc);
-    let time = count_by_four(&table, rt, times)?;
+    let time = count_side_by_side(&table, rt, times)?;
     let counted = table.into_iter().fold(
         0u64,
         |sum, counter| sum.wrapping_add(counter.cell().get()),

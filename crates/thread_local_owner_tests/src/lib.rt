@@ -1,11 +1,5 @@
-//! Tests of an owner's buckets, and of what these are made of.
+//! Tests of an owner's buckets.
 #![tactic(auto)]
 
-#[cfg(test)]
-mod blocks;
-#[cfg(test)]
-mod bucket_pointer;
-#[cfg(test)]
-mod bucket_pointers;
 #[cfg(test)]
 mod buckets;

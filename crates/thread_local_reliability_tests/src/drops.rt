@@ -45,6 +45,11 @@ fn a_value_is_dropped_with_its_table(rt: HostRuntime) -> Result<(), Fail> {
     Ok(())
 }
 
+/// The first value of an owner's walk, which ends there.
+fn first_value(table: ThreadLocal<Counted>) -> Option<Counted> {
+    table.into_iter().next()
+}
+
 #[test]
 fn a_walk_that_ends_early_drops_the_values_that_it_has_not_given(
     rt: HostRuntime,
@@ -53,13 +58,17 @@ fn a_walk_that_ends_early_drops_the_values_that_it_has_not_given(
     judge_sync::<Counted>();
     let table = ThreadLocal::new(rt.alloc());
     assert!(rt; publish_counted(&table, &rt, rt.alloc(), &drops, 3));
-    let mut values = table.into_iter();
-    let first = values.next();
-    drop(values);
+    let first = first_value(table);
     assert_eq!(rt; drops.load(SeqCst), 2);
     drop(first);
     assert_eq!(rt; drops.load(SeqCst), 3);
     Ok(())
+}
+
+/// How many values were dropped after a clear, and how many slots it leaves.
+fn clear(table: &mut ThreadLocal<Counted>, drops: &Arc<AtomicU64, Global>) -> (u64, usize) {
+    table.clear();
+    (drops.load(SeqCst), table.slots())
 }
 
 #[test]
@@ -68,9 +77,7 @@ fn clearing_drops_each_value_and_keeps_the_reserved_slots(rt: HostRuntime) -> Re
     judge_sync::<Counted>();
     let mut table = ThreadLocal::with_capacity(rt.alloc(), 3)?;
     assert!(rt; publish_counted(&table, &rt, rt.alloc(), &drops, 3));
-    table.clear();
-    assert_eq!(rt; drops.load(SeqCst), 3);
-    assert_eq!(rt; table.slots(), 3);
+    assert_eq!(rt; clear(&mut table, &drops), (3, 3));
     assert!(rt; publish_counted(&table, &rt, rt.alloc(), &drops, 1));
     drop(table);
     assert_eq!(rt; drops.load(SeqCst), 4);

@@ -108,6 +108,21 @@ fn no_memory_is_needed_after_an_error_of_the_closure(rt: HostRuntime) -> Result<
     Ok(())
 }
 
+/// Takes so many `Local`s. Those that are had are put into a list, which has room for them.
+fn hold<'a, R: Wait>(
+    table: &'a ThreadLocal<u32>,
+    rt: &'a R,
+    locals: &mut Vec<Local<'a, u32, R>>,
+    count: usize,
+) -> Result<(), AllocError> {
+    for _ in 0..count {
+        if let Ok(local) = table.local(rt) {
+            locals.push(local)?;
+        }
+    }
+    Ok(())
+}
+
 /// `Local`s that are held at once publish, where no memory is left if so asked. Answers which of
 /// those that were had did.
 fn publish_held<R: Wait>(
@@ -124,11 +139,7 @@ fn publish_held<R: Wait>(
     } else {
         take_all(alloc)?
     };
-    for _ in 0..count {
-        if let Ok(local) = table.local(rt) {
-            locals.push(local)?;
-        }
-    }
+    hold(table, rt, &mut locals, count)?;
     for local in locals.iter_mut() {
         published.push(local.get_or(|| 5).is_ok())?;
     }
@@ -156,14 +167,28 @@ fn slots_and_clear(table: &mut ThreadLocal<u32>) -> (usize, usize, usize) {
     (before, after, table.iter_mut().len())
 }
 
+/// Which `Local`s publish before a clear, the slots and values around it, and which publish after
+/// it where no memory is left.
+fn publish_around_clear<R: Wait>(
+    table: &mut ThreadLocal<u32>,
+    rt: &R,
+    alloc: Global,
+    count: usize,
+) -> Result<(Vec<bool>, (usize, usize, usize), Vec<bool>), AllocError> {
+    let first = publish_held(table, rt, alloc, count, true)?;
+    let slots = slots_and_clear(table);
+    let second = publish_held(table, rt, alloc, count, false)?;
+    Ok((first, slots, second))
+}
+
 #[test]
 fn a_cleared_table_needs_no_memory_for_its_reserved_slots(rt: HostRuntime) -> Result<(), Fail> {
     let mut table = with_capacity(rt.alloc(), 4)?;
-    let first = publish_held(&table, &rt, rt.alloc(), 8, true)?;
-    assert_eq!(rt; first.as_slice(), [true; 8].as_slice());
-    assert_eq!(rt; slots_and_clear(&mut table), (15, 7, 0));
-    let second = publish_held(&table, &rt, rt.alloc(), 8, false)?;
-    assert_eq!(rt; second.as_slice(), SEVEN_OF_EIGHT.as_slice());
+    let (first, slots, second) = publish_around_clear(&mut table, &rt, rt.alloc(), 8)?;
+    assert_eq!(rt;
+        (first.as_slice(), slots, second.as_slice()),
+        ([true; 8].as_slice(), (15, 7, 0), SEVEN_OF_EIGHT.as_slice())
+    );
     Ok(())
 }
 
@@ -177,11 +202,11 @@ fn a_cleared_table_of_no_capacity_needs_memory_for_each_bucket(
     rt: HostRuntime,
 ) -> Result<(), Fail> {
     let mut table = numbers(rt.alloc());
-    let first = publish_held(&table, &rt, rt.alloc(), 4, true)?;
-    assert_eq!(rt; first.as_slice(), [true; 4].as_slice());
-    assert_eq!(rt; slots_and_clear(&mut table), (7, 0, 0));
-    let second = publish_held(&table, &rt, rt.alloc(), 4, false)?;
-    assert_eq!(rt; second.as_slice(), [false; 4].as_slice());
+    let (first, slots, second) = publish_around_clear(&mut table, &rt, rt.alloc(), 4)?;
+    assert_eq!(rt;
+        (first.as_slice(), slots, second.as_slice()),
+        ([true; 4].as_slice(), (7, 0, 0), [false; 4].as_slice())
+    );
     assert_eq!(rt; is_reserved(&table, &rt)?, false);
     Ok(())
 }
@@ -200,11 +225,7 @@ fn hold_64<R: Wait>(
 ) -> Result<(usize, bool, bool), AllocError> {
     let mut locals = Vec::with_capacity(alloc, 64)?;
     let taken = take_all(alloc)?;
-    for _ in 0..64 {
-        if let Ok(local) = table.local(rt) {
-            locals.push(local)?;
-        }
-    }
+    hold(table, rt, &mut locals, 64)?;
     let without = is_refused(table, rt);
     drop(taken);
     Ok((locals.len(), without, is_refused(table, rt)))

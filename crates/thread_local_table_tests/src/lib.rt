@@ -1,8 +1,6 @@
-//! Tests of the table that threads share: of its `Local`s, its owner's calls, and its tokens.
+//! Tests of the table that threads share: of its `Local`s and of its owner's calls.
 #![tactic(auto)]
 
-#[cfg(test)]
-mod callers;
 #[cfg(test)]
 mod cleared;
 #[cfg(test)]
@@ -11,8 +9,6 @@ mod forgotten;
 mod held;
 #[cfg(test)]
 mod ids;
-#[cfg(test)]
-mod judged;
 #[cfg(test)]
 mod locals;
 #[cfg(test)]
@@ -23,7 +19,5 @@ mod refused;
 mod slots;
 #[cfg(test)]
 mod threads;
-#[cfg(test)]
-mod tokens;
 #[cfg(test)]
 mod values;

@@ -178,18 +178,21 @@ fn lists_and_texts_have_defaults(rt: HostRuntime) {
     );
 }
 
-/// Whether a new `Local` publishes an empty list in a cell, and how many numbers the list has once
-/// one is put into it.
+/// Whether a list in a cell is empty, and how many numbers it has once one is put into it.
+fn push_seven(list: &RefCell<Vec<u64>>) -> Option<(bool, usize)> {
+    let was_empty = list.try_borrow().ok()?.is_empty();
+    list.try_borrow_mut().ok()?.push(7).ok()?;
+    Some((was_empty, list.try_borrow().ok()?.len()))
+}
+
+/// The same of a list that a new `Local` publishes.
 fn list_in_a_cell<R: Wait>(
     table: &ThreadLocal<RefCell<Vec<u64>>>,
     rt: &R,
     alloc: Global,
 ) -> Option<(bool, usize)> {
     let mut local = table.local(rt).ok()?;
-    let list = local.get_or(|| RefCell::new(Vec::new(alloc))).ok()?;
-    let was_empty = list.try_borrow().ok()?.is_empty();
-    list.try_borrow_mut().ok()?.push(7).ok()?;
-    Some((was_empty, list.try_borrow().ok()?.len()))
+    push_seven(local.get_or(|| RefCell::new(Vec::new(alloc))).ok()?)
 }
 
 // Such a cell has no default, so a closure makes it.
@@ -199,22 +202,31 @@ fn a_table_is_made_of_lists_in_cells(rt: HostRuntime) {
     assert_eq!(rt; list_in_a_cell(&table, &rt, rt.alloc()), Some((true, 1)));
 }
 
-/// What two `Local`s that are held at once publish by default in cells, once the first has written 3
-/// to its own.
-fn default_cells<R: Wait>(table: &ThreadLocal<Cell<u64>>, rt: &R) -> Option<[u64; 2]> {
+/// Adds to the cell of a `Local`, which is made by default where there is none. Answers what it has
+/// then.
+fn add<R: Wait>(local: &mut Local<'_, Cell<u64>, R>, number: u64) -> Option<u64> {
+    let cell = local.get_or_default().ok()?;
+    cell.set(cell.get().wrapping_add(number));
+    Some(cell.get())
+}
+
+/// What two `Local`s that are held at once have in cells that are made by default: the first once 3
+/// is added to its own, the second, and the first again.
+fn default_cells<R: Wait>(table: &ThreadLocal<Cell<u64>>, rt: &R) -> Option<[u64; 3]> {
     let mut first = table.local(rt).ok()?;
     let mut second = table.local(rt).ok()?;
-    first.get_or_default().ok()?.set(3);
-    let other = second.get_or_default().ok()?.get();
-    let kept = first.get_or_default().ok()?.get();
-    Some([kept, other])
+    Some([
+        add(&mut first, 3)?,
+        add(&mut second, 0)?,
+        add(&mut first, 0)?,
+    ])
 }
 
 #[test]
 fn a_default_replaces_no_value(rt: HostRuntime) {
     Cell::<u64>::judge();
     let table = ThreadLocal::new(rt.alloc());
-    assert_eq!(rt; default_cells(&table, &rt), Some([3, 0]));
+    assert_eq!(rt; default_cells(&table, &rt), Some([3, 0, 3]));
 }
 
 /// Whether a new `Local` that publishes -3 is shown with it.

@@ -3,8 +3,6 @@
 #![tactic(auto)]
 
 #[cfg(test)]
-mod cached;
-#[cfg(test)]
 mod counting;
 #[cfg(test)]
 mod errors;
@@ -14,17 +12,9 @@ mod nested;
 #[cfg(test)]
 mod numbers;
 #[cfg(test)]
-mod padded;
-#[cfg(test)]
-mod pool;
-#[cfg(test)]
 mod printed;
 #[cfg(test)]
-mod scratch;
-#[cfg(test)]
 mod shared_walks;
-#[cfg(test)]
-mod walk_callers;
 #[cfg(test)]
 mod walks;
 #[cfg(test)]

@@ -1,7 +1,7 @@
 use Rattle.std.proofs.Common.{◌≡◌, ◌+◌, ◌*◌, ◌^◌, ◌≤◌, length}
 use Rattle.std.specs.Prelude.{sum}
 use Rattle.thread_local.specs.IterMut.{iter_mut_rest}
-use Rattle.thread_local_table_tests.proofs.callers.added_up.Given as goal
+use Rattle.thread_local_contract_tests.proofs.callers.added_up.Given as goal
 
 -- what was added, and what is still to come
 abbrev pub invariant-loop-value : goal.invariant-loop-value

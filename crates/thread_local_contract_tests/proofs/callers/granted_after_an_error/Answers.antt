@@ -1,6 +1,6 @@
 use Rattle.std.proofs.Common.{rules}
-use Rattle.thread_local_table_tests.proofs.Failing.{known_after}
-use Rattle.thread_local_table_tests.proofs.callers.granted_after_an_error.Goals as goal
+use Rattle.thread_local_contract_tests.proofs.Failing.{known_after}
+use Rattle.thread_local_contract_tests.proofs.callers.granted_after_an_error.Goals as goal
 
 pub returns-in-Err-Create : goal.returns-in-Err-Create
 returns-in-Err-Create g c =

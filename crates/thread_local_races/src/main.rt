@@ -1,6 +1,9 @@
 //! Threads that race on one table. Each takes `Local`s, publishes, drops and walks at random, and
 //! checks what it finds; between rounds the table's owner checks what they left. The moves differ
-//! from run to run only by what the threads meet.
+//! from run to run only by what the threads meet. The arguments are for how many seconds, and how
+//! many threads. What was counted is printed, and a check that failed ends in status 1. With no
+//! argument, a line that says so is printed.
+#![tactic(auto)]
 
 use std::alloc::{AllocError, Global};
 use std::io::Print;
@@ -165,6 +168,35 @@ fn walk(table: &ThreadLocal<Mark>, counts: &Counts) {
     }
 }
 
+/// Makes the move that a random number draws: takes a `Local`, gives the last one back, or publishes
+/// with it, and now and then walks.
+fn make_move<'a, R: Wait>(
+    table: &'a ThreadLocal<Mark>,
+    rt: &'a R,
+    counts: &Counts,
+    all: &mut Vec<Held<'a, R>>,
+    draw: u64,
+) -> Result<(), AllocError> {
+    let choice = (draw >> 33) % 4;
+    if (draw >> 40) % 16 == 0 {
+        walk(table, counts);
+    }
+    if choice == 0 && all.len() < LOCALS {
+        all.push(Held::take(table, rt, counts)?)?;
+    } else if choice == 1 {
+        if let Some(held) = all.pop() {
+            held.give_back(counts);
+        }
+    } else if let Some(held) = all.last_mut() {
+        if choice == 2 {
+            held.publish(draw, counts)?;
+        } else {
+            held.set(draw, counts)?;
+        }
+    }
+    Ok(())
+}
+
 /// Makes `MOVES` moves at random, from a state of its own.
 fn moves<R: Wait>(
     table: &ThreadLocal<Mark>,
@@ -179,23 +211,7 @@ fn moves<R: Wait>(
         state = state
             .wrapping_mul(6364136223846793005)
             .wrapping_add(1442695040888963407);
-        let choice = (state >> 33) % 4;
-        if (state >> 40) % 16 == 0 {
-            walk(table, counts);
-        }
-        if choice == 0 && all.len() < LOCALS {
-            all.push(Held::take(table, rt, counts)?)?;
-        } else if choice == 1 {
-            if let Some(held) = all.pop() {
-                held.give_back(counts);
-            }
-        } else if let Some(held) = all.last_mut() {
-            if choice == 2 {
-                held.publish(state, counts)?;
-            } else {
-                held.set(state, counts)?;
-            }
-        }
+        make_move(table, rt, counts, &mut all, state)?;
     }
     for held in all {
         held.give_back(counts);
@@ -252,7 +268,7 @@ fn drain(table: &mut ThreadLocal<Mark>, counts: &Counts) {
 
 /// Runs rounds for `seconds` seconds with `threads` threads, and prints what was counted. A fault
 /// is told, and ends in an error.
-pub(crate) fn run<R: Clock + Threads + Wait + Sync + Print>(
+fn run<R: Clock + Threads + Wait + Sync + Print>(
     rt: &R,
     alloc: Global,
     seconds: u64,
@@ -295,5 +311,23 @@ fn tell<R: Print>(rt: &R, counts: &Counts, rounds: u64, threads: u64) -> io::Res
         Ok(())
     } else {
         Err(io::Error::from(io::ErrorKind::Other))
+    }
+}
+
+/// The number that a word is.
+fn number(word: Option<String>) -> Option<u64> {
+    word.and_then(|word| word.parse::<u64>().ok())
+}
+
+/// Reads the arguments, and lets the threads race.
+fn main(rt: HostRuntime) -> io::Result<()> {
+    let mut words = std::env::args(&rt)?.skip(1);
+    let seconds = number(words.next());
+    let threads = number(words.next());
+    match (seconds, threads) {
+        (Some(seconds), Some(threads)) if threads >= 1 && threads <= 64 => {
+            run(&rt, rt.alloc(), seconds, threads)
+        }
+        _ => println!(rt; "usage: thread_local_races SECONDS THREADS, with 1 to 64 threads"),
     }
 }

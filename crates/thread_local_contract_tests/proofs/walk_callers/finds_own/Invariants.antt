@@ -1,6 +1,6 @@
 use Rattle.std.proofs.Common.{◌≡◌, Some}
 use Rattle.thread_local_shared_buckets.specs.Walks.{owed_value}
-use Rattle.thread_local_tests.proofs.walk_callers.finds_own.Given as goal
+use Rattle.thread_local_contract_tests.proofs.walk_callers.finds_own.Given as goal
 
 -- the walk may go on, it ends, and it has still to give the value
 abbrev pub invariant-loop-value : goal.invariant-loop-value

@@ -1,0 +1,12 @@
+//! Tests of what stands beside the table: pools with their buffers, padded values, and the deprecated
+//! name of a table.
+#![tactic(auto)]
+
+#[cfg(test)]
+mod cached;
+#[cfg(test)]
+mod padded;
+#[cfg(test)]
+mod pool;
+#[cfg(test)]
+mod scratch;
