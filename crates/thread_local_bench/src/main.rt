@@ -21,13 +21,10 @@ mod workers;
 mod workload;
 
 use sizes::{FEW, MANY, Sizes};
-use std::alloc::Global;
 use std::io;
 use std::io::Print;
-use std::sync::Wait;
-use std::thread::Threads;
-use std::time::{Clock, Duration};
-use workload::{Alone, Small, Together};
+use std::time::Duration;
+use workload::{Alone, Named, Small, Together};
 
 /// What one round of a workload made: how many operations, and in what time.
 #[derive(Drop)]
@@ -82,50 +79,17 @@ impl Asked {
         }
     }
 
-    /// Runs those of the workloads on tables of few values that are asked for.
-    fn run_small<R: Clock + Threads + Wait + Sync + Print>(
+    /// Runs those of these workloads that are asked for.
+    fn run_all<W: Named, F: Fn(W, &Sizes) -> io::Result<Round>, R: Print>(
         &self,
         rt: &R,
-        alloc: Global,
-    ) -> io::Result<()> {
-        for workload in Small::ALL {
-            self.run(
-                rt,
-                workload.name(),
-                |sizes| workload.round(rt, alloc, sizes),
-            )?;
-        }
-        Ok(())
-    }
-
-    /// Runs those of one thread.
-    fn run_alone<R: Clock + Threads + Wait + Sync + Print>(
-        &self,
-        rt: &R,
-        alloc: Global,
-    ) -> io::Result<()> {
-        for workload in Alone::ALL {
-            self.run(
-                rt,
-                workload.name(),
-                |sizes| workload.round(rt, alloc, sizes),
-            )?;
-        }
-        Ok(())
-    }
-
-    /// Runs those of several threads.
-    fn run_together<R: Clock + Threads + Wait + Sync + Print>(
-        &self,
-        rt: &R,
-        alloc: Global,
-    ) -> io::Result<()> {
-        for workload in Together::ALL {
-            self.run(
-                rt,
-                workload.name(),
-                |sizes| workload.round(rt, alloc, sizes),
-            )?;
+        all: &[W],
+        round: F,
+    ) -> io::Result<()>
+        requires { F.IsAlwaysCallable round }
+    {
+        for workload in all {
+            self.run(rt, workload.name(), |sizes| round(*workload, sizes))?;
         }
         Ok(())
     }
@@ -148,9 +112,22 @@ fn main(rt: HostRuntime) -> io::Result<()> {
         rounds: number(&first),
         name: second,
     };
-    asked.run_small(&rt, rt.alloc())?;
-    asked.run_alone(&rt, rt.alloc())?;
-    asked.run_together(&rt, rt.alloc())
+    let alloc = rt.alloc();
+    asked.run_all(
+        &rt,
+        &Small::ALL,
+        |workload, sizes| workload.round(&rt, alloc, sizes),
+    )?;
+    asked.run_all(
+        &rt,
+        &Alone::ALL,
+        |workload, sizes| workload.round(&rt, alloc, sizes),
+    )?;
+    asked.run_all(
+        &rt,
+        &Together::ALL,
+        |workload, sizes| workload.round(&rt, alloc, sizes),
+    )
 }
 
 /// The picoseconds of one operation, in the round that took the least.
