@@ -6,7 +6,7 @@ ghost use Rattle.std.specs.List.Sorted.{IsStrictlyIncreasing};
 ghost use Rattle.thread_local_model.specs.Capacity.{reserved_slots};
 ghost use Rattle.thread_local_buckets.specs.IterMut.{iter_mut_given, entries_mut_given, entries_mut_rest};
 ghost use Rattle.thread_local_judged.specs.Judged.{Judged};
-ghost use Rattle.thread_local_shared_buckets.specs.Walks.{fresh};
+ghost use Rattle.thread_local_shared_buckets.specs.Walks.{fresh, fresh_with};
 
 use crate::local::Local;
 use crate::seat::Seat;
@@ -18,7 +18,7 @@ use std::sync::Wait;
 pub use thread_local_buckets::CapacityError;
 use thread_local_buckets::{Buckets, EntriesMut, IntoEntries, IntoIter, IterMut};
 use thread_local_ids::{Ids, Lock, Right};
-pub use thread_local_ids::{Book, Token};
+pub use thread_local_ids::{Book, Told, Token};
 pub use thread_local_judged::{Judge, judge_sync, judge_value};
 use thread_local_model::walk::walk_lists_the_map;
 use thread_local_shared_buckets::{Entries, Iter, Shared, Tokens};
@@ -300,6 +300,13 @@ impl<T: Sync> ThreadLocal<T> {
         ensures { result ≡ fresh self.now.sharing None true }
     {
         self.iter().with_tokens()
+    }
+
+    /// `tokens`, which gives the value of each token of a list for sure.
+    pub fn tokens_with(&self, told: Told<T>) -> Tokens<'_, T>
+        ensures { result ≡ fresh_with self.now.sharing None true told }
+    {
+        Iter::over(&self.buckets, told).with_tokens()
     }
 
     /// `iter`, which gives what a token says: a walk that runs to its end gives this value, at its

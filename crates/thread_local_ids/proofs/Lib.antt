@@ -8,6 +8,7 @@ mod Steps
 mod Words
 mod BothLent
 mod Facts
+pub mod Listing
 pub mod Made
 pub mod Markers
 pub mod RightElements

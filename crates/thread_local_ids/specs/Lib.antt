@@ -4,3 +4,4 @@ pub mod Locking
 pub mod Told
 pub mod Views
 pub mod Rights
+pub mod Tellings

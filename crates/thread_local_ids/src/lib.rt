@@ -8,6 +8,8 @@ pub mod ids;
 pub mod lock;
 pub mod right;
 pub mod token;
+pub mod token_list;
+pub mod told_list;
 pub mod witness;
 pub mod word;
 
@@ -17,4 +19,6 @@ pub use ids::Ids;
 pub use lock::{Fits, Lock, LockGuard};
 pub use right::{Right, Rights};
 pub use token::Token;
+pub use token_list::TokenList;
+pub use told_list::Told;
 pub use witness::Witness;

@@ -1,5 +1,5 @@
 -- A walk begins and moves on.
-use Rattle.std.proofs.Common.{◌≡◌, ◌<◌, ◌≤◌, Bool, true, false}
+use Rattle.std.proofs.Common.{◌≡◌, ℕ, ◌<◌, ◌≤◌, Bool, true, false}
 use Rattle.std.proofs.Common.{Option, None, Some, IfSome, is_some, refl, ap, sym, ◌∙◌, subst, arith}
 use Rattle.thread_local_model.specs.Cursor.{cursor_id}
 use Rattle.thread_local_model.proofs.CursorLaws.{fresh_cursor-fits}
@@ -12,6 +12,9 @@ use Rattle.thread_local_shared_buckets.specs.Positions.{resting, owed, lies_in, 
 use Rattle.thread_local_shared_buckets.specs.Positions.{IsAhead, IsSharedWalk, MovesBehind}
 use Rattle.thread_local_shared_buckets.specs.AtHand.{IsRowOf}
 use Rattle.thread_local_shared_buckets.specs.AtHand.{IsKept, IsWalk, GoesOn}
+use Rattle.thread_local_ids.specs.Tellings.{AllOf, NoneIn}
+use Rattle.thread_local_shared_buckets.specs.Positions.{IsBehind}
+use Rattle.thread_local_shared_buckets.proofs.TellingLaws.{unmarked, skips}
 use Rattle.thread_local_shared_buckets.proofs.StepLaws.{leads_on}
 use Rattle.thread_local_shared_buckets.proofs.WalkLaws.{own_after_bucket}
 use Rattle.thread_local_shared_buckets.proofs.BitLaws.{none_set}
@@ -33,8 +36,10 @@ module _ {V : Type 0} where
   pub moves_on : (w : Walk V) (raw : RawIter) (owed : Bool) → IsWalk w → w.rest ≡ 0 → w.raw.bucket < 63
       → lies_in w.own w.raw.bucket ≡ false
       → owed ≡ is_some w.own → MovesBehind w.raw owed raw
+      → AllOf w.buckets.now.sharing (λ p. IsBehind w.raw p.id) w.told
+      → ((bucket : ℕ) → w.raw.bucket < bucket → bucket < raw.bucket → NoneIn w.buckets.now.sharing bucket w.told)
       → GoesOn w (record w { raw = raw; row = None; chunks = 0 })
-  moves_on w raw owed walk none low elsewhere is on =
+  moves_on w raw owed walk none low elsewhere is on behind absent =
       let further = leads_on (resting w.raw) (resting raw) on.moves.leads walk.walk.fits in
       let no_lower : cursor_id (resting w.raw) ≤ cursor_id (resting raw) = further.no_lower in
       let few : w.raw.yielded ≤ cursor_id (resting w.raw) = walk.walk.yielded in
@@ -53,12 +58,15 @@ module _ {V : Type 0} where
           row = tt;
           at_hand = λ bit small set. none_set w.rest bit none set;
           kept = none_kept (record w { raw = raw; row = None; chunks = 0 }) w.own refl;
+          marked = unmarked (record w { raw = raw; row = None; chunks = 0 }) refl;
         };
         passed = none;
         buckets = refl;
         own = refl;
         leads = on.moves.leads;
         further = on.further;
+        told = refl;
+        skips = skips w raw on.further on.first behind absent;
       }
 
   begins_shared : (raw : RawIter) (own : Option (Own V)) → raw ≡ record { yielded = 0; bucket = 0; bucket_size = 1; index = 0 }
@@ -88,4 +96,5 @@ module _ {V : Type 0} where
         (sym no_row) tt;
     at_hand = λ bit small set. none_set w.rest bit none set;
     kept = none_kept w w.own unseen;
+    marked = unmarked w unseen;
   }

@@ -2,7 +2,7 @@
 use Rattle.std.proofs.Common.{◌≡◌, ◌≢◌, ℕ, zero, suc, ◌+◌, ◌/◌, ◌%◌, ◌<◌, ◌≤◌, ◌⊎◌, Bool, true, false, cond, eqb}
 use Rattle.std.proofs.Common.{refl, ap, sym, ◌∙◌, subst, arith, ⊎_elim, inl, inr}
 use Rattle.std.proofs.Common.{MatchBool, Option, None, Some, IfSome}
-use Rattle.std.proofs.lemmas.Bool.{cond_both, eqb-true, eqb-false, eq-eqb, ne_eqb, cases_lt}
+use Rattle.std.proofs.lemmas.Bool.{cond_both, eqb-true, eqb-false, eq-eqb, ne_eqb, cases_lt, cases_eq}
 use Rattle.thread_local_model.specs.Bits.{is_set, IsLowestSet, IsWordBut}
 use Rattle.thread_local_model.proofs.Word.{is_set-zero}
 use Rattle.thread_local_shared_buckets.specs.AtHand.{LiesOutside}
@@ -89,3 +89,19 @@ none_in_chunk None chunk flags word adds none = tt
 none_in_chunk (Some index) chunk flags word adds none = λ at.
     let small : index % 64 < 64 = omega arith in
     none_set word (index % 64) none (added_set word flags (index % 64) (adds at) small)
+
+-- where one bit is set in addition, every bit that was set is
+keeps_bit : (word old one bit : ℕ) → IsWordBut word old one true → bit < 64 → is_set old bit ≡ true → is_set word bit ≡ true
+keeps_bit word old one bit but small set =
+    but bit small ∙ cond_both {A = Bool} (eqb one bit) true (is_set old bit) (λ (u : Bool). u ≡ true) (λ t. refl) (λ f. set)
+
+-- a chunk's flags with that of the own slot have every flag that the chunk has
+pub keeps_set : (own : Option ℕ) (chunk flags word bit : ℕ)
+    → IfSome own (λ index. index / 64 ≡ chunk → IsWordBut word flags (index % 64) true)
+    → (LiesOutside own chunk → word ≡ flags) → bit < 64 → is_set flags bit ≡ true
+    → is_set word bit ≡ true
+keeps_set None chunk flags word bit adds other small set = subst (λ (n : ℕ). is_set n bit ≡ true) (sym (other tt)) set
+keeps_set (Some index) chunk flags word bit adds other small set =
+    ⊎_elim (λ (here : index / 64 ≡ chunk). keeps_bit word flags (index % 64) bit (adds here) small set)
+    (λ apart. subst (λ (n : ℕ). is_set n bit ≡ true) (sym (other apart)) set)
+    (cases_eq (index / 64) chunk)

@@ -1,13 +1,13 @@
 -- A look at the flags of a chunk by a thread that claims none of its slots: it copies what is known of
 -- each slot whose flag is set, as a `&` to its value names no thread. Assumes `Logic`.
-use Rattle.std.proofs.Common.{◌≡◌, ℕ, suc, ◌+◌, ◌*◌, ◌^◌, ◌<◌, Bool, true, false, List, [], ◌∷◌, length, set}
+use Rattle.std.proofs.Common.{◌≡◌, ℕ, zero, suc, ◌+◌, ◌*◌, ◌^◌, ◌<◌, Bool, true, false, List, [], ◌∷◌, length, set}
 use Rattle.std.proofs.Common.{◌/◌, ◌%◌, ◌≤◌, refl, sym, ap, subst, ◌∙◌, arith, ⊎_elim, Option, Some, None}
 use Rattle.std.proofs.lemmas.Bool.{cases_lt}
 use Rattle.std.proofs.Math.Nat.{add-mul}
 use Rattle.std.proofs.lemmas.List.{set-get_or}
 use Rattle.std.specs.Prelude.{slice_index}
 use seplogic.Ra.Ura.{Ura}
-use base.Logic.{SProp, ent, sep, wand, ex, all, all_e, guard, upd_i, apply∗}
+use base.Logic.{SProp, ent, sep, wand, ex, all, all_e, guard, guard_i, upd_i, apply∗}
 use base.Fml.{Lft, GName, Share, Fml, ftrue, fsep, fex, fbor, flft, fres}
 use types.Logic.{Logic, sem}
 use types.Kit.{‵, raw, ◌⊛◌, some, given, learn, fsplit, keep, use2, check, show, rewrite, frame, assume, ◌$◌, ◌∵◌, !, qed}
@@ -33,7 +33,10 @@ use Rattle.thread_local_shared_buckets.specs.Shared.{shared_slot, numbered_slot,
 use Rattle.thread_local_shared_buckets.specs.Shared.{pinned_and_told, if_set}
 use Rattle.thread_local_shared_buckets.proofs.Rested.{opens_by}
 use Rattle.thread_local_shared_buckets.proofs.Inside.{Under, in_invariant}
-use Rattle.thread_local_ids.specs.Told.{tells}
+use Rattle.thread_local_ids.specs.Told.{tells, untold_in}
+use Rattle.thread_local_ids.specs.Views.{TokenView}
+use Rattle.thread_local_ids.specs.Tellings.{AllOf, tell_each}
+use Rattle.thread_local_ids.proofs.Listing.{slot_agrees}
 use Rattle.thread_local_ids.proofs.ToldElements.{told_dup}
 
 -- a flag of a chunk, by the chunk's word
@@ -48,6 +51,25 @@ set_at_bit ns c word bit at small set =
     let there : (c * 64 + bit) % 64 ≡ bit = omega arith in
     set_at ns c word (c * 64 + bit) at (omega arith)
     (subst (λ (m : ℕ). is_set word m ≡ true) (sym there) set)
+
+-- a flag in the chunk's word, by the flags
+pub bit_set_at : (ns : List ℕ) (c word bit : ℕ) → slice_index ns c ≡ word → bit < 64
+    → is_set_in ns (c * 64 + bit) ≡ true
+    → is_set word bit ≡ true
+bit_set_at ns c word bit at small set =
+    let i : ℕ = c * 64 + bit in
+    let there : i % 64 ≡ bit = omega arith in
+    let here : i / 64 ≡ c = omega arith in
+    sym (ap (λ (m : ℕ). is_set (slice_index ns m) (i % 64)) here ∙ ap (λ (w : ℕ). is_set w (i % 64)) at
+    ∙ ap (is_set word) there) ∙ set
+
+-- what holds of the first and of all others holds of all
+pub all_from : (P : ℕ → Type 0) (n j : ℕ) → P j → ((i : ℕ) → i < n → P (i + suc j)) → (i : ℕ) → i < suc n → P (i + j)
+all_from P n j one all zero near = let same : j ≡ zero + j = omega arith in subst P same one
+all_from P n j one all (suc i) near = let same : i + suc j ≡ suc i + j = omega arith in subst P same (all i (omega arith))
+
+none_some : {X : Type 0} (x : X) → ◌≡◌ {A = Option X} None (Some x) → ⊥
+none_some x e = cc
 
 -- the value of a slot lies behind that of its chunk's first slot
 pub behind_first : (k o c bit : ℕ) → bit * k + (c * 64 * k + o) ≡ (c * 64 + bit) * k + o
@@ -99,9 +121,27 @@ module _ {M : Type 1} {𝓤 : Ura M} (𝓛 : Logic 𝓤) where
       -- [the others; what they give; this one; what it gives]
       move ! (2 ∷ 0 ∷ []) $ fjoin ! $ move ! (2 ∷ 1 ∷ []) $ fjoin ! $ move ! (1 ∷ 0 ∷ []) $ done !
 
+  -- where each element shows a fact beside a formula, all of them do
+  pub each_learns : {X : Type 0} (F : X → ℕ → Fml) (G : Fml) (P : ℕ → Type 0) (xs : List X) (j : ℕ)
+      → ((x : X) (k : ℕ) → ⟦ F x k ⟧ ∗ ⟦ G ⟧ ⊢ guard 𝓤 (P k) (⟦ F x k ⟧ ∗ ⟦ G ⟧))
+      → ⟦ each F xs j ⟧ ∗ ⟦ G ⟧ ⊢ guard 𝓤 ((i : ℕ) → i < length xs → P (i + j)) (⟦ each F xs j ⟧ ∗ ⟦ G ⟧)
+  each_learns F G P [] j law = guard_i 𝓤 _ _ (λ i near. absurd (omega arith))
+  each_learns F G P (x ∷ xs) j law =
+      qed 𝓛 (‵ (each F (x ∷ xs) j) ∷ ‵ G ∷ []) ∵ fsplit ! $ move ! (0 ∷ 2 ∷ []) $
+      use2 𝓛 (given (P j) (‵ (F x j) ⊛ ‵ G)) (law x j) $ learn ! (λ one. split ! $
+      -- [this one; the formula; the others]
+      move ! (2 ∷ 1 ∷ []) $
+      use2 𝓛 (given ((i : ℕ) → i < length xs → P (i + suc j)) (‵ (each F xs (suc j)) ⊛ ‵ G))
+      (each_learns F G P xs (suc j) law) $
+      learn ! (λ all. split ! $ check ! (all_from P (length xs) j one all) $
+      move ! (2 ∷ 0 ∷ []) $ fjoin ! $ done !))
+
   module _ (R : RattleType) (L : Laws R) (j : Shareable R) (d : BucketView) (t : Turn)
       (wb wo : ℕ) (s : StandingBlock) (b : ℕ) (at_b : block_of s.at ≡ b) (c : ℕ)
-      (near : c * 64 < len R d) where
+      (near : c * 64 < len R d) (tokens : List (TokenView R.Denot)) where
+    abbrev Telling : Fml
+    Telling = tell_each R tokens
+
     abbrev κ : Lft
     κ = age R t b s.block_life
 
@@ -164,15 +204,51 @@ module _ {M : Type 1} {𝓤 : Ura M} (𝓛 : Logic 𝓤) where
         split ! $ fpack ! (Option R.Denot × Who) (SlotAs set k e η) z $ move ! (2 ∷ 0 ∷ []) $
         fjoin ! $ done !)
 
+    -- a token of the slot's id knows that the flag is set
+    abbrev Known : Bool → ℕ → Type 0
+    Known set k = AllOf d.sharing (λ p. p.id ≡ k → set ≡ true) tokens
+
+    known_as : (set : Bool) (k e : ℕ) (η : GName) (v : Option R.Denot) (w : Who)
+        → ⟦ SlotAs set k e η (v, w) ⟧ ∗ ⟦ Telling ⟧ ⊢ guard 𝓤 (Known set k) (⟦ SlotAs set k e η (v, w) ⟧ ∗ ⟦ Telling ⟧)
+    known_as set k e η None w =
+        let Untold : Fml = untold_in d.sharing k in
+        let Says : Type 0 = AllOf d.sharing (λ p. p.id ≡ k → ◌≡◌ {A = Option R.Denot} None (Some p.value)) tokens in
+        qed 𝓛 (‵ (SlotAs set k e η (None, w)) ∷ ‵ Telling ∷ []) ∵ fsplit3 ! $ fpick ! (λ unset. drop ! $
+        -- [what stays; who has it; what the tokens tell]
+        fsplit ! $ move ! (1 ∷ 3 ∷ []) $
+        use2 𝓛 (given Says (‵ Untold ⊛ ‵ Telling)) (slot_agrees 𝓛 R d.sharing k None tokens) $
+        learn ! (λ says. split ! $
+        check ! (λ named i x low same at. absurd (none_some _ (says named i x low same at))) $
+        -- [untold; what the tokens tell; the right; who has it]
+        move ! (2 ∷ 0 ∷ []) $ fjoin ! $ move ! (0 ∷ 2 ∷ []) $ nothing ! $
+        fpack ! (set ≡ false) (λ _. ftrue) unset $ fjoin3 ! $ done !))
+    known_as set k e η (Some x) w =
+        qed 𝓛 (‵ (SlotAs set k e η (Some x, w)) ∷ ‵ Telling ∷ []) ∵ fsplit3 ! $ fpick ! (λ is.
+        check ! (λ named i y low same at. is) $
+        fpack ! (set ≡ true) (λ _. ftrue) is $ fjoin3 ! $ done !)
+
+    known : (set : Bool) (k e : ℕ) (η : GName)
+        → ⟦ Slot set k e η ⟧ ∗ ⟦ Telling ⟧ ⊢ guard 𝓤 (Known set k) (⟦ Slot set k e η ⟧ ∗ ⟦ Telling ⟧)
+    known set k e η =
+        qed 𝓛 (‵ (Slot set k e η) ∷ ‵ Telling ∷ []) ∵ fsplit ! $ move ! (1 ∷ []) $ fpick ! (λ z.
+        move ! (0 ∷ 2 ∷ []) $
+        use2 𝓛 (given (Known set k) (‵ (SlotAs set k e η z) ⊛ ‵ Telling)) (known_as set k e η z.0 z.1) $
+        learn ! (λ so. split ! $ check ! so $ fpack ! (Option R.Denot × Who) (SlotAs set k e η) z $
+        move ! (2 ∷ 0 ∷ []) $ fjoin ! $ done !))
+
     -- 2. All slots of the block, and the word of the chunk.
 
     -- what is copied of the slots, under these words
     abbrev pub Copy : List ℕ → GName → ℕ → Fml
     Copy ns η i = if_set R (Value (i + first R d) (value_offset R o i) η) (is_set_in ns i)
 
+    -- the flag of each slot that a token is of is set in these words
+    abbrev pub ShowTokens : List ℕ → Type 0
+    ShowTokens ns = (i : ℕ) → i < len R d → AllOf d.sharing (λ p. p.id ≡ i + first R d → is_set_in ns i ≡ true) tokens
+
     -- the words, of which that of the chunk is n
     abbrev pub AreFlagsWith : ℕ → List ℕ → Type 0
-    AreFlagsWith n ns = (slice_index ns c ≡ n) × AreFlagWords R (len R d) ns
+    AreFlagsWith n ns = (slice_index ns c ≡ n) × AreFlagWords R (len R d) ns × ShowTokens ns
 
     abbrev pub copies_under : ℕ → List ℕ → Fml
     copies_under n ns = fsep (fact (AreFlagsWith n ns)) (each (Copy ns) s.names 0)
@@ -191,13 +267,23 @@ module _ {M : Type 1} {𝓤 : Ura M} (𝓛 : Logic 𝓤) where
     abbrev Slots : List ℕ → Fml
     Slots = Under 𝓛 R d t wb wo s b at_b
 
-    in_row : (ns : List ℕ) → length s.names ≡ len R d → ⟦ Slots ns ⟧ ⊢ ex 𝓤 (Out ⟦ fex (List ℕ) Slots ⟧)
+    in_row : (ns : List ℕ) → length s.names ≡ len R d → ⟦ Slots ns ⟧ ⊢ (⟦ Telling ⟧ -∗ ex 𝓤 (Out ⟦ fex (List ℕ) Slots ⟧))
     in_row ns long =
         let n : ℕ = slice_index ns c in
         let Fs : ℕ → ℕ → Fml = flags_at R (len R d) b o in
         let Numbered : GName → ℕ → Fml = numbered_slot R t b s.block_life d.sharing d.table (first R d) o ns in
         let Row : Fml = each Numbered s.names 0 in
-        qed 𝓛 (‵ (Slots ns) ∷ []) ∵ fsplit3 ! $ fpick ! (λ are. drop ! $
+        let At : ℕ → Type 0 = λ i. AllOf d.sharing (λ p. p.id ≡ i + first R d → is_set_in ns i ≡ true) tokens in
+        qed 𝓛 (‵ (Slots ns) ∷ []) ∵ assume ! (‵ Telling) $ move ! (1 ∷ []) $ fsplit3 ! $ fpick ! (λ are. drop ! $
+        -- [the words; the slots; what the tokens tell]
+        move ! (1 ∷ 2 ∷ []) $
+        use2 𝓛 (given ((i : ℕ) → i < length s.names → At (i + 0)) (‵ Row ⊛ ‵ Telling))
+        (each_learns Numbered Telling At s.names 0 (λ η i.
+        known (is_set_in ns i) (i + first R d) (value_offset R o i) η)) $
+        learn ! (λ shows. split ! $ move ! (1 ∷ []) $ drop ! $ move ! (1 ∷ []) $
+        let shown : ShowTokens ns =
+        λ i low. (let same : i + 0 ≡ i = omega arith in
+        subst At same (shows i (subst (λ (m : ℕ). i < m) (sym long) low))) in
         let inside : c < length ns =
         subst (λ (m : ℕ). c < m) (sym are.0) (let n : c * 64 < len R d = near in omega arith) in
         let Words : Fml = each Fs (set ns c n) 0 in
@@ -209,7 +295,7 @@ module _ {M : Type 1} {𝓤 : Ura M} (𝓛 : Logic 𝓤) where
         copied (is_set_in ns i) (i + first R d) (value_offset R o i) η)) $
         split ! $
         -- [the slots; the copies; the word; its way back]
-        move ! (1 ∷ []) $ nothing ! $ fpack ! (AreFlagsWith n ns) (λ _. ftrue) (refl, are) $
+        move ! (1 ∷ []) $ nothing ! $ fpack ! (AreFlagsWith n ns) (λ _. ftrue) (refl, are, shown) $
         fjoin ! $ fpack ! (List ℕ) (copies_under n) ns $
         show ! (Out ⟦ fex (List ℕ) Slots ⟧) n $ check ! (are.1 c) $ move ! (2 ∷ 0 ∷ []) $ frame ! $
         frame ! $ assume ! (‵ (Flags n)) $ move ! (2 ∷ []) $
@@ -218,7 +304,7 @@ module _ {M : Type 1} {𝓤 : Ura M} (𝓛 : Logic 𝓤) where
         use2 𝓛 (‵ Words) (apply∗ 𝓤 ⟦ Flags n ⟧ ⟦ Words ⟧) $
         rewrite ! 0 (λ (ms : List ℕ). ‵ (each Fs ms 0)) (set-get_or ns c 0) refl $ nothing ! $
         fpack ! (AreFlagWords R (len R d) ns) (λ _. ftrue) are $ fjoin3 ! $
-        fpack ! (List ℕ) Slots ns $ done !)
+        fpack ! (List ℕ) Slots ns $ done !))
 
     lifted : (P Q X : Pr) → P ∗ X ⊢ Q → ex 𝓤 (Out P) ∗ X ⊢ ex 𝓤 (Out Q)
     lifted P Q X law =
@@ -229,20 +315,30 @@ module _ {M : Type 1} {𝓤 : Ura M} (𝓛 : Logic 𝓤) where
         show ! (Out Q) n $ check ! fits $ frame ! $ frame ! $ assume ! (‵ (Flags n)) $
         move ! (0 ∷ 1 ∷ []) $ use2 𝓛 (raw P) (apply∗ 𝓤 ⟦ Flags n ⟧ P) $ by ! law))
 
+    abbrev Told : Pr → Pr
+    Told P = ⟦ Telling ⟧ -∗ ex 𝓤 (Out P)
+
+    told_lifted : (P Q X : Pr) → P ∗ X ⊢ Q → Told P ∗ X ⊢ Told Q
+    told_lifted P Q X law =
+        qed 𝓛 (raw (Told P) ∷ raw X ∷ []) ∵ assume ! (‵ Telling) $
+        use2 𝓛 (raw (ex 𝓤 (Out P))) (apply∗ 𝓤 ⟦ Telling ⟧ (ex 𝓤 (Out P))) $ by ! (lifted P Q X law)
+
     -- 3. The look: one atomic load of the word.
 
     pub looks : (q : Share)
-        → A.inv (fbor t.life I) ∗ (A.lft t.life q ∗ (⟦ Which ⟧ ∗ ⟦ ftrue ⟧))
+        → A.inv (fbor t.life I) ∗ (A.lft t.life q ∗ (⟦ Which ⟧ ∗ ⟦ Telling ⟧))
         ⊢ asks 𝓛 (block_ptr b (word_offset R (len R d) o c)) (λ n. n) always (λ n. fsep (flft t.life q) (copies n))
     looks q =
         let at : ℕ = word_offset R (len R d) o c in
         let L : ℕ → Pr = Lies 𝓛 t.life q I b at (λ n. n) copies in
-        bucket_opened.opened 𝓛 t.life q I b at (λ n. n) copies (⟦ Which ⟧ ∗ ⟦ ftrue ⟧) (qed 𝓛
-        (‵ I ∷ (‵ Which ⊛ ‵ ftrue) ∷ []) ∵
+        bucket_opened.opened 𝓛 t.life q I b at (λ n. n) copies (⟦ Which ⟧ ∗ ⟦ Telling ⟧) (qed 𝓛
+        (‵ I ∷ (‵ Which ⊛ ‵ Telling) ∷ []) ∵
         suffices ! _ (upd_i 𝓤 (ex 𝓤 L)) $ move ! (1 ∷ []) $ split ! $ move ! (2 ∷ 0 ∷ []) $
+        use2 𝓛 (raw (Told ⟦ I ⟧)) (in_invariant 𝓛 R d t wb wo s b at_b Told told_lifted in_row) $
+        move ! (1 ∷ 0 ∷ []) $
         use2 𝓛 (some (λ (n : ℕ).
         given (n < 2 ^ 64) (‵ (Flags n) ⊛ ‵ (copies n) ⊛ raw (⟦ Flags n ⟧ -∗ ⟦ I ⟧))))
-        (in_invariant 𝓛 R d t wb wo s b at_b (λ P. ex 𝓤 (Out P)) lifted in_row) $
+        (apply∗ 𝓤 ⟦ Telling ⟧ (ex 𝓤 (Out ⟦ I ⟧))) $
         pick ! (λ n. learn ! (λ fits. split3 ! $
         show ! L n $ frame ! $ assume ! (‵ (Flags n)) $ let Then : Pr = ⟦ I ⟧ ∗ ⟦ copies n ⟧ in
         suffices ! _ (upd_i 𝓤 Then) $ move ! (0 ∷ 2 ∷ []) $

@@ -1,6 +1,7 @@
 pub mod Lists
 pub mod Redeemed
-pub mod Turned
+pub mod TellingLaws
+mod Turned
 pub mod Fields
 pub mod StepLaws
 pub mod MoveLaws

@@ -1,14 +1,14 @@
 -- A load of a shared bucket's pointer, and what it hands out. Assumes `Logic`.
-use Rattle.std.proofs.Common.{◌≡◌, ℕ, zero, suc, ◌+◌, ◌<◌, false, [], ◌∷◌, ◌++◌, length, sym, subst, refl, arith}
+use Rattle.std.proofs.Common.{◌≡◌, ℕ, List, zero, suc, ◌+◌, ◌<◌, false, [], ◌∷◌, ◌++◌, length, sym, subst, refl, arith}
 use Rattle.std.proofs.Common.{Option, Some, None, IsSome}
 use seplogic.Ra.Ura.{Ura}
 use base.Fraction.{left, right}
-use base.Logic.{SProp, ent, sep, ex, upd_i}
+use base.Logic.{SProp, ent, sep, ex, guard, guard_i, upd_i}
 use base.Fml.{GName, Lft, Share, Fml, ftrue, fsep, fex, flft, fres, fbor, Incl-refl}
 use base.Before.{before}
 use types.Logic.{Logic, sem}
 use types.Kit.{by, keep, given, learn, rewrite, ‵, raw, ◌⊛◌, ◌$◌, ◌∵◌, !, qed, move, drop, use0, use1, use2, split}
-use types.Kit.{fsplit, fsplit3, fjoin, fjoin3, fpick, fpack, show, frame, assume, suffices, updating, now, done}
+use types.Kit.{check, fsplit, fsplit3, fjoin, fjoin3, fpick, fpack, show, frame, assume, suffices, updating, now, done}
 use types.Tokens.{res_dup, bor_new, bor_fracture}
 use types.Na.{before-Incl, before_lent}
 use denote.RattleType.{RattleType}
@@ -19,6 +19,10 @@ use Rattle.std.specs.Sync.RawAtomic.Pointer.{cell, asks_ptr}
 use Rattle.thread_local_model.specs.Fact.{fact}
 use Rattle.thread_local_ids.specs.Told.{untold_in, tells}
 use Rattle.thread_local_ids.proofs.ToldElements.{telling_alike}
+use Rattle.thread_local_ids.specs.Views.{TokenView}
+use Rattle.thread_local_ids.specs.Tellings.{AllOf, tell_each}
+use Rattle.thread_local_ids.proofs.Listing.{slot_agrees}
+use Rattle.thread_local_shared_buckets.proofs.ChunkLooks.{all_from}
 use Rattle.thread_local_shared_buckets.specs.Shared.{BucketView, Turn, StandingBlock, block_code, Sized, len, first}
 use Rattle.thread_local_shared_buckets.specs.Shared.{all_unborn, standing, beside_pointer, bucket_invariant, loaded}
 use Rattle.thread_local_model.proofs.Pointers.{Lies, opened}
@@ -44,6 +48,60 @@ module _ {M : Type 1} {𝓤 : Ura M} (𝓛 : Logic 𝓤) (R : RattleType) (shari
       qed 𝓛 (‵ (all_unborn R sharing table t (suc n) k) ∷ ‵ (tells R sharing id (Some x)) ∷ []) ∵
       fsplit ! $ keep ! (1 ∷ 2 ∷ []) $
       by ! (unborn_untold n (suc k) i id (omega arith) (omega arith))
+
+never_some : {X : Type 0} (x : X) → ◌≡◌ {A = Option X} None (Some x) → ⊥
+never_some x e = cc
+
+module _ {M : Type 1} {𝓤 : Ura M} (𝓛 : Logic 𝓤) (R : RattleType) (sharing : Option GName)
+    (table : ℕ) (t : Turn) (tokens : List (TokenView R.Denot)) where
+  -- no token is of this id
+  abbrev NoToken : ℕ → Type 0
+  NoToken k = AllOf sharing (λ p. p.id ≡ k → ⊥) tokens
+
+  -- no token is of the id of a slot that has no block yet
+  pub unborn_unlisted : (n k : ℕ)
+      → ent 𝓤
+      (sep 𝓤 (sem 𝓛 (all_unborn R sharing table t n k)) (sem 𝓛 (tell_each R tokens)))
+      (guard 𝓤 ((i : ℕ) → i < n → NoToken (i + k))
+      (sep 𝓤 (sem 𝓛 (all_unborn R sharing table t n k)) (sem 𝓛 (tell_each R tokens))))
+  unborn_unlisted zero k = guard_i 𝓤 _ _ (λ i near. absurd (omega arith))
+  unborn_unlisted (suc n) k =
+      let Telling : Fml = tell_each R tokens in
+      let Untold : Fml = untold_in sharing k in
+      let Rest : Fml = all_unborn R sharing table t n (suc k) in
+      let Says : Type 0 = AllOf sharing (λ p. p.id ≡ k → ◌≡◌ {A = Option R.Denot} None (Some p.value)) tokens in
+      qed 𝓛 (‵ (all_unborn R sharing table t (suc n) k) ∷ ‵ Telling ∷ []) ∵ fsplit ! $ fsplit3 ! $
+      move ! (1 ∷ []) $ fsplit ! $
+      -- [filled; untold; vacant; what waits; the other slots; what the tokens tell]
+      move ! (1 ∷ 5 ∷ []) $
+      use2 𝓛 (given Says (‵ Untold ⊛ ‵ Telling)) (slot_agrees 𝓛 R sharing k None tokens) $
+      learn ! (λ says. split ! $ move ! (2 ∷ 0 ∷ []) $ fjoin ! $ move ! (2 ∷ 0 ∷ 3 ∷ []) $ fjoin3 ! $
+      -- [the slot; what the tokens tell; the other slots]
+      move ! (2 ∷ 1 ∷ []) $
+      use2 𝓛 (given ((i : ℕ) → i < n → NoToken (i + suc k)) (‵ Rest ⊛ ‵ Telling)) (unborn_unlisted n (suc k)) $
+      learn ! (λ all. split ! $
+      check ! (all_from NoToken n k (λ named i x low same at. never_some _ (says named i x low same at)) all) $
+      move ! (2 ∷ 0 ∷ []) $ fjoin ! $ done !))
+
+module _ {M : Type 1} {𝓤 : Ura M} (𝓛 : Logic 𝓤) (R : RattleType) (d : BucketView) (t : Turn)
+    (tokens : List (TokenView R.Denot)) where
+  -- no token is of a slot of the bucket
+  abbrev pub NoneThere : Type 0
+  NoneThere = (i : ℕ) → i < len R d → AllOf d.sharing (λ p. p.id ≡ i + first R d → ⊥) tokens
+
+  pub none_there : ent 𝓤
+      (sep 𝓤 (sem 𝓛 (all_unborn R d.sharing d.table t (len R d) (first R d))) (sem 𝓛 (tell_each R tokens)))
+      (sep 𝓤 (sem 𝓛 (all_unborn R d.sharing d.table t (len R d) (first R d))) (sem 𝓛 (fact NoneThere)))
+  none_there =
+      let Unborn : Fml = all_unborn R d.sharing d.table t (len R d) (first R d) in
+      qed 𝓛 (‵ Unborn ∷ ‵ (tell_each R tokens) ∷ []) ∵
+      use2 𝓛 (given NoneThere (‵ Unborn ⊛ ‵ (tell_each R tokens)))
+      (unborn_unlisted 𝓛 R d.sharing d.table t tokens (len R d) (first R d)) $
+      learn ! (λ none. split ! $ move ! (1 ∷ []) $ drop ! $ nothing ! $
+      fpack ! NoneThere (λ _. ftrue) none $ move ! (1 ∷ 0 ∷ []) $ done !)
+
+  pub forgets : ent 𝓤 (sem 𝓛 (tell_each R tokens)) (sem 𝓛 ftrue)
+  forgets = qed 𝓛 (‵ (tell_each R tokens) ∷ []) ∵ drop ! $ nothing ! $ done !
 
 module _ {M : Type 1} {𝓤 : Ura M} (𝓛 : Logic 𝓤) (R : RattleType) (d : BucketView) (t : Turn) where
   open 𝓛 use {H, A}

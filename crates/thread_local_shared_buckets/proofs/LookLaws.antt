@@ -11,7 +11,10 @@ use Rattle.thread_local_shared_buckets.specs.declared.steps.Walk.{Walk}
 use Rattle.thread_local_shared_buckets.specs.Positions.{lies_in, is_at, own_index}
 use Rattle.thread_local_shared_buckets.specs.Positions.{IsAhead}
 use Rattle.thread_local_shared_buckets.specs.AtHand.{LiesOutside, IsRead, IsAlone, LooksAt, HasLooked, IsRowOf, slot_of}
-use Rattle.thread_local_shared_buckets.specs.AtHand.{IsKept, IsWalk, LooksIn}
+use Rattle.thread_local_shared_buckets.specs.AtHand.{IsKept, IsWalk, LooksIn, IsMarked, IsFoundAt, FindsTokens}
+use Rattle.thread_local_ids.specs.Tellings.{AllOf, NoneIn}
+use Rattle.thread_local_shared_buckets.specs.Positions.{IsBehind}
+use Rattle.thread_local_shared_buckets.proofs.TellingLaws.{found_all, marked_on, all_behind}
 use Rattle.thread_local_shared_buckets.proofs.BitLaws.{added_set, both_if, both_so, none_set, was_set}
 use Rattle.thread_local_shared_buckets.proofs.OwnLaws.{at_index, at_own_index, elsewhere, index_of_own}
 
@@ -20,8 +23,9 @@ module _ {V : Type 0} where
   pub own_comes : (w : Walk V) (own : Own V) (chunks rest : ℕ) → w.own ≡ Some own → IsWalk w
       → own.thread.bucket ≡ w.raw.bucket → chunks ≡ own.thread.index / 64 + 1
       → IsWordBut rest 0 (own.thread.index % 64) true
+      → AllOf w.buckets.now.sharing (λ p. IsMarked (record w { chunks = chunks; rest = rest }) p.id) w.told
       → IsWalk (record w { chunks = chunks; rest = rest })
-  own_comes w own chunks rest is walk same counted but =
+  own_comes w own chunks rest is walk same counted but marked =
       let i : ℕ = own.thread.index in
       let ahead : IsAhead w.raw own = subst (λ (o : Option (Own V)). IfSome o (IsAhead w.raw)) is walk.walk.own_ahead in
       let near : w.raw.index ≤ i = ahead.index same in
@@ -57,6 +61,7 @@ module _ {V : Type 0} where
               subst (λ (k : ℕ). is_set rest k ≡ true) (sym bit)
                   (added_set rest 0 (i % 64) but (omega arith)),
             ));
+        marked = marked;
       }
 
   -- the walk once it has looked on: its row, what it saw, how many chunks, and the flags at hand
@@ -124,8 +129,9 @@ module _ {V : Type 0} where
       → IfSome row (IsRowOf w.buckets.now.sharing w.raw.bucket)
       → of.bucket ≡ w.raw.bucket → of.sharing ≡ w.buckets.now.sharing
       → IsRead of (own_index w.own w.raw.bucket) w.chunks seen chunks flags
+      → AllOf w.buckets.now.sharing (λ p. IsMarked (after_look w row (Some seen) chunks flags) p.id) w.told
       → IsWalk (after_look w row (Some seen) chunks flags)
-  read_comes w row of seen chunks flags walk none low rows bucket sharing read =
+  read_comes w row of seen chunks flags walk none low rows bucket sharing read marked =
       let c : ℕ = seen.chunk in
       let counted : chunks ≡ c + 1 = read.chunk in
       let from : w.chunks ≤ c = read.later in
@@ -162,6 +168,7 @@ module _ {V : Type 0} where
                   either;
             };
         kept = kept_read w (after_look w row (Some seen) chunks flags) of w.own seen refl walk.kept none read;
+        marked = marked;
       }
 
   -- the walk with another row of the same bucket, of which it has seen nothing that is at hand
@@ -174,40 +181,52 @@ module _ {V : Type 0} where
     row = of;
     at_hand = λ bit small set. none_set w.rest bit none set;
     kept = walk.kept;
+    marked = walk.marked;
   }
 
   -- the own slot alone comes to hand, at its index in the bucket
   alone_comes : (w : Walk V) (own : Option (Own V)) (i chunks rest : ℕ) → w.own ≡ own → IsWalk w
       → own_index own w.raw.bucket ≡ Some i → chunks ≡ i / 64 + 1 → IsWordBut rest 0 (i % 64) true
+      → AllOf w.buckets.now.sharing (λ p. IsMarked (record w { chunks = chunks; rest = rest }) p.id) w.told
       → IsWalk (record w { chunks = chunks; rest = rest })
-  alone_comes w None i chunks rest is walk here counted but = cc
-  alone_comes w (Some own) i chunks rest is walk here counted but =
+  alone_comes w None i chunks rest is walk here counted but marked = cc
+  alone_comes w (Some own) i chunks rest is walk here counted but marked =
       let at = at_own_index own w.raw.bucket i here in
       let index : i ≡ own.thread.index = sym at.1 in
       own_comes w own chunks rest is walk at.0 (counted ∙ ap (λ k. k / 64 + 1) index)
-      (subst (λ (k : ℕ). IsWordBut rest 0 (k % 64) true) index but)
+      (subst (λ (k : ℕ). IsWordBut rest 0 (k % 64) true) index but) marked
 
   looks_in : (w : Walk V) (row : Option (Row V)) (seen : Option (Seen V)) (chunks flags : ℕ)
       → IsWalk (after_look w row seen chunks flags) → (flags ≡ 0 → lies_in w.own w.raw.bucket ≡ false)
+      → (flags ≡ 0 → AllOf w.buckets.now.sharing (λ p. IsBehind w.raw p.id) w.told)
       → LooksIn w (after_look w row seen chunks flags)
-  looks_in w row seen chunks flags walk none = record { walk = walk; buckets = refl; raw = refl; own = refl; none = none }
+  looks_in w row seen chunks flags walk none behind =
+      record { walk = walk; buckets = refl; raw = refl; own = refl; none = none; told = refl; behind = behind }
+
+  -- the tokens' flags at hand once the walk has looked on
+  abbrev Finds : Walk V → Option (Seen V) × ℕ × ℕ → Type 0
+  Finds w x = AllOf w.buckets.now.sharing (λ p. IsFoundAt w.raw.bucket w.chunks x p.id) w.told
 
   looked_seen : (w : Walk V) (row : Option (Row V)) (seen : Seen V) (chunks flags : ℕ) → IsWalk w → w.rest ≡ 0
       → w.raw.bucket < 63 → IfSome row (IsRowOf w.buckets.now.sharing w.raw.bucket)
       → LooksAt row (own_index w.own w.raw.bucket) w.chunks seen chunks flags
+      → Finds w (Some seen, chunks, flags)
       → LooksIn w (after_look w row (Some seen) chunks flags)
-  looked_seen w None seen chunks flags walk none low of read = absurd read
-  looked_seen w (Some row) seen chunks flags walk none low of read =
+  looked_seen w None seen chunks flags walk none low of read finds = absurd read
+  looked_seen w (Some row) seen chunks flags walk none low of read finds =
       looks_in w (Some row) (Some seen) chunks flags
-      (read_comes w (Some row) row.of seen chunks flags walk none low of of.0 of.1 read)
+      (read_comes w (Some row) row.of seen chunks flags walk none low of of.0 of.1 read
+      (marked_on w (Some row) (Some seen, chunks, flags) walk none finds))
+      (λ zero. let some : 0 < flags = read.some in absurd (omega arith))
       (λ zero. let some : 0 < flags = read.some in absurd (omega arith))
 
   looked_alone : (w : Walk V) (row : Option (Row V)) (chunks flags : ℕ) (own : Option ℕ) → IsWalk w → w.rest ≡ 0
       → IfSome row (IsRowOf w.buckets.now.sharing w.raw.bucket)
       → own_index w.own w.raw.bucket ≡ own
       → IsAlone own w.chunks chunks flags
+      → Finds w (None, chunks, flags)
       → LooksIn w (after_look w row None chunks flags)
-  looked_alone w row chunks flags None walk none of is alone =
+  looked_alone w row chunks flags None walk none of is alone finds =
       let bare : Walk V = record w { row = row; seen = None } in
       let begun : IsWalk bare = unseen w row walk none of in
       let stays : IsWalk (record bare { rest = flags }) =
@@ -215,29 +234,37 @@ module _ {V : Type 0} where
       looks_in w row None chunks flags
       (subst (λ (n : ℕ). IsWalk (record bare { chunks = n; rest = flags })) (sym alone.0) stays)
       (λ zero. elsewhere w.own w.raw.bucket is)
-  looked_alone w row chunks flags (Some i) walk none of is alone =
+      (λ zero. all_behind w chunks flags walk none finds)
+  looked_alone w row chunks flags (Some i) walk none of is alone finds =
       let bare : Walk V = record w { row = row; seen = None } in
       looks_in w row None chunks flags
-      (alone_comes bare w.own i chunks flags refl (unseen w row walk none of) is alone.0 alone.1)
+      (alone_comes bare w.own i chunks flags refl (unseen w row walk none of) is alone.0 alone.1
+      (marked_on w row (None, chunks, flags) walk none finds))
       (λ zero.
       let small : i % 64 < 64 = omega arith in
       none_set flags (i % 64) zero (added_set flags 0 (i % 64) alone.1 small))
+      (λ zero. all_behind w chunks flags walk none finds)
 
   looked_by : (w : Walk V) (row : Option (Row V)) (seen : Option (Seen V)) (chunks flags : ℕ) → IsWalk w → w.rest ≡ 0
       → w.raw.bucket < 63 → IfSome row (IsRowOf w.buckets.now.sharing w.raw.bucket)
       → HasLooked row (own_index w.own w.raw.bucket) w.chunks (seen, chunks, flags)
+      → Finds w (seen, chunks, flags)
       → LooksIn w (after_look w row seen chunks flags)
-  looked_by w row None chunks flags walk none low of x =
-      looked_alone w row chunks flags (own_index w.own w.raw.bucket) walk none of refl x
-  looked_by w row (Some seen) chunks flags walk none low of x = looked_seen w row seen chunks flags walk none low of x
+  looked_by w row None chunks flags walk none low of x finds =
+      looked_alone w row chunks flags (own_index w.own w.raw.bucket) walk none of refl x finds
+  looked_by w row (Some seen) chunks flags walk none low of x finds =
+      looked_seen w row seen chunks flags walk none low of x finds
 
   pub looked_on : (w : Walk V) (row : Option (Row V)) (own : Option ℕ) (x : Option (Seen V) × ℕ × ℕ) → IsWalk w → w.rest ≡ 0
       → w.raw.bucket < 63 → IfSome row (IsRowOf w.buckets.now.sharing w.raw.bucket)
       → own ≡ own_index w.own w.raw.bucket
       → HasLooked row own w.chunks x
+      → FindsTokens row w.chunks w.told x
+      → (row ≡ None → NoneIn w.buckets.now.sharing w.raw.bucket w.told)
       → LooksIn w (after_look w row x.0 x.1 x.2)
-  looked_on w row own x walk none low of is looked =
+  looked_on w row own x walk none low of is looked finds absent =
       looked_by w row x.0 x.1 x.2 walk none low of (subst (λ (o : Option ℕ). HasLooked row o w.chunks x) is looked)
+      (found_all w.buckets.now.sharing w.raw.bucket w.chunks w.told x row of finds absent)
 
   -- a look at a chunk of the row finds a flag
   pub read_at : (row : Option (Row V)) (r : Row V) (own : Option ℕ) (from chunk given word : ℕ) (seen : Seen V) → row ≡ Some r

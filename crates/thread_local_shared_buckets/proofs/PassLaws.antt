@@ -16,6 +16,7 @@ use Rattle.thread_local_shared_buckets.specs.Positions.{IsToldAt, IsSharedWalk}
 use Rattle.thread_local_shared_buckets.specs.AtHand.{IsSetIn, IsGivenBy, slot_of, HasSeen, IsAtHand}
 use Rattle.thread_local_shared_buckets.specs.AtHand.{IsKept, IsWalk}
 use Rattle.thread_local_shared_buckets.proofs.WalkLaws.{few, IsBefore, given_found, Gave, gave_own}
+use Rattle.thread_local_shared_buckets.proofs.TellingLaws.{marked_later}
 use Rattle.thread_local_shared_buckets.proofs.BitLaws.{both_if, both_so, by_test, later, stays_set}
 
 module _ {V : Type 0} where
@@ -97,6 +98,7 @@ module _ {V : Type 0} where
               absurd (omega arith))
               (λ apart. apart));
           kept = tt;
+          marked = marked_later w low rest None walk lowest but;
         };
         gives =
             subst (λ (o : Option (Own V)).
@@ -168,6 +170,7 @@ module _ {V : Type 0} where
           row = walk.row;
           at_hand = at_hand_later w low rest w.own walk lowest but (λ bit higher elsewhere. elsewhere);
           kept = kept_later w low rest w.own there.some walk.kept lowest but apart;
+          marked = marked_later w low rest w.own walk lowest but;
         };
         gives = all.gives;
         told =

@@ -17,7 +17,7 @@ use Rattle.thread_local_shared_buckets.specs.Positions.{IsToldAt, IsAhead, IsSha
 use Rattle.thread_local_shared_buckets.proofs.StepLaws.{resting_at, looking_at, leads_then, leads_on, leads_to_slot}
 
 -- a place in a later bucket has a greater id
-later_bucket : (a b i j : ℕ) → a < b → i < 2 ^ a → id_at a i < id_at b j
+pub later_bucket : (a b i j : ℕ) → a < b → i < 2 ^ a → id_at a i < id_at b j
 later_bucket a b i j later inside =
     let up : 2 ^ suc a ≤ 2 ^ b = pow_mono later in
     let twice = two-pow-succ a in

@@ -1,6 +1,6 @@
 -- What a walk has at hand: the flags that it loaded whose values it hasn't given.
 use Rattle.std.specs.Prelude.{◌≡◌, ℕ, ◌≢◌, ◌+◌, ◌-◌, ◌*◌, ◌/◌, ◌%◌, ◌^◌, ◌<◌, ◌≤◌, true, false, Option, None}
-use Rattle.std.specs.Prelude.{Some, IfSome, MatchOption, Bool, MatchBool}
+use Rattle.std.specs.Prelude.{Some, IfSome, MatchOption, Bool, MatchBool, List}
 use Rattle.thread_local_model.specs.Bits.{is_set, IsWordBut}
 use Rattle.thread_local_model.specs.Place.{id_at}
 use Rattle.thread_local_shared_buckets.specs.Shared.{BucketView}
@@ -8,7 +8,10 @@ use Rattle.thread_local_shared_buckets.specs.declared.row.Row.{Row}
 use Rattle.thread_local_shared_buckets.specs.declared.seen.Seen.{Seen}
 use Rattle.thread_local_shared_buckets.specs.declared.steps.Own.{Own}
 use Rattle.thread_local_shared_buckets.specs.declared.steps.Walk.{Walk}
+use Rattle.thread_local_ids.specs.Tellings.{AllOf}
+use Rattle.thread_local_ids.specs.Views.{TokenView}
 use Rattle.thread_local_shared_buckets.specs.Positions.{Found, resting, lies_in, is_at, OwnIsTold, IsSharedWalk}
+use Rattle.thread_local_shared_buckets.specs.Positions.{Skips, IsBehind}
 use Rattle.thread_local_shared_buckets.specs.Steps.{Leads}
 
 -- the own slot, if it has an index in the bucket, lies in another chunk
@@ -56,6 +59,16 @@ module _ {V : Type 0} where
   abbrev pub HasLooked : Option (Row V) → Option ℕ → ℕ → Option (Seen V) × ℕ × ℕ → Type 0
   HasLooked row own from x = MatchOption x.0 (IsAlone own from x.1 x.2) (λ seen. LooksAt row own from seen x.1 x.2)
 
+  -- where looks at the chunks of a bucket from `from` on found a flag, an id of these chunks has its flag
+  -- at hand; where none did, no id lies in them
+  abbrev pub IsFoundAt : ℕ → ℕ → Option (Seen V) × ℕ × ℕ → ℕ → Type 0
+  IsFoundAt bucket from x id =
+      (i : ℕ) → i < 2 ^ bucket → id ≡ id_at bucket i → from * 64 ≤ i
+      → MatchOption x.0 ⊥ (λ _. i < x.1 * 64 → ((x.1 - 1) * 64 ≤ i) × (is_set x.2 (i - (x.1 - 1) * 64) ≡ true))
+
+  abbrev pub FindsTokens : Option (Row V) → ℕ → List (TokenView V) → Option (Seen V) × ℕ × ℕ → Type 0
+  FindsTokens row from tokens x = IfSome row (λ r. AllOf r.of.sharing (λ p. IsFoundAt r.of.bucket from x p.id) tokens)
+
   -- the row is that of this bucket, in this sharing
   abbrev pub IsRowOf : Option ℕ → ℕ → Row V → Type 0
   IsRowOf sharing bucket row = (row.of.bucket ≡ bucket) × (row.of.sharing ≡ sharing)
@@ -90,6 +103,13 @@ module _ {V : Type 0} where
       → ((walk.chunks - 1) * 64 ≤ own.thread.index)
       × (is_set walk.rest (own.thread.index - (walk.chunks - 1) * 64) ≡ true)
 
+  -- if an id lies in the chunks that the walk has seen of its bucket, and not behind the walk, its flag is
+  -- at hand
+  abbrev pub IsMarked : Walk V → ℕ → Type 0
+  IsMarked w id =
+      (i : ℕ) → i < 2 ^ w.raw.bucket → id ≡ id_at w.raw.bucket i → w.raw.index ≤ i → i < w.chunks * 64
+      → ((w.chunks - 1) * 64 ≤ i) × (is_set w.rest (i - (w.chunks - 1) * 64) ≡ true)
+
   -- a walk between two calls
   pub record IsWalk (w : Walk V) : Type 0 where
     pub walk : IsSharedWalk w.raw w.own
@@ -98,6 +118,7 @@ module _ {V : Type 0} where
     pub row : IfSome w.row (IsRowOf w.buckets.now.sharing w.raw.bucket)
     pub at_hand : (bit : ℕ) → bit < 64 → is_set w.rest bit ≡ true → IsAtHand w bit
     pub kept : IfSome w.own (IsKept w)
+    pub marked : AllOf w.buckets.now.sharing (λ p. IsMarked w p.id) w.told
 
   -- 3. What single steps of a call do.
 
@@ -108,6 +129,8 @@ module _ {V : Type 0} where
     pub raw : to.raw ≡ w.raw
     pub own : to.own ≡ w.own
     pub none : to.rest ≡ 0 → lies_in to.own to.raw.bucket ≡ false
+    pub told : to.told ≡ w.told
+    pub behind : to.rest ≡ 0 → AllOf to.buckets.now.sharing (λ p. IsBehind to.raw p.id) to.told
 
   -- the walk has moved on to a later bucket
   pub record GoesOn (w to : Walk V) : Type 0 where
@@ -117,6 +140,8 @@ module _ {V : Type 0} where
     pub own : to.own ≡ w.own
     pub leads : Leads (resting w.raw) (resting to.raw)
     pub further : w.raw.bucket < to.raw.bucket
+    pub told : to.told ≡ w.told
+    pub skips : AllOf w.buckets.now.sharing (λ p. Skips w.raw to.raw p.id) w.told
 
   -- the walk has looked on until a flag is at hand, or to the end
   pub record Reaches (w : Walk V) (found : Bool) (to : Walk V) : Type 0 where
@@ -124,4 +149,6 @@ module _ {V : Type 0} where
     pub buckets : to.buckets.now ≡ w.buckets.now
     pub own : to.own ≡ w.own
     pub leads : Leads (resting w.raw) (resting to.raw)
+    pub told : to.told ≡ w.told
+    pub skips : AllOf w.buckets.now.sharing (λ p. Skips w.raw to.raw p.id) w.told
     pub by : MatchBool found (0 < to.rest) (63 ≤ to.raw.bucket)

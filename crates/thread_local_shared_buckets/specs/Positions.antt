@@ -1,5 +1,5 @@
 -- Where a walk is, by what its code keeps, as the model's cursor.
-use Rattle.std.specs.Prelude.{◌≡◌, ℕ, suc, ◌+◌, ◌^◌, ◌≤◌, ◌<◌, ◌==◌, Bool, true, false, Option, Some, None, IfSome, option_map}
+use Rattle.std.specs.Prelude.{◌≡◌, ℕ, suc, ◌+◌, ◌^◌, ◌≤◌, ◌<◌, ◌==◌, ◌⊎◌, Bool, true, false, Option, Some, None, IfSome, option_map}
 use Rattle.std.specs.Prelude.{if◌then◌else◌}
 use Rattle.thread_local_model.specs.Place.{id_at}
 use Rattle.thread_local_model.specs.Cursor.{Cursor, cursor_id, CursorFits}
@@ -26,6 +26,18 @@ pub record MovesOn (from to : RawIter) : Type 0 where
   pub yielded : to.yielded ≡ from.yielded
   pub further : from.bucket ≤ to.bucket
   pub index : to.index ≤ from.index
+
+-- the walk goes from one place to another, and an id doesn't lie between
+abbrev pub Skips : RawIter → RawIter → ℕ → Type 0
+Skips from to id = (id < cursor_id (resting from)) ⊎ (cursor_id (resting to) ≤ id)
+
+-- the walk goes past one slot, and passes an id only if it is that slot's
+abbrev pub Stops : RawIter → RawIter → ℕ → Type 0
+Stops from to id = cursor_id (resting from) ≤ id → id < cursor_id (resting to) → cursor_id (resting to) ≡ suc id
+
+-- an id that lies in the walk's bucket lies behind the walk
+abbrev pub IsBehind : RawIter → ℕ → Type 0
+IsBehind raw id = (i : ℕ) → i < 2 ^ raw.bucket → id ≡ id_at raw.bucket i → i < raw.index
 
 -- the walk has passed at least the bucket that it was in, and no other if an own value is still owed
 pub record MovesBehind (from : RawIter) (owed : Bool) (to : RawIter) : Type 0 where

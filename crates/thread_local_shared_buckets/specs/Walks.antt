@@ -1,14 +1,15 @@
 -- What a contract sees of a walk over buckets that threads share, and what a call of `next` does.
-use Rattle.std.specs.Prelude.{◌≡◌, ℕ, suc, ◌-◌, ◌^◌, ◌<◌, ◌≤◌, ◌⊎◌, Bool, true, IsTrue, Option, Some, None, MatchOption}
+use Rattle.std.specs.Prelude.{◌≡◌, ℕ, suc, ◌-◌, ◌^◌, ◌<◌, ◌≤◌, ◌⊎◌, Bool, true, IsTrue, List, [], Option, Some, None, MatchOption}
 use Rattle.std.specs.Prelude.{IfSome, option_map, refl}
 use Rattle.std.specs.Iterator.{Count, at_most}
 use Rattle.std.specs.Coded.{Coded, coded_option, coded_ℕ, coded×, code_by}
-use base.Stored.{coded_bool}
+use base.Stored.{coded_bool, coded_list}
 use denote.Ref.{Bor}
 use denote.RattleType.{RattleType}
 use Rattle.thread_local_model.specs.Cursor.{Cursor, fresh_cursor, cursor_id, is_complete, after_look}
 use Rattle.thread_local_judged.specs.Judged.{Shareable}
-use Rattle.thread_local_ids.specs.Views.{TokenView}
+use Rattle.thread_local_ids.specs.Views.{TokenView, token_view_coded}
+use Rattle.thread_local_ids.specs.Tellings.{AllOf}
 use Rattle.thread_local_shared_buckets.specs.Steps.{Leads}
 
 -- an own value that a walk has still to give, and its id
@@ -17,12 +18,14 @@ pub record Owed (V : Type 0) : Type 0 where
   pub value : V
 
 -- the sharing that a walk goes over, if that has a name, where the walk is, the own value that it has
--- still to give, if any, and whether it was shown that threads may share the values
+-- still to give, if any, whether it was shown that threads may share the values, and the tokens that it
+-- was made with, whose values it gives
 pub record WalkView (V : Type 0) : Type 0 where
   pub sharing : Option ℕ
   pub cursor : Cursor
   pub own : Option (Owed V)
   pub shown : Bool
+  pub told : List (TokenView V)
 
 -- injective codes of such views, for ghost state
 abbrev cursor_coded : Coded Cursor
@@ -36,15 +39,19 @@ owed_coded {V} c = code_by (ℕ × V) (coded× coded_ℕ c) (λ o. (o.id, o.valu
 
 abbrev pub walk_view_coded : {V : Type 0} → Coded V → Coded (WalkView V)
 walk_view_coded {V} c =
-    code_by (Option ℕ × (Cursor × (Option (Owed V) × Bool)))
+    code_by (Option ℕ × (Cursor × (Option (Owed V) × (Bool × List (TokenView V)))))
     (coded× (coded_option coded_ℕ)
-    (coded× cursor_coded (coded× (coded_option (owed_coded c)) coded_bool)))
-    (λ w. (w.sharing, (w.cursor, (w.own, w.shown))))
-    (λ p. record { sharing = p.0; cursor = p.1.0; own = p.1.1.0; shown = p.1.1.1 }) (λ _. refl)
+    (coded× cursor_coded (coded× (coded_option (owed_coded c)) (coded× coded_bool (coded_list (token_view_coded c))))))
+    (λ w. (w.sharing, (w.cursor, (w.own, (w.shown, w.told)))))
+    (λ p. record { sharing = p.0; cursor = p.1.0; own = p.1.1.0; shown = p.1.1.1.0; told = p.1.1.1.1 }) (λ _. refl)
 
--- a walk over a sharing that has just begun, with an own value to give or none
+-- a walk over a sharing that has just begun, with an own value to give or none, and the values of tokens
+abbrev pub fresh_with : {V : Type 0} → Option ℕ → Option (Owed V) → Bool → List (TokenView V) → WalkView V
+fresh_with sharing own shown told = record { sharing = sharing; cursor = fresh_cursor; own = own; shown = shown; told = told }
+
+-- the same with no tokens
 abbrev pub fresh : {V : Type 0} → Option ℕ → Option (Owed V) → Bool → WalkView V
-fresh sharing own shown = record { sharing = sharing; cursor = fresh_cursor; own = own; shown = shown }
+fresh sharing own shown = fresh_with sharing own shown []
 
 -- the own value, without its id
 abbrev pub owed_value : {V : Type 0} → Option (Owed V) → Option V
@@ -76,12 +83,22 @@ pub record Ends {V : Type 0} (from : Cursor) (own : Option (Owed V)) (to : Curso
   pub none_owed : own ≡ None
   pub none_left : left ≡ None
 
+-- what a call does about a token of the walk's sharing. One that gives nothing leaves no token's id ahead.
+-- One that gives a value passes no token's id before the value's, and if that is the token's id, the
+-- value is the token's
+abbrev pub Meets : {V : Type 0} → Cursor → Option (Bor V) → Cursor → TokenView V → Type 0
+Meets from item to p =
+    MatchOption item (p.id < cursor_id from)
+    (λ x. cursor_id from ≤ p.id → p.id < cursor_id to → (cursor_id to ≡ suc p.id) × (p.value ≡ x.now))
+
 -- what a call of `next` does
 pub record Goes {V : Type 0} (walk : WalkView V) (item : Option (Bor V)) (left : WalkView V) : Type 0 where
   pub gives : MatchOption item (Ends walk.cursor walk.own left.cursor left.own)
       (λ x. Yields walk.cursor walk.own x.now left.cursor left.own)
   pub shown : left.shown ≡ walk.shown
   pub sharing : left.sharing ≡ walk.sharing
+  pub told : left.told ≡ walk.told
+  pub meets : AllOf walk.sharing (Meets walk.cursor item left.cursor) walk.told
 
 -- what a call of `next` does where it gives each value with its id, which is the last one passed
 pub record GoesWithIds {V : Type 0} (walk : WalkView V) (item : Option (ℕ × Bor V)) (left : WalkView V) : Type 0 where

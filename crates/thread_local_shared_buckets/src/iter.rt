@@ -5,7 +5,7 @@ ghost use Rattle.std.specs.Iterator.SizeHint.{IsWithinCount};
 ghost use Rattle.thread_local_model.specs.Cursor.{cursor_id};
 ghost use Rattle.thread_local_judged.specs.Judged.{Shareable};
 ghost use Rattle.thread_local_shared_buckets.specs.Positions.{owed, OwnIsTold};
-ghost use Rattle.thread_local_shared_buckets.specs.Walks.{WalkView, fresh, Goes, CanGo, ids_left};
+ghost use Rattle.thread_local_shared_buckets.specs.Walks.{WalkView, fresh, fresh_with, Goes, CanGo, ids_left};
 
 use crate::shared::Shared;
 use crate::shown::Shown;
@@ -14,7 +14,7 @@ use std::fmt;
 use std::iter::FusedIterator;
 use std::marker::Model;
 use thread_local_bucket_pointers::write_struct;
-use thread_local_ids::{Token, Witness};
+use thread_local_ids::{Told, Token, Witness};
 use thread_local_thread_id::Thread;
 
 /// The values of shared buckets, by ascending id, each lent as `&`, while other threads may publish
@@ -46,6 +46,7 @@ impl<'a, T> Model for Iter<'a, T> {
           cursor = resting it.walk.raw;
           own = option_map owed it.walk.own;
           shown = is_some it.shown;
+          told = it.walk.told;
         } };
 
     ghost invariant = { λ it. IsWalk it.walk };
@@ -57,12 +58,18 @@ impl<'a, T> Iter<'a, T> {
         buckets: &'a Shared<T>,
         own: Option<Own<'a, T>>,
         shown: Option<Shown<'a, T>>,
+        told: Told<T>,
     ) -> Iter<'a, T>
         requires told { IfSome own (OwnIsTold buckets.now.sharing) }
-        ensures { result ≡ fresh buckets.now.sharing (option_map owed own.entry) (is_some shown.entry) }
+        ensures { result ≡
+            fresh_with
+            buckets.now.sharing
+            (option_map owed own.entry)
+            (is_some shown.entry)
+            told }
     {
         Iter {
-            walk: Walk::new(buckets, own),
+            walk: Walk::new(buckets, own, told),
             shown,
         }
     }
@@ -71,7 +78,7 @@ impl<'a, T> Iter<'a, T> {
     pub fn unshown(buckets: &'a Shared<T>) -> Iter<'a, T>
         ensures { result ≡ fresh buckets.now.sharing None false }
     {
-        Iter::begun(buckets, None, None)
+        Iter::begun(buckets, None, None, Told::new())
     }
 }
 
@@ -105,7 +112,15 @@ impl<'a, T: Sync> Iter<'a, T> {
     pub fn new(buckets: &'a Shared<T>) -> Iter<'a, T>
         ensures { result ≡ fresh buckets.now.sharing None true }
     {
-        Iter::begun(buckets, None, Some(Shown::new()))
+        Iter::begun(buckets, None, Some(Shown::new()), Told::new())
+    }
+
+    /// A walk over all values, from the first slot on, which gives the values of the list's tokens
+    /// for sure.
+    pub fn over(buckets: &'a Shared<T>, told: Told<T>) -> Iter<'a, T>
+        ensures { result ≡ fresh_with buckets.now.sharing None true told }
+    {
+        Iter::begun(buckets, None, Some(Shown::new()), told)
     }
 
     /// A walk over all values, for who passes the value that a token is of. The walk gives this
@@ -124,7 +139,7 @@ impl<'a, T: Sync> Iter<'a, T> {
             value,
             witness: token.witness().again(),
         };
-        Iter::begun(buckets, Some(own), Some(Shown::new()))
+        Iter::begun(buckets, Some(own), Some(Shown::new()), Told::new())
     }
 }
 

@@ -2,6 +2,8 @@
 //! holds its value from then on.
 ghost use Rattle.std.specs.Prelude.{◌≡◌, ℕ, ◌+◌, ◌*◌, ◌^◌, ◌<◌, true, List};
 ghost use Rattle.thread_local_model.specs.Bits.{is_set};
+ghost use Rattle.thread_local_model.specs.Place.{id_at};
+ghost use Rattle.thread_local_ids.specs.Tellings.{AllOf};
 ghost use Rattle.thread_local_judged.specs.Judged.{Shareable};
 ghost use Rattle.thread_local_bucket_pointers.specs.Slots.{flag_word_at};
 ghost use Rattle.thread_local_shared_buckets.specs.Shared.{BucketView, bucket_view_coded, row_owns};
@@ -12,6 +14,7 @@ use std::marker::{Brand, Model, PhantomData};
 use std::sync::atomic::Ordering::SeqCst;
 use std::sync::atomic::raw;
 use thread_local_bucket_pointers::Chunk;
+use thread_local_ids::TokenList;
 
 /// The slots of a bucket, for as long as the bucket is borrowed. A contract sees which bucket it
 /// is, and for each slot a name, under which it is known what the slot holds.
@@ -36,7 +39,7 @@ impl<'a, T> Row<'a, T> {
     ///
     /// That threads may share a value is a clause and not a bound, since a walk calls this in
     /// `next`, and a trait's method isn't given the bounds of its impl.
-    pub fn look(&self, chunk: usize, flag_word: usize) -> Seen<'a, T>
+    pub fn look(&self, chunk: usize, flag_word: usize, told: &TokenList<T>) -> Seen<'a, T>
         requires shareable { Shareable T.row }
         requires in_table { self.now.of.bucket < 63 }
         requires inside { chunk * 64 < 2 ^ self.now.of.bucket }
@@ -46,7 +49,16 @@ impl<'a, T> Row<'a, T> {
             → bit < 64
             → is_set result.flags bit ≡ true
             → chunk * 64 + bit < 2 ^ self.now.of.bucket }
+        ensures told { AllOf
+            self.now.of.sharing
+            (λ p. (bit : ℕ)
+                → bit < 64
+                → chunk * 64 + bit < 2 ^ self.now.of.bucket
+                → p.id ≡ id_at self.now.of.bucket (chunk * 64 + bit)
+                → is_set result.flags bit ≡ true)
+            told.now.tokens }
     {
+        let _ = told;
         let at = self.at;
         let first = chunk * 64;
         let values = unsafe { (at as *const T).add(first) };

@@ -1,6 +1,7 @@
 //! A table's buckets while threads share them through a `&`. By value or through a `&mut` they are
 //! an owner's `Buckets` again.
-ghost use Rattle.std.specs.Prelude.{◌≡◌, ◌≢◌, ◌+◌, ◌^◌, ◌<◌, ◌≤◌, ℕ, Option, IfSome, IsSome};
+ghost use Rattle.std.specs.Prelude.{◌≡◌, ◌≢◌, ◌+◌, ◌^◌, ◌<◌, ◌≤◌, ℕ, false, None, Option, IfSome, IsSome};
+ghost use Rattle.thread_local_ids.specs.Tellings.{NoneIn};
 ghost use Rattle.thread_local_model.specs.Learnt.{Unknown, Missing, Finds};
 ghost use Rattle.thread_local_model.specs.Owned.{IsOwned, AreOfFirstBuckets};
 ghost use Rattle.thread_local_model.specs.Place.{bucket_of, id_at};
@@ -14,7 +15,7 @@ use crate::{Claim, Row, SharedBucket, replace_with};
 use std::marker::{Move, Owns, PhantomData};
 use thread_local_bucket_pointers::BucketPointers;
 use thread_local_buckets::Buckets;
-use thread_local_ids::{Book, HeldId, Right, Token};
+use thread_local_ids::{Book, HeldId, Right, Token, TokenList};
 use thread_local_thread_id::{BUCKETS, Thread, bucket_size};
 
 mod lends;
@@ -154,23 +155,29 @@ impl<T> Shared<T> {
 
     /// The row of a bucket's slots, for as long as the buckets are borrowed, or `None` where the
     /// bucket is missing. A reserved bucket is never missing. It is one atomic load.
-    pub fn load(&self, bucket: usize) -> Option<Row<'_, T>>
+    pub fn load(&self, bucket: usize, told: &TokenList<T>) -> Option<Row<'_, T>>
         requires { bucket < 63 }
         ensures of { IfSome result (λ row. row.of ≡ bucket_view self.now bucket) }
         ensures reserved { id_at bucket 0 < self.now.reserved → IsSome result }
+        ensures told { result ≡ None → NoneIn self.now.sharing bucket told.now.tokens }
     {
-        self.bucket(bucket).load()
+        self.bucket(bucket).load(told)
     }
 
     /// Whether one of the eight buckets from `first` on stands. Each of their pointers is loaded
     /// once, so a bucket that is installed meanwhile may be missed.
     #[inline]
-    fn any_stands(&self, first: usize) -> bool
+    fn any_stands(&self, first: usize, told: &TokenList<T>) -> bool
         requires { first + 8 ≤ 63 }
+        ensures told { result ≡ false
+            → (bucket : ℕ)
+            → first ≤ bucket
+            → bucket < first + 8
+            → NoneIn self.now.sharing bucket told.now.tokens }
     {
         let mut any = false;
         for at in 0..8 {
-            any |= self.load(first + at).is_some();
+            any |= self.load(first + at, told).is_some();
         }
         any
     }
@@ -179,13 +186,17 @@ impl<T> Shared<T> {
     /// hasn't passed.
     // Out of line, it takes no register from the loop that gives values.
     #[inline(never)]
-    pub(crate) fn behind_missing(&self, first: usize) -> usize
+    pub(crate) fn behind_missing(&self, first: usize, told: &TokenList<T>) -> usize
         requires in_table { first ≤ 63 }
         ensures ahead { first ≤ result }
         ensures in_table { result ≤ 63 }
+        ensures told { (bucket : ℕ)
+            → first ≤ bucket
+            → bucket < result
+            → NoneIn self.now.sharing bucket told.now.tokens }
     {
         let mut at = first;
-        while at <= BUCKETS - 8 && !self.any_stands(at) {
+        while at <= BUCKETS - 8 && !self.any_stands(at, told) {
             at += 8;
         }
         at
@@ -234,7 +245,7 @@ impl<T> Shared<T> {
         let _ = self.reserved();
         let mut slots = 0;
         for bucket in 0..BUCKETS {
-            if self.load(bucket).is_some() {
+            if self.load(bucket, &TokenList::new()).is_some() {
                 slots += bucket_size(bucket);
             }
         }

@@ -1,6 +1,7 @@
 //! The pointer of a bucket that threads share: null while the bucket is missing, and to its block
 //! of slots once it stands.
-ghost use Rattle.std.specs.Prelude.{◌≡◌, ◌^◌, ◌<◌, true, IfSome, IsSome};
+ghost use Rattle.std.specs.Prelude.{◌≡◌, ◌^◌, ◌<◌, true, None, IfSome, IsSome};
+ghost use Rattle.thread_local_ids.specs.Tellings.{NoneIn};
 ghost use Rattle.thread_local_model.specs.Place.{id_at};
 ghost use Rattle.thread_local_judged.specs.Judged.{Judged};
 ghost use Rattle.thread_local_shared_buckets.specs.Shared.{BucketView, bucket_view_coded, bucket_owns, bucket_shares};
@@ -10,7 +11,7 @@ use std::marker::{Brand, Move, Owns, PhantomData};
 use std::sync::atomic::Ordering::SeqCst;
 use std::sync::atomic::raw::ptr;
 use thread_local_bucket_pointers::Chunk;
-use thread_local_ids::Witness;
+use thread_local_ids::{TokenList, Witness};
 
 /// A bucket that threads share: its pointer, which an owner sees as a `BucketPointer`. A contract
 /// sees its table, the sharing, its number, and whether it is reserved.
@@ -35,10 +36,12 @@ impl<T> SharedBucket<T> {
     /// bucket is missing. A reserved bucket is never missing.
     ///
     /// It is one atomic load. It never waits and takes no memory.
-    pub fn load(&self) -> Option<Row<'_, T>>
+    pub fn load(&self, told: &TokenList<T>) -> Option<Row<'_, T>>
         ensures of { IfSome result (λ row. row.of ≡ self.now) }
         ensures reserved { self.now.reserved ≡ true → IsSome result }
+        ensures told { result ≡ None → NoneIn self.now.sharing self.now.bucket told.now.tokens }
     {
+        let _ = told;
         let at = unsafe { ptr::load::<u64, Brand>(&raw const self.at as *const *mut u64, SeqCst) };
         if at.is_null() {
             None

@@ -1,15 +1,17 @@
 //! One call of a walk: it gives the value of the lowest flag at hand. Where no flag is at hand, it
 //! loads the next words of flags first, until one has a flag that is set.
-ghost use Rattle.std.specs.Prelude.{◌≡◌, ◌≢◌, ◌+◌, ◌-◌, ◌*◌, ◌/◌, ◌%◌, ◌^◌, ◌<◌, ◌≤◌, true, false, None, IfSome, MatchOption};
+ghost use Rattle.std.specs.Prelude.{◌≡◌, ℕ, option_map, ◌≢◌, ◌+◌, ◌-◌, ◌*◌, ◌/◌, ◌%◌, ◌^◌, ◌<◌, ◌≤◌, true, false, None, IfSome, MatchOption};
 ghost use Rattle.thread_local_judged.specs.Judged.{Shareable};
 ghost use Rattle.thread_local_model.specs.Bits.{IsWordBut};
-ghost use Rattle.thread_local_shared_buckets.specs.Positions.{past, lies_in, is_at, own_index, OwnIsTold, IsToldAt, MovesBehind, YieldsFrom, EndsFrom};
-ghost use Rattle.thread_local_shared_buckets.specs.AtHand.{LiesOutside, IsSetIn, IsGivenBy, IsRowOf, HasLooked, IsWalk, LooksIn, GoesOn, Reaches};
+ghost use Rattle.thread_local_ids.specs.Tellings.{AllOf, NoneIn};
+ghost use Rattle.thread_local_shared_buckets.specs.Walks.{Meets};
+ghost use Rattle.thread_local_shared_buckets.specs.Positions.{past, lies_in, is_at, own_index, OwnIsTold, IsToldAt, MovesBehind, YieldsFrom, EndsFrom, resting, Stops, IsBehind};
+ghost use Rattle.thread_local_shared_buckets.specs.AtHand.{LiesOutside, IsSetIn, IsGivenBy, IsRowOf, HasLooked, IsWalk, LooksIn, GoesOn, Reaches, FindsTokens};
 
 use crate::shared::Shared;
 use crate::{Row, Seen};
 use thread_local_bucket_pointers::{RawIter, flag_word_at, without_first};
-use thread_local_ids::Witness;
+use thread_local_ids::{TokenList, Told, Witness};
 use thread_local_thread_id::{BUCKETS, Thread, bucket_size};
 
 /// The walker's own value, the place of its id, and what shows that its slot was published with it.
@@ -102,14 +104,16 @@ fn row_of<'a, T>(
     buckets: &'a Shared<T>,
     row: Option<Row<'a, T>>,
     bucket: usize,
+    told: &TokenList<T>,
 ) -> Option<Row<'a, T>>
     requires in_table { bucket < 63 }
     requires of { IfSome row (IsRowOf buckets.now.sharing bucket) }
-    ensures { IfSome result (IsRowOf buckets.now.sharing bucket) }
+    ensures of { IfSome result (IsRowOf buckets.now.sharing bucket) }
+    ensures told { result ≡ None → NoneIn buckets.now.sharing bucket told.now.tokens }
 {
     match row {
         Some(row) => Some(row),
-        None => buckets.load(bucket),
+        None => buckets.load(bucket, told),
     }
 }
 
@@ -126,15 +130,17 @@ fn look_on<'a, T>(
     size: usize,
     own: Option<usize>,
     from: usize,
+    told: &TokenList<T>,
 ) -> (Option<Seen<'a, T>>, usize, u64)
     requires shareable { Shareable T.row }
     requires of { IfSome row.now (λ r. (r.of.bucket < 63) × (size ≡ 2 ^ r.of.bucket)) }
     requires size { size < 2 ^ 63 }
-    ensures { HasLooked row.now own from result }
+    ensures looked { HasLooked row.now own from result }
+    ensures told { FindsTokens row.now from told.now.tokens result }
 {
     if let Some(row) = row {
         for chunk in from..(size + 63) / 64 {
-            let seen = row.look(chunk, flag_word_at::<T>(size, chunk));
+            let seen = row.look(chunk, flag_word_at::<T>(size, chunk), told);
             let flags = with_own(seen.flags(), own, chunk);
             if flags != 0 {
                 return (Some(seen), chunk + 1, flags);
@@ -172,14 +178,18 @@ fn pass_slot(raw: &mut RawIter, index: usize)
 /// missing buckets, too, eight at a time: first the eight behind the first seven buckets, then the
 /// next eight. So a pointer is loaded at most once among eight, and at most once by itself.
 #[inline]
-fn move_on<T>(buckets: &Shared<T>, raw: &mut RawIter, owed: bool)
+fn move_on<T>(buckets: &Shared<T>, raw: &mut RawIter, owed: bool, told: &TokenList<T>)
     requires size { raw.old.bucket_size ≡ 2 ^ raw.old.bucket }
     requires in_table { raw.old.bucket < 63 }
-    ensures { MovesBehind raw.old owed raw.new }
+    ensures moves { MovesBehind raw.old owed raw.new }
+    ensures told { (bucket : ℕ)
+        → raw.old.bucket < bucket
+        → bucket < raw.new.bucket
+        → NoneIn buckets.now.sharing bucket told.now.tokens }
 {
     raw.next_bucket();
     if !owed && raw.bucket % 8 == 7 {
-        raw.bucket = buckets.behind_missing(raw.bucket);
+        raw.bucket = buckets.behind_missing(raw.bucket, told);
         raw.bucket_size = bucket_size(raw.bucket);
     }
 }
@@ -192,6 +202,8 @@ pub(crate) struct Walk<'a, T> {
     pub(crate) raw: RawIter,
     /// The own value, as long as it is still to be given.
     pub(crate) own: Option<Own<'a, T>>,
+    /// The tokens whose values it gives for sure.
+    pub(crate) told: Told<T>,
     /// The row of the bucket that it is in, once it has loaded the bucket's pointer and it wasn't
     /// null.
     pub(crate) row: Option<Row<'a, T>>,
@@ -206,17 +218,23 @@ pub(crate) struct Walk<'a, T> {
 
 impl<'a, T> Walk<'a, T> {
     /// A walk at the first slot, which has seen nothing.
-    pub(crate) fn new(buckets: &'a Shared<T>, own: Option<Own<'a, T>>) -> Walk<'a, T>
+    pub(crate) fn new(
+        buckets: &'a Shared<T>,
+        own: Option<Own<'a, T>>,
+        told: Told<T>,
+    ) -> Walk<'a, T>
         requires told { IfSome own (OwnIsTold buckets.now.sharing) }
         ensures walk { IsWalk result }
         ensures sharing { result.buckets.now ≡ buckets.now }
         ensures begins { result.raw ≡ record { yielded = 0; bucket = 0; bucket_size = 1; index = 0 } }
         ensures own { result.own ≡ own.entry }
+        ensures told { result.told ≡ told }
     {
         Walk {
             buckets,
             raw: RawIter::new(),
             own,
+            told,
             row: None,
             seen: None,
             chunks: 0,
@@ -233,6 +251,11 @@ impl<'a, T> Walk<'a, T> {
         ensures sharing { self.new.buckets.now ≡ self.old.buckets.now }
         ensures gives { YieldsFrom self.old.raw self.old.own result.1.now self.new.raw self.new.own }
         ensures told { IsToldAt self.old.buckets.now.sharing self.new.raw result }
+        ensures same { self.new.told ≡ self.old.told }
+        ensures stops { AllOf
+            self.old.buckets.now.sharing
+            (λ p. Stops self.old.raw self.new.raw p.id)
+            self.old.told }
     {
         let bit = self.rest.trailing_zeros() as usize;
         self.rest = without_first(self.rest);
@@ -252,9 +275,9 @@ impl<'a, T> Walk<'a, T> {
         requires in_table { self.old.raw.bucket < 63 }
         ensures { LooksIn self.old self.new }
     {
-        self.row = row_of(self.buckets, self.row.take(), self.raw.bucket);
+        self.row = row_of(self.buckets, self.row.take(), self.raw.bucket, self.told.list());
         let own = own_index(&self.own, self.raw.bucket);
-        let (seen, chunks, rest) = look_on(&self.row, self.raw.bucket_size, own, self.chunks);
+        let (seen, chunks, rest) = look_on(&self.row, self.raw.bucket_size, own, self.chunks, self.told.list());
         self.seen = seen;
         self.chunks = chunks;
         self.rest = rest;
@@ -267,10 +290,14 @@ impl<'a, T> Walk<'a, T> {
         requires passed { self.old.rest ≡ 0 }
         requires in_table { self.old.raw.bucket < 63 }
         requires elsewhere { lies_in self.old.own self.old.raw.bucket ≡ false }
+        requires behind { AllOf
+            self.old.buckets.now.sharing
+            (λ p. IsBehind self.old.raw p.id)
+            self.old.told }
         ensures { GoesOn self.old self.new }
     {
         let owed = self.own.is_some();
-        move_on(self.buckets, &mut self.raw, owed);
+        move_on(self.buckets, &mut self.raw, owed, self.told.list());
         self.row = None;
         self.chunks = 0;
     }
@@ -304,10 +331,21 @@ impl<'a, T> Walk<'a, T> {
             (EndsFrom self.old.raw self.old.own self.new.raw self.new.own)
             (λ x. YieldsFrom self.old.raw self.old.own x.1.now self.new.raw self.new.own) }
         ensures told { IfSome result (IsToldAt self.old.buckets.now.sharing self.new.raw) }
+        ensures same { self.new.told ≡ self.old.told }
+        ensures meets { AllOf
+            self.old.buckets.now.sharing
+            (Meets
+                (resting self.old.raw)
+                (option_map (λ found. found.1) result)
+                (resting self.new.raw))
+            self.old.told }
     {
         if self.rest == 0 && !self.reach() {
+            self.told.in_range();
             return None;
         }
-        Some(self.pass())
+        let found = self.pass();
+        self.told.agrees(&found.0);
+        Some(found)
     }
 }

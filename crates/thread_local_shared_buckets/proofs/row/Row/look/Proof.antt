@@ -29,13 +29,17 @@ use Rattle.std.specs.contracts.marker.PhantomData as marker
 use Rattle.std.proofs.raw_atomic.Calls.{found, finds, loads, seq_cst}
 use Rattle.std.specs.Sync.RawAtomic.{asks, always}
 use Rattle.thread_local_model.specs.Bits.{is_set, is_set_in}
+use Rattle.thread_local_model.specs.Place.{id_at}
+use Rattle.thread_local_ids.specs.Views.{TokenView}
+use Rattle.thread_local_ids.specs.Tellings.{AllOf, tell_each}
+use Rattle.thread_local_ids.specs.contracts.token_list.TokenList as TokenList
 use Rattle.thread_local_bucket_pointers.specs.Slots.{stride, each, value_words, flag_word_at, word_offset, value_offset}
 use Rattle.thread_local_bucket_pointers.proofs.Flags.{uncapped, value_near}
 use Rattle.thread_local_bucket_pointers.proofs.Slots.{IsWordNear, word_is_near}
 use Rattle.thread_local_shared_buckets.specs.Shared.{BucketView, Turn, StandingBlock, block_code, pinned_and_told, Sized}
 use Rattle.thread_local_shared_buckets.specs.Shared.{first as first_id, bucket_invariant, row_owns, if_set, WereFlags, seen_as}
 use Rattle.thread_local_shared_buckets.proofs.ChunkLooks as steps
-use Rattle.thread_local_shared_buckets.proofs.ChunkLooks.{set_inside}
+use Rattle.thread_local_shared_buckets.proofs.ChunkLooks.{set_inside, bit_set_at}
 use Rattle.thread_local_shared_buckets.proofs.SeenFields as seen
 use Rattle.thread_local_shared_buckets.proofs.SeenFields.{seen_val, seen_good}
 use Rattle.thread_local_shared_buckets.specs.contracts.seen.Seen as Seen
@@ -56,21 +60,23 @@ look_spec {M} 𝓤 𝓛 𝓜 𝓡 wired T L =
     let c = clauses T 𝓛 𝓜.mem 𝓡.returns in
     let inst = layouts (a_type ∷ []) (T, tt) in
     let fn = inst_fn inst code.function in
-    let row = plain (λ κs. Row.the_row (named_lft 3 1 tt κs) R) in
+    let row = plain (λ κs. Row.the_row (named_lft 4 1 tt κs) R) in
     let self = RefOf (0 ∷ []) tt row (λ _. tt) in
     let number = plain (λ _. usize) in
-    let goes = Goes-dropped 𝓛 3 number yes (λ κs x f. refl) in
+    let goes = Goes-dropped 𝓛 4 number yes (λ κs x f. refl) in
+    let tolds = RefOf (2 ∷ []) tt (plain (λ _. TokenList.the_row R)) (λ _. tt) in
     let hs : Stays En.signature.params En.kept =
-    (stay_dropped self yes, (stay_dropped number yes, (stay_dropped number yes, tt))) in
-    proved 𝓛 En hs c 𝓜 𝓡 (Goes-dropped 𝓛 3 self yes (λ κs x f. refl), (goes, (goes, tt)))
+    (stay_dropped self yes, (stay_dropped number yes, (stay_dropped number yes, (stay_dropped tolds yes, tt)))) in
+    proved 𝓛 En hs c 𝓜 𝓡
+    (Goes-dropped 𝓛 4 self yes (λ κs x f. refl), (goes, (goes, (Goes-dropped 𝓛 4 tolds yes (λ κs x f. refl), tt))))
     (#self inst) fn (code.unfolded 𝓤 H 𝓜 𝓡 wired (T, tt))
-    (λ κs. (shr_vals, (uint_vals w64, (uint_vals w64, tt))))
+    (λ κs. (shr_vals, (uint_vals w64, (uint_vals w64, (shr_vals, tt)))))
     (λ κs. (
-      shr_Tells (named 0) κs.0 (Row.the_row (named_lft 3 1 tt κs) R),
-      (uint_Tells w64, (uint_Tells w64, tt)),
+      shr_Tells (named 0) κs.0 (Row.the_row (named_lft 4 1 tt κs) R),
+      (uint_Tells w64, (uint_Tells w64, (shr_Tells (named 2) κs.1.1.0 (TokenList.the_row R), tt))),
     ))
     (λ κs qs bounds a gh are.
-    let ℓ = named_lft 3 1 tt κs in
+    let ℓ = named_lft 4 1 tt κs in
     let D : RattleType = FieldsType ℓ R in
     let b : ℕ = a.0.ref_ptr.0 in
     let o : ℕ = a.0.ref_ptr.1 in
@@ -83,15 +89,21 @@ look_spec {M} 𝓤 𝓛 𝓜 𝓡 wired T L =
     let c₀ : ℕ = a.1.0 in
     let k : ℕ = a.1.1.0 in
     let many : ℕ = 2 ^ d.bucket in
-    let rest : Fml = fsep (flft κs.1.1.0 qs.1.1.0) ftrue in
+    let rest : Fml = fsep (flft κs.1.1.0 qs.1.1.0) (fsep (flft κs.1.1.1.0 qs.1.1.1.0) ftrue) in
+    let ts : List (TokenView R.Denot) = a.1.1.1.0.now.tokens in
+    let pt : Val = vptr a.1.1.1.0.ref_ptr.0 a.1.1.1.0.ref_ptr.1 in
     let pb : ℕ = block_of p in
     let w : ℕ = word_offset R many (count_of p) c₀ in
     let G : RattleType = Seen.the_row ℓ R in
     let Of : G.Denot → Type 0 = λ s. (◌≡◌ {A = BucketView} s.of d) × (◌≡◌ {A = List ℕ} s.names h.names) × (s.chunk ≡ c₀) in
     let Inside : G.Denot → Type 0 = λ s.
     (bit : ℕ) → bit < 64 → is_set s.flags bit ≡ true → c₀ * 64 + bit < many in
+    let Tells : G.Denot → Type 0 = λ s.
+    AllOf d.sharing (λ p.
+    (bit : ℕ) → bit < 64 → c₀ * 64 + bit < many → p.id ≡ id_at d.bucket (c₀ * 64 + bit) → is_set s.flags bit ≡ true)
+    ts in
     let y : (walk_of 𝓛 En hs c).Ghost =
-    ((κs, qs, bounds, a, (vptr b o ∷ [], (vint w64 c₀ ∷ [], (vint w64 k ∷ [], tt)))), gh) in
+    ((κs, qs, bounds, a, (vptr b o ∷ [], (vint w64 c₀ ∷ [], (vint w64 k ∷ [], (pt ∷ [], tt))))), gh) in
     let Post : Val → SProp 𝓤 = (walk_of 𝓛 En hs c).post y in
     qed 𝓛 (((‵ (flft κ qs.0) ⊛ ‵ (flft β q) ⊛ ‵ rest)
     ⊛ ‵ (owns (types_at En.signature.params κs) a y.0.4))
@@ -100,10 +112,12 @@ look_spec {M} 𝓤 𝓛 𝓜 𝓡 wired T L =
     ∷ raw (fact 𝓤 (k ≡ flag_word_at R many c₀)) ∷ []) ∵
     keep ! (2 ∷ 3 ∷ 4 ∷ 5 ∷ 0 ∷ []) $ heard ! (Shareable R) (λ shareable. heard ! (d.bucket < 63) (λ low. heard ! (c₀ * 64 < many) (λ near.
     heard ! (k ≡ flag_word_at R many c₀) (λ numbered. split ! $ split3 ! $ move ! (3 ∷ []) $
-    fsplit3 ! $ fsplit ! $ keep ! (1 ∷ 4 ∷ 5 ∷ 6 ∷ []) $
-    enter ! 𝓣.C 𝓣.Λ fn (vptr b o ∷ vint w64 c₀ ∷ vint w64 k ∷ []) Post $ alloc_all ! (λ l.
+    fsplit3 ! $ move ! (2 ∷ []) $ fsplit3 ! $ move ! (1 ∷ []) $ fsplit ! $ move ! (4 ∷ []) $ fsplit ! $
+    keep ! (3 ∷ 1 ∷ 7 ∷ 8 ∷ 9 ∷ []) $ unhide ! $ fsplit ! $ drop ! $ move ! (1 ∷ 2 ∷ 3 ∷ 4 ∷ []) $
+    -- [the `&`; κ's token; β's; the others; what the tokens tell]
+    enter ! 𝓣.C 𝓣.Λ fn (vptr b o ∷ vint w64 c₀ ∷ vint w64 k ∷ pt ∷ []) Post $ alloc_all ! (λ l.
     pass_all ! refl
-    ((tt, tt), ((tt, record { fits = are.1.0.1 }), ((tt, record { fits = are.1.1.0.1 }), tt))) $
+    ((tt, tt), ((tt, record { fits = are.1.0.1 }), ((tt, record { fits = are.1.1.0.1 }), ((tt, tt), tt)))) $
     let Ev = env fn.locals l in
     use1 𝓛 (‵ (hidden_shr D κ (p, (record {}, tt)) b o) ⊛ ‵ (fhide (row_owns R d h.names β p)))
     (lent_out 𝓛 (Row.struct ℓ R)
@@ -127,7 +141,7 @@ look_spec {M} 𝓤 𝓛 𝓜 𝓡 wired T L =
     let chunk_fits : c₀ * 64 < 2 ^ 64 = (let few : many ≤ 2 ^ 63 = pow_mono (le_of_lt low) in omega arith) in
     let values : Ptr = block_ptr pb (value_offset R (count_of p) (c₀ * 64)) in
     let at_b : block_of sd.at ≡ pb = ap block_of so.0 in
-    let Copies : ℕ → Fml = steps.copies 𝓛 R LR shareable d t z.2 z.3 sd pb at_b c₀ near in
+    let Copies : ℕ → Fml = steps.copies 𝓛 R LR shareable d t z.2 z.3 sd pb at_b c₀ near ts in
     move ! (2 ∷ 6 ∷ []) $
     use2 𝓛 (later (some (λ (s : Share).
     ‵ (flft t.life s) ⊛ raw (wand 𝓤 (𝓛.A.lft t.life s) (H.⇛ (𝓛.A.lft β q))))))
@@ -166,14 +180,14 @@ look_spec {M} 𝓤 𝓛 𝓜 𝓡 wired T L =
     sets ! (of_opd ! (get ! refl)) refl (tt, tt) $
     first ! $ blocks ! $
     sets ! (agg ! (and_then ! (lit ! tt) (no_more !))) refl (tt, (record { fits = lit< tt }, tt)) $
-    nothing ! $ move ! (5 ∷ 0 ∷ []) $ join ! $ move ! (6 ∷ 3 ∷ 0 ∷ []) $
+    move ! (4 ∷ 8 ∷ []) $ join ! $ move ! (6 ∷ 3 ∷ 0 ∷ []) $
     let out : ℕ → Fml = λ n. fsep (flft t.life s) (Copies n) in
     use3 𝓛 (raw (𝓣.C _ (vptr pb w ∷ seq_cst ∷ []) (λ v. mean 𝓛 (found out v))))
     (via 𝓤 _ (subst (λ (u : Ptr).
-    ent 𝓤 (sep 𝓤 (𝓛.A.inv J) (sep 𝓤 (𝓛.A.lft t.life s) (sep 𝓤 (sem 𝓛 Which) (sem 𝓛 ftrue))))
+    ent 𝓤 (sep 𝓤 (𝓛.A.inv J) (sep 𝓤 (𝓛.A.lft t.life s) (sep 𝓤 (sem 𝓛 Which) (sem 𝓛 (tell_each R ts)))))
     (asks 𝓛 (block_ptr pb (word_offset R many (count_of u) c₀)) (λ n. n) always out))
     so.0
-    (steps.looks 𝓛 R LR shareable d t z.2 z.3 sd pb at_b c₀ near s))
+    (steps.looks 𝓛 R LR shareable d t z.2 z.3 sd pb at_b c₀ near ts s))
     (loads 𝓛 𝓜 𝓡 (code.calls-std::sync::atomic::raw::load 𝓡.env wired) (block_ptr pb w) out)) $
     Calls-last ! (fm 𝓛 𝓜 𝓡) (found out)
     (and_then ! (get ! refl) (and_then ! (get ! refl) (no_more !))) (λ v.
@@ -208,9 +222,12 @@ look_spec {M} 𝓤 𝓛 𝓜 𝓡 wired T L =
     fjoin ! $
     let r : G.Denot = record { values = values; flags = n; marker = record {}; of = d; names = h.names; chunk = c₀; at = p } in
     let v : Val = seen_val values n in
+    use0 𝓛 (raw (fact 𝓤 (Tells r)))
+    (fact_i 𝓤 (Tells r) (emp 𝓤) (λ name i x low same bit small inside at.
+    bit_set_at ns c₀ n bit are.0 small (are.2 (c₀ * 64 + bit) inside name i x low same (omega (arith, at))))) $
     use0 𝓛 (raw (fact 𝓤 (Inside r)))
     (fact_i 𝓤 (Inside r) (emp 𝓤) (λ bit small set. set_inside R many c₀ n bit ns are.0 are.1 small set)) $
-    use0 𝓛 (raw (fact 𝓤 (Of r))) (fact_i 𝓤 (Of r) (emp 𝓤) (refl, refl, refl)) $ join ! $
-    nothing ! $ nothing ! $ fjoin ! $ nothing ! $ fjoin ! $ nothing ! $ fjoin ! $
+    join ! $ use0 𝓛 (raw (fact 𝓤 (Of r))) (fact_i 𝓤 (Of r) (emp 𝓤) (refl, refl, refl)) $ join ! $
+    nothing ! $ nothing ! $ fjoin ! $ nothing ! $ fjoin ! $ nothing ! $ fjoin ! $ nothing ! $ fjoin ! $
     returns ! (look_at ! 0 refl) $ free_all ! refl $ keep ! (3 ∷ 0 ∷ 2 ∷ 1 ∷ []) $
-    by ! (leaves 𝓛 En hs c y v r (tt, (tt, (tt, tt))) (tt, (tt, (tt, tt))))))))))))))))))))
+    by ! (leaves 𝓛 En hs c y v r (tt, (tt, (tt, (tt, tt)))) (tt, (tt, (tt, (tt, tt)))))))))))))))))))))

@@ -1,6 +1,10 @@
-use Rattle.std.proofs.Common.{arith}
+use Rattle.std.proofs.Common.{arith, ap, sym, subst, ◌∙◌}
 use Rattle.std.specs.Int.{w64, trailing_zeros}
 use Rattle.thread_local_shared_buckets.proofs.PassLaws.{near, lowest_of, set_lowest, Passed, passed_by}
+use Rattle.thread_local_ids.specs.Tellings.{AllOf}
+use Rattle.thread_local_bucket_pointers.specs.declared.cursor.RawIter.{RawIter}
+use Rattle.thread_local_shared_buckets.specs.Positions.{past, Stops}
+use Rattle.thread_local_shared_buckets.proofs.TellingLaws.{stops}
 use Rattle.thread_local_shared_buckets.proofs.steps.Walk.pass.Goals as goal
 
 pub slot_at-index-requires-clause-some : goal.slot_at-index-requires-clause-some
@@ -38,3 +42,10 @@ returns-clause-gives g c = (it_passes g c).gives
 
 pub returns-clause-told : goal.returns-clause-told
 returns-clause-told g c = (it_passes g c).told
+
+pub returns-clause-stops : goal.returns-clause-stops
+returns-clause-stops g c =
+    let w = c.args.self.now in
+    subst (λ (r : RawIter). AllOf w.buckets.now.sharing (λ p. Stops w.raw r p.id) w.told)
+    (sym (c.pass_slot.ensures ∙ ap (past w.raw) c.slot_at-index.ensures))
+    (stops w (trailing_zeros w64 w.rest) c.requires.walk (lowest_of w (omega arith) c.requires.some))

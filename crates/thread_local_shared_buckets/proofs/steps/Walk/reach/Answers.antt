@@ -2,6 +2,12 @@ use Rattle.std.proofs.Common.{◌≡◌, refl, ap, ◌∙◌, subst, arith}
 use Rattle.thread_local_bucket_pointers.specs.declared.cursor.RawIter.{RawIter}
 use Rattle.thread_local_shared_buckets.specs.Positions.{resting}
 use Rattle.thread_local_shared_buckets.specs.Steps.{Leads}
+use Rattle.std.proofs.Common.{sym, Option, List}
+use Rattle.thread_local_ids.specs.Views.{TokenView}
+use Rattle.thread_local_ids.specs.Tellings.{AllOf}
+use Rattle.thread_local_shared_buckets.specs.TableView.{TableView}
+use Rattle.thread_local_shared_buckets.specs.Positions.{Skips}
+use Rattle.thread_local_shared_buckets.proofs.TellingLaws.{moved, skips_nowhere, skips_then}
 use Rattle.thread_local_shared_buckets.proofs.StepLaws.{leads_nowhere, leads_then}
 use Rattle.thread_local_shared_buckets.proofs.steps.Walk.reach.Goals as goal
 
@@ -12,6 +18,8 @@ loop-self-init g c = record {
   buckets = refl;
   own = refl;
   leads = leads_nowhere (resting c.args.self.now.raw);
+  told = refl;
+  skips = skips_nowhere c.args.self.now.buckets.now.sharing c.args.self.now.told c.args.self.now.raw;
 }
 
 pub go_on-requires-clause-elsewhere : goal.go_on-requires-clause-elsewhere
@@ -29,6 +37,11 @@ returns-then-self-ne0 g c =
           leads_then (resting c.args.self.now.raw) (resting c.loop-self.self.raw) (resting c.look_in.new.self.raw) kept.leads
           (subst (λ (r : RawIter). Leads (resting r) (resting c.look_in.new.self.raw)) look.raw
           (leads_nowhere (resting c.look_in.new.self.raw)));
+      told = look.told ∙ kept.told;
+      skips =
+          subst (λ (r : RawIter).
+          AllOf c.args.self.now.buckets.now.sharing (λ p. Skips c.args.self.now.raw r p.id) c.args.self.now.told)
+          (sym look.raw) kept.skips;
       by = omega (arith, c.if-self-ne0.true);
     }
 
@@ -46,6 +59,19 @@ loop-self-preserved g c =
           leads_then (resting c.args.self.now.raw) (resting c.loop-self.self.raw)
           (resting c.go_on.new.self.raw) kept.leads
           (subst (λ (r : RawIter). Leads (resting r) (resting c.go_on.new.self.raw)) look.raw on.leads);
+      told = on.told ∙ look.told ∙ kept.told;
+      skips =
+          skips_then c.args.self.now.buckets.now.sharing c.args.self.now.told c.args.self.now.raw c.loop-self.self.raw
+          c.go_on.new.self.raw kept.skips
+          (subst (λ (r : RawIter).
+          AllOf c.args.self.now.buckets.now.sharing (λ p. Skips r c.go_on.new.self.raw p.id) c.args.self.now.told)
+          look.raw
+          (moved c.look_in.new.self.buckets.now.sharing c.args.self.now.buckets.now.sharing
+          c.look_in.new.self.told c.args.self.now.told
+          (λ p. Skips c.look_in.new.self.raw c.go_on.new.self.raw p.id)
+          (ap (λ (t : TableView). t.sharing) (look.buckets ∙ kept.buckets))
+          (look.told ∙ kept.told)
+          on.skips));
     }
 
 pub loop-self-smaller : goal.loop-self-smaller
@@ -62,5 +88,10 @@ returns g c =
       buckets = kept.buckets;
       own = kept.own;
       leads = kept.leads;
+      told = kept.told;
+      skips = kept.skips;
       by = omega (arith, c.loop-self-test.false);
     }
+
+pub go_on-requires-clause-behind : goal.go_on-requires-clause-behind
+go_on-requires-clause-behind g c = c.look_in.ensures.behind c.if-self-ne0.false

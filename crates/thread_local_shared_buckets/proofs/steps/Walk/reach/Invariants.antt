@@ -1,6 +1,7 @@
 -- No flag is at hand. Each turn leaves a bucket behind.
 use Rattle.std.proofs.Common.{◌≡◌, ◌-◌}
-use Rattle.thread_local_shared_buckets.specs.Positions.{resting}
+use Rattle.thread_local_ids.specs.Tellings.{AllOf}
+use Rattle.thread_local_shared_buckets.specs.Positions.{resting, Skips}
 use Rattle.thread_local_shared_buckets.specs.AtHand.{IsWalk}
 use Rattle.thread_local_shared_buckets.specs.Steps.{Leads}
 use Rattle.thread_local_shared_buckets.proofs.steps.Walk.reach.Given as goal
@@ -12,6 +13,8 @@ invariant-loop-self g l = record {
   buckets : l.self.buckets.now ≡ l.initial.self.buckets.now;
   own : l.self.own ≡ l.initial.self.own;
   leads : Leads (resting l.initial.self.raw) (resting l.self.raw);
+  told : l.self.told ≡ l.initial.self.told;
+  skips : AllOf l.initial.self.buckets.now.sharing (λ p. Skips l.initial.self.raw l.self.raw p.id) l.initial.self.told;
 }
 
 abbrev pub decreases-loop-self : goal.decreases-loop-self
