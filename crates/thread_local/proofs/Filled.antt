@@ -15,7 +15,7 @@ filled_at E makes view (Some v) is holds =
       fills = record {
         says = record { answered = rw is refl; leaves = rw is refl };
         made = λ none. cc;
-        same = record { table = refl; sharing = refl; id = refl; reserved = refl };
+        same = record { table = refl; sharing = refl; id = refl; reserved = refl; before = refl };
       };
     }
 
@@ -46,7 +46,7 @@ filled_empty {V} E makes old new value none left made =
       fills = record {
         says = record { answered = rw none refl; leaves = rw none refl };
         made = λ _. made;
-        same = record { table = refl; sharing = refl; id = refl; reserved = refl };
+        same = record { table = refl; sharing = refl; id = refl; reserved = refl; before = refl };
       };
     })
 
@@ -58,7 +58,7 @@ fails_empty {V} {E} makes old new made error same none left holds =
     let fails : Fails makes old (knowing old vacant) made = record {
       says = record { answered = rw none refl; leaves = rw none refl };
       made = holds;
-      same = record { table = refl; sharing = refl; id = refl; reserved = refl };
+      same = record { table = refl; sharing = refl; id = refl; reserved = refl; before = refl };
     } in
     subst (λ (e : E). Fails makes old new e) same
     (subst (λ (view : LocalView V). Fails makes old view made) (sym left) fails)

@@ -7,6 +7,8 @@ use Rattle.thread_local_model.proofs.PlaceLaws.{id_at-place}
 use Rattle.thread_local_shared_buckets.specs.Known.{HasLooked}
 use Rattle.thread_local_shared_buckets.specs.Views.{ClaimView}
 use Rattle.thread_local_shared_buckets.specs.TableView.{TableView}
+use Rattle.thread_local_ids.specs.Rights.{taken_id}
+use Rattle.thread_local_ids.specs.declared.page.Stay.{Stay}
 use Rattle.thread_local.specs.Seats.{IsSeated}
 
 -- where an id is below a number, so is the first id of its bucket
@@ -14,15 +16,18 @@ first_below : (id n : ℕ) → id < n → id_at (bucket_of id) 0 < n
 first_below id n below = let same = id_at-place id in omega arith
 
 -- a held id and the claim that its table answers make a seat
-pub seated : {V : Type 0} (table : TableView) (claim : ClaimView V) (id : ℕ)
+pub seated : {V : Type 0} (table : TableView) (claim : ClaimView V) (stay : Stay) (id : ℕ)
     → claim.table ≡ table.table → claim.sharing ≡ table.sharing → claim.id ≡ id → id < 2 ^ 63 - 1
     → HasLooked claim.learnt
-    → (id_at (bucket_of id) 0 < table.reserved → claim.learnt ≢ Missing) → IsSeated table claim
-seated table claim id of shared same in_range known found =
+    → (id_at (bucket_of id) 0 < table.reserved → claim.learnt ≢ Missing)
+    → stay.table ≡ table.table → id ≡ taken_id stay.before → IsSeated table claim stay
+seated table claim stay id of shared same in_range known found of_table low =
     record {
       table = of;
       sharing = shared;
       in_range = subst (λ n. n < 2 ^ 63 - 1) (sym same) in_range;
       known = known;
       reserved = λ below. found (first_below id table.reserved (subst (λ n. n < table.reserved) same below));
+      of_table = of_table;
+      least = rw same low;
     }

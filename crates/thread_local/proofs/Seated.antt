@@ -5,16 +5,18 @@ use Rattle.thread_local_model.specs.Answers.{view_of}
 use Rattle.thread_local_shared_buckets.specs.Views.{ClaimView}
 use Rattle.thread_local_shared_buckets.specs.TableView.{TableView}
 use Rattle.thread_local.specs.Seats.{LocalView, local_view, knowing}
+use Rattle.std.specs.Prelude.{List}
+use Rattle.thread_local_ids.specs.Moves.{IdMove}
 
-module _ {V : Type 0} (of : TableView) (old new : ClaimView V) (same : new.id ≡ old.id) where
+module _ {V : Type 0} (of : TableView) (old new : ClaimView V) (before : List IdMove) (same : new.id ≡ old.id) where
   -- a claim of the same slot, which may have learnt something else
-  pub with_learnt : (learnt : Learnt V) → new.learnt ≡ learnt → local_view of new ≡ local_view of (record old { learnt = learnt })
+  pub with_learnt : (learnt : Learnt V) → new.learnt ≡ learnt → local_view of new before ≡ local_view of (record old { learnt = learnt }) before
   with_learnt learnt is =
-      let by_id : ℕ → LocalView V = λ id. local_view of (record new { id = id }) in
-      let by_learnt : Learnt V → LocalView V = λ k. local_view of (record old { learnt = k }) in
+      let by_id : ℕ → LocalView V = λ id. local_view of (record new { id = id }) before in
+      let by_learnt : Learnt V → LocalView V = λ k. local_view of (record old { learnt = k }) before in
       ap by_id same ∙ ap by_learnt is
 
   -- the seat knows what the claim has learnt
-  pub now_knowing : (now : LocalView V) → local_view of old ≡ now → (learnt : Learnt V) → new.learnt ≡ learnt
-      → local_view of new ≡ knowing now (view_of learnt)
+  pub now_knowing : (now : LocalView V) → local_view of old before ≡ now → (learnt : Learnt V) → new.learnt ≡ learnt
+      → local_view of new before ≡ knowing now (view_of learnt)
   now_knowing now seen learnt is = with_learnt learnt is ∙ ap (λ (view : LocalView V). knowing view (view_of learnt)) seen

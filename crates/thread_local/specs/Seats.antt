@@ -1,12 +1,15 @@
 -- What a contract sees of a `Local` and of its seat: the name of its table, the sharing if that has a
 -- name, its id, how many slots of the table are reserved, and what is known of the id's slot.
-use Rattle.std.specs.Prelude.{◌≡◌, ◌≢◌, ℕ, ◌<◌, ◌-◌, ◌^◌, Bool, true, false, Option, Some, None, option_map, Result, Ok}
+use Rattle.std.specs.Prelude.{◌≡◌, ◌≢◌, ℕ, ◌<◌, ◌-◌, ◌^◌, Bool, true, false, Option, Some, None, option_map, List, Result, Ok}
 use Rattle.std.specs.Prelude.{Err, refl}
 use base.Stored.{coded_bool}
 use Rattle.std.specs.Coded.{Coded, coded_option, coded_ℕ, coded×, code_by}
 use Rattle.thread_local_model.specs.Answers.{View, GetOr, Answered, Refused, Failed, Says, answer, view_of}
 use Rattle.thread_local_model.specs.Learnt.{Missing}
 use Rattle.thread_local_ids.specs.Views.{TokenView}
+use Rattle.thread_local_ids.specs.Moves.{IdMove, moves_coded}
+use Rattle.thread_local_ids.specs.declared.page.Stay.{Stay}
+use Rattle.thread_local_ids.specs.Rights.{taken_id}
 use Rattle.thread_local_shared_buckets.specs.Known.{HasLooked}
 use Rattle.thread_local_shared_buckets.specs.Views.{ClaimView}
 use Rattle.thread_local_shared_buckets.specs.TableView.{TableView}
@@ -21,21 +24,23 @@ pub record LocalView (V : Type 0) : Type 0 where
   pub reserved : ℕ
   pub value : Option V
   pub known : Bool
+  pub before : List IdMove
 
 -- an injective code of such views, for ghost state
 abbrev pub local_view_coded : {V : Type 0} → Coded V → Coded (LocalView V)
 local_view_coded {V} c =
-    code_by (ℕ × (Option ℕ × (ℕ × (ℕ × (Option V × Bool)))))
+    code_by (ℕ × (Option ℕ × (ℕ × (ℕ × (Option V × (Bool × List IdMove))))))
     (coded× coded_ℕ (coded× (coded_option coded_ℕ)
-    (coded× coded_ℕ (coded× coded_ℕ (coded× (coded_option c) coded_bool)))))
-    (λ s. (s.table, (s.sharing, (s.id, (s.reserved, (s.value, s.known))))))
+    (coded× coded_ℕ (coded× coded_ℕ (coded× (coded_option c) (coded× coded_bool moves_coded))))))
+    (λ s. (s.table, (s.sharing, (s.id, (s.reserved, (s.value, (s.known, s.before)))))))
     (λ p. record {
       table = p.0;
       sharing = p.1.0;
       id = p.1.1.0;
       reserved = p.1.1.1.0;
       value = p.1.1.1.1.0;
-      known = p.1.1.1.1.1;
+      known = p.1.1.1.1.1.0;
+      before = p.1.1.1.1.1.1;
     })
     (λ _. refl)
 
@@ -45,11 +50,11 @@ knows s = record { value = s.value; known = s.known }
 
 -- the same `Local`, with this known of its slot
 abbrev pub knowing : {V : Type 0} → LocalView V → View V → LocalView V
-knowing s view = record { table = s.table; sharing = s.sharing; id = s.id; reserved = s.reserved; value = view.value; known = view.known }
+knowing s view = record { table = s.table; sharing = s.sharing; id = s.id; reserved = s.reserved; value = view.value; known = view.known; before = s.before }
 
 -- the view of a claim of a table's slot
-abbrev pub local_view : {V : Type 0} → TableView → ClaimView V → LocalView V
-local_view of claim =
+abbrev pub local_view : {V : Type 0} → TableView → ClaimView V → List IdMove → LocalView V
+local_view of claim before =
     record {
       table = of.table;
       sharing = of.sharing;
@@ -57,6 +62,7 @@ local_view of claim =
       reserved = of.reserved;
       value = (view_of claim.learnt).value;
       known = (view_of claim.learnt).known;
+      before = before;
     }
 
 -- the own value that a walk has still to give, with its id
@@ -73,15 +79,18 @@ pub record IsSameLocal {V : Type 0} (old new : LocalView V) : Type 0 where
   pub sharing : new.sharing ≡ old.sharing
   pub id : new.id ≡ old.id
   pub reserved : new.reserved ≡ old.reserved
+  pub before : new.before ≡ old.before
 
 -- a seat of a table: its claim is of this table in this sharing, has looked for its bucket, and has
--- found it where the id is reserved
-pub record IsSeated {V : Type 0} (of : TableView) (claim : ClaimView V) : Type 0 where
+-- found it where the id is reserved. What is kept of the take is of this table and of this id
+pub record IsSeated {V : Type 0} (of : TableView) (claim : ClaimView V) (stay : Stay) : Type 0 where
   pub table : claim.table ≡ of.table
   pub sharing : claim.sharing ≡ of.sharing
   pub in_range : claim.id < 2 ^ 63 - 1
   pub known : HasLooked claim.learnt
   pub reserved : claim.id < of.reserved → claim.learnt ≢ Missing
+  pub of_table : stay.table ≡ of.table
+  pub least : claim.id ≡ taken_id stay.before
 
 -- what is known of a slot that is empty and whose bucket stands
 abbrev pub vacant : {V : Type 0} → View V

@@ -3,6 +3,10 @@ ghost use Rattle.std.specs.Prelude.{◌≡◌, ◌≢◌, ◌-◌, ◌^◌, ◌<
 ghost use Rattle.std.specs.Prelude.{OnOk, IfOk, IfErr, IsOk, IsSome, Some, option_map, alloc_error, Result};
 ghost use Rattle.thread_local_model.specs.Answers.{Get, GetOr, Found, Refused, Failed, answer};
 ghost use Rattle.thread_local_model.specs.Cursor.{fresh_cursor};
+ghost use Rattle.thread_local_ids.specs.Moves.{Take, Give, held_after, noted};
+ghost use Rattle.thread_local_model.specs.Held.{is_held};
+ghost use mathlib.Core.List.{IsPrefix};
+ghost use mathlib.Core.Logic.{◌∨₁◌};
 ghost use Rattle.thread_local.specs.Errors.{IfCreate};
 ghost use Rattle.thread_local.specs.Seats.{knows, knowing, holding, own_of, token_of, IsAnswered, IsFilled, Fails, IsRefused};
 
@@ -10,7 +14,7 @@ pub use crate::seat::{Seat, SetError, TryError};
 use std::fmt;
 use std::marker::Model;
 use std::sync::Wait;
-use thread_local_ids::Token;
+use thread_local_ids::{Page, Token};
 use thread_local_shared_buckets::{Iter, Tokens};
 
 // `get_or` and `get_or_default` stand in local/lends.rt.
@@ -117,6 +121,42 @@ impl<'a, T, R: Wait> Local<'a, T, R> {
         ensures same { (self.new ≡ self.old) × (other.new ≡ other.old) }
     {
         self.seat.apart(&mut other.seat)
+    }
+
+    /// The page of the table's ids that ends with the take of this id. At run time it does nothing.
+    pub fn page(&self) -> Page
+        ensures { (result.table ≡ self.now.table) × (result.before ≡ self.now.before) × (result.last ≡ Take) }
+    {
+        self.seat.page()
+    }
+
+    /// Shows that of two `Local`s of one table one was taken before the other. At run time it does
+    /// nothing.
+    pub fn in_line<S: Wait>(&self, other: &Local<'_, T, S>)
+        requires { self.now.table ≡ other.now.table }
+        ensures { IsPrefix (noted self.now.before Take) (noted other.now.before Take)
+            ∨₁ IsPrefix (noted other.now.before Take) (noted self.now.before Take) }
+    {
+        self.page().in_line(&other.page());
+    }
+
+    /// Shows that the id is held after all moves of a later page. At run time it does nothing.
+    pub fn held_at(&mut self, page: Page)
+        requires table { page.table ≡ self.old.table }
+        requires later { IsPrefix (noted self.old.before Take) (noted page.before page.last) }
+        ensures held { is_held (held_after (noted page.before page.last)) self.old.id ≡ true }
+        ensures same { self.new ≡ self.old }
+    {
+        self.seat.held_at(page);
+    }
+
+    /// What the drop does, which answers the page that ends with the return of this id.
+    pub fn give_back(self) -> Page
+        ensures page { (result.table ≡ self.entry.table) × (result.last ≡ Give self.entry.id) }
+        ensures early { IsPrefix (noted self.entry.before Take) result.before }
+    {
+        let Self { rt, seat } = self;
+        seat.give_back(rt)
     }
 
     /// Whether the slot is one of the table's reserved slots. If so, the `get_or` family is never

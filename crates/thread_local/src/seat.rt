@@ -6,6 +6,10 @@ ghost use Rattle.thread_local_model.specs.Learnt.{Missing, Vacant};
 ghost use Rattle.thread_local_model.specs.Place.{IsPlaceOf};
 ghost use Rattle.thread_local_model.specs.Answers.{Get, GetOr, Found, Refused, Failed, answer};
 ghost use Rattle.thread_local_model.specs.Cursor.{fresh_cursor};
+ghost use Rattle.thread_local_model.specs.Held.{least, is_held};
+ghost use Rattle.thread_local_ids.specs.Rights.{taken_id};
+ghost use Rattle.thread_local_ids.specs.Moves.{Take, Give, held_after, noted};
+ghost use mathlib.Core.List.{IsPrefix};
 ghost use Rattle.thread_local.specs.Errors.{IfCreate};
 ghost use Rattle.thread_local.specs.Seats.{knows, knowing, own_of, token_of, vacant, holding, IsAnswered, IsFilled, Fails, IsRefused};
 
@@ -16,7 +20,7 @@ use std::fmt;
 use std::marker::Model;
 use std::sync::Wait;
 use thread_local_bucket_pointers::Block;
-use thread_local_ids::{HeldId, Right, Token};
+use thread_local_ids::{HeldId, Page, Right, Stay, Token};
 use thread_local_shared_buckets::{Claim, Iter};
 use thread_local_thread_id::Thread;
 
@@ -52,6 +56,7 @@ pub enum SetError<T> {
 pub struct Seat<'a, T> {
     table: &'a ThreadLocal<T>,
     claim: Claim<'a, T>,
+    stay: Stay,
 }
 
 impl<'a, T> Model for Seat<'a, T> {
@@ -61,9 +66,9 @@ impl<'a, T> Model for Seat<'a, T> {
 
     ghost coded = { local_view_coded T.code };
 
-    ghost view = { λ s. local_view s.table.now s.claim };
+    ghost view = { λ s. local_view s.table.now s.claim s.stay.before };
 
-    ghost invariant = { λ s. IsSeated s.table.now s.claim };
+    ghost invariant = { λ s. IsSeated s.table.now s.claim s.stay };
 }
 
 /// Finds or makes the bucket of a claim that found none: the claim looks again, and installs one
@@ -93,17 +98,23 @@ fn make_bucket<T>(
 
 impl<'a, T> Seat<'a, T> {
     /// A seat for a held id of this table.
-    pub(crate) fn new(table: &'a ThreadLocal<T>, held: HeldId, right: Right) -> Seat<'a, T>
-        requires table { (right.table ≡ table.now.table) × (held.mark.table ≡ table.now.table) }
-        requires id { right.id ≡ held.id }
+    pub(crate) fn new(
+        table: &'a ThreadLocal<T>,
+        held: HeldId,
+        right: Right,
+        stay: Stay,
+    ) -> Seat<'a, T>
+        requires table { (right.table ≡ table.now.table) × (held.mark.table ≡ table.now.table) × (stay.table ≡ table.now.table) }
+        requires id { (right.id ≡ held.id) × (held.id ≡ taken_id stay.before) }
         ensures table { (result.table ≡ table.now.table)
             × (result.sharing ≡ table.now.sharing)
             × (result.reserved ≡ table.now.reserved) }
-        ensures id { result.id ≡ held.id }
+        ensures id { (result.id ≡ held.id) × (result.before ≡ stay.before) }
     {
         Seat {
             table,
             claim: table.buckets.claim(held, right),
+            stay,
         }
     }
 
@@ -349,11 +360,32 @@ impl<'a, T> Seat<'a, T> {
         self.claim.apart(&mut other.claim)
     }
 
-    /// Gives the id back to the table that it is of. May wait, and takes no memory.
-    pub(crate) fn give_back<R: Wait>(self, rt: &R) {
-        let Self { table, claim } = self;
+    /// The page of the table's ids that ends with the take of this id.
+    pub fn page(&self) -> Page
+        ensures { (result.table ≡ self.now.table) × (result.before ≡ self.now.before) × (result.last ≡ Take) }
+    {
+        self.stay.page()
+    }
+
+    /// Shows that the id is held after all moves of a later page. At run time it does nothing.
+    pub fn held_at(&mut self, page: Page)
+        requires table { page.table ≡ self.old.table }
+        requires later { IsPrefix (noted self.old.before Take) (noted page.before page.last) }
+        ensures held { is_held (held_after (noted page.before page.last)) self.old.id ≡ true }
+        ensures same { self.new ≡ self.old }
+    {
+        self.stay.held_at(page);
+    }
+
+    /// Gives the id back to the table that it is of, and answers the page that ends with it. May
+    /// wait, and takes no memory.
+    pub(crate) fn give_back<R: Wait>(self, rt: &R) -> Page
+        ensures page { (result.table ≡ self.entry.table) × (result.last ≡ Give self.entry.id) }
+        ensures early { IsPrefix (noted self.entry.before Take) result.before }
+    {
+        let Self { table, claim, stay } = self;
         let (held, right) = claim.give_up();
-        table.ids.lock(rt).give(held, right);
+        table.ids.lock(rt).give(held, right, stay)
     }
 }
 

@@ -6,6 +6,9 @@ ghost use Rattle.std.specs.List.Sorted.{IsStrictlyIncreasing};
 ghost use Rattle.thread_local_model.specs.Capacity.{reserved_slots};
 ghost use Rattle.thread_local_buckets.specs.IterMut.{iter_mut_given, entries_mut_given, entries_mut_rest};
 ghost use Rattle.thread_local_judged.specs.Judged.{Judged};
+ghost use Rattle.thread_local_model.specs.Held.{least};
+ghost use Rattle.thread_local_ids.specs.Moves.{Take, Give, held_after, noted};
+ghost use mathlib.Core.List.{IsPrefix};
 ghost use Rattle.thread_local_shared_buckets.specs.Walks.{fresh, fresh_with};
 
 use crate::local::Local;
@@ -17,7 +20,7 @@ use std::mem::replace;
 use std::sync::Wait;
 pub use thread_local_buckets::CapacityError;
 use thread_local_buckets::{Buckets, EntriesMut, IntoEntries, IntoIter, IterMut};
-use thread_local_ids::{Ids, Lock, Right};
+use thread_local_ids::{Ids, Lock, Page, Right};
 pub use thread_local_ids::{Book, Told, Token};
 pub use thread_local_judged::{Judge, judge_sync, judge_value};
 use thread_local_model::walk::walk_lists_the_map;
@@ -158,9 +161,29 @@ impl<T> ThreadLocal<T> {
             × (local.sharing ≡ self.now.sharing)
             × (local.reserved ≡ self.now.reserved)) }
         ensures in_range { IfOk result (λ local. local.id < 2 ^ 63 - 1) }
+        ensures least { IfOk result (λ local. local.id ≡ least (held_after local.before)) }
     {
-        let (held, right) = self.ids.lock(rt).take()?;
-        Ok(Local::new(rt, Seat::new(self, held, right)))
+        let (held, right, stay) = self.ids.lock(rt).take()?;
+        Ok(Local::new(rt, Seat::new(self, held, right, stay)))
+    }
+
+    /// `local`, which shows that the table's ids were taken and given back since an earlier page.
+    #[inline(always)]
+    pub fn local_after<'a, R: Wait>(
+        &'a self,
+        rt: &'a R,
+        earlier: &Page,
+    ) -> Result<Local<'a, T, R>, LocalError>
+        requires { earlier.now.table ≡ self.now.table }
+        ensures table { IfOk result (λ local.
+            (local.table ≡ self.now.table)
+            × (local.sharing ≡ self.now.sharing)
+            × (local.reserved ≡ self.now.reserved)) }
+        ensures least { IfOk result (λ local. local.id ≡ least (held_after local.before)) }
+        ensures early { IfOk result (λ local. IsPrefix (noted earlier.now.before earlier.now.last) local.before) }
+    {
+        let (held, right, stay) = self.ids.lock(rt).take_after(earlier)?;
+        Ok(Local::new(rt, Seat::new(self, held, right, stay)))
     }
 
     /// How many slots the table's buckets have together.

@@ -11,15 +11,16 @@ use mathlib.Mathlib.Data.Part.{Part, ◌∈◌}
 use seplogic.Ra.Pcs.{OpDef}
 use seplogic.Ra.Ura.{Ura}
 use seplogic.Ra.Constructions.Opt
-use seplogic.Ra.Instances.Excl
+use base.Fraction.{full_share}
+use base.FractionLaws.{not-OpDef-full_share}
 use seplogic.Ra.IProd.{mem-op_iff}
 use base.Logic.{SProp, ent, sep, ex, guard, emp, upd, via, guard_i}
 use base.Fml.{GName, Fml}
 use base.Shift.{Keyless}
 use types.Logic.{Logic, sem}
-use types.Keyed.{keyed, token}
+use types.Keyed.{keyed}
 use types.Owned.{own_new, own_sum, own_glued, own_join}
-use Rattle.thread_local_ids.specs.Rights.{is_out, less, element_if, right_owns, rights_own}
+use Rattle.thread_local_ids.specs.Rights.{is_out, less, telling, Element, element_if, right_owns, rights_own}
 
 -- what is out once an id's right is put back
 pub is_out-less : (out : List ℕ) (id j : ℕ) → is_out (less out id) j ≡ (if id == j then false else is_out out j)
@@ -29,14 +30,20 @@ is_out-less (x ∷ out) id j =
     is_out-less out id j in
     grind (arith, common_steps, nat_tests)
 
+abbrev whole : Element
+whole = (some full_share, [])
+
+no_two : OpDef telling.op whole whole → ⊥
+no_two d = not-OpDef-full_share full_share d.1.0.0
+
 abbrev Row : Type 0
-Row = ℕ → Option (Unit {0})
+Row = ℕ → Option Element
 
-abbrev at_key : Option (Unit {0}) → Option (Unit {0}) → Part {0, 0} (Option (Unit {0}))
-at_key = Opt.op token.op
+abbrev at_key : Option Element → Option Element → Part {0, 0} (Option Element)
+at_key = Opt.op telling.op
 
-at_each_key : (f g h : Row) → ((j : ℕ) → h j ∈ at_key (f j) (g j)) → h ∈ (keyed token).op f g
-at_each_key f g h = (mem-op_iff {A = λ (_ : ℕ). Option (Unit {0})} (λ _. at_key) {f = f} {g = g} {h = h}).1
+at_each_key : (f g h : Row) → ((j : ℕ) → h j ∈ at_key (f j) (g j)) → h ∈ (keyed telling).op f g
+at_each_key f g h = (mem-op_iff {A = λ (_ : ℕ). Option Element} (λ _. at_key) {f = f} {g = g} {h = h}).1
 
 abbrev one_at : ℕ → Row
 one_at id j = element_if (id == j)
@@ -47,28 +54,28 @@ all_but out j = element_if (not (is_out out j))
 cut_at : (is gone : Bool) → (is ≡ true → gone ≡ false)
     → element_if (not gone) ∈ at_key (element_if is) (element_if (not (if is then true else gone)))
 cut_at true true none_gone = let no : true ≡ false = none_gone refl in cc
-cut_at true false none_gone = Opt.mem-op-none token.op (some tt)
-cut_at false gone none_gone = Opt.mem-none-op token.op (element_if (not gone))
+cut_at true false none_gone = Opt.mem-op-none telling.op (some whole)
+cut_at false gone none_gone = Opt.mem-none-op telling.op (element_if (not gone))
 
 joined_at : (is gone : Bool) → (is ≡ true → gone ≡ true)
     → element_if (not (if is then false else gone)) ∈ at_key (element_if is) (element_if (not gone))
-joined_at true true all_gone = Opt.mem-op-none token.op (some tt)
+joined_at true true all_gone = Opt.mem-op-none telling.op (some whole)
 joined_at true false all_gone = let no : false ≡ true = all_gone refl in cc
-joined_at false gone all_gone = Opt.mem-none-op token.op (element_if (not gone))
+joined_at false gone all_gone = Opt.mem-none-op telling.op (element_if (not gone))
 
 clash : (is gone : Bool) → is ≡ true → gone ≡ false → OpDef at_key (element_if is) (element_if (not gone)) → ⊥
 clash true true e f d = cc
-clash true false e f d = Excl.not-OpDef tt tt d
+clash true false e f d = no_two d
 clash false gone e f d = cc
 
 twice : (is : Bool) → is ≡ true → OpDef at_key (element_if is) (element_if is) → ⊥
-twice true e d = Excl.not-OpDef tt tt d
+twice true e d = no_two d
 twice false e d = cc
 
 both_in : (gone here : Bool) → gone ≡ false → here ≡ false → OpDef at_key (element_if (not gone)) (element_if (not here)) → ⊥
 both_in true here e f d = cc
 both_in false true e f d = cc
-both_in false false e f d = Excl.not-OpDef tt tt d
+both_in false false e f d = no_two d
 
 -- a number greater than every id that is out
 above : List ℕ → ℕ
@@ -102,13 +109,13 @@ module _ {M : Type 1} {𝓤 : Ura M} (𝓛 : Logic 𝓤) where
   -- all rights of a new table, under a fresh name
   pub rights_new : emp 𝓤 ⊢ upd 𝓤 (ex 𝓤 (λ (γ : GName). ⟦ rights_own γ [] ⟧))
   unfolding rights_own
-  rights_new = own_new 𝓛 (keyed token) (all_but [])
+  rights_new = own_new 𝓛 (keyed telling) (all_but [])
 
   -- an id's right is taken out
   pub rights_cut : (γ : GName) (out : List ℕ) (id : ℕ) → is_out out id ≡ false
       → ⟦ rights_own γ out ⟧ ⊢ ⟦ right_owns γ id ⟧ ∗ ⟦ rights_own γ (id ∷ out) ⟧
   unfolding right_owns rights_own
-  rights_cut γ out id free = 𝓛.algebras.own_cut (keyed token) γ (one_at id) (all_but (id ∷ out)) (all_but out)
+  rights_cut γ out id free = 𝓛.algebras.own_cut (keyed telling) γ (one_at id) (all_but (id ∷ out)) (all_but out)
       (at_each_key (one_at id) (all_but (id ∷ out)) (all_but out)
       (λ j. cut_at (id == j) (is_out out j) (λ is. rw (← eqb-true id j is) free)))
 
@@ -119,9 +126,9 @@ module _ {M : Type 1} {𝓤 : Ura M} (𝓛 : Logic 𝓤) where
       → (is_out out id ≡ true → ⟦ right_owns γ id ⟧ ∗ ⟦ rights_own γ out ⟧ ⊢ Z)
       → ⟦ right_owns γ id ⟧ ∗ ⟦ rights_own γ out ⟧ ⊢ Out γ out id Z
   unfolding right_owns rights_own
-  seen γ out id Z so = own_sum 𝓛 (keyed token) γ (one_at id) (all_but out) (Out γ out id Z) (λ c m. tell (is_out out id) refl m.0)
+  seen γ out id Z so = own_sum 𝓛 (keyed telling) γ (one_at id) (all_but out) (Out γ out id Z) (λ c m. tell (is_out out id) refl m.0)
     where
-      tell : (t : Bool) → is_out out id ≡ t → OpDef (keyed token).op (one_at id) (all_but out)
+      tell : (t : Bool) → is_out out id ≡ t → OpDef (keyed telling).op (one_at id) (all_but out)
           → ⟦ right_owns γ id ⟧ ∗ ⟦ rights_own γ out ⟧ ⊢ Out γ out id Z
       tell true e d = via 𝓤 Z (so e) (guard_i 𝓤 (is_out out id ≡ true) Z e)
       tell false e d = absurd (clash (id == id) (is_out out id) (eq-eqb id id refl) e (d id))
@@ -132,7 +139,7 @@ module _ {M : Type 1} {𝓤 : Ura M} (𝓛 : Logic 𝓤) where
   unfolding right_owns rights_own
   rights_join γ out id =
       seen γ out id ⟦ rights_own γ (less out id) ⟧ (λ gone.
-      own_join 𝓛 (keyed token) γ (one_at id) (all_but out) (all_but (less out id))
+      own_join 𝓛 (keyed telling) γ (one_at id) (all_but out) (all_but (less out id))
       (at_each_key (one_at id) (all_but out) (all_but (less out id)) (λ j.
       rw is_out-less (joined_at (id == j) (is_out out j) (λ is. rw (← eqb-true id j is) gone)))))
 
@@ -140,7 +147,7 @@ module _ {M : Type 1} {𝓤 : Ura M} (𝓛 : Logic 𝓤) where
   pub right_once : (γ : GName) (id : ℕ) (Z : Pr) → ⟦ right_owns γ id ⟧ ∗ ⟦ right_owns γ id ⟧ ⊢ Z
   unfolding right_owns
   right_once γ id Z =
-      own_glued 𝓛 (keyed token) γ (one_at id) (one_at id) Z
+      own_glued 𝓛 (keyed telling) γ (one_at id) (one_at id) Z
       (λ c m. absurd (twice (id == id) (eq-eqb id id refl) (m.0 id)))
 
   -- two rights of one table are to different ids
@@ -163,7 +170,7 @@ module _ {M : Type 1} {𝓤 : Ura M} (𝓛 : Logic 𝓤) where
   unfolding rights_own
   rights_once γ out gone Z =
       let n : ℕ = above out + above gone in
-      own_glued 𝓛 (keyed token) γ (all_but out) (all_but gone) Z (λ c m.
+      own_glued 𝓛 (keyed telling) γ (all_but out) (all_but gone) Z (λ c m.
       absurd (both_in (is_out out n) (is_out gone n) (is_out-above out n (omega arith)) (is_out-above gone n (omega arith)) (m.0 n)))
 
   -- two `Rights` belong to tables of different names

@@ -23,6 +23,17 @@ lends_twice {𝓤 = 𝓤} 𝓛 P twice l κ ts inc sp = let Back = 𝓛.H.⇛ (s
     use2 𝓛 (later (‵ (fbor κ P) ⊛ raw (lfts 𝓛 ts))) (apply∗ 𝓤 (sem 𝓛 P) Back) $ await ! tt $
     split ! $ drop ! $ move ! (1 ∷ 0 ∷ []) $ now ! $ done !
 
+-- the same of what shows something that can be had twice
+pub lends_shown : {M : Type 1} {𝓤 : Ura M} (𝓛 : Logic 𝓤) (P Q : Fml)
+    → ent 𝓤 (sem 𝓛 P) (sep 𝓤 (sem 𝓛 P) (sem 𝓛 Q)) → (l : Lft)
+    → Lends 𝓛 P (said Q) l
+lends_shown {𝓤 = 𝓤} 𝓛 P Q shows l κ ts inc sp = let Back = 𝓛.H.⇛ (sep 𝓤 (𝓛.A.bor κ P) (lfts 𝓛 ts)) in
+    qed 𝓛 (‵ (fbor κ P) ∷ raw (lfts 𝓛 ts) ∷ []) ∵ updating ! $
+    use2 𝓛 (later (‵ P ⊛ raw (wand 𝓤 (sem 𝓛 P) Back))) (𝓛.more.bor_acc_by κ ts P sp) $ await ! tt $
+    split ! $ use1 𝓛 (‵ P ⊛ ‵ Q) shows $ split ! $ move ! (0 ∷ 2 ∷ []) $
+    use2 𝓛 (later (‵ (fbor κ P) ⊛ raw (lfts 𝓛 ts))) (apply∗ 𝓤 (sem 𝓛 P) Back) $ await ! tt $
+    split ! $ drop ! $ move ! (1 ∷ 0 ∷ []) $ now ! $ done !
+
 -- what a `&` holds that holds what is told of an id
 pub tells_laws : (R : RattleType) (sharing : Option ℕ) (id : ℕ) (v : Option R.Denot) → ShrLaws (said (tells R sharing id v))
 tells_laws R sharing id v = record {

@@ -1,3 +1,5 @@
+pub mod Moves
+pub mod Stays
 pub mod Tied
 pub mod Guarded
 pub mod Locking

@@ -1,9 +1,15 @@
 -- What rights own: elements of ghost state, one at the key of each id under the table's name, with
--- one holder each.
-use Rattle.std.specs.Prelude.{ℕ, ◌==◌, Bool, true, false, not, List, [], ◌∷◌, if◌then◌else◌}
+-- one holder each. At one more key lies what was done with the ids, which only grows.
+use Rattle.std.specs.Prelude.{ℕ, ◌==◌, ◌^◌, ◌-◌, Bool, true, false, not, List, [], ◌∷◌, if◌then◌else◌}
 use mathlib.Core.Option.{Option, none, some}
-use base.Fml.{Fml, fown}
-use types.Keyed.{keyed, token}
+use base.Fraction.{full_share}
+use base.Algebra.{Algebra}
+use base.Growing.{prefixes, growing}
+use base.Fml.{Share, Fml, fown, fsep, fex}
+use types.Keyed.{keyed}
+use Rattle.thread_local_model.specs.Held.{least}
+use Rattle.thread_local_ids.specs.Moves.{IdMove, Take, Give, move_coded, held_after, noted}
+use Rattle.thread_local_ids.specs.Stays.{gives, counts_own, counts_page, stay_owns}
 
 -- whether an id is among those whose right is out
 abbrev pub is_out : List ℕ → ℕ → Bool
@@ -15,15 +21,65 @@ abbrev pub less : List ℕ → ℕ → List ℕ
 less [] id = []
 less (x ∷ out) id = if x == id then less out id else x ∷ less out id
 
--- the element at a key where the test of the key is true, and none elsewhere
-abbrev pub element_if : Bool → Option (Unit {0})
-element_if true = some tt
-element_if false = none
+-- moves that only grow: whoever has the whole share appends to them, and what was reached once is a
+-- fact that anybody may have
+abbrev pub telling : Algebra
+telling = growing (prefixes move_coded)
+
+abbrev pub Element : Type 0
+Element = Option Share × List IdMove
+
+-- an element at a key where the test of the key is true, and none elsewhere
+abbrev pub at_if : Bool → Element → Option Element
+at_if true a = some a
+at_if false a = none
+
+abbrev pub element_if : Bool → Option Element
+element_if t = at_if t (some full_share, [])
 
 -- the one element at a key under a name: under a table's name, the right to an id of the table
 unfoldable pub right_owns : ℕ → ℕ → Fml
-right_owns table id = fown (keyed token) table (λ j. element_if (id == j))
+right_owns table id = fown (keyed telling) table (λ j. element_if (id == j))
 
 -- the rights of a table to all ids but those that are out
 unfoldable pub rights_own : ℕ → List ℕ → Fml
-rights_own table out = fown (keyed token) table (λ j. element_if (not (is_out out j)))
+rights_own table out = fown (keyed telling) table (λ j. element_if (not (is_out out j)))
+
+-- the key of the moves
+abbrev pub moves_key : ℕ
+moves_key = 2 ^ 64 - 1
+
+abbrev pub moves_own : ℕ → Element → Fml
+moves_own table a = fown (keyed telling) table (λ j. at_if (moves_key == j) a)
+
+-- The moves as they are kept. The first entry names what the table has of its ids' counts.
+abbrev pub kept : ℕ → List IdMove → List IdMove
+kept δ moves = Give δ ∷ moves
+
+abbrev pub history_as : ℕ → List IdMove → ℕ → Fml
+history_as table moves δ = fsep (moves_own table (some full_share, kept δ moves)) (counts_own δ moves)
+
+abbrev pub page_as : ℕ → List IdMove → ℕ → Fml
+page_as table moves δ = fsep (moves_own table (none, kept δ moves)) (counts_page δ moves)
+
+abbrev pub held_as : ℕ → ℕ → ℕ → ℕ → Fml
+held_as table id n δ = fsep (moves_own table (none, kept δ [])) (stay_owns δ id n)
+
+-- these are all moves of a table, and whoever has this appends to them
+unfoldable pub history_owns : ℕ → List IdMove → Fml
+history_owns table moves = fex ℕ (history_as table moves)
+
+-- these were all moves of a table once
+unfoldable pub page_owns : ℕ → List IdMove → Fml
+page_owns table moves = fex ℕ (page_as table moves)
+
+-- an id is held, which was given back n times before
+unfoldable pub held_owns : ℕ → ℕ → ℕ → Fml
+held_owns table id n = fex ℕ (held_as table id n)
+
+-- the least id was taken after these moves, and is held
+abbrev pub taken_id : List IdMove → ℕ
+taken_id before = least (held_after before)
+
+abbrev pub stay_of : ℕ → List IdMove → Fml
+stay_of table before = fsep (page_owns table (noted before Take)) (held_owns table (taken_id before) (gives before (taken_id before)))

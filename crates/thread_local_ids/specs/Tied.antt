@@ -1,7 +1,8 @@
 -- What a contract sees of a table's ids, and how the held ids are tied to the rights that are out.
-use Rattle.std.specs.Prelude.{◌≡◌, ℕ, ◌+◌, ◌-◌, ◌^◌, ◌<◌, Bool}
+use Rattle.std.specs.Prelude.{◌≡◌, ℕ, ◌+◌, ◌-◌, ◌^◌, ◌<◌, Bool, List}
 use Rattle.thread_local_model.specs.Held.{Manager, is_held}
 use Rattle.thread_local_ids.specs.Rights.{is_out}
+use Rattle.thread_local_ids.specs.Moves.{IdMove, held_after}
 use Rattle.thread_local_ids.specs.declared.ids.Ids.TheInside.{Inside}
 
 -- the manager of ids, the name of the table that the rights are to, and whether the table's
@@ -10,13 +11,20 @@ pub record TableIds : Type 0 where
   pub manager : Manager
   pub table : ℕ
   pub table_right_is_out : Bool
+  pub moves : List IdMove
 
 abbrev pub ids_of : Inside → TableIds
-ids_of i = record { manager = i.manager; table = i.rights.table; table_right_is_out = is_out i.rights.out (2 ^ 63 - 1) }
+ids_of i = record { manager = i.manager; table = i.rights.table; table_right_is_out = is_out i.rights.out (2 ^ 63 - 1); moves = i.history.moves }
 
 -- the right to an id is out exactly where the id is held, and so is its mark
-abbrev pub IsTied : Inside → Type 0
-IsTied i =
+abbrev pub AreOut : Inside → Type 0
+AreOut i =
     (id : ℕ) → id < 2 ^ 63 - 1
     → (is_out i.rights.out id ≡ is_held i.manager.held id)
     × (is_out i.rights.out (id + 2 ^ 63) ≡ is_held i.manager.held id)
+
+-- and the held ids are those that the table's history leaves held
+pub record IsTied (i : Inside) : Type 0 where
+  pub out : AreOut i
+  pub moves : held_after i.history.moves ≡ i.manager.held
+  pub table : i.history.table ≡ i.rights.table

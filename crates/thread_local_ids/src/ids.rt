@@ -1,10 +1,13 @@
 //! An id of a table is held, with its right out, or it is free, with its right here.
-ghost use Rattle.std.specs.Prelude.{◌≡◌, ◌≢◌, ◌+◌, ◌-◌, ◌^◌, ◌≤◌, ◌<◌, min, false, [], IsOk, OnErr, IfOk};
+ghost use Rattle.std.specs.Prelude.{◌≡◌, ◌≢◌, ◌+◌, ◌-◌, ◌^◌, ◌≤◌, ◌<◌, ◌==◌, ℕ, min, true, false, [], if◌then◌else◌, IsOk, OnErr, IfOk};
+ghost use Rattle.thread_local_ids.specs.Moves.{Take, Give, noted};
+ghost use mathlib.Core.List.{IsPrefix};
+ghost use Rattle.thread_local_ids.specs.Rights.{is_out, taken_id};
 ghost use Rattle.std.specs.Prelude.{alloc_error};
 ghost use Rattle.thread_local_model.specs.Held.{is_held, Takes, Gives, NeedsMemory, IsExhausted};
 
 use crate::lock::Fits;
-use crate::{HeldId, Right, Rights};
+use crate::{HeldId, History, Page, Right, Rights, Stay};
 use std::alloc::{AllocError, Global};
 use std::marker::Model;
 use thread_local_thread_id::manager::IDS;
@@ -14,6 +17,9 @@ use thread_local_thread_id::{LocalError, ThreadIdManager};
 /// number.
 const FIRST_MARK: usize = 1 << 63;
 
+/// The right to this number becomes the history of the table. It is no id and no mark.
+const HISTORY: usize = usize::MAX;
+
 /// Gives out the least id that isn't held, with the right to it, and takes both back. The first 64
 /// ids need no memory; for further ones `with_room` and `take` take it.
 ///
@@ -22,6 +28,7 @@ const FIRST_MARK: usize = 1 << 63;
 pub struct Ids {
     manager: ThreadIdManager,
     rights: Rights,
+    history: History,
 }
 
 impl Model for Ids {
@@ -50,10 +57,13 @@ impl Ids {
         ensures held { result.manager.held ≡ [] }
         ensures room { result.manager.room ≡ 0 }
         ensures table_right { result.table_right_is_out ≡ false }
+        ensures moves { result.moves ≡ [] }
     {
+        let (rights, history) = begun();
         Ids {
             manager: ThreadIdManager::new(alloc),
-            rights: Rights::new(),
+            rights,
+            history,
         }
     }
 
@@ -65,22 +75,29 @@ impl Ids {
         ensures room { IfOk result (λ table. min ids (2 ^ 63 - 1) ≤ table.manager.room) }
         ensures few { IfOk result (λ table. table.manager.room < min ids (2 ^ 63 - 1) + 64) }
         ensures table_right { IfOk result (λ table. table.table_right_is_out ≡ false) }
+        ensures moves { IfOk result (λ table. table.moves ≡ []) }
         ensures room_in_range { IfOk result (λ table. table.manager.room ≤ 2 ^ 63 - 1) }
         ensures no_ids { ids ≡ 0 → IsOk result }
     {
+        let manager = ThreadIdManager::with_room(alloc, ids)?;
+        let (rights, history) = begun();
         Ok(Ids {
-            manager: ThreadIdManager::with_room(alloc, ids)?,
-            rights: Rights::new(),
+            manager,
+            rights,
+            history,
         })
     }
 
     /// Takes the least id that isn't held, and the right to it. It asks for memory only where every
     /// id below the peak is held and there is no room for one more, and not for the first 64 ids. It
     /// refuses where that memory isn't given, and where every id is held.
-    pub fn take(&mut self) -> Result<(HeldId, Right), LocalError>
+    pub fn take(&mut self) -> Result<(HeldId, Right, Stay), LocalError>
         ensures ok { IfOk result (λ taken. Takes self.old.manager self.new.manager taken.0.id) }
         ensures right { IfOk result (λ taken. (taken.1.table ≡ self.old.table) × (taken.1.id ≡ taken.0.id)) }
         ensures mark { IfOk result (λ taken. taken.0.mark.table ≡ self.old.table) }
+        ensures stay { IfOk result (λ taken. (taken.2.table ≡ self.old.table) × (taken.2.before ≡ self.old.moves)) }
+        ensures least { IfOk result (λ taken. taken.0.id ≡ taken_id taken.2.before) }
+        ensures moves { IfOk result (λ taken. self.new.moves ≡ noted self.old.moves Take) }
         ensures table { (self.new.table ≡ self.old.table)
             × (self.new.table_right_is_out ≡ self.old.table_right_is_out) }
         ensures memory { result ≡ Err (LocalError.Memory alloc_error) → NeedsMemory self.old.manager }
@@ -90,21 +107,46 @@ impl Ids {
         let id = self.manager.alloc()?;
         let right = self.rights.take(id);
         let mark = self.rights.take(id + FIRST_MARK);
-        Ok((HeldId { id, mark }, right))
+        let stay = self.history.take();
+        Ok((HeldId { id, mark }, right, stay))
     }
 
-    /// Takes a held id of this table back, with its right.
-    pub fn give(&mut self, held: HeldId, right: Right)
-        requires table { (right.table ≡ self.old.table) × (held.mark.table ≡ self.old.table) }
-        requires id { right.id ≡ held.id }
+    /// `take`, which shows that what was done before extends a page of this table.
+    pub fn take_after(&mut self, earlier: &Page) -> Result<(HeldId, Right, Stay), LocalError>
+        requires { earlier.now.table ≡ self.old.table }
+        ensures ok { IfOk result (λ taken. Takes self.old.manager self.new.manager taken.0.id) }
+        ensures right { IfOk result (λ taken. (taken.1.table ≡ self.old.table) × (taken.1.id ≡ taken.0.id)) }
+        ensures mark { IfOk result (λ taken. taken.0.mark.table ≡ self.old.table) }
+        ensures stay { IfOk result (λ taken. (taken.2.table ≡ self.old.table) × (taken.2.before ≡ self.old.moves)) }
+        ensures least { IfOk result (λ taken. taken.0.id ≡ taken_id taken.2.before) }
+        ensures moves { IfOk result (λ taken. self.new.moves ≡ noted self.old.moves Take) }
+        ensures table { (self.new.table ≡ self.old.table)
+            × (self.new.table_right_is_out ≡ self.old.table_right_is_out) }
+        ensures err { OnErr result (self.new ≡ self.old) }
+        ensures early { IsPrefix (noted earlier.now.before earlier.now.last) self.old.moves }
+    {
+        self.history.extends(earlier.again());
+        self.take()
+    }
+
+    /// Takes a held id of this table back, with its right and what was kept of its take, and answers
+    /// the page that ends with it.
+    pub fn give(&mut self, held: HeldId, right: Right, stay: Stay) -> Page
+        requires table { (right.table ≡ self.old.table) × (held.mark.table ≡ self.old.table) × (stay.table ≡ self.old.table) }
+        requires id { (right.id ≡ held.id) × (held.id ≡ taken_id stay.before) }
         ensures given { Gives self.old.manager self.new.manager held.id }
+        ensures moves { self.new.moves ≡ noted self.old.moves (Give held.id) }
+        ensures page { (result.table ≡ self.old.table) × (result.before ≡ self.old.moves) × (result.last ≡ Give held.id) }
+        ensures early { IsPrefix (noted stay.before Take) self.old.moves }
         ensures table { (self.new.table ≡ self.old.table)
             × (self.new.table_right_is_out ≡ self.old.table_right_is_out) }
     {
+        self.history.extends(stay.page());
         let (id, mark) = held.into_parts();
         self.rights.put_back(right);
         self.rights.put_back(mark);
         self.manager.free(id);
+        self.history.give(id, stay)
     }
 
     /// Takes every id back, and counts the peak anew. The room stays. The rights are fresh
@@ -112,12 +154,14 @@ impl Ids {
     pub fn clear(&mut self)
         ensures table { (self.new.table ≢ self.old.table) × (self.new.table_right_is_out ≡ false) }
         ensures held { self.new.manager.held ≡ [] }
+        ensures moves { self.new.moves ≡ [] }
         ensures room { self.new.manager.room ≡ self.old.manager.room }
     {
         self.manager.clear();
-        let mut rights = Rights::new();
+        let (mut rights, history) = begun();
         self.rights.apart(&mut rights);
         self.rights = rights;
+        self.history = history;
     }
 
     /// Hands out the table's right, to the number that lies between the ids and their marks.
@@ -125,7 +169,7 @@ impl Ids {
     pub fn table_right(&mut self) -> Right
         requires { self.old.table_right_is_out ≡ false }
         ensures right { (result.table ≡ self.old.table) × (result.id ≡ 2 ^ 63 - 1) }
-        ensures same { (self.new.manager ≡ self.old.manager) × (self.new.table ≡ self.old.table) }
+        ensures same { (self.new.manager ≡ self.old.manager) × (self.new.table ≡ self.old.table) × (self.new.moves ≡ self.old.moves) }
     {
         self.rights.take(IDS)
     }
@@ -136,4 +180,14 @@ impl Ids {
     {
         self.manager.is_held(id)
     }
+}
+
+/// The rights of a new table, and its history.
+fn begun() -> (Rights, History)
+    ensures out { (j : ℕ) → is_out result.0.out j ≡ (if 2 ^ 64 - 1 == j then true else false) }
+    ensures history { (result.1.table ≡ result.0.table) × (result.1.moves ≡ []) }
+{
+    let mut rights = Rights::new();
+    let history = rights.take(HISTORY).into_history();
+    (rights, history)
 }

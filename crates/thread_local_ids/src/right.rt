@@ -1,10 +1,11 @@
 //! The right to an id is out, as a `Right` with one holder, or it is in the table's `Rights`. The same
 //! holds of numbers that are no ids, which marks and the table's own right are to. Neither type has
 //! bytes, and no call does anything at run time.
-ghost use Rattle.std.specs.Prelude.{◌≡◌, ◌≢◌, ℕ, ◌==◌, true, false, List, [], if◌then◌else◌};
+ghost use Rattle.std.specs.Prelude.{◌≡◌, ◌≢◌, ℕ, ◌==◌, ◌^◌, ◌-◌, true, false, List, [], if◌then◌else◌};
 ghost use types.Logic.{sem};
 ghost use Rattle.thread_local_ids.specs.Rights.{is_out, right_owns, rights_own};
 
+use crate::page::History;
 use std::marker::{Model, PhantomData};
 
 /// The right to one id of one table: no two values are the right to the same id.
@@ -80,6 +81,18 @@ impl Right {
         ensures ids { self.old.table ≡ other.old.table → self.old.id ≢ other.old.id }
         ensures same { (self.new ≡ self.old) × (other.new ≡ other.old) }
     {}
+
+    /// Begins the history of the table: of what was done with its ids, nothing yet.
+    pub fn into_history(self) -> History
+        requires { self.id ≡ 2 ^ 64 - 1 }
+        ensures table { result.table ≡ self.table }
+        ensures moves { result.moves ≡ [] }
+    {
+        let Right { marker: _ } = self;
+        History {
+            marker: PhantomData,
+        }
+    }
 
     /// Leaves the right with the caller's proof, as for an invariant of its own. At run time it
     /// does nothing.

@@ -1,6 +1,6 @@
 -- The tokens of a turn: a fresh name has all of them from an id on, and they are split off one by
 -- one. Assumes `Logic`.
-use Rattle.std.proofs.Common.{◌≡◌, ◌≢◌, ℕ, zero, suc, ◌==◌, Bool, true, false, refl, ap, subst, sym, ◌∙◌}
+use Rattle.std.proofs.Common.{◌≡◌, ◌≢◌, ℕ, zero, suc, ◌==◌, Bool, true, false, [], refl, ap, subst, sym, ◌∙◌}
 use Rattle.std.proofs.lemmas.Bool.{eqb-true, eq-eqb}
 use mathlib.Core.Option.{Option, some}
 use mathlib.Mathlib.Data.Part.{Part, ◌∈◌}
@@ -10,9 +10,10 @@ use seplogic.Ra.IProd.{mem-op_iff}
 use base.Logic.{ent, sep, ex, emp, via}
 use base.Fml.{GName, Fml, fown}
 use types.Logic.{Logic, sem}
-use types.Keyed.{keyed, token}
+use types.Keyed.{keyed}
 use types.Owned.{own_new, basic}
-use Rattle.thread_local_ids.specs.Rights.{element_if, right_owns}
+use base.Fraction.{full_share}
+use Rattle.thread_local_ids.specs.Rights.{telling, Element, element_if, right_owns}
 
 -- whether a key is k or a later one
 abbrev from : ℕ → ℕ → Bool
@@ -36,38 +37,38 @@ from_apart (suc k) (suc j) n = from_apart k j (λ e. n (ap suc e))
 
 -- the tokens under a name, from the key k on
 unfoldable pub tokens_from : GName → ℕ → Fml
-tokens_from γ k = fown (keyed token) γ (λ j. element_if (from k j))
+tokens_from γ k = fown (keyed telling) γ (λ j. element_if (from k j))
 
 abbrev Row : Type 0
-Row = ℕ → Option (Unit {0})
+Row = ℕ → Option Element
 
-abbrev at_key : Option (Unit {0}) → Option (Unit {0}) → Part {0, 0} (Option (Unit {0}))
-at_key = Opt.op token.op
+abbrev at_key : Option Element → Option Element → Part {0, 0} (Option Element)
+at_key = Opt.op telling.op
 
-at_each_key : (f g h : Row) → ((j : ℕ) → h j ∈ at_key (f j) (g j)) → h ∈ (keyed token).op f g
-at_each_key f g h = (mem-op_iff {A = λ (_ : ℕ). Option (Unit {0})} (λ _. at_key) {f = f} {g = g} {h = h}).1
+at_each_key : (f g h : Row) → ((j : ℕ) → h j ∈ at_key (f j) (g j)) → h ∈ (keyed telling).op f g
+at_each_key f g h = (mem-op_iff {A = λ (_ : ℕ). Option Element} (λ _. at_key) {f = f} {g = g} {h = h}).1
 
 cut_at : (is here after : Bool) → (is ≡ true → here ≡ true) → (is ≡ true → after ≡ false)
     → (is ≡ false → here ≡ after)
     → element_if here ∈ at_key (element_if is) (element_if after)
-cut_at true true false a b c = Opt.mem-op-none token.op (some tt)
+cut_at true true false a b c = Opt.mem-op-none telling.op (some (some full_share, []))
 cut_at true true true a b c = let no : true ≡ false = b refl in cc
 cut_at true false after a b c = let no : false ≡ true = a refl in cc
 cut_at false here after a b c =
     subst (λ (x : Bool). element_if here ∈ at_key (element_if false) (element_if x)) (c refl)
-    (Opt.mem-none-op token.op (element_if here))
+    (Opt.mem-none-op telling.op (element_if here))
 
 module _ {M : Type 1} {𝓤 : Ura M} (𝓛 : Logic 𝓤) where
   pub tokens_new : (k : ℕ) → ent 𝓤 (emp 𝓤) (𝓛.H.⇛ (ex 𝓤 (λ (γ : GName). sem 𝓛 (tokens_from γ k))))
   unfolding tokens_from
-  tokens_new k = via 𝓤 _ (own_new 𝓛 (keyed token) (λ j. element_if (from k j))) (basic 𝓛 _)
+  tokens_new k = via 𝓤 _ (own_new 𝓛 (keyed telling) (λ j. element_if (from k j))) (basic 𝓛 _)
 
   pub token_off : (γ : GName) (k : ℕ)
       → ent 𝓤 (sem 𝓛 (tokens_from γ k))
       (sep 𝓤 (sem 𝓛 (right_owns γ k)) (sem 𝓛 (tokens_from γ (suc k))))
   unfolding tokens_from right_owns
   token_off γ k =
-      𝓛.algebras.own_cut (keyed token) γ (λ j. element_if (k == j))
+      𝓛.algebras.own_cut (keyed telling) γ (λ j. element_if (k == j))
       (λ j. element_if (from (suc k) j)) (λ j. element_if (from k j))
       (at_each_key (λ j. element_if (k == j)) (λ j. element_if (from (suc k) j))
       (λ j. element_if (from k j)) (λ j.

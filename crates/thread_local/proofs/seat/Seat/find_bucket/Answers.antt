@@ -3,6 +3,8 @@ use Rattle.std.specs.Prelude.{OnOk, OnErr}
 use Rattle.thread_local_model.specs.Place.{IsPlaceOf}
 use Rattle.thread_local_model.specs.Learnt.{Learnt, Unknown, Missing, Standing, Vacant, Holding}
 use Rattle.thread_local_model.specs.Answers.{view_of}
+use Rattle.std.specs.Prelude.{List}
+use Rattle.thread_local_ids.specs.Moves.{IdMove}
 use Rattle.thread_local_shared_buckets.specs.Known.{HasLooked}
 use Rattle.thread_local_shared_buckets.specs.Views.{ClaimView}
 use Rattle.thread_local_shared_buckets.specs.TableView.{TableView}
@@ -33,12 +35,12 @@ known_standing Standing has found = absurd has
 known_standing Vacant has found = refl
 known_standing (Holding v) has found = refl
 
-module _ {V : Type 0} (of : TableView) (old : ClaimView V) (now : LocalView V) (seen : local_view of old ≡ now) where
+module _ {V : Type 0} (of : TableView) (old : ClaimView V) (now : LocalView V) (before : List IdMove) (seen : local_view of old before ≡ now) where
   refused : (new : ClaimView V) → new.id ≡ old.id → old.learnt ≡ Missing → new.learnt ≡ Missing
-      → (now.known ≡ false) × (local_view of new ≡ now)
+      → (now.known ≡ false) × (local_view of new before ≡ now)
   refused new same missing is = (
     sym (ap (λ (view : LocalView V). view.known) seen) ∙ ap (λ (k : Learnt V). (view_of k).known) missing,
-    with_learnt of old new same old.learnt (is ∙ sym missing) ∙ seen,
+    with_learnt of old new before same old.learnt (is ∙ sym missing) ∙ seen,
   )
 
   found : HasLooked old.learnt → (old.learnt ≡ Missing → ⊥) → now.value ≡ None → now ≡ knowing now vacant
@@ -68,23 +70,25 @@ invariant_of-self g c =
       in_range = subst (λ (id : ℕ). id < 2 ^ 63 - 1) (sym same.2) is.in_range;
       known = looked c.make_bucket.result c.make_bucket.new.claim.learnt c.make_bucket.ensures.ok c.make_bucket.ensures.err;
       reserved = λ low. absurd (is.reserved (subst (λ (id : ℕ). id < c.self.inside.table.now.reserved) same.2 low) c.if-is_missing.ensures);
+      of_table = is.of_table;
+      least = same.2 ∙ is.least;
     }
 
 pub returns-then-is_missing-clause-ok : goal.returns-then-is_missing-clause-ok
 returns-then-is_missing-clause-ok g c =
     on_ok c.make_bucket.result
-    (now_knowing c.self.inside.table.now c.self.inside.claim c.make_bucket.new.claim
+    (now_knowing c.self.inside.table.now c.self.inside.claim c.make_bucket.new.claim c.self.inside.stay.before
     c.make_bucket.ensures.same_slot.2 c.args.self.now c.self.view_is Vacant)
     c.make_bucket.ensures.ok
 
 pub returns-then-is_missing-clause-err : goal.returns-then-is_missing-clause-err
 returns-then-is_missing-clause-err g c =
     on_err c.make_bucket.result
-    (refused c.self.inside.table.now c.self.inside.claim c.args.self.now c.self.view_is c.make_bucket.new.claim
+    (refused c.self.inside.table.now c.self.inside.claim c.args.self.now c.self.inside.stay.before c.self.view_is c.make_bucket.new.claim
     c.make_bucket.ensures.same_slot.2 c.if-is_missing.ensures)
     c.make_bucket.ensures.err
 
 pub returns-clause-ok : goal.returns-clause-ok
 returns-clause-ok g c =
-    found c.self.inside.table.now c.self.inside.claim c.args.self.now c.self.view_is c.self.invariant.known
+    found c.self.inside.table.now c.self.inside.claim c.args.self.now c.self.inside.stay.before c.self.view_is c.self.invariant.known
     c.if-is_missing.ensures c.requires.empty

@@ -13,7 +13,10 @@ give-requires g c =
     ∙ ap (λ (t : TableView). t.table) c.table.view_is
     ∙ sym c.self.invariant.table)
     in
-    record { table = (given.table.0 ∙ sym table, given.table.1 ∙ sym table); id = given.id.1 ∙ sym given.id.0 }
+    record {
+      table = (given.table.0 ∙ sym table, given.table.1 ∙ sym table, c.self.invariant.of_table ∙ sym c.self.invariant.table ∙ sym table);
+      id = (given.id.1 ∙ sym given.id.0, given.id.0 ∙ c.self.invariant.least);
+    }
 
 pub drop-lock-requires-clause-tag : goal.drop-lock-requires-clause-tag
 drop-lock-requires-clause-tag g c =

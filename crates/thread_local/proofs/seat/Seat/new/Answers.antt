@@ -1,4 +1,4 @@
-use Rattle.std.proofs.Common.{subst}
+use Rattle.std.proofs.Common.{subst, sym, ap, ◌∙◌}
 use Rattle.thread_local_shared_buckets.specs.TableView.{TableView}
 use Rattle.thread_local.specs.Seats.{IsSeated}
 use Rattle.thread_local.proofs.Reserved.{seated}
@@ -8,7 +8,9 @@ pub invariant_of-result : goal.invariant_of-result
 invariant_of-result g c =
     let made = c.claim in
     let given = c.args.held in
-    subst (λ (t : TableView). IsSeated t made.result) c.table.view_is
-    (seated c.table.inside.buckets made.result given.id made.ensures.same_slot.0
+    subst (λ (t : TableView). IsSeated t made.result c.args.stay) c.table.view_is
+    (seated c.table.inside.buckets made.result c.args.stay given.id made.ensures.same_slot.0
     made.ensures.same_slot.1 made.ensures.same_slot.2 given.in_range made.ensures.learnt
-    made.ensures.reserved)
+    made.ensures.reserved
+    (c.requires.table.2 ∙ sym (ap (λ (t : TableView). t.table) c.table.view_is))
+    c.requires.id.1)

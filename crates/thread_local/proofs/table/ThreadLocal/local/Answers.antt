@@ -1,5 +1,8 @@
 use Rattle.std.proofs.Common.{◌≡◌, ◌∙◌, ℕ, ◌<◌, ◌-◌, ◌^◌, sym, ap, subst, lit<}
 use Rattle.thread_local_shared_buckets.specs.TableView.{TableView}
+use Rattle.std.specs.Prelude.{List}
+use Rattle.thread_local_model.specs.Held.{least}
+use Rattle.thread_local_ids.specs.Moves.{IdMove, held_after}
 use Rattle.thread_local.specs.Seats.{LocalView}
 use Rattle.thread_local.proofs.table.ThreadLocal.local.Goals as goal
 
@@ -18,7 +21,7 @@ new-requires g c =
     let table : c.deref_mut.result.now.table ≡ c.args.self.now.table =
     rw c.deref_mut.ensures.value
     (c.lock.ensures.tag.1 ∙ c.self.invariant.0 ∙ ap (λ (t : TableView). t.table) c.self.view_is)
-    in (lit< tt, ((taken.right.0 ∙ table, taken.mark ∙ table), taken.right.1))
+    in (lit< tt, ((taken.right.0 ∙ table, taken.mark ∙ table, taken.stay.0 ∙ table), (taken.right.1, taken.least)))
 
 pub returns-clause-table : goal.returns-clause-table
 returns-clause-table g c =
@@ -31,5 +34,13 @@ returns-clause-table g c =
 pub returns-clause-in_range : goal.returns-clause-in_range
 returns-clause-in_range g c =
     subst (λ (id : ℕ). id < 2 ^ 63 - 1)
-    (sym (ap (λ (view : LocalView g.row.T.Denot). view.id) c.new-2.ensures ∙ c.new.ensures.id))
+    (sym (ap (λ (view : LocalView g.row.T.Denot). view.id) c.new-2.ensures ∙ c.new.ensures.id.0))
     c.in_ok-held.held.in_range
+
+pub returns-clause-least : goal.returns-clause-least
+returns-clause-least g c =
+    ap (λ (view : LocalView g.row.T.Denot). view.id) c.new-2.ensures
+    ∙ c.new.ensures.id.0
+    ∙ c.in_ok-held.ensures.least
+    ∙ ap (λ (before : List IdMove). least (held_after before))
+    (sym (ap (λ (view : LocalView g.row.T.Denot). view.before) c.new-2.ensures ∙ c.new.ensures.id.1))

@@ -1,6 +1,8 @@
 -- The right to the least free id isn't out, since that id isn't held, and nor is its mark.
-use Rattle.std.proofs.Common.{◌≡◌, ◌≢◌, ◌+◌, ◌^◌, ◌==◌, true, refl, ap, ◌∙◌, arith, if◌then◌else◌, ne_eqb}
-use Rattle.thread_local_model.specs.Held.{is_held}
+use Rattle.std.proofs.Common.{rules, sym, ◌≡◌, ◌≢◌, ◌+◌, ◌^◌, ◌==◌, true, refl, ap, ◌∙◌, arith, if◌then◌else◌, ne_eqb}
+use Rattle.thread_local_model.specs.Held.{is_held, with_least}
+use Rattle.thread_local_ids.specs.Moves.{held_after}
+use Rattle.thread_local_ids.proofs.HeldMoves.{after_take}
 use Rattle.thread_local_ids.specs.Rights.{is_out}
 use Rattle.thread_local_ids.specs.Tied.{TableIds}
 use Rattle.thread_local_model.proofs.HeldLaws.{least_free}
@@ -8,7 +10,7 @@ use Rattle.thread_local_ids.proofs.ids.Ids.take.Goals as goal
 
 pub take-right-requires : goal.take-right-requires
 take-right-requires c = let held = c.self.inside.manager.held in let id = c.in_ok-id.id in let low = c.in_ok-id.ensures.ok.in_range in
-    (c.self.invariant id low).0 ∙ ap (is_held held) c.in_ok-id.ensures.ok.least ∙ least_free held
+    (c.self.invariant.out id low).0 ∙ ap (is_held held) c.in_ok-id.ensures.ok.least ∙ least_free held
 
 pub take-mark-requires : goal.take-mark-requires
 take-mark-requires c = let held = c.self.inside.manager.held in let id = c.in_ok-id.id in let low = c.in_ok-id.ensures.ok.in_range in
@@ -18,7 +20,7 @@ take-mark-requires c = let held = c.self.inside.manager.held in let id = c.in_ok
     ≡ is_out out (id + 2 ^ 63) = rw (ne_eqb id (id + 2 ^ 63) beyond) refl in
     c.take-right.ensures.out (id + 2 ^ 63)
     ∙ left
-    ∙ (c.self.invariant id low).1
+    ∙ (c.self.invariant.out id low).1
     ∙ ap (is_held held) c.in_ok-id.ensures.ok.least
     ∙ least_free held
 
@@ -34,3 +36,17 @@ returns-clause-right c =
 pub returns-clause-mark : goal.returns-clause-mark
 returns-clause-mark c =
     c.take-mark.ensures.right.0 ∙ c.take-right.ensures.table ∙ ap (λ (t : TableIds). t.table) c.self.view_is
+
+pub invariant_of-self-2 : goal.invariant_of-self-2
+invariant_of-self-2 c = record {
+  out = search rules;
+  moves =
+    ap held_after c.take-stay.ensures.moves.1
+    ∙ after_take c.self.inside.history.moves
+    ∙ ap with_least c.self.invariant.moves
+    ∙ sym c.in_ok-id.ensures.ok.held;
+  table =
+    c.take-stay.ensures.moves.0
+    ∙ c.self.invariant.table
+    ∙ sym (c.take-mark.ensures.table ∙ c.take-right.ensures.table);
+}

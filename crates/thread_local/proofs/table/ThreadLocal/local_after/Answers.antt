@@ -1,0 +1,48 @@
+use Rattle.std.proofs.Common.{◌≡◌, ◌∙◌, ℕ, true, sym, ap, subst, lit<}
+use Rattle.thread_local_shared_buckets.specs.TableView.{TableView}
+use Rattle.std.specs.Prelude.{List}
+use Rattle.thread_local_model.specs.Held.{least, is_held}
+use Rattle.thread_local_ids.specs.Moves.{IdMove, held_after, noted}
+use mathlib.Core.List.{IsPrefix}
+use Rattle.thread_local.specs.Seats.{LocalView}
+use Rattle.thread_local.proofs.table.ThreadLocal.local_after.Goals as goal
+
+-- The search for these takes a second.
+pub drop-lock-requires-clause-tag : goal.drop-lock-requires-clause-tag
+drop-lock-requires-clause-tag g c =
+    c.take_after.ensures.table.0 ∙ rw c.deref_mut.ensures.value (c.lock.ensures.tag.1 ∙ sym c.lock.ensures.tag.0)
+
+pub drop-lock-requires-2-clause-tag : goal.drop-lock-requires-2-clause-tag
+drop-lock-requires-2-clause-tag g c =
+    c.take_after.ensures.table.0 ∙ rw c.deref_mut.ensures.value (c.lock.ensures.tag.1 ∙ sym c.lock.ensures.tag.0)
+
+pub new-requires : goal.new-requires
+new-requires g c =
+    let taken = c.in_ok-held.ensures in
+    let table : c.deref_mut.result.now.table ≡ c.args.self.now.table =
+    rw c.deref_mut.ensures.value
+    (c.lock.ensures.tag.1 ∙ c.self.invariant.0 ∙ ap (λ (t : TableView). t.table) c.self.view_is)
+    in (lit< tt, ((taken.right.0 ∙ table, taken.mark ∙ table, taken.stay.0 ∙ table), (taken.right.1, taken.least)))
+
+pub returns-clause-table : goal.returns-clause-table
+returns-clause-table g c =
+    let seat = c.new.ensures.table in (
+      ap (λ (view : LocalView g.row.T.Denot). view.table) c.new-2.ensures ∙ seat.0,
+      ap (λ (view : LocalView g.row.T.Denot). view.sharing) c.new-2.ensures ∙ seat.1,
+      ap (λ (view : LocalView g.row.T.Denot). view.reserved) c.new-2.ensures ∙ seat.2,
+    )
+
+pub returns-clause-least : goal.returns-clause-least
+returns-clause-least g c =
+    ap (λ (view : LocalView g.row.T.Denot). view.id) c.new-2.ensures
+    ∙ c.new.ensures.id.0
+    ∙ c.in_ok-held.ensures.least
+    ∙ ap (λ (before : List IdMove). least (held_after before))
+    (sym (ap (λ (view : LocalView g.row.T.Denot). view.before) c.new-2.ensures ∙ c.new.ensures.id.1))
+
+pub returns-clause-early : goal.returns-clause-early
+returns-clause-early g c =
+    subst (λ (before : List IdMove). IsPrefix (noted c.args.earlier.now.before c.args.earlier.now.last) before)
+    (sym (ap (λ (view : LocalView g.row.T.Denot). view.before) c.new-2.ensures ∙ c.new.ensures.id.1
+    ∙ c.in_ok-held.ensures.stay.1))
+    c.take_after.ensures.early

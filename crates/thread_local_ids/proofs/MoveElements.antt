@@ -1,0 +1,335 @@
+-- The moves of a table under its name: how they are appended to, and what pages show of them.
+-- Assumes `Logic`.
+use Rattle.std.proofs.Common.{◌≡◌, ℕ, ◌+◌, ◌≤◌, ◌==◌, Bool, true, false, List, [], ◌∷◌, refl, sym, ap, ◌∙◌, subst, arith}
+use Rattle.std.proofs.lemmas.Bool.{eq-eqb}
+use mathlib.Core.Logic.{◌∨₁◌}
+use mathlib.Core.List.{IsPrefix}
+use mathlib.Core.Option.{Option, none, some}
+use mathlib.Mathlib.Data.Part.{Part, ◌∈◌}
+use seplogic.Ra.Pcs.{OpDef, FpUpd₁}
+use seplogic.Ra.Ura.{Ura}
+use seplogic.Ra.Constructions.Opt
+use seplogic.Ra.IProd.{mem-op_iff}
+use base.Fraction.{full_share}
+use base.FractionLaws.{not-OpDef-full_share}
+use base.Share
+use base.Growing.{Order, Sum, prefixes, prefixes_in_line}
+use base.Logic.{SProp, ent, sep, ex, guard, upd, guard_i, upd_i}
+use base.Graph.{sum_in}
+use base.Growing.{grows}
+use base.Fml.{GName, Share, Fml}
+use base.Shift.{Keyless}
+use types.Logic.{Logic, sem}
+use types.Keyed.{keyed}
+use types.Owned.{own_new, own_sum, own_step}
+use types.Kit.{‵, raw, given, ◌⊛◌, ◌$◌, ◌∵◌, !, qed, move, drop, split, fsplit, fjoin, fpick, fpack, pick, learn, check, frame, rewrite, suffices, settle, use0, use1, use2, done}
+use types.Kit as kit
+use Rattle.thread_local_model.specs.Held.{is_held}
+use Rattle.thread_local_ids.specs.Moves.{IdMove, Take, Give, move_coded, held_after, noted}
+use Rattle.thread_local_ids.specs.Stays.{gives, counting, counts, counts_own, counts_page, stay_owns}
+use Rattle.thread_local_ids.proofs.Stays.{gives_apart, taken, page_off, page_again, not_given}
+use Rattle.thread_local_ids.proofs.Stays.{given as given_count}
+use Rattle.thread_local_ids.specs.Rights.{telling, Element, at_if, moves_key, moves_own, right_owns, kept, history_as, page_as, held_as, history_owns, page_owns, held_owns, taken_id, stay_of}
+
+abbrev Row : Type 0
+Row = ℕ → Option Element
+
+abbrev cell : Option Element → Option Element → Part {0, 0} (Option Element)
+cell = Opt.op telling.op
+
+at_each_key : (f g h : Row) → ((j : ℕ) → h j ∈ cell (f j) (g j)) → h ∈ (keyed telling).op f g
+at_each_key f g h = (mem-op_iff {A = λ (_ : ℕ). Option Element} (λ _. cell) {f = f} {g = g} {h = h}).1
+
+sum_at : (t : Bool) (a b c : Element) → c ∈ telling.op a b → at_if t c ∈ cell (at_if t a) (at_if t b)
+sum_at true a b c m = (Opt.some-mem-op-some_iff telling.op {a = a} {b = b} {c = c}).1 m
+sum_at false a b c m = Opt.mem-none-op telling.op none
+
+fact_at : (t : Bool) (a b : Element) → t ≡ true → OpDef cell (at_if t a) (at_if t b) → OpDef telling.op a b
+fact_at true a b is d = d
+fact_at false a b is d = cc
+
+step_at : (t : Bool) (a b : Element) (o : Option Element) → FpUpd₁ telling.op a b → OpDef cell (at_if t a) o → OpDef cell (at_if t b) o
+step_at true a b none h d = tt
+step_at true a b (some c) h d = h c d
+step_at false a b o h d = d
+
+abbrev O : Order (List IdMove)
+O = prefixes move_coded
+
+under : (q : Share) (a b : List IdMove) → O.le b a → Sum O (some q, a) (none, b) (some q, a)
+under q a b h = (Opt.mem-op-none Share.op (some q), ((O.same a, h, λ e x _. x), ((λ _. O.same a), λ x. absurd x)))
+
+lower : (a b : List IdMove) → O.le b a → Sum O (none, b) (none, a) (none, a)
+lower a b h = (Opt.mem-none-op Share.op none, ((h, O.same a, λ e _ x. x), ((λ x. absurd x), λ x. absurd x)))
+
+raised : (a b : List IdMove) → O.le a b → (o : Option Share) (c : List IdMove) → OpDef telling.op (some full_share, a) (o, c)
+    → OpDef telling.op (some full_share, b) (o, c)
+raised a b h none c d = ((some full_share, b), under full_share b c (O.trans c a b (O.trans c d.0.1 a d.1.1.0.1 (d.1.1.1.0 tt)) h))
+raised a b h (some q) c d = absurd (not-OpDef-full_share q d.1.0.0)
+
+first : List IdMove → ℕ
+first [] = 0
+first (Take ∷ moves) = 0
+first (Give δ ∷ moves) = δ
+
+rest : List IdMove → List IdMove
+rest [] = []
+rest (move ∷ moves) = moves
+
+-- behind their first entries
+behind : (δ ε : ℕ) (a b : List IdMove) → IsPrefix (kept δ a) (kept ε b) → IsPrefix a b
+unfolding rest
+behind δ ε a b h = (h.0, ap rest h.1)
+
+same_first : (δ ε : ℕ) (a b c : List IdMove) → IsPrefix (kept δ a) c → IsPrefix (kept ε b) c → δ ≡ ε
+unfolding first
+same_first δ ε a b c h k = ap first (h.1 ∙ sym k.1)
+
+line : (δ ε : ℕ) (a b c : List IdMove) → IsPrefix (kept δ a) c → IsPrefix (kept ε b) c → IsPrefix a b ∨₁ IsPrefix b a
+unfolding rest
+line δ ε a b c h k = prefixes_in_line a b (rest c) (h.0, ap rest h.1) (k.0, ap rest k.1)
+
+-- an id was given back no more often before
+given_before : (before moves : List IdMove) (id : ℕ) → IsPrefix (noted before Take) moves → gives before id ≤ gives moves id
+given_before before moves id early =
+    let all : gives moves id ≡ gives (noted before Take) id + gives early.0 id =
+    ap (λ (l : List IdMove). gives l id) (sym early.1) ∙ gives_apart (noted before Take) early.0 id in
+    let same : gives (noted before Take) id ≡ gives before id + 0 = gives_apart before (Take ∷ []) id in
+    omega (arith, all, same)
+
+abbrev Line : List IdMove → List IdMove → Type 0
+Line a b = IsPrefix a b ∨₁ IsPrefix b a
+
+module _ {M : Type 1} {𝓤 : Ura M} (𝓛 : Logic 𝓤) where
+  abbrev Pr : Type 2
+  Pr = SProp 𝓤
+
+  abbrev ◌⊢◌ : Pr → Pr → Type 1
+  P ⊢ Q = ent 𝓤 P Q
+
+  abbrev ◌∗◌ : Pr → Pr → Pr
+  P ∗ Q = sep 𝓤 P Q
+
+  abbrev ⟦◌⟧ : Fml → Pr
+  ⟦ P ⟧ = sem 𝓛 P
+
+  infix 26 ◌⊢◌
+  infixr 35 ◌∗◌
+  abbrev row : Element → Row
+  row a j = at_if (moves_key == j) a
+
+  cut : (γ : GName) (a b c : Element) → c ∈ telling.op a b → ⟦ moves_own γ c ⟧ ⊢ ⟦ moves_own γ a ⟧ ∗ ⟦ moves_own γ b ⟧
+  cut γ a b c m =
+      𝓛.algebras.own_cut (keyed telling) γ (row a) (row b) (row c)
+      (at_each_key (row a) (row b) (row c) (λ j. sum_at (moves_key == j) a b c m))
+
+  shows : (γ : GName) (a b : Element) (φ : Type 0) → (OpDef telling.op a b → φ)
+      → ⟦ moves_own γ a ⟧ ∗ ⟦ moves_own γ b ⟧ ⊢ guard 𝓤 φ (⟦ moves_own γ a ⟧ ∗ ⟦ moves_own γ b ⟧)
+  shows γ a b φ so =
+      own_sum 𝓛 (keyed telling) γ (row a) (row b) (guard 𝓤 φ (⟦ moves_own γ a ⟧ ∗ ⟦ moves_own γ b ⟧)) (λ c m.
+      guard_i 𝓤 φ (⟦ moves_own γ a ⟧ ∗ ⟦ moves_own γ b ⟧)
+      (so (fact_at (moves_key == moves_key) a b (eq-eqb moves_key moves_key refl) (m.0 moves_key))))
+
+  abbrev whole : ℕ → List IdMove → Element
+  whole δ moves = (some full_share, kept δ moves)
+
+  abbrev part : ℕ → List IdMove → Element
+  part δ moves = (none, kept δ moves)
+
+  abbrev own : ℕ → Element → Fml
+  own γ a = moves_own γ a
+
+  part_off : (γ : GName) (all some_of : List IdMove) → IsPrefix some_of all
+      → ⟦ moves_own γ (some full_share, all) ⟧ ⊢ ⟦ moves_own γ (none, some_of) ⟧ ∗ ⟦ moves_own γ (some full_share, all) ⟧
+  part_off γ all some_of le =
+      cut γ (none, some_of) (some full_share, all) (some full_share, all)
+      (sum_in (grows O) (none, some_of) (some full_share, all) (some full_share, all)
+      ((grows O).comm (some full_share, all) (none, some_of) (some full_share, all) (under full_share all some_of le)))
+
+  part_twice : (γ : GName) (all : List IdMove)
+      → ⟦ moves_own γ (none, all) ⟧ ⊢ ⟦ moves_own γ (none, all) ⟧ ∗ ⟦ moves_own γ (none, all) ⟧
+  part_twice γ all =
+      cut γ (none, all) (none, all) (none, all) (sum_in (grows O) (none, all) (none, all) (none, all) (lower all all (O.same all)))
+
+  grown : (γ : GName) (moves more : List IdMove) → IsPrefix moves more
+      → ⟦ moves_own γ (some full_share, moves) ⟧ ⊢ upd 𝓤 ⟦ moves_own γ (some full_share, more) ⟧
+  grown γ moves more le =
+      own_step 𝓛 (keyed telling) γ (row (some full_share, moves)) (row (some full_share, more)) (λ g d. λ j.
+      step_at (moves_key == j) (some full_share, moves) (some full_share, more) (g j)
+      (λ f. raised moves more le f.0 f.1) (d j))
+
+  -- nothing was done yet where the right to the key of the moves was not used
+  pub begins : (γ : GName) → ⟦ right_owns γ moves_key ⟧ ⊢ upd 𝓤 ⟦ history_owns γ [] ⟧
+  unfolding right_owns history_owns
+  begins γ =
+      let Z : Pr = ⟦ history_owns γ [] ⟧ in
+      qed 𝓛 (‵ (moves_own γ (some full_share, [])) ∷ []) ∵
+      use0 𝓛 (raw (upd 𝓤 (ex 𝓤 (λ (δ : GName). ⟦ counts_own δ [] ⟧)))) (own_new 𝓛 (keyed counting) (counts [])) $
+      settle 𝓛 Z (kit.some (λ (δ : GName). ‵ (counts_own δ []))) $ pick ! (λ δ. move ! (1 ∷ []) $
+      use1 𝓛 (raw (upd 𝓤 ⟦ moves_own γ (whole δ []) ⟧)) (grown γ [] (kept δ []) (kept δ [], refl)) $
+      settle 𝓛 Z (‵ (moves_own γ (whole δ []))) $ fjoin ! $ fpack ! ℕ (history_as γ []) δ $ suffices ! _ (upd_i 𝓤 Z) $ done !)
+
+  -- a page of what was done so far
+  pub page_of : (γ : GName) (moves : List IdMove)
+      → ⟦ history_owns γ moves ⟧ ⊢ ⟦ page_owns γ moves ⟧ ∗ ⟦ history_owns γ moves ⟧
+  unfolding history_owns page_owns
+  page_of γ moves =
+      qed 𝓛 (‵ (history_owns γ moves) ∷ []) ∵ fpick ! (λ δ. fsplit ! $
+      use1 𝓛 (‵ (own γ (part δ moves)) ⊛ ‵ (own γ (whole δ moves))) (part_off γ (kept δ moves) (kept δ moves) (O.same (kept δ moves))) $
+      split ! $ move ! (2 ∷ []) $
+      use1 𝓛 (‵ (counts_page δ moves) ⊛ ‵ (counts_own δ moves)) (page_off 𝓛 δ moves) $ split ! $
+      move ! (2 ∷ 0 ∷ []) $ fjoin ! $ fpack ! ℕ (page_as γ moves) δ $ frame ! $
+      move ! (1 ∷ 0 ∷ []) $ fjoin ! $ fpack ! ℕ (history_as γ moves) δ $ done !)
+
+  pub page_twice : (γ : GName) (moves : List IdMove)
+      → ⟦ page_owns γ moves ⟧ ⊢ ⟦ page_owns γ moves ⟧ ∗ ⟦ page_owns γ moves ⟧
+  unfolding page_owns
+  page_twice γ moves =
+      qed 𝓛 (‵ (page_owns γ moves) ∷ []) ∵ fpick ! (λ δ. fsplit ! $
+      use1 𝓛 (‵ (own γ (part δ moves)) ⊛ ‵ (own γ (part δ moves))) (part_twice γ (kept δ moves)) $
+      split ! $ move ! (2 ∷ []) $
+      use1 𝓛 (‵ (counts_page δ moves) ⊛ ‵ (counts_page δ moves)) (page_again 𝓛 δ moves) $ split ! $
+      move ! (2 ∷ 0 ∷ []) $ fjoin ! $ fpack ! ℕ (page_as γ moves) δ $ frame ! $
+      move ! (1 ∷ 0 ∷ []) $ fjoin ! $ fpack ! ℕ (page_as γ moves) δ $ done !)
+
+  -- whoever holds an id has the page that ends with its take
+  pub stay_shows : (γ : GName) (before : List IdMove)
+      → ⟦ stay_of γ before ⟧ ⊢ ⟦ stay_of γ before ⟧ ∗ ⟦ page_owns γ (noted before Take) ⟧
+  stay_shows γ before =
+      qed 𝓛 (‵ (stay_of γ before) ∷ []) ∵ fsplit ! $
+      use1 𝓛 (‵ (page_owns γ (noted before Take)) ⊛ ‵ (page_owns γ (noted before Take))) (page_twice γ (noted before Take)) $
+      split ! $ move ! (0 ∷ 2 ∷ []) $ fjoin ! $ done !
+
+  -- the moves extend every page
+  pub page_is_early : (γ : GName) (moves seen : List IdMove)
+      → ⟦ history_owns γ moves ⟧ ∗ ⟦ page_owns γ seen ⟧
+      ⊢ guard 𝓤 (IsPrefix seen moves) (⟦ history_owns γ moves ⟧ ∗ ⟦ page_owns γ seen ⟧)
+  unfolding history_owns page_owns
+  page_is_early γ moves seen =
+      qed 𝓛 (‵ (history_owns γ moves) ∷ ‵ (page_owns γ seen) ∷ []) ∵ fpick ! (λ δ. fsplit ! $ move ! (2 ∷ []) $ fpick ! (λ δ'. fsplit ! $
+      -- [the page's moves; its counts; the history's moves; its counts]
+      move ! (2 ∷ 0 ∷ []) $
+      use2 𝓛 (given (IsPrefix seen moves) (‵ (own γ (whole δ moves)) ⊛ ‵ (own γ (part δ' seen))))
+      (shows γ (whole δ moves) (part δ' seen) (IsPrefix seen moves)
+      (λ d. behind δ' δ seen moves (O.trans (kept δ' seen) d.0.1 (kept δ moves) d.1.1.0.1 (d.1.1.1.0 tt)))) $
+      learn ! (λ so. split ! $ move ! (0 ∷ 3 ∷ []) $ fjoin ! $ fpack ! ℕ (history_as γ moves) δ $
+      move ! (1 ∷ 2 ∷ []) $ fjoin ! $ fpack ! ℕ (page_as γ seen) δ' $ move ! (1 ∷ 0 ∷ []) $ check ! so $ done !)))
+
+  -- of two pages one extends the other
+  pub in_line : (γ : GName) (a b : List IdMove)
+      → ⟦ page_owns γ a ⟧ ∗ ⟦ page_owns γ b ⟧
+      ⊢ guard 𝓤 (Line a b) (⟦ page_owns γ a ⟧ ∗ ⟦ page_owns γ b ⟧)
+  unfolding page_owns
+  in_line γ a b =
+      qed 𝓛 (‵ (page_owns γ a) ∷ ‵ (page_owns γ b) ∷ []) ∵ fpick ! (λ δ. fsplit ! $ move ! (2 ∷ []) $ fpick ! (λ δ'. fsplit ! $
+      move ! (2 ∷ 0 ∷ []) $
+      use2 𝓛 (given (Line a b) (‵ (own γ (part δ a)) ⊛ ‵ (own γ (part δ' b))))
+      (shows γ (part δ a) (part δ' b) (Line a b) (λ d. line δ δ' a b d.0.1 d.1.1.0.0 d.1.1.0.1)) $
+      learn ! (λ so. split ! $ move ! (0 ∷ 3 ∷ []) $ fjoin ! $ fpack ! ℕ (page_as γ a) δ $
+      move ! (1 ∷ 2 ∷ []) $ fjoin ! $ fpack ! ℕ (page_as γ b) δ' $ move ! (1 ∷ 0 ∷ []) $ check ! so $ done !)))
+
+  note_held : (γ : GName) (moves : List IdMove)
+      → ⟦ history_owns γ moves ⟧
+      ⊢ upd 𝓤 (⟦ held_owns γ (taken_id moves) (gives moves (taken_id moves)) ⟧ ∗ ⟦ history_owns γ (noted moves Take) ⟧)
+  unfolding history_owns held_owns
+  note_held γ moves =
+      let id : ℕ = taken_id moves in
+      let n : ℕ = gives moves id in
+      let more : List IdMove = noted moves Take in
+      let Z : Pr = ⟦ held_owns γ id n ⟧ ∗ ⟦ history_owns γ more ⟧ in
+      qed 𝓛 (‵ (history_owns γ moves) ∷ []) ∵ fpick ! (λ δ. fsplit ! $
+      use1 𝓛 (raw (upd 𝓤 ⟦ own γ (whole δ more) ⟧)) (grown γ (kept δ moves) (kept δ more) (Take ∷ [], refl)) $
+      settle 𝓛 Z (‵ (own γ (whole δ more))) $
+      use1 𝓛 (‵ (own γ (part δ [])) ⊛ ‵ (own γ (whole δ more))) (part_off γ (kept δ more) (kept δ []) (more, refl)) $ split ! $
+      move ! (2 ∷ []) $ use1 𝓛 (‵ (stay_owns δ id n) ⊛ ‵ (counts_own δ more)) (taken 𝓛 δ moves id refl) $ split ! $
+      -- [the count; the history's counts; the first entry; the moves]
+      move ! (2 ∷ 0 ∷ []) $ fjoin ! $ fpack ! ℕ (held_as γ id n) δ $ move ! (2 ∷ 1 ∷ []) $ fjoin ! $ fpack ! ℕ (history_as γ more) δ $
+      move ! (1 ∷ 0 ∷ []) $ suffices ! _ (upd_i 𝓤 Z) $ done !)
+
+  -- the least id is taken
+  pub note_take : (γ : GName) (moves : List IdMove)
+      → ⟦ history_owns γ moves ⟧ ⊢ upd 𝓤 (⟦ stay_of γ moves ⟧ ∗ ⟦ history_owns γ (noted moves Take) ⟧)
+  note_take γ moves =
+      let more : List IdMove = noted moves Take in
+      let Z : Pr = ⟦ stay_of γ moves ⟧ ∗ ⟦ history_owns γ more ⟧ in
+      qed 𝓛 (‵ (history_owns γ moves) ∷ []) ∵
+      use1 𝓛 (raw (upd 𝓤 (⟦ held_owns γ (taken_id moves) (gives moves (taken_id moves)) ⟧ ∗ ⟦ history_owns γ more ⟧))) (note_held γ moves) $
+      settle 𝓛 Z (‵ (held_owns γ (taken_id moves) (gives moves (taken_id moves))) ⊛ ‵ (history_owns γ more)) $ split ! $ move ! (1 ∷ []) $
+      use1 𝓛 (‵ (page_owns γ more) ⊛ ‵ (history_owns γ more)) (page_of γ more) $ split ! $
+      move ! (0 ∷ 2 ∷ []) $ fjoin ! $ suffices ! _ (upd_i 𝓤 Z) $ done !
+
+  -- an id is given back, which is held
+  give_held : (γ : GName) (moves : List IdMove) (id n : ℕ) → is_held (held_after moves) id ≡ true → n ≤ gives moves id
+      → ⟦ history_owns γ moves ⟧ ∗ ⟦ held_owns γ id n ⟧ ⊢ upd 𝓤 ⟦ history_owns γ (noted moves (Give id)) ⟧
+  unfolding history_owns held_owns
+  give_held γ moves id n held few =
+      let more : List IdMove = noted moves (Give id) in
+      let Z : Pr = ⟦ history_owns γ more ⟧ in
+      qed 𝓛 (‵ (history_owns γ moves) ∷ ‵ (held_owns γ id n) ∷ []) ∵ fpick ! (λ δ. fsplit ! $ move ! (2 ∷ []) $ fpick ! (λ δ'. fsplit ! $
+      -- [the first entry; the count; the history's moves; its counts]
+      move ! (2 ∷ 0 ∷ []) $
+      use2 𝓛 (given (δ' ≡ δ) (‵ (own γ (whole δ moves)) ⊛ ‵ (own γ (part δ' []))))
+      (shows γ (whole δ moves) (part δ' []) (δ' ≡ δ) (λ d. same_first δ' δ [] moves d.0.1 d.1.1.0.1 d.1.1.0.0)) $
+      learn ! (λ same. split ! $ move ! (1 ∷ []) $ drop ! $
+      -- [the history's moves; the count; its counts]
+      move ! (1 ∷ []) $ rewrite ! 0 (λ (d : ℕ). ‵ (stay_owns d id n)) same refl $ move ! (0 ∷ 2 ∷ []) $
+      use2 𝓛 (raw (upd 𝓤 ⟦ counts_own δ more ⟧)) (given_count 𝓛 δ moves id n held few) $ settle 𝓛 Z (‵ (counts_own δ more)) $ move ! (1 ∷ []) $
+      use1 𝓛 (raw (upd 𝓤 ⟦ own γ (whole δ more) ⟧)) (grown γ (kept δ moves) (kept δ more) (Give id ∷ [], refl)) $
+      settle 𝓛 Z (‵ (own γ (whole δ more))) $ fjoin ! $ fpack ! ℕ (history_as γ more) δ $ suffices ! _ (upd_i 𝓤 Z) $ done !)))
+
+  -- the same, with the page that ends with it
+  pub note_give : (γ : GName) (moves before : List IdMove) (id : ℕ) → id ≡ taken_id before → is_held (held_after moves) id ≡ true
+      → ⟦ history_owns γ moves ⟧ ∗ ⟦ stay_of γ before ⟧
+      ⊢ upd 𝓤 (⟦ page_owns γ (noted moves (Give id)) ⟧ ∗ ⟦ history_owns γ (noted moves (Give id)) ⟧)
+  note_give γ moves before id low held =
+      let more : List IdMove = noted moves (Give id) in
+      let Z : Pr = ⟦ page_owns γ more ⟧ ∗ ⟦ history_owns γ more ⟧ in
+      let n : ℕ = gives before (taken_id before) in
+      let early : Type 0 = IsPrefix (noted before Take) moves in
+      qed 𝓛 (‵ (history_owns γ moves) ∷ ‵ (stay_of γ before) ∷ []) ∵ move ! (1 ∷ []) $ fsplit ! $
+      -- [the page; the count; the history]
+      move ! (2 ∷ 0 ∷ []) $
+      use2 𝓛 (given early (‵ (history_owns γ moves) ⊛ ‵ (page_owns γ (noted before Take)))) (page_is_early γ moves (noted before Take)) $
+      learn ! (λ so. split ! $ move ! (1 ∷ []) $ drop ! $
+      move ! (1 ∷ []) $ rewrite ! 0 (λ (k : ℕ). ‵ (held_owns γ k n)) (sym low) refl $ move ! (1 ∷ 0 ∷ []) $
+      use2 𝓛 (raw (upd 𝓤 ⟦ history_owns γ more ⟧))
+      (give_held γ moves id n held (subst (λ (k : ℕ). gives before k ≤ gives moves id) low (given_before before moves id so))) $
+      settle 𝓛 Z (‵ (history_owns γ more)) $
+      use1 𝓛 (‵ (page_owns γ more) ⊛ ‵ (history_owns γ more)) (page_of γ more) $ split ! $ suffices ! _ (upd_i 𝓤 Z) $ done !)
+
+  -- while an id is held, no page says that it was given back since
+  pub stays_held : (γ : GName) (before later : List IdMove)
+      → ⟦ stay_of γ before ⟧ ∗ ⟦ page_owns γ later ⟧
+      ⊢ guard 𝓤 (gives later (taken_id before) ≤ gives before (taken_id before)) (⟦ stay_of γ before ⟧ ∗ ⟦ page_owns γ later ⟧)
+  unfolding page_owns held_owns
+  stays_held γ before later =
+      let id : ℕ = taken_id before in
+      let n : ℕ = gives before id in
+      let Few : Type 0 = gives later id ≤ n in
+      qed 𝓛 (‵ (stay_of γ before) ∷ ‵ (page_owns γ later) ∷ []) ∵ fsplit ! $ move ! (1 ∷ []) $ fpick ! (λ δ. fsplit ! $ move ! (3 ∷ []) $ fpick ! (λ δ'. fsplit ! $
+      -- [the page's moves; its counts; the first entry; the count; the own page]
+      move ! (2 ∷ 0 ∷ []) $
+      use2 𝓛 (given (δ' ≡ δ) (‵ (own γ (part δ [])) ⊛ ‵ (own γ (part δ' later))))
+      (shows γ (part δ []) (part δ' later) (δ' ≡ δ) (λ d. same_first δ' δ later [] d.0.1 d.1.1.0.1 d.1.1.0.0)) $
+      learn ! (λ same. split ! $
+      -- [the first entry; the page's moves; its counts; the count; the own page]
+      move ! (2 ∷ []) $ rewrite ! 0 (λ (d : ℕ). ‵ (counts_page d later)) same refl $ move ! (3 ∷ 0 ∷ []) $
+      use2 𝓛 (given Few (‵ (stay_owns δ id n) ⊛ ‵ (counts_page δ later))) (not_given 𝓛 δ id n later) $
+      learn ! (λ few. split ! $
+      -- [the count; the page's counts; the first entry; the page's moves; the own page]
+      move ! (3 ∷ []) $ rewrite ! 0 (λ (d : ℕ). ‵ (own γ (part d later))) same refl $
+      move ! (0 ∷ 2 ∷ []) $ fjoin ! $ fpack ! ℕ (page_as γ later) δ $
+      -- [the page; the count; the first entry; the own page]
+      move ! (2 ∷ 1 ∷ []) $ fjoin ! $ fpack ! ℕ (held_as γ id n) δ $ move ! (2 ∷ 0 ∷ []) $ fjoin ! $ check ! few $ done !))))
+
+pub history_keyless : (γ : GName) (moves : List IdMove) → Keyless (history_owns γ moves)
+unfolding history_owns
+history_keyless γ moves = λ δ. (tt, tt)
+
+pub page_keyless : (γ : GName) (moves : List IdMove) → Keyless (page_owns γ moves)
+unfolding page_owns
+page_keyless γ moves = λ δ. (tt, tt)
+
+pub held_keyless : (γ : GName) (id n : ℕ) → Keyless (held_owns γ id n)
+unfolding held_owns
+held_keyless γ id n = λ δ. (tt, tt)

@@ -1,0 +1,135 @@
+//! What was done with the ids of a table: a `History`, which is appended to, and its `Page`s. Neither
+//! has bytes, and no call does anything at run time.
+ghost use Rattle.std.specs.Prelude.{◌≡◌, ℕ, List, [], true};
+ghost use mathlib.Core.List.{IsPrefix};
+ghost use mathlib.Core.Logic.{◌∨₁◌};
+ghost use types.Logic.{sem};
+ghost use denote.Sharing.{said};
+ghost use Rattle.thread_local_ids.specs.Moves.{IdMove, Take, Give, move_coded, moves_coded, held_after, noted};
+ghost use Rattle.thread_local_model.specs.Held.{is_held};
+ghost use Rattle.thread_local_ids.specs.Rights.{history_owns, page_owns, stay_of, taken_id};
+
+use std::marker::{Model, PhantomData};
+
+/// All that was done with the ids of a table, in its order.
+#[derive(Drop)]
+pub struct History {
+    pub(crate) marker: PhantomData<()>,
+    pub ghost table: { ℕ },
+    pub ghost moves: { List IdMove } by { moves_coded },
+}
+
+impl Model for History {
+    ghost also_owns = { λ h. history_owns h.table h.moves };
+}
+
+/// One move of the ids of a table, and all that were made before, in their order.
+#[derive(Drop)]
+pub struct Page {
+    pub(crate) marker: PhantomData<()>,
+    pub ghost table: { ℕ },
+    pub ghost before: { List IdMove } by { moves_coded },
+    pub ghost last: { IdMove } by { move_coded },
+}
+
+impl Model for Page {
+    ghost also_owns = { λ p. page_owns p.table (noted p.before p.last) };
+
+    ghost also_shares = { λ p _ κ. said (page_owns p.table (noted p.before p.last)) κ };
+}
+
+/// The least id was taken after these moves, and it is held since, by whoever has this.
+#[derive(Drop)]
+pub struct Stay {
+    pub(crate) marker: PhantomData<()>,
+    pub ghost table: { ℕ },
+    pub ghost before: { List IdMove } by { moves_coded },
+}
+
+impl Model for Stay {
+    ghost also_owns = { λ s. stay_of s.table s.before };
+
+    ghost also_shares = { λ s _ κ. said (page_owns s.table (noted s.before Take)) κ };
+}
+
+impl History {
+    /// Notes that the least id was taken, which is held from now on.
+    pub fn take(&mut self) -> Stay
+        ensures stay { (result.table ≡ self.old.table) × (result.before ≡ self.old.moves) }
+        ensures moves { (self.new.table ≡ self.old.table) × (self.new.moves ≡ noted self.old.moves Take) }
+    {
+        Stay {
+            marker: PhantomData,
+        }
+    }
+
+    /// Notes that an id was given back, and answers the page that ends with it.
+    pub fn give(&mut self, id: usize, stay: Stay) -> Page
+        requires table { stay.table ≡ self.old.table }
+        requires id { id ≡ taken_id stay.before }
+        requires held { is_held (held_after self.old.moves) id ≡ true }
+        ensures page { (result.table ≡ self.old.table) × (result.before ≡ self.old.moves) × (result.last ≡ Give id) }
+        ensures moves { (self.new.table ≡ self.old.table) × (self.new.moves ≡ noted self.old.moves (Give id)) }
+    {
+        let Stay { marker: _ } = stay;
+        Page {
+            marker: PhantomData,
+        }
+    }
+
+    /// Shows that the history extends a page of its table.
+    pub fn extends(&mut self, page: Page)
+        requires { page.table ≡ self.old.table }
+        ensures early { IsPrefix (noted page.before page.last) self.old.moves }
+        ensures same { self.new ≡ self.old }
+    {}
+}
+
+impl Stay {
+    /// The page that ends with the take.
+    pub fn page(&self) -> Page
+        ensures { (result.table ≡ self.now.table) × (result.before ≡ self.now.before) × (result.last ≡ Take) }
+    {
+        Page {
+            marker: PhantomData,
+        }
+    }
+
+    /// Shows that the id is held after all moves of a later page.
+    pub fn held_at(&mut self, page: Page)
+        requires table { page.table ≡ self.old.table }
+        requires later { IsPrefix (noted self.old.before Take) (noted page.before page.last) }
+        ensures held { is_held (held_after (noted page.before page.last)) (taken_id self.old.before) ≡ true }
+        ensures same { self.new ≡ self.old }
+    {}
+}
+
+impl Page {
+    /// The same once more.
+    pub fn again(&self) -> Page
+        ensures { (result.table ≡ self.now.table) × (result.before ≡ self.now.before) × (result.last ≡ self.now.last) }
+    {
+        Page {
+            marker: PhantomData,
+        }
+    }
+
+    /// Shows that of two pages of one table one extends the other.
+    pub fn in_line(&self, other: &Page)
+        requires { self.now.table ≡ other.now.table }
+        ensures { IsPrefix (noted self.now.before self.now.last) (noted other.now.before other.now.last)
+            ∨₁ IsPrefix (noted other.now.before other.now.last) (noted self.now.before self.now.last) }
+    {}
+}
+
+unsafe impl Send for History {}
+
+unsafe impl Sync for History {}
+
+unsafe impl Send for Page {}
+
+unsafe impl Sync for Page {}
+
+unsafe impl Send for Stay {}
+
+unsafe impl Sync for Stay {}
