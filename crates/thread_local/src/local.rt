@@ -1,6 +1,6 @@
 //! What a thread has in a table: an id of its own, through which it finds or makes its value.
 ghost use Rattle.std.specs.Prelude.{◌≡◌, ◌≢◌, ◌-◌, ◌^◌, ◌<◌, nat_lt, ⊤, true, false, None, Ok, Err};
-ghost use Rattle.std.specs.Prelude.{OnOk, IfOk, IfErr, IsOk, IsSome, Some, option_map, alloc_error, Result};
+ghost use Rattle.std.specs.Prelude.{OnOk, OnErr, IfOk, IfErr, IsOk, IsSome, Some, option_map, alloc_error, Result};
 ghost use Rattle.thread_local_model.specs.Answers.{Get, GetOr, Found, Refused, Failed, answer};
 ghost use Rattle.thread_local_model.specs.Cursor.{fresh_cursor};
 ghost use Rattle.thread_local_ids.specs.Moves.{Take, Give, held_after, noted};
@@ -8,7 +8,7 @@ ghost use Rattle.thread_local_model.specs.Held.{is_held};
 ghost use mathlib.Core.List.{IsPrefix};
 ghost use mathlib.Core.Logic.{◌∨₁◌};
 ghost use Rattle.thread_local.specs.Errors.{IfCreate};
-ghost use Rattle.thread_local.specs.Seats.{knows, knowing, holding, own_of, token_of, IsAnswered, IsFilled, Fails, IsRefused};
+ghost use Rattle.thread_local.specs.Seats.{knows, knowing, holding, own_of, token_of, IsAnswered, IsFilled, Fills, Fails, IsRefused};
 
 pub use crate::seat::{Seat, SetError, TryError};
 use std::fmt;
@@ -28,9 +28,9 @@ mod lends;
 ///
 /// Each call but `seat`, `seat_mut` and `tokens` does what the seat's of that name does. None takes
 /// a lock. Only `set`, `publish` and the `get_or` family (`get_or`, `get_or_default`, `get_or_try`,
-/// `try_fill`) take memory, for a bucket. The closure or the `T::made_with` that these run may
-/// wait, and so may the drop of a closure that they don't run. References that calls answer live no
-/// longer than the borrow of the `Local`.
+/// `get_or_try_lasting`, `try_fill`) take memory, for a bucket. The closure or the `T::made_with`
+/// that these run may wait, and so may the drop of a closure that they don't run. References that
+/// calls answer live no longer than the borrow of the `Local`, but that of `get_or_try_lasting`.
 ///
 /// Contracts see the table's name and its sharing, the id, the number of reserved slots, and what
 /// is known of the id's slot: its value, if there is one, and whether its bucket is known to stand.
@@ -201,7 +201,8 @@ impl<'a, T, R: Wait> Local<'a, T, R> {
 
     /// `get_or_try` without the value. Call it where the proof has to know what the `Local` knows
     /// afterwards: only this one says that. A call can't say what it leaves where it answers a
-    /// reference beside an error of any type.
+    /// reference beside an error of any type. After `Ok`, `get` answers the value. After `Err` the
+    /// slot is still empty, so another closure may be tried.
     pub fn try_fill<F: FnOnce() -> Result<T, E> + Drop, E>(
         &mut self,
         create: F,
@@ -215,6 +216,7 @@ impl<'a, T, R: Wait> Local<'a, T, R> {
         ensures granted { self.old.known ≡ true → result ≢ Err (TryError.Memory alloc_error) }
         ensures held { IsSome self.old.value → IsOk result }
         ensures failed { IfErr result (λ error. IfCreate error (λ e. F.post create (Err e))) }
+        ensures empty { OnErr result (self.new.value ≡ None) }
     {
         self.seat.try_fill(create)
     }
@@ -222,7 +224,8 @@ impl<'a, T, R: Wait> Local<'a, T, R> {
     /// The value. Where the slot is empty, its bucket is found or made, then the closure is called
     /// and its value is published. `Create` hands on the closure's error, and nothing is published.
     /// `Memory` means out of memory for the bucket, and the closure isn't called. Rust's crate
-    /// makes the value before its bucket, takes `&self`, and doesn't answer out of memory.
+    /// makes the value before its bucket, takes `&self`, and doesn't answer out of memory. It is
+    /// `try_fill` and then `get`, which stand for it where the proof goes on afterwards.
     pub fn get_or_try<F: FnOnce() -> Result<T, E> + Drop, E>(
         &mut self,
         create: F,
@@ -245,6 +248,29 @@ impl<'a, T, R: Wait> Local<'a, T, R> {
 }
 
 impl<'a, T: Sync, R: Wait> Local<'a, T, R> {
+    /// `get_or_try`, whose reference lasts as long as the table is lent and isn't bound to the
+    /// borrow of the `Local`, as in Rust's crate. So it also says what it leaves: after `Ok` the view
+    /// has the value, and after `Err` it still has none. It needs `T: Sync`, since another thread
+    /// may get the id while the reference lives.
+    pub fn get_or_try_lasting<F: FnOnce() -> Result<T, E> + Drop, E>(
+        &mut self,
+        create: F,
+    ) -> Result<&'a T, TryError<E>>
+        requires { self.old.value ≡ None → F.pre create }
+        ensures ok { IfOk result (λ there.
+            Fills E (λ value. F.post create (Ok value)) self.old self.new there.now) }
+        ensures create { (error : E)
+            → result ≡ Err (TryError.Create error)
+            → Fails (λ e. F.post create (Err e)) self.old self.new error }
+        ensures memory { result ≡ Err (TryError.Memory alloc_error) → IsRefused E self.old self.new }
+        ensures granted { self.old.known ≡ true → result ≢ Err (TryError.Memory alloc_error) }
+        ensures held { IsSome self.old.value → IsOk result }
+        ensures failed { IfErr result (λ error. IfCreate error (λ e. F.post create (Err e))) }
+        ensures empty { OnErr result (self.new.value ≡ None) }
+    {
+        self.seat.get_or_try_lasting(create)
+    }
+
     /// The values of the table by ascending id, each lent as `&`, while others may publish more. A
     /// walk that runs to its end gives the `Local`'s own value, where there is one.
     pub fn iter(&self) -> Iter<'_, T>

@@ -11,7 +11,7 @@ ghost use Rattle.thread_local_ids.specs.Rights.{taken_id};
 ghost use Rattle.thread_local_ids.specs.Moves.{Take, Give, held_after, noted};
 ghost use mathlib.Core.List.{IsPrefix};
 ghost use Rattle.thread_local.specs.Errors.{IfCreate};
-ghost use Rattle.thread_local.specs.Seats.{knows, knowing, own_of, token_of, vacant, holding, IsAnswered, IsFilled, Fails, IsRefused};
+ghost use Rattle.thread_local.specs.Seats.{knows, knowing, own_of, token_of, vacant, holding, IsAnswered, IsFilled, Fills, Fails, IsRefused};
 
 use crate::table::ThreadLocal;
 use std::alloc::{AllocError, Global};
@@ -48,8 +48,8 @@ pub enum SetError<T> {
 /// An id of a table, and what is known of the id's slot. Each `Local` has one, and lends it.
 ///
 /// No call takes a lock. Only `set`, `publish` and the `get_or` family (`get_or`, `get_or_default`,
-/// `get_or_try`, `try_fill`) take memory, for a bucket. The closure or the `T::made_with` that
-/// these run may wait, and so may the drop of a closure that they don't run.
+/// `get_or_try`, `get_or_try_lasting`, `try_fill`) take memory, for a bucket. The closure or the
+/// `T::made_with` that these run may wait, and so may the drop of a closure that they don't run.
 ///
 /// In Rust's crate the running thread is the seat. It has `get` and the `get_or` family but
 /// `try_fill`; the other calls are the port's own.
@@ -297,7 +297,8 @@ impl<'a, T> Seat<'a, T> {
 
     /// `get_or_try` without the value. Call it where the proof has to know what the seat knows
     /// afterwards: only this one says that. A call can't say what it leaves where it answers a
-    /// reference beside an error of any type.
+    /// reference beside an error of any type. After `Ok`, `get` answers the value. After `Err` the
+    /// slot is still empty, so another closure may be tried.
     pub fn try_fill<F: FnOnce() -> Result<T, E> + Drop, E>(
         &mut self,
         create: F,
@@ -311,6 +312,7 @@ impl<'a, T> Seat<'a, T> {
         ensures granted { self.old.known ≡ true → result ≢ Err (TryError.Memory alloc_error) }
         ensures held { IsSome self.old.value → IsOk result }
         ensures failed { IfErr result (λ error. IfCreate error (λ e. F.post create (Err e))) }
+        ensures empty { OnErr result (self.new.value ≡ None) }
     {
         if self.is_published() {
             return Ok(());
@@ -329,7 +331,8 @@ impl<'a, T> Seat<'a, T> {
     /// The value. Where the slot is empty, its bucket is found or made, then the closure is called
     /// and its value is published. `Create` hands on the closure's error, and nothing is published.
     /// `Memory` means out of memory for the bucket, and the closure isn't called. Rust's crate
-    /// makes the value before its bucket, takes `&self`, and doesn't answer out of memory.
+    /// makes the value before its bucket, takes `&self`, and doesn't answer out of memory. It is
+    /// `try_fill` and then `get`, which stand for it where the proof goes on afterwards.
     pub fn get_or_try<F: FnOnce() -> Result<T, E> + Drop, E>(
         &mut self,
         create: F,
@@ -390,6 +393,40 @@ impl<'a, T> Seat<'a, T> {
 }
 
 impl<'a, T: Sync> Seat<'a, T> {
+    /// `get_or_try`, whose reference lasts as long as the table is lent and isn't bound to the
+    /// borrow of the seat, as in Rust's crate. So it also says what it leaves: after `Ok` the view
+    /// has the value, and after `Err` it still has none. It needs `T: Sync`, since another thread
+    /// may get the id while the reference lives.
+    pub fn get_or_try_lasting<F: FnOnce() -> Result<T, E> + Drop, E>(
+        &mut self,
+        create: F,
+    ) -> Result<&'a T, TryError<E>>
+        requires { self.old.value ≡ None → F.pre create }
+        ensures ok { IfOk result (λ there. Fills E (λ v. F.post create (Ok v)) self.old self.new there.now) }
+        ensures create { (error : E)
+            → result ≡ Err (TryError.Create error)
+            → Fails (λ e. F.post create (Err e)) self.old self.new error }
+        ensures memory { result ≡ Err (TryError.Memory alloc_error) → IsRefused E self.old self.new }
+        ensures granted { self.old.known ≡ true → result ≢ Err (TryError.Memory alloc_error) }
+        ensures held { IsSome self.old.value → IsOk result }
+        ensures failed { IfErr result (λ error. IfCreate error (λ e. F.post create (Err e))) }
+        ensures empty { OnErr result (self.new.value ≡ None) }
+    {
+        self.try_fill(create)?;
+        Ok(self.lasting())
+    }
+
+    /// The value, which lasts as long as the table is lent.
+    fn lasting(&self) -> &'a T
+        requires { self.now.value ≢ None }
+        ensures { self.now.value ≡ Some result.now }
+    {
+        match self.claim.lasting() {
+            Some((_, value)) => value,
+            None => unreachable!(),
+        }
+    }
+
     /// The values of the table by ascending id, each lent as `&`, while others may publish more. A
     /// walk that runs to its end gives the seat's own value, where there is one.
     pub fn iter(&self) -> Iter<'_, T>

@@ -1,5 +1,5 @@
 //! Callers at concrete types and generic ones, which are proved and not run.
-ghost use Rattle.std.specs.Prelude.{◌≡◌, IfOk, IfSome, IsSome, None, true, sum};
+ghost use Rattle.std.specs.Prelude.{◌≡◌, IfOk, IfSome, IsSome, None, Some, Ok, OnOk, OnErr, true, sum};
 ghost use Rattle.thread_local.specs.Capacity.{reserved_slots};
 ghost use Rattle.thread_local.specs.IterMut.{iter_mut_rest};
 ghost use Rattle.thread_local.specs.Judged.{Judged};
@@ -40,6 +40,76 @@ fn granted_after_an_error<R: Wait>(local: &mut Local<'_, u32, R>, value: u32) ->
     match local.try_fill(|| Err::<u32, bool>(false)) {
         Err(TryError::Create(_)) => local.get_or(|| value).is_ok(),
         _ => true,
+    }
+}
+
+/// After an error of the closure the slot is still empty.
+fn empty_after_an_error<R: Wait>(local: &mut Local<'_, u32, R>, error: u64)
+    requires { local.old.value ≡ None }
+    ensures { local.new.value ≡ None }
+{
+    match local.try_fill(|| Err::<u32, u64>(error)) {
+        Ok(()) => unreachable!(),
+        Err(_) => {}
+    }
+}
+
+/// And another closure fills it.
+fn second_try<R: Wait>(
+    local: &mut Local<'_, u32, R>,
+    error: u64,
+    second: u32,
+) -> Result<u32, AllocError>
+    requires { local.old.value ≡ None }
+    ensures { IfOk result (λ got. got ≡ second) }
+{
+    match local.try_fill(|| Err::<u32, u64>(error)) {
+        Ok(()) => unreachable!(),
+        Err(TryError::Memory(refused)) => Err(refused),
+        Err(TryError::Create(_)) => Ok(*local.get_or(|| second)?),
+    }
+}
+
+/// `get_or_try` in its long form: the value is there after `Ok`.
+fn filled_and_read<R: Wait>(local: &mut Local<'_, u32, R>, made: Result<u32, u64>) -> Option<u32>
+    requires { local.old.value ≡ None }
+    ensures filled { IfSome result (λ got. local.new.value ≡ Some got) }
+    ensures made { IfSome result (λ got. made ≡ Ok got) }
+    ensures empty { result ≡ None → local.new.value ≡ None }
+{
+    match local.try_fill(|| made) {
+        Ok(()) => local.get().copied(),
+        Err(_) => None,
+    }
+}
+
+/// At any type, with any error.
+fn filled_or_empty<T: Send + Drop, E: Drop, R: Wait>(
+    local: &mut Local<'_, T, R>,
+    made: Result<T, E>,
+) -> Result<(), TryError<E>>
+    ensures ok { OnOk result (IsSome local.new.value) }
+    ensures err { OnErr result (local.new.value ≡ None) }
+{
+    match local.try_fill(move || made) {
+        Ok(()) => Ok(()),
+        Err(error) => Err(error),
+    }
+}
+
+/// A reference that outlives the borrow of the `Local`, with what an error leaves.
+fn lasting_second<'a, R: Wait>(
+    local: &mut Local<'a, u32, R>,
+    error: u64,
+    second: u32,
+) -> Option<&'a u32>
+    requires { local.old.value ≡ None }
+    ensures made { IfSome result (λ there. (there.now ≡ second) × (local.new.value ≡ Some there.now)) }
+    ensures empty { result ≡ None → local.new.value ≡ None }
+{
+    match local.get_or_try_lasting(|| Err::<u32, u64>(error)) {
+        Ok(_) => unreachable!(),
+        Err(_) => local.get_or_try_lasting(|| Ok::<u32, u64>(second)).ok(),
     }
 }
 

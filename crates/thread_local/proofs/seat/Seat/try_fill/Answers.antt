@@ -2,7 +2,7 @@ use Rattle.std.proofs.Common.{◌∙◌, Option, sym, ap, subst, refl}
 use Rattle.std.specs.Prelude.{IsSome}
 use Rattle.thread_local_model.specs.Place.{IsPlaceOf}
 use Rattle.thread_local.specs.Seats.{LocalView, knows, knowing, holding}
-use Rattle.thread_local.proofs.Filled.{is_filled, none_of, filled_empty, fails_empty, refused_at}
+use Rattle.thread_local.proofs.Filled.{is_filled, none_of, filled_empty, fails_empty, refused_at, on_err}
 use Rattle.thread_local.proofs.Told.{false_not_true, ok_not_err, same_create, create_not_memory}
 use Rattle.thread_local.proofs.seat.Seat.try_fill.Goals as goal
 
@@ -94,3 +94,12 @@ returns-in-Err-clause-held g c = λ some.
     absurd (false_not_true (subst (λ (value : Option g.row.T.Denot). IsSome value)
     (none_of c.args.self.now.value (sym c.is_published.ensures ∙ c.if-is_published.false))
     some))
+
+pub returns-in_err-find_bucket-clause-empty : goal.returns-in_err-find_bucket-clause-empty
+returns-in_err-find_bucket-clause-empty g c =
+    on_err _ _
+    (ap (λ (view : LocalView g.row.T.Denot). view.value) c.in_err-find_bucket.ensures.err.1
+    ∙ none_of c.args.self.now.value (sym c.is_published.ensures ∙ c.if-is_published.false))
+
+pub returns-in-Err-clause-empty : goal.returns-in-Err-clause-empty
+returns-in-Err-clause-empty g c = ap (λ (view : LocalView g.row.T.Denot). view.value) c.in_ok-find_bucket.ensures.ok
