@@ -8,7 +8,7 @@ use Rattle.thread_local_shared_buckets.specs.Known.{HasLooked}
 use Rattle.thread_local_shared_buckets.specs.Views.{ClaimView}
 use Rattle.thread_local_shared_buckets.specs.TableView.{TableView}
 use Rattle.thread_local_ids.specs.Rights.{taken_id}
-use Rattle.thread_local_ids.specs.declared.page.Stay.{Stay}
+use Rattle.thread_local_ids.specs.declared.page.Tenure.{Tenure}
 use Rattle.thread_local.specs.Seats.{IsSeated}
 
 -- where an id is below a number, so is the first id of its bucket
@@ -16,12 +16,12 @@ first_below : (id n : ℕ) → id < n → id_at (bucket_of id) 0 < n
 first_below id n below = let same = id_at-place id in omega arith
 
 -- a held id and the claim that its table answers make a seat
-pub seated : {V : Type 0} (table : TableView) (claim : ClaimView V) (stay : Stay) (id : ℕ)
+pub seated : {V : Type 0} (table : TableView) (claim : ClaimView V) (tenure : Tenure) (id : ℕ)
     → claim.table ≡ table.table → claim.sharing ≡ table.sharing → claim.id ≡ id → id < 2 ^ 63 - 1
     → HasLooked claim.learnt
     → (id_at (bucket_of id) 0 < table.reserved → claim.learnt ≢ Missing)
-    → stay.table ≡ table.table → id ≡ taken_id stay.before → IsSeated table claim stay
-seated table claim stay id of shared same in_range known found of_table low =
+    → tenure.table ≡ table.table → id ≡ taken_id tenure.before → IsSeated table claim tenure
+seated table claim tenure id of shared same in_range known found of_table low =
     record {
       table = of;
       sharing = shared;

@@ -6,7 +6,7 @@ use Rattle.thread_local_shared_buckets.specs.Views.{ClaimView}
 use Rattle.thread_local_shared_buckets.specs.TableView.{TableView}
 use Rattle.thread_local.specs.Seats.{LocalView, local_view, knowing}
 use Rattle.std.specs.Prelude.{List}
-use Rattle.thread_local_ids.specs.Moves.{IdMove}
+use Rattle.thread_local_model.specs.IdMoves.{IdMove}
 
 module _ {V : Type 0} (of : TableView) (old new : ClaimView V) (before : List IdMove) (same : new.id ≡ old.id) where
   -- a claim of the same slot, which may have learnt something else

@@ -7,8 +7,8 @@ use Rattle.std.specs.Coded.{Coded, coded_option, coded_ℕ, coded×, code_by}
 use Rattle.thread_local_model.specs.Answers.{View, GetOr, Answered, Refused, Failed, Says, answer, view_of}
 use Rattle.thread_local_model.specs.Learnt.{Missing}
 use Rattle.thread_local_ids.specs.Views.{TokenView}
-use Rattle.thread_local_ids.specs.Moves.{IdMove, moves_coded}
-use Rattle.thread_local_ids.specs.declared.page.Stay.{Stay}
+use Rattle.thread_local_model.specs.IdMoves.{IdMove, moves_coded}
+use Rattle.thread_local_ids.specs.declared.page.Tenure.{Tenure}
 use Rattle.thread_local_ids.specs.Rights.{taken_id}
 use Rattle.thread_local_shared_buckets.specs.Known.{HasLooked}
 use Rattle.thread_local_shared_buckets.specs.Views.{ClaimView}
@@ -83,14 +83,14 @@ pub record IsSameLocal {V : Type 0} (old new : LocalView V) : Type 0 where
 
 -- a seat of a table: its claim is of this table in this sharing, has looked for its bucket, and has
 -- found it where the id is reserved. What is kept of the take is of this table and of this id
-pub record IsSeated {V : Type 0} (of : TableView) (claim : ClaimView V) (stay : Stay) : Type 0 where
+pub record IsSeated {V : Type 0} (of : TableView) (claim : ClaimView V) (tenure : Tenure) : Type 0 where
   pub table : claim.table ≡ of.table
   pub sharing : claim.sharing ≡ of.sharing
   pub in_range : claim.id < 2 ^ 63 - 1
   pub known : HasLooked claim.learnt
   pub reserved : claim.id < of.reserved → claim.learnt ≢ Missing
-  pub of_table : stay.table ≡ of.table
-  pub least : claim.id ≡ taken_id stay.before
+  pub of_table : tenure.table ≡ of.table
+  pub least : claim.id ≡ taken_id tenure.before
 
 -- what is known of a slot that is empty and whose bucket stands
 abbrev pub vacant : {V : Type 0} → View V

@@ -3,7 +3,7 @@ ghost use Rattle.std.specs.Prelude.{◌≡◌, ◌≢◌, ◌-◌, ◌^◌, ◌<
 ghost use Rattle.std.specs.Prelude.{OnOk, OnErr, IfOk, IfErr, IsOk, IsSome, Some, option_map, alloc_error, Result};
 ghost use Rattle.thread_local_model.specs.Answers.{Get, GetOr, Found, Refused, Failed, answer};
 ghost use Rattle.thread_local_model.specs.Cursor.{fresh_cursor};
-ghost use Rattle.thread_local_ids.specs.Moves.{Take, Give, held_after, noted};
+ghost use Rattle.thread_local_model.specs.IdMoves.{Take, Give, held_after, noted};
 ghost use Rattle.thread_local_model.specs.Held.{is_held};
 ghost use mathlib.Core.List.{IsPrefix};
 ghost use mathlib.Core.Logic.{◌∨₁◌};

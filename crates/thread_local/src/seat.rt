@@ -8,7 +8,7 @@ ghost use Rattle.thread_local_model.specs.Answers.{Get, GetOr, Found, Refused, F
 ghost use Rattle.thread_local_model.specs.Cursor.{fresh_cursor};
 ghost use Rattle.thread_local_model.specs.Held.{least, is_held};
 ghost use Rattle.thread_local_ids.specs.Rights.{taken_id};
-ghost use Rattle.thread_local_ids.specs.Moves.{Take, Give, held_after, noted};
+ghost use Rattle.thread_local_model.specs.IdMoves.{Take, Give, held_after, noted};
 ghost use mathlib.Core.List.{IsPrefix};
 ghost use Rattle.thread_local.specs.Errors.{IfCreate};
 ghost use Rattle.thread_local.specs.Seats.{knows, knowing, own_of, token_of, vacant, holding, IsAnswered, IsFilled, Fills, Fails, IsRefused};
@@ -20,7 +20,7 @@ use std::fmt;
 use std::marker::Model;
 use std::sync::Wait;
 use thread_local_bucket_pointers::Block;
-use thread_local_ids::{HeldId, Page, Right, Stay, Token};
+use thread_local_ids::{HeldId, Page, Right, Tenure, Token};
 use thread_local_shared_buckets::{Claim, Iter};
 use thread_local_thread_id::Thread;
 
@@ -56,7 +56,7 @@ pub enum SetError<T> {
 pub struct Seat<'a, T> {
     table: &'a ThreadLocal<T>,
     claim: Claim<'a, T>,
-    stay: Stay,
+    tenure: Tenure,
 }
 
 impl<'a, T> Model for Seat<'a, T> {
@@ -66,9 +66,9 @@ impl<'a, T> Model for Seat<'a, T> {
 
     ghost coded = { local_view_coded T.code };
 
-    ghost view = { λ s. local_view s.table.now s.claim s.stay.before };
+    ghost view = { λ s. local_view s.table.now s.claim s.tenure.before };
 
-    ghost invariant = { λ s. IsSeated s.table.now s.claim s.stay };
+    ghost invariant = { λ s. IsSeated s.table.now s.claim s.tenure };
 }
 
 /// Finds or makes the bucket of a claim that found none: the claim looks again, and installs one
@@ -102,19 +102,19 @@ impl<'a, T> Seat<'a, T> {
         table: &'a ThreadLocal<T>,
         held: HeldId,
         right: Right,
-        stay: Stay,
+        tenure: Tenure,
     ) -> Seat<'a, T>
-        requires table { (right.table ≡ table.now.table) × (held.mark.table ≡ table.now.table) × (stay.table ≡ table.now.table) }
-        requires id { (right.id ≡ held.id) × (held.id ≡ taken_id stay.before) }
+        requires table { (right.table ≡ table.now.table) × (held.mark.table ≡ table.now.table) × (tenure.table ≡ table.now.table) }
+        requires id { (right.id ≡ held.id) × (held.id ≡ taken_id tenure.before) }
         ensures table { (result.table ≡ table.now.table)
             × (result.sharing ≡ table.now.sharing)
             × (result.reserved ≡ table.now.reserved) }
-        ensures id { (result.id ≡ held.id) × (result.before ≡ stay.before) }
+        ensures id { (result.id ≡ held.id) × (result.before ≡ tenure.before) }
     {
         Seat {
             table,
             claim: table.buckets.claim(held, right),
-            stay,
+            tenure,
         }
     }
 
@@ -367,7 +367,7 @@ impl<'a, T> Seat<'a, T> {
     pub fn page(&self) -> Page
         ensures { (result.table ≡ self.now.table) × (result.before ≡ self.now.before) × (result.last ≡ Take) }
     {
-        self.stay.page()
+        self.tenure.page()
     }
 
     /// Shows that the id is held after all moves of a later page. At run time it does nothing.
@@ -377,7 +377,7 @@ impl<'a, T> Seat<'a, T> {
         ensures held { is_held (held_after (noted page.before page.last)) self.old.id ≡ true }
         ensures same { self.new ≡ self.old }
     {
-        self.stay.held_at(page);
+        self.tenure.held_at(page);
     }
 
     /// Gives the id back to the table that it is of, and answers the page that ends with it. May
@@ -386,9 +386,9 @@ impl<'a, T> Seat<'a, T> {
         ensures page { (result.table ≡ self.entry.table) × (result.last ≡ Give self.entry.id) }
         ensures early { IsPrefix (noted self.entry.before Take) result.before }
     {
-        let Self { table, claim, stay } = self;
+        let Self { table, claim, tenure } = self;
         let (held, right) = claim.give_up();
-        table.ids.lock(rt).give(held, right, stay)
+        table.ids.lock(rt).give(held, right, tenure)
     }
 }
 

@@ -7,7 +7,7 @@ ghost use Rattle.thread_local_model.specs.Capacity.{reserved_slots};
 ghost use Rattle.thread_local_buckets.specs.IterMut.{iter_mut_given, entries_mut_given, entries_mut_rest};
 ghost use Rattle.thread_local_judged.specs.Judged.{Judged};
 ghost use Rattle.thread_local_model.specs.Held.{least};
-ghost use Rattle.thread_local_ids.specs.Moves.{Take, Give, held_after, noted};
+ghost use Rattle.thread_local_model.specs.IdMoves.{Take, Give, held_after, noted};
 ghost use mathlib.Core.List.{IsPrefix};
 ghost use Rattle.thread_local_shared_buckets.specs.Walks.{fresh, fresh_with};
 
@@ -163,8 +163,8 @@ impl<T> ThreadLocal<T> {
         ensures in_range { IfOk result (λ local. local.id < 2 ^ 63 - 1) }
         ensures least { IfOk result (λ local. local.id ≡ least (held_after local.before)) }
     {
-        let (held, right, stay) = self.ids.lock(rt).take()?;
-        Ok(Local::new(rt, Seat::new(self, held, right, stay)))
+        let (held, right, tenure) = self.ids.lock(rt).take()?;
+        Ok(Local::new(rt, Seat::new(self, held, right, tenure)))
     }
 
     /// `local`, which shows that the table's ids were taken and given back since an earlier page.
@@ -182,8 +182,8 @@ impl<T> ThreadLocal<T> {
         ensures least { IfOk result (λ local. local.id ≡ least (held_after local.before)) }
         ensures early { IfOk result (λ local. IsPrefix (noted earlier.now.before earlier.now.last) local.before) }
     {
-        let (held, right, stay) = self.ids.lock(rt).take_after(earlier)?;
-        Ok(Local::new(rt, Seat::new(self, held, right, stay)))
+        let (held, right, tenure) = self.ids.lock(rt).take_after(earlier)?;
+        Ok(Local::new(rt, Seat::new(self, held, right, tenure)))
     }
 
     /// How many slots the table's buckets have together.

@@ -2,15 +2,14 @@ mod Calls
 mod Fields
 mod Guards
 mod Handed
-pub mod HeldMoves
 mod Lent
 mod Ordered
-pub mod Stays
+pub mod ReturnLaws
 mod Steps
 mod Words
 mod BothLent
 mod Facts
-pub mod Listing
+pub mod TokenListLaws
 pub mod Made
 pub mod MoveElements
 pub mod Markers

@@ -25,11 +25,11 @@ use types.Owned.{own_new, own_sum, own_step}
 use types.Kit.{‵, raw, given, ◌⊛◌, ◌$◌, ◌∵◌, !, qed, move, drop, split, fsplit, fjoin, fpick, fpack, pick, learn, check, frame, rewrite, suffices, settle, use0, use1, use2, done}
 use types.Kit as kit
 use Rattle.thread_local_model.specs.Held.{is_held}
-use Rattle.thread_local_ids.specs.Moves.{IdMove, Take, Give, move_coded, held_after, noted}
-use Rattle.thread_local_ids.specs.Stays.{gives, counting, counts, counts_own, counts_page, stay_owns}
-use Rattle.thread_local_ids.proofs.Stays.{gives_apart, taken, page_off, page_again, not_given}
-use Rattle.thread_local_ids.proofs.Stays.{given as given_count}
-use Rattle.thread_local_ids.specs.Rights.{telling, Element, at_if, moves_key, moves_own, right_owns, kept, history_as, page_as, held_as, history_owns, page_owns, held_owns, taken_id, stay_of}
+use Rattle.thread_local_model.specs.IdMoves.{IdMove, Take, Give, move_coded, held_after, noted}
+use Rattle.thread_local_ids.specs.Returns.{gives, counting, counts, counts_own, counts_page, tenure_owns}
+use Rattle.thread_local_ids.proofs.ReturnLaws.{gives_apart, taken, page_off, page_again, not_given}
+use Rattle.thread_local_ids.proofs.ReturnLaws.{given as given_count}
+use Rattle.thread_local_ids.specs.Rights.{telling, Element, at_if, moves_key, moves_own, right_owns, kept, history_as, page_as, held_as, history_owns, page_owns, held_owns, taken_id, tenure_of}
 
 abbrev Row : Type 0
 Row = ℕ → Option Element
@@ -193,10 +193,10 @@ module _ {M : Type 1} {𝓤 : Ura M} (𝓛 : Logic 𝓤) where
       move ! (1 ∷ 0 ∷ []) $ fjoin ! $ fpack ! ℕ (page_as γ moves) δ $ done !)
 
   -- whoever holds an id has the page that ends with its take
-  pub stay_shows : (γ : GName) (before : List IdMove)
-      → ⟦ stay_of γ before ⟧ ⊢ ⟦ stay_of γ before ⟧ ∗ ⟦ page_owns γ (noted before Take) ⟧
-  stay_shows γ before =
-      qed 𝓛 (‵ (stay_of γ before) ∷ []) ∵ fsplit ! $
+  pub tenure_shows : (γ : GName) (before : List IdMove)
+      → ⟦ tenure_of γ before ⟧ ⊢ ⟦ tenure_of γ before ⟧ ∗ ⟦ page_owns γ (noted before Take) ⟧
+  tenure_shows γ before =
+      qed 𝓛 (‵ (tenure_of γ before) ∷ []) ∵ fsplit ! $
       use1 𝓛 (‵ (page_owns γ (noted before Take)) ⊛ ‵ (page_owns γ (noted before Take))) (page_twice γ (noted before Take)) $
       split ! $ move ! (0 ∷ 2 ∷ []) $ fjoin ! $ done !
 
@@ -241,17 +241,17 @@ module _ {M : Type 1} {𝓤 : Ura M} (𝓛 : Logic 𝓤) where
       use1 𝓛 (raw (upd 𝓤 ⟦ own γ (whole δ more) ⟧)) (grown γ (kept δ moves) (kept δ more) (Take ∷ [], refl)) $
       settle 𝓛 Z (‵ (own γ (whole δ more))) $
       use1 𝓛 (‵ (own γ (part δ [])) ⊛ ‵ (own γ (whole δ more))) (part_off γ (kept δ more) (kept δ []) (more, refl)) $ split ! $
-      move ! (2 ∷ []) $ use1 𝓛 (‵ (stay_owns δ id n) ⊛ ‵ (counts_own δ more)) (taken 𝓛 δ moves id refl) $ split ! $
+      move ! (2 ∷ []) $ use1 𝓛 (‵ (tenure_owns δ id n) ⊛ ‵ (counts_own δ more)) (taken 𝓛 δ moves id refl) $ split ! $
       -- [the count; the history's counts; the first entry; the moves]
       move ! (2 ∷ 0 ∷ []) $ fjoin ! $ fpack ! ℕ (held_as γ id n) δ $ move ! (2 ∷ 1 ∷ []) $ fjoin ! $ fpack ! ℕ (history_as γ more) δ $
       move ! (1 ∷ 0 ∷ []) $ suffices ! _ (upd_i 𝓤 Z) $ done !)
 
   -- the least id is taken
   pub note_take : (γ : GName) (moves : List IdMove)
-      → ⟦ history_owns γ moves ⟧ ⊢ upd 𝓤 (⟦ stay_of γ moves ⟧ ∗ ⟦ history_owns γ (noted moves Take) ⟧)
+      → ⟦ history_owns γ moves ⟧ ⊢ upd 𝓤 (⟦ tenure_of γ moves ⟧ ∗ ⟦ history_owns γ (noted moves Take) ⟧)
   note_take γ moves =
       let more : List IdMove = noted moves Take in
-      let Z : Pr = ⟦ stay_of γ moves ⟧ ∗ ⟦ history_owns γ more ⟧ in
+      let Z : Pr = ⟦ tenure_of γ moves ⟧ ∗ ⟦ history_owns γ more ⟧ in
       qed 𝓛 (‵ (history_owns γ moves) ∷ []) ∵
       use1 𝓛 (raw (upd 𝓤 (⟦ held_owns γ (taken_id moves) (gives moves (taken_id moves)) ⟧ ∗ ⟦ history_owns γ more ⟧))) (note_held γ moves) $
       settle 𝓛 Z (‵ (held_owns γ (taken_id moves) (gives moves (taken_id moves))) ⊛ ‵ (history_owns γ more)) $ split ! $ move ! (1 ∷ []) $
@@ -272,21 +272,21 @@ module _ {M : Type 1} {𝓤 : Ura M} (𝓛 : Logic 𝓤) where
       (shows γ (whole δ moves) (part δ' []) (δ' ≡ δ) (λ d. same_first δ' δ [] moves d.0.1 d.1.1.0.1 d.1.1.0.0)) $
       learn ! (λ same. split ! $ move ! (1 ∷ []) $ drop ! $
       -- [the history's moves; the count; its counts]
-      move ! (1 ∷ []) $ rewrite ! 0 (λ (d : ℕ). ‵ (stay_owns d id n)) same refl $ move ! (0 ∷ 2 ∷ []) $
+      move ! (1 ∷ []) $ rewrite ! 0 (λ (d : ℕ). ‵ (tenure_owns d id n)) same refl $ move ! (0 ∷ 2 ∷ []) $
       use2 𝓛 (raw (upd 𝓤 ⟦ counts_own δ more ⟧)) (given_count 𝓛 δ moves id n held few) $ settle 𝓛 Z (‵ (counts_own δ more)) $ move ! (1 ∷ []) $
       use1 𝓛 (raw (upd 𝓤 ⟦ own γ (whole δ more) ⟧)) (grown γ (kept δ moves) (kept δ more) (Give id ∷ [], refl)) $
       settle 𝓛 Z (‵ (own γ (whole δ more))) $ fjoin ! $ fpack ! ℕ (history_as γ more) δ $ suffices ! _ (upd_i 𝓤 Z) $ done !)))
 
   -- the same, with the page that ends with it
   pub note_give : (γ : GName) (moves before : List IdMove) (id : ℕ) → id ≡ taken_id before → is_held (held_after moves) id ≡ true
-      → ⟦ history_owns γ moves ⟧ ∗ ⟦ stay_of γ before ⟧
+      → ⟦ history_owns γ moves ⟧ ∗ ⟦ tenure_of γ before ⟧
       ⊢ upd 𝓤 (⟦ page_owns γ (noted moves (Give id)) ⟧ ∗ ⟦ history_owns γ (noted moves (Give id)) ⟧)
   note_give γ moves before id low held =
       let more : List IdMove = noted moves (Give id) in
       let Z : Pr = ⟦ page_owns γ more ⟧ ∗ ⟦ history_owns γ more ⟧ in
       let n : ℕ = gives before (taken_id before) in
       let early : Type 0 = IsPrefix (noted before Take) moves in
-      qed 𝓛 (‵ (history_owns γ moves) ∷ ‵ (stay_of γ before) ∷ []) ∵ move ! (1 ∷ []) $ fsplit ! $
+      qed 𝓛 (‵ (history_owns γ moves) ∷ ‵ (tenure_of γ before) ∷ []) ∵ move ! (1 ∷ []) $ fsplit ! $
       -- [the page; the count; the history]
       move ! (2 ∷ 0 ∷ []) $
       use2 𝓛 (given early (‵ (history_owns γ moves) ⊛ ‵ (page_owns γ (noted before Take)))) (page_is_early γ moves (noted before Take)) $
@@ -298,15 +298,15 @@ module _ {M : Type 1} {𝓤 : Ura M} (𝓛 : Logic 𝓤) where
       use1 𝓛 (‵ (page_owns γ more) ⊛ ‵ (history_owns γ more)) (page_of γ more) $ split ! $ suffices ! _ (upd_i 𝓤 Z) $ done !)
 
   -- while an id is held, no page says that it was given back since
-  pub stays_held : (γ : GName) (before later : List IdMove)
-      → ⟦ stay_of γ before ⟧ ∗ ⟦ page_owns γ later ⟧
-      ⊢ guard 𝓤 (gives later (taken_id before) ≤ gives before (taken_id before)) (⟦ stay_of γ before ⟧ ∗ ⟦ page_owns γ later ⟧)
+  pub tenure_held : (γ : GName) (before later : List IdMove)
+      → ⟦ tenure_of γ before ⟧ ∗ ⟦ page_owns γ later ⟧
+      ⊢ guard 𝓤 (gives later (taken_id before) ≤ gives before (taken_id before)) (⟦ tenure_of γ before ⟧ ∗ ⟦ page_owns γ later ⟧)
   unfolding page_owns held_owns
-  stays_held γ before later =
+  tenure_held γ before later =
       let id : ℕ = taken_id before in
       let n : ℕ = gives before id in
       let Few : Type 0 = gives later id ≤ n in
-      qed 𝓛 (‵ (stay_of γ before) ∷ ‵ (page_owns γ later) ∷ []) ∵ fsplit ! $ move ! (1 ∷ []) $ fpick ! (λ δ. fsplit ! $ move ! (3 ∷ []) $ fpick ! (λ δ'. fsplit ! $
+      qed 𝓛 (‵ (tenure_of γ before) ∷ ‵ (page_owns γ later) ∷ []) ∵ fsplit ! $ move ! (1 ∷ []) $ fpick ! (λ δ. fsplit ! $ move ! (3 ∷ []) $ fpick ! (λ δ'. fsplit ! $
       -- [the page's moves; its counts; the first entry; the count; the own page]
       move ! (2 ∷ 0 ∷ []) $
       use2 𝓛 (given (δ' ≡ δ) (‵ (own γ (part δ [])) ⊛ ‵ (own γ (part δ' later))))
@@ -314,7 +314,7 @@ module _ {M : Type 1} {𝓤 : Ura M} (𝓛 : Logic 𝓤) where
       learn ! (λ same. split ! $
       -- [the first entry; the page's moves; its counts; the count; the own page]
       move ! (2 ∷ []) $ rewrite ! 0 (λ (d : ℕ). ‵ (counts_page d later)) same refl $ move ! (3 ∷ 0 ∷ []) $
-      use2 𝓛 (given Few (‵ (stay_owns δ id n) ⊛ ‵ (counts_page δ later))) (not_given 𝓛 δ id n later) $
+      use2 𝓛 (given Few (‵ (tenure_owns δ id n) ⊛ ‵ (counts_page δ later))) (not_given 𝓛 δ id n later) $
       learn ! (λ few. split ! $
       -- [the count; the page's counts; the first entry; the page's moves; the own page]
       move ! (3 ∷ []) $ rewrite ! 0 (λ (d : ℕ). ‵ (own γ (part d later))) same refl $

@@ -1,9 +1,8 @@
-pub mod Moves
-pub mod Stays
+pub mod Returns
 pub mod Tied
 pub mod Guarded
 pub mod Locking
 pub mod Told
 pub mod Views
 pub mod Rights
-pub mod Tellings
+pub mod TokenLists

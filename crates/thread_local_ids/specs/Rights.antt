@@ -8,8 +8,8 @@ use base.Growing.{prefixes, growing}
 use base.Fml.{Share, Fml, fown, fsep, fex}
 use types.Keyed.{keyed}
 use Rattle.thread_local_model.specs.Held.{least}
-use Rattle.thread_local_ids.specs.Moves.{IdMove, Take, Give, move_coded, held_after, noted}
-use Rattle.thread_local_ids.specs.Stays.{gives, counts_own, counts_page, stay_owns}
+use Rattle.thread_local_model.specs.IdMoves.{IdMove, Take, Give, move_coded, held_after, noted}
+use Rattle.thread_local_ids.specs.Returns.{gives, counts_own, counts_page, tenure_owns}
 
 -- whether an id is among those whose right is out
 abbrev pub is_out : List ℕ → ℕ → Bool
@@ -63,7 +63,7 @@ abbrev pub page_as : ℕ → List IdMove → ℕ → Fml
 page_as table moves δ = fsep (moves_own table (none, kept δ moves)) (counts_page δ moves)
 
 abbrev pub held_as : ℕ → ℕ → ℕ → ℕ → Fml
-held_as table id n δ = fsep (moves_own table (none, kept δ [])) (stay_owns δ id n)
+held_as table id n δ = fsep (moves_own table (none, kept δ [])) (tenure_owns δ id n)
 
 -- these are all moves of a table, and whoever has this appends to them
 unfoldable pub history_owns : ℕ → List IdMove → Fml
@@ -81,5 +81,5 @@ held_owns table id n = fex ℕ (held_as table id n)
 abbrev pub taken_id : List IdMove → ℕ
 taken_id before = least (held_after before)
 
-abbrev pub stay_of : ℕ → List IdMove → Fml
-stay_of table before = fsep (page_owns table (noted before Take)) (held_owns table (taken_id before) (gives before (taken_id before)))
+abbrev pub tenure_of : ℕ → List IdMove → Fml
+tenure_of table before = fsep (page_owns table (noted before Take)) (held_owns table (taken_id before) (gives before (taken_id before)))

@@ -2,7 +2,7 @@
 use Rattle.std.specs.Prelude.{◌≡◌, ℕ, ◌+◌, ◌-◌, ◌^◌, ◌<◌, Bool, List}
 use Rattle.thread_local_model.specs.Held.{Manager, is_held}
 use Rattle.thread_local_ids.specs.Rights.{is_out}
-use Rattle.thread_local_ids.specs.Moves.{IdMove, held_after}
+use Rattle.thread_local_model.specs.IdMoves.{IdMove, held_after}
 use Rattle.thread_local_ids.specs.declared.ids.Ids.TheInside.{Inside}
 
 -- the manager of ids, the name of the table that the rights are to, and whether the table's

@@ -1,13 +1,13 @@
 //! An id of a table is held, with its right out, or it is free, with its right here.
 ghost use Rattle.std.specs.Prelude.{◌≡◌, ◌≢◌, ◌+◌, ◌-◌, ◌^◌, ◌≤◌, ◌<◌, ◌==◌, ℕ, min, true, false, [], if◌then◌else◌, IsOk, OnErr, IfOk};
-ghost use Rattle.thread_local_ids.specs.Moves.{Take, Give, noted};
+ghost use Rattle.thread_local_model.specs.IdMoves.{Take, Give, noted};
 ghost use mathlib.Core.List.{IsPrefix};
 ghost use Rattle.thread_local_ids.specs.Rights.{is_out, taken_id};
 ghost use Rattle.std.specs.Prelude.{alloc_error};
 ghost use Rattle.thread_local_model.specs.Held.{is_held, Takes, Gives, NeedsMemory, IsExhausted};
 
 use crate::lock::Fits;
-use crate::{HeldId, History, Page, Right, Rights, Stay};
+use crate::{HeldId, History, Page, Right, Rights, Tenure};
 use std::alloc::{AllocError, Global};
 use std::marker::Model;
 use thread_local_thread_id::manager::IDS;
@@ -91,11 +91,11 @@ impl Ids {
     /// Takes the least id that isn't held, and the right to it. It asks for memory only where every
     /// id below the peak is held and there is no room for one more, and not for the first 64 ids. It
     /// refuses where that memory isn't given, and where every id is held.
-    pub fn take(&mut self) -> Result<(HeldId, Right, Stay), LocalError>
+    pub fn take(&mut self) -> Result<(HeldId, Right, Tenure), LocalError>
         ensures ok { IfOk result (λ taken. Takes self.old.manager self.new.manager taken.0.id) }
         ensures right { IfOk result (λ taken. (taken.1.table ≡ self.old.table) × (taken.1.id ≡ taken.0.id)) }
         ensures mark { IfOk result (λ taken. taken.0.mark.table ≡ self.old.table) }
-        ensures stay { IfOk result (λ taken. (taken.2.table ≡ self.old.table) × (taken.2.before ≡ self.old.moves)) }
+        ensures tenure { IfOk result (λ taken. (taken.2.table ≡ self.old.table) × (taken.2.before ≡ self.old.moves)) }
         ensures least { IfOk result (λ taken. taken.0.id ≡ taken_id taken.2.before) }
         ensures moves { IfOk result (λ taken. self.new.moves ≡ noted self.old.moves Take) }
         ensures table { (self.new.table ≡ self.old.table)
@@ -107,17 +107,17 @@ impl Ids {
         let id = self.manager.alloc()?;
         let right = self.rights.take(id);
         let mark = self.rights.take(id + FIRST_MARK);
-        let stay = self.history.take();
-        Ok((HeldId { id, mark }, right, stay))
+        let tenure = self.history.take();
+        Ok((HeldId { id, mark }, right, tenure))
     }
 
     /// `take`, which shows that what was done before extends a page of this table.
-    pub fn take_after(&mut self, earlier: &Page) -> Result<(HeldId, Right, Stay), LocalError>
+    pub fn take_after(&mut self, earlier: &Page) -> Result<(HeldId, Right, Tenure), LocalError>
         requires { earlier.now.table ≡ self.old.table }
         ensures ok { IfOk result (λ taken. Takes self.old.manager self.new.manager taken.0.id) }
         ensures right { IfOk result (λ taken. (taken.1.table ≡ self.old.table) × (taken.1.id ≡ taken.0.id)) }
         ensures mark { IfOk result (λ taken. taken.0.mark.table ≡ self.old.table) }
-        ensures stay { IfOk result (λ taken. (taken.2.table ≡ self.old.table) × (taken.2.before ≡ self.old.moves)) }
+        ensures tenure { IfOk result (λ taken. (taken.2.table ≡ self.old.table) × (taken.2.before ≡ self.old.moves)) }
         ensures least { IfOk result (λ taken. taken.0.id ≡ taken_id taken.2.before) }
         ensures moves { IfOk result (λ taken. self.new.moves ≡ noted self.old.moves Take) }
         ensures table { (self.new.table ≡ self.old.table)
@@ -131,22 +131,22 @@ impl Ids {
 
     /// Takes a held id of this table back, with its right and what was kept of its take, and answers
     /// the page that ends with it.
-    pub fn give(&mut self, held: HeldId, right: Right, stay: Stay) -> Page
-        requires table { (right.table ≡ self.old.table) × (held.mark.table ≡ self.old.table) × (stay.table ≡ self.old.table) }
-        requires id { (right.id ≡ held.id) × (held.id ≡ taken_id stay.before) }
+    pub fn give(&mut self, held: HeldId, right: Right, tenure: Tenure) -> Page
+        requires table { (right.table ≡ self.old.table) × (held.mark.table ≡ self.old.table) × (tenure.table ≡ self.old.table) }
+        requires id { (right.id ≡ held.id) × (held.id ≡ taken_id tenure.before) }
         ensures given { Gives self.old.manager self.new.manager held.id }
         ensures moves { self.new.moves ≡ noted self.old.moves (Give held.id) }
         ensures page { (result.table ≡ self.old.table) × (result.before ≡ self.old.moves) × (result.last ≡ Give held.id) }
-        ensures early { IsPrefix (noted stay.before Take) self.old.moves }
+        ensures early { IsPrefix (noted tenure.before Take) self.old.moves }
         ensures table { (self.new.table ≡ self.old.table)
             × (self.new.table_right_is_out ≡ self.old.table_right_is_out) }
     {
-        self.history.extends(stay.page());
+        self.history.extends(tenure.page());
         let (id, mark) = held.into_parts();
         self.rights.put_back(right);
         self.rights.put_back(mark);
         self.manager.free(id);
-        self.history.give(id, stay)
+        self.history.give(id, tenure)
     }
 
     /// Takes every id back, and counts the peak anew. The room stays. The rights are fresh

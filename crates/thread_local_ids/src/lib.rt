@@ -18,7 +18,7 @@ pub use book::Book;
 pub use held::HeldId;
 pub use ids::Ids;
 pub use lock::{Fits, Lock, LockGuard};
-pub use page::{History, Page, Stay};
+pub use page::{History, Page, Tenure};
 pub use right::{Right, Rights};
 pub use token::Token;
 pub use token_list::TokenList;

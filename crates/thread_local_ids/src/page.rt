@@ -5,9 +5,9 @@ ghost use mathlib.Core.List.{IsPrefix};
 ghost use mathlib.Core.Logic.{◌∨₁◌};
 ghost use types.Logic.{sem};
 ghost use denote.Sharing.{said};
-ghost use Rattle.thread_local_ids.specs.Moves.{IdMove, Take, Give, move_coded, moves_coded, held_after, noted};
+ghost use Rattle.thread_local_model.specs.IdMoves.{IdMove, Take, Give, move_coded, moves_coded, held_after, noted};
 ghost use Rattle.thread_local_model.specs.Held.{is_held};
-ghost use Rattle.thread_local_ids.specs.Rights.{history_owns, page_owns, stay_of, taken_id};
+ghost use Rattle.thread_local_ids.specs.Rights.{history_owns, page_owns, tenure_of, taken_id};
 
 use std::marker::{Model, PhantomData};
 
@@ -40,38 +40,38 @@ impl Model for Page {
 
 /// The least id was taken after these moves, and it is held since, by whoever has this.
 #[derive(Drop)]
-pub struct Stay {
+pub struct Tenure {
     pub(crate) marker: PhantomData<()>,
     pub ghost table: { ℕ },
     pub ghost before: { List IdMove } by { moves_coded },
 }
 
-impl Model for Stay {
-    ghost also_owns = { λ s. stay_of s.table s.before };
+impl Model for Tenure {
+    ghost also_owns = { λ s. tenure_of s.table s.before };
 
     ghost also_shares = { λ s _ κ. said (page_owns s.table (noted s.before Take)) κ };
 }
 
 impl History {
     /// Notes that the least id was taken, which is held from now on.
-    pub fn take(&mut self) -> Stay
-        ensures stay { (result.table ≡ self.old.table) × (result.before ≡ self.old.moves) }
+    pub fn take(&mut self) -> Tenure
+        ensures tenure { (result.table ≡ self.old.table) × (result.before ≡ self.old.moves) }
         ensures moves { (self.new.table ≡ self.old.table) × (self.new.moves ≡ noted self.old.moves Take) }
     {
-        Stay {
+        Tenure {
             marker: PhantomData,
         }
     }
 
     /// Notes that an id was given back, and answers the page that ends with it.
-    pub fn give(&mut self, id: usize, stay: Stay) -> Page
-        requires table { stay.table ≡ self.old.table }
-        requires id { id ≡ taken_id stay.before }
+    pub fn give(&mut self, id: usize, tenure: Tenure) -> Page
+        requires table { tenure.table ≡ self.old.table }
+        requires id { id ≡ taken_id tenure.before }
         requires held { is_held (held_after self.old.moves) id ≡ true }
         ensures page { (result.table ≡ self.old.table) × (result.before ≡ self.old.moves) × (result.last ≡ Give id) }
         ensures moves { (self.new.table ≡ self.old.table) × (self.new.moves ≡ noted self.old.moves (Give id)) }
     {
-        let Stay { marker: _ } = stay;
+        let Tenure { marker: _ } = tenure;
         Page {
             marker: PhantomData,
         }
@@ -85,7 +85,7 @@ impl History {
     {}
 }
 
-impl Stay {
+impl Tenure {
     /// The page that ends with the take.
     pub fn page(&self) -> Page
         ensures { (result.table ≡ self.now.table) × (result.before ≡ self.now.before) × (result.last ≡ Take) }
@@ -130,6 +130,6 @@ unsafe impl Send for Page {}
 
 unsafe impl Sync for Page {}
 
-unsafe impl Send for Stay {}
+unsafe impl Send for Tenure {}
 
-unsafe impl Sync for Stay {}
+unsafe impl Sync for Tenure {}

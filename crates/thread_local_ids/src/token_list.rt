@@ -2,7 +2,7 @@
 ghost use Rattle.std.specs.Prelude.{◌≡◌, List, [], ◌∷◌};
 ghost use base.Stored.{coded_list};
 ghost use Rattle.thread_local_ids.specs.Views.{TokenView, token_view_coded};
-ghost use Rattle.thread_local_ids.specs.Tellings.{AllOf, tell_each};
+ghost use Rattle.thread_local_ids.specs.TokenLists.{AllOf, tell_each};
 ghost use denote.Sharing.{said};
 
 use crate::witness::Witness;

@@ -1,6 +1,6 @@
 //! A list of tokens that exists in proofs alone.
 ghost use Rattle.std.specs.Prelude.{◌≡◌, ◌-◌, ◌^◌, ◌<◌, [], ◌∷◌, All};
-ghost use Rattle.thread_local_ids.specs.Tellings.{AllOf};
+ghost use Rattle.thread_local_ids.specs.TokenLists.{AllOf};
 
 use crate::token::Token;
 use crate::token_list::TokenList;

@@ -1,5 +1,6 @@
 pub mod PlaceLaws
 pub mod HeldLaws
+pub mod IdMoveLaws
 pub mod WalkLaws
 pub mod EntriesLaws
 pub mod CapacityLaws

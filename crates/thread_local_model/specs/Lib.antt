@@ -1,5 +1,6 @@
 pub mod Place
 pub mod Held
+pub mod IdMoves
 pub mod Walk
 pub mod Buckets
 pub mod Rows

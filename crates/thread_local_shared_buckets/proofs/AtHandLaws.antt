@@ -12,9 +12,9 @@ use Rattle.thread_local_shared_buckets.specs.Positions.{resting, owed, lies_in, 
 use Rattle.thread_local_shared_buckets.specs.Positions.{IsAhead, IsSharedWalk, MovesBehind}
 use Rattle.thread_local_shared_buckets.specs.AtHand.{IsRowOf}
 use Rattle.thread_local_shared_buckets.specs.AtHand.{IsKept, IsWalk, GoesOn}
-use Rattle.thread_local_ids.specs.Tellings.{AllOf, NoneIn}
+use Rattle.thread_local_ids.specs.TokenLists.{AllOf, NoneIn}
 use Rattle.thread_local_shared_buckets.specs.Positions.{IsBehind}
-use Rattle.thread_local_shared_buckets.proofs.TellingLaws.{unmarked, skips}
+use Rattle.thread_local_shared_buckets.proofs.ToldLaws.{unmarked, skips}
 use Rattle.thread_local_shared_buckets.proofs.StepLaws.{leads_on}
 use Rattle.thread_local_shared_buckets.proofs.WalkLaws.{own_after_bucket}
 use Rattle.thread_local_shared_buckets.proofs.BitLaws.{none_set}

@@ -1,6 +1,6 @@
 pub mod Lists
 pub mod Redeemed
-pub mod TellingLaws
+pub mod ToldLaws
 mod Turned
 pub mod Fields
 pub mod StepLaws

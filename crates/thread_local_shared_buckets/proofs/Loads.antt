@@ -20,8 +20,8 @@ use Rattle.thread_local_model.specs.Fact.{fact}
 use Rattle.thread_local_ids.specs.Told.{untold_in, tells}
 use Rattle.thread_local_ids.proofs.ToldElements.{telling_alike}
 use Rattle.thread_local_ids.specs.Views.{TokenView}
-use Rattle.thread_local_ids.specs.Tellings.{AllOf, tell_each}
-use Rattle.thread_local_ids.proofs.Listing.{slot_agrees}
+use Rattle.thread_local_ids.specs.TokenLists.{AllOf, tell_each}
+use Rattle.thread_local_ids.proofs.TokenListLaws.{slot_agrees}
 use Rattle.thread_local_shared_buckets.proofs.ChunkLooks.{all_from}
 use Rattle.thread_local_shared_buckets.specs.Shared.{BucketView, Turn, StandingBlock, block_code, Sized, len, first}
 use Rattle.thread_local_shared_buckets.specs.Shared.{all_unborn, standing, beside_pointer, bucket_invariant, loaded}

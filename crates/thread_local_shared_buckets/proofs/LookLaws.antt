@@ -12,9 +12,9 @@ use Rattle.thread_local_shared_buckets.specs.Positions.{lies_in, is_at, own_inde
 use Rattle.thread_local_shared_buckets.specs.Positions.{IsAhead}
 use Rattle.thread_local_shared_buckets.specs.AtHand.{LiesOutside, IsRead, IsAlone, LooksAt, HasLooked, IsRowOf, slot_of}
 use Rattle.thread_local_shared_buckets.specs.AtHand.{IsKept, IsWalk, LooksIn, IsMarked, IsFoundAt, FindsTokens}
-use Rattle.thread_local_ids.specs.Tellings.{AllOf, NoneIn}
+use Rattle.thread_local_ids.specs.TokenLists.{AllOf, NoneIn}
 use Rattle.thread_local_shared_buckets.specs.Positions.{IsBehind}
-use Rattle.thread_local_shared_buckets.proofs.TellingLaws.{found_all, marked_on, all_behind}
+use Rattle.thread_local_shared_buckets.proofs.ToldLaws.{found_all, marked_on, all_behind}
 use Rattle.thread_local_shared_buckets.proofs.BitLaws.{added_set, both_if, both_so, none_set, was_set}
 use Rattle.thread_local_shared_buckets.proofs.OwnLaws.{at_index, at_own_index, elsewhere, index_of_own}
 

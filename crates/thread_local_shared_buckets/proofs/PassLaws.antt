@@ -16,7 +16,7 @@ use Rattle.thread_local_shared_buckets.specs.Positions.{IsToldAt, IsSharedWalk}
 use Rattle.thread_local_shared_buckets.specs.AtHand.{IsSetIn, IsGivenBy, slot_of, HasSeen, IsAtHand}
 use Rattle.thread_local_shared_buckets.specs.AtHand.{IsKept, IsWalk}
 use Rattle.thread_local_shared_buckets.proofs.WalkLaws.{few, IsBefore, given_found, Gave, gave_own}
-use Rattle.thread_local_shared_buckets.proofs.TellingLaws.{marked_later}
+use Rattle.thread_local_shared_buckets.proofs.ToldLaws.{marked_later}
 use Rattle.thread_local_shared_buckets.proofs.BitLaws.{both_if, both_so, by_test, later, stays_set}
 
 module _ {V : Type 0} where

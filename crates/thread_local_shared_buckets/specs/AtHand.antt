@@ -8,7 +8,7 @@ use Rattle.thread_local_shared_buckets.specs.declared.row.Row.{Row}
 use Rattle.thread_local_shared_buckets.specs.declared.seen.Seen.{Seen}
 use Rattle.thread_local_shared_buckets.specs.declared.steps.Own.{Own}
 use Rattle.thread_local_shared_buckets.specs.declared.steps.Walk.{Walk}
-use Rattle.thread_local_ids.specs.Tellings.{AllOf}
+use Rattle.thread_local_ids.specs.TokenLists.{AllOf}
 use Rattle.thread_local_ids.specs.Views.{TokenView}
 use Rattle.thread_local_shared_buckets.specs.Positions.{Found, resting, lies_in, is_at, OwnIsTold, IsSharedWalk}
 use Rattle.thread_local_shared_buckets.specs.Positions.{Skips, IsBehind}

@@ -9,7 +9,7 @@ use denote.RattleType.{RattleType}
 use Rattle.thread_local_model.specs.Cursor.{Cursor, fresh_cursor, cursor_id, is_complete, after_look}
 use Rattle.thread_local_judged.specs.Judged.{Shareable}
 use Rattle.thread_local_ids.specs.Views.{TokenView, token_view_coded}
-use Rattle.thread_local_ids.specs.Tellings.{AllOf}
+use Rattle.thread_local_ids.specs.TokenLists.{AllOf}
 use Rattle.thread_local_shared_buckets.specs.Steps.{Leads}
 
 -- an own value that a walk has still to give, and its id

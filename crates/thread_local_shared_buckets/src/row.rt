@@ -3,7 +3,7 @@
 ghost use Rattle.std.specs.Prelude.{◌≡◌, ℕ, ◌+◌, ◌*◌, ◌^◌, ◌<◌, true, List};
 ghost use Rattle.thread_local_model.specs.Bits.{is_set};
 ghost use Rattle.thread_local_model.specs.Place.{id_at};
-ghost use Rattle.thread_local_ids.specs.Tellings.{AllOf};
+ghost use Rattle.thread_local_ids.specs.TokenLists.{AllOf};
 ghost use Rattle.thread_local_judged.specs.Judged.{Shareable};
 ghost use Rattle.thread_local_bucket_pointers.specs.Slots.{flag_word_at};
 ghost use Rattle.thread_local_shared_buckets.specs.Shared.{BucketView, bucket_view_coded, row_owns};

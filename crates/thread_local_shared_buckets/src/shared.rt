@@ -1,7 +1,7 @@
 //! A table's buckets while threads share them through a `&`. By value or through a `&mut` they are
 //! an owner's `Buckets` again.
 ghost use Rattle.std.specs.Prelude.{◌≡◌, ◌≢◌, ◌+◌, ◌^◌, ◌<◌, ◌≤◌, ℕ, false, None, Option, IfSome, IsSome};
-ghost use Rattle.thread_local_ids.specs.Tellings.{NoneIn};
+ghost use Rattle.thread_local_ids.specs.TokenLists.{NoneIn};
 ghost use Rattle.thread_local_model.specs.Learnt.{Unknown, Missing, Finds};
 ghost use Rattle.thread_local_model.specs.Owned.{IsOwned, AreOfFirstBuckets};
 ghost use Rattle.thread_local_model.specs.Place.{bucket_of, id_at};

@@ -1,7 +1,7 @@
 //! A walk that runs to its end gives the value of each token of a list.
 ghost use Rattle.std.specs.Prelude.{◌≡◌, ◌-◌, ◌^◌, ◌<◌, IfOk, IsSome, Contains};
 ghost use Rattle.std.specs.List.{AllPairs};
-ghost use Rattle.thread_local_ids.specs.Tellings.{AllOf};
+ghost use Rattle.thread_local_ids.specs.TokenLists.{AllOf};
 
 use std::alloc::{AllocError, Global};
 use thread_local_ids::{Told, Token};

@@ -1,7 +1,7 @@
 -- The chunks before this one have no own slot, and no token is of one of their slots.
 use Rattle.std.proofs.Common.{◌≡◌, ◌≤◌, ◌<◌, ◌*◌, ◌^◌, ℕ, IfSome}
 use Rattle.thread_local_model.specs.Place.{id_at}
-use Rattle.thread_local_ids.specs.Tellings.{AllOf}
+use Rattle.thread_local_ids.specs.TokenLists.{AllOf}
 use Rattle.thread_local_shared_buckets.specs.AtHand.{LiesOutside}
 use Rattle.thread_local_shared_buckets.proofs.steps.look_on.Given as goal
 

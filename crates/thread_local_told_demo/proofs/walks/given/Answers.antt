@@ -7,9 +7,9 @@ use Rattle.std.proofs.lemmas.List.Elements.{Contains-append_left, Contains-push,
 use denote.Ref.{Bor}
 use Rattle.thread_local_model.specs.Cursor.{cursor_id}
 use Rattle.thread_local_ids.specs.Views.{TokenView}
-use Rattle.thread_local_ids.specs.Tellings.{AllOf}
+use Rattle.thread_local_ids.specs.TokenLists.{AllOf}
 use Rattle.thread_local_shared_buckets.specs.Walks.{Meets}
-use Rattle.thread_local_shared_buckets.proofs.TellingLaws.{moved}
+use Rattle.thread_local_shared_buckets.proofs.ToldLaws.{moved}
 use Rattle.thread_local_told_demo.proofs.walks.given.Goals as goal
 
 -- what was given so far, with one more item

@@ -3,7 +3,7 @@ use Rattle.std.proofs.Common.{◌≡◌, ◌<◌}
 use Rattle.std.specs.Prelude.{Contains, All}
 use Rattle.std.specs.List.{AllPairs}
 use Rattle.thread_local_model.specs.Cursor.{cursor_id}
-use Rattle.thread_local_ids.specs.Tellings.{AllOf}
+use Rattle.thread_local_ids.specs.TokenLists.{AllOf}
 use Rattle.thread_local_told_demo.proofs.walks.given.Given as goal
 
 abbrev pub invariant-loop-token : goal.invariant-loop-token

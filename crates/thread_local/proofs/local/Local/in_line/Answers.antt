@@ -2,7 +2,7 @@ use Rattle.std.proofs.Common.{◌≡◌, sym, subst}
 use Rattle.std.specs.Prelude.{List}
 use mathlib.Core.List.{IsPrefix}
 use mathlib.Core.Logic.{◌∨₁◌}
-use Rattle.thread_local_ids.specs.Moves.{IdMove, Take, noted}
+use Rattle.thread_local_model.specs.IdMoves.{IdMove, Take, noted}
 use Rattle.thread_local.proofs.local.Local.in_line.Goals as goal
 
 alike : (a b c d : List IdMove) (x y : IdMove) → a ≡ c → x ≡ Take → b ≡ d → y ≡ Take

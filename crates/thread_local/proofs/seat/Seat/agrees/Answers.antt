@@ -22,7 +22,7 @@ agrees-requires-clause-named g c =
 
 pub invariant_of-self : goal.invariant_of-self
 invariant_of-self g c =
-    subst (λ (claim : ClaimView g.row.T.Denot). IsSeated c.self.inside.table.now claim c.self.inside.stay) (sym c.agrees.ensures.same)
+    subst (λ (claim : ClaimView g.row.T.Denot). IsSeated c.self.inside.table.now claim c.self.inside.tenure) (sym c.agrees.ensures.same)
     c.self.invariant
 
 pub returns-clause-holds : goal.returns-clause-holds
@@ -32,4 +32,4 @@ returns-clause-holds g c =
 
 pub returns-clause-same : goal.returns-clause-same
 returns-clause-same g c =
-    ap (λ (claim : ClaimView g.row.T.Denot). local_view c.self.inside.table.now claim c.self.inside.stay.before) c.agrees.ensures.same ∙ c.self.view_is
+    ap (λ (claim : ClaimView g.row.T.Denot). local_view c.self.inside.table.now claim c.self.inside.tenure.before) c.agrees.ensures.same ∙ c.self.view_is

@@ -4,7 +4,7 @@ use Rattle.thread_local_model.specs.Place.{IsPlaceOf}
 use Rattle.thread_local_model.specs.Learnt.{Learnt, Unknown, Missing, Standing, Vacant, Holding}
 use Rattle.thread_local_model.specs.Answers.{view_of}
 use Rattle.std.specs.Prelude.{List}
-use Rattle.thread_local_ids.specs.Moves.{IdMove}
+use Rattle.thread_local_model.specs.IdMoves.{IdMove}
 use Rattle.thread_local_shared_buckets.specs.Known.{HasLooked}
 use Rattle.thread_local_shared_buckets.specs.Views.{ClaimView}
 use Rattle.thread_local_shared_buckets.specs.TableView.{TableView}
@@ -77,18 +77,18 @@ invariant_of-self g c =
 pub returns-then-is_missing-clause-ok : goal.returns-then-is_missing-clause-ok
 returns-then-is_missing-clause-ok g c =
     on_ok c.make_bucket.result
-    (now_knowing c.self.inside.table.now c.self.inside.claim c.make_bucket.new.claim c.self.inside.stay.before
+    (now_knowing c.self.inside.table.now c.self.inside.claim c.make_bucket.new.claim c.self.inside.tenure.before
     c.make_bucket.ensures.same_slot.2 c.args.self.now c.self.view_is Vacant)
     c.make_bucket.ensures.ok
 
 pub returns-then-is_missing-clause-err : goal.returns-then-is_missing-clause-err
 returns-then-is_missing-clause-err g c =
     on_err c.make_bucket.result
-    (refused c.self.inside.table.now c.self.inside.claim c.args.self.now c.self.inside.stay.before c.self.view_is c.make_bucket.new.claim
+    (refused c.self.inside.table.now c.self.inside.claim c.args.self.now c.self.inside.tenure.before c.self.view_is c.make_bucket.new.claim
     c.make_bucket.ensures.same_slot.2 c.if-is_missing.ensures)
     c.make_bucket.ensures.err
 
 pub returns-clause-ok : goal.returns-clause-ok
 returns-clause-ok g c =
-    found c.self.inside.table.now c.self.inside.claim c.args.self.now c.self.inside.stay.before c.self.view_is c.self.invariant.known
+    found c.self.inside.table.now c.self.inside.claim c.args.self.now c.self.inside.tenure.before c.self.view_is c.self.invariant.known
     c.if-is_missing.ensures c.requires.empty

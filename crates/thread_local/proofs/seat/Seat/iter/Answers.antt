@@ -5,7 +5,7 @@ use Rattle.thread_local_shared_buckets.specs.Views.{ClaimView}
 use Rattle.thread_local_shared_buckets.specs.TableView.{TableView}
 use Rattle.thread_local_shared_buckets.specs.Walks.{WalkView, Owed}
 use Rattle.std.specs.Prelude.{List}
-use Rattle.thread_local_ids.specs.Moves.{IdMove}
+use Rattle.thread_local_model.specs.IdMoves.{IdMove}
 use Rattle.thread_local.specs.Seats.{LocalView, local_view, own_of}
 use Rattle.thread_local.proofs.seat.Seat.iter.Goals as goal
 
@@ -46,7 +46,7 @@ pub returns-in-Some-clause-own : goal.returns-in-Some-clause-own
 returns-in-Some-clause-own g c =
     let told = c.in-Some.ensures in
     ap (λ (walk : WalkView g.row.T.Denot). walk.own) c.with_own.ensures
-    ∙ own_held c.self.inside.table.now c.self.inside.claim c.self.inside.stay.before c.in-Some.token.id c.in-Some.value.now told.1 told.3
+    ∙ own_held c.self.inside.table.now c.self.inside.claim c.self.inside.tenure.before c.in-Some.token.id c.in-Some.value.now told.1 told.3
     ∙ ap (λ (view : LocalView g.row.T.Denot). own_of view) c.self.view_is
 
 pub returns-in-Some-clause-shown : goal.returns-in-Some-clause-shown
@@ -64,7 +64,7 @@ returns-in-None-clause-begins g c = ap (λ (walk : WalkView g.row.T.Denot). walk
 pub returns-in-None-clause-own : goal.returns-in-None-clause-own
 returns-in-None-clause-own g c =
     ap (λ (walk : WalkView g.row.T.Denot). walk.own) c.new.ensures
-    ∙ own_none c.self.inside.table.now c.self.inside.claim c.self.inside.stay.before c.in-None.ensures
+    ∙ own_none c.self.inside.table.now c.self.inside.claim c.self.inside.tenure.before c.in-None.ensures
     ∙ ap (λ (view : LocalView g.row.T.Denot). own_of view) c.self.view_is
 
 pub returns-in-None-clause-shown : goal.returns-in-None-clause-shown

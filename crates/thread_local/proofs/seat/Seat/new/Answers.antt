@@ -8,8 +8,8 @@ pub invariant_of-result : goal.invariant_of-result
 invariant_of-result g c =
     let made = c.claim in
     let given = c.args.held in
-    subst (λ (t : TableView). IsSeated t made.result c.args.stay) c.table.view_is
-    (seated c.table.inside.buckets made.result c.args.stay given.id made.ensures.same_slot.0
+    subst (λ (t : TableView). IsSeated t made.result c.args.tenure) c.table.view_is
+    (seated c.table.inside.buckets made.result c.args.tenure given.id made.ensures.same_slot.0
     made.ensures.same_slot.1 made.ensures.same_slot.2 given.in_range made.ensures.learnt
     made.ensures.reserved
     (c.requires.table.2 ∙ sym (ap (λ (t : TableView). t.table) c.table.view_is))

@@ -3,7 +3,7 @@ use Rattle.thread_local_model.specs.Place.{IsPlaceOf}
 use Rattle.thread_local_model.specs.Learnt.{Learnt, Unknown, Missing, Standing, Vacant, Holding, learnt_by_publish}
 use Rattle.thread_local_model.specs.Answers.{View, view_of}
 use Rattle.std.specs.Prelude.{List}
-use Rattle.thread_local_ids.specs.Moves.{IdMove}
+use Rattle.thread_local_model.specs.IdMoves.{IdMove}
 use Rattle.thread_local_shared_buckets.specs.Known.{HasLooked}
 use Rattle.thread_local_shared_buckets.specs.Views.{ClaimView}
 use Rattle.thread_local_shared_buckets.specs.TableView.{TableView}
@@ -41,7 +41,7 @@ never_missing learnt value is missing = cc
 -- The search for these takes a second.
 pub publish-requires-clause-vacant : goal.publish-requires-clause-vacant
 publish-requires-clause-vacant g c =
-    is_vacant c.self.inside.table.now c.self.inside.claim c.args.self.now c.self.inside.stay.before c.self.invariant.known c.self.view_is c.requires.vacant
+    is_vacant c.self.inside.table.now c.self.inside.claim c.args.self.now c.self.inside.tenure.before c.self.invariant.known c.self.view_is c.requires.vacant
 
 pub publish-requires-clause-place : goal.publish-requires-clause-place
 publish-requires-clause-place g c =
@@ -53,7 +53,7 @@ pub invariant_of-self : goal.invariant_of-self
 invariant_of-self g c =
     let is = c.self.invariant in
     let same = c.publish.ensures.same_slot in
-    let empty = is_vacant c.self.inside.table.now c.self.inside.claim c.args.self.now c.self.inside.stay.before is.known c.self.view_is c.requires.vacant in
+    let empty = is_vacant c.self.inside.table.now c.self.inside.claim c.args.self.now c.self.inside.tenure.before is.known c.self.view_is c.requires.vacant in
     let holds = published c.self.inside.claim.learnt c.publish.new.self.learnt c.args.value empty c.publish.ensures.learnt in
     record {
       table = same.0 ∙ is.table;
@@ -67,7 +67,7 @@ invariant_of-self g c =
 
 pub returns : goal.returns
 returns g c =
-    let empty = is_vacant c.self.inside.table.now c.self.inside.claim c.args.self.now c.self.inside.stay.before c.self.invariant.known c.self.view_is c.requires.vacant in
-    now_knowing c.self.inside.table.now c.self.inside.claim c.publish.new.self c.self.inside.stay.before c.publish.ensures.same_slot.2
+    let empty = is_vacant c.self.inside.table.now c.self.inside.claim c.args.self.now c.self.inside.tenure.before c.self.invariant.known c.self.view_is c.requires.vacant in
+    now_knowing c.self.inside.table.now c.self.inside.claim c.publish.new.self c.self.inside.tenure.before c.publish.ensures.same_slot.2
     c.args.self.now c.self.view_is (Holding c.args.value)
     (published c.self.inside.claim.learnt c.publish.new.self.learnt c.args.value empty c.publish.ensures.learnt)

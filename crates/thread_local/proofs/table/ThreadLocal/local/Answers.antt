@@ -2,7 +2,7 @@ use Rattle.std.proofs.Common.{◌≡◌, ◌∙◌, ℕ, ◌<◌, ◌-◌, ◌^�
 use Rattle.thread_local_shared_buckets.specs.TableView.{TableView}
 use Rattle.std.specs.Prelude.{List}
 use Rattle.thread_local_model.specs.Held.{least}
-use Rattle.thread_local_ids.specs.Moves.{IdMove, held_after}
+use Rattle.thread_local_model.specs.IdMoves.{IdMove, held_after}
 use Rattle.thread_local.specs.Seats.{LocalView}
 use Rattle.thread_local.proofs.table.ThreadLocal.local.Goals as goal
 
@@ -21,7 +21,7 @@ new-requires g c =
     let table : c.deref_mut.result.now.table ≡ c.args.self.now.table =
     rw c.deref_mut.ensures.value
     (c.lock.ensures.tag.1 ∙ c.self.invariant.0 ∙ ap (λ (t : TableView). t.table) c.self.view_is)
-    in (lit< tt, ((taken.right.0 ∙ table, taken.mark ∙ table, taken.stay.0 ∙ table), (taken.right.1, taken.least)))
+    in (lit< tt, ((taken.right.0 ∙ table, taken.mark ∙ table, taken.tenure.0 ∙ table), (taken.right.1, taken.least)))
 
 pub returns-clause-table : goal.returns-clause-table
 returns-clause-table g c =

@@ -2,7 +2,7 @@ use Rattle.std.proofs.Common.{◌≡◌, ◌∙◌, ℕ, true, sym, ap, subst, l
 use Rattle.thread_local_shared_buckets.specs.TableView.{TableView}
 use Rattle.std.specs.Prelude.{List}
 use Rattle.thread_local_model.specs.Held.{least, is_held}
-use Rattle.thread_local_ids.specs.Moves.{IdMove, held_after, noted}
+use Rattle.thread_local_model.specs.IdMoves.{IdMove, held_after, noted}
 use mathlib.Core.List.{IsPrefix}
 use Rattle.thread_local.specs.Seats.{LocalView}
 use Rattle.thread_local.proofs.table.ThreadLocal.local_after.Goals as goal
@@ -22,7 +22,7 @@ new-requires g c =
     let table : c.deref_mut.result.now.table ≡ c.args.self.now.table =
     rw c.deref_mut.ensures.value
     (c.lock.ensures.tag.1 ∙ c.self.invariant.0 ∙ ap (λ (t : TableView). t.table) c.self.view_is)
-    in (lit< tt, ((taken.right.0 ∙ table, taken.mark ∙ table, taken.stay.0 ∙ table), (taken.right.1, taken.least)))
+    in (lit< tt, ((taken.right.0 ∙ table, taken.mark ∙ table, taken.tenure.0 ∙ table), (taken.right.1, taken.least)))
 
 pub returns-clause-table : goal.returns-clause-table
 returns-clause-table g c =
@@ -44,5 +44,5 @@ pub returns-clause-early : goal.returns-clause-early
 returns-clause-early g c =
     subst (λ (before : List IdMove). IsPrefix (noted c.args.earlier.now.before c.args.earlier.now.last) before)
     (sym (ap (λ (view : LocalView g.row.T.Denot). view.before) c.new-2.ensures ∙ c.new.ensures.id.1
-    ∙ c.in_ok-held.ensures.stay.1))
+    ∙ c.in_ok-held.ensures.tenure.1))
     c.take_after.ensures.early

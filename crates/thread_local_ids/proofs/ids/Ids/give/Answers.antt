@@ -1,9 +1,9 @@
 use Rattle.std.proofs.Common.{rules, ◌∙◌, sym, ap, ℕ}
 use Rattle.std.specs.Prelude.{List, Bool}
 use Rattle.thread_local_model.specs.Held.{without}
-use Rattle.thread_local_ids.specs.Moves.{Give, held_after, noted}
+use Rattle.thread_local_model.specs.IdMoves.{Give, held_after, noted}
 use Rattle.thread_local_ids.specs.declared.page.History.{History}
-use Rattle.thread_local_ids.proofs.HeldMoves.{after_give}
+use Rattle.thread_local_model.proofs.IdMoveLaws.{after_give}
 use Rattle.thread_local_ids.proofs.ids.Ids.give.Goals as goal
 
 pub invariant_of-self : goal.invariant_of-self

@@ -19,23 +19,23 @@ use denote.Signature.{plain}
 use denote.Steps.{nothing, opens, closes, heard}
 use denote.Triple.Walked.{Stays, walk_of, stay_dropped, Goes-dropped, stay_ref, Goes-ref, ends_at}
 use Rattle.std.proofs.raw_atomic.Walks.{proved}
-use Rattle.thread_local_ids.specs.Rights.{history_owns, page_owns, stay_of, taken_id}
+use Rattle.thread_local_ids.specs.Rights.{history_owns, page_owns, tenure_of, taken_id}
 use Rattle.thread_local_model.specs.Held.{is_held}
-use Rattle.thread_local_ids.specs.Moves.{held_after}
+use Rattle.thread_local_model.specs.IdMoves.{held_after}
 use contract.Monad.{fact}
-use Rattle.thread_local_ids.specs.Moves.{IdMove, Give, noted}
+use Rattle.thread_local_model.specs.IdMoves.{IdMove, Give, noted}
 use Rattle.thread_local_ids.proofs.MoveElements.{note_give}
 use Rattle.thread_local_ids.proofs.Facts.{tells, tells_last}
 use Rattle.thread_local_ids.proofs.Markers.{token, told, Mark, made}
 use Rattle.thread_local_ids.specs.contracts.page.Page as page
-use Rattle.thread_local_ids.specs.contracts.page.Stay as stay
+use Rattle.thread_local_ids.specs.contracts.page.Tenure as tenure
 use Rattle.thread_local_ids.specs.contracts.page.History.{the_row as R}
 use Rattle.thread_local_ids.specs.contracts.page.History.give as f
 use Rattle.thread_local_ids.proofs.page.History.give.Statement.{statement}
 use Rattle.thread_local_ids.proofs.page.History.give.Code as code
 
 abbrev stayed : Stays f.ended.signature.params f.ended.kept
-stayed = (stay_ref (0 ∷ []) tt (plain (λ _. R)), (stay_dropped (plain (λ _. usize)) yes, (stay_dropped (plain (λ _. stay.the_row)) yes, tt)))
+stayed = (stay_ref (0 ∷ []) tt (plain (λ _. R)), (stay_dropped (plain (λ _. usize)) yes, (stay_dropped (plain (λ _. tenure.the_row)) yes, tt)))
 
 pub give_spec : {M : Type 1} → statement M
 give_spec 𝓤 𝓛 𝓜 𝓡 wired =
@@ -44,10 +44,10 @@ give_spec 𝓤 𝓛 𝓜 𝓡 wired =
     let 𝓣 = tables 𝓤 𝓛.H 𝓜 𝓡 𝓡.env in
     proved 𝓛 f.ended stayed c 𝓜 𝓡 (
       Goes-ref 𝓛 1 0 tt (plain (λ _. R)),
-      (Goes-dropped 𝓛 1 (plain (λ _. usize)) yes (λ κs x w. refl), (Goes-dropped 𝓛 1 (plain (λ _. stay.the_row)) yes (λ κs x w. refl), tt)),
+      (Goes-dropped 𝓛 1 (plain (λ _. usize)) yes (λ κs x w. refl), (Goes-dropped 𝓛 1 (plain (λ _. tenure.the_row)) yes (λ κs x w. refl), tt)),
     )
     f.Key.name code.function (code.unfolded 𝓤 𝓛.H 𝓜 𝓡 wired)
-    (λ κs. (mut_vals, (uint_vals w64, ((λ x. token ∷ []), tt)))) (λ κs. (mut_Tells (named 0) κs.0 R, (uint_Tells w64, ((λ x vs is. told (stay.the_type).name vs is.0), tt)))) (λ κs qs bounds a g are.
+    (λ κs. (mut_vals, (uint_vals w64, ((λ x. token ∷ []), tt)))) (λ κs. (mut_Tells (named 0) κs.0 R, (uint_Tells w64, ((λ x vs is. told (tenure.the_type).name vs is.0), tt)))) (λ κs qs bounds a g are.
     let r = a.0 in
     let id : ℕ = a.1.0 in
     let mine = a.1.1.0 in
@@ -62,12 +62,12 @@ give_spec 𝓤 𝓛 𝓜 𝓡 wired =
     let Low : Type 0 = id ≡ taken_id mine.before in
     let Is : Type 0 = is_held (held_after s.moves) id ≡ true in
     qed 𝓛 (((‵ (flft κs.0 qs.0) ⊛ ‵ ftrue) ⊛ ‵ ((MutRef (named 0) κs.0 R).own_val r (u ∷ []))
-    ⊛ ‵ (usize.own_val id (uint_vals w64 id)) ⊛ ‵ (stay.the_row.own_val mine (token ∷ [])) ⊛ ‵ ftrue)
+    ⊛ ‵ (usize.own_val id (uint_vals w64 id)) ⊛ ‵ (tenure.the_row.own_val mine (token ∷ [])) ⊛ ‵ ftrue)
     ∷ raw (fact 𝓤 At) ∷ raw (fact 𝓤 Low) ∷ raw (fact 𝓤 Is) ∷ []) ∵
     keep ! (1 ∷ 2 ∷ 3 ∷ 0 ∷ []) $ heard ! At (λ at. heard ! Low (λ low. heard ! Is (λ is.
     split ! $ split ! $ move ! (2 ∷ []) $ split ! $ move ! (1 ∷ []) $ split ! $ move ! (1 ∷ []) $ split ! $
     fsplit ! $ keep ! (1 ∷ 4 ∷ 5 ∷ []) $
-    rewrite ! 0 (λ (t : ℕ). ‵ (stay_of t mine.before)) at refl $
+    rewrite ! 0 (λ (t : ℕ). ‵ (tenure_of t mine.before)) at refl $
     enter ! _ _ _ _ _ $ alloc_all ! (λ l. pass_all ! refl ((tt, tt), ((tt, record { fits = are.1.0.1 }), ((tt, (tt, tt)), tt))) $
     move ! (1 ∷ []) $ fsplit3 ! $ move ! (1 ∷ 2 ∷ 4 ∷ []) $ opens ! tt R b o (λ us.
     move ! (1 ∷ []) $ fsplit ! $ move ! (1 ∷ 7 ∷ []) $

@@ -16,12 +16,12 @@ use denote.Signature.{plain}
 use denote.Steps.{nothing, opens, closes}
 use denote.Triple.Walked.{Stays, walk_of, stay_ref, Goes-ref, ends_at}
 use Rattle.std.proofs.raw_atomic.Walks.{proved}
-use Rattle.thread_local_ids.specs.Rights.{history_owns, stay_of}
-use Rattle.thread_local_ids.specs.Moves.{IdMove, Take, noted}
+use Rattle.thread_local_ids.specs.Rights.{history_owns, tenure_of}
+use Rattle.thread_local_model.specs.IdMoves.{IdMove, Take, noted}
 use Rattle.thread_local_ids.proofs.MoveElements.{note_take}
 use Rattle.thread_local_ids.proofs.Facts.{tells, tells_last}
 use Rattle.thread_local_ids.proofs.Markers.{token, Mark, made}
-use Rattle.thread_local_ids.specs.contracts.page.Stay as page
+use Rattle.thread_local_ids.specs.contracts.page.Tenure as page
 use Rattle.thread_local_ids.specs.contracts.page.History.{the_row as R}
 use Rattle.thread_local_ids.specs.contracts.page.History.take as f
 use Rattle.thread_local_ids.proofs.page.History.take.Statement.{statement}
@@ -52,7 +52,7 @@ take_spec 𝓤 𝓛 𝓜 𝓡 wired =
     enter ! _ _ _ _ _ $ alloc_all ! (λ l. pass_all ! refl ((tt, tt), tt) $
     fsplit3 ! $ move ! (1 ∷ 2 ∷ 3 ∷ []) $ opens ! tt R b o (λ us.
     move ! (1 ∷ []) $ fsplit ! $ move ! (1 ∷ []) $
-    use1 𝓛 (later (‵ (stay_of s.table s.moves) ⊛ ‵ (history_owns s.table more)))
+    use1 𝓛 (later (‵ (tenure_of s.table s.moves) ⊛ ‵ (history_owns s.table more)))
     (via 𝓤 _ (note_take 𝓛 s.table s.moves) (basic 𝓛 _)) $ await ! tt $
     split ! $
     -- [the right; the rights; the fields; the cell and the open borrow]

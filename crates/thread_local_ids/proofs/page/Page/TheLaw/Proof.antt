@@ -7,7 +7,7 @@ use denote.Struct.Laws.{field_copy}
 use denote.Struct.Lending.{of_Lends}
 use denote.Builtin.{unit}
 use Rattle.std.specs.contracts.marker.PhantomData as P
-use Rattle.thread_local_ids.specs.Moves.{noted}
+use Rattle.thread_local_model.specs.IdMoves.{noted}
 use Rattle.thread_local_ids.specs.Rights.{page_owns}
 use Rattle.thread_local_ids.specs.contracts.page.Page as C
 use Rattle.thread_local_ids.proofs.MoveElements.{page_twice}

@@ -1,6 +1,6 @@
 -- Threads may share it: its element names none.
 use denote.Param.Send.{IsSync}
-use Rattle.thread_local_ids.specs.Moves.{noted}
+use Rattle.thread_local_model.specs.IdMoves.{noted}
 use Rattle.thread_local_ids.proofs.MoveElements.{page_keyless}
 use Rattle.thread_local_ids.specs.contracts.page.Page.{the_row}
 

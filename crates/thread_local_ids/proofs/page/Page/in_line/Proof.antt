@@ -9,7 +9,7 @@ use Rattle.thread_local_model.proofs.Names.{shr_Tells, Stays, stay_dropped, walk
 use Rattle.thread_local_model.proofs.Names.{alive, unhide}
 use mathlib.Core.List.{IsPrefix}
 use mathlib.Core.Logic.{◌∨₁◌}
-use Rattle.thread_local_ids.specs.Moves.{IdMove, noted}
+use Rattle.thread_local_model.specs.IdMoves.{IdMove, noted}
 use Rattle.thread_local_ids.specs.Rights.{page_owns}
 use Rattle.thread_local_ids.specs.contracts.page.Page as Page
 use Rattle.thread_local_ids.proofs.MoveElements.{in_line}

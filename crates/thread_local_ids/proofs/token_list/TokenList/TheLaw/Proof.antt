@@ -5,9 +5,9 @@ use denote.Param.Shared.{copy_shared}
 use denote.Struct.Laws.{field_copy}
 use denote.Struct.Lending.{of_Lends}
 use Rattle.std.specs.contracts.marker.PhantomData as P
-use Rattle.thread_local_ids.specs.Tellings.{tell_each}
+use Rattle.thread_local_ids.specs.TokenLists.{tell_each}
 use Rattle.thread_local_ids.specs.contracts.token_list.TokenList as C
-use Rattle.thread_local_ids.proofs.Listing.{each_dup, each_laws}
+use Rattle.thread_local_ids.proofs.TokenListLaws.{each_dup, each_laws}
 use Rattle.thread_local_ids.proofs.Twice.{lends_twice}
 use Rattle.thread_local_ids.proofs.token_list.TokenList.TheLaw.Statement.{statement}
 

@@ -7,7 +7,7 @@ use Rattle.thread_local_model.proofs.Names.{plain, nothing, param, layouts, RefO
 use Rattle.thread_local_model.proofs.Names.{stay_dropped, walk_of, Goes-dropped, proved, leaves, alive, unhide}
 use Rattle.thread_local_ids.specs.contracts.token_list.TokenList as TokenList
 use Rattle.thread_local_ids.proofs.Made.{token_val}
-use Rattle.thread_local_ids.proofs.Listing.{list_made}
+use Rattle.thread_local_ids.proofs.TokenListLaws.{list_made}
 use Rattle.thread_local_ids.specs.contracts.token_list.TokenList.again.{ended, clauses}
 use Rattle.thread_local_ids.specs.contracts.token_list.TokenList.again.Key.{name as #self}
 use Rattle.thread_local_ids.proofs.token_list.TokenList.again.Statement.{statement}

@@ -9,10 +9,10 @@ use Rattle.thread_local_model.proofs.Names.{shr_Tells, Stays, stay_dropped, walk
 use Rattle.thread_local_model.proofs.Names.{alive, unhide, Fml}
 use Rattle.thread_local_ids.specs.Told.{tells}
 use Rattle.thread_local_ids.specs.Views.{TokenView}
-use Rattle.thread_local_ids.specs.Tellings.{AllOf, tell_each}
+use Rattle.thread_local_ids.specs.TokenLists.{AllOf, tell_each}
 use Rattle.thread_local_ids.specs.contracts.witness.Witness as Witness
 use Rattle.thread_local_ids.specs.contracts.token_list.TokenList as TokenList
-use Rattle.thread_local_ids.proofs.Listing.{slot_agrees}
+use Rattle.thread_local_ids.proofs.TokenListLaws.{slot_agrees}
 use Rattle.thread_local_ids.specs.contracts.token_list.TokenList.agrees.{ended, clauses}
 use Rattle.thread_local_ids.specs.contracts.token_list.TokenList.agrees.Key.{name as #self}
 use Rattle.thread_local_ids.proofs.token_list.TokenList.agrees.Statement.{statement}

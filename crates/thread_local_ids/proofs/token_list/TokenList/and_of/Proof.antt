@@ -9,11 +9,11 @@ use Rattle.thread_local_model.proofs.Names.{shr_Tells, Stays, stay_dropped, walk
 use Rattle.thread_local_model.proofs.Names.{alive, unhide, Fml}
 use Rattle.thread_local_ids.specs.Told.{tells}
 use Rattle.thread_local_ids.specs.Views.{TokenView}
-use Rattle.thread_local_ids.specs.Tellings.{tell_each}
+use Rattle.thread_local_ids.specs.TokenLists.{tell_each}
 use Rattle.thread_local_ids.specs.contracts.witness.Witness as Witness
 use Rattle.thread_local_ids.specs.contracts.token_list.TokenList as TokenList
 use Rattle.thread_local_ids.proofs.Made.{token_val}
-use Rattle.thread_local_ids.proofs.Listing.{list_made}
+use Rattle.thread_local_ids.proofs.TokenListLaws.{list_made}
 use Rattle.thread_local_ids.specs.contracts.token_list.TokenList.and_of.{ended, clauses}
 use Rattle.thread_local_ids.specs.contracts.token_list.TokenList.and_of.Key.{name as #self}
 use Rattle.thread_local_ids.proofs.token_list.TokenList.and_of.Statement.{statement}

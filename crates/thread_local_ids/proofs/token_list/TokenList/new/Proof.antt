@@ -6,7 +6,7 @@ use Rattle.thread_local_model.proofs.Names.{agg, tables, fact, fact_i, RattleTyp
 use Rattle.thread_local_model.proofs.Names.{alive, walk_of, proved, leaves}
 use Rattle.thread_local_ids.specs.contracts.token_list.TokenList as TokenList
 use Rattle.thread_local_ids.proofs.Made.{token_val}
-use Rattle.thread_local_ids.proofs.Listing.{list_made}
+use Rattle.thread_local_ids.proofs.TokenListLaws.{list_made}
 use Rattle.thread_local_ids.specs.contracts.token_list.TokenList.new.{ended, clauses}
 use Rattle.thread_local_ids.specs.contracts.token_list.TokenList.new.Key.{name as #self}
 use Rattle.thread_local_ids.proofs.token_list.TokenList.new.Statement.{statement}

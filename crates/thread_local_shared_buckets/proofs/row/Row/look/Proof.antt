@@ -31,7 +31,7 @@ use Rattle.std.specs.Sync.RawAtomic.{asks, always}
 use Rattle.thread_local_model.specs.Bits.{is_set, is_set_in}
 use Rattle.thread_local_model.specs.Place.{id_at}
 use Rattle.thread_local_ids.specs.Views.{TokenView}
-use Rattle.thread_local_ids.specs.Tellings.{AllOf, tell_each}
+use Rattle.thread_local_ids.specs.TokenLists.{AllOf, tell_each}
 use Rattle.thread_local_ids.specs.contracts.token_list.TokenList as TokenList
 use Rattle.thread_local_bucket_pointers.specs.Slots.{stride, each, value_words, flag_word_at, word_offset, value_offset}
 use Rattle.thread_local_bucket_pointers.proofs.Flags.{uncapped, value_near}

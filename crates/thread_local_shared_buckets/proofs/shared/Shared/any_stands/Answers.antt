@@ -1,6 +1,6 @@
 use Rattle.std.proofs.Common.{◌≡◌, ◌||◌, ℕ, ◌+◌, ◌<◌, ◌≤◌, Bool, true, false, Option, None, Some, is_some, refl, sym, ◌∙◌, subst, arith, ⊎_elim}
 use Rattle.std.proofs.lemmas.Bool.{cases_lt}
-use Rattle.thread_local_ids.specs.Tellings.{NoneIn}
+use Rattle.thread_local_ids.specs.TokenLists.{NoneIn}
 use Rattle.thread_local_shared_buckets.proofs.shared.Shared.any_stands.Goals as goal
 
 neither : (a b : Bool) → (a || b) ≡ false → (a ≡ false) × (b ≡ false)

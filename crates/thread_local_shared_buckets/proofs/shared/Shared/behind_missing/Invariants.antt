@@ -1,6 +1,6 @@
 -- It passes eight buckets in each turn, and none beyond the last.
 use Rattle.std.proofs.Common.{◌≤◌, ◌<◌, ◌-◌, ℕ}
-use Rattle.thread_local_ids.specs.Tellings.{NoneIn}
+use Rattle.thread_local_ids.specs.TokenLists.{NoneIn}
 use Rattle.thread_local_shared_buckets.proofs.shared.Shared.behind_missing.Given as goal
 
 abbrev pub invariant-loop-at : goal.invariant-loop-at

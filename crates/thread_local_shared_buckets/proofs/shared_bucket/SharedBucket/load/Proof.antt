@@ -13,7 +13,7 @@ use Rattle.thread_local_model.proofs.Names.{nothing, param, layouts, RefOf, u64,
 use Rattle.thread_local_model.proofs.Names.{stay_dropped, walk_of, Goes-dropped, proved, leaves, fm, after}
 use Rattle.std.proofs.Common.{IfSome, IsSome, List, arith}
 use Rattle.thread_local_ids.specs.Views.{TokenView}
-use Rattle.thread_local_ids.specs.Tellings.{NoneIn, tell_each}
+use Rattle.thread_local_ids.specs.TokenLists.{NoneIn, tell_each}
 use Rattle.thread_local_ids.specs.contracts.token_list.TokenList as TokenList
 use base.Fml.{finv}
 use base.Before.{before}

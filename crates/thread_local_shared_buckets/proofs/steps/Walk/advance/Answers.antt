@@ -1,10 +1,10 @@
 use Rattle.std.specs.Prelude.{All}
 use Rattle.std.proofs.Common.{◌≡◌, ◌∙◌, ◌<◌, ◌-◌, ◌^◌, ℕ, List, Option, option_map, refl, sym, subst, ap}
-use Rattle.thread_local_ids.specs.Tellings.{AllOf}
+use Rattle.thread_local_ids.specs.TokenLists.{AllOf}
 use Rattle.thread_local_shared_buckets.specs.TableView.{TableView}
 use Rattle.thread_local_ids.specs.Views.{TokenView}
 use Rattle.thread_local_shared_buckets.specs.Positions.{Skips, Stops, IsToldAt}
-use Rattle.thread_local_shared_buckets.proofs.TellingLaws.{moved, skips_nowhere, meets_none, meets_some}
+use Rattle.thread_local_shared_buckets.proofs.ToldLaws.{moved, skips_nowhere, meets_none, meets_some}
 use Rattle.thread_local_shared_buckets.specs.declared.steps.Own.{Own}
 use Rattle.thread_local_shared_buckets.specs.declared.steps.Walk.{Walk}
 use Rattle.thread_local_shared_buckets.specs.Positions.{resting, owed}

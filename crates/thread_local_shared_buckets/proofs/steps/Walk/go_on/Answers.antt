@@ -1,6 +1,6 @@
 use Rattle.std.proofs.Common.{List, subst}
 use Rattle.thread_local_ids.specs.Views.{TokenView}
-use Rattle.thread_local_ids.specs.Tellings.{NoneIn}
+use Rattle.thread_local_ids.specs.TokenLists.{NoneIn}
 use Rattle.thread_local_shared_buckets.proofs.AtHandLaws.{moves_on}
 use Rattle.thread_local_shared_buckets.proofs.steps.Walk.go_on.Goals as goal
 

@@ -1,5 +1,5 @@
 use Rattle.thread_local_ids.specs.Views.{TokenView}
-use Rattle.thread_local_ids.specs.Tellings.{NoneIn}
+use Rattle.thread_local_ids.specs.TokenLists.{NoneIn}
 use Rattle.thread_local_shared_buckets.specs.AtHand.{FindsTokens}
 use Rattle.std.proofs.Common.{◌≡◌, ℕ, List, subst, ◌^◌, ◌<◌, ◌≤◌, arith, pow_mono, lit<}
 use Rattle.thread_local_shared_buckets.proofs.LookLaws.{looked_on}

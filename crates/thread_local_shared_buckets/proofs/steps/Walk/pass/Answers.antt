@@ -1,10 +1,10 @@
 use Rattle.std.proofs.Common.{arith, ap, sym, subst, ◌∙◌}
 use Rattle.std.specs.Int.{w64, trailing_zeros}
 use Rattle.thread_local_shared_buckets.proofs.PassLaws.{near, lowest_of, set_lowest, Passed, passed_by}
-use Rattle.thread_local_ids.specs.Tellings.{AllOf}
+use Rattle.thread_local_ids.specs.TokenLists.{AllOf}
 use Rattle.thread_local_bucket_pointers.specs.declared.cursor.RawIter.{RawIter}
 use Rattle.thread_local_shared_buckets.specs.Positions.{past, Stops}
-use Rattle.thread_local_shared_buckets.proofs.TellingLaws.{stops}
+use Rattle.thread_local_shared_buckets.proofs.ToldLaws.{stops}
 use Rattle.thread_local_shared_buckets.proofs.steps.Walk.pass.Goals as goal
 
 pub slot_at-index-requires-clause-some : goal.slot_at-index-requires-clause-some

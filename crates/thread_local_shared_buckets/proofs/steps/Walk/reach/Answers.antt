@@ -4,10 +4,10 @@ use Rattle.thread_local_shared_buckets.specs.Positions.{resting}
 use Rattle.thread_local_shared_buckets.specs.Steps.{Leads}
 use Rattle.std.proofs.Common.{sym, Option, List}
 use Rattle.thread_local_ids.specs.Views.{TokenView}
-use Rattle.thread_local_ids.specs.Tellings.{AllOf}
+use Rattle.thread_local_ids.specs.TokenLists.{AllOf}
 use Rattle.thread_local_shared_buckets.specs.TableView.{TableView}
 use Rattle.thread_local_shared_buckets.specs.Positions.{Skips}
-use Rattle.thread_local_shared_buckets.proofs.TellingLaws.{moved, skips_nowhere, skips_then}
+use Rattle.thread_local_shared_buckets.proofs.ToldLaws.{moved, skips_nowhere, skips_then}
 use Rattle.thread_local_shared_buckets.proofs.StepLaws.{leads_nowhere, leads_then}
 use Rattle.thread_local_shared_buckets.proofs.steps.Walk.reach.Goals as goal
 

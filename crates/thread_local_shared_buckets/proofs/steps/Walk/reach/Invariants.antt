@@ -1,6 +1,6 @@
 -- No flag is at hand. Each turn leaves a bucket behind.
 use Rattle.std.proofs.Common.{◌≡◌, ◌-◌}
-use Rattle.thread_local_ids.specs.Tellings.{AllOf}
+use Rattle.thread_local_ids.specs.TokenLists.{AllOf}
 use Rattle.thread_local_shared_buckets.specs.Positions.{resting, Skips}
 use Rattle.thread_local_shared_buckets.specs.AtHand.{IsWalk}
 use Rattle.thread_local_shared_buckets.specs.Steps.{Leads}

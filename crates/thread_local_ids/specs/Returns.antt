@@ -8,7 +8,7 @@ use base.Growing.{numbers, growing}
 use base.Fml.{Share, Fml, fown}
 use types.Keyed.{keyed}
 use Rattle.thread_local_model.specs.Held.{is_held}
-use Rattle.thread_local_ids.specs.Moves.{IdMove, Take, Give, held_after}
+use Rattle.thread_local_model.specs.IdMoves.{IdMove, Take, Give, held_after}
 
 -- how often an id was given back
 abbrev pub gives : List IdMove → ℕ → ℕ
@@ -44,5 +44,5 @@ abbrev pub counts_page : ℕ → List IdMove → Fml
 counts_page δ moves = fown (keyed counting) δ (pages moves)
 
 -- what the holder of an id has
-abbrev pub stay_owns : ℕ → ℕ → ℕ → Fml
-stay_owns δ id n = fown (keyed counting) δ (λ j. count_if (id == j) n)
+abbrev pub tenure_owns : ℕ → ℕ → ℕ → Fml
+tenure_owns δ id n = fown (keyed counting) δ (λ j. count_if (id == j) n)

@@ -21,9 +21,9 @@ use types.Keyed.{keyed}
 use types.Owned.{own_sum, own_step, own_join}
 use Rattle.thread_local_model.specs.Held.{is_held, least, with_least, without}
 use Rattle.thread_local_model.proofs.HeldLaws.{least_free, is_held-with_least, is_held-without}
-use Rattle.thread_local_ids.specs.Moves.{IdMove, Take, Give, held_from, held_after, noted}
-use Rattle.thread_local_ids.specs.Stays.{gives, counting, Count, count_of, counts, pages, count_if, counts_own, counts_page, stay_owns}
-use Rattle.thread_local_ids.proofs.HeldMoves.{held_apart, after_take, after_give}
+use Rattle.thread_local_model.specs.IdMoves.{IdMove, Take, Give, held_from, held_after, noted}
+use Rattle.thread_local_ids.specs.Returns.{gives, counting, Count, count_of, counts, pages, count_if, counts_own, counts_page, tenure_owns}
+use Rattle.thread_local_model.proofs.IdMoveLaws.{held_apart, after_take, after_give}
 
 -- ---- lists
 pub gives_apart : (before later : List IdMove) (id : ℕ) → gives (before ++ later) id ≡ gives before id + gives later id
@@ -195,7 +195,7 @@ module _ {M : Type 1} {𝓤 : Ura M} (𝓛 : Logic 𝓤) where
 
   -- whoever takes an id gets its count
   pub taken : (δ : GName) (moves : List IdMove) (id : ℕ) → id ≡ least (held_after moves)
-      → ⟦ counts_own δ moves ⟧ ⊢ ⟦ stay_owns δ id (gives moves id) ⟧ ∗ ⟦ counts_own δ (noted moves Take) ⟧
+      → ⟦ counts_own δ moves ⟧ ⊢ ⟦ tenure_owns δ id (gives moves id) ⟧ ∗ ⟦ counts_own δ (noted moves Take) ⟧
   taken δ moves id low =
       𝓛.algebras.own_cut (keyed counting) δ (stays id (gives moves id)) (counts (noted moves Take)) (counts moves)
       (at_each_key (stays id (gives moves id)) (counts (noted moves Take)) (counts moves) (λ j.
@@ -220,17 +220,17 @@ module _ {M : Type 1} {𝓤 : Ura M} (𝓛 : Logic 𝓤) where
 
   -- while an id is held, no page says that it was given back since
   pub not_given : (δ : GName) (id n : ℕ) (later : List IdMove)
-      → ⟦ stay_owns δ id n ⟧ ∗ ⟦ counts_page δ later ⟧
-      ⊢ guard 𝓤 (gives later id ≤ n) (⟦ stay_owns δ id n ⟧ ∗ ⟦ counts_page δ later ⟧)
+      → ⟦ tenure_owns δ id n ⟧ ∗ ⟦ counts_page δ later ⟧
+      ⊢ guard 𝓤 (gives later id ≤ n) (⟦ tenure_owns δ id n ⟧ ∗ ⟦ counts_page δ later ⟧)
   not_given δ id n later =
-      let Both : Pr = ⟦ stay_owns δ id n ⟧ ∗ ⟦ counts_page δ later ⟧ in
+      let Both : Pr = ⟦ tenure_owns δ id n ⟧ ∗ ⟦ counts_page δ later ⟧ in
       own_sum 𝓛 (keyed counting) δ (stays id n) (pages later) (guard 𝓤 (gives later id ≤ n) Both) (λ c m.
       guard_i 𝓤 (gives later id ≤ n) Both
       (bounds n (gives later id) (fact_at (id == id) n (none, gives later id) (eq-eqb id id refl) (m.0 id))))
 
   -- an id is given back with its count
   pub given : (δ : GName) (moves : List IdMove) (id n : ℕ) → is_held (held_after moves) id ≡ true → n ≤ gives moves id
-      → ⟦ stay_owns δ id n ⟧ ∗ ⟦ counts_own δ moves ⟧ ⊢ upd 𝓤 ⟦ counts_own δ (noted moves (Give id)) ⟧
+      → ⟦ tenure_owns δ id n ⟧ ∗ ⟦ counts_own δ moves ⟧ ⊢ upd 𝓤 ⟦ counts_own δ (noted moves (Give id)) ⟧
   given δ moves id n held few =
       let whole : Row = λ j. some (count_of (if id == j then false else is_held (held_after moves) j) (gives moves j)) in
       own_sum 𝓛 (keyed counting) δ (stays id n) (counts moves) (upd 𝓤 ⟦ counts_own δ (noted moves (Give id)) ⟧) (λ c m.

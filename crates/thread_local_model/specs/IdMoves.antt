@@ -13,16 +13,16 @@ abbrev pub given_back : IdMove → Option ℕ
 given_back Take = None
 given_back (Give id) = Some id
 
-abbrev pub move_of : Option ℕ → IdMove
-move_of None = Take
-move_of (Some id) = Give id
+abbrev pub move_giving : Option ℕ → IdMove
+move_giving None = Take
+move_giving (Some id) = Give id
 
-pub same_move : (move : IdMove) → move_of (given_back move) ≡ move
+pub same_move : (move : IdMove) → move_giving (given_back move) ≡ move
 same_move Take = refl
 same_move (Give id) = refl
 
 abbrev pub move_coded : Coded IdMove
-move_coded = code_by (Option ℕ) (coded_option coded_ℕ) given_back move_of same_move
+move_coded = code_by (Option ℕ) (coded_option coded_ℕ) given_back move_giving same_move
 
 abbrev pub moves_coded : Coded (List IdMove)
 moves_coded = coded_list move_coded

@@ -1,4 +1,4 @@
--- `held_at` compares the stay with a page.
+-- `held_at` compares the tenure with a page.
 use Rattle.std.proofs.Common.{◌≡◌, ◌≤◌, ℕ, List, [], ◌∷◌, refl}
 use mir.Syntax.{named}
 use mir.Val.{Val, vptr, vunit}
@@ -15,19 +15,19 @@ use denote.Steps.{nothing, opens, closes, heard}
 use denote.Triple.Walked.{Stays, walk_of, stay_dropped, Goes-dropped, stay_ref, Goes-ref, ends_at}
 use Rattle.std.proofs.raw_atomic.Walks.{proved}
 use mathlib.Core.List.{IsPrefix}
-use Rattle.thread_local_ids.specs.Moves.{IdMove, Take, noted}
-use Rattle.thread_local_ids.specs.Stays.{gives}
+use Rattle.thread_local_model.specs.IdMoves.{IdMove, Take, noted}
+use Rattle.thread_local_ids.specs.Returns.{gives}
 use contract.Monad.{fact}
-use Rattle.thread_local_ids.specs.Rights.{stay_of, page_owns, taken_id}
-use Rattle.thread_local_ids.proofs.MoveElements.{stays_held}
-use Rattle.thread_local_ids.proofs.Stays.{still_held}
+use Rattle.thread_local_ids.specs.Rights.{tenure_of, page_owns, taken_id}
+use Rattle.thread_local_ids.proofs.MoveElements.{tenure_held}
+use Rattle.thread_local_ids.proofs.ReturnLaws.{still_held}
 use Rattle.thread_local_ids.proofs.Facts.{tells, tells_last}
 use Rattle.thread_local_ids.proofs.Markers.{token, told}
 use Rattle.thread_local_ids.specs.contracts.page.Page as right
-use Rattle.thread_local_ids.specs.contracts.page.Stay.{the_row as R}
-use Rattle.thread_local_ids.specs.contracts.page.Stay.held_at as f
-use Rattle.thread_local_ids.proofs.page.Stay.held_at.Statement.{statement}
-use Rattle.thread_local_ids.proofs.page.Stay.held_at.Code as code
+use Rattle.thread_local_ids.specs.contracts.page.Tenure.{the_row as R}
+use Rattle.thread_local_ids.specs.contracts.page.Tenure.held_at as f
+use Rattle.thread_local_ids.proofs.page.Tenure.held_at.Statement.{statement}
+use Rattle.thread_local_ids.proofs.page.Tenure.held_at.Code as code
 
 abbrev stayed : Stays f.ended.signature.params f.ended.kept
 stayed = (stay_ref (0 ∷ []) tt (plain (λ _. R)), (stay_dropped (plain (λ _. right.the_row)) yes, tt))
@@ -67,8 +67,8 @@ held_at_spec 𝓤 𝓛 𝓜 𝓡 wired =
     move ! (1 ∷ []) $ fsplit3 ! $ move ! (1 ∷ 2 ∷ 4 ∷ []) $ opens ! tt R b o (λ us.
     -- [the cell; the rights; the open borrow, in three entries; self's first part; the right]
     move ! (1 ∷ []) $ fsplit ! $ move ! (1 ∷ 7 ∷ []) $
-    use2 𝓛 (given Few (‵ (stay_of s.table s.before) ⊛ ‵ (page_owns s.table seen)))
-    (stays_held 𝓛 s.table s.before seen) $
+    use2 𝓛 (given Few (‵ (tenure_of s.table s.before) ⊛ ‵ (page_owns s.table seen)))
+    (tenure_held 𝓛 s.table s.before seen) $
     learn ! (λ few. split ! $ move ! (1 ∷ []) $ drop ! $
     move ! (1 ∷ 0 ∷ []) $ fjoin ! $ move ! (1 ∷ 0 ∷ []) $ closes ! tt R s us b o $
     sets ! (of_opd ! (unit_lit !)) refl (tt, tt) $ returns ! (look_at ! 0 refl) $ free_all ! refl $

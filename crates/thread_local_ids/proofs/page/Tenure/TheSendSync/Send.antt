@@ -1,10 +1,10 @@
 -- It may go to another thread: its elements name none.
 use denote.Param.Send.{IsSend}
-use Rattle.thread_local_ids.specs.Moves.{Take, noted}
+use Rattle.thread_local_model.specs.IdMoves.{Take, noted}
 use Rattle.thread_local_ids.specs.Rights.{taken_id}
-use Rattle.thread_local_ids.specs.Stays.{gives}
+use Rattle.thread_local_ids.specs.Returns.{gives}
 use Rattle.thread_local_ids.proofs.MoveElements.{page_keyless, held_keyless}
-use Rattle.thread_local_ids.specs.contracts.page.Stay.{the_row}
+use Rattle.thread_local_ids.specs.contracts.page.Tenure.{the_row}
 
 pub send : IsSend the_row
 send = record {

@@ -3,7 +3,7 @@ use Rattle.std.proofs.Common.{◌≡◌, ℕ, ◌+◌, ◌≤◌, ◌==◌, Bool
 use mathlib.Core.List.{IsPrefix}
 use Rattle.thread_local_model.proofs.HeldLaws.{length-with_least, length-without}
 use Rattle.thread_local_model.specs.Held.{least, with_least, without}
-use Rattle.thread_local_ids.specs.Moves.{IdMove, Take, Give, held_from, held_after, noted}
+use Rattle.thread_local_model.specs.IdMoves.{IdMove, Take, Give, held_from, held_after, noted}
 
 pub held_apart : (held : List Bool) (before later : List IdMove)
     → held_from held (before ++ later) ≡ held_from (held_from held before) later

@@ -1,4 +1,4 @@
--- `page` copies what the stay's page says.
+-- `page` copies what the tenure's page says.
 use Rattle.thread_local_model.proofs.Names.{◌≡◌, [], ◌∷◌, refl, named, Val, vptr, SProp, emp, ‵, raw}
 use Rattle.thread_local_model.proofs.Names.{◌⊛◌, ◌$◌, ◌∵◌, !, qed, by, keep, drop, split, fsplit, fjoin, use0}
 use Rattle.thread_local_model.proofs.Names.{no_more, and_then, returns, enter, alloc_all, pass_all, free_all, look_at}
@@ -6,20 +6,20 @@ use Rattle.thread_local_model.proofs.Names.{get, sets, agg, tables, fact, fact_i
 use Rattle.thread_local_model.proofs.Names.{plain, nothing, RefOf, shr_vals, shr_Tells, Stays}
 use Rattle.thread_local_model.proofs.Names.{stay_dropped, walk_of, Goes-dropped, proved, leaves, alive, unhide}
 use Rattle.thread_local_ids.specs.contracts.page.Page as Page
-use Rattle.thread_local_ids.specs.contracts.page.Stay as Stay
-use Rattle.thread_local_ids.specs.Moves.{Take}
+use Rattle.thread_local_ids.specs.contracts.page.Tenure as Tenure
+use Rattle.thread_local_model.specs.IdMoves.{Take}
 use Rattle.thread_local_ids.proofs.Markers.{token, Mark, made}
-use Rattle.thread_local_ids.specs.contracts.page.Stay.page.{ended, clauses}
-use Rattle.thread_local_ids.specs.contracts.page.Stay.page.Key.{name as #self}
-use Rattle.thread_local_ids.proofs.page.Stay.page.Statement.{statement}
-use Rattle.thread_local_ids.proofs.page.Stay.page.Code as code
+use Rattle.thread_local_ids.specs.contracts.page.Tenure.page.{ended, clauses}
+use Rattle.thread_local_ids.specs.contracts.page.Tenure.page.Key.{name as #self}
+use Rattle.thread_local_ids.proofs.page.Tenure.page.Statement.{statement}
+use Rattle.thread_local_ids.proofs.page.Tenure.page.Code as code
 
 pub page_spec : {M : Type 1} → statement M
 page_spec 𝓤 𝓛 𝓜 𝓡 wired =
     let H = 𝓛.H in
     let 𝓣 = tables 𝓤 H 𝓜 𝓡 𝓡.env in
     let En = ended in
-    let S : RattleType = Stay.the_row in
+    let S : RattleType = Tenure.the_row in
     let fn = code.function in let c = clauses 𝓛 𝓜.mem 𝓡.returns in
     let self = RefOf (0 ∷ []) tt (plain (λ _. S)) (λ _. tt) in
     let hs : Stays En.signature.params En.kept = (stay_dropped self yes, tt) in
