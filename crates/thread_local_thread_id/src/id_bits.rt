@@ -117,6 +117,13 @@ impl IdBits {
         Ok(())
     }
 
+    /// The most ids held at one moment.
+    pub(crate) fn peak(&self) -> usize
+        ensures { result ≡ length self.now.held }
+    {
+        self.peak
+    }
+
     /// The least id that isn't held.
     pub(crate) fn least_free(&self) -> usize
         ensures least { result ≡ least self.now.held }

@@ -29,7 +29,7 @@ pub enum LocalError {
 ///
 /// Unlike in the Rust crate it is public, one for each table, and the memory for an id's bit
 /// is taken with the id, so that its return needs none. In the Rust crate `alloc` returns the bare id, and there is no
-/// `with_room`, `is_held` or `clear`.
+/// `with_room`, `is_held`, `peak` or `clear`.
 #[derive(Drop)]
 pub struct ThreadIdManager {
     bits: IdBits,
@@ -104,6 +104,13 @@ impl ThreadIdManager {
         ensures room_in_range { self.now.room ≤ 2 ^ 63 - 1 }
     {
         self.returned != id && self.bits.is_held(id)
+    }
+
+    /// The peak: the most ids held at one moment since the manager was new or cleared.
+    pub fn peak(&self) -> usize
+        ensures { result ≡ length self.now.held }
+    {
+        self.bits.peak()
     }
 
     /// Takes back an id, which the caller shows to be held.
