@@ -11,7 +11,7 @@ use Rattle.thread_local_model.proofs.AnswersLaws.{answers-push, view_after_all-p
 use Rattle.thread_local_schedule.specs.Table.{Slot, Table, slot_at, published, bucket_stands, value_of, with_table_slot, with_flag}
 use Rattle.thread_local_model.specs.Learnt.{Learnt, Unknown, Missing, Standing, Vacant, Holding, learnt_by_load}
 use Rattle.thread_local_model.specs.Learnt.{learnt_by_look, learnt_by_install, learnt_by_publish}
-use Rattle.thread_local_schedule.specs.Local.{Doing, Gets, Started, Private, Written, Local, after_call, is_calling}
+use Rattle.thread_local_schedule.specs.Local.{Doing, Gets, Started, Private, Written, Local, after_call, may_look}
 use Rattle.thread_local_schedule.specs.Local.{learns, load_pointer, look_at_flag, make_bucket, offered, install_bucket}
 use Rattle.thread_local_schedule.specs.Local.{write_value, set_flag, reply, local_step, LocalStep, BeginGet, BeginGetOr}
 use Rattle.thread_local_schedule.specs.Local.{LoadPointer, LookAtFlag, MakeBucket, InstallBucket, WriteValue, SetFlag}
@@ -414,8 +414,8 @@ pub local_step-fits : {V E : Type 0} (table : Table V) (local : Local V E) (step
 unfolding local_step
 local_step-fits table local BeginGet written h = begin_get-fits table local local.doing written h
 local_step-fits table local (BeginGetOr create) written h = begin_get_or-fits table local create local.doing written h
-local_step-fits table local LoadPointer written h = load_pointer-fits table local (is_calling local.doing) written h
-local_step-fits table local LookAtFlag written h = look_at_flag-fits table local (is_calling local.doing) written h
+local_step-fits table local LoadPointer written h = load_pointer-fits table local (may_look local.doing) written h
+local_step-fits table local LookAtFlag written h = look_at_flag-fits table local (may_look local.doing) written h
 local_step-fits table local (MakeBucket refused) written h =
     make_bucket-fits table local refused local.doing local.learnt written h h.view.learnt_so
     h.view.doing_so

@@ -9,7 +9,7 @@ use Rattle.thread_local_model.specs.Answers.{GetOr, Answered}
 use Rattle.thread_local_model.specs.Learnt.{Learnt, Missing, Vacant, Holding, learnt_by_load, learnt_by_look}
 use Rattle.thread_local_model.specs.Learnt.{learnt_by_install, learnt_by_publish}
 use Rattle.thread_local_schedule.specs.Table.{Table, Slot, published, bucket_stands, with_fresh_bucket, with_table_slot, with_flag}
-use Rattle.thread_local_schedule.specs.Local.{Doing, Gets, Started, Private, Written, Local, after_call, is_calling}
+use Rattle.thread_local_schedule.specs.Local.{Doing, Gets, Started, Private, Written, Local, after_call, may_look}
 use Rattle.thread_local_schedule.specs.Local.{learns, load_pointer, look_at_flag, make_bucket, offered, install_bucket}
 use Rattle.thread_local_schedule.specs.Local.{write_value, set_flag, reply, local_step, LocalStep, BeginGet, BeginGetOr}
 use Rattle.thread_local_schedule.specs.Local.{LoadPointer, LookAtFlag, MakeBucket, InstallBucket, WriteValue, SetFlag}
@@ -172,8 +172,8 @@ pub local_step-numbers : {V E : Type 0} (table : Table V) (local : Local V E) (s
 unfolding local_step
 local_step-numbers table local BeginGet = begin_get-numbers table local local.doing
 local_step-numbers table local (BeginGetOr create) = begin_get_or-numbers table local create local.doing
-local_step-numbers table local LoadPointer = load_pointer-numbers table local (is_calling local.doing)
-local_step-numbers table local LookAtFlag = look_at_flag-numbers table local (is_calling local.doing)
+local_step-numbers table local LoadPointer = load_pointer-numbers table local (may_look local.doing)
+local_step-numbers table local LookAtFlag = look_at_flag-numbers table local (may_look local.doing)
 local_step-numbers table local (MakeBucket refused) = make_bucket-numbers table local refused local.doing local.learnt
 local_step-numbers table local InstallBucket = install_bucket-numbers table local local.doing refl
 local_step-numbers table local WriteValue = write_value-numbers table local local.doing local.learnt
