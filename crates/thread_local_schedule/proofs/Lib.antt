@@ -16,6 +16,7 @@ pub mod Publishings
 pub mod Sayings
 pub mod Counted
 pub mod MainTheorem
+pub mod History
 pub mod FirstCalls
 pub mod TableLaws
 pub mod LocalLaws

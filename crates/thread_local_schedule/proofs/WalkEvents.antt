@@ -16,7 +16,7 @@ use Rattle.thread_local_schedule.proofs.PutLaws.{put_cases, put_same, put_other,
 use Rattle.thread_local_schedule.proofs.OptionLaws.{if_enabled, if_there, if_then}
 use Rattle.thread_local_model.specs.Held.{is_granted}
 use Rattle.thread_local_schedule.specs.Events.{Event, TakeId, OfLocal, GiveBack, Forget, BeginWalk, OfWalk, EndWalk}
-use Rattle.thread_local_schedule.specs.Events.{Owner, OwnerCall, IterMut, Slots, ClearTable, IntoIter, DropTable}
+use Rattle.thread_local_schedule.specs.Events.{Owner, OwnerCall, RewriteTable, Slots, DrainTable, ClearTable, IntoIter, DropTable}
 use Rattle.thread_local_schedule.specs.Events.{take_id, with_step, of_local, is_idle, without_local, with_id_given}
 use Rattle.thread_local_schedule.specs.Events.{give_back, forget, with_walk, begin_walk, of_walk, without_walk}
 use Rattle.thread_local_schedule.specs.Events.{after_owner, step_of, step, is_enabled, happens}
@@ -96,8 +96,9 @@ end_walk-says core number = record {
 }
 
 after_owner-says : {V E : Type 0} (core : Core V E) (call : OwnerCall V) → WalksSay core (Owner call) (after_owner core call)
-after_owner-says core (IterMut others) = leaves core (Owner (IterMut others)) _ (λ n. refl)
+after_owner-says core (RewriteTable others) = leaves core (Owner (RewriteTable others)) _ (λ n. refl)
 after_owner-says core Slots = leaves core (Owner Slots) core (λ n. refl)
+after_owner-says core DrainTable = leaves core (Owner DrainTable) _ (λ n. refl)
 after_owner-says core ClearTable = leaves core (Owner ClearTable) _ (λ n. refl)
 after_owner-says core IntoIter = leaves core (Owner IntoIter) _ (λ n. refl)
 after_owner-says core DropTable = leaves core (Owner DropTable) _ (λ n. refl)

@@ -152,10 +152,10 @@ none_missing table bucket index id v none i low high e =
 
 -- a load passes no id with a published value
 load_passes : {V : Type 0} (table : Table V) (first : ℕ → Option V) (given : List (ℕ × V))
-    (read : List ℕ) (cursor : Cursor) (named : Bool)
-    → bucket_stands table cursor.bucket ≡ named
+    (read : List ℕ) (cursor : Cursor) (number_at : Bool)
+    → bucket_stands table cursor.bucket ≡ number_at
     → cursor.index ≤ 2 ^ cursor.bucket → RecordFits table first given read (cursor_id cursor)
-    → RecordFits table first given read (cursor_id (after_load cursor named))
+    → RecordFits table first given read (cursor_id (after_load cursor number_at))
 load_passes table first given read cursor true e i r = subst (RecordFits table first given read) (sym (cursors.at_place-id cursor)) r
 load_passes table first given read cursor false e i r =
     let some = pow_pos cursor.bucket in

@@ -8,7 +8,7 @@ ghost use Rattle.thread_local_schedule.specs.Local.{Local, LocalStep, Doing, Mak
 ghost use Rattle.thread_local_schedule.specs.Local.{BeginGetOr, LoadPointer, LookAtFlag, InstallBucket, WriteValue};
 ghost use Rattle.thread_local_schedule.specs.Local.{SetFlag, Reply};
 ghost use Rattle.thread_local_schedule.specs.SharedWalk.{WalkStep};
-ghost use Rattle.thread_local_schedule.specs.Fits.{named, IsWritten};
+ghost use Rattle.thread_local_schedule.specs.Fits.{number_at, IsSameBucket, IsWritten};
 ghost use Rattle.thread_local_schedule.specs.Numbers.{own_number};
 ghost use Rattle.thread_local_schedule.specs.Core.{Core, installed_slots, private_slots};
 ghost use Rattle.thread_local_schedule.specs.Events.{Event, TakeId, OfLocal, GiveBack, Forget, BeginWalk, OfWalk};
@@ -20,7 +20,10 @@ ghost use Rattle.thread_local_schedule.specs.Schedule.{ends_table, IsAlone, move
 ghost use Rattle.thread_local_model.specs.Place.{bucket_of};
 ghost use Rattle.thread_local_model.specs.Buckets.{slots};
 ghost use Rattle.thread_local_schedule.specs.Bounds.{TakesBelow, NothingRefused, most_held, publishings};
-ghost use Rattle.thread_local_model.specs.Sheet.{Sheet, IsAllowed, Give, Publish, Clear};
+ghost use Rattle.thread_local_model.specs.IdMoves.{Take, Give as IdGive, noted};
+ghost use Rattle.thread_local_model.specs.Sheet.{Sheet, Give, Publish, Clear};
+ghost use Rattle.thread_local_schedule.specs.TableMoves.{OfSheet, Drain, IsMoveAllowed};
+ghost use Rattle.thread_local_schedule.specs.IdHistory.{id_moves};
 ghost use Rattle.thread_local_model.specs.Answers.{Answer, Refused, Get, GetOr};
 ghost use Rattle.thread_local_schedule.specs.Calls.{gets_of, closure_of, HasNoCall, GoesOn, steps_left, GoesDown};
 ghost use Rattle.thread_local_schedule.specs.Calls.{EndsWith};
@@ -43,8 +46,8 @@ pub fn words_say<V, E>()
         → (IsTrue (is_take event) → held_count (run core events).manager.held < p)
         → TakesBelow p core (events ++ event ∷ []) }
 
-    // The most ids held at once and the publishings are counted event by event, and a clear begins
-    // both anew.
+    // The most ids held at once and the publishings are counted event by event. A clear begins both
+    // anew, and a drain the publishings.
     ensures most_at_first { (core : Core V E) → most_held core [] ≡ 0 }
     ensures most_later { (core : Core V E) (events : List (Event V E)) (event : Event V E)
         → (IsTrue (is_enabled (run core events) event) → event ≢ Owner ClearTable)
@@ -55,15 +58,39 @@ pub fn words_say<V, E>()
         → most_held core (events ++ Owner ClearTable ∷ []) ≡ 0 }
     ensures none_published { (core : Core V E) → publishings core [] ≡ 0 }
     ensures one_published { (core : Core V E) (events : List (Event V E)) (event : Event V E) (id : ℕ) (v : V)
-        → move (run core events) event ≡ Some (Publish id v)
+        → move (run core events) event ≡ Some (OfSheet (Publish id v))
         → publishings core (events ++ event ∷ []) ≡ suc (publishings core events) }
     ensures published_anew { (core : Core V E) (events : List (Event V E)) (event : Event V E)
-        → move (run core events) event ≡ Some Clear
+        → move (run core events) event ≡ Some (OfSheet Clear)
+        → publishings core (events ++ event ∷ []) ≡ 0 }
+    ensures drained_anew { (core : Core V E) (events : List (Event V E)) (event : Event V E)
+        → move (run core events) event ≡ Some Drain
         → publishings core (events ++ event ∷ []) ≡ 0 }
     ensures as_many_published { (core : Core V E) (events : List (Event V E)) (event : Event V E)
-        → ((id : ℕ) (v : V) → move (run core events) event ≢ Some (Publish id v))
-        → move (run core events) event ≢ Some Clear
+        → ((id : ℕ) (v : V) → move (run core events) event ≢ Some (OfSheet (Publish id v)))
+        → move (run core events) event ≢ Some (OfSheet Clear)
+        → move (run core events) event ≢ Some Drain
         → publishings core (events ++ event ∷ []) ≡ publishings core events }
+
+    // Of the ids a granted take notes a take, and a give back notes the id. A clear begins anew, and
+    // all else notes nothing.
+    ensures no_id_moves { (core : Core V E) → id_moves core [] ≡ [] }
+    ensures one_take { (core : Core V E) (events : List (Event V E)) (event : Event V E)
+        → IsTrue (is_granted_take (run core events) event)
+        → id_moves core (events ++ event ∷ []) ≡ noted (id_moves core events) Take }
+    ensures one_give { (core : Core V E) (events : List (Event V E)) (n : ℕ) (local : Local V E)
+        → IsTrue (is_enabled (run core events) (GiveBack n))
+        → (run core events).locals n ≡ Some local
+        → id_moves core (events ++ GiveBack n ∷ []) ≡ noted (id_moves core events) (IdGive local.id) }
+    ensures ids_anew { (core : Core V E) (events : List (Event V E))
+        → IsTrue (is_enabled (run core events) (Owner ClearTable))
+        → id_moves core (events ++ Owner ClearTable ∷ []) ≡ [] }
+    ensures no_more_noted { (core : Core V E) (events : List (Event V E)) (event : Event V E)
+        → (IsTrue (is_enabled (run core events) event)
+        → (is_granted_take (run core events) event ≡ false)
+        × ((n : ℕ) → event ≢ GiveBack n)
+        × (event ≢ Owner ClearTable))
+        → id_moves core (events ++ event ∷ []) ≡ id_moves core events }
 
     // What makes an event a take, an owner's call, one of this Local or walk, the beginning of a walk
     // or the end of a table.
@@ -94,11 +121,14 @@ pub fn words_say<V, E>()
         → (happens core event).locals n ≡ Some local
         → newcomer core event ≡ Some local }
 
-    // The name of a pointer is the number of its bucket, and a call's own number that of the bucket
-    // that it has made.
-    ensures named { (table : Table V) (bucket number : ℕ)
-        → (named table bucket ≡ Some number)
+    // The number at a place is that of the bucket that stands there, and a call's own number that of
+    // the bucket that it has made. A bucket that stands in two tables is the same where it has one
+    // number in both.
+    ensures number_at { (table : Table V) (bucket number : ℕ)
+        → (number_at table bucket ≡ Some number)
         ↔ IsSomeAnd (table.pointers bucket) (λ here. here.number ≡ number) }
+    ensures same_bucket { (old new : Table V) (bucket : ℕ) → IsSameBucket old new bucket
+        → IsTrue (bucket_stands new bucket) × (number_at new bucket ≡ number_at old bucket) }
     ensures own { (create : Result V E) (number : ℕ)
         → own_number (Private create number) ≡ Some number }
     ensures own_slots { (id number : ℕ) (create : Result V E)
@@ -124,8 +154,9 @@ pub fn words_say<V, E>()
         → IsTrue (is_held held id) }
     ensures written { (slot : Slot V) → IsWritten slot → IsTrue slot.flag → IsSome slot.written }
     ensures allows_give { (sheet : Sheet V) (id : ℕ)
-        → IsAllowed sheet (Give id) → IsTrue (is_held sheet.held id) }
-    ensures allows_publish { (sheet : Sheet V) (id : ℕ) (v : V) → IsAllowed sheet (Publish id v)
+        → IsMoveAllowed sheet (OfSheet (Give id)) → IsTrue (is_held sheet.held id) }
+    ensures allows_publish { (sheet : Sheet V) (id : ℕ) (v : V)
+        → IsMoveAllowed sheet (OfSheet (Publish id v))
         → (sheet.values id ≡ None) × IsTrue (is_held sheet.held id) }
 
     // What a step does to the calls of its Local: a get begins, a publishing call begins, none begins

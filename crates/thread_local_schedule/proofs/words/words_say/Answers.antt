@@ -1,6 +1,7 @@
 use Rattle.std.proofs.Common.{refl}
 use Rattle.thread_local_schedule.proofs.Sayings as says
 use Rattle.thread_local_schedule.proofs.Counted as counted
+use Rattle.thread_local_schedule.proofs.History as ids
 use Rattle.thread_local_schedule.proofs.Clauses as clause
 use Rattle.thread_local_schedule.proofs.words.words_say.Goals as goal
 
@@ -34,8 +35,26 @@ returns-clause-one_published g c = counted.one_published
 pub returns-clause-published_anew : goal.returns-clause-published_anew
 returns-clause-published_anew g c = counted.published_anew
 
+pub returns-clause-drained_anew : goal.returns-clause-drained_anew
+returns-clause-drained_anew g c = counted.drained_anew
+
 pub returns-clause-as_many_published : goal.returns-clause-as_many_published
 returns-clause-as_many_published g c = counted.as_many_published
+
+pub returns-clause-no_id_moves : goal.returns-clause-no_id_moves
+returns-clause-no_id_moves g c = λ core. refl
+
+pub returns-clause-one_take : goal.returns-clause-one_take
+returns-clause-one_take g c = ids.one_take
+
+pub returns-clause-one_give : goal.returns-clause-one_give
+returns-clause-one_give g c = ids.one_give
+
+pub returns-clause-ids_anew : goal.returns-clause-ids_anew
+returns-clause-ids_anew g c = ids.ids_anew
+
+pub returns-clause-no_more_noted : goal.returns-clause-no_more_noted
+returns-clause-no_more_noted g c = ids.no_more_noted
 
 pub returns-clause-take : goal.returns-clause-take
 returns-clause-take g c = says.take
@@ -64,8 +83,11 @@ returns-clause-made g c = says.made
 pub returns-clause-newcomer : goal.returns-clause-newcomer
 returns-clause-newcomer g c = λ core event n local r. says.newcomer_comes core event n local (clause.fits core r)
 
-pub returns-clause-named : goal.returns-clause-named
-returns-clause-named g c = says.names
+pub returns-clause-number_at : goal.returns-clause-number_at
+returns-clause-number_at g c = says.numbers
+
+pub returns-clause-same_bucket : goal.returns-clause-same_bucket
+returns-clause-same_bucket g c = λ old new bucket x. x
 
 pub returns-clause-own : goal.returns-clause-own
 returns-clause-own g c = says.own
