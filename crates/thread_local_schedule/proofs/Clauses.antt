@@ -1,6 +1,6 @@
 -- The clauses of the theorems, from the invariant and from what every event says.
 use Rattle.std.proofs.Common.{◌≡◌, ℕ, ◌-◌, ◌^◌, ◌⊎◌, Bool, true, false, not, ◌||◌, cond, List, [], ◌∷◌, Some, None}
-use Rattle.std.proofs.Common.{is_some, IsTrue, IfSome, IsSomeAnd, refl, ap, sym, ◌∙◌, subst}
+use Rattle.std.proofs.Common.{is_some, IsTrue, IsSomeAnd, refl, ap, sym, ◌∙◌, subst}
 use Rattle.std.specs.Prelude.{◌≢◌, unwrap_or}
 use Rattle.thread_local_schedule.specs.Fits.{IsSameBucket}
 use Rattle.thread_local_schedule.proofs.TableLaws.{same_bucket}
@@ -12,7 +12,7 @@ use Rattle.thread_local_schedule.specs.TableMoves.{OfSheet, Drain, moved_by_if}
 use Rattle.thread_local_model.specs.Answers.{View, first_view}
 use Rattle.thread_local_schedule.specs.Table.{empty_slot, slot_at, bucket_stands}
 use Rattle.thread_local_schedule.specs.Local.{Local, fresh_local}
-use Rattle.thread_local_schedule.specs.Cleared.{cleared, drained}
+use Rattle.thread_local_schedule.specs.Cleared.{cleared}
 use Rattle.thread_local_schedule.specs.Core.{Core, made_core, shadow, peak, is_alone}
 use Rattle.thread_local_schedule.specs.Events.{Event, TakeId, OfLocal, Owner, ClearTable, take_id, step_of, step}
 use Rattle.thread_local_schedule.specs.Events.{is_enabled, happens, run, GiveBack, Forget, OwnerCall, RewriteTable, DrainTable}

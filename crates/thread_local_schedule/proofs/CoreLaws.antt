@@ -4,7 +4,6 @@ use Rattle.std.proofs.Common.{◌≡◌, ℕ, ◌+◌, ◌-◌, ◌*◌, ◌^◌
 use Rattle.std.proofs.Common.{None, IsTrue, IfSome, refl, ap, sym, ◌∙◌, subst, arith, ⊎_elim}
 use Rattle.std.specs.Prelude.{option_map, Contains}
 use Rattle.std.proofs.lemmas.Bool.{cases_Bool, false≢true}
-use Rattle.thread_local_model.specs.Place.{index_of, id_at}
 use Rattle.thread_local_model.specs.Held.{is_held}
 use Rattle.thread_local_model.specs.Capacity.{is_reserved}
 use Rattle.thread_local_model.specs.Walk.{walk, walk_below}
@@ -14,18 +13,17 @@ use Rattle.thread_local_schedule.specs.TableMoves.{OfSheet, moved_by_if, IsMoveA
 use Rattle.thread_local_model.proofs.SlotsLaws.{slots_bounded}
 use Rattle.thread_local_model.proofs.WalkLaws.{walk_below-add, walk_below-none, length-walk_below}
 use Rattle.thread_local_model.proofs.AnswersLaws.{known_after_all}
-use Rattle.thread_local_schedule.specs.Table.{Table, Bucket, slot_at, slot_of, published, bucket_stands, made_table}
+use Rattle.thread_local_schedule.specs.Table.{Table, published, bucket_stands, made_table}
 use Rattle.thread_local_model.specs.Learnt.{Missing}
 use Rattle.thread_local_schedule.specs.Local.{Local, Doing, Private}
 use Rattle.thread_local_model.specs.Cursor.{is_complete}
 use Rattle.thread_local_schedule.specs.SharedWalk.{SharedWalk}
 use Rattle.thread_local_schedule.proofs.WalkStepLaws.{complete_cursor}
-use Rattle.thread_local_schedule.specs.Fits.{IsWritten, AllWritten, IsLearnt, view_now, with_value_if}
+use Rattle.thread_local_schedule.specs.Fits.{IsLearnt, view_now, with_value_if}
 use Rattle.thread_local_schedule.specs.Core.{Core, shadow, installed_slots, peak, private_slots}
 use Rattle.thread_local_schedule.specs.CoreFits.{CoreFits}
 use Rattle.thread_local_schedule.proofs.TableLaws.{same_function, slot_at-made_table, published_unset}
 use Rattle.thread_local_schedule.proofs.Parts.{own_small}
-use Rattle.thread_local_model.proofs.PlaceLaws as place
 
 -- an option is None where no value is possible
 pub none_if : {A : Type 0} (o : Option A) → ((x : A) → o ≡ Some x → ⊥) → o ≡ None
