@@ -23,6 +23,7 @@ pub mod LocalLaws
 pub mod CallsLaws
 pub mod NumbersLaws
 pub mod EnabledSteps
+pub mod StepNeeds
 pub mod Installing
 pub mod GoingOn
 pub mod WalkStepLaws

@@ -17,6 +17,7 @@ pub mod main_theorem;
 pub mod schedule;
 pub mod shared_walk;
 pub mod shown;
+pub mod steps;
 pub mod walks;
 pub mod words;
 
@@ -24,4 +25,5 @@ pub use event::events_say;
 pub use main_theorem::headline;
 pub use schedule::every_schedule;
 pub use shared_walk::every_walk;
+pub use steps::steps_happen;
 pub use words::words_say;
