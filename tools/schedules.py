@@ -1428,7 +1428,6 @@ def wrong_effects():
         "at most one get is under way": steps(BeginGet=one_get),
         "two gets under way are stuck": {"may_look": lambda doing: doing[0] == "Started" or doing in (("Gets", 0), ("Gets", 1))},
         "a Local looks in a call alone": {"may_look": lambda doing: doing[0] == "Started" or (doing[0] == "Gets" and doing[1] > 0)},
-        "a call that has written looks again": {"may_look": lambda doing: doing[0] != "Private"},
         "a drain keeps the values of the first bucket": {"drained": keeps_first},
         "a drain frees every bucket": {"drained": lambda table: replace(table, pointers=(None,) * model.BUCKETS)},
         "a drain makes its buckets anew": {"drained": makes_anew},

@@ -145,7 +145,7 @@ pub out_of_memory : {V E : Type 0} (core : Core V E) (n : ℕ)
 out_of_memory core n t = rw t refl
 
 -- what is enabled is so in a table that hasn't ended
-open_where : {V E : Type 0} (core : Core V E) (event : Event V E) → IsTrue (is_enabled core event) → core.ended ≡ false
+pub open_where : {V E : Type 0} (core : Core V E) (event : Event V E) → IsTrue (is_enabled core event) → core.ended ≡ false
 unfolding is_enabled step
 open_where core event t = (some_step core.ended (step_of core event) t).0
 

@@ -20,6 +20,7 @@ use Rattle.thread_local_schedule.proofs.Parts.{made_core-fits}
 use Rattle.thread_local_schedule.proofs.Kept.{happens-fits}
 use Rattle.thread_local_schedule.proofs.EventSays.{event_says}
 use Rattle.thread_local_schedule.proofs.Clauses.{least_taken}
+use Rattle.thread_local_schedule.proofs.MoveLaws.{take_moves}
 
 -- what a move of the table changes of the held ids is what is noted of it
 held_noted : {V : Type 0} (sheet : Sheet V) (moves : List IdMove) (o : Option (TableMove V))
@@ -67,18 +68,6 @@ least_after capacity extra events event l t =
     (least_taken (run (made_core capacity extra) events) event t)
 
 -- what each kind of event notes
-granted_noted : (enabled granted : Bool) → IsTrue (enabled && not (not granted)) → (T : Type 0)
-    → let moves : Option (TableMove T) = cond enabled (cond granted (Some (OfSheet Take)) None) None in
-    moves ≡ Some (OfSheet Take)
-granted_noted true true t T = refl
-granted_noted true false t T = absurd (false≢true t)
-granted_noted false granted t T = absurd (false≢true t)
-
-take_moves : {V E : Type 0} (core : Core V E) (event : Event V E) → IsTrue (is_granted_take core event)
-    → move core event ≡ Some (OfSheet Take)
-take_moves {V} core (TakeId refused growth) t = granted_noted (is_enabled core (TakeId refused growth)) (is_granted core.manager refused) t V
-take_moves core _ t = absurd (false≢true t)
-
 pub one_take : {V E : Type 0} (core : Core V E) (events : List (Event V E)) (event : Event V E)
     → IsTrue (is_granted_take (run core events) event)
     → id_moves core (events ++ event ∷ []) ≡ noted (id_moves core events) TakeNoted

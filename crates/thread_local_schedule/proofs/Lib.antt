@@ -16,7 +16,9 @@ pub mod Publishings
 pub mod Sayings
 pub mod Counted
 pub mod MainTheorem
+pub mod MoveLaws
 pub mod History
+pub mod EffectLaws
 pub mod FirstCalls
 pub mod TableLaws
 pub mod LocalLaws

@@ -90,7 +90,7 @@ make_bucket-numbers table local refused _ _ = tt
 
 -- a pointer that isn't null after an offer led to the same bucket before, or is the one offered to,
 -- which leads to the offered bucket
-number_at-with_bucket_same : {V : Type 0} (table : Table V) (bucket number : ℕ)
+pub number_at-with_bucket_same : {V : Type 0} (table : Table V) (bucket number : ℕ)
     → number_at (with_fresh_bucket table bucket number) bucket ≡ Some number
 unfolding number_at with_fresh_bucket
 number_at-with_bucket_same table bucket number = rw (eq-eqb bucket bucket refl) refl
@@ -100,11 +100,11 @@ made-with_fresh_bucket : {V : Type 0} (table : Table V) (bucket number : ℕ)
 unfolding with_fresh_bucket
 made-with_fresh_bucket table bucket number = refl
 
-named_by_offer : {V : Type 0} (table : Table V) (bucket number : ℕ) (b : Bool) (other k : ℕ)
+numbered_by_offer : {V : Type 0} (table : Table V) (bucket number : ℕ) (b : Bool) (other k : ℕ)
     → number_at (cond b table (with_fresh_bucket table bucket number)) other ≡ Some k
     → (number_at table other ≡ Some k) ⊎ ((Some number ≡ Some k) × (bucket ≡ other))
-named_by_offer table bucket number true other k e = inl e
-named_by_offer table bucket number false other k e =
+numbered_by_offer table bucket number true other k e = inl e
+numbered_by_offer table bucket number false other k e =
     ⊎_elim
     (λ here.
     inr (
@@ -135,7 +135,7 @@ install_bucket-numbers table local (Private create number) at =
           ⊎_elim
           (λ before. inl before)
           (λ own. inr (ap own_number at ∙ own.0, own.1, refl))
-          (named_by_offer table (bucket_of local.id) number (bucket_stands table (bucket_of local.id)) bucket k e);
+          (numbered_by_offer table (bucket_of local.id) number (bucket_stands table (bucket_of local.id)) bucket k e);
       own_before = λ k e. cc;
     })
 install_bucket-numbers table local _ at = tt

@@ -4,8 +4,8 @@ use Rattle.std.proofs.Common.{refl, ap, sym, ◌∙◌, subst, arith, ⊎_elim}
 use Rattle.std.specs.Prelude.{option_map, option_and_then, unwrap_or, suc, ◌++◌, [], ◌∷◌, ◌==◌, if◌then◌else◌}
 use Rattle.std.proofs.lemmas.Option.{none-some}
 use Rattle.std.proofs.lemmas.Bool.{false≢true, eqb-false, cond_both}
-use Rattle.thread_local_model.specs.Cursor.{is_complete, cursor_id}
-use Rattle.thread_local_schedule.specs.Table.{Table}
+use Rattle.thread_local_model.specs.Cursor.{is_complete, cursor_id, after_load, after_look}
+use Rattle.thread_local_schedule.specs.Table.{Table, bucket_stands}
 use Rattle.thread_local_schedule.specs.Local.{LocalStep, local_step}
 use Rattle.thread_local_schedule.specs.SharedWalk.{SharedWalk, fresh_walk, with_pair, WalkStep, Load, Look, walk_step, next_step}
 use Rattle.thread_local_schedule.specs.WalkFits.{Adds}
@@ -186,6 +186,21 @@ pub look_adds : {V E : Type 0} (core : Core V E) (n : ℕ) (before : SharedWalk 
     × (after.read ≡ before.read ++ id ∷ []) × (after.loads ≡ before.loads))
 look_adds core n before h t at =
     some_and _ (Adds core.table Look before) _ (λ after a. (a.first, a.given, a.read, a.loads)) (adds core n Look before h t at)
+
+-- and its cursor goes on as its step says
+pub load_moves : {V E : Type 0} (core : Core V E) (n : ℕ) (before : SharedWalk V) → CoreFits core
+    → IsTrue (is_enabled core (OfWalk n Load))
+    → core.walks n ≡ Some before
+    → IsSomeAnd ((happens core (OfWalk n Load)).walks n) (λ after.
+    after.cursor ≡ after_load before.cursor (bucket_stands core.table before.cursor.bucket))
+load_moves core n before h t at = some_and _ (Adds core.table Load before) _ (λ after a. a.cursor) (adds core n Load before h t at)
+
+pub look_moves : {V E : Type 0} (core : Core V E) (n : ℕ) (before : SharedWalk V) → CoreFits core
+    → IsTrue (is_enabled core (OfWalk n Look))
+    → core.walks n ≡ Some before
+    → IsSomeAnd ((happens core (OfWalk n Look)).walks n) (λ after.
+    after.cursor ≡ after_look before.cursor (is_some ((shadow core).values (cursor_id before.cursor))))
+look_moves core n before h t at = some_and _ (Adds core.table Look before) _ (λ after a. a.cursor) (adds core n Look before h t at)
 
 -- a walk that isn't complete can make a step
 loads : {V : Type 0} (table : Table V) (walk : SharedWalk V) (looks : Bool)

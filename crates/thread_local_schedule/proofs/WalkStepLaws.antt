@@ -264,7 +264,7 @@ pub walk_step-adds : {V : Type 0} (table : Table V) (walk : SharedWalk V) (step 
 unfolding walk_step
 walk_step-adds table walk Load h =
     cond_both {A = Option (SharedWalk _)} (may_load walk.cursor) (Some (walk_load table walk)) None (λ o. IfSome o (Loads table walk))
-    (λ _. record { first = refl; given = refl; read = refl; loads = refl })
+    (λ _. record { first = refl; given = refl; read = refl; loads = refl; cursor = refl })
     (λ _. tt)
 walk_step-adds table walk Look h =
     cond_both {A = Option (SharedWalk _)} walk.cursor.looks (Some (walk_look table walk)) None (λ o. IfSome o (Looks table walk))
@@ -276,6 +276,10 @@ walk_step-adds table walk Look h =
           (shown_at_place table walk.cursor.bucket walk.cursor.index (h.cursor.looks_inside t)));
       read = refl;
       loads = refl;
+      cursor =
+          ap (λ shown. after_look walk.cursor (is_some shown))
+          (sym
+          (shown_at_place table walk.cursor.bucket walk.cursor.index (h.cursor.looks_inside t)));
     })
     (λ _. tt)
 

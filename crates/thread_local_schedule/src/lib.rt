@@ -10,6 +10,7 @@
 #![tactic(auto)]
 
 pub mod cleared;
+pub mod effects;
 pub mod event;
 pub mod locals;
 pub mod made;
@@ -21,6 +22,7 @@ pub mod steps;
 pub mod walks;
 pub mod words;
 
+pub use effects::events_change;
 pub use event::events_say;
 pub use main_theorem::headline;
 pub use schedule::every_schedule;
