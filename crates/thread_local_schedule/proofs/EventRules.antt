@@ -37,6 +37,10 @@ unfolding run
 run-append core [] more = refl
 run-append core (event ∷ events) more = run-append (happens core event) events more
 
+pub run-none : {V E : Type 0} (core : Core V E) → run core [] ≡ core
+unfolding run
+run-none core = refl
+
 pub run-one : {V E : Type 0} (core : Core V E) (events : List (Event V E)) (event : Event V E)
     → run core (events ++ event ∷ []) ≡ happens (run core events) event
 unfolding run

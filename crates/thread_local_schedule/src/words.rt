@@ -6,14 +6,14 @@ ghost use Rattle.thread_local_model.specs.Walk.{walk};
 ghost use Rattle.thread_local_schedule.specs.Table.{bucket_stands, Table, Slot};
 ghost use Rattle.thread_local_schedule.specs.Local.{Local, LocalStep, Doing, MakeBucket, Private, BeginGet};
 ghost use Rattle.thread_local_schedule.specs.Local.{BeginGetOr, LoadPointer, LookAtFlag, InstallBucket, WriteValue};
-ghost use Rattle.thread_local_schedule.specs.Local.{SetFlag, Reply};
-ghost use Rattle.thread_local_schedule.specs.SharedWalk.{WalkStep};
+ghost use Rattle.thread_local_schedule.specs.Local.{SetFlag, Reply, Written};
+ghost use Rattle.thread_local_schedule.specs.SharedWalk.{SharedWalk, fresh_walk, WalkStep};
 ghost use Rattle.thread_local_schedule.specs.Fits.{number_at, IsSameBucket, IsWritten};
 ghost use Rattle.thread_local_schedule.specs.Numbers.{own_number};
 ghost use Rattle.thread_local_schedule.specs.Core.{Core, installed_slots, private_slots};
 ghost use Rattle.thread_local_schedule.specs.Events.{Event, TakeId, OfLocal, GiveBack, Forget, BeginWalk, OfWalk};
 ghost use Rattle.thread_local_schedule.specs.Events.{EndWalk, OwnerCall, Owner, is_enabled, happens, run, IntoIter};
-ghost use Rattle.thread_local_schedule.specs.Events.{DropTable, ClearTable};
+ghost use Rattle.thread_local_schedule.specs.Events.{RewriteTable, DrainTable, DropTable, ClearTable};
 ghost use Rattle.thread_local_schedule.specs.Schedule.{begins_walk, is_exclusive, is_of, is_of_walk, is_refused};
 ghost use Rattle.thread_local_schedule.specs.Schedule.{is_granted_take, newcomer, IsReached, NoneTaken, is_take};
 ghost use Rattle.thread_local_schedule.specs.Schedule.{ends_table, IsAlone, move};
@@ -21,10 +21,10 @@ ghost use Rattle.thread_local_model.specs.Place.{bucket_of};
 ghost use Rattle.thread_local_model.specs.Buckets.{slots};
 ghost use Rattle.thread_local_schedule.specs.Bounds.{TakesBelow, NothingRefused, most_held, publishings};
 ghost use Rattle.thread_local_model.specs.IdMoves.{Take, Give as IdGive, noted};
-ghost use Rattle.thread_local_model.specs.Sheet.{Sheet, Give, Publish, Clear};
+ghost use Rattle.thread_local_model.specs.Sheet.{Sheet, Take as TakeLeast, Give, Publish, Rewrite, Clear};
 ghost use Rattle.thread_local_schedule.specs.TableMoves.{OfSheet, Drain, IsMoveAllowed};
 ghost use Rattle.thread_local_schedule.specs.IdHistory.{id_moves};
-ghost use Rattle.thread_local_model.specs.Answers.{Answer, Refused, Get, GetOr};
+ghost use Rattle.thread_local_model.specs.Answers.{Answer, Refused, Call, Get, GetOr, View, answer, view_after, answers};
 ghost use Rattle.thread_local_schedule.specs.Calls.{gets_of, closure_of, HasNoCall, GoesOn, steps_left, GoesDown};
 ghost use Rattle.thread_local_schedule.specs.Calls.{EndsWith};
 
@@ -71,6 +71,36 @@ pub fn words_say<V, E>()
         → move (run core events) event ≢ Some (OfSheet Clear)
         → move (run core events) event ≢ Some Drain
         → publishings core (events ++ event ∷ []) ≡ publishings core events }
+
+    // Which move each event is: no other event moves anything, and none that isn't enabled.
+    ensures take_moves { (core : Core V E) (event : Event V E)
+        → IsTrue (is_granted_take core event) → move core event ≡ Some (OfSheet TakeLeast) }
+    ensures give_moves { (core : Core V E) (n : ℕ) (local : Local V E)
+        → IsTrue (is_enabled core (GiveBack n))
+        → core.locals n ≡ Some local
+        → move core (GiveBack n) ≡ Some (OfSheet (Give local.id)) }
+    ensures publish_moves { (core : Core V E) (n : ℕ) (local : Local V E) (v : V)
+        → IsTrue (is_enabled core (OfLocal n SetFlag))
+        → core.locals n ≡ Some local
+        → local.doing ≡ Written v
+        → move core (OfLocal n SetFlag) ≡ Some (OfSheet (Publish local.id v)) }
+    ensures rewrite_moves { (core : Core V E) (others : ℕ → V → V)
+        → IsTrue (is_enabled core (Owner (RewriteTable others)))
+        → move core (Owner (RewriteTable others)) ≡ Some (OfSheet (Rewrite others)) }
+    ensures drain_moves { (core : Core V E) → IsTrue (is_enabled core (Owner DrainTable))
+        → move core (Owner DrainTable) ≡ Some Drain }
+    ensures clear_moves { (core : Core V E) → IsTrue (is_enabled core (Owner ClearTable))
+        → move core (Owner ClearTable) ≡ Some (OfSheet Clear) }
+    ensures no_moves { (core : Core V E) (event : Event V E)
+        →
+        (IsTrue (is_enabled core event)
+        → (is_granted_take core event ≡ false)
+        × ((n : ℕ) → event ≢ GiveBack n)
+        × ((n : ℕ) → event ≢ OfLocal n SetFlag)
+        × ((others : ℕ → V → V) → event ≢ Owner (RewriteTable others))
+        × (event ≢ Owner DrainTable)
+        × (event ≢ Owner ClearTable))
+        → move core event ≡ None }
 
     // Of the ids a granted take notes a take, and a give back notes the id. A clear begins anew, and
     // all else notes nothing.
@@ -143,11 +173,33 @@ pub fn words_say<V, E>()
         → NoneTaken core (events ++ event ∷ []) }
     ensures no_take { (p : ℕ) (core : Core V E) → TakesBelow p core [] }
 
+    // A schedule leads on by its last event, and calls are answered one after another, each by the
+    // view that the one before leaves.
+    ensures run_none { (core : Core V E) → run core [] ≡ core }
+    ensures run_more { (core : Core V E) (events : List (Event V E)) (event : Event V E)
+        → run core (events ++ event ∷ []) ≡ happens (run core events) event }
+    ensures answers_none { (view : View V) → answers {V = V} {E = E} view [] ≡ [] }
+    ensures answers_more { (view : View V) (call : Call V E) (calls : List (Call V E))
+        → answers view (call ∷ calls)
+        ≡ answer view call ∷ answers (view_after view call) calls }
+
+    // A walk begins at the first slot, with no load, and has read, given and seen nothing.
+    ensures fresh { let walk : SharedWalk V = fresh_walk in
+        (walk.cursor ≡ record { bucket = 0; index = 0; looks = false })
+        × (walk.loads ≡ 0)
+        × (walk.read ≡ [])
+        × (walk.given ≡ [])
+        × ((id : ℕ) → walk.first id ≡ None) }
+
     // There is nobody else where the table is alone; a Local without a call has no get and no
     // closure under way; all ids below a number are held where each is; a slot is written where its
     // flag says so; and what a move requires.
     ensures alone { (core : Core V E) (n : ℕ)
         → IsAlone core → (core.locals n ≡ None) × (core.walks n ≡ None) }
+    ensures nobody { (core : Core V E)
+        → ((n : ℕ) → core.locals n ≡ None)
+        → ((n : ℕ) → core.walks n ≡ None)
+        → IsAlone core }
     ensures no_call { (local : Local V E) → HasNoCall local
         → (gets_of local.doing ≡ 0) × (closure_of local.doing ≡ None) }
     ensures all_below { (n id : ℕ) (held : List Bool) → HoldsAllBelow n held → id < n
