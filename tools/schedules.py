@@ -498,27 +498,223 @@ def clause_ends_there(m):
     return all(live_walk(m.after, n) is not None or not model.is_enabled(m.after, ("EndWalk", n)) for n in numbers)
 
 
-def looks_by_itself(local):
-    """Whether a Local has no bucket of its own and has written nothing: it may load its pointer and look at its flag."""
-    return local.doing[0] not in ("Private", "Written")
+# What each step needs, both ways: it is enabled there, and nowhere else.
+
+
+def needs(step, local):
+    """Whether a step of this Local can happen, by what it does and has learnt."""
+    doing, learnt = local.doing[0], local.learnt[0]
+    looks = doing in ("Gets", "Started")
+    match step[0]:
+        case "BeginGet":
+            return doing == "Gets"
+        case "BeginGetOr":
+            return local.doing == ("Gets", 0)
+        case "LoadPointer":
+            return looks and learnt in ("Unknown", "Missing")
+        case "LookAtFlag":
+            return looks and learnt == "Standing"
+        case "MakeBucket":
+            return doing == "Started" and learnt == "Missing"
+        case "InstallBucket":
+            return doing == "Private"
+        case "WriteValue":
+            return doing == "Started" and learnt == "Vacant"
+        case "SetFlag":
+            return doing == "Written"
+        case "Reply":
+            got = doing == "Gets" and local.doing[1] > 0 and learnt in ("Missing", "Vacant", "Holding")
+            return got or (doing == "Started" and learnt == "Holding")
+
+
+def as_needed(m, *step):
+    """The step is enabled for just those Locals that may make it."""
+    others_too = m.after.table is not m.before.table  # what another did may not matter
+    locals_ = live(m.after) if others_too else changed(m)
+    return m.after.ended or all(model.is_enabled(m.after, ("OfLocal", n, step)) == needs(step, it) for n, it in locals_)
+
+
+def clause_may_get(m):
+    return as_needed(m, "BeginGet")
+
+
+def clause_may_get_or(m):
+    return as_needed(m, "BeginGetOr", ("Ok", "any"))
 
 
 def clause_may_load(m):
-    """A Local may load its pointer, in a call or where none is under way, just where its bucket isn't known to stand."""
-
-    def may(it):
-        return looks_by_itself(it) and it.learnt[0] in ("Unknown", "Missing")
-
-    return m.after.ended or all(model.is_enabled(m.after, ("OfLocal", n, ("LoadPointer",))) == may(it) for n, it in changed(m))
+    """A Local may load its pointer until its bucket is known to stand, in a call or where none is under way."""
+    return as_needed(m, "LoadPointer")
 
 
 def clause_may_look(m):
-    """And it may look at its flag just where it has learnt that the bucket stands."""
+    return as_needed(m, "LookAtFlag")
 
-    def may(it):
-        return looks_by_itself(it) and it.learnt == ("Standing",)
 
-    return m.after.ended or all(model.is_enabled(m.after, ("OfLocal", n, ("LookAtFlag",))) == may(it) for n, it in changed(m))
+def clause_may_ask(m):
+    """A call that found its bucket missing may ask for memory, whatever stands by now."""
+    return as_needed(m, "MakeBucket", False) and as_needed(m, "MakeBucket", True)
+
+
+def clause_may_install(m):
+    return as_needed(m, "InstallBucket")
+
+
+def clause_may_write(m):
+    return as_needed(m, "WriteValue")
+
+
+def clause_may_set(m):
+    return as_needed(m, "SetFlag")
+
+
+def clause_may_reply(m):
+    return as_needed(m, "Reply")
+
+
+def clause_walk_may(m):
+    """A walk looks where its cursor says so, and else loads a pointer until it is complete."""
+
+    def may(it, name):
+        return it.looks if name == "Look" else not it.looks and it.bucket < model.BUCKETS
+
+    new = [(n, it) for n, it in walking(m.after) if live_walk(m.before, n) is not it]
+    steps = [(n, it, name) for n, it in new for name in ("Load", "Look")]
+    return m.after.ended or all(model.is_enabled(m.after, ("OfWalk", n, name)) == may(it, name) for n, it, name in steps)
+
+
+# What each event changes of the sheet, the buckets and the slots, and what it leaves.
+
+
+def numbers_of(sheet):
+    """The held ids of a sheet."""
+    return {k for k, it in enumerate(sheet.held) if it}
+
+
+def clause_sheet_changes(m):
+    """A take holds the least free id, a give back frees its Local's, a flag publishes what was written; all else stays."""
+    before, after = model.shadow(m.before), model.shadow(m.after)
+    held, values = numbers_of(before), list(before.values)
+    match m.event if model.is_enabled(m.before, m.event) else None:
+        case ("TakeId", _, _) if is_granted_take(m):
+            held |= {next(k for k in range(model.IDS + 1) if k not in held)}
+        case ("GiveBack", n):
+            held -= {live_local(m.before, n).id}
+        case ("OfLocal", n, ("SetFlag",)):
+            values[live_local(m.before, n).id] = live_local(m.before, n).doing[1]
+        case ("Owner", ("RewriteTable", others)):
+            values = [None if v is None else others(k, v) for k, v in enumerate(values)]
+        case ("Owner", ("DrainTable",)):
+            values = [None] * model.IDS
+        case ("Owner", ("ClearTable",)):
+            held, values = set(), [None] * model.IDS
+    return (numbers_of(after), after.values) == (held, tuple(values))
+
+
+def clause_shows(m):
+    """A value is published where it is written and its flag is set, and only there."""
+    table, values = m.after.table, model.shadow(m.after).values
+    if table is m.before.table:
+        return True
+    slots = [(k, model.slot_at(table, k)) for k in range(model.IDS)]
+    return all(values[k] == (it.written if it.flag else None) for k, it in slots)
+
+
+def clause_writes_slot(m):
+    """A value is written in the slot of the Local's id, and then its flag is set; no other slot changes meanwhile."""
+    old, new = m.before.table, m.after.table
+    writes, sets = stepped(m, "WriteValue"), stepped(m, "SetFlag")
+    if new is old and writes is None and sets is None:
+        return True
+    slots = {k: model.slot_at(old, k) for k in range(model.IDS)}
+    if writes is not None and writes[0].doing[1][0] == "Ok":
+        slots[writes[0].id] = replace(slots[writes[0].id], written=writes[0].doing[1][1])
+    if sets is not None:
+        slots[sets[0].id] = replace(slots[sets[0].id], flag=True)
+    return model.is_exclusive(m.event) or all(model.slot_at(new, k) == it for k, it in slots.items())
+
+
+def clause_installs_own(m):
+    """An install makes the bucket of its Local's id stand, and no other: where none stood, the one that the call has made."""
+    it = stepped(m, "InstallBucket")
+    if it is None:
+        return True
+    old, new, own = m.before.table, m.after.table, bucket_of(it[0].id)
+    kept = all(model.number_at(new, b) == model.number_at(old, b) for b in range(model.BUCKETS) if b != own)
+    number = model.number_at(old, own)
+    return kept and model.number_at(new, own) == (model.own_number(it[0].doing) if number is None else number)
+
+
+def clause_learns(m):
+    """After an install the slot is known to be empty, and after the flag is set to hold the value."""
+    installed, sets = stepped(m, "InstallBucket"), stepped(m, "SetFlag")
+    empty = installed is None or installed[1].learnt == ("Vacant",)
+    return empty and (sets is None or sets[1].learnt == ("Holding", sets[0].doing[1]))
+
+
+def clause_walk_moves(m):
+    """A walk's cursor goes on by whether its bucket stands, and by whether its slot shows a value."""
+    if m.event[0] != "OfWalk" or not model.is_enabled(m.before, m.event):
+        return True
+    it, then = live_walk(m.before, m.event[1]), live_walk(m.after, m.event[1])
+    index = it.index + (m.event[2] == "Look")
+    if m.event[2] == "Look" and model.shadow(m.before).values[model.cursor(it)] is not None:
+        place = (it.bucket, index, False)
+    elif index == 2**it.bucket or not model.bucket_stands(m.before.table, it.bucket):
+        place = (it.bucket + 1, 0, False)
+    else:
+        place = (it.bucket, index, True)
+    return (then.bucket, then.index, then.looks) == place
+
+
+def clause_fresh(m):
+    """A walk begins at the first slot, with no load, and has read, given and seen nothing."""
+    new = [it for n, it in walking(m.after) if live_walk(m.before, n) is None]
+    return all(it == model.Walk(0, 0, False, (None,) * model.IDS, (), (), 0) for it in new)
+
+
+def clause_move(m):
+    """Which move each event is."""
+    move = model.move_of(m.before, m.event)
+    match m.event if model.is_enabled(m.before, m.event) else None:
+        case ("TakeId", _, _) if is_granted_take(m):
+            return move == ("Take",)
+        case ("GiveBack", n):
+            return move == ("Give", live_local(m.before, n).id)
+        case ("OfLocal", n, ("SetFlag",)):
+            return move == ("Publish", live_local(m.before, n).id, live_local(m.before, n).doing[1])
+        case ("Owner", (name, *others)) if name in ("RewriteTable", "DrainTable", "ClearTable"):
+            return move == (name[: -len("Table")], *others)
+    return move == ("Stay",)
+
+
+def clause_answers_more(m):
+    """Calls are answered one after another, each by the view that the one before leaves."""
+    for _, it in changed(m):
+        view, told = it.start, []
+        for call in it.calls:
+            told.append(model.answer(view, call))
+            view = model.view_after(view, call)
+        if model.answers(it.start, it.calls) != tuple(told):
+            return False
+    return True
+
+
+def clause_tells(m):
+    """A get finds what is known, and a publishing call answers the value there, or else what its closure would."""
+
+    def told(view, call):
+        if call == ("Get",):
+            return ("Found", view.value)
+        if view.value is not None:
+            return ("Answered", view.value)
+        if call[2] and not view.known:
+            return ("Refused",)
+        return ("Answered" if call[1][0] == "Ok" else "Failed", call[1][1])
+
+    views = [View(value, known) for value in (None, "there") for known in (False, True)]
+    calls = [("Get",)] + [("GetOr", (kind, "any"), refused) for kind in ("Ok", "Err") for refused in (False, True)]
+    return not is_clear(m) or all(model.answer(view, call) == told(view, call) for view in views for call in calls)
 
 
 def clause_begins_get(m):
@@ -1481,10 +1677,97 @@ def wrong_effects():
     }
 
 
+def wrong_for_some():
+    """Wrong bodies that are right for most ids, Locals, buckets or moments."""
+    right = {name: getattr(model, name) for name in ("give_back", "move_of", "answers", "is_alone")}
+
+    def steps(**it):
+        return {"LOCAL_STEPS": {**model.LOCAL_STEPS, **it}}
+
+    def walks(**it):
+        return {"WALK_STEPS": {**model.WALK_STEPS, **it}}
+
+    def keeps_sixth(core, number):
+        after = right["give_back"](core, number)
+        return after if after is None or number < 5 else replace(after, held=core.held)
+
+    def moves_none_of_sixth(core, event):
+        return ("Stay",) if event[0] == "GiveBack" and event[1] >= 5 else right["move_of"](core, event)
+
+    def answers_few(view, calls):
+        told = right["answers"](view, calls)
+        return tuple(("Found", None) if k > 4 and it[0] == "Found" else it for k, it in enumerate(told))
+
+    def replies_few(table, local):
+        after = model.reply(table, local)
+        if after is None or len(local.calls) < 5 or after[1].calls[-1] != ("Get",):
+            return after
+        return after[0], replace(after[1], answers=local.answers + (("Found", None),))
+
+    def asks_where_missing(table, local, refused):
+        return None if model.bucket_stands(table, bucket_of(local.id)) else model.make_bucket(table, local, refused)
+
+    def loads_once(table, local):
+        return None if local.learnt == ("Missing",) else model.load_pointer(table, local)
+
+    def passes_by(table, it):
+        after = model.walk_look(table, it)
+        new = after is not None and after.given != it.given and it.first[model.cursor(it)] is None
+        return model.at_place(replace(after, given=it.given)) if new else after
+
+    def publishes_below(table, local):
+        after = model.set_flag(table, local)
+        return after if after is None or local.id < 4 else (table, after[1])
+
+    def moves_below(core, event):
+        move = right["move_of"](core, event)
+        return ("Stay",) if move[0] == "Publish" and move[1] >= 4 else move
+
+    def shows_written(slot):
+        return slot.written
+
+    def all_written(table):
+        rows = [(Slot(),) * 2**b if it is None else it.slots for b, it in enumerate(table.pointers)]
+        return tuple(it.written for row in rows for it in row)
+
+    def installs_next(table, local):
+        after = model.install_bucket(table, local)
+        own = bucket_of(local.id)
+        if after is None or model.bucket_stands(table, own) or own + 1 >= model.BUCKETS or model.bucket_stands(table, own + 1):
+            return after
+        return model.with_pointer(table, own + 1, model.fresh_bucket(own + 1, local.doing[2])), after[1]
+
+    def installs_few(table, local):
+        after = model.install_bucket(table, local)
+        return after if after is None or bucket_of(local.id) < 2 else (table, after[1])
+
+    def learns_nothing(table, local):
+        after = model.set_flag(table, local)
+        return after if after is None else (after[0], replace(after[1], learnt=("Vacant",)))
+
+    def begins_with_load(core):
+        return replace(core, walks=core.walks + (model.Walk(loads=1),))
+
+    return {
+        "an owner calls only while the peak is below five": {"is_alone": lambda core: right["is_alone"](core) and len(core.held) < 5},
+        "a sixth Local gives no id back": {"give_back": keeps_sixth, "move_of": moves_none_of_sixth},
+        "a get answers nothing from the sixth call on": {"answers": answers_few, **steps(Reply=replies_few)},
+        "a missing bucket is never looked for again": steps(LoadPointer=loads_once),
+        "memory is asked for only where the bucket is missing by now": steps(MakeBucket=asks_where_missing),
+        "a walk begins with one load counted": {"begin_walk": begins_with_load},
+        "a walk passes by what wasn't published at its first load": walks(Look=passes_by),
+        "a value is shown when it is written": {"value_of": shows_written, "all_published": all_written},
+        "a call at ids from four on publishes nothing": {"move_of": moves_below, **steps(SetFlag=publishes_below)},
+        "an install installs the next bucket": steps(InstallBucket=installs_next),
+        "an install from bucket two on installs nothing": steps(InstallBucket=installs_few),
+        "a publishing call forgets what it has published": steps(SetFlag=learns_nothing),
+    }
+
+
 def try_wrong_bodies(seed, runs, length):
     """Says for each wrong body which clauses fail first, and whether the story breaks. Returns those that nothing refuses."""
     left = []
-    for name, body in {**wrong_bodies(), **more_wrong_bodies(), **wrong_effects()}.items():
+    for name, body in {**wrong_bodies(), **more_wrong_bodies(), **wrong_effects(), **wrong_for_some()}.items():
         kept = {key: getattr(model, key) for key in body}
         for key, it in body.items():
             setattr(model, key, it)
