@@ -10,10 +10,10 @@ use Rattle.thread_local_schedule.specs.OwnerWalk.{rewritten}
 use Rattle.thread_local_schedule.specs.Cleared.{cleared, drained}
 use Rattle.thread_local_schedule.specs.Core.{Core, shadow, put, is_alone}
 
--- What an exclusive owner does: values are replaced, by `iter_mut`, `entries_mut` or `get_mut`; slots
--- are counted; `drain` takes all values out; `clear`; the table is taken apart, by `into_iter`,
--- `into_entries` or `into_buckets`; or it is dropped. There is no event for `buckets_mut`, which may
--- leave any buckets: the schedules are of tables that never lend theirs.
+-- What an exclusive owner does: values are replaced, by `iter_mut`, `entries_mut` or `get_mut`;
+-- slots are counted; `drain` takes all values out; `clear`; the table is taken apart, by
+-- `into_iter`, `into_entries` or `into_buckets`; or it is dropped. There is no event for
+-- `buckets_mut`, which may leave any buckets: the schedules are of tables that never lend theirs.
 pub data OwnerCall (V : Type 0) : Type 0 where
   RewriteTable : (others : ℕ → V → V) → OwnerCall V
   Slots : OwnerCall V

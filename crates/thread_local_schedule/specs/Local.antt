@@ -49,9 +49,9 @@ abbrev pub after_call : {V E : Type 0} → Local V E → Call V E → Answer V E
 after_call local call answer learnt doing =
     record local { learnt = learnt; doing = doing; calls = local.calls ++ call ∷ []; answered = local.answered ++ answer ∷ [] }
 
--- Whether a Local may load its pointer and look at its flag: in a call, and also where none is under
--- way, as the running `local` does once for each new Local. Only a publishing call that has a bucket
--- of its own, or has written its value, does neither.
+-- Whether a Local may load its pointer and look at its flag: in a call, and also where none is
+-- under way, as the running `local` does once for each new Local. Only a publishing call that has a
+-- bucket of its own, or has written its value, does neither.
 abbrev pub may_look : {V E : Type 0} → Doing V E → Bool
 may_look (Gets count) = true
 may_look (Started create) = true

@@ -1,8 +1,8 @@
 //! Theorems on a table's model over every schedule of atomic steps. From the bottom up: what each
-//! step of a `Local` and of a walk keeps, what a clear and a drain leave, that a new core fits, that
-//! the table shows an owner's buckets, when each step can happen, what each event changes, what each
-//! event and each word of the theorems says, every schedule, every shared walk, and the main theorem,
-//! which says in one contract what a table is for.
+//! step of a `Local` and of a walk keeps, what a clear and a drain leave, that a new core fits,
+//! that the table shows an owner's buckets, when each step can happen, what each event changes,
+//! what each event and each word of the theorems says, every schedule, every shared walk, and the
+//! main theorem, which says in one contract what a table is for.
 //!
 //! The definitions are in specs/: the steps of a table and its `Local`s, the core (a table with its
 //! id manager, its `Local`s and its walks), the events, and what a schedule is. Each function here

@@ -237,8 +237,8 @@ pub fn every_schedule<V, E>()
         → core.locals n ≡ Some local → private_slots local.id local.doing ≤ peak core }
     ensures values { (core : Core V E) → IsReached core → length (walk (shadow core).values) ≤ peak core }
 
-    // Since a table was made, cleared or drained there were as many publishings as there are values,
-    // and so at most as many as ids were held at once.
+    // Since a table was made, cleared or drained there were as many publishings as there are
+    // values, and so at most as many as ids were held at once.
     ensures publishings { (capacity extra : ℕ) (events : List (Event V E))
         → capacity < 2 ^ 63
         → publishings (made_core capacity extra) events ≡ length
@@ -273,10 +273,10 @@ pub fn every_schedule<V, E>()
         → p ≤ capacity → TakesBelow p (made_core capacity extra) events
         → NothingRefused (made_core capacity extra) events }
 
-    // One schedule from `new` to `clear`, computed: it shows that the events do occur, since each of
-    // its cores is reached. Four Locals publish in a new table. A walk gives the four values; the
-    // next Local finds the first and keeps it; an owner's walk gives the four; and `clear` leaves
-    // the sheet of `new`.
+    // One schedule from `new` to `clear`, computed: it shows that the events do occur, since each
+    // of its cores is reached. Four Locals publish in a new table. A walk gives the four values;
+    // the next Local finds the first and keeps it; an owner's walk gives the four; and `clear`
+    // leaves the sheet of `new`.
     ensures four_are_reached { (a b c d : V)
         → IsReached (after_publishing {E = E} a b c d)
         × IsReached (after_walking {E = E} a b c d)

@@ -1,5 +1,6 @@
 //! What holds of shared walks over every schedule.
-ghost use Rattle.std.specs.Prelude.{◌≡◌, ℕ, ◌+◌, ◌≤◌, false, length, map, Contains, Some, None, is_some, IsTrue, IsSomeAnd, suc, ◌++◌, [], ◌∷◌, ◌==◌, if◌then◌else◌};
+ghost use Rattle.std.specs.Prelude.{◌≡◌, ℕ, ◌+◌, ◌≤◌, false, length, map, Contains, Some, None, is_some, IsTrue};
+ghost use Rattle.std.specs.Prelude.{IsSomeAnd, suc, ◌++◌, [], ◌∷◌, ◌==◌, if◌then◌else◌};
 ghost use Rattle.std.specs.List.Sorted.{IsStrictlyIncreasing};
 ghost use Rattle.thread_local_model.specs.Cursor.{is_complete, cursor_id, after_load, after_look};
 ghost use Rattle.thread_local_schedule.specs.Table.{bucket_stands};

@@ -11,8 +11,7 @@ ghost use Rattle.thread_local_schedule.specs.OwnerWalk.{owner_walk, rewritten};
 ghost use Rattle.thread_local_schedule.specs.Cleared.{cleared, drained};
 ghost use Rattle.thread_local_schedule.specs.Shown.{shown};
 
-/// What the table shows to an owner: the buckets that its pointers lead to, and the values whose
-/// flags are set. An owner's walk over the table is the walk over these values.
+/// What the table shows to an owner: the buckets that stand, and the values whose flags are set. An owner's walk over the table is the walk over these values.
 pub fn a_table_shows_its_contents<V>()
     ensures table { (table : Table V) → IsTable (shown table) }
     ensures stands { (table : Table V) (bucket : ℕ)
@@ -23,9 +22,9 @@ pub fn a_table_shows_its_contents<V>()
 {}
 
 /// The events change what an owner sees as an owner's calls do. Installing a bucket and then
-/// setting a flag is an `insert`; an owner's writes change values and no bucket; a drain leaves every
-/// bucket and a clear the reserved ones, with all slots empty; and a table of `new` shows what new
-/// buckets show.
+/// setting a flag is an `insert`; an owner's writes change values and no bucket; a drain leaves
+/// every bucket and a clear the reserved ones, with all slots empty; and a table of `new` shows
+/// what new buckets show.
 pub fn events_change_contents_as_calls_do<V>()
     ensures installed { (table : Table V) (bucket number : ℕ)
         → bucket < 63

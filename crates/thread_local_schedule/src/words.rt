@@ -31,9 +31,9 @@ ghost use Rattle.thread_local_schedule.specs.Calls.{EndsWith};
 /// What the words say in which the theorems are told, each by what makes it true and by what it
 /// makes true: so that no clause holds only because a word in it is true of nothing.
 pub fn words_say<V, E>()
-    // The installed slots are those of the buckets that stand, a bucket not offered yet has all slots
-    // of its id's bucket, a schedule that refuses nothing refuses none of its events, and takes below
-    // a number are those that each come while fewer ids are held.
+    // The installed slots are those of the buckets that stand, a bucket not offered yet has all
+    // slots of its id's bucket, a schedule that refuses nothing refuses none of its events, and
+    // takes below a number are those that each come while fewer ids are held.
     ensures installed { (core : Core V E)
         → installed_slots core ≡ slots (bucket_stands core.table) }
     ensures private { (id : ℕ) (doing : Doing V E) (number : ℕ)
@@ -102,8 +102,8 @@ pub fn words_say<V, E>()
         × (event ≢ Owner ClearTable))
         → move core event ≡ None }
 
-    // Of the ids a granted take notes a take, and a give back notes the id. A clear begins anew, and
-    // all else notes nothing.
+    // Of the ids a granted take notes a take, and a give back notes the id. A clear begins anew,
+    // and all else notes nothing.
     ensures no_id_moves { (core : Core V E) → id_moves core [] ≡ [] }
     ensures one_take { (core : Core V E) (events : List (Event V E)) (event : Event V E)
         → IsTrue (is_granted_take (run core events) event)
@@ -122,8 +122,8 @@ pub fn words_say<V, E>()
         × (event ≢ Owner ClearTable))
         → id_moves core (events ++ event ∷ []) ≡ id_moves core events }
 
-    // What makes an event a take, an owner's call, one of this Local or walk, the beginning of a walk
-    // or the end of a table.
+    // What makes an event a take, an owner's call, one of this Local or walk, the beginning of a
+    // walk or the end of a table.
     ensures take { (event : Event V E) → IsTrue (is_take event)
         → (refused : Bool) × (growth : ℕ) × (event ≡ TakeId refused growth) }
     ensures owners { (event : Event V E) → IsTrue (is_exclusive event)
@@ -137,8 +137,8 @@ pub fn words_say<V, E>()
     ensures table_ends { (event : Event V E) → IsTrue (ends_table event)
         → (event ≡ Owner IntoIter) ⊎ (event ≡ Owner DropTable) }
 
-    // A take that is enabled is granted or refused, a bucket that gets its memory isn't refused, and
-    // the newcomer is the Local that comes.
+    // A take that is enabled is granted or refused, a bucket that gets its memory isn't refused,
+    // and the newcomer is the Local that comes.
     ensures ungranted { (core : Core V E) (refused : Bool) (growth : ℕ)
         → IsTrue (is_enabled core (TakeId refused growth))
         → is_granted_take core (TakeId refused growth) ≡ false
@@ -151,9 +151,9 @@ pub fn words_say<V, E>()
         → (happens core event).locals n ≡ Some local
         → newcomer core event ≡ Some local }
 
-    // The number at a place is that of the bucket that stands there, and a call's own number that of
-    // the bucket that it has made. A bucket that stands in two tables is the same where it has one
-    // number in both.
+    // The number at a place is that of the bucket that stands there, and a call's own number that
+    // of the bucket that it has made. A bucket that stands in two tables is the same where it has
+    // one number in both.
     ensures number_at { (table : Table V) (bucket number : ℕ)
         → (number_at table bucket ≡ Some number)
         ↔ IsSomeAnd (table.pointers bucket) (λ here. here.number ≡ number) }
@@ -211,8 +211,9 @@ pub fn words_say<V, E>()
         → IsMoveAllowed sheet (OfSheet (Publish id v))
         → (sheet.values id ≡ None) × IsTrue (is_held sheet.held id) }
 
-    // What a step does to the calls of its Local: a get begins, a publishing call begins, none begins
-    // or ends, one is refused memory, one ends or goes on, or a get or a publishing call ends.
+    // What a step does to the calls of its Local: a get begins, a publishing call begins, none
+    // begins or ends, one is refused memory, one ends or goes on, or a get or a publishing call
+    // ends.
     ensures step_keeps { (step : LocalStep V E) (before after : Local V E) → GoesOn step before after
         → (after.id ≡ before.id) × (after.start ≡ before.start) }
     ensures get_begins { (before after : Local V E) → GoesOn BeginGet before after
