@@ -31,7 +31,8 @@ class Moment:
     event: tuple
     after: Core
     most: int  # the greatest number of ids held at once since the table was made or cleared
-    publishings: int  # how many values were published since then
+    publishings: int  # how many values were published since then, or since it was drained
+    moves: tuple  # the takes and gives of ids since the table was made or cleared
     bound: int  # each take so far came while fewer ids than this were held
 
 
@@ -54,12 +55,16 @@ def is_clear(m):
     return m.event == ("Owner", ("ClearTable",)) and model.is_enabled(m.before, m.event)
 
 
+def is_drain(m):
+    return m.event == ("Owner", ("DrainTable",)) and model.is_enabled(m.before, m.event)
+
+
 def clause_moves(m):
-    return model.shadow(m.after) == model.moved(model.shadow(m.before), model.move_of(m.before, m.event))
+    return model.shadow(m.after) == model.moved_by(model.shadow(m.before), model.move_of(m.before, m.event))
 
 
 def clause_allowed(m):
-    return model.is_allowed(model.shadow(m.before), model.move_of(m.before, m.event))
+    return model.is_move_allowed(model.shadow(m.before), model.move_of(m.before, m.event))
 
 
 def clause_idle(m):
@@ -76,6 +81,17 @@ def clause_least(m):
         return True
     made = model.newcomer(m.before, m.event)
     return made is not None and made.id == least(model.shadow(m.before).held) and made.calls == () and made.answers == ()
+
+
+def clause_history(m):
+    """The held ids are those that the takes and gives leave held."""
+    return model.shadow(m.after).held == model.held_after(m.moves)
+
+
+def clause_least_after(m):
+    """A new Local gets the least id that the takes and gives before it leave free."""
+    made = model.newcomer(m.before, m.event) if is_granted_take(m) else None
+    return made is None or made.id == least(model.held_after(m.moves[:-1]))
 
 
 def clause_unshared(m):
@@ -127,6 +143,24 @@ def clause_others(m):
 def clause_ends(m):
     ends = model.ends_table(m.event) and model.is_enabled(m.before, m.event)
     return m.after.ended == (m.before.ended or ends)
+
+
+def clause_drained(m):
+    """A drain leaves no value, and the held ids and the capacity as they are."""
+    sheet = model.shadow(m.before)
+    return not is_drain(m) or model.shadow(m.after) == replace(sheet, values=(None,) * model.IDS)
+
+
+def clause_drained_core(m):
+    """A drain changes the table and nothing else."""
+    return not is_drain(m) or m.after == replace(m.before, table=model.drained(m.before.table))
+
+
+def clause_drained_stands(m):
+    """A drain leaves every bucket standing, the same one, with empty slots."""
+    old, new = m.before.table, m.after.table
+    same = all(model.number_at(new, b) == model.number_at(old, b) for b in range(model.BUCKETS))
+    return not is_drain(m) or (same and new.made == old.made and all(model.slot_at(new, k) == Slot() for k in range(model.IDS)))
 
 
 def clause_cleared(m):
@@ -222,13 +256,14 @@ def clause_headline_capacity(m):
     return m.bound > m.capacity or not model.is_refused(m.before, m.event)
 
 
-def clause_stays(m):
+def clause_bucket_stays(m):
+    """A bucket that stands is the same one until a clear."""
     old, new = m.before.table.pointers, m.after.table.pointers
-    return model.is_exclusive(m.event) or all(a is None or (b is not None and a.number == b.number) for a, b in zip(old, new))
+    return is_clear(m) or all(a is None or (b is not None and a.number == b.number) for a, b in zip(old, new))
 
 
 def clause_reserved_stays(m):
-    """The pointer of a reserved bucket leads to that bucket for good."""
+    """A reserved bucket is the same one for good."""
     digits = model.binary_digits(m.capacity)
     old, new = m.before.table.pointers[:digits], m.after.table.pointers[:digits]
     return all(a is None or (b is not None and a.number == b.number) for a, b in zip(old, new))
@@ -313,7 +348,7 @@ def clause_walks_begin(m):
 
 
 def clause_alone(m):
-    calls = [("IterMut", Rewriter(0)), ("Slots",), ("ClearTable",), ("IntoIter",), ("DropTable",)]
+    calls = [("RewriteTable", Rewriter(0)), ("Slots",), ("DrainTable",), ("ClearTable",), ("IntoIter",), ("DropTable",)]
     may = not m.after.ended and is_by_itself(m.after)
     return all(model.is_enabled(m.after, ("Owner", it)) == may for it in calls)
 
@@ -388,10 +423,10 @@ def clause_goes_on(m):
 
 
 def clause_numbers(m):
-    """Two pointers lead to two buckets, and to a bucket of a call's own no pointer leads and it is of no other call."""
-    named = [it for it in (model.named(m.after.table, b) for b in range(model.BUCKETS)) if it is not None]
+    """No bucket stands at two places, and one of a call's own stands nowhere and is of no other call."""
+    standing = [it for it in (model.number_at(m.after.table, b) for b in range(model.BUCKETS)) if it is not None]
     own = [it for it in (model.own_number(local.doing) for _, local in live(m.after)) if it is not None]
-    return len(set(named + own)) == len(named + own)
+    return len(set(standing + own)) == len(standing + own)
 
 
 def clause_ids(m):
@@ -461,6 +496,225 @@ def clause_lives(m):
 def clause_ends_there(m):
     numbers = range(len(m.after.walks) + 1)
     return all(live_walk(m.after, n) is not None or not model.is_enabled(m.after, ("EndWalk", n)) for n in numbers)
+
+
+# What each step needs, both ways: it is enabled there, and nowhere else.
+
+
+def needs(step, local):
+    """Whether a step of this Local can happen, by what it does and has learnt."""
+    doing, learnt = local.doing[0], local.learnt[0]
+    looks = doing in ("Gets", "Started")
+    match step[0]:
+        case "BeginGet":
+            return doing == "Gets"
+        case "BeginGetOr":
+            return local.doing == ("Gets", 0)
+        case "LoadPointer":
+            return looks and learnt in ("Unknown", "Missing")
+        case "LookAtFlag":
+            return looks and learnt == "Standing"
+        case "MakeBucket":
+            return doing == "Started" and learnt == "Missing"
+        case "InstallBucket":
+            return doing == "Private"
+        case "WriteValue":
+            return doing == "Started" and learnt == "Vacant"
+        case "SetFlag":
+            return doing == "Written"
+        case "Reply":
+            got = doing == "Gets" and local.doing[1] > 0 and learnt in ("Missing", "Vacant", "Holding")
+            return got or (doing == "Started" and learnt == "Holding")
+
+
+def as_needed(m, *step):
+    """The step is enabled for just those Locals that may make it."""
+    others_too = m.after.table is not m.before.table  # what another did may not matter
+    locals_ = live(m.after) if others_too else changed(m)
+    return m.after.ended or all(model.is_enabled(m.after, ("OfLocal", n, step)) == needs(step, it) for n, it in locals_)
+
+
+def clause_may_get(m):
+    return as_needed(m, "BeginGet")
+
+
+def clause_may_get_or(m):
+    return as_needed(m, "BeginGetOr", ("Ok", "any"))
+
+
+def clause_may_load(m):
+    """A Local may load its pointer until its bucket is known to stand, in a call or where none is under way."""
+    return as_needed(m, "LoadPointer")
+
+
+def clause_may_look(m):
+    return as_needed(m, "LookAtFlag")
+
+
+def clause_may_ask(m):
+    """A call that found its bucket missing may ask for memory, whatever stands by now."""
+    return as_needed(m, "MakeBucket", False) and as_needed(m, "MakeBucket", True)
+
+
+def clause_may_install(m):
+    return as_needed(m, "InstallBucket")
+
+
+def clause_may_write(m):
+    return as_needed(m, "WriteValue")
+
+
+def clause_may_set(m):
+    return as_needed(m, "SetFlag")
+
+
+def clause_may_reply(m):
+    return as_needed(m, "Reply")
+
+
+def clause_walk_may(m):
+    """A walk looks where its cursor says so, and else loads a pointer until it is complete."""
+
+    def may(it, name):
+        return it.looks if name == "Look" else not it.looks and it.bucket < model.BUCKETS
+
+    new = [(n, it) for n, it in walking(m.after) if live_walk(m.before, n) is not it]
+    steps = [(n, it, name) for n, it in new for name in ("Load", "Look")]
+    return m.after.ended or all(model.is_enabled(m.after, ("OfWalk", n, name)) == may(it, name) for n, it, name in steps)
+
+
+# What each event changes of the sheet, the buckets and the slots, and what it leaves.
+
+
+def numbers_of(sheet):
+    """The held ids of a sheet."""
+    return {k for k, it in enumerate(sheet.held) if it}
+
+
+def clause_sheet_changes(m):
+    """A take holds the least free id, a give back frees its Local's, a flag publishes what was written; all else stays."""
+    before, after = model.shadow(m.before), model.shadow(m.after)
+    held, values = numbers_of(before), list(before.values)
+    match m.event if model.is_enabled(m.before, m.event) else None:
+        case ("TakeId", _, _) if is_granted_take(m):
+            held |= {next(k for k in range(model.IDS + 1) if k not in held)}
+        case ("GiveBack", n):
+            held -= {live_local(m.before, n).id}
+        case ("OfLocal", n, ("SetFlag",)):
+            values[live_local(m.before, n).id] = live_local(m.before, n).doing[1]
+        case ("Owner", ("RewriteTable", others)):
+            values = [None if v is None else others(k, v) for k, v in enumerate(values)]
+        case ("Owner", ("DrainTable",)):
+            values = [None] * model.IDS
+        case ("Owner", ("ClearTable",)):
+            held, values = set(), [None] * model.IDS
+    return (numbers_of(after), after.values) == (held, tuple(values))
+
+
+def clause_shows(m):
+    """A value is published where it is written and its flag is set, and only there."""
+    table, values = m.after.table, model.shadow(m.after).values
+    if table is m.before.table:
+        return True
+    slots = [(k, model.slot_at(table, k)) for k in range(model.IDS)]
+    return all(values[k] == (it.written if it.flag else None) for k, it in slots)
+
+
+def clause_writes_slot(m):
+    """A value is written in the slot of the Local's id, and then its flag is set; no other slot changes meanwhile."""
+    old, new = m.before.table, m.after.table
+    writes, sets = stepped(m, "WriteValue"), stepped(m, "SetFlag")
+    if new is old and writes is None and sets is None:
+        return True
+    slots = {k: model.slot_at(old, k) for k in range(model.IDS)}
+    if writes is not None and writes[0].doing[1][0] == "Ok":
+        slots[writes[0].id] = replace(slots[writes[0].id], written=writes[0].doing[1][1])
+    if sets is not None:
+        slots[sets[0].id] = replace(slots[sets[0].id], flag=True)
+    return model.is_exclusive(m.event) or all(model.slot_at(new, k) == it for k, it in slots.items())
+
+
+def clause_installs_own(m):
+    """An install makes the bucket of its Local's id stand, and no other: where none stood, the one that the call has made."""
+    it = stepped(m, "InstallBucket")
+    if it is None:
+        return True
+    old, new, own = m.before.table, m.after.table, bucket_of(it[0].id)
+    kept = all(model.number_at(new, b) == model.number_at(old, b) for b in range(model.BUCKETS) if b != own)
+    number = model.number_at(old, own)
+    return kept and model.number_at(new, own) == (model.own_number(it[0].doing) if number is None else number)
+
+
+def clause_learns(m):
+    """After an install the slot is known to be empty, and after the flag is set to hold the value."""
+    installed, sets = stepped(m, "InstallBucket"), stepped(m, "SetFlag")
+    empty = installed is None or installed[1].learnt == ("Vacant",)
+    return empty and (sets is None or sets[1].learnt == ("Holding", sets[0].doing[1]))
+
+
+def clause_walk_moves(m):
+    """A walk's cursor goes on by whether its bucket stands, and by whether its slot shows a value."""
+    if m.event[0] != "OfWalk" or not model.is_enabled(m.before, m.event):
+        return True
+    it, then = live_walk(m.before, m.event[1]), live_walk(m.after, m.event[1])
+    index = it.index + (m.event[2] == "Look")
+    if m.event[2] == "Look" and model.shadow(m.before).values[model.cursor(it)] is not None:
+        place = (it.bucket, index, False)
+    elif index == 2**it.bucket or not model.bucket_stands(m.before.table, it.bucket):
+        place = (it.bucket + 1, 0, False)
+    else:
+        place = (it.bucket, index, True)
+    return (then.bucket, then.index, then.looks) == place
+
+
+def clause_fresh(m):
+    """A walk begins at the first slot, with no load, and has read, given and seen nothing."""
+    new = [it for n, it in walking(m.after) if live_walk(m.before, n) is None]
+    return all(it == model.Walk(0, 0, False, (None,) * model.IDS, (), (), 0) for it in new)
+
+
+def clause_move(m):
+    """Which move each event is."""
+    move = model.move_of(m.before, m.event)
+    match m.event if model.is_enabled(m.before, m.event) else None:
+        case ("TakeId", _, _) if is_granted_take(m):
+            return move == ("Take",)
+        case ("GiveBack", n):
+            return move == ("Give", live_local(m.before, n).id)
+        case ("OfLocal", n, ("SetFlag",)):
+            return move == ("Publish", live_local(m.before, n).id, live_local(m.before, n).doing[1])
+        case ("Owner", (name, *others)) if name in ("RewriteTable", "DrainTable", "ClearTable"):
+            return move == (name[: -len("Table")], *others)
+    return move == ("Stay",)
+
+
+def clause_answers_more(m):
+    """Calls are answered one after another, each by the view that the one before leaves."""
+    for _, it in changed(m):
+        view, told = it.start, []
+        for call in it.calls:
+            told.append(model.answer(view, call))
+            view = model.view_after(view, call)
+        if model.answers(it.start, it.calls) != tuple(told):
+            return False
+    return True
+
+
+def clause_tells(m):
+    """A get finds what is known, and a publishing call answers the value there, or else what its closure would."""
+
+    def told(view, call):
+        if call == ("Get",):
+            return ("Found", view.value)
+        if view.value is not None:
+            return ("Answered", view.value)
+        if call[2] and not view.known:
+            return ("Refused",)
+        return ("Answered" if call[1][0] == "Ok" else "Failed", call[1][1])
+
+    views = [View(value, known) for value in (None, "there") for known in (False, True)]
+    calls = [("Get",)] + [("GetOr", (kind, "any"), refused) for kind in ("Ok", "Err") for refused in (False, True)]
+    return not is_clear(m) or all(model.answer(view, call) == told(view, call) for view in views for call in calls)
 
 
 def clause_begins_get(m):
@@ -543,9 +797,9 @@ def clause_counts(m):
     return m.event != ("Owner", ("Slots",)) or m.after == m.before
 
 
-def clause_iter_mut(m):
+def clause_rewrites(m):
     """An owner's writes change the table and nothing else."""
-    if m.event[0] != "Owner" or m.event[1][0] != "IterMut" or not model.is_enabled(m.before, m.event):
+    if m.event[0] != "Owner" or m.event[1][0] != "RewriteTable" or not model.is_enabled(m.before, m.event):
         return True
     return m.after == replace(m.before, table=model.rewritten(m.before.table, m.event[1][1]))
 
@@ -621,8 +875,8 @@ def clause_own_slots(m):
     return all(model.private_slots(it.id, it.doing) == 2 ** bucket_of(it.id) for it in offering(m))
 
 
-def clause_named(m):
-    return all(model.named(m.after.table, b) == (it and it.number) for b, it in enumerate(m.after.table.pointers))
+def clause_number_at(m):
+    return all(model.number_at(m.after.table, b) == (it and it.number) for b, it in enumerate(m.after.table.pointers))
 
 
 def clause_take(m):
@@ -689,7 +943,8 @@ class Schedule:
     bound: int  # each take came while fewer ids than this were held
     refusals: int
     most: int  # the greatest number of ids held at once since the table was made or cleared
-    publishings: int  # how many values were published since then
+    publishings: int  # how many values were published since then, or since it was drained
+    moves: tuple  # the takes and gives of ids since the table was made or cleared
 
 
 def whole_nothing(s):
@@ -708,6 +963,11 @@ def whole_most(s):
 
 def whole_publishings(s):
     return model.publishings(s.first, s.events) == s.publishings
+
+
+def whole_id_moves(s):
+    """A granted take and a give back are noted, a clear begins anew, and nothing else is noted."""
+    return model.id_moves(s.first, s.events) == s.moves
 
 
 CLAUSES = {name[len("clause_") :]: it for name, it in list(globals().items()) if name.startswith("clause_")}
@@ -748,7 +1008,7 @@ def story():
     if it is None or it.id != 0 or it.start.value != "a" or it.answers != (("Found", "a"), ("Answered", "a")):
         return "the next finds the first value"
     core = model.after_all(four)
-    if not model.is_enabled(core, ("Owner", ("IterMut", Rewriter(0)))) or model.owner_walk(core.table) != four:
+    if not model.is_enabled(core, ("Owner", ("RewriteTable", Rewriter(0)))) or model.owner_walk(core.table) != four:
         return "the owner's walk gives the four"
     core = model.happens(core, ("Owner", ("ClearTable",)))
     return None if model.shadow(core) == new_sheet() else "clear leaves the sheet of new"
@@ -803,7 +1063,7 @@ def random_event(chance, core, mark):
 def owner_call(chance, mark):
     if chance.random() < 0.05:
         return (chance.choice(["IntoIter", "DropTable"]),)
-    return chance.choice([("IterMut", Rewriter(mark)), ("Slots",), ("ClearTable",)])
+    return chance.choice([("RewriteTable", Rewriter(mark)), ("Slots",), ("DrainTable",), ("ClearTable",)])
 
 
 def quiet_events(chance, core):
@@ -845,7 +1105,7 @@ def one_schedule(seed, length, seen):
     chance = random.Random(seed)
     capacity = min(chance.choice([0, 0, 0, 1, 2, 3, 4, model.IDS]), model.IDS)
     first = core = model.made_core(capacity, chance.choice([0, 0, 1, 3]))
-    most, bound, publishings, refusals, events, waiting = 0, 0, 0, 0, [], []
+    most, bound, publishings, refusals, moves, events, waiting = 0, 0, 0, 0, (), [], []
     for mark in range(length):
         if not waiting and chance.random() < 0.02:
             waiting = quiet_events(chance, core)
@@ -865,17 +1125,23 @@ def one_schedule(seed, length, seen):
             name = ("refused " if refused else "") + kind_of(event)
             seen[name] = seen.get(name, 0) + 1
             if event == ("Owner", ("ClearTable",)):
-                most, publishings = 0, 0
+                most, publishings, moves = 0, 0, ()
+            if event == ("Owner", ("DrainTable",)):
+                publishings = 0
+            if event[0] == "TakeId" and not refused:
+                moves += (("Take",),)
+            if event[0] == "GiveBack":
+                moves += (("Give", core.locals[event[1]].id),)
             publishings += model.move_of(core, event)[0] == "Publish"
         most = max(most, held_count(after.held))
-        moment = Moment(capacity, core, event, after, most, publishings, bound)
+        moment = Moment(capacity, core, event, after, most, publishings, moves, bound)
         failed = first_failed(CLAUSES, moment)
         if failed:
             return failed, events
         core = after
         if core.ended and chance.random() < 0.2:
             break
-    return first_failed(WHOLE, Schedule(first, events, bound, refusals, most, publishings)), events
+    return first_failed(WHOLE, Schedule(first, events, bound, refusals, most, publishings, moves)), events
 
 
 def try_runs(seed, runs, length):
@@ -1105,7 +1371,9 @@ def more_wrong_bodies():
         "into_iter comes while a walk runs": owner_beside(["IntoIter"], beside_walks),
         "clear comes while a walk runs": owner_beside(["ClearTable"], beside_walks),
         "clear comes while Locals live": owner_beside(["ClearTable"], beside_locals),
-        "iter_mut and the drop come while Locals live": owner_beside(["IterMut", "DropTable"], beside_locals),
+        "a rewrite and the drop come while Locals live": owner_beside(["RewriteTable", "DropTable"], beside_locals),
+        "a drain comes while a walk runs": owner_beside(["DrainTable"], beside_walks),
+        "a drain comes while Locals live": owner_beside(["DrainTable"], beside_locals),
         "into_iter leaves the table open": {"owner_call": leaves_open},
         "a Local's step restarts every walk": {"local_step": restarts_walks},
         "a Local's step ends the table": {"local_step": ends_table},
@@ -1169,7 +1437,7 @@ def wrong_effects():
 
     def frees_empty(core, call):
         after = right["owner_call"](core, call)
-        if after is None or call[0] != "IterMut":
+        if after is None or call[0] != "RewriteTable":
             return after
         digits, pointers = model.binary_digits(core.capacity), after.table.pointers
         kept = tuple(it if it is None or b < digits or any(s.flag for s in it.slots) else None for b, it in enumerate(pointers))
@@ -1297,6 +1565,40 @@ def wrong_effects():
         moves = [model.move_of(model.run(core, events[:k]), it)[0] for k, it in enumerate(events)]
         return moves.count("Publish")
 
+    def counts_on_drains(core, events):
+        count = 0
+        for event in events:
+            move = model.move_of(core, event)[0]
+            count = 0 if move == "Clear" else count + (move == "Publish")
+            core = model.happens(core, event)
+        return count
+
+    def keeps_first(table):
+        return replace(table, pointers=table.pointers[:1] + kept_drained(table).pointers[1:])
+
+    def makes_anew(table):
+        pointers = tuple(it and replace(it, number=it.number + table.made) for it in kept_drained(table).pointers)
+        return model.Table(pointers, 2 * table.made)
+
+    def owners_drain(also):
+        def owner_call(core, call):
+            after = right["owner_call"](core, call)
+            return after if after is None or call != ("DrainTable",) else also(after)
+
+        return {"owner_call": owner_call}
+
+    def notes_refused(core, events):
+        moves = ()
+        for event in events:
+            take = event[0] == "TakeId" and model.is_enabled(core, event)
+            moves = model.ids_noted(moves, ("Take",) if take else model.move_of(core, event))
+            core = model.happens(core, event)
+        return moves
+
+    def notes(noted):
+        return {"ids_noted": lambda moves, move: noted(moves, move) if move[0] in ("Take", "Give") else kept_noted(moves, move)}
+
+    kept_drained, kept_noted = model.drained, model.ids_noted
     kept_of, kept_of_walk, kept_ends, kept_begins = model.is_of, model.is_of_walk, model.ends_table, model.begins_walk
 
     def steps(**it):
@@ -1305,8 +1607,8 @@ def wrong_effects():
     return {
         "a table made with a capacity has ended": {"made_core": ends_made},
         "slots grows room": grows("owner_call", is_call("Slots")),
-        "iter_mut grows room": grows("owner_call", is_call("IterMut")),
-        "iter_mut frees empty buckets that aren't reserved": {"owner_call": frees_empty},
+        "a rewrite grows room": grows("owner_call", is_call("RewriteTable")),
+        "a rewrite frees empty buckets that aren't reserved": {"owner_call": frees_empty},
         "a take's room begins again at the capacity": {"take": room_begins_again},
         "a Local's step grows room": grows("local_step"),
         "give back grows room": grows("give_back"),
@@ -1320,7 +1622,19 @@ def wrong_effects():
         "a newcomer has a get under way": {"take": takes_with_get},
         "a newcomer knows its bucket": {"take": takes_with_look},
         "at most one get is under way": steps(BeginGet=one_get),
-        "two gets under way are stuck": {"is_calling": lambda doing: doing[0] == "Started" or doing == ("Gets", 1)},
+        "two gets under way are stuck": {"may_look": lambda doing: doing[0] == "Started" or doing in (("Gets", 0), ("Gets", 1))},
+        "a Local looks in a call alone": {"may_look": lambda doing: doing[0] == "Started" or (doing[0] == "Gets" and doing[1] > 0)},
+        "a drain keeps the values of the first bucket": {"drained": keeps_first},
+        "a drain frees every bucket": {"drained": lambda table: replace(table, pointers=(None,) * model.BUCKETS)},
+        "a drain makes its buckets anew": {"drained": makes_anew},
+        "a drain takes the ids back": owners_drain(lambda core: replace(core, held=())),
+        "a drain lets the room go": owners_drain(lambda core: replace(core, room=len(core.held))),
+        "a refused take is noted": {"id_moves": notes_refused},
+        "a take is noted twice": notes(lambda moves, move: moves + (move,) * (2 if move == ("Take",) else 1)),
+        "a give isn't noted": notes(lambda moves, move: moves if move[0] == "Give" else moves + (move,)),
+        "a clear doesn't begin the ids anew": {"ids_noted": lambda moves, move: moves + (move,) * (move[0] in ("Take", "Give"))},
+        "a drain begins the ids anew": {"ids_noted": lambda moves, move: () if move == ("Drain",) else kept_noted(moves, move)},
+        "publishings are counted across a drain": {"publishings": counts_on_drains},
         "only the ids below 4 publish": steps(SetFlag=published_below),
         "a second load teaches nothing": steps(LoadPointer=loads_once),
         "a look at an empty slot teaches nothing": steps(LookAtFlag=looks_in_vain),
@@ -1358,15 +1672,102 @@ def wrong_effects():
         "the most held is what is held at last": {"most_held": lambda core, events: held_count(model.run(core, events).held)},
         "publishings are counted across a clear": {"publishings": counts_on},
         "a core of the example is made up": {"after_all": made_up_core},
-        "a pointer has no name": {"named": lambda table, bucket: None},
+        "a bucket that stands has no number": {"number_at": lambda table, bucket: None},
         "a bucket of a call's own has no number": {"own_number": lambda doing: None},
+    }
+
+
+def wrong_for_some():
+    """Wrong bodies that are right for most ids, Locals, buckets or moments."""
+    right = {name: getattr(model, name) for name in ("give_back", "move_of", "answers", "is_alone")}
+
+    def steps(**it):
+        return {"LOCAL_STEPS": {**model.LOCAL_STEPS, **it}}
+
+    def walks(**it):
+        return {"WALK_STEPS": {**model.WALK_STEPS, **it}}
+
+    def keeps_sixth(core, number):
+        after = right["give_back"](core, number)
+        return after if after is None or number < 5 else replace(after, held=core.held)
+
+    def moves_none_of_sixth(core, event):
+        return ("Stay",) if event[0] == "GiveBack" and event[1] >= 5 else right["move_of"](core, event)
+
+    def answers_few(view, calls):
+        told = right["answers"](view, calls)
+        return tuple(("Found", None) if k > 4 and it[0] == "Found" else it for k, it in enumerate(told))
+
+    def replies_few(table, local):
+        after = model.reply(table, local)
+        if after is None or len(local.calls) < 5 or after[1].calls[-1] != ("Get",):
+            return after
+        return after[0], replace(after[1], answers=local.answers + (("Found", None),))
+
+    def asks_where_missing(table, local, refused):
+        return None if model.bucket_stands(table, bucket_of(local.id)) else model.make_bucket(table, local, refused)
+
+    def loads_once(table, local):
+        return None if local.learnt == ("Missing",) else model.load_pointer(table, local)
+
+    def passes_by(table, it):
+        after = model.walk_look(table, it)
+        new = after is not None and after.given != it.given and it.first[model.cursor(it)] is None
+        return model.at_place(replace(after, given=it.given)) if new else after
+
+    def publishes_below(table, local):
+        after = model.set_flag(table, local)
+        return after if after is None or local.id < 4 else (table, after[1])
+
+    def moves_below(core, event):
+        move = right["move_of"](core, event)
+        return ("Stay",) if move[0] == "Publish" and move[1] >= 4 else move
+
+    def shows_written(slot):
+        return slot.written
+
+    def all_written(table):
+        rows = [(Slot(),) * 2**b if it is None else it.slots for b, it in enumerate(table.pointers)]
+        return tuple(it.written for row in rows for it in row)
+
+    def installs_next(table, local):
+        after = model.install_bucket(table, local)
+        own = bucket_of(local.id)
+        if after is None or model.bucket_stands(table, own) or own + 1 >= model.BUCKETS or model.bucket_stands(table, own + 1):
+            return after
+        return model.with_pointer(table, own + 1, model.fresh_bucket(own + 1, local.doing[2])), after[1]
+
+    def installs_few(table, local):
+        after = model.install_bucket(table, local)
+        return after if after is None or bucket_of(local.id) < 2 else (table, after[1])
+
+    def learns_nothing(table, local):
+        after = model.set_flag(table, local)
+        return after if after is None else (after[0], replace(after[1], learnt=("Vacant",)))
+
+    def begins_with_load(core):
+        return replace(core, walks=core.walks + (model.Walk(loads=1),))
+
+    return {
+        "an owner calls only while the peak is below five": {"is_alone": lambda core: right["is_alone"](core) and len(core.held) < 5},
+        "a sixth Local gives no id back": {"give_back": keeps_sixth, "move_of": moves_none_of_sixth},
+        "a get answers nothing from the sixth call on": {"answers": answers_few, **steps(Reply=replies_few)},
+        "a missing bucket is never looked for again": steps(LoadPointer=loads_once),
+        "memory is asked for only where the bucket is missing by now": steps(MakeBucket=asks_where_missing),
+        "a walk begins with one load counted": {"begin_walk": begins_with_load},
+        "a walk passes by what wasn't published at its first load": walks(Look=passes_by),
+        "a value is shown when it is written": {"value_of": shows_written, "all_published": all_written},
+        "a call at ids from four on publishes nothing": {"move_of": moves_below, **steps(SetFlag=publishes_below)},
+        "an install installs the next bucket": steps(InstallBucket=installs_next),
+        "an install from bucket two on installs nothing": steps(InstallBucket=installs_few),
+        "a publishing call forgets what it has published": steps(SetFlag=learns_nothing),
     }
 
 
 def try_wrong_bodies(seed, runs, length):
     """Says for each wrong body which clauses fail first, and whether the story breaks. Returns those that nothing refuses."""
     left = []
-    for name, body in {**wrong_bodies(), **more_wrong_bodies(), **wrong_effects()}.items():
+    for name, body in {**wrong_bodies(), **more_wrong_bodies(), **wrong_effects(), **wrong_for_some()}.items():
         kept = {key: getattr(model, key) for key in body}
         for key, it in body.items():
             setattr(model, key, it)

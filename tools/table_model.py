@@ -77,7 +77,8 @@ def new_sheet():
     return Sheet((), (None,) * IDS, 0)
 
 
-def moved(sheet, move):
+def moved_by(sheet, move):
+    """The sheet after a move of the table: one of the sheet, a drain, or none, which is ("Stay",)."""
     match move:
         case ("Take",):
             return replace(sheet, held=with_least(sheet.held))
@@ -89,11 +90,13 @@ def moved(sheet, move):
             return replace(sheet, values=tuple(others(k, v) if v is not None else None for k, v in enumerate(sheet.values)))
         case ("Clear",):
             return replace(new_sheet(), capacity=sheet.capacity)
+        case ("Drain",):
+            return replace(sheet, values=(None,) * IDS)
         case ("Stay",):
             return sheet
 
 
-def is_allowed(sheet, move):
+def is_move_allowed(sheet, move):
     match move:
         case ("Give", identity):
             return is_held(sheet.held, identity)
@@ -297,8 +300,9 @@ def ended_call(local, call, told, learnt, doing):
     return replace(local, calls=local.calls + (call,), answers=local.answers + (told,), learnt=learnt, doing=doing)
 
 
-def is_calling(doing):
-    return doing[0] == "Started" or (doing[0] == "Gets" and doing[1] > 0)
+def may_look(doing):
+    """Whether a Local may load its pointer and look at its flag, in a call or where none is under way."""
+    return doing[0] in ("Started", "Gets")
 
 
 def begin_get(table, local):
@@ -314,12 +318,12 @@ def begin_get_or(table, local, create):
 
 
 def load_pointer(table, local):
-    if is_calling(local.doing) and local.learnt[0] in ("Unknown", "Missing"):
+    if may_look(local.doing) and local.learnt[0] in ("Unknown", "Missing"):
         return table, replace(local, learnt=("Standing",) if bucket_stands(table, bucket_of(local.id)) else ("Missing",))
 
 
 def look_at_flag(table, local):
-    if is_calling(local.doing) and local.learnt[0] == "Standing":
+    if may_look(local.doing) and local.learnt[0] == "Standing":
         value = published(table, local.id)
         return table, replace(local, learnt=("Vacant",) if value is None else ("Holding", value))
 
@@ -529,6 +533,12 @@ def rewritten(table, others):
     return replace(table, pointers=pointers)
 
 
+def drained(table):
+    """The same buckets, with empty slots."""
+    pointers = tuple(named and fresh_bucket(b, named.number) for b, named in enumerate(table.pointers))
+    return replace(table, pointers=pointers)
+
+
 def cleared_table(table, capacity):
     digits = binary_digits(capacity)
     pointers = tuple(
@@ -546,8 +556,10 @@ def owner_call(core, call):
     if not is_alone(core):
         return None
     match call:
-        case ("IterMut", others):
+        case ("RewriteTable", others):
             return replace(core, table=rewritten(core.table, others))
+        case ("DrainTable",):
+            return replace(core, table=drained(core.table))
         case ("Slots",):
             return core
         case ("ClearTable",):
@@ -691,8 +703,8 @@ def none_taken(core, events):
     return True
 
 
-def named(table, bucket):
-    """The number of the bucket that a pointer leads to."""
+def number_at(table, bucket):
+    """The number of the bucket that stands here, if one does."""
     return None if table.pointers[bucket] is None else table.pointers[bucket].number
 
 
@@ -730,13 +742,37 @@ def most_held(core, events):
 
 
 def publishings(core, events):
-    """How many values were published since the table was made, or cleared by these events."""
+    """How many values were published since the table was made, or cleared or drained by these events."""
     count = 0
     for event in events:
         move = move_of(core, event)[0]
-        count = 0 if move == "Clear" else count + (move == "Publish")
+        count = 0 if move in ("Clear", "Drain") else count + (move == "Publish")
         core = happens(core, event)
     return count
+
+
+def id_moves(core, events):
+    """The takes and gives of ids since the table was made, or cleared by these events."""
+    moves = ()
+    for event in events:
+        moves = ids_noted(moves, move_of(core, event))
+        core = happens(core, event)
+    return moves
+
+
+def ids_noted(moves, move):
+    """A take and a give are noted, and a clear begins anew."""
+    if move[0] in ("Take", "Give"):
+        return moves + (move,)
+    return () if move == ("Clear",) else moves
+
+
+def held_after(moves):
+    """The ids that these takes and gives leave held."""
+    held = ()
+    for move in moves:
+        held = with_least(held) if move == ("Take",) else without(held, move[1])
+    return held
 
 
 def is_refused(core, event):
@@ -763,8 +799,10 @@ def move_of(core, event):
             return ("Publish", local.id, local.doing[1])
         case ("GiveBack", number):
             return ("Give", core.locals[number].id)
-        case ("Owner", ("IterMut", others)):
+        case ("Owner", ("RewriteTable", others)):
             return ("Rewrite", others)
+        case ("Owner", ("DrainTable",)):
+            return ("Drain",)
         case ("Owner", ("ClearTable",)):
             return ("Clear",)
     return ("Stay",)

@@ -6,7 +6,7 @@ use Rattle.thread_local_model.specs.Learnt.{Learnt, Missing, Vacant, Holding, le
 use Rattle.thread_local_model.specs.Learnt.{learnt_by_install, learnt_by_publish}
 use Rattle.thread_local_schedule.specs.Table.{Table, published, bucket_stands, with_flag}
 use Rattle.thread_local_model.specs.Place.{bucket_of}
-use Rattle.thread_local_schedule.specs.Local.{Doing, Gets, Started, Private, Written, Local, after_call, is_calling}
+use Rattle.thread_local_schedule.specs.Local.{Doing, Gets, Started, Private, Written, Local, after_call, may_look}
 use Rattle.thread_local_schedule.specs.Local.{learns, load_pointer, look_at_flag, make_bucket, offered, install_bucket}
 use Rattle.thread_local_schedule.specs.Local.{write_value, set_flag, reply, local_step, LocalStep, BeginGet, BeginGetOr}
 use Rattle.thread_local_schedule.specs.Local.{LoadPointer, LookAtFlag, MakeBucket, InstallBucket, WriteValue, SetFlag}
@@ -166,8 +166,8 @@ pub local_step-goes : {V E : Type 0} (table : Table V) (local : Local V E) (step
 unfolding local_step
 local_step-goes table local BeginGet = begin_get-goes table local local.doing refl
 local_step-goes table local (BeginGetOr create) = begin_get_or-goes table local create local.doing refl
-local_step-goes table local LoadPointer = load_pointer-goes table local (is_calling local.doing)
-local_step-goes table local LookAtFlag = look_at_flag-goes table local (is_calling local.doing)
+local_step-goes table local LoadPointer = load_pointer-goes table local (may_look local.doing)
+local_step-goes table local LookAtFlag = look_at_flag-goes table local (may_look local.doing)
 local_step-goes table local (MakeBucket refused) = make_bucket-goes table local refused local.doing local.learnt refl
 local_step-goes table local InstallBucket = install_bucket-goes table local local.doing refl
 local_step-goes table local WriteValue = write_value-goes table local local.doing local.learnt refl

@@ -1,26 +1,29 @@
 -- The clauses of the theorems, from the invariant and from what every event says.
 use Rattle.std.proofs.Common.{◌≡◌, ℕ, ◌-◌, ◌^◌, ◌⊎◌, Bool, true, false, not, ◌||◌, cond, List, [], ◌∷◌, Some, None}
-use Rattle.std.proofs.Common.{is_some, IsTrue, IfSome, IsSomeAnd, refl, ap, sym, ◌∙◌, subst}
-use Rattle.std.specs.Prelude.{unwrap_or}
+use Rattle.std.proofs.Common.{is_some, IsTrue, IsSomeAnd, refl, ap, sym, ◌∙◌, subst}
+use Rattle.std.specs.Prelude.{◌≢◌, unwrap_or}
+use Rattle.thread_local_schedule.specs.Fits.{IsSameBucket}
+use Rattle.thread_local_schedule.proofs.TableLaws.{same_bucket}
 use Rattle.std.proofs.lemmas.Bool.{false≢true, and_parts, not-true, not-false, cond_both}
 use Rattle.thread_local_model.specs.Held.{is_held, least, HoldsAllBelow, is_granted}
 use Rattle.thread_local_model.specs.Capacity.{reserves_bucket, is_reserved}
-use Rattle.thread_local_model.specs.Sheet.{Sheet, new_sheet, Clear, moved_if}
+use Rattle.thread_local_model.specs.Sheet.{Sheet, new_sheet, Clear}
+use Rattle.thread_local_schedule.specs.TableMoves.{OfSheet, Drain, moved_by_if}
 use Rattle.thread_local_model.specs.Answers.{View, first_view}
-use Rattle.thread_local_schedule.specs.Table.{bucket_stands}
+use Rattle.thread_local_schedule.specs.Table.{empty_slot, slot_at, bucket_stands}
 use Rattle.thread_local_schedule.specs.Local.{Local, fresh_local}
 use Rattle.thread_local_schedule.specs.Cleared.{cleared}
 use Rattle.thread_local_schedule.specs.Core.{Core, made_core, shadow, peak, is_alone}
 use Rattle.thread_local_schedule.specs.Events.{Event, TakeId, OfLocal, Owner, ClearTable, take_id, step_of, step}
-use Rattle.thread_local_schedule.specs.Events.{is_enabled, happens, run, GiveBack, Forget, OwnerCall, IterMut}
+use Rattle.thread_local_schedule.specs.Events.{is_enabled, happens, run, GiveBack, Forget, OwnerCall, RewriteTable, DrainTable}
 use Rattle.thread_local_schedule.specs.Events.{after_owner}
-use Rattle.thread_local_schedule.specs.Schedule.{move, is_refused, is_granted_take, newcomer, IsReached, publishing, move_of, NoneTaken}
+use Rattle.thread_local_schedule.specs.Schedule.{move, is_refused, is_granted_take, newcomer, IsReached, publishing, move_of, is_clear, NoneTaken}
 use Rattle.thread_local_schedule.specs.CoreFits.{CoreFits}
 use Rattle.thread_local_schedule.proofs.Kept.{happens-fits, run-fits}
 use Rattle.thread_local_schedule.proofs.EventSays.{Says, event_says}
 use Rattle.thread_local_schedule.proofs.PutLaws.{put_same}
 use Rattle.thread_local_schedule.proofs.Parts.{made_core-fits, no_locals}
-use Rattle.thread_local_schedule.proofs.ClearedLaws.{slots-cleared, bucket_stands-cleared}
+use Rattle.thread_local_schedule.proofs.ClearedLaws.{slot_at-cleared, bucket_stands-cleared}
 use Rattle.thread_local_schedule.proofs.CoreLaws.{none_if}
 use Rattle.thread_local_schedule.proofs.SheetLaws.{settled, untaken}
 use Rattle.thread_local_schedule.proofs.Takes.{not_granted}
@@ -104,7 +107,7 @@ still_held core n local r at =
     let same : shadow (happens core (Forget n)) ≡ shadow core =
     (says core (Forget n) r).moves
     ∙ cond_both (is_enabled core (Forget n)) None None
-    (λ o. moved_if (shadow core) o ≡ shadow core) (λ _. refl) (λ _. refl) in
+    (λ o. moved_by_if (shadow core) o ≡ shadow core) (λ _. refl) (λ _. refl) in
     rw (ap (λ sheet. sheet.held) same) ((fits core r).locals.each n local at).id_held
 
 -- an enabled clear leaves no id held and the table cleared, and so the sheet of `new` with the
@@ -119,7 +122,7 @@ cleared_core core t = owner_goes core ClearTable t
 
 pub cleared_sheet : {V E : Type 0} (core : Core V E) → IsReached core → IsTrue (is_enabled core (Owner ClearTable))
     → shadow (happens core (Owner ClearTable)) ≡ record new_sheet { capacity = (shadow core).capacity }
-cleared_sheet core r t = (says core (Owner ClearTable) r).moves ∙ ap (λ b. moved_if (shadow core) (cond b (Some Clear) None)) t
+cleared_sheet core r t = (says core (Owner ClearTable) r).moves ∙ ap (λ b. moved_by_if (shadow core) (cond b (Some (OfSheet Clear)) None)) t
 
 -- exactly the reserved buckets stand then
 pub cleared_stands : {V E : Type 0} (core : Core V E) (bucket : ℕ) → IsReached core → IsTrue (is_enabled core (Owner ClearTable))
@@ -129,11 +132,38 @@ cleared_stands core bucket r t =
     ∙ bucket_stands-cleared core.table core.capacity bucket ((fits core r).table.reserved bucket)
 
 -- and every slot is empty
-pub cleared_slots : {V E : Type 0} (core : Core V E) (bucket index : ℕ)
+pub cleared_slots : {V E : Type 0} (core : Core V E) (id : ℕ)
     → IsTrue (is_enabled core (Owner ClearTable))
-    → IfSome ((happens core (Owner ClearTable)).table.pointers bucket)
-    (λ here. ((here.slot index).written ≡ None) × ((here.slot index).flag ≡ false))
-cleared_slots core bucket index t = rw (cleared_core core t) (slots-cleared core.table core.capacity bucket index)
+    → slot_at (happens core (Owner ClearTable)).table id ≡ empty_slot
+cleared_slots core id t =
+    ap (λ after. slot_at after.table id) (cleared_core core t)
+    ∙ slot_at-cleared core.table core.capacity id
+
+-- a bucket that stands is the same one after every event but a clear, and after that if it is
+-- reserved
+no_clear : {V E : Type 0} (event : Event V E) → event ≢ Owner ClearTable → is_clear event ≡ false
+no_clear (Owner ClearTable) other = absurd (other refl)
+no_clear event other = refl
+
+pub bucket_stays : {V E : Type 0} (core : Core V E) (event : Event V E) (bucket : ℕ)
+    → IsReached core → event ≢ Owner ClearTable → IsTrue (bucket_stands core.table bucket)
+    → IsSameBucket core.table (happens core event).table bucket
+bucket_stays core event bucket r other t =
+    same_bucket core.table (happens core event).table bucket
+    ((says core event r).names (no_clear event other) bucket) t
+
+pub reserved_stays : {V E : Type 0} (core : Core V E) (event : Event V E) (bucket : ℕ)
+    → IsReached core → IsTrue (reserves_bucket (shadow core).capacity bucket)
+    → IsSameBucket core.table (happens core event).table bucket
+reserved_stays core event bucket r reserved =
+    same_bucket core.table (happens core event).table bucket
+    ((says core event r).reserved_stays bucket reserved)
+    ((fits core r).table.reserved bucket reserved)
+
+-- an enabled drain leaves the buckets without values
+pub drained_sheet : {V E : Type 0} (core : Core V E) → IsReached core → IsTrue (is_enabled core (Owner DrainTable))
+    → shadow (happens core (Owner DrainTable)) ≡ record (shadow core) { values = λ _. None }
+drained_sheet core r t = (says core (Owner DrainTable) r).moves ∙ ap (λ b. moved_by_if (shadow core) (cond b (Some Drain) None)) t
 
 -- a take is refused only where it may be
 pub refused_take : {V E : Type 0} (core : Core V E) (refused : Bool) (growth : ℕ) → CoreFits core
@@ -157,14 +187,15 @@ record IsFresh {V E : Type 0} (capacity : ℕ) (core : Core V E) : Type 0 where
   sheet : shadow core ≡ unused capacity
 
 owner_settled : {V E : Type 0} (capacity : ℕ) (core : Core V E) (call : OwnerCall V)
-    → moved_if (unused capacity) (move_of core (Owner call)) ≡ unused capacity
-owner_settled capacity core (IterMut others) = refl
+    → moved_by_if (unused capacity) (move_of core (Owner call)) ≡ unused capacity
+owner_settled capacity core (RewriteTable others) = refl
+owner_settled capacity core DrainTable = refl
 owner_settled capacity core ClearTable = refl
 owner_settled capacity core _ = refl
 
 still_new : {V E : Type 0} (capacity : ℕ) (core : Core V E) (event : Event V E)
     → ((n : ℕ) → core.locals n ≡ None) → is_granted_take core event ≡ false
-    → moved_if (unused capacity) (move core event) ≡ unused capacity
+    → moved_by_if (unused capacity) (move core event) ≡ unused capacity
 still_new capacity core (TakeId refused growth) none e =
     untaken (unused capacity) (is_enabled core (TakeId refused growth))
     (is_granted core.manager refused) e
@@ -194,7 +225,7 @@ fresh_kept capacity core event h f e = record {
   none = λ n. none_if ((happens core event).locals n) (λ local at. false≢true (sym e ∙ (comes core event n local h (f.none n) at).0));
   sheet =
       (event_says core event h).moves
-      ∙ ap (λ sheet. moved_if sheet (move core event)) f.sheet
+      ∙ ap (λ sheet. moved_by_if sheet (move core event)) f.sheet
       ∙ still_new capacity core event f.none e;
 }
 

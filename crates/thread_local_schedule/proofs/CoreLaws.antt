@@ -4,27 +4,26 @@ use Rattle.std.proofs.Common.{◌≡◌, ℕ, ◌+◌, ◌-◌, ◌*◌, ◌^◌
 use Rattle.std.proofs.Common.{None, IsTrue, IfSome, refl, ap, sym, ◌∙◌, subst, arith, ⊎_elim}
 use Rattle.std.specs.Prelude.{option_map, Contains}
 use Rattle.std.proofs.lemmas.Bool.{cases_Bool, false≢true}
-use Rattle.thread_local_model.specs.Place.{index_of, id_at}
 use Rattle.thread_local_model.specs.Held.{is_held}
 use Rattle.thread_local_model.specs.Capacity.{is_reserved}
 use Rattle.thread_local_model.specs.Walk.{walk, walk_below}
 use Rattle.thread_local_model.specs.Buckets.{slots}
-use Rattle.thread_local_model.specs.Sheet.{Sheet, Publish, moved_if, IsAllowed}
+use Rattle.thread_local_model.specs.Sheet.{Sheet, Publish}
+use Rattle.thread_local_schedule.specs.TableMoves.{OfSheet, moved_by_if, IsMoveAllowed}
 use Rattle.thread_local_model.proofs.SlotsLaws.{slots_bounded}
 use Rattle.thread_local_model.proofs.WalkLaws.{walk_below-add, walk_below-none, length-walk_below}
 use Rattle.thread_local_model.proofs.AnswersLaws.{known_after_all}
-use Rattle.thread_local_schedule.specs.Table.{Table, Bucket, slot_at, slot_of, published, bucket_stands, made_table}
+use Rattle.thread_local_schedule.specs.Table.{Table, published, bucket_stands, made_table}
 use Rattle.thread_local_model.specs.Learnt.{Missing}
 use Rattle.thread_local_schedule.specs.Local.{Local, Doing, Private}
 use Rattle.thread_local_model.specs.Cursor.{is_complete}
 use Rattle.thread_local_schedule.specs.SharedWalk.{SharedWalk}
 use Rattle.thread_local_schedule.proofs.WalkStepLaws.{complete_cursor}
-use Rattle.thread_local_schedule.specs.Fits.{IsWritten, AllWritten, IsLearnt, view_now, with_value_if}
+use Rattle.thread_local_schedule.specs.Fits.{IsLearnt, view_now, with_value_if}
 use Rattle.thread_local_schedule.specs.Core.{Core, shadow, installed_slots, peak, private_slots}
 use Rattle.thread_local_schedule.specs.CoreFits.{CoreFits}
 use Rattle.thread_local_schedule.proofs.TableLaws.{same_function, slot_at-made_table, published_unset}
 use Rattle.thread_local_schedule.proofs.Parts.{own_small}
-use Rattle.thread_local_model.proofs.PlaceLaws as place
 
 -- an option is None where no value is possible
 pub none_if : {A : Type 0} (o : Option A) → ((x : A) → o ≡ Some x → ⊥) → o ≡ None
@@ -36,24 +35,6 @@ pub absent : {V : Type 0} (values : ℕ → Option V) (n id : ℕ)
     → ((v : V) → values id ≡ Some v → id < n) → n ≤ id
     → values id ≡ None
 absent values n id below l = none_if (values id) (λ v e. omega (arith, below v e))
-
--- a slot of a bucket holds a written value if its flag is set
-pub written_in : {V : Type 0} (pointer : Option (Bucket V)) (index : ℕ)
-    → IsWritten (slot_of pointer index)
-    → IfSome pointer (λ here. IsWritten (here.slot index))
-written_in None index w = tt
-written_in (Some here) index w = w
-
-pub flagged : {V : Type 0} (table : Table V) (bucket index : ℕ) → AllWritten table
-    → index < 2 ^ bucket
-    → IfSome (table.pointers bucket) (λ here. IsWritten (here.slot index))
-unfolding slot_at
-flagged table bucket index written l =
-    let at = place.place-id_at bucket index l in
-    written_in (table.pointers bucket) index
-    (subst (λ i. IsWritten (slot_of (table.pointers bucket) i)) at.1
-    (subst (λ b. IsWritten (slot_of (table.pointers b) (index_of (id_at bucket index)))) at.0
-    (written (id_at bucket index))))
 
 -- the capacity and the peak bound the installed slots
 pub installed_bound : {V E : Type 0} (core : Core V E) (m : ℕ) → CoreFits core → core.capacity ≤ m
@@ -118,7 +99,7 @@ loads core n walk h at =
 -- the published values change as a step says
 pub published_moves : {V E : Type 0} (core : Core V E) (table : Table V) (id : ℕ) (set : Option V)
     → ((j : ℕ) → published table j ≡ with_value_if (published core.table) id set j)
-    → record (shadow core) { values = published table } ≡ moved_if (shadow core) (option_map (λ v. Publish id v) set)
+    → record (shadow core) { values = published table } ≡ moved_by_if (shadow core) (option_map (λ v. OfSheet (Publish id v)) set)
 published_moves core table id None shown =
     ap (λ values. record (shadow core) { values = values })
     (same_function (published table) (published core.table) shown)
@@ -128,7 +109,7 @@ published_moves core table id (Some v) shown =
 
 pub publishing_allowed : {V : Type 0} (sheet : Sheet V) (id : ℕ) (set : Option V)
     → IsTrue (is_held sheet.held id) → IfSome set (λ _. sheet.values id ≡ None)
-    → IfSome (option_map (λ v. Publish id v) set) (IsAllowed sheet)
+    → IfSome (option_map (λ v. OfSheet (Publish id v)) set) (IsMoveAllowed sheet)
 publishing_allowed sheet id None t empty = tt
 publishing_allowed sheet id (Some v) t empty = (empty, t)
 

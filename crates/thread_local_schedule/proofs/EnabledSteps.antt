@@ -11,7 +11,7 @@ use Rattle.thread_local_schedule.specs.Table.{Table, published, bucket_stands, w
 use Rattle.thread_local_schedule.specs.Local.{Doing, Gets, Started, Private, Written, Local, LocalStep, local_step}
 use Rattle.thread_local_schedule.specs.Local.{BeginGet, BeginGetOr, LoadPointer, LookAtFlag, MakeBucket, InstallBucket}
 use Rattle.thread_local_schedule.specs.Local.{WriteValue, SetFlag, Reply, doing_with_get, doing_with_get_or, begin_call}
-use Rattle.thread_local_schedule.specs.Local.{is_calling, learns, closure_at_missing, make_bucket, offered}
+use Rattle.thread_local_schedule.specs.Local.{may_look, learns, closure_at_missing, make_bucket, offered}
 use Rattle.thread_local_schedule.specs.Local.{private_bucket, install_bucket, closure_at_vacant, write_value}
 use Rattle.thread_local_schedule.specs.Local.{value_written, set_flag, after_call, ending_of, reply}
 use Rattle.thread_local_schedule.specs.Calls.{gets_of, closure_of, HasNoCall, HasLearnt, EndsWith, GoesDown, steps_left}
@@ -50,10 +50,9 @@ begins_get_or table local create none = get_or_begins table local create local.d
 
 -- what each step leaves of a call with a bucket of its own, or with a written value
 load-learnt : {V E : Type 0} (table : Table V) (local : Local V E) (doing : Doing V E) (o : Option (Learnt V)) → local.doing ≡ doing
-    → IfSome (cond (is_calling doing) (learns table local o) None) (λ after. HasLearnt after.1.doing after.1.learnt)
-load-learnt table local (Gets zero) o e = tt
-load-learnt table local (Gets (suc count)) None e = tt
-load-learnt table local (Gets (suc count)) (Some learnt) e = rw e tt
+    → IfSome (cond (may_look doing) (learns table local o) None) (λ after. HasLearnt after.1.doing after.1.learnt)
+load-learnt table local (Gets count) None e = tt
+load-learnt table local (Gets count) (Some learnt) e = rw e tt
 load-learnt table local (Started create) None e = tt
 load-learnt table local (Started create) (Some learnt) e = rw e tt
 load-learnt table local (Private create number) o e = tt
@@ -147,7 +146,7 @@ pub loads : {V E : Type 0} (table : Table V) (local : Local V E)
     → IfSome (local_step table local LoadPointer)
     (λ after. after.1.learnt ≡ cond (bucket_stands table (bucket_of local.id)) Standing Missing)
 unfolding local_step
-loads table local = loaded table local (is_calling local.doing) (bucket_stands table (bucket_of local.id)) local.learnt
+loads table local = loaded table local (may_look local.doing) (bucket_stands table (bucket_of local.id)) local.learnt
 
 looked : {V E : Type 0} (table : Table V) (local : Local V E) (calling : Bool) (shown : Option V) (before : Learnt V)
     → IfSome (cond calling (learns table local (learnt_by_look before shown)) None)
@@ -165,7 +164,7 @@ pub looks : {V E : Type 0} (table : Table V) (local : Local V E)
     MatchOption (published table local.id) (after.1.learnt ≡ Vacant)
     (λ v. after.1.learnt ≡ Holding v))
 unfolding local_step
-looks table local = looked table local (is_calling local.doing) (published table local.id) local.learnt
+looks table local = looked table local (may_look local.doing) (published table local.id) local.learnt
 
 -- memory is asked for only where the bucket was missing
 asked : {V E : Type 0} (table : Table V) (local : Local V E) (refused : Bool) (doing : Doing V E) (before : Learnt V)

@@ -14,11 +14,14 @@ use Rattle.thread_local_schedule.proofs.EnabledSteps as step
 use Rattle.thread_local_schedule.proofs.GoingOn as call
 use Rattle.thread_local_schedule.specs.SharedWalk.{WalkStep, walk_step}
 use Rattle.thread_local_schedule.specs.OwnerWalk.{rewritten}
+use Rattle.thread_local_schedule.specs.Cleared.{drained}
+use Rattle.thread_local_schedule.specs.Table.{empty_slot, slot_at, bucket_stands}
+use Rattle.thread_local_schedule.proofs.ClearedLaws.{slot_at-drained, bucket_stands-drained}
 use Rattle.thread_local_schedule.specs.Core.{Core, made_core, shadow, peak, is_alone}
 use Rattle.thread_local_schedule.specs.CoreFits.{CoreFits}
 use Rattle.thread_local_schedule.proofs.OptionLaws.{if_enabled, if_there, if_then, some_and, some_step, unwrapped}
 use Rattle.thread_local_schedule.specs.Events.{Event, TakeId, OfLocal, GiveBack, Forget, BeginWalk, OfWalk, EndWalk}
-use Rattle.thread_local_schedule.specs.Events.{Owner, OwnerCall, IterMut, Slots, ClearTable, IntoIter, DropTable}
+use Rattle.thread_local_schedule.specs.Events.{Owner, OwnerCall, RewriteTable, Slots, DrainTable, ClearTable, IntoIter, DropTable}
 use Rattle.thread_local_schedule.specs.Events.{take_id, with_step, of_local, is_idle, without_local, with_id_given}
 use Rattle.thread_local_schedule.specs.Events.{give_back, forget, with_walk, of_walk, after_owner, step_of, step}
 use Rattle.thread_local_schedule.specs.Events.{is_enabled, happens, run}
@@ -33,6 +36,10 @@ pub run-append : {V E : Type 0} (core : Core V E) (events more : List (Event V E
 unfolding run
 run-append core [] more = refl
 run-append core (event ∷ events) more = run-append (happens core event) events more
+
+pub run-none : {V E : Type 0} (core : Core V E) → run core [] ≡ core
+unfolding run
+run-none core = refl
 
 pub run-one : {V E : Type 0} (core : Core V E) (events : List (Event V E)) (event : Event V E)
     → run core (events ++ event ∷ []) ≡ happens (run core events) event
@@ -114,9 +121,27 @@ newcomers core event t =
 pub slots : {V E : Type 0} (core : Core V E) → happens core (Owner Slots) ≡ core
 slots core = ⊎_elim (λ t. owner_goes core Slots t) (λ f. clause.idle core (Owner Slots) f) (cases_Bool (is_enabled core (Owner Slots)))
 
-pub iter_mut : {V E : Type 0} (core : Core V E) (others : ℕ → V → V) → IsTrue (is_enabled core (Owner (IterMut others)))
-    → happens core (Owner (IterMut others)) ≡ record core { table = rewritten core.table others }
-iter_mut core others t = owner_goes core (IterMut others) t
+pub rewrites : {V E : Type 0} (core : Core V E) (others : ℕ → V → V) → IsTrue (is_enabled core (Owner (RewriteTable others)))
+    → happens core (Owner (RewriteTable others)) ≡ record core { table = rewritten core.table others }
+rewrites core others t = owner_goes core (RewriteTable others) t
+
+pub drained_core : {V E : Type 0} (core : Core V E) → IsTrue (is_enabled core (Owner DrainTable))
+    → happens core (Owner DrainTable) ≡ record core { table = drained core.table }
+drained_core core t = owner_goes core DrainTable t
+
+pub drained_stands : {V E : Type 0} (core : Core V E) (bucket : ℕ)
+    → IsTrue (is_enabled core (Owner DrainTable))
+    → bucket_stands (happens core (Owner DrainTable)).table bucket ≡ bucket_stands core.table bucket
+drained_stands core bucket t =
+    ap (λ after. bucket_stands after.table bucket) (drained_core core t)
+    ∙ bucket_stands-drained core.table bucket
+
+pub drained_slots : {V E : Type 0} (core : Core V E) (id : ℕ)
+    → IsTrue (is_enabled core (Owner DrainTable))
+    → slot_at (happens core (Owner DrainTable)).table id ≡ empty_slot
+drained_slots core id t =
+    ap (λ after. slot_at after.table id) (drained_core core t)
+    ∙ slot_at-drained core.table id
 
 pub out_of_memory : {V E : Type 0} (core : Core V E) (n : ℕ)
     → IsTrue (is_enabled core (OfLocal n (MakeBucket true)))
@@ -124,7 +149,7 @@ pub out_of_memory : {V E : Type 0} (core : Core V E) (n : ℕ)
 out_of_memory core n t = rw t refl
 
 -- what is enabled is so in a table that hasn't ended
-open_where : {V E : Type 0} (core : Core V E) (event : Event V E) → IsTrue (is_enabled core event) → core.ended ≡ false
+pub open_where : {V E : Type 0} (core : Core V E) (event : Event V E) → IsTrue (is_enabled core event) → core.ended ≡ false
 unfolding is_enabled step
 open_where core event t = (some_step core.ended (step_of core event) t).0
 
@@ -197,8 +222,9 @@ of_walk-room core number step =
     (λ after _. same_room core (OfWalk number step) (with_walk core number after) refl))
 
 after_owner-room : {V E : Type 0} (core : Core V E) (call : OwnerCall V) → RoomGoes core (Owner call) (after_owner core call)
-after_owner-room core (IterMut others) = same_room core (Owner (IterMut others)) _ refl
+after_owner-room core (RewriteTable others) = same_room core (Owner (RewriteTable others)) _ refl
 after_owner-room core Slots = same_room core (Owner Slots) core refl
+after_owner-room core DrainTable = same_room core (Owner DrainTable) _ refl
 after_owner-room core ClearTable = same_room core (Owner ClearTable) _ refl
 after_owner-room core IntoIter = same_room core (Owner IntoIter) _ refl
 after_owner-room core DropTable = same_room core (Owner DropTable) _ refl

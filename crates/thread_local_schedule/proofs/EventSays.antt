@@ -5,20 +5,20 @@ use Rattle.std.specs.Prelude.{option_map, unwrap_or}
 use Rattle.std.proofs.lemmas.Option.{none-some}
 use Rattle.std.proofs.lemmas.Bool.{cond_both, false≢true, eqb-false}
 use Rattle.thread_local_model.specs.Held.{held_count, without, is_granted}
-use Rattle.thread_local_model.specs.Sheet.{moved_if, IsAllowed}
+use Rattle.thread_local_schedule.specs.TableMoves.{moved_by_if, IsMoveAllowed}
 use Rattle.thread_local_model.specs.Capacity.{reserves_bucket}
 use Rattle.thread_local_schedule.specs.Table.{Table, published}
 use Rattle.thread_local_schedule.specs.Local.{Local, LocalStep, local_step}
 use Rattle.thread_local_schedule.specs.SharedWalk.{fresh_walk, WalkStep, walk_step}
 use Rattle.thread_local_schedule.specs.OwnerWalk.{rewritten}
-use Rattle.thread_local_schedule.specs.Fits.{StepFits, value_set, named}
-use Rattle.thread_local_schedule.proofs.TableLaws.{same_function, named_stands}
+use Rattle.thread_local_schedule.specs.Fits.{StepFits, value_set, number_at}
+use Rattle.thread_local_schedule.proofs.TableLaws.{same_function, numbered_stands}
 use Rattle.thread_local_schedule.proofs.LocalLaws.{local_step-fits}
-use Rattle.thread_local_schedule.proofs.OwnerLaws.{published-rewritten, named-rewritten}
-use Rattle.thread_local_schedule.proofs.ClearedLaws.{none_cleared, named-cleared}
+use Rattle.thread_local_schedule.proofs.OwnerLaws.{published-rewritten, number_at-rewritten}
+use Rattle.thread_local_schedule.proofs.ClearedLaws.{none_cleared, number_at-cleared, none_drained, number_at-drained}
 use Rattle.thread_local_schedule.specs.Core.{Core, shadow, is_alone}
 use Rattle.thread_local_schedule.specs.Events.{Event, TakeId, OfLocal, GiveBack, Forget, BeginWalk, OfWalk, EndWalk}
-use Rattle.thread_local_schedule.specs.Events.{Owner, OwnerCall, IterMut, Slots, ClearTable, IntoIter, DropTable}
+use Rattle.thread_local_schedule.specs.Events.{Owner, OwnerCall, RewriteTable, Slots, DrainTable, ClearTable, IntoIter, DropTable}
 use Rattle.thread_local_schedule.specs.Events.{take_id, with_step, of_local, is_idle, without_local, with_id_given}
 use Rattle.thread_local_schedule.specs.Events.{give_back, forget, with_walk, of_walk, without_walk, after_owner}
 use Rattle.thread_local_schedule.specs.Events.{step_of, step, is_enabled, happens}
@@ -33,15 +33,15 @@ use Rattle.thread_local_model.proofs.HeldLaws as ids
 
 -- what an enabled event says of the core before it and the core after it
 pub record EventSays {V E : Type 0} (core : Core V E) (event : Event V E) (after : Core V E) : Type 0 where
-  pub moves : shadow after ≡ moved_if (shadow core) (move_of core event)
-  pub allowed : IfSome (move_of core event) (IsAllowed (shadow core))
+  pub moves : shadow after ≡ moved_by_if (shadow core) (move_of core event)
+  pub allowed : IfSome (move_of core event) (IsMoveAllowed (shadow core))
   pub stays : is_exclusive event ≡ false → (id : ℕ) (v : V) → published core.table id ≡ Some v
       → published after.table id ≡ Some v
-  pub names : is_exclusive event ≡ false → (bucket k : ℕ) → named core.table bucket ≡ Some k
-      → named after.table bucket ≡ Some k
+  pub names : is_clear event ≡ false → (bucket k : ℕ) → number_at core.table bucket ≡ Some k
+      → number_at after.table bucket ≡ Some k
   pub reserved_stays : (bucket : ℕ) → IsTrue (reserves_bucket core.capacity bucket) → (k : ℕ)
-      → named core.table bucket ≡ Some k
-      → named after.table bucket ≡ Some k
+      → number_at core.table bucket ≡ Some k
+      → number_at after.table bucket ≡ Some k
   pub comes : (n : ℕ) (local : Local V E) → core.locals n ≡ None → after.locals n ≡ Some local
       → IsTrue (is_take event) × IsTrue (not (refuses core event)) × (n ≡ core.taken)
   pub others : (n : ℕ) (local : Local V E) → is_of n event ≡ false → core.locals n ≡ Some local → after.locals n ≡ Some local
@@ -59,8 +59,8 @@ leaves core event after same none table manager clear locals others = record {
   moves = rw none same;
   allowed = rw none tt;
   stays = λ _ id v e. ap (λ t. published t id) table ∙ e;
-  names = λ _ bucket k e. ap (λ t. named t bucket) table ∙ e;
-  reserved_stays = λ bucket _ k e. ap (λ t. named t bucket) table ∙ e;
+  names = λ _ bucket k e. ap (λ t. number_at t bucket) table ∙ e;
+  reserved_stays = λ bucket _ k e. ap (λ t. number_at t bucket) table ∙ e;
   comes = λ n local none at. absurd (none-some local (sym none ∙ locals n local at));
   others = others;
   peak = rw (clear, manager) (omega (arith, held_count-le core.manager.held));
@@ -104,8 +104,8 @@ stepped-says core number step local after at s h =
       moves = rw at (published_moves core after.0 local.id set s.shown);
       allowed = rw at (publishing_allowed (shadow core) local.id set (h.locals.each number local at).id_held s.empty);
       stays = λ _ id v e. s.shown id ∙ kept_value (published core.table) local.id set id v s.empty e;
-      names = λ _ bucket k e. (s.changes.naming bucket (named_stands core.table bucket k e)).1 ∙ e;
-      reserved_stays = λ bucket _ k e. (s.changes.naming bucket (named_stands core.table bucket k e)).1 ∙ e;
+      names = λ _ bucket k e. (s.changes.standing bucket (numbered_stands core.table bucket k e)).1 ∙ e;
+      reserved_stays = λ bucket _ k e. (s.changes.standing bucket (numbered_stands core.table bucket k e)).1 ∙ e;
       comes = λ n other none e.
           ⊎_elim
           (λ here. absurd (none-some local (sym none ∙ ap core.locals (sym here.0) ∙ at)))
@@ -168,26 +168,36 @@ of_walk-says core number step h =
 after_owner-says : {V E : Type 0} (core : Core V E) (call : OwnerCall V) → is_alone core ≡ true
     → CoreFits core
     → EventSays core (Owner call) (after_owner core call)
-after_owner-says core (IterMut others) e h = record {
+after_owner-says core (RewriteTable others) e h = record {
   moves = ap (λ values. record (shadow core) { values = values })
       (same_function (published (rewritten core.table others))
       (λ id. option_map (others id) (published core.table id))
       (published-rewritten core.table others));
   allowed = tt;
   stays = λ ex. absurd (false≢true (sym ex));
-  names = λ ex. absurd (false≢true (sym ex));
-  reserved_stays = λ bucket _ k p. named-rewritten core.table others bucket ∙ p;
+  names = λ _ bucket k p. number_at-rewritten core.table others bucket ∙ p;
+  reserved_stays = λ bucket _ k p. number_at-rewritten core.table others bucket ∙ p;
   comes = λ n local none at. absurd (none-some local (sym none ∙ at));
   others = λ n local _ at. absurd (none-some local (sym (no_locals core h e n) ∙ at));
   peak = omega (arith, held_count-le core.manager.held);
 }
 after_owner-says core Slots e h = leaves core (Owner Slots) core refl refl refl refl refl (λ n then f. f) (λ n local _ at. at)
+after_owner-says core DrainTable e h = record {
+  moves = ap (λ values. record (shadow core) { values = values }) (none_drained core.table);
+  allowed = tt;
+  stays = λ ex. absurd (false≢true (sym ex));
+  names = λ _ bucket k p. number_at-drained core.table bucket ∙ p;
+  reserved_stays = λ bucket _ k p. number_at-drained core.table bucket ∙ p;
+  comes = λ n local none at. absurd (none-some local (sym none ∙ at));
+  others = λ n local _ at. absurd (none-some local (sym (no_locals core h e n) ∙ at));
+  peak = omega (arith, held_count-le core.manager.held);
+}
 after_owner-says core ClearTable e h = record {
   moves = ap (λ values. record { held = []; values = values; capacity = core.capacity }) (none_cleared core.table core.capacity);
   allowed = tt;
   stays = λ ex. absurd (false≢true (sym ex));
   names = λ ex. absurd (false≢true (sym ex));
-  reserved_stays = λ bucket reserved k p. named-cleared core.table core.capacity bucket reserved ∙ p;
+  reserved_stays = λ bucket reserved k p. number_at-cleared core.table core.capacity bucket reserved ∙ p;
   comes = λ n local none at. absurd (none-some local (sym none ∙ at));
   others = λ n local _ at. absurd (none-some local (sym (no_locals core h e n) ∙ at));
   peak = refl;
@@ -218,15 +228,15 @@ step_of-says core (Owner call) h =
 
 -- what every event says of the core after it, whether it is enabled or not
 pub record Says {V E : Type 0} (core : Core V E) (event : Event V E) (enabled : Bool) (after : Core V E) : Type 0 where
-  pub moves : shadow after ≡ moved_if (shadow core) (cond enabled (move_of core event) None)
-  pub allowed : IfSome (cond enabled (move_of core event) None) (IsAllowed (shadow core))
+  pub moves : shadow after ≡ moved_by_if (shadow core) (cond enabled (move_of core event) None)
+  pub allowed : IfSome (cond enabled (move_of core event) None) (IsMoveAllowed (shadow core))
   pub stays : is_exclusive event ≡ false → (id : ℕ) (v : V) → published core.table id ≡ Some v
       → published after.table id ≡ Some v
-  pub names : is_exclusive event ≡ false → (bucket k : ℕ) → named core.table bucket ≡ Some k
-      → named after.table bucket ≡ Some k
+  pub names : is_clear event ≡ false → (bucket k : ℕ) → number_at core.table bucket ≡ Some k
+      → number_at after.table bucket ≡ Some k
   pub reserved_stays : (bucket : ℕ) → IsTrue (reserves_bucket core.capacity bucket) → (k : ℕ)
-      → named core.table bucket ≡ Some k
-      → named after.table bucket ≡ Some k
+      → number_at core.table bucket ≡ Some k
+      → number_at after.table bucket ≡ Some k
   pub comes : (n : ℕ) (local : Local V E) → core.locals n ≡ None → after.locals n ≡ Some local
       → IsTrue enabled × IsTrue (is_take event) × IsTrue (not (refuses core event)) × (n ≡ core.taken)
   pub others : (n : ℕ) (local : Local V E) → is_of n event ≡ false → core.locals n ≡ Some local → after.locals n ≡ Some local

@@ -11,7 +11,7 @@ use Rattle.thread_local_schedule.specs.OwnerWalk.{owner_walk, owner_walk_below}
 use Rattle.thread_local_model.specs.Walk.{walk_below}
 use Rattle.thread_local_model.specs.Answers.{Found, Answered}
 use Rattle.thread_local_schedule.specs.Core.{peak, installed_slots}
-use Rattle.thread_local_schedule.specs.Events.{Owner, IterMut, ClearTable, step, happens, run, is_enabled}
+use Rattle.thread_local_schedule.specs.Events.{Owner, RewriteTable, ClearTable, step, happens, run, is_enabled}
 use Rattle.thread_local_schedule.specs.Story.{walk_on, whole_walk, four_publish, four_give_back, after_publishing}
 use Rattle.thread_local_schedule.specs.Story.{after_walking, after_giving_back, after_next, after_all}
 
@@ -40,7 +40,7 @@ module _ (T F : Type 0) (a b c d : T) where
   next_gets = (refl, refl, refl)
 
   pub owner_gets : (others : ℕ → T → T)
-      → IsTrue (is_enabled (after_all {V = T} {E = F} a b c d) (Owner (IterMut others)))
+      → IsTrue (is_enabled (after_all {V = T} {E = F} a b c d) (Owner (RewriteTable others)))
       × (owner_walk (after_all {V = T} {E = F} a b c d).table ≡ a ∷ b ∷ c ∷ d ∷ [])
   unfolding by_steps
   owner_gets others = (refl, refl)

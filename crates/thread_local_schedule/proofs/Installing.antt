@@ -11,7 +11,7 @@ use Rattle.thread_local_schedule.specs.Table.{Table, Slot, published, bucket_sta
 use Rattle.thread_local_schedule.specs.Local.{Doing, Gets, Started, Private, Local, LocalStep, local_step, BeginGet}
 use Rattle.thread_local_schedule.specs.Local.{BeginGetOr, LoadPointer, LookAtFlag, MakeBucket, InstallBucket}
 use Rattle.thread_local_schedule.specs.Local.{WriteValue, SetFlag, Reply, doing_with_get, doing_with_get_or, begin_call}
-use Rattle.thread_local_schedule.specs.Local.{is_calling, learns, closure_at_missing, make_bucket, offered}
+use Rattle.thread_local_schedule.specs.Local.{may_look, learns, closure_at_missing, make_bucket, offered}
 use Rattle.thread_local_schedule.specs.Local.{private_bucket, install_bucket, closure_at_vacant, write_value}
 use Rattle.thread_local_schedule.specs.Local.{value_written, set_flag, after_call, ending_of, reply}
 use Rattle.thread_local_schedule.proofs.TableLaws.{bucket_stands-offered, bucket_stands-with_table_slot, bucket_stands-made}
@@ -131,10 +131,10 @@ unfolding local_step
 installs table local BeginGet bucket none = begin_get-installs table local bucket local.doing none
 installs table local (BeginGetOr create) bucket none = begin_get_or-installs table local bucket create local.doing none
 installs table local LoadPointer bucket none =
-    learns-installs LoadPointer table local bucket (is_calling local.doing)
+    learns-installs LoadPointer table local bucket (may_look local.doing)
     (learnt_by_load local.learnt (bucket_stands table (bucket_of local.id))) none
 installs table local LookAtFlag bucket none =
-    learns-installs LookAtFlag table local bucket (is_calling local.doing)
+    learns-installs LookAtFlag table local bucket (may_look local.doing)
     (learnt_by_look local.learnt (published table local.id)) none
 installs table local (MakeBucket refused) bucket none =
     make_bucket-installs table local bucket refused

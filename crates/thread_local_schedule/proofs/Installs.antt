@@ -13,9 +13,10 @@ use Rattle.thread_local_schedule.specs.Cleared.{emptied_bucket, cleared}
 use Rattle.thread_local_model.specs.Capacity.{reserves_bucket}
 use Rattle.thread_local_schedule.specs.Core.{Core, is_alone}
 use Rattle.thread_local_schedule.proofs.OwnerLaws.{bucket_stands-rewritten}
+use Rattle.thread_local_schedule.proofs.ClearedLaws.{bucket_stands-drained}
 use Rattle.thread_local_schedule.proofs.OptionLaws.{if_enabled, if_mapped, if_there, if_then, unwrapped}
 use Rattle.thread_local_schedule.specs.Events.{Event, TakeId, OfLocal, GiveBack, Forget, BeginWalk, OfWalk, EndWalk}
-use Rattle.thread_local_schedule.specs.Events.{Owner, OwnerCall, IterMut, Slots, ClearTable, IntoIter, DropTable}
+use Rattle.thread_local_schedule.specs.Events.{Owner, OwnerCall, RewriteTable, Slots, DrainTable, ClearTable, IntoIter, DropTable}
 use Rattle.thread_local_schedule.specs.Events.{take_id, with_step, of_local, is_idle, without_local, with_id_given}
 use Rattle.thread_local_schedule.specs.Events.{give_back, forget, with_walk, of_walk, without_walk, after_owner}
 use Rattle.thread_local_schedule.specs.Events.{step_of, step, happens}
@@ -88,10 +89,13 @@ missing_cleared table capacity bucket none = emptied (reserves_bucket capacity b
 after_owner-installs : {V E : Type 0} (core : Core V E) (call : OwnerCall V) (bucket : ℕ)
     → bucket_stands core.table bucket ≡ false
     → Installs core (Owner call) bucket (after_owner core call)
-after_owner-installs core (IterMut others) bucket none =
-    missing core (Owner (IterMut others)) bucket (after_owner core (IterMut others))
+after_owner-installs core (RewriteTable others) bucket none =
+    missing core (Owner (RewriteTable others)) bucket (after_owner core (RewriteTable others))
     (bucket_stands-rewritten core.table others bucket ∙ none)
 after_owner-installs core Slots bucket none = missing core (Owner Slots) bucket core none
+after_owner-installs core DrainTable bucket none =
+    missing core (Owner DrainTable) bucket (after_owner core DrainTable)
+    (bucket_stands-drained core.table bucket ∙ none)
 after_owner-installs core ClearTable bucket none =
     missing core (Owner ClearTable) bucket (after_owner core ClearTable)
     (missing_cleared core.table core.capacity bucket none)

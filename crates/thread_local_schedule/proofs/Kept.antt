@@ -17,7 +17,7 @@ use Rattle.thread_local_schedule.proofs.Numbers.{taken-NumbersFit, removed-Numbe
 use Rattle.thread_local_schedule.proofs.WalkStepLaws.{walk_step-fits, fresh_walk-fits}
 use Rattle.thread_local_schedule.specs.Core.{Core, shadow, is_alone}
 use Rattle.thread_local_schedule.specs.Events.{Event, TakeId, OfLocal, GiveBack, Forget, BeginWalk, OfWalk, EndWalk}
-use Rattle.thread_local_schedule.specs.Events.{Owner, OwnerCall, IterMut, Slots, ClearTable, IntoIter, DropTable}
+use Rattle.thread_local_schedule.specs.Events.{Owner, OwnerCall, RewriteTable, Slots, DrainTable, ClearTable, IntoIter, DropTable}
 use Rattle.thread_local_schedule.specs.Events.{take_id, with_step, of_local, give_back, forget, begin_walk, of_walk}
 use Rattle.thread_local_schedule.specs.Events.{step_of, step, happens, run, is_idle, without_local, with_walk}
 use Rattle.thread_local_schedule.specs.Events.{with_id_given, without_walk, after_owner}
@@ -25,7 +25,7 @@ use Rattle.thread_local_schedule.proofs.HeldCounts.{peak_after}
 use Rattle.thread_local_schedule.specs.CoreFits.{CoreFits}
 use Rattle.thread_local_schedule.proofs.Parts.{locals_put, locals_removed, given-ManagerFits, peak-TableFits}
 use Rattle.thread_local_schedule.proofs.Parts.{held_stays, least_held, fresh-LiveFits, stepped-fits, walks_put}
-use Rattle.thread_local_schedule.proofs.Parts.{came_before, rewritten-fits, cleared-fits}
+use Rattle.thread_local_schedule.proofs.Parts.{came_before, rewritten-fits, drained-fits, cleared-fits}
 use Rattle.thread_local_schedule.proofs.Takes.{granted_some, taken-ManagerFits}
 use Rattle.thread_local_schedule.proofs.OptionLaws.{if_enabled, unwrapped, if_mapped, if_both, if_there, if_then}
 use Rattle.thread_local_model.proofs.HeldLaws as ids
@@ -173,8 +173,9 @@ walk_ended-fits core number walk at h = record {
 after_owner-fits : {V E : Type 0} (core : Core V E) (call : OwnerCall V) → is_alone core ≡ true
     → CoreFits core
     → CoreFits (after_owner core call)
-after_owner-fits core (IterMut others) e h = rewritten-fits core others e h
+after_owner-fits core (RewriteTable others) e h = rewritten-fits core others e h
 after_owner-fits core Slots e h = h
+after_owner-fits core DrainTable e h = drained-fits core e h
 after_owner-fits core ClearTable e h = cleared-fits core e h
 after_owner-fits core IntoIter e h = record {
   manager = h.manager;

@@ -16,12 +16,16 @@ pub mod Publishings
 pub mod Sayings
 pub mod Counted
 pub mod MainTheorem
+pub mod MoveLaws
+pub mod History
+pub mod EffectLaws
 pub mod FirstCalls
 pub mod TableLaws
 pub mod LocalLaws
 pub mod CallsLaws
 pub mod NumbersLaws
 pub mod EnabledSteps
+pub mod StepNeeds
 pub mod Installing
 pub mod GoingOn
 pub mod WalkStepLaws

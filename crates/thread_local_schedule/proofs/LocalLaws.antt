@@ -11,18 +11,18 @@ use Rattle.thread_local_model.proofs.AnswersLaws.{answers-push, view_after_all-p
 use Rattle.thread_local_schedule.specs.Table.{Slot, Table, slot_at, published, bucket_stands, value_of, with_table_slot, with_flag}
 use Rattle.thread_local_model.specs.Learnt.{Learnt, Unknown, Missing, Standing, Vacant, Holding, learnt_by_load}
 use Rattle.thread_local_model.specs.Learnt.{learnt_by_look, learnt_by_install, learnt_by_publish}
-use Rattle.thread_local_schedule.specs.Local.{Doing, Gets, Started, Private, Written, Local, after_call, is_calling}
+use Rattle.thread_local_schedule.specs.Local.{Doing, Gets, Started, Private, Written, Local, after_call, may_look}
 use Rattle.thread_local_schedule.specs.Local.{learns, load_pointer, look_at_flag, make_bucket, offered, install_bucket}
 use Rattle.thread_local_schedule.specs.Local.{write_value, set_flag, reply, local_step, LocalStep, BeginGet, BeginGetOr}
 use Rattle.thread_local_schedule.specs.Local.{LoadPointer, LookAtFlag, MakeBucket, InstallBucket, WriteValue, SetFlag}
 use Rattle.thread_local_schedule.specs.Local.{Reply, doing_with_get, doing_with_get_or, begin_call, closure_at_missing}
 use Rattle.thread_local_schedule.specs.Local.{closure_at_vacant, ending_of, private_bucket, value_written}
 use Rattle.thread_local_schedule.specs.Fits.{IsWritten, AllWritten, view_now, IsLearnt, IsDoing, ViewFits, LocalFits}
-use Rattle.thread_local_schedule.specs.Fits.{named, ChangesOnly, value_set, StepFits}
+use Rattle.thread_local_schedule.specs.Fits.{number_at, ChangesOnly, value_set, StepFits}
 use Rattle.thread_local_schedule.proofs.TableLaws.{slot_at-none, published_unset, slot_at-offered}
 use Rattle.thread_local_schedule.proofs.TableLaws.{bucket_stands-offered, published-slot_at, slot_at-with_slot_same}
 use Rattle.thread_local_schedule.proofs.TableLaws.{slot_at-with_slot_other, bucket_stands-with_table_slot, slot_at-made}
-use Rattle.thread_local_schedule.proofs.TableLaws.{bucket_stands-made, named-made, named-offered, named-with_table_slot}
+use Rattle.thread_local_schedule.proofs.TableLaws.{bucket_stands-made, number_at-made, number_at-offered, number_at-with_table_slot}
 
 learnt_carried : {V : Type 0} (old new : Table V) (id : ℕ) (view : View V) (learnt : Learnt V)
     → slot_at new id ≡ slot_at old id → (IsTrue (bucket_stands old (bucket_of id)) → IsTrue (bucket_stands new (bucket_of id)))
@@ -56,7 +56,7 @@ view_carried old new id view learnt doing same stays h = record {
 same_table : {V : Type 0} (table : Table V) (id : ℕ) → AllWritten table → ChangesOnly table table id
 same_table table id written = record {
   others = λ other apart. refl;
-  naming = λ bucket t. (t, refl);
+  standing = λ bucket t. (t, refl);
   installed = λ bucket t. inl t;
   written = written;
 }
@@ -173,8 +173,8 @@ look_at_flag-fits table local true written h =
 -- no slot changes, no pointer changes that isn't null, and only the bucket of this id may be new
 record OffersOnly {V : Type 0} (old new : Table V) (id : ℕ) : Type 0 where
   same : (other : ℕ) → slot_at new other ≡ slot_at old other
-  naming : (bucket : ℕ) → IsTrue (bucket_stands old bucket)
-      → IsTrue (bucket_stands new bucket) × (named new bucket ≡ named old bucket)
+  standing : (bucket : ℕ) → IsTrue (bucket_stands old bucket)
+      → IsTrue (bucket_stands new bucket) × (number_at new bucket ≡ number_at old bucket)
   installed : (bucket : ℕ) → IsTrue (bucket_stands new bucket) → IsTrue (bucket_stands old bucket) ⊎ (bucket_of id ≡ bucket)
 
 -- a step that changes no slot and ends no call
@@ -188,14 +188,14 @@ offers table after local learnt doing written h only l d = record {
     answered = h.answered;
     view = record {
       value = h.view.value ∙ sym (published-slot_at table after local.id (only.same local.id));
-      known = λ t. (only.naming (bucket_of local.id) (h.view.known t)).0;
+      known = λ t. (only.standing (bucket_of local.id) (h.view.known t)).0;
       learnt_so = l;
       doing_so = d;
     };
   };
   changes = record {
     others = λ other apart. only.same other;
-    naming = only.naming;
+    standing = only.standing;
     installed = only.installed;
     written = λ id. subst IsWritten (sym (only.same id)) (written id);
   };
@@ -220,7 +220,7 @@ make_bucket-fits table local false (Started create) Missing written h l d =
     offers table after local local.learnt (Private create table.made) written h
     (record {
       same = same;
-      naming = λ bucket t. (standing bucket ∙ t, named-made table (suc table.made) bucket);
+      standing = λ bucket t. (standing bucket ∙ t, number_at-made table (suc table.made) bucket);
       installed = λ bucket t. inl (sym (standing bucket) ∙ t);
     })
     (learnt_carried table after local.id (view_now local) local.learnt (same local.id)
@@ -232,11 +232,11 @@ make_bucket-fits table local refused _ _ written h l d = tt
 offered_only : {V : Type 0} (table : Table V) (id number : ℕ) → OffersOnly table (offered table (bucket_of id) number) id
 offered_only table id number = record {
   same = slot_at-offered table (bucket_of id) number;
-  naming = λ bucket t. (
+  standing = λ bucket t. (
     (bucket_stands-offered table (bucket_of id) number bucket
         ∙ cond_both (eqb (bucket_of id) bucket) true (bucket_stands table bucket) (λ b. b ≡ true)
         (λ _. refl) (λ _. t)),
-    (named-offered table (bucket_of id) number bucket t),
+    (number_at-offered table (bucket_of id) number bucket t),
   );
   installed = λ bucket t.
       ⊎_elim
@@ -281,7 +281,7 @@ slot_changes : {V : Type 0} (table : Table V) (id : ℕ) (slot : Slot V)
     → ChangesOnly table (with_table_slot table id slot) id
 slot_changes table id slot t written here = record {
   others = λ other apart. slot_at-with_slot_other table id other slot apart;
-  naming = λ bucket s. (bucket_stands-with_table_slot table id bucket slot ∙ s, named-with_table_slot table id bucket slot);
+  standing = λ bucket s. (bucket_stands-with_table_slot table id bucket slot ∙ s, number_at-with_table_slot table id bucket slot);
   installed = λ bucket s. inl (sym (bucket_stands-with_table_slot table id bucket slot) ∙ s);
   written = λ other.
       ⊎_elim
@@ -414,8 +414,8 @@ pub local_step-fits : {V E : Type 0} (table : Table V) (local : Local V E) (step
 unfolding local_step
 local_step-fits table local BeginGet written h = begin_get-fits table local local.doing written h
 local_step-fits table local (BeginGetOr create) written h = begin_get_or-fits table local create local.doing written h
-local_step-fits table local LoadPointer written h = load_pointer-fits table local (is_calling local.doing) written h
-local_step-fits table local LookAtFlag written h = look_at_flag-fits table local (is_calling local.doing) written h
+local_step-fits table local LoadPointer written h = load_pointer-fits table local (may_look local.doing) written h
+local_step-fits table local LookAtFlag written h = look_at_flag-fits table local (may_look local.doing) written h
 local_step-fits table local (MakeBucket refused) written h =
     make_bucket-fits table local refused local.doing local.learnt written h h.view.learnt_so
     h.view.doing_so
@@ -432,5 +432,5 @@ other_fits old new id local only apart h = record {
   answered = h.answered;
   view =
       view_carried old new local.id (view_now local) local.learnt local.doing
-      (only.others local.id apart) (λ t. (only.naming (bucket_of local.id) t).0) h.view;
+      (only.others local.id apart) (λ t. (only.standing (bucket_of local.id) t).0) h.view;
 }

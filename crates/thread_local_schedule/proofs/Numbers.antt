@@ -8,11 +8,11 @@ use Rattle.thread_local_schedule.specs.Table.{Table, Bucket, fresh_bucket, made_
 use Rattle.thread_local_schedule.specs.Local.{Local, fresh_local}
 use Rattle.thread_local_model.specs.Answers.{View}
 use Rattle.thread_local_schedule.specs.OwnerWalk.{rewritten}
-use Rattle.thread_local_schedule.specs.Cleared.{cleared}
-use Rattle.thread_local_schedule.specs.Fits.{named}
+use Rattle.thread_local_schedule.specs.Cleared.{cleared, drained}
+use Rattle.thread_local_schedule.specs.Fits.{number_at}
 use Rattle.thread_local_schedule.specs.Numbers.{own_number, NumbersGo}
-use Rattle.thread_local_schedule.proofs.OwnerLaws.{named-rewritten, made-rewritten}
-use Rattle.thread_local_schedule.proofs.ClearedLaws.{made-cleared, named_before_clear}
+use Rattle.thread_local_schedule.proofs.OwnerLaws.{number_at-rewritten, made-rewritten}
+use Rattle.thread_local_schedule.proofs.ClearedLaws.{made-cleared, standing_before_clear, made-drained, number_at-drained}
 use Rattle.thread_local_schedule.specs.Core.{put}
 use Rattle.thread_local_schedule.specs.CoreFits.{NumbersFit}
 use Rattle.thread_local_schedule.proofs.PutLaws.{put_cases, still}
@@ -20,15 +20,15 @@ use Rattle.thread_local_schedule.proofs.PutLaws.{put_cases, still}
 -- the numbers fit where no pointer leads to another bucket than before, and no call owns one that
 -- it didn't
 carried : {V E : Type 0} (old new : Table V) (locals later : ℕ → Option (Local V E))
-    → new.made ≡ old.made → ((bucket k : ℕ) → named new bucket ≡ Some k → named old bucket ≡ Some k)
+    → new.made ≡ old.made → ((bucket k : ℕ) → number_at new bucket ≡ Some k → number_at old bucket ≡ Some k)
     → ((n : ℕ) (local : Local V E) (k : ℕ) → later n ≡ Some local → own_number local.doing ≡ Some k
     → (was : Local V E) × (locals n ≡ Some was) × (own_number was.doing ≡ Some k))
     → NumbersFit old locals → NumbersFit new later
 carried old new locals later made names own h = record {
-  named_made = λ bucket k e. omega (arith, made, h.named_made bucket k (names bucket k e));
-  named_apart = λ a b k e f. h.named_apart a b k (names a k e) (names b k f);
+  standing_made = λ bucket k e. omega (arith, made, h.standing_made bucket k (names bucket k e));
+  standing_apart = λ a b k e f. h.standing_apart a b k (names a k e) (names b k f);
   own_made = λ n local k at e. let was = own n local k at e in omega (arith, made, h.own_made n was.0 k was.1 was.2);
-  own_unnamed = λ n local k bucket at e f. let was = own n local k at e in h.own_unnamed n was.0 k bucket was.1 was.2 (names bucket k f);
+  own_nowhere = λ n local k bucket at e f. let was = own n local k at e in h.own_nowhere n was.0 k bucket was.1 was.2 (names bucket k f);
   own_apart = λ m n a b k at in_b e f.
       let first = own m a k at e in
       let second = own n b k in_b f in
@@ -66,7 +66,7 @@ pub rewritten-NumbersFit : {V E : Type 0} (table : Table V) (others : ℕ → V 
     → NumbersFit (rewritten table others) locals
 rewritten-NumbersFit table others locals h =
     carried table (rewritten table others) locals locals (made-rewritten table others)
-    (λ bucket k e. sym (named-rewritten table others bucket) ∙ e)
+    (λ bucket k e. sym (number_at-rewritten table others bucket) ∙ e)
     (λ n local k at e. (local, at, e)) h
 
 pub cleared-NumbersFit : {V E : Type 0} (table : Table V) (capacity : ℕ)
@@ -75,22 +75,29 @@ pub cleared-NumbersFit : {V E : Type 0} (table : Table V) (capacity : ℕ)
     → NumbersFit (cleared table capacity) locals
 cleared-NumbersFit table capacity locals h =
     carried table (cleared table capacity) locals locals (made-cleared table capacity)
-    (named_before_clear table capacity) (λ n local k at e. (local, at, e)) h
+    (standing_before_clear table capacity) (λ n local k at e. (local, at, e)) h
+
+pub drained-NumbersFit : {V E : Type 0} (table : Table V) (locals : ℕ → Option (Local V E))
+    → NumbersFit table locals
+    → NumbersFit (drained table) locals
+drained-NumbersFit table locals h =
+    carried table (drained table) locals locals (made-drained table)
+    (λ bucket k e. sym (number_at-drained table bucket) ∙ e) (λ n local k at e. (local, at, e)) h
 
 -- each bucket of a new table has the number of its pointer
-named_by_digits : (T : Type 0) (b : Bool) (bucket number : ℕ)
+numbered_by_digits : (T : Type 0) (b : Bool) (bucket number : ℕ)
     → option_map (λ here. here.number)
     (cond {A = Option (Bucket T)} b (Some (fresh_bucket bucket)) None)
     ≡ Some number
     → (b ≡ true) × (bucket ≡ number)
-named_by_digits T true bucket number e = (refl, cc)
-named_by_digits T false bucket number e = cc
+numbered_by_digits T true bucket number e = (refl, cc)
+numbered_by_digits T false bucket number e = cc
 
-named-made_table : (T : Type 0) (capacity bucket number : ℕ)
-    → named {V = T} (made_table capacity) bucket ≡ Some number
+number_at-made_table : (T : Type 0) (capacity bucket number : ℕ)
+    → number_at {V = T} (made_table capacity) bucket ≡ Some number
     → IsTrue (reserves_bucket capacity bucket) × (bucket ≡ number)
-unfolding named made_table
-named-made_table T capacity bucket number e = named_by_digits T (reserves_bucket capacity bucket) bucket number e
+unfolding number_at made_table
+number_at-made_table T capacity bucket number e = numbered_by_digits T (reserves_bucket capacity bucket) bucket number e
 
 made-made_table : (T : Type 0) (capacity : ℕ) → (made_table {V = T} capacity).made ≡ binary_digits capacity
 unfolding made_table
@@ -98,12 +105,12 @@ made-made_table T capacity = refl
 
 pub made-NumbersFit : {V E : Type 0} (capacity : ℕ) → NumbersFit {V = V} {E = E} (made_table capacity) (λ _. None)
 made-NumbersFit {V} {E} capacity = record {
-  named_made = λ bucket k e.
-      let at = named-made_table V capacity bucket k e in
+  standing_made = λ bucket k e.
+      let at = number_at-made_table V capacity bucket k e in
       omega (arith, made-made_table V capacity, ltb-true bucket (binary_digits capacity) at.0, at.1);
-  named_apart = λ a b k e f. (named-made_table V capacity a k e).1 ∙ sym (named-made_table V capacity b k f).1;
+  standing_apart = λ a b k e f. (number_at-made_table V capacity a k e).1 ∙ sym (number_at-made_table V capacity b k f).1;
   own_made = λ n local k at e. cc;
-  own_unnamed = λ n local k bucket at e f. cc;
+  own_nowhere = λ n local k bucket at e f. cc;
   own_apart = λ m n a b k at too e f. cc;
 }
 
@@ -137,16 +144,16 @@ module _ {V E : Type 0} (table : Table V) (locals : ℕ → Option (Local V E)) 
       (own_was n then k e own)
 
   -- after the step no Local owns a bucket that a pointer leads to
-  unnamed : (n : ℕ) (then : Local V E) (k bucket : ℕ)
+  nowhere : (n : ℕ) (then : Local V E) (k bucket : ℕ)
       → put locals number (Some after.1) n ≡ Some then → own_number then.doing ≡ Some k
-      → named after.0 bucket ≡ Some k
+      → number_at after.0 bucket ≡ Some k
       → ⊥
-  unnamed n then k bucket e own name =
+  nowhere n then k bucket e own name =
       ⊎_elim
       (λ before.
       ⊎_elim
-      (λ was. h.own_unnamed n was.0 k bucket was.1 was.2 before)
-      (λ next. omega (arith, next.1, h.named_made bucket k before))
+      (λ was. h.own_nowhere n was.0 k bucket was.1 was.2 before)
+      (λ next. omega (arith, next.1, h.standing_made bucket k before))
       (own_was n then k e own))
       (λ offered.
       ⊎_elim
@@ -156,22 +163,22 @@ module _ {V E : Type 0} (table : Table V) (locals : ℕ → Option (Local V E)) 
       cc)
       (λ apart. apart.0 (h.own_apart number n local then k at apart.1 offered.0 own))
       (put_cases locals number (Some after.1) n then e))
-      (go.named_before bucket k name)
+      (go.standing_before bucket k name)
 
-  apart_named : (a b k : ℕ) → named after.0 a ≡ Some k → named after.0 b ≡ Some k → a ≡ b
-  apart_named a b k e f =
+  apart_standing : (a b k : ℕ) → number_at after.0 a ≡ Some k → number_at after.0 b ≡ Some k → a ≡ b
+  apart_standing a b k e f =
       ⊎_elim
       (λ first.
       ⊎_elim
-      (λ second. h.named_apart a b k first second)
-      (λ second. absurd (h.own_unnamed number local k a at second.0 first))
-      (go.named_before b k f))
+      (λ second. h.standing_apart a b k first second)
+      (λ second. absurd (h.own_nowhere number local k a at second.0 first))
+      (go.standing_before b k f))
       (λ first.
       ⊎_elim
-      (λ second. absurd (h.own_unnamed number local k b at first.0 second))
+      (λ second. absurd (h.own_nowhere number local k b at first.0 second))
       (λ second. sym first.1 ∙ second.1)
-      (go.named_before b k f))
-      (go.named_before a k e)
+      (go.standing_before b k f))
+      (go.standing_before a k e)
 
   apart_own : (m n : ℕ) (a b : Local V E) (k : ℕ) → put locals number (Some after.1) m ≡ Some a
       → put locals number (Some after.1) n ≡ Some b
@@ -192,13 +199,13 @@ module _ {V E : Type 0} (table : Table V) (locals : ℕ → Option (Local V E)) 
 
   pub stepped-NumbersFit : NumbersFit after.0 (put locals number (Some after.1))
   stepped-NumbersFit = record {
-    named_made = λ bucket k e.
+    standing_made = λ bucket k e.
         ⊎_elim
-        (λ before. omega (arith, go.made, h.named_made bucket k before))
+        (λ before. omega (arith, go.made, h.standing_made bucket k before))
         (λ offered. omega (arith, go.made, h.own_made number local k at offered.0))
-        (go.named_before bucket k e);
-    named_apart = apart_named;
+        (go.standing_before bucket k e);
+    standing_apart = apart_standing;
     own_made = below;
-    own_unnamed = unnamed;
+    own_nowhere = nowhere;
     own_apart = apart_own;
   }

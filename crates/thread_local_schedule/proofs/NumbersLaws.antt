@@ -9,25 +9,25 @@ use Rattle.thread_local_model.specs.Answers.{GetOr, Answered}
 use Rattle.thread_local_model.specs.Learnt.{Learnt, Missing, Vacant, Holding, learnt_by_load, learnt_by_look}
 use Rattle.thread_local_model.specs.Learnt.{learnt_by_install, learnt_by_publish}
 use Rattle.thread_local_schedule.specs.Table.{Table, Slot, published, bucket_stands, with_fresh_bucket, with_table_slot, with_flag}
-use Rattle.thread_local_schedule.specs.Local.{Doing, Gets, Started, Private, Written, Local, after_call, is_calling}
+use Rattle.thread_local_schedule.specs.Local.{Doing, Gets, Started, Private, Written, Local, after_call, may_look}
 use Rattle.thread_local_schedule.specs.Local.{learns, load_pointer, look_at_flag, make_bucket, offered, install_bucket}
 use Rattle.thread_local_schedule.specs.Local.{write_value, set_flag, reply, local_step, LocalStep, BeginGet, BeginGetOr}
 use Rattle.thread_local_schedule.specs.Local.{LoadPointer, LookAtFlag, MakeBucket, InstallBucket, WriteValue, SetFlag}
 use Rattle.thread_local_schedule.specs.Local.{Reply, doing_with_get, doing_with_get_or, begin_call, closure_at_missing}
 use Rattle.thread_local_schedule.specs.Local.{closure_at_vacant, ending_of, private_bucket, value_written}
-use Rattle.thread_local_schedule.specs.Fits.{named}
+use Rattle.thread_local_schedule.specs.Fits.{number_at}
 use Rattle.thread_local_schedule.specs.Numbers.{own_number, NumbersGo}
 use Rattle.thread_local_schedule.proofs.CallsLaws.{whatever_is_learnt}
-use Rattle.thread_local_schedule.proofs.TableLaws.{named-made, named-with_fresh_bucket, named-with_table_slot}
+use Rattle.thread_local_schedule.proofs.TableLaws.{number_at-made, number_at-with_fresh_bucket, number_at-with_table_slot}
 
 -- a step that makes no bucket, changes no pointer, and gives the call no bucket
 same_numbers : {V E : Type 0} (table after : Table V) (local then : Local V E)
-    → after.made ≡ table.made → ((bucket : ℕ) → named after bucket ≡ named table bucket)
+    → after.made ≡ table.made → ((bucket : ℕ) → number_at after bucket ≡ number_at table bucket)
     → ((number : ℕ) → own_number then.doing ≡ Some number → own_number local.doing ≡ Some number)
     → NumbersGo table local (after, then)
 same_numbers table after local then made names own = record {
   made = omega arith;
-  named_before = λ bucket number e. inl (sym (names bucket) ∙ e);
+  standing_before = λ bucket number e. inl (sym (names bucket) ∙ e);
   own_before = λ number e. inl (own number e);
 }
 
@@ -46,7 +46,7 @@ none_own-with_table_slot : {V E : Type 0} (table : Table V) (id : ℕ) (slot : S
     → NumbersGo table local (with_table_slot table id slot, then)
 none_own-with_table_slot table id slot local then none =
     same_numbers table (with_table_slot table id slot) local then
-    (made-with_table_slot table id slot) (λ bucket. named-with_table_slot table id bucket slot)
+    (made-with_table_slot table id slot) (λ bucket. number_at-with_table_slot table id bucket slot)
     (λ number e. cc)
 
 begin_get-numbers : {V E : Type 0} (table : Table V) (local : Local V E) (doing : Doing V E)
@@ -83,37 +83,37 @@ make_bucket-numbers : {V E : Type 0} (table : Table V) (local : Local V E) (refu
 make_bucket-numbers table local true (Started create) Missing = none_own table local _ refl
 make_bucket-numbers table local false (Started create) Missing = record {
   made = omega arith;
-  named_before = λ bucket number e. inl (sym (named-made table (suc table.made) bucket) ∙ e);
+  standing_before = λ bucket number e. inl (sym (number_at-made table (suc table.made) bucket) ∙ e);
   own_before = λ number e. inr ((let same : table.made ≡ number = cc in sym same), omega arith);
 }
 make_bucket-numbers table local refused _ _ = tt
 
 -- a pointer that isn't null after an offer led to the same bucket before, or is the one offered to,
 -- which leads to the offered bucket
-named-with_bucket_same : {V : Type 0} (table : Table V) (bucket number : ℕ)
-    → named (with_fresh_bucket table bucket number) bucket ≡ Some number
-unfolding named with_fresh_bucket
-named-with_bucket_same table bucket number = rw (eq-eqb bucket bucket refl) refl
+pub number_at-with_bucket_same : {V : Type 0} (table : Table V) (bucket number : ℕ)
+    → number_at (with_fresh_bucket table bucket number) bucket ≡ Some number
+unfolding number_at with_fresh_bucket
+number_at-with_bucket_same table bucket number = rw (eq-eqb bucket bucket refl) refl
 
 made-with_fresh_bucket : {V : Type 0} (table : Table V) (bucket number : ℕ)
     → (with_fresh_bucket table bucket number).made ≡ table.made
 unfolding with_fresh_bucket
 made-with_fresh_bucket table bucket number = refl
 
-named_by_offer : {V : Type 0} (table : Table V) (bucket number : ℕ) (b : Bool) (other k : ℕ)
-    → named (cond b table (with_fresh_bucket table bucket number)) other ≡ Some k
-    → (named table other ≡ Some k) ⊎ ((Some number ≡ Some k) × (bucket ≡ other))
-named_by_offer table bucket number true other k e = inl e
-named_by_offer table bucket number false other k e =
+numbered_by_offer : {V : Type 0} (table : Table V) (bucket number : ℕ) (b : Bool) (other k : ℕ)
+    → number_at (cond b table (with_fresh_bucket table bucket number)) other ≡ Some k
+    → (number_at table other ≡ Some k) ⊎ ((Some number ≡ Some k) × (bucket ≡ other))
+numbered_by_offer table bucket number true other k e = inl e
+numbered_by_offer table bucket number false other k e =
     ⊎_elim
     (λ here.
     inr (
-      sym (named-with_bucket_same table bucket number)
-          ∙ ap (named (with_fresh_bucket table bucket number)) here
+      sym (number_at-with_bucket_same table bucket number)
+          ∙ ap (number_at (with_fresh_bucket table bucket number)) here
           ∙ e,
       here,
     ))
-    (λ apart. inl (sym (named-with_fresh_bucket table bucket number other apart) ∙ e))
+    (λ apart. inl (sym (number_at-with_fresh_bucket table bucket number other apart) ∙ e))
     (cases_eq bucket other)
 
 made-offer : {V : Type 0} (table : Table V) (bucket number : ℕ) (b : Bool)
@@ -131,11 +131,11 @@ install_bucket-numbers table local (Private create number) at =
     (NumbersGo table local)
     (λ learnt. record {
       made = omega (arith, made-offer table (bucket_of local.id) number (bucket_stands table (bucket_of local.id)));
-      named_before = λ bucket k e.
+      standing_before = λ bucket k e.
           ⊎_elim
           (λ before. inl before)
           (λ own. inr (ap own_number at ∙ own.0, own.1, refl))
-          (named_by_offer table (bucket_of local.id) number (bucket_stands table (bucket_of local.id)) bucket k e);
+          (numbered_by_offer table (bucket_of local.id) number (bucket_stands table (bucket_of local.id)) bucket k e);
       own_before = λ k e. cc;
     })
 install_bucket-numbers table local _ at = tt
@@ -172,8 +172,8 @@ pub local_step-numbers : {V E : Type 0} (table : Table V) (local : Local V E) (s
 unfolding local_step
 local_step-numbers table local BeginGet = begin_get-numbers table local local.doing
 local_step-numbers table local (BeginGetOr create) = begin_get_or-numbers table local create local.doing
-local_step-numbers table local LoadPointer = load_pointer-numbers table local (is_calling local.doing)
-local_step-numbers table local LookAtFlag = look_at_flag-numbers table local (is_calling local.doing)
+local_step-numbers table local LoadPointer = load_pointer-numbers table local (may_look local.doing)
+local_step-numbers table local LookAtFlag = look_at_flag-numbers table local (may_look local.doing)
 local_step-numbers table local (MakeBucket refused) = make_bucket-numbers table local refused local.doing local.learnt
 local_step-numbers table local InstallBucket = install_bucket-numbers table local local.doing refl
 local_step-numbers table local WriteValue = write_value-numbers table local local.doing local.learnt

@@ -8,7 +8,7 @@ use Rattle.thread_local_schedule.specs.Core.{Core, is_alone}
 use Rattle.thread_local_schedule.proofs.OptionLaws.{if_enabled, unwrapped, if_there, if_then}
 use Rattle.thread_local_model.specs.Held.{is_granted}
 use Rattle.thread_local_schedule.specs.Events.{Event, TakeId, OfLocal, GiveBack, Forget, BeginWalk, OfWalk, EndWalk}
-use Rattle.thread_local_schedule.specs.Events.{Owner, OwnerCall, IterMut, Slots, ClearTable, IntoIter, DropTable}
+use Rattle.thread_local_schedule.specs.Events.{Owner, OwnerCall, RewriteTable, Slots, DrainTable, ClearTable, IntoIter, DropTable}
 use Rattle.thread_local_schedule.specs.Events.{take_id, with_step, of_local, is_idle, without_local, with_id_given}
 use Rattle.thread_local_schedule.specs.Events.{give_back, forget, with_walk, of_walk, after_owner, step_of, step}
 use Rattle.thread_local_schedule.specs.Events.{happens, is_enabled}
@@ -43,8 +43,9 @@ of_walk-open core number step e =
 after_owner-open : {V E : Type 0} (core : Core V E) (call : OwnerCall V) → core.ended ≡ false
     → ends_table {V = V} {E = E} (Owner call) ≡ false
     → IsOpen (after_owner core call)
-after_owner-open core (IterMut others) e f = e
+after_owner-open core (RewriteTable others) e f = e
 after_owner-open core Slots e f = e
+after_owner-open core DrainTable e f = e
 after_owner-open core ClearTable e f = e
 after_owner-open core IntoIter e f = cc
 after_owner-open core DropTable e f = cc

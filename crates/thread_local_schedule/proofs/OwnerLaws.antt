@@ -10,7 +10,7 @@ use Rattle.thread_local_model.proofs.PlaceLaws as place
 use Rattle.thread_local_model.proofs.WalkLaws.{walk_below-same, walk_below-none, walk_below-add}
 use Rattle.thread_local_schedule.specs.Table.{Bucket, Table, value_of, slot_of, slot_at, published, bucket_stands}
 use Rattle.thread_local_schedule.specs.OwnerWalk.{values_in, owner_walk_below, owner_walk, rewritten_slot, rewritten_bucket, rewritten}
-use Rattle.thread_local_schedule.specs.Fits.{IsWritten, AllWritten, named}
+use Rattle.thread_local_schedule.specs.Fits.{IsWritten, AllWritten, number_at}
 use Rattle.thread_local_schedule.proofs.WalkStepLaws.{shown_at_place}
 
 -- what an owner finds in a bucket is what its slots show, in order
@@ -98,16 +98,16 @@ unfolding bucket_stands rewritten
 bucket_stands-rewritten table others bucket = some-rewritten_bucket (λ index. others (id_at bucket index)) (table.pointers bucket)
 
 -- an owner's writes change no pointer
-named-rewritten_bucket : {V : Type 0} (others : ℕ → V → V) (pointer : Option _)
+number_at-rewritten_bucket : {V : Type 0} (others : ℕ → V → V) (pointer : Option _)
     → option_map (λ here. here.number) (rewritten_bucket others pointer)
     ≡ option_map (λ here. here.number) pointer
-named-rewritten_bucket others None = refl
-named-rewritten_bucket others (Some here) = refl
+number_at-rewritten_bucket others None = refl
+number_at-rewritten_bucket others (Some here) = refl
 
-pub named-rewritten : {V : Type 0} (table : Table V) (others : ℕ → V → V) (bucket : ℕ)
-    → named (rewritten table others) bucket ≡ named table bucket
-unfolding named rewritten
-named-rewritten table others bucket = named-rewritten_bucket (λ index. others (id_at bucket index)) (table.pointers bucket)
+pub number_at-rewritten : {V : Type 0} (table : Table V) (others : ℕ → V → V) (bucket : ℕ)
+    → number_at (rewritten table others) bucket ≡ number_at table bucket
+unfolding number_at rewritten
+number_at-rewritten table others bucket = number_at-rewritten_bucket (λ index. others (id_at bucket index)) (table.pointers bucket)
 
 pub made-rewritten : {V : Type 0} (table : Table V) (others : ℕ → V → V) → (rewritten table others).made ≡ table.made
 unfolding rewritten

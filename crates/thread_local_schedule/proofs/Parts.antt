@@ -14,18 +14,18 @@ use Rattle.thread_local_schedule.specs.Table.{Table, empty_slot, slot_at, made_t
 use Rattle.thread_local_schedule.specs.Local.{Local, fresh_local}
 use Rattle.thread_local_schedule.specs.SharedWalk.{SharedWalk}
 use Rattle.thread_local_schedule.specs.OwnerWalk.{rewritten}
-use Rattle.thread_local_schedule.specs.Cleared.{cleared}
+use Rattle.thread_local_schedule.specs.Cleared.{cleared, drained}
 use Rattle.thread_local_schedule.specs.Fits.{StepFits, with_value_if}
 use Rattle.thread_local_schedule.specs.WalkFits.{WalkFits}
 use Rattle.thread_local_schedule.proofs.TableLaws.{published_stands, slot_at-made_table, bucket_stands-made_table, published_unset}
 use Rattle.thread_local_schedule.proofs.LocalLaws.{other_fits}
 use Rattle.thread_local_schedule.proofs.WalkStepLaws.{walk_carried}
 use Rattle.thread_local_schedule.proofs.OwnerLaws.{published-rewritten, AllWritten-rewritten, bucket_stands-rewritten}
-use Rattle.thread_local_schedule.proofs.ClearedLaws.{slot_at-cleared, bucket_stands-cleared}
+use Rattle.thread_local_schedule.proofs.ClearedLaws.{slot_at-cleared, bucket_stands-cleared, slot_at-drained, bucket_stands-drained}
 use Rattle.thread_local_schedule.specs.Core.{Core, made_core, shadow, put, none_below, is_alone, peak}
 use Rattle.thread_local_schedule.proofs.HeldCounts.{held_below}
 use Rattle.thread_local_schedule.proofs.PutLaws.{put_cases, put_same, put_other, still}
-use Rattle.thread_local_schedule.proofs.Numbers.{stepped-NumbersFit, made-NumbersFit, rewritten-NumbersFit, cleared-NumbersFit}
+use Rattle.thread_local_schedule.proofs.Numbers.{stepped-NumbersFit, made-NumbersFit, rewritten-NumbersFit, cleared-NumbersFit, drained-NumbersFit}
 use Rattle.thread_local_schedule.specs.Calls.{HasLearnt}
 use Rattle.thread_local_schedule.specs.Numbers.{NumbersGo}
 use Rattle.thread_local_schedule.specs.CoreFits.{ManagerFits, TableFits, LiveFits, LocalsFit, WalksFit, CoreFits}
@@ -186,7 +186,7 @@ step-TableFits core local set after t s h = record {
       let same : 2 ^ bucket_of local.id ≡ 2 ^ b = ap (λ k. 2 ^ k) own in
       omega arith)
       (s.changes.installed b stood);
-  reserved = λ b l. (s.changes.naming b (h.reserved b l)).0;
+  reserved = λ b l. (s.changes.standing b (h.reserved b l)).0;
   below = λ id v e.
       ⊎_elim
       (λ before. h.below id v before)
@@ -370,6 +370,32 @@ rewritten-fits core others alone h = record {
   locals = no_locals-fit core (rewritten core.table others) core.manager.held alone h;
   walks = no_walks-fit core (rewritten core.table others) alone h;
   numbers = rewritten-NumbersFit core.table others core.locals h.numbers;
+}
+
+-- the table's part after a drain: the same buckets stand, and every slot is empty
+drained-TableFits : {V : Type 0} (table : Table V) (capacity peak : ℕ) → TableFits table capacity peak
+    → TableFits (drained table) capacity peak
+drained-TableFits table capacity peak h = record {
+  written = λ id t. absurd (false≢true (sym (ap (λ slot. slot.flag) (slot_at-drained table id)) ∙ t));
+  small = λ b t. h.small b (sym (bucket_stands-drained table b) ∙ t);
+  reserved = λ b l. bucket_stands-drained table b ∙ h.reserved b l;
+  below = λ id v e.
+      absurd
+      (none-some v
+      (sym (published_unset (drained table) id
+      (ap (λ slot. slot.flag) (slot_at-drained table id)))
+      ∙ e));
+}
+
+-- a core fits after a drain
+pub drained-fits : {V E : Type 0} (core : Core V E) → IsTrue (is_alone core) → CoreFits core
+    → CoreFits (record core { table = drained core.table })
+drained-fits core alone h = record {
+  manager = h.manager;
+  table = drained-TableFits core.table core.capacity (length core.manager.held) h.table;
+  locals = no_locals-fit core (drained core.table) core.manager.held alone h;
+  walks = no_walks-fit core (drained core.table) alone h;
+  numbers = drained-NumbersFit core.table core.locals h.numbers;
 }
 
 -- a core fits after a clear

@@ -1,11 +1,12 @@
--- A schedule has as many publishings since the last clear as the table has values.
+-- A schedule has as many publishings since the last clear or drain as the table has values.
 use Rattle.std.proofs.Common.{◌≡◌, ℕ, zero, suc, ◌+◌, ◌-◌, ◌^◌, ◌<◌, ◌≤◌, length, length-append, List, [], ◌∷◌, Option}
 use Rattle.std.proofs.Common.{Some, None, IfSome, refl, ap, sym, ◌∙◌, subst, arith, ⊎_elim}
 use Rattle.std.specs.Prelude.{option_to_list, option_map}
 use Rattle.std.proofs.lemmas.Bool.{cases_order, ne_eqb, eq-eqb}
 use Rattle.thread_local_model.specs.Walk.{walk_below, walk, with_value}
 use Rattle.thread_local_model.proofs.WalkLaws.{walk_below-same, walk_below-none}
-use Rattle.thread_local_model.specs.Sheet.{Sheet, Move, Take, Give, Publish, Keep, Rewrite, Clear, moved_if, IsAllowed}
+use Rattle.thread_local_model.specs.Sheet.{Sheet, Take, Give, Publish, Keep, Rewrite, Clear}
+use Rattle.thread_local_schedule.specs.TableMoves.{TableMove, OfSheet, Drain, moved_by_if, IsMoveAllowed}
 use Rattle.thread_local_schedule.specs.Core.{Core, made_core, shadow, peak}
 use Rattle.thread_local_schedule.specs.CoreFits.{CoreFits}
 use Rattle.thread_local_schedule.proofs.HeldCounts.{held_below}
@@ -60,24 +61,25 @@ as_many values others (suc n) =
     (ap (λ more. length (walk_below values n) + more) (one_as_many (others n) (values n)))
 
 -- a move changes the number of values as it changes the number of publishings
-counted : {V : Type 0} (sheet : Sheet V) (o : Option (Move V))
-    → ((id : ℕ) (v : V) → o ≡ Some (Publish id v) → id < 2 ^ 63 - 1) → IfSome o (IsAllowed sheet)
-    → length (walk (moved_if sheet o).values) ≡ publishings_with (length (walk sheet.values)) o
+counted : {V : Type 0} (sheet : Sheet V) (o : Option (TableMove V))
+    → ((id : ℕ) (v : V) → o ≡ Some (OfSheet (Publish id v)) → id < 2 ^ 63 - 1) → IfSome o (IsMoveAllowed sheet)
+    → length (walk (moved_by_if sheet o).values) ≡ publishings_with (length (walk sheet.values)) o
 unfolding walk
 counted sheet None low allowed = refl
-counted sheet (Some Take) low allowed = refl
-counted sheet (Some (Give id)) low allowed = refl
-counted sheet (Some (Publish id v)) low allowed = one_more sheet.values id v (2 ^ 63 - 1) allowed.0 (low id v refl)
-counted sheet (Some (Keep id v)) low allowed = refl
-counted sheet (Some (Rewrite others)) low allowed = as_many sheet.values others (2 ^ 63 - 1)
-counted sheet (Some Clear) low allowed = ap length (walk_below-none (λ _. None) (2 ^ 63 - 1) (λ id l. refl))
+counted sheet (Some (OfSheet Take)) low allowed = refl
+counted sheet (Some (OfSheet (Give id))) low allowed = refl
+counted sheet (Some (OfSheet (Publish id v))) low allowed = one_more sheet.values id v (2 ^ 63 - 1) allowed.0 (low id v refl)
+counted sheet (Some (OfSheet (Keep id v))) low allowed = refl
+counted sheet (Some (OfSheet (Rewrite others))) low allowed = as_many sheet.values others (2 ^ 63 - 1)
+counted sheet (Some (OfSheet Clear)) low allowed = ap length (walk_below-none (λ _. None) (2 ^ 63 - 1) (λ id l. refl))
+counted sheet (Some Drain) low allowed = ap length (walk_below-none (λ _. None) (2 ^ 63 - 1) (λ id l. refl))
 
 -- a value is published at a held id, so below 2^63 - 1
-low_id : {V E : Type 0} (core : Core V E) (o : Option (Move V)) → CoreFits core
-    → IfSome o (IsAllowed (shadow core)) → (id : ℕ) (v : V) → o ≡ Some (Publish id v)
+low_id : {V E : Type 0} (core : Core V E) (o : Option (TableMove V)) → CoreFits core
+    → IfSome o (IsMoveAllowed (shadow core)) → (id : ℕ) (v : V) → o ≡ Some (OfSheet (Publish id v))
     → id < 2 ^ 63 - 1
 low_id core o h allowed id v e =
-    let may = subst (λ m. IfSome m (IsAllowed (shadow core))) e allowed in
+    let may = subst (λ m. IfSome m (IsMoveAllowed (shadow core))) e allowed in
     omega (arith, h.manager.peak_ids, held_below core.manager.held id may.1)
 
 -- so after a schedule there are as many publishings as values

@@ -21,7 +21,7 @@ use Rattle.std.proofs.lemmas.Bool.{false≢true, eqb-true}
 use Rattle.std.specs.Prelude.{option_map}
 use Rattle.thread_local_schedule.specs.Table.{Table, Bucket}
 use Rattle.thread_local_schedule.specs.SharedWalk.{WalkStep}
-use Rattle.thread_local_schedule.specs.Fits.{named}
+use Rattle.thread_local_schedule.specs.Fits.{number_at}
 use Rattle.thread_local_schedule.specs.CoreFits.{CoreFits}
 use Rattle.thread_local_schedule.proofs.Clauses.{comes}
 use Rattle.std.proofs.lemmas.Option.{none-some}
@@ -117,16 +117,16 @@ pub newcomer_comes : {V E : Type 0} (core : Core V E) (event : Event V E) (n : �
     → newcomer core event ≡ Some local
 newcomer_comes core event n local h none at = ap (happens core event).locals (sym (comes core event n local h none at).1) ∙ at
 
--- a pointer's name is the number of the bucket that it leads to
-name_of : {V : Type 0} (here : Option (Bucket V)) (number : ℕ)
+-- the number at a place is that of the bucket that stands there
+number_of : {V : Type 0} (here : Option (Bucket V)) (number : ℕ)
     → (option_map (λ bucket. bucket.number) here ≡ Some number) ↔ IsSomeAnd here (λ bucket. bucket.number ≡ number)
-name_of None number = (λ e. absurd (none-some number e), λ e. absurd e)
-name_of (Some here) number = (λ e. cc, λ e. ap Some e)
+number_of None number = (λ e. absurd (none-some number e), λ e. absurd e)
+number_of (Some here) number = (λ e. cc, λ e. ap Some e)
 
-pub names : {V : Type 0} (table : Table V) (bucket number : ℕ)
-    → (named table bucket ≡ Some number) ↔ IsSomeAnd (table.pointers bucket) (λ here. here.number ≡ number)
-unfolding named
-names table bucket number = name_of (table.pointers bucket) number
+pub numbers : {V : Type 0} (table : Table V) (bucket number : ℕ)
+    → (number_at table bucket ≡ Some number) ↔ IsSomeAnd (table.pointers bucket) (λ here. here.number ≡ number)
+unfolding number_at
+numbers table bucket number = number_of (table.pointers bucket) number
 
 -- no call begins or ends
 abbrev Stay : {V E : Type 0} → Local V E → Local V E → Type 0

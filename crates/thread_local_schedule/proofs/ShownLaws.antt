@@ -2,7 +2,8 @@
 use Rattle.std.proofs.Common.{◌≡◌, ℕ, ◌-◌, ◌^◌, ◌<◌, ◌≤◌, ◌⊎◌, inl, inr, Bool, true, false, cond, eqb, List, [], length}
 use Rattle.std.proofs.Common.{set, get_or, Option, Some, None, is_some, IsTrue, refl, ap, sym, ◌∙◌, subst, arith}
 use Rattle.std.proofs.Common.{⊎_elim, pow_pos, length-set}
-use Rattle.std.specs.Prelude.{nat_lt, option_map, unwrap_or}
+use Rattle.std.specs.Prelude.{nat_lt, ◌∷◌, map, option_map, unwrap_or}
+use Rattle.std.specs.List.{range_with_len}
 use Rattle.std.proofs.lemmas.Bool.{cases_eq, cases_lt, eq-eqb, ne_eqb, lt-ltb, le-ltb, false≢true}
 use Rattle.std.proofs.lemmas.List.{ext_get_or, get_or-set_same, get_or-set_other, get_or_past, length-replicate, get_or-replicate}
 use Rattle.std.proofs.lemmas.List.FromFn.{length-map-range_with_len, get_or-map-range_with_len}
@@ -14,7 +15,7 @@ use Rattle.thread_local_model.proofs.CapacityLaws as reserve
 use Rattle.thread_local_model.specs.Walk.{walk}
 use Rattle.thread_local_model.proofs.PlaceLaws as place
 use Rattle.thread_local_model.proofs.WalkLaws.{walk_below-same}
-use Rattle.thread_local_model.specs.Owner.{with_bucket, with_published}
+use Rattle.thread_local_model.specs.Owner.{with_bucket, with_published, emptied}
 use Rattle.thread_local_model.proofs.RowLaws.{row-with_row-same, row-with_row-other}
 use Rattle.thread_local_model.specs.Refilled.{refilled_slot, refilled_row, refilled}
 use Rattle.thread_local_model.proofs.FillingLaws.{contents-empty}
@@ -22,7 +23,7 @@ use Rattle.thread_local_model.proofs.RefilledLaws.{length-refilled_row, length-r
 use Rattle.thread_local_schedule.specs.Table.{Slot, Bucket, fresh_bucket, Table, value_of, slot_of, slot_at, published}
 use Rattle.thread_local_schedule.specs.Table.{bucket_stands, made_table, with_fresh_bucket, with_slot_of}
 use Rattle.thread_local_schedule.specs.Table.{with_table_slot, with_flag}
-use Rattle.thread_local_schedule.specs.Cleared.{emptied_bucket, cleared}
+use Rattle.thread_local_schedule.specs.Cleared.{emptied_bucket, cleared, drained}
 use Rattle.thread_local_schedule.specs.OwnerWalk.{owner_walk, rewritten_slot, rewritten_bucket, rewritten}
 use Rattle.thread_local_schedule.proofs.TableLaws.{bucket_stands-made_table, slot_at-made_table}
 use Rattle.thread_local_schedule.proofs.OwnerLaws.{owner_walk-walk, value_of-rewritten_slot, slot_of-rewritten_bucket}
@@ -364,3 +365,27 @@ shown-cleared table capacity stood =
     same_contents (shown (cleared table capacity)) (shown (made_table capacity))
     (rows-shown (cleared table capacity)) (rows-shown (made_table capacity))
     (λ b low. row-cleared table capacity b (stood b) low ∙ sym (row-made _ capacity b low))
+
+-- a drain leaves the same rows without their values
+map-map : {A B C : Type 0} (f : A → B) (g : B → C) (xs : List A) → map (λ x. g (f x)) xs ≡ map g (map f xs)
+map-map f g [] = refl
+map-map f g (x ∷ xs) = ap (λ ys. g (f x) ∷ ys) (map-map f g xs)
+
+map-same : {A B : Type 0} (f g : A → B) (xs : List A) → ((x : A) → f x ≡ g x) → map f xs ≡ map g xs
+map-same f g [] same = refl
+map-same f g (x ∷ xs) same = rw (same x, map-same f g xs same) refl
+
+shown_row-emptied : {V : Type 0} (pointer : Option (Bucket V)) (bucket : ℕ)
+    → shown_row (emptied_bucket pointer) bucket ≡ map (λ _. None) (shown_row pointer bucket)
+shown_row-emptied None bucket = refl
+shown_row-emptied (Some here) bucket =
+    map-map (λ index. value_of (here.slot index)) (λ _. None) (range_with_len 0 (2 ^ bucket))
+
+pub shown-drained : {V : Type 0} (table : Table V) → shown (drained table) ≡ emptied (shown table)
+unfolding shown drained
+shown-drained table =
+    ap (λ rows. record { rows = rows })
+    (map-same (λ bucket. shown_row (emptied_bucket (table.pointers bucket)) bucket)
+    (λ bucket. map (λ _. None) (shown_row (table.pointers bucket) bucket))
+    (range_with_len 0 63) (λ bucket. shown_row-emptied (table.pointers bucket) bucket)
+    ∙ map-map (λ bucket. shown_row (table.pointers bucket) bucket) (map (λ _. None)) (range_with_len 0 63))

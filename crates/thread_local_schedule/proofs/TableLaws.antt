@@ -9,7 +9,7 @@ use Rattle.thread_local_schedule.specs.Table.{published, bucket_stands, with_fre
 use Rattle.thread_local_schedule.specs.Table.{with_table_slot, made_table}
 use Rattle.thread_local_model.specs.Capacity.{reserves_bucket}
 use Rattle.thread_local_schedule.specs.Local.{offered}
-use Rattle.thread_local_schedule.specs.Fits.{named}
+use Rattle.thread_local_schedule.specs.Fits.{number_at, IsSameBucket}
 use Rattle.std.specs.Prelude.{option_map}
 
 pub same_function : {A B : Type 0} (f g : A → B) → ((x : A) → f x ≡ g x) → f ≡ g
@@ -167,44 +167,44 @@ pub bucket_stands-made : {V : Type 0} (table : Table V) (made bucket : ℕ)
 unfolding bucket_stands
 bucket_stands-made table made bucket = refl
 
-pub named-made : {V : Type 0} (table : Table V) (made bucket : ℕ) → named (record table { made = made }) bucket ≡ named table bucket
-unfolding named
-named-made table made bucket = refl
+pub number_at-made : {V : Type 0} (table : Table V) (made bucket : ℕ) → number_at (record table { made = made }) bucket ≡ number_at table bucket
+unfolding number_at
+number_at-made table made bucket = refl
 
 -- a changed slot leaves every pointer at its bucket
-named-with_table_slot_of : {V : Type 0} (pointer : Option (Bucket V)) (index : ℕ) (slot : Slot V)
+number_at-with_table_slot_of : {V : Type 0} (pointer : Option (Bucket V)) (index : ℕ) (slot : Slot V)
     → option_map (λ here. here.number) (with_slot_of pointer index slot)
     ≡ option_map (λ here. here.number) pointer
-named-with_table_slot_of None index slot = refl
-named-with_table_slot_of (Some bucket) index slot = refl
+number_at-with_table_slot_of None index slot = refl
+number_at-with_table_slot_of (Some bucket) index slot = refl
 
-pub named-with_table_slot : {V : Type 0} (table : Table V) (id bucket : ℕ) (slot : Slot V)
-    → named (with_table_slot table id slot) bucket ≡ named table bucket
-unfolding named with_table_slot
-named-with_table_slot table id bucket slot =
+pub number_at-with_table_slot : {V : Type 0} (table : Table V) (id bucket : ℕ) (slot : Slot V)
+    → number_at (with_table_slot table id slot) bucket ≡ number_at table bucket
+unfolding number_at with_table_slot
+number_at-with_table_slot table id bucket slot =
     same-cond (λ pointer. option_map (λ here. here.number) pointer) (eqb (bucket_of id) bucket)
     (with_slot_of (table.pointers bucket) (index_of id) slot) (table.pointers bucket)
-    (named-with_table_slot_of (table.pointers bucket) (index_of id) slot)
+    (number_at-with_table_slot_of (table.pointers bucket) (index_of id) slot)
 
 -- an offer leaves every other pointer at its bucket, and its own if it isn't null
-pub named-with_fresh_bucket : {V : Type 0} (table : Table V) (bucket number other : ℕ)
+pub number_at-with_fresh_bucket : {V : Type 0} (table : Table V) (bucket number other : ℕ)
     → (bucket ≡ other → ⊥)
-    → named (with_fresh_bucket table bucket number) other ≡ named table other
-unfolding named with_fresh_bucket
-named-with_fresh_bucket table bucket number other apart = rw (ne_eqb bucket other apart) refl
+    → number_at (with_fresh_bucket table bucket number) other ≡ number_at table other
+unfolding number_at with_fresh_bucket
+number_at-with_fresh_bucket table bucket number other apart = rw (ne_eqb bucket other apart) refl
 
-named-offer : {V : Type 0} (table : Table V) (bucket number other : ℕ) (b : Bool)
+number_at-offer : {V : Type 0} (table : Table V) (bucket number other : ℕ) (b : Bool)
     → bucket_stands table bucket ≡ b → IsTrue (bucket_stands table other)
-    → named (cond b table (with_fresh_bucket table bucket number)) other ≡ named table other
-named-offer table bucket number other true t stood = refl
-named-offer table bucket number other false f stood =
-    named-with_fresh_bucket table bucket number other
+    → number_at (cond b table (with_fresh_bucket table bucket number)) other ≡ number_at table other
+number_at-offer table bucket number other true t stood = refl
+number_at-offer table bucket number other false f stood =
+    number_at-with_fresh_bucket table bucket number other
     (λ same. false≢true (sym f ∙ ap (bucket_stands table) same ∙ stood))
 
-pub named-offered : {V : Type 0} (table : Table V) (bucket number other : ℕ)
+pub number_at-offered : {V : Type 0} (table : Table V) (bucket number other : ℕ)
     → IsTrue (bucket_stands table other)
-    → named (offered table bucket number) other ≡ named table other
-named-offered table bucket number other stood = named-offer table bucket number other (bucket_stands table bucket) refl stood
+    → number_at (offered table bucket number) other ≡ number_at table other
+number_at-offered table bucket number other stood = number_at-offer table bucket number other (bucket_stands table bucket) refl stood
 
 -- the table of a capacity has a bucket for each binary digit, and empty slots
 slot_of-made : {V : Type 0} (b : Bool) (number index : ℕ)
@@ -230,6 +230,39 @@ some-mapped : {A B : Type 0} (f : A → B) (o : Option A) (b : B) → option_map
 some-mapped f None b e = cc
 some-mapped f (Some a) b e = refl
 
-pub named_stands : {V : Type 0} (table : Table V) (bucket k : ℕ) → named table bucket ≡ Some k → IsTrue (bucket_stands table bucket)
-unfolding named bucket_stands
-named_stands table bucket k e = some-mapped (λ here. here.number) (table.pointers bucket) k e
+pub numbered_stands : {V : Type 0} (table : Table V) (bucket k : ℕ) → number_at table bucket ≡ Some k → IsTrue (bucket_stands table bucket)
+unfolding number_at bucket_stands
+numbered_stands table bucket k e = some-mapped (λ here. here.number) (table.pointers bucket) k e
+
+-- a bucket that stands keeps its number where each number of it stays
+numbered : {V : Type 0} (old new : Table V) (bucket : ℕ) (pointer : Option (Bucket V))
+    → option_map (λ here. here.number) pointer ≡ number_at old bucket
+    → IsTrue (is_some pointer)
+    → ((k : ℕ) → number_at old bucket ≡ Some k → number_at new bucket ≡ Some k)
+    → IsSameBucket old new bucket
+numbered old new bucket None e t stays = absurd (false≢true t)
+numbered old new bucket (Some here) e t stays =
+    let then = stays here.number (sym e) in (numbered_stands new bucket here.number then, then ∙ e)
+
+pub same_bucket : {V : Type 0} (old new : Table V) (bucket : ℕ)
+    → ((k : ℕ) → number_at old bucket ≡ Some k → number_at new bucket ≡ Some k)
+    → IsTrue (bucket_stands old bucket)
+    → IsSameBucket old new bucket
+unfolding number_at bucket_stands
+same_bucket old new bucket stays t = numbered old new bucket (old.pointers bucket) refl t stays
+
+-- a bucket that stands is at no other place
+pub at_one_place : {V : Type 0} (table : Table V) (a b : ℕ)
+    → ((k : ℕ) → number_at table a ≡ Some k → number_at table b ≡ Some k → a ≡ b)
+    → IsTrue (bucket_stands table a) → number_at table a ≡ number_at table b
+    → a ≡ b
+unfolding number_at bucket_stands
+at_one_place table a b apart t e = placed table a b (table.pointers a) refl t e apart
+  where
+    placed : {V : Type 0} (table : Table V) (a b : ℕ) (pointer : Option (Bucket V))
+        → option_map (λ here. here.number) pointer ≡ number_at table a
+        → IsTrue (is_some pointer) → number_at table a ≡ number_at table b
+        → ((k : ℕ) → number_at table a ≡ Some k → number_at table b ≡ Some k → a ≡ b)
+        → a ≡ b
+    placed table a b None at t e apart = absurd (false≢true t)
+    placed table a b (Some here) at t e apart = apart here.number (sym at) (sym e ∙ sym at)

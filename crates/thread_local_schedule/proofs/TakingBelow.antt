@@ -4,12 +4,13 @@ use Rattle.std.proofs.Common.{◌≡◌, ℕ, ◌-◌, ◌*◌, ◌^◌, ◌<◌
 use Rattle.std.proofs.Common.{IsTrue, refl, ap, ◌∙◌, arith, ⊎_elim}
 use Rattle.std.proofs.lemmas.Bool.{cases_Bool, lt-ltb, and_left, and_right}
 use Rattle.thread_local_model.specs.Held.{held_count}
-use Rattle.thread_local_model.specs.Sheet.{Move, Take, Give, Publish}
+use Rattle.thread_local_model.specs.Sheet.{Take, Give, Publish}
+use Rattle.thread_local_schedule.specs.TableMoves.{TableMove, OfSheet}
 use Rattle.thread_local_model.specs.Capacity.{reserved_slots}
 use Rattle.thread_local_schedule.specs.Local.{Local, LocalStep, MakeBucket}
 use Rattle.thread_local_schedule.specs.Fits.{value_set}
 use Rattle.thread_local_schedule.specs.Core.{Core, made_core, new_core, shadow, installed_slots, peak}
-use Rattle.thread_local_schedule.specs.Events.{Event, TakeId, OfLocal, GiveBack, Owner, IterMut, ClearTable, step_of}
+use Rattle.thread_local_schedule.specs.Events.{Event, TakeId, OfLocal, GiveBack, Owner, RewriteTable, DrainTable, ClearTable, step_of}
 use Rattle.thread_local_schedule.specs.Events.{step, is_enabled, happens, run}
 use Rattle.thread_local_schedule.specs.Schedule.{publishing, move, move_of, is_take, refuses, is_refused}
 use Rattle.thread_local_schedule.proofs.HeldCounts.{held_below}
@@ -25,18 +26,19 @@ use Rattle.thread_local_schedule.proofs.OptionLaws.{not_mapped, not_if, none_ena
 use Rattle.thread_local_model.proofs.CapacityLaws as reserve
 
 -- the only move of a Local's step is a publishing
-not_published : {V E : Type 0} (o : Option (Local V E)) (step : LocalStep V E) (m : Move V)
-    → ((id : ℕ) (v : V) → Publish id v ≡ m → ⊥) → publishing o step ≡ Some m
+not_published : {V E : Type 0} (o : Option (Local V E)) (step : LocalStep V E) (m : TableMove V)
+    → ((id : ℕ) (v : V) → OfSheet (Publish id v) ≡ m → ⊥) → publishing o step ≡ Some m
     → ⊥
 not_published None step m other e = cc
-not_published (Some local) step m other e = not_mapped (value_set local.doing step) (λ v. Publish local.id v) m (λ v. other local.id v) e
+not_published (Some local) step m other e = not_mapped (value_set local.doing step) (λ v. OfSheet (Publish local.id v)) m (λ v. other local.id v) e
 
 -- an event that is no take makes no move of a take
-no_take : {V E : Type 0} (core : Core V E) (event : Event V E) → is_take event ≡ false → move_of core event ≡ Some Take → ⊥
+no_take : {V E : Type 0} (core : Core V E) (event : Event V E) → is_take event ≡ false → move_of core event ≡ Some (OfSheet Take) → ⊥
 no_take core (TakeId refused growth) f e = cc
-no_take core (OfLocal number step) f e = not_published (core.locals number) step Take (λ id v same. cc) e
-no_take core (GiveBack number) f e = not_mapped (core.locals number) (λ local. Give local.id) Take (λ local same. cc) e
-no_take core (Owner (IterMut others)) f e = cc
+no_take core (OfLocal number step) f e = not_published (core.locals number) step (OfSheet Take) (λ id v same. cc) e
+no_take core (GiveBack number) f e = not_mapped (core.locals number) (λ local. OfSheet (Give local.id)) (OfSheet Take) (λ local same. cc) e
+no_take core (Owner (RewriteTable others)) f e = cc
+no_take core (Owner DrainTable) f e = cc
 no_take core (Owner ClearTable) f e = cc
 no_take core _ f e = cc
 
@@ -52,7 +54,7 @@ event_peak p core event h few l =
     omega (
       arith,
       same_peak (shadow core) (move core event)
-          (not_if (is_enabled core event) (move_of core event) Take (no_take core event f)),
+          (not_if (is_enabled core event) (move_of core event) (OfSheet Take) (no_take core event f)),
     ))
     (cases_Bool (is_take event))
 

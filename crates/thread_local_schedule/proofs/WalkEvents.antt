@@ -4,8 +4,8 @@ use Rattle.std.proofs.Common.{refl, ap, sym, ◌∙◌, subst, arith, ⊎_elim}
 use Rattle.std.specs.Prelude.{option_map, option_and_then, unwrap_or, suc, ◌++◌, [], ◌∷◌, ◌==◌, if◌then◌else◌}
 use Rattle.std.proofs.lemmas.Option.{none-some}
 use Rattle.std.proofs.lemmas.Bool.{false≢true, eqb-false, cond_both}
-use Rattle.thread_local_model.specs.Cursor.{is_complete, cursor_id}
-use Rattle.thread_local_schedule.specs.Table.{Table}
+use Rattle.thread_local_model.specs.Cursor.{is_complete, cursor_id, after_load, after_look}
+use Rattle.thread_local_schedule.specs.Table.{Table, bucket_stands}
 use Rattle.thread_local_schedule.specs.Local.{LocalStep, local_step}
 use Rattle.thread_local_schedule.specs.SharedWalk.{SharedWalk, fresh_walk, with_pair, WalkStep, Load, Look, walk_step, next_step}
 use Rattle.thread_local_schedule.specs.WalkFits.{Adds}
@@ -16,7 +16,7 @@ use Rattle.thread_local_schedule.proofs.PutLaws.{put_cases, put_same, put_other,
 use Rattle.thread_local_schedule.proofs.OptionLaws.{if_enabled, if_there, if_then}
 use Rattle.thread_local_model.specs.Held.{is_granted}
 use Rattle.thread_local_schedule.specs.Events.{Event, TakeId, OfLocal, GiveBack, Forget, BeginWalk, OfWalk, EndWalk}
-use Rattle.thread_local_schedule.specs.Events.{Owner, OwnerCall, IterMut, Slots, ClearTable, IntoIter, DropTable}
+use Rattle.thread_local_schedule.specs.Events.{Owner, OwnerCall, RewriteTable, Slots, DrainTable, ClearTable, IntoIter, DropTable}
 use Rattle.thread_local_schedule.specs.Events.{take_id, with_step, of_local, is_idle, without_local, with_id_given}
 use Rattle.thread_local_schedule.specs.Events.{give_back, forget, with_walk, begin_walk, of_walk, without_walk}
 use Rattle.thread_local_schedule.specs.Events.{after_owner, step_of, step, is_enabled, happens}
@@ -96,8 +96,9 @@ end_walk-says core number = record {
 }
 
 after_owner-says : {V E : Type 0} (core : Core V E) (call : OwnerCall V) → WalksSay core (Owner call) (after_owner core call)
-after_owner-says core (IterMut others) = leaves core (Owner (IterMut others)) _ (λ n. refl)
+after_owner-says core (RewriteTable others) = leaves core (Owner (RewriteTable others)) _ (λ n. refl)
 after_owner-says core Slots = leaves core (Owner Slots) core (λ n. refl)
+after_owner-says core DrainTable = leaves core (Owner DrainTable) _ (λ n. refl)
 after_owner-says core ClearTable = leaves core (Owner ClearTable) _ (λ n. refl)
 after_owner-says core IntoIter = leaves core (Owner IntoIter) _ (λ n. refl)
 after_owner-says core DropTable = leaves core (Owner DropTable) _ (λ n. refl)
@@ -185,6 +186,21 @@ pub look_adds : {V E : Type 0} (core : Core V E) (n : ℕ) (before : SharedWalk 
     × (after.read ≡ before.read ++ id ∷ []) × (after.loads ≡ before.loads))
 look_adds core n before h t at =
     some_and _ (Adds core.table Look before) _ (λ after a. (a.first, a.given, a.read, a.loads)) (adds core n Look before h t at)
+
+-- and its cursor goes on as its step says
+pub load_moves : {V E : Type 0} (core : Core V E) (n : ℕ) (before : SharedWalk V) → CoreFits core
+    → IsTrue (is_enabled core (OfWalk n Load))
+    → core.walks n ≡ Some before
+    → IsSomeAnd ((happens core (OfWalk n Load)).walks n) (λ after.
+    after.cursor ≡ after_load before.cursor (bucket_stands core.table before.cursor.bucket))
+load_moves core n before h t at = some_and _ (Adds core.table Load before) _ (λ after a. a.cursor) (adds core n Load before h t at)
+
+pub look_moves : {V E : Type 0} (core : Core V E) (n : ℕ) (before : SharedWalk V) → CoreFits core
+    → IsTrue (is_enabled core (OfWalk n Look))
+    → core.walks n ≡ Some before
+    → IsSomeAnd ((happens core (OfWalk n Look)).walks n) (λ after.
+    after.cursor ≡ after_look before.cursor (is_some ((shadow core).values (cursor_id before.cursor))))
+look_moves core n before h t at = some_and _ (Adds core.table Look before) _ (λ after a. a.cursor) (adds core n Look before h t at)
 
 -- a walk that isn't complete can make a step
 loads : {V : Type 0} (table : Table V) (walk : SharedWalk V) (looks : Bool)

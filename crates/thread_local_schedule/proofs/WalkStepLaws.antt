@@ -152,10 +152,10 @@ none_missing table bucket index id v none i low high e =
 
 -- a load passes no id with a published value
 load_passes : {V : Type 0} (table : Table V) (first : ℕ → Option V) (given : List (ℕ × V))
-    (read : List ℕ) (cursor : Cursor) (named : Bool)
-    → bucket_stands table cursor.bucket ≡ named
+    (read : List ℕ) (cursor : Cursor) (number_at : Bool)
+    → bucket_stands table cursor.bucket ≡ number_at
     → cursor.index ≤ 2 ^ cursor.bucket → RecordFits table first given read (cursor_id cursor)
-    → RecordFits table first given read (cursor_id (after_load cursor named))
+    → RecordFits table first given read (cursor_id (after_load cursor number_at))
 load_passes table first given read cursor true e i r = subst (RecordFits table first given read) (sym (cursors.at_place-id cursor)) r
 load_passes table first given read cursor false e i r =
     let some = pow_pos cursor.bucket in
@@ -264,7 +264,7 @@ pub walk_step-adds : {V : Type 0} (table : Table V) (walk : SharedWalk V) (step 
 unfolding walk_step
 walk_step-adds table walk Load h =
     cond_both {A = Option (SharedWalk _)} (may_load walk.cursor) (Some (walk_load table walk)) None (λ o. IfSome o (Loads table walk))
-    (λ _. record { first = refl; given = refl; read = refl; loads = refl })
+    (λ _. record { first = refl; given = refl; read = refl; loads = refl; cursor = refl })
     (λ _. tt)
 walk_step-adds table walk Look h =
     cond_both {A = Option (SharedWalk _)} walk.cursor.looks (Some (walk_look table walk)) None (λ o. IfSome o (Looks table walk))
@@ -276,6 +276,10 @@ walk_step-adds table walk Look h =
           (shown_at_place table walk.cursor.bucket walk.cursor.index (h.cursor.looks_inside t)));
       read = refl;
       loads = refl;
+      cursor =
+          ap (λ shown. after_look walk.cursor (is_some shown))
+          (sym
+          (shown_at_place table walk.cursor.bucket walk.cursor.index (h.cursor.looks_inside t)));
     })
     (λ _. tt)
 

@@ -1,8 +1,9 @@
--- What the bounds count over a schedule: the most ids held at once, and the publishings since a
--- clear.
+-- What the bounds count over a schedule: the most ids held at once since a clear, and the
+-- publishings since a clear or a drain.
 use Rattle.std.specs.Prelude.{◌≡◌, ℕ, suc, ◌<◌, max, false, ◌&&◌, List, [], ◌∷◌, Option, Some, IsTrue, ⊤, if◌then◌else◌}
 use Rattle.thread_local_model.specs.Held.{held_count}
-use Rattle.thread_local_model.specs.Sheet.{Move, Publish, Clear}
+use Rattle.thread_local_model.specs.Sheet.{Publish, Clear}
+use Rattle.thread_local_schedule.specs.TableMoves.{TableMove, OfSheet, Drain}
 use Rattle.thread_local_schedule.specs.Core.{Core}
 use Rattle.thread_local_schedule.specs.Events.{Event, is_enabled, happens}
 use Rattle.thread_local_schedule.specs.Schedule.{move, is_take, is_clear, is_refused}
@@ -21,10 +22,12 @@ most_after_all most core (event ∷ events) = most_after_all (most_after most co
 abbrev pub most_held : {V E : Type 0} → Core V E → List (Event V E) → ℕ
 most_held core events = most_after_all 0 core events
 
--- the number of publishings after a move, given the number before it: a clear starts anew
-abbrev pub publishings_with : {V : Type 0} → ℕ → Option (Move V) → ℕ
-publishings_with n (Some (Publish id value)) = suc n
-publishings_with n (Some Clear) = 0
+-- the number of publishings after a move, given the number before it: a clear and a drain start
+-- anew
+abbrev pub publishings_with : {V : Type 0} → ℕ → Option (TableMove V) → ℕ
+publishings_with n (Some (OfSheet (Publish id value))) = suc n
+publishings_with n (Some (OfSheet Clear)) = 0
+publishings_with n (Some Drain) = 0
 publishings_with n move = n
 
 -- the number of publishings after these events, given the number before them
@@ -32,7 +35,8 @@ abbrev pub publishings_after_all : {V E : Type 0} → ℕ → Core V E → List 
 publishings_after_all n core [] = n
 publishings_after_all n core (event ∷ events) = publishings_after_all (publishings_with n (move core event)) (happens core event) events
 
--- the number of publishings since a table without values was made, or cleared by these events
+-- the number of publishings since a table without values was made, or cleared or drained by these
+-- events
 abbrev pub publishings : {V E : Type 0} → Core V E → List (Event V E) → ℕ
 publishings core events = publishings_after_all 0 core events
 

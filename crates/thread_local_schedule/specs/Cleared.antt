@@ -1,4 +1,5 @@
--- The table after a clear: the reserved buckets, with empty slots.
+-- The table after a clear, which leaves the reserved buckets, and after a drain, which leaves every
+-- bucket: their slots are empty.
 use Rattle.std.specs.Prelude.{ℕ, Option, Some, None, if◌then◌else◌}
 use Rattle.thread_local_model.specs.Capacity.{reserves_bucket}
 use Rattle.thread_local_schedule.specs.Table.{Bucket, fresh_bucket, Table}
@@ -15,3 +16,7 @@ unfoldable pub cleared : {V : Type 0} → Table V → ℕ → Table V
 cleared table capacity = record table {
   pointers = λ bucket. if reserves_bucket capacity bucket then emptied_bucket (table.pointers bucket) else None;
 }
+
+-- the table after a drain: each bucket that stood still stands, with empty slots
+unfoldable pub drained : {V : Type 0} → Table V → Table V
+drained table = record table { pointers = λ bucket. emptied_bucket (table.pointers bucket) }

@@ -6,7 +6,7 @@ use Rattle.thread_local_model.specs.Capacity.{reserves_bucket, is_reserved}
 use Rattle.thread_local_schedule.specs.Table.{Table, published, bucket_stands}
 use Rattle.thread_local_schedule.specs.Local.{Local}
 use Rattle.thread_local_schedule.specs.SharedWalk.{SharedWalk}
-use Rattle.thread_local_schedule.specs.Fits.{AllWritten, LocalFits, named}
+use Rattle.thread_local_schedule.specs.Fits.{AllWritten, LocalFits, number_at}
 use Rattle.thread_local_schedule.specs.Calls.{HasLearnt}
 use Rattle.thread_local_schedule.specs.Numbers.{own_number}
 use Rattle.thread_local_schedule.specs.WalkFits.{WalkFits}
@@ -48,17 +48,17 @@ pub record WalksFit {V : Type 0} (table : Table V) (walks : ℕ → Option (Shar
   pub each : (n : ℕ) (walk : SharedWalk V) → walks n ≡ Some walk → WalkFits table walk
   pub none_from : (n : ℕ) → walked ≤ n → walks n ≡ None
 
--- the buckets that pointers lead to, and those that calls own, have numbers already given out, and
--- no two have the same
+-- the buckets that stand, and those that calls own, have numbers already given out, and no two have
+-- the same
 pub record NumbersFit {V E : Type 0} (table : Table V) (locals : ℕ → Option (Local V E)) : Type 0 where
-  pub named_made : (bucket number : ℕ) → named table bucket ≡ Some number → number < table.made
-  pub named_apart : (a b number : ℕ) → named table a ≡ Some number → named table b ≡ Some number → a ≡ b
+  pub standing_made : (bucket number : ℕ) → number_at table bucket ≡ Some number → number < table.made
+  pub standing_apart : (a b number : ℕ) → number_at table a ≡ Some number → number_at table b ≡ Some number → a ≡ b
   pub own_made : (n : ℕ) (local : Local V E) (number : ℕ) → locals n ≡ Some local
       → own_number local.doing ≡ Some number
       → number < table.made
-  pub own_unnamed : (n : ℕ) (local : Local V E) (number bucket : ℕ) → locals n ≡ Some local
+  pub own_nowhere : (n : ℕ) (local : Local V E) (number bucket : ℕ) → locals n ≡ Some local
       → own_number local.doing ≡ Some number
-      → named table bucket ≢ Some number
+      → number_at table bucket ≢ Some number
   pub own_apart : (m n : ℕ) (a b : Local V E) (number : ℕ) → locals m ≡ Some a → locals n ≡ Some b
       → own_number a.doing ≡ Some number → own_number b.doing ≡ Some number → m ≡ n
 

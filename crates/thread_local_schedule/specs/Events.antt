@@ -7,13 +7,17 @@ use Rattle.thread_local_schedule.specs.Local.{Doing, Gets, Local, fresh_local, L
 use Rattle.thread_local_schedule.specs.Table.{Table}
 use Rattle.thread_local_schedule.specs.SharedWalk.{SharedWalk, fresh_walk, WalkStep, walk_step}
 use Rattle.thread_local_schedule.specs.OwnerWalk.{rewritten}
-use Rattle.thread_local_schedule.specs.Cleared.{cleared}
+use Rattle.thread_local_schedule.specs.Cleared.{cleared, drained}
 use Rattle.thread_local_schedule.specs.Core.{Core, shadow, put, is_alone}
 
--- what an exclusive owner does
+-- What an exclusive owner does: values are replaced, by `iter_mut`, `entries_mut` or `get_mut`;
+-- slots are counted; `drain` takes all values out; `clear`; the table is taken apart, by
+-- `into_iter`, `into_entries` or `into_buckets`; or it is dropped. There is no event for
+-- `buckets_mut`, which may leave any buckets: the schedules are of tables that never lend theirs.
 pub data OwnerCall (V : Type 0) : Type 0 where
-  IterMut : (others : ℕ → V → V) → OwnerCall V
+  RewriteTable : (others : ℕ → V → V) → OwnerCall V
   Slots : OwnerCall V
+  DrainTable : OwnerCall V
   ClearTable : OwnerCall V
   IntoIter : OwnerCall V
   DropTable : OwnerCall V
@@ -63,11 +67,13 @@ with_walk core number walk = record core { walks = put core.walks number (Some w
 abbrev pub without_walk : {V E : Type 0} → Core V E → ℕ → Core V E
 without_walk core number = record core { walks = put core.walks number None }
 
--- the core after an owner's call: `iter_mut` replaces values; `clear` leaves no id held and the
--- table cleared, with the same room and capacity; `into_iter` and the drop end the table
+-- the core after an owner's call: a rewrite replaces values; a drain leaves the buckets without
+-- values, and the ids as they are; a clear leaves no id held and the table cleared, with the same
+-- room and capacity; `into_iter` and the drop end the table
 abbrev pub after_owner : {V E : Type 0} → Core V E → OwnerCall V → Core V E
-after_owner core (IterMut others) = record core { table = rewritten core.table others }
+after_owner core (RewriteTable others) = record core { table = rewritten core.table others }
 after_owner core Slots = core
+after_owner core DrainTable = record core { table = drained core.table }
 after_owner core ClearTable =
     record core { manager = record core.manager { held = [] }; table = cleared core.table core.capacity }
 after_owner core IntoIter = record core { ended = true }

@@ -51,16 +51,19 @@ pub record LocalFits {V E : Type 0} (table : Table V) (local : Local V E) : Type
   pub answered : local.answered ≡ answers local.start local.calls
   pub view : ViewFits table local.id (view_now local) local.learnt local.doing
 
--- the number of the bucket that a pointer leads to, if any
-unfoldable pub named : {V : Type 0} → Table V → ℕ → Option ℕ
-named table bucket = option_map (λ here. here.number) (table.pointers bucket)
+-- the number of the bucket that stands here, if one does
+unfoldable pub number_at : {V : Type 0} → Table V → ℕ → Option ℕ
+number_at table bucket = option_map (λ here. here.number) (table.pointers bucket)
 
--- Between two tables only the slot of this id may differ, and only its bucket may be new: a pointer
--- that isn't null still leads to the same bucket.
+-- a bucket stands in the new table, and it is the one that stood in the old table
+abbrev pub IsSameBucket : {V : Type 0} → Table V → Table V → ℕ → Type 0
+IsSameBucket old new bucket = IsTrue (bucket_stands new bucket) × (number_at new bucket ≡ number_at old bucket)
+
+-- Between two tables only the slot of this id may differ, and only its bucket may be new: a bucket
+-- that stands stays the same one.
 pub record ChangesOnly {V : Type 0} (old new : Table V) (id : ℕ) : Type 0 where
   pub others : (other : ℕ) → id ≢ other → slot_at new other ≡ slot_at old other
-  pub naming : (bucket : ℕ) → IsTrue (bucket_stands old bucket)
-      → IsTrue (bucket_stands new bucket) × (named new bucket ≡ named old bucket)
+  pub standing : (bucket : ℕ) → IsTrue (bucket_stands old bucket) → IsSameBucket old new bucket
   pub installed : (bucket : ℕ) → IsTrue (bucket_stands new bucket) → IsTrue (bucket_stands old bucket) ⊎ (bucket_of id ≡ bucket)
   pub written : AllWritten new
 

@@ -5,7 +5,9 @@ pub use Rattle.thread_local_model.specs.Capacity
 pub use Rattle.thread_local_model.specs.Sheet
 pub use Rattle.thread_local_model.specs.Answers
 pub mod Events
+pub mod TableMoves
 pub mod Schedule
+pub mod IdHistory
 pub mod Bounds
 pub mod Story
 pub mod Table

@@ -31,8 +31,8 @@ pub record Local (V E : Type 0) : Type 0 where
 abbrev pub fresh_local : {V E : Type 0} → ℕ → View V → Local V E
 fresh_local id start = record { id = id; learnt = Unknown; doing = Gets 0; start = start; calls = []; answered = [] }
 
--- a step of a Local's call, with what is chosen: what the closure would answer, whether memory is
--- refused
+-- a step of a Local, in a call or before one, with what is chosen: what the closure would answer,
+-- whether memory is refused
 pub data LocalStep (V E : Type 0) : Type 0 where
   BeginGet : LocalStep V E
   BeginGetOr : (create : Result V E) → LocalStep V E
@@ -49,11 +49,13 @@ abbrev pub after_call : {V E : Type 0} → Local V E → Call V E → Answer V E
 after_call local call answer learnt doing =
     record local { learnt = learnt; doing = doing; calls = local.calls ++ call ∷ []; answered = local.answered ++ answer ∷ [] }
 
--- whether a call is under way that may load its pointer and look at its flag
-abbrev pub is_calling : {V E : Type 0} → Doing V E → Bool
-is_calling (Gets (suc count)) = true
-is_calling (Started create) = true
-is_calling doing = false
+-- Whether a Local may load its pointer and look at its flag: in a call, and also where none is
+-- under way, as the running `local` does once for each new Local. Only a publishing call that has a
+-- bucket of its own, or has written its value, does neither.
+abbrev pub may_look : {V E : Type 0} → Doing V E → Bool
+may_look (Gets count) = true
+may_look (Started create) = true
+may_look doing = false
 
 -- Each step below gives the table and the Local after it. What a step needs of the Local is found
 -- by the definition before it, which is None where the step isn't enabled.
@@ -77,11 +79,11 @@ abbrev pub learns : {V E : Type 0} → Table V → Local V E → Option (Learnt 
 learns table local None = None
 learns table local (Some learnt) = Some (table, record local { learnt = learnt })
 
--- a call loads its pointer
+-- a Local loads its pointer
 abbrev pub load_pointer : {V E : Type 0} → Table V → Local V E → Option (Table V × Local V E)
 load_pointer table local = learns table local (learnt_by_load local.learnt (bucket_stands table (bucket_of local.id)))
 
--- a call looks at its flag, and at the value where the flag is set
+-- a Local looks at its flag, and at the value where the flag is set
 abbrev pub look_at_flag : {V E : Type 0} → Table V → Local V E → Option (Table V × Local V E)
 look_at_flag table local = learns table local (learnt_by_look local.learnt (published table local.id))
 
@@ -159,8 +161,8 @@ reply table local ending = (table, after_call local ending.call ending.answer lo
 unfoldable pub local_step : {V E : Type 0} → Table V → Local V E → LocalStep V E → Option (Table V × Local V E)
 local_step table local BeginGet = option_map (begin_call table local) (doing_with_get local.doing)
 local_step table local (BeginGetOr create) = option_map (begin_call table local) (doing_with_get_or create local.doing)
-local_step table local LoadPointer = if is_calling local.doing then load_pointer table local else None
-local_step table local LookAtFlag = if is_calling local.doing then look_at_flag table local else None
+local_step table local LoadPointer = if may_look local.doing then load_pointer table local else None
+local_step table local LookAtFlag = if may_look local.doing then look_at_flag table local else None
 local_step table local (MakeBucket refused) =
     option_map (make_bucket table local refused) (closure_at_missing local.doing local.learnt)
 local_step table local InstallBucket = option_and_then (install_bucket table local) (private_bucket local.doing)

@@ -4,20 +4,19 @@ use Rattle.std.specs.Prelude.{◌≡◌, ℕ, ◌<◌, ◌≤◌, ◌⊎◌, Opt
 use Rattle.thread_local_model.specs.Place.{bucket_of}
 use Rattle.thread_local_schedule.specs.Table.{Table}
 use Rattle.thread_local_schedule.specs.Local.{Doing, Private, Local}
-use Rattle.thread_local_schedule.specs.Fits.{named}
+use Rattle.thread_local_schedule.specs.Fits.{number_at}
 
 -- the number of the bucket that a call has made and not yet offered, if any
 abbrev pub own_number : {V E : Type 0} → Doing V E → Option ℕ
 own_number (Private create number) = Some number
 own_number doing = None
 
--- What a step does to the numbers. A pointer leads to the bucket that it led to before, or to the
--- call's own, which is its own no longer. The call's own bucket was so before, or is the next one
--- made.
+-- What a step does to the numbers. A bucket that stands stood here before, or was the call's own,
+-- and is its own no longer. The call's own bucket was so before, or is the next one made.
 pub record NumbersGo {V E : Type 0} (table : Table V) (local : Local V E) (after : Table V × Local V E) : Type 0 where
   pub made : table.made ≤ after.0.made
-  pub named_before : (bucket number : ℕ) → named after.0 bucket ≡ Some number
-      → (named table bucket ≡ Some number)
+  pub standing_before : (bucket number : ℕ) → number_at after.0 bucket ≡ Some number
+      → (number_at table bucket ≡ Some number)
       ⊎ ((own_number local.doing ≡ Some number) × (bucket_of local.id ≡ bucket)
       × (own_number after.1.doing ≡ None))
   pub own_before : (number : ℕ) → own_number after.1.doing ≡ Some number

@@ -3,31 +3,33 @@
 use Rattle.std.specs.Prelude.{◌≡◌, ℕ, ◌^◌, ◌<◌, Bool, true, false, not, ◌&&◌, List, [], ◌∷◌, Option, Some, None}
 use Rattle.std.specs.Prelude.{option_map, ⊤, ◌==◌, if◌then◌else◌}
 use Rattle.thread_local_model.specs.Held.{is_granted}
-use Rattle.thread_local_model.specs.Sheet.{Move, Take, Give, Publish, Rewrite, Clear}
+use Rattle.thread_local_model.specs.Sheet.{Take, Give, Publish, Rewrite, Clear}
+use Rattle.thread_local_schedule.specs.TableMoves.{TableMove, OfSheet, Drain}
 use Rattle.thread_local_schedule.specs.Local.{Local, LocalStep, MakeBucket}
 use Rattle.thread_local_schedule.specs.Fits.{value_set}
 use Rattle.thread_local_schedule.specs.Core.{Core, made_core}
 use Rattle.thread_local_schedule.specs.Events.{Event, TakeId, OfLocal, GiveBack, Forget, BeginWalk, OfWalk, EndWalk}
-use Rattle.thread_local_schedule.specs.Events.{Owner, IterMut, ClearTable, IntoIter, DropTable, is_enabled, happens}
+use Rattle.thread_local_schedule.specs.Events.{Owner, RewriteTable, DrainTable, ClearTable, IntoIter, DropTable, is_enabled, happens}
 use Rattle.thread_local_schedule.specs.Events.{run}
 
 -- the move of a Local's step: the value that it publishes, if any
-abbrev pub publishing : {V E : Type 0} → Option (Local V E) → LocalStep V E → Option (Move V)
+abbrev pub publishing : {V E : Type 0} → Option (Local V E) → LocalStep V E → Option (TableMove V)
 publishing None step = None
-publishing (Some local) step = option_map (λ value. Publish local.id value) (value_set local.doing step)
+publishing (Some local) step = option_map (λ value. OfSheet (Publish local.id value)) (value_set local.doing step)
 
 -- the move of an enabled event, if any: a granted take, the step that sets a flag, an id given
--- back, an owner's `iter_mut` and `clear`
-abbrev pub move_of : {V E : Type 0} → Core V E → Event V E → Option (Move V)
-move_of core (TakeId refused growth) = if is_granted core.manager refused then Some Take else None
+-- back, an owner's rewrite, drain and clear
+abbrev pub move_of : {V E : Type 0} → Core V E → Event V E → Option (TableMove V)
+move_of core (TakeId refused growth) = if is_granted core.manager refused then Some (OfSheet Take) else None
 move_of core (OfLocal number step) = publishing (core.locals number) step
-move_of core (GiveBack number) = option_map (λ local. Give local.id) (core.locals number)
-move_of core (Owner (IterMut others)) = Some (Rewrite others)
-move_of core (Owner ClearTable) = Some Clear
+move_of core (GiveBack number) = option_map (λ local. OfSheet (Give local.id)) (core.locals number)
+move_of core (Owner (RewriteTable others)) = Some (OfSheet (Rewrite others))
+move_of core (Owner DrainTable) = Some Drain
+move_of core (Owner ClearTable) = Some (OfSheet Clear)
 move_of core event = None
 
 -- the move of an event: none where it isn't enabled
-abbrev pub move : {V E : Type 0} → Core V E → Event V E → Option (Move V)
+abbrev pub move : {V E : Type 0} → Core V E → Event V E → Option (TableMove V)
 move core event = if is_enabled core event then move_of core event else None
 
 -- whether an event is a take

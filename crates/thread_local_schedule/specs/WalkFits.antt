@@ -1,9 +1,9 @@
 -- The invariant of a shared walk, and what each step adds to its record.
 use Rattle.std.specs.Prelude.{◌≡◌, ℕ, suc, ◌+◌, ◌<◌, List, [], ◌∷◌, ◌++◌, length, map, Contains, Option, Some, ◌==◌}
-use Rattle.std.specs.Prelude.{if◌then◌else◌}
+use Rattle.std.specs.Prelude.{is_some, if◌then◌else◌}
 use Rattle.thread_local_model.specs.Walk.{IsAscendingBelow}
-use Rattle.thread_local_model.specs.Cursor.{cursor_id, CursorFits}
-use Rattle.thread_local_schedule.specs.Table.{Table, published}
+use Rattle.thread_local_model.specs.Cursor.{cursor_id, after_load, after_look, CursorFits}
+use Rattle.thread_local_schedule.specs.Table.{Table, published, bucket_stands}
 use Rattle.thread_local_schedule.specs.SharedWalk.{SharedWalk, with_pair, WalkStep, Load, Look}
 
 -- What holds of a walk's record, where `ahead` is the first id that the walk hasn't passed: what it
@@ -25,20 +25,23 @@ pub record WalkFits {V : Type 0} (table : Table V) (walk : SharedWalk V) : Type 
   pub unloaded : walk.loads ≡ 0 → walk.cursor.index ≡ 0
   pub loads : walk.loads ≡ walk.cursor.bucket + length walk.given + (if walk.cursor.looks then 1 else 0)
 
--- what a load adds to a walk's record: the first load records what is published, and each load is
--- counted
+-- what a load adds to a walk's record: the first load records what is published, each load is
+-- counted, and the cursor goes on by whether its bucket stands
 pub record Loads {V : Type 0} (table : Table V) (before after : SharedWalk V) : Type 0 where
   pub first : after.first ≡ (if before.loads == 0 then published table else before.first)
   pub given : after.given ≡ before.given
   pub read : after.read ≡ before.read
   pub loads : after.loads ≡ suc before.loads
+  pub cursor : after.cursor ≡ after_load before.cursor (bucket_stands table before.cursor.bucket)
 
--- what a look adds: the slot at the cursor is read, and its value, if it shows one, is given
+-- what a look adds: the slot at the cursor is read, its value, if it shows one, is given, and the
+-- cursor goes on by whether it does
 pub record Looks {V : Type 0} (table : Table V) (before after : SharedWalk V) : Type 0 where
   pub first : after.first ≡ before.first
   pub given : after.given ≡ with_pair before.given (cursor_id before.cursor) (published table (cursor_id before.cursor))
   pub read : after.read ≡ before.read ++ cursor_id before.cursor ∷ []
   pub loads : after.loads ≡ before.loads
+  pub cursor : after.cursor ≡ after_look before.cursor (is_some (published table (cursor_id before.cursor)))
 
 -- what each step adds
 abbrev pub Adds : {V : Type 0} → Table V → WalkStep → SharedWalk V → SharedWalk V → Type 0

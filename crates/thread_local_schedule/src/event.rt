@@ -1,12 +1,12 @@
 //! What every event needs and does, and which cores schedules reach.
 ghost use Rattle.std.specs.Prelude.{◌≡◌, ℕ, ◌+◌, ◌^◌, ◌<◌, ◌≤◌, Bool, true, false, Result, Err, Some, None, IsTrue};
-ghost use Rattle.std.specs.Prelude.{IsSome, IfSome, IsSomeAnd, MatchOption, if◌then◌else◌, max, ◌-◌, []};
+ghost use Rattle.std.specs.Prelude.{IsSome, IsSomeAnd, MatchOption, if◌then◌else◌, max, ◌-◌, []};
 ghost use Rattle.thread_local_model.specs.Held.{HoldsAllBelow};
 ghost use Rattle.thread_local_model.specs.Place.{bucket_of};
 ghost use Rattle.thread_local_model.specs.Learnt.{Unknown, Missing, Standing, Vacant, Holding};
 ghost use Rattle.thread_local_model.specs.Answers.{Failed};
-ghost use Rattle.thread_local_schedule.specs.Table.{bucket_stands};
-ghost use Rattle.thread_local_schedule.specs.Cleared.{cleared};
+ghost use Rattle.thread_local_schedule.specs.Table.{empty_slot, slot_at, bucket_stands};
+ghost use Rattle.thread_local_schedule.specs.Cleared.{cleared, drained};
 ghost use Rattle.thread_local_model.specs.Capacity.{reserves_bucket};
 ghost use Rattle.thread_local_schedule.specs.Local.{Local, LocalStep, BeginGet, BeginGetOr, LoadPointer};
 ghost use Rattle.thread_local_schedule.specs.Local.{LookAtFlag, MakeBucket, InstallBucket, WriteValue};
@@ -14,8 +14,8 @@ ghost use Rattle.thread_local_schedule.specs.Calls.{gets_of, closure_of, HasNoCa
 ghost use Rattle.thread_local_schedule.specs.SharedWalk.{WalkStep};
 ghost use Rattle.thread_local_schedule.specs.OwnerWalk.{rewritten};
 ghost use Rattle.thread_local_schedule.specs.Core.{Core, made_core, new_core, shadow, peak};
-ghost use Rattle.thread_local_schedule.specs.Events.{Event, TakeId, OfLocal, OfWalk, EndWalk, Owner, IterMut, Slots};
-ghost use Rattle.thread_local_schedule.specs.Events.{ClearTable, is_enabled, happens};
+ghost use Rattle.thread_local_schedule.specs.Events.{Event, TakeId, OfLocal, OfWalk, EndWalk, Owner, RewriteTable, Slots};
+ghost use Rattle.thread_local_schedule.specs.Events.{DrainTable, ClearTable, is_enabled, happens};
 ghost use Rattle.thread_local_schedule.specs.Schedule.{is_take, is_refused, is_granted_take, newcomer, IsReached};
 
 /// What every event needs and does, beside what the other theorems say: so that those aren't about
@@ -102,11 +102,21 @@ pub fn events_say<V, E>()
         × IsSomeAnd ((happens core (OfLocal n WriteValue)).locals n) (EndsWith (Failed e) local) }
 
     // An owner's count changes nothing, and an owner's writes change the table and nothing else.
+    // A drain leaves the ids and every bucket, with all slots empty.
     ensures slots { (core : Core V E) → happens core (Owner Slots) ≡ core }
-    ensures iter_mut { (core : Core V E) (others : ℕ → V → V)
-        → IsTrue (is_enabled core (Owner (IterMut others)))
-        → happens core (Owner (IterMut others))
+    ensures rewrites { (core : Core V E) (others : ℕ → V → V)
+        → IsTrue (is_enabled core (Owner (RewriteTable others)))
+        → happens core (Owner (RewriteTable others))
         ≡ record core { table = rewritten core.table others } }
+    ensures drained_core { (core : Core V E) → IsTrue (is_enabled core (Owner DrainTable))
+        → happens core (Owner DrainTable) ≡ record core { table = drained core.table } }
+    ensures drained_stands { (core : Core V E) (bucket : ℕ)
+        → IsTrue (is_enabled core (Owner DrainTable))
+        → bucket_stands (happens core (Owner DrainTable)).table bucket
+        ≡ bucket_stands core.table bucket }
+    ensures drained_slots { (core : Core V E) (id : ℕ)
+        → IsTrue (is_enabled core (Owner DrainTable))
+        → slot_at (happens core (Owner DrainTable)).table id ≡ empty_slot }
 
     // A clear leaves no id held and the table cleared, and changes nothing else. So exactly the
     // reserved buckets stand afterwards, and every slot is empty.
@@ -120,10 +130,9 @@ pub fn events_say<V, E>()
         → IsTrue (is_enabled core (Owner ClearTable))
         → bucket_stands (happens core (Owner ClearTable)).table bucket
         ≡ reserves_bucket (shadow core).capacity bucket }
-    ensures cleared_slots { (core : Core V E) (bucket index : ℕ)
+    ensures cleared_slots { (core : Core V E) (id : ℕ)
         → IsTrue (is_enabled core (Owner ClearTable))
-        → IfSome ((happens core (Owner ClearTable)).table.pointers bucket) (λ here.
-        ((here.slot index).written ≡ None) × ((here.slot index).flag ≡ false)) }
+        → slot_at (happens core (Owner ClearTable)).table id ≡ empty_slot }
 
     // Whether memory is refused is chosen at each request: a call that may ask for it may get it
     // and may be refused, and comes nearer to its end by either. A take for which no room is left

@@ -14,8 +14,8 @@ ghost use Rattle.thread_local_schedule.specs.Numbers.{NumbersGo};
 
 /// What each step of a `Local` keeps, whatever other `Local`s did before it.
 pub fn every_local_step<V, E>()
-    // An enabled step leaves the Local fitting its table, and changes no slot but its own and no
-    // pointer but that of its bucket.
+    // An enabled step leaves the Local fitting its table, and changes no slot and no bucket but its
+    // own.
     ensures fits { (table : Table V) (local : Local V E) (step : LocalStep V E)
         → AllWritten table → LocalFits table local
         → IfSome (local_step table local step) (StepFits table local (value_set local.doing step)) }

@@ -3,11 +3,13 @@ ghost use Rattle.std.specs.Prelude.{◌≡◌, ℕ, ◌-◌, ◌*◌, ◌^◌, �
 ghost use Rattle.std.specs.List.{AllByRecursion};
 ghost use Rattle.std.specs.List.Sorted.{IsStrictlyIncreasing};
 ghost use Rattle.thread_local_model.specs.Held.{least};
+ghost use Rattle.thread_local_model.specs.IdMoves.{held_after};
 ghost use Rattle.thread_local_model.specs.Walk.{walk, paired};
 ghost use Rattle.thread_local_schedule.specs.OwnerWalk.{owner_walk};
 ghost use Rattle.thread_local_schedule.specs.Core.{made_core, new_core, shadow, installed_slots};
 ghost use Rattle.thread_local_schedule.specs.Events.{Event, OwnerCall, Owner, is_enabled, run};
 ghost use Rattle.thread_local_schedule.specs.Schedule.{is_exclusive, is_granted_take, newcomer, IsAlone};
+ghost use Rattle.thread_local_schedule.specs.IdHistory.{id_moves};
 ghost use Rattle.thread_local_schedule.specs.Bounds.{TakesBelow, NothingRefused};
 
 /// What a table is for, over every schedule of atomic steps from a table of any capacity below
@@ -15,6 +17,9 @@ ghost use Rattle.thread_local_schedule.specs.Bounds.{TakesBelow, NothingRefused}
 /// owner's call; an owner is alone, and walks exactly the published values, each once, by ascending
 /// id; and where each take comes while fewer than p ids are held, that bounds the slots and, within
 /// the capacity, rules out refusals.
+///
+/// The schedules are of tables that never lend their buckets by `buckets_mut`, which may leave any
+/// buckets: the owner's calls are those that `every_schedule` names.
 pub fn headline<V, E>()
     // Each Local gets the least id that isn't held.
     ensures least_id { (capacity extra : ℕ) (events : List (Event V E)) (event : Event V E)
@@ -22,6 +27,18 @@ pub fn headline<V, E>()
         → let core = run (made_core capacity extra) events in
         IsTrue (is_granted_take core event)
         → IsSomeAnd (newcomer core event) (λ local. local.id ≡ least (shadow core).held) }
+
+    // That is the least id that the takes and gives since the table was made or cleared leave free.
+    ensures history { (capacity extra : ℕ) (events : List (Event V E))
+        → capacity < 2 ^ 63
+        → (shadow (run (made_core capacity extra) events)).held
+        ≡ held_after (id_moves (made_core capacity extra) events) }
+    ensures least_after { (capacity extra : ℕ) (events : List (Event V E)) (event : Event V E)
+        → capacity < 2 ^ 63
+        → let core = run (made_core capacity extra) events in
+        IsTrue (is_granted_take core event)
+        → IsSomeAnd (newcomer core event) (λ local.
+        local.id ≡ least (held_after (id_moves (made_core capacity extra) events))) }
 
     // A first published value stays until an owner's call, and that comes to somebody who has the
     // table alone.

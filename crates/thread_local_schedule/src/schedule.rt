@@ -6,23 +6,26 @@ ghost use Rattle.thread_local_model.specs.Held.{is_held, least, HoldsAllBelow, h
 ghost use Rattle.thread_local_model.specs.Walk.{walk};
 ghost use Rattle.thread_local_model.specs.Cursor.{is_complete};
 ghost use Rattle.thread_local_model.specs.Capacity.{reserves_bucket, is_reserved, reserved_slots};
-ghost use Rattle.thread_local_model.specs.Sheet.{new_sheet, moved_if, IsAllowed};
+ghost use Rattle.thread_local_model.specs.IdMoves.{held_after};
+ghost use Rattle.thread_local_model.specs.Sheet.{new_sheet};
+ghost use Rattle.thread_local_schedule.specs.TableMoves.{moved_by_if, IsMoveAllowed};
+ghost use Rattle.thread_local_schedule.specs.IdHistory.{id_moves};
 ghost use Rattle.thread_local_model.specs.Answers.{answers, first_view, Answer, Refused, Found, Answered};
-ghost use Rattle.thread_local_schedule.specs.Table.{bucket_stands};
+ghost use Rattle.thread_local_schedule.specs.Table.{slot_at, bucket_stands};
 ghost use Rattle.thread_local_schedule.specs.Local.{Local, LocalStep, MakeBucket};
 ghost use Rattle.thread_local_schedule.specs.OwnerWalk.{owner_walk};
-ghost use Rattle.thread_local_schedule.specs.Fits.{IsWritten, named};
+ghost use Rattle.thread_local_schedule.specs.Fits.{IsWritten, number_at, IsSameBucket};
 ghost use Rattle.thread_local_schedule.specs.Calls.{HasNoCall, GoesOn};
 ghost use Rattle.thread_local_schedule.specs.Numbers.{own_number};
 ghost use Rattle.thread_local_schedule.specs.Core.{Core, shadow, peak, made_core, new_core, installed_slots};
 ghost use Rattle.thread_local_schedule.specs.Core.{private_slots};
 ghost use Rattle.thread_local_schedule.specs.Events.{Event, TakeId, OfLocal, GiveBack, Forget, BeginWalk};
-ghost use Rattle.thread_local_schedule.specs.Events.{OwnerCall, Owner, ClearTable, is_enabled, happens, run};
-ghost use Rattle.thread_local_schedule.specs.Events.{IntoIter, DropTable, IterMut};
+ghost use Rattle.thread_local_schedule.specs.Events.{OwnerCall, Owner, DrainTable, ClearTable, is_enabled, happens, run};
+ghost use Rattle.thread_local_schedule.specs.Events.{IntoIter, DropTable, RewriteTable};
 ghost use Rattle.thread_local_schedule.specs.Schedule.{move, is_exclusive, is_of, IsAlone, is_refused};
 ghost use Rattle.thread_local_schedule.specs.Schedule.{is_granted_take, newcomer, IsReached, NoneTaken, ends_table};
 ghost use Rattle.thread_local_model.specs.Buckets.{slots};
-ghost use Rattle.thread_local_schedule.specs.Bounds.{most_held, publishings};
+ghost use Rattle.thread_local_schedule.specs.Bounds.{most_held, publishings, TakesBelow, NothingRefused};
 ghost use Rattle.thread_local_schedule.specs.Story.{after_publishing, after_walking, after_next, after_all};
 
 /// What holds of a table over every schedule of atomic steps, from a table of `new` and from one of
@@ -31,14 +34,17 @@ ghost use Rattle.thread_local_schedule.specs.Story.{after_publishing, after_walk
 /// each once, by ascending id; and the most ids held at once bounds, with the capacity, what is
 /// installed, made, published and refused.
 ///
-/// A clause about a reached core holds after every event of every schedule.
+/// A clause about a reached core holds after every event of every schedule. The owner's calls are
+/// `iter_mut`, `entries_mut`, `get_mut`, `slots`, `drain`, `clear`, `into_iter`, `into_entries`,
+/// `into_buckets` and the drop: the schedules are of tables that never lend their buckets by
+/// `buckets_mut`, which may leave any buckets.
 pub fn every_schedule<V, E>()
     // The sheet that users see changes by its moves alone, and an event that isn't enabled changes
     // nothing.
     ensures moves { (core : Core V E) (event : Event V E) → IsReached core
-        → shadow (happens core event) ≡ moved_if (shadow core) (move core event) }
+        → shadow (happens core event) ≡ moved_by_if (shadow core) (move core event) }
     ensures allowed { (core : Core V E) (event : Event V E) → IsReached core
-        → IfSome (move core event) (IsAllowed (shadow core)) }
+        → IfSome (move core event) (IsMoveAllowed (shadow core)) }
     ensures idle { (core : Core V E) (event : Event V E)
         → is_enabled core event ≡ false → happens core event ≡ core }
 
@@ -97,8 +103,8 @@ pub fn every_schedule<V, E>()
         → owner_walk core.table ≡ walk (shadow core).values }
 
     // A slot whose flag is set holds what was written.
-    ensures flagged { (core : Core V E) (bucket index : ℕ) → IsReached core → index < 2 ^ bucket
-        → IfSome (core.table.pointers bucket) (λ here. IsWritten (here.slot index)) }
+    ensures flagged { (core : Core V E) (id : ℕ)
+        → IsReached core → IsWritten (slot_at core.table id) }
 
     // A Local begins with what its slot holds when its id is taken. Its answers are those of that
     // view and of its own calls. A call that has begun is under way until it ends and is recorded,
@@ -117,6 +123,19 @@ pub fn every_schedule<V, E>()
         → is_of n event ≡ false
         → core.locals n ≡ Some local
         → (happens core event).locals n ≡ Some local }
+
+    // The held ids are those that the takes and gives leave held since the table was made or
+    // cleared.
+    ensures history { (capacity extra : ℕ) (events : List (Event V E))
+        → capacity < 2 ^ 63
+        → (shadow (run (made_core capacity extra) events)).held
+        ≡ held_after (id_moves (made_core capacity extra) events) }
+
+    // A drain leaves no value, and the held ids and the capacity as they are.
+    ensures drained { (core : Core V E)
+        → IsReached core
+        → IsTrue (is_enabled core (Owner DrainTable))
+        → shadow (happens core (Owner DrainTable)) ≡ record (shadow core) { values = λ _. None } }
 
     // After `clear` the sheet is that of `new` with the same capacity. The next Local gets id 0,
     // finds no value, and knows its bucket to stand exactly where id 0 is reserved.
@@ -158,30 +177,31 @@ pub fn every_schedule<V, E>()
     ensures stays_open { (core : Core V E) (event : Event V E)
         → core.ended ≡ false → ends_table event ≡ false → (happens core event).ended ≡ false }
 
-    // A pointer that isn't null leads to the same bucket until an owner's call, and that of a
-    // reserved bucket always does. No two pointers lead to one bucket, and a bucket that a call has
-    // made and not yet offered is that call's alone.
-    ensures pointer_stays { (core : Core V E) (event : Event V E) (bucket number : ℕ)
+    // A bucket that stands is the same one until a clear, and a reserved bucket is so always. No
+    // bucket stands at two places, and one that a call has made and not yet offered stands nowhere,
+    // and is that call's alone.
+    ensures bucket_stays { (core : Core V E) (event : Event V E) (bucket : ℕ)
         → IsReached core
-        → is_exclusive event ≡ false
-        → named core.table bucket ≡ Some number
-        → named (happens core event).table bucket ≡ Some number }
+        → event ≢ Owner ClearTable
+        → IsTrue (bucket_stands core.table bucket)
+        → IsSameBucket core.table (happens core event).table bucket }
     ensures reserved_stands { (core : Core V E) (bucket : ℕ)
         → IsReached core
         → IsTrue (reserves_bucket (shadow core).capacity bucket)
         → IsTrue (bucket_stands core.table bucket) }
-    ensures reserved_stays { (core : Core V E) (event : Event V E) (bucket number : ℕ)
+    ensures reserved_stays { (core : Core V E) (event : Event V E) (bucket : ℕ)
         → IsReached core
         → IsTrue (reserves_bucket (shadow core).capacity bucket)
-        → named core.table bucket ≡ Some number
-        → named (happens core event).table bucket ≡ Some number }
-    ensures pointers_apart { (core : Core V E) (a b number : ℕ) → IsReached core
-        → named core.table a ≡ Some number → named core.table b ≡ Some number → a ≡ b }
-    ensures unnamed { (core : Core V E) (n : ℕ) (local : Local V E) (number bucket : ℕ)
+        → IsSameBucket core.table (happens core event).table bucket }
+    ensures at_one_place { (core : Core V E) (a b : ℕ) → IsReached core
+        → IsTrue (bucket_stands core.table a)
+        → number_at core.table a ≡ number_at core.table b
+        → a ≡ b }
+    ensures stands_nowhere { (core : Core V E) (n : ℕ) (local : Local V E) (number bucket : ℕ)
         → IsReached core
         → core.locals n ≡ Some local
         → own_number local.doing ≡ Some number
-        → named core.table bucket ≢ Some number }
+        → number_at core.table bucket ≢ Some number }
     ensures one_call { (core : Core V E) (m n : ℕ) (a b : Local V E) (number : ℕ) → IsReached core
         → core.locals m ≡ Some a → core.locals n ≡ Some b
         → own_number a.doing ≡ Some number → own_number b.doing ≡ Some number → m ≡ n }
@@ -217,8 +237,8 @@ pub fn every_schedule<V, E>()
         → core.locals n ≡ Some local → private_slots local.id local.doing ≤ peak core }
     ensures values { (core : Core V E) → IsReached core → length (walk (shadow core).values) ≤ peak core }
 
-    // Since a table was made or cleared there were as many publishings as there are values, and so
-    // at most as many as ids were held at once.
+    // Since a table was made, cleared or drained there were as many publishings as there are
+    // values, and so at most as many as ids were held at once.
     ensures publishings { (capacity extra : ℕ) (events : List (Event V E))
         → capacity < 2 ^ 63
         → publishings (made_core capacity extra) events ≡ length
@@ -245,10 +265,18 @@ pub fn every_schedule<V, E>()
         → Contains local.answered told
         → told ≢ Refused }
 
-    // One schedule from `new` to `clear`, computed: it shows that the events do occur, since each of
-    // its cores is reached. Four Locals publish in a new table. A walk gives the four values; the
-    // next Local finds the first and keeps it; an owner's walk gives the four; and `clear` leaves
-    // the sheet of `new`.
+    // If each take comes while fewer than p ids are held, a table from `new` has at most 2p - 1
+    // slots, and one of a capacity of p or more refuses nothing.
+    ensures slots { (p : ℕ) (events : List (Event V E)) → TakesBelow p new_core events
+        → installed_slots (run new_core events) ≤ 2 * p - 1 }
+    ensures refuses_nothing { (capacity extra p : ℕ) (events : List (Event V E)) → capacity < 2 ^ 63
+        → p ≤ capacity → TakesBelow p (made_core capacity extra) events
+        → NothingRefused (made_core capacity extra) events }
+
+    // One schedule from `new` to `clear`, computed: it shows that the events do occur, since each
+    // of its cores is reached. Four Locals publish in a new table. A walk gives the four values;
+    // the next Local finds the first and keeps it; an owner's walk gives the four; and `clear`
+    // leaves the sheet of `new`.
     ensures four_are_reached { (a b c d : V)
         → IsReached (after_publishing {E = E} a b c d)
         × IsReached (after_walking {E = E} a b c d)
@@ -265,7 +293,7 @@ pub fn every_schedule<V, E>()
         (λ local. (local.id ≡ 0) × (local.start.value ≡ Some a)
         × (local.answered ≡ Found (Some a) ∷ Answered a ∷ [])) }
     ensures owner_of_four { (a b c d : V) (others : ℕ → V → V)
-        → IsTrue (is_enabled (after_all {E = E} a b c d) (Owner (IterMut others)))
+        → IsTrue (is_enabled (after_all {E = E} a b c d) (Owner (RewriteTable others)))
         × (owner_walk (after_all {E = E} a b c d).table ≡ a ∷ b ∷ c ∷ d ∷ []) }
     ensures clear_of_four { (a b c d : V)
         → IsTrue (is_enabled (after_all {E = E} a b c d) (Owner ClearTable))

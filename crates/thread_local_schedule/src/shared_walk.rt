@@ -1,7 +1,9 @@
 //! What holds of shared walks over every schedule.
-ghost use Rattle.std.specs.Prelude.{◌≡◌, ℕ, ◌+◌, ◌≤◌, false, length, map, Contains, Some, None, IsTrue, IsSomeAnd, suc, ◌++◌, [], ◌∷◌, ◌==◌, if◌then◌else◌};
+ghost use Rattle.std.specs.Prelude.{◌≡◌, ℕ, ◌+◌, ◌≤◌, false, length, map, Contains, Some, None, is_some, IsTrue};
+ghost use Rattle.std.specs.Prelude.{IsSomeAnd, suc, ◌++◌, [], ◌∷◌, ◌==◌, if◌then◌else◌};
 ghost use Rattle.std.specs.List.Sorted.{IsStrictlyIncreasing};
-ghost use Rattle.thread_local_model.specs.Cursor.{is_complete, cursor_id};
+ghost use Rattle.thread_local_model.specs.Cursor.{is_complete, cursor_id, after_load, after_look};
+ghost use Rattle.thread_local_schedule.specs.Table.{bucket_stands};
 ghost use Rattle.thread_local_schedule.specs.SharedWalk.{SharedWalk, fresh_walk, next_step, Load, Look, with_pair};
 ghost use Rattle.thread_local_schedule.specs.Core.{Core, shadow};
 ghost use Rattle.thread_local_schedule.specs.Events.{Event, BeginWalk, OfWalk, EndWalk, is_enabled, happens};
@@ -56,6 +58,21 @@ pub fn every_walk<V, E>()
         × (after.given ≡ with_pair before.given id ((shadow core).values id))
         × (after.read ≡ before.read ++ id ∷ [])
         × (after.loads ≡ before.loads)) }
+    // Its cursor goes on by whether its bucket stands, and by whether its slot shows a value.
+    ensures load_moves { (core : Core V E) (n : ℕ) (before : SharedWalk V)
+        → IsReached core
+        → IsTrue (is_enabled core (OfWalk n Load))
+        → core.walks n ≡ Some before
+        → IsSomeAnd ((happens core (OfWalk n Load)).walks n) (λ after.
+        after.cursor
+        ≡ after_load before.cursor (bucket_stands core.table before.cursor.bucket)) }
+    ensures look_moves { (core : Core V E) (n : ℕ) (before : SharedWalk V)
+        → IsReached core
+        → IsTrue (is_enabled core (OfWalk n Look))
+        → core.walks n ≡ Some before
+        → IsSomeAnd ((happens core (OfWalk n Look)).walks n) (λ after.
+        after.cursor
+        ≡ after_look before.cursor (is_some ((shadow core).values (cursor_id before.cursor)))) }
     ensures complete { (core : Core V E) (n : ℕ) (shared : SharedWalk V) → IsReached core
         → core.walks n ≡ Some shared → IsTrue (is_complete shared.cursor)
         → (id : ℕ) (v : V) → shared.first id ≡ Some v → Contains shared.given (id, v) }

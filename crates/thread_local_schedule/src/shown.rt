@@ -4,15 +4,14 @@ ghost use Rattle.thread_local_model.specs.Capacity.{reserves_bucket, reserved_sl
 ghost use Rattle.thread_local_model.specs.Place.{bucket_of, index_of};
 ghost use Rattle.thread_local_model.specs.Buckets.{Contents, row, stands as stands_for_owner, values, no_contents, IsTable};
 ghost use Rattle.thread_local_model.specs.Walk.{walk};
-ghost use Rattle.thread_local_model.specs.Owner.{with_bucket, with_published, cleared_row};
+ghost use Rattle.thread_local_model.specs.Owner.{with_bucket, with_published, cleared_row, emptied};
 ghost use Rattle.thread_local_model.specs.Refilled.{refilled};
 ghost use Rattle.thread_local_schedule.specs.Table.{Table, slot_at, published, bucket_stands, made_table, with_fresh_bucket, with_flag};
 ghost use Rattle.thread_local_schedule.specs.OwnerWalk.{owner_walk, rewritten};
-ghost use Rattle.thread_local_schedule.specs.Cleared.{cleared};
+ghost use Rattle.thread_local_schedule.specs.Cleared.{cleared, drained};
 ghost use Rattle.thread_local_schedule.specs.Shown.{shown};
 
-/// What the table shows to an owner: the buckets that its pointers lead to, and the values whose
-/// flags are set. An owner's walk over the table is the walk over these values.
+/// What the table shows to an owner: the buckets that stand, and the values whose flags are set. An owner's walk over the table is the walk over these values.
 pub fn a_table_shows_its_contents<V>()
     ensures table { (table : Table V) → IsTable (shown table) }
     ensures stands { (table : Table V) (bucket : ℕ)
@@ -23,8 +22,9 @@ pub fn a_table_shows_its_contents<V>()
 {}
 
 /// The events change what an owner sees as an owner's calls do. Installing a bucket and then
-/// setting a flag is an `insert`; an owner's writes change values and no bucket; a clear leaves the
-/// reserved buckets, with all slots empty; and a table of `new` shows what new buckets show.
+/// setting a flag is an `insert`; an owner's writes change values and no bucket; a drain leaves
+/// every bucket and a clear the reserved ones, with all slots empty; and a table of `new` shows
+/// what new buckets show.
 pub fn events_change_contents_as_calls_do<V>()
     ensures installed { (table : Table V) (bucket number : ℕ)
         → bucket < 63
@@ -51,6 +51,9 @@ pub fn events_change_contents_as_calls_do<V>()
     ensures refilled_rewrites { (table : Table V) (written : Contents V)
         → shown (rewritten table (λ id. unwrap_or (values written id)))
         ≡ refilled (shown table) written }
+
+    // A drained table shows the same buckets without their values, as what a `Drain` leaves.
+    ensures drained { (table : Table V) → shown (drained table) ≡ emptied (shown table) }
 
     // A cleared table in which the reserved buckets stood shows these with all slots empty, and no
     // other bucket: the same as a table made with the capacity.

@@ -6,31 +6,34 @@ ghost use Rattle.thread_local_model.specs.Walk.{walk};
 ghost use Rattle.thread_local_schedule.specs.Table.{bucket_stands, Table, Slot};
 ghost use Rattle.thread_local_schedule.specs.Local.{Local, LocalStep, Doing, MakeBucket, Private, BeginGet};
 ghost use Rattle.thread_local_schedule.specs.Local.{BeginGetOr, LoadPointer, LookAtFlag, InstallBucket, WriteValue};
-ghost use Rattle.thread_local_schedule.specs.Local.{SetFlag, Reply};
-ghost use Rattle.thread_local_schedule.specs.SharedWalk.{WalkStep};
-ghost use Rattle.thread_local_schedule.specs.Fits.{named, IsWritten};
+ghost use Rattle.thread_local_schedule.specs.Local.{SetFlag, Reply, Written};
+ghost use Rattle.thread_local_schedule.specs.SharedWalk.{SharedWalk, fresh_walk, WalkStep};
+ghost use Rattle.thread_local_schedule.specs.Fits.{number_at, IsSameBucket, IsWritten};
 ghost use Rattle.thread_local_schedule.specs.Numbers.{own_number};
 ghost use Rattle.thread_local_schedule.specs.Core.{Core, installed_slots, private_slots};
 ghost use Rattle.thread_local_schedule.specs.Events.{Event, TakeId, OfLocal, GiveBack, Forget, BeginWalk, OfWalk};
 ghost use Rattle.thread_local_schedule.specs.Events.{EndWalk, OwnerCall, Owner, is_enabled, happens, run, IntoIter};
-ghost use Rattle.thread_local_schedule.specs.Events.{DropTable, ClearTable};
+ghost use Rattle.thread_local_schedule.specs.Events.{RewriteTable, DrainTable, DropTable, ClearTable};
 ghost use Rattle.thread_local_schedule.specs.Schedule.{begins_walk, is_exclusive, is_of, is_of_walk, is_refused};
 ghost use Rattle.thread_local_schedule.specs.Schedule.{is_granted_take, newcomer, IsReached, NoneTaken, is_take};
 ghost use Rattle.thread_local_schedule.specs.Schedule.{ends_table, IsAlone, move};
 ghost use Rattle.thread_local_model.specs.Place.{bucket_of};
 ghost use Rattle.thread_local_model.specs.Buckets.{slots};
 ghost use Rattle.thread_local_schedule.specs.Bounds.{TakesBelow, NothingRefused, most_held, publishings};
-ghost use Rattle.thread_local_model.specs.Sheet.{Sheet, IsAllowed, Give, Publish, Clear};
-ghost use Rattle.thread_local_model.specs.Answers.{Answer, Refused, Get, GetOr};
+ghost use Rattle.thread_local_model.specs.IdMoves.{Take, Give as IdGive, noted};
+ghost use Rattle.thread_local_model.specs.Sheet.{Sheet, Take as TakeLeast, Give, Publish, Rewrite, Clear};
+ghost use Rattle.thread_local_schedule.specs.TableMoves.{OfSheet, Drain, IsMoveAllowed};
+ghost use Rattle.thread_local_schedule.specs.IdHistory.{id_moves};
+ghost use Rattle.thread_local_model.specs.Answers.{Answer, Refused, Call, Get, GetOr, View, answer, view_after, answers};
 ghost use Rattle.thread_local_schedule.specs.Calls.{gets_of, closure_of, HasNoCall, GoesOn, steps_left, GoesDown};
 ghost use Rattle.thread_local_schedule.specs.Calls.{EndsWith};
 
 /// What the words say in which the theorems are told, each by what makes it true and by what it
 /// makes true: so that no clause holds only because a word in it is true of nothing.
 pub fn words_say<V, E>()
-    // The installed slots are those of the buckets that stand, a bucket not offered yet has all slots
-    // of its id's bucket, a schedule that refuses nothing refuses none of its events, and takes below
-    // a number are those that each come while fewer ids are held.
+    // The installed slots are those of the buckets that stand, a bucket not offered yet has all
+    // slots of its id's bucket, a schedule that refuses nothing refuses none of its events, and
+    // takes below a number are those that each come while fewer ids are held.
     ensures installed { (core : Core V E)
         → installed_slots core ≡ slots (bucket_stands core.table) }
     ensures private { (id : ℕ) (doing : Doing V E) (number : ℕ)
@@ -43,8 +46,8 @@ pub fn words_say<V, E>()
         → (IsTrue (is_take event) → held_count (run core events).manager.held < p)
         → TakesBelow p core (events ++ event ∷ []) }
 
-    // The most ids held at once and the publishings are counted event by event, and a clear begins
-    // both anew.
+    // The most ids held at once and the publishings are counted event by event. A clear begins both
+    // anew, and a drain the publishings.
     ensures most_at_first { (core : Core V E) → most_held core [] ≡ 0 }
     ensures most_later { (core : Core V E) (events : List (Event V E)) (event : Event V E)
         → (IsTrue (is_enabled (run core events) event) → event ≢ Owner ClearTable)
@@ -55,18 +58,72 @@ pub fn words_say<V, E>()
         → most_held core (events ++ Owner ClearTable ∷ []) ≡ 0 }
     ensures none_published { (core : Core V E) → publishings core [] ≡ 0 }
     ensures one_published { (core : Core V E) (events : List (Event V E)) (event : Event V E) (id : ℕ) (v : V)
-        → move (run core events) event ≡ Some (Publish id v)
+        → move (run core events) event ≡ Some (OfSheet (Publish id v))
         → publishings core (events ++ event ∷ []) ≡ suc (publishings core events) }
     ensures published_anew { (core : Core V E) (events : List (Event V E)) (event : Event V E)
-        → move (run core events) event ≡ Some Clear
+        → move (run core events) event ≡ Some (OfSheet Clear)
+        → publishings core (events ++ event ∷ []) ≡ 0 }
+    ensures drained_anew { (core : Core V E) (events : List (Event V E)) (event : Event V E)
+        → move (run core events) event ≡ Some Drain
         → publishings core (events ++ event ∷ []) ≡ 0 }
     ensures as_many_published { (core : Core V E) (events : List (Event V E)) (event : Event V E)
-        → ((id : ℕ) (v : V) → move (run core events) event ≢ Some (Publish id v))
-        → move (run core events) event ≢ Some Clear
+        → ((id : ℕ) (v : V) → move (run core events) event ≢ Some (OfSheet (Publish id v)))
+        → move (run core events) event ≢ Some (OfSheet Clear)
+        → move (run core events) event ≢ Some Drain
         → publishings core (events ++ event ∷ []) ≡ publishings core events }
 
-    // What makes an event a take, an owner's call, one of this Local or walk, the beginning of a walk
-    // or the end of a table.
+    // Which move each event is: no other event moves anything, and none that isn't enabled.
+    ensures take_moves { (core : Core V E) (event : Event V E)
+        → IsTrue (is_granted_take core event) → move core event ≡ Some (OfSheet TakeLeast) }
+    ensures give_moves { (core : Core V E) (n : ℕ) (local : Local V E)
+        → IsTrue (is_enabled core (GiveBack n))
+        → core.locals n ≡ Some local
+        → move core (GiveBack n) ≡ Some (OfSheet (Give local.id)) }
+    ensures publish_moves { (core : Core V E) (n : ℕ) (local : Local V E) (v : V)
+        → IsTrue (is_enabled core (OfLocal n SetFlag))
+        → core.locals n ≡ Some local
+        → local.doing ≡ Written v
+        → move core (OfLocal n SetFlag) ≡ Some (OfSheet (Publish local.id v)) }
+    ensures rewrite_moves { (core : Core V E) (others : ℕ → V → V)
+        → IsTrue (is_enabled core (Owner (RewriteTable others)))
+        → move core (Owner (RewriteTable others)) ≡ Some (OfSheet (Rewrite others)) }
+    ensures drain_moves { (core : Core V E) → IsTrue (is_enabled core (Owner DrainTable))
+        → move core (Owner DrainTable) ≡ Some Drain }
+    ensures clear_moves { (core : Core V E) → IsTrue (is_enabled core (Owner ClearTable))
+        → move core (Owner ClearTable) ≡ Some (OfSheet Clear) }
+    ensures no_moves { (core : Core V E) (event : Event V E)
+        →
+        (IsTrue (is_enabled core event)
+        → (is_granted_take core event ≡ false)
+        × ((n : ℕ) → event ≢ GiveBack n)
+        × ((n : ℕ) → event ≢ OfLocal n SetFlag)
+        × ((others : ℕ → V → V) → event ≢ Owner (RewriteTable others))
+        × (event ≢ Owner DrainTable)
+        × (event ≢ Owner ClearTable))
+        → move core event ≡ None }
+
+    // Of the ids a granted take notes a take, and a give back notes the id. A clear begins anew,
+    // and all else notes nothing.
+    ensures no_id_moves { (core : Core V E) → id_moves core [] ≡ [] }
+    ensures one_take { (core : Core V E) (events : List (Event V E)) (event : Event V E)
+        → IsTrue (is_granted_take (run core events) event)
+        → id_moves core (events ++ event ∷ []) ≡ noted (id_moves core events) Take }
+    ensures one_give { (core : Core V E) (events : List (Event V E)) (n : ℕ) (local : Local V E)
+        → IsTrue (is_enabled (run core events) (GiveBack n))
+        → (run core events).locals n ≡ Some local
+        → id_moves core (events ++ GiveBack n ∷ []) ≡ noted (id_moves core events) (IdGive local.id) }
+    ensures ids_anew { (core : Core V E) (events : List (Event V E))
+        → IsTrue (is_enabled (run core events) (Owner ClearTable))
+        → id_moves core (events ++ Owner ClearTable ∷ []) ≡ [] }
+    ensures no_more_noted { (core : Core V E) (events : List (Event V E)) (event : Event V E)
+        → (IsTrue (is_enabled (run core events) event)
+        → (is_granted_take (run core events) event ≡ false)
+        × ((n : ℕ) → event ≢ GiveBack n)
+        × (event ≢ Owner ClearTable))
+        → id_moves core (events ++ event ∷ []) ≡ id_moves core events }
+
+    // What makes an event a take, an owner's call, one of this Local or walk, the beginning of a
+    // walk or the end of a table.
     ensures take { (event : Event V E) → IsTrue (is_take event)
         → (refused : Bool) × (growth : ℕ) × (event ≡ TakeId refused growth) }
     ensures owners { (event : Event V E) → IsTrue (is_exclusive event)
@@ -80,8 +137,8 @@ pub fn words_say<V, E>()
     ensures table_ends { (event : Event V E) → IsTrue (ends_table event)
         → (event ≡ Owner IntoIter) ⊎ (event ≡ Owner DropTable) }
 
-    // A take that is enabled is granted or refused, a bucket that gets its memory isn't refused, and
-    // the newcomer is the Local that comes.
+    // A take that is enabled is granted or refused, a bucket that gets its memory isn't refused,
+    // and the newcomer is the Local that comes.
     ensures ungranted { (core : Core V E) (refused : Bool) (growth : ℕ)
         → IsTrue (is_enabled core (TakeId refused growth))
         → is_granted_take core (TakeId refused growth) ≡ false
@@ -94,11 +151,14 @@ pub fn words_say<V, E>()
         → (happens core event).locals n ≡ Some local
         → newcomer core event ≡ Some local }
 
-    // The name of a pointer is the number of its bucket, and a call's own number that of the bucket
-    // that it has made.
-    ensures named { (table : Table V) (bucket number : ℕ)
-        → (named table bucket ≡ Some number)
+    // The number at a place is that of the bucket that stands there, and a call's own number that
+    // of the bucket that it has made. A bucket that stands in two tables is the same where it has
+    // one number in both.
+    ensures number_at { (table : Table V) (bucket number : ℕ)
+        → (number_at table bucket ≡ Some number)
         ↔ IsSomeAnd (table.pointers bucket) (λ here. here.number ≡ number) }
+    ensures same_bucket { (old new : Table V) (bucket : ℕ) → IsSameBucket old new bucket
+        → IsTrue (bucket_stands new bucket) × (number_at new bucket ≡ number_at old bucket) }
     ensures own { (create : Result V E) (number : ℕ)
         → own_number (Private create number) ≡ Some number }
     ensures own_slots { (id number : ℕ) (create : Result V E)
@@ -113,23 +173,47 @@ pub fn words_say<V, E>()
         → NoneTaken core (events ++ event ∷ []) }
     ensures no_take { (p : ℕ) (core : Core V E) → TakesBelow p core [] }
 
+    // A schedule leads on by its last event, and calls are answered one after another, each by the
+    // view that the one before leaves.
+    ensures run_none { (core : Core V E) → run core [] ≡ core }
+    ensures run_more { (core : Core V E) (events : List (Event V E)) (event : Event V E)
+        → run core (events ++ event ∷ []) ≡ happens (run core events) event }
+    ensures answers_none { (view : View V) → answers {V = V} {E = E} view [] ≡ [] }
+    ensures answers_more { (view : View V) (call : Call V E) (calls : List (Call V E))
+        → answers view (call ∷ calls)
+        ≡ answer view call ∷ answers (view_after view call) calls }
+
+    // A walk begins at the first slot, with no load, and has read, given and seen nothing.
+    ensures fresh { let walk : SharedWalk V = fresh_walk in
+        (walk.cursor ≡ record { bucket = 0; index = 0; looks = false })
+        × (walk.loads ≡ 0)
+        × (walk.read ≡ [])
+        × (walk.given ≡ [])
+        × ((id : ℕ) → walk.first id ≡ None) }
+
     // There is nobody else where the table is alone; a Local without a call has no get and no
     // closure under way; all ids below a number are held where each is; a slot is written where its
     // flag says so; and what a move requires.
     ensures alone { (core : Core V E) (n : ℕ)
         → IsAlone core → (core.locals n ≡ None) × (core.walks n ≡ None) }
+    ensures nobody { (core : Core V E)
+        → ((n : ℕ) → core.locals n ≡ None)
+        → ((n : ℕ) → core.walks n ≡ None)
+        → IsAlone core }
     ensures no_call { (local : Local V E) → HasNoCall local
         → (gets_of local.doing ≡ 0) × (closure_of local.doing ≡ None) }
     ensures all_below { (n id : ℕ) (held : List Bool) → HoldsAllBelow n held → id < n
         → IsTrue (is_held held id) }
     ensures written { (slot : Slot V) → IsWritten slot → IsTrue slot.flag → IsSome slot.written }
     ensures allows_give { (sheet : Sheet V) (id : ℕ)
-        → IsAllowed sheet (Give id) → IsTrue (is_held sheet.held id) }
-    ensures allows_publish { (sheet : Sheet V) (id : ℕ) (v : V) → IsAllowed sheet (Publish id v)
+        → IsMoveAllowed sheet (OfSheet (Give id)) → IsTrue (is_held sheet.held id) }
+    ensures allows_publish { (sheet : Sheet V) (id : ℕ) (v : V)
+        → IsMoveAllowed sheet (OfSheet (Publish id v))
         → (sheet.values id ≡ None) × IsTrue (is_held sheet.held id) }
 
-    // What a step does to the calls of its Local: a get begins, a publishing call begins, none begins
-    // or ends, one is refused memory, one ends or goes on, or a get or a publishing call ends.
+    // What a step does to the calls of its Local: a get begins, a publishing call begins, none
+    // begins or ends, one is refused memory, one ends or goes on, or a get or a publishing call
+    // ends.
     ensures step_keeps { (step : LocalStep V E) (before after : Local V E) → GoesOn step before after
         → (after.id ≡ before.id) × (after.start ≡ before.start) }
     ensures get_begins { (before after : Local V E) → GoesOn BeginGet before after

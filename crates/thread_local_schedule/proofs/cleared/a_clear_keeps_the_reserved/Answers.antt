@@ -7,8 +7,8 @@ returns-clause-empty g c = laws.slot_at-cleared
 pub returns-clause-stands : goal.returns-clause-stands
 returns-clause-stands g c = laws.bucket_stands-cleared
 
-pub returns-clause-named : goal.returns-clause-named
-returns-clause-named g c = laws.named-cleared
+pub returns-clause-same : goal.returns-clause-same
+returns-clause-same g c = laws.number_at-cleared
 
 pub returns-clause-made : goal.returns-clause-made
 returns-clause-made g c = laws.made-cleared

@@ -65,8 +65,17 @@ returns-clause-fails g c = λ core n local e r. rule.fails core n local e (claus
 pub returns-clause-slots : goal.returns-clause-slots
 returns-clause-slots g c = rule.slots
 
-pub returns-clause-iter_mut : goal.returns-clause-iter_mut
-returns-clause-iter_mut g c = rule.iter_mut
+pub returns-clause-rewrites : goal.returns-clause-rewrites
+returns-clause-rewrites g c = rule.rewrites
+
+pub returns-clause-drained_core : goal.returns-clause-drained_core
+returns-clause-drained_core g c = rule.drained_core
+
+pub returns-clause-drained_stands : goal.returns-clause-drained_stands
+returns-clause-drained_stands g c = rule.drained_stands
+
+pub returns-clause-drained_slots : goal.returns-clause-drained_slots
+returns-clause-drained_slots g c = rule.drained_slots
 
 pub returns-clause-cleared_core : goal.returns-clause-cleared_core
 returns-clause-cleared_core g c = clause.cleared_core

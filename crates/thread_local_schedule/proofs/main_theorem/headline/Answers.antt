@@ -4,10 +4,17 @@ use Rattle.thread_local_schedule.proofs.Clauses as clause
 use Rattle.thread_local_schedule.proofs.Enabled as may
 use Rattle.thread_local_schedule.proofs.TakingBelow as bound
 use Rattle.thread_local_schedule.proofs.MainTheorem as main
+use Rattle.thread_local_schedule.proofs.History as ids
 use Rattle.thread_local_schedule.proofs.main_theorem.headline.Goals as goal
 
 pub returns-clause-least_id : goal.returns-clause-least_id
 returns-clause-least_id g c = λ capacity extra events event l. clause.least_taken (run (made_core capacity extra) events) event
+
+pub returns-clause-history : goal.returns-clause-history
+returns-clause-history g c = ids.history
+
+pub returns-clause-least_after : goal.returns-clause-least_after
+returns-clause-least_after g c = ids.least_after
 
 pub returns-clause-first_value : goal.returns-clause-first_value
 returns-clause-first_value g c = λ capacity extra before between id v l.

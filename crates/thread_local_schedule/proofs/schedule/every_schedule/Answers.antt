@@ -6,6 +6,9 @@ use Rattle.thread_local_schedule.proofs.Open as ending
 use Rattle.std.proofs.Common.{refl, arith}
 use Rattle.thread_local_schedule.proofs.PeakLaws as bound
 use Rattle.thread_local_schedule.proofs.Publishings as publishing
+use Rattle.thread_local_schedule.proofs.TakingBelow as below
+use Rattle.thread_local_schedule.proofs.History as ids
+use Rattle.thread_local_schedule.proofs.TableLaws.{at_one_place}
 use Rattle.thread_local_schedule.specs.Core.{made_core}
 use Rattle.thread_local_schedule.proofs.Parts.{made_core-fits}
 use Rattle.thread_local_schedule.proofs.HeldCounts.{held_below}
@@ -72,7 +75,7 @@ pub returns-clause-owner_walk : goal.returns-clause-owner_walk
 returns-clause-owner_walk g c = λ core r. owner_walk-walk core.table
 
 pub returns-clause-flagged : goal.returns-clause-flagged
-returns-clause-flagged g c = λ core bucket index r. known.flagged core.table bucket index (clause.fits core r).table.written
+returns-clause-flagged g c = λ core id r. (clause.fits core r).table.written id
 
 pub returns-clause-start : goal.returns-clause-start
 returns-clause-start g c = λ core event r. clause.start core event
@@ -85,6 +88,12 @@ returns-clause-goes_on g c = may.goes_on
 
 pub returns-clause-others : goal.returns-clause-others
 returns-clause-others g c = λ core event n local r. (clause.says core event r).others n local
+
+pub returns-clause-history : goal.returns-clause-history
+returns-clause-history g c = ids.history
+
+pub returns-clause-drained : goal.returns-clause-drained
+returns-clause-drained g c = clause.drained_sheet
 
 pub returns-clause-cleared : goal.returns-clause-cleared
 returns-clause-cleared g c = clause.cleared_sheet
@@ -110,20 +119,20 @@ returns-clause-ended g c = ending.ended
 pub returns-clause-stays_open : goal.returns-clause-stays_open
 returns-clause-stays_open g c = ending.stays_open
 
-pub returns-clause-pointer_stays : goal.returns-clause-pointer_stays
-returns-clause-pointer_stays g c = λ core event bucket number r quiet. (clause.says core event r).names quiet bucket number
+pub returns-clause-bucket_stays : goal.returns-clause-bucket_stays
+returns-clause-bucket_stays g c = clause.bucket_stays
 
 pub returns-clause-reserved_stands : goal.returns-clause-reserved_stands
 returns-clause-reserved_stands g c = λ core bucket r. (clause.fits core r).table.reserved bucket
 
 pub returns-clause-reserved_stays : goal.returns-clause-reserved_stays
-returns-clause-reserved_stays g c = λ core event bucket number r reserved. (clause.says core event r).reserved_stays bucket reserved number
+returns-clause-reserved_stays g c = clause.reserved_stays
 
-pub returns-clause-pointers_apart : goal.returns-clause-pointers_apart
-returns-clause-pointers_apart g c = λ core a b number r. (clause.fits core r).numbers.named_apart a b number
+pub returns-clause-at_one_place : goal.returns-clause-at_one_place
+returns-clause-at_one_place g c = λ core a b r. at_one_place core.table a b ((clause.fits core r).numbers.standing_apart a b)
 
-pub returns-clause-unnamed : goal.returns-clause-unnamed
-returns-clause-unnamed g c = λ core n local number bucket r. (clause.fits core r).numbers.own_unnamed n local number bucket
+pub returns-clause-stands_nowhere : goal.returns-clause-stands_nowhere
+returns-clause-stands_nowhere g c = λ core n local number bucket r. (clause.fits core r).numbers.own_nowhere n local number bucket
 
 pub returns-clause-one_call : goal.returns-clause-one_call
 returns-clause-one_call g c = λ core m n a b number r. (clause.fits core r).numbers.own_apart m n a b number
@@ -180,6 +189,12 @@ returns-clause-reserved_publishes g c = λ core n local refused r. bound.reserve
 
 pub returns-clause-reserved_answers : goal.returns-clause-reserved_answers
 returns-clause-reserved_answers g c = λ core n local told r. bound.reserved_answers core n local told (clause.fits core r)
+
+pub returns-clause-slots : goal.returns-clause-slots
+returns-clause-slots g c = below.bounded
+
+pub returns-clause-refuses_nothing : goal.returns-clause-refuses_nothing
+returns-clause-refuses_nothing g c = below.refuses_nothing
 
 pub returns-clause-four_are_reached : goal.returns-clause-four_are_reached
 returns-clause-four_are_reached g c = λ a b c d. reach.four_are_reached a b c d

@@ -27,6 +27,12 @@ returns-clause-load_adds g c = λ core n before r. event.load_adds core n before
 pub returns-clause-look_adds : goal.returns-clause-look_adds
 returns-clause-look_adds g c = λ core n before r. event.look_adds core n before (clause.fits core r)
 
+pub returns-clause-load_moves : goal.returns-clause-load_moves
+returns-clause-load_moves g c = λ core n before r. event.load_moves core n before (clause.fits core r)
+
+pub returns-clause-look_moves : goal.returns-clause-look_moves
+returns-clause-look_moves g c = λ core n before r. event.look_moves core n before (clause.fits core r)
+
 pub returns-clause-complete : goal.returns-clause-complete
 returns-clause-complete g c = λ core n walk r at done id v e. known.complete core n walk (clause.fits core r) at done id v e
 

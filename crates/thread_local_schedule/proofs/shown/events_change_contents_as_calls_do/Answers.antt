@@ -19,6 +19,9 @@ returns-clause-rewritten_refills g c = laws.rewritten-refills
 pub returns-clause-refilled_rewrites : goal.returns-clause-refilled_rewrites
 returns-clause-refilled_rewrites g c = laws.refilled-rewrites
 
+pub returns-clause-drained : goal.returns-clause-drained
+returns-clause-drained g c = laws.shown-drained
+
 pub returns-clause-cleared : goal.returns-clause-cleared
 returns-clause-cleared g c = laws.shown-cleared
 

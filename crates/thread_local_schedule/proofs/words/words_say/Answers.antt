@@ -1,6 +1,9 @@
 use Rattle.std.proofs.Common.{refl}
 use Rattle.thread_local_schedule.proofs.Sayings as says
 use Rattle.thread_local_schedule.proofs.Counted as counted
+use Rattle.thread_local_schedule.proofs.History as ids
+use Rattle.thread_local_schedule.proofs.MoveLaws as moves
+use Rattle.thread_local_schedule.proofs.EventRules as rule
 use Rattle.thread_local_schedule.proofs.Clauses as clause
 use Rattle.thread_local_schedule.proofs.words.words_say.Goals as goal
 
@@ -34,8 +37,54 @@ returns-clause-one_published g c = counted.one_published
 pub returns-clause-published_anew : goal.returns-clause-published_anew
 returns-clause-published_anew g c = counted.published_anew
 
+pub returns-clause-drained_anew : goal.returns-clause-drained_anew
+returns-clause-drained_anew g c = counted.drained_anew
+
 pub returns-clause-as_many_published : goal.returns-clause-as_many_published
 returns-clause-as_many_published g c = counted.as_many_published
+
+pub returns-clause-take_moves : goal.returns-clause-take_moves
+returns-clause-take_moves g c = moves.take_moves
+
+pub returns-clause-give_moves : goal.returns-clause-give_moves
+returns-clause-give_moves g c = moves.give_moves
+
+pub returns-clause-publish_moves : goal.returns-clause-publish_moves
+returns-clause-publish_moves g c = moves.publish_moves
+
+pub returns-clause-rewrite_moves : goal.returns-clause-rewrite_moves
+returns-clause-rewrite_moves g c = moves.rewrite_moves
+
+pub returns-clause-drain_moves : goal.returns-clause-drain_moves
+returns-clause-drain_moves g c = moves.drain_moves
+
+pub returns-clause-clear_moves : goal.returns-clause-clear_moves
+returns-clause-clear_moves g c = moves.clear_moves
+
+pub returns-clause-no_moves : goal.returns-clause-no_moves
+returns-clause-no_moves g c = λ core event other. moves.no_moves core event (λ t. let it = other t in record {
+  take = it.0;
+  give = it.1;
+  publish = it.2;
+  rewrite = it.3;
+  drain = it.4;
+  clear = it.5;
+})
+
+pub returns-clause-no_id_moves : goal.returns-clause-no_id_moves
+returns-clause-no_id_moves g c = λ core. refl
+
+pub returns-clause-one_take : goal.returns-clause-one_take
+returns-clause-one_take g c = ids.one_take
+
+pub returns-clause-one_give : goal.returns-clause-one_give
+returns-clause-one_give g c = ids.one_give
+
+pub returns-clause-ids_anew : goal.returns-clause-ids_anew
+returns-clause-ids_anew g c = ids.ids_anew
+
+pub returns-clause-no_more_noted : goal.returns-clause-no_more_noted
+returns-clause-no_more_noted g c = ids.no_more_noted
 
 pub returns-clause-take : goal.returns-clause-take
 returns-clause-take g c = says.take
@@ -64,8 +113,11 @@ returns-clause-made g c = says.made
 pub returns-clause-newcomer : goal.returns-clause-newcomer
 returns-clause-newcomer g c = λ core event n local r. says.newcomer_comes core event n local (clause.fits core r)
 
-pub returns-clause-named : goal.returns-clause-named
-returns-clause-named g c = says.names
+pub returns-clause-number_at : goal.returns-clause-number_at
+returns-clause-number_at g c = says.numbers
+
+pub returns-clause-same_bucket : goal.returns-clause-same_bucket
+returns-clause-same_bucket g c = λ old new bucket x. x
 
 pub returns-clause-own : goal.returns-clause-own
 returns-clause-own g c = says.own
@@ -82,8 +134,26 @@ returns-clause-none_taken g c = says.none_taken
 pub returns-clause-no_take : goal.returns-clause-no_take
 returns-clause-no_take g c = λ p core. tt
 
+pub returns-clause-run_none : goal.returns-clause-run_none
+returns-clause-run_none g c = rule.run-none
+
+pub returns-clause-run_more : goal.returns-clause-run_more
+returns-clause-run_more g c = rule.run-one
+
+pub returns-clause-answers_none : goal.returns-clause-answers_none
+returns-clause-answers_none g c = λ view. refl
+
+pub returns-clause-answers_more : goal.returns-clause-answers_more
+returns-clause-answers_more g c = λ view call calls. refl
+
+pub returns-clause-fresh : goal.returns-clause-fresh
+returns-clause-fresh g c = (refl, refl, refl, refl, λ id. refl)
+
 pub returns-clause-alone : goal.returns-clause-alone
 returns-clause-alone g c = λ core n x. (x.locals n, x.walks n)
+
+pub returns-clause-nobody : goal.returns-clause-nobody
+returns-clause-nobody g c = λ core locals walks. record { locals = locals; walks = walks }
 
 pub returns-clause-no_call : goal.returns-clause-no_call
 returns-clause-no_call g c = λ local x. (x.gets, x.closure)

@@ -1,0 +1,276 @@
+-- What each event changes of the sheet, the buckets, the slots and its `Local`.
+use Rattle.std.proofs.Common.{◌≡◌, ℕ, Bool, true, false, cond, eqb, Option, Some, None, Result, Ok, Err, IsTrue, IfSome, IsSomeAnd, refl, ap, sym}
+use Rattle.std.proofs.Common.{◌∙◌, subst}
+use Rattle.std.specs.Prelude.{◌↔◌, is_some, option_map, option_and_then, unwrap_or}
+use Rattle.std.proofs.lemmas.Bool.{false≢true}
+use Rattle.thread_local_model.specs.Place.{bucket_of}
+use Rattle.thread_local_model.specs.Held.{with_least, without}
+use Rattle.thread_local_model.specs.Walk.{with_value}
+use Rattle.thread_local_model.specs.Learnt.{Learnt, Unknown, Missing, Standing, Vacant, Holding, learnt_by_install}
+use Rattle.thread_local_model.specs.Learnt.{learnt_by_publish}
+use Rattle.thread_local_model.specs.Answers.{GetOr, Answered}
+use Rattle.thread_local_schedule.specs.TableMoves.{TableMove, moved_by_if}
+use Rattle.thread_local_schedule.specs.Table.{Table, Slot, slot_at, value_of, published, bucket_stands, with_flag, with_fresh_bucket}
+use Rattle.thread_local_schedule.specs.Local.{Local, LocalStep, local_step, InstallBucket, WriteValue, SetFlag}
+use Rattle.thread_local_schedule.specs.Local.{Doing, Gets, Started, Private, Written, learns, offered, private_bucket}
+use Rattle.thread_local_schedule.specs.Local.{install_bucket, value_written, set_flag}
+use Rattle.thread_local_schedule.specs.Local.{closure_at_vacant, write_value, after_call}
+use Rattle.thread_local_schedule.specs.Fits.{number_at, IsLearnt, IsDoing, view_now}
+use Rattle.thread_local_schedule.specs.Numbers.{own_number}
+use Rattle.thread_local_schedule.specs.Core.{Core, shadow}
+use Rattle.thread_local_schedule.specs.CoreFits.{CoreFits}
+use Rattle.thread_local_schedule.specs.Events.{Event, OfLocal, GiveBack, Owner, RewriteTable, with_step, is_enabled, happens}
+use Rattle.thread_local_schedule.specs.Schedule.{move, is_granted_take, IsReached}
+use Rattle.thread_local_schedule.proofs.TableLaws.{bucket_stands-offered, slot_at-with_slot_same}
+use Rattle.thread_local_schedule.proofs.Clauses.{says, goes, enabled_step}
+use Rattle.thread_local_schedule.proofs.CallsLaws.{whatever_is_learnt}
+use Rattle.thread_local_schedule.proofs.NumbersLaws.{number_at-with_bucket_same}
+use Rattle.thread_local_schedule.proofs.Enabled.{step_leaves}
+use Rattle.thread_local_schedule.proofs.EventRules.{open_where}
+use Rattle.thread_local_schedule.proofs.StepNeeds.{writes}
+use Rattle.thread_local_schedule.proofs.MoveLaws as moves
+
+-- the sheet after an event, by its move
+by_move : {V E : Type 0} (core : Core V E) (event : Event V E) (o : Option (TableMove V)) → IsReached core
+    → move core event ≡ o
+    → shadow (happens core event) ≡ moved_by_if (shadow core) o
+by_move core event o r e = (says core event r).moves ∙ ap (moved_by_if (shadow core)) e
+
+pub takes : {V E : Type 0} (core : Core V E) (event : Event V E) → IsReached core
+    → IsTrue (is_granted_take core event)
+    → shadow (happens core event) ≡ record (shadow core) { held = with_least (shadow core).held }
+takes core event r t = by_move core event _ r (moves.take_moves core event t)
+
+pub gives_back : {V E : Type 0} (core : Core V E) (n : ℕ) (local : Local V E) → IsReached core
+    → IsTrue (is_enabled core (GiveBack n)) → core.locals n ≡ Some local
+    → shadow (happens core (GiveBack n)) ≡ record (shadow core) { held = without (shadow core).held local.id }
+gives_back core n local r t at = by_move core (GiveBack n) _ r (moves.give_moves core n local t at)
+
+pub publishes : {V E : Type 0} (core : Core V E) (n : ℕ) (local : Local V E) (v : V) → IsReached core
+    → IsTrue (is_enabled core (OfLocal n SetFlag)) → core.locals n ≡ Some local → local.doing ≡ Written v
+    → shadow (happens core (OfLocal n SetFlag))
+    ≡ record (shadow core) { values = with_value (shadow core).values local.id v }
+publishes core n local v r t at written = by_move core (OfLocal n SetFlag) _ r (moves.publish_moves core n local v t at written)
+
+pub rewrites : {V E : Type 0} (core : Core V E) (others : ℕ → V → V) → IsReached core
+    → IsTrue (is_enabled core (Owner (RewriteTable others)))
+    → shadow (happens core (Owner (RewriteTable others)))
+    ≡ record (shadow core) { values = λ id. option_map (others id) ((shadow core).values id) }
+rewrites core others r t = by_move core (Owner (RewriteTable others)) _ r (moves.rewrite_moves core others t)
+
+pub sheet_stays : {V E : Type 0} (core : Core V E) (event : Event V E) → IsReached core
+    → (IsTrue (is_enabled core event) → moves.IsNoMove core event)
+    → shadow (happens core event) ≡ shadow core
+sheet_stays core event r other = by_move core event None r (moves.no_moves core event other)
+
+-- a slot shows what is written in it where its flag is set
+shown : {V : Type 0} (written : Option V) (flag : Bool) (v : V)
+    → (value_of (record { written = written; flag = flag }) ≡ Some v) ↔ (IsTrue flag × (written ≡ Some v))
+shown written true v = (λ e. (refl, e), λ p. p.1)
+shown written false v = (λ e. cc, λ p. absurd (false≢true p.0))
+
+pub shows : {V E : Type 0} (core : Core V E) (id : ℕ) (v : V)
+    → ((shadow core).values id ≡ Some v) ↔ (IsTrue (slot_at core.table id).flag × ((slot_at core.table id).written ≡ Some v))
+unfolding published
+shows core id v = shown (slot_at core.table id).written (slot_at core.table id).flag v
+
+-- what holds of the table after a Local's step holds of the core's
+table_of : {V E : Type 0} (core : Core V E) (n : ℕ) (P : Table V → Type 0) (o : Option (Table V × Local V E))
+    → IfSome o (λ after. P after.0)
+    → IsTrue (is_some (option_map (with_step core n) o))
+    → P (unwrap_or (option_map (with_step core n) o) core).table
+table_of core n P None p t = absurd (false≢true t)
+table_of core n P (Some after) p t = p
+
+table_after : {V E : Type 0} (core : Core V E) (n : ℕ) (it : LocalStep V E) (local : Local V E) (P : Table V → Type 0)
+    → IsTrue (is_enabled core (OfLocal n it)) → core.locals n ≡ Some local
+    → IfSome (local_step core.table local it) (λ after. P after.0)
+    → P (happens core (OfLocal n it)).table
+table_after core n it local P t at p =
+    rw (goes core (OfLocal n it) t)
+    (rw at (table_of core n P (local_step core.table local it) p
+    (subst (λ o.
+    IsTrue
+    (is_some
+    (option_and_then (λ l. option_map (with_step core n) (local_step core.table l it))
+    o)))
+    at (enabled_step core (OfLocal n it) t))))
+
+-- an install makes the bucket of its Local's id stand, the call's own where none stood
+install_offers : {V E : Type 0} (table : Table V) (local : Local V E) (doing : Doing V E) (P : Table V → Type 0)
+    → ((number : ℕ) → own_number doing ≡ Some number → P (offered table (bucket_of local.id) number))
+    → IfSome (option_and_then (install_bucket table local) (private_bucket doing)) (λ after. P after.0)
+install_offers table local (Private create number) P p =
+    whatever_is_learnt (offered table (bucket_of local.id) number) (record local { doing = Started create })
+    (learnt_by_install local.learnt) (λ after. P after.0) (λ learnt. p number refl)
+install_offers table local (Gets count) P p = tt
+install_offers table local (Started create) P p = tt
+install_offers table local (Written v) P p = tt
+
+pub installs : {V E : Type 0} (core : Core V E) (n : ℕ) (local : Local V E) (bucket : ℕ)
+    → IsTrue (is_enabled core (OfLocal n InstallBucket)) → core.locals n ≡ Some local
+    → bucket_stands (happens core (OfLocal n InstallBucket)).table bucket
+    ≡ cond (eqb (bucket_of local.id) bucket) true (bucket_stands core.table bucket)
+unfolding local_step
+installs core n local bucket t at =
+    let own = bucket_of local.id in
+    table_after core n InstallBucket local
+    (λ table. bucket_stands table bucket ≡ cond (eqb own bucket) true (bucket_stands core.table bucket))
+    t at
+    (install_offers core.table local local.doing
+    (λ table. bucket_stands table bucket ≡ cond (eqb own bucket) true (bucket_stands core.table bucket))
+    (λ number e. bucket_stands-offered core.table own number bucket))
+
+-- where none stood, the one that stands then is the call's own
+fresh_number : {V : Type 0} (table : Table V) (bucket number : ℕ) (b : Bool) → bucket_stands table bucket ≡ b → b ≡ false
+    → number_at (cond b table (with_fresh_bucket table bucket number)) bucket ≡ Some number
+fresh_number table bucket number true at none = absurd (false≢true (sym none))
+fresh_number table bucket number false at none = number_at-with_bucket_same table bucket number
+
+pub installs_own : {V E : Type 0} (core : Core V E) (n : ℕ) (local : Local V E)
+    → IsTrue (is_enabled core (OfLocal n InstallBucket)) → core.locals n ≡ Some local
+    → bucket_stands core.table (bucket_of local.id) ≡ false
+    → number_at (happens core (OfLocal n InstallBucket)).table (bucket_of local.id) ≡ own_number local.doing
+unfolding local_step
+installs_own core n local t at none =
+    let own = bucket_of local.id in
+    table_after core n InstallBucket local (λ table. number_at table own ≡ own_number local.doing) t at
+    (install_offers core.table local local.doing (λ table. number_at table own ≡ own_number local.doing)
+    (λ number e. fresh_number core.table own number (bucket_stands core.table own) refl none ∙ sym e))
+
+-- a value is written into the slot of the Local's id, and then its flag is set
+writes_slot : {V E : Type 0} (table : Table V) (local : Local V E) (v : V) (o : Option (Result V E))
+    → IsTrue (bucket_stands table (bucket_of local.id)) → ((create : Result V E) → o ≡ Some create → create ≡ Ok v)
+    → IfSome (option_map (write_value table local) o)
+    (λ after. slot_at after.0 local.id ≡ record (slot_at table local.id) { written = Some v })
+writes_slot table local v None stands only = tt
+writes_slot table local v (Some (Ok w)) stands only =
+    let all : Ok w ≡ Ok v = only (Ok w) refl in
+    let same : w ≡ v = cc in
+    slot_at-with_slot_same table local.id _ stands
+    ∙ ap (λ x. let slot : Slot _ = record (slot_at table local.id) { written = Some x } in slot) same
+writes_slot table local v (Some (Err e)) stands only = let all : Err e ≡ Ok v = only (Err e) refl in absurd cc
+
+started_only : {V E : Type 0} (doing : Doing V E) (learnt : Learnt V) (create : Result V E) → doing ≡ Started create
+    → (other : Result V E) → closure_at_vacant doing learnt ≡ Some other
+    → other ≡ create
+started_only (Started it) Vacant create e other f = cc
+started_only (Started it) Unknown create e other f = cc
+started_only (Started it) Missing create e other f = cc
+started_only (Started it) Standing create e other f = cc
+started_only (Started it) (Holding v) create e other f = cc
+started_only (Gets count) learnt create e other f = cc
+started_only (Private it number) learnt create e other f = cc
+started_only (Written v) learnt create e other f = cc
+
+-- a Local that may write has learnt that its bucket stands
+may_write : {V E : Type 0} (core : Core V E) (n : ℕ) (local : Local V E) → CoreFits core
+    → IsTrue (is_enabled core (OfLocal n WriteValue)) → core.locals n ≡ Some local
+    → IsTrue (bucket_stands core.table (bucket_of local.id))
+may_write core n local h t at =
+    let learnt = ((writes core n local (open_where core (OfLocal n WriteValue) t) at).0 t).1 in
+    let fits = (h.locals.each n local at).local_fits.view.learnt_so in
+    (subst (IsLearnt core.table local.id (view_now local)) learnt fits).0
+
+pub writes_value : {V E : Type 0} (core : Core V E) (n : ℕ) (local : Local V E) (v : V) → CoreFits core
+    → IsTrue (is_enabled core (OfLocal n WriteValue)) → core.locals n ≡ Some local → local.doing ≡ Started (Ok v)
+    → slot_at (happens core (OfLocal n WriteValue)).table local.id
+    ≡ record (slot_at core.table local.id) { written = Some v }
+unfolding local_step
+writes_value core n local v h t at started =
+    table_after core n WriteValue local
+    (λ table. slot_at table local.id ≡ record (slot_at core.table local.id) { written = Some v }) t at
+    (writes_slot core.table local v (closure_at_vacant local.doing local.learnt) (may_write core n local h t at)
+    (started_only local.doing local.learnt (Ok v) started))
+
+sets_slot : {V E : Type 0} (table : Table V) (local : Local V E) (o : Option V)
+    → (IsTrue (is_some o) → IsTrue (bucket_stands table (bucket_of local.id)))
+    → IfSome (option_and_then (set_flag table local) o)
+    (λ after. slot_at {V = V} after.0 local.id ≡ record (slot_at table local.id) { flag = true })
+sets_slot table local None stands = tt
+sets_slot table local (Some v) stands =
+    whatever_is_learnt (with_flag table local.id)
+    (after_call local (GetOr (Ok v) false) (Answered v) local.learnt (Gets 0))
+    (learnt_by_publish local.learnt v)
+    (λ after. slot_at after.0 local.id ≡ record (slot_at table local.id) { flag = true })
+    (λ learnt. slot_at-with_slot_same table local.id _ (stands refl))
+
+written_stands : {V E : Type 0} (table : Table V) (id : ℕ) (doing : Doing V E) → IsDoing table id doing
+    → IsTrue (is_some (value_written doing))
+    → IsTrue (bucket_stands table (bucket_of id))
+written_stands table id (Written v) fits t = fits.0
+written_stands table id (Gets count) fits t = absurd (false≢true t)
+written_stands table id (Started create) fits t = absurd (false≢true t)
+written_stands table id (Private create number) fits t = absurd (false≢true t)
+
+pub sets_flag : {V E : Type 0} (core : Core V E) (n : ℕ) (local : Local V E) → CoreFits core
+    → IsTrue (is_enabled core (OfLocal n SetFlag)) → core.locals n ≡ Some local
+    → slot_at (happens core (OfLocal n SetFlag)).table local.id ≡ record (slot_at core.table local.id) { flag = true }
+unfolding local_step
+sets_flag core n local h t at =
+    table_after core n SetFlag local
+    (λ table. slot_at table local.id ≡ record (slot_at core.table local.id) { flag = true }) t at
+    (sets_slot core.table local (value_written local.doing)
+    (written_stands core.table local.id local.doing (h.locals.each n local at).local_fits.view.doing_so))
+
+-- what a Local has learnt by an install and by a publishing, and the bucket that it has made
+installed_learnt : {V E : Type 0} (table : Table V) (local : Local V E) (o : Option (Learnt V))
+    → ((learnt : Learnt V) → o ≡ Some learnt → learnt ≡ Vacant)
+    → IfSome (learns table local o) (λ after. after.1.learnt ≡ Vacant)
+installed_learnt table local None only = tt
+installed_learnt table local (Some learnt) only = only learnt refl
+
+by_install : {V : Type 0} (before learnt : Learnt V) → learnt_by_install before ≡ Some learnt → learnt ≡ Vacant
+by_install Missing learnt e = cc
+by_install Unknown learnt e = cc
+by_install Standing learnt e = cc
+by_install Vacant learnt e = cc
+by_install (Holding v) learnt e = cc
+
+install_learns : {V E : Type 0} (table : Table V) (local : Local V E) (doing : Doing V E)
+    → IfSome (option_and_then (install_bucket table local) (private_bucket doing)) (λ after. after.1.learnt ≡ Vacant)
+install_learns table local (Private create number) =
+    installed_learnt (offered table (bucket_of local.id) number) (record local { doing = Started create })
+    (learnt_by_install local.learnt) (by_install local.learnt)
+install_learns table local (Gets count) = tt
+install_learns table local (Started create) = tt
+install_learns table local (Written v) = tt
+
+pub installed : {V E : Type 0} (core : Core V E) (n : ℕ) (local : Local V E)
+    → IsTrue (is_enabled core (OfLocal n InstallBucket)) → core.locals n ≡ Some local
+    → IsSomeAnd ((happens core (OfLocal n InstallBucket)).locals n) (λ after. after.learnt ≡ Vacant)
+unfolding local_step
+installed core n local t at =
+    step_leaves core n InstallBucket local (λ after. after.learnt ≡ Vacant) t at
+    (install_learns core.table local local.doing)
+
+by_publish : {V : Type 0} (before learnt : Learnt V) (v : V) → learnt_by_publish before v ≡ Some learnt → learnt ≡ Holding v
+by_publish Vacant learnt v e = cc
+by_publish Unknown learnt v e = cc
+by_publish Missing learnt v e = cc
+by_publish Standing learnt v e = cc
+by_publish (Holding w) learnt v e = cc
+
+published_learnt : {V E : Type 0} (table : Table V) (local : Local V E) (v : V) (o : Option (Learnt V))
+    → ((learnt : Learnt V) → o ≡ Some learnt → learnt ≡ Holding v)
+    → IfSome (learns table local o) (λ after. after.1.learnt ≡ Holding v)
+published_learnt table local v None only = tt
+published_learnt table local v (Some learnt) only = only learnt refl
+
+publish_learns : {V E : Type 0} (table : Table V) (local : Local V E) (v : V) (o : Option V) → o ≡ Some v
+    → IfSome (option_and_then (set_flag table local) o) (λ after. after.1.learnt ≡ Holding v)
+publish_learns table local v None e = cc
+publish_learns table local v (Some w) e =
+    let same : w ≡ v = cc in
+    subst (λ x. IfSome (set_flag table local x) (λ after. after.1.learnt ≡ Holding v)) (sym same)
+    (published_learnt (with_flag table local.id)
+    (after_call local (GetOr (Ok v) false) (Answered v) local.learnt (Gets 0)) v
+    (learnt_by_publish local.learnt v) (λ learnt. by_publish local.learnt learnt v))
+
+pub holds : {V E : Type 0} (core : Core V E) (n : ℕ) (local : Local V E) (v : V)
+    → IsTrue (is_enabled core (OfLocal n SetFlag)) → core.locals n ≡ Some local → local.doing ≡ Written v
+    → IsSomeAnd ((happens core (OfLocal n SetFlag)).locals n) (λ after. after.learnt ≡ Holding v)
+unfolding local_step
+holds core n local v t at written =
+    step_leaves core n SetFlag local (λ after. after.learnt ≡ Holding v) t at
+    (publish_learns core.table local v (value_written local.doing) (ap value_written written))

@@ -1,0 +1,46 @@
+use Rattle.thread_local_schedule.proofs.EffectLaws as laws
+use Rattle.thread_local_schedule.proofs.Clauses as clause
+use Rattle.thread_local_schedule.proofs.effects.events_change.Goals as goal
+
+pub returns-clause-takes : goal.returns-clause-takes
+returns-clause-takes g c = laws.takes
+
+pub returns-clause-gives_back : goal.returns-clause-gives_back
+returns-clause-gives_back g c = laws.gives_back
+
+pub returns-clause-publishes : goal.returns-clause-publishes
+returns-clause-publishes g c = laws.publishes
+
+pub returns-clause-rewrites : goal.returns-clause-rewrites
+returns-clause-rewrites g c = laws.rewrites
+
+pub returns-clause-sheet_stays : goal.returns-clause-sheet_stays
+returns-clause-sheet_stays g c = λ core event r other. laws.sheet_stays core event r (λ t. let it = other t in record {
+  take = it.0;
+  give = it.1;
+  publish = it.2;
+  rewrite = it.3;
+  drain = it.4;
+  clear = it.5;
+})
+
+pub returns-clause-shows : goal.returns-clause-shows
+returns-clause-shows g c = laws.shows
+
+pub returns-clause-writes : goal.returns-clause-writes
+returns-clause-writes g c = λ core n local v r. laws.writes_value core n local v (clause.fits core r)
+
+pub returns-clause-sets_flag : goal.returns-clause-sets_flag
+returns-clause-sets_flag g c = λ core n local r. laws.sets_flag core n local (clause.fits core r)
+
+pub returns-clause-installs : goal.returns-clause-installs
+returns-clause-installs g c = laws.installs
+
+pub returns-clause-installs_own : goal.returns-clause-installs_own
+returns-clause-installs_own g c = laws.installs_own
+
+pub returns-clause-installed : goal.returns-clause-installed
+returns-clause-installed g c = laws.installed
+
+pub returns-clause-holds : goal.returns-clause-holds
+returns-clause-holds g c = laws.holds
