@@ -27,8 +27,8 @@
 //! }
 //! ```
 //!
-//! The crate also has the ids that a table gives out, the buckets for an exclusive owner, and the
-//! theorems over every schedule.
+//! The crate also has the ids that a table gives out, and the buckets for an exclusive owner. The
+//! theorems over every schedule stand in `thread_local_schedule`.
 #![tactic(auto)]
 
 pub mod buckets;
@@ -37,7 +37,6 @@ mod error;
 pub mod iter;
 pub mod local;
 pub mod padded;
-pub mod schedule;
 pub mod scratch;
 mod seat;
 pub mod table;
