@@ -1,6 +1,7 @@
 //! Threads make calls at random on one table after another, and the history of these calls is
 //! printed, for `tools/histories` to judge. The arguments are how many calls, by how many threads, and
-//! a seed. A table takes 8000 calls or a few more. With no argument, a line that says so is printed.
+//! a seed. A table takes 8000 calls or a few more, and fewer where fewer are asked for. The history of
+//! one thread is the same in each run.
 //!
 //! A line `table CAPACITY` begins a table, made by `new` where the capacity is `-`. A line `round`
 //! begins a round, after which the table's owner makes calls alone. Each other line is a call:
@@ -39,7 +40,7 @@ use thread_local::ThreadLocal;
 /// How many rounds a table lives.
 const ROUNDS: u64 = 8;
 
-/// How many calls the threads of a round make together, or a few more.
+/// How many calls the threads of a round make together at most, or a few more.
 const CALLS: u64 = 1000;
 
 /// What the arguments ask for.
@@ -97,7 +98,7 @@ fn live<R: Threads + Wait + Sync, W: Write>(
     out: &mut W,
 ) -> io::Result<()> {
     let Asked {
-        calls: _,
+        calls,
         threads,
         seed,
     } = asked;
@@ -105,12 +106,13 @@ fn live<R: Threads + Wait + Sync, W: Write>(
     writeln!(out, "table {capacity}")?;
     let before = number.wrapping_mul(ROUNDS.wrapping_add(1));
     let each = threads.wrapping_add(1).wrapping_mul(NUMBERS);
+    let together = CALLS.min(calls / ROUNDS);
     for step in 0..ROUNDS {
         let past = before.wrapping_add(step);
         let first = past.wrapping_mul(each);
         let plan = Plan {
             threads,
-            calls: (CALLS / threads.max(1)).wrapping_add(1) as usize,
+            calls: (together / threads.max(1)).wrapping_add(1) as usize,
             seed: seed.wrapping_mul(1_000_003).wrapping_add(past),
             first: first.wrapping_add(NUMBERS),
         };

@@ -2,7 +2,8 @@
 //! checks what it finds; between rounds the table's owner checks what they left. The moves differ
 //! from run to run only by what the threads meet. The arguments are for how many seconds, and how
 //! many threads. What was counted is printed, and a check that failed ends in status 1. With no
-//! argument, a line that says so is printed.
+//! argument four threads race for a hundred rounds, and only what each such race counts alike is
+//! printed.
 #![tactic(auto)]
 
 use std::alloc::{AllocError, Global};
@@ -25,6 +26,25 @@ const MOVES: u32 = 200;
 
 /// After how many rounds the owner clears the table. Halfway it drains it.
 const ROUNDS: u64 = 4;
+
+/// When a race ends: after so many seconds, or after so many rounds.
+#[derive(Clone, Copy)]
+enum Until {
+    Seconds(u64),
+    Rounds(u64),
+}
+
+impl Until {
+    /// Whether a race is over that began then and has had so many rounds.
+    fn is_over<R: Clock>(self, rt: &R, start: Instant, rounds: u64) -> io::Result<bool> {
+        Ok(match self {
+            Until::Seconds(seconds) => {
+                start.elapsed(rt)?.as_nanos() / 1_000_000_000 >= u128::from(seconds)
+            }
+            Until::Rounds(most) => rounds >= most,
+        })
+    }
+}
 
 /// What is published: a number, and how many `Local`s know the value at the moment. One `Local` at
 /// most has a value's id.
@@ -266,12 +286,12 @@ fn drain(table: &mut ThreadLocal<Mark>, counts: &Counts) {
     counts.expect(drained == standing && counts.standing() == 0 && table.slots() == slots);
 }
 
-/// Runs rounds for `seconds` seconds with `threads` threads, and prints what was counted. A fault
-/// is told, and ends in an error.
+/// Runs rounds with `threads` threads, and prints what was counted. A fault is told, and ends in an
+/// error.
 fn run<R: Clock + Threads + Wait + Sync + Print>(
     rt: &R,
     alloc: Global,
-    seconds: u64,
+    until: Until,
     threads: u64,
 ) -> io::Result<()> {
     judge_sync::<Mark>();
@@ -291,22 +311,32 @@ fn run<R: Clock + Threads + Wait + Sync + Print>(
             table.clear();
             counts.expect(table.slots() == 0 && counts.standing() == 0);
         }
-        if start.elapsed(rt)?.as_nanos() / 1_000_000_000 >= u128::from(seconds) {
+        if until.is_over(rt, start, rounds)? {
             break;
         }
     }
     drop(table);
     counts.expect(counts.standing() == 0);
-    tell(rt, &counts, rounds, threads)
+    tell(rt, &counts, until, rounds, threads)
 }
 
-/// Prints what was counted. A fault ends in an error.
-fn tell<R: Print>(rt: &R, counts: &Counts, rounds: u64, threads: u64) -> io::Result<()> {
+/// Prints what was counted. A fault ends in an error. How many values are published depends on what
+/// the threads meet, so a race of so many rounds doesn't tell it.
+fn tell<R: Print>(
+    rt: &R,
+    counts: &Counts,
+    until: Until,
+    rounds: u64,
+    threads: u64,
+) -> io::Result<()> {
     let taken = counts.taken.load(SeqCst);
     let published = counts.published.load(SeqCst);
     let faults = counts.faults.load(SeqCst);
     print!(rt; "{threads} threads, {rounds} rounds, {taken} Locals taken, ")?;
-    println!(rt; "{published} values published and dropped, {faults} faults")?;
+    if let Until::Seconds(_) = until {
+        print!(rt; "{published} values published and dropped, ")?;
+    }
+    println!(rt; "{faults} faults")?;
     if faults == 0 {
         Ok(())
     } else {
@@ -322,11 +352,15 @@ fn number(word: Option<String>) -> Option<u64> {
 /// Reads the arguments, and lets the threads race.
 fn main(rt: HostRuntime) -> io::Result<()> {
     let mut words = std::env::args(&rt)?.skip(1);
-    let seconds = number(words.next());
+    let first = words.next();
+    if first.is_none() {
+        return run(&rt, rt.alloc(), Until::Rounds(100), 4);
+    }
+    let seconds = number(first);
     let threads = number(words.next());
     match (seconds, threads) {
         (Some(seconds), Some(threads)) if threads >= 1 && threads <= 64 => {
-            run(&rt, rt.alloc(), seconds, threads)
+            run(&rt, rt.alloc(), Until::Seconds(seconds), threads)
         }
         _ => println!(rt; "usage: thread_local_races SECONDS THREADS, with 1 to 64 threads"),
     }

@@ -1,5 +1,6 @@
 //! A bound on a test's memory: all the rest is taken first. So a leak is refused on any machine, or
-//! every request is. `rt try` doesn't end on a test that calls these: it marks each byte of a block.
+//! every request is. Under `rt try` small requests are granted all the same, from memory that its
+//! checks keep, so `tools/test` leaves the tests of files that use `take_all` to the gate.
 
 use std::alloc::{AllocError, Global};
 
