@@ -12,6 +12,7 @@ mod Facts
 pub mod TokenListLaws
 pub mod Made
 pub mod MoveElements
+pub mod ReachedElements
 pub mod Markers
 pub mod RightElements
 pub mod Rows

@@ -1,12 +1,13 @@
 -- What rights own: elements of ghost state, one at the key of each id under the table's name, with
 -- one holder each. At one more key lies what was done with the ids, which only grows.
-use Rattle.std.specs.Prelude.{ℕ, ◌==◌, ◌^◌, ◌-◌, Bool, true, false, not, List, [], ◌∷◌, if◌then◌else◌}
+use Rattle.std.specs.Prelude.{ℕ, ◌==◌, ◌^◌, ◌-◌, ◌≤◌, Bool, true, false, not, List, [], ◌∷◌, length, if◌then◌else◌}
 use mathlib.Core.Option.{Option, none, some}
 use base.Fraction.{full_share}
 use base.Algebra.{Algebra}
 use base.Growing.{prefixes, growing}
-use base.Fml.{Share, Fml, fown, fsep, fex}
+use base.Fml.{Share, Fml, ftrue, fown, fsep, fex}
 use types.Keyed.{keyed}
+use Rattle.thread_local_model.specs.Fact.{fact}
 use Rattle.thread_local_model.specs.Held.{least}
 use Rattle.thread_local_model.specs.IdMoves.{IdMove, Take, Give, move_coded, held_after, noted}
 use Rattle.thread_local_ids.specs.Returns.{gives, counts_own, counts_page, tenure_owns}
@@ -83,3 +84,15 @@ taken_id before = least (held_after before)
 
 abbrev pub tenure_of : ℕ → List IdMove → Fml
 tenure_of table before = fsep (page_owns table (noted before Take)) (held_owns table (taken_id before) (gives before (taken_id before)))
+
+-- these were all moves of a table once; that there were none is so of every table
+abbrev pub page_if : ℕ → List IdMove → Fml
+page_if table [] = ftrue
+page_if table (move ∷ moves) = page_owns table (move ∷ moves)
+
+abbrev pub reached_by : ℕ → ℕ → List IdMove → Fml
+reached_by table n moves = fsep (fact (n ≤ length (held_after moves))) (page_if table moves)
+
+-- n ids of a table were held at once
+unfoldable pub reached_owns : ℕ → ℕ → Fml
+reached_owns table n = fex (List IdMove) (reached_by table n)

@@ -1,5 +1,5 @@
 //! An id of a table is held, with its right out, or it is free, with its right here.
-ghost use Rattle.std.specs.Prelude.{◌≡◌, ◌≢◌, ◌+◌, ◌-◌, ◌^◌, ◌≤◌, ◌<◌, ◌==◌, ℕ, min, true, false, [], if◌then◌else◌, IsOk, OnErr, IfOk};
+ghost use Rattle.std.specs.Prelude.{◌≡◌, ◌≢◌, ◌+◌, ◌-◌, ◌^◌, ◌≤◌, ◌<◌, ◌==◌, ℕ, min, true, false, [], length, if◌then◌else◌, IsOk, OnErr, IfOk};
 ghost use Rattle.thread_local_model.specs.IdMoves.{Take, Give, noted};
 ghost use mathlib.Core.List.{IsPrefix};
 ghost use Rattle.thread_local_ids.specs.Rights.{is_out, taken_id};
@@ -7,7 +7,7 @@ ghost use Rattle.std.specs.Prelude.{alloc_error};
 ghost use Rattle.thread_local_model.specs.Held.{is_held, Takes, Gives, NeedsMemory, IsExhausted};
 
 use crate::lock::Fits;
-use crate::{HeldId, History, Page, Right, Rights, Tenure};
+use crate::{HeldId, History, Page, Reached, Right, Rights, Tenure};
 use std::alloc::{AllocError, Global};
 use std::marker::Model;
 use thread_local_thread_id::manager::IDS;
@@ -172,6 +172,22 @@ impl Ids {
         ensures same { (self.new.manager ≡ self.old.manager) × (self.new.table ≡ self.old.table) × (self.new.moves ≡ self.old.moves) }
     {
         self.rights.take(IDS)
+    }
+
+    /// The most ids that were held at once since the table was made or cleared.
+    pub fn peak(&self) -> usize
+        ensures { result ≡ length self.now.manager.held }
+    {
+        self.manager.peak()
+    }
+
+    /// Shows that the peak is no lower. At run time it does nothing.
+    pub fn has_reached(&mut self, reached: Reached)
+        requires { reached.table ≡ self.old.table }
+        ensures peak { reached.ids ≤ length self.old.manager.held }
+        ensures same { self.new ≡ self.old }
+    {
+        self.history.has_reached(reached);
     }
 
     /// Whether an id is held.
