@@ -9,7 +9,7 @@ use std::marker::{Model, PhantomData};
 /// So many ids of a table were held at once, since it was made or cleared. It has no bytes.
 #[derive(Drop)]
 pub struct Reached {
-    pub(crate) marker: PhantomData<()>,
+    pub marker: PhantomData<()>,
     pub ghost table: { ℕ },
     pub ghost ids: { ℕ },
 }

@@ -7,6 +7,7 @@ ghost use Rattle.thread_local_model.specs.Owned.{IsOwned, AreOfFirstBuckets};
 ghost use Rattle.thread_local_model.specs.Place.{bucket_of, id_at};
 ghost use Rattle.thread_local_judged.specs.Judged.{Judged};
 ghost use Rattle.thread_local_shared_buckets.specs.Known.{HasLooked};
+ghost use Rattle.thread_local_shared_buckets.specs.Grown.{only_reserved};
 ghost use Rattle.thread_local_shared_buckets.specs.TableView.{TableView, table_view_coded, bucket_view};
 ghost use Rattle.thread_local_shared_buckets.specs.Parts.{parts_own, parts_share};
 
@@ -50,6 +51,7 @@ impl<T> Shared<T> {
         ensures table { result.table ≡ own.now.table }
         ensures sharing { IsSome result.sharing }
         ensures reserved { result.reserved ≡ buckets.reserved }
+        ensures grown { result.grown_by_ids ≡ only_reserved buckets }
     {
         Shared::new_apart(buckets, own)
     }
@@ -61,6 +63,7 @@ impl<T> Shared<T> {
         ensures table { result.table ≡ own.now.table }
         ensures sharing { IsSome result.sharing × (result.sharing ≢ past) }
         ensures reserved { result.reserved ≡ buckets.reserved }
+        ensures grown { result.grown_by_ids ≡ only_reserved buckets }
     {
         let (pointers, reserved) = buckets.into_parts();
         Shared::of(pointers, reserved, own)
@@ -74,6 +77,7 @@ impl<T> Shared<T> {
         ensures table { result.table ≡ own.now.table }
         ensures sharing { IsSome result.sharing × (result.sharing ≢ past) }
         ensures reserved { result.reserved ≡ reserved }
+        ensures grown { result.grown_by_ids ≡ only_reserved (record { contents = pointers; reserved = reserved }) }
     {
         let _ = own;
         Shared { pointers, reserved }
