@@ -1,9 +1,9 @@
 -- What the buckets of a table at rest show of the ids that were held at once, by the rows of their
 -- slots. Assumes `Logic`.
 use Rattle.std.proofs.Common.{◌≡◌, ◌∙◌, ℕ, zero, suc, ◌+◌, ◌^◌, ◌<◌, ◌≤◌, ◌==◌, Bool, true, false, List, [], ◌∷◌, length, refl}
-use Rattle.std.proofs.Common.{sym, ap, subst, arith, Option, if◌then◌else◌, eqb}
+use Rattle.std.proofs.Common.{sym, ap, subst, arith, Option, Some, if◌then◌else◌, eqb}
 use Rattle.std.specs.Prelude.{slice_index_or, nat_lt}
-use Rattle.std.proofs.lemmas.Bool.{eqb-true, eqb-false, lt-ltb, ltb-true}
+use Rattle.std.proofs.lemmas.Bool.{eqb-true, eqb-false, eq-eqb, lt-ltb, ltb-true}
 use seplogic.Ra.Ura.{Ura}
 use base.Fml.{Fml, ftrue, fsep}
 use base.Logic.{SProp, ent, sep, emp}
@@ -201,16 +201,16 @@ module _ {V : Type 0} where
       (λ there grown. subst (λ (n : ℕ). nat_lt (id_at i 0) n ≡ true) same
       (stands_among (λ bucket. nat_lt (id_at bucket 0) owned.reserved) (stands owned.contents) (only grown) i low there)))
 
-  shown_less : (grown' grown reserved' reserved : Bool) (t b : ℕ) (sharing' sharing : Option ℕ) (after before : List (Option V))
+  shown_less : (grown' grown reserved' reserved : Bool) (t' t b : ℕ) (sharing' sharing : Option ℕ) (after before : List (Option V))
       → (grown' ≡ true → (grown ≡ true) × (reserved' ≡ reserved) × (nat_lt 0 (length after) ≡ true → nat_lt 0 (length before) ≡ true))
-      → shown_in record { table = t; sharing = sharing'; bucket = b; reserved = reserved'; grown_by_ids = grown' } after
+      → shown_in record { table = t'; sharing = sharing'; bucket = b; reserved = reserved'; grown_by_ids = grown' } after
       ≤ shown_in record { table = t; sharing = sharing; bucket = b; reserved = reserved; grown_by_ids = grown } before
-  shown_less grown' grown reserved' reserved t b sharing' sharing [] before so = omega arith
-  shown_less false grown reserved' reserved t b sharing' sharing (c ∷ after) before so = omega arith
-  shown_less true grown reserved' reserved t b sharing' sharing (c ∷ after) [] so =
+  shown_less grown' grown reserved' reserved t' t b sharing' sharing [] before so = omega arith
+  shown_less false grown reserved' reserved t' t b sharing' sharing (c ∷ after) before so = omega arith
+  shown_less true grown reserved' reserved t' t b sharing' sharing (c ∷ after) [] so =
       let never : nat_lt 0 (length {A = Option V} []) ≡ true = (so refl).2 (lt-ltb 0 (length (c ∷ after)) (omega arith)) in
       let some : 0 < length {A = Option V} [] = ltb-true 0 (length {A = Option V} []) never in absurd (omega arith)
-  shown_less true grown reserved' reserved t b sharing' sharing (c ∷ after) (c' ∷ before) so =
+  shown_less true grown reserved' reserved t' t b sharing' sharing (c ∷ after) (c' ∷ before) so =
       let same : ids_shown grown reserved b ≡ ids_shown true reserved' b =
       λ k. ids_shown ((so refl).0 k) (sym (so refl).1 k) b in
       omega (arith, same)
@@ -226,7 +226,7 @@ module _ {V : Type 0} where
       let s' : TableView = view_with s lent left in
       let F : ℕ → Type 0 = λ k. shown_in (bucket_view s' k) (row left.contents i) ≤ shown_in (bucket_view s k) (row lent.contents i) in
       subst F (sym is)
-      (shown_less s'.grown_by_ids s.grown_by_ids (nat_lt (id_at i 0) left.reserved) (nat_lt (id_at i 0) s.reserved) s.table i
+      (shown_less s'.grown_by_ids s.grown_by_ids (nat_lt (id_at i 0) left.reserved) (nat_lt (id_at i 0) s.reserved) s.table s.table i
       s'.sharing s.sharing (row left.contents i) (row lent.contents i) (λ grown.
       let all = both_so s.grown_by_ids (adds_no_bucket lent left) grown in
       let keeps = both_so (left.reserved == lent.reserved) (stand_among (stands lent.contents) (stands left.contents)) all.1 in
@@ -235,3 +235,32 @@ module _ {V : Type 0} where
         ap (λ (n : ℕ). nat_lt (id_at i 0) n) as_many,
         stands_among (stands lent.contents) (stands left.contents) keeps.1 i low,
       )))
+
+-- a view of the same buckets in another sharing, of the table of this name
+abbrev pub view_again : TableView → ℕ → ℕ → TableView
+view_again s table sharing = record {
+  table = table;
+  sharing = Some sharing;
+  reserved = s.reserved;
+  grown_by_ids = if s.table == table then s.grown_by_ids else false;
+}
+
+pub grown_again : (s : TableView) (table : ℕ) → s.table ≡ table → (if s.table == table then s.grown_by_ids else false) ≡ s.grown_by_ids
+grown_again s table same = ap (λ (t : Bool). if t then s.grown_by_ids else false) (eq-eqb s.table table same)
+
+module _ {M : Type 1} {𝓤 : Ura M} (𝓛 : Logic 𝓤) (R : RattleType) (s s' : TableView) (many : s'.reserved ≡ s.reserved) where
+  -- rows show the same in another sharing of the same table, and nothing where the table is another
+  pub grown_in : (t : Bool) → (s.table == s'.table) ≡ t → s'.grown_by_ids ≡ (if t then s.grown_by_ids else false)
+      → (rows : List (Slots R)) → ent 𝓤 (sem 𝓛 (rows_grown R s 0 rows)) (sem 𝓛 (rows_grown R s' 0 rows))
+  grown_in true e is rows =
+      less_grown 𝓛 R s s' 0 rows rows (sym (eqb-true s.table s'.table e)) refl (λ i j at near.
+      shown_less s'.grown_by_ids s.grown_by_ids (nat_lt (id_at j 0) s'.reserved) (nat_lt (id_at j 0) s.reserved) s'.table s.table j
+      s'.sharing s.sharing (slice_index_or rows i []) (slice_index_or rows i []) (λ grown.
+      (sym is ∙ grown, ap (λ (n : ℕ). nat_lt (id_at j 0) n) many, λ there. there)))
+  grown_in false e is rows =
+      qed 𝓛 (‵ (rows_grown R s 0 rows) ∷ []) ∵ drop ! $
+      use0 𝓛 (‵ (rows_grown R s' 0 rows))
+      (none_grown 𝓛 R s' 0 rows (λ i j at near.
+      none_shown s'.grown_by_ids (nat_lt (id_at j 0) s'.reserved) s'.table s'.reserved j s'.sharing (slice_index_or rows i [])
+      (λ there grown. let never : false ≡ true = sym is ∙ grown in cc))) $
+      done !

@@ -1,7 +1,7 @@
 -- Turns shared buckets at rest into an owner's buckets and back: the machine values are the same.
 -- Assumes `Logic`.
 use Rattle.std.proofs.Common.{map, suc, ◌≡◌, ℕ, ◌<◌, ◌^◌, w64, List, [], ◌∷◌, ◌++◌, length, refl, sym, ap, ◌∙◌, subst}
-use Rattle.std.proofs.Common.{arith, Option, None, true}
+use Rattle.std.proofs.Common.{arith, Option, None, Some, true, ◌==◌}
 use seplogic.Ra.Ura.{Ura}
 use mir.Val.{Val, vint, vstruct, vcons, vnil, of_list}
 use base.Fml.{Fml, ftrue, ffalse, fsep}
@@ -33,7 +33,8 @@ use Rattle.thread_local_bucket_pointers.specs.contracts.bucket_pointer.BucketPoi
 use Rattle.thread_local_bucket_pointers.proofs.bucket_pointer.BucketPointer.TheLaws as plain'
 use Rattle.thread_local_shared_buckets.specs.Shared.{BucketView, first, at_rest}
 use Rattle.thread_local_ids.specs.Told.{all_told_or_untold, whole_row, rows_telling, rows_tell, book_owns}
-use Rattle.thread_local_ids.proofs.Rows.{none_rows, rows_end}
+use Rattle.thread_local_ids.proofs.ToldElements.{source}
+use Rattle.thread_local_ids.proofs.Rows.{none_rows, rows_end, table_whole, rows_drawn}
 use Rattle.thread_local_shared_buckets.specs.contracts.shared_bucket.SharedBucket as shared
 use Rattle.thread_local_bucket_pointers.specs.Pointers.{contents_of}
 use Rattle.thread_local_bucket_pointers.specs.contracts.pointer_array.PointerArray as array
@@ -53,7 +54,7 @@ use Rattle.thread_local_shared_buckets.proofs.Lists.{are_owned, fit_all, table_b
 use Rattle.thread_local_shared_buckets.proofs.Lists.{table_seen}
 use Rattle.thread_local_shared_buckets.specs.Grown.{only_reserved}
 use Rattle.thread_local_shared_buckets.proofs.GrownLaws.{row_known, rows_known, rows_grown, known_apart, known_together}
-use Rattle.thread_local_shared_buckets.proofs.GrownLaws.{none_grown, less_grown, nothing_shown, lent_shown}
+use Rattle.thread_local_shared_buckets.proofs.GrownLaws.{none_grown, less_grown, nothing_shown, lent_shown, view_again, grown_in}
 use Rattle.thread_local_shared_buckets.proofs.Redeemed.{redeems_bucket, rests_bucket}
 
 -- the machine value of an owner's pointers with the number of reserved slots
@@ -443,6 +444,28 @@ module _ {M : Type 1} {𝓤 : Ura M} (𝓛 : Logic 𝓤) (R : RattleType) (L : L
       move ! (2 ∷ 0 ∷ []) $ use2 𝓛 (‵ (AllTell s y)) (known_together 𝓛 R s 0 c.rows) $ move ! (1 ∷ 0 ∷ []) $
       use2 𝓛 (‵ (Shared.own_val s vs)) (turns_shared j s y vs refl) $
       nothing ! $ fpack ! (Typed Row.mir vs) (λ _. ftrue) typed $ fjoin ! $ done !
+
+  -- another sharing of the same buckets
+  pub shares_again : (s : TableView) (table γ : ℕ) (vs : List Val)
+      → ⟦ Row.own_val s vs ⟧ ∗ ⟦ source 𝓛 γ 0 ⟧ ⊢ H.⇛ ⟦ Row.own_val (view_again s table γ) vs ⟧
+  shares_again s table γ vs =
+      let s' : TableView = view_again s table γ in
+      qed 𝓛 (‵ (Row.own_val s vs) ∷ ‵ (source 𝓛 γ 0) ∷ []) ∵ updating ! $ fsplit ! $ fpick ! (λ typed. drop ! $
+      use1 𝓛 (later (some (λ (y : Owner.Denot).
+      given (Judged R × (y.reserved ≡ s.reserved)) (‵ (Owner.own_val y vs) ⊛ ‵ (AllTell s y)))))
+      (turns_plain s vs) $
+      await ! tt $ pick ! (λ y. learn ! (λ so. split ! $
+      use1 𝓛 (given (IsOwned y) (‵ (Owner.own_val y vs))) (fit_together y vs) $ learn ! (λ owned.
+      let rows = y.contents.rows in
+      -- [the buckets; what is known of them; the source]
+      move ! (1 ∷ []) $
+      use1 𝓛 (‵ (rows_telling R s.sharing 0 rows) ⊛ ‵ (AllGrown s y)) (known_apart 𝓛 R s 0 rows) $ split ! $ drop ! $
+      use1 𝓛 (‵ (AllGrown s' y)) (grown_in 𝓛 R s s' refl (s.table == table) refl refl rows) $ move ! (2 ∷ []) $
+      use1 𝓛 (later (‵ (rows_telling R (Some γ) 0 rows)))
+      (via 𝓤 _ (rows_drawn 𝓛 R γ 0 rows (table_whole y.contents owned.table)) (basic 𝓛 _)) $
+      await ! tt $ use2 𝓛 (‵ (AllTell s' y)) (known_together 𝓛 R s' 0 rows) $ move ! (1 ∷ 0 ∷ []) $
+      use2 𝓛 (‵ (Shared.own_val s' vs)) (turns_shared so.0 s' y vs (sym so.1)) $
+      nothing ! $ fpack ! (Typed Row.mir vs) (λ _. ftrue) typed $ fjoin ! $ now ! $ done !))))
 
   abbrev pub Given : TableView → Val → Plain.Denot → Pr
   Given s v c =
