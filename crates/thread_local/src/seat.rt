@@ -1,6 +1,6 @@
 //! A seat: an id of a table, and what is known of the id's slot: no bucket was found, it is vacant,
 //! or it holds a value.
-ghost use Rattle.std.specs.Prelude.{◌≡◌, ◌≢◌, ◌-◌, ◌^◌, ◌<◌, nat_lt, ⊤, is_some, true, None, Some};
+ghost use Rattle.std.specs.Prelude.{◌≡◌, ◌≢◌, ◌+◌, ◌-◌, ◌^◌, ◌<◌, nat_lt, ⊤, is_some, true, None, Some};
 ghost use Rattle.std.specs.Prelude.{Ok, Err, OnOk, OnErr, IfOk, IfErr, IsOk, IsSome, Result, false, alloc_error, option_map};
 ghost use Rattle.thread_local_model.specs.Learnt.{Missing, Vacant};
 ghost use Rattle.thread_local_model.specs.Place.{IsPlaceOf};
@@ -20,7 +20,7 @@ use std::fmt;
 use std::marker::Model;
 use std::sync::Wait;
 use thread_local_bucket_pointers::Block;
-use thread_local_ids::{HeldId, Page, Right, Tenure, Token};
+use thread_local_ids::{HeldId, Page, Reached, Right, Tenure, Token};
 use thread_local_shared_buckets::{Claim, Iter};
 use thread_local_thread_id::Thread;
 
@@ -79,9 +79,11 @@ fn make_bucket<T>(
     alloc: &Global,
     claim: &mut Claim<'_, T>,
     thread: Thread,
+    reached: Reached,
 ) -> Result<(), AllocError>
     requires missing { claim.old.learnt ≡ Missing }
     requires place { IsPlaceOf thread.bucket thread.index claim.old.id }
+    requires reached { (reached.table ≡ claim.old.table) × (reached.ids ≡ claim.old.id + 1) }
     ensures same_slot { (claim.new.table ≡ claim.old.table)
         × (claim.new.sharing ≡ claim.old.sharing)
         × (claim.new.id ≡ claim.old.id) }
@@ -91,7 +93,7 @@ fn make_bucket<T>(
     claim.look_again(thread);
     if claim.is_missing() {
         let block = Block::new(alloc, thread.bucket_size())?;
-        claim.install(thread, block, alloc);
+        claim.install(thread, block, reached, alloc);
     }
     Ok(())
 }
@@ -179,7 +181,8 @@ impl<'a, T> Seat<'a, T> {
     {
         let table = self.table;
         if self.claim.is_missing() {
-            return make_bucket(&table.alloc, &mut self.claim, thread);
+            let reached = self.tenure.reached();
+            return make_bucket(&table.alloc, &mut self.claim, thread, reached);
         }
         Ok(())
     }

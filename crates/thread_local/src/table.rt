@@ -1,7 +1,7 @@
 //! The object that keeps a value for each thread: the buckets that threads share, and the ids,
 //! under a lock. What the type of its values has to show, and tokens that say what its slots were
 //! published with, have their names here too.
-ghost use Rattle.std.specs.Prelude.{◌≡◌, ◌≢◌, ◌≤◌, ◌<◌, ◌-◌, ◌^◌, ℕ, Option, true, false, None, Some, Err, IfOk, IsSome, map};
+ghost use Rattle.std.specs.Prelude.{◌≡◌, ◌≢◌, ◌≤◌, ◌<◌, ◌-◌, ◌*◌, ◌^◌, ℕ, max, Option, true, false, None, Some, Err, IfOk, IsSome, map};
 ghost use Rattle.std.specs.List.Sorted.{IsStrictlyIncreasing};
 ghost use Rattle.thread_local_model.specs.Capacity.{reserved_slots};
 ghost use Rattle.thread_local_buckets.specs.IterMut.{iter_mut_given, entries_mut_given, entries_mut_rest};
@@ -9,6 +9,7 @@ ghost use Rattle.thread_local_judged.specs.Judged.{Judged};
 ghost use Rattle.thread_local_model.specs.Held.{least};
 ghost use Rattle.thread_local_model.specs.IdMoves.{Take, Give, held_after, noted};
 ghost use mathlib.Core.List.{IsPrefix};
+ghost use Rattle.thread_local_shared_buckets.specs.Grown.{only_reserved};
 ghost use Rattle.thread_local_shared_buckets.specs.Walks.{fresh, fresh_with};
 
 use crate::local::Local;
@@ -38,7 +39,8 @@ mod lends;
 /// `Sync`, every thread may, while others publish more. Threads share a table through a `&`, and it
 /// can be sent to another thread. One can be made of every `T: Send` that is judged, as `new` says.
 ///
-/// Only `local` and the drop of a `Local` take the table's lock, so no other call here waits; only
+/// Only `local`, `slots_and_peak` and the drop of a `Local` take the table's lock, so no other call
+/// here waits; only
 /// `local` and `with_capacity` take memory. But `clear` drops values, as the drop of a table, of a
 /// walk by value or of a `Drain` does, and a value's drop may wait and may take memory: a value may
 /// hold a `Local` of another table.
@@ -50,8 +52,8 @@ mod lends;
 /// Of its calls Rust's crate has `new`, `with_capacity`, `clear`, `iter`, `iter_mut` and the loops
 /// over a table; there the table also has the calls of a `Local`. All others are the port's own.
 ///
-/// Contracts see the table's name, the number of reserved slots, and the sharing, if that has a
-/// name. A sharing begins when the table is made, cleared or renewed, and lasts until an owner's
+/// Contracts see the table's name, the number of reserved slots, whether each bucket that isn't
+/// reserved was made for an id of the table, and the sharing, if that has a name. A sharing begins when the table is made, cleared or renewed, and lasts until an owner's
 /// call lends or takes the values. While it lasts, tokens (`Token`) say which values slots hold.
 #[derive(Drop)]
 pub struct ThreadLocal<T> {
@@ -89,6 +91,7 @@ impl<T> ThreadLocal<T> {
         requires judged { Judged T.row }
         ensures sharing { IsSome result.sharing }
         ensures reserved { result.reserved ≡ 0 }
+        ensures grown { result.grown_by_ids ≡ true }
     {
         ThreadLocal::empty(alloc)
     }
@@ -99,6 +102,7 @@ impl<T> ThreadLocal<T> {
         requires judged { Judged T.row }
         ensures sharing { IsSome result.sharing }
         ensures reserved { result.reserved ≡ 0 }
+        ensures grown { result.grown_by_ids ≡ true }
     {
         let mut ids = Ids::new(alloc);
         let right = ids.table_right();
@@ -113,6 +117,7 @@ impl<T> ThreadLocal<T> {
         ensures table { result.table ≡ ids.table }
         ensures sharing { IsSome result.sharing × (result.sharing ≢ past) }
         ensures reserved { result.reserved ≡ buckets.reserved }
+        ensures grown { result.grown_by_ids ≡ only_reserved buckets }
     {
         ThreadLocal {
             buckets: Shared::new_apart(buckets, &right),
@@ -135,6 +140,7 @@ impl<T> ThreadLocal<T> {
         requires judged { Judged T.row }
         ensures sharing { IfOk result (λ table. IsSome table.sharing) }
         ensures reserved { IfOk result (λ table. table.reserved ≡ reserved_slots capacity) }
+        ensures grown { IfOk result (λ table. table.grown_by_ids ≡ true) }
         ensures too_large { 2 ^ 63 ≤ capacity → result ≡ Err CapacityError.TooLarge }
         ensures not_too_large { result ≡ Err CapacityError.TooLarge → 2 ^ 63 ≤ capacity }
     {
@@ -192,6 +198,20 @@ impl<T> ThreadLocal<T> {
         ensures same { self.new ≡ self.old }
     {
         self.buckets.slots()
+    }
+
+    /// How many slots the table's buckets have together, and the most ids that were held at once
+    /// since the table was made or cleared. Where no owner's call added a bucket since then, there
+    /// are less than two slots for each of these ids, or only the reserved ones. It takes the table's
+    /// lock, so it may wait. Others may use the table meanwhile.
+    pub fn slots_and_peak<R: Wait>(&self, rt: &R) -> (usize, usize)
+        ensures reserved { self.now.reserved ≤ result.0 }
+        ensures slots { self.now.grown_by_ids ≡ true → result.0 ≤ max self.now.reserved (2 * result.1 - 1) }
+    {
+        let (slots, reached) = self.buckets.slots_reached();
+        let mut ids = self.ids.lock(rt);
+        ids.has_reached(reached);
+        (slots, ids.peak())
     }
 
     /// The values by ascending id, each lent as `&mut`. It is the walk `iter_mut` of the buckets
@@ -254,6 +274,7 @@ impl<T> ThreadLocal<T> {
         ensures table { self.new.table ≡ self.old.table }
         ensures sharing { IsSome self.new.sharing × (self.new.sharing ≢ self.old.sharing) }
         ensures reserved { self.new.reserved ≡ self.old.reserved }
+        ensures grown { self.new.grown_by_ids ≡ self.old.grown_by_ids }
     {
         self.buckets.judged();
         self.buckets.renew(&self.table_right);
@@ -268,6 +289,7 @@ impl<T> ThreadLocal<T> {
         ensures table { self.new.table ≢ self.old.table }
         ensures sharing { IsSome self.new.sharing × (self.new.sharing ≢ self.old.sharing) }
         ensures reserved { self.new.reserved ≡ self.old.reserved }
+        ensures grown { self.new.grown_by_ids ≡ true }
     {
         self.cleared();
     }
@@ -280,6 +302,7 @@ impl<T> ThreadLocal<T> {
         ensures table { self.new.table ≢ self.old.table }
         ensures sharing { IsSome self.new.sharing × (self.new.sharing ≢ past) }
         ensures reserved { self.new.reserved ≡ self.old.reserved }
+        ensures grown { self.new.grown_by_ids ≡ true }
     {
         self.buckets.judged();
         let alloc = self.alloc;

@@ -21,7 +21,7 @@ impl<T> ThreadLocal<T> {
     pub fn buckets_mut(&mut self) -> &mut Buckets<T>
         ensures* writes_back { sem 𝓛
             (follows (the_row T.row) (owner_row T.row) self.entry.ghost_name result.ghost_name
-            (view_with self.old)) }
+            (view_with self.old result.now)) }
         ensures reserved { result.now.reserved ≡ self.old.reserved }
     {
         self.buckets.owner()
@@ -35,7 +35,7 @@ impl<T> ThreadLocal<T> {
         T: Drop,
         ensures* writes_back { sem 𝓛
             (follows (the_row T.row) (owner_row T.row) self.entry.ghost_name (drain_lender result)
-            (view_with self.old)) }
+            (view_with self.old (drain_leaves result))) }
         ensures ready { DrainCanStep result }
         ensures fresh { DrainIsFresh result }
         ensures reserved { (drain_leaves result).reserved ≡ self.old.reserved }
