@@ -1,6 +1,7 @@
 mod Padding
 pub mod Reserved
 pub mod Filled
+mod Grown
 pub mod Seated
 pub mod Told
 mod Lent

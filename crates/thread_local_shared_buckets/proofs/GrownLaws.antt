@@ -71,6 +71,12 @@ module _ (among there : ℕ → Bool) where
   unfolding stand_among
   all_among so = below_among 63 so
 
+pub only_reserved_if : {V : Type 0} (owned : Owned V)
+    → ((b : ℕ) → stands owned.contents b ≡ true → nat_lt (id_at b 0) owned.reserved ≡ true)
+    → only_reserved owned ≡ true
+only_reserved_if owned so =
+    all_among (λ bucket. nat_lt (id_at bucket 0) owned.reserved) (stands owned.contents) (λ b near there. so b there)
+
 -- ---- what a row shows
 -- how many ids were held at once, by a bucket's row: none where it doesn't stand
 abbrev pub shown_in : {V : Type 0} → BucketView → List (Option V) → ℕ

@@ -3,7 +3,7 @@ pub mod Redeemed
 pub mod ToldLaws
 mod Turned
 pub mod Fields
-mod GrownLaws
+pub mod GrownLaws
 pub mod StepLaws
 pub mod MoveLaws
 pub mod WalkLaws

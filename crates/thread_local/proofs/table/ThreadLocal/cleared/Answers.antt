@@ -3,6 +3,7 @@ use Rattle.std.specs.Prelude.{IsSome}
 use Rattle.thread_local_ids.specs.declared.right.Right.{Right}
 use Rattle.thread_local_shared_buckets.specs.TableView.{TableView}
 use Rattle.thread_local.proofs.table.ThreadLocal.cleared.Goals as goal
+use Rattle.thread_local.proofs.Grown.{grown_cleared}
 
 -- The search for these takes seconds.
 pub of-requires : goal.of-requires
@@ -52,3 +53,9 @@ returns-clause-reserved g c =
     ∙ c.into_buckets-buckets.ensures
     ∙ ap (λ (t : TableView). t.reserved) c.buckets.view_is
     ∙ ap (λ (t : TableView). t.reserved) c.replace.ensures.value
+
+pub returns-clause-grown : goal.returns-clause-grown
+returns-clause-grown g c =
+    ap (λ (t : TableView). t.grown_by_ids) c.drop.view_is
+    ∙ c.of.ensures.grown
+    ∙ grown_cleared c.clear.new.self c.into_buckets-buckets.result.reserved c.clear.ensures.reserved c.clear.ensures.stands
