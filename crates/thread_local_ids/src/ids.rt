@@ -111,9 +111,18 @@ impl Ids {
         Ok((HeldId { id, mark }, right, tenure))
     }
 
-    /// `take`, which shows that what was done before extends a page of this table.
-    pub fn take_after(&mut self, earlier: &Page) -> Result<(HeldId, Right, Tenure), LocalError>
-        requires { earlier.now.table ≡ self.old.table }
+    /// The page of all that was done with the ids so far. At run time it does nothing.
+    #[inline]
+    pub fn page(&self) -> Page
+        ensures { (result.table ≡ self.now.table) × (result.moves ≡ self.now.moves) }
+    {
+        self.history.page()
+    }
+
+    /// `take`, which shows that what was done before extends a page of this table, and leaves the
+    /// page of all that was done since, where it is refused too.
+    pub fn take_after(&mut self, page: &mut Page) -> Result<(HeldId, Right, Tenure), LocalError>
+        requires { page.old.table ≡ self.old.table }
         ensures ok { IfOk result (λ taken. Takes self.old.manager self.new.manager taken.0.id) }
         ensures right { IfOk result (λ taken. (taken.1.table ≡ self.old.table) × (taken.1.id ≡ taken.0.id)) }
         ensures mark { IfOk result (λ taken. taken.0.mark.table ≡ self.old.table) }
@@ -123,10 +132,13 @@ impl Ids {
         ensures table { (self.new.table ≡ self.old.table)
             × (self.new.table_right_is_out ≡ self.old.table_right_is_out) }
         ensures err { OnErr result (self.new ≡ self.old) }
-        ensures early { IsPrefix (noted earlier.now.before earlier.now.last) self.old.moves }
+        ensures early { IsPrefix page.old.moves self.old.moves }
+        ensures page { (page.new.table ≡ self.new.table) × (page.new.moves ≡ self.new.moves) }
     {
-        self.history.extends(earlier.again());
-        self.take()
+        self.history.extends(page.again());
+        let taken = self.take();
+        *page = self.history.page();
+        taken
     }
 
     /// Takes a held id of this table back, with its right and what was kept of its take, and answers
@@ -136,7 +148,7 @@ impl Ids {
         requires id { (right.id ≡ held.id) × (held.id ≡ taken_id tenure.before) }
         ensures given { Gives self.old.manager self.new.manager held.id }
         ensures moves { self.new.moves ≡ noted self.old.moves (Give held.id) }
-        ensures page { (result.table ≡ self.old.table) × (result.before ≡ self.old.moves) × (result.last ≡ Give held.id) }
+        ensures page { (result.table ≡ self.old.table) × (result.moves ≡ self.new.moves) }
         ensures early { IsPrefix (noted tenure.before Take) self.old.moves }
         ensures table { (self.new.table ≡ self.old.table)
             × (self.new.table_right_is_out ≡ self.old.table_right_is_out) }
