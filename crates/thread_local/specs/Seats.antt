@@ -7,7 +7,8 @@ use Rattle.std.specs.Coded.{Coded, coded_option, coded_ℕ, coded×, code_by}
 use Rattle.thread_local_model.specs.Answers.{View, GetOr, Answered, Refused, Failed, Says, answer, view_of}
 use Rattle.thread_local_model.specs.Learnt.{Missing}
 use Rattle.thread_local_ids.specs.Views.{TokenView}
-use Rattle.thread_local_model.specs.IdMoves.{IdMove, moves_coded}
+use Rattle.thread_local_model.specs.IdMoves.{IdMove, Take, Give, moves_coded, noted}
+use mathlib.Core.List.{IsPrefix}
 use Rattle.thread_local_ids.specs.declared.page.Tenure.{Tenure}
 use Rattle.thread_local_ids.specs.Rights.{taken_id}
 use Rattle.thread_local_shared_buckets.specs.Known.{HasLooked}
@@ -130,3 +131,9 @@ pub record Fails {V E : Type 0} (makes : E → Type 0) (old new : LocalView V) (
 pub record IsRefused {V : Type 0} (E : Type 0) (old new : LocalView V) : Type 0 where
   pub says : (create : Result V E) → Says {V = V} {E = E} (knows old) (GetOr create true) Refused (knows new)
   pub stays : new ≡ old
+
+-- The id of a `Local` went back last: after all that was done up to its take, and maybe more.
+pub record EndsWithReturn {V : Type 0} (local : LocalView V) (moves : List IdMove) : Type 0 where
+  pub before : List IdMove
+  pub given : moves ≡ noted before (Give local.id)
+  pub early : IsPrefix (noted local.before Take) before

@@ -1,13 +1,13 @@
 //! The object that keeps a value for each thread: the buckets that threads share, and the ids,
 //! under a lock. What the type of its values has to show, and tokens that say what its slots were
 //! published with, have their names here too.
-ghost use Rattle.std.specs.Prelude.{◌≡◌, ◌≢◌, ◌≤◌, ◌<◌, ◌-◌, ◌^◌, ℕ, Option, true, false, None, Some, Err, IfOk, IsSome, map};
+ghost use Rattle.std.specs.Prelude.{◌≡◌, ◌≢◌, ◌≤◌, ◌<◌, ◌-◌, ◌^◌, ℕ, Option, true, false, None, Some, Err, IfOk, IsSome, map, []};
 ghost use Rattle.std.specs.List.Sorted.{IsStrictlyIncreasing};
 ghost use Rattle.thread_local_model.specs.Capacity.{reserved_slots};
 ghost use Rattle.thread_local_buckets.specs.IterMut.{iter_mut_given, entries_mut_given, entries_mut_rest};
 ghost use Rattle.thread_local_judged.specs.Judged.{Judged};
 ghost use Rattle.thread_local_model.specs.Held.{least};
-ghost use Rattle.thread_local_model.specs.IdMoves.{Take, Give, held_after, noted};
+ghost use Rattle.thread_local_model.specs.IdMoves.{Take, held_after, noted};
 ghost use mathlib.Core.List.{IsPrefix};
 ghost use Rattle.thread_local_shared_buckets.specs.Walks.{fresh, fresh_with};
 
@@ -58,11 +58,12 @@ pub struct ThreadLocal<T> {
     pub(crate) buckets: Shared<T>,
     pub(crate) ids: Lock<Ids>,
     table_right: Right,
+    first: Page,
     pub(crate) alloc: Global,
 }
 
 impl<T> Model for ThreadLocal<T> {
-    ghost use Rattle.std.specs.Prelude.{◌≡◌, ◌-◌, ◌^◌};
+    ghost use Rattle.std.specs.Prelude.{◌≡◌, ◌-◌, ◌^◌, []};
     ghost use Rattle.thread_local_shared_buckets.specs.TableView.{TableView, table_view_coded};
 
     ghost Value = { TableView };
@@ -71,12 +72,14 @@ impl<T> Model for ThreadLocal<T> {
 
     ghost view = { λ table. table.buckets };
 
-    // The ids under the lock are those of the table whose buckets these are, and so is the table's
-    // right.
+    // The ids under the lock are those of the table whose buckets these are, and so are the table's
+    // right and the first page, which tells of no move.
     ghost invariant = { λ table.
         (table.ids.tag ≡ table.buckets.table)
         × (table.table_right.table ≡ table.buckets.table)
-        × (table.table_right.id ≡ 2 ^ 63 - 1) };
+        × (table.table_right.id ≡ 2 ^ 63 - 1)
+        × (table.first.table ≡ table.buckets.table)
+        × (table.first.moves ≡ []) };
 }
 
 impl<T> ThreadLocal<T> {
@@ -110,14 +113,17 @@ impl<T> ThreadLocal<T> {
         ghost past: { Option ℕ }
         requires judged { Judged T.row }
         requires right { (right.table ≡ ids.table) × (right.id ≡ 2 ^ 63 - 1) }
+        requires moves { ids.moves ≡ [] }
         ensures table { result.table ≡ ids.table }
         ensures sharing { IsSome result.sharing × (result.sharing ≢ past) }
         ensures reserved { result.reserved ≡ buckets.reserved }
     {
+        let first = ids.page();
         ThreadLocal {
             buckets: Shared::new_apart(buckets, &right),
             ids: Lock::new(ids),
             table_right: right,
+            first,
             alloc,
         }
     }
@@ -167,22 +173,34 @@ impl<T> ThreadLocal<T> {
         Ok(Local::new(rt, Seat::new(self, held, right, tenure)))
     }
 
-    /// `local`, which shows that the table's ids were taken and given back since an earlier page.
+    /// The page of the table's ids from before any was taken, for a first `local_after`. At run time
+    /// it does nothing.
+    pub fn page(&self) -> Page
+        ensures { (result.table ≡ self.now.table) × (result.moves ≡ []) }
+    {
+        self.first.again()
+    }
+
+    /// `local`, which shows that what was done with the table's ids before extends a page of the
+    /// table, and leaves the page of all that was done since, where it is refused too.
     #[inline(always)]
     pub fn local_after<'a, R: Wait>(
         &'a self,
         rt: &'a R,
-        earlier: &Page,
+        page: &mut Page,
     ) -> Result<Local<'a, T, R>, LocalError>
-        requires { earlier.now.table ≡ self.now.table }
+        requires { page.old.table ≡ self.now.table }
         ensures table { IfOk result (λ local.
             (local.table ≡ self.now.table)
             × (local.sharing ≡ self.now.sharing)
             × (local.reserved ≡ self.now.reserved)) }
         ensures least { IfOk result (λ local. local.id ≡ least (held_after local.before)) }
-        ensures early { IfOk result (λ local. IsPrefix (noted earlier.now.before earlier.now.last) local.before) }
+        ensures early { IsPrefix page.old.moves page.new.moves }
+        ensures since { IfOk result (λ local. IsPrefix page.old.moves local.before) }
+        ensures page { page.new.table ≡ page.old.table }
+        ensures moves { IfOk result (λ local. page.new.moves ≡ noted local.before Take) }
     {
-        let (held, right, tenure) = self.ids.lock(rt).take_after(earlier)?;
+        let (held, right, tenure) = self.ids.lock(rt).take_after(page)?;
         Ok(Local::new(rt, Seat::new(self, held, right, tenure)))
     }
 
@@ -243,6 +261,7 @@ impl<T> ThreadLocal<T> {
             buckets,
             ids: _,
             table_right: _,
+            first: _,
             alloc: _,
         } = self;
         buckets.into_buckets_and_book()
@@ -287,6 +306,7 @@ impl<T> ThreadLocal<T> {
             buckets,
             ids,
             table_right: mut old,
+            first: _,
             alloc: _,
         } = replace(self, ThreadLocal::empty(alloc));
         let mut buckets = buckets.into_buckets();

@@ -3,6 +3,7 @@ mod Fields
 mod Guards
 mod Handed
 mod Lent
+pub mod Logs
 mod Ordered
 pub mod ReturnLaws
 mod Steps

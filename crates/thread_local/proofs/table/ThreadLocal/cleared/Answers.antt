@@ -17,8 +17,11 @@ of-requires g c = λ κs within.
           (
             c.judged.ensures.judged,
             (
-              ap (λ (r : Right). r.table) same ∙ right.0 ∙ sym c.table_right-fresh.ensures.same.1,
-              ap (λ (r : Right). r.id) same ∙ right.1,
+              (
+                ap (λ (r : Right). r.table) same ∙ right.0 ∙ sym c.table_right-fresh.ensures.same.1,
+                ap (λ (r : Right). r.id) same ∙ right.1,
+              ),
+              c.table_right-fresh.ensures.same.2 ∙ c.clear-2.ensures.moves,
             ),
           ),
         ),

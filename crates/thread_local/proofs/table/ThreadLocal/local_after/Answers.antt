@@ -40,9 +40,3 @@ returns-clause-least g c =
     ∙ ap (λ (before : List IdMove). least (held_after before))
     (sym (ap (λ (view : LocalView g.row.T.Denot). view.before) c.new-2.ensures ∙ c.new.ensures.id.1))
 
-pub returns-clause-early : goal.returns-clause-early
-returns-clause-early g c =
-    subst (λ (before : List IdMove). IsPrefix (noted c.args.earlier.now.before c.args.earlier.now.last) before)
-    (sym (ap (λ (view : LocalView g.row.T.Denot). view.before) c.new-2.ensures ∙ c.new.ensures.id.1
-    ∙ c.in_ok-held.ensures.tenure.1))
-    c.take_after.ensures.early
