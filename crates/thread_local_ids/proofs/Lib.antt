@@ -1,4 +1,5 @@
 mod Calls
+pub mod RoomElements
 mod Fields
 mod Guards
 mod Handed

@@ -69,6 +69,14 @@ page_as table moves δ = fsep (moves_own table (none, kept δ moves)) (counts_pa
 abbrev pub held_as : ℕ → ℕ → ℕ → ℕ → Fml
 held_as table id n δ = fsep (moves_own table (none, kept δ [])) (tenure_owns δ id n)
 
+-- the key of the room, which no `usize` is
+abbrev pub room_key : ℕ
+room_key = 2 ^ 64
+
+-- a table began with room for so many ids
+unfoldable pub room_owns : ℕ → ℕ → Fml
+room_owns table ids = element_at room_key table (none, Give ids ∷ [])
+
 -- these are all moves of a table, and whoever has this appends to them
 unfoldable pub history_owns : ℕ → List IdMove → Fml
 history_owns table moves = fex ℕ (history_as table moves)
