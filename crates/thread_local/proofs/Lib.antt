@@ -1,6 +1,7 @@
 mod Padding
 pub mod Reserved
-pub mod Filled
+pub mod Counted
+mod Filled
 pub mod Seated
 pub mod Told
 mod Lent

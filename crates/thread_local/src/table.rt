@@ -1,12 +1,12 @@
 //! The object that keeps a value for each thread: the buckets that threads share, and the ids,
 //! under a lock. What the type of its values has to show, and tokens that say what its slots were
 //! published with, have their names here too.
-ghost use Rattle.std.specs.Prelude.{◌≡◌, ◌≢◌, ◌≤◌, ◌<◌, ◌-◌, ◌^◌, ℕ, Option, true, false, None, Some, Err, IfOk, IsSome, map, []};
+ghost use Rattle.std.specs.Prelude.{◌≡◌, ◌≢◌, ◌≤◌, ◌<◌, ◌-◌, ◌^◌, ℕ, Option, true, false, None, Some, Err, alloc_error, IfOk, IsSome, map, []};
 ghost use Rattle.std.specs.List.Sorted.{IsStrictlyIncreasing};
 ghost use Rattle.thread_local_model.specs.Capacity.{reserved_slots};
 ghost use Rattle.thread_local_buckets.specs.IterMut.{iter_mut_given, entries_mut_given, entries_mut_rest};
 ghost use Rattle.thread_local_judged.specs.Judged.{Judged};
-ghost use Rattle.thread_local_model.specs.Held.{least};
+ghost use Rattle.thread_local_model.specs.Held.{least, held_count, HoldsAllBelow};
 ghost use Rattle.thread_local_model.specs.IdMoves.{Take, held_after, noted};
 ghost use mathlib.Core.List.{IsPrefix};
 ghost use Rattle.thread_local_shared_buckets.specs.Walks.{fresh, fresh_with};
@@ -20,8 +20,8 @@ use std::mem::replace;
 use std::sync::Wait;
 pub use thread_local_buckets::CapacityError;
 use thread_local_buckets::{Buckets, EntriesMut, IntoEntries, IntoIter, IterMut};
-use thread_local_ids::{Ids, Lock, Page, Right};
-pub use thread_local_ids::{Book, Told, Token};
+use thread_local_ids::{Ids, Lock, Right, Room};
+pub use thread_local_ids::{Book, Page, Told, Token};
 pub use thread_local_judged::{Judge, judge_sync, judge_value};
 use thread_local_model::walk::walk_lists_the_map;
 use thread_local_shared_buckets::{Entries, Iter, Shared, Tokens};
@@ -59,27 +59,29 @@ pub struct ThreadLocal<T> {
     pub(crate) ids: Lock<Ids>,
     table_right: Right,
     first: Page,
+    room: Room,
     pub(crate) alloc: Global,
 }
 
 impl<T> Model for ThreadLocal<T> {
     ghost use Rattle.std.specs.Prelude.{◌≡◌, ◌-◌, ◌^◌, []};
-    ghost use Rattle.thread_local_shared_buckets.specs.TableView.{TableView, table_view_coded};
+    ghost use Rattle.thread_local.specs.Tables.{ThreadLocalView, thread_local_view_coded, thread_local_view};
 
-    ghost Value = { TableView };
+    ghost Value = { ThreadLocalView };
 
-    ghost coded = { table_view_coded };
+    ghost coded = { thread_local_view_coded };
 
-    ghost view = { λ table. table.buckets };
+    ghost view = { λ table. thread_local_view table.buckets table.room.ids };
 
     // The ids under the lock are those of the table whose buckets these are, and so are the table's
-    // right and the first page, which tells of no move.
+    // right, its room, and the first page, which tells of no move.
     ghost invariant = { λ table.
         (table.ids.tag ≡ table.buckets.table)
         × (table.table_right.table ≡ table.buckets.table)
         × (table.table_right.id ≡ 2 ^ 63 - 1)
         × (table.first.table ≡ table.buckets.table)
-        × (table.first.moves ≡ []) };
+        × (table.first.moves ≡ [])
+        × (table.room.table ≡ table.buckets.table) };
 }
 
 impl<T> ThreadLocal<T> {
@@ -92,6 +94,7 @@ impl<T> ThreadLocal<T> {
         requires judged { Judged T.row }
         ensures sharing { IsSome result.sharing }
         ensures reserved { result.reserved ≡ 0 }
+        ensures room { result.room ≡ 0 }
     {
         ThreadLocal::empty(alloc)
     }
@@ -102,6 +105,7 @@ impl<T> ThreadLocal<T> {
         requires judged { Judged T.row }
         ensures sharing { IsSome result.sharing }
         ensures reserved { result.reserved ≡ 0 }
+        ensures room { result.room ≡ 0 }
     {
         let mut ids = Ids::new(alloc);
         let right = ids.table_right();
@@ -115,15 +119,18 @@ impl<T> ThreadLocal<T> {
         requires right { (right.table ≡ ids.table) × (right.id ≡ 2 ^ 63 - 1) }
         requires moves { ids.moves ≡ [] }
         ensures table { result.table ≡ ids.table }
+        ensures room { result.room ≡ ids.room }
         ensures sharing { IsSome result.sharing × (result.sharing ≢ past) }
         ensures reserved { result.reserved ≡ buckets.reserved }
     {
         let first = ids.page();
+        let room = ids.room();
         ThreadLocal {
             buckets: Shared::new_apart(buckets, &right),
             ids: Lock::new(ids),
             table_right: right,
             first,
+            room,
             alloc,
         }
     }
@@ -141,6 +148,7 @@ impl<T> ThreadLocal<T> {
         requires judged { Judged T.row }
         ensures sharing { IfOk result (λ table. IsSome table.sharing) }
         ensures reserved { IfOk result (λ table. table.reserved ≡ reserved_slots capacity) }
+        ensures room { IfOk result (λ table. capacity ≤ table.room) }
         ensures too_large { 2 ^ 63 ≤ capacity → result ≡ Err CapacityError.TooLarge }
         ensures not_too_large { result ≡ Err CapacityError.TooLarge → 2 ^ 63 ≤ capacity }
     {
@@ -199,8 +207,14 @@ impl<T> ThreadLocal<T> {
         ensures since { IfOk result (λ local. IsPrefix page.old.moves local.before) }
         ensures page { page.new.table ≡ page.old.table }
         ensures moves { IfOk result (λ local. page.new.moves ≡ noted local.before Take) }
+        ensures memory { result ≡ Err (LocalError.Memory alloc_error)
+            → HoldsAllBelow self.now.room (held_after page.new.moves) }
+        ensures granted { held_count (held_after page.new.moves) < self.now.room
+            → result ≢ Err (LocalError.Memory alloc_error) }
+        ensures exhausted { result ≡ Err LocalError.Exhausted
+            → HoldsAllBelow (2 ^ 63 - 1) (held_after page.new.moves) }
     {
-        let (held, right, tenure) = self.ids.lock(rt).take_after(page)?;
+        let (held, right, tenure) = self.ids.lock(rt).take_after(page, &self.room)?;
         Ok(Local::new(rt, Seat::new(self, held, right, tenure)))
     }
 
@@ -262,6 +276,7 @@ impl<T> ThreadLocal<T> {
             ids: _,
             table_right: _,
             first: _,
+            room: _,
             alloc: _,
         } = self;
         buckets.into_buckets_and_book()
@@ -273,14 +288,16 @@ impl<T> ThreadLocal<T> {
         ensures table { self.new.table ≡ self.old.table }
         ensures sharing { IsSome self.new.sharing × (self.new.sharing ≢ self.old.sharing) }
         ensures reserved { self.new.reserved ≡ self.old.reserved }
+        ensures room { self.new.room ≡ self.old.room }
     {
         self.buckets.judged();
         self.buckets.renew(&self.table_right);
     }
 
     /// Drops every value, frees every bucket that isn't reserved, and takes every id back, those of
-    /// forgotten `Local`s too. The reserved buckets and the room for ids stay; in Rust's crate the
-    /// reserved buckets go too. For contracts the table is another one from then on.
+    /// forgotten `Local`s too. The reserved buckets and the room for ids stay, though no clause says
+    /// for how many ids there is room then; in Rust's crate the reserved buckets go too. For
+    /// contracts the table is another one from then on.
     pub fn clear(&mut self)
     where
         T: Drop,
@@ -307,6 +324,7 @@ impl<T> ThreadLocal<T> {
             ids,
             table_right: mut old,
             first: _,
+            room: _,
             alloc: _,
         } = replace(self, ThreadLocal::empty(alloc));
         let mut buckets = buckets.into_buckets();

@@ -136,9 +136,14 @@ impl Ids {
     }
 
     /// `take`, which shows that what was done before extends a page of this table, and leaves the
-    /// page of all that was done since, where it is refused too.
-    pub fn take_after(&mut self, page: &mut Page) -> Result<(HeldId, Right, Tenure), LocalError>
-        requires { page.old.table ≡ self.old.table }
+    /// page of all that was done since, where it is refused too. It is refused memory only where
+    /// every id is held that there was room for when the table was made or cleared.
+    pub fn take_after(
+        &mut self,
+        page: &mut Page,
+        room: &Room,
+    ) -> Result<(HeldId, Right, Tenure), LocalError>
+        requires { (page.old.table ≡ self.old.table) × (room.now.table ≡ self.old.table) }
         ensures ok { IfOk result (λ taken. Takes self.old.manager self.new.manager taken.0.id) }
         ensures right { IfOk result (λ taken. (taken.1.table ≡ self.old.table) × (taken.1.id ≡ taken.0.id)) }
         ensures mark { IfOk result (λ taken. taken.0.mark.table ≡ self.old.table) }
@@ -152,10 +157,11 @@ impl Ids {
         ensures early { IsPrefix page.old.moves self.old.moves }
         ensures page { (page.new.table ≡ self.new.table) × (page.new.moves ≡ self.new.moves) }
         ensures memory { result ≡ Err (LocalError.Memory alloc_error)
-            → HoldsAllBelow self.old.room (held_after page.new.moves) }
+            → HoldsAllBelow room.now.ids (held_after page.new.moves) }
         ensures exhausted { result ≡ Err LocalError.Exhausted
             → HoldsAllBelow (2 ^ 63 - 1) (held_after page.new.moves) }
     {
+        self.room.agrees(room);
         self.history.extends(page.again());
         let taken = self.take();
         *page = self.history.page();

@@ -3,7 +3,7 @@ use Rattle.std.specs.Prelude.{List}
 use mathlib.Core.List.{IsPrefix}
 use Rattle.thread_local_model.specs.IdMoves.{IdMove, Take, Give, noted}
 use Rattle.thread_local.specs.Seats.{LocalView}
-use Rattle.thread_local_shared_buckets.specs.TableView.{TableView}
+use Rattle.thread_local.specs.Tables.{ThreadLocalView}
 use Rattle.thread_local.proofs.seat.Seat.give_back.Goals as goal
 
 -- The search for these takes some time.
@@ -14,7 +14,7 @@ give-requires g c =
     rw c.deref_mut.ensures.value
     (c.lock.ensures.tag.1
     ∙ c.table.invariant.0
-    ∙ ap (λ (t : TableView). t.table) c.table.view_is
+    ∙ ap (λ (t : ThreadLocalView). t.table) c.table.view_is
     ∙ sym c.self.invariant.table)
     in
     record {
