@@ -1,5 +1,6 @@
 mod Padding
 pub mod Reserved
+pub mod Counted
 pub mod Filled
 mod Grown
 pub mod Seated

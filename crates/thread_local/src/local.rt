@@ -3,12 +3,12 @@ ghost use Rattle.std.specs.Prelude.{◌≡◌, ◌≢◌, ◌-◌, ◌^◌, ◌<
 ghost use Rattle.std.specs.Prelude.{OnOk, OnErr, IfOk, IfErr, IsOk, IsSome, Some, option_map, alloc_error, Result};
 ghost use Rattle.thread_local_model.specs.Answers.{Get, GetOr, Found, Refused, Failed, answer};
 ghost use Rattle.thread_local_model.specs.Cursor.{fresh_cursor};
-ghost use Rattle.thread_local_model.specs.IdMoves.{Take, Give, held_after, noted};
+ghost use Rattle.thread_local_model.specs.IdMoves.{Take, held_after, noted};
 ghost use Rattle.thread_local_model.specs.Held.{is_held};
 ghost use mathlib.Core.List.{IsPrefix};
 ghost use mathlib.Core.Logic.{◌∨₁◌};
 ghost use Rattle.thread_local.specs.Errors.{IfCreate};
-ghost use Rattle.thread_local.specs.Seats.{knows, knowing, holding, own_of, token_of, IsAnswered, IsFilled, Fills, Fails, IsRefused};
+ghost use Rattle.thread_local.specs.Seats.{knows, knowing, holding, own_of, token_of, IsAnswered, IsFilled, Fills, Fails, IsRefused, EndsWithReturn};
 
 pub use crate::seat::{Seat, SetError, TryError};
 use std::fmt;
@@ -125,7 +125,7 @@ impl<'a, T, R: Wait> Local<'a, T, R> {
 
     /// The page of the table's ids that ends with the take of this id. At run time it does nothing.
     pub fn page(&self) -> Page
-        ensures { (result.table ≡ self.now.table) × (result.before ≡ self.now.before) × (result.last ≡ Take) }
+        ensures { (result.table ≡ self.now.table) × (result.moves ≡ noted self.now.before Take) }
     {
         self.seat.page()
     }
@@ -143,8 +143,8 @@ impl<'a, T, R: Wait> Local<'a, T, R> {
     /// Shows that the id is held after all moves of a later page. At run time it does nothing.
     pub fn held_at(&mut self, page: Page)
         requires table { page.table ≡ self.old.table }
-        requires later { IsPrefix (noted self.old.before Take) (noted page.before page.last) }
-        ensures held { is_held (held_after (noted page.before page.last)) self.old.id ≡ true }
+        requires later { IsPrefix (noted self.old.before Take) page.moves }
+        ensures held { is_held (held_after page.moves) self.old.id ≡ true }
         ensures same { self.new ≡ self.old }
     {
         self.seat.held_at(page);
@@ -152,8 +152,8 @@ impl<'a, T, R: Wait> Local<'a, T, R> {
 
     /// What the drop does, which answers the page that ends with the return of this id.
     pub fn give_back(self) -> Page
-        ensures page { (result.table ≡ self.entry.table) × (result.last ≡ Give self.entry.id) }
-        ensures early { IsPrefix (noted self.entry.before Take) result.before }
+        ensures table { result.table ≡ self.entry.table }
+        ensures moves { EndsWithReturn self.entry result.moves }
     {
         let Self { rt, seat } = self;
         seat.give_back(rt)

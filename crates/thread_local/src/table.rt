@@ -1,13 +1,13 @@
 //! The object that keeps a value for each thread: the buckets that threads share, and the ids,
 //! under a lock. What the type of its values has to show, and tokens that say what its slots were
 //! published with, have their names here too.
-ghost use Rattle.std.specs.Prelude.{◌≡◌, ◌≢◌, ◌≤◌, ◌<◌, ◌-◌, ◌*◌, ◌^◌, ℕ, max, Option, true, false, None, Some, Err, IfOk, IsSome, map};
+ghost use Rattle.std.specs.Prelude.{◌≡◌, ◌≢◌, ◌≤◌, ◌<◌, ◌-◌, ◌*◌, ◌^◌, ℕ, max, Option, true, false, None, Some, Err, alloc_error, IfOk, IsSome, map, []};
 ghost use Rattle.std.specs.List.Sorted.{IsStrictlyIncreasing};
 ghost use Rattle.thread_local_model.specs.Capacity.{reserved_slots};
 ghost use Rattle.thread_local_buckets.specs.IterMut.{iter_mut_given, entries_mut_given, entries_mut_rest};
 ghost use Rattle.thread_local_judged.specs.Judged.{Judged};
-ghost use Rattle.thread_local_model.specs.Held.{least};
-ghost use Rattle.thread_local_model.specs.IdMoves.{Take, Give, held_after, noted};
+ghost use Rattle.thread_local_model.specs.Held.{least, held_count, HoldsAllBelow};
+ghost use Rattle.thread_local_model.specs.IdMoves.{Take, held_after, noted};
 ghost use mathlib.Core.List.{IsPrefix};
 ghost use Rattle.thread_local_shared_buckets.specs.Grown.{only_reserved};
 ghost use Rattle.thread_local_shared_buckets.specs.Walks.{fresh, fresh_with};
@@ -21,8 +21,8 @@ use std::mem::replace;
 use std::sync::Wait;
 pub use thread_local_buckets::CapacityError;
 use thread_local_buckets::{Buckets, EntriesMut, IntoEntries, IntoIter, IterMut};
-use thread_local_ids::{Ids, Lock, Page, Right};
-pub use thread_local_ids::{Book, Told, Token};
+use thread_local_ids::{Ids, Lock, Right, Room};
+pub use thread_local_ids::{Book, Page, Told, Token};
 pub use thread_local_judged::{Judge, judge_sync, judge_value};
 use thread_local_model::walk::walk_lists_the_map;
 use thread_local_shared_buckets::{Entries, Iter, Shared, Tokens};
@@ -60,25 +60,30 @@ pub struct ThreadLocal<T> {
     pub(crate) buckets: Shared<T>,
     pub(crate) ids: Lock<Ids>,
     table_right: Right,
+    first: Page,
+    room: Room,
     pub(crate) alloc: Global,
 }
 
 impl<T> Model for ThreadLocal<T> {
-    ghost use Rattle.std.specs.Prelude.{◌≡◌, ◌-◌, ◌^◌};
-    ghost use Rattle.thread_local_shared_buckets.specs.TableView.{TableView, table_view_coded};
+    ghost use Rattle.std.specs.Prelude.{◌≡◌, ◌-◌, ◌^◌, []};
+    ghost use Rattle.thread_local.specs.Tables.{ThreadLocalView, thread_local_view_coded, thread_local_view};
 
-    ghost Value = { TableView };
+    ghost Value = { ThreadLocalView };
 
-    ghost coded = { table_view_coded };
+    ghost coded = { thread_local_view_coded };
 
-    ghost view = { λ table. table.buckets };
+    ghost view = { λ table. thread_local_view table.buckets table.room.ids };
 
-    // The ids under the lock are those of the table whose buckets these are, and so is the table's
-    // right.
+    // The ids under the lock are those of the table whose buckets these are, and so are the table's
+    // right, its room, and the first page, which tells of no move.
     ghost invariant = { λ table.
         (table.ids.tag ≡ table.buckets.table)
         × (table.table_right.table ≡ table.buckets.table)
-        × (table.table_right.id ≡ 2 ^ 63 - 1) };
+        × (table.table_right.id ≡ 2 ^ 63 - 1)
+        × (table.first.table ≡ table.buckets.table)
+        × (table.first.moves ≡ [])
+        × (table.room.table ≡ table.buckets.table) };
 }
 
 impl<T> ThreadLocal<T> {
@@ -91,6 +96,7 @@ impl<T> ThreadLocal<T> {
         requires judged { Judged T.row }
         ensures sharing { IsSome result.sharing }
         ensures reserved { result.reserved ≡ 0 }
+        ensures room { result.room ≡ 0 }
         ensures grown { result.grown_by_ids ≡ true }
     {
         ThreadLocal::empty(alloc)
@@ -102,6 +108,7 @@ impl<T> ThreadLocal<T> {
         requires judged { Judged T.row }
         ensures sharing { IsSome result.sharing }
         ensures reserved { result.reserved ≡ 0 }
+        ensures room { result.room ≡ 0 }
         ensures grown { result.grown_by_ids ≡ true }
     {
         let mut ids = Ids::new(alloc);
@@ -114,15 +121,21 @@ impl<T> ThreadLocal<T> {
         ghost past: { Option ℕ }
         requires judged { Judged T.row }
         requires right { (right.table ≡ ids.table) × (right.id ≡ 2 ^ 63 - 1) }
+        requires moves { ids.moves ≡ [] }
         ensures table { result.table ≡ ids.table }
+        ensures room { result.room ≡ ids.room }
         ensures sharing { IsSome result.sharing × (result.sharing ≢ past) }
         ensures reserved { result.reserved ≡ buckets.reserved }
         ensures grown { result.grown_by_ids ≡ only_reserved buckets }
     {
+        let first = ids.page();
+        let room = ids.room();
         ThreadLocal {
             buckets: Shared::new_apart(buckets, &right),
             ids: Lock::new(ids),
             table_right: right,
+            first,
+            room,
             alloc,
         }
     }
@@ -140,6 +153,7 @@ impl<T> ThreadLocal<T> {
         requires judged { Judged T.row }
         ensures sharing { IfOk result (λ table. IsSome table.sharing) }
         ensures reserved { IfOk result (λ table. table.reserved ≡ reserved_slots capacity) }
+        ensures room { IfOk result (λ table. capacity ≤ table.room) }
         ensures grown { IfOk result (λ table. table.grown_by_ids ≡ true) }
         ensures too_large { 2 ^ 63 ≤ capacity → result ≡ Err CapacityError.TooLarge }
         ensures not_too_large { result ≡ Err CapacityError.TooLarge → 2 ^ 63 ≤ capacity }
@@ -173,22 +187,40 @@ impl<T> ThreadLocal<T> {
         Ok(Local::new(rt, Seat::new(self, held, right, tenure)))
     }
 
-    /// `local`, which shows that the table's ids were taken and given back since an earlier page.
+    /// The page of the table's ids from before any was taken, for a first `local_after`. At run time
+    /// it does nothing.
+    pub fn page(&self) -> Page
+        ensures { (result.table ≡ self.now.table) × (result.moves ≡ []) }
+    {
+        self.first.again()
+    }
+
+    /// `local`, which shows that what was done with the table's ids before extends a page of the
+    /// table, and leaves the page of all that was done since, where it is refused too.
     #[inline(always)]
     pub fn local_after<'a, R: Wait>(
         &'a self,
         rt: &'a R,
-        earlier: &Page,
+        page: &mut Page,
     ) -> Result<Local<'a, T, R>, LocalError>
-        requires { earlier.now.table ≡ self.now.table }
+        requires { page.old.table ≡ self.now.table }
         ensures table { IfOk result (λ local.
             (local.table ≡ self.now.table)
             × (local.sharing ≡ self.now.sharing)
             × (local.reserved ≡ self.now.reserved)) }
         ensures least { IfOk result (λ local. local.id ≡ least (held_after local.before)) }
-        ensures early { IfOk result (λ local. IsPrefix (noted earlier.now.before earlier.now.last) local.before) }
+        ensures early { IsPrefix page.old.moves page.new.moves }
+        ensures since { IfOk result (λ local. IsPrefix page.old.moves local.before) }
+        ensures page { page.new.table ≡ page.old.table }
+        ensures moves { IfOk result (λ local. page.new.moves ≡ noted local.before Take) }
+        ensures memory { result ≡ Err (LocalError.Memory alloc_error)
+            → HoldsAllBelow self.now.room (held_after page.new.moves) }
+        ensures granted { held_count (held_after page.new.moves) < self.now.room
+            → result ≢ Err (LocalError.Memory alloc_error) }
+        ensures exhausted { result ≡ Err LocalError.Exhausted
+            → HoldsAllBelow (2 ^ 63 - 1) (held_after page.new.moves) }
     {
-        let (held, right, tenure) = self.ids.lock(rt).take_after(earlier)?;
+        let (held, right, tenure) = self.ids.lock(rt).take_after(page, &self.room)?;
         Ok(Local::new(rt, Seat::new(self, held, right, tenure)))
     }
 
@@ -263,6 +295,8 @@ impl<T> ThreadLocal<T> {
             buckets,
             ids: _,
             table_right: _,
+            first: _,
+            room: _,
             alloc: _,
         } = self;
         buckets.into_buckets_and_book()
@@ -274,6 +308,7 @@ impl<T> ThreadLocal<T> {
         ensures table { self.new.table ≡ self.old.table }
         ensures sharing { IsSome self.new.sharing × (self.new.sharing ≢ self.old.sharing) }
         ensures reserved { self.new.reserved ≡ self.old.reserved }
+        ensures room { self.new.room ≡ self.old.room }
         ensures grown { self.new.grown_by_ids ≡ self.old.grown_by_ids }
     {
         self.buckets.judged();
@@ -281,8 +316,9 @@ impl<T> ThreadLocal<T> {
     }
 
     /// Drops every value, frees every bucket that isn't reserved, and takes every id back, those of
-    /// forgotten `Local`s too. The reserved buckets and the room for ids stay; in Rust's crate the
-    /// reserved buckets go too. For contracts the table is another one from then on.
+    /// forgotten `Local`s too. The reserved buckets and the room for ids stay, though no clause says
+    /// for how many ids there is room then; in Rust's crate the reserved buckets go too. For
+    /// contracts the table is another one from then on.
     pub fn clear(&mut self)
     where
         T: Drop,
@@ -310,6 +346,8 @@ impl<T> ThreadLocal<T> {
             buckets,
             ids,
             table_right: mut old,
+            first: _,
+            room: _,
             alloc: _,
         } = replace(self, ThreadLocal::empty(alloc));
         let mut buckets = buckets.into_buckets();

@@ -1,8 +1,10 @@
 mod Calls
+pub mod RoomElements
 mod Fields
 mod Guards
 mod Handed
 mod Lent
+pub mod Logs
 mod Ordered
 pub mod ReturnLaws
 mod Steps

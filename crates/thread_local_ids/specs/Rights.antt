@@ -46,12 +46,16 @@ right_owns table id = fown (keyed telling) table (λ j. element_if (id == j))
 unfoldable pub rights_own : ℕ → List ℕ → Fml
 rights_own table out = fown (keyed telling) table (λ j. element_if (not (is_out out j)))
 
+-- an element at one key under a table's name
+abbrev pub element_at : ℕ → ℕ → Element → Fml
+element_at key table a = fown (keyed telling) table (λ j. at_if (key == j) a)
+
 -- the key of the moves
 abbrev pub moves_key : ℕ
 moves_key = 2 ^ 64 - 1
 
 abbrev pub moves_own : ℕ → Element → Fml
-moves_own table a = fown (keyed telling) table (λ j. at_if (moves_key == j) a)
+moves_own table a = element_at moves_key table a
 
 -- The moves as they are kept. The first entry names what the table has of its ids' counts.
 abbrev pub kept : ℕ → List IdMove → List IdMove
@@ -65,6 +69,14 @@ page_as table moves δ = fsep (moves_own table (none, kept δ moves)) (counts_pa
 
 abbrev pub held_as : ℕ → ℕ → ℕ → ℕ → Fml
 held_as table id n δ = fsep (moves_own table (none, kept δ [])) (tenure_owns δ id n)
+
+-- the key of the room, which no `usize` is
+abbrev pub room_key : ℕ
+room_key = 2 ^ 64
+
+-- a table began with room for so many ids
+unfoldable pub room_owns : ℕ → ℕ → Fml
+room_owns table ids = element_at room_key table (none, Give ids ∷ [])
 
 -- these are all moves of a table, and whoever has this appends to them
 unfoldable pub history_owns : ℕ → List IdMove → Fml

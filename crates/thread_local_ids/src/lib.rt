@@ -3,6 +3,7 @@
 #![tactic(auto)]
 
 pub mod book;
+pub mod room;
 pub mod held;
 pub mod ids;
 pub mod lock;
@@ -16,6 +17,7 @@ pub mod witness;
 pub mod word;
 
 pub use book::Book;
+pub use room::Room;
 pub use held::HeldId;
 pub use ids::Ids;
 pub use lock::{Fits, Lock, LockGuard};

@@ -24,10 +24,10 @@ peak_from held (Take ∷ moves) =
     let more : length held ≤ length (with_least held) = taken (least held == length held) (length-with_least held) in
     let rest : length (with_least held) ≤ length (held_from (with_least held) moves) = peak_from (with_least held) moves in
     omega (arith, more, rest)
-    where
-      taken : (t : Bool) → length (with_least held) ≡ (if t then length held + 1 else length held) → length held ≤ length (with_least held)
-      taken true e = omega (arith, e)
-      taken false e = omega (arith, e)
+  where
+    taken : (t : Bool) → length (with_least held) ≡ (if t then length held + 1 else length held) → length held ≤ length (with_least held)
+    taken true e = omega (arith, e)
+    taken false e = omega (arith, e)
 peak_from held (Give id ∷ moves) =
     let same : length (without held id) ≡ length held = length-without held id in
     let rest : length (without held id) ≤ length (held_from (without held id) moves) = peak_from (without held id) moves in

@@ -1,4 +1,5 @@
--- What was done with the ids of a table, in the order in which it was done under the table's lock.
+-- The history of a table's ids: what was done with them, in the order in which it was done under the
+-- table's lock.
 use Rattle.std.specs.Prelude.{ℕ, Bool, List, [], ◌∷◌, ◌++◌, Option, None, Some, refl, ◌≡◌}
 use Rattle.std.specs.Coded.{Coded, coded_option, coded_ℕ, code_by}
 use base.Stored.{coded_list}
@@ -9,10 +10,12 @@ pub data IdMove : Type 0 where
   Take : IdMove
   Give : (id : ℕ) → IdMove
 
+-- A move as plain data, which ghost state can keep: the id that it gives back, or none.
 abbrev pub given_back : IdMove → Option ℕ
 given_back Take = None
 given_back (Give id) = Some id
 
+-- the move that gives this id back, or the take
 abbrev pub move_giving : Option ℕ → IdMove
 move_giving None = Take
 move_giving (Some id) = Give id
@@ -24,6 +27,7 @@ same_move (Give id) = refl
 abbrev pub move_coded : Coded IdMove
 move_coded = code_by (Option ℕ) (coded_option coded_ℕ) given_back move_giving same_move
 
+-- a history as plain data
 abbrev pub moves_coded : Coded (List IdMove)
 moves_coded = coded_list move_coded
 
@@ -33,10 +37,10 @@ held_from held [] = held
 held_from held (Take ∷ moves) = held_from (with_least held) moves
 held_from held (Give id ∷ moves) = held_from (without held id) moves
 
--- the held ids of a table after all these moves
+-- the ids that are held after all these moves, where none was held before
 abbrev pub held_after : List IdMove → List Bool
 held_after moves = held_from [] moves
 
--- the moves once one more was made
+-- the history once one more move was made
 abbrev pub noted : List IdMove → IdMove → List IdMove
 noted before move = before ++ (move ∷ [])

@@ -1,6 +1,8 @@
-//! The laws of held ids: which id a take gets, what taking and giving back change, and when a take
-//! is refused.
-ghost use Rattle.std.specs.Prelude.{◌≡◌, ℕ, ◌+◌, ◌-◌, ◌^◌, ◌≤◌, ◌↔◌, ◌==◌, Bool, true, false, List, length, IsTrue, if◌then◌else◌};
+//! The laws of held ids: which id a take gets, what taking and giving back change, which ids a
+//! history leaves held, and when a take is refused.
+ghost use Rattle.std.specs.Prelude.{◌≡◌, ℕ, ◌+◌, ◌-◌, ◌^◌, ◌≤◌, ◌↔◌, ◌==◌, Bool, true, false, List, [], length, IsTrue, if◌then◌else◌};
+ghost use mathlib.Core.List.{IsPrefix};
+ghost use Rattle.thread_local_model.specs.IdMoves.{IdMove, Take, Give, held_after, noted};
 ghost use Rattle.thread_local_model.specs.Held.{Manager, is_held, least, with_least, without};
 ghost use Rattle.thread_local_model.specs.Held.{held_count, HoldsAllBelow, is_granted, Takes, NeedsMemory, IsExhausted};
 
@@ -31,6 +33,17 @@ pub fn giving_changes_that_id()
     ensures peak { (held : List Bool) (given : ℕ) → length (without held given) ≡ length held }
     ensures count { (held : List Bool) (given : ℕ) → IsTrue (is_held held given)
         → held_count (without held given) + 1 ≡ held_count held }
+{}
+
+/// After no move no id is held. One move more takes the least free id, or frees the one that it
+/// gives back. The peak of a history is no less than that of any beginning of it.
+pub fn a_history_leaves_ids_held()
+    ensures none { held_after [] ≡ [] }
+    ensures take { (moves : List IdMove) → held_after (noted moves Take) ≡ with_least (held_after moves) }
+    ensures give { (moves : List IdMove) (id : ℕ)
+        → held_after (noted moves (Give id)) ≡ without (held_after moves) id }
+    ensures peak { (before later : List IdMove) → IsPrefix before later
+        → length (held_after before) ≤ length (held_after later) }
 {}
 
 /// An id is taken only where a take is granted. A take is refused in two cases: it needs memory and

@@ -51,10 +51,10 @@ fn publish_counted<R: Wait>(
         let Ok(other) = Counted::new(drops) else {
             return published;
         };
-        let Ok(held) = ids.lock(rt).take() else {
+        let Ok((held, right, _)) = ids.lock(rt).take() else {
             return published;
         };
-        let (held, first) = publish(shared, held, alloc, one);
+        let (held, first) = publish(shared, (held, right), alloc, one);
         let (_held, second) = publish(shared, held, alloc, other);
         if first && !second {
             published = published.saturating_add(1);

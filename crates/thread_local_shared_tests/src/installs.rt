@@ -3,7 +3,7 @@ ghost use Rattle.std.specs.Prelude.{◌≡◌, ◌^◌};
 ghost use Rattle.thread_local_bucket_pointers.specs.Slots.{empty_slots};
 ghost use Rattle.thread_local_model.specs.Place.{bucket_of};
 
-use crate::steps::{Kept, left, look, publish_claimed};
+use crate::steps::{Kept, left, look, publish_claimed, take};
 use std::alloc::Global;
 use std::cell::{Cell, RefCell};
 use std::sync::Wait;
@@ -73,10 +73,10 @@ fn offer_by_all<R: Wait>(
     };
     let mut claims = Vec::new(heap);
     for _ in 0..count {
-        let Ok(held) = ids.lock(rt).take() else {
+        let Ok((held, right, _)) = ids.lock(rt).take() else {
             return offered;
         };
-        if claims.push(claim_early(shared, held)).is_err() {
+        if claims.push(claim_early(shared, (held, right))).is_err() {
             return offered;
         }
     }
@@ -98,7 +98,7 @@ fn blocks_that_come_second_are_freed(rt: HostRuntime) -> Result<(), Fail> {
     let mut ids = Ids::new(rt.alloc());
     let shared = Shared::new(Buckets::new(rt.alloc()), &ids.table_right());
     for _ in 0..1_048_575 {
-        let _held = ids.take()?;
+        let _held = take(&mut ids)?;
     }
     let ids = Lock::new(ids);
     let alloc = rt.alloc();
@@ -159,9 +159,9 @@ fn offer_two(
 fn the_second_of_two_blocks_gives_way(rt: HostRuntime) -> Result<(), Fail> {
     let mut ids = Ids::new(rt.alloc());
     let shared = Shared::new(Buckets::new(rt.alloc()), &ids.table_right());
-    let _first = ids.take()?;
-    let second = claim_early(&shared, ids.take()?);
-    let third = claim_early(&shared, ids.take()?);
+    let _first = take(&mut ids)?;
+    let second = claim_early(&shared, take(&mut ids)?);
+    let third = claim_early(&shared, take(&mut ids)?);
     let offered = offer_two(&shared, second, third, &rt.alloc());
     assert_eq!(rt; offered, Some([(None, true), (Some(1), true)]));
     assert_eq!(rt; left(shared), (2, [Some(1), Some(2), None]));
@@ -184,9 +184,9 @@ fn publish_late(early: Kept<'_, u32>, value: u32) -> bool {
 fn an_early_claim_finds_its_bucket_later(rt: HostRuntime) -> Result<(), Fail> {
     let mut ids = Ids::new(rt.alloc());
     let shared = Shared::new(Buckets::new(rt.alloc()), &ids.table_right());
-    let _first = ids.take()?;
-    let second = claim_early(&shared, ids.take()?);
-    let third = claim_early(&shared, ids.take()?);
+    let _first = take(&mut ids)?;
+    let second = claim_early(&shared, take(&mut ids)?);
+    let third = claim_early(&shared, take(&mut ids)?);
     let offered = third.offer(&rt.alloc());
     let published = publish_late(second, 5);
     assert_eq!(rt;

@@ -1,13 +1,25 @@
 //! What a test does with one id of a table.
-ghost use Rattle.std.specs.Prelude.{◌≡◌, ◌-◌, ◌^◌, ◌<◌};
+ghost use Rattle.std.specs.Prelude.{◌≡◌, ◌-◌, ◌^◌, ◌<◌, IfOk};
 ghost use Rattle.thread_local_model.specs.Bits.{is_set};
 
 use std::alloc::Global;
 use thread_local_bucket_pointers::{Block, flag_word_at};
 use thread_local_buckets::Buckets;
-use thread_local_ids::{HeldId, Right};
+use thread_local_ids::{HeldId, Ids, Right};
 use thread_local_shared_buckets::{Claim, Shared};
-use thread_local_thread_id::Thread;
+use thread_local_thread_id::{LocalError, Thread};
+
+/// Takes an id that isn't given back.
+pub fn take(ids: &mut Ids) -> Result<(HeldId, Right), LocalError>
+    ensures taken { IfOk result (λ taken.
+        (taken.1.table ≡ ids.old.table)
+        × (taken.0.mark.table ≡ ids.old.table)
+        × (taken.1.id ≡ taken.0.id)) }
+    ensures table { ids.new.table ≡ ids.old.table }
+{
+    let (held, right, _) = ids.take()?;
+    Ok((held, right))
+}
 
 /// A claim that is given up when this is dropped.
 pub struct Kept<'a, T> {

@@ -3,7 +3,7 @@ ghost use Rattle.std.specs.Prelude.{◌≡◌, ◌≢◌, ◌-◌, ◌<◌, Some
 ghost use Rattle.thread_local_model.specs.Buckets.{values};
 ghost use Rattle.thread_local_model.specs.Learnt.{Vacant};
 
-use crate::steps::publish;
+use crate::steps::{publish, take};
 use std::alloc::Global;
 use std::cell::Cell;
 use std::test::Fail;
@@ -127,10 +127,10 @@ fn found_by_two(
 fn a_token_says_what_was_published(rt: HostRuntime) -> Result<(), Fail> {
     let mut ids = Ids::new(rt.alloc());
     let shared = Shared::new(Buckets::new(rt.alloc()), &ids.table_right());
-    let (held, token) = told(&shared, ids.take()?, rt.alloc(), 7u32);
+    let (held, token) = told(&shared, take(&mut ids)?, rt.alloc(), 7u32);
     let token = token.expect(&rt, "a token");
     let seen = held_again(&shared, held, &token);
-    let (_, other) = told(&shared, ids.take()?, rt.alloc(), 8);
+    let (_, other) = told(&shared, take(&mut ids)?, rt.alloc(), 8);
     let other = other.expect(&rt, "a token");
     are_one(&token, &token.again());
     let read = (*shared.value(&token.again()), *shared.value(&other));
@@ -147,7 +147,7 @@ fn a_token_says_what_was_published(rt: HostRuntime) -> Result<(), Fail> {
 fn a_vacant_slot_has_no_token(rt: HostRuntime) -> Result<(), Fail> {
     let mut ids = Ids::new(rt.alloc());
     let shared = Shared::<u32>::new(Buckets::with_capacity(rt.alloc(), 1)?, &ids.table_right());
-    let (held, right) = ids.take()?;
+    let (held, right) = take(&mut ids)?;
     let mut claim = shared.claim(held, right);
     let before = claim.token().is_none();
     let after = if claim.is_missing() || claim.get().is_some() {
@@ -166,7 +166,7 @@ fn a_text_is_read_by_its_token(rt: HostRuntime) -> Result<(), Fail> {
     let mut ids = Ids::new(rt.alloc());
     judge_sync::<String>();
     let shared = Shared::new(Buckets::new(rt.alloc()), &ids.table_right());
-    let (_, token) = told(&shared, ids.take()?, rt.alloc(), String::new(rt.alloc()));
+    let (_, token) = told(&shared, take(&mut ids)?, rt.alloc(), String::new(rt.alloc()));
     let len = token.map(|token| read(&shared, &token).len());
     assert_eq!(rt; len, Some(0));
     Ok(())
@@ -185,7 +185,7 @@ fn renewed_buckets_keep_their_values(rt: HostRuntime) -> Result<(), Fail> {
     let mut ids = Ids::new(rt.alloc());
     let own = ids.table_right();
     let mut shared = cells(rt.alloc(), &own);
-    let (held, first) = told(&shared, ids.take()?, rt.alloc(), Cell::new(3));
+    let (held, first) = told(&shared, take(&mut ids)?, rt.alloc(), Cell::new(3));
     renewed(&mut shared, &own);
     let (_, second) = told(&shared, held, rt.alloc(), Cell::new(4));
     let slots = shared.slots();

@@ -1,39 +1,54 @@
 -- The state of a run of moves after each move, and where a run stops.
-use Rattle.std.proofs.Common.{◌≡◌, ℕ, ◌+◌, ◌-◌, ◌^◌, ◌<◌, zero, suc, false, Some, slice_get, subst, Bool, List, [], ◌∷◌}
-use Rattle.std.proofs.Common.{◌++◌, length, get_or, take, drop, refl, ap, sym, ◌∙◌, add-one, append_assoc}
+use Rattle.std.proofs.Common.{◌≡◌, ℕ, ◌+◌, ◌-◌, ◌^◌, ◌<◌, zero, suc, false, Some, slice_get, subst, Bool, List, [], ◌∷◌, map}
+use Rattle.std.proofs.Common.{◌++◌, length, get_or, take, drop, refl, ap, sym, ◌∙◌, add-one, append_assoc, append-nil}
 use Rattle.std.proofs.lemmas.List.{take_more}
 use Rattle.std.proofs.lemmas.Option.{slice_get-get_or}
 use Rattle.std.proofs.Math.Seq.{drop-cons}
-use Rattle.thread_local_model.specs.Held.{is_held, HoldsAllBelow}
-use Rattle.thread_local_tls.specs.Moves.{after, held_after, ids_given, MayMove, MayRun, GivesWhatIsNotHeld, RunsOutOfIds}
+use Rattle.thread_local_model.specs.Held.{is_held, least, with_least, without, HoldsAllBelow}
+use Rattle.thread_local_model.specs.IdMoves.{IdMove, held_after, noted}
+use Rattle.thread_local_model.proofs.IdMoveLaws.{after_take, after_give}
+use Rattle.thread_local_tls.specs.Moves.{id_move, history_of, ids_given, MayMove, MayRun, GivesWhatIsNotHeld, RunsOutOfIds}
 use Rattle.thread_local_tls.specs.declared.moves.Move.{Move}
 use Rattle.thread_local_tls.specs.declared.moves.Move.TheVariants.{Take, Give}
 
+-- the held ids after a move
+abbrev pub after : List Bool → Move → List Bool
+after held Take = with_least held
+after held (Give id) = without held id
+
+after_is : (before : List IdMove) (move : Move) → held_after (noted before (id_move move)) ≡ after (held_after before) move
+after_is before Take = after_take before
+after_is before (Give id) = after_give before id
+
 -- the ids that one move takes
 abbrev pub given : List Bool → Move → List ℕ
-given held move = ids_given held (move ∷ [])
+given held Take = least held ∷ []
+given held (Give id) = []
 
-ids_given-move : (held : List Bool) (move : Move) (moves : List Move)
-    → ids_given held (move ∷ moves) ≡ given held move ++ ids_given (after held move) moves
-ids_given-move held Take moves = refl
-ids_given-move held (Give id) moves = refl
+ids_given-move : (before : List IdMove) (move : Move) (moves : List Move)
+    → ids_given before (move ∷ moves) ≡ given (held_after before) move ++ ids_given (noted before (id_move move)) moves
+ids_given-move before Take moves = refl
+ids_given-move before (Give id) moves = refl
 
-held_after-push : (held : List Bool) (moves : List Move) (move : Move)
-    → held_after held (moves ++ move ∷ []) ≡ after (held_after held moves) move
-held_after-push held [] move = refl
-held_after-push held (m ∷ moves) move = held_after-push (after held m) moves move
+history-push : (moves : List Move) (move : Move) → history_of (moves ++ move ∷ []) ≡ noted (history_of moves) (id_move move)
+history-push [] move = refl
+history-push (m ∷ moves) move = ap (λ l. id_move m ∷ l) (history-push moves move)
 
-MayRun-push : (held : List Bool) (moves : List Move) (move : Move) → MayRun held moves
-    → MayMove (held_after held moves) move
-    → MayRun held (moves ++ move ∷ [])
-MayRun-push held [] move may next = (next, tt)
-MayRun-push held (m ∷ moves) move may next = (may.0, MayRun-push (after held m) moves move may.1 next)
+MayRun-push : (before : List IdMove) (moves : List Move) (move : Move) → MayRun before moves
+    → MayMove (held_after (before ++ history_of moves)) move
+    → MayRun before (moves ++ move ∷ [])
+MayRun-push before [] move may next = (subst (λ l. MayMove (held_after l) move) (append-nil before) next, tt)
+MayRun-push before (m ∷ moves) move may next = (
+  may.0,
+  MayRun-push (noted before (id_move m)) moves move may.1
+      (subst (λ l. MayMove (held_after l) move) (sym (append_assoc before (id_move m ∷ []) (history_of moves))) next),
+)
 
 -- the first n moves have run: these ids are held, and the ids so far and those to come are the ids
 -- of all moves
 pub record IsRunTo (moves : List Move) (n : ℕ) (held : List Bool) (ids : List ℕ) : Type 0 where
-  pub held_is : held ≡ held_after [] (take n moves)
-  pub ids_are : ids ++ ids_given held (drop n moves) ≡ ids_given [] moves
+  pub held_is : held ≡ held_after (history_of (take n moves))
+  pub ids_are : ids ++ ids_given (history_of (take n moves)) (drop n moves) ≡ ids_given [] moves
   pub may : MayRun [] (take n moves)
 
 -- the state after one move more
@@ -47,14 +62,23 @@ IsRunTo-more moves n d move held new ids more below at run may new_is more_is =
     let front : take (n + 1) moves ≡ take n moves ++ move ∷ [] = take_more moves n d below ∙ ap (λ m. take n moves ++ m ∷ []) at in
     let rest : drop n moves ≡ move ∷ drop (n + 1) moves =
     rw add-one (drop-cons moves n d below ∙ ap (λ m. m ∷ drop (suc n) moves) at) in
+    let before = history_of (take n moves) in
+    let later : history_of (take (n + 1) moves) ≡ noted before (id_move move) =
+    ap history_of front ∙ history-push (take n moves) move in
     record {
-      held_is = rw (front, held_after-push [] (take n moves) move, new_is, run.held_is) refl;
+      held_is = new_is ∙ ap (λ h. after h move) run.held_is ∙ sym (after_is before move) ∙ ap held_after (sym later);
       ids_are =
-          rw (more_is, new_is, append_assoc)
-          (ap (λ l. ids ++ l)
-          (sym (ids_given-move held move (drop (n + 1) moves)) ∙ ap (ids_given held) (sym rest))
-          ∙ run.ids_are);
-      may = rw front (MayRun-push [] (take n moves) move run.may (rw (← run.held_is) may));
+          ap (λ l. l ++ ids_given (history_of (take (n + 1) moves)) (drop (n + 1) moves)) more_is
+          ∙ append_assoc ids (given held move) (ids_given (history_of (take (n + 1) moves)) (drop (n + 1) moves))
+          ∙ ap (λ l. ids ++ l)
+          (ap (λ h. given h move ++ ids_given (history_of (take (n + 1) moves)) (drop (n + 1) moves)) run.held_is
+          ∙ ap (λ l. given (held_after before) move ++ ids_given l (drop (n + 1) moves)) later
+          ∙ sym (ids_given-move before move (drop (n + 1) moves))
+          ∙ ap (ids_given before) (sym rest))
+          ∙ run.ids_are;
+      may =
+          subst (MayRun []) (sym front)
+          (MayRun-push [] (take n moves) move run.may (subst (λ h. MayMove h move) run.held_is may));
     }
 
 -- the run stops at a give of an id that isn't held
@@ -83,13 +107,18 @@ stops_at_take moves n d held ids below at run full = record {
 some_same : {X : Type 0} {x y : X} → Some x ≡ Some y → x ≡ y
 some_same e = cc
 
--- from these held ids, the moves may not run if one gives back an id that isn't held
-stuck : (held : List Bool) (moves : List Move) (n id : ℕ) → slice_get moves n ≡ Some (Give id)
-    → is_held (held_after held (take n moves)) id ≡ false → MayRun held moves
+-- after this history, the moves may not run if one gives back an id that isn't held
+stuck : (before : List IdMove) (moves : List Move) (n id : ℕ) → slice_get moves n ≡ Some (Give id)
+    → is_held (held_after (before ++ history_of (take n moves))) id ≡ false → MayRun before moves
     → ⊥
-stuck held [] n id at free may = cc
-stuck held (move ∷ moves) zero id at free may = let may_move = subst (MayMove held) (some_same at) may.0 in cc
-stuck held (move ∷ moves) (suc n) id at free may = stuck (after held move) moves n id at free may.1
+stuck before [] n id at free may = cc
+stuck before (move ∷ moves) zero id at free may =
+    let may_move = subst (MayMove (held_after before)) (some_same at) may.0 in
+    let here = sym (ap (λ l. is_held (held_after l) id) (append-nil before)) ∙ free in
+    cc
+stuck before (move ∷ moves) (suc n) id at free may =
+    stuck (noted before (id_move move)) moves n id at
+    (ap (λ l. is_held (held_after l) id) (append_assoc before (id_move move ∷ []) (history_of (take n moves))) ∙ free) may.1
 
 -- a list of moves that gives back an id that isn't held may not run
 pub may_not_run : (moves : List Move) → GivesWhatIsNotHeld moves → MayRun [] moves → ⊥

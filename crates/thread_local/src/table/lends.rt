@@ -6,7 +6,7 @@ ghost use Rattle.std.specs.Borrow.{follows, follows_so};
 ghost use Rattle.std.specs.Option.{ghost_name_of};
 ghost use Rattle.thread_local_buckets.specs.Drain.{drain_lender, drain_leaves, DrainCanStep, DrainIsFresh, DrainKeepsAlong};
 ghost use Rattle.thread_local_buckets.specs.contracts.buckets.Buckets.{the_row as owner_row};
-ghost use Rattle.thread_local_shared_buckets.specs.Lent.{view_with};
+ghost use Rattle.thread_local.specs.Tables.{view_with};
 ghost use Rattle.thread_local.specs.Owners.{KeepsReserved};
 ghost use Rattle.thread_local.specs.contracts.table.ThreadLocal.{the_row};
 

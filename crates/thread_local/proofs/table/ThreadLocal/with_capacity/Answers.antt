@@ -11,7 +11,19 @@ pub of-requires : goal.of-requires
 of-requires g c = λ κs within.
     let right = c.table_right-right.ensures.right in (
       within,
-      (lit< tt, (lit< tt, (c.requires.judged, (right.0 ∙ sym c.table_right-right.ensures.same.1, right.1)))),
+      (
+        lit< tt,
+        (
+          lit< tt,
+          (
+            c.requires.judged,
+            (
+              (right.0 ∙ sym c.table_right-right.ensures.same.1, right.1),
+              c.table_right-right.ensures.same.2 ∙ c.in_ok-ids.ensures.moves,
+            ),
+          ),
+        ),
+      ),
     )
 
 pub returns-clause-too_large : goal.returns-clause-too_large

@@ -1,5 +1,5 @@
 -- The right to the least free id isn't out, since that id isn't held, and nor is its mark.
-use Rattle.std.proofs.Common.{rules, sym, ◌≡◌, ◌≢◌, ◌+◌, ◌^◌, ◌==◌, true, refl, ap, ◌∙◌, arith, if◌then◌else◌, ne_eqb}
+use Rattle.std.proofs.Common.{rules, sym, ◌≡◌, ◌≢◌, ◌≤◌, ◌+◌, ◌^◌, ◌==◌, true, refl, ap, ◌∙◌, arith, if◌then◌else◌, ne_eqb}
 use Rattle.thread_local_model.specs.Held.{is_held, with_least}
 use Rattle.thread_local_model.specs.IdMoves.{held_after}
 use Rattle.thread_local_model.proofs.IdMoveLaws.{after_take}
@@ -49,4 +49,6 @@ invariant_of-self-2 c = record {
     c.take-tenure.ensures.moves.0
     ∙ c.self.invariant.table
     ∙ sym (c.take-mark.ensures.table ∙ c.take-right.ensures.table);
+  room = omega (arith, c.self.invariant.room, c.in_ok-id.ensures.ok.room);
+  room_table = c.self.invariant.room_table ∙ sym (c.take-mark.ensures.table ∙ c.take-right.ensures.table);
 }
