@@ -7,6 +7,8 @@ mod callers;
 #[cfg(test)]
 mod judged;
 #[cfg(test)]
+mod slot_callers;
+#[cfg(test)]
 mod tokens;
 #[cfg(test)]
 mod walk_callers;

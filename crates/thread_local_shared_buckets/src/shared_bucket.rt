@@ -61,8 +61,8 @@ impl<T> SharedBucket<T> {
             (reached.table ≡ self.now.table) × (reached.ids ≡ shown_by self.now)) }
         ensures reserved { self.now.reserved ≡ true → IsSome result }
     {
-        let at = unsafe { ptr::load::<u64, Brand>(&raw const self.at as *const *mut u64, SeqCst) };
-        if at.is_null() {
+        let block = unsafe { ptr::load::<u64, Brand>(&raw const self.at as *const *mut u64, SeqCst) };
+        if block.is_null() {
             None
         } else {
             Some(Reached {
