@@ -1,13 +1,12 @@
 -- A table that is made or cleared has no bucket but reserved ones.
-use Rattle.std.proofs.Common.{◌≡◌, ◌∙◌, ℕ, ◌<◌, ◌≤◌, ◌+◌, ◌-◌, ◌^◌, Bool, true, false, length, sym, ap, subst, arith, add-one, pow_pos, pow_mono}
+use Rattle.std.proofs.Common.{◌≡◌, ◌∙◌, ℕ, ◌<◌, ◌≤◌, ◌+◌, ◌-◌, ◌^◌, true, false, length, sym, ap, arith, add-one, pow_pos, pow_mono}
 use Rattle.std.specs.Prelude.{nat_lt}
 use Rattle.std.proofs.Math.Nat.{two-pow-succ}
 use Rattle.std.proofs.lemmas.Bool.{lt-ltb, ltb-true}
 use Rattle.thread_local_model.specs.Buckets.{stands, no_contents}
 use Rattle.thread_local_model.specs.Capacity.{binary_digits, reserved_slots, reserves_bucket}
 use Rattle.thread_local_model.specs.Owned.{Owned}
-use Rattle.thread_local_model.specs.Place.{id_at, bucket_of, index_of}
-use Rattle.thread_local_model.proofs.PlaceLaws.{equation}
+use Rattle.thread_local_model.specs.Place.{id_at}
 use Rattle.thread_local_model.proofs.RowLaws.{row-no_contents}
 use Rattle.thread_local_shared_buckets.specs.Grown.{only_reserved}
 use Rattle.thread_local_shared_buckets.proofs.GrownLaws.{only_reserved_if}
@@ -41,9 +40,3 @@ grown_with_capacity owned capacity same stand =
     let low : b < binary_digits capacity = ltb-true b (binary_digits capacity) (sym (stand b) ∙ there) in
     ap (λ n. nat_lt (id_at b 0) n) same
     ∙ lt-ltb (id_at b 0) (2 ^ binary_digits capacity - 1) (first_in b (binary_digits capacity) low))
-
--- as many ids were held as the bucket of an id has slots, if all ids up to this one were
-pub bucket_reached : (id bucket ids : ℕ) → bucket ≡ bucket_of id → ids ≡ id + 1 → 2 ^ bucket ≤ ids
-bucket_reached id bucket ids at held =
-    let place : id + 1 ≡ 2 ^ bucket_of id + index_of id = equation id in
-    subst (λ (b : ℕ). 2 ^ b ≤ ids) (sym at) (omega (arith, place, held))

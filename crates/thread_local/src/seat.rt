@@ -1,6 +1,6 @@
 //! A seat: an id of a table, and what is known of the id's slot: no bucket was found, it is vacant,
 //! or it holds a value.
-ghost use Rattle.std.specs.Prelude.{◌≡◌, ◌≢◌, ◌+◌, ◌-◌, ◌^◌, ◌<◌, nat_lt, ⊤, is_some, true, None, Some};
+ghost use Rattle.std.specs.Prelude.{◌≡◌, ◌≢◌, ◌-◌, ◌^◌, ◌<◌, nat_lt, ⊤, is_some, true, None, Some};
 ghost use Rattle.std.specs.Prelude.{Ok, Err, OnOk, OnErr, IfOk, IfErr, IsOk, IsSome, Result, false, alloc_error, option_map};
 ghost use Rattle.thread_local_model.specs.Learnt.{Missing, Vacant};
 ghost use Rattle.thread_local_model.specs.Place.{IsPlaceOf};
@@ -83,7 +83,7 @@ fn make_bucket<T>(
 ) -> Result<(), AllocError>
     requires missing { claim.old.learnt ≡ Missing }
     requires place { IsPlaceOf thread.bucket thread.index claim.old.id }
-    requires reached { (reached.table ≡ claim.old.table) × (reached.ids ≡ claim.old.id + 1) }
+    requires reached { (reached.table ≡ claim.old.table) × (claim.old.id < reached.ids) }
     ensures same_slot { (claim.new.table ≡ claim.old.table)
         × (claim.new.sharing ≡ claim.old.sharing)
         × (claim.new.id ≡ claim.old.id) }

@@ -1,7 +1,7 @@
 -- What the buckets of a table at rest show of the ids that were held at once, by the rows of their
 -- slots. Assumes `Logic`.
-use Rattle.std.proofs.Common.{◌≡◌, ◌∙◌, ℕ, zero, suc, ◌+◌, ◌^◌, ◌<◌, ◌≤◌, ◌==◌, Bool, true, false, List, [], ◌∷◌, length, refl}
-use Rattle.std.proofs.Common.{sym, ap, subst, arith, Option, Some, if◌then◌else◌, eqb}
+use Rattle.std.proofs.Common.{◌≡◌, ◌∙◌, ℕ, zero, suc, ◌+◌, ◌-◌, ◌^◌, ◌<◌, ◌≤◌, ◌==◌, Bool, true, false, List, [], ◌∷◌, length, refl}
+use Rattle.std.proofs.Common.{sym, ap, subst, arith, Option, Some, if◌then◌else◌, eqb, pow_pos}
 use Rattle.std.specs.Prelude.{slice_index_or, nat_lt}
 use Rattle.std.proofs.lemmas.Bool.{eqb-true, eqb-false, eq-eqb, lt-ltb, ltb-true}
 use seplogic.Ra.Ura.{Ura}
@@ -87,10 +87,16 @@ pub shown_whole : {V : Type 0} (d : BucketView) (cs : List (Option V)) → 0 < l
 shown_whole d [] some = absurd (omega arith)
 shown_whole d (c ∷ cs) some = refl
 
-pub shown_below : (grown reserved : Bool) (bucket n : ℕ) → 2 ^ bucket ≤ n → ids_shown grown reserved bucket ≤ n
+shown_below : (grown reserved : Bool) (bucket n : ℕ) → 2 ^ bucket ≤ n → ids_shown grown reserved bucket ≤ n
 shown_below false reserved bucket n fits = omega arith
 shown_below true true bucket n fits = omega arith
 shown_below true false bucket n fits = fits
+
+-- where all ids up to one of the bucket were held at once, these are as many as the bucket shows
+pub shown_reached : (d : BucketView) (id i ids : ℕ) → id ≡ i + id_at d.bucket 0 → id < ids → shown_by d ≤ ids
+shown_reached d id i ids at held =
+    let some_slots : 0 < 2 ^ d.bucket = pow_pos d.bucket in
+    shown_below d.grown_by_ids d.reserved d.bucket ids (omega (arith, some_slots, at, held))
 
 -- at each index, by the number of the bucket there
 abbrev ByNumber : ℕ → ℕ → (ℕ → ℕ → Type 0) → Type 0

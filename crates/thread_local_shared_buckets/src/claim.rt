@@ -1,6 +1,6 @@
 //! A claim of a slot, in three states: its bucket was missing, the slot is vacant, the slot holds a
 //! value. It begins in any of them, and goes on from one to the next.
-ghost use Rattle.std.specs.Prelude.{◌≡◌, ◌≢◌, ◌/◌, ◌^◌, ◌≤◌, ◌⊎◌, true, Some, IsSome, MatchBool, MatchOption};
+ghost use Rattle.std.specs.Prelude.{◌≡◌, ◌≢◌, ◌/◌, ◌^◌, ◌<◌, ◌⊎◌, true, Some, IsSome, MatchBool, MatchOption};
 ghost use Rattle.thread_local_model.specs.Learnt.{Unknown, Missing, Vacant, Holding, Finds, learnt_by_install, learnt_by_publish};
 ghost use Rattle.thread_local_model.specs.Place.{IsPlaceOf};
 ghost use Rattle.thread_local_bucket_pointers.specs.Slots.{empty_slots, flag_word_at};
@@ -104,7 +104,7 @@ impl<'a, T> Claim<'a, T> {
 
     /// Installs a block for the claim's bucket, which was missing, by one compare and exchange.
     /// Where another block was installed first, that one stays, and this one is freed. Either way
-    /// the slot is vacant from then on. As many ids as the bucket has slots were held at once.
+    /// the slot is vacant from then on. All ids up to this one were held at once.
     pub fn install(
         &mut self,
         thread: Thread,
@@ -117,7 +117,7 @@ impl<'a, T> Claim<'a, T> {
         requires block { (block.heap ≡ alloc.now)
             × (block.slots ≡ empty_slots (2 ^ thread.bucket))
             × (block.left ≡ 0) }
-        requires reached { (reached.table ≡ self.old.table) × (2 ^ thread.bucket ≤ reached.ids) }
+        requires reached { (reached.table ≡ self.old.table) × (self.old.id < reached.ids) }
         ensures same_slot { (self.new.table ≡ self.old.table)
             × (self.new.sharing ≡ self.old.sharing)
             × (self.new.id ≡ self.old.id) }

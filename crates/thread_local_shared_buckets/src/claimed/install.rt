@@ -1,5 +1,5 @@
 //! A claim that found its bucket missing installs a block for it.
-ghost use Rattle.std.specs.Prelude.{◌≡◌, ◌^◌, ◌≤◌, IfSome};
+ghost use Rattle.std.specs.Prelude.{◌≡◌, ◌^◌, ◌<◌, IfSome};
 ghost use Rattle.thread_local_bucket_pointers.specs.Slots.{empty_slots};
 ghost use Rattle.thread_local_model.specs.Learnt.{Missing, Vacant};
 ghost use Rattle.thread_local_model.specs.Place.{bucket_of};
@@ -16,8 +16,8 @@ use thread_local_ids::Reached;
 
 impl<'a, T> ClaimedSlot<'a, T> {
     /// One compare and exchange: where the bucket's pointer is null, it points to the block from
-    /// then on, and else the block comes back. Either way the slot is vacant from then on. As many
-    /// ids as the bucket has slots were held at once.
+    /// then on, and else the block comes back. Either way the slot is vacant from then on. All ids up
+    /// to this one were held at once, so as many as the bucket has slots.
     pub(crate) fn exchange(
         self,
         index: usize,
@@ -27,7 +27,7 @@ impl<'a, T> ClaimedSlot<'a, T> {
         requires missing { self.learnt ≡ Missing }
         requires index { index ≡ self.index }
         requires made { (block.slots ≡ empty_slots (2 ^ bucket_of self.id)) × (block.left ≡ 0) }
-        requires reached { (reached.table ≡ self.table) × (2 ^ bucket_of self.id ≤ reached.ids) }
+        requires reached { (reached.table ≡ self.table) × (self.id < reached.ids) }
         ensures same_slot { (result.0.table ≡ self.entry.table)
             × (result.0.sharing ≡ self.entry.sharing)
             × (result.0.id ≡ self.entry.id)

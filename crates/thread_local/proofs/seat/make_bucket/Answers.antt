@@ -1,9 +1,8 @@
-use Rattle.std.proofs.Common.{◌≡◌, ◌∙◌, ℕ, Some, sym, ap, subst, ⊎_elim}
+use Rattle.std.proofs.Common.{◌≡◌, ◌∙◌, ◌<◌, ℕ, Some, sym, ap, subst, ⊎_elim}
 use Rattle.thread_local_model.specs.Learnt.{Learnt, Missing, Vacant, learnt_by_install}
 use Rattle.thread_local_model.specs.Place.{IsPlaceOf}
 use Rattle.thread_local.proofs.Filled.{on_err}
 use Rattle.thread_local.proofs.seat.make_bucket.Goals as goal
-use Rattle.thread_local.proofs.Grown.{bucket_reached}
 
 -- The search for these takes seconds.
 pub returns-in_err-block-clause-same_slot : goal.returns-in_err-block-clause-same_slot
@@ -46,5 +45,5 @@ returns-else-is_missing-clause-ok g c =
 pub install-requires-clause-reached : goal.install-requires-clause-reached
 install-requires-clause-reached g c = (
   c.requires.reached.0 ∙ sym c.look_again.ensures.same_slot.0,
-  bucket_reached c.args.claim.now.id c.args.thread.bucket c.args.reached.ids c.requires.place.0 c.requires.reached.1,
+  subst (λ (id : ℕ). id < c.args.reached.ids) (sym c.look_again.ensures.same_slot.2) c.requires.reached.1,
 )

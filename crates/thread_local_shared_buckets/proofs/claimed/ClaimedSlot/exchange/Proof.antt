@@ -57,7 +57,7 @@ use Rattle.thread_local_ids.specs.contracts.reached.Reached as Reached
 use Rattle.thread_local_ids.proofs.ReachedElements.{reached_less}
 use Rattle.thread_local_ids.proofs.Markers.{token}
 use Rattle.thread_local_ids.proofs.Markers.{told as token_told}
-use Rattle.thread_local_shared_buckets.proofs.GrownLaws.{shown_below}
+use Rattle.thread_local_shared_buckets.proofs.GrownLaws.{shown_reached}
 use Rattle.thread_local_shared_buckets.specs.Shared.{BucketView, Turn, StandingBlock, len, bucket_invariant, shown_by, grown}
 use Rattle.thread_local_shared_buckets.proofs.Loads.{glimpse}
 use Rattle.thread_local_shared_buckets.proofs.Offers as offers
@@ -146,7 +146,7 @@ exchange_spec 𝓤 𝓛 𝓜 𝓡 wired X L =
     let F₃ : Res → Type 0 =
     λ r. IfSome r.1 (λ back. (back.heap ≡ x.heap) × (back.slots ≡ x.slots) × (back.left ≡ 0)) in
     let had = a.1.1.1.0 in
-    let Had : Type 0 = (had.table ≡ h.table) × (2 ^ bucket_of h.id ≤ had.ids) in
+    let Had : Type 0 = (had.table ≡ h.table) × (h.id < had.ids) in
     let Made : Type 0 = (x.slots ≡ empty_slots (2 ^ bucket_of h.id)) × (x.left ≡ 0) in let none : Option X.Denot = None in
     let w : Ptr = h.bucket in
     let wb : ℕ = block_of w in
@@ -222,8 +222,7 @@ exchange_spec 𝓤 𝓛 𝓜 𝓡 wired X L =
     let lost : Ptr → Fml = λ u. fsep (flft t.life s) (lost₀ u) in
     -- [the private block; the sharing lasts; the invariant; the life's token; the way back; the
     -- pass; the other tokens; how many ids were held]
-    let enough : shown_by d ≤ had.ids =
-    shown_below d.grown_by_ids d.reserved d.bucket had.ids (subst (λ (n : ℕ). 2 ^ n ≤ had.ids) same evident.1) in
+    let enough : shown_by d ≤ had.ids = shown_reached d h.id i had.ids of.3 evident.1 in
     move ! (7 ∷ []) $
     rewrite ! 0 (λ (n : ℕ). ‵ (reached_owns n had.ids)) (evident.0 ∙ sym of.2) refl $
     use1 𝓛 (‵ (grown d)) (reached_less 𝓛 d.table had.ids (shown_by d) enough) $
