@@ -44,7 +44,8 @@ fn a_forgotten_claim_costs_its_own_slot(rt: HostRuntime) -> Result<(), Fail> {
         found_and_forgotten(&shared, take(&mut ids)?),
         found_and_forgotten(&shared, take(&mut ids)?),
     ];
-    let (_third, published) = publish(&shared, take(&mut ids)?, rt.alloc(), 6);
+    let (held, right, tenure) = ids.take()?;
+    let (_third, published) = publish(&shared, (held, right), &tenure, rt.alloc(), 6);
     assert_eq!(rt; (found, published), ([Some(5), None], true));
     let seen = [look(&shared, 0), look(&shared, 1), look(&shared, 2)];
     assert_eq!(rt; seen, [Some(5), None, Some(6)]);

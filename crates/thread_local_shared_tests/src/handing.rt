@@ -60,10 +60,12 @@ fn a_number_is_handed_on_from_thread_to_thread(rt: HostRuntime) -> Result<(), Fa
     let mut ids = Ids::new(rt.alloc());
     Cell::<u64>::judge();
     let shared = Shared::new(Buckets::new(rt.alloc()), &ids.table_right());
-    let held = take(&mut ids)?;
+    let (held, right, tenure) = ids.take()?;
     let alloc = rt.alloc();
     let there = &shared;
-    let (first, _) = thread::join(&rt, || publish(there, held, alloc, Cell::new(7)), || ());
+    let own = &tenure;
+    let first = || publish(there, (held, right), own, alloc, Cell::new(7));
+    let (first, _) = thread::join(&rt, first, || ());
     let (held, published) = first;
     let (second, _) = thread::join(&rt, || add(there, held, 5), || ());
     let found = second.1;
@@ -97,10 +99,10 @@ fn comes_back<T: Send + Drop>(alloc: Global, value: T) -> bool
 {
     let mut ids = Ids::new(alloc);
     let shared = Shared::new(Buckets::new(alloc), &ids.table_right());
-    let Ok(held) = take(&mut ids) else {
+    let Ok((held, right, tenure)) = ids.take() else {
         return false;
     };
-    let (_held, published) = publish(&shared, held, alloc, value);
+    let (_held, published) = publish(&shared, (held, right), &tenure, alloc, value);
     published && shared.into_buckets().into_iter().next().is_some()
 }
 
