@@ -9,8 +9,7 @@ use std::sync::Wait;
 use std::test::Fail;
 use thread_local::ThreadLocal;
 use thread_local::local::Local;
-use thread_local::table::CapacityError;
-use thread_local_ids::Page;
+use thread_local::table::{CapacityError, Page};
 use thread_local_thread_id::LocalError;
 
 /// Two `Local`s in hand have two ids, each the least that wasn't held when it was taken.
