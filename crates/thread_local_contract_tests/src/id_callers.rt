@@ -42,7 +42,8 @@ fn after_a_return<'a, T, R: Wait>(
     ensures later { IfOk result (λ local. IsPrefix (noted returned.before Take) local.before) }
 {
     let mut page = returned.give_back();
-    table.local_after(rt, &mut page)
+    let local = table.local_after(rt, &mut page)?;
+    Ok(local)
 }
 
 /// Whether a table with this capacity grants a `Local`, and the page of that moment: it does while

@@ -5,4 +5,7 @@ use Rattle.thread_local_contract_tests.proofs.Least.{least_at_most}
 use Rattle.thread_local_contract_tests.proofs.id_callers.after_a_return.Goals as goal
 
 pub returns-clause-no_greater : goal.returns-clause-no_greater
-returns-clause-no_greater g c = ?
+returns-clause-no_greater g c = λ free.
+    let taken = c.in_ok-local in
+    subst (λ (id : ℕ). id ≤ c.args.returned.id) (sym taken.ensures.least)
+    (least_at_most (held_after taken.local.before) c.args.returned.id free)
