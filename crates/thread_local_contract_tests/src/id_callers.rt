@@ -38,8 +38,8 @@ fn after_a_return<'a, T, R: Wait>(
 ) -> Result<Local<'a, T, R>, LocalError>
     requires { returned.table ≡ table.now.table }
     ensures no_greater { IfOk result (λ local.
-        is_held (held_after local.before) returned.id ≡ false → local.id ≤ returned.id) }
-    ensures later { IfOk result (λ local. IsPrefix (noted returned.before Take) local.before) }
+        is_held (held_after local.before) returned.entry.id ≡ false → local.id ≤ returned.entry.id) }
+    ensures later { IfOk result (λ local. IsPrefix (noted returned.entry.before Take) local.before) }
 {
     let mut page = returned.give_back();
     let local = table.local_after(rt, &mut page)?;
@@ -58,10 +58,7 @@ fn is_granted<R: Wait>(
 {
     let table = ThreadLocal::<u32>::with_capacity(alloc, capacity)?;
     let mut page = table.page();
-    let granted = !matches!(
-        table.local_after(rt, &mut page),
-        Err(LocalError::Memory(_))
-    );
+    let granted = !matches!(table.local_after(rt, &mut page), Err(LocalError::Memory(_)));
     Ok((granted, page))
 }
 

@@ -25,7 +25,8 @@ impl Model for History {
     ghost also_shares = { λ h _ κ. said (page_owns h.table h.moves) κ };
 }
 
-/// A beginning of a table's history: all that was done with its ids up to some moment, in its order.
+/// A beginning of a table's history: all that was done with its ids up to some moment, in its
+/// order.
 #[derive(Drop)]
 pub struct Page {
     pub(crate) marker: PhantomData<()>,

@@ -166,7 +166,12 @@ fn a_text_is_read_by_its_token(rt: HostRuntime) -> Result<(), Fail> {
     let mut ids = Ids::new(rt.alloc());
     judge_sync::<String>();
     let shared = Shared::new(Buckets::new(rt.alloc()), &ids.table_right());
-    let (_, token) = told(&shared, take(&mut ids)?, rt.alloc(), String::new(rt.alloc()));
+    let (_, token) = told(
+        &shared,
+        take(&mut ids)?,
+        rt.alloc(),
+        String::new(rt.alloc()),
+    );
     let len = token.map(|token| read(&shared, &token).len());
     assert_eq!(rt; len, Some(0));
     Ok(())

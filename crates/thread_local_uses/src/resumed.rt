@@ -52,7 +52,7 @@ pub fn relieve<'a, R: Wait>(
 ) -> Result<Local<'a, u64, R>, LocalError>
     requires { ended.table ≡ steps.now.table }
     ensures least { IfOk result (λ next. next.id ≡ least (held_after next.before)) }
-    ensures later { IfOk result (λ next. IsPrefix (noted ended.before Take) next.before) }
+    ensures later { IfOk result (λ next. IsPrefix (noted ended.entry.before Take) next.before) }
 {
     let mut page = ended.give_back();
     steps.local_after(rt, &mut page)
