@@ -1,7 +1,8 @@
 //! Callers of a table's ids that are proved by contracts alone, and tests that run them.
-ghost use Rattle.std.specs.Prelude.{◌≡◌, ◌≢◌, ◌≤◌, ◌<◌, IfOk, true, false};
+ghost use Rattle.std.specs.Prelude.{◌≡◌, ◌≢◌, ◌≤◌, ◌<◌, List, IfOk, true, false};
 ghost use Rattle.thread_local.specs.Held.{is_held, held_count, least};
-ghost use Rattle.thread_local.specs.IdMoves.{Take, held_after, noted};
+ghost use Rattle.thread_local.specs.IdMoves.{IdMove, Take, held_after, noted};
+ghost use Rattle.thread_local.specs.Seats.{EndsWithReturn};
 ghost use mathlib.Core.List.{IsPrefix};
 
 use std::alloc::Global;
@@ -39,7 +40,8 @@ fn after_a_return<'a, T, R: Wait>(
     requires { returned.table ≡ table.now.table }
     ensures no_greater { IfOk result (λ local.
         is_held (held_after local.before) returned.entry.id ≡ false → local.id ≤ returned.entry.id) }
-    ensures later { IfOk result (λ local. IsPrefix (noted returned.entry.before Take) local.before) }
+    ensures seen { IfOk result (λ local.
+        (moves : List IdMove) × EndsWithReturn returned.entry moves × IsPrefix moves local.before) }
 {
     let mut page = returned.give_back();
     let local = table.local_after(rt, &mut page)?;
