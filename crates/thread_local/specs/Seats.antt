@@ -1,5 +1,6 @@
--- What a contract sees of a `Local` and of its seat: the name of its table, the sharing if that has a
--- name, its id, how many slots of the table are reserved, and what is known of the id's slot.
+-- What a contract sees of a `Local` and of its seat: the name of its table, the sharing if that has
+-- a name, its id, how many slots of the table are reserved, what is known of the id's slot, and
+-- what was done with the table's ids before.
 use Rattle.std.specs.Prelude.{◌≡◌, ◌≢◌, ℕ, ◌<◌, ◌-◌, ◌^◌, Bool, true, false, Option, Some, None, option_map, List, Result, Ok}
 use Rattle.std.specs.Prelude.{Err, refl}
 use base.Stored.{coded_bool}
@@ -16,8 +17,8 @@ use Rattle.thread_local_shared_buckets.specs.Views.{ClaimView}
 use Rattle.thread_local.specs.Tables.{ThreadLocalView}
 use Rattle.thread_local_shared_buckets.specs.Walks.{Owed}
 
--- the table, the sharing, the id, the number of reserved slots, and of the id's slot the value, if
--- there is one, and whether its bucket is known to stand
+-- the table, the sharing, the id, the number of reserved slots, of the id's slot the value, if
+-- there is one, and whether its bucket is known to stand, and the history before the id was taken
 pub record LocalView (V : Type 0) : Type 0 where
   pub table : ℕ
   pub sharing : Option ℕ
@@ -107,8 +108,8 @@ pub record IsAnswered {V : Type 0} (E : Type 0) (makes : V → Type 0) (old : Lo
   pub answered : answer {E = E} (knows old) (GetOr (Ok value) false) ≡ Answered value
   pub made : old.value ≡ None → makes value
 
--- such a call's answer, and the view that the call leaves, in which the slot holds this value; it may
--- have held it before
+-- such a call's answer, and the view that the call leaves, in which the slot holds this value; it
+-- may have held it before
 pub record Fills {V : Type 0} (E : Type 0) (makes : V → Type 0) (old new : LocalView V) (value : V) : Type 0 where
   pub says : Says {V = V} {E = E} (knows old) (GetOr (Ok value) false) (Answered value) (knows new)
   pub made : old.value ≡ None → makes value
@@ -132,7 +133,8 @@ pub record IsRefused {V : Type 0} (E : Type 0) (old new : LocalView V) : Type 0 
   pub says : (create : Result V E) → Says {V = V} {E = E} (knows old) (GetOr create true) Refused (knows new)
   pub stays : new ≡ old
 
--- The id of a `Local` went back last: after all that was done up to its take, and maybe more.
+-- A history ends with the return of a `Local`'s id, and begins with all that was done up to the
+-- take.
 pub record EndsWithReturn {V : Type 0} (local : LocalView V) (moves : List IdMove) : Type 0 where
   pub before : List IdMove
   pub given : moves ≡ noted before (Give local.id)

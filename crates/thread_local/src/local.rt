@@ -26,14 +26,16 @@ mod lends;
 /// Dropping it keeps the value and gives the id back, under the table's lock: that may wait, and
 /// takes no memory. A forgotten one keeps its id until the table is cleared.
 ///
-/// Each call but `seat`, `seat_mut` and `tokens` does what the seat's of that name does. None takes
-/// a lock. Only `set`, `publish` and the `get_or` family (`get_or`, `get_or_default`, `get_or_try`,
-/// `get_or_try_lasting`, `try_fill`) take memory, for a bucket. The closure or the `T::made_with`
-/// that these run may wait, and so may the drop of a closure that they don't run. References that
-/// calls answer live no longer than the borrow of the `Local`, but that of `get_or_try_lasting`.
+/// Each call but `seat`, `seat_mut`, `in_line`, `give_back` and `tokens` does what the seat's of
+/// that name does. None but `give_back` takes a lock. Only `set`, `publish` and the `get_or` family
+/// (`get_or`, `get_or_default`, `get_or_try`, `get_or_try_lasting`, `try_fill`) take memory, for a
+/// bucket. The closure or the `T::made_with` that these run may wait, and so may the drop of a
+/// closure that they don't run. References that calls answer live no longer than the borrow of the
+/// `Local`, but that of `get_or_try_lasting`.
 ///
-/// Contracts see the table's name and its sharing, the id, the number of reserved slots, and what
-/// is known of the id's slot: its value, if there is one, and whether its bucket is known to stand.
+/// Contracts see the table's name and its sharing, the id, the number of reserved slots, what was
+/// done with the table's ids before the take, and what is known of the id's slot: its value, if
+/// there is one, and whether its bucket is known to stand.
 ///
 /// Rust's crate finds the running thread by itself, and has no such type. Its table has `get` and
 /// the `get_or` family but `try_fill`; the other calls are the port's own.
@@ -150,7 +152,8 @@ impl<'a, T, R: Wait> Local<'a, T, R> {
         self.seat.held_at(page);
     }
 
-    /// What the drop does, which answers the page that ends with the return of this id.
+    /// What the drop does, which answers the page that ends with the return of this id: a later
+    /// `local_after` with it gets an id at most this one, unless another `Local` has this one then.
     pub fn give_back(self) -> Page
         ensures table { result.table ≡ self.entry.table }
         ensures moves { EndsWithReturn self.entry result.moves }
@@ -249,9 +252,9 @@ impl<'a, T, R: Wait> Local<'a, T, R> {
 
 impl<'a, T: Sync, R: Wait> Local<'a, T, R> {
     /// `get_or_try`, whose reference lasts as long as the table is lent and isn't bound to the
-    /// borrow of the `Local`, as in Rust's crate. So it also says what it leaves: after `Ok` the view
-    /// has the value, and after `Err` it still has none. It needs `T: Sync`, since another thread
-    /// may get the id while the reference lives.
+    /// borrow of the `Local`, as in Rust's crate. So it also says what it leaves: after `Ok` the
+    /// view has the value, and after `Err` it still has none. It needs `T: Sync`, since another
+    /// thread may get the id while the reference lives.
     pub fn get_or_try_lasting<F: FnOnce() -> Result<T, E> + Drop, E>(
         &mut self,
         create: F,

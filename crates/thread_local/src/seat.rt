@@ -389,7 +389,11 @@ impl<'a, T> Seat<'a, T> {
         ensures table { result.table ≡ self.entry.table }
         ensures moves { EndsWithReturn self.entry result.moves }
     {
-        let Self { table, claim, tenure } = self;
+        let Self {
+            table,
+            claim,
+            tenure,
+        } = self;
         let (held, right) = claim.give_up();
         table.ids.lock(rt).give(held, right, tenure)
     }

@@ -22,7 +22,7 @@ use std::sync::Wait;
 pub use thread_local_buckets::CapacityError;
 use thread_local_buckets::{Buckets, EntriesMut, IntoEntries, IntoIter, IterMut};
 use thread_local_ids::{Ids, Lock, Right, Room};
-pub use thread_local_ids::{Book, Page, Told, Token};
+pub use thread_local_ids::{Book, Page, Token, Told};
 pub use thread_local_judged::{Judge, judge_sync, judge_value};
 use thread_local_model::walk::walk_lists_the_map;
 use thread_local_shared_buckets::{Entries, Iter, Shared, Tokens};
@@ -39,11 +39,10 @@ mod lends;
 /// `Sync`, every thread may, while others publish more. Threads share a table through a `&`, and it
 /// can be sent to another thread. One can be made of every `T: Send` that is judged, as `new` says.
 ///
-/// Only `local`, `slots_and_peak` and the drop of a `Local` take the table's lock, so no other call
-/// here waits; only
-/// `local` and `with_capacity` take memory. But `clear` drops values, as the drop of a table, of a
-/// walk by value or of a `Drain` does, and a value's drop may wait and may take memory: a value may
-/// hold a `Local` of another table.
+/// Only `local`, `local_after`, `slots_and_peak` and the drop of a `Local` take the table's lock, so
+/// no other call here waits; only `local`, `local_after` and `with_capacity` take memory. But
+/// `clear` drops values, as the drop of a table, of a walk by value or of a `Drain` does, and a
+/// value's drop may wait and may take memory: a value may hold a `Local` of another table.
 ///
 /// A bucket of 2^58 bytes or more, and values aligned above 16, are refused as if out of memory,
 /// here and by every `Local`. No type was found that is aligned so: the language refuses
@@ -53,8 +52,14 @@ mod lends;
 /// over a table; there the table also has the calls of a `Local`. All others are the port's own.
 ///
 /// Contracts see the table's name, the number of reserved slots, whether each bucket that isn't
-/// reserved was made for an id of the table, and the sharing, if that has a name. A sharing begins when the table is made, cleared or renewed, and lasts until an owner's
-/// call lends or takes the values. While it lasts, tokens (`Token`) say which values slots hold.
+/// reserved was made for an id of the table, for how many ids there was room when the table was made
+/// or cleared, and the sharing, if that has a name. A sharing begins when the table is made, cleared
+/// or renewed, and lasts until an owner's call lends or takes the values. While it lasts, tokens
+/// (`Token`) say which values slots hold.
+///
+/// What was done with the table's ids, in the order of its lock, is their history. A `Page` is a
+/// beginning of it, which has no bytes. Each `Local` has the page that ends with its take, and
+/// returns have theirs, so callers tell which id was taken or given back before which.
 #[derive(Drop)]
 pub struct ThreadLocal<T> {
     pub(crate) buckets: Shared<T>,
@@ -167,9 +172,10 @@ impl<T> ThreadLocal<T> {
         Ok(ThreadLocal::of(alloc, buckets, ids, right))
     }
 
-    /// A `Local` with the least id that isn't held; no clause says which id that is. It takes the
-    /// table's lock, so it may wait, and looks once whether the id's slot holds a value, so that
-    /// `get` needs no look.
+    /// A `Local` with the least id that isn't held after what was done with the ids before: the
+    /// `Local` knows that, and `local_after` also says how it extends what the caller knew. It
+    /// takes the table's lock, so it may wait, and looks once whether the id's slot holds a value,
+    /// so that `get` needs no look.
     ///
     /// It asks for memory only where as many ids are held as ever were at once and there is no room
     /// for one more, and not for the first 64: `Memory` means out of memory. `Exhausted` means that
@@ -187,8 +193,9 @@ impl<T> ThreadLocal<T> {
         Ok(Local::new(rt, Seat::new(self, held, right, tenure)))
     }
 
-    /// The page of the table's ids from before any was taken, for a first `local_after`. At run time
-    /// it does nothing.
+    /// The page of the table's ids from before any was taken, for a first `local_after`. At run
+    /// time it does nothing.
+    #[inline]
     pub fn page(&self) -> Page
         ensures { (result.table ≡ self.now.table) × (result.moves ≡ []) }
     {
@@ -196,7 +203,9 @@ impl<T> ThreadLocal<T> {
     }
 
     /// `local`, which shows that what was done with the table's ids before extends a page of the
-    /// table, and leaves the page of all that was done since, where it is refused too.
+    /// table, and leaves the page of all that was done since, where it is refused too. So it says
+    /// which ids were held when it was refused: all that there was room for from the beginning. A
+    /// table with a capacity refuses no `Local` memory while fewer ids are held.
     #[inline(always)]
     pub fn local_after<'a, R: Wait>(
         &'a self,
@@ -316,8 +325,8 @@ impl<T> ThreadLocal<T> {
     }
 
     /// Drops every value, frees every bucket that isn't reserved, and takes every id back, those of
-    /// forgotten `Local`s too. The reserved buckets and the room for ids stay, though no clause says
-    /// for how many ids there is room then; in Rust's crate the reserved buckets go too. For
+    /// forgotten `Local`s too. The reserved buckets and the room for ids stay, though no clause
+    /// says for how many ids there is room then; in Rust's crate the reserved buckets go too. For
     /// contracts the table is another one from then on.
     pub fn clear(&mut self)
     where

@@ -1,7 +1,8 @@
 //! Callers of a table's ids that are proved by contracts alone, and tests that run them.
-ghost use Rattle.std.specs.Prelude.{◌≡◌, ◌≢◌, ◌≤◌, ◌<◌, IfOk, true, false};
+ghost use Rattle.std.specs.Prelude.{◌≡◌, ◌≢◌, ◌≤◌, ◌<◌, List, IfOk, true, false};
 ghost use Rattle.thread_local.specs.Held.{is_held, held_count, least};
-ghost use Rattle.thread_local.specs.IdMoves.{Take, held_after, noted};
+ghost use Rattle.thread_local.specs.IdMoves.{IdMove, Take, held_after, noted};
+ghost use Rattle.thread_local.specs.Seats.{EndsWithReturn};
 ghost use mathlib.Core.List.{IsPrefix};
 
 use std::alloc::Global;
@@ -9,8 +10,7 @@ use std::sync::Wait;
 use std::test::Fail;
 use thread_local::ThreadLocal;
 use thread_local::local::Local;
-use thread_local::table::CapacityError;
-use thread_local_ids::Page;
+use thread_local::table::{CapacityError, Page};
 use thread_local_thread_id::LocalError;
 
 /// Two `Local`s in hand have two ids, each the least that wasn't held when it was taken.
@@ -39,11 +39,13 @@ fn after_a_return<'a, T, R: Wait>(
 ) -> Result<Local<'a, T, R>, LocalError>
     requires { returned.table ≡ table.now.table }
     ensures no_greater { IfOk result (λ local.
-        is_held (held_after local.before) returned.id ≡ false → local.id ≤ returned.id) }
-    ensures later { IfOk result (λ local. IsPrefix (noted returned.before Take) local.before) }
+        is_held (held_after local.before) returned.entry.id ≡ false → local.id ≤ returned.entry.id) }
+    ensures seen { IfOk result (λ local.
+        (moves : List IdMove) × EndsWithReturn returned.entry moves × IsPrefix moves local.before) }
 {
     let mut page = returned.give_back();
-    table.local_after(rt, &mut page)
+    let local = table.local_after(rt, &mut page)?;
+    Ok(local)
 }
 
 /// Whether a table with this capacity grants a `Local`, and the page of that moment: it does while
@@ -58,10 +60,7 @@ fn is_granted<R: Wait>(
 {
     let table = ThreadLocal::<u32>::with_capacity(alloc, capacity)?;
     let mut page = table.page();
-    let granted = !matches!(
-        table.local_after(rt, &mut page),
-        Err(LocalError::Memory(_))
-    );
+    let granted = !matches!(table.local_after(rt, &mut page), Err(LocalError::Memory(_)));
     Ok((granted, page))
 }
 

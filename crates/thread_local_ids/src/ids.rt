@@ -95,8 +95,8 @@ impl Ids {
     }
 
     /// Takes the least id that isn't held, and the right to it. It asks for memory only where every
-    /// id below the peak is held and there is no room for one more, and not for the first 64 ids. It
-    /// refuses where that memory isn't given, and where every id is held.
+    /// id below the peak is held and there is no room for one more, and not for the first 64 ids.
+    /// It refuses where that memory isn't given, and where every id is held.
     pub fn take(&mut self) -> Result<(HeldId, Right, Tenure), LocalError>
         ensures ok { IfOk result (λ taken. Takes self.old.manager self.new.manager taken.0.id) }
         ensures right { IfOk result (λ taken. (taken.1.table ≡ self.old.table) × (taken.1.id ≡ taken.0.id)) }
@@ -168,8 +168,8 @@ impl Ids {
         taken
     }
 
-    /// Takes a held id of this table back, with its right and what was kept of its take, and answers
-    /// the page that ends with it.
+    /// Takes a held id of this table back, with its right and what was kept of its take, and
+    /// answers the page that ends with it.
     pub fn give(&mut self, held: HeldId, right: Right, tenure: Tenure) -> Page
         requires table { (right.table ≡ self.old.table) × (held.mark.table ≡ self.old.table) × (tenure.table ≡ self.old.table) }
         requires id { (right.id ≡ held.id) × (held.id ≡ taken_id tenure.before) }

@@ -3,13 +3,13 @@
 #![tactic(auto)]
 
 pub mod book;
-pub mod room;
 pub mod held;
 pub mod ids;
 pub mod lock;
 pub mod page;
 pub mod reached;
 pub mod right;
+pub mod room;
 pub mod token;
 pub mod token_list;
 pub mod told_list;
@@ -17,13 +17,13 @@ pub mod witness;
 pub mod word;
 
 pub use book::Book;
-pub use room::Room;
 pub use held::HeldId;
 pub use ids::Ids;
 pub use lock::{Fits, Lock, LockGuard};
 pub use page::{History, Page, Tenure};
 pub use reached::Reached;
 pub use right::{Right, Rights};
+pub use room::Room;
 pub use token::Token;
 pub use token_list::TokenList;
 pub use told_list::Told;

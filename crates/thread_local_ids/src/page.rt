@@ -1,5 +1,5 @@
-//! What was done with the ids of a table: a `History`, which is appended to, and its `Page`s. Neither
-//! has bytes, and no call does anything at run time.
+//! What was done with the ids of a table: a `History`, which is appended to, its `Page`s, and the
+//! `Tenure` of each id that is held. None has bytes, and no call does anything at run time.
 ghost use Rattle.std.specs.Prelude.{◌≡◌, ℕ, List, [], true};
 ghost use mathlib.Core.List.{IsPrefix};
 ghost use mathlib.Core.Logic.{◌∨₁◌};
@@ -25,7 +25,8 @@ impl Model for History {
     ghost also_shares = { λ h _ κ. said (page_owns h.table h.moves) κ };
 }
 
-/// A beginning of a table's history: all that was done with its ids up to some moment, in its order.
+/// A beginning of a table's history: all that was done with its ids up to some moment, in its
+/// order.
 #[derive(Drop)]
 pub struct Page {
     pub(crate) marker: PhantomData<()>,

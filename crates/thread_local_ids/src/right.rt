@@ -1,12 +1,12 @@
-//! The right to an id is out, as a `Right` with one holder, or it is in the table's `Rights`. The same
-//! holds of numbers that are no ids, which marks and the table's own right are to. Neither type has
-//! bytes, and no call does anything at run time.
+//! The right to an id is out, as a `Right` with one holder, or it is in the table's `Rights`. The
+//! same holds of numbers that are no ids, which marks and the table's own right are to. Neither
+//! type has bytes, and no call does anything at run time.
 ghost use Rattle.std.specs.Prelude.{◌≡◌, ◌≢◌, ℕ, ◌==◌, ◌^◌, ◌-◌, true, false, List, [], if◌then◌else◌};
 ghost use types.Logic.{sem};
 ghost use Rattle.thread_local_ids.specs.Rights.{is_out, right_owns, rights_own};
 
-use crate::room::Room;
 use crate::page::History;
+use crate::room::Room;
 use std::marker::{Model, PhantomData};
 use thread_local_thread_id::ThreadIdManager;
 
@@ -69,8 +69,8 @@ impl Rights {
         let Right { marker: _ } = right;
     }
 
-    /// Notes for how many ids the table's manager has room. The right that becomes the note is one to
-    /// a number that no `usize` is.
+    /// Notes for how many ids the table's manager has room. The right that becomes the note is one
+    /// to a number that no `usize` is.
     pub fn note_room(&mut self, manager: &ThreadIdManager) -> Room
         requires { is_out self.old.out (2 ^ 64) ≡ false }
         ensures room { (result.table ≡ self.old.table) × (result.ids ≡ manager.now.room) }

@@ -1,4 +1,5 @@
-//! For how many ids a table began with room. It has no bytes, and no call does anything at run time.
+//! For how many ids a table began with room. It has no bytes, and no call does anything at run
+//! time.
 ghost use Rattle.std.specs.Prelude.{◌≡◌, ℕ};
 ghost use types.Logic.{sem};
 ghost use denote.Sharing.{said};

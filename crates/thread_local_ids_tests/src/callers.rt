@@ -27,9 +27,6 @@ fn least_ids_come_again(
 
 #[test]
 fn the_least_ids_come_again(rt: HostRuntime) -> Result<(), Fail> {
-    assert_eq!(rt;
-        least_ids_come_again(rt.alloc())?,
-        ((0, 1, 2), (0, 1, 3))
-    );
+    assert_eq!(rt; least_ids_come_again(rt.alloc())?, ((0, 1, 2), (0, 1, 3)));
     Ok(())
 }

@@ -41,7 +41,6 @@ returns-clause-least g c =
     ∙ ap (λ (before : List IdMove). least (held_after before))
     (sym (ap (λ (view : LocalView g.row.T.Denot). view.before) c.new-2.ensures ∙ c.new.ensures.id.1))
 
-
 -- where as many ids are held as there was room for, no fewer are
 pub returns-in_err-held-clause-granted : goal.returns-in_err-held-clause-granted
 returns-in_err-held-clause-granted g c = λ few refused.

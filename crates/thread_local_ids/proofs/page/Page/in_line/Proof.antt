@@ -1,6 +1,6 @@
 -- Of two pages of one table one extends the other.
 use Rattle.thread_local_model.proofs.Names.{sym, ◌≡◌, ℕ, List, [], ◌∷◌, refl, named}
-use Rattle.thread_local_model.proofs.Names.{Val, vptr, vunit, SProp, emp, ‵, raw, ◌⊛◌, given, ◌$◌, ◌∵◌, !}
+use Rattle.thread_local_model.proofs.Names.{Val, vptr, vunit, SProp, emp, ‵, raw, ◌⊛◌, given, ◌$◌, ◌∵◌, ! }
 use Rattle.thread_local_model.proofs.Names.{qed, by, move, keep, drop, split, fsplit, fsplit3, fjoin, learn, rewrite}
 use Rattle.thread_local_model.proofs.Names.{feq_i, use0, use2, of_opd, unit_lit, returns, enter, alloc_all, pass_all}
 use Rattle.thread_local_model.proofs.Names.{free_all, look_at, sets, tables, fact, fact_i, yes, RattleType, owns}
