@@ -2,9 +2,8 @@
 use Rattle.std.specs.Prelude.{◌≡◌}
 use Rattle.thread_local.specs.Tables.{ThreadLocalView}
 
--- it has its name, as many reserved slots, and its room, and no bucket was added
+-- it has its name, as many reserved slots, and its room
 pub record KeepsReserved (old left : ThreadLocalView) : Type 0 where
   pub table : left.table ≡ old.table
   pub reserved : left.reserved ≡ old.reserved
   pub room : left.room ≡ old.room
-  pub grown : left.grown_by_ids ≡ old.grown_by_ids

@@ -77,20 +77,6 @@ pub only_reserved_if : {V : Type 0} (owned : Owned V)
 only_reserved_if owned so =
     all_among (λ bucket. nat_lt (id_at bucket 0) owned.reserved) (stands owned.contents) (λ b near there. so b there)
 
-kept_if : (grown keeps : Bool) → keeps ≡ true → (if grown then keeps else false) ≡ grown
-kept_if true keeps is = is
-kept_if false keeps is = refl
-
--- an owner that added no bucket leaves the table as it grew
-pub keeps_grown : {V : Type 0} (s : TableView) (lent left : Owned V) → left.reserved ≡ lent.reserved
-    → ((b : ℕ) → stands left.contents b ≡ true → stands lent.contents b ≡ true)
-    → (view_with s lent left).grown_by_ids ≡ s.grown_by_ids
-keeps_grown s lent left many so =
-    kept_if s.grown_by_ids (adds_no_bucket lent left)
-    (so_both (left.reserved == lent.reserved) (stand_among (stands lent.contents) (stands left.contents))
-    (eq-eqb left.reserved lent.reserved many)
-    (all_among (stands lent.contents) (stands left.contents) (λ b near there. so b there)))
-
 -- ---- what a row shows
 -- how many ids were held at once, by a bucket's row: none where it doesn't stand
 abbrev pub shown_in : {V : Type 0} → BucketView → List (Option V) → ℕ
