@@ -1,5 +1,6 @@
 pub use Rattle.thread_local_model.specs.Buckets
 pub use Rattle.thread_local_model.specs.Held
+pub use Rattle.thread_local_model.specs.IdMoves
 pub use Rattle.thread_local_model.specs.Place
 pub use Rattle.thread_local_model.specs.Walk
 pub use Rattle.thread_local_ids.specs.Views
@@ -10,6 +11,7 @@ pub use Rattle.thread_local_model.specs.Learnt
 pub mod Errors
 pub mod Owners
 pub mod Seats
+pub mod Tables
 pub mod Text
 pub use Rattle.thread_local_buckets.specs.IterMut
 pub use Rattle.thread_local_buckets.specs.Drain

@@ -5,7 +5,11 @@
 #[cfg(test)]
 mod callers;
 #[cfg(test)]
+mod id_callers;
+#[cfg(test)]
 mod judged;
+#[cfg(test)]
+mod slot_callers;
 #[cfg(test)]
 mod tokens;
 #[cfg(test)]

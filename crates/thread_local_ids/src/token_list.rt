@@ -44,10 +44,10 @@ impl<T> TokenList<T> {
     pub fn and_of(&self, witness: &Witness<T>) -> TokenList<T>
         ensures { result.tokens
             ≡ record {
-                sharing = witness.now.sharing;
-                id = witness.now.id;
-                value = witness.now.value;
-              }
+              sharing = witness.now.sharing;
+              id = witness.now.id;
+              value = witness.now.value;
+            }
             ∷ self.now.tokens }
     {
         let _ = witness;

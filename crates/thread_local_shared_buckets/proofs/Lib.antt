@@ -3,6 +3,7 @@ pub mod Redeemed
 pub mod ToldLaws
 mod Turned
 pub mod Fields
+pub mod GrownLaws
 pub mod StepLaws
 pub mod MoveLaws
 pub mod WalkLaws

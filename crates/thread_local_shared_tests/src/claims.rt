@@ -1,7 +1,7 @@
 //! Claims that are forgotten, sent or shared, and those of reserved buckets.
 ghost use Rattle.std.specs.Prelude.{◌≡◌};
 
-use crate::steps::{Kept, first_three, left, look, publish, publish_claimed};
+use crate::steps::{Kept, first_three, left, look, publish, publish_claimed, take};
 use std::cell::Cell;
 use std::mem::forget;
 use std::test::Fail;
@@ -41,10 +41,11 @@ fn a_forgotten_claim_costs_its_own_slot(rt: HostRuntime) -> Result<(), Fail> {
     assert!(rt; buckets.insert(Thread::new(0), 5u32).is_ok());
     let shared = Shared::new(buckets, &ids.table_right());
     let found = [
-        found_and_forgotten(&shared, ids.take()?),
-        found_and_forgotten(&shared, ids.take()?),
+        found_and_forgotten(&shared, take(&mut ids)?),
+        found_and_forgotten(&shared, take(&mut ids)?),
     ];
-    let (_third, published) = publish(&shared, ids.take()?, rt.alloc(), 6);
+    let (held, right, tenure) = ids.take()?;
+    let (_third, published) = publish(&shared, (held, right), &tenure, rt.alloc(), 6);
     assert_eq!(rt; (found, published), ([Some(5), None], true));
     let seen = [look(&shared, 0), look(&shared, 1), look(&shared, 2)];
     assert_eq!(rt; seen, [Some(5), None, Some(6)]);
@@ -60,7 +61,7 @@ fn a_claim_goes_to_another_thread(rt: HostRuntime) -> Result<(), Fail> {
     let mut ids = Ids::new(rt.alloc());
     Cell::<u64>::judge();
     let shared = Shared::new(Buckets::with_capacity(rt.alloc(), 1)?, &ids.table_right());
-    let (held, right) = ids.take()?;
+    let (held, right) = take(&mut ids)?;
     let claimed = Kept {
         claim: shared.claim(held, right),
     };
@@ -82,7 +83,7 @@ fn threads_share_a_claim(rt: HostRuntime) -> Result<(), Fail> {
     let mut buckets = Buckets::new(rt.alloc());
     assert!(rt; buckets.insert(Thread::new(0), 5u32).is_ok());
     let shared = Shared::new(buckets, &ids.table_right());
-    let (held, right) = ids.take()?;
+    let (held, right) = take(&mut ids)?;
     let claim = shared.claim(held, right);
     let both = thread::join(&rt, || found(&claim), || found(&claim));
     assert_eq!(rt; both, (Some(5), Some(5)));
@@ -107,7 +108,7 @@ fn reserved_buckets_stand(rt: HostRuntime) -> Result<(), Fail> {
         (shared.reserved(), stand(&shared)),
         (7, [true, true, false])
     );
-    let (held, right) = ids.take()?;
+    let (held, right) = take(&mut ids)?;
     let claim = shared.claim(held, right);
     let is_vacant = !claim.is_missing() && claim.get().is_none();
     let published = publish_claimed(claim, 1).1;

@@ -2,7 +2,7 @@ use Rattle.std.proofs.Common.{◌≡◌, ◌∙◌, ◌⊎◌, inl, inr, ℕ, So
 use Rattle.thread_local_model.specs.Learnt.{Learnt, Missing, Vacant, Holding}
 use Rattle.thread_local_model.specs.Answers.{view_of}
 use Rattle.thread_local_shared_buckets.specs.Views.{ClaimView}
-use Rattle.thread_local_shared_buckets.specs.TableView.{TableView}
+use Rattle.thread_local.specs.Tables.{ThreadLocalView}
 use Rattle.thread_local_shared_buckets.specs.Walks.{WalkView, Owed}
 use Rattle.std.specs.Prelude.{List}
 use Rattle.thread_local_model.specs.IdMoves.{IdMove}
@@ -12,7 +12,7 @@ use Rattle.thread_local.proofs.seat.Seat.iter.Goals as goal
 abbrev owed : {V : Type 0} → ℕ → V → Owed V
 owed id value = record { id = id; value = value }
 
-module _ {V : Type 0} (of : TableView) (claim : ClaimView V) (before : List IdMove) where
+module _ {V : Type 0} (of : ThreadLocalView) (claim : ClaimView V) (before : List IdMove) where
   -- the own value of a claim that has found one
   own_held : (id : ℕ) (value : V) → id ≡ claim.id → claim.learnt ≡ Holding value
       → Some (owed id value) ≡ own_of (local_view of claim before)
@@ -36,7 +36,7 @@ pub with_own-requires : goal.with_own-requires
 with_own-requires g c =
     let told = c.in-Some.ensures in (
       c.type_bounds.sync-T,
-      (lit< tt, (told.0 ∙ c.self.invariant.sharing ∙ sym (ap (λ (t : TableView). t.sharing) c.table.view_is), told.2)),
+      (lit< tt, (told.0 ∙ c.self.invariant.sharing ∙ sym (ap (λ (t : ThreadLocalView). t.sharing) c.table.view_is), told.2)),
     )
 
 pub returns-in-Some-clause-begins : goal.returns-in-Some-clause-begins
@@ -55,7 +55,7 @@ returns-in-Some-clause-shown g c = ap (λ (walk : WalkView g.row.T.Denot). walk.
 pub returns-in-Some-clause-sharing : goal.returns-in-Some-clause-sharing
 returns-in-Some-clause-sharing g c =
     ap (λ (walk : WalkView g.row.T.Denot). walk.sharing) c.with_own.ensures
-    ∙ ap (λ (t : TableView). t.sharing) c.table.view_is
+    ∙ ap (λ (t : ThreadLocalView). t.sharing) c.table.view_is
     ∙ ap (λ (view : LocalView g.row.T.Denot). view.sharing) c.self.view_is
 
 pub returns-in-None-clause-begins : goal.returns-in-None-clause-begins
@@ -73,5 +73,5 @@ returns-in-None-clause-shown g c = ap (λ (walk : WalkView g.row.T.Denot). walk.
 pub returns-in-None-clause-sharing : goal.returns-in-None-clause-sharing
 returns-in-None-clause-sharing g c =
     ap (λ (walk : WalkView g.row.T.Denot). walk.sharing) c.new.ensures
-    ∙ ap (λ (t : TableView). t.sharing) c.table.view_is
+    ∙ ap (λ (t : ThreadLocalView). t.sharing) c.table.view_is
     ∙ ap (λ (view : LocalView g.row.T.Denot). view.sharing) c.self.view_is

@@ -1,5 +1,5 @@
 -- The right to the least free id isn't out, since that id isn't held, and nor is its mark.
-use Rattle.std.proofs.Common.{rules, sym, ◌≡◌, ◌≢◌, ◌+◌, ◌^◌, ◌==◌, true, refl, ap, ◌∙◌, arith, if◌then◌else◌, ne_eqb}
+use Rattle.std.proofs.Common.{rules, sym, ◌≡◌, ◌≢◌, ◌≤◌, ◌+◌, ◌^◌, ◌==◌, true, refl, ap, ◌∙◌, arith, if◌then◌else◌, ne_eqb}
 use Rattle.thread_local_model.specs.Held.{is_held, with_least}
 use Rattle.thread_local_model.specs.IdMoves.{held_after}
 use Rattle.thread_local_model.proofs.IdMoveLaws.{after_take}
@@ -41,12 +41,14 @@ pub invariant_of-self-2 : goal.invariant_of-self-2
 invariant_of-self-2 c = record {
   out = search rules;
   moves =
-    ap held_after c.take-tenure.ensures.moves.1
-    ∙ after_take c.self.inside.history.moves
-    ∙ ap with_least c.self.invariant.moves
-    ∙ sym c.in_ok-id.ensures.ok.held;
+      ap held_after c.take-tenure.ensures.moves.1
+      ∙ after_take c.self.inside.history.moves
+      ∙ ap with_least c.self.invariant.moves
+      ∙ sym c.in_ok-id.ensures.ok.held;
   table =
-    c.take-tenure.ensures.moves.0
-    ∙ c.self.invariant.table
-    ∙ sym (c.take-mark.ensures.table ∙ c.take-right.ensures.table);
+      c.take-tenure.ensures.moves.0
+      ∙ c.self.invariant.table
+      ∙ sym (c.take-mark.ensures.table ∙ c.take-right.ensures.table);
+  room = omega (arith, c.self.invariant.room, c.in_ok-id.ensures.ok.room);
+  room_table = c.self.invariant.room_table ∙ sym (c.take-mark.ensures.table ∙ c.take-right.ensures.table);
 }
