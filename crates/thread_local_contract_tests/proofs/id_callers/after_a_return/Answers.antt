@@ -11,4 +11,4 @@ returns-clause-no_greater g c = λ free.
     (least_at_most (held_after taken.local.before) c.args.returned.id free)
 
 pub returns-clause-seen : goal.returns-clause-seen
-returns-clause-seen g c = (c.give_back-page.result.moves, (c.give_back-page.ensures.moves, c.in_ok-local.ensures.since))
+returns-clause-seen g c = (c.give_back-page.result.moves, c.give_back-page.ensures.moves, c.in_ok-local.ensures.since)
