@@ -18,8 +18,8 @@ pub record Owed (V : Type 0) : Type 0 where
   pub value : V
 
 -- the sharing that a walk goes over, if that has a name, where the walk is, the own value that it has
--- still to give, if any, whether it was shown that threads may share the values, and the tokens that it
--- was made with, whose values it gives
+-- still to give, if any, whether it was shown that threads may share the values, and the tokens whose
+-- values it gives for sure
 pub record WalkView (V : Type 0) : Type 0 where
   pub sharing : Option ℕ
   pub cursor : Cursor
@@ -83,9 +83,9 @@ pub record Ends {V : Type 0} (from : Cursor) (own : Option (Owed V)) (to : Curso
   pub none_owed : own ≡ None
   pub none_left : left ≡ None
 
--- what a call does about a token of the walk's sharing. One that gives nothing leaves no token's id ahead.
--- One that gives a value passes no token's id before the value's, and if that is the token's id, the
--- value is the token's
+-- what a call does about a token of the walk's sharing: one that gives nothing leaves no token's id
+-- ahead. One that gives a value passes no token's id before the value's, and if that is the token's
+-- id, the value is the token's
 abbrev pub Meets : {V : Type 0} → Cursor → Option (Bor V) → Cursor → TokenView V → Type 0
 Meets from item to p =
     MatchOption item (p.id < cursor_id from)
@@ -116,6 +116,13 @@ pub record IsTokenOf {V : Type 0} (walk left : WalkView V) (entry : TokenView V 
 pub record GoesWithTokens {V : Type 0} (walk : WalkView V) (item : Option (TokenView V × Bor V)) (left : WalkView V) : Type 0 where
   pub goes : Goes walk (option_map (λ entry. entry.1) item) left
   pub told : IfSome item (IsTokenOf walk left)
+
+-- the id and the value of an item with an id, and of one with a token
+abbrev pub entry_of : {V : Type 0} → ℕ × Bor V → ℕ × V
+entry_of item = (item.0, item.1.now)
+
+abbrev pub told_entry_of : {V : Type 0} → TokenView V × Bor V → ℕ × V
+told_entry_of item = (item.0.id, item.1.now)
 
 -- a walk may go on where it was shown that threads may share the values, or their type says so
 abbrev pub CanGo : {V : Type 0} → RattleType → WalkView V → Type 0
