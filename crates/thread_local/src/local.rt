@@ -15,7 +15,7 @@ pub use crate::seat::{Seat, SetError, TryError};
 use std::fmt;
 use std::marker::Model;
 use std::sync::Wait;
-use thread_local_ids::{Page, Told, Token};
+use thread_local_ids::{Page, Token, Told};
 use thread_local_shared_buckets::{Iter, Tokens};
 
 // `get_or` and `get_or_default` stand in local/lends.rt.

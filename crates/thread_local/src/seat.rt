@@ -21,7 +21,7 @@ use std::fmt;
 use std::marker::Model;
 use std::sync::Wait;
 use thread_local_bucket_pointers::Block;
-use thread_local_ids::{HeldId, Page, Right, Tenure, Told, Token};
+use thread_local_ids::{HeldId, Page, Right, Tenure, Token, Told};
 use thread_local_shared_buckets::{Claim, Iter};
 use thread_local_thread_id::Thread;
 
@@ -387,7 +387,11 @@ impl<'a, T> Seat<'a, T> {
         ensures page { (result.table ≡ self.entry.table) × (result.last ≡ Give self.entry.id) }
         ensures early { IsPrefix (noted self.entry.before Take) result.before }
     {
-        let Self { table, claim, tenure } = self;
+        let Self {
+            table,
+            claim,
+            tenure,
+        } = self;
         let (held, right) = claim.give_up();
         table.ids.lock(rt).give(held, right, tenure)
     }

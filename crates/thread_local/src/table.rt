@@ -21,7 +21,7 @@ use std::sync::Wait;
 pub use thread_local_buckets::CapacityError;
 use thread_local_buckets::{Buckets, EntriesMut, IntoEntries, IntoIter, IterMut};
 use thread_local_ids::{Ids, Lock, Page, Right};
-pub use thread_local_ids::{Book, Told, Token};
+pub use thread_local_ids::{Book, Token, Told};
 pub use thread_local_judged::{Judge, judge_sync, judge_value};
 use thread_local_model::walk::walk_lists_the_map;
 use thread_local_shared_buckets::{Entries, Iter, Shared, Tokens};

@@ -1,15 +1,15 @@
 //! Buckets are shared at concrete types.
-ghost use Rattle.std.specs.Prelude.{◌≡◌, ◌^◌, ◌<◌, ◌≤◌};
+ghost use Rattle.std.specs.Prelude.{◌≡◌, ◌^◌, ◌<◌, ◌≤◌, true, IsSome};
 ghost use Rattle.thread_local_judged.specs.Judged.{Judged};
 
 use crate::steps::has_bit;
 use std::cell::{Cell, RefCell};
 use thread_local_bucket_pointers::flag_word_at;
 use thread_local_buckets::Buckets;
-use thread_local_ids::Right;
+use thread_local_ids::{Right, Told, Token, TokenList};
 use thread_local_judged::{Judge, judge_sync};
 use thread_local_shared_buckets::{Row, Shared, SharedBucket};
-use thread_local_thread_id::bucket_size;
+use thread_local_thread_id::{Thread, bucket_size};
 
 fn crosses<X: Send + Sync>(_there: &X) {}
 
@@ -62,7 +62,7 @@ fn sync<T: Send + Sync>(buckets: Buckets<T>, own: &Right) -> Shared<T>
 }
 
 fn cell_row(shared: &Shared<Cell<u64>>) -> Option<Row<'_, Cell<u64>>> {
-    shared.load(3)
+    shared.load(3, &TokenList::new())
 }
 
 fn slots(shared: &Shared<RefCell<String>>) -> usize
@@ -99,13 +99,31 @@ fn published<'a>(row: &Row<'a, String>, bucket: usize, index: usize) -> Option<&
 {
     judge_sync::<String>();
     let chunk = index / 64;
-    let seen = row.look(chunk, flag_word_at::<String>(bucket_size(bucket), chunk));
+    let flag_word = flag_word_at::<String>(bucket_size(bucket), chunk);
+    let seen = row.look(chunk, flag_word, &TokenList::new());
     let bit = index % 64;
     if !has_bit(seen.flags(), bit) {
         return None;
     }
     let (_, text) = seen.give(bit);
     Some(text)
+}
+
+/// The bucket of a token's slot stands, and a look at the slot's chunk finds its flag set.
+fn is_found(shared: &Shared<u32>, token: &Token<u32>) -> bool
+    requires sharing { token.now.sharing ≡ shared.now.sharing }
+    requires named { IsSome shared.now.sharing }
+    ensures { result ≡ true }
+{
+    let told = Told::new().and(token);
+    let thread = Thread::new(token.id());
+    let Some(row) = shared.load(thread.bucket, told.list()) else {
+        return false;
+    };
+    let chunk = thread.index / 64;
+    let flag_word = flag_word_at::<u32>(thread.bucket_size(), chunk);
+    let seen = row.look(chunk, flag_word, told.list());
+    has_bit(seen.flags(), thread.index % 64)
 }
 
 fn bucket_crosses(bucket: &SharedBucket<RefCell<String>>) {

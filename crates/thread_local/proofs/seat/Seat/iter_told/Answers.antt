@@ -1,9 +1,9 @@
-use Rattle.std.proofs.Common.{◌≡◌, ◌∙◌, ◌⊎◌, inl, inr, ℕ, Some, None, option_map, sym, ap, lit<}
+use Rattle.std.proofs.Common.{◌≡◌, ◌∙◌, ◌⊎◌, inl, inr, ℕ, true, Some, None, option_map, sym, ap, lit<}
 use Rattle.thread_local_model.specs.Learnt.{Learnt, Missing, Vacant, Holding}
 use Rattle.thread_local_model.specs.Answers.{view_of}
 use Rattle.thread_local_shared_buckets.specs.Views.{ClaimView}
 use Rattle.thread_local_shared_buckets.specs.TableView.{TableView}
-use Rattle.thread_local_shared_buckets.specs.Walks.{WalkView, Owed, fresh_with}
+use Rattle.thread_local_shared_buckets.specs.Walks.{Owed, fresh_with}
 use Rattle.std.specs.Prelude.{List}
 use Rattle.thread_local_model.specs.IdMoves.{IdMove}
 use Rattle.thread_local.specs.Seats.{LocalView, local_view, own_of}
@@ -42,10 +42,18 @@ with_own_and_told-requires g c =
 pub returns-in-Some : goal.returns-in-Some
 returns-in-Some g c =
     let found = c.in-Some.ensures in
-    c.with_own_and_told.ensures
-    ∙ ap (λ (o : Option (Owed g.row.T.Denot)). fresh_with c.table.now.sharing o true c.args.told)
-    (own_held c.self.inside.table.now c.self.inside.claim c.self.inside.tenure.before c.in-Some.token.id c.in-Some.value.now found.1 found.3)
-    ∙ ?
+    let sharing : c.table.inside.buckets.sharing ≡ c.args.self.now.sharing =
+    ap (λ (t : TableView). t.sharing) c.table.view_is ∙ ap (λ (view : LocalView g.row.T.Denot). view.sharing) c.self.view_is in
+    let own : Some (owed c.in-Some.token.id c.in-Some.value.now) ≡ own_of c.args.self.now =
+    own_held c.self.inside.table.now c.self.inside.claim c.self.inside.tenure.before c.in-Some.token.id c.in-Some.value.now found.1 found.3
+    ∙ ap (λ (view : LocalView g.row.T.Denot). own_of view) c.self.view_is in
+    c.with_own_and_told.ensures ∙ (λ i. fresh_with (sharing i) (own i) true c.args.told)
 
 pub returns-in-None : goal.returns-in-None
-returns-in-None g c = ?
+returns-in-None g c =
+    let sharing : c.table.inside.buckets.sharing ≡ c.args.self.now.sharing =
+    ap (λ (t : TableView). t.sharing) c.table.view_is ∙ ap (λ (view : LocalView g.row.T.Denot). view.sharing) c.self.view_is in
+    let own : None ≡ own_of c.args.self.now =
+    own_none c.self.inside.table.now c.self.inside.claim c.self.inside.tenure.before c.in-None.ensures
+    ∙ ap (λ (view : LocalView g.row.T.Denot). own_of view) c.self.view_is in
+    c.with_told.ensures ∙ (λ i. fresh_with (sharing i) (own i) true c.args.told)
