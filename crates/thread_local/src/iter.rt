@@ -6,5 +6,7 @@
 //! reference is found only in a crate that is listed. `iter_mut` of the buckets needs no more.
 
 pub use thread_local_buckets::{Drain, EntriesMut, IntoEntries, IntoIter, IterMut};
-pub use thread_local_shared_buckets::complete::complete_walk_gives_told;
+pub use thread_local_shared_buckets::complete::{
+    entries_give_told, iter_gives_told, tokens_give_told,
+};
 pub use thread_local_shared_buckets::{Entries, Iter, Tokens};

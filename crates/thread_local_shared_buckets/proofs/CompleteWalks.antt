@@ -1,6 +1,6 @@
 -- A walk that was called until it gave nothing gave the value of each token of its list.
 use Rattle.std.proofs.Common.{◌≡◌, ℕ, suc, ◌<◌, ◌≤◌, List, [], ◌∷◌, map, Option, None, Some, IfSome, option_map, refl, sym, ◌∙◌, subst}
-use Rattle.std.proofs.Common.{◌≢◌, ◌+◌, cond, ltb, IsSome, All, ap, arith, ⊎_elim}
+use Rattle.std.proofs.Common.{◌≢◌, ◌+◌, Bool, cond, ltb, IsSome, All, ap, arith, ⊎_elim}
 use Rattle.std.specs.Prelude.{Contains, slice_index_or, sum_by}
 use Rattle.std.specs.List.{AllPairs}
 use Rattle.std.specs.Iterator.{Yields}
@@ -14,7 +14,7 @@ use Rattle.thread_local_model.specs.Cursor.{Cursor, cursor_id, fresh_cursor}
 use Rattle.thread_local_ids.specs.Views.{TokenView}
 use Rattle.thread_local_ids.specs.TokenLists.{AllOf}
 use Rattle.thread_local_shared_buckets.specs.Walks.{WalkView, Meets, Goes, GoesWithIds, GoesWithTokens, IsTokenOf, fresh_with}
-use Rattle.thread_local_shared_buckets.specs.Walks.{entry_of, told_entry_of}
+use Rattle.thread_local_shared_buckets.specs.Walks.{Owed, entry_of, told_entry_of}
 use Rattle.thread_local_shared_buckets.proofs.ToldLaws.{moved}
 
 comes_first : {X : Type 0} (x y : X) (xs : List X) → x ≡ y → Contains (x ∷ xs) y
@@ -221,3 +221,14 @@ module _ {V : Type 0} where
       → AllPairs (λ one other. one.0 < other.0) (map told_entry_of items)
   told_entries_ascend s t items run =
       (ascend GoesWithTokens (λ x. x.1) told_entry_of (λ s t x step. step.goes) (λ s t x step. step.told.id) items s t run).1
+
+module _ {V X : Type 0} (of : TokenView V → X) where
+  -- the same of a walk whose list and sharing are known, and of what was kept
+  pub kept : (sharing : Option ℕ) (own : Option (Owed V)) (shown : Bool) (told : List (TokenView V)) (walk : WalkView V) (read given : List X)
+      → walk ≡ fresh_with sharing own shown told → given ≡ read
+      → AllOf walk.sharing (λ p. Contains read (of p)) walk.told
+      → AllOf sharing (λ p. Contains given (of p)) told
+  kept sharing own shown told walk read given is same all =
+      subst (λ (xs : List X). AllOf sharing (λ p. Contains xs (of p)) told) (sym same)
+      (moved walk.sharing sharing walk.told told (λ p. Contains read (of p)) (ap (λ (w : WalkView V). w.sharing) is)
+      (ap (λ (w : WalkView V). w.told) is) all)
