@@ -1,87 +1,129 @@
 -- A walk that was called until it gave nothing gave the value of each token of its list.
-use Rattle.std.proofs.Common.{◌≡◌, ℕ, suc, ◌<◌, ◌≤◌, List, [], ◌∷◌, map, Option, None, Some, IfSome, option_map, refl, sym, ◌∙◌, subst}
-use Rattle.std.proofs.Common.{◌≢◌, ◌+◌, Bool, cond, ltb, IsSome, All, ap, arith, ⊎_elim}
+use Rattle.std.proofs.Common.{◌≡◌, ◌≢◌, ℕ, suc, ◌+◌, ◌<◌, ◌≤◌, Bool, cond, ltb, List, [], ◌∷◌, ◌++◌, map, Option, None, Some, IsSome, All}
+use Rattle.std.proofs.Common.{refl, sym, ap, ◌∙◌, subst, arith, ⊎_elim}
 use Rattle.std.specs.Prelude.{Contains, slice_index_or, sum_by}
-use Rattle.std.specs.List.{AllPairs}
 use Rattle.std.specs.Iterator.{Yields}
+use Rattle.std.specs.List.{AllPairs}
 use Rattle.std.proofs.lemmas.Bool.{cases_lt}
 use Rattle.std.proofs.lemmas.Bool.Decides.{nat_tests}
-use Rattle.std.proofs.lemmas.List.Elements.{Contains-append_right, All-cons, All-tail}
-use Rattle.std.proofs.lemmas.List.Kept.{AllPairs-cons}
+use Rattle.std.proofs.lemmas.List.Elements.{Contains-append_left, Contains-append_right, Contains-push, All-push, All-tail}
+use Rattle.std.proofs.lemmas.List.Quantifiers.{all_pairs_push}
 use Rattle.std.proofs.lemmas.List.Sums.{sum_by-cons}
 use denote.Ref.{Bor}
 use Rattle.thread_local_model.specs.Cursor.{Cursor, cursor_id, fresh_cursor}
 use Rattle.thread_local_ids.specs.Views.{TokenView}
 use Rattle.thread_local_ids.specs.TokenLists.{AllOf}
-use Rattle.thread_local_shared_buckets.specs.Walks.{WalkView, Meets, Goes, GoesWithIds, GoesWithTokens, IsTokenOf, fresh_with}
-use Rattle.thread_local_shared_buckets.specs.Walks.{Owed, entry_of, told_entry_of}
+use Rattle.thread_local_shared_buckets.specs.Walks.{WalkView, Owed, Meets, Goes, HasGiven, fresh_with}
 use Rattle.thread_local_shared_buckets.proofs.ToldLaws.{moved}
-
-comes_first : {X : Type 0} (x y : X) (xs : List X) → x ≡ y → Contains (x ∷ xs) y
-comes_first x y xs same = subst (λ (z : _). Contains (x ∷ xs) z) same (0, omega arith, refl)
-
-pair : {X : Type 0} (i j : ℕ) (x y : X) → i ≡ j → x ≡ y → ◌≡◌ {A = ℕ × X} (i, x) (j, y)
-pair i j x y same is = λ k. (same k, is k)
 
 suc_same : (i j n : ℕ) → n ≡ suc i → n ≡ suc j → i ≡ j
 suc_same i j n at here = omega arith
 
--- Walks that give items of this type, each with a `&` to its value, and what is read of an item.
-module _ {V A B : Type 0} (next : WalkView V → Option A → WalkView V → Type 0) (value : A → Bor V) (read : A → B) (of : TokenView V → B)
-    (goes : (s t : WalkView V) (x : Option A) → next s x t → Goes s (option_map value x) t)
-    (reads : (s t : WalkView V) (x : A) (p : TokenView V) → next s (Some x) t → cursor_id t.cursor ≡ suc p.id
-    → p.value ≡ (value x).now → read x ≡ of p) where
+module _ {V : Type 0} where
   -- what a call does about the tokens of a list that is the walk's
-  abbrev MeetsAll : Option ℕ → List (TokenView V) → WalkView V → Option A → WalkView V → Type 0
-  MeetsAll sharing told s x t = AllOf sharing (Meets s.cursor (option_map value x) t.cursor) told
+  meets : (sharing : Option ℕ) (told : List (TokenView V)) (s t : WalkView V) (x : Option (Bor V)) → s.sharing ≡ sharing → s.told ≡ told
+      → Goes s x t → AllOf sharing (Meets s.cursor x t.cursor) told
+  meets sharing told s t x same is step = moved s.sharing sharing s.told told (Meets s.cursor x t.cursor) same is step.meets
 
-  meets : (sharing : Option ℕ) (told : List (TokenView V)) (s t : WalkView V) (x : Option A) → s.sharing ≡ sharing → s.told ≡ told
-      → next s x t → MeetsAll sharing told s x t
-  meets sharing told s t x same is step =
-      moved s.sharing sharing s.told told (Meets s.cursor (option_map value x) t.cursor) same is (goes s t x step).meets
+  -- 1. The values of a walk without ids.
 
-  -- a token that was ahead is among what is read of the items that came until the end
-  pub given : (sharing : Option ℕ) (told : List (TokenView V)) (items : List A) (s t u : WalkView V) → s.sharing ≡ sharing
-      → s.told ≡ told → Yields next s items t → next t None u
-      → AllOf sharing (λ p. cursor_id s.cursor ≤ p.id → Contains (map read items) (of p)) told
-  given sharing told [] s t u same is here over = λ named k d near own ahead.
-      let last = subst (λ (w : WalkView V). next w None u) (sym here) over in
+  abbrev values : List (Bor V) → List V
+  values items = map (λ item. item.now) items
+
+  comes_first : (x y : V) (xs : List V) → y ≡ x → Contains (x ∷ xs) y
+  comes_first x y xs same = subst (λ (z : V). Contains (x ∷ xs) z) (sym same) (0, omega arith, refl)
+
+  -- a token that was ahead is among what came until the end
+  ahead_given : (sharing : Option ℕ) (told : List (TokenView V)) (items : List (Bor V)) (s t u : WalkView V) → s.sharing ≡ sharing
+      → s.told ≡ told → Yields Goes s items t → Goes t None u
+      → AllOf sharing (λ p. cursor_id s.cursor ≤ p.id → Contains (values items) p.value) told
+  ahead_given sharing told [] s t u same is here over = λ named k d near own ahead.
+      let last = subst (λ (w : WalkView V). Goes w None u) (sym here) over in
       let behind = meets sharing told s u None same is last named k d near own in
       absurd (omega arith)
-  given sharing told (x ∷ items) s t u same is run over = λ named k d near own ahead.
+  ahead_given sharing told (x ∷ items) s t u same is run over = λ named k d near own ahead.
       let p : TokenView V = slice_index_or told k d in
       let j : WalkView V = run.0 in
-      let step = goes s j (Some x) run.1 in
-      let met = meets sharing told s j (Some x) same is run.1 named k d near own ahead in
+      let step : Goes s (Some x) j = run.1 in
+      let met = meets sharing told s j (Some x) same is step named k d near own ahead in
       ⊎_elim
-      (λ (here : p.id < cursor_id j.cursor).
-      comes_first (read x) (of p) (map read items) (reads s j x p run.1 (met here).0 (met here).1))
+      (λ (here : p.id < cursor_id j.cursor). comes_first x.now p.value (values items) (met here).1)
       (λ (later : cursor_id j.cursor ≤ p.id).
-      Contains-append_right (read x ∷ []) (map read items) (of p)
-      (given sharing told items j t u (step.sharing ∙ same) (step.told ∙ is) run.2 over named k d near own later))
+      Contains-append_right (x.now ∷ []) (values items) p.value
+      (ahead_given sharing told items j t u (step.sharing ∙ same) (step.told ∙ is) run.2 over named k d near own later))
       (cases_lt p.id (cursor_id j.cursor))
 
--- The ids of the items of a walk that gives them.
-module _ {V A : Type 0} (next : WalkView V → Option A → WalkView V → Type 0) (value : A → Bor V) (read : A → ℕ × V)
-    (goes : (s t : WalkView V) (x : Option A) → next s x t → Goes s (option_map value x) t)
-    (at : (s t : WalkView V) (x : A) → next s (Some x) t → cursor_id t.cursor ≡ suc (read x).0) where
-  -- none lies behind the walk, and they ascend
-  pub ascend : (items : List A) (s t : WalkView V) → Yields next s items t
-      → All (λ entry. cursor_id s.cursor ≤ entry.0) (map read items) × AllPairs (λ one other. one.0 < other.0) (map read items)
-  ascend [] s t run = (λ k d near. absurd (omega arith), λ i j d low near. absurd (omega arith))
-  ascend (x ∷ items) s t run =
-      let j : WalkView V = run.0 in
-      let step = goes s j (Some x) run.1 in
-      let rest = ascend items j t run.2 in
-      let up : cursor_id s.cursor ≤ (read x).0 = omega (arith, step.gives.ahead, step.gives.passed, at s j x run.1) in
-      let later : All (λ entry. (read x).0 < entry.0) (map read items) =
-      λ k d near. let high = rest.0 k d near in omega (arith, high, at s j x run.1) in (
-        All-cons (λ entry. cursor_id s.cursor ≤ entry.0) (read x) (map read items) up
-            (λ k d near. let high = rest.0 k d near in omega (arith, high, up, at s j x run.1)),
-        AllPairs-cons (λ one other. one.0 < other.0) (read x) (map read items) later rest.1,
-      )
+  pub values_given : (sharing : Option ℕ) (own : Option (Owed V)) (shown : Bool) (told : List (TokenView V)) (s t u : WalkView V)
+      (items : List (Bor V)) (given : List V) → s ≡ fresh_with sharing own shown told → Yields Goes s items t → Goes t None u
+      → given ≡ values items
+      → AllOf sharing (λ p. Contains given p.value) told
+  values_given sharing own shown told s t u items given is run over same = λ named k d near own.
+      let first : cursor_id s.cursor ≡ 0 = ap (λ (w : WalkView V). cursor_id w.cursor) is in
+      subst (λ (xs : List V). Contains xs (slice_index_or told k d).value) (sym same)
+      (ahead_given sharing told items s t u (ap (λ (w : WalkView V). w.sharing) is) (ap (λ (w : WalkView V). w.told) is) run over
+      named k d near own (omega arith))
 
--- A number of each value, as its sum.
+  -- 2. The ids and values of a walk with ids or tokens.
+
+  pub begins : (sharing : Option ℕ) (own : Option (Owed V)) (shown : Bool) (told : List (TokenView V)) (walk : WalkView V)
+      (given : List (ℕ × V)) → walk ≡ fresh_with sharing own shown told → given ≡ []
+      → HasGiven sharing told walk given
+  begins sharing own shown told walk given is none =
+      subst (λ (xs : List (ℕ × V)). HasGiven sharing told walk xs) (sym none)
+      (subst (λ (w : WalkView V). HasGiven sharing told w []) (sym is)
+      (record {
+        sharing_of = refl;
+        told_of = refl;
+        passed = λ k d near. absurd (omega arith);
+        ascending = λ i j d low near. absurd (omega arith);
+        met = λ named k d near own low. absurd (omega arith);
+      }))
+
+  -- what was given so far, with one more entry
+  one_more : (items : List (ℕ × V)) (id : ℕ) (value : V) (from to : ℕ) (p : TokenView V) → (p.id < from → Contains items (p.id, p.value))
+      → (from ≤ p.id → p.id < to → (to ≡ suc p.id) × (p.value ≡ value)) → to ≡ suc id → p.id < to
+      → Contains (items ++ (id, value) ∷ []) (p.id, p.value)
+  one_more items id value from to p had meets at below =
+      ⊎_elim
+      (λ (before : p.id < from). Contains-append_left items ((id, value) ∷ []) (p.id, p.value) (had before))
+      (λ (here : from ≤ p.id).
+      let both = meets here below in
+      let last : to ≡ suc p.id = both.0 in
+      let same_id : id ≡ p.id = omega arith in
+      let same : ◌≡◌ {A = ℕ × V} (id, value) (p.id, p.value) = λ j. (same_id j, sym both.1 j) in
+      subst (λ (x : ℕ × V). Contains (items ++ (id, value) ∷ []) x) same (Contains-push items (id, value)))
+      (cases_lt p.id from)
+
+  pub goes : (sharing : Option ℕ) (told : List (TokenView V)) (walk left : WalkView V) (id : ℕ) (value : Bor V) (given more : List (ℕ × V))
+      → Goes walk (Some value) left → HasGiven sharing told walk given → cursor_id left.cursor ≡ suc id
+      → more ≡ given ++ (id, value.now) ∷ []
+      → HasGiven sharing told left more
+  goes sharing told walk left id value given more step kept at is =
+      let up : cursor_id walk.cursor ≤ id = omega (arith, step.gives.ahead, step.gives.passed, at) in
+      let all = meets sharing told walk left (Some value) kept.sharing_of kept.told_of step in
+      subst (λ (xs : List (ℕ × V)). HasGiven sharing told left xs) (sym is)
+      (record {
+        sharing_of = step.sharing ∙ kept.sharing_of;
+        told_of = step.told ∙ kept.told_of;
+        passed =
+            All-push (λ x. x.0 < cursor_id left.cursor) given (id, value.now)
+            (λ k d near. let low = kept.passed k d near in omega (arith, low, up, at)) (omega (arith, at));
+        ascending =
+            all_pairs_push (λ one other. one.0 < other.0) given (id, value.now) kept.ascending
+            (λ k d near. let low = kept.passed k d near in omega (arith, low, up));
+        met = λ named k d near own below.
+            one_more given id value.now (cursor_id walk.cursor) (cursor_id left.cursor) (slice_index_or told k d)
+            (kept.met named k d near own) (all named k d near own) at below;
+      })
+
+  pub ends : (sharing : Option ℕ) (told : List (TokenView V)) (walk left : WalkView V) (given : List (ℕ × V))
+      → Goes walk None left → HasGiven sharing told walk given
+      → AllOf sharing (λ p. Contains given (p.id, p.value)) told
+  ends sharing told walk left given step kept =
+      λ named k d near own.
+      kept.met named k d near own (meets sharing told walk left None kept.sharing_of kept.told_of step named k d near own)
+
+-- 3. What is read of each value as a number, added up.
 module _ {V : Type 0} (of : V → ℕ) where
   -- the sum over the tokens whose ids lie at or above one
   abbrev from_on : ℕ → List (TokenView V) → ℕ
@@ -155,80 +197,25 @@ module _ {V : Type 0} (of : V → ℕ) where
       → from_on (cursor_id s.cursor) told ≤ sum_by (λ x. of x.now) items
   sums sharing told [] s t u same is named own apart here over =
       let last : Goes s None u = subst (λ (w : WalkView V). Goes w None u) (sym here) over in
-      let meets = moved s.sharing sharing s.told told (Meets s.cursor None u.cursor) same is last.meets in
-      let none = all_below (cursor_id s.cursor) told (λ k d near. meets named k d near (own k d near)) in
+      let behind = meets sharing told s u None same is last in
+      let none = all_below (cursor_id s.cursor) told (λ k d near. behind named k d near (own k d near)) in
       omega (arith, none)
   sums sharing told (x ∷ items) s t u same is named own apart run over =
       let j : WalkView V = run.0 in
       let step : Goes s (Some x) j = run.1 in
-      let meets = moved s.sharing sharing s.told told (Meets s.cursor (Some x) j.cursor) same is step.meets in
+      let all = meets sharing told s j (Some x) same is step in
       let up : cursor_id s.cursor ≤ cursor_id j.cursor = omega (arith, step.gives.ahead, step.gives.passed) in
       let here = one_between (cursor_id s.cursor) (cursor_id j.cursor) (of x.now) told up apart (λ k d near high low.
-      let met = meets named k d near (own k d near) high low in (met.0, ap of met.1)) in
+      let met = all named k d near (own k d near) high low in (met.0, ap of met.1)) in
       let rest = sums sharing told items j t u (step.sharing ∙ same) (step.told ∙ is) named own apart run.2 over in
       omega (arith, here, rest, sum_by-cons (λ (y : Bor V). of y.now) x items)
 
-module _ {V : Type 0} where
-  plain : (s t : WalkView V) (x : Option (Bor V)) → Goes s x t → Goes s (option_map (λ y. y) x) t
-  plain s t None step = step
-  plain s t (Some x) step = step
-
-  -- a walk that has begun is at the first id
-  from_first : (s : WalkView V) (P : TokenView V → Type 0) → s.cursor ≡ fresh_cursor
-      → AllOf s.sharing (λ p. cursor_id s.cursor ≤ p.id → P p) s.told → AllOf s.sharing P s.told
-  from_first s P begins all = λ named k d near own.
-      all named k d near own
-      (subst (λ (c : Cursor). cursor_id c ≤ (slice_index_or s.told k d).id) (sym begins) (omega arith))
-
-  module _ (s t u : WalkView V) (begins : s.cursor ≡ fresh_cursor) where
-    pub values_given : (items : List (Bor V)) → Yields Goes s items t → Goes t None u
-        → AllOf s.sharing (λ p. Contains (map (λ x. x.now) items) p.value) s.told
-    values_given items run over =
-        from_first s (λ p. Contains (map (λ x. x.now) items) p.value) begins
-        (given Goes (λ x. x) (λ x. x.now) (λ p. p.value) plain (λ s t x p step at is. sym is) s.sharing s.told items s t u refl refl run over)
-
-    pub entries_given : (items : List (ℕ × Bor V)) → Yields GoesWithIds s items t → GoesWithIds t None u
-        → AllOf s.sharing (λ p. Contains (map entry_of items) (p.id, p.value)) s.told
-    entries_given items run over =
-        from_first s (λ p. Contains (map entry_of items) (p.id, p.value)) begins
-        (given GoesWithIds (λ x. x.1) entry_of (λ p. (p.id, p.value)) (λ s t x step. step.goes)
-        (λ s t x p step at is. pair x.0 p.id x.1.now p.value (suc_same x.0 p.id _ step.id at) (sym is))
-        s.sharing s.told items s t u refl refl run over)
-
-    pub told_entries_given : (items : List (TokenView V × Bor V)) → Yields GoesWithTokens s items t → GoesWithTokens t None u
-        → AllOf s.sharing (λ p. Contains (map told_entry_of items) (p.id, p.value)) s.told
-    told_entries_given items run over =
-        from_first s (λ p. Contains (map told_entry_of items) (p.id, p.value)) begins
-        (given GoesWithTokens (λ x. x.1) told_entry_of (λ p. (p.id, p.value)) (λ s t x step. step.goes)
-        (λ s t x p step at is. pair x.0.id p.id x.1.now p.value (suc_same x.0.id p.id _ step.told.id at) (sym is))
-        s.sharing s.told items s t u refl refl run over)
-
-    pub sum_given : (of : V → ℕ) (items : List (Bor V)) → IsSome s.sharing → All (λ p. p.sharing ≡ s.sharing) s.told
-        → AllPairs (λ one other. one.id ≢ other.id) s.told → Yields Goes s items t → Goes t None u
-        → sum_by (λ p. of p.value) s.told ≤ sum_by (λ x. of x.now) items
-    sum_given of items named own apart run over =
-        let all = sums of s.sharing s.told items s t u refl refl named own apart run over in
-        let first : cursor_id s.cursor ≡ 0 = ap (λ (c : Cursor). cursor_id c) begins in
-        let same : from_on of (cursor_id s.cursor) s.told ≡ from_on of 0 s.told = ap (λ n. from_on of n s.told) first in
-        omega (arith, all, same, from_first_on of s.told)
-
-  pub entries_ascend : (s t : WalkView V) (items : List (ℕ × Bor V)) → Yields GoesWithIds s items t
-      → AllPairs (λ one other. one.0 < other.0) (map entry_of items)
-  entries_ascend s t items run =
-      (ascend GoesWithIds (λ x. x.1) entry_of (λ s t x step. step.goes) (λ s t x step. step.id) items s t run).1
-
-  pub told_entries_ascend : (s t : WalkView V) (items : List (TokenView V × Bor V)) → Yields GoesWithTokens s items t
-      → AllPairs (λ one other. one.0 < other.0) (map told_entry_of items)
-  told_entries_ascend s t items run =
-      (ascend GoesWithTokens (λ x. x.1) told_entry_of (λ s t x step. step.goes) (λ s t x step. step.told.id) items s t run).1
-
-module _ {V X : Type 0} (of : TokenView V → X) where
-  -- the same of a walk whose list and sharing are known, and of what was kept
-  pub kept : (sharing : Option ℕ) (own : Option (Owed V)) (shown : Bool) (told : List (TokenView V)) (walk : WalkView V) (read given : List X)
-      → walk ≡ fresh_with sharing own shown told → given ≡ read
-      → AllOf walk.sharing (λ p. Contains read (of p)) walk.told
-      → AllOf sharing (λ p. Contains given (of p)) told
-  kept sharing own shown told walk read given is same all =
-      subst (λ (xs : List X). AllOf sharing (λ p. Contains xs (of p)) told) (sym same)
-      (moved walk.sharing sharing walk.told told (λ p. Contains read (of p)) (ap (λ (w : WalkView V). w.sharing) is)
-      (ap (λ (w : WalkView V). w.told) is) all)
+  pub sum_given : (sharing : Option ℕ) (own : Option (Owed V)) (shown : Bool) (told : List (TokenView V)) (s t u : WalkView V)
+      (items : List (Bor V)) → s ≡ fresh_with sharing own shown told → IsSome sharing → All (λ p. p.sharing ≡ sharing) told
+      → AllPairs (λ one other. one.id ≢ other.id) told → Yields Goes s items t → Goes t None u
+      → sum_by (λ p. of p.value) told ≤ sum_by (λ item. of item.now) items
+  sum_given sharing own shown told s t u items is named alike apart run over =
+      let all =
+      sums sharing told items s t u (ap (λ (w : WalkView V). w.sharing) is) (ap (λ (w : WalkView V). w.told) is) named alike apart run over in
+      let first : from_on (cursor_id s.cursor) told ≡ from_on 0 told = ap (λ (w : WalkView V). from_on (cursor_id w.cursor) told) is in
+      omega (arith, all, first, from_first_on told)

@@ -1,6 +1,7 @@
 -- What a contract sees of a walk over buckets that threads share, and what a call of `next` does.
 use Rattle.std.specs.Prelude.{◌≡◌, ℕ, suc, ◌-◌, ◌^◌, ◌<◌, ◌≤◌, ◌⊎◌, Bool, true, IsTrue, List, [], Option, Some, None, MatchOption}
-use Rattle.std.specs.Prelude.{IfSome, option_map, refl}
+use Rattle.std.specs.Prelude.{IfSome, option_map, refl, All, Contains}
+use Rattle.std.specs.List.{AllPairs}
 use Rattle.std.specs.Iterator.{Count, at_most}
 use Rattle.std.specs.Coded.{Coded, coded_option, coded_ℕ, coded×, code_by}
 use base.Stored.{coded_bool, coded_list}
@@ -117,12 +118,14 @@ pub record GoesWithTokens {V : Type 0} (walk : WalkView V) (item : Option (Token
   pub goes : Goes walk (option_map (λ entry. entry.1) item) left
   pub told : IfSome item (IsTokenOf walk left)
 
--- the id and the value of an item with an id, and of one with a token
-abbrev pub entry_of : {V : Type 0} → ℕ × Bor V → ℕ × V
-entry_of item = (item.0, item.1.now)
-
-abbrev pub told_entry_of : {V : Type 0} → TokenView V × Bor V → ℕ × V
-told_entry_of item = (item.0.id, item.1.now)
+-- a walk over this sharing, made with these tokens, has given these ids with their values: the ids ascend
+-- and lie behind the walk, and each of the tokens of the sharing that lies behind it is among them
+pub record HasGiven {V : Type 0} (sharing : Option ℕ) (told : List (TokenView V)) (walk : WalkView V) (given : List (ℕ × V)) : Type 0 where
+  pub sharing_of : walk.sharing ≡ sharing
+  pub told_of : walk.told ≡ told
+  pub passed : All (λ entry. entry.0 < cursor_id walk.cursor) given
+  pub ascending : AllPairs (λ one other. one.0 < other.0) given
+  pub met : AllOf sharing (λ p. p.id < cursor_id walk.cursor → Contains given (p.id, p.value)) told
 
 -- a walk may go on where it was shown that threads may share the values, or their type says so
 abbrev pub CanGo : {V : Type 0} → RattleType → WalkView V → Type 0

@@ -1,18 +1,17 @@
 //! What a walk gave that was called until it gave nothing: the values of all tokens of its list.
 //!
-//! These are laws, for a caller who loops over a walk: `items` is what the loop has yielded, `walk`
-//! how the walk began, `last` how it was before the call that gave nothing, and `given` what the
-//! caller has of the items. At run time they do nothing.
-ghost use Rattle.std.specs.Prelude.{◌≡◌, ◌≢◌, ◌<◌, ◌≤◌, ℕ, Bool, None, Option, IsSome, List, All, map, sum_by, Contains};
+//! These are laws, for callers who loop over walks. At run time they do nothing.
+ghost use Rattle.std.specs.Prelude.{◌≡◌, ◌≢◌, ◌≤◌, ◌++◌, ◌∷◌, [], ℕ, Bool, Some, None, Option, IsSome, List, All, map, sum_by, Contains};
 ghost use Rattle.std.specs.Iterator.{Yields};
 ghost use Rattle.std.specs.List.{AllPairs};
 ghost use denote.Ref.{Bor};
 ghost use Rattle.thread_local_ids.specs.TokenLists.{AllOf};
 ghost use Rattle.thread_local_ids.specs.Views.{TokenView};
-ghost use Rattle.thread_local_shared_buckets.specs.Walks.{WalkView, Owed, fresh_with, Goes, GoesWithIds, GoesWithTokens, entry_of, told_entry_of};
+ghost use Rattle.thread_local_shared_buckets.specs.Walks.{WalkView, Owed, fresh_with, HasGiven, Goes, GoesWithIds, GoesWithTokens};
 
 /// An `Iter` that ran to its end gave the value of each token of its list that is of its sharing. Of
-/// tokens of different ids, the values given sum up to at least theirs, whatever number `of` reads.
+/// tokens of different ids, what was given sums up to at least what they say, whatever number `of`
+/// reads of a value. `items` is what the calls gave, from the first one on.
 #[inline]
 pub fn iter_gives_told<V>()
     ensures all { (sharing : Option ℕ) (own : Option (Owed V)) (shown : Bool) (told : List (TokenView V)) (walk last over : WalkView V) (items : List (Bor V)) (given : List V)
@@ -31,33 +30,41 @@ pub fn iter_gives_told<V>()
         → sum_by (λ p. of p.value) told ≤ sum_by (λ item. of item.now) items }
 {}
 
-/// `Entries` that ran to their end gave the value of each such token at its id. The ids ascend, so
-/// they gave it once.
+/// `HasGiven` holds of `Entries` that have begun, after each entry with that one more, and at the end
+/// says that the value of each token of the list that is of the walk's sharing was given, at its id,
+/// and once, as the ids ascend.
 #[inline]
 pub fn entries_give_told<V>()
-    ensures all { (sharing : Option ℕ) (own : Option (Owed V)) (shown : Bool) (told : List (TokenView V)) (walk last over : WalkView V) (items : List (ℕ × Bor V)) (given : List (ℕ × V))
+    ensures begins { (sharing : Option ℕ) (own : Option (Owed V)) (shown : Bool) (told : List (TokenView V)) (walk : WalkView V) (given : List (ℕ × V))
         → walk ≡ fresh_with sharing own shown told
-        → Yields GoesWithIds walk items last
-        → GoesWithIds last None over
-        → given ≡ map entry_of items
+        → given ≡ []
+        → HasGiven sharing told walk given }
+    ensures goes { (sharing : Option ℕ) (told : List (TokenView V)) (walk left : WalkView V) (item : ℕ × Bor V) (given more : List (ℕ × V))
+        → GoesWithIds walk (Some item) left
+        → HasGiven sharing told walk given
+        → more ≡ given ++ (item.0, item.1.now) ∷ []
+        → HasGiven sharing told left more }
+    ensures ends { (sharing : Option ℕ) (told : List (TokenView V)) (walk left : WalkView V) (given : List (ℕ × V))
+        → GoesWithIds walk None left
+        → HasGiven sharing told walk given
         → AllOf sharing (λ p. Contains given (p.id, p.value)) told }
-    ensures ascending { (walk last : WalkView V) (items : List (ℕ × Bor V)) (given : List (ℕ × V))
-        → Yields GoesWithIds walk items last
-        → given ≡ map entry_of items
-        → AllPairs (λ one other. one.0 < other.0) given }
 {}
 
-/// `Tokens` that ran to their end gave the value of each such token at its id, once.
+/// The same of `Tokens`.
 #[inline]
 pub fn tokens_give_told<V>()
-    ensures all { (sharing : Option ℕ) (own : Option (Owed V)) (shown : Bool) (told : List (TokenView V)) (walk last over : WalkView V) (items : List (TokenView V × Bor V)) (given : List (ℕ × V))
+    ensures begins { (sharing : Option ℕ) (own : Option (Owed V)) (shown : Bool) (told : List (TokenView V)) (walk : WalkView V) (given : List (ℕ × V))
         → walk ≡ fresh_with sharing own shown told
-        → Yields GoesWithTokens walk items last
-        → GoesWithTokens last None over
-        → given ≡ map told_entry_of items
+        → given ≡ []
+        → HasGiven sharing told walk given }
+    ensures goes { (sharing : Option ℕ) (told : List (TokenView V)) (walk left : WalkView V) (item : TokenView V × Bor V) (id : ℕ) (given more : List (ℕ × V))
+        → GoesWithTokens walk (Some item) left
+        → HasGiven sharing told walk given
+        → id ≡ item.0.id
+        → more ≡ given ++ (id, item.1.now) ∷ []
+        → HasGiven sharing told left more }
+    ensures ends { (sharing : Option ℕ) (told : List (TokenView V)) (walk left : WalkView V) (given : List (ℕ × V))
+        → GoesWithTokens walk None left
+        → HasGiven sharing told walk given
         → AllOf sharing (λ p. Contains given (p.id, p.value)) told }
-    ensures ascending { (walk last : WalkView V) (items : List (TokenView V × Bor V)) (given : List (ℕ × V))
-        → Yields GoesWithTokens walk items last
-        → given ≡ map told_entry_of items
-        → AllPairs (λ one other. one.0 < other.0) given }
 {}

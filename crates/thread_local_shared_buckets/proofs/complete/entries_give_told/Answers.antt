@@ -1,14 +1,12 @@
-use Rattle.std.proofs.Common.{◌<◌, List, map, ap, sym, subst}
-use Rattle.std.specs.List.{AllPairs}
-use Rattle.thread_local_shared_buckets.specs.Walks.{WalkView, entry_of}
-use Rattle.thread_local_shared_buckets.proofs.CompleteWalks.{kept, entries_given, entries_ascend}
+use Rattle.thread_local_shared_buckets.proofs.CompleteWalks as laws
 use Rattle.thread_local_shared_buckets.proofs.complete.entries_give_told.Goals as goal
 
-pub returns-clause-all : goal.returns-clause-all
-returns-clause-all g c = λ sharing own shown told walk last over items given is run end same.
-    kept (λ p. (p.id, p.value)) sharing own shown told walk (map entry_of items) given is same
-    (entries_given walk last over (ap (λ (w : WalkView _). w.cursor) is) items run end)
+pub returns-clause-begins : goal.returns-clause-begins
+returns-clause-begins g c = laws.begins
 
-pub returns-clause-ascending : goal.returns-clause-ascending
-returns-clause-ascending g c = λ walk last items given run same.
-    subst (λ (xs : List _). AllPairs (λ one other. one.0 < other.0) xs) (sym same) (entries_ascend walk last items run)
+pub returns-clause-goes : goal.returns-clause-goes
+returns-clause-goes g c = λ sharing told walk left item given more step kept is.
+    laws.goes sharing told walk left item.0 item.1 given more step.goes kept step.id is
+
+pub returns-clause-ends : goal.returns-clause-ends
+returns-clause-ends g c = λ sharing told walk left given step kept. laws.ends sharing told walk left given step.goes kept

@@ -1,14 +1,13 @@
-use Rattle.std.proofs.Common.{◌<◌, List, map, ap, sym, subst}
-use Rattle.std.specs.List.{AllPairs}
-use Rattle.thread_local_shared_buckets.specs.Walks.{WalkView, told_entry_of}
-use Rattle.thread_local_shared_buckets.proofs.CompleteWalks.{kept, told_entries_given, told_entries_ascend}
+use Rattle.std.proofs.Common.{suc, sym, ap, ◌∙◌}
+use Rattle.thread_local_shared_buckets.proofs.CompleteWalks as laws
 use Rattle.thread_local_shared_buckets.proofs.complete.tokens_give_told.Goals as goal
 
-pub returns-clause-all : goal.returns-clause-all
-returns-clause-all g c = λ sharing own shown told walk last over items given is run end same.
-    kept (λ p. (p.id, p.value)) sharing own shown told walk (map told_entry_of items) given is same
-    (told_entries_given walk last over (ap (λ (w : WalkView _). w.cursor) is) items run end)
+pub returns-clause-begins : goal.returns-clause-begins
+returns-clause-begins g c = laws.begins
 
-pub returns-clause-ascending : goal.returns-clause-ascending
-returns-clause-ascending g c = λ walk last items given run same.
-    subst (λ (xs : List _). AllPairs (λ one other. one.0 < other.0) xs) (sym same) (told_entries_ascend walk last items run)
+pub returns-clause-goes : goal.returns-clause-goes
+returns-clause-goes g c = λ sharing told walk left item id given more step kept same is.
+    laws.goes sharing told walk left id item.1 given more step.goes kept (step.told.id ∙ ap suc (sym same)) is
+
+pub returns-clause-ends : goal.returns-clause-ends
+returns-clause-ends g c = λ sharing told walk left given step kept. laws.ends sharing told walk left given step.goes kept
