@@ -325,9 +325,9 @@ impl<T: Sync> ThreadLocal<T> {
         self.iter().with_tokens()
     }
 
-    /// `iter`, which gives what the tokens of a list say: a walk that runs to its end gives the value
-    /// of each that is of the table's sharing, at its id. A token of another sharing promises nothing.
-    /// `with_ids` and `with_tokens` make `entries` and `tokens` of it.
+    /// `iter`, which gives what the tokens of a list say: a walk that runs to its end gives the
+    /// value of each that is of the table's sharing, at its id. A token of another sharing promises
+    /// nothing. `with_ids` and `with_tokens` make `entries` and `tokens` of it.
     pub fn iter_told(&self, told: Told<T>) -> Iter<'_, T>
         ensures { result ≡ fresh_with self.now.sharing None true told }
     {

@@ -9,4 +9,6 @@ mod judged;
 #[cfg(test)]
 mod tokens;
 #[cfg(test)]
+mod told_walks;
+#[cfg(test)]
 mod walk_callers;

@@ -9,7 +9,8 @@ use crate::witness::Witness;
 use std::marker::{Model, PhantomData};
 
 /// What several tokens show to proofs, as a `Witness` is what one shows: each slot's value while a
-/// sharing lasts. Their sharings may differ. It has no bytes, and no call does anything at run time.
+/// sharing lasts. Their sharings may differ. It has no bytes, and no call does anything at run
+/// time.
 pub struct TokenList<T> {
     pub marker: PhantomData<T>,
     pub ghost tokens: { List (TokenView T) } by { coded_list (token_view_coded T.code) },

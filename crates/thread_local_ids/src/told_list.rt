@@ -8,8 +8,8 @@ use crate::witness::Witness;
 use std::marker::Model;
 
 /// Tokens whose values a walk is to give for sure (`ThreadLocal::iter_told`). The list borrows none
-/// of them, and contracts alone see what is in it: it has no bytes, and no call does anything at run
-/// time. It may be sent and shared whatever the type is. Rust's crate has no such type.
+/// of them, and contracts alone see what is in it: it has no bytes, and no call does anything at
+/// run time. It may be sent and shared whatever the type is. Rust's crate has no such type.
 #[derive(Drop)]
 pub struct Told<T> {
     list: TokenList<T>,

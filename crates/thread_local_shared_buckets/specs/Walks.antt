@@ -19,8 +19,8 @@ pub record Owed (V : Type 0) : Type 0 where
   pub value : V
 
 -- the sharing that a walk goes over, if that has a name, where the walk is, the own value that it has
--- still to give, if any, whether it was shown that threads may share the values, and the tokens whose
--- values it gives for sure
+-- still to give, if any, whether it was shown that threads may share the values, and the tokens
+-- whose values it gives for sure
 pub record WalkView (V : Type 0) : Type 0 where
   pub sharing : Option ℕ
   pub cursor : Cursor
@@ -46,7 +46,8 @@ walk_view_coded {V} c =
     (λ w. (w.sharing, (w.cursor, (w.own, (w.shown, w.told)))))
     (λ p. record { sharing = p.0; cursor = p.1.0; own = p.1.1.0; shown = p.1.1.1.0; told = p.1.1.1.1 }) (λ _. refl)
 
--- a walk over a sharing that has just begun, with an own value to give or none, and the values of tokens
+-- a walk over a sharing that has just begun, with an own value to give or none, and the values of
+-- these tokens
 abbrev pub fresh_with : {V : Type 0} → Option ℕ → Option (Owed V) → Bool → List (TokenView V) → WalkView V
 fresh_with sharing own shown told = record { sharing = sharing; cursor = fresh_cursor; own = own; shown = shown; told = told }
 
@@ -118,8 +119,8 @@ pub record GoesWithTokens {V : Type 0} (walk : WalkView V) (item : Option (Token
   pub goes : Goes walk (option_map (λ entry. entry.1) item) left
   pub told : IfSome item (IsTokenOf walk left)
 
--- a walk over this sharing, made with these tokens, has given these ids with their values: the ids ascend
--- and lie behind the walk, and each of the tokens of the sharing that lies behind it is among them
+-- a walk over this sharing, made with these tokens, has given these ids with their values: the ids
+-- ascend and lie behind the walk, and each token of the sharing that lies behind it is among them
 pub record HasGiven {V : Type 0} (sharing : Option ℕ) (told : List (TokenView V)) (walk : WalkView V) (given : List (ℕ × V)) : Type 0 where
   pub sharing_of : walk.sharing ≡ sharing
   pub told_of : walk.told ≡ told

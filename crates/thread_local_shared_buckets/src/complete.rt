@@ -9,9 +9,9 @@ ghost use Rattle.thread_local_ids.specs.TokenLists.{AllOf};
 ghost use Rattle.thread_local_ids.specs.Views.{TokenView};
 ghost use Rattle.thread_local_shared_buckets.specs.Walks.{WalkView, Owed, fresh_with, HasGiven, Goes, GoesWithIds, GoesWithTokens};
 
-/// An `Iter` that ran to its end gave the value of each token of its list that is of its sharing. Of
-/// tokens of different ids, what was given sums up to at least what they say, whatever number `of`
-/// reads of a value. `items` is what the calls gave, from the first one on.
+/// An `Iter` that ran to its end gave the value of each token of its list that is of its sharing.
+/// Of tokens of different ids, what was given sums up to at least what they say, whatever number
+/// `of` reads of a value. `items` is what the calls gave, from the first one on.
 #[inline]
 pub fn iter_gives_told<V>()
     ensures all { (sharing : Option ℕ) (own : Option (Owed V)) (shown : Bool) (told : List (TokenView V)) (walk last over : WalkView V) (items : List (Bor V)) (given : List V)
@@ -30,9 +30,9 @@ pub fn iter_gives_told<V>()
         → sum_by (λ p. of p.value) told ≤ sum_by (λ item. of item.now) items }
 {}
 
-/// `HasGiven` holds of `Entries` that have begun, after each entry with that one more, and at the end
-/// says that the value of each token of the list that is of the walk's sharing was given, at its id,
-/// and once, as the ids ascend.
+/// `HasGiven` holds of `Entries` that have begun, and after each entry with that one more. At the
+/// end it says that the value of each token of the list that is of the walk's sharing was given, at
+/// its id, and once, as the ids ascend.
 #[inline]
 pub fn entries_give_told<V>()
     ensures begins { (sharing : Option ℕ) (own : Option (Owed V)) (shown : Bool) (told : List (TokenView V)) (walk : WalkView V) (given : List (ℕ × V))

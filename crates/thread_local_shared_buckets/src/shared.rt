@@ -154,8 +154,8 @@ impl<T> Shared<T> {
     }
 
     /// The row of a bucket's slots, for as long as the buckets are borrowed, or `None` where the
-    /// bucket is missing. A reserved bucket is never missing, nor is one with the slot of a token of
-    /// `told`, which proofs alone use. It is one atomic load.
+    /// bucket is missing. A reserved bucket is never missing, nor is one with the slot of a token
+    /// of `told`, which proofs alone use. It is one atomic load.
     pub fn load(&self, bucket: usize, told: &TokenList<T>) -> Option<Row<'_, T>>
         requires { bucket < 63 }
         ensures of { IfSome result (λ row. row.of ≡ bucket_view self.now bucket) }

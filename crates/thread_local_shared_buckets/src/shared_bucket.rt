@@ -33,8 +33,8 @@ impl<T> Move for SharedBucket<T> {
 
 impl<T> SharedBucket<T> {
     /// The row of the bucket's slots, for as long as the bucket is borrowed, or `None` where the
-    /// bucket is missing. A reserved bucket is never missing, nor is one with the slot of a token of
-    /// `told`, which proofs alone use.
+    /// bucket is missing. A reserved bucket is never missing, nor is one with the slot of a token
+    /// of `told`, which proofs alone use.
     ///
     /// It is one atomic load. It never waits and takes no memory.
     pub fn load(&self, told: &TokenList<T>) -> Option<Row<'_, T>>
