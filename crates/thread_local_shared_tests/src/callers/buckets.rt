@@ -6,7 +6,7 @@ use crate::steps::has_bit;
 use std::cell::{Cell, RefCell};
 use thread_local_bucket_pointers::flag_word_at;
 use thread_local_buckets::Buckets;
-use thread_local_ids::{Right, Told, Token, TokenList};
+use thread_local_ids::{Right, Token, TokenList, Told};
 use thread_local_judged::{Judge, judge_sync};
 use thread_local_shared_buckets::{Row, Shared, SharedBucket};
 use thread_local_thread_id::{Thread, bucket_size};
