@@ -1,5 +1,5 @@
 //! Buckets are shared at concrete types.
-ghost use Rattle.std.specs.Prelude.{◌≡◌, ◌^◌, ◌<◌, ◌≤◌, true, IsSome};
+ghost use Rattle.std.specs.Prelude.{◌≡◌, ◌^◌, ◌<◌, ◌≤◌};
 ghost use Rattle.thread_local_judged.specs.Judged.{Judged};
 
 use crate::steps::has_bit;
@@ -9,7 +9,7 @@ use thread_local_buckets::Buckets;
 use thread_local_ids::{Right, Token, TokenList, Told};
 use thread_local_judged::{Judge, judge_sync};
 use thread_local_shared_buckets::{Row, Shared, SharedBucket};
-use thread_local_thread_id::{Thread, bucket_size};
+use thread_local_thread_id::bucket_size;
 
 fn crosses<X: Send + Sync>(_there: &X) {}
 
@@ -107,23 +107,6 @@ fn published<'a>(row: &Row<'a, String>, bucket: usize, index: usize) -> Option<&
     }
     let (_, text) = seen.give(bit);
     Some(text)
-}
-
-/// The bucket of a token's slot stands, and a look at the slot's chunk finds its flag set.
-fn is_found(shared: &Shared<u32>, token: &Token<u32>) -> bool
-    requires sharing { token.now.sharing ≡ shared.now.sharing }
-    requires named { IsSome shared.now.sharing }
-    ensures { result ≡ true }
-{
-    let told = Told::new().and(token);
-    let thread = Thread::new(token.id());
-    let Some(row) = shared.load(thread.bucket, told.list()) else {
-        return false;
-    };
-    let chunk = thread.index / 64;
-    let flag_word = flag_word_at::<u32>(thread.bucket_size(), chunk);
-    let seen = row.look(chunk, flag_word, told.list());
-    has_bit(seen.flags(), thread.index % 64)
 }
 
 fn bucket_crosses(bucket: &SharedBucket<RefCell<String>>) {
