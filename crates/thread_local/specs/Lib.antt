@@ -3,6 +3,7 @@ pub use Rattle.thread_local_model.specs.Held
 pub use Rattle.thread_local_model.specs.IdMoves
 pub use Rattle.thread_local_model.specs.Place
 pub use Rattle.thread_local_model.specs.Walk
+pub use Rattle.thread_local_ids.specs.TokenLists
 pub use Rattle.thread_local_ids.specs.Views
 mod Bytes
 pub mod Pooled

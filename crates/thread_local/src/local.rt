@@ -9,12 +9,13 @@ ghost use mathlib.Core.List.{IsPrefix};
 ghost use mathlib.Core.Logic.{◌∨₁◌};
 ghost use Rattle.thread_local.specs.Errors.{IfCreate};
 ghost use Rattle.thread_local.specs.Seats.{knows, knowing, holding, own_of, token_of, IsAnswered, IsFilled, Fills, Fails, IsRefused, EndsWithReturn};
+ghost use Rattle.thread_local_shared_buckets.specs.Walks.{fresh_with};
 
 pub use crate::seat::{Seat, SetError, TryError};
 use std::fmt;
 use std::marker::Model;
 use std::sync::Wait;
-use thread_local_ids::{Page, Token};
+use thread_local_ids::{Page, Token, Told};
 use thread_local_shared_buckets::{Iter, Tokens};
 
 // `get_or` and `get_or_default` stand in local/lends.rt.
@@ -283,6 +284,13 @@ impl<'a, T: Sync, R: Wait> Local<'a, T, R> {
         ensures sharing { result.sharing ≡ self.now.sharing }
     {
         self.seat.iter()
+    }
+
+    /// `iter`, which gives what the tokens of a list say, too, as `ThreadLocal::iter_told` does.
+    pub fn iter_told(&self, told: Told<T>) -> Iter<'_, T>
+        ensures { result ≡ fresh_with self.now.sharing (own_of self.now) true told }
+    {
+        self.seat.iter_told(told)
     }
 
     /// `iter`, with a token of each value, as `ThreadLocal::tokens` gives them.

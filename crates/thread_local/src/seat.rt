@@ -12,6 +12,7 @@ ghost use Rattle.thread_local_model.specs.IdMoves.{Take, held_after, noted};
 ghost use mathlib.Core.List.{IsPrefix};
 ghost use Rattle.thread_local.specs.Errors.{IfCreate};
 ghost use Rattle.thread_local.specs.Seats.{knows, knowing, own_of, token_of, vacant, holding, IsAnswered, IsFilled, Fills, Fails, IsRefused, EndsWithReturn};
+ghost use Rattle.thread_local_shared_buckets.specs.Walks.{fresh_with};
 
 use crate::table::ThreadLocal;
 use std::alloc::{AllocError, Global};
@@ -20,7 +21,7 @@ use std::fmt;
 use std::marker::Model;
 use std::sync::Wait;
 use thread_local_bucket_pointers::Block;
-use thread_local_ids::{HeldId, Page, Reached, Right, Tenure, Token};
+use thread_local_ids::{HeldId, Page, Reached, Right, Tenure, Token, Told};
 use thread_local_shared_buckets::{Claim, Iter};
 use thread_local_thread_id::Thread;
 
@@ -442,10 +443,17 @@ impl<'a, T: Sync> Seat<'a, T> {
         ensures shown { result.shown ≡ true }
         ensures sharing { result.sharing ≡ self.now.sharing }
     {
+        self.iter_told(Told::new())
+    }
+
+    /// `iter`, which gives what the tokens of a list say, too, as `ThreadLocal::iter_told` does.
+    pub fn iter_told(&self, told: Told<T>) -> Iter<'_, T>
+        ensures { result ≡ fresh_with self.now.sharing (own_of self.now) true told }
+    {
         let table = self.table;
         match self.claim.lasting() {
-            Some((token, value)) => Iter::with_own(&table.buckets, &token, value),
-            None => Iter::new(&table.buckets),
+            Some((token, value)) => Iter::with_own_and_told(&table.buckets, &token, value, told),
+            None => Iter::with_told(&table.buckets, told),
         }
     }
 }

@@ -395,11 +395,13 @@ impl<T: Sync> ThreadLocal<T> {
         self.iter().with_tokens()
     }
 
-    /// `tokens`, which gives the value of each token of a list for sure.
-    pub fn tokens_with(&self, told: Told<T>) -> Tokens<'_, T>
+    /// `iter`, which gives what the tokens of a list say: a walk that runs to its end gives the
+    /// value of each that is of the table's sharing, at its id. A token of another sharing promises
+    /// nothing. `with_ids` and `with_tokens` make `entries` and `tokens` of it.
+    pub fn iter_told(&self, told: Told<T>) -> Iter<'_, T>
         ensures { result ≡ fresh_with self.now.sharing None true told }
     {
-        Iter::over(&self.buckets, told).with_tokens()
+        Iter::with_told(&self.buckets, told)
     }
 
     /// `iter`, which gives what a token says: a walk that runs to its end gives this value, at its

@@ -13,4 +13,6 @@ mod slot_callers;
 #[cfg(test)]
 mod tokens;
 #[cfg(test)]
+mod told_walks;
+#[cfg(test)]
 mod walk_callers;

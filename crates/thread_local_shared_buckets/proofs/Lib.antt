@@ -1,6 +1,7 @@
 pub mod Lists
 pub mod Redeemed
 pub mod ToldLaws
+pub mod CompleteWalks
 mod Turned
 pub mod Fields
 pub mod GrownLaws

@@ -1,4 +1,5 @@
 -- A load of a shared bucket's pointer, and what it hands out. Assumes `Logic`.
+use Rattle.std.proofs.lemmas.Option.{none-some}
 use Rattle.std.proofs.Common.{◌≡◌, ℕ, List, zero, suc, ◌+◌, ◌<◌, false, [], ◌∷◌, ◌++◌, length, sym, subst, refl, arith}
 use Rattle.std.proofs.Common.{Option, Some, None, IsSome}
 use seplogic.Ra.Ura.{Ura}
@@ -50,9 +51,6 @@ module _ {M : Type 1} {𝓤 : Ura M} (𝓛 : Logic 𝓤) (R : RattleType) (shari
       fsplit ! $ keep ! (1 ∷ 2 ∷ []) $
       by ! (unborn_untold n (suc k) i id (omega arith) (omega arith))
 
-never_some : {X : Type 0} (x : X) → ◌≡◌ {A = Option X} None (Some x) → ⊥
-never_some x e = cc
-
 module _ {M : Type 1} {𝓤 : Ura M} (𝓛 : Logic 𝓤) (R : RattleType) (sharing : Option GName)
     (table : ℕ) (t : Turn) (tokens : List (TokenView R.Denot)) where
   -- no token is of this id
@@ -81,7 +79,7 @@ module _ {M : Type 1} {𝓤 : Ura M} (𝓛 : Logic 𝓤) (R : RattleType) (shari
       move ! (2 ∷ 1 ∷ []) $
       use2 𝓛 (given ((i : ℕ) → i < n → NoToken (i + suc k)) (‵ Rest ⊛ ‵ Telling)) (unborn_unlisted n (suc k)) $
       learn ! (λ all. split ! $
-      check ! (all_from NoToken n k (λ named i x low same at. never_some _ (says named i x low same at)) all) $
+      check ! (all_from NoToken n k (λ named i x low same at. none-some _ (says named i x low same at)) all) $
       move ! (2 ∷ 0 ∷ []) $ fjoin ! $ done !))
 
 module _ {M : Type 1} {𝓤 : Ura M} (𝓛 : Logic 𝓤) (R : RattleType) (d : BucketView) (t : Turn)

@@ -1,11 +1,11 @@
 //! A table's buckets while threads share them through a `&`. By value or through a `&mut` they are
 //! an owner's `Buckets` again.
 ghost use Rattle.std.specs.Prelude.{◌≡◌, ◌≢◌, ◌+◌, ◌-◌, ◌*◌, ◌^◌, ◌<◌, ◌≤◌, ℕ, max, true, false, None, Option, IfSome, IsSome};
-ghost use Rattle.thread_local_ids.specs.TokenLists.{NoneIn};
 ghost use Rattle.thread_local_model.specs.Learnt.{Unknown, Missing, Finds};
 ghost use Rattle.thread_local_model.specs.Owned.{IsOwned, AreOfFirstBuckets};
 ghost use Rattle.thread_local_model.specs.Place.{bucket_of, id_at};
 ghost use Rattle.thread_local_judged.specs.Judged.{Judged};
+ghost use Rattle.thread_local_ids.specs.TokenLists.{NoneIn};
 ghost use Rattle.thread_local_shared_buckets.specs.Known.{HasLooked};
 ghost use Rattle.thread_local_shared_buckets.specs.Grown.{only_reserved};
 ghost use Rattle.thread_local_shared_buckets.specs.TableView.{TableView, table_view_coded, bucket_view};
@@ -161,7 +161,8 @@ impl<T> Shared<T> {
     }
 
     /// The row of a bucket's slots, for as long as the buckets are borrowed, or `None` where the
-    /// bucket is missing. A reserved bucket is never missing. It is one atomic load.
+    /// bucket is missing. A reserved bucket is never missing, nor is one with the slot of a token
+    /// of `told`, which proofs alone use. It is one atomic load.
     pub fn load(&self, bucket: usize, told: &TokenList<T>) -> Option<Row<'_, T>>
         requires { bucket < 63 }
         ensures of { IfSome result (λ row. row.of ≡ bucket_view self.now bucket) }

@@ -1,10 +1,10 @@
 //! The pointer of a bucket that threads share: null while the bucket is missing, and to its block
 //! of slots once it stands.
 ghost use Rattle.std.specs.Prelude.{◌≡◌, ◌^◌, ◌<◌, true, None, IfSome, IsSome};
-ghost use Rattle.thread_local_ids.specs.TokenLists.{NoneIn};
 ghost use Rattle.thread_local_model.specs.Place.{id_at};
 ghost use Rattle.thread_local_judged.specs.Judged.{Judged};
 ghost use Rattle.thread_local_shared_buckets.specs.Shared.{BucketView, bucket_view_coded, bucket_owns, bucket_shares, shown_by};
+ghost use Rattle.thread_local_ids.specs.TokenLists.{NoneIn};
 
 use crate::row::Row;
 use std::marker::{Brand, Move, Owns, PhantomData};
@@ -34,7 +34,8 @@ impl<T> Move for SharedBucket<T> {
 
 impl<T> SharedBucket<T> {
     /// The row of the bucket's slots, for as long as the bucket is borrowed, or `None` where the
-    /// bucket is missing. A reserved bucket is never missing.
+    /// bucket is missing. A reserved bucket is never missing, nor is one with the slot of a token
+    /// of `told`, which proofs alone use.
     ///
     /// It is one atomic load. It never waits and takes no memory.
     pub fn load(&self, told: &TokenList<T>) -> Option<Row<'_, T>>

@@ -7,7 +7,7 @@ use std::mem::forget;
 use std::test::Fail;
 use std::thread;
 use thread_local_buckets::Buckets;
-use thread_local_ids::{HeldId, Ids, Right};
+use thread_local_ids::{HeldId, Ids, Right, TokenList};
 use thread_local_judged::Judge;
 use thread_local_shared_buckets::{Claim, Shared};
 use thread_local_thread_id::Thread;
@@ -93,10 +93,11 @@ fn threads_share_a_claim(rt: HostRuntime) -> Result<(), Fail> {
 
 /// Whether the buckets 0, 2 and 3 stand.
 fn stand(shared: &Shared<u32>) -> [bool; 3] {
+    let told = TokenList::new();
     [
-        shared.load(0).is_some(),
-        shared.load(2).is_some(),
-        shared.load(3).is_some(),
+        shared.load(0, &told).is_some(),
+        shared.load(2, &told).is_some(),
+        shared.load(3, &told).is_some(),
     ]
 }
 

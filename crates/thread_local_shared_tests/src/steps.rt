@@ -6,7 +6,7 @@ ghost use Rattle.thread_local_model.specs.Bits.{is_set};
 use std::alloc::Global;
 use thread_local_bucket_pointers::{Block, flag_word_at};
 use thread_local_buckets::Buckets;
-use thread_local_ids::{HeldId, Ids, Right, Tenure};
+use thread_local_ids::{HeldId, Ids, Right, Tenure, TokenList};
 use thread_local_shared_buckets::{Claim, Shared};
 use thread_local_thread_id::{LocalError, Thread};
 
@@ -111,9 +111,11 @@ pub fn look(shared: &Shared<u32>, id: usize) -> Option<u32>
     requires { id < 2 ^ 63 - 1 }
 {
     let thread = Thread::new(id);
-    let row = shared.load(thread.bucket)?;
+    let told = TokenList::new();
+    let row = shared.load(thread.bucket, &told)?;
     let chunk = thread.index / 64;
-    let seen = row.look(chunk, flag_word_at::<u32>(thread.bucket_size(), chunk));
+    let flag_word = flag_word_at::<u32>(thread.bucket_size(), chunk);
+    let seen = row.look(chunk, flag_word, &told);
     let bit = thread.index % 64;
     if !has_bit(seen.flags(), bit) {
         return None;

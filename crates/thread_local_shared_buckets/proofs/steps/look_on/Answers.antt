@@ -10,7 +10,11 @@ use Rattle.thread_local_shared_buckets.proofs.BitLaws.{none_in_chunk, none_furth
 use Rattle.thread_local_shared_buckets.proofs.steps.look_on.Goals as goal
 
 pub loop-chunk-init : goal.loop-chunk-init
-loop-chunk-init g c = record { later = omega arith; none_before = λ k late below. absurd (omega (arith, late, below)); none_told = none_first c.args.row.now c.args.from c.args.told.now.tokens }
+loop-chunk-init g c = record {
+  later = omega arith;
+  none_before = λ k late below. absurd (omega (arith, late, below));
+  none_told = none_first c.args.row.now c.args.from c.args.told.now.tokens;
+}
 
 pub returns-then-flags-ne0-clause-looked : goal.returns-then-flags-ne0-clause-looked
 returns-then-flags-ne0-clause-looked g c =

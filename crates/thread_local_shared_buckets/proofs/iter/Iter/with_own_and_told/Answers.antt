@@ -2,10 +2,8 @@
 use Rattle.std.proofs.Common.{◌≡◌, ℕ, true, Some, ap, sym, ◌∙◌, lit<}
 use Rattle.thread_local_model.specs.Place.{id_at, bucket_of, index_of}
 use Rattle.thread_local_model.proofs.PlaceLaws.{id_at-place}
-use Rattle.std.proofs.Common.{List}
-use Rattle.thread_local_ids.specs.Views.{TokenView}
 use Rattle.thread_local_shared_buckets.specs.Walks.{WalkView, fresh_with}
-use Rattle.thread_local_shared_buckets.proofs.iter.Iter.with_own.Goals as goal
+use Rattle.thread_local_shared_buckets.proofs.iter.Iter.with_own_and_told.Goals as goal
 
 at_place : (id bucket index : ℕ) → bucket ≡ bucket_of id → index ≡ index_of id → id_at bucket index ≡ id
 at_place id bucket index in_bucket at_index =
@@ -29,6 +27,6 @@ returns g c =
     let place = c.new.result in
     let same : id_at place.bucket place.index ≡ c.args.token.now.id =
     at_place c.id.result place.bucket place.index c.new.ensures.bucket c.new.ensures.index ∙ c.id.ensures.id in
-    let begun : ℕ → List (TokenView _) → WalkView _ = λ n ts.
-    fresh_with c.args.buckets.now.sharing (Some (record { id = n; value = c.args.value.now })) true ts in
-    c.begun.ensures ∙ ap (λ n. begun n c.new-3.result) same ∙ ap (begun c.args.token.now.id) c.new-3.ensures
+    let begun : ℕ → WalkView _ = λ n.
+    fresh_with c.args.buckets.now.sharing (Some (record { id = n; value = c.args.value.now })) true c.args.told in
+    c.begun.ensures ∙ ap begun same
