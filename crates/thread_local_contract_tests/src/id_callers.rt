@@ -18,6 +18,8 @@ fn two_least<'a, T, R: Wait>(
     table: &'a ThreadLocal<T>,
     rt: &'a R,
 ) -> Result<(Local<'a, T, R>, Local<'a, T, R>), LocalError>
+    ensures table { IfOk result (λ two.
+        (two.0.table ≡ table.now.table) × (two.1.table ≡ table.now.table)) }
     ensures differ { IfOk result (λ two. two.0.id ≢ two.1.id) }
     ensures least { IfOk result (λ two.
         (two.0.id ≡ least (held_after two.0.before)) × (two.1.id ≡ least (held_after two.1.before))) }
