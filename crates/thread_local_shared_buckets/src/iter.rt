@@ -14,7 +14,7 @@ use std::fmt;
 use std::iter::FusedIterator;
 use std::marker::Model;
 use thread_local_bucket_pointers::write_struct;
-use thread_local_ids::{Told, Token, Witness};
+use thread_local_ids::{Token, Told, Witness};
 use thread_local_thread_id::Thread;
 
 /// The values of shared buckets, by ascending id, each lent as `&`, while other threads may publish

@@ -52,10 +52,10 @@ impl<'a, T> Row<'a, T> {
         ensures told { AllOf
             self.now.of.sharing
             (λ p. (bit : ℕ)
-                → bit < 64
-                → chunk * 64 + bit < 2 ^ self.now.of.bucket
-                → p.id ≡ id_at self.now.of.bucket (chunk * 64 + bit)
-                → is_set result.flags bit ≡ true)
+            → bit < 64
+            → chunk * 64 + bit < 2 ^ self.now.of.bucket
+            → p.id ≡ id_at self.now.of.bucket (chunk * 64 + bit)
+            → is_set result.flags bit ≡ true)
             told.now.tokens }
     {
         let _ = told;

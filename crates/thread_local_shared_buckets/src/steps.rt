@@ -218,11 +218,7 @@ pub(crate) struct Walk<'a, T> {
 
 impl<'a, T> Walk<'a, T> {
     /// A walk at the first slot, which has seen nothing.
-    pub(crate) fn new(
-        buckets: &'a Shared<T>,
-        own: Option<Own<'a, T>>,
-        told: Told<T>,
-    ) -> Walk<'a, T>
+    pub(crate) fn new(buckets: &'a Shared<T>, own: Option<Own<'a, T>>, told: Told<T>) -> Walk<'a, T>
         requires told { IfSome own (OwnIsTold buckets.now.sharing) }
         ensures walk { IsWalk result }
         ensures sharing { result.buckets.now ≡ buckets.now }
@@ -275,9 +271,20 @@ impl<'a, T> Walk<'a, T> {
         requires in_table { self.old.raw.bucket < 63 }
         ensures { LooksIn self.old self.new }
     {
-        self.row = row_of(self.buckets, self.row.take(), self.raw.bucket, self.told.list());
+        self.row = row_of(
+            self.buckets,
+            self.row.take(),
+            self.raw.bucket,
+            self.told.list(),
+        );
         let own = own_index(&self.own, self.raw.bucket);
-        let (seen, chunks, rest) = look_on(&self.row, self.raw.bucket_size, own, self.chunks, self.told.list());
+        let (seen, chunks, rest) = look_on(
+            &self.row,
+            self.raw.bucket_size,
+            own,
+            self.chunks,
+            self.told.list(),
+        );
         self.seen = seen;
         self.chunks = chunks;
         self.rest = rest;
@@ -335,9 +342,9 @@ impl<'a, T> Walk<'a, T> {
         ensures meets { AllOf
             self.old.buckets.now.sharing
             (Meets
-                (resting self.old.raw)
-                (option_map (λ found. found.1) result)
-                (resting self.new.raw))
+            (resting self.old.raw)
+            (option_map (λ found. found.1) result)
+            (resting self.new.raw))
             self.old.told }
     {
         if self.rest == 0 && !self.reach() {
