@@ -7,8 +7,8 @@ use Rattle.thread_local_shared_buckets.specs.TableView.{TableView}
 use Rattle.thread_local_shared_buckets.specs.Lent as buckets
 
 -- the name of the table, the sharing if that has a name, how many of the table's first slots are
--- reserved, whether each bucket that isn't reserved was made for an id, and for how many ids there was
--- room when the table was made or cleared
+-- reserved, whether each bucket that isn't reserved was made for an id, and for how many ids there
+-- was room when the table was made or cleared
 pub record ThreadLocalView : Type 0 where
   pub table : ℕ
   pub sharing : Option ℕ

@@ -39,8 +39,8 @@ mod lends;
 /// `Sync`, every thread may, while others publish more. Threads share a table through a `&`, and it
 /// can be sent to another thread. One can be made of every `T: Send` that is judged, as `new` says.
 ///
-/// Only `local`, `local_after`, `slots_and_peak` and the drop of a `Local` take the table's lock, so
-/// no other call here waits; only `local`, `local_after` and `with_capacity` take memory. But
+/// Only `local`, `local_after`, `slots_and_peak` and the drop of a `Local` take the table's lock,
+/// so no other call here waits; only `local`, `local_after` and `with_capacity` take memory. But
 /// `clear` drops values, as the drop of a table, of a walk by value or of a `Drain` does, and a
 /// value's drop may wait and may take memory: a value may hold a `Local` of another table.
 ///
@@ -52,10 +52,10 @@ mod lends;
 /// over a table; there the table also has the calls of a `Local`. All others are the port's own.
 ///
 /// Contracts see the table's name, the number of reserved slots, whether each bucket that isn't
-/// reserved was made for an id of the table, for how many ids there was room when the table was made
-/// or cleared, and the sharing, if that has a name. A sharing begins when the table is made, cleared
-/// or renewed, and lasts until an owner's call lends or takes the values. While it lasts, tokens
-/// (`Token`) say which values slots hold.
+/// reserved was made for an id of the table, for how many ids there was room when the table was
+/// made or cleared, and the sharing, if that has a name. A sharing begins when the table is made,
+/// cleared or renewed, and lasts until an owner's call lends or takes the values. While it lasts,
+/// tokens (`Token`) say which values slots hold.
 ///
 /// What was done with the table's ids, in the order of its lock, is their history. A `Page` is a
 /// beginning of it, which has no bytes. Each `Local` has the page that ends with its take, and
@@ -243,8 +243,8 @@ impl<T> ThreadLocal<T> {
 
     /// How many slots the table's buckets have together, and the most ids that were held at once
     /// since the table was made or cleared. Where no owner's call added a bucket since then, there
-    /// are less than two slots for each of these ids, or only the reserved ones. It takes the table's
-    /// lock, so it may wait. Others may use the table meanwhile.
+    /// are fewer than two slots for each of these ids, or no more than the reserved ones. It takes
+    /// the table's lock, so it may wait. Others may use the table meanwhile.
     pub fn slots_and_peak<R: Wait>(&self, rt: &R) -> (usize, usize)
         ensures reserved { self.now.reserved ≤ result.0 }
         ensures slots { self.now.grown_by_ids ≡ true → result.0 ≤ max self.now.reserved (2 * result.1 - 1) }

@@ -24,8 +24,8 @@ fn publish_held<R: Wait>(table: &ThreadLocal<u32>, rt: &R, alloc: Global, count:
     true
 }
 
-/// A table without reserved slots, whose buckets were all made for its ids, has fewer than two slots
-/// for each id of its peak.
+/// A table without reserved slots, whose buckets were all made for its ids, has fewer than two
+/// slots for each id of its peak.
 fn slots_and_peak<T, R: Wait>(table: &ThreadLocal<T>, rt: &R) -> (usize, usize)
     requires grown { table.now.grown_by_ids ≡ true }
     requires none_reserved { table.now.reserved ≡ 0 }
@@ -89,13 +89,7 @@ fn a_cleared_table_counts_slots_and_peak_anew(rt: HostRuntime) {
 fn locals_held_beyond_a_capacity_use_no_more_slots_than_without(
     rt: HostRuntime,
 ) -> Result<(), Fail> {
-    assert_eq!(rt;
-        held_beyond(rt.alloc(), &rt, 4, 9)?,
-        (true, (15, 9))
-    );
-    assert_eq!(rt;
-        held_beyond(rt.alloc(), &rt, 4, 2)?,
-        (true, (7, 2))
-    );
+    assert_eq!(rt; held_beyond(rt.alloc(), &rt, 4, 9)?, (true, (15, 9)));
+    assert_eq!(rt; held_beyond(rt.alloc(), &rt, 4, 2)?, (true, (7, 2)));
     Ok(())
 }

@@ -102,6 +102,7 @@ abbrev pub page_if : ℕ → List IdMove → Fml
 page_if table [] = ftrue
 page_if table (move ∷ moves) = page_owns table (move ∷ moves)
 
+-- these moves held n ids of a table at once
 abbrev pub reached_by : ℕ → ℕ → List IdMove → Fml
 reached_by table n moves = fsep (fact (n ≤ length (held_after moves))) (page_if table moves)
 

@@ -155,7 +155,7 @@ module _ {M : Type 1} {𝓤 : Ura M} (𝓛 : Logic 𝓤) (R : RattleType) where
   known_together s b (cs ∷ rows) =
       qed 𝓛 (‵ (rows_telling R s.sharing b (cs ∷ rows)) ∷ ‵ (rows_grown R s b (cs ∷ rows)) ∷ []) ∵ fsplit ! $
       move ! (2 ∷ []) $ fsplit ! $
-      -- [what the first shows; what the others show; what is told of the first; what is told of the others]
+      -- [what the first shows; what the others show; what is told of the first, and of the others]
       move ! (2 ∷ 0 ∷ []) $ fjoin ! $ move ! (2 ∷ 1 ∷ []) $
       use2 𝓛 (‵ (rows_known R s (suc b) rows)) (known_together s (suc b) rows) $ move ! (1 ∷ 0 ∷ []) $ fjoin ! $ done !
 

@@ -140,8 +140,8 @@ module _ {M : Type 1} {𝓤 : Ura M} (𝓛 : Logic 𝓤) (R : RattleType) (d : B
       use1 𝓛 (‵ (grown d) ⊛ ‵ (grown d)) (reached_twice 𝓛 d.table (shown_by d)) $ split ! $
       move ! (3 ∷ []) $ res_dup ! $ move ! (5 ∷ []) $
       use1 𝓛 (‵ (flft ν (left z.1)) ⊛ ‵ (flft ν (right z.1))) (𝓛.lfts.lft_split ν z.1) $ split ! $
-      -- [the left half; the right; which, twice; what it shows, twice; its authority; the slots with
-      -- the right to free]
+      -- [the left half; the right; which, twice; what it shows, twice; its authority; the slots
+      -- with the right to free]
       move ! (6 ∷ 2 ∷ 4 ∷ []) $ fjoin3 ! $ move ! (0 ∷ 1 ∷ 5 ∷ []) $ fjoin3 ! $ nothing ! $
       fpack ! ((z.0.at ≡ p) × (length z.0.names ≡ len R d) × Sized R (len R d) p) (λ _. ftrue) so $
       fjoin ! $ frame ! $

@@ -322,7 +322,8 @@ module _ {M : Type 1} {𝓤 : Ura M} (𝓛 : Logic 𝓤) (R : RattleType) (L : L
         rewrite ! 0 (λ (m : ℕ). ‵ (heap_token (block_ty R m) p)) fit refl $
         use1 𝓛 (given (Testable p) (‵ (heap_token (block_ty R n) p))) (tested (block_ty R n) p) $
         learn ! (λ test. move ! (3 ∷ 2 ∷ []) $ fjoin ! $ move ! (3 ∷ []) $ fsplit ! $ move ! (2 ∷ 0 ∷ []) $
-        -- [the words and the slots; what is told; what the row shows; the right to free; the way back]
+        -- [the words and the slots; what is told; what the row shows; the right to free; the way
+        -- back]
         use2 𝓛 (‵ (Slotted b o)) (rests_block b o all fit) $ move ! (0 ∷ 3 ∷ []) $ fjoin ! $
         move ! (2 ∷ 1 ∷ []) $ fjoin ! $ move ! (1 ∷ 0 ∷ []) $
         nothing ! $ fpack ! (Sized R n p) (λ _. ftrue) (tt, test, subst (Fits R) fit so.1) $ fjoin3 ! $ done !))

@@ -5,7 +5,8 @@ use Rattle.thread_local_model.specs.Owned.{Owned}
 use Rattle.thread_local_shared_buckets.specs.Grown.{stand_among}
 use Rattle.thread_local_shared_buckets.specs.TableView.{TableView}
 
--- whether no bucket stands that didn't stand when the buckets were lent, and as many slots are reserved
+-- whether no bucket stands that didn't stand when the buckets were lent, and as many slots are
+-- reserved
 abbrev pub adds_no_bucket : {V : Type 0} → Owned V → Owned V → Bool
 adds_no_bucket lent left = if left.reserved == lent.reserved then stand_among (stands lent.contents) (stands left.contents) else false
 

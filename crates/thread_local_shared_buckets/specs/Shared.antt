@@ -17,8 +17,8 @@
 --                         value that is published
 --     telling             what is told of the slot's id under the sharing's name, if it has one: it
 --                         stays with the slot, whoever claims it
---     grown               what a block that stands shows of the ids that were held at once, where its
---                         bucket was made for an id
+--     grown               what a block that stands shows of the ids that were held at once, where
+--                         its bucket was made for an id
 --
 -- Where a `&` to a value names no thread, a published value is shared for good. Where it may name
 -- one, the claim of the slot has the borrow of the value.
@@ -28,8 +28,8 @@
 --     x         one such value
 --     v         what a slot holds: a value, or none
 --     j         whether a `&` to a value names no thread
---     d         the view of a bucket: its table, the sharing, its number, whether it is reserved, and
---               whether its table grew by ids alone
+--     d         the view of a bucket: its table, the sharing, its number, whether it is reserved,
+--               and whether its table grew by ids alone
 --     t         a turn: the life and the names of one sharing
 --     b, o      the address of the pointer, or of its block: the allocation, and the offset in it
 --     e         the offset of a slot's value in the allocation of its block
@@ -96,7 +96,8 @@ use Rattle.thread_local_ids.specs.Told.{untold_in, tells, told_or_untold, all_to
 -- 1. What is known of a bucket, of a sharing and of a block.
 
 -- what a contract sees of a shared bucket: its table, the sharing if that has a name, its number,
--- whether it is reserved, and whether each bucket of its table that isn't reserved was made for an id
+-- whether it is reserved, and whether each bucket of its table that isn't reserved was made for an
+-- id
 pub record BucketView : Type 0 where
   pub table : ℕ
   pub sharing : Option ℕ
@@ -118,12 +119,14 @@ bucket_view_coded =
     })
 
 -- how many ids were held at once for sure once a bucket stands, by whether its table grew by ids
--- alone, whether it is reserved, and its number: as many as it has slots, where it was made for an id
+-- alone, whether it is reserved, and its number: as many as it has slots, where it was made for an
+-- id
 abbrev pub ids_shown : Bool → Bool → ℕ → ℕ
 ids_shown false reserved bucket = 0
 ids_shown true true bucket = 0
 ids_shown true false bucket = 2 ^ bucket
 
+-- how many ids a bucket of this view shows to have been held at once, once it stands
 abbrev pub shown_by : BucketView → ℕ
 shown_by d = ids_shown d.grown_by_ids d.reserved d.bucket
 

@@ -6,7 +6,8 @@ use Rattle.thread_local_model.specs.Place.{id_at}
 use Rattle.thread_local_shared_buckets.specs.Shared.{BucketView}
 
 -- the name of the table, the sharing if that has a name, how many of the table's first slots are
--- reserved, of which the buckets stand, and whether each bucket that isn't reserved was made for an id
+-- reserved, of which the buckets stand, and whether each bucket that isn't reserved was made for an
+-- id
 pub record TableView : Type 0 where
   pub table : ℕ
   pub sharing : Option ℕ
@@ -46,8 +47,8 @@ table_view_of buckets reserved = record {
   grown_by_ids = (bucket_at buckets 0).grown_by_ids;
 }
 
--- each bucket has its own number, all are of one table and one sharing and grew alike, and each says
--- whether it is reserved
+-- each bucket has its own number, all are of one table and one sharing and grew alike, and each
+-- says whether it is reserved
 abbrev pub AreBuckets : List BucketView → ℕ → Type 0
 AreBuckets buckets reserved =
     (bucket : ℕ) → bucket < 63

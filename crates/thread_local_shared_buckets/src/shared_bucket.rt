@@ -14,8 +14,8 @@ use thread_local_bucket_pointers::Chunk;
 use thread_local_ids::{Reached, TokenList, Witness};
 
 /// A bucket that threads share: its pointer, which an owner sees as a `BucketPointer`. A contract
-/// sees its table, the sharing, its number, whether it is reserved, and whether its table grew by ids
-/// alone.
+/// sees its table, the sharing, its number, whether it is reserved, and whether its table grew by
+/// ids alone.
 pub struct SharedBucket<T> {
     pub at: *mut Chunk<T>,
 }
@@ -55,14 +55,16 @@ impl<T> SharedBucket<T> {
         }
     }
 
-    /// How many ids of the table were held at once for sure, since the bucket stands, or `None` where
-    /// it is missing. It is one atomic load.
+    /// How many ids of the table were held at once for sure, since the bucket stands, or `None`
+    /// where it is missing. It is one atomic load.
     pub fn reached(&self) -> Option<Reached>
         ensures shown { IfSome result (λ reached.
             (reached.table ≡ self.now.table) × (reached.ids ≡ shown_by self.now)) }
         ensures reserved { self.now.reserved ≡ true → IsSome result }
     {
-        let block = unsafe { ptr::load::<u64, Brand>(&raw const self.at as *const *mut u64, SeqCst) };
+        let block = unsafe {
+            ptr::load::<u64, Brand>(&raw const self.at as *const *mut u64, SeqCst)
+        };
         if block.is_null() {
             None
         } else {

@@ -1,5 +1,5 @@
 //! Blocks are installed, and those that come second give way.
-ghost use Rattle.std.specs.Prelude.{◌≡◌, ◌^◌};
+ghost use Rattle.std.specs.Prelude.{◌≡◌, ◌<◌, ◌^◌};
 ghost use Rattle.thread_local_bucket_pointers.specs.Slots.{empty_slots};
 ghost use Rattle.thread_local_ids.specs.Rights.{taken_id};
 ghost use Rattle.thread_local_model.specs.Place.{bucket_of};
@@ -7,7 +7,6 @@ ghost use Rattle.thread_local_model.specs.Place.{bucket_of};
 use crate::steps::{Kept, left, look, publish_claimed, take};
 use std::alloc::Global;
 use std::cell::{Cell, RefCell};
-use std::marker::Model;
 use std::sync::Wait;
 use std::test::Fail;
 use thread_local_bucket_pointers::Block;
@@ -21,13 +20,7 @@ use thread_local_test_helpers::memory::take_all_but;
 struct Early<'a, T> {
     kept: Kept<'a, T>,
     reached: Reached,
-}
-
-impl<'a, T> Model for Early<'a, T> {
-    ghost use Rattle.std.specs.Prelude.{◌≡◌, ◌<◌};
-
-    ghost invariant = { λ early.
-        (early.reached.table ≡ early.kept.claim.table) × (early.kept.claim.id < early.reached.ids) };
+    ghost are_held: { (reached.table ≡ kept.claim.table) × (kept.claim.id < reached.ids) },
 }
 
 impl<'a, T> Early<'a, T> {

@@ -16,8 +16,8 @@ use thread_local_ids::Reached;
 
 impl<'a, T> ClaimedSlot<'a, T> {
     /// One compare and exchange: where the bucket's pointer is null, it points to the block from
-    /// then on, and else the block comes back. Either way the slot is vacant from then on. All ids up
-    /// to this one were held at once, so as many as the bucket has slots.
+    /// then on, and else the block comes back. Either way the slot is vacant from then on. All ids
+    /// up to this one were held at once, so as many as the bucket has slots.
     pub(crate) fn exchange(
         self,
         index: usize,

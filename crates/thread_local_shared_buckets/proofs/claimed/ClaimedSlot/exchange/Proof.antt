@@ -108,9 +108,10 @@ exchange_spec 𝓤 𝓛 𝓜 𝓡 wired X L =
       ),
     )
     (#self inst) fn closed
-    (λ κs.
-    ((λ x. value_of (kept_of x) ∷ []),
-    (uint_vals w64, ((λ x. fields.block_val x.at ∷ []), ((λ x. token ∷ []), tt)))))
+    (λ κs. (
+      (λ x. value_of (kept_of x) ∷ []),
+      (uint_vals w64, ((λ x. fields.block_val x.at ∷ []), ((λ x. token ∷ []), tt))),
+    ))
     (λ κs. (
       (λ x vs so. told (named_lft 2 0 tt κs) R (kept_of x) vs so.0),
       (

@@ -1,5 +1,6 @@
--- The reserved slots are those of the first buckets, at most all 63, so the walk has met them. The last
--- bucket that stands is reserved, and so are all slots, or it shows that half as many ids were held.
+-- The reserved slots are those of the first buckets, at most all 63, so the walk has met them. The
+-- last bucket that stands is reserved, and so are all slots, or it shows that half as many ids were
+-- held.
 use Rattle.std.proofs.Common.{◌≡◌, ◌≤◌, ◌<◌, ◌+◌, ◌-◌, ◌*◌, ◌^◌, ℕ, Bool, true, false, refl, sym, ap, ◌∙◌}
 use Rattle.std.specs.Prelude.{max, nat_lt}
 use Rattle.std.proofs.Common.{add-one, arith, pow_mono, pow_pos, subst, ⊎_elim}
@@ -96,7 +97,8 @@ loop-bucket-preserved g c =
           })
       | in_default w ↦
           (let after : Counted table.reserved (bucket + 1) c.match-reached.slots =
-          missing table.reserved bucket c.loop-bucket.slots c.match-reached.slots before w.slots-is (λ low. let never : false ≡ true = w.in_default.ensures.reserved low in cc) in
+          missing table.reserved bucket c.loop-bucket.slots c.match-reached.slots before w.slots-is
+          (λ low. let never : false ≡ true = w.in_default.ensures.reserved low in cc) in
           record {
             most = after.most;
             least = after.least;

@@ -2,8 +2,8 @@ use Rattle.std.proofs.Common.{◌≡◌, ◌≤◌, ◌-◌, ◌*◌, ◌^◌, t
 use Rattle.std.specs.Prelude.{max}
 use Rattle.thread_local_shared_buckets.proofs.shared.Shared.slots_reached.Given as goal
 
--- no more slots than the buckets so far can have, none of the reserved ones is missing, and what the
--- last bucket shows allows for them
+-- no more slots than the buckets so far can have, none of the reserved ones is missing, and what
+-- the last bucket shows allows for them
 abbrev pub invariant-loop-bucket : goal.invariant-loop-bucket
 invariant-loop-bucket g l = record {
   most : l.slots ≤ 2 ^ l.bucket - 1;
