@@ -1,7 +1,7 @@
 //! The object that keeps a value for each thread: the buckets that threads share, and the ids,
 //! under a lock. What the type of its values has to show, and tokens that say what its slots were
 //! published with, have their names here too.
-ghost use Rattle.std.specs.Prelude.{◌≡◌, ◌≢◌, ◌≤◌, ◌<◌, ◌-◌, ◌*◌, ◌^◌, ℕ, max, Option, true, false, None, Some, Err, alloc_error, IfOk, IsSome, map, []};
+ghost use Rattle.std.specs.Prelude.{◌≡◌, ◌≢◌, ◌≤◌, ◌<◌, ◌-◌, ◌*◌, ◌^◌, ℕ, max, length, Option, true, false, None, Some, Err, alloc_error, IfOk, IsSome, map, []};
 ghost use Rattle.std.specs.List.Sorted.{IsStrictlyIncreasing};
 ghost use Rattle.thread_local_model.specs.Capacity.{reserved_slots};
 ghost use Rattle.thread_local_buckets.specs.IterMut.{iter_mut_given, entries_mut_given, entries_mut_rest};
@@ -241,18 +241,20 @@ impl<T> ThreadLocal<T> {
         self.buckets.slots()
     }
 
-    /// How many slots the table's buckets have together, and the most ids that were held at once
-    /// since the table was made or cleared. Where no owner's call added a bucket since then, there
-    /// are fewer than two slots for each of these ids, or no more than the reserved ones. It takes
-    /// the table's lock, so it may wait. Others may use the table meanwhile.
-    pub fn slots_and_peak<R: Wait>(&self, rt: &R) -> (usize, usize)
+    /// How many slots the table's buckets have together, the most ids that were held at once since
+    /// the table was made or cleared, and the page of all that was done with the ids by then, which
+    /// has no bytes and says that this is their peak. Where no owner's call added a bucket since
+    /// then, there are fewer than two slots for each of these ids, or no more than the reserved ones. It
+    /// takes the table's lock, so it may wait. Others may use the table meanwhile.
+    pub fn slots_and_peak<R: Wait>(&self, rt: &R) -> (usize, usize, Page)
         ensures reserved { self.now.reserved ≤ result.0 }
         ensures slots { self.now.grown_by_ids ≡ true → result.0 ≤ max self.now.reserved (2 * result.1 - 1) }
+        ensures peak { (result.2.table ≡ self.now.table) × (result.1 ≡ length (held_after result.2.moves)) }
     {
         let (slots, reached) = self.buckets.slots_reached();
         let mut ids = self.ids.lock(rt);
         ids.has_reached(reached);
-        (slots, ids.peak())
+        (slots, ids.peak(), ids.page())
     }
 
     /// The values by ascending id, each lent as `&mut`. It is the walk `iter_mut` of the buckets

@@ -1,13 +1,14 @@
 //! Callers that compare a table's slots with its peak, which are proved by contracts alone, and
 //! tests that run them.
-ghost use Rattle.std.specs.Prelude.{◌≡◌, ◌≤◌, ◌-◌, ◌*◌, max, true, IfOk};
+ghost use Rattle.std.specs.Prelude.{◌≡◌, ◌≤◌, ◌-◌, ◌*◌, max, length, true, IfOk};
 ghost use Rattle.thread_local.specs.Capacity.{reserved_slots};
+ghost use Rattle.thread_local.specs.IdMoves.{held_after};
 
 use std::alloc::Global;
 use std::sync::Wait;
 use std::test::Fail;
 use thread_local::ThreadLocal;
-use thread_local::table::CapacityError;
+use thread_local::table::{CapacityError, Page};
 
 /// `Local`s that are held at once each publish their number, as many as are asked for. Answers
 /// whether none was refused.
@@ -31,7 +32,18 @@ fn slots_and_peak<T, R: Wait>(table: &ThreadLocal<T>, rt: &R) -> (usize, usize)
     requires none_reserved { table.now.reserved ≡ 0 }
     ensures { result.0 ≤ 2 * result.1 - 1 }
 {
-    table.slots_and_peak(rt)
+    let (slots, peak, _) = table.slots_and_peak(rt);
+    (slots, peak)
+}
+
+/// The peak is that of what was done with the table's ids, so it bounds the slots by this history.
+fn slots_of_history<T, R: Wait>(table: &ThreadLocal<T>, rt: &R) -> (usize, Page)
+    requires grown { table.now.grown_by_ids ≡ true }
+    requires none_reserved { table.now.reserved ≡ 0 }
+    ensures { result.0 ≤ 2 * length (held_after result.1.moves) - 1 }
+{
+    let (slots, _, page) = table.slots_and_peak(rt);
+    (slots, page)
 }
 
 /// So has a new table, whatever threads did with it.
@@ -67,7 +79,8 @@ fn held_beyond<R: Wait>(
 {
     let table = ThreadLocal::<u32>::with_capacity(alloc, capacity)?;
     let published = publish_held(&table, rt, alloc, count);
-    Ok((published, table.slots_and_peak(rt)))
+    let (slots, peak, _) = table.slots_and_peak(rt);
+    Ok((published, (slots, peak)))
 }
 
 #[test]

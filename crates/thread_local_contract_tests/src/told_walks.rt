@@ -196,7 +196,10 @@ fn published_and_found<R: Wait>(
 fn walks_give_what_tokens_say(rt: HostRuntime) {
     let table = ThreadLocal::<u32>::new(rt.alloc());
     let both = [Some((0, 6)), Some((1, 7)), None];
-    assert_eq!(rt; published_and_found(&table, &rt, rt.alloc()), Some([both; 2]));
+    assert_eq!(rt;
+        published_and_found(&table, &rt, rt.alloc()),
+        Some([both; 2])
+    );
 }
 
 #[test]

@@ -221,7 +221,8 @@ impl Ids {
 
     /// The most ids that were held at once since the table was made or cleared.
     pub fn peak(&self) -> usize
-        ensures { result ≡ length self.now.manager.held }
+        ensures held { result ≡ length self.now.manager.held }
+        ensures history { result ≡ length (held_after self.now.moves) }
     {
         self.manager.peak()
     }
