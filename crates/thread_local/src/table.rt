@@ -1,7 +1,8 @@
 //! The object that keeps a value for each thread: the buckets that threads share, and the ids,
 //! under a lock. What the type of its values has to show, and tokens that say what its slots were
 //! published with, have their names here too.
-ghost use Rattle.std.specs.Prelude.{◌≡◌, ◌≢◌, ◌≤◌, ◌<◌, ◌-◌, ◌*◌, ◌^◌, ℕ, max, length, Option, true, false, None, Some, Err, alloc_error, IfOk, IsSome, map, []};
+ghost use Rattle.std.specs.Prelude.{◌≡◌, ◌≢◌, ◌≤◌, ◌<◌, ◌-◌, ◌*◌, ◌^◌, ℕ, max, length};
+ghost use Rattle.std.specs.Prelude.{Option, true, false, None, Some, Err, alloc_error, IfOk, IsSome, map, []};
 ghost use Rattle.std.specs.List.Sorted.{IsStrictlyIncreasing};
 ghost use Rattle.thread_local_model.specs.Capacity.{reserved_slots};
 ghost use Rattle.thread_local_buckets.specs.IterMut.{iter_mut_given, entries_mut_given, entries_mut_rest};

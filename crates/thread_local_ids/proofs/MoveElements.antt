@@ -1,35 +1,29 @@
 -- The moves of a table under its name: how they are appended to, and what pages show of them.
 -- Assumes `Logic`.
-use Rattle.std.proofs.Common.{◌≡◌, ℕ, ◌+◌, ◌≤◌, ◌==◌, Bool, true, false, List, [], ◌∷◌, refl, sym, ap, ◌∙◌, subst, arith}
-use Rattle.std.proofs.lemmas.Bool.{eq-eqb}
+use Rattle.std.proofs.Common.{◌≡◌, ℕ, ◌+◌, ◌≤◌, true, List, [], ◌∷◌, refl, sym, ap, ◌∙◌, subst, arith}
 use mathlib.Core.Logic.{◌∨₁◌}
 use mathlib.Core.List.{IsPrefix}
-use mathlib.Core.Option.{Option, none, some}
-use mathlib.Mathlib.Data.Part.{Part, ◌∈◌}
-use seplogic.Ra.Pcs.{OpDef, FpUpd₁}
+use mathlib.Core.Option.{none, some}
 use seplogic.Ra.Ura.{Ura}
-use seplogic.Ra.Constructions.Opt
-use seplogic.Ra.IProd.{mem-op_iff}
 use base.Fraction.{full_share}
-use base.FractionLaws.{not-OpDef-full_share}
-use base.Share
-use base.Growing.{Order, Sum, prefixes, prefixes_in_line}
-use base.Logic.{SProp, ent, sep, ex, guard, upd, guard_i, upd_i}
+use base.Growing.{prefixes_in_line}
+use base.Logic.{SProp, ent, sep, ex, guard, upd, upd_i}
 use Rattle.thread_local_ids.proofs.Logs.{O, shows, part_off, part_twice, grown}
-use base.Growing.{grows}
-use base.Fml.{GName, Share, Fml}
+use base.Fml.{GName, Fml}
 use base.Shift.{Keyless}
 use types.Logic.{Logic, sem}
 use types.Keyed.{keyed}
-use types.Owned.{own_new, own_sum, own_step}
-use types.Kit.{‵, raw, given, ◌⊛◌, ◌$◌, ◌∵◌, !, qed, move, drop, split, fsplit, fjoin, fpick, fpack, pick, learn, check, frame, rewrite, suffices, settle, use0, use1, use2, done}
+use types.Owned.{own_new}
+use types.Kit.{‵, raw, given, ◌⊛◌, ◌$◌, ◌∵◌, !, qed, move, drop, split, fsplit, fjoin, fpick, fpack, pick}
+use types.Kit.{learn, check, frame, rewrite, suffices, settle, use0, use1, use2, done}
 use types.Kit as kit
 use Rattle.thread_local_model.specs.Held.{is_held}
-use Rattle.thread_local_model.specs.IdMoves.{IdMove, Take, Give, move_coded, held_after, noted}
+use Rattle.thread_local_model.specs.IdMoves.{IdMove, Take, Give, held_after, noted}
 use Rattle.thread_local_ids.specs.Returns.{gives, counting, counts, counts_own, counts_page, tenure_owns}
 use Rattle.thread_local_ids.proofs.ReturnLaws.{gives_apart, taken, page_off, page_again, not_given}
 use Rattle.thread_local_ids.proofs.ReturnLaws.{given as given_count}
-use Rattle.thread_local_ids.specs.Rights.{telling, Element, at_if, moves_key, moves_own, right_owns, kept, history_as, page_as, held_as, history_owns, page_owns, held_owns, taken_id, tenure_of}
+use Rattle.thread_local_ids.specs.Rights.{Element, moves_key, moves_own, right_owns, kept, history_as, page_as, held_as}
+use Rattle.thread_local_ids.specs.Rights.{history_owns, page_owns, held_owns, taken_id, tenure_of}
 
 first : List IdMove → ℕ
 first [] = 0
@@ -243,7 +237,8 @@ module _ {M : Type 1} {𝓤 : Ura M} (𝓛 : Logic 𝓤) where
       let id : ℕ = taken_id before in
       let n : ℕ = gives before id in
       let Few : Type 0 = gives later id ≤ n in
-      qed 𝓛 (‵ (tenure_of γ before) ∷ ‵ (page_owns γ later) ∷ []) ∵ fsplit ! $ move ! (1 ∷ []) $ fpick ! (λ δ. fsplit ! $ move ! (3 ∷ []) $ fpick ! (λ δ'. fsplit ! $
+      qed 𝓛 (‵ (tenure_of γ before) ∷ ‵ (page_owns γ later) ∷ []) ∵ fsplit ! $ move ! (1 ∷ []) $
+      fpick ! (λ δ. fsplit ! $ move ! (3 ∷ []) $ fpick ! (λ δ'. fsplit ! $
       -- [the page's moves; its counts; the first entry; the count; the own page]
       move ! (2 ∷ 0 ∷ []) $
       use2 𝓛 (given (δ' ≡ δ) (‵ (own γ (part δ [])) ⊛ ‵ (own γ (part δ' later))))

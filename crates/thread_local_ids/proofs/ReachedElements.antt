@@ -1,6 +1,6 @@
 -- How many ids of a table were held at once, by a page of it: a later page has no lower peak.
 -- Assumes `Logic`.
-use Rattle.std.proofs.Common.{◌≡◌, ℕ, ◌+◌, ◌≤◌, Bool, true, false, List, [], ◌∷◌, length, sym, subst, arith}
+use Rattle.std.proofs.Common.{ℕ, ◌+◌, ◌≤◌, Bool, true, false, List, [], ◌∷◌, length, sym, subst, arith}
 use seplogic.Ra.Ura.{Ura}
 use mathlib.Core.List.{IsPrefix}
 use base.Logic.{SProp, ent, sep, guard, emp, id⊢}

@@ -1,6 +1,6 @@
 -- What the buckets of a table at rest show of the ids that were held at once, by the rows of their
 -- slots. Assumes `Logic`.
-use Rattle.std.proofs.Common.{◌≡◌, ◌∙◌, ℕ, zero, suc, ◌+◌, ◌-◌, ◌^◌, ◌<◌, ◌≤◌, ◌==◌, Bool, true, false, List, [], ◌∷◌, length, refl}
+use Rattle.std.proofs.Common.{◌≡◌, ◌∙◌, ℕ, zero, suc, ◌+◌, ◌^◌, ◌<◌, ◌≤◌, ◌==◌, Bool, true, false, List, [], ◌∷◌, length, refl}
 use Rattle.std.proofs.Common.{sym, ap, subst, arith, Option, Some, if◌then◌else◌, eqb, pow_pos}
 use Rattle.std.specs.Prelude.{slice_index_or, nat_lt}
 use Rattle.std.proofs.lemmas.Bool.{eqb-true, eqb-false, eq-eqb, lt-ltb, ltb-true}
@@ -11,8 +11,8 @@ use types.Logic.{Logic, sem}
 use types.Kit.{‵, ◌⊛◌, ◌$◌, ◌∵◌, !, qed, move, use0, use1, use2, split, fsplit, fjoin, rewrite, drop, done}
 use denote.RattleType.{RattleType}
 use denote.Steps.{nothing}
-use Rattle.thread_local_model.specs.Buckets.{Contents, row, stands, IsTable}
-use Rattle.thread_local_model.specs.Owned.{Owned, IsOwned}
+use Rattle.thread_local_model.specs.Buckets.{row, stands, IsTable}
+use Rattle.thread_local_model.specs.Owned.{Owned}
 use Rattle.thread_local_model.specs.Place.{id_at}
 use Rattle.thread_local_ids.specs.Rights.{reached_owns}
 use Rattle.thread_local_ids.specs.Told.{all_told_or_untold, whole_row, rows_telling}

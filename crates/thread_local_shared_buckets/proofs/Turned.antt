@@ -31,8 +31,8 @@ use Rattle.thread_local_bucket_pointers.specs.Slots.{heap_token}
 use Rattle.thread_local_bucket_pointers.specs.PointerOwns.{pointer_owns}
 use Rattle.thread_local_bucket_pointers.specs.contracts.bucket_pointer.BucketPointer as plain
 use Rattle.thread_local_bucket_pointers.proofs.bucket_pointer.BucketPointer.TheLaws as plain'
-use Rattle.thread_local_shared_buckets.specs.Shared.{BucketView, first, at_rest}
-use Rattle.thread_local_ids.specs.Told.{all_told_or_untold, whole_row, rows_telling, rows_tell, book_owns}
+use Rattle.thread_local_shared_buckets.specs.Shared.{BucketView, at_rest}
+use Rattle.thread_local_ids.specs.Told.{rows_telling, rows_tell, book_owns}
 use Rattle.thread_local_ids.proofs.ToldElements.{source}
 use Rattle.thread_local_ids.proofs.Rows.{none_rows, rows_end, table_whole, rows_drawn}
 use Rattle.thread_local_shared_buckets.specs.contracts.shared_bucket.SharedBucket as shared

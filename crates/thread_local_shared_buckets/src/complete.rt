@@ -14,13 +14,15 @@ ghost use Rattle.thread_local_shared_buckets.specs.Walks.{WalkView, Owed, fresh_
 /// `of` reads of a value. `items` is what the calls gave, from the first one on.
 #[inline]
 pub fn iter_gives_told<V>()
-    ensures all { (sharing : Option ℕ) (own : Option (Owed V)) (shown : Bool) (told : List (TokenView V)) (walk last over : WalkView V) (items : List (Bor V)) (given : List V)
+    ensures all { (sharing : Option ℕ) (own : Option (Owed V)) (shown : Bool) (told : List (TokenView V))
+        (walk last over : WalkView V) (items : List (Bor V)) (given : List V)
         → walk ≡ fresh_with sharing own shown told
         → Yields Goes walk items last
         → Goes last None over
         → given ≡ map (λ item. item.now) items
         → AllOf sharing (λ p. Contains given p.value) told }
-    ensures sum { (of : V → ℕ) (sharing : Option ℕ) (own : Option (Owed V)) (shown : Bool) (told : List (TokenView V)) (walk last over : WalkView V) (items : List (Bor V))
+    ensures sum { (of : V → ℕ) (sharing : Option ℕ) (own : Option (Owed V)) (shown : Bool) (told : List (TokenView V))
+        (walk last over : WalkView V) (items : List (Bor V))
         → walk ≡ fresh_with sharing own shown told
         → IsSome sharing
         → All (λ p. p.sharing ≡ sharing) told

@@ -5,7 +5,8 @@ ghost use Rattle.thread_local_judged.specs.Judged.{Shareable};
 ghost use Rattle.thread_local_model.specs.Bits.{IsWordBut};
 ghost use Rattle.thread_local_ids.specs.TokenLists.{AllOf, NoneIn};
 ghost use Rattle.thread_local_shared_buckets.specs.Walks.{Meets};
-ghost use Rattle.thread_local_shared_buckets.specs.Positions.{past, lies_in, is_at, own_index, OwnIsTold, IsToldAt, MovesBehind, YieldsFrom, EndsFrom, resting, Stops, IsBehind};
+ghost use Rattle.thread_local_shared_buckets.specs.Positions.{past, lies_in, is_at, own_index, OwnIsTold, IsToldAt, MovesBehind};
+ghost use Rattle.thread_local_shared_buckets.specs.Positions.{YieldsFrom, EndsFrom, resting, Stops, IsBehind};
 ghost use Rattle.thread_local_shared_buckets.specs.AtHand.{LiesOutside, IsSetIn, IsGivenBy, IsRowOf, HasLooked, IsWalk, LooksIn, GoesOn, Reaches, FindsTokens};
 
 use crate::shared::Shared;

@@ -1,4 +1,4 @@
-use Rattle.std.proofs.Common.{◌≡◌, subst}
+use Rattle.std.proofs.Common.{subst}
 use Rattle.std.specs.Prelude.{List}
 use mathlib.Core.List.{IsPrefix}
 use mathlib.Core.Logic.{◌∨₁◌}

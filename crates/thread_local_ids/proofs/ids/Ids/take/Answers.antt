@@ -1,5 +1,5 @@
 -- The right to the least free id isn't out, since that id isn't held, and nor is its mark.
-use Rattle.std.proofs.Common.{rules, sym, ◌≡◌, ◌≢◌, ◌≤◌, ◌+◌, ◌^◌, ◌==◌, true, refl, ap, ◌∙◌, arith, if◌then◌else◌, ne_eqb}
+use Rattle.std.proofs.Common.{rules, sym, ◌≡◌, ◌≢◌, ◌+◌, ◌^◌, ◌==◌, true, refl, ap, ◌∙◌, arith, if◌then◌else◌, ne_eqb}
 use Rattle.thread_local_model.specs.Held.{is_held, with_least}
 use Rattle.thread_local_model.specs.IdMoves.{held_after}
 use Rattle.thread_local_model.proofs.IdMoveLaws.{after_take}

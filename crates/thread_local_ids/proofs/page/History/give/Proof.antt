@@ -47,7 +47,8 @@ give_spec 𝓤 𝓛 𝓜 𝓡 wired =
       (Goes-dropped 𝓛 1 (plain (λ _. usize)) yes (λ κs x w. refl), (Goes-dropped 𝓛 1 (plain (λ _. tenure.the_row)) yes (λ κs x w. refl), tt)),
     )
     f.Key.name code.function (code.unfolded 𝓤 𝓛.H 𝓜 𝓡 wired)
-    (λ κs. (mut_vals, (uint_vals w64, ((λ x. token ∷ []), tt)))) (λ κs. (mut_Tells (named 0) κs.0 R, (uint_Tells w64, ((λ x vs is. told (tenure.the_type).name vs is.0), tt)))) (λ κs qs bounds a g are.
+    (λ κs. (mut_vals, (uint_vals w64, ((λ x. token ∷ []), tt))))
+    (λ κs. (mut_Tells (named 0) κs.0 R, (uint_Tells w64, ((λ x vs is. told (tenure.the_type).name vs is.0), tt)))) (λ κs qs bounds a g are.
     let r = a.0 in
     let id : ℕ = a.1.0 in
     let mine = a.1.1.0 in

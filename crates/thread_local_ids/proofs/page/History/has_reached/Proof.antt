@@ -3,7 +3,7 @@ use Rattle.std.proofs.Common.{ℕ, ◌≤◌, List, [], ◌∷◌, length, refl}
 use mir.Syntax.{named}
 use mir.Val.{Val, vptr, vunit}
 use base.Fml.{ftrue, flft}
-use types.Kit.{‵, raw, ◌⊛◌, given, ◌$◌, ◌∵◌, !, qed, move, keep, drop, rewrite, split, join, fsplit, fsplit3, fjoin, fjoin3}
+use types.Kit.{‵, raw, ◌⊛◌, given, ◌$◌, ◌∵◌, !, qed, move, keep, rewrite, split, join, fsplit, fsplit3, fjoin, fjoin3}
 use types.Kit.{learn, suffices, frame, use2, feq_i}
 use types.Run.{of_opd, unit_lit, returns, enter}
 use types.ByLocal.{alloc_all, pass_all, free_all, look_at, sets}

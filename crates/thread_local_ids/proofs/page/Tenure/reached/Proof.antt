@@ -1,6 +1,6 @@
 -- `reached` copies what the tenure's page says, of how many ids were held at once.
 use Rattle.thread_local_model.proofs.Names.{◌≡◌, [], ◌∷◌, refl, named, Val, vptr, SProp, emp, ‵, raw}
-use Rattle.thread_local_model.proofs.Names.{◌⊛◌, ◌$◌, ◌∵◌, !, qed, by, keep, drop, split, fsplit, fjoin, use0, use1, move, ◌+◌}
+use Rattle.thread_local_model.proofs.Names.{◌⊛◌, ◌$◌, ◌∵◌, !, qed, by, keep, drop, split, fsplit, fjoin, use0, use1, ◌+◌}
 use Rattle.thread_local_model.proofs.Names.{no_more, and_then, returns, enter, alloc_all, pass_all, free_all, look_at}
 use Rattle.thread_local_model.proofs.Names.{get, sets, agg, tables, fact, fact_i, yes, RattleType, owns, types_at}
 use Rattle.thread_local_model.proofs.Names.{plain, nothing, RefOf, shr_vals, shr_Tells, Stays}

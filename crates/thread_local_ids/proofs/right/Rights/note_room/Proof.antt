@@ -12,7 +12,7 @@ use types.ByLocal.{alloc_all, pass_all, free_all, look_at, get, sets}
 use types.Part.{agg}
 use contract.Monad.{fact}
 use contract.Running.{tables}
-use denote.Ref.{MutRef, mut_vals, mut_Tells}
+use denote.Ref.{mut_vals, mut_Tells}
 use Rattle.thread_local_model.proofs.Names.{RefOf, shr_vals, shr_Tells, owns, types_at, split3}
 use denote.Signature.{plain}
 use denote.Exit.{yes}
@@ -76,4 +76,5 @@ note_room_spec 𝓤 𝓛 𝓜 𝓡 wired =
     use0 𝓛 (‵ ((Mark (room.the_type).name).own_val (tt, tt) (token ∷ [])))
     (made (room.the_type).name 𝓛) $
     fjoin ! $ move ! (1 ∷ 0 ∷ []) $ join ! $
-    nothing ! $ move ! (3 ∷ 0 ∷ []) $ join ! $ move ! (2 ∷ 0 ∷ []) $ join ! $ join ! $ frame ! $ tells ! (refl, refl) $ tells ! refl $ tells_last ! (λ j. refl)))))
+    nothing ! $ move ! (3 ∷ 0 ∷ []) $ join ! $ move ! (2 ∷ 0 ∷ []) $ join ! $ join ! $ frame ! $
+    tells ! (refl, refl) $ tells ! refl $ tells_last ! (λ j. refl)))))

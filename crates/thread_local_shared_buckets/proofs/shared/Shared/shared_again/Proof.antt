@@ -1,32 +1,30 @@
 -- `shared_again` takes back what is due from the sharing, and begins another one.
-use Rattle.std.proofs.Common.{Bool, Option, Some, IsSome, ◌≢◌, ◌≡◌, ℕ, ◌^◌, ◌<◌, List, [], ◌∷◌, ◌++◌, refl, sym, subst, w64}
+use Rattle.std.proofs.Common.{Option, Some, IsSome, ◌≢◌, ◌≡◌, ℕ, List, [], ◌∷◌, ◌++◌, refl, sym, subst}
 use mir.Syntax.{a_type, named}
-use mir.Val.{Val, vint, vptr, has_ty}
+use mir.Val.{Val, vptr}
 use mir.MapTy.{inst_fn}
 use base.Logic.{SProp, ent, emp, id⊢, via}
 use base.Fml.{GName}
 use types.Owned.{basic}
 use prog.Wp.{WpFn}
-use types.Kit.{some, given, later, await, pick, learn, use2, ‵, raw, ◌⊛◌, ◌$◌, ◌∵◌, !, qed, by, move, keep, use0, use1}
+use types.Kit.{some, given, later, await, pick, learn, use2, ‵, raw, ◌⊛◌, ◌$◌, ◌∵◌, !, qed, by, move, keep, use0}
 use types.Kit.{split, join, fsplit, fjoin, rewrite, suffices}
-use types.Run.{of_opd, no_more, and_then, returns, enter}
+use types.Run.{of_opd, returns, enter}
 use types.ByLocal.{alloc_all, pass_all, free_all, look_at, get, sets}
-use types.Part.{agg}
 use contract.Running.{tables}
 use contract.Monad.{fact, fact_i}
 use denote.Exit.{yes, no}
 use denote.RattleType.{RattleType, owns}
 use denote.Signature.{types_at, plain}
-use denote.Builtin.{RefOf, usize}
+use denote.Builtin.{RefOf}
 use denote.Param.{param, layout, layouts}
 use denote.Param.Laws.{Laws, param_laws}
 use denote.Ref.{shr_Tells}
-use denote.Steps.{nothing, heard}
+use denote.Steps.{nothing}
 use denote.Triple.Entry.{alive}
 use denote.Triple.Walked.{Stays, stay_dropped, walk_of, Goes-dropped}
 use Rattle.std.proofs.raw_atomic.Walks.{proved_at, leaves}
 use Rattle.std.proofs.cell.Inside.{one, Good}
-use Rattle.std.proofs.ResultValues.{and_tt}
 use Rattle.thread_local_ids.proofs.ToldElements.{source, source_new}
 use Rattle.thread_local_ids.specs.contracts.right.Right as right
 use Rattle.thread_local_shared_buckets.specs.TableView.{TableView}

@@ -1,8 +1,8 @@
 -- `none_reached` says of the bucket's table what is so of every table.
-use Rattle.thread_local_model.proofs.Names.{[], ◌∷◌, refl, yes, List, a_type, named, Val, vptr, vunit, inst_fn, SProp}
+use Rattle.thread_local_model.proofs.Names.{[], ◌∷◌, refl, yes, a_type, named, Val, vptr, inst_fn, SProp}
 use Rattle.thread_local_model.proofs.Names.{emp, Lft, Share, Fml, ftrue, fsep, flft, ‵, raw, ◌⊛◌, ◌$◌, ◌∵◌, !, qed, by}
-use Rattle.thread_local_model.proofs.Names.{move, keep, drop, split, join, fsplit, fjoin, fpick, use0, feq_i, of_opd}
-use Rattle.thread_local_model.proofs.Names.{unit_lit, returns, enter, alloc_all, pass_all, free_all, look_at, sets}
+use Rattle.thread_local_model.proofs.Names.{move, keep, drop, split, join, fsplit, fjoin, use0}
+use Rattle.thread_local_model.proofs.Names.{returns, enter, alloc_all, pass_all, free_all, look_at, sets}
 use Rattle.thread_local_model.proofs.Names.{env, tables, fact, fact_i, RattleType, owns, types_at, plain, nothing}
 use Rattle.thread_local_model.proofs.Names.{param, layouts, RefOf, shr_vals, shr_Tells, Stays, stay_dropped, walk_of}
 use Rattle.thread_local_model.proofs.Names.{Goes-dropped, proved, leaves}

@@ -3,7 +3,7 @@ use Rattle.thread_local_model.proofs.Names.{◌≡◌, ℕ, ◌+◌, [], ◌∷�
 use Rattle.thread_local_model.proofs.Names.{Some, a_type, named, Val, vptr, vcons, vnil, inst_fn, SProp, wand, emp}
 use Rattle.thread_local_model.proofs.Names.{via, sem, apply∗, Lft, Share, Fml, ftrue, fsep, flft, fbor, ‵, raw, ◌⊛◌}
 use Rattle.thread_local_model.proofs.Names.{some, later, mean, at_ret, ◌$◌, ◌∵◌, !, qed, by, move, keep, drop, split}
-use Rattle.thread_local_model.proofs.Names.{join, fsplit, fsplit3, fjoin, fjoin3, fpick, fpack, pick, use0, use1, use2, use3}
+use Rattle.thread_local_model.proofs.Names.{join, fsplit, fsplit3, fjoin, fpick, pick, use0, use1, use2, use3}
 use Rattle.thread_local_model.proofs.Names.{await, stop, fld, addr, lit, of_opd, bin, no_more, and_then, first, blocks}
 use Rattle.thread_local_model.proofs.Names.{exec, branches, returns, enter, alloc_all, pass_all, free_all, look_at}
 use Rattle.thread_local_model.proofs.Names.{get, through, sets, sets_last, lands_last, env, agg, live, tables, fact}
@@ -14,10 +14,7 @@ use Rattle.std.proofs.Common.{IfSome, IsSome}
 use base.Logic.{id⊢}
 use Rattle.thread_local_ids.specs.contracts.reached.Reached as Reached
 use Rattle.thread_local_ids.proofs.Markers.{token, Mark, made}
-use base.Fml.{finv}
 use base.Logic.{sep}
-use base.Before.{before}
-use types.Na.{before_dup}
 use types.Run.{Calls-last}
 use contract.Shared.{Lends-one}
 use denote.RawPtr.{tests_null}
@@ -27,9 +24,7 @@ use Rattle.std.proofs.raw_atomic.Calls.{seq_cst}
 use Rattle.std.proofs.raw_atomic.PtrCalls as calls
 use Rattle.std.proofs.raw_atomic.PtrCalls.{seq_cst_good}
 use Rattle.std.specs.contracts.option.Option as Opt
-use Rattle.thread_local_judged.specs.Judged.{Judged}
-use Rattle.thread_local_model.specs.Fact.{fact as said_fact}
-use Rattle.thread_local_shared_buckets.specs.Shared.{BucketView, bucket_invariant, all_unborn, len, shown_by, grown}
+use Rattle.thread_local_shared_buckets.specs.Shared.{BucketView, bucket_invariant, all_unborn, len, shown_by}
 use Rattle.thread_local_shared_buckets.specs.Shared.{first as first_id}
 use Rattle.thread_local_shared_buckets.specs.contracts.shared_bucket.SharedBucket as one_bucket
 use Rattle.thread_local_shared_buckets.specs.contracts.shared_bucket.SharedBucket.reached.{ended, clauses}
