@@ -14,5 +14,6 @@ pub mod posted;
 pub mod registry;
 pub mod resumed;
 pub mod rounds;
+pub mod snapshot;
 pub mod spans;
 pub mod sums;
