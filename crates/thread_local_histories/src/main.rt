@@ -71,7 +71,7 @@ impl Asked {
         } = self;
         let each = CALLS.min(calls / ROUNDS) / threads.max(1);
         let filled = if locals > LOCALS {
-            locals.saturating_mul(2)
+            locals.saturating_add(locals / 2)
         } else {
             0
         };
@@ -190,7 +190,10 @@ fn live_pool<R: Threads + Wait + Sync, W: Write>(
         pools::between(&mut pool, step, &mut owner)?;
         owner.write(out)?;
     }
-    Ok(())
+    let first = asked.numbers(before.wrapping_add(ROUNDS));
+    let mut owner = Record::new(alloc, clock, asked.threads, first);
+    pools::end(pool, &mut owner)?;
+    owner.write(out)
 }
 
 /// Plays with one table after another, as many as it takes for so many calls.

@@ -59,11 +59,11 @@ fn choose<R: Wait>(hand: &mut Vec<Held<'_, R>>, state: u64) {
 }
 
 impl<'a, R: Wait> Room<'a, R> {
-    /// Takes as many `Local`s as a thread may hold, and publishes in most of their slots.
+    /// Takes as many `Local`s as a thread may hold, and publishes in the slots of half of them.
     fn fill(&self, hand: &mut Vec<Held<'a, R>>, record: &mut Record<'_>) -> Result<(), AllocError> {
         for number in 0..self.locals {
             self.take(hand, record)?;
-            if number % 4 != 3 {
+            if number % 2 == 0 {
                 if let Some(held) = hand.last_mut() {
                     held.get_or(record)?;
                 }

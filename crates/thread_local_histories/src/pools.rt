@@ -211,3 +211,15 @@ pub(crate) fn between(
     }
     slots(pool, record)
 }
+
+/// Ends a pool: its values are moved out.
+pub(crate) fn end(pool: Pool<u64>, record: &mut Record<'_>) -> Result<(), AllocError> {
+    let mut items = Vec::new(record.alloc);
+    let before = record.begin();
+    for value in pool.into_iter() {
+        items.push(Item::value(value))?;
+    }
+    let after = record.stamp();
+    let call = Call::walk("pool_into_iter", None, None, Answer::Nothing, items);
+    record.keep(before, after, call)
+}
