@@ -215,15 +215,8 @@ impl<'a, R: Wait> Room<'a, R> {
         }
         Ok(())
     }
-}
 
-/// What the threads of a round share.
-pub(crate) trait Play<'a> {
-    /// Makes moves at random until so many calls are recorded, and keeps their record.
-    fn play(&self, record: Record<'a>, count: usize, seed: u64) -> Result<(), AllocError>;
-}
-
-impl<'a, R: Wait> Play<'a> for Room<'a, R> {
+    /// Makes the moves, and keeps their record.
     fn play(&self, record: Record<'a>, count: usize, seed: u64) -> Result<(), AllocError> {
         let mut record = record;
         let moved = self.moves(&mut record, count, seed);
@@ -269,7 +262,7 @@ pub(crate) fn round<'a, R: Threads + Wait + Sync>(
         kept: Mutex::new(Vec::new(alloc)),
     };
     let refused = AtomicU64::new(0);
-    race(&room, rt, alloc, clock, gate, plan, &refused);
+    race(&room, alloc, clock, gate, plan, &refused);
     let Room {
         table: _,
         rt: _,
@@ -290,16 +283,15 @@ pub(crate) fn round<'a, R: Threads + Wait + Sync>(
 
 /// Starts the threads and waits for their end. Counts those that could not be started or had no
 /// memory.
-pub(crate) fn race<'a, P: Play<'a> + Sync, R: Threads + Wait + Sync>(
-    room: &P,
-    rt: &R,
+fn race<'a, R: Threads + Wait + Sync>(
+    room: &Room<'a, R>,
     alloc: Global,
     clock: &'a AtomicU64,
     gate: &'a Gate,
     plan: Plan,
     refused: &AtomicU64,
 ) {
-    thread::scope(thread::scope_env(), rt, |scope| {
+    thread::scope(thread::scope_env(), room.rt, |scope| {
         for number in 0..plan.threads {
             let first = plan.first.wrapping_add(number.wrapping_mul(NUMBERS));
             let seed = stirred(plan.seed.wrapping_mul(64).wrapping_add(number));

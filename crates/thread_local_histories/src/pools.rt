@@ -2,11 +2,12 @@
 
 use crate::gate::Gate;
 use crate::history::{Answer, Call, Item, Record};
-use crate::moves::{Plan, Play, race, stirred};
+use crate::moves::{NUMBERS, Plan, stirred};
 use std::alloc::{AllocError, Global};
 use std::sync::atomic::AtomicU64;
 use std::sync::atomic::Ordering::SeqCst;
 use std::sync::{Mutex, Wait};
+use std::thread;
 use std::thread::Threads;
 use thread_local::scratch::{Pool, Pooled};
 use thread_local::thread_id::LocalError;
@@ -113,9 +114,8 @@ impl<'a, R: Wait> Room<'a, R> {
         }
         Ok(())
     }
-}
 
-impl<'a, R: Wait> Play<'a> for Room<'a, R> {
+    /// Makes the moves, and keeps their record.
     fn play(&self, record: Record<'a>, count: usize, seed: u64) -> Result<(), AllocError> {
         let mut record = record;
         let moved = self.moves(&mut record, count, seed);
@@ -141,7 +141,7 @@ pub(crate) fn round<'a, R: Threads + Wait + Sync>(
         kept: Mutex::new(Vec::new(alloc)),
     };
     let refused = AtomicU64::new(0);
-    race(&room, rt, alloc, clock, gate, plan, &refused);
+    race(&room, alloc, clock, gate, plan, &refused);
     let Room {
         pool: _,
         rt: _,
@@ -153,6 +153,33 @@ pub(crate) fn round<'a, R: Threads + Wait + Sync>(
     } else {
         Ok(None)
     }
+}
+
+/// Starts the threads and waits for their end. Counts those that could not be started or had no
+/// memory.
+fn race<'a, R: Threads + Wait + Sync>(
+    room: &Room<'a, R>,
+    alloc: Global,
+    clock: &'a AtomicU64,
+    gate: &'a Gate,
+    plan: Plan,
+    refused: &AtomicU64,
+) {
+    thread::scope(thread::scope_env(), room.rt, |scope| {
+        for number in 0..plan.threads {
+            let first = plan.first.wrapping_add(number.wrapping_mul(NUMBERS));
+            let seed = stirred(plan.seed.wrapping_mul(64).wrapping_add(number));
+            let started = scope.spawn(move || {
+                let record = Record::racing(alloc, clock, gate, plan.calls, number, first);
+                if room.play(record, plan.calls, seed).is_err() {
+                    refused.fetch_add(1, SeqCst);
+                }
+            });
+            if started.is_err() {
+                refused.fetch_add(1, SeqCst);
+            }
+        }
+    });
 }
 
 /// Writes another value in the place of each.
