@@ -1,6 +1,8 @@
 mod Padding
 pub mod Reserved
+pub mod Counted
 pub mod Filled
+mod Grown
 pub mod Seated
 pub mod Told
 mod Lent

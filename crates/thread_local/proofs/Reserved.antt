@@ -6,7 +6,7 @@ use Rattle.thread_local_model.specs.Learnt.{Missing}
 use Rattle.thread_local_model.proofs.PlaceLaws.{id_at-place}
 use Rattle.thread_local_shared_buckets.specs.Known.{HasLooked}
 use Rattle.thread_local_shared_buckets.specs.Views.{ClaimView}
-use Rattle.thread_local_shared_buckets.specs.TableView.{TableView}
+use Rattle.thread_local.specs.Tables.{ThreadLocalView}
 use Rattle.thread_local_ids.specs.Rights.{taken_id}
 use Rattle.thread_local_ids.specs.declared.page.Tenure.{Tenure}
 use Rattle.thread_local.specs.Seats.{IsSeated}
@@ -16,7 +16,7 @@ first_below : (id n : ℕ) → id < n → id_at (bucket_of id) 0 < n
 first_below id n below = let same = id_at-place id in omega arith
 
 -- a held id and the claim that its table answers make a seat
-pub seated : {V : Type 0} (table : TableView) (claim : ClaimView V) (tenure : Tenure) (id : ℕ)
+pub seated : {V : Type 0} (table : ThreadLocalView) (claim : ClaimView V) (tenure : Tenure) (id : ℕ)
     → claim.table ≡ table.table → claim.sharing ≡ table.sharing → claim.id ≡ id → id < 2 ^ 63 - 1
     → HasLooked claim.learnt
     → (id_at (bucket_of id) 0 < table.reserved → claim.learnt ≢ Missing)

@@ -3,12 +3,12 @@ use Rattle.std.proofs.Common.{◌≡◌, ◌∙◌, ℕ, ap}
 use Rattle.thread_local_model.specs.Learnt.{Learnt}
 use Rattle.thread_local_model.specs.Answers.{view_of}
 use Rattle.thread_local_shared_buckets.specs.Views.{ClaimView}
-use Rattle.thread_local_shared_buckets.specs.TableView.{TableView}
+use Rattle.thread_local.specs.Tables.{ThreadLocalView}
 use Rattle.thread_local.specs.Seats.{LocalView, local_view, knowing}
 use Rattle.std.specs.Prelude.{List}
 use Rattle.thread_local_model.specs.IdMoves.{IdMove}
 
-module _ {V : Type 0} (of : TableView) (old new : ClaimView V) (before : List IdMove) (same : new.id ≡ old.id) where
+module _ {V : Type 0} (of : ThreadLocalView) (old new : ClaimView V) (before : List IdMove) (same : new.id ≡ old.id) where
   -- a claim of the same slot, which may have learnt something else
   pub with_learnt : (learnt : Learnt V) → new.learnt ≡ learnt → local_view of new before ≡ local_view of (record old { learnt = learnt }) before
   with_learnt learnt is =

@@ -1,7 +1,9 @@
 pub use Rattle.thread_local_model.specs.Buckets
 pub use Rattle.thread_local_model.specs.Held
+pub use Rattle.thread_local_model.specs.IdMoves
 pub use Rattle.thread_local_model.specs.Place
 pub use Rattle.thread_local_model.specs.Walk
+pub use Rattle.thread_local_ids.specs.TokenLists
 pub use Rattle.thread_local_ids.specs.Views
 mod Bytes
 pub mod Pooled
@@ -10,6 +12,7 @@ pub use Rattle.thread_local_model.specs.Learnt
 pub mod Errors
 pub mod Owners
 pub mod Seats
+pub mod Tables
 pub mod Text
 pub use Rattle.thread_local_buckets.specs.IterMut
 pub use Rattle.thread_local_buckets.specs.Drain

@@ -1,5 +1,6 @@
--- What a contract sees of a `Local` and of its seat: the name of its table, the sharing if that has a
--- name, its id, how many slots of the table are reserved, and what is known of the id's slot.
+-- What a contract sees of a `Local` and of its seat: the name of its table, the sharing if that has
+-- a name, its id, how many slots of the table are reserved, what is known of the id's slot, and
+-- what was done with the table's ids before.
 use Rattle.std.specs.Prelude.{◌≡◌, ◌≢◌, ℕ, ◌<◌, ◌-◌, ◌^◌, Bool, true, false, Option, Some, None, option_map, List, Result, Ok}
 use Rattle.std.specs.Prelude.{Err, refl}
 use base.Stored.{coded_bool}
@@ -7,16 +8,17 @@ use Rattle.std.specs.Coded.{Coded, coded_option, coded_ℕ, coded×, code_by}
 use Rattle.thread_local_model.specs.Answers.{View, GetOr, Answered, Refused, Failed, Says, answer, view_of}
 use Rattle.thread_local_model.specs.Learnt.{Missing}
 use Rattle.thread_local_ids.specs.Views.{TokenView}
-use Rattle.thread_local_model.specs.IdMoves.{IdMove, moves_coded}
+use Rattle.thread_local_model.specs.IdMoves.{IdMove, Take, Give, moves_coded, noted}
+use mathlib.Core.List.{IsPrefix}
 use Rattle.thread_local_ids.specs.declared.page.Tenure.{Tenure}
 use Rattle.thread_local_ids.specs.Rights.{taken_id}
 use Rattle.thread_local_shared_buckets.specs.Known.{HasLooked}
 use Rattle.thread_local_shared_buckets.specs.Views.{ClaimView}
-use Rattle.thread_local_shared_buckets.specs.TableView.{TableView}
+use Rattle.thread_local.specs.Tables.{ThreadLocalView}
 use Rattle.thread_local_shared_buckets.specs.Walks.{Owed}
 
--- the table, the sharing, the id, the number of reserved slots, and of the id's slot the value, if
--- there is one, and whether its bucket is known to stand
+-- the table, the sharing, the id, the number of reserved slots, of the id's slot the value, if
+-- there is one, and whether its bucket is known to stand, and the history before the id was taken
 pub record LocalView (V : Type 0) : Type 0 where
   pub table : ℕ
   pub sharing : Option ℕ
@@ -53,7 +55,7 @@ abbrev pub knowing : {V : Type 0} → LocalView V → View V → LocalView V
 knowing s view = record { table = s.table; sharing = s.sharing; id = s.id; reserved = s.reserved; value = view.value; known = view.known; before = s.before }
 
 -- the view of a claim of a table's slot
-abbrev pub local_view : {V : Type 0} → TableView → ClaimView V → List IdMove → LocalView V
+abbrev pub local_view : {V : Type 0} → ThreadLocalView → ClaimView V → List IdMove → LocalView V
 local_view of claim before =
     record {
       table = of.table;
@@ -83,7 +85,7 @@ pub record IsSameLocal {V : Type 0} (old new : LocalView V) : Type 0 where
 
 -- a seat of a table: its claim is of this table in this sharing, has looked for its bucket, and has
 -- found it where the id is reserved. What is kept of the take is of this table and of this id
-pub record IsSeated {V : Type 0} (of : TableView) (claim : ClaimView V) (tenure : Tenure) : Type 0 where
+pub record IsSeated {V : Type 0} (of : ThreadLocalView) (claim : ClaimView V) (tenure : Tenure) : Type 0 where
   pub table : claim.table ≡ of.table
   pub sharing : claim.sharing ≡ of.sharing
   pub in_range : claim.id < 2 ^ 63 - 1
@@ -106,8 +108,8 @@ pub record IsAnswered {V : Type 0} (E : Type 0) (makes : V → Type 0) (old : Lo
   pub answered : answer {E = E} (knows old) (GetOr (Ok value) false) ≡ Answered value
   pub made : old.value ≡ None → makes value
 
--- such a call's answer, and the view that the call leaves, in which the slot holds this value; it may
--- have held it before
+-- such a call's answer, and the view that the call leaves, in which the slot holds this value; it
+-- may have held it before
 pub record Fills {V : Type 0} (E : Type 0) (makes : V → Type 0) (old new : LocalView V) (value : V) : Type 0 where
   pub says : Says {V = V} {E = E} (knows old) (GetOr (Ok value) false) (Answered value) (knows new)
   pub made : old.value ≡ None → makes value
@@ -130,3 +132,10 @@ pub record Fails {V E : Type 0} (makes : E → Type 0) (old new : LocalView V) (
 pub record IsRefused {V : Type 0} (E : Type 0) (old new : LocalView V) : Type 0 where
   pub says : (create : Result V E) → Says {V = V} {E = E} (knows old) (GetOr create true) Refused (knows new)
   pub stays : new ≡ old
+
+-- A history ends with the return of a `Local`'s id, and begins with all that was done up to the
+-- take.
+pub record EndsWithReturn {V : Type 0} (local : LocalView V) (moves : List IdMove) : Type 0 where
+  pub before : List IdMove
+  pub given : moves ≡ noted before (Give local.id)
+  pub early : IsPrefix (noted local.before Take) before

@@ -25,11 +25,11 @@ pub struct CachedThreadLocal<T> {
 }
 
 impl<T> Model for CachedThreadLocal<T> {
-    ghost use Rattle.thread_local_shared_buckets.specs.TableView.{TableView, table_view_coded};
+    ghost use Rattle.thread_local.specs.Tables.{ThreadLocalView, thread_local_view_coded};
 
-    ghost Value = { TableView };
+    ghost Value = { ThreadLocalView };
 
-    ghost coded = { table_view_coded };
+    ghost coded = { thread_local_view_coded };
 
     ghost view = { λ cached. cached.table };
 }

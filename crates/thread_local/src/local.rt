@@ -3,18 +3,19 @@ ghost use Rattle.std.specs.Prelude.{◌≡◌, ◌≢◌, ◌-◌, ◌^◌, ◌<
 ghost use Rattle.std.specs.Prelude.{OnOk, OnErr, IfOk, IfErr, IsOk, IsSome, Some, option_map, alloc_error, Result};
 ghost use Rattle.thread_local_model.specs.Answers.{Get, GetOr, Found, Refused, Failed, answer};
 ghost use Rattle.thread_local_model.specs.Cursor.{fresh_cursor};
-ghost use Rattle.thread_local_model.specs.IdMoves.{Take, Give, held_after, noted};
+ghost use Rattle.thread_local_model.specs.IdMoves.{Take, held_after, noted};
 ghost use Rattle.thread_local_model.specs.Held.{is_held};
 ghost use mathlib.Core.List.{IsPrefix};
 ghost use mathlib.Core.Logic.{◌∨₁◌};
 ghost use Rattle.thread_local.specs.Errors.{IfCreate};
-ghost use Rattle.thread_local.specs.Seats.{knows, knowing, holding, own_of, token_of, IsAnswered, IsFilled, Fills, Fails, IsRefused};
+ghost use Rattle.thread_local.specs.Seats.{knows, knowing, holding, own_of, token_of, IsAnswered, IsFilled, Fills, Fails, IsRefused, EndsWithReturn};
+ghost use Rattle.thread_local_shared_buckets.specs.Walks.{fresh_with};
 
 pub use crate::seat::{Seat, SetError, TryError};
 use std::fmt;
 use std::marker::Model;
 use std::sync::Wait;
-use thread_local_ids::{Page, Token};
+use thread_local_ids::{Page, Token, Told};
 use thread_local_shared_buckets::{Iter, Tokens};
 
 // `get_or` and `get_or_default` stand in local/lends.rt.
@@ -26,14 +27,16 @@ mod lends;
 /// Dropping it keeps the value and gives the id back, under the table's lock: that may wait, and
 /// takes no memory. A forgotten one keeps its id until the table is cleared.
 ///
-/// Each call but `seat`, `seat_mut` and `tokens` does what the seat's of that name does. None takes
-/// a lock. Only `set`, `publish` and the `get_or` family (`get_or`, `get_or_default`, `get_or_try`,
-/// `get_or_try_lasting`, `try_fill`) take memory, for a bucket. The closure or the `T::made_with`
-/// that these run may wait, and so may the drop of a closure that they don't run. References that
-/// calls answer live no longer than the borrow of the `Local`, but that of `get_or_try_lasting`.
+/// Each call but `seat`, `seat_mut`, `in_line`, `give_back` and `tokens` does what the seat's of
+/// that name does. None but `give_back` takes a lock. Only `set`, `publish` and the `get_or` family
+/// (`get_or`, `get_or_default`, `get_or_try`, `get_or_try_lasting`, `try_fill`) take memory, for a
+/// bucket. The closure or the `T::made_with` that these run may wait, and so may the drop of a
+/// closure that they don't run. References that calls answer live no longer than the borrow of the
+/// `Local`, but that of `get_or_try_lasting`.
 ///
-/// Contracts see the table's name and its sharing, the id, the number of reserved slots, and what
-/// is known of the id's slot: its value, if there is one, and whether its bucket is known to stand.
+/// Contracts see the table's name and its sharing, the id, the number of reserved slots, what was
+/// done with the table's ids before the take, and what is known of the id's slot: its value, if
+/// there is one, and whether its bucket is known to stand.
 ///
 /// Rust's crate finds the running thread by itself, and has no such type. Its table has `get` and
 /// the `get_or` family but `try_fill`; the other calls are the port's own.
@@ -125,7 +128,7 @@ impl<'a, T, R: Wait> Local<'a, T, R> {
 
     /// The page of the table's ids that ends with the take of this id. At run time it does nothing.
     pub fn page(&self) -> Page
-        ensures { (result.table ≡ self.now.table) × (result.before ≡ self.now.before) × (result.last ≡ Take) }
+        ensures { (result.table ≡ self.now.table) × (result.moves ≡ noted self.now.before Take) }
     {
         self.seat.page()
     }
@@ -143,17 +146,18 @@ impl<'a, T, R: Wait> Local<'a, T, R> {
     /// Shows that the id is held after all moves of a later page. At run time it does nothing.
     pub fn held_at(&mut self, page: Page)
         requires table { page.table ≡ self.old.table }
-        requires later { IsPrefix (noted self.old.before Take) (noted page.before page.last) }
-        ensures held { is_held (held_after (noted page.before page.last)) self.old.id ≡ true }
+        requires later { IsPrefix (noted self.old.before Take) page.moves }
+        ensures held { is_held (held_after page.moves) self.old.id ≡ true }
         ensures same { self.new ≡ self.old }
     {
         self.seat.held_at(page);
     }
 
-    /// What the drop does, which answers the page that ends with the return of this id.
+    /// What the drop does, which answers the page that ends with the return of this id: a later
+    /// `local_after` with it gets an id at most this one, unless another `Local` has this one then.
     pub fn give_back(self) -> Page
-        ensures page { (result.table ≡ self.entry.table) × (result.last ≡ Give self.entry.id) }
-        ensures early { IsPrefix (noted self.entry.before Take) result.before }
+        ensures table { result.table ≡ self.entry.table }
+        ensures moves { EndsWithReturn self.entry result.moves }
     {
         let Self { rt, seat } = self;
         seat.give_back(rt)
@@ -249,9 +253,9 @@ impl<'a, T, R: Wait> Local<'a, T, R> {
 
 impl<'a, T: Sync, R: Wait> Local<'a, T, R> {
     /// `get_or_try`, whose reference lasts as long as the table is lent and isn't bound to the
-    /// borrow of the `Local`, as in Rust's crate. So it also says what it leaves: after `Ok` the view
-    /// has the value, and after `Err` it still has none. It needs `T: Sync`, since another thread
-    /// may get the id while the reference lives.
+    /// borrow of the `Local`, as in Rust's crate. So it also says what it leaves: after `Ok` the
+    /// view has the value, and after `Err` it still has none. It needs `T: Sync`, since another
+    /// thread may get the id while the reference lives.
     pub fn get_or_try_lasting<F: FnOnce() -> Result<T, E> + Drop, E>(
         &mut self,
         create: F,
@@ -280,6 +284,13 @@ impl<'a, T: Sync, R: Wait> Local<'a, T, R> {
         ensures sharing { result.sharing ≡ self.now.sharing }
     {
         self.seat.iter()
+    }
+
+    /// `iter`, which gives what the tokens of a list say, too, as `ThreadLocal::iter_told` does.
+    pub fn iter_told(&self, told: Told<T>) -> Iter<'_, T>
+        ensures { result ≡ fresh_with self.now.sharing (own_of self.now) true told }
+    {
+        self.seat.iter_told(told)
     }
 
     /// `iter`, with a token of each value, as `ThreadLocal::tokens` gives them.

@@ -8,10 +8,11 @@ ghost use Rattle.thread_local_model.specs.Answers.{Get, GetOr, Found, Refused, F
 ghost use Rattle.thread_local_model.specs.Cursor.{fresh_cursor};
 ghost use Rattle.thread_local_model.specs.Held.{least, is_held};
 ghost use Rattle.thread_local_ids.specs.Rights.{taken_id};
-ghost use Rattle.thread_local_model.specs.IdMoves.{Take, Give, held_after, noted};
+ghost use Rattle.thread_local_model.specs.IdMoves.{Take, held_after, noted};
 ghost use mathlib.Core.List.{IsPrefix};
 ghost use Rattle.thread_local.specs.Errors.{IfCreate};
-ghost use Rattle.thread_local.specs.Seats.{knows, knowing, own_of, token_of, vacant, holding, IsAnswered, IsFilled, Fills, Fails, IsRefused};
+ghost use Rattle.thread_local.specs.Seats.{knows, knowing, own_of, token_of, vacant, holding, IsAnswered, IsFilled, Fills, Fails, IsRefused, EndsWithReturn};
+ghost use Rattle.thread_local_shared_buckets.specs.Walks.{fresh_with};
 
 use crate::table::ThreadLocal;
 use std::alloc::{AllocError, Global};
@@ -20,7 +21,7 @@ use std::fmt;
 use std::marker::Model;
 use std::sync::Wait;
 use thread_local_bucket_pointers::Block;
-use thread_local_ids::{HeldId, Page, Right, Tenure, Token};
+use thread_local_ids::{HeldId, Page, Reached, Right, Tenure, Token, Told};
 use thread_local_shared_buckets::{Claim, Iter};
 use thread_local_thread_id::Thread;
 
@@ -79,9 +80,11 @@ fn make_bucket<T>(
     alloc: &Global,
     claim: &mut Claim<'_, T>,
     thread: Thread,
+    reached: Reached,
 ) -> Result<(), AllocError>
     requires missing { claim.old.learnt ≡ Missing }
     requires place { IsPlaceOf thread.bucket thread.index claim.old.id }
+    requires reached { (reached.table ≡ claim.old.table) × (claim.old.id < reached.ids) }
     ensures same_slot { (claim.new.table ≡ claim.old.table)
         × (claim.new.sharing ≡ claim.old.sharing)
         × (claim.new.id ≡ claim.old.id) }
@@ -91,7 +94,7 @@ fn make_bucket<T>(
     claim.look_again(thread);
     if claim.is_missing() {
         let block = Block::new(alloc, thread.bucket_size())?;
-        claim.install(thread, block, alloc);
+        claim.install(thread, block, reached, alloc);
     }
     Ok(())
 }
@@ -179,7 +182,8 @@ impl<'a, T> Seat<'a, T> {
     {
         let table = self.table;
         if self.claim.is_missing() {
-            return make_bucket(&table.alloc, &mut self.claim, thread);
+            let reached = self.tenure.reached();
+            return make_bucket(&table.alloc, &mut self.claim, thread, reached);
         }
         Ok(())
     }
@@ -365,7 +369,7 @@ impl<'a, T> Seat<'a, T> {
 
     /// The page of the table's ids that ends with the take of this id.
     pub fn page(&self) -> Page
-        ensures { (result.table ≡ self.now.table) × (result.before ≡ self.now.before) × (result.last ≡ Take) }
+        ensures { (result.table ≡ self.now.table) × (result.moves ≡ noted self.now.before Take) }
     {
         self.tenure.page()
     }
@@ -373,8 +377,8 @@ impl<'a, T> Seat<'a, T> {
     /// Shows that the id is held after all moves of a later page. At run time it does nothing.
     pub fn held_at(&mut self, page: Page)
         requires table { page.table ≡ self.old.table }
-        requires later { IsPrefix (noted self.old.before Take) (noted page.before page.last) }
-        ensures held { is_held (held_after (noted page.before page.last)) self.old.id ≡ true }
+        requires later { IsPrefix (noted self.old.before Take) page.moves }
+        ensures held { is_held (held_after page.moves) self.old.id ≡ true }
         ensures same { self.new ≡ self.old }
     {
         self.tenure.held_at(page);
@@ -383,10 +387,14 @@ impl<'a, T> Seat<'a, T> {
     /// Gives the id back to the table that it is of, and answers the page that ends with it. May
     /// wait, and takes no memory.
     pub(crate) fn give_back<R: Wait>(self, rt: &R) -> Page
-        ensures page { (result.table ≡ self.entry.table) × (result.last ≡ Give self.entry.id) }
-        ensures early { IsPrefix (noted self.entry.before Take) result.before }
+        ensures table { result.table ≡ self.entry.table }
+        ensures moves { EndsWithReturn self.entry result.moves }
     {
-        let Self { table, claim, tenure } = self;
+        let Self {
+            table,
+            claim,
+            tenure,
+        } = self;
         let (held, right) = claim.give_up();
         table.ids.lock(rt).give(held, right, tenure)
     }
@@ -435,10 +443,17 @@ impl<'a, T: Sync> Seat<'a, T> {
         ensures shown { result.shown ≡ true }
         ensures sharing { result.sharing ≡ self.now.sharing }
     {
+        self.iter_told(Told::new())
+    }
+
+    /// `iter`, which gives what the tokens of a list say, too, as `ThreadLocal::iter_told` does.
+    pub fn iter_told(&self, told: Told<T>) -> Iter<'_, T>
+        ensures { result ≡ fresh_with self.now.sharing (own_of self.now) true told }
+    {
         let table = self.table;
         match self.claim.lasting() {
-            Some((token, value)) => Iter::with_own(&table.buckets, &token, value),
-            None => Iter::new(&table.buckets),
+            Some((token, value)) => Iter::with_own_and_told(&table.buckets, &token, value, told),
+            None => Iter::with_told(&table.buckets, told),
         }
     }
 }

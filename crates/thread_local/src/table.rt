@@ -1,14 +1,16 @@
 //! The object that keeps a value for each thread: the buckets that threads share, and the ids,
 //! under a lock. What the type of its values has to show, and tokens that say what its slots were
 //! published with, have their names here too.
-ghost use Rattle.std.specs.Prelude.{◌≡◌, ◌≢◌, ◌≤◌, ◌<◌, ◌-◌, ◌^◌, ℕ, Option, true, false, None, Some, Err, IfOk, IsSome, map};
+ghost use Rattle.std.specs.Prelude.{◌≡◌, ◌≢◌, ◌≤◌, ◌<◌, ◌-◌, ◌*◌, ◌^◌, ℕ, max, length};
+ghost use Rattle.std.specs.Prelude.{Option, true, false, None, Some, Err, alloc_error, IfOk, IsSome, map, []};
 ghost use Rattle.std.specs.List.Sorted.{IsStrictlyIncreasing};
 ghost use Rattle.thread_local_model.specs.Capacity.{reserved_slots};
 ghost use Rattle.thread_local_buckets.specs.IterMut.{iter_mut_given, entries_mut_given, entries_mut_rest};
 ghost use Rattle.thread_local_judged.specs.Judged.{Judged};
-ghost use Rattle.thread_local_model.specs.Held.{least};
-ghost use Rattle.thread_local_model.specs.IdMoves.{Take, Give, held_after, noted};
+ghost use Rattle.thread_local_model.specs.Held.{least, held_count, HoldsAllBelow};
+ghost use Rattle.thread_local_model.specs.IdMoves.{Take, held_after, noted};
 ghost use mathlib.Core.List.{IsPrefix};
+ghost use Rattle.thread_local_shared_buckets.specs.Grown.{only_reserved};
 ghost use Rattle.thread_local_shared_buckets.specs.Walks.{fresh, fresh_with};
 
 use crate::local::Local;
@@ -20,8 +22,8 @@ use std::mem::replace;
 use std::sync::Wait;
 pub use thread_local_buckets::CapacityError;
 use thread_local_buckets::{Buckets, EntriesMut, IntoEntries, IntoIter, IterMut};
-use thread_local_ids::{Ids, Lock, Page, Right};
-pub use thread_local_ids::{Book, Told, Token};
+use thread_local_ids::{Ids, Lock, Right, Room};
+pub use thread_local_ids::{Book, Page, Token, Told};
 pub use thread_local_judged::{Judge, judge_sync, judge_value};
 use thread_local_model::walk::walk_lists_the_map;
 use thread_local_shared_buckets::{Entries, Iter, Shared, Tokens};
@@ -38,10 +40,10 @@ mod lends;
 /// `Sync`, every thread may, while others publish more. Threads share a table through a `&`, and it
 /// can be sent to another thread. One can be made of every `T: Send` that is judged, as `new` says.
 ///
-/// Only `local` and the drop of a `Local` take the table's lock, so no other call here waits; only
-/// `local` and `with_capacity` take memory. But `clear` drops values, as the drop of a table, of a
-/// walk by value or of a `Drain` does, and a value's drop may wait and may take memory: a value may
-/// hold a `Local` of another table.
+/// Only `local`, `local_after`, `slots_and_peak` and the drop of a `Local` take the table's lock,
+/// so no other call here waits; only `local`, `local_after` and `with_capacity` take memory. But
+/// `clear` drops values, as the drop of a table, of a walk by value or of a `Drain` does, and a
+/// value's drop may wait and may take memory: a value may hold a `Local` of another table.
 ///
 /// A bucket of 2^58 bytes or more, and values aligned above 16, are refused as if out of memory,
 /// here and by every `Local`. No type was found that is aligned so: the language refuses
@@ -50,33 +52,44 @@ mod lends;
 /// Of its calls Rust's crate has `new`, `with_capacity`, `clear`, `iter`, `iter_mut` and the loops
 /// over a table; there the table also has the calls of a `Local`. All others are the port's own.
 ///
-/// Contracts see the table's name, the number of reserved slots, and the sharing, if that has a
-/// name. A sharing begins when the table is made, cleared or renewed, and lasts until an owner's
-/// call lends or takes the values. While it lasts, tokens (`Token`) say which values slots hold.
+/// Contracts see the table's name, the number of reserved slots, whether each bucket that isn't
+/// reserved was made for an id of the table, for how many ids there was room when the table was
+/// made or cleared, and the sharing, if that has a name. A sharing begins when the table is made,
+/// cleared or renewed, and lasts until an owner's call lends or takes the values. While it lasts,
+/// tokens (`Token`) say which values slots hold.
+///
+/// What was done with the table's ids, in the order of its lock, is their history. A `Page` is a
+/// beginning of it, which has no bytes. Each `Local` has the page that ends with its take, and
+/// returns have theirs, so callers tell which id was taken or given back before which.
 #[derive(Drop)]
 pub struct ThreadLocal<T> {
     pub(crate) buckets: Shared<T>,
     pub(crate) ids: Lock<Ids>,
     table_right: Right,
+    first: Page,
+    room: Room,
     pub(crate) alloc: Global,
 }
 
 impl<T> Model for ThreadLocal<T> {
-    ghost use Rattle.std.specs.Prelude.{◌≡◌, ◌-◌, ◌^◌};
-    ghost use Rattle.thread_local_shared_buckets.specs.TableView.{TableView, table_view_coded};
+    ghost use Rattle.std.specs.Prelude.{◌≡◌, ◌-◌, ◌^◌, []};
+    ghost use Rattle.thread_local.specs.Tables.{ThreadLocalView, thread_local_view_coded, thread_local_view};
 
-    ghost Value = { TableView };
+    ghost Value = { ThreadLocalView };
 
-    ghost coded = { table_view_coded };
+    ghost coded = { thread_local_view_coded };
 
-    ghost view = { λ table. table.buckets };
+    ghost view = { λ table. thread_local_view table.buckets table.room.ids };
 
-    // The ids under the lock are those of the table whose buckets these are, and so is the table's
-    // right.
+    // The ids under the lock are those of the table whose buckets these are, and so are the table's
+    // right, its room, and the first page, which tells of no move.
     ghost invariant = { λ table.
         (table.ids.tag ≡ table.buckets.table)
         × (table.table_right.table ≡ table.buckets.table)
-        × (table.table_right.id ≡ 2 ^ 63 - 1) };
+        × (table.table_right.id ≡ 2 ^ 63 - 1)
+        × (table.first.table ≡ table.buckets.table)
+        × (table.first.moves ≡ [])
+        × (table.room.table ≡ table.buckets.table) };
 }
 
 impl<T> ThreadLocal<T> {
@@ -89,6 +102,8 @@ impl<T> ThreadLocal<T> {
         requires judged { Judged T.row }
         ensures sharing { IsSome result.sharing }
         ensures reserved { result.reserved ≡ 0 }
+        ensures room { result.room ≡ 0 }
+        ensures grown { result.grown_by_ids ≡ true }
     {
         ThreadLocal::empty(alloc)
     }
@@ -99,6 +114,8 @@ impl<T> ThreadLocal<T> {
         requires judged { Judged T.row }
         ensures sharing { IsSome result.sharing }
         ensures reserved { result.reserved ≡ 0 }
+        ensures room { result.room ≡ 0 }
+        ensures grown { result.grown_by_ids ≡ true }
     {
         let mut ids = Ids::new(alloc);
         let right = ids.table_right();
@@ -110,14 +127,21 @@ impl<T> ThreadLocal<T> {
         ghost past: { Option ℕ }
         requires judged { Judged T.row }
         requires right { (right.table ≡ ids.table) × (right.id ≡ 2 ^ 63 - 1) }
+        requires moves { ids.moves ≡ [] }
         ensures table { result.table ≡ ids.table }
+        ensures room { result.room ≡ ids.room }
         ensures sharing { IsSome result.sharing × (result.sharing ≢ past) }
         ensures reserved { result.reserved ≡ buckets.reserved }
+        ensures grown { result.grown_by_ids ≡ only_reserved buckets }
     {
+        let first = ids.page();
+        let room = ids.room();
         ThreadLocal {
             buckets: Shared::new_apart(buckets, &right),
             ids: Lock::new(ids),
             table_right: right,
+            first,
+            room,
             alloc,
         }
     }
@@ -135,6 +159,8 @@ impl<T> ThreadLocal<T> {
         requires judged { Judged T.row }
         ensures sharing { IfOk result (λ table. IsSome table.sharing) }
         ensures reserved { IfOk result (λ table. table.reserved ≡ reserved_slots capacity) }
+        ensures room { IfOk result (λ table. capacity ≤ table.room) }
+        ensures grown { IfOk result (λ table. table.grown_by_ids ≡ true) }
         ensures too_large { 2 ^ 63 ≤ capacity → result ≡ Err CapacityError.TooLarge }
         ensures not_too_large { result ≡ Err CapacityError.TooLarge → 2 ^ 63 ≤ capacity }
     {
@@ -147,9 +173,10 @@ impl<T> ThreadLocal<T> {
         Ok(ThreadLocal::of(alloc, buckets, ids, right))
     }
 
-    /// A `Local` with the least id that isn't held; no clause says which id that is. It takes the
-    /// table's lock, so it may wait, and looks once whether the id's slot holds a value, so that
-    /// `get` needs no look.
+    /// A `Local` with the least id that isn't held after what was done with the ids before: the
+    /// `Local` knows that, and `local_after` also says how it extends what the caller knew. It
+    /// takes the table's lock, so it may wait, and looks once whether the id's slot holds a value,
+    /// so that `get` needs no look.
     ///
     /// It asks for memory only where as many ids are held as ever were at once and there is no room
     /// for one more, and not for the first 64: `Memory` means out of memory. `Exhausted` means that
@@ -167,22 +194,43 @@ impl<T> ThreadLocal<T> {
         Ok(Local::new(rt, Seat::new(self, held, right, tenure)))
     }
 
-    /// `local`, which shows that the table's ids were taken and given back since an earlier page.
+    /// The page of the table's ids from before any was taken, for a first `local_after`. At run
+    /// time it does nothing.
+    #[inline]
+    pub fn page(&self) -> Page
+        ensures { (result.table ≡ self.now.table) × (result.moves ≡ []) }
+    {
+        self.first.again()
+    }
+
+    /// `local`, which shows that what was done with the table's ids before extends a page of the
+    /// table, and leaves the page of all that was done since, where it is refused too. So it says
+    /// which ids were held when it was refused: all that there was room for from the beginning. A
+    /// table with a capacity refuses no `Local` memory while fewer ids are held.
     #[inline(always)]
     pub fn local_after<'a, R: Wait>(
         &'a self,
         rt: &'a R,
-        earlier: &Page,
+        page: &mut Page,
     ) -> Result<Local<'a, T, R>, LocalError>
-        requires { earlier.now.table ≡ self.now.table }
+        requires { page.old.table ≡ self.now.table }
         ensures table { IfOk result (λ local.
             (local.table ≡ self.now.table)
             × (local.sharing ≡ self.now.sharing)
             × (local.reserved ≡ self.now.reserved)) }
         ensures least { IfOk result (λ local. local.id ≡ least (held_after local.before)) }
-        ensures early { IfOk result (λ local. IsPrefix (noted earlier.now.before earlier.now.last) local.before) }
+        ensures early { IsPrefix page.old.moves page.new.moves }
+        ensures since { IfOk result (λ local. IsPrefix page.old.moves local.before) }
+        ensures page { page.new.table ≡ page.old.table }
+        ensures moves { IfOk result (λ local. page.new.moves ≡ noted local.before Take) }
+        ensures memory { result ≡ Err (LocalError.Memory alloc_error)
+            → HoldsAllBelow self.now.room (held_after page.new.moves) }
+        ensures granted { held_count (held_after page.new.moves) < self.now.room
+            → result ≢ Err (LocalError.Memory alloc_error) }
+        ensures exhausted { result ≡ Err LocalError.Exhausted
+            → HoldsAllBelow (2 ^ 63 - 1) (held_after page.new.moves) }
     {
-        let (held, right, tenure) = self.ids.lock(rt).take_after(earlier)?;
+        let (held, right, tenure) = self.ids.lock(rt).take_after(page, &self.room)?;
         Ok(Local::new(rt, Seat::new(self, held, right, tenure)))
     }
 
@@ -192,6 +240,22 @@ impl<T> ThreadLocal<T> {
         ensures same { self.new ≡ self.old }
     {
         self.buckets.slots()
+    }
+
+    /// How many slots the table's buckets have together, the most ids that were held at once since
+    /// the table was made or cleared, and the page of all that was done with the ids by then, which
+    /// has no bytes and says that this is their peak. Where no owner's call added a bucket since
+    /// then, there are fewer than two slots for each of these ids, or no more than the reserved ones. It
+    /// takes the table's lock, so it may wait. Others may use the table meanwhile.
+    pub fn slots_and_peak<R: Wait>(&self, rt: &R) -> (usize, usize, Page)
+        ensures reserved { self.now.reserved ≤ result.0 }
+        ensures slots { self.now.grown_by_ids ≡ true → result.0 ≤ max self.now.reserved (2 * result.1 - 1) }
+        ensures peak { (result.2.table ≡ self.now.table) × (result.1 ≡ length (held_after result.2.moves)) }
+    {
+        let (slots, reached) = self.buckets.slots_reached();
+        let mut ids = self.ids.lock(rt);
+        ids.has_reached(reached);
+        (slots, ids.peak(), ids.page())
     }
 
     /// The values by ascending id, each lent as `&mut`. It is the walk `iter_mut` of the buckets
@@ -243,6 +307,8 @@ impl<T> ThreadLocal<T> {
             buckets,
             ids: _,
             table_right: _,
+            first: _,
+            room: _,
             alloc: _,
         } = self;
         buckets.into_buckets_and_book()
@@ -254,20 +320,24 @@ impl<T> ThreadLocal<T> {
         ensures table { self.new.table ≡ self.old.table }
         ensures sharing { IsSome self.new.sharing × (self.new.sharing ≢ self.old.sharing) }
         ensures reserved { self.new.reserved ≡ self.old.reserved }
+        ensures room { self.new.room ≡ self.old.room }
+        ensures grown { self.new.grown_by_ids ≡ self.old.grown_by_ids }
     {
         self.buckets.judged();
         self.buckets.renew(&self.table_right);
     }
 
     /// Drops every value, frees every bucket that isn't reserved, and takes every id back, those of
-    /// forgotten `Local`s too. The reserved buckets and the room for ids stay; in Rust's crate the
-    /// reserved buckets go too. For contracts the table is another one from then on.
+    /// forgotten `Local`s too. The reserved buckets and the room for ids stay, though no clause
+    /// says for how many ids there is room then; in Rust's crate the reserved buckets go too. For
+    /// contracts the table is another one from then on.
     pub fn clear(&mut self)
     where
         T: Drop,
         ensures table { self.new.table ≢ self.old.table }
         ensures sharing { IsSome self.new.sharing × (self.new.sharing ≢ self.old.sharing) }
         ensures reserved { self.new.reserved ≡ self.old.reserved }
+        ensures grown { self.new.grown_by_ids ≡ true }
     {
         self.cleared();
     }
@@ -280,6 +350,7 @@ impl<T> ThreadLocal<T> {
         ensures table { self.new.table ≢ self.old.table }
         ensures sharing { IsSome self.new.sharing × (self.new.sharing ≢ past) }
         ensures reserved { self.new.reserved ≡ self.old.reserved }
+        ensures grown { self.new.grown_by_ids ≡ true }
     {
         self.buckets.judged();
         let alloc = self.alloc;
@@ -287,6 +358,8 @@ impl<T> ThreadLocal<T> {
             buckets,
             ids,
             table_right: mut old,
+            first: _,
+            room: _,
             alloc: _,
         } = replace(self, ThreadLocal::empty(alloc));
         let mut buckets = buckets.into_buckets();
@@ -325,11 +398,13 @@ impl<T: Sync> ThreadLocal<T> {
         self.iter().with_tokens()
     }
 
-    /// `tokens`, which gives the value of each token of a list for sure.
-    pub fn tokens_with(&self, told: Told<T>) -> Tokens<'_, T>
+    /// `iter`, which gives what the tokens of a list say: a walk that runs to its end gives the
+    /// value of each that is of the table's sharing, at its id. A token of another sharing promises
+    /// nothing. `with_ids` and `with_tokens` make `entries` and `tokens` of it.
+    pub fn iter_told(&self, told: Told<T>) -> Iter<'_, T>
         ensures { result ≡ fresh_with self.now.sharing None true told }
     {
-        Iter::over(&self.buckets, told).with_tokens()
+        Iter::with_told(&self.buckets, told)
     }
 
     /// `iter`, which gives what a token says: a walk that runs to its end gives this value, at its

@@ -35,8 +35,8 @@ impl Shared for Lock<Ids> {
     fn take_and_give<R: Wait>(&self, rt: &R, pairs: u64) {
         for _ in 0..pairs {
             let taken = self.lock(rt).take();
-            if let Ok((held, right)) = taken {
-                self.lock(rt).give(held, right);
+            if let Ok((held, right, tenure)) = taken {
+                self.lock(rt).give(held, right, tenure);
             }
         }
     }

@@ -5,8 +5,14 @@
 #[cfg(test)]
 mod callers;
 #[cfg(test)]
+mod id_callers;
+#[cfg(test)]
 mod judged;
 #[cfg(test)]
+mod slot_callers;
+#[cfg(test)]
 mod tokens;
+#[cfg(test)]
+mod told_walks;
 #[cfg(test)]
 mod walk_callers;

@@ -1,8 +1,10 @@
 mod Calls
+pub mod RoomElements
 mod Fields
 mod Guards
 mod Handed
 mod Lent
+pub mod Logs
 mod Ordered
 pub mod ReturnLaws
 mod Steps
@@ -12,6 +14,7 @@ mod Facts
 pub mod TokenListLaws
 pub mod Made
 pub mod MoveElements
+pub mod ReachedElements
 pub mod Markers
 pub mod RightElements
 pub mod Rows

@@ -1,71 +1,29 @@
 -- The moves of a table under its name: how they are appended to, and what pages show of them.
 -- Assumes `Logic`.
-use Rattle.std.proofs.Common.{◌≡◌, ℕ, ◌+◌, ◌≤◌, ◌==◌, Bool, true, false, List, [], ◌∷◌, refl, sym, ap, ◌∙◌, subst, arith}
-use Rattle.std.proofs.lemmas.Bool.{eq-eqb}
+use Rattle.std.proofs.Common.{◌≡◌, ℕ, ◌+◌, ◌≤◌, true, List, [], ◌∷◌, refl, sym, ap, ◌∙◌, subst, arith}
 use mathlib.Core.Logic.{◌∨₁◌}
 use mathlib.Core.List.{IsPrefix}
-use mathlib.Core.Option.{Option, none, some}
-use mathlib.Mathlib.Data.Part.{Part, ◌∈◌}
-use seplogic.Ra.Pcs.{OpDef, FpUpd₁}
+use mathlib.Core.Option.{none, some}
 use seplogic.Ra.Ura.{Ura}
-use seplogic.Ra.Constructions.Opt
-use seplogic.Ra.IProd.{mem-op_iff}
 use base.Fraction.{full_share}
-use base.FractionLaws.{not-OpDef-full_share}
-use base.Share
-use base.Growing.{Order, Sum, prefixes, prefixes_in_line}
-use base.Logic.{SProp, ent, sep, ex, guard, upd, guard_i, upd_i}
-use base.Graph.{sum_in}
-use base.Growing.{grows}
-use base.Fml.{GName, Share, Fml}
+use base.Growing.{prefixes_in_line}
+use base.Logic.{SProp, ent, sep, ex, guard, upd, upd_i}
+use Rattle.thread_local_ids.proofs.Logs.{O, shows, part_off, part_twice, grown}
+use base.Fml.{GName, Fml}
 use base.Shift.{Keyless}
 use types.Logic.{Logic, sem}
 use types.Keyed.{keyed}
-use types.Owned.{own_new, own_sum, own_step}
-use types.Kit.{‵, raw, given, ◌⊛◌, ◌$◌, ◌∵◌, !, qed, move, drop, split, fsplit, fjoin, fpick, fpack, pick, learn, check, frame, rewrite, suffices, settle, use0, use1, use2, done}
+use types.Owned.{own_new}
+use types.Kit.{‵, raw, given, ◌⊛◌, ◌$◌, ◌∵◌, !, qed, move, drop, split, fsplit, fjoin, fpick, fpack, pick}
+use types.Kit.{learn, check, frame, rewrite, suffices, settle, use0, use1, use2, done}
 use types.Kit as kit
 use Rattle.thread_local_model.specs.Held.{is_held}
-use Rattle.thread_local_model.specs.IdMoves.{IdMove, Take, Give, move_coded, held_after, noted}
+use Rattle.thread_local_model.specs.IdMoves.{IdMove, Take, Give, held_after, noted}
 use Rattle.thread_local_ids.specs.Returns.{gives, counting, counts, counts_own, counts_page, tenure_owns}
 use Rattle.thread_local_ids.proofs.ReturnLaws.{gives_apart, taken, page_off, page_again, not_given}
 use Rattle.thread_local_ids.proofs.ReturnLaws.{given as given_count}
-use Rattle.thread_local_ids.specs.Rights.{telling, Element, at_if, moves_key, moves_own, right_owns, kept, history_as, page_as, held_as, history_owns, page_owns, held_owns, taken_id, tenure_of}
-
-abbrev Row : Type 0
-Row = ℕ → Option Element
-
-abbrev cell : Option Element → Option Element → Part {0, 0} (Option Element)
-cell = Opt.op telling.op
-
-at_each_key : (f g h : Row) → ((j : ℕ) → h j ∈ cell (f j) (g j)) → h ∈ (keyed telling).op f g
-at_each_key f g h = (mem-op_iff {A = λ (_ : ℕ). Option Element} (λ _. cell) {f = f} {g = g} {h = h}).1
-
-sum_at : (t : Bool) (a b c : Element) → c ∈ telling.op a b → at_if t c ∈ cell (at_if t a) (at_if t b)
-sum_at true a b c m = (Opt.some-mem-op-some_iff telling.op {a = a} {b = b} {c = c}).1 m
-sum_at false a b c m = Opt.mem-none-op telling.op none
-
-fact_at : (t : Bool) (a b : Element) → t ≡ true → OpDef cell (at_if t a) (at_if t b) → OpDef telling.op a b
-fact_at true a b is d = d
-fact_at false a b is d = cc
-
-step_at : (t : Bool) (a b : Element) (o : Option Element) → FpUpd₁ telling.op a b → OpDef cell (at_if t a) o → OpDef cell (at_if t b) o
-step_at true a b none h d = tt
-step_at true a b (some c) h d = h c d
-step_at false a b o h d = d
-
-abbrev O : Order (List IdMove)
-O = prefixes move_coded
-
-under : (q : Share) (a b : List IdMove) → O.le b a → Sum O (some q, a) (none, b) (some q, a)
-under q a b h = (Opt.mem-op-none Share.op (some q), ((O.same a, h, λ e x _. x), ((λ _. O.same a), λ x. absurd x)))
-
-lower : (a b : List IdMove) → O.le b a → Sum O (none, b) (none, a) (none, a)
-lower a b h = (Opt.mem-none-op Share.op none, ((h, O.same a, λ e _ x. x), ((λ x. absurd x), λ x. absurd x)))
-
-raised : (a b : List IdMove) → O.le a b → (o : Option Share) (c : List IdMove) → OpDef telling.op (some full_share, a) (o, c)
-    → OpDef telling.op (some full_share, b) (o, c)
-raised a b h none c d = ((some full_share, b), under full_share b c (O.trans c a b (O.trans c d.0.1 a d.1.1.0.1 (d.1.1.1.0 tt)) h))
-raised a b h (some q) c d = absurd (not-OpDef-full_share q d.1.0.0)
+use Rattle.thread_local_ids.specs.Rights.{Element, moves_key, moves_own, right_owns, kept, history_as, page_as, held_as}
+use Rattle.thread_local_ids.specs.Rights.{history_owns, page_owns, held_owns, taken_id, tenure_of}
 
 first : List IdMove → ℕ
 first [] = 0
@@ -115,21 +73,6 @@ module _ {M : Type 1} {𝓤 : Ura M} (𝓛 : Logic 𝓤) where
 
   infix 26 ◌⊢◌
   infixr 35 ◌∗◌
-  abbrev row : Element → Row
-  row a j = at_if (moves_key == j) a
-
-  cut : (γ : GName) (a b c : Element) → c ∈ telling.op a b → ⟦ moves_own γ c ⟧ ⊢ ⟦ moves_own γ a ⟧ ∗ ⟦ moves_own γ b ⟧
-  cut γ a b c m =
-      𝓛.algebras.own_cut (keyed telling) γ (row a) (row b) (row c)
-      (at_each_key (row a) (row b) (row c) (λ j. sum_at (moves_key == j) a b c m))
-
-  shows : (γ : GName) (a b : Element) (φ : Type 0) → (OpDef telling.op a b → φ)
-      → ⟦ moves_own γ a ⟧ ∗ ⟦ moves_own γ b ⟧ ⊢ guard 𝓤 φ (⟦ moves_own γ a ⟧ ∗ ⟦ moves_own γ b ⟧)
-  shows γ a b φ so =
-      own_sum 𝓛 (keyed telling) γ (row a) (row b) (guard 𝓤 φ (⟦ moves_own γ a ⟧ ∗ ⟦ moves_own γ b ⟧)) (λ c m.
-      guard_i 𝓤 φ (⟦ moves_own γ a ⟧ ∗ ⟦ moves_own γ b ⟧)
-      (so (fact_at (moves_key == moves_key) a b (eq-eqb moves_key moves_key refl) (m.0 moves_key))))
-
   abbrev whole : ℕ → List IdMove → Element
   whole δ moves = (some full_share, kept δ moves)
 
@@ -139,25 +82,6 @@ module _ {M : Type 1} {𝓤 : Ura M} (𝓛 : Logic 𝓤) where
   abbrev own : ℕ → Element → Fml
   own γ a = moves_own γ a
 
-  part_off : (γ : GName) (all some_of : List IdMove) → IsPrefix some_of all
-      → ⟦ moves_own γ (some full_share, all) ⟧ ⊢ ⟦ moves_own γ (none, some_of) ⟧ ∗ ⟦ moves_own γ (some full_share, all) ⟧
-  part_off γ all some_of le =
-      cut γ (none, some_of) (some full_share, all) (some full_share, all)
-      (sum_in (grows O) (none, some_of) (some full_share, all) (some full_share, all)
-      ((grows O).comm (some full_share, all) (none, some_of) (some full_share, all) (under full_share all some_of le)))
-
-  part_twice : (γ : GName) (all : List IdMove)
-      → ⟦ moves_own γ (none, all) ⟧ ⊢ ⟦ moves_own γ (none, all) ⟧ ∗ ⟦ moves_own γ (none, all) ⟧
-  part_twice γ all =
-      cut γ (none, all) (none, all) (none, all) (sum_in (grows O) (none, all) (none, all) (none, all) (lower all all (O.same all)))
-
-  grown : (γ : GName) (moves more : List IdMove) → IsPrefix moves more
-      → ⟦ moves_own γ (some full_share, moves) ⟧ ⊢ upd 𝓤 ⟦ moves_own γ (some full_share, more) ⟧
-  grown γ moves more le =
-      own_step 𝓛 (keyed telling) γ (row (some full_share, moves)) (row (some full_share, more)) (λ g d. λ j.
-      step_at (moves_key == j) (some full_share, moves) (some full_share, more) (g j)
-      (λ f. raised moves more le f.0 f.1) (d j))
-
   -- nothing was done yet where the right to the key of the moves was not used
   pub begins : (γ : GName) → ⟦ right_owns γ moves_key ⟧ ⊢ upd 𝓤 ⟦ history_owns γ [] ⟧
   unfolding right_owns history_owns
@@ -166,7 +90,7 @@ module _ {M : Type 1} {𝓤 : Ura M} (𝓛 : Logic 𝓤) where
       qed 𝓛 (‵ (moves_own γ (some full_share, [])) ∷ []) ∵
       use0 𝓛 (raw (upd 𝓤 (ex 𝓤 (λ (δ : GName). ⟦ counts_own δ [] ⟧)))) (own_new 𝓛 (keyed counting) (counts [])) $
       settle 𝓛 Z (kit.some (λ (δ : GName). ‵ (counts_own δ []))) $ pick ! (λ δ. move ! (1 ∷ []) $
-      use1 𝓛 (raw (upd 𝓤 ⟦ moves_own γ (whole δ []) ⟧)) (grown γ [] (kept δ []) (kept δ [], refl)) $
+      use1 𝓛 (raw (upd 𝓤 ⟦ moves_own γ (whole δ []) ⟧)) (grown 𝓛 moves_key γ [] (kept δ []) (kept δ [], refl)) $
       settle 𝓛 Z (‵ (moves_own γ (whole δ []))) $ fjoin ! $ fpack ! ℕ (history_as γ []) δ $ suffices ! _ (upd_i 𝓤 Z) $ done !)
 
   -- a page of what was done so far
@@ -175,7 +99,7 @@ module _ {M : Type 1} {𝓤 : Ura M} (𝓛 : Logic 𝓤) where
   unfolding history_owns page_owns
   page_of γ moves =
       qed 𝓛 (‵ (history_owns γ moves) ∷ []) ∵ fpick ! (λ δ. fsplit ! $
-      use1 𝓛 (‵ (own γ (part δ moves)) ⊛ ‵ (own γ (whole δ moves))) (part_off γ (kept δ moves) (kept δ moves) (O.same (kept δ moves))) $
+      use1 𝓛 (‵ (own γ (part δ moves)) ⊛ ‵ (own γ (whole δ moves))) (part_off 𝓛 moves_key γ (kept δ moves) (kept δ moves) (O.same (kept δ moves))) $
       split ! $ move ! (2 ∷ []) $
       use1 𝓛 (‵ (counts_page δ moves) ⊛ ‵ (counts_own δ moves)) (page_off 𝓛 δ moves) $ split ! $
       move ! (2 ∷ 0 ∷ []) $ fjoin ! $ fpack ! ℕ (page_as γ moves) δ $ frame ! $
@@ -186,11 +110,18 @@ module _ {M : Type 1} {𝓤 : Ura M} (𝓛 : Logic 𝓤) where
   unfolding page_owns
   page_twice γ moves =
       qed 𝓛 (‵ (page_owns γ moves) ∷ []) ∵ fpick ! (λ δ. fsplit ! $
-      use1 𝓛 (‵ (own γ (part δ moves)) ⊛ ‵ (own γ (part δ moves))) (part_twice γ (kept δ moves)) $
+      use1 𝓛 (‵ (own γ (part δ moves)) ⊛ ‵ (own γ (part δ moves))) (part_twice 𝓛 moves_key γ (kept δ moves)) $
       split ! $ move ! (2 ∷ []) $
       use1 𝓛 (‵ (counts_page δ moves) ⊛ ‵ (counts_page δ moves)) (page_again 𝓛 δ moves) $ split ! $
       move ! (2 ∷ 0 ∷ []) $ fjoin ! $ fpack ! ℕ (page_as γ moves) δ $ frame ! $
       move ! (1 ∷ 0 ∷ []) $ fjoin ! $ fpack ! ℕ (page_as γ moves) δ $ done !)
+
+  -- whoever has the history has a page of what was done so far
+  pub history_shows : (γ : GName) (moves : List IdMove)
+      → ⟦ history_owns γ moves ⟧ ⊢ ⟦ history_owns γ moves ⟧ ∗ ⟦ page_owns γ moves ⟧
+  history_shows γ moves =
+      qed 𝓛 (‵ (history_owns γ moves) ∷ []) ∵
+      use1 𝓛 (‵ (page_owns γ moves) ⊛ ‵ (history_owns γ moves)) (page_of γ moves) $ split ! $ move ! (1 ∷ 0 ∷ []) $ done !
 
   -- whoever holds an id has the page that ends with its take
   pub tenure_shows : (γ : GName) (before : List IdMove)
@@ -210,7 +141,7 @@ module _ {M : Type 1} {𝓤 : Ura M} (𝓛 : Logic 𝓤) where
       -- [the page's moves; its counts; the history's moves; its counts]
       move ! (2 ∷ 0 ∷ []) $
       use2 𝓛 (given (IsPrefix seen moves) (‵ (own γ (whole δ moves)) ⊛ ‵ (own γ (part δ' seen))))
-      (shows γ (whole δ moves) (part δ' seen) (IsPrefix seen moves)
+      (shows 𝓛 moves_key γ (whole δ moves) (part δ' seen) (IsPrefix seen moves)
       (λ d. behind δ' δ seen moves (O.trans (kept δ' seen) d.0.1 (kept δ moves) d.1.1.0.1 (d.1.1.1.0 tt)))) $
       learn ! (λ so. split ! $ move ! (0 ∷ 3 ∷ []) $ fjoin ! $ fpack ! ℕ (history_as γ moves) δ $
       move ! (1 ∷ 2 ∷ []) $ fjoin ! $ fpack ! ℕ (page_as γ seen) δ' $ move ! (1 ∷ 0 ∷ []) $ check ! so $ done !)))
@@ -224,7 +155,7 @@ module _ {M : Type 1} {𝓤 : Ura M} (𝓛 : Logic 𝓤) where
       qed 𝓛 (‵ (page_owns γ a) ∷ ‵ (page_owns γ b) ∷ []) ∵ fpick ! (λ δ. fsplit ! $ move ! (2 ∷ []) $ fpick ! (λ δ'. fsplit ! $
       move ! (2 ∷ 0 ∷ []) $
       use2 𝓛 (given (Line a b) (‵ (own γ (part δ a)) ⊛ ‵ (own γ (part δ' b))))
-      (shows γ (part δ a) (part δ' b) (Line a b) (λ d. line δ δ' a b d.0.1 d.1.1.0.0 d.1.1.0.1)) $
+      (shows 𝓛 moves_key γ (part δ a) (part δ' b) (Line a b) (λ d. line δ δ' a b d.0.1 d.1.1.0.0 d.1.1.0.1)) $
       learn ! (λ so. split ! $ move ! (0 ∷ 3 ∷ []) $ fjoin ! $ fpack ! ℕ (page_as γ a) δ $
       move ! (1 ∷ 2 ∷ []) $ fjoin ! $ fpack ! ℕ (page_as γ b) δ' $ move ! (1 ∷ 0 ∷ []) $ check ! so $ done !)))
 
@@ -238,9 +169,9 @@ module _ {M : Type 1} {𝓤 : Ura M} (𝓛 : Logic 𝓤) where
       let more : List IdMove = noted moves Take in
       let Z : Pr = ⟦ held_owns γ id n ⟧ ∗ ⟦ history_owns γ more ⟧ in
       qed 𝓛 (‵ (history_owns γ moves) ∷ []) ∵ fpick ! (λ δ. fsplit ! $
-      use1 𝓛 (raw (upd 𝓤 ⟦ own γ (whole δ more) ⟧)) (grown γ (kept δ moves) (kept δ more) (Take ∷ [], refl)) $
+      use1 𝓛 (raw (upd 𝓤 ⟦ own γ (whole δ more) ⟧)) (grown 𝓛 moves_key γ (kept δ moves) (kept δ more) (Take ∷ [], refl)) $
       settle 𝓛 Z (‵ (own γ (whole δ more))) $
-      use1 𝓛 (‵ (own γ (part δ [])) ⊛ ‵ (own γ (whole δ more))) (part_off γ (kept δ more) (kept δ []) (more, refl)) $ split ! $
+      use1 𝓛 (‵ (own γ (part δ [])) ⊛ ‵ (own γ (whole δ more))) (part_off 𝓛 moves_key γ (kept δ more) (kept δ []) (more, refl)) $ split ! $
       move ! (2 ∷ []) $ use1 𝓛 (‵ (tenure_owns δ id n) ⊛ ‵ (counts_own δ more)) (taken 𝓛 δ moves id refl) $ split ! $
       -- [the count; the history's counts; the first entry; the moves]
       move ! (2 ∷ 0 ∷ []) $ fjoin ! $ fpack ! ℕ (held_as γ id n) δ $ move ! (2 ∷ 1 ∷ []) $ fjoin ! $ fpack ! ℕ (history_as γ more) δ $
@@ -269,12 +200,12 @@ module _ {M : Type 1} {𝓤 : Ura M} (𝓛 : Logic 𝓤) where
       -- [the first entry; the count; the history's moves; its counts]
       move ! (2 ∷ 0 ∷ []) $
       use2 𝓛 (given (δ' ≡ δ) (‵ (own γ (whole δ moves)) ⊛ ‵ (own γ (part δ' []))))
-      (shows γ (whole δ moves) (part δ' []) (δ' ≡ δ) (λ d. same_first δ' δ [] moves d.0.1 d.1.1.0.1 d.1.1.0.0)) $
+      (shows 𝓛 moves_key γ (whole δ moves) (part δ' []) (δ' ≡ δ) (λ d. same_first δ' δ [] moves d.0.1 d.1.1.0.1 d.1.1.0.0)) $
       learn ! (λ same. split ! $ move ! (1 ∷ []) $ drop ! $
       -- [the history's moves; the count; its counts]
       move ! (1 ∷ []) $ rewrite ! 0 (λ (d : ℕ). ‵ (tenure_owns d id n)) same refl $ move ! (0 ∷ 2 ∷ []) $
       use2 𝓛 (raw (upd 𝓤 ⟦ counts_own δ more ⟧)) (given_count 𝓛 δ moves id n held few) $ settle 𝓛 Z (‵ (counts_own δ more)) $ move ! (1 ∷ []) $
-      use1 𝓛 (raw (upd 𝓤 ⟦ own γ (whole δ more) ⟧)) (grown γ (kept δ moves) (kept δ more) (Give id ∷ [], refl)) $
+      use1 𝓛 (raw (upd 𝓤 ⟦ own γ (whole δ more) ⟧)) (grown 𝓛 moves_key γ (kept δ moves) (kept δ more) (Give id ∷ [], refl)) $
       settle 𝓛 Z (‵ (own γ (whole δ more))) $ fjoin ! $ fpack ! ℕ (history_as γ more) δ $ suffices ! _ (upd_i 𝓤 Z) $ done !)))
 
   -- the same, with the page that ends with it
@@ -306,11 +237,12 @@ module _ {M : Type 1} {𝓤 : Ura M} (𝓛 : Logic 𝓤) where
       let id : ℕ = taken_id before in
       let n : ℕ = gives before id in
       let Few : Type 0 = gives later id ≤ n in
-      qed 𝓛 (‵ (tenure_of γ before) ∷ ‵ (page_owns γ later) ∷ []) ∵ fsplit ! $ move ! (1 ∷ []) $ fpick ! (λ δ. fsplit ! $ move ! (3 ∷ []) $ fpick ! (λ δ'. fsplit ! $
+      qed 𝓛 (‵ (tenure_of γ before) ∷ ‵ (page_owns γ later) ∷ []) ∵ fsplit ! $ move ! (1 ∷ []) $
+      fpick ! (λ δ. fsplit ! $ move ! (3 ∷ []) $ fpick ! (λ δ'. fsplit ! $
       -- [the page's moves; its counts; the first entry; the count; the own page]
       move ! (2 ∷ 0 ∷ []) $
       use2 𝓛 (given (δ' ≡ δ) (‵ (own γ (part δ [])) ⊛ ‵ (own γ (part δ' later))))
-      (shows γ (part δ []) (part δ' later) (δ' ≡ δ) (λ d. same_first δ' δ later [] d.0.1 d.1.1.0.1 d.1.1.0.0)) $
+      (shows 𝓛 moves_key γ (part δ []) (part δ' later) (δ' ≡ δ) (λ d. same_first δ' δ later [] d.0.1 d.1.1.0.1 d.1.1.0.0)) $
       learn ! (λ same. split ! $
       -- [the first entry; the page's moves; its counts; the count; the own page]
       move ! (2 ∷ []) $ rewrite ! 0 (λ (d : ℕ). ‵ (counts_page d later)) same refl $ move ! (3 ∷ 0 ∷ []) $

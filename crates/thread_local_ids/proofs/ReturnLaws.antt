@@ -30,19 +30,19 @@ pub gives_apart : (before later : List IdMove) (id : ℕ) → gives (before ++ l
 gives_apart [] later id = omega arith
 gives_apart (Take ∷ before) later id = gives_apart before later id
 gives_apart (Give other ∷ before) later id = at (other == id) (gives_apart before later id)
-    where
-      at : (t : Bool) → gives (before ++ later) id ≡ gives before id + gives later id
-          → (if t then suc (gives (before ++ later) id) else gives (before ++ later) id)
-          ≡ (if t then suc (gives before id) else gives before id) + gives later id
-      at true e = omega (arith, e)
-      at false e = e
+  where
+    at : (t : Bool) → gives (before ++ later) id ≡ gives before id + gives later id
+        → (if t then suc (gives (before ++ later) id) else gives (before ++ later) id)
+        ≡ (if t then suc (gives before id) else gives before id) + gives later id
+    at true e = omega (arith, e)
+    at false e = e
 
 held_taken : (held : List Bool) (id : ℕ) → is_held held id ≡ true → is_held (with_least held) id ≡ true
 held_taken held id is = is_held-with_least held id ∙ at (least held == id)
-    where
-      at : (t : Bool) → (if t then true else is_held held id) ≡ true
-      at true = refl
-      at false = is
+  where
+    at : (t : Bool) → (if t then true else is_held held id) ≡ true
+    at true = refl
+    at false = is
 
 held_given : (held : List Bool) (other id : ℕ) → (other == id) ≡ false → is_held held id ≡ true
     → is_held (without held other) id ≡ true
@@ -55,12 +55,12 @@ held_stays held [] id is never = is
 held_stays held (Take ∷ moves) id is never = held_stays (with_least held) moves id (held_taken held id is) never
 held_stays held (Give other ∷ moves) id is never =
     apart (other == id) refl never (λ differs n. held_stays (without held other) moves id (held_given held other id differs is) n)
-    where
-      apart : (t : Bool) → (other == id) ≡ t → (if t then suc (gives moves id) else gives moves id) ≡ 0
-          → ((other == id) ≡ false → gives moves id ≡ 0 → is_held (held_from (without held other) moves) id ≡ true)
-          → is_held (held_from (without held other) moves) id ≡ true
-      apart true same n rest = absurd (omega (arith, n))
-      apart false differs n rest = rest differs n
+  where
+    apart : (t : Bool) → (other == id) ≡ t → (if t then suc (gives moves id) else gives moves id) ≡ 0
+        → ((other == id) ≡ false → gives moves id ≡ 0 → is_held (held_from (without held other) moves) id ≡ true)
+        → is_held (held_from (without held other) moves) id ≡ true
+    apart true same n rest = absurd (omega (arith, n))
+    apart false differs n rest = rest differs n
 
 -- the id of a take is held after all later moves that don't give it back
 pub still_held : (before later : List IdMove) (id : ℕ) → IsPrefix (noted before Take) later
@@ -87,10 +87,10 @@ gives_after_take moves j = let e : gives (noted moves Take) j ≡ gives moves j 
 gives_after_give : (moves : List IdMove) (id j : ℕ)
     → gives (noted moves (Give id)) j ≡ (if id == j then suc (gives moves j) else gives moves j)
 gives_after_give moves id j = gives_apart moves (Give id ∷ []) j ∙ at (id == j)
-    where
-      at : (t : Bool) → gives moves j + (if t then 1 else 0) ≡ (if t then suc (gives moves j) else gives moves j)
-      at true = omega arith
-      at false = omega arith
+  where
+    at : (t : Bool) → gives moves j + (if t then 1 else 0) ≡ (if t then suc (gives moves j) else gives moves j)
+    at true = omega arith
+    at false = omega arith
 
 held_after_take : (moves : List IdMove) (id j : ℕ) → id ≡ least (held_after moves)
     → is_held (held_after (noted moves Take)) j ≡ (if id == j then true else is_held (held_after moves) j)

@@ -1,18 +1,18 @@
 -- How a list of tokens that exists in proofs alone is had twice, and agrees with a slot. Assumes
 -- `Logic`.
-use Rattle.std.proofs.Common.{◌≡◌, ℕ, List, [], ◌∷◌, refl, sym, ap, arith, Option, None, Some, IsSome, ⊎_elim}
+use Rattle.std.proofs.Common.{◌≡◌, ℕ, List, [], ◌∷◌, refl, sym, ap, Option, None, Some, IsSome, ⊎_elim}
 use Rattle.std.proofs.lemmas.Bool.{cases_eq}
 use Rattle.std.proofs.lemmas.List.Elements.{All-nil, All-cons}
 use Rattle.std.specs.Prelude.{All}
 use Rattle.std.specs.Coded.{coded_option}
 use seplogic.Ra.Ura.{Ura}
-use mir.Val.{Val, vstruct, vcons, vnil}
-use base.Logic.{SProp, ent, sep, guard, via, guard_i, guard_e, fst∗, snd∗}
-use base.Fml.{GName, Fml, ftrue}
+use mir.Val.{vstruct, vnil}
+use base.Logic.{SProp, ent, sep, guard, via, guard_i, guard_e, snd∗}
+use base.Fml.{Fml, ftrue}
 use base.Before.{before}
 use base.Shift.{Keyless}
 use types.Logic.{Logic, sem}
-use types.Kit.{‵, raw, ◌⊛◌, given, learn, check, frame, move, rewrite, split, fsplit, fjoin, use0, use1, use2, qed, done}
+use types.Kit.{‵, ◌⊛◌, given, learn, check, frame, move, rewrite, split, fsplit, fjoin, use0, use1, use2, qed, done}
 use types.Kit.{◌$◌, ◌∵◌, ! }
 use denote.Steps.{nothing}
 use denote.RattleType.{RattleType}

@@ -1,12 +1,13 @@
 -- What rights own: elements of ghost state, one at the key of each id under the table's name, with
 -- one holder each. At one more key lies what was done with the ids, which only grows.
-use Rattle.std.specs.Prelude.{ℕ, ◌==◌, ◌^◌, ◌-◌, Bool, true, false, not, List, [], ◌∷◌, if◌then◌else◌}
+use Rattle.std.specs.Prelude.{ℕ, ◌==◌, ◌^◌, ◌-◌, ◌≤◌, Bool, true, false, not, List, [], ◌∷◌, length, if◌then◌else◌}
 use mathlib.Core.Option.{Option, none, some}
 use base.Fraction.{full_share}
 use base.Algebra.{Algebra}
 use base.Growing.{prefixes, growing}
-use base.Fml.{Share, Fml, fown, fsep, fex}
+use base.Fml.{Share, Fml, ftrue, fown, fsep, fex}
 use types.Keyed.{keyed}
+use Rattle.thread_local_model.specs.Fact.{fact}
 use Rattle.thread_local_model.specs.Held.{least}
 use Rattle.thread_local_model.specs.IdMoves.{IdMove, Take, Give, move_coded, held_after, noted}
 use Rattle.thread_local_ids.specs.Returns.{gives, counts_own, counts_page, tenure_owns}
@@ -45,12 +46,16 @@ right_owns table id = fown (keyed telling) table (λ j. element_if (id == j))
 unfoldable pub rights_own : ℕ → List ℕ → Fml
 rights_own table out = fown (keyed telling) table (λ j. element_if (not (is_out out j)))
 
+-- an element at one key under a table's name
+abbrev pub element_at : ℕ → ℕ → Element → Fml
+element_at key table a = fown (keyed telling) table (λ j. at_if (key == j) a)
+
 -- the key of the moves
 abbrev pub moves_key : ℕ
 moves_key = 2 ^ 64 - 1
 
 abbrev pub moves_own : ℕ → Element → Fml
-moves_own table a = fown (keyed telling) table (λ j. at_if (moves_key == j) a)
+moves_own table a = element_at moves_key table a
 
 -- The moves as they are kept. The first entry names what the table has of its ids' counts.
 abbrev pub kept : ℕ → List IdMove → List IdMove
@@ -64,6 +69,14 @@ page_as table moves δ = fsep (moves_own table (none, kept δ moves)) (counts_pa
 
 abbrev pub held_as : ℕ → ℕ → ℕ → ℕ → Fml
 held_as table id n δ = fsep (moves_own table (none, kept δ [])) (tenure_owns δ id n)
+
+-- the key of the room, which no `usize` is
+abbrev pub room_key : ℕ
+room_key = 2 ^ 64
+
+-- a table began with room for so many ids
+unfoldable pub room_owns : ℕ → ℕ → Fml
+room_owns table ids = element_at room_key table (none, Give ids ∷ [])
 
 -- these are all moves of a table, and whoever has this appends to them
 unfoldable pub history_owns : ℕ → List IdMove → Fml
@@ -83,3 +96,16 @@ taken_id before = least (held_after before)
 
 abbrev pub tenure_of : ℕ → List IdMove → Fml
 tenure_of table before = fsep (page_owns table (noted before Take)) (held_owns table (taken_id before) (gives before (taken_id before)))
+
+-- these were all moves of a table once; that there were none is so of every table
+abbrev pub page_if : ℕ → List IdMove → Fml
+page_if table [] = ftrue
+page_if table (move ∷ moves) = page_owns table (move ∷ moves)
+
+-- these moves held n ids of a table at once
+abbrev pub reached_by : ℕ → ℕ → List IdMove → Fml
+reached_by table n moves = fsep (fact (n ≤ length (held_after moves))) (page_if table moves)
+
+-- n ids of a table were held at once
+unfoldable pub reached_owns : ℕ → ℕ → Fml
+reached_owns table n = fex (List IdMove) (reached_by table n)

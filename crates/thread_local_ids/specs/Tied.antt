@@ -1,20 +1,28 @@
 -- What a contract sees of a table's ids, and how the held ids are tied to the rights that are out.
-use Rattle.std.specs.Prelude.{◌≡◌, ℕ, ◌+◌, ◌-◌, ◌^◌, ◌<◌, Bool, List}
+use Rattle.std.specs.Prelude.{◌≡◌, ℕ, ◌+◌, ◌-◌, ◌^◌, ◌<◌, ◌≤◌, Bool, List}
 use Rattle.thread_local_model.specs.Held.{Manager, is_held}
 use Rattle.thread_local_ids.specs.Rights.{is_out}
 use Rattle.thread_local_model.specs.IdMoves.{IdMove, held_after}
 use Rattle.thread_local_ids.specs.declared.ids.Ids.TheInside.{Inside}
 
--- the manager of ids, the name of the table that the rights are to, and whether the table's
--- right, to the number between the ids and their marks, is out
+-- the manager of ids, the name of the table that the rights are to, whether the table's right, to
+-- the number between the ids and their marks, is out, what was done with the ids, and for how many
+-- of them there was room when the table was made or cleared
 pub record TableIds : Type 0 where
   pub manager : Manager
   pub table : ℕ
   pub table_right_is_out : Bool
   pub moves : List IdMove
+  pub room : ℕ
 
 abbrev pub ids_of : Inside → TableIds
-ids_of i = record { manager = i.manager; table = i.rights.table; table_right_is_out = is_out i.rights.out (2 ^ 63 - 1); moves = i.history.moves }
+ids_of i = record {
+  manager = i.manager;
+  table = i.rights.table;
+  table_right_is_out = is_out i.rights.out (2 ^ 63 - 1);
+  moves = i.history.moves;
+  room = i.room.ids;
+}
 
 -- the right to an id is out exactly where the id is held, and so is its mark
 abbrev pub AreOut : Inside → Type 0
@@ -23,8 +31,11 @@ AreOut i =
     → (is_out i.rights.out id ≡ is_held i.manager.held id)
     × (is_out i.rights.out (id + 2 ^ 63) ≡ is_held i.manager.held id)
 
--- and the held ids are those that the table's history leaves held
+-- and the held ids are those that the table's history leaves held, and there is still room for as
+-- many as at the beginning
 pub record IsTied (i : Inside) : Type 0 where
   pub out : AreOut i
   pub moves : held_after i.history.moves ≡ i.manager.held
   pub table : i.history.table ≡ i.rights.table
+  pub room : i.room.ids ≤ i.manager.room
+  pub room_table : i.room.table ≡ i.rights.table

@@ -1,4 +1,4 @@
--- What a list of tokens says that exists in proofs alone.
+-- What is said of the tokens of a list.
 use Rattle.std.specs.Prelude.{◌≡◌, ◌≢◌, ℕ, ◌^◌, ◌<◌, List, [], ◌∷◌, Option, Some, IsSome, All}
 use base.Fml.{Fml, ftrue, fsep}
 use denote.RattleType.{RattleType}

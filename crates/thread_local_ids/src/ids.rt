@@ -1,13 +1,13 @@
 //! An id of a table is held, with its right out, or it is free, with its right here.
-ghost use Rattle.std.specs.Prelude.{◌≡◌, ◌≢◌, ◌+◌, ◌-◌, ◌^◌, ◌≤◌, ◌<◌, ◌==◌, ℕ, min, true, false, [], if◌then◌else◌, IsOk, OnErr, IfOk};
-ghost use Rattle.thread_local_model.specs.IdMoves.{Take, Give, noted};
+ghost use Rattle.std.specs.Prelude.{◌≡◌, ◌≢◌, ◌+◌, ◌-◌, ◌^◌, ◌≤◌, ◌<◌, ◌==◌, ℕ, min, true, false, [], length, if◌then◌else◌, IsOk, OnErr, IfOk};
+ghost use Rattle.thread_local_model.specs.IdMoves.{Take, Give, held_after, noted};
 ghost use mathlib.Core.List.{IsPrefix};
 ghost use Rattle.thread_local_ids.specs.Rights.{is_out, taken_id};
 ghost use Rattle.std.specs.Prelude.{alloc_error};
-ghost use Rattle.thread_local_model.specs.Held.{is_held, Takes, Gives, NeedsMemory, IsExhausted};
+ghost use Rattle.thread_local_model.specs.Held.{is_held, HoldsAllBelow, Takes, Gives, NeedsMemory, IsExhausted};
 
 use crate::lock::Fits;
-use crate::{HeldId, History, Page, Right, Rights, Tenure};
+use crate::{HeldId, History, Page, Reached, Right, Rights, Room, Tenure};
 use std::alloc::{AllocError, Global};
 use std::marker::Model;
 use thread_local_thread_id::manager::IDS;
@@ -29,6 +29,7 @@ pub struct Ids {
     manager: ThreadIdManager,
     rights: Rights,
     history: History,
+    room: Room,
 }
 
 impl Model for Ids {
@@ -56,14 +57,17 @@ impl Ids {
     pub fn new(alloc: Global) -> Ids
         ensures held { result.manager.held ≡ [] }
         ensures room { result.manager.room ≡ 0 }
+        ensures made_room { result.room ≡ 0 }
         ensures table_right { result.table_right_is_out ≡ false }
         ensures moves { result.moves ≡ [] }
     {
-        let (rights, history) = begun();
+        let manager = ThreadIdManager::new(alloc);
+        let (rights, history, room) = begun(&manager);
         Ids {
-            manager: ThreadIdManager::new(alloc),
+            manager,
             rights,
             history,
+            room,
         }
     }
 
@@ -73,6 +77,7 @@ impl Ids {
     pub fn with_room(alloc: Global, ids: usize) -> Result<Ids, AllocError>
         ensures held { IfOk result (λ table. table.manager.held ≡ []) }
         ensures room { IfOk result (λ table. min ids (2 ^ 63 - 1) ≤ table.manager.room) }
+        ensures made_room { IfOk result (λ table. min ids (2 ^ 63 - 1) ≤ table.room) }
         ensures few { IfOk result (λ table. table.manager.room < min ids (2 ^ 63 - 1) + 64) }
         ensures table_right { IfOk result (λ table. table.table_right_is_out ≡ false) }
         ensures moves { IfOk result (λ table. table.moves ≡ []) }
@@ -80,17 +85,18 @@ impl Ids {
         ensures no_ids { ids ≡ 0 → IsOk result }
     {
         let manager = ThreadIdManager::with_room(alloc, ids)?;
-        let (rights, history) = begun();
+        let (rights, history, room) = begun(&manager);
         Ok(Ids {
             manager,
             rights,
             history,
+            room,
         })
     }
 
     /// Takes the least id that isn't held, and the right to it. It asks for memory only where every
-    /// id below the peak is held and there is no room for one more, and not for the first 64 ids. It
-    /// refuses where that memory isn't given, and where every id is held.
+    /// id below the peak is held and there is no room for one more, and not for the first 64 ids.
+    /// It refuses where that memory isn't given, and where every id is held.
     pub fn take(&mut self) -> Result<(HeldId, Right, Tenure), LocalError>
         ensures ok { IfOk result (λ taken. Takes self.old.manager self.new.manager taken.0.id) }
         ensures right { IfOk result (λ taken. (taken.1.table ≡ self.old.table) × (taken.1.id ≡ taken.0.id)) }
@@ -99,7 +105,8 @@ impl Ids {
         ensures least { IfOk result (λ taken. taken.0.id ≡ taken_id taken.2.before) }
         ensures moves { IfOk result (λ taken. self.new.moves ≡ noted self.old.moves Take) }
         ensures table { (self.new.table ≡ self.old.table)
-            × (self.new.table_right_is_out ≡ self.old.table_right_is_out) }
+            × (self.new.table_right_is_out ≡ self.old.table_right_is_out)
+            × (self.new.room ≡ self.old.room) }
         ensures memory { result ≡ Err (LocalError.Memory alloc_error) → NeedsMemory self.old.manager }
         ensures exhausted { result ≡ Err LocalError.Exhausted → IsExhausted self.old.manager }
         ensures err { OnErr result (self.new ≡ self.old) }
@@ -111,9 +118,32 @@ impl Ids {
         Ok((HeldId { id, mark }, right, tenure))
     }
 
-    /// `take`, which shows that what was done before extends a page of this table.
-    pub fn take_after(&mut self, earlier: &Page) -> Result<(HeldId, Right, Tenure), LocalError>
-        requires { earlier.now.table ≡ self.old.table }
+    /// For how many ids there was room when the table was made or cleared. At run time it does
+    /// nothing.
+    #[inline]
+    pub fn room(&self) -> Room
+        ensures { (result.table ≡ self.now.table) × (result.ids ≡ self.now.room) }
+    {
+        self.room.again()
+    }
+
+    /// The page of all that was done with the ids so far. At run time it does nothing.
+    #[inline]
+    pub fn page(&self) -> Page
+        ensures { (result.table ≡ self.now.table) × (result.moves ≡ self.now.moves) }
+    {
+        self.history.page()
+    }
+
+    /// `take`, which shows that what was done before extends a page of this table, and leaves the
+    /// page of all that was done since, where it is refused too. It is refused memory only where
+    /// every id is held that there was room for when the table was made or cleared.
+    pub fn take_after(
+        &mut self,
+        page: &mut Page,
+        room: &Room,
+    ) -> Result<(HeldId, Right, Tenure), LocalError>
+        requires { (page.old.table ≡ self.old.table) × (room.now.table ≡ self.old.table) }
         ensures ok { IfOk result (λ taken. Takes self.old.manager self.new.manager taken.0.id) }
         ensures right { IfOk result (λ taken. (taken.1.table ≡ self.old.table) × (taken.1.id ≡ taken.0.id)) }
         ensures mark { IfOk result (λ taken. taken.0.mark.table ≡ self.old.table) }
@@ -121,25 +151,35 @@ impl Ids {
         ensures least { IfOk result (λ taken. taken.0.id ≡ taken_id taken.2.before) }
         ensures moves { IfOk result (λ taken. self.new.moves ≡ noted self.old.moves Take) }
         ensures table { (self.new.table ≡ self.old.table)
-            × (self.new.table_right_is_out ≡ self.old.table_right_is_out) }
+            × (self.new.table_right_is_out ≡ self.old.table_right_is_out)
+            × (self.new.room ≡ self.old.room) }
         ensures err { OnErr result (self.new ≡ self.old) }
-        ensures early { IsPrefix (noted earlier.now.before earlier.now.last) self.old.moves }
+        ensures early { IsPrefix page.old.moves self.old.moves }
+        ensures page { (page.new.table ≡ self.new.table) × (page.new.moves ≡ self.new.moves) }
+        ensures memory { result ≡ Err (LocalError.Memory alloc_error)
+            → HoldsAllBelow room.now.ids (held_after page.new.moves) }
+        ensures exhausted { result ≡ Err LocalError.Exhausted
+            → HoldsAllBelow (2 ^ 63 - 1) (held_after page.new.moves) }
     {
-        self.history.extends(earlier.again());
-        self.take()
+        self.room.agrees(room);
+        self.history.extends(page.again());
+        let taken = self.take();
+        *page = self.history.page();
+        taken
     }
 
-    /// Takes a held id of this table back, with its right and what was kept of its take, and answers
-    /// the page that ends with it.
+    /// Takes a held id of this table back, with its right and what was kept of its take, and
+    /// answers the page that ends with it.
     pub fn give(&mut self, held: HeldId, right: Right, tenure: Tenure) -> Page
         requires table { (right.table ≡ self.old.table) × (held.mark.table ≡ self.old.table) × (tenure.table ≡ self.old.table) }
         requires id { (right.id ≡ held.id) × (held.id ≡ taken_id tenure.before) }
         ensures given { Gives self.old.manager self.new.manager held.id }
         ensures moves { self.new.moves ≡ noted self.old.moves (Give held.id) }
-        ensures page { (result.table ≡ self.old.table) × (result.before ≡ self.old.moves) × (result.last ≡ Give held.id) }
+        ensures page { (result.table ≡ self.old.table) × (result.moves ≡ self.new.moves) }
         ensures early { IsPrefix (noted tenure.before Take) self.old.moves }
         ensures table { (self.new.table ≡ self.old.table)
-            × (self.new.table_right_is_out ≡ self.old.table_right_is_out) }
+            × (self.new.table_right_is_out ≡ self.old.table_right_is_out)
+            × (self.new.room ≡ self.old.room) }
     {
         self.history.extends(tenure.page());
         let (id, mark) = held.into_parts();
@@ -156,12 +196,14 @@ impl Ids {
         ensures held { self.new.manager.held ≡ [] }
         ensures moves { self.new.moves ≡ [] }
         ensures room { self.new.manager.room ≡ self.old.manager.room }
+        ensures made_room { self.old.room ≤ self.new.room }
     {
         self.manager.clear();
-        let (mut rights, history) = begun();
+        let (mut rights, history, room) = begun(&self.manager);
         self.rights.apart(&mut rights);
         self.rights = rights;
         self.history = history;
+        self.room = room;
     }
 
     /// Hands out the table's right, to the number that lies between the ids and their marks.
@@ -169,9 +211,29 @@ impl Ids {
     pub fn table_right(&mut self) -> Right
         requires { self.old.table_right_is_out ≡ false }
         ensures right { (result.table ≡ self.old.table) × (result.id ≡ 2 ^ 63 - 1) }
-        ensures same { (self.new.manager ≡ self.old.manager) × (self.new.table ≡ self.old.table) × (self.new.moves ≡ self.old.moves) }
+        ensures same { (self.new.manager ≡ self.old.manager)
+            × (self.new.table ≡ self.old.table)
+            × (self.new.moves ≡ self.old.moves)
+            × (self.new.room ≡ self.old.room) }
     {
         self.rights.take(IDS)
+    }
+
+    /// The most ids that were held at once since the table was made or cleared.
+    pub fn peak(&self) -> usize
+        ensures held { result ≡ length self.now.manager.held }
+        ensures history { result ≡ length (held_after self.now.moves) }
+    {
+        self.manager.peak()
+    }
+
+    /// Shows that the peak is no lower. At run time it does nothing.
+    pub fn has_reached(&mut self, reached: Reached)
+        requires { reached.table ≡ self.old.table }
+        ensures peak { reached.ids ≤ length self.old.manager.held }
+        ensures same { self.new ≡ self.old }
+    {
+        self.history.has_reached(reached);
     }
 
     /// Whether an id is held.
@@ -182,12 +244,15 @@ impl Ids {
     }
 }
 
-/// The rights of a new table, and its history.
-fn begun() -> (Rights, History)
-    ensures out { (j : ℕ) → is_out result.0.out j ≡ (if 2 ^ 64 - 1 == j then true else false) }
+/// The rights of a new table whose ids the manager gives out, its history, and its room.
+#[inline]
+fn begun(manager: &ThreadIdManager) -> (Rights, History, Room)
+    ensures out { (j : ℕ) → j < 2 ^ 64 - 1 → is_out result.0.out j ≡ false }
     ensures history { (result.1.table ≡ result.0.table) × (result.1.moves ≡ []) }
+    ensures room { (result.2.table ≡ result.0.table) × (result.2.ids ≡ manager.now.room) }
 {
     let mut rights = Rights::new();
     let history = rights.take(HISTORY).into_history();
-    (rights, history)
+    let room = rights.note_room(manager);
+    (rights, history, room)
 }

@@ -1,11 +1,11 @@
-//! What was done with the ids of a table: a `History`, which is appended to, and its `Page`s. Neither
-//! has bytes, and no call does anything at run time.
+//! What was done with the ids of a table: a `History`, which is appended to, its `Page`s, and the
+//! `Tenure` of each id that is held. None has bytes, and no call does anything at run time.
 ghost use Rattle.std.specs.Prelude.{◌≡◌, ℕ, List, [], true};
 ghost use mathlib.Core.List.{IsPrefix};
 ghost use mathlib.Core.Logic.{◌∨₁◌};
 ghost use types.Logic.{sem};
 ghost use denote.Sharing.{said};
-ghost use Rattle.thread_local_model.specs.IdMoves.{IdMove, Take, Give, move_coded, moves_coded, held_after, noted};
+ghost use Rattle.thread_local_model.specs.IdMoves.{IdMove, Take, Give, moves_coded, held_after, noted};
 ghost use Rattle.thread_local_model.specs.Held.{is_held};
 ghost use Rattle.thread_local_ids.specs.Rights.{history_owns, page_owns, tenure_of, taken_id};
 
@@ -21,21 +21,23 @@ pub struct History {
 
 impl Model for History {
     ghost also_owns = { λ h. history_owns h.table h.moves };
+
+    ghost also_shares = { λ h _ κ. said (page_owns h.table h.moves) κ };
 }
 
-/// One move of the ids of a table, and all that were made before, in their order.
+/// A beginning of a table's history: all that was done with its ids up to some moment, in its
+/// order.
 #[derive(Drop)]
 pub struct Page {
     pub(crate) marker: PhantomData<()>,
     pub ghost table: { ℕ },
-    pub ghost before: { List IdMove } by { moves_coded },
-    pub ghost last: { IdMove } by { move_coded },
+    pub ghost moves: { List IdMove } by { moves_coded },
 }
 
 impl Model for Page {
-    ghost also_owns = { λ p. page_owns p.table (noted p.before p.last) };
+    ghost also_owns = { λ p. page_owns p.table p.moves };
 
-    ghost also_shares = { λ p _ κ. said (page_owns p.table (noted p.before p.last)) κ };
+    ghost also_shares = { λ p _ κ. said (page_owns p.table p.moves) κ };
 }
 
 /// The least id was taken after these moves, and it is held since, by whoever has this.
@@ -53,6 +55,15 @@ impl Model for Tenure {
 }
 
 impl History {
+    /// The page of all that was done so far.
+    pub fn page(&self) -> Page
+        ensures { (result.table ≡ self.now.table) × (result.moves ≡ self.now.moves) }
+    {
+        Page {
+            marker: PhantomData,
+        }
+    }
+
     /// Notes that the least id was taken, which is held from now on.
     pub fn take(&mut self) -> Tenure
         ensures tenure { (result.table ≡ self.old.table) × (result.before ≡ self.old.moves) }
@@ -68,7 +79,7 @@ impl History {
         requires table { tenure.table ≡ self.old.table }
         requires id { id ≡ taken_id tenure.before }
         requires held { is_held (held_after self.old.moves) id ≡ true }
-        ensures page { (result.table ≡ self.old.table) × (result.before ≡ self.old.moves) × (result.last ≡ Give id) }
+        ensures page { (result.table ≡ self.old.table) × (result.moves ≡ self.new.moves) }
         ensures moves { (self.new.table ≡ self.old.table) × (self.new.moves ≡ noted self.old.moves (Give id)) }
     {
         let Tenure { marker: _ } = tenure;
@@ -80,7 +91,7 @@ impl History {
     /// Shows that the history extends a page of its table.
     pub fn extends(&mut self, page: Page)
         requires { page.table ≡ self.old.table }
-        ensures early { IsPrefix (noted page.before page.last) self.old.moves }
+        ensures early { IsPrefix page.moves self.old.moves }
         ensures same { self.new ≡ self.old }
     {}
 }
@@ -88,7 +99,7 @@ impl History {
 impl Tenure {
     /// The page that ends with the take.
     pub fn page(&self) -> Page
-        ensures { (result.table ≡ self.now.table) × (result.before ≡ self.now.before) × (result.last ≡ Take) }
+        ensures { (result.table ≡ self.now.table) × (result.moves ≡ noted self.now.before Take) }
     {
         Page {
             marker: PhantomData,
@@ -98,8 +109,8 @@ impl Tenure {
     /// Shows that the id is held after all moves of a later page.
     pub fn held_at(&mut self, page: Page)
         requires table { page.table ≡ self.old.table }
-        requires later { IsPrefix (noted self.old.before Take) (noted page.before page.last) }
-        ensures held { is_held (held_after (noted page.before page.last)) (taken_id self.old.before) ≡ true }
+        requires later { IsPrefix (noted self.old.before Take) page.moves }
+        ensures held { is_held (held_after page.moves) (taken_id self.old.before) ≡ true }
         ensures same { self.new ≡ self.old }
     {}
 }
@@ -107,7 +118,7 @@ impl Tenure {
 impl Page {
     /// The same once more.
     pub fn again(&self) -> Page
-        ensures { (result.table ≡ self.now.table) × (result.before ≡ self.now.before) × (result.last ≡ self.now.last) }
+        ensures { (result.table ≡ self.now.table) × (result.moves ≡ self.now.moves) }
     {
         Page {
             marker: PhantomData,
@@ -117,8 +128,7 @@ impl Page {
     /// Shows that of two pages of one table one extends the other.
     pub fn in_line(&self, other: &Page)
         requires { self.now.table ≡ other.now.table }
-        ensures { IsPrefix (noted self.now.before self.now.last) (noted other.now.before other.now.last)
-            ∨₁ IsPrefix (noted other.now.before other.now.last) (noted self.now.before self.now.last) }
+        ensures { IsPrefix self.now.moves other.now.moves ∨₁ IsPrefix other.now.moves self.now.moves }
     {}
 }
 

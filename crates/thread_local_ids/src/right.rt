@@ -1,12 +1,14 @@
-//! The right to an id is out, as a `Right` with one holder, or it is in the table's `Rights`. The same
-//! holds of numbers that are no ids, which marks and the table's own right are to. Neither type has
-//! bytes, and no call does anything at run time.
+//! The right to an id is out, as a `Right` with one holder, or it is in the table's `Rights`. The
+//! same holds of numbers that are no ids, which marks and the table's own right are to. Neither
+//! type has bytes, and no call does anything at run time.
 ghost use Rattle.std.specs.Prelude.{◌≡◌, ◌≢◌, ℕ, ◌==◌, ◌^◌, ◌-◌, true, false, List, [], if◌then◌else◌};
 ghost use types.Logic.{sem};
 ghost use Rattle.thread_local_ids.specs.Rights.{is_out, right_owns, rights_own};
 
 use crate::page::History;
+use crate::room::Room;
 use std::marker::{Model, PhantomData};
+use thread_local_thread_id::ThreadIdManager;
 
 /// The right to one id of one table: no two values are the right to the same id.
 ///
@@ -65,6 +67,20 @@ impl Rights {
             → is_out self.new.out j ≡ (if right.id == j then false else is_out self.old.out j) }
     {
         let Right { marker: _ } = right;
+    }
+
+    /// Notes for how many ids the table's manager has room. The right that becomes the note is one
+    /// to a number that no `usize` is.
+    pub fn note_room(&mut self, manager: &ThreadIdManager) -> Room
+        requires { is_out self.old.out (2 ^ 64) ≡ false }
+        ensures room { (result.table ≡ self.old.table) × (result.ids ≡ manager.now.room) }
+        ensures table { self.new.table ≡ self.old.table }
+        ensures out { (j : ℕ) → is_out self.new.out j ≡ (if 2 ^ 64 == j then true else is_out self.old.out j) }
+    {
+        let _ = manager;
+        Room {
+            marker: PhantomData,
+        }
     }
 
     /// Shows that two `Rights` belong to tables of different names.

@@ -1,4 +1,4 @@
-//! What a list of tokens tells that exists in proofs alone.
+//! A list of what tokens show of slots, which proofs alone see.
 ghost use Rattle.std.specs.Prelude.{◌≡◌, List, [], ◌∷◌};
 ghost use base.Stored.{coded_list};
 ghost use Rattle.thread_local_ids.specs.Views.{TokenView, token_view_coded};
@@ -8,8 +8,9 @@ ghost use denote.Sharing.{said};
 use crate::witness::Witness;
 use std::marker::{Model, PhantomData};
 
-/// What tokens tell, in a list that exists in proofs alone. It has no bytes, and no call does
-/// anything at run time.
+/// What several tokens show to proofs, as a `Witness` is what one shows: each slot's value while a
+/// sharing lasts. Their sharings may differ. It has no bytes, and no call does anything at run
+/// time.
 pub struct TokenList<T> {
     pub marker: PhantomData<T>,
     pub ghost tokens: { List (TokenView T) } by { coded_list (token_view_coded T.code) },
@@ -23,6 +24,7 @@ impl<T> Model for TokenList<T> {
 
 impl<T> TokenList<T> {
     /// The empty list.
+    #[inline]
     pub fn new() -> TokenList<T>
         ensures { result.tokens ≡ [] }
     {
@@ -31,7 +33,8 @@ impl<T> TokenList<T> {
         }
     }
 
-    /// The same list once more. At run time it does nothing.
+    /// The same list once more.
+    #[inline]
     pub fn again(&self) -> TokenList<T>
         ensures { result.tokens ≡ self.now.tokens }
     {
@@ -40,14 +43,15 @@ impl<T> TokenList<T> {
         }
     }
 
-    /// The list with one more token, which a witness shows. At run time it does nothing.
+    /// The list with one more token, of what a witness shows.
+    #[inline]
     pub fn and_of(&self, witness: &Witness<T>) -> TokenList<T>
         ensures { result.tokens
             ≡ record {
-                sharing = witness.now.sharing;
-                id = witness.now.id;
-                value = witness.now.value;
-              }
+              sharing = witness.now.sharing;
+              id = witness.now.id;
+              value = witness.now.value;
+            }
             ∷ self.now.tokens }
     {
         let _ = witness;
@@ -56,8 +60,8 @@ impl<T> TokenList<T> {
         }
     }
 
-    /// Shows that each token of a witness's id and sharing has its value. At run time it does
-    /// nothing.
+    /// Shows that each token of a witness's id and sharing has its value.
+    #[inline]
     pub fn agrees(&self, witness: &Witness<T>)
         ensures { AllOf
             witness.now.sharing

@@ -1,4 +1,4 @@
-//! A list of tokens that exists in proofs alone.
+//! A list of tokens, for a walk that gives the values of all of them.
 ghost use Rattle.std.specs.Prelude.{◌≡◌, ◌-◌, ◌^◌, ◌<◌, [], ◌∷◌, All};
 ghost use Rattle.thread_local_ids.specs.TokenLists.{AllOf};
 
@@ -7,8 +7,9 @@ use crate::token_list::TokenList;
 use crate::witness::Witness;
 use std::marker::Model;
 
-/// Tokens in a list that exists in proofs alone. It has no bytes, and no call does anything at run
-/// time.
+/// Tokens whose values a walk is to give for sure (`ThreadLocal::iter_told`). The list borrows none
+/// of them, and contracts alone see what is in it: it has no bytes, and no call does anything at
+/// run time. It may be sent and shared whatever the type is. Rust's crate has no such type.
 #[derive(Drop)]
 pub struct Told<T> {
     list: TokenList<T>,
@@ -30,6 +31,7 @@ impl<T> Model for Told<T> {
 
 impl<T> Told<T> {
     /// The empty list.
+    #[inline]
     pub fn new() -> Told<T>
         ensures { result ≡ [] }
     {
@@ -38,7 +40,8 @@ impl<T> Told<T> {
         }
     }
 
-    /// The same list once more.
+    /// The same list once more, for another walk.
+    #[inline]
     pub fn again(&self) -> Told<T>
         ensures { result ≡ self.now }
     {
@@ -47,7 +50,9 @@ impl<T> Told<T> {
         }
     }
 
-    /// The list with one more token.
+    /// The list with one more token, which stays the caller's. Its sharing may be another than that
+    /// of the tokens before it.
+    #[inline]
     pub fn and(&self, token: &Token<T>) -> Told<T>
         ensures { result ≡ token.now ∷ self.now }
     {
@@ -57,14 +62,16 @@ impl<T> Told<T> {
         }
     }
 
-    /// The part of the list that proofs need.
+    /// The part of the list that single steps of a walk take.
+    #[inline]
     pub fn list(&self) -> &TokenList<T>
         ensures { result.now.tokens ≡ self.now }
     {
         &self.list
     }
 
-    /// Shows that the id of each token is one of a table.
+    /// Shows that the id of each token is one that a table may give out.
+    #[inline]
     pub fn in_range(&self)
         ensures { All (λ p. p.id < 2 ^ 63 - 1) self.now }
     {
@@ -72,6 +79,7 @@ impl<T> Told<T> {
     }
 
     /// Shows that each token of a witness's id and sharing has its value.
+    #[inline]
     pub fn agrees(&self, witness: &Witness<T>)
         ensures { AllOf
             witness.now.sharing

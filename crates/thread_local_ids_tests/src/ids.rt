@@ -1,5 +1,6 @@
 //! Tests of ids under a lock, each with its right.
 ghost use Rattle.std.specs.Prelude.{◌≡◌, ◌≢◌, IfOk};
+ghost use Rattle.thread_local_ids.specs.Rights.{taken_id};
 
 use std::mem::{forget, swap};
 use std::sync::Wait;
@@ -8,11 +9,14 @@ use std::sync::atomic::Ordering::SeqCst;
 use std::test::Fail;
 use std::thread;
 use std::thread::Threads;
-use thread_local_ids::{HeldId, Ids, Lock, Right};
+use thread_local_ids::{HeldId, Ids, Lock, Right, Tenure};
 use thread_local_thread_id::LocalError;
 
+/// What a take answers.
+type Taken = (HeldId, Right, Tenure);
+
 /// Two ids of one table are two.
-fn take_two(ids: &mut Ids) -> Result<((HeldId, Right), (HeldId, Right)), LocalError>
+fn take_two(ids: &mut Ids) -> Result<(Taken, Taken), LocalError>
     ensures { IfOk result (λ two. two.0.0.id ≢ two.1.0.id) }
 {
     let mut first = ids.take()?;
@@ -31,7 +35,7 @@ fn take_and_give<R: Wait>(
 ) -> Result<u64, LocalError> {
     let mut shared = 0u64;
     for _ in 0..times {
-        let (held, right) = ids.lock(rt).take()?;
+        let (held, right, tenure) = ids.lock(rt).take()?;
         if let Some(mark) = used.get(held.id) {
             if mark.swap(true, SeqCst) {
                 shared = shared.saturating_add(1);
@@ -40,18 +44,20 @@ fn take_and_give<R: Wait>(
         } else {
             shared = shared.saturating_add(1);
         }
-        ids.lock(rt).give(held, right);
+        ids.lock(rt).give(held, right, tenure);
     }
     Ok(shared)
 }
 
 /// Gives an id back, and answers it.
-fn give_back<R: Wait>(ids: &Lock<Ids>, rt: &R, held: (HeldId, Right)) -> usize
-    requires table { (held.1.table ≡ ids.now.tag) × (held.0.mark.table ≡ ids.now.tag) }
-    requires id { held.1.id ≡ held.0.id }
+fn give_back<R: Wait>(ids: &Lock<Ids>, rt: &R, held: Taken) -> usize
+    requires table { (held.1.table ≡ ids.now.tag)
+        × (held.0.mark.table ≡ ids.now.tag)
+        × (held.2.table ≡ ids.now.tag) }
+    requires id { (held.1.id ≡ held.0.id) × (held.0.id ≡ taken_id held.2.before) }
 {
     let id = held.0.id;
-    ids.lock(rt).give(held.0, held.1);
+    ids.lock(rt).give(held.0, held.1, held.2);
     id
 }
 

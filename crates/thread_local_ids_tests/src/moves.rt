@@ -26,14 +26,14 @@ fn nth_of(held: &BTreeSet<usize>, n: u64) -> Option<usize> {
 }
 
 /// Gives back the held id that a number draws, if there is one and the number asks for it, or else
-/// takes an id. Of four numbers so many ask for a take. Answers whether the id was held until it was
-/// given back, or was the least that wasn't held.
+/// takes an id. Of four numbers so many ask for a take. Answers the id where that went wrong: where it
+/// wasn't held until it was given back, or wasn't the least that wasn't held.
 fn make_move(
     manager: &mut ThreadIdManager,
     held: &mut BTreeSet<usize>,
     draw: u64,
     takes: u64,
-) -> Result<bool, LocalError> {
+) -> Result<Option<usize>, LocalError> {
     let given = if draw % 4 < takes {
         None
     } else {
@@ -42,13 +42,14 @@ fn make_move(
     match given {
         Some(id) => {
             held.remove(&id);
-            Ok(give(manager, id) && !manager.is_held(id))
+            let is_right = give(manager, id) && !manager.is_held(id);
+            Ok(if is_right { None } else { Some(id) })
         }
         None => {
             let least = least_absent(held);
             let id = take_at_hand(manager)?;
             held.insert(id)?;
-            Ok(id == least)
+            Ok(if id == least { None } else { Some(id) })
         }
     }
 }
@@ -67,10 +68,8 @@ fn ten_thousand_moves_give_the_least_ids(rt: HostRuntime) -> Result<(), Fail> {
             .wrapping_mul(6364136223846793005)
             .wrapping_add(1442695040888963407);
         let takes = if turn % 5000 < 2500 { 3 } else { 1 };
-        assert!(rt;
-            make_move(&mut manager, &mut held, state >> 33, takes)?,
-            "move {turn}"
-        );
+        let wrong = make_move(&mut manager, &mut held, state >> 33, takes)?;
+        assert_eq!(rt; wrong, None, "move {turn}");
         most = most.max(held.len());
     }
     assert!(rt;

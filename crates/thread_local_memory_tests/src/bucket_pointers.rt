@@ -1,5 +1,5 @@
 //! The pointers of a table: values come back at any type, and each is dropped once.
-ghost use Rattle.std.specs.Prelude.{◌≡◌, IfOk};
+ghost use Rattle.std.specs.Prelude.{◌≡◌, ◌^◌, ◌<◌, IfOk};
 
 use std::alloc::{AllocError, Global};
 use std::cell::Cell;
@@ -8,23 +8,22 @@ use std::test::Fail;
 use thread_local_bucket_pointers::{BucketPointers, FlagSource};
 use thread_local_thread_id::Thread;
 
+/// A slot's place.
+fn place(bucket: usize, index: usize) -> Thread
+    requires { (bucket < 63) × (index < 2 ^ bucket) }
+    ensures { (result.bucket ≡ bucket) × (result.index ≡ index) }
+{
+    Thread { bucket, index }
+}
+
 /// Publishes a value, takes it for another, and drops the rest.
 fn there_and_back<T: Send + Drop>(alloc: Global, first: T, second: T) -> Result<T, AllocError>
     ensures { IfOk result (λ x. x ≡ first) }
 {
     let mut pointers = BucketPointers::new(alloc);
     pointers.install(3)?;
-    pointers.publish(
-        Thread {
-            bucket: 3,
-            index: 5,
-        },
-        first,
-    );
-    let value = pointers.get_mut(Thread {
-        bucket: 3,
-        index: 5,
-    });
+    pointers.publish(place(3, 5), first);
+    let value = pointers.get_mut(place(3, 5));
     Ok(replace(value, second))
 }
 
@@ -39,21 +38,9 @@ fn written_over<T: Send + Drop>(
 {
     let mut pointers = BucketPointers::new(alloc);
     pointers.install(4)?;
-    pointers.publish(
-        Thread {
-            bucket: 4,
-            index: 0,
-        },
-        first,
-    );
-    *pointers.get_mut(Thread {
-        bucket: 4,
-        index: 0,
-    }) = second;
-    let value = pointers.get_mut(Thread {
-        bucket: 4,
-        index: 0,
-    });
+    pointers.publish(place(4, 0), first);
+    *pointers.get_mut(place(4, 0)) = second;
+    let value = pointers.get_mut(place(4, 0));
     Ok(replace(value, third))
 }
 
@@ -127,22 +114,10 @@ fn text_written_over(alloc: Global) -> Result<String, AllocError> {
 fn seen_beside(alloc: Global) -> Result<[bool; 4], AllocError> {
     let mut pointers = BucketPointers::new(alloc);
     pointers.install(2)?;
-    pointers.publish(
-        Thread {
-            bucket: 2,
-            index: 3,
-        },
-        1u32,
-    );
+    pointers.publish(place(2, 3), 1u32);
     Ok([
-        pointers.is_published(Thread {
-            bucket: 2,
-            index: 3,
-        }),
-        pointers.is_published(Thread {
-            bucket: 2,
-            index: 2,
-        }),
+        pointers.is_published(place(2, 3)),
+        pointers.is_published(place(2, 2)),
         pointers.stands(2),
         pointers.stands(1),
     ])
@@ -171,41 +146,11 @@ where
     pointers.install(0)?;
     pointers.install(1)?;
     pointers.install(2)?;
-    pointers.publish(
-        Thread {
-            bucket: 0,
-            index: 0,
-        },
-        make(),
-    );
-    pointers.publish(
-        Thread {
-            bucket: 1,
-            index: 0,
-        },
-        make(),
-    );
-    pointers.publish(
-        Thread {
-            bucket: 1,
-            index: 1,
-        },
-        make(),
-    );
-    pointers.publish(
-        Thread {
-            bucket: 2,
-            index: 1,
-        },
-        make(),
-    );
-    pointers.publish(
-        Thread {
-            bucket: 2,
-            index: 3,
-        },
-        make(),
-    );
+    pointers.publish(place(0, 0), make());
+    pointers.publish(place(1, 0), make());
+    pointers.publish(place(1, 1), make());
+    pointers.publish(place(2, 1), make());
+    pointers.publish(place(2, 3), make());
     pointers.release(1);
     let first = count();
     pointers.release(2);

@@ -10,6 +10,7 @@ use denote.RawPtr.{Ptr, block_ptr, null_ptr, block_of, count_of}
 use denote.Param.Send.{IsSend, part_keyless}
 use mir.Syntax.{Ty}
 use Rattle.std.proofs.Crossing.{frees}
+use Rattle.thread_local_ids.proofs.ReachedElements.{reached_keyless}
 use Rattle.thread_local_ids.proofs.RightElements.{right_keyless}
 use Rattle.thread_local_judged.specs.Judged.{Judged}
 use Rattle.thread_local_ids.proofs.ToldElements.{untold_keyless, tells_keyless, told_or_untold_keyless, all_telling_keyless}
@@ -20,7 +21,7 @@ use Rattle.thread_local_shared_buckets.specs.Shared.{BucketView, Turn, StandingB
 use Rattle.thread_local_shared_buckets.specs.Shared.{tracked_value, pinned_and_told, by, holds, stays, lies_with_slot, shared_slot}
 use Rattle.thread_local_shared_buckets.specs.Shared.{numbered_slot, slots_side, all_unborn, rests, slots_rest, block_rests}
 use Rattle.thread_local_shared_buckets.specs.Shared.{block_stands, beside_pointer, kept, loaded, row_owns, at_rest, len}
-use Rattle.thread_local_shared_buckets.specs.Shared.{first, if_set, seen_value, seen_slot, seen_owns}
+use Rattle.thread_local_shared_buckets.specs.Shared.{first, shown_by, if_set, seen_value, seen_slot, seen_owns}
 
 pub chain_keyless : (νs : List Lft) (κ α : Lft) → Keyless (chain νs κ α)
 chain_keyless [] κ α = λ _. tt
@@ -125,7 +126,7 @@ module _ (R : RattleType) (s : IsSend R) where
   beside_keyless d t (block_ptr b o) = λ z. (
     (λ _. tt),
     (
-      (tt, tt),
+      (tt, (tt, reached_keyless d.table (shown_by d))),
       (
         tt,
         (
@@ -169,7 +170,7 @@ module _ (R : RattleType) (s : IsSend R) where
     (λ _. tt),
     (
       block_rests_keyless d.sharing (first R d) (len R d) b o,
-      token_keyless (block_ty R (len R d)) (block_ptr b o),
+      (token_keyless (block_ty R (len R d)) (block_ptr b o), reached_keyless d.table (shown_by d)),
     ),
   )
 

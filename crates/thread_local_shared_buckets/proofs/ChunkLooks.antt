@@ -1,5 +1,6 @@
 -- A look at the flags of a chunk by a thread that claims none of its slots: it copies what is known of
 -- each slot whose flag is set, as a `&` to its value names no thread. Assumes `Logic`.
+use Rattle.std.proofs.lemmas.Option.{none-some}
 use Rattle.std.proofs.Common.{◌≡◌, ℕ, zero, suc, ◌+◌, ◌*◌, ◌^◌, ◌<◌, Bool, true, false, List, [], ◌∷◌, length, set}
 use Rattle.std.proofs.Common.{◌/◌, ◌%◌, ◌≤◌, refl, sym, ap, subst, ◌∙◌, arith, ⊎_elim, Option, Some, None}
 use Rattle.std.proofs.lemmas.Bool.{cases_lt}
@@ -67,9 +68,6 @@ bit_set_at ns c word bit at small set =
 pub all_from : (P : ℕ → Type 0) (n j : ℕ) → P j → ((i : ℕ) → i < n → P (i + suc j)) → (i : ℕ) → i < suc n → P (i + j)
 all_from P n j one all zero near = let same : j ≡ zero + j = omega arith in subst P same one
 all_from P n j one all (suc i) near = let same : i + suc j ≡ suc i + j = omega arith in subst P same (all i (omega arith))
-
-none_some : {X : Type 0} (x : X) → ◌≡◌ {A = Option X} None (Some x) → ⊥
-none_some x e = cc
 
 -- the value of a slot lies behind that of its chunk's first slot
 pub behind_first : (k o c bit : ℕ) → bit * k + (c * 64 * k + o) ≡ (c * 64 + bit) * k + o
@@ -218,7 +216,7 @@ module _ {M : Type 1} {𝓤 : Ura M} (𝓛 : Logic 𝓤) where
         fsplit ! $ move ! (1 ∷ 3 ∷ []) $
         use2 𝓛 (given Says (‵ Untold ⊛ ‵ Telling)) (slot_agrees 𝓛 R d.sharing k None tokens) $
         learn ! (λ says. split ! $
-        check ! (λ named i x low same at. absurd (none_some _ (says named i x low same at))) $
+        check ! (λ named i x low same at. absurd (none-some _ (says named i x low same at))) $
         -- [untold; what the tokens tell; the right; who has it]
         move ! (2 ∷ 0 ∷ []) $ fjoin ! $ move ! (0 ∷ 2 ∷ []) $ nothing ! $
         fpack ! (set ≡ false) (λ _. ftrue) unset $ fjoin3 ! $ done !))

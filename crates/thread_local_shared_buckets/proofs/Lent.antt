@@ -94,7 +94,9 @@ module _ {M : Type 1} {𝓤 : Ura M} (𝓛 : Logic 𝓤) where
         use2 𝓛 (‵ (block_rests R d.sharing (first R d) (len R d) b o))
         (rests_block 𝓛 t R L b s.0.block_life d.sharing d.table (first R d) (len R d) o
         s.0.names so.1) $
-        keep ! (0 ∷ 1 ∷ []) $ nothing ! $ fpack ! (Sized R (len R d) p) (λ _. ftrue) so.2 $ fjoin3 ! $ done !))
+        -- [the block; the right to free; settled; its own token]
+        move ! (2 ∷ []) $ fsplit3 ! $ keep ! (4 ∷ 2 ∷ 3 ∷ []) $ fjoin ! $ move ! (1 ∷ 0 ∷ []) $
+        nothing ! $ fpack ! (Sized R (len R d) p) (λ _. ftrue) so.2 $ fjoin3 ! $ done !))
 
     module _ (κ : Lft) where
       abbrev Names : Type 0
@@ -153,9 +155,9 @@ module _ {M : Type 1} {𝓤 : Ura M} (𝓛 : Logic 𝓤) where
           let s : StandingBlock = record { at = p; block_life = ν; names = names } in
           move ! (4 ∷ []) $ fsplit ! $ name_set ! tt (block_code s) $
           use1 𝓛 (‵ (fres t.which (block_code s))) (𝓛.names.obs-res t.which (block_code s)) $
-          move ! (1 ∷ 0 ∷ []) $ fjoin ! $
-          -- [settled; its own token; μ's token; the block; the right to free]
-          move ! (3 ∷ 4 ∷ []) $ fjoin ! $ move ! (1 ∷ 2 ∷ 0 ∷ []) $ fjoin3 ! $ nothing ! $
+          move ! (5 ∷ []) $ fsplit ! $ move ! (3 ∷ 2 ∷ 1 ∷ []) $ fjoin3 ! $
+          -- [settled; the right to free; its own token; μ's token; the block]
+          move ! (4 ∷ 1 ∷ []) $ fjoin ! $ move ! (1 ∷ 2 ∷ 0 ∷ []) $ fjoin3 ! $ nothing ! $
           fpack ! ((p ≡ p) × (length names ≡ len R d) × Sized R (len R d) p) (λ _. ftrue)
           (refl, long, so) $
           fjoin ! $

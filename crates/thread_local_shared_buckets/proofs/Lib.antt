@@ -1,8 +1,10 @@
 pub mod Lists
 pub mod Redeemed
 pub mod ToldLaws
+pub mod CompleteWalks
 mod Turned
 pub mod Fields
+pub mod GrownLaws
 pub mod StepLaws
 pub mod MoveLaws
 pub mod WalkLaws

@@ -46,12 +46,18 @@ table_named s b near =
       sharing = d.sharing;
       bucket = b;
       reserved = nat_lt (id_at b 0) s.reserved;
+      grown_by_ids = d.grown_by_ids;
     })
     (table_bucket s 0 (omega arith)))
 
 pub table_seen : (s : TableView) → table_view_of (table_buckets s) s.reserved ≡ s
 table_seen s =
-    ap (λ (d : BucketView). record { table = d.table; sharing = d.sharing; reserved = s.reserved })
+    ap (λ (d : BucketView). record {
+      table = d.table;
+      sharing = d.sharing;
+      reserved = s.reserved;
+      grown_by_ids = d.grown_by_ids;
+    })
     (table_bucket s 0 (omega arith))
 
 -- these are a table's buckets from this number on

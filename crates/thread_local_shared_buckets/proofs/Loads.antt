@@ -1,4 +1,5 @@
 -- A load of a shared bucket's pointer, and what it hands out. Assumes `Logic`.
+use Rattle.std.proofs.lemmas.Option.{none-some}
 use Rattle.std.proofs.Common.{◌≡◌, ℕ, List, zero, suc, ◌+◌, ◌<◌, false, [], ◌∷◌, ◌++◌, length, sym, subst, refl, arith}
 use Rattle.std.proofs.Common.{Option, Some, None, IsSome}
 use seplogic.Ra.Ura.{Ura}
@@ -19,11 +20,12 @@ use Rattle.std.specs.Sync.RawAtomic.Pointer.{cell, asks_ptr}
 use Rattle.thread_local_model.specs.Fact.{fact}
 use Rattle.thread_local_ids.specs.Told.{untold_in, tells}
 use Rattle.thread_local_ids.proofs.ToldElements.{telling_alike}
+use Rattle.thread_local_ids.proofs.ReachedElements.{reached_twice}
 use Rattle.thread_local_ids.specs.Views.{TokenView}
 use Rattle.thread_local_ids.specs.TokenLists.{AllOf, tell_each}
 use Rattle.thread_local_ids.proofs.TokenListLaws.{slot_agrees}
 use Rattle.thread_local_shared_buckets.proofs.ChunkLooks.{all_from}
-use Rattle.thread_local_shared_buckets.specs.Shared.{BucketView, Turn, StandingBlock, block_code, Sized, len, first}
+use Rattle.thread_local_shared_buckets.specs.Shared.{BucketView, Turn, StandingBlock, block_code, Sized, len, first, shown_by, grown}
 use Rattle.thread_local_shared_buckets.specs.Shared.{all_unborn, standing, beside_pointer, bucket_invariant, loaded}
 use Rattle.thread_local_model.proofs.Pointers.{Lies, opened}
 
@@ -48,9 +50,6 @@ module _ {M : Type 1} {𝓤 : Ura M} (𝓛 : Logic 𝓤) (R : RattleType) (shari
       qed 𝓛 (‵ (all_unborn R sharing table t (suc n) k) ∷ ‵ (tells R sharing id (Some x)) ∷ []) ∵
       fsplit ! $ keep ! (1 ∷ 2 ∷ []) $
       by ! (unborn_untold n (suc k) i id (omega arith) (omega arith))
-
-never_some : {X : Type 0} (x : X) → ◌≡◌ {A = Option X} None (Some x) → ⊥
-never_some x e = cc
 
 module _ {M : Type 1} {𝓤 : Ura M} (𝓛 : Logic 𝓤) (R : RattleType) (sharing : Option GName)
     (table : ℕ) (t : Turn) (tokens : List (TokenView R.Denot)) where
@@ -80,7 +79,7 @@ module _ {M : Type 1} {𝓤 : Ura M} (𝓛 : Logic 𝓤) (R : RattleType) (shari
       move ! (2 ∷ 1 ∷ []) $
       use2 𝓛 (given ((i : ℕ) → i < n → NoToken (i + suc k)) (‵ Rest ⊛ ‵ Telling)) (unborn_unlisted n (suc k)) $
       learn ! (λ all. split ! $
-      check ! (all_from NoToken n k (λ named i x low same at. never_some _ (says named i x low same at)) all) $
+      check ! (all_from NoToken n k (λ named i x low same at. none-some _ (says named i x low same at)) all) $
       move ! (2 ∷ 0 ∷ []) $ fjoin ! $ done !))
 
 module _ {M : Type 1} {𝓤 : Ura M} (𝓛 : Logic 𝓤) (R : RattleType) (d : BucketView) (t : Turn)
@@ -120,11 +119,11 @@ module _ {M : Type 1} {𝓤 : Ura M} (𝓛 : Logic 𝓤) (R : RattleType) (d : B
 
   infix 26 ◌⊢◌
   infixr 35 ◌∗◌
-  -- a part of the token of the block's own lifetime, and which block it is
+  -- a part of the token of the block's own lifetime, which block it is, and what it shows
   abbrev pub part : Ptr → StandingBlock × Share → Fml
   part p z =
       fsep (fact ((z.0.at ≡ p) × (length z.0.names ≡ len R d) × Sized R (len R d) p))
-      (fsep (fres t.which (block_code z.0)) (flft (z.0.block_life ∷ []) z.1))
+      (fsep (fres t.which (block_code z.0)) (fsep (flft (z.0.block_life ∷ []) z.1) (grown d)))
 
   -- what a load takes out of the invariant: `none` at null, and else `also` with a part of the
   -- token of the block's lifetime
@@ -137,13 +136,16 @@ module _ {M : Type 1} {𝓤 : Ura M} (𝓛 : Logic 𝓤) (R : RattleType) (d : B
   parted p z =
       let ν : Lft = z.0.block_life ∷ [] in
       qed 𝓛 (‵ (standing R d t p z) ∷ []) ∵ fsplit ! $ fpick ! (λ so. drop ! $ fsplit3 ! $
-      fsplit ! $ move ! (1 ∷ []) $ res_dup ! $ move ! (3 ∷ []) $
+      fsplit3 ! $ move ! (2 ∷ []) $
+      use1 𝓛 (‵ (grown d) ⊛ ‵ (grown d)) (reached_twice 𝓛 d.table (shown_by d)) $ split ! $
+      move ! (3 ∷ []) $ res_dup ! $ move ! (5 ∷ []) $
       use1 𝓛 (‵ (flft ν (left z.1)) ⊛ ‵ (flft ν (right z.1))) (𝓛.lfts.lft_split ν z.1) $ split ! $
-      -- [the left half; the right; which, twice; its authority; the slots with the right to free]
-      move ! (4 ∷ 2 ∷ []) $ fjoin ! $ move ! (0 ∷ 1 ∷ 4 ∷ []) $ fjoin3 ! $ nothing ! $
+      -- [the left half; the right; which, twice; what it shows, twice; its authority; the slots
+      -- with the right to free]
+      move ! (6 ∷ 2 ∷ 4 ∷ []) $ fjoin3 ! $ move ! (0 ∷ 1 ∷ 5 ∷ []) $ fjoin3 ! $ nothing ! $
       fpack ! ((z.0.at ≡ p) × (length z.0.names ≡ len R d) × Sized R (len R d) p) (λ _. ftrue) so $
       fjoin ! $ frame ! $
-      move ! (1 ∷ 0 ∷ []) $ nothing ! $
+      move ! (0 ∷ 2 ∷ []) $ fjoin ! $ move ! (1 ∷ 0 ∷ []) $ nothing ! $
       fpack ! ((z.0.at ≡ p) × (length z.0.names ≡ len R d) × Sized R (len R d) p) (λ _. ftrue) so $
       fjoin3 ! $ done !)
 
@@ -153,7 +155,7 @@ module _ {M : Type 1} {𝓤 : Ura M} (𝓛 : Logic 𝓤) (R : RattleType) (d : B
       ⊢ H.⇛ (⟦ fact ((z.0.at ≡ p) × Sized R (len R d) p) ⟧ ∗ ⟦ loaded R d t z.0 κ ⟧)
   reaches κ p z = let ν : Lft = z.0.block_life ∷ [] in let α : Lft = t.life in
       qed 𝓛 (‵ (part p z) ∷ ‵ (before κ α) ∷ []) ∵ updating ! $ fsplit3 ! $ fpick ! (λ so. drop ! $
-      move ! (1 ∷ []) $ bor_new ! tt α $ bor_fracture ! tt (λ q. flft ν q) z.1 $ move ! (1 ∷ []) $
+      move ! (1 ∷ []) $ fsplit ! $ move ! (1 ∷ []) $ drop ! $ bor_new ! tt α $ bor_fracture ! tt (λ q. flft ν q) z.1 $ move ! (1 ∷ []) $
       drop ! $
       use0 𝓛 (‵ (before (ν ++ α) (ν ++ α))) (before-Incl 𝓛 (ν ++ α) (ν ++ α) (Incl-refl (ν ++ α))) $
       move ! (1 ∷ 0 ∷ []) $ use2 𝓛 (‵ (before α (ν ++ α))) (before_lent 𝓛 α ν (ν ++ α)) $

@@ -35,7 +35,7 @@ use Rattle.thread_local_bucket_pointers.specs.Slots.{flags, back, block_owns, em
 use Rattle.thread_local_shared_buckets.specs.Shared.{BucketView, Turn, StandingBlock, Who, free, early, block_code}
 use Rattle.thread_local_shared_buckets.specs.Shared.{value_code, tracked_value, age, holds, lies_with_slot, shared_slot_as}
 use Rattle.thread_local_shared_buckets.specs.Shared.{numbered_slot, AreFlagWords, slots_under, slots_stand, block_stands}
-use Rattle.thread_local_shared_buckets.specs.Shared.{slots_side, all_unborn, Sized, len, first, standing, beside_pointer}
+use Rattle.thread_local_shared_buckets.specs.Shared.{slots_side, all_unborn, Sized, len, first, standing, beside_pointer, grown}
 use Rattle.thread_local_shared_buckets.specs.Shared.{bucket_invariant}
 use Rattle.thread_local_ids.specs.Told.{untold_in}
 use Rattle.thread_local_model.proofs.Pointers.{Compared, opened_to_compare, alike_null}
@@ -318,16 +318,16 @@ module _ {M : Type 1} {𝓤 : Ura M} (𝓛 : Logic 𝓤) (R : RattleType) (t : T
       abbrev F : Ptr × Bool → Pr
       F = Compared 𝓛 t.life q J b o null_ptr new won lost
 
-      found : (p : Ptr) → ⟦ cell b o p ⟧ ∗ ⟦ beside_pointer R d t p ⟧ ∗ ⟦ private new s ⟧ ⊢ ex 𝓤 F
+      found : (p : Ptr) → ⟦ cell b o p ⟧ ∗ ⟦ beside_pointer R d t p ⟧ ∗ ⟦ private new s ⟧ ∗ ⟦ grown d ⟧ ⊢ ex 𝓤 F
       found null_ptr = let m = block_code s in let γ : GName = t.which in let G : Pr = ⟦ J ⟧ ∗ ⟦ won null_ptr ⟧ in
           qed 𝓛
-          (‵ (cell b o null_ptr) ∷ ‵ (beside_pointer R d t null_ptr) ∷ ‵ (private new s) ∷ []) ∵
+          (‵ (cell b o null_ptr) ∷ ‵ (beside_pointer R d t null_ptr) ∷ ‵ (private new s) ∷ ‵ (grown d) ∷ []) ∵
           show ! F (null_ptr, true) $ frame ! $
           use0 𝓛 (‵ (alike null_ptr null_ptr true)) (alike_null 𝓛 null_ptr (lit< tt)) $ frame ! $
           assume ! (‵ (cell b o new)) $ move ! (1 ∷ []) $ fsplit3 ! $ drop ! $
           use1 𝓛 (raw (upd 𝓤 (A.obs γ m ∗ A.auth γ m))) (𝓛.names.name_set_upd γ gnil gnil m) $
           settle 𝓛 G (‵ (fobs γ m) ⊛ ‵ (fauth γ m)) $ suffices ! _ (upd_i 𝓤 G) $ split ! $
-          use1 𝓛 (‵ (fres γ m)) (𝓛.names.obs-res γ m) $ move ! (1 ∷ 0 ∷ []) $ fjoin ! $ move ! (3 ∷ []) $ fsplit ! $
+          use1 𝓛 (‵ (fres γ m)) (𝓛.names.obs-res γ m) $ move ! (1 ∷ 0 ∷ 5 ∷ []) $ fjoin3 ! $ move ! (3 ∷ []) $ fsplit ! $
           -- [its own token; the block; settled; what waits; the pointer]
           move ! (3 ∷ 1 ∷ []) $ use2 𝓛 (‵ (fsep (block_stands R d t new s) (heap_token τ new))) (born_block new s so.1) $
           move ! (2 ∷ 1 ∷ 0 ∷ []) $ fjoin3 ! $ nothing ! $ fpack ! (Lies new s) (λ _. ftrue) so $ fjoin ! $
@@ -339,8 +339,8 @@ module _ {M : Type 1} {𝓤 : Ura M} (𝓛 : Logic 𝓤) (R : RattleType) (t : T
           move ! (2 ∷ 0 ∷ []) $ fjoin ! $ fpack ! Ptr Held new $ done !
       found (block_ptr pb po) =
           let p : Ptr = block_ptr pb po in
-          qed 𝓛 (‵ (cell b o p) ∷ ‵ (beside_pointer R d t p) ∷ ‵ (private new s) ∷ []) ∵
-          show ! F (p, false) $ frame ! $ fpick ! (λ z. fsplit ! $ fpick ! (λ h. drop ! $
+          qed 𝓛 (‵ (cell b o p) ∷ ‵ (beside_pointer R d t p) ∷ ‵ (private new s) ∷ ‵ (grown d) ∷ []) ∵
+          keep ! (0 ∷ 1 ∷ 2 ∷ []) $ show ! F (p, false) $ frame ! $ fpick ! (λ z. fsplit ! $ fpick ! (λ h. drop ! $
           nothing ! $ fpack ! (Lies p z.0) (λ _. ftrue) h $ fjoin ! $
           use1 𝓛 (‵ (standing R d t p (z.0, left z.1)) ⊛ ‵ (part 𝓛 R d t p (z.0, right z.1)))
           (parted 𝓛 R d t p z) $
@@ -351,10 +351,10 @@ module _ {M : Type 1} {𝓤 : Ura M} (𝓛 : Logic 𝓤) (R : RattleType) (t : T
           fpack ! (StandingBlock × Share) (part 𝓛 R d t p) (z.0, right z.1) $ nothing ! $
           move ! (1 ∷ 0 ∷ []) $ fjoin ! $ move ! (1 ∷ 0 ∷ []) $ fjoin ! $ done !))
 
-      pub offers : A.inv (fbor t.life J) ∗ (A.lft t.life q ∗ ⟦ private new s ⟧)
+      pub offers : A.inv (fbor t.life J) ∗ (A.lft t.life q ∗ (⟦ private new s ⟧ ∗ ⟦ grown d ⟧))
           ⊢ compares 𝓛 (block_ptr b o) null_ptr new (λ p. fsep (flft t.life q) (won p))
           (λ p. fsep (flft t.life q) (lost p))
       offers =
-          opened_to_compare 𝓛 t.life q J b o null_ptr new won lost ⟦ private new s ⟧
-          (qed 𝓛 (‵ J ∷ ‵ (private new s) ∷ []) ∵ suffices ! _ (upd_i 𝓤 (ex 𝓤 F)) $ fpick ! (λ p.
+          opened_to_compare 𝓛 t.life q J b o null_ptr new won lost (⟦ private new s ⟧ ∗ ⟦ grown d ⟧)
+          (qed 𝓛 (‵ J ∷ ‵ (private new s) ∷ ‵ (grown d) ∷ []) ∵ suffices ! _ (upd_i 𝓤 (ex 𝓤 F)) $ fpick ! (λ p.
           fsplit ! $ by ! (found p)))

@@ -11,7 +11,7 @@ use base.Fml.{GName, Fml, ftrue, fsep, fex}
 use base.Logic.{SProp, ent, sep, ex, guard, id⊢, guard_i}
 use contract.Monad.{fact_use}
 use types.Logic.{Logic, sem}
-use types.Kit.{‵, some, given, later, split, use2, use3, ◌⊛◌, ◌$◌, ◌∵◌, !, qed, move, drop, use1, fsplit, fsplit3}
+use types.Kit.{‵, some, given, later, split, use2, use3, ◌⊛◌, ◌$◌, ◌∵◌, !, qed, move, keep, drop, use0, use1, fsplit, fsplit3}
 use types.Kit.{fjoin, fjoin3, fpick, fpack, pick, learn, check, show, await, updating, now, rewrite, done}
 use denote.RattleType.{RattleType}
 use denote.RawPtr.{Ptr, block_ptr, null_ptr, InBlock, Testable}
@@ -27,6 +27,9 @@ use Rattle.thread_local_bucket_pointers.specs.PointerOwns.{pointer_owns}
 use Rattle.thread_local_shared_buckets.specs.Shared.{BucketView, AreFlagWords, slots_under, slot_rests_as, slot_rests}
 use Rattle.thread_local_shared_buckets.specs.Shared.{slots_rest, Sized, len, first, at_rest}
 use Rattle.thread_local_ids.specs.Told.{told_or_untold, all_told_or_untold, whole_row}
+use Rattle.thread_local_ids.specs.Rights.{reached_owns}
+use Rattle.thread_local_ids.proofs.ReachedElements.{reached_none}
+use Rattle.thread_local_shared_buckets.proofs.GrownLaws.{row_known, shown_whole}
 use Rattle.thread_local_shared_buckets.proofs.Rested.{redeems}
 use Rattle.thread_local_shared_buckets.specs.Fit.{Fit}
 
@@ -198,8 +201,12 @@ module _ {M : Type 1} {𝓤 : Ura M} (𝓛 : Logic 𝓤) (R : RattleType) (L : L
     k = first R d
 
     -- what is told of the bucket's slots, by its row
+    abbrev Telling : List C → Fml
+    Telling cs = all_told_or_untold R d.sharing k (whole_row d.bucket cs)
+
+    -- the same, with what the row shows
     abbrev pub Tells : List C → Fml
-    Tells cs = all_told_or_untold R d.sharing k (whole_row d.bucket cs)
+    Tells cs = row_known R d cs
 
     abbrev Slotted : ℕ → ℕ → Fml
     Slotted b o = fex (List ℕ) (slots_under R n b o (slots_rest R d.sharing k n 0 b o))
@@ -261,8 +268,11 @@ module _ {M : Type 1} {𝓤 : Ura M} (𝓛 : Logic 𝓤) (R : RattleType) (L : L
     abbrev pub Plain : Ptr → List C → Pr
     Plain p cs = guard 𝓤 (Fit d cs) (⟦ pointer_owns R heap_token p cs ⟧ ∗ ⟦ Tells cs ⟧)
 
+    has_slots : (cs : List C) → length cs ≡ n → 0 < length cs
+    has_slots cs long = let some_slots : 0 < 2 ^ d.bucket = pow_pos d.bucket in omega (arith, some_slots, long)
+
     -- what is told of the slots of a bucket that stands
-    tells_whole : (cs : List C) → length cs ≡ n → ⟦ all_told_or_untold R d.sharing k cs ⟧ ⊢ ⟦ Tells cs ⟧
+    tells_whole : (cs : List C) → length cs ≡ n → ⟦ all_told_or_untold R d.sharing k cs ⟧ ⊢ ⟦ Telling cs ⟧
     tells_whole [] long = let some_slots : 0 < 2 ^ d.bucket = pow_pos d.bucket in absurd (omega arith)
     tells_whole (c ∷ cs) long = id⊢ 𝓤 _
 
@@ -270,26 +280,31 @@ module _ {M : Type 1} {𝓤 : Ura M} (𝓛 : Logic 𝓤) (R : RattleType) (L : L
     pub redeems_bucket : (p : Ptr) → ⟦ at_rest R d p ⟧ ⊢ H.⇛ (ex 𝓤 (Plain p))
     redeems_bucket null_ptr =
         qed 𝓛 (‵ (at_rest R d null_ptr) ∷ []) ∵ updating ! $ fsplit ! $ fpick ! (λ free. drop ! $
+        use0 𝓛 (‵ (reached_owns d.table 0)) (reached_none 𝓛 d.table) $ move ! (1 ∷ 0 ∷ []) $ fjoin ! $
         now ! $ show ! (Plain null_ptr) [] $ check ! (inl (refl, free)) $
         nothing ! $ fpack ! (null_ptr ≡ null_ptr) (λ _. ftrue) refl $ done !)
     redeems_bucket (block_ptr b o) =
         let p : Ptr = block_ptr b o in
         qed 𝓛 (‵ (at_rest R d p) ∷ []) ∵ updating ! $ fsplit3 ! $ fpick ! (λ so. drop ! $ fsplit ! $
+        move ! (2 ∷ []) $ fsplit ! $ move ! (2 ∷ 3 ∷ 0 ∷ 1 ∷ []) $
         use1 𝓛 (later (some (λ (cs : List C).
         given (length cs ≡ n) (‵ (Slots b o cs) ⊛ ‵ (all_told_or_untold R d.sharing k cs)))))
         (redeems_block b o) $
         await ! tt $ pick ! (λ cs. learn ! (λ long. split ! $
-        -- [the slots; what is told of them; the way back; the right to free]
+        -- [the slots; what is told of them; the way back; the right to free; what the block shows]
         move ! (0 ∷ 2 ∷ 3 ∷ []) $
         use3 𝓛 (‵ (pointer_owns R heap_token p cs)) (plain_block b o cs long so) $ move ! (1 ∷ []) $
-        use1 𝓛 (‵ (Tells cs)) (tells_whole cs long) $ move ! (1 ∷ 0 ∷ []) $
+        use1 𝓛 (‵ (Telling cs)) (tells_whole cs long) $ move ! (2 ∷ []) $
+        rewrite ! 0 (λ (m : ℕ). ‵ (reached_owns d.table m)) (shown_whole d cs (has_slots cs long)) refl $
+        move ! (1 ∷ 0 ∷ []) $ fjoin ! $ move ! (1 ∷ 0 ∷ []) $
         now ! $ show ! (Plain p) cs $ check ! (inr long) $ done !)))
 
     -- an owner's pointer is a bucket at rest
     pub rests_bucket : (p : Ptr) (cs : List C) → Fit d cs
         → ⟦ pointer_owns R heap_token p cs ⟧ ∗ ⟦ Tells cs ⟧ ⊢ ⟦ at_rest R d p ⟧
     rests_bucket null_ptr [] (inl fit) =
-        qed 𝓛 (‵ (pointer_owns R heap_token null_ptr []) ∷ ‵ (Tells []) ∷ []) ∵ drop ! $ nothing ! $
+        qed 𝓛 (‵ (pointer_owns R heap_token null_ptr []) ∷ ‵ (Tells []) ∷ []) ∵ drop ! $ fsplit ! $
+        keep ! (0 ∷ []) $ nothing ! $
         fpack ! (d.reserved ≡ false) (λ _. ftrue) fit.1 $ fjoin ! $ done !
     rests_bucket (block_ptr b o) [] (inl fit) =
         qed 𝓛 (‵ (pointer_owns R heap_token (block_ptr b o) []) ∷ ‵ (Tells []) ∷ []) ∵
@@ -306,7 +321,9 @@ module _ {M : Type 1} {𝓤 : Ura M} (𝓛 : Logic 𝓤) (R : RattleType) (L : L
         move ! (1 ∷ []) $ rewrite ! 0 (λ (m : ℕ). ‵ (back R b o m)) fit refl $ move ! (2 ∷ []) $
         rewrite ! 0 (λ (m : ℕ). ‵ (heap_token (block_ty R m) p)) fit refl $
         use1 𝓛 (given (Testable p) (‵ (heap_token (block_ty R n) p))) (tested (block_ty R n) p) $
-        learn ! (λ test. move ! (3 ∷ 2 ∷ []) $ fjoin ! $ move ! (0 ∷ 3 ∷ []) $
-        -- [the words and the slots; what is told; the right to free; the way back]
-        use2 𝓛 (‵ (Slotted b o)) (rests_block b o all fit) $ move ! (0 ∷ 2 ∷ []) $ fjoin ! $
+        learn ! (λ test. move ! (3 ∷ 2 ∷ []) $ fjoin ! $ move ! (3 ∷ []) $ fsplit ! $ move ! (2 ∷ 0 ∷ []) $
+        -- [the words and the slots; what is told; what the row shows; the right to free; the way
+        -- back]
+        use2 𝓛 (‵ (Slotted b o)) (rests_block b o all fit) $ move ! (0 ∷ 3 ∷ []) $ fjoin ! $
+        move ! (2 ∷ 1 ∷ []) $ fjoin ! $ move ! (1 ∷ 0 ∷ []) $
         nothing ! $ fpack ! (Sized R n p) (λ _. ftrue) (tt, test, subst (Fits R) fit so.1) $ fjoin3 ! $ done !))

@@ -1,11 +1,10 @@
 -- What a walk does about the tokens that it was made with.
-use Rattle.std.proofs.Common.{◌≡◌, ◌≢◌, ℕ, suc, ◌+◌, ◌-◌, ◌*◌, ◌/◌, ◌^◌, ◌<◌, ◌≤◌, ◌⊎◌, true, false, List, Option, None, Some, IfSome}
+use Rattle.std.proofs.Common.{◌≡◌, ◌≢◌, ℕ, suc, ◌+◌, ◌-◌, ◌*◌, ◌/◌, ◌^◌, ◌<◌, ◌≤◌, true, false, List, Option, None, Some, IfSome}
 use Rattle.std.proofs.Common.{refl, ap, sym, ◌∙◌, subst, arith, ⊎_elim, inl, inr, pow_mono}
 use Rattle.std.specs.Prelude.{MatchOption, slice_index_or, All}
 use Rattle.std.proofs.lemmas.Bool.{cases_lt, cases_eq}
-use denote.Ref.{Bor}
 use Rattle.thread_local_model.specs.Place.{id_at, bucket_of, index_of}
-use Rattle.thread_local_model.specs.Cursor.{Cursor, cursor_id}
+use Rattle.thread_local_model.specs.Cursor.{cursor_id}
 use Rattle.thread_local_model.specs.Bits.{is_set, IsLowestSet, IsWordBut}
 use Rattle.thread_local_model.proofs.PlaceLaws.{id_at-place, inside}
 use Rattle.thread_local_ids.specs.Views.{TokenView}

@@ -1,7 +1,7 @@
 -- Turns shared buckets at rest into an owner's buckets and back: the machine values are the same.
 -- Assumes `Logic`.
 use Rattle.std.proofs.Common.{map, suc, ◌≡◌, ℕ, ◌<◌, ◌^◌, w64, List, [], ◌∷◌, ◌++◌, length, refl, sym, ap, ◌∙◌, subst}
-use Rattle.std.proofs.Common.{arith, Option}
+use Rattle.std.proofs.Common.{arith, Option, None, Some, true, ◌==◌}
 use seplogic.Ra.Ura.{Ura}
 use mir.Val.{Val, vint, vstruct, vcons, vnil, of_list}
 use base.Fml.{Fml, ftrue, ffalse, fsep}
@@ -31,9 +31,10 @@ use Rattle.thread_local_bucket_pointers.specs.Slots.{heap_token}
 use Rattle.thread_local_bucket_pointers.specs.PointerOwns.{pointer_owns}
 use Rattle.thread_local_bucket_pointers.specs.contracts.bucket_pointer.BucketPointer as plain
 use Rattle.thread_local_bucket_pointers.proofs.bucket_pointer.BucketPointer.TheLaws as plain'
-use Rattle.thread_local_shared_buckets.specs.Shared.{BucketView, first, at_rest}
-use Rattle.thread_local_ids.specs.Told.{all_told_or_untold, whole_row, rows_telling, rows_tell, book_owns}
-use Rattle.thread_local_ids.proofs.Rows.{none_rows, rows_end}
+use Rattle.thread_local_shared_buckets.specs.Shared.{BucketView, at_rest}
+use Rattle.thread_local_ids.specs.Told.{rows_telling, rows_tell, book_owns}
+use Rattle.thread_local_ids.proofs.ToldElements.{source}
+use Rattle.thread_local_ids.proofs.Rows.{none_rows, rows_end, table_whole, rows_drawn}
 use Rattle.thread_local_shared_buckets.specs.contracts.shared_bucket.SharedBucket as shared
 use Rattle.thread_local_bucket_pointers.specs.Pointers.{contents_of}
 use Rattle.thread_local_bucket_pointers.specs.contracts.pointer_array.PointerArray as array
@@ -51,6 +52,9 @@ use Rattle.thread_local_shared_buckets.specs.TableView.{TableView, table_view_of
 use Rattle.thread_local_shared_buckets.proofs.Lists.{AreOf, all_are_of, named_are_of, Fits, fits_long, owned_of}
 use Rattle.thread_local_shared_buckets.proofs.Lists.{are_owned, fit_all, table_buckets, all_buckets-length, table_named}
 use Rattle.thread_local_shared_buckets.proofs.Lists.{table_seen}
+use Rattle.thread_local_shared_buckets.specs.Grown.{only_reserved}
+use Rattle.thread_local_shared_buckets.proofs.GrownLaws.{row_known, rows_known, rows_grown, known_apart, known_together}
+use Rattle.thread_local_shared_buckets.proofs.GrownLaws.{none_grown, less_grown, nothing_shown, lent_shown, view_again, grown_in}
 use Rattle.thread_local_shared_buckets.proofs.Redeemed.{redeems_bucket, rests_bucket}
 
 -- the machine value of an owner's pointers with the number of reserved slots
@@ -93,9 +97,9 @@ module _ {M : Type 1} {𝓤 : Ura M} (𝓛 : Logic 𝓤) (R : RattleType) (L : L
   abbrev Inside : BucketView → List Val → Ptr → Fml
   Inside d vs p = fsep (Data p vs) (at_rest R d p)
 
-  -- ---- one bucket: an owner's pointer, and what is told of its slots
+  -- ---- one bucket: an owner's pointer, and what is known of its slots
   abbrev Tells : BucketView → List C → Fml
-  Tells d cs = all_told_or_untold R d.sharing (first R d) (whole_row d.bucket cs)
+  Tells d cs = row_known R d cs
 
   abbrev Turned : BucketView → List Val → W.Denot → Pr
   Turned d vs w = guard 𝓤 (Fit d w.slots) (⟦ W.own_val w vs ⟧ ∗ ⟦ Tells d w.slots ⟧)
@@ -130,7 +134,7 @@ module _ {M : Type 1} {𝓤 : Ura M} (𝓛 : Logic 𝓤) (R : RattleType) (L : L
   -- ---- one after another, from the bucket b of a table on
   module _ (s : TableView) where
     abbrev RowsTell : ℕ → List W.Denot → Fml
-    RowsTell b ws = rows_telling R s.sharing b (map slots ws)
+    RowsTell b ws = rows_known R s b (map slots ws)
 
     abbrev All : ℕ → List BucketView → List Val → List W.Denot → Pr
     All b ds us ws = guard 𝓤 (Fits slots ds ws) (⟦ each W.Denot W.own_val ws us ⟧ ∗ ⟦ RowsTell b ws ⟧)
@@ -259,9 +263,19 @@ module _ {M : Type 1} {𝓤 : Ura M} (𝓛 : Logic 𝓤) (R : RattleType) (L : L
       × ((table_view_of x.pointers.pointers.pointers x.reserved ≡ s)
       × (AreBuckets x.pointers.pointers.pointers x.reserved × AreOfFirstBuckets x.reserved))
 
-  -- what is told of the slots of an owner's buckets, if they are shared as this says
+  -- what is known of the slots of an owner's buckets, if they are shared as this says
   abbrev pub AllTell : TableView → Owner.Denot → Fml
-  AllTell s y = rows_telling R s.sharing 0 y.contents.rows
+  AllTell s y = rows_known R s 0 y.contents.rows
+
+  -- what an owner's buckets show, if they are shared as this says
+  abbrev pub AllGrown : TableView → Owner.Denot → Fml
+  AllGrown s y = rows_grown R s 0 y.contents.rows
+
+  -- the fields of an owner's buckets fit together
+  fit_together : (y : Owner.Denot) (vs : List Val) → ⟦ Owner.own_val y vs ⟧ ⊢ guard 𝓤 (IsOwned y) ⟦ Owner.own_val y vs ⟧
+  fit_together y vs =
+      qed 𝓛 (‵ (Owner.own_val y vs) ∷ []) ∵ fpick ! (λ h. fsplit ! $ check ! (subst IsOwned h.1.0 h.1.1) $ fjoin ! $
+      fpack ! (OwnedOf y) (λ a. fsep ((buckets.TheInside.the_row R).own_val a.0 vs) ftrue) h $ done !)
 
   abbrev pub Out : TableView → List Val → Owner.Denot → Pr
   Out s vs y = guard 𝓤 (Judged R × (y.reserved ≡ s.reserved)) (⟦ Owner.own_val y vs ⟧ ∗ ⟦ AllTell s y ⟧)
@@ -317,7 +331,7 @@ module _ {M : Type 1} {𝓤 : Ura M} (𝓛 : Logic 𝓤) (R : RattleType) (L : L
       (λ i. record { contents = sym h'.1.0 i; reserved = e i }) h.1.1 in
       let rows : y.contents ≡ record { rows = map slots ws } = ap (λ (o : Owned R.Denot). o.contents) (sym h.1.0) ∙ sym h'.1.0 in
       move ! (9 ∷ []) $
-      rewrite ! 0 (λ (z : Contents R.Denot). ‵ (rows_telling R s.sharing 0 z.rows)) rows refl $
+      rewrite ! 0 (λ (z : Contents R.Denot). ‵ (rows_known R s 0 z.rows)) rows refl $
       move ! (2 ∷ 0 ∷ []) $
       use2 𝓛 (‵ ((Array S 63).own_val ds tss.0))
       (array_rests j s ds ws tss.0 (all_buckets-length s 63 0) (all_are_of s 63 0)
@@ -352,8 +366,11 @@ module _ {M : Type 1} {𝓤 : Ura M} (𝓛 : Logic 𝓤) (R : RattleType) (L : L
   abbrev pub Row : RattleType
   Row = whole.the_row R
 
+  abbrev pub IsLent : TableView → Owner.Denot → Type 0
+  IsLent s y = Judged R × (y.reserved ≡ s.reserved) × IsOwned y
+
   abbrev pub Lies : TableView → ℕ → ℕ → Owner.Denot → Pr
-  Lies s b o y = guard 𝓤 (Judged R × (y.reserved ≡ s.reserved)) ⟦ part_at Owner full_share y b o ⟧
+  Lies s b o y = guard 𝓤 (IsLent s y) (⟦ part_at Owner full_share y b o ⟧ ∗ ⟦ AllGrown s y ⟧)
 
   pub lies_plain : (s : TableView) (b o : ℕ) → ⟦ part_at Row full_share s b o ⟧ ⊢ H.⇛ (ex 𝓤 (Lies s b o))
   unfolding part_of
@@ -362,24 +379,36 @@ module _ {M : Type 1} {𝓤 : Ura M} (𝓛 : Logic 𝓤) (R : RattleType) (L : L
       given (Judged R × (y.reserved ≡ s.reserved)) (‵ (Owner.own_val y vs) ⊛ ‵ (AllTell s y)))))
       (turns_plain s vs) $
       await ! tt $ pick ! (λ y. learn ! (λ so. split ! $
+      use1 𝓛 (given (IsOwned y) (‵ (Owner.own_val y vs))) (fit_together y vs) $ learn ! (λ owned.
+      -- [the buckets; what is known of them; the memory]
       move ! (2 ∷ 0 ∷ []) $ fjoin ! $
       fpack ! (List Val) (λ us. fsep (cell_at full_share Owner.mir us b o) (Owner.own_val y us))
       vs $
-      now ! $ show ! (Lies s b o) y $ check ! so $ keep ! (0 ∷ []) $ done !)))
+      move ! (1 ∷ []) $
+      use1 𝓛 (‵ (rows_telling R s.sharing 0 y.contents.rows) ⊛ ‵ (AllGrown s y)) (known_apart 𝓛 R s 0 y.contents.rows) $
+      split ! $
+      now ! $ show ! (Lies s b o) y $ check ! (so.0, so.1, owned) $ keep ! (2 ∷ 1 ∷ []) $ done !))))
 
-  pub lies_shared : Judged R → (s : TableView) (b o : ℕ) (y : Owner.Denot)
-      → ⟦ part_at Owner full_share y b o ⟧ ⊢ ⟦ part_at Row full_share (view_with s y) b o ⟧
+  pub lies_shared : (s : TableView) (w : Owner.Denot) → IsLent s w → (b o : ℕ) (y : Owner.Denot)
+      → ⟦ part_at Owner full_share y b o ⟧ ∗ ⟦ AllGrown s w ⟧ ⊢ ⟦ part_at Row full_share (view_with s w y) b o ⟧
   unfolding part_of
-  lies_shared j s b o y =
-      let s' : TableView = view_with s y in
-      qed 𝓛 (‵ (part_at Owner full_share y b o) ∷ []) ∵ fpick ! (λ vs. fsplit ! $ move ! (1 ∷ []) $
+  lies_shared s w lent b o y =
+      let j : Judged R = lent.0 in
+      let s' : TableView = view_with s w y in
+      qed 𝓛 (‵ (part_at Owner full_share y b o) ∷ ‵ (AllGrown s w) ∷ []) ∵ fpick ! (λ vs. fsplit ! $ move ! (1 ∷ []) $
       peeks ! Owner (Is Owner) (shows 𝓛 Owner) y vs (λ is.
-      use0 𝓛 (‵ (AllTell s' y)) (none_rows 𝓛 R 0 y.contents.rows) $ move ! (1 ∷ 0 ∷ []) $
+      use1 𝓛 (given (IsOwned y) (‵ (Owner.own_val y vs))) (fit_together y vs) $ learn ! (λ owned.
+      move ! (2 ∷ []) $
+      use1 𝓛 (‵ (AllGrown s' y))
+      (less_grown 𝓛 R s s' 0 w.contents.rows y.contents.rows refl
+      (lent.2.table.buckets ∙ sym owned.table.buckets) (lent_shown s w y lent.1 owned.table)) $
+      use0 𝓛 (‵ (rows_telling R None 0 y.contents.rows)) (none_rows 𝓛 R 0 y.contents.rows) $
+      use2 𝓛 (‵ (AllTell s' y)) (known_together 𝓛 R s' 0 y.contents.rows) $ move ! (1 ∷ 0 ∷ []) $
       use2 𝓛 (‵ (Shared.own_val s' vs)) (turns_shared j s' y vs refl) $ nothing ! $
       fpack ! (Typed Row.mir vs) (λ _. ftrue)
       (((buckets'.the_row_laws R L).lawful 𝓛).typed y vs is) $
       fjoin ! $ move ! (1 ∷ 0 ∷ []) $ fjoin ! $
-      fpack ! (List Val) (λ us. fsep (cell_at full_share Row.mir us b o) (Row.own_val s' us)) vs $ done !))
+      fpack ! (List Val) (λ us. fsep (cell_at full_share Row.mir us b o) (Row.own_val s' us)) vs $ done !)))
 
   -- ---- by value
   pub makes_owner : (c : Plain.Denot) (n : ℕ) (v : Val) → n < 2 ^ 64
@@ -402,16 +431,41 @@ module _ {M : Type 1} {𝓤 : Ura M} (𝓛 : Logic 𝓤) (R : RattleType) (L : L
   pub makes_shared : Judged R → (s : TableView) (c : Plain.Denot) (v : Val) → s.reserved < 2 ^ 64
       → IsOwned (record { contents = c; reserved = s.reserved })
       → Typed Row.mir (pair_val v s.reserved ∷ [])
+      → (s.grown_by_ids ≡ true → only_reserved (record { contents = c; reserved = s.reserved }) ≡ true)
       → ⟦ Plain.own_val c (v ∷ []) ⟧ ∗ ⟦ rows_telling R s.sharing 0 c.rows ⟧
       ⊢ ⟦ Row.own_val s (pair_val v s.reserved ∷ []) ⟧
-  makes_shared j s c v fits owned typed =
+  makes_shared j s c v fits owned typed only =
       let n : ℕ = s.reserved in
       let vs : List Val = pair_val v n ∷ [] in
       let y : Owner.Denot = record { contents = c; reserved = n } in
-      qed 𝓛 (‵ (Plain.own_val c (v ∷ [])) ∷ ‵ (AllTell s y) ∷ []) ∵
+      qed 𝓛 (‵ (Plain.own_val c (v ∷ [])) ∷ ‵ (rows_telling R s.sharing 0 c.rows) ∷ []) ∵
       use1 𝓛 (‵ (Owner.own_val y vs)) (makes_owner c n v fits owned) $
+      use0 𝓛 (‵ (AllGrown s y)) (none_grown 𝓛 R s 0 c.rows (nothing_shown s y refl owned.table only)) $
+      move ! (2 ∷ 0 ∷ []) $ use2 𝓛 (‵ (AllTell s y)) (known_together 𝓛 R s 0 c.rows) $ move ! (1 ∷ 0 ∷ []) $
       use2 𝓛 (‵ (Shared.own_val s vs)) (turns_shared j s y vs refl) $
       nothing ! $ fpack ! (Typed Row.mir vs) (λ _. ftrue) typed $ fjoin ! $ done !
+
+  -- another sharing of the same buckets
+  pub shares_again : (s : TableView) (table γ : ℕ) (vs : List Val)
+      → ⟦ Row.own_val s vs ⟧ ∗ ⟦ source 𝓛 γ 0 ⟧ ⊢ H.⇛ ⟦ Row.own_val (view_again s table γ) vs ⟧
+  shares_again s table γ vs =
+      let s' : TableView = view_again s table γ in
+      qed 𝓛 (‵ (Row.own_val s vs) ∷ ‵ (source 𝓛 γ 0) ∷ []) ∵ updating ! $ fsplit ! $ fpick ! (λ typed. drop ! $
+      use1 𝓛 (later (some (λ (y : Owner.Denot).
+      given (Judged R × (y.reserved ≡ s.reserved)) (‵ (Owner.own_val y vs) ⊛ ‵ (AllTell s y)))))
+      (turns_plain s vs) $
+      await ! tt $ pick ! (λ y. learn ! (λ so. split ! $
+      use1 𝓛 (given (IsOwned y) (‵ (Owner.own_val y vs))) (fit_together y vs) $ learn ! (λ owned.
+      let rows = y.contents.rows in
+      -- [the buckets; what is known of them; the source]
+      move ! (1 ∷ []) $
+      use1 𝓛 (‵ (rows_telling R s.sharing 0 rows) ⊛ ‵ (AllGrown s y)) (known_apart 𝓛 R s 0 rows) $ split ! $ drop ! $
+      use1 𝓛 (‵ (AllGrown s' y)) (grown_in 𝓛 R s s' refl (s.table == table) refl refl rows) $ move ! (2 ∷ []) $
+      use1 𝓛 (later (‵ (rows_telling R (Some γ) 0 rows)))
+      (via 𝓤 _ (rows_drawn 𝓛 R γ 0 rows (table_whole y.contents owned.table)) (basic 𝓛 _)) $
+      await ! tt $ use2 𝓛 (‵ (AllTell s' y)) (known_together 𝓛 R s' 0 rows) $ move ! (1 ∷ 0 ∷ []) $
+      use2 𝓛 (‵ (Shared.own_val s' vs)) (turns_shared so.0 s' y vs (sym so.1)) $
+      nothing ! $ fpack ! (Typed Row.mir vs) (λ _. ftrue) typed $ fjoin ! $ now ! $ done !))))
 
   abbrev pub Given : TableView → Val → Plain.Denot → Pr
   Given s v c =
@@ -440,7 +494,9 @@ module _ {M : Type 1} {𝓤 : Ura M} (𝓛 : Logic 𝓤) (R : RattleType) (L : L
       let same : v ≡ got.0 = cc in
       let kept : h.0.reserved ≡ s.reserved = ap (λ (o : Owned R.Denot). o.reserved) h.1.0 ∙ so.1 in
       rewrite ! 0 (λ (ws : List Val). ‵ (Plain.own_val c ws)) (got.1 ∙ sym (ap (λ (x : Val). x ∷ []) same)) refl $
-      move ! (3 ∷ 0 ∷ []) $
+      move ! (3 ∷ []) $
+      use1 𝓛 (‵ (rows_telling R s.sharing 0 y.contents.rows) ⊛ ‵ (AllGrown s y)) (known_apart 𝓛 R s 0 y.contents.rows) $
+      split ! $ move ! (0 ∷ 2 ∷ []) $
       rewrite ! 0 (λ (z : Contents R.Denot). ‵ (rows_telling R s.sharing 0 z.rows))
       (ap (λ (o : Owned R.Denot). o.contents) (sym h.1.0)) refl $
       use1 𝓛 (later (‵ (rows_tell R s.sharing 0 c.rows)))

@@ -59,13 +59,14 @@ module _ {V : Type 0} where
   abbrev pub HasLooked : Option (Row V) → Option ℕ → ℕ → Option (Seen V) × ℕ × ℕ → Type 0
   HasLooked row own from x = MatchOption x.0 (IsAlone own from x.1 x.2) (λ seen. LooksAt row own from seen x.1 x.2)
 
-  -- where looks at the chunks of a bucket from `from` on found a flag, an id of these chunks has its flag
-  -- at hand; where none did, no id lies in them
+  -- where looks at a bucket's chunks from this one on found a flag, the id's flag is at hand, if the id
+  -- lies in the chunks that were looked at; where none did, it doesn't lie in these chunks
   abbrev pub IsFoundAt : ℕ → ℕ → Option (Seen V) × ℕ × ℕ → ℕ → Type 0
   IsFoundAt bucket from x id =
       (i : ℕ) → i < 2 ^ bucket → id ≡ id_at bucket i → from * 64 ≤ i
       → MatchOption x.0 ⊥ (λ _. i < x.1 * 64 → ((x.1 - 1) * 64 ≤ i) × (is_set x.2 (i - (x.1 - 1) * 64) ≡ true))
 
+  -- so it is with the id of each of these tokens that is of the row's sharing
   abbrev pub FindsTokens : Option (Row V) → ℕ → List (TokenView V) → Option (Seen V) × ℕ × ℕ → Type 0
   FindsTokens row from tokens x = IfSome row (λ r. AllOf r.of.sharing (λ p. IsFoundAt r.of.bucket from x p.id) tokens)
 
@@ -103,8 +104,8 @@ module _ {V : Type 0} where
       → ((walk.chunks - 1) * 64 ≤ own.thread.index)
       × (is_set walk.rest (own.thread.index - (walk.chunks - 1) * 64) ≡ true)
 
-  -- if an id lies in the chunks that the walk has seen of its bucket, and not behind the walk, its flag is
-  -- at hand
+  -- if an id lies in the chunks that the walk has seen of its bucket, and not behind the walk, its
+  -- flag is at hand
   abbrev pub IsMarked : Walk V → ℕ → Type 0
   IsMarked w id =
       (i : ℕ) → i < 2 ^ w.raw.bucket → id ≡ id_at w.raw.bucket i → w.raw.index ≤ i → i < w.chunks * 64

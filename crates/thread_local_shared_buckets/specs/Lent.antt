@@ -1,9 +1,21 @@
 -- What a contract sees of shared buckets once an owner's loan of them ends.
-use Rattle.std.specs.Prelude.{None}
+use Rattle.std.specs.Prelude.{Bool, false, None, ◌==◌, if◌then◌else◌}
+use Rattle.thread_local_model.specs.Buckets.{stands}
 use Rattle.thread_local_model.specs.Owned.{Owned}
+use Rattle.thread_local_shared_buckets.specs.Grown.{stand_among}
 use Rattle.thread_local_shared_buckets.specs.TableView.{TableView}
 
+-- whether no bucket stands that didn't stand when the buckets were lent, and as many slots are
+-- reserved
+abbrev pub adds_no_bucket : {V : Type 0} → Owned V → Owned V → Bool
+adds_no_bucket lent left = if left.reserved == lent.reserved then stand_among (stands lent.contents) (stands left.contents) else false
+
 -- the same table, with as many reserved slots as the owner's buckets have; what is shared from then
--- on has no name
-abbrev pub view_with : {V : Type 0} → TableView → Owned V → TableView
-view_with s owned = record { table = s.table; sharing = None; reserved = owned.reserved }
+-- on has no name. A bucket that was added wasn't made for an id
+abbrev pub view_with : {V : Type 0} → TableView → Owned V → Owned V → TableView
+view_with s lent left = record {
+  table = s.table;
+  sharing = None;
+  reserved = left.reserved;
+  grown_by_ids = if s.grown_by_ids then adds_no_bucket lent left else false;
+}

@@ -1,5 +1,6 @@
 pub mod Fit
 pub mod TableView
+pub mod Grown
 pub mod Lent
 pub mod Parts
 pub use Rattle.thread_local_model.specs.Cursor

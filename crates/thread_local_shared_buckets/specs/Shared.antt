@@ -17,6 +17,8 @@
 --                         value that is published
 --     telling             what is told of the slot's id under the sharing's name, if it has one: it
 --                         stays with the slot, whoever claims it
+--     grown               what a block that stands shows of the ids that were held at once, where
+--                         its bucket was made for an id
 --
 -- Where a `&` to a value names no thread, a published value is shared for good. Where it may name
 -- one, the claim of the slot has the borrow of the value.
@@ -26,7 +28,8 @@
 --     x         one such value
 --     v         what a slot holds: a value, or none
 --     j         whether a `&` to a value names no thread
---     d         the view of a bucket: its table, the sharing, its number, and whether it is reserved
+--     d         the view of a bucket: its table, the sharing, its number, whether it is reserved,
+--               and whether its table grew by ids alone
 --     t         a turn: the life and the names of one sharing
 --     b, o      the address of the pointer, or of its block: the allocation, and the offset in it
 --     e         the offset of a slot's value in the allocation of its block
@@ -49,6 +52,7 @@
 --     telling R sharing k v  the first where v is none, else the second; all_telling of several
 --     right_owns γ k         the one token at the key k under the name γ; under a table's name it
 --                            is the right to the id k
+--     reached_owns γ n       n ids of the table γ were held at once
 --     each F xs i            F of each of these and its index, from i on
 --     value_offset R o i     the offset of the value of the slot i in the block at o
 --     flags_at R n b o w c   the word w as the flags of the chunk c, in a block of n slots
@@ -81,7 +85,7 @@ use denote.RawPtr.{Ptr, block_ptr, null_ptr, block_of, count_of, InBlock, Testab
 use denote.Sharing.{said, beside, some, ends, always}
 use Rattle.std.specs.Sync.RawAtomic.Pointer.{cell}
 use Rattle.thread_local_model.specs.Place.{id_at}
-use Rattle.thread_local_ids.specs.Rights.{right_owns}
+use Rattle.thread_local_ids.specs.Rights.{right_owns, reached_owns}
 use Rattle.thread_local_judged.specs.Judged.{Shareable, Judged}
 use Rattle.thread_local_model.specs.Bits.{is_set_in}
 use Rattle.thread_local_bucket_pointers.specs.Slots.{heap_token, chunks, each, AreWords, block_ty, Fits, value_offset, flags_at}
@@ -92,19 +96,43 @@ use Rattle.thread_local_ids.specs.Told.{untold_in, tells, told_or_untold, all_to
 -- 1. What is known of a bucket, of a sharing and of a block.
 
 -- what a contract sees of a shared bucket: its table, the sharing if that has a name, its number,
--- and whether it is reserved
+-- whether it is reserved, and whether each bucket of its table that isn't reserved was made for an
+-- id
 pub record BucketView : Type 0 where
   pub table : ℕ
   pub sharing : Option ℕ
   pub bucket : ℕ
   pub reserved : Bool
+  pub grown_by_ids : Bool
 
 -- an injective code of such views, for ghost state
 abbrev pub bucket_view_coded : Coded BucketView
 bucket_view_coded =
-    coded_via (coded× coded_ℕ (coded× (coded_option coded_ℕ) (coded× coded_ℕ coded_bool)))
-    (λ (d : BucketView). (d.table, (d.sharing, (d.bucket, d.reserved))))
-    (λ x y e i. record { table = (e i).0; sharing = (e i).1.0; bucket = (e i).1.1.0; reserved = (e i).1.1.1 })
+    coded_via (coded× coded_ℕ (coded× (coded_option coded_ℕ) (coded× coded_ℕ (coded× coded_bool coded_bool))))
+    (λ (d : BucketView). (d.table, (d.sharing, (d.bucket, (d.reserved, d.grown_by_ids)))))
+    (λ x y e i. record {
+      table = (e i).0;
+      sharing = (e i).1.0;
+      bucket = (e i).1.1.0;
+      reserved = (e i).1.1.1.0;
+      grown_by_ids = (e i).1.1.1.1;
+    })
+
+-- how many ids were held at once for sure once a bucket stands, by whether its table grew by ids
+-- alone, whether it is reserved, and its number: as many as it has slots, where it was made for an
+-- id
+abbrev pub ids_shown : Bool → Bool → ℕ → ℕ
+ids_shown false reserved bucket = 0
+ids_shown true true bucket = 0
+ids_shown true false bucket = 2 ^ bucket
+
+-- how many ids a bucket of this view shows to have been held at once, once it stands
+abbrev pub shown_by : BucketView → ℕ
+shown_by d = ids_shown d.grown_by_ids d.reserved d.bucket
+
+-- a standing bucket shows how many ids were held at once
+abbrev pub grown : BucketView → Fml
+grown d = reached_owns d.table (shown_by d)
 
 -- the life and the names that one bucket has in one sharing; `which` is the name that says which block
 -- stands
@@ -298,7 +326,7 @@ module _ (R : RattleType) where
 
       -- the name `which` says for good which block stands
       abbrev pub settled : StandingBlock → Fml
-      settled s = fsep (fauth t.which (block_code s)) (fres t.which (block_code s))
+      settled s = fsep (fauth t.which (block_code s)) (fsep (fres t.which (block_code s)) (grown d))
 
       -- the slots of a block, one for each name, under the words of their flags
       abbrev pub slots_stand : Ptr → StandingBlock → List ℕ → Fml
@@ -310,8 +338,8 @@ module _ (R : RattleType) where
           fsep (fex (List ℕ) (slots_under len (block_of p) (count_of p) (slots_stand p s)))
           (back R (block_of p) (count_of p) len)
 
-      -- what lies beside a pointer p to a block: the name that says which block it is, a part of
-      -- the token of its own lifetime, its slots, and the right to free it
+      -- what lies beside a pointer p to a block: the name that says which block it is, with what it
+      -- shows, a part of the token of its own lifetime, its slots, and the right to free it
       abbrev pub standing : Ptr → StandingBlock × Share → Fml
       standing p s =
           fsep (fact ((s.0.at ≡ p) × (length s.0.names ≡ len) × Sized len p)) (fsep (settled s.0)
@@ -342,7 +370,7 @@ module _ (R : RattleType) where
     at_rest null_ptr = fsep (fact (d.reserved ≡ false)) (all_told_or_untold R d.sharing first (empty_slots len))
     at_rest (block_ptr b o) =
         fsep (fact (Sized len (block_ptr b o)))
-        (fsep (block_rests d.sharing first len b o) (heap_token (block_ty R len) (block_ptr b o)))
+        (fsep (block_rests d.sharing first len b o) (fsep (heap_token (block_ty R len) (block_ptr b o)) (grown d)))
 
     -- a bucket at rest: its pointer with what lies beside it, and values of a type that is judged
     abbrev pub bucket_owns : (Ptr → Fml) → Fml

@@ -1,29 +1,38 @@
 -- What a contract sees of the buckets that threads share.
-use Rattle.std.specs.Prelude.{◌≡◌, ℕ, ◌<◌, false, Option, None, List, nat_lt, slice_index_or, refl}
+use Rattle.std.specs.Prelude.{◌≡◌, ℕ, ◌<◌, Bool, false, Option, None, List, nat_lt, slice_index_or, refl}
+use base.Stored.{coded_bool}
 use Rattle.std.specs.Coded.{Coded, coded_ℕ, coded_option, coded×, code_by}
 use Rattle.thread_local_model.specs.Place.{id_at}
 use Rattle.thread_local_shared_buckets.specs.Shared.{BucketView}
 
--- the name of the table, the sharing if that has a name, and how many of the table's first slots are
--- reserved; the buckets of those stand
+-- the name of the table, the sharing if that has a name, how many of the table's first slots are
+-- reserved, of which the buckets stand, and whether each bucket that isn't reserved was made for an
+-- id
 pub record TableView : Type 0 where
   pub table : ℕ
   pub sharing : Option ℕ
   pub reserved : ℕ
+  pub grown_by_ids : Bool
 
 abbrev pub table_view_coded : Coded TableView
 table_view_coded =
-    code_by (ℕ × (Option ℕ × ℕ)) (coded× coded_ℕ (coded× (coded_option coded_ℕ) coded_ℕ))
-    (λ s. (s.table, (s.sharing, s.reserved)))
-    (λ p. record { table = p.0; sharing = p.1.0; reserved = p.1.1 }) (λ _. refl)
+    code_by (ℕ × (Option ℕ × (ℕ × Bool))) (coded× coded_ℕ (coded× (coded_option coded_ℕ) (coded× coded_ℕ coded_bool)))
+    (λ s. (s.table, (s.sharing, (s.reserved, s.grown_by_ids))))
+    (λ p. record { table = p.0; sharing = p.1.0; reserved = p.1.1.0; grown_by_ids = p.1.1.1 }) (λ _. refl)
 
 -- the view of the bucket of this number
 abbrev pub bucket_view : TableView → ℕ → BucketView
-bucket_view s bucket = record { table = s.table; sharing = s.sharing; bucket = bucket; reserved = nat_lt (id_at bucket 0) s.reserved }
+bucket_view s bucket = record {
+  table = s.table;
+  sharing = s.sharing;
+  bucket = bucket;
+  reserved = nat_lt (id_at bucket 0) s.reserved;
+  grown_by_ids = s.grown_by_ids;
+}
 
 -- the default for a number past the last bucket
 abbrev no_bucket : BucketView
-no_bucket = record { table = 0; sharing = None; bucket = 0; reserved = false }
+no_bucket = record { table = 0; sharing = None; bucket = 0; reserved = false; grown_by_ids = false }
 
 -- the bucket of this number in a list
 abbrev pub bucket_at : List BucketView → ℕ → BucketView
@@ -35,10 +44,11 @@ table_view_of buckets reserved = record {
   table = (bucket_at buckets 0).table;
   sharing = (bucket_at buckets 0).sharing;
   reserved = reserved;
+  grown_by_ids = (bucket_at buckets 0).grown_by_ids;
 }
 
--- each bucket has its own number, all are of one table and one sharing, and each says whether it is
--- reserved
+-- each bucket has its own number, all are of one table and one sharing and grew alike, and each
+-- says whether it is reserved
 abbrev pub AreBuckets : List BucketView → ℕ → Type 0
 AreBuckets buckets reserved =
     (bucket : ℕ) → bucket < 63

@@ -1,6 +1,7 @@
 -- What a contract sees of a walk over buckets that threads share, and what a call of `next` does.
 use Rattle.std.specs.Prelude.{◌≡◌, ℕ, suc, ◌-◌, ◌^◌, ◌<◌, ◌≤◌, ◌⊎◌, Bool, true, IsTrue, List, [], Option, Some, None, MatchOption}
-use Rattle.std.specs.Prelude.{IfSome, option_map, refl}
+use Rattle.std.specs.Prelude.{IfSome, option_map, refl, All, Contains}
+use Rattle.std.specs.List.{AllPairs}
 use Rattle.std.specs.Iterator.{Count, at_most}
 use Rattle.std.specs.Coded.{Coded, coded_option, coded_ℕ, coded×, code_by}
 use base.Stored.{coded_bool, coded_list}
@@ -18,8 +19,8 @@ pub record Owed (V : Type 0) : Type 0 where
   pub value : V
 
 -- the sharing that a walk goes over, if that has a name, where the walk is, the own value that it has
--- still to give, if any, whether it was shown that threads may share the values, and the tokens that it
--- was made with, whose values it gives
+-- still to give, if any, whether it was shown that threads may share the values, and the tokens
+-- whose values it gives for sure
 pub record WalkView (V : Type 0) : Type 0 where
   pub sharing : Option ℕ
   pub cursor : Cursor
@@ -45,7 +46,8 @@ walk_view_coded {V} c =
     (λ w. (w.sharing, (w.cursor, (w.own, (w.shown, w.told)))))
     (λ p. record { sharing = p.0; cursor = p.1.0; own = p.1.1.0; shown = p.1.1.1.0; told = p.1.1.1.1 }) (λ _. refl)
 
--- a walk over a sharing that has just begun, with an own value to give or none, and the values of tokens
+-- a walk over a sharing that has just begun, with an own value to give or none, and the values of
+-- these tokens
 abbrev pub fresh_with : {V : Type 0} → Option ℕ → Option (Owed V) → Bool → List (TokenView V) → WalkView V
 fresh_with sharing own shown told = record { sharing = sharing; cursor = fresh_cursor; own = own; shown = shown; told = told }
 
@@ -83,9 +85,9 @@ pub record Ends {V : Type 0} (from : Cursor) (own : Option (Owed V)) (to : Curso
   pub none_owed : own ≡ None
   pub none_left : left ≡ None
 
--- what a call does about a token of the walk's sharing. One that gives nothing leaves no token's id ahead.
--- One that gives a value passes no token's id before the value's, and if that is the token's id, the
--- value is the token's
+-- what a call does about a token of the walk's sharing: one that gives nothing leaves no token's id
+-- ahead. One that gives a value passes no token's id before the value's, and if that is the token's
+-- id, the value is the token's
 abbrev pub Meets : {V : Type 0} → Cursor → Option (Bor V) → Cursor → TokenView V → Type 0
 Meets from item to p =
     MatchOption item (p.id < cursor_id from)
@@ -116,6 +118,15 @@ pub record IsTokenOf {V : Type 0} (walk left : WalkView V) (entry : TokenView V 
 pub record GoesWithTokens {V : Type 0} (walk : WalkView V) (item : Option (TokenView V × Bor V)) (left : WalkView V) : Type 0 where
   pub goes : Goes walk (option_map (λ entry. entry.1) item) left
   pub told : IfSome item (IsTokenOf walk left)
+
+-- a walk over this sharing, made with these tokens, has given these ids with their values: the ids
+-- ascend and lie behind the walk, and each token of the sharing that lies behind it is among them
+pub record HasGiven {V : Type 0} (sharing : Option ℕ) (told : List (TokenView V)) (walk : WalkView V) (given : List (ℕ × V)) : Type 0 where
+  pub sharing_of : walk.sharing ≡ sharing
+  pub told_of : walk.told ≡ told
+  pub passed : All (λ entry. entry.0 < cursor_id walk.cursor) given
+  pub ascending : AllPairs (λ one other. one.0 < other.0) given
+  pub met : AllOf sharing (λ p. p.id < cursor_id walk.cursor → Contains given (p.id, p.value)) told
 
 -- a walk may go on where it was shown that threads may share the values, or their type says so
 abbrev pub CanGo : {V : Type 0} → RattleType → WalkView V → Type 0

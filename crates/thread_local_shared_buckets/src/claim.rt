@@ -1,6 +1,6 @@
 //! A claim of a slot, in three states: its bucket was missing, the slot is vacant, the slot holds a
 //! value. It begins in any of them, and goes on from one to the next.
-ghost use Rattle.std.specs.Prelude.{◌≡◌, ◌≢◌, ◌/◌, ◌^◌, ◌⊎◌, true, Some, IsSome, MatchBool, MatchOption};
+ghost use Rattle.std.specs.Prelude.{◌≡◌, ◌≢◌, ◌/◌, ◌^◌, ◌<◌, ◌⊎◌, true, Some, IsSome, MatchBool, MatchOption};
 ghost use Rattle.thread_local_model.specs.Learnt.{Unknown, Missing, Vacant, Holding, Finds, learnt_by_install, learnt_by_publish};
 ghost use Rattle.thread_local_model.specs.Place.{IsPlaceOf};
 ghost use Rattle.thread_local_bucket_pointers.specs.Slots.{empty_slots, flag_word_at};
@@ -12,7 +12,7 @@ use crate::replaced::replace_with;
 use std::alloc::Global;
 use std::marker::Model;
 use thread_local_bucket_pointers::{Block, flag_word_at};
-use thread_local_ids::{HeldId, Right, Token};
+use thread_local_ids::{HeldId, Reached, Right, Token};
 use thread_local_thread_id::Thread;
 
 /// The slot of an id, for the holder of the id, whose right lies with the slot meanwhile. Contracts
@@ -104,22 +104,29 @@ impl<'a, T> Claim<'a, T> {
 
     /// Installs a block for the claim's bucket, which was missing, by one compare and exchange.
     /// Where another block was installed first, that one stays, and this one is freed. Either way
-    /// the slot is vacant from then on.
-    pub fn install(&mut self, thread: Thread, block: Block<T, Global>, alloc: &Global)
+    /// the slot is vacant from then on. All ids up to this one were held at once.
+    pub fn install(
+        &mut self,
+        thread: Thread,
+        block: Block<T, Global>,
+        reached: Reached,
+        alloc: &Global,
+    )
         requires missing { self.old.learnt ≡ Missing }
         requires place { IsPlaceOf thread.bucket thread.index self.old.id }
         requires block { (block.heap ≡ alloc.now)
             × (block.slots ≡ empty_slots (2 ^ thread.bucket))
             × (block.left ≡ 0) }
+        requires reached { (reached.table ≡ self.old.table) × (self.old.id < reached.ids) }
         ensures same_slot { (self.new.table ≡ self.old.table)
             × (self.new.sharing ≡ self.old.sharing)
             × (self.new.id ≡ self.old.id) }
         ensures learnt { learnt_by_install self.old.learnt ≡ Some self.new.learnt }
         ensures reserved { self.new.reserved ≡ self.old.reserved }
     {
-        let given = (thread.index, block);
-        let back = replace_with(&mut self.slot, given, |slot, (index, block)| {
-            slot.exchange(index, block)
+        let given = (thread.index, block, reached);
+        let back = replace_with(&mut self.slot, given, |slot, (index, block, reached)| {
+            slot.exchange(index, block, reached)
         });
         if let Some(block) = back {
             block.release(alloc, thread.bucket_size());

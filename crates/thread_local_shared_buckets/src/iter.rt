@@ -14,16 +14,16 @@ use std::fmt;
 use std::iter::FusedIterator;
 use std::marker::Model;
 use thread_local_bucket_pointers::write_struct;
-use thread_local_ids::{Told, Token, Witness};
+use thread_local_ids::{Token, Told, Witness};
 use thread_local_thread_id::Thread;
 
 /// The values of shared buckets, by ascending id, each lent as `&`, while other threads may publish
 /// more. A value that is published behind the walk isn't given, and one ahead of it may be.
 ///
-/// No call waits or takes memory. A contract sees the sharing, the model's cursor, and the walker's
-/// own value as long as it is still to be given. No contract says which value an item is, but for
-/// the own one: `with_tokens` gives each value with a token, which says it. Rust's crate promises
-/// no order, and its size hint counts the values.
+/// No call waits or takes memory. A contract sees the sharing, the model's cursor, the walker's own
+/// value as long as it is still to be given, and the tokens whose values the walk gives for sure.
+/// No contract says which value an item is, but for these: `with_tokens` gives each value with a
+/// token, which says it. Rust's crate promises no order, and its size hint counts the values.
 #[derive(Drop)]
 pub struct Iter<'a, T> {
     walk: Walk<'a, T>,
@@ -112,12 +112,12 @@ impl<'a, T: Sync> Iter<'a, T> {
     pub fn new(buckets: &'a Shared<T>) -> Iter<'a, T>
         ensures { result ≡ fresh buckets.now.sharing None true }
     {
-        Iter::begun(buckets, None, Some(Shown::new()), Told::new())
+        Iter::with_told(buckets, Told::new())
     }
 
-    /// A walk over all values, from the first slot on, which gives the values of the list's tokens
-    /// for sure.
-    pub fn over(buckets: &'a Shared<T>, told: Told<T>) -> Iter<'a, T>
+    /// `new`, for a walk that gives the values of a list's tokens for sure. A token of another
+    /// sharing promises nothing.
+    pub fn with_told(buckets: &'a Shared<T>, told: Told<T>) -> Iter<'a, T>
         ensures { result ≡ fresh_with buckets.now.sharing None true told }
     {
         Iter::begun(buckets, None, Some(Shown::new()), told)
@@ -134,12 +134,31 @@ impl<'a, T: Sync> Iter<'a, T> {
             (Some (record { id = token.now.id; value = value.now }))
             true }
     {
+        Iter::with_own_and_told(buckets, token, value, Told::new())
+    }
+
+    /// `with_own`, for a walk that gives the values of a list's tokens, too.
+    pub fn with_own_and_told(
+        buckets: &'a Shared<T>,
+        token: &Token<T>,
+        value: &'a T,
+        told: Told<T>,
+    ) -> Iter<'a, T>
+        requires sharing { token.now.sharing ≡ buckets.now.sharing }
+        requires value { token.now.value ≡ value.now }
+        ensures { result ≡
+            fresh_with
+            buckets.now.sharing
+            (Some (record { id = token.now.id; value = value.now }))
+            true
+            told }
+    {
         let own = Own {
             thread: Thread::new(token.id()),
             value,
             witness: token.witness().again(),
         };
-        Iter::begun(buckets, Some(own), Some(Shown::new()), Told::new())
+        Iter::begun(buckets, Some(own), Some(Shown::new()), told)
     }
 }
 

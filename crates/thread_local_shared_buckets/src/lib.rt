@@ -6,6 +6,7 @@
 
 pub mod claim;
 mod claimed;
+pub mod complete;
 pub mod entries;
 pub mod iter;
 mod parts;

@@ -37,6 +37,8 @@ impl<'a, T> Row<'a, T> {
     /// `flag_word` of the block. It sees all of them at one instant. It never waits and takes no
     /// memory.
     ///
+    /// Proofs alone use `told`: what is known of its tokens' slots, this look sees.
+    ///
     /// That threads may share a value is a clause and not a bound, since a walk calls this in
     /// `next`, and a trait's method isn't given the bounds of its impl.
     pub fn look(&self, chunk: usize, flag_word: usize, told: &TokenList<T>) -> Seen<'a, T>
@@ -52,10 +54,10 @@ impl<'a, T> Row<'a, T> {
         ensures told { AllOf
             self.now.of.sharing
             (λ p. (bit : ℕ)
-                → bit < 64
-                → chunk * 64 + bit < 2 ^ self.now.of.bucket
-                → p.id ≡ id_at self.now.of.bucket (chunk * 64 + bit)
-                → is_set result.flags bit ≡ true)
+            → bit < 64
+            → chunk * 64 + bit < 2 ^ self.now.of.bucket
+            → p.id ≡ id_at self.now.of.bucket (chunk * 64 + bit)
+            → is_set result.flags bit ≡ true)
             told.now.tokens }
     {
         let _ = told;

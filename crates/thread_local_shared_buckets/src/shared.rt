@@ -1,27 +1,30 @@
 //! A table's buckets while threads share them through a `&`. By value or through a `&mut` they are
 //! an owner's `Buckets` again.
-ghost use Rattle.std.specs.Prelude.{◌≡◌, ◌≢◌, ◌+◌, ◌^◌, ◌<◌, ◌≤◌, ℕ, false, None, Option, IfSome, IsSome};
-ghost use Rattle.thread_local_ids.specs.TokenLists.{NoneIn};
+ghost use Rattle.std.specs.Prelude.{◌≡◌, ◌≢◌, ◌+◌, ◌-◌, ◌*◌, ◌^◌, ◌<◌, ◌≤◌, ℕ, max, true, false, None, Option, IfSome, IsSome};
 ghost use Rattle.thread_local_model.specs.Learnt.{Unknown, Missing, Finds};
 ghost use Rattle.thread_local_model.specs.Owned.{IsOwned, AreOfFirstBuckets};
 ghost use Rattle.thread_local_model.specs.Place.{bucket_of, id_at};
 ghost use Rattle.thread_local_judged.specs.Judged.{Judged};
+ghost use Rattle.thread_local_ids.specs.TokenLists.{NoneIn};
 ghost use Rattle.thread_local_shared_buckets.specs.Known.{HasLooked};
+ghost use Rattle.thread_local_shared_buckets.specs.Grown.{only_reserved};
 ghost use Rattle.thread_local_shared_buckets.specs.TableView.{TableView, table_view_coded, bucket_view};
 ghost use Rattle.thread_local_shared_buckets.specs.Parts.{parts_own, parts_share};
+ghost use Rattle.thread_local_shared_buckets.specs.Shared.{shown_by};
 
 use crate::parts::SharedParts;
 use crate::{Claim, Row, SharedBucket, replace_with};
 use std::marker::{Move, Owns, PhantomData};
 use thread_local_bucket_pointers::BucketPointers;
 use thread_local_buckets::Buckets;
-use thread_local_ids::{Book, HeldId, Right, Token, TokenList};
+use thread_local_ids::{Book, HeldId, Reached, Right, Token, TokenList};
 use thread_local_thread_id::{BUCKETS, Thread, bucket_size};
 
 mod lends;
 
 /// The buckets of a table that threads share through a `&`. A contract sees the name of the table,
-/// that of the sharing if it has one, and the number of reserved slots.
+/// that of the sharing if it has one, the number of reserved slots, and whether each bucket that
+/// isn't reserved was made for an id of the table.
 ///
 /// No call waits or takes memory. Dropping it drops every value, which may wait, and frees every
 /// block.
@@ -50,6 +53,7 @@ impl<T> Shared<T> {
         ensures table { result.table ≡ own.now.table }
         ensures sharing { IsSome result.sharing }
         ensures reserved { result.reserved ≡ buckets.reserved }
+        ensures grown { result.grown_by_ids ≡ only_reserved buckets }
     {
         Shared::new_apart(buckets, own)
     }
@@ -61,6 +65,7 @@ impl<T> Shared<T> {
         ensures table { result.table ≡ own.now.table }
         ensures sharing { IsSome result.sharing × (result.sharing ≢ past) }
         ensures reserved { result.reserved ≡ buckets.reserved }
+        ensures grown { result.grown_by_ids ≡ only_reserved buckets }
     {
         let (pointers, reserved) = buckets.into_parts();
         Shared::of(pointers, reserved, own)
@@ -74,6 +79,7 @@ impl<T> Shared<T> {
         ensures table { result.table ≡ own.now.table }
         ensures sharing { IsSome result.sharing × (result.sharing ≢ past) }
         ensures reserved { result.reserved ≡ reserved }
+        ensures grown { result.grown_by_ids ≡ only_reserved (record { contents = pointers; reserved = reserved }) }
     {
         let _ = own;
         Shared { pointers, reserved }
@@ -86,6 +92,7 @@ impl<T> Shared<T> {
         ensures table { self.new.table ≡ own.now.table }
         ensures sharing { IsSome self.new.sharing × (self.new.sharing ≢ self.old.sharing) }
         ensures reserved { self.new.reserved ≡ self.old.reserved }
+        ensures grown { self.old.table ≡ own.now.table → self.new.grown_by_ids ≡ self.old.grown_by_ids }
     {
         replace_with(self, own, renewed)
     }
@@ -97,10 +104,10 @@ impl<T> Shared<T> {
         ensures table { result.table ≡ own.now.table }
         ensures sharing { IsSome result.sharing × (result.sharing ≢ past) }
         ensures reserved { result.reserved ≡ self.reserved }
+        ensures grown { self.table ≡ own.now.table → result.grown_by_ids ≡ self.grown_by_ids }
     {
-        let reserved = self.reserved();
-        let (pointers, _) = self.into_pointers();
-        Shared::of(pointers, reserved, own)
+        let _ = own;
+        self
     }
 
     /// Gives the buckets back to an owner, with all that was lent while they were shared.
@@ -154,7 +161,8 @@ impl<T> Shared<T> {
     }
 
     /// The row of a bucket's slots, for as long as the buckets are borrowed, or `None` where the
-    /// bucket is missing. A reserved bucket is never missing. It is one atomic load.
+    /// bucket is missing. A reserved bucket is never missing, nor is one with the slot of a token
+    /// of `told`, which proofs alone use. It is one atomic load.
     pub fn load(&self, bucket: usize, told: &TokenList<T>) -> Option<Row<'_, T>>
         requires { bucket < 63 }
         ensures of { IfSome result (λ row. row.of ≡ bucket_view self.now bucket) }
@@ -162,6 +170,17 @@ impl<T> Shared<T> {
         ensures told { result ≡ None → NoneIn self.now.sharing bucket told.now.tokens }
     {
         self.bucket(bucket).load(told)
+    }
+
+    /// How many ids of the table were held at once for sure, since a bucket stands, or `None` where
+    /// the bucket is missing. It is one atomic load.
+    pub fn reached(&self, bucket: usize) -> Option<Reached>
+        requires { bucket < 63 }
+        ensures shown { IfSome result (λ reached.
+            (reached.table ≡ self.now.table) × (reached.ids ≡ shown_by (bucket_view self.now bucket))) }
+        ensures reserved { id_at bucket 0 < self.now.reserved → IsSome result }
+    {
+        self.bucket(bucket).reached()
     }
 
     /// Whether one of the eight buckets from `first` on stands. Each of their pointers is loaded
@@ -241,15 +260,27 @@ impl<T> Shared<T> {
         ensures reserved { self.now.reserved ≤ result }
         ensures most { result < 2 ^ 63 }
     {
+        self.slots_reached().0
+    }
+
+    /// `slots`, and that so many ids of the table were held at once, as these slots show.
+    pub fn slots_reached(&self) -> (usize, Reached)
+        ensures reserved { self.now.reserved ≤ result.0 }
+        ensures most { result.0 < 2 ^ 63 }
+        ensures table { result.1.table ≡ self.now.table }
+        ensures grown { self.now.grown_by_ids ≡ true → result.0 ≤ max self.now.reserved (2 * result.1.ids - 1) }
+    {
         // That these are the slots of the first buckets shows that there aren't more.
         let _ = self.reserved();
         let mut slots = 0;
+        let mut reached = self.bucket(0).none_reached();
         for bucket in 0..BUCKETS {
-            if self.load(bucket, &TokenList::new()).is_some() {
+            if let Some(shown) = self.reached(bucket) {
                 slots += bucket_size(bucket);
+                reached = shown;
             }
         }
-        slots
+        (slots, reached)
     }
 }
 
@@ -259,6 +290,7 @@ fn renewed<T>(shared: Shared<T>, own: &Right) -> (Shared<T>, ())
     ensures table { result.0.table ≡ own.now.table }
     ensures sharing { IsSome result.0.sharing × (result.0.sharing ≢ shared.sharing) }
     ensures reserved { result.0.reserved ≡ shared.reserved }
+    ensures grown { shared.table ≡ own.now.table → result.0.grown_by_ids ≡ shared.grown_by_ids }
 {
     (shared.shared_again(own), ())
 }

@@ -1,20 +1,21 @@
 //! The pointer of a bucket that threads share: null while the bucket is missing, and to its block
 //! of slots once it stands.
 ghost use Rattle.std.specs.Prelude.{◌≡◌, ◌^◌, ◌<◌, true, None, IfSome, IsSome};
-ghost use Rattle.thread_local_ids.specs.TokenLists.{NoneIn};
 ghost use Rattle.thread_local_model.specs.Place.{id_at};
 ghost use Rattle.thread_local_judged.specs.Judged.{Judged};
-ghost use Rattle.thread_local_shared_buckets.specs.Shared.{BucketView, bucket_view_coded, bucket_owns, bucket_shares};
+ghost use Rattle.thread_local_shared_buckets.specs.Shared.{BucketView, bucket_view_coded, bucket_owns, bucket_shares, shown_by};
+ghost use Rattle.thread_local_ids.specs.TokenLists.{NoneIn};
 
 use crate::row::Row;
 use std::marker::{Brand, Move, Owns, PhantomData};
 use std::sync::atomic::Ordering::SeqCst;
 use std::sync::atomic::raw::ptr;
 use thread_local_bucket_pointers::Chunk;
-use thread_local_ids::{TokenList, Witness};
+use thread_local_ids::{Reached, TokenList, Witness};
 
 /// A bucket that threads share: its pointer, which an owner sees as a `BucketPointer`. A contract
-/// sees its table, the sharing, its number, and whether it is reserved.
+/// sees its table, the sharing, its number, whether it is reserved, and whether its table grew by
+/// ids alone.
 pub struct SharedBucket<T> {
     pub at: *mut Chunk<T>,
 }
@@ -33,7 +34,8 @@ impl<T> Move for SharedBucket<T> {
 
 impl<T> SharedBucket<T> {
     /// The row of the bucket's slots, for as long as the bucket is borrowed, or `None` where the
-    /// bucket is missing. A reserved bucket is never missing.
+    /// bucket is missing. A reserved bucket is never missing, nor is one with the slot of a token
+    /// of `told`, which proofs alone use.
     ///
     /// It is one atomic load. It never waits and takes no memory.
     pub fn load(&self, told: &TokenList<T>) -> Option<Row<'_, T>>
@@ -50,6 +52,34 @@ impl<T> SharedBucket<T> {
                 at: at as *mut Chunk<T>,
                 marker: PhantomData,
             })
+        }
+    }
+
+    /// How many ids of the table were held at once for sure, since the bucket stands, or `None`
+    /// where it is missing. It is one atomic load.
+    pub fn reached(&self) -> Option<Reached>
+        ensures shown { IfSome result (λ reached.
+            (reached.table ≡ self.now.table) × (reached.ids ≡ shown_by self.now)) }
+        ensures reserved { self.now.reserved ≡ true → IsSome result }
+    {
+        let block = unsafe {
+            ptr::load::<u64, Brand>(&raw const self.at as *const *mut u64, SeqCst)
+        };
+        if block.is_null() {
+            None
+        } else {
+            Some(Reached {
+                marker: PhantomData,
+            })
+        }
+    }
+
+    /// That no id of the table was held, which is so of every table. At run time it does nothing.
+    pub fn none_reached(&self) -> Reached
+        ensures { (result.table ≡ self.now.table) × (result.ids ≡ 0) }
+    {
+        Reached {
+            marker: PhantomData,
         }
     }
 

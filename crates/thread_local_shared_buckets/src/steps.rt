@@ -1,11 +1,12 @@
 //! One call of a walk: it gives the value of the lowest flag at hand. Where no flag is at hand, it
 //! loads the next words of flags first, until one has a flag that is set.
-ghost use Rattle.std.specs.Prelude.{◌≡◌, ℕ, option_map, ◌≢◌, ◌+◌, ◌-◌, ◌*◌, ◌/◌, ◌%◌, ◌^◌, ◌<◌, ◌≤◌, true, false, None, IfSome, MatchOption};
+ghost use Rattle.std.specs.Prelude.{◌≡◌, ◌≢◌, ◌+◌, ◌-◌, ◌*◌, ◌/◌, ◌%◌, ◌^◌, ◌<◌, ◌≤◌, ℕ, true, false, None, IfSome, MatchOption, option_map};
 ghost use Rattle.thread_local_judged.specs.Judged.{Shareable};
 ghost use Rattle.thread_local_model.specs.Bits.{IsWordBut};
 ghost use Rattle.thread_local_ids.specs.TokenLists.{AllOf, NoneIn};
 ghost use Rattle.thread_local_shared_buckets.specs.Walks.{Meets};
-ghost use Rattle.thread_local_shared_buckets.specs.Positions.{past, lies_in, is_at, own_index, OwnIsTold, IsToldAt, MovesBehind, YieldsFrom, EndsFrom, resting, Stops, IsBehind};
+ghost use Rattle.thread_local_shared_buckets.specs.Positions.{past, lies_in, is_at, own_index, OwnIsTold, IsToldAt, MovesBehind};
+ghost use Rattle.thread_local_shared_buckets.specs.Positions.{YieldsFrom, EndsFrom, resting, Stops, IsBehind};
 ghost use Rattle.thread_local_shared_buckets.specs.AtHand.{LiesOutside, IsSetIn, IsGivenBy, IsRowOf, HasLooked, IsWalk, LooksIn, GoesOn, Reaches, FindsTokens};
 
 use crate::shared::Shared;
@@ -218,11 +219,7 @@ pub(crate) struct Walk<'a, T> {
 
 impl<'a, T> Walk<'a, T> {
     /// A walk at the first slot, which has seen nothing.
-    pub(crate) fn new(
-        buckets: &'a Shared<T>,
-        own: Option<Own<'a, T>>,
-        told: Told<T>,
-    ) -> Walk<'a, T>
+    pub(crate) fn new(buckets: &'a Shared<T>, own: Option<Own<'a, T>>, told: Told<T>) -> Walk<'a, T>
         requires told { IfSome own (OwnIsTold buckets.now.sharing) }
         ensures walk { IsWalk result }
         ensures sharing { result.buckets.now ≡ buckets.now }
@@ -275,9 +272,20 @@ impl<'a, T> Walk<'a, T> {
         requires in_table { self.old.raw.bucket < 63 }
         ensures { LooksIn self.old self.new }
     {
-        self.row = row_of(self.buckets, self.row.take(), self.raw.bucket, self.told.list());
+        self.row = row_of(
+            self.buckets,
+            self.row.take(),
+            self.raw.bucket,
+            self.told.list(),
+        );
         let own = own_index(&self.own, self.raw.bucket);
-        let (seen, chunks, rest) = look_on(&self.row, self.raw.bucket_size, own, self.chunks, self.told.list());
+        let (seen, chunks, rest) = look_on(
+            &self.row,
+            self.raw.bucket_size,
+            own,
+            self.chunks,
+            self.told.list(),
+        );
         self.seen = seen;
         self.chunks = chunks;
         self.rest = rest;
@@ -335,9 +343,9 @@ impl<'a, T> Walk<'a, T> {
         ensures meets { AllOf
             self.old.buckets.now.sharing
             (Meets
-                (resting self.old.raw)
-                (option_map (λ found. found.1) result)
-                (resting self.new.raw))
+            (resting self.old.raw)
+            (option_map (λ found. found.1) result)
+            (resting self.new.raw))
             self.old.told }
     {
         if self.rest == 0 && !self.reach() {

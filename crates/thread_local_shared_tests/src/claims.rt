@@ -1,13 +1,13 @@
 //! Claims that are forgotten, sent or shared, and those of reserved buckets.
 ghost use Rattle.std.specs.Prelude.{◌≡◌};
 
-use crate::steps::{Kept, first_three, left, look, publish, publish_claimed};
+use crate::steps::{Kept, first_three, left, look, publish, publish_claimed, take};
 use std::cell::Cell;
 use std::mem::forget;
 use std::test::Fail;
 use std::thread;
 use thread_local_buckets::Buckets;
-use thread_local_ids::{HeldId, Ids, Right};
+use thread_local_ids::{HeldId, Ids, Right, TokenList};
 use thread_local_judged::Judge;
 use thread_local_shared_buckets::{Claim, Shared};
 use thread_local_thread_id::Thread;
@@ -41,10 +41,11 @@ fn a_forgotten_claim_costs_its_own_slot(rt: HostRuntime) -> Result<(), Fail> {
     assert!(rt; buckets.insert(Thread::new(0), 5u32).is_ok());
     let shared = Shared::new(buckets, &ids.table_right());
     let found = [
-        found_and_forgotten(&shared, ids.take()?),
-        found_and_forgotten(&shared, ids.take()?),
+        found_and_forgotten(&shared, take(&mut ids)?),
+        found_and_forgotten(&shared, take(&mut ids)?),
     ];
-    let (_third, published) = publish(&shared, ids.take()?, rt.alloc(), 6);
+    let (held, right, tenure) = ids.take()?;
+    let (_third, published) = publish(&shared, (held, right), &tenure, rt.alloc(), 6);
     assert_eq!(rt; (found, published), ([Some(5), None], true));
     let seen = [look(&shared, 0), look(&shared, 1), look(&shared, 2)];
     assert_eq!(rt; seen, [Some(5), None, Some(6)]);
@@ -60,7 +61,7 @@ fn a_claim_goes_to_another_thread(rt: HostRuntime) -> Result<(), Fail> {
     let mut ids = Ids::new(rt.alloc());
     Cell::<u64>::judge();
     let shared = Shared::new(Buckets::with_capacity(rt.alloc(), 1)?, &ids.table_right());
-    let (held, right) = ids.take()?;
+    let (held, right) = take(&mut ids)?;
     let claimed = Kept {
         claim: shared.claim(held, right),
     };
@@ -82,7 +83,7 @@ fn threads_share_a_claim(rt: HostRuntime) -> Result<(), Fail> {
     let mut buckets = Buckets::new(rt.alloc());
     assert!(rt; buckets.insert(Thread::new(0), 5u32).is_ok());
     let shared = Shared::new(buckets, &ids.table_right());
-    let (held, right) = ids.take()?;
+    let (held, right) = take(&mut ids)?;
     let claim = shared.claim(held, right);
     let both = thread::join(&rt, || found(&claim), || found(&claim));
     assert_eq!(rt; both, (Some(5), Some(5)));
@@ -92,10 +93,11 @@ fn threads_share_a_claim(rt: HostRuntime) -> Result<(), Fail> {
 
 /// Whether the buckets 0, 2 and 3 stand.
 fn stand(shared: &Shared<u32>) -> [bool; 3] {
+    let told = TokenList::new();
     [
-        shared.load(0).is_some(),
-        shared.load(2).is_some(),
-        shared.load(3).is_some(),
+        shared.load(0, &told).is_some(),
+        shared.load(2, &told).is_some(),
+        shared.load(3, &told).is_some(),
     ]
 }
 
@@ -107,7 +109,7 @@ fn reserved_buckets_stand(rt: HostRuntime) -> Result<(), Fail> {
         (shared.reserved(), stand(&shared)),
         (7, [true, true, false])
     );
-    let (held, right) = ids.take()?;
+    let (held, right) = take(&mut ids)?;
     let claim = shared.claim(held, right);
     let is_vacant = !claim.is_missing() && claim.get().is_none();
     let published = publish_claimed(claim, 1).1;

@@ -51,11 +51,11 @@ fn publish_counted<R: Wait>(
         let Ok(other) = Counted::new(drops) else {
             return published;
         };
-        let Ok(held) = ids.lock(rt).take() else {
+        let Ok((held, right, tenure)) = ids.lock(rt).take() else {
             return published;
         };
-        let (held, first) = publish(shared, held, alloc, one);
-        let (_held, second) = publish(shared, held, alloc, other);
+        let (held, first) = publish(shared, (held, right), &tenure, alloc, one);
+        let (_held, second) = publish(shared, held, &tenure, alloc, other);
         if first && !second {
             published = published.saturating_add(1);
         }

@@ -2,7 +2,7 @@
 ghost use Rattle.std.specs.Prelude.{◌≡◌, ◌-◌, ◌^◌, ◌<◌};
 ghost use Rattle.thread_local_judged.specs.Judged.{Judged};
 
-use crate::steps::{look, publish};
+use crate::steps::{look, publish, take};
 use std::alloc::Global;
 use std::cell::{Cell, RefCell};
 use std::test::Fail;
@@ -60,10 +60,12 @@ fn a_number_is_handed_on_from_thread_to_thread(rt: HostRuntime) -> Result<(), Fa
     let mut ids = Ids::new(rt.alloc());
     Cell::<u64>::judge();
     let shared = Shared::new(Buckets::new(rt.alloc()), &ids.table_right());
-    let held = ids.take()?;
+    let (held, right, tenure) = ids.take()?;
     let alloc = rt.alloc();
     let there = &shared;
-    let (first, _) = thread::join(&rt, || publish(there, held, alloc, Cell::new(7)), || ());
+    let own = &tenure;
+    let first = || publish(there, (held, right), own, alloc, Cell::new(7));
+    let (first, _) = thread::join(&rt, first, || ());
     let (held, published) = first;
     let (second, _) = thread::join(&rt, || add(there, held, 5), || ());
     let found = second.1;
@@ -81,7 +83,7 @@ fn a_walker_sees_a_value_that_is_claimed(rt: HostRuntime) -> Result<(), Fail> {
     let mut buckets = Buckets::new(rt.alloc());
     assert!(rt; buckets.insert(Thread::new(0), 9).is_ok());
     let mut shared = Shared::new(buckets, &ids.table_right());
-    let held = ids.take()?;
+    let held = take(&mut ids)?;
     let (own, seen) = look_while_claimed(&rt, &shared, held);
     assert_eq!(rt; [own, seen, look(&shared, 1)], [Some(9), Some(9), None]);
     assert!(rt; shared.owner().insert(Thread::new(1), 4).is_ok());
@@ -97,10 +99,10 @@ fn comes_back<T: Send + Drop>(alloc: Global, value: T) -> bool
 {
     let mut ids = Ids::new(alloc);
     let shared = Shared::new(Buckets::new(alloc), &ids.table_right());
-    let Ok(held) = ids.take() else {
+    let Ok((held, right, tenure)) = ids.take() else {
         return false;
     };
-    let (_held, published) = publish(&shared, held, alloc, value);
+    let (_held, published) = publish(&shared, (held, right), &tenure, alloc, value);
     published && shared.into_buckets().into_iter().next().is_some()
 }
 

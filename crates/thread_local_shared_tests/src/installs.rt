@@ -1,39 +1,49 @@
 //! Blocks are installed, and those that come second give way.
-ghost use Rattle.std.specs.Prelude.{◌≡◌, ◌^◌};
+ghost use Rattle.std.specs.Prelude.{◌≡◌, ◌<◌, ◌^◌};
 ghost use Rattle.thread_local_bucket_pointers.specs.Slots.{empty_slots};
+ghost use Rattle.thread_local_ids.specs.Rights.{taken_id};
 ghost use Rattle.thread_local_model.specs.Place.{bucket_of};
 
-use crate::steps::{Kept, left, look, publish_claimed};
+use crate::steps::{Kept, left, look, publish_claimed, take};
 use std::alloc::Global;
 use std::cell::{Cell, RefCell};
 use std::sync::Wait;
 use std::test::Fail;
 use thread_local_bucket_pointers::Block;
 use thread_local_buckets::Buckets;
-use thread_local_ids::{HeldId, Ids, Lock, Right};
+use thread_local_ids::{HeldId, Ids, Lock, Reached, Right, Tenure};
 use thread_local_shared_buckets::{Claim, Shared};
 use thread_local_test_helpers::memory::take_all_but;
 
-impl<'a, T> Kept<'a, T> {
+/// A claim whose bucket may be missing, for which all ids up to its own were held at once.
+#[derive(Drop)]
+struct Early<'a, T> {
+    kept: Kept<'a, T>,
+    reached: Reached,
+    ghost are_held: { (reached.table ≡ kept.claim.table) × (kept.claim.id < reached.ids) },
+}
+
+impl<'a, T> Early<'a, T> {
     /// Offers a block for the claim's bucket if that was missing, and answers the claim if it did.
     fn offered(self, block: Block<T, Global>, alloc: &Global) -> Option<Claim<'a, T>>
         requires heap { (block.heap ≡ alloc.now) × (block.left ≡ 0) }
-        requires slots { block.slots ≡ empty_slots (2 ^ bucket_of self.claim.id) }
+        requires slots { block.slots ≡ empty_slots (2 ^ bucket_of self.kept.claim.id) }
     {
-        let mut claim = self.into_claim();
+        let Self { kept, reached } = self;
+        let mut claim = kept.into_claim();
         let thread = claim.place();
         if !claim.is_missing() {
             block.release(alloc, thread.bucket_size());
             claim.give_up();
             return None;
         }
-        claim.install(thread, block, alloc);
+        claim.install(thread, block, reached, alloc);
         Some(claim)
     }
 
     /// Makes a block, offers it and gives the claim up. Answers whether it did.
     fn offer(self, alloc: &Global) -> bool {
-        let Ok(block) = Block::new(alloc, self.claim.place().bucket_size()) else {
+        let Ok(block) = Block::new(alloc, self.kept.claim.place().bucket_size()) else {
             return false;
         };
         match self.offered(block, alloc) {
@@ -46,13 +56,18 @@ impl<'a, T> Kept<'a, T> {
     }
 }
 
-/// Claims an id that is held.
-fn claim_early<T>(shared: &Shared<T>, held: (HeldId, Right)) -> Kept<'_, T>
-    requires table { (held.1.table ≡ shared.now.table) × (held.0.mark.table ≡ shared.now.table) }
-    requires id { held.1.id ≡ held.0.id }
+/// Claims an id that was taken.
+fn claim_early<T>(shared: &Shared<T>, taken: (HeldId, Right, Tenure)) -> Early<'_, T>
+    requires table { (taken.1.table ≡ shared.now.table) × (taken.0.mark.table ≡ shared.now.table) }
+    requires id { taken.1.id ≡ taken.0.id }
+    requires tenure { (taken.2.table ≡ shared.now.table) × (taken.0.id ≡ taken_id taken.2.before) }
 {
-    Kept {
-        claim: shared.claim(held.0, held.1),
+    let (held, right, tenure) = taken;
+    Early {
+        reached: tenure.reached(),
+        kept: Kept {
+            claim: shared.claim(held, right),
+        },
     }
 }
 
@@ -73,10 +88,10 @@ fn offer_by_all<R: Wait>(
     };
     let mut claims = Vec::new(heap);
     for _ in 0..count {
-        let Ok(held) = ids.lock(rt).take() else {
+        let Ok(taken) = ids.lock(rt).take() else {
             return offered;
         };
-        if claims.push(claim_early(shared, held)).is_err() {
+        if claims.push(claim_early(shared, taken)).is_err() {
             return offered;
         }
     }
@@ -98,7 +113,7 @@ fn blocks_that_come_second_are_freed(rt: HostRuntime) -> Result<(), Fail> {
     let mut ids = Ids::new(rt.alloc());
     let shared = Shared::new(Buckets::new(rt.alloc()), &ids.table_right());
     for _ in 0..1_048_575 {
-        let _held = ids.take()?;
+        let _held = take(&mut ids)?;
     }
     let ids = Lock::new(ids);
     let alloc = rt.alloc();
@@ -113,13 +128,13 @@ fn blocks_that_come_second_are_freed(rt: HostRuntime) -> Result<(), Fail> {
 /// block was offered, and whether the value was published.
 fn offer_and_publish(
     shared: &Shared<u32>,
-    claim: Kept<'_, u32>,
+    claim: Early<'_, u32>,
     block: Block<u32, Global>,
     alloc: &Global,
     value: u32,
 ) -> (Option<u32>, bool)
     requires heap { (block.heap ≡ alloc.now) × (block.left ≡ 0) }
-    requires slots { block.slots ≡ empty_slots (2 ^ bucket_of claim.claim.id) }
+    requires slots { block.slots ≡ empty_slots (2 ^ bucket_of claim.kept.claim.id) }
 {
     match claim.offered(block, alloc) {
         Some(claim) => {
@@ -134,13 +149,13 @@ fn offer_and_publish(
 /// and the other 2. Answers what walkers found meanwhile, and whether both were published.
 fn offer_two(
     shared: &Shared<u32>,
-    one: Kept<'_, u32>,
-    other: Kept<'_, u32>,
+    one: Early<'_, u32>,
+    other: Early<'_, u32>,
     alloc: &Global,
 ) -> Option<[(Option<u32>, bool); 2]> {
-    let size = one.claim.place().bucket_size();
+    let size = one.kept.claim.place().bucket_size();
     let first = Block::new(alloc, size).ok()?;
-    let second = match Block::new(alloc, other.claim.place().bucket_size()) {
+    let second = match Block::new(alloc, other.kept.claim.place().bucket_size()) {
         Ok(block) => block,
         Err(_) => {
             first.release(alloc, size);
@@ -159,7 +174,7 @@ fn offer_two(
 fn the_second_of_two_blocks_gives_way(rt: HostRuntime) -> Result<(), Fail> {
     let mut ids = Ids::new(rt.alloc());
     let shared = Shared::new(Buckets::new(rt.alloc()), &ids.table_right());
-    let _first = ids.take()?;
+    let _first = take(&mut ids)?;
     let second = claim_early(&shared, ids.take()?);
     let third = claim_early(&shared, ids.take()?);
     let offered = offer_two(&shared, second, third, &rt.alloc());
@@ -170,8 +185,9 @@ fn the_second_of_two_blocks_gives_way(rt: HostRuntime) -> Result<(), Fail> {
 
 /// Looks again with a claim that found its bucket missing, and publishes a value. Answers whether
 /// it did.
-fn publish_late(early: Kept<'_, u32>, value: u32) -> bool {
-    let mut claim = early.into_claim();
+fn publish_late(early: Early<'_, u32>, value: u32) -> bool {
+    let Early { kept, reached: _ } = early;
+    let mut claim = kept.into_claim();
     if !claim.is_missing() {
         claim.give_up();
         return false;
@@ -184,7 +200,7 @@ fn publish_late(early: Kept<'_, u32>, value: u32) -> bool {
 fn an_early_claim_finds_its_bucket_later(rt: HostRuntime) -> Result<(), Fail> {
     let mut ids = Ids::new(rt.alloc());
     let shared = Shared::new(Buckets::new(rt.alloc()), &ids.table_right());
-    let _first = ids.take()?;
+    let _first = take(&mut ids)?;
     let second = claim_early(&shared, ids.take()?);
     let third = claim_early(&shared, ids.take()?);
     let offered = third.offer(&rt.alloc());

@@ -32,11 +32,11 @@ impl Racing {
     fn publish_own<R: Wait>(&self, rt: &R, alloc: Global) -> u64 {
         let mut published = 0u64;
         for _ in 0..16 {
-            let Ok(held) = self.ids.lock(rt).take() else {
+            let Ok((held, right, tenure)) = self.ids.lock(rt).take() else {
                 return published;
             };
-            let id = held.0.id;
-            if publish(&self.shared, held, alloc, id).1 {
+            let id = held.id;
+            if publish(&self.shared, (held, right), &tenure, alloc, id).1 {
                 published = published.saturating_add(1);
             }
         }

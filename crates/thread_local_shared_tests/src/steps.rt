@@ -1,13 +1,26 @@
 //! What a test does with one id of a table.
-ghost use Rattle.std.specs.Prelude.{◌≡◌, ◌-◌, ◌^◌, ◌<◌};
+ghost use Rattle.std.specs.Prelude.{◌≡◌, ◌-◌, ◌^◌, ◌<◌, IfOk};
+ghost use Rattle.thread_local_ids.specs.Rights.{taken_id};
 ghost use Rattle.thread_local_model.specs.Bits.{is_set};
 
 use std::alloc::Global;
 use thread_local_bucket_pointers::{Block, flag_word_at};
 use thread_local_buckets::Buckets;
-use thread_local_ids::{HeldId, Right};
+use thread_local_ids::{HeldId, Ids, Right, Tenure, TokenList};
 use thread_local_shared_buckets::{Claim, Shared};
-use thread_local_thread_id::Thread;
+use thread_local_thread_id::{LocalError, Thread};
+
+/// Takes an id that isn't given back.
+pub fn take(ids: &mut Ids) -> Result<(HeldId, Right), LocalError>
+    ensures taken { IfOk result (λ taken.
+        (taken.1.table ≡ ids.old.table)
+        × (taken.0.mark.table ≡ ids.old.table)
+        × (taken.1.id ≡ taken.0.id)) }
+    ensures table { ids.new.table ≡ ids.old.table }
+{
+    let (held, right, _) = ids.take()?;
+    Ok((held, right))
+}
 
 /// A claim that is given up when this is dropped.
 pub struct Kept<'a, T> {
@@ -36,11 +49,13 @@ impl<T> Drop for Kept<'_, T> {
 pub fn publish<T: Drop>(
     shared: &Shared<T>,
     held: (HeldId, Right),
+    tenure: &Tenure,
     alloc: Global,
     value: T,
 ) -> ((HeldId, Right), bool)
     requires table { (held.1.table ≡ shared.now.table) × (held.0.mark.table ≡ shared.now.table) }
     requires id { held.1.id ≡ held.0.id }
+    requires tenure { (tenure.now.table ≡ shared.now.table) × (held.0.id ≡ taken_id tenure.now.before) }
     ensures table { (result.0.1.table ≡ shared.now.table) × (result.0.0.mark.table ≡ shared.now.table) }
     ensures id { (result.0.0.id ≡ held.0.id) × (result.0.1.id ≡ held.0.id) }
 {
@@ -52,7 +67,7 @@ pub fn publish<T: Drop>(
     let Ok(block) = Block::new(&alloc, thread.bucket_size()) else {
         return (claim.give_up(), false);
     };
-    claim.install(thread, block, &alloc);
+    claim.install(thread, block, tenure.reached(), &alloc);
     claim.publish(thread, value);
     (claim.give_up(), true)
 }
@@ -96,9 +111,11 @@ pub fn look(shared: &Shared<u32>, id: usize) -> Option<u32>
     requires { id < 2 ^ 63 - 1 }
 {
     let thread = Thread::new(id);
-    let row = shared.load(thread.bucket)?;
+    let told = TokenList::new();
+    let row = shared.load(thread.bucket, &told)?;
     let chunk = thread.index / 64;
-    let seen = row.look(chunk, flag_word_at::<u32>(thread.bucket_size(), chunk));
+    let flag_word = flag_word_at::<u32>(thread.bucket_size(), chunk);
+    let seen = row.look(chunk, flag_word, &told);
     let bit = thread.index % 64;
     if !has_bit(seen.flags(), bit) {
         return None;

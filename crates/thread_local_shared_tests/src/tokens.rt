@@ -1,14 +1,15 @@
 //! What slots were published with, as tokens say it: to claims, to walkers and to an owner.
 ghost use Rattle.std.specs.Prelude.{◌≡◌, ◌≢◌, ◌-◌, ◌<◌, Some, IfSome, IsSome};
+ghost use Rattle.thread_local_ids.specs.Rights.{taken_id};
 ghost use Rattle.thread_local_model.specs.Buckets.{values};
 ghost use Rattle.thread_local_model.specs.Learnt.{Vacant};
 
-use crate::steps::publish;
+use crate::steps::{publish, take};
 use std::alloc::Global;
 use std::cell::Cell;
 use std::test::Fail;
 use thread_local_buckets::Buckets;
-use thread_local_ids::{HeldId, Ids, Right, Token};
+use thread_local_ids::{HeldId, Ids, Right, Tenure, Token};
 use thread_local_judged::{Judge, judge_sync};
 use thread_local_shared_buckets::{Claim, Shared};
 use thread_local_thread_id::Thread;
@@ -17,17 +18,19 @@ use thread_local_thread_id::Thread;
 fn told<T: Drop>(
     shared: &Shared<T>,
     held: (HeldId, Right),
+    tenure: &Tenure,
     alloc: Global,
     value: T,
 ) -> ((HeldId, Right), Option<Token<T>>)
     requires table { (held.1.table ≡ shared.now.table) × (held.0.mark.table ≡ shared.now.table) }
     requires id { held.1.id ≡ held.0.id }
+    requires tenure { (tenure.now.table ≡ shared.now.table) × (held.0.id ≡ taken_id tenure.now.before) }
     ensures table { (result.0.1.table ≡ shared.now.table) × (result.0.0.mark.table ≡ shared.now.table) }
     ensures id { (result.0.0.id ≡ held.0.id) × (result.0.1.id ≡ held.0.id) }
     ensures token { IfSome result.1 (λ token.
         (token.sharing ≡ shared.now.sharing) × (token.id ≡ held.0.id)) }
 {
-    let ((held, right), _) = publish(shared, held, alloc, value);
+    let ((held, right), _) = publish(shared, held, tenure, alloc, value);
     let claim = shared.claim(held, right);
     let token = claim.token();
     (claim.give_up(), token)
@@ -127,10 +130,12 @@ fn found_by_two(
 fn a_token_says_what_was_published(rt: HostRuntime) -> Result<(), Fail> {
     let mut ids = Ids::new(rt.alloc());
     let shared = Shared::new(Buckets::new(rt.alloc()), &ids.table_right());
-    let (held, token) = told(&shared, ids.take()?, rt.alloc(), 7u32);
+    let (held, right, tenure) = ids.take()?;
+    let (held, token) = told(&shared, (held, right), &tenure, rt.alloc(), 7u32);
     let token = token.expect(&rt, "a token");
     let seen = held_again(&shared, held, &token);
-    let (_, other) = told(&shared, ids.take()?, rt.alloc(), 8);
+    let (second, right, tenure) = ids.take()?;
+    let (_, other) = told(&shared, (second, right), &tenure, rt.alloc(), 8);
     let other = other.expect(&rt, "a token");
     are_one(&token, &token.again());
     let read = (*shared.value(&token.again()), *shared.value(&other));
@@ -147,7 +152,7 @@ fn a_token_says_what_was_published(rt: HostRuntime) -> Result<(), Fail> {
 fn a_vacant_slot_has_no_token(rt: HostRuntime) -> Result<(), Fail> {
     let mut ids = Ids::new(rt.alloc());
     let shared = Shared::<u32>::new(Buckets::with_capacity(rt.alloc(), 1)?, &ids.table_right());
-    let (held, right) = ids.take()?;
+    let (held, right) = take(&mut ids)?;
     let mut claim = shared.claim(held, right);
     let before = claim.token().is_none();
     let after = if claim.is_missing() || claim.get().is_some() {
@@ -166,7 +171,9 @@ fn a_text_is_read_by_its_token(rt: HostRuntime) -> Result<(), Fail> {
     let mut ids = Ids::new(rt.alloc());
     judge_sync::<String>();
     let shared = Shared::new(Buckets::new(rt.alloc()), &ids.table_right());
-    let (_, token) = told(&shared, ids.take()?, rt.alloc(), String::new(rt.alloc()));
+    let (held, right, tenure) = ids.take()?;
+    let text = String::new(rt.alloc());
+    let (_, token) = told(&shared, (held, right), &tenure, rt.alloc(), text);
     let len = token.map(|token| read(&shared, &token).len());
     assert_eq!(rt; len, Some(0));
     Ok(())
@@ -185,9 +192,10 @@ fn renewed_buckets_keep_their_values(rt: HostRuntime) -> Result<(), Fail> {
     let mut ids = Ids::new(rt.alloc());
     let own = ids.table_right();
     let mut shared = cells(rt.alloc(), &own);
-    let (held, first) = told(&shared, ids.take()?, rt.alloc(), Cell::new(3));
+    let (held, right, tenure) = ids.take()?;
+    let (held, first) = told(&shared, (held, right), &tenure, rt.alloc(), Cell::new(3));
     renewed(&mut shared, &own);
-    let (_, second) = told(&shared, held, rt.alloc(), Cell::new(4));
+    let (_, second) = told(&shared, held, &tenure, rt.alloc(), Cell::new(4));
     let slots = shared.slots();
     let values = shared.into_buckets().into_iter().next().map(|c| c.get());
     assert_eq!(rt; (first.is_some(), second.is_some()), (true, true));

@@ -239,7 +239,7 @@ fn shows_a_negative_number<R: Wait>(table: &ThreadLocal<i32>, rt: &R, alloc: Glo
 }
 
 #[test]
-fn a_negative_number_prints(rt: HostRuntime) {
+fn a_negative_number_is_shown(rt: HostRuntime) {
     let table = ThreadLocal::<i32>::new(rt.alloc());
     assert!(rt; shows_a_negative_number(&table, &rt, rt.alloc()));
 }

@@ -1,9 +1,13 @@
 //! Work that another thread goes on with: a worker publishes how far it came and ends, and whoever
 //! takes its id next reads it there.
 ghost use Rattle.std.specs.Prelude.{◌≡◌, IfOk, IfSome, IsSome};
+ghost use Rattle.thread_local.specs.Held.{least};
+ghost use Rattle.thread_local.specs.IdMoves.{Take, held_after, noted};
+ghost use mathlib.Core.List.{IsPrefix};
 
 use std::sync::Wait;
 use thread_local::ThreadLocal;
+use thread_local::local::Local;
 use thread_local::table::Token;
 use thread_local::thread_id::LocalError;
 
@@ -39,6 +43,21 @@ pub fn resume<R: Wait>(
     Ok(local.get().copied())
 }
 
+/// Ends a worker, and begins the next one with the least id that is free then: that of the worker
+/// that ended or a lower one, unless another worker took it in between.
+pub fn relieve<'a, R: Wait>(
+    steps: &'a ThreadLocal<u64>,
+    rt: &'a R,
+    ended: Local<'_, u64, R>,
+) -> Result<Local<'a, u64, R>, LocalError>
+    requires { ended.table ≡ steps.now.table }
+    ensures least { IfOk result (λ next. next.id ≡ least (held_after next.before)) }
+    ensures later { IfOk result (λ next. IsPrefix (noted ended.entry.before Take) next.before) }
+{
+    let mut page = ended.give_back();
+    steps.local_after(rt, &mut page)
+}
+
 #[cfg(test)]
 mod tests {
     use super::*;
@@ -55,6 +74,15 @@ mod tests {
         let other = resume(&steps, &rt, &begun);
         assert_eq!(rt; (resumed, other), (Ok(Some(41)), Ok(None)));
         assert_eq!(rt; first.get().copied(), Some(41));
+        Ok(())
+    }
+
+    #[test]
+    fn the_next_worker_has_the_id(rt: HostRuntime) -> Result<(), Fail> {
+        let steps = ThreadLocal::new(rt.alloc());
+        let (first, second) = (steps.local(&rt)?, steps.local(&rt)?);
+        let next = relieve(&steps, &rt, first)?;
+        assert_eq!(rt; (second.id(), next.id()), (1, 0));
         Ok(())
     }
 }

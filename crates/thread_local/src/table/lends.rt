@@ -6,7 +6,7 @@ ghost use Rattle.std.specs.Borrow.{follows, follows_so};
 ghost use Rattle.std.specs.Option.{ghost_name_of};
 ghost use Rattle.thread_local_buckets.specs.Drain.{drain_lender, drain_leaves, DrainCanStep, DrainIsFresh, DrainKeepsAlong};
 ghost use Rattle.thread_local_buckets.specs.contracts.buckets.Buckets.{the_row as owner_row};
-ghost use Rattle.thread_local_shared_buckets.specs.Lent.{view_with};
+ghost use Rattle.thread_local.specs.Tables.{view_with};
 ghost use Rattle.thread_local.specs.Owners.{KeepsReserved};
 ghost use Rattle.thread_local.specs.contracts.table.ThreadLocal.{the_row};
 
@@ -21,7 +21,7 @@ impl<T> ThreadLocal<T> {
     pub fn buckets_mut(&mut self) -> &mut Buckets<T>
         ensures* writes_back { sem 𝓛
             (follows (the_row T.row) (owner_row T.row) self.entry.ghost_name result.ghost_name
-            (view_with self.old)) }
+            (view_with self.old result.now)) }
         ensures reserved { result.now.reserved ≡ self.old.reserved }
     {
         self.buckets.owner()
@@ -35,7 +35,7 @@ impl<T> ThreadLocal<T> {
         T: Drop,
         ensures* writes_back { sem 𝓛
             (follows (the_row T.row) (owner_row T.row) self.entry.ghost_name (drain_lender result)
-            (view_with self.old)) }
+            (view_with self.old (drain_leaves result))) }
         ensures ready { DrainCanStep result }
         ensures fresh { DrainIsFresh result }
         ensures reserved { (drain_leaves result).reserved ≡ self.old.reserved }

@@ -1,5 +1,5 @@
 //! A claim that found its bucket missing installs a block for it.
-ghost use Rattle.std.specs.Prelude.{◌≡◌, ◌^◌, IfSome};
+ghost use Rattle.std.specs.Prelude.{◌≡◌, ◌^◌, ◌<◌, IfSome};
 ghost use Rattle.thread_local_bucket_pointers.specs.Slots.{empty_slots};
 ghost use Rattle.thread_local_model.specs.Learnt.{Missing, Vacant};
 ghost use Rattle.thread_local_model.specs.Place.{bucket_of};
@@ -12,18 +12,22 @@ use std::ptr::null_mut;
 use std::sync::atomic::Ordering::SeqCst;
 use std::sync::atomic::raw::ptr;
 use thread_local_bucket_pointers::Block;
+use thread_local_ids::Reached;
 
 impl<'a, T> ClaimedSlot<'a, T> {
     /// One compare and exchange: where the bucket's pointer is null, it points to the block from
-    /// then on, and else the block comes back. Either way the slot is vacant from then on.
+    /// then on, and else the block comes back. Either way the slot is vacant from then on. All ids
+    /// up to this one were held at once, so as many as the bucket has slots.
     pub(crate) fn exchange(
         self,
         index: usize,
         block: Block<T, Global>,
+        reached: Reached,
     ) -> (ClaimedSlot<'a, T>, Option<Block<T, Global>>)
         requires missing { self.learnt ≡ Missing }
         requires index { index ≡ self.index }
         requires made { (block.slots ≡ empty_slots (2 ^ bucket_of self.id)) × (block.left ≡ 0) }
+        requires reached { (reached.table ≡ self.table) × (self.id < reached.ids) }
         ensures same_slot { (result.0.table ≡ self.entry.table)
             × (result.0.sharing ≡ self.entry.sharing)
             × (result.0.id ≡ self.entry.id)

@@ -17,7 +17,7 @@ impl<T> Shared<T> {
     pub fn owner(&mut self) -> &mut Buckets<T>
         ensures* writes_back { sem 𝓛
             (follows (the_row T.row) (owner_row T.row) self.entry.ghost_name result.ghost_name
-            (view_with self.old)) }
+            (view_with self.old result.now)) }
         ensures reserved { result.now.reserved ≡ self.old.reserved }
     {
         unsafe { &mut *(self as *mut Shared<T> as *mut Buckets<T>) }

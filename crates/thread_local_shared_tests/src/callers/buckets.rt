@@ -6,7 +6,7 @@ use crate::steps::has_bit;
 use std::cell::{Cell, RefCell};
 use thread_local_bucket_pointers::flag_word_at;
 use thread_local_buckets::Buckets;
-use thread_local_ids::Right;
+use thread_local_ids::{Right, Token, TokenList, Told};
 use thread_local_judged::{Judge, judge_sync};
 use thread_local_shared_buckets::{Row, Shared, SharedBucket};
 use thread_local_thread_id::bucket_size;
@@ -62,7 +62,7 @@ fn sync<T: Send + Sync>(buckets: Buckets<T>, own: &Right) -> Shared<T>
 }
 
 fn cell_row(shared: &Shared<Cell<u64>>) -> Option<Row<'_, Cell<u64>>> {
-    shared.load(3)
+    shared.load(3, &TokenList::new())
 }
 
 fn slots(shared: &Shared<RefCell<String>>) -> usize
@@ -99,7 +99,8 @@ fn published<'a>(row: &Row<'a, String>, bucket: usize, index: usize) -> Option<&
 {
     judge_sync::<String>();
     let chunk = index / 64;
-    let seen = row.look(chunk, flag_word_at::<String>(bucket_size(bucket), chunk));
+    let flag_word = flag_word_at::<String>(bucket_size(bucket), chunk);
+    let seen = row.look(chunk, flag_word, &TokenList::new());
     let bit = index % 64;
     if !has_bit(seen.flags(), bit) {
         return None;

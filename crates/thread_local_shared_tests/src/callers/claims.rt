@@ -1,5 +1,5 @@
 //! Claims at concrete types.
-ghost use Rattle.std.specs.Prelude.{◌≡◌, ◌≢◌, ◌^◌, MatchOption};
+ghost use Rattle.std.specs.Prelude.{◌≡◌, ◌≢◌, ◌<◌, ◌^◌, MatchOption};
 ghost use Rattle.thread_local_bucket_pointers.specs.Slots.{empty_slots};
 ghost use Rattle.thread_local_model.specs.Learnt.{Missing, Vacant, Holding};
 ghost use Rattle.thread_local_model.specs.Place.{bucket_of, IsPlaceOf};
@@ -7,7 +7,7 @@ ghost use Rattle.thread_local_model.specs.Place.{bucket_of, IsPlaceOf};
 use std::alloc::Global;
 use std::cell::{Cell, RefCell};
 use thread_local_bucket_pointers::Block;
-use thread_local_ids::{HeldId, Right, Token};
+use thread_local_ids::{HeldId, Reached, Right, Token};
 use thread_local_shared_buckets::{Claim, SharedBucket};
 use thread_local_thread_id::Thread;
 
@@ -95,22 +95,35 @@ fn number_seen<'a>(claim: Claim<'a, u32>) -> ((HeldId, Right), Option<(Token<u32
 }
 
 /// Installs the bucket that was missing, and publishes the value.
-fn settled<T: Send>(claim: &mut Claim<'_, T>, block: Block<T, Global>, alloc: &Global, value: T)
+fn settled<T: Send>(
+    claim: &mut Claim<'_, T>,
+    block: Block<T, Global>,
+    reached: Reached,
+    alloc: &Global,
+    value: T,
+)
     requires missing { claim.old.learnt ≡ Missing }
+    requires reached { (reached.table ≡ claim.old.table) × (claim.old.id < reached.ids) }
     requires heap { (block.heap ≡ alloc.now) × (block.left ≡ 0) }
     requires slots { block.slots ≡ empty_slots (2 ^ bucket_of claim.old.id) }
     ensures { claim.new.learnt ≡ Holding value }
 {
     let thread = claim.place();
-    claim.install(thread, block, alloc);
+    claim.install(thread, block, reached, alloc);
     claim.publish(thread, value);
 }
 
-fn settled_number(claim: &mut Claim<'_, u32>, block: Block<u32, Global>, alloc: &Global)
+fn settled_number(
+    claim: &mut Claim<'_, u32>,
+    block: Block<u32, Global>,
+    reached: Reached,
+    alloc: &Global,
+)
     requires missing { claim.old.learnt ≡ Missing }
+    requires reached { (reached.table ≡ claim.old.table) × (claim.old.id < reached.ids) }
     requires heap { (block.heap ≡ alloc.now) × (block.left ≡ 0) }
     requires slots { block.slots ≡ empty_slots (2 ^ bucket_of claim.old.id) }
     ensures { claim.new.learnt ≡ Holding 7 }
 {
-    settled(claim, block, alloc, 7)
+    settled(claim, block, reached, alloc, 7)
 }

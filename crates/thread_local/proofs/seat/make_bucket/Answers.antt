@@ -1,4 +1,4 @@
-use Rattle.std.proofs.Common.{◌≡◌, ◌∙◌, ℕ, Some, sym, ap, subst, ⊎_elim}
+use Rattle.std.proofs.Common.{◌≡◌, ◌∙◌, ◌<◌, ℕ, Some, sym, ap, subst, ⊎_elim}
 use Rattle.thread_local_model.specs.Learnt.{Learnt, Missing, Vacant, learnt_by_install}
 use Rattle.thread_local_model.specs.Place.{IsPlaceOf}
 use Rattle.thread_local.proofs.Filled.{on_err}
@@ -41,3 +41,9 @@ returns-else-is_missing-clause-ok g c =
     ⊎_elim (λ (missing : c.look_again.new.self.learnt ≡ Missing). absurd (c.if-is_missing.ensures missing))
     (λ (vacant : c.look_again.new.self.learnt ≡ Vacant). vacant)
     c.look_again.ensures.learnt
+
+pub install-requires-clause-reached : goal.install-requires-clause-reached
+install-requires-clause-reached g c = (
+  c.requires.reached.0 ∙ sym c.look_again.ensures.same_slot.0,
+  subst (λ (id : ℕ). id < c.args.reached.ids) (sym c.look_again.ensures.same_slot.2) c.requires.reached.1,
+)

@@ -1,7 +1,6 @@
 -- The search for these takes seconds.
 use Rattle.std.proofs.Common.{◌≡◌, ◌<◌, ◌^◌, ◌+◌, ◌/◌, ℕ, true, Option, None, IfSome, subst, sym, arith}
 use Rattle.thread_local_shared_buckets.specs.declared.row.Row.{Row}
-use Rattle.thread_local_shared_buckets.specs.AtHand.{FindsTokens}
 use Rattle.thread_local_shared_buckets.proofs.steps.look_on.Goals.{in-Some+else-loop-chunk-test, in_default}
 use Rattle.thread_local_model.specs.Bits.{is_set}
 use Rattle.thread_local_shared_buckets.proofs.ToldLaws.{none_first, none_next, found_at, none_found, none_there}
@@ -10,7 +9,11 @@ use Rattle.thread_local_shared_buckets.proofs.BitLaws.{none_in_chunk, none_furth
 use Rattle.thread_local_shared_buckets.proofs.steps.look_on.Goals as goal
 
 pub loop-chunk-init : goal.loop-chunk-init
-loop-chunk-init g c = record { later = omega arith; none_before = λ k late below. absurd (omega (arith, late, below)); none_told = none_first c.args.row.now c.args.from c.args.told.now.tokens }
+loop-chunk-init g c = record {
+  later = omega arith;
+  none_before = λ k late below. absurd (omega (arith, late, below));
+  none_told = none_first c.args.row.now c.args.from c.args.told.now.tokens;
+}
 
 pub returns-then-flags-ne0-clause-looked : goal.returns-then-flags-ne0-clause-looked
 returns-then-flags-ne0-clause-looked g c =

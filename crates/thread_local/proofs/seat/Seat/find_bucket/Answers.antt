@@ -7,7 +7,7 @@ use Rattle.std.specs.Prelude.{List}
 use Rattle.thread_local_model.specs.IdMoves.{IdMove}
 use Rattle.thread_local_shared_buckets.specs.Known.{HasLooked}
 use Rattle.thread_local_shared_buckets.specs.Views.{ClaimView}
-use Rattle.thread_local_shared_buckets.specs.TableView.{TableView}
+use Rattle.thread_local.specs.Tables.{ThreadLocalView}
 use Rattle.thread_local.specs.Seats.{LocalView, local_view, knowing, vacant}
 use Rattle.thread_local.proofs.Seated.{with_learnt, now_knowing}
 use Rattle.thread_local.proofs.seat.Seat.find_bucket.Goals as goal
@@ -35,7 +35,7 @@ known_standing Standing has found = absurd has
 known_standing Vacant has found = refl
 known_standing (Holding v) has found = refl
 
-module _ {V : Type 0} (of : TableView) (old : ClaimView V) (now : LocalView V) (before : List IdMove) (seen : local_view of old before ≡ now) where
+module _ {V : Type 0} (of : ThreadLocalView) (old : ClaimView V) (now : LocalView V) (before : List IdMove) (seen : local_view of old before ≡ now) where
   refused : (new : ClaimView V) → new.id ≡ old.id → old.learnt ≡ Missing → new.learnt ≡ Missing
       → (now.known ≡ false) × (local_view of new before ≡ now)
   refused new same missing is = (

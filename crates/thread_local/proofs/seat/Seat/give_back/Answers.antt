@@ -1,5 +1,9 @@
-use Rattle.std.proofs.Common.{◌≡◌, ◌∙◌, sym, ap}
-use Rattle.thread_local_shared_buckets.specs.TableView.{TableView}
+use Rattle.std.proofs.Common.{◌≡◌, ◌∙◌, ℕ, sym, ap, subst}
+use Rattle.std.specs.Prelude.{List}
+use mathlib.Core.List.{IsPrefix}
+use Rattle.thread_local_model.specs.IdMoves.{IdMove, Take, Give, noted}
+use Rattle.thread_local.specs.Seats.{LocalView}
+use Rattle.thread_local.specs.Tables.{ThreadLocalView}
 use Rattle.thread_local.proofs.seat.Seat.give_back.Goals as goal
 
 -- The search for these takes some time.
@@ -10,7 +14,7 @@ give-requires g c =
     rw c.deref_mut.ensures.value
     (c.lock.ensures.tag.1
     ∙ c.table.invariant.0
-    ∙ ap (λ (t : TableView). t.table) c.table.view_is
+    ∙ ap (λ (t : ThreadLocalView). t.table) c.table.view_is
     ∙ sym c.self.invariant.table)
     in
     record {
@@ -21,3 +25,19 @@ give-requires g c =
 pub drop-lock-requires-clause-tag : goal.drop-lock-requires-clause-tag
 drop-lock-requires-clause-tag g c =
     c.give.ensures.table.0 ∙ rw c.deref_mut.ensures.value (c.lock.ensures.tag.1 ∙ sym c.lock.ensures.tag.0)
+
+pub returns-clause-moves : goal.returns-clause-moves
+returns-clause-moves g c =
+    let moves : List IdMove = c.deref_mut.result.now.moves in
+    record {
+      before = moves;
+      given =
+          c.give.ensures.page.1
+          ∙ c.give.ensures.moves
+          ∙ ap (λ (id : ℕ). noted moves (Give id))
+          (c.give_up-held.ensures.id.0 ∙ ap (λ (view : LocalView g.row.T.Denot). view.id) c.self.view_is);
+      early =
+          subst (λ (before : List IdMove). IsPrefix (noted before Take) moves)
+          (ap (λ (view : LocalView g.row.T.Denot). view.before) c.self.view_is)
+          c.give.ensures.early;
+    }

@@ -6,7 +6,7 @@ use Rattle.std.specs.Prelude.{List}
 use Rattle.thread_local_model.specs.IdMoves.{IdMove}
 use Rattle.thread_local_shared_buckets.specs.Known.{HasLooked}
 use Rattle.thread_local_shared_buckets.specs.Views.{ClaimView}
-use Rattle.thread_local_shared_buckets.specs.TableView.{TableView}
+use Rattle.thread_local.specs.Tables.{ThreadLocalView}
 use Rattle.thread_local.specs.Seats.{LocalView, local_view, knows, vacant}
 use Rattle.thread_local.proofs.Seated.{now_knowing}
 use Rattle.thread_local.proofs.seat.Seat.publish_at.Goals as goal
@@ -20,7 +20,8 @@ seen_vacant Standing has empty known = absurd has
 seen_vacant Vacant has empty known = refl
 seen_vacant (Holding v) has empty known = cc
 
-is_vacant : {V : Type 0} (of : TableView) (claim : ClaimView V) (now : LocalView V) (before : List IdMove) → HasLooked claim.learnt → local_view of claim before ≡ now
+is_vacant : {V : Type 0} (of : ThreadLocalView) (claim : ClaimView V) (now : LocalView V) (before : List IdMove)
+    → HasLooked claim.learnt → local_view of claim before ≡ now
     → knows now ≡ vacant
     → claim.learnt ≡ Vacant
 is_vacant {V} of claim now before has seen empty =
@@ -67,7 +68,9 @@ invariant_of-self g c =
 
 pub returns : goal.returns
 returns g c =
-    let empty = is_vacant c.self.inside.table.now c.self.inside.claim c.args.self.now c.self.inside.tenure.before c.self.invariant.known c.self.view_is c.requires.vacant in
+    let empty =
+    is_vacant c.self.inside.table.now c.self.inside.claim c.args.self.now c.self.inside.tenure.before
+    c.self.invariant.known c.self.view_is c.requires.vacant in
     now_knowing c.self.inside.table.now c.self.inside.claim c.publish.new.self c.self.inside.tenure.before c.publish.ensures.same_slot.2
     c.args.self.now c.self.view_is (Holding c.args.value)
     (published c.self.inside.claim.learnt c.publish.new.self.learnt c.args.value empty c.publish.ensures.learnt)

@@ -1,8 +1,9 @@
 use Rattle.std.proofs.Common.{◌≢◌, ◌∙◌, sym, ap, subst, lit<}
 use Rattle.std.specs.Prelude.{IsSome}
 use Rattle.thread_local_ids.specs.declared.right.Right.{Right}
-use Rattle.thread_local_shared_buckets.specs.TableView.{TableView}
+use Rattle.thread_local.specs.Tables.{ThreadLocalView}
 use Rattle.thread_local.proofs.table.ThreadLocal.cleared.Goals as goal
+use Rattle.thread_local.proofs.Grown.{grown_cleared}
 
 -- The search for these takes seconds.
 pub of-requires : goal.of-requires
@@ -17,8 +18,11 @@ of-requires g c = λ κs within.
           (
             c.judged.ensures.judged,
             (
-              ap (λ (r : Right). r.table) same ∙ right.0 ∙ sym c.table_right-fresh.ensures.same.1,
-              ap (λ (r : Right). r.id) same ∙ right.1,
+              (
+                ap (λ (r : Right). r.table) same ∙ right.0 ∙ sym c.table_right-fresh.ensures.same.1,
+                ap (λ (r : Right). r.id) same ∙ right.1,
+              ),
+              c.table_right-fresh.ensures.same.2 ∙ c.clear-2.ensures.moves,
             ),
           ),
         ),
@@ -31,10 +35,10 @@ returns-clause-table g c = λ same.
     let right = c.table_right-fresh.ensures.right in
     c.apart.ensures.ids
     (c.buckets.invariant.1
-    ∙ ap (λ (t : TableView). t.table) c.buckets.view_is
-    ∙ ap (λ (t : TableView). t.table) c.replace.ensures.value
+    ∙ ap (λ (t : ThreadLocalView). t.table) c.buckets.view_is
+    ∙ ap (λ (t : ThreadLocalView). t.table) c.replace.ensures.value
     ∙ sym same
-    ∙ ap (λ (t : TableView). t.table) c.drop.view_is
+    ∙ ap (λ (t : ThreadLocalView). t.table) c.drop.view_is
     ∙ c.of.ensures.table
     ∙ c.table_right-fresh.ensures.same.1
     ∙ sym right.0)
@@ -42,13 +46,19 @@ returns-clause-table g c = λ same.
 
 pub returns-clause-sharing : goal.returns-clause-sharing
 returns-clause-sharing g c =
-    subst (λ (t : TableView). IsSome t.sharing × (t.sharing ≢ g.past)) (sym c.drop.view_is) c.of.ensures.sharing
+    subst (λ (t : ThreadLocalView). IsSome t.sharing × (t.sharing ≢ g.past)) (sym c.drop.view_is) c.of.ensures.sharing
 
 pub returns-clause-reserved : goal.returns-clause-reserved
 returns-clause-reserved g c =
-    ap (λ (t : TableView). t.reserved) c.drop.view_is
+    ap (λ (t : ThreadLocalView). t.reserved) c.drop.view_is
     ∙ c.of.ensures.reserved
     ∙ c.clear.ensures.reserved
     ∙ c.into_buckets-buckets.ensures
-    ∙ ap (λ (t : TableView). t.reserved) c.buckets.view_is
-    ∙ ap (λ (t : TableView). t.reserved) c.replace.ensures.value
+    ∙ ap (λ (t : ThreadLocalView). t.reserved) c.buckets.view_is
+    ∙ ap (λ (t : ThreadLocalView). t.reserved) c.replace.ensures.value
+
+pub returns-clause-grown : goal.returns-clause-grown
+returns-clause-grown g c =
+    ap (λ (t : ThreadLocalView). t.grown_by_ids) c.drop.view_is
+    ∙ c.of.ensures.grown
+    ∙ grown_cleared c.clear.new.self c.into_buckets-buckets.result.reserved c.clear.ensures.reserved c.clear.ensures.stands

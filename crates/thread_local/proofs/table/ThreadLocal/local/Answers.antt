@@ -1,5 +1,5 @@
 use Rattle.std.proofs.Common.{◌≡◌, ◌∙◌, ℕ, ◌<◌, ◌-◌, ◌^◌, sym, ap, subst, lit<}
-use Rattle.thread_local_shared_buckets.specs.TableView.{TableView}
+use Rattle.thread_local.specs.Tables.{ThreadLocalView}
 use Rattle.std.specs.Prelude.{List}
 use Rattle.thread_local_model.specs.Held.{least}
 use Rattle.thread_local_model.specs.IdMoves.{IdMove, held_after}
@@ -20,7 +20,7 @@ new-requires g c =
     let taken = c.in_ok-held.ensures in
     let table : c.deref_mut.result.now.table ≡ c.args.self.now.table =
     rw c.deref_mut.ensures.value
-    (c.lock.ensures.tag.1 ∙ c.self.invariant.0 ∙ ap (λ (t : TableView). t.table) c.self.view_is)
+    (c.lock.ensures.tag.1 ∙ c.self.invariant.0 ∙ ap (λ (t : ThreadLocalView). t.table) c.self.view_is)
     in (lit< tt, ((taken.right.0 ∙ table, taken.mark ∙ table, taken.tenure.0 ∙ table), (taken.right.1, taken.least)))
 
 pub returns-clause-table : goal.returns-clause-table

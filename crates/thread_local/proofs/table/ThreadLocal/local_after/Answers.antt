@@ -1,10 +1,10 @@
-use Rattle.std.proofs.Common.{◌≡◌, ◌∙◌, ℕ, true, sym, ap, subst, lit<}
-use Rattle.thread_local_shared_buckets.specs.TableView.{TableView}
-use Rattle.std.specs.Prelude.{List}
-use Rattle.thread_local_model.specs.Held.{least, is_held}
-use Rattle.thread_local_model.specs.IdMoves.{IdMove, held_after, noted}
-use mathlib.Core.List.{IsPrefix}
+use Rattle.std.proofs.Common.{rules, arith, ◌≤◌, ◌≡◌, ◌∙◌, sym, ap, lit<}
+use Rattle.thread_local.specs.Tables.{ThreadLocalView}
+use Rattle.std.specs.Prelude.{List, Bool}
+use Rattle.thread_local_model.specs.Held.{least, held_count, HoldsAllBelow}
+use Rattle.thread_local_model.specs.IdMoves.{IdMove, held_after}
 use Rattle.thread_local.specs.Seats.{LocalView}
+use Rattle.thread_local.proofs.Counted.{all_below_count}
 use Rattle.thread_local.proofs.table.ThreadLocal.local_after.Goals as goal
 
 -- The search for these takes a second.
@@ -21,7 +21,7 @@ new-requires g c =
     let taken = c.in_ok-held.ensures in
     let table : c.deref_mut.result.now.table ≡ c.args.self.now.table =
     rw c.deref_mut.ensures.value
-    (c.lock.ensures.tag.1 ∙ c.self.invariant.0 ∙ ap (λ (t : TableView). t.table) c.self.view_is)
+    (c.lock.ensures.tag.1 ∙ c.self.invariant.0 ∙ ap (λ (t : ThreadLocalView). t.table) c.self.view_is)
     in (lit< tt, ((taken.right.0 ∙ table, taken.mark ∙ table, taken.tenure.0 ∙ table), (taken.right.1, taken.least)))
 
 pub returns-clause-table : goal.returns-clause-table
@@ -40,9 +40,10 @@ returns-clause-least g c =
     ∙ ap (λ (before : List IdMove). least (held_after before))
     (sym (ap (λ (view : LocalView g.row.T.Denot). view.before) c.new-2.ensures ∙ c.new.ensures.id.1))
 
-pub returns-clause-early : goal.returns-clause-early
-returns-clause-early g c =
-    subst (λ (before : List IdMove). IsPrefix (noted c.args.earlier.now.before c.args.earlier.now.last) before)
-    (sym (ap (λ (view : LocalView g.row.T.Denot). view.before) c.new-2.ensures ∙ c.new.ensures.id.1
-    ∙ c.in_ok-held.ensures.tenure.1))
-    c.take_after.ensures.early
+-- where as many ids are held as there was room for, no fewer are
+pub returns-in_err-held-clause-granted : goal.returns-in_err-held-clause-granted
+returns-in_err-held-clause-granted g c = λ few refused.
+    let held : List Bool = held_after c.take_after.new.page.moves in
+    let full : HoldsAllBelow c.args.self.now.room held = search (rules, refused) in
+    let many : c.args.self.now.room ≤ held_count held = all_below_count c.args.self.now.room held full in
+    omega (arith, few, many)

@@ -41,12 +41,14 @@ pub invariant_of-self-2 : goal.invariant_of-self-2
 invariant_of-self-2 c = record {
   out = search rules;
   moves =
-    ap held_after c.take-tenure.ensures.moves.1
-    ∙ after_take c.self.inside.history.moves
-    ∙ ap with_least c.self.invariant.moves
-    ∙ sym c.in_ok-id.ensures.ok.held;
+      ap held_after c.take-tenure.ensures.moves.1
+      ∙ after_take c.self.inside.history.moves
+      ∙ ap with_least c.self.invariant.moves
+      ∙ sym c.in_ok-id.ensures.ok.held;
   table =
-    c.take-tenure.ensures.moves.0
-    ∙ c.self.invariant.table
-    ∙ sym (c.take-mark.ensures.table ∙ c.take-right.ensures.table);
+      c.take-tenure.ensures.moves.0
+      ∙ c.self.invariant.table
+      ∙ sym (c.take-mark.ensures.table ∙ c.take-right.ensures.table);
+  room = omega (arith, c.self.invariant.room, c.in_ok-id.ensures.ok.room);
+  room_table = c.self.invariant.room_table ∙ sym (c.take-mark.ensures.table ∙ c.take-right.ensures.table);
 }

@@ -15,7 +15,7 @@ use denote.Steps.{nothing, opens, closes, heard}
 use denote.Triple.Walked.{Stays, walk_of, stay_dropped, Goes-dropped, stay_ref, Goes-ref, ends_at}
 use Rattle.std.proofs.raw_atomic.Walks.{proved}
 use mathlib.Core.List.{IsPrefix}
-use Rattle.thread_local_model.specs.IdMoves.{IdMove, noted}
+use Rattle.thread_local_model.specs.IdMoves.{IdMove}
 use Rattle.thread_local_ids.specs.Rights.{history_owns, page_owns}
 use Rattle.thread_local_ids.proofs.MoveElements.{page_is_early}
 use Rattle.thread_local_ids.proofs.Facts.{tells, tells_last}
@@ -47,7 +47,7 @@ extends_spec 𝓤 𝓛 𝓜 𝓡 wired =
     let b = r.ref_ptr.0 in
     let o = r.ref_ptr.1 in
     let s = r.now in
-    let seen : List IdMove = noted mine.before mine.last in
+    let seen : List IdMove = mine.moves in
     let Early : Type 0 = IsPrefix seen s.moves in
     let y : W.Ghost = ((κs, qs, bounds, a, (mut_vals r, (token ∷ [], tt))), g) in
     let u : Val = vptr b o in

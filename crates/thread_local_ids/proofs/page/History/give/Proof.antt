@@ -47,7 +47,8 @@ give_spec 𝓤 𝓛 𝓜 𝓡 wired =
       (Goes-dropped 𝓛 1 (plain (λ _. usize)) yes (λ κs x w. refl), (Goes-dropped 𝓛 1 (plain (λ _. tenure.the_row)) yes (λ κs x w. refl), tt)),
     )
     f.Key.name code.function (code.unfolded 𝓤 𝓛.H 𝓜 𝓡 wired)
-    (λ κs. (mut_vals, (uint_vals w64, ((λ x. token ∷ []), tt)))) (λ κs. (mut_Tells (named 0) κs.0 R, (uint_Tells w64, ((λ x vs is. told (tenure.the_type).name vs is.0), tt)))) (λ κs qs bounds a g are.
+    (λ κs. (mut_vals, (uint_vals w64, ((λ x. token ∷ []), tt))))
+    (λ κs. (mut_Tells (named 0) κs.0 R, (uint_Tells w64, ((λ x vs is. told (tenure.the_type).name vs is.0), tt)))) (λ κs qs bounds a g are.
     let r = a.0 in
     let id : ℕ = a.1.0 in
     let mine = a.1.1.0 in
@@ -79,11 +80,11 @@ give_spec 𝓤 𝓛 𝓜 𝓡 wired =
     sets ! (agg ! (no_more !)) refl (tt, tt) $ sets ! (agg ! (and_then ! (get ! refl) (no_more !))) refl (tt, (tt, tt)) $
     returns ! (look_at ! 0 refl) $ free_all ! refl $
     suffices ! _ (ends_at 𝓛 f.ended stayed c y token
-    record { marker = record {}; table = s.table; before = s.moves; last = Give id } (new, (tt, (tt, tt))) (tt, (tt, (tt, tt)))) $
+    record { marker = record {}; table = s.table; moves = more } (new, (tt, (tt, tt))) (tt, (tt, (tt, tt)))) $
     -- [two parts of self; the token; the right; self's first part]
     move ! (4 ∷ 0 ∷ 1 ∷ []) $ fjoin3 ! $ nothing ! $ nothing ! $ fjoin ! $ nothing ! $ fjoin ! $ move ! (1 ∷ 0 ∷ []) $ fjoin ! $
     move ! (2 ∷ []) $
     use0 𝓛 (‵ ((Mark (page.the_type).name).own_val (tt, tt) (token ∷ [])))
     (made (page.the_type).name 𝓛) $
     fjoin ! $ move ! (1 ∷ 0 ∷ []) $ join ! $
-    nothing ! $ move ! (2 ∷ 0 ∷ []) $ join ! $ join ! $ frame ! $ tells ! (refl, refl, refl) $ tells_last ! (refl, refl)))))))
+    nothing ! $ move ! (2 ∷ 0 ∷ []) $ join ! $ join ! $ frame ! $ tells ! (refl, refl) $ tells_last ! (refl, refl)))))))

@@ -7,7 +7,6 @@ use denote.Struct.Laws.{field_copy}
 use denote.Struct.Lending.{of_Lends}
 use denote.Builtin.{unit}
 use Rattle.std.specs.contracts.marker.PhantomData as P
-use Rattle.thread_local_model.specs.IdMoves.{noted}
 use Rattle.thread_local_ids.specs.Rights.{page_owns}
 use Rattle.thread_local_ids.specs.contracts.page.Page as C
 use Rattle.thread_local_ids.proofs.MoveElements.{page_twice}
@@ -17,8 +16,8 @@ use Rattle.thread_local_ids.proofs.page.Page.TheLaw.Statement.{statement}
 pub shares : statement
 shares = of_Lends C.struct (C.the_codes (P.the_row unit).coded) C.the_heap C.the_lent
     (λ d p. record {
-      contraction = λ M 𝓤 𝓛 κ. page_twice 𝓛 d.table (noted d.before d.last);
-      mono = λ M 𝓤 𝓛 κ' κ. snd∗ 𝓤 (sem 𝓛 (before κ' κ)) (sem 𝓛 (page_owns d.table (noted d.before d.last)));
+      contraction = λ M 𝓤 𝓛 κ. page_twice 𝓛 d.table d.moves;
+      mono = λ M 𝓤 𝓛 κ' κ. snd∗ 𝓤 (sem 𝓛 (before κ' κ)) (sem 𝓛 (page_owns d.table d.moves));
     })
     (copy_shared (P.the_field unit) (field_copy (P.the_type unit) tt), tt)
-    (λ M 𝓤 𝓛 d p. lends_twice 𝓛 (page_owns d.table (noted d.before d.last)) (page_twice 𝓛 d.table (noted d.before d.last)) C.the_row.lives)
+    (λ M 𝓤 𝓛 d p. lends_twice 𝓛 (page_owns d.table d.moves) (page_twice 𝓛 d.table d.moves) C.the_row.lives)

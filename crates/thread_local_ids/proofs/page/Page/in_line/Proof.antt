@@ -1,6 +1,6 @@
 -- Of two pages of one table one extends the other.
 use Rattle.thread_local_model.proofs.Names.{sym, ◌≡◌, ℕ, List, [], ◌∷◌, refl, named}
-use Rattle.thread_local_model.proofs.Names.{Val, vptr, vunit, SProp, emp, ‵, raw, ◌⊛◌, given, ◌$◌, ◌∵◌, !}
+use Rattle.thread_local_model.proofs.Names.{Val, vptr, vunit, SProp, emp, ‵, raw, ◌⊛◌, given, ◌$◌, ◌∵◌, ! }
 use Rattle.thread_local_model.proofs.Names.{qed, by, move, keep, drop, split, fsplit, fsplit3, fjoin, learn, rewrite}
 use Rattle.thread_local_model.proofs.Names.{feq_i, use0, use2, of_opd, unit_lit, returns, enter, alloc_all, pass_all}
 use Rattle.thread_local_model.proofs.Names.{free_all, look_at, sets, tables, fact, fact_i, yes, RattleType, owns}
@@ -9,7 +9,7 @@ use Rattle.thread_local_model.proofs.Names.{shr_Tells, Stays, stay_dropped, walk
 use Rattle.thread_local_model.proofs.Names.{alive, unhide}
 use mathlib.Core.List.{IsPrefix}
 use mathlib.Core.Logic.{◌∨₁◌}
-use Rattle.thread_local_model.specs.IdMoves.{IdMove, noted}
+use Rattle.thread_local_model.specs.IdMoves.{IdMove}
 use Rattle.thread_local_ids.specs.Rights.{page_owns}
 use Rattle.thread_local_ids.specs.contracts.page.Page as Page
 use Rattle.thread_local_ids.proofs.MoveElements.{in_line}
@@ -41,8 +41,8 @@ in_line_spec 𝓤 𝓛 𝓜 𝓡 wired =
     let v = a.1.0.now in
     let y : (walk_of 𝓛 En hs c).Ghost = ((κs, qs, bounds, a, (p ∷ [], (p' ∷ [], tt))), gh) in
     let Post : Val → SProp 𝓤 = (walk_of 𝓛 En hs c).post y in
-    let ws : List IdMove = noted w.before w.last in
-    let vs : List IdMove = noted v.before v.last in
+    let ws : List IdMove = w.moves in
+    let vs : List IdMove = v.moves in
     let At : Type 0 = w.table ≡ v.table in
     let Line : Type 0 = IsPrefix ws vs ∨₁ IsPrefix vs ws in
     qed 𝓛 ((raw (alive 𝓛 En.signature κs qs) ⊛ ‵ (owns (types_at En.signature.params κs) a y.0.4))

@@ -7,7 +7,7 @@ use Rattle.thread_local_model.proofs.Names.{plain, nothing, RefOf, shr_vals, shr
 use Rattle.thread_local_model.proofs.Names.{stay_dropped, walk_of, Goes-dropped, proved, leaves, alive, unhide}
 use Rattle.thread_local_ids.specs.contracts.page.Page as Page
 use Rattle.thread_local_ids.specs.contracts.page.Tenure as Tenure
-use Rattle.thread_local_model.specs.IdMoves.{Take}
+use Rattle.thread_local_model.specs.IdMoves.{Take, noted}
 use Rattle.thread_local_ids.proofs.Markers.{token, Mark, made}
 use Rattle.thread_local_ids.specs.contracts.page.Tenure.page.{ended, clauses}
 use Rattle.thread_local_ids.specs.contracts.page.Tenure.page.Key.{name as #self}
@@ -29,8 +29,8 @@ page_spec 𝓤 𝓛 𝓜 𝓡 wired =
     let p : Val = vptr a.0.ref_ptr.0 a.0.ref_ptr.1 in
     let w = a.0.now in
     let r : Page.the_row.Denot =
-    record { marker = record {}; table = w.table; before = w.before; last = Take } in
-    let Told : Type 0 = (w.table ≡ w.table) × (w.before ≡ w.before) × (Take ≡ Take) in
+    record { marker = record {}; table = w.table; moves = noted w.before Take } in
+    let Told : Type 0 = (w.table ≡ w.table) × (noted w.before Take ≡ noted w.before Take) in
     let y : (walk_of 𝓛 En hs c).Ghost = ((κs, qs, bounds, a, (p ∷ [], tt)), gh) in
     let Post : Val → SProp 𝓤 = (walk_of 𝓛 En hs c).post y in
     qed 𝓛 ((raw (alive 𝓛 En.signature κs qs) ⊛ ‵ (owns (types_at En.signature.params κs) a y.0.4))
@@ -40,6 +40,6 @@ page_spec 𝓤 𝓛 𝓜 𝓡 wired =
     use0 𝓛 (‵ ((Mark (Page.the_type).name).own_val (tt, tt) (token ∷ []))) (made (Page.the_type).name 𝓛) $ fjoin ! $
     enter ! 𝓣.C 𝓣.Λ fn (p ∷ []) Post $ alloc_all ! (λ l. pass_all ! refl ((tt, tt), tt) $
     sets ! (agg ! (no_more !)) refl (tt, tt) $ sets ! (agg ! (and_then ! (get ! refl) (no_more !))) refl (tt, (tt, tt)) $
-    use0 𝓛 (raw (fact 𝓤 Told)) (fact_i 𝓤 Told (emp 𝓤) (refl, refl, refl)) $ nothing ! $ nothing ! $ fjoin ! $
+    use0 𝓛 (raw (fact 𝓤 Told)) (fact_i 𝓤 Told (emp 𝓤) (refl, refl)) $ nothing ! $ nothing ! $ fjoin ! $
     returns ! (look_at ! 0 refl) $ free_all ! refl $ keep ! (3 ∷ 0 ∷ 2 ∷ 1 ∷ []) $
     by ! (leaves 𝓛 En hs c y token r (tt, tt) (tt, tt))))

@@ -1,5 +1,5 @@
 -- The list's tokens of a witness's id have its value.
-use Rattle.thread_local_model.proofs.Names.{sym, ◌≡◌, ℕ, List, [], ◌∷◌, refl, ap, Some, None, Option, a_type, named}
+use Rattle.thread_local_model.proofs.Names.{sym, ◌≡◌, List, [], ◌∷◌, refl, ap, Some, None, Option, a_type, named}
 use Rattle.thread_local_model.proofs.Names.{Val, vptr, vunit, inst_fn, SProp, emp, ‵, raw, ◌⊛◌, given, ◌$◌, ◌∵◌, ! }
 use Rattle.thread_local_model.proofs.Names.{qed, by, move, keep, drop, split, fsplit, fsplit3, fjoin, learn}
 use Rattle.thread_local_model.proofs.Names.{feq_i, use0, use2, of_opd, unit_lit, returns, enter, alloc_all, pass_all}

@@ -1,15 +1,13 @@
 -- `and_of` puts what a witness shows before the list.
-use Rattle.thread_local_model.proofs.Names.{◌≡◌, List, [], ◌∷◌, refl, Some, a_type, named}
+use Rattle.thread_local_model.proofs.Names.{◌≡◌, List, [], ◌∷◌, refl, a_type, named}
 use Rattle.thread_local_model.proofs.Names.{Val, vptr, inst_fn, SProp, emp, ‵, raw, ◌⊛◌, ◌$◌, ◌∵◌, ! }
 use Rattle.thread_local_model.proofs.Names.{qed, by, move, keep, drop, split, fsplit, fsplit3, fjoin, no_more, and_then}
 use Rattle.thread_local_model.proofs.Names.{use0, use1, returns, enter, alloc_all, pass_all, agg, get}
 use Rattle.thread_local_model.proofs.Names.{free_all, look_at, sets, tables, fact, fact_i, yes, RattleType, owns}
 use Rattle.thread_local_model.proofs.Names.{types_at, plain, nothing, param, layouts, RefOf, shr_vals}
 use Rattle.thread_local_model.proofs.Names.{shr_Tells, Stays, stay_dropped, walk_of, Goes-dropped, proved, leaves}
-use Rattle.thread_local_model.proofs.Names.{alive, unhide, Fml}
-use Rattle.thread_local_ids.specs.Told.{tells}
+use Rattle.thread_local_model.proofs.Names.{alive, unhide}
 use Rattle.thread_local_ids.specs.Views.{TokenView}
-use Rattle.thread_local_ids.specs.TokenLists.{tell_each}
 use Rattle.thread_local_ids.specs.contracts.witness.Witness as Witness
 use Rattle.thread_local_ids.specs.contracts.token_list.TokenList as TokenList
 use Rattle.thread_local_ids.proofs.Made.{token_val}

@@ -14,7 +14,7 @@ use Rattle.thread_local_model.proofs.Names.{fact_i, no, RattleType, owns, types_
 use Rattle.thread_local_model.proofs.Names.{block_of, count_of, at_block, InBlock, ptr_val, nothing, heard, param}
 use Rattle.thread_local_model.proofs.Names.{layout, Stays, stay_dropped, walk_of, Goes-dropped, proved, leaves, fm}
 use Rattle.thread_local_model.proofs.Names.{after, u64}
-use Rattle.std.proofs.Common.{IfSome, length, ◌*◌, ◌<◌, subst}
+use Rattle.std.proofs.Common.{IfSome, length, ◌*◌, ◌<◌, ◌≤◌, subst}
 use Rattle.std.proofs.lemmas.List.{length-replicate}
 use seplogic.Ra.Ura.{Ura}
 use mir.Syntax.{Ty}
@@ -52,7 +52,13 @@ use Rattle.thread_local_bucket_pointers.proofs.Flags.{value_near}
 use Rattle.thread_local_model.specs.Fact.{fact as said_fact}
 use Rattle.thread_local_bucket_pointers.specs.contracts.block.Block as block
 use Rattle.thread_local_bucket_pointers.proofs.Fields as fields
-use Rattle.thread_local_shared_buckets.specs.Shared.{BucketView, Turn, StandingBlock, len, bucket_invariant}
+use Rattle.thread_local_ids.specs.Rights.{reached_owns}
+use Rattle.thread_local_ids.specs.contracts.reached.Reached as Reached
+use Rattle.thread_local_ids.proofs.ReachedElements.{reached_less}
+use Rattle.thread_local_ids.proofs.Markers.{token}
+use Rattle.thread_local_ids.proofs.Markers.{told as token_told}
+use Rattle.thread_local_shared_buckets.proofs.GrownLaws.{shown_reached}
+use Rattle.thread_local_shared_buckets.specs.Shared.{BucketView, Turn, StandingBlock, len, bucket_invariant, shown_by, grown}
 use Rattle.thread_local_shared_buckets.proofs.Loads.{glimpse}
 use Rattle.thread_local_shared_buckets.proofs.Offers as offers
 use Rattle.thread_local_shared_buckets.proofs.RowFields.{word_laws}
@@ -91,20 +97,30 @@ exchange_spec 𝓤 𝓛 𝓜 𝓡 wired X L =
     let closed = code.unfolded 𝓤 H 𝓜 𝓡 wired (X, tt) in
     let Z : RattleType = heap.the_row in let Bl : RattleType = block.the_row R Z ghosts in let Back : RattleType = Opt.the_row Bl in
     let self = plain (λ κs. claim.the_row (named_lft 2 0 tt κs) R) in let number = plain (λ _. usize) in let lot = plain (λ _. Bl) in
-    let hs : Stays En.signature.params En.kept = (stay_dropped self no, (stay_dropped number yes, (stay_dropped lot no, tt))) in
+    let shown = plain (λ _. Reached.the_row) in
+    let hs : Stays En.signature.params En.kept =
+    (stay_dropped self no, (stay_dropped number yes, (stay_dropped lot no, (stay_dropped shown yes, tt)))) in
     proved 𝓛 En hs c 𝓜 𝓡 (
       Goes-dropped 𝓛 2 self no (λ κs x f. refl),
       (
         Goes-dropped 𝓛 2 number yes (λ κs x f. refl),
-        (Goes-dropped 𝓛 2 lot no (λ κs x f. refl), tt),
+        (Goes-dropped 𝓛 2 lot no (λ κs x f. refl), (Goes-dropped 𝓛 2 shown yes (λ κs x f. refl), tt)),
       ),
     )
     (#self inst) fn closed
-    (λ κs.
-    ((λ x. value_of (kept_of x) ∷ []), (uint_vals w64, ((λ x. fields.block_val x.at ∷ []), tt))))
+    (λ κs. (
+      (λ x. value_of (kept_of x) ∷ []),
+      (uint_vals w64, ((λ x. fields.block_val x.at ∷ []), ((λ x. token ∷ []), tt))),
+    ))
     (λ κs. (
       (λ x vs so. told (named_lft 2 0 tt κs) R (kept_of x) vs so.0),
-      (uint_Tells w64, ((λ x vs so. fields.told R Z ghosts x.at vs so.0), tt)),
+      (
+        uint_Tells w64,
+        (
+          (λ x vs so. fields.told R Z ghosts x.at vs so.0),
+          ((λ x vs so. token_told (Reached.the_type).name vs so.0), tt),
+        ),
+      ),
     ))
     (λ κs qs bounds a gh are.
     let h = a.0 in
@@ -130,6 +146,8 @@ exchange_spec 𝓤 𝓛 𝓜 𝓡 wired X L =
     let F₂ : Res → Type 0 = λ r. (r.0.learnt ≡ Vacant) × (r.0.reserved ≡ h.reserved) in
     let F₃ : Res → Type 0 =
     λ r. IfSome r.1 (λ back. (back.heap ≡ x.heap) × (back.slots ≡ x.slots) × (back.left ≡ 0)) in
+    let had = a.1.1.1.0 in
+    let Had : Type 0 = (had.table ≡ h.table) × (h.id < had.ids) in
     let Made : Type 0 = (x.slots ≡ empty_slots (2 ^ bucket_of h.id)) × (x.left ≡ 0) in let none : Option X.Denot = None in
     let w : Ptr = h.bucket in
     let wb : ℕ = block_of w in
@@ -137,21 +155,22 @@ exchange_spec 𝓤 𝓛 𝓜 𝓡 wired X L =
     let i : ℕ = h.index in
     let pl : ClaimFields = claim_fields h.id i w h.at h.sharing h.reserved in
     let y : (walk_of 𝓛 En hs c).Ghost =
-    ((κs, qs, bounds, a, (u₀ ∷ [], (vint w64 ix ∷ [], (bv ∷ [], tt)))), gh) in
+    ((κs, qs, bounds, a, (u₀ ∷ [], (vint w64 ix ∷ [], (bv ∷ [], (token ∷ [], tt))))), gh) in
     let Post : Val → SProp 𝓤 = (walk_of 𝓛 En hs c).post y in
     qed 𝓛 (((‵ (flft β q) ⊛ ‵ others) ⊛ ‵ (owns (types_at En.signature.params κs) a y.0.4))
     ∷ raw (fact 𝓤 _) ∷ raw (fact 𝓤 (h.learnt ≡ Missing)) ∷ raw (fact 𝓤 (ix ≡ i))
-    ∷ raw (fact 𝓤 Made) ∷ []) ∵
-    keep ! (2 ∷ 3 ∷ 4 ∷ 0 ∷ []) $ heard ! (h.learnt ≡ Missing) (λ gone.
-    heard ! (ix ≡ i) (λ is_index. heard ! Made (λ blank. split ! $ split ! $ move ! (2 ∷ []) $
-    fsplit3 ! $ fsplit ! $ move ! (3 ∷ []) $ fsplit ! $ fsplit ! $ keep ! (4 ∷ 6 ∷ 7 ∷ 1 ∷ []) $
-    enter ! 𝓣.C 𝓣.Λ fn (u₀ ∷ vint w64 ix ∷ bv ∷ []) Post $ alloc_all ! (λ l.
+    ∷ raw (fact 𝓤 Made) ∷ raw (fact 𝓤 Had) ∷ []) ∵
+    keep ! (2 ∷ 3 ∷ 4 ∷ 5 ∷ 0 ∷ []) $ heard ! (h.learnt ≡ Missing) (λ gone.
+    heard ! (ix ≡ i) (λ is_index. heard ! Made (λ blank. heard ! Had (λ evident. split ! $ split ! $ move ! (2 ∷ []) $
+    fsplit3 ! $ fsplit ! $ move ! (3 ∷ []) $ fsplit ! $ fsplit ! $ move ! (2 ∷ []) $ fsplit ! $ fsplit ! $
+    keep ! (6 ∷ 8 ∷ 9 ∷ 4 ∷ 1 ∷ []) $
+    enter ! 𝓣.C 𝓣.Λ fn (u₀ ∷ vint w64 ix ∷ bv ∷ token ∷ []) Post $ alloc_all ! (λ l.
     pass_all ! refl (
       typed (kept_of h) (in_word ℓ R (kept_of h) (u₀ ∷ []) are.0.0),
-      ((tt, record { fits = are.1.0.1 }), (fields.block_good p, tt)),
+      ((tt, record { fits = are.1.0.1 }), (fields.block_good p, ((tt, (tt, tt)), tt))),
     ) $
     let Ev = env fn.locals l in
-    -- [what the claim owns; the token; the other tokens; the block]
+    -- [what the claim owns; the token; the other tokens; the block; how many ids were held]
     fsplit ! $ drop ! $ fpick ! (λ z. fsplit ! $ fpick ! (λ of. drop ! $ fsplit ! $
     move ! (1 ∷ []) $
     let d : BucketView = z.0 in
@@ -203,7 +222,12 @@ exchange_spec 𝓤 𝓛 𝓜 𝓡 wired X L =
     let won : Ptr → Fml = λ u. fsep (flft t.life s) (won₀ u) in
     let lost : Ptr → Fml = λ u. fsep (flft t.life s) (lost₀ u) in
     -- [the private block; the sharing lasts; the invariant; the life's token; the way back; the
-    -- pass; the other tokens]
+    -- pass; the other tokens; how many ids were held]
+    let enough : shown_by d ≤ had.ids = shown_reached d h.id i had.ids of.3 evident.1 in
+    move ! (7 ∷ []) $
+    rewrite ! 0 (λ (n : ℕ). ‵ (reached_owns n had.ids)) (evident.0 ∙ sym of.2) refl $
+    use1 𝓛 (‵ (grown d)) (reached_less 𝓛 d.table had.ids (shown_by d) enough) $
+    move ! (1 ∷ 0 ∷ []) $ join ! $
     sets ! (is ! (of_opd ! (get_in ! (fld ! refl (stop !)) (sub ! 0 refl (whole !))))
     (ap ptr_val (leads ∙ at)))
     refl (tt, tt) $
@@ -289,9 +313,9 @@ exchange_spec 𝓤 𝓛 𝓜 𝓡 wired X L =
     use0 𝓛 (raw (fact 𝓤 (F₁ (r, None))))
     (fact_i 𝓤 (F₁ (r, None)) (emp 𝓤) (refl, refl, refl, refl)) $
     join ! $
-    nothing ! $ nothing ! $ fjoin ! $ nothing ! $ fjoin ! $ nothing ! $ fjoin ! $
+    nothing ! $ nothing ! $ fjoin ! $ nothing ! $ fjoin ! $ nothing ! $ fjoin ! $ nothing ! $ fjoin ! $
     returns ! (look_at ! 0 refl) $ free_all ! refl $ keep ! (3 ∷ 0 ∷ 2 ∷ 1 ∷ []) $
-    by ! (leaves 𝓛 En hs c y v (r, None) (tt, (tt, (tt, tt))) (tt, (tt, (tt, tt)))))
+    by ! (leaves 𝓛 En hs c y v (r, None) (tt, (tt, (tt, (tt, tt)))) (tt, (tt, (tt, (tt, tt))))))
     (λ u₁. lands_last ! refl (calls.answer_good (Err u₁)) $
     exec ! 𝓣.C 𝓣.Λ Ev (after 4 fn.body) (at_ret Ev Post) $
     sets ! (of_opd ! (get ! refl)) refl (calls.answer_good (Err u₁)) $ fsplit ! $
@@ -382,7 +406,7 @@ exchange_spec 𝓤 𝓛 𝓜 𝓡 wired X L =
     use0 𝓛 (raw (fact 𝓤 (F₁ (r, Some x))))
     (fact_i 𝓤 (F₁ (r, Some x)) (emp 𝓤) (refl, refl, refl, refl)) $
     join ! $
-    nothing ! $ nothing ! $ fjoin ! $ nothing ! $ fjoin ! $ nothing ! $ fjoin ! $
+    nothing ! $ nothing ! $ fjoin ! $ nothing ! $ fjoin ! $ nothing ! $ fjoin ! $ nothing ! $ fjoin ! $
     returns ! (look_at ! 0 refl) $ free_all ! refl $ keep ! (3 ∷ 0 ∷ 2 ∷ 1 ∷ []) $
     by !
-    (leaves 𝓛 En hs c y v (r, Some x) (tt, (tt, (tt, tt))) (tt, (tt, (tt, tt)))))))))))))))))))))
+    (leaves 𝓛 En hs c y v (r, Some x) (tt, (tt, (tt, (tt, tt)))) (tt, (tt, (tt, (tt, tt)))))))))))))))))))))))

@@ -1,11 +1,7 @@
-use Rattle.std.proofs.Common.{◌≡◌, ◌||◌, ℕ, ◌+◌, ◌<◌, ◌≤◌, Bool, true, false, Option, None, Some, is_some, refl, sym, ◌∙◌, subst, arith, ⊎_elim}
-use Rattle.std.proofs.lemmas.Bool.{cases_lt}
+use Rattle.std.proofs.Common.{◌≡◌, ℕ, ◌+◌, ◌<◌, ◌≤◌, false, Option, None, Some, is_some, refl, sym, ◌∙◌, subst, arith, ⊎_elim}
+use Rattle.std.proofs.lemmas.Bool.{cases_lt, or_parts}
 use Rattle.thread_local_ids.specs.TokenLists.{NoneIn}
 use Rattle.thread_local_shared_buckets.proofs.shared.Shared.any_stands.Goals as goal
-
-neither : (a b : Bool) → (a || b) ≡ false → (a ≡ false) × (b ≡ false)
-neither true b e = cc
-neither false b e = (refl, e)
 
 is_none : {A : Type 0} (o : Option A) → is_some o ≡ false → o ≡ None
 is_none None e = refl
@@ -13,7 +9,7 @@ is_none (Some x) e = cc
 
 pub loop-at-preserved : goal.loop-at-preserved
 loop-at-preserved g c = λ none bucket low high.
-    let both = neither c.loop-at.any c.is_some-any.result none in
+    let both = or_parts c.loop-at.any c.is_some-any.result none in
     ⊎_elim (λ (before : bucket < c.args.first + c.loop-at.at). c.loop-at.invariant both.0 bucket low before)
     (λ (past : c.args.first + c.loop-at.at ≤ bucket).
     let same : c.args.first + c.loop-at.at ≡ bucket = omega arith in

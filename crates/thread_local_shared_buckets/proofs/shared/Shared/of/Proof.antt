@@ -1,6 +1,6 @@
 -- `of` puts an owner's pointers beside the number, and begins a sharing: they are shared buckets at
 -- rest.
-use Rattle.std.proofs.Common.{Option, Some, IsSome, ◌≢◌, ◌≡◌, ℕ, ◌^◌, ◌<◌, List, [], ◌∷◌, ◌++◌, refl, sym, subst, w64}
+use Rattle.std.proofs.Common.{Bool, Option, Some, IsSome, ◌≢◌, ◌≡◌, ℕ, ◌^◌, ◌<◌, List, [], ◌∷◌, ◌++◌, refl, sym, subst, w64}
 use mir.Syntax.{a_type, named}
 use mir.Val.{Val, vint, vptr, has_ty}
 use mir.MapTy.{inst_fn}
@@ -38,6 +38,7 @@ use Rattle.thread_local_ids.specs.contracts.right.Right as right
 use Rattle.thread_local_bucket_pointers.specs.contracts.bucket_pointers.BucketPointers as all_pointers
 use Rattle.thread_local_bucket_pointers.proofs.bucket_pointers.BucketPointers.TheLaws as pointers'
 use Rattle.thread_local_shared_buckets.specs.TableView.{TableView}
+use Rattle.thread_local_shared_buckets.specs.Grown.{only_reserved}
 use Rattle.thread_local_shared_buckets.specs.contracts.shared.Shared as shared
 use Rattle.thread_local_shared_buckets.specs.contracts.shared.Shared.of.{ended, clauses}
 use Rattle.thread_local_shared_buckets.specs.contracts.shared.Shared.of.Key.{name as #self}
@@ -83,6 +84,7 @@ of_spec 𝓤 𝓛 𝓜 𝓡 wired T L =
     let typed : Typed Sh.mir (pair_val v n ∷ []) =
     ((and_tt (has_ty (layout Ws) v) fine.0, (fine.1, (record { fits = fits }, tt))), tt) in
     let Owned : Type 0 = IsOwned (record { contents = w; reserved = n }) in
+    let only : Bool = only_reserved (record { contents = w; reserved = n }) in
     qed 𝓛 ((raw (alive 𝓛 En.signature z.0.0 z.0.1)
     ⊛ ‵ (owns (types_at En.signature.params z.0.0) z.0.3 z.0.4))
     ∷ raw (fact 𝓤 _) ∷ raw (fact 𝓤 _) ∷ raw (fact 𝓤 _) ∷ raw (fact 𝓤 (Judged R))
@@ -97,14 +99,15 @@ of_spec 𝓤 𝓛 𝓜 𝓡 wired T L =
     use0 𝓛 (later (some (λ (γ : GName). given (Some γ ≢ past) (‵ (source 𝓛 γ 0)))))
     (via 𝓤 _ (source_new 𝓛 past) (basic 𝓛 _)) $
     await ! tt $ pick ! (λ γ. learn ! (λ new.
-    let s : TableView = record { table = table; sharing = Some γ; reserved = n } in
+    let s : TableView = record { table = table; sharing = Some γ; reserved = n; grown_by_ids = only } in
     use1 𝓛 (later (‵ (rows_telling R (Some γ) 0 w.rows)))
     (via 𝓤 _ (rows_drawn 𝓛 R γ 0 w.rows (table_whole w owned.table)) (basic 𝓛 _)) $
     await ! tt $ move ! (1 ∷ 0 ∷ []) $
-    use2 𝓛 (‵ (Sh.own_val s (pair_val v n ∷ []))) (makes_shared 𝓛 R LR j s w v fits owned typed) $
+    use2 𝓛 (‵ (Sh.own_val s (pair_val v n ∷ []))) (makes_shared 𝓛 R LR j s w v fits owned typed (λ e. e)) $
     sets ! (of_opd ! (get ! refl)) refl fine $ sets ! (agg ! (and_then ! (get ! refl) (and_then ! (get ! refl) (no_more !)))) refl typed.0 $
     let Named : Type 0 = IsSome (Some γ) × (Some γ ≢ past) in
-    use0 𝓛 (raw (fact 𝓤 (n ≡ n))) (fact_i 𝓤 (n ≡ n) (emp 𝓤) refl) $
+    use0 𝓛 (raw (fact 𝓤 (only ≡ only))) (fact_i 𝓤 (only ≡ only) (emp 𝓤) refl) $
+    use0 𝓛 (raw (fact 𝓤 (n ≡ n))) (fact_i 𝓤 (n ≡ n) (emp 𝓤) refl) $ join ! $
     use0 𝓛 (raw (fact 𝓤 Named)) (fact_i 𝓤 Named (emp 𝓤) (refl, new)) $ join ! $
     use0 𝓛 (raw (fact 𝓤 (table ≡ table))) (fact_i 𝓤 (table ≡ table) (emp 𝓤) refl) $ join ! $
     nothing ! $ nothing ! $ fjoin ! $ nothing ! $ fjoin ! $ nothing ! $ fjoin ! $

@@ -4,7 +4,7 @@ use mir.Syntax.{a_type, named}
 use mir.Val.{Val, vptr}
 use mir.MapTy.{inst_fn}
 use base.Fraction.{full_share}
-use base.Logic.{SProp, emp, id⊢, via, fst∗}
+use base.Logic.{SProp, emp, id⊢}
 use base.Fml.{Lft, Share, GName, Fml, ftrue, fsep, flft}
 use types.Logic.{sem}
 use types.Mut.{open_ref}
@@ -27,14 +27,13 @@ use denote.Steps.{nothing}
 use denote.Triple.Walked.{Stays, stay_dropped, walk_of, Goes-spent_ref}
 use Rattle.std.proofs.raw_atomic.Walks.{proved, leaves}
 use Rattle.std.proofs.alloc.Shapes.{after}
-use Rattle.thread_local_judged.specs.Judged.{Judged}
 use Rattle.thread_local_buckets.specs.contracts.buckets.Buckets as buckets
 use Rattle.thread_local_shared_buckets.specs.TableView.{TableView}
 use Rattle.thread_local_shared_buckets.specs.Lent.{view_with}
 use Rattle.thread_local_shared_buckets.specs.contracts.shared.Shared as shared
 use Rattle.thread_local_shared_buckets.specs.contracts.shared.Shared.owner.{ended, clauses}
 use Rattle.thread_local_shared_buckets.specs.contracts.shared.Shared.owner.Key.{name as #self}
-use Rattle.thread_local_shared_buckets.proofs.Turned.{lies_plain, lies_shared}
+use Rattle.thread_local_shared_buckets.proofs.Turned.{IsLent, AllGrown, lies_plain, lies_shared}
 use Rattle.thread_local_shared_buckets.proofs.shared.Shared.owner.Statement.{statement}
 use Rattle.thread_local_shared_buckets.proofs.shared.Shared.owner.Code as code
 
@@ -65,7 +64,6 @@ owner_spec 𝓤 𝓛 𝓜 𝓡 wired T L =
     let others : Fml = fsep (flft κs.1.0 qs.1.0) ftrue in
     let y : (walk_of 𝓛 En hs c).Ghost = ((κs, qs, bounds, a, (vptr b o ∷ [], tt)), gh) in
     let Post : Val → SProp 𝓤 = (walk_of 𝓛 En hs c).post y in
-    let F : Ow.Denot → TableView = view_with d in
     qed 𝓛 (((‵ (flft κ q) ⊛ ‵ others) ⊛ ‵ (owns (types_at En.signature.params κs) a y.0.4))
     ∷ raw ((c κs a).requires gh) ∷ []) ∵
     keep ! (0 ∷ []) $ split ! $ split ! $ move ! (2 ∷ []) $ fsplit ! $ fsplit3 ! $ keep ! (1 ∷ 2 ∷ 4 ∷ 5 ∷ []) $
@@ -73,19 +71,19 @@ owner_spec 𝓤 𝓛 𝓜 𝓡 wired T L =
     let Ev = env fn.locals l in
     open_ref ! tt (mem Sh) $
     use1 𝓛 (later (some (λ (w : Ow.Denot).
-    given (Judged R × (w.reserved ≡ d.reserved)) (‵ (part_at Ow full_share w b o)))))
+    given (IsLent 𝓛 R LR d w) (‵ (part_at Ow full_share w b o) ⊛ ‵ (AllGrown 𝓛 R LR d w)))))
     (lies_plain 𝓛 R LR d b o) $
-    await ! tt $ pick ! (λ w. learn ! (λ so.
-    -- [an owner's buckets; the open borrow, and its name; the other tokens]
+    await ! tt $ pick ! (λ w. learn ! (λ so. split ! $
+    let F : Ow.Denot → TableView = view_with d w in
+    let Shown : Fml = AllGrown 𝓛 R LR d w in
+    -- [an owner's buckets; what they show; the open borrow, and its name; the other tokens]
     first ! $ blocks ! $ sets ! (addr ! (through ! refl (stop !))) refl (tt, tt) $
     sets ! (of_opd ! (get ! refl)) refl (tt, tt) $
     sets_last ! (addr ! (through ! refl (stop !))) refl (tt, tt) $
     exec ! 𝓣.C 𝓣.Λ Ev (after 1 fn.body) (at_ret Ev Post) $ sets ! (of_opd ! (get ! refl)) refl (tt, tt) $
-    let Rest : SProp 𝓤 = sem 𝓛 ftrue in
-    let back = λ (u : Ow.Denot).
-    via 𝓤 (sem 𝓛 (part_at Ow full_share u b o))
-    (fst∗ 𝓤 (sem 𝓛 (part_at Ow full_share u b o)) Rest) (lies_shared 𝓛 R LR so.0 d b o u) in
-    nothing ! $ move ! (2 ∷ 3 ∷ 4 ∷ 1 ∷ 0 ∷ []) $ group ! 5 $
+    let Rest : SProp 𝓤 = sem 𝓛 Shown in
+    let back = λ (u : Ow.Denot). lies_shared 𝓛 R LR d w so b o u in
+    move ! (2 ∷ 3 ∷ 4 ∷ 0 ∷ 1 ∷ []) $ group ! 5 $
     use1 𝓛
     (later (some (λ (δ : GName). raw (Part 𝓛 Sh Ow F (named 0) κ q b o b o γ Rest back w δ))))
     (lends_Part 𝓛 Sh Ow F (named 0) κ q b o b o γ Rest back (Sh.coded.code d)

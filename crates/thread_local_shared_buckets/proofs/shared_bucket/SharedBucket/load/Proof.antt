@@ -11,6 +11,7 @@ use Rattle.thread_local_model.proofs.Names.{get, through, sets, sets_last, lands
 use Rattle.thread_local_model.proofs.Names.{fact_i, yes, RattleType, owns, types_at, plain, Ptr, block_ptr, null_ptr}
 use Rattle.thread_local_model.proofs.Names.{nothing, param, layouts, RefOf, u64, shr_vals, shr_Tells, Stays}
 use Rattle.thread_local_model.proofs.Names.{stay_dropped, walk_of, Goes-dropped, proved, leaves, fm, after}
+use Rattle.std.proofs.lemmas.Option.{none-some}
 use Rattle.std.proofs.Common.{IfSome, IsSome, List, arith}
 use Rattle.thread_local_ids.specs.Views.{TokenView}
 use Rattle.thread_local_ids.specs.TokenLists.{NoneIn, tell_each}
@@ -39,9 +40,6 @@ use Rattle.thread_local_shared_buckets.proofs.RowFields.{row_val, row_good, poin
 use Rattle.thread_local_shared_buckets.proofs.Loads.{glimpse, reaches, reads, NoneThere, none_there, forgets}
 use Rattle.thread_local_shared_buckets.proofs.shared_bucket.SharedBucket.load.Statement.{statement}
 use Rattle.thread_local_shared_buckets.proofs.shared_bucket.SharedBucket.load.Code as code
-
-stands : {X : Type 0} (x : X) → ◌≡◌ {A = Option X} (Some x) None → ⊥
-stands x e = cc
 
 pub load_spec : {M : Type 1} → statement M
 load_spec 𝓤 𝓛 𝓜 𝓡 wired T L =
@@ -150,7 +148,7 @@ load_spec 𝓤 𝓛 𝓜 𝓡 wired T L =
     use0 𝓛 (‵ ((FieldsType ℓ R).own_val (p, (record {}, tt)) (row_val p ∷ []))) (made ℓ R 𝓛 p) $
     fjoin ! $ use1 𝓛 (‵ ((Opt.the_row G).own_val (Some r) (v ∷ []))) (Some-of 𝓛 G r (row_val p)) $
     move ! (2 ∷ 3 ∷ []) $ join ! $ move ! (1 ∷ []) $
-    use0 𝓛 (raw (fact 𝓤 (Absent (Some r)))) (fact_i 𝓤 (Absent (Some r)) (emp 𝓤) (λ e. absurd (stands r e))) $
+    use0 𝓛 (raw (fact 𝓤 (Absent (Some r)))) (fact_i 𝓤 (Absent (Some r)) (emp 𝓤) (λ e. absurd (none-some r (sym e)))) $
     use0 𝓛 (raw (fact 𝓤 (There (Some r)))) (fact_i 𝓤 (There (Some r)) (emp 𝓤) (λ _. refl)) $ join ! $
     use0 𝓛 (raw (fact 𝓤 (Of (Some r)))) (fact_i 𝓤 (Of (Some r)) (emp 𝓤) refl) $ join ! $ nothing ! $
     nothing ! $ fjoin ! $ nothing ! $ fjoin ! $

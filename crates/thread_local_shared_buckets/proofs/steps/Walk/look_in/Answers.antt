@@ -8,7 +8,8 @@ use Rattle.thread_local_shared_buckets.proofs.steps.Walk.look_in.Goals as goal
 pub returns : goal.returns
 returns g c =
     looked_on c.args.self.now c.row_of-self.result c.own_index-own.result c.look_on-seen.result c.requires.walk c.requires.passed
-    c.requires.in_table c.row_of-self.ensures.of c.own_index-own.ensures c.look_on-seen.ensures.looked (subst (λ (ts : List (TokenView _)). FindsTokens c.row_of-self.result c.args.self.now.chunks ts c.look_on-seen.result)
+    c.requires.in_table c.row_of-self.ensures.of c.own_index-own.ensures c.look_on-seen.ensures.looked
+    (subst (λ (ts : List (TokenView _)). FindsTokens c.row_of-self.result c.args.self.now.chunks ts c.look_on-seen.result)
     c.list-2.ensures c.look_on-seen.ensures.told)
     (λ none.
     subst (λ (ts : List (TokenView _)). NoneIn c.args.self.now.buckets.now.sharing c.args.self.now.raw.bucket ts)

@@ -2,8 +2,7 @@ use Rattle.std.proofs.Common.{◌≡◌, refl, ap, ◌∙◌, subst, arith}
 use Rattle.thread_local_bucket_pointers.specs.declared.cursor.RawIter.{RawIter}
 use Rattle.thread_local_shared_buckets.specs.Positions.{resting}
 use Rattle.thread_local_shared_buckets.specs.Steps.{Leads}
-use Rattle.std.proofs.Common.{sym, Option, List}
-use Rattle.thread_local_ids.specs.Views.{TokenView}
+use Rattle.std.proofs.Common.{sym}
 use Rattle.thread_local_ids.specs.TokenLists.{AllOf}
 use Rattle.thread_local_shared_buckets.specs.TableView.{TableView}
 use Rattle.thread_local_shared_buckets.specs.Positions.{Skips}

@@ -1,0 +1,119 @@
+-- How many ids of a table were held at once, by a page of it: a later page has no lower peak.
+-- Assumes `Logic`.
+use Rattle.std.proofs.Common.{ℕ, ◌+◌, ◌≤◌, Bool, true, false, List, [], ◌∷◌, length, sym, subst, arith}
+use seplogic.Ra.Ura.{Ura}
+use mathlib.Core.List.{IsPrefix}
+use base.Logic.{SProp, ent, sep, guard, emp, id⊢}
+use base.Fml.{Fml, ftrue}
+use base.Shift.{Keyless}
+use types.Logic.{Logic, sem}
+use types.Kit.{‵, given, ◌⊛◌, ◌$◌, ◌∵◌, !, qed, move, keep, drop, split, fsplit, fjoin, fpick, fpack, learn, check, use1, use2, done}
+use denote.Steps.{nothing}
+use Rattle.thread_local_model.specs.Held.{least, with_least}
+use Rattle.thread_local_model.specs.IdMoves.{IdMove, Take, held_after, noted}
+use Rattle.thread_local_model.proofs.IdMoveLaws.{after_take, peak_grows}
+use Rattle.thread_local_ids.specs.Rights.{history_owns, page_owns, page_if, reached_by, reached_owns, taken_id}
+use Rattle.thread_local_ids.proofs.MoveElements.{page_twice, page_is_early, page_keyless}
+
+taken_in : (held : List Bool) → least held + 1 ≤ length (with_least held)
+taken_in [] = omega arith
+taken_in (false ∷ held) = omega arith
+taken_in (true ∷ held) = omega (arith, taken_in held)
+
+-- once the least id is taken, the peak is above it
+pub taken_reached : (before : List IdMove) → taken_id before + 1 ≤ length (held_after (noted before Take))
+taken_reached before =
+    subst (λ (held : List Bool). taken_id before + 1 ≤ length held) (sym (after_take before)) (taken_in (held_after before))
+
+page_if_keyless : (table : ℕ) (moves : List IdMove) → Keyless (page_if table moves)
+page_if_keyless table [] = tt
+page_if_keyless table (move ∷ moves) = page_keyless table (move ∷ moves)
+
+pub reached_keyless : (table n : ℕ) → Keyless (reached_owns table n)
+unfolding reached_owns
+reached_keyless table n = λ moves. ((λ _. tt), page_if_keyless table moves)
+
+module _ {M : Type 1} {𝓤 : Ura M} (𝓛 : Logic 𝓤) where
+  abbrev Pr : Type 2
+  Pr = SProp 𝓤
+
+  abbrev ◌⊢◌ : Pr → Pr → Type 1
+  P ⊢ Q = ent 𝓤 P Q
+
+  abbrev ◌∗◌ : Pr → Pr → Pr
+  P ∗ Q = sep 𝓤 P Q
+
+  abbrev ⟦◌⟧ : Fml → Pr
+  ⟦ P ⟧ = sem 𝓛 P
+
+  infix 26 ◌⊢◌
+  infixr 35 ◌∗◌
+  shown_if : (table : ℕ) (moves : List IdMove) → ⟦ page_owns table moves ⟧ ⊢ ⟦ page_if table moves ⟧
+  shown_if table [] = qed 𝓛 (‵ (page_owns table []) ∷ []) ∵ drop ! $ nothing ! $ done !
+  shown_if table (move ∷ moves) = id⊢ 𝓤 _
+
+  twice_if : (table : ℕ) (moves : List IdMove)
+      → ⟦ page_if table moves ⟧ ⊢ ⟦ page_if table moves ⟧ ∗ ⟦ page_if table moves ⟧
+  twice_if table [] = qed 𝓛 (‵ ftrue ∷ []) ∵ nothing ! $ done !
+  twice_if table (move ∷ moves) = page_twice 𝓛 table (move ∷ moves)
+
+  abbrev IsBelow : List IdMove → List IdMove → Type 0
+  IsBelow seen moves = length (held_after seen) ≤ length (held_after moves)
+
+  early_if : (table : ℕ) (moves seen : List IdMove)
+      → ⟦ history_owns table moves ⟧ ∗ ⟦ page_if table seen ⟧ ⊢ guard 𝓤 (IsBelow seen moves) ⟦ history_owns table moves ⟧
+  early_if table moves [] =
+      let least_peak : IsBelow [] moves = omega arith in
+      qed 𝓛 (‵ (history_owns table moves) ∷ ‵ ftrue ∷ []) ∵ keep ! (0 ∷ []) $ check ! least_peak $ done !
+  early_if table moves (move ∷ rest) =
+      let seen : List IdMove = move ∷ rest in
+      qed 𝓛 (‵ (history_owns table moves) ∷ ‵ (page_owns table seen) ∷ []) ∵
+      use2 𝓛 (given (IsPrefix seen moves) (‵ (history_owns table moves) ⊛ ‵ (page_owns table seen)))
+      (page_is_early 𝓛 table moves seen) $
+      learn ! (λ early. split ! $ keep ! (0 ∷ []) $ check ! (peak_grows seen moves early) $ done !)
+
+  -- a page shows how many ids were held at once
+  pub shows_reached : (table n : ℕ) (moves : List IdMove) → n ≤ length (held_after moves)
+      → ⟦ page_owns table moves ⟧ ⊢ ⟦ reached_owns table n ⟧
+  unfolding reached_owns
+  shows_reached table n moves so =
+      qed 𝓛 (‵ (page_owns table moves) ∷ []) ∵ use1 𝓛 (‵ (page_if table moves)) (shown_if table moves) $ nothing ! $
+      fpack ! (n ≤ length (held_after moves)) (λ _. ftrue) so $ fjoin ! $
+      fpack ! (List IdMove) (reached_by table n) moves $ done !
+
+  -- of every table, that no id was held
+  pub reached_none : (table : ℕ) → emp 𝓤 ⊢ ⟦ reached_owns table 0 ⟧
+  unfolding reached_owns
+  reached_none table =
+      let least_peak : 0 ≤ length (held_after []) = omega arith in
+      qed 𝓛 [] ∵ nothing ! $ nothing ! $ fpack ! (0 ≤ length (held_after [])) (λ _. ftrue) least_peak $ fjoin ! $
+      fpack ! (List IdMove) (reached_by table 0) [] $ done !
+
+  pub reached_less : (table n m : ℕ) → m ≤ n → ⟦ reached_owns table n ⟧ ⊢ ⟦ reached_owns table m ⟧
+  unfolding reached_owns
+  reached_less table n m less =
+      qed 𝓛 (‵ (reached_owns table n) ∷ []) ∵ fpick ! (λ moves. fsplit ! $ fpick ! (λ so. drop ! $
+      let fewer : m ≤ length (held_after moves) = omega (arith, less, so) in
+      nothing ! $ fpack ! (m ≤ length (held_after moves)) (λ _. ftrue) fewer $ fjoin ! $
+      fpack ! (List IdMove) (reached_by table m) moves $ done !))
+
+  pub reached_twice : (table n : ℕ) → ⟦ reached_owns table n ⟧ ⊢ ⟦ reached_owns table n ⟧ ∗ ⟦ reached_owns table n ⟧
+  unfolding reached_owns
+  reached_twice table n =
+      qed 𝓛 (‵ (reached_owns table n) ∷ []) ∵ fpick ! (λ moves. fsplit ! $ fpick ! (λ so. drop ! $
+      use1 𝓛 (‵ (page_if table moves) ⊛ ‵ (page_if table moves)) (twice_if table moves) $ split ! $ nothing ! $
+      fpack ! (n ≤ length (held_after moves)) (λ _. ftrue) so $ fjoin ! $
+      fpack ! (List IdMove) (reached_by table n) moves $ move ! (1 ∷ []) $ nothing ! $
+      fpack ! (n ≤ length (held_after moves)) (λ _. ftrue) so $ fjoin ! $
+      fpack ! (List IdMove) (reached_by table n) moves $ done !))
+
+  -- the history has no lower peak
+  pub reached_before : (table n : ℕ) (moves : List IdMove)
+      → ⟦ history_owns table moves ⟧ ∗ ⟦ reached_owns table n ⟧
+      ⊢ guard 𝓤 (n ≤ length (held_after moves)) ⟦ history_owns table moves ⟧
+  unfolding reached_owns
+  reached_before table n moves =
+      qed 𝓛 (‵ (history_owns table moves) ∷ ‵ (reached_owns table n) ∷ []) ∵ move ! (1 ∷ []) $ fpick ! (λ seen.
+      fsplit ! $ fpick ! (λ so. drop ! $ move ! (1 ∷ 0 ∷ []) $
+      use2 𝓛 (given (IsBelow seen moves) (‵ (history_owns table moves))) (early_if table moves seen) $
+      learn ! (λ below. let all : n ≤ length (held_after moves) = omega (arith, so, below) in check ! all $ done !)))

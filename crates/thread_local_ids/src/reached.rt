@@ -1,0 +1,43 @@
+//! How many ids of a table were held at once. No call does anything at run time.
+ghost use Rattle.std.specs.Prelude.{◌≡◌, ◌+◌, ◌≤◌, ℕ, length};
+ghost use Rattle.thread_local_model.specs.IdMoves.{held_after};
+ghost use Rattle.thread_local_ids.specs.Rights.{reached_owns, taken_id};
+
+use crate::{History, Tenure};
+use std::marker::{Model, PhantomData};
+
+/// So many ids of a table were held at once, since it was made or cleared. It has no bytes.
+#[derive(Drop)]
+pub struct Reached {
+    pub marker: PhantomData<()>,
+    pub ghost table: { ℕ },
+    pub ghost ids: { ℕ },
+}
+
+impl Model for Reached {
+    ghost also_owns = { λ r. reached_owns r.table r.ids };
+}
+
+impl Tenure {
+    /// All ids up to the one that was taken were held at once.
+    pub fn reached(&self) -> Reached
+        ensures { (result.table ≡ self.now.table) × (result.ids ≡ taken_id self.now.before + 1) }
+    {
+        Reached {
+            marker: PhantomData,
+        }
+    }
+}
+
+impl History {
+    /// Shows that the peak is no lower.
+    pub fn has_reached(&mut self, reached: Reached)
+        requires { reached.table ≡ self.old.table }
+        ensures peak { reached.ids ≤ length (held_after self.old.moves) }
+        ensures same { self.new ≡ self.old }
+    {}
+}
+
+unsafe impl Send for Reached {}
+
+unsafe impl Sync for Reached {}

@@ -1,0 +1,278 @@
+-- What the buckets of a table at rest show of the ids that were held at once, by the rows of their
+-- slots. Assumes `Logic`.
+use Rattle.std.proofs.Common.{◌≡◌, ◌∙◌, ℕ, zero, suc, ◌+◌, ◌^◌, ◌<◌, ◌≤◌, ◌==◌, Bool, true, false, List, [], ◌∷◌, length, refl}
+use Rattle.std.proofs.Common.{sym, ap, subst, arith, Option, Some, if◌then◌else◌, eqb, pow_pos}
+use Rattle.std.specs.Prelude.{slice_index_or, nat_lt}
+use Rattle.std.proofs.lemmas.Bool.{eqb-true, eqb-false, eq-eqb, lt-ltb, ltb-true}
+use seplogic.Ra.Ura.{Ura}
+use base.Fml.{Fml, ftrue, fsep}
+use base.Logic.{SProp, ent, sep, emp}
+use types.Logic.{Logic, sem}
+use types.Kit.{‵, ◌⊛◌, ◌$◌, ◌∵◌, !, qed, move, use0, use1, use2, split, fsplit, fjoin, rewrite, drop, done}
+use denote.RattleType.{RattleType}
+use denote.Steps.{nothing}
+use Rattle.thread_local_model.specs.Buckets.{row, stands, IsTable}
+use Rattle.thread_local_model.specs.Owned.{Owned}
+use Rattle.thread_local_model.specs.Place.{id_at}
+use Rattle.thread_local_ids.specs.Rights.{reached_owns}
+use Rattle.thread_local_ids.specs.Told.{all_told_or_untold, whole_row, rows_telling}
+use Rattle.thread_local_ids.proofs.ReachedElements.{reached_none, reached_less}
+use Rattle.thread_local_shared_buckets.specs.Shared.{BucketView, ids_shown, shown_by}
+use Rattle.thread_local_shared_buckets.specs.TableView.{TableView, bucket_view}
+use Rattle.thread_local_shared_buckets.specs.Grown.{is_among, stand_among_below, stand_among, only_reserved}
+use Rattle.thread_local_shared_buckets.specs.Lent.{adds_no_bucket, view_with}
+
+-- ---- which buckets stand
+both_so : (t r : Bool) → (if t then r else false) ≡ true → (t ≡ true) × (r ≡ true)
+both_so true r e = (refl, e)
+both_so false r e = let never : false ≡ true = e in cc
+
+so_both : (t r : Bool) → t ≡ true → r ≡ true → (if t then r else false) ≡ true
+so_both true r is so = so
+so_both false r is so = cc
+
+among_so : (there among : Bool) → is_among there among ≡ true → there ≡ true → among ≡ true
+among_so true among e is = e
+among_so false among e is = cc
+
+so_among : (there among : Bool) → (there ≡ true → among ≡ true) → is_among there among ≡ true
+so_among true among so = so refl
+so_among false among so = refl
+
+module _ (among there : ℕ → Bool) where
+  here : (n b : ℕ) → b < suc n → there b ≡ true → is_among (there n) (among n) ≡ true → (b < n → among b ≡ true)
+      → (t : Bool) → eqb b n ≡ t → among b ≡ true
+  here n b near is last before true same =
+      let at : b ≡ n = eqb-true b n same in
+      among_so (there b) (among b) (subst (λ (m : ℕ). is_among (there m) (among m) ≡ true) (sym at) last) is
+  here n b near is last before false e =
+      let apart : b ≡ n → ⊥ = eqb-false b n e in before (omega (arith, near, apart))
+
+  among_below : (n : ℕ) → stand_among_below among there n ≡ true → (b : ℕ) → b < n → there b ≡ true → among b ≡ true
+  unfolding stand_among_below
+  among_below zero e b near is = absurd (omega arith)
+  among_below (suc n) e b near is =
+      let parts = both_so (is_among (there n) (among n)) (stand_among_below among there n) e in
+      here n b near is parts.0 (λ below. among_below n parts.1 b below is) (eqb b n) refl
+
+  below_among : (n : ℕ) → ((b : ℕ) → b < n → there b ≡ true → among b ≡ true) → stand_among_below among there n ≡ true
+  unfolding stand_among_below
+  below_among zero so = refl
+  below_among (suc n) so =
+      so_both (is_among (there n) (among n)) (stand_among_below among there n)
+      (so_among (there n) (among n) (so n (omega arith)))
+      (below_among n (λ b near. so b (omega arith)))
+
+  pub stands_among : stand_among among there ≡ true → (b : ℕ) → b < 63 → there b ≡ true → among b ≡ true
+  unfolding stand_among
+  stands_among e = among_below 63 e
+
+  pub all_among : ((b : ℕ) → b < 63 → there b ≡ true → among b ≡ true) → stand_among among there ≡ true
+  unfolding stand_among
+  all_among so = below_among 63 so
+
+pub only_reserved_if : {V : Type 0} (owned : Owned V)
+    → ((b : ℕ) → stands owned.contents b ≡ true → nat_lt (id_at b 0) owned.reserved ≡ true)
+    → only_reserved owned ≡ true
+only_reserved_if owned so =
+    all_among (λ bucket. nat_lt (id_at bucket 0) owned.reserved) (stands owned.contents) (λ b near there. so b there)
+
+-- ---- what a row shows
+-- how many ids were held at once, by a bucket's row: none where it doesn't stand
+abbrev pub shown_in : {V : Type 0} → BucketView → List (Option V) → ℕ
+shown_in d [] = 0
+shown_in d (c ∷ cs) = shown_by d
+
+pub shown_whole : {V : Type 0} (d : BucketView) (cs : List (Option V)) → 0 < length cs → shown_by d ≡ shown_in d cs
+shown_whole d [] some = absurd (omega arith)
+shown_whole d (c ∷ cs) some = refl
+
+shown_below : (grown reserved : Bool) (bucket n : ℕ) → 2 ^ bucket ≤ n → ids_shown grown reserved bucket ≤ n
+shown_below false reserved bucket n fits = omega arith
+shown_below true true bucket n fits = omega arith
+shown_below true false bucket n fits = fits
+
+-- where all ids up to one of the bucket were held at once, these are as many as the bucket shows
+pub shown_reached : (d : BucketView) (id i ids : ℕ) → id ≡ i + id_at d.bucket 0 → id < ids → shown_by d ≤ ids
+shown_reached d id i ids at held =
+    let some_slots : 0 < 2 ^ d.bucket = pow_pos d.bucket in
+    shown_below d.grown_by_ids d.reserved d.bucket ids (omega (arith, some_slots, at, held))
+
+-- at each index, by the number of the bucket there
+abbrev ByNumber : ℕ → ℕ → (ℕ → ℕ → Type 0) → Type 0
+ByNumber n b P = (i j : ℕ) → j ≡ i + b → i < n → P i j
+
+module _ (R : RattleType) where
+  abbrev Slots : Type 0
+  Slots = List (Option R.Denot)
+
+  -- what a bucket's row shows
+  abbrev pub row_grown : BucketView → Slots → Fml
+  row_grown d cs = reached_owns d.table (shown_in d cs)
+
+  -- the same of the rows from this bucket on
+  abbrev pub rows_grown : TableView → ℕ → List Slots → Fml
+  rows_grown s b [] = ftrue
+  rows_grown s b (cs ∷ rows) = fsep (row_grown (bucket_view s b) cs) (rows_grown s (suc b) rows)
+
+  -- what is told of a bucket's slots, and what its row shows
+  abbrev pub row_known : BucketView → Slots → Fml
+  row_known d cs = fsep (all_told_or_untold R d.sharing (id_at d.bucket 0) (whole_row d.bucket cs)) (row_grown d cs)
+
+  -- the same of the rows from this bucket on
+  abbrev pub rows_known : TableView → ℕ → List Slots → Fml
+  rows_known s b [] = ftrue
+  rows_known s b (cs ∷ rows) = fsep (row_known (bucket_view s b) cs) (rows_known s (suc b) rows)
+
+module _ {M : Type 1} {𝓤 : Ura M} (𝓛 : Logic 𝓤) (R : RattleType) where
+  abbrev Pr : Type 2
+  Pr = SProp 𝓤
+
+  abbrev ◌⊢◌ : Pr → Pr → Type 1
+  P ⊢ Q = ent 𝓤 P Q
+
+  abbrev ◌∗◌ : Pr → Pr → Pr
+  P ∗ Q = sep 𝓤 P Q
+
+  abbrev ⟦◌⟧ : Fml → Pr
+  ⟦ P ⟧ = sem 𝓛 P
+
+  infix 26 ◌⊢◌
+  infixr 35 ◌∗◌
+  pub known_apart : (s : TableView) (b : ℕ) (rows : List (Slots R))
+      → ⟦ rows_known R s b rows ⟧ ⊢ ⟦ rows_telling R s.sharing b rows ⟧ ∗ ⟦ rows_grown R s b rows ⟧
+  known_apart s b [] = qed 𝓛 (‵ ftrue ∷ []) ∵ nothing ! $ done !
+  known_apart s b (cs ∷ rows) =
+      qed 𝓛 (‵ (rows_known R s b (cs ∷ rows)) ∷ []) ∵ fsplit ! $ fsplit ! $ move ! (2 ∷ []) $
+      use1 𝓛 (‵ (rows_telling R s.sharing (suc b) rows) ⊛ ‵ (rows_grown R s (suc b) rows)) (known_apart s (suc b) rows) $
+      split ! $
+      -- [what is told of the others; what they show; what is told of the first; what it shows]
+      move ! (2 ∷ 0 ∷ []) $ fjoin ! $ move ! (2 ∷ 1 ∷ []) $ fjoin ! $ move ! (1 ∷ 0 ∷ []) $ done !
+
+  pub known_together : (s : TableView) (b : ℕ) (rows : List (Slots R))
+      → ⟦ rows_telling R s.sharing b rows ⟧ ∗ ⟦ rows_grown R s b rows ⟧ ⊢ ⟦ rows_known R s b rows ⟧
+  known_together s b [] = qed 𝓛 (‵ ftrue ∷ ‵ ftrue ∷ []) ∵ drop ! $ done !
+  known_together s b (cs ∷ rows) =
+      qed 𝓛 (‵ (rows_telling R s.sharing b (cs ∷ rows)) ∷ ‵ (rows_grown R s b (cs ∷ rows)) ∷ []) ∵ fsplit ! $
+      move ! (2 ∷ []) $ fsplit ! $
+      -- [what the first shows; what the others show; what is told of the first, and of the others]
+      move ! (2 ∷ 0 ∷ []) $ fjoin ! $ move ! (2 ∷ 1 ∷ []) $
+      use2 𝓛 (‵ (rows_known R s (suc b) rows)) (known_together s (suc b) rows) $ move ! (1 ∷ 0 ∷ []) $ fjoin ! $ done !
+
+  -- rows show nothing where no bucket stands that would
+  pub none_grown : (s : TableView) (b : ℕ) (rows : List (Slots R))
+      → ByNumber (length rows) b (λ i j. shown_in (bucket_view s j) (slice_index_or rows i []) ≡ 0)
+      → emp 𝓤 ⊢ ⟦ rows_grown R s b rows ⟧
+  none_grown s b [] all = qed 𝓛 [] ∵ nothing ! $ done !
+  none_grown s b (cs ∷ rows) all =
+      let none : shown_in (bucket_view s b) cs ≡ 0 = all 0 b (omega arith) (omega arith) in
+      qed 𝓛 [] ∵
+      use0 𝓛 (‵ (rows_grown R s (suc b) rows)) (none_grown s (suc b) rows (λ i j e near. all (suc i) j (omega arith) (omega arith))) $
+      use0 𝓛 (‵ (reached_owns s.table 0)) (reached_none 𝓛 s.table) $
+      rewrite ! 0 (λ (n : ℕ). ‵ (reached_owns s.table n)) (sym none) refl $ fjoin ! $ done !
+
+  -- rows show as much as others of the same table, where each shows no more
+  pub less_grown : (s s' : TableView) (b : ℕ) (before after : List (Slots R)) → s'.table ≡ s.table → length before ≡ length after
+      → ByNumber (length after) b (λ i j.
+      shown_in (bucket_view s' j) (slice_index_or after i []) ≤ shown_in (bucket_view s j) (slice_index_or before i []))
+      → ⟦ rows_grown R s b before ⟧ ⊢ ⟦ rows_grown R s' b after ⟧
+  less_grown s s' b [] [] same long all = qed 𝓛 (‵ ftrue ∷ []) ∵ done !
+  less_grown s s' b [] (r' ∷ after) same long all = absurd (omega arith)
+  less_grown s s' b (r ∷ before) [] same long all = absurd (omega arith)
+  less_grown s s' b (r ∷ before) (r' ∷ after) same long all =
+      let n : ℕ = shown_in (bucket_view s b) r in
+      let m : ℕ = shown_in (bucket_view s' b) r' in
+      let less : m ≤ n = all 0 b (omega arith) (omega arith) in
+      qed 𝓛 (‵ (rows_grown R s b (r ∷ before)) ∷ []) ∵ fsplit ! $
+      use1 𝓛 (‵ (reached_owns s.table m)) (reached_less 𝓛 s.table n m less) $
+      rewrite ! 0 (λ (t : ℕ). ‵ (reached_owns t m)) (sym same) refl $ move ! (1 ∷ []) $
+      use1 𝓛 (‵ (rows_grown R s' (suc b) after))
+      (less_grown s s' (suc b) before after same (omega arith) (λ i j e near. all (suc i) j (omega arith) (omega arith))) $
+      move ! (1 ∷ 0 ∷ []) $ fjoin ! $ done !
+
+-- ---- the three ways in which a table's rows come to rest
+module _ {V : Type 0} where
+  none_shown : (grown reserved : Bool) (t n b : ℕ) (sharing : Option ℕ) (cs : List (Option V))
+      → (nat_lt 0 (length cs) ≡ true → grown ≡ true → reserved ≡ true)
+      → shown_in record { table = t; sharing = sharing; bucket = b; reserved = reserved; grown_by_ids = grown } cs ≡ 0
+  none_shown grown reserved t n b sharing [] so = refl
+  none_shown false reserved t n b sharing (c ∷ cs) so = refl
+  none_shown true true t n b sharing (c ∷ cs) so = refl
+  none_shown true false t n b sharing (c ∷ cs) so =
+      let never : false ≡ true = so (lt-ltb 0 (length (c ∷ cs)) (omega arith)) refl in cc
+
+  -- where the view says that a table grew by ids alone only if no bucket stands but reserved ones
+  pub nothing_shown : (s : TableView) (owned : Owned V) → owned.reserved ≡ s.reserved → IsTable owned.contents
+      → (s.grown_by_ids ≡ true → only_reserved owned ≡ true)
+      → ByNumber (length owned.contents.rows) 0 (λ i j. shown_in (bucket_view s j) (slice_index_or owned.contents.rows i []) ≡ 0)
+  nothing_shown s owned same table only i j at near =
+      let low : i < 63 = omega (arith, near, table.buckets) in
+      let is : j ≡ i = omega (arith, at) in
+      subst (λ (k : ℕ). shown_in (bucket_view s k) (row owned.contents i) ≡ 0) (sym is)
+      (none_shown s.grown_by_ids (nat_lt (id_at i 0) s.reserved) s.table s.reserved i s.sharing (row owned.contents i)
+      (λ there grown. subst (λ (n : ℕ). nat_lt (id_at i 0) n ≡ true) same
+      (stands_among (λ bucket. nat_lt (id_at bucket 0) owned.reserved) (stands owned.contents) (only grown) i low there)))
+
+  shown_less : (grown' grown reserved' reserved : Bool) (t' t b : ℕ) (sharing' sharing : Option ℕ) (after before : List (Option V))
+      → (grown' ≡ true → (grown ≡ true) × (reserved' ≡ reserved) × (nat_lt 0 (length after) ≡ true → nat_lt 0 (length before) ≡ true))
+      → shown_in record { table = t'; sharing = sharing'; bucket = b; reserved = reserved'; grown_by_ids = grown' } after
+      ≤ shown_in record { table = t; sharing = sharing; bucket = b; reserved = reserved; grown_by_ids = grown } before
+  shown_less grown' grown reserved' reserved t' t b sharing' sharing [] before so = omega arith
+  shown_less false grown reserved' reserved t' t b sharing' sharing (c ∷ after) before so = omega arith
+  shown_less true grown reserved' reserved t' t b sharing' sharing (c ∷ after) [] so =
+      let never : nat_lt 0 (length {A = Option V} []) ≡ true = (so refl).2 (lt-ltb 0 (length (c ∷ after)) (omega arith)) in
+      let some : 0 < length {A = Option V} [] = ltb-true 0 (length {A = Option V} []) never in absurd (omega arith)
+  shown_less true grown reserved' reserved t' t b sharing' sharing (c ∷ after) (c' ∷ before) so =
+      let same : ids_shown grown reserved b ≡ ids_shown true reserved' b =
+      λ k. ids_shown ((so refl).0 k) (sym (so refl).1 k) b in
+      omega (arith, same)
+
+  -- an owner that had the buckets on loan leaves no bucket that shows more
+  pub lent_shown : (s : TableView) (lent left : Owned V) → lent.reserved ≡ s.reserved → IsTable left.contents
+      → ByNumber (length left.contents.rows) 0 (λ i j.
+      shown_in (bucket_view (view_with s lent left) j) (slice_index_or left.contents.rows i [])
+      ≤ shown_in (bucket_view s j) (slice_index_or lent.contents.rows i []))
+  lent_shown s lent left same table i j at near =
+      let low : i < 63 = omega (arith, near, table.buckets) in
+      let is : j ≡ i = omega (arith, at) in
+      let s' : TableView = view_with s lent left in
+      let F : ℕ → Type 0 = λ k. shown_in (bucket_view s' k) (row left.contents i) ≤ shown_in (bucket_view s k) (row lent.contents i) in
+      subst F (sym is)
+      (shown_less s'.grown_by_ids s.grown_by_ids (nat_lt (id_at i 0) left.reserved) (nat_lt (id_at i 0) s.reserved) s.table s.table i
+      s'.sharing s.sharing (row left.contents i) (row lent.contents i) (λ grown.
+      let all = both_so s.grown_by_ids (adds_no_bucket lent left) grown in
+      let keeps = both_so (left.reserved == lent.reserved) (stand_among (stands lent.contents) (stands left.contents)) all.1 in
+      let as_many : left.reserved ≡ s.reserved = eqb-true left.reserved lent.reserved keeps.0 ∙ same in (
+        all.0,
+        ap (λ (n : ℕ). nat_lt (id_at i 0) n) as_many,
+        stands_among (stands lent.contents) (stands left.contents) keeps.1 i low,
+      )))
+
+-- a view of the same buckets in another sharing, of the table of this name
+abbrev pub view_again : TableView → ℕ → ℕ → TableView
+view_again s table sharing = record {
+  table = table;
+  sharing = Some sharing;
+  reserved = s.reserved;
+  grown_by_ids = if s.table == table then s.grown_by_ids else false;
+}
+
+pub grown_again : (s : TableView) (table : ℕ) → s.table ≡ table → (if s.table == table then s.grown_by_ids else false) ≡ s.grown_by_ids
+grown_again s table same = ap (λ (t : Bool). if t then s.grown_by_ids else false) (eq-eqb s.table table same)
+
+module _ {M : Type 1} {𝓤 : Ura M} (𝓛 : Logic 𝓤) (R : RattleType) (s s' : TableView) (many : s'.reserved ≡ s.reserved) where
+  -- rows show the same in another sharing of the same table, and nothing where the table is another
+  pub grown_in : (t : Bool) → (s.table == s'.table) ≡ t → s'.grown_by_ids ≡ (if t then s.grown_by_ids else false)
+      → (rows : List (Slots R)) → ent 𝓤 (sem 𝓛 (rows_grown R s 0 rows)) (sem 𝓛 (rows_grown R s' 0 rows))
+  grown_in true e is rows =
+      less_grown 𝓛 R s s' 0 rows rows (sym (eqb-true s.table s'.table e)) refl (λ i j at near.
+      shown_less s'.grown_by_ids s.grown_by_ids (nat_lt (id_at j 0) s'.reserved) (nat_lt (id_at j 0) s.reserved) s'.table s.table j
+      s'.sharing s.sharing (slice_index_or rows i []) (slice_index_or rows i []) (λ grown.
+      (sym is ∙ grown, ap (λ (n : ℕ). nat_lt (id_at j 0) n) many, λ there. there)))
+  grown_in false e is rows =
+      qed 𝓛 (‵ (rows_grown R s 0 rows) ∷ []) ∵ drop ! $
+      use0 𝓛 (‵ (rows_grown R s' 0 rows))
+      (none_grown 𝓛 R s' 0 rows (λ i j at near.
+      none_shown s'.grown_by_ids (nat_lt (id_at j 0) s'.reserved) s'.table s'.reserved j s'.sharing (slice_index_or rows i [])
+      (λ there grown. let never : false ≡ true = sym is ∙ grown in cc))) $
+      done !
