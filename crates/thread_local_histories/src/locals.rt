@@ -288,3 +288,21 @@ pub(crate) fn entries(
     }
     walked("entries", None, most, before, items, record)
 }
+
+/// A walk over the shared table with tokens that gives up to `most` values, and ends there. Its
+/// items tell the ids of the tokens.
+pub(crate) fn tokens(
+    table: &ThreadLocal<u64>,
+    most: usize,
+    record: &mut Record<'_>,
+) -> Result<(), AllocError> {
+    let mut items = Vec::with_capacity(record.alloc, ROOM)?;
+    let before = record.begin();
+    for (token, value) in table.tokens() {
+        items.push(Item::entry(token.id(), *value))?;
+        if items.len() == most {
+            break;
+        }
+    }
+    walked("tokens", None, most, before, items, record)
+}

@@ -3,7 +3,7 @@ ghost use Rattle.std.specs.Prelude.{IsSome};
 
 use crate::gate::Gate;
 use crate::history::Record;
-use crate::locals::{Held, Told, entries, walk};
+use crate::locals::{Held, Told, entries, tokens, walk};
 use std::alloc::{AllocError, Global};
 use std::sync::atomic::AtomicU64;
 use std::sync::atomic::Ordering::SeqCst;
@@ -12,8 +12,8 @@ use std::thread;
 use std::thread::Threads;
 use thread_local::ThreadLocal;
 
-/// How many `Local`s a thread holds at most.
-const LOCALS: usize = 6;
+/// How many `Local`s a thread of most tables holds at most.
+pub(crate) const LOCALS: usize = 6;
 
 /// How many `Local`s may lie between two threads, and how many tokens.
 const BETWEEN: usize = 8;
@@ -24,6 +24,7 @@ const BETWEEN: usize = 8;
 struct Room<'a, R: Wait> {
     table: &'a ThreadLocal<u64>,
     rt: &'a R,
+    locals: usize,
     handed: Mutex<Vec<Held<'a, R>>>,
     told: Mutex<Vec<Told<'a>>>,
     kept: Mutex<Vec<Record<'a>>>,
@@ -31,7 +32,7 @@ struct Room<'a, R: Wait> {
 }
 
 /// The next state of a thread's choices.
-fn stirred(state: u64) -> u64 {
+pub(crate) fn stirred(state: u64) -> u64 {
     state
         .wrapping_mul(6364136223846793005)
         .wrapping_add(1442695040888963407)
@@ -48,7 +49,29 @@ fn asked(state: u64) -> usize {
     }
 }
 
+/// Brings one of many `Local`s to the end, where the next call finds it.
+fn choose<R: Wait>(hand: &mut Vec<Held<'_, R>>, state: u64) {
+    let count = hand.len();
+    if count > LOCALS {
+        let chosen = (state >> 40) as usize % count;
+        hand.swap(chosen, count - 1);
+    }
+}
+
 impl<'a, R: Wait> Room<'a, R> {
+    /// Takes as many `Local`s as a thread may hold, and publishes in the slots of half of them.
+    fn fill(&self, hand: &mut Vec<Held<'a, R>>, record: &mut Record<'_>) -> Result<(), AllocError> {
+        for number in 0..self.locals {
+            self.take(hand, record)?;
+            if number % 2 == 0 {
+                if let Some(held) = hand.last_mut() {
+                    held.get_or(record)?;
+                }
+            }
+        }
+        Ok(())
+    }
+
     /// Takes a `Local`.
     fn take(&self, hand: &mut Vec<Held<'a, R>>, record: &mut Record<'_>) -> Result<(), AllocError> {
         if let Some(held) = Held::take(self.table, self.rt, record)? {
@@ -108,14 +131,14 @@ impl<'a, R: Wait> Room<'a, R> {
         choice: u64,
         state: u64,
     ) -> Result<(), AllocError> {
-        if choice < 13 && hand.len() < LOCALS {
+        if choice < 13 && hand.len() < self.locals {
             return if choice < 10 {
                 self.take(hand, record)
             } else {
                 self.tell(hand, record)
             };
         }
-        if choice >= 24 && hand.len() < LOCALS {
+        if choice >= 24 && hand.len() < self.locals {
             if let Some(held) = self.take_over() {
                 hand.push(held)?;
             }
@@ -146,6 +169,7 @@ impl<'a, R: Wait> Room<'a, R> {
     ) -> Result<(), AllocError> {
         match choice {
             26 => return walk(self.table, asked(state), record),
+            27 if (state >> 50) % 2 == 0 => return tokens(self.table, asked(state), record),
             27 => return entries(self.table, asked(state), record),
             28 | 29 | 30 => return self.read(record),
             _ => {}
@@ -170,11 +194,15 @@ impl<'a, R: Wait> Room<'a, R> {
     fn moves(&self, record: &mut Record<'_>, count: usize, seed: u64) -> Result<(), AllocError> {
         let mut hand = Vec::with_capacity(record.alloc, LOCALS)?;
         let mut state = seed;
+        if self.locals > LOCALS {
+            self.fill(&mut hand, record)?;
+        }
         for _ in 0..u64::MAX {
             if record.len() >= count {
                 break;
             }
             state = stirred(state);
+            choose(&mut hand, state);
             let choice = (state >> 33) % 58;
             if choice < 26 {
                 self.come_or_go(&mut hand, record, choice, state)?;
@@ -197,11 +225,12 @@ impl<'a, R: Wait> Room<'a, R> {
     }
 }
 
-/// What a round is given: how many threads, how many calls each makes at least, a seed, and the number from
-/// which the threads make theirs.
+/// What a round is given: how many threads, how many `Local`s each holds at most, how many calls it
+/// makes at least, a seed, and the number from which the threads make theirs.
 #[derive(Clone, Copy)]
 pub(crate) struct Plan {
     pub(crate) threads: u64,
+    pub(crate) locals: usize,
     pub(crate) calls: usize,
     pub(crate) seed: u64,
     pub(crate) first: u64,
@@ -227,6 +256,7 @@ pub(crate) fn round<'a, R: Threads + Wait + Sync>(
     let room = Room {
         table,
         rt,
+        locals: plan.locals,
         handed: Mutex::new(Vec::new(alloc)),
         told: Mutex::new(Vec::new(alloc)),
         kept: Mutex::new(Vec::new(alloc)),
@@ -236,6 +266,7 @@ pub(crate) fn round<'a, R: Threads + Wait + Sync>(
     let Room {
         table: _,
         rt: _,
+        locals: _,
         handed,
         told: _,
         kept,

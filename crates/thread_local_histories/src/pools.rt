@@ -1,0 +1,252 @@
+//! The calls that threads make at random on a pool that they share, and those of its owner.
+
+use crate::gate::Gate;
+use crate::history::{Answer, Call, Item, Record};
+use crate::moves::{NUMBERS, Plan, stirred};
+use std::alloc::{AllocError, Global};
+use std::sync::atomic::AtomicU64;
+use std::sync::atomic::Ordering::SeqCst;
+use std::sync::{Mutex, Wait};
+use std::thread;
+use std::thread::Threads;
+use thread_local::scratch::{Pool, Pooled};
+use thread_local::thread_id::LocalError;
+
+/// A value that a pool lends, with the number that the history knows the loan by.
+#[derive(Drop)]
+struct Loan<'a, R: Wait> {
+    number: u64,
+    pooled: Pooled<'a, u64, R>,
+}
+
+impl<'a, R: Wait> Loan<'a, R> {
+    /// Borrows a value, or records why there is none.
+    fn take(
+        pool: &'a Pool<u64>,
+        rt: &'a R,
+        record: &mut Record<'_>,
+    ) -> Result<Option<Loan<'a, R>>, AllocError> {
+        let number = record.fresh();
+        let value = record.fresh();
+        let before = record.begin();
+        let (answer, loan) = match pool.get(rt, || value) {
+            Ok(pooled) => {
+                let found = *pooled;
+                (Answer::Number(found), Some(Loan { number, pooled }))
+            }
+            Err(LocalError::Memory(_)) => (Answer::Memory, None),
+            Err(LocalError::Exhausted) => (Answer::Exhausted, None),
+        };
+        record.ended(before, "lend", Some(number), Some(value), answer)?;
+        Ok(loan)
+    }
+
+    /// Writes another value in its place.
+    fn write(&mut self, record: &mut Record<'_>) -> Result<(), AllocError> {
+        let value = record.fresh();
+        let before = record.begin();
+        let found = *self.pooled;
+        *self.pooled = value;
+        record.ended(
+            before,
+            "write",
+            Some(self.number),
+            Some(value),
+            Answer::Number(found),
+        )
+    }
+
+    /// Puts the value back.
+    fn put(self, record: &mut Record<'_>) -> Result<(), AllocError> {
+        let Self { number, pooled } = self;
+        let before = record.begin();
+        let found = *pooled;
+        drop(pooled);
+        record.ended(before, "put", Some(number), None, Answer::Number(found))
+    }
+
+    /// Takes the value out of the pool.
+    fn keep(self, record: &mut Record<'_>) -> Result<(), AllocError> {
+        let Self { number, pooled } = self;
+        let before = record.begin();
+        let value = pooled.take();
+        record.ended(before, "keep", Some(number), None, Answer::Number(value))
+    }
+}
+
+/// What the threads of a round share: a pool, and what each thread recorded.
+#[derive(Drop)]
+struct Room<'a, R: Wait> {
+    pool: &'a Pool<u64>,
+    rt: &'a R,
+    loans: usize,
+    kept: Mutex<Vec<Record<'a>>>,
+}
+
+impl<'a, R: Wait> Room<'a, R> {
+    /// Makes moves at random until so many calls are recorded. Then it puts back what it has.
+    fn moves(&self, record: &mut Record<'_>, count: usize, seed: u64) -> Result<(), AllocError> {
+        let mut hand = Vec::with_capacity(record.alloc, self.loans)?;
+        let mut state = seed;
+        for _ in 0..u64::MAX {
+            if record.len() >= count {
+                break;
+            }
+            state = stirred(state);
+            let choice = (state >> 33) % 16;
+            if choice < 8 && hand.len() < self.loans {
+                if let Some(loan) = Loan::take(self.pool, self.rt, record)? {
+                    hand.push(loan)?;
+                }
+            } else if let Some(mut loan) = hand.pop() {
+                match choice {
+                    0 | 8 => loan.keep(record)?,
+                    9 | 10 => {
+                        loan.write(record)?;
+                        hand.push(loan)?;
+                    }
+                    _ => loan.put(record)?,
+                }
+            }
+        }
+        for loan in hand {
+            loan.put(record)?;
+        }
+        Ok(())
+    }
+
+    /// Makes the moves, and keeps their record.
+    fn play(&self, record: Record<'a>, count: usize, seed: u64) -> Result<(), AllocError> {
+        let mut record = record;
+        let moved = self.moves(&mut record, count, seed);
+        self.kept.lock(self.rt).push(record)?;
+        moved
+    }
+}
+
+/// The threads make their moves at once. Answers what was recorded, or none where a thread could not
+/// be started or had no memory.
+pub(crate) fn round<'a, R: Threads + Wait + Sync>(
+    pool: &'a Pool<u64>,
+    rt: &'a R,
+    alloc: Global,
+    clock: &'a AtomicU64,
+    gate: &'a Gate,
+    plan: Plan,
+) -> Result<Option<Vec<Record<'a>>>, AllocError> {
+    let room = Room {
+        pool,
+        rt,
+        loans: plan.locals,
+        kept: Mutex::new(Vec::new(alloc)),
+    };
+    let refused = AtomicU64::new(0);
+    race(&room, alloc, clock, gate, plan, &refused);
+    let Room {
+        pool: _,
+        rt: _,
+        loans: _,
+        kept,
+    } = room;
+    if refused.load(SeqCst) == 0 {
+        Ok(Some(kept.into_inner()))
+    } else {
+        Ok(None)
+    }
+}
+
+/// Starts the threads and waits for their end. Counts those that could not be started or had no
+/// memory.
+fn race<'a, R: Threads + Wait + Sync>(
+    room: &Room<'a, R>,
+    alloc: Global,
+    clock: &'a AtomicU64,
+    gate: &'a Gate,
+    plan: Plan,
+    refused: &AtomicU64,
+) {
+    thread::scope(thread::scope_env(), room.rt, |scope| {
+        for number in 0..plan.threads {
+            let first = plan.first.wrapping_add(number.wrapping_mul(NUMBERS));
+            let seed = stirred(plan.seed.wrapping_mul(64).wrapping_add(number));
+            let started = scope.spawn(move || {
+                let record = Record::racing(alloc, clock, gate, plan.calls, number, first);
+                if room.play(record, plan.calls, seed).is_err() {
+                    refused.fetch_add(1, SeqCst);
+                }
+            });
+            if started.is_err() {
+                refused.fetch_add(1, SeqCst);
+            }
+        }
+    });
+}
+
+/// Writes another value in the place of each.
+fn iter_mut(pool: &mut Pool<u64>, record: &mut Record<'_>) -> Result<(), AllocError> {
+    let mut items = Vec::new(record.alloc);
+    let before = record.begin();
+    for value in pool.iter_mut() {
+        let written = record.fresh();
+        items.push(Item::written(None, *value, written))?;
+        *value = written;
+    }
+    let after = record.stamp();
+    let call = Call::walk("pool_iter_mut", None, None, Answer::Nothing, items);
+    record.keep(before, after, call)
+}
+
+/// Takes up to `most` values out, and drops the others.
+fn drain(pool: &mut Pool<u64>, most: usize, record: &mut Record<'_>) -> Result<(), AllocError> {
+    let mut items = Vec::new(record.alloc);
+    let before = record.begin();
+    for value in pool.drain() {
+        items.push(Item::value(value))?;
+        if items.len() == most {
+            break;
+        }
+    }
+    let after = record.stamp();
+    let asked = Some(most as u64);
+    let call = Call::walk("pool_drain", None, asked, Answer::Nothing, items);
+    record.keep(before, after, call)
+}
+
+fn slots(pool: &mut Pool<u64>, record: &mut Record<'_>) -> Result<(), AllocError> {
+    let before = record.begin();
+    let answer = Answer::Number(pool.slots() as u64);
+    record.ended(before, "pool_slots", None, None, answer)
+}
+
+fn clear(pool: &mut Pool<u64>, record: &mut Record<'_>) -> Result<(), AllocError> {
+    let before = record.begin();
+    pool.clear();
+    record.ended(before, "pool_clear", None, None, Answer::Nothing)
+}
+
+/// What the owner does after the round of that number.
+pub(crate) fn between(
+    pool: &mut Pool<u64>,
+    round: u64,
+    record: &mut Record<'_>,
+) -> Result<(), AllocError> {
+    slots(pool, record)?;
+    match round % 4 {
+        1 => drain(pool, 3, record)?,
+        2 => clear(pool, record)?,
+        _ => iter_mut(pool, record)?,
+    }
+    slots(pool, record)
+}
+
+/// Ends a pool: its values are moved out.
+pub(crate) fn end(pool: Pool<u64>, record: &mut Record<'_>) -> Result<(), AllocError> {
+    let mut items = Vec::new(record.alloc);
+    let before = record.begin();
+    for value in pool.into_iter() {
+        items.push(Item::value(value))?;
+    }
+    let after = record.stamp();
+    let call = Call::walk("pool_into_iter", None, None, Answer::Nothing, items);
+    record.keep(before, after, call)
+}
