@@ -1,8 +1,10 @@
 //! `CachedThreadLocal`, a deprecated wrapper of `ThreadLocal`: once a faster table, now as fast,
 //! and with fewer calls.
-ghost use Rattle.std.specs.Prelude.{◌≡◌, ◌≢◌, ◌-◌, ◌^◌, ◌<◌, length, Some, IfSome, IfOk, IsSome};
+ghost use Rattle.std.specs.Prelude.{◌≡◌, ◌≢◌, ◌-◌, ◌^◌, ◌<◌, length, true, Some, IfSome, IfOk, IsSome};
 ghost use Rattle.std.specs.Iterator.{YieldsFirst, YieldsFirstMut, UpTo, item_count};
 ghost use Rattle.std.specs.Iterator.SizeHint.{IsWithinCount};
+ghost use Rattle.thread_local_model.specs.Held.{least};
+ghost use Rattle.thread_local_model.specs.IdMoves.{held_after};
 ghost use Rattle.thread_local_buckets.specs.IterMut.{iter_mut_rest, iter_mut_given};
 ghost use Rattle.thread_local_judged.specs.Judged.{Judged};
 
@@ -43,6 +45,8 @@ impl<T> CachedThreadLocal<T> {
         requires judged { Judged T.row }
         ensures sharing { IsSome result.sharing }
         ensures reserved { result.reserved ≡ 0 }
+        ensures room { result.room ≡ 0 }
+        ensures grown { result.grown_by_ids ≡ true }
     {
         CachedThreadLocal {
             table: ThreadLocal::new(alloc),
@@ -56,6 +60,7 @@ impl<T> CachedThreadLocal<T> {
             × (local.sharing ≡ self.now.sharing)
             × (local.reserved ≡ self.now.reserved)) }
         ensures in_range { IfOk result (λ local. local.id < 2 ^ 63 - 1) }
+        ensures least { IfOk result (λ local. local.id ≡ least (held_after local.before)) }
     {
         self.table.local(rt)
     }
@@ -76,13 +81,18 @@ impl<T> CachedThreadLocal<T> {
         ensures table { self.new.table ≢ self.old.table }
         ensures sharing { IsSome self.new.sharing × (self.new.sharing ≢ self.old.sharing) }
         ensures reserved { self.new.reserved ≡ self.old.reserved }
+        ensures grown { self.new.grown_by_ids ≡ true }
     {
         self.table.clear();
     }
 }
 
 impl<T: Judge + Send> MadeWith<Global> for CachedThreadLocal<T> {
-    ghost is_made_with = { λ cached. IsSome cached.sharing × (cached.reserved ≡ 0) };
+    ghost is_made_with = { λ cached.
+        IsSome cached.sharing
+        × (cached.reserved ≡ 0)
+        × (cached.room ≡ 0)
+        × (cached.grown_by_ids ≡ true) };
 
     /// A table as `new` makes it, where Rust has `Default`.
     fn made_with(alloc: Global) -> CachedThreadLocal<T> {

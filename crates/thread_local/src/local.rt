@@ -39,7 +39,7 @@ mod lends;
 /// there is one, and whether its bucket is known to stand.
 ///
 /// Rust's crate finds the running thread by itself, and has no such type. Its table has `get` and
-/// the `get_or` family but `try_fill`; the other calls are the port's own.
+/// the `get_or` family but `try_fill` and `get_or_try_lasting`; the other calls are the port's own.
 pub struct Local<'a, T, R: Wait> {
     rt: &'a R,
     seat: Seat<'a, T>,
@@ -204,9 +204,9 @@ impl<'a, T, R: Wait> Local<'a, T, R> {
     }
 
     /// `get_or_try` without the value. Call it where the proof has to know what the `Local` knows
-    /// afterwards: only this one says that. A call can't say what it leaves where it answers a
-    /// reference beside an error of any type. After `Ok`, `get` answers the value. After `Err` the
-    /// slot is still empty, so another closure may be tried.
+    /// afterwards: this call and `get_or_try_lasting` say that. One can't say what it leaves where
+    /// it answers a reference to its own borrow beside an error of any type. After `Ok`, `get`
+    /// answers the value. After `Err` the slot is still empty, so another closure may be tried.
     pub fn try_fill<F: FnOnce() -> Result<T, E> + Drop, E>(
         &mut self,
         create: F,

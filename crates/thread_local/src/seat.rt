@@ -53,7 +53,7 @@ pub enum SetError<T> {
 /// `T::made_with` that these run may wait, and so may the drop of a closure that they don't run.
 ///
 /// In Rust's crate the running thread is the seat. It has `get` and the `get_or` family but
-/// `try_fill`; the other calls are the port's own.
+/// `try_fill` and `get_or_try_lasting`; the other calls are the port's own.
 pub struct Seat<'a, T> {
     table: &'a ThreadLocal<T>,
     claim: Claim<'a, T>,
@@ -300,9 +300,9 @@ impl<'a, T> Seat<'a, T> {
     }
 
     /// `get_or_try` without the value. Call it where the proof has to know what the seat knows
-    /// afterwards: only this one says that. A call can't say what it leaves where it answers a
-    /// reference beside an error of any type. After `Ok`, `get` answers the value. After `Err` the
-    /// slot is still empty, so another closure may be tried.
+    /// afterwards: this call and `get_or_try_lasting` say that. One can't say what it leaves where
+    /// it answers a reference to its own borrow beside an error of any type. After `Ok`, `get`
+    /// answers the value. After `Err` the slot is still empty, so another closure may be tried.
     pub fn try_fill<F: FnOnce() -> Result<T, E> + Drop, E>(
         &mut self,
         create: F,

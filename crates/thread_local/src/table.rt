@@ -40,8 +40,8 @@ mod lends;
 /// `Sync`, every thread may, while others publish more. Threads share a table through a `&`, and it
 /// can be sent to another thread. One can be made of every `T: Send` that is judged, as `new` says.
 ///
-/// Only `local`, `local_after`, `slots_and_peak` and the drop of a `Local` take the table's lock,
-/// so no other call here waits; only `local`, `local_after` and `with_capacity` take memory. But
+/// Only `local`, `local_after`, `slots_and_peak`, `give_back` and the drop of a `Local` take the
+/// table's lock, so no other call here waits; only `local`, `local_after` and `with_capacity` take memory. But
 /// `clear` drops values, as the drop of a table, of a walk by value or of a `Drain` does, and a
 /// value's drop may wait and may take memory: a value may hold a `Local` of another table.
 ///
@@ -204,9 +204,9 @@ impl<T> ThreadLocal<T> {
     }
 
     /// `local`, which shows that what was done with the table's ids before extends a page of the
-    /// table, and leaves the page of all that was done since, where it is refused too. So it says
-    /// which ids were held when it was refused: all that there was room for from the beginning. A
-    /// table with a capacity refuses no `Local` memory while fewer ids are held.
+    /// table, and leaves the page of all that was done so far, where it is refused too. So it says
+    /// which ids were held when it was refused: all that there was room for from the beginning.
+    /// While fewer are held, this call is refused no memory.
     #[inline(always)]
     pub fn local_after<'a, R: Wait>(
         &'a self,
@@ -218,6 +218,7 @@ impl<T> ThreadLocal<T> {
             (local.table ≡ self.now.table)
             × (local.sharing ≡ self.now.sharing)
             × (local.reserved ≡ self.now.reserved)) }
+        ensures in_range { IfOk result (λ local. local.id < 2 ^ 63 - 1) }
         ensures least { IfOk result (λ local. local.id ≡ least (held_after local.before)) }
         ensures early { IsPrefix page.old.moves page.new.moves }
         ensures since { IfOk result (λ local. IsPrefix page.old.moves local.before) }
@@ -244,9 +245,10 @@ impl<T> ThreadLocal<T> {
 
     /// How many slots the table's buckets have together, the most ids that were held at once since
     /// the table was made or cleared, and the page of all that was done with the ids by then, which
-    /// has no bytes and says that this is their peak. Where no owner's call added a bucket since
-    /// then, there are fewer than two slots for each of these ids, or no more than the reserved ones. It
-    /// takes the table's lock, so it may wait. Others may use the table meanwhile.
+    /// has no bytes and says that this is their peak. Where contracts see that each bucket which
+    /// isn't reserved was made for an id of the table, there are fewer than two slots for each of
+    /// these ids, or no more than the reserved ones. It takes the table's lock, so it may wait.
+    /// Others may use the table meanwhile.
     pub fn slots_and_peak<R: Wait>(&self, rt: &R) -> (usize, usize, Page)
         ensures reserved { self.now.reserved ≤ result.0 }
         ensures slots { self.now.grown_by_ids ≡ true → result.0 ≤ max self.now.reserved (2 * result.1 - 1) }
@@ -433,7 +435,11 @@ impl<T: Sync> ThreadLocal<T> {
 }
 
 impl<T: Judge + Send> MadeWith<Global> for ThreadLocal<T> {
-    ghost is_made_with = { λ table. IsSome table.sharing × (table.reserved ≡ 0) };
+    ghost is_made_with = { λ table.
+        IsSome table.sharing
+        × (table.reserved ≡ 0)
+        × (table.room ≡ 0)
+        × (table.grown_by_ids ≡ true) };
 
     /// A table as `new` makes it. Rust has `Default` for it; here the bound shows that the type is
     /// judged.

@@ -21,9 +21,10 @@ const FIRST_MARK: usize = 1 << 63;
 const HISTORY: usize = usize::MAX;
 
 /// Gives out the least id that isn't held, with the right to it, and takes both back. The first 64
-/// ids need no memory; for further ones `with_room` and `take` take it.
+/// ids need no memory; for further ones `with_room`, `take` and `take_after` take it.
 ///
-/// Contracts see the manager, the table's name, and whether the table's right is out.
+/// Contracts see the manager, the table's name, whether the table's right is out, what was done with
+/// the ids, and for how many there was room when the table was made or cleared.
 #[derive(Drop)]
 pub struct Ids {
     manager: ThreadIdManager,
@@ -136,7 +137,7 @@ impl Ids {
     }
 
     /// `take`, which shows that what was done before extends a page of this table, and leaves the
-    /// page of all that was done since, where it is refused too. It is refused memory only where
+    /// page of all that was done so far, where it is refused too. It is refused memory only where
     /// every id is held that there was room for when the table was made or cleared.
     pub fn take_after(
         &mut self,
@@ -189,8 +190,9 @@ impl Ids {
         self.history.give(id, tenure)
     }
 
-    /// Takes every id back, and counts the peak anew. The room stays. The rights are fresh
-    /// ones, under another name, since the right of a holder that was forgotten is lost.
+    /// Takes every id back, and counts the peak anew. The room stays, and the history begins anew.
+    /// The rights are fresh ones, under another name, since the right of a holder that was forgotten
+    /// is lost.
     pub fn clear(&mut self)
         ensures table { (self.new.table ≢ self.old.table) × (self.new.table_right_is_out ≡ false) }
         ensures held { self.new.manager.held ≡ [] }

@@ -43,8 +43,9 @@ pub fn resume<R: Wait>(
     Ok(local.get().copied())
 }
 
-/// Ends a worker, and begins the next one with the least id that is free then: that of the worker
-/// that ended or a lower one, unless another worker took it in between.
+/// Ends a worker, and begins the next one with the least id that is free then. The clauses say that
+/// it began after the worker that ended; at run time it has that one's id or a lower one, unless
+/// another worker took it in between.
 pub fn relieve<'a, R: Wait>(
     steps: &'a ThreadLocal<u64>,
     rt: &'a R,
