@@ -1,6 +1,6 @@
 //! A sum over workers: each publishes its part and hands its token back, and the owner adds up what
 //! the table holds. The contract says that this is the sum of the parts.
-ghost use Rattle.std.specs.Prelude.{◌≡◌, ◌≢◌, ◌<◌, true, All, IfOk, IsSome, length, map, slice_index_or, sum};
+ghost use Rattle.std.specs.Prelude.{◌≡◌, ◌≢◌, ◌<◌, true, All, IfOk, IfSome, IsSome, length, map, slice_index_or, sum};
 ghost use Rattle.std.specs.List.{AllPairs};
 ghost use Rattle.thread_local_uses.specs.Sums.{HaveParts};
 
@@ -53,7 +53,17 @@ fn differ(tokens: &[Token<u64>]) -> bool
     true
 }
 
-/// The sum of the values that a walk has still to give. Who copies it also copies what the proof
+/// The sum of the values that a walk has still to give, where it fits into 64 bits. A fold needs no
+/// invariant: the check finds the proof by itself, but not where the fold is the function's last
+/// expression.
+fn checked_sum(mut values: IntoIter<u64>) -> Option<u64>
+    ensures { IfSome result (λ total. total ≡ sum values) }
+{
+    let total = values.try_fold(0u64, |sum, value| sum.checked_add(value))?;
+    Some(total)
+}
+
+/// `checked_sum`, which always fits. Who copies it also copies what the proof
 /// knows at each turn of its loop: `proofs/sums/added_up/Invariants.antt`.
 fn added_up(values: IntoIter<u64>) -> u128
     ensures { result ≡ sum values }
@@ -161,6 +171,22 @@ mod tests {
         let large = sum_of_parts(&rt, rt.alloc(), &[u64::MAX, 1, u64::MAX]);
         assert_eq!(rt; (two, none), (Ok(42), Ok(0)));
         assert_eq!(rt; large, Ok(36893488147419103231));
+        Ok(())
+    }
+
+    #[test]
+    fn a_sum_past_64_bits_is_refused(rt: HostRuntime) -> Result<(), Fail> {
+        for (other, wanted) in [
+            (35, Some(42)),
+            (u64::MAX - 7, Some(u64::MAX)),
+            (u64::MAX - 6, None),
+        ] {
+            let sums = ThreadLocal::new(rt.alloc());
+            let (first, _) = publish(&sums, &rt, 7)?;
+            let (second, _) = publish(&sums, &rt, other)?;
+            drop((first, second));
+            assert_eq!(rt; checked_sum(sums.into_iter()), wanted);
+        }
         Ok(())
     }
 
