@@ -5,18 +5,24 @@
     tools/schedules.py --short              the same on fewer schedules; under 20 seconds
     tools/schedules.py --wrong              tries each wrong body in turn: some clause must fail for it
     tools/schedules.py --wrong --short      the same on fewer schedules
+    tools/schedules.py --names              says which names of the scripts aren't in the specs or the theorems
     tools/schedules.py --show 7             prints a schedule as a table, a line for each event
     tools/schedules.py --buckets 4 --seed 7 --runs 2000 --events 120
 
-The definitions stand in table_model.py, under the names of the specs. Each clause of the theorems is a
-function here. Nothing is proved: this finds a clause that is false, or that says too little, before a proof
-is tried. The runs take one processor.
+The definitions stand in table_model.py, under the names of the specs, and a function here tries each clause, under
+its name. `--names` compares both with the sources. Nothing is proved: this finds a clause that is false, or that says
+too little, before a proof is tried. The runs take one processor.
 """
 
 import argparse
+import glob
+import os
 import random
+import re
 import sys
 from dataclasses import dataclass, replace
+
+sys.dont_write_bytecode = True  # a run leaves no folder beside the tools
 
 import table_model as model
 from table_model import Core, Slot, View, bucket_of, held_count, is_held, is_reserved, least, live_local, live_walk, new_core, new_sheet
@@ -34,6 +40,16 @@ class Moment:
     publishings: int  # how many values were published since then, or since it was drained
     moves: tuple  # the takes and gives of ids since the table was made or cleared
     bound: int  # each take so far came while fewer ids than this were held
+
+
+def tries(theorem, *clauses):
+    """Says which clauses of a theorem a function tries, where its name alone doesn't."""
+
+    def marked(it):
+        it.tried = [(theorem, clause) for clause in clauses] + getattr(it, "tried", [])
+        return it
+
+    return marked
 
 
 # ---- clauses on every event ----------------------------------------------------------------------------
@@ -94,6 +110,7 @@ def clause_least_after(m):
     return made is None or made.id == least(model.held_after(m.moves[:-1]))
 
 
+@tries("every_schedule", "unshared", "held")
 def clause_unshared(m):
     ids = [it.id for _, it in live(m.after)]
     return len(ids) == len(set(ids)) and all(is_held(model.shadow(m.after).held, k) for k in ids)
@@ -124,7 +141,7 @@ def clause_start(m):
     return made.start == View(value, is_reserved(sheet.capacity, made.id) or value is not None)
 
 
-def clause_history(m):
+def clause_step_keeps(m):
     for n, it in live(m.before):
         then = live_local(m.after, n)
         if then is not None:
@@ -135,16 +152,19 @@ def clause_history(m):
     return True
 
 
+@tries("every_schedule", "others")
 def clause_others(m):
     """Only a Local's own events change it."""
     return all(model.is_of(n, m.event) or live_local(m.after, n) == it for n, it in live(m.before))
 
 
-def clause_ends(m):
+@tries("every_schedule", "into_iter_ends", "drop_ends", "stays_open")
+def clause_into_iter_ends(m):
     ends = model.ends_table(m.event) and model.is_enabled(m.before, m.event)
     return m.after.ended == (m.before.ended or ends)
 
 
+@tries("every_schedule", "drained")
 def clause_drained(m):
     """A drain leaves no value, and the held ids and the capacity as they are."""
     sheet = model.shadow(m.before)
@@ -156,6 +176,7 @@ def clause_drained_core(m):
     return not is_drain(m) or m.after == replace(m.before, table=model.drained(m.before.table))
 
 
+@tries("events_say", "drained_stands", "drained_slots")
 def clause_drained_stands(m):
     """A drain leaves every bucket standing, the same one, with empty slots."""
     old, new = m.before.table, m.after.table
@@ -163,6 +184,7 @@ def clause_drained_stands(m):
     return not is_drain(m) or (same and new.made == old.made and all(model.slot_at(new, k) == Slot() for k in range(model.IDS)))
 
 
+@tries("every_schedule", "cleared")
 def clause_cleared(m):
     return not is_clear(m) or model.shadow(m.after) == replace(new_sheet(), capacity=model.shadow(m.before).capacity)
 
@@ -203,23 +225,25 @@ def clause_room(m):
     return len(m.after.held) <= m.after.room
 
 
-def clause_slots(m):
+@tries("every_schedule", "slots_of_capacity", "slots_of_new", "no_slots")
+def clause_slots_of_capacity(m):
     return model.slots(m.after.table) <= max(2 * max(m.capacity, len(m.after.held)) - 1, 0)
 
 
-def clause_private(m):
+def clause_private_slots(m):
     return all(model.private_slots(it.id, it.doing) <= len(m.after.held) for _, it in live(m.after))
 
 
-def clause_published(m):
+def clause_values(m):
     return len(model.walk(model.shadow(m.after).values)) <= len(m.after.held)
 
 
+@tries("every_schedule", "publishings", "few_publishings")
 def clause_publishings(m):
     return m.publishings == len(model.walk(model.shadow(m.after).values)) <= len(m.after.held)
 
 
-def clause_refusals(m):
+def clause_refused_take(m):
     """A take is refused only where no room is left and memory was refused, or where no id is left."""
     if m.event[0] != "TakeId" or not model.is_refused(m.before, m.event):
         return True
@@ -232,13 +256,14 @@ def clause_within_capacity(m):
     return not (m.event[0] == "TakeId" and held_count(sheet.held) < sheet.capacity and model.is_refused(m.before, m.event))
 
 
-def clause_reserved(m):
+@tries("every_schedule", "reserved_publishes", "reserved_answers")
+def clause_reserved_publishes(m):
     if m.event[0] == "OfLocal" and model.is_refused(m.before, m.event):
         return not is_reserved(model.shadow(m.before).capacity, m.before.locals[m.event[1]].id)
     return all(("Refused",) not in it.answers for _, it in live(m.after) if is_reserved(model.shadow(m.after).capacity, it.id))
 
 
-def clause_answered(m):
+def clause_memory_refused(m):
     """Out of memory is answered by the step that was refused memory, and by no other."""
     for n, it in live(m.before):
         then = live_local(m.after, n)
@@ -248,11 +273,12 @@ def clause_answered(m):
     return True
 
 
-def clause_headline_new(m):
+@tries("headline", "slots")
+def clause_slots(m):
     return m.capacity != 0 or model.slots(m.after.table) <= max(2 * m.bound - 1, 0)
 
 
-def clause_headline_capacity(m):
+def clause_refuses_nothing(m):
     return m.bound > m.capacity or not model.is_refused(m.before, m.event)
 
 
@@ -269,6 +295,7 @@ def clause_reserved_stays(m):
     return all(a is None or (b is not None and a.number == b.number) for a, b in zip(old, new))
 
 
+@tries("every_walk", "complete")
 def clause_walk_complete(m):
     for _, it in walking(m.after):
         if model.is_complete(it) and any(v is not None and (k, v) not in it.given for k, v in enumerate(it.first)):
@@ -276,45 +303,54 @@ def clause_walk_complete(m):
     return True
 
 
+@tries("every_walk", "published")
 def clause_walk_published(m):
     values = model.shadow(m.after).values
     return all(values[k] == v for _, it in walking(m.after) for k, v in it.given)
 
 
+@tries("every_walk", "ascending")
 def clause_walk_ascending(m):
     return all(a > b for _, it in walking(m.after) for (a, _), (b, _) in zip(it.given, it.given[1:]))
 
 
-def clause_walk_reads(m):
+@tries("every_walk", "reads_once")
+def clause_walk_reads_once(m):
     return all(a > b for _, it in walking(m.after) for a, b in zip(it.read, it.read[1:]))
 
 
+@tries("every_walk", "loads")
 def clause_walk_loads(m):
     return all(it.loads <= model.BUCKETS + len(it.given) for _, it in walking(m.after))
 
 
-def clause_walk_first(m):
-    """A walk's first sight is what was published at its first load."""
-    for n, it in walking(m.before):
-        then = live_walk(m.after, n)
-        if then is not None:
-            first = model.shadow(m.before).values if (it.loads, then.loads) == (0, 1) else it.first
-            if then.first != first:
-                return False
-    return True
+def stepped_walk(m, name):
+    """The walk before and after its step of that name, or None where the event is another or isn't enabled."""
+    if m.event[0] != "OfWalk" or m.event[2] != name or not model.is_enabled(m.before, m.event):
+        return None
+    return live_walk(m.before, m.event[1]), live_walk(m.after, m.event[1])
 
 
-def clause_walk_adds(m):
-    """A load is counted and reads no slot; a look reads the slot at the cursor, and gives the value that it shows."""
-    if m.event[0] != "OfWalk" or not model.is_enabled(m.before, m.event):
+def clause_load_adds(m):
+    """A load is counted and reads no slot, and the first shows the walk what was published then."""
+    walks = stepped_walk(m, "Load")
+    if walks is None:
         return True
-    it, then = live_walk(m.before, m.event[1]), live_walk(m.after, m.event[1])
-    if m.event[2] == "Load":
-        return (then.given, then.read, then.loads) == (it.given, it.read, it.loads + 1)
-    here = model.cursor(it)
+    it, then = walks
+    first = model.shadow(m.before).values if it.loads == 0 else it.first
+    return (then.first, then.given, then.read, then.loads) == (first, it.given, it.read, it.loads + 1)
+
+
+def clause_look_adds(m):
+    """A look reads the slot at the cursor, and gives the value that it shows."""
+    walks = stepped_walk(m, "Look")
+    if walks is None:
+        return True
+    it, then = walks
+    here = model.cursor_id(it)
     value = model.published(m.before.table, here)
     given = it.given if value is None else ((here, value),) + it.given
-    return (then.given, then.read, then.loads) == (given, (here,) + it.read, it.loads)
+    return (then.first, then.given, then.read, then.loads) == (it.first, given, (here,) + it.read, it.loads)
 
 
 # ---- clauses on who may do what, on calls, numbers and walks ---------------------------------------------
@@ -339,6 +375,7 @@ def has_no_call(local):
     return local is not None and under_way(local.doing) == (0, None)
 
 
+@tries("every_schedule", "takes")
 def clause_takes(m):
     return m.after.ended or all(model.is_enabled(m.after, ("TakeId", refused, 0)) for refused in (False, True))
 
@@ -347,13 +384,15 @@ def clause_walks_begin(m):
     return m.after.ended or model.is_enabled(m.after, ("BeginWalk",))
 
 
+@tries("every_schedule", "alone", "owners_call")
 def clause_alone(m):
     calls = [("RewriteTable", Rewriter(0)), ("Slots",), ("DrainTable",), ("ClearTable",), ("IntoIter",), ("DropTable",)]
     may = not m.after.ended and is_by_itself(m.after)
     return all(model.is_enabled(m.after, ("Owner", it)) == may for it in calls)
 
 
-def clause_leaves(m):
+@tries("every_schedule", "may_leave", "gives_back", "forgets")
+def clause_may_leave(m):
     """A Local may give its id back, or be forgotten, just where no call of it is under way."""
     numbers = range(len(m.after.locals) + 1)
     return all(
@@ -363,7 +402,8 @@ def clause_leaves(m):
     )
 
 
-def clause_left(m):
+@tries("every_schedule", "given_back", "forgotten", "still_held")
+def clause_given_back(m):
     """After either it lives no longer, and after a forget its id is held still."""
     if m.event[0] not in ("GiveBack", "Forget") or not model.is_enabled(m.before, m.event):
         return True
@@ -415,6 +455,8 @@ def calls_go(step, before, after):
             return get_ends or offer_ends
 
 
+@tries("every_schedule", "goes_on")
+@tries("words_say", "step_keeps", "get_begins", "publishing_begins", "calls_stay", "writes", "sets_flag", "replies")
 def clause_goes_on(m):
     if m.event[0] != "OfLocal" or not model.is_enabled(m.before, m.event):
         return True
@@ -422,7 +464,8 @@ def clause_goes_on(m):
     return after is not None and (after.id, after.start) == (before.id, before.start) and calls_go(m.event[2], before, after)
 
 
-def clause_numbers(m):
+@tries("every_schedule", "at_one_place", "stands_nowhere", "one_call")
+def clause_at_one_place(m):
     """No bucket stands at two places, and one of a call's own stands nowhere and is of no other call."""
     standing = [it for it in (model.number_at(m.after.table, b) for b in range(model.BUCKETS)) if it is not None]
     own = [it for it in (model.own_number(local.doing) for _, local in live(m.after)) if it is not None]
@@ -433,20 +476,23 @@ def clause_ids(m):
     return all(it.id < model.IDS for _, it in live(m.after))
 
 
-def clause_walks_come(m):
+@tries("every_walk", "comes", "begins")
+def clause_walk_comes(m):
     """A walk begins fresh, and comes by its beginning alone."""
     begins = model.begins_walk(m.event) and model.is_enabled(m.before, m.event)
     new = [(n, it) for n, it in walking(m.after) if live_walk(m.before, n) is None]
-    return new == ([(len(m.before.walks), model.Walk())] if begins else [])
+    return new == ([(len(m.before.walks), model.SharedWalk())] if begins else [])
 
 
-def clause_walks_apart(m):
+@tries("every_walk", "others", "ends")
+def clause_walk_others(m):
     """No event but a walk's own steps and its end changes it; after its end it is under way no longer."""
     ended = m.event[0] != "EndWalk" or live_walk(m.after, m.event[1]) is None
     return ended and all(model.is_of_walk(n, m.event) or live_walk(m.after, n) == it for n, it in walking(m.before))
 
 
-def clause_walks_go_on(m):
+@tries("every_walk", "goes_on")
+def clause_walk_goes_on(m):
     """A walk that isn't complete has a step that is enabled, and goes on after it."""
     enabled = all(
         model.is_complete(it) or model.is_enabled(m.after, ("OfWalk", n, "Look" if it.looks else "Load")) for n, it in walking(m.after)
@@ -455,7 +501,8 @@ def clause_walks_go_on(m):
     return enabled and (not stepped or live_walk(m.after, m.event[1]) is not None)
 
 
-def clause_walks_end(m):
+@tries("every_walk", "may_end")
+def clause_walk_may_end(m):
     return all(model.is_enabled(m.after, ("EndWalk", n)) for n, _ in walking(m.after))
 
 
@@ -487,13 +534,15 @@ def clause_made_new(m):
     return model.new_core() == model.made_core(0, 0)
 
 
+@tries("events_say", "lives", "walks", "ends")
 def clause_lives(m):
     """Only a Local makes steps of a Local, and only a walk under way goes on and ends."""
     family = {"OfLocal": live_local, "OfWalk": live_walk, "EndWalk": live_walk}.get(m.event[0])
     return family is None or not model.is_enabled(m.before, m.event) or family(m.before, m.event[1]) is not None
 
 
-def clause_ends_there(m):
+@tries("events_say", "ends")
+def clause_walk_ends(m):
     numbers = range(len(m.after.walks) + 1)
     return all(live_walk(m.after, n) is not None or not model.is_enabled(m.after, ("EndWalk", n)) for n in numbers)
 
@@ -534,45 +583,54 @@ def as_needed(m, *step):
     return m.after.ended or all(model.is_enabled(m.after, ("OfLocal", n, step)) == needs(step, it) for n, it in locals_)
 
 
-def clause_may_get(m):
+@tries("steps_happen", "get_begins")
+def clause_get_begins(m):
     return as_needed(m, "BeginGet")
 
 
-def clause_may_get_or(m):
+def clause_get_or_begins(m):
     return as_needed(m, "BeginGetOr", ("Ok", "any"))
 
 
-def clause_may_load(m):
+@tries("steps_happen", "loads")
+def clause_step_loads(m):
     """A Local may load its pointer until its bucket is known to stand, in a call or where none is under way."""
     return as_needed(m, "LoadPointer")
 
 
-def clause_may_look(m):
+@tries("steps_happen", "looks")
+def clause_step_looks(m):
     return as_needed(m, "LookAtFlag")
 
 
-def clause_may_ask(m):
+@tries("steps_happen", "asks")
+def clause_step_asks(m):
     """A call that found its bucket missing may ask for memory, whatever stands by now."""
     return as_needed(m, "MakeBucket", False) and as_needed(m, "MakeBucket", True)
 
 
-def clause_may_install(m):
+@tries("steps_happen", "installs")
+def clause_step_installs(m):
     return as_needed(m, "InstallBucket")
 
 
-def clause_may_write(m):
+@tries("steps_happen", "writes")
+def clause_step_writes(m):
     return as_needed(m, "WriteValue")
 
 
-def clause_may_set(m):
+@tries("steps_happen", "sets")
+def clause_step_sets(m):
     return as_needed(m, "SetFlag")
 
 
-def clause_may_reply(m):
+@tries("steps_happen", "replies")
+def clause_step_replies(m):
     return as_needed(m, "Reply")
 
 
-def clause_walk_may(m):
+@tries("steps_happen", "walk_looks", "walk_loads")
+def clause_walk_looks(m):
     """A walk looks where its cursor says so, and else loads a pointer until it is complete."""
 
     def may(it, name):
@@ -591,7 +649,8 @@ def numbers_of(sheet):
     return {k for k, it in enumerate(sheet.held) if it}
 
 
-def clause_sheet_changes(m):
+@tries("events_change", "sheet_stays", "takes", "gives_back", "publishes", "rewrites")
+def clause_sheet_stays(m):
     """A take holds the least free id, a give back frees its Local's, a flag publishes what was written; all else stays."""
     before, after = model.shadow(m.before), model.shadow(m.after)
     held, values = numbers_of(before), list(before.values)
@@ -620,7 +679,8 @@ def clause_shows(m):
     return all(values[k] == (it.written if it.flag else None) for k, it in slots)
 
 
-def clause_writes_slot(m):
+@tries("events_change", "writes", "sets_flag")
+def clause_writes(m):
     """A value is written in the slot of the Local's id, and then its flag is set; no other slot changes meanwhile."""
     old, new = m.before.table, m.after.table
     writes, sets = stepped(m, "WriteValue"), stepped(m, "SetFlag")
@@ -634,6 +694,7 @@ def clause_writes_slot(m):
     return model.is_exclusive(m.event) or all(model.slot_at(new, k) == it for k, it in slots.items())
 
 
+@tries("events_change", "installs_own", "installs")
 def clause_installs_own(m):
     """An install makes the bucket of its Local's id stand, and no other: where none stood, the one that the call has made."""
     it = stepped(m, "InstallBucket")
@@ -645,20 +706,22 @@ def clause_installs_own(m):
     return kept and model.number_at(new, own) == (model.own_number(it[0].doing) if number is None else number)
 
 
-def clause_learns(m):
+@tries("events_change", "holds", "installed")
+def clause_holds(m):
     """After an install the slot is known to be empty, and after the flag is set to hold the value."""
     installed, sets = stepped(m, "InstallBucket"), stepped(m, "SetFlag")
     empty = installed is None or installed[1].learnt == ("Vacant",)
     return empty and (sets is None or sets[1].learnt == ("Holding", sets[0].doing[1]))
 
 
-def clause_walk_moves(m):
+@tries("every_walk", "load_moves", "look_moves")
+def clause_load_moves(m):
     """A walk's cursor goes on by whether its bucket stands, and by whether its slot shows a value."""
     if m.event[0] != "OfWalk" or not model.is_enabled(m.before, m.event):
         return True
     it, then = live_walk(m.before, m.event[1]), live_walk(m.after, m.event[1])
     index = it.index + (m.event[2] == "Look")
-    if m.event[2] == "Look" and model.shadow(m.before).values[model.cursor(it)] is not None:
+    if m.event[2] == "Look" and model.shadow(m.before).values[model.cursor_id(it)] is not None:
         place = (it.bucket, index, False)
     elif index == 2**it.bucket or not model.bucket_stands(m.before.table, it.bucket):
         place = (it.bucket + 1, 0, False)
@@ -670,10 +733,11 @@ def clause_walk_moves(m):
 def clause_fresh(m):
     """A walk begins at the first slot, with no load, and has read, given and seen nothing."""
     new = [it for n, it in walking(m.after) if live_walk(m.before, n) is None]
-    return all(it == model.Walk(0, 0, False, (None,) * model.IDS, (), (), 0) for it in new)
+    return all(it == model.SharedWalk(0, 0, False, (None,) * model.IDS, (), (), 0) for it in new)
 
 
-def clause_move(m):
+@tries("words_say", "no_moves", "take_moves", "give_moves", "publish_moves", "rewrite_moves", "drain_moves", "clear_moves")
+def clause_no_moves(m):
     """Which move each event is."""
     move = model.move_of(m.before, m.event)
     match m.event if model.is_enabled(m.before, m.event) else None:
@@ -700,21 +764,23 @@ def clause_answers_more(m):
     return True
 
 
-def clause_tells(m):
+@tries("calls_answer_by_their_view", "created", "failed", "refused", "held", "get")
+def clause_created(m):
     """A get finds what is known, and a publishing call answers the value there, or else what its closure would."""
 
     def told(view, call):
         if call == ("Get",):
-            return ("Found", view.value)
+            return ("Found", view.value), view
         if view.value is not None:
-            return ("Answered", view.value)
+            return ("Answered", view.value), view
         if call[2] and not view.known:
-            return ("Refused",)
-        return ("Answered" if call[1][0] == "Ok" else "Failed", call[1][1])
+            return ("Refused",), view
+        value = call[1][1]
+        return (("Answered", value), View(value, True)) if call[1][0] == "Ok" else (("Failed", value), View(None, True))
 
     views = [View(value, known) for value in (None, "there") for known in (False, True)]
     calls = [("Get",)] + [("GetOr", (kind, "any"), refused) for kind in ("Ok", "Err") for refused in (False, True)]
-    return not is_clear(m) or all(model.answer(view, call) == told(view, call) for view in views for call in calls)
+    return not is_clear(m) or all((model.answer(view, call), model.view_after(view, call)) == told(view, call) for view in views for call in calls)
 
 
 def clause_begins_get(m):
@@ -734,7 +800,8 @@ def clause_newcomers(m):
     return has_no_call(made) and made.learnt == ("Unknown",)
 
 
-def clause_calls_go_on(m):
+@tries("events_say", "goes_on")
+def clause_call_goes_on(m):
     """A call under way has a step that is enabled and brings it nearer to its end."""
     steps = [("LoadPointer",), ("LookAtFlag",), ("MakeBucket", False), ("MakeBucket", True)]
     steps += [("InstallBucket",), ("WriteValue",), ("SetFlag",), ("Reply",)]
@@ -750,6 +817,7 @@ def clause_few_steps(m):
     return all(model.steps_left(it) <= under_way(it.doing)[0] + 5 for _, it in live(m.after))
 
 
+@tries("events_say", "loads")
 def clause_loads(m):
     locals_ = stepped(m, "LoadPointer")
     if locals_ is None:
@@ -758,6 +826,7 @@ def clause_loads(m):
     return locals_[1].learnt == (("Standing",) if stands else ("Missing",))
 
 
+@tries("events_say", "looks")
 def clause_looks(m):
     locals_ = stepped(m, "LookAtFlag")
     if locals_ is None:
@@ -766,12 +835,14 @@ def clause_looks(m):
     return locals_[1].learnt == (("Vacant",) if shown is None else ("Holding", shown))
 
 
+@tries("events_say", "asks")
 def clause_asks(m):
     """Memory is asked for only where the bucket was missing."""
     locals_ = stepped(m, "MakeBucket")
     return locals_ is None or locals_[0].learnt == ("Missing",)
 
 
+@tries("events_say", "installs")
 def clause_installs(m):
     """Only an install makes a bucket stand, that of its Local's id."""
     old, new = m.before.table, m.after.table
@@ -792,11 +863,13 @@ def clause_fails(m):
     return True
 
 
-def clause_counts(m):
+@tries("events_say", "slots")
+def clause_owner_slots(m):
     """An owner's count changes nothing."""
     return m.event != ("Owner", ("Slots",)) or m.after == m.before
 
 
+@tries("events_say", "rewrites")
 def clause_rewrites(m):
     """An owner's writes change the table and nothing else."""
     if m.event[0] != "Owner" or m.event[1][0] != "RewriteTable" or not model.is_enabled(m.before, m.event):
@@ -844,7 +917,8 @@ def clause_takes_need_memory(m):
     return all(model.is_refused(core, ("TakeId", refused, 0)) == refused for refused in (False, True))
 
 
-def clause_known_answers(m):
+@tries("calls_answer_by_their_view", "known")
+def clause_known(m):
     """Where the bucket is known, a call answers, and leaves the view, as if memory weren't refused."""
 
     def told(view, create, memory):
@@ -858,6 +932,7 @@ def clause_known_answers(m):
 # ---- clauses on what the words say -------------------------------------------------------------------------
 
 
+@tries("words_say", "installed")
 def clause_installed(m):
     return model.slots(m.after.table) == sum(2**b for b in range(model.BUCKETS) if model.bucket_stands(m.after.table, b))
 
@@ -949,27 +1024,32 @@ class Schedule:
 
 def whole_nothing(s):
     """A schedule refuses nothing where each of its events is refused nothing, and only there."""
-    return model.refuses_nothing(s.first, s.events) == (s.refusals == 0)
+    return model.nothing_refused(s.first, s.events) == (s.refusals == 0)
 
 
+@tries("words_say", "takes")
 def whole_takes(s):
     """The takes come below the bound, and below no smaller one."""
     return model.takes_below(s.bound, s.first, s.events) and (s.bound == 0 or not model.takes_below(s.bound - 1, s.first, s.events))
 
 
-def whole_most(s):
+@tries("words_say", "most_later", "most_at_first", "most_cleared")
+def whole_most_later(s):
     return model.most_held(s.first, s.events) == s.most
 
 
-def whole_publishings(s):
+@tries("words_say", "one_published", "none_published", "published_anew", "drained_anew", "as_many_published")
+def whole_one_published(s):
     return model.publishings(s.first, s.events) == s.publishings
 
 
-def whole_id_moves(s):
+@tries("words_say", "one_take", "one_give", "ids_anew", "no_id_moves", "no_more_noted")
+def whole_one_take(s):
     """A granted take and a give back are noted, a clear begins anew, and nothing else is noted."""
     return model.id_moves(s.first, s.events) == s.moves
 
 
+# For each clause the function that tries it, by the name that it has in a theorem.
 CLAUSES = {name[len("clause_") :]: it for name, it in list(globals().items()) if name.startswith("clause_")}
 WHOLE = {name[len("whole_") :]: it for name, it in list(globals().items()) if name.startswith("whole_")}
 
@@ -1158,13 +1238,13 @@ def try_runs(seed, runs, length):
 
 def wrong_bodies():
     """For each wrong body the definitions that it replaces."""
-    right = {name: getattr(model, name) for name in ("take", "write_value", "install_bucket", "reply", "walk_load")}
+    right = {name: getattr(model, name) for name in ("take_id", "write_value", "install_bucket", "reply", "walk_load")}
 
     def fresh_id(core, refused, growth):
         identity = len(core.held)
         if not model.is_granted(core, refused) or identity >= model.IDS:
             return core
-        after = right["take"](replace(core, held=(True,) * identity), refused, growth)
+        after = right["take_id"](replace(core, held=(True,) * identity), refused, growth)
         return replace(after, held=core.held + (True,))
 
     def loser_stores(table, local):
@@ -1181,7 +1261,7 @@ def wrong_bodies():
     def write_last(table, local):
         if local.doing[0] == "Written":
             value = local.doing[1]
-            told = model.ended_call(local, ("GetOr", ("Ok", value), False), ("Answered", value), ("Holding", value), ("Gets", 0))
+            told = model.after_call(local, ("GetOr", ("Ok", value), False), ("Answered", value), ("Holding", value), ("Gets", 0))
             return model.with_table_slot(table, local.id, Slot(value, True)), told
 
     def overwrites(table, local):
@@ -1202,7 +1282,7 @@ def wrong_bodies():
         return after
 
     def empties_slot(core, refused, growth):
-        after = right["take"](core, refused, growth)
+        after = right["take_id"](core, refused, growth)
         return after if after is core else replace(after, table=model.with_table_slot(after.table, least(core.held), Slot()))
 
     def error_publishes(table, local):
@@ -1224,7 +1304,7 @@ def wrong_bodies():
         return {"LOCAL_STEPS": {**model.LOCAL_STEPS, **it}}
 
     return {
-        "take gives a fresh id": {"take": fresh_id},
+        "take gives a fresh id": {"take_id": fresh_id},
         "the loser stores its bucket over the winner's": steps(InstallBucket=loser_stores),
         "the flag is set before the write": steps(WriteValue=flag_first, SetFlag=write_last),
         "give back doesn't free the id": {"give_back": keeps_held},
@@ -1233,12 +1313,12 @@ def wrong_bodies():
         "no walk is ever enabled": {"begin_walk": never},
         "no exclusive call is ever enabled": {"is_alone": lambda core: False},
         "a publishing where a value stands overwrites it": steps(Reply=overwrites),
-        "get answers nothing": {"found": lambda learnt: (None,) if learnt[0] in ("Missing", "Vacant", "Holding") else None},
+        "get answers nothing": {"known_value": lambda learnt: (None,) if learnt[0] in ("Missing", "Vacant", "Holding") else None},
         "the walk stops at the first null pointer": {"WALK_STEPS": {**model.WALK_STEPS, "Load": stops_early}},
         "take refuses below the room": {"is_granted": lambda core, refused: not (model.is_exhausted(core) or refused)},
         "install installs the next bucket too": steps(InstallBucket=installs_two),
-        "clear keeps values": {"cleared": lambda core: replace(core, held=())},
-        "a reused id's slot is emptied by the take": {"take": empties_slot},
+        "clear keeps values": {"cleared_core": lambda core: replace(core, held=())},
+        "a reused id's slot is emptied by the take": {"take_id": empties_slot},
         "the closure's error publishes": steps(WriteValue=error_publishes),
         "the exclusive walk leaves out the last bucket": {"owner_walk": leaves_last},
     }
@@ -1246,7 +1326,7 @@ def wrong_bodies():
 
 def more_wrong_bodies():
     """Wrong bodies on who may do what, on calls, numbers and walks."""
-    right = {name: getattr(model, name) for name in ("take", "step", "local_step", "forget", "end_walk", "begin_walk", "owner_call", "cleared")}
+    right = {name: getattr(model, name) for name in ("take_id", "step", "local_step", "forget", "end_walk", "begin_walk", "owner_call", "cleared_core")}
 
     def gives_back_early(core, number):
         local = live_local(core, number)
@@ -1281,14 +1361,14 @@ def more_wrong_bodies():
 
     def restarts_walks(core, number, step):
         after = right["local_step"](core, number, step)
-        return after if after is None else replace(after, walks=tuple(it and model.Walk() for it in after.walks))
+        return after if after is None else replace(after, walks=tuple(it and model.SharedWalk() for it in after.walks))
 
     def ends_table(core, number, step):
         after = right["local_step"](core, number, step)
         return after if after is None else replace(after, ended=True)
 
     def begins_complete(core):
-        fresh = model.Walk(bucket=model.BUCKETS) if core.walks else model.Walk()
+        fresh = model.SharedWalk(bucket=model.BUCKETS) if core.walks else model.SharedWalk()
         return replace(core, walks=core.walks + (fresh,))
 
     def ends_all(core, number):
@@ -1296,29 +1376,29 @@ def more_wrong_bodies():
         return after if after is None else replace(after, walks=(None,) * len(after.walks))
 
     def takes_where(may):
-        return {"take": lambda core, refused, growth: right["take"](core, refused, growth) if may(core) else None}
+        return {"take_id": lambda core, refused, growth: right["take_id"](core, refused, growth) if may(core) else None}
 
     def grows_room(core, refused, growth):
-        after = right["take"](core, refused, growth)
+        after = right["take_id"](core, refused, growth)
         return replace(core, room=core.room + 1) if after is core else after
 
     def drops_room(core):
-        return replace(right["cleared"](core), room=core.capacity)
+        return replace(right["cleared_core"](core), room=core.capacity)
 
     def frees_reserved(core):
-        return replace(right["cleared"](core), table=model.cleared_table(core.table, 0))
+        return replace(right["cleared_core"](core), table=model.cleared(core.table, 0))
 
     def keeps_flag(core):
-        after = right["cleared"](core)
+        after = right["cleared_core"](core)
         return replace(after, table=model.with_table_slot(after.table, 0, Slot(None, model.slot_at(core.table, 0).flag)))
 
     def keeps_ids(core):
-        return replace(right["cleared"](core), held=core.held)
+        return replace(right["cleared_core"](core), held=core.held)
 
     def renames_reserved(core):
         fresh = model.made_core(core.capacity, 0).table
         pointers = tuple(it and replace(it, number=it.number + core.table.made) for it in fresh.pointers)
-        return replace(right["cleared"](core), table=model.Table(pointers, core.table.made + fresh.made))
+        return replace(right["cleared_core"](core), table=model.Table(pointers, core.table.made + fresh.made))
 
     def forgets_capacity(core):
         return replace(new_core(), room=core.room)
@@ -1382,13 +1462,13 @@ def more_wrong_bodies():
         "a walk stands still after two loads": {"WALK_STEPS": {**model.WALK_STEPS, "Load": load_waits}},
         "no take while a walk runs": takes_where(lambda core: not walking(core)),
         "no take while five are held": takes_where(lambda core: held_count(core.held) < 5),
-        "a refused take grows room": {"take": grows_room},
-        "clear lets the room go": {"cleared": drops_room},
-        "clear frees the reserved buckets": {"cleared": frees_reserved},
-        "clear leaves a flag set in a reserved bucket": {"cleared": keeps_flag},
-        "clear keeps ids held": {"cleared": keeps_ids},
-        "clear frees the reserved buckets and makes them again": {"cleared": renames_reserved},
-        "clear forgets the capacity": {"cleared": forgets_capacity},
+        "a refused take grows room": {"take_id": grows_room},
+        "clear lets the room go": {"cleared_core": drops_room},
+        "clear frees the reserved buckets": {"cleared_core": frees_reserved},
+        "clear leaves a flag set in a reserved bucket": {"cleared_core": keeps_flag},
+        "clear keeps ids held": {"cleared_core": keeps_ids},
+        "clear frees the reserved buckets and makes them again": {"cleared_core": renames_reserved},
+        "clear forgets the capacity": {"cleared_core": forgets_capacity},
         "a publishing call begins over gets, which vanish": steps(BeginGetOr=offers_over_gets),
         "a get begins over a publishing call": steps(BeginGet=gets_over_offer),
         "a get ends with no record": unrecorded("Reply", "Get"),
@@ -1407,13 +1487,13 @@ def wrong_effects():
         name: getattr(model, name)
         for name in (
             "made_core",
-            "take",
+            "take_id",
             "local_step",
             "give_back",
             "forget",
             "end_walk",
             "owner_call",
-            "cleared",
+            "cleared_core",
             "is_refused",
             "slots",
             "after_all",
@@ -1444,12 +1524,12 @@ def wrong_effects():
         return replace(after, table=replace(after.table, pointers=kept))
 
     def room_begins_again(core, refused, growth):
-        after = right["take"](core, refused, growth)
+        after = right["take_id"](core, refused, growth)
         return after if after is core else replace(after, room=max(core.capacity, len(after.held)) + growth)
 
     def begins_walk(core, number):
         after = right["forget"](core, number)
-        return after if after is None else replace(after, walks=after.walks + (model.Walk(),))
+        return after if after is None else replace(after, walks=after.walks + (model.SharedWalk(),))
 
     def ends_any(core, number):
         return core if live_walk(core, number) is None else right["end_walk"](core, number)
@@ -1459,7 +1539,7 @@ def wrong_effects():
 
     def frees_nothing(core):
         pointers = tuple(it and model.fresh_bucket(b, it.number) for b, it in enumerate(core.table.pointers))
-        return replace(right["cleared"](core), table=replace(core.table, pointers=pointers))
+        return replace(right["cleared_core"](core), table=replace(core.table, pointers=pointers))
 
     def with_values(table):
         return sum(2**b for b, it in enumerate(table.pointers) if it is not None and any(s.flag for s in it.slots))
@@ -1473,12 +1553,12 @@ def wrong_effects():
         return replace(after, table=replace(model.with_pointer(core.table, b, fresh), made=core.table.made + 1))
 
     def takes_with_get(core, refused, growth):
-        after = right["take"](core, refused, growth)
+        after = right["take_id"](core, refused, growth)
         n = len(core.locals)
         return after if after is core else model.with_local(after, n, replace(after.locals[n], doing=("Gets", 1)))
 
     def takes_with_look(core, refused, growth):
-        after = right["take"](core, refused, growth)
+        after = right["take_id"](core, refused, growth)
         n = len(core.locals)
         if after is core or not model.bucket_stands(core.table, bucket_of(after.locals[n].id)):
             return after
@@ -1500,7 +1580,7 @@ def wrong_effects():
 
     def asks_beside(table, local, refused):
         if refused and local.doing[0] == "Started" and local.learnt == ("Vacant",):
-            return table, model.ended_call(local, ("GetOr", local.doing[1], False), ("Refused",), ("Vacant",), ("Gets", 0))
+            return table, model.after_call(local, ("GetOr", local.doing[1], False), ("Refused",), ("Vacant",), ("Gets", 0))
         return model.make_bucket(table, local, refused)
 
     def fails_at_first(table, local):
@@ -1519,7 +1599,7 @@ def wrong_effects():
         return (table, local) if after is not None and not refused and local.id == 5 else after
 
     def takes_with_room(core, refused, growth):
-        return right["take"](core, refused, growth + 1)
+        return right["take_id"](core, refused, growth + 1)
 
     def leaves_get(name):
         """The step of that name ends a publishing call with a get under way that nobody began."""
@@ -1556,11 +1636,11 @@ def wrong_effects():
         return model.Local(identity, ("Unknown",), ("Gets", 0), model.first_view(model.shadow(core), identity))
 
     def takes_another_view(core, refused, growth):
-        after = right["take"](core, refused, growth)
+        after = right["take_id"](core, refused, growth)
         n = len(core.locals)
         return after if after is core else model.with_local(after, n, replace(after.locals[n], start=View("another", True)))
 
-    kept_view, kept_below, kept_nothing = model.view_after, model.takes_below, model.refuses_nothing
+    kept_view, kept_below, kept_nothing = model.view_after, model.takes_below, model.nothing_refused
     def counts_on(core, events):
         moves = [model.move_of(model.run(core, events[:k]), it)[0] for k, it in enumerate(events)]
         return moves.count("Publish")
@@ -1609,18 +1689,18 @@ def wrong_effects():
         "slots grows room": grows("owner_call", is_call("Slots")),
         "a rewrite grows room": grows("owner_call", is_call("RewriteTable")),
         "a rewrite frees empty buckets that aren't reserved": {"owner_call": frees_empty},
-        "a take's room begins again at the capacity": {"take": room_begins_again},
+        "a take's room begins again at the capacity": {"take_id": room_begins_again},
         "a Local's step grows room": grows("local_step"),
         "give back grows room": grows("give_back"),
         "forget begins a walk": {"forget": begins_walk},
         "a walk's end is enabled where no walk is": {"end_walk": ends_any},
         "a step is enabled where no Local is": {"local_step": steps_anyway},
-        "clear frees nothing": {"cleared": frees_nothing},
+        "clear frees nothing": {"cleared_core": frees_nothing},
         "only buckets with a value count as installed": {"slots": with_values},
         "a bucket of a call's own has no slots": {"private_slots": lambda identity, doing: 0},
         "give back installs its bucket": {"give_back": installs_given},
-        "a newcomer has a get under way": {"take": takes_with_get},
-        "a newcomer knows its bucket": {"take": takes_with_look},
+        "a newcomer has a get under way": {"take_id": takes_with_get},
+        "a newcomer knows its bucket": {"take_id": takes_with_look},
         "at most one get is under way": steps(BeginGet=one_get),
         "two gets under way are stuck": {"may_look": lambda doing: doing[0] == "Started" or doing in (("Gets", 0), ("Gets", 1))},
         "a Local looks in a call alone": {"may_look": lambda doing: doing[0] == "Started" or (doing[0] == "Gets" and doing[1] > 0)},
@@ -1645,7 +1725,7 @@ def wrong_effects():
         "a look of a walk reads nothing": {"WALK_STEPS": {**model.WALK_STEPS, "Look": reads_nothing}},
         "takes below a bound may meet it": {"takes_below": lambda bound, core, events: kept_below(bound + 1, core, events)},
         "takes below a bound come below a lower one": {"takes_below": lambda bound, core, events: kept_below(bound - 1, core, events)},
-        "nothing refused is said of the first event": {"refuses_nothing": lambda core, events: kept_nothing(core, events[:1])},
+        "nothing refused is said of the first event": {"nothing_refused": lambda core, events: kept_nothing(core, events[:1])},
         "takes below a bound are none, not even of no event": {"takes_below": lambda bound, core, events: False},
         "every event is exclusive": {"is_exclusive": lambda event: True},
         "every event is a take": {"is_take": lambda event: True},
@@ -1653,7 +1733,7 @@ def wrong_effects():
             "is_refused": lambda core, event: event[0] != "TakeId" and right["is_refused"](core, event),
             "is_granted_take": never_taken,
         },
-        "a newcomer is made up, and another one comes": {"newcomer": made_up, "take": takes_another_view},
+        "a newcomer is made up, and another one comes": {"newcomer": made_up, "take_id": takes_another_view},
         "each give back is of every Local": {"is_of": lambda n, event: event[0] == "GiveBack" or kept_of(n, event)},
         "each walk's end is of every walk": {"is_of_walk": lambda n, event: event[0] == "EndWalk" or kept_of_walk(n, event)},
         "a take is said to end a table": {"ends_table": lambda event: event[0] == "TakeId" or kept_ends(event)},
@@ -1666,7 +1746,7 @@ def wrong_effects():
         "memory is only refused at id 5": asks_where(lambda identity, refused: refused or identity != 5),
         "memory that comes is lost at id 5": steps(MakeBucket=loses_memory),
         "no take is refused memory": {"is_granted": lambda core, refused: not model.is_exhausted(core)},
-        "a take grows room by more than it says": {"take": takes_with_room},
+        "a take grows room by more than it says": {"take_id": takes_with_room},
         "a failing call leaves a get under way": leaves_get("WriteValue"),
         "a call that replies leaves a get under way": leaves_get("Reply"),
         "the most held is what is held at last": {"most_held": lambda core, events: held_count(model.run(core, events).held)},
@@ -1712,7 +1792,7 @@ def wrong_for_some():
 
     def passes_by(table, it):
         after = model.walk_look(table, it)
-        new = after is not None and after.given != it.given and it.first[model.cursor(it)] is None
+        new = after is not None and after.given != it.given and it.first[model.cursor_id(it)] is None
         return model.at_place(replace(after, given=it.given)) if new else after
 
     def publishes_below(table, local):
@@ -1746,7 +1826,7 @@ def wrong_for_some():
         return after if after is None else (after[0], replace(after[1], learnt=("Vacant",)))
 
     def begins_with_load(core):
-        return replace(core, walks=core.walks + (model.Walk(loads=1),))
+        return replace(core, walks=core.walks + (model.SharedWalk(loads=1),))
 
     return {
         "an owner calls only while the peak is below five": {"is_alone": lambda core: right["is_alone"](core) and len(core.held) < 5},
@@ -1781,6 +1861,64 @@ def try_wrong_bodies(seed, runs, length):
         print(f"{name}: " + ("refused by " + " and by ".join(by) if by else "NOT REFUSED"))
         left += [] if by else [name]
     return left
+
+
+# ---- names -----------------------------------------------------------------------------------------------
+
+CRATES = ("thread_local_model", "thread_local_schedule")
+
+
+def sources(pattern):
+    top = os.path.dirname(os.path.dirname(os.path.abspath(__file__)))
+    for crate in CRATES:
+        for path in sorted(glob.glob(f"{top}/crates/{crate}/{pattern}")):
+            with open(path, encoding="utf-8") as file:
+                yield file.read()
+
+
+def theorem_clauses():
+    """The clauses of each theorem."""
+    found, theorem = {}, None
+    for text in sources("src/*.rt"):
+        for line in text.split("\n"):
+            if it := re.match(r"pub fn (\w+)", line):
+                theorem = it[1]
+            elif it := re.match(r"\s+ensures (\w+) \{", line):
+                found.setdefault(theorem, set()).add(it[1])
+    return found
+
+
+def spec_names():
+    """What the specs define: functions, types, constructors."""
+    head = re.compile(r"^(?:abbrev |unfoldable )?(?:pub )?(?:record |data )?(\w+)(?: [{(][^:]*:[^})]*[})])* :|^  (?:pub )?(\w+) :", re.M)
+    return {one or other for text in sources("specs/*.antt") for one, other in head.findall(text)}
+
+
+def foreign_names():
+    """The names of these scripts that no theorem and no spec has."""
+    theorems, specs, left = theorem_clauses(), spec_names(), []
+    anywhere = {it for clauses in theorems.values() for it in clauses}
+    for name, it in {**CLAUSES, **WHOLE}.items():
+        tried = getattr(it, "tried", [])
+        left += [f"clause {name}: no {theorem}::{clause}" for theorem, clause in tried if clause not in theorems.get(theorem, ())]
+        if not (any(name == clause or name.endswith("_" + clause) for _, clause in tried[:1]) if tried else name in anywhere):
+            left.append(f"clause {name}: its name is no clause's that it tries")
+    for name in sorted(model.OWN & specs):
+        left.append(f"{name} is in OWN, and in the specs")
+    defined = {name for name, it in vars(model).items() if getattr(it, "__module__", "") == model.__name__}
+    for name in sorted(defined - model.OWN):
+        if name not in specs and name.title().replace("_", "") not in specs:
+            left.append(f"{name}: no spec has it")
+    return left + [f"step {name}: no spec has it" for name in (*model.LOCAL_STEPS, *model.WALK_STEPS) if name not in specs]
+
+
+def compare_names():
+    left = foreign_names()
+    for it in left:
+        print(it)
+    tried = {one for name, it in {**CLAUSES, **WHOLE}.items() for one in getattr(it, "tried", [(None, name)])}
+    print(f"{len(tried)} clauses are tried; {len(left)} names of the scripts are in no spec and no theorem")
+    return 1 if left else 0
 
 
 # ---- a schedule to look at ------------------------------------------------------------------------------
@@ -1842,7 +1980,7 @@ def walk_change(before, after):
     gave = "" if before is None or after.given == before.given else f"gives {after.given[0][1]}, "
     if model.is_complete(after):
         return gave + "complete"
-    return gave + (f"looks at id {model.cursor(after)} next" if after.looks else f"at pointer {after.bucket}")
+    return gave + (f"looks at id {model.cursor_id(after)} next" if after.looks else f"at pointer {after.bucket}")
 
 
 def slot_text(slot):
@@ -1929,8 +2067,11 @@ def main():
     options.add_argument("--events", type=int, default=250)
     options.add_argument("--buckets", type=int, default=3)
     options.add_argument("--wrong", action="store_true", help="tries each wrong body in turn")
+    options.add_argument("--names", action="store_true", help="says which names of the scripts aren't in the specs or the theorems")
     options.add_argument("--show", type=int, metavar="SEED", help="print a schedule in which two Locals race for one bucket")
     given = options.parse_args()
+    if given.names:
+        sys.exit(compare_names())
     if given.show is not None:
         model.set_buckets(2)
         return show(given.show)

@@ -9,6 +9,9 @@ from dataclasses import dataclass, field, replace
 BUCKETS = 3
 IDS = 2**BUCKETS - 1
 
+# The names that are these scripts' own; all others stand in the specs, where a type such as `IsAlone` may be a `is_alone` here.
+OWN = {"set_buckets", "with_pointer", "all_published", "known_value", "live_local", "live_walk", "with_local", "cleared_core"}
+
 
 def set_buckets(buckets):
     global BUCKETS, IDS
@@ -176,8 +179,7 @@ class Table:
     made: int
 
 
-def slot_in(table, bucket, index):
-    pointer = table.pointers[bucket]
+def slot_of(pointer, index):
     return pointer.slots[index] if pointer is not None else Slot()
 
 
@@ -186,7 +188,7 @@ def value_of(slot):
 
 
 def slot_at(table, identity):
-    return slot_in(table, bucket_of(identity), index_of(identity))
+    return slot_of(table.pointers[bucket_of(identity)], index_of(identity))
 
 
 def published(table, identity):
@@ -224,7 +226,7 @@ class Local:
 
 
 @dataclass(frozen=True)
-class Walk:
+class SharedWalk:
     bucket: int = 0
     index: int = 0
     looks: bool = False
@@ -287,7 +289,7 @@ def first_view(sheet, identity):
     return View(value, is_reserved(sheet.capacity, identity) or value is not None)
 
 
-def take(core, refused, growth):
+def take_id(core, refused, growth):
     if not is_granted(core, refused):
         return core
     identity = least(core.held)
@@ -296,7 +298,7 @@ def take(core, refused, growth):
     return replace(core, held=held, room=max(core.room, len(held)) + growth, locals=core.locals + (fresh,))
 
 
-def ended_call(local, call, told, learnt, doing):
+def after_call(local, call, told, learnt, doing):
     return replace(local, calls=local.calls + (call,), answers=local.answers + (told,), learnt=learnt, doing=doing)
 
 
@@ -332,7 +334,7 @@ def make_bucket(table, local, refused):
     match local.doing, local.learnt:
         case ("Started", create), ("Missing",):
             if refused:
-                return table, ended_call(local, ("GetOr", create, True), ("Refused",), ("Missing",), ("Gets", 0))
+                return table, after_call(local, ("GetOr", create, True), ("Refused",), ("Missing",), ("Gets", 0))
             return replace(table, made=table.made + 1), replace(local, doing=("Private", create, table.made))
 
 
@@ -350,7 +352,7 @@ def write_value(table, local):
             slot = replace(slot_at(table, local.id), written=value)
             return with_table_slot(table, local.id, slot), replace(local, doing=("Written", value))
         case ("Started", ("Err", error)), ("Vacant",):
-            return table, ended_call(local, ("GetOr", ("Err", error), False), ("Failed", error), ("Vacant",), ("Gets", 0))
+            return table, after_call(local, ("GetOr", ("Err", error), False), ("Failed", error), ("Vacant",), ("Gets", 0))
 
 
 def set_flag(table, local):
@@ -358,10 +360,10 @@ def set_flag(table, local):
         case ("Written", value), ("Vacant",):
             slot = replace(slot_at(table, local.id), flag=True)
             call = ("GetOr", ("Ok", value), False)
-            return with_table_slot(table, local.id, slot), ended_call(local, call, ("Answered", value), ("Holding", value), ("Gets", 0))
+            return with_table_slot(table, local.id, slot), after_call(local, call, ("Answered", value), ("Holding", value), ("Gets", 0))
 
 
-def found(learnt):
+def known_value(learnt):
     match learnt:
         case ("Missing",) | ("Vacant",):
             return (None,)
@@ -371,11 +373,11 @@ def found(learnt):
 
 def reply(table, local):
     match local.doing:
-        case ("Gets", count) if count > 0 and found(local.learnt) is not None:
-            return table, ended_call(local, ("Get",), ("Found", found(local.learnt)[0]), local.learnt, ("Gets", count - 1))
+        case ("Gets", count) if count > 0 and known_value(local.learnt) is not None:
+            return table, after_call(local, ("Get",), ("Found", known_value(local.learnt)[0]), local.learnt, ("Gets", count - 1))
         case ("Started", create) if local.learnt[0] == "Holding":
             value = local.learnt[1]
-            return table, ended_call(local, ("GetOr", create, False), ("Answered", value), local.learnt, ("Gets", 0))
+            return table, after_call(local, ("GetOr", create, False), ("Answered", value), local.learnt, ("Gets", 0))
 
 
 LOCAL_STEPS = {
@@ -445,7 +447,7 @@ def forget(core, number):
         return with_local(core, number, None)
 
 
-def cursor(walking):
+def cursor_id(walking):
     return id_at(walking.bucket, walking.index)
 
 
@@ -473,8 +475,8 @@ def walk_load(table, walking):
 def walk_look(table, walking):
     if not walking.looks:
         return None
-    here = cursor(walking)
-    value = value_of(slot_in(table, walking.bucket, walking.index))
+    here = cursor_id(walking)
+    value = value_of(slot_of(table.pointers[walking.bucket], walking.index))
     looked = replace(walking, read=(here,) + walking.read, index=walking.index + 1)
     if value is None:
         return at_place(looked)
@@ -493,7 +495,7 @@ def with_walk(core, number, walking):
 
 
 def begin_walk(core):
-    return replace(core, walks=core.walks + (Walk(),))
+    return replace(core, walks=core.walks + (SharedWalk(),))
 
 
 def walk_step(core, number, step):
@@ -539,7 +541,7 @@ def drained(table):
     return replace(table, pointers=pointers)
 
 
-def cleared_table(table, capacity):
+def cleared(table, capacity):
     digits = binary_digits(capacity)
     pointers = tuple(
         None if b >= digits or named is None else fresh_bucket(b, named.number)
@@ -548,8 +550,8 @@ def cleared_table(table, capacity):
     return replace(table, pointers=pointers)
 
 
-def cleared(core):
-    return replace(core, held=(), table=cleared_table(core.table, core.capacity))
+def cleared_core(core):
+    return replace(core, held=(), table=cleared(core.table, core.capacity))
 
 
 def owner_call(core, call):
@@ -563,7 +565,7 @@ def owner_call(core, call):
         case ("Slots",):
             return core
         case ("ClearTable",):
-            return cleared(core)
+            return cleared_core(core)
         case ("IntoIter",) | ("DropTable",):
             return replace(core, ended=True)
 
@@ -574,7 +576,7 @@ def step(core, event):
         return None
     match event:
         case ("TakeId", refused, growth):
-            return take(core, refused, growth)
+            return take_id(core, refused, growth)
         case ("OfLocal", number, it):
             return local_step(core, number, it)
         case ("GiveBack", number):
@@ -613,18 +615,22 @@ def steps_of(number, steps):
     return [("OfLocal", number, it) for it in steps]
 
 
-def publishes(number, value, missing):
-    """The steps of a Local's first publishing call, where its bucket is missing or stands."""
-    steps = [("BeginGetOr", ("Ok", value)), ("LoadPointer",)]
-    steps += [("MakeBucket", False), ("InstallBucket",)] if missing else [("LookAtFlag",)]
-    return steps_of(number, steps + [("WriteValue",), ("SetFlag",)])
+def publishes_first(number, value):
+    """The steps of a Local's first publishing call, where its bucket is missing."""
+    steps = [("BeginGetOr", ("Ok", value)), ("LoadPointer",), ("MakeBucket", False), ("InstallBucket",), ("WriteValue",), ("SetFlag",)]
+    return steps_of(number, steps)
+
+
+def publishes_beside(number, value):
+    """The same where its bucket stands."""
+    return steps_of(number, [("BeginGetOr", ("Ok", value)), ("LoadPointer",), ("LookAtFlag",), ("WriteValue",), ("SetFlag",)])
 
 
 def four_publish(four):
     """Four Locals are made, and then publish one after another."""
     events = [("TakeId", False, 0)] * 4
     for k, value in enumerate(four):
-        events += publishes(k, value, k in (0, 1, 3))
+        events += publishes_first(k, value) if k in (0, 1, 3) else publishes_beside(k, value)
     return events
 
 
@@ -713,7 +719,7 @@ def own_number(doing):
     return doing[2] if doing[0] == "Private" else None
 
 
-def refuses_nothing(core, events):
+def nothing_refused(core, events):
     """No event of a schedule ends in a refusal."""
     for event in events:
         if is_refused(core, event):
