@@ -5,4 +5,3 @@ pub mod Filled
 mod Grown
 pub mod Seated
 pub mod Told
-mod Lent

@@ -5,8 +5,6 @@ pub use Rattle.thread_local_model.specs.Place
 pub use Rattle.thread_local_model.specs.Walk
 pub use Rattle.thread_local_ids.specs.TokenLists
 pub use Rattle.thread_local_ids.specs.Views
-mod Bytes
-pub mod Pooled
 pub use Rattle.thread_local_model.specs.Answers
 pub use Rattle.thread_local_model.specs.Learnt
 pub mod Errors

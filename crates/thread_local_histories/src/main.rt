@@ -39,7 +39,7 @@ use std::sync::Wait;
 use std::sync::atomic::AtomicU64;
 use std::thread::Threads;
 use thread_local::ThreadLocal;
-use thread_local::scratch::Pool;
+use thread_local_pool::Pool;
 
 /// How many rounds a table lives.
 const ROUNDS: u64 = 8;

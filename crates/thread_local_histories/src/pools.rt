@@ -9,8 +9,8 @@ use std::sync::atomic::Ordering::SeqCst;
 use std::sync::{Mutex, Wait};
 use std::thread;
 use std::thread::Threads;
-use thread_local::scratch::{Pool, Pooled};
 use thread_local::thread_id::LocalError;
+use thread_local_pool::{Pool, Pooled};
 
 /// A value that a pool lends, with the number that the history knows the loan by.
 #[derive(Drop)]

@@ -3,10 +3,10 @@
 #![tactic(auto)]
 
 #[cfg(test)]
+mod buffer;
+#[cfg(test)]
 mod cached;
 #[cfg(test)]
 mod padded;
 #[cfg(test)]
 mod pool;
-#[cfg(test)]
-mod scratch;

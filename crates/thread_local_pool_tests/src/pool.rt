@@ -10,8 +10,8 @@ use std::sync::{Arc, Wait};
 use std::test::Fail;
 use std::thread;
 use std::thread::Threads;
-use thread_local::scratch::{Pool, Pooled};
 use thread_local::thread_id::LocalError;
+use thread_local_pool::{Pool, Pooled};
 use thread_local_test_helpers::counted::Counted;
 
 /// A new value is what the closure made, and what is written to one stands in it.

@@ -8,8 +8,8 @@ use std::sync::Wait;
 use std::test::Fail;
 use thread_local::ThreadLocal;
 use thread_local::local::{Local, TryError};
-use thread_local::scratch::Pool;
 use thread_local_buckets::{Buckets, CapacityError};
+use thread_local_pool::Pool;
 use thread_local_test_helpers::memory::take_all;
 use thread_local_thread_id::{LocalError, Thread, ThreadIdManager};
 

@@ -2,8 +2,8 @@
 //! grown.
 use std::alloc::AllocError;
 use std::sync::Wait;
-use thread_local::scratch::Pool;
 use thread_local::thread_id::LocalError;
+use thread_local_pool::Pool;
 
 /// Appends a line as a page may show it, with `<` and `&` written out.
 fn escape(line: &str, page: &mut Vec<u8>) -> Result<(), AllocError> {

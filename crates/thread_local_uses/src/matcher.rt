@@ -3,8 +3,8 @@
 use std::alloc::{AllocError, Global};
 use std::sync::Wait;
 use std::sync::atomic::{AtomicU64, Ordering};
-use thread_local::scratch::{Pool, Pooled};
 use thread_local::thread_id::LocalError;
+use thread_local_pool::{Pool, Pooled};
 
 /// Finds a set of bytes in texts, and notes where. The room for its notes stays from text to text.
 #[derive(Drop)]

@@ -1,8 +1,8 @@
 use Rattle.std.proofs.Common.{◌∙◌, sym, ap}
-use Rattle.thread_local.specs.Pooled.{PooledView}
-use Rattle.thread_local.proofs.Lent.{newness, as_found}
-use Rattle.thread_local.proofs.Told.{some_not_none}
-use Rattle.thread_local.proofs.scratch.Pooled.of.Goals as goal
+use Rattle.std.proofs.lemmas.Option.{none-some}
+use Rattle.thread_local_pool.specs.Pooled.{PooledView}
+use Rattle.thread_local_pool.proofs.Lent.{newness, as_found}
+use Rattle.thread_local_pool.proofs.Pooled.of.Goals as goal
 
 -- The search for these takes a second.
 pub create-requires : goal.create-requires
@@ -15,13 +15,13 @@ pub returns-in-Some-clause-kept : goal.returns-in-Some-clause-kept
 returns-in-Some-clause-kept g c = as_found c.in-Some.is c.new.ensures
 
 pub returns-in-Some-clause-created : goal.returns-in-Some-clause-created
-returns-in-Some-clause-created g c = λ none. absurd (some_not_none (sym c.in-Some.is ∙ none))
+returns-in-Some-clause-created g c = λ none. absurd (none-some _ (sym none ∙ c.in-Some.is))
 
 pub returns-in-None-clause-is_new : goal.returns-in-None-clause-is_new
 returns-in-None-clause-is_new g c = newness c.in-None.is c.new-in-None.ensures
 
 pub returns-in-None-clause-kept : goal.returns-in-None-clause-kept
-returns-in-None-clause-kept g c = λ value found. absurd (some_not_none (sym found ∙ c.in-None.is))
+returns-in-None-clause-kept g c = λ value found. absurd (none-some value (sym c.in-None.is ∙ found))
 
 pub returns-in-None-clause-created : goal.returns-in-None-clause-created
 returns-in-None-clause-created g c = λ none.

@@ -1,15 +1,17 @@
 //! A pool of values that threads use one after another, as buffers of bytes.
+#![tactic(auto)]
+
 ghost use Rattle.std.specs.Prelude.{◌≡◌, true, Some, None, is_none, [], Ok, Err, IfOk, IsOkAnd, MatchResult};
 
-use crate::local::Local;
-use crate::table::ThreadLocal;
 use std::alloc::Global;
 use std::cell::Cell;
 use std::fmt;
 use std::marker::Model;
 use std::sync::Wait;
-use thread_local_judged::Judge;
-use thread_local_thread_id::LocalError;
+use thread_local::ThreadLocal;
+use thread_local::local::Local;
+use thread_local::table::Judge;
+use thread_local::thread_id::LocalError;
 
 mod lends;
 mod walks;
@@ -128,7 +130,7 @@ pub struct Pooled<'a, T, R: Wait> {
 }
 
 impl<'a, T, R: Wait> Model for Pooled<'a, T, R> {
-    ghost use Rattle.thread_local.specs.Pooled.{PooledView, pooled_view_coded};
+    ghost use Rattle.thread_local_pool.specs.Pooled.{PooledView, pooled_view_coded};
 
     ghost Value = { PooledView T };
 

@@ -8,8 +8,8 @@ use std::sync::Wait;
 use std::test::Fail;
 use std::thread;
 use std::thread::Threads;
-use thread_local::scratch::{Buffer, Pool};
 use thread_local::thread_id::LocalError;
+use thread_local_pool::{Buffer, Pool};
 
 /// What is written to an empty buffer is what stands in it.
 fn one_byte<R: Wait>(buffer: &mut Buffer<'_, R>, byte: u8) -> Result<usize, AllocError>

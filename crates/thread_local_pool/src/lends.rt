@@ -4,12 +4,12 @@ ghost use Rattle.std.specs.Prelude.{◌≡◌, []};
 ghost use types.Logic.{sem};
 ghost use denote.Follow.{follows};
 ghost use mir.Syntax.{named};
-ghost use Rattle.thread_local.specs.Bytes.{bytes_row};
-ghost use Rattle.thread_local.specs.Pooled.{with_pooled};
-ghost use Rattle.thread_local.specs.contracts.scratch.Buffer.{the_row};
-ghost use Rattle.thread_local.specs.contracts.scratch.Pooled.{the_row as pooled_row};
+ghost use Rattle.thread_local_pool.specs.Bytes.{bytes_row};
+ghost use Rattle.thread_local_pool.specs.Pooled.{with_pooled};
+ghost use Rattle.thread_local_pool.specs.contracts.Buffer.{the_row};
+ghost use Rattle.thread_local_pool.specs.contracts.Pooled.{the_row as pooled_row};
 
-use super::{Buffer, Pooled};
+use crate::{Buffer, Pooled};
 use std::ops::{Deref, DerefMut};
 use std::sync::Wait;
 

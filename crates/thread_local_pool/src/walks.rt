@@ -1,12 +1,12 @@
 //! The calls of a pool's owner: walks over the values that nobody holds, by ascending id.
 ghost use Rattle.std.specs.Prelude.{◌≡◌, length};
 ghost use Rattle.std.specs.Iterator.{at_most};
-ghost use Rattle.thread_local_buckets.specs.IterMut.{iter_mut_rest, iter_mut_given};
-ghost use Rattle.thread_local_buckets.specs.Drain.{drain_left, DrainCanStep, DrainIsFresh};
+ghost use Rattle.thread_local.specs.IterMut.{iter_mut_rest, iter_mut_given};
+ghost use Rattle.thread_local.specs.Drain.{drain_left, DrainCanStep, DrainIsFresh};
 
-use super::Pool;
+use crate::Pool;
 use std::cell::Cell;
-use thread_local_buckets::{Drain, IntoIter, IterMut};
+use thread_local::iter::{Drain, IntoIter, IterMut};
 
 impl<T> Pool<T> {
     /// The values by ascending id, each lent as `&mut`. The value of a forgotten `Pooled` isn't in
