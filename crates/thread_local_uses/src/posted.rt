@@ -6,11 +6,11 @@ use thread_local::ThreadLocal;
 
 /// Publishes a number where an id's slot is empty, and lends it for as long as the table is lent,
 /// whatever other threads do. None: no id or no memory was left, or the slot held a number.
-pub fn post<'a, R: Wait>(table: &'a ThreadLocal<u64>, rt: &R, number: u64) -> Option<&'a u64>
+pub fn post<'a, R: Wait>(table: &'a ThreadLocal<u64>, runtime: &R, number: u64) -> Option<&'a u64>
     requires named { IsSome table.now.sharing }
     ensures posted { IfSome result (λ it. it.now ≡ number) }
 {
-    let mut local = table.local(rt).ok()?;
+    let mut local = table.local(runtime).ok()?;
     let token = local.publish(number).ok()?;
     Some(table.value(&token))
 }
