@@ -1,5 +1,5 @@
 //! Threads make calls at random on one table of the Rust crate after another, and the history is
-//! printed, for `tools/histories --check` to judge. The arguments are how many calls, by how many
+//! printed, for `tools/histories --check` to check. The arguments are how many calls, by how many
 //! threads at a time, and a seed. `crates/thread_local_histories/src/main.rt` says what a line is.
 //!
 //! A thread of the Rust crate is what a `Local` is there: it takes its id at its first call, here

@@ -1,5 +1,5 @@
 //! Threads make calls at random on one table after another, and the history of these calls is
-//! printed, for `tools/histories` to judge. The arguments are how many calls, by how many threads, a
+//! printed, for `tools/histories` to check. The arguments are how many calls, by how many threads, a
 //! seed, and the number of the first table, which is 0 where none is given. A table takes 8000 calls
 //! or a few more, and fewer where fewer are asked for. In every eleventh table the threads hold 1100
 //! `Local`s together, and every seventh is a pool. The history of one thread is the same in each run.
