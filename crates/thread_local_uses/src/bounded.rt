@@ -27,8 +27,8 @@ pub fn add<R: Wait>(sum: &mut Local<'_, Cell<u64>, R>, number: u64) -> bool
 
 /// Adds the numbers from 1 to `numbers` to the sum of a `Local`. False means that the `Local` was
 /// refused, or that its slot isn't reserved.
-pub fn work<R: Wait>(sums: &ThreadLocal<Cell<u64>>, rt: &R, numbers: u64) -> bool {
-    let Ok(mut sum) = sums.local(rt) else {
+pub fn work<R: Wait>(sums: &ThreadLocal<Cell<u64>>, runtime: &R, numbers: u64) -> bool {
+    let Ok(mut sum) = sums.local(runtime) else {
         return false;
     };
     (0..numbers).all(|number| add(&mut sum, number + 1))
