@@ -142,12 +142,7 @@ module _ {V : Type 0} where
       (values-with_slot-same c b i None rows inside (omega arith))
       (λ id ne. values-with_slot-other c b i id None rows ne) (read_to raw) (omega arith) in
       let left : count_ones rest + 1 ≡ count_ones cursor.rest =
-      omega (
-        arith,
-        fewer,
-        counted_at_hand c raw cursor.rest fit at,
-        counted_at_hand after raw rest fits on,
-      ) in
+      omega (arith, fewer, counted_at_hand c raw cursor.rest fit at, counted_at_hand after raw rest fits on) in
       let few = walk-few (values after) in
       let counted = walks.counted in
       record {

@@ -99,12 +99,7 @@ module _ {M : Type 1} {𝓤 : Ura M} (𝓛 : Logic 𝓤) (R : RattleType) where
         let n : ℕ = slice_index ns i in
         let has : i < length ns = subst (λ (z : ℕ). i < z) (sym are.0) (in_chunks m k within) in let ends : i ≡ i + 0 = omega arith in
         show ! (λ (z : ℕ). guard 𝓤 (Shown p k ds z) (⟦ F z i ⟧ ∗ Again p k ds z)) n $
-        check ! (
-          so.0,
-          word_is_near R m i so.1 (in_chunks m k within),
-          are.1 i,
-          flag_first k ns c cs are.2,
-        ) $
+        check ! (so.0, word_is_near R m i so.1 (in_chunks m k within), are.1 i, flag_first k ns c cs are.2) $
         use1 𝓛 (‵ (F n i) ⊛ raw (all 𝓤 (Put 𝓛 F ns 0 i i))) (each_at 𝓛 F ns 0 i i 0 ends has) $
         split ! $ frame ! $ assume ! (‵ (F n i)) $ move ! (1 ∷ []) $
         use1 𝓛 (raw (Put 𝓛 F ns 0 i i n)) (all_e 𝓤 (Put 𝓛 F ns 0 i i) n) $ move ! (1 ∷ 0 ∷ []) $

@@ -83,10 +83,7 @@ module _ {X : Type 0} (slots : List (Option X)) where
       (cases_eq (j % 64) bit)
 
   pub word_of : (ns : List ℕ) (c : ℕ) → AreFlags ns slots → IsWordOf slots c (get_or ns c 0)
-  word_of ns c are = record {
-    fits = are.words c;
-    flags = λ bit within. flag_read ns slots c bit are within;
-  }
+  word_of ns c are = record { fits = are.words c; flags = λ bit within. flag_read ns slots c bit are within }
 
 module _ (R : RattleType) where
   -- the word of a chunk of a block of n slots

@@ -26,8 +26,7 @@ use Rattle.std.proofs.alloc.Shapes.{front, arm_body}
 use Rattle.std.proofs.alloc.Calls.{Al as Handle, Answer-typed, Takes, at_takes, Answered, Takes-goes, Takes-gives, answers}
 use Rattle.thread_local_bucket_pointers.specs.Slots.{empty_slots, chunks, slots_ty, block_ty, Fits, block_owns}
 use Rattle.thread_local_bucket_pointers.specs.contracts.block.Block as block
-use Rattle.thread_local_bucket_pointers.specs.contracts.block.Block.allocate.{ended, clauses}
-use Rattle.thread_local_bucket_pointers.specs.contracts.block.Block.allocate.Key.{name as #self}
+use Rattle.thread_local_bucket_pointers.specs.contracts.block.Block.allocate.{ended, clauses, Key.name as #self}
 use Rattle.thread_local_bucket_pointers.proofs.Fields.{block_val, block_good, made, FieldsType, block_size, block_align}
 use Rattle.thread_local_bucket_pointers.proofs.Making.{fresh}
 use Rattle.thread_local_bucket_pointers.proofs.block.Block.allocate.Statement.{statement}
@@ -82,7 +81,7 @@ allocate_spec 𝓤 𝓛 𝓜 𝓡 wired T Al L LA ga da dd met _ =
     let small : s < 2 ^ 64 = omega arith in
     let bytes : capped (size τ) ≡ s = block_size R n fits ∙ sym sized in
     split ! $ split ! $ move ! (2 ∷ []) $ fsplit ! $ fsplit ! $ keep ! (1 ∷ 3 ∷ 4 ∷ []) $
-    enter ! 𝓣.C 𝓣.Λ fn (vptr hp.0 hp.1 ∷ vint w64 n ∷ vint w64 s ∷ []) Post $ alloc_all ! (λ l.
+    enter ! _ _ _ _ _ $ alloc_all ! (λ l.
     pass_all ! refl
     ((tt, tt), ((tt, record { fits = are.1.0.1 }), ((tt, record { fits = are.1.1.0.1 }), tt))) $
     let Ev = env fn.locals l in

@@ -23,16 +23,14 @@ use Rattle.thread_local_bucket_pointers.specs.Slots.{slot_value, stride, value_o
 use Rattle.thread_local_bucket_pointers.proofs.Slots.{IsSlotIn, flags_of, slot_of, value_of, slot_flag}
 use Rattle.thread_local_bucket_pointers.proofs.Flags.{uncapped}
 use Rattle.thread_local_bucket_pointers.specs.contracts.bucket_pointer.BucketPointer as one_pointer
-use Rattle.thread_local_bucket_pointers.specs.contracts.bucket_pointer.BucketPointer.get_mut.{ended, clauses}
-use Rattle.thread_local_bucket_pointers.specs.contracts.bucket_pointer.BucketPointer.get_mut.Key.{name as #self}
+use Rattle.thread_local_bucket_pointers.specs.contracts.bucket_pointer.BucketPointer.get_mut.{ended, clauses, Key.name as #self}
 use Rattle.thread_local_bucket_pointers.proofs.PointerSteps.{pointer_val, told, Again, pointer_slot}
 use Rattle.thread_local_bucket_pointers.proofs.bucket_pointer.BucketPointer.get_mut.Statement.{statement}
 use Rattle.thread_local_bucket_pointers.proofs.bucket_pointer.BucketPointer.get_mut.Code as code
 
 pub get_mut_spec : {M : Type 1} → statement M
 get_mut_spec 𝓤 𝓛 𝓜 𝓡 wired T L =
-    let H = 𝓛.H in
-    let 𝓣 = tables 𝓤 H 𝓜 𝓡 𝓡.env in
+    let 𝓣 = tables 𝓤 𝓛.H 𝓜 𝓡 𝓡.env in
     let R : RattleType = param 0 T in
     let PointerRow : RattleType = one_pointer.the_row R in
     let En = ended T in
@@ -43,11 +41,8 @@ get_mut_spec 𝓤 𝓛 𝓜 𝓡 wired T L =
     let self = RefMutOf (0 ∷ []) tt row (λ _. tt) in
     let hs : Stays En.signature.params En.kept =
     (stay_dropped self no, (stay_dropped (plain (λ _. usize)) yes, tt)) in
-    proved 𝓛 En hs c 𝓜 𝓡 (
-      Goes-spent_ref 𝓛 2 (0 ∷ []) tt row,
-      (Goes-dropped 𝓛 2 (plain (λ _. usize)) yes (λ κs x f. refl), tt),
-    )
-    (#self inst) fn (code.unfolded 𝓤 H 𝓜 𝓡 wired (T, tt))
+    proved 𝓛 En hs c 𝓜 𝓡 (Goes-spent_ref 𝓛 2 (0 ∷ []) tt row, (Goes-dropped 𝓛 2 (plain (λ _. usize)) yes (λ κs x f. refl), tt))
+    (#self inst) fn (code.unfolded 𝓤 𝓛.H 𝓜 𝓡 wired (T, tt))
     (λ κs. (mut_vals, (uint_vals w64, tt)))
     (λ κs. (mut_Tells (named 0) κs.0 PointerRow, (uint_Tells w64, tt))) (λ κs qs bounds a gh are.
     let y : (walk_of 𝓛 En hs c).Ghost = (
@@ -77,7 +72,7 @@ get_mut_spec 𝓤 𝓛 𝓜 𝓡 wired T L =
     let x : T.Denot = (value_of s full).0 in
     let lies : s ≡ Some x = (value_of s full).1 in
     split ! $ split ! $ move ! (2 ∷ []) $ fsplit ! $ fsplit3 ! $ keep ! (1 ∷ 2 ∷ 4 ∷ 5 ∷ []) $
-    enter ! 𝓣.C 𝓣.Λ fn (vptr b' o' ∷ vint w64 j ∷ []) Post $ alloc_all ! (λ l.
+    enter ! _ _ _ _ _ $ alloc_all ! (λ l.
     pass_all ! refl ((tt, tt), ((tt, record { fits = are.1.0.1 }), tt)) $
     let Ev = env fn.locals l in
     opens ! tt PointerRow b' o' (λ us. move ! (1 ∷ []) $

@@ -5,23 +5,21 @@ use Rattle.thread_local_model.proofs.Names.{and_then, returns, enter, alloc_all,
 use Rattle.thread_local_model.proofs.Names.{agg, tables, fact, fact_i, RattleType, null_ptr, nothing, param, layouts}
 use Rattle.thread_local_model.proofs.Names.{alive, walk_of, proved, leaves}
 use Rattle.thread_local_bucket_pointers.specs.contracts.bucket_pointer.BucketPointer as one_pointer
-use Rattle.thread_local_bucket_pointers.specs.contracts.bucket_pointer.BucketPointer.null.{ended, clauses}
-use Rattle.thread_local_bucket_pointers.specs.contracts.bucket_pointer.BucketPointer.null.Key.{name as #self}
+use Rattle.thread_local_bucket_pointers.specs.contracts.bucket_pointer.BucketPointer.null.{ended, clauses, Key.name as #self}
 use Rattle.thread_local_bucket_pointers.proofs.PointerSteps.{pointer_val, pointer_good, FieldsType, made}
 use Rattle.thread_local_bucket_pointers.proofs.bucket_pointer.BucketPointer.null.Statement.{statement}
 use Rattle.thread_local_bucket_pointers.proofs.bucket_pointer.BucketPointer.null.Code as code
 
 pub null_spec : {M : Type 1} → statement M
 null_spec 𝓤 𝓛 𝓜 𝓡 wired T L =
-    let H = 𝓛.H in
-    let 𝓣 = tables 𝓤 H 𝓜 𝓡 𝓡.env in
+    let 𝓣 = tables 𝓤 𝓛.H 𝓜 𝓡 𝓡.env in
     let R : RattleType = param 0 T in
     let PointerRow : RattleType = one_pointer.the_row R in
     let En = ended T in
     let c = clauses T 𝓛 𝓜.mem 𝓡.returns in
     let inst = layouts (a_type ∷ []) (T, tt) in
     let fn = inst_fn inst code.function in
-    proved 𝓛 En tt c 𝓜 𝓡 tt (#self inst) fn (code.unfolded 𝓤 H 𝓜 𝓡 wired (T, tt)) (λ κs. tt)
+    proved 𝓛 En tt c 𝓜 𝓡 tt (#self inst) fn (code.unfolded 𝓤 𝓛.H 𝓜 𝓡 wired (T, tt)) (λ κs. tt)
     (λ κs. tt) (λ κs qs bounds a gh are.
     let y : (walk_of 𝓛 En tt c).Ghost = ((κs, qs, bounds, a, tt), gh) in
     let Post : Val → SProp 𝓤 = (walk_of 𝓛 En tt c).post y in

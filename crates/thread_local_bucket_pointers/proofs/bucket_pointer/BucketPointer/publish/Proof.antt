@@ -20,16 +20,14 @@ use Rattle.thread_local_bucket_pointers.proofs.Slots.{IsSlotIn, Change, flags_of
 use Rattle.thread_local_bucket_pointers.proofs.Flags.{uncapped}
 use Rattle.thread_local_bucket_pointers.specs.PointerOwns.{pointer_owns}
 use Rattle.thread_local_bucket_pointers.specs.contracts.bucket_pointer.BucketPointer as one_pointer
-use Rattle.thread_local_bucket_pointers.specs.contracts.bucket_pointer.BucketPointer.publish.{ended, clauses}
-use Rattle.thread_local_bucket_pointers.specs.contracts.bucket_pointer.BucketPointer.publish.Key.{name as #self}
+use Rattle.thread_local_bucket_pointers.specs.contracts.bucket_pointer.BucketPointer.publish.{ended, clauses, Key.name as #self}
 use Rattle.thread_local_bucket_pointers.proofs.PointerSteps.{pointer_val, told, Again, pointer_slot, pointer_again}
 use Rattle.thread_local_bucket_pointers.proofs.bucket_pointer.BucketPointer.publish.Statement.{statement}
 use Rattle.thread_local_bucket_pointers.proofs.bucket_pointer.BucketPointer.publish.Code as code
 
 pub publish_spec : {M : Type 1} → statement M
 publish_spec 𝓤 𝓛 𝓜 𝓡 wired T L =
-    let H = 𝓛.H in
-    let 𝓣 = tables 𝓤 H 𝓜 𝓡 𝓡.env in
+    let 𝓣 = tables 𝓤 𝓛.H 𝓜 𝓡 𝓡.env in
     let R : RattleType = param 0 T in
     let PointerRow : RattleType = one_pointer.the_row R in
     let En = ended T in
@@ -39,16 +37,13 @@ publish_spec 𝓤 𝓛 𝓜 𝓡 wired T L =
     let number = plain (λ _. usize) in let goes = Goes-dropped 𝓛 2 number yes (λ κs x f. refl) in
     let hs : Stays En.signature.params En.kept = (
       stay_ref (0 ∷ []) tt (plain (λ _. PointerRow)),
-      (
-        stay_dropped number yes,
-        (stay_dropped number yes, (stay_dropped (plain (λ _. R)) no, tt)),
-      ),
+      (stay_dropped number yes, (stay_dropped number yes, (stay_dropped (plain (λ _. R)) no, tt))),
     ) in
     proved_at 𝓛 En hs c 𝓜 𝓡 (
       Goes-ref 𝓛 2 0 tt (plain (λ _. PointerRow)),
       (goes, (goes, (Goes-dropped 𝓛 2 (plain (λ _. R)) no (λ κs x f. refl), tt))),
     )
-    (#self inst) fn (code.unfolded 𝓤 H 𝓜 𝓡 wired (T, tt)) (λ y are.
+    (#self inst) fn (code.unfolded 𝓤 𝓛.H 𝓜 𝓡 wired (T, tt)) (λ y are.
     let κs = y.0.0 in
     let qs = y.0.1 in
     let a = y.0.3 in
@@ -80,15 +75,12 @@ publish_spec 𝓤 𝓛 𝓜 𝓡 wired T L =
     keep ! (4 ∷ 5 ∷ 7 ∷ 1 ∷ 8 ∷ []) $
     rewrite ! 3 (λ (ws : List Val). ‵ (R.own_val new ws)) got.1 refl $
     let us : List Val = vptr b' o' ∷ vint w64 j ∷ vint w64 w ∷ vy ∷ [] in
-    let Run : List Val → SProp 𝓤 = λ ws. WpFn 𝓤 H 𝓣.C 𝓣.Λ fn ws Post in
+    let Run : List Val → SProp 𝓤 = λ ws. WpFn 𝓤 𝓛.H 𝓣.C 𝓣.Λ fn ws Post in
     suffices ! (Run us) (subst (λ (ws : List Val). ent 𝓤 (Run us) (Run ws))
     (sym (λ i. are.0.0 i ++ (are.1.0.0 i ++ (are.1.1.0.0 i ++ (got.1 i ++ [])))))
     (id⊢ 𝓤 (Run us))) $
     enter ! 𝓣.C 𝓣.Λ fn us Post $ alloc_all ! (λ l.
-    pass_all ! refl (
-      (tt, tt),
-      ((tt, record { fits = are.1.0.1 }), ((tt, record { fits = are.1.1.0.1 }), (got.2, tt))),
-    ) $
+    pass_all ! refl ((tt, tt), ((tt, record { fits = are.1.0.1 }), ((tt, record { fits = are.1.1.0.1 }), (got.2, tt)))) $
     let Ev = env fn.locals l in
     opens ! tt PointerRow b' o' (λ ts. move ! (1 ∷ []) $
     peeks ! PointerRow _ (shows 𝓛 PointerRow) h ts (λ known. fsplit ! $ move ! (1 ∷ []) $
@@ -151,7 +143,7 @@ publish_spec 𝓤 𝓛 𝓜 𝓡 wired T L =
     fjoin ! $ nothing ! $ fjoin ! $ nothing ! $ fjoin ! $ move ! (1 ∷ 0 ∷ []) $ fjoin ! $
     move ! (1 ∷ 2 ∷ []) $ join ! $
     use0 𝓛 (raw (fact 𝓤 (h'.slots ≡ h'.slots))) (fact_i 𝓤 (h'.slots ≡ h'.slots) (emp 𝓤) refl) $
-    feq_i ! (List Val) (vunit ∷ []) (vunit ∷ []) refl $
+    feq_i ! _ (vunit ∷ []) _ refl $
     returns ! (look_at ! 0 refl) $ free_all ! refl $ keep ! (2 ∷ 3 ∷ 0 ∷ 1 ∷ []) $
     by !
     (leaves 𝓛 En hs c y vunit tt (h', (tt, (tt, (tt, tt)))) (tt, (tt, (tt, (tt, tt))))))))))))))

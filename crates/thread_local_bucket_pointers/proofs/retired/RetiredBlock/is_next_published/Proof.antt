@@ -22,8 +22,7 @@ use Rattle.thread_local_bucket_pointers.specs.Slots.{slot_value, value_words, fl
 use Rattle.thread_local_bucket_pointers.proofs.Slots.{flags_of}
 use Rattle.thread_local_bucket_pointers.specs.Retired.{retired_owns, rest}
 use Rattle.thread_local_bucket_pointers.specs.contracts.retired.RetiredBlock as retired
-use Rattle.thread_local_bucket_pointers.specs.contracts.retired.RetiredBlock.is_next_published.{ended, clauses}
-use Rattle.thread_local_bucket_pointers.specs.contracts.retired.RetiredBlock.is_next_published.Key.{name as #self}
+use Rattle.thread_local_bucket_pointers.specs.contracts.retired.RetiredBlock.is_next_published.{ended, clauses, Key.name as #self}
 use Rattle.thread_local_bucket_pointers.proofs.Fields.{block_val}
 use Rattle.thread_local_bucket_pointers.proofs.RetiredBlocks.{told, Shown, Again, next_word, looked}
 use Rattle.thread_local_bucket_pointers.proofs.retired.RetiredBlock.is_next_published.Statement.{statement}
@@ -31,8 +30,7 @@ use Rattle.thread_local_bucket_pointers.proofs.retired.RetiredBlock.is_next_publ
 
 pub is_next_published_spec : {M : Type 1} → statement M
 is_next_published_spec 𝓤 𝓛 𝓜 𝓡 wired T Al L _ ga da dd _ _ =
-    let H = 𝓛.H in
-    let 𝓣 = tables 𝓤 H 𝓜 𝓡 𝓡.env in
+    let 𝓣 = tables 𝓤 𝓛.H 𝓜 𝓡 𝓡.env in
     let R : RattleType = param 0 T in
     let Z : RattleType = param 1 Al in
     let Lv : RattleType = retired.the_row R Z ga in
@@ -45,21 +43,12 @@ is_next_published_spec 𝓤 𝓛 𝓜 𝓡 wired T Al L _ ga da dd _ _ =
       (stay_dropped number yes, (stay_dropped number yes, tt)),
     ) in
     proved 𝓛 En hs c 𝓜 𝓡 (Goes-ref 𝓛 3 0 tt (plain (λ _. Lv)), (goes, (goes, tt))) (#self inst) fn
-    (code.unfolded 𝓤 H 𝓜 𝓡 wired (T, (Al, tt)) da dd)
+    (code.unfolded 𝓤 𝓛.H 𝓜 𝓡 wired (T, (Al, tt)) da dd)
     (λ κs. (mut_vals, (uint_vals w64, (uint_vals w64, tt))))
     (λ κs. (mut_Tells (named 0) κs.0 Lv, (uint_Tells w64, (uint_Tells w64, tt))))
     (λ κs qs bounds a gh are.
     let y : (walk_of 𝓛 En hs c).Ghost = (
-      (
-        κs,
-        qs,
-        bounds,
-        a,
-        (
-          vptr a.0.ref_ptr.0 a.0.ref_ptr.1 ∷ [],
-          (vint w64 a.1.0 ∷ [], (vint w64 a.1.1.0 ∷ [], tt)),
-        ),
-      ),
+      (κs, qs, bounds, a, (vptr a.0.ref_ptr.0 a.0.ref_ptr.1 ∷ [], (vint w64 a.1.0 ∷ [], (vint w64 a.1.1.0 ∷ [], tt)))),
       gh,
     ) in
     let Post : Val → SProp 𝓤 = (walk_of 𝓛 En hs c).post y in
@@ -84,7 +73,7 @@ is_next_published_spec 𝓤 𝓛 𝓜 𝓡 wired T Al L _ ga da dd _ _ =
     heard ! (i ≡ flag_word_at R (h.gone + length cs) (j / 64)) (λ numbered.
     let near : 0 < length cs = asked.1 in
     split ! $ split ! $ move ! (2 ∷ []) $ fsplit ! $ fsplit3 ! $ keep ! (1 ∷ 2 ∷ 4 ∷ 5 ∷ []) $
-    enter ! 𝓣.C 𝓣.Λ fn (vptr b' o' ∷ vint w64 j ∷ vint w64 i ∷ []) Post $ alloc_all ! (λ l.
+    enter ! _ _ _ _ _ $ alloc_all ! (λ l.
     pass_all ! refl
     ((tt, tt), ((tt, record { fits = are.1.0.1 }), ((tt, record { fits = are.1.1.0.1 }), tt))) $
     let Ev = env fn.locals l in
@@ -131,13 +120,13 @@ is_next_published_spec 𝓤 𝓛 𝓜 𝓡 wired T Al L _ ga da dd _ _ =
     use1 𝓛 (‵ (retired_owns R token p k ds)) (looked 𝓛 R token p j cs near) $
     rewrite ! 2 Cell (sym seen) refl $ let h' : Lv.Denot = record { at = p; marker = h.marker; heap = h.heap; slots = ds; gone = k } in
     move ! (1 ∷ []) $ fjoin ! $ move ! (1 ∷ []) $ closes ! tt Lv h' us b' o' $
-    feq_i ! (List Val) (vptr b' o' ∷ []) (vptr b' o' ∷ []) refl $ fjoin3 ! $ nothing ! $ nothing ! $
+    feq_i ! _ (vptr b' o' ∷ []) _ refl $ fjoin3 ! $ nothing ! $ nothing ! $
     fjoin ! $ nothing ! $ fjoin ! $ move ! (1 ∷ 0 ∷ []) $ fjoin ! $ move ! (1 ∷ 2 ∷ []) $ join ! $
     let Told : Type 0 = r ≡ is_some s in
     let After : Type 0 = (h.heap ≡ h.heap) × (ds ≡ ds) × (k ≡ (if r then h.gone else h.gone + 1)) in
     use0 𝓛 (raw (fact 𝓤 After))
     (fact_i 𝓤 After (emp 𝓤) (refl, refl, ap (λ (i : ℕ). if r then i else i + 1) asked.0)) $
     use0 𝓛 (raw (fact 𝓤 Told)) (fact_i 𝓤 Told (emp 𝓤) refl) $ join ! $
-    feq_i ! (List Val) (vbool r ∷ []) (vbool r ∷ []) refl $
+    feq_i ! _ (vbool r ∷ []) _ refl $
     returns ! (look_at ! 0 refl) $ free_all ! refl $ keep ! (2 ∷ 3 ∷ 0 ∷ 1 ∷ []) $
     by ! (leaves 𝓛 En hs c y (vbool r) r (h', (tt, (tt, tt))) (tt, (tt, (tt, tt))))))))))))

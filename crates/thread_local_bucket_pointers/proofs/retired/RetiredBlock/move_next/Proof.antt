@@ -20,8 +20,7 @@ use Rattle.thread_local_bucket_pointers.proofs.Flags.{uncapped}
 use Rattle.thread_local_bucket_pointers.proofs.Slots.{value_of}
 use Rattle.thread_local_bucket_pointers.specs.Retired.{retired_owns, rest}
 use Rattle.thread_local_bucket_pointers.specs.contracts.retired.RetiredBlock as retired
-use Rattle.thread_local_bucket_pointers.specs.contracts.retired.RetiredBlock.move_next.{ended, clauses}
-use Rattle.thread_local_bucket_pointers.specs.contracts.retired.RetiredBlock.move_next.Key.{name as #self}
+use Rattle.thread_local_bucket_pointers.specs.contracts.retired.RetiredBlock.move_next.{ended, clauses, Key.name as #self}
 use Rattle.thread_local_bucket_pointers.proofs.Fields.{block_val}
 use Rattle.thread_local_bucket_pointers.proofs.RetiredBlocks.{told, Emptied, next_slot}
 use Rattle.thread_local_bucket_pointers.proofs.retired.RetiredBlock.move_next.Statement.{statement}
@@ -29,8 +28,7 @@ use Rattle.thread_local_bucket_pointers.proofs.retired.RetiredBlock.move_next.Co
 
 pub move_next_spec : {M : Type 1} → statement M
 move_next_spec 𝓤 𝓛 𝓜 𝓡 wired T Al L _ ga da dd _ _ =
-    let H = 𝓛.H in
-    let 𝓣 = tables 𝓤 H 𝓜 𝓡 𝓡.env in
+    let 𝓣 = tables 𝓤 𝓛.H 𝓜 𝓡 𝓡.env in
     let R : RattleType = param 0 T in
     let Z : RattleType = param 1 Al in
     let Lv : RattleType = retired.the_row R Z ga in
@@ -39,11 +37,8 @@ move_next_spec 𝓤 𝓛 𝓜 𝓡 wired T Al L _ ga da dd _ _ =
     let inst = bounded (a_type ∷ a_type ∷ []) (T, (Al, tt)) (dcons da (dcons dd dnil)) in let fn = inst_fn inst code.function in
     let hs : Stays En.signature.params En.kept =
     (stay_ref (0 ∷ []) tt (plain (λ _. Lv)), (stay_dropped (plain (λ _. usize)) yes, tt)) in
-    proved 𝓛 En hs c 𝓜 𝓡 (
-      Goes-ref 𝓛 3 0 tt (plain (λ _. Lv)),
-      (Goes-dropped 𝓛 3 (plain (λ _. usize)) yes (λ κs x f. refl), tt),
-    )
-    (#self inst) fn (code.unfolded 𝓤 H 𝓜 𝓡 wired (T, (Al, tt)) da dd)
+    proved 𝓛 En hs c 𝓜 𝓡 (Goes-ref 𝓛 3 0 tt (plain (λ _. Lv)), (Goes-dropped 𝓛 3 (plain (λ _. usize)) yes (λ κs x f. refl), tt))
+    (#self inst) fn (code.unfolded 𝓤 𝓛.H 𝓜 𝓡 wired (T, (Al, tt)) da dd)
     (λ κs. (mut_vals, (uint_vals w64, tt))) (λ κs. (mut_Tells (named 0) κs.0 Lv, (uint_Tells w64, tt))) (λ κs qs bounds a gh are.
     let y : (walk_of 𝓛 En hs c).Ghost = (
       (κs, qs, bounds, a, (vptr a.0.ref_ptr.0 a.0.ref_ptr.1 ∷ [], (vint w64 a.1.0 ∷ [], tt))),
@@ -71,7 +66,7 @@ move_next_spec 𝓤 𝓛 𝓜 𝓡 wired T Al L _ ga da dd _ _ =
     let x : T.Denot = (value_of s full).0 in
     let lies : s ≡ Some x = (value_of s full).1 in
     split ! $ split ! $ move ! (2 ∷ []) $ fsplit ! $ fsplit3 ! $ keep ! (1 ∷ 2 ∷ 4 ∷ 5 ∷ []) $
-    enter ! 𝓣.C 𝓣.Λ fn (vptr b' o' ∷ vint w64 j ∷ []) Post $ alloc_all ! (λ l.
+    enter ! _ _ _ _ _ $ alloc_all ! (λ l.
     pass_all ! refl ((tt, tt), ((tt, record { fits = are.1.0.1 }), tt)) $
     let Ev = env fn.locals l in
     opens ! tt Lv b' o' (λ us. move ! (1 ∷ []) $ peeks ! Lv _ (shows 𝓛 Lv) h us (λ known. fsplit ! $
@@ -114,7 +109,7 @@ move_next_spec 𝓤 𝓛 𝓜 𝓡 wired T Al L _ ga da dd _ _ =
     let h' : Lv.Denot =
     record { at = p; marker = h.marker; heap = h.heap; slots = rest cs; gone = j + 1 } in
     move ! (1 ∷ []) $ fjoin ! $ move ! (1 ∷ []) $ closes ! tt Lv h' us b' o' $
-    feq_i ! (List Val) (vptr b' o' ∷ []) (vptr b' o' ∷ []) refl $ fjoin3 ! $ nothing ! $ nothing ! $
+    feq_i ! _ (vptr b' o' ∷ []) _ refl $ fjoin3 ! $ nothing ! $ nothing ! $
     fjoin ! $ move ! (1 ∷ 0 ∷ []) $ fjoin ! $ move ! (1 ∷ 3 ∷ []) $ join ! $
     let After : Type 0 = (h.heap ≡ h.heap) × (h'.slots ≡ h'.slots) × (h'.gone ≡ h.gone + 1) in
     use0 𝓛 (raw (fact 𝓤 After))
