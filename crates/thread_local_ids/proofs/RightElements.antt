@@ -36,13 +36,13 @@ whole = (some full_share, [])
 no_two : OpDef telling.op whole whole → ⊥
 no_two d = not-OpDef-full_share full_share d.1.0.0
 
-abbrev Row : Type 0
+abbrev pub Row : Type 0
 Row = ℕ → Option Element
 
-abbrev at_key : Option Element → Option Element → Part {0, 0} (Option Element)
+abbrev pub at_key : Option Element → Option Element → Part {0, 0} (Option Element)
 at_key = Opt.op telling.op
 
-at_each_key : (f g h : Row) → ((j : ℕ) → h j ∈ at_key (f j) (g j)) → h ∈ (keyed telling).op f g
+pub at_each_key : (f g h : Row) → ((j : ℕ) → h j ∈ at_key (f j) (g j)) → h ∈ (keyed telling).op f g
 at_each_key f g h = (mem-op_iff {A = λ (_ : ℕ). Option Element} (λ _. at_key) {f = f} {g = g} {h = h}).1
 
 abbrev one_at : ℕ → Row

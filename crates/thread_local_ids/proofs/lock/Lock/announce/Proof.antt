@@ -1,6 +1,6 @@
 -- `announce` is one compare and exchange of TAKEN for AWAITED: the right to the value stays where it
 -- is.
-use Rattle.thread_local_model.proofs.Names.{ℕ, ◌+◌, List, [], ◌∷◌, refl, lit<, w64, dcons, dnil, a_type, named, Val}
+use Rattle.thread_local_model.proofs.Names.{ℕ, ◌+◌, [], ◌∷◌, refl, lit<, w64, dcons, dnil, a_type, named, Val}
 use Rattle.thread_local_model.proofs.Names.{vunit, vint, vptr, inst_fn, SProp, wand, via, apply∗, Lft, Share, Fml}
 use Rattle.thread_local_model.proofs.Names.{ftrue, fsep, flft, fbor, ‵, raw, ◌⊛◌, some, later, mean, at_ret, ◌$◌, ◌∵◌}
 use Rattle.thread_local_model.proofs.Names.{ !, qed, by, move, keep, drop, split, join, fsplit, fjoin, fpick, pick}
@@ -13,8 +13,7 @@ use Rattle.thread_local_model.proofs.Names.{walk_of, Goes-dropped, proved, leave
 use Rattle.std.proofs.Math.Nat.{suc-ne-zero}
 use Rattle.thread_local_ids.specs.Locking.{Fitting, lock_invariant}
 use Rattle.thread_local_ids.specs.contracts.lock.Lock as lock
-use Rattle.thread_local_ids.specs.contracts.lock.Lock.announce.{ended, clauses}
-use Rattle.thread_local_ids.specs.contracts.lock.Lock.announce.Key.{name as #self}
+use Rattle.thread_local_ids.specs.contracts.lock.Lock.announce.{ended, clauses, Key.name as #self}
 use Rattle.thread_local_ids.proofs.Calls.{exchanges}
 use Rattle.thread_local_ids.proofs.Steps.{gained, exchanged}
 use Rattle.thread_local_ids.proofs.lock.Lock.announce.Statement.{statement}
@@ -46,7 +45,7 @@ announce_spec 𝓤 𝓛 𝓜 𝓡 wired X L g d _ =
     qed 𝓛 (((‵ (flft κ q) ⊛ ‵ others) ⊛ ‵ (owns (types_at En.signature.params κs) a y.0.4))
     ∷ raw ((c κs a).requires gh) ∷ []) ∵
     split ! $ split ! $ move ! (2 ∷ []) $ fsplit ! $ fsplit ! $ keep ! (1 ∷ 3 ∷ 4 ∷ []) $
-    enter ! 𝓣.C 𝓣.Λ fn (vptr b o ∷ []) Post $ alloc_all ! (λ l. pass_all ! refl ((tt, tt), tt) $ let Ev = env fn.locals l in
+    enter ! _ _ _ _ _ $ alloc_all ! (λ l. pass_all ! refl ((tt, tt), tt) $ let Ev = env fn.locals l in
     unhide ! $ fpick ! (λ t. let J : Fml = fbor t.0 (lock_invariant R ok b o t) in fsplit ! $ move ! (0 ∷ 2 ∷ []) $
     use2 𝓛 (later (some (λ (s : Share).
     ‵ (flft t.0 s) ⊛ raw (wand 𝓤 (𝓛.A.lft t.0 s) (H.⇛ (𝓛.A.lft κ q))))))
@@ -68,6 +67,6 @@ announce_spec 𝓤 𝓛 𝓜 𝓡 wired X L g d _ =
     fsplit ! $ move ! (1 ∷ []) $ drop ! $ move ! (0 ∷ 1 ∷ []) $
     use2 𝓛 (later (‵ (flft κ q))) (apply∗ 𝓤 (𝓛.A.lft t.0 s) (H.⇛ (𝓛.A.lft κ q))) $ await ! tt $
     join ! $
-    nothing ! $ feq_i ! (List Val) (vunit ∷ []) (vunit ∷ []) refl $ nothing ! $ nothing ! $ fjoin ! $
+    nothing ! $ feq_i ! _ (vunit ∷ []) _ refl $ nothing ! $ nothing ! $ fjoin ! $
     returns ! (look_at ! 0 refl) $ free_all ! refl $ keep ! (3 ∷ 0 ∷ 1 ∷ 2 ∷ []) $
     by ! (leaves 𝓛 En hs c y vunit tt (tt, tt) (tt, tt))))))))

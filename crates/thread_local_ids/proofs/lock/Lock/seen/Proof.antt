@@ -1,5 +1,5 @@
 -- `seen` is one load of the word: the right to the value stays where it is.
-use Rattle.thread_local_model.proofs.Names.{ℕ, ◌+◌, ◌^◌, List, [], ◌∷◌, refl, lit<, w64, dcons, dnil, a_type, named, Val}
+use Rattle.thread_local_model.proofs.Names.{ℕ, ◌+◌, ◌^◌, [], ◌∷◌, refl, lit<, w64, dcons, dnil, a_type, named, Val}
 use Rattle.thread_local_model.proofs.Names.{vint, vptr, inst_fn, SProp, wand, via, apply∗, Lft, Share, Fml}
 use Rattle.thread_local_model.proofs.Names.{ftrue, fsep, flft, ‵, raw, ◌⊛◌, some, later, mean, at_ret, ◌$◌, ◌∵◌}
 use Rattle.thread_local_model.proofs.Names.{ !, qed, by, move, keep, split, join, fsplit, fjoin, fpick, pick}
@@ -12,8 +12,7 @@ use Rattle.thread_local_model.proofs.Names.{walk_of, Goes-dropped, proved, leave
 use Rattle.std.proofs.raw_atomic.Calls.{loads, seq_cst}
 use Rattle.thread_local_ids.specs.Locking.{Fitting}
 use Rattle.thread_local_ids.specs.contracts.lock.Lock as lock
-use Rattle.thread_local_ids.specs.contracts.lock.Lock.seen.{ended, clauses}
-use Rattle.thread_local_ids.specs.contracts.lock.Lock.seen.Key.{name as #self}
+use Rattle.thread_local_ids.specs.contracts.lock.Lock.seen.{ended, clauses, Key.name as #self}
 use Rattle.thread_local_ids.proofs.Steps.{looked}
 use Rattle.thread_local_ids.proofs.lock.Lock.seen.Statement.{statement}
 use Rattle.thread_local_ids.proofs.lock.Lock.seen.Code as code
@@ -44,7 +43,7 @@ seen_spec 𝓤 𝓛 𝓜 𝓡 wired X L g d _ =
     qed 𝓛 (((‵ (flft κ q) ⊛ ‵ others) ⊛ ‵ (owns (types_at En.signature.params κs) a y.0.4))
     ∷ raw ((c κs a).requires gh) ∷ []) ∵
     split ! $ split ! $ move ! (2 ∷ []) $ fsplit ! $ fsplit ! $ keep ! (1 ∷ 3 ∷ 4 ∷ []) $
-    enter ! 𝓣.C 𝓣.Λ fn (vptr b o ∷ []) Post $ alloc_all ! (λ l. pass_all ! refl ((tt, tt), tt) $ let Ev = env fn.locals l in
+    enter ! _ _ _ _ _ $ alloc_all ! (λ l. pass_all ! refl ((tt, tt), tt) $ let Ev = env fn.locals l in
     unhide ! $ fpick ! (λ t. fsplit ! $ move ! (0 ∷ 2 ∷ []) $
     use2 𝓛 (later (some (λ (s : Share).
     ‵ (flft t.0 s) ⊛ raw (wand 𝓤 (𝓛.A.lft t.0 s) (H.⇛ (𝓛.A.lft κ q))))))
@@ -65,6 +64,6 @@ seen_spec 𝓤 𝓛 𝓜 𝓡 wired X L g d _ =
     fsplit ! $ move ! (0 ∷ 2 ∷ []) $
     use2 𝓛 (later (‵ (flft κ q))) (apply∗ 𝓤 (𝓛.A.lft t.0 s) (H.⇛ (𝓛.A.lft κ q))) $ await ! tt $
     nothing ! $ nothing ! $ fjoin ! $ move ! (1 ∷ 3 ∷ []) $ join ! $ nothing ! $
-    flt_i ! n (2 ^ 64) fits $ feq_i ! (List Val) (vint w64 n ∷ []) (vint w64 n ∷ []) refl $ fjoin ! $
+    flt_i ! n (2 ^ 64) fits $ feq_i ! _ (vint w64 n ∷ []) _ refl $ fjoin ! $
     returns ! (look_at ! 0 refl) $ free_all ! refl $ keep ! (2 ∷ 3 ∷ 0 ∷ 1 ∷ []) $
     by ! (leaves 𝓛 En hs c y (vint w64 n) n (tt, tt) (tt, tt))))))))

@@ -1,5 +1,5 @@
 -- `sleep` parks on the word, and takes nothing out of the lock's invariant.
-use Rattle.thread_local_model.proofs.Names.{ℕ, ◌+◌, List, [], ◌∷◌, refl, lit<, w64, dcons, dnil, a_type, named, Val}
+use Rattle.thread_local_model.proofs.Names.{ℕ, ◌+◌, [], ◌∷◌, refl, lit<, w64, dcons, dnil, a_type, named, Val}
 use Rattle.thread_local_model.proofs.Names.{vunit, vint, vptr, inst_fn, SProp, wand, apply∗, Lft, Share, Fml, ftrue}
 use Rattle.thread_local_model.proofs.Names.{fsep, flft, ‵, raw, ◌⊛◌, some, later, mean, at_ret, ◌$◌, ◌∵◌, !, qed, by}
 use Rattle.thread_local_model.proofs.Names.{move, keep, group, fsplit3, split, split3, join, fsplit, fjoin, fpick}
@@ -14,8 +14,7 @@ use contract.BorrowLft.{◌⊑◌}
 use Rattle.std.specs.Sync.RawAtomic.{asks, always}
 use Rattle.thread_local_ids.specs.Locking.{Fitting}
 use Rattle.thread_local_ids.specs.contracts.lock.Lock as lock
-use Rattle.thread_local_ids.specs.contracts.lock.Lock.sleep.{ended, clauses}
-use Rattle.thread_local_ids.specs.contracts.lock.Lock.sleep.Key.{name as #self}
+use Rattle.thread_local_ids.specs.contracts.lock.Lock.sleep.{ended, clauses, Key.name as #self}
 use Rattle.thread_local_ids.proofs.Steps.{looked}
 use Rattle.thread_local_ids.proofs.Calls.{lent, parks}
 use Rattle.thread_local_ids.proofs.lock.Lock.sleep.Statement.{statement}
@@ -40,10 +39,7 @@ sleep_spec 𝓤 𝓛 𝓜 𝓡 wired X Z L laws g d g' d' _ may =
     (stay_dropped self yes, (stay_dropped waits yes, (stay_dropped number yes, tt))) in
     proved 𝓛 En hs c 𝓜 𝓡 (
       Goes-dropped 𝓛 4 self yes (λ κs x f. refl),
-      (
-        Goes-dropped 𝓛 4 waits yes (λ κs x f. refl),
-        (Goes-dropped 𝓛 4 number yes (λ κs x f. refl), tt),
-      ),
+      (Goes-dropped 𝓛 4 waits yes (λ κs x f. refl), (Goes-dropped 𝓛 4 number yes (λ κs x f. refl), tt)),
     )
     (#self inst) fn closed
     (λ κs. (shr_vals, (shr_vals, (uint_vals w64, tt))))
@@ -71,7 +67,7 @@ sleep_spec 𝓤 𝓛 𝓜 𝓡 wired X Z L laws g d g' d' _ may =
     keep ! (2 ∷ 0 ∷ []) $ heard ! (υ ⊑ Z.lives) (λ alive. split ! $ split3 ! $ move ! (2 ∷ []) $
     fsplit ! $ move ! (1 ∷ []) $ fsplit ! $ move ! (5 ∷ []) $ fsplit ! $ fsplit ! $
     move ! (2 ∷ []) $ fsplit ! $ fsplit ! $ keep ! (4 ∷ 8 ∷ 1 ∷ 9 ∷ 5 ∷ 7 ∷ []) $
-    enter ! 𝓣.C 𝓣.Λ fn (vptr b o ∷ hv ∷ vint w64 secs ∷ []) Post $ alloc_all ! (λ l.
+    enter ! _ _ _ _ _ $ alloc_all ! (λ l.
     pass_all ! refl ((tt, tt), ((tt, tt), ((tt, record { fits = are.1.1.0.1 }), tt))) $
     let Ev = env fn.locals l in
     unhide ! $ fpick ! (λ t. fsplit ! $ move ! (0 ∷ 2 ∷ []) $
@@ -99,7 +95,7 @@ sleep_spec 𝓤 𝓛 𝓜 𝓡 wired X Z L laws g d g' d' _ may =
     use2 𝓛 (later (‵ (flft κ q))) (apply∗ 𝓤 (𝓛.A.lft t.0 s) (H.⇛ (𝓛.A.lft κ q))) $ await ! tt $
     move ! (3 ∷ 1 ∷ []) $ fjoin ! $ move ! (3 ∷ 0 ∷ []) $ fjoin ! $ move ! (2 ∷ 0 ∷ []) $ join ! $
     move ! (1 ∷ 0 ∷ []) $ join ! $
-    nothing ! $ feq_i ! (List Val) (vunit ∷ []) (vunit ∷ []) refl $ nothing ! $ nothing ! $
+    nothing ! $ feq_i ! _ (vunit ∷ []) _ refl $ nothing ! $ nothing ! $
     fjoin ! $ nothing ! $ fjoin ! $ nothing ! $ fjoin ! $
     returns ! (look_at ! 0 refl) $ free_all ! refl $ keep ! (3 ∷ 0 ∷ 1 ∷ 2 ∷ []) $
     by ! (leaves 𝓛 En hs c y vunit tt (tt, (tt, (tt, tt))) (tt, (tt, (tt, tt)))))))))))

@@ -23,8 +23,7 @@ use Rattle.std.specs.contracts.option.Option as Opt
 use Rattle.thread_local_ids.specs.Locking.{Fitting, LockTurn, with_word, lock_invariant, guarding}
 use Rattle.thread_local_ids.specs.contracts.lock.Lock as lock
 use Rattle.thread_local_ids.specs.contracts.lock.LockGuard as guard
-use Rattle.thread_local_ids.specs.contracts.lock.Lock.take.{ended, clauses}
-use Rattle.thread_local_ids.specs.contracts.lock.Lock.take.Key.{name as #self}
+use Rattle.thread_local_ids.specs.contracts.lock.Lock.take.{ended, clauses, Key.name as #self}
 use Rattle.thread_local_ids.proofs.Calls.{exchanges}
 use Rattle.thread_local_ids.proofs.Steps.{gained, exchanged}
 use Rattle.thread_local_ids.proofs.Fields.{guard_of, FieldsType, made}
@@ -71,7 +70,7 @@ take_spec 𝓤 𝓛 𝓜 𝓡 wired X L g d _ =
     ∷ raw (fact 𝓤 _) ∷ raw (fact 𝓤 (new ≢ 0)) ∷ []) ∵
     keep ! (2 ∷ 0 ∷ []) $ heard ! (new ≢ 0) (λ taken. split ! $ split ! $ move ! (2 ∷ []) $
     fsplit ! $ fsplit ! $ keep ! (1 ∷ 3 ∷ 4 ∷ []) $
-    enter ! 𝓣.C 𝓣.Λ fn (vptr b o ∷ vint w64 new ∷ []) Post $ alloc_all ! (λ l.
+    enter ! _ _ _ _ _ $ alloc_all ! (λ l.
     pass_all ! refl ((tt, tt), ((tt, record { fits = are.1.0.1 }), tt)) $
     let Ev = env fn.locals l in
     let last : Body = tail (tail (tail (tail fn.body))) in

@@ -25,8 +25,7 @@ use Rattle.thread_local_ids.specs.Locking.{Fitting, fitting, lock_invariant, gua
 use Rattle.thread_local_ids.specs.contracts.lock.LockGuard as guard
 use Rattle.thread_local_ids.specs.contracts.lock.wake_if as waker
 use Rattle.thread_local_ids.proofs.lock.wake_if.Met as waker_met
-use Rattle.thread_local_ids.specs.contracts.lock.LockGuard.drop.{ended, clauses}
-use Rattle.thread_local_ids.specs.contracts.lock.LockGuard.drop.Key.{name as #self}
+use Rattle.thread_local_ids.specs.contracts.lock.LockGuard.drop.{ended, clauses, Key.name as #self}
 use Rattle.thread_local_ids.proofs.Steps.{released}
 use Rattle.thread_local_ids.proofs.Fields.{guard_of, typed, told}
 use Rattle.thread_local_ids.proofs.Guards.{placed}
@@ -70,7 +69,7 @@ drop_spec 𝓤 𝓛 𝓜 𝓡 wired X L g d d' _ _ =
     learn ! (λ inb.
     let at : p ≡ block_ptr b o = at_block p inb in
     rewrite ! 0 (λ (z : Ptr). ‵ (guard_owns β R ok z x)) at refl $
-    enter ! 𝓣.C 𝓣.Λ fn (guard_of p ∷ []) Post $ alloc_all ! (λ l. pass_all ! refl (typed p inb, tt) $ let Ev = env fn.locals l in
+    enter ! _ _ _ _ _ $ alloc_all ! (λ l. pass_all ! refl (typed p inb, tt) $ let Ev = env fn.locals l in
     fpick ! (λ t. let J : Fml = fbor t.0 (lock_invariant R ok b o t) in fsplit ! $ fsplit ! $ move ! (0 ∷ 3 ∷ []) $
     use2 𝓛 (later (some (λ (s : Share).
     ‵ (flft t.0 s) ⊛ raw (wand 𝓤 (𝓛.A.lft t.0 s) (H.⇛ (𝓛.A.lft β q))))))
@@ -104,8 +103,8 @@ drop_spec 𝓤 𝓛 𝓜 𝓡 wired X L g d d' _ _ =
     -- [the tokens]
     let j : wakes.Ghost = ((tt, tt, tt, (at-word, (n, tt)), (ptr_val at-word ∷ [], (vint w64 n ∷ [], tt))), tt) in
     nothing ! $ flt_i ! n (2 ^ 64) fits $
-    feq_i ! (List Val) (vint w64 n ∷ []) (vint w64 n ∷ []) refl $ fjoin ! $ fjoin ! $
-    feq_i ! (List Val) (ptr_val at-word ∷ []) (ptr_val at-word ∷ []) refl $ fjoin ! $ nothing ! $
+    feq_i ! _ (vint w64 n ∷ []) _ refl $ fjoin ! $ fjoin ! $
+    feq_i ! _ (ptr_val at-word ∷ []) _ refl $ fjoin ! $ nothing ! $
     join ! $ nothing ! $ move ! (1 ∷ 0 ∷ []) $ join ! $
     use1 𝓛 (raw (wakes.pre j)) (id⊢ 𝓤 (wakes.pre j)) $ first ! $ blocks ! $
     calls_at_last ! (fm 𝓛 𝓜 𝓡) wakes
@@ -120,6 +119,6 @@ drop_spec 𝓤 𝓛 𝓜 𝓡 wired X L g d d' _ _ =
     lands_last ! refl
     (subst (λ (w : Val). T (has_ty ty_unit w) × WT w) (sym (ap only e)) (tt, tt)) $
     exec ! 𝓣.C 𝓣.Λ Ev (Done fifth) (at_ret Ev Post) $ sets ! (of_opd ! (unit_lit !)) refl (tt, tt) $
-    nothing ! $ feq_i ! (List Val) (vunit ∷ []) (vunit ∷ []) refl $ nothing ! $ nothing ! $ fjoin ! $
+    nothing ! $ feq_i ! _ (vunit ∷ []) _ refl $ nothing ! $ nothing ! $ fjoin ! $
     returns ! (look_at ! 0 refl) $ free_all ! refl $ keep ! (3 ∷ 0 ∷ 1 ∷ 2 ∷ []) $
     by ! (leaves 𝓛 En hs c y vunit tt (tt, tt) (tt, tt)))))))))))))))

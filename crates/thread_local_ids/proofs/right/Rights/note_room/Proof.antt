@@ -11,7 +11,6 @@ use types.Run.{no_more, and_then, returns, enter}
 use types.ByLocal.{alloc_all, pass_all, free_all, look_at, get, sets}
 use types.Part.{agg}
 use contract.Monad.{fact}
-use contract.Running.{tables}
 use denote.Ref.{mut_vals, mut_Tells}
 use Rattle.thread_local_model.proofs.Names.{RefOf, shr_vals, shr_Tells, owns, types_at, split3}
 use denote.Signature.{plain}
@@ -37,7 +36,6 @@ pub note_room_spec : {M : Type 1} → statement M
 note_room_spec 𝓤 𝓛 𝓜 𝓡 wired =
     let c = f.clauses 𝓛 𝓜.mem 𝓡.returns in
     let W = walk_of 𝓛 f.ended stayed c in
-    let 𝓣 = tables 𝓤 𝓛.H 𝓜 𝓡 𝓡.env in
     proved 𝓛 f.ended stayed c 𝓜 𝓡 (
       Goes-ref 𝓛 2 0 tt (plain (λ _. R)),
       (Goes-dropped 𝓛 2 (RefOf (1 ∷ []) tt (plain (λ _. manager.the_row)) (λ _. tt)) yes (λ κs x w. refl), tt),

@@ -7,22 +7,20 @@ use Rattle.thread_local_model.proofs.Names.{alive, walk_of, proved, leaves}
 use Rattle.thread_local_ids.specs.contracts.token_list.TokenList as TokenList
 use Rattle.thread_local_ids.proofs.Made.{token_val}
 use Rattle.thread_local_ids.proofs.TokenListLaws.{list_made}
-use Rattle.thread_local_ids.specs.contracts.token_list.TokenList.new.{ended, clauses}
-use Rattle.thread_local_ids.specs.contracts.token_list.TokenList.new.Key.{name as #self}
+use Rattle.thread_local_ids.specs.contracts.token_list.TokenList.new.{ended, clauses, Key.name as #self}
 use Rattle.thread_local_ids.proofs.token_list.TokenList.new.Statement.{statement}
 use Rattle.thread_local_ids.proofs.token_list.TokenList.new.Code as code
 
 pub new_spec : {M : Type 1} → statement M
 new_spec 𝓤 𝓛 𝓜 𝓡 wired T L =
-    let H = 𝓛.H in
-    let 𝓣 = tables 𝓤 H 𝓜 𝓡 𝓡.env in
+    let 𝓣 = tables 𝓤 𝓛.H 𝓜 𝓡 𝓡.env in
     let R : RattleType = param 0 T in
     let S : RattleType = TokenList.the_row R in
     let En = ended T in
     let c = clauses T 𝓛 𝓜.mem 𝓡.returns in
     let inst = layouts (a_type ∷ []) (T, tt) in
     let fn = inst_fn inst code.function in
-    proved 𝓛 En tt c 𝓜 𝓡 tt (#self inst) fn (code.unfolded 𝓤 H 𝓜 𝓡 wired (T, tt)) (λ κs. tt)
+    proved 𝓛 En tt c 𝓜 𝓡 tt (#self inst) fn (code.unfolded 𝓤 𝓛.H 𝓜 𝓡 wired (T, tt)) (λ κs. tt)
     (λ κs. tt) (λ κs qs bounds a gh are.
     let y : (walk_of 𝓛 En tt c).Ghost = ((κs, qs, bounds, a, tt), gh) in
     let Post : Val → SProp 𝓤 = (walk_of 𝓛 En tt c).post y in

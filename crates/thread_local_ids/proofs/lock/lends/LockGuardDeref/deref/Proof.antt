@@ -20,8 +20,7 @@ use denote.Struct.Lending.{lent_out}
 use Rattle.std.specs.contracts.marker.PhantomData as marker
 use Rattle.thread_local_ids.specs.Locking.{offset, guard_shares}
 use Rattle.thread_local_ids.specs.contracts.lock.LockGuard as guard
-use Rattle.thread_local_ids.specs.contracts.lock.lends.LockGuardDeref.deref.{ended, clauses}
-use Rattle.thread_local_ids.specs.contracts.lock.lends.LockGuardDeref.deref.Key.{name as #self}
+use Rattle.thread_local_ids.specs.contracts.lock.lends.LockGuardDeref.deref.{ended, clauses, Key.name as #self}
 use Rattle.thread_local_ids.proofs.Fields.{guard_of, FieldsType, told, opened}
 use Rattle.thread_local_ids.proofs.Guards.{seen}
 use Rattle.thread_local_ids.proofs.lock.lends.LockGuardDeref.deref.Statement.{statement}
@@ -29,15 +28,14 @@ use Rattle.thread_local_ids.proofs.lock.lends.LockGuardDeref.deref.Code as code
 
 pub deref_spec : {M : Type 1} → statement M
 deref_spec 𝓤 𝓛 𝓜 𝓡 wired X L g d _ =
-    let H = 𝓛.H in
-    let 𝓣 = tables 𝓤 H 𝓜 𝓡 𝓡.env in
+    let 𝓣 = tables 𝓤 𝓛.H 𝓜 𝓡 𝓡.env in
     let R : RattleType = param 0 X in
     let En = ended X g d in
     let c = clauses X g d 𝓛 𝓜.mem 𝓡.returns in
     let LR = param_laws 0 X L in
     let inst = bounded (a_type ∷ []) (X, tt) (dcons d dnil) in
     let fn = inst_fn inst code.function in
-    let closed = code.unfolded 𝓤 H 𝓜 𝓡 wired (X, tt) d in
+    let closed = code.unfolded 𝓤 𝓛.H 𝓜 𝓡 wired (X, tt) d in
     let row = plain (λ κs. guard.the_row (named_lft 3 1 tt κs) R g) in
     let self = RefOf (0 ∷ []) tt row (λ _. tt) in
     let hs : Stays En.signature.params En.kept = (stay_dropped self yes, tt) in
@@ -63,7 +61,7 @@ deref_spec 𝓤 𝓛 𝓜 𝓡 wired X L g d _ =
     qed 𝓛 (((‵ (flft κ qs.0) ⊛ ‵ others) ⊛ ‵ (owns (types_at En.signature.params κs) a y.0.4))
     ∷ raw ((c κs a).requires gh) ∷ []) ∵
     split ! $ split ! $ move ! (2 ∷ []) $ fsplit ! $ fsplit ! $ keep ! (1 ∷ 3 ∷ 4 ∷ []) $
-    enter ! 𝓣.C 𝓣.Λ fn (vptr b o ∷ []) Post $ alloc_all ! (λ l. pass_all ! refl ((tt, tt), tt) $ let Ev = env fn.locals l in
+    enter ! _ _ _ _ _ $ alloc_all ! (λ l. pass_all ! refl ((tt, tt), tt) $ let Ev = env fn.locals l in
     use1 𝓛 (‵ (hidden_shr D κ (p, (tt, tt)) b o) ⊛ ‵ (fhide (guard_shares β R p x κ)))
     (lent_out 𝓛 (guard.struct ℓ R g)
     (guard.the_codes X.Denot R.coded (marker.the_row (ShrRef ℓ.mir ℓ.lft R)).coded)
@@ -89,7 +87,7 @@ deref_spec 𝓤 𝓛 𝓜 𝓡 wired X L g d _ =
     sets ! (of_opd ! (get ! refl)) refl (tt, tt) $
     rewrite ! 1 (λ (ws : List Val). ‵ (cell_at q D.mir ws b o)) (sym ev) refl $
     move ! (1 ∷ 0 ∷ 2 ∷ []) $ shuts ! tt D q (p, (tt, tt)) vs b o $
-    move ! (0 ∷ 3 ∷ []) $ join ! $ move ! (2 ∷ []) $ feq_i ! (List Val) (vptr pb e ∷ []) (vptr pb e ∷ []) refl $ fjoin ! $
+    move ! (0 ∷ 3 ∷ []) $ join ! $ move ! (2 ∷ []) $ feq_i ! _ (vptr pb e ∷ []) _ refl $ fjoin ! $
     use0 𝓛 (raw (fact 𝓤 (x ≡ x))) (fact_i 𝓤 (x ≡ x) (emp 𝓤) refl) $ nothing ! $ nothing ! $ fjoin ! $
     returns ! (look_at ! 0 refl) $ free_all ! refl $ keep ! (3 ∷ 0 ∷ 2 ∷ 1 ∷ []) $
     by ! (leaves 𝓛 En hs c y (vptr pb e) (record { ref_ptr = (pb, e); now = x }) (tt, tt)

@@ -21,8 +21,7 @@ use denote.Struct.OwningLaws.{part_out, part_in}
 use Rattle.thread_local_ids.specs.Guarded.{guard_with_value}
 use Rattle.thread_local_ids.specs.Locking.{Fitting, offset, guard_owns}
 use Rattle.thread_local_ids.specs.contracts.lock.LockGuard as guard
-use Rattle.thread_local_ids.specs.contracts.lock.lends.LockGuardDerefMut.deref_mut.{ended, clauses}
-use Rattle.thread_local_ids.specs.contracts.lock.lends.LockGuardDerefMut.deref_mut.Key.{name as #self}
+use Rattle.thread_local_ids.specs.contracts.lock.lends.LockGuardDerefMut.deref_mut.{ended, clauses, Key.name as #self}
 use Rattle.thread_local_ids.proofs.Fields.{guard_of, FieldsType, told}
 use Rattle.thread_local_ids.proofs.Guards.{placed}
 use Rattle.thread_local_ids.proofs.Handed.{hands_value}
@@ -32,14 +31,13 @@ use Rattle.thread_local_ids.proofs.lock.lends.LockGuardDerefMut.deref_mut.Code a
 pub deref_mut_spec : {M : Type 1} → statement M
 unfolding part_of
 deref_mut_spec 𝓤 𝓛 𝓜 𝓡 wired X L g d _ =
-    let H = 𝓛.H in
-    let 𝓣 = tables 𝓤 H 𝓜 𝓡 𝓡.env in
+    let 𝓣 = tables 𝓤 𝓛.H 𝓜 𝓡 𝓡.env in
     let R : RattleType = param 0 X in
     let En = ended X g d in
     let c = clauses X g d 𝓛 𝓜.mem 𝓡.returns in
     let inst = bounded (a_type ∷ []) (X, tt) (dcons d dnil) in
     let fn = inst_fn inst code.function in
-    let closed = code.unfolded 𝓤 H 𝓜 𝓡 wired (X, tt) d in
+    let closed = code.unfolded 𝓤 𝓛.H 𝓜 𝓡 wired (X, tt) d in
     let row = plain (λ κs. guard.the_row (named_lft 3 1 tt κs) R g) in
     let self = RefMutOf (0 ∷ []) tt row (λ _. tt) in
     let hs : Stays En.signature.params En.kept = (stay_dropped self no, tt) in
@@ -72,7 +70,7 @@ deref_mut_spec 𝓤 𝓛 𝓜 𝓡 wired X L g d _ =
     qed 𝓛 (((‵ (flft κ q) ⊛ ‵ others) ⊛ ‵ (owns (types_at En.signature.params κs) a y.0.4))
     ∷ raw ((c κs a).requires gh) ∷ []) ∵
     split ! $ split ! $ move ! (2 ∷ []) $ fsplit ! $ fsplit3 ! $ keep ! (1 ∷ 2 ∷ 4 ∷ 5 ∷ []) $
-    enter ! 𝓣.C 𝓣.Λ fn (vptr b o ∷ []) Post $ alloc_all ! (λ l. pass_all ! refl ((tt, tt), tt) $ let Ev = env fn.locals l in
+    enter ! _ _ _ _ _ $ alloc_all ! (λ l. pass_all ! refl ((tt, tt), tt) $ let Ev = env fn.locals l in
     open_ref ! tt (mem G) $
     use1 𝓛 (‵ (part_at D full_share (p, (tt, tt)) b o) ⊛ ‵ (guard_owns β R ok p x))
     (part_out 𝓛 (guard.the_type ℓ R g) full_share h b o) $
