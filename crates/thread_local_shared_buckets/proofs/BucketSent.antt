@@ -99,10 +99,7 @@ module _ (R : RattleType) (s : IsSend R) where
   unborn_keyless sharing table t (suc n) k = (
     (
       right_keyless t.vacant k,
-      (
-        (right_keyless t.filled k, untold_keyless sharing k),
-        λ w. slots_side_keyless w table t.pass k,
-      ),
+      ((right_keyless t.filled k, untold_keyless sharing k), λ w. slots_side_keyless w table t.pass k),
     ),
     unborn_keyless sharing table t n (suc k),
   )
@@ -113,10 +110,7 @@ module _ (R : RattleType) (s : IsSend R) where
       let o : ℕ = count_of p in (
         (λ ns. (
           (λ _. tt),
-          (
-            words_keyless (len R d) b o ns,
-            slots_keyless t b z.block_life d.sharing d.table (first R d) o z.names ns,
-          ),
+          (words_keyless (len R d) b o ns, slots_keyless t b z.block_life d.sharing d.table (first R d) o z.names ns),
         )),
         back_keyless b o (len R d),
       )
@@ -127,13 +121,7 @@ module _ (R : RattleType) (s : IsSend R) where
     (λ _. tt),
     (
       (tt, (tt, reached_keyless d.table (shown_by d))),
-      (
-        tt,
-        (
-          stands_keyless d t (block_ptr b o) z.0,
-          token_keyless (block_ty R (len R d)) (block_ptr b o),
-        ),
-      ),
+      (tt, (stands_keyless d t (block_ptr b o) z.0, token_keyless (block_ty R (len R d)) (block_ptr b o))),
     ),
   )
 
@@ -151,10 +139,7 @@ module _ (R : RattleType) (s : IsSend R) where
   slots_rest_keyless : (sharing : Option GName) (k n i b o : ℕ) (ns : List ℕ) → Keyless (slots_rest R sharing k n i b o ns)
   slots_rest_keyless sharing k zero i b o ns = tt
   slots_rest_keyless sharing k (suc n) i b o ns = (
-    (λ z. (
-      (λ _. tt),
-      (told_or_untold_keyless R sharing (i + k) z.0, rests_keyless z.1 b (value_offset R o i) z.0),
-    )),
+    (λ z. ((λ _. tt), (told_or_untold_keyless R sharing (i + k) z.0, rests_keyless z.1 b (value_offset R o i) z.0))),
     slots_rest_keyless sharing k n (suc i) b o ns,
   )
 

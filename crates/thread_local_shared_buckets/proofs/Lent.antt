@@ -69,7 +69,7 @@ module _ {M : Type 1} {𝓤 : Ura M} (𝓛 : Logic 𝓤) where
 
     pub cell_in : ⟦ cell b o p ⟧ ⊢ ⟦ part_at RawPtr full_share p b o ⟧
     cell_in =
-        qed 𝓛 (‵ (cell b o p) ∷ []) ∵ feq_i ! (List Val) (ptr_val p ∷ []) (ptr_val p ∷ []) refl $
+        qed 𝓛 (‵ (cell b o p) ∷ []) ∵ feq_i ! _ (ptr_val p ∷ []) _ refl $
         move ! (1 ∷ 0 ∷ []) $ gather pointer ! p (ptr_val p) b o $ done !
 
   module _ (R : RattleType) (L : Laws R) (d : BucketView) where

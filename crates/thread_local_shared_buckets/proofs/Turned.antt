@@ -354,10 +354,7 @@ module _ {M : Type 1} {𝓤 : Ura M} (𝓛 : Logic 𝓤) (R : RattleType) (L : L
       vss $
       fjoin ! $
       fpack ! (SharedOf s) (λ a. fsep ((all_shared.TheInside.the_row R).own_val a.0 vs) ftrue) (
-        record {
-          pointers = record { pointers = record { pointers = ds }; alloc = h'.0.alloc };
-          reserved = s.reserved;
-        },
+        record { pointers = record { pointers = record { pointers = ds }; alloc = h'.0.alloc }; reserved = s.reserved },
         (table_seen s, (table_named s, owned.first)),
       ) $
       done !)))))
@@ -418,7 +415,7 @@ module _ {M : Type 1} {𝓤 : Ura M} (𝓛 : Logic 𝓤) (R : RattleType) (L : L
   makes_owner c n v fits owned =
       let vs : List Val = pair_val v n ∷ [] in
       qed 𝓛 (‵ (Plain.own_val c (v ∷ [])) ∷ []) ∵ nothing ! $ flt_i ! n (2 ^ 64) fits $
-      feq_i ! (List Val) (vint w64 n ∷ []) (vint w64 n ∷ []) refl $ fjoin ! $ fjoin ! $
+      feq_i ! _ (vint w64 n ∷ []) _ refl $ fjoin ! $ fjoin ! $
       move ! (1 ∷ 0 ∷ []) $ feq_i ! (List Val) vs vs refl $ fjoin3 ! $
       fpack ! (Valss (Plain ∷ usize ∷ []))
       (within (shape_with (Plain ∷ usize ∷ [])) (c, (n, tt)) vs) (v ∷ [], (vint w64 n ∷ [], tt)) $

@@ -151,13 +151,7 @@ module _ (Y X R Z : RattleType) (g : Called.Ghosts Y X R Z) (d d' : Dict) where
           sets ! (of_opd ! (load ! (through ! refl (stop !)) (look_raw ! 0 refl))) refl gv $
           sets ! (of_opd ! (get ! refl)) refl gu $
           let y : (Once 𝓛).Ghost = (
-            (
-              κs,
-              (q₄, (q₁, (q₂, (q₃, tt)))),
-              tt,
-              (f, (h, (x, tt))),
-              (w ∷ [], (v ∷ [], (u ∷ [], tt))),
-            ),
+            (κs, (q₄, (q₁, (q₂, (q₃, tt)))), tt, (f, (h, (x, tt))), (w ∷ [], (v ∷ [], (u ∷ [], tt)))),
             tt,
           ) in
           use0 𝓛 (raw (fact 𝓤 Ok)) (fact_i 𝓤 Ok (emp 𝓤) ok) $

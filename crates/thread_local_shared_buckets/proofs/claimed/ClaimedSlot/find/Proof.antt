@@ -43,8 +43,7 @@ use Rattle.thread_local_shared_buckets.proofs.Learning.{known_as, not_missing, k
 use Rattle.thread_local_shared_buckets.proofs.Learning.{finds_nothing, finds_slot, unfound, found as found_in}
 use Rattle.thread_local_shared_buckets.specs.Claims.{ClaimFields, flag_word_of, claim_fields, IsOf, IsKept, claims_side, value_at, has, has_slot, has_at}
 use Rattle.thread_local_shared_buckets.specs.contracts.claimed.ClaimedSlot as claim
-use Rattle.thread_local_shared_buckets.specs.contracts.claimed.ClaimedSlot.find.{ended, clauses}
-use Rattle.thread_local_shared_buckets.specs.contracts.claimed.ClaimedSlot.find.Key.{name as #self}
+use Rattle.thread_local_shared_buckets.specs.contracts.claimed.ClaimedSlot.find.{ended, clauses, Key.name as #self}
 use Rattle.thread_local_shared_buckets.proofs.Early.{comes}
 use Rattle.thread_local_shared_buckets.proofs.ClaimSteps as steps
 use Rattle.thread_local_shared_buckets.proofs.ClaimedFields.{Kept, kept_of, value_of, FieldsType, fields_of, told, in_word, made, typed}
@@ -71,17 +70,11 @@ find_spec 𝓤 𝓛 𝓜 𝓡 wired X L =
     (stay_dropped self no, (stay_dropped number yes, (stay_dropped number yes, tt))) in
     proved 𝓛 En hs c 𝓜 𝓡 (
       Goes-dropped 𝓛 2 self no (λ κs x f. refl),
-      (
-        Goes-dropped 𝓛 2 number yes (λ κs x f. refl),
-        (Goes-dropped 𝓛 2 number yes (λ κs x f. refl), tt),
-      ),
+      (Goes-dropped 𝓛 2 number yes (λ κs x f. refl), (Goes-dropped 𝓛 2 number yes (λ κs x f. refl), tt)),
     )
     (#self inst) fn closed
     (λ κs. ((λ x. value_of (kept_of x) ∷ []), (uint_vals w64, (uint_vals w64, tt))))
-    (λ κs. (
-      (λ x vs so. told (named_lft 2 0 tt κs) R (kept_of x) vs so.0),
-      (uint_Tells w64, (uint_Tells w64, tt)),
-    ))
+    (λ κs. ((λ x vs so. told (named_lft 2 0 tt κs) R (kept_of x) vs so.0), (uint_Tells w64, (uint_Tells w64, tt))))
     (λ κs qs bounds a gh are.
     let h = a.0 in
     let x : ℕ = a.1.0 in
@@ -117,7 +110,7 @@ find_spec 𝓤 𝓛 𝓜 𝓡 wired X L =
     keep ! (2 ∷ 3 ∷ 4 ∷ 0 ∷ []) $ heard ! (MayLook l₀) (λ unseen. heard ! (x ≡ i) (λ is_index.
     heard ! (num ≡ flag_word_of R h.id) (λ numbered. split ! $ split ! $ move ! (2 ∷ []) $
     fsplit3 ! $ fsplit ! $ keep ! (1 ∷ 4 ∷ 5 ∷ []) $
-    enter ! 𝓣.C 𝓣.Λ fn (u₀ ∷ vint w64 x ∷ vint w64 num ∷ []) Post $ alloc_all ! (λ l.
+    enter ! _ _ _ _ _ $ alloc_all ! (λ l.
     pass_all ! refl (
       typed (kept_of h) (in_word ℓ R (kept_of h) (u₀ ∷ []) are.0.0),
       ((tt, record { fits = are.1.0.1 }), ((tt, record { fits = are.1.1.0.1 }), tt)),

@@ -20,8 +20,7 @@ use Rattle.thread_local_model.specs.Learnt.{Learnt, Holding}
 use Rattle.thread_local_shared_buckets.specs.Known.{value_held}
 use Rattle.thread_local_shared_buckets.proofs.Learning.{holding}
 use Rattle.thread_local_shared_buckets.specs.Claims.{claim_fields, lasts, shows_value}
-use Rattle.thread_local_shared_buckets.specs.contracts.claimed.ClaimedSlot.lasting.{ended, clauses}
-use Rattle.thread_local_shared_buckets.specs.contracts.claimed.ClaimedSlot.lasting.Key.{name as #self}
+use Rattle.thread_local_shared_buckets.specs.contracts.claimed.ClaimedSlot.lasting.{ended, clauses, Key.name as #self}
 use Rattle.thread_local_shared_buckets.proofs.ClaimedFields.{kept_of, claim_at, claim_ref, splits_ref, moved_to, value_of, FieldsType}
 use Rattle.thread_local_shared_buckets.proofs.ClaimedFields.{fields_of, told, opened}
 use Rattle.thread_local_shared_buckets.proofs.claimed.ClaimedSlot.lasting.Statement.{statement}
@@ -35,14 +34,13 @@ lasts_of 𝓛 R shareable β b e x κ (inr refuted) = absurd (refuted shareable)
 
 pub lasting_spec : {M : Type 1} → statement M
 lasting_spec 𝓤 𝓛 𝓜 𝓡 wired X L =
-    let H = 𝓛.H in
-    let 𝓣 = tables 𝓤 H 𝓜 𝓡 𝓡.env in
+    let 𝓣 = tables 𝓤 𝓛.H 𝓜 𝓡 𝓡.env in
     let R : RattleType = param 0 X in
     let En = ended X in
     let c = clauses X 𝓛 𝓜.mem 𝓡.returns in
     let inst = bounded (a_type ∷ []) (X, tt) dnil in
     let fn = inst_fn inst code.function in
-    let closed = code.unfolded 𝓤 H 𝓜 𝓡 wired (X, tt) in
+    let closed = code.unfolded 𝓤 𝓛.H 𝓜 𝓡 wired (X, tt) in
     let self = claim_ref R in let hs : Stays En.signature.params En.kept = (stay_dropped self yes, tt) in
     proved 𝓛 En hs c 𝓜 𝓡 (Goes-dropped 𝓛 3 self yes (λ κs x f. refl), tt) (#self inst) fn closed
     (λ κs. (shr_vals, tt)) (λ κs. (shr_Tells (named 0) κs.0 ((claim_at R).row κs), tt)) (λ κs qs bounds a gh are.
@@ -67,7 +65,7 @@ lasting_spec 𝓤 𝓛 𝓜 𝓡 wired X L =
     let held = holding l₀ asked in
     let x : X.Denot = held.0 in
     split ! $ split ! $ move ! (2 ∷ []) $ fsplit ! $ fsplit ! $ keep ! (1 ∷ 3 ∷ 4 ∷ []) $
-    enter ! 𝓣.C 𝓣.Λ fn (vptr b o ∷ []) Post $ alloc_all ! (λ l. pass_all ! refl ((tt, tt), tt) $ let Ev = env fn.locals l in
+    enter ! _ _ _ _ _ $ alloc_all ! (λ l. pass_all ! refl ((tt, tt), tt) $ let Ev = env fn.locals l in
     splits_ref ! ℓ R κ h b o $ drop ! $
     rewrite ! 0 (λ (u : Learnt X.Denot).
     ‵ (shows_value R β (claim_fields h.id h.index h.bucket p h.sharing h.reserved)
@@ -91,7 +89,7 @@ lasting_spec 𝓤 𝓛 𝓜 𝓡 wired X L =
     sets ! (of_opd ! (get ! refl)) refl (tt, tt) $
     rewrite ! 1 (λ (ws : List Val). ‵ (cell_at q D.mir ws b o)) (sym ev) refl $
     move ! (1 ∷ 0 ∷ 2 ∷ []) $ shuts ! tt D q (fields_of ℓ R (kept_of h)) vs b o $
-    move ! (0 ∷ 3 ∷ []) $ join ! $ move ! (2 ∷ []) $ feq_i ! (List Val) (vptr pb e ∷ []) (vptr pb e ∷ []) refl $ fjoin ! $
+    move ! (0 ∷ 3 ∷ []) $ join ! $ move ! (2 ∷ []) $ feq_i ! _ (vptr pb e ∷ []) _ refl $ fjoin ! $
     use0 𝓛 (raw (fact 𝓤 (l₀ ≡ Holding x))) (fact_i 𝓤 (l₀ ≡ Holding x) (emp 𝓤) held.1) $ nothing ! $
     nothing ! $ fjoin ! $
     returns ! (look_at ! 0 refl) $ free_all ! refl $ keep ! (3 ∷ 0 ∷ 2 ∷ 1 ∷ []) $

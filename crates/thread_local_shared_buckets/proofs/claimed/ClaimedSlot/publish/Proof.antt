@@ -46,8 +46,7 @@ use Rattle.thread_local_ids.specs.Told.{tells}
 use Rattle.thread_local_model.specs.Learnt.{Learnt, Vacant, Holding}
 use Rattle.thread_local_shared_buckets.specs.Claims.{ClaimFields, flag_word_of, claim_fields, IsOf, IsKept, value_at, has, has_slot, has_at}
 use Rattle.thread_local_shared_buckets.specs.contracts.claimed.ClaimedSlot as claim
-use Rattle.thread_local_shared_buckets.specs.contracts.claimed.ClaimedSlot.publish.{ended, clauses}
-use Rattle.thread_local_shared_buckets.specs.contracts.claimed.ClaimedSlot.publish.Key.{name as #self}
+use Rattle.thread_local_shared_buckets.specs.contracts.claimed.ClaimedSlot.publish.{ended, clauses, Key.name as #self}
 use Rattle.thread_local_shared_buckets.proofs.ClaimSteps as steps
 use Rattle.thread_local_shared_buckets.proofs.ClaimedFields.{Kept, kept_of, value_of, FieldsType, fields_of, told, in_word, made, typed}
 use Rattle.thread_local_shared_buckets.proofs.ClaimedFields.{number_in, distance, distance_fits, lies_ahead, leads_to_word, spaced}
@@ -77,10 +76,7 @@ publish_spec 𝓤 𝓛 𝓜 𝓡 wired X L =
       Goes-dropped 𝓛 2 self no (λ κs x f. refl),
       (
         Goes-dropped 𝓛 2 number yes (λ κs x f. refl),
-        (
-          Goes-dropped 𝓛 2 number yes (λ κs x f. refl),
-          (Goes-dropped 𝓛 2 value no (λ κs x f. refl), tt),
-        ),
+        (Goes-dropped 𝓛 2 number yes (λ κs x f. refl), (Goes-dropped 𝓛 2 value no (λ κs x f. refl), tt)),
       ),
     )
     (#self inst) fn closed (λ y are.

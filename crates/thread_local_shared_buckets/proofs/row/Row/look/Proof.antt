@@ -44,8 +44,7 @@ use Rattle.thread_local_shared_buckets.proofs.SeenFields as seen
 use Rattle.thread_local_shared_buckets.proofs.SeenFields.{seen_val, seen_good}
 use Rattle.thread_local_shared_buckets.specs.contracts.seen.Seen as Seen
 use Rattle.thread_local_shared_buckets.specs.contracts.row.Row as Row
-use Rattle.thread_local_shared_buckets.specs.contracts.row.Row.look.{ended, clauses}
-use Rattle.thread_local_shared_buckets.specs.contracts.row.Row.look.Key.{name as #self}
+use Rattle.thread_local_shared_buckets.specs.contracts.row.Row.look.{ended, clauses, Key.name as #self}
 use Rattle.thread_local_shared_buckets.proofs.RowFields.{row_val, FieldsType, told, opened}
 use Rattle.thread_local_shared_buckets.proofs.row.Row.look.Statement.{statement}
 use Rattle.thread_local_shared_buckets.proofs.row.Row.look.Code as code
@@ -115,7 +114,7 @@ look_spec {M} 𝓤 𝓛 𝓜 𝓡 wired T L =
     fsplit3 ! $ move ! (2 ∷ []) $ fsplit3 ! $ move ! (1 ∷ []) $ fsplit ! $ move ! (4 ∷ []) $ fsplit ! $
     keep ! (3 ∷ 1 ∷ 7 ∷ 8 ∷ 9 ∷ []) $ unhide ! $ fsplit ! $ drop ! $ move ! (1 ∷ 2 ∷ 3 ∷ 4 ∷ []) $
     -- [the `&`; κ's token; β's; the others; what the tokens tell]
-    enter ! 𝓣.C 𝓣.Λ fn (vptr b o ∷ vint w64 c₀ ∷ vint w64 k ∷ pt ∷ []) Post $ alloc_all ! (λ l.
+    enter ! _ _ _ _ _ $ alloc_all ! (λ l.
     pass_all ! refl
     ((tt, tt), ((tt, record { fits = are.1.0.1 }), ((tt, record { fits = are.1.1.0.1 }), ((tt, tt), tt)))) $
     let Ev = env fn.locals l in

@@ -40,16 +40,14 @@ use Rattle.thread_local_bucket_pointers.proofs.bucket_pointers.BucketPointers.Th
 use Rattle.thread_local_shared_buckets.specs.TableView.{TableView}
 use Rattle.thread_local_shared_buckets.specs.Grown.{only_reserved}
 use Rattle.thread_local_shared_buckets.specs.contracts.shared.Shared as shared
-use Rattle.thread_local_shared_buckets.specs.contracts.shared.Shared.of.{ended, clauses}
-use Rattle.thread_local_shared_buckets.specs.contracts.shared.Shared.of.Key.{name as #self}
+use Rattle.thread_local_shared_buckets.specs.contracts.shared.Shared.of.{ended, clauses, Key.name as #self}
 use Rattle.thread_local_shared_buckets.proofs.Turned.{pair_val, makes_shared}
 use Rattle.thread_local_shared_buckets.proofs.shared.Shared.of.Statement.{statement}
 use Rattle.thread_local_shared_buckets.proofs.shared.Shared.of.Code as code
 
 pub of_spec : {M : Type 1} → statement M
 of_spec 𝓤 𝓛 𝓜 𝓡 wired T L =
-    let H = 𝓛.H in
-    let 𝓣 = tables 𝓤 H 𝓜 𝓡 𝓡.env in
+    let 𝓣 = tables 𝓤 𝓛.H 𝓜 𝓡 𝓡.env in
     let R : RattleType = param 0 T in
     let LR : Laws R = param_laws 0 T L in
     let Sh : RattleType = shared.the_row R in
@@ -65,12 +63,9 @@ of_spec 𝓤 𝓛 𝓜 𝓡 wired T L =
     (stay_dropped self no, (stay_dropped number yes, (stay_dropped ref yes, tt))) in
     proved_at 𝓛 En hs c 𝓜 𝓡 (
       Goes-dropped 𝓛 2 self no (λ κs x f. refl),
-      (
-        Goes-dropped 𝓛 2 number yes (λ κs x f. refl),
-        (Goes-dropped 𝓛 2 ref yes (λ κs x f. refl), tt),
-      ),
+      (Goes-dropped 𝓛 2 number yes (λ κs x f. refl), (Goes-dropped 𝓛 2 ref yes (λ κs x f. refl), tt)),
     )
-    (#self inst) fn (code.unfolded 𝓤 H 𝓜 𝓡 wired (T, tt)) (λ z are.
+    (#self inst) fn (code.unfolded 𝓤 𝓛.H 𝓜 𝓡 wired (T, tt)) (λ z are.
     let w : Ws.Denot = z.0.3.0 in let n : ℕ = z.0.3.1.0 in let table : ℕ = z.0.3.1.1.0.now.table in let past : Option ℕ = z.1 in
     let got =
     one (layout Ws) z.0.4.0 (((pointers'.the_row_laws R LR).lawful 𝓛).typed w z.0.4.0 are.0) in
@@ -78,7 +73,7 @@ of_spec 𝓤 𝓛 𝓜 𝓡 wired T L =
     let fine : Good (layout Ws) v = got.2 in
     let ref_is = shr_Tells (named 0) z.0.0.0 right.the_row z.0.3.1.1.0 z.0.4.1.1.0 are.1.1.0 in
     let Post : Val → SProp 𝓤 = (walk_of 𝓛 En hs c).post z in
-    let Run : List Val → SProp 𝓤 = λ ws. WpFn 𝓤 H 𝓣.C 𝓣.Λ fn ws Post in
+    let Run : List Val → SProp 𝓤 = λ ws. WpFn 𝓤 𝓛.H 𝓣.C 𝓣.Λ fn ws Post in
     let p : Val = vptr z.0.3.1.1.0.ref_ptr.0 z.0.3.1.1.0.ref_ptr.1 in let us : List Val = v ∷ vint w64 n ∷ p ∷ [] in
     let fits : n < 2 ^ 64 = are.1.0.1 in
     let typed : Typed Sh.mir (pair_val v n ∷ []) =

@@ -31,16 +31,14 @@ use Rattle.thread_local_buckets.specs.contracts.buckets.Buckets as buckets
 use Rattle.thread_local_shared_buckets.specs.TableView.{TableView}
 use Rattle.thread_local_shared_buckets.specs.Lent.{view_with}
 use Rattle.thread_local_shared_buckets.specs.contracts.shared.Shared as shared
-use Rattle.thread_local_shared_buckets.specs.contracts.shared.Shared.owner.{ended, clauses}
-use Rattle.thread_local_shared_buckets.specs.contracts.shared.Shared.owner.Key.{name as #self}
+use Rattle.thread_local_shared_buckets.specs.contracts.shared.Shared.owner.{ended, clauses, Key.name as #self}
 use Rattle.thread_local_shared_buckets.proofs.Turned.{IsLent, AllGrown, lies_plain, lies_shared}
 use Rattle.thread_local_shared_buckets.proofs.shared.Shared.owner.Statement.{statement}
 use Rattle.thread_local_shared_buckets.proofs.shared.Shared.owner.Code as code
 
 pub owner_spec : {M : Type 1} → statement M
 owner_spec 𝓤 𝓛 𝓜 𝓡 wired T L =
-    let H = 𝓛.H in
-    let 𝓣 = tables 𝓤 H 𝓜 𝓡 𝓡.env in
+    let 𝓣 = tables 𝓤 𝓛.H 𝓜 𝓡 𝓡.env in
     let R : RattleType = param 0 T in
     let LR : Laws R = param_laws 0 T L in
     let Sh : RattleType = shared.the_row R in
@@ -53,7 +51,7 @@ owner_spec 𝓤 𝓛 𝓜 𝓡 wired T L =
     let self = RefMutOf (0 ∷ []) tt row (λ _. tt) in
     let hs : Stays En.signature.params En.kept = (stay_dropped self no, tt) in
     proved 𝓛 En hs c 𝓜 𝓡 (Goes-spent_ref 𝓛 2 (0 ∷ []) tt row, tt) (#self inst) fn
-    (code.unfolded 𝓤 H 𝓜 𝓡 wired (T, tt)) (λ κs. (mut_vals, tt))
+    (code.unfolded 𝓤 𝓛.H 𝓜 𝓡 wired (T, tt)) (λ κs. (mut_vals, tt))
     (λ κs. (mut_Tells (named 0) κs.0 Sh, tt)) (λ κs qs bounds a gh are.
     let b : ℕ = a.0.ref_ptr.0 in
     let o : ℕ = a.0.ref_ptr.1 in
@@ -67,7 +65,7 @@ owner_spec 𝓤 𝓛 𝓜 𝓡 wired T L =
     qed 𝓛 (((‵ (flft κ q) ⊛ ‵ others) ⊛ ‵ (owns (types_at En.signature.params κs) a y.0.4))
     ∷ raw ((c κs a).requires gh) ∷ []) ∵
     keep ! (0 ∷ []) $ split ! $ split ! $ move ! (2 ∷ []) $ fsplit ! $ fsplit3 ! $ keep ! (1 ∷ 2 ∷ 4 ∷ 5 ∷ []) $
-    enter ! 𝓣.C 𝓣.Λ fn (vptr b o ∷ []) Post $ alloc_all ! (λ l. pass_all ! refl ((tt, tt), tt) $
+    enter ! _ _ _ _ _ $ alloc_all ! (λ l. pass_all ! refl ((tt, tt), tt) $
     let Ev = env fn.locals l in
     open_ref ! tt (mem Sh) $
     use1 𝓛 (later (some (λ (w : Ow.Denot).

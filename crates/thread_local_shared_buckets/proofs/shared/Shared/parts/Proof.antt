@@ -1,5 +1,5 @@
 -- `parts` is the same `&`, to what the buckets consist of.
-use Rattle.std.proofs.Common.{◌≡◌, ℕ, List, [], ◌∷◌, refl}
+use Rattle.std.proofs.Common.{◌≡◌, ℕ, [], ◌∷◌, refl}
 use mir.Syntax.{a_type, named}
 use mir.Val.{Val, vptr}
 use mir.MapTy.{inst_fn}
@@ -24,15 +24,13 @@ use Rattle.std.proofs.alloc.Shapes.{after}
 use Rattle.thread_local_shared_buckets.specs.TableView.{TableView}
 use Rattle.thread_local_shared_buckets.specs.contracts.parts.SharedParts as inner
 use Rattle.thread_local_shared_buckets.specs.contracts.shared.Shared as shared
-use Rattle.thread_local_shared_buckets.specs.contracts.shared.Shared.parts.{ended, clauses}
-use Rattle.thread_local_shared_buckets.specs.contracts.shared.Shared.parts.Key.{name as #self}
+use Rattle.thread_local_shared_buckets.specs.contracts.shared.Shared.parts.{ended, clauses, Key.name as #self}
 use Rattle.thread_local_shared_buckets.proofs.shared.Shared.parts.Statement.{statement}
 use Rattle.thread_local_shared_buckets.proofs.shared.Shared.parts.Code as code
 
 pub parts_spec : {M : Type 1} → statement M
 parts_spec 𝓤 𝓛 𝓜 𝓡 wired T L =
-    let H = 𝓛.H in
-    let 𝓣 = tables 𝓤 H 𝓜 𝓡 𝓡.env in
+    let 𝓣 = tables 𝓤 𝓛.H 𝓜 𝓡 𝓡.env in
     let R : RattleType = param 0 T in
     let Sh : RattleType = shared.the_row R in
     let In : RattleType = inner.the_row R in
@@ -43,7 +41,7 @@ parts_spec 𝓤 𝓛 𝓜 𝓡 wired T L =
     let self = RefOf (0 ∷ []) tt (plain (λ _. Sh)) (λ _. tt) in
     let hs : Stays En.signature.params En.kept = (stay_dropped self yes, tt) in
     proved 𝓛 En hs c 𝓜 𝓡 (Goes-dropped 𝓛 2 self yes (λ κs x f. refl), tt) (#self inst) fn
-    (code.unfolded 𝓤 H 𝓜 𝓡 wired (T, tt)) (λ κs. (shr_vals, tt))
+    (code.unfolded 𝓤 𝓛.H 𝓜 𝓡 wired (T, tt)) (λ κs. (shr_vals, tt))
     (λ κs. (shr_Tells (named 0) κs.0 Sh, tt)) (λ κs qs bounds a gh are.
     let b : ℕ = a.0.ref_ptr.0 in
     let o : ℕ = a.0.ref_ptr.1 in
@@ -56,13 +54,13 @@ parts_spec 𝓤 𝓛 𝓜 𝓡 wired T L =
     qed 𝓛 (((‵ (flft κ q) ⊛ ‵ others) ⊛ ‵ (owns (types_at En.signature.params κs) a y.0.4))
     ∷ raw ((c κs a).requires gh) ∷ []) ∵
     keep ! (0 ∷ []) $ split ! $ move ! (1 ∷ []) $ fsplit ! $ fsplit ! $ keep ! (1 ∷ 3 ∷ []) $
-    enter ! 𝓣.C 𝓣.Λ fn (vptr b o ∷ []) Post $ alloc_all ! (λ l. pass_all ! refl ((tt, tt), tt) $ let Ev = env fn.locals l in
+    enter ! _ _ _ _ _ $ alloc_all ! (λ l. pass_all ! refl ((tt, tt), tt) $ let Ev = env fn.locals l in
     first ! $ blocks ! $ sets ! (addr ! (through ! refl (stop !))) refl (tt, tt) $
     sets ! (of_opd ! (get ! refl)) refl (tt, tt) $
     sets_last ! (addr ! (through ! refl (stop !))) refl (tt, tt) $
     exec ! 𝓣.C 𝓣.Λ Ev (after 1 fn.body) (at_ret Ev Post) $ sets ! (of_opd ! (get ! refl)) refl (tt, tt) $
     -- [what the `&` holds; the tokens]
-    use1 𝓛 (‵ (hidden_shr In κ d b o)) (id⊢ 𝓤 _) $ feq_i ! (List Val) (vptr b o ∷ []) (vptr b o ∷ []) refl $ fjoin ! $
+    use1 𝓛 (‵ (hidden_shr In κ d b o)) (id⊢ 𝓤 _) $ feq_i ! _ (vptr b o ∷ []) _ refl $ fjoin ! $
     use0 𝓛 (raw (fact 𝓤 (d ≡ d))) (fact_i 𝓤 (d ≡ d) (emp 𝓤) refl) $ nothing ! $ nothing ! $ fjoin ! $
     -- [nothing; the fact; the `&`; the tokens]
     let r : Bor TableView = record { ref_ptr = (b, o); now = d } in

@@ -29,8 +29,7 @@ use Rattle.thread_local_ids.proofs.ToldElements.{source, source_new}
 use Rattle.thread_local_ids.specs.contracts.right.Right as right
 use Rattle.thread_local_shared_buckets.specs.TableView.{TableView}
 use Rattle.thread_local_shared_buckets.specs.contracts.shared.Shared as shared
-use Rattle.thread_local_shared_buckets.specs.contracts.shared.Shared.shared_again.{ended, clauses}
-use Rattle.thread_local_shared_buckets.specs.contracts.shared.Shared.shared_again.Key.{name as #self}
+use Rattle.thread_local_shared_buckets.specs.contracts.shared.Shared.shared_again.{ended, clauses, Key.name as #self}
 use Rattle.thread_local_shared_buckets.proofs.GrownLaws.{view_again, grown_again}
 use Rattle.thread_local_shared_buckets.proofs.Turned.{shares_again}
 use Rattle.thread_local_shared_buckets.proofs.shared.Shared.shared_again.Statement.{statement}
@@ -38,8 +37,7 @@ use Rattle.thread_local_shared_buckets.proofs.shared.Shared.shared_again.Code as
 
 pub shared_again_spec : {M : Type 1} → statement M
 shared_again_spec 𝓤 𝓛 𝓜 𝓡 wired T L =
-    let H = 𝓛.H in
-    let 𝓣 = tables 𝓤 H 𝓜 𝓡 𝓡.env in
+    let 𝓣 = tables 𝓤 𝓛.H 𝓜 𝓡 𝓡.env in
     let R : RattleType = param 0 T in
     let LR : Laws R = param_laws 0 T L in
     let Sh : RattleType = shared.the_row R in
@@ -52,7 +50,7 @@ shared_again_spec 𝓤 𝓛 𝓜 𝓡 wired T L =
     let hs : Stays En.signature.params En.kept = (stay_dropped self no, (stay_dropped ref yes, tt)) in
     proved_at 𝓛 En hs c 𝓜 𝓡
     (Goes-dropped 𝓛 2 self no (λ κs x f. refl), (Goes-dropped 𝓛 2 ref yes (λ κs x f. refl), tt))
-    (#self inst) fn (code.unfolded 𝓤 H 𝓜 𝓡 wired (T, tt)) (λ z are.
+    (#self inst) fn (code.unfolded 𝓤 𝓛.H 𝓜 𝓡 wired (T, tt)) (λ z are.
     let s : TableView = z.0.3.0 in
     let table : ℕ = z.0.3.1.0.now.table in
     let past : Option ℕ = z.1 in
@@ -61,7 +59,7 @@ shared_again_spec 𝓤 𝓛 𝓜 𝓡 wired T L =
     let fine : Good (layout Sh) v = got.2 in
     let ref_is = shr_Tells (named 0) z.0.0.0 right.the_row z.0.3.1.0 z.0.4.1.0 are.1.0 in
     let Post : Val → SProp 𝓤 = (walk_of 𝓛 En hs c).post z in
-    let Run : List Val → SProp 𝓤 = λ ws. WpFn 𝓤 H 𝓣.C 𝓣.Λ fn ws Post in
+    let Run : List Val → SProp 𝓤 = λ ws. WpFn 𝓤 𝓛.H 𝓣.C 𝓣.Λ fn ws Post in
     let p : Val = vptr z.0.3.1.0.ref_ptr.0 z.0.3.1.0.ref_ptr.1 in let us : List Val = v ∷ p ∷ [] in
     qed 𝓛 ((raw (alive 𝓛 En.signature z.0.0 z.0.1)
     ⊛ ‵ (owns (types_at En.signature.params z.0.0) z.0.3 z.0.4))

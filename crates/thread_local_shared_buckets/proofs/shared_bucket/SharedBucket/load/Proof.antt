@@ -34,8 +34,7 @@ use Rattle.thread_local_model.specs.Fact.{fact as said_fact}
 use Rattle.thread_local_shared_buckets.specs.Shared.{BucketView, Sized, len, bucket_invariant, loaded, Found, row_as}
 use Rattle.thread_local_shared_buckets.specs.contracts.shared_bucket.SharedBucket as one_bucket
 use Rattle.thread_local_shared_buckets.specs.contracts.row.Row as Row
-use Rattle.thread_local_shared_buckets.specs.contracts.shared_bucket.SharedBucket.load.{ended, clauses}
-use Rattle.thread_local_shared_buckets.specs.contracts.shared_bucket.SharedBucket.load.Key.{name as #self}
+use Rattle.thread_local_shared_buckets.specs.contracts.shared_bucket.SharedBucket.load.{ended, clauses, Key.name as #self}
 use Rattle.thread_local_shared_buckets.proofs.RowFields.{row_val, row_good, pointer_good, FieldsType, made, word_laws}
 use Rattle.thread_local_shared_buckets.proofs.Loads.{glimpse, reaches, reads, NoneThere, none_there, forgets}
 use Rattle.thread_local_shared_buckets.proofs.shared_bucket.SharedBucket.load.Statement.{statement}
@@ -76,7 +75,7 @@ load_spec 𝓤 𝓛 𝓜 𝓡 wired T L =
     split ! $ split ! $ move ! (2 ∷ []) $ fsplit3 ! $ fsplit ! $ move ! (2 ∷ []) $ fsplit ! $
     keep ! (1 ∷ 3 ∷ 5 ∷ 6 ∷ []) $ unhide ! $ fsplit ! $ drop ! $ move ! (1 ∷ 2 ∷ 3 ∷ []) $
     -- [what the `&` holds; κ's token; the others; what the tokens tell]
-    enter ! 𝓣.C 𝓣.Λ fn (vptr b o ∷ pt ∷ []) Post $ alloc_all ! (λ l. pass_all ! refl ((tt, tt), ((tt, tt), tt)) $ let Ev = env fn.locals l in
+    enter ! _ _ _ _ _ $ alloc_all ! (λ l. pass_all ! refl ((tt, tt), ((tt, tt), tt)) $ let Ev = env fn.locals l in
     unhide ! $ fsplit ! $ fpick ! (λ j. drop ! $ fpick ! (λ t. let J : Fml = fbor t.life (bucket_invariant R d t b (o + 0)) in fsplit ! $
     use1 𝓛 (‵ (before κ t.life) ⊛ ‵ (before κ t.life)) (before_dup 𝓛 κ t.life) $ split ! $
     use1 𝓛 (‵ (before κ t.life) ⊛ ‵ (before κ t.life)) (before_dup 𝓛 κ t.life) $ split ! $

@@ -27,8 +27,7 @@ use Rattle.std.specs.contracts.option.Option as Opt
 use Rattle.thread_local_shared_buckets.specs.Shared.{BucketView, bucket_invariant, all_unborn, len, shown_by}
 use Rattle.thread_local_shared_buckets.specs.Shared.{first as first_id}
 use Rattle.thread_local_shared_buckets.specs.contracts.shared_bucket.SharedBucket as one_bucket
-use Rattle.thread_local_shared_buckets.specs.contracts.shared_bucket.SharedBucket.reached.{ended, clauses}
-use Rattle.thread_local_shared_buckets.specs.contracts.shared_bucket.SharedBucket.reached.Key.{name as #self}
+use Rattle.thread_local_shared_buckets.specs.contracts.shared_bucket.SharedBucket.reached.{ended, clauses, Key.name as #self}
 use Rattle.thread_local_shared_buckets.proofs.RowFields.{pointer_good, word_laws}
 use Rattle.thread_local_shared_buckets.proofs.Loads.{glimpse, reads}
 use Rattle.thread_local_shared_buckets.proofs.shared_bucket.SharedBucket.reached.Statement.{statement}
@@ -62,7 +61,7 @@ reached_spec 𝓤 𝓛 𝓜 𝓡 wired T L =
     ∷ raw ((c κs a).requires gh) ∷ []) ∵
     split ! $ split ! $ move ! (2 ∷ []) $ fsplit ! $ fsplit ! $ keep ! (1 ∷ 3 ∷ 4 ∷ []) $
     -- [what the `&` holds; κ's token; the other token]
-    enter ! 𝓣.C 𝓣.Λ fn (vptr b o ∷ []) Post $ alloc_all ! (λ l. pass_all ! refl ((tt, tt), tt) $ let Ev = env fn.locals l in
+    enter ! _ _ _ _ _ $ alloc_all ! (λ l. pass_all ! refl ((tt, tt), tt) $ let Ev = env fn.locals l in
     unhide ! $ fsplit ! $ fpick ! (λ j. drop ! $ fpick ! (λ t. let J : Fml = fbor t.life (bucket_invariant R d t b (o + 0)) in fsplit ! $
     -- [before; the invariant; κ's token; the other token]
     move ! (0 ∷ 2 ∷ []) $

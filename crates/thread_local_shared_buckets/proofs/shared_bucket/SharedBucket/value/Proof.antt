@@ -1,6 +1,6 @@
 -- `value` is one load of the pointer, which isn't null, since something is told of a slot of the
 -- bucket. A ghost step finds the value there, as a `&` to it names no thread.
-use Rattle.thread_local_model.proofs.Names.{◌≡◌, ℕ, ◌+◌, ◌*◌, ◌^◌, ◌<◌, List, [], ◌∷◌, length, refl, sym, ap, subst}
+use Rattle.thread_local_model.proofs.Names.{◌≡◌, ℕ, ◌+◌, ◌*◌, ◌^◌, ◌<◌, [], ◌∷◌, length, refl, sym, ap, subst}
 use Rattle.thread_local_model.proofs.Names.{arith, never_e, group, w64, Some, dnil, a_type, named, Val, vint, vptr}
 use Rattle.thread_local_model.proofs.Names.{inst_fn, SProp, wand, emp, via, id⊢, apply∗, Lft, Share, Fml, ftrue}
 use Rattle.thread_local_model.proofs.Names.{ffalse, fsep, flft, fbor, finv, sem, ‵, raw, ◌⊛◌, some, given, later, mean}
@@ -34,8 +34,7 @@ use Rattle.thread_local_ids.specs.contracts.witness.Witness as Witness
 use Rattle.thread_local_shared_buckets.specs.Shared.{BucketView, StandingBlock, Sized, len, first as first_id}
 use Rattle.thread_local_shared_buckets.specs.Shared.{value_code, bucket_invariant, loaded}
 use Rattle.thread_local_shared_buckets.specs.contracts.shared_bucket.SharedBucket as one_bucket
-use Rattle.thread_local_shared_buckets.specs.contracts.shared_bucket.SharedBucket.value.{ended, clauses}
-use Rattle.thread_local_shared_buckets.specs.contracts.shared_bucket.SharedBucket.value.Key.{name as #self}
+use Rattle.thread_local_shared_buckets.specs.contracts.shared_bucket.SharedBucket.value.{ended, clauses, Key.name as #self}
 use Rattle.thread_local_shared_buckets.proofs.RowFields.{pointer_good, word_laws}
 use Rattle.thread_local_shared_buckets.proofs.Loads.{glimpse, reaches, reads, unborn_untold}
 use Rattle.thread_local_shared_buckets.proofs.Looks.{finds}
@@ -61,10 +60,7 @@ value_spec {M} 𝓤 𝓛 𝓜 𝓡 wired T L =
     (stay_dropped self yes, (stay_dropped number yes, (stay_dropped seen yes, tt))) in
     proved 𝓛 En hs c 𝓜 𝓡 (
       Goes-dropped 𝓛 3 self yes (λ κs x f. refl),
-      (
-        Goes-dropped 𝓛 3 number yes (λ κs x f. refl),
-        (Goes-dropped 𝓛 3 seen yes (λ κs x f. refl), tt),
-      ),
+      (Goes-dropped 𝓛 3 number yes (λ κs x f. refl), (Goes-dropped 𝓛 3 seen yes (λ κs x f. refl), tt)),
     )
     (#self inst) fn (code.unfolded 𝓤 H 𝓜 𝓡 wired (T, tt))
     (λ κs. (shr_vals, (uint_vals w64, (shr_vals, tt))))
@@ -100,7 +96,7 @@ value_spec {M} 𝓤 𝓛 𝓜 𝓡 wired T L =
     rewrite ! 0 (λ (z : Option ℕ). ‵ (tells R z w.id (Some x))) in_sharing refl $
     rewrite ! 0 (λ (j : ℕ). ‵ (tells R d.sharing j (Some x))) at_k refl $
     -- [what is told; what the `&` holds; κ's token; the others]
-    enter ! 𝓣.C 𝓣.Λ fn (vptr b o ∷ vint w64 i ∷ p' ∷ []) Post $ alloc_all ! (λ l.
+    enter ! _ _ _ _ _ $ alloc_all ! (λ l.
     pass_all ! refl ((tt, tt), ((tt, record { fits = are.1.0.1 }), ((tt, tt), tt))) $
     let Ev = env fn.locals l in
     move ! (1 ∷ []) $ unhide ! $ fsplit ! $ fpick ! (λ judged. drop ! $ fpick ! (λ t.
@@ -165,7 +161,7 @@ value_spec {M} 𝓤 𝓛 𝓜 𝓡 wired T L =
     sets_last ! (addr ! (through ! refl (stop !))) refl (tt, tt) $
     exec ! 𝓣.C 𝓣.Λ Ev (after 3 fn.body) (at_ret Ev Post) $
     sets ! (of_opd ! (get ! refl)) refl (tt, tt) $
-    move ! (1 ∷ 3 ∷ []) $ join ! $ move ! (1 ∷ []) $ feq_i ! (List Val) (vptr pb e ∷ []) (vptr pb e ∷ []) refl $ fjoin ! $
+    move ! (1 ∷ 3 ∷ []) $ join ! $ move ! (1 ∷ []) $ feq_i ! _ (vptr pb e ∷ []) _ refl $ fjoin ! $
     use0 𝓛 (raw (fact 𝓤 (x ≡ x))) (fact_i 𝓤 (x ≡ x) (emp 𝓤) refl) $ nothing ! $ nothing ! $
     fjoin ! $ nothing ! $ fjoin ! $ nothing ! $ fjoin ! $
     returns ! (look_at ! 0 refl) $ free_all ! refl $ keep ! (3 ∷ 0 ∷ 2 ∷ 1 ∷ []) $
