@@ -24,3 +24,4 @@ pub mod Word
 pub mod Words
 pub mod Opened
 pub mod Pointers
+pub mod Signs
