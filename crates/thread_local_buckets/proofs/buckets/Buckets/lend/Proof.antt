@@ -1,11 +1,11 @@
 -- `lend` takes the address of the pointers, and splits the owner's borrow to make what a loan owns.
-use Rattle.thread_local_model.proofs.Names.{◌≡◌, ℕ, ◌+◌, [], ◌∷◌, refl, ap, full_share, a_type, named, Val, vptr}
+use Rattle.thread_local_model.proofs.Names.{◌≡◌, ℕ, ◌+◌, [], ◌∷◌, refl, ap, full_share, a_type, named, vptr}
 use Rattle.thread_local_model.proofs.Names.{inst_fn, SProp, ent, ex, sep, sem, emp, Lft, Share, GName, Fml, ftrue}
 use Rattle.thread_local_model.proofs.Names.{fsep, flft, ‵, raw, ◌⊛◌, some, given, later, ◌$◌, ◌∵◌, !, qed, by, move}
 use Rattle.thread_local_model.proofs.Names.{keep, split, split3, join, fsplit, fsplit3, fjoin, pick, learn, group}
 use Rattle.thread_local_model.proofs.Names.{use0, use1, use2, await, stop, fld, addr, of_opd, returns, enter}
 use Rattle.thread_local_model.proofs.Names.{alloc_all, pass_all, free_all, look_at, get, through, sets, open_ref}
-use Rattle.thread_local_model.proofs.Names.{tables, fact_i, no, RattleType, owns, types_at, plain, named_lft}
+use Rattle.thread_local_model.proofs.Names.{fact_i, no, RattleType, owns, types_at, plain, named_lft}
 use Rattle.thread_local_model.proofs.Names.{block_ptr, nothing, mem, lone, part_at, param, param_laws, layouts, usize}
 use Rattle.thread_local_model.proofs.Names.{RefMutOf, mut_vals, mut_Tells, Stays, stay_dropped, walk_of, proved}
 use Rattle.thread_local_model.proofs.Names.{leaves, Member, w64}
@@ -34,8 +34,7 @@ use Rattle.thread_local_buckets.proofs.Lending.{lends}
 use Rattle.thread_local_buckets.specs.LendingValues.{owned_refilled}
 use Rattle.thread_local_buckets.specs.contracts.buckets.Buckets as buckets
 use Rattle.thread_local_buckets.specs.contracts.buckets.Buckets.TheInside as inside
-use Rattle.thread_local_buckets.specs.contracts.buckets.Buckets.lend.{ended, clauses}
-use Rattle.thread_local_buckets.specs.contracts.buckets.Buckets.lend.Key.{name as #self}
+use Rattle.thread_local_buckets.specs.contracts.buckets.Buckets.lend.{ended, clauses, Key.name as #self}
 use Rattle.thread_local_buckets.proofs.Refilling.{IsOwned-refilled}
 use Rattle.thread_local_buckets.proofs.buckets.Buckets.lend.Statement.{statement}
 use Rattle.thread_local_buckets.proofs.buckets.Buckets.lend.Code as code
@@ -102,8 +101,6 @@ module _ {M : Type 1} {𝓤 : Ura M} (𝓛 : Logic 𝓤) (X : RattleType) (L : L
 
 pub lend_spec : {M : Type 1} → statement M
 lend_spec 𝓤 𝓛 𝓜 𝓡 wired X L =
-    let H = 𝓛.H in
-    let 𝓣 = tables 𝓤 H 𝓜 𝓡 𝓡.env in
     let R : RattleType = param 0 X in
     let En = ended X in
     let c = clauses X 𝓛 𝓜.mem 𝓡.returns in
@@ -112,7 +109,7 @@ lend_spec 𝓤 𝓛 𝓜 𝓡 wired X L =
     let self = RefMutOf (0 ∷ []) tt row (λ _. tt) in
     let hs : Stays En.signature.params En.kept = (stay_dropped self no, tt) in
     proved 𝓛 En hs c 𝓜 𝓡 (Goes-spent_ref 𝓛 2 (0 ∷ []) tt row, tt) (#self inst) fn
-    (code.unfolded 𝓤 H 𝓜 𝓡 wired (X, tt))
+    (code.unfolded 𝓤 𝓛.H 𝓜 𝓡 wired (X, tt))
     (λ κs. (mut_vals, tt)) (λ κs. (mut_Tells (named 0) κs.0 Owner, tt)) (λ κs qs bounds a gh are.
     let b : ℕ = a.0.ref_ptr.0 in
     let o : ℕ = a.0.ref_ptr.1 in
@@ -122,11 +119,10 @@ lend_spec 𝓤 𝓛 𝓜 𝓡 wired X L =
     let t : Owned R.Denot = a.0.now in
     let ℓ = named_lft 2 0 tt κs in let Lo : RattleType = loan.the_row ℓ R in let others : Fml = fsep (flft κs.1.0 qs.1.0) ftrue in
     let y : (walk_of 𝓛 En hs c).Ghost = ((κs, qs, bounds, a, (vptr b o ∷ [], tt)), gh) in
-    let Post : Val → SProp 𝓤 = (walk_of 𝓛 En hs c).post y in
     qed 𝓛 (((‵ (flft κ q) ⊛ ‵ others) ⊛ ‵ (owns (types_at En.signature.params κs) a y.0.4))
     ∷ raw ((c κs a).requires gh) ∷ []) ∵
     split ! $ split ! $ move ! (2 ∷ []) $ fsplit ! $ fsplit3 ! $ keep ! (1 ∷ 2 ∷ 4 ∷ 5 ∷ []) $
-    enter ! 𝓣.C 𝓣.Λ fn (vptr b o ∷ []) Post $ alloc_all ! (λ l. pass_all ! refl ((tt, tt), tt) $
+    enter ! _ _ _ _ _ $ alloc_all ! (λ l. pass_all ! refl ((tt, tt), tt) $
     sets ! (addr ! (through ! refl (fld ! refl (stop !)))) refl (tt, tt) $
     sets ! (of_opd ! (get ! refl)) refl (tt, tt) $ sets ! (of_opd ! (get ! refl)) refl (tt, tt) $
     sets ! (agg ! (no_more !)) refl (tt, tt) $

@@ -21,8 +21,7 @@ use Rattle.std.proofs.alloc.Shapes.{after}
 use Rattle.thread_local_model.specs.Buckets.{row}
 use Rattle.thread_local_buckets.specs.Lent.{Lending, Known, lending, framed, frames, PointsTo}
 use Rattle.thread_local_buckets.specs.contracts.loan.Loan as loan
-use Rattle.thread_local_buckets.specs.contracts.loan.Loan.enter.{ended, clauses}
-use Rattle.thread_local_buckets.specs.contracts.loan.Loan.enter.Key.{name as #self}
+use Rattle.thread_local_buckets.specs.contracts.loan.Loan.enter.{ended, clauses, Key.name as #self}
 use Rattle.thread_local_buckets.proofs.Fields.{FieldsType, told, made, loan_val, leads_in}
 use Rattle.thread_local_buckets.proofs.Frames.{pointer, in_row, Frame, frame_out}
 use Rattle.thread_local_buckets.proofs.loan.Loan.enter.Statement.{statement}
@@ -30,8 +29,7 @@ use Rattle.thread_local_buckets.proofs.loan.Loan.enter.Code as code
 
 pub enter_spec : {M : Type 1} → statement M
 enter_spec 𝓤 𝓛 𝓜 𝓡 wired X L =
-    let H = 𝓛.H in
-    let 𝓣 = tables 𝓤 H 𝓜 𝓡 𝓡.env in
+    let 𝓣 = tables 𝓤 𝓛.H 𝓜 𝓡 𝓡.env in
     let R : RattleType = param 0 X in
     let En = ended X in
     let c₀ = clauses X 𝓛 𝓜.mem 𝓡.returns in
@@ -43,12 +41,9 @@ enter_spec 𝓤 𝓛 𝓜 𝓡 wired X L =
     ) in
     let goes = Goes-dropped 𝓛 3 (plain (λ _. usize)) yes (λ κs x f. refl) in
     proved 𝓛 En hs c₀ 𝓜 𝓡 (Goes-ref 𝓛 3 0 tt mine, (goes, (goes, tt))) (#self inst) fn
-    (code.unfolded 𝓤 H 𝓜 𝓡 wired (X, tt))
+    (code.unfolded 𝓤 𝓛.H 𝓜 𝓡 wired (X, tt))
     (λ κs. (mut_vals, (uint_vals w64, (uint_vals w64, tt))))
-    (λ κs. (
-      mut_Tells (named 0) κs.0 (loan.the_row (named_lft 3 1 tt κs) R),
-      (uint_Tells w64, (uint_Tells w64, tt)),
-    ))
+    (λ κs. (mut_Tells (named 0) κs.0 (loan.the_row (named_lft 3 1 tt κs) R), (uint_Tells w64, (uint_Tells w64, tt))))
     (λ κs qs bounds a gh are.
     let ℓ = named_lft 3 1 tt κs in let Lo : RattleType = loan.the_row ℓ R in let D : RattleType = FieldsType ℓ R in
     let b : ℕ = a.0.ref_ptr.0 in
@@ -65,7 +60,7 @@ enter_spec 𝓤 𝓛 𝓜 𝓡 wired X L =
     ∷ raw (fact 𝓤 _) ∷ (raw (fact 𝓤 InTable) ⊛ raw (fact 𝓤 InBucket)) ∷ []) ∵
     keep ! (2 ∷ 0 ∷ []) $ split ! $ heard ! InTable (λ small. heard ! InBucket (λ inside. split ! $
     split ! $ move ! (2 ∷ []) $ fsplit ! $ fsplit3 ! $ keep ! (1 ∷ 2 ∷ 4 ∷ 5 ∷ []) $
-    enter ! 𝓣.C 𝓣.Λ fn (vptr b o ∷ vint w64 k ∷ vint w64 i ∷ []) Post $ alloc_all ! (λ l.
+    enter ! _ _ _ _ _ $ alloc_all ! (λ l.
     pass_all ! refl
     ((tt, tt), ((tt, record { fits = are.1.0.1 }), ((tt, record { fits = are.1.1.0.1 }), tt))) $
     let Ev = env fn.locals l in
@@ -148,7 +143,7 @@ enter_spec 𝓤 𝓛 𝓜 𝓡 wired X L =
     move ! (3 ∷ []) $ drop ! $
     use0 𝓛 (‵ (D.own_val (q, (u, (tt, tt))) (loan_val q u ∷ []))) (made ℓ R 𝓛 q u) $ fjoin ! $
     move ! (3 ∷ 0 ∷ 4 ∷ 5 ∷ 6 ∷ []) $ closes ! tt Lo h' (loan_val q u ∷ []) b o $
-    feq_i ! (List Val) (vptr b o ∷ []) (vptr b o ∷ []) refl $ fjoin3 ! $ nothing ! $ nothing ! $
+    feq_i ! _ (vptr b o ∷ []) _ refl $ fjoin3 ! $ nothing ! $ nothing ! $
     fjoin ! $ nothing ! $ fjoin ! $ move ! (1 ∷ 0 ∷ []) $ fjoin ! $ move ! (2 ∷ 3 ∷ []) $ fjoin ! $
     move ! (2 ∷ 0 ∷ []) $ join ! $
     use0 𝓛 (raw (fact 𝓤 (i ≡ i))) (fact_i 𝓤 (i ≡ i) (emp 𝓤) refl) $
@@ -156,6 +151,6 @@ enter_spec 𝓤 𝓛 𝓜 𝓡 wired X L =
     use0 𝓛 (raw (fact 𝓤 (h.given ≡ h.given))) (fact_i 𝓤 (h.given ≡ h.given) (emp 𝓤) refl) $ join ! $
     use0 𝓛 (raw (fact 𝓤 (h.contents ≡ h.contents))) (fact_i 𝓤 (h.contents ≡ h.contents) (emp 𝓤) refl) $ join ! $
     use0 𝓛 (raw (fact 𝓤 (h.name ≡ h.name))) (fact_i 𝓤 (h.name ≡ h.name) (emp 𝓤) refl) $ join ! $
-    feq_i ! (List Val) (vunit ∷ []) (vunit ∷ []) refl $
+    feq_i ! _ (vunit ∷ []) _ refl $
     returns ! (look_at ! 0 refl) $ free_all ! refl $ keep ! (2 ∷ 3 ∷ 0 ∷ 1 ∷ []) $
     by ! (leaves 𝓛 En hs c₀ y vunit tt (h', (tt, (tt, tt))) (tt, (tt, (tt, tt)))))))))))))

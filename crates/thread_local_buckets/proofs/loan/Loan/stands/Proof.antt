@@ -19,8 +19,7 @@ use Rattle.std.proofs.alloc.Shapes.{after}
 use Rattle.thread_local_model.specs.Buckets.{row, IsTable, stands}
 use Rattle.thread_local_buckets.specs.Lent.{Lending, Known, lending, framed, frames, PointsTo}
 use Rattle.thread_local_buckets.specs.contracts.loan.Loan as loan
-use Rattle.thread_local_buckets.specs.contracts.loan.Loan.stands.{ended, clauses}
-use Rattle.thread_local_buckets.specs.contracts.loan.Loan.stands.Key.{name as #self}
+use Rattle.thread_local_buckets.specs.contracts.loan.Loan.stands.{ended, clauses, Key.name as #self}
 use Rattle.std.proofs.Common.{true, false, length}
 use Rattle.thread_local_buckets.proofs.Left.{no_row, whole_row}
 use Rattle.thread_local_buckets.proofs.Fields.{FieldsType, told, loan_val, pointer_good, testable, leads}
@@ -30,8 +29,7 @@ use Rattle.thread_local_buckets.proofs.loan.Loan.stands.Code as code
 
 pub stands_spec : {M : Type 1} → statement M
 stands_spec 𝓤 𝓛 𝓜 𝓡 wired X L =
-    let H = 𝓛.H in
-    let 𝓣 = tables 𝓤 H 𝓜 𝓡 𝓡.env in
+    let 𝓣 = tables 𝓤 𝓛.H 𝓜 𝓡 𝓡.env in
     let R : RattleType = param 0 X in
     let En = ended X in
     let c = clauses X 𝓛 𝓜.mem 𝓡.returns in
@@ -40,7 +38,7 @@ stands_spec 𝓤 𝓛 𝓜 𝓡 wired X L =
     let hs : Stays En.signature.params En.kept = (stay_ref (0 ∷ []) tt mine, (stay_dropped (plain (λ _. usize)) yes, tt)) in
     proved 𝓛 En hs c 𝓜 𝓡
     (Goes-ref 𝓛 3 0 tt mine, (Goes-dropped 𝓛 3 (plain (λ _. usize)) yes (λ κs x f. refl), tt))
-    (#self inst) fn (code.unfolded 𝓤 H 𝓜 𝓡 wired (X, tt))
+    (#self inst) fn (code.unfolded 𝓤 𝓛.H 𝓜 𝓡 wired (X, tt))
     (λ κs. (mut_vals, (uint_vals w64, tt)))
     (λ κs. (mut_Tells (named 0) κs.0 (loan.the_row (named_lft 3 1 tt κs) R), (uint_Tells w64, tt)))
     (λ κs qs bounds a gh are.
@@ -54,7 +52,7 @@ stands_spec 𝓤 𝓛 𝓜 𝓡 wired X L =
     ∷ raw (fact 𝓤 _) ∷ raw (fact 𝓤 (k < 63)) ∷ []) ∵
     keep ! (2 ∷ 0 ∷ []) $ heard ! (k < 63) (λ small. split ! $ split ! $ move ! (2 ∷ []) $
     fsplit ! $ fsplit3 ! $ keep ! (1 ∷ 2 ∷ 4 ∷ 5 ∷ []) $
-    enter ! 𝓣.C 𝓣.Λ fn (vptr b o ∷ vint w64 k ∷ []) Post $ alloc_all ! (λ l.
+    enter ! _ _ _ _ _ $ alloc_all ! (λ l.
     pass_all ! refl ((tt, tt), ((tt, record { fits = are.1.0.1 }), tt)) $
     let Ev = env fn.locals l in
     opens ! tt Lo b o (λ ts. move ! (1 ∷ []) $ fsplit ! $
@@ -105,7 +103,7 @@ stands_spec 𝓤 𝓛 𝓜 𝓡 wired X L =
     move ! (3 ∷ 0 ∷ []) $ fjoin ! $
     rewrite ! 3 (λ (ws : List Val). ‵ (cell_at full_share Lo.mir ws b o)) (sym ev) refl $
     move ! (3 ∷ 0 ∷ 4 ∷ 5 ∷ 6 ∷ []) $ closes ! tt Lo h ts b o $
-    feq_i ! (List Val) (vptr b o ∷ []) (vptr b o ∷ []) refl $ fjoin3 ! $ nothing ! $ nothing ! $
+    feq_i ! _ (vptr b o ∷ []) _ refl $ fjoin3 ! $ nothing ! $ nothing ! $
     fjoin ! $ move ! (1 ∷ 0 ∷ []) $ fjoin ! $ move ! (2 ∷ 3 ∷ []) $ fjoin ! $ move ! (2 ∷ 0 ∷ []) $
     join ! $
     let yes_or_no : Bool = not (ptr_same (ptr_val p) vnull) in let Told : Type 0 = yes_or_no ≡ stands h.contents k in
@@ -121,6 +119,6 @@ stands_spec 𝓤 𝓛 𝓜 𝓡 wired X L =
     join ! $
     use0 𝓛 (raw (fact 𝓤 Told)) (fact_i 𝓤 Told (emp 𝓤) told) $ join ! $
     use0 𝓛 (raw (fact 𝓤 (h ≡ h))) (fact_i 𝓤 (h ≡ h) (emp 𝓤) refl) $ join ! $
-    feq_i ! (List Val) (vbool yes_or_no ∷ []) (vbool yes_or_no ∷ []) refl $
+    feq_i ! _ (vbool yes_or_no ∷ []) _ refl $
     returns ! (look_at ! 0 refl) $ free_all ! refl $ keep ! (2 ∷ 3 ∷ 0 ∷ 1 ∷ []) $
     by ! (leaves 𝓛 En hs c y (vbool yes_or_no) yes_or_no (h, (tt, tt)) (tt, (tt, tt)))))))))))
