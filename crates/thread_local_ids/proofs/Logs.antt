@@ -12,15 +12,16 @@ use base.Fraction.{full_share}
 use base.FractionLaws.{not-OpDef-full_share}
 use base.Share
 use base.Growing.{Order, Sum, prefixes, grows}
-use base.Logic.{SProp, ent, sep, guard, upd, guard_i}
+use base.Logic.{guard, upd, guard_i}
 use base.Graph.{sum_in}
-use base.Fml.{GName, Share, Fml}
-use types.Logic.{Logic, sem}
+use base.Fml.{GName, Share}
+use types.Logic.{Logic}
 use types.Keyed.{keyed}
 use types.Owned.{own_sum, own_step}
 use Rattle.thread_local_model.specs.IdMoves.{IdMove, move_coded}
 use Rattle.thread_local_ids.specs.Rights.{telling, Element, at_if, element_at}
 use Rattle.thread_local_ids.proofs.RightElements.{Row, at_key, at_each_key}
+use Rattle.thread_local_model.proofs.Signs.{signs}
 
 sum_at : (t : Bool) (a b c : Element) → c ∈ telling.op a b → at_if t c ∈ at_key (at_if t a) (at_if t b)
 sum_at true a b c m = (Opt.some-mem-op-some_iff telling.op {a = a} {b = b} {c = c}).1 m
@@ -50,20 +51,10 @@ raised a b h none c d = ((some full_share, b), under full_share b c (O.trans c a
 raised a b h (some q) c d = absurd (not-OpDef-full_share q d.1.0.0)
 
 module _ {M : Type 1} {𝓤 : Ura M} (𝓛 : Logic 𝓤) (key : ℕ) where
-  abbrev Pr : Type 2
-  Pr = SProp 𝓤
-
-  abbrev ◌⊢◌ : Pr → Pr → Type 1
-  P ⊢ Q = ent 𝓤 P Q
-
-  abbrev ◌∗◌ : Pr → Pr → Pr
-  P ∗ Q = sep 𝓤 P Q
-
-  abbrev ⟦◌⟧ : Fml → Pr
-  ⟦ P ⟧ = sem 𝓛 P
-
+  open signs 𝓛 use {⟦◌⟧, ◌⊢◌, ◌∗◌}
   infix 26 ◌⊢◌
   infixr 35 ◌∗◌
+
   abbrev row : Element → Row
   row a j = at_if (key == j) a
 
