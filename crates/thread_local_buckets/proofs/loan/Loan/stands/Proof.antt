@@ -22,10 +22,11 @@ use Rattle.thread_local_buckets.specs.contracts.loan.Loan as loan
 use Rattle.thread_local_buckets.specs.contracts.loan.Loan.stands.{ended, clauses, Key.name as #self}
 use Rattle.std.proofs.Common.{true, false, length}
 use Rattle.thread_local_buckets.proofs.Left.{no_row, whole_row}
-use Rattle.thread_local_buckets.proofs.Fields.{FieldsType, told, loan_val, pointer_good, testable, leads}
+use Rattle.thread_local_buckets.proofs.Fields.{FieldsType, told, loan_val, testable, leads}
 use Rattle.thread_local_buckets.proofs.Frames.{pointer, in_row, Frame, frame_out}
 use Rattle.thread_local_buckets.proofs.loan.Loan.stands.Statement.{statement}
 use Rattle.thread_local_buckets.proofs.loan.Loan.stands.Code as code
+use Rattle.thread_local_bucket_pointers.proofs.Slots.{ptr_good}
 
 pub stands_spec : {M : Type 1} → statement M
 stands_spec 𝓤 𝓛 𝓜 𝓡 wired X L =
@@ -86,9 +87,9 @@ stands_spec 𝓤 𝓛 𝓜 𝓡 wired X L =
     sets ! (bin ! (get ! refl) (lit ! tt) (record { fits = low })) refl (tt, record { fits = low }) $
     sets ! (bin ! (get ! refl) (get ! refl) tt) refl (tt, tt) $
     sets_last ! (of_opd ! (load ! (through ! refl (stop !)) (look ! 0 refl))) refl
-    (pointer_good p) $
+    (ptr_good p) $
     exec ! 𝓣.C 𝓣.Λ Ev (after 1 fn.body) (at_ret Ev Post) $
-    sets ! (of_opd ! (get ! refl)) refl (pointer_good p) $
+    sets ! (of_opd ! (get ! refl)) refl (ptr_good p) $
     sets ! (bin ! (get ! refl) (lit ! tt) (testable R p r lead)) refl (tt, tt) $
     sets ! (un ! (get ! refl) tt) refl (tt, tt) $
     nothing ! $ fpack ! (PointsTo R p r) (λ _. ftrue) lead $ move ! (1 ∷ 0 ∷ 2 ∷ []) $ fjoin3 ! $
