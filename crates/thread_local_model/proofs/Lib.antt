@@ -25,3 +25,4 @@ pub mod Words
 pub mod Opened
 pub mod Pointers
 pub mod Signs
+pub mod Walking

@@ -1,10 +1,10 @@
 -- `lay` takes the block apart and writes its pointer.
 use Rattle.thread_local_model.proofs.Names.{◌≡◌, ℕ, ◌<◌, List, [], ◌∷◌, length, refl, Option, a_type, named, Val, vptr}
-use Rattle.thread_local_model.proofs.Names.{vunit, inst_fn, full_share, emp, Fml, ftrue, fsep, flft, ‵, raw}
+use Rattle.thread_local_model.proofs.Names.{vunit, inst_fn, full_share, Fml, ftrue, fsep, flft, ‵, raw}
 use Rattle.thread_local_model.proofs.Names.{◌⊛◌, ◌$◌, ◌∵◌, !, qed, by, move, keep, drop, use0, use1, split, join}
 use Rattle.thread_local_model.proofs.Names.{fsplit, fsplit3, fjoin, fjoin3, rewrite, feq_i, stop, fld, unit_lit}
 use Rattle.thread_local_model.proofs.Names.{of_opd, returns, enter, assigns, alloc_all, pass_all, free_all, look_at}
-use Rattle.thread_local_model.proofs.Names.{get, get_in, through, sets, sub, whole, fact, fact_i, no}
+use Rattle.thread_local_model.proofs.Names.{get, get_in, through, sets, sub, whole, fact, no}
 use Rattle.thread_local_model.proofs.Names.{RattleType, owns, types_at, plain, Ptr, nothing, heard, opens, closes}
 use Rattle.thread_local_model.proofs.Names.{peeks, shows, param, layouts, mut_vals, mut_Tells, Stays, stay_dropped}
 use Rattle.thread_local_model.proofs.Names.{stay_ref, walk_of, Goes-dropped, Goes-ref, cell_at, proved, leaves}
@@ -21,16 +21,13 @@ use Rattle.thread_local_bucket_pointers.proofs.PointerSteps.{pointer_val, told, 
 use Rattle.thread_local_bucket_pointers.proofs.Slots.{ptr_good}
 use Rattle.thread_local_bucket_pointers.proofs.bucket_pointer.BucketPointer.lay.Statement.{statement}
 use Rattle.thread_local_bucket_pointers.proofs.bucket_pointer.BucketPointer.lay.Code as code
+use Rattle.thread_local_model.proofs.Walking.{knows}
 
 pub lay_spec : {M : Type 1} → statement M
 lay_spec 𝓤 𝓛 𝓜 𝓡 wired T L =
-    let R : RattleType = param 0 T in
-    let Z : RattleType = heap.the_row in
-    let PointerRow : RattleType = one_pointer.the_row R in
-    let Bl : RattleType = block.the_row R Z ghosts in
-    let En = ended T in
-    let c = clauses T 𝓛 𝓜.mem 𝓡.returns in
-    let inst = layouts (a_type ∷ []) (T, tt) in
+    let R : RattleType = param 0 T in let Z : RattleType = heap.the_row in
+    let PointerRow : RattleType = one_pointer.the_row R in let Bl : RattleType = block.the_row R Z ghosts in
+    let En = ended T in let c = clauses T 𝓛 𝓜.mem 𝓡.returns in let inst = layouts (a_type ∷ []) (T, tt) in
     let fn = inst_fn inst code.function in
     let hs : Stays En.signature.params En.kept =
     (stay_ref (0 ∷ []) tt (plain (λ _. PointerRow)), (stay_dropped (plain (λ _. Bl)) no, tt)) in
@@ -43,13 +40,9 @@ lay_spec 𝓤 𝓛 𝓜 𝓡 wired T L =
     (λ κs.
     (mut_Tells (named 0) κs.0 PointerRow, ((λ x vs so. fields.told R Z ghosts x.at vs so.0), tt)))
     (λ κs qs bounds a gh are.
-    let b' : ℕ = a.0.ref_ptr.0 in
-    let o' : ℕ = a.0.ref_ptr.1 in
-    let h : PointerRow.Denot = a.0.now in
+    let b' : ℕ = a.0.ref_ptr.0 in let o' : ℕ = a.0.ref_ptr.1 in let h : PointerRow.Denot = a.0.now in
     let x : Bl.Denot = a.1.0 in
-    let p : Ptr = x.at in
-    let cs : List (Option T.Denot) = x.slots in
-    let others : Fml = fsep (flft κs.1.0 qs.1.0) ftrue in
+    let p : Ptr = x.at in let cs : List (Option T.Denot) = x.slots in let others : Fml = fsep (flft κs.1.0 qs.1.0) ftrue in
     let y : (walk_of 𝓛 En hs c).Ghost =
     ((κs, qs, bounds, a, (vptr b' o' ∷ [], (fields.block_val p ∷ [], tt))), gh) in
     let Made : Type 0 = (x.left ≡ 0) × (0 < length cs) in
@@ -76,7 +69,7 @@ lay_spec 𝓤 𝓛 𝓜 𝓡 wired T L =
     closes ! tt PointerRow h' (pointer_val p ∷ []) b' o' $
     feq_i ! _ (vptr b' o' ∷ []) _ refl $ fjoin3 ! $ nothing ! $ nothing ! $
     fjoin ! $ move ! (1 ∷ 0 ∷ []) $ fjoin ! $ move ! (1 ∷ 2 ∷ []) $ join ! $
-    use0 𝓛 (raw (fact 𝓤 (cs ≡ cs))) (fact_i 𝓤 (cs ≡ cs) (emp 𝓤) refl) $
+    knows ! (cs ≡ cs) refl $
     feq_i ! _ (vunit ∷ []) _ refl $
     returns ! (look_at ! 0 refl) $ free_all ! refl $ keep ! (2 ∷ 3 ∷ 0 ∷ 1 ∷ []) $
     by ! (leaves 𝓛 En hs c y vunit tt (h', (tt, tt)) (tt, (tt, tt))))))))

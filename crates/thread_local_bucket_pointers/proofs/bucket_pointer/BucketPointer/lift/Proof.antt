@@ -1,11 +1,11 @@
 -- `lift` reads the pointer, and writes null.
 use Rattle.thread_local_model.proofs.Names.{◌≡◌, ℕ, ◌<◌, List, [], ◌∷◌, length, refl, Option, a_type, named, Val, vptr}
-use Rattle.thread_local_model.proofs.Names.{inst_fn, full_share, emp, Fml, ftrue, fsep, flft, ‵, raw, ◌⊛◌, ◌$◌}
+use Rattle.thread_local_model.proofs.Names.{inst_fn, full_share, Fml, ftrue, fsep, flft, ‵, raw, ◌⊛◌, ◌$◌}
 use Rattle.thread_local_model.proofs.Names.{◌∵◌, !, qed, by, move, keep, drop, use0, use1, split, join, fsplit}
 use Rattle.thread_local_model.proofs.Names.{fsplit3, fjoin, fjoin3, fpack, rewrite, feq_i, stop, fld, load, lit}
 use Rattle.thread_local_model.proofs.Names.{of_opd, no_more, and_then, returns, enter, assigns, alloc_all, pass_all}
 use Rattle.thread_local_model.proofs.Names.{free_all, look_at, get, through, sets, agg, sub, look_in, whole}
-use Rattle.thread_local_model.proofs.Names.{fact, fact_i, yes, RattleType, owns, types_at, plain, Ptr, null_ptr}
+use Rattle.thread_local_model.proofs.Names.{fact, yes, RattleType, owns, types_at, plain, Ptr, null_ptr}
 use Rattle.thread_local_model.proofs.Names.{nothing, heard, opens, closes, peeks, shows, param, layouts, RefOf}
 use Rattle.thread_local_model.proofs.Names.{mut_vals, mut_Tells, shr_vals, shr_Tells, Stays, stay_dropped, stay_ref}
 use Rattle.thread_local_model.proofs.Names.{walk_of, Goes-dropped, Goes-ref, cell_at, proved, leaves}
@@ -21,16 +21,13 @@ use Rattle.thread_local_bucket_pointers.proofs.PointerSteps.{pointer_val, told, 
 use Rattle.thread_local_bucket_pointers.proofs.Slots.{ptr_good}
 use Rattle.thread_local_bucket_pointers.proofs.bucket_pointer.BucketPointer.lift.Statement.{statement}
 use Rattle.thread_local_bucket_pointers.proofs.bucket_pointer.BucketPointer.lift.Code as code
+use Rattle.thread_local_model.proofs.Walking.{knows}
 
 pub lift_spec : {M : Type 1} → statement M
 lift_spec 𝓤 𝓛 𝓜 𝓡 wired T L =
-    let R : RattleType = param 0 T in
-    let Z : RattleType = heap.the_row in
-    let PointerRow : RattleType = one_pointer.the_row R in
-    let Bl : RattleType = block.the_row R Z ghosts in
-    let En = ended T in
-    let c = clauses T 𝓛 𝓜.mem 𝓡.returns in
-    let inst = layouts (a_type ∷ []) (T, tt) in
+    let R : RattleType = param 0 T in let Z : RattleType = heap.the_row in
+    let PointerRow : RattleType = one_pointer.the_row R in let Bl : RattleType = block.the_row R Z ghosts in
+    let En = ended T in let c = clauses T 𝓛 𝓜.mem 𝓡.returns in let inst = layouts (a_type ∷ []) (T, tt) in
     let fn = inst_fn inst code.function in
     let handle = RefOf (1 ∷ []) tt (plain (λ _. Z)) (λ _. tt) in
     let hs : Stays En.signature.params En.kept =
@@ -40,13 +37,10 @@ lift_spec 𝓤 𝓛 𝓜 𝓡 wired T L =
     (λ κs. (mut_vals, (shr_vals, tt)))
     (λ κs. (mut_Tells (named 0) κs.0 PointerRow, (shr_Tells (named 1) κs.1.0 Z, tt)))
     (λ κs qs bounds a gh are.
-    let b' : ℕ = a.0.ref_ptr.0 in
-    let o' : ℕ = a.0.ref_ptr.1 in
-    let h : PointerRow.Denot = a.0.now in
+    let b' : ℕ = a.0.ref_ptr.0 in let o' : ℕ = a.0.ref_ptr.1 in let h : PointerRow.Denot = a.0.now in
     let hp : ℕ × ℕ = a.1.0.ref_ptr in
     let heap : Z.Denot = a.1.0.now in
-    let p : Ptr = h.at in
-    let cs : List (Option T.Denot) = h.slots in
+    let p : Ptr = h.at in let cs : List (Option T.Denot) = h.slots in
     let others : Fml = fsep (flft κs.1.0 qs.1.0) (fsep (flft κs.1.1.0 qs.1.1.0) ftrue) in
     let y : (walk_of 𝓛 En hs c).Ghost =
     ((κs, qs, bounds, a, (vptr b' o' ∷ [], (vptr hp.0 hp.1 ∷ [], tt))), gh) in
@@ -80,7 +74,7 @@ lift_spec 𝓤 𝓛 𝓜 𝓡 wired T L =
     (‵ ((fields.FieldsType R Z ghosts).own_val (p, (record {}, tt)) (fields.block_val p ∷ [])))
     (fields.made R Z ghosts 𝓛 p) $
     fjoin ! $
-    use0 𝓛 (raw (fact 𝓤 Told)) (fact_i 𝓤 Told (emp 𝓤) (refl, refl, refl)) $
-    use0 𝓛 (raw (fact 𝓤 Null)) (fact_i 𝓤 Null (emp 𝓤) refl) $ join ! $
+    knows ! Told (refl, refl, refl) $
+    knows ! Null refl $ join ! $
     returns ! (look_at ! 0 refl) $ free_all ! refl $ keep ! (2 ∷ 3 ∷ 1 ∷ 0 ∷ []) $
     by ! (leaves 𝓛 En hs c y (fields.block_val p) r (h', (tt, tt)) (tt, (tt, tt))))))))

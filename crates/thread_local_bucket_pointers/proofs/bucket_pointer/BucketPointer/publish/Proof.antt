@@ -1,14 +1,14 @@
 -- `publish` writes the value of a slot, and then sets its bit in its chunk's word.
 use Rattle.thread_local_model.proofs.Names.{◌≡◌, ℕ, ◌+◌, ◌*◌, ◌^◌, ◌<◌, List, [], ◌∷◌, ◌++◌, length, set, sym, refl}
 use Rattle.thread_local_model.proofs.Names.{ap, ◌∙◌, subst, lit<, w64, Option, Some, None, a_type, bare, Val, vint}
-use Rattle.thread_local_model.proofs.Names.{vptr, vunit, inst_fn, full_share, SProp, ent, id⊢, emp, Fml, ftrue, fsep}
+use Rattle.thread_local_model.proofs.Names.{vptr, vunit, inst_fn, full_share, SProp, ent, id⊢, Fml, ftrue, fsep}
 use Rattle.thread_local_model.proofs.Names.{fat, froom, flft, WpFn, ‵, raw, ◌⊛◌, some, given, at_ret, ◌$◌, ◌∵◌, !, qed}
-use Rattle.thread_local_model.proofs.Names.{by, move, keep, use0, use1, use3, split, split3, join, fsplit, fsplit3}
+use Rattle.thread_local_model.proofs.Names.{by, move, keep, use1, use3, split, split3, join, fsplit, fsplit3}
 use Rattle.thread_local_model.proofs.Names.{fjoin, fjoin3, pick, learn, suffices, rewrite, feq_i, stop, fld, load}
 use Rattle.thread_local_model.proofs.Names.{look, lit, unit_lit, size_word, of_opd, bin, first, blocks, exec, returns}
 use Rattle.thread_local_model.proofs.Names.{enter, init, store, assigns, assigns_last, alloc_all, pass_all, free_all}
 use Rattle.thread_local_model.proofs.Names.{look_at, get, through, sets, is, env, sub, look_in, whole, tables, fact}
-use Rattle.thread_local_model.proofs.Names.{fact_i, yes, no, RattleType, owns, types_at, plain, Ptr, block_ptr}
+use Rattle.thread_local_model.proofs.Names.{yes, no, RattleType, owns, types_at, plain, Ptr, block_ptr}
 use Rattle.thread_local_model.proofs.Names.{block_of, count_of, at_block, nothing, heard, opens, closes, peeks, shows}
 use Rattle.thread_local_model.proofs.Names.{param, layout, layouts, param_laws, usize, Stays, stay_dropped, stay_ref}
 use Rattle.thread_local_model.proofs.Names.{walk_of, Goes-dropped, Goes-ref, cell_at, Member, proved_at, leaves, after}
@@ -24,15 +24,12 @@ use Rattle.thread_local_bucket_pointers.specs.contracts.bucket_pointer.BucketPoi
 use Rattle.thread_local_bucket_pointers.proofs.PointerSteps.{pointer_val, told, Again, pointer_slot, pointer_again}
 use Rattle.thread_local_bucket_pointers.proofs.bucket_pointer.BucketPointer.publish.Statement.{statement}
 use Rattle.thread_local_bucket_pointers.proofs.bucket_pointer.BucketPointer.publish.Code as code
+use Rattle.thread_local_model.proofs.Walking.{knows}
 
 pub publish_spec : {M : Type 1} → statement M
 publish_spec 𝓤 𝓛 𝓜 𝓡 wired T L =
-    let 𝓣 = tables 𝓤 𝓛.H 𝓜 𝓡 𝓡.env in
-    let R : RattleType = param 0 T in
-    let PointerRow : RattleType = one_pointer.the_row R in
-    let En = ended T in
-    let c = clauses T 𝓛 𝓜.mem 𝓡.returns in
-    let inst = layouts (a_type ∷ []) (T, tt) in
+    let 𝓣 = tables 𝓤 𝓛.H 𝓜 𝓡 𝓡.env in let R : RattleType = param 0 T in let PointerRow : RattleType = one_pointer.the_row R in
+    let En = ended T in let c = clauses T 𝓛 𝓜.mem 𝓡.returns in let inst = layouts (a_type ∷ []) (T, tt) in
     let fn = inst_fn inst code.function in
     let number = plain (λ _. usize) in let goes = Goes-dropped 𝓛 2 number yes (λ κs x f. refl) in
     let hs : Stays En.signature.params En.kept = (
@@ -48,17 +45,11 @@ publish_spec 𝓤 𝓛 𝓜 𝓡 wired T L =
     let qs = y.0.1 in
     let a = y.0.3 in
     let vss = y.0.4 in
-    let Post : Val → SProp 𝓤 = (walk_of 𝓛 En hs c).post y in
-    let b' : ℕ = a.0.ref_ptr.0 in
-    let o' : ℕ = a.0.ref_ptr.1 in
-    let h : PointerRow.Denot = a.0.now in
-    let p : Ptr = h.at in
-    let cs : List (Option T.Denot) = h.slots in
-    let j : ℕ = a.1.0 in
-    let w : ℕ = a.1.1.0 in
+    let Post : Val → SProp 𝓤 = (walk_of 𝓛 En hs c).post y in let b' : ℕ = a.0.ref_ptr.0 in let o' : ℕ = a.0.ref_ptr.1 in
+    let h : PointerRow.Denot = a.0.now in let p : Ptr = h.at in let cs : List (Option T.Denot) = h.slots in
+    let j : ℕ = a.1.0 in let w : ℕ = a.1.1.0 in
     let new : T.Denot = a.1.1.1.0 in
-    let others : Fml = fsep (flft κs.1.0 qs.1.0) ftrue in
-    let b : ℕ = block_of p in
+    let others : Fml = fsep (flft κs.1.0 qs.1.0) ftrue in let b : ℕ = block_of p in
     let k : ℕ = j / 64 in
     let i : ℕ = j % 64 in
     let at : ℕ = value_offset R (count_of p) j in
@@ -142,7 +133,7 @@ publish_spec 𝓤 𝓛 𝓜 𝓡 wired T L =
     feq_i ! (List Val) vss.0 (vptr b' o' ∷ []) are.0.0 $ fjoin3 ! $ nothing ! $ nothing ! $
     fjoin ! $ nothing ! $ fjoin ! $ nothing ! $ fjoin ! $ move ! (1 ∷ 0 ∷ []) $ fjoin ! $
     move ! (1 ∷ 2 ∷ []) $ join ! $
-    use0 𝓛 (raw (fact 𝓤 (h'.slots ≡ h'.slots))) (fact_i 𝓤 (h'.slots ≡ h'.slots) (emp 𝓤) refl) $
+    knows ! (h'.slots ≡ h'.slots) refl $
     feq_i ! _ (vunit ∷ []) _ refl $
     returns ! (look_at ! 0 refl) $ free_all ! refl $ keep ! (2 ∷ 3 ∷ 0 ∷ 1 ∷ []) $
     by !

@@ -28,11 +28,8 @@ use Rattle.thread_local_bucket_pointers.proofs.retired.RetiredBlock.deallocate.C
 
 pub deallocate_spec : {M : Type 1} → statement M
 deallocate_spec 𝓤 𝓛 𝓜 𝓡 wired T Al L LA ga da dd met _ =
-    let 𝓣 = tables 𝓤 𝓛.H 𝓜 𝓡 𝓡.env in
-    let R : RattleType = param 0 T in
-    let Z : RattleType = param 1 Al in
-    let Lv : RattleType = retired.the_row R Z ga in
-    let En = ended T Al ga da dd in
+    let 𝓣 = tables 𝓤 𝓛.H 𝓜 𝓡 𝓡.env in let R : RattleType = param 0 T in let Z : RattleType = param 1 Al in
+    let Lv : RattleType = retired.the_row R Z ga in let En = ended T Al ga da dd in
     let c = clauses T Al ga da dd 𝓛 𝓜.mem 𝓡.returns in
     let inst = bounded (a_type ∷ a_type ∷ []) (T, (Al, tt)) (dcons da (dcons dd dnil)) in
     let fn = inst_fn inst code.function in
@@ -63,9 +60,7 @@ deallocate_spec 𝓤 𝓛 𝓜 𝓡 wired T Al L LA ga da dd met _ =
     let n : ℕ = a.1.1.0 in
     let τ : Ty = block_ty R n in
     let s : ℕ = a.1.1.1.0 in
-    let κ : Lft = κs.0 in
-    let q : Share = qs.0 in
-    let token : Ty → Ptr → Fml = ga.dealloc_token heap in
+    let κ : Lft = κs.0 in let q : Share = qs.0 in let token : Ty → Ptr → Fml = ga.dealloc_token heap in
     let y : (walk_of 𝓛 En hs c).Ghost = (
       (κs, qs, bounds, a, (block_val p ∷ [], (vptr hp.0 hp.1 ∷ [], (vint w64 n ∷ [], (vint w64 s ∷ [], tt))))),
       gh,
@@ -74,8 +69,7 @@ deallocate_spec 𝓤 𝓛 𝓜 𝓡 wired T Al L LA ga da dd met _ =
     let others : Fml = fsep (flft κs.1.0 qs.1.0) (fsep (flft κs.1.1.0 qs.1.1.0) ftrue) in
     let Asked : Type 0 = (h.heap ≡ heap) × (h.slots ≡ []) × (h.gone ≡ n) in
     let none : List (Option T.Denot) = [] in
-    let b : ℕ = block_of p in
-    let o : ℕ = count_of p in
+    let b : ℕ = block_of p in let o : ℕ = count_of p in
     let p' : Ptr = block_ptr b o in
     let Size : Type 0 = Fits R n → s ≡ size (slots_ty R n) in
     let us : Ptr → List Val = λ u. block_val u ∷ vptr hp.0 hp.1 ∷ vint w64 n ∷ vint w64 s ∷ [] in

@@ -1,12 +1,12 @@
 -- `is_next_published` reads the flag of the next slot, which becomes room where the flag isn't set.
 use Rattle.thread_local_model.proofs.Names.{lit<, ◌≡◌, ℕ, ◌+◌, ◌*◌, ◌^◌, ◌<◌, List, [], ◌∷◌, length, sym, refl, ap}
 use Rattle.thread_local_model.proofs.Names.{◌∙◌, subst, w64, Bool, Option, Ty, a_type, dcons, dnil, named, Val, vint}
-use Rattle.thread_local_model.proofs.Names.{vptr, inst_fn, full_share, SProp, emp, Fml, ftrue, fsep, flft, ‵, raw, ◌⊛◌}
-use Rattle.thread_local_model.proofs.Names.{given, at_ret, ◌$◌, ◌∵◌, !, qed, by, move, keep, use0, use1, use2, split}
+use Rattle.thread_local_model.proofs.Names.{vptr, inst_fn, full_share, SProp, Fml, ftrue, fsep, flft, ‵, raw, ◌⊛◌}
+use Rattle.thread_local_model.proofs.Names.{given, at_ret, ◌$◌, ◌∵◌, !, qed, by, move, keep, use1, use2, split}
 use Rattle.thread_local_model.proofs.Names.{join, fsplit, fsplit3, fjoin, fjoin3, learn, rewrite, feq_i, stop, fld}
 use Rattle.thread_local_model.proofs.Names.{load, look, lit, of_opd, bin, first, blocks, exec, returns, enter}
 use Rattle.thread_local_model.proofs.Names.{alloc_all, pass_all, free_all, look_at, get, through, sets, sets_last, is}
-use Rattle.thread_local_model.proofs.Names.{env, sub, look_in, whole, tables, fact, fact_i, yes, RattleType, owns}
+use Rattle.thread_local_model.proofs.Names.{env, sub, look_in, whole, tables, fact, yes, RattleType, owns}
 use Rattle.thread_local_model.proofs.Names.{types_at, plain, Ptr, block_ptr, block_of, count_of, at_block, nothing}
 use Rattle.thread_local_model.proofs.Names.{heard, opens, closes, peeks, shows, param, bounded, usize, mut_vals}
 use Rattle.thread_local_model.proofs.Names.{mut_Tells, uint_vals, uint_Tells, Stays, stay_dropped, stay_ref, walk_of}
@@ -27,14 +27,12 @@ use Rattle.thread_local_bucket_pointers.proofs.Fields.{block_val}
 use Rattle.thread_local_bucket_pointers.proofs.RetiredBlocks.{told, Shown, Again, next_word, looked}
 use Rattle.thread_local_bucket_pointers.proofs.retired.RetiredBlock.is_next_published.Statement.{statement}
 use Rattle.thread_local_bucket_pointers.proofs.retired.RetiredBlock.is_next_published.Code as code
+use Rattle.thread_local_model.proofs.Walking.{knows}
 
 pub is_next_published_spec : {M : Type 1} → statement M
 is_next_published_spec 𝓤 𝓛 𝓜 𝓡 wired T Al L _ ga da dd _ _ =
-    let 𝓣 = tables 𝓤 𝓛.H 𝓜 𝓡 𝓡.env in
-    let R : RattleType = param 0 T in
-    let Z : RattleType = param 1 Al in
-    let Lv : RattleType = retired.the_row R Z ga in
-    let En = ended T Al ga da dd in
+    let 𝓣 = tables 𝓤 𝓛.H 𝓜 𝓡 𝓡.env in let R : RattleType = param 0 T in let Z : RattleType = param 1 Al in
+    let Lv : RattleType = retired.the_row R Z ga in let En = ended T Al ga da dd in
     let c = clauses T Al ga da dd 𝓛 𝓜.mem 𝓡.returns in
     let inst = bounded (a_type ∷ a_type ∷ []) (T, (Al, tt)) (dcons da (dcons dd dnil)) in let fn = inst_fn inst code.function in
     let number = plain (λ _. usize) in let goes = Goes-dropped 𝓛 3 number yes (λ κs x f. refl) in
@@ -51,16 +49,9 @@ is_next_published_spec 𝓤 𝓛 𝓜 𝓡 wired T Al L _ ga da dd _ _ =
       (κs, qs, bounds, a, (vptr a.0.ref_ptr.0 a.0.ref_ptr.1 ∷ [], (vint w64 a.1.0 ∷ [], (vint w64 a.1.1.0 ∷ [], tt)))),
       gh,
     ) in
-    let Post : Val → SProp 𝓤 = (walk_of 𝓛 En hs c).post y in
-    let b' : ℕ = a.0.ref_ptr.0 in
-    let o' : ℕ = a.0.ref_ptr.1 in
-    let h : Lv.Denot = a.0.now in
-    let token : Ty → Ptr → Fml = ga.dealloc_token h.heap in
-    let p : Ptr = h.at in
-    let cs : List (Option T.Denot) = h.slots in
-    let j : ℕ = a.1.0 in
-    let i : ℕ = a.1.1.0 in
-    let b : ℕ = block_of p in
+    let Post : Val → SProp 𝓤 = (walk_of 𝓛 En hs c).post y in let b' : ℕ = a.0.ref_ptr.0 in let o' : ℕ = a.0.ref_ptr.1 in
+    let h : Lv.Denot = a.0.now in let token : Ty → Ptr → Fml = ga.dealloc_token h.heap in let p : Ptr = h.at in
+    let cs : List (Option T.Denot) = h.slots in let j : ℕ = a.1.0 in let i : ℕ = a.1.1.0 in let b : ℕ = block_of p in
     let m : ℕ = j + length cs in
     let s : Option T.Denot = slot_value cs 0 in
     let Asked : Type 0 = (j ≡ h.gone) × (0 < length cs) in
@@ -124,9 +115,8 @@ is_next_published_spec 𝓤 𝓛 𝓜 𝓡 wired T Al L _ ga da dd _ _ =
     fjoin ! $ nothing ! $ fjoin ! $ move ! (1 ∷ 0 ∷ []) $ fjoin ! $ move ! (1 ∷ 2 ∷ []) $ join ! $
     let Told : Type 0 = r ≡ is_some s in
     let After : Type 0 = (h.heap ≡ h.heap) × (ds ≡ ds) × (k ≡ (if r then h.gone else h.gone + 1)) in
-    use0 𝓛 (raw (fact 𝓤 After))
-    (fact_i 𝓤 After (emp 𝓤) (refl, refl, ap (λ (i : ℕ). if r then i else i + 1) asked.0)) $
-    use0 𝓛 (raw (fact 𝓤 Told)) (fact_i 𝓤 Told (emp 𝓤) refl) $ join ! $
+    knows ! After (refl, refl, ap (λ (i : ℕ). if r then i else i + 1) asked.0) $
+    knows ! Told refl $ join ! $
     feq_i ! _ (vbool r ∷ []) _ refl $
     returns ! (look_at ! 0 refl) $ free_all ! refl $ keep ! (2 ∷ 3 ∷ 0 ∷ 1 ∷ []) $
     by ! (leaves 𝓛 En hs c y (vbool r) r (h', (tt, (tt, tt))) (tt, (tt, (tt, tt))))))))))))

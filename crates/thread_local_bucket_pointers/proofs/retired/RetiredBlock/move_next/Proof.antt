@@ -1,12 +1,12 @@
 -- `move_next` reads the value of the next slot, which becomes room, whatever its flag says.
 use Rattle.thread_local_model.proofs.Names.{◌≡◌, ℕ, ◌+◌, ◌*◌, ◌^◌, ◌<◌, List, [], ◌∷◌, length, sym, refl, ap, ◌∙◌}
 use Rattle.thread_local_model.proofs.Names.{subst, w64, Option, Some, Ty, a_type, dcons, dnil, named, Val, vint, vptr}
-use Rattle.thread_local_model.proofs.Names.{inst_fn, bare, full_share, SProp, emp, Fml, ftrue, fsep, froom, flft, ‵}
-use Rattle.thread_local_model.proofs.Names.{raw, ◌⊛◌, given, at_ret, ◌$◌, ◌∵◌, !, qed, by, move, keep, use0, use1}
+use Rattle.thread_local_model.proofs.Names.{inst_fn, bare, full_share, SProp, Fml, ftrue, fsep, froom, flft, ‵}
+use Rattle.thread_local_model.proofs.Names.{raw, ◌⊛◌, given, at_ret, ◌$◌, ◌∵◌, !, qed, by, move, keep, use1}
 use Rattle.thread_local_model.proofs.Names.{use2, split, join, fsplit, fsplit3, fjoin, fjoin3, learn, rewrite, feq_i}
 use Rattle.thread_local_model.proofs.Names.{stop, fld, load, look_raw, size_word, of_opd, bin, first, blocks, exec}
 use Rattle.thread_local_model.proofs.Names.{returns, enter, alloc_all, pass_all, free_all, look_at, get, through, sets}
-use Rattle.thread_local_model.proofs.Names.{sets_last, is, env, sub, look_in, whole, tables, fact, fact_i, yes}
+use Rattle.thread_local_model.proofs.Names.{sets_last, is, env, sub, look_in, whole, tables, fact, yes}
 use Rattle.thread_local_model.proofs.Names.{RattleType, owns, types_at, plain, Ptr, block_ptr, block_of, count_of}
 use Rattle.thread_local_model.proofs.Names.{at_block, InBlock, nothing, heard, opens, closes, peeks, shows, param}
 use Rattle.thread_local_model.proofs.Names.{layout, param_laws, bounded, usize, mut_vals, mut_Tells, uint_vals}
@@ -25,14 +25,12 @@ use Rattle.thread_local_bucket_pointers.proofs.Fields.{block_val}
 use Rattle.thread_local_bucket_pointers.proofs.RetiredBlocks.{told, Emptied, next_slot}
 use Rattle.thread_local_bucket_pointers.proofs.retired.RetiredBlock.move_next.Statement.{statement}
 use Rattle.thread_local_bucket_pointers.proofs.retired.RetiredBlock.move_next.Code as code
+use Rattle.thread_local_model.proofs.Walking.{knows}
 
 pub move_next_spec : {M : Type 1} → statement M
 move_next_spec 𝓤 𝓛 𝓜 𝓡 wired T Al L _ ga da dd _ _ =
-    let 𝓣 = tables 𝓤 𝓛.H 𝓜 𝓡 𝓡.env in
-    let R : RattleType = param 0 T in
-    let Z : RattleType = param 1 Al in
-    let Lv : RattleType = retired.the_row R Z ga in
-    let En = ended T Al ga da dd in
+    let 𝓣 = tables 𝓤 𝓛.H 𝓜 𝓡 𝓡.env in let R : RattleType = param 0 T in let Z : RattleType = param 1 Al in
+    let Lv : RattleType = retired.the_row R Z ga in let En = ended T Al ga da dd in
     let c = clauses T Al ga da dd 𝓛 𝓜.mem 𝓡.returns in
     let inst = bounded (a_type ∷ a_type ∷ []) (T, (Al, tt)) (dcons da (dcons dd dnil)) in let fn = inst_fn inst code.function in
     let hs : Stays En.signature.params En.kept =
@@ -44,15 +42,9 @@ move_next_spec 𝓤 𝓛 𝓜 𝓡 wired T Al L _ ga da dd _ _ =
       (κs, qs, bounds, a, (vptr a.0.ref_ptr.0 a.0.ref_ptr.1 ∷ [], (vint w64 a.1.0 ∷ [], tt))),
       gh,
     ) in
-    let Post : Val → SProp 𝓤 = (walk_of 𝓛 En hs c).post y in
-    let b' : ℕ = a.0.ref_ptr.0 in
-    let o' : ℕ = a.0.ref_ptr.1 in
-    let h : Lv.Denot = a.0.now in
-    let token : Ty → Ptr → Fml = ga.dealloc_token h.heap in
-    let p : Ptr = h.at in
-    let cs : List (Option T.Denot) = h.slots in
-    let j : ℕ = a.1.0 in
-    let b : ℕ = block_of p in
+    let Post : Val → SProp 𝓤 = (walk_of 𝓛 En hs c).post y in let b' : ℕ = a.0.ref_ptr.0 in let o' : ℕ = a.0.ref_ptr.1 in
+    let h : Lv.Denot = a.0.now in let token : Ty → Ptr → Fml = ga.dealloc_token h.heap in let p : Ptr = h.at in
+    let cs : List (Option T.Denot) = h.slots in let j : ℕ = a.1.0 in let b : ℕ = block_of p in
     let s : Option T.Denot = slot_value cs 0 in
     let Asked : Type 0 = (j ≡ h.gone) × (0 < length cs) in
     let others : Fml = fsep (flft κs.1.0 qs.1.0) (fsep (flft κs.1.1.0 qs.1.1.0) ftrue) in
@@ -112,8 +104,7 @@ move_next_spec 𝓤 𝓛 𝓜 𝓡 wired T Al L _ ga da dd _ _ =
     feq_i ! _ (vptr b' o' ∷ []) _ refl $ fjoin3 ! $ nothing ! $ nothing ! $
     fjoin ! $ move ! (1 ∷ 0 ∷ []) $ fjoin ! $ move ! (1 ∷ 3 ∷ []) $ join ! $
     let After : Type 0 = (h.heap ≡ h.heap) × (h'.slots ≡ h'.slots) × (h'.gone ≡ h.gone + 1) in
-    use0 𝓛 (raw (fact 𝓤 After))
-    (fact_i 𝓤 After (emp 𝓤) (refl, refl, ap (λ (i : ℕ). i + 1) asked.0)) $
-    use0 𝓛 (raw (fact 𝓤 (s ≡ Some x))) (fact_i 𝓤 (s ≡ Some x) (emp 𝓤) lies) $ join ! $
+    knows ! After (refl, refl, ap (λ (i : ℕ). i + 1) asked.0) $
+    knows ! (s ≡ Some x) lies $ join ! $
     returns ! (look_at ! 0 refl) $ free_all ! refl $ keep ! (1 ∷ 2 ∷ 3 ∷ 0 ∷ []) $
     by ! (leaves 𝓛 En hs c y v x (h', (tt, tt)) (tt, (tt, tt)))))))))))

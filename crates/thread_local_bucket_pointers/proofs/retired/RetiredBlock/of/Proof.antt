@@ -1,9 +1,9 @@
 -- `of` takes the block's pointer.
 use Rattle.thread_local_model.proofs.Names.{◌≡◌, ℕ, List, [], ◌∷◌, refl, w64, Option, Ty, a_type, dcons, dnil, Val}
-use Rattle.thread_local_model.proofs.Names.{vint, inst_fn, emp, Fml, ‵, raw, ◌⊛◌, ◌$◌, ◌∵◌, !, qed, by, move}
+use Rattle.thread_local_model.proofs.Names.{vint, inst_fn, Fml, ‵, raw, ◌⊛◌, ◌$◌, ◌∵◌, !, qed, by, move}
 use Rattle.thread_local_model.proofs.Names.{keep, use0, use1, split, fsplit, fjoin, rewrite, stop, fld, of_opd}
 use Rattle.thread_local_model.proofs.Names.{no_more, and_then, returns, enter, alloc_all, pass_all, free_all, look_at}
-use Rattle.thread_local_model.proofs.Names.{get, get_in, sets, agg, sub, whole, fact, fact_i, yes, no}
+use Rattle.thread_local_model.proofs.Names.{get, get_in, sets, agg, sub, whole, fact, yes, no}
 use Rattle.thread_local_model.proofs.Names.{RattleType, owns, types_at, plain, Ptr, nothing, heard, param, bounded}
 use Rattle.thread_local_model.proofs.Names.{alive, usize, uint_vals, uint_Tells, Stays, stay_dropped, walk_of}
 use Rattle.thread_local_model.proofs.Names.{Goes-dropped, proved, leaves}
@@ -18,14 +18,12 @@ use Rattle.thread_local_bucket_pointers.proofs.Slots.{ptr_good}
 use Rattle.thread_local_bucket_pointers.proofs.RetiredBlocks.{FieldsType, made, starts_at}
 use Rattle.thread_local_bucket_pointers.proofs.retired.RetiredBlock.of.Statement.{statement}
 use Rattle.thread_local_bucket_pointers.proofs.retired.RetiredBlock.of.Code as code
+use Rattle.thread_local_model.proofs.Walking.{knows}
 
 pub of_spec : {M : Type 1} → statement M
 of_spec 𝓤 𝓛 𝓜 𝓡 wired T Al L _ ga da dd _ _ =
-    let R : RattleType = param 0 T in
-    let Z : RattleType = param 1 Al in
-    let Bl : RattleType = block.the_row R Z ga in
-    let Lv : RattleType = retired.the_row R Z ga in
-    let En = ended T Al ga da dd in
+    let R : RattleType = param 0 T in let Z : RattleType = param 1 Al in let Bl : RattleType = block.the_row R Z ga in
+    let Lv : RattleType = retired.the_row R Z ga in let En = ended T Al ga da dd in
     let c = clauses T Al ga da dd 𝓛 𝓜.mem 𝓡.returns in
     let inst = bounded (a_type ∷ a_type ∷ []) (T, (Al, tt)) (dcons da (dcons dd dnil)) in
     let fn = inst_fn inst code.function in
@@ -40,11 +38,9 @@ of_spec 𝓤 𝓛 𝓜 𝓡 wired T Al L _ ga da dd _ _ =
     (λ κs qs bounds a gh are.
     let h : Bl.Denot = a.0 in
     let n : ℕ = a.1.0 in
-    let p : Ptr = h.at in
-    let cs : List (Option T.Denot) = h.slots in
+    let p : Ptr = h.at in let cs : List (Option T.Denot) = h.slots in
     let ds : List (Option T.Denot) = but_first n cs in
-    let token : Ty → Ptr → Fml = ga.dealloc_token h.heap in
-    let v : Val = fields.block_val p in
+    let token : Ty → Ptr → Fml = ga.dealloc_token h.heap in let v : Val = fields.block_val p in
     let y : (walk_of 𝓛 En hs c).Ghost =
     ((κs, qs, bounds, a, (v ∷ [], (vint w64 n ∷ [], tt))), gh) in
     let Empty : Type 0 = take n cs ≡ empty_slots n in
@@ -62,7 +58,7 @@ of_spec 𝓤 𝓛 𝓜 𝓡 wired T Al L _ ga da dd _ _ =
     let r : Lv.Denot = record { at = p; marker = record {}; heap = h.heap; slots = ds; gone = n } in
     let Told : Type 0 = (h.heap ≡ h.heap) × (ds ≡ ds) × (n ≡ n) in
     use0 𝓛 (‵ ((FieldsType R Z ga).own_val (p, (record {}, tt)) (v ∷ []))) (made R Z ga 𝓛 p) $
-    fjoin ! $ use0 𝓛 (raw (fact 𝓤 Told)) (fact_i 𝓤 Told (emp 𝓤) (refl, refl, refl)) $ nothing ! $
+    fjoin ! $ knows ! Told (refl, refl, refl) $ nothing ! $
     nothing ! $ fjoin ! $ nothing ! $ fjoin ! $
     returns ! (look_at ! 0 refl) $ free_all ! refl $ keep ! (3 ∷ 0 ∷ 2 ∷ 1 ∷ []) $
     by ! (leaves 𝓛 En hs c y v r (tt, (tt, tt)) (tt, (tt, tt)))))))
