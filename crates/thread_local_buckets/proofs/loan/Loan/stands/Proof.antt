@@ -1,12 +1,12 @@
 -- `stands` reads a bucket's pointer.
 use Rattle.thread_local_model.proofs.Names.{drop, apply∗, sem, ◌≡◌, ℕ, ◌+◌, ◌*◌, ◌^◌, ◌<◌, List, [], ◌∷◌, sym, refl}
 use Rattle.thread_local_model.proofs.Names.{ap, ◌∙◌, subst, arith, w64, Bool, a_type, named, Val, vint, vptr, inst_fn}
-use Rattle.thread_local_model.proofs.Names.{full_share, SProp, emp, Fml, ftrue, fsep, flft, ‵, raw, ◌⊛◌, at_ret, ◌$◌}
-use Rattle.thread_local_model.proofs.Names.{◌∵◌, !, qed, by, move, keep, use0, use1, use2, split, join, fsplit}
+use Rattle.thread_local_model.proofs.Names.{full_share, SProp, Fml, ftrue, fsep, flft, ‵, raw, ◌⊛◌, at_ret, ◌$◌}
+use Rattle.thread_local_model.proofs.Names.{◌∵◌, !, qed, by, move, keep, use1, use2, split, join, fsplit}
 use Rattle.thread_local_model.proofs.Names.{fsplit3, fjoin, fjoin3, fpick, fpack, rewrite, feq_i, stop, fld, load, lit}
 use Rattle.thread_local_model.proofs.Names.{of_opd, bin, un, first, blocks, exec, returns, enter, look, alloc_all}
 use Rattle.thread_local_model.proofs.Names.{pass_all, free_all, look_at, get, through, sets, sets_last, env, sub}
-use Rattle.thread_local_model.proofs.Names.{look_in, whole, bor_open, obor_close, tables, fact_i, yes, RattleType}
+use Rattle.thread_local_model.proofs.Names.{look_in, whole, bor_open, obor_close, tables, yes, RattleType}
 use Rattle.thread_local_model.proofs.Names.{owns, types_at, plain, named_lft, Ptr, block_ptr, block_of, count_of}
 use Rattle.thread_local_model.proofs.Names.{at_block, nothing, heard, opens, closes, peeks, Is, shows, cell_at, param}
 use Rattle.thread_local_model.proofs.Names.{layouts, usize, mut_vals, mut_Tells, uint_vals, uint_Tells, Stays}
@@ -27,14 +27,12 @@ use Rattle.thread_local_buckets.proofs.Frames.{pointer, in_row, Frame, frame_out
 use Rattle.thread_local_buckets.proofs.loan.Loan.stands.Statement.{statement}
 use Rattle.thread_local_buckets.proofs.loan.Loan.stands.Code as code
 use Rattle.thread_local_bucket_pointers.proofs.Slots.{ptr_good}
+use Rattle.thread_local_model.proofs.Walking.{knows}
 
 pub stands_spec : {M : Type 1} → statement M
 stands_spec 𝓤 𝓛 𝓜 𝓡 wired X L =
-    let 𝓣 = tables 𝓤 𝓛.H 𝓜 𝓡 𝓡.env in
-    let R : RattleType = param 0 X in
-    let En = ended X in
-    let c = clauses X 𝓛 𝓜.mem 𝓡.returns in
-    let inst = layouts (a_type ∷ []) (X, tt) in let fn = inst_fn inst code.function in
+    let 𝓣 = tables 𝓤 𝓛.H 𝓜 𝓡 𝓡.env in let R : RattleType = param 0 X in let En = ended X in
+    let c = clauses X 𝓛 𝓜.mem 𝓡.returns in let inst = layouts (a_type ∷ []) (X, tt) in let fn = inst_fn inst code.function in
     let mine = plain (λ κs. loan.the_row (named_lft 3 1 tt κs) R) in
     let hs : Stays En.signature.params En.kept = (stay_ref (0 ∷ []) tt mine, (stay_dropped (plain (λ _. usize)) yes, tt)) in
     proved 𝓛 En hs c 𝓜 𝓡
@@ -67,8 +65,7 @@ stands_spec 𝓤 𝓛 𝓜 𝓡 wired X L =
     let wo : ℕ = count_of h.pointers in
     let e : ℕ = k * 8 + wo in
     let rs = s.1.rows in
-    let p : Ptr = pointer s.0 k in
-    let r = in_row rs k in
+    let p : Ptr = pointer s.0 k in let r = in_row rs k in
     let ev : ts ≡ loan_val (block_ptr wb wo) h.values ∷ [] =
     told ℓ R h.pointers h.values ts is_so ∙ ap (λ (q : Ptr). loan_val q h.values ∷ []) at in
     move ! (7 ∷ []) $ fsplit ! $ move ! (2 ∷ 0 ∷ []) $ bor_open ! tt $ move ! (1 ∷ []) $
@@ -112,14 +109,12 @@ stands_spec 𝓤 𝓛 𝓜 𝓡 wired X L =
     let slots = row h.contents k in
     let Whole : Type 0 = yes_or_no ≡ true → length slots ≡ 2 ^ k in
     let Absent : Type 0 = yes_or_no ≡ false → slots ≡ [] in
-    use0 𝓛 (raw (fact 𝓤 (IsTable h.contents))) (fact_i 𝓤 (IsTable h.contents) (emp 𝓤) so.1.table) $
-    use0 𝓛 (raw (fact 𝓤 Absent)) (fact_i 𝓤 Absent (emp 𝓤) (λ e. no_row slots (sym told ∙ e))) $ join ! $
-    use0 𝓛 (raw (fact 𝓤 Whole))
-    (fact_i 𝓤 Whole (emp 𝓤)
-    (λ e. whole_row (length slots) (2 ^ k) (so.1.table.whole k) (sym told ∙ e))) $
+    knows ! (IsTable h.contents) so.1.table $
+    knows ! Absent (λ e. no_row slots (sym told ∙ e)) $ join ! $
+    knows ! Whole (λ e. whole_row (length slots) (2 ^ k) (so.1.table.whole k) (sym told ∙ e)) $
     join ! $
-    use0 𝓛 (raw (fact 𝓤 Told)) (fact_i 𝓤 Told (emp 𝓤) told) $ join ! $
-    use0 𝓛 (raw (fact 𝓤 (h ≡ h))) (fact_i 𝓤 (h ≡ h) (emp 𝓤) refl) $ join ! $
+    knows ! Told told $ join ! $
+    knows ! (h ≡ h) refl $ join ! $
     feq_i ! _ (vbool yes_or_no ∷ []) _ refl $
     returns ! (look_at ! 0 refl) $ free_all ! refl $ keep ! (2 ∷ 3 ∷ 0 ∷ 1 ∷ []) $
     by ! (leaves 𝓛 En hs c y (vbool yes_or_no) yes_or_no (h, (tt, tt)) (tt, (tt, tt)))))))))))
