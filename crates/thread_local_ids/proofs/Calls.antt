@@ -23,7 +23,6 @@ use denote.Builtin.{u64}
 use denote.Memory.{hidden_shr}
 use denote.Ref.{Bor}
 use denote.Shadow.{makes_shadow}
-use contract.Monad.{fact, fact_i}
 use contract.BorrowLft.{◌⊑◌, ⊑_static}
 use denote.Triple.Spec.{triple_of}
 use Rattle.std.specs.Sync.RawAtomic.{asks, always}
@@ -37,6 +36,7 @@ use Rattle.std.proofs.raw_atomic.Calls.{fm, stored, marker, marker_laws, dict, p
 use Rattle.thread_local_ids.specs.contracts.word.exchange as step
 use Rattle.thread_local_ids.proofs.word.exchange.Symbol as step_is
 use Rattle.thread_local_ids.proofs.word.exchange.Met as step_met
+use Rattle.thread_local_model.proofs.Walking.{knows}
 
 module _ {M : Type 1} {𝓤 : Ura M} (𝓛 : Logic 𝓤) (𝓜 : Model 𝓤 𝓛.H) (𝓡 : Running 𝓤 𝓛.H 𝓜) where
   open 𝓛 use {H, A}
@@ -113,8 +113,8 @@ module _ {M : Type 1} {𝓤 : Ura M} (𝓛 : Logic 𝓤) (𝓜 : Model 𝓤 𝓛
         let Z' : Val → SProp 𝓤 = λ v. mean 𝓛 (stored (lent after) v) in
         via 𝓤 (sep 𝓤 (𝓣.C k vs (c.post y)) (emp 𝓤)) (via 𝓤 (𝓣.C k vs (c.post y)) (via 𝓤 (c.pre y)
         (qed 𝓛 (raw X ∷ ‵ (hidden_shr Z κ rt.now rt.ref_ptr.0 rt.ref_ptr.1) ∷ ‵ (flft κ q) ∷ ‵ (flft υ s) ∷ []) ∵
-        use0 𝓛 (raw (fact 𝓤 (υ ⊑ Z.lives))) (fact_i 𝓤 (υ ⊑ Z.lives) (emp 𝓤) alive) $ join ! $
-        use0 𝓛 (raw (fact 𝓤 ([] ⊑ []))) (fact_i 𝓤 ([] ⊑ []) (emp 𝓤) (⊑_static [])) $ join ! $
+        knows ! (υ ⊑ Z.lives) alive $ join ! $
+        knows ! ([] ⊑ []) (⊑_static []) $ join ! $
         move ! (1 ∷ []) $
         feq_i ! _ (handle ∷ []) _ refl $ fjoin ! $
         use0 𝓛 (‵ rest) (makes_shadow 𝓛 rest (tt, ((tt, tt), ((tt, tt), ((tt, tt), tt))))

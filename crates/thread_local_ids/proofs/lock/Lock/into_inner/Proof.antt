@@ -17,15 +17,11 @@ use Rattle.thread_local_ids.proofs.lock.Lock.into_inner.Code as code
 
 pub into_inner_spec : {M : Type 1} → statement M
 into_inner_spec 𝓤 𝓛 𝓜 𝓡 wired X L g d _ =
-    let 𝓣 = tables 𝓤 𝓛.H 𝓜 𝓡 𝓡.env in
-    let R : RattleType = param 0 X in
-    let En = ended X g d in
+    let 𝓣 = tables 𝓤 𝓛.H 𝓜 𝓡 𝓡.env in let R : RattleType = param 0 X in let En = ended X g d in
     let c = clauses X g d 𝓛 𝓜.mem 𝓡.returns in
     let E : El = record { row = X; laws = L } in
-    let inst = bounded (a_type ∷ []) (X, tt) (dcons d dnil) in
-    let fn = inst_fn inst code.function in
-    let closed = code.unfolded 𝓤 𝓛.H 𝓜 𝓡 wired (X, tt) d in
-    let Row : RattleType = lock.the_row R g in
+    let inst = bounded (a_type ∷ []) (X, tt) (dcons d dnil) in let fn = inst_fn inst code.function in
+    let closed = code.unfolded 𝓤 𝓛.H 𝓜 𝓡 wired (X, tt) d in let Row : RattleType = lock.the_row R g in
     let self = plain (λ _. Row) in let hs : Stays En.signature.params En.kept = (stay_dropped self no, tt) in
     let fine : (v : Val) → Good E v → T (has_ty (layout X) v && true) = λ v h. and_tt (has_ty (layout X) v) h.0 in
     proved_at 𝓛 En hs c 𝓜 𝓡 (Goes-dropped 𝓛 1 self no (λ κs x f. refl), tt) (#self inst) fn closed (λ z are.

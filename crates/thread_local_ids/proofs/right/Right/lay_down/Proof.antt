@@ -21,8 +21,7 @@ stayed = (stay_dropped (plain (λ _. right.the_row)) yes, tt)
 
 pub lay_down_spec : {M : Type 1} → statement M
 lay_down_spec 𝓤 𝓛 𝓜 𝓡 wired =
-    let c = f.clauses 𝓛 𝓜.mem 𝓡.returns in
-    let W = walk_of 𝓛 f.ended stayed c in
+    let c = f.clauses 𝓛 𝓜.mem 𝓡.returns in let W = walk_of 𝓛 f.ended stayed c in
     proved 𝓛 f.ended stayed c 𝓜 𝓡 (Goes-dropped 𝓛 0 (plain (λ _. right.the_row)) yes (λ κs x w. refl), tt)
     f.Key.name code.function (code.unfolded 𝓤 𝓛.H 𝓜 𝓡 wired)
     (λ κs. ((λ x. token ∷ []), tt)) (λ κs. ((λ x vs is. told (right.the_type).name vs is.0), tt)) (λ κs qs bounds a g are.

@@ -28,8 +28,7 @@ stayed = (stay_ref (0 ∷ []) tt (plain (λ _. R)), (stay_dropped (plain (λ _. 
 
 pub put_back_spec : {M : Type 1} → statement M
 put_back_spec 𝓤 𝓛 𝓜 𝓡 wired =
-    let c = f.clauses 𝓛 𝓜.mem 𝓡.returns in
-    let W = walk_of 𝓛 f.ended stayed c in
+    let c = f.clauses 𝓛 𝓜.mem 𝓡.returns in let W = walk_of 𝓛 f.ended stayed c in
     proved 𝓛 f.ended stayed c 𝓜 𝓡 (
       Goes-ref 𝓛 1 0 tt (plain (λ _. R)),
       (Goes-dropped 𝓛 1 (plain (λ _. right.the_row)) yes (λ κs x w. refl), tt),
@@ -40,8 +39,7 @@ put_back_spec 𝓤 𝓛 𝓜 𝓡 wired =
     (λ κs qs bounds a g are.
     let r = a.0 in
     let mine = a.1.0 in
-    let b = r.ref_ptr.0 in
-    let o = r.ref_ptr.1 in
+    let b = r.ref_ptr.0 in let o = r.ref_ptr.1 in
     let s = r.now in
     let new = record s { out = less s.out mine.id } in
     let y : W.Ghost = ((κs, qs, bounds, a, (mut_vals r, (token ∷ [], tt))), g) in
