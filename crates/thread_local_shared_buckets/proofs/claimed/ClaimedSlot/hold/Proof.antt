@@ -29,18 +29,14 @@ use Rattle.thread_local_shared_buckets.specs.contracts.claimed.ClaimedSlot.hold.
 use Rattle.thread_local_shared_buckets.proofs.ClaimedFields.{Kept, value_of, FieldsType, fields_of, made, typed}
 use Rattle.thread_local_shared_buckets.proofs.claimed.ClaimedSlot.hold.Statement.{statement}
 use Rattle.thread_local_shared_buckets.proofs.claimed.ClaimedSlot.hold.Code as code
+use Rattle.thread_local_model.proofs.Walking.{knows}
 
 pub hold_spec : {M : Type 1} → statement M
 hold_spec 𝓤 𝓛 𝓜 𝓡 wired X L =
-    let R : RattleType = param 0 X in
-    let En = ended X in
-    let c = clauses X 𝓛 𝓜.mem 𝓡.returns in
-    let inst = bounded (a_type ∷ []) (X, tt) dnil in
-    let fn = inst_fn inst code.function in
-    let closed = code.unfolded 𝓤 𝓛.H 𝓜 𝓡 wired (X, tt) in
-    let W : RattleType = one_bucket.the_row R in
-    let self = RefOf (0 ∷ []) tt (plain (λ _. W)) (λ _. tt) in
-    let number = plain (λ _. usize) in
+    let R : RattleType = param 0 X in let En = ended X in let c = clauses X 𝓛 𝓜.mem 𝓡.returns in
+    let inst = bounded (a_type ∷ []) (X, tt) dnil in let fn = inst_fn inst code.function in
+    let closed = code.unfolded 𝓤 𝓛.H 𝓜 𝓡 wired (X, tt) in let W : RattleType = one_bucket.the_row R in
+    let self = RefOf (0 ∷ []) tt (plain (λ _. W)) (λ _. tt) in let number = plain (λ _. usize) in
     let mine = plain (λ _. right.the_row) in
     let lays = triple_of 𝓛 layer.signature (layer.spec 𝓛 𝓜.mem 𝓡.returns) in
     let hs : Stays En.signature.params En.kept = (stay_dropped self yes, (stay_dropped number yes, (stay_dropped mine yes, tt))) in
@@ -52,13 +48,8 @@ hold_spec 𝓤 𝓛 𝓜 𝓡 wired X L =
     (λ κs. (shr_vals, (uint_vals w64, ((λ x. token ∷ []), tt))))
     (λ κs. (shr_Tells (named 0) κs.0 W, (uint_Tells w64, ((λ x vs is. right_told (right.the_type).name vs is.0), tt))))
     (λ κs qs bounds a gh are.
-    let b : ℕ = a.0.ref_ptr.0 in
-    let o : ℕ = a.0.ref_ptr.1 in
-    let κ : Lft = κs.0 in
-    let q : Share = qs.0 in
-    let d : BucketView = a.0.now in
-    let i : ℕ = a.1.0 in
-    let r = a.1.1.0 in
+    let b : ℕ = a.0.ref_ptr.0 in let o : ℕ = a.0.ref_ptr.1 in let κ : Lft = κs.0 in let q : Share = qs.0 in
+    let d : BucketView = a.0.now in let i : ℕ = a.1.0 in let r = a.1.1.0 in
     let others : Fml = fsep (flft κs.1.0 qs.1.0) ftrue in
     let ℓ = named_lft 2 0 tt κs in let G : RattleType = claim.the_row ℓ R in let p : Ptr = block_ptr b o in
     let y : (walk_of 𝓛 En hs c).Ghost =
@@ -119,9 +110,8 @@ hold_spec 𝓤 𝓛 𝓜 𝓡 wired X L =
       reserved = d.reserved;
       learnt = no;
     } in
-    use0 𝓛 (raw (fact 𝓤 (h.reserved ≡ d.reserved)))
-    (fact_i 𝓤 (h.reserved ≡ d.reserved) (emp 𝓤) refl) $
-    use0 𝓛 (raw (fact 𝓤 (h.learnt ≡ Unknown))) (fact_i 𝓤 (h.learnt ≡ Unknown) (emp 𝓤) refl) $
+    knows ! (h.reserved ≡ d.reserved) refl $
+    knows ! (h.learnt ≡ Unknown) refl $
     join ! $
     use0 𝓛
     (raw (fact 𝓤 ((h.table ≡ r.table) × (◌≡◌ {A = Option ℕ} h.sharing d.sharing) × (h.id ≡ r.id)

@@ -1,10 +1,10 @@
 -- `state` reads a field.
 use Rattle.thread_local_model.proofs.Names.{◌≡◌, ℕ, List, [], ◌∷◌, sym, refl, dnil, a_type, named, Val, vptr, vint}
-use Rattle.thread_local_model.proofs.Names.{w64, ◌^◌, inst_fn, emp, Lft, Fml, ftrue, fsep, flft, ‵, raw, ◌⊛◌}
+use Rattle.thread_local_model.proofs.Names.{w64, ◌^◌, inst_fn, Lft, Fml, ftrue, fsep, flft, ‵, raw, ◌⊛◌}
 use Rattle.thread_local_model.proofs.Names.{◌$◌, ◌∵◌, !, qed, by, move, keep, drop, split, join, fsplit, fjoin, fpick}
-use Rattle.thread_local_model.proofs.Names.{use0, rewrite, feq_i, stop, fld, of_opd, returns, enter, alloc_all}
+use Rattle.thread_local_model.proofs.Names.{rewrite, feq_i, stop, fld, of_opd, returns, enter, alloc_all}
 use Rattle.thread_local_model.proofs.Names.{pass_all, free_all, look_at, through, sets, env, sub, whole, look_in}
-use Rattle.thread_local_model.proofs.Names.{fact, fact_i, yes, RattleType, owns, types_at, named_lft, nothing}
+use Rattle.thread_local_model.proofs.Names.{yes, RattleType, owns, types_at, named_lft, nothing}
 use Rattle.thread_local_model.proofs.Names.{peeks, Is, shows, cell_at, param, bounded, shr_vals, shr_Tells, Stays}
 use Rattle.thread_local_model.proofs.Names.{stay_dropped, walk_of, Goes-dropped, proved, leaves, load}
 use types.Kit.{flt_i}
@@ -16,27 +16,19 @@ use Rattle.thread_local_shared_buckets.proofs.ClaimedFields.{kept_of, claim_at, 
 use Rattle.thread_local_shared_buckets.proofs.ClaimedFields.{told, in_word, opened}
 use Rattle.thread_local_shared_buckets.proofs.claimed.ClaimedSlot.state.Statement.{statement}
 use Rattle.thread_local_shared_buckets.proofs.claimed.ClaimedSlot.state.Code as code
+use Rattle.thread_local_model.proofs.Walking.{knows}
 
 pub state_spec : {M : Type 1} → statement M
 state_spec 𝓤 𝓛 𝓜 𝓡 wired X L =
-    let R : RattleType = param 0 X in
-    let En = ended X in
-    let c = clauses X 𝓛 𝓜.mem 𝓡.returns in
-    let inst = bounded (a_type ∷ []) (X, tt) dnil in
-    let fn = inst_fn inst code.function in
+    let R : RattleType = param 0 X in let En = ended X in let c = clauses X 𝓛 𝓜.mem 𝓡.returns in
+    let inst = bounded (a_type ∷ []) (X, tt) dnil in let fn = inst_fn inst code.function in
     let closed = code.unfolded 𝓤 𝓛.H 𝓜 𝓡 wired (X, tt) in
     let self = claim_ref R in let hs : Stays En.signature.params En.kept = (stay_dropped self yes, tt) in
     proved 𝓛 En hs c 𝓜 𝓡 (Goes-dropped 𝓛 3 self yes (λ κs x f. refl), tt) (#self inst) fn closed
     (λ κs. (shr_vals, tt)) (λ κs. (shr_Tells (named 0) κs.0 ((claim_at R).row κs), tt)) (λ κs qs bounds a gh are.
-    let ℓ = named_lft 3 1 tt κs in
-    let D : RattleType = FieldsType ℓ R in
-    let b : ℕ = a.0.ref_ptr.0 in
-    let o : ℕ = a.0.ref_ptr.1 in
-    let κ : Lft = κs.0 in
-    let β : Lft = κs.1.0 in
-    let h = a.0.now in
-    let l₀ : Learnt X.Denot = h.learnt in
-    let others : Fml = fsep (flft β qs.1.0) (fsep (flft κs.1.1.0 qs.1.1.0) ftrue) in
+    let ℓ = named_lft 3 1 tt κs in let D : RattleType = FieldsType ℓ R in let b : ℕ = a.0.ref_ptr.0 in
+    let o : ℕ = a.0.ref_ptr.1 in let κ : Lft = κs.0 in let β : Lft = κs.1.0 in let h = a.0.now in
+    let l₀ : Learnt X.Denot = h.learnt in let others : Fml = fsep (flft β qs.1.0) (fsep (flft κs.1.1.0 qs.1.1.0) ftrue) in
     let F₁ : ℕ → Type 0 = λ u. u ≡ state_of l₀ in
     let y : (walk_of 𝓛 En hs c).Ghost = ((κs, qs, bounds, a, (vptr b o ∷ [], tt)), gh) in
     qed 𝓛 (((‵ (flft κ qs.0) ⊛ ‵ others) ⊛ ‵ (owns (types_at En.signature.params κs) a y.0.4))
@@ -58,6 +50,6 @@ state_spec 𝓤 𝓛 𝓜 𝓡 wired X L =
     move ! (0 ∷ 3 ∷ []) $ join ! $ move ! (2 ∷ []) $ drop ! $
     flt_i ! h.state (2 ^ 64) (in_word ℓ R (kept_of h) vs is_so) $
     feq_i ! _ (vint w64 h.state ∷ []) _ refl $ fjoin ! $
-    use0 𝓛 (raw (fact 𝓤 (F₁ h.state))) (fact_i 𝓤 (F₁ h.state) (emp 𝓤) so) $ nothing ! $ nothing ! $ fjoin ! $
+    knows ! (F₁ h.state) so $ nothing ! $ nothing ! $ fjoin ! $
     returns ! (look_at ! 0 refl) $ free_all ! refl $ keep ! (3 ∷ 0 ∷ 2 ∷ 1 ∷ []) $
     by ! (leaves 𝓛 En hs c y (vint w64 h.state) h.state (tt, tt) (tt, tt)))))))

@@ -3,7 +3,7 @@ use Rattle.std.proofs.Common.{Option, Some, IsSome, ◌≢◌, ◌≡◌, ℕ, L
 use mir.Syntax.{a_type, named}
 use mir.Val.{Val, vptr}
 use mir.MapTy.{inst_fn}
-use base.Logic.{SProp, ent, emp, id⊢, via}
+use base.Logic.{SProp, ent, id⊢, via}
 use base.Fml.{GName}
 use types.Owned.{basic}
 use prog.Wp.{WpFn}
@@ -12,7 +12,6 @@ use types.Kit.{split, join, fsplit, fjoin, rewrite, suffices}
 use types.Run.{of_opd, returns, enter}
 use types.ByLocal.{alloc_all, pass_all, free_all, look_at, get, sets}
 use contract.Running.{tables}
-use contract.Monad.{fact, fact_i}
 use denote.Exit.{yes, no}
 use denote.RattleType.{RattleType, owns}
 use denote.Signature.{types_at, plain}
@@ -34,18 +33,14 @@ use Rattle.thread_local_shared_buckets.proofs.GrownLaws.{view_again, grown_again
 use Rattle.thread_local_shared_buckets.proofs.Turned.{shares_again}
 use Rattle.thread_local_shared_buckets.proofs.shared.Shared.shared_again.Statement.{statement}
 use Rattle.thread_local_shared_buckets.proofs.shared.Shared.shared_again.Code as code
+use Rattle.thread_local_model.proofs.Walking.{knows}
 
 pub shared_again_spec : {M : Type 1} → statement M
 shared_again_spec 𝓤 𝓛 𝓜 𝓡 wired T L =
-    let 𝓣 = tables 𝓤 𝓛.H 𝓜 𝓡 𝓡.env in
-    let R : RattleType = param 0 T in
-    let LR : Laws R = param_laws 0 T L in
+    let 𝓣 = tables 𝓤 𝓛.H 𝓜 𝓡 𝓡.env in let R : RattleType = param 0 T in let LR : Laws R = param_laws 0 T L in
     let Sh : RattleType = shared.the_row R in
-    let En = ended T in
-    let c = clauses T 𝓛 𝓜.mem 𝓡.returns in
-    let inst = layouts (a_type ∷ []) (T, tt) in
-    let fn = inst_fn inst code.function in
-    let self = plain (λ _. Sh) in
+    let En = ended T in let c = clauses T 𝓛 𝓜.mem 𝓡.returns in let inst = layouts (a_type ∷ []) (T, tt) in
+    let fn = inst_fn inst code.function in let self = plain (λ _. Sh) in
     let ref = RefOf (0 ∷ []) tt (plain (λ _. right.the_row)) (λ _. tt) in
     let hs : Stays En.signature.params En.kept = (stay_dropped self no, (stay_dropped ref yes, tt)) in
     proved_at 𝓛 En hs c 𝓜 𝓡
@@ -79,10 +74,10 @@ shared_again_spec 𝓤 𝓛 𝓜 𝓡 wired T L =
     sets ! (of_opd ! (get ! refl)) refl fine $
     let Named : Type 0 = IsSome (Some γ) × (Some γ ≢ past) in
     let Grown : Type 0 = s.table ≡ table → s'.grown_by_ids ≡ s.grown_by_ids in
-    use0 𝓛 (raw (fact 𝓤 Grown)) (fact_i 𝓤 Grown (emp 𝓤) (grown_again s table)) $
-    use0 𝓛 (raw (fact 𝓤 (s.reserved ≡ s.reserved))) (fact_i 𝓤 (s.reserved ≡ s.reserved) (emp 𝓤) refl) $ join ! $
-    use0 𝓛 (raw (fact 𝓤 Named)) (fact_i 𝓤 Named (emp 𝓤) (refl, new)) $ join ! $
-    use0 𝓛 (raw (fact 𝓤 (table ≡ table))) (fact_i 𝓤 (table ≡ table) (emp 𝓤) refl) $ join ! $
+    knows ! Grown (grown_again s table) $
+    knows ! (s.reserved ≡ s.reserved) refl $ join ! $
+    knows ! Named (refl, new) $ join ! $
+    knows ! (table ≡ table) refl $ join ! $
     nothing ! $ nothing ! $ fjoin ! $ nothing ! $ fjoin ! $
     -- [nothing; the facts; what is shared; the tokens]
     returns ! (look_at ! 0 refl) $ free_all ! refl $ keep ! (3 ∷ 0 ∷ 2 ∷ 1 ∷ []) $
