@@ -1,32 +1,20 @@
 -- Taking one element's share out of `each`, and putting it back. Assumes `Logic`.
 use Rattle.thread_local_model.proofs.Names.{◌≡◌, ◌≢◌, ℕ, zero, suc, ◌+◌, ◌<◌, ◌≤◌, List, [], ◌∷◌, length, set, get_or}
-use Rattle.thread_local_model.proofs.Names.{refl, sym, arith, Ura, SProp, ent, sep, wand, all, all_e, apply∗, Fml}
-use Rattle.thread_local_model.proofs.Names.{Logic, sem, ‵, raw, ◌⊛◌, ◌$◌, ◌∵◌, !, qed, by, move, split, frame}
+use Rattle.thread_local_model.proofs.Names.{refl, sym, arith, Ura, SProp, all, all_e, apply∗, Fml}
+use Rattle.thread_local_model.proofs.Names.{Logic, ‵, raw, ◌⊛◌, ◌$◌, ◌∵◌, !, qed, by, move, split, frame}
 use Rattle.thread_local_model.proofs.Names.{each as for_each, assume, use1, use2, rewrite, done}
 use Rattle.thread_local_bucket_pointers.specs.Slots.{each}
+use Rattle.thread_local_model.proofs.Signs.{signs}
 
 module _ {M : Type 1} {𝓤 : Ura M} (𝓛 : Logic 𝓤) where
-  abbrev Pr : Type 2
-  Pr = SProp 𝓤
-
-  abbrev ◌⊢◌ : Pr → Pr → Type 1
-  P ⊢ Q = ent 𝓤 P Q
-
-  abbrev ◌∗◌ : Pr → Pr → Pr
-  P ∗ Q = sep 𝓤 P Q
-
-  abbrev ◌-∗◌ : Pr → Pr → Pr
-  P -∗ Q = wand 𝓤 P Q
-
-  abbrev ⟦◌⟧ : Fml → Pr
-  ⟦ P ⟧ = sem 𝓛 P
-
+  open signs 𝓛 use {⟦◌⟧, ◌⊢◌, ◌∗◌, ◌-∗◌}
   infix 26 ◌⊢◌
   infixr 35 ◌∗◌
   infixr 30 ◌-∗◌
+
   module _ {X : Type 0} where
     -- the way back, for whatever replaces the element at i, which has the number k
-    abbrev pub Put : (X → ℕ → Fml) → List X → ℕ → ℕ → ℕ → X → Pr
+    abbrev pub Put : (X → ℕ → Fml) → List X → ℕ → ℕ → ℕ → X → SProp 𝓤
     Put F xs j i k x = ⟦ F x k ⟧ -∗ ⟦ each F (set xs i x) j ⟧
 
     pub each_at : (F : X → ℕ → Fml) (xs : List X) (j i k : ℕ) (d : X) → k ≡ i + j → i < length xs
@@ -77,7 +65,7 @@ module _ {M : Type 1} {𝓤 : Ura M} (𝓛 : Logic 𝓤) where
         by ! (each_map F (G y) xs (suc j) (λ z m from. law y z m (λ e. absurd (omega arith)))))
     each_turned {Y} F G (x ∷ xs) j (suc i) k d is near law =
         let z : X = get_or xs i d in
-        let Back : Y → Pr = λ y. ⟦ G y z k ⟧ -∗ ⟦ each (G y) xs (suc j) ⟧ in
+        let Back : Y → SProp 𝓤 = λ y. ⟦ G y z k ⟧ -∗ ⟦ each (G y) xs (suc j) ⟧ in
         qed 𝓛 (‵ (F x j) ∷ ‵ (each F xs (suc j)) ∷ []) ∵ move ! (1 ∷ []) $
         use1 𝓛 (‵ (F z k) ⊛ raw (all 𝓤 Back))
         (each_turned F G xs (suc j) i k d (omega arith) (omega arith) law) $

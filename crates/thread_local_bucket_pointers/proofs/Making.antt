@@ -1,8 +1,8 @@
 -- Making a block: its room is cut into slots, and the flags of one chunk after another are made.
 -- Assumes `Logic`.
 use Rattle.thread_local_model.proofs.Names.{◌≡◌, ℕ, suc, ◌+◌, List, [], ◌∷◌, ◌++◌, length, length-append, sym, refl}
-use Rattle.thread_local_model.proofs.Names.{ap, ◌∙◌, subst, arith, w64, Option, None, Ura, Ty, ty_int, SProp, ent, sep}
-use Rattle.thread_local_model.proofs.Names.{wand, guard, Fml, ftrue, froom, Logic, sem, ‵, ◌⊛◌, ◌$◌, ◌∵◌, !, qed, move}
+use Rattle.thread_local_model.proofs.Names.{ap, ◌∙◌, subst, arith, w64, Option, None, Ura, Ty, ty_int, SProp}
+use Rattle.thread_local_model.proofs.Names.{guard, Fml, ftrue, froom, Logic, ‵, ◌⊛◌, ◌$◌, ◌∵◌, !, qed, move}
 use Rattle.thread_local_model.proofs.Names.{drop, split3, fsplit, fsplit3, fjoin, fpick, fpack, check, frame, assume}
 use Rattle.thread_local_model.proofs.Names.{use1, use2, rewrite, done, RattleType, Ptr, block_ptr, block_of, count_of}
 use Rattle.thread_local_model.proofs.Names.{InBlock, nothing, word}
@@ -13,28 +13,16 @@ use Rattle.thread_local_bucket_pointers.specs.Slots.{flags_own, slot, back, bloc
 use Rattle.thread_local_bucket_pointers.proofs.Flags.{flags_none, flags_more}
 use Rattle.thread_local_bucket_pointers.proofs.Slots.{IsWordNear, word_is_near}
 use Rattle.thread_local_bucket_pointers.proofs.Rooms.{each_joined, block_cut}
+use Rattle.thread_local_model.proofs.Signs.{signs}
 
 module _ {M : Type 1} {𝓤 : Ura M} (𝓛 : Logic 𝓤) (R : RattleType) where
   open 𝓛 use {H}
 
-  abbrev Pr : Type 2
-  Pr = SProp 𝓤
-
-  abbrev ◌⊢◌ : Pr → Pr → Type 1
-  P ⊢ Q = ent 𝓤 P Q
-
-  abbrev ◌∗◌ : Pr → Pr → Pr
-  P ∗ Q = sep 𝓤 P Q
-
-  abbrev ◌-∗◌ : Pr → Pr → Pr
-  P -∗ Q = wand 𝓤 P Q
-
-  abbrev ⟦◌⟧ : Fml → Pr
-  ⟦ P ⟧ = sem 𝓛 P
-
+  open signs 𝓛 use {⟦◌⟧, ◌⊢◌, ◌∗◌, ◌-∗◌}
   infix 26 ◌⊢◌
   infixr 35 ◌∗◌
   infixr 30 ◌-∗◌
+
   abbrev C : Type 0
   C = Option R.Denot
 
@@ -70,7 +58,7 @@ module _ {M : Type 1} {𝓤 : Ura M} (𝓛 : Logic 𝓤) (R : RattleType) where
         nothing ! $ fpack ! (InBlock p × Fits R (length cs)) (λ _. ftrue) (tt, subst (Fits R) (sym long) fits) $ fjoin ! $ done !
 
     -- the flags of the next chunk are made once its word is 0
-    abbrev pub Filled : Ptr → List C → ℕ → ℕ → Pr
+    abbrev pub Filled : Ptr → List C → ℕ → ℕ → SProp 𝓤
     Filled p cs left c = ⟦ word (block_of p) (word_offset R (length cs) (count_of p) c) 0 ⟧ -∗ ⟦ Owns p cs left ⟧
 
     pub next_room : (p : Ptr) (cs : List C) (left c : ℕ) → c + suc left ≡ chunks (length cs)

@@ -20,6 +20,7 @@ use Rattle.thread_local_model.specs.Counting.{count_below}
 use Rattle.thread_local_bucket_pointers.specs.declared.cursor.RawIter.{RawIter}
 use Rattle.thread_local_bucket_pointers.specs.declared.cursor.OwnerCursor.{OwnerCursor}
 use Rattle.thread_local_bucket_pointers.specs.Cursor.{read_to, values_left, AreFlagsAt, IsAt, IsOwnerWalk}
+use Rattle.thread_local_bucket_pointers.proofs.Slots.{value_of as held_value}
 
 -- the cursor with other flags to pass
 abbrev pub past : OwnerCursor → ℕ → OwnerCursor
@@ -40,11 +41,6 @@ pub record Passes {V : Type 0} (c : Contents V) (cursor : OwnerCursor) (rest giv
       → walk (paired (values c))
       ≡ (id_at cursor.raw.bucket index, v)
       ∷ walk (paired (values (with_slot c cursor.raw.bucket index None)))
-
--- a value that is there
-the_value : {V : Type 0} (o : Option V) → IsSome o → (v : V) × (o ≡ Some v)
-the_value None h = cc
-the_value (Some v) h = (v, refl)
 
 is_none : {V : Type 0} (o : Option V) → o ≡ None → IsSome o → ⊥
 is_none None e h = cc
@@ -116,7 +112,7 @@ module _ {V : Type 0} where
       let read = from.read in
       let whole = from.whole in
       let published = is_published c raw cursor.rest i from in
-      let there = the_value (value_in c b i) published in
+      let there = held_value (value_in c b i) published in
       let after : Contents V = with_slot c b i None in
       let rows = in_rows c b whole in
       let taken = λ (v : V) (here : value_in c b i ≡ Some v). taking c after b i v at.in_table inside whole from.behind here refl in
@@ -142,12 +138,7 @@ module _ {V : Type 0} where
       (values-with_slot-same c b i None rows inside (omega arith))
       (λ id ne. values-with_slot-other c b i id None rows ne) (read_to raw) (omega arith) in
       let left : count_ones rest + 1 ≡ count_ones cursor.rest =
-      omega (
-        arith,
-        fewer,
-        counted_at_hand c raw cursor.rest fit at,
-        counted_at_hand after raw rest fits on,
-      ) in
+      omega (arith, fewer, counted_at_hand c raw cursor.rest fit at, counted_at_hand after raw rest fits on) in
       let few = walk-few (values after) in
       let counted = walks.counted in
       record {

@@ -2,8 +2,8 @@
 -- it back. Assumes `Logic`.
 use Rattle.thread_local_model.proofs.Names.{◌≡◌, ℕ, ◌*◌, ◌<◌, List, [], ◌∷◌, ◌++◌, length, length-set, set, refl, sym}
 use Rattle.thread_local_model.proofs.Names.{ap, ◌∙◌, subst, arith, lit<, T, Option, Ura, Ty, ty_ptr, ty_struct, tcons}
-use Rattle.thread_local_model.proofs.Names.{tnil, Val, vstruct, vcons, vnil, of_list, has_ty, WT, SProp, ent, sep}
-use Rattle.thread_local_model.proofs.Names.{wand, ex, all, guard, emp, via, id⊢, apply∗, Fml, Logic, sem, ‵, raw, ◌⊛◌}
+use Rattle.thread_local_model.proofs.Names.{tnil, Val, vstruct, vcons, vnil, of_list, has_ty, WT, SProp, ent}
+use Rattle.thread_local_model.proofs.Names.{ex, all, guard, emp, via, id⊢, apply∗, Fml, Logic, sem, ‵, raw, ◌⊛◌}
 use Rattle.thread_local_model.proofs.Names.{some, given, ◌$◌, ◌∵◌, !, qed, by, move, keep, drop, split, fsplit3}
 use Rattle.thread_local_model.proofs.Names.{fjoin3, fpick, fpack, pick, check, show, learn, frame, assume, use1, use2}
 use Rattle.thread_local_model.proofs.Names.{done, fact_i, RattleType, Is, Ptr, block_ptr, null_ptr, InBlock, ptr_val}
@@ -22,6 +22,7 @@ use Rattle.thread_local_bucket_pointers.specs.Slots.{slot_value, block_ty, heap_
 use Rattle.thread_local_bucket_pointers.specs.PointerOwns.{pointer_owns}
 use Rattle.thread_local_bucket_pointers.specs.contracts.bucket_pointer.BucketPointer as one_pointer
 use Rattle.thread_local_bucket_pointers.proofs.Slots.{IsWordIn, IsSlotIn, Change, flags_of, slot_of, Back, slot_out, slot_back, word_out}
+use Rattle.thread_local_model.proofs.Signs.{signs}
 
 abbrev pub pointer_val : Ptr → Val
 pointer_val p = vstruct (vcons (ptr_val p) vnil)
@@ -44,24 +45,11 @@ module _ (R : RattleType) where
       ((ptr_val p ∷ [], tt), (refl, (refl, tt)))
 
   module _ {M : Type 1} {𝓤 : Ura M} (𝓛 : Logic 𝓤) where
-    abbrev Pr : Type 2
-    Pr = SProp 𝓤
-
-    abbrev ◌⊢◌ : Pr → Pr → Type 1
-    P ⊢ Q = ent 𝓤 P Q
-
-    abbrev ◌∗◌ : Pr → Pr → Pr
-    P ∗ Q = sep 𝓤 P Q
-
-    abbrev ◌-∗◌ : Pr → Pr → Pr
-    P -∗ Q = wand 𝓤 P Q
-
-    abbrev ⟦◌⟧ : Fml → Pr
-    ⟦ P ⟧ = sem 𝓛 P
-
+    open signs 𝓛 use {⟦◌⟧, ◌⊢◌, ◌∗◌, ◌-∗◌}
     infix 26 ◌⊢◌
     infixr 35 ◌∗◌
     infixr 30 ◌-∗◌
+
     abbrev C : Type 0
     C = Option R.Denot
 
@@ -80,7 +68,7 @@ module _ (R : RattleType) where
     to_pointer p (c ∷ cs) some_slot = id⊢ 𝓤 _
 
     -- the way back for a slot and its chunk's word, whatever they become
-    abbrev pub Again : Ptr → List C → (j word : ℕ) → Pr
+    abbrev pub Again : Ptr → List C → (j word : ℕ) → SProp 𝓤
     Again p cs j word = all 𝓤 (Back 𝓛 R heap_token p cs j word)
 
     pub pointer_slot : (p : Ptr) (cs : List C) (j : ℕ) → j < length cs
@@ -100,7 +88,7 @@ module _ (R : RattleType) where
         (to_pointer p (set cs j x.value) (let long = length-set cs j x.value in omega arith))
 
     -- the way back for a chunk's word, which is only read
-    abbrev pub Same : Ptr → List C → (c word : ℕ) → Pr
+    abbrev pub Same : Ptr → List C → (c word : ℕ) → SProp 𝓤
     Same p cs c word = ⟦ flags_of R (length cs) p word c ⟧ -∗ ⟦ W p cs ⟧
 
     pub pointer_chunk : (p : Ptr) (cs : List C) (c : ℕ) → c * 64 < length cs
@@ -109,7 +97,7 @@ module _ (R : RattleType) where
         guard 𝓤 (IsWordIn R p cs c word)
         (⟦ flags_of R (length cs) p word c ⟧ ∗ Same p cs c word))
     pointer_chunk p cs c near =
-        let Out : ℕ → Pr = λ word.
+        let Out : ℕ → SProp 𝓤 = λ word.
         guard 𝓤 (IsWordIn R p cs c word)
         (⟦ flags_of R (length cs) p word c ⟧ ∗ Same p cs c word) in
         qed 𝓛 (‵ (W p cs) ∷ []) ∵ use1 𝓛 (‵ (B p cs)) (to_block p cs (omega arith)) $

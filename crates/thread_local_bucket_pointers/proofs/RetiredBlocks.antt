@@ -1,7 +1,7 @@
 -- Retiring a block: its slots become room one by one, from the first on. Assumes `Logic`.
 use Rattle.thread_local_model.proofs.Names.{◌≡◌, ℕ, suc, ◌+◌, ◌*◌, ◌^◌, ◌<◌, List, [], ◌∷◌, ◌++◌, length}
 use Rattle.thread_local_model.proofs.Names.{length-append, set, sym, refl, ap, ◌∙◌, subst, arith, Option, Some, None}
-use Rattle.thread_local_model.proofs.Names.{Ura, Ty, Val, SProp, ent, emp, sep, wand, ex, all, all_e, guard, apply∗}
+use Rattle.thread_local_model.proofs.Names.{Ura, Ty, Val, SProp, ent, emp, ex, all, all_e, guard, apply∗}
 use Rattle.thread_local_model.proofs.Names.{Fml, ftrue, fsep, froom, Logic, sem, ‵, raw, ◌⊛◌, given, learn, ◌$◌, ◌∵◌}
 use Rattle.thread_local_model.proofs.Names.{ !, qed, by, move, drop, split, fsplit, fsplit3, fjoin, fjoin3, fpick}
 use Rattle.thread_local_model.proofs.Names.{fpack, show, check, frame, assume, use1, use2, rewrite, done, RattleType}
@@ -23,6 +23,7 @@ use Rattle.thread_local_bucket_pointers.proofs.Rooms.{each_cut, each_joined, wor
 use Rattle.thread_local_bucket_pointers.specs.Retired.{retired_owns, flags_left, rest}
 use Rattle.thread_local_bucket_pointers.specs.contracts.retired.RetiredBlock as retired
 use Rattle.thread_local_bucket_pointers.proofs.Fields.{block_val}
+use Rattle.thread_local_model.proofs.Signs.{signs}
 
 module _ (R Z : RattleType) (g : Ghosts Z.Denot) where
   abbrev pub FieldsType : RattleType
@@ -44,24 +45,11 @@ module _ (R Z : RattleType) (g : Ghosts Z.Denot) where
 module _ {M : Type 1} {𝓤 : Ura M} (𝓛 : Logic 𝓤) (R : RattleType) where
   open 𝓛 use {H}
 
-  abbrev Pr : Type 2
-  Pr = SProp 𝓤
-
-  abbrev ◌⊢◌ : Pr → Pr → Type 1
-  P ⊢ Q = ent 𝓤 P Q
-
-  abbrev ◌∗◌ : Pr → Pr → Pr
-  P ∗ Q = sep 𝓤 P Q
-
-  abbrev ◌-∗◌ : Pr → Pr → Pr
-  P -∗ Q = wand 𝓤 P Q
-
-  abbrev ⟦◌⟧ : Fml → Pr
-  ⟦ P ⟧ = sem 𝓛 P
-
+  open signs 𝓛 use {⟦◌⟧, ◌⊢◌, ◌∗◌, ◌-∗◌}
   infix 26 ◌⊢◌
   infixr 35 ◌∗◌
   infixr 30 ◌-∗◌
+
   abbrev C : Type 0
   C = Option R.Denot
 
@@ -74,7 +62,7 @@ module _ {M : Type 1} {𝓤 : Ura M} (𝓛 : Logic 𝓤) (R : RattleType) where
     Say k cs ns = (length ns ≡ chunks (k + length cs)) × AreWords ns × AreFlagsFrom k ns cs
 
     -- the word of the next slot, and the way back
-    abbrev pub Again : Ptr → ℕ → List C → ℕ → Pr
+    abbrev pub Again : Ptr → ℕ → List C → ℕ → SProp 𝓤
     Again p k cs n = ⟦ flags_of R (k + length cs) p n (k / 64) ⟧ -∗ ⟦ Owns p k cs ⟧
 
     abbrev pub Shown : Ptr → ℕ → List C → ℕ → Type 0
@@ -99,12 +87,7 @@ module _ {M : Type 1} {𝓤 : Ura M} (𝓛 : Logic 𝓤) (R : RattleType) where
         let n : ℕ = slice_index ns i in
         let has : i < length ns = subst (λ (z : ℕ). i < z) (sym are.0) (in_chunks m k within) in let ends : i ≡ i + 0 = omega arith in
         show ! (λ (z : ℕ). guard 𝓤 (Shown p k ds z) (⟦ F z i ⟧ ∗ Again p k ds z)) n $
-        check ! (
-          so.0,
-          word_is_near R m i so.1 (in_chunks m k within),
-          are.1 i,
-          flag_first k ns c cs are.2,
-        ) $
+        check ! (so.0, word_is_near R m i so.1 (in_chunks m k within), are.1 i, flag_first k ns c cs are.2) $
         use1 𝓛 (‵ (F n i) ⊛ raw (all 𝓤 (Put 𝓛 F ns 0 i i))) (each_at 𝓛 F ns 0 i i 0 ends has) $
         split ! $ frame ! $ assume ! (‵ (F n i)) $ move ! (1 ∷ []) $
         use1 𝓛 (raw (Put 𝓛 F ns 0 i i n)) (all_e 𝓤 (Put 𝓛 F ns 0 i i) n) $ move ! (1 ∷ 0 ∷ []) $
@@ -115,7 +98,7 @@ module _ {M : Type 1} {𝓤 : Ura M} (𝓛 : Logic 𝓤) (R : RattleType) where
         fjoin ! $ nothing ! $ fpack ! (InBlock p × Fits R m) (λ _. ftrue) so $ fjoin ! $ done !)))
 
     -- the next slot, which becomes room once it is empty
-    abbrev pub Emptied : Ptr → ℕ → List C → Pr
+    abbrev pub Emptied : Ptr → ℕ → List C → SProp 𝓤
     Emptied p k cs = ⟦ slot R (block_of p) (count_of p) None k ⟧ -∗ ⟦ Owns p (k + 1) (rest cs) ⟧
 
     pub next_slot : (p : Ptr) (k : ℕ) (cs : List C) → 0 < length cs

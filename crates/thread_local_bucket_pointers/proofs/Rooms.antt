@@ -2,8 +2,8 @@
 -- `Logic`.
 use Rattle.thread_local_model.proofs.Names.{◌≡◌, ℕ, zero, suc, ◌+◌, ◌*◌, List, [], ◌∷◌, ◌++◌, length, refl, sym, ap}
 use Rattle.thread_local_model.proofs.Names.{◌∙◌, subst, arith, w64, suc-mul, zero-mul, Option, None, Ura, Ty, ty_int}
-use Rattle.thread_local_model.proofs.Names.{ty_array, tcons, tnil, bare, vint, SProp, ent, sep, wand, id⊢, apply∗, Fml}
-use Rattle.thread_local_model.proofs.Names.{ftrue, fsep, froom, Logic, sem, ‵, raw, ◌⊛◌, ◌$◌, ◌∵◌, !, qed, by, move}
+use Rattle.thread_local_model.proofs.Names.{ty_array, tcons, tnil, bare, vint, SProp, id⊢, apply∗, Fml}
+use Rattle.thread_local_model.proofs.Names.{ftrue, fsep, froom, Logic, ‵, raw, ◌⊛◌, ◌$◌, ◌∵◌, !, qed, by, move}
 use Rattle.thread_local_model.proofs.Names.{drop, split, fsplit, fsplit3, fjoin, fjoin3, frame, assume, use1, rewrite}
 use Rattle.thread_local_model.proofs.Names.{done, RattleType, lone, nothing}
 use Rattle.std.specs.Prelude.{replicate}
@@ -12,26 +12,14 @@ use prog.RawLaws.{size-raw, align-raw}
 use Rattle.thread_local_bucket_pointers.proofs.Flags.{values_start, words_start}
 use Rattle.thread_local_bucket_pointers.specs.Slots.{empty_slots, chunks, each, stride, value_words, block_ty, word_offset}
 use Rattle.thread_local_bucket_pointers.specs.Slots.{value_offset, flags_at, flag_room, slot, back}
+use Rattle.thread_local_model.proofs.Signs.{signs}
 
 module _ {M : Type 1} {𝓤 : Ura M} (𝓛 : Logic 𝓤) where
-  abbrev Pr : Type 2
-  Pr = SProp 𝓤
-
-  abbrev ◌⊢◌ : Pr → Pr → Type 1
-  P ⊢ Q = ent 𝓤 P Q
-
-  abbrev ◌∗◌ : Pr → Pr → Pr
-  P ∗ Q = sep 𝓤 P Q
-
-  abbrev ◌-∗◌ : Pr → Pr → Pr
-  P -∗ Q = wand 𝓤 P Q
-
-  abbrev ⟦◌⟧ : Fml → Pr
-  ⟦ P ⟧ = sem 𝓛 P
-
+  open signs 𝓛 use {⟦◌⟧, ◌⊢◌, ◌∗◌, ◌-∗◌}
   infix 26 ◌⊢◌
   infixr 35 ◌∗◌
   infixr 30 ◌-∗◌
+
   open 𝓛 use {H}
 
   -- `each` of a concatenation is `each` of its parts
@@ -119,7 +107,7 @@ module _ {M : Type 1} {𝓤 : Ura M} (𝓛 : Logic 𝓤) where
 
     spreads : 𝓛.H.room (block_ty R n) b o ⊢ ⟦ Parts ⟧ ∗ (⟦ Parts ⟧ -∗ 𝓛.H.room (block_ty R n) b o)
     spreads =
-        let X : Pr = 𝓛.H.room (block_ty R n) b o in
+        let X : SProp 𝓤 = 𝓛.H.room (block_ty R n) b o in
         let k : ℕ = chunks n in
         let a : ℕ = align τ in
         let z : ℕ = up a 0 in
@@ -156,7 +144,7 @@ module _ {M : Type 1} {𝓤 : Ura M} (𝓛 : Logic 𝓤) where
 
     pub block_cut : 𝓛.H.room (block_ty R n) b o ⊢ ⟦ FlagWords ⟧ ∗ ⟦ Slots ⟧ ∗ ⟦ back R b o n ⟧
     block_cut =
-        let X : Pr = 𝓛.H.room (block_ty R n) b o in
+        let X : SProp 𝓤 = 𝓛.H.room (block_ty R n) b o in
         qed 𝓛 (‵ (froom (block_ty R n) b o) ∷ []) ∵
         use1 𝓛 (‵ Parts ⊛ raw (⟦ Parts ⟧ -∗ X)) spreads $ split ! $ fsplit3 ! $
         use1 𝓛 (‵ Slots) values_apart $ move ! (1 ∷ []) $ use1 𝓛 (‵ FlagWords) words_apart $ frame ! $ frame ! $ drop ! $

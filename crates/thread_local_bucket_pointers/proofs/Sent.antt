@@ -40,10 +40,7 @@ module _ (R : RattleType) (s : IsSend R) where
     (
       (λ ns. (
         (λ _. tt),
-        (
-          each_keyless (flags_at R _ _ _) (λ _ _. tt) ns _,
-          each_keyless (flag_room R _ _ _) (λ _ _. tt) (replicate left 0) _,
-        ),
+        (each_keyless (flags_at R _ _ _) (λ _ _. tt) ns _, each_keyless (flag_room R _ _ _) (λ _ _. tt) (replicate left 0) _),
       )),
       (slots_keyless _ _ cs _, (back_keyless _ _ _, freed _ p)),
     ),

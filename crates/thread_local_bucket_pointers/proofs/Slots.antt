@@ -1,8 +1,8 @@
 -- Taking a slot and its chunk's word out of a block, and putting them back. Assumes `Logic`.
 use Rattle.thread_local_model.proofs.Names.{◌≡◌, ◌≢◌, ℕ, ◌+◌, ◌*◌, ◌^◌, ◌<◌, List, [], ◌∷◌, length, length-set, set}
 use Rattle.thread_local_model.proofs.Names.{get_or, refl, sym, ap, ◌∙◌, subst, arith, lit<, T, false, Option, Some}
-use Rattle.thread_local_model.proofs.Names.{None, is_some, Ura, Ty, ty_ptr, has_ty, WT, SProp, ent, sep, wand, ex, all}
-use Rattle.thread_local_model.proofs.Names.{all_e, guard, apply∗, Fml, ftrue, Logic, sem, ‵, raw, ◌⊛◌, ◌$◌, ◌∵◌, ! }
+use Rattle.thread_local_model.proofs.Names.{None, is_some, Ura, Ty, ty_ptr, has_ty, WT, SProp, ex, all}
+use Rattle.thread_local_model.proofs.Names.{all_e, guard, apply∗, Fml, ftrue, Logic, ‵, raw, ◌⊛◌, ◌$◌, ◌∵◌, !}
 use Rattle.thread_local_model.proofs.Names.{qed, by, move, drop, split, fsplit, fsplit3, fjoin3, fpick, fpack, check}
 use Rattle.thread_local_model.proofs.Names.{show, frame, each as for_each, assume, use1, use2, rewrite, done}
 use Rattle.thread_local_model.proofs.Names.{RattleType, Ptr, block_ptr, null_ptr, ptr_val, block_of, count_of, InBlock}
@@ -16,6 +16,7 @@ use Rattle.thread_local_bucket_pointers.specs.Slots.{slot_value, chunks, stride,
 use Rattle.thread_local_bucket_pointers.specs.Slots.{flags_at, slot, back, flags_own, block_ty, block_owns}
 use Rattle.thread_local_bucket_pointers.proofs.Each.{Put, each_at}
 use Rattle.thread_local_bucket_pointers.proofs.Flags.{in_chunks, chunk_in, word_near, value_near, number_is, flag_read, flags_set}
+use Rattle.thread_local_model.proofs.Signs.{signs}
 
 pub value_of : {X : Type 0} (v : Option X) → IsSome v → (x : X) × (v ≡ Some x)
 value_of None i = absurd (true≢false (sym i))
@@ -83,10 +84,7 @@ module _ {X : Type 0} (slots : List (Option X)) where
       (cases_eq (j % 64) bit)
 
   pub word_of : (ns : List ℕ) (c : ℕ) → AreFlags ns slots → IsWordOf slots c (get_or ns c 0)
-  word_of ns c are = record {
-    fits = are.words c;
-    flags = λ bit within. flag_read ns slots c bit are within;
-  }
+  word_of ns c are = record { fits = are.words c; flags = λ bit within. flag_read ns slots c bit are within }
 
 module _ (R : RattleType) where
   -- the word of a chunk of a block of n slots
@@ -101,24 +99,11 @@ module _ (R : RattleType) where
   slot_of p v j = slot R (block_of p) (count_of p) v j
 
 module _ {M : Type 1} {𝓤 : Ura M} (𝓛 : Logic 𝓤) (R : RattleType) (token : Ty → Ptr → Fml) where
-  abbrev Pr : Type 2
-  Pr = SProp 𝓤
-
-  abbrev ◌⊢◌ : Pr → Pr → Type 1
-  P ⊢ Q = ent 𝓤 P Q
-
-  abbrev ◌∗◌ : Pr → Pr → Pr
-  P ∗ Q = sep 𝓤 P Q
-
-  abbrev ◌-∗◌ : Pr → Pr → Pr
-  P -∗ Q = wand 𝓤 P Q
-
-  abbrev ⟦◌⟧ : Fml → Pr
-  ⟦ P ⟧ = sem 𝓛 P
-
+  open signs 𝓛 use {⟦◌⟧, ◌⊢◌, ◌∗◌, ◌-∗◌}
   infix 26 ◌⊢◌
   infixr 35 ◌∗◌
   infixr 30 ◌-∗◌
+
   abbrev C : Type 0
   C = Option R.Denot
 
@@ -127,7 +112,7 @@ module _ {M : Type 1} {𝓤 : Ura M} (𝓛 : Logic 𝓤) (R : RattleType) (token
   Owns p slots = block_owns R token p slots 0
 
   -- the way back, for whatever the word and the slot become
-  abbrev pub Back : Ptr → List C → (j word : ℕ) → Change R.Denot j word → Pr
+  abbrev pub Back : Ptr → List C → (j word : ℕ) → Change R.Denot j word → SProp 𝓤
   Back p slots j word x =
       ⟦ flags_of R (length slots) p x.new (j / 64) ⟧ -∗ ⟦ slot_of R p x.value j ⟧
       -∗ ⟦ Owns p (set slots j x.value) ⟧
@@ -145,7 +130,7 @@ module _ {M : Type 1} {𝓤 : Ura M} (𝓛 : Logic 𝓤) (R : RattleType) (token
       let c : ℕ = j / 64 in
       let F : ℕ → ℕ → Fml = flags_at R n b o in
       let G : C → ℕ → Fml = slot R b o in
-      let Out : ℕ → Pr = λ word.
+      let Out : ℕ → SProp 𝓤 = λ word.
       guard 𝓤 (IsSlotIn R p slots j word)
       (⟦ F word c ⟧ ∗ ⟦ G (slot_value slots j) j ⟧ ∗ all 𝓤 (Back p slots j word)) in
       qed 𝓛 (‵ (Owns p slots) ∷ []) ∵ fsplit3 ! $ fpick ! (λ so. drop ! $ fpick ! (λ ns. fsplit3 ! $ fpick ! (λ are. drop ! $
@@ -213,7 +198,7 @@ module _ {M : Type 1} {𝓤 : Ura M} (𝓛 : Logic 𝓤) (R : RattleType) (token
       let o : ℕ = count_of p in
       let n : ℕ = length slots in
       let F : ℕ → ℕ → Fml = flags_at R n b o in
-      let Out : ℕ → Pr = λ word.
+      let Out : ℕ → SProp 𝓤 = λ word.
       guard 𝓤 (IsWordIn R p slots c word) (⟦ F word c ⟧ ∗ (⟦ F word c ⟧ -∗ ⟦ Owns p slots ⟧)) in
       qed 𝓛 (‵ (Owns p slots) ∷ []) ∵ fsplit3 ! $ fpick ! (λ so. drop ! $ fpick ! (λ ns. fsplit3 ! $ fpick ! (λ are. drop ! $
       let word : ℕ = get_or ns c 0 in let inside : c < length ns = (let within = chunk_in n c near in let long = are.0 in omega arith) in

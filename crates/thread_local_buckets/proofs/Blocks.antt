@@ -1,8 +1,8 @@
 -- A pointer is split into what doesn't change, its values and the rest, and put together again with
 -- any values in the same slots. Assumes `Logic`.
 use Rattle.thread_local_model.proofs.Names.{◌≡◌, ℕ, suc, ◌+◌, List, [], ◌∷◌, length, refl, sym, ap, ◌∙◌, subst, arith}
-use Rattle.thread_local_model.proofs.Names.{Bool, false, is_some, Option, Some, None, Ura, SProp, ent, sep, Fml, ftrue}
-use Rattle.thread_local_model.proofs.Names.{fsep, Logic, sem, ‵, ◌⊛◌, given, ◌$◌, ◌∵◌, !, qed, by, move, drop, split}
+use Rattle.thread_local_model.proofs.Names.{Bool, false, is_some, Option, Some, None, Ura, Fml, ftrue}
+use Rattle.thread_local_model.proofs.Names.{fsep, Logic, ‵, ◌⊛◌, given, ◌$◌, ◌∵◌, !, qed, by, move, drop, split}
 use Rattle.thread_local_model.proofs.Names.{fsplit, fsplit3, fjoin, fjoin3, fpick, fpack, learn, check, use1, use2}
 use Rattle.thread_local_model.proofs.Names.{rewrite, done, guard, guard_i, fact_use, RattleType, Ptr, null_ptr}
 use Rattle.thread_local_model.proofs.Names.{block_of, count_of, InBlock, nothing}
@@ -16,6 +16,7 @@ use Rattle.thread_local_model.specs.Fact.{fact}
 use Rattle.thread_local_bucket_pointers.specs.PointerOwns.{pointer_owns}
 use Rattle.thread_local_buckets.specs.Lent.{flagged, valued, bare, PointsTo}
 use Rattle.thread_local_buckets.proofs.Shapes.{has, slot_has}
+use Rattle.thread_local_model.proofs.Signs.{signs}
 
 abbrev pub first_of : List Bool → Bool
 first_of [] = false
@@ -35,20 +36,10 @@ module _ (R : RattleType) where
       (heap_token (block_ty R (length (c ∷ cs))) p))
 
 module _ {M : Type 1} {𝓤 : Ura M} (𝓛 : Logic 𝓤) (R : RattleType) where
-  abbrev Pr : Type 2
-  Pr = SProp 𝓤
-
-  abbrev ◌⊢◌ : Pr → Pr → Type 1
-  P ⊢ Q = ent 𝓤 P Q
-
-  abbrev ◌∗◌ : Pr → Pr → Pr
-  P ∗ Q = sep 𝓤 P Q
-
-  abbrev ⟦◌⟧ : Fml → Pr
-  ⟦ P ⟧ = sem 𝓛 P
-
+  open signs 𝓛 use {⟦◌⟧, ◌⊢◌, ◌∗◌}
   infix 26 ◌⊢◌
   infixr 35 ◌∗◌
+
   abbrev C : Type 0
   C = Option R.Denot
 

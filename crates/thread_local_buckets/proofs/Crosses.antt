@@ -54,10 +54,7 @@ module _ (R : RattleType) where
         → Keyless (loan_owns κ R p v name left given bucket first)
     owned_crosses κ p v name left given bucket first = λ z. (
       (λ _. tt),
-      (
-        frames_cross (block_of p) (count_of p) z.0 z.1.rows,
-        (tt, (λ w. (((λ _. tt), values_cross z.0 w.contents.rows), tt))),
-      ),
+      (frames_cross (block_of p) (count_of p) z.0 z.1.rows, (tt, (λ w. (((λ _. tt), values_cross z.0 w.contents.rows), tt)))),
     )
 
 pub loan_send : (a : NamedLft) (V : RattleType) → IsSend V → IsSend (loan.the_row a V)

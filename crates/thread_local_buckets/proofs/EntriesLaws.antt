@@ -1,13 +1,9 @@
 -- A walk with ids, and the one without.
-use Rattle.std.proofs.Common.{◌≡◌, ℕ, ◌-◌, ◌^◌, ◌<◌, List, [], ◌∷◌, length, map, Option, refl, sym, ap, ◌∙◌, arith, ◌+◌, ◌≤◌, pow_pos}
-use Rattle.std.proofs.lemmas.List.{length-map}
+use Rattle.std.proofs.Common.{◌≡◌, ℕ, ◌-◌, ◌^◌, ◌<◌, List, [], ◌∷◌, length, map, Option, sym, ap, ◌∙◌, arith, ◌+◌, ◌≤◌, pow_pos}
+use Rattle.std.proofs.lemmas.List.{length-map, nil_from_length}
 use Rattle.thread_local_model.specs.Walk.{walk, paired}
 use Rattle.thread_local_model.proofs.PlaceLaws.{id_at-below}
 use Rattle.thread_local_model.proofs.WalkLaws.{map-walk_below}
-
-empty : {X : Type 0} (xs : List X) → length xs ≡ 0 → xs ≡ []
-empty [] h = refl
-empty (x ∷ xs) h = absurd (omega (arith, h))
 
 -- what is left once an item is given is shorter
 pub shorter : {X : Type 0} (before after : List X) (x : X) → before ≡ x ∷ after → length after < length before
@@ -37,4 +33,4 @@ module _ {V : Type 0} where
 
   -- so none are left where no value is
   pub no_entries : (values : ℕ → Option V) → length (walk values) ≡ 0 → walk (paired values) ≡ []
-  no_entries values none = empty (walk (paired values)) (length_of_entries values ∙ none)
+  no_entries values none = nil_from_length (walk (paired values)) (length_of_entries values ∙ none)

@@ -1,7 +1,7 @@
 -- The data fields of a loan, and what a pointer points to. Assumes `Logic`.
 use Rattle.thread_local_model.proofs.Names.{◌≡◌, ◌^◌, ◌<◌, T, true, List, [], ◌∷◌, ◌++◌, length, refl, ap, ◌∙◌, sym}
-use Rattle.thread_local_model.proofs.Names.{subst, lit<, arith, Ura, ty_ptr, Val, vstruct, vcons, vnil, of_list}
-use Rattle.thread_local_model.proofs.Names.{has_ty, WT, ent, emp, Logic, sem, RattleType, Is, Ptr, InBlock, block_ptr}
+use Rattle.thread_local_model.proofs.Names.{subst, lit<, arith, Ura, Val, vstruct, vcons, vnil, of_list}
+use Rattle.thread_local_model.proofs.Names.{ent, emp, Logic, sem, RattleType, Is, Ptr, InBlock, block_ptr}
 use Rattle.thread_local_model.proofs.Names.{null_ptr, ptr_val, count_of, Option}
 use Rattle.std.specs.Prelude.{nat_lt, not}
 use mir.Val.{vnull, ptr_same, ptr_eq_ok}
@@ -19,10 +19,6 @@ use Rattle.thread_local_buckets.specs.contracts.loan.Loan as loan
 
 abbrev pub loan_val : Ptr → Ptr → Val
 loan_val p v = vstruct (vcons (ptr_val p) (vcons (ptr_val v) (vcons (vstruct vnil) vnil)))
-
-pub pointer_good : (p : Ptr) → T (has_ty ty_ptr (ptr_val p)) × WT (ptr_val p)
-pointer_good (block_ptr b o) = (tt, tt)
-pointer_good null_ptr = (tt, record { fits = lit< tt })
 
 module _ (a : NamedLft) (R : RattleType) where
   abbrev pub FieldsType : RattleType

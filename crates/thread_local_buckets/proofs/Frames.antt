@@ -1,13 +1,14 @@
 -- Taking one pointer, or the value of one slot, out of all of them, and putting it back. Assumes
 -- `Logic`.
 use Rattle.thread_local_model.proofs.Names.{◌≡◌, ℕ, zero, suc, ◌+◌, ◌*◌, ◌<◌, List, [], ◌∷◌, length, set, get_or, refl}
-use Rattle.thread_local_model.proofs.Names.{sym, arith, Option, None, Ura, SProp, ent, sep, wand, all, all_e, apply∗}
-use Rattle.thread_local_model.proofs.Names.{never_e, Fml, Logic, sem, ‵, raw, ◌⊛◌, ◌$◌, ◌∵◌, !, qed, move, split}
+use Rattle.thread_local_model.proofs.Names.{sym, arith, Option, None, Ura, SProp, all, all_e, apply∗}
+use Rattle.thread_local_model.proofs.Names.{never_e, Fml, Logic, ‵, raw, ◌⊛◌, ◌$◌, ◌∵◌, !, qed, move, split}
 use Rattle.thread_local_model.proofs.Names.{frame, each as for_each, assume, use1, use2, rewrite, done, RattleType}
 use Rattle.thread_local_model.proofs.Names.{Ptr, null_ptr, block_of, count_of}
 use Rattle.thread_local_bucket_pointers.specs.Slots.{each, slot_value}
 use Rattle.thread_local_bucket_pointers.proofs.Each.{each_at, Put}
 use Rattle.thread_local_buckets.specs.Lent.{valued, framed, frames, values_at}
+use Rattle.thread_local_model.proofs.Signs.{signs}
 
 abbrev pub pointer : List Ptr → ℕ → Ptr
 pointer ps k = get_or ps k null_ptr
@@ -18,29 +19,16 @@ in_row rs k = get_or rs k []
 module _ {M : Type 1} {𝓤 : Ura M} (𝓛 : Logic 𝓤) (R : RattleType) where
   open 𝓛 use {H, A}
 
-  abbrev Pr : Type 2
-  Pr = SProp 𝓤
-
-  abbrev ◌⊢◌ : Pr → Pr → Type 1
-  P ⊢ Q = ent 𝓤 P Q
-
-  abbrev ◌∗◌ : Pr → Pr → Pr
-  P ∗ Q = sep 𝓤 P Q
-
-  abbrev ◌-∗◌ : Pr → Pr → Pr
-  P -∗ Q = wand 𝓤 P Q
-
-  abbrev ⟦◌⟧ : Fml → Pr
-  ⟦ P ⟧ = sem 𝓛 P
-
+  open signs 𝓛 use {⟦◌⟧, ◌⊢◌, ◌∗◌, ◌-∗◌}
   infix 26 ◌⊢◌
   infixr 35 ◌∗◌
   infixr 30 ◌-∗◌
+
   abbrev Slots : Type 0
   Slots = List (Option R.Denot)
 
   -- ---- a pointer
-  abbrev pub Frame : ℕ → ℕ → List Ptr → List Slots → ℕ → ℕ → Pr
+  abbrev pub Frame : ℕ → ℕ → List Ptr → List Slots → ℕ → ℕ → SProp 𝓤
   Frame b e ps rs k e' = ⟦ framed R b e' (pointer ps k) (in_row rs k) ⟧ -∗ ⟦ frames R b e ps rs ⟧
 
   pub frame_out : (b : ℕ) (ps : List Ptr) (rs : List Slots) (k e e' : ℕ) → e' ≡ k * 8 + e
@@ -68,7 +56,7 @@ module _ {M : Type 1} {𝓤 : Ura M} (𝓛 : Logic 𝓤) (R : RattleType) where
   abbrev pub there : List Ptr → ℕ → Option R.Denot → ℕ → Fml
   there ps k = valued R (block_of (pointer ps k)) (count_of (pointer ps k))
 
-  abbrev pub Block : List Ptr → List Slots → ℕ → Slots → Pr
+  abbrev pub Block : List Ptr → List Slots → ℕ → Slots → SProp 𝓤
   Block ps rs k r = ⟦ each (there ps k) r 0 ⟧ -∗ ⟦ values_at R ps (set rs k r) ⟧
 
   block_out : (ps : List Ptr) (rs : List Slots) (k : ℕ) → k < length rs
@@ -97,7 +85,7 @@ module _ {M : Type 1} {𝓤 : Ura M} (𝓛 : Logic 𝓤) (R : RattleType) where
     abbrev F : Option R.Denot → ℕ → Fml
     F = there ps k
 
-    abbrev pub Value : Option R.Denot → Pr
+    abbrev pub Value : Option R.Denot → SProp 𝓤
     Value c = ⟦ F c i ⟧ -∗ ⟦ values_at R ps (set rs k (set (in_row rs k) i c)) ⟧
 
     pub value_out : ⟦ values_at R ps rs ⟧ ⊢ ⟦ F (slot_value (in_row rs k) i) i ⟧ ∗ all 𝓤 Value

@@ -1,5 +1,5 @@
 -- Giving a value: the value of one slot is split from those that a loan has left. Assumes `Logic`.
-use Rattle.thread_local_model.proofs.Names.{◌≡◌, ℕ, ◌<◌, List, [], ◌∷◌, length, refl, sym, ap, subst, ◌∙◌, false}
+use Rattle.thread_local_model.proofs.Names.{◌≡◌, ℕ, ◌<◌, List, [], ◌∷◌, length, refl, sym, ap, subst, ◌∙◌}
 use Rattle.thread_local_model.proofs.Names.{is_some, Option, Some, None, Ura, SProp, ent, sep, ex, all, all_e, emp}
 use Rattle.thread_local_model.proofs.Names.{apply∗, Lft, Share, GName, Fml, ftrue, flft, fbor, fobs, Logic, sem, ‵}
 use Rattle.thread_local_model.proofs.Names.{raw, ◌⊛◌, some, later, ◌$◌, ◌∵◌, !, qed, move, keep, drop, split, split3}
@@ -15,14 +15,11 @@ use Rattle.thread_local_bucket_pointers.specs.Slots.{slot_value, value_offset}
 use Rattle.thread_local_buckets.specs.Lent.{shape, values_at, Values, lent_as, lent_values}
 use Rattle.thread_local_buckets.proofs.Frames.{pointer, in_row, there, value_out, Value}
 use Rattle.thread_local_buckets.proofs.Shapes.{put, put_back, long, row_long, long_put, row_long_put, is_slot, slot-put}
+use Rattle.thread_local_model.proofs.TakingLaws.{shows_none}
 
 -- the contents with another value, or none, in a slot
 abbrev pub filled : {X : Type 0} → ℕ → ℕ → Option X → Contents X → Contents X
 filled k i c w = record { rows = put w.rows k i c }
-
-no_value : {X : Type 0} (c : Option X) → is_some c ≡ false → c ≡ None
-no_value None e = refl
-no_value (Some x) e = cc
 
 module _ {M : Type 1} {𝓤 : Ura M} (𝓛 : Logic 𝓤) (R : RattleType) (ps : List Ptr)
     (left : Contents R.Denot) (k i : ℕ) (x : R.Denot)
@@ -80,7 +77,7 @@ module _ {M : Type 1} {𝓤 : Ura M} (𝓛 : Logic 𝓤) (R : RattleType) (ps : 
       (sym (row_long less.rows c.rows k i same ∙ row_long_put left.rows k i None near))
       inside in
       let none : slot_value (in_row c.rows k) i ≡ None =
-      no_value (slot_value (in_row c.rows k) i)
+      shows_none (slot_value (in_row c.rows k) i)
       (is_slot less.rows c.rows k i same
       ∙ ap is_some (slot-put left.rows k i None near inside)) in
       use1 𝓛

@@ -1,7 +1,7 @@
 -- A table's pointers in memory are 63 pointers one after another, and 63 such pointers are a
 -- table's. Assumes `Logic`.
-use Rattle.thread_local_model.proofs.Names.{◌≡◌, ℕ, ◌+◌, List, [], ◌∷◌, length, full_share, Ura, SProp, ent, sep, ex}
-use Rattle.thread_local_model.proofs.Names.{Fml, Logic, sem, ‵, raw, ◌⊛◌, some, ◌$◌, ◌∵◌, !, qed, by, move, split}
+use Rattle.thread_local_model.proofs.Names.{◌≡◌, ℕ, ◌+◌, List, [], ◌∷◌, length, full_share, Ura, SProp, ex}
+use Rattle.thread_local_model.proofs.Names.{Logic, ‵, raw, ◌⊛◌, some, ◌$◌, ◌∵◌, !, qed, by, move, split}
 use Rattle.thread_local_model.proofs.Names.{fjoin, pick, show, use1, use2, feq_l, feq_i, join, done, RattleType}
 use Rattle.thread_local_model.proofs.Names.{Member, lone, part_at, param, param_laws}
 use base.Fml.{feq}
@@ -24,22 +24,13 @@ use Rattle.thread_local_bucket_pointers.proofs.pointer_array.PointerArray.TheLaw
 use Rattle.thread_local_bucket_pointers.specs.contracts.bucket_pointers.BucketPointers as all_pointers
 use Rattle.thread_local_bucket_pointers.specs.contracts.bucket_pointers.BucketPointers.TheInside as inside
 use Rattle.thread_local_buckets.proofs.Taking.{side}
+use Rattle.thread_local_model.proofs.Signs.{signs}
 
 module _ {M : Type 1} {𝓤 : Ura M} (𝓛 : Logic 𝓤) (X : RattleType) (L : Laws X) (b o : ℕ) where
-  abbrev Pr : Type 2
-  Pr = SProp 𝓤
-
-  abbrev ◌⊢◌ : Pr → Pr → Type 1
-  P ⊢ Q = ent 𝓤 P Q
-
-  abbrev ◌∗◌ : Pr → Pr → Pr
-  P ∗ Q = sep 𝓤 P Q
-
-  abbrev ⟦◌⟧ : Fml → Pr
-  ⟦ P ⟧ = sem 𝓛 P
-
+  open signs 𝓛 use {⟦◌⟧, ◌⊢◌, ◌∗◌}
   infix 26 ◌⊢◌
   infixr 35 ◌∗◌
+
   abbrev R : RattleType
   R = param 0 X
 
@@ -67,7 +58,7 @@ module _ {M : Type 1} {𝓤 : Ura M} (𝓛 : Logic 𝓤) (X : RattleType) (L : L
   abbrev pub good : Inside.Denot → Type 0
   good = all_pointers.the_invariant R
 
-  abbrev pub Laid : Inside.Denot → Pr
+  abbrev pub Laid : Inside.Denot → SProp 𝓤
   Laid a =
       (⟦ rest_at full_share ms 0 (a.pointers, (a.alloc, tt)) b o 0 ⟧
       ∗ PartsBack 𝓛 full_share [] ms b o)
@@ -75,7 +66,7 @@ module _ {M : Type 1} {𝓤 : Ura M} (𝓛 : Logic 𝓤) (X : RattleType) (L : L
       ∗ PartsBack 𝓛 full_share [] ns b (o + 0))
 
   -- the pointers one after another, and what else makes them a table's
-  abbrev pub Opened : Contents R.Denot → Inside.Denot → Pr
+  abbrev pub Opened : Contents R.Denot → Inside.Denot → SProp 𝓤
   Opened c a = ⟦ side 𝓛 R b a.pointers.pointers (o + 0 + 0) ⟧ ∗ Laid a
 
   pub open_pointers : (c : Contents R.Denot)
@@ -96,10 +87,10 @@ module _ {M : Type 1} {𝓤 : Ura M} (𝓛 : Logic 𝓤) (X : RattleType) (L : L
       pick ! (λ x.
       let a : Inside.Denot = x.0 in
       let ws = a.pointers.pointers in
-      let Rest : Pr =
+      let Rest : SProp 𝓤 =
       ⟦ rest_at full_share ms 0 (a.pointers, (a.alloc, tt)) b o 0 ⟧
       ∗ PartsBack 𝓛 full_share [] ms b o in
-      let Rest' : Pr =
+      let Rest' : SProp 𝓤 =
       ⟦ rest_at full_share ns 0 (ws, tt) b (o + 0) 0 ⟧ ∗ PartsBack 𝓛 full_share [] ns b (o + 0) in
       use1 𝓛 (‵ (part_at Row full_share a.pointers b (o + 0)) ⊛ raw Rest)
       (field_out 𝓛 full_share [] ms (LRow, (LH, tt)) (a.pointers, (a.alloc, tt)) b o 0) $
@@ -122,10 +113,10 @@ module _ {M : Type 1} {𝓤 : Ura M} (𝓛 : Logic 𝓤) (X : RattleType) (L : L
       → ⟦ side 𝓛 R b ws (o + 0 + 0) ⟧ ∗ Laid a ⊢ ⟦ part_at Table full_share c b o ⟧
   unfolding part_of
   close_pointers a ws c long seen so = let a' : Inside.Denot = remade a ws in
-      let Rest : Pr =
+      let Rest : SProp 𝓤 =
       ⟦ rest_at full_share ms 0 (a.pointers, (a.alloc, tt)) b o 0 ⟧
       ∗ PartsBack 𝓛 full_share [] ms b o in
-      let Rest' : Pr =
+      let Rest' : SProp 𝓤 =
       ⟦ rest_at full_share ns 0 (a.pointers.pointers, tt) b (o + 0) 0 ⟧
       ∗ PartsBack 𝓛 full_share [] ns b (o + 0) in
       qed 𝓛 (‵ (side 𝓛 R b ws (o + 0 + 0)) ∷ (raw Rest ⊛ raw Rest') ∷ []) ∵

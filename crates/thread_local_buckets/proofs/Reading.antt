@@ -1,7 +1,7 @@
 -- Taking the word of one chunk out of the flags of a block, for reading. Assumes `Logic`.
 use Rattle.thread_local_model.proofs.Names.{◌≡◌, ℕ, ◌+◌, ◌*◌, ◌<◌, ◌≤◌, List, [], ◌∷◌, length, set, get_or, sym, refl}
-use Rattle.thread_local_model.proofs.Names.{ap, ◌∙◌, arith, is_some, Option, Ura, SProp, ent, sep, wand, ex, all}
-use Rattle.thread_local_model.proofs.Names.{all_e, guard, apply∗, Fml, ftrue, Logic, sem, ‵, raw, ◌⊛◌, ◌$◌, ◌∵◌, ! }
+use Rattle.thread_local_model.proofs.Names.{ap, ◌∙◌, arith, is_some, Option, Ura, SProp, ex, all}
+use Rattle.thread_local_model.proofs.Names.{all_e, guard, apply∗, Fml, ftrue, Logic, ‵, raw, ◌⊛◌, ◌$◌, ◌∵◌, !}
 use Rattle.thread_local_model.proofs.Names.{qed, move, drop, split, fsplit3, fjoin3, fpick, fpack, check, show, frame}
 use Rattle.thread_local_model.proofs.Names.{assume, use1, use2, rewrite, done, RattleType, Ptr, block_of, count_of}
 use Rattle.thread_local_model.proofs.Names.{nothing}
@@ -15,6 +15,7 @@ use Rattle.thread_local_bucket_pointers.proofs.Each.{Put, each_at}
 use Rattle.thread_local_bucket_pointers.proofs.Flags.{chunk_in}
 use Rattle.thread_local_bucket_pointers.proofs.Slots.{IsWordOf, word_of}
 use Rattle.thread_local_buckets.specs.Lent.{flagged, IsLeft}
+use Rattle.thread_local_model.proofs.Signs.{signs}
 
 -- where no value of a chunk was given, its word says the same of the whole contents as of those
 -- that are left
@@ -25,29 +26,16 @@ says_of_left whole left given k c word so ahead is bit within =
     is.flags bit within ∙ sym (ap is_some (so.ahead k (c * 64 + bit) (omega arith)))
 
 module _ {M : Type 1} {𝓤 : Ura M} (𝓛 : Logic 𝓤) (R : RattleType) (p : Ptr) where
-  abbrev Pr : Type 2
-  Pr = SProp 𝓤
-
-  abbrev ◌⊢◌ : Pr → Pr → Type 1
-  P ⊢ Q = ent 𝓤 P Q
-
-  abbrev ◌∗◌ : Pr → Pr → Pr
-  P ∗ Q = sep 𝓤 P Q
-
-  abbrev ◌-∗◌ : Pr → Pr → Pr
-  P -∗ Q = wand 𝓤 P Q
-
-  abbrev ⟦◌⟧ : Fml → Pr
-  ⟦ P ⟧ = sem 𝓛 P
-
+  open signs 𝓛 use {⟦◌⟧, ◌⊢◌, ◌∗◌, ◌-∗◌}
   infix 26 ◌⊢◌
   infixr 35 ◌∗◌
   infixr 30 ◌-∗◌
+
   abbrev pub F : ℕ → ℕ → ℕ → Fml
   F n = flags_at R n (block_of p) (count_of p)
 
   -- a chunk's word, with the way back
-  abbrev pub Word : List (Option R.Denot) → ℕ → ℕ → Pr
+  abbrev pub Word : List (Option R.Denot) → ℕ → ℕ → SProp 𝓤
   Word cs c n = guard 𝓤 (IsWordOf cs c n) (⟦ F (length cs) n c ⟧ ∗ (⟦ F (length cs) n c ⟧ -∗ ⟦ flagged R p cs ⟧))
 
   pub word_out : (cs : List (Option R.Denot)) (c : ℕ) → c * 64 < length cs → ⟦ flagged R p cs ⟧ ⊢ ex 𝓤 (Word cs c)

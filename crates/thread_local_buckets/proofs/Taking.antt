@@ -1,8 +1,8 @@
 -- A table's pointers are split into the pointers with their flags, the values and the rest, and put
 -- together again with any values in the same slots. Assumes `Logic`.
 use Rattle.thread_local_model.proofs.Names.{id⊢, ◌≡◌, ℕ, zero, ◌+◌, List, [], ◌∷◌, length, map, refl, sym, ap, arith}
-use Rattle.thread_local_model.proofs.Names.{full_share, Bool, Option, Ura, SProp, ent, sep, wand, all, all_e, emp}
-use Rattle.thread_local_model.proofs.Names.{apply∗, Fml, ftrue, fsep, Logic, sem, ‵, raw, ◌⊛◌, given, ◌$◌, ◌∵◌, !, qed}
+use Rattle.thread_local_model.proofs.Names.{full_share, Bool, Option, Ura, SProp, all, all_e, emp}
+use Rattle.thread_local_model.proofs.Names.{apply∗, Fml, ftrue, fsep, Logic, ‵, raw, ◌⊛◌, given, ◌$◌, ◌∵◌, !, qed}
 use Rattle.thread_local_model.proofs.Names.{by, move, keep, drop, split, split3, fsplit, fsplit3, fjoin, fjoin3, fpick}
 use Rattle.thread_local_model.proofs.Names.{fpack, learn, frame, each as for_each, assume, use1, use2, use3, rewrite}
 use Rattle.thread_local_model.proofs.Names.{feq_l, feq_i, done, RattleType, Ptr, ptr_val, ty_ptr, Val, Member, mem}
@@ -21,6 +21,7 @@ use Rattle.thread_local_bucket_pointers.specs.contracts.bucket_pointer.BucketPoi
 use Rattle.thread_local_bucket_pointers.proofs.PointerSteps.{FieldsType}
 use Rattle.thread_local_buckets.specs.Lent.{shape, flagged, valued, PointsTo, frames, values_at}
 use Rattle.thread_local_buckets.proofs.Blocks.{rested, pointer_apart, pointer_whole}
+use Rattle.thread_local_model.proofs.Signs.{signs}
 
 abbrev pub first_row : List (List Bool) → List Bool
 first_row [] = []
@@ -53,24 +54,11 @@ rows-refit (w ∷ ws) [] same = absurd (let n = ap length same in omega arith)
 rows-refit (w ∷ ws) (v ∷ vs) same = ap (λ rs. v ∷ rs) (rows-refit ws vs (ap rest_of_rows same))
 
 module _ {M : Type 1} {𝓤 : Ura M} (𝓛 : Logic 𝓤) (R : RattleType) (b : ℕ) where
-  abbrev Pr : Type 2
-  Pr = SProp 𝓤
-
-  abbrev ◌⊢◌ : Pr → Pr → Type 1
-  P ⊢ Q = ent 𝓤 P Q
-
-  abbrev ◌∗◌ : Pr → Pr → Pr
-  P ∗ Q = sep 𝓤 P Q
-
-  abbrev ◌-∗◌ : Pr → Pr → Pr
-  P -∗ Q = wand 𝓤 P Q
-
-  abbrev ⟦◌⟧ : Fml → Pr
-  ⟦ P ⟧ = sem 𝓛 P
-
+  open signs 𝓛 use {⟦◌⟧, ◌⊢◌, ◌∗◌, ◌-∗◌}
   infix 26 ◌⊢◌
   infixr 35 ◌∗◌
   infixr 30 ◌-∗◌
+
   abbrev W : RattleType
   W = one_pointer.the_row R
 
@@ -87,7 +75,7 @@ module _ {M : Type 1} {𝓤 : Ura M} (𝓛 : Logic 𝓤) (R : RattleType) (b : �
   pointer_in : (e : ℕ) (p : Ptr) → ⟦ cell b e p ⟧ ⊢ ⟦ part_at RawPtr full_share p b e ⟧
   unfolding part_of
   pointer_in e p =
-      qed 𝓛 (‵ (cell b e p) ∷ []) ∵ feq_i ! (List Val) (ptr_val p ∷ []) (ptr_val p ∷ []) refl $
+      qed 𝓛 (‵ (cell b e p) ∷ []) ∵ feq_i ! _ (ptr_val p ∷ []) _ refl $
       move ! (1 ∷ 0 ∷ []) $ fjoin ! $
       fpack ! (List Val) (λ vs. fsep (cell_at full_share RawPtr.mir vs b e) (RawPtr.own_val p vs)) (ptr_val p ∷ []) $ done !
 
@@ -95,14 +83,14 @@ module _ {M : Type 1} {𝓤 : Ura M} (𝓛 : Logic 𝓤) (R : RattleType) (b : �
   ks = record { row = RawPtr; ty = ty_ptr } ∷ []
 
   -- the way back for a pointer in memory, from its address and what it owns
-  abbrev Again : ℕ → BucketPointer R.Denot → Pr
+  abbrev Again : ℕ → BucketPointer R.Denot → SProp 𝓤
   Again e w = ⟦ fsep (cell b e w.at) (pointer_owns R heap_token w.at w.slots) ⟧ -∗ ⟦ part_at W full_share w b e ⟧
 
   taken_out : (e : ℕ) (w : BucketPointer R.Denot)
       → ⟦ part_at W full_share w b e ⟧
       ⊢ ⟦ cell b e w.at ⟧ ∗ ⟦ pointer_owns R heap_token w.at w.slots ⟧ ∗ all 𝓤 (Again e)
   taken_out e w =
-      let Back : Pr = PartsBack 𝓛 full_share [] ks b e in
+      let Back : SProp 𝓤 = PartsBack 𝓛 full_share [] ks b e in
       let At : ℕ → Ptr → Fml = λ i p. part_at RawPtr full_share p b i in
       let D : RattleType = FieldsType R in
       let same : e + 0 ≡ e = omega arith in
@@ -134,7 +122,7 @@ module _ {M : Type 1} {𝓤 : Ura M} (𝓛 : Logic 𝓤) (R : RattleType) (b : �
   side ws e = parts (mem W) (shares W) full_share ws b e
 
   -- the rest, put aside until the frames and the values are back
-  abbrev pub Waits : List (BucketPointer R.Denot) → ℕ → Pr
+  abbrev pub Waits : List (BucketPointer R.Denot) → ℕ → SProp 𝓤
   Waits [] e = emp 𝓤
   Waits (w ∷ ws) e = (⟦ rested R w.at w.slots ⟧ ∗ all 𝓤 (Again e)) ∗ Waits ws (e + 8)
 

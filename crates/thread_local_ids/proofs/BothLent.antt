@@ -4,22 +4,19 @@ use Rattle.std.proofs.Common.{List, [], ◌∷◌, MutBor}
 use seplogic.Ra.Ura.{Ura}
 use mir.Syntax.{named}
 use mir.Val.{Val, vptr}
-use base.Logic.{SProp, ent, sep, guard}
+use base.Logic.{ent, sep, guard}
 use base.Fml.{Lft, Share, Fml, flft}
-use types.Logic.{Logic, sem}
+use types.Logic.{Logic}
 use types.Kit.{‵, ◌⊛◌, given, updating, now, check, done, ◌$◌, ◌∵◌, !, qed, move, split, fsplit3, fjoin3, learn, use2}
 use denote.RattleType.{RattleType}
 use denote.Ref.{MutRef}
 use denote.Steps.{opens, closes}
+use Rattle.thread_local_model.proofs.Signs.{signs}
 
 module _ {M : Type 1} {𝓤 : Ura M} (𝓛 : Logic 𝓤) (A : RattleType) where
   open 𝓛 use {H, A as S}
 
-  abbrev Pr : Type 2
-  Pr = SProp 𝓤
-
-  abbrev ⟦◌⟧ : Fml → Pr
-  ⟦ P ⟧ = sem 𝓛 P
+  open signs 𝓛 use {⟦◌⟧}
 
   module _ (κ κ' : Lft) (r s : MutBor A.Denot) where
     abbrev pub first : Fml

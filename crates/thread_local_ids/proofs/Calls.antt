@@ -23,7 +23,6 @@ use denote.Builtin.{u64}
 use denote.Memory.{hidden_shr}
 use denote.Ref.{Bor}
 use denote.Shadow.{makes_shadow}
-use contract.Monad.{fact, fact_i}
 use contract.BorrowLft.{◌⊑◌, ⊑_static}
 use denote.Triple.Spec.{triple_of}
 use Rattle.std.specs.Sync.RawAtomic.{asks, always}
@@ -37,6 +36,7 @@ use Rattle.std.proofs.raw_atomic.Calls.{fm, stored, marker, marker_laws, dict, p
 use Rattle.thread_local_ids.specs.contracts.word.exchange as step
 use Rattle.thread_local_ids.proofs.word.exchange.Symbol as step_is
 use Rattle.thread_local_ids.proofs.word.exchange.Met as step_met
+use Rattle.thread_local_model.proofs.Walking.{knows}
 
 module _ {M : Type 1} {𝓤 : Ura M} (𝓛 : Logic 𝓤) (𝓜 : Model 𝓤 𝓛.H) (𝓡 : Running 𝓤 𝓛.H 𝓜) where
   open 𝓛 use {H, A}
@@ -51,22 +51,16 @@ module _ {M : Type 1} {𝓤 : Ura M} (𝓛 : Logic 𝓤) (𝓜 : Model 𝓤 𝓛
   exchanges w p old new fits-old fits-new after = let g : Outcome.Ghosts marker.Denot = record { after = after } in
       let c = triple_of 𝓛 (step.ended marker g dict).signature (step.spec marker g dict 𝓛 𝓜.mem 𝓡.returns) in
       let y : c.Ghost = (
-        (
-          ([], tt),
-          (full_share, tt),
-          tt,
-          (p, (old, (new, tt))),
-          (ptr_val p ∷ [], (vint w64 old ∷ [], (vint w64 new ∷ [], tt))),
-        ),
+        (([], tt), (full_share, tt), tt, (p, (old, (new, tt))), (ptr_val p ∷ [], (vint w64 old ∷ [], (vint w64 new ∷ [], tt)))),
         tt,
       ) in
       let args : Fml = owns (types_at (step.ended marker g dict).signature.params ([], tt)) y.0.3 y.0.4 in
       called 𝓛 𝓜 𝓡 (step_is.name picked) (ptr_val p ∷ vint w64 old ∷ vint w64 new ∷ []) args
       (qed 𝓛 [] ∵ nothing ! $ flt_i ! new (2 ^ 64) fits-new $
-      feq_i ! (List Val) (vint w64 new ∷ []) (vint w64 new ∷ []) refl $ fjoin ! $ fjoin ! $
+      feq_i ! _ (vint w64 new ∷ []) _ refl $ fjoin ! $ fjoin ! $
       flt_i ! old (2 ^ 64) fits-old $
-      feq_i ! (List Val) (vint w64 old ∷ []) (vint w64 old ∷ []) refl $ fjoin ! $ fjoin ! $
-      feq_i ! (List Val) (ptr_val p ∷ []) (ptr_val p ∷ []) refl $ done !)
+      feq_i ! _ (vint w64 old ∷ []) _ refl $ fjoin ! $ fjoin ! $
+      feq_i ! _ (ptr_val p ∷ []) _ refl $ done !)
       (asks 𝓛 p (λ n. either (eqb n old) new n) always after) (c.post y)
       (λ v. mean 𝓛 (found after v))
       (step_met.met 𝓤 𝓛 𝓜 𝓡 w marker marker_laws g dict record {} y)
@@ -106,13 +100,7 @@ module _ {M : Type 1} {𝓤 : Ura M} (𝓛 : Logic 𝓤) (𝓜 : Model 𝓤 𝓛
             (q, (full_share, (s, tt))),
             (within, tt),
             (rt, (p, (seen, (secs, (nanos, tt))))),
-            (
-              handle ∷ [],
-              (
-                ptr_val p ∷ [],
-                (vint w64 seen ∷ [], (vint w64 secs ∷ [], (vint w64 nanos ∷ [], tt))),
-              ),
-            ),
+            (handle ∷ [], (ptr_val p ∷ [], (vint w64 seen ∷ [], (vint w64 secs ∷ [], (vint w64 nanos ∷ [], tt))))),
           ),
           tt,
         ) in
@@ -125,10 +113,10 @@ module _ {M : Type 1} {𝓤 : Ura M} (𝓛 : Logic 𝓤) (𝓜 : Model 𝓤 𝓛
         let Z' : Val → SProp 𝓤 = λ v. mean 𝓛 (stored (lent after) v) in
         via 𝓤 (sep 𝓤 (𝓣.C k vs (c.post y)) (emp 𝓤)) (via 𝓤 (𝓣.C k vs (c.post y)) (via 𝓤 (c.pre y)
         (qed 𝓛 (raw X ∷ ‵ (hidden_shr Z κ rt.now rt.ref_ptr.0 rt.ref_ptr.1) ∷ ‵ (flft κ q) ∷ ‵ (flft υ s) ∷ []) ∵
-        use0 𝓛 (raw (fact 𝓤 (υ ⊑ Z.lives))) (fact_i 𝓤 (υ ⊑ Z.lives) (emp 𝓤) alive) $ join ! $
-        use0 𝓛 (raw (fact 𝓤 ([] ⊑ []))) (fact_i 𝓤 ([] ⊑ []) (emp 𝓤) (⊑_static [])) $ join ! $
+        knows ! (υ ⊑ Z.lives) alive $ join ! $
+        knows ! ([] ⊑ []) (⊑_static []) $ join ! $
         move ! (1 ∷ []) $
-        feq_i ! (List Val) (handle ∷ []) (handle ∷ []) refl $ fjoin ! $
+        feq_i ! _ (handle ∷ []) _ refl $ fjoin ! $
         use0 𝓛 (‵ rest) (makes_shadow 𝓛 rest (tt, ((tt, tt), ((tt, tt), ((tt, tt), tt))))
         (refl, ((refl, f₀), ((refl, f₁), ((refl, f₂), tt))))) $
         move ! (1 ∷ 0 ∷ []) $ fjoin ! $

@@ -3,13 +3,13 @@ use Rattle.std.proofs.Common.{ℕ, ◌+◌, [], ◌∷◌, ◌++◌}
 use seplogic.Ra.Ura.{Ura}
 use base.Share
 use base.Fraction.{full_share}
-use base.Logic.{SProp, ent, sep, upd_i, never_e, id⊢}
+use base.Logic.{upd_i, never_e, id⊢}
 use base.Fml.{Lft, Share, Incl, Fml, ftrue, ffalse, fsep, fseps, fwand, fupd, fdead, fbor, flft, fobs, Incl-refl, Incl-trans}
 use base.Before.{before}
 use contract.Monad.{fact, fact_i}
 use contract.BorrowLft.{meet_⊑_left, meet_⊑_right, ⊑_meet}
 use ghost.Rules.{span}
-use types.Logic.{Logic, sem, lfts}
+use types.Logic.{Logic, lfts}
 use types.Kit.{‵, raw, ◌⊛◌, later, ◌$◌, ◌∵◌, !, qed, move, keep, drop, use1, use2, use3, split, split3, fsplit, fjoin}
 use types.Kit.{fjoin3, fpick, fpack, assume, suffices, await, updating, now, done}
 use types.Tokens.{bor_open, obor_close, obor_alter}
@@ -24,6 +24,7 @@ use denote.Steps.{nothing}
 use denote.Struct.Lending.{Lends, Lends-false}
 use Rattle.std.proofs.cell.BorrowLemmas.{by_one, unnest_before}
 use Rattle.thread_local_ids.specs.Locking.{offset, LockTurn, named_value, lock_kept, guarding, guard_owns, guard_shares}
+use Rattle.thread_local_model.proofs.Signs.{signs}
 
 pub guard_laws : (β : Lft) (R : RattleType) → RowLaws R → (p : Ptr) (x : R.Denot) → ShrLaws (guard_shares β R p x)
 guard_laws β R L (block_ptr b o) x = within_shr_laws β (shared_of R x b (o + offset R)) (L x b (o + offset R))
@@ -32,20 +33,10 @@ guard_laws β R L null_ptr x = said_shr_laws ffalse tt
 module _ {M : Type 1} {𝓤 : Ura M} (𝓛 : Logic 𝓤) where
   open 𝓛 use {H, A}
 
-  abbrev Pr : Type 2
-  Pr = SProp 𝓤
-
-  abbrev ◌⊢◌ : Pr → Pr → Type 1
-  P ⊢ Q = ent 𝓤 P Q
-
-  abbrev ◌∗◌ : Pr → Pr → Pr
-  P ∗ Q = sep 𝓤 P Q
-
-  abbrev ⟦◌⟧ : Fml → Pr
-  ⟦ P ⟧ = sem 𝓛 P
-
+  open signs 𝓛 use {⟦◌⟧, ◌⊢◌, ◌∗◌}
   infix 26 ◌⊢◌
   infixr 35 ◌∗◌
+
   -- a guard's pointer to its lock isn't null
   pub placed : (β : Lft) (R : RattleType) (ok : R.Denot → Type 0) (p : Ptr) (x : R.Denot)
       → ⟦ guard_owns β R ok p x ⟧ ⊢ fact 𝓤 (InBlock p)

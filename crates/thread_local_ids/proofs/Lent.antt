@@ -4,10 +4,10 @@ use Rattle.std.proofs.Common.{◌≡◌, ℕ, zero, suc, ◌+◌, List, [], ◌�
 use seplogic.Ra.Ura.{Ura}
 use mir.Val.{Val}
 use base.Fraction.{full_share}
-use base.Logic.{SProp, ent, sep, wand, all, ex, emp, all_e, upd_i, apply∗, id⊢}
+use base.Logic.{SProp, all, ex, emp, all_e, upd_i, apply∗, id⊢}
 use base.Fml.{Lft, GName, Share, Fml, ftrue, fsep, fseps, fex, fwand, fupd, fdead, fobor, fbor, flft, finv, fobs, fauth, Incl-refl}
 use base.Before.{before}
-use types.Logic.{Logic, sem}
+use types.Logic.{Logic}
 use types.Kit.{group, ‵, raw, ◌⊛◌, some, later, ◌$◌, ◌∵◌, !, qed, by, move, keep, drop, use0, use1, use2, use3, split}
 use types.Kit.{split3, fsplit, fsplit3, fjoin, fjoin3, fpick, fpack, pick, show, assume, suffices, await, updating, now}
 use types.Kit.{done}
@@ -36,29 +36,17 @@ use Rattle.thread_local_model.specs.Fact.{fact}
 use Rattle.thread_local_ids.specs.declared.lock.Fits.{Ghosts}
 use Rattle.thread_local_ids.specs.contracts.lock.Lock as C
 use Rattle.thread_local_ids.proofs.Words.{word_out, word_in}
+use Rattle.thread_local_model.proofs.Signs.{signs}
 
 module _ {M : Type 1} {𝓤 : Ura M} (𝓛 : Logic 𝓤) (m : Member) (g : Ghosts m.row.Denot) (d : LockView)
     (L : Lawful 𝓛 (row_of m)) (b o : ℕ) (κ : Lft) where
   open 𝓛 use {H, A}
 
-  abbrev Pr : Type 2
-  Pr = SProp 𝓤
-
-  abbrev ◌⊢◌ : Pr → Pr → Type 1
-  P ⊢ Q = ent 𝓤 P Q
-
-  abbrev ◌∗◌ : Pr → Pr → Pr
-  P ∗ Q = sep 𝓤 P Q
-
-  abbrev ◌-∗◌ : Pr → Pr → Pr
-  P -∗ Q = wand 𝓤 P Q
-
-  abbrev ⟦◌⟧ : Fml → Pr
-  ⟦ P ⟧ = sem 𝓛 P
-
+  open signs 𝓛 use {⟦◌⟧, ◌⊢◌, ◌∗◌, ◌-∗◌}
   infix 26 ◌⊢◌
   infixr 35 ◌∗◌
   infixr 30 ◌-∗◌
+
   abbrev R : RattleType
   R = row_of m
 
@@ -104,7 +92,7 @@ module _ {M : Type 1} {𝓤 : Ura M} (𝓛 : Logic 𝓤) (m : Member) (g : Ghost
       move ! (1 ∷ 0 ∷ []) $ fjoin ! $
       fpack ! (List Val) (λ us. fsep (cell_at full_share Data.mir us b o) ((C.the_written R g).own_val d us)) vs $ done !)
 
-  abbrev pub Back : Pr
+  abbrev pub Back : SProp 𝓤
   Back = PartsBack 𝓛 full_share [] ks b o
 
   module _ (γ : GName) where
@@ -256,10 +244,10 @@ module _ {M : Type 1} {𝓤 : Ura M} (𝓛 : Logic 𝓤) (m : Member) (g : Ghost
         move ! (2 ∷ 0 ∷ []) $ fjoin ! $ move ! (1 ∷ 0 ∷ []) $ fjoin ! $
         fpack ! (List Val) (λ us. fsep (cell_at full_share Data.mir us b o) (Lock.own_val d us)) vs $ done !)
 
-    abbrev pub Parts : ℕ × R.Denot → Pr
+    abbrev pub Parts : ℕ × R.Denot → SProp 𝓤
     Parts s = ⟦ word b (o + 0) s.0 ⟧ ∗ ⟦ At s.1 ⟧ ∗ Back
 
-    abbrev Turns : GName → Pr
+    abbrev Turns : GName → SProp 𝓤
     Turns γ' = all 𝓤 (λ (w : LockView). A.auth γ' (code w) -∗ A.auth δ (code d))
 
     way_home : (γ γ' : GName)
@@ -284,7 +272,7 @@ module _ {M : Type 1} {𝓤 : Ura M} (𝓛 : Logic 𝓤) (m : Member) (g : Ghost
         use2 𝓛 (‵ (part_at Lock full_share d b o)) (whole_typed (n, x)) $ fjoin ! $
         fpack ! LockView (λ t. fsep ((mem Lock).own_at t b o) (fauth δ (code t))) d $ keep ! (0 ∷ []) $ done !))
 
-    abbrev pub Opened : R.Denot → Share → GName → Pr
+    abbrev pub Opened : R.Denot → Share → GName → SProp 𝓤
     Opened x q γ' = ⟦ guard_owns κ R ok (block_ptr b o) x ⟧ ∗ A.lft κ q ∗ ⟦ follows Lock Lock δ γ' (λ _. d) ⟧
 
     pub opens : (q : Share) (x : R.Denot)

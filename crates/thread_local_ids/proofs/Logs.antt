@@ -4,42 +4,34 @@ use Rattle.std.proofs.Common.{◌≡◌, ℕ, ◌==◌, Bool, true, false, List,
 use Rattle.std.proofs.lemmas.Bool.{eq-eqb}
 use mathlib.Core.List.{IsPrefix}
 use mathlib.Core.Option.{Option, none, some}
-use mathlib.Mathlib.Data.Part.{Part, ◌∈◌}
+use mathlib.Mathlib.Data.Part.{◌∈◌}
 use seplogic.Ra.Pcs.{OpDef, FpUpd₁}
 use seplogic.Ra.Ura.{Ura}
 use seplogic.Ra.Constructions.Opt
-use seplogic.Ra.IProd.{mem-op_iff}
 use base.Fraction.{full_share}
 use base.FractionLaws.{not-OpDef-full_share}
 use base.Share
 use base.Growing.{Order, Sum, prefixes, grows}
-use base.Logic.{SProp, ent, sep, guard, upd, guard_i}
+use base.Logic.{guard, upd, guard_i}
 use base.Graph.{sum_in}
-use base.Fml.{GName, Share, Fml}
-use types.Logic.{Logic, sem}
+use base.Fml.{GName, Share}
+use types.Logic.{Logic}
 use types.Keyed.{keyed}
 use types.Owned.{own_sum, own_step}
 use Rattle.thread_local_model.specs.IdMoves.{IdMove, move_coded}
 use Rattle.thread_local_ids.specs.Rights.{telling, Element, at_if, element_at}
+use Rattle.thread_local_ids.proofs.RightElements.{Row, at_key, at_each_key}
+use Rattle.thread_local_model.proofs.Signs.{signs}
 
-abbrev Row : Type 0
-Row = ℕ → Option Element
-
-abbrev cell : Option Element → Option Element → Part {0, 0} (Option Element)
-cell = Opt.op telling.op
-
-at_each_key : (f g h : Row) → ((j : ℕ) → h j ∈ cell (f j) (g j)) → h ∈ (keyed telling).op f g
-at_each_key f g h = (mem-op_iff {A = λ (_ : ℕ). Option Element} (λ _. cell) {f = f} {g = g} {h = h}).1
-
-sum_at : (t : Bool) (a b c : Element) → c ∈ telling.op a b → at_if t c ∈ cell (at_if t a) (at_if t b)
+sum_at : (t : Bool) (a b c : Element) → c ∈ telling.op a b → at_if t c ∈ at_key (at_if t a) (at_if t b)
 sum_at true a b c m = (Opt.some-mem-op-some_iff telling.op {a = a} {b = b} {c = c}).1 m
 sum_at false a b c m = Opt.mem-none-op telling.op none
 
-fact_at : (t : Bool) (a b : Element) → t ≡ true → OpDef cell (at_if t a) (at_if t b) → OpDef telling.op a b
+fact_at : (t : Bool) (a b : Element) → t ≡ true → OpDef at_key (at_if t a) (at_if t b) → OpDef telling.op a b
 fact_at true a b is d = d
 fact_at false a b is d = cc
 
-step_at : (t : Bool) (a b : Element) (o : Option Element) → FpUpd₁ telling.op a b → OpDef cell (at_if t a) o → OpDef cell (at_if t b) o
+step_at : (t : Bool) (a b : Element) (o : Option Element) → FpUpd₁ telling.op a b → OpDef at_key (at_if t a) o → OpDef at_key (at_if t b) o
 step_at true a b none h d = tt
 step_at true a b (some c) h d = h c d
 step_at false a b o h d = d
@@ -59,20 +51,10 @@ raised a b h none c d = ((some full_share, b), under full_share b c (O.trans c a
 raised a b h (some q) c d = absurd (not-OpDef-full_share q d.1.0.0)
 
 module _ {M : Type 1} {𝓤 : Ura M} (𝓛 : Logic 𝓤) (key : ℕ) where
-  abbrev Pr : Type 2
-  Pr = SProp 𝓤
-
-  abbrev ◌⊢◌ : Pr → Pr → Type 1
-  P ⊢ Q = ent 𝓤 P Q
-
-  abbrev ◌∗◌ : Pr → Pr → Pr
-  P ∗ Q = sep 𝓤 P Q
-
-  abbrev ⟦◌⟧ : Fml → Pr
-  ⟦ P ⟧ = sem 𝓛 P
-
+  open signs 𝓛 use {⟦◌⟧, ◌⊢◌, ◌∗◌}
   infix 26 ◌⊢◌
   infixr 35 ◌∗◌
+
   abbrev row : Element → Row
   row a j = at_if (key == j) a
 

@@ -7,11 +7,11 @@ use mathlib.Core.Option.{none, some}
 use seplogic.Ra.Ura.{Ura}
 use base.Fraction.{full_share}
 use base.Growing.{prefixes_in_line}
-use base.Logic.{SProp, ent, sep, ex, guard, upd, upd_i}
+use base.Logic.{SProp, ex, guard, upd, upd_i}
 use Rattle.thread_local_ids.proofs.Logs.{O, shows, part_off, part_twice, grown}
 use base.Fml.{GName, Fml}
 use base.Shift.{Keyless}
-use types.Logic.{Logic, sem}
+use types.Logic.{Logic}
 use types.Keyed.{keyed}
 use types.Owned.{own_new}
 use types.Kit.{‵, raw, given, ◌⊛◌, ◌$◌, ◌∵◌, !, qed, move, drop, split, fsplit, fjoin, fpick, fpack, pick}
@@ -24,6 +24,7 @@ use Rattle.thread_local_ids.proofs.ReturnLaws.{gives_apart, taken, page_off, pag
 use Rattle.thread_local_ids.proofs.ReturnLaws.{given as given_count}
 use Rattle.thread_local_ids.specs.Rights.{Element, moves_key, moves_own, right_owns, kept, history_as, page_as, held_as}
 use Rattle.thread_local_ids.specs.Rights.{history_owns, page_owns, held_owns, taken_id, tenure_of}
+use Rattle.thread_local_model.proofs.Signs.{signs}
 
 first : List IdMove → ℕ
 first [] = 0
@@ -59,20 +60,10 @@ abbrev Line : List IdMove → List IdMove → Type 0
 Line a b = IsPrefix a b ∨₁ IsPrefix b a
 
 module _ {M : Type 1} {𝓤 : Ura M} (𝓛 : Logic 𝓤) where
-  abbrev Pr : Type 2
-  Pr = SProp 𝓤
-
-  abbrev ◌⊢◌ : Pr → Pr → Type 1
-  P ⊢ Q = ent 𝓤 P Q
-
-  abbrev ◌∗◌ : Pr → Pr → Pr
-  P ∗ Q = sep 𝓤 P Q
-
-  abbrev ⟦◌⟧ : Fml → Pr
-  ⟦ P ⟧ = sem 𝓛 P
-
+  open signs 𝓛 use {⟦◌⟧, ◌⊢◌, ◌∗◌}
   infix 26 ◌⊢◌
   infixr 35 ◌∗◌
+
   abbrev whole : ℕ → List IdMove → Element
   whole δ moves = (some full_share, kept δ moves)
 
@@ -86,7 +77,7 @@ module _ {M : Type 1} {𝓤 : Ura M} (𝓛 : Logic 𝓤) where
   pub begins : (γ : GName) → ⟦ right_owns γ moves_key ⟧ ⊢ upd 𝓤 ⟦ history_owns γ [] ⟧
   unfolding right_owns history_owns
   begins γ =
-      let Z : Pr = ⟦ history_owns γ [] ⟧ in
+      let Z : SProp 𝓤 = ⟦ history_owns γ [] ⟧ in
       qed 𝓛 (‵ (moves_own γ (some full_share, [])) ∷ []) ∵
       use0 𝓛 (raw (upd 𝓤 (ex 𝓤 (λ (δ : GName). ⟦ counts_own δ [] ⟧)))) (own_new 𝓛 (keyed counting) (counts [])) $
       settle 𝓛 Z (kit.some (λ (δ : GName). ‵ (counts_own δ []))) $ pick ! (λ δ. move ! (1 ∷ []) $
@@ -167,7 +158,7 @@ module _ {M : Type 1} {𝓤 : Ura M} (𝓛 : Logic 𝓤) where
       let id : ℕ = taken_id moves in
       let n : ℕ = gives moves id in
       let more : List IdMove = noted moves Take in
-      let Z : Pr = ⟦ held_owns γ id n ⟧ ∗ ⟦ history_owns γ more ⟧ in
+      let Z : SProp 𝓤 = ⟦ held_owns γ id n ⟧ ∗ ⟦ history_owns γ more ⟧ in
       qed 𝓛 (‵ (history_owns γ moves) ∷ []) ∵ fpick ! (λ δ. fsplit ! $
       use1 𝓛 (raw (upd 𝓤 ⟦ own γ (whole δ more) ⟧)) (grown 𝓛 moves_key γ (kept δ moves) (kept δ more) (Take ∷ [], refl)) $
       settle 𝓛 Z (‵ (own γ (whole δ more))) $
@@ -182,7 +173,7 @@ module _ {M : Type 1} {𝓤 : Ura M} (𝓛 : Logic 𝓤) where
       → ⟦ history_owns γ moves ⟧ ⊢ upd 𝓤 (⟦ tenure_of γ moves ⟧ ∗ ⟦ history_owns γ (noted moves Take) ⟧)
   note_take γ moves =
       let more : List IdMove = noted moves Take in
-      let Z : Pr = ⟦ tenure_of γ moves ⟧ ∗ ⟦ history_owns γ more ⟧ in
+      let Z : SProp 𝓤 = ⟦ tenure_of γ moves ⟧ ∗ ⟦ history_owns γ more ⟧ in
       qed 𝓛 (‵ (history_owns γ moves) ∷ []) ∵
       use1 𝓛 (raw (upd 𝓤 (⟦ held_owns γ (taken_id moves) (gives moves (taken_id moves)) ⟧ ∗ ⟦ history_owns γ more ⟧))) (note_held γ moves) $
       settle 𝓛 Z (‵ (held_owns γ (taken_id moves) (gives moves (taken_id moves))) ⊛ ‵ (history_owns γ more)) $ split ! $ move ! (1 ∷ []) $
@@ -195,7 +186,7 @@ module _ {M : Type 1} {𝓤 : Ura M} (𝓛 : Logic 𝓤) where
   unfolding history_owns held_owns
   give_held γ moves id n held few =
       let more : List IdMove = noted moves (Give id) in
-      let Z : Pr = ⟦ history_owns γ more ⟧ in
+      let Z : SProp 𝓤 = ⟦ history_owns γ more ⟧ in
       qed 𝓛 (‵ (history_owns γ moves) ∷ ‵ (held_owns γ id n) ∷ []) ∵ fpick ! (λ δ. fsplit ! $ move ! (2 ∷ []) $ fpick ! (λ δ'. fsplit ! $
       -- [the first entry; the count; the history's moves; its counts]
       move ! (2 ∷ 0 ∷ []) $
@@ -214,7 +205,7 @@ module _ {M : Type 1} {𝓤 : Ura M} (𝓛 : Logic 𝓤) where
       ⊢ upd 𝓤 (⟦ page_owns γ (noted moves (Give id)) ⟧ ∗ ⟦ history_owns γ (noted moves (Give id)) ⟧)
   note_give γ moves before id low held =
       let more : List IdMove = noted moves (Give id) in
-      let Z : Pr = ⟦ page_owns γ more ⟧ ∗ ⟦ history_owns γ more ⟧ in
+      let Z : SProp 𝓤 = ⟦ page_owns γ more ⟧ ∗ ⟦ history_owns γ more ⟧ in
       let n : ℕ = gives before (taken_id before) in
       let early : Type 0 = IsPrefix (noted before Take) moves in
       qed 𝓛 (‵ (history_owns γ moves) ∷ ‵ (tenure_of γ before) ∷ []) ∵ move ! (1 ∷ []) $ fsplit ! $

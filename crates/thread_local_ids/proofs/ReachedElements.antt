@@ -3,10 +3,10 @@
 use Rattle.std.proofs.Common.{ℕ, ◌+◌, ◌≤◌, Bool, true, false, List, [], ◌∷◌, length, sym, subst, arith}
 use seplogic.Ra.Ura.{Ura}
 use mathlib.Core.List.{IsPrefix}
-use base.Logic.{SProp, ent, sep, guard, emp, id⊢}
-use base.Fml.{Fml, ftrue}
+use base.Logic.{guard, emp, id⊢}
+use base.Fml.{ftrue}
 use base.Shift.{Keyless}
-use types.Logic.{Logic, sem}
+use types.Logic.{Logic}
 use types.Kit.{‵, given, ◌⊛◌, ◌$◌, ◌∵◌, !, qed, move, keep, drop, split, fsplit, fjoin, fpick, fpack, learn, check, use1, use2, done}
 use denote.Steps.{nothing}
 use Rattle.thread_local_model.specs.Held.{least, with_least}
@@ -14,6 +14,7 @@ use Rattle.thread_local_model.specs.IdMoves.{IdMove, Take, held_after, noted}
 use Rattle.thread_local_model.proofs.IdMoveLaws.{after_take, peak_grows}
 use Rattle.thread_local_ids.specs.Rights.{history_owns, page_owns, page_if, reached_by, reached_owns, taken_id}
 use Rattle.thread_local_ids.proofs.MoveElements.{page_twice, page_is_early, page_keyless}
+use Rattle.thread_local_model.proofs.Signs.{signs}
 
 taken_in : (held : List Bool) → least held + 1 ≤ length (with_least held)
 taken_in [] = omega arith
@@ -34,20 +35,10 @@ unfolding reached_owns
 reached_keyless table n = λ moves. ((λ _. tt), page_if_keyless table moves)
 
 module _ {M : Type 1} {𝓤 : Ura M} (𝓛 : Logic 𝓤) where
-  abbrev Pr : Type 2
-  Pr = SProp 𝓤
-
-  abbrev ◌⊢◌ : Pr → Pr → Type 1
-  P ⊢ Q = ent 𝓤 P Q
-
-  abbrev ◌∗◌ : Pr → Pr → Pr
-  P ∗ Q = sep 𝓤 P Q
-
-  abbrev ⟦◌⟧ : Fml → Pr
-  ⟦ P ⟧ = sem 𝓛 P
-
+  open signs 𝓛 use {⟦◌⟧, ◌⊢◌, ◌∗◌}
   infix 26 ◌⊢◌
   infixr 35 ◌∗◌
+
   shown_if : (table : ℕ) (moves : List IdMove) → ⟦ page_owns table moves ⟧ ⊢ ⟦ page_if table moves ⟧
   shown_if table [] = qed 𝓛 (‵ (page_owns table []) ∷ []) ∵ drop ! $ nothing ! $ done !
   shown_if table (move ∷ moves) = id⊢ 𝓤 _

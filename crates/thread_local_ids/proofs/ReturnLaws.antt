@@ -14,8 +14,8 @@ use base.FractionLaws.{not-OpDef-full_share}
 use base.Share
 use base.Growing.{Sum, numbers, grows}
 use base.Graph.{sum_in}
-use base.Logic.{SProp, ent, sep, guard, upd, guard_i, via}
-use base.Fml.{GName, Share, Fml, fown}
+use base.Logic.{SProp, guard, upd, guard_i, via}
+use base.Fml.{GName, Share, fown}
 use types.Logic.{Logic, sem}
 use types.Keyed.{keyed}
 use types.Owned.{own_sum, own_step, own_join}
@@ -24,6 +24,7 @@ use Rattle.thread_local_model.proofs.HeldLaws.{least_free, is_held-with_least, i
 use Rattle.thread_local_model.specs.IdMoves.{IdMove, Take, Give, held_from, held_after, noted}
 use Rattle.thread_local_ids.specs.Returns.{gives, counting, Count, count_of, counts, pages, count_if, counts_own, counts_page, tenure_owns}
 use Rattle.thread_local_model.proofs.IdMoveLaws.{held_apart, after_take, after_give}
+use Rattle.thread_local_model.proofs.Signs.{signs}
 
 -- ---- lists
 pub gives_apart : (before later : List IdMove) (id : ℕ) → gives (before ++ later) id ≡ gives before id + gives later id
@@ -176,20 +177,10 @@ bounded_at n m true is d = bounds n m d
 bounded_at n m false is d = cc
 
 module _ {M : Type 1} {𝓤 : Ura M} (𝓛 : Logic 𝓤) where
-  abbrev Pr : Type 2
-  Pr = SProp 𝓤
-
-  abbrev ◌⊢◌ : Pr → Pr → Type 1
-  P ⊢ Q = ent 𝓤 P Q
-
-  abbrev ◌∗◌ : Pr → Pr → Pr
-  P ∗ Q = sep 𝓤 P Q
-
-  abbrev ⟦◌⟧ : Fml → Pr
-  ⟦ P ⟧ = sem 𝓛 P
-
+  open signs 𝓛 use {⟦◌⟧, ◌⊢◌, ◌∗◌}
   infix 26 ◌⊢◌
   infixr 35 ◌∗◌
+
   abbrev stays : ℕ → ℕ → Row
   stays id n j = count_if (id == j) n
 
@@ -223,7 +214,7 @@ module _ {M : Type 1} {𝓤 : Ura M} (𝓛 : Logic 𝓤) where
       → ⟦ tenure_owns δ id n ⟧ ∗ ⟦ counts_page δ later ⟧
       ⊢ guard 𝓤 (gives later id ≤ n) (⟦ tenure_owns δ id n ⟧ ∗ ⟦ counts_page δ later ⟧)
   not_given δ id n later =
-      let Both : Pr = ⟦ tenure_owns δ id n ⟧ ∗ ⟦ counts_page δ later ⟧ in
+      let Both : SProp 𝓤 = ⟦ tenure_owns δ id n ⟧ ∗ ⟦ counts_page δ later ⟧ in
       own_sum 𝓛 (keyed counting) δ (stays id n) (pages later) (guard 𝓤 (gives later id ≤ n) Both) (λ c m.
       guard_i 𝓤 (gives later id ≤ n) Both
       (bounds n (gives later id) (fact_at (id == id) n (none, gives later id) (eq-eqb id id refl) (m.0 id))))

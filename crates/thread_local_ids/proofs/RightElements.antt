@@ -14,13 +14,14 @@ use seplogic.Ra.Constructions.Opt
 use base.Fraction.{full_share}
 use base.FractionLaws.{not-OpDef-full_share}
 use seplogic.Ra.IProd.{mem-op_iff}
-use base.Logic.{SProp, ent, sep, ex, guard, emp, upd, via, guard_i}
-use base.Fml.{GName, Fml}
+use base.Logic.{SProp, ex, guard, emp, upd, via, guard_i}
+use base.Fml.{GName}
 use base.Shift.{Keyless}
-use types.Logic.{Logic, sem}
+use types.Logic.{Logic}
 use types.Keyed.{keyed}
 use types.Owned.{own_new, own_sum, own_glued, own_join}
 use Rattle.thread_local_ids.specs.Rights.{is_out, less, telling, Element, element_if, right_owns, rights_own}
+use Rattle.thread_local_model.proofs.Signs.{signs}
 
 -- what is out once an id's right is put back
 pub is_out-less : (out : List ℕ) (id j : ℕ) → is_out (less out id) j ≡ (if id == j then false else is_out out j)
@@ -36,13 +37,13 @@ whole = (some full_share, [])
 no_two : OpDef telling.op whole whole → ⊥
 no_two d = not-OpDef-full_share full_share d.1.0.0
 
-abbrev Row : Type 0
+abbrev pub Row : Type 0
 Row = ℕ → Option Element
 
-abbrev at_key : Option Element → Option Element → Part {0, 0} (Option Element)
+abbrev pub at_key : Option Element → Option Element → Part {0, 0} (Option Element)
 at_key = Opt.op telling.op
 
-at_each_key : (f g h : Row) → ((j : ℕ) → h j ∈ at_key (f j) (g j)) → h ∈ (keyed telling).op f g
+pub at_each_key : (f g h : Row) → ((j : ℕ) → h j ∈ at_key (f j) (g j)) → h ∈ (keyed telling).op f g
 at_each_key f g h = (mem-op_iff {A = λ (_ : ℕ). Option Element} (λ _. at_key) {f = f} {g = g} {h = h}).1
 
 abbrev one_at : ℕ → Row
@@ -92,20 +93,10 @@ is_out-above (x ∷ out) n low =
     rw test rest
 
 module _ {M : Type 1} {𝓤 : Ura M} (𝓛 : Logic 𝓤) where
-  abbrev Pr : Type 2
-  Pr = SProp 𝓤
-
-  abbrev ◌⊢◌ : Pr → Pr → Type 1
-  P ⊢ Q = ent 𝓤 P Q
-
-  abbrev ◌∗◌ : Pr → Pr → Pr
-  P ∗ Q = sep 𝓤 P Q
-
-  abbrev ⟦◌⟧ : Fml → Pr
-  ⟦ P ⟧ = sem 𝓛 P
-
+  open signs 𝓛 use {⟦◌⟧, ◌⊢◌, ◌∗◌}
   infix 26 ◌⊢◌
   infixr 35 ◌∗◌
+
   -- all rights of a new table, under a fresh name
   pub rights_new : emp 𝓤 ⊢ upd 𝓤 (ex 𝓤 (λ (γ : GName). ⟦ rights_own γ [] ⟧))
   unfolding rights_own
@@ -119,10 +110,10 @@ module _ {M : Type 1} {𝓤 : Ura M} (𝓛 : Logic 𝓤) where
       (at_each_key (one_at id) (all_but (id ∷ out)) (all_but out)
       (λ j. cut_at (id == j) (is_out out j) (λ is. rw (← eqb-true id j is) free)))
 
-  abbrev Out : ℕ → List ℕ → ℕ → Pr → Pr
+  abbrev Out : ℕ → List ℕ → ℕ → SProp 𝓤 → SProp 𝓤
   Out γ out id Z = guard 𝓤 (is_out out id ≡ true) Z
 
-  seen : (γ : GName) (out : List ℕ) (id : ℕ) (Z : Pr)
+  seen : (γ : GName) (out : List ℕ) (id : ℕ) (Z : SProp 𝓤)
       → (is_out out id ≡ true → ⟦ right_owns γ id ⟧ ∗ ⟦ rights_own γ out ⟧ ⊢ Z)
       → ⟦ right_owns γ id ⟧ ∗ ⟦ rights_own γ out ⟧ ⊢ Out γ out id Z
   unfolding right_owns rights_own
@@ -144,7 +135,7 @@ module _ {M : Type 1} {𝓤 : Ura M} (𝓛 : Logic 𝓤) where
       rw is_out-less (joined_at (id == j) (is_out out j) (λ is. rw (← eqb-true id j is) gone)))))
 
   -- no two rights are to the same id
-  pub right_once : (γ : GName) (id : ℕ) (Z : Pr) → ⟦ right_owns γ id ⟧ ∗ ⟦ right_owns γ id ⟧ ⊢ Z
+  pub right_once : (γ : GName) (id : ℕ) (Z : SProp 𝓤) → ⟦ right_owns γ id ⟧ ∗ ⟦ right_owns γ id ⟧ ⊢ Z
   unfolding right_owns
   right_once γ id Z =
       own_glued 𝓛 (keyed telling) γ (one_at id) (one_at id) Z
@@ -155,7 +146,7 @@ module _ {M : Type 1} {𝓤 : Ura M} (𝓛 : Logic 𝓤) where
       → ⟦ right_owns γ i ⟧ ∗ ⟦ right_owns δ j ⟧
       ⊢ guard 𝓤 (γ ≡ δ → i ≢ j) (⟦ right_owns γ i ⟧ ∗ ⟦ right_owns δ j ⟧)
   right_apart γ δ i j =
-      let Both : Pr = ⟦ right_owns γ i ⟧ ∗ ⟦ right_owns δ j ⟧ in
+      let Both : SProp 𝓤 = ⟦ right_owns γ i ⟧ ∗ ⟦ right_owns δ j ⟧ in
       let Apart : Type 0 = γ ≡ δ → i ≢ j in
       dite (ℕ_discrete i j)
       (λ e. dite (ℕ_discrete γ δ)
@@ -166,7 +157,7 @@ module _ {M : Type 1} {𝓤 : Ura M} (𝓛 : Logic 𝓤) where
       (λ differ. guard_i 𝓤 Apart Both (λ _. differ))
 
   -- no table has two `Rights`
-  pub rights_once : (γ : GName) (out gone : List ℕ) (Z : Pr) → ⟦ rights_own γ out ⟧ ∗ ⟦ rights_own γ gone ⟧ ⊢ Z
+  pub rights_once : (γ : GName) (out gone : List ℕ) (Z : SProp 𝓤) → ⟦ rights_own γ out ⟧ ∗ ⟦ rights_own γ gone ⟧ ⊢ Z
   unfolding rights_own
   rights_once γ out gone Z =
       let n : ℕ = above out + above gone in
@@ -177,7 +168,7 @@ module _ {M : Type 1} {𝓤 : Ura M} (𝓛 : Logic 𝓤) where
   pub rights_apart : (γ δ : GName) (out gone : List ℕ)
       → ⟦ rights_own γ out ⟧ ∗ ⟦ rights_own δ gone ⟧
       ⊢ guard 𝓤 (γ ≢ δ) (⟦ rights_own γ out ⟧ ∗ ⟦ rights_own δ gone ⟧)
-  rights_apart γ δ out gone = let Both : Pr = ⟦ rights_own γ out ⟧ ∗ ⟦ rights_own δ gone ⟧ in dite (ℕ_discrete γ δ)
+  rights_apart γ δ out gone = let Both : SProp 𝓤 = ⟦ rights_own γ out ⟧ ∗ ⟦ rights_own δ gone ⟧ in dite (ℕ_discrete γ δ)
       (λ e.
       subst (λ (x : ℕ). ⟦ rights_own γ out ⟧ ∗ ⟦ rights_own x gone ⟧ ⊢ guard 𝓤 (γ ≢ δ) Both) e
       (rights_once γ out gone (guard 𝓤 (γ ≢ δ) Both)))

@@ -7,10 +7,10 @@ use Rattle.std.proofs.lemmas.List.{length-replicate, get_or-replicate, get_or_pa
 use Rattle.thread_local_model.proofs.PlaceLaws.{id_at-place, bucket_of-below, inside}
 use mathlib.Core.Logic.{inl, inr}
 use seplogic.Ra.Ura.{Ura}
-use base.Logic.{SProp, ent, sep, emp, upd, upd_i}
+use base.Logic.{SProp, emp, upd, upd_i}
 use base.Fml.{GName, Fml, ftrue}
 use base.Shift.{Keyless}
-use types.Logic.{Logic, sem}
+use types.Logic.{Logic}
 use types.Kit.{‵, raw, ◌⊛◌, settle, suffices, frame, drop, move, keep, rewrite, split, fsplit, fjoin, use0, use1, qed}
 use types.Kit.{done, ◌$◌, ◌∵◌, ! }
 use denote.RattleType.{RattleType}
@@ -19,6 +19,7 @@ use Rattle.thread_local_model.specs.Place.{id_at, bucket_of, index_of}
 use Rattle.thread_local_model.specs.Buckets.{Contents, IsTable, row, values}
 use Rattle.thread_local_ids.specs.Told.{tells, all_tell, all_told_or_untold, whole_row, rows_telling, rows_tell}
 use Rattle.thread_local_ids.proofs.ToldElements.{all_end, all_dup, none_telling, source, all_drawn, told_at, tells_keyless}
+use Rattle.thread_local_model.proofs.Signs.{signs}
 
 -- the row of a bucket is empty or whole
 abbrev pub IsWhole : {V : Type 0} → ℕ → List (Option V) → Type 0
@@ -65,20 +66,10 @@ table_whole contents is =
     subst (λ (b : ℕ). IsWhole b (slice_index_or contents.rows i [])) same (is.whole i))
 
 module _ {M : Type 1} {𝓤 : Ura M} (𝓛 : Logic 𝓤) (R : RattleType) where
-  abbrev Pr : Type 2
-  Pr = SProp 𝓤
-
-  abbrev ◌⊢◌ : Pr → Pr → Type 1
-  P ⊢ Q = ent 𝓤 P Q
-
-  abbrev ◌∗◌ : Pr → Pr → Pr
-  P ∗ Q = sep 𝓤 P Q
-
-  abbrev ⟦◌⟧ : Fml → Pr
-  ⟦ P ⟧ = sem 𝓛 P
-
+  open signs 𝓛 use {⟦◌⟧, ◌⊢◌, ◌∗◌}
   infix 26 ◌⊢◌
   infixr 35 ◌∗◌
+
   abbrev Rows : Type 0
   Rows = List (List (Option R.Denot))
 
@@ -97,7 +88,7 @@ module _ {M : Type 1} {𝓤 : Ura M} (𝓛 : Logic 𝓤) (R : RattleType) where
       qed 𝓛 (‵ (source 𝓛 γ (id_at bucket 0)) ∷ []) ∵ suffices ! _ (upd_i 𝓤 ⟦ ftrue ⟧) $ drop ! $
       nothing ! $ done !
   rows_drawn γ bucket (row ∷ rows) are =
-      let Z : Pr = ⟦ rows_telling R (Some γ) bucket (row ∷ rows) ⟧ in
+      let Z : SProp 𝓤 = ⟦ rows_telling R (Some γ) bucket (row ∷ rows) ⟧ in
       let id : ℕ = id_at bucket 0 in
       let slots : List (Option R.Denot) = whole_row bucket row in
       let next : ℕ = id_at (suc bucket) 0 in
@@ -118,7 +109,7 @@ module _ {M : Type 1} {𝓤 : Ura M} (𝓛 : Logic 𝓤) (R : RattleType) where
       → ⟦ rows_telling R sharing bucket rows ⟧ ⊢ upd 𝓤 ⟦ rows_tell R sharing bucket rows ⟧
   rows_end sharing bucket [] = upd_i 𝓤 ⟦ ftrue ⟧
   rows_end sharing bucket (row ∷ rows) =
-      let Z : Pr = ⟦ rows_tell R sharing bucket (row ∷ rows) ⟧ in
+      let Z : SProp 𝓤 = ⟦ rows_tell R sharing bucket (row ∷ rows) ⟧ in
       let id : ℕ = id_at bucket 0 in
       let slots : List (Option R.Denot) = whole_row bucket row in
       qed 𝓛 (‵ (rows_telling R sharing bucket (row ∷ rows)) ∷ []) ∵ fsplit ! $

@@ -7,7 +7,7 @@ use Rattle.std.specs.Prelude.{All}
 use Rattle.std.specs.Coded.{coded_option}
 use seplogic.Ra.Ura.{Ura}
 use mir.Val.{vstruct, vnil}
-use base.Logic.{SProp, ent, sep, guard, via, guard_i, guard_e, snd∗}
+use base.Logic.{SProp, guard, via, guard_i, guard_e, snd∗}
 use base.Fml.{Fml, ftrue}
 use base.Before.{before}
 use base.Shift.{Keyless}
@@ -26,6 +26,7 @@ use Rattle.thread_local_ids.specs.TokenLists.{AllOf, tell_each}
 use Rattle.thread_local_ids.specs.contracts.token_list.TokenList as TokenList
 use Rattle.thread_local_ids.proofs.Made.{token_val}
 use Rattle.thread_local_ids.proofs.ToldElements.{told_dup, telling_alike, tells_keyless}
+use Rattle.thread_local_model.proofs.Signs.{signs}
 
 unnamed : IsSome {T = ℕ} None → ⊥
 unnamed named = cc
@@ -34,20 +35,10 @@ same_name : (δ γ : ℕ) → ◌≡◌ {A = Option ℕ} (Some δ) (Some γ) →
 same_name δ γ e = ap (λ (o : Option ℕ). elim o [ None ↦ δ | Some z ↦ z ]) e
 
 module _ {M : Type 1} {𝓤 : Ura M} (𝓛 : Logic 𝓤) (R : RattleType) where
-  abbrev Pr : Type 2
-  Pr = SProp 𝓤
-
-  abbrev ◌⊢◌ : Pr → Pr → Type 1
-  P ⊢ Q = ent 𝓤 P Q
-
-  abbrev ◌∗◌ : Pr → Pr → Pr
-  P ∗ Q = sep 𝓤 P Q
-
-  abbrev ⟦◌⟧ : Fml → Pr
-  ⟦ P ⟧ = sem 𝓛 P
-
+  open signs 𝓛 use {⟦◌⟧, ◌⊢◌, ◌∗◌}
   infix 26 ◌⊢◌
   infixr 35 ◌∗◌
+
   abbrev Tokens : Type 0
   Tokens = List (TokenView R.Denot)
 
@@ -114,7 +105,7 @@ module _ {M : Type 1} {𝓤 : Ura M} (𝓛 : Logic 𝓤) (R : RattleType) where
       (⟦ told_or_untold R sharing id v ⟧ ∗ ⟦ tell_each R tokens ⟧)
   slot_agrees None id v tokens = guard_i 𝓤 _ _ (λ named. absurd (unnamed named))
   slot_agrees (Some γ) id v tokens =
-      let Both : Pr = ⟦ told_or_untold R (Some γ) id v ⟧ ∗ ⟦ tell_each R tokens ⟧ in
+      let Both : SProp 𝓤 = ⟦ told_or_untold R (Some γ) id v ⟧ ∗ ⟦ tell_each R tokens ⟧ in
       let All' : Type 0 = All (Says (Some γ) id v) tokens in
       via 𝓤 (guard 𝓤 All' Both) (all_agree (Some γ) refl id v tokens)
       (guard_e 𝓤 All' Both (λ all. guard_i 𝓤 (AllOf (Some γ) (λ p. p.id ≡ id → v ≡ Some p.value) tokens) Both (λ _. all)))

@@ -7,7 +7,7 @@ use seplogic.Ra.Ura.{Ura}
 use seplogic.Ra.Instances.{OneShot}
 use seplogic.Ra.Instances.OneShot.{pending, shot, pending-op, Idem-shot, OpDef-shot_iff, pending-fp_upd₁}
 use base.Stored.{Gv, Gv-set}
-use base.Logic.{SProp, ent, sep, ex, guard, emp, upd, upd_i, via, id⊢, guard_i, guard_e, ex_e, ex_i, upd_mono}
+use base.Logic.{SProp, ex, guard, emp, upd, upd_i, via, id⊢, guard_i, guard_e, ex_e, ex_i, upd_mono}
 use base.Fml.{GName, Fml, ftrue}
 use base.Shift.{Keyless}
 use types.Logic.{Logic, sem}
@@ -17,26 +17,17 @@ use types.Kit.{◌$◌, ◌∵◌, ! }
 use types.Keyed.{entry, entries_from, entry_cut, entry_glue, entry_set, entries_take, entry_keyless, keyed, from}
 use denote.RattleType.{RattleType}
 use Rattle.thread_local_ids.specs.Told.{once, untold, told, untold_in, told_in, tells, told_or_untold, all_tell, all_told_or_untold}
+use Rattle.thread_local_model.proofs.Signs.{signs}
 
 -- a sharing without a name has none
 nameless : IsSome {T = GName} None → ⊥
 nameless named = cc
 
 module _ {M : Type 1} {𝓤 : Ura M} (𝓛 : Logic 𝓤) where
-  abbrev Pr : Type 2
-  Pr = SProp 𝓤
-
-  abbrev ◌⊢◌ : Pr → Pr → Type 1
-  P ⊢ Q = ent 𝓤 P Q
-
-  abbrev ◌∗◌ : Pr → Pr → Pr
-  P ∗ Q = sep 𝓤 P Q
-
-  abbrev ⟦◌⟧ : Fml → Pr
-  ⟦ P ⟧ = sem 𝓛 P
-
+  open signs 𝓛 use {⟦◌⟧, ◌⊢◌, ◌∗◌}
   infix 26 ◌⊢◌
   infixr 35 ◌∗◌
+
   -- ---- under a name
   -- what is told of an id can be had twice
   told_twice : (γ : GName) (id : ℕ) (g : Gv) → ⟦ told γ id g ⟧ ⊢ ⟦ told γ id g ⟧ ∗ ⟦ told γ id g ⟧
@@ -48,7 +39,7 @@ module _ {M : Type 1} {𝓤 : Ura M} (𝓛 : Logic 𝓤) where
   unfolding untold told
   tell γ id g =
       let B : OneShot Gv → Type 0 = λ b. b ≡ shot g in
-      let F : OneShot Gv → Pr = λ b. guard 𝓤 (B b) (sem 𝓛 (entry once γ id b)) in
+      let F : OneShot Gv → SProp 𝓤 = λ b. guard 𝓤 (B b) (sem 𝓛 (entry once γ id b)) in
       via 𝓤 (upd 𝓤 (ex 𝓤 F)) (entry_set once 𝓛 γ id pending B ∣ (shot g, refl) ∣₁
       (λ f d. ∣ (shot g, refl, pending-fp_upd₁ Gv-set (shot g) f d) ∣₁))
       (upd_mono 𝓤 (ex_e 𝓤 F (λ b.
@@ -61,22 +52,22 @@ module _ {M : Type 1} {𝓤 : Ura M} (𝓛 : Logic 𝓤) where
       → ⟦ told γ id g ⟧ ∗ ⟦ told γ id h ⟧ ⊢ guard 𝓤 (g ≡ h) (⟦ told γ id g ⟧ ∗ ⟦ told γ id h ⟧)
   unfolding told
   told_alike γ id g h =
-      let F : OneShot Gv → Pr =
+      let F : OneShot Gv → SProp 𝓤 =
       λ c. guard 𝓤 (c ∈ once.op (shot g) (shot h)) (sem 𝓛 (entry once γ id c)) in
-      let Both : Pr = ⟦ entry once γ id (shot g) ⟧ ∗ ⟦ entry once γ id (shot h) ⟧ in
+      let Both : SProp 𝓤 = ⟦ entry once γ id (shot g) ⟧ ∗ ⟦ entry once γ id (shot h) ⟧ in
       via 𝓤 (ex 𝓤 F) (entry_glue once 𝓛 γ id (shot g) (shot h)) (ex_e 𝓤 F (λ c.
       guard_e 𝓤 (c ∈ once.op (shot g) (shot h)) (sem 𝓛 (entry once γ id c)) (λ m.
       via 𝓤 Both (entry_cut once 𝓛 γ id (shot g) (shot h) c m) (guard_i 𝓤 (g ≡ h) Both ((OpDef-shot_iff Gv-set).0 m.0)))))
 
   -- nothing is told of an id of which it may still be told
-  untold_once : (γ : GName) (id : ℕ) (x : OneShot Gv) (Z : Pr) → ⟦ untold γ id ⟧ ∗ sem 𝓛 (entry once γ id x) ⊢ Z
+  untold_once : (γ : GName) (id : ℕ) (x : OneShot Gv) (Z : SProp 𝓤) → ⟦ untold γ id ⟧ ∗ sem 𝓛 (entry once γ id x) ⊢ Z
   unfolding untold
-  untold_once γ id x Z = let F : OneShot Gv → Pr = λ c. guard 𝓤 (c ∈ once.op pending x) (sem 𝓛 (entry once γ id c)) in
+  untold_once γ id x Z = let F : OneShot Gv → SProp 𝓤 = λ c. guard 𝓤 (c ∈ once.op pending x) (sem 𝓛 (entry once γ id c)) in
       via 𝓤 (ex 𝓤 F) (entry_glue once 𝓛 γ id pending x) (ex_e 𝓤 F (λ c.
       guard_e 𝓤 (c ∈ once.op pending x) (sem 𝓛 (entry once γ id c)) (λ m.
       absurd (not-none-Dom (OneShot Gv) (subst (λ (p : Part {0, 0} (OneShot Gv)). Dom p) (pending-op Gv-set x) m.0)))))
 
-  untold_no : (γ : GName) (id : ℕ) (g : Gv) (Z : Pr) → ⟦ untold γ id ⟧ ∗ ⟦ told γ id g ⟧ ⊢ Z
+  untold_no : (γ : GName) (id : ℕ) (g : Gv) (Z : SProp 𝓤) → ⟦ untold γ id ⟧ ∗ ⟦ told γ id g ⟧ ⊢ Z
   unfolding told
   untold_no γ id g Z = untold_once γ id (shot g) Z
 
@@ -96,7 +87,7 @@ module _ {M : Type 1} {𝓤 : Ura M} (𝓛 : Logic 𝓤) where
   alike None named id g h = absurd (nameless named)
   alike (Some γ) named id g h = told_alike γ id g h
 
-  never_told : (sharing : Option GName) → IsSome sharing → (id : ℕ) (g : Gv) (Z : Pr)
+  never_told : (sharing : Option GName) → IsSome sharing → (id : ℕ) (g : Gv) (Z : SProp 𝓤)
       → ⟦ untold_in sharing id ⟧ ∗ ⟦ told_in sharing id g ⟧ ⊢ Z
   never_told None named id g Z = absurd (nameless named)
   never_told (Some γ) named id g Z = untold_no γ id g Z
@@ -111,7 +102,7 @@ module _ {M : Type 1} {𝓤 : Ura M} (𝓛 : Logic 𝓤) where
         ⊢ guard 𝓤 (v ≡ w) (⟦ tells R sharing id v ⟧ ∗ ⟦ tells R sharing id w ⟧)
     tells_alike sharing named id v w =
         let c = coded_option R.coded in
-        let Both : Pr = ⟦ tells R sharing id v ⟧ ∗ ⟦ tells R sharing id w ⟧ in
+        let Both : SProp 𝓤 = ⟦ tells R sharing id v ⟧ ∗ ⟦ tells R sharing id w ⟧ in
         via 𝓤 (guard 𝓤 (c.code v ≡ c.code w) Both) (alike sharing named id (c.code v) (c.code w))
         (guard_e 𝓤 (c.code v ≡ c.code w) Both (λ e. guard_i 𝓤 (v ≡ w) Both (c.inj v w e)))
 
@@ -131,7 +122,7 @@ module _ {M : Type 1} {𝓤 : Ura M} (𝓛 : Logic 𝓤) where
         → ⟦ all_told_or_untold R sharing id slots ⟧ ⊢ upd 𝓤 ⟦ all_tell R sharing id slots ⟧
     all_end sharing id [] = upd_i 𝓤 ⟦ ftrue ⟧
     all_end sharing id (v ∷ slots) =
-        let Z : Pr = ⟦ all_tell R sharing id (v ∷ slots) ⟧ in
+        let Z : SProp 𝓤 = ⟦ all_tell R sharing id (v ∷ slots) ⟧ in
         qed 𝓛 (‵ (all_told_or_untold R sharing id (v ∷ slots)) ∷ []) ∵ fsplit ! $
         use1 𝓛 (raw (upd 𝓤 ⟦ tells R sharing id v ⟧)) (ends sharing id v) $
         settle 𝓛 Z (‵ (tells R sharing id v)) $ move ! (1 ∷ []) $
@@ -195,13 +186,13 @@ module _ {M : Type 1} {𝓤 : Ura M} (𝓛 : Logic 𝓤) where
       let same : γ ≡ δ = ap (λ (o : Option GName). elim o [ None ↦ γ | Some z ↦ z ]) e in
       absurd (omega arith)
 
-  abbrev pub New : Option GName → GName → Pr
+  abbrev pub New : Option GName → GName → SProp 𝓤
   New old γ = guard 𝓤 (Some γ ≢ old) ⟦ source γ 0 ⟧
 
   pub source_new : (old : Option GName) → emp 𝓤 ⊢ upd 𝓤 (ex 𝓤 (New old))
   unfolding entries_from
   source_new old =
-      let F : GName → Pr = λ γ. guard 𝓤 (past old ≤ γ) ⟦ source γ 0 ⟧ in
+      let F : GName → SProp 𝓤 = λ γ. guard 𝓤 (past old ≤ γ) ⟦ source γ 0 ⟧ in
       via 𝓤 (upd 𝓤 (ex 𝓤 F))
       (𝓛.algebras.own_fresh (keyed once) (past old) (λ _. from once 0 (λ _. pending)))
       (upd_mono 𝓤 (ex_e 𝓤 F (λ γ.
@@ -223,11 +214,11 @@ module _ {M : Type 1} {𝓤 : Ura M} (𝓛 : Logic 𝓤) where
         → ⟦ source γ id ⟧ ⊢ upd 𝓤 (⟦ all_told_or_untold R (Some γ) id slots ⟧ ∗ ⟦ source γ next ⟧)
     all_drawn id next [] is =
         let same : id ≡ next = omega arith in
-        let Z : Pr = ⟦ ftrue ⟧ ∗ ⟦ source γ next ⟧ in
+        let Z : SProp 𝓤 = ⟦ ftrue ⟧ ∗ ⟦ source γ next ⟧ in
         qed 𝓛 (‵ (source γ id) ∷ []) ∵ suffices ! _ (upd_i 𝓤 Z) $
         rewrite ! 0 (λ (k : ℕ). ‵ (source γ k)) same refl $ nothing ! $ done !
     all_drawn id next (v ∷ slots) is =
-        let Z : Pr = ⟦ all_told_or_untold R (Some γ) id (v ∷ slots) ⟧ ∗ ⟦ source γ next ⟧ in
+        let Z : SProp 𝓤 = ⟦ all_told_or_untold R (Some γ) id (v ∷ slots) ⟧ ∗ ⟦ source γ next ⟧ in
         qed 𝓛 (‵ (source γ id) ∷ []) ∵
         use1 𝓛 (‵ (untold γ id) ⊛ ‵ (source γ (suc id))) (source_off id) $ split ! $
         use1 𝓛 (raw (upd 𝓤 ⟦ told_or_untold R (Some γ) id v ⟧)) (one_drawn id v) $

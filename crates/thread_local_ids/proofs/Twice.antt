@@ -13,17 +13,7 @@ use denote.Struct.Lending.{Lends}
 use Rattle.thread_local_ids.specs.Told.{tells}
 use Rattle.thread_local_ids.proofs.ToldElements.{told_dup}
 
-pub lends_twice : {M : Type 1} {𝓤 : Ura M} (𝓛 : Logic 𝓤) (P : Fml)
-    → ent 𝓤 (sem 𝓛 P) (sep 𝓤 (sem 𝓛 P) (sem 𝓛 P)) → (l : Lft)
-    → Lends 𝓛 P (said P) l
-lends_twice {𝓤 = 𝓤} 𝓛 P twice l κ ts inc sp = let Back = 𝓛.H.⇛ (sep 𝓤 (𝓛.A.bor κ P) (lfts 𝓛 ts)) in
-    qed 𝓛 (‵ (fbor κ P) ∷ raw (lfts 𝓛 ts) ∷ []) ∵ updating ! $
-    use2 𝓛 (later (‵ P ⊛ raw (wand 𝓤 (sem 𝓛 P) Back))) (𝓛.more.bor_acc_by κ ts P sp) $ await ! tt $
-    split ! $ use1 𝓛 (‵ P ⊛ ‵ P) twice $ split ! $ move ! (0 ∷ 2 ∷ []) $
-    use2 𝓛 (later (‵ (fbor κ P) ⊛ raw (lfts 𝓛 ts))) (apply∗ 𝓤 (sem 𝓛 P) Back) $ await ! tt $
-    split ! $ drop ! $ move ! (1 ∷ 0 ∷ []) $ now ! $ done !
-
--- the same of what shows something that can be had twice
+-- a `&` to what can be had beside what it shows
 pub lends_shown : {M : Type 1} {𝓤 : Ura M} (𝓛 : Logic 𝓤) (P Q : Fml)
     → ent 𝓤 (sem 𝓛 P) (sep 𝓤 (sem 𝓛 P) (sem 𝓛 Q)) → (l : Lft)
     → Lends 𝓛 P (said Q) l
@@ -34,9 +24,17 @@ lends_shown {𝓤 = 𝓤} 𝓛 P Q shows l κ ts inc sp = let Back = 𝓛.H.⇛ 
     use2 𝓛 (later (‵ (fbor κ P) ⊛ raw (lfts 𝓛 ts))) (apply∗ 𝓤 (sem 𝓛 P) Back) $ await ! tt $
     split ! $ drop ! $ move ! (1 ∷ 0 ∷ []) $ now ! $ done !
 
+pub lends_twice : {M : Type 1} {𝓤 : Ura M} (𝓛 : Logic 𝓤) (P : Fml)
+    → ent 𝓤 (sem 𝓛 P) (sep 𝓤 (sem 𝓛 P) (sem 𝓛 P)) → (l : Lft)
+    → Lends 𝓛 P (said P) l
+lends_twice 𝓛 P = lends_shown 𝓛 P P
+
+-- the laws of a `&` to what can be had twice
+pub said_laws : (P : Fml)
+    → ((M : Type 1) (𝓤 : Ura M) (𝓛 : Logic 𝓤) → ent 𝓤 (sem 𝓛 P) (sep 𝓤 (sem 𝓛 P) (sem 𝓛 P)))
+    → ShrLaws (said P)
+said_laws P twice = record { contraction = λ M 𝓤 𝓛 κ. twice M 𝓤 𝓛; mono = λ M 𝓤 𝓛 κ' κ. snd∗ 𝓤 (sem 𝓛 (before κ' κ)) (sem 𝓛 P) }
+
 -- what a `&` holds that holds what is told of an id
 pub tells_laws : (R : RattleType) (sharing : Option ℕ) (id : ℕ) (v : Option R.Denot) → ShrLaws (said (tells R sharing id v))
-tells_laws R sharing id v = record {
-  contraction = λ M 𝓤 𝓛 κ. told_dup 𝓛 sharing id ((coded_option R.coded).code v);
-  mono = λ M 𝓤 𝓛 κ' κ. snd∗ 𝓤 (sem 𝓛 (before κ' κ)) (sem 𝓛 (tells R sharing id v));
-}
+tells_laws R sharing id v = said_laws (tells R sharing id v) (λ M 𝓤 𝓛. told_dup 𝓛 sharing id ((coded_option R.coded).code v))

@@ -1,5 +1,5 @@
 -- Tokens of different ids, as many as a map has values, are all of the map.
-use Rattle.std.proofs.Common.{◌≡◌, ◌≢◌, ◌-◌, ◌^◌, ◌<◌, ℕ, List, [], ◌∷◌, map, length, None, Option, Some, refl, ap, sym}
+use Rattle.std.proofs.Common.{◌≡◌, ◌≢◌, ◌-◌, ◌^◌, ◌<◌, ℕ, List, map, length, None, Option, Some, ap, sym}
 use Rattle.std.proofs.Common.{◌∙◌, subst, arith}
 use Rattle.std.specs.Prelude.{Contains, IsPermutation, slice_index_or}
 use Rattle.std.specs.List.{AllPairs, AllWithin}
@@ -7,10 +7,7 @@ use Rattle.std.proofs.lemmas.List.{length-map, get_or-map}
 use Rattle.thread_local_model.specs.Walk.{walk}
 use Rattle.thread_local_model.proofs.EntriesLaws.{are_all}
 use Rattle.thread_local_ids.specs.Views.{TokenView}
-
-map-map : {A B C : Type 0} (f : B → C) (g : A → B) (xs : List A) → map f (map g xs) ≡ map (λ x. f (g x)) xs
-map-map f g [] = refl
-map-map f g (x ∷ xs) = ap (λ ys. f (g x) ∷ ys) (map-map f g xs)
+use Rattle.std.proofs.lemmas.Simd.{map-map}
 
 -- the entry that a token is of
 abbrev entry : {V : Type 0} → TokenView V → ℕ × V

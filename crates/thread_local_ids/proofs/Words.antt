@@ -1,5 +1,5 @@
 -- A `u64` in memory as the cell that an atomic step works on, and back. Assumes `Logic`.
-use Rattle.std.proofs.Common.{ℕ, ◌^◌, T, List, [], ◌∷◌, refl, ap, w64}
+use Rattle.std.proofs.Common.{ℕ, ◌^◌, T, [], ◌∷◌, refl, ap, w64}
 use seplogic.Ra.Ura.{Ura}
 use mir.Syntax.{ty_int}
 use mir.Val.{Val, vint, has_ty, WT}
@@ -31,5 +31,5 @@ module _ {M : Type 1} {𝓤 : Ura M} (𝓛 : Logic 𝓤) (b o n : ℕ) where
       (𝓛.laws.at_wt full_share (ty_int w64) b o (vint w64 n)) $
       learn ! (λ typed.
       flt_i ! n (2 ^ 64) typed.1.fits $
-      feq_i ! (List Val) (vint w64 n ∷ []) (vint w64 n ∷ []) refl $ fjoin ! $ move ! (1 ∷ 0 ∷ []) $
+      feq_i ! _ (vint w64 n ∷ []) _ refl $ fjoin ! $ move ! (1 ∷ 0 ∷ []) $
       gather flag ! n (vint w64 n) b o $ done !)

@@ -91,11 +91,7 @@ are_all {V} ((id, v) ∷ rest) values n apart there as_many =
     one_more values others n id v here.0 (λ j ne. without-there values id j ne)
     (without-here values id) here.1 in
     let fewer : length rest ≡ length (walk_below others n) =
-    omega (
-      arith,
-      as_many,
-      length_permutation (v ∷ walk_below others n) (walk_below values n) one,
-    ) in
+    omega (arith, as_many, length_permutation (v ∷ walk_below others n) (walk_below values n) one) in
     let in_rest : (j : ℕ) (w : V) → Contains rest (j, w) → (j < n) × (others j ≡ Some w) =
     λ j w c.
     let h = there j w (suc c.0, omega (arith, c.1), c.2) in

@@ -156,11 +156,7 @@ pub needs-refused : (manager : Manager) → length manager.held ≤ manager.room
     → IsTrue (is_granted manager false) × (is_granted manager true ≡ false)
 needs-refused manager within needs =
     let top : least manager.held ≡ length manager.held =
-    omega (
-      arith,
-      least_bounded manager.held,
-      least_above manager.held (length manager.held) needs.full,
-    ) in
+    omega (arith, least_bounded manager.held, least_above manager.held (length manager.held) needs.full) in
     let room : least manager.held ≡ manager.room = omega (arith, needs.no_room) in
     rw (
       ne_eqb (least manager.held) (2 ^ 63 - 1) (λ same. omega (arith, needs.in_range)),
@@ -172,12 +168,7 @@ needs-refused manager within needs =
 pub exhausted-refused : (manager : Manager) → IsExhausted manager → is_granted manager false ≡ false
 exhausted-refused manager none =
     let top : least manager.held ≡ 2 ^ 63 - 1 =
-    omega (
-      arith,
-      least_bounded manager.held,
-      least_above manager.held (2 ^ 63 - 1) none.full,
-      none.peak,
-    ) in
+    omega (arith, least_bounded manager.held, least_above manager.held (2 ^ 63 - 1) none.full, none.peak) in
     rw (eq-eqb (least manager.held) (2 ^ 63 - 1) top) refl
 
 pub refused-exhausted : (manager : Manager) → length manager.held ≤ manager.room

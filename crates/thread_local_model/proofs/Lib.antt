@@ -24,3 +24,5 @@ pub mod Word
 pub mod Words
 pub mod Opened
 pub mod Pointers
+pub mod Signs
+pub mod Walking

@@ -3,49 +3,37 @@
 use Rattle.std.proofs.Common.{ℕ, List, [], ◌∷◌}
 use mathlib.Core.List.{Mem, not-mem-nil}
 use seplogic.Ra.Ura.{Ura}
-use base.Logic.{SProp, ent, sep, wand, ex, guard, upd, apply∗, ex_i, upd_i}
+use base.Logic.{SProp, ex, guard, upd, apply∗, ex_i, upd_i}
 use base.Fml.{Lft, Share, Fml, fsep, flft, fbor, finv, fnamed}
-use types.Logic.{Logic, sem}
+use types.Logic.{Logic}
 use types.Kit.{‵, raw, ◌⊛◌, some, ◌$◌, ◌∵◌, !, qed, by, move, split, join, pick, show, check, frame, each, assume}
 use types.Kit.{suffices, settle, done, use1, use2}
 use denote.RawPtr.{block_ptr}
 use Rattle.std.specs.Sync.RawAtomic.{Shift, rests, opens, shuts, enters, leaves, word, if_none, along, shifted, back, found, asks, always}
+use Rattle.thread_local_model.proofs.Signs.{signs}
 
 module _ {M : Type 1} {𝓤 : Ura M} (𝓛 : Logic 𝓤) (κ : Lft) (q : Share) (I : Fml) where
   open 𝓛 use {A}
 
-  abbrev Pr : Type 2
-  Pr = SProp 𝓤
-
-  abbrev ⟦◌⟧ : Fml → Pr
-  ⟦ P ⟧ = sem 𝓛 P
-
-  abbrev ◌⊢◌ : Pr → Pr → Type 1
-  P ⊢ Q = ent 𝓤 P Q
-
-  abbrev ◌∗◌ : Pr → Pr → Pr
-  P ∗ Q = sep 𝓤 P Q
-
-  abbrev ◌-∗◌ : Pr → Pr → Pr
-  P -∗ Q = wand 𝓤 P Q
-
+  open signs 𝓛 use {⟦◌⟧, ◌⊢◌, ◌∗◌, ◌-∗◌}
   infix 26 ◌⊢◌
   infixr 35 ◌∗◌
   infixr 30 ◌-∗◌
+
   -- the open borrow
-  abbrev O : Pr
+  abbrev O : SProp 𝓤
   O = A.obor κ q I
 
   -- opens the invariant for a step, whatever the step needs
-  pub enters_for : (X : Pr) (K : List (ℕ × Fml) → Pr)
+  pub enters_for : (X : SProp 𝓤) (K : List (ℕ × Fml) → SProp 𝓤)
       → ((j : ℕ) → O ∗ ⟦ I ⟧ ∗ X ⊢ upd 𝓤 (K ((j, fbor κ I) ∷ [])))
       → A.inv (fbor κ I) ∗ (A.lft κ q ∗ X) ⊢ shifted 𝓛 K []
   enters_for X K h =
       let P : Fml = fbor κ I in
       qed 𝓛 (‵ (finv P) ∷ raw (A.lft κ q) ∷ raw X ∷ []) ∵
       use1 𝓛 (some (λ (j : ℕ). ‵ (fnamed j P))) (𝓛.invs.inv_named P) $ pick ! (λ j.
-      let F : Pr = K ((j, P) ∷ []) in
-      let Opened : Pr = (A.bor κ I ∗ A.lft κ q) ∗ ((O ∗ ⟦ I ⟧) -∗ upd 𝓤 F) in
+      let F : SProp 𝓤 = K ((j, P) ∷ []) in
+      let Opened : SProp 𝓤 = (A.bor κ I ∗ A.lft κ q) ∗ ((O ∗ ⟦ I ⟧) -∗ upd 𝓤 F) in
       suffices ! _ (ex_i 𝓤 (λ (s : Shift). along 𝓛 s K []) (enters j P (opens κ q I rests))) $
       suffices ! _ (upd_i 𝓤 (guard 𝓤 (¬ Mem j []) (A.named j P ∗ (⟦ P ⟧ -∗ upd 𝓤 Opened)))) $
       check ! (λ m. not-mem-nil m) $ frame ! $ assume ! (‵ P) $
@@ -58,9 +46,9 @@ module _ {M : Type 1} {𝓤 : Ura M} (𝓛 : Logic 𝓤) (κ : Lft) (q : Share) 
   leaves_with j after =
       let P : Fml = fbor κ I in
       let L : List (ℕ × Fml) = (j, P) ∷ [] in
-      let T : Pr = ⟦ fsep (flft κ q) after ⟧ in
-      let Q : Pr = ⟦ P ⟧ ∗ upd 𝓤 T in
-      let N : Pr = (A.bor κ I ∗ A.lft κ q) -∗ upd 𝓤 Q in
+      let T : SProp 𝓤 = ⟦ fsep (flft κ q) after ⟧ in
+      let Q : SProp 𝓤 = ⟦ P ⟧ ∗ upd 𝓤 T in
+      let N : SProp 𝓤 = (A.bor κ I ∗ A.lft κ q) -∗ upd 𝓤 Q in
       qed 𝓛 (raw (upd 𝓤 (⟦ I ⟧ ∗ ⟦ after ⟧)) ∷ raw O ∷ []) ∵
       suffices ! _
       (ex_i 𝓤 (λ (s : Shift). along 𝓛 s (if_none 𝓛 T) L) (shuts κ q I (leaves rests))) $
@@ -70,18 +58,18 @@ module _ {M : Type 1} {𝓤 : Ura M} (𝓛 : Logic 𝓤) (κ : Lft) (q : Share) 
 
   module _ (b o : ℕ) (f : ℕ → ℕ) (after : ℕ → Fml) where
     -- the way back: the new word completes the borrow's content
-    abbrev pub Again : ℕ → Pr
+    abbrev pub Again : ℕ → SProp 𝓤
     Again n = ⟦ word b o (f n) ⟧ -∗ upd 𝓤 (⟦ I ⟧ ∗ ⟦ after n ⟧)
 
-    abbrev pub Lies : ℕ → Pr
+    abbrev pub Lies : ℕ → SProp 𝓤
     Lies n = ⟦ word b o n ⟧ ∗ Again n
 
-    pub opened : (X : Pr) → ⟦ I ⟧ ∗ X ⊢ upd 𝓤 (ex 𝓤 Lies)
+    pub opened : (X : SProp 𝓤) → ⟦ I ⟧ ∗ X ⊢ upd 𝓤 (ex 𝓤 Lies)
         → A.inv (fbor κ I) ∗ (A.lft κ q ∗ X)
         ⊢ asks 𝓛 (block_ptr b o) f always (λ n. fsep (flft κ q) (after n))
     opened X h =
         let told : ℕ → Fml = λ n. fsep (flft κ q) (after n) in
-        let K : List (ℕ × Fml) → Pr = λ l. ex 𝓤 (found 𝓛 l b o f always told) in
+        let K : List (ℕ × Fml) → SProp 𝓤 = λ l. ex 𝓤 (found 𝓛 l b o f always told) in
         enters_for X K (λ j.
         let L : List (ℕ × Fml) = (j, fbor κ I) ∷ [] in
         qed 𝓛 (raw O ∷ ‵ I ∷ raw X ∷ []) ∵ move ! (1 ∷ 2 ∷ []) $

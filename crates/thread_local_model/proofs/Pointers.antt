@@ -3,51 +3,39 @@ use Rattle.std.proofs.Common.{ℕ, Bool, true, false, List, [], ◌∷◌, refl,
 use mathlib.Core.Bool.{cond}
 use seplogic.Ra.Ura.{Ura}
 use mir.Val.{vnull, ptr_same}
-use base.Logic.{SProp, ent, sep, wand, ex, emp, upd, apply∗, upd_i}
+use base.Logic.{SProp, ex, emp, upd, apply∗, upd_i}
 use base.Fml.{Lft, Share, Fml, ftrue, fsep, flft, fbor}
-use types.Logic.{Logic, sem}
+use types.Logic.{Logic}
 use types.Kit.{‵, raw, ◌⊛◌, some, ◌$◌, ◌∵◌, !, qed, by, move, split3, pick, show, frame, assume, suffices, settle, done}
 use types.Kit.{fpack, keep, use2}
 use denote.RawPtr.{Ptr, block_ptr, ptr_val, Testable, tests_null}
 use denote.Steps.{nothing}
 use Rattle.std.specs.Sync.RawAtomic.Pointer.{cell, alike, found_ptr, asks_by_cases, compares}
 use Rattle.thread_local_model.proofs.Opened.{enters_for, leaves_with}
+use Rattle.thread_local_model.proofs.Signs.{signs}
 
 module _ {M : Type 1} {𝓤 : Ura M} (𝓛 : Logic 𝓤) where
   open 𝓛 use {A}
 
-  abbrev Pr : Type 2
-  Pr = SProp 𝓤
-
-  abbrev ⟦◌⟧ : Fml → Pr
-  ⟦ P ⟧ = sem 𝓛 P
-
-  abbrev ◌⊢◌ : Pr → Pr → Type 1
-  P ⊢ Q = ent 𝓤 P Q
-
-  abbrev ◌∗◌ : Pr → Pr → Pr
-  P ∗ Q = sep 𝓤 P Q
-
-  abbrev ◌-∗◌ : Pr → Pr → Pr
-  P -∗ Q = wand 𝓤 P Q
-
+  open signs 𝓛 use {⟦◌⟧, ◌⊢◌, ◌∗◌, ◌-∗◌}
   infix 26 ◌⊢◌
   infixr 35 ◌∗◌
   infixr 30 ◌-∗◌
+
   module _ (κ : Lft) (q : Share) (I : Fml) (b o : ℕ) (C : Type 0) (was new : C → Ptr) (tells after : C → Fml) where
     -- the way back: the new pointer completes the borrow's content
-    abbrev pub Again : C → Pr
+    abbrev pub Again : C → SProp 𝓤
     Again p = ⟦ cell b o (new p) ⟧ -∗ upd 𝓤 (⟦ I ⟧ ∗ ⟦ after p ⟧)
 
-    abbrev pub Lies : C → Pr
+    abbrev pub Lies : C → SProp 𝓤
     Lies p = ⟦ cell b o (was p) ⟧ ∗ ⟦ tells p ⟧ ∗ Again p
 
-    pub opened : (X : Pr) → ⟦ I ⟧ ∗ X ⊢ upd 𝓤 (ex 𝓤 Lies)
+    pub opened : (X : SProp 𝓤) → ⟦ I ⟧ ∗ X ⊢ upd 𝓤 (ex 𝓤 Lies)
         → A.inv (fbor κ I) ∗ (A.lft κ q ∗ X)
         ⊢ asks_by_cases 𝓛 C was new tells (λ p. fsep (flft κ q) (after p)) (block_ptr b o)
     opened X h =
         let told : C → Fml = λ p. fsep (flft κ q) (after p) in
-        let K : List (ℕ × Fml) → Pr = λ l. ex 𝓤 (found_ptr 𝓛 C was new tells told l b o) in
+        let K : List (ℕ × Fml) → SProp 𝓤 = λ l. ex 𝓤 (found_ptr 𝓛 C was new tells told l b o) in
         enters_for 𝓛 κ q I X K (λ j.
         let L : List (ℕ × Fml) = (j, fbor κ I) ∷ [] in
         qed 𝓛 (raw (A.obor κ q I) ∷ ‵ I ∷ raw X ∷ []) ∵ move ! (1 ∷ 2 ∷ []) $
@@ -64,12 +52,12 @@ module _ {M : Type 1} {𝓤 : Ura M} (𝓛 : Logic 𝓤) where
   in_each false L P Q = refl
 
   module _ (κ : Lft) (q : Share) (I : Fml) (b o : ℕ) (current new : Ptr) (after missed : Ptr → Fml) where
-    abbrev pub Compared : Ptr × Bool → Pr
+    abbrev pub Compared : Ptr × Bool → SProp 𝓤
     Compared =
         Lies κ q I b o (Ptr × Bool) (λ i. i.0) (λ i. cond i.1 new i.0) (λ i. alike i.0 current i.1)
         (λ i. cond i.1 (after i.0) (missed i.0))
 
-    pub opened_to_compare : (X : Pr) → ⟦ I ⟧ ∗ X ⊢ upd 𝓤 (ex 𝓤 Compared)
+    pub opened_to_compare : (X : SProp 𝓤) → ⟦ I ⟧ ∗ X ⊢ upd 𝓤 (ex 𝓤 Compared)
         → A.inv (fbor κ I) ∗ (A.lft κ q ∗ X)
         ⊢ compares 𝓛 (block_ptr b o) current new (λ p. fsep (flft κ q) (after p))
         (λ p. fsep (flft κ q) (missed p))

@@ -135,9 +135,10 @@ id_at-next b =
     let some = pow_pos b in
     omega arith
 
-empty : {V : Type 0} (o : Option V) → is_some o ≡ false → o ≡ None
-empty None h = refl
-empty (Some v) h = cc
+-- a slot that shows no value is empty
+pub shows_none : {V : Type 0} (o : Option V) → is_some o ≡ false → o ≡ None
+shows_none None h = refl
+shows_none (Some v) h = cc
 
 module _ {V : Type 0} where
   -- an empty slot is skipped
@@ -147,7 +148,7 @@ module _ {V : Type 0} where
   NoneBelow-slot c b i inside none here =
       let next : id_at b i + 1 ≡ id_at b (i + 1) = omega arith in
       let P : ℕ → Type 0 = NoneBelow (values c) in
-      subst P next (NoneBelow-more (values c) (id_at b i) none (values-id_at c b i inside ∙ empty (value_in c b i) here))
+      subst P next (NoneBelow-more (values c) (id_at b i) none (values-id_at c b i inside ∙ shows_none (value_in c b i) here))
 
   -- a slot adds one where it has a value
   pub count_below-slot : (c : Contents V) (b i : ℕ) → i < 2 ^ b

@@ -18,12 +18,7 @@ pub length-bits_of : (words : List ℕ) → length (bits_of words) ≡ length wo
 unfolding bits_of
 length-bits_of [] = refl
 length-bits_of (word ∷ words) =
-    omega (
-      arith,
-      length-append (low_bits 64 word) (bits_of words),
-      length-low_bits 64 word,
-      length-bits_of words,
-    )
+    omega (arith, length-append (low_bits 64 word) (bits_of words), length-low_bits 64 word, length-bits_of words)
 
 -- bit j is bit j % 64 of word j / 64, and past the last word no bit is set
 pub get_or-bits_of : (words : List ℕ) (bit : ℕ) → get_or (bits_of words) bit false ≡ is_set_in words bit

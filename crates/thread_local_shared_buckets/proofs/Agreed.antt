@@ -2,12 +2,12 @@
 use Rattle.std.proofs.Common.{◌≡◌, ℕ, ◌+◌, ◌%◌, ◌^◌, ◌<◌, [], ◌∷◌, length, refl, sym, ap, subst, Option, None, Some}
 use Rattle.std.proofs.Common.{IsSome}
 use seplogic.Ra.Ura.{Ura}
-use base.Logic.{SProp, ent, sep, wand, ex, all, guard, upd, never_e}
+use base.Logic.{SProp, wand, ex, all, guard, upd, never_e}
 use base.Fml.{Lft, GName, Share, Fml, ftrue, ffalse, flft, fbor, finv}
 use prog.Model.{Model}
 use contract.Running.{Running}
 use contract.Shared.{Lends-one}
-use types.Logic.{Logic, sem}
+use types.Logic.{Logic}
 use types.Kit.{‵, raw, ◌⊛◌, some, given, later, pick, learn, check, ◌$◌, ◌∵◌, !, qed, by, move, keep, drop, split}
 use types.Kit.{split3, rewrite, group, fsplit, fsplit3, fjoin, fjoin3, fpick, fpack, await, updating, now, use1, use2}
 use types.Kit.{use3, done}
@@ -30,28 +30,16 @@ use Rattle.thread_local_shared_buckets.specs.Known.{HasLooked}
 use Rattle.thread_local_shared_buckets.specs.Claims.{ClaimFields, IsOf, IsKept, value_at, has_slot, has, has_at, claim_owns}
 use Rattle.thread_local_shared_buckets.proofs.Moves as moves
 use Rattle.thread_local_shared_buckets.proofs.Early as early
+use Rattle.thread_local_model.proofs.Signs.{signs}
 
 module _ {M : Type 1} {𝓤 : Ura M} (𝓛 : Logic 𝓤) (R : RattleType) (x : R.Denot) where
   open 𝓛 use {H, A}
 
-  abbrev Pr : Type 2
-  Pr = SProp 𝓤
-
-  abbrev ◌⊢◌ : Pr → Pr → Type 1
-  P ⊢ Q = ent 𝓤 P Q
-
-  abbrev ◌∗◌ : Pr → Pr → Pr
-  P ∗ Q = sep 𝓤 P Q
-
-  abbrev ◌-∗◌ : Pr → Pr → Pr
-  P -∗ Q = wand 𝓤 P Q
-
-  abbrev ⟦◌⟧ : Fml → Pr
-  ⟦ P ⟧ = sem 𝓛 P
-
+  open signs 𝓛 use {⟦◌⟧, ◌⊢◌, ◌∗◌, ◌-∗◌}
   infix 26 ◌⊢◌
   infixr 35 ◌∗◌
   infixr 30 ◌-∗◌
+
   module _ (d : BucketView) (named : IsSome d.sharing) (t : Turn) (wb wo i k : ℕ)
       (low : i < len R d) (at_k : k ≡ i + slots.first R d) where
     abbrev I : Fml
@@ -64,7 +52,7 @@ module _ {M : Type 1} {𝓤 : Ura M} (𝓛 : Logic 𝓤) (R : RattleType) (x : R
     Pass = right_owns t.pass k
 
     -- nothing is told of the id of an empty slot
-    empty : (Z : Pr) → ⟦ untold_in d.sharing k ⟧ ∗ ⟦ Told ⟧ ⊢ Z
+    empty : (Z : SProp 𝓤) → ⟦ untold_in d.sharing k ⟧ ∗ ⟦ Told ⟧ ⊢ Z
     empty Z =
         qed 𝓛 (‵ (untold_in d.sharing k) ∷ ‵ Told ∷ []) ∵
         use2 𝓛 (given (None ≡ Some x) (‵ (untold_in d.sharing k) ⊛ ‵ Told))
@@ -72,10 +60,10 @@ module _ {M : Type 1} {𝓤 : Ura M} (𝓛 : Logic 𝓤) (R : RattleType) (x : R
         learn ! (λ no. absurd (cc))
 
     -- so no claim of the id has found its bucket missing
-    abbrev Both : Pr
+    abbrev Both : SProp 𝓤
     Both = ⟦ Pass ⟧ ∗ ⟦ Told ⟧
 
-    abbrev Gone : Pr
+    abbrev Gone : SProp 𝓤
     Gone = upd 𝓤 (⟦ I ⟧ ∗ ⟦ ffalse ⟧)
 
     unborn_gone : ⟦ early.Unborn 𝓛 R d t wb wo i k low at_k ⟧
@@ -99,7 +87,7 @@ module _ {M : Type 1} {𝓤 : Ura M} (𝓛 : Logic 𝓤) (R : RattleType) (x : R
         let D : Option R.Denot → Who → Fml = lies_with_slot R t b s.block_life d.sharing d.table k e η in
         let Flags : ℕ → Fml = inside.Flags 𝓛 R d t wb wo s i k e b l at_k refl refl in
         let Slot : _ → Fml = inside.Slot 𝓛 R d t wb wo s i k e b l at_k refl refl in
-        let Back : (n : ℕ) → Next n bit → Pr =
+        let Back : (n : ℕ) → Next n bit → SProp 𝓤 =
         inside.Back 𝓛 R d t wb wo s i k e b l at_k refl refl ⟦ I ⟧ in
         let Empty : Fml = moves.Holds 𝓛 R t b s.block_life d.sharing d.table k e η None in
         qed 𝓛 (some (λ (n : ℕ).
@@ -155,7 +143,7 @@ module _ {M : Type 1} {𝓤 : Ura M} (𝓛 : Logic 𝓤) (R : RattleType) (x : R
     abbrev Tells : Fml
     Tells = tells R c.sharing c.id (Some x)
 
-    abbrev Agreed : Share → Learnt R.Denot → Pr
+    abbrev Agreed : Share → Learnt R.Denot → SProp 𝓤
     Agreed q l = guard 𝓤 (l ≡ Holding x) (⟦ Own l ⟧ ∗ A.lft β q)
 
     named_in : (d : BucketView) → d.sharing ≡ c.sharing → IsSome d.sharing
@@ -192,7 +180,7 @@ module _ {M : Type 1} {𝓤 : Ura M} (𝓛 : Logic 𝓤) (R : RattleType) (x : R
           c.index c.id of.4 of.3 s l q))))
 
     module _ {𝓜 : Model 𝓤 H} (𝓡 : Running 𝓤 H 𝓜) where
-      never : (l : Learnt R.Denot) (q : Share) (Z : Pr)
+      never : (l : Learnt R.Denot) (q : Share) (Z : SProp 𝓤)
           → ((z : BucketView × Turn) (of : IsOf R table c z.0) (r : Share)
           → A.inv (J z of) ∗ A.lft z.1.life r ∗ ⟦ has R z.0 z.1 β c l ⟧ ∗ ⟦ Known z of ⟧
           ⊢ H.⇛ (⟦ ffalse ⟧ ∗ A.lft z.1.life r))

@@ -1,5 +1,5 @@
 -- Tests, bits and chunks.
-use Rattle.std.proofs.Common.{◌≡◌, ◌≢◌, ℕ, zero, suc, ◌+◌, ◌/◌, ◌%◌, ◌<◌, ◌≤◌, ◌⊎◌, Bool, true, false, cond, eqb}
+use Rattle.std.proofs.Common.{◌≡◌, ◌≢◌, ℕ, ◌+◌, ◌/◌, ◌%◌, ◌<◌, ◌≤◌, ◌⊎◌, Bool, true, false, cond, eqb}
 use Rattle.std.proofs.Common.{refl, ap, sym, ◌∙◌, subst, arith, ⊎_elim, inl, inr}
 use Rattle.std.proofs.Common.{MatchBool, Option, None, Some, IfSome}
 use Rattle.std.proofs.lemmas.Bool.{cond_both, eqb-true, eqb-false, eq-eqb, ne_eqb, cases_lt, cases_eq}
@@ -14,10 +14,6 @@ pub both_if : (a b c d : ℕ) → cond (eqb a b) (eqb c d) false ≡ true → (a
 both_if a b c d =
     cond_both {A = Bool} (eqb a b) (eqb c d) false (λ (u : Bool). u ≡ true → (a ≡ b) × (c ≡ d))
     (λ t set. (eqb-true a b t, eqb-true c d set)) (λ f set. let never : false ≡ true = set in cc)
-
-pub some_set : (word bit : ℕ) → is_set word bit ≡ true → 0 < word
-some_set zero bit set = let never : true ≡ false = sym set ∙ is_set-zero bit in cc
-some_set (suc n) bit set = omega arith
 
 pub none_set : {X : Type 0} (word bit : ℕ) → word ≡ 0 → is_set word bit ≡ true → X
 none_set word bit none set =

@@ -1,61 +1,36 @@
 -- What a bucket owns and shares names no thread, if its values may go to another thread.
-use Rattle.std.proofs.Common.{ℕ, zero, suc, ◌+◌, Bool, true, false, List, [], ◌∷◌, ◌++◌, replicate, Option, None, Some}
+use Rattle.std.proofs.Common.{ℕ, zero, suc, ◌+◌, Bool, true, false, List, [], ◌∷◌, ◌++◌, Option, None, Some}
 use mathlib.Core.Logic.{inl, inr}
-use base.Fraction.{full_share}
-use base.Fml.{Lft, GName, Fml}
+use base.Fml.{Lft, GName}
 use base.Before.{chain}
 use base.Shift.{Keyless}
 use denote.RattleType.{RattleType}
 use denote.RawPtr.{Ptr, block_ptr, null_ptr, block_of, count_of}
-use denote.Param.Send.{IsSend, part_keyless}
-use mir.Syntax.{Ty}
-use Rattle.std.proofs.Crossing.{frees}
+use denote.Param.Send.{IsSend}
 use Rattle.thread_local_ids.proofs.ReachedElements.{reached_keyless}
 use Rattle.thread_local_ids.proofs.RightElements.{right_keyless}
 use Rattle.thread_local_judged.specs.Judged.{Judged}
 use Rattle.thread_local_ids.proofs.ToldElements.{untold_keyless, tells_keyless, told_or_untold_keyless, all_telling_keyless}
 use Rattle.thread_local_model.specs.Bits.{is_set_in}
-use Rattle.thread_local_bucket_pointers.specs.Slots.{heap_token, chunks, each, flag_room, flags_at, slot, empty_slots}
-use Rattle.thread_local_bucket_pointers.specs.Slots.{value_offset, content_at, back, block_ty}
+use Rattle.thread_local_bucket_pointers.specs.Slots.{each, flags_at, empty_slots}
+use Rattle.thread_local_bucket_pointers.specs.Slots.{value_offset, block_ty}
 use Rattle.thread_local_shared_buckets.specs.Shared.{BucketView, Turn, StandingBlock, Who, free, claimed, early}
 use Rattle.thread_local_shared_buckets.specs.Shared.{tracked_value, pinned_and_told, by, holds, stays, lies_with_slot, shared_slot}
 use Rattle.thread_local_shared_buckets.specs.Shared.{numbered_slot, slots_side, all_unborn, rests, slots_rest, block_rests}
 use Rattle.thread_local_shared_buckets.specs.Shared.{block_stands, beside_pointer, kept, loaded, row_owns, at_rest, len}
 use Rattle.thread_local_shared_buckets.specs.Shared.{first, shown_by, if_set, seen_value, seen_slot, seen_owns}
+use Rattle.thread_local_bucket_pointers.proofs.Sent.{token_keyless, each_keyless, place_keyless, back_keyless}
 
 pub chain_keyless : (νs : List Lft) (κ α : Lft) → Keyless (chain νs κ α)
 chain_keyless [] κ α = λ _. tt
 chain_keyless (ν ∷ νs) κ α = ((λ _. tt), chain_keyless νs (ν ++ κ) α)
 
-pub token_keyless : (τ : Ty) (p : Ptr) → Keyless (heap_token τ p)
-token_keyless τ p = λ a. frees.frees a τ p
-
-each_keyless : {X : Type 0} (F : X → ℕ → Fml) (xs : List X) (j : ℕ)
-    → ((x : X) (k : ℕ) → Keyless (F x k))
-    → Keyless (each F xs j)
-each_keyless F [] j law = tt
-each_keyless F (x ∷ xs) j law = (law x j, each_keyless F xs (suc j) law)
-
 module _ (R : RattleType) (s : IsSend R) where
-  pub place_keyless : (c : Option R.Denot) (b e : ℕ) → Keyless (content_at R c b e)
-  place_keyless None b e = tt
-  place_keyless (Some x) b e = part_keyless R s full_share x b e
-
-  back_keyless : (b o n : ℕ) → Keyless (back R b o n)
-  back_keyless b o n = (
-    (
-      each_keyless (flag_room R n b o) (replicate (chunks n) 0) 0 (λ _ _. tt),
-      each_keyless (slot R b o) (empty_slots n) 0
-          (λ v k. place_keyless v b (value_offset R o k)),
-    ),
-    tt,
-  )
-
   words_keyless : (n b o : ℕ) (ns : List ℕ) → Keyless (each (flags_at R n b o) ns 0)
-  words_keyless n b o ns = each_keyless (flags_at R n b o) ns 0 (λ _ _. tt)
+  words_keyless n b o ns = each_keyless (flags_at R n b o) (λ _ _. tt) ns 0
 
   pub value_keyless : (b e : ℕ) (η : GName) → Keyless (tracked_value R b e η)
-  value_keyless b e η = λ c. (place_keyless c b e, tt)
+  value_keyless b e η = λ c. (place_keyless R s c b e, tt)
 
   module _ (t : Turn) (b ν : ℕ) where
     pub by_keyless : (e : ℕ) (η : GName) (x : R.Denot) (j : Judged R) → Keyless (by R t b ν e η x j)
@@ -87,8 +62,8 @@ module _ (R : RattleType) (s : IsSend R) where
 
       slots_keyless : (table k o : ℕ) (names ns : List ℕ) → Keyless (each (numbered_slot R t b ν sharing table k o ns) names 0)
       slots_keyless table k o names ns =
-          each_keyless (numbered_slot R t b ν sharing table k o ns) names 0
-          (λ η i. slot_keyless table (is_set_in ns i) (i + k) (value_offset R o i) η)
+          each_keyless (numbered_slot R t b ν sharing table k o ns)
+          (λ η i. slot_keyless table (is_set_in ns i) (i + k) (value_offset R o i) η) names 0
 
   slots_side_keyless : (w : Bool) (table pass k : ℕ) → Keyless (slots_side R w table pass k)
   slots_side_keyless true table pass k = right_keyless table k
@@ -99,10 +74,7 @@ module _ (R : RattleType) (s : IsSend R) where
   unborn_keyless sharing table t (suc n) k = (
     (
       right_keyless t.vacant k,
-      (
-        (right_keyless t.filled k, untold_keyless sharing k),
-        λ w. slots_side_keyless w table t.pass k,
-      ),
+      ((right_keyless t.filled k, untold_keyless sharing k), λ w. slots_side_keyless w table t.pass k),
     ),
     unborn_keyless sharing table t n (suc k),
   )
@@ -113,12 +85,9 @@ module _ (R : RattleType) (s : IsSend R) where
       let o : ℕ = count_of p in (
         (λ ns. (
           (λ _. tt),
-          (
-            words_keyless (len R d) b o ns,
-            slots_keyless t b z.block_life d.sharing d.table (first R d) o z.names ns,
-          ),
+          (words_keyless (len R d) b o ns, slots_keyless t b z.block_life d.sharing d.table (first R d) o z.names ns),
         )),
-        back_keyless b o (len R d),
+        back_keyless R s b o (len R d),
       )
 
   beside_keyless : (d : BucketView) (t : Turn) (p : Ptr) → Keyless (beside_pointer R d t p)
@@ -127,13 +96,7 @@ module _ (R : RattleType) (s : IsSend R) where
     (λ _. tt),
     (
       (tt, (tt, reached_keyless d.table (shown_by d))),
-      (
-        tt,
-        (
-          stands_keyless d t (block_ptr b o) z.0,
-          token_keyless (block_ty R (len R d)) (block_ptr b o),
-        ),
-      ),
+      (tt, (stands_keyless d t (block_ptr b o) z.0, token_keyless (block_ty R (len R d)) (block_ptr b o))),
     ),
   )
 
@@ -144,24 +107,21 @@ module _ (R : RattleType) (s : IsSend R) where
   row_keyless d t z κ = ((λ _. tt), (tt, λ νs. chain_keyless νs κ (z.block_life ∷ t.life)))
 
   rests_keyless : (owed : Bool) (b e : ℕ) (v : Option R.Denot) → Keyless (rests R owed b e v)
-  rests_keyless false b e v = place_keyless v b e
+  rests_keyless false b e v = place_keyless R s v b e
   rests_keyless true b e None = λ z. (tt, value_keyless b e z.1)
   rests_keyless true b e (Some x) = λ z. (tt, (tt, value_keyless b e z.1))
 
   slots_rest_keyless : (sharing : Option GName) (k n i b o : ℕ) (ns : List ℕ) → Keyless (slots_rest R sharing k n i b o ns)
   slots_rest_keyless sharing k zero i b o ns = tt
   slots_rest_keyless sharing k (suc n) i b o ns = (
-    (λ z. (
-      (λ _. tt),
-      (told_or_untold_keyless R sharing (i + k) z.0, rests_keyless z.1 b (value_offset R o i) z.0),
-    )),
+    (λ z. ((λ _. tt), (told_or_untold_keyless R sharing (i + k) z.0, rests_keyless z.1 b (value_offset R o i) z.0))),
     slots_rest_keyless sharing k n (suc i) b o ns,
   )
 
   block_rests_keyless : (sharing : Option GName) (k n b o : ℕ) → Keyless (block_rests R sharing k n b o)
   block_rests_keyless sharing k n b o = (
     (λ ns. ((λ _. tt), (words_keyless n b o ns, slots_rest_keyless sharing k n 0 b o ns))),
-    back_keyless b o n,
+    back_keyless R s b o n,
   )
 
   pub at_rest_keyless : (d : BucketView) (p : Ptr) → Keyless (at_rest R d p)
@@ -191,7 +151,7 @@ module _ (R : RattleType) (s : IsSend R) where
     (λ _. tt),
     (
       (λ νs. chain_keyless νs β z.0),
-      each_keyless (seen_slot R d p z.0 z.1) names 0
-          (λ η i. seen_value_keyless d p z.0 η i (is_set_in z.1 i)),
+      each_keyless (seen_slot R d p z.0 z.1)
+          (λ η i. seen_value_keyless d p z.0 η i (is_set_in z.1 i)) names 0,
     ),
   )

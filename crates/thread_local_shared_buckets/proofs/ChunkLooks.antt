@@ -8,9 +8,9 @@ use Rattle.std.proofs.Math.Nat.{add-mul}
 use Rattle.std.proofs.lemmas.List.{set-get_or}
 use Rattle.std.specs.Prelude.{slice_index}
 use seplogic.Ra.Ura.{Ura}
-use base.Logic.{SProp, ent, sep, wand, ex, all, all_e, guard, guard_i, upd_i, apply∗}
+use base.Logic.{SProp, ex, all, all_e, guard, guard_i, upd_i, apply∗}
 use base.Fml.{Lft, GName, Share, Fml, ftrue, fsep, fex, fbor, flft, fres}
-use types.Logic.{Logic, sem}
+use types.Logic.{Logic}
 use types.Kit.{‵, raw, ◌⊛◌, some, given, learn, fsplit, keep, use2, check, show, rewrite, frame, assume, ◌$◌, ◌∵◌, !, qed}
 use types.Kit.{suffices, by, pick, fpick, move, drop, split, split3, fsplit3, fjoin, fjoin3, fpack, use1, done}
 use types.Tokens.{res_dup}
@@ -39,6 +39,7 @@ use Rattle.thread_local_ids.specs.Views.{TokenView}
 use Rattle.thread_local_ids.specs.TokenLists.{AllOf, tell_each}
 use Rattle.thread_local_ids.proofs.TokenListLaws.{slot_agrees}
 use Rattle.thread_local_ids.proofs.ToldElements.{told_dup}
+use Rattle.thread_local_model.proofs.Signs.{signs}
 
 -- a flag of a chunk, by the chunk's word
 set_at : (ns : List ℕ) (c word i : ℕ) → slice_index ns c ≡ word → i / 64 ≡ c → is_set word (i % 64) ≡ true
@@ -88,24 +89,11 @@ set_inside R n c word bit ns at are small set =
 module _ {M : Type 1} {𝓤 : Ura M} (𝓛 : Logic 𝓤) where
   open 𝓛 use {A}
 
-  abbrev Pr : Type 2
-  Pr = SProp 𝓤
-
-  abbrev ◌⊢◌ : Pr → Pr → Type 1
-  P ⊢ Q = ent 𝓤 P Q
-
-  abbrev ◌∗◌ : Pr → Pr → Pr
-  P ∗ Q = sep 𝓤 P Q
-
-  abbrev ◌-∗◌ : Pr → Pr → Pr
-  P -∗ Q = wand 𝓤 P Q
-
-  abbrev ⟦◌⟧ : Fml → Pr
-  ⟦ P ⟧ = sem 𝓛 P
-
+  open signs 𝓛 use {⟦◌⟧, ◌⊢◌, ◌∗◌, ◌-∗◌}
   infix 26 ◌⊢◌
   infixr 35 ◌∗◌
   infixr 30 ◌-∗◌
+
   -- where each element keeps one formula and gives another, all of them do
   pub each_gives : {X : Type 0} (F G : X → ℕ → Fml) (xs : List X) (j : ℕ)
       → ((x : X) (k : ℕ) → ⟦ F x k ⟧ ⊢ ⟦ F x k ⟧ ∗ ⟦ G x k ⟧)
@@ -259,7 +247,7 @@ module _ {M : Type 1} {𝓤 : Ura M} (𝓛 : Logic 𝓤) where
     Flags n = word b (word_offset R (len R d) o c) n
 
     -- the word and the copies, taken out of P, with the way back
-    abbrev Out : Pr → ℕ → Pr
+    abbrev Out : SProp 𝓤 → ℕ → SProp 𝓤
     Out P n = guard 𝓤 (n < 2 ^ 64) (⟦ Flags n ⟧ ∗ ⟦ copies n ⟧ ∗ (⟦ Flags n ⟧ -∗ P))
 
     abbrev Slots : List ℕ → Fml
@@ -304,7 +292,7 @@ module _ {M : Type 1} {𝓤 : Ura M} (𝓛 : Logic 𝓤) where
         fpack ! (AreFlagWords R (len R d) ns) (λ _. ftrue) are $ fjoin3 ! $
         fpack ! (List ℕ) Slots ns $ done !))
 
-    lifted : (P Q X : Pr) → P ∗ X ⊢ Q → ex 𝓤 (Out P) ∗ X ⊢ ex 𝓤 (Out Q)
+    lifted : (P Q X : SProp 𝓤) → P ∗ X ⊢ Q → ex 𝓤 (Out P) ∗ X ⊢ ex 𝓤 (Out Q)
     lifted P Q X law =
         qed 𝓛 (some (λ (n : ℕ).
         given (n < 2 ^ 64) (‵ (Flags n) ⊛ ‵ (copies n) ⊛ raw (⟦ Flags n ⟧ -∗ P)))
@@ -313,10 +301,10 @@ module _ {M : Type 1} {𝓤 : Ura M} (𝓛 : Logic 𝓤) where
         show ! (Out Q) n $ check ! fits $ frame ! $ frame ! $ assume ! (‵ (Flags n)) $
         move ! (0 ∷ 1 ∷ []) $ use2 𝓛 (raw P) (apply∗ 𝓤 ⟦ Flags n ⟧ P) $ by ! law))
 
-    abbrev Told : Pr → Pr
+    abbrev Told : SProp 𝓤 → SProp 𝓤
     Told P = ⟦ Telling ⟧ -∗ ex 𝓤 (Out P)
 
-    told_lifted : (P Q X : Pr) → P ∗ X ⊢ Q → Told P ∗ X ⊢ Told Q
+    told_lifted : (P Q X : SProp 𝓤) → P ∗ X ⊢ Q → Told P ∗ X ⊢ Told Q
     told_lifted P Q X law =
         qed 𝓛 (raw (Told P) ∷ raw X ∷ []) ∵ assume ! (‵ Telling) $
         use2 𝓛 (raw (ex 𝓤 (Out P))) (apply∗ 𝓤 ⟦ Telling ⟧ (ex 𝓤 (Out P))) $ by ! (lifted P Q X law)
@@ -328,7 +316,7 @@ module _ {M : Type 1} {𝓤 : Ura M} (𝓛 : Logic 𝓤) where
         ⊢ asks 𝓛 (block_ptr b (word_offset R (len R d) o c)) (λ n. n) always (λ n. fsep (flft t.life q) (copies n))
     looks q =
         let at : ℕ = word_offset R (len R d) o c in
-        let L : ℕ → Pr = Lies 𝓛 t.life q I b at (λ n. n) copies in
+        let L : ℕ → SProp 𝓤 = Lies 𝓛 t.life q I b at (λ n. n) copies in
         bucket_opened.opened 𝓛 t.life q I b at (λ n. n) copies (⟦ Which ⟧ ∗ ⟦ Telling ⟧) (qed 𝓛
         (‵ I ∷ (‵ Which ⊛ ‵ Telling) ∷ []) ∵
         suffices ! _ (upd_i 𝓤 (ex 𝓤 L)) $ move ! (1 ∷ []) $ split ! $ move ! (2 ∷ 0 ∷ []) $
@@ -338,6 +326,6 @@ module _ {M : Type 1} {𝓤 : Ura M} (𝓛 : Logic 𝓤) where
         given (n < 2 ^ 64) (‵ (Flags n) ⊛ ‵ (copies n) ⊛ raw (⟦ Flags n ⟧ -∗ ⟦ I ⟧))))
         (apply∗ 𝓤 ⟦ Telling ⟧ (ex 𝓤 (Out ⟦ I ⟧))) $
         pick ! (λ n. learn ! (λ fits. split3 ! $
-        show ! L n $ frame ! $ assume ! (‵ (Flags n)) $ let Then : Pr = ⟦ I ⟧ ∗ ⟦ copies n ⟧ in
+        show ! L n $ frame ! $ assume ! (‵ (Flags n)) $ let Then : SProp 𝓤 = ⟦ I ⟧ ∗ ⟦ copies n ⟧ in
         suffices ! _ (upd_i 𝓤 Then) $ move ! (0 ∷ 2 ∷ []) $
         use2 𝓛 (‵ I) (apply∗ 𝓤 ⟦ Flags n ⟧ ⟦ I ⟧) $ keep ! (0 ∷ 1 ∷ []) $ done !)))

@@ -4,9 +4,9 @@ use Rattle.std.proofs.Common.{◌≡◌, ℕ, ◌+◌, ◌*◌, ◌/◌, ◌%◌
 use Rattle.std.proofs.Common.{lit<, Option, None, Some, is_some}
 use Rattle.std.proofs.lemmas.Nat.{mod_below}
 use seplogic.Ra.Ura.{Ura}
-use base.Logic.{SProp, ent, sep, wand, ex, guard, upd, upd_i}
+use base.Logic.{SProp, ex, guard, upd, upd_i}
 use base.Fml.{GName, Share, Fml, fsep, fbor, flft, ftrue, fex}
-use types.Logic.{Logic, sem}
+use types.Logic.{Logic}
 use types.Kit.{‵, raw, ◌⊛◌, given, settle, suffices, show, check, frame, ◌$◌, ◌∵◌, !, qed, by, move, split, split3}
 use types.Kit.{fjoin, fpack, learn, use2, use3, done}
 use denote.RattleType.{RattleType}
@@ -22,6 +22,7 @@ use Rattle.thread_local_shared_buckets.specs.Shared.{name_at, BucketView, Turn, 
 use Rattle.thread_local_shared_buckets.specs.Claims.{claims_side, IsTold}
 use Rattle.thread_local_shared_buckets.proofs.SlotSteps as general
 use Rattle.thread_local_shared_buckets.proofs.Moves as moves
+use Rattle.thread_local_model.proofs.Signs.{signs}
 
 module _ {M : Type 1} {𝓤 : Ura M} (𝓛 : Logic 𝓤) (R : RattleType) (d : BucketView) (t : Turn)
     (wb wo : ℕ) (s : StandingBlock) (i k e b : ℕ) (low : i < length s.names)
@@ -29,24 +30,11 @@ module _ {M : Type 1} {𝓤 : Ura M} (𝓛 : Logic 𝓤) (R : RattleType) (d : B
     (at_b : block_of s.at ≡ b) where
   open 𝓛 use {H, A}
 
-  abbrev Pr : Type 2
-  Pr = SProp 𝓤
-
-  abbrev ◌⊢◌ : Pr → Pr → Type 1
-  P ⊢ Q = ent 𝓤 P Q
-
-  abbrev ◌∗◌ : Pr → Pr → Pr
-  P ∗ Q = sep 𝓤 P Q
-
-  abbrev ◌-∗◌ : Pr → Pr → Pr
-  P -∗ Q = wand 𝓤 P Q
-
-  abbrev ⟦◌⟧ : Fml → Pr
-  ⟦ P ⟧ = sem 𝓛 P
-
+  open signs 𝓛 use {⟦◌⟧, ◌⊢◌, ◌∗◌, ◌-∗◌}
   infix 26 ◌⊢◌
   infixr 35 ◌∗◌
   infixr 30 ◌-∗◌
+
   abbrev pub η : GName
   η = name_at s.names i
 
@@ -65,10 +53,10 @@ module _ {M : Type 1} {𝓤 : Ura M} (𝓛 : Logic 𝓤) (R : RattleType) (d : B
   abbrev pub Holds : Option R.Denot → Fml
   Holds = general.Holds 𝓛 R d t wb wo s i k e b low at_k at_e at_b
 
-  abbrev Left : Option R.Denot → Pr → Who → Pr
+  abbrev Left : Option R.Denot → SProp 𝓤 → Who → SProp 𝓤
   Left = general.Left 𝓛 R d t wb wo s i k e b low at_k at_e at_b
 
-  abbrev Turned : Share → (ℕ → ℕ) → (ℕ → Fml) → ℕ → Option R.Denot → Option R.Denot × Who → Pr
+  abbrev Turned : Share → (ℕ → ℕ) → (ℕ → Fml) → ℕ → Option R.Denot → Option R.Denot × Who → SProp 𝓤
   Turned = general.Turned 𝓛 R d t wb wo s i k e b low at_k at_e at_b
 
   abbrev pub Right : Fml
@@ -165,7 +153,7 @@ module _ {M : Type 1} {𝓤 : Ura M} (𝓛 : Logic 𝓤) (R : RattleType) (d : B
       let Offered : Fml = moves.Offer 𝓛 R t b s.block_life d.sharing d.table k e η x in
       general.stepped_by 𝓛 R d t wb wo s i k e b low at_k at_e at_b q with_flag Gains Offered
       (λ n fits v w is.
-      let F : Option R.Denot × Who → Pr = Turned q with_flag Gains n v in
+      let F : Option R.Denot × Who → SProp 𝓤 = Turned q with_flag Gains n v in
       qed 𝓛 (‵ (Stays v) ∷ ‵ (Had v w) ∷ ‵ Offered ∷ []) ∵
       use3 𝓛
       (raw

@@ -2,18 +2,18 @@
 -- one. Assumes `Logic`.
 use Rattle.std.proofs.Common.{◌≡◌, ◌≢◌, ℕ, zero, suc, ◌==◌, Bool, true, false, [], refl, ap, subst, sym, ◌∙◌}
 use Rattle.std.proofs.lemmas.Bool.{eqb-true, eq-eqb}
-use mathlib.Core.Option.{Option, some}
-use mathlib.Mathlib.Data.Part.{Part, ◌∈◌}
+use mathlib.Core.Option.{some}
+use mathlib.Mathlib.Data.Part.{◌∈◌}
 use seplogic.Ra.Ura.{Ura}
 use seplogic.Ra.Constructions.Opt
-use seplogic.Ra.IProd.{mem-op_iff}
 use base.Logic.{ent, sep, ex, emp, via}
 use base.Fml.{GName, Fml, fown}
 use types.Logic.{Logic, sem}
 use types.Keyed.{keyed}
 use types.Owned.{own_new, basic}
 use base.Fraction.{full_share}
-use Rattle.thread_local_ids.specs.Rights.{telling, Element, element_if, right_owns}
+use Rattle.thread_local_ids.specs.Rights.{telling, element_if, right_owns}
+use Rattle.thread_local_ids.proofs.RightElements.{at_key, at_each_key}
 
 -- whether a key is k or a later one
 abbrev from : ℕ → ℕ → Bool
@@ -38,15 +38,6 @@ from_apart (suc k) (suc j) n = from_apart k j (λ e. n (ap suc e))
 -- the tokens under a name, from the key k on
 unfoldable pub tokens_from : GName → ℕ → Fml
 tokens_from γ k = fown (keyed telling) γ (λ j. element_if (from k j))
-
-abbrev Row : Type 0
-Row = ℕ → Option Element
-
-abbrev at_key : Option Element → Option Element → Part {0, 0} (Option Element)
-at_key = Opt.op telling.op
-
-at_each_key : (f g h : Row) → ((j : ℕ) → h j ∈ at_key (f j) (g j)) → h ∈ (keyed telling).op f g
-at_each_key f g h = (mem-op_iff {A = λ (_ : ℕ). Option Element} (λ _. at_key) {f = f} {g = g} {h = h}).1
 
 cut_at : (is here after : Bool) → (is ≡ true → here ≡ true) → (is ≡ true → after ≡ false)
     → (is ≡ false → here ≡ after)

@@ -3,9 +3,9 @@
 use Rattle.std.proofs.Common.{◌≡◌, ℕ, zero, suc, ◌+◌, ◌%◌, ◌^◌, ◌<◌, Bool, true, false, [], ◌∷◌, length, refl, sym}
 use Rattle.std.proofs.Common.{subst, arith, Option, None, is_some}
 use seplogic.Ra.Ura.{Ura}
-use base.Logic.{SProp, ent, sep, wand, ex, all, upd, upd_i, id⊢, apply∗}
+use base.Logic.{SProp, ex, all, upd, upd_i, id⊢, apply∗}
 use base.Fml.{GName, Share, Fml, ftrue, fsep, fbor}
-use types.Logic.{Logic, sem}
+use types.Logic.{Logic}
 use types.Kit.{‵, raw, ◌⊛◌, some, given, pick, drop, frame, assume, suffices, ◌$◌, ◌∵◌, !, qed, by, move, keep, split}
 use types.Kit.{split3, rewrite, group, fsplit, fsplit3, fjoin, fjoin3, fpick, fpack, learn, use1, use2, use3, done}
 use denote.RattleType.{RattleType}
@@ -25,28 +25,16 @@ use Rattle.thread_local_shared_buckets.proofs.Inside.{Next, quietly}
 use Rattle.thread_local_shared_buckets.proofs.Inside as inside
 use Rattle.thread_local_shared_buckets.proofs.SlotSteps as steps
 use Rattle.thread_local_shared_buckets.proofs.Moves as moves
+use Rattle.thread_local_model.proofs.Signs.{signs}
 
 module _ {M : Type 1} {𝓤 : Ura M} (𝓛 : Logic 𝓤) (R : RattleType) where
   open 𝓛 use {H, A}
 
-  abbrev Pr : Type 2
-  Pr = SProp 𝓤
-
-  abbrev ◌⊢◌ : Pr → Pr → Type 1
-  P ⊢ Q = ent 𝓤 P Q
-
-  abbrev ◌∗◌ : Pr → Pr → Pr
-  P ∗ Q = sep 𝓤 P Q
-
-  abbrev ◌-∗◌ : Pr → Pr → Pr
-  P -∗ Q = wand 𝓤 P Q
-
-  abbrev ⟦◌⟧ : Fml → Pr
-  ⟦ P ⟧ = sem 𝓛 P
-
+  open signs 𝓛 use {⟦◌⟧, ◌⊢◌, ◌∗◌, ◌-∗◌}
   infix 26 ◌⊢◌
   infixr 35 ◌∗◌
   infixr 30 ◌-∗◌
+
   -- one slot, taken out of those that have no block yet
   unborn_out : (sharing : Option GName) (table : ℕ) (t : Turn) (n k i k' : ℕ) → i < n → k' ≡ i + k
       → ⟦ all_unborn R sharing table t n k ⟧
@@ -79,13 +67,13 @@ module _ {M : Type 1} {𝓤 : Ura M} (𝓛 : Logic 𝓤) (R : RattleType) where
     place_in s = value_offset R (count_of s.at) i
 
     -- the word of flags and the slot of a standing block, taken out of what holds them
-    abbrev pub Out : (s : StandingBlock) → i < length s.names → Pr → ℕ → Pr
+    abbrev pub Out : (s : StandingBlock) → i < length s.names → SProp 𝓤 → ℕ → SProp 𝓤
     Out s l P = inside.Out 𝓛 R d t wb wo s i k (place_in s) (block_of s.at) l at_k refl refl P
 
     abbrev Pointed : Ptr → Fml
     Pointed p = fsep (cell wb wo p) (beside_pointer R d t p)
 
-    module _ (X Z : Pr) (null : ⟦ Unborn ⟧ ∗ (⟦ Unborn ⟧ -∗ ⟦ I ⟧) ∗ X ⊢ Z)
+    module _ (X Z : SProp 𝓤) (null : ⟦ Unborn ⟧ ∗ (⟦ Unborn ⟧ -∗ ⟦ I ⟧) ∗ X ⊢ Z)
         (block : (s : StandingBlock) (l : i < length s.names) → ex 𝓤 (Out s l ⟦ I ⟧) ∗ X ⊢ Z) where
       in_bucket : (p : Ptr) → ⟦ Pointed p ⟧ ∗ X ⊢ Z
       in_bucket null_ptr =
@@ -149,7 +137,7 @@ module _ {M : Type 1} {𝓤 : Ura M} (𝓛 : Logic 𝓤) (R : RattleType) where
     abbrev Empty : Fml
     Empty = fsep (right_owns t.filled k) (untold_in d.sharing k)
 
-    abbrev Swapped : Pr
+    abbrev Swapped : SProp 𝓤
     Swapped = upd 𝓤 (⟦ I ⟧ ∗ ⟦ Right ⟧)
 
     -- the right comes back, in exchange for the pass
@@ -184,7 +172,7 @@ module _ {M : Type 1} {𝓤 : Ura M} (𝓛 : Logic 𝓤) (R : RattleType) where
         let D : Option R.Denot → Who → Fml = lies_with_slot R t b s.block_life d.sharing d.table k e η in
         let Flags : ℕ → Fml = inside.Flags 𝓛 R d t wb wo s i k e b l at_k refl refl in
         let Slot : Bool → Fml = inside.Slot 𝓛 R d t wb wo s i k e b l at_k refl refl in
-        let Back : (n : ℕ) → Next n bit → Pr =
+        let Back : (n : ℕ) → Next n bit → SProp 𝓤 =
         inside.Back 𝓛 R d t wb wo s i k e b l at_k refl refl ⟦ I ⟧ in
         qed 𝓛 (some (λ (n : ℕ).
         given (n < 2 ^ 64) (‵ (Flags n) ⊛ ‵ (Slot (is_set n bit)) ⊛ raw (all 𝓤 (Back n))))

@@ -6,7 +6,7 @@ use Rattle.std.specs.Prelude.{slice_index_or, nat_lt}
 use Rattle.std.proofs.lemmas.Bool.{eqb-true, eqb-false, eq-eqb, lt-ltb, ltb-true}
 use seplogic.Ra.Ura.{Ura}
 use base.Fml.{Fml, ftrue, fsep}
-use base.Logic.{SProp, ent, sep, emp}
+use base.Logic.{ent, emp}
 use types.Logic.{Logic, sem}
 use types.Kit.{‵, ◌⊛◌, ◌$◌, ◌∵◌, !, qed, move, use0, use1, use2, split, fsplit, fjoin, rewrite, drop, done}
 use denote.RattleType.{RattleType}
@@ -21,6 +21,7 @@ use Rattle.thread_local_shared_buckets.specs.Shared.{BucketView, ids_shown, show
 use Rattle.thread_local_shared_buckets.specs.TableView.{TableView, bucket_view}
 use Rattle.thread_local_shared_buckets.specs.Grown.{is_among, stand_among_below, stand_among, only_reserved}
 use Rattle.thread_local_shared_buckets.specs.Lent.{adds_no_bucket, view_with}
+use Rattle.thread_local_model.proofs.Signs.{signs}
 
 -- ---- which buckets stand
 both_so : (t r : Bool) → (if t then r else false) ≡ true → (t ≡ true) × (r ≡ true)
@@ -125,20 +126,10 @@ module _ (R : RattleType) where
   rows_known s b (cs ∷ rows) = fsep (row_known (bucket_view s b) cs) (rows_known s (suc b) rows)
 
 module _ {M : Type 1} {𝓤 : Ura M} (𝓛 : Logic 𝓤) (R : RattleType) where
-  abbrev Pr : Type 2
-  Pr = SProp 𝓤
-
-  abbrev ◌⊢◌ : Pr → Pr → Type 1
-  P ⊢ Q = ent 𝓤 P Q
-
-  abbrev ◌∗◌ : Pr → Pr → Pr
-  P ∗ Q = sep 𝓤 P Q
-
-  abbrev ⟦◌⟧ : Fml → Pr
-  ⟦ P ⟧ = sem 𝓛 P
-
+  open signs 𝓛 use {⟦◌⟧, ◌⊢◌, ◌∗◌}
   infix 26 ◌⊢◌
   infixr 35 ◌∗◌
+
   pub known_apart : (s : TableView) (b : ℕ) (rows : List (Slots R))
       → ⟦ rows_known R s b rows ⟧ ⊢ ⟦ rows_telling R s.sharing b rows ⟧ ∗ ⟦ rows_grown R s b rows ⟧
   known_apart s b [] = qed 𝓛 (‵ ftrue ∷ []) ∵ nothing ! $ done !

@@ -7,10 +7,10 @@ use Rattle.std.proofs.lemmas.List.{get_or-set_same, get_or-set_other}
 use Rattle.std.specs.Prelude.{slice_index}
 use seplogic.Ra.Ura.{Ura}
 use mathlib.Core.List.{not-mem-nil}
-use base.Logic.{SProp, ent, sep, wand, upd, ex, all, all_e, guard, upd_i, apply∗, id⊢}
+use base.Logic.{SProp, upd, ex, all, all_e, guard, upd_i, apply∗, id⊢}
 use base.Stored.{Gv, gnil, gcons}
 use base.Fml.{Lft, GName, Share, Fml, ftrue, fsep, fex, fauth, fres, fbor, flft, finv, fnamed}
-use types.Logic.{Logic, sem}
+use types.Logic.{Logic}
 use types.Kit.{‵, raw, ◌⊛◌, given, some, later, frame, each as for_each, assume, suffices, settle, check, show, ◌$◌}
 use types.Kit.{◌∵◌, !, qed, by, move, keep, drop, split, split3, pick, rewrite, fsplit, fsplit3, fjoin, fjoin3, fpick}
 use types.Kit.{fpack, learn, await, updating, now, use1, use2, use3, done}
@@ -28,6 +28,7 @@ use Rattle.thread_local_shared_buckets.specs.Shared.{name_at, BucketView, Turn, 
 use Rattle.thread_local_shared_buckets.specs.Shared.{block_code, shared_slot, numbered_slot, AreFlagWords, slots_under}
 use Rattle.thread_local_shared_buckets.specs.Shared.{len, first, Sized, settled, standing, beside_pointer}
 use Rattle.thread_local_shared_buckets.specs.Shared.{bucket_invariant}
+use Rattle.thread_local_model.proofs.Signs.{signs}
 
 block_code-apart : {Z : Type 0} (s : StandingBlock) → block_code s ≡ gnil → Z
 block_code-apart s e = cc
@@ -78,26 +79,13 @@ module _ (R : RattleType) (n i : ℕ) (ns : List ℕ) (inside : i / 64 < length 
 module _ {M : Type 1} {𝓤 : Ura M} (𝓛 : Logic 𝓤) where
   open 𝓛 use {H, A}
 
-  abbrev Pr : Type 2
-  Pr = SProp 𝓤
-
-  abbrev ◌⊢◌ : Pr → Pr → Type 1
-  P ⊢ Q = ent 𝓤 P Q
-
-  abbrev ◌∗◌ : Pr → Pr → Pr
-  P ∗ Q = sep 𝓤 P Q
-
-  abbrev ◌-∗◌ : Pr → Pr → Pr
-  P -∗ Q = wand 𝓤 P Q
-
-  abbrev ⟦◌⟧ : Fml → Pr
-  ⟦ P ⟧ = sem 𝓛 P
-
+  open signs 𝓛 use {⟦◌⟧, ◌⊢◌, ◌∗◌, ◌-∗◌}
   infix 26 ◌⊢◌
   infixr 35 ◌∗◌
   infixr 30 ◌-∗◌
+
   -- a ghost step inside an invariant that holds a borrow, which a token opens
-  pub quietly : (κ : Lft) (q : Share) (I : Fml) (X Q : Pr) → ⟦ I ⟧ ∗ X ⊢ upd 𝓤 (⟦ I ⟧ ∗ Q)
+  pub quietly : (κ : Lft) (q : Share) (I : Fml) (X Q : SProp 𝓤) → ⟦ I ⟧ ∗ X ⊢ upd 𝓤 (⟦ I ⟧ ∗ Q)
       → A.inv (fbor κ I) ∗ A.lft κ q ∗ X ⊢ H.⇛ (Q ∗ A.lft κ q)
   quietly κ q I X Q h = qed 𝓛 (‵ (finv (fbor κ I)) ∷ ‵ (flft κ q) ∷ raw X ∷ []) ∵ updating ! $
       use1 𝓛 (some (λ (j : ℕ). ‵ (fnamed j (fbor κ I)))) (𝓛.invs.inv_named (fbor κ I)) $
@@ -139,7 +127,7 @@ module _ {M : Type 1} {𝓤 : Ura M} (𝓛 : Logic 𝓤) where
         each (numbered_slot R t b s.block_life d.sharing d.table (first R d) start ms) s.names 0)
         ns
 
-    module _ (Out : Pr → Pr) (lifted : (P Q X : Pr) → P ∗ X ⊢ Q → Out P ∗ X ⊢ Out Q)
+    module _ (Out : SProp 𝓤 → SProp 𝓤) (lifted : (P Q X : SProp 𝓤) → P ∗ X ⊢ Q → Out P ∗ X ⊢ Out Q)
         (in_row : (ns : List ℕ) → length s.names ≡ len R d → ⟦ Under ns ⟧ ⊢ Out ⟦ fex (List ℕ) Under ⟧) where
       pub block_in : (p : Ptr) (r : Share) → ⟦ standing R d t p (s, r) ⟧ ⊢ Out ⟦ standing R d t p (s, r) ⟧
       block_in p r =
@@ -214,11 +202,11 @@ module _ {M : Type 1} {𝓤 : Ura M} (𝓛 : Logic 𝓤) where
     Flags n = word b (word_offset R (len R d) (count_of s.at) (i / 64)) n
 
     -- the way back: the word is whole again, and only this slot's bit of it may have changed
-    abbrev pub Back : Pr → (n : ℕ) → Next n (i % 64) → Pr
+    abbrev pub Back : SProp 𝓤 → (n : ℕ) → Next n (i % 64) → SProp 𝓤
     Back P n y = (⟦ Flags y.word ⟧ ∗ ⟦ Slot y.set ⟧) -∗ P
 
     -- the word and the slot, taken out of what holds them
-    abbrev pub Out : Pr → ℕ → Pr
+    abbrev pub Out : SProp 𝓤 → ℕ → SProp 𝓤
     Out P n = guard 𝓤 (n < 2 ^ 64) (⟦ Flags n ⟧ ∗ ⟦ Slot (is_set n (i % 64)) ⟧ ∗ all 𝓤 (Back P n))
 
     abbrev o : ℕ
@@ -257,14 +245,14 @@ module _ {M : Type 1} {𝓤 : Ura M} (𝓛 : Logic 𝓤) where
         let c : ℕ = i / 64 in
         let n : ℕ = slice_index ns c in
         let Fs : ℕ → ℕ → Fml = flags_at R (len R d) b o in
-        let Found : ℕ → Pr = Out ⟦ fex (List ℕ) Slots ⟧ in
+        let Found : ℕ → SProp 𝓤 = Out ⟦ fex (List ℕ) Slots ⟧ in
         let name : ℕ = get_or s.names i 0 in
         qed 𝓛 (‵ (Slots ns) ∷ []) ∵ fsplit3 ! $ fpick ! (λ are. drop ! $
         let inside : c < length ns =
         subst (λ (m : ℕ). c < m) (sym are.0)
         (in_chunks (len R d) i (subst (λ (m : ℕ). i < m) long low)) in
         let T : Next n (i % 64) → List ℕ = λ y. turned R (len R d) i ns inside y in
-        let Later : Next n (i % 64) → Pr = λ y. ⟦ Numbered (T y) name i ⟧ -∗ ⟦ Row (T y) ⟧ in
+        let Later : Next n (i % 64) → SProp 𝓤 = λ y. ⟦ Numbered (T y) name i ⟧ -∗ ⟦ Row (T y) ⟧ in
         use1 𝓛 (‵ (Fs n c) ⊛ raw (all 𝓤 (Put 𝓛 Fs ns 0 c c)))
         (each_at 𝓛 Fs ns 0 c c 0 (omega arith) inside) $
         split ! $ move ! (2 ∷ []) $
@@ -275,7 +263,7 @@ module _ {M : Type 1} {𝓤 : Ura M} (𝓛 : Logic 𝓤) where
         -- [the slot; its way back; the word; its way back]
         show ! Found n $ check ! (are.1 c) $ move ! (2 ∷ 0 ∷ []) $ frame ! $ frame ! $
         for_each ! (Back ⟦ fex (List ℕ) Slots ⟧ n) (λ y.
-        let W : Pr = ⟦ each Fs (T y) 0 ⟧ in
+        let W : SProp 𝓤 = ⟦ each Fs (T y) 0 ⟧ in
         assume ! (‵ (Flags y.word) ⊛ ‵ (Slot y.set)) $ split ! $ move ! (3 ∷ []) $
         use1 𝓛 (raw (Put 𝓛 Fs ns 0 c c y.word)) (all_e 𝓤 (Put 𝓛 Fs ns 0 c c) y.word) $
         move ! (1 ∷ 0 ∷ []) $
@@ -290,7 +278,7 @@ module _ {M : Type 1} {𝓤 : Ura M} (𝓛 : Logic 𝓤) where
         fjoin3 ! $ fpack ! (List ℕ) Slots (T y) $ done !))
 
     -- the same, taken out of more than what holds them
-    pub lifted : (P Q X : Pr) → P ∗ X ⊢ Q → ex 𝓤 (Out P) ∗ X ⊢ ex 𝓤 (Out Q)
+    pub lifted : (P Q X : SProp 𝓤) → P ∗ X ⊢ Q → ex 𝓤 (Out P) ∗ X ⊢ ex 𝓤 (Out Q)
     lifted P Q X law =
         qed 𝓛 (some (λ (n : ℕ).
         given (n < 2 ^ 64)
@@ -298,7 +286,7 @@ module _ {M : Type 1} {𝓤 : Ura M} (𝓛 : Logic 𝓤) where
         ∷ raw X ∷ []) ∵
         pick ! (λ n. learn ! (λ fits. split3 ! $
         show ! (Out Q) n $ check ! fits $ frame ! $ frame ! $ for_each ! (Back Q n) (λ y.
-        let T : Pr = ⟦ Flags y.word ⟧ ∗ ⟦ Slot y.set ⟧ in
+        let T : SProp 𝓤 = ⟦ Flags y.word ⟧ ∗ ⟦ Slot y.set ⟧ in
         assume ! (‵ (Flags y.word) ⊛ ‵ (Slot y.set)) $
         move ! (1 ∷ []) $ use1 𝓛 (raw (Back P n y)) (all_e 𝓤 (Back P n) y) $ move ! (1 ∷ 0 ∷ []) $
         use2 𝓛 (raw P) (apply∗ 𝓤 T P) $ by ! law)))

@@ -2,10 +2,9 @@
 -- `Logic`.
 use Rattle.std.proofs.Common.{◌≡◌, ℕ, ◌+◌, ◌<◌, Bool, [], ◌∷◌, length, refl, sym, subst, Option, None}
 use seplogic.Ra.Ura.{Ura}
-use base.Logic.{SProp, ent, sep}
 use base.Fml.{Lft, Share, Fml, ftrue, fbor, flft, fres, finv}
 use base.Before.{before}
-use types.Logic.{Logic, sem}
+use types.Logic.{Logic}
 use types.Na.{before_dup}
 use types.Kit.{‵, ◌⊛◌, later, ◌$◌, ◌∵◌, !, qed, move, drop, split, rewrite, group, fsplit, fjoin, fpick, fpack, await}
 use types.Kit.{updating, now, use1, use2, done}
@@ -20,25 +19,16 @@ use Rattle.thread_local_shared_buckets.proofs.Loads.{part, reaches}
 use Rattle.thread_local_model.specs.Learnt.{Vacant}
 use Rattle.thread_local_shared_buckets.specs.Claims.{ClaimFields, claim_fields, IsOf, IsKept, value_at, has_slot, has_at, claim_owns}
 use Rattle.thread_local_shared_buckets.proofs.ClaimSteps as steps
+use Rattle.thread_local_model.proofs.Signs.{signs}
 
 module _ {M : Type 1} {𝓤 : Ura M} (𝓛 : Logic 𝓤) (R : RattleType) (d : BucketView) (t : Turn)
     (β : Lft) (wb wo pb o id i : ℕ) (sharing : Option ℕ) (reserved : Bool) where
   open 𝓛 use {H, A}
 
-  abbrev Pr : Type 2
-  Pr = SProp 𝓤
-
-  abbrev ◌⊢◌ : Pr → Pr → Type 1
-  P ⊢ Q = ent 𝓤 P Q
-
-  abbrev ◌∗◌ : Pr → Pr → Pr
-  P ∗ Q = sep 𝓤 P Q
-
-  abbrev ⟦◌⟧ : Fml → Pr
-  ⟦ P ⟧ = sem 𝓛 P
-
+  open signs 𝓛 use {⟦◌⟧, ◌⊢◌, ◌∗◌}
   infix 26 ◌⊢◌
   infixr 35 ◌∗◌
+
   abbrev w : Ptr
   w = block_ptr wb wo
 

@@ -3,14 +3,14 @@ use Rattle.std.proofs.Common.{◌≡◌, ℕ, ◌+◌, [], ◌∷◌, ◌++◌, 
 use mathlib.Core.Logic.{inl, inr}
 use seplogic.Ra.Ura.{Ura}
 use base.Fraction.{full_share}
-use base.Logic.{SProp, ent, sep, upd_i, id⊢, guard_i}
+use base.Logic.{SProp, upd_i, id⊢, guard_i}
 use base.Fml.{Lft, GName, Share, Incl, Fml, ftrue, fsep, fseps, fex, fwand, fupd, fdead, fauth, fbor, fobor, flft, Incl-trans}
 use base.Before.{before}
 use contract.Monad.{fact_i, fact_use}
 use contract.Monad as monad
 use contract.BorrowLft.{meet_⊑_left, meet_⊑_right, ⊑_meet}
 use ghost.Rules.{Toks, span}
-use types.Logic.{Logic, sem, lfts}
+use types.Logic.{Logic, lfts}
 use types.Kit.{‵, raw, ◌⊛◌, given, later, group, ◌$◌, ◌∵◌, !, qed, by, move, keep, drop, use1, use2, use3, split}
 use types.Kit.{split3, join, frame, fsplit, fsplit3, fjoin, fjoin3, fpick, fpack, learn, rewrite, assume, suffices}
 use types.Kit.{await, updating, now, done}
@@ -41,6 +41,7 @@ use Rattle.thread_local_model.specs.Learnt.{Learnt, Unknown, Missing, Standing, 
 use Rattle.thread_local_shared_buckets.specs.Known.{value_held}
 use Rattle.thread_local_shared_buckets.specs.Claims.{ClaimFields, has_slot, IsKept, IsOf, has_at, claim_owns, value_at, lasts}
 use Rattle.thread_local_shared_buckets.specs.Claims.{shows_value, claim_shares}
+use Rattle.thread_local_model.proofs.Signs.{signs}
 
 lasts_laws : (β : Lft) (R : RattleType) → RowLaws R → (b e : ℕ) (x : R.Denot) (j : Judged R) → ShrLaws (lasts R β b e x j)
 lasts_laws β R L b e x (inl j) = held_shr_laws β (shared_of R x b e) (L x b e)
@@ -71,20 +72,10 @@ claim_laws β R L c l state =
 module _ {M : Type 1} {𝓤 : Ura M} (𝓛 : Logic 𝓤) where
   open 𝓛 use {H, A}
 
-  abbrev Pr : Type 2
-  Pr = SProp 𝓤
-
-  abbrev ◌⊢◌ : Pr → Pr → Type 1
-  P ⊢ Q = ent 𝓤 P Q
-
-  abbrev ◌∗◌ : Pr → Pr → Pr
-  P ∗ Q = sep 𝓤 P Q
-
-  abbrev ⟦◌⟧ : Fml → Pr
-  ⟦ P ⟧ = sem 𝓛 P
-
+  open signs 𝓛 use {⟦◌⟧, ◌⊢◌, ◌∗◌}
   infix 26 ◌⊢◌
   infixr 35 ◌∗◌
+
   module _ (β : Lft) (R : RattleType) (L : RowLaws R) (table : ℕ) (c : ClaimFields) (x : R.Denot)
       (state : ℕ) (ν : Lft) (inc : Incl ν β) where
     abbrev v : Option R.Denot
@@ -368,7 +359,7 @@ module _ {M : Type 1} {𝓤 : Ura M} (𝓛 : Logic 𝓤) where
         let sm : Incl (span ts) ν = ⊑_meet (span ts) κ β sp (Incl-trans inc le) in
         let within : Incl ν β = meet_⊑_right κ β in
         let Known : Fml = tells R c.sharing c.id (Some x) in
-        let Got : Pr = ⟦ Told ⟧ ∗ ⟦ In ⟧ ∗ ⟦ Known ⟧ ∗ ⟦ Saw β R L table c x state ν within ⟧ in
+        let Got : SProp 𝓤 = ⟦ Told ⟧ ∗ ⟦ In ⟧ ∗ ⟦ Known ⟧ ∗ ⟦ Saw β R L table c x state ν within ⟧ in
         qed 𝓛 (‵ (fbor κ P) ∷ raw (lfts 𝓛 ts) ∷ []) ∵ updating ! $
         use1 𝓛 (‵ (fbor ν P)) (𝓛.bors.bor_shorten κ ν P (meet_⊑_left κ β)) $
         use2 𝓛

@@ -5,13 +5,13 @@ use mir.Syntax.{ty_ptr}
 use mir.Val.{Val}
 use base.Fraction.{full_share, left, right}
 use base.Stored.{gnil}
-use base.Logic.{SProp, ent, sep, wand, ex, all_e, upd_i, apply∗, id⊢}
+use base.Logic.{SProp, wand, ex, all_e, upd_i, apply∗, id⊢}
 use base.Meet.{meet_within}
 use base.Fml.{Lft, Incl, GName, Share, Fml, ftrue, fsep, fseps, fex, fwand, fupd, fdead, fres, fbor, flft, finv, fat, Incl-refl, Incl-trans}
 use base.Before.{before}
 use ghost.Rules.{thinned}
 use contract.BorrowLft.{meet_⊑_right}
-use types.Logic.{Logic, sem}
+use types.Logic.{Logic}
 use types.Kit.{‵, raw, ◌⊛◌, some, given, later, ◌$◌, ◌∵◌, !, qed, by, move, keep, drop, use0, use1, use2, use3, split}
 use types.Kit.{split3, join, fsplit, fsplit3, fjoin, fjoin3, fpick, fpack, pick, learn, show, assume, suffices, await}
 use types.Kit.{updating, now, rewrite, feq_l, feq_i, done}
@@ -38,6 +38,7 @@ use Rattle.thread_local_bucket_pointers.specs.Slots.{empty_slots}
 use Rattle.thread_local_ids.specs.Told.{all_told_or_untold}
 use Rattle.thread_local_shared_buckets.proofs.ClaimTokens.{tokens_from, tokens_new}
 use Rattle.thread_local_shared_buckets.proofs.Rested.{all_tokens, all_wait, none_born, wakes_block, rests_block}
+use Rattle.thread_local_model.proofs.Signs.{signs}
 
 abbrev pub pointer : Member
 pointer = record { row = RawPtr; ty = ty_ptr }
@@ -45,20 +46,10 @@ pointer = record { row = RawPtr; ty = ty_ptr }
 module _ {M : Type 1} {𝓤 : Ura M} (𝓛 : Logic 𝓤) where
   open 𝓛 use {H, A}
 
-  abbrev Pr : Type 2
-  Pr = SProp 𝓤
-
-  abbrev ◌⊢◌ : Pr → Pr → Type 1
-  P ⊢ Q = ent 𝓤 P Q
-
-  abbrev ◌∗◌ : Pr → Pr → Pr
-  P ∗ Q = sep 𝓤 P Q
-
-  abbrev ⟦◌⟧ : Fml → Pr
-  ⟦ P ⟧ = sem 𝓛 P
-
+  open signs 𝓛 use {⟦◌⟧, ◌⊢◌, ◌∗◌}
   infix 26 ◌⊢◌
   infixr 35 ◌∗◌
+
   -- a raw pointer in memory as the cell that an atomic step works on, and back
   module _ (b o : ℕ) (p : Ptr) where
     pub cell_out : ⟦ part_at RawPtr full_share p b o ⟧ ⊢ ⟦ cell b o p ⟧
@@ -69,7 +60,7 @@ module _ {M : Type 1} {𝓤 : Ura M} (𝓛 : Logic 𝓤) where
 
     pub cell_in : ⟦ cell b o p ⟧ ⊢ ⟦ part_at RawPtr full_share p b o ⟧
     cell_in =
-        qed 𝓛 (‵ (cell b o p) ∷ []) ∵ feq_i ! (List Val) (ptr_val p ∷ []) (ptr_val p ∷ []) refl $
+        qed 𝓛 (‵ (cell b o p) ∷ []) ∵ feq_i ! _ (ptr_val p ∷ []) _ refl $
         move ! (1 ∷ 0 ∷ []) $ gather pointer ! p (ptr_val p) b o $ done !
 
   module _ (R : RattleType) (L : Laws R) (d : BucketView) where
@@ -105,7 +96,7 @@ module _ {M : Type 1} {𝓤 : Ura M} (𝓛 : Logic 𝓤) where
       abbrev turn : Names → Turn
       turn n = record { life = κ; pass = n.0; vacant = n.1; filled = n.2; which = n.3 }
 
-      abbrev pub Woken : Lft → Share → Ptr → Names → Pr
+      abbrev pub Woken : Lft → Share → Ptr → Names → SProp 𝓤
       Woken μ r p n = ⟦ beside_pointer R d (turn n) p ⟧ ∗ A.lft μ r
 
       fresh : (p : Ptr) (μ : Lft) (r : Share)
@@ -176,13 +167,13 @@ module _ {M : Type 1} {𝓤 : Ura M} (𝓛 : Logic 𝓤) where
         abbrev Fields : Ptr → Fml
         Fields p = part_at Data full_share (p, tt) b o
 
-        abbrev Back : Pr
+        abbrev Back : SProp 𝓤
         Back = PartsBack 𝓛 full_share [] ms b o
 
         abbrev Inside : List Val → Ptr → Fml
         Inside vs p = fsep (Data.own_val (p, tt) vs) (at_rest R d p)
 
-        abbrev pub Apart : Judged R × Ptr → Pr
+        abbrev pub Apart : Judged R × Ptr → SProp 𝓤
         Apart z = ⟦ cell b (o + 0) z.1 ⟧ ∗ ⟦ at_rest R d z.1 ⟧ ∗ Back
 
         pub out : ⟦ P ⟧ ⊢ ex 𝓤 Apart

@@ -148,10 +148,7 @@ module _ {V W : Type 0} (slots : W → List (Option V)) where
 
     pub are_owned : IsOwned (owned_of ws reserved)
     are_owned = record {
-      table = record {
-        buckets = length-map ws slots ∙ fits_long ds ws f ∙ long;
-        whole = λ b. whole_at b (nat_lt b 63) refl;
-      };
+      table = record { buckets = length-map ws slots ∙ fits_long ds ws f ∙ long; whole = λ b. whole_at b (nat_lt b 63) refl };
       first = first;
       standing = λ b near low.
           standing_if (bucket_at ds b) (slots_at ws b)

@@ -28,6 +28,7 @@ use Rattle.thread_local_shared_buckets.proofs.ChunkLooks.{all_from}
 use Rattle.thread_local_shared_buckets.specs.Shared.{BucketView, Turn, StandingBlock, block_code, Sized, len, first, shown_by, grown}
 use Rattle.thread_local_shared_buckets.specs.Shared.{all_unborn, standing, beside_pointer, bucket_invariant, loaded}
 use Rattle.thread_local_model.proofs.Pointers.{Lies, opened}
+use Rattle.thread_local_model.proofs.Signs.{signs}
 
 module _ {M : Type 1} {𝓤 : Ura M} (𝓛 : Logic 𝓤) (R : RattleType) (sharing : Option GName)
     (named : IsSome sharing) (table : ℕ) (t : Turn) (x : R.Denot) (Z : SProp 𝓤) where
@@ -105,20 +106,10 @@ module _ {M : Type 1} {𝓤 : Ura M} (𝓛 : Logic 𝓤) (R : RattleType) (d : B
 module _ {M : Type 1} {𝓤 : Ura M} (𝓛 : Logic 𝓤) (R : RattleType) (d : BucketView) (t : Turn) where
   open 𝓛 use {H, A}
 
-  abbrev Pr : Type 2
-  Pr = SProp 𝓤
-
-  abbrev ◌⊢◌ : Pr → Pr → Type 1
-  P ⊢ Q = ent 𝓤 P Q
-
-  abbrev ◌∗◌ : Pr → Pr → Pr
-  P ∗ Q = sep 𝓤 P Q
-
-  abbrev ⟦◌⟧ : Fml → Pr
-  ⟦ P ⟧ = sem 𝓛 P
-
+  open signs 𝓛 use {⟦◌⟧, ◌⊢◌, ◌∗◌}
   infix 26 ◌⊢◌
   infixr 35 ◌∗◌
+
   -- a part of the token of the block's own lifetime, which block it is, and what it shows
   abbrev pub part : Ptr → StandingBlock × Share → Fml
   part p z =
@@ -166,7 +157,7 @@ module _ {M : Type 1} {𝓤 : Ura M} (𝓛 : Logic 𝓤) (R : RattleType) (d : B
       fjoin3 ! $ nothing ! $
       fpack ! ((z.0.at ≡ p) × Sized R (len R d) p) (λ _. ftrue) (so.0, so.2) $ now ! $ done !)
 
-  module _ (b o : ℕ) (s : Share) (X : Pr) (none also : Fml)
+  module _ (b o : ℕ) (s : Share) (X : SProp 𝓤) (none also : Fml)
       (at_null : ⟦ all_unborn R d.sharing d.table t (len R d) (first R d) ⟧ ∗ X
       ⊢ ⟦ all_unborn R d.sharing d.table t (len R d) (first R d) ⟧ ∗ ⟦ none ⟧)
       (at_block : X ⊢ ⟦ also ⟧) where
@@ -192,7 +183,7 @@ module _ {M : Type 1} {𝓤 : Ura M} (𝓛 : Logic 𝓤) (R : RattleType) (d : B
 
     pub reads : A.inv (fbor t.life J) ∗ (A.lft t.life s ∗ X)
         ⊢ asks_ptr 𝓛 (block_ptr b o) (λ p. p) (λ p. fsep (flft t.life s) (glimpse none also p))
-    reads = let F : Ptr → Pr = Lies 𝓛 t.life s J b o Ptr (λ p. p) (λ p. p) (λ _. ftrue) (glimpse none also) in
+    reads = let F : Ptr → SProp 𝓤 = Lies 𝓛 t.life s J b o Ptr (λ p. p) (λ p. p) (λ _. ftrue) (glimpse none also) in
         opened 𝓛 t.life s J b o Ptr (λ p. p) (λ p. p) (λ _. ftrue) (glimpse none also) X (qed 𝓛
         (‵ J ∷ raw X ∷ []) ∵
         suffices ! _ (upd_i 𝓤 (ex 𝓤 F)) $ fpick ! (λ p. fsplit ! $ show ! F p $ frame ! $

@@ -1,11 +1,11 @@
 -- A thread that doesn't claim a slot reaches its value by what is told of the slot's id, as a `&` to
 -- the value names no thread. Assumes `Logic`.
 use Rattle.std.proofs.Common.{IsSome, ◌≡◌, ℕ, ◌+◌, ◌<◌, [], ◌∷◌, length}
-use Rattle.std.proofs.Common.{refl, ap, Option, Some, None}
+use Rattle.std.proofs.Common.{refl, Option, Some, None}
 use seplogic.Ra.Ura.{Ura}
-use base.Logic.{SProp, ent, sep, ex, all_e}
+use base.Logic.{SProp, ex, all_e}
 use base.Fml.{Lft, Share, Fml, fbor, fres}
-use types.Logic.{Logic, sem}
+use types.Logic.{Logic}
 use types.Kit.{‵, ◌⊛◌, given, learn, fsplit, use2, show, rewrite, ◌$◌, ◌∵◌, !, qed, move, drop, split}
 use types.Kit.{fsplit3, fjoin, fjoin3, use1, done}
 use denote.RattleType.{RattleType}
@@ -21,9 +21,8 @@ use Rattle.thread_local_shared_buckets.proofs.Rested.{opens_by}
 use Rattle.thread_local_shared_buckets.proofs.SlotSteps.{Stays, Had, Left, moved}
 use Rattle.thread_local_ids.specs.Told.{tells, told_or_untold}
 use Rattle.thread_local_ids.proofs.ToldElements.{tells_alike, telling_alike}
-
-same_value : {X : Type 0} (x y : X) → Some x ≡ Some y → x ≡ y
-same_value {X} x y e = ap (λ (o : Option X). elim o [ None ↦ x | Some z ↦ z ]) e
+use Rattle.thread_local_model.proofs.Signs.{signs}
+use Rattle.std.proofs.lemmas.Option.{same_Some}
 
 module _ {M : Type 1} {𝓤 : Ura M} (𝓛 : Logic 𝓤) (R : RattleType) (L : Laws R) (j : Shareable R)
     (d : BucketView) (t : Turn) (wb wo : ℕ) (s : StandingBlock) (i k e b : ℕ)
@@ -31,17 +30,10 @@ module _ {M : Type 1} {𝓤 : Ura M} (𝓛 : Logic 𝓤) (R : RattleType) (L : L
     (at_e : e ≡ value_offset R (count_of s.at) i) (at_b : block_of s.at ≡ b) where
   open 𝓛 use {A}
 
-  abbrev ◌⊢◌ : SProp 𝓤 → SProp 𝓤 → Type 1
-  P ⊢ Q = ent 𝓤 P Q
-
-  abbrev ◌∗◌ : SProp 𝓤 → SProp 𝓤 → SProp 𝓤
-  P ∗ Q = sep 𝓤 P Q
-
-  abbrev ⟦◌⟧ : Fml → SProp 𝓤
-  ⟦ P ⟧ = sem 𝓛 P
-
+  open signs 𝓛 use {⟦◌⟧, ◌⊢◌, ◌∗◌}
   infix 26 ◌⊢◌
   infixr 35 ◌∗◌
+
   -- a slot of whose id it is told that it was published with a value lends that value
   module _ (named : IsSome d.sharing) (x : R.Denot) where
     abbrev pub Told : Fml
@@ -82,7 +74,7 @@ module _ {M : Type 1} {𝓤 : Ura M} (𝓛 : Logic 𝓤) (R : RattleType) (L : L
         (opens_by 𝓛 t R L b s.block_life e (name_at s.names i) y) $
         -- [opened; what is shared; what is published; the token; who has it]
         move ! (3 ∷ 2 ∷ 0 ∷ []) $ fjoin3 ! $ move ! (0 ∷ 2 ∷ 1 ∷ []) $
-        rewrite ! 2 (λ (z : R.Denot). ‵ (shared z)) (same_value y x same) refl $
+        rewrite ! 2 (λ (z : R.Denot). ‵ (shared z)) (same_Some y x same) refl $
         show ! (Found (Some y)) w $ done !)
 
     pub finds : (q : Share)

@@ -7,15 +7,6 @@ use Rattle.thread_local_shared_buckets.specs.Positions.{resting, MovesOn, MovesB
 use Rattle.thread_local_shared_buckets.specs.Steps.{Leads}
 use Rattle.thread_local_shared_buckets.proofs.StepLaws.{resting_at, passes_bucket, leads_nowhere, leads_then}
 
-pub moves_nowhere : (raw : RawIter) → raw.bucket_size ≡ 2 ^ raw.bucket → MovesOn raw raw
-moves_nowhere raw size = record {
-  leads = leads_nowhere (resting raw);
-  size = size;
-  yielded = refl;
-  further = omega arith;
-  index = omega arith;
-}
-
 pub moves_then : (from met to : RawIter) → MovesOn from met → MovesOn met to → MovesOn from to
 moves_then from met to first after =
     let a = first.further in

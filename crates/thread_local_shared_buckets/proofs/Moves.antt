@@ -17,9 +17,8 @@ use Rattle.thread_local_shared_buckets.specs.Shared.{Turn, Who, free, claimed, e
 use Rattle.thread_local_shared_buckets.specs.Shared.{pinned_and_told, opened, holds, stays, lies_with_slot}
 use Rattle.thread_local_ids.specs.Told.{tells}
 use Rattle.thread_local_ids.proofs.ToldElements.{told_dup, tells_it}
-
-some_alike : {X : Type 0} {x y : X} → ◌≡◌ {A = Option X} (Some x) (Some y) → x ≡ y
-some_alike {X} {x} e = ap {A = Option X} (λ o. elim o as (λ _. X) [ Some z ↦ z | None ↦ x ]) e
+use Rattle.thread_local_model.proofs.Signs.{signs}
+use Rattle.std.proofs.lemmas.Option.{same_Some}
 
 module _ {M : Type 1} {𝓤 : Ura M} (𝓛 : Logic 𝓤) where
   -- a name says one thing for good
@@ -33,20 +32,10 @@ module _ {M : Type 1} {𝓤 : Ura M} (𝓛 : Logic 𝓤) where
 
 module _ {M : Type 1} {𝓤 : Ura M} (𝓛 : Logic 𝓤) (R : RattleType) (t : Turn) (b ν : ℕ)
     (sharing : Option GName) (table k e : ℕ) (η : GName) where
-  abbrev Pr : Type 2
-  Pr = SProp 𝓤
-
-  abbrev ◌⊢◌ : Pr → Pr → Type 1
-  P ⊢ Q = ent 𝓤 P Q
-
-  abbrev ◌∗◌ : Pr → Pr → Pr
-  P ∗ Q = sep 𝓤 P Q
-
-  abbrev ⟦◌⟧ : Fml → Pr
-  ⟦ P ⟧ = sem 𝓛 P
-
+  open signs 𝓛 use {⟦◌⟧, ◌⊢◌, ◌∗◌}
   infix 26 ◌⊢◌
   infixr 35 ◌∗◌
+
   abbrev pub Holds : Option R.Denot → Fml
   Holds v = holds R t b ν sharing k e η v
 
@@ -63,7 +52,7 @@ module _ {M : Type 1} {𝓤 : Ura M} (𝓛 : Logic 𝓤) (R : RattleType) (t : T
   Pass = right_owns t.pass k
 
   -- no two rights are to the same id
-  twice : (γ : GName) (Z : Pr) → ⟦ right_owns γ k ⟧ ∗ ⟦ right_owns γ k ⟧ ⊢ Z
+  twice : (γ : GName) (Z : SProp 𝓤) → ⟦ right_owns γ k ⟧ ∗ ⟦ right_owns γ k ⟧ ⊢ Z
   twice γ Z = right_once 𝓛 γ k Z
 
   -- whoever has the right to the id of a slot claims the slot for that right
@@ -115,7 +104,7 @@ module _ {M : Type 1} {𝓤 : Ura M} (𝓛 : Logic 𝓤) (R : RattleType) (t : T
       use2 𝓛 (given (value_code R (Some x) ≡ value_code R (Some y))
       (‵ (pinned R η x) ⊛ ‵ (pinned R η y)))
       (res_alike 𝓛 η (value_code R (Some x)) (value_code R (Some y))) $
-      learn ! (λ same. check ! (some_alike ((coded_option R.coded).inj (Some x) (Some y) same)) $ split ! $ done !)
+      learn ! (λ same. check ! (same_Some x y ((coded_option R.coded).inj (Some x) (Some y) same)) $ split ! $ done !)
 
   abbrev PinnedAndTold : R.Denot → Fml
   PinnedAndTold = pinned_and_told R sharing k η
@@ -187,7 +176,7 @@ module _ {M : Type 1} {𝓤 : Ura M} (𝓛 : Logic 𝓤) (R : RattleType) (t : T
   abbrev pub Gain : R.Denot → Fml
   Gain x = fsep (right_owns t.filled k) (tells R sharing k (Some x))
 
-  abbrev Made : Option R.Denot → R.Denot → Pr
+  abbrev Made : Option R.Denot → R.Denot → SProp 𝓤
   Made v x = guard 𝓤 (v ≡ None) (⟦ Stays (Some x) ⟧ ∗ ⟦ Had (Some x) claimed ⟧ ∗ ⟦ Gain x ⟧)
 
   -- the claim of a slot that holds no value publishes one
@@ -207,7 +196,7 @@ module _ {M : Type 1} {𝓤 : Ura M} (𝓛 : Logic 𝓤) (R : RattleType) (t : T
   publishes None claimed x =
       let g : Gv = value_code R (Some x) in
       let Told : Fml = tells R sharing k (Some x) in
-      let Z : Pr = Made None x in
+      let Z : SProp 𝓤 = Made None x in
       qed 𝓛 (‵ (Stays None) ∷ ‵ (Had None claimed) ∷ ‵ (Offer x) ∷ []) ∵ fsplit ! $
       move ! (1 ∷ []) $
       use1 𝓛 (raw (upd 𝓤 ⟦ Told ⟧)) (tells_it 𝓛 sharing k g) $ settle 𝓛 Z (‵ Told) $

@@ -12,11 +12,11 @@ use seplogic.Ra.Ura.{Ura}
 use mir.Syntax.{Ty}
 use base.Fraction.{full_share, left, right}
 use base.Stored.{gnil}
-use base.Logic.{SProp, ent, sep, ex, guard, upd, upd_i, guard_i}
+use base.Logic.{SProp, ex, guard, upd, upd_i, guard_i}
 use base.Fml.{Lft, GName, Share, Fml, ftrue, ffalse, fsep, flft, fdead, fobs, fauth, fres, fbor, flent}
 use contract.BorrowLft.{meet_⊑_left}
 use contract.Monad.{fact_use}
-use types.Logic.{Logic, sem}
+use types.Logic.{Logic}
 use types.Kit.{‵, raw, ◌⊛◌, some, given, later, ◌$◌, ◌∵◌, !, qed, by, move, keep, drop, use0, use1, use2, use3, split}
 use types.Kit.{split3, join, fsplit, fsplit3, fjoin, fjoin3, fpick, fpack, pick, learn, check, show, frame, assume}
 use types.Kit.{suffices, settle, await, updating, now, rewrite, done}
@@ -40,6 +40,7 @@ use Rattle.thread_local_shared_buckets.specs.Shared.{bucket_invariant}
 use Rattle.thread_local_ids.specs.Told.{untold_in}
 use Rattle.thread_local_model.proofs.Pointers.{Compared, opened_to_compare, alike_null}
 use Rattle.thread_local_shared_buckets.proofs.Loads.{part, glimpse, parted}
+use Rattle.thread_local_model.proofs.Signs.{signs}
 
 -- who has a slot that is born: the claim that took its pass before, or nobody
 abbrev who : Bool → Who
@@ -63,20 +64,10 @@ module _ (R : RattleType) (n : ℕ) (ns : List ℕ) (are : AreFlags ns (empty_sl
 module _ {M : Type 1} {𝓤 : Ura M} (𝓛 : Logic 𝓤) (R : RattleType) (t : Turn) where
   open 𝓛 use {H, A}
 
-  abbrev Pr : Type 2
-  Pr = SProp 𝓤
-
-  abbrev ◌⊢◌ : Pr → Pr → Type 1
-  P ⊢ Q = ent 𝓤 P Q
-
-  abbrev ◌∗◌ : Pr → Pr → Pr
-  P ∗ Q = sep 𝓤 P Q
-
-  abbrev ⟦◌⟧ : Fml → Pr
-  ⟦ P ⟧ = sem 𝓛 P
-
+  open signs 𝓛 use {⟦◌⟧, ◌⊢◌, ◌∗◌}
   infix 26 ◌⊢◌
   infixr 35 ◌∗◌
+
   module _ (b ν : ℕ) where
     abbrev κ : Lft
     κ = age R t b ν
@@ -108,7 +99,7 @@ module _ {M : Type 1} {𝓤 : Ura M} (𝓛 : Logic 𝓤) (R : RattleType) (t : T
       abbrev pub bare_slot : GName → ℕ → Fml
       bare_slot η i = bare (value_offset R o i) η
 
-      abbrev Lent : ℕ → ℕ → List ℕ → Pr
+      abbrev Lent : ℕ → ℕ → List ℕ → SProp 𝓤
       Lent m i names = guard 𝓤 (length names ≡ m) ⟦ each bare_slot names i ⟧
 
       lends_all : (m i : ℕ) → ⟦ each (slot R b o) (empty_slots m) i ⟧ ⊢ H.⇛ (ex 𝓤 (Lent m i))
@@ -226,7 +217,7 @@ module _ {M : Type 1} {𝓤 : Ura M} (𝓛 : Logic 𝓤) (R : RattleType) (t : T
         qed 𝓛 (‵ (Blank p) ∷ []) ∵ fsplit ! $ fpick ! (λ so. drop ! $ check ! so.0 $ nothing ! $
         fpack ! (InBlock p × Fits R many) (λ _. ftrue) so $ fjoin ! $ done !)
 
-    abbrev pub Out : Ptr → StandingBlock → Pr
+    abbrev pub Out : Ptr → StandingBlock → SProp 𝓤
     Out p s = guard 𝓤 (Lies p s) ⟦ private p s ⟧
 
     pub lend_out : (p : Ptr) → ⟦ Blank p ⟧ ⊢ H.⇛ (ex 𝓤 (Out p))
@@ -315,11 +306,11 @@ module _ {M : Type 1} {𝓤 : Ura M} (𝓛 : Logic 𝓤) (R : RattleType) (t : T
       abbrev pub lost : Ptr → Fml
       lost p = fsep (private new s) (glimpse 𝓛 R d t ffalse ftrue p)
 
-      abbrev F : Ptr × Bool → Pr
+      abbrev F : Ptr × Bool → SProp 𝓤
       F = Compared 𝓛 t.life q J b o null_ptr new won lost
 
       found : (p : Ptr) → ⟦ cell b o p ⟧ ∗ ⟦ beside_pointer R d t p ⟧ ∗ ⟦ private new s ⟧ ∗ ⟦ grown d ⟧ ⊢ ex 𝓤 F
-      found null_ptr = let m = block_code s in let γ : GName = t.which in let G : Pr = ⟦ J ⟧ ∗ ⟦ won null_ptr ⟧ in
+      found null_ptr = let m = block_code s in let γ : GName = t.which in let G : SProp 𝓤 = ⟦ J ⟧ ∗ ⟦ won null_ptr ⟧ in
           qed 𝓛
           (‵ (cell b o null_ptr) ∷ ‵ (beside_pointer R d t null_ptr) ∷ ‵ (private new s) ∷ ‵ (grown d) ∷ []) ∵
           show ! F (null_ptr, true) $ frame ! $

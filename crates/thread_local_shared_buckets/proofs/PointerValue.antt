@@ -1,16 +1,12 @@
 -- The machine value of a shared bucket: its one field, the pointer. Assumes `Logic`.
-use Rattle.thread_local_model.proofs.Names.{T, [], ◌∷◌, refl, lit<, Ura, tcons, tnil, ty_ptr, ty_struct, Val, vstruct}
-use Rattle.thread_local_model.proofs.Names.{vcons, vnil, has_ty, WT, ent, emp, Logic, sem, RattleType, Ptr, block_ptr}
-use Rattle.thread_local_model.proofs.Names.{null_ptr, ptr_val}
+use Rattle.thread_local_model.proofs.Names.{[], ◌∷◌, refl, Ura, Val, vstruct}
+use Rattle.thread_local_model.proofs.Names.{vcons, vnil, ent, emp, Logic, sem, RattleType, Ptr}
+use Rattle.thread_local_model.proofs.Names.{ptr_val}
 use denote.Shadow.{makes_shadow}
 use Rattle.thread_local_shared_buckets.specs.contracts.shared_bucket.SharedBucket.TheInside as inside
 
 abbrev pub word_val : Ptr → Val
 word_val p = vstruct (vcons (ptr_val p) vnil)
-
-pub word_good : (p : Ptr) → T (has_ty (ty_struct [] (tcons ty_ptr tnil)) (word_val p)) × WT (word_val p)
-word_good (block_ptr b o) = (tt, (tt, tt))
-word_good null_ptr = (tt, (record { fits = lit< tt }, tt))
 
 module _ (R : RattleType) where
   abbrev pub Field : RattleType

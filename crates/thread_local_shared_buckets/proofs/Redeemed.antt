@@ -8,9 +8,9 @@ use mathlib.Core.Logic.{inl, inr}
 use seplogic.Ra.Ura.{Ura}
 use mir.Syntax.{Ty}
 use base.Fml.{GName, Fml, ftrue, fsep, fex}
-use base.Logic.{SProp, ent, sep, ex, guard, id⊢, guard_i}
+use base.Logic.{SProp, ex, guard, id⊢, guard_i}
 use contract.Monad.{fact_use}
-use types.Logic.{Logic, sem}
+use types.Logic.{Logic}
 use types.Kit.{‵, some, given, later, split, use2, use3, ◌⊛◌, ◌$◌, ◌∵◌, !, qed, move, keep, drop, use0, use1, fsplit, fsplit3}
 use types.Kit.{fjoin, fjoin3, fpick, fpack, pick, learn, check, show, await, updating, now, rewrite, done}
 use denote.RattleType.{RattleType}
@@ -32,6 +32,7 @@ use Rattle.thread_local_ids.proofs.ReachedElements.{reached_none}
 use Rattle.thread_local_shared_buckets.proofs.GrownLaws.{row_known, shown_whole}
 use Rattle.thread_local_shared_buckets.proofs.Rested.{redeems}
 use Rattle.thread_local_shared_buckets.specs.Fit.{Fit}
+use Rattle.thread_local_model.proofs.Signs.{signs}
 
 -- the bits of these words, from the index i on, say which of the slots hold a value
 abbrev Told : {V : Type 0} → List ℕ → ℕ → List (Option V) → Type 0
@@ -91,26 +92,16 @@ module _ (R : RattleType) (n : ℕ) (ns : List ℕ) (cs : List (Option R.Denot))
 module _ {M : Type 1} {𝓤 : Ura M} (𝓛 : Logic 𝓤) (R : RattleType) (L : Laws R) where
   open 𝓛 use {H, A}
 
-  abbrev Pr : Type 2
-  Pr = SProp 𝓤
-
-  abbrev ◌⊢◌ : Pr → Pr → Type 1
-  P ⊢ Q = ent 𝓤 P Q
-
-  abbrev ⟦◌⟧ : Fml → Pr
-  ⟦ P ⟧ = sem 𝓛 P
-
-  abbrev ◌∗◌ : Pr → Pr → Pr
-  P ∗ Q = sep 𝓤 P Q
-
+  open signs 𝓛 use {⟦◌⟧, ◌⊢◌, ◌∗◌}
   infix 26 ◌⊢◌
   infixr 35 ◌∗◌
+
   abbrev C : Type 0
   C = Option R.Denot
 
   -- ---- the slots of a block: their contents, and what is told of them
   module _ (sharing : Option GName) (k b : ℕ) where
-    abbrev OneRedeemed : Bool → ℕ → ℕ → C → Pr
+    abbrev OneRedeemed : Bool → ℕ → ℕ → C → SProp 𝓤
     OneRedeemed set id e v = guard 𝓤 (set ≡ is_some v) (⟦ content_at R v b e ⟧ ∗ ⟦ told_or_untold R sharing id v ⟧)
 
     redeems_slot : (set : Bool) (id e : ℕ) → ⟦ slot_rests R sharing id set b e ⟧ ⊢ H.⇛ (ex 𝓤 (OneRedeemed set id e))
@@ -121,7 +112,7 @@ module _ {M : Type 1} {𝓤 : Ura M} (𝓛 : Logic 𝓤) (R : RattleType) (L : L
         now ! $ show ! (OneRedeemed set id e) s.0 $ check ! is $ done !))
 
     module _ (o : ℕ) (ns : List ℕ) where
-      abbrev AllRedeemed : ℕ → ℕ → List C → Pr
+      abbrev AllRedeemed : ℕ → ℕ → List C → SProp 𝓤
       AllRedeemed n i cs =
           guard 𝓤 ((length cs ≡ n) × Told ns i cs)
           (⟦ each (slot R b o) cs i ⟧ ∗ ⟦ all_told_or_untold R sharing (i + k) cs ⟧)
@@ -211,7 +202,7 @@ module _ {M : Type 1} {𝓤 : Ura M} (𝓛 : Logic 𝓤) (R : RattleType) (L : L
     abbrev Slotted : ℕ → ℕ → Fml
     Slotted b o = fex (List ℕ) (slots_under R n b o (slots_rest R d.sharing k n 0 b o))
 
-    abbrev Redeemed : ℕ → ℕ → List C → Pr
+    abbrev Redeemed : ℕ → ℕ → List C → SProp 𝓤
     Redeemed b o cs = guard 𝓤 (length cs ≡ n) (⟦ Slots b o cs ⟧ ∗ ⟦ all_told_or_untold R d.sharing k cs ⟧)
 
     redeems_block : (b o : ℕ) → ⟦ Slotted b o ⟧ ⊢ H.⇛ (ex 𝓤 (Redeemed b o))
@@ -265,7 +256,7 @@ module _ {M : Type 1} {𝓤 : Ura M} (𝓛 : Logic 𝓤) (R : RattleType) (L : L
         move ! (1 ∷ 2 ∷ []) $ fjoin ! $ move ! (1 ∷ []) $ fsplit ! $ move ! (0 ∷ 1 ∷ 2 ∷ []) $ fjoin3 ! $
         nothing ! $ fpack ! (InBlock p × Fits R (length all)) (λ _. ftrue) (tt, subst (Fits R) same so.2) $ fjoin ! $ done !
 
-    abbrev pub Plain : Ptr → List C → Pr
+    abbrev pub Plain : Ptr → List C → SProp 𝓤
     Plain p cs = guard 𝓤 (Fit d cs) (⟦ pointer_owns R heap_token p cs ⟧ ∗ ⟦ Tells cs ⟧)
 
     has_slots : (cs : List C) → length cs ≡ n → 0 < length cs

@@ -9,10 +9,10 @@ use mir.Syntax.{Ty}
 use mir.Val.{Val}
 use mir.Raw.{raw as bare}
 use base.Fraction.{full_share}
-use base.Logic.{SProp, ent, sep, ex, guard, emp, id⊢, upd_i, never_e}
+use base.Logic.{SProp, ex, guard, emp, id⊢, upd_i, never_e}
 use base.Fml.{Lft, Incl, GName, Share, Fml, ftrue, fsep, fseps, fex, fwand, fupd, flft, fdead, fauth, fbor, flent, froom}
 use ghost.Rules.{Toks, span}
-use types.Logic.{Logic, sem, lfts}
+use types.Logic.{Logic, lfts}
 use types.Kit.{‵, raw, ◌⊛◌, some, given, later, ◌$◌, ◌∵◌, !, qed, by, move, keep, drop, use0, use1, use2, use3, split}
 use types.Kit.{split3, join, group, fsplit, fsplit3, fjoin, fjoin3, fpick, fpack, pick, learn, check, show, frame}
 use types.Kit.{each as for_each, assume, suffices, await, updating, now, rewrite, done}
@@ -35,24 +35,15 @@ use Rattle.thread_local_shared_buckets.specs.Shared.{rests, slot_rests_as, slot_
 use Rattle.thread_local_ids.specs.Told.{untold_in, tells, told_or_untold, all_told_or_untold}
 use Rattle.thread_local_ids.proofs.ToldElements.{told_dup}
 use Rattle.thread_local_shared_buckets.proofs.ClaimTokens.{tokens_from, token_off}
+use Rattle.thread_local_model.proofs.Signs.{signs}
 
 module _ {M : Type 1} {𝓤 : Ura M} (𝓛 : Logic 𝓤) where
   open 𝓛 use {H, A}
 
-  abbrev Pr : Type 2
-  Pr = SProp 𝓤
-
-  abbrev ◌⊢◌ : Pr → Pr → Type 1
-  P ⊢ Q = ent 𝓤 P Q
-
-  abbrev ◌∗◌ : Pr → Pr → Pr
-  P ∗ Q = sep 𝓤 P Q
-
-  abbrev ⟦◌⟧ : Fml → Pr
-  ⟦ P ⟧ = sem 𝓛 P
-
+  open signs 𝓛 use {⟦◌⟧, ◌⊢◌, ◌∗◌}
   infix 26 ◌⊢◌
   infixr 35 ◌∗◌
+
   cell_room : (τ : Ty) (vs : List Val) (b o : ℕ) → ⟦ cell_raw full_share (bare τ ∷ []) vs b o ⟧ ⊢ ⟦ froom (bare τ) b o ⟧
   cell_room τ [] b o = never_e 𝓤 _
   cell_room τ (v ∷ []) b o = 𝓛.laws.at_room (bare τ) b o v
@@ -201,7 +192,7 @@ module _ {M : Type 1} {𝓤 : Ura M} (𝓛 : Logic 𝓤) where
             for_each ! (λ (_ : Shareable R). ⟦ shared_value R t b ν e x ⟧) (λ j. absurd (refuted j))
 
         -- a value that is being published: what stays with the slot, and what its claim has
-        abbrev pub Published : Toks → R.Denot → Pr
+        abbrev pub Published : Toks → R.Denot → SProp 𝓤
         Published ts x = ⟦ opened R t b ν e x ⟧ ∗ ⟦ fex (Judged R) (lent_by R t b ν e η x) ⟧ ∗ lfts 𝓛 ts
 
         pub publishes : (ts : Toks) → Incl (span ts) R.lives → Incl (span ts) κ → (x : R.Denot)
@@ -223,8 +214,8 @@ module _ {M : Type 1} {𝓤 : Ura M} (𝓛 : Logic 𝓤) where
       module _ (sharing : Option GName) where
         -- a slot that a turn has begun for, without its flag: its loan, what stays, and what lies
         -- with it while nobody has it
-        module _ (table k e : ℕ) (X : Pr) where
-          abbrev pub Born : Option R.Denot → GName → Pr
+        module _ (table k e : ℕ) (X : SProp 𝓤) where
+          abbrev pub Born : Option R.Denot → GName → SProp 𝓤
           Born v η =
               ⟦ flent κ (tracked_value R b e η) ⟧ ∗ ⟦ stays R t b ν sharing k e η v ⟧
               ∗ ⟦ lies_with_slot R t b ν sharing table k e η v free ⟧ ∗ X
@@ -301,7 +292,7 @@ module _ {M : Type 1} {𝓤 : Ura M} (𝓛 : Logic 𝓤) where
           abbrev Slots : List ℕ → ℕ → Fml
           Slots names i = each (numbered_slot R t b ν sharing table k o ns) names i
 
-          abbrev Woken : Toks → ℕ → ℕ → List ℕ → Pr
+          abbrev Woken : Toks → ℕ → ℕ → List ℕ → SProp 𝓤
           Woken ts n i names = guard 𝓤 (length names ≡ n) (⟦ Slots names i ⟧ ∗ lfts 𝓛 ts)
 
           wakes_slots : (ts : Toks) → Incl (span ts) R.lives → Incl (span ts) κ → Judged R → (n i : ℕ)
@@ -337,7 +328,7 @@ module _ {M : Type 1} {𝓤 : Ura M} (𝓛 : Logic 𝓤) where
             (λ ns. each (numbered_slot R t b ν sharing table k o ns) names 0)))
             (back R b o n)
 
-        abbrev pub BlockWoken : Toks → ℕ → ℕ → ℕ → ℕ → List ℕ → Pr
+        abbrev pub BlockWoken : Toks → ℕ → ℕ → ℕ → ℕ → List ℕ → SProp 𝓤
         BlockWoken ts table k n o names = guard 𝓤 (length names ≡ n) (⟦ Block table k n o names ⟧ ∗ lfts 𝓛 ts)
 
         -- a block that lay at rest comes under the turn

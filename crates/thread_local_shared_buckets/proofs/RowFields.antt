@@ -28,10 +28,6 @@ use Rattle.thread_local_shared_buckets.specs.contracts.row.Row as Row
 abbrev pub row_val : Ptr → Val
 row_val p = vstruct (vcons (ptr_val p) (vcons (vstruct vnil) vnil))
 
-pub pointer_good : (p : Ptr) → T (has_ty ty_ptr (ptr_val p)) × WT (ptr_val p)
-pointer_good (block_ptr b o) = (tt, tt)
-pointer_good null_ptr = (tt, record { fits = lit< tt })
-
 pub row_good : (p : Ptr) → T (has_ty (ty_struct [] (tcons ty_ptr (tcons (ty_struct [] tnil) tnil))) (row_val p)) × WT (row_val p)
 row_good (block_ptr b o) = (tt, (tt, (tt, tt)))
 row_good null_ptr = (tt, (record { fits = lit< tt }, (tt, tt)))

@@ -69,10 +69,7 @@ module _ (a : NamedLft) (R : RattleType) where
   opened {M} {𝓤 = 𝓤} 𝓛 =
       (Struct-Copied 𝓛 (shape (Seen.the_type a R)) (refl, (refl, (refl, tt))) (
         RawPtr-copy.copied M 𝓤 𝓛,
-        (
-          u64-copy.copied M 𝓤 𝓛,
-          ((field_copy (marker.the_type (ShrRef a.mir a.lft R)) tt).copied M 𝓤 𝓛, tt),
-        ),
+        (u64-copy.copied M 𝓤 𝓛, ((field_copy (marker.the_type (ShrRef a.mir a.lft R)) tt).copied M 𝓤 𝓛, tt)),
       )).opens
 
 module _ {M : Type 1} {𝓤 : Ura M} (𝓛 : Logic 𝓤) (R : RattleType) (L : Laws R) (j : Shareable R) (d : BucketView) (p : Ptr) (κ : Lft) where

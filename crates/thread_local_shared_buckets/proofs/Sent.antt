@@ -51,11 +51,5 @@ module _ (R : RattleType) (sent : IsSend R) where
       → Keyless (claim_owns R β table c l state)
   claim_keyless β table c l state = (
     (λ _. tt),
-    λ z. (
-      (λ _. tt),
-      (
-        kept_keyless R sent z.0 z.1 (block_of c.bucket) (count_of c.bucket + 0) β,
-        has_keyless z.0 z.1 β c l,
-      ),
-    ),
+    λ z. ((λ _. tt), (kept_keyless R sent z.0 z.1 (block_of c.bucket) (count_of c.bucket + 0) β, has_keyless z.0 z.1 β c l)),
   )

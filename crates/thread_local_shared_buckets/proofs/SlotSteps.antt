@@ -2,9 +2,9 @@
 -- the slot's flag. Assumes `Logic`.
 use Rattle.std.proofs.Common.{◌≡◌, ℕ, ◌+◌, ◌/◌, ◌%◌, ◌^◌, ◌<◌, Bool, [], ◌∷◌, length, is_some, refl, Option}
 use seplogic.Ra.Ura.{Ura}
-use base.Logic.{SProp, ent, sep, wand, ex, all, all_e, guard, upd, upd_i, via, apply∗}
+use base.Logic.{SProp, ex, all, all_e, guard, upd, upd_i, via, apply∗}
 use base.Fml.{GName, Share, Fml, ftrue, fsep, fres, fbor, flft, flent}
-use types.Logic.{Logic, sem}
+use types.Logic.{Logic}
 use types.Kit.{settle, ‵, raw, ◌⊛◌, given, some, show, frame, assume, suffices, ◌$◌, ◌∵◌, !, qed, move, drop, split}
 use types.Kit.{split3, pick, fsplit, fsplit3, fjoin, fpick, fpack, join, group, learn, use1, use2, use3, done}
 use denote.RattleType.{RattleType}
@@ -21,6 +21,7 @@ use Rattle.thread_local_shared_buckets.specs.Shared.{tracked_value, shared_slot_
 use Rattle.thread_local_shared_buckets.specs.Shared.{bucket_invariant, stays, lies_with_slot, holds}
 use Rattle.thread_local_shared_buckets.proofs.Inside as inside
 use Rattle.thread_local_shared_buckets.proofs.Inside.{Next, quietly, slot_in}
+use Rattle.thread_local_model.proofs.Signs.{signs}
 
 module _ {M : Type 1} {𝓤 : Ura M} (𝓛 : Logic 𝓤) (R : RattleType) (d : BucketView) (t : Turn)
     (wb wo : ℕ) (s : StandingBlock) (i k e b : ℕ) (low : i < length s.names)
@@ -28,24 +29,11 @@ module _ {M : Type 1} {𝓤 : Ura M} (𝓛 : Logic 𝓤) (R : RattleType) (d : B
     (at_b : block_of s.at ≡ b) where
   open 𝓛 use {H, A}
 
-  abbrev Pr : Type 2
-  Pr = SProp 𝓤
-
-  abbrev ◌⊢◌ : Pr → Pr → Type 1
-  P ⊢ Q = ent 𝓤 P Q
-
-  abbrev ◌∗◌ : Pr → Pr → Pr
-  P ∗ Q = sep 𝓤 P Q
-
-  abbrev ◌-∗◌ : Pr → Pr → Pr
-  P -∗ Q = wand 𝓤 P Q
-
-  abbrev ⟦◌⟧ : Fml → Pr
-  ⟦ P ⟧ = sem 𝓛 P
-
+  open signs 𝓛 use {⟦◌⟧, ◌⊢◌, ◌∗◌, ◌-∗◌}
   infix 26 ◌⊢◌
   infixr 35 ◌∗◌
   infixr 30 ◌-∗◌
+
   abbrev pub η : GName
   η = name_at s.names i
 
@@ -74,13 +62,13 @@ module _ {M : Type 1} {𝓤 : Ura M} (𝓛 : Logic 𝓤) (R : RattleType) (d : B
   Lent = flent (age R t b s.block_life) (tracked_value R b e η)
 
   -- a slot after a step that keeps its value, and what the step gains
-  abbrev pub Left : Option R.Denot → Pr → Who → Pr
+  abbrev pub Left : Option R.Denot → SProp 𝓤 → Who → SProp 𝓤
   Left v Q w = ⟦ Stays v ⟧ ∗ ⟦ Had v w ⟧ ∗ Q
 
-  abbrev Back : (n : ℕ) → Next n (i % 64) → Pr
+  abbrev Back : (n : ℕ) → Next n (i % 64) → SProp 𝓤
   Back n = inside.Back 𝓛 R d t wb wo s i k e b low at_k at_e at_b ⟦ I ⟧ n
 
-  abbrev Out : ℕ → Pr
+  abbrev Out : ℕ → SProp 𝓤
   Out n = inside.Out 𝓛 R d t wb wo s i k e b low at_k at_e at_b ⟦ I ⟧ n
 
   -- the slot and its word are put back
@@ -90,7 +78,7 @@ module _ {M : Type 1} {𝓤 : Ura M} (𝓛 : Logic 𝓤) (R : RattleType) (d : B
   again n m z fits but =
       let set : Bool = is_some z.0 in
       let y : Next n (i % 64) = record { word = m; set = set; fits = fits; but = but } in
-      let T : Pr = ⟦ Flags m ⟧ ∗ ⟦ Slot set ⟧ in
+      let T : SProp 𝓤 = ⟦ Flags m ⟧ ∗ ⟦ Slot set ⟧ in
       qed 𝓛 (‵ (Flags m) ∷ ‵ Lent ∷ ‵ (Stays z.0) ∷ ‵ (Had z.0 z.1) ∷ raw (all 𝓤 (Back n)) ∷ []) ∵
       move ! (2 ∷ 3 ∷ []) $ fjoin ! $ nothing ! $ fpack ! (set ≡ is_some z.0) (λ _. ftrue) refl $
       fjoin ! $
@@ -100,7 +88,7 @@ module _ {M : Type 1} {𝓤 : Ura M} (𝓛 : Logic 𝓤) (R : RattleType) (d : B
       use1 𝓛 (raw (Back n y)) (all_e 𝓤 (Back n) y) $ move ! (1 ∷ 0 ∷ []) $ use2 𝓛 (‵ I) (apply∗ 𝓤 T ⟦ I ⟧) $ done !
 
   -- a ghost step
-  pub moved : (q : Share) (X Q : Pr)
+  pub moved : (q : Share) (X Q : SProp 𝓤)
       → ((v : Option R.Denot) (w : Who) → ⟦ Stays v ⟧ ∗ ⟦ Had v w ⟧ ∗ X ⊢ ex 𝓤 (Left v Q))
       → A.inv (fbor t.life I) ∗ A.lft t.life q ∗ ⟦ Which ⟧ ∗ X ⊢ H.⇛ (Q ∗ A.lft t.life q)
   moved q X Q law =
@@ -121,7 +109,7 @@ module _ {M : Type 1} {𝓤 : Ura M} (𝓛 : Logic 𝓤) (R : RattleType) (d : B
 
   -- an atomic step on the word of flags, which may change this slot's flag
   module _ (q : Share) (f : ℕ → ℕ) (after : ℕ → Fml) where
-    abbrev pub Turned : ℕ → Option R.Denot → Option R.Denot × Who → Pr
+    abbrev pub Turned : ℕ → Option R.Denot → Option R.Denot × Who → SProp 𝓤
     Turned n v z =
         guard 𝓤 ((f n < 2 ^ 64) × IsWordBut (f n) n (i % 64) (is_some z.0))
         (⟦ Stays z.0 ⟧ ∗ ⟦ Had z.0 z.1 ⟧ ∗ ⟦ after n ⟧)
@@ -134,7 +122,7 @@ module _ {M : Type 1} {𝓤 : Ura M} (𝓛 : Logic 𝓤) (R : RattleType) (d : B
         (λ n. fsep (flft t.life q) (after n))
     stepped_by X law =
         let o : ℕ = word_offset R (len R d) (count_of s.at) (i / 64) in
-        let L : ℕ → Pr = Lies 𝓛 t.life q I b o f after in
+        let L : ℕ → SProp 𝓤 = Lies 𝓛 t.life q I b o f after in
         bucket_opened.opened 𝓛 t.life q I b o f after (⟦ Which ⟧ ∗ ⟦ X ⟧) (qed 𝓛
         (‵ I ∷ (‵ Which ⊛ ‵ X) ∷ []) ∵
         suffices ! _ (upd_i 𝓤 (ex 𝓤 L)) $
@@ -143,7 +131,7 @@ module _ {M : Type 1} {𝓤 : Ura M} (𝓛 : Logic 𝓤) (R : RattleType) (d : B
         given (n < 2 ^ 64) (‵ (Flags n) ⊛ ‵ (Slot (is_set n (i % 64))) ⊛ raw (all 𝓤 (Back n)))))
         (slot_in 𝓛 R d t wb wo s i k e b low at_k at_e at_b) $
         pick ! (λ n. learn ! (λ fits. split3 ! $
-        show ! L n $ frame ! $ assume ! (‵ (Flags (f n))) $ let Then : Pr = ⟦ I ⟧ ∗ ⟦ after n ⟧ in
+        show ! L n $ frame ! $ assume ! (‵ (Flags (f n))) $ let Then : SProp 𝓤 = ⟦ I ⟧ ∗ ⟦ after n ⟧ in
         move ! (1 ∷ []) $ fsplit ! $ move ! (1 ∷ []) $ fpick ! (λ z. fsplit3 ! $ fpick ! (λ told. drop ! $
         -- [what stays; who has it; the loan; the word; the way back; X]
         move ! (0 ∷ 1 ∷ 5 ∷ []) $ use3 𝓛 (raw (upd 𝓤 (ex 𝓤 (Turned n z.0)))) (law n fits z.0 z.1 told) $

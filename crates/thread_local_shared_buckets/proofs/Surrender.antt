@@ -2,12 +2,12 @@
 use Rattle.std.proofs.Common.{◌≡◌, ℕ, ◌+◌, ◌<◌, Bool, true, false, [], ◌∷◌, length, refl, sym, subst, Option, None}
 use Rattle.std.proofs.Common.{Some}
 use seplogic.Ra.Ura.{Ura}
-use base.Logic.{SProp, ent, sep, wand, apply∗, never_e}
+use base.Logic.{wand, apply∗, never_e}
 use base.Fml.{Lft, Share, Fml, ffalse, fsep, fex, fbor, flft, finv}
 use prog.Model.{Model}
 use contract.Running.{Running}
 use contract.Shared.{Lends-one}
-use types.Logic.{Logic, sem}
+use types.Logic.{Logic}
 use types.Kit.{‵, raw, ◌⊛◌, some, later, ◌$◌, ◌∵◌, !, qed, by, move, keep, drop, split, pick, rewrite, fsplit, fsplit3}
 use types.Kit.{fpick, await, updating, now, use2, use3, done}
 use denote.RattleType.{RattleType}
@@ -20,24 +20,15 @@ use Rattle.thread_local_model.specs.Learnt.{Learnt, Unknown, Missing, Standing, 
 use Rattle.thread_local_shared_buckets.specs.Claims.{ClaimFields, IsOf, has_slot, has, claim_owns, claims_side}
 use Rattle.thread_local_shared_buckets.proofs.Early as early
 use Rattle.thread_local_shared_buckets.proofs.ClaimSteps as steps
+use Rattle.thread_local_model.proofs.Signs.{signs}
 
 module _ {M : Type 1} {𝓤 : Ura M} (𝓛 : Logic 𝓤) (R : RattleType) (β : Lft) (table : ℕ) (c : ClaimFields) where
   open 𝓛 use {H, A}
 
-  abbrev Pr : Type 2
-  Pr = SProp 𝓤
-
-  abbrev ◌⊢◌ : Pr → Pr → Type 1
-  P ⊢ Q = ent 𝓤 P Q
-
-  abbrev ◌∗◌ : Pr → Pr → Pr
-  P ∗ Q = sep 𝓤 P Q
-
-  abbrev ⟦◌⟧ : Fml → Pr
-  ⟦ P ⟧ = sem 𝓛 P
-
+  open signs 𝓛 use {⟦◌⟧, ◌⊢◌, ◌∗◌}
   infix 26 ◌⊢◌
   infixr 35 ◌∗◌
+
   abbrev w : Ptr
   w = c.bucket
 

@@ -5,9 +5,9 @@ use Rattle.std.proofs.Common.{arith, Option, None, Some, true, ◌==◌}
 use seplogic.Ra.Ura.{Ura}
 use mir.Val.{Val, vint, vstruct, vcons, vnil, of_list}
 use base.Fml.{Fml, ftrue, ffalse, fsep}
-use base.Logic.{SProp, ent, sep, ex, guard, via, never_e}
+use base.Logic.{SProp, ex, guard, via, never_e}
 use types.Owned.{basic}
-use types.Logic.{Logic, sem}
+use types.Logic.{Logic}
 use types.Kit.{use2, split, by, ◌⊛◌, use0, ‵, some, given, later, ◌$◌, ◌∵◌, !, qed, move, keep, drop, use1, fsplit}
 use types.Kit.{fsplit3, fjoin, fjoin3, fpick, fpack, pick, learn, check, show, feq_i, feq_l, flt_i, await, updating}
 use types.Kit.{now, rewrite, done}
@@ -56,6 +56,7 @@ use Rattle.thread_local_shared_buckets.specs.Grown.{only_reserved}
 use Rattle.thread_local_shared_buckets.proofs.GrownLaws.{row_known, rows_known, rows_grown, known_apart, known_together}
 use Rattle.thread_local_shared_buckets.proofs.GrownLaws.{none_grown, less_grown, nothing_shown, lent_shown, view_again, grown_in}
 use Rattle.thread_local_shared_buckets.proofs.Redeemed.{redeems_bucket, rests_bucket}
+use Rattle.thread_local_model.proofs.Signs.{signs}
 
 -- the machine value of an owner's pointers with the number of reserved slots
 abbrev pub pair_val : Val → ℕ → Val
@@ -64,20 +65,10 @@ pair_val v n = vstruct (vcons v (vcons (vint w64 n) vnil))
 module _ {M : Type 1} {𝓤 : Ura M} (𝓛 : Logic 𝓤) (R : RattleType) (L : Laws R) where
   open 𝓛 use {H, A}
 
-  abbrev Pr : Type 2
-  Pr = SProp 𝓤
-
-  abbrev ◌⊢◌ : Pr → Pr → Type 1
-  P ⊢ Q = ent 𝓤 P Q
-
-  abbrev ◌∗◌ : Pr → Pr → Pr
-  P ∗ Q = sep 𝓤 P Q
-
-  abbrev ⟦◌⟧ : Fml → Pr
-  ⟦ P ⟧ = sem 𝓛 P
-
+  open signs 𝓛 use {⟦◌⟧, ◌⊢◌, ◌∗◌}
   infix 26 ◌⊢◌
   infixr 35 ◌∗◌
+
   abbrev C : Type 0
   C = Option R.Denot
 
@@ -101,7 +92,7 @@ module _ {M : Type 1} {𝓤 : Ura M} (𝓛 : Logic 𝓤) (R : RattleType) (L : L
   abbrev Tells : BucketView → List C → Fml
   Tells d cs = row_known R d cs
 
-  abbrev Turned : BucketView → List Val → W.Denot → Pr
+  abbrev Turned : BucketView → List Val → W.Denot → SProp 𝓤
   Turned d vs w = guard 𝓤 (Fit d w.slots) (⟦ W.own_val w vs ⟧ ∗ ⟦ Tells d w.slots ⟧)
 
   redeems_one : (d : BucketView) (vs : List Val) → ⟦ S.own_val d vs ⟧ ⊢ H.⇛ (ex 𝓤 (Turned d vs))
@@ -136,7 +127,7 @@ module _ {M : Type 1} {𝓤 : Ura M} (𝓛 : Logic 𝓤) (R : RattleType) (L : L
     abbrev RowsTell : ℕ → List W.Denot → Fml
     RowsTell b ws = rows_known R s b (map slots ws)
 
-    abbrev All : ℕ → List BucketView → List Val → List W.Denot → Pr
+    abbrev All : ℕ → List BucketView → List Val → List W.Denot → SProp 𝓤
     All b ds us ws = guard 𝓤 (Fits slots ds ws) (⟦ each W.Denot W.own_val ws us ⟧ ∗ ⟦ RowsTell b ws ⟧)
 
     each_redeems : (b : ℕ) (ds : List BucketView) (us : List Val) → AreOf s b ds
@@ -190,7 +181,7 @@ module _ {M : Type 1} {𝓤 : Ura M} (𝓛 : Logic 𝓤) (R : RattleType) (L : L
       check ! j $ fjoin ! $ done !)
 
   -- ---- the array
-  abbrev Arrays : TableView → List BucketView → List Val → List W.Denot → Pr
+  abbrev Arrays : TableView → List BucketView → List Val → List W.Denot → SProp 𝓤
   Arrays s ds vs ws =
       guard 𝓤 (Judged R × (length ds ≡ 63) × Fits slots ds ws)
       (⟦ (Array W 63).own_val ws vs ⟧ ∗ ⟦ RowsTell s 0 ws ⟧)
@@ -277,7 +268,7 @@ module _ {M : Type 1} {𝓤 : Ura M} (𝓛 : Logic 𝓤) (R : RattleType) (L : L
       qed 𝓛 (‵ (Owner.own_val y vs) ∷ []) ∵ fpick ! (λ h. fsplit ! $ check ! (subst IsOwned h.1.0 h.1.1) $ fjoin ! $
       fpack ! (OwnedOf y) (λ a. fsep ((buckets.TheInside.the_row R).own_val a.0 vs) ftrue) h $ done !)
 
-  abbrev pub Out : TableView → List Val → Owner.Denot → Pr
+  abbrev pub Out : TableView → List Val → Owner.Denot → SProp 𝓤
   Out s vs y = guard 𝓤 (Judged R × (y.reserved ≡ s.reserved)) (⟦ Owner.own_val y vs ⟧ ∗ ⟦ AllTell s y ⟧)
 
   pub turns_plain : (s : TableView) (vs : List Val) → ⟦ Shared.own_val s vs ⟧ ⊢ H.⇛ (ex 𝓤 (Out s vs))
@@ -354,10 +345,7 @@ module _ {M : Type 1} {𝓤 : Ura M} (𝓛 : Logic 𝓤) (R : RattleType) (L : L
       vss $
       fjoin ! $
       fpack ! (SharedOf s) (λ a. fsep ((all_shared.TheInside.the_row R).own_val a.0 vs) ftrue) (
-        record {
-          pointers = record { pointers = record { pointers = ds }; alloc = h'.0.alloc };
-          reserved = s.reserved;
-        },
+        record { pointers = record { pointers = record { pointers = ds }; alloc = h'.0.alloc }; reserved = s.reserved },
         (table_seen s, (table_named s, owned.first)),
       ) $
       done !)))))
@@ -369,7 +357,7 @@ module _ {M : Type 1} {𝓤 : Ura M} (𝓛 : Logic 𝓤) (R : RattleType) (L : L
   abbrev pub IsLent : TableView → Owner.Denot → Type 0
   IsLent s y = Judged R × (y.reserved ≡ s.reserved) × IsOwned y
 
-  abbrev pub Lies : TableView → ℕ → ℕ → Owner.Denot → Pr
+  abbrev pub Lies : TableView → ℕ → ℕ → Owner.Denot → SProp 𝓤
   Lies s b o y = guard 𝓤 (IsLent s y) (⟦ part_at Owner full_share y b o ⟧ ∗ ⟦ AllGrown s y ⟧)
 
   pub lies_plain : (s : TableView) (b o : ℕ) → ⟦ part_at Row full_share s b o ⟧ ⊢ H.⇛ (ex 𝓤 (Lies s b o))
@@ -418,7 +406,7 @@ module _ {M : Type 1} {𝓤 : Ura M} (𝓛 : Logic 𝓤) (R : RattleType) (L : L
   makes_owner c n v fits owned =
       let vs : List Val = pair_val v n ∷ [] in
       qed 𝓛 (‵ (Plain.own_val c (v ∷ [])) ∷ []) ∵ nothing ! $ flt_i ! n (2 ^ 64) fits $
-      feq_i ! (List Val) (vint w64 n ∷ []) (vint w64 n ∷ []) refl $ fjoin ! $ fjoin ! $
+      feq_i ! _ (vint w64 n ∷ []) _ refl $ fjoin ! $ fjoin ! $
       move ! (1 ∷ 0 ∷ []) $ feq_i ! (List Val) vs vs refl $ fjoin3 ! $
       fpack ! (Valss (Plain ∷ usize ∷ []))
       (within (shape_with (Plain ∷ usize ∷ [])) (c, (n, tt)) vs) (v ∷ [], (vint w64 n ∷ [], tt)) $
@@ -467,7 +455,7 @@ module _ {M : Type 1} {𝓤 : Ura M} (𝓛 : Logic 𝓤) (R : RattleType) (L : L
       use2 𝓛 (‵ (Shared.own_val s' vs)) (turns_shared so.0 s' y vs (sym so.1)) $
       nothing ! $ fpack ! (Typed Row.mir vs) (λ _. ftrue) typed $ fjoin ! $ now ! $ done !))))
 
-  abbrev pub Given : TableView → Val → Plain.Denot → Pr
+  abbrev pub Given : TableView → Val → Plain.Denot → SProp 𝓤
   Given s v c =
       guard 𝓤 (IsOwned (record { contents = c; reserved = s.reserved }))
       (⟦ Plain.own_val c (v ∷ []) ⟧ ∗ ⟦ book_owns R s.sharing c ⟧)

@@ -9,7 +9,7 @@ use seplogic.Ra.Ura.{Ura}
 use mir.Syntax.{Ty, Args, Fn, Body, Dict, a_type, dnil, dcons, method, no_args, place, assign, rv_opd, copy, seq, return}
 use mir.Val.{Val, vptr, vstruct, of_list, has_ty, WT}
 use mir.MapTy.{inst_fn}
-use base.Logic.{SProp, ent, emp, via, id⊢, fst∗, snd∗}
+use base.Logic.{SProp, ent, via, id⊢, fst∗, snd∗}
 use base.Fml.{ftrue, fsep, flft}
 use prog.Memory.{Memory}
 use prog.Routine.{Routine}
@@ -17,10 +17,10 @@ use prog.Wp.{Env, WpFn, Tables}
 use types.Logic.{Logic, sem}
 use contract.BorrowLft.{◌⊑◌}
 use contract.Lifetimes.{Lfts}
-use contract.Monad.{Fun, fact, fact_i, fact_use}
+use contract.Monad.{Fun, fact, fact_use}
 use contract.Running.{tables, tables_of}
 use sound.WpLaws.{fm_of, WpFn-mono}
-use types.Kit.{Goal, Seq, Item, ‵, raw, ◌⊛◌, some, later, at_ret, ◌$◌, ◌∵◌, !, qed, move, keep, drop, use0, use1, split}
+use types.Kit.{Goal, Seq, Item, ‵, raw, ◌⊛◌, some, later, at_ret, ◌$◌, ◌∵◌, !, qed, move, keep, drop, use1, split}
 use types.Kit.{split3, join, pick, rewrite, fsplit, fsplit3, fjoin, fjoin3, fpick, feq_i, feq_l, suffices, await, done}
 use types.Part.{whole, sub}
 use types.Run.{look_raw, store_raw, stop, fld, load, addr, no_more, and_then, of_opd, assigns, first, blocks, exec, returns, enter}
@@ -48,6 +48,7 @@ use Rattle.thread_local_shared_buckets.specs.contracts.replaced.replace_with.F-F
 use Rattle.thread_local_shared_buckets.specs.contracts.replaced.replace_with.Key as key
 use Rattle.thread_local_shared_buckets.proofs.replaced.replace_with.Statement as stated
 use Rattle.thread_local_shared_buckets.proofs.replaced.replace_with.Code as code
+use Rattle.thread_local_model.proofs.Walking.{knows}
 
 both : (a b : Bool) → T a → T b → T (a && (b && true))
 both true true s t = tt
@@ -151,20 +152,14 @@ module _ (Y X R Z : RattleType) (g : Called.Ghosts Y X R Z) (d d' : Dict) where
           sets ! (of_opd ! (load ! (through ! refl (stop !)) (look_raw ! 0 refl))) refl gv $
           sets ! (of_opd ! (get ! refl)) refl gu $
           let y : (Once 𝓛).Ghost = (
-            (
-              κs,
-              (q₄, (q₁, (q₂, (q₃, tt)))),
-              tt,
-              (f, (h, (x, tt))),
-              (w ∷ [], (v ∷ [], (u ∷ [], tt))),
-            ),
+            (κs, (q₄, (q₁, (q₂, (q₃, tt)))), tt, (f, (h, (x, tt))), (w ∷ [], (v ∷ [], (u ∷ [], tt)))),
             tt,
           ) in
-          use0 𝓛 (raw (fact 𝓤 Ok)) (fact_i 𝓤 Ok (emp 𝓤) ok) $
-          use0 𝓛 (raw (fact 𝓤 (κ₃ ⊑ R.lives))) (fact_i 𝓤 (κ₃ ⊑ R.lives) (emp 𝓤) in_r) $ join ! $
-          use0 𝓛 (raw (fact 𝓤 (κ₂ ⊑ X.lives))) (fact_i 𝓤 (κ₂ ⊑ X.lives) (emp 𝓤) inX) $ join ! $
-          use0 𝓛 (raw (fact 𝓤 (κ₁ ⊑ Y.lives))) (fact_i 𝓤 (κ₁ ⊑ Y.lives) (emp 𝓤) inY) $ join ! $
-          use0 𝓛 (raw (fact 𝓤 (κ₄ ⊑ Z.lives))) (fact_i 𝓤 (κ₄ ⊑ Z.lives) (emp 𝓤) inZ) $ join ! $
+          knows ! Ok ok $
+          knows ! (κ₃ ⊑ R.lives) in_r $ join ! $
+          knows ! (κ₂ ⊑ X.lives) inX $ join ! $
+          knows ! (κ₁ ⊑ Y.lives) inY $ join ! $
+          knows ! (κ₄ ⊑ Z.lives) inZ $ join ! $
           nothing ! $ move ! (8 ∷ 0 ∷ []) $ fjoin ! $ move ! (3 ∷ 0 ∷ []) $ fjoin ! $ move ! (6 ∷ 0 ∷ []) $ fjoin ! $
           move ! (6 ∷ []) $ split3 ! $ move ! (2 ∷ []) $ split3 ! $ move ! (0 ∷ 2 ∷ []) $ join ! $
           move ! (3 ∷ 0 ∷ []) $ join ! $ move ! (2 ∷ 0 ∷ []) $ join ! $ move ! (1 ∷ 0 ∷ []) $

@@ -1,13 +1,13 @@
 -- `allocate` asks the allocator for the room of a block.
 use Rattle.thread_local_model.proofs.Names.{◌∙◌, ◌≡◌, ℕ, ◌^◌, ◌<◌, [], ◌∷◌, sym, refl, arith, lit<, w64, true, false}
 use Rattle.thread_local_model.proofs.Names.{Ty, Body, a_type, dcons, dnil, named, Val, vint, vptr, vstruct, vcons}
-use Rattle.thread_local_model.proofs.Names.{vnil, WT, inst_fn, SProp, emp, Lft, Share, Fml, ftrue, fsep, flft, ◌∵◌, ‵}
+use Rattle.thread_local_model.proofs.Names.{vnil, WT, inst_fn, SProp, Lft, Share, Fml, ftrue, fsep, flft, ◌∵◌, ‵}
 use Rattle.thread_local_model.proofs.Names.{raw, ◌⊛◌, later, at_ret, any_q, ◌$◌, !, qed, by, move, keep, use0, use1}
 use Rattle.thread_local_model.proofs.Names.{use2, split, join, fsplit, fjoin, await, stop, fld, lit, align_word}
 use Rattle.thread_local_model.proofs.Names.{of_opd, no_more, and_then, first, exec, switches_on, returns, enter}
 use Rattle.thread_local_model.proofs.Names.{alloc_all, pass_all, free_all, look_at, get, get_in, get_tag, sets}
 use Rattle.thread_local_model.proofs.Names.{sets_last, lands_as, env, agg, whole, live, vrt, in_variant, tables, fact}
-use Rattle.thread_local_model.proofs.Names.{fact_i, yes, RattleType, owns, types_at, plain, Ptr, block_ptr, nothing}
+use Rattle.thread_local_model.proofs.Names.{yes, RattleType, owns, types_at, plain, Ptr, block_ptr, nothing}
 use Rattle.thread_local_model.proofs.Names.{heard, param, bounded, RefOf, usize, shr_vals, shr_Tells, uint_vals}
 use Rattle.thread_local_model.proofs.Names.{uint_Tells, Stays, stay_dropped, walk_of, Goes-dropped, proved, leaves, fm}
 use Rattle.thread_local_model.proofs.Names.{after}
@@ -26,21 +26,17 @@ use Rattle.std.proofs.alloc.Shapes.{front, arm_body}
 use Rattle.std.proofs.alloc.Calls.{Al as Handle, Answer-typed, Takes, at_takes, Answered, Takes-goes, Takes-gives, answers}
 use Rattle.thread_local_bucket_pointers.specs.Slots.{empty_slots, chunks, slots_ty, block_ty, Fits, block_owns}
 use Rattle.thread_local_bucket_pointers.specs.contracts.block.Block as block
-use Rattle.thread_local_bucket_pointers.specs.contracts.block.Block.allocate.{ended, clauses}
-use Rattle.thread_local_bucket_pointers.specs.contracts.block.Block.allocate.Key.{name as #self}
+use Rattle.thread_local_bucket_pointers.specs.contracts.block.Block.allocate.{ended, clauses, Key.name as #self}
 use Rattle.thread_local_bucket_pointers.proofs.Fields.{block_val, block_good, made, FieldsType, block_size, block_align}
 use Rattle.thread_local_bucket_pointers.proofs.Making.{fresh}
 use Rattle.thread_local_bucket_pointers.proofs.block.Block.allocate.Statement.{statement}
 use Rattle.thread_local_bucket_pointers.proofs.block.Block.allocate.Code as code
+use Rattle.thread_local_model.proofs.Walking.{knows}
 
 pub allocate_spec : {M : Type 1} → statement M
 allocate_spec 𝓤 𝓛 𝓜 𝓡 wired T Al L LA ga da dd met _ =
-    let H = 𝓛.H in
-    let 𝓣 = tables 𝓤 H 𝓜 𝓡 𝓡.env in
-    let R : RattleType = param 0 T in
-    let Z : RattleType = param 1 Al in
-    let Bl : RattleType = block.the_row R Z ga in
-    let En = ended T Al ga da dd in
+    let H = 𝓛.H in let 𝓣 = tables 𝓤 H 𝓜 𝓡 𝓡.env in let R : RattleType = param 0 T in let Z : RattleType = param 1 Al in
+    let Bl : RattleType = block.the_row R Z ga in let En = ended T Al ga da dd in
     let c = clauses T Al ga da dd 𝓛 𝓜.mem 𝓡.returns in
     let inst = bounded (a_type ∷ a_type ∷ []) (T, (Al, tt)) (dcons da (dcons dd dnil)) in
     let fn = inst_fn inst code.function in
@@ -67,9 +63,7 @@ allocate_spec 𝓤 𝓛 𝓜 𝓡 wired T Al L LA ga da dd met _ =
     let n : ℕ = a.1.0 in
     let τ : Ty = block_ty R n in
     let s : ℕ = a.1.1.0 in
-    let κ : Lft = κs.0 in
-    let q : Share = qs.0 in
-    let token : Ty → Ptr → Fml = ga.dealloc_token heap in
+    let κ : Lft = κs.0 in let q : Share = qs.0 in let token : Ty → Ptr → Fml = ga.dealloc_token heap in
     let y : (walk_of 𝓛 En hs c).Ghost =
     ((κs, qs, bounds, a, (vptr hp.0 hp.1 ∷ [], (vint w64 n ∷ [], (vint w64 s ∷ [], tt)))), gh) in
     let Post : Val → SProp 𝓤 = (walk_of 𝓛 En hs c).post y in
@@ -82,7 +76,7 @@ allocate_spec 𝓤 𝓛 𝓜 𝓡 wired T Al L LA ga da dd met _ =
     let small : s < 2 ^ 64 = omega arith in
     let bytes : capped (size τ) ≡ s = block_size R n fits ∙ sym sized in
     split ! $ split ! $ move ! (2 ∷ []) $ fsplit ! $ fsplit ! $ keep ! (1 ∷ 3 ∷ 4 ∷ []) $
-    enter ! 𝓣.C 𝓣.Λ fn (vptr hp.0 hp.1 ∷ vint w64 n ∷ vint w64 s ∷ []) Post $ alloc_all ! (λ l.
+    enter ! _ _ _ _ _ $ alloc_all ! (λ l.
     pass_all ! refl
     ((tt, tt), ((tt, record { fits = are.1.0.1 }), ((tt, record { fits = are.1.1.0.1 }), tt))) $
     let Ev = env fn.locals l in
@@ -126,7 +120,7 @@ allocate_spec 𝓤 𝓛 𝓜 𝓡 wired T Al L LA ga da dd met _ =
     sets ! (of_opd ! (get ! refl)) refl (tt, good) $
     use0 𝓛 (‵ ((FieldsType R Z ga).own_val (p, (record {}, tt)) (block_val p ∷ []))) (made R Z ga 𝓛 p) $ fjoin ! $
     use1 𝓛 (‵ (Out.own_val (Ok r) (val ∷ []))) (Ok-of 𝓛 Bl refusal.the_row r (block_val p)) $
-    use0 𝓛 (raw (fact 𝓤 Told)) (fact_i 𝓤 Told (emp 𝓤) (refl, refl, refl)) $ nothing ! $ nothing ! $
+    knows ! Told (refl, refl, refl) $ nothing ! $ nothing ! $
     fjoin ! $ nothing ! $ fjoin ! $ nothing ! $ fjoin ! $
     returns ! (look_at ! 0 refl) $ free_all ! refl $ keep ! (3 ∷ 0 ∷ 2 ∷ 1 ∷ []) $
     by ! (leaves 𝓛 En hs c y val (Ok r) (tt, (tt, (tt, tt))) (tt, (tt, (tt, tt)))))
@@ -145,7 +139,7 @@ allocate_spec 𝓤 𝓛 𝓜 𝓡 wired T Al L LA ga da dd met _ =
     use0 𝓛 (‵ F) (makes_shadow 𝓛 F (λ uss. (tt, tt)) (tt, (refl, tt))) $
     use1 𝓛 (‵ (Out.own_val (Err (record {})) (val ∷ [])))
     (Err-of 𝓛 Bl refusal.the_row (record {}) (vstruct vnil)) $
-    use0 𝓛 (raw (fact 𝓤 (Unit {0}))) (fact_i 𝓤 (Unit {0}) (emp 𝓤) tt) $ nothing ! $ nothing ! $
+    knows ! (Unit {0}) tt $ nothing ! $ nothing ! $
     fjoin ! $ nothing ! $ fjoin ! $ nothing ! $ fjoin ! $
     returns ! (look_at ! 0 refl) $ free_all ! refl $ keep ! (3 ∷ 0 ∷ 2 ∷ 1 ∷ []) $
     by ! (leaves 𝓛 En hs c y val (Err (record {})) (tt, (tt, (tt, tt))) (tt, (tt, (tt, tt)))))))))))

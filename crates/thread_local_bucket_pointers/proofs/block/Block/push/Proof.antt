@@ -1,13 +1,13 @@
 -- `push` writes 0 into the word of the next chunk.
 use Rattle.thread_local_model.proofs.Names.{◌≡◌, ℕ, ◌+◌, ◌-◌, suc, ◌*◌, ◌^◌, ◌<◌, List, [], ◌∷◌, length, sym, refl, ap}
 use Rattle.thread_local_model.proofs.Names.{◌∙◌, subst, arith, lit<, w64, Option, Ty, ty_int, a_type, dcons, dnil}
-use Rattle.thread_local_model.proofs.Names.{named, Val, vint, vptr, vunit, inst_fn, full_share, SProp, emp, apply∗}
+use Rattle.thread_local_model.proofs.Names.{named, Val, vint, vptr, vunit, inst_fn, full_share, SProp, apply∗}
 use Rattle.thread_local_model.proofs.Names.{Fml, ftrue, fsep, froom, flft, sem, ‵, raw, ◌⊛◌, given, at_ret, ◌$◌, ◌∵◌}
-use Rattle.thread_local_model.proofs.Names.{ !, qed, by, move, keep, use0, use1, use2, split, join, fsplit, fsplit3}
+use Rattle.thread_local_model.proofs.Names.{!, qed, by, move, keep, use1, use2, split, join, fsplit, fsplit3}
 use Rattle.thread_local_model.proofs.Names.{fjoin, fjoin3, learn, rewrite, feq_i, stop, fld, load, lit, unit_lit}
 use Rattle.thread_local_model.proofs.Names.{of_opd, bin, first, blocks, exec, returns, enter, init, assigns_last}
 use Rattle.thread_local_model.proofs.Names.{alloc_all, pass_all, free_all, look_at, get, through, sets, is, env, sub}
-use Rattle.thread_local_model.proofs.Names.{look_in, whole, tables, fact, fact_i, yes, RattleType, owns, types_at}
+use Rattle.thread_local_model.proofs.Names.{look_in, whole, tables, fact, yes, RattleType, owns, types_at}
 use Rattle.thread_local_model.proofs.Names.{plain, Ptr, block_ptr, block_of, count_of, at_block, InBlock, nothing}
 use Rattle.thread_local_model.proofs.Names.{heard, opens, closes, peeks, shows, param, bounded, usize, mut_vals}
 use Rattle.thread_local_model.proofs.Names.{mut_Tells, uint_vals, uint_Tells, Stays, stay_dropped, stay_ref, walk_of}
@@ -15,21 +15,17 @@ use Rattle.thread_local_model.proofs.Names.{Goes-dropped, Goes-ref, cell_at, pro
 use Rattle.thread_local_bucket_pointers.specs.Slots.{chunks, value_words, word_offset, flag_word_at, block_owns}
 use Rattle.thread_local_bucket_pointers.proofs.Slots.{IsWordNear}
 use Rattle.thread_local_bucket_pointers.specs.contracts.block.Block as block
-use Rattle.thread_local_bucket_pointers.specs.contracts.block.Block.push.{ended, clauses}
-use Rattle.thread_local_bucket_pointers.specs.contracts.block.Block.push.Key.{name as #self}
+use Rattle.thread_local_bucket_pointers.specs.contracts.block.Block.push.{ended, clauses, Key.name as #self}
 use Rattle.thread_local_bucket_pointers.proofs.Fields.{block_val, told}
 use Rattle.thread_local_bucket_pointers.proofs.Making.{next_room, Filled}
 use Rattle.thread_local_bucket_pointers.proofs.block.Block.push.Statement.{statement}
 use Rattle.thread_local_bucket_pointers.proofs.block.Block.push.Code as code
+use Rattle.thread_local_model.proofs.Walking.{knows}
 
 pub push_spec : {M : Type 1} → statement M
 push_spec 𝓤 𝓛 𝓜 𝓡 wired T Al L _ ga da dd _ _ =
-    let H = 𝓛.H in
-    let 𝓣 = tables 𝓤 H 𝓜 𝓡 𝓡.env in
-    let R : RattleType = param 0 T in
-    let Z : RattleType = param 1 Al in
-    let Bl : RattleType = block.the_row R Z ga in
-    let En = ended T Al ga da dd in
+    let 𝓣 = tables 𝓤 𝓛.H 𝓜 𝓡 𝓡.env in let R : RattleType = param 0 T in let Z : RattleType = param 1 Al in
+    let Bl : RattleType = block.the_row R Z ga in let En = ended T Al ga da dd in
     let c = clauses T Al ga da dd 𝓛 𝓜.mem 𝓡.returns in
     let inst = bounded (a_type ∷ a_type ∷ []) (T, (Al, tt)) (dcons da (dcons dd dnil)) in let fn = inst_fn inst code.function in
     let number = plain (λ _. usize) in let goes = Goes-dropped 𝓛 3 number yes (λ κs x f. refl) in
@@ -38,34 +34,19 @@ push_spec 𝓤 𝓛 𝓜 𝓡 wired T Al L _ ga da dd _ _ =
       (stay_dropped number yes, (stay_dropped number yes, tt)),
     ) in
     proved 𝓛 En hs c 𝓜 𝓡 (Goes-ref 𝓛 3 0 tt (plain (λ _. Bl)), (goes, (goes, tt))) (#self inst) fn
-    (code.unfolded 𝓤 H 𝓜 𝓡 wired (T, (Al, tt)) da dd)
+    (code.unfolded 𝓤 𝓛.H 𝓜 𝓡 wired (T, (Al, tt)) da dd)
     (λ κs. (mut_vals, (uint_vals w64, (uint_vals w64, tt))))
     (λ κs. (mut_Tells (named 0) κs.0 Bl, (uint_Tells w64, (uint_Tells w64, tt))))
     (λ κs qs bounds a gh are.
     let y : (walk_of 𝓛 En hs c).Ghost = (
-      (
-        κs,
-        qs,
-        bounds,
-        a,
-        (
-          vptr a.0.ref_ptr.0 a.0.ref_ptr.1 ∷ [],
-          (vint w64 a.1.0 ∷ [], (vint w64 a.1.1.0 ∷ [], tt)),
-        ),
-      ),
+      (κs, qs, bounds, a, (vptr a.0.ref_ptr.0 a.0.ref_ptr.1 ∷ [], (vint w64 a.1.0 ∷ [], (vint w64 a.1.1.0 ∷ [], tt)))),
       gh,
     ) in
-    let Post : Val → SProp 𝓤 = (walk_of 𝓛 En hs c).post y in
-    let b' : ℕ = a.0.ref_ptr.0 in
-    let o' : ℕ = a.0.ref_ptr.1 in
-    let h : Bl.Denot = a.0.now in
-    let token : Ty → Ptr → Fml = ga.dealloc_token h.heap in
-    let p : Ptr = h.at in
-    let j : ℕ = a.1.0 in
-    let i : ℕ = a.1.1.0 in
+    let Post : Val → SProp 𝓤 = (walk_of 𝓛 En hs c).post y in let b' : ℕ = a.0.ref_ptr.0 in let o' : ℕ = a.0.ref_ptr.1 in
+    let h : Bl.Denot = a.0.now in let token : Ty → Ptr → Fml = ga.dealloc_token h.heap in let p : Ptr = h.at in
+    let j : ℕ = a.1.0 in let i : ℕ = a.1.1.0 in
     let left : ℕ = h.left - 1 in
-    let b : ℕ = block_of p in
-    let cs : List (Option T.Denot) = h.slots in
+    let b : ℕ = block_of p in let cs : List (Option T.Denot) = h.slots in
     let n : ℕ = length cs in
     let e : ℕ = word_offset R n (count_of p) j in
     let Asked : Type 0 = (j + h.left ≡ chunks (length cs)) × (0 < h.left) in
@@ -77,7 +58,7 @@ push_spec 𝓤 𝓛 𝓜 𝓡 wired T Al L _ ga da dd _ _ =
     let pos : 0 < h.left = asked.1 in
     let same : h.left ≡ suc left = omega arith in
     split ! $ split ! $ move ! (2 ∷ []) $ fsplit ! $ fsplit3 ! $ keep ! (1 ∷ 2 ∷ 4 ∷ 5 ∷ []) $
-    enter ! 𝓣.C 𝓣.Λ fn (vptr b' o' ∷ vint w64 j ∷ vint w64 i ∷ []) Post $ alloc_all ! (λ l.
+    enter ! _ _ _ _ _ $ alloc_all ! (λ l.
     pass_all ! refl
     ((tt, tt), ((tt, record { fits = are.1.0.1 }), ((tt, record { fits = are.1.1.0.1 }), tt))) $
     let Ev = env fn.locals l in
@@ -110,10 +91,10 @@ push_spec 𝓤 𝓛 𝓜 𝓡 wired T Al L _ ga da dd _ _ =
     use2 𝓛 (‵ (block_owns R token p cs left)) (apply∗ 𝓤 (sem 𝓛 (word b e 0)) (sem 𝓛 (block_owns R token p cs left))) $
     rewrite ! 2 Cell (sym seen) refl $ let h' : Bl.Denot = record { at = p; marker = h.marker; heap = h.heap; slots = cs; left = left } in
     move ! (1 ∷ []) $ fjoin ! $ move ! (1 ∷ []) $ closes ! tt Bl h' us b' o' $
-    feq_i ! (List Val) (vptr b' o' ∷ []) (vptr b' o' ∷ []) refl $ fjoin3 ! $ nothing ! $ nothing ! $
+    feq_i ! _ (vptr b' o' ∷ []) _ refl $ fjoin3 ! $ nothing ! $ nothing ! $
     fjoin ! $ nothing ! $ fjoin ! $ move ! (1 ∷ 0 ∷ []) $ fjoin ! $ move ! (1 ∷ 2 ∷ []) $ join ! $
     let Kept : Type 0 = (h.heap ≡ h.heap) × (h'.slots ≡ h'.slots) × (left + 1 ≡ h.left) in
-    use0 𝓛 (raw (fact 𝓤 Kept)) (fact_i 𝓤 Kept (emp 𝓤) (refl, refl, omega arith)) $
-    feq_i ! (List Val) (vunit ∷ []) (vunit ∷ []) refl $
+    knows ! Kept (refl, refl, omega arith) $
+    feq_i ! _ (vunit ∷ []) _ refl $
     returns ! (look_at ! 0 refl) $ free_all ! refl $ keep ! (2 ∷ 3 ∷ 0 ∷ 1 ∷ []) $
     by ! (leaves 𝓛 En hs c y vunit tt (h', (tt, (tt, tt))) (tt, (tt, (tt, tt)))))))))))

@@ -1,12 +1,12 @@
 -- `flags` reads the word of a chunk.
 use Rattle.thread_local_model.proofs.Names.{◌≡◌, ℕ, ◌+◌, ◌*◌, ◌^◌, ◌<◌, List, [], ◌∷◌, length, sym, refl, ap, ◌∙◌}
 use Rattle.thread_local_model.proofs.Names.{subst, w64, Option, a_type, named, Val, vint, vptr, inst_fn, full_share}
-use Rattle.thread_local_model.proofs.Names.{SProp, emp, apply∗, Fml, ftrue, fsep, flft, sem, ‵, raw, ◌⊛◌, some, given}
-use Rattle.thread_local_model.proofs.Names.{at_ret, ◌$◌, ◌∵◌, !, qed, by, move, keep, use0, use1, use2, split, join}
+use Rattle.thread_local_model.proofs.Names.{SProp, apply∗, Fml, ftrue, fsep, flft, sem, ‵, raw, ◌⊛◌, some, given}
+use Rattle.thread_local_model.proofs.Names.{at_ret, ◌$◌, ◌∵◌, !, qed, by, move, keep, use1, use2, split, join}
 use Rattle.thread_local_model.proofs.Names.{fsplit, fsplit3, fjoin, fjoin3, pick, learn, rewrite, feq_i, stop, fld}
 use Rattle.thread_local_model.proofs.Names.{load, look, of_opd, bin, lit, first, blocks, exec, returns, enter}
 use Rattle.thread_local_model.proofs.Names.{alloc_all, pass_all, free_all, look_at, get, through, sets, sets_last, is}
-use Rattle.thread_local_model.proofs.Names.{env, sub, look_in, whole, tables, fact, fact_i, yes, RattleType, owns}
+use Rattle.thread_local_model.proofs.Names.{env, sub, look_in, whole, tables, fact, yes, RattleType, owns}
 use Rattle.thread_local_model.proofs.Names.{types_at, plain, Ptr, block_ptr, block_of, count_of, at_block, nothing}
 use Rattle.thread_local_model.proofs.Names.{heard, opens, closes, peeks, shows, param, layouts, usize, mut_vals}
 use Rattle.thread_local_model.proofs.Names.{mut_Tells, uint_vals, uint_Tells, Stays, stay_dropped, stay_ref, walk_of}
@@ -18,55 +18,34 @@ use Rattle.thread_local_bucket_pointers.specs.Slots.{slot_value, value_words, fl
 use Rattle.thread_local_bucket_pointers.proofs.Slots.{IsWordIn, flags_of}
 use Rattle.thread_local_bucket_pointers.specs.PointerOwns.{pointer_owns}
 use Rattle.thread_local_bucket_pointers.specs.contracts.bucket_pointer.BucketPointer as one_pointer
-use Rattle.thread_local_bucket_pointers.specs.contracts.bucket_pointer.BucketPointer.flags.{ended, clauses}
-use Rattle.thread_local_bucket_pointers.specs.contracts.bucket_pointer.BucketPointer.flags.Key.{name as #self}
+use Rattle.thread_local_bucket_pointers.specs.contracts.bucket_pointer.BucketPointer.flags.{ended, clauses, Key.name as #self}
 use Rattle.thread_local_bucket_pointers.proofs.PointerSteps.{pointer_val, told, Same, pointer_chunk}
 use Rattle.thread_local_bucket_pointers.proofs.bucket_pointer.BucketPointer.flags.Statement.{statement}
 use Rattle.thread_local_bucket_pointers.proofs.bucket_pointer.BucketPointer.flags.Code as code
+use Rattle.thread_local_model.proofs.Walking.{knows}
 
 pub flags_spec : {M : Type 1} → statement M
 flags_spec 𝓤 𝓛 𝓜 𝓡 wired T L =
-    let H = 𝓛.H in
-    let 𝓣 = tables 𝓤 H 𝓜 𝓡 𝓡.env in
-    let R : RattleType = param 0 T in
-    let PointerRow : RattleType = one_pointer.the_row R in
-    let En = ended T in
-    let c = clauses T 𝓛 𝓜.mem 𝓡.returns in
-    let inst = layouts (a_type ∷ []) (T, tt) in
-    let fn = inst_fn inst code.function in
-    let number = plain (λ _. usize) in
+    let 𝓣 = tables 𝓤 𝓛.H 𝓜 𝓡 𝓡.env in let R : RattleType = param 0 T in let PointerRow : RattleType = one_pointer.the_row R in
+    let En = ended T in let c = clauses T 𝓛 𝓜.mem 𝓡.returns in let inst = layouts (a_type ∷ []) (T, tt) in
+    let fn = inst_fn inst code.function in let number = plain (λ _. usize) in
     let goes = Goes-dropped 𝓛 2 number yes (λ κs x f. refl) in
     let hs : Stays En.signature.params En.kept = (
       stay_ref (0 ∷ []) tt (plain (λ _. PointerRow)),
       (stay_dropped number yes, (stay_dropped number yes, tt)),
     ) in
     proved 𝓛 En hs c 𝓜 𝓡 (Goes-ref 𝓛 2 0 tt (plain (λ _. PointerRow)), (goes, (goes, tt)))
-    (#self inst) fn (code.unfolded 𝓤 H 𝓜 𝓡 wired (T, tt))
+    (#self inst) fn (code.unfolded 𝓤 𝓛.H 𝓜 𝓡 wired (T, tt))
     (λ κs. (mut_vals, (uint_vals w64, (uint_vals w64, tt))))
     (λ κs. (mut_Tells (named 0) κs.0 PointerRow, (uint_Tells w64, (uint_Tells w64, tt))))
     (λ κs qs bounds a gh are.
     let y : (walk_of 𝓛 En hs c).Ghost = (
-      (
-        κs,
-        qs,
-        bounds,
-        a,
-        (
-          vptr a.0.ref_ptr.0 a.0.ref_ptr.1 ∷ [],
-          (vint w64 a.1.0 ∷ [], (vint w64 a.1.1.0 ∷ [], tt)),
-        ),
-      ),
+      (κs, qs, bounds, a, (vptr a.0.ref_ptr.0 a.0.ref_ptr.1 ∷ [], (vint w64 a.1.0 ∷ [], (vint w64 a.1.1.0 ∷ [], tt)))),
       gh,
     ) in
-    let Post : Val → SProp 𝓤 = (walk_of 𝓛 En hs c).post y in
-    let b' : ℕ = a.0.ref_ptr.0 in
-    let o' : ℕ = a.0.ref_ptr.1 in
-    let h : PointerRow.Denot = a.0.now in
-    let p : Ptr = h.at in
-    let cs : List (Option T.Denot) = h.slots in
-    let j : ℕ = a.1.0 in
-    let w : ℕ = a.1.1.0 in
-    let others : Fml = fsep (flft κs.1.0 qs.1.0) ftrue in
+    let Post : Val → SProp 𝓤 = (walk_of 𝓛 En hs c).post y in let b' : ℕ = a.0.ref_ptr.0 in let o' : ℕ = a.0.ref_ptr.1 in
+    let h : PointerRow.Denot = a.0.now in let p : Ptr = h.at in let cs : List (Option T.Denot) = h.slots in
+    let j : ℕ = a.1.0 in let w : ℕ = a.1.1.0 in let others : Fml = fsep (flft κs.1.0 qs.1.0) ftrue in
     let b : ℕ = block_of p in
     qed 𝓛 (((‵ (flft κs.0 qs.0) ⊛ ‵ others) ⊛ ‵ (owns (types_at En.signature.params κs) a y.0.4))
     ∷ raw (fact 𝓤 _) ∷ raw (fact 𝓤 (j * 64 < length cs))
@@ -74,7 +53,7 @@ flags_spec 𝓤 𝓛 𝓜 𝓡 wired T L =
     keep ! (2 ∷ 3 ∷ 0 ∷ []) $ heard ! (j * 64 < length cs) (λ near.
     heard ! (w ≡ flag_word_at R (length cs) j) (λ numbered. split ! $ split ! $ move ! (2 ∷ []) $
     fsplit ! $ fsplit3 ! $ keep ! (1 ∷ 2 ∷ 4 ∷ 5 ∷ []) $
-    enter ! 𝓣.C 𝓣.Λ fn (vptr b' o' ∷ vint w64 j ∷ vint w64 w ∷ []) Post $ alloc_all ! (λ l.
+    enter ! _ _ _ _ _ $ alloc_all ! (λ l.
     pass_all ! refl
     ((tt, tt), ((tt, record { fits = are.1.0.1 }), ((tt, record { fits = are.1.1.0.1 }), tt))) $
     let Ev = env fn.locals l in
@@ -110,11 +89,11 @@ flags_spec 𝓤 𝓛 𝓜 𝓡 wired T L =
     (apply∗ 𝓤 (sem 𝓛 (flags_of R (length cs) p n j)) (sem 𝓛 (pointer_owns R heap_token p cs))) $
     rewrite ! 2 Cell (sym seen) refl $
     move ! (1 ∷ []) $ fjoin ! $ move ! (1 ∷ []) $ closes ! tt PointerRow h us b' o' $
-    feq_i ! (List Val) (vptr b' o' ∷ []) (vptr b' o' ∷ []) refl $ fjoin3 ! $ nothing ! $ nothing ! $
+    feq_i ! _ (vptr b' o' ∷ []) _ refl $ fjoin3 ! $ nothing ! $ nothing ! $
     fjoin ! $ nothing ! $ fjoin ! $ move ! (1 ∷ 0 ∷ []) $ fjoin ! $ move ! (1 ∷ 2 ∷ []) $ join ! $
-    use0 𝓛 (raw (fact 𝓤 (h ≡ h))) (fact_i 𝓤 (h ≡ h) (emp 𝓤) refl) $
-    use0 𝓛 (raw (fact 𝓤 Told)) (fact_i 𝓤 Told (emp 𝓤) so.is_word.flags) $ join ! $
-    flt_i ! n (2 ^ 64) read $ feq_i ! (List Val) (vint w64 n ∷ []) (vint w64 n ∷ []) refl $
+    knows ! (h ≡ h) refl $
+    knows ! Told so.is_word.flags $ join ! $
+    flt_i ! n (2 ^ 64) read $ feq_i ! _ (vint w64 n ∷ []) _ refl $
     fjoin ! $
     returns ! (look_at ! 0 refl) $ free_all ! refl $ keep ! (2 ∷ 3 ∷ 0 ∷ 1 ∷ []) $
     by ! (leaves 𝓛 En hs c y (vint w64 n) n (h, (tt, (tt, tt))) (tt, (tt, (tt, tt))))))))))))

@@ -1,13 +1,13 @@
 -- `get_mut` lends the value in a slot, and the pointer ends with what was written there.
 use Rattle.thread_local_model.proofs.Names.{◌≡◌, ℕ, ◌*◌, ◌^◌, ◌<◌, List, [], ◌∷◌, length, sym, refl, ap, ◌∙◌, subst}
 use Rattle.thread_local_model.proofs.Names.{w64, true, Option, Some, a_type, named, Val, vint, vptr, inst_fn}
-use Rattle.thread_local_model.proofs.Names.{full_share, SProp, id⊢, emp, Lft, Share, GName, Fml, ftrue, fsep, flft, ‵}
+use Rattle.thread_local_model.proofs.Names.{full_share, SProp, id⊢, Lft, Share, GName, Fml, ftrue, fsep, flft, ‵}
 use Rattle.thread_local_model.proofs.Names.{raw, ◌⊛◌, some, given, later, at_ret, ◌$◌, ◌∵◌, !, qed, by, move, keep}
-use Rattle.thread_local_model.proofs.Names.{use0, use1, split, split3, join, group, fsplit, fsplit3, fjoin, pick}
+use Rattle.thread_local_model.proofs.Names.{use1, split, split3, join, group, fsplit, fsplit3, fjoin, pick}
 use Rattle.thread_local_model.proofs.Names.{await, learn, rewrite, stop, fld, load, addr, size_word, of_opd, bin}
 use Rattle.thread_local_model.proofs.Names.{first, blocks, exec, returns, enter, alloc_all, pass_all, free_all}
 use Rattle.thread_local_model.proofs.Names.{look_at, get, through, sets, sets_last, is, env, sub, look_in, whole}
-use Rattle.thread_local_model.proofs.Names.{tables, fact, fact_i, yes, no, RattleType, owns, types_at, plain, Ptr}
+use Rattle.thread_local_model.proofs.Names.{tables, fact, yes, no, RattleType, owns, types_at, plain, Ptr}
 use Rattle.thread_local_model.proofs.Names.{block_ptr, block_of, count_of, at_block, nothing, heard, opens, peeks}
 use Rattle.thread_local_model.proofs.Names.{shows, param, layouts, usize, mut_vals, mut_Tells, uint_vals, uint_Tells}
 use Rattle.thread_local_model.proofs.Names.{Stays, stay_dropped, walk_of, Goes-dropped, cell_at, proved, leaves, after}
@@ -23,48 +23,32 @@ use Rattle.thread_local_bucket_pointers.specs.Slots.{slot_value, stride, value_o
 use Rattle.thread_local_bucket_pointers.proofs.Slots.{IsSlotIn, flags_of, slot_of, value_of, slot_flag}
 use Rattle.thread_local_bucket_pointers.proofs.Flags.{uncapped}
 use Rattle.thread_local_bucket_pointers.specs.contracts.bucket_pointer.BucketPointer as one_pointer
-use Rattle.thread_local_bucket_pointers.specs.contracts.bucket_pointer.BucketPointer.get_mut.{ended, clauses}
-use Rattle.thread_local_bucket_pointers.specs.contracts.bucket_pointer.BucketPointer.get_mut.Key.{name as #self}
+use Rattle.thread_local_bucket_pointers.specs.contracts.bucket_pointer.BucketPointer.get_mut.{ended, clauses, Key.name as #self}
 use Rattle.thread_local_bucket_pointers.proofs.PointerSteps.{pointer_val, told, Again, pointer_slot}
 use Rattle.thread_local_bucket_pointers.proofs.bucket_pointer.BucketPointer.get_mut.Statement.{statement}
 use Rattle.thread_local_bucket_pointers.proofs.bucket_pointer.BucketPointer.get_mut.Code as code
+use Rattle.thread_local_model.proofs.Walking.{knows}
 
 pub get_mut_spec : {M : Type 1} → statement M
 get_mut_spec 𝓤 𝓛 𝓜 𝓡 wired T L =
-    let H = 𝓛.H in
-    let 𝓣 = tables 𝓤 H 𝓜 𝓡 𝓡.env in
-    let R : RattleType = param 0 T in
-    let PointerRow : RattleType = one_pointer.the_row R in
-    let En = ended T in
-    let c = clauses T 𝓛 𝓜.mem 𝓡.returns in
-    let inst = layouts (a_type ∷ []) (T, tt) in
-    let fn = inst_fn inst code.function in
-    let row = plain (λ _. PointerRow) in
+    let 𝓣 = tables 𝓤 𝓛.H 𝓜 𝓡 𝓡.env in let R : RattleType = param 0 T in let PointerRow : RattleType = one_pointer.the_row R in
+    let En = ended T in let c = clauses T 𝓛 𝓜.mem 𝓡.returns in let inst = layouts (a_type ∷ []) (T, tt) in
+    let fn = inst_fn inst code.function in let row = plain (λ _. PointerRow) in
     let self = RefMutOf (0 ∷ []) tt row (λ _. tt) in
     let hs : Stays En.signature.params En.kept =
     (stay_dropped self no, (stay_dropped (plain (λ _. usize)) yes, tt)) in
-    proved 𝓛 En hs c 𝓜 𝓡 (
-      Goes-spent_ref 𝓛 2 (0 ∷ []) tt row,
-      (Goes-dropped 𝓛 2 (plain (λ _. usize)) yes (λ κs x f. refl), tt),
-    )
-    (#self inst) fn (code.unfolded 𝓤 H 𝓜 𝓡 wired (T, tt))
+    proved 𝓛 En hs c 𝓜 𝓡 (Goes-spent_ref 𝓛 2 (0 ∷ []) tt row, (Goes-dropped 𝓛 2 (plain (λ _. usize)) yes (λ κs x f. refl), tt))
+    (#self inst) fn (code.unfolded 𝓤 𝓛.H 𝓜 𝓡 wired (T, tt))
     (λ κs. (mut_vals, (uint_vals w64, tt)))
     (λ κs. (mut_Tells (named 0) κs.0 PointerRow, (uint_Tells w64, tt))) (λ κs qs bounds a gh are.
     let y : (walk_of 𝓛 En hs c).Ghost = (
       (κs, qs, bounds, a, (vptr a.0.ref_ptr.0 a.0.ref_ptr.1 ∷ [], (vint w64 a.1.0 ∷ [], tt))),
       gh,
     ) in
-    let Post : Val → SProp 𝓤 = (walk_of 𝓛 En hs c).post y in
-    let κ : Lft = κs.0 in
-    let q : Share = qs.0 in
+    let Post : Val → SProp 𝓤 = (walk_of 𝓛 En hs c).post y in let κ : Lft = κs.0 in let q : Share = qs.0 in
     let γ : GName = a.0.ghost_name in
-    let b' : ℕ = a.0.ref_ptr.0 in
-    let o' : ℕ = a.0.ref_ptr.1 in
-    let h : PointerRow.Denot = a.0.now in
-    let p : Ptr = h.at in
-    let cs : List (Option T.Denot) = h.slots in
-    let j : ℕ = a.1.0 in
-    let others : Fml = fsep (flft κs.1.0 qs.1.0) ftrue in
+    let b' : ℕ = a.0.ref_ptr.0 in let o' : ℕ = a.0.ref_ptr.1 in let h : PointerRow.Denot = a.0.now in let p : Ptr = h.at in
+    let cs : List (Option T.Denot) = h.slots in let j : ℕ = a.1.0 in let others : Fml = fsep (flft κs.1.0 qs.1.0) ftrue in
     let b : ℕ = block_of p in
     let k : ℕ = j / 64 in
     let i : ℕ = j % 64 in
@@ -77,7 +61,7 @@ get_mut_spec 𝓤 𝓛 𝓜 𝓡 wired T L =
     let x : T.Denot = (value_of s full).0 in
     let lies : s ≡ Some x = (value_of s full).1 in
     split ! $ split ! $ move ! (2 ∷ []) $ fsplit ! $ fsplit3 ! $ keep ! (1 ∷ 2 ∷ 4 ∷ 5 ∷ []) $
-    enter ! 𝓣.C 𝓣.Λ fn (vptr b' o' ∷ vint w64 j ∷ []) Post $ alloc_all ! (λ l.
+    enter ! _ _ _ _ _ $ alloc_all ! (λ l.
     pass_all ! refl ((tt, tt), ((tt, record { fits = are.1.0.1 }), tt)) $
     let Ev = env fn.locals l in
     opens ! tt PointerRow b' o' (λ us. move ! (1 ∷ []) $
@@ -124,7 +108,7 @@ get_mut_spec 𝓤 𝓛 𝓜 𝓡 wired T L =
     (base.Logic.id⊢ 𝓤 _) $
     split3 ! $
     move ! (1 ∷ 3 ∷ []) $ join ! $
-    use0 𝓛 (raw (fact 𝓤 (s ≡ Some x))) (fact_i 𝓤 (s ≡ Some x) (emp 𝓤) lies) $ move ! (3 ∷ 0 ∷ []) $
+    knows ! (s ≡ Some x) lies $ move ! (3 ∷ 0 ∷ []) $
     join ! $ nothing ! $ nothing ! $ fjoin ! $ nothing ! $ fjoin ! $
     returns ! (look_at ! 0 refl) $ free_all ! refl $ keep ! (2 ∷ 0 ∷ 3 ∷ 1 ∷ []) $
     by ! (leaves 𝓛 En hs c y (vptr b at) r (tt, (tt, tt)) (tt, (tt, tt))))))))))))

@@ -1,10 +1,10 @@
 -- `lay` takes the block apart and writes its pointer.
 use Rattle.thread_local_model.proofs.Names.{◌≡◌, ℕ, ◌<◌, List, [], ◌∷◌, length, refl, Option, a_type, named, Val, vptr}
-use Rattle.thread_local_model.proofs.Names.{vunit, inst_fn, full_share, SProp, emp, Fml, ftrue, fsep, flft, ‵, raw}
+use Rattle.thread_local_model.proofs.Names.{vunit, inst_fn, full_share, Fml, ftrue, fsep, flft, ‵, raw}
 use Rattle.thread_local_model.proofs.Names.{◌⊛◌, ◌$◌, ◌∵◌, !, qed, by, move, keep, drop, use0, use1, split, join}
 use Rattle.thread_local_model.proofs.Names.{fsplit, fsplit3, fjoin, fjoin3, rewrite, feq_i, stop, fld, unit_lit}
 use Rattle.thread_local_model.proofs.Names.{of_opd, returns, enter, assigns, alloc_all, pass_all, free_all, look_at}
-use Rattle.thread_local_model.proofs.Names.{get, get_in, through, sets, sub, whole, tables, fact, fact_i, no}
+use Rattle.thread_local_model.proofs.Names.{get, get_in, through, sets, sub, whole, fact, no}
 use Rattle.thread_local_model.proofs.Names.{RattleType, owns, types_at, plain, Ptr, nothing, heard, opens, closes}
 use Rattle.thread_local_model.proofs.Names.{peeks, shows, param, layouts, mut_vals, mut_Tells, Stays, stay_dropped}
 use Rattle.thread_local_model.proofs.Names.{stay_ref, walk_of, Goes-dropped, Goes-ref, cell_at, proved, leaves}
@@ -15,25 +15,19 @@ use Rattle.thread_local_bucket_pointers.specs.Slots.{block_owns, heap_token}
 use Rattle.thread_local_bucket_pointers.specs.PointerOwns.{pointer_owns}
 use Rattle.thread_local_bucket_pointers.specs.contracts.block.Block as block
 use Rattle.thread_local_bucket_pointers.specs.contracts.bucket_pointer.BucketPointer as one_pointer
-use Rattle.thread_local_bucket_pointers.specs.contracts.bucket_pointer.BucketPointer.lay.{ended, clauses}
-use Rattle.thread_local_bucket_pointers.specs.contracts.bucket_pointer.BucketPointer.lay.Key.{name as #self}
+use Rattle.thread_local_bucket_pointers.specs.contracts.bucket_pointer.BucketPointer.lay.{ended, clauses, Key.name as #self}
 use Rattle.thread_local_bucket_pointers.proofs.Fields as fields
 use Rattle.thread_local_bucket_pointers.proofs.PointerSteps.{pointer_val, told, FieldsType, made, lays}
 use Rattle.thread_local_bucket_pointers.proofs.Slots.{ptr_good}
 use Rattle.thread_local_bucket_pointers.proofs.bucket_pointer.BucketPointer.lay.Statement.{statement}
 use Rattle.thread_local_bucket_pointers.proofs.bucket_pointer.BucketPointer.lay.Code as code
+use Rattle.thread_local_model.proofs.Walking.{knows}
 
 pub lay_spec : {M : Type 1} → statement M
 lay_spec 𝓤 𝓛 𝓜 𝓡 wired T L =
-    let H = 𝓛.H in
-    let 𝓣 = tables 𝓤 H 𝓜 𝓡 𝓡.env in
-    let R : RattleType = param 0 T in
-    let Z : RattleType = heap.the_row in
-    let PointerRow : RattleType = one_pointer.the_row R in
-    let Bl : RattleType = block.the_row R Z ghosts in
-    let En = ended T in
-    let c = clauses T 𝓛 𝓜.mem 𝓡.returns in
-    let inst = layouts (a_type ∷ []) (T, tt) in
+    let R : RattleType = param 0 T in let Z : RattleType = heap.the_row in
+    let PointerRow : RattleType = one_pointer.the_row R in let Bl : RattleType = block.the_row R Z ghosts in
+    let En = ended T in let c = clauses T 𝓛 𝓜.mem 𝓡.returns in let inst = layouts (a_type ∷ []) (T, tt) in
     let fn = inst_fn inst code.function in
     let hs : Stays En.signature.params En.kept =
     (stay_ref (0 ∷ []) tt (plain (λ _. PointerRow)), (stay_dropped (plain (λ _. Bl)) no, tt)) in
@@ -41,27 +35,22 @@ lay_spec 𝓤 𝓛 𝓜 𝓡 wired T L =
       Goes-ref 𝓛 2 0 tt (plain (λ _. PointerRow)),
       (Goes-dropped 𝓛 2 (plain (λ _. Bl)) no (λ κs x f. refl), tt),
     )
-    (#self inst) fn (code.unfolded 𝓤 H 𝓜 𝓡 wired (T, tt))
+    (#self inst) fn (code.unfolded 𝓤 𝓛.H 𝓜 𝓡 wired (T, tt))
     (λ κs. (mut_vals, ((λ x. fields.block_val x.at ∷ []), tt)))
     (λ κs.
     (mut_Tells (named 0) κs.0 PointerRow, ((λ x vs so. fields.told R Z ghosts x.at vs so.0), tt)))
     (λ κs qs bounds a gh are.
-    let b' : ℕ = a.0.ref_ptr.0 in
-    let o' : ℕ = a.0.ref_ptr.1 in
-    let h : PointerRow.Denot = a.0.now in
+    let b' : ℕ = a.0.ref_ptr.0 in let o' : ℕ = a.0.ref_ptr.1 in let h : PointerRow.Denot = a.0.now in
     let x : Bl.Denot = a.1.0 in
-    let p : Ptr = x.at in
-    let cs : List (Option T.Denot) = x.slots in
-    let others : Fml = fsep (flft κs.1.0 qs.1.0) ftrue in
+    let p : Ptr = x.at in let cs : List (Option T.Denot) = x.slots in let others : Fml = fsep (flft κs.1.0 qs.1.0) ftrue in
     let y : (walk_of 𝓛 En hs c).Ghost =
     ((κs, qs, bounds, a, (vptr b' o' ∷ [], (fields.block_val p ∷ [], tt))), gh) in
-    let Post : Val → SProp 𝓤 = (walk_of 𝓛 En hs c).post y in
     let Made : Type 0 = (x.left ≡ 0) × (0 < length cs) in
     qed 𝓛 (((‵ (flft κs.0 qs.0) ⊛ ‵ others) ⊛ ‵ (owns (types_at En.signature.params κs) a y.0.4))
     ∷ raw (fact 𝓤 _) ∷ raw (fact 𝓤 (h.slots ≡ [])) ∷ raw (fact 𝓤 Made) ∷ []) ∵
     keep ! (3 ∷ 0 ∷ []) $ heard ! Made (λ so. split ! $ split ! $ move ! (2 ∷ []) $ fsplit3 ! $
     fsplit3 ! $ move ! (3 ∷ []) $ fsplit ! $ keep ! (3 ∷ 4 ∷ 6 ∷ 1 ∷ 7 ∷ []) $
-    enter ! 𝓣.C 𝓣.Λ fn (vptr b' o' ∷ fields.block_val p ∷ []) Post $ alloc_all ! (λ l.
+    enter ! _ _ _ _ _ $ alloc_all ! (λ l.
     pass_all ! refl ((tt, tt), (fields.block_good p, tt)) $
     opens ! tt PointerRow b' o' (λ us. move ! (1 ∷ []) $
     peeks ! PointerRow _ (shows 𝓛 PointerRow) h us (λ known. fsplit ! $ drop ! $ drop ! $
@@ -78,9 +67,9 @@ lay_spec 𝓤 𝓛 𝓜 𝓡 wired T L =
     move ! (1 ∷ []) $
     let h' : PointerRow.Denot = record { at = p; slots = cs } in
     closes ! tt PointerRow h' (pointer_val p ∷ []) b' o' $
-    feq_i ! (List Val) (vptr b' o' ∷ []) (vptr b' o' ∷ []) refl $ fjoin3 ! $ nothing ! $ nothing ! $
+    feq_i ! _ (vptr b' o' ∷ []) _ refl $ fjoin3 ! $ nothing ! $ nothing ! $
     fjoin ! $ move ! (1 ∷ 0 ∷ []) $ fjoin ! $ move ! (1 ∷ 2 ∷ []) $ join ! $
-    use0 𝓛 (raw (fact 𝓤 (cs ≡ cs))) (fact_i 𝓤 (cs ≡ cs) (emp 𝓤) refl) $
-    feq_i ! (List Val) (vunit ∷ []) (vunit ∷ []) refl $
+    knows ! (cs ≡ cs) refl $
+    feq_i ! _ (vunit ∷ []) _ refl $
     returns ! (look_at ! 0 refl) $ free_all ! refl $ keep ! (2 ∷ 3 ∷ 0 ∷ 1 ∷ []) $
     by ! (leaves 𝓛 En hs c y vunit tt (h', (tt, tt)) (tt, (tt, tt))))))))

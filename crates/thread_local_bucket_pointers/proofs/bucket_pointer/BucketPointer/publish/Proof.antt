@@ -1,14 +1,14 @@
 -- `publish` writes the value of a slot, and then sets its bit in its chunk's word.
 use Rattle.thread_local_model.proofs.Names.{◌≡◌, ℕ, ◌+◌, ◌*◌, ◌^◌, ◌<◌, List, [], ◌∷◌, ◌++◌, length, set, sym, refl}
 use Rattle.thread_local_model.proofs.Names.{ap, ◌∙◌, subst, lit<, w64, Option, Some, None, a_type, bare, Val, vint}
-use Rattle.thread_local_model.proofs.Names.{vptr, vunit, inst_fn, full_share, SProp, ent, id⊢, emp, Fml, ftrue, fsep}
+use Rattle.thread_local_model.proofs.Names.{vptr, vunit, inst_fn, full_share, SProp, ent, id⊢, Fml, ftrue, fsep}
 use Rattle.thread_local_model.proofs.Names.{fat, froom, flft, WpFn, ‵, raw, ◌⊛◌, some, given, at_ret, ◌$◌, ◌∵◌, !, qed}
-use Rattle.thread_local_model.proofs.Names.{by, move, keep, use0, use1, use3, split, split3, join, fsplit, fsplit3}
+use Rattle.thread_local_model.proofs.Names.{by, move, keep, use1, use3, split, split3, join, fsplit, fsplit3}
 use Rattle.thread_local_model.proofs.Names.{fjoin, fjoin3, pick, learn, suffices, rewrite, feq_i, stop, fld, load}
 use Rattle.thread_local_model.proofs.Names.{look, lit, unit_lit, size_word, of_opd, bin, first, blocks, exec, returns}
 use Rattle.thread_local_model.proofs.Names.{enter, init, store, assigns, assigns_last, alloc_all, pass_all, free_all}
 use Rattle.thread_local_model.proofs.Names.{look_at, get, through, sets, is, env, sub, look_in, whole, tables, fact}
-use Rattle.thread_local_model.proofs.Names.{fact_i, yes, no, RattleType, owns, types_at, plain, Ptr, block_ptr}
+use Rattle.thread_local_model.proofs.Names.{yes, no, RattleType, owns, types_at, plain, Ptr, block_ptr}
 use Rattle.thread_local_model.proofs.Names.{block_of, count_of, at_block, nothing, heard, opens, closes, peeks, shows}
 use Rattle.thread_local_model.proofs.Names.{param, layout, layouts, param_laws, usize, Stays, stay_dropped, stay_ref}
 use Rattle.thread_local_model.proofs.Names.{walk_of, Goes-dropped, Goes-ref, cell_at, Member, proved_at, leaves, after}
@@ -20,50 +20,36 @@ use Rattle.thread_local_bucket_pointers.proofs.Slots.{IsSlotIn, Change, flags_of
 use Rattle.thread_local_bucket_pointers.proofs.Flags.{uncapped}
 use Rattle.thread_local_bucket_pointers.specs.PointerOwns.{pointer_owns}
 use Rattle.thread_local_bucket_pointers.specs.contracts.bucket_pointer.BucketPointer as one_pointer
-use Rattle.thread_local_bucket_pointers.specs.contracts.bucket_pointer.BucketPointer.publish.{ended, clauses}
-use Rattle.thread_local_bucket_pointers.specs.contracts.bucket_pointer.BucketPointer.publish.Key.{name as #self}
+use Rattle.thread_local_bucket_pointers.specs.contracts.bucket_pointer.BucketPointer.publish.{ended, clauses, Key.name as #self}
 use Rattle.thread_local_bucket_pointers.proofs.PointerSteps.{pointer_val, told, Again, pointer_slot, pointer_again}
 use Rattle.thread_local_bucket_pointers.proofs.bucket_pointer.BucketPointer.publish.Statement.{statement}
 use Rattle.thread_local_bucket_pointers.proofs.bucket_pointer.BucketPointer.publish.Code as code
+use Rattle.thread_local_model.proofs.Walking.{knows}
 
 pub publish_spec : {M : Type 1} → statement M
 publish_spec 𝓤 𝓛 𝓜 𝓡 wired T L =
-    let H = 𝓛.H in
-    let 𝓣 = tables 𝓤 H 𝓜 𝓡 𝓡.env in
-    let R : RattleType = param 0 T in
-    let PointerRow : RattleType = one_pointer.the_row R in
-    let En = ended T in
-    let c = clauses T 𝓛 𝓜.mem 𝓡.returns in
-    let inst = layouts (a_type ∷ []) (T, tt) in
+    let 𝓣 = tables 𝓤 𝓛.H 𝓜 𝓡 𝓡.env in let R : RattleType = param 0 T in let PointerRow : RattleType = one_pointer.the_row R in
+    let En = ended T in let c = clauses T 𝓛 𝓜.mem 𝓡.returns in let inst = layouts (a_type ∷ []) (T, tt) in
     let fn = inst_fn inst code.function in
     let number = plain (λ _. usize) in let goes = Goes-dropped 𝓛 2 number yes (λ κs x f. refl) in
     let hs : Stays En.signature.params En.kept = (
       stay_ref (0 ∷ []) tt (plain (λ _. PointerRow)),
-      (
-        stay_dropped number yes,
-        (stay_dropped number yes, (stay_dropped (plain (λ _. R)) no, tt)),
-      ),
+      (stay_dropped number yes, (stay_dropped number yes, (stay_dropped (plain (λ _. R)) no, tt))),
     ) in
     proved_at 𝓛 En hs c 𝓜 𝓡 (
       Goes-ref 𝓛 2 0 tt (plain (λ _. PointerRow)),
       (goes, (goes, (Goes-dropped 𝓛 2 (plain (λ _. R)) no (λ κs x f. refl), tt))),
     )
-    (#self inst) fn (code.unfolded 𝓤 H 𝓜 𝓡 wired (T, tt)) (λ y are.
+    (#self inst) fn (code.unfolded 𝓤 𝓛.H 𝓜 𝓡 wired (T, tt)) (λ y are.
     let κs = y.0.0 in
     let qs = y.0.1 in
     let a = y.0.3 in
     let vss = y.0.4 in
-    let Post : Val → SProp 𝓤 = (walk_of 𝓛 En hs c).post y in
-    let b' : ℕ = a.0.ref_ptr.0 in
-    let o' : ℕ = a.0.ref_ptr.1 in
-    let h : PointerRow.Denot = a.0.now in
-    let p : Ptr = h.at in
-    let cs : List (Option T.Denot) = h.slots in
-    let j : ℕ = a.1.0 in
-    let w : ℕ = a.1.1.0 in
+    let Post : Val → SProp 𝓤 = (walk_of 𝓛 En hs c).post y in let b' : ℕ = a.0.ref_ptr.0 in let o' : ℕ = a.0.ref_ptr.1 in
+    let h : PointerRow.Denot = a.0.now in let p : Ptr = h.at in let cs : List (Option T.Denot) = h.slots in
+    let j : ℕ = a.1.0 in let w : ℕ = a.1.1.0 in
     let new : T.Denot = a.1.1.1.0 in
-    let others : Fml = fsep (flft κs.1.0 qs.1.0) ftrue in
-    let b : ℕ = block_of p in
+    let others : Fml = fsep (flft κs.1.0 qs.1.0) ftrue in let b : ℕ = block_of p in
     let k : ℕ = j / 64 in
     let i : ℕ = j % 64 in
     let at : ℕ = value_offset R (count_of p) j in
@@ -80,15 +66,12 @@ publish_spec 𝓤 𝓛 𝓜 𝓡 wired T L =
     keep ! (4 ∷ 5 ∷ 7 ∷ 1 ∷ 8 ∷ []) $
     rewrite ! 3 (λ (ws : List Val). ‵ (R.own_val new ws)) got.1 refl $
     let us : List Val = vptr b' o' ∷ vint w64 j ∷ vint w64 w ∷ vy ∷ [] in
-    let Run : List Val → SProp 𝓤 = λ ws. WpFn 𝓤 H 𝓣.C 𝓣.Λ fn ws Post in
+    let Run : List Val → SProp 𝓤 = λ ws. WpFn 𝓤 𝓛.H 𝓣.C 𝓣.Λ fn ws Post in
     suffices ! (Run us) (subst (λ (ws : List Val). ent 𝓤 (Run us) (Run ws))
     (sym (λ i. are.0.0 i ++ (are.1.0.0 i ++ (are.1.1.0.0 i ++ (got.1 i ++ [])))))
     (id⊢ 𝓤 (Run us))) $
     enter ! 𝓣.C 𝓣.Λ fn us Post $ alloc_all ! (λ l.
-    pass_all ! refl (
-      (tt, tt),
-      ((tt, record { fits = are.1.0.1 }), ((tt, record { fits = are.1.1.0.1 }), (got.2, tt))),
-    ) $
+    pass_all ! refl ((tt, tt), ((tt, record { fits = are.1.0.1 }), ((tt, record { fits = are.1.1.0.1 }), (got.2, tt)))) $
     let Ev = env fn.locals l in
     opens ! tt PointerRow b' o' (λ ts. move ! (1 ∷ []) $
     peeks ! PointerRow _ (shows 𝓛 PointerRow) h ts (λ known. fsplit ! $ move ! (1 ∷ []) $
@@ -150,8 +133,8 @@ publish_spec 𝓤 𝓛 𝓜 𝓡 wired T L =
     feq_i ! (List Val) vss.0 (vptr b' o' ∷ []) are.0.0 $ fjoin3 ! $ nothing ! $ nothing ! $
     fjoin ! $ nothing ! $ fjoin ! $ nothing ! $ fjoin ! $ move ! (1 ∷ 0 ∷ []) $ fjoin ! $
     move ! (1 ∷ 2 ∷ []) $ join ! $
-    use0 𝓛 (raw (fact 𝓤 (h'.slots ≡ h'.slots))) (fact_i 𝓤 (h'.slots ≡ h'.slots) (emp 𝓤) refl) $
-    feq_i ! (List Val) (vunit ∷ []) (vunit ∷ []) refl $
+    knows ! (h'.slots ≡ h'.slots) refl $
+    feq_i ! _ (vunit ∷ []) _ refl $
     returns ! (look_at ! 0 refl) $ free_all ! refl $ keep ! (2 ∷ 3 ∷ 0 ∷ 1 ∷ []) $
     by !
     (leaves 𝓛 En hs c y vunit tt (h', (tt, (tt, (tt, tt)))) (tt, (tt, (tt, (tt, tt))))))))))))))

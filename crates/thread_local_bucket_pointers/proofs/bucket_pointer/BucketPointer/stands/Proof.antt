@@ -1,10 +1,10 @@
 -- `stands` tests the pointer, which is null where there are no slots.
 use Rattle.thread_local_model.proofs.Names.{◌≡◌, ℕ, List, [], ◌∷◌, sym, refl, Bool, Option, a_type, named, Val, vptr}
-use Rattle.thread_local_model.proofs.Names.{inst_fn, full_share, SProp, emp, guard_i, Fml, ftrue, fsep, flft, sem, ‵}
-use Rattle.thread_local_model.proofs.Names.{raw, ◌⊛◌, given, ◌$◌, ◌∵◌, !, qed, by, move, keep, use0, use1, split, join}
+use Rattle.thread_local_model.proofs.Names.{inst_fn, full_share, guard_i, Fml, ftrue, fsep, flft, sem, ‵}
+use Rattle.thread_local_model.proofs.Names.{raw, ◌⊛◌, given, ◌$◌, ◌∵◌, !, qed, by, move, keep, use1, split, join}
 use Rattle.thread_local_model.proofs.Names.{fsplit, fsplit3, fjoin, fjoin3, learn, rewrite, feq_i, stop, fld, load}
 use Rattle.thread_local_model.proofs.Names.{lit, of_opd, bin, returns, enter, alloc_all, pass_all, free_all, look_at}
-use Rattle.thread_local_model.proofs.Names.{get, through, sets, sub, look_in, whole, tables, fact, fact_i, fact_use}
+use Rattle.thread_local_model.proofs.Names.{get, through, sets, sub, look_in, whole, fact_use}
 use Rattle.thread_local_model.proofs.Names.{RattleType, owns, types_at, plain, Ptr, ptr_val, nothing, opens, closes}
 use Rattle.thread_local_model.proofs.Names.{peeks, shows, param, layouts, mut_vals, mut_Tells, Stays, stay_ref}
 use Rattle.thread_local_model.proofs.Names.{walk_of, Goes-ref, cell_at, proved, leaves, length}
@@ -15,36 +15,25 @@ use denote.RawPtr.{tests_null}
 use Rattle.thread_local_bucket_pointers.specs.Slots.{heap_token}
 use Rattle.thread_local_bucket_pointers.specs.PointerOwns.{pointer_owns}
 use Rattle.thread_local_bucket_pointers.specs.contracts.bucket_pointer.BucketPointer as one_pointer
-use Rattle.thread_local_bucket_pointers.specs.contracts.bucket_pointer.BucketPointer.stands.{ended, clauses}
-use Rattle.thread_local_bucket_pointers.specs.contracts.bucket_pointer.BucketPointer.stands.Key.{name as #self}
+use Rattle.thread_local_bucket_pointers.specs.contracts.bucket_pointer.BucketPointer.stands.{ended, clauses, Key.name as #self}
 use Rattle.thread_local_bucket_pointers.proofs.PointerSteps.{pointer_val, told, Tells, pointer_tells}
 use Rattle.thread_local_bucket_pointers.proofs.Slots.{ptr_good}
 use Rattle.thread_local_bucket_pointers.proofs.bucket_pointer.BucketPointer.stands.Statement.{statement}
 use Rattle.thread_local_bucket_pointers.proofs.bucket_pointer.BucketPointer.stands.Code as code
+use Rattle.thread_local_model.proofs.Walking.{knows}
 
 pub stands_spec : {M : Type 1} → statement M
 stands_spec 𝓤 𝓛 𝓜 𝓡 wired T L =
-    let H = 𝓛.H in
-    let 𝓣 = tables 𝓤 H 𝓜 𝓡 𝓡.env in
-    let R : RattleType = param 0 T in
-    let PointerRow : RattleType = one_pointer.the_row R in
-    let En = ended T in
-    let c = clauses T 𝓛 𝓜.mem 𝓡.returns in
-    let inst = layouts (a_type ∷ []) (T, tt) in
-    let fn = inst_fn inst code.function in
+    let R : RattleType = param 0 T in let PointerRow : RattleType = one_pointer.the_row R in let En = ended T in
+    let c = clauses T 𝓛 𝓜.mem 𝓡.returns in let inst = layouts (a_type ∷ []) (T, tt) in let fn = inst_fn inst code.function in
     let hs : Stays En.signature.params En.kept = (stay_ref (0 ∷ []) tt (plain (λ _. PointerRow)), tt) in
     proved 𝓛 En hs c 𝓜 𝓡 (Goes-ref 𝓛 2 0 tt (plain (λ _. PointerRow)), tt) (#self inst) fn
-    (code.unfolded 𝓤 H 𝓜 𝓡 wired (T, tt))
+    (code.unfolded 𝓤 𝓛.H 𝓜 𝓡 wired (T, tt))
     (λ κs. (mut_vals, tt)) (λ κs. (mut_Tells (named 0) κs.0 PointerRow, tt)) (λ κs qs bounds a gh are.
     let y : (walk_of 𝓛 En hs c).Ghost =
     ((κs, qs, bounds, a, (vptr a.0.ref_ptr.0 a.0.ref_ptr.1 ∷ [], tt)), gh) in
-    let Post : Val → SProp 𝓤 = (walk_of 𝓛 En hs c).post y in
-    let b' : ℕ = a.0.ref_ptr.0 in
-    let o' : ℕ = a.0.ref_ptr.1 in
-    let h : PointerRow.Denot = a.0.now in
-    let p : Ptr = h.at in
-    let cs : List (Option T.Denot) = h.slots in
-    let others : Fml = fsep (flft κs.1.0 qs.1.0) ftrue in
+    let b' : ℕ = a.0.ref_ptr.0 in let o' : ℕ = a.0.ref_ptr.1 in let h : PointerRow.Denot = a.0.now in let p : Ptr = h.at in
+    let cs : List (Option T.Denot) = h.slots in let others : Fml = fsep (flft κs.1.0 qs.1.0) ftrue in
     let W : Fml = pointer_owns R heap_token p cs in
     let So : Type 0 = Tells R 𝓛 p cs in
     let r : Bool = not (ptr_same (ptr_val p) vnull) in
@@ -52,7 +41,7 @@ stands_spec 𝓤 𝓛 𝓜 𝓡 wired T L =
     qed 𝓛 (((‵ (flft κs.0 qs.0) ⊛ ‵ others) ⊛ ‵ (owns (types_at En.signature.params κs) a y.0.4))
     ∷ raw ((c κs a).requires gh) ∷ []) ∵
     split ! $ split ! $ move ! (2 ∷ []) $ fsplit ! $ fsplit3 ! $ keep ! (1 ∷ 2 ∷ 4 ∷ 5 ∷ []) $
-    enter ! 𝓣.C 𝓣.Λ fn (vptr b' o' ∷ []) Post $ alloc_all ! (λ l. pass_all ! refl ((tt, tt), tt) $
+    enter ! _ _ _ _ _ $ alloc_all ! (λ l. pass_all ! refl ((tt, tt), tt) $
     opens ! tt PointerRow b' o' (λ us. move ! (1 ∷ []) $
     peeks ! PointerRow _ (shows 𝓛 PointerRow) h us (λ known. fsplit ! $ move ! (1 ∷ []) $
     use1 𝓛 (given So (‵ W)) (fact_use 𝓤 So (pointer_tells R 𝓛 p cs) (guard_i 𝓤 So (sem 𝓛 W))) $ learn ! (λ so.
@@ -64,10 +53,10 @@ stands_spec 𝓤 𝓛 𝓜 𝓡 wired T L =
     sets ! (bin ! (get ! refl) (lit ! tt) (tests_null p so.0)) refl (tt, tt) $ sets ! (un ! (get ! refl) tt) refl (tt, tt) $
     rewrite ! 2 Cell (sym seen) refl $ move ! (1 ∷ []) $ fjoin ! $ move ! (1 ∷ []) $
     closes ! tt PointerRow h us b' o' $
-    feq_i ! (List Val) (vptr b' o' ∷ []) (vptr b' o' ∷ []) refl $ fjoin3 ! $ nothing ! $
+    feq_i ! _ (vptr b' o' ∷ []) _ refl $ fjoin3 ! $ nothing ! $
     move ! (1 ∷ 0 ∷ []) $ fjoin ! $ move ! (1 ∷ 2 ∷ []) $ join ! $
-    use0 𝓛 (raw (fact 𝓤 (h ≡ h))) (fact_i 𝓤 (h ≡ h) (emp 𝓤) refl) $
-    use0 𝓛 (raw (fact 𝓤 Told)) (fact_i 𝓤 Told (emp 𝓤) so.1) $ join ! $
-    feq_i ! (List Val) (vbool r ∷ []) (vbool r ∷ []) refl $
+    knows ! (h ≡ h) refl $
+    knows ! Told so.1 $ join ! $
+    feq_i ! _ (vbool r ∷ []) _ refl $
     returns ! (look_at ! 0 refl) $ free_all ! refl $ keep ! (2 ∷ 3 ∷ 0 ∷ 1 ∷ []) $
     by ! (leaves 𝓛 En hs c y (vbool r) r (h, tt) (tt, tt)))))))

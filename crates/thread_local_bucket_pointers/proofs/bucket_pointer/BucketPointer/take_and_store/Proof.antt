@@ -2,13 +2,13 @@
 -- which becomes room.
 use Rattle.thread_local_model.proofs.Names.{◌≡◌, ℕ, ◌+◌, ◌*◌, ◌^◌, ◌<◌, List, [], ◌∷◌, length, set, sym, refl, ap, ◌∙◌}
 use Rattle.thread_local_model.proofs.Names.{subst, w64, Option, Some, None, a_type, named, bare, Val, vint, vptr}
-use Rattle.thread_local_model.proofs.Names.{inst_fn, full_share, SProp, emp, Fml, ftrue, fsep, froom, flft, ‵, raw}
-use Rattle.thread_local_model.proofs.Names.{◌⊛◌, some, given, at_ret, ◌$◌, ◌∵◌, !, qed, by, move, keep, use0, use1}
+use Rattle.thread_local_model.proofs.Names.{inst_fn, full_share, SProp, Fml, ftrue, fsep, froom, flft, ‵, raw}
+use Rattle.thread_local_model.proofs.Names.{◌⊛◌, some, given, at_ret, ◌$◌, ◌∵◌, !, qed, by, move, keep, use1}
 use Rattle.thread_local_model.proofs.Names.{use3, split, split3, join, fsplit, fsplit3, fjoin, fjoin3, pick, learn}
 use Rattle.thread_local_model.proofs.Names.{rewrite, feq_i, stop, fld, load, look_raw, lit, size_word, of_opd, bin}
 use Rattle.thread_local_model.proofs.Names.{first, blocks, exec, returns, enter, store, assigns, alloc_all, pass_all}
 use Rattle.thread_local_model.proofs.Names.{free_all, look_at, get, through, sets, sets_last, is, env, sub, look_in}
-use Rattle.thread_local_model.proofs.Names.{whole, tables, fact, fact_i, yes, RattleType, owns, types_at, plain, Ptr}
+use Rattle.thread_local_model.proofs.Names.{whole, tables, fact, yes, RattleType, owns, types_at, plain, Ptr}
 use Rattle.thread_local_model.proofs.Names.{block_ptr, block_of, count_of, at_block, nothing, heard, opens, closes}
 use Rattle.thread_local_model.proofs.Names.{peeks, shows, param, layout, layouts, param_laws, usize, u64, mut_vals}
 use Rattle.thread_local_model.proofs.Names.{mut_Tells, uint_vals, uint_Tells, Stays, stay_dropped, stay_ref, walk_of}
@@ -20,40 +20,29 @@ use Rattle.thread_local_bucket_pointers.proofs.Slots.{IsSlotIn, Change, flags_of
 use Rattle.thread_local_bucket_pointers.proofs.Flags.{uncapped}
 use Rattle.thread_local_bucket_pointers.specs.PointerOwns.{pointer_owns}
 use Rattle.thread_local_bucket_pointers.specs.contracts.bucket_pointer.BucketPointer as one_pointer
-use Rattle.thread_local_bucket_pointers.specs.contracts.bucket_pointer.BucketPointer.take_and_store.{ended, clauses}
-use Rattle.thread_local_bucket_pointers.specs.contracts.bucket_pointer.BucketPointer.take_and_store.Key.{name as #self}
+use Rattle.thread_local_bucket_pointers.specs.contracts.bucket_pointer.BucketPointer.take_and_store.{ended, clauses, Key.name as #self}
 use Rattle.thread_local_bucket_pointers.proofs.PointerSteps.{pointer_val, told, Again, pointer_slot, pointer_again}
 use Rattle.thread_local_bucket_pointers.proofs.bucket_pointer.BucketPointer.take_and_store.Statement.{statement}
 use Rattle.thread_local_bucket_pointers.proofs.bucket_pointer.BucketPointer.take_and_store.Code as code
+use Rattle.thread_local_model.proofs.Walking.{knows}
 
 pub take_and_store_spec : {M : Type 1} → statement M
 take_and_store_spec 𝓤 𝓛 𝓜 𝓡 wired T L =
-    let H = 𝓛.H in
-    let 𝓣 = tables 𝓤 H 𝓜 𝓡 𝓡.env in
-    let R : RattleType = param 0 T in
-    let PointerRow : RattleType = one_pointer.the_row R in
-    let En = ended T in
-    let c = clauses T 𝓛 𝓜.mem 𝓡.returns in
-    let inst = layouts (a_type ∷ []) (T, tt) in
+    let 𝓣 = tables 𝓤 𝓛.H 𝓜 𝓡 𝓡.env in let R : RattleType = param 0 T in let PointerRow : RattleType = one_pointer.the_row R in
+    let En = ended T in let c = clauses T 𝓛 𝓜.mem 𝓡.returns in let inst = layouts (a_type ∷ []) (T, tt) in
     let fn = inst_fn inst code.function in
     let number = plain (λ _. usize) in let goes = Goes-dropped 𝓛 2 number yes (λ κs x f. refl) in
     let hs : Stays En.signature.params En.kept = (
       stay_ref (0 ∷ []) tt (plain (λ _. PointerRow)),
-      (
-        stay_dropped number yes,
-        (stay_dropped number yes, (stay_dropped (plain (λ _. u64)) yes, tt)),
-      ),
+      (stay_dropped number yes, (stay_dropped number yes, (stay_dropped (plain (λ _. u64)) yes, tt))),
     ) in
     proved 𝓛 En hs c 𝓜 𝓡 (
       Goes-ref 𝓛 2 0 tt (plain (λ _. PointerRow)),
       (goes, (goes, (Goes-dropped 𝓛 2 (plain (λ _. u64)) yes (λ κs x f. refl), tt))),
     )
-    (#self inst) fn (code.unfolded 𝓤 H 𝓜 𝓡 wired (T, tt))
+    (#self inst) fn (code.unfolded 𝓤 𝓛.H 𝓜 𝓡 wired (T, tt))
     (λ κs. (mut_vals, (uint_vals w64, (uint_vals w64, (uint_vals w64, tt)))))
-    (λ κs. (
-      mut_Tells (named 0) κs.0 PointerRow,
-      (uint_Tells w64, (uint_Tells w64, (uint_Tells w64, tt))),
-    ))
+    (λ κs. (mut_Tells (named 0) κs.0 PointerRow, (uint_Tells w64, (uint_Tells w64, (uint_Tells w64, tt)))))
     (λ κs qs bounds a gh are.
     let y : (walk_of 𝓛 En hs c).Ghost = (
       (
@@ -61,24 +50,15 @@ take_and_store_spec 𝓤 𝓛 𝓜 𝓡 wired T L =
         qs,
         bounds,
         a,
-        (
-          vptr a.0.ref_ptr.0 a.0.ref_ptr.1 ∷ [],
-          (vint w64 a.1.0 ∷ [], (vint w64 a.1.1.0 ∷ [], (vint w64 a.1.1.1.0 ∷ [], tt))),
-        ),
+        (vptr a.0.ref_ptr.0 a.0.ref_ptr.1 ∷ [], (vint w64 a.1.0 ∷ [], (vint w64 a.1.1.0 ∷ [], (vint w64 a.1.1.1.0 ∷ [], tt)))),
       ),
       gh,
     ) in
-    let Post : Val → SProp 𝓤 = (walk_of 𝓛 En hs c).post y in
-    let b' : ℕ = a.0.ref_ptr.0 in
-    let o' : ℕ = a.0.ref_ptr.1 in
-    let h : PointerRow.Denot = a.0.now in
-    let p : Ptr = h.at in
-    let cs : List (Option T.Denot) = h.slots in
-    let j : ℕ = a.1.0 in
-    let w : ℕ = a.1.1.0 in
+    let Post : Val → SProp 𝓤 = (walk_of 𝓛 En hs c).post y in let b' : ℕ = a.0.ref_ptr.0 in let o' : ℕ = a.0.ref_ptr.1 in
+    let h : PointerRow.Denot = a.0.now in let p : Ptr = h.at in let cs : List (Option T.Denot) = h.slots in
+    let j : ℕ = a.1.0 in let w : ℕ = a.1.1.0 in
     let new : ℕ = a.1.1.1.0 in
-    let others : Fml = fsep (flft κs.1.0 qs.1.0) ftrue in
-    let b : ℕ = block_of p in
+    let others : Fml = fsep (flft κs.1.0 qs.1.0) ftrue in let b : ℕ = block_of p in
     let k : ℕ = j / 64 in
     let i : ℕ = j % 64 in
     let at : ℕ = value_offset R (count_of p) j in
@@ -97,14 +77,11 @@ take_and_store_spec 𝓤 𝓛 𝓜 𝓡 wired T L =
     let x : T.Denot = (value_of s full).0 in
     let lies : s ≡ Some x = (value_of s full).1 in
     split ! $ split ! $ move ! (2 ∷ []) $ fsplit ! $ fsplit3 ! $ keep ! (1 ∷ 2 ∷ 4 ∷ 5 ∷ []) $
-    enter ! 𝓣.C 𝓣.Λ fn (vptr b' o' ∷ vint w64 j ∷ vint w64 w ∷ vint w64 new ∷ []) Post $
+    enter ! _ _ _ _ _ $
     alloc_all ! (λ l.
     pass_all ! refl (
       (tt, tt),
-      (
-        (tt, record { fits = are.1.0.1 }),
-        ((tt, record { fits = are.1.1.0.1 }), ((tt, record { fits = are.1.1.1.0.1 }), tt)),
-      ),
+      ((tt, record { fits = are.1.0.1 }), ((tt, record { fits = are.1.1.0.1 }), ((tt, record { fits = are.1.1.1.0.1 }), tt))),
     ) $
     let Ev = env fn.locals l in
     opens ! tt PointerRow b' o' (λ us. move ! (1 ∷ []) $
@@ -158,10 +135,10 @@ take_and_store_spec 𝓤 𝓛 𝓜 𝓡 wired T L =
     rewrite ! 2 Cell (sym seen) refl $
     let h' : PointerRow.Denot = record { at = p; slots = set cs j None } in
     move ! (1 ∷ []) $ fjoin ! $ move ! (1 ∷ []) $ closes ! tt PointerRow h' us b' o' $
-    feq_i ! (List Val) (vptr b' o' ∷ []) (vptr b' o' ∷ []) refl $ fjoin3 ! $ nothing ! $ nothing ! $
+    feq_i ! _ (vptr b' o' ∷ []) _ refl $ fjoin3 ! $ nothing ! $ nothing ! $
     fjoin ! $ nothing ! $ fjoin ! $ nothing ! $ fjoin ! $ move ! (1 ∷ 0 ∷ []) $ fjoin ! $
     move ! (1 ∷ 3 ∷ []) $ join ! $
-    use0 𝓛 (raw (fact 𝓤 (h'.slots ≡ h'.slots))) (fact_i 𝓤 (h'.slots ≡ h'.slots) (emp 𝓤) refl) $
-    use0 𝓛 (raw (fact 𝓤 (s ≡ Some x))) (fact_i 𝓤 (s ≡ Some x) (emp 𝓤) lies) $ join ! $
+    knows ! (h'.slots ≡ h'.slots) refl $
+    knows ! (s ≡ Some x) lies $ join ! $
     returns ! (look_at ! 0 refl) $ free_all ! refl $ keep ! (1 ∷ 2 ∷ 3 ∷ 0 ∷ []) $
     by ! (leaves 𝓛 En hs c y v x (h', (tt, (tt, (tt, tt)))) (tt, (tt, (tt, (tt, tt))))))))))))))))

@@ -1,7 +1,7 @@
 use Rattle.std.proofs.Common.{◌≡◌, ℕ, ◌-◌, subst, arith}
 use Rattle.thread_local_model.specs.Buckets.{Contents, IsTable}
 use Rattle.thread_local_bucket_pointers.specs.Clearing.{AreCleared}
-use Rattle.thread_local_bucket_pointers.proofs.Clearing.{AreCleared-none, AreCleared-join}
+use Rattle.thread_local_bucket_pointers.proofs.Clearing.{AreCleared-none}
 use Rattle.thread_local_bucket_pointers.proofs.bucket_pointers.BucketPointers.clear_between.Goals as goal
 
 pub buckets-init : goal.buckets-init

@@ -1,18 +1,10 @@
-use Rattle.std.proofs.Common.{◌≡◌, ◌∙◌, Result, Ok, Err, lit<, sym, ap}
-use Rattle.std.specs.Prelude.{OnOk, OnErr}
+use Rattle.std.proofs.Common.{◌≡◌, ◌∙◌, lit<, sym, ap}
 use Rattle.std.proofs.lemmas.Bool.{cond-true, cond-false}
 use Rattle.thread_local_model.specs.Buckets.{Contents, row, stands}
 use Rattle.thread_local_model.specs.Rows.{with_row, empty_row}
 use Rattle.thread_local_model.proofs.StandingLaws.{row-absent}
 use Rattle.thread_local_bucket_pointers.proofs.bucket_pointers.BucketPointers.ensure_bucket.Goals as goal
-
-on_ok : {A E : Type 0} (result : Result A E) {P Q : Type 0} → (P → Q) → OnOk result P → OnOk result Q
-on_ok (Ok x) leads holds = leads holds
-on_ok (Err e) leads holds = tt
-
-on_err : {A E : Type 0} (result : Result A E) {P Q : Type 0} → (P → Q) → OnErr result P → OnErr result Q
-on_err (Ok x) leads holds = tt
-on_err (Err e) leads holds = leads holds
+use Rattle.std.proofs.lemmas.Result.{on_ok_weaker, on_err_weaker}
 
 -- The search for these takes two seconds.
 pub stands-requires : goal.stands-requires
@@ -50,7 +42,7 @@ pub returns-clause-ok : goal.returns-clause-ok
 returns-clause-ok g c =
     let now = c.args.self.now in
     let b = c.args.bucket in
-    on_ok c.install.result
+    on_ok_weaker c.install.result
     (λ (made : c.install.new.self ≡ with_row c.stands.new.self b (empty_row b)).
     made
     ∙ ap (λ (k : Contents g.row.T.Denot). with_row k b (empty_row b)) c.stands.ensures.same
@@ -59,11 +51,11 @@ returns-clause-ok g c =
 
 pub returns-clause-err : goal.returns-clause-err
 returns-clause-err g c =
-    on_err c.install.result (λ (same : c.install.new.self ≡ c.stands.new.self). same ∙ c.stands.ensures.same) c.install.ensures.err
+    on_err_weaker c.install.result (λ (same : c.install.new.self ≡ c.stands.new.self). same ∙ c.stands.ensures.same) c.install.ensures.err
 
 pub returns-clause-refused : goal.returns-clause-refused
 returns-clause-refused g c =
-    on_err c.install.result
+    on_err_weaker c.install.result
     (λ (same : c.install.new.self ≡ c.stands.new.self). sym c.stands.ensures.value ∙ c.if-stands.false)
     c.install.ensures.err
 

@@ -1,12 +1,9 @@
-use Rattle.std.proofs.Common.{◌≡◌, ◌∙◌, ◌<◌, Option, Some, None, is_some, true, false, length, lit<, refl, sym, ap, subst}
+use Rattle.std.proofs.Common.{◌∙◌, ◌<◌, length, lit<, sym, ap, subst}
 use Rattle.std.proofs.lemmas.Bool.{false≢true}
 use Rattle.thread_local_model.specs.Buckets.{Contents, row}
 use Rattle.thread_local_model.specs.Rows.{value_in}
 use Rattle.thread_local_bucket_pointers.proofs.bucket_pointers.BucketPointers.publish_or_drop.Goals as goal
-
-none_of : {V : Type 0} (value : Option V) → is_some value ≡ false → value ≡ None
-none_of None shows_none = refl
-none_of (Some v) shows_none = cc
+use Rattle.thread_local_model.proofs.TakingLaws.{shows_none}
 
 -- The search for these takes a second.
 pub publish-requires : goal.publish-requires
@@ -17,7 +14,7 @@ publish-requires g c =
       (
         subst (λ (k : Contents g.row.T.Denot). i < length (row k b)) (sym c.is_published.ensures.same) c.requires.in_bucket,
         ap (λ (k : Contents g.row.T.Denot). value_in k b i) c.is_published.ensures.same
-            ∙ none_of (value_in c.args.self.now b i) (sym c.is_published.ensures.value ∙ c.if-not-is_published.true),
+            ∙ shows_none (value_in c.args.self.now b i) (sym c.is_published.ensures.value ∙ c.if-not-is_published.true),
       ),
     )
 

@@ -1,18 +1,15 @@
-use Rattle.std.proofs.Common.{◌≡◌, ◌⊎◌, ◌^◌, ℕ, List, [], ◌∷◌, length, inl, inr, refl, sym, ap, ◌∙◌, subst, arith}
+use Rattle.std.proofs.Common.{◌≡◌, ◌⊎◌, ◌^◌, ℕ, List, [], length, inl, inr, refl, sym, ap, ◌∙◌, subst}
 use Rattle.thread_local_model.specs.Buckets.{Contents, row, IsTable}
 use Rattle.thread_local_model.specs.Rows.{with_row}
 use Rattle.thread_local_model.proofs.RowLaws.{IsTable-with_row}
 use Rattle.thread_local_bucket_pointers.specs.Pointers.{contents_of}
 use Rattle.thread_local_bucket_pointers.proofs.ContentsOf.{row_changes, row_seen}
 use Rattle.thread_local_bucket_pointers.proofs.bucket_pointers.BucketPointers.release.Goals as goal
-
-none : {X : Type 0} (cs : List X) → length cs ≡ 0 → cs ≡ []
-none [] long = refl
-none (c ∷ cs) long = absurd (omega (arith, long))
+use Rattle.std.proofs.lemmas.List.{nil_from_length}
 
 none_or_all : {X : Type 0} (cs ds : List X) (n size : ℕ) → cs ≡ ds → size ≡ n → (length cs ≡ 0) ⊎ (length cs ≡ n)
     → (ds ≡ []) ⊎ (length ds ≡ size)
-none_or_all cs ds n size same is (inl long) = inl (none ds (sym (ap length same) ∙ long))
+none_or_all cs ds n size same is (inl long) = inl (nil_from_length ds (sym (ap length same) ∙ long))
 none_or_all cs ds n size same is (inr long) = inr (sym (ap length same) ∙ long ∙ sym is)
 
 pub release-requires : goal.release-requires

@@ -20,8 +20,7 @@ use Rattle.std.proofs.alloc.Calls.{Al as Handle, Gives, at_gives, Gives-goes, Gi
 use Rattle.thread_local_bucket_pointers.specs.Slots.{slots_ty, block_ty, Fits}
 use Rattle.thread_local_bucket_pointers.specs.Retired.{retired_owns}
 use Rattle.thread_local_bucket_pointers.specs.contracts.retired.RetiredBlock as retired
-use Rattle.thread_local_bucket_pointers.specs.contracts.retired.RetiredBlock.deallocate.{ended, clauses}
-use Rattle.thread_local_bucket_pointers.specs.contracts.retired.RetiredBlock.deallocate.Key.{name as #self}
+use Rattle.thread_local_bucket_pointers.specs.contracts.retired.RetiredBlock.deallocate.{ended, clauses, Key.name as #self}
 use Rattle.thread_local_bucket_pointers.proofs.Fields.{block_val, block_good, block_size, block_align}
 use Rattle.thread_local_bucket_pointers.proofs.RetiredBlocks.{told, all_gone}
 use Rattle.thread_local_bucket_pointers.proofs.retired.RetiredBlock.deallocate.Statement.{statement}
@@ -29,12 +28,8 @@ use Rattle.thread_local_bucket_pointers.proofs.retired.RetiredBlock.deallocate.C
 
 pub deallocate_spec : {M : Type 1} → statement M
 deallocate_spec 𝓤 𝓛 𝓜 𝓡 wired T Al L LA ga da dd met _ =
-    let H = 𝓛.H in
-    let 𝓣 = tables 𝓤 H 𝓜 𝓡 𝓡.env in
-    let R : RattleType = param 0 T in
-    let Z : RattleType = param 1 Al in
-    let Lv : RattleType = retired.the_row R Z ga in
-    let En = ended T Al ga da dd in
+    let 𝓣 = tables 𝓤 𝓛.H 𝓜 𝓡 𝓡.env in let R : RattleType = param 0 T in let Z : RattleType = param 1 Al in
+    let Lv : RattleType = retired.the_row R Z ga in let En = ended T Al ga da dd in
     let c = clauses T Al ga da dd 𝓛 𝓜.mem 𝓡.returns in
     let inst = bounded (a_type ∷ a_type ∷ []) (T, (Al, tt)) (dcons da (dcons dd dnil)) in
     let fn = inst_fn inst code.function in
@@ -42,10 +37,7 @@ deallocate_spec 𝓤 𝓛 𝓜 𝓡 wired T Al L LA ga da dd met _ =
     let al : ℕ = capped (align (slots_ty R 64)) in let handle = RefOf (0 ∷ []) tt (plain (λ _. Z)) (λ _. tt) in
     let hs : Stays En.signature.params En.kept = (
       stay_dropped (plain (λ _. Lv)) no,
-      (
-        stay_dropped handle yes,
-        (stay_dropped (plain (λ _. usize)) yes, (stay_dropped (plain (λ _. usize)) yes, tt)),
-      ),
+      (stay_dropped handle yes, (stay_dropped (plain (λ _. usize)) yes, (stay_dropped (plain (λ _. usize)) yes, tt))),
     ) in
     proved 𝓛 En hs c 𝓜 𝓡 (
       Goes-dropped 𝓛 3 (plain (λ _. Lv)) no (λ κs x f. refl),
@@ -57,12 +49,9 @@ deallocate_spec 𝓤 𝓛 𝓜 𝓡 wired T Al L LA ga da dd met _ =
         ),
       ),
     )
-    (#self inst) fn (code.unfolded 𝓤 H 𝓜 𝓡 wired (T, (Al, tt)) da dd)
+    (#self inst) fn (code.unfolded 𝓤 𝓛.H 𝓜 𝓡 wired (T, (Al, tt)) da dd)
     (λ κs. ((λ x. block_val x.at ∷ []), (shr_vals, (uint_vals w64, (uint_vals w64, tt)))))
-    (λ κs. (
-      (λ x vs so. told R Z ga x.at vs so.0),
-      (shr_Tells (named 0) κs.0 Z, (uint_Tells w64, (uint_Tells w64, tt))),
-    ))
+    (λ κs. ((λ x vs so. told R Z ga x.at vs so.0), (shr_Tells (named 0) κs.0 Z, (uint_Tells w64, (uint_Tells w64, tt)))))
     (λ κs qs bounds a gh are.
     let h : Lv.Denot = a.0 in
     let hp : ℕ × ℕ = a.1.0.ref_ptr in
@@ -71,29 +60,20 @@ deallocate_spec 𝓤 𝓛 𝓜 𝓡 wired T Al L LA ga da dd met _ =
     let n : ℕ = a.1.1.0 in
     let τ : Ty = block_ty R n in
     let s : ℕ = a.1.1.1.0 in
-    let κ : Lft = κs.0 in
-    let q : Share = qs.0 in
-    let token : Ty → Ptr → Fml = ga.dealloc_token heap in
+    let κ : Lft = κs.0 in let q : Share = qs.0 in let token : Ty → Ptr → Fml = ga.dealloc_token heap in
     let y : (walk_of 𝓛 En hs c).Ghost = (
-      (
-        κs,
-        qs,
-        bounds,
-        a,
-        (block_val p ∷ [], (vptr hp.0 hp.1 ∷ [], (vint w64 n ∷ [], (vint w64 s ∷ [], tt)))),
-      ),
+      (κs, qs, bounds, a, (block_val p ∷ [], (vptr hp.0 hp.1 ∷ [], (vint w64 n ∷ [], (vint w64 s ∷ [], tt))))),
       gh,
     ) in
     let Post : Val → SProp 𝓤 = (walk_of 𝓛 En hs c).post y in
     let others : Fml = fsep (flft κs.1.0 qs.1.0) (fsep (flft κs.1.1.0 qs.1.1.0) ftrue) in
     let Asked : Type 0 = (h.heap ≡ heap) × (h.slots ≡ []) × (h.gone ≡ n) in
     let none : List (Option T.Denot) = [] in
-    let b : ℕ = block_of p in
-    let o : ℕ = count_of p in
+    let b : ℕ = block_of p in let o : ℕ = count_of p in
     let p' : Ptr = block_ptr b o in
     let Size : Type 0 = Fits R n → s ≡ size (slots_ty R n) in
     let us : Ptr → List Val = λ u. block_val u ∷ vptr hp.0 hp.1 ∷ vint w64 n ∷ vint w64 s ∷ [] in
-    let Run : List Val → SProp 𝓤 = λ ws. WpFn 𝓤 H 𝓣.C 𝓣.Λ fn ws Post in
+    let Run : List Val → SProp 𝓤 = λ ws. WpFn 𝓤 𝓛.H 𝓣.C 𝓣.Λ fn ws Post in
     qed 𝓛 (((‵ (flft κ q) ⊛ ‵ others) ⊛ ‵ (owns (types_at En.signature.params κs) a y.0.4))
     ∷ raw (fact 𝓤 _) ∷ raw (fact 𝓤 (κs.1.1.0 ⊑ Al.lives)) ∷ raw (fact 𝓤 Asked)
     ∷ raw (fact 𝓤 Size) ∷ []) ∵
@@ -114,13 +94,10 @@ deallocate_spec 𝓤 𝓛 𝓜 𝓡 wired T Al L LA ga da dd met _ =
     split ! $
     suffices ! (Run (us p')) (subst (λ (u : Ptr). ent 𝓤 (Run (us p')) (Run (us u)))
     (sym (at_block p so.0)) (id⊢ 𝓤 (Run (us p')))) $
-    enter ! 𝓣.C 𝓣.Λ fn (us p') Post $ alloc_all ! (λ l.
+    enter ! _ _ _ _ _ $ alloc_all ! (λ l.
     pass_all ! refl (
       block_good p',
-      (
-        (tt, tt),
-        ((tt, record { fits = are.1.1.0.1 }), ((tt, record { fits = are.1.1.1.0.1 }), tt)),
-      ),
+      ((tt, tt), ((tt, record { fits = are.1.1.0.1 }), ((tt, record { fits = are.1.1.1.0.1 }), tt))),
     ) $
     let Ev = env fn.locals l in
     sets ! (of_opd ! (get_in ! (fld ! refl (stop !)) (sub ! 0 refl (whole !)))) refl (tt, tt) $
@@ -143,7 +120,7 @@ deallocate_spec 𝓤 𝓛 𝓜 𝓡 wired T Al L LA ga da dd met _ =
     (tt, tt)) $
     exec ! 𝓣.C 𝓣.Λ Ev (after 2 fn.body) (at_ret Ev Post) $
     sets ! (of_opd ! (unit_lit !)) refl (tt, tt) $ join ! $ nothing ! $
-    feq_i ! (List Val) (vunit ∷ []) (vunit ∷ []) refl $ nothing ! $ nothing ! $ fjoin ! $
+    feq_i ! _ (vunit ∷ []) _ refl $ nothing ! $ nothing ! $ fjoin ! $
     nothing ! $ fjoin ! $ nothing ! $ fjoin ! $ nothing ! $ fjoin ! $
     returns ! (look_at ! 0 refl) $ free_all ! refl $ keep ! (3 ∷ 0 ∷ 1 ∷ 2 ∷ []) $
     by !

@@ -1,12 +1,12 @@
 -- `is_next_published` reads the flag of the next slot, which becomes room where the flag isn't set.
 use Rattle.thread_local_model.proofs.Names.{lit<, ◌≡◌, ℕ, ◌+◌, ◌*◌, ◌^◌, ◌<◌, List, [], ◌∷◌, length, sym, refl, ap}
 use Rattle.thread_local_model.proofs.Names.{◌∙◌, subst, w64, Bool, Option, Ty, a_type, dcons, dnil, named, Val, vint}
-use Rattle.thread_local_model.proofs.Names.{vptr, inst_fn, full_share, SProp, emp, Fml, ftrue, fsep, flft, ‵, raw, ◌⊛◌}
-use Rattle.thread_local_model.proofs.Names.{given, at_ret, ◌$◌, ◌∵◌, !, qed, by, move, keep, use0, use1, use2, split}
+use Rattle.thread_local_model.proofs.Names.{vptr, inst_fn, full_share, SProp, Fml, ftrue, fsep, flft, ‵, raw, ◌⊛◌}
+use Rattle.thread_local_model.proofs.Names.{given, at_ret, ◌$◌, ◌∵◌, !, qed, by, move, keep, use1, use2, split}
 use Rattle.thread_local_model.proofs.Names.{join, fsplit, fsplit3, fjoin, fjoin3, learn, rewrite, feq_i, stop, fld}
 use Rattle.thread_local_model.proofs.Names.{load, look, lit, of_opd, bin, first, blocks, exec, returns, enter}
 use Rattle.thread_local_model.proofs.Names.{alloc_all, pass_all, free_all, look_at, get, through, sets, sets_last, is}
-use Rattle.thread_local_model.proofs.Names.{env, sub, look_in, whole, tables, fact, fact_i, yes, RattleType, owns}
+use Rattle.thread_local_model.proofs.Names.{env, sub, look_in, whole, tables, fact, yes, RattleType, owns}
 use Rattle.thread_local_model.proofs.Names.{types_at, plain, Ptr, block_ptr, block_of, count_of, at_block, nothing}
 use Rattle.thread_local_model.proofs.Names.{heard, opens, closes, peeks, shows, param, bounded, usize, mut_vals}
 use Rattle.thread_local_model.proofs.Names.{mut_Tells, uint_vals, uint_Tells, Stays, stay_dropped, stay_ref, walk_of}
@@ -22,21 +22,17 @@ use Rattle.thread_local_bucket_pointers.specs.Slots.{slot_value, value_words, fl
 use Rattle.thread_local_bucket_pointers.proofs.Slots.{flags_of}
 use Rattle.thread_local_bucket_pointers.specs.Retired.{retired_owns, rest}
 use Rattle.thread_local_bucket_pointers.specs.contracts.retired.RetiredBlock as retired
-use Rattle.thread_local_bucket_pointers.specs.contracts.retired.RetiredBlock.is_next_published.{ended, clauses}
-use Rattle.thread_local_bucket_pointers.specs.contracts.retired.RetiredBlock.is_next_published.Key.{name as #self}
+use Rattle.thread_local_bucket_pointers.specs.contracts.retired.RetiredBlock.is_next_published.{ended, clauses, Key.name as #self}
 use Rattle.thread_local_bucket_pointers.proofs.Fields.{block_val}
 use Rattle.thread_local_bucket_pointers.proofs.RetiredBlocks.{told, Shown, Again, next_word, looked}
 use Rattle.thread_local_bucket_pointers.proofs.retired.RetiredBlock.is_next_published.Statement.{statement}
 use Rattle.thread_local_bucket_pointers.proofs.retired.RetiredBlock.is_next_published.Code as code
+use Rattle.thread_local_model.proofs.Walking.{knows}
 
 pub is_next_published_spec : {M : Type 1} → statement M
 is_next_published_spec 𝓤 𝓛 𝓜 𝓡 wired T Al L _ ga da dd _ _ =
-    let H = 𝓛.H in
-    let 𝓣 = tables 𝓤 H 𝓜 𝓡 𝓡.env in
-    let R : RattleType = param 0 T in
-    let Z : RattleType = param 1 Al in
-    let Lv : RattleType = retired.the_row R Z ga in
-    let En = ended T Al ga da dd in
+    let 𝓣 = tables 𝓤 𝓛.H 𝓜 𝓡 𝓡.env in let R : RattleType = param 0 T in let Z : RattleType = param 1 Al in
+    let Lv : RattleType = retired.the_row R Z ga in let En = ended T Al ga da dd in
     let c = clauses T Al ga da dd 𝓛 𝓜.mem 𝓡.returns in
     let inst = bounded (a_type ∷ a_type ∷ []) (T, (Al, tt)) (dcons da (dcons dd dnil)) in let fn = inst_fn inst code.function in
     let number = plain (λ _. usize) in let goes = Goes-dropped 𝓛 3 number yes (λ κs x f. refl) in
@@ -45,33 +41,17 @@ is_next_published_spec 𝓤 𝓛 𝓜 𝓡 wired T Al L _ ga da dd _ _ =
       (stay_dropped number yes, (stay_dropped number yes, tt)),
     ) in
     proved 𝓛 En hs c 𝓜 𝓡 (Goes-ref 𝓛 3 0 tt (plain (λ _. Lv)), (goes, (goes, tt))) (#self inst) fn
-    (code.unfolded 𝓤 H 𝓜 𝓡 wired (T, (Al, tt)) da dd)
+    (code.unfolded 𝓤 𝓛.H 𝓜 𝓡 wired (T, (Al, tt)) da dd)
     (λ κs. (mut_vals, (uint_vals w64, (uint_vals w64, tt))))
     (λ κs. (mut_Tells (named 0) κs.0 Lv, (uint_Tells w64, (uint_Tells w64, tt))))
     (λ κs qs bounds a gh are.
     let y : (walk_of 𝓛 En hs c).Ghost = (
-      (
-        κs,
-        qs,
-        bounds,
-        a,
-        (
-          vptr a.0.ref_ptr.0 a.0.ref_ptr.1 ∷ [],
-          (vint w64 a.1.0 ∷ [], (vint w64 a.1.1.0 ∷ [], tt)),
-        ),
-      ),
+      (κs, qs, bounds, a, (vptr a.0.ref_ptr.0 a.0.ref_ptr.1 ∷ [], (vint w64 a.1.0 ∷ [], (vint w64 a.1.1.0 ∷ [], tt)))),
       gh,
     ) in
-    let Post : Val → SProp 𝓤 = (walk_of 𝓛 En hs c).post y in
-    let b' : ℕ = a.0.ref_ptr.0 in
-    let o' : ℕ = a.0.ref_ptr.1 in
-    let h : Lv.Denot = a.0.now in
-    let token : Ty → Ptr → Fml = ga.dealloc_token h.heap in
-    let p : Ptr = h.at in
-    let cs : List (Option T.Denot) = h.slots in
-    let j : ℕ = a.1.0 in
-    let i : ℕ = a.1.1.0 in
-    let b : ℕ = block_of p in
+    let Post : Val → SProp 𝓤 = (walk_of 𝓛 En hs c).post y in let b' : ℕ = a.0.ref_ptr.0 in let o' : ℕ = a.0.ref_ptr.1 in
+    let h : Lv.Denot = a.0.now in let token : Ty → Ptr → Fml = ga.dealloc_token h.heap in let p : Ptr = h.at in
+    let cs : List (Option T.Denot) = h.slots in let j : ℕ = a.1.0 in let i : ℕ = a.1.1.0 in let b : ℕ = block_of p in
     let m : ℕ = j + length cs in
     let s : Option T.Denot = slot_value cs 0 in
     let Asked : Type 0 = (j ≡ h.gone) × (0 < length cs) in
@@ -84,7 +64,7 @@ is_next_published_spec 𝓤 𝓛 𝓜 𝓡 wired T Al L _ ga da dd _ _ =
     heard ! (i ≡ flag_word_at R (h.gone + length cs) (j / 64)) (λ numbered.
     let near : 0 < length cs = asked.1 in
     split ! $ split ! $ move ! (2 ∷ []) $ fsplit ! $ fsplit3 ! $ keep ! (1 ∷ 2 ∷ 4 ∷ 5 ∷ []) $
-    enter ! 𝓣.C 𝓣.Λ fn (vptr b' o' ∷ vint w64 j ∷ vint w64 i ∷ []) Post $ alloc_all ! (λ l.
+    enter ! _ _ _ _ _ $ alloc_all ! (λ l.
     pass_all ! refl
     ((tt, tt), ((tt, record { fits = are.1.0.1 }), ((tt, record { fits = are.1.1.0.1 }), tt))) $
     let Ev = env fn.locals l in
@@ -131,13 +111,12 @@ is_next_published_spec 𝓤 𝓛 𝓜 𝓡 wired T Al L _ ga da dd _ _ =
     use1 𝓛 (‵ (retired_owns R token p k ds)) (looked 𝓛 R token p j cs near) $
     rewrite ! 2 Cell (sym seen) refl $ let h' : Lv.Denot = record { at = p; marker = h.marker; heap = h.heap; slots = ds; gone = k } in
     move ! (1 ∷ []) $ fjoin ! $ move ! (1 ∷ []) $ closes ! tt Lv h' us b' o' $
-    feq_i ! (List Val) (vptr b' o' ∷ []) (vptr b' o' ∷ []) refl $ fjoin3 ! $ nothing ! $ nothing ! $
+    feq_i ! _ (vptr b' o' ∷ []) _ refl $ fjoin3 ! $ nothing ! $ nothing ! $
     fjoin ! $ nothing ! $ fjoin ! $ move ! (1 ∷ 0 ∷ []) $ fjoin ! $ move ! (1 ∷ 2 ∷ []) $ join ! $
     let Told : Type 0 = r ≡ is_some s in
     let After : Type 0 = (h.heap ≡ h.heap) × (ds ≡ ds) × (k ≡ (if r then h.gone else h.gone + 1)) in
-    use0 𝓛 (raw (fact 𝓤 After))
-    (fact_i 𝓤 After (emp 𝓤) (refl, refl, ap (λ (i : ℕ). if r then i else i + 1) asked.0)) $
-    use0 𝓛 (raw (fact 𝓤 Told)) (fact_i 𝓤 Told (emp 𝓤) refl) $ join ! $
-    feq_i ! (List Val) (vbool r ∷ []) (vbool r ∷ []) refl $
+    knows ! After (refl, refl, ap (λ (i : ℕ). if r then i else i + 1) asked.0) $
+    knows ! Told refl $ join ! $
+    feq_i ! _ (vbool r ∷ []) _ refl $
     returns ! (look_at ! 0 refl) $ free_all ! refl $ keep ! (2 ∷ 3 ∷ 0 ∷ 1 ∷ []) $
     by ! (leaves 𝓛 En hs c y (vbool r) r (h', (tt, (tt, tt))) (tt, (tt, (tt, tt))))))))))))

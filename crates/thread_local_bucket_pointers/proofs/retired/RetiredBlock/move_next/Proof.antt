@@ -1,12 +1,12 @@
 -- `move_next` reads the value of the next slot, which becomes room, whatever its flag says.
 use Rattle.thread_local_model.proofs.Names.{◌≡◌, ℕ, ◌+◌, ◌*◌, ◌^◌, ◌<◌, List, [], ◌∷◌, length, sym, refl, ap, ◌∙◌}
 use Rattle.thread_local_model.proofs.Names.{subst, w64, Option, Some, Ty, a_type, dcons, dnil, named, Val, vint, vptr}
-use Rattle.thread_local_model.proofs.Names.{inst_fn, bare, full_share, SProp, emp, Fml, ftrue, fsep, froom, flft, ‵}
-use Rattle.thread_local_model.proofs.Names.{raw, ◌⊛◌, given, at_ret, ◌$◌, ◌∵◌, !, qed, by, move, keep, use0, use1}
+use Rattle.thread_local_model.proofs.Names.{inst_fn, bare, full_share, SProp, Fml, ftrue, fsep, froom, flft, ‵}
+use Rattle.thread_local_model.proofs.Names.{raw, ◌⊛◌, given, at_ret, ◌$◌, ◌∵◌, !, qed, by, move, keep, use1}
 use Rattle.thread_local_model.proofs.Names.{use2, split, join, fsplit, fsplit3, fjoin, fjoin3, learn, rewrite, feq_i}
 use Rattle.thread_local_model.proofs.Names.{stop, fld, load, look_raw, size_word, of_opd, bin, first, blocks, exec}
 use Rattle.thread_local_model.proofs.Names.{returns, enter, alloc_all, pass_all, free_all, look_at, get, through, sets}
-use Rattle.thread_local_model.proofs.Names.{sets_last, is, env, sub, look_in, whole, tables, fact, fact_i, yes}
+use Rattle.thread_local_model.proofs.Names.{sets_last, is, env, sub, look_in, whole, tables, fact, yes}
 use Rattle.thread_local_model.proofs.Names.{RattleType, owns, types_at, plain, Ptr, block_ptr, block_of, count_of}
 use Rattle.thread_local_model.proofs.Names.{at_block, InBlock, nothing, heard, opens, closes, peeks, shows, param}
 use Rattle.thread_local_model.proofs.Names.{layout, param_laws, bounded, usize, mut_vals, mut_Tells, uint_vals}
@@ -20,44 +20,31 @@ use Rattle.thread_local_bucket_pointers.proofs.Flags.{uncapped}
 use Rattle.thread_local_bucket_pointers.proofs.Slots.{value_of}
 use Rattle.thread_local_bucket_pointers.specs.Retired.{retired_owns, rest}
 use Rattle.thread_local_bucket_pointers.specs.contracts.retired.RetiredBlock as retired
-use Rattle.thread_local_bucket_pointers.specs.contracts.retired.RetiredBlock.move_next.{ended, clauses}
-use Rattle.thread_local_bucket_pointers.specs.contracts.retired.RetiredBlock.move_next.Key.{name as #self}
+use Rattle.thread_local_bucket_pointers.specs.contracts.retired.RetiredBlock.move_next.{ended, clauses, Key.name as #self}
 use Rattle.thread_local_bucket_pointers.proofs.Fields.{block_val}
 use Rattle.thread_local_bucket_pointers.proofs.RetiredBlocks.{told, Emptied, next_slot}
 use Rattle.thread_local_bucket_pointers.proofs.retired.RetiredBlock.move_next.Statement.{statement}
 use Rattle.thread_local_bucket_pointers.proofs.retired.RetiredBlock.move_next.Code as code
+use Rattle.thread_local_model.proofs.Walking.{knows}
 
 pub move_next_spec : {M : Type 1} → statement M
 move_next_spec 𝓤 𝓛 𝓜 𝓡 wired T Al L _ ga da dd _ _ =
-    let H = 𝓛.H in
-    let 𝓣 = tables 𝓤 H 𝓜 𝓡 𝓡.env in
-    let R : RattleType = param 0 T in
-    let Z : RattleType = param 1 Al in
-    let Lv : RattleType = retired.the_row R Z ga in
-    let En = ended T Al ga da dd in
+    let 𝓣 = tables 𝓤 𝓛.H 𝓜 𝓡 𝓡.env in let R : RattleType = param 0 T in let Z : RattleType = param 1 Al in
+    let Lv : RattleType = retired.the_row R Z ga in let En = ended T Al ga da dd in
     let c = clauses T Al ga da dd 𝓛 𝓜.mem 𝓡.returns in
     let inst = bounded (a_type ∷ a_type ∷ []) (T, (Al, tt)) (dcons da (dcons dd dnil)) in let fn = inst_fn inst code.function in
     let hs : Stays En.signature.params En.kept =
     (stay_ref (0 ∷ []) tt (plain (λ _. Lv)), (stay_dropped (plain (λ _. usize)) yes, tt)) in
-    proved 𝓛 En hs c 𝓜 𝓡 (
-      Goes-ref 𝓛 3 0 tt (plain (λ _. Lv)),
-      (Goes-dropped 𝓛 3 (plain (λ _. usize)) yes (λ κs x f. refl), tt),
-    )
-    (#self inst) fn (code.unfolded 𝓤 H 𝓜 𝓡 wired (T, (Al, tt)) da dd)
+    proved 𝓛 En hs c 𝓜 𝓡 (Goes-ref 𝓛 3 0 tt (plain (λ _. Lv)), (Goes-dropped 𝓛 3 (plain (λ _. usize)) yes (λ κs x f. refl), tt))
+    (#self inst) fn (code.unfolded 𝓤 𝓛.H 𝓜 𝓡 wired (T, (Al, tt)) da dd)
     (λ κs. (mut_vals, (uint_vals w64, tt))) (λ κs. (mut_Tells (named 0) κs.0 Lv, (uint_Tells w64, tt))) (λ κs qs bounds a gh are.
     let y : (walk_of 𝓛 En hs c).Ghost = (
       (κs, qs, bounds, a, (vptr a.0.ref_ptr.0 a.0.ref_ptr.1 ∷ [], (vint w64 a.1.0 ∷ [], tt))),
       gh,
     ) in
-    let Post : Val → SProp 𝓤 = (walk_of 𝓛 En hs c).post y in
-    let b' : ℕ = a.0.ref_ptr.0 in
-    let o' : ℕ = a.0.ref_ptr.1 in
-    let h : Lv.Denot = a.0.now in
-    let token : Ty → Ptr → Fml = ga.dealloc_token h.heap in
-    let p : Ptr = h.at in
-    let cs : List (Option T.Denot) = h.slots in
-    let j : ℕ = a.1.0 in
-    let b : ℕ = block_of p in
+    let Post : Val → SProp 𝓤 = (walk_of 𝓛 En hs c).post y in let b' : ℕ = a.0.ref_ptr.0 in let o' : ℕ = a.0.ref_ptr.1 in
+    let h : Lv.Denot = a.0.now in let token : Ty → Ptr → Fml = ga.dealloc_token h.heap in let p : Ptr = h.at in
+    let cs : List (Option T.Denot) = h.slots in let j : ℕ = a.1.0 in let b : ℕ = block_of p in
     let s : Option T.Denot = slot_value cs 0 in
     let Asked : Type 0 = (j ≡ h.gone) × (0 < length cs) in
     let others : Fml = fsep (flft κs.1.0 qs.1.0) (fsep (flft κs.1.1.0 qs.1.1.0) ftrue) in
@@ -71,7 +58,7 @@ move_next_spec 𝓤 𝓛 𝓜 𝓡 wired T Al L _ ga da dd _ _ =
     let x : T.Denot = (value_of s full).0 in
     let lies : s ≡ Some x = (value_of s full).1 in
     split ! $ split ! $ move ! (2 ∷ []) $ fsplit ! $ fsplit3 ! $ keep ! (1 ∷ 2 ∷ 4 ∷ 5 ∷ []) $
-    enter ! 𝓣.C 𝓣.Λ fn (vptr b' o' ∷ vint w64 j ∷ []) Post $ alloc_all ! (λ l.
+    enter ! _ _ _ _ _ $ alloc_all ! (λ l.
     pass_all ! refl ((tt, tt), ((tt, record { fits = are.1.0.1 }), tt)) $
     let Ev = env fn.locals l in
     opens ! tt Lv b' o' (λ us. move ! (1 ∷ []) $ peeks ! Lv _ (shows 𝓛 Lv) h us (λ known. fsplit ! $
@@ -114,11 +101,10 @@ move_next_spec 𝓤 𝓛 𝓜 𝓡 wired T Al L _ ga da dd _ _ =
     let h' : Lv.Denot =
     record { at = p; marker = h.marker; heap = h.heap; slots = rest cs; gone = j + 1 } in
     move ! (1 ∷ []) $ fjoin ! $ move ! (1 ∷ []) $ closes ! tt Lv h' us b' o' $
-    feq_i ! (List Val) (vptr b' o' ∷ []) (vptr b' o' ∷ []) refl $ fjoin3 ! $ nothing ! $ nothing ! $
+    feq_i ! _ (vptr b' o' ∷ []) _ refl $ fjoin3 ! $ nothing ! $ nothing ! $
     fjoin ! $ move ! (1 ∷ 0 ∷ []) $ fjoin ! $ move ! (1 ∷ 3 ∷ []) $ join ! $
     let After : Type 0 = (h.heap ≡ h.heap) × (h'.slots ≡ h'.slots) × (h'.gone ≡ h.gone + 1) in
-    use0 𝓛 (raw (fact 𝓤 After))
-    (fact_i 𝓤 After (emp 𝓤) (refl, refl, ap (λ (i : ℕ). i + 1) asked.0)) $
-    use0 𝓛 (raw (fact 𝓤 (s ≡ Some x))) (fact_i 𝓤 (s ≡ Some x) (emp 𝓤) lies) $ join ! $
+    knows ! After (refl, refl, ap (λ (i : ℕ). i + 1) asked.0) $
+    knows ! (s ≡ Some x) lies $ join ! $
     returns ! (look_at ! 0 refl) $ free_all ! refl $ keep ! (1 ∷ 2 ∷ 3 ∷ 0 ∷ []) $
     by ! (leaves 𝓛 En hs c y v x (h', (tt, tt)) (tt, (tt, tt)))))))))))

@@ -1,4 +1,4 @@
-use Rattle.std.proofs.Common.{◌≡◌, ◌<◌, ◌^◌, ℕ, true, false, Option, Some, None, length, lit<, subst, sym, ap, ◌∙◌, inl, inr, refl}
+use Rattle.std.proofs.Common.{◌≡◌, ◌<◌, ◌^◌, ℕ, true, false, Some, None, length, lit<, subst, sym, ap, ◌∙◌, inl, inr}
 use Rattle.std.specs.Prelude.{is_some, IsSome}
 use Rattle.std.proofs.lemmas.Bool.{cond-true}
 use mathlib.Core.Path.{fun_ext}
@@ -11,6 +11,7 @@ use Rattle.thread_local_model.specs.Owner.{with_published}
 use Rattle.thread_local_model.proofs.InsertingLaws.{published_values, IsOwned-with_published}
 use Rattle.thread_local_buckets.specs.Inserting.{owned_with}
 use Rattle.thread_local_buckets.proofs.buckets.Buckets.get_mut.Goals as goal
+use Rattle.thread_local_model.proofs.TakingLaws.{shows_none}
 
 -- the map has what was written, and is unchanged elsewhere
 map_of : {V : Type 0} (o now : Owned V) (b i : ℕ) → o ≡ now → IsTable o.contents → b < 63 → i < 2 ^ b
@@ -31,14 +32,10 @@ left_as o now d b i same looked stood w =
     (with_row o.contents b (empty_row b)) stood))
     ∙ ap (λ (s : Owned _). owned_with s b i w) same
 
-none_of : {V : Type 0} (x : Option V) → is_some x ≡ false → x ≡ None
-none_of None h = refl
-none_of (Some x) h = cc
-
 nothing_at : {V : Type 0} (o now : Owned V) (b i : ℕ) → o ≡ now
     → is_some (value_in o.contents b i) ≡ false
     → value_in now.contents b i ≡ None
-nothing_at o now b i same none = ap (λ (s : Owned _). value_in s.contents b i) (sym same) ∙ none_of (value_in o.contents b i) none
+nothing_at o now b i same none = ap (λ (s : Owned _). value_in s.contents b i) (sym same) ∙ shows_none (value_in o.contents b i) none
 
 -- whatever is written, the buckets are still an owner's
 owned_still : {V : Type 0} (o : Owned V) (d : Contents V) (b i : ℕ) → IsOwned o → b < 63 → d ≡ o.contents

@@ -1,15 +1,14 @@
 -- `lend` takes the address of the pointers, and splits the owner's borrow to make what a loan owns.
-use Rattle.thread_local_model.proofs.Names.{◌≡◌, ℕ, ◌+◌, [], ◌∷◌, refl, ap, full_share, a_type, named, Val, vptr}
-use Rattle.thread_local_model.proofs.Names.{inst_fn, SProp, ent, ex, sep, sem, emp, Lft, Share, GName, Fml, ftrue}
+use Rattle.thread_local_model.proofs.Names.{◌≡◌, ℕ, ◌+◌, [], ◌∷◌, refl, ap, full_share, a_type, named, vptr}
+use Rattle.thread_local_model.proofs.Names.{inst_fn, SProp, ent, ex, sep, sem, Lft, Share, GName, Fml, ftrue}
 use Rattle.thread_local_model.proofs.Names.{fsep, flft, ‵, raw, ◌⊛◌, some, given, later, ◌$◌, ◌∵◌, !, qed, by, move}
 use Rattle.thread_local_model.proofs.Names.{keep, split, split3, join, fsplit, fsplit3, fjoin, pick, learn, group}
 use Rattle.thread_local_model.proofs.Names.{use0, use1, use2, await, stop, fld, addr, of_opd, returns, enter}
 use Rattle.thread_local_model.proofs.Names.{alloc_all, pass_all, free_all, look_at, get, through, sets, open_ref}
-use Rattle.thread_local_model.proofs.Names.{tables, fact_i, no, RattleType, owns, types_at, plain, named_lft}
+use Rattle.thread_local_model.proofs.Names.{no, RattleType, owns, types_at, plain, named_lft}
 use Rattle.thread_local_model.proofs.Names.{block_ptr, nothing, mem, lone, part_at, param, param_laws, layouts, usize}
 use Rattle.thread_local_model.proofs.Names.{RefMutOf, mut_vals, mut_Tells, Stays, stay_dropped, walk_of, proved}
 use Rattle.thread_local_model.proofs.Names.{leaves, Member, w64}
-use contract.Monad.{fact}
 use types.Logic.{Logic}
 use types.Run.{no_more, and_then}
 use types.Part.{agg}
@@ -34,11 +33,11 @@ use Rattle.thread_local_buckets.proofs.Lending.{lends}
 use Rattle.thread_local_buckets.specs.LendingValues.{owned_refilled}
 use Rattle.thread_local_buckets.specs.contracts.buckets.Buckets as buckets
 use Rattle.thread_local_buckets.specs.contracts.buckets.Buckets.TheInside as inside
-use Rattle.thread_local_buckets.specs.contracts.buckets.Buckets.lend.{ended, clauses}
-use Rattle.thread_local_buckets.specs.contracts.buckets.Buckets.lend.Key.{name as #self}
+use Rattle.thread_local_buckets.specs.contracts.buckets.Buckets.lend.{ended, clauses, Key.name as #self}
 use Rattle.thread_local_buckets.proofs.Refilling.{IsOwned-refilled}
 use Rattle.thread_local_buckets.proofs.buckets.Buckets.lend.Statement.{statement}
 use Rattle.thread_local_buckets.proofs.buckets.Buckets.lend.Code as code
+use Rattle.thread_local_model.proofs.Walking.{knows}
 
 module _ {M : Type 1} {𝓤 : Ura M} (𝓛 : Logic 𝓤) (X : RattleType) (L : Laws X) (b o : ℕ) (t : Owned (param 0 X).Denot) where
   abbrev R : RattleType
@@ -102,31 +101,22 @@ module _ {M : Type 1} {𝓤 : Ura M} (𝓛 : Logic 𝓤) (X : RattleType) (L : L
 
 pub lend_spec : {M : Type 1} → statement M
 lend_spec 𝓤 𝓛 𝓜 𝓡 wired X L =
-    let H = 𝓛.H in
-    let 𝓣 = tables 𝓤 H 𝓜 𝓡 𝓡.env in
-    let R : RattleType = param 0 X in
-    let En = ended X in
-    let c = clauses X 𝓛 𝓜.mem 𝓡.returns in
+    let R : RattleType = param 0 X in let En = ended X in let c = clauses X 𝓛 𝓜.mem 𝓡.returns in
     let inst = layouts (a_type ∷ []) (X, tt) in let fn = inst_fn inst code.function in let Owner : RattleType = buckets.the_row R in
-    let row = plain (λ _. Owner) in
-    let self = RefMutOf (0 ∷ []) tt row (λ _. tt) in
+    let row = plain (λ _. Owner) in let self = RefMutOf (0 ∷ []) tt row (λ _. tt) in
     let hs : Stays En.signature.params En.kept = (stay_dropped self no, tt) in
     proved 𝓛 En hs c 𝓜 𝓡 (Goes-spent_ref 𝓛 2 (0 ∷ []) tt row, tt) (#self inst) fn
-    (code.unfolded 𝓤 H 𝓜 𝓡 wired (X, tt))
+    (code.unfolded 𝓤 𝓛.H 𝓜 𝓡 wired (X, tt))
     (λ κs. (mut_vals, tt)) (λ κs. (mut_Tells (named 0) κs.0 Owner, tt)) (λ κs qs bounds a gh are.
-    let b : ℕ = a.0.ref_ptr.0 in
-    let o : ℕ = a.0.ref_ptr.1 in
-    let κ : Lft = κs.0 in
-    let q : Share = qs.0 in
+    let b : ℕ = a.0.ref_ptr.0 in let o : ℕ = a.0.ref_ptr.1 in let κ : Lft = κs.0 in let q : Share = qs.0 in
     let γ : GName = a.0.ghost_name in
     let t : Owned R.Denot = a.0.now in
     let ℓ = named_lft 2 0 tt κs in let Lo : RattleType = loan.the_row ℓ R in let others : Fml = fsep (flft κs.1.0 qs.1.0) ftrue in
     let y : (walk_of 𝓛 En hs c).Ghost = ((κs, qs, bounds, a, (vptr b o ∷ [], tt)), gh) in
-    let Post : Val → SProp 𝓤 = (walk_of 𝓛 En hs c).post y in
     qed 𝓛 (((‵ (flft κ q) ⊛ ‵ others) ⊛ ‵ (owns (types_at En.signature.params κs) a y.0.4))
     ∷ raw ((c κs a).requires gh) ∷ []) ∵
     split ! $ split ! $ move ! (2 ∷ []) $ fsplit ! $ fsplit3 ! $ keep ! (1 ∷ 2 ∷ 4 ∷ 5 ∷ []) $
-    enter ! 𝓣.C 𝓣.Λ fn (vptr b o ∷ []) Post $ alloc_all ! (λ l. pass_all ! refl ((tt, tt), tt) $
+    enter ! _ _ _ _ _ $ alloc_all ! (λ l. pass_all ! refl ((tt, tt), tt) $
     sets ! (addr ! (through ! refl (fld ! refl (stop !)))) refl (tt, tt) $
     sets ! (of_opd ! (get ! refl)) refl (tt, tt) $ sets ! (of_opd ! (get ! refl)) refl (tt, tt) $
     sets ! (agg ! (no_more !)) refl (tt, tt) $
@@ -153,9 +143,8 @@ lend_spec 𝓤 𝓛 𝓜 𝓡 wired X L =
     (shuts 𝓛 X L b o t d x.1.0 x.1.1) κ q γ code_of code_of) $
     await ! tt $ learn ! (λ table. pick ! (λ ν. split3 ! $
     -- [what the loan owns; the token; what follows; the other tokens]
-    move ! (1 ∷ 3 ∷ []) $ join ! $ use0 𝓛 (raw (fact 𝓤 (0 ≡ 0))) (fact_i 𝓤 (0 ≡ 0) (emp 𝓤) refl) $
-    use0 𝓛 (raw (fact 𝓤 (held ≡ t.contents)))
-    (fact_i 𝓤 (held ≡ t.contents) (emp 𝓤) (ap (λ (s : Owned R.Denot). s.contents) x.1.0)) $
+    move ! (1 ∷ 3 ∷ []) $ join ! $ knows ! (0 ≡ 0) refl $
+    knows ! (held ≡ t.contents) (ap (λ (s : Owned R.Denot). s.contents) x.1.0) $
     join ! $ move ! (3 ∷ 0 ∷ []) $ join ! $ move ! (2 ∷ []) $
     let h : Lo.Denot = record {
       pointers = p;

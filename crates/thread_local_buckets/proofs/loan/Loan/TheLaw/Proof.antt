@@ -17,9 +17,6 @@ shares κ V L =
     of_Lends (C.struct κ V) (C.the_codes V.Denot V.coded (marker.the_row R).coded)
     (C.the_heap κ.lft V) (C.the_lent κ.lft V) (λ d p. nothing_shr_laws) (
       copy_shared RawPtr-field RawPtr-copy,
-      (
-        copy_shared RawPtr-field RawPtr-copy,
-        (copy_shared (marker.the_field R) (field_copy (marker.the_type R) tt), tt),
-      ),
+      (copy_shared RawPtr-field RawPtr-copy, (copy_shared (marker.the_field R) (field_copy (marker.the_type R) tt), tt)),
     )
     (λ M 𝓤 𝓛 d p. Lends-nothing 𝓛 (C.the_heap κ.lft V d) (C.the_row κ V).lives)

@@ -6,12 +6,12 @@ use Rattle.thread_local_bucket_pointers.proofs.Flags.{uncapped, value_near}
 use Rattle.thread_local_model.proofs.Names.{drop, is, size_word, assigns, unit_lit, vunit, cell, length, apply∗, sem}
 use Rattle.thread_local_model.proofs.Names.{◌≡◌, ℕ, ◌+◌, ◌*◌, ◌^◌, ◌<◌, List, [], ◌∷◌, sym, refl, ap, ◌∙◌, subst}
 use Rattle.thread_local_model.proofs.Names.{arith, w64, a_type, named, Val, vint, vptr, inst_fn, full_share, SProp}
-use Rattle.thread_local_model.proofs.Names.{emp, Fml, ftrue, fsep, flft, ‵, raw, ◌⊛◌, at_ret, ◌$◌, ◌∵◌, !, qed, by}
+use Rattle.thread_local_model.proofs.Names.{Fml, ftrue, fsep, flft, ‵, raw, ◌⊛◌, at_ret, ◌$◌, ◌∵◌, !, qed, by}
 use Rattle.thread_local_model.proofs.Names.{move, keep, use0, use1, use2, split, join, fsplit, fsplit3, fjoin, fjoin3}
 use Rattle.thread_local_model.proofs.Names.{fpick, fpack, rewrite, feq_i, stop, fld, load, lit, of_opd, bin, first}
 use Rattle.thread_local_model.proofs.Names.{blocks, exec, returns, enter, look, alloc_all, pass_all, free_all, look_at}
 use Rattle.thread_local_model.proofs.Names.{get, through, sets, sets_last, env, sub, look_in, whole, bor_open}
-use Rattle.thread_local_model.proofs.Names.{obor_close, tables, fact_i, yes, RattleType, owns, types_at, plain}
+use Rattle.thread_local_model.proofs.Names.{obor_close, tables, yes, RattleType, owns, types_at, plain}
 use Rattle.thread_local_model.proofs.Names.{named_lft, Ptr, block_ptr, block_of, count_of, at_block, nothing, heard}
 use Rattle.thread_local_model.proofs.Names.{opens, closes, peeks, Is, shows, cell_at, param, layouts, usize, mut_vals}
 use Rattle.thread_local_model.proofs.Names.{mut_Tells, uint_vals, uint_Tells, Stays, stay_dropped, stay_ref, walk_of}
@@ -21,19 +21,16 @@ use Rattle.std.proofs.alloc.Shapes.{after}
 use Rattle.thread_local_model.specs.Buckets.{row}
 use Rattle.thread_local_buckets.specs.Lent.{Lending, Known, lending, framed, frames, PointsTo}
 use Rattle.thread_local_buckets.specs.contracts.loan.Loan as loan
-use Rattle.thread_local_buckets.specs.contracts.loan.Loan.enter.{ended, clauses}
-use Rattle.thread_local_buckets.specs.contracts.loan.Loan.enter.Key.{name as #self}
+use Rattle.thread_local_buckets.specs.contracts.loan.Loan.enter.{ended, clauses, Key.name as #self}
 use Rattle.thread_local_buckets.proofs.Fields.{FieldsType, told, made, loan_val, leads_in}
 use Rattle.thread_local_buckets.proofs.Frames.{pointer, in_row, Frame, frame_out}
 use Rattle.thread_local_buckets.proofs.loan.Loan.enter.Statement.{statement}
 use Rattle.thread_local_buckets.proofs.loan.Loan.enter.Code as code
+use Rattle.thread_local_model.proofs.Walking.{knows}
 
 pub enter_spec : {M : Type 1} → statement M
 enter_spec 𝓤 𝓛 𝓜 𝓡 wired X L =
-    let H = 𝓛.H in
-    let 𝓣 = tables 𝓤 H 𝓜 𝓡 𝓡.env in
-    let R : RattleType = param 0 X in
-    let En = ended X in
+    let 𝓣 = tables 𝓤 𝓛.H 𝓜 𝓡 𝓡.env in let R : RattleType = param 0 X in let En = ended X in
     let c₀ = clauses X 𝓛 𝓜.mem 𝓡.returns in
     let inst = layouts (a_type ∷ []) (X, tt) in let fn = inst_fn inst code.function in
     let mine = plain (λ κs. loan.the_row (named_lft 3 1 tt κs) R) in
@@ -43,17 +40,12 @@ enter_spec 𝓤 𝓛 𝓜 𝓡 wired X L =
     ) in
     let goes = Goes-dropped 𝓛 3 (plain (λ _. usize)) yes (λ κs x f. refl) in
     proved 𝓛 En hs c₀ 𝓜 𝓡 (Goes-ref 𝓛 3 0 tt mine, (goes, (goes, tt))) (#self inst) fn
-    (code.unfolded 𝓤 H 𝓜 𝓡 wired (X, tt))
+    (code.unfolded 𝓤 𝓛.H 𝓜 𝓡 wired (X, tt))
     (λ κs. (mut_vals, (uint_vals w64, (uint_vals w64, tt))))
-    (λ κs. (
-      mut_Tells (named 0) κs.0 (loan.the_row (named_lft 3 1 tt κs) R),
-      (uint_Tells w64, (uint_Tells w64, tt)),
-    ))
+    (λ κs. (mut_Tells (named 0) κs.0 (loan.the_row (named_lft 3 1 tt κs) R), (uint_Tells w64, (uint_Tells w64, tt))))
     (λ κs qs bounds a gh are.
     let ℓ = named_lft 3 1 tt κs in let Lo : RattleType = loan.the_row ℓ R in let D : RattleType = FieldsType ℓ R in
-    let b : ℕ = a.0.ref_ptr.0 in
-    let o : ℕ = a.0.ref_ptr.1 in
-    let h : Lo.Denot = a.0.now in
+    let b : ℕ = a.0.ref_ptr.0 in let o : ℕ = a.0.ref_ptr.1 in let h : Lo.Denot = a.0.now in
     let k : ℕ = a.1.0 in
     let i : ℕ = a.1.1.0 in
     let y : (walk_of 𝓛 En hs c₀).Ghost =
@@ -65,7 +57,7 @@ enter_spec 𝓤 𝓛 𝓜 𝓡 wired X L =
     ∷ raw (fact 𝓤 _) ∷ (raw (fact 𝓤 InTable) ⊛ raw (fact 𝓤 InBucket)) ∷ []) ∵
     keep ! (2 ∷ 0 ∷ []) $ split ! $ heard ! InTable (λ small. heard ! InBucket (λ inside. split ! $
     split ! $ move ! (2 ∷ []) $ fsplit ! $ fsplit3 ! $ keep ! (1 ∷ 2 ∷ 4 ∷ 5 ∷ []) $
-    enter ! 𝓣.C 𝓣.Λ fn (vptr b o ∷ vint w64 k ∷ vint w64 i ∷ []) Post $ alloc_all ! (λ l.
+    enter ! _ _ _ _ _ $ alloc_all ! (λ l.
     pass_all ! refl
     ((tt, tt), ((tt, record { fits = are.1.0.1 }), ((tt, record { fits = are.1.1.0.1 }), tt))) $
     let Ev = env fn.locals l in
@@ -80,8 +72,7 @@ enter_spec 𝓤 𝓛 𝓜 𝓡 wired X L =
     let wo : ℕ = count_of h.pointers in
     let e : ℕ = k * 8 + wo in
     let rs = s.1.rows in
-    let p : Ptr = pointer s.0 k in
-    let r = in_row rs k in
+    let p : Ptr = pointer s.0 k in let r = in_row rs k in
     let ev : ts ≡ loan_val (block_ptr wb wo) h.values ∷ [] =
     told ℓ R h.pointers h.values ts is_so ∙ ap (λ (q : Ptr). loan_val q h.values ∷ []) at in
     let near : i < length r = subst (λ n. i < n) (sym (so.1.long k)) inside in
@@ -148,14 +139,14 @@ enter_spec 𝓤 𝓛 𝓜 𝓡 wired X L =
     move ! (3 ∷ []) $ drop ! $
     use0 𝓛 (‵ (D.own_val (q, (u, (tt, tt))) (loan_val q u ∷ []))) (made ℓ R 𝓛 q u) $ fjoin ! $
     move ! (3 ∷ 0 ∷ 4 ∷ 5 ∷ 6 ∷ []) $ closes ! tt Lo h' (loan_val q u ∷ []) b o $
-    feq_i ! (List Val) (vptr b o ∷ []) (vptr b o ∷ []) refl $ fjoin3 ! $ nothing ! $ nothing ! $
+    feq_i ! _ (vptr b o ∷ []) _ refl $ fjoin3 ! $ nothing ! $ nothing ! $
     fjoin ! $ nothing ! $ fjoin ! $ move ! (1 ∷ 0 ∷ []) $ fjoin ! $ move ! (2 ∷ 3 ∷ []) $ fjoin ! $
     move ! (2 ∷ 0 ∷ []) $ join ! $
-    use0 𝓛 (raw (fact 𝓤 (i ≡ i))) (fact_i 𝓤 (i ≡ i) (emp 𝓤) refl) $
-    use0 𝓛 (raw (fact 𝓤 (k ≡ k))) (fact_i 𝓤 (k ≡ k) (emp 𝓤) refl) $ join ! $
-    use0 𝓛 (raw (fact 𝓤 (h.given ≡ h.given))) (fact_i 𝓤 (h.given ≡ h.given) (emp 𝓤) refl) $ join ! $
-    use0 𝓛 (raw (fact 𝓤 (h.contents ≡ h.contents))) (fact_i 𝓤 (h.contents ≡ h.contents) (emp 𝓤) refl) $ join ! $
-    use0 𝓛 (raw (fact 𝓤 (h.name ≡ h.name))) (fact_i 𝓤 (h.name ≡ h.name) (emp 𝓤) refl) $ join ! $
-    feq_i ! (List Val) (vunit ∷ []) (vunit ∷ []) refl $
+    knows ! (i ≡ i) refl $
+    knows ! (k ≡ k) refl $ join ! $
+    knows ! (h.given ≡ h.given) refl $ join ! $
+    knows ! (h.contents ≡ h.contents) refl $ join ! $
+    knows ! (h.name ≡ h.name) refl $ join ! $
+    feq_i ! _ (vunit ∷ []) _ refl $
     returns ! (look_at ! 0 refl) $ free_all ! refl $ keep ! (2 ∷ 3 ∷ 0 ∷ 1 ∷ []) $
     by ! (leaves 𝓛 En hs c₀ y vunit tt (h', (tt, (tt, tt))) (tt, (tt, (tt, tt)))))))))))))

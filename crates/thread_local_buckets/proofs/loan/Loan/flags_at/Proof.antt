@@ -1,13 +1,13 @@
 -- `flags_at` reads a bucket's pointer, and the word of a chunk in the block that it points to.
 use Rattle.thread_local_model.proofs.Names.{drop, apply∗, sem, split3, is, length, is_some, cell, ◌≤◌, ◌≡◌, ℕ, ◌+◌}
 use Rattle.thread_local_model.proofs.Names.{◌*◌, ◌^◌, ◌<◌, List, [], ◌∷◌, sym, refl, ap, ◌∙◌, subst, arith, w64}
-use Rattle.thread_local_model.proofs.Names.{a_type, named, Val, vint, vptr, inst_fn, full_share, SProp, emp, Fml}
+use Rattle.thread_local_model.proofs.Names.{a_type, named, Val, vint, vptr, inst_fn, full_share, SProp, Fml}
 use Rattle.thread_local_model.proofs.Names.{ftrue, fsep, flft, ‵, raw, ◌⊛◌, given, at_ret, ◌$◌, ◌∵◌, !, qed, by, move}
-use Rattle.thread_local_model.proofs.Names.{keep, use0, use1, use2, split, join, fsplit, fsplit3, fjoin, fjoin3, fpick}
+use Rattle.thread_local_model.proofs.Names.{keep, use1, use2, split, join, fsplit, fsplit3, fjoin, fjoin3, fpick}
 use Rattle.thread_local_model.proofs.Names.{fpack, learn, rewrite, feq_i, stop, fld, load, lit, of_opd, bin, first}
 use Rattle.thread_local_model.proofs.Names.{blocks, exec, returns, enter, look, alloc_all, pass_all, free_all, look_at}
 use Rattle.thread_local_model.proofs.Names.{get, through, sets, sets_last, env, sub, look_in, whole, bor_open}
-use Rattle.thread_local_model.proofs.Names.{obor_close, tables, fact_i, yes, RattleType, owns, types_at, plain}
+use Rattle.thread_local_model.proofs.Names.{obor_close, tables, yes, RattleType, owns, types_at, plain}
 use Rattle.thread_local_model.proofs.Names.{named_lft, Ptr, block_ptr, block_of, count_of, at_block, nothing, heard}
 use Rattle.thread_local_model.proofs.Names.{opens, closes, peeks, Is, shows, cell_at, param, layouts, usize, mut_vals}
 use Rattle.thread_local_model.proofs.Names.{mut_Tells, uint_vals, uint_Tells, Stays, stay_dropped, stay_ref, walk_of}
@@ -24,20 +24,17 @@ use Rattle.thread_local_bucket_pointers.proofs.Slots.{IsWordOf, IsWordNear, word
 use Rattle.thread_local_model.proofs.RowLaws.{row_whole}
 use Rattle.thread_local_buckets.specs.Lent.{Lending, Known, lending, framed, frames, flagged, PointsTo}
 use Rattle.thread_local_buckets.specs.contracts.loan.Loan as loan
-use Rattle.thread_local_buckets.specs.contracts.loan.Loan.flags_at.{ended, clauses}
-use Rattle.thread_local_buckets.specs.contracts.loan.Loan.flags_at.Key.{name as #self}
+use Rattle.thread_local_buckets.specs.contracts.loan.Loan.flags_at.{ended, clauses, Key.name as #self}
 use Rattle.thread_local_buckets.proofs.Fields.{FieldsType, told, loan_val, leads_in}
 use Rattle.thread_local_buckets.proofs.Frames.{pointer, in_row, Frame, frame_out}
 use Rattle.thread_local_buckets.proofs.Reading.{word_out, says_of_left}
 use Rattle.thread_local_buckets.proofs.loan.Loan.flags_at.Statement.{statement}
 use Rattle.thread_local_buckets.proofs.loan.Loan.flags_at.Code as code
+use Rattle.thread_local_model.proofs.Walking.{knows}
 
 pub flags_at_spec : {M : Type 1} → statement M
 flags_at_spec 𝓤 𝓛 𝓜 𝓡 wired X L =
-    let H = 𝓛.H in
-    let 𝓣 = tables 𝓤 H 𝓜 𝓡 𝓡.env in
-    let R : RattleType = param 0 X in
-    let En = ended X in
+    let 𝓣 = tables 𝓤 𝓛.H 𝓜 𝓡 𝓡.env in let R : RattleType = param 0 X in let En = ended X in
     let c₀ = clauses X 𝓛 𝓜.mem 𝓡.returns in
     let inst = layouts (a_type ∷ []) (X, tt) in let fn = inst_fn inst code.function in
     let mine = plain (λ κs. loan.the_row (named_lft 3 1 tt κs) R) in
@@ -50,7 +47,7 @@ flags_at_spec 𝓤 𝓛 𝓜 𝓡 wired X L =
     ) in
     let goes = Goes-dropped 𝓛 3 (plain (λ _. usize)) yes (λ κs x f. refl) in
     proved 𝓛 En hs c₀ 𝓜 𝓡 (Goes-ref 𝓛 3 0 tt mine, (goes, (goes, (goes, tt)))) (#self inst) fn
-    (code.unfolded 𝓤 H 𝓜 𝓡 wired (X, tt))
+    (code.unfolded 𝓤 𝓛.H 𝓜 𝓡 wired (X, tt))
     (λ κs. (mut_vals, (uint_vals w64, (uint_vals w64, (uint_vals w64, tt)))))
     (λ κs. (
       mut_Tells (named 0) κs.0 (loan.the_row (named_lft 3 1 tt κs) R),
@@ -58,20 +55,11 @@ flags_at_spec 𝓤 𝓛 𝓜 𝓡 wired X L =
     ))
     (λ κs qs bounds a gh are.
     let ℓ = named_lft 3 1 tt κs in let Lo : RattleType = loan.the_row ℓ R in let D : RattleType = FieldsType ℓ R in
-    let b : ℕ = a.0.ref_ptr.0 in
-    let o : ℕ = a.0.ref_ptr.1 in
-    let h : Lo.Denot = a.0.now in
+    let b : ℕ = a.0.ref_ptr.0 in let o : ℕ = a.0.ref_ptr.1 in let h : Lo.Denot = a.0.now in
     let k : ℕ = a.1.0 in
-    let c : ℕ = a.1.1.0 in
-    let w : ℕ = a.1.1.1.0 in
+    let c : ℕ = a.1.1.0 in let w : ℕ = a.1.1.1.0 in
     let y : (walk_of 𝓛 En hs c₀).Ghost = (
-      (
-        κs,
-        qs,
-        bounds,
-        a,
-        (vptr b o ∷ [], (vint w64 k ∷ [], (vint w64 c ∷ [], (vint w64 w ∷ [], tt)))),
-      ),
+      (κs, qs, bounds, a, (vptr b o ∷ [], (vint w64 k ∷ [], (vint w64 c ∷ [], (vint w64 w ∷ [], tt))))),
       gh,
     ) in
     let Post : Val → SProp 𝓤 = (walk_of 𝓛 En hs c₀).post y in
@@ -87,14 +75,11 @@ flags_at_spec 𝓤 𝓛 𝓜 𝓡 wired X L =
     keep ! (2 ∷ 0 ∷ []) $ split3 ! $ heard ! InTable (λ small. heard ! InBucket (λ inside. split ! $
     heard ! Ahead (λ ahead. heard ! Numbered (λ numbered. split ! $ split ! $ move ! (2 ∷ []) $
     fsplit ! $ fsplit3 ! $ keep ! (1 ∷ 2 ∷ 4 ∷ 5 ∷ []) $
-    enter ! 𝓣.C 𝓣.Λ fn (vptr b o ∷ vint w64 k ∷ vint w64 c ∷ vint w64 w ∷ []) Post $
+    enter ! _ _ _ _ _ $
     alloc_all ! (λ l.
     pass_all ! refl (
       (tt, tt),
-      (
-        (tt, record { fits = are.1.0.1 }),
-        ((tt, record { fits = are.1.1.0.1 }), ((tt, record { fits = are.1.1.1.0.1 }), tt)),
-      ),
+      ((tt, record { fits = are.1.0.1 }), ((tt, record { fits = are.1.1.0.1 }), ((tt, record { fits = are.1.1.1.0.1 }), tt))),
     ) $
     let Ev = env fn.locals l in
     opens ! tt Lo b o (λ ts. move ! (1 ∷ []) $ fsplit ! $
@@ -108,8 +93,7 @@ flags_at_spec 𝓤 𝓛 𝓜 𝓡 wired X L =
     let wo : ℕ = count_of h.pointers in
     let e : ℕ = k * 8 + wo in
     let rs = s.1.rows in
-    let p : Ptr = pointer s.0 k in
-    let r = in_row rs k in
+    let p : Ptr = pointer s.0 k in let r = in_row rs k in
     let ev : ts ≡ loan_val (block_ptr wb wo) h.values ∷ [] =
     told ℓ R h.pointers h.values ts is_so ∙ ap (λ (q : Ptr). loan_val q h.values ∷ []) at in
     let near : c * 64 < length r = subst (λ n. c * 64 < n) (sym (so.1.long k)) inside in
@@ -168,15 +152,14 @@ flags_at_spec 𝓤 𝓛 𝓜 𝓡 wired X L =
     move ! (3 ∷ 0 ∷ []) $ fjoin ! $
     rewrite ! 3 (λ (ws : List Val). ‵ (cell_at full_share Lo.mir ws b o)) (sym ev) refl $
     move ! (3 ∷ 0 ∷ 4 ∷ 5 ∷ 6 ∷ []) $ closes ! tt Lo h ts b o $
-    feq_i ! (List Val) (vptr b o ∷ []) (vptr b o ∷ []) refl $ fjoin3 ! $ nothing ! $ nothing ! $
+    feq_i ! _ (vptr b o ∷ []) _ refl $ fjoin3 ! $ nothing ! $ nothing ! $
     fjoin ! $ nothing ! $ fjoin ! $ nothing ! $ fjoin ! $ move ! (1 ∷ 0 ∷ []) $ fjoin ! $
     move ! (2 ∷ 3 ∷ []) $ fjoin ! $ move ! (2 ∷ 0 ∷ []) $ join ! $
     let Told : Type 0 = (bit : ℕ) → bit < 64 → is_set n bit ≡ is_some (value_in h.contents k (c * 64 + bit)) in
-    use0 𝓛 (raw (fact 𝓤 (IsTable h.contents))) (fact_i 𝓤 (IsTable h.contents) (emp 𝓤) so.1.table) $
-    use0 𝓛 (raw (fact 𝓤 Told))
-    (fact_i 𝓤 Told (emp 𝓤) (says_of_left s.1 h.contents h.given k c n so.1 ahead is_word)) $
-    join ! $ use0 𝓛 (raw (fact 𝓤 (h ≡ h))) (fact_i 𝓤 (h ≡ h) (emp 𝓤) refl) $ join ! $
-    flt_i ! n (2 ^ 64) is_word.fits $ feq_i ! (List Val) (vint w64 n ∷ []) (vint w64 n ∷ []) refl $ fjoin ! $
+    knows ! (IsTable h.contents) so.1.table $
+    knows ! Told (says_of_left s.1 h.contents h.given k c n so.1 ahead is_word) $
+    join ! $ knows ! (h ≡ h) refl $ join ! $
+    flt_i ! n (2 ^ 64) is_word.fits $ feq_i ! _ (vint w64 n ∷ []) _ refl $ fjoin ! $
     returns ! (look_at ! 0 refl) $ free_all ! refl $ keep ! (2 ∷ 3 ∷ 0 ∷ 1 ∷ []) $
     by ! (leaves 𝓛 En hs c₀ y (vint w64 n) n (h, (tt, (tt, (tt, tt))))
     (tt, (tt, (tt, (tt, tt))))))))))))))))))

@@ -1,7 +1,6 @@
 -- A `&` to a book holds what the book tells, which can be had twice. Assumes `Logic`.
-use base.Logic.{ent, sep, snd∗}
+use base.Logic.{ent, sep}
 use base.Fml.{ftrue}
-use base.Before.{before}
 use seplogic.Ra.Ura.{Ura}
 use types.Logic.{Logic, sem}
 use types.Kit.{‵, ◌⊛◌, ◌$◌, ◌∵◌, !, qed, drop, split, fsplit, fjoin, fpick, fpack, frame, use1, done}
@@ -18,7 +17,7 @@ use Rattle.thread_local_model.specs.Buckets.{Contents, IsTable}
 use Rattle.thread_local_ids.specs.Told.{rows_tell, book_owns}
 use Rattle.thread_local_ids.specs.contracts.book.Book as C
 use Rattle.thread_local_ids.proofs.Rows.{rows_dup}
-use Rattle.thread_local_ids.proofs.Twice.{lends_twice}
+use Rattle.thread_local_ids.proofs.Twice.{lends_twice, said_laws}
 use Rattle.thread_local_ids.proofs.book.Book.TheLaw.Statement.{statement}
 
 book_dup : {M : Type 1} {𝓤 : Ura M} (𝓛 : Logic 𝓤) (R : RattleType) (sharing : Option ℕ)
@@ -34,9 +33,6 @@ book_dup 𝓛 R sharing contents =
 
 pub shares : (T : RattleType) (L : Laws T) → statement T L
 shares T L = of_Lends (C.struct T) (C.the_codes T.Denot T.coded (P.the_row T).coded) (C.the_heap T) (C.the_lent T)
-    (λ d p. record {
-      contraction = λ M 𝓤 𝓛 κ. book_dup 𝓛 T d.sharing d.contents;
-      mono = λ M 𝓤 𝓛 κ' κ. snd∗ 𝓤 (sem 𝓛 (before κ' κ)) (sem 𝓛 (book_owns T d.sharing d.contents));
-    })
+    (λ d p. said_laws (book_owns T d.sharing d.contents) (λ M 𝓤 𝓛. book_dup 𝓛 T d.sharing d.contents))
     (copy_shared (P.the_field T) (field_copy (P.the_type T) tt), tt)
     (λ M 𝓤 𝓛 d p. lends_twice 𝓛 (book_owns T d.sharing d.contents) (book_dup 𝓛 T d.sharing d.contents) (C.the_row T).lives)

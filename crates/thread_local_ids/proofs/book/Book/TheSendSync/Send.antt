@@ -6,9 +6,6 @@ use Rattle.thread_local_ids.specs.contracts.book.Book.{the_row}
 
 pub send : (T : RattleType) → IsSend (the_row T)
 send T = record {
-  owned = λ d vs. (
-    (λ vss. (tt, ((λ uss. (tt, tt)), tt))),
-    ((λ _. tt), rows_keyless T d.sharing 0 d.contents.rows),
-  );
+  owned = λ d vs. ((λ vss. (tt, ((λ uss. (tt, tt)), tt))), ((λ _. tt), rows_keyless T d.sharing 0 d.contents.rows));
   leaving = λ k f vs. tt;
 }

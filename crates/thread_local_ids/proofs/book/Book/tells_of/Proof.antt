@@ -1,9 +1,9 @@
 -- What a book tells of an id is what a witness shows of it.
-use Rattle.thread_local_model.proofs.Names.{◌≡◌, ℕ, List, [], ◌∷◌, refl, Some, Option, a_type, named, Val, vptr, vunit}
-use Rattle.thread_local_model.proofs.Names.{inst_fn, SProp, emp, ‵, raw, ◌⊛◌, given, ◌$◌, ◌∵◌, !, qed, by, move, keep}
-use Rattle.thread_local_model.proofs.Names.{drop, split, fsplit, fsplit3, fjoin, learn, rewrite, feq_i, use0, use2}
+use Rattle.thread_local_model.proofs.Names.{◌≡◌, ℕ, [], ◌∷◌, refl, Some, Option, a_type, named, vunit}
+use Rattle.thread_local_model.proofs.Names.{inst_fn, ‵, raw, ◌⊛◌, given, ◌$◌, ◌∵◌, !, qed, by, move, keep}
+use Rattle.thread_local_model.proofs.Names.{drop, split, fsplit, fsplit3, fjoin, learn, rewrite, feq_i, use2}
 use Rattle.thread_local_model.proofs.Names.{of_opd, unit_lit, returns, enter, alloc_all, pass_all, free_all, look_at}
-use Rattle.thread_local_model.proofs.Names.{sets, tables, fact, fact_i, yes, RattleType, owns, types_at, plain}
+use Rattle.thread_local_model.proofs.Names.{sets, fact, yes, RattleType, owns, types_at, plain}
 use Rattle.thread_local_model.proofs.Names.{nothing, heard, param, layouts, RefOf, shr_vals, shr_Tells, Stays}
 use Rattle.thread_local_model.proofs.Names.{stay_dropped, walk_of, Goes-dropped, proved, leaves, alive, unhide}
 use Rattle.std.proofs.Common.{IsSome, ◌-◌, ◌^◌, ◌<◌}
@@ -14,38 +14,27 @@ use Rattle.thread_local_ids.specs.contracts.book.Book as Book
 use Rattle.thread_local_ids.specs.contracts.witness.Witness as Witness
 use Rattle.thread_local_ids.proofs.Rows.{contents_tell}
 use Rattle.thread_local_ids.proofs.ToldElements.{tells_alike}
-use Rattle.thread_local_ids.specs.contracts.book.Book.tells_of.{ended, clauses}
-use Rattle.thread_local_ids.specs.contracts.book.Book.tells_of.Key.{name as #self}
+use Rattle.thread_local_ids.specs.contracts.book.Book.tells_of.{ended, clauses, Key.name as #self}
 use Rattle.thread_local_ids.proofs.book.Book.tells_of.Statement.{statement}
 use Rattle.thread_local_ids.proofs.book.Book.tells_of.Code as code
+use Rattle.thread_local_model.proofs.Walking.{knows}
 
 pub tells_of_spec : {M : Type 1} → statement M
 tells_of_spec 𝓤 𝓛 𝓜 𝓡 wired T L =
-    let H = 𝓛.H in
-    let 𝓣 = tables 𝓤 H 𝓜 𝓡 𝓡.env in
-    let R : RattleType = param 0 T in
-    let En = ended T in
-    let S : RattleType = Witness.the_row R in
+    let R : RattleType = param 0 T in let En = ended T in let S : RattleType = Witness.the_row R in
     let B : RattleType = Book.the_row R in
     let inst = layouts (a_type ∷ []) (T, tt) in let fn = inst_fn inst code.function in let c = clauses T 𝓛 𝓜.mem 𝓡.returns in
-    let self = RefOf (0 ∷ []) tt (plain (λ _. B)) (λ _. tt) in
-    let other = RefOf (1 ∷ []) tt (plain (λ _. S)) (λ _. tt) in
-    let hs : Stays En.signature.params En.kept =
-    (stay_dropped self yes, (stay_dropped other yes, tt)) in
+    let self = RefOf (0 ∷ []) tt (plain (λ _. B)) (λ _. tt) in let other = RefOf (1 ∷ []) tt (plain (λ _. S)) (λ _. tt) in
+    let hs : Stays En.signature.params En.kept = (stay_dropped self yes, (stay_dropped other yes, tt)) in
     proved 𝓛 En hs c 𝓜 𝓡
     (Goes-dropped 𝓛 3 self yes (λ κs x f. refl), (Goes-dropped 𝓛 3 other yes (λ κs x f. refl), tt))
-    (#self inst) fn (code.unfolded 𝓤 H 𝓜 𝓡 wired (T, tt))
-    (λ κs. (shr_vals, (shr_vals, tt)))
-    (λ κs. (shr_Tells (named 0) κs.0 B, (shr_Tells (named 1) κs.1.0 S, tt)))
+    (#self inst) fn (code.unfolded 𝓤 𝓛.H 𝓜 𝓡 wired (T, tt))
+    (λ κs. (shr_vals, (shr_vals, tt))) (λ κs. (shr_Tells (named 0) κs.0 B, (shr_Tells (named 1) κs.1.0 S, tt)))
     (λ κs qs bounds a gh are.
-    let p : Val = vptr a.0.ref_ptr.0 a.0.ref_ptr.1 in
-    let p' : Val = vptr a.1.0.ref_ptr.0 a.1.0.ref_ptr.1 in
-    let h = a.0.now in
-    let w = a.1.0.now in
+    let h = a.0.now in let w = a.1.0.now in
     let here : Option T.Denot = values h.contents w.id in
     let there : Option T.Denot = Some w.value in
-    let y : (walk_of 𝓛 En hs c).Ghost = ((κs, qs, bounds, a, (p ∷ [], (p' ∷ [], tt))), gh) in
-    let Post : Val → SProp 𝓤 = (walk_of 𝓛 En hs c).post y in
+    let y : (walk_of 𝓛 En hs c).Ghost = ((κs, qs, bounds, a, (shr_vals a.0, (shr_vals a.1.0, tt))), gh) in
     let Same : Type 0 = ◌≡◌ {A = Option ℕ} w.sharing h.sharing in
     let Named : Type 0 = IsSome h.sharing in
     let Near : Type 0 = w.id < 2 ^ 63 - 1 in
@@ -62,10 +51,10 @@ tells_of_spec 𝓤 𝓛 𝓜 𝓡 wired T L =
     (given (here ≡ there) (‵ (tells R h.sharing w.id here) ⊛ ‵ (tells R h.sharing w.id there)))
     (tells_alike 𝓛 R h.sharing named_so w.id here there) $
     learn ! (λ e. split ! $ drop ! $ drop ! $
-    enter ! 𝓣.C 𝓣.Λ fn (p ∷ p' ∷ []) Post $ alloc_all ! (λ l. pass_all ! refl ((tt, tt), ((tt, tt), tt)) $
+    enter ! _ _ _ _ _ $ alloc_all ! (λ l. pass_all ! refl ((tt, tt), ((tt, tt), tt)) $
     sets ! (of_opd ! (unit_lit !)) refl (tt, tt) $
-    use0 𝓛 (raw (fact 𝓤 (here ≡ there))) (fact_i 𝓤 (here ≡ there) (emp 𝓤) e) $
-    feq_i ! (List Val) (vunit ∷ []) (vunit ∷ []) refl $ nothing ! $ nothing ! $ fjoin ! $ nothing ! $ fjoin ! $
+    knows ! (here ≡ there) e $
+    feq_i ! _ (vunit ∷ []) _ refl $ nothing ! $ nothing ! $ fjoin ! $ nothing ! $ fjoin ! $
     -- [nothing; the result; the fact; the tokens]
     returns ! (look_at ! 0 refl) $ free_all ! refl $ keep ! (3 ∷ 0 ∷ 1 ∷ 2 ∷ []) $
     by ! (leaves 𝓛 En hs c y vunit tt (tt, (tt, tt)) (tt, (tt, tt))))))))))

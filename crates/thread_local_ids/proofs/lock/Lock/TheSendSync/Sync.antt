@@ -22,8 +22,5 @@ with_word_keyless R ok s b o t (suc n) = tt
 
 pub sync : (V : RattleType) (g : Ghosts V.Denot) → IsSend V → IsSync (the_row V g)
 sync V g s = record {
-  shared = λ d b o κ t. (
-    (λ νs. chain_keyless νs κ t.0),
-    λ n. (tt, with_word_keyless V (Fitting g.tag g.fits d.tag) s b o t n),
-  );
+  shared = λ d b o κ t. ((λ νs. chain_keyless νs κ t.0), λ n. (tt, with_word_keyless V (Fitting g.tag g.fits d.tag) s b o t n));
 }

@@ -1,44 +1,35 @@
 -- `announce` is one compare and exchange of TAKEN for AWAITED: the right to the value stays where it
 -- is.
-use Rattle.thread_local_model.proofs.Names.{ℕ, ◌+◌, List, [], ◌∷◌, refl, lit<, w64, dcons, dnil, a_type, named, Val}
-use Rattle.thread_local_model.proofs.Names.{vunit, vint, vptr, inst_fn, SProp, wand, via, apply∗, Lft, Share, Fml}
-use Rattle.thread_local_model.proofs.Names.{ftrue, fsep, flft, fbor, ‵, raw, ◌⊛◌, some, later, mean, at_ret, ◌$◌, ◌∵◌}
+use Rattle.thread_local_model.proofs.Names.{ℕ, ◌+◌, [], ◌∷◌, refl, lit<, w64, dcons, dnil, a_type, named, Val}
+use Rattle.thread_local_model.proofs.Names.{vunit, vint, vptr, inst_fn, SProp, via, Lft, Share, Fml}
+use Rattle.thread_local_model.proofs.Names.{ftrue, fsep, flft, fbor, ‵, raw, ◌⊛◌, mean, at_ret, ◌$◌, ◌∵◌}
 use Rattle.thread_local_model.proofs.Names.{ !, qed, by, move, keep, drop, split, join, fsplit, fjoin, fpick, pick}
-use Rattle.thread_local_model.proofs.Names.{use2, use3, await, feq_i, stop, fld, addr, lit, unit_lit, of_opd, no_more}
+use Rattle.thread_local_model.proofs.Names.{use3, await, feq_i, stop, fld, addr, lit, unit_lit, of_opd, no_more}
 use Rattle.thread_local_model.proofs.Names.{and_then, first, blocks, exec, Calls-last, returns, enter, alloc_all}
 use Rattle.thread_local_model.proofs.Names.{pass_all, free_all, look_at, get, through, sets, lands_last, env, tables}
-use Rattle.thread_local_model.proofs.Names.{Lends-one, yes, RattleType, owns, types_at, plain, block_ptr, nothing}
+use Rattle.thread_local_model.proofs.Names.{yes, RattleType, owns, types_at, plain, block_ptr, nothing}
 use Rattle.thread_local_model.proofs.Names.{unhide, param, bounded, RefOf, shr_vals, shr_Tells, Stays, stay_dropped}
 use Rattle.thread_local_model.proofs.Names.{walk_of, Goes-dropped, proved, leaves, fm, found, finds, tail}
 use Rattle.std.proofs.Math.Nat.{suc-ne-zero}
 use Rattle.thread_local_ids.specs.Locking.{Fitting, lock_invariant}
 use Rattle.thread_local_ids.specs.contracts.lock.Lock as lock
-use Rattle.thread_local_ids.specs.contracts.lock.Lock.announce.{ended, clauses}
-use Rattle.thread_local_ids.specs.contracts.lock.Lock.announce.Key.{name as #self}
+use Rattle.thread_local_ids.specs.contracts.lock.Lock.announce.{ended, clauses, Key.name as #self}
 use Rattle.thread_local_ids.proofs.Calls.{exchanges}
 use Rattle.thread_local_ids.proofs.Steps.{gained, exchanged}
 use Rattle.thread_local_ids.proofs.lock.Lock.announce.Statement.{statement}
 use Rattle.thread_local_ids.proofs.lock.Lock.announce.Code as code
+use Rattle.thread_local_model.proofs.Walking.{lends_token, returns_token}
 
 pub announce_spec : {M : Type 1} → statement M
 announce_spec 𝓤 𝓛 𝓜 𝓡 wired X L g d _ =
-    let H = 𝓛.H in
-    let 𝓣 = tables 𝓤 H 𝓜 𝓡 𝓡.env in
-    let R : RattleType = param 0 X in
-    let En = ended X g d in
-    let c = clauses X g d 𝓛 𝓜.mem 𝓡.returns in
-    let inst = bounded (a_type ∷ []) (X, tt) (dcons d dnil) in
-    let fn = inst_fn inst code.function in
-    let closed = code.unfolded 𝓤 H 𝓜 𝓡 wired (X, tt) d in
-    let Row : RattleType = lock.the_row R g in
-    let self = RefOf (0 ∷ []) tt (plain (λ _. Row)) (λ _. tt) in
+    let H = 𝓛.H in let 𝓣 = tables 𝓤 H 𝓜 𝓡 𝓡.env in let R : RattleType = param 0 X in let En = ended X g d in
+    let c = clauses X g d 𝓛 𝓜.mem 𝓡.returns in let inst = bounded (a_type ∷ []) (X, tt) (dcons d dnil) in
+    let fn = inst_fn inst code.function in let closed = code.unfolded 𝓤 H 𝓜 𝓡 wired (X, tt) d in
+    let Row : RattleType = lock.the_row R g in let self = RefOf (0 ∷ []) tt (plain (λ _. Row)) (λ _. tt) in
     let hs : Stays En.signature.params En.kept = (stay_dropped self yes, tt) in
     proved 𝓛 En hs c 𝓜 𝓡 (Goes-dropped 𝓛 2 self yes (λ κs x f. refl), tt) (#self inst) fn closed
     (λ κs. (shr_vals, tt)) (λ κs. (shr_Tells (named 0) κs.0 Row, tt)) (λ κs qs bounds a gh are.
-    let b : ℕ = a.0.ref_ptr.0 in
-    let o : ℕ = a.0.ref_ptr.1 in
-    let κ : Lft = κs.0 in
-    let q : Share = qs.0 in
+    let b : ℕ = a.0.ref_ptr.0 in let o : ℕ = a.0.ref_ptr.1 in let κ : Lft = κs.0 in let q : Share = qs.0 in
     let ok = Fitting g.tag g.fits a.0.now.tag in
     let others : Fml = fsep (flft κs.1.0 qs.1.0) ftrue in
     let y : (walk_of 𝓛 En hs c).Ghost = ((κs, qs, bounds, a, (vptr b o ∷ [], tt)), gh) in
@@ -46,12 +37,9 @@ announce_spec 𝓤 𝓛 𝓜 𝓡 wired X L g d _ =
     qed 𝓛 (((‵ (flft κ q) ⊛ ‵ others) ⊛ ‵ (owns (types_at En.signature.params κs) a y.0.4))
     ∷ raw ((c κs a).requires gh) ∷ []) ∵
     split ! $ split ! $ move ! (2 ∷ []) $ fsplit ! $ fsplit ! $ keep ! (1 ∷ 3 ∷ 4 ∷ []) $
-    enter ! 𝓣.C 𝓣.Λ fn (vptr b o ∷ []) Post $ alloc_all ! (λ l. pass_all ! refl ((tt, tt), tt) $ let Ev = env fn.locals l in
+    enter ! _ _ _ _ _ $ alloc_all ! (λ l. pass_all ! refl ((tt, tt), tt) $ let Ev = env fn.locals l in
     unhide ! $ fpick ! (λ t. let J : Fml = fbor t.0 (lock_invariant R ok b o t) in fsplit ! $ move ! (0 ∷ 2 ∷ []) $
-    use2 𝓛 (later (some (λ (s : Share).
-    ‵ (flft t.0 s) ⊛ raw (wand 𝓤 (𝓛.A.lft t.0 s) (H.⇛ (𝓛.A.lft κ q))))))
-    (Lends-one 𝓛 𝓜 𝓡 κ t.0 q) $
-    await ! tt $ pick ! (λ s. split ! $
+    lends_token ! 𝓜 𝓡 κ t.0 q $ await ! tt $ pick ! (λ s. split ! $
     -- [α's token, and the way back; the invariant; the other tokens]
     let after : ℕ → Fml = λ n. fsep (flft t.0 s) (gained 𝓛 R ok b o t s 1 n) in
     first ! $ blocks ! $ sets ! (addr ! (through ! refl (fld ! refl (stop !)))) refl (tt, tt) $ nothing ! $ move ! (3 ∷ 1 ∷ 0 ∷ []) $
@@ -66,8 +54,8 @@ announce_spec 𝓤 𝓛 𝓜 𝓡 wired X L g d _ =
     exec ! 𝓣.C 𝓣.Λ Ev (tail fn.body) (at_ret Ev Post) $
     sets ! (of_opd ! (unit_lit !)) refl (tt, tt) $
     fsplit ! $ move ! (1 ∷ []) $ drop ! $ move ! (0 ∷ 1 ∷ []) $
-    use2 𝓛 (later (‵ (flft κ q))) (apply∗ 𝓤 (𝓛.A.lft t.0 s) (H.⇛ (𝓛.A.lft κ q))) $ await ! tt $
+    returns_token ! κ t.0 q s $ await ! tt $
     join ! $
-    nothing ! $ feq_i ! (List Val) (vunit ∷ []) (vunit ∷ []) refl $ nothing ! $ nothing ! $ fjoin ! $
+    nothing ! $ feq_i ! _ (vunit ∷ []) _ refl $ nothing ! $ nothing ! $ fjoin ! $
     returns ! (look_at ! 0 refl) $ free_all ! refl $ keep ! (3 ∷ 0 ∷ 1 ∷ 2 ∷ []) $
     by ! (leaves 𝓛 En hs c y vunit tt (tt, tt) (tt, tt))))))))

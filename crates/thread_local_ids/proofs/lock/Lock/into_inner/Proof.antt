@@ -11,28 +11,22 @@ use Rattle.std.proofs.mem.Param.{one}
 use mir.Val.{of_list}
 use types.Kit.{flt_l}
 use Rattle.thread_local_ids.specs.contracts.lock.Lock as lock
-use Rattle.thread_local_ids.specs.contracts.lock.Lock.into_inner.{ended, clauses}
-use Rattle.thread_local_ids.specs.contracts.lock.Lock.into_inner.Key.{name as #self}
+use Rattle.thread_local_ids.specs.contracts.lock.Lock.into_inner.{ended, clauses, Key.name as #self}
 use Rattle.thread_local_ids.proofs.lock.Lock.into_inner.Statement.{statement}
 use Rattle.thread_local_ids.proofs.lock.Lock.into_inner.Code as code
 
 pub into_inner_spec : {M : Type 1} → statement M
 into_inner_spec 𝓤 𝓛 𝓜 𝓡 wired X L g d _ =
-    let H = 𝓛.H in
-    let 𝓣 = tables 𝓤 H 𝓜 𝓡 𝓡.env in
-    let R : RattleType = param 0 X in
-    let En = ended X g d in
+    let 𝓣 = tables 𝓤 𝓛.H 𝓜 𝓡 𝓡.env in let R : RattleType = param 0 X in let En = ended X g d in
     let c = clauses X g d 𝓛 𝓜.mem 𝓡.returns in
     let E : El = record { row = X; laws = L } in
-    let inst = bounded (a_type ∷ []) (X, tt) (dcons d dnil) in
-    let fn = inst_fn inst code.function in
-    let closed = code.unfolded 𝓤 H 𝓜 𝓡 wired (X, tt) d in
-    let Row : RattleType = lock.the_row R g in
+    let inst = bounded (a_type ∷ []) (X, tt) (dcons d dnil) in let fn = inst_fn inst code.function in
+    let closed = code.unfolded 𝓤 𝓛.H 𝓜 𝓡 wired (X, tt) d in let Row : RattleType = lock.the_row R g in
     let self = plain (λ _. Row) in let hs : Stays En.signature.params En.kept = (stay_dropped self no, tt) in
     let fine : (v : Val) → Good E v → T (has_ty (layout X) v && true) = λ v h. and_tt (has_ty (layout X) v) h.0 in
     proved_at 𝓛 En hs c 𝓜 𝓡 (Goes-dropped 𝓛 1 self no (λ κs x f. refl), tt) (#self inst) fn closed (λ z are.
     let Post : Val → SProp 𝓤 = (walk_of 𝓛 En hs c).post z in
-    let Run : List Val → SProp 𝓤 = λ ws. WpFn 𝓤 H 𝓣.C 𝓣.Λ fn ws Post in
+    let Run : List Val → SProp 𝓤 = λ ws. WpFn 𝓤 𝓛.H 𝓣.C 𝓣.Λ fn ws Post in
     qed 𝓛 ((raw (alive 𝓛 En.signature z.0.0 z.0.1) ⊛ ‵ (fsep (Row.own_val z.0.3.0 z.0.4.0) ftrue))
     ∷ raw ((c z.0.0 z.0.3).requires z.1) ∷ []) ∵
     keep ! (0 ∷ []) $ split ! $ move ! (1 ∷ []) $ fsplit ! $ fsplit ! $ drop ! $
@@ -47,7 +41,7 @@ into_inner_spec 𝓤 𝓛 𝓜 𝓡 wired X L g d _ =
     rewrite ! 0 (λ (ws : List Val). ‵ (R.own_val s.1 ws)) got.1 refl $ keep ! (0 ∷ 3 ∷ []) $
     suffices ! (Run (v ∷ [])) (subst (λ (ws : List Val). ent 𝓤 (Run (v ∷ [])) (Run ws))
     (sym (λ i. whole_is i ++ [])) (id⊢ 𝓤 (Run (v ∷ [])))) $
-    enter ! 𝓣.C 𝓣.Λ fn (v ∷ []) Post $ alloc_all ! (λ l.
+    enter ! _ _ _ _ _ $ alloc_all ! (λ l.
     pass_all ! refl ((fine vy fy, (record { fits = fits }, (fy.1, tt))), tt) $
     sets ! (of_opd ! (get_in ! (fld ! refl (stop !)) (sub ! 1 refl (whole !)))) refl fy $ sets ! (of_opd ! (get ! refl)) refl fy $
     nothing ! $ nothing ! $ nothing ! $ fjoin ! $

@@ -1,12 +1,12 @@
 -- `sleep` parks on the word, and takes nothing out of the lock's invariant.
-use Rattle.thread_local_model.proofs.Names.{ℕ, ◌+◌, List, [], ◌∷◌, refl, lit<, w64, dcons, dnil, a_type, named, Val}
-use Rattle.thread_local_model.proofs.Names.{vunit, vint, vptr, inst_fn, SProp, wand, apply∗, Lft, Share, Fml, ftrue}
-use Rattle.thread_local_model.proofs.Names.{fsep, flft, ‵, raw, ◌⊛◌, some, later, mean, at_ret, ◌$◌, ◌∵◌, !, qed, by}
+use Rattle.thread_local_model.proofs.Names.{ℕ, ◌+◌, [], ◌∷◌, refl, lit<, w64, dcons, dnil, a_type, named, Val}
+use Rattle.thread_local_model.proofs.Names.{vunit, vint, vptr, inst_fn, SProp, Lft, Share, Fml, ftrue}
+use Rattle.thread_local_model.proofs.Names.{fsep, flft, ‵, raw, ◌⊛◌, mean, at_ret, ◌$◌, ◌∵◌, !, qed, by}
 use Rattle.thread_local_model.proofs.Names.{move, keep, group, fsplit3, split, split3, join, fsplit, fjoin, fpick}
-use Rattle.thread_local_model.proofs.Names.{pick, use1, use2, use3, await, feq_i, stop, fld, addr, lit, unit_lit}
+use Rattle.thread_local_model.proofs.Names.{pick, use1, use3, await, feq_i, stop, fld, addr, lit, unit_lit}
 use Rattle.thread_local_model.proofs.Names.{of_opd, no_more, and_then, first, blocks, exec, Calls-last, returns, enter}
 use Rattle.thread_local_model.proofs.Names.{alloc_all, pass_all, free_all, look_at, get, through, sets, lands_last}
-use Rattle.thread_local_model.proofs.Names.{env, tables, fact, Lends-one, yes, RattleType, owns, types_at, plain}
+use Rattle.thread_local_model.proofs.Names.{env, tables, fact, yes, RattleType, owns, types_at, plain}
 use Rattle.thread_local_model.proofs.Names.{block_ptr, nothing, heard, unhide, param, bounded, RefOf, u64, shr_vals}
 use Rattle.thread_local_model.proofs.Names.{shr_Tells, uint_vals, uint_Tells, Stays, stay_dropped, walk_of}
 use Rattle.thread_local_model.proofs.Names.{Goes-dropped, proved, leaves, fm, stored, has_stored, tail}
@@ -14,25 +14,19 @@ use contract.BorrowLft.{◌⊑◌}
 use Rattle.std.specs.Sync.RawAtomic.{asks, always}
 use Rattle.thread_local_ids.specs.Locking.{Fitting}
 use Rattle.thread_local_ids.specs.contracts.lock.Lock as lock
-use Rattle.thread_local_ids.specs.contracts.lock.Lock.sleep.{ended, clauses}
-use Rattle.thread_local_ids.specs.contracts.lock.Lock.sleep.Key.{name as #self}
+use Rattle.thread_local_ids.specs.contracts.lock.Lock.sleep.{ended, clauses, Key.name as #self}
 use Rattle.thread_local_ids.proofs.Steps.{looked}
 use Rattle.thread_local_ids.proofs.Calls.{lent, parks}
 use Rattle.thread_local_ids.proofs.lock.Lock.sleep.Statement.{statement}
 use Rattle.thread_local_ids.proofs.lock.Lock.sleep.Code as code
+use Rattle.thread_local_model.proofs.Walking.{lends_token, returns_token}
 
 pub sleep_spec : {M : Type 1} → statement M
 sleep_spec 𝓤 𝓛 𝓜 𝓡 wired X Z L laws g d g' d' _ may =
-    let H = 𝓛.H in
-    let 𝓣 = tables 𝓤 H 𝓜 𝓡 𝓡.env in
-    let R : RattleType = param 0 X in
-    let W : RattleType = param 1 Z in
-    let En = ended X Z g d g' d' in
-    let c = clauses X Z g d g' d' 𝓛 𝓜.mem 𝓡.returns in
-    let inst = bounded (a_type ∷ a_type ∷ []) (X, (Z, tt)) (dcons d (dcons d' dnil)) in
-    let fn = inst_fn inst code.function in
-    let closed = code.unfolded 𝓤 H 𝓜 𝓡 wired (X, (Z, tt)) d d' in
-    let Row : RattleType = lock.the_row R g in
+    let H = 𝓛.H in let 𝓣 = tables 𝓤 H 𝓜 𝓡 𝓡.env in let R : RattleType = param 0 X in let W : RattleType = param 1 Z in
+    let En = ended X Z g d g' d' in let c = clauses X Z g d g' d' 𝓛 𝓜.mem 𝓡.returns in
+    let inst = bounded (a_type ∷ a_type ∷ []) (X, (Z, tt)) (dcons d (dcons d' dnil)) in let fn = inst_fn inst code.function in
+    let closed = code.unfolded 𝓤 H 𝓜 𝓡 wired (X, (Z, tt)) d d' in let Row : RattleType = lock.the_row R g in
     let self = RefOf (0 ∷ []) tt (plain (λ _. Row)) (λ _. tt) in
     let waits = RefOf (1 ∷ []) tt (plain (λ _. W)) (λ _. tt) in
     let number = plain (λ _. u64) in
@@ -40,19 +34,13 @@ sleep_spec 𝓤 𝓛 𝓜 𝓡 wired X Z L laws g d g' d' _ may =
     (stay_dropped self yes, (stay_dropped waits yes, (stay_dropped number yes, tt))) in
     proved 𝓛 En hs c 𝓜 𝓡 (
       Goes-dropped 𝓛 4 self yes (λ κs x f. refl),
-      (
-        Goes-dropped 𝓛 4 waits yes (λ κs x f. refl),
-        (Goes-dropped 𝓛 4 number yes (λ κs x f. refl), tt),
-      ),
+      (Goes-dropped 𝓛 4 waits yes (λ κs x f. refl), (Goes-dropped 𝓛 4 number yes (λ κs x f. refl), tt)),
     )
     (#self inst) fn closed
     (λ κs. (shr_vals, (shr_vals, (uint_vals w64, tt))))
     (λ κs. (shr_Tells (named 0) κs.0 Row, (shr_Tells (named 1) κs.1.0 W, (uint_Tells w64, tt))))
     (λ κs qs bounds a gh are.
-    let b : ℕ = a.0.ref_ptr.0 in
-    let o : ℕ = a.0.ref_ptr.1 in
-    let κ : Lft = κs.0 in
-    let q : Share = qs.0 in
+    let b : ℕ = a.0.ref_ptr.0 in let o : ℕ = a.0.ref_ptr.1 in let κ : Lft = κs.0 in let q : Share = qs.0 in
     let ok = Fitting g.tag g.fits a.0.now.tag in
     let rt = a.1.0 in
     let secs : ℕ = a.1.1.0 in
@@ -71,14 +59,11 @@ sleep_spec 𝓤 𝓛 𝓜 𝓡 wired X Z L laws g d g' d' _ may =
     keep ! (2 ∷ 0 ∷ []) $ heard ! (υ ⊑ Z.lives) (λ alive. split ! $ split3 ! $ move ! (2 ∷ []) $
     fsplit ! $ move ! (1 ∷ []) $ fsplit ! $ move ! (5 ∷ []) $ fsplit ! $ fsplit ! $
     move ! (2 ∷ []) $ fsplit ! $ fsplit ! $ keep ! (4 ∷ 8 ∷ 1 ∷ 9 ∷ 5 ∷ 7 ∷ []) $
-    enter ! 𝓣.C 𝓣.Λ fn (vptr b o ∷ hv ∷ vint w64 secs ∷ []) Post $ alloc_all ! (λ l.
+    enter ! _ _ _ _ _ $ alloc_all ! (λ l.
     pass_all ! refl ((tt, tt), ((tt, tt), ((tt, record { fits = are.1.1.0.1 }), tt))) $
     let Ev = env fn.locals l in
     unhide ! $ fpick ! (λ t. fsplit ! $ move ! (0 ∷ 2 ∷ []) $
-    use2 𝓛 (later (some (λ (s : Share).
-    ‵ (flft t.0 s) ⊛ raw (wand 𝓤 (𝓛.A.lft t.0 s) (H.⇛ (𝓛.A.lft κ q))))))
-    (Lends-one 𝓛 𝓜 𝓡 κ t.0 q) $
-    await ! tt $ pick ! (λ s. split ! $
+    lends_token ! 𝓜 𝓡 κ t.0 q $ await ! tt $ pick ! (λ s. split ! $
     -- [α's token, and the way back; the invariant; what may wait, and its tokens; the last token]
     let out : Fml = fsep (flft t.0 s) ftrue in let Out : Fml = lent 𝓛 𝓜 𝓡 Z laws g' d' may ρ υ r u rt out in
     first ! $ blocks ! $ sets ! (addr ! (through ! refl (fld ! refl (stop !)))) refl (tt, tt) $ nothing ! $ move ! (3 ∷ 1 ∷ 0 ∷ []) $
@@ -96,10 +81,10 @@ sleep_spec 𝓤 𝓛 𝓜 𝓡 wired X Z L laws g d g' d' _ may =
     has_stored ! Out (
     lands_last ! refl (tt, tt) $ exec ! 𝓣.C 𝓣.Λ Ev (tail fn.body) (at_ret Ev Post) $ sets ! (of_opd ! (unit_lit !)) refl (tt, tt) $
     fsplit3 ! $ fsplit ! $ move ! (0 ∷ 4 ∷ []) $
-    use2 𝓛 (later (‵ (flft κ q))) (apply∗ 𝓤 (𝓛.A.lft t.0 s) (H.⇛ (𝓛.A.lft κ q))) $ await ! tt $
+    returns_token ! κ t.0 q s $ await ! tt $
     move ! (3 ∷ 1 ∷ []) $ fjoin ! $ move ! (3 ∷ 0 ∷ []) $ fjoin ! $ move ! (2 ∷ 0 ∷ []) $ join ! $
     move ! (1 ∷ 0 ∷ []) $ join ! $
-    nothing ! $ feq_i ! (List Val) (vunit ∷ []) (vunit ∷ []) refl $ nothing ! $ nothing ! $
+    nothing ! $ feq_i ! _ (vunit ∷ []) _ refl $ nothing ! $ nothing ! $
     fjoin ! $ nothing ! $ fjoin ! $ nothing ! $ fjoin ! $
     returns ! (look_at ! 0 refl) $ free_all ! refl $ keep ! (3 ∷ 0 ∷ 1 ∷ 2 ∷ []) $
     by ! (leaves 𝓛 En hs c y vunit tt (tt, (tt, (tt, tt))) (tt, (tt, (tt, tt)))))))))))

@@ -1,13 +1,13 @@
 -- `take` is one compare and exchange: where the word was FREE, the guard has the right to the
 -- value.
 use Rattle.thread_local_model.proofs.Names.{◌≡◌, ℕ, ◌+◌, [], ◌∷◌, refl, lit<, w64, dcons, dnil, a_type, named, Val}
-use Rattle.thread_local_model.proofs.Names.{vint, vptr, vcons, vnil, inst_fn, SProp, wand, emp, via, apply∗, Lft}
-use Rattle.thread_local_model.proofs.Names.{Share, Fml, ftrue, fsep, flft, fbor, finv, ‵, raw, ◌⊛◌, some, later, mean}
+use Rattle.thread_local_model.proofs.Names.{vint, vptr, vcons, vnil, inst_fn, SProp, via, Lft}
+use Rattle.thread_local_model.proofs.Names.{Share, Fml, ftrue, fsep, flft, fbor, finv, ‵, raw, ◌⊛◌, mean}
 use Rattle.thread_local_model.proofs.Names.{at_ret, ◌$◌, ◌∵◌, !, qed, by, move, keep, drop, split, join, fsplit, fjoin}
-use Rattle.thread_local_model.proofs.Names.{fpick, fpack, pick, use0, use1, use2, use3, await, rewrite, stop, fld}
+use Rattle.thread_local_model.proofs.Names.{fpick, fpack, pick, use0, use1, use3, await, rewrite, stop, fld}
 use Rattle.thread_local_model.proofs.Names.{addr, lit, of_opd, no_more, and_then, first, blocks, exec, Calls-last}
 use Rattle.thread_local_model.proofs.Names.{returns, enter, alloc_all, pass_all, free_all, look_at, get, through, sets}
-use Rattle.thread_local_model.proofs.Names.{sets_last, lands_last, env, agg, tables, fact, fact_i, Lends-one, yes}
+use Rattle.thread_local_model.proofs.Names.{sets_last, lands_last, env, agg, tables, fact, yes}
 use Rattle.thread_local_model.proofs.Names.{RattleType, owns, types_at, plain, named_lft, Ptr, block_ptr, nothing}
 use Rattle.thread_local_model.proofs.Names.{heard, unhide, param, bounded, RefOf, u64, shr_vals, shr_Tells, uint_vals}
 use Rattle.thread_local_model.proofs.Names.{uint_Tells, Stays, stay_dropped, walk_of, Goes-dropped, proved, leaves, fm}
@@ -23,26 +23,20 @@ use Rattle.std.specs.contracts.option.Option as Opt
 use Rattle.thread_local_ids.specs.Locking.{Fitting, LockTurn, with_word, lock_invariant, guarding}
 use Rattle.thread_local_ids.specs.contracts.lock.Lock as lock
 use Rattle.thread_local_ids.specs.contracts.lock.LockGuard as guard
-use Rattle.thread_local_ids.specs.contracts.lock.Lock.take.{ended, clauses}
-use Rattle.thread_local_ids.specs.contracts.lock.Lock.take.Key.{name as #self}
+use Rattle.thread_local_ids.specs.contracts.lock.Lock.take.{ended, clauses, Key.name as #self}
 use Rattle.thread_local_ids.proofs.Calls.{exchanges}
 use Rattle.thread_local_ids.proofs.Steps.{gained, exchanged}
 use Rattle.thread_local_ids.proofs.Fields.{guard_of, FieldsType, made}
 use Rattle.thread_local_ids.proofs.lock.Lock.take.Statement.{statement}
 use Rattle.thread_local_ids.proofs.lock.Lock.take.Code as code
+use Rattle.thread_local_model.proofs.Walking.{knows, lends_token, returns_token}
 
 pub take_spec : {M : Type 1} → statement M
 take_spec 𝓤 𝓛 𝓜 𝓡 wired X L g d _ =
-    let H = 𝓛.H in
-    let 𝓣 = tables 𝓤 H 𝓜 𝓡 𝓡.env in
-    let R : RattleType = param 0 X in
-    let En = ended X g d in
-    let c = clauses X g d 𝓛 𝓜.mem 𝓡.returns in
-    let inst = bounded (a_type ∷ []) (X, tt) (dcons d dnil) in
-    let fn = inst_fn inst code.function in
-    let closed = code.unfolded 𝓤 H 𝓜 𝓡 wired (X, tt) d in
-    let Row : RattleType = lock.the_row R g in
-    let self = RefOf (0 ∷ []) tt (plain (λ _. Row)) (λ _. tt) in
+    let H = 𝓛.H in let 𝓣 = tables 𝓤 H 𝓜 𝓡 𝓡.env in let R : RattleType = param 0 X in let En = ended X g d in
+    let c = clauses X g d 𝓛 𝓜.mem 𝓡.returns in let inst = bounded (a_type ∷ []) (X, tt) (dcons d dnil) in
+    let fn = inst_fn inst code.function in let closed = code.unfolded 𝓤 H 𝓜 𝓡 wired (X, tt) d in
+    let Row : RattleType = lock.the_row R g in let self = RefOf (0 ∷ []) tt (plain (λ _. Row)) (λ _. tt) in
     let number = plain (λ _. u64) in
     let hs : Stays En.signature.params En.kept =
     (stay_dropped self yes, (stay_dropped number yes, tt)) in
@@ -50,16 +44,12 @@ take_spec 𝓤 𝓛 𝓜 𝓡 wired X L g d _ =
     (Goes-dropped 𝓛 2 self yes (λ κs x f. refl), (Goes-dropped 𝓛 2 number yes (λ κs x f. refl), tt))
     (#self inst) fn closed
     (λ κs. (shr_vals, (uint_vals w64, tt))) (λ κs. (shr_Tells (named 0) κs.0 Row, (uint_Tells w64, tt))) (λ κs qs bounds a gh are.
-    let b : ℕ = a.0.ref_ptr.0 in
-    let o : ℕ = a.0.ref_ptr.1 in
-    let κ : Lft = κs.0 in
-    let q : Share = qs.0 in
+    let b : ℕ = a.0.ref_ptr.0 in let o : ℕ = a.0.ref_ptr.1 in let κ : Lft = κs.0 in let q : Share = qs.0 in
     let new : ℕ = a.1.0 in
     let p : Ptr = block_ptr b o in
     let tag : ℕ = a.0.now.tag in
     let ok = Fitting g.tag g.fits tag in
-    let others : Fml = fsep (flft κs.1.0 qs.1.0) ftrue in
-    let ℓ = named_lft 2 0 tt κs in
+    let others : Fml = fsep (flft κs.1.0 qs.1.0) ftrue in let ℓ = named_lft 2 0 tt κs in
     let G : RattleType = guard.the_row ℓ R g in
     let Tag : Option G.Denot → Type 0 =
     λ r. IfSome r (λ h. (h.tag ≡ tag) × (g.tag h.value ≡ tag)) in
@@ -71,7 +61,7 @@ take_spec 𝓤 𝓛 𝓜 𝓡 wired X L g d _ =
     ∷ raw (fact 𝓤 _) ∷ raw (fact 𝓤 (new ≢ 0)) ∷ []) ∵
     keep ! (2 ∷ 0 ∷ []) $ heard ! (new ≢ 0) (λ taken. split ! $ split ! $ move ! (2 ∷ []) $
     fsplit ! $ fsplit ! $ keep ! (1 ∷ 3 ∷ 4 ∷ []) $
-    enter ! 𝓣.C 𝓣.Λ fn (vptr b o ∷ vint w64 new ∷ []) Post $ alloc_all ! (λ l.
+    enter ! _ _ _ _ _ $ alloc_all ! (λ l.
     pass_all ! refl ((tt, tt), ((tt, record { fits = are.1.0.1 }), tt)) $
     let Ev = env fn.locals l in
     let last : Body = tail (tail (tail (tail fn.body))) in
@@ -81,10 +71,7 @@ take_spec 𝓤 𝓛 𝓜 𝓡 wired X L g d _ =
     move ! (2 ∷ []) $
     use1 𝓛 (‵ (finv J) ⊛ ‵ (finv J)) (𝓛.invs.inv_dup J) $ split ! $ move ! (2 ∷ 0 ∷ []) $ fjoin ! $
     move ! (2 ∷ 3 ∷ []) $
-    use2 𝓛 (later (some (λ (s : Share).
-    ‵ (flft t.0 s) ⊛ raw (wand 𝓤 (𝓛.A.lft t.0 s) (H.⇛ (𝓛.A.lft κ q))))))
-    (Lends-one 𝓛 𝓜 𝓡 κ t.0 q) $
-    await ! tt $ pick ! (λ s. split ! $
+    lends_token ! 𝓜 𝓡 κ t.0 q $ await ! tt $ pick ! (λ s. split ! $
     -- [α's token, and the way back; what the guard keeps; the invariant; the other tokens]
     let after : ℕ → Fml = λ n. fsep (flft t.0 s) (gained 𝓛 R ok b o t s 0 n) in
     first ! $ blocks ! $ sets ! (addr ! (through ! refl (fld ! refl (stop !)))) refl (tt, tt) $ nothing ! $ move ! (4 ∷ 1 ∷ 0 ∷ []) $
@@ -100,7 +87,7 @@ take_spec 𝓤 𝓛 𝓜 𝓡 wired X L g d _ =
     sets ! (of_opd ! (get ! refl)) refl (tt, record { fits = fits }) $
     sets ! (bin ! (get ! refl) (lit ! tt) tt) refl (tt, tt) $
     fsplit ! $ move ! (0 ∷ 2 ∷ []) $
-    use2 𝓛 (later (‵ (flft κ q))) (apply∗ 𝓤 (𝓛.A.lft t.0 s) (H.⇛ (𝓛.A.lft κ q))) $ await ! tt $
+    returns_token ! κ t.0 q s $ await ! tt $
     move ! (0 ∷ 3 ∷ []) $ join ! $
     first ! $ branches ! (get ! refl)
     (λ free. let n0 : n ≡ 0 = eqb→eq n 0 free in
@@ -118,8 +105,8 @@ take_spec 𝓤 𝓛 𝓜 𝓡 wired X L g d _ =
     let h : G.Denot = record { lock = p; marker = record {}; tag = tag; value = x } in let v : Val = live 1 (vcons (guard_of p) vnil) in
     use0 𝓛 (‵ ((FieldsType ℓ R g).own_val (p, (tt, tt)) (guard_of p ∷ []))) (made ℓ R g 𝓛 p) $
     fjoin ! $ use1 𝓛 (‵ ((Opt.the_row G).own_val (Some h) (v ∷ []))) (Some-of 𝓛 G h (guard_of p)) $
-    use0 𝓛 (raw (fact 𝓤 (Fit (Some h)))) (fact_i 𝓤 (Fit (Some h)) (emp 𝓤) fit.0) $
-    use0 𝓛 (raw (fact 𝓤 (Tag (Some h)))) (fact_i 𝓤 (Tag (Some h)) (emp 𝓤) (refl, fit.1)) $ join ! $
+    knows ! (Fit (Some h)) fit.0 $
+    knows ! (Tag (Some h)) (refl, fit.1) $ join ! $
     nothing ! $ nothing ! $ fjoin ! $ nothing ! $ fjoin ! $
     returns ! (look_at ! 0 refl) $ free_all ! refl $ keep ! (3 ∷ 0 ∷ 2 ∷ 1 ∷ []) $
     by ! (leaves 𝓛 En hs c y v (Some h) (tt, (tt, tt)) (tt, (tt, tt))))))
@@ -129,8 +116,8 @@ take_spec 𝓤 𝓛 𝓜 𝓡 wired X L g d _ =
     exec ! 𝓣.C 𝓣.Λ Ev last (at_ret Ev Post) $
     sets ! (of_opd ! (get ! refl)) refl (tt, (record { fits = lit< tt }, tt)) $
     use0 𝓛 (‵ ((Opt.the_row G).own_val None (live 0 vnil ∷ []))) (none_of 𝓛 G) $
-    use0 𝓛 (raw (fact 𝓤 (Fit None))) (fact_i 𝓤 (Fit None) (emp 𝓤) tt) $
-    use0 𝓛 (raw (fact 𝓤 (Tag None))) (fact_i 𝓤 (Tag None) (emp 𝓤) tt) $ join ! $ nothing ! $
+    knows ! (Fit None) tt $
+    knows ! (Tag None) tt $ join ! $ nothing ! $
     nothing ! $ fjoin ! $ nothing ! $ fjoin ! $
     returns ! (look_at ! 0 refl) $ free_all ! refl $ keep ! (3 ∷ 0 ∷ 2 ∷ 1 ∷ []) $
     by ! (leaves 𝓛 En hs c y (live 0 vnil) None (tt, (tt, tt)) (tt, (tt, tt)))))))))))

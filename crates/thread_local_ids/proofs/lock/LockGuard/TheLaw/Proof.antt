@@ -23,11 +23,7 @@ shares a T g L =
     (C.the_heap a.lft T g) (C.the_lent a.lft T g)
     (λ d p. guard_laws a.lft T L.shr_laws d.lock d.value) (
       copy_shared RawPtr-field RawPtr-copy,
-      (
-        copy_shared (P.the_field (ShrRef a.mir a.lft T))
-            (field_copy (P.the_type (ShrRef a.mir a.lft T)) tt),
-        tt,
-      ),
+      (copy_shared (P.the_field (ShrRef a.mir a.lft T)) (field_copy (P.the_type (ShrRef a.mir a.lft T)) tt), tt),
     )
     (λ M 𝓤 𝓛 d p.
     let l = (C.the_row a T g).lives in let s = (ShrRef a.mir a.lft T).lives in

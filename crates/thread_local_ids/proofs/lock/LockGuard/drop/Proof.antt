@@ -1,15 +1,15 @@
 -- `drop` swaps the word for FREE, which puts the right to the value back into the invariant, and
 -- wakes a thread that may sleep.
 use Rattle.thread_local_model.proofs.Names.{◌≡◌, T, ℕ, ◌+◌, ◌^◌, List, [], ◌∷◌, sym, refl, ap, subst, lit<, w64, dcons}
-use Rattle.thread_local_model.proofs.Names.{dnil, a_type, Val, has_ty, WT, vunit, vint, inst_fn, SProp, wand, id⊢, via}
-use Rattle.thread_local_model.proofs.Names.{apply∗, guard_i, Lft, Share, Fml, ftrue, fsep, flft, fbor, sem, ‵, raw}
+use Rattle.thread_local_model.proofs.Names.{dnil, a_type, Val, has_ty, WT, vunit, vint, inst_fn, SProp, id⊢, via}
+use Rattle.thread_local_model.proofs.Names.{guard_i, Lft, Share, Fml, ftrue, fsep, flft, fbor, sem, ‵, raw}
 use Rattle.thread_local_model.proofs.Names.{◌⊛◌, some, given, later, mean, at_ret, ◌$◌, ◌∵◌, !, qed, by, move, keep}
-use Rattle.thread_local_model.proofs.Names.{drop, split, join, fsplit, fjoin, fpick, fpack, pick, learn, use1, use2}
+use Rattle.thread_local_model.proofs.Names.{drop, split, join, fsplit, fjoin, fpick, fpack, pick, learn, use1}
 use Rattle.thread_local_model.proofs.Names.{use3, await, rewrite, feq_i, feq_l, flt_i, stop, fld, addr, lit, unit_lit}
 use Rattle.thread_local_model.proofs.Names.{of_opd, no_more, and_then, first, blocks, exec, Calls-last, returns, enter}
 use Rattle.thread_local_model.proofs.Names.{alloc_all, pass_all, free_all, look_at, get, get_in, through, sets}
 use Rattle.thread_local_model.proofs.Names.{sets_last, lands_last, env, agg, sub, whole, tables, fact, fact_use}
-use Rattle.thread_local_model.proofs.Names.{Lends-one, no, RattleType, owns, types_at, plain, named_lft, Ptr, InBlock}
+use Rattle.thread_local_model.proofs.Names.{no, RattleType, owns, types_at, plain, named_lft, Ptr, InBlock}
 use Rattle.thread_local_model.proofs.Names.{block_ptr, block_of, count_of, at_block, nothing, heard, param, bounded}
 use Rattle.thread_local_model.proofs.Names.{Stays, stay_dropped, walk_of, Goes-dropped, proved, leaves, fm, found}
 use Rattle.thread_local_model.proofs.Names.{finds, tail}
@@ -25,24 +25,19 @@ use Rattle.thread_local_ids.specs.Locking.{Fitting, fitting, lock_invariant, gua
 use Rattle.thread_local_ids.specs.contracts.lock.LockGuard as guard
 use Rattle.thread_local_ids.specs.contracts.lock.wake_if as waker
 use Rattle.thread_local_ids.proofs.lock.wake_if.Met as waker_met
-use Rattle.thread_local_ids.specs.contracts.lock.LockGuard.drop.{ended, clauses}
-use Rattle.thread_local_ids.specs.contracts.lock.LockGuard.drop.Key.{name as #self}
+use Rattle.thread_local_ids.specs.contracts.lock.LockGuard.drop.{ended, clauses, Key.name as #self}
 use Rattle.thread_local_ids.proofs.Steps.{released}
 use Rattle.thread_local_ids.proofs.Fields.{guard_of, typed, told}
 use Rattle.thread_local_ids.proofs.Guards.{placed}
 use Rattle.thread_local_ids.proofs.lock.LockGuard.drop.Statement.{statement}
 use Rattle.thread_local_ids.proofs.lock.LockGuard.drop.Code as code
+use Rattle.thread_local_model.proofs.Walking.{lends_token, returns_token}
 
 pub drop_spec : {M : Type 1} → statement M
 drop_spec 𝓤 𝓛 𝓜 𝓡 wired X L g d d' _ _ =
-    let H = 𝓛.H in
-    let 𝓣 = tables 𝓤 H 𝓜 𝓡 𝓡.env in
-    let R : RattleType = param 0 X in
-    let En = ended X g d d' in
-    let c = clauses X g d d' 𝓛 𝓜.mem 𝓡.returns in
-    let inst = bounded (a_type ∷ []) (X, tt) (dcons d (dcons d' dnil)) in
-    let fn = inst_fn inst code.function in
-    let closed = code.unfolded 𝓤 H 𝓜 𝓡 wired (X, tt) d d' in
+    let H = 𝓛.H in let 𝓣 = tables 𝓤 H 𝓜 𝓡 𝓡.env in let R : RattleType = param 0 X in let En = ended X g d d' in
+    let c = clauses X g d d' 𝓛 𝓜.mem 𝓡.returns in let inst = bounded (a_type ∷ []) (X, tt) (dcons d (dcons d' dnil)) in
+    let fn = inst_fn inst code.function in let closed = code.unfolded 𝓤 H 𝓜 𝓡 wired (X, tt) d d' in
     let self = plain (λ κs. guard.the_row (named_lft 2 0 tt κs) R g) in
     let hs : Stays En.signature.params En.kept = (stay_dropped self no, tt) in
     let wakes = triple_of 𝓛 waker.signature (waker.spec 𝓛 𝓜.mem 𝓡.returns) in
@@ -50,11 +45,7 @@ drop_spec 𝓤 𝓛 𝓜 𝓡 wired X L g d d' _ _ =
     (λ κs. ((λ x. guard_of x.lock ∷ []), tt))
     (λ κs. ((λ x vs so. told (named_lft 2 0 tt κs) R g x.lock vs so.0), tt))
     (λ κs qs bounds a gh are.
-    let h = a.0 in
-    let p : Ptr = h.lock in
-    let b : ℕ = block_of p in
-    let o : ℕ = count_of p in
-    let β : Lft = κs.0 in
+    let h = a.0 in let p : Ptr = h.lock in let b : ℕ = block_of p in let o : ℕ = count_of p in let β : Lft = κs.0 in
     let q : Share = qs.0 in
     let x : X.Denot = h.value in
     let others : Fml = fsep (flft κs.1.0 qs.1.0) ftrue in
@@ -70,12 +61,9 @@ drop_spec 𝓤 𝓛 𝓜 𝓡 wired X L g d d' _ _ =
     learn ! (λ inb.
     let at : p ≡ block_ptr b o = at_block p inb in
     rewrite ! 0 (λ (z : Ptr). ‵ (guard_owns β R ok z x)) at refl $
-    enter ! 𝓣.C 𝓣.Λ fn (guard_of p ∷ []) Post $ alloc_all ! (λ l. pass_all ! refl (typed p inb, tt) $ let Ev = env fn.locals l in
+    enter ! _ _ _ _ _ $ alloc_all ! (λ l. pass_all ! refl (typed p inb, tt) $ let Ev = env fn.locals l in
     fpick ! (λ t. let J : Fml = fbor t.0 (lock_invariant R ok b o t) in fsplit ! $ fsplit ! $ move ! (0 ∷ 3 ∷ []) $
-    use2 𝓛 (later (some (λ (s : Share).
-    ‵ (flft t.0 s) ⊛ raw (wand 𝓤 (𝓛.A.lft t.0 s) (H.⇛ (𝓛.A.lft β q))))))
-    (Lends-one 𝓛 𝓜 𝓡 β t.0 q) $
-    await ! tt $ pick ! (λ s. split ! $
+    lends_token ! 𝓜 𝓡 β t.0 q $ await ! tt $ pick ! (λ s. split ! $
     -- [α's token, and the way back; the invariant; the right to the value; the other tokens]
     let Done : Body → Body = λ k. tail (tail k) in
     let third : Body = Done fn.body in
@@ -99,13 +87,13 @@ drop_spec 𝓤 𝓛 𝓜 𝓡 wired X L g d d' _ _ =
     lands_last ! refl (tt, record { fits = fits }) $ exec ! 𝓣.C 𝓣.Λ Ev fifth (at_ret Ev Post) $
     sets ! (of_opd ! (get ! refl)) refl (tt, record { fits = fits }) $
     fsplit ! $ move ! (0 ∷ 2 ∷ []) $
-    use2 𝓛 (later (‵ (flft β q))) (apply∗ 𝓤 (𝓛.A.lft t.0 s) (H.⇛ (𝓛.A.lft β q))) $ await ! tt $
+    returns_token ! β t.0 q s $ await ! tt $
     move ! (0 ∷ 2 ∷ []) $ join ! $
     -- [the tokens]
     let j : wakes.Ghost = ((tt, tt, tt, (at-word, (n, tt)), (ptr_val at-word ∷ [], (vint w64 n ∷ [], tt))), tt) in
     nothing ! $ flt_i ! n (2 ^ 64) fits $
-    feq_i ! (List Val) (vint w64 n ∷ []) (vint w64 n ∷ []) refl $ fjoin ! $ fjoin ! $
-    feq_i ! (List Val) (ptr_val at-word ∷ []) (ptr_val at-word ∷ []) refl $ fjoin ! $ nothing ! $
+    feq_i ! _ (vint w64 n ∷ []) _ refl $ fjoin ! $ fjoin ! $
+    feq_i ! _ (ptr_val at-word ∷ []) _ refl $ fjoin ! $ nothing ! $
     join ! $ nothing ! $ move ! (1 ∷ 0 ∷ []) $ join ! $
     use1 𝓛 (raw (wakes.pre j)) (id⊢ 𝓤 (wakes.pre j)) $ first ! $ blocks ! $
     calls_at_last ! (fm 𝓛 𝓜 𝓡) wakes
@@ -120,6 +108,6 @@ drop_spec 𝓤 𝓛 𝓜 𝓡 wired X L g d d' _ _ =
     lands_last ! refl
     (subst (λ (w : Val). T (has_ty ty_unit w) × WT w) (sym (ap only e)) (tt, tt)) $
     exec ! 𝓣.C 𝓣.Λ Ev (Done fifth) (at_ret Ev Post) $ sets ! (of_opd ! (unit_lit !)) refl (tt, tt) $
-    nothing ! $ feq_i ! (List Val) (vunit ∷ []) (vunit ∷ []) refl $ nothing ! $ nothing ! $ fjoin ! $
+    nothing ! $ feq_i ! _ (vunit ∷ []) _ refl $ nothing ! $ nothing ! $ fjoin ! $
     returns ! (look_at ! 0 refl) $ free_all ! refl $ keep ! (3 ∷ 0 ∷ 1 ∷ 2 ∷ []) $
     by ! (leaves 𝓛 En hs c y vunit tt (tt, tt) (tt, tt)))))))))))))))

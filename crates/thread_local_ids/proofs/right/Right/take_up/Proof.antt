@@ -21,9 +21,7 @@ stayed = tt
 
 pub take_up_spec : {M : Type 1} → statement M
 take_up_spec 𝓤 𝓛 𝓜 𝓡 wired =
-    let c = f.clauses 𝓛 𝓜.mem 𝓡.returns in
-    let W = walk_of 𝓛 f.ended stayed c in
-    let 𝓣 = tables 𝓤 𝓛.H 𝓜 𝓡 𝓡.env in
+    let c = f.clauses 𝓛 𝓜.mem 𝓡.returns in let W = walk_of 𝓛 f.ended stayed c in let 𝓣 = tables 𝓤 𝓛.H 𝓜 𝓡 𝓡.env in
     proved 𝓛 f.ended stayed c 𝓜 𝓡 tt f.Key.name code.function (code.unfolded 𝓤 𝓛.H 𝓜 𝓡 wired)
     (λ κs. tt) (λ κs. tt) (λ κs qs bounds a g are.
     let y : W.Ghost = ((κs, qs, bounds, a, tt), g) in

@@ -11,7 +11,6 @@ use types.Run.{no_more, and_then, returns, enter}
 use types.ByLocal.{alloc_all, pass_all, free_all, look_at, get, sets}
 use types.Part.{agg}
 use contract.Monad.{fact}
-use contract.Running.{tables}
 use denote.Ref.{mut_vals, mut_Tells}
 use Rattle.thread_local_model.proofs.Names.{RefOf, shr_vals, shr_Tells, owns, types_at, split3}
 use denote.Signature.{plain}
@@ -35,9 +34,7 @@ stayed = (stay_ref (0 ∷ []) tt (plain (λ _. R)), (stay_dropped (RefOf (1 ∷ 
 
 pub note_room_spec : {M : Type 1} → statement M
 note_room_spec 𝓤 𝓛 𝓜 𝓡 wired =
-    let c = f.clauses 𝓛 𝓜.mem 𝓡.returns in
-    let W = walk_of 𝓛 f.ended stayed c in
-    let 𝓣 = tables 𝓤 𝓛.H 𝓜 𝓡 𝓡.env in
+    let c = f.clauses 𝓛 𝓜.mem 𝓡.returns in let W = walk_of 𝓛 f.ended stayed c in
     proved 𝓛 f.ended stayed c 𝓜 𝓡 (
       Goes-ref 𝓛 2 0 tt (plain (λ _. R)),
       (Goes-dropped 𝓛 2 (RefOf (1 ∷ []) tt (plain (λ _. manager.the_row)) (λ _. tt)) yes (λ κs x w. refl), tt),
@@ -45,9 +42,7 @@ note_room_spec 𝓤 𝓛 𝓜 𝓡 wired =
     f.Key.name code.function (code.unfolded 𝓤 𝓛.H 𝓜 𝓡 wired)
     (λ κs. (mut_vals, (shr_vals, tt)))
     (λ κs. (mut_Tells (named 0) κs.0 R, (shr_Tells (named 1) κs.1.0 manager.the_row, tt))) (λ κs qs bounds a g are.
-    let r = a.0 in
-    let b = r.ref_ptr.0 in
-    let o = r.ref_ptr.1 in
+    let r = a.0 in let b = r.ref_ptr.0 in let o = r.ref_ptr.1 in
     let s = r.now in
     let ids : ℕ = a.1.0.now.room in
     let p : Val = vptr a.1.0.ref_ptr.0 a.1.0.ref_ptr.1 in

@@ -1,5 +1,5 @@
 -- `put_back` joins the right's element to the others.
-use Rattle.std.proofs.Common.{◌≡◌, ℕ, true, List, [], ◌∷◌, refl}
+use Rattle.std.proofs.Common.{◌≡◌, ℕ, true, [], ◌∷◌, refl}
 use mir.Syntax.{named}
 use mir.Val.{Val, vptr, vunit}
 use base.Fml.{ftrue, flft}
@@ -7,7 +7,6 @@ use types.Kit.{‵, raw, ◌⊛◌, given, ◌$◌, ◌∵◌, !, qed, move, kee
 use types.Kit.{learn, suffices, frame, use2, feq_i}
 use types.Run.{of_opd, unit_lit, returns, enter}
 use types.ByLocal.{alloc_all, pass_all, free_all, look_at, sets}
-use contract.Running.{tables}
 use denote.Exit.{yes}
 use denote.Ref.{MutRef, mut_vals, mut_Tells}
 use denote.Signature.{plain}
@@ -29,9 +28,7 @@ stayed = (stay_ref (0 ∷ []) tt (plain (λ _. R)), (stay_dropped (plain (λ _. 
 
 pub put_back_spec : {M : Type 1} → statement M
 put_back_spec 𝓤 𝓛 𝓜 𝓡 wired =
-    let c = f.clauses 𝓛 𝓜.mem 𝓡.returns in
-    let W = walk_of 𝓛 f.ended stayed c in
-    let 𝓣 = tables 𝓤 𝓛.H 𝓜 𝓡 𝓡.env in
+    let c = f.clauses 𝓛 𝓜.mem 𝓡.returns in let W = walk_of 𝓛 f.ended stayed c in
     proved 𝓛 f.ended stayed c 𝓜 𝓡 (
       Goes-ref 𝓛 1 0 tt (plain (λ _. R)),
       (Goes-dropped 𝓛 1 (plain (λ _. right.the_row)) yes (λ κs x w. refl), tt),
@@ -42,8 +39,7 @@ put_back_spec 𝓤 𝓛 𝓜 𝓡 wired =
     (λ κs qs bounds a g are.
     let r = a.0 in
     let mine = a.1.0 in
-    let b = r.ref_ptr.0 in
-    let o = r.ref_ptr.1 in
+    let b = r.ref_ptr.0 in let o = r.ref_ptr.1 in
     let s = r.now in
     let new = record s { out = less s.out mine.id } in
     let y : W.Ghost = ((κs, qs, bounds, a, (mut_vals r, (token ∷ [], tt))), g) in
@@ -66,6 +62,6 @@ put_back_spec 𝓤 𝓛 𝓜 𝓡 wired =
     suffices ! _ (ends_at 𝓛 f.ended stayed c y vunit tt (new, (tt, tt)) (tt, (tt, tt))) $
     -- [two parts of self; the token; self's first part]
     move ! (3 ∷ 0 ∷ 1 ∷ []) $ fjoin3 ! $ nothing ! $ nothing ! $ fjoin ! $ move ! (1 ∷ 0 ∷ []) $ fjoin ! $
-    feq_i ! (List Val) (vunit ∷ []) (vunit ∷ []) refl $ move ! (1 ∷ 0 ∷ []) $ join ! $
+    feq_i ! _ (vunit ∷ []) _ refl $ move ! (1 ∷ 0 ∷ []) $ join ! $
     nothing ! $ move ! (2 ∷ 0 ∷ []) $ join ! $ join ! $ frame ! $ tells ! gone $ tells ! refl $
     tells_last ! (λ j. is_out-less s.out mine.id j))))))

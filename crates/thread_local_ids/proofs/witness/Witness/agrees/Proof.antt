@@ -1,9 +1,9 @@
 -- Two witnesses of one id in one sharing show one value.
-use Rattle.thread_local_model.proofs.Names.{sym, ◌≡◌, ℕ, List, [], ◌∷◌, refl, ap, Some, None, Option, a_type, named}
-use Rattle.thread_local_model.proofs.Names.{Val, vptr, vunit, inst_fn, SProp, emp, ‵, raw, ◌⊛◌, given, ◌$◌, ◌∵◌, ! }
+use Rattle.thread_local_model.proofs.Names.{sym, ◌≡◌, ℕ, [], ◌∷◌, refl, Some, Option, a_type, named}
+use Rattle.thread_local_model.proofs.Names.{vunit, inst_fn, ‵, raw, ◌⊛◌, given, ◌$◌, ◌∵◌, !}
 use Rattle.thread_local_model.proofs.Names.{qed, by, move, keep, drop, split, fsplit, fsplit3, fjoin, learn, rewrite}
-use Rattle.thread_local_model.proofs.Names.{feq_i, use0, use2, of_opd, unit_lit, returns, enter, alloc_all, pass_all}
-use Rattle.thread_local_model.proofs.Names.{free_all, look_at, sets, tables, fact, fact_i, yes, RattleType, owns}
+use Rattle.thread_local_model.proofs.Names.{feq_i, use2, of_opd, unit_lit, returns, enter, alloc_all, pass_all}
+use Rattle.thread_local_model.proofs.Names.{free_all, look_at, sets, fact, yes, RattleType, owns}
 use Rattle.thread_local_model.proofs.Names.{types_at, plain, nothing, heard, param, layouts, RefOf, shr_vals}
 use Rattle.thread_local_model.proofs.Names.{shr_Tells, Stays, stay_dropped, walk_of, Goes-dropped, proved, leaves}
 use Rattle.thread_local_model.proofs.Names.{alive, unhide}
@@ -11,38 +11,25 @@ use Rattle.std.proofs.Common.{IsSome}
 use Rattle.thread_local_ids.specs.Told.{tells}
 use Rattle.thread_local_ids.specs.contracts.witness.Witness as Witness
 use Rattle.thread_local_ids.proofs.ToldElements.{tells_alike}
-use Rattle.thread_local_ids.specs.contracts.witness.Witness.agrees.{ended, clauses}
-use Rattle.thread_local_ids.specs.contracts.witness.Witness.agrees.Key.{name as #self}
+use Rattle.thread_local_ids.specs.contracts.witness.Witness.agrees.{ended, clauses, Key.name as #self}
 use Rattle.thread_local_ids.proofs.witness.Witness.agrees.Statement.{statement}
 use Rattle.thread_local_ids.proofs.witness.Witness.agrees.Code as code
-
-one_value : {X : Type 0} (x y : X) → ◌≡◌ {A = Option X} (Some x) (Some y) → x ≡ y
-one_value {X} x y e = ap (λ (o : Option X). elim o as (λ _. X) [ None ↦ x | Some z ↦ z ]) e
+use Rattle.std.proofs.lemmas.Option.{same_Some}
+use Rattle.thread_local_model.proofs.Walking.{knows}
 
 pub agrees_spec : {M : Type 1} → statement M
 agrees_spec 𝓤 𝓛 𝓜 𝓡 wired T L =
-    let H = 𝓛.H in
-    let 𝓣 = tables 𝓤 H 𝓜 𝓡 𝓡.env in
-    let R : RattleType = param 0 T in
-    let En = ended T in
-    let S : RattleType = Witness.the_row R in
+    let R : RattleType = param 0 T in let En = ended T in let S : RattleType = Witness.the_row R in
     let inst = layouts (a_type ∷ []) (T, tt) in let fn = inst_fn inst code.function in let c = clauses T 𝓛 𝓜.mem 𝓡.returns in
-    let self = RefOf (0 ∷ []) tt (plain (λ _. S)) (λ _. tt) in
-    let other = RefOf (1 ∷ []) tt (plain (λ _. S)) (λ _. tt) in
-    let hs : Stays En.signature.params En.kept =
-    (stay_dropped self yes, (stay_dropped other yes, tt)) in
+    let self = RefOf (0 ∷ []) tt (plain (λ _. S)) (λ _. tt) in let other = RefOf (1 ∷ []) tt (plain (λ _. S)) (λ _. tt) in
+    let hs : Stays En.signature.params En.kept = (stay_dropped self yes, (stay_dropped other yes, tt)) in
     proved 𝓛 En hs c 𝓜 𝓡
     (Goes-dropped 𝓛 3 self yes (λ κs x f. refl), (Goes-dropped 𝓛 3 other yes (λ κs x f. refl), tt))
-    (#self inst) fn (code.unfolded 𝓤 H 𝓜 𝓡 wired (T, tt))
-    (λ κs. (shr_vals, (shr_vals, tt)))
-    (λ κs. (shr_Tells (named 0) κs.0 S, (shr_Tells (named 1) κs.1.0 S, tt)))
+    (#self inst) fn (code.unfolded 𝓤 𝓛.H 𝓜 𝓡 wired (T, tt))
+    (λ κs. (shr_vals, (shr_vals, tt))) (λ κs. (shr_Tells (named 0) κs.0 S, (shr_Tells (named 1) κs.1.0 S, tt)))
     (λ κs qs bounds a gh are.
-    let p : Val = vptr a.0.ref_ptr.0 a.0.ref_ptr.1 in
-    let p' : Val = vptr a.1.0.ref_ptr.0 a.1.0.ref_ptr.1 in
-    let w = a.0.now in
-    let v = a.1.0.now in
-    let y : (walk_of 𝓛 En hs c).Ghost = ((κs, qs, bounds, a, (p ∷ [], (p' ∷ [], tt))), gh) in
-    let Post : Val → SProp 𝓤 = (walk_of 𝓛 En hs c).post y in
+    let w = a.0.now in let v = a.1.0.now in
+    let y : (walk_of 𝓛 En hs c).Ghost = ((κs, qs, bounds, a, (shr_vals a.0, (shr_vals a.1.0, tt))), gh) in
     let At : Type 0 = w.id ≡ v.id in
     let In : Type 0 = ◌≡◌ {A = Option ℕ} w.sharing v.sharing in
     let Named : Type 0 = IsSome w.sharing in
@@ -60,11 +47,10 @@ agrees_spec 𝓤 𝓛 𝓜 𝓡 wired T L =
     (‵ (tells R w.sharing w.id (Some w.value)) ⊛ ‵ (tells R w.sharing w.id (Some v.value))))
     (tells_alike 𝓛 R w.sharing named_so w.id (Some w.value) (Some v.value)) $
     learn ! (λ e. split ! $ drop ! $ drop ! $
-    enter ! 𝓣.C 𝓣.Λ fn (p ∷ p' ∷ []) Post $ alloc_all ! (λ l. pass_all ! refl ((tt, tt), ((tt, tt), tt)) $
+    enter ! _ _ _ _ _ $ alloc_all ! (λ l. pass_all ! refl ((tt, tt), ((tt, tt), tt)) $
     sets ! (of_opd ! (unit_lit !)) refl (tt, tt) $
-    use0 𝓛 (raw (fact 𝓤 (w.value ≡ v.value)))
-    (fact_i 𝓤 (w.value ≡ v.value) (emp 𝓤) (one_value w.value v.value e)) $
-    feq_i ! (List Val) (vunit ∷ []) (vunit ∷ []) refl $ nothing ! $ nothing ! $ fjoin ! $ nothing ! $ fjoin ! $
+    knows ! (w.value ≡ v.value) (same_Some w.value v.value e) $
+    feq_i ! _ (vunit ∷ []) _ refl $ nothing ! $ nothing ! $ fjoin ! $ nothing ! $ fjoin ! $
     -- [nothing; the result; the fact; the tokens]
     returns ! (look_at ! 0 refl) $ free_all ! refl $ keep ! (3 ∷ 0 ∷ 1 ∷ 2 ∷ []) $
     by ! (leaves 𝓛 En hs c y vunit tt (tt, (tt, tt)) (tt, (tt, tt)))))))))

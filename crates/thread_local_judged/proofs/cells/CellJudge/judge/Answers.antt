@@ -6,9 +6,5 @@ use Rattle.thread_local_judged.proofs.cells.CellJudge.judge.Goals as goal
 pub returns : goal.returns
 returns g c =
     let j =
-    inr (λ b o. record {
-      value = record { value = tt };
-      lifetime = [];
-      names = λ h. (h.0.0 []).1 0 false;
-    }) in
+    inr (λ b o. record { value = record { value = tt }; lifetime = []; names = λ h. (h.0.0 []).1 0 false }) in
     record { judged = known j; everywhere = j }

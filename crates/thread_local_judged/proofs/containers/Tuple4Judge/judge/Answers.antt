@@ -13,9 +13,6 @@ returns g c =
     (tuple_type (param 0 g.row.A ∷ param 1 g.row.B ∷ param 2 g.row.C ∷ param 3 g.row.D ∷ []))
     (λ v. tt) (
       c.judge.ensures.everywhere,
-      (
-        c.judge-2.ensures.everywhere,
-        (c.judge-3.ensures.everywhere, (c.judge-4.ensures.everywhere, tt)),
-      ),
+      (c.judge-2.ensures.everywhere, (c.judge-3.ensures.everywhere, (c.judge-4.ensures.everywhere, tt))),
     ) in
     record { judged = known j; everywhere = j }

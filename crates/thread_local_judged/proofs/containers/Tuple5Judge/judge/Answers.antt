@@ -16,10 +16,7 @@ returns g c =
       c.judge.ensures.everywhere,
       (
         c.judge-2.ensures.everywhere,
-        (
-          c.judge-3.ensures.everywhere,
-          (c.judge-4.ensures.everywhere, (c.judge-5.ensures.everywhere, tt)),
-        ),
+        (c.judge-3.ensures.everywhere, (c.judge-4.ensures.everywhere, (c.judge-5.ensures.everywhere, tt))),
       ),
     ) in
     record { judged = known j; everywhere = j }

@@ -18,10 +18,7 @@ returns g c =
         c.judge-2.ensures.everywhere,
         (
           c.judge-3.ensures.everywhere,
-          (
-            c.judge-4.ensures.everywhere,
-            (c.judge-5.ensures.everywhere, (c.judge-6.ensures.everywhere, tt)),
-          ),
+          (c.judge-4.ensures.everywhere, (c.judge-5.ensures.everywhere, (c.judge-6.ensures.everywhere, tt))),
         ),
       ),
     ) in

@@ -18,11 +18,7 @@ sync a T y =
     record {
       shared = λ d b o κ. (
         fields.shared (d.at, (d.state, (tt, tt))) b o κ,
-        (
-          (λ _. tt),
-          seen (claim_fields d.id d.index d.bucket d.at d.sharing d.reserved)
-              (value_held d.learnt) κ,
-        ),
+        ((λ _. tt), seen (claim_fields d.id d.index d.bucket d.at d.sharing d.reserved) (value_held d.learnt) κ),
       );
     }
   where
@@ -36,8 +32,5 @@ sync a T y =
         let b : ℕ = block_of c.at in
         let e : ℕ = count_of c.at in (
           (λ _. tt),
-          (
-            y.shared x b e (κ ++ a.lft),
-            ((λ j. long b e x j κ), tells_keyless T c.sharing c.id (Some x)),
-          ),
+          (y.shared x b e (κ ++ a.lft), ((λ j. long b e x j κ), tells_keyless T c.sharing c.id (Some x))),
         )

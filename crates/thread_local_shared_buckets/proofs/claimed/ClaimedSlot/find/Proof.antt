@@ -1,17 +1,17 @@
 -- `find` loads the bucket's pointer: at null, it takes the pass for the right. Else it loads the
 -- word of the slot's flag, and takes what the slot holds.
 use Rattle.thread_local_model.proofs.Names.{Option, lit<, ◌≡◌, ℕ, ◌+◌, ◌^◌, [], ◌∷◌, refl, sym, ap, ◌∙◌, subst, true}
-use Rattle.thread_local_model.proofs.Names.{a_type, Val, vptr, inst_fn, SProp, wand, emp, via, id⊢, apply∗, Lft, Share}
-use Rattle.thread_local_model.proofs.Names.{Fml, ftrue, fsep, flft, fbor, finv, sem, ‵, raw, ◌⊛◌, some, later, mean}
+use Rattle.thread_local_model.proofs.Names.{a_type, Val, vptr, inst_fn, SProp, via, id⊢, Lft, Share}
+use Rattle.thread_local_model.proofs.Names.{Fml, ftrue, fsep, flft, fbor, finv, sem, ‵, raw, ◌⊛◌, later, mean}
 use Rattle.thread_local_model.proofs.Names.{at_ret, ◌$◌, ◌∵◌, !, qed, by, move, keep, drop, split, join, fsplit, fjoin}
 use Rattle.thread_local_model.proofs.Names.{fpick, fpack, pick, use0, use1, use2, use3, await, rewrite, group, fld}
 use Rattle.thread_local_model.proofs.Names.{stop, addr, lit, of_opd, no_more, and_then, first, blocks, exec}
 use Rattle.thread_local_model.proofs.Names.{Calls-last, returns, enter, alloc_all, pass_all, free_all, look_at, get}
 use Rattle.thread_local_model.proofs.Names.{get_in, through, sets, sets_last, size_word, lands_last, env, agg, sub}
-use Rattle.thread_local_model.proofs.Names.{whole, tables, fact, fact_i, no, RattleType, owns, types_at, plain}
+use Rattle.thread_local_model.proofs.Names.{whole, tables, fact, no, RattleType, owns, types_at, plain}
 use Rattle.thread_local_model.proofs.Names.{named_lft, Ptr, block_ptr, block_of, count_of, at_block, nothing, heard}
 use Rattle.thread_local_model.proofs.Names.{param, bounded, Stays, stay_dropped, walk_of, Goes-dropped, proved, leaves}
-use Rattle.thread_local_model.proofs.Names.{fm, found, finds, Lends-one, ◌*◌, ◌<◌, ◌≢◌, length, Bool, false, dnil, bin}
+use Rattle.thread_local_model.proofs.Names.{fm, found, finds, ◌*◌, ◌<◌, ◌≢◌, length, Bool, false, dnil, bin}
 use Rattle.thread_local_model.proofs.Names.{branches, is, null_ptr, ptr_val, u64, after, uint_vals, uint_Tells, usize}
 use Rattle.thread_local_model.proofs.Names.{yes, fsplit3, vint, w64}
 use Rattle.std.proofs.Common.{◌⊎◌, inl, inr, ◌/◌, ◌%◌}
@@ -30,12 +30,11 @@ use Rattle.std.proofs.raw_atomic.PtrCalls.{seq_cst_good}
 use Rattle.thread_local_ids.specs.Rights.{right_owns}
 use Rattle.thread_local_bucket_pointers.specs.Slots.{stride, value_words, word_offset, value_offset}
 use Rattle.thread_local_bucket_pointers.proofs.Flags.{in_chunks, value_near}
-use Rattle.thread_local_bucket_pointers.proofs.Slots.{IsWordNear, word_is_near}
+use Rattle.thread_local_bucket_pointers.proofs.Slots.{IsWordNear, word_is_near, ptr_good}
 use Rattle.thread_local_model.specs.Bits.{is_set}
 use Rattle.thread_local_model.proofs.Word.{masked_fits, place_below, bit_fits, shifted_right}
 use Rattle.thread_local_model.specs.Fact as facts
 use Rattle.thread_local_shared_buckets.specs.Shared.{BucketView, Turn, StandingBlock, Sized, block_code, len, bucket_invariant, loaded}
-use Rattle.thread_local_shared_buckets.proofs.RowFields.{pointer_good}
 use Rattle.thread_local_shared_buckets.proofs.Loads.{glimpse, reaches, reads}
 use Rattle.thread_local_model.specs.Learnt.{Learnt, Missing, Vacant, Finds}
 use Rattle.thread_local_shared_buckets.specs.Known.{HasLooked, MayLook, looked_in_vain, state_by, found_as}
@@ -43,54 +42,39 @@ use Rattle.thread_local_shared_buckets.proofs.Learning.{known_as, not_missing, k
 use Rattle.thread_local_shared_buckets.proofs.Learning.{finds_nothing, finds_slot, unfound, found as found_in}
 use Rattle.thread_local_shared_buckets.specs.Claims.{ClaimFields, flag_word_of, claim_fields, IsOf, IsKept, claims_side, value_at, has, has_slot, has_at}
 use Rattle.thread_local_shared_buckets.specs.contracts.claimed.ClaimedSlot as claim
-use Rattle.thread_local_shared_buckets.specs.contracts.claimed.ClaimedSlot.find.{ended, clauses}
-use Rattle.thread_local_shared_buckets.specs.contracts.claimed.ClaimedSlot.find.Key.{name as #self}
+use Rattle.thread_local_shared_buckets.specs.contracts.claimed.ClaimedSlot.find.{ended, clauses, Key.name as #self}
 use Rattle.thread_local_shared_buckets.proofs.Early.{comes}
 use Rattle.thread_local_shared_buckets.proofs.ClaimSteps as steps
 use Rattle.thread_local_shared_buckets.proofs.ClaimedFields.{Kept, kept_of, value_of, FieldsType, fields_of, told, in_word, made, typed}
 use Rattle.thread_local_shared_buckets.proofs.ClaimedFields.{number_in, spaced, spaced_is}
 use Rattle.thread_local_shared_buckets.proofs.claimed.ClaimedSlot.find.Statement.{statement}
 use Rattle.thread_local_shared_buckets.proofs.claimed.ClaimedSlot.find.Code as code
+use Rattle.thread_local_model.proofs.Walking.{knows, lends_token, returns_token}
 
 word_laws : Laws u64
 word_laws = of_field u64-field u64-laws refl (copy_shared u64-field u64-copy)
 
 pub find_spec : {M : Type 1} → statement M
 find_spec 𝓤 𝓛 𝓜 𝓡 wired X L =
-    let H = 𝓛.H in
-    let 𝓣 = tables 𝓤 H 𝓜 𝓡 𝓡.env in
-    let R : RattleType = param 0 X in
-    let En = ended X in
-    let c = clauses X 𝓛 𝓜.mem 𝓡.returns in
-    let inst = bounded (a_type ∷ []) (X, tt) dnil in
-    let fn = inst_fn inst code.function in
-    let closed = code.unfolded 𝓤 H 𝓜 𝓡 wired (X, tt) in
-    let self = plain (λ κs. claim.the_row (named_lft 2 0 tt κs) R) in
-    let number = plain (λ _. usize) in
+    let H = 𝓛.H in let 𝓣 = tables 𝓤 H 𝓜 𝓡 𝓡.env in let R : RattleType = param 0 X in let En = ended X in
+    let c = clauses X 𝓛 𝓜.mem 𝓡.returns in let inst = bounded (a_type ∷ []) (X, tt) dnil in
+    let fn = inst_fn inst code.function in let closed = code.unfolded 𝓤 H 𝓜 𝓡 wired (X, tt) in
+    let self = plain (λ κs. claim.the_row (named_lft 2 0 tt κs) R) in let number = plain (λ _. usize) in
     let hs : Stays En.signature.params En.kept =
     (stay_dropped self no, (stay_dropped number yes, (stay_dropped number yes, tt))) in
     proved 𝓛 En hs c 𝓜 𝓡 (
       Goes-dropped 𝓛 2 self no (λ κs x f. refl),
-      (
-        Goes-dropped 𝓛 2 number yes (λ κs x f. refl),
-        (Goes-dropped 𝓛 2 number yes (λ κs x f. refl), tt),
-      ),
+      (Goes-dropped 𝓛 2 number yes (λ κs x f. refl), (Goes-dropped 𝓛 2 number yes (λ κs x f. refl), tt)),
     )
     (#self inst) fn closed
     (λ κs. ((λ x. value_of (kept_of x) ∷ []), (uint_vals w64, (uint_vals w64, tt))))
-    (λ κs. (
-      (λ x vs so. told (named_lft 2 0 tt κs) R (kept_of x) vs so.0),
-      (uint_Tells w64, (uint_Tells w64, tt)),
-    ))
+    (λ κs. ((λ x vs so. told (named_lft 2 0 tt κs) R (kept_of x) vs so.0), (uint_Tells w64, (uint_Tells w64, tt))))
     (λ κs qs bounds a gh are.
     let h = a.0 in
     let x : ℕ = a.1.0 in
     let num : ℕ = a.1.1.0 in
-    let β : Lft = κs.0 in
-    let q : Share = qs.0 in
-    let others : Fml = fsep (flft κs.1.0 qs.1.0) ftrue in
-    let ℓ = named_lft 2 0 tt κs in
-    let G : RattleType = claim.the_row ℓ R in
+    let β : Lft = κs.0 in let q : Share = qs.0 in let others : Fml = fsep (flft κs.1.0 qs.1.0) ftrue in
+    let ℓ = named_lft 2 0 tt κs in let G : RattleType = claim.the_row ℓ R in
     let u₀ : Val = value_of (kept_of h) in
     let F₁ : G.Denot → Type 0 = λ r.
     (r.table ≡ h.table) × (◌≡◌ {A = Option ℕ} r.sharing h.sharing) × (r.id ≡ h.id)
@@ -117,7 +101,7 @@ find_spec 𝓤 𝓛 𝓜 𝓡 wired X L =
     keep ! (2 ∷ 3 ∷ 4 ∷ 0 ∷ []) $ heard ! (MayLook l₀) (λ unseen. heard ! (x ≡ i) (λ is_index.
     heard ! (num ≡ flag_word_of R h.id) (λ numbered. split ! $ split ! $ move ! (2 ∷ []) $
     fsplit3 ! $ fsplit ! $ keep ! (1 ∷ 4 ∷ 5 ∷ []) $
-    enter ! 𝓣.C 𝓣.Λ fn (u₀ ∷ vint w64 x ∷ vint w64 num ∷ []) Post $ alloc_all ! (λ l.
+    enter ! _ _ _ _ _ $ alloc_all ! (λ l.
     pass_all ! refl (
       typed (kept_of h) (in_word ℓ R (kept_of h) (u₀ ∷ []) are.0.0),
       ((tt, record { fits = are.1.0.1 }), ((tt, record { fits = are.1.1.0.1 }), tt)),
@@ -125,8 +109,7 @@ find_spec 𝓤 𝓛 𝓜 𝓡 wired X L =
     let Ev = env fn.locals l in
     fsplit ! $ drop ! $ fpick ! (λ z. fsplit ! $ fpick ! (λ of. drop ! $ fsplit ! $
     move ! (1 ∷ []) $
-    let d : BucketView = z.0 in
-    let t : Turn = z.1 in
+    let d : BucketView = z.0 in let t : Turn = z.1 in
     let at : w ≡ block_ptr wb wo = at_block w of.0 in
     use1 𝓛 (‵ (fsep (facts.fact (h.at ≡ w)) (claims_side (looked_in_vain l₀) d.table t.pass h.id)))
     (unfound 𝓛 R d t β pl l₀ unseen) $
@@ -139,10 +122,7 @@ find_spec 𝓤 𝓛 𝓜 𝓡 wired X L =
     use1 𝓛 (‵ (before β t.life) ⊛ ‵ (before β t.life)) (before_dup 𝓛 β t.life) $ split ! $
     use1 𝓛 (‵ (before β t.life) ⊛ ‵ (before β t.life)) (before_dup 𝓛 β t.life) $ split ! $
     move ! (0 ∷ 5 ∷ []) $
-    use2 𝓛 (later (some (λ (s : Share).
-    ‵ (flft t.life s) ⊛ raw (wand 𝓤 (𝓛.A.lft t.life s) (H.⇛ (𝓛.A.lft β q))))))
-    (Lends-one 𝓛 𝓜 𝓡 β t.life q) $
-    await ! tt $ pick ! (λ s. split ! $
+    lends_token ! 𝓜 𝓡 β t.life q $ await ! tt $ pick ! (λ s. split ! $
     -- [the life's token; the way back; before, twice; the invariant; what it waits with; the other
     -- tokens]
     move ! (4 ∷ []) $ use1 𝓛 (‵ (finv J) ⊛ ‵ (finv J)) (𝓛.invs.inv_dup J) $ split ! $
@@ -161,12 +141,12 @@ find_spec 𝓤 𝓛 𝓜 𝓡 wired X L =
     Calls-last ! (fm 𝓛 𝓜 𝓡) (calls.found 𝓛 out)
     (and_then ! (get ! refl) (and_then ! (get ! refl) (no_more !))) (λ u.
     calls.finds_either ! out
-    (lands_last ! refl (pointer_good null_ptr) $
+    (lands_last ! refl (ptr_good null_ptr) $
     exec ! 𝓣.C 𝓣.Λ Ev (after 2 fn.body) (at_ret Ev Post) $ fsplit ! $ move ! (0 ∷ 4 ∷ []) $
-    use2 𝓛 (later (‵ (flft β q))) (apply∗ 𝓤 (𝓛.A.lft t.life s) (H.⇛ (𝓛.A.lft β q))) $ await ! tt $
+    returns_token ! β t.life q s $ await ! tt $
     move ! (1 ∷ []) $ fsplit ! $ fpick ! (λ free. drop ! $
     -- [the pass; the token; the invariant, twice; before, twice; the other tokens]
-    sets ! (of_opd ! (get ! refl)) refl (pointer_good null_ptr) $
+    sets ! (of_opd ! (get ! refl)) refl (ptr_good null_ptr) $
     sets ! (bin ! (get ! refl) (lit ! tt) tt) refl (tt, tt) $ first ! $ branches ! (get ! refl)
     (λ _.
     let m : Kept = record { at = block_ptr wb wo; state = 0 } in
@@ -193,13 +173,11 @@ find_spec 𝓤 𝓛 𝓜 𝓡 wired X L =
     use0 𝓛 (‵ ((FieldsType ℓ R).own_val (fields_of ℓ R m) (value_of m ∷ [])))
     (made ℓ R 𝓛 m (lit< tt)) $
     fjoin ! $ move ! (1 ∷ 4 ∷ []) $ join ! $ move ! (1 ∷ []) $
-    use0 𝓛 (raw (fact 𝓤 (F₅ r))) (fact_i 𝓤 (F₅ r) (emp 𝓤) (finds_nothing l₀ unseen)) $
-    use0 𝓛 (raw (fact 𝓤 (F₄ r)))
-    (fact_i 𝓤 (F₄ r) (emp 𝓤)
-    (refl, (λ is. let never : true ≡ false = sym is ∙ sym of.5 ∙ free in cc))) $
-    join ! $ use0 𝓛 (raw (fact 𝓤 (F₃ r))) (fact_i 𝓤 (F₃ r) (emp 𝓤) (λ _. inl refl)) $ join ! $
-    use0 𝓛 (raw (fact 𝓤 (F₂ r))) (fact_i 𝓤 (F₂ r) (emp 𝓤) tt) $ join ! $
-    use0 𝓛 (raw (fact 𝓤 (F₁ r))) (fact_i 𝓤 (F₁ r) (emp 𝓤) (refl, refl, refl, refl)) $ join ! $
+    knows ! (F₅ r) (finds_nothing l₀ unseen) $
+    knows ! (F₄ r) (refl, (λ is. let never : true ≡ false = sym is ∙ sym of.5 ∙ free in cc)) $
+    join ! $ knows ! (F₃ r) (λ _. inl refl) $ join ! $
+    knows ! (F₂ r) tt $ join ! $
+    knows ! (F₁ r) (refl, refl, refl, refl) $ join ! $
     nothing ! $ nothing ! $ fjoin ! $ nothing ! $ fjoin ! $ nothing ! $ fjoin ! $
     returns_within ! Post refl (look_at ! 0 refl) $ free_all ! refl $ keep ! (3 ∷ 0 ∷ 2 ∷ 1 ∷ []) $
     by ! (leaves 𝓛 En hs c y (value_of m) r (tt, (tt, (tt, tt))) (tt, (tt, (tt, tt)))))
@@ -211,7 +189,7 @@ find_spec 𝓤 𝓛 𝓜 𝓡 wired X L =
     let at_word : ℕ = word_offset R (len R d) po k in
     let e : ℕ = value_offset R po i in
     let slot_at : Ptr = block_ptr pb e in
-    lands_last ! refl (pointer_good p) $ exec ! 𝓣.C 𝓣.Λ Ev (after 2 fn.body) (at_ret Ev Post) $
+    lands_last ! refl (ptr_good p) $ exec ! 𝓣.C 𝓣.Λ Ev (after 2 fn.body) (at_ret Ev Post) $
     fsplit ! $ move ! (1 ∷ []) $ fsplit ! $ fpick ! (λ zz. move ! (0 ∷ 6 ∷ []) $
     use2 𝓛 (later (‵ (facts.fact ((zz.0.at ≡ p) × Sized R (len R d) p)) ⊛ ‵ (loaded R d t zz.0 β)))
     (reaches 𝓛 R d t β p zz) $
@@ -226,7 +204,7 @@ find_spec 𝓤 𝓛 𝓜 𝓡 wired X L =
     fpack ! ((length s'.names ≡ len R d) × Sized R (len R d) s'.at) (λ _. ftrue) sized $ move ! (0 ∷ 1 ∷ []) $ fjoin ! $
     -- [the row; which block it is; what it waits with; the life's token; the invariant, twice; the
     -- way back; before; the other tokens]
-    sets ! (of_opd ! (get ! refl)) refl (pointer_good p) $
+    sets ! (of_opd ! (get ! refl)) refl (ptr_good p) $
     sets ! (bin ! (get ! refl) (lit ! tt) (tests_null p so.1.1)) refl (tt, tt) $ first ! $
     branches ! (get ! refl) (λ wrong. absurd wrong) (λ _. skips ! $
     exec ! 𝓣.C 𝓣.Λ Ev (after 5 fn.body) (at_ret Ev Post) $
@@ -267,7 +245,7 @@ find_spec 𝓤 𝓛 𝓜 𝓡 wired X L =
     finds ! aft (λ n nf.
     lands_last ! refl (tt, record { fits = nf }) $
     exec ! 𝓣.C 𝓣.Λ Ev (after 10 fn.body) (at_ret Ev Post) $ fsplit ! $ move ! (0 ∷ 4 ∷ []) $
-    use2 𝓛 (later (‵ (flft β q))) (apply∗ 𝓤 (𝓛.A.lft t.life s) (H.⇛ (𝓛.A.lft β q))) $ await ! tt $
+    returns_token ! β t.life q s $ await ! tt $
     -- [the token; what was found; the row; the invariant; before; the other tokens]
     let set : Bool = is_set n j in
     let seen : ℕ = state_by set in
@@ -314,12 +292,11 @@ find_spec 𝓤 𝓛 𝓜 𝓡 wired X L =
       reserved = h.reserved;
       learnt = found_as v';
     } in
-    use0 𝓛 (raw (fact 𝓤 (F₅ r))) (fact_i 𝓤 (F₅ r) (emp 𝓤) (finds_slot l₀ unseen v')) $
-    use0 𝓛 (raw (fact 𝓤 (F₄ r))) (fact_i 𝓤 (F₄ r) (emp 𝓤) (refl, (λ _. not_missing v'))) $ join ! $
-    use0 𝓛 (raw (fact 𝓤 (F₃ r)))
-    (fact_i 𝓤 (F₃ r) (emp 𝓤) (λ was. inr (ap found_as (known.1 (ap looked_in_vain was))))) $
-    join ! $ use0 𝓛 (raw (fact 𝓤 (F₂ r))) (fact_i 𝓤 (F₂ r) (emp 𝓤) (known_as v')) $ join ! $
-    use0 𝓛 (raw (fact 𝓤 (F₁ r))) (fact_i 𝓤 (F₁ r) (emp 𝓤) (refl, refl, refl, refl)) $ join ! $
+    knows ! (F₅ r) (finds_slot l₀ unseen v') $
+    knows ! (F₄ r) (refl, (λ _. not_missing v')) $ join ! $
+    knows ! (F₃ r) (λ was. inr (ap found_as (known.1 (ap looked_in_vain was)))) $
+    join ! $ knows ! (F₂ r) (known_as v') $ join ! $
+    knows ! (F₁ r) (refl, refl, refl, refl) $ join ! $
     nothing ! $ nothing ! $ fjoin ! $ nothing ! $ fjoin ! $ nothing ! $ fjoin ! $
     returns ! (look_at ! 0 refl) $ free_all ! refl $ keep ! (3 ∷ 0 ∷ 2 ∷ 1 ∷ []) $
     by ! (leaves 𝓛 En hs c y (value_of m) r (tt, (tt, (tt, tt)))

@@ -1,10 +1,10 @@
 -- `give_up` is a ghost step under the bucket's invariant: what the claim has of the slot goes back,
 -- for the right.
-use Rattle.thread_local_model.proofs.Names.{◌≡◌, List, [], ◌∷◌, refl, ap, dnil, a_type, Val, inst_fn, SProp, emp, id⊢}
+use Rattle.thread_local_model.proofs.Names.{◌≡◌, List, [], ◌∷◌, refl, ap, dnil, a_type, Val, inst_fn, id⊢}
 use Rattle.thread_local_model.proofs.Names.{Lft, Share, Fml, ftrue, fsep, flft, ‵, raw, ◌⊛◌, some, later, ◌$◌, ◌∵◌, ! }
-use Rattle.thread_local_model.proofs.Names.{qed, by, move, keep, drop, split, join, fsplit, fjoin, pick, use0, use1}
+use Rattle.thread_local_model.proofs.Names.{qed, by, move, keep, drop, split, join, fsplit, fjoin, pick, use1}
 use Rattle.thread_local_model.proofs.Names.{use2, await, rewrite, no_more, returns, enter, alloc_all, pass_all}
-use Rattle.thread_local_model.proofs.Names.{free_all, look_at, env, tables, fact, fact_i, no, RattleType, owns}
+use Rattle.thread_local_model.proofs.Names.{free_all, look_at, env, fact, no, RattleType, owns}
 use Rattle.thread_local_model.proofs.Names.{types_at, plain, named_lft, nothing, heard, peeks, param, bounded, Stays}
 use Rattle.thread_local_model.proofs.Names.{stay_dropped, walk_of, Goes-dropped, proved, leaves, fm, Is, shows}
 use Rattle.thread_local_model.proofs.Names.{lands_as}
@@ -18,42 +18,31 @@ use Rattle.thread_local_ids.proofs.Markers.{token, told as right_told}
 use Rattle.thread_local_ids.proofs.right.Right.take_up.Met as taker_met
 use Rattle.thread_local_shared_buckets.specs.Claims.{claim_fields}
 use Rattle.thread_local_shared_buckets.specs.contracts.claimed.ClaimedSlot as claim
-use Rattle.thread_local_shared_buckets.specs.contracts.claimed.ClaimedSlot.give_up.{ended, clauses}
-use Rattle.thread_local_shared_buckets.specs.contracts.claimed.ClaimedSlot.give_up.Key.{name as #self}
+use Rattle.thread_local_shared_buckets.specs.contracts.claimed.ClaimedSlot.give_up.{ended, clauses, Key.name as #self}
 use Rattle.thread_local_shared_buckets.proofs.ClaimedFields.{kept_of, value_of, told, in_word, typed}
 use Rattle.thread_local_shared_buckets.proofs.Surrender.{surrenders}
 use Rattle.thread_local_shared_buckets.proofs.claimed.ClaimedSlot.give_up.Statement.{statement}
 use Rattle.thread_local_shared_buckets.proofs.claimed.ClaimedSlot.give_up.Code as code
+use Rattle.thread_local_model.proofs.Walking.{knows}
 
 pub give_up_spec : {M : Type 1} → statement M
 give_up_spec 𝓤 𝓛 𝓜 𝓡 wired X L =
-    let H = 𝓛.H in
-    let 𝓣 = tables 𝓤 H 𝓜 𝓡 𝓡.env in
-    let R : RattleType = param 0 X in
-    let En = ended X in
-    let c = clauses X 𝓛 𝓜.mem 𝓡.returns in
-    let inst = bounded (a_type ∷ []) (X, tt) dnil in
-    let fn = inst_fn inst code.function in
-    let closed = code.unfolded 𝓤 H 𝓜 𝓡 wired (X, tt) in
-    let self = plain (λ κs. claim.the_row (named_lft 2 0 tt κs) R) in
+    let R : RattleType = param 0 X in let En = ended X in let c = clauses X 𝓛 𝓜.mem 𝓡.returns in
+    let inst = bounded (a_type ∷ []) (X, tt) dnil in let fn = inst_fn inst code.function in
+    let closed = code.unfolded 𝓤 𝓛.H 𝓜 𝓡 wired (X, tt) in let self = plain (λ κs. claim.the_row (named_lft 2 0 tt κs) R) in
     let hs : Stays En.signature.params En.kept = (stay_dropped self no, tt) in
     let takes = triple_of 𝓛 taker.signature (taker.spec 𝓛 𝓜.mem 𝓡.returns) in
     proved 𝓛 En hs c 𝓜 𝓡 (Goes-dropped 𝓛 2 self no (λ κs x f. refl), tt) (#self inst) fn closed
     (λ κs. ((λ x. value_of (kept_of x) ∷ []), tt))
     (λ κs. ((λ x vs so. told (named_lft 2 0 tt κs) R (kept_of x) vs so.0), tt))
     (λ κs qs bounds a gh are.
-    let h = a.0 in
-    let β : Lft = κs.0 in
-    let q : Share = qs.0 in
-    let others : Fml = fsep (flft κs.1.0 qs.1.0) ftrue in
-    let ℓ = named_lft 2 0 tt κs in
-    let v : Val = value_of (kept_of h) in
+    let h = a.0 in let β : Lft = κs.0 in let q : Share = qs.0 in let others : Fml = fsep (flft κs.1.0 qs.1.0) ftrue in
+    let ℓ = named_lft 2 0 tt κs in let v : Val = value_of (kept_of h) in
     let y : (walk_of 𝓛 En hs c).Ghost = ((κs, qs, bounds, a, (v ∷ [], tt)), gh) in
-    let Post : Val → SProp 𝓤 = (walk_of 𝓛 En hs c).post y in
     qed 𝓛 (((‵ (flft β q) ⊛ ‵ others) ⊛ ‵ (owns (types_at En.signature.params κs) a y.0.4))
     ∷ raw ((c κs a).requires gh) ∷ []) ∵
     split ! $ split ! $ move ! (2 ∷ []) $ fsplit ! $ fsplit ! $ keep ! (1 ∷ 3 ∷ 4 ∷ []) $
-    enter ! 𝓣.C 𝓣.Λ fn (v ∷ []) Post $ alloc_all ! (λ l.
+    enter ! _ _ _ _ _ $ alloc_all ! (λ l.
     pass_all ! refl (typed (kept_of h) (in_word ℓ R (kept_of h) (v ∷ []) are.0.0), tt) $
     let Ev = env fn.locals l in
     -- [what the claim owns; the tokens]
@@ -79,7 +68,7 @@ give_up_spec 𝓤 𝓛 𝓜 𝓡 wired X L =
     move ! (1 ∷ []) $ pick ! (λ _. split ! $ drop ! $ heard ! (Given r) (λ same.
     rewrite ! 0 (λ (ws : List Val). ‵ (right.the_row.own_val r ws)) e refl $
     lands_as ! (ap only e) refl (tt, (tt, tt)) $
-    use0 𝓛 (raw (fact 𝓤 (Given r))) (fact_i 𝓤 (Given r) (emp 𝓤) same) $ nothing ! $ nothing ! $
+    knows ! (Given r) same $ nothing ! $ nothing ! $
     fjoin ! $
     returns ! (look_at ! 0 refl) $ free_all ! refl $ keep ! (3 ∷ 0 ∷ 2 ∷ 1 ∷ []) $
     by ! (leaves 𝓛 En hs c y token r (tt, tt) (tt, tt)))))))))

@@ -1,11 +1,11 @@
 -- `hold` joins the right with what a `&` to the bucket shows.
 use Rattle.thread_local_model.proofs.Names.{Option, ◌≡◌, ℕ, ◌^◌, List, [], ◌∷◌, refl, sym, ap, ◌∙◌, w64, a_type, named}
-use Rattle.thread_local_model.proofs.Names.{Val, vptr, vint, vunit, of_opd, inst_fn, SProp, emp, id⊢, Lft, Share, Fml}
+use Rattle.thread_local_model.proofs.Names.{Val, vptr, vint, vunit, of_opd, inst_fn, emp, id⊢, Lft, Share, Fml}
 use Rattle.thread_local_model.proofs.Names.{ftrue, fsep, flft, ‵, raw, ◌⊛◌, some, later, ◌$◌, ◌∵◌, !, qed, by, move}
 use Rattle.thread_local_model.proofs.Names.{keep, drop, split, join, fsplit, fjoin, fpick, fpack, pick, use0, use1}
 use Rattle.thread_local_model.proofs.Names.{await, rewrite, feq_l, stop, addr, no_more, and_then, returns, enter}
 use Rattle.thread_local_model.proofs.Names.{alloc_all, pass_all, free_all, look_at, get, through, sets, env, agg}
-use Rattle.thread_local_model.proofs.Names.{tables, fact, fact_i, yes, RattleType, owns, types_at, plain, named_lft}
+use Rattle.thread_local_model.proofs.Names.{fact, fact_i, yes, RattleType, owns, types_at, plain, named_lft}
 use Rattle.thread_local_model.proofs.Names.{Ptr, block_ptr, nothing, heard, unhide, param, bounded, RefOf, shr_vals}
 use Rattle.thread_local_model.proofs.Names.{shr_Tells, uint_vals, uint_Tells, Stays, stay_dropped, walk_of}
 use Rattle.thread_local_model.proofs.Names.{Goes-dropped, proved, leaves, fm, ◌<◌, lit<, lit, arith, dnil, lands_as}
@@ -25,54 +25,35 @@ use Rattle.thread_local_shared_buckets.specs.contracts.shared_bucket.SharedBucke
 use Rattle.thread_local_model.specs.Learnt.{Learnt, Unknown}
 use Rattle.thread_local_shared_buckets.specs.Claims.{ClaimFields, claim_fields, IsOf, IsKept, has_at}
 use Rattle.thread_local_shared_buckets.specs.contracts.claimed.ClaimedSlot as claim
-use Rattle.thread_local_shared_buckets.specs.contracts.claimed.ClaimedSlot.hold.{ended, clauses}
-use Rattle.thread_local_shared_buckets.specs.contracts.claimed.ClaimedSlot.hold.Key.{name as #self}
+use Rattle.thread_local_shared_buckets.specs.contracts.claimed.ClaimedSlot.hold.{ended, clauses, Key.name as #self}
 use Rattle.thread_local_shared_buckets.proofs.ClaimedFields.{Kept, value_of, FieldsType, fields_of, made, typed}
 use Rattle.thread_local_shared_buckets.proofs.claimed.ClaimedSlot.hold.Statement.{statement}
 use Rattle.thread_local_shared_buckets.proofs.claimed.ClaimedSlot.hold.Code as code
+use Rattle.thread_local_model.proofs.Walking.{knows}
 
 pub hold_spec : {M : Type 1} → statement M
 hold_spec 𝓤 𝓛 𝓜 𝓡 wired X L =
-    let H = 𝓛.H in
-    let 𝓣 = tables 𝓤 H 𝓜 𝓡 𝓡.env in
-    let R : RattleType = param 0 X in
-    let En = ended X in
-    let c = clauses X 𝓛 𝓜.mem 𝓡.returns in
-    let inst = bounded (a_type ∷ []) (X, tt) dnil in
-    let fn = inst_fn inst code.function in
-    let closed = code.unfolded 𝓤 H 𝓜 𝓡 wired (X, tt) in
-    let W : RattleType = one_bucket.the_row R in
-    let self = RefOf (0 ∷ []) tt (plain (λ _. W)) (λ _. tt) in
-    let number = plain (λ _. usize) in
+    let R : RattleType = param 0 X in let En = ended X in let c = clauses X 𝓛 𝓜.mem 𝓡.returns in
+    let inst = bounded (a_type ∷ []) (X, tt) dnil in let fn = inst_fn inst code.function in
+    let closed = code.unfolded 𝓤 𝓛.H 𝓜 𝓡 wired (X, tt) in let W : RattleType = one_bucket.the_row R in
+    let self = RefOf (0 ∷ []) tt (plain (λ _. W)) (λ _. tt) in let number = plain (λ _. usize) in
     let mine = plain (λ _. right.the_row) in
     let lays = triple_of 𝓛 layer.signature (layer.spec 𝓛 𝓜.mem 𝓡.returns) in
     let hs : Stays En.signature.params En.kept = (stay_dropped self yes, (stay_dropped number yes, (stay_dropped mine yes, tt))) in
     proved 𝓛 En hs c 𝓜 𝓡 (
       Goes-dropped 𝓛 2 self yes (λ κs x f. refl),
-      (
-        Goes-dropped 𝓛 2 number yes (λ κs x f. refl),
-        (Goes-dropped 𝓛 2 mine yes (λ κs x f. refl), tt),
-      ),
+      (Goes-dropped 𝓛 2 number yes (λ κs x f. refl), (Goes-dropped 𝓛 2 mine yes (λ κs x f. refl), tt)),
     )
     (#self inst) fn closed
     (λ κs. (shr_vals, (uint_vals w64, ((λ x. token ∷ []), tt))))
-    (λ κs. (
-      shr_Tells (named 0) κs.0 W,
-      (uint_Tells w64, ((λ x vs is. right_told (right.the_type).name vs is.0), tt)),
-    ))
+    (λ κs. (shr_Tells (named 0) κs.0 W, (uint_Tells w64, ((λ x vs is. right_told (right.the_type).name vs is.0), tt))))
     (λ κs qs bounds a gh are.
-    let b : ℕ = a.0.ref_ptr.0 in
-    let o : ℕ = a.0.ref_ptr.1 in
-    let κ : Lft = κs.0 in
-    let q : Share = qs.0 in
-    let d : BucketView = a.0.now in
-    let i : ℕ = a.1.0 in
-    let r = a.1.1.0 in
+    let b : ℕ = a.0.ref_ptr.0 in let o : ℕ = a.0.ref_ptr.1 in let κ : Lft = κs.0 in let q : Share = qs.0 in
+    let d : BucketView = a.0.now in let i : ℕ = a.1.0 in let r = a.1.1.0 in
     let others : Fml = fsep (flft κs.1.0 qs.1.0) ftrue in
     let ℓ = named_lft 2 0 tt κs in let G : RattleType = claim.the_row ℓ R in let p : Ptr = block_ptr b o in
     let y : (walk_of 𝓛 En hs c).Ghost =
     ((κs, qs, bounds, a, (vptr b o ∷ [], (vint w64 i ∷ [], (token ∷ [], tt)))), gh) in
-    let Post : Val → SProp 𝓤 = (walk_of 𝓛 En hs c).post y in
     qed 𝓛 (((‵ (flft κ q) ⊛ ‵ others) ⊛ ‵ (owns (types_at En.signature.params κs) a y.0.4))
     ∷ raw (fact 𝓤 _) ∷ raw (fact 𝓤 (r.table ≡ d.table)) ∷ raw (fact 𝓤 (r.id ≡ id_at d.bucket i))
     ∷ raw (fact 𝓤 (i < 2 ^ d.bucket)) ∷ []) ∵
@@ -80,7 +61,7 @@ hold_spec 𝓤 𝓛 𝓜 𝓡 wired X L =
     heard ! (r.id ≡ id_at d.bucket i) (λ is_id. heard ! (i < 2 ^ d.bucket) (λ near.
     split ! $ split ! $ move ! (2 ∷ []) $ fsplit ! $ fsplit ! $ drop ! $ move ! (1 ∷ []) $
     fsplit ! $ drop ! $ fsplit ! $ keep ! (0 ∷ 2 ∷ 3 ∷ 4 ∷ []) $
-    enter ! 𝓣.C 𝓣.Λ fn (vptr b o ∷ vint w64 i ∷ token ∷ []) Post $ alloc_all ! (λ l.
+    enter ! _ _ _ _ _ $ alloc_all ! (λ l.
     pass_all ! refl ((tt, tt), ((tt, record { fits = are.1.0.1 }), ((tt, (tt, tt)), tt))) $
     let Ev = env fn.locals l in
     -- [the right; what a `&` to the bucket shows; the tokens]
@@ -129,9 +110,8 @@ hold_spec 𝓤 𝓛 𝓜 𝓡 wired X L =
       reserved = d.reserved;
       learnt = no;
     } in
-    use0 𝓛 (raw (fact 𝓤 (h.reserved ≡ d.reserved)))
-    (fact_i 𝓤 (h.reserved ≡ d.reserved) (emp 𝓤) refl) $
-    use0 𝓛 (raw (fact 𝓤 (h.learnt ≡ Unknown))) (fact_i 𝓤 (h.learnt ≡ Unknown) (emp 𝓤) refl) $
+    knows ! (h.reserved ≡ d.reserved) refl $
+    knows ! (h.learnt ≡ Unknown) refl $
     join ! $
     use0 𝓛
     (raw (fact 𝓤 ((h.table ≡ r.table) × (◌≡◌ {A = Option ℕ} h.sharing d.sharing) × (h.id ≡ r.id)

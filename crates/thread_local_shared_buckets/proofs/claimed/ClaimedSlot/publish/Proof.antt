@@ -2,14 +2,14 @@
 -- then sets the flag.
 use Rattle.thread_local_model.proofs.Names.{bin, ◌≡◌, ℕ, ◌+◌, ◌^◌, List, [], ◌∷◌, ◌++◌, length, sym, refl, ap, subst}
 use Rattle.thread_local_model.proofs.Names.{lit<, w64, Option, Some, None, a_type, bare, Val, vint, inst_fn}
-use Rattle.thread_local_model.proofs.Names.{full_share, SProp, ent, wand, id⊢, emp, via, apply∗, Lft, Share, GName}
+use Rattle.thread_local_model.proofs.Names.{full_share, SProp, ent, id⊢, via, Lft, Share, GName}
 use Rattle.thread_local_model.proofs.Names.{Fml, ftrue, fsep, fat, froom, flft, fbor, fex, fobs, fauth, WpFn, ‵, raw}
-use Rattle.thread_local_model.proofs.Names.{◌⊛◌, given, some, later, mean, at_ret, ◌$◌, ◌∵◌, !, qed, by, move, keep}
+use Rattle.thread_local_model.proofs.Names.{◌⊛◌, given, later, mean, at_ret, ◌$◌, ◌∵◌, !, qed, by, move, keep}
 use Rattle.thread_local_model.proofs.Names.{drop, use0, use1, use2, await, split, split3, join, pick, fsplit, fsplit3}
 use Rattle.thread_local_model.proofs.Names.{fjoin, fjoin3, fpick, fpack, learn, group, suffices, rewrite, stop, fld}
 use Rattle.thread_local_model.proofs.Names.{lit, of_opd, no_more, and_then, first, blocks, exec, returns, enter, init}
 use Rattle.thread_local_model.proofs.Names.{assigns_last, alloc_all, pass_all, free_all, look_at, get, get_in, through}
-use Rattle.thread_local_model.proofs.Names.{sets, lands_last, is, env, agg, sub, whole, tables, fact, fact_i, no}
+use Rattle.thread_local_model.proofs.Names.{sets, lands_last, is, env, agg, sub, whole, tables, fact, no}
 use Rattle.thread_local_model.proofs.Names.{RattleType, owns, types_at, plain, Ptr, block_ptr, block_of, count_of}
 use Rattle.thread_local_model.proofs.Names.{uint_Tells, usize, yes, size_word, sets_last, ◌*◌, ◌∙◌, nothing, heard}
 use Rattle.thread_local_model.proofs.Names.{param, layout, param_laws, Stays, stay_dropped, walk_of, Goes-dropped}
@@ -20,7 +20,6 @@ use mir.Val.{vptr}
 use base.Fml.{fres, finv, Incl, Incl-trans}
 use base.Before.{before}
 use contract.BorrowLft.{meet_⊑_left, meet_⊑_right}
-use contract.Shared.{Lends-one}
 use ghost.Rules.{Toks}
 use types.Logic.{lfts}
 use types.Na.{before_dup}
@@ -46,28 +45,21 @@ use Rattle.thread_local_ids.specs.Told.{tells}
 use Rattle.thread_local_model.specs.Learnt.{Learnt, Vacant, Holding}
 use Rattle.thread_local_shared_buckets.specs.Claims.{ClaimFields, flag_word_of, claim_fields, IsOf, IsKept, value_at, has, has_slot, has_at}
 use Rattle.thread_local_shared_buckets.specs.contracts.claimed.ClaimedSlot as claim
-use Rattle.thread_local_shared_buckets.specs.contracts.claimed.ClaimedSlot.publish.{ended, clauses}
-use Rattle.thread_local_shared_buckets.specs.contracts.claimed.ClaimedSlot.publish.Key.{name as #self}
+use Rattle.thread_local_shared_buckets.specs.contracts.claimed.ClaimedSlot.publish.{ended, clauses, Key.name as #self}
 use Rattle.thread_local_shared_buckets.proofs.ClaimSteps as steps
 use Rattle.thread_local_shared_buckets.proofs.ClaimedFields.{Kept, kept_of, value_of, FieldsType, fields_of, told, in_word, made, typed}
 use Rattle.thread_local_shared_buckets.proofs.ClaimedFields.{number_in, distance, distance_fits, lies_ahead, leads_to_word, spaced}
 use Rattle.thread_local_shared_buckets.proofs.ClaimedFields.{spaced_is}
 use Rattle.thread_local_shared_buckets.proofs.claimed.ClaimedSlot.publish.Statement.{statement}
 use Rattle.thread_local_shared_buckets.proofs.claimed.ClaimedSlot.publish.Code as code
+use Rattle.thread_local_model.proofs.Walking.{knows, lends_token, returns_token}
 
 pub publish_spec : {M : Type 1} → statement M
 publish_spec 𝓤 𝓛 𝓜 𝓡 wired X L =
-    let H = 𝓛.H in
-    let 𝓣 = tables 𝓤 H 𝓜 𝓡 𝓡.env in
-    let R : RattleType = param 0 X in
-    let En = ended X in
-    let c = clauses X 𝓛 𝓜.mem 𝓡.returns in
-    let LR = param_laws 0 X L in
-    let inst = bounded (a_type ∷ []) (X, tt) dnil in
-    let fn = inst_fn inst code.function in
-    let closed = code.unfolded 𝓤 H 𝓜 𝓡 wired (X, tt) in
-    let self = plain (λ κs. claim.the_row (named_lft 2 0 tt κs) R) in
-    let number = plain (λ _. usize) in
+    let H = 𝓛.H in let 𝓣 = tables 𝓤 H 𝓜 𝓡 𝓡.env in let R : RattleType = param 0 X in let En = ended X in
+    let c = clauses X 𝓛 𝓜.mem 𝓡.returns in let LR = param_laws 0 X L in let inst = bounded (a_type ∷ []) (X, tt) dnil in
+    let fn = inst_fn inst code.function in let closed = code.unfolded 𝓤 H 𝓜 𝓡 wired (X, tt) in
+    let self = plain (λ κs. claim.the_row (named_lft 2 0 tt κs) R) in let number = plain (λ _. usize) in
     let value = plain (λ _. R) in
     let hs : Stays En.signature.params En.kept = (
       stay_dropped self no,
@@ -77,10 +69,7 @@ publish_spec 𝓤 𝓛 𝓜 𝓡 wired X L =
       Goes-dropped 𝓛 2 self no (λ κs x f. refl),
       (
         Goes-dropped 𝓛 2 number yes (λ κs x f. refl),
-        (
-          Goes-dropped 𝓛 2 number yes (λ κs x f. refl),
-          (Goes-dropped 𝓛 2 value no (λ κs x f. refl), tt),
-        ),
+        (Goes-dropped 𝓛 2 number yes (λ κs x f. refl), (Goes-dropped 𝓛 2 value no (λ κs x f. refl), tt)),
       ),
     )
     (#self inst) fn closed (λ y are.
@@ -88,17 +77,13 @@ publish_spec 𝓤 𝓛 𝓜 𝓡 wired X L =
     let qs = y.0.1 in
     let a = y.0.3 in
     let vss = y.0.4 in
-    let Post : Val → SProp 𝓤 = (walk_of 𝓛 En hs c).post y in
-    let h = a.0 in
+    let Post : Val → SProp 𝓤 = (walk_of 𝓛 En hs c).post y in let h = a.0 in
     let ix : ℕ = a.1.0 in
     let num : ℕ = a.1.1.0 in
     let x : X.Denot = a.1.1.1.0 in
-    let β : Lft = κs.0 in
-    let q : Share = qs.0 in
+    let β : Lft = κs.0 in let q : Share = qs.0 in
     let υ : Lft = κs.1.0 in
-    let r : Share = qs.1.0 in
-    let others : Fml = fsep (flft υ r) ftrue in
-    let ℓ = named_lft 2 0 tt κs in
+    let r : Share = qs.1.0 in let others : Fml = fsep (flft υ r) ftrue in let ℓ = named_lft 2 0 tt κs in
     let G : RattleType = claim.the_row ℓ R in
     let u₀ : Val = value_of (kept_of h) in
     let w : Ptr = h.bucket in
@@ -139,8 +124,7 @@ publish_spec 𝓤 𝓛 𝓜 𝓡 wired X L =
     -- [the value; what the claim owns; the token; the other tokens]
     move ! (1 ∷ []) $ fsplit ! $ drop ! $ fpick ! (λ z. fsplit ! $ fpick ! (λ of. drop ! $
     fsplit ! $ move ! (1 ∷ []) $
-    let d : BucketView = z.0 in
-    let t : Turn = z.1 in
+    let d : BucketView = z.0 in let t : Turn = z.1 in
     rewrite ! 0 (λ (k : Learnt X.Denot). ‵ (has R d t β pl k)) empty refl $ fpick ! (λ s. fsplit ! $
     fpick ! (λ leads. drop ! $ fsplit ! $ move ! (1 ∷ []) $ fsplit3 ! $
     let pb : ℕ = block_of s.at in
@@ -167,10 +151,7 @@ publish_spec 𝓤 𝓛 𝓜 𝓡 wired X L =
     -- [the row; before; which block it is; vacant; the name; the borrow; what is kept; the value;
     -- the token; the other tokens]
     move ! (1 ∷ 8 ∷ []) $
-    use2 𝓛 (later (some (λ (g : Share).
-    ‵ (flft life g) ⊛ raw (wand 𝓤 (𝓛.A.lft life g) (H.⇛ (𝓛.A.lft β q))))))
-    (Lends-one 𝓛 𝓜 𝓡 β life q) $
-    await ! tt $ pick ! (λ g. split ! $
+    lends_token ! 𝓜 𝓡 β life q $ await ! tt $ pick ! (λ g. split ! $
     -- [the block's token; the way back; the row; which block it is; vacant; the name; the borrow;
     -- what is kept; the value; the other tokens]
     move ! (6 ∷ 0 ∷ []) $ bor_open ! tt $ move ! (1 ∷ []) $ fpick ! (λ o. fsplit ! $ move ! (7 ∷ 1 ∷ []) $
@@ -245,7 +226,7 @@ publish_spec 𝓤 𝓛 𝓜 𝓡 wired X L =
     -- [the block's token; the other; for walkers; for the claim; nothing; what is known, twice; the
     -- way back; the row; which block it is; vacant; what is kept]
     move ! (0 ∷ 7 ∷ []) $
-    use2 𝓛 (later (‵ (flft β q))) (apply∗ 𝓤 (𝓛.A.lft life g) (H.⇛ (𝓛.A.lft β q))) $ await ! tt $
+    returns_token ! β life q g $ await ! tt $
     move ! (1 ∷ 4 ∷ []) $ fjoin ! $
     -- [the other tokens; the token; for walkers; for the claim; what is known, twice; the row;
     -- which block it is; vacant; what is kept]
@@ -256,10 +237,7 @@ publish_spec 𝓤 𝓛 𝓜 𝓡 wired X L =
     -- [what is kept; the invariant; before; what is offered; the other tokens; the token; for the
     -- claim; what is known; the row; which block it is]
     move ! (2 ∷ 5 ∷ []) $
-    use2 𝓛 (later (some (λ (g' : Share).
-    ‵ (flft t.life g') ⊛ raw (wand 𝓤 (𝓛.A.lft t.life g') (H.⇛ (𝓛.A.lft β q))))))
-    (Lends-one 𝓛 𝓜 𝓡 β t.life q) $
-    await ! tt $ pick ! (λ g'. split ! $
+    lends_token ! 𝓜 𝓡 β t.life q $ await ! tt $ pick ! (λ g'. split ! $
     let low = subst (λ (n : ℕ). i < n) (sym sized.0) of.4 in
     let out : Fml =
     fsep (flft t.life g') (fsep (right_owns t.filled h.id) (tells R d.sharing h.id (Some x))) in
@@ -286,7 +264,7 @@ publish_spec 𝓤 𝓛 𝓜 𝓡 wired X L =
     -- [the life's token; filled and what is told; the way back; what is kept; the other tokens; for the claim; what
     -- is known; the row]
     move ! (0 ∷ 2 ∷ []) $
-    use2 𝓛 (later (‵ (flft β q))) (apply∗ 𝓤 (𝓛.A.lft t.life g') (H.⇛ (𝓛.A.lft β q))) $ await ! tt $
+    returns_token ! β t.life q g' $ await ! tt $
     let k : Kept = record { at = slot_at; state = 2 } in let pl' : ClaimFields = claim_fields h.id i w slot_at h.sharing h.reserved in
     sets ! (of_opd ! (get ! refl)) refl (tt, tt) $
     sets ! (agg ! (no_more !)) refl (tt, tt) $
@@ -314,10 +292,9 @@ publish_spec 𝓤 𝓛 𝓜 𝓡 wired X L =
       reserved = h.reserved;
       learnt = Holding x;
     } in
-    use0 𝓛 (raw (fact 𝓤 (F₃ made_claim))) (fact_i 𝓤 (F₃ made_claim) (emp 𝓤) refl) $
-    use0 𝓛 (raw (fact 𝓤 (F₂ made_claim))) (fact_i 𝓤 (F₂ made_claim) (emp 𝓤) refl) $ join ! $
-    use0 𝓛 (raw (fact 𝓤 (F₁ made_claim)))
-    (fact_i 𝓤 (F₁ made_claim) (emp 𝓤) (refl, refl, refl, refl)) $
+    knows ! (F₃ made_claim) refl $
+    knows ! (F₂ made_claim) refl $ join ! $
+    knows ! (F₁ made_claim) (refl, refl, refl, refl) $
     join ! $
     nothing ! $ nothing ! $ fjoin ! $ nothing ! $ fjoin ! $ nothing ! $ fjoin ! $ nothing ! $
     fjoin ! $ returns ! (look_at ! 0 refl) $ free_all ! refl $ keep ! (3 ∷ 0 ∷ 2 ∷ 1 ∷ []) $

@@ -1,9 +1,9 @@
 -- `witness` copies what a `&` to the claim holds that is told of its id.
-use Rattle.thread_local_model.proofs.Names.{◌≡◌, ℕ, [], ◌∷◌, true, refl, Option, dnil, a_type, named, Val, vptr}
-use Rattle.thread_local_model.proofs.Names.{inst_fn, SProp, emp, Lft, Fml, ftrue, fsep, flft, ‵, raw, ◌⊛◌, ◌$◌, ◌∵◌, ! }
-use Rattle.thread_local_model.proofs.Names.{qed, by, move, keep, drop, split, join, fsplit, fjoin, use0, use1, rewrite}
+use Rattle.thread_local_model.proofs.Names.{◌≡◌, ℕ, [], ◌∷◌, true, refl, Option, dnil, a_type, named, vptr}
+use Rattle.thread_local_model.proofs.Names.{inst_fn, Lft, Fml, ftrue, fsep, flft, ‵, raw, ◌⊛◌, ◌$◌, ◌∵◌, !}
+use Rattle.thread_local_model.proofs.Names.{qed, by, move, keep, drop, split, join, fsplit, fjoin, use1, rewrite}
 use Rattle.thread_local_model.proofs.Names.{no_more, and_then, returns, enter, alloc_all, pass_all, free_all, look_at}
-use Rattle.thread_local_model.proofs.Names.{get, sets, agg, tables, fact, fact_i, yes, RattleType, owns, types_at}
+use Rattle.thread_local_model.proofs.Names.{get, sets, agg, fact, yes, RattleType, owns, types_at}
 use Rattle.thread_local_model.proofs.Names.{named_lft, nothing, heard, param, bounded, shr_vals, shr_Tells, Stays}
 use Rattle.thread_local_model.proofs.Names.{stay_dropped, walk_of, Goes-dropped, proved, leaves, is_some}
 use Rattle.thread_local_model.specs.Learnt.{Learnt, Holding}
@@ -12,37 +12,25 @@ use Rattle.thread_local_ids.proofs.Made.{token_val, witness_made}
 use Rattle.thread_local_shared_buckets.specs.Known.{value_held}
 use Rattle.thread_local_shared_buckets.proofs.Learning.{holding}
 use Rattle.thread_local_shared_buckets.specs.Claims.{ClaimFields, claim_fields, shows_value}
-use Rattle.thread_local_shared_buckets.specs.contracts.claimed.ClaimedSlot.witness.{ended, clauses}
-use Rattle.thread_local_shared_buckets.specs.contracts.claimed.ClaimedSlot.witness.Key.{name as #self}
+use Rattle.thread_local_shared_buckets.specs.contracts.claimed.ClaimedSlot.witness.{ended, clauses, Key.name as #self}
 use Rattle.thread_local_shared_buckets.proofs.ClaimedFields.{claim_at, claim_ref, splits_ref}
 use Rattle.thread_local_shared_buckets.proofs.claimed.ClaimedSlot.witness.Statement.{statement}
 use Rattle.thread_local_shared_buckets.proofs.claimed.ClaimedSlot.witness.Code as code
+use Rattle.thread_local_model.proofs.Walking.{knows}
 
 pub witness_spec : {M : Type 1} → statement M
 witness_spec 𝓤 𝓛 𝓜 𝓡 wired X L =
-    let H = 𝓛.H in
-    let 𝓣 = tables 𝓤 H 𝓜 𝓡 𝓡.env in
-    let R : RattleType = param 0 X in
-    let En = ended X in
-    let c = clauses X 𝓛 𝓜.mem 𝓡.returns in
-    let S : RattleType = Witness.the_row R in
-    let inst = bounded (a_type ∷ []) (X, tt) dnil in
-    let fn = inst_fn inst code.function in
-    let closed = code.unfolded 𝓤 H 𝓜 𝓡 wired (X, tt) in
+    let R : RattleType = param 0 X in let En = ended X in let c = clauses X 𝓛 𝓜.mem 𝓡.returns in
+    let S : RattleType = Witness.the_row R in let inst = bounded (a_type ∷ []) (X, tt) dnil in
+    let fn = inst_fn inst code.function in let closed = code.unfolded 𝓤 𝓛.H 𝓜 𝓡 wired (X, tt) in
     let self = claim_ref R in let hs : Stays En.signature.params En.kept = (stay_dropped self yes, tt) in
     proved 𝓛 En hs c 𝓜 𝓡 (Goes-dropped 𝓛 3 self yes (λ κs x f. refl), tt) (#self inst) fn closed
     (λ κs. (shr_vals, tt)) (λ κs. (shr_Tells (named 0) κs.0 ((claim_at R).row κs), tt)) (λ κs qs bounds a gh are.
-    let ℓ = named_lft 3 1 tt κs in
-    let b : ℕ = a.0.ref_ptr.0 in
-    let o : ℕ = a.0.ref_ptr.1 in
-    let κ : Lft = κs.0 in
-    let β : Lft = κs.1.0 in
-    let h = a.0.now in
-    let l₀ : Learnt X.Denot = h.learnt in
+    let ℓ = named_lft 3 1 tt κs in let b : ℕ = a.0.ref_ptr.0 in let o : ℕ = a.0.ref_ptr.1 in let κ : Lft = κs.0 in
+    let β : Lft = κs.1.0 in let h = a.0.now in let l₀ : Learnt X.Denot = h.learnt in
     let f : ClaimFields = claim_fields h.id h.index h.bucket h.at h.sharing h.reserved in
     let others : Fml = fsep (flft β qs.1.0) (fsep (flft κs.1.1.0 qs.1.1.0) ftrue) in
     let y : (walk_of 𝓛 En hs c).Ghost = ((κs, qs, bounds, a, (vptr b o ∷ [], tt)), gh) in
-    let Post : Val → SProp 𝓤 = (walk_of 𝓛 En hs c).post y in
     let Asked : Type 0 = is_some (value_held l₀) ≡ true in
     qed 𝓛 (((‵ (flft κ qs.0) ⊛ ‵ others) ⊛ ‵ (owns (types_at En.signature.params κs) a y.0.4))
     ∷ raw (fact 𝓤 _) ∷ raw (fact 𝓤 Asked) ∷ []) ∵
@@ -51,7 +39,7 @@ witness_spec 𝓤 𝓛 𝓜 𝓡 wired X L =
     let x : X.Denot = held.0 in
     let r : S.Denot = record { marker = record {}; sharing = h.sharing; id = h.id; value = x } in
     split ! $ split ! $ move ! (2 ∷ []) $ fsplit ! $ fsplit ! $ keep ! (1 ∷ 3 ∷ 4 ∷ []) $
-    enter ! 𝓣.C 𝓣.Λ fn (vptr b o ∷ []) Post $ alloc_all ! (λ l. pass_all ! refl ((tt, tt), tt) $
+    enter ! _ _ _ _ _ $ alloc_all ! (λ l. pass_all ! refl ((tt, tt), tt) $
     splits_ref ! ℓ R κ h b o $ drop ! $
     rewrite ! 0 (λ (u : Learnt X.Denot). ‵ (shows_value R β f (value_held u) κ)) held.1 refl $
     fsplit ! $ drop ! $ fsplit ! $ drop ! $ fsplit ! $ drop ! $
@@ -62,8 +50,8 @@ witness_spec 𝓤 𝓛 𝓜 𝓡 wired X L =
     move ! (2 ∷ 3 ∷ []) $ join ! $ move ! (1 ∷ []) $
     let Value : Type 0 = l₀ ≡ Holding x in
     let At : Type 0 = (◌≡◌ {A = Option ℕ} h.sharing h.sharing) × (h.id ≡ h.id) in
-    use0 𝓛 (raw (fact 𝓤 Value)) (fact_i 𝓤 Value (emp 𝓤) held.1) $
-    use0 𝓛 (raw (fact 𝓤 At)) (fact_i 𝓤 At (emp 𝓤) (refl, refl)) $ join ! $ nothing ! $ nothing ! $
+    knows ! Value held.1 $
+    knows ! At (refl, refl) $ join ! $ nothing ! $ nothing ! $
     fjoin ! $
     returns ! (look_at ! 0 refl) $ free_all ! refl $ keep ! (3 ∷ 0 ∷ 2 ∷ 1 ∷ []) $
     by ! (leaves 𝓛 En hs c y token_val r (tt, tt) (tt, tt)))))

@@ -2,11 +2,11 @@
 -- is set.
 use Rattle.thread_local_model.proofs.Names.{◌≡◌, ℕ, ◌+◌, ◌*◌, ◌^◌, ◌<◌, List, [], ◌∷◌, length, refl, sym, ap, ◌∙◌}
 use Rattle.thread_local_model.proofs.Names.{subst, arith, lit<, w64, a_type, named, Val, vint, vptr}
-use Rattle.thread_local_model.proofs.Names.{inst_fn, SProp, ent, sep, wand, via, apply∗, Lft, Share, Fml, ftrue}
-use Rattle.thread_local_model.proofs.Names.{fsep, flft, fbor, sem, ‵, raw, ◌⊛◌, some, later, mean, at_ret, ◌$◌}
+use Rattle.thread_local_model.proofs.Names.{inst_fn, SProp, ent, sep, via, Lft, Share, Fml, ftrue}
+use Rattle.thread_local_model.proofs.Names.{fsep, flft, fbor, sem, ‵, raw, ◌⊛◌, mean, at_ret, ◌$◌}
 use Rattle.thread_local_model.proofs.Names.{◌∵◌, !, qed, by, move, keep, drop, split, split3, join, fsplit, fsplit3}
-use Rattle.thread_local_model.proofs.Names.{fjoin, fjoin3, fpack, fpick, pick, use0, use1, use2, use3, await, rewrite, stop}
-use Rattle.thread_local_model.proofs.Names.{emp, fact_i, fld, load, lit, size_word, of_opd, bin, no_more, and_then, first}
+use Rattle.thread_local_model.proofs.Names.{fjoin, fjoin3, fpack, fpick, pick, use0, use1, use3, await, rewrite, stop}
+use Rattle.thread_local_model.proofs.Names.{fld, load, lit, size_word, of_opd, bin, no_more, and_then, first}
 use Rattle.thread_local_model.proofs.Names.{blocks, exec, returns, enter, alloc_all, pass_all, free_all}
 use Rattle.thread_local_model.proofs.Names.{look_at, get, through, sets, sets_last, lands_last, env, is, agg, sub}
 use Rattle.thread_local_model.proofs.Names.{look_in, whole, tables, fact, yes, RattleType, owns, types_at, plain}
@@ -17,7 +17,6 @@ use Rattle.thread_local_model.proofs.Names.{Goes-dropped, proved, leaves, fm, af
 use Rattle.std.proofs.Common.{◌≤◌, pow_mono, le_of_lt, true}
 use base.Fml.{fres, fhide, fall}
 use types.Run.{Calls-last}
-use contract.Shared.{Lends-one}
 use denote.Signature.{named_lft}
 use denote.Steps.{looks, shuts}
 use denote.Memory.{hidden_shr, shared_of}
@@ -44,25 +43,18 @@ use Rattle.thread_local_shared_buckets.proofs.SeenFields as seen
 use Rattle.thread_local_shared_buckets.proofs.SeenFields.{seen_val, seen_good}
 use Rattle.thread_local_shared_buckets.specs.contracts.seen.Seen as Seen
 use Rattle.thread_local_shared_buckets.specs.contracts.row.Row as Row
-use Rattle.thread_local_shared_buckets.specs.contracts.row.Row.look.{ended, clauses}
-use Rattle.thread_local_shared_buckets.specs.contracts.row.Row.look.Key.{name as #self}
+use Rattle.thread_local_shared_buckets.specs.contracts.row.Row.look.{ended, clauses, Key.name as #self}
 use Rattle.thread_local_shared_buckets.proofs.RowFields.{row_val, FieldsType, told, opened}
 use Rattle.thread_local_shared_buckets.proofs.row.Row.look.Statement.{statement}
 use Rattle.thread_local_shared_buckets.proofs.row.Row.look.Code as code
+use Rattle.thread_local_model.proofs.Walking.{knows, lends_token, returns_token}
 
 pub look_spec : {M : Type 1} → statement M
 look_spec {M} 𝓤 𝓛 𝓜 𝓡 wired T L =
-    let H = 𝓛.H in
-    let 𝓣 = tables 𝓤 H 𝓜 𝓡 𝓡.env in
-    let R : RattleType = param 0 T in
-    let LR = param_laws 0 T L in
-    let En = ended T in
-    let c = clauses T 𝓛 𝓜.mem 𝓡.returns in
-    let inst = layouts (a_type ∷ []) (T, tt) in
-    let fn = inst_fn inst code.function in
-    let row = plain (λ κs. Row.the_row (named_lft 4 1 tt κs) R) in
-    let self = RefOf (0 ∷ []) tt row (λ _. tt) in
-    let number = plain (λ _. usize) in
+    let H = 𝓛.H in let 𝓣 = tables 𝓤 H 𝓜 𝓡 𝓡.env in let R : RattleType = param 0 T in let LR = param_laws 0 T L in
+    let En = ended T in let c = clauses T 𝓛 𝓜.mem 𝓡.returns in let inst = layouts (a_type ∷ []) (T, tt) in
+    let fn = inst_fn inst code.function in let row = plain (λ κs. Row.the_row (named_lft 4 1 tt κs) R) in
+    let self = RefOf (0 ∷ []) tt row (λ _. tt) in let number = plain (λ _. usize) in
     let goes = Goes-dropped 𝓛 4 number yes (λ κs x f. refl) in
     let tolds = RefOf (2 ∷ []) tt (plain (λ _. TokenList.the_row R)) (λ _. tt) in
     let hs : Stays En.signature.params En.kept =
@@ -76,16 +68,9 @@ look_spec {M} 𝓤 𝓛 𝓜 𝓡 wired T L =
       (uint_Tells w64, (uint_Tells w64, (shr_Tells (named 2) κs.1.1.0 (TokenList.the_row R), tt))),
     ))
     (λ κs qs bounds a gh are.
-    let ℓ = named_lft 4 1 tt κs in
-    let D : RattleType = FieldsType ℓ R in
-    let b : ℕ = a.0.ref_ptr.0 in
-    let o : ℕ = a.0.ref_ptr.1 in
-    let κ : Lft = κs.0 in
-    let β : Lft = κs.1.0 in
-    let q : Share = qs.1.0 in
-    let h = a.0.now in
-    let p : Ptr = h.at in
-    let d : BucketView = h.of in
+    let ℓ = named_lft 4 1 tt κs in let D : RattleType = FieldsType ℓ R in let b : ℕ = a.0.ref_ptr.0 in
+    let o : ℕ = a.0.ref_ptr.1 in let κ : Lft = κs.0 in let β : Lft = κs.1.0 in let q : Share = qs.1.0 in let h = a.0.now in
+    let p : Ptr = h.at in let d : BucketView = h.of in
     let c₀ : ℕ = a.1.0 in
     let k : ℕ = a.1.1.0 in
     let many : ℕ = 2 ^ d.bucket in
@@ -93,8 +78,7 @@ look_spec {M} 𝓤 𝓛 𝓜 𝓡 wired T L =
     let ts : List (TokenView R.Denot) = a.1.1.1.0.now.tokens in
     let pt : Val = vptr a.1.1.1.0.ref_ptr.0 a.1.1.1.0.ref_ptr.1 in
     let pb : ℕ = block_of p in
-    let w : ℕ = word_offset R many (count_of p) c₀ in
-    let G : RattleType = Seen.the_row ℓ R in
+    let w : ℕ = word_offset R many (count_of p) c₀ in let G : RattleType = Seen.the_row ℓ R in
     let Of : G.Denot → Type 0 = λ s. (◌≡◌ {A = BucketView} s.of d) × (◌≡◌ {A = List ℕ} s.names h.names) × (s.chunk ≡ c₀) in
     let Inside : G.Denot → Type 0 = λ s.
     (bit : ℕ) → bit < 64 → is_set s.flags bit ≡ true → c₀ * 64 + bit < many in
@@ -115,7 +99,7 @@ look_spec {M} 𝓤 𝓛 𝓜 𝓡 wired T L =
     fsplit3 ! $ move ! (2 ∷ []) $ fsplit3 ! $ move ! (1 ∷ []) $ fsplit ! $ move ! (4 ∷ []) $ fsplit ! $
     keep ! (3 ∷ 1 ∷ 7 ∷ 8 ∷ 9 ∷ []) $ unhide ! $ fsplit ! $ drop ! $ move ! (1 ∷ 2 ∷ 3 ∷ 4 ∷ []) $
     -- [the `&`; κ's token; β's; the others; what the tokens tell]
-    enter ! 𝓣.C 𝓣.Λ fn (vptr b o ∷ vint w64 c₀ ∷ vint w64 k ∷ pt ∷ []) Post $ alloc_all ! (λ l.
+    enter ! _ _ _ _ _ $ alloc_all ! (λ l.
     pass_all ! refl
     ((tt, tt), ((tt, record { fits = are.1.0.1 }), ((tt, record { fits = are.1.1.0.1 }), ((tt, tt), tt)))) $
     let Ev = env fn.locals l in
@@ -143,10 +127,7 @@ look_spec {M} 𝓤 𝓛 𝓜 𝓡 wired T L =
     let at_b : block_of sd.at ≡ pb = ap block_of so.0 in
     let Copies : ℕ → Fml = steps.copies 𝓛 R LR shareable d t z.2 z.3 sd pb at_b c₀ near ts in
     move ! (2 ∷ 6 ∷ []) $
-    use2 𝓛 (later (some (λ (s : Share).
-    ‵ (flft t.life s) ⊛ raw (wand 𝓤 (𝓛.A.lft t.life s) (H.⇛ (𝓛.A.lft β q))))))
-    (Lends-one 𝓛 𝓜 𝓡 β t.life q) $
-    await ! tt $ pick ! (λ s. split ! $
+    lends_token ! 𝓜 𝓡 β t.life q $ await ! tt $ pick ! (λ s. split ! $
     -- [the life's token; the way back; which; before the block's own; the invariant; the fields;
     -- κ's token; the others]
     move ! (5 ∷ 6 ∷ []) $
@@ -196,7 +177,7 @@ look_spec {M} 𝓤 𝓛 𝓜 𝓡 wired T L =
     exec ! 𝓣.C 𝓣.Λ Ev (after 7 fn.body) (at_ret Ev Post) $
     sets ! (of_opd ! (get ! refl)) refl (tt, record { fits = fits }) $
     fsplit ! $ move ! (0 ∷ 4 ∷ []) $
-    use2 𝓛 (later (‵ (flft β q))) (apply∗ 𝓤 (𝓛.A.lft t.life s) (H.⇛ (𝓛.A.lft β q))) $ await ! tt $
+    returns_token ! β t.life q s $ await ! tt $
     -- [β's token; what was seen; κ's token; the fields; before the block's own; the others]
     move ! (0 ∷ 5 ∷ []) $ join ! $ move ! (2 ∷ 0 ∷ []) $ join ! $
     -- [the tokens; the copies; the fields; before the block's own]
@@ -222,12 +203,10 @@ look_spec {M} 𝓤 𝓛 𝓜 𝓡 wired T L =
     fjoin ! $
     let r : G.Denot = record { values = values; flags = n; marker = record {}; of = d; names = h.names; chunk = c₀; at = p } in
     let v : Val = seen_val values n in
-    use0 𝓛 (raw (fact 𝓤 (Tells r)))
-    (fact_i 𝓤 (Tells r) (emp 𝓤) (λ name i x low same bit small inside at.
-    bit_set_at ns c₀ n bit are.0 small (are.2 (c₀ * 64 + bit) inside name i x low same (omega (arith, at))))) $
-    use0 𝓛 (raw (fact 𝓤 (Inside r)))
-    (fact_i 𝓤 (Inside r) (emp 𝓤) (λ bit small set. set_inside R many c₀ n bit ns are.0 are.1 small set)) $
-    join ! $ use0 𝓛 (raw (fact 𝓤 (Of r))) (fact_i 𝓤 (Of r) (emp 𝓤) (refl, refl, refl)) $ join ! $
+    knows ! (Tells r) (λ name i x low same bit small inside at.
+    bit_set_at ns c₀ n bit are.0 small (are.2 (c₀ * 64 + bit) inside name i x low same (omega (arith, at)))) $
+    knows ! (Inside r) (λ bit small set. set_inside R many c₀ n bit ns are.0 are.1 small set) $
+    join ! $ knows ! (Of r) (refl, refl, refl) $ join ! $
     nothing ! $ nothing ! $ fjoin ! $ nothing ! $ fjoin ! $ nothing ! $ fjoin ! $ nothing ! $ fjoin ! $
     returns ! (look_at ! 0 refl) $ free_all ! refl $ keep ! (3 ∷ 0 ∷ 2 ∷ 1 ∷ []) $
     by ! (leaves 𝓛 En hs c y v r (tt, (tt, (tt, (tt, tt)))) (tt, (tt, (tt, (tt, tt)))))))))))))))))))))

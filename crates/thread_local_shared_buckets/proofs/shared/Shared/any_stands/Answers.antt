@@ -1,11 +1,8 @@
-use Rattle.std.proofs.Common.{◌≡◌, ℕ, ◌+◌, ◌<◌, ◌≤◌, false, Option, None, Some, is_some, refl, sym, ◌∙◌, subst, arith, ⊎_elim}
+use Rattle.std.proofs.Common.{◌≡◌, ℕ, ◌+◌, ◌<◌, ◌≤◌, sym, ◌∙◌, subst, arith, ⊎_elim}
 use Rattle.std.proofs.lemmas.Bool.{cases_lt, or_parts}
 use Rattle.thread_local_ids.specs.TokenLists.{NoneIn}
 use Rattle.thread_local_shared_buckets.proofs.shared.Shared.any_stands.Goals as goal
-
-is_none : {A : Type 0} (o : Option A) → is_some o ≡ false → o ≡ None
-is_none None e = refl
-is_none (Some x) e = cc
+use Rattle.thread_local_model.proofs.TakingLaws.{shows_none}
 
 pub loop-at-preserved : goal.loop-at-preserved
 loop-at-preserved g c = λ none bucket low high.
@@ -14,7 +11,7 @@ loop-at-preserved g c = λ none bucket low high.
     (λ (past : c.args.first + c.loop-at.at ≤ bucket).
     let same : c.args.first + c.loop-at.at ≡ bucket = omega arith in
     subst (λ (b : ℕ). NoneIn c.args.self.now.sharing b c.args.told.now.tokens) same
-    (c.load.ensures.told (is_none c.load.result (sym c.is_some-any.ensures ∙ both.1))))
+    (c.load.ensures.told (shows_none c.load.result (sym c.is_some-any.ensures ∙ both.1))))
     (cases_lt bucket (c.args.first + c.loop-at.at))
 
 pub returns : goal.returns

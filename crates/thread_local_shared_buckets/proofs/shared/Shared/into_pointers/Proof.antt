@@ -3,16 +3,15 @@ use Rattle.std.proofs.Common.{◌≡◌, List, [], ◌∷◌, ◌++◌, refl, sy
 use mir.Syntax.{a_type}
 use mir.Val.{Val, vint, vstruct, vcons, vnil, of_list, has_ty}
 use mir.MapTy.{inst_fn}
-use base.Logic.{SProp, ent, emp, id⊢}
+use base.Logic.{SProp, ent, id⊢}
 use base.Fml.{ftrue, fsep}
 use prog.Wp.{WpFn}
-use types.Kit.{‵, raw, ◌⊛◌, some, given, later, ◌$◌, ◌∵◌, !, qed, by, move, keep, use0, use1, split, join, fsplit}
+use types.Kit.{‵, raw, ◌⊛◌, some, given, later, ◌$◌, ◌∵◌, !, qed, by, move, keep, use1, split, join, fsplit}
 use types.Kit.{fjoin, pick, learn, await, rewrite, suffices}
 use types.Run.{stop, fld, of_opd, no_more, and_then, returns, enter}
 use types.ByLocal.{alloc_all, pass_all, free_all, look_at, get, get_in, sets}
 use types.Part.{agg, sub, whole}
 use contract.Running.{tables}
-use contract.Monad.{fact, fact_i}
 use denote.Exit.{no}
 use denote.RattleType.{RattleType}
 use denote.Signature.{plain}
@@ -35,30 +34,24 @@ use denote.Struct.Tuple.{Tuple}
 use Rattle.thread_local_bucket_pointers.proofs.bucket_pointers.BucketPointers.TheLaws as pointers'
 use Rattle.thread_local_shared_buckets.specs.TableView.{TableView}
 use Rattle.thread_local_shared_buckets.specs.contracts.shared.Shared as shared
-use Rattle.thread_local_shared_buckets.specs.contracts.shared.Shared.into_pointers.{ended, clauses}
-use Rattle.thread_local_shared_buckets.specs.contracts.shared.Shared.into_pointers.Key.{name as #self}
+use Rattle.thread_local_shared_buckets.specs.contracts.shared.Shared.into_pointers.{ended, clauses, Key.name as #self}
 use Rattle.thread_local_shared_buckets.proofs.Turned.{takes_pointers}
 use Rattle.thread_local_shared_buckets.proofs.shared.Shared.into_pointers.Statement.{statement}
 use Rattle.thread_local_shared_buckets.proofs.shared.Shared.into_pointers.Code as code
+use Rattle.thread_local_model.proofs.Walking.{knows}
 
 pub into_pointers_spec : {M : Type 1} → statement M
 into_pointers_spec 𝓤 𝓛 𝓜 𝓡 wired T L =
-    let H = 𝓛.H in
-    let 𝓣 = tables 𝓤 H 𝓜 𝓡 𝓡.env in
-    let R : RattleType = param 0 T in
-    let LR : Laws R = param_laws 0 T L in
+    let 𝓣 = tables 𝓤 𝓛.H 𝓜 𝓡 𝓡.env in let R : RattleType = param 0 T in let LR : Laws R = param_laws 0 T L in
     let Sh : RattleType = shared.the_row R in
     let Ws : RattleType = all_pointers.the_row R in
     let Bk : RattleType = Book.the_row R in
     let Pair : RattleType = Tuple (Ws ∷ Bk ∷ []) in
-    let En = ended T in
-    let c = clauses T 𝓛 𝓜.mem 𝓡.returns in
-    let inst = layouts (a_type ∷ []) (T, tt) in
-    let fn = inst_fn inst code.function in
-    let self = plain (λ _. Sh) in
+    let En = ended T in let c = clauses T 𝓛 𝓜.mem 𝓡.returns in let inst = layouts (a_type ∷ []) (T, tt) in
+    let fn = inst_fn inst code.function in let self = plain (λ _. Sh) in
     let hs : Stays En.signature.params En.kept = (stay_dropped self no, tt) in
     proved_at 𝓛 En hs c 𝓜 𝓡 (Goes-dropped 𝓛 1 self no (λ κs x f. refl), tt) (#self inst) fn
-    (code.unfolded 𝓤 H 𝓜 𝓡 wired (T, tt)) (λ z are.
+    (code.unfolded 𝓤 𝓛.H 𝓜 𝓡 wired (T, tt)) (λ z are.
     let s : TableView = z.0.3.0 in
     let vs : List Val = z.0.4.0 in
     let known = are.0.1 in
@@ -71,7 +64,7 @@ into_pointers_spec 𝓤 𝓛 𝓜 𝓡 wired T L =
     fields.1.0 ∙ (λ i. vstruct (of_list (there.1.0 i ++ (fields.1.1.1.0.0 i ++ []))) ∷ []) in
     let typed : Typed Sh.mir (V ∷ []) = subst (Typed Sh.mir) whole_is are.0.0.0 in
     let Post : Val → SProp 𝓤 = (walk_of 𝓛 En hs c).post z in
-    let Run : List Val → SProp 𝓤 = λ ws. WpFn 𝓤 H 𝓣.C 𝓣.Λ fn ws Post in
+    let Run : List Val → SProp 𝓤 = λ ws. WpFn 𝓤 𝓛.H 𝓣.C 𝓣.Λ fn ws Post in
     let Owned : Ws.Denot → Type 0 = λ w. IsOwned (record { contents = w; reserved = s.reserved }) in
     qed 𝓛 ((raw (alive 𝓛 En.signature z.0.0 z.0.1) ⊛ ‵ (fsep (Sh.own_val s vs) ftrue))
     ∷ raw ((c z.0.0 z.0.3).requires z.1) ∷ []) ∵
@@ -79,7 +72,7 @@ into_pointers_spec 𝓤 𝓛 𝓜 𝓡 wired T L =
     rewrite ! 0 (λ (ws : List Val). ‵ (Sh.own_val s ws)) whole_is refl $
     suffices ! (Run (V ∷ [])) (subst (λ (ws : List Val). ent 𝓤 (Run (V ∷ [])) (Run ws))
     (sym (λ i. whole_is i ++ [])) (id⊢ 𝓤 (Run (V ∷ [])))) $
-    enter ! 𝓣.C 𝓣.Λ fn (V ∷ []) Post $ alloc_all ! (λ l. pass_all ! refl (typed.0, tt) $
+    enter ! _ _ _ _ _ $ alloc_all ! (λ l. pass_all ! refl (typed.0, tt) $
     use1 𝓛 (later (some (λ (w : Ws.Denot).
     given (Owned w) (‵ (Ws.own_val w (v ∷ [])) ⊛ ‵ (book_owns R s.sharing w)))))
     (takes_pointers 𝓛 R LR s v u) $
@@ -98,8 +91,8 @@ into_pointers_spec 𝓤 𝓛 𝓜 𝓡 wired T L =
     sets ! (agg ! (and_then ! (get ! refl) (and_then ! (get ! refl) (no_more !)))) refl both_fine $
     move ! (1 ∷ 0 ∷ []) $ pair_in Ws Bk ! w r v token_val $
     let Alike : Type 0 = (r.sharing ≡ s.sharing) × (r.contents ≡ w) in
-    use0 𝓛 (raw (fact 𝓤 Alike)) (fact_i 𝓤 Alike (emp 𝓤) (refl, refl)) $
-    use0 𝓛 (raw (fact 𝓤 (Owned w))) (fact_i 𝓤 (Owned w) (emp 𝓤) owned) $ join ! $
+    knows ! Alike (refl, refl) $
+    knows ! (Owned w) owned $ join ! $
     nothing ! $ nothing ! $ fjoin ! $
     -- [nothing; the facts; what comes out; the tokens]
     returns ! (look_at ! 0 refl) $ free_all ! refl $ keep ! (3 ∷ 0 ∷ 2 ∷ 1 ∷ []) $

@@ -4,7 +4,7 @@ use Rattle.std.proofs.Common.{Bool, Option, Some, IsSome, ◌≢◌, ◌≡◌, 
 use mir.Syntax.{a_type, named}
 use mir.Val.{Val, vint, vptr, has_ty}
 use mir.MapTy.{inst_fn}
-use base.Logic.{SProp, ent, emp, id⊢, via}
+use base.Logic.{SProp, ent, id⊢, via}
 use base.Fml.{GName}
 use types.Owned.{basic}
 use prog.Wp.{WpFn}
@@ -14,7 +14,7 @@ use types.Run.{of_opd, no_more, and_then, returns, enter}
 use types.ByLocal.{alloc_all, pass_all, free_all, look_at, get, sets}
 use types.Part.{agg}
 use contract.Running.{tables}
-use contract.Monad.{fact, fact_i}
+use contract.Monad.{fact}
 use denote.Exit.{yes, no}
 use denote.RattleType.{RattleType, owns}
 use denote.Signature.{types_at, plain}
@@ -40,37 +40,27 @@ use Rattle.thread_local_bucket_pointers.proofs.bucket_pointers.BucketPointers.Th
 use Rattle.thread_local_shared_buckets.specs.TableView.{TableView}
 use Rattle.thread_local_shared_buckets.specs.Grown.{only_reserved}
 use Rattle.thread_local_shared_buckets.specs.contracts.shared.Shared as shared
-use Rattle.thread_local_shared_buckets.specs.contracts.shared.Shared.of.{ended, clauses}
-use Rattle.thread_local_shared_buckets.specs.contracts.shared.Shared.of.Key.{name as #self}
+use Rattle.thread_local_shared_buckets.specs.contracts.shared.Shared.of.{ended, clauses, Key.name as #self}
 use Rattle.thread_local_shared_buckets.proofs.Turned.{pair_val, makes_shared}
 use Rattle.thread_local_shared_buckets.proofs.shared.Shared.of.Statement.{statement}
 use Rattle.thread_local_shared_buckets.proofs.shared.Shared.of.Code as code
+use Rattle.thread_local_model.proofs.Walking.{knows}
 
 pub of_spec : {M : Type 1} → statement M
 of_spec 𝓤 𝓛 𝓜 𝓡 wired T L =
-    let H = 𝓛.H in
-    let 𝓣 = tables 𝓤 H 𝓜 𝓡 𝓡.env in
-    let R : RattleType = param 0 T in
-    let LR : Laws R = param_laws 0 T L in
+    let 𝓣 = tables 𝓤 𝓛.H 𝓜 𝓡 𝓡.env in let R : RattleType = param 0 T in let LR : Laws R = param_laws 0 T L in
     let Sh : RattleType = shared.the_row R in
     let Ws : RattleType = all_pointers.the_row R in
-    let En = ended T in
-    let c = clauses T 𝓛 𝓜.mem 𝓡.returns in
-    let inst = layouts (a_type ∷ []) (T, tt) in
-    let fn = inst_fn inst code.function in
-    let self = plain (λ _. Ws) in
-    let number = plain (λ _. usize) in
+    let En = ended T in let c = clauses T 𝓛 𝓜.mem 𝓡.returns in let inst = layouts (a_type ∷ []) (T, tt) in
+    let fn = inst_fn inst code.function in let self = plain (λ _. Ws) in let number = plain (λ _. usize) in
     let ref = RefOf (0 ∷ []) tt (plain (λ _. right.the_row)) (λ _. tt) in
     let hs : Stays En.signature.params En.kept =
     (stay_dropped self no, (stay_dropped number yes, (stay_dropped ref yes, tt))) in
     proved_at 𝓛 En hs c 𝓜 𝓡 (
       Goes-dropped 𝓛 2 self no (λ κs x f. refl),
-      (
-        Goes-dropped 𝓛 2 number yes (λ κs x f. refl),
-        (Goes-dropped 𝓛 2 ref yes (λ κs x f. refl), tt),
-      ),
+      (Goes-dropped 𝓛 2 number yes (λ κs x f. refl), (Goes-dropped 𝓛 2 ref yes (λ κs x f. refl), tt)),
     )
-    (#self inst) fn (code.unfolded 𝓤 H 𝓜 𝓡 wired (T, tt)) (λ z are.
+    (#self inst) fn (code.unfolded 𝓤 𝓛.H 𝓜 𝓡 wired (T, tt)) (λ z are.
     let w : Ws.Denot = z.0.3.0 in let n : ℕ = z.0.3.1.0 in let table : ℕ = z.0.3.1.1.0.now.table in let past : Option ℕ = z.1 in
     let got =
     one (layout Ws) z.0.4.0 (((pointers'.the_row_laws R LR).lawful 𝓛).typed w z.0.4.0 are.0) in
@@ -78,7 +68,7 @@ of_spec 𝓤 𝓛 𝓜 𝓡 wired T L =
     let fine : Good (layout Ws) v = got.2 in
     let ref_is = shr_Tells (named 0) z.0.0.0 right.the_row z.0.3.1.1.0 z.0.4.1.1.0 are.1.1.0 in
     let Post : Val → SProp 𝓤 = (walk_of 𝓛 En hs c).post z in
-    let Run : List Val → SProp 𝓤 = λ ws. WpFn 𝓤 H 𝓣.C 𝓣.Λ fn ws Post in
+    let Run : List Val → SProp 𝓤 = λ ws. WpFn 𝓤 𝓛.H 𝓣.C 𝓣.Λ fn ws Post in
     let p : Val = vptr z.0.3.1.1.0.ref_ptr.0 z.0.3.1.1.0.ref_ptr.1 in let us : List Val = v ∷ vint w64 n ∷ p ∷ [] in
     let fits : n < 2 ^ 64 = are.1.0.1 in
     let typed : Typed Sh.mir (pair_val v n ∷ []) =
@@ -106,10 +96,10 @@ of_spec 𝓤 𝓛 𝓜 𝓡 wired T L =
     use2 𝓛 (‵ (Sh.own_val s (pair_val v n ∷ []))) (makes_shared 𝓛 R LR j s w v fits owned typed (λ e. e)) $
     sets ! (of_opd ! (get ! refl)) refl fine $ sets ! (agg ! (and_then ! (get ! refl) (and_then ! (get ! refl) (no_more !)))) refl typed.0 $
     let Named : Type 0 = IsSome (Some γ) × (Some γ ≢ past) in
-    use0 𝓛 (raw (fact 𝓤 (only ≡ only))) (fact_i 𝓤 (only ≡ only) (emp 𝓤) refl) $
-    use0 𝓛 (raw (fact 𝓤 (n ≡ n))) (fact_i 𝓤 (n ≡ n) (emp 𝓤) refl) $ join ! $
-    use0 𝓛 (raw (fact 𝓤 Named)) (fact_i 𝓤 Named (emp 𝓤) (refl, new)) $ join ! $
-    use0 𝓛 (raw (fact 𝓤 (table ≡ table))) (fact_i 𝓤 (table ≡ table) (emp 𝓤) refl) $ join ! $
+    knows ! (only ≡ only) refl $
+    knows ! (n ≡ n) refl $ join ! $
+    knows ! Named (refl, new) $ join ! $
+    knows ! (table ≡ table) refl $ join ! $
     nothing ! $ nothing ! $ fjoin ! $ nothing ! $ fjoin ! $ nothing ! $ fjoin ! $
     -- [nothing; the facts; what is shared; the tokens]
     returns ! (look_at ! 0 refl) $ free_all ! refl $ keep ! (3 ∷ 0 ∷ 2 ∷ 1 ∷ []) $

@@ -4,16 +4,15 @@ use mir.Syntax.{a_type, named}
 use mir.Val.{Val, vptr}
 use mir.MapTy.{inst_fn}
 use base.Fraction.{full_share}
-use base.Logic.{SProp, emp, id⊢}
+use base.Logic.{SProp, id⊢}
 use base.Fml.{Lft, Share, GName, Fml, ftrue, fsep, flft}
 use types.Logic.{sem}
 use types.Mut.{open_ref}
-use types.Kit.{‵, raw, ◌⊛◌, some, given, later, at_ret, ◌$◌, ◌∵◌, !, qed, by, move, keep, use0, use1, split, split3}
+use types.Kit.{‵, raw, ◌⊛◌, some, given, later, at_ret, ◌$◌, ◌∵◌, !, qed, by, move, keep, use1, split, split3}
 use types.Kit.{join, group, fsplit, fsplit3, fjoin, pick, learn, await}
 use types.Run.{stop, addr, of_opd, first, blocks, exec, returns, enter}
 use types.ByLocal.{alloc_all, pass_all, free_all, look_at, get, through, sets, sets_last, env}
 use contract.Running.{tables}
-use contract.Monad.{fact, fact_i}
 use denote.Exit.{no}
 use denote.RattleType.{RattleType, owns}
 use denote.Signature.{types_at, plain}
@@ -31,34 +30,24 @@ use Rattle.thread_local_buckets.specs.contracts.buckets.Buckets as buckets
 use Rattle.thread_local_shared_buckets.specs.TableView.{TableView}
 use Rattle.thread_local_shared_buckets.specs.Lent.{view_with}
 use Rattle.thread_local_shared_buckets.specs.contracts.shared.Shared as shared
-use Rattle.thread_local_shared_buckets.specs.contracts.shared.Shared.owner.{ended, clauses}
-use Rattle.thread_local_shared_buckets.specs.contracts.shared.Shared.owner.Key.{name as #self}
+use Rattle.thread_local_shared_buckets.specs.contracts.shared.Shared.owner.{ended, clauses, Key.name as #self}
 use Rattle.thread_local_shared_buckets.proofs.Turned.{IsLent, AllGrown, lies_plain, lies_shared}
 use Rattle.thread_local_shared_buckets.proofs.shared.Shared.owner.Statement.{statement}
 use Rattle.thread_local_shared_buckets.proofs.shared.Shared.owner.Code as code
+use Rattle.thread_local_model.proofs.Walking.{knows}
 
 pub owner_spec : {M : Type 1} → statement M
 owner_spec 𝓤 𝓛 𝓜 𝓡 wired T L =
-    let H = 𝓛.H in
-    let 𝓣 = tables 𝓤 H 𝓜 𝓡 𝓡.env in
-    let R : RattleType = param 0 T in
-    let LR : Laws R = param_laws 0 T L in
+    let 𝓣 = tables 𝓤 𝓛.H 𝓜 𝓡 𝓡.env in let R : RattleType = param 0 T in let LR : Laws R = param_laws 0 T L in
     let Sh : RattleType = shared.the_row R in
     let Ow : RattleType = buckets.the_row R in
-    let En = ended T in
-    let c = clauses T 𝓛 𝓜.mem 𝓡.returns in
-    let inst = layouts (a_type ∷ []) (T, tt) in
-    let fn = inst_fn inst code.function in
-    let row = plain (λ _. Sh) in
-    let self = RefMutOf (0 ∷ []) tt row (λ _. tt) in
+    let En = ended T in let c = clauses T 𝓛 𝓜.mem 𝓡.returns in let inst = layouts (a_type ∷ []) (T, tt) in
+    let fn = inst_fn inst code.function in let row = plain (λ _. Sh) in let self = RefMutOf (0 ∷ []) tt row (λ _. tt) in
     let hs : Stays En.signature.params En.kept = (stay_dropped self no, tt) in
     proved 𝓛 En hs c 𝓜 𝓡 (Goes-spent_ref 𝓛 2 (0 ∷ []) tt row, tt) (#self inst) fn
-    (code.unfolded 𝓤 H 𝓜 𝓡 wired (T, tt)) (λ κs. (mut_vals, tt))
+    (code.unfolded 𝓤 𝓛.H 𝓜 𝓡 wired (T, tt)) (λ κs. (mut_vals, tt))
     (λ κs. (mut_Tells (named 0) κs.0 Sh, tt)) (λ κs qs bounds a gh are.
-    let b : ℕ = a.0.ref_ptr.0 in
-    let o : ℕ = a.0.ref_ptr.1 in
-    let d : TableView = a.0.now in
-    let κ : Lft = κs.0 in
+    let b : ℕ = a.0.ref_ptr.0 in let o : ℕ = a.0.ref_ptr.1 in let d : TableView = a.0.now in let κ : Lft = κs.0 in
     let q : Share = qs.0 in
     let γ : GName = a.0.ghost_name in
     let others : Fml = fsep (flft κs.1.0 qs.1.0) ftrue in
@@ -67,7 +56,7 @@ owner_spec 𝓤 𝓛 𝓜 𝓡 wired T L =
     qed 𝓛 (((‵ (flft κ q) ⊛ ‵ others) ⊛ ‵ (owns (types_at En.signature.params κs) a y.0.4))
     ∷ raw ((c κs a).requires gh) ∷ []) ∵
     keep ! (0 ∷ []) $ split ! $ split ! $ move ! (2 ∷ []) $ fsplit ! $ fsplit3 ! $ keep ! (1 ∷ 2 ∷ 4 ∷ 5 ∷ []) $
-    enter ! 𝓣.C 𝓣.Λ fn (vptr b o ∷ []) Post $ alloc_all ! (λ l. pass_all ! refl ((tt, tt), tt) $
+    enter ! _ _ _ _ _ $ alloc_all ! (λ l. pass_all ! refl ((tt, tt), tt) $
     let Ev = env fn.locals l in
     open_ref ! tt (mem Sh) $
     use1 𝓛 (later (some (λ (w : Ow.Denot).
@@ -95,8 +84,7 @@ owner_spec 𝓤 𝓛 𝓜 𝓡 wired T L =
     (id⊢ 𝓤 _) $
     split3 ! $
     move ! (1 ∷ 3 ∷ []) $ join ! $
-    use0 𝓛 (raw (fact 𝓤 (w.reserved ≡ d.reserved)))
-    (fact_i 𝓤 (w.reserved ≡ d.reserved) (emp 𝓤) so.1) $
+    knows ! (w.reserved ≡ d.reserved) so.1 $
     move ! (3 ∷ 0 ∷ []) $ join ! $ nothing ! $ nothing ! $ fjoin ! $
     returns ! (look_at ! 0 refl) $ free_all ! refl $ keep ! (2 ∷ 0 ∷ 3 ∷ 1 ∷ []) $
     by ! (leaves 𝓛 En hs c y (vptr b o) r (tt, tt) (tt, tt)))))))

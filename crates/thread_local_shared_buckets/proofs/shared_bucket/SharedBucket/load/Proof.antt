@@ -1,14 +1,14 @@
 -- `load` is one load of the pointer: it takes a part of the token of the block's lifetime, and
 -- gives it up so that the row lasts.
 use Rattle.thread_local_model.proofs.Names.{◌≡◌, ℕ, ◌+◌, [], ◌∷◌, refl, sym, ◌∙◌, lit<, true, false, Option, None}
-use Rattle.thread_local_model.proofs.Names.{Some, a_type, named, Val, vptr, vcons, vnil, inst_fn, SProp, wand, emp}
-use Rattle.thread_local_model.proofs.Names.{via, sem, apply∗, Lft, Share, Fml, ftrue, fsep, flft, fbor, ‵, raw, ◌⊛◌}
-use Rattle.thread_local_model.proofs.Names.{some, later, mean, at_ret, ◌$◌, ◌∵◌, !, qed, by, move, keep, drop, split}
+use Rattle.thread_local_model.proofs.Names.{Some, a_type, named, Val, vptr, vcons, vnil, inst_fn, SProp}
+use Rattle.thread_local_model.proofs.Names.{via, sem, Lft, Share, Fml, ftrue, fsep, flft, fbor, ‵, raw, ◌⊛◌}
+use Rattle.thread_local_model.proofs.Names.{later, mean, at_ret, ◌$◌, ◌∵◌, !, qed, by, move, keep, drop, split}
 use Rattle.thread_local_model.proofs.Names.{join, fsplit, fsplit3, fjoin, fjoin3, fpick, fpack, pick, use0, use1, use2, use3}
 use Rattle.thread_local_model.proofs.Names.{await, stop, fld, addr, lit, of_opd, bin, no_more, and_then, first, blocks}
 use Rattle.thread_local_model.proofs.Names.{exec, branches, returns, enter, alloc_all, pass_all, free_all, look_at}
-use Rattle.thread_local_model.proofs.Names.{get, through, sets, sets_last, lands_last, env, agg, live, tables, fact}
-use Rattle.thread_local_model.proofs.Names.{fact_i, yes, RattleType, owns, types_at, plain, Ptr, block_ptr, null_ptr}
+use Rattle.thread_local_model.proofs.Names.{get, through, sets, sets_last, lands_last, env, agg, live, tables}
+use Rattle.thread_local_model.proofs.Names.{yes, RattleType, owns, types_at, plain, Ptr, block_ptr, null_ptr}
 use Rattle.thread_local_model.proofs.Names.{nothing, param, layouts, RefOf, u64, shr_vals, shr_Tells, Stays}
 use Rattle.thread_local_model.proofs.Names.{stay_dropped, walk_of, Goes-dropped, proved, leaves, fm, after}
 use Rattle.std.proofs.lemmas.Option.{none-some}
@@ -20,7 +20,6 @@ use base.Fml.{finv}
 use base.Before.{before}
 use types.Na.{before_dup}
 use types.Run.{Calls-last}
-use contract.Shared.{Lends-one}
 use denote.Signature.{named_lft}
 use denote.RawPtr.{tests_null}
 use denote.Opens.{unhide}
@@ -34,19 +33,17 @@ use Rattle.thread_local_model.specs.Fact.{fact as said_fact}
 use Rattle.thread_local_shared_buckets.specs.Shared.{BucketView, Sized, len, bucket_invariant, loaded, Found, row_as}
 use Rattle.thread_local_shared_buckets.specs.contracts.shared_bucket.SharedBucket as one_bucket
 use Rattle.thread_local_shared_buckets.specs.contracts.row.Row as Row
-use Rattle.thread_local_shared_buckets.specs.contracts.shared_bucket.SharedBucket.load.{ended, clauses}
-use Rattle.thread_local_shared_buckets.specs.contracts.shared_bucket.SharedBucket.load.Key.{name as #self}
-use Rattle.thread_local_shared_buckets.proofs.RowFields.{row_val, row_good, pointer_good, FieldsType, made, word_laws}
+use Rattle.thread_local_shared_buckets.specs.contracts.shared_bucket.SharedBucket.load.{ended, clauses, Key.name as #self}
+use Rattle.thread_local_shared_buckets.proofs.RowFields.{row_val, row_good, FieldsType, made, word_laws}
 use Rattle.thread_local_shared_buckets.proofs.Loads.{glimpse, reaches, reads, NoneThere, none_there, forgets}
 use Rattle.thread_local_shared_buckets.proofs.shared_bucket.SharedBucket.load.Statement.{statement}
 use Rattle.thread_local_shared_buckets.proofs.shared_bucket.SharedBucket.load.Code as code
+use Rattle.thread_local_bucket_pointers.proofs.Slots.{ptr_good}
+use Rattle.thread_local_model.proofs.Walking.{knows, lends_token, returns_token}
 
 pub load_spec : {M : Type 1} → statement M
 load_spec 𝓤 𝓛 𝓜 𝓡 wired T L =
-    let H = 𝓛.H in
-    let 𝓣 = tables 𝓤 H 𝓜 𝓡 𝓡.env in
-    let R : RattleType = param 0 T in
-    let En = ended T in
+    let H = 𝓛.H in let 𝓣 = tables 𝓤 H 𝓜 𝓡 𝓡.env in let R : RattleType = param 0 T in let En = ended T in
     let c = clauses T 𝓛 𝓜.mem 𝓡.returns in
     let inst = layouts (a_type ∷ []) (T, tt) in let fn = inst_fn inst code.function in let W : RattleType = one_bucket.the_row R in
     let self = RefOf (0 ∷ []) tt (plain (λ _. W)) (λ _. tt) in
@@ -56,16 +53,11 @@ load_spec 𝓤 𝓛 𝓜 𝓡 wired T L =
     (Goes-dropped 𝓛 3 self yes (λ κs x f. refl), (Goes-dropped 𝓛 3 tolds yes (λ κs x f. refl), tt)) (#self inst) fn
     (code.unfolded 𝓤 H 𝓜 𝓡 wired (T, tt)) (λ κs. (shr_vals, (shr_vals, tt)))
     (λ κs. (shr_Tells (named 0) κs.0 W, (shr_Tells (named 1) κs.1.0 (TokenList.the_row R), tt))) (λ κs qs bounds a gh are.
-    let b : ℕ = a.0.ref_ptr.0 in
-    let o : ℕ = a.0.ref_ptr.1 in
-    let κ : Lft = κs.0 in
-    let q : Share = qs.0 in
-    let d : BucketView = a.0.now in
-    let others : Fml = fsep (flft κs.1.0 qs.1.0) (fsep (flft κs.1.1.0 qs.1.1.0) ftrue) in
+    let b : ℕ = a.0.ref_ptr.0 in let o : ℕ = a.0.ref_ptr.1 in let κ : Lft = κs.0 in let q : Share = qs.0 in
+    let d : BucketView = a.0.now in let others : Fml = fsep (flft κs.1.0 qs.1.0) (fsep (flft κs.1.1.0 qs.1.1.0) ftrue) in
     let ts : List (TokenView R.Denot) = a.1.0.now.tokens in
     let pt : Val = vptr a.1.0.ref_ptr.0 a.1.0.ref_ptr.1 in
-    let ℓ = named_lft 3 0 tt κs in
-    let G : RattleType = Row.the_row ℓ R in
+    let ℓ = named_lft 3 0 tt κs in let G : RattleType = Row.the_row ℓ R in
     let Of : Option G.Denot → Type 0 = λ r. IfSome r (λ row. row.of ≡ d) in
     let There : Option G.Denot → Type 0 = λ r. d.reserved ≡ true → IsSome r in
     let Absent : Option G.Denot → Type 0 = λ r. r ≡ None → NoneIn d.sharing d.bucket ts in
@@ -76,16 +68,13 @@ load_spec 𝓤 𝓛 𝓜 𝓡 wired T L =
     split ! $ split ! $ move ! (2 ∷ []) $ fsplit3 ! $ fsplit ! $ move ! (2 ∷ []) $ fsplit ! $
     keep ! (1 ∷ 3 ∷ 5 ∷ 6 ∷ []) $ unhide ! $ fsplit ! $ drop ! $ move ! (1 ∷ 2 ∷ 3 ∷ []) $
     -- [what the `&` holds; κ's token; the others; what the tokens tell]
-    enter ! 𝓣.C 𝓣.Λ fn (vptr b o ∷ pt ∷ []) Post $ alloc_all ! (λ l. pass_all ! refl ((tt, tt), ((tt, tt), tt)) $ let Ev = env fn.locals l in
+    enter ! _ _ _ _ _ $ alloc_all ! (λ l. pass_all ! refl ((tt, tt), ((tt, tt), tt)) $ let Ev = env fn.locals l in
     unhide ! $ fsplit ! $ fpick ! (λ j. drop ! $ fpick ! (λ t. let J : Fml = fbor t.life (bucket_invariant R d t b (o + 0)) in fsplit ! $
     use1 𝓛 (‵ (before κ t.life) ⊛ ‵ (before κ t.life)) (before_dup 𝓛 κ t.life) $ split ! $
     use1 𝓛 (‵ (before κ t.life) ⊛ ‵ (before κ t.life)) (before_dup 𝓛 κ t.life) $ split ! $
     move ! (3 ∷ []) $
     use1 𝓛 (‵ (finv J) ⊛ ‵ (finv J)) (𝓛.invs.inv_dup J) $ split ! $ move ! (2 ∷ 5 ∷ []) $
-    use2 𝓛 (later (some (λ (s : Share).
-    ‵ (flft t.life s) ⊛ raw (wand 𝓤 (𝓛.A.lft t.life s) (H.⇛ (𝓛.A.lft κ q))))))
-    (Lends-one 𝓛 𝓜 𝓡 κ t.life q) $
-    await ! tt $ pick ! (λ s. split ! $
+    lends_token ! 𝓜 𝓡 κ t.life q $ await ! tt $ pick ! (λ s. split ! $
     -- [the life's token; the way back; the invariant, twice; before, twice; the other tokens]
     let out : Ptr → Fml = λ p. fsep (flft t.life s) (glimpse 𝓛 R d t (said_fact (NoneThere 𝓛 R d t ts)) ftrue p) in
     first ! $ blocks ! $ sets ! (addr ! (through ! refl (fld ! refl (stop !)))) refl (tt, tt) $
@@ -99,11 +88,11 @@ load_spec 𝓤 𝓛 𝓜 𝓡 wired T L =
     Calls-last ! (fm 𝓛 𝓜 𝓡) (calls.found 𝓛 out)
     (and_then ! (get ! refl) (and_then ! (get ! refl) (no_more !))) (λ u.
     calls.finds_either ! out
-    (lands_last ! refl (pointer_good null_ptr) $
+    (lands_last ! refl (ptr_good null_ptr) $
     exec ! 𝓣.C 𝓣.Λ Ev (after 1 fn.body) (at_ret Ev Post) $ fsplit ! $ move ! (0 ∷ 2 ∷ []) $
-    use2 𝓛 (later (‵ (flft κ q))) (apply∗ 𝓤 (𝓛.A.lft t.life s) (H.⇛ (𝓛.A.lft κ q))) $ await ! tt $
+    returns_token ! κ t.life q s $ await ! tt $
     move ! (1 ∷ []) $ fsplit ! $ fpick ! (λ free. drop ! $ fpick ! (λ absent. drop ! $
-    sets ! (of_opd ! (get ! refl)) refl (pointer_good null_ptr) $
+    sets ! (of_opd ! (get ! refl)) refl (ptr_good null_ptr) $
     sets ! (bin ! (get ! refl) (lit ! tt) tt) refl (tt, tt) $ first ! $ branches ! (get ! refl)
     (λ _.
     sets_last ! (agg ! (and_then ! (lit ! tt) (no_more !))) refl
@@ -111,20 +100,18 @@ load_spec 𝓤 𝓛 𝓜 𝓡 wired T L =
     exec ! 𝓣.C 𝓣.Λ Ev (after 4 fn.body) (at_ret Ev Post) $
     sets ! (of_opd ! (get ! refl)) refl (tt, (record { fits = lit< tt }, tt)) $
     move ! (0 ∷ 4 ∷ []) $ join ! $ use0 𝓛 (‵ ((Opt.the_row G).own_val None (live 0 vnil ∷ []))) (none_of 𝓛 G) $
-    use0 𝓛 (raw (fact 𝓤 (Absent None)))
-    (fact_i 𝓤 (Absent None) (emp 𝓤) (λ _ name k x low same i near at.
-    absent i near name k x low same (omega (arith, at)))) $
-    use0 𝓛 (raw (fact 𝓤 (There None)))
-    (fact_i 𝓤 (There None) (emp 𝓤) (λ r. let never : true ≡ false = sym r ∙ free in cc)) $ join ! $
-    use0 𝓛 (raw (fact 𝓤 (Of None))) (fact_i 𝓤 (Of None) (emp 𝓤) tt) $ join ! $ nothing ! $
+    knows ! (Absent None) (λ _ name k x low same i near at.
+    absent i near name k x low same (omega (arith, at))) $
+    knows ! (There None) (λ r. let never : true ≡ false = sym r ∙ free in cc) $ join ! $
+    knows ! (Of None) tt $ join ! $ nothing ! $
     nothing ! $ fjoin ! $ nothing ! $ fjoin ! $
     returns ! (look_at ! 0 refl) $ free_all ! refl $ keep ! (3 ∷ 0 ∷ 2 ∷ 1 ∷ []) $
     by ! (leaves 𝓛 En hs c y (live 0 vnil) None (tt, (tt, tt)) (tt, (tt, tt)))) (λ wrong. absurd wrong))))
     (λ pb po.
     let p : Ptr = block_ptr pb po in
-    lands_last ! refl (pointer_good p) $ exec ! 𝓣.C 𝓣.Λ Ev (after 1 fn.body) (at_ret Ev Post) $
+    lands_last ! refl (ptr_good p) $ exec ! 𝓣.C 𝓣.Λ Ev (after 1 fn.body) (at_ret Ev Post) $
     fsplit ! $ move ! (0 ∷ 2 ∷ []) $
-    use2 𝓛 (later (‵ (flft κ q))) (apply∗ 𝓤 (𝓛.A.lft t.life s) (H.⇛ (𝓛.A.lft κ q))) $ await ! tt $
+    returns_token ! κ t.life q s $ await ! tt $
     -- [κ's token; what was seen; the invariant; before, twice; the other tokens]
     move ! (1 ∷ []) $ fsplit ! $ fpick ! (λ z. move ! (0 ∷ 4 ∷ []) $
     use2 𝓛 (later (‵ (said_fact ((z.0.at ≡ p) × Sized R (len R d) p)) ⊛ ‵ (loaded R d t z.0 κ)))
@@ -148,9 +135,9 @@ load_spec 𝓤 𝓛 𝓜 𝓡 wired T L =
     use0 𝓛 (‵ ((FieldsType ℓ R).own_val (p, (record {}, tt)) (row_val p ∷ []))) (made ℓ R 𝓛 p) $
     fjoin ! $ use1 𝓛 (‵ ((Opt.the_row G).own_val (Some r) (v ∷ []))) (Some-of 𝓛 G r (row_val p)) $
     move ! (2 ∷ 3 ∷ []) $ join ! $ move ! (1 ∷ []) $
-    use0 𝓛 (raw (fact 𝓤 (Absent (Some r)))) (fact_i 𝓤 (Absent (Some r)) (emp 𝓤) (λ e. absurd (none-some r (sym e)))) $
-    use0 𝓛 (raw (fact 𝓤 (There (Some r)))) (fact_i 𝓤 (There (Some r)) (emp 𝓤) (λ _. refl)) $ join ! $
-    use0 𝓛 (raw (fact 𝓤 (Of (Some r)))) (fact_i 𝓤 (Of (Some r)) (emp 𝓤) refl) $ join ! $ nothing ! $
+    knows ! (Absent (Some r)) (λ e. absurd (none-some r (sym e))) $
+    knows ! (There (Some r)) (λ _. refl) $ join ! $
+    knows ! (Of (Some r)) refl $ join ! $ nothing ! $
     nothing ! $ fjoin ! $ nothing ! $ fjoin ! $
     returns ! (look_at ! 0 refl) $ free_all ! refl $ keep ! (3 ∷ 0 ∷ 2 ∷ 1 ∷ []) $
     by ! (leaves 𝓛 En hs c y v (Some r) (tt, (tt, tt)) (tt, (tt, tt)))))))))))))

@@ -1,13 +1,13 @@
 -- `reached` is one load of the pointer, which copies what the block shows.
 use Rattle.thread_local_model.proofs.Names.{◌≡◌, ℕ, ◌+◌, [], ◌∷◌, refl, sym, ◌∙◌, lit<, true, false, Option, None}
-use Rattle.thread_local_model.proofs.Names.{Some, a_type, named, Val, vptr, vcons, vnil, inst_fn, SProp, wand, emp}
-use Rattle.thread_local_model.proofs.Names.{via, sem, apply∗, Lft, Share, Fml, ftrue, fsep, flft, fbor, ‵, raw, ◌⊛◌}
-use Rattle.thread_local_model.proofs.Names.{some, later, mean, at_ret, ◌$◌, ◌∵◌, !, qed, by, move, keep, drop, split}
-use Rattle.thread_local_model.proofs.Names.{join, fsplit, fsplit3, fjoin, fpick, pick, use0, use1, use2, use3}
+use Rattle.thread_local_model.proofs.Names.{Some, a_type, named, Val, vptr, vcons, vnil, inst_fn, SProp}
+use Rattle.thread_local_model.proofs.Names.{via, sem, Lft, Share, Fml, ftrue, fsep, flft, fbor, ‵, raw, ◌⊛◌}
+use Rattle.thread_local_model.proofs.Names.{mean, at_ret, ◌$◌, ◌∵◌, !, qed, by, move, keep, drop, split}
+use Rattle.thread_local_model.proofs.Names.{join, fsplit, fsplit3, fjoin, fpick, pick, use0, use1, use3}
 use Rattle.thread_local_model.proofs.Names.{await, stop, fld, addr, lit, of_opd, bin, no_more, and_then, first, blocks}
 use Rattle.thread_local_model.proofs.Names.{exec, branches, returns, enter, alloc_all, pass_all, free_all, look_at}
-use Rattle.thread_local_model.proofs.Names.{get, through, sets, sets_last, lands_last, env, agg, live, tables, fact}
-use Rattle.thread_local_model.proofs.Names.{fact_i, yes, RattleType, owns, types_at, plain, Ptr, block_ptr, null_ptr}
+use Rattle.thread_local_model.proofs.Names.{get, through, sets, sets_last, lands_last, env, agg, live, tables}
+use Rattle.thread_local_model.proofs.Names.{yes, RattleType, owns, types_at, plain, Ptr, block_ptr, null_ptr}
 use Rattle.thread_local_model.proofs.Names.{nothing, param, layouts, RefOf, u64, shr_vals, shr_Tells, Stays}
 use Rattle.thread_local_model.proofs.Names.{stay_dropped, walk_of, Goes-dropped, proved, leaves, fm, after}
 use Rattle.std.proofs.Common.{IfSome, IsSome}
@@ -16,7 +16,6 @@ use Rattle.thread_local_ids.specs.contracts.reached.Reached as Reached
 use Rattle.thread_local_ids.proofs.Markers.{token, Mark, made}
 use base.Logic.{sep}
 use types.Run.{Calls-last}
-use contract.Shared.{Lends-one}
 use denote.RawPtr.{tests_null}
 use denote.Opens.{unhide}
 use Rattle.std.proofs.option.Made.{Some-of, none_of}
@@ -27,19 +26,17 @@ use Rattle.std.specs.contracts.option.Option as Opt
 use Rattle.thread_local_shared_buckets.specs.Shared.{BucketView, bucket_invariant, all_unborn, len, shown_by}
 use Rattle.thread_local_shared_buckets.specs.Shared.{first as first_id}
 use Rattle.thread_local_shared_buckets.specs.contracts.shared_bucket.SharedBucket as one_bucket
-use Rattle.thread_local_shared_buckets.specs.contracts.shared_bucket.SharedBucket.reached.{ended, clauses}
-use Rattle.thread_local_shared_buckets.specs.contracts.shared_bucket.SharedBucket.reached.Key.{name as #self}
-use Rattle.thread_local_shared_buckets.proofs.RowFields.{pointer_good, word_laws}
+use Rattle.thread_local_shared_buckets.specs.contracts.shared_bucket.SharedBucket.reached.{ended, clauses, Key.name as #self}
+use Rattle.thread_local_shared_buckets.proofs.RowFields.{word_laws}
 use Rattle.thread_local_shared_buckets.proofs.Loads.{glimpse, reads}
 use Rattle.thread_local_shared_buckets.proofs.shared_bucket.SharedBucket.reached.Statement.{statement}
 use Rattle.thread_local_shared_buckets.proofs.shared_bucket.SharedBucket.reached.Code as code
+use Rattle.thread_local_bucket_pointers.proofs.Slots.{ptr_good}
+use Rattle.thread_local_model.proofs.Walking.{knows, lends_token, returns_token}
 
 pub reached_spec : {M : Type 1} → statement M
 reached_spec 𝓤 𝓛 𝓜 𝓡 wired T L =
-    let H = 𝓛.H in
-    let 𝓣 = tables 𝓤 H 𝓜 𝓡 𝓡.env in
-    let R : RattleType = param 0 T in
-    let En = ended T in
+    let H = 𝓛.H in let 𝓣 = tables 𝓤 H 𝓜 𝓡 𝓡.env in let R : RattleType = param 0 T in let En = ended T in
     let c = clauses T 𝓛 𝓜.mem 𝓡.returns in
     let inst = layouts (a_type ∷ []) (T, tt) in let fn = inst_fn inst code.function in let W : RattleType = one_bucket.the_row R in
     let self = RefOf (0 ∷ []) tt (plain (λ _. W)) (λ _. tt) in
@@ -47,12 +44,8 @@ reached_spec 𝓤 𝓛 𝓜 𝓡 wired T L =
     proved 𝓛 En hs c 𝓜 𝓡 (Goes-dropped 𝓛 2 self yes (λ κs x f. refl), tt) (#self inst) fn
     (code.unfolded 𝓤 H 𝓜 𝓡 wired (T, tt)) (λ κs. (shr_vals, tt))
     (λ κs. (shr_Tells (named 0) κs.0 W, tt)) (λ κs qs bounds a gh are.
-    let b : ℕ = a.0.ref_ptr.0 in
-    let o : ℕ = a.0.ref_ptr.1 in
-    let κ : Lft = κs.0 in
-    let q : Share = qs.0 in
-    let d : BucketView = a.0.now in
-    let others : Fml = fsep (flft κs.1.0 qs.1.0) ftrue in
+    let b : ℕ = a.0.ref_ptr.0 in let o : ℕ = a.0.ref_ptr.1 in let κ : Lft = κs.0 in let q : Share = qs.0 in
+    let d : BucketView = a.0.now in let others : Fml = fsep (flft κs.1.0 qs.1.0) ftrue in
     let G : RattleType = Reached.the_row in
     let Of : Option G.Denot → Type 0 = λ r. IfSome r (λ reached. (reached.table ≡ d.table) × (reached.ids ≡ shown_by d)) in
     let There : Option G.Denot → Type 0 = λ r. d.reserved ≡ true → IsSome r in
@@ -62,14 +55,11 @@ reached_spec 𝓤 𝓛 𝓜 𝓡 wired T L =
     ∷ raw ((c κs a).requires gh) ∷ []) ∵
     split ! $ split ! $ move ! (2 ∷ []) $ fsplit ! $ fsplit ! $ keep ! (1 ∷ 3 ∷ 4 ∷ []) $
     -- [what the `&` holds; κ's token; the other token]
-    enter ! 𝓣.C 𝓣.Λ fn (vptr b o ∷ []) Post $ alloc_all ! (λ l. pass_all ! refl ((tt, tt), tt) $ let Ev = env fn.locals l in
+    enter ! _ _ _ _ _ $ alloc_all ! (λ l. pass_all ! refl ((tt, tt), tt) $ let Ev = env fn.locals l in
     unhide ! $ fsplit ! $ fpick ! (λ j. drop ! $ fpick ! (λ t. let J : Fml = fbor t.life (bucket_invariant R d t b (o + 0)) in fsplit ! $
     -- [before; the invariant; κ's token; the other token]
     move ! (0 ∷ 2 ∷ []) $
-    use2 𝓛 (later (some (λ (s : Share).
-    ‵ (flft t.life s) ⊛ raw (wand 𝓤 (𝓛.A.lft t.life s) (H.⇛ (𝓛.A.lft κ q))))))
-    (Lends-one 𝓛 𝓜 𝓡 κ t.life q) $
-    await ! tt $ pick ! (λ s. split ! $
+    lends_token ! 𝓜 𝓡 κ t.life q $ await ! tt $ pick ! (λ s. split ! $
     -- [the life's token; the way back; the invariant; the other token]
     let out : Ptr → Fml = λ p. fsep (flft t.life s) (glimpse 𝓛 R d t ftrue ftrue p) in
     let Waits : Fml = all_unborn R d.sharing d.table t (len R d) (first_id R d) in
@@ -84,11 +74,11 @@ reached_spec 𝓤 𝓛 𝓜 𝓡 wired T L =
     Calls-last ! (fm 𝓛 𝓜 𝓡) (calls.found 𝓛 out)
     (and_then ! (get ! refl) (and_then ! (get ! refl) (no_more !))) (λ u.
     calls.finds_either ! out
-    (lands_last ! refl (pointer_good null_ptr) $
+    (lands_last ! refl (ptr_good null_ptr) $
     exec ! 𝓣.C 𝓣.Λ Ev (after 1 fn.body) (at_ret Ev Post) $ fsplit ! $ move ! (0 ∷ 2 ∷ []) $
-    use2 𝓛 (later (‵ (flft κ q))) (apply∗ 𝓤 (𝓛.A.lft t.life s) (H.⇛ (𝓛.A.lft κ q))) $ await ! tt $
+    returns_token ! κ t.life q s $ await ! tt $
     move ! (1 ∷ []) $ fsplit ! $ fpick ! (λ free. drop ! $ drop ! $
-    sets ! (of_opd ! (get ! refl)) refl (pointer_good null_ptr) $
+    sets ! (of_opd ! (get ! refl)) refl (ptr_good null_ptr) $
     sets ! (bin ! (get ! refl) (lit ! tt) tt) refl (tt, tt) $ first ! $ branches ! (get ! refl)
     (λ _.
     sets_last ! (agg ! (and_then ! (lit ! tt) (no_more !))) refl
@@ -97,17 +87,16 @@ reached_spec 𝓤 𝓛 𝓜 𝓡 wired T L =
     sets ! (of_opd ! (get ! refl)) refl (tt, (record { fits = lit< tt }, tt)) $
     -- [κ's token; the other token]
     join ! $ use0 𝓛 (‵ ((Opt.the_row G).own_val None (live 0 vnil ∷ []))) (none_of 𝓛 G) $
-    use0 𝓛 (raw (fact 𝓤 (There None)))
-    (fact_i 𝓤 (There None) (emp 𝓤) (λ r. let never : true ≡ false = sym r ∙ free in cc)) $
-    use0 𝓛 (raw (fact 𝓤 (Of None))) (fact_i 𝓤 (Of None) (emp 𝓤) tt) $ join ! $ nothing ! $
+    knows ! (There None) (λ r. let never : true ≡ false = sym r ∙ free in cc) $
+    knows ! (Of None) tt $ join ! $ nothing ! $
     nothing ! $ fjoin ! $
     returns ! (look_at ! 0 refl) $ free_all ! refl $ keep ! (3 ∷ 0 ∷ 2 ∷ 1 ∷ []) $
     by ! (leaves 𝓛 En hs c y (live 0 vnil) None (tt, tt) (tt, tt))) (λ wrong. absurd wrong)))
     (λ pb po.
     let p : Ptr = block_ptr pb po in
-    lands_last ! refl (pointer_good p) $ exec ! 𝓣.C 𝓣.Λ Ev (after 1 fn.body) (at_ret Ev Post) $
+    lands_last ! refl (ptr_good p) $ exec ! 𝓣.C 𝓣.Λ Ev (after 1 fn.body) (at_ret Ev Post) $
     fsplit ! $ move ! (0 ∷ 2 ∷ []) $
-    use2 𝓛 (later (‵ (flft κ q))) (apply∗ 𝓤 (𝓛.A.lft t.life s) (H.⇛ (𝓛.A.lft κ q))) $ await ! tt $
+    returns_token ! κ t.life q s $ await ! tt $
     -- [κ's token; what was seen; the other token]
     move ! (1 ∷ []) $ fsplit ! $ fpick ! (λ z. fsplit3 ! $ fpick ! (λ so. drop ! $ move ! (1 ∷ []) $ fsplit ! $
     -- [a part of the token of the block's life; what it shows; which block it is; nothing; κ's
@@ -125,8 +114,8 @@ reached_spec 𝓤 𝓛 𝓜 𝓡 wired T L =
     use0 𝓛 (‵ ((Mark (Reached.the_type).name).own_val (tt, tt) (token ∷ []))) (made (Reached.the_type).name 𝓛) $
     fjoin ! $ use1 𝓛 (‵ ((Opt.the_row G).own_val (Some r) (v ∷ []))) (Some-of 𝓛 G r token) $
     move ! (1 ∷ 2 ∷ []) $ join ! $ move ! (1 ∷ []) $
-    use0 𝓛 (raw (fact 𝓤 (There (Some r)))) (fact_i 𝓤 (There (Some r)) (emp 𝓤) (λ _. refl)) $
-    use0 𝓛 (raw (fact 𝓤 (Of (Some r)))) (fact_i 𝓤 (Of (Some r)) (emp 𝓤) (refl, refl)) $ join ! $ nothing ! $
+    knows ! (There (Some r)) (λ _. refl) $
+    knows ! (Of (Some r)) (refl, refl) $ join ! $ nothing ! $
     nothing ! $ fjoin ! $
     returns ! (look_at ! 0 refl) $ free_all ! refl $ keep ! (3 ∷ 0 ∷ 2 ∷ 1 ∷ []) $
     by ! (leaves 𝓛 En hs c y v (Some r) (tt, tt) (tt, tt))))))))))))

@@ -7,26 +7,19 @@ use Rattle.thread_local_model.proofs.Names.{proved, leaves}
 use denote.Param.Send.{IsSync}
 use denote.Signature.{named_lft}
 use Rattle.thread_local_judged.specs.Judged.{Shareable}
-use Rattle.thread_local_shared_buckets.specs.contracts.shown.Shown.new.{ended, clauses}
-use Rattle.thread_local_shared_buckets.specs.contracts.shown.Shown.new.Key.{name as #self}
+use Rattle.thread_local_shared_buckets.specs.contracts.shown.Shown.new.{ended, clauses, Key.name as #self}
 use Rattle.thread_local_shared_buckets.proofs.Fields.{shown_val, Bare, made}
 use Rattle.thread_local_shared_buckets.proofs.shown.Shown.new.Statement.{statement}
 use Rattle.thread_local_shared_buckets.proofs.shown.Shown.new.Code as code
 
 pub new_spec : {M : Type 1} → statement M
 new_spec 𝓤 𝓛 𝓜 𝓡 wired T L =
-    let H = 𝓛.H in
-    let 𝓣 = tables 𝓤 H 𝓜 𝓡 𝓡.env in
-    let R : RattleType = param 0 T in
-    let En = ended T in
-    let c = clauses T 𝓛 𝓜.mem 𝓡.returns in
-    let inst = layouts (a_type ∷ []) (T, tt) in
-    let fn = inst_fn inst code.function in
+    let 𝓣 = tables 𝓤 𝓛.H 𝓜 𝓡 𝓡.env in let R : RattleType = param 0 T in let En = ended T in
+    let c = clauses T 𝓛 𝓜.mem 𝓡.returns in let inst = layouts (a_type ∷ []) (T, tt) in let fn = inst_fn inst code.function in
     let hs : Stays En.signature.params En.kept = tt in
-    proved 𝓛 En hs c 𝓜 𝓡 tt (#self inst) fn (code.unfolded 𝓤 H 𝓜 𝓡 wired (T, tt)) (λ κs. tt)
+    proved 𝓛 En hs c 𝓜 𝓡 tt (#self inst) fn (code.unfolded 𝓤 𝓛.H 𝓜 𝓡 wired (T, tt)) (λ κs. tt)
     (λ κs. tt) (λ κs qs bounds a gh are.
-    let ℓ = named_lft 2 0 tt κs in
-    let y : (walk_of 𝓛 En hs c).Ghost = ((κs, qs, bounds, a, tt), gh) in
+    let ℓ = named_lft 2 0 tt κs in let y : (walk_of 𝓛 En hs c).Ghost = ((κs, qs, bounds, a, tt), gh) in
     let Post : Val → SProp 𝓤 = (walk_of 𝓛 En hs c).post y in
     qed 𝓛 ((raw (alive 𝓛 En.signature κs qs) ⊛ ‵ ftrue) ∷ raw (fact 𝓤 _) ∷ raw (fact 𝓤 (IsSync R))
     ∷ ‵ ftrue ∷ []) ∵

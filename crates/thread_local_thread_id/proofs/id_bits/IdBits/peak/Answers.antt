@@ -1,4 +1,4 @@
-use Rattle.std.proofs.Common.{◌≤◌, ◌*◌, length, take, arith}
+use Rattle.std.proofs.Common.{◌≤◌, ◌*◌, length, arith}
 use Rattle.std.proofs.lemmas.List.{length-take}
 use Rattle.thread_local_model.specs.Bits.{bits_of}
 use Rattle.thread_local_model.proofs.Words.{length-bits_of}

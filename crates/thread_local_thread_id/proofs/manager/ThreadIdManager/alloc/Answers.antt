@@ -56,8 +56,4 @@ invariant_of-self-in_err-alloc c = rw c.in_err-alloc.ensures.err c.self.invarian
 
 pub invariant_of-self : goal.invariant_of-self
 invariant_of-self c =
-    record {
-      returned = inl refl;
-      peak_in_room = c.self.invariant.peak_in_room;
-      room_in_range = c.self.invariant.room_in_range;
-    }
+    record { returned = inl refl; peak_in_room = c.self.invariant.peak_in_room; room_in_range = c.self.invariant.room_in_range }

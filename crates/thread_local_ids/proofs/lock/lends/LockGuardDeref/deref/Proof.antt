@@ -1,11 +1,11 @@
 -- `deref` lends the value that the guard has the right to.
 use Rattle.thread_local_model.proofs.Names.{◌≡◌, ℕ, ◌+◌, List, [], ◌∷◌, ◌++◌, sym, refl, ap, ◌∙◌, dcons, dnil, a_type}
-use Rattle.thread_local_model.proofs.Names.{named, Val, vptr, inst_fn, SProp, emp, guard_i, Lft, Fml, ftrue, fsep}
+use Rattle.thread_local_model.proofs.Names.{named, Val, vptr, inst_fn, SProp, guard_i, Lft, Fml, ftrue, fsep}
 use Rattle.thread_local_model.proofs.Names.{flft, sem, ‵, raw, ◌⊛◌, given, at_ret, ◌$◌, ◌∵◌, !, qed, by, move, keep}
-use Rattle.thread_local_model.proofs.Names.{split, join, fsplit, fjoin, learn, use0, use1, rewrite, feq_i, stop, fld}
+use Rattle.thread_local_model.proofs.Names.{split, join, fsplit, fjoin, learn, use1, rewrite, feq_i, stop, fld}
 use Rattle.thread_local_model.proofs.Names.{hop, addr, of_opd, first, blocks, exec, returns, enter, alloc_all}
 use Rattle.thread_local_model.proofs.Names.{pass_all, free_all, look_at, get, through, sets, sets_last, env, sub}
-use Rattle.thread_local_model.proofs.Names.{whole, look_in, tables, fact, fact_i, fact_use, yes, RattleType, owns}
+use Rattle.thread_local_model.proofs.Names.{whole, look_in, tables, fact_use, yes, RattleType, owns}
 use Rattle.thread_local_model.proofs.Names.{types_at, plain, named_lft, Ptr, InBlock, block_ptr, block_of, count_of}
 use Rattle.thread_local_model.proofs.Names.{at_block, nothing, peeks, unhide, Is, shows, cell_at, param, bounded}
 use Rattle.thread_local_model.proofs.Names.{param_laws, RefOf, shr_vals, shr_Tells, Stays, stay_dropped, walk_of}
@@ -20,50 +20,36 @@ use denote.Struct.Lending.{lent_out}
 use Rattle.std.specs.contracts.marker.PhantomData as marker
 use Rattle.thread_local_ids.specs.Locking.{offset, guard_shares}
 use Rattle.thread_local_ids.specs.contracts.lock.LockGuard as guard
-use Rattle.thread_local_ids.specs.contracts.lock.lends.LockGuardDeref.deref.{ended, clauses}
-use Rattle.thread_local_ids.specs.contracts.lock.lends.LockGuardDeref.deref.Key.{name as #self}
+use Rattle.thread_local_ids.specs.contracts.lock.lends.LockGuardDeref.deref.{ended, clauses, Key.name as #self}
 use Rattle.thread_local_ids.proofs.Fields.{guard_of, FieldsType, told, opened}
 use Rattle.thread_local_ids.proofs.Guards.{seen}
 use Rattle.thread_local_ids.proofs.lock.lends.LockGuardDeref.deref.Statement.{statement}
 use Rattle.thread_local_ids.proofs.lock.lends.LockGuardDeref.deref.Code as code
+use Rattle.thread_local_model.proofs.Walking.{knows}
 
 pub deref_spec : {M : Type 1} → statement M
 deref_spec 𝓤 𝓛 𝓜 𝓡 wired X L g d _ =
-    let H = 𝓛.H in
-    let 𝓣 = tables 𝓤 H 𝓜 𝓡 𝓡.env in
-    let R : RattleType = param 0 X in
-    let En = ended X g d in
-    let c = clauses X g d 𝓛 𝓜.mem 𝓡.returns in
-    let LR = param_laws 0 X L in
-    let inst = bounded (a_type ∷ []) (X, tt) (dcons d dnil) in
-    let fn = inst_fn inst code.function in
-    let closed = code.unfolded 𝓤 H 𝓜 𝓡 wired (X, tt) d in
-    let row = plain (λ κs. guard.the_row (named_lft 3 1 tt κs) R g) in
-    let self = RefOf (0 ∷ []) tt row (λ _. tt) in
-    let hs : Stays En.signature.params En.kept = (stay_dropped self yes, tt) in
+    let 𝓣 = tables 𝓤 𝓛.H 𝓜 𝓡 𝓡.env in let R : RattleType = param 0 X in let En = ended X g d in
+    let c = clauses X g d 𝓛 𝓜.mem 𝓡.returns in let LR = param_laws 0 X L in
+    let inst = bounded (a_type ∷ []) (X, tt) (dcons d dnil) in let fn = inst_fn inst code.function in
+    let closed = code.unfolded 𝓤 𝓛.H 𝓜 𝓡 wired (X, tt) d in let row = plain (λ κs. guard.the_row (named_lft 3 1 tt κs) R g) in
+    let self = RefOf (0 ∷ []) tt row (λ _. tt) in let hs : Stays En.signature.params En.kept = (stay_dropped self yes, tt) in
     proved 𝓛 En hs c 𝓜 𝓡 (Goes-dropped 𝓛 3 self yes (λ κs x f. refl), tt) (#self inst) fn closed
     (λ κs. (shr_vals, tt))
     (λ κs. (shr_Tells (named 0) κs.0 (guard.the_row (named_lft 3 1 tt κs) R g), tt))
     (λ κs qs bounds a gh are.
-    let ℓ = named_lft 3 1 tt κs in
-    let D : RattleType = FieldsType ℓ R g in
-    let b : ℕ = a.0.ref_ptr.0 in
-    let o : ℕ = a.0.ref_ptr.1 in
-    let κ : Lft = κs.0 in
-    let β : Lft = κs.1.0 in
-    let h = a.0.now in
-    let p : Ptr = h.lock in
+    let ℓ = named_lft 3 1 tt κs in let D : RattleType = FieldsType ℓ R g in let b : ℕ = a.0.ref_ptr.0 in
+    let o : ℕ = a.0.ref_ptr.1 in let κ : Lft = κs.0 in let β : Lft = κs.1.0 in let h = a.0.now in let p : Ptr = h.lock in
     let x : X.Denot = h.value in
     let others : Fml = fsep (flft β qs.1.0) (fsep (flft κs.1.1.0 qs.1.1.0) ftrue) in
     let pb : ℕ = block_of p in
     let po : ℕ = count_of p in
-    let e : ℕ = po + offset R in
-    let y : (walk_of 𝓛 En hs c).Ghost = ((κs, qs, bounds, a, (vptr b o ∷ [], tt)), gh) in
+    let e : ℕ = po + offset R in let y : (walk_of 𝓛 En hs c).Ghost = ((κs, qs, bounds, a, (vptr b o ∷ [], tt)), gh) in
     let Post : Val → SProp 𝓤 = (walk_of 𝓛 En hs c).post y in
     qed 𝓛 (((‵ (flft κ qs.0) ⊛ ‵ others) ⊛ ‵ (owns (types_at En.signature.params κs) a y.0.4))
     ∷ raw ((c κs a).requires gh) ∷ []) ∵
     split ! $ split ! $ move ! (2 ∷ []) $ fsplit ! $ fsplit ! $ keep ! (1 ∷ 3 ∷ 4 ∷ []) $
-    enter ! 𝓣.C 𝓣.Λ fn (vptr b o ∷ []) Post $ alloc_all ! (λ l. pass_all ! refl ((tt, tt), tt) $ let Ev = env fn.locals l in
+    enter ! _ _ _ _ _ $ alloc_all ! (λ l. pass_all ! refl ((tt, tt), tt) $ let Ev = env fn.locals l in
     use1 𝓛 (‵ (hidden_shr D κ (p, (tt, tt)) b o) ⊛ ‵ (fhide (guard_shares β R p x κ)))
     (lent_out 𝓛 (guard.struct ℓ R g)
     (guard.the_codes X.Denot R.coded (marker.the_row (ShrRef ℓ.mir ℓ.lft R)).coded)
@@ -89,8 +75,8 @@ deref_spec 𝓤 𝓛 𝓜 𝓡 wired X L g d _ =
     sets ! (of_opd ! (get ! refl)) refl (tt, tt) $
     rewrite ! 1 (λ (ws : List Val). ‵ (cell_at q D.mir ws b o)) (sym ev) refl $
     move ! (1 ∷ 0 ∷ 2 ∷ []) $ shuts ! tt D q (p, (tt, tt)) vs b o $
-    move ! (0 ∷ 3 ∷ []) $ join ! $ move ! (2 ∷ []) $ feq_i ! (List Val) (vptr pb e ∷ []) (vptr pb e ∷ []) refl $ fjoin ! $
-    use0 𝓛 (raw (fact 𝓤 (x ≡ x))) (fact_i 𝓤 (x ≡ x) (emp 𝓤) refl) $ nothing ! $ nothing ! $ fjoin ! $
+    move ! (0 ∷ 3 ∷ []) $ join ! $ move ! (2 ∷ []) $ feq_i ! _ (vptr pb e ∷ []) _ refl $ fjoin ! $
+    knows ! (x ≡ x) refl $ nothing ! $ nothing ! $ fjoin ! $
     returns ! (look_at ! 0 refl) $ free_all ! refl $ keep ! (3 ∷ 0 ∷ 2 ∷ 1 ∷ []) $
     by ! (leaves 𝓛 En hs c y (vptr pb e) (record { ref_ptr = (pb, e); now = x }) (tt, tt)
     (tt, tt)))))))

@@ -1,12 +1,12 @@
 -- `deref_mut` lends the value, and the guard follows what is written to it.
 use Rattle.thread_local_model.proofs.Names.{◌≡◌, ℕ, ◌+◌, List, [], ◌∷◌, sym, refl, ap, ◌∙◌, dcons, dnil, a_type, named}
-use Rattle.thread_local_model.proofs.Names.{Val, vptr, inst_fn, full_share, SProp, emp, guard_i, Lft, GName, Share}
+use Rattle.thread_local_model.proofs.Names.{Val, vptr, inst_fn, full_share, SProp, guard_i, Lft, GName, Share}
 use Rattle.thread_local_model.proofs.Names.{Fml, ftrue, fsep, fbor, flft, sem, ‵, raw, ◌⊛◌, some, given, later, at_ret}
 use Rattle.thread_local_model.proofs.Names.{◌$◌, ◌∵◌, !, qed, by, move, keep, split, split3, join, fsplit, fsplit3}
-use Rattle.thread_local_model.proofs.Names.{fjoin, fjoin3, fpick, fpack, pick, learn, use0, use1, use2, use3, await}
+use Rattle.thread_local_model.proofs.Names.{fjoin, fjoin3, fpick, fpack, pick, learn, use1, use2, use3, await}
 use Rattle.thread_local_model.proofs.Names.{rewrite, feq_i, stop, fld, hop, addr, of_opd, first, blocks, exec, returns}
 use Rattle.thread_local_model.proofs.Names.{enter, alloc_all, pass_all, free_all, look_at, get, through, sets}
-use Rattle.thread_local_model.proofs.Names.{sets_last, env, open_ref, sub, whole, look_in, tables, fact, fact_i}
+use Rattle.thread_local_model.proofs.Names.{sets_last, env, open_ref, sub, whole, look_in, tables}
 use Rattle.thread_local_model.proofs.Names.{fact_use, no, RattleType, owns, types_at, plain, named_lft, Ptr, InBlock}
 use Rattle.thread_local_model.proofs.Names.{block_ptr, block_of, count_of, at_block, nothing, peeks, Is, shows}
 use Rattle.thread_local_model.proofs.Names.{cell_at, part_at, mem, param, bounded, RefMutOf, mut_vals, mut_Tells}
@@ -21,39 +21,28 @@ use denote.Struct.OwningLaws.{part_out, part_in}
 use Rattle.thread_local_ids.specs.Guarded.{guard_with_value}
 use Rattle.thread_local_ids.specs.Locking.{Fitting, offset, guard_owns}
 use Rattle.thread_local_ids.specs.contracts.lock.LockGuard as guard
-use Rattle.thread_local_ids.specs.contracts.lock.lends.LockGuardDerefMut.deref_mut.{ended, clauses}
-use Rattle.thread_local_ids.specs.contracts.lock.lends.LockGuardDerefMut.deref_mut.Key.{name as #self}
+use Rattle.thread_local_ids.specs.contracts.lock.lends.LockGuardDerefMut.deref_mut.{ended, clauses, Key.name as #self}
 use Rattle.thread_local_ids.proofs.Fields.{guard_of, FieldsType, told}
 use Rattle.thread_local_ids.proofs.Guards.{placed}
 use Rattle.thread_local_ids.proofs.Handed.{hands_value}
 use Rattle.thread_local_ids.proofs.lock.lends.LockGuardDerefMut.deref_mut.Statement.{statement}
 use Rattle.thread_local_ids.proofs.lock.lends.LockGuardDerefMut.deref_mut.Code as code
+use Rattle.thread_local_model.proofs.Walking.{knows}
 
 pub deref_mut_spec : {M : Type 1} → statement M
 unfolding part_of
 deref_mut_spec 𝓤 𝓛 𝓜 𝓡 wired X L g d _ =
-    let H = 𝓛.H in
-    let 𝓣 = tables 𝓤 H 𝓜 𝓡 𝓡.env in
-    let R : RattleType = param 0 X in
-    let En = ended X g d in
-    let c = clauses X g d 𝓛 𝓜.mem 𝓡.returns in
-    let inst = bounded (a_type ∷ []) (X, tt) (dcons d dnil) in
-    let fn = inst_fn inst code.function in
-    let closed = code.unfolded 𝓤 H 𝓜 𝓡 wired (X, tt) d in
-    let row = plain (λ κs. guard.the_row (named_lft 3 1 tt κs) R g) in
-    let self = RefMutOf (0 ∷ []) tt row (λ _. tt) in
+    let 𝓣 = tables 𝓤 𝓛.H 𝓜 𝓡 𝓡.env in let R : RattleType = param 0 X in let En = ended X g d in
+    let c = clauses X g d 𝓛 𝓜.mem 𝓡.returns in let inst = bounded (a_type ∷ []) (X, tt) (dcons d dnil) in
+    let fn = inst_fn inst code.function in let closed = code.unfolded 𝓤 𝓛.H 𝓜 𝓡 wired (X, tt) d in
+    let row = plain (λ κs. guard.the_row (named_lft 3 1 tt κs) R g) in let self = RefMutOf (0 ∷ []) tt row (λ _. tt) in
     let hs : Stays En.signature.params En.kept = (stay_dropped self no, tt) in
     proved 𝓛 En hs c 𝓜 𝓡 (Goes-spent_ref 𝓛 3 (0 ∷ []) tt row, tt) (#self inst) fn closed
     (λ κs. (mut_vals, tt))
     (λ κs. (mut_Tells (named 0) κs.0 (guard.the_row (named_lft 3 1 tt κs) R g), tt))
     (λ κs qs bounds a gh are.
-    let ℓ = named_lft 3 1 tt κs in
-    let G : RattleType = guard.the_row ℓ R g in
-    let D : RattleType = FieldsType ℓ R g in
-    let b : ℕ = a.0.ref_ptr.0 in
-    let o : ℕ = a.0.ref_ptr.1 in
-    let κ : Lft = κs.0 in
-    let q : Share = qs.0 in
+    let ℓ = named_lft 3 1 tt κs in let G : RattleType = guard.the_row ℓ R g in let D : RattleType = FieldsType ℓ R g in
+    let b : ℕ = a.0.ref_ptr.0 in let o : ℕ = a.0.ref_ptr.1 in let κ : Lft = κs.0 in let q : Share = qs.0 in
     let β : Lft = κs.1.0 in
     let γ : GName = a.0.ghost_name in
     let h : G.Denot = a.0.now in
@@ -72,7 +61,7 @@ deref_mut_spec 𝓤 𝓛 𝓜 𝓡 wired X L g d _ =
     qed 𝓛 (((‵ (flft κ q) ⊛ ‵ others) ⊛ ‵ (owns (types_at En.signature.params κs) a y.0.4))
     ∷ raw ((c κs a).requires gh) ∷ []) ∵
     split ! $ split ! $ move ! (2 ∷ []) $ fsplit ! $ fsplit3 ! $ keep ! (1 ∷ 2 ∷ 4 ∷ 5 ∷ []) $
-    enter ! 𝓣.C 𝓣.Λ fn (vptr b o ∷ []) Post $ alloc_all ! (λ l. pass_all ! refl ((tt, tt), tt) $ let Ev = env fn.locals l in
+    enter ! _ _ _ _ _ $ alloc_all ! (λ l. pass_all ! refl ((tt, tt), tt) $ let Ev = env fn.locals l in
     open_ref ! tt (mem G) $
     use1 𝓛 (‵ (part_at D full_share (p, (tt, tt)) b o) ⊛ ‵ (guard_owns β R ok p x))
     (part_out 𝓛 (guard.the_type ℓ R g) full_share h b o) $
@@ -100,7 +89,7 @@ deref_mut_spec 𝓤 𝓛 𝓜 𝓡 wired X L g d _ =
     await ! tt $ pick ! (λ δ. split3 ! $
     feq_i ! (List Val) (mut_vals (Lent δ)) (mut_vals (Lent δ)) refl $ fjoin3 ! $ move ! (1 ∷ []) $
     split ! $ move ! (0 ∷ 3 ∷ []) $ join ! $
-    use0 𝓛 (raw (fact 𝓤 (x ≡ x))) (fact_i 𝓤 (x ≡ x) (emp 𝓤) refl) $ move ! (2 ∷ 0 ∷ []) $ join ! $
+    knows ! (x ≡ x) refl $ move ! (2 ∷ 0 ∷ []) $ join ! $
     nothing ! $ nothing ! $ fjoin ! $
     returns ! (look_at ! 0 refl) $ free_all ! refl $ keep ! (2 ∷ 0 ∷ 3 ∷ 1 ∷ []) $
     by ! (leaves 𝓛 En hs c y (vptr pb e) (Lent δ) (tt, tt) (tt, tt))))))))
