@@ -81,7 +81,7 @@ impl<'a, T> Iterator for EntriesMut<'a, T> {
         }
         lead(&mut self.loan, &mut self.cursor);
         let bit = self.cursor.pass(&mut self.loan);
-        let item = self.loan.give(bit);
+        let item = self.loan.lend_value(bit);
         let index = self.cursor.raw.index - 64 + bit;
         Some((index + (self.cursor.raw.bucket_size - 1), item))
     }

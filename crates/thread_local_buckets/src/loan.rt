@@ -134,6 +134,24 @@ impl<'a, T> Loan<'a, T> {
     {
         unsafe { &mut *self.values.add(bit) }
     }
+
+    /// The same, with no clause on how the loan ends. The proof that the check makes of a caller lets
+    /// that clause go, and a library carries no such proof: whoever uses the caller proves it anew.
+    #[inline]
+    pub(crate) fn lend_value(&mut self, bit: usize) -> &'a mut T
+        requires in_table { self.old.bucket < 63 }
+        requires in_bucket { self.old.first + bit < length (row self.old.contents self.old.bucket) }
+        requires ahead { self.old.given ≤ id_at self.old.bucket (self.old.first + bit) }
+        requires published { IsSome (value_in self.old.contents self.old.bucket (self.old.first + bit)) }
+        ensures value { value_in self.old.contents self.old.bucket (self.old.first + bit) ≡ Some result.now }
+        ensures contents { self.new.contents
+            ≡ with_slot self.old.contents self.old.bucket (self.old.first + bit) None }
+        ensures given { self.new.given ≡ id_at self.old.bucket (self.old.first + bit) + 1 }
+        ensures bucket { self.new.bucket ≡ self.old.bucket }
+        ensures first { self.new.first ≡ self.old.first }
+    {
+        self.give(bit)
+    }
 }
 
 impl<T> FlagSource for Loan<'_, T> {

@@ -25,7 +25,6 @@ const HISTORY: usize = usize::MAX;
 ///
 /// Contracts see the manager, the table's name, whether the table's right is out, what was done with
 /// the ids, and for how many there was room when the table was made or cleared.
-#[derive(Drop)]
 pub struct Ids {
     manager: ThreadIdManager,
     rights: Rights,
@@ -257,4 +256,13 @@ fn begun(manager: &ThreadIdManager) -> (Rights, History, Room)
     let history = rights.take(HISTORY).into_history();
     let room = rights.note_room(manager);
     (rights, history, room)
+}
+
+// By hand, since a derived drop is proved anew in each program that drops a table.
+impl Drop for Ids {
+    #[inline]
+    fn drop(self) {
+        let Self { manager, rights: _, history: _, room: _ } = self;
+        drop(manager);
+    }
 }

@@ -56,7 +56,8 @@ impl<T> Buckets<T> {
         }
         let mut cursor = self.begin_walk();
         for _ in 0..cursor.len() {
-            drop(self.take_next(&mut cursor));
+            let (_, value) = self.take_next(&mut cursor);
+            drop(value);
         }
     }
 }
