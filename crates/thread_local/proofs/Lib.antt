@@ -3,5 +3,5 @@ pub mod Reserved
 pub mod Counted
 pub mod Filled
 mod Grown
-pub mod Seated
+pub mod Knowing
 pub mod Told

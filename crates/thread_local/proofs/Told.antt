@@ -1,10 +1,10 @@
 -- What tells answers apart, as those of `set` and of the `get_or` family. A search among all that a
 -- function knows takes seconds for what these say at once.
 use Rattle.std.proofs.Common.{◌≡◌, Option, Some, None, Result, Ok, Err, Bool, true, false, alloc_error}
-use Rattle.thread_local.specs.declared.seat.TryError.{TryError}
-use Rattle.thread_local.specs.declared.seat.TryError.TheVariants as tries
-use Rattle.thread_local.specs.declared.seat.SetError.{SetError}
-use Rattle.thread_local.specs.declared.seat.SetError.TheVariants as sets
+use Rattle.thread_local.specs.declared.error.TryError.{TryError}
+use Rattle.thread_local.specs.declared.error.TryError.TheVariants as tries
+use Rattle.thread_local.specs.declared.error.SetError.{SetError}
+use Rattle.thread_local.specs.declared.error.SetError.TheVariants as sets
 
 pub same_some : {A : Type 0} {x y : A} → Some x ≡ Some y → x ≡ y
 same_some told = cc

@@ -1,7 +1,7 @@
 -- What errors say, and what they print.
 use Rattle.std.specs.Prelude.{⊤, ℕ, List, codes, Option, Some}
-use Rattle.thread_local.specs.declared.seat.TryError as try_error
-use Rattle.thread_local.specs.declared.seat.SetError as set_error
+use Rattle.thread_local.specs.declared.error.TryError as try_error
+use Rattle.thread_local.specs.declared.error.SetError as set_error
 
 -- this holds of the closure's error, if it is one
 abbrev pub IfCreate : {E : Type 0} → try_error.TryError E → (E → Type 0) → Type 0

@@ -9,7 +9,7 @@ pub use Rattle.thread_local_model.specs.Answers
 pub use Rattle.thread_local_model.specs.Learnt
 pub mod Errors
 pub mod Owners
-pub mod Seats
+pub mod Locals
 pub mod Tables
 pub mod Text
 pub use Rattle.thread_local_buckets.specs.IterMut

@@ -1,12 +1,29 @@
-//! What a `TryError` is made from by `?`, and what `TryError` and `SetError` print.
+//! Why a slot stays empty, or isn't filled by a value at hand.
 ghost use Rattle.std.specs.Prelude.{◌≡◌, Some};
 ghost use Rattle.thread_local.specs.Errors.{try_error_text, set_error_text};
-ghost use Rattle.thread_local.specs.declared.seat.TryError.TheVariants.{Memory};
+ghost use Rattle.thread_local.specs.declared.error.TryError.TheVariants.{Memory};
 
-use crate::seat::{SetError, TryError};
 use std::alloc::AllocError;
 use std::error::Error;
 use std::fmt;
+
+/// Why `get_or_try` and `try_fill` leave the slot empty.
+#[derive(Clone, Copy, Debug, Drop, PartialEq, Eq)]
+pub enum TryError<E> {
+    /// Out of memory for the slot's bucket.
+    Memory(AllocError),
+    /// The closure's own error.
+    Create(E),
+}
+
+/// Why `set` gives its value back.
+#[derive(Clone, Copy, Debug, Drop, PartialEq, Eq)]
+pub enum SetError<T> {
+    /// The slot holds a value.
+    Occupied(T),
+    /// Out of memory for the slot's bucket.
+    Memory(T),
+}
 
 impl<E> From<AllocError> for TryError<E> {
     ghost from_gives = { λ refused error. error ≡ Memory refused };

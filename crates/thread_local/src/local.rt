@@ -1,22 +1,30 @@
 //! What a thread has in a table: an id of its own, through which it finds or makes its value.
-ghost use Rattle.std.specs.Prelude.{◌≡◌, ◌≢◌, ◌-◌, ◌^◌, ◌<◌, nat_lt, ⊤, true, false, None, Ok, Err};
-ghost use Rattle.std.specs.Prelude.{OnOk, OnErr, IfOk, IfErr, IsOk, IsSome, Some, option_map, alloc_error, Result};
+ghost use Rattle.std.specs.Prelude.{◌≡◌, ◌≢◌, ◌-◌, ◌^◌, ◌<◌, nat_lt, ⊤, is_some, true, false, None, Some, Ok, Err};
+ghost use Rattle.std.specs.Prelude.{OnOk, OnErr, IfOk, IfErr, IsOk, IsSome, option_map, alloc_error, Result};
+ghost use Rattle.thread_local_model.specs.Learnt.{Missing, Vacant};
+ghost use Rattle.thread_local_model.specs.Place.{IsPlaceOf};
 ghost use Rattle.thread_local_model.specs.Answers.{Get, GetOr, Found, Refused, Failed, answer};
 ghost use Rattle.thread_local_model.specs.Cursor.{fresh_cursor};
 ghost use Rattle.thread_local_model.specs.IdMoves.{Take, held_after, noted};
 ghost use Rattle.thread_local_model.specs.Held.{is_held};
+ghost use Rattle.thread_local_ids.specs.Rights.{taken_id};
 ghost use mathlib.Core.List.{IsPrefix};
 ghost use mathlib.Core.Logic.{◌∨₁◌};
 ghost use Rattle.thread_local.specs.Errors.{IfCreate};
-ghost use Rattle.thread_local.specs.Seats.{knows, knowing, holding, own_of, token_of, IsAnswered, IsFilled, Fills, Fails, IsRefused, EndsWithReturn};
+ghost use Rattle.thread_local.specs.Locals.{knows, knowing, own_of, token_of, vacant, holding, IsAnswered, IsFilled, Fills, Fails, IsRefused, EndsWithReturn};
 ghost use Rattle.thread_local_shared_buckets.specs.Walks.{fresh_with};
 
-pub use crate::seat::{Seat, SetError, TryError};
+pub use crate::error::{SetError, TryError};
+use crate::table::ThreadLocal;
+use std::alloc::{AllocError, Global};
+use std::default::MadeWith;
 use std::fmt;
 use std::marker::Model;
 use std::sync::Wait;
-use thread_local_ids::{Page, Token, Told};
-use thread_local_shared_buckets::{Iter, Tokens};
+use thread_local_bucket_pointers::Block;
+use thread_local_ids::{HeldId, Page, Reached, Right, Tenure, Token, Told};
+use thread_local_shared_buckets::{Claim, Iter, Tokens};
+use thread_local_thread_id::Thread;
 
 // `get_or` and `get_or_default` stand in local/lends.rt.
 mod lends;
@@ -27,12 +35,11 @@ mod lends;
 /// Dropping it keeps the value and gives the id back, under the table's lock: that may wait, and
 /// takes no memory. A forgotten one keeps its id until the table is cleared.
 ///
-/// Each call but `seat`, `seat_mut`, `in_line`, `give_back` and `tokens` does what the seat's of
-/// that name does. None but `give_back` takes a lock. Only `set`, `publish` and the `get_or` family
-/// (`get_or`, `get_or_default`, `get_or_try`, `get_or_try_lasting`, `try_fill`) take memory, for a
-/// bucket. The closure or the `T::made_with` that these run may wait, and so may the drop of a
-/// closure that they don't run. References that calls answer live no longer than the borrow of the
-/// `Local`, but that of `get_or_try_lasting`.
+/// No call but `give_back` takes a lock. Only `set`, `publish` and the `get_or` family (`get_or`,
+/// `get_or_default`, `get_or_try`, `get_or_try_lasting`, `try_fill`) take memory, for a bucket. The
+/// closure or the `T::made_with` that these run may wait, and so may the drop of a closure that
+/// they don't run. References that calls answer live no longer than the borrow of the `Local`, but
+/// that of `get_or_try_lasting`.
 ///
 /// Contracts see the table's name and its sharing, the id, the number of reserved slots, what was
 /// done with the table's ids before the take, and what is known of the id's slot: its value, if
@@ -42,48 +49,79 @@ mod lends;
 /// the `get_or` family but `try_fill` and `get_or_try_lasting`; the other calls are the port's own.
 pub struct Local<'a, T, R: Wait> {
     rt: &'a R,
-    seat: Seat<'a, T>,
+    table: &'a ThreadLocal<T>,
+    claim: Claim<'a, T>,
+    tenure: Tenure,
 }
 
 impl<'a, T, R: Wait> Model for Local<'a, T, R> {
-    ghost use Rattle.thread_local.specs.Seats.{LocalView, local_view_coded};
+    ghost use Rattle.thread_local.specs.Locals.{LocalView, local_view, local_view_coded, IsLocalOf};
 
     ghost Value = { LocalView T };
 
     ghost coded = { local_view_coded T.code };
 
-    ghost view = { λ local. local.seat };
+    ghost view = { λ local. local_view local.table.now local.claim local.tenure.before };
+
+    ghost invariant = { λ local. IsLocalOf local.table.now local.claim local.tenure };
+}
+
+/// Finds or makes the bucket of a claim that found none: the claim looks again, and installs one
+/// where there still is none.
+#[cold]
+#[inline(never)]
+fn make_bucket<T>(
+    alloc: &Global,
+    claim: &mut Claim<'_, T>,
+    thread: Thread,
+    reached: Reached,
+) -> Result<(), AllocError>
+    requires missing { claim.old.learnt ≡ Missing }
+    requires place { IsPlaceOf thread.bucket thread.index claim.old.id }
+    requires reached { (reached.table ≡ claim.old.table) × (claim.old.id < reached.ids) }
+    ensures same_slot { (claim.new.table ≡ claim.old.table)
+        × (claim.new.sharing ≡ claim.old.sharing)
+        × (claim.new.id ≡ claim.old.id) }
+    ensures ok { OnOk result (claim.new.learnt ≡ Vacant) }
+    ensures err { OnErr result (claim.new.learnt ≡ Missing) }
+{
+    claim.look_again(thread);
+    if claim.is_missing() {
+        let block = Block::new(alloc, thread.bucket_size())?;
+        claim.install(thread, block, reached, alloc);
+    }
+    Ok(())
 }
 
 impl<'a, T, R: Wait> Local<'a, T, R> {
-    /// A `Local` of a seat.
-    pub(crate) fn new(rt: &'a R, seat: Seat<'a, T>) -> Local<'a, T, R>
-        ensures { result ≡ seat.entry }
+    /// A `Local` of a held id of this table.
+    pub(crate) fn new(
+        rt: &'a R,
+        table: &'a ThreadLocal<T>,
+        held: HeldId,
+        right: Right,
+        tenure: Tenure,
+    ) -> Local<'a, T, R>
+        requires table { (right.table ≡ table.now.table) × (held.mark.table ≡ table.now.table) × (tenure.table ≡ table.now.table) }
+        requires id { (right.id ≡ held.id) × (held.id ≡ taken_id tenure.before) }
+        ensures table { (result.table ≡ table.now.table)
+            × (result.sharing ≡ table.now.sharing)
+            × (result.reserved ≡ table.now.reserved) }
+        ensures id { (result.id ≡ held.id) × (result.before ≡ tenure.before) }
     {
-        Local { rt, seat }
-    }
-
-    /// The seat, for code that isn't generic over the runtime `R`.
-    pub fn seat(&self) -> &Seat<'a, T>
-        ensures { result.now ≡ self.now }
-    {
-        &self.seat
-    }
-
-    /// The seat, for writing. Where two seats are swapped, each id still goes back to its own table
-    /// when its `Local` is dropped. What a write leaves of the `Local`, no clause says: each call
-    /// of the seat is one of the `Local` too, which says it.
-    pub fn seat_mut(&mut self) -> &mut Seat<'a, T>
-        ensures { result.now ≡ self.old }
-    {
-        &mut self.seat
+        Local {
+            rt,
+            table,
+            claim: table.buckets.claim(held, right),
+            tenure,
+        }
     }
 
     /// The value, or None. It reads what the `Local` knows already, without an atomic operation.
     pub fn get(&self) -> Option<&T>
         ensures { answer {E = ⊤} (knows self.now) Get ≡ Found (option_map (λ x. x.now) result) }
     {
-        self.seat.get()
+        self.claim.get()
     }
 
     /// The id. Rust's crate keeps a thread's id to itself.
@@ -91,7 +129,7 @@ impl<'a, T, R: Wait> Local<'a, T, R> {
         ensures id { result ≡ self.now.id }
         ensures in_range { result < 2 ^ 63 - 1 }
     {
-        self.seat.id()
+        self.claim.id()
     }
 
     /// What the slot was published with, as a token, where it holds a value: whoever has the token
@@ -101,7 +139,7 @@ impl<'a, T, R: Wait> Local<'a, T, R> {
     pub fn token(&self) -> Option<Token<T>>
         ensures { result ≡ token_of self.now }
     {
-        self.seat.token()
+        self.claim.token()
     }
 
     /// Shows that the slot holds what a token of this id and this sharing says, whichever `Local`
@@ -114,7 +152,7 @@ impl<'a, T, R: Wait> Local<'a, T, R> {
         ensures holds { self.old.value ≡ Some token.now.value }
         ensures same { self.new ≡ self.old }
     {
-        self.seat.agrees(token);
+        self.claim.agrees(token);
     }
 
     /// Shows that two `Local`s of one table have different ids. At run time it does nothing.
@@ -123,14 +161,14 @@ impl<'a, T, R: Wait> Local<'a, T, R> {
         ensures ids { self.old.id ≢ other.old.id }
         ensures same { (self.new ≡ self.old) × (other.new ≡ other.old) }
     {
-        self.seat.apart(&mut other.seat)
+        self.claim.apart(&mut other.claim)
     }
 
     /// The page of the table's ids that ends with the take of this id. At run time it does nothing.
     pub fn page(&self) -> Page
         ensures { (result.table ≡ self.now.table) × (result.moves ≡ noted self.now.before Take) }
     {
-        self.seat.page()
+        self.tenure.page()
     }
 
     /// Shows that of two `Local`s of one table one was taken before the other. At run time it does
@@ -150,7 +188,7 @@ impl<'a, T, R: Wait> Local<'a, T, R> {
         ensures held { is_held (held_after page.moves) self.old.id ≡ true }
         ensures same { self.new ≡ self.old }
     {
-        self.seat.held_at(page);
+        self.tenure.held_at(page);
     }
 
     /// What the drop does, which answers the page that ends with the return of this id: a later
@@ -159,8 +197,14 @@ impl<'a, T, R: Wait> Local<'a, T, R> {
         ensures table { result.table ≡ self.entry.table }
         ensures moves { EndsWithReturn self.entry result.moves }
     {
-        let Self { rt, seat } = self;
-        seat.give_back(rt)
+        let Self {
+            rt,
+            table,
+            claim,
+            tenure,
+        } = self;
+        let (held, right) = claim.give_up();
+        table.ids.lock(rt).give(held, right, tenure)
     }
 
     /// Whether the slot is one of the table's reserved slots. If so, the `get_or` family is never
@@ -169,7 +213,88 @@ impl<'a, T, R: Wait> Local<'a, T, R> {
         ensures reserved { result ≡ nat_lt self.now.id self.now.reserved }
         ensures known { result ≡ true → self.now.known ≡ true }
     {
-        self.seat.is_reserved()
+        let table = self.table;
+        self.claim.id() < table.buckets.reserved()
+    }
+
+    /// The place of the id.
+    fn place(&self) -> Thread
+        ensures { IsPlaceOf result.bucket result.index self.now.id }
+    {
+        self.claim.place()
+    }
+
+    /// Finds or makes the bucket of the slot, which is empty.
+    fn find_bucket(&mut self, thread: Thread) -> Result<(), AllocError>
+        requires empty { self.old.value ≡ None }
+        requires place { IsPlaceOf thread.bucket thread.index self.old.id }
+        ensures ok { OnOk result (self.new ≡ knowing self.old vacant) }
+        ensures err { OnErr result ((self.old.known ≡ false) × (self.new ≡ self.old)) }
+    {
+        let table = self.table;
+        if self.claim.is_missing() {
+            let reached = self.tenure.reached();
+            return make_bucket(&table.alloc, &mut self.claim, thread, reached);
+        }
+        Ok(())
+    }
+
+    /// Publishes a value in the slot, which is vacant.
+    fn publish_at(&mut self, thread: Thread, value: T)
+        requires vacant { knows self.old ≡ vacant }
+        requires place { IsPlaceOf thread.bucket thread.index self.old.id }
+        ensures { self.new ≡ knowing self.old (holding value) }
+    {
+        self.claim.publish(thread, value);
+    }
+
+    /// The value, where the slot holds one.
+    fn value(&self) -> &T
+        requires { self.now.value ≢ None }
+        ensures { self.now.value ≡ Some result.now }
+    {
+        match self.get() {
+            Some(value) => value,
+            None => unreachable!(),
+        }
+    }
+
+    /// Whether a value is published in the slot.
+    fn is_published(&self) -> bool
+        ensures { result ≡ is_some self.now.value }
+    {
+        self.get().is_some()
+    }
+
+    /// Fills the slot if it is empty: finds or makes its bucket, then calls the closure and
+    /// publishes its value.
+    fn fill<F: FnOnce() -> T + Drop>(&mut self, create: F) -> Result<(), AllocError>
+        requires { self.old.value ≡ None → F.pre create }
+        ensures ok { OnOk result (IsFilled ⊤ (F.post create) self.old self.new) }
+        ensures err { OnErr result (IsRefused ⊤ self.old self.new) }
+        ensures granted { self.old.known ≡ true → IsOk result }
+        ensures held { IsSome self.old.value → IsOk result }
+    {
+        if !self.is_published() {
+            let thread = self.place();
+            self.find_bucket(thread)?;
+            self.publish_at(thread, create());
+        }
+        Ok(())
+    }
+
+    /// `fill`, with the value that `T::made_with` makes.
+    fn fill_default(&mut self) -> Result<(), AllocError>
+    where
+        T: MadeWith<Global>,
+        ensures ok { OnOk result (IsFilled ⊤ T.is_made_with self.old self.new) }
+        ensures err { OnErr result (IsRefused ⊤ self.old self.new) }
+        ensures granted { self.old.known ≡ true → IsOk result }
+        ensures held { IsSome self.old.value → IsOk result }
+    {
+        let table = self.table;
+        let alloc = table.alloc;
+        self.fill(|| T::made_with(alloc))
     }
 
     /// Publishes a value that is at hand, where the slot is empty. `Occupied` gives it back where
@@ -184,7 +309,17 @@ impl<'a, T, R: Wait> Local<'a, T, R> {
             → result ≡ Err (SetError.Memory given)
             → (self.old.value ≡ None) × (self.old.known ≡ false) × (given ≡ value) × (self.new ≡ self.old) }
     {
-        self.seat.set(value)
+        if self.is_published() {
+            return Err(SetError::Occupied(value));
+        }
+        let thread = self.place();
+        match self.find_bucket(thread) {
+            Ok(()) => {
+                self.publish_at(thread, value);
+                Ok(())
+            }
+            Err(_) => Err(SetError::Memory(value)),
+        }
     }
 
     /// `set`, which also answers a token of what it published.
@@ -200,7 +335,19 @@ impl<'a, T, R: Wait> Local<'a, T, R> {
             → result ≡ Err (SetError.Memory given)
             → (self.old.value ≡ None) × (self.old.known ≡ false) × (given ≡ value) × (self.new ≡ self.old) }
     {
-        self.seat.publish(value)
+        self.set(value)?;
+        Ok(self.token_held())
+    }
+
+    /// A token of what the slot was published with, where it holds a value.
+    fn token_held(&self) -> Token<T>
+        requires { self.now.value ≢ None }
+        ensures { token_of self.now ≡ Some result }
+    {
+        match self.token() {
+            Some(token) => token,
+            None => unreachable!(),
+        }
     }
 
     /// `get_or_try` without the value. Call it where the proof has to know what the `Local` knows
@@ -222,7 +369,18 @@ impl<'a, T, R: Wait> Local<'a, T, R> {
         ensures failed { IfErr result (λ error. IfCreate error (λ e. F.post create (Err e))) }
         ensures empty { OnErr result (self.new.value ≡ None) }
     {
-        self.seat.try_fill(create)
+        if self.is_published() {
+            return Ok(());
+        }
+        let thread = self.place();
+        self.find_bucket(thread)?;
+        match create() {
+            Ok(value) => {
+                self.publish_at(thread, value);
+                Ok(())
+            }
+            Err(error) => Err(TryError::Create(error)),
+        }
     }
 
     /// The value. Where the slot is empty, its bucket is found or made, then the closure is called
@@ -247,7 +405,8 @@ impl<'a, T, R: Wait> Local<'a, T, R> {
         ensures held { IsSome self.old.value → IsOk result }
         ensures failed { IfErr result (λ error. IfCreate error (λ e. F.post create (Err e))) }
     {
-        self.seat.get_or_try(create)
+        self.try_fill(create)?;
+        Ok(self.value())
     }
 }
 
@@ -272,7 +431,19 @@ impl<'a, T: Sync, R: Wait> Local<'a, T, R> {
         ensures failed { IfErr result (λ error. IfCreate error (λ e. F.post create (Err e))) }
         ensures empty { OnErr result (self.new.value ≡ None) }
     {
-        self.seat.get_or_try_lasting(create)
+        self.try_fill(create)?;
+        Ok(self.lasting())
+    }
+
+    /// The value, which lasts as long as the table is lent.
+    fn lasting(&self) -> &'a T
+        requires { self.now.value ≢ None }
+        ensures { self.now.value ≡ Some result.now }
+    {
+        match self.claim.lasting() {
+            Some((_, value)) => value,
+            None => unreachable!(),
+        }
     }
 
     /// The values of the table by ascending id, each lent as `&`, while others may publish more. A
@@ -283,14 +454,18 @@ impl<'a, T: Sync, R: Wait> Local<'a, T, R> {
         ensures shown { result.shown ≡ true }
         ensures sharing { result.sharing ≡ self.now.sharing }
     {
-        self.seat.iter()
+        self.iter_told(Told::new())
     }
 
     /// `iter`, which gives what the tokens of a list say, too, as `ThreadLocal::iter_told` does.
     pub fn iter_told(&self, told: Told<T>) -> Iter<'_, T>
         ensures { result ≡ fresh_with self.now.sharing (own_of self.now) true told }
     {
-        self.seat.iter_told(told)
+        let table = self.table;
+        match self.claim.lasting() {
+            Some((token, value)) => Iter::with_own_and_told(&table.buckets, &token, value, told),
+            None => Iter::with_told(&table.buckets, told),
+        }
     }
 
     /// `iter`, with a token of each value, as `ThreadLocal::tokens` gives them.
@@ -306,8 +481,7 @@ impl<'a, T: Sync, R: Wait> Local<'a, T, R> {
 
 impl<'a, T, R: Wait> Drop for Local<'a, T, R> {
     fn drop(self) {
-        let Self { rt, seat } = self;
-        seat.give_back(rt);
+        self.give_back();
     }
 }
 
@@ -318,6 +492,6 @@ impl<'a, T: fmt::Debug, R: Wait> fmt::Debug for Local<'a, T, R> {
 
     /// Writes the value, if there is one, as Rust's crate writes a whole table.
     fn fmt<W: fmt::Write>(&self, f: &mut fmt::Formatter<W>) -> fmt::Result {
-        self.seat.fmt(f)
+        write!(f, "ThreadLocal {{ local_data: {:?} }}", self.get())
     }
 }

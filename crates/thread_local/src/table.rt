@@ -14,7 +14,6 @@ ghost use Rattle.thread_local_shared_buckets.specs.Grown.{only_reserved};
 ghost use Rattle.thread_local_shared_buckets.specs.Walks.{fresh, fresh_with};
 
 use crate::local::Local;
-use crate::seat::Seat;
 use std::alloc::Global;
 use std::default::MadeWith;
 use std::marker::Model;
@@ -191,7 +190,7 @@ impl<T> ThreadLocal<T> {
         ensures least { IfOk result (λ local. local.id ≡ least (held_after local.before)) }
     {
         let (held, right, tenure) = self.ids.lock(rt).take()?;
-        Ok(Local::new(rt, Seat::new(self, held, right, tenure)))
+        Ok(Local::new(rt, self, held, right, tenure))
     }
 
     /// The page of the table's ids from before any was taken, for a first `local_after`. At run
@@ -232,7 +231,7 @@ impl<T> ThreadLocal<T> {
             → HoldsAllBelow (2 ^ 63 - 1) (held_after page.new.moves) }
     {
         let (held, right, tenure) = self.ids.lock(rt).take_after(page, &self.room)?;
-        Ok(Local::new(rt, Seat::new(self, held, right, tenure)))
+        Ok(Local::new(rt, self, held, right, tenure))
     }
 
     /// How many slots the table's buckets have together.

@@ -10,7 +10,7 @@ use std::default::MadeWith;
 use std::sync::Wait;
 use thread_local::ThreadLocal;
 use thread_local::iter::IterMut;
-use thread_local::local::{Local, Seat, TryError};
+use thread_local::local::{Local, TryError};
 use thread_local::table::CapacityError;
 use thread_local_judged::{Judge, judge_sync};
 use thread_local_shared_buckets::Iter;
@@ -114,11 +114,14 @@ fn lasting_second<'a, R: Wait>(
 }
 
 /// Nor is one at any type, where the bucket is known to stand.
-fn filled_where_known<T: Send + Drop, E: Drop>(seat: &mut Seat<'_, T>, made: Result<T, E>) -> bool
-    requires { seat.old.known ≡ true }
+fn filled_where_known<T: Send + Drop, E: Drop, R: Wait>(
+    local: &mut Local<'_, T, R>,
+    made: Result<T, E>,
+) -> bool
+    requires { local.old.known ≡ true }
     ensures { result ≡ true }
 {
-    !matches!(seat.try_fill(move || made), Err(TryError::Memory(_)))
+    !matches!(local.try_fill(move || made), Err(TryError::Memory(_)))
 }
 
 /// Where a value is held, a closure that can't be called is taken.
@@ -151,11 +154,11 @@ fn held_is_no_error<R: Wait>(local: &mut Local<'_, u32, R>) -> bool
     local.get_or_try(|| Err::<u32, bool>(false)).is_ok()
 }
 
-fn held_is_full(seat: &mut Seat<'_, u32>) -> bool
-    requires { IsSome seat.old.value }
+fn held_is_full<R: Wait>(local: &mut Local<'_, u32, R>) -> bool
+    requires { IsSome local.old.value }
     ensures { result ≡ true }
 {
-    seat.try_fill(|| Err::<u32, bool>(false)).is_ok()
+    local.try_fill(|| Err::<u32, bool>(false)).is_ok()
 }
 
 /// The error is what the closure answered.
@@ -168,10 +171,10 @@ fn error_of_the_closure<R: Wait>(local: &mut Local<'_, u32, R>, error: u64) -> u
     }
 }
 
-fn error_of_a_filling(seat: &mut Seat<'_, u32>, error: u64) -> u64
+fn error_of_a_filling<R: Wait>(local: &mut Local<'_, u32, R>, error: u64) -> u64
     ensures { result ≡ error }
 {
-    match seat.try_fill(|| Err::<u32, u64>(error)) {
+    match local.try_fill(|| Err::<u32, u64>(error)) {
         Err(TryError::Create(told)) => told,
         _ => error,
     }
@@ -279,12 +282,7 @@ fn sync<T: Send + Sync>(alloc: Global) -> ThreadLocal<T> {
     ThreadLocal::new(alloc)
 }
 
-/// A seat publishes and finds with nothing that waits.
-fn found_without_a_wait(seat: &mut Seat<'_, u32>) -> Result<u32, AllocError> {
-    let made = *seat.get_or(|| 5)?;
-    Ok(seat.get().copied().unwrap_or(made))
-}
-
+/// A walk gives its values with nothing that waits.
 fn sum(walk: Iter<'_, u32>) -> u32 {
     let mut sum = 0u32;
     for value in walk {
@@ -293,9 +291,9 @@ fn sum(walk: Iter<'_, u32>) -> u32 {
     sum
 }
 
-/// So does its walk.
-fn sum_without_a_wait(seat: &Seat<'_, u32>) -> u32 {
-    sum(seat.iter())
+/// So does that of a `Local`.
+fn sum_of<R: Wait>(local: &Local<'_, u32, R>) -> u32 {
+    sum(local.iter())
 }
 
 fn generic_local<T: Send, R: Wait + Sync>(local: Local<'_, T, R>) {

@@ -2,7 +2,7 @@
 ghost use Rattle.std.specs.Prelude.{◌≡◌, ◌≢◌, ◌≤◌, ◌<◌, List, IfOk, true, false};
 ghost use Rattle.thread_local.specs.Held.{is_held, held_count, least};
 ghost use Rattle.thread_local.specs.IdMoves.{IdMove, Take, held_after, noted};
-ghost use Rattle.thread_local.specs.Seats.{EndsWithReturn};
+ghost use Rattle.thread_local.specs.Locals.{EndsWithReturn};
 ghost use mathlib.Core.List.{IsPrefix};
 
 use std::alloc::Global;

@@ -2,7 +2,6 @@
 //! `tools/misuse` changes that line, and compares why the compiler refuses the program then.
 
 use std::alloc::Global;
-use std::mem::swap;
 use std::sync::Wait;
 use std::test::Fail;
 use std::thread;
@@ -86,14 +85,6 @@ fn item_before_the_clear(table: &mut ThreadLocal<u32>) -> Option<u32> {
     Some(seen)
 }
 
-/// Two `Local`s take each other's seat.
-fn swapped<R: Wait>(table: &ThreadLocal<u32>, rt: &R) -> Option<u32> {
-    let mut left = table.local(rt).ok()?;
-    let mut right = table.local(rt).ok()?;
-    swap(left.seat_mut(), right.seat_mut());
-    right.get().copied()
-}
-
 /// Two `Local`s that are held at once: the first answer of the second, and what the first makes of
 /// it.
 fn with_two_locals<R: Wait>(table: &ThreadLocal<u32>, rt: &R) -> Option<[Option<u32>; 2]> {
@@ -109,7 +100,6 @@ fn the_programs_run(rt: HostRuntime) -> Result<(), Fail> {
         found_before_the_drop(&table, &rt),
         made_before_the_drop(&table, &rt),
         found_before_the_drop(&table, &rt),
-        swapped(&table, &rt),
     ];
     let together = with_two_locals(&table, &rt);
     let made = made_of_numbers(rt.alloc());
@@ -121,7 +111,7 @@ fn the_programs_run(rt: HostRuntime) -> Result<(), Fail> {
         item_before_the_clear(&mut other),
     );
     assert_eq!(rt; walked, (0, None));
-    assert_eq!(rt; alone, [None, Some(1), Some(1), Some(1)]);
+    assert_eq!(rt; alone, [None, Some(1), Some(1)]);
     assert_eq!(rt;
         (together, made, by_another, owned),
         (Some([Some(2), Some(1)]), 0, Some(true), Some(3))

@@ -244,7 +244,7 @@ fn a_negative_number_is_shown(rt: HostRuntime) {
     assert!(rt; shows_a_negative_number(&table, &rt, rt.alloc()));
 }
 
-/// Beside a first `Local`, one of its table and one of another publish 2 and 3, and their seats are
+/// Beside a first `Local`, one of its table and one of another publish 2 and 3, and the two are
 /// swapped. Answers what each was told, and what the first found before the third was taken, and
 /// after the swap.
 fn swap_beside<'a, R: Wait>(
@@ -258,7 +258,7 @@ fn swap_beside<'a, R: Wait>(
     let before = found(first);
     let mut third = other.local(rt).ok()?;
     let three = published(&mut third, 3);
-    swap(third.seat_mut(), second.seat_mut());
+    swap(&mut third, &mut second);
     Some(([two, three], [before, found(first)]))
 }
 
@@ -283,7 +283,7 @@ fn found_by_two<R: Wait>(table: &ThreadLocal<u32>, rt: &R) -> Option<[Option<u32
 }
 
 #[test]
-fn swapped_seats_go_back_to_their_tables(rt: HostRuntime) {
+fn swapped_locals_go_back_to_their_tables(rt: HostRuntime) {
     let table = numbers(rt.alloc());
     let other = numbers(rt.alloc());
     let swapped = swap_the_latter_two(&table, &other, &rt);

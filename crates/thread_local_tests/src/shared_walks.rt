@@ -85,10 +85,10 @@ fn gives_three<R: Wait>(local: &Local<'_, u32, R>) -> bool {
     gives(local.iter(), &[1, 2, 3])
 }
 
-/// How many values the walk of a new `Local`'s seat gives.
+/// How many values the walk of a new `Local` gives.
 fn count_of_a_new_one<R: Wait>(table: &ThreadLocal<u32>, rt: &R) -> Option<usize> {
     let local = table.local(rt).ok()?;
-    Some(local.seat().iter().count())
+    Some(local.iter().count())
 }
 
 /// Three `Local`s that are held at once publish 1, 2 and 3. Answers whether the walk of the second
@@ -169,7 +169,7 @@ fn all_give_none<R: Wait>(table: &ThreadLocal<u32>, rt: &R) -> bool {
     let Ok(local) = table.local(rt) else {
         return false;
     };
-    gives(table.iter(), &[]) && gives(local.iter(), &[]) && gives(local.seat().iter(), &[])
+    gives(table.iter(), &[]) && gives(local.iter(), &[])
 }
 
 #[test]

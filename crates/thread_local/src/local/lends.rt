@@ -1,15 +1,13 @@
 //! The calls of a `Local` that answer a reference and say what they leave as well. A file of its
 //! own, since their clauses import the `the_row` that is generated from the file that declares the
-//! type. Their bodies are those of the seat's calls, and don't call the seat's: the clause `leaves`
-//! names the row of its own type, and no proof leads from a clause on a seat's row to one on a
-//! `Local`'s.
+//! type.
 ghost use Rattle.std.specs.Prelude.{◌≡◌, ⊤, true, None, IsOk, IsSome, Result, [], MatchResult};
 ghost use types.Logic.{sem};
 ghost use denote.Follow.{follows_so};
 ghost use mathlib.Core.Option.{none};
 ghost use mir.Syntax.{named};
 ghost use Rattle.thread_local_model.specs.Answers.{GetOr, Refused, answer};
-ghost use Rattle.thread_local.specs.Seats.{knows, IsAnswered, Fills, IsRefused};
+ghost use Rattle.thread_local.specs.Locals.{knows, IsAnswered, Fills, IsRefused};
 ghost use Rattle.thread_local.specs.contracts.local.Local.{the_row};
 
 use super::Local;
@@ -39,8 +37,8 @@ impl<'a, T, R: Wait> Local<'a, T, R> {
         ensures granted { self.old.known ≡ true → IsOk result }
         ensures held { IsSome self.old.value → IsOk result }
     {
-        self.seat.fill(create)?;
-        Ok(self.seat.value())
+        self.fill(create)?;
+        Ok(self.value())
     }
 
     /// The value. Where the slot is empty, `T::made_with` makes it and it is published as by
@@ -63,7 +61,7 @@ impl<'a, T, R: Wait> Local<'a, T, R> {
         ensures granted { self.old.known ≡ true → IsOk result }
         ensures held { IsSome self.old.value → IsOk result }
     {
-        self.seat.fill_default()?;
-        Ok(self.seat.value())
+        self.fill_default()?;
+        Ok(self.value())
     }
 }

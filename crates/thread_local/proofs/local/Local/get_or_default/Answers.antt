@@ -4,12 +4,11 @@ use Rattle.thread_local.proofs.local.Local.get_or_default.Goals as goal
 
 -- The search for these takes a second.
 pub value-requires : goal.value-requires
-value-requires g c = some_filled _ _ c.self.inside.seat c.fill_default.new.self c.in_ok-fill_default.ensures.ok
+value-requires g c = some_filled _ _ c.args.self.now c.fill_default.new.self c.in_ok-fill_default.ensures.ok
 
 pub returns : goal.returns
 returns g c =
-    let fills = fills_by _ _ c.self.inside.seat c.fill_default.new.self c.value.result.now c.in_ok-fill_default.ensures.ok c.value.ensures in
-    rw (← c.self.view_is) (
+    let fills = fills_by _ _ c.args.self.now c.fill_default.new.self c.value.result.now c.in_ok-fill_default.ensures.ok c.value.ensures in (
       (refl, (λ _. tt), fills),
       record {
         leaves = tt;

@@ -1,26 +1,20 @@
-use Rattle.std.proofs.Common.{◌∙◌, sym, ap}
-use Rattle.thread_local.specs.Seats.{LocalView}
+use Rattle.thread_local.proofs.Filled.{some_filled, fills_by, answered}
+use Rattle.thread_local.proofs.Told.{ok_not_err}
 use Rattle.thread_local.proofs.local.Local.get_or_try.Goals as goal
 
--- What the seat's call says, of the view of the `Local`. The search for these takes a second.
-pub get_or_try-requires : goal.get_or_try-requires
-get_or_try-requires g c = λ none.
-    c.requires (ap (λ (view : LocalView g.row.T.Denot). view.value) (sym c.self.view_is) ∙ none)
+-- The search for these takes a second.
+pub value-requires : goal.value-requires
+value-requires g c = some_filled _ _ c.args.self.now c.try_fill.new.self c.in_ok-try_fill.ensures.ok
 
 pub returns-clause-ok : goal.returns-clause-ok
-returns-clause-ok g c = rw (← c.self.view_is) c.get_or_try.ensures.ok
+returns-clause-ok g c =
+    answered (fills_by _ _ c.args.self.now c.try_fill.new.self c.value.result.now c.in_ok-try_fill.ensures.ok c.value.ensures)
 
 pub returns-clause-create : goal.returns-clause-create
-returns-clause-create g c = rw (← c.self.view_is) c.get_or_try.ensures.create
+returns-clause-create g c = λ error told. absurd (ok_not_err told)
 
 pub returns-clause-memory : goal.returns-clause-memory
-returns-clause-memory g c = rw (← c.self.view_is) c.get_or_try.ensures.memory
+returns-clause-memory g c = λ told. absurd (ok_not_err told)
 
 pub returns-clause-granted : goal.returns-clause-granted
-returns-clause-granted g c = rw (← c.self.view_is) c.get_or_try.ensures.granted
-
-pub returns-clause-held : goal.returns-clause-held
-returns-clause-held g c = rw (← c.self.view_is) c.get_or_try.ensures.held
-
-pub returns-clause-failed : goal.returns-clause-failed
-returns-clause-failed g c = c.get_or_try.ensures.failed
+returns-clause-granted g c = λ known told. ok_not_err told

@@ -1,11 +1,53 @@
+use Rattle.std.proofs.Common.{◌∙◌, rules, sym, ap, subst, refl}
+use Rattle.thread_local_model.specs.Place.{IsPlaceOf}
+use Rattle.thread_local.specs.Locals.{LocalView, knows, knowing, holding}
+use Rattle.thread_local.proofs.Filled.{none_of}
+use Rattle.thread_local.proofs.Told.{ok_not_err, occupied_not_memory, memory_not_occupied, same_occupied, same_memory}
 use Rattle.thread_local.proofs.local.Local.set.Goals as goal
 
--- What the seat's call says, of the view of the `Local`. The search for these takes a second.
-pub returns-clause-ok : goal.returns-clause-ok
-returns-clause-ok g c = rw (← c.self.view_is) c.set.ensures.ok
+-- The search for these takes seconds.
+pub returns-then-is_published-clause-occupied : goal.returns-then-is_published-clause-occupied
+returns-then-is_published-clause-occupied g c = λ given told. (sym c.is_published.ensures ∙ c.if-is_published.true, same_occupied told, refl)
 
-pub returns-clause-occupied : goal.returns-clause-occupied
-returns-clause-occupied g c = rw (← c.self.view_is) c.set.ensures.occupied
+pub returns-then-is_published-clause-memory : goal.returns-then-is_published-clause-memory
+returns-then-is_published-clause-memory g c = λ given told. absurd (occupied_not_memory told)
 
-pub returns-clause-memory : goal.returns-clause-memory
-returns-clause-memory g c = rw (← c.self.view_is) c.set.ensures.memory
+pub find_bucket-requires-clause-empty : goal.find_bucket-requires-clause-empty
+find_bucket-requires-clause-empty g c = none_of c.args.self.now.value (search rules)
+
+pub find_bucket-requires-clause-place : goal.find_bucket-requires-clause-place
+find_bucket-requires-clause-place g c = c.place-thread.ensures
+
+pub publish_at-requires-clause-vacant : goal.publish_at-requires-clause-vacant
+publish_at-requires-clause-vacant g c = ap (λ (view : LocalView g.row.T.Denot). knows view) c.in-Ok.ensures.ok
+
+pub publish_at-requires-clause-place : goal.publish_at-requires-clause-place
+publish_at-requires-clause-place g c =
+    subst (λ (view : LocalView g.row.T.Denot). IsPlaceOf c.place-thread.result.bucket c.place-thread.result.index view.id)
+    (sym c.in-Ok.ensures.ok)
+    c.place-thread.ensures
+
+pub returns-in-Ok-clause-ok : goal.returns-in-Ok-clause-ok
+returns-in-Ok-clause-ok g c = (
+  none_of c.args.self.now.value (search rules),
+  c.publish_at.ensures ∙ ap (λ (view : LocalView g.row.T.Denot). knowing view (holding c.args.value)) c.in-Ok.ensures.ok,
+)
+
+pub returns-in-Ok-clause-occupied : goal.returns-in-Ok-clause-occupied
+returns-in-Ok-clause-occupied g c = λ given told. absurd (ok_not_err told)
+
+pub returns-in-Ok-clause-memory : goal.returns-in-Ok-clause-memory
+returns-in-Ok-clause-memory g c = λ given told. absurd (ok_not_err told)
+
+pub returns-in-Err-clause-occupied : goal.returns-in-Err-clause-occupied
+returns-in-Err-clause-occupied g c = λ given told. absurd (memory_not_occupied told)
+
+pub returns-in-Err-clause-memory : goal.returns-in-Err-clause-memory
+returns-in-Err-clause-memory g c =
+    let refused = c.in-Err.ensures.err in
+    λ given told. (
+      none_of c.args.self.now.value (search rules),
+      refused.0,
+      same_memory told,
+      refused.1,
+    )

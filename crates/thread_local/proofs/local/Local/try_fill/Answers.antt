@@ -1,27 +1,105 @@
-use Rattle.std.proofs.Common.{◌∙◌, sym, ap}
-use Rattle.thread_local.specs.Seats.{LocalView}
-use Rattle.thread_local.proofs.Filled.{fails_at}
+use Rattle.std.proofs.Common.{◌∙◌, Option, sym, ap, subst, refl}
+use Rattle.std.specs.Prelude.{IsSome}
+use Rattle.thread_local_model.specs.Place.{IsPlaceOf}
+use Rattle.thread_local.specs.Locals.{LocalView, knows, knowing, holding}
+use Rattle.thread_local.proofs.Filled.{is_filled, none_of, filled_empty, fails_empty, refused_at, on_err}
+use Rattle.thread_local.proofs.Told.{false_not_true, ok_not_err, same_create, create_not_memory}
 use Rattle.thread_local.proofs.local.Local.try_fill.Goals as goal
 
--- What the seat's call says, of the view of the `Local`. The search for these takes a second.
-pub try_fill-requires : goal.try_fill-requires
-try_fill-requires g c = λ none.
-    c.requires (ap (λ (view : LocalView g.row.T.Denot). view.value) (sym c.self.view_is) ∙ none)
+pub returns-then-is_published-clause-ok : goal.returns-then-is_published-clause-ok
+returns-then-is_published-clause-ok g c = is_filled _ _ c.args.self.now (sym c.is_published.ensures ∙ c.if-is_published.true)
 
-pub returns-clause-ok : goal.returns-clause-ok
-returns-clause-ok g c = rw (← c.self.view_is) c.try_fill.ensures.ok
+-- The search for these takes seconds.
+pub returns-then-is_published-clause-create : goal.returns-then-is_published-clause-create
+returns-then-is_published-clause-create g c = λ error told. absurd (ok_not_err told)
 
-pub returns-clause-create : goal.returns-clause-create
-returns-clause-create g c = λ error failed. fails_at c.self.view_is (c.try_fill.ensures.create error failed)
+pub returns-then-is_published-clause-memory : goal.returns-then-is_published-clause-memory
+returns-then-is_published-clause-memory g c = λ told. absurd (ok_not_err told)
 
-pub returns-clause-memory : goal.returns-clause-memory
-returns-clause-memory g c = rw (← c.self.view_is) c.try_fill.ensures.memory
+pub returns-then-is_published-clause-granted : goal.returns-then-is_published-clause-granted
+returns-then-is_published-clause-granted g c = λ known told. ok_not_err told
 
-pub returns-clause-granted : goal.returns-clause-granted
-returns-clause-granted g c = rw (← c.self.view_is) c.try_fill.ensures.granted
+pub returns-then-is_published-clause-held : goal.returns-then-is_published-clause-held
+returns-then-is_published-clause-held g c = λ some. refl
 
-pub returns-clause-held : goal.returns-clause-held
-returns-clause-held g c = rw (← c.self.view_is) c.try_fill.ensures.held
+pub find_bucket-requires-clause-empty : goal.find_bucket-requires-clause-empty
+find_bucket-requires-clause-empty g c = none_of c.args.self.now.value (sym c.is_published.ensures ∙ c.if-is_published.false)
 
-pub returns-clause-failed : goal.returns-clause-failed
-returns-clause-failed g c = c.try_fill.ensures.failed
+pub find_bucket-requires-clause-place : goal.find_bucket-requires-clause-place
+find_bucket-requires-clause-place g c = c.place-thread.ensures
+
+pub returns-in_err-find_bucket-clause-memory : goal.returns-in_err-find_bucket-clause-memory
+returns-in_err-find_bucket-clause-memory g c =
+    let refused = c.in_err-find_bucket.ensures.err in
+    λ told.
+    refused_at _ c.args.self.now c.find_bucket.new.self
+    (none_of c.args.self.now.value (sym c.is_published.ensures ∙ c.if-is_published.false))
+    refused.0 refused.1
+
+pub returns-in_err-find_bucket-clause-granted : goal.returns-in_err-find_bucket-clause-granted
+returns-in_err-find_bucket-clause-granted g c = λ known. absurd (false_not_true (sym c.in_err-find_bucket.ensures.err.0 ∙ known))
+
+pub returns-in_err-find_bucket-clause-held : goal.returns-in_err-find_bucket-clause-held
+returns-in_err-find_bucket-clause-held g c = λ some.
+    absurd (false_not_true (subst (λ (value : Option g.row.T.Denot). IsSome value)
+    (none_of c.args.self.now.value (sym c.is_published.ensures ∙ c.if-is_published.false))
+    some))
+
+pub create-requires : goal.create-requires
+create-requires g c = c.requires (none_of c.args.self.now.value (sym c.is_published.ensures ∙ c.if-is_published.false))
+
+pub publish_at-requires-clause-vacant : goal.publish_at-requires-clause-vacant
+publish_at-requires-clause-vacant g c = ap (λ (view : LocalView g.row.T.Denot). knows view) c.in_ok-find_bucket.ensures.ok
+
+pub publish_at-requires-clause-place : goal.publish_at-requires-clause-place
+publish_at-requires-clause-place g c =
+    subst (λ (view : LocalView g.row.T.Denot). IsPlaceOf c.place-thread.result.bucket c.place-thread.result.index view.id)
+    (sym c.in_ok-find_bucket.ensures.ok)
+    c.place-thread.ensures
+
+pub returns-in-Ok-clause-ok : goal.returns-in-Ok-clause-ok
+returns-in-Ok-clause-ok g c =
+    filled_empty _ _ c.args.self.now c.publish_at.new.self c.in-Ok.value
+    (none_of c.args.self.now.value (sym c.is_published.ensures ∙ c.if-is_published.false))
+    (c.publish_at.ensures ∙ ap (λ (view : LocalView g.row.T.Denot). knowing view (holding c.in-Ok.value)) c.in_ok-find_bucket.ensures.ok)
+    c.in-Ok.ensures
+
+pub returns-in-Ok-clause-create : goal.returns-in-Ok-clause-create
+returns-in-Ok-clause-create g c = λ error told. absurd (ok_not_err told)
+
+pub returns-in-Ok-clause-memory : goal.returns-in-Ok-clause-memory
+returns-in-Ok-clause-memory g c = λ told. absurd (ok_not_err told)
+
+pub returns-in-Ok-clause-granted : goal.returns-in-Ok-clause-granted
+returns-in-Ok-clause-granted g c = λ known told. ok_not_err told
+
+pub returns-in-Err-clause-create : goal.returns-in-Err-clause-create
+returns-in-Err-clause-create g c = λ error told.
+    fails_empty _ c.args.self.now c.find_bucket.new.self c.in-Err.error error (same_create told)
+    (none_of c.args.self.now.value (sym c.is_published.ensures ∙ c.if-is_published.false))
+    c.in_ok-find_bucket.ensures.ok
+    c.in-Err.ensures
+
+pub returns-in-Err-clause-memory : goal.returns-in-Err-clause-memory
+returns-in-Err-clause-memory g c = λ told. absurd (create_not_memory told)
+
+pub returns-in-Err-clause-granted : goal.returns-in-Err-clause-granted
+returns-in-Err-clause-granted g c = λ known told. create_not_memory told
+
+pub returns-in-Ok-clause-held : goal.returns-in-Ok-clause-held
+returns-in-Ok-clause-held g c = λ some. refl
+
+pub returns-in-Err-clause-held : goal.returns-in-Err-clause-held
+returns-in-Err-clause-held g c = λ some.
+    absurd (false_not_true (subst (λ (value : Option g.row.T.Denot). IsSome value)
+    (none_of c.args.self.now.value (sym c.is_published.ensures ∙ c.if-is_published.false))
+    some))
+
+pub returns-in_err-find_bucket-clause-empty : goal.returns-in_err-find_bucket-clause-empty
+returns-in_err-find_bucket-clause-empty g c =
+    on_err _ _
+    (ap (λ (view : LocalView g.row.T.Denot). view.value) c.in_err-find_bucket.ensures.err.1
+    ∙ none_of c.args.self.now.value (sym c.is_published.ensures ∙ c.if-is_published.false))
+
+pub returns-in-Err-clause-empty : goal.returns-in-Err-clause-empty
+returns-in-Err-clause-empty g c = ap (λ (view : LocalView g.row.T.Denot). view.value) c.in_ok-find_bucket.ensures.ok

@@ -3,7 +3,6 @@ use Rattle.thread_local.specs.Tables.{ThreadLocalView}
 use Rattle.std.specs.Prelude.{List, Bool}
 use Rattle.thread_local_model.specs.Held.{least, held_count, HoldsAllBelow}
 use Rattle.thread_local_model.specs.IdMoves.{IdMove, held_after}
-use Rattle.thread_local.specs.Seats.{LocalView}
 use Rattle.thread_local.proofs.Counted.{all_below_count}
 use Rattle.thread_local.proofs.table.ThreadLocal.local_after.Goals as goal
 
@@ -24,21 +23,12 @@ new-requires g c =
     (c.lock.ensures.tag.1 ∙ c.self.invariant.0 ∙ ap (λ (t : ThreadLocalView). t.table) c.self.view_is)
     in (lit< tt, ((taken.right.0 ∙ table, taken.mark ∙ table, taken.tenure.0 ∙ table), (taken.right.1, taken.least)))
 
-pub returns-clause-table : goal.returns-clause-table
-returns-clause-table g c =
-    let seat = c.new.ensures.table in (
-      ap (λ (view : LocalView g.row.T.Denot). view.table) c.new-2.ensures ∙ seat.0,
-      ap (λ (view : LocalView g.row.T.Denot). view.sharing) c.new-2.ensures ∙ seat.1,
-      ap (λ (view : LocalView g.row.T.Denot). view.reserved) c.new-2.ensures ∙ seat.2,
-    )
-
 pub returns-clause-least : goal.returns-clause-least
 returns-clause-least g c =
-    ap (λ (view : LocalView g.row.T.Denot). view.id) c.new-2.ensures
-    ∙ c.new.ensures.id.0
+    c.new.ensures.id.0
     ∙ c.in_ok-held.ensures.least
     ∙ ap (λ (before : List IdMove). least (held_after before))
-    (sym (ap (λ (view : LocalView g.row.T.Denot). view.before) c.new-2.ensures ∙ c.new.ensures.id.1))
+    (sym c.new.ensures.id.1)
 
 -- where as many ids are held as there was room for, no fewer are
 pub returns-in_err-held-clause-granted : goal.returns-in_err-held-clause-granted

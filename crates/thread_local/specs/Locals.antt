@@ -1,6 +1,6 @@
--- What a contract sees of a `Local` and of its seat: the name of its table, the sharing if that has
--- a name, its id, how many slots of the table are reserved, what is known of the id's slot, and
--- what was done with the table's ids before.
+-- What a contract sees of a `Local`: the name of its table, the sharing if that has a name, its id, how
+-- many slots of the table are reserved, what is known of the id's slot, and what was done with the
+-- table's ids before.
 use Rattle.std.specs.Prelude.{◌≡◌, ◌≢◌, ℕ, ◌<◌, ◌-◌, ◌^◌, Bool, true, false, Option, Some, None, option_map, List, Result, Ok}
 use Rattle.std.specs.Prelude.{Err, refl}
 use base.Stored.{coded_bool}
@@ -83,9 +83,9 @@ pub record IsSameLocal {V : Type 0} (old new : LocalView V) : Type 0 where
   pub reserved : new.reserved ≡ old.reserved
   pub before : new.before ≡ old.before
 
--- a seat of a table: its claim is of this table in this sharing, has looked for its bucket, and has
--- found it where the id is reserved. What is kept of the take is of this table and of this id
-pub record IsSeated {V : Type 0} (of : ThreadLocalView) (claim : ClaimView V) (tenure : Tenure) : Type 0 where
+-- a `Local` of a table: its claim is of this table in this sharing, has looked for its bucket, and
+-- has found it where the id is reserved. What is kept of the take is of this table and of this id
+pub record IsLocalOf {V : Type 0} (of : ThreadLocalView) (claim : ClaimView V) (tenure : Tenure) : Type 0 where
   pub table : claim.table ≡ of.table
   pub sharing : claim.sharing ≡ of.sharing
   pub in_range : claim.id < 2 ^ 63 - 1

@@ -1,4 +1,4 @@
-use Rattle.thread_local.proofs.seat.Seat.fill_default.Goals as goal
+use Rattle.thread_local.proofs.local.Local.fill_default.Goals as goal
 
 -- What `fill` says. The search for these takes some time.
 pub returns-clause-err : goal.returns-clause-err

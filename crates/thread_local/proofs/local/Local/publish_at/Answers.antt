@@ -7,9 +7,9 @@ use Rattle.thread_local_model.specs.IdMoves.{IdMove}
 use Rattle.thread_local_shared_buckets.specs.Known.{HasLooked}
 use Rattle.thread_local_shared_buckets.specs.Views.{ClaimView}
 use Rattle.thread_local.specs.Tables.{ThreadLocalView}
-use Rattle.thread_local.specs.Seats.{LocalView, local_view, knows, vacant}
-use Rattle.thread_local.proofs.Seated.{now_knowing}
-use Rattle.thread_local.proofs.seat.Seat.publish_at.Goals as goal
+use Rattle.thread_local.specs.Locals.{LocalView, local_view, knows, vacant}
+use Rattle.thread_local.proofs.Knowing.{now_knowing}
+use Rattle.thread_local.proofs.local.Local.publish_at.Goals as goal
 
 -- a claim that has looked and is known to have a bucket, but no value, has seen its slot vacant
 seen_vacant : {V : Type 0} (learnt : Learnt V) → HasLooked learnt → (view_of learnt).value ≡ None → (view_of learnt).known ≡ true

@@ -6,8 +6,8 @@ use Rattle.thread_local.specs.Tables.{ThreadLocalView}
 use Rattle.thread_local_shared_buckets.specs.Walks.{Owed, fresh_with}
 use Rattle.std.specs.Prelude.{List}
 use Rattle.thread_local_model.specs.IdMoves.{IdMove}
-use Rattle.thread_local.specs.Seats.{LocalView, local_view, own_of}
-use Rattle.thread_local.proofs.seat.Seat.iter_told.Goals as goal
+use Rattle.thread_local.specs.Locals.{LocalView, local_view, own_of}
+use Rattle.thread_local.proofs.local.Local.iter_told.Goals as goal
 
 abbrev owed : {V : Type 0} → ℕ → V → Owed V
 owed id value = record { id = id; value = value }

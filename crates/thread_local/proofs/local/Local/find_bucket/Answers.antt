@@ -8,9 +8,9 @@ use Rattle.thread_local_model.specs.IdMoves.{IdMove}
 use Rattle.thread_local_shared_buckets.specs.Known.{HasLooked}
 use Rattle.thread_local_shared_buckets.specs.Views.{ClaimView}
 use Rattle.thread_local.specs.Tables.{ThreadLocalView}
-use Rattle.thread_local.specs.Seats.{LocalView, local_view, knowing, vacant}
-use Rattle.thread_local.proofs.Seated.{with_learnt, now_knowing}
-use Rattle.thread_local.proofs.seat.Seat.find_bucket.Goals as goal
+use Rattle.thread_local.specs.Locals.{LocalView, local_view, knowing, vacant}
+use Rattle.thread_local.proofs.Knowing.{with_learnt, now_knowing}
+use Rattle.thread_local.proofs.local.Local.find_bucket.Goals as goal
 
 -- the bucket was made, or memory was refused: the claim has looked
 looked : {V A E : Type 0} (result : Result A E) (learnt : Learnt V) → OnOk result (learnt ≡ Vacant)

@@ -2,7 +2,7 @@ use Rattle.std.proofs.Common.{◌≡◌, ◌∙◌, ◌<◌, ℕ, Some, sym, ap,
 use Rattle.thread_local_model.specs.Learnt.{Learnt, Missing, Vacant, learnt_by_install}
 use Rattle.thread_local_model.specs.Place.{IsPlaceOf}
 use Rattle.thread_local.proofs.Filled.{on_err}
-use Rattle.thread_local.proofs.seat.make_bucket.Goals as goal
+use Rattle.thread_local.proofs.local.make_bucket.Goals as goal
 
 -- The search for these takes seconds.
 pub returns-in_err-block-clause-same_slot : goal.returns-in_err-block-clause-same_slot

@@ -1,8 +1,8 @@
 use Rattle.std.proofs.Common.{◌∙◌, sym, ap, subst}
 use Rattle.thread_local_model.specs.Place.{IsPlaceOf}
-use Rattle.thread_local.specs.Seats.{LocalView, knows, knowing, holding}
+use Rattle.thread_local.specs.Locals.{LocalView, knows, knowing, holding}
 use Rattle.thread_local.proofs.Filled.{is_filled, none_of, filled_empty, refused_at, on_err}
-use Rattle.thread_local.proofs.seat.Seat.fill.Goals as goal
+use Rattle.thread_local.proofs.local.Local.fill.Goals as goal
 
 pub returns-else-not-is_published-clause-ok : goal.returns-else-not-is_published-clause-ok
 returns-else-not-is_published-clause-ok g c = is_filled _ _ c.args.self.now (sym c.is_published.ensures ∙ c.if-not-is_published.false)
