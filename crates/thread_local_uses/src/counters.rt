@@ -1,11 +1,14 @@
 //! Counters that don't disturb each other: each thread counts in a cell of its own, which shares no
-//! line of the cache with another thread's.
+//! line of the cache with another thread's. And counts of a pool, which contracts see.
+ghost use Rattle.std.specs.Prelude.{◌≡◌, ◌+◌, ◌^◌, ◌<◌};
+
 use std::alloc::Global;
 use std::cell::Cell;
 use std::sync::Wait;
 use thread_local::table::Judge;
 use thread_local::thread_id::LocalError;
 use thread_local::{Padded, ThreadLocal};
+use thread_local_pool::Pooled;
 
 /// A table of counters, where threads count often and at the same time.
 pub fn padded(alloc: Global) -> ThreadLocal<Padded<Cell<u64>>> {
@@ -50,11 +53,20 @@ pub fn count_plain<R: Wait>(
     Ok(())
 }
 
+/// Adds one to a count of a pool. What a cell holds no contract sees.
+pub fn count_pooled<R: Wait>(count: &mut Pooled<'_, u64, R>)
+    requires { count.old.value + 1 < 2 ^ 64 }
+    ensures { count.new.value ≡ count.old.value + 1 }
+{
+    **count += 1;
+}
+
 #[cfg(test)]
 mod tests {
     use super::*;
     use std::test::Fail;
     use std::thread;
+    use thread_local_pool::Pool;
 
     #[test]
     fn padded_counters_count_as_plain_ones(rt: HostRuntime) -> Result<(), Fail> {
@@ -79,6 +91,23 @@ mod tests {
             .fold(0u64, |sum, counter| sum.wrapping_add(counter.get()));
         assert_eq!(rt; counted, ((Ok(()), Ok(())), (Ok(()), Ok(()))));
         assert_eq!(rt; (in_padded, in_plain), (1234, 1234));
+        Ok(())
+    }
+
+    /// Adds one to a count that is below 1000. Answers what it is then.
+    fn count_once<R: Wait>(counts: &Pool<u64>, rt: &R) -> Result<u64, LocalError> {
+        let mut count = counts.get(rt, || 0)?;
+        if *count < 1000 {
+            count_pooled(&mut count);
+        }
+        Ok(*count)
+    }
+
+    #[test]
+    fn a_pooled_count_goes_on(rt: HostRuntime) -> Result<(), Fail> {
+        let counts = Pool::new(rt.alloc());
+        let told = (count_once(&counts, &rt), count_once(&counts, &rt));
+        assert_eq!(rt; told, (Ok(1), Ok(2)));
         Ok(())
     }
 }

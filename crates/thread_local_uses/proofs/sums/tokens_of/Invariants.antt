@@ -1,5 +1,5 @@
 -- Whose tokens are there.
-use Rattle.std.proofs.Common.{◌≡◌, All, length, map, take}
+use Rattle.std.proofs.Common.{◌≡◌, All, map, take}
 use Rattle.thread_local_uses.proofs.sums.tokens_of.Given as goal
 
 -- the tokens of the first parts, in their order
