@@ -6,6 +6,8 @@
     tools/schedules.py --wrong              tries each wrong body in turn: some clause must fail for it
     tools/schedules.py --wrong --short      the same on fewer schedules
     tools/schedules.py --names              says which names of the scripts aren't in the specs or the theorems
+    tools/schedules.py --pins               lists for each word of the theorems the clauses that pin it, by their texts; the
+                                            status is 1 where a word has one side alone and needs both
     tools/schedules.py --show 7             prints a schedule as a table, a line for each event
     tools/schedules.py --buckets 4 --seed 7 --runs 2000 --events 120
 
@@ -24,6 +26,7 @@ from dataclasses import dataclass, replace
 
 sys.dont_write_bytecode = True  # a run leaves no folder beside the tools
 
+import pins
 import table_model as model
 from table_model import Core, Slot, View, bucket_of, held_count, is_held, is_reserved, least, live_local, live_walk, new_core, new_sheet
 
@@ -2068,8 +2071,11 @@ def main():
     options.add_argument("--buckets", type=int, default=3)
     options.add_argument("--wrong", action="store_true", help="tries each wrong body in turn")
     options.add_argument("--names", action="store_true", help="says which names of the scripts aren't in the specs or the theorems")
+    options.add_argument("--pins", action="store_true", help="lists for each word of the theorems the clauses that pin it")
     options.add_argument("--show", type=int, metavar="SEED", help="print a schedule in which two Locals race for one bucket")
     given = options.parse_args()
+    if given.pins:
+        sys.exit(pins.main())
     if given.names:
         sys.exit(compare_names())
     if given.show is not None:

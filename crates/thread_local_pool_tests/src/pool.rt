@@ -196,6 +196,13 @@ fn add_ten(pool: &mut Pool<u64>) -> usize {
     pool.slots()
 }
 
+/// The same by a loop over the pool.
+fn add_ten_by_a_loop(pool: &mut Pool<u64>) {
+    for value in pool {
+        *value = value.wrapping_add(10);
+    }
+}
+
 /// The values of a pool that are moved out, as digits to the base of 100.
 fn moved_out(pool: Pool<u64>) -> u64 {
     let mut digits = 0u64;
@@ -221,6 +228,34 @@ fn an_owner_walks_over_the_values_of_a_pool(rt: HostRuntime) -> Result<(), Fail>
     let slots = add_ten(&mut pool);
     assert_eq!(rt; (put, slots), (Some(()), 3));
     assert_eq!(rt; moved_out(pool), 1113);
+    Ok(())
+}
+
+#[test]
+fn a_loop_over_a_pool_goes_over_its_values(rt: HostRuntime) -> Result<(), Fail> {
+    let mut pool = Pool::new(rt.alloc());
+    let put = put_three(&pool, &rt);
+    add_ten_by_a_loop(&mut pool);
+    assert_eq!(rt; (put, moved_out(pool)), (Some(()), 1113));
+    Ok(())
+}
+
+/// What the three walks over a pool know of how many values they give.
+fn hints(mut pool: Pool<u64>) -> [(usize, Option<usize>); 3] {
+    let lending = pool.iter_mut().size_hint();
+    let draining = pool.drain().size_hint();
+    [lending, draining, pool.into_iter().size_hint()]
+}
+
+// Three cells, and none once they are drained.
+#[test]
+fn walks_over_a_pool_know_how_many_cells_there_are(rt: HostRuntime) -> Result<(), Fail> {
+    let pool = Pool::new(rt.alloc());
+    let put = put_three(&pool, &rt);
+    assert_eq!(rt;
+        (put, hints(pool)),
+        (Some(()), [(0, Some(3)), (0, Some(3)), (0, Some(0))])
+    );
     Ok(())
 }
 
@@ -280,10 +315,12 @@ fn take_out<R: Wait>(pool: &Pool<u64>, rt: &R) -> Option<(u64, bool)> {
     Some((taken, another(pool, rt)?.0))
 }
 
+// Its id went back: there is one slot.
 #[test]
 fn a_value_that_is_taken_out_is_made_anew(rt: HostRuntime) -> Result<(), Fail> {
-    let pool = Pool::new(rt.alloc());
-    assert_eq!(rt; take_out(&pool, &rt), Some((5, true)));
+    let mut pool = Pool::new(rt.alloc());
+    let taken = take_out(&pool, &rt);
+    assert_eq!(rt; (taken, pool.slots()), (Some((5, true)), 1));
     Ok(())
 }
 

@@ -64,6 +64,13 @@ pub fn taken_again(alloc: Global) -> Result<usize, LocalError>
     ids.alloc()
 }
 
+/// The value of a new `Local`, which is made where there is none, and which lasts as long as the
+/// table is lent.
+pub fn lasting<'a, R: Wait>(table: &'a ThreadLocal<u64>, rt: &'a R, value: u64) -> Option<&'a u64> {
+    let mut local = table.local(rt).ok()?;
+    local.get_or_try_lasting(|| Ok::<u64, ()>(value)).ok()
+}
+
 #[cfg(test)]
 mod tests {
     use super::*;
@@ -102,6 +109,15 @@ mod tests {
             assert!(rt; counts.insert(Thread::new(id), count).is_ok());
         }
         assert_eq!(rt; summed(counts), (2, 50));
+        Ok(())
+    }
+
+    #[test]
+    fn a_value_outlives_its_local(rt: HostRuntime) -> Result<(), Fail> {
+        let table = ThreadLocal::<u64>::new(rt.alloc());
+        let first = lasting(&table, &rt, 5);
+        let second = lasting(&table, &rt, 6);
+        assert_eq!(rt; (first, second), (Some(&5), Some(&5)));
         Ok(())
     }
 
