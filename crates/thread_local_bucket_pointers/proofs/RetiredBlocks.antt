@@ -1,18 +1,13 @@
 -- Retiring a block: its slots become room one by one, from the first on. Assumes `Logic`.
 use Rattle.thread_local_model.proofs.Names.{◌≡◌, ℕ, suc, ◌+◌, ◌*◌, ◌^◌, ◌<◌, List, [], ◌∷◌, ◌++◌, length}
 use Rattle.thread_local_model.proofs.Names.{length-append, set, sym, refl, ap, ◌∙◌, subst, arith, Option, Some, None}
-use Rattle.thread_local_model.proofs.Names.{Ura, Ty, Val, SProp, ent, emp, ex, all, all_e, guard, apply∗}
-use Rattle.thread_local_model.proofs.Names.{Fml, ftrue, fsep, froom, Logic, sem, ‵, raw, ◌⊛◌, given, learn, ◌$◌, ◌∵◌}
+use Rattle.thread_local_model.proofs.Names.{Ura, Ty, SProp, ex, all, all_e, guard, apply∗}
+use Rattle.thread_local_model.proofs.Names.{Fml, ftrue, fsep, froom, Logic, ‵, raw, ◌⊛◌, given, learn, ◌$◌, ◌∵◌}
 use Rattle.thread_local_model.proofs.Names.{ !, qed, by, move, drop, split, fsplit, fsplit3, fjoin, fjoin3, fpick}
 use Rattle.thread_local_model.proofs.Names.{fpack, show, check, frame, assume, use1, use2, rewrite, done, RattleType}
-use Rattle.thread_local_model.proofs.Names.{Is, Ptr, block_ptr, block_of, count_of, InBlock, ptr_val, nothing, vstruct}
-use Rattle.thread_local_model.proofs.Names.{vnil, of_list}
+use Rattle.thread_local_model.proofs.Names.{Ptr, block_ptr, block_of, count_of, InBlock, nothing}
 use Rattle.std.specs.Prelude.{◌/◌, ◌%◌, is_some, slice_index, replicate, take, drop as but_first, if◌then◌else◌}
 use Rattle.std.proofs.lemmas.List.{take-append-drop, get_or-drop, length-replicate, replicate_more, set-get_or}
-use denote.Shadow.{makes_shadow}
-use denote.Struct.Struct.{Struct}
-use denote.Struct.Owning.{shape}
-use Rattle.std.specs.declared.alloc.Allocator.{Ghosts}
 use Rattle.thread_local_model.specs.Bits.{is_set}
 use Rattle.thread_local_bucket_pointers.specs.Slots.{empty_slots, slot_value, chunks, Fits, AreWords, AreFlagsFrom, each, stride}
 use Rattle.thread_local_bucket_pointers.specs.Slots.{flags_at, flag_room, slot, back, block_ty, block_owns}
@@ -21,26 +16,7 @@ use Rattle.thread_local_bucket_pointers.proofs.Flags.{in_chunks, value_near, fla
 use Rattle.thread_local_bucket_pointers.proofs.Slots.{IsWordNear, word_is_near, flags_of}
 use Rattle.thread_local_bucket_pointers.proofs.Rooms.{each_cut, each_joined, words_room}
 use Rattle.thread_local_bucket_pointers.specs.Retired.{retired_owns, flags_left, rest}
-use Rattle.thread_local_bucket_pointers.specs.contracts.retired.RetiredBlock as retired
-use Rattle.thread_local_bucket_pointers.proofs.Fields.{block_val}
 use Rattle.thread_local_model.proofs.Signs.{signs}
-
-module _ (R Z : RattleType) (g : Ghosts Z.Denot) where
-  abbrev pub FieldsType : RattleType
-  FieldsType = Struct (shape (retired.the_type R Z g))
-
-  pub told : (p : Ptr) (vs : List Val) → Is FieldsType (p, (record {}, tt)) vs → vs ≡ block_val p ∷ []
-  told p vs is =
-      is.1.0
-      ∙ ap (λ (ws : List Val). vstruct (of_list (ws ++ (is.0.1.0 ++ []))) ∷ []) is.1.1.0
-      ∙ ap (λ (ws : List Val). vstruct (of_list (ptr_val p ∷ (ws ++ []))) ∷ []) is.1.1.1.0.1.0
-
-  pub made : {M : Type 1} {𝓤 : Ura M} (𝓛 : Logic 𝓤) (p : Ptr)
-      → ent 𝓤 (emp 𝓤) (sem 𝓛 (FieldsType.own_val (p, (record {}, tt)) (block_val p ∷ [])))
-  made 𝓛 p =
-      makes_shadow 𝓛 (FieldsType.own_val (p, (record {}, tt)) (block_val p ∷ []))
-      (λ vss. (tt, (tt, ((λ uss. (tt, tt)), tt))))
-      ((ptr_val p ∷ [], (vstruct vnil ∷ [], tt)), (refl, (refl, ((tt, (refl, tt)), tt))))
 
 module _ {M : Type 1} {𝓤 : Ura M} (𝓛 : Logic 𝓤) (R : RattleType) where
   open 𝓛 use {H}

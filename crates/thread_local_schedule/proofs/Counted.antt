@@ -1,8 +1,8 @@
 -- The most ids held at once, and the publishings, after one event more.
 use Rattle.std.specs.Prelude.{◌≢◌}
-use Rattle.std.proofs.Common.{◌≡◌, ℕ, suc, max, Bool, true, false, ◌&&◌, List, [], ◌∷◌, ◌++◌, Option, Some}
+use Rattle.std.proofs.Common.{◌≡◌, ℕ, suc, max, true, false, ◌&&◌, List, [], ◌∷◌, ◌++◌, Option, Some}
 use Rattle.std.proofs.Common.{IsTrue, refl, ap, ◌∙◌, ⊎_elim}
-use Rattle.std.proofs.lemmas.Bool.{cases_Bool}
+use Rattle.std.proofs.lemmas.Bool.{cases_Bool, and_right}
 use Rattle.thread_local_model.specs.Held.{held_count}
 use Rattle.thread_local_model.specs.Sheet.{Publish, Clear}
 use Rattle.thread_local_schedule.specs.TableMoves.{TableMove, OfSheet, Drain}
@@ -12,10 +12,7 @@ use Rattle.thread_local_schedule.specs.Events.{Owner, ClearTable}
 use Rattle.thread_local_schedule.specs.Events.{is_enabled, happens, run}
 use Rattle.thread_local_schedule.specs.Schedule.{move, is_clear}
 use Rattle.thread_local_schedule.specs.Bounds.{most_after, most_after_all, most_held, publishings_with, publishings_after_all, publishings}
-
-and_false : (enabled : Bool) → (enabled && false) ≡ false
-and_false true = refl
-and_false false = refl
+use Rattle.thread_local_schedule.proofs.EventRules.{run-one}
 
 -- an event that isn't an enabled clear
 no_clear : {V E : Type 0} (core : Core V E) (event : Event V E)
@@ -23,7 +20,7 @@ no_clear : {V E : Type 0} (core : Core V E) (event : Event V E)
     → (is_enabled core event && is_clear event) ≡ false
 no_clear core (Owner ClearTable) other =
     ⊎_elim (λ t. absurd (other t refl)) (λ f. ap (λ b. b && true) f) (cases_Bool (is_enabled core (Owner ClearTable)))
-no_clear core event other = and_false (is_enabled core event)
+no_clear core event other = and_right (is_enabled core event) false refl
 
 most_one : {V E : Type 0} (most : ℕ) (core : Core V E) (events : List (Event V E)) (event : Event V E)
     → most_after_all most core (events ++ event ∷ [])
@@ -32,18 +29,12 @@ unfolding run
 most_one most core [] event = refl
 most_one most core (first ∷ events) event = most_one (most_after most core first) (happens core first) events event
 
-run_one : {V E : Type 0} (core : Core V E) (events : List (Event V E)) (event : Event V E)
-    → run core (events ++ event ∷ []) ≡ happens (run core events) event
-unfolding run
-run_one core [] event = refl
-run_one core (first ∷ events) event = run_one (happens core first) events event
-
 pub most_later : {V E : Type 0} (core : Core V E) (events : List (Event V E)) (event : Event V E)
     → (IsTrue (is_enabled (run core events) event) → event ≢ Owner ClearTable)
     → most_held core (events ++ event ∷ [])
     ≡ max (most_held core events) (held_count (run core (events ++ event ∷ [])).manager.held)
 most_later core events event other =
-    rw (most_one 0 core events event, run_one core events event, no_clear (run core events) event other) refl
+    rw (most_one 0 core events event, run-one core events event, no_clear (run core events) event other) refl
 
 pub most_cleared : {V E : Type 0} (core : Core V E) (events : List (Event V E))
     → IsTrue (is_enabled (run core events) (Owner ClearTable))

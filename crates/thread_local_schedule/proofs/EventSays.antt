@@ -31,10 +31,10 @@ use Rattle.thread_local_schedule.proofs.CoreLaws.{published_moves, publishing_al
 use Rattle.thread_local_schedule.proofs.OptionLaws.{if_enabled, if_mapped, if_there, if_then}
 use Rattle.thread_local_model.proofs.HeldLaws as ids
 
--- what an enabled event says of the core before it and the core after it
-pub record EventSays {V E : Type 0} (core : Core V E) (event : Event V E) (after : Core V E) : Type 0 where
-  pub moves : shadow after ≡ moved_by_if (shadow core) (move_of core event)
-  pub allowed : IfSome (move_of core event) (IsMoveAllowed (shadow core))
+-- what every event says of the core after it, whether it is enabled or not
+pub record Says {V E : Type 0} (core : Core V E) (event : Event V E) (enabled : Bool) (after : Core V E) : Type 0 where
+  pub moves : shadow after ≡ moved_by_if (shadow core) (cond enabled (move_of core event) None)
+  pub allowed : IfSome (cond enabled (move_of core event) None) (IsMoveAllowed (shadow core))
   pub stays : is_exclusive event ≡ false → (id : ℕ) (v : V) → published core.table id ≡ Some v
       → published after.table id ≡ Some v
   pub names : is_clear event ≡ false → (bucket k : ℕ) → number_at core.table bucket ≡ Some k
@@ -43,9 +43,15 @@ pub record EventSays {V E : Type 0} (core : Core V E) (event : Event V E) (after
       → number_at core.table bucket ≡ Some k
       → number_at after.table bucket ≡ Some k
   pub comes : (n : ℕ) (local : Local V E) → core.locals n ≡ None → after.locals n ≡ Some local
-      → IsTrue (is_take event) × IsTrue (not (refuses core event)) × (n ≡ core.taken)
+      → IsTrue enabled × IsTrue (is_take event) × IsTrue (not (refuses core event)) × (n ≡ core.taken)
   pub others : (n : ℕ) (local : Local V E) → is_of n event ≡ false → core.locals n ≡ Some local → after.locals n ≡ Some local
-  pub peak : length after.manager.held ≡ cond (is_clear event) 0 (max (length core.manager.held) (held_count after.manager.held))
+  pub peak : length after.manager.held
+      ≡ cond (enabled && is_clear event) 0
+      (max (length core.manager.held) (held_count after.manager.held))
+
+-- the same of an enabled event
+abbrev EventSays : {V E : Type 0} → Core V E → Event V E → Core V E → Type 0
+EventSays core event after = Says core event true after
 
 -- an event that leaves the ids, the table and all Locals but one, which may be gone
 leaves : {V E : Type 0} (core : Core V E) (event : Event V E) (after : Core V E)
@@ -78,7 +84,7 @@ take_id-says core refused growth true e h = record {
   reserved_stays = λ bucket _ k p. p;
   comes = λ n local none at.
       ⊎_elim
-      (λ here. (refl, rw e refl, sym here.0))
+      (λ here. (refl, refl, rw e refl, sym here.0))
       (λ apart. absurd (none-some local (sym none ∙ apart.1)))
       (put_cases core.locals core.taken _ n local at);
   others = λ n local _ at.
@@ -226,24 +232,6 @@ step_of-says core (Owner call) h =
     cond_both {A = Option (Core _ _)} (is_alone core) (Some (after_owner core call)) None
     (λ o. IfSome o (EventSays core (Owner call))) (λ e. after_owner-says core call e h) (λ _. tt)
 
--- what every event says of the core after it, whether it is enabled or not
-pub record Says {V E : Type 0} (core : Core V E) (event : Event V E) (enabled : Bool) (after : Core V E) : Type 0 where
-  pub moves : shadow after ≡ moved_by_if (shadow core) (cond enabled (move_of core event) None)
-  pub allowed : IfSome (cond enabled (move_of core event) None) (IsMoveAllowed (shadow core))
-  pub stays : is_exclusive event ≡ false → (id : ℕ) (v : V) → published core.table id ≡ Some v
-      → published after.table id ≡ Some v
-  pub names : is_clear event ≡ false → (bucket k : ℕ) → number_at core.table bucket ≡ Some k
-      → number_at after.table bucket ≡ Some k
-  pub reserved_stays : (bucket : ℕ) → IsTrue (reserves_bucket core.capacity bucket) → (k : ℕ)
-      → number_at core.table bucket ≡ Some k
-      → number_at after.table bucket ≡ Some k
-  pub comes : (n : ℕ) (local : Local V E) → core.locals n ≡ None → after.locals n ≡ Some local
-      → IsTrue enabled × IsTrue (is_take event) × IsTrue (not (refuses core event)) × (n ≡ core.taken)
-  pub others : (n : ℕ) (local : Local V E) → is_of n event ≡ false → core.locals n ≡ Some local → after.locals n ≡ Some local
-  pub peak : length after.manager.held
-      ≡ cond (enabled && is_clear event) 0
-      (max (length core.manager.held) (held_count after.manager.held))
-
 says_of : {V E : Type 0} (core : Core V E) (event : Event V E) (o : Option (Core V E))
     → IfSome o (EventSays core event)
     → Says core event (is_some o) (unwrap_or o core)
@@ -257,16 +245,7 @@ says_of core event None s = record {
   others = λ n local _ at. at;
   peak = omega (arith, held_count-le core.manager.held);
 }
-says_of core event (Some after) s = record {
-  moves = s.moves;
-  allowed = s.allowed;
-  stays = s.stays;
-  names = s.names;
-  reserved_stays = s.reserved_stays;
-  comes = λ n local none at. (let t = s.comes n local none at in (refl, t.0, t.1, t.2));
-  others = s.others;
-  peak = s.peak;
-}
+says_of core event (Some after) s = s
 
 pub event_says : {V E : Type 0} (core : Core V E) (event : Event V E) → CoreFits core
     → Says core event (is_enabled core event) (happens core event)

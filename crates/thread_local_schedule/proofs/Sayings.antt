@@ -25,6 +25,7 @@ use Rattle.thread_local_schedule.specs.Fits.{number_at}
 use Rattle.thread_local_schedule.specs.CoreFits.{CoreFits}
 use Rattle.thread_local_schedule.proofs.Clauses.{comes}
 use Rattle.std.proofs.lemmas.Option.{none-some}
+use Rattle.std.proofs.lemmas.Bool.{and_right}
 
 pub private : {V E : Type 0} (id : ℕ) (doing : Doing V E) (number : ℕ)
     → own_number doing ≡ Some number
@@ -90,12 +91,8 @@ pub ungranted : {V E : Type 0} (core : Core V E) (refused : Bool) (growth : ℕ)
     → IsTrue (is_refused core (TakeId refused growth))
 ungranted core refused growth t f = ungranted_of (is_enabled core (TakeId refused growth)) (is_granted core.manager refused) t f
 
-none_made : (enabled : Bool) → (enabled && false) ≡ false
-none_made true = refl
-none_made false = refl
-
 pub made : {V E : Type 0} (core : Core V E) (n : ℕ) → is_refused core (OfLocal n (MakeBucket false)) ≡ false
-made core n = none_made (is_enabled core (OfLocal n (MakeBucket false)))
+made core n = and_right (is_enabled core (OfLocal n (MakeBucket false))) false refl
 
 pub own : {V E : Type 0} (create : Result V E) (number : ℕ) → own_number (Private create number) ≡ Some number
 own create number = refl

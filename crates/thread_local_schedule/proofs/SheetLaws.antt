@@ -1,6 +1,6 @@
 -- How a move changes the peak and the capacity of a sheet.
 use Rattle.std.proofs.Common.{◌≡◌, suc, ◌≤◌, max, length, Option, Some, None, refl, arith, Bool, true, false, not, ◌&&◌}
-use Rattle.std.proofs.Common.{cond, IsTrue, sym}
+use Rattle.std.proofs.Common.{cond, sym}
 use Rattle.thread_local_model.specs.Held.{held_count}
 use Rattle.thread_local_model.specs.Sheet.{Sheet, Take, Give, Publish, Keep, Rewrite, Clear}
 use Rattle.thread_local_schedule.specs.TableMoves.{TableMove, OfSheet, Drain, moved_by_if}
@@ -55,8 +55,3 @@ pub untaken : {V : Type 0} (sheet : Sheet V) (enabled granted : Bool)
 untaken sheet true true e = absurd (false≢true (sym e))
 untaken sheet true false e = refl
 untaken sheet false granted e = refl
-
-pub not_taken : (enabled granted : Bool) → IsTrue enabled → (enabled && not (not granted)) ≡ false → granted ≡ false
-not_taken true true t e = absurd (false≢true (sym e))
-not_taken true false t e = refl
-not_taken false granted t e = absurd (false≢true t)

@@ -29,6 +29,7 @@ use Rattle.thread_local_schedule.proofs.TableLaws.{bucket_stands-made_table, slo
 use Rattle.thread_local_schedule.proofs.OwnerLaws.{owner_walk-walk, value_of-rewritten_slot, slot_of-rewritten_bucket}
 use Rattle.thread_local_schedule.proofs.OwnerLaws.{published-rewritten, bucket_stands-rewritten}
 use Rattle.thread_local_schedule.specs.Shown.{shown_row, shown}
+use Rattle.std.proofs.lemmas.Simd.{map-map}
 
 module _ {V : Type 0} where
   -- the rows shown are those of the pointers
@@ -367,10 +368,6 @@ shown-cleared table capacity stood =
     (λ b low. row-cleared table capacity b (stood b) low ∙ sym (row-made _ capacity b low))
 
 -- a drain leaves the same rows without their values
-map-map : {A B C : Type 0} (f : A → B) (g : B → C) (xs : List A) → map (λ x. g (f x)) xs ≡ map g (map f xs)
-map-map f g [] = refl
-map-map f g (x ∷ xs) = ap (λ ys. g (f x) ∷ ys) (map-map f g xs)
-
 map-same : {A B : Type 0} (f g : A → B) (xs : List A) → ((x : A) → f x ≡ g x) → map f xs ≡ map g xs
 map-same f g [] same = refl
 map-same f g (x ∷ xs) same = rw (same x, map-same f g xs same) refl
@@ -379,7 +376,7 @@ shown_row-emptied : {V : Type 0} (pointer : Option (Bucket V)) (bucket : ℕ)
     → shown_row (emptied_bucket pointer) bucket ≡ map (λ _. None) (shown_row pointer bucket)
 shown_row-emptied None bucket = refl
 shown_row-emptied (Some here) bucket =
-    map-map (λ index. value_of (here.slot index)) (λ _. None) (range_with_len 0 (2 ^ bucket))
+    sym (map-map (λ _. None) (λ index. value_of (here.slot index)) (range_with_len 0 (2 ^ bucket)))
 
 pub shown-drained : {V : Type 0} (table : Table V) → shown (drained table) ≡ emptied (shown table)
 unfolding shown drained
@@ -388,4 +385,4 @@ shown-drained table =
     (map-same (λ bucket. shown_row (emptied_bucket (table.pointers bucket)) bucket)
     (λ bucket. map (λ _. None) (shown_row (table.pointers bucket) bucket))
     (range_with_len 0 63) (λ bucket. shown_row-emptied (table.pointers bucket) bucket)
-    ∙ map-map (λ bucket. shown_row (table.pointers bucket) bucket) (map (λ _. None)) (range_with_len 0 63))
+    ∙ sym (map-map (map (λ _. None)) (λ bucket. shown_row (table.pointers bucket) bucket) (range_with_len 0 63)))

@@ -31,6 +31,7 @@ use Rattle.thread_local_shared_buckets.specs.Claims.{ClaimFields, IsOf, IsKept, 
 use Rattle.thread_local_shared_buckets.proofs.Moves as moves
 use Rattle.thread_local_shared_buckets.proofs.Early as early
 use Rattle.thread_local_model.proofs.Signs.{signs}
+use Rattle.thread_local_shared_buckets.proofs.Inside.{placed}
 
 module _ {M : Type 1} {𝓤 : Ura M} (𝓛 : Logic 𝓤) (R : RattleType) (x : R.Denot) where
   open 𝓛 use {H, A}
@@ -85,10 +86,10 @@ module _ {M : Type 1} {𝓤 : Ura M} (𝓛 : Logic 𝓤) (R : RattleType) (x : R
         let bit : ℕ = i % 64 in
         let S : Option R.Denot → Fml = stays R t b s.block_life d.sharing k e η in
         let D : Option R.Denot → Who → Fml = lies_with_slot R t b s.block_life d.sharing d.table k e η in
-        let Flags : ℕ → Fml = inside.Flags 𝓛 R d t wb wo s i k e b l at_k refl refl in
-        let Slot : _ → Fml = inside.Slot 𝓛 R d t wb wo s i k e b l at_k refl refl in
+        let Flags : ℕ → Fml = inside.Flags 𝓛 R (placed d t wb wo s i k e b l at_k refl refl) in
+        let Slot : _ → Fml = inside.Slot 𝓛 R (placed d t wb wo s i k e b l at_k refl refl) in
         let Back : (n : ℕ) → Next n bit → SProp 𝓤 =
-        inside.Back 𝓛 R d t wb wo s i k e b l at_k refl refl ⟦ I ⟧ in
+        inside.Back 𝓛 R (placed d t wb wo s i k e b l at_k refl refl) ⟦ I ⟧ in
         let Empty : Fml = moves.Holds 𝓛 R t b s.block_life d.sharing d.table k e η None in
         qed 𝓛 (some (λ (n : ℕ).
         given (n < 2 ^ 64) (‵ (Flags n) ⊛ ‵ (Slot (is_set n bit)) ⊛ raw (all 𝓤 (Back n))))
@@ -115,20 +116,20 @@ module _ {M : Type 1} {𝓤 : Ura M} (𝓛 : Logic 𝓤) (R : RattleType) (x : R
       e = value_offset R (count_of s.at) i
 
       abbrev Holds : Option R.Denot → Fml
-      Holds = general.Holds 𝓛 R d t wb wo s i k e b l at_k refl refl
+      Holds = general.Holds 𝓛 R (placed d t wb wo s i k e b l at_k refl refl)
 
       vacant : (q : Share)
           → A.inv (fbor t.life I) ∗ A.lft t.life q
-          ∗ ⟦ general.Which 𝓛 R d t wb wo s i k e b l at_k refl refl ⟧ ∗ ⟦ Holds None ⟧
+          ∗ ⟦ general.Which 𝓛 R (placed d t wb wo s i k e b l at_k refl refl) ⟧ ∗ ⟦ Holds None ⟧
           ∗ ⟦ Told ⟧
           ⊢ H.⇛ (⟦ ffalse ⟧ ∗ A.lft t.life q)
       vacant q =
-          let S : Option R.Denot → Fml = general.Stays 𝓛 R d t wb wo s i k e b l at_k refl refl in
+          let S : Option R.Denot → Fml = general.Stays 𝓛 R (placed d t wb wo s i k e b l at_k refl refl) in
           let D : Option R.Denot → Who → Fml =
-          general.Had 𝓛 R d t wb wo s i k e b l at_k refl refl in
-          general.moved 𝓛 R d t wb wo s i k e b l at_k refl refl q (⟦ Holds None ⟧ ∗ ⟦ Told ⟧)
+          general.Had 𝓛 R (placed d t wb wo s i k e b l at_k refl refl) in
+          general.moved 𝓛 R (placed d t wb wo s i k e b l at_k refl refl) q (⟦ Holds None ⟧ ∗ ⟦ Told ⟧)
           ⟦ ffalse ⟧ (λ v w.
-          let F = general.Left 𝓛 R d t wb wo s i k e b l at_k refl refl v ⟦ ffalse ⟧ in
+          let F = general.Left 𝓛 R (placed d t wb wo s i k e b l at_k refl refl) v ⟦ ffalse ⟧ in
           qed 𝓛 (‵ (S v) ∷ ‵ (D v w) ∷ (‵ (Holds None) ⊛ ‵ Told) ∷ []) ∵ move ! (2 ∷ []) $ split ! $
           move ! (2 ∷ 3 ∷ 0 ∷ []) $
           use3 𝓛 (given (v ≡ None) (‵ (S v) ⊛ ‵ (D v slots.claimed) ⊛ ‵ (Holds None)))

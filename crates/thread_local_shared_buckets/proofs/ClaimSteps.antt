@@ -1,6 +1,6 @@
 -- The steps of a claim under its bucket's invariant: ghost steps, and atomic ones on the word that
 -- has the slot's flag. Assumes `Logic`.
-use Rattle.std.proofs.Common.{◌≡◌, ℕ, ◌+◌, ◌*◌, ◌/◌, ◌%◌, ◌^◌, ◌<◌, Bool, true, false, [], ◌∷◌, length, refl, ap, ◌∙◌}
+use Rattle.std.proofs.Common.{◌≡◌, ℕ, ◌+◌, ◌*◌, ◌/◌, ◌%◌, ◌^◌, ◌<◌, Bool, true, false, [], ◌∷◌, refl, ap, ◌∙◌}
 use Rattle.std.proofs.Common.{lit<, Option, None, Some, is_some}
 use Rattle.std.proofs.lemmas.Nat.{mod_below}
 use seplogic.Ra.Ura.{Ura}
@@ -11,23 +11,23 @@ use types.Kit.{‵, raw, ◌⊛◌, given, settle, suffices, show, check, frame,
 use types.Kit.{fjoin, fpack, learn, use2, use3, done}
 use denote.RattleType.{RattleType}
 use denote.Steps.{nothing}
-use denote.RawPtr.{Ptr, block_ptr, block_of, count_of}
+use denote.RawPtr.{Ptr, block_ptr, count_of}
 use Rattle.std.specs.Sync.RawAtomic.{asks, always}
 use Rattle.thread_local_ids.specs.Rights.{right_owns}
-use Rattle.thread_local_bucket_pointers.specs.Slots.{word_offset, value_offset}
+use Rattle.thread_local_bucket_pointers.specs.Slots.{word_offset}
 use Rattle.thread_local_model.specs.Fact.{fact}
 use Rattle.thread_local_model.specs.Bits.{is_set}
 use Rattle.thread_local_model.proofs.Word.{add_shifted, same_bit}
-use Rattle.thread_local_shared_buckets.specs.Shared.{name_at, BucketView, Turn, StandingBlock, Who, free, claimed, len, first}
+use Rattle.thread_local_shared_buckets.specs.Shared.{name_at, Who, free, claimed, len}
 use Rattle.thread_local_shared_buckets.specs.Claims.{claims_side, IsTold}
 use Rattle.thread_local_shared_buckets.proofs.SlotSteps as general
 use Rattle.thread_local_shared_buckets.proofs.Moves as moves
 use Rattle.thread_local_model.proofs.Signs.{signs}
+use Rattle.thread_local_shared_buckets.proofs.Inside.{SlotAt}
 
-module _ {M : Type 1} {𝓤 : Ura M} (𝓛 : Logic 𝓤) (R : RattleType) (d : BucketView) (t : Turn)
-    (wb wo : ℕ) (s : StandingBlock) (i k e b : ℕ) (low : i < length s.names)
-    (at_k : k ≡ i + first R d) (at_e : e ≡ value_offset R (count_of s.at) i)
-    (at_b : block_of s.at ≡ b) where
+module _ {M : Type 1} {𝓤 : Ura M} (𝓛 : Logic 𝓤) (R : RattleType) (slot : SlotAt R) where
+  open slot use {d, t, wb, wo, s, i, k, e, b, low, at_k, at_e, at_b}
+
   open 𝓛 use {H, A}
 
   open signs 𝓛 use {⟦◌⟧, ◌⊢◌, ◌∗◌, ◌-∗◌}
@@ -39,25 +39,25 @@ module _ {M : Type 1} {𝓤 : Ura M} (𝓛 : Logic 𝓤) (R : RattleType) (d : B
   η = name_at s.names i
 
   abbrev I : Fml
-  I = general.I 𝓛 R d t wb wo s i k e b low at_k at_e at_b
+  I = general.I 𝓛 R slot
 
   abbrev Which : Fml
-  Which = general.Which 𝓛 R d t wb wo s i k e b low at_k at_e at_b
+  Which = general.Which 𝓛 R slot
 
   abbrev Stays : Option R.Denot → Fml
-  Stays = general.Stays 𝓛 R d t wb wo s i k e b low at_k at_e at_b
+  Stays = general.Stays 𝓛 R slot
 
   abbrev Had : Option R.Denot → Who → Fml
-  Had = general.Had 𝓛 R d t wb wo s i k e b low at_k at_e at_b
+  Had = general.Had 𝓛 R slot
 
   abbrev pub Holds : Option R.Denot → Fml
-  Holds = general.Holds 𝓛 R d t wb wo s i k e b low at_k at_e at_b
+  Holds = general.Holds 𝓛 R slot
 
   abbrev Left : Option R.Denot → SProp 𝓤 → Who → SProp 𝓤
-  Left = general.Left 𝓛 R d t wb wo s i k e b low at_k at_e at_b
+  Left = general.Left 𝓛 R slot
 
   abbrev Turned : Share → (ℕ → ℕ) → (ℕ → Fml) → ℕ → Option R.Denot → Option R.Denot × Who → SProp 𝓤
-  Turned = general.Turned 𝓛 R d t wb wo s i k e b low at_k at_e at_b
+  Turned = general.Turned 𝓛 R slot
 
   abbrev pub Right : Fml
   Right = right_owns d.table k
@@ -67,7 +67,7 @@ module _ {M : Type 1} {𝓤 : Ura M} (𝓛 : Logic 𝓤) (R : RattleType) (d : B
       → A.inv (fbor t.life I) ∗ A.lft t.life q ∗ ⟦ Which ⟧ ∗ ⟦ Holds u ⟧
       ⊢ H.⇛ (⟦ Right ⟧ ∗ A.lft t.life q)
   releases q u =
-      general.moved 𝓛 R d t wb wo s i k e b low at_k at_e at_b q ⟦ Holds u ⟧ ⟦ Right ⟧ (λ v w.
+      general.moved 𝓛 R slot q ⟦ Holds u ⟧ ⟦ Right ⟧ (λ v w.
       qed 𝓛 (‵ (Stays v) ∷ ‵ (Had v w) ∷ ‵ (Holds u) ∷ []) ∵
       use3 𝓛 (given (v ≡ u) (‵ (Stays v) ⊛ ‵ (Had v free) ⊛ ‵ Right))
       (moves.releases 𝓛 R t b s.block_life d.sharing d.table k e η v u w) $
@@ -78,7 +78,7 @@ module _ {M : Type 1} {𝓤 : Ura M} (𝓛 : Logic 𝓤) (R : RattleType) (d : B
       → A.inv (fbor t.life I) ∗ A.lft t.life q ∗ ⟦ Which ⟧ ∗ ⟦ right_owns t.pass k ⟧
       ⊢ H.⇛ (⟦ Holds None ⟧ ∗ A.lft t.life q)
   comes_in q =
-      general.moved 𝓛 R d t wb wo s i k e b low at_k at_e at_b q ⟦ right_owns t.pass k ⟧
+      general.moved 𝓛 R slot q ⟦ right_owns t.pass k ⟧
       ⟦ Holds None ⟧ (λ v w.
       qed 𝓛 (‵ (Stays v) ∷ ‵ (Had v w) ∷ ‵ (right_owns t.pass k) ∷ []) ∵
       use3 𝓛 (given (v ≡ None) (‵ (Stays v) ⊛ ‵ (Had v claimed) ⊛ ‵ (Holds None)))
@@ -101,7 +101,7 @@ module _ {M : Type 1} {𝓤 : Ura M} (𝓛 : Logic 𝓤) (R : RattleType) (d : B
       → A.inv (fbor t.life I) ∗ (A.lft t.life q ∗ (⟦ Which ⟧ ∗ ⟦ claims_side looked d.table t.pass k ⟧))
       ⊢ asks 𝓛 chunk_word (λ n. n) always (λ n. fsep (flft t.life q) (Finds looked n))
   finds q looked =
-      general.stepped 𝓛 R d t wb wo s i k e b low at_k at_e at_b q (λ n. n) (Finds looked)
+      general.stepped 𝓛 R slot q (λ n. n) (Finds looked)
       (claims_side looked d.table t.pass k) (law looked)
     where
       found : (l : Bool) (n : ℕ) → n < 2 ^ 64 → (v u : Option R.Denot)
@@ -151,7 +151,7 @@ module _ {M : Type 1} {𝓤 : Ura M} (𝓛 : Logic 𝓤) (R : RattleType) (d : B
       let Gained : Fml = moves.Gain 𝓛 R t b s.block_life d.sharing d.table k e η x in
       let Gains : ℕ → Fml = λ _. Gained in
       let Offered : Fml = moves.Offer 𝓛 R t b s.block_life d.sharing d.table k e η x in
-      general.stepped_by 𝓛 R d t wb wo s i k e b low at_k at_e at_b q with_flag Gains Offered
+      general.stepped_by 𝓛 R slot q with_flag Gains Offered
       (λ n fits v w is.
       let F : Option R.Denot × Who → SProp 𝓤 = Turned q with_flag Gains n v in
       qed 𝓛 (‵ (Stays v) ∷ ‵ (Had v w) ∷ ‵ Offered ∷ []) ∵

@@ -26,6 +26,7 @@ use Rattle.thread_local_shared_buckets.proofs.Inside as inside
 use Rattle.thread_local_shared_buckets.proofs.SlotSteps as steps
 use Rattle.thread_local_shared_buckets.proofs.Moves as moves
 use Rattle.thread_local_model.proofs.Signs.{signs}
+use Rattle.thread_local_shared_buckets.proofs.Inside.{placed}
 
 module _ {M : Type 1} {𝓤 : Ura M} (𝓛 : Logic 𝓤) (R : RattleType) where
   open 𝓛 use {H, A}
@@ -68,7 +69,7 @@ module _ {M : Type 1} {𝓤 : Ura M} (𝓛 : Logic 𝓤) (R : RattleType) where
 
     -- the word of flags and the slot of a standing block, taken out of what holds them
     abbrev pub Out : (s : StandingBlock) → i < length s.names → SProp 𝓤 → ℕ → SProp 𝓤
-    Out s l P = inside.Out 𝓛 R d t wb wo s i k (place_in s) (block_of s.at) l at_k refl refl P
+    Out s l P = inside.Out 𝓛 R (placed d t wb wo s i k (place_in s) (block_of s.at) l at_k refl refl) P
 
     abbrev Pointed : Ptr → Fml
     Pointed p = fsep (cell wb wo p) (beside_pointer R d t p)
@@ -110,10 +111,10 @@ module _ {M : Type 1} {𝓤 : Ura M} (𝓛 : Logic 𝓤) (R : RattleType) where
           fjoin ! $
           let Whole : Fml = standing R d t p z in
           use1 𝓛 (raw (ex 𝓤 (Out z.0 l ⟦ Whole ⟧)))
-          (inside.in_block 𝓛 R d t wb wo z.0 i k (place_in z.0) (block_of z.0.at) l at_k refl refl
+          (inside.in_block 𝓛 R (placed d t wb wo z.0 i k (place_in z.0) (block_of z.0.at) l at_k refl refl)
           p z.1) $
           use2 𝓛 (raw (ex 𝓤 (Out z.0 l ⟦ I ⟧)))
-          (inside.lifted 𝓛 R d t wb wo z.0 i k (place_in z.0) (block_of z.0.at) l at_k refl refl
+          (inside.lifted 𝓛 R (placed d t wb wo z.0 i k (place_in z.0) (block_of z.0.at) l at_k refl refl)
           ⟦ Whole ⟧ ⟦ I ⟧ ⟦ cell wb wo p ⟧ (block_back x y z)) $
           by ! (block z.0 l)))
         where
@@ -170,10 +171,10 @@ module _ {M : Type 1} {𝓤 : Ura M} (𝓛 : Logic 𝓤) (R : RattleType) where
         let bit : ℕ = i % 64 in
         let S : Option R.Denot → Fml = stays R t b s.block_life d.sharing k e η in
         let D : Option R.Denot → Who → Fml = lies_with_slot R t b s.block_life d.sharing d.table k e η in
-        let Flags : ℕ → Fml = inside.Flags 𝓛 R d t wb wo s i k e b l at_k refl refl in
-        let Slot : Bool → Fml = inside.Slot 𝓛 R d t wb wo s i k e b l at_k refl refl in
+        let Flags : ℕ → Fml = inside.Flags 𝓛 R (placed d t wb wo s i k e b l at_k refl refl) in
+        let Slot : Bool → Fml = inside.Slot 𝓛 R (placed d t wb wo s i k e b l at_k refl refl) in
         let Back : (n : ℕ) → Next n bit → SProp 𝓤 =
-        inside.Back 𝓛 R d t wb wo s i k e b l at_k refl refl ⟦ I ⟧ in
+        inside.Back 𝓛 R (placed d t wb wo s i k e b l at_k refl refl) ⟦ I ⟧ in
         qed 𝓛 (some (λ (n : ℕ).
         given (n < 2 ^ 64) (‵ (Flags n) ⊛ ‵ (Slot (is_set n bit)) ⊛ raw (all 𝓤 (Back n))))
         ∷ ‵ Pass ∷ []) ∵
@@ -187,7 +188,7 @@ module _ {M : Type 1} {𝓤 : Ura M} (𝓛 : Logic 𝓤) (R : RattleType) where
         learn ! (λ none. split3 ! $
         -- [what stands; who has it; the right; the loan; the word; the way back]
         move ! (4 ∷ 3 ∷ 0 ∷ 1 ∷ 5 ∷ []) $ group ! 5 $
-        use1 𝓛 (‵ I) (steps.again 𝓛 R d t wb wo s i k e b l at_k refl refl n n (z.0, free) fits
+        use1 𝓛 (‵ I) (steps.again 𝓛 R (placed d t wb wo s i k e b l at_k refl refl) n n (z.0, free) fits
         (same_bit n bit (is_some z.0) is)) $
         done !)))))
 

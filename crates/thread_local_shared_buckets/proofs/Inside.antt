@@ -45,6 +45,28 @@ name_at-get_or [] i = refl
 name_at-get_or (η ∷ names) zero = refl
 name_at-get_or (η ∷ names) (suc i) = name_at-get_or names i
 
+-- a slot of a standing block: its bucket with the turn and the pointer, its index and its id, and
+-- where its value lies
+pub record SlotAt (R : RattleType) : Type 0 where
+  pub d : BucketView
+  pub t : Turn
+  pub wb : ℕ
+  pub wo : ℕ
+  pub s : StandingBlock
+  pub i : ℕ
+  pub k : ℕ
+  pub e : ℕ
+  pub b : ℕ
+  pub low : i < length s.names
+  pub at_k : k ≡ i + first R d
+  pub at_e : e ≡ value_offset R (count_of s.at) i
+  pub at_b : block_of s.at ≡ b
+
+abbrev pub placed : {R : RattleType} (d : BucketView) (t : Turn) (wb wo : ℕ) (s : StandingBlock) (i k e b : ℕ)
+    → i < length s.names → k ≡ i + first R d → e ≡ value_offset R (count_of s.at) i → block_of s.at ≡ b → SlotAt R
+placed d t wb wo s i k e b low at_k at_e at_b =
+    record { d = d; t = t; wb = wb; wo = wo; s = s; i = i; k = k; e = e; b = b; low = low; at_k = at_k; at_e = at_e; at_b = at_b }
+
 -- a word after a step: all its bits but one are what they were
 pub record Next (n bit : ℕ) : Type 0 where
   pub word : ℕ
@@ -184,9 +206,9 @@ module _ {M : Type 1} {𝓤 : Ura M} (𝓛 : Logic 𝓤) where
       pub in_invariant : ⟦ Whole ⟧ ∗ ⟦ This ⟧ ⊢ Out ⟦ Whole ⟧
       in_invariant = qed 𝓛 (‵ Whole ∷ ‵ This ∷ []) ∵ fpick ! (λ p. by ! (in_bucket p))
 
-  module _ (R : RattleType) (d : BucketView) (t : Turn) (wb wo : ℕ) (s : StandingBlock)
-      (i k e b : ℕ) (low : i < length s.names) (at_k : k ≡ i + first R d)
-      (at_e : e ≡ value_offset R (count_of s.at) i) (at_b : block_of s.at ≡ b) where
+  module _ (R : RattleType) (slot : SlotAt R) where
+    open slot use {d, t, wb, wo, s, i, k, e, b, low, at_k, at_e, at_b}
+
     abbrev pub I : Fml
     I = bucket_invariant R d t wb wo
 

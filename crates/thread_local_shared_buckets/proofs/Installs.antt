@@ -20,6 +20,7 @@ use Rattle.thread_local_model.specs.Learnt.{Vacant}
 use Rattle.thread_local_shared_buckets.specs.Claims.{ClaimFields, claim_fields, IsOf, IsKept, value_at, has_slot, has_at, claim_owns}
 use Rattle.thread_local_shared_buckets.proofs.ClaimSteps as steps
 use Rattle.thread_local_model.proofs.Signs.{signs}
+use Rattle.thread_local_shared_buckets.proofs.Inside.{placed}
 
 module _ {M : Type 1} {𝓤 : Ura M} (𝓛 : Logic 𝓤) (R : RattleType) (d : BucketView) (t : Turn)
     (β : Lft) (wb wo pb o id i : ℕ) (sharing : Option ℕ) (reserved : Bool) where
@@ -67,10 +68,10 @@ module _ {M : Type 1} {𝓤 : Ura M} (𝓛 : Logic 𝓤) (R : RattleType) (d : B
       fpack ! ((length s.names ≡ len R d) × Sized R (len R d) s.at) (λ _. ftrue) sized $ move ! (0 ∷ 1 ∷ []) $ fjoin ! $
       -- [the row; which block it is; the invariant, twice; before; the token; the pass]
       let low : i < length s.names = subst (λ (n : ℕ). i < n) (sym sized.0) of.4 in
-      let Empty : Fml = steps.Holds 𝓛 R d t wb (wo + 0) s i id e pb low of.3 refl refl none in
+      let Empty : Fml = steps.Holds 𝓛 R (placed d t wb (wo + 0) s i id e pb low of.3 refl refl) none in
       move ! (2 ∷ 5 ∷ 1 ∷ 6 ∷ []) $ group ! 4 $
       use1 𝓛 (later (‵ Empty ⊛ ‵ (flft t.life q)))
-      (steps.comes_in 𝓛 R d t wb (wo + 0) s i id e pb low of.3 refl refl q) $
+      (steps.comes_in 𝓛 R (placed d t wb (wo + 0) s i id e pb low of.3 refl refl) q) $
       await ! tt $ split ! $
       -- [what the slot holds; the token; the row; the invariant; before]
       move ! (2 ∷ 0 ∷ []) $ fjoin ! $ nothing ! $

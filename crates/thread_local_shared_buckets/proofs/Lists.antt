@@ -5,6 +5,8 @@ use Rattle.std.proofs.Common.{sym, ap, ◌∙◌, subst, arith, pow_pos, Option,
 use Rattle.std.specs.Prelude.{slice_index_or, nat_lt, IsTrue, ◌⊎◌}
 use Rattle.std.proofs.lemmas.Bool.{lt-ltb, ltb-true, ltb-false}
 use Rattle.std.proofs.lemmas.List.{length-map, get_or_past}
+use Rattle.std.proofs.lemmas.List.FromFn.{length-map-range_with_len, get_or-map-range_with_len}
+use Rattle.std.specs.List.{range_with_len}
 use mathlib.Core.Logic.{inl, inr}
 use Rattle.thread_local_model.specs.Place.{id_at}
 use Rattle.thread_local_model.specs.Owned.{Owned, AreOfFirstBuckets, IsOwned}
@@ -12,30 +14,17 @@ use Rattle.thread_local_shared_buckets.specs.Shared.{BucketView}
 use Rattle.thread_local_shared_buckets.specs.Fit.{Fit}
 use Rattle.thread_local_shared_buckets.specs.TableView.{TableView, bucket_view, bucket_at, table_view_of, AreBuckets}
 
--- the views of n buckets, from the number b on
-unfoldable pub all_buckets : TableView → ℕ → ℕ → List BucketView
-all_buckets s zero b = []
-all_buckets s (suc n) b = bucket_view s b ∷ all_buckets s n (suc b)
-
-pub all_buckets-length : (s : TableView) (n b : ℕ) → length (all_buckets s n b) ≡ n
-unfolding all_buckets
-all_buckets-length s zero b = refl
-all_buckets-length s (suc n) b = ap suc (all_buckets-length s n (suc b))
-
-pub all_buckets-at : (s : TableView) (n b i : ℕ) → i < n → bucket_at (all_buckets s n b) i ≡ bucket_view s (i + b)
-unfolding all_buckets
-all_buckets-at s zero b i near = absurd (omega arith)
-all_buckets-at s (suc n) b zero near = let same : b ≡ 0 + b = omega arith in ap (bucket_view s) same
-all_buckets-at s (suc n) b (suc i) near =
-    let same : i + suc b ≡ suc i + b = omega arith in
-    all_buckets-at s n (suc b) i (omega arith) ∙ ap (bucket_view s) same
-
 -- the views of a table's buckets
-abbrev pub table_buckets : TableView → List BucketView
-table_buckets s = all_buckets s 63 0
+unfoldable pub table_buckets : TableView → List BucketView
+table_buckets s = map (bucket_view s) (range_with_len 0 63)
+
+pub table_long : (s : TableView) → length (table_buckets s) ≡ 63
+unfolding table_buckets
+table_long s = length-map-range_with_len (bucket_view s) 0 63
 
 table_bucket : (s : TableView) (i : ℕ) → i < 63 → bucket_at (table_buckets s) i ≡ bucket_view s i
-table_bucket s i near = let same : i + 0 ≡ i = omega arith in all_buckets-at s 63 0 i near ∙ ap (bucket_view s) same
+unfolding table_buckets
+table_bucket s i near = get_or-map-range_with_len (bucket_view s) 0 63 i i _ near (omega arith)
 
 pub table_named : (s : TableView) → AreBuckets (table_buckets s) s.reserved
 table_named s b near =
@@ -65,11 +54,6 @@ abbrev pub AreOf : TableView → ℕ → List BucketView → Type 0
 AreOf s b [] = Unit {0}
 AreOf s b (d ∷ ds) = (d ≡ bucket_view s b) × AreOf s (suc b) ds
 
-pub all_are_of : (s : TableView) (n b : ℕ) → AreOf s b (all_buckets s n b)
-unfolding all_buckets
-all_are_of s zero b = tt
-all_are_of s (suc n) b = (refl, all_are_of s n (suc b))
-
 are_of_from : (s : TableView) (b : ℕ) (ds : List BucketView)
     → ((i : ℕ) → i < length ds → bucket_at ds i ≡ bucket_view s (i + b))
     → AreOf s b ds
@@ -80,6 +64,13 @@ are_of_from s b (d ∷ ds) all = let here : 0 + b ≡ b = omega arith in (
       let next : suc i + b ≡ i + suc b = omega arith in
       all (suc i) (omega arith) ∙ ap (bucket_view s) next),
 )
+
+pub table_are_of : (s : TableView) → AreOf s 0 (table_buckets s)
+table_are_of s =
+    let long : length (table_buckets s) ≡ 63 = table_long s in
+    are_of_from s 0 (table_buckets s) (λ i near.
+    let same : i ≡ i + 0 = omega arith in
+    table_bucket s i (omega arith) ∙ ap (bucket_view s) same)
 
 pub named_are_of : (ds : List BucketView) (reserved : ℕ) → length ds ≡ 63 → AreBuckets ds reserved
     → AreOf (table_view_of ds reserved) 0 ds
@@ -170,7 +161,7 @@ module _ {V W : Type 0} (slots : W → List (Option V)) where
 
     pub fit_all : Fits (table_buckets s) ws
     fit_all =
-        let long : length (table_buckets s) ≡ 63 = all_buckets-length s 63 0 in
+        let long : length (table_buckets s) ≡ 63 = table_long s in
         fits_from (table_buckets s) ws (sym (length-map ws slots) ∙ owned.table.buckets ∙ sym long)
         (λ i near.
         let within : i < 63 = omega arith in

@@ -1,6 +1,6 @@
 -- A thread that doesn't claim a slot reaches its value by what is told of the slot's id, as a `&` to
 -- the value names no thread. Assumes `Logic`.
-use Rattle.std.proofs.Common.{IsSome, ◌≡◌, ℕ, ◌+◌, ◌<◌, [], ◌∷◌, length}
+use Rattle.std.proofs.Common.{IsSome, ◌≡◌, [], ◌∷◌}
 use Rattle.std.proofs.Common.{refl, Option, Some, None}
 use seplogic.Ra.Ura.{Ura}
 use base.Logic.{SProp, ex, all_e}
@@ -10,24 +10,23 @@ use types.Kit.{‵, ◌⊛◌, given, learn, fsplit, use2, show, rewrite, ◌$�
 use types.Kit.{fsplit3, fjoin, fjoin3, use1, done}
 use denote.RattleType.{RattleType}
 use denote.Memory.{shared_of}
-use denote.RawPtr.{block_of, count_of}
 use denote.SharingLaws.{contraction}
 use denote.Param.Laws.{Laws}
 use Rattle.thread_local_judged.specs.Judged.{Shareable}
-use Rattle.thread_local_bucket_pointers.specs.Slots.{value_offset}
-use Rattle.thread_local_shared_buckets.specs.Shared.{name_at, BucketView, Turn, StandingBlock, Who, block_code}
-use Rattle.thread_local_shared_buckets.specs.Shared.{shared_value, opened, first, bucket_invariant}
+use Rattle.thread_local_shared_buckets.specs.Shared.{name_at, Who, block_code}
+use Rattle.thread_local_shared_buckets.specs.Shared.{shared_value, opened, bucket_invariant}
 use Rattle.thread_local_shared_buckets.proofs.Rested.{opens_by}
 use Rattle.thread_local_shared_buckets.proofs.SlotSteps.{Stays, Had, Left, moved}
 use Rattle.thread_local_ids.specs.Told.{tells, told_or_untold}
 use Rattle.thread_local_ids.proofs.ToldElements.{tells_alike, telling_alike}
 use Rattle.thread_local_model.proofs.Signs.{signs}
 use Rattle.std.proofs.lemmas.Option.{same_Some}
+use Rattle.thread_local_shared_buckets.proofs.Inside.{SlotAt}
 
 module _ {M : Type 1} {𝓤 : Ura M} (𝓛 : Logic 𝓤) (R : RattleType) (L : Laws R) (j : Shareable R)
-    (d : BucketView) (t : Turn) (wb wo : ℕ) (s : StandingBlock) (i k e b : ℕ)
-    (low : i < length s.names) (at_k : k ≡ i + first R d)
-    (at_e : e ≡ value_offset R (count_of s.at) i) (at_b : block_of s.at ≡ b) where
+    (slot : SlotAt R) where
+  open slot use {d, t, wb, wo, s, i, k, e, b, low, at_k, at_e, at_b}
+
   open 𝓛 use {A}
 
   open signs 𝓛 use {⟦◌⟧, ◌⊢◌, ◌∗◌}
@@ -43,13 +42,13 @@ module _ {M : Type 1} {𝓤 : Ura M} (𝓛 : Logic 𝓤) (R : RattleType) (L : L
     Lent = shared_value R t b s.block_life e x
 
     abbrev Stay : Option R.Denot → Fml
-    Stay = Stays 𝓛 R d t wb wo s i k e b low at_k at_e at_b
+    Stay = Stays 𝓛 R slot
 
     abbrev Have : Option R.Denot → Who → Fml
-    Have = Had 𝓛 R d t wb wo s i k e b low at_k at_e at_b
+    Have = Had 𝓛 R slot
 
     abbrev Found : Option R.Denot → Who → SProp 𝓤
-    Found v = Left 𝓛 R d t wb wo s i k e b low at_k at_e at_b v ⟦ Lent ⟧
+    Found v = Left 𝓛 R slot v ⟦ Lent ⟧
 
     found : (v : Option R.Denot) (w : Who) → ⟦ Stay v ⟧ ∗ ⟦ Have v w ⟧ ∗ ⟦ Told ⟧ ⊢ ex 𝓤 (Found v)
     found None w = qed 𝓛 (‵ (Stay None) ∷ ‵ (Have None w) ∷ ‵ Told ∷ []) ∵ fsplit ! $ move ! (1 ∷ 3 ∷ []) $
@@ -81,4 +80,4 @@ module _ {M : Type 1} {𝓤 : Ura M} (𝓛 : Logic 𝓤) (R : RattleType) (L : L
         → A.inv (fbor t.life (bucket_invariant R d t wb wo)) ∗ A.lft t.life q
         ∗ ⟦ fres t.which (block_code s) ⟧ ∗ ⟦ Told ⟧
         ⊢ 𝓛.H.⇛ (⟦ Lent ⟧ ∗ A.lft t.life q)
-    finds q = moved 𝓛 R d t wb wo s i k e b low at_k at_e at_b q ⟦ Told ⟧ ⟦ Lent ⟧ found
+    finds q = moved 𝓛 R slot q ⟦ Told ⟧ ⟦ Lent ⟧ found

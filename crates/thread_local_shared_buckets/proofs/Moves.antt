@@ -61,41 +61,37 @@ module _ {M : Type 1} {𝓤 : Ura M} (𝓛 : Logic 𝓤) (R : RattleType) (t : T
   claims v claimed = qed 𝓛 (‵ (Had v claimed) ∷ ‵ Right ∷ []) ∵ fsplit ! $ keep ! (0 ∷ 2 ∷ []) $ by ! (twice table _)
   claims v early = qed 𝓛 (‵ (Had v early) ∷ ‵ Right ∷ []) ∵ fsplit ! $ keep ! (0 ∷ 2 ∷ []) $ by ! (twice table _)
 
-  -- a claim with the pass finds its slot empty, and has the slot
-  pub early_claims : (v : Option R.Denot) (w : Who)
-      → ⟦ Stays v ⟧ ∗ ⟦ Had v w ⟧ ∗ ⟦ Pass ⟧
-      ⊢ guard 𝓤 (v ≡ None) (⟦ Stays v ⟧ ∗ ⟦ Had v claimed ⟧ ∗ ⟦ Holds None ⟧)
-  early_claims v free =
+  -- a claim with the pass finds its slot empty, where it was claimed early
+  early_only : (Z : Option R.Denot → SProp 𝓤) → ⟦ Stays None ⟧ ∗ ⟦ Had None early ⟧ ∗ ⟦ Pass ⟧ ⊢ Z None
+      → (v : Option R.Denot) (w : Who) → ⟦ Stays v ⟧ ∗ ⟦ Had v w ⟧ ∗ ⟦ Pass ⟧ ⊢ guard 𝓤 (v ≡ None) (Z v)
+  early_only Z found v free =
       qed 𝓛 (‵ (Stays v) ∷ ‵ (Had v free) ∷ ‵ Pass ∷ []) ∵ drop ! $ fsplit ! $ keep ! (0 ∷ 2 ∷ []) $
       by ! (twice t.pass _)
-  early_claims v claimed =
+  early_only Z found v claimed =
       qed 𝓛 (‵ (Stays v) ∷ ‵ (Had v claimed) ∷ ‵ Pass ∷ []) ∵ drop ! $ fsplit ! $
       keep ! (1 ∷ 2 ∷ []) $ by ! (twice t.pass _)
-  early_claims (Some x) early =
+  early_only Z found (Some x) early =
       qed 𝓛 (‵ (Stays (Some x)) ∷ ‵ (Had (Some x) early) ∷ ‵ Pass ∷ []) ∵ fsplit3 ! $
       move ! (3 ∷ []) $ fsplit ! $ move ! (1 ∷ []) $ fsplit3 ! $ keep ! (0 ∷ 4 ∷ []) $
       by ! (twice t.vacant _)
-  early_claims None early =
-      qed 𝓛 (‵ (Stays None) ∷ ‵ (Had None early) ∷ ‵ Pass ∷ []) ∵ check ! refl $ move ! (1 ∷ []) $
-      fsplit ! $ move ! (0 ∷ 3 ∷ []) $ fjoin ! $ move ! (2 ∷ 0 ∷ 1 ∷ []) $ done !
+  early_only Z found None early =
+      qed 𝓛 (‵ (Stays None) ∷ ‵ (Had None early) ∷ ‵ Pass ∷ []) ∵ check ! refl $ by ! found
+
+  -- it has the slot
+  pub early_claims : (v : Option R.Denot) (w : Who)
+      → ⟦ Stays v ⟧ ∗ ⟦ Had v w ⟧ ∗ ⟦ Pass ⟧
+      ⊢ guard 𝓤 (v ≡ None) (⟦ Stays v ⟧ ∗ ⟦ Had v claimed ⟧ ∗ ⟦ Holds None ⟧)
+  early_claims = early_only (λ u. ⟦ Stays u ⟧ ∗ ⟦ Had u claimed ⟧ ∗ ⟦ Holds None ⟧)
+      (qed 𝓛 (‵ (Stays None) ∷ ‵ (Had None early) ∷ ‵ Pass ∷ []) ∵ move ! (1 ∷ []) $ fsplit ! $
+      move ! (0 ∷ 3 ∷ []) $ fjoin ! $ move ! (2 ∷ 0 ∷ 1 ∷ []) $ done !)
 
   -- or it is given up, and has its right back
   pub early_gives_up : (v : Option R.Denot) (w : Who)
       → ⟦ Stays v ⟧ ∗ ⟦ Had v w ⟧ ∗ ⟦ Pass ⟧
       ⊢ guard 𝓤 (v ≡ None) (⟦ Stays v ⟧ ∗ ⟦ Had v free ⟧ ∗ ⟦ Right ⟧)
-  early_gives_up v free =
-      qed 𝓛 (‵ (Stays v) ∷ ‵ (Had v free) ∷ ‵ Pass ∷ []) ∵ drop ! $ fsplit ! $ keep ! (0 ∷ 2 ∷ []) $
-      by ! (twice t.pass _)
-  early_gives_up v claimed =
-      qed 𝓛 (‵ (Stays v) ∷ ‵ (Had v claimed) ∷ ‵ Pass ∷ []) ∵ drop ! $ fsplit ! $
-      keep ! (1 ∷ 2 ∷ []) $ by ! (twice t.pass _)
-  early_gives_up (Some x) early =
-      qed 𝓛 (‵ (Stays (Some x)) ∷ ‵ (Had (Some x) early) ∷ ‵ Pass ∷ []) ∵ fsplit3 ! $
-      move ! (3 ∷ []) $ fsplit ! $ move ! (1 ∷ []) $ fsplit3 ! $ keep ! (0 ∷ 4 ∷ []) $
-      by ! (twice t.vacant _)
-  early_gives_up None early =
-      qed 𝓛 (‵ (Stays None) ∷ ‵ (Had None early) ∷ ‵ Pass ∷ []) ∵ check ! refl $ move ! (1 ∷ []) $
-      fsplit ! $ move ! (3 ∷ 1 ∷ []) $ fjoin ! $ move ! (2 ∷ 0 ∷ 1 ∷ []) $ done !
+  early_gives_up = early_only (λ u. ⟦ Stays u ⟧ ∗ ⟦ Had u free ⟧ ∗ ⟦ Right ⟧)
+      (qed 𝓛 (‵ (Stays None) ∷ ‵ (Had None early) ∷ ‵ Pass ∷ []) ∵ move ! (1 ∷ []) $ fsplit ! $
+      move ! (3 ∷ 1 ∷ []) $ fjoin ! $ move ! (2 ∷ 0 ∷ 1 ∷ []) $ done !)
 
   -- a slot holds one value for good
   pub pinned_alike : (x y : R.Denot)

@@ -1,6 +1,6 @@
 -- Steps on one slot under its bucket's invariant: ghost steps, and atomic ones on the word that has
 -- the slot's flag. Assumes `Logic`.
-use Rattle.std.proofs.Common.{◌≡◌, ℕ, ◌+◌, ◌/◌, ◌%◌, ◌^◌, ◌<◌, Bool, [], ◌∷◌, length, is_some, refl, Option}
+use Rattle.std.proofs.Common.{◌≡◌, ℕ, ◌/◌, ◌%◌, ◌^◌, ◌<◌, Bool, [], ◌∷◌, is_some, refl, Option}
 use seplogic.Ra.Ura.{Ura}
 use base.Logic.{SProp, ex, all, all_e, guard, upd, upd_i, via, apply∗}
 use base.Fml.{GName, Share, Fml, ftrue, fsep, fres, fbor, flft, flent}
@@ -8,25 +8,25 @@ use types.Logic.{Logic}
 use types.Kit.{settle, ‵, raw, ◌⊛◌, given, some, show, frame, assume, suffices, ◌$◌, ◌∵◌, !, qed, move, drop, split}
 use types.Kit.{split3, pick, fsplit, fsplit3, fjoin, fpick, fpack, join, group, learn, use1, use2, use3, done}
 use denote.RattleType.{RattleType}
-use denote.RawPtr.{block_ptr, block_of, count_of}
+use denote.RawPtr.{block_ptr, count_of}
 use denote.Steps.{nothing}
 use Rattle.std.specs.Sync.RawAtomic.{asks, always}
 use Rattle.thread_local_model.proofs.Opened.{Lies}
 use Rattle.thread_local_model.proofs.Opened as bucket_opened
 use Rattle.thread_local_model.specs.Bits.{is_set, IsWordBut}
 use Rattle.thread_local_model.proofs.Word.{same_bit}
-use Rattle.thread_local_bucket_pointers.specs.Slots.{word_offset, value_offset}
-use Rattle.thread_local_shared_buckets.specs.Shared.{name_at, BucketView, Turn, StandingBlock, Who, block_code, age}
-use Rattle.thread_local_shared_buckets.specs.Shared.{tracked_value, shared_slot_as, shared_slot, len, first}
+use Rattle.thread_local_bucket_pointers.specs.Slots.{word_offset}
+use Rattle.thread_local_shared_buckets.specs.Shared.{name_at, Who, block_code, age}
+use Rattle.thread_local_shared_buckets.specs.Shared.{tracked_value, shared_slot_as, shared_slot, len}
 use Rattle.thread_local_shared_buckets.specs.Shared.{bucket_invariant, stays, lies_with_slot, holds}
 use Rattle.thread_local_shared_buckets.proofs.Inside as inside
 use Rattle.thread_local_shared_buckets.proofs.Inside.{Next, quietly, slot_in}
 use Rattle.thread_local_model.proofs.Signs.{signs}
+use Rattle.thread_local_shared_buckets.proofs.Inside.{SlotAt}
 
-module _ {M : Type 1} {𝓤 : Ura M} (𝓛 : Logic 𝓤) (R : RattleType) (d : BucketView) (t : Turn)
-    (wb wo : ℕ) (s : StandingBlock) (i k e b : ℕ) (low : i < length s.names)
-    (at_k : k ≡ i + first R d) (at_e : e ≡ value_offset R (count_of s.at) i)
-    (at_b : block_of s.at ≡ b) where
+module _ {M : Type 1} {𝓤 : Ura M} (𝓛 : Logic 𝓤) (R : RattleType) (slot : SlotAt R) where
+  open slot use {d, t, wb, wo, s, i, k, e, b, low, at_k, at_e, at_b}
+
   open 𝓛 use {H, A}
 
   open signs 𝓛 use {⟦◌⟧, ◌⊢◌, ◌∗◌, ◌-∗◌}
@@ -47,7 +47,7 @@ module _ {M : Type 1} {𝓤 : Ura M} (𝓛 : Logic 𝓤) (R : RattleType) (d : B
   Slot set = shared_slot R t b s.block_life d.sharing d.table set k e η
 
   abbrev pub Flags : ℕ → Fml
-  Flags n = inside.Flags 𝓛 R d t wb wo s i k e b low at_k at_e at_b n
+  Flags n = inside.Flags 𝓛 R slot n
 
   abbrev pub Stays : Option R.Denot → Fml
   Stays v = stays R t b s.block_life d.sharing k e η v
@@ -66,10 +66,10 @@ module _ {M : Type 1} {𝓤 : Ura M} (𝓛 : Logic 𝓤) (R : RattleType) (d : B
   Left v Q w = ⟦ Stays v ⟧ ∗ ⟦ Had v w ⟧ ∗ Q
 
   abbrev Back : (n : ℕ) → Next n (i % 64) → SProp 𝓤
-  Back n = inside.Back 𝓛 R d t wb wo s i k e b low at_k at_e at_b ⟦ I ⟧ n
+  Back n = inside.Back 𝓛 R slot ⟦ I ⟧ n
 
   abbrev Out : ℕ → SProp 𝓤
-  Out n = inside.Out 𝓛 R d t wb wo s i k e b low at_k at_e at_b ⟦ I ⟧ n
+  Out n = inside.Out 𝓛 R slot ⟦ I ⟧ n
 
   -- the slot and its word are put back
   pub again : (n m : ℕ) (z : Option R.Denot × Who) → m < 2 ^ 64
@@ -96,7 +96,7 @@ module _ {M : Type 1} {𝓤 : Ura M} (𝓛 : Logic 𝓤) (R : RattleType) (d : B
       suffices ! _ (upd_i 𝓤 (⟦ I ⟧ ∗ Q)) $ move ! (1 ∷ []) $ split ! $ move ! (2 ∷ 0 ∷ []) $
       use2 𝓛 (some (λ (n : ℕ).
       given (n < 2 ^ 64) (‵ (Flags n) ⊛ ‵ (Slot (is_set n (i % 64))) ⊛ raw (all 𝓤 (Back n)))))
-      (slot_in 𝓛 R d t wb wo s i k e b low at_k at_e at_b) $
+      (slot_in 𝓛 R slot) $
       pick ! (λ n. learn ! (λ fits. split3 ! $
       move ! (1 ∷ []) $ fsplit ! $ move ! (1 ∷ []) $ fpick ! (λ z. fsplit3 ! $ fpick ! (λ told. drop ! $
       -- [what stays; who has it; the loan; the word; the way back; X]
@@ -129,7 +129,7 @@ module _ {M : Type 1} {𝓤 : Ura M} (𝓛 : Logic 𝓤) (R : RattleType) (d : B
         move ! (1 ∷ []) $ split ! $ move ! (2 ∷ 0 ∷ []) $
         use2 𝓛 (some (λ (n : ℕ).
         given (n < 2 ^ 64) (‵ (Flags n) ⊛ ‵ (Slot (is_set n (i % 64))) ⊛ raw (all 𝓤 (Back n)))))
-        (slot_in 𝓛 R d t wb wo s i k e b low at_k at_e at_b) $
+        (slot_in 𝓛 R slot) $
         pick ! (λ n. learn ! (λ fits. split3 ! $
         show ! L n $ frame ! $ assume ! (‵ (Flags (f n))) $ let Then : SProp 𝓤 = ⟦ I ⟧ ∗ ⟦ after n ⟧ in
         move ! (1 ∷ []) $ fsplit ! $ move ! (1 ∷ []) $ fpick ! (λ z. fsplit3 ! $ fpick ! (λ told. drop ! $

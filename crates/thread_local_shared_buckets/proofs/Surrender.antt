@@ -21,6 +21,7 @@ use Rattle.thread_local_shared_buckets.specs.Claims.{ClaimFields, IsOf, has_slot
 use Rattle.thread_local_shared_buckets.proofs.Early as early
 use Rattle.thread_local_shared_buckets.proofs.ClaimSteps as steps
 use Rattle.thread_local_model.proofs.Signs.{signs}
+use Rattle.thread_local_shared_buckets.proofs.Inside.{placed}
 
 module _ {M : Type 1} {𝓤 : Ura M} (𝓛 : Logic 𝓤) (R : RattleType) (β : Lft) (table : ℕ) (c : ClaimFields) where
   open 𝓛 use {H, A}
@@ -75,7 +76,7 @@ module _ {M : Type 1} {𝓤 : Ura M} (𝓛 : Logic 𝓤) (R : RattleType) (β : 
         let l : c.index < length s.names = subst (λ (n : ℕ). c.index < n) (sym sized.0) of.4 in
         let b : ℕ = block_of s.at in
         let e : ℕ = value_offset R (count_of s.at) c.index in
-        keep ! (3 ∷ 4 ∷ 0 ∷ 2 ∷ []) $ by ! (steps.releases 𝓛 R d t wb wo s c.index c.id e b l of.3 refl refl q v))))
+        keep ! (3 ∷ 4 ∷ 0 ∷ 2 ∷ []) $ by ! (steps.releases 𝓛 R (placed d t wb wo s c.index c.id e b l of.3 refl refl) q v))))
 
     gives : (l : Learnt R.Denot) → A.inv J ∗ A.lft t.life q ∗ ⟦ has R d t β c l ⟧ ⊢ H.⇛ (⟦ Right ⟧ ∗ A.lft t.life q)
     gives Unknown = waiting_gives false

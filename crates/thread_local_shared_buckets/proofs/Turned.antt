@@ -49,8 +49,8 @@ use Rattle.thread_local_shared_buckets.specs.contracts.shared.Shared as whole
 use Rattle.thread_local_shared_buckets.specs.Lent.{view_with}
 use Rattle.thread_local_shared_buckets.specs.Fit.{Fit}
 use Rattle.thread_local_shared_buckets.specs.TableView.{TableView, table_view_of, AreBuckets}
-use Rattle.thread_local_shared_buckets.proofs.Lists.{AreOf, all_are_of, named_are_of, Fits, fits_long, owned_of}
-use Rattle.thread_local_shared_buckets.proofs.Lists.{are_owned, fit_all, table_buckets, all_buckets-length, table_named}
+use Rattle.thread_local_shared_buckets.proofs.Lists.{AreOf, table_are_of, named_are_of, Fits, fits_long, owned_of}
+use Rattle.thread_local_shared_buckets.proofs.Lists.{are_owned, fit_all, table_buckets, table_long, table_named}
 use Rattle.thread_local_shared_buckets.proofs.Lists.{table_seen}
 use Rattle.thread_local_shared_buckets.specs.Grown.{only_reserved}
 use Rattle.thread_local_shared_buckets.proofs.GrownLaws.{row_known, rows_known, rows_grown, known_apart, known_together}
@@ -325,7 +325,7 @@ module _ {M : Type 1} {𝓤 : Ura M} (𝓛 : Logic 𝓤) (R : RattleType) (L : L
       rewrite ! 0 (λ (z : Contents R.Denot). ‵ (rows_known R s 0 z.rows)) rows refl $
       move ! (2 ∷ 0 ∷ []) $
       use2 𝓛 (‵ ((Array S 63).own_val ds tss.0))
-      (array_rests j s ds ws tss.0 (all_buckets-length s 63 0) (all_are_of s 63 0)
+      (array_rests j s ds ws tss.0 (table_long s) (table_are_of s)
       (fit_all slots s ws owned)) $
       -- [the array; its value; nothing; the pointers' value; the heap; nothing; the struct's value;
       -- the number; nothing]

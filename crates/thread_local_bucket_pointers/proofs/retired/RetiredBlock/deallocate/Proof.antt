@@ -21,8 +21,8 @@ use Rattle.thread_local_bucket_pointers.specs.Slots.{slots_ty, block_ty, Fits}
 use Rattle.thread_local_bucket_pointers.specs.Retired.{retired_owns}
 use Rattle.thread_local_bucket_pointers.specs.contracts.retired.RetiredBlock as retired
 use Rattle.thread_local_bucket_pointers.specs.contracts.retired.RetiredBlock.deallocate.{ended, clauses, Key.name as #self}
-use Rattle.thread_local_bucket_pointers.proofs.Fields.{block_val, block_good, block_size, block_align}
-use Rattle.thread_local_bucket_pointers.proofs.RetiredBlocks.{told, all_gone}
+use Rattle.thread_local_bucket_pointers.proofs.Fields.{block_val, block_good, block_size, block_align, told}
+use Rattle.thread_local_bucket_pointers.proofs.RetiredBlocks.{all_gone}
 use Rattle.thread_local_bucket_pointers.proofs.retired.RetiredBlock.deallocate.Statement.{statement}
 use Rattle.thread_local_bucket_pointers.proofs.retired.RetiredBlock.deallocate.Code as code
 

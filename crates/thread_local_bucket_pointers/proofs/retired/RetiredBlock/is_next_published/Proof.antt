@@ -23,8 +23,8 @@ use Rattle.thread_local_bucket_pointers.proofs.Slots.{flags_of}
 use Rattle.thread_local_bucket_pointers.specs.Retired.{retired_owns, rest}
 use Rattle.thread_local_bucket_pointers.specs.contracts.retired.RetiredBlock as retired
 use Rattle.thread_local_bucket_pointers.specs.contracts.retired.RetiredBlock.is_next_published.{ended, clauses, Key.name as #self}
-use Rattle.thread_local_bucket_pointers.proofs.Fields.{block_val}
-use Rattle.thread_local_bucket_pointers.proofs.RetiredBlocks.{told, Shown, Again, next_word, looked}
+use Rattle.thread_local_bucket_pointers.proofs.Fields.{block_val, told}
+use Rattle.thread_local_bucket_pointers.proofs.RetiredBlocks.{Shown, Again, next_word, looked}
 use Rattle.thread_local_bucket_pointers.proofs.retired.RetiredBlock.is_next_published.Statement.{statement}
 use Rattle.thread_local_bucket_pointers.proofs.retired.RetiredBlock.is_next_published.Code as code
 use Rattle.thread_local_model.proofs.Walking.{knows}

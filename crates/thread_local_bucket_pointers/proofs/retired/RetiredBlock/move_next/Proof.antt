@@ -21,8 +21,8 @@ use Rattle.thread_local_bucket_pointers.proofs.Slots.{value_of}
 use Rattle.thread_local_bucket_pointers.specs.Retired.{retired_owns, rest}
 use Rattle.thread_local_bucket_pointers.specs.contracts.retired.RetiredBlock as retired
 use Rattle.thread_local_bucket_pointers.specs.contracts.retired.RetiredBlock.move_next.{ended, clauses, Key.name as #self}
-use Rattle.thread_local_bucket_pointers.proofs.Fields.{block_val}
-use Rattle.thread_local_bucket_pointers.proofs.RetiredBlocks.{told, Emptied, next_slot}
+use Rattle.thread_local_bucket_pointers.proofs.Fields.{block_val, told}
+use Rattle.thread_local_bucket_pointers.proofs.RetiredBlocks.{Emptied, next_slot}
 use Rattle.thread_local_bucket_pointers.proofs.retired.RetiredBlock.move_next.Statement.{statement}
 use Rattle.thread_local_bucket_pointers.proofs.retired.RetiredBlock.move_next.Code as code
 use Rattle.thread_local_model.proofs.Walking.{knows}

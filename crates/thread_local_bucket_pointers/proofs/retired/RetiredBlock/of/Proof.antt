@@ -15,10 +15,11 @@ use Rattle.thread_local_bucket_pointers.specs.contracts.retired.RetiredBlock as 
 use Rattle.thread_local_bucket_pointers.specs.contracts.retired.RetiredBlock.of.{ended, clauses, Key.name as #self}
 use Rattle.thread_local_bucket_pointers.proofs.Fields as fields
 use Rattle.thread_local_bucket_pointers.proofs.Slots.{ptr_good}
-use Rattle.thread_local_bucket_pointers.proofs.RetiredBlocks.{FieldsType, made, starts_at}
+use Rattle.thread_local_bucket_pointers.proofs.RetiredBlocks.{starts_at}
 use Rattle.thread_local_bucket_pointers.proofs.retired.RetiredBlock.of.Statement.{statement}
 use Rattle.thread_local_bucket_pointers.proofs.retired.RetiredBlock.of.Code as code
 use Rattle.thread_local_model.proofs.Walking.{knows}
+use Rattle.thread_local_bucket_pointers.proofs.Fields.{FieldsType, made}
 
 pub of_spec : {M : Type 1} → statement M
 of_spec 𝓤 𝓛 𝓜 𝓡 wired T Al L _ ga da dd _ _ =

@@ -50,6 +50,7 @@ use Rattle.thread_local_shared_buckets.proofs.ClaimedFields.{number_in, spaced, 
 use Rattle.thread_local_shared_buckets.proofs.claimed.ClaimedSlot.find.Statement.{statement}
 use Rattle.thread_local_shared_buckets.proofs.claimed.ClaimedSlot.find.Code as code
 use Rattle.thread_local_model.proofs.Walking.{knows, lends_token, returns_token}
+use Rattle.thread_local_shared_buckets.proofs.Inside.{placed}
 
 word_laws : Laws u64
 word_laws = of_field u64-field u64-laws refl (copy_shared u64-field u64-copy)
@@ -232,12 +233,12 @@ find_spec 𝓤 𝓛 𝓜 𝓡 wired X L =
     exec ! 𝓣.C 𝓣.Λ Ev (after 8 fn.body) (at_ret Ev Post) $
     sets ! (of_opd ! (get ! refl)) refl (tt, tt) $
     let Found : ℕ → Fml =
-    steps.Finds 𝓛 R d t wb (wo + 0) s' i h.id e pb low of.3 refl refl (looked_in_vain l₀) in
+    steps.Finds 𝓛 R (placed d t wb (wo + 0) s' i h.id e pb low of.3 refl refl) (looked_in_vain l₀) in
     let aft : ℕ → Fml = λ n. fsep (flft t.life s) (Found n) in
     first ! $ blocks ! $ sets ! (agg ! (and_then ! (lit ! tt) (no_more !))) refl seq_cst_good $
     move ! (4 ∷ 3 ∷ 1 ∷ 2 ∷ []) $ group ! 4 $
     use1 𝓛 (raw (𝓣.C _ (vptr pb at_word ∷ seq_cst ∷ []) (λ v. mean 𝓛 (found aft v))))
-    (via 𝓤 _ (steps.finds 𝓛 R d t wb (wo + 0) s' i h.id e pb low of.3 refl refl s (looked_in_vain l₀))
+    (via 𝓤 _ (steps.finds 𝓛 R (placed d t wb (wo + 0) s' i h.id e pb low of.3 refl refl) s (looked_in_vain l₀))
     (loads 𝓛 𝓜 𝓡 (code.calls-std::sync::atomic::raw::load 𝓡.env wired)
     (block_ptr pb at_word) aft)) $
     Calls-last ! (fm 𝓛 𝓜 𝓡) (found aft)

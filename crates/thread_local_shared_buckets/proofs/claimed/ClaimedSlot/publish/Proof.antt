@@ -53,6 +53,7 @@ use Rattle.thread_local_shared_buckets.proofs.ClaimedFields.{spaced_is}
 use Rattle.thread_local_shared_buckets.proofs.claimed.ClaimedSlot.publish.Statement.{statement}
 use Rattle.thread_local_shared_buckets.proofs.claimed.ClaimedSlot.publish.Code as code
 use Rattle.thread_local_model.proofs.Walking.{knows, lends_token, returns_token}
+use Rattle.thread_local_shared_buckets.proofs.Inside.{placed}
 
 pub publish_spec : {M : Type 1} → statement M
 publish_spec 𝓤 𝓛 𝓜 𝓡 wired X L =
@@ -241,7 +242,7 @@ publish_spec 𝓤 𝓛 𝓜 𝓡 wired X L =
     let low = subst (λ (n : ℕ). i < n) (sym sized.0) of.4 in
     let out : Fml =
     fsep (flft t.life g') (fsep (right_owns t.filled h.id) (tells R d.sharing h.id (Some x))) in
-    let flag : ℕ = steps.flag 𝓛 R d t wb (wo + 0) s i h.id e pb low of.3 refl refl in
+    let flag : ℕ = steps.flag 𝓛 R (placed d t wb (wo + 0) s i h.id e pb low of.3 refl refl) in
     let flag_fits : flag < 2 ^ 64 = shifted_left 1 j in
     let after_it : ℕ → Fml = λ _. out in
     first ! $ blocks ! $ sets ! (of_opd ! (get ! refl)) refl (tt, tt) $
@@ -253,7 +254,7 @@ publish_spec 𝓤 𝓛 𝓜 𝓡 wired X L =
     sets ! (bin ! (lit ! tt) (get ! refl) (place_below i)) refl (tt, record { fits = flag_fits }) $
     sets ! (agg ! (and_then ! (lit ! tt) (no_more !))) refl seq_cst_good $ move ! (3 ∷ 0 ∷ 9 ∷ 4 ∷ []) $ group ! 4 $
     use1 𝓛 (raw (𝓣.C _ (vptr pb at_word ∷ vint w64 flag ∷ seq_cst ∷ []) (λ v. mean 𝓛 (found after_it v))))
-    (via 𝓤 _ (steps.publishes 𝓛 R d t wb (wo + 0) s i h.id e pb low of.3 refl refl g' x)
+    (via 𝓤 _ (steps.publishes 𝓛 R (placed d t wb (wo + 0) s i h.id e pb low of.3 refl refl) g' x)
     (adds 𝓛 𝓜 𝓡 (code.calls-std::sync::atomic::raw::fetch_add 𝓡.env wired) (block_ptr pb at_word)
     flag flag_fits after_it)) $
     Calls-last ! (fm 𝓛 𝓜 𝓡) (found after_it)

@@ -41,6 +41,7 @@ use Rattle.thread_local_shared_buckets.proofs.shared_bucket.SharedBucket.value.S
 use Rattle.thread_local_shared_buckets.proofs.shared_bucket.SharedBucket.value.Code as code
 use Rattle.thread_local_bucket_pointers.proofs.Slots.{ptr_good}
 use Rattle.thread_local_model.proofs.Walking.{knows, lends_token, returns_token}
+use Rattle.thread_local_shared_buckets.proofs.Inside.{placed}
 
 pub value_spec : {M : Type 1} → statement M
 value_spec {M} 𝓤 𝓛 𝓜 𝓡 wired T L =
@@ -129,7 +130,7 @@ value_spec {M} 𝓤 𝓛 𝓜 𝓡 wired T L =
     let close : i * stride R < 2 ^ 64 = value_near R (len R d) i so.1.2 near in
     move ! (6 ∷ 3 ∷ 0 ∷ 2 ∷ []) $ group ! 4 $
     use1 𝓛 (later (‵ (F (sd.block_life ∷ t.life)) ⊛ ‵ (flft t.life s)))
-    (finds 𝓛 R LR sync.shared d t b (o + 0) sd i k e pb low refl at_e at_b named_so x s) $
+    (finds 𝓛 R LR sync.shared (placed d t b (o + 0) sd i k e pb low refl at_e at_b) named_so x s) $
     await ! tt $ split ! $
     move ! (1 ∷ 3 ∷ []) $
     returns_token ! κ t.life q s $ await ! tt $
