@@ -138,8 +138,7 @@ module _ {M : Type 1} {𝓤 : Ura M} (𝓛 : Logic 𝓤) (R : RattleType) where
         let ds : List C = but_first n cs in
         let none : List C = empty_slots n in
         let F : C → ℕ → Fml = slot R b o in
-        let parts : cs ≡ none ++ ds =
-        sym (take-append-drop n cs) ∙ ap (λ (fs : List C). fs ++ ds) empty in
+        let parts : cs ≡ none ++ ds = sym (take-append-drop n cs) ∙ ap (λ (fs : List C). fs ++ ds) empty in
         let count : length none ≡ n = length-replicate n None in
         let long : length cs ≡ n + length ds =
         ap (λ (fs : List C). length fs) parts

@@ -90,8 +90,7 @@ module _ {M : Type 1} {𝓤 : Ura M} (𝓛 : Logic 𝓤) (X : RattleType) (L : L
       let Rest : SProp 𝓤 =
       ⟦ rest_at full_share ms 0 (a.pointers, (a.alloc, tt)) b o 0 ⟧
       ∗ PartsBack 𝓛 full_share [] ms b o in
-      let Rest' : SProp 𝓤 =
-      ⟦ rest_at full_share ns 0 (ws, tt) b (o + 0) 0 ⟧ ∗ PartsBack 𝓛 full_share [] ns b (o + 0) in
+      let Rest' : SProp 𝓤 = ⟦ rest_at full_share ns 0 (ws, tt) b (o + 0) 0 ⟧ ∗ PartsBack 𝓛 full_share [] ns b (o + 0) in
       use1 𝓛 (‵ (part_at Row full_share a.pointers b (o + 0)) ⊛ raw Rest)
       (field_out 𝓛 full_share [] ms (LRow, (LH, tt)) (a.pointers, (a.alloc, tt)) b o 0) $
       split ! $

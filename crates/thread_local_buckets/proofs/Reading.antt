@@ -47,8 +47,7 @@ module _ {M : Type 1} {𝓤 : Ura M} (𝓛 : Logic 𝓤) (R : RattleType) (p : P
       let Owns : List ℕ → Fml = flags_own R (block_of p) (count_of p) cs 0 in
       qed 𝓛 (‵ (flagged R p cs) ∷ []) ∵ fpick ! (λ ns. fsplit3 ! $ fpick ! (λ so. drop ! $
       let n : ℕ = get_or ns c 0 in
-      let inside : c < length ns =
-      (let within = chunk_in many c near in let long = so.0 in omega arith) in
+      let inside : c < length ns = (let within = chunk_in many c near in let long = so.0 in omega arith) in
       let first : c ≡ c + 0 = omega arith in
       show ! (Word cs c) n $ check ! (word_of cs ns c so.1) $
       use1 𝓛 (‵ (G n c) ⊛ raw (all 𝓤 (Put 𝓛 G ns 0 c c))) (each_at 𝓛 G ns 0 c c 0 first inside) $

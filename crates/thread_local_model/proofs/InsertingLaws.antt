@@ -98,8 +98,7 @@ module _ {V : Type 0} where
             → (o ≡ None → e ≡ with_slot d b i (Some value)) → b < length d.rows
             → there ≡ unwrap_or o value
         go (Some x) is kept published h =
-            let same : Some there ≡ Some x =
-            sym found ∙ ap (λ (d : Contents V). value_in d b i) (kept refl) ∙ sym is in
+            let same : Some there ≡ Some x = sym found ∙ ap (λ (d : Contents V). value_in d b i) (kept refl) ∙ sym is in
             cc
         go None is kept published h =
             let same : Some there ≡ Some value = sym found ∙ ap (λ (d : Contents V). value_in d b i) (published refl)

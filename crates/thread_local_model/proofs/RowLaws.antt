@@ -35,8 +35,7 @@ module _ {V : Type 0} where
         (let same = row-with_row-same c b r low in
         subst (λ (s : List (Option V)). (length s ≡ 0) ⊎ (length s ≡ 2 ^ b)) (sym same) h))
         (λ (high : length c.rows ≤ b).
-        let past : length (with_row c b r).rows ≤ j =
-        rw rows-with_row (omega (arith, here, high)) in
+        let past : length (with_row c b r).rows ≤ j = rw rows-with_row (omega (arith, here, high)) in
         inl (ap length (get_or_past (with_row c b r).rows j [] past)))
         (cases_lt b (length c.rows)))
         (λ apart.
@@ -60,8 +59,7 @@ module _ {V : Type 0} where
       subst P (sym here)
       (ap length (row-with_row-same c b (set (row c b) i o) low) ∙ length-set (row c b) i o))
       (λ (high : length c.rows ≤ b).
-      let past : length (with_slot c b i o).rows ≤ j =
-      rw (rows-with_row c b (set (row c b) i o)) (omega (arith, here, high)) in
+      let past : length (with_slot c b i o).rows ≤ j = rw (rows-with_row c b (set (row c b) i o)) (omega (arith, here, high)) in
       ap length (get_or_past (with_slot c b i o).rows j [] past) ∙ sym (ap length (get_or_past c.rows j [] (omega (arith, here, high)))))
       (cases_lt b (length c.rows)))
       (λ apart. ap length (row-with_row-other c b j (set (row c b) i o) apart))

@@ -151,8 +151,7 @@ pub all_zeros : (len more before : ℕ) (none items : List ℕ) → more ≡ len
 all_zeros zero more before none items short start empty filled = refl
 all_zeros (suc n) more before none items short start empty filled =
     let count : more - before ≡ n = omega arith in
-    let zeros : items ≡ replicate n 0 =
-    filled ∙ rw (empty, count) (ap (λ (l : List ℕ). l ++ replicate n 0) (take-nil more)) in
+    let zeros : items ≡ replicate n 0 = filled ∙ rw (empty, count) (ap (λ (l : List ℕ). l ++ replicate n 0) (take-nil more)) in
     ap (λ (l : List ℕ). 0 ∷ l) (ap (take n) zeros ∙ take-replicate n n 0 (omega arith))
 
 -- words that are all cleared
@@ -162,8 +161,7 @@ pub cleared : (count first left : ℕ) (rest now words : List ℕ) → length re
 cleared zero first left rest now words are many view filled = ap (λ (ws : List ℕ). replicate (length ws) 0) view
 cleared (suc n) first left rest now words are many view filled =
     let all : suc n ≡ length words = omega (arith, ap length view, length-take (suc n) (first ∷ rest)) in
-    let zeros : take n now ≡ replicate n 0 =
-    ap (λ (ws : List ℕ). take n ws) filled ∙ take-replicate n left 0 (omega arith) in
+    let zeros : take n now ≡ replicate n 0 = ap (λ (ws : List ℕ). take n ws) filled ∙ take-replicate n left 0 (omega arith) in
     ap (λ (ws : List ℕ). 0 ∷ ws) zeros ∙ ap (λ (k : ℕ). replicate k 0) all
 
 -- a further word behind the others

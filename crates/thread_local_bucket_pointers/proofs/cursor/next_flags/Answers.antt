@@ -57,8 +57,7 @@ loop-bucket-preserved g c =
     let given = g.P.FlagSource.given c.args.source.now in
     let at = kept.at c.loop-bucket-test.true in
     let size : raw.bucket_size ≡ 2 ^ b = at.size ∙ ap (λ b. 2 ^ b) kept.here in
-    let ahead : given ≤ id_at (b + 1) 0 =
-    (let low = kept.ahead c.loop-bucket-test.true in
+    let ahead : given ≤ id_at (b + 1) 0 = (let low = kept.ahead c.loop-bucket-test.true in
     let here = kept.here in
     omega (arith, low, here, size, id_at-next b)) in
     let on : c.if-stands.raw ≡ raw → NoneBelow (values first) (id_at (b + 1) 0)

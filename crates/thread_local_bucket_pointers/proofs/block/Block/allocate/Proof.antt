@@ -98,18 +98,14 @@ allocate_spec 𝓤 𝓛 𝓜 𝓡 wired T Al L LA ga da dd met _ =
     answers Hd ! 𝓜.mem 𝓡.returns heap τ u
     (λ b o e.
     let p : Ptr = block_ptr b o in
-    let r : Bl.Denot =
-    record { at = p; marker = record {}; heap = heap; slots = empty_slots n; left = chunks n } in
+    let r : Bl.Denot = record { at = p; marker = record {}; heap = heap; slots = empty_slots n; left = chunks n } in
     let val : Val = live 0 (vcons (block_val p) vnil) in let good : WT val = (record { fits = lit< tt }, ((tt, (tt, tt)), tt)) in
     let Told : Type 0 = (heap ≡ heap) × (r.slots ≡ r.slots) × (r.left ≡ r.left) in
     use2 𝓛 (‵ (block_owns R token p (empty_slots n) (chunks n))) (fresh 𝓛 R token b o n fits) $
     lands_as ! e refl (Answer-typed true b o) $ first ! $
     switches_on ! (get_tag ! (vrt ! refl (fld ! refl (stop !))) (whole !)) $
     exec ! 𝓣.C 𝓣.Λ Ev (arm_body 0 both) Then $
-    sets !
-    (of_opd !
-    (get_in ! (vrt ! refl (fld ! refl (stop !))) (in_variant ! 0 0 refl refl (whole !))))
-    refl (tt, tt) $
+    sets ! (of_opd ! (get_in ! (vrt ! refl (fld ! refl (stop !))) (in_variant ! 0 0 refl refl (whole !)))) refl (tt, tt) $
     sets ! (of_opd ! (get ! refl)) refl (tt, tt) $
     sets ! (agg ! (no_more !)) refl (tt, tt) $
     sets ! (agg ! (and_then ! (get ! refl) (and_then ! (get ! refl) (no_more !)))) refl

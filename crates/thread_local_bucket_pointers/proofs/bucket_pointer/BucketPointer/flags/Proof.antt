@@ -66,17 +66,13 @@ flags_spec 𝓤 𝓛 𝓜 𝓡 wired T L =
     let number_at : w ≡ value_words R (length cs) + j = numbered ∙ so.place.number in
     let small : w * 8 < 2 ^ 64 = subst (λ (m : ℕ). m * 8 < 2 ^ 64) (sym number_at) so.place.near in
     let read : n < 2 ^ 64 = so.is_word.fits in
-    let Told : Type 0 =
-    (bit : ℕ) → bit < 64 → is_set n bit ≡ is_some (slot_value cs (j * 64 + bit)) in
+    let Told : Type 0 = (bit : ℕ) → bit < 64 → is_set n bit ≡ is_some (slot_value cs (j * 64 + bit)) in
     let seen : us ≡ pointer_val (block_ptr b (count_of p)) ∷ [] =
     told R p us known.0 ∙ ap (λ (u : Ptr). pointer_val u ∷ []) (at_block p so.lies) in
     let Cell = λ (ws : List Val). ‵ (cell_at full_share PointerRow.mir ws b' o') in rewrite ! 3 Cell seen refl $
     -- [the chunk's word; the way back; the pointer's field; its cell; the open borrow]
     first ! $ blocks ! $
-    sets !
-    (of_opd !
-    (load ! (through ! refl (fld ! refl (stop !))) (look_in ! 3 (sub ! 0 refl (whole !)))))
-    refl (tt, tt) $
+    sets ! (of_opd ! (load ! (through ! refl (fld ! refl (stop !))) (look_in ! 3 (sub ! 0 refl (whole !))))) refl (tt, tt) $
     sets ! (of_opd ! (get ! refl)) refl (tt, tt) $
     sets ! (is ! (bin ! (get ! refl) (lit ! tt) (record { fits = small }))
     (ap (λ (m : ℕ). vint w64 (m * 8)) number_at))

@@ -35,8 +35,7 @@ get_mut_spec 𝓤 𝓛 𝓜 𝓡 wired T L =
     let En = ended T in let c = clauses T 𝓛 𝓜.mem 𝓡.returns in let inst = layouts (a_type ∷ []) (T, tt) in
     let fn = inst_fn inst code.function in let row = plain (λ _. PointerRow) in
     let self = RefMutOf (0 ∷ []) tt row (λ _. tt) in
-    let hs : Stays En.signature.params En.kept =
-    (stay_dropped self no, (stay_dropped (plain (λ _. usize)) yes, tt)) in
+    let hs : Stays En.signature.params En.kept = (stay_dropped self no, (stay_dropped (plain (λ _. usize)) yes, tt)) in
     proved 𝓛 En hs c 𝓜 𝓡 (Goes-spent_ref 𝓛 2 (0 ∷ []) tt row, (Goes-dropped 𝓛 2 (plain (λ _. usize)) yes (λ κs x f. refl), tt))
     (#self inst) fn (code.unfolded 𝓤 𝓛.H 𝓜 𝓡 wired (T, tt))
     (λ κs. (mut_vals, (uint_vals w64, tt)))
@@ -80,13 +79,9 @@ get_mut_spec 𝓤 𝓛 𝓜 𝓡 wired T L =
     let published : is_set n i ≡ true = slot_flag cs j n so.is_word ∙ ap is_some lies in
     -- [the value; the chunk's word; the way back; the pointer's field; its cell; the open borrow]
     first ! $ blocks ! $
-    sets !
-    (of_opd !
-    (load ! (through ! refl (fld ! refl (stop !))) (look_in ! 4 (sub ! 0 refl (whole !)))))
-    refl (tt, tt) $
+    sets ! (of_opd ! (load ! (through ! refl (fld ! refl (stop !))) (look_in ! 4 (sub ! 0 refl (whole !))))) refl (tt, tt) $
     sets ! (of_opd ! (get ! refl)) refl (tt, tt) $
-    sets !
-    (is ! (bin ! (get ! refl) (size_word !) (record {
+    sets ! (is ! (bin ! (get ! refl) (size_word !) (record {
       fits = subst (λ (m : ℕ). m < 2 ^ 64) (sym (uncapped j (stride R) near_value)) near_value;
     }))
     (ap (vint w64) (uncapped j (stride R) near_value)))

@@ -43,8 +43,7 @@ lay_spec 𝓤 𝓛 𝓜 𝓡 wired T L =
     let b' : ℕ = a.0.ref_ptr.0 in let o' : ℕ = a.0.ref_ptr.1 in let h : PointerRow.Denot = a.0.now in
     let x : Bl.Denot = a.1.0 in
     let p : Ptr = x.at in let cs : List (Option T.Denot) = x.slots in let others : Fml = fsep (flft κs.1.0 qs.1.0) ftrue in
-    let y : (walk_of 𝓛 En hs c).Ghost =
-    ((κs, qs, bounds, a, (vptr b' o' ∷ [], (fields.block_val p ∷ [], tt))), gh) in
+    let y : (walk_of 𝓛 En hs c).Ghost = ((κs, qs, bounds, a, (vptr b' o' ∷ [], (fields.block_val p ∷ [], tt))), gh) in
     let Made : Type 0 = (x.left ≡ 0) × (0 < length cs) in
     qed 𝓛 (((‵ (flft κs.0 qs.0) ⊛ ‵ others) ⊛ ‵ (owns (types_at En.signature.params κs) a y.0.4))
     ∷ raw (fact 𝓤 _) ∷ raw (fact 𝓤 (h.slots ≡ [])) ∷ raw (fact 𝓤 Made) ∷ []) ∵

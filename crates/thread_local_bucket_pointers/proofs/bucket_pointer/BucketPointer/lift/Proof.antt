@@ -42,8 +42,7 @@ lift_spec 𝓤 𝓛 𝓜 𝓡 wired T L =
     let heap : Z.Denot = a.1.0.now in
     let p : Ptr = h.at in let cs : List (Option T.Denot) = h.slots in
     let others : Fml = fsep (flft κs.1.0 qs.1.0) (fsep (flft κs.1.1.0 qs.1.1.0) ftrue) in
-    let y : (walk_of 𝓛 En hs c).Ghost =
-    ((κs, qs, bounds, a, (vptr b' o' ∷ [], (vptr hp.0 hp.1 ∷ [], tt))), gh) in
+    let y : (walk_of 𝓛 En hs c).Ghost = ((κs, qs, bounds, a, (vptr b' o' ∷ [], (vptr hp.0 hp.1 ∷ [], tt))), gh) in
     qed 𝓛 (((‵ (flft κs.0 qs.0) ⊛ ‵ others) ⊛ ‵ (owns (types_at En.signature.params κs) a y.0.4))
     ∷ raw (fact 𝓤 _) ∷ raw (fact 𝓤 (0 < length cs)) ∷ []) ∵
     keep ! (2 ∷ 0 ∷ []) $ heard ! (0 < length cs) (λ some_slot. split ! $ split ! $

@@ -30,8 +30,7 @@ stands_spec 𝓤 𝓛 𝓜 𝓡 wired T L =
     proved 𝓛 En hs c 𝓜 𝓡 (Goes-ref 𝓛 2 0 tt (plain (λ _. PointerRow)), tt) (#self inst) fn
     (code.unfolded 𝓤 𝓛.H 𝓜 𝓡 wired (T, tt))
     (λ κs. (mut_vals, tt)) (λ κs. (mut_Tells (named 0) κs.0 PointerRow, tt)) (λ κs qs bounds a gh are.
-    let y : (walk_of 𝓛 En hs c).Ghost =
-    ((κs, qs, bounds, a, (vptr a.0.ref_ptr.0 a.0.ref_ptr.1 ∷ [], tt)), gh) in
+    let y : (walk_of 𝓛 En hs c).Ghost = ((κs, qs, bounds, a, (vptr a.0.ref_ptr.0 a.0.ref_ptr.1 ∷ [], tt)), gh) in
     let b' : ℕ = a.0.ref_ptr.0 in let o' : ℕ = a.0.ref_ptr.1 in let h : PointerRow.Denot = a.0.now in let p : Ptr = h.at in
     let cs : List (Option T.Denot) = h.slots in let others : Fml = fsep (flft κs.1.0 qs.1.0) ftrue in
     let W : Fml = pointer_owns R heap_token p cs in

@@ -118,8 +118,7 @@ take_and_store_spec 𝓤 𝓛 𝓜 𝓡 wired T L =
     sets ! (bin ! (get ! refl) (get ! refl) tt) refl (tt, tt) $
     assigns ! (of_opd ! (get ! refl)) (through ! refl (stop !)) (store ! 2 refl (tt, record { fits = fits })) $
     sets ! (of_opd ! (get ! refl)) refl (tt, tt) $
-    sets !
-    (is ! (bin ! (get ! refl) (size_word !) (record {
+    sets ! (is ! (bin ! (get ! refl) (size_word !) (record {
       fits = subst (λ (m : ℕ). m < 2 ^ 64) (sym (uncapped j (stride R) near_value)) near_value;
     }))
     (ap (vint w64) (uncapped j (stride R) near_value)))

@@ -68,6 +68,5 @@ returns-clause-some g c = λ set.
 
 pub returns-clause-none : goal.returns-clause-none
 returns-clause-none g c = λ zero.
-    let last : c.args.chunk + c.loop-at.at ≡ c.args.chunk + 8 =
-    omega (arith, c.loop-at-test.false, c.loop-at.auto.at-end) in
+    let last : c.args.chunk + c.loop-at.at ≡ c.args.chunk + 8 = omega (arith, c.loop-at-test.false, c.loop-at.auto.at-end) in
     c.loop-at.invariant.none zero ∙ ap (λ (i : ℕ). count_below (values c.args.self.now) (id_at c.args.bucket (i * 64))) last

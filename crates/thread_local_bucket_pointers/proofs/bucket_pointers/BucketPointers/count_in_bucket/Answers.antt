@@ -175,10 +175,8 @@ returns-clause-counted g c =
     c.loop-group.count c.count_in_chunks.result kept.same c.requires.size refl
     (omega (arith, c.loop-group-test.false, c.loop-group.auto.group-end))
     c.count_in_chunks.ensures.counted kept.counted in
-    let end : id_at b (2 ^ b) ≡ id_at (b + 1) 0 =
-    (let twice = two-pow-succ b in
+    let end : id_at b (2 ^ b) ≡ id_at (b + 1) 0 = (let twice = two-pow-succ b in
     let some = pow_pos b in
-    let one : 2 ^ (b + 1) ≡ 2 ^ suc b =
-    ap (λ (i : ℕ). 2 ^ i) (let s : b + 1 ≡ suc b = omega arith in s) in
+    let one : 2 ^ (b + 1) ≡ 2 ^ suc b = ap (λ (i : ℕ). 2 ^ i) (let s : b + 1 ≡ suc b = omega arith in s) in
     omega (arith, twice, some, one)) in
     counted ∙ ap (count_below (values c.args.self.now)) end

@@ -44,8 +44,7 @@ pointer_mut_spec 𝓤 𝓛 𝓜 𝓡 wired T L =
     let fn = inst_fn inst code.function in
     let LW = (pointer_laws.the_row_laws R (param_laws 0 T L)).lawful 𝓛 in
     let row = plain (λ _. Rw) in let self = RefMutOf (0 ∷ []) tt row (λ _. tt) in
-    let hs : Stays En.signature.params En.kept =
-    (stay_dropped self no, (stay_dropped (plain (λ _. usize)) yes, tt)) in
+    let hs : Stays En.signature.params En.kept = (stay_dropped self no, (stay_dropped (plain (λ _. usize)) yes, tt)) in
     proved 𝓛 En hs c 𝓜 𝓡 (Goes-spent_ref 𝓛 2 (0 ∷ []) tt row, (Goes-dropped 𝓛 2 (plain (λ _. usize)) yes (λ κs x f. refl), tt))
     (#self inst) fn (code.unfolded 𝓤 𝓛.H 𝓜 𝓡 wired (T, tt))
     (λ κs. (mut_vals, (uint_vals w64, tt))) (λ κs. (mut_Tells (named 0) κs.0 Rw, (uint_Tells w64, tt))) (λ κs qs bounds a gh are.

@@ -86,10 +86,7 @@ is_next_published_spec 𝓤 𝓛 𝓜 𝓡 wired T Al L _ ga da dd _ _ =
     let Cell = λ (ws : List Val). ‵ (cell_at full_share Lv.mir ws b' o') in rewrite ! 3 Cell seen refl $
     -- [the word; the way back; the block's fields; their cell; the open borrow]
     first ! $ blocks ! $
-    sets !
-    (of_opd !
-    (load ! (through ! refl (fld ! refl (stop !))) (look_in ! 3 (sub ! 0 refl (whole !)))))
-    refl (tt, tt) $
+    sets ! (of_opd ! (load ! (through ! refl (fld ! refl (stop !))) (look_in ! 3 (sub ! 0 refl (whole !))))) refl (tt, tt) $
     sets ! (of_opd ! (get ! refl)) refl (tt, tt) $
     sets ! (is ! (bin ! (get ! refl) (lit ! tt) (record { fits = small }))
     (ap (λ (k : ℕ). vint w64 (k * 8)) at))

@@ -77,13 +77,9 @@ move_next_spec 𝓤 𝓛 𝓜 𝓡 wired T Al L _ ga da dd _ _ =
     -- [the value's cell; what it owns; the way back; the block's fields; their cell; the open
     -- borrow]
     first ! $ blocks ! $
-    sets !
-    (of_opd !
-    (load ! (through ! refl (fld ! refl (stop !))) (look_in ! 4 (sub ! 0 refl (whole !)))))
-    refl (tt, tt) $
+    sets ! (of_opd ! (load ! (through ! refl (fld ! refl (stop !))) (look_in ! 4 (sub ! 0 refl (whole !))))) refl (tt, tt) $
     sets ! (of_opd ! (get ! refl)) refl (tt, tt) $
-    sets !
-    (is ! (bin ! (get ! refl) (size_word !) (record {
+    sets ! (is ! (bin ! (get ! refl) (size_word !) (record {
       fits = subst (λ (k : ℕ). k < 2 ^ 64) (sym (uncapped j (stride R) small)) small;
     }))
     (ap (vint w64) (uncapped j (stride R) small)))
@@ -98,8 +94,7 @@ move_next_spec 𝓤 𝓛 𝓜 𝓡 wired T Al L _ ga da dd _ _ =
     (sem 𝓛 (retired_owns R token p (j + 1) (rest cs)))) $
     move ! (0 ∷ 2 ∷ 3 ∷ 4 ∷ 5 ∷ 6 ∷ []) $
     rewrite ! 2 Cell (sym seen) refl $
-    let h' : Lv.Denot =
-    record { at = p; marker = h.marker; heap = h.heap; slots = rest cs; gone = j + 1 } in
+    let h' : Lv.Denot = record { at = p; marker = h.marker; heap = h.heap; slots = rest cs; gone = j + 1 } in
     move ! (1 ∷ []) $ fjoin ! $ move ! (1 ∷ []) $ closes ! tt Lv h' us b' o' $
     feq_i ! _ (vptr b' o' ∷ []) _ refl $ fjoin3 ! $ nothing ! $ nothing ! $
     fjoin ! $ move ! (1 ∷ 0 ∷ []) $ fjoin ! $ move ! (1 ∷ 3 ∷ []) $ join ! $

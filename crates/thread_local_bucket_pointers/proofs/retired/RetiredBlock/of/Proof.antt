@@ -42,8 +42,7 @@ of_spec 𝓤 𝓛 𝓜 𝓡 wired T Al L _ ga da dd _ _ =
     let p : Ptr = h.at in let cs : List (Option T.Denot) = h.slots in
     let ds : List (Option T.Denot) = but_first n cs in
     let token : Ty → Ptr → Fml = ga.dealloc_token h.heap in let v : Val = fields.block_val p in
-    let y : (walk_of 𝓛 En hs c).Ghost =
-    ((κs, qs, bounds, a, (v ∷ [], (vint w64 n ∷ [], tt))), gh) in
+    let y : (walk_of 𝓛 En hs c).Ghost = ((κs, qs, bounds, a, (v ∷ [], (vint w64 n ∷ [], tt))), gh) in
     let Empty : Type 0 = take n cs ≡ empty_slots n in
     qed 𝓛 ((raw (alive 𝓛 En.signature κs qs) ⊛ ‵ (owns (types_at En.signature.params κs) a y.0.4))
     ∷ raw (fact 𝓤 _) ∷ raw (fact 𝓤 _) ∷ raw (fact 𝓤 (h.left ≡ 0)) ∷ raw (fact 𝓤 Empty) ∷ []) ∵

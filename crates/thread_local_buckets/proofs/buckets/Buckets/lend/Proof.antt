@@ -120,9 +120,7 @@ lend_spec 𝓤 𝓛 𝓜 𝓡 wired X L =
     sets ! (addr ! (through ! refl (fld ! refl (stop !)))) refl (tt, tt) $
     sets ! (of_opd ! (get ! refl)) refl (tt, tt) $ sets ! (of_opd ! (get ! refl)) refl (tt, tt) $
     sets ! (agg ! (no_more !)) refl (tt, tt) $
-    sets !
-    (agg !
-    (and_then ! (get ! refl) (and_then ! (get ! refl) (and_then ! (get ! refl) (no_more !)))))
+    sets ! (agg ! (and_then ! (get ! refl) (and_then ! (get ! refl) (and_then ! (get ! refl) (no_more !)))))
     refl (tt, (tt, (tt, (tt, tt)))) $
     open_ref ! tt (mem Owner) $
     use1 𝓛

@@ -48,8 +48,7 @@ enter_spec 𝓤 𝓛 𝓜 𝓡 wired X L =
     let b : ℕ = a.0.ref_ptr.0 in let o : ℕ = a.0.ref_ptr.1 in let h : Lo.Denot = a.0.now in
     let k : ℕ = a.1.0 in
     let i : ℕ = a.1.1.0 in
-    let y : (walk_of 𝓛 En hs c₀).Ghost =
-    ((κs, qs, bounds, a, (vptr b o ∷ [], (vint w64 k ∷ [], (vint w64 i ∷ [], tt)))), gh) in
+    let y : (walk_of 𝓛 En hs c₀).Ghost = ((κs, qs, bounds, a, (vptr b o ∷ [], (vint w64 k ∷ [], (vint w64 i ∷ [], tt)))), gh) in
     let Post : Val → SProp 𝓤 = (walk_of 𝓛 En hs c₀).post y in
     let others : Fml = fsep (flft κs.1.0 qs.1.0) (fsep (flft κs.1.1.0 qs.1.1.0) ftrue) in
     let InTable : Type 0 = k < 63 in let InBucket : Type 0 = i < length (row h.contents k) in
@@ -66,8 +65,7 @@ enter_spec 𝓤 𝓛 𝓜 𝓡 wired X L =
     fpick ! (λ s. fsplit ! $ fpick ! (λ so. drop ! $ fsplit ! $
     -- [the frames; the values; the fields; the loan's cell; its open borrow, in three entries; the
     -- other tokens]
-    let at : h.pointers ≡ block_ptr (block_of h.pointers) (count_of h.pointers) =
-    at_block h.pointers so.0 in
+    let at : h.pointers ≡ block_ptr (block_of h.pointers) (count_of h.pointers) = at_block h.pointers so.0 in
     let wb : ℕ = block_of h.pointers in
     let wo : ℕ = count_of h.pointers in
     let e : ℕ = k * 8 + wo in
@@ -92,16 +90,12 @@ enter_spec 𝓤 𝓛 𝓜 𝓡 wired X L =
     rewrite ! 7 (λ (ws : List Val). ‵ (cell_at full_share Lo.mir ws b o)) ev refl $
     rewrite ! 0 (λ (q : Ptr). ‵ (cell wb e q)) lies refl $
     first ! $ blocks ! $
-    sets !
-    (of_opd !
-    (load ! (through ! refl (fld ! refl (stop !))) (look_in ! 7 (sub ! 0 refl (whole !)))))
-    refl (tt, tt) $
+    sets ! (of_opd ! (load ! (through ! refl (fld ! refl (stop !))) (look_in ! 7 (sub ! 0 refl (whole !))))) refl (tt, tt) $
     sets ! (bin ! (get ! refl) (lit ! tt) (record { fits = low })) refl (tt, record { fits = low }) $
     sets ! (bin ! (get ! refl) (get ! refl) tt) refl (tt, tt) $
     sets ! (of_opd ! (load ! (through ! refl (stop !)) (look ! 0 refl))) refl (tt, tt) $
     sets ! (of_opd ! (get ! refl)) refl (tt, tt) $
-    sets !
-    (is ! (bin ! (get ! refl) (size_word !) (record {
+    sets ! (is ! (bin ! (get ! refl) (size_word !) (record {
       fits = subst (λ (j : ℕ). j < 2 ^ 64) (sym (uncapped i (stride R) value_fits)) value_fits;
     }))
     (ap (vint w64) (uncapped i (stride R) value_fits)))

@@ -87,8 +87,7 @@ flags_at_spec 𝓤 𝓛 𝓜 𝓡 wired X L =
     fpick ! (λ s. fsplit ! $ fpick ! (λ so. drop ! $ fsplit ! $
     -- [the frames; the values; the fields; the loan's cell; its open borrow, in three entries; the
     -- other tokens]
-    let at : h.pointers ≡ block_ptr (block_of h.pointers) (count_of h.pointers) =
-    at_block h.pointers so.0 in
+    let at : h.pointers ≡ block_ptr (block_of h.pointers) (count_of h.pointers) = at_block h.pointers so.0 in
     let wb : ℕ = block_of h.pointers in
     let wo : ℕ = count_of h.pointers in
     let e : ℕ = k * 8 + wo in
@@ -106,11 +105,9 @@ flags_at_spec 𝓤 𝓛 𝓜 𝓡 wired X L =
     let leads = leads_in R p r lead (omega arith) in
     let lies : p ≡ block_ptr sb (count_of p) = at_block p leads.0 in
     let low : k * 8 < 2 ^ 64 = omega arith in
-    let here : IsWordNear R (length r) c =
-    word_is_near R (length r) c leads.1 (chunk_in (length r) c near) in
+    let here : IsWordNear R (length r) c = word_is_near R (length r) c leads.1 (chunk_in (length r) c near) in
     let long : length r ≡ 2 ^ k = so.1.long k ∙ row_whole h.contents k (c * 64) so.1.table inside in
-    let number_at : w ≡ value_words R (length r) + c =
-    numbered ∙ ap (λ (m : ℕ). flag_word_at R m c) (sym long) ∙ here.number in
+    let number_at : w ≡ value_words R (length r) + c = numbered ∙ ap (λ (m : ℕ). flag_word_at R m c) (sym long) ∙ here.number in
     let fits : w * 8 < 2 ^ 64 = subst (λ (m : ℕ). m * 8 < 2 ^ 64) (sym number_at) here.near in
     move ! (1 ∷ []) $
     use1 𝓛 (some (λ (n : ℕ).
@@ -122,10 +119,7 @@ flags_at_spec 𝓤 𝓛 𝓜 𝓡 wired X L =
     rewrite ! 8 (λ (ws : List Val). ‵ (cell_at full_share Lo.mir ws b o)) ev refl $
     rewrite ! 2 (λ (q : Ptr). ‵ (cell wb e q)) lies refl $
     first ! $ blocks ! $
-    sets !
-    (of_opd !
-    (load ! (through ! refl (fld ! refl (stop !))) (look_in ! 8 (sub ! 0 refl (whole !)))))
-    refl (tt, tt) $
+    sets ! (of_opd ! (load ! (through ! refl (fld ! refl (stop !))) (look_in ! 8 (sub ! 0 refl (whole !))))) refl (tt, tt) $
     sets ! (bin ! (get ! refl) (lit ! tt) (record { fits = low })) refl (tt, record { fits = low }) $
     sets ! (bin ! (get ! refl) (get ! refl) tt) refl (tt, tt) $
     sets ! (of_opd ! (load ! (through ! refl (stop !)) (look ! 2 refl))) refl (tt, tt) $
