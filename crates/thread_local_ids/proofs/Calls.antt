@@ -91,8 +91,7 @@ module _ {M : Type 1} {𝓤 : Ura M} (𝓛 : Logic 𝓤) (𝓜 : Model 𝓤 𝓛
         let k : Callee =
         park_is.name
         (bounded (a_type ∷ a_type ∷ []) (marker, (Z, tt)) (dcons dict (dcons d' dnil))) in
-        let vs : List Val =
-        handle ∷ ptr_val p ∷ vint w64 seen ∷ vint w64 secs ∷ vint w64 nanos ∷ [] in
+        let vs : List Val = handle ∷ ptr_val p ∷ vint w64 seen ∷ vint w64 secs ∷ vint w64 nanos ∷ [] in
         let c = triple_of 𝓛 (park.ended marker Z g dict g' d').signature (park.spec marker Z g dict g' d' 𝓛 𝓜.mem 𝓡.returns) in
         let y : c.Ghost = (
           (

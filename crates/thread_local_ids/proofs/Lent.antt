@@ -233,8 +233,7 @@ module _ {M : Type 1} {𝓤 : Ura M} (𝓛 : Logic 𝓤) (m : Member) (g : Ghost
     unfolding part_of
     whole_typed s =
         let one : Unit {0} → Data.Denot = λ _. (s.0, (s.1, tt)) in
-        let Typed : RattleType =
-        Laid Data (Unit {0}) coded_unit (λ _. Data.own_val (one tt)) (λ _ _ _ _. ftrue) in
+        let Typed : RattleType = Laid Data (Unit {0}) coded_unit (λ _. Data.own_val (one tt)) (λ _ _ _ _. ftrue) in
         qed 𝓛 (‵ (Fields s) ∷ ‵ (fact (Rest s)) ∷ []) ∵
         use1 𝓛 (‵ (part_at Typed full_share tt b o))
         (Laid-in Data (Unit {0}) coded_unit one (λ _ _ _ _. ftrue) 𝓛 tt b o refl) $

@@ -20,4 +20,5 @@ pub mod RightElements
 pub mod Rows
 pub mod ToldElements
 pub mod Twice
+mod TwoLent
 mod Whole

@@ -27,8 +27,7 @@ use Rattle.thread_local_model.proofs.Signs.{signs}
 pub is_out-less : (out : List ℕ) (id j : ℕ) → is_out (less out id) j ≡ (if id == j then false else is_out out j)
 is_out-less [] id j = elim (id == j) as (λ t. false ≡ (if t then false else false)) [ true ↦ refl | false ↦ refl ]
 is_out-less (x ∷ out) id j =
-    let rest : is_out (less out id) j ≡ (if id == j then false else is_out out j) =
-    is_out-less out id j in
+    let rest : is_out (less out id) j ≡ (if id == j then false else is_out out j) = is_out-less out id j in
     grind (arith, common_steps, nat_tests)
 
 abbrev whole : Element

@@ -92,8 +92,7 @@ module _ {M : Type 1} {𝓤 : Ura M} (𝓛 : Logic 𝓤) (R : RattleType) where
       let id : ℕ = id_at bucket 0 in
       let slots : List (Option R.Denot) = whole_row bucket row in
       let next : ℕ = id_at (suc bucket) 0 in
-      let at : next ≡ length slots + id =
-      next_first bucket ∙ sym (ap (λ (n : ℕ). n + id) (whole_length bucket row are.0)) in
+      let at : next ≡ length slots + id = next_first bucket ∙ sym (ap (λ (n : ℕ). n + id) (whole_length bucket row are.0)) in
       qed 𝓛 (‵ (source 𝓛 γ id) ∷ []) ∵
       use1 𝓛 (raw (upd 𝓤 (⟦ all_told_or_untold R (Some γ) id slots ⟧ ∗ ⟦ source 𝓛 γ next ⟧)))
       (all_drawn 𝓛 R γ id next slots at) $

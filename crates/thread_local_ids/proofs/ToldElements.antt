@@ -52,8 +52,7 @@ module _ {M : Type 1} {𝓤 : Ura M} (𝓛 : Logic 𝓤) where
       → ⟦ told γ id g ⟧ ∗ ⟦ told γ id h ⟧ ⊢ guard 𝓤 (g ≡ h) (⟦ told γ id g ⟧ ∗ ⟦ told γ id h ⟧)
   unfolding told
   told_alike γ id g h =
-      let F : OneShot Gv → SProp 𝓤 =
-      λ c. guard 𝓤 (c ∈ once.op (shot g) (shot h)) (sem 𝓛 (entry once γ id c)) in
+      let F : OneShot Gv → SProp 𝓤 = λ c. guard 𝓤 (c ∈ once.op (shot g) (shot h)) (sem 𝓛 (entry once γ id c)) in
       let Both : SProp 𝓤 = ⟦ entry once γ id (shot g) ⟧ ∗ ⟦ entry once γ id (shot h) ⟧ in
       via 𝓤 (ex 𝓤 F) (entry_glue once 𝓛 γ id (shot g) (shot h)) (ex_e 𝓤 F (λ c.
       guard_e 𝓤 (c ∈ once.op (shot g) (shot h)) (sem 𝓛 (entry once γ id c)) (λ m.

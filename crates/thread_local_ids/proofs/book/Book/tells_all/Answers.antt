@@ -21,6 +21,5 @@ pub returns : goal.returns
 returns g c =
     let tokens = c.args.tokens.now in
     let vs = values c.args.self.now.contents in
-    let end : c.loop-index.index ≡ length tokens =
-    omega (arith, c.loop-index-test.false, c.loop-index.auto.index-end) in
+    let end : c.loop-index.index ≡ length tokens = omega (arith, c.loop-index-test.false, c.loop-index.auto.index-end) in
     tokens_are_all vs tokens (subst (AllWithin (IsIn vs) tokens 0) end c.loop-index.invariant) c.requires.different c.requires.as_many

@@ -3,9 +3,9 @@ use Rattle.thread_local_model.proofs.Names.{◌≡◌, ℕ, [], ◌∷◌, refl,
 use Rattle.thread_local_model.proofs.Names.{inst_fn, ‵, raw, ◌⊛◌, given, ◌$◌, ◌∵◌, !, qed, by, move, keep}
 use Rattle.thread_local_model.proofs.Names.{drop, split, fsplit, fsplit3, fjoin, learn, rewrite, feq_i, use2}
 use Rattle.thread_local_model.proofs.Names.{of_opd, unit_lit, returns, enter, alloc_all, pass_all, free_all, look_at}
-use Rattle.thread_local_model.proofs.Names.{sets, fact, yes, RattleType, owns, types_at, plain}
-use Rattle.thread_local_model.proofs.Names.{nothing, heard, param, layouts, RefOf, shr_vals, shr_Tells, Stays}
-use Rattle.thread_local_model.proofs.Names.{stay_dropped, walk_of, Goes-dropped, proved, leaves, alive, unhide}
+use Rattle.thread_local_model.proofs.Names.{sets, fact, RattleType, owns, types_at}
+use Rattle.thread_local_model.proofs.Names.{nothing, heard, param, layouts, shr_vals, shr_Tells, Stays}
+use Rattle.thread_local_model.proofs.Names.{walk_of, proved, leaves, alive, unhide}
 use Rattle.std.proofs.Common.{IsSome, ◌-◌, ◌^◌, ◌<◌}
 use types.Kit.{fpick, use1}
 use Rattle.thread_local_model.specs.Buckets.{values}
@@ -18,17 +18,15 @@ use Rattle.thread_local_ids.specs.contracts.book.Book.tells_of.{ended, clauses, 
 use Rattle.thread_local_ids.proofs.book.Book.tells_of.Statement.{statement}
 use Rattle.thread_local_ids.proofs.book.Book.tells_of.Code as code
 use Rattle.thread_local_model.proofs.Walking.{knows}
+use Rattle.thread_local_ids.proofs.TwoLent.{both_stay, both_go}
 
 pub tells_of_spec : {M : Type 1} → statement M
 tells_of_spec 𝓤 𝓛 𝓜 𝓡 wired T L =
     let R : RattleType = param 0 T in let En = ended T in let S : RattleType = Witness.the_row R in
     let B : RattleType = Book.the_row R in
     let inst = layouts (a_type ∷ []) (T, tt) in let fn = inst_fn inst code.function in let c = clauses T 𝓛 𝓜.mem 𝓡.returns in
-    let self = RefOf (0 ∷ []) tt (plain (λ _. B)) (λ _. tt) in let other = RefOf (1 ∷ []) tt (plain (λ _. S)) (λ _. tt) in
-    let hs : Stays En.signature.params En.kept = (stay_dropped self yes, (stay_dropped other yes, tt)) in
-    proved 𝓛 En hs c 𝓜 𝓡
-    (Goes-dropped 𝓛 3 self yes (λ κs x f. refl), (Goes-dropped 𝓛 3 other yes (λ κs x f. refl), tt))
-    (#self inst) fn (code.unfolded 𝓤 𝓛.H 𝓜 𝓡 wired (T, tt))
+    let hs : Stays En.signature.params En.kept = both_stay B S tt tt in
+    proved 𝓛 En hs c 𝓜 𝓡 (both_go B S tt tt 𝓛) (#self inst) fn (code.unfolded 𝓤 𝓛.H 𝓜 𝓡 wired (T, tt))
     (λ κs. (shr_vals, (shr_vals, tt))) (λ κs. (shr_Tells (named 0) κs.0 B, (shr_Tells (named 1) κs.1.0 S, tt)))
     (λ κs qs bounds a gh are.
     let h = a.0.now in let w = a.1.0.now in

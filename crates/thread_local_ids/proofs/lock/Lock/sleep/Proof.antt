@@ -49,8 +49,7 @@ sleep_spec 𝓤 𝓛 𝓜 𝓡 wired X Z L laws g d g' d' _ may =
     let υ : Lft = κs.1.1.1.0 in
     let u : Share = qs.1.1.1.0 in
     let hv : Val = vptr rt.ref_ptr.0 rt.ref_ptr.1 in
-    let y : (walk_of 𝓛 En hs c).Ghost =
-    ((κs, qs, bounds, a, (vptr b o ∷ [], (hv ∷ [], (vint w64 secs ∷ [], tt)))), gh) in
+    let y : (walk_of 𝓛 En hs c).Ghost = ((κs, qs, bounds, a, (vptr b o ∷ [], (hv ∷ [], (vint w64 secs ∷ [], tt)))), gh) in
     let Post : Val → SProp 𝓤 = (walk_of 𝓛 En hs c).post y in
     qed 𝓛 (((‵ (flft κ q) ⊛ ‵ (flft ρ r)
     ⊛ ‵ (fsep (flft κs.1.1.0 qs.1.1.0) (fsep (flft υ u) ftrue)))

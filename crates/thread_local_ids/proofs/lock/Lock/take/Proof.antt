@@ -38,8 +38,7 @@ take_spec 𝓤 𝓛 𝓜 𝓡 wired X L g d _ =
     let fn = inst_fn inst code.function in let closed = code.unfolded 𝓤 H 𝓜 𝓡 wired (X, tt) d in
     let Row : RattleType = lock.the_row R g in let self = RefOf (0 ∷ []) tt (plain (λ _. Row)) (λ _. tt) in
     let number = plain (λ _. u64) in
-    let hs : Stays En.signature.params En.kept =
-    (stay_dropped self yes, (stay_dropped number yes, tt)) in
+    let hs : Stays En.signature.params En.kept = (stay_dropped self yes, (stay_dropped number yes, tt)) in
     proved 𝓛 En hs c 𝓜 𝓡
     (Goes-dropped 𝓛 2 self yes (λ κs x f. refl), (Goes-dropped 𝓛 2 number yes (λ κs x f. refl), tt))
     (#self inst) fn closed
@@ -51,11 +50,9 @@ take_spec 𝓤 𝓛 𝓜 𝓡 wired X L g d _ =
     let ok = Fitting g.tag g.fits tag in
     let others : Fml = fsep (flft κs.1.0 qs.1.0) ftrue in let ℓ = named_lft 2 0 tt κs in
     let G : RattleType = guard.the_row ℓ R g in
-    let Tag : Option G.Denot → Type 0 =
-    λ r. IfSome r (λ h. (h.tag ≡ tag) × (g.tag h.value ≡ tag)) in
+    let Tag : Option G.Denot → Type 0 = λ r. IfSome r (λ h. (h.tag ≡ tag) × (g.tag h.value ≡ tag)) in
     let Fit : Option G.Denot → Type 0 = λ r. IfSome r (λ h. g.fits h.value) in
-    let y : (walk_of 𝓛 En hs c).Ghost =
-    ((κs, qs, bounds, a, (vptr b o ∷ [], (vint w64 new ∷ [], tt))), gh) in
+    let y : (walk_of 𝓛 En hs c).Ghost = ((κs, qs, bounds, a, (vptr b o ∷ [], (vint w64 new ∷ [], tt))), gh) in
     let Post : Val → SProp 𝓤 = (walk_of 𝓛 En hs c).post y in
     qed 𝓛 (((‵ (flft κ q) ⊛ ‵ others) ⊛ ‵ (owns (types_at En.signature.params κs) a y.0.4))
     ∷ raw (fact 𝓤 _) ∷ raw (fact 𝓤 (new ≢ 0)) ∷ []) ∵

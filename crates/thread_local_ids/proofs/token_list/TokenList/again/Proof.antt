@@ -23,8 +23,7 @@ again_spec 𝓤 𝓛 𝓜 𝓡 wired T L =
     (code.unfolded 𝓤 𝓛.H 𝓜 𝓡 wired (T, tt))
     (λ κs. (shr_vals, tt)) (λ κs. (shr_Tells (named 0) κs.0 S, tt)) (λ κs qs bounds a gh are.
     let p : Val = vptr a.0.ref_ptr.0 a.0.ref_ptr.1 in let w = a.0.now in
-    let r : S.Denot =
-    record { marker = record {}; tokens = w.tokens } in
+    let r : S.Denot = record { marker = record {}; tokens = w.tokens } in
     let Same : Type 0 = w.tokens ≡ w.tokens in
     let y : (walk_of 𝓛 En hs c).Ghost = ((κs, qs, bounds, a, (p ∷ [], tt)), gh) in
     qed 𝓛 ((raw (alive 𝓛 En.signature κs qs) ⊛ ‵ (owns (types_at En.signature.params κs) a y.0.4))

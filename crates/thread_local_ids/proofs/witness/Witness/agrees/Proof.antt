@@ -3,9 +3,9 @@ use Rattle.thread_local_model.proofs.Names.{sym, ◌≡◌, ℕ, [], ◌∷◌, 
 use Rattle.thread_local_model.proofs.Names.{vunit, inst_fn, ‵, raw, ◌⊛◌, given, ◌$◌, ◌∵◌, !}
 use Rattle.thread_local_model.proofs.Names.{qed, by, move, keep, drop, split, fsplit, fsplit3, fjoin, learn, rewrite}
 use Rattle.thread_local_model.proofs.Names.{feq_i, use2, of_opd, unit_lit, returns, enter, alloc_all, pass_all}
-use Rattle.thread_local_model.proofs.Names.{free_all, look_at, sets, fact, yes, RattleType, owns}
-use Rattle.thread_local_model.proofs.Names.{types_at, plain, nothing, heard, param, layouts, RefOf, shr_vals}
-use Rattle.thread_local_model.proofs.Names.{shr_Tells, Stays, stay_dropped, walk_of, Goes-dropped, proved, leaves}
+use Rattle.thread_local_model.proofs.Names.{free_all, look_at, sets, fact, RattleType, owns}
+use Rattle.thread_local_model.proofs.Names.{types_at, nothing, heard, param, layouts, shr_vals}
+use Rattle.thread_local_model.proofs.Names.{shr_Tells, Stays, walk_of, proved, leaves}
 use Rattle.thread_local_model.proofs.Names.{alive, unhide}
 use Rattle.std.proofs.Common.{IsSome}
 use Rattle.thread_local_ids.specs.Told.{tells}
@@ -16,16 +16,14 @@ use Rattle.thread_local_ids.proofs.witness.Witness.agrees.Statement.{statement}
 use Rattle.thread_local_ids.proofs.witness.Witness.agrees.Code as code
 use Rattle.std.proofs.lemmas.Option.{same_Some}
 use Rattle.thread_local_model.proofs.Walking.{knows}
+use Rattle.thread_local_ids.proofs.TwoLent.{both_stay, both_go}
 
 pub agrees_spec : {M : Type 1} → statement M
 agrees_spec 𝓤 𝓛 𝓜 𝓡 wired T L =
     let R : RattleType = param 0 T in let En = ended T in let S : RattleType = Witness.the_row R in
     let inst = layouts (a_type ∷ []) (T, tt) in let fn = inst_fn inst code.function in let c = clauses T 𝓛 𝓜.mem 𝓡.returns in
-    let self = RefOf (0 ∷ []) tt (plain (λ _. S)) (λ _. tt) in let other = RefOf (1 ∷ []) tt (plain (λ _. S)) (λ _. tt) in
-    let hs : Stays En.signature.params En.kept = (stay_dropped self yes, (stay_dropped other yes, tt)) in
-    proved 𝓛 En hs c 𝓜 𝓡
-    (Goes-dropped 𝓛 3 self yes (λ κs x f. refl), (Goes-dropped 𝓛 3 other yes (λ κs x f. refl), tt))
-    (#self inst) fn (code.unfolded 𝓤 𝓛.H 𝓜 𝓡 wired (T, tt))
+    let hs : Stays En.signature.params En.kept = both_stay S S tt tt in
+    proved 𝓛 En hs c 𝓜 𝓡 (both_go S S tt tt 𝓛) (#self inst) fn (code.unfolded 𝓤 𝓛.H 𝓜 𝓡 wired (T, tt))
     (λ κs. (shr_vals, (shr_vals, tt))) (λ κs. (shr_Tells (named 0) κs.0 S, (shr_Tells (named 1) κs.1.0 S, tt)))
     (λ κs qs bounds a gh are.
     let w = a.0.now in let v = a.1.0.now in

@@ -67,9 +67,7 @@ deref_spec 𝓤 𝓛 𝓜 𝓡 wired X L g d _ =
     peeks ! D (Is D) (shows 𝓛 D) (p, (tt, tt)) vs (λ is_so.
     let ev : vs ≡ guard_of (block_ptr pb po) ∷ [] = told ℓ R g p vs is_so ∙ ap (λ (r : Ptr). guard_of r ∷ []) at in
     rewrite ! 1 (λ (ws : List Val). ‵ (cell_at q D.mir ws b o)) ev refl $ first ! $ blocks ! $
-    sets_last !
-    (addr ! (through ! refl
-    (fld ! refl (hop ! (look_in ! 1 (sub ! 0 refl (whole !))) (fld ! refl (stop !))))))
+    sets_last ! (addr ! (through ! refl (fld ! refl (hop ! (look_in ! 1 (sub ! 0 refl (whole !))) (fld ! refl (stop !))))))
     refl (tt, tt) $
     exec ! 𝓣.C 𝓣.Λ Ev (tail fn.body) (at_ret Ev Post) $
     sets ! (of_opd ! (get ! refl)) refl (tt, tt) $

@@ -56,8 +56,7 @@ deref_mut_spec 𝓤 𝓛 𝓜 𝓡 wired X L g d _ =
     let F : X.Denot → G.Denot = guard_with_value h in
     let y : (walk_of 𝓛 En hs c).Ghost = ((κs, qs, bounds, a, (vptr b o ∷ [], tt)), gh) in
     let Post : Val → SProp 𝓤 = (walk_of 𝓛 En hs c).post y in
-    let Lent : GName → MutBor X.Denot =
-    λ δ. record { ref_ptr = (pb, e); ghost_name = δ; now = x } in
+    let Lent : GName → MutBor X.Denot = λ δ. record { ref_ptr = (pb, e); ghost_name = δ; now = x } in
     qed 𝓛 (((‵ (flft κ q) ⊛ ‵ others) ⊛ ‵ (owns (types_at En.signature.params κs) a y.0.4))
     ∷ raw ((c κs a).requires gh) ∷ []) ∵
     split ! $ split ! $ move ! (2 ∷ []) $ fsplit ! $ fsplit3 ! $ keep ! (1 ∷ 2 ∷ 4 ∷ 5 ∷ []) $
@@ -72,8 +71,7 @@ deref_mut_spec 𝓤 𝓛 𝓜 𝓡 wired X L g d _ =
     let at : p ≡ block_ptr pb po = at_block p inb in
     move ! (1 ∷ []) $ fpick ! (λ vs. fsplit ! $ move ! (1 ∷ []) $
     peeks ! D (Is D) (shows 𝓛 D) (p, (tt, tt)) vs (λ is_so.
-    let ev : vs ≡ guard_of (block_ptr pb po) ∷ [] =
-    told ℓ R g p vs is_so ∙ ap (λ (r : Ptr). guard_of r ∷ []) at in
+    let ev : vs ≡ guard_of (block_ptr pb po) ∷ [] = told ℓ R g p vs is_so ∙ ap (λ (r : Ptr). guard_of r ∷ []) at in
     rewrite ! 1 (λ (ws : List Val). ‵ (cell_at full_share D.mir ws b o)) ev refl $ first ! $ blocks ! $
     sets ! (addr ! (through ! refl (fld ! refl (hop ! (look_in ! 1 (sub ! 0 refl (whole !))) (fld ! refl (stop !)))))) refl (tt, tt) $
     sets_last ! (addr ! (through ! refl (stop !))) refl (tt, tt) $
