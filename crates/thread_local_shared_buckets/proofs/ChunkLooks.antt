@@ -267,11 +267,9 @@ module _ {M : Type 1} {𝓤 : Ura M} (𝓛 : Logic 𝓤) where
         (each_learns Numbered Telling At s.names 0 (λ η i.
         known (is_set_in ns i) (i + first R d) (value_offset R o i) η)) $
         learn ! (λ shows. split ! $ move ! (1 ∷ []) $ drop ! $ move ! (1 ∷ []) $
-        let shown : ShowTokens ns =
-        λ i low. (let same : i + 0 ≡ i = omega arith in
+        let shown : ShowTokens ns = λ i low. (let same : i + 0 ≡ i = omega arith in
         subst At same (shows i (subst (λ (m : ℕ). i < m) (sym long) low))) in
-        let inside : c < length ns =
-        subst (λ (m : ℕ). c < m) (sym are.0) (let n : c * 64 < len R d = near in omega arith) in
+        let inside : c < length ns = subst (λ (m : ℕ). c < m) (sym are.0) (let n : c * 64 < len R d = near in omega arith) in
         let Words : Fml = each Fs (set ns c n) 0 in
         use1 𝓛 (‵ (Fs n c) ⊛ raw (all 𝓤 (Put 𝓛 Fs ns 0 c c)))
         (each_at 𝓛 Fs ns 0 c c 0 (omega arith) inside) $

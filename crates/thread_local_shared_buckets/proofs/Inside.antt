@@ -245,8 +245,7 @@ module _ {M : Type 1} {𝓤 : Ura M} (𝓛 : Logic 𝓤) where
 
     numbered_is : (ns : List ℕ) → ◌≡◌ {A = Fml} (Numbered ns (get_or s.names i 0) i) (Slot (is_set_in ns i))
     numbered_is ns =
-        let F : ℕ × ℕ × ℕ → Fml =
-        λ z. shared_slot R t b s.block_life d.sharing d.table (is_set_in ns i) z.0 z.1 z.2 in
+        let F : ℕ × ℕ × ℕ → Fml = λ z. shared_slot R t b s.block_life d.sharing d.table (is_set_in ns i) z.0 z.1 z.2 in
         let same : ◌≡◌ {A = ℕ × ℕ × ℕ} (i + first R d, value_offset R o i, get_or s.names i 0)
         (k, e, name_at s.names i) = λ j. (sym at_k j, sym at_e j, name_at-get_or s.names i j) in
         ap F same

@@ -156,8 +156,7 @@ module _ {V : Type 0} where
               by = λ apart.
                   ⊎_elim
                   (λ own.
-                  let never : true ≡ false =
-                  sym (subst (λ (i : ℕ). is_at w.own w.raw.bucket i ≡ true) (sym at) own) ∙ apart in
+                  let never : true ≡ false = sym (subst (λ (i : ℕ). is_at w.own w.raw.bucket i ≡ true) (sym at) own) ∙ apart in
                   cc)
                   (λ was. (
                     ap (λ (d : BucketView). d.sharing) read.of ∙ sharing,

@@ -34,7 +34,6 @@ module _ {V : Type 0} where
   elsewhere (Some own) bucket none =
       by_test (eqb own.thread.bucket bucket)
       (λ t.
-      let never : Some own.thread.index ≡ None =
-      sym (index_of_own own bucket (eqb-true own.thread.bucket bucket t)) ∙ none in
+      let never : Some own.thread.index ≡ None = sym (index_of_own own bucket (eqb-true own.thread.bucket bucket t)) ∙ none in
       cc)
       (λ f. f)

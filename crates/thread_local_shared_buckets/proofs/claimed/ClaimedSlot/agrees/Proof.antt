@@ -29,8 +29,7 @@ agrees_spec 𝓤 𝓛 𝓜 𝓡 wired X L =
     let fn = inst_fn inst code.function in let closed = code.unfolded 𝓤 𝓛.H 𝓜 𝓡 wired (X, tt) in
     let row = plain (λ κs. claim.the_row (named_lft 4 1 tt κs) R) in
     let seen = RefOf (2 ∷ []) tt (plain (λ _. S)) (λ _. tt) in
-    let hs : Stays En.signature.params En.kept =
-    (stay_ref (0 ∷ []) tt row, (stay_dropped seen yes, tt)) in
+    let hs : Stays En.signature.params En.kept = (stay_ref (0 ∷ []) tt row, (stay_dropped seen yes, tt)) in
     proved 𝓛 En hs c 𝓜 𝓡 (Goes-ref 𝓛 4 0 tt row, (Goes-dropped 𝓛 4 seen yes (λ κs x f. refl), tt)) (#self inst) fn closed
     (λ κs. (mut_vals, (shr_vals, tt)))
     (λ κs. (mut_Tells (named 0) κs.0 (claim.the_row (named_lft 4 1 tt κs) R), (shr_Tells (named 2) κs.1.1.0 S, tt)))

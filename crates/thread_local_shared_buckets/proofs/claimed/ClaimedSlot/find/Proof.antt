@@ -81,10 +81,8 @@ find_spec 𝓤 𝓛 𝓜 𝓡 wired X L =
     (r.table ≡ h.table) × (◌≡◌ {A = Option ℕ} r.sharing h.sharing) × (r.id ≡ h.id)
     × (r.index ≡ h.index) in
     let F₂ : G.Denot → Type 0 = λ r. HasLooked r.learnt in
-    let F₃ : G.Denot → Type 0 =
-    λ r. h.learnt ≡ Missing → (r.learnt ≡ Missing) ⊎ (r.learnt ≡ Vacant) in
-    let F₄ : G.Denot → Type 0 =
-    λ r. (r.reserved ≡ h.reserved) × (r.reserved ≡ true → r.learnt ≢ Missing) in
+    let F₃ : G.Denot → Type 0 = λ r. h.learnt ≡ Missing → (r.learnt ≡ Missing) ⊎ (r.learnt ≡ Vacant) in
+    let F₄ : G.Denot → Type 0 = λ r. (r.reserved ≡ h.reserved) × (r.reserved ≡ true → r.learnt ≢ Missing) in
     let l₀ : Learnt X.Denot = h.learnt in
     let F₅ : G.Denot → Type 0 = λ r. Finds l₀ r.learnt in
     let gone : Learnt X.Denot = Missing in
@@ -93,8 +91,7 @@ find_spec 𝓤 𝓛 𝓜 𝓡 wired X L =
     let wo : ℕ = count_of w in
     let i : ℕ = h.index in
     let pl : ClaimFields = claim_fields h.id i w h.at h.sharing h.reserved in
-    let y : (walk_of 𝓛 En hs c).Ghost =
-    ((κs, qs, bounds, a, (u₀ ∷ [], (vint w64 x ∷ [], (vint w64 num ∷ [], tt)))), gh) in
+    let y : (walk_of 𝓛 En hs c).Ghost = ((κs, qs, bounds, a, (u₀ ∷ [], (vint w64 x ∷ [], (vint w64 num ∷ [], tt)))), gh) in
     let Post : Val → SProp 𝓤 = (walk_of 𝓛 En hs c).post y in
     qed 𝓛 (((‵ (flft β q) ⊛ ‵ others) ⊛ ‵ (owns (types_at En.signature.params κs) a y.0.4))
     ∷ raw (fact 𝓤 _) ∷ raw (fact 𝓤 (MayLook l₀)) ∷ raw (fact 𝓤 (x ≡ i))
@@ -151,8 +148,7 @@ find_spec 𝓤 𝓛 𝓜 𝓡 wired X L =
     sets ! (bin ! (get ! refl) (lit ! tt) tt) refl (tt, tt) $ first ! $ branches ! (get ! refl)
     (λ _.
     let m : Kept = record { at = block_ptr wb wo; state = 0 } in
-    let pl' : ClaimFields =
-    claim_fields h.id i (block_ptr wb wo) (block_ptr wb wo) h.sharing h.reserved in
+    let pl' : ClaimFields = claim_fields h.id i (block_ptr wb wo) (block_ptr wb wo) h.sharing h.reserved in
     let r : G.Denot = record {
       at = block_ptr wb wo;
       state = 0;
@@ -210,13 +206,10 @@ find_spec 𝓤 𝓛 𝓜 𝓡 wired X L =
     branches ! (get ! refl) (λ wrong. absurd wrong) (λ _. skips ! $
     exec ! 𝓣.C 𝓣.Λ Ev (after 5 fn.body) (at_ret Ev Post) $
     let low : i < length s'.names = subst (λ (n : ℕ). i < n) (sym sized.0) of.4 in
-    let here : IsWordNear R (len R d) k =
-    word_is_near R (len R d) k so.1.2 (in_chunks (len R d) i of.4) in
-    let number_at : num ≡ value_words R (len R d) + k =
-    numbered ∙ number_in R d h.id i of.3 of.4 ∙ here.number in
+    let here : IsWordNear R (len R d) k = word_is_near R (len R d) k so.1.2 (in_chunks (len R d) i of.4) in
+    let number_at : num ≡ value_words R (len R d) + k = numbered ∙ number_in R d h.id i of.3 of.4 ∙ here.number in
     let close : i * stride R < 2 ^ 64 = value_near R (len R d) i so.1.2 of.4 in
-    let close_at : x * stride R < 2 ^ 64 =
-    subst (λ (n : ℕ). n * stride R < 2 ^ 64) (sym is_index) close in
+    let close_at : x * stride R < 2 ^ 64 = subst (λ (n : ℕ). n * stride R < 2 ^ 64) (sym is_index) close in
     let near : num * 8 < 2 ^ 64 = subst (λ (n : ℕ). n * 8 < 2 ^ 64) (sym number_at) here.near in
     first ! $ blocks ! $ sets ! (of_opd ! (get ! refl)) refl (tt, tt) $
     sets ! (is ! (bin ! (get ! refl) (lit ! tt) (record { fits = near }))
@@ -232,8 +225,7 @@ find_spec 𝓤 𝓛 𝓜 𝓡 wired X L =
     sets_last ! (bin ! (get ! refl) (get ! refl) tt) refl (tt, tt) $
     exec ! 𝓣.C 𝓣.Λ Ev (after 8 fn.body) (at_ret Ev Post) $
     sets ! (of_opd ! (get ! refl)) refl (tt, tt) $
-    let Found : ℕ → Fml =
-    steps.Finds 𝓛 R (placed d t wb (wo + 0) s' i h.id e pb low of.3 refl refl) (looked_in_vain l₀) in
+    let Found : ℕ → Fml = steps.Finds 𝓛 R (placed d t wb (wo + 0) s' i h.id e pb low of.3 refl refl) (looked_in_vain l₀) in
     let aft : ℕ → Fml = λ n. fsep (flft t.life s) (Found n) in
     first ! $ blocks ! $ sets ! (agg ! (and_then ! (lit ! tt) (no_more !))) refl seq_cst_good $
     move ! (4 ∷ 3 ∷ 1 ∷ 2 ∷ []) $ group ! 4 $
@@ -263,8 +255,7 @@ find_spec 𝓤 𝓛 𝓜 𝓡 wired X L =
     (tt, record { fits = shifted_right n j nf }) $
     sets ! (bin ! (get ! refl) (lit ! tt) tt) refl
     (tt, record { fits = masked_fits (n / 2 ^ j) 1 (shifted_right n j nf) }) $
-    sets !
-    (is ! (bin ! (lit ! tt) (get ! refl)
+    sets ! (is ! (bin ! (lit ! tt) (get ! refl)
     (record { fits = subst (λ (x' : ℕ). x' < 2 ^ 64) (sym (state_by-flag n j)) seen_fits }))
     (ap (vint w64) (state_by-flag n j)))
     refl (tt, record { fits = seen_fits }) $

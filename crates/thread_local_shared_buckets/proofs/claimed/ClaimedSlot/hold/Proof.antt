@@ -52,8 +52,7 @@ hold_spec 𝓤 𝓛 𝓜 𝓡 wired X L =
     let d : BucketView = a.0.now in let i : ℕ = a.1.0 in let r = a.1.1.0 in
     let others : Fml = fsep (flft κs.1.0 qs.1.0) ftrue in
     let ℓ = named_lft 2 0 tt κs in let G : RattleType = claim.the_row ℓ R in let p : Ptr = block_ptr b o in
-    let y : (walk_of 𝓛 En hs c).Ghost =
-    ((κs, qs, bounds, a, (vptr b o ∷ [], (vint w64 i ∷ [], (token ∷ [], tt)))), gh) in
+    let y : (walk_of 𝓛 En hs c).Ghost = ((κs, qs, bounds, a, (vptr b o ∷ [], (vint w64 i ∷ [], (token ∷ [], tt)))), gh) in
     qed 𝓛 (((‵ (flft κ q) ⊛ ‵ others) ⊛ ‵ (owns (types_at En.signature.params κs) a y.0.4))
     ∷ raw (fact 𝓤 _) ∷ raw (fact 𝓤 (r.table ≡ d.table)) ∷ raw (fact 𝓤 (r.id ≡ id_at d.bucket i))
     ∷ raw (fact 𝓤 (i < 2 ^ d.bucket)) ∷ []) ∵
@@ -83,9 +82,7 @@ hold_spec 𝓤 𝓛 𝓜 𝓡 wired X L =
     let m : Kept = record { at = p; state = 0 } in
     let pl : ClaimFields = claim_fields r.id i p p d.sharing d.reserved in
     let no : Learnt X.Denot = Unknown in
-    sets !
-    (agg !
-    (and_then ! (get ! refl) (and_then ! (lit ! tt) (and_then ! (get ! refl) (no_more !)))))
+    sets ! (agg ! (and_then ! (get ! refl) (and_then ! (lit ! tt) (and_then ! (get ! refl) (no_more !)))))
     refl (typed m (lit< tt)) $
     nothing ! $ fpack ! (p ≡ p) (λ _. ftrue) refl $ fjoin ! $
     move ! (1 ∷ []) $ unhide ! $ fsplit ! $ fpick ! (λ j. drop ! $ fpick ! (λ t. fjoin ! $

@@ -70,10 +70,7 @@ lasting_spec 𝓤 𝓛 𝓜 𝓡 wired X L =
     let ev : vs ≡ value_of (moved_to (kept_of h) (block_ptr pb po)) ∷ [] =
     told ℓ R (kept_of h) vs is_so ∙ ap (λ (r : Ptr). value_of (moved_to (kept_of h) r) ∷ []) at in
     rewrite ! 1 (λ (ws : List Val). ‵ (cell_at q D.mir ws b o)) ev refl $ first ! $ blocks ! $
-    sets !
-    (of_opd !
-    (load ! (through ! refl (fld ! refl (stop !))) (look_in ! 1 (sub ! 0 refl (whole !)))))
-    refl (tt, tt) $
+    sets ! (of_opd ! (load ! (through ! refl (fld ! refl (stop !))) (look_in ! 1 (sub ! 0 refl (whole !))))) refl (tt, tt) $
     sets ! (of_opd ! (get ! refl)) refl (tt, tt) $
     sets_last ! (addr ! (through ! refl (stop !))) refl (tt, tt) $ exec ! 𝓣.C 𝓣.Λ Ev (tail fn.body) (at_ret Ev Post) $
     sets ! (of_opd ! (get ! refl)) refl (tt, tt) $

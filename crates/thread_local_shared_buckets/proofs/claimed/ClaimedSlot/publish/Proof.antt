@@ -171,14 +171,11 @@ publish_spec 𝓤 𝓛 𝓜 𝓡 wired X L =
     let was : o ≡ no = sym ((coded_option R.coded).inj no o same) in
     move ! (4 ∷ []) $ rewrite ! 0 (λ (k : Option X.Denot). ‵ (content_at R k pb e)) was refl $
     use1 𝓛 (‵ (froom (layout X) pb e)) (𝓛.laws.raw-room (layout X) pb e) $
-    let here : IsWordNear R (len R d) k =
-    word_is_near R (len R d) k sized.1.2 (in_chunks (len R d) i of.4) in
-    let number_at : num ≡ value_words R (len R d) + k =
-    numbered ∙ number_in R d h.id i of.3 of.4 ∙ here.number in
+    let here : IsWordNear R (len R d) k = word_is_near R (len R d) k sized.1.2 (in_chunks (len R d) i of.4) in
+    let number_at : num ≡ value_words R (len R d) + k = numbered ∙ number_in R d h.id i of.3 of.4 ∙ here.number in
     let near : num * 8 < 2 ^ 64 = subst (λ (n : ℕ). n * 8 < 2 ^ 64) (sym number_at) here.near in
     let close : i * stride R < 2 ^ 64 = value_near R (len R d) i sized.1.2 of.4 in
-    let close_at : ix * stride R < 2 ^ 64 =
-    subst (λ (n : ℕ). n * stride R < 2 ^ 64) (sym is_index) close in
+    let close_at : ix * stride R < 2 ^ 64 = subst (λ (n : ℕ). n * stride R < 2 ^ 64) (sym is_index) close in
     let slot_at : Ptr = block_ptr pb e in
     let ahead : i * stride R ≤ (value_words R (len R d) + k) * 8 = lies_ahead R (len R d) i of.4 in
     let far : ℕ = distance R (len R d) i in
@@ -189,8 +186,7 @@ publish_spec 𝓤 𝓛 𝓜 𝓡 wired X L =
     (ap (λ (n : ℕ). vint w64 (n * 8)) number_at))
     refl (tt, record { fits = here.near }) $
     sets ! (of_opd ! (get ! refl)) refl (tt, record { fits = are.1.0.1 }) $
-    sets !
-    (is ! (bin ! (get ! refl) (size_word !) (record { fits = spaced ix (stride R) close_at }))
+    sets ! (is ! (bin ! (get ! refl) (size_word !) (record { fits = spaced ix (stride R) close_at }))
     (spaced_is ix (stride R) close_at ∙ ap (λ (n : ℕ). vint w64 (n * stride R)) is_index))
     refl (tt, record { fits = close }) $
     sets ! (bin ! (get ! refl) (get ! refl) ahead) refl (tt, record { fits = far_fits }) $
@@ -240,15 +236,13 @@ publish_spec 𝓤 𝓛 𝓜 𝓡 wired X L =
     move ! (2 ∷ 5 ∷ []) $
     lends_token ! 𝓜 𝓡 β t.life q $ await ! tt $ pick ! (λ g'. split ! $
     let low = subst (λ (n : ℕ). i < n) (sym sized.0) of.4 in
-    let out : Fml =
-    fsep (flft t.life g') (fsep (right_owns t.filled h.id) (tells R d.sharing h.id (Some x))) in
+    let out : Fml = fsep (flft t.life g') (fsep (right_owns t.filled h.id) (tells R d.sharing h.id (Some x))) in
     let flag : ℕ = steps.flag 𝓛 R (placed d t wb (wo + 0) s i h.id e pb low of.3 refl refl) in
     let flag_fits : flag < 2 ^ 64 = shifted_left 1 j in
     let after_it : ℕ → Fml = λ _. out in
     first ! $ blocks ! $ sets ! (of_opd ! (get ! refl)) refl (tt, tt) $
     sets ! (of_opd ! (get ! refl)) refl (tt, record { fits = are.1.0.1 }) $
-    sets !
-    (is ! (bin ! (get ! refl) (lit ! tt) (lit< tt)) (ap (λ (n : ℕ). vint w64 (n % 64)) is_index))
+    sets ! (is ! (bin ! (get ! refl) (lit ! tt) (lit< tt)) (ap (λ (n : ℕ). vint w64 (n % 64)) is_index))
     refl (tt, record { fits = bit_fits i }) $
     sets ! (of_opd ! (get ! refl)) refl (tt, record { fits = bit_fits i }) $
     sets ! (bin ! (lit ! tt) (get ! refl) (place_below i)) refl (tt, record { fits = flag_fits }) $

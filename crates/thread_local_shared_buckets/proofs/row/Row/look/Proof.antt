@@ -117,8 +117,7 @@ look_spec {M} 𝓤 𝓛 𝓜 𝓡 wired T L =
     -- [which; before the block's own; before; the invariant; the fields; κ's token; β's; the
     -- others]
     let inb : InBlock p = subst InBlock so.0 long.1.0 in let at : p ≡ block_ptr pb (count_of p) = at_block p inb in
-    let here : IsWordNear R many c₀ =
-    word_is_near R many c₀ long.1.2 (let n : c₀ * 64 < many = near in omega arith) in
+    let here : IsWordNear R many c₀ = word_is_near R many c₀ long.1.2 (let n : c₀ * 64 < many = near in omega arith) in
     let number_at : k ≡ value_words R many + c₀ = numbered ∙ here.number in
     let small : k * 8 < 2 ^ 64 = subst (λ (m : ℕ). m * 8 < 2 ^ 64) (sym number_at) here.near in
     let first_fits : c₀ * 64 * stride R < 2 ^ 64 = value_near R many (c₀ * 64) long.1.2 near in
@@ -143,8 +142,7 @@ look_spec {M} 𝓤 𝓛 𝓜 𝓡 wired T L =
     sets ! (bin ! (get ! refl) (lit ! tt) (record { fits = chunk_fits })) refl
     (tt, record { fits = chunk_fits }) $
     first ! $ blocks ! $ sets ! (of_opd ! (get ! refl)) refl (tt, tt) $
-    sets !
-    (is ! (bin ! (get ! refl) (size_word !) (record {
+    sets ! (is ! (bin ! (get ! refl) (size_word !) (record {
       fits = subst (λ (m : ℕ). m < 2 ^ 64) (sym (uncapped (c₀ * 64) (stride R) first_fits)) first_fits;
     }))
     (ap (vint w64) (uncapped (c₀ * 64) (stride R) first_fits)))
@@ -182,8 +180,7 @@ look_spec {M} 𝓤 𝓛 𝓜 𝓡 wired T L =
     move ! (0 ∷ 5 ∷ []) $ join ! $ move ! (2 ∷ 0 ∷ []) $ join ! $
     -- [the tokens; the copies; the fields; before the block's own]
     sets ! (agg ! (no_more !)) refl (tt, tt) $
-    sets !
-    (agg ! (and_then ! (get ! refl) (and_then ! (get ! refl) (and_then ! (get ! refl) (no_more !)))))
+    sets ! (agg ! (and_then ! (get ! refl) (and_then ! (get ! refl) (and_then ! (get ! refl) (no_more !)))))
     refl (seen_good values n fits) $
     move ! (1 ∷ 3 ∷ []) $ fpick ! (λ ns. fsplit ! $ fpick ! (λ are. drop ! $
     let κ' : Lft = sd.block_life ∷ t.life in

@@ -50,9 +50,7 @@ flags_spec 𝓤 𝓛 𝓜 𝓡 wired X L =
     peeks ! D (Is D) (shows 𝓛 D) (fields_of ℓ R h.values h.flags) vs (λ is_so.
     let ev : vs ≡ seen_val h.values h.flags ∷ [] = told ℓ R h.values h.flags vs is_so in
     rewrite ! 1 (λ (ws : List Val). ‵ (cell_at q D.mir ws b o)) ev refl $
-    sets !
-    (of_opd !
-    (load ! (through ! refl (fld ! refl (stop !))) (look_in ! 1 (sub ! 1 refl (whole !)))))
+    sets ! (of_opd ! (load ! (through ! refl (fld ! refl (stop !))) (look_in ! 1 (sub ! 1 refl (whole !)))))
     refl (tt, record { fits = in_word ℓ R h.values h.flags vs is_so }) $
     rewrite ! 1 (λ (ws : List Val). ‵ (cell_at q D.mir ws b o)) (sym ev) refl $
     move ! (1 ∷ 0 ∷ 2 ∷ []) $ shuts ! tt D q (fields_of ℓ R h.values h.flags) vs b o $

@@ -60,8 +60,7 @@ into_pointers_spec 𝓤 𝓛 𝓜 𝓡 wired T L =
     let v : Val = vstruct (of_list (there.0.0 ++ (there.0.1.0 ++ []))) in
     let u : Val = vint w64 known.0.0.reserved in
     let V : Val = vstruct (vcons v (vcons u vnil)) in
-    let whole_is : vs ≡ V ∷ [] =
-    fields.1.0 ∙ (λ i. vstruct (of_list (there.1.0 i ++ (fields.1.1.1.0.0 i ++ []))) ∷ []) in
+    let whole_is : vs ≡ V ∷ [] = fields.1.0 ∙ (λ i. vstruct (of_list (there.1.0 i ++ (fields.1.1.1.0.0 i ++ []))) ∷ []) in
     let typed : Typed Sh.mir (V ∷ []) = subst (Typed Sh.mir) whole_is are.0.0.0 in
     let Post : Val → SProp 𝓤 = (walk_of 𝓛 En hs c).post z in
     let Run : List Val → SProp 𝓤 = λ ws. WpFn 𝓤 𝓛.H 𝓣.C 𝓣.Λ fn ws Post in
@@ -78,8 +77,7 @@ into_pointers_spec 𝓤 𝓛 𝓜 𝓡 wired T L =
     (takes_pointers 𝓛 R LR s v u) $
     await ! tt $ pick ! (λ w. learn ! (λ owned. split ! $
     peeks ! Ws (Is Ws) (shows 𝓛 Ws) w (v ∷ []) (λ it.
-    let fine : Good (layout Ws) v =
-    (((pointers'.the_row_laws R LR).lawful 𝓛).typed w (v ∷ []) it).0 in
+    let fine : Good (layout Ws) v = (((pointers'.the_row_laws R LR).lawful 𝓛).typed w (v ∷ []) it).0 in
     let r : Bk.Denot = record { marker = record {}; sharing = s.sharing; contents = w } in
     let both_fine : Good (layout Pair) (both v token_val) = (and_tt (has_ty (layout Ws) v) fine.0, (fine.1, ((tt, tt), tt))) in
     -- [the pointers; what is told; the tokens]

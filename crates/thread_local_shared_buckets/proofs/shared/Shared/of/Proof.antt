@@ -62,8 +62,7 @@ of_spec 𝓤 𝓛 𝓜 𝓡 wired T L =
     )
     (#self inst) fn (code.unfolded 𝓤 𝓛.H 𝓜 𝓡 wired (T, tt)) (λ z are.
     let w : Ws.Denot = z.0.3.0 in let n : ℕ = z.0.3.1.0 in let table : ℕ = z.0.3.1.1.0.now.table in let past : Option ℕ = z.1 in
-    let got =
-    one (layout Ws) z.0.4.0 (((pointers'.the_row_laws R LR).lawful 𝓛).typed w z.0.4.0 are.0) in
+    let got = one (layout Ws) z.0.4.0 (((pointers'.the_row_laws R LR).lawful 𝓛).typed w z.0.4.0 are.0) in
     let v : Val = got.0 in
     let fine : Good (layout Ws) v = got.2 in
     let ref_is = shr_Tells (named 0) z.0.0.0 right.the_row z.0.3.1.1.0 z.0.4.1.1.0 are.1.1.0 in

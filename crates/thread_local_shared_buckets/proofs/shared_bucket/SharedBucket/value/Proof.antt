@@ -67,8 +67,7 @@ value_spec {M} 𝓤 𝓛 𝓜 𝓡 wired T L =
     let x : T.Denot = w.value in
     let id : ℕ = id_at d.bucket i in
     let p' : Val = vptr a.1.1.0.ref_ptr.0 a.1.1.0.ref_ptr.1 in
-    let y : (walk_of 𝓛 En hs c).Ghost =
-    ((κs, qs, bounds, a, (vptr b o ∷ [], (vint w64 i ∷ [], (p' ∷ [], tt)))), gh) in
+    let y : (walk_of 𝓛 En hs c).Ghost = ((κs, qs, bounds, a, (vptr b o ∷ [], (vint w64 i ∷ [], (p' ∷ [], tt)))), gh) in
     let Post : Val → SProp 𝓤 = (walk_of 𝓛 En hs c).post y in
     let Near : Type 0 = i < 2 ^ d.bucket in
     let At : Type 0 = w.id ≡ id in
@@ -124,8 +123,7 @@ value_spec {M} 𝓤 𝓛 𝓜 𝓡 wired T L =
     -- [which; before the block's own; what is told; the life's token; the way back; what is told;
     -- the invariant; the others]
     let low : i < length sd.names = subst (λ (n : ℕ). i < n) (sym long.0) near in
-    let at_e : e ≡ value_offset R (count_of sd.at) i =
-    ap (λ (r : Ptr). value_offset R (count_of r) i) (sym so.0) in
+    let at_e : e ≡ value_offset R (count_of sd.at) i = ap (λ (r : Ptr). value_offset R (count_of r) i) (sym so.0) in
     let at_b : block_of sd.at ≡ pb = ap block_of so.0 in
     let close : i * stride R < 2 ^ 64 = value_near R (len R d) i so.1.2 near in
     move ! (6 ∷ 3 ∷ 0 ∷ 2 ∷ []) $ group ! 4 $
@@ -138,8 +136,7 @@ value_spec {M} 𝓤 𝓛 𝓜 𝓡 wired T L =
     use2 𝓛 (‵ (F κ)) ((LR.shr_laws x pb e).mono M 𝓤 𝓛 κ (sd.block_life ∷ t.life)) $ hide ! $
     -- [the value; κ's token; what is told; the others]
     sets ! (of_opd ! (get ! refl)) refl (tt, tt) $ first ! $ blocks ! $ sets ! (of_opd ! (get ! refl)) refl (tt, tt) $
-    sets !
-    (is ! (bin ! (get ! refl) (size_word !) (record {
+    sets ! (is ! (bin ! (get ! refl) (size_word !) (record {
       fits = subst (λ (n : ℕ). n < 2 ^ 64) (sym (uncapped i (stride R) close)) close;
     }))
     (ap (vint w64) (uncapped i (stride R) close)))
