@@ -8,10 +8,10 @@ use Rattle.thread_local_model.proofs.Signs.{signs}
 
 module _ {M : Type 1} {𝓤 : Ura M} (𝓛 : Logic 𝓤) where
   open signs 𝓛 use {⟦◌⟧, ◌⊢◌, ◌∗◌, ◌-∗◌}
+
   infix 26 ◌⊢◌
   infixr 35 ◌∗◌
   infixr 30 ◌-∗◌
-
   module _ {X : Type 0} where
     -- the way back, for whatever replaces the element at i, which has the number k
     abbrev pub Put : (X → ℕ → Fml) → List X → ℕ → ℕ → ℕ → X → SProp 𝓤

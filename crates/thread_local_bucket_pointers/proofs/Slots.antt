@@ -2,7 +2,7 @@
 use Rattle.thread_local_model.proofs.Names.{◌≡◌, ◌≢◌, ℕ, ◌+◌, ◌*◌, ◌^◌, ◌<◌, List, [], ◌∷◌, length, length-set, set}
 use Rattle.thread_local_model.proofs.Names.{get_or, refl, sym, ap, ◌∙◌, subst, arith, lit<, T, false, Option, Some}
 use Rattle.thread_local_model.proofs.Names.{None, is_some, Ura, Ty, ty_ptr, has_ty, WT, SProp, ex, all}
-use Rattle.thread_local_model.proofs.Names.{all_e, guard, apply∗, Fml, ftrue, Logic, ‵, raw, ◌⊛◌, ◌$◌, ◌∵◌, !}
+use Rattle.thread_local_model.proofs.Names.{all_e, guard, apply∗, Fml, ftrue, Logic, ‵, raw, ◌⊛◌, ◌$◌, ◌∵◌, ! }
 use Rattle.thread_local_model.proofs.Names.{qed, by, move, drop, split, fsplit, fsplit3, fjoin3, fpick, fpack, check}
 use Rattle.thread_local_model.proofs.Names.{show, frame, each as for_each, assume, use1, use2, rewrite, done}
 use Rattle.thread_local_model.proofs.Names.{RattleType, Ptr, block_ptr, null_ptr, ptr_val, block_of, count_of, InBlock}
@@ -100,10 +100,10 @@ module _ (R : RattleType) where
 
 module _ {M : Type 1} {𝓤 : Ura M} (𝓛 : Logic 𝓤) (R : RattleType) (token : Ty → Ptr → Fml) where
   open signs 𝓛 use {⟦◌⟧, ◌⊢◌, ◌∗◌, ◌-∗◌}
+
   infix 26 ◌⊢◌
   infixr 35 ◌∗◌
   infixr 30 ◌-∗◌
-
   abbrev C : Type 0
   C = Option R.Denot
 

@@ -37,9 +37,9 @@ module _ (R : RattleType) where
 
 module _ {M : Type 1} {𝓤 : Ura M} (𝓛 : Logic 𝓤) (R : RattleType) where
   open signs 𝓛 use {⟦◌⟧, ◌⊢◌, ◌∗◌}
+
   infix 26 ◌⊢◌
   infixr 35 ◌∗◌
-
   abbrev C : Type 0
   C = Option R.Denot
 

@@ -1,7 +1,7 @@
 -- Taking the word of one chunk out of the flags of a block, for reading. Assumes `Logic`.
 use Rattle.thread_local_model.proofs.Names.{◌≡◌, ℕ, ◌+◌, ◌*◌, ◌<◌, ◌≤◌, List, [], ◌∷◌, length, set, get_or, sym, refl}
 use Rattle.thread_local_model.proofs.Names.{ap, ◌∙◌, arith, is_some, Option, Ura, SProp, ex, all}
-use Rattle.thread_local_model.proofs.Names.{all_e, guard, apply∗, Fml, ftrue, Logic, ‵, raw, ◌⊛◌, ◌$◌, ◌∵◌, !}
+use Rattle.thread_local_model.proofs.Names.{all_e, guard, apply∗, Fml, ftrue, Logic, ‵, raw, ◌⊛◌, ◌$◌, ◌∵◌, ! }
 use Rattle.thread_local_model.proofs.Names.{qed, move, drop, split, fsplit3, fjoin3, fpick, fpack, check, show, frame}
 use Rattle.thread_local_model.proofs.Names.{assume, use1, use2, rewrite, done, RattleType, Ptr, block_of, count_of}
 use Rattle.thread_local_model.proofs.Names.{nothing}
@@ -27,10 +27,10 @@ says_of_left whole left given k c word so ahead is bit within =
 
 module _ {M : Type 1} {𝓤 : Ura M} (𝓛 : Logic 𝓤) (R : RattleType) (p : Ptr) where
   open signs 𝓛 use {⟦◌⟧, ◌⊢◌, ◌∗◌, ◌-∗◌}
+
   infix 26 ◌⊢◌
   infixr 35 ◌∗◌
   infixr 30 ◌-∗◌
-
   abbrev pub F : ℕ → ℕ → ℕ → Fml
   F n = flags_at R n (block_of p) (count_of p)
 

@@ -55,10 +55,10 @@ rows-refit (w ∷ ws) (v ∷ vs) same = ap (λ rs. v ∷ rs) (rows-refit ws vs (
 
 module _ {M : Type 1} {𝓤 : Ura M} (𝓛 : Logic 𝓤) (R : RattleType) (b : ℕ) where
   open signs 𝓛 use {⟦◌⟧, ◌⊢◌, ◌∗◌, ◌-∗◌}
+
   infix 26 ◌⊢◌
   infixr 35 ◌∗◌
   infixr 30 ◌-∗◌
-
   abbrev W : RattleType
   W = one_pointer.the_row R
 

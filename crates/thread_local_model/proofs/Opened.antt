@@ -14,12 +14,11 @@ use Rattle.thread_local_model.proofs.Signs.{signs}
 
 module _ {M : Type 1} {𝓤 : Ura M} (𝓛 : Logic 𝓤) (κ : Lft) (q : Share) (I : Fml) where
   open 𝓛 use {A}
-
   open signs 𝓛 use {⟦◌⟧, ◌⊢◌, ◌∗◌, ◌-∗◌}
+
   infix 26 ◌⊢◌
   infixr 35 ◌∗◌
   infixr 30 ◌-∗◌
-
   -- the open borrow
   abbrev O : SProp 𝓤
   O = A.obor κ q I

@@ -16,12 +16,11 @@ use Rattle.thread_local_model.proofs.Signs.{signs}
 
 module _ {M : Type 1} {𝓤 : Ura M} (𝓛 : Logic 𝓤) where
   open 𝓛 use {A}
-
   open signs 𝓛 use {⟦◌⟧, ◌⊢◌, ◌∗◌, ◌-∗◌}
+
   infix 26 ◌⊢◌
   infixr 35 ◌∗◌
   infixr 30 ◌-∗◌
-
   module _ (κ : Lft) (q : Share) (I : Fml) (b o : ℕ) (C : Type 0) (was new : C → Ptr) (tells after : C → Fml) where
     -- the way back: the new pointer completes the borrow's content
     abbrev pub Again : C → SProp 𝓤

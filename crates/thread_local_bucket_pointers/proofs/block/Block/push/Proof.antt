@@ -3,7 +3,7 @@ use Rattle.thread_local_model.proofs.Names.{◌≡◌, ℕ, ◌+◌, ◌-◌, su
 use Rattle.thread_local_model.proofs.Names.{◌∙◌, subst, arith, lit<, w64, Option, Ty, ty_int, a_type, dcons, dnil}
 use Rattle.thread_local_model.proofs.Names.{named, Val, vint, vptr, vunit, inst_fn, full_share, SProp, apply∗}
 use Rattle.thread_local_model.proofs.Names.{Fml, ftrue, fsep, froom, flft, sem, ‵, raw, ◌⊛◌, given, at_ret, ◌$◌, ◌∵◌}
-use Rattle.thread_local_model.proofs.Names.{!, qed, by, move, keep, use1, use2, split, join, fsplit, fsplit3}
+use Rattle.thread_local_model.proofs.Names.{ !, qed, by, move, keep, use1, use2, split, join, fsplit, fsplit3}
 use Rattle.thread_local_model.proofs.Names.{fjoin, fjoin3, learn, rewrite, feq_i, stop, fld, load, lit, unit_lit}
 use Rattle.thread_local_model.proofs.Names.{of_opd, bin, first, blocks, exec, returns, enter, init, assigns_last}
 use Rattle.thread_local_model.proofs.Names.{alloc_all, pass_all, free_all, look_at, get, through, sets, is, env, sub}
@@ -46,8 +46,7 @@ push_spec 𝓤 𝓛 𝓜 𝓡 wired T Al L _ ga da dd _ _ =
     let h : Bl.Denot = a.0.now in let token : Ty → Ptr → Fml = ga.dealloc_token h.heap in let p : Ptr = h.at in
     let j : ℕ = a.1.0 in let i : ℕ = a.1.1.0 in
     let left : ℕ = h.left - 1 in
-    let b : ℕ = block_of p in let cs : List (Option T.Denot) = h.slots in
-    let n : ℕ = length cs in
+    let b : ℕ = block_of p in let cs : List (Option T.Denot) = h.slots in let n : ℕ = length cs in
     let e : ℕ = word_offset R n (count_of p) j in
     let Asked : Type 0 = (j + h.left ≡ chunks (length cs)) × (0 < h.left) in
     let others : Fml = fsep (flft κs.1.0 qs.1.0) (fsep (flft κs.1.1.0 qs.1.1.0) ftrue) in

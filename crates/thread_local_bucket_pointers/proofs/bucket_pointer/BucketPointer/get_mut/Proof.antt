@@ -48,9 +48,7 @@ get_mut_spec 𝓤 𝓛 𝓜 𝓡 wired T L =
     let γ : GName = a.0.ghost_name in
     let b' : ℕ = a.0.ref_ptr.0 in let o' : ℕ = a.0.ref_ptr.1 in let h : PointerRow.Denot = a.0.now in let p : Ptr = h.at in
     let cs : List (Option T.Denot) = h.slots in let j : ℕ = a.1.0 in let others : Fml = fsep (flft κs.1.0 qs.1.0) ftrue in
-    let b : ℕ = block_of p in
-    let k : ℕ = j / 64 in
-    let i : ℕ = j % 64 in
+    let b : ℕ = block_of p in let k : ℕ = j / 64 in let i : ℕ = j % 64 in
     let at : ℕ = value_offset R (count_of p) j in
     let s : Option T.Denot = slot_value cs j in
     let F : T.Denot → PointerRow.Denot = with_slot_value h j in

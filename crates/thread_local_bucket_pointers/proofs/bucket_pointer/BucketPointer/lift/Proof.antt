@@ -28,8 +28,7 @@ lift_spec 𝓤 𝓛 𝓜 𝓡 wired T L =
     let R : RattleType = param 0 T in let Z : RattleType = heap.the_row in
     let PointerRow : RattleType = one_pointer.the_row R in let Bl : RattleType = block.the_row R Z ghosts in
     let En = ended T in let c = clauses T 𝓛 𝓜.mem 𝓡.returns in let inst = layouts (a_type ∷ []) (T, tt) in
-    let fn = inst_fn inst code.function in
-    let handle = RefOf (1 ∷ []) tt (plain (λ _. Z)) (λ _. tt) in
+    let fn = inst_fn inst code.function in let handle = RefOf (1 ∷ []) tt (plain (λ _. Z)) (λ _. tt) in
     let hs : Stays En.signature.params En.kept =
     (stay_ref (0 ∷ []) tt (plain (λ _. PointerRow)), (stay_dropped handle yes, tt)) in
     proved 𝓛 En hs c 𝓜 𝓡 (Goes-ref 𝓛 3 0 tt (plain (λ _. PointerRow)), (Goes-dropped 𝓛 3 handle yes (λ κs x f. refl), tt))

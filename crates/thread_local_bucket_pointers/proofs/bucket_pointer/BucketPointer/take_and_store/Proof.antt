@@ -58,13 +58,11 @@ take_and_store_spec 𝓤 𝓛 𝓜 𝓡 wired T L =
     let h : PointerRow.Denot = a.0.now in let p : Ptr = h.at in let cs : List (Option T.Denot) = h.slots in
     let j : ℕ = a.1.0 in let w : ℕ = a.1.1.0 in
     let new : ℕ = a.1.1.1.0 in
-    let others : Fml = fsep (flft κs.1.0 qs.1.0) ftrue in let b : ℕ = block_of p in
-    let k : ℕ = j / 64 in
+    let others : Fml = fsep (flft κs.1.0 qs.1.0) ftrue in let b : ℕ = block_of p in let k : ℕ = j / 64 in
     let i : ℕ = j % 64 in
     let at : ℕ = value_offset R (count_of p) j in
     let s : Option T.Denot = slot_value cs j in
-    let LR = (param_laws 0 T L).lawful 𝓛 in
-    let m : Member = record { row = R; ty = layout T } in
+    let LR = (param_laws 0 T L).lawful 𝓛 in let m : Member = record { row = R; ty = layout T } in
     let RetiredBlock : Type 0 = (bit : ℕ) → bit < 64 → is_set new bit ≡ is_some (slot_value (set cs j None) (k * 64 + bit)) in
     qed 𝓛 (((‵ (flft κs.0 qs.0) ⊛ ‵ others) ⊛ ‵ (owns (types_at En.signature.params κs) a y.0.4))
     ∷ raw (fact 𝓤 _)

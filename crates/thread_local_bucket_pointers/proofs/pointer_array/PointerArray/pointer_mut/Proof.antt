@@ -52,10 +52,8 @@ pointer_mut_spec 𝓤 𝓛 𝓜 𝓡 wired T L =
       (κs, qs, bounds, a, (vptr a.0.ref_ptr.0 a.0.ref_ptr.1 ∷ [], (vint w64 a.1.0 ∷ [], tt))),
       gh,
     ) in
-    let κ : Lft = κs.0 in let q : Share = qs.0 in
-    let γ : GName = a.0.ghost_name in
-    let b : ℕ = a.0.ref_ptr.0 in let o : ℕ = a.0.ref_ptr.1 in let d : Rw.Denot = a.0.now in
-    let k : ℕ = a.1.0 in
+    let κ : Lft = κs.0 in let q : Share = qs.0 in let γ : GName = a.0.ghost_name in
+    let b : ℕ = a.0.ref_ptr.0 in let o : ℕ = a.0.ref_ptr.1 in let d : Rw.Denot = a.0.now in let k : ℕ = a.1.0 in
     let others : Fml = fsep (flft κs.1.0 qs.1.0) ftrue in
     let at : ℕ = k * 8 + o in
     let x : PointerRow.Denot = slice_index_or d.pointers k null_pointer in

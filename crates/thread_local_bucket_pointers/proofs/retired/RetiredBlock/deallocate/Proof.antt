@@ -56,8 +56,7 @@ deallocate_spec 𝓤 𝓛 𝓜 𝓡 wired T Al L LA ga da dd met _ =
     let h : Lv.Denot = a.0 in
     let hp : ℕ × ℕ = a.1.0.ref_ptr in
     let heap : Al.Denot = a.1.0.now in
-    let p : Ptr = h.at in
-    let n : ℕ = a.1.1.0 in
+    let p : Ptr = h.at in let n : ℕ = a.1.1.0 in
     let τ : Ty = block_ty R n in
     let s : ℕ = a.1.1.1.0 in
     let κ : Lft = κs.0 in let q : Share = qs.0 in let token : Ty → Ptr → Fml = ga.dealloc_token heap in

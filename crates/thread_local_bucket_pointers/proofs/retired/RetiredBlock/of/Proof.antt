@@ -37,9 +37,7 @@ of_spec 𝓤 𝓛 𝓜 𝓡 wired T Al L _ ga da dd _ _ =
     (λ κs. ((λ x. fields.block_val x.at ∷ []), (uint_vals w64, tt)))
     (λ κs. ((λ x vs so. fields.told R Z ga x.at vs so.0), (uint_Tells w64, tt)))
     (λ κs qs bounds a gh are.
-    let h : Bl.Denot = a.0 in
-    let n : ℕ = a.1.0 in
-    let p : Ptr = h.at in let cs : List (Option T.Denot) = h.slots in
+    let h : Bl.Denot = a.0 in let n : ℕ = a.1.0 in let p : Ptr = h.at in let cs : List (Option T.Denot) = h.slots in
     let ds : List (Option T.Denot) = but_first n cs in
     let token : Ty → Ptr → Fml = ga.dealloc_token h.heap in let v : Val = fields.block_val p in
     let y : (walk_of 𝓛 En hs c).Ghost = ((κs, qs, bounds, a, (v ∷ [], (vint w64 n ∷ [], tt))), gh) in

@@ -109,8 +109,7 @@ lend_spec 𝓤 𝓛 𝓜 𝓡 wired X L =
     (code.unfolded 𝓤 𝓛.H 𝓜 𝓡 wired (X, tt))
     (λ κs. (mut_vals, tt)) (λ κs. (mut_Tells (named 0) κs.0 Owner, tt)) (λ κs qs bounds a gh are.
     let b : ℕ = a.0.ref_ptr.0 in let o : ℕ = a.0.ref_ptr.1 in let κ : Lft = κs.0 in let q : Share = qs.0 in
-    let γ : GName = a.0.ghost_name in
-    let t : Owned R.Denot = a.0.now in
+    let γ : GName = a.0.ghost_name in let t : Owned R.Denot = a.0.now in
     let ℓ = named_lft 2 0 tt κs in let Lo : RattleType = loan.the_row ℓ R in let others : Fml = fsep (flft κs.1.0 qs.1.0) ftrue in
     let y : (walk_of 𝓛 En hs c).Ghost = ((κs, qs, bounds, a, (vptr b o ∷ [], tt)), gh) in
     qed 𝓛 (((‵ (flft κ q) ⊛ ‵ others) ⊛ ‵ (owns (types_at En.signature.params κs) a y.0.4))

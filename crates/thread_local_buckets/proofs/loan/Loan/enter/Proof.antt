@@ -45,8 +45,7 @@ enter_spec 𝓤 𝓛 𝓜 𝓡 wired X L =
     (λ κs. (mut_Tells (named 0) κs.0 (loan.the_row (named_lft 3 1 tt κs) R), (uint_Tells w64, (uint_Tells w64, tt))))
     (λ κs qs bounds a gh are.
     let ℓ = named_lft 3 1 tt κs in let Lo : RattleType = loan.the_row ℓ R in let D : RattleType = FieldsType ℓ R in
-    let b : ℕ = a.0.ref_ptr.0 in let o : ℕ = a.0.ref_ptr.1 in let h : Lo.Denot = a.0.now in
-    let k : ℕ = a.1.0 in
+    let b : ℕ = a.0.ref_ptr.0 in let o : ℕ = a.0.ref_ptr.1 in let h : Lo.Denot = a.0.now in let k : ℕ = a.1.0 in
     let i : ℕ = a.1.1.0 in
     let y : (walk_of 𝓛 En hs c₀).Ghost = ((κs, qs, bounds, a, (vptr b o ∷ [], (vint w64 k ∷ [], (vint w64 i ∷ [], tt)))), gh) in
     let Post : Val → SProp 𝓤 = (walk_of 𝓛 En hs c₀).post y in
@@ -66,15 +65,11 @@ enter_spec 𝓤 𝓛 𝓜 𝓡 wired X L =
     -- [the frames; the values; the fields; the loan's cell; its open borrow, in three entries; the
     -- other tokens]
     let at : h.pointers ≡ block_ptr (block_of h.pointers) (count_of h.pointers) = at_block h.pointers so.0 in
-    let wb : ℕ = block_of h.pointers in
-    let wo : ℕ = count_of h.pointers in
-    let e : ℕ = k * 8 + wo in
-    let rs = s.1.rows in
+    let wb : ℕ = block_of h.pointers in let wo : ℕ = count_of h.pointers in let e : ℕ = k * 8 + wo in let rs = s.1.rows in
     let p : Ptr = pointer s.0 k in let r = in_row rs k in
     let ev : ts ≡ loan_val (block_ptr wb wo) h.values ∷ [] =
     told ℓ R h.pointers h.values ts is_so ∙ ap (λ (q : Ptr). loan_val q h.values ∷ []) at in
-    let near : i < length r = subst (λ n. i < n) (sym (so.1.long k)) inside in
-    let sb : ℕ = block_of p in
+    let near : i < length r = subst (λ n. i < n) (sym (so.1.long k)) inside in let sb : ℕ = block_of p in
     let v : ℕ = value_offset R (count_of p) i in
     move ! (7 ∷ []) $ fsplit ! $ move ! (2 ∷ 0 ∷ []) $ bor_open ! tt $ move ! (1 ∷ []) $
     use1 𝓛 (‵ (framed R wb e p r) ⊛ raw (Frame 𝓛 R wb wo s.0 rs k e))
@@ -82,8 +77,7 @@ enter_spec 𝓤 𝓛 𝓜 𝓡 wired X L =
     split ! $ fsplit3 ! $ move ! (1 ∷ []) $ fpick ! (λ lead. drop ! $
     let leads = leads_in R p r lead (omega arith) in
     let lies : p ≡ block_ptr sb (count_of p) = at_block p leads.0 in
-    let low : k * 8 < 2 ^ 64 = omega arith in
-    let n : ℕ = length r in
+    let low : k * 8 < 2 ^ 64 = omega arith in let n : ℕ = length r in
     let value_fits : i * stride R < 2 ^ 64 = value_near R n i leads.1 near in
     -- [the pointer; the flags; the way back; the open frames; a token; the values; the fields; the
     -- loan's cell; its open borrow, in three entries]
@@ -112,8 +106,7 @@ enter_spec 𝓤 𝓛 𝓜 𝓡 wired X L =
     move ! (1 ∷ 0 ∷ []) $ obor_close ! tt $
     -- [the frames; two tokens; the values; the fields; the loan's cell; its open borrow, in three
     -- entries]
-    let q : Ptr = block_ptr wb wo in
-    let u : Ptr = block_ptr sb v in
+    let q : Ptr = block_ptr wb wo in let u : Ptr = block_ptr sb v in
     let h' : Lo.Denot = record {
       pointers = q;
       values = u;

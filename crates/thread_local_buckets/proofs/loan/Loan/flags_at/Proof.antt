@@ -55,8 +55,7 @@ flags_at_spec 𝓤 𝓛 𝓜 𝓡 wired X L =
     ))
     (λ κs qs bounds a gh are.
     let ℓ = named_lft 3 1 tt κs in let Lo : RattleType = loan.the_row ℓ R in let D : RattleType = FieldsType ℓ R in
-    let b : ℕ = a.0.ref_ptr.0 in let o : ℕ = a.0.ref_ptr.1 in let h : Lo.Denot = a.0.now in
-    let k : ℕ = a.1.0 in
+    let b : ℕ = a.0.ref_ptr.0 in let o : ℕ = a.0.ref_ptr.1 in let h : Lo.Denot = a.0.now in let k : ℕ = a.1.0 in
     let c : ℕ = a.1.1.0 in let w : ℕ = a.1.1.1.0 in
     let y : (walk_of 𝓛 En hs c₀).Ghost = (
       (κs, qs, bounds, a, (vptr b o ∷ [], (vint w64 k ∷ [], (vint w64 c ∷ [], (vint w64 w ∷ [], tt))))),
@@ -88,15 +87,11 @@ flags_at_spec 𝓤 𝓛 𝓜 𝓡 wired X L =
     -- [the frames; the values; the fields; the loan's cell; its open borrow, in three entries; the
     -- other tokens]
     let at : h.pointers ≡ block_ptr (block_of h.pointers) (count_of h.pointers) = at_block h.pointers so.0 in
-    let wb : ℕ = block_of h.pointers in
-    let wo : ℕ = count_of h.pointers in
-    let e : ℕ = k * 8 + wo in
-    let rs = s.1.rows in
+    let wb : ℕ = block_of h.pointers in let wo : ℕ = count_of h.pointers in let e : ℕ = k * 8 + wo in let rs = s.1.rows in
     let p : Ptr = pointer s.0 k in let r = in_row rs k in
     let ev : ts ≡ loan_val (block_ptr wb wo) h.values ∷ [] =
     told ℓ R h.pointers h.values ts is_so ∙ ap (λ (q : Ptr). loan_val q h.values ∷ []) at in
-    let near : c * 64 < length r = subst (λ n. c * 64 < n) (sym (so.1.long k)) inside in
-    let sb : ℕ = block_of p in
+    let near : c * 64 < length r = subst (λ n. c * 64 < n) (sym (so.1.long k)) inside in let sb : ℕ = block_of p in
     let F : ℕ → Fml = λ n. flags_at R (length r) sb (count_of p) n c in
     move ! (7 ∷ []) $ fsplit ! $ move ! (2 ∷ 0 ∷ []) $ bor_open ! tt $ move ! (1 ∷ []) $
     use1 𝓛 (‵ (framed R wb e p r) ⊛ raw (Frame 𝓛 R wb wo s.0 rs k e))

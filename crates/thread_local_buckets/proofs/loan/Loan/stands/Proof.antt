@@ -59,10 +59,7 @@ stands_spec 𝓤 𝓛 𝓜 𝓡 wired X L =
     -- [the frames; the values; the fields; the loan's cell; its open borrow, in three entries; the
     -- other tokens]
     let at : h.pointers ≡ block_ptr (block_of h.pointers) (count_of h.pointers) = at_block h.pointers so.0 in
-    let wb : ℕ = block_of h.pointers in
-    let wo : ℕ = count_of h.pointers in
-    let e : ℕ = k * 8 + wo in
-    let rs = s.1.rows in
+    let wb : ℕ = block_of h.pointers in let wo : ℕ = count_of h.pointers in let e : ℕ = k * 8 + wo in let rs = s.1.rows in
     let p : Ptr = pointer s.0 k in let r = in_row rs k in
     let ev : ts ≡ loan_val (block_ptr wb wo) h.values ∷ [] =
     told ℓ R h.pointers h.values ts is_so ∙ ap (λ (q : Ptr). loan_val q h.values ∷ []) at in

@@ -46,9 +46,7 @@ drop_spec 𝓤 𝓛 𝓜 𝓡 wired X L g d d' _ _ =
     (λ κs. ((λ x vs so. told (named_lft 2 0 tt κs) R g x.lock vs so.0), tt))
     (λ κs qs bounds a gh are.
     let h = a.0 in let p : Ptr = h.lock in let b : ℕ = block_of p in let o : ℕ = count_of p in let β : Lft = κs.0 in
-    let q : Share = qs.0 in
-    let x : X.Denot = h.value in
-    let others : Fml = fsep (flft κs.1.0 qs.1.0) ftrue in
+    let q : Share = qs.0 in let x : X.Denot = h.value in let others : Fml = fsep (flft κs.1.0 qs.1.0) ftrue in
     let ok = Fitting g.tag g.fits h.tag in
     let y : (walk_of 𝓛 En hs c).Ghost = ((κs, qs, bounds, a, (guard_of p ∷ [], tt)), gh) in
     let Post : Val → SProp 𝓤 = (walk_of 𝓛 En hs c).post y in

@@ -48,8 +48,7 @@ note_room_spec 𝓤 𝓛 𝓜 𝓡 wired =
     let p : Val = vptr a.1.0.ref_ptr.0 a.1.0.ref_ptr.1 in
     let new = record s { out = room_key ∷ s.out } in
     let Free : Type 0 = is_out s.out room_key ≡ false in
-    let y : W.Ghost = ((κs, qs, bounds, a, (mut_vals r, (p ∷ [], tt))), g) in
-    let u : Val = vptr b o in
+    let y : W.Ghost = ((κs, qs, bounds, a, (mut_vals r, (p ∷ [], tt))), g) in let u : Val = vptr b o in
     qed 𝓛 (((‵ (flft κs.0 qs.0) ⊛ ‵ (flft κs.1.0 qs.1.0) ⊛ ‵ ftrue) ⊛ ‵ (owns (types_at f.ended.signature.params κs) a y.0.4))
     ∷ raw (fact 𝓤 Free) ∷ []) ∵
     move ! (1 ∷ []) $ heard ! Free (λ free. split ! $ split3 ! $ move ! (3 ∷ []) $ fsplit ! $ keep ! (0 ∷ 2 ∷ 3 ∷ []) $

@@ -37,13 +37,10 @@ put_back_spec 𝓤 𝓛 𝓜 𝓡 wired =
     (λ κs. (mut_vals, ((λ x. token ∷ []), tt)))
     (λ κs. (mut_Tells (named 0) κs.0 R, ((λ x vs is. told (right.the_type).name vs is.0), tt)))
     (λ κs qs bounds a g are.
-    let r = a.0 in
-    let mine = a.1.0 in
-    let b = r.ref_ptr.0 in let o = r.ref_ptr.1 in
+    let r = a.0 in let mine = a.1.0 in let b = r.ref_ptr.0 in let o = r.ref_ptr.1 in
     let s = r.now in
     let new = record s { out = less s.out mine.id } in
-    let y : W.Ghost = ((κs, qs, bounds, a, (mut_vals r, (token ∷ [], tt))), g) in
-    let u : Val = vptr b o in
+    let y : W.Ghost = ((κs, qs, bounds, a, (mut_vals r, (token ∷ [], tt))), g) in let u : Val = vptr b o in
     qed 𝓛 (((‵ (flft κs.0 qs.0) ⊛ ‵ ftrue) ⊛ ‵ ((MutRef (named 0) κs.0 R).own_val r (u ∷ []))
     ⊛ ‵ (right.the_row.own_val mine (token ∷ [])) ⊛ ‵ ftrue)
     ∷ raw (f.requires-1 𝓛 κs 𝓜.mem 𝓡.returns r mine) ∷ []) ∵

@@ -43,8 +43,7 @@ take_spec 𝓤 𝓛 𝓜 𝓡 wired =
     let b = r.ref_ptr.0 in let o = r.ref_ptr.1 in
     let s = r.now in
     let new = record s { out = id ∷ s.out } in
-    let y : W.Ghost = ((κs, qs, bounds, a, (mut_vals r, (uint_vals w64 id, tt))), g) in
-    let u : Val = vptr b o in
+    let y : W.Ghost = ((κs, qs, bounds, a, (mut_vals r, (uint_vals w64 id, tt))), g) in let u : Val = vptr b o in
     qed 𝓛 (((‵ (flft κs.0 qs.0) ⊛ ‵ ftrue) ⊛ ‵ ((MutRef (named 0) κs.0 R).own_val r (u ∷ []))
     ⊛ ‵ (usize.own_val id (uint_vals w64 id)) ⊛ ‵ ftrue)
     ∷ raw (f.requires-1 𝓛 κs 𝓜.mem 𝓡.returns r id) ∷ []) ∵

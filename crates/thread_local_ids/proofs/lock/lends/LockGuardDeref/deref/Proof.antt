@@ -40,10 +40,8 @@ deref_spec 𝓤 𝓛 𝓜 𝓡 wired X L g d _ =
     (λ κs qs bounds a gh are.
     let ℓ = named_lft 3 1 tt κs in let D : RattleType = FieldsType ℓ R g in let b : ℕ = a.0.ref_ptr.0 in
     let o : ℕ = a.0.ref_ptr.1 in let κ : Lft = κs.0 in let β : Lft = κs.1.0 in let h = a.0.now in let p : Ptr = h.lock in
-    let x : X.Denot = h.value in
-    let others : Fml = fsep (flft β qs.1.0) (fsep (flft κs.1.1.0 qs.1.1.0) ftrue) in
-    let pb : ℕ = block_of p in
-    let po : ℕ = count_of p in
+    let x : X.Denot = h.value in let others : Fml = fsep (flft β qs.1.0) (fsep (flft κs.1.1.0 qs.1.1.0) ftrue) in
+    let pb : ℕ = block_of p in let po : ℕ = count_of p in
     let e : ℕ = po + offset R in let y : (walk_of 𝓛 En hs c).Ghost = ((κs, qs, bounds, a, (vptr b o ∷ [], tt)), gh) in
     let Post : Val → SProp 𝓤 = (walk_of 𝓛 En hs c).post y in
     qed 𝓛 (((‵ (flft κ qs.0) ⊛ ‵ others) ⊛ ‵ (owns (types_at En.signature.params κs) a y.0.4))
