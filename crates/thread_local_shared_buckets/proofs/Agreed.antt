@@ -35,12 +35,11 @@ use Rattle.thread_local_shared_buckets.proofs.Inside.{placed}
 
 module _ {M : Type 1} {𝓤 : Ura M} (𝓛 : Logic 𝓤) (R : RattleType) (x : R.Denot) where
   open 𝓛 use {H, A}
-
   open signs 𝓛 use {⟦◌⟧, ◌⊢◌, ◌∗◌, ◌-∗◌}
+
   infix 26 ◌⊢◌
   infixr 35 ◌∗◌
   infixr 30 ◌-∗◌
-
   module _ (d : BucketView) (named : IsSome d.sharing) (t : Turn) (wb wo i k : ℕ)
       (low : i < len R d) (at_k : k ≡ i + slots.first R d) where
     abbrev I : Fml

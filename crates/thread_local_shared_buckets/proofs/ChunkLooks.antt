@@ -88,12 +88,11 @@ set_inside R n c word bit ns at are small set =
 
 module _ {M : Type 1} {𝓤 : Ura M} (𝓛 : Logic 𝓤) where
   open 𝓛 use {A}
-
   open signs 𝓛 use {⟦◌⟧, ◌⊢◌, ◌∗◌, ◌-∗◌}
+
   infix 26 ◌⊢◌
   infixr 35 ◌∗◌
   infixr 30 ◌-∗◌
-
   -- where each element keeps one formula and gives another, all of them do
   pub each_gives : {X : Type 0} (F G : X → ℕ → Fml) (xs : List X) (j : ℕ)
       → ((x : X) (k : ℕ) → ⟦ F x k ⟧ ⊢ ⟦ F x k ⟧ ∗ ⟦ G x k ⟧)

@@ -27,14 +27,12 @@ use Rattle.thread_local_shared_buckets.proofs.Inside.{SlotAt}
 
 module _ {M : Type 1} {𝓤 : Ura M} (𝓛 : Logic 𝓤) (R : RattleType) (slot : SlotAt R) where
   open slot use {d, t, wb, wo, s, i, k, e, b, low, at_k, at_e, at_b}
-
   open 𝓛 use {H, A}
-
   open signs 𝓛 use {⟦◌⟧, ◌⊢◌, ◌∗◌, ◌-∗◌}
+
   infix 26 ◌⊢◌
   infixr 35 ◌∗◌
   infixr 30 ◌-∗◌
-
   abbrev pub η : GName
   η = name_at s.names i
 

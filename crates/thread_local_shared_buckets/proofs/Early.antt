@@ -30,12 +30,11 @@ use Rattle.thread_local_shared_buckets.proofs.Inside.{placed}
 
 module _ {M : Type 1} {𝓤 : Ura M} (𝓛 : Logic 𝓤) (R : RattleType) where
   open 𝓛 use {H, A}
-
   open signs 𝓛 use {⟦◌⟧, ◌⊢◌, ◌∗◌, ◌-∗◌}
+
   infix 26 ◌⊢◌
   infixr 35 ◌∗◌
   infixr 30 ◌-∗◌
-
   -- one slot, taken out of those that have no block yet
   unborn_out : (sharing : Option GName) (table : ℕ) (t : Turn) (n k i k' : ℕ) → i < n → k' ≡ i + k
       → ⟦ all_unborn R sharing table t n k ⟧

@@ -127,9 +127,9 @@ module _ (R : RattleType) where
 
 module _ {M : Type 1} {𝓤 : Ura M} (𝓛 : Logic 𝓤) (R : RattleType) where
   open signs 𝓛 use {⟦◌⟧, ◌⊢◌, ◌∗◌}
+
   infix 26 ◌⊢◌
   infixr 35 ◌∗◌
-
   pub known_apart : (s : TableView) (b : ℕ) (rows : List (Slots R))
       → ⟦ rows_known R s b rows ⟧ ⊢ ⟦ rows_telling R s.sharing b rows ⟧ ∗ ⟦ rows_grown R s b rows ⟧
   known_apart s b [] = qed 𝓛 (‵ ftrue ∷ []) ∵ nothing ! $ done !

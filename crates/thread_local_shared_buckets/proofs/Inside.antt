@@ -100,12 +100,11 @@ module _ (R : RattleType) (n i : ℕ) (ns : List ℕ) (inside : i / 64 < length 
 
 module _ {M : Type 1} {𝓤 : Ura M} (𝓛 : Logic 𝓤) where
   open 𝓛 use {H, A}
-
   open signs 𝓛 use {⟦◌⟧, ◌⊢◌, ◌∗◌, ◌-∗◌}
+
   infix 26 ◌⊢◌
   infixr 35 ◌∗◌
   infixr 30 ◌-∗◌
-
   -- a ghost step inside an invariant that holds a borrow, which a token opens
   pub quietly : (κ : Lft) (q : Share) (I : Fml) (X Q : SProp 𝓤) → ⟦ I ⟧ ∗ X ⊢ upd 𝓤 (⟦ I ⟧ ∗ Q)
       → A.inv (fbor κ I) ∗ A.lft κ q ∗ X ⊢ H.⇛ (Q ∗ A.lft κ q)

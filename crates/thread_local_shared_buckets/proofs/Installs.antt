@@ -25,11 +25,10 @@ use Rattle.thread_local_shared_buckets.proofs.Inside.{placed}
 module _ {M : Type 1} {𝓤 : Ura M} (𝓛 : Logic 𝓤) (R : RattleType) (d : BucketView) (t : Turn)
     (β : Lft) (wb wo pb o id i : ℕ) (sharing : Option ℕ) (reserved : Bool) where
   open 𝓛 use {H, A}
-
   open signs 𝓛 use {⟦◌⟧, ◌⊢◌, ◌∗◌}
+
   infix 26 ◌⊢◌
   infixr 35 ◌∗◌
-
   abbrev w : Ptr
   w = block_ptr wb wo
 

@@ -71,11 +71,10 @@ claim_laws β R L c l state =
 
 module _ {M : Type 1} {𝓤 : Ura M} (𝓛 : Logic 𝓤) where
   open 𝓛 use {H, A}
-
   open signs 𝓛 use {⟦◌⟧, ◌⊢◌, ◌∗◌}
+
   infix 26 ◌⊢◌
   infixr 35 ◌∗◌
-
   module _ (β : Lft) (R : RattleType) (L : RowLaws R) (table : ℕ) (c : ClaimFields) (x : R.Denot)
       (state : ℕ) (ν : Lft) (inc : Incl ν β) where
     abbrev v : Option R.Denot

@@ -45,11 +45,10 @@ pointer = record { row = RawPtr; ty = ty_ptr }
 
 module _ {M : Type 1} {𝓤 : Ura M} (𝓛 : Logic 𝓤) where
   open 𝓛 use {H, A}
-
   open signs 𝓛 use {⟦◌⟧, ◌⊢◌, ◌∗◌}
+
   infix 26 ◌⊢◌
   infixr 35 ◌∗◌
-
   -- a raw pointer in memory as the cell that an atomic step works on, and back
   module _ (b o : ℕ) (p : Ptr) where
     pub cell_out : ⟦ part_at RawPtr full_share p b o ⟧ ⊢ ⟦ cell b o p ⟧

@@ -26,13 +26,11 @@ use Rattle.thread_local_shared_buckets.proofs.Inside.{SlotAt}
 module _ {M : Type 1} {𝓤 : Ura M} (𝓛 : Logic 𝓤) (R : RattleType) (L : Laws R) (j : Shareable R)
     (slot : SlotAt R) where
   open slot use {d, t, wb, wo, s, i, k, e, b, low, at_k, at_e, at_b}
-
   open 𝓛 use {A}
-
   open signs 𝓛 use {⟦◌⟧, ◌⊢◌, ◌∗◌}
+
   infix 26 ◌⊢◌
   infixr 35 ◌∗◌
-
   -- a slot of whose id it is told that it was published with a value lends that value
   module _ (named : IsSome d.sharing) (x : R.Denot) where
     abbrev pub Told : Fml

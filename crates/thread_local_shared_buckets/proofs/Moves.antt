@@ -33,9 +33,9 @@ module _ {M : Type 1} {𝓤 : Ura M} (𝓛 : Logic 𝓤) where
 module _ {M : Type 1} {𝓤 : Ura M} (𝓛 : Logic 𝓤) (R : RattleType) (t : Turn) (b ν : ℕ)
     (sharing : Option GName) (table k e : ℕ) (η : GName) where
   open signs 𝓛 use {⟦◌⟧, ◌⊢◌, ◌∗◌}
+
   infix 26 ◌⊢◌
   infixr 35 ◌∗◌
-
   abbrev pub Holds : Option R.Denot → Fml
   Holds v = holds R t b ν sharing k e η v
 

@@ -63,11 +63,10 @@ module _ (R : RattleType) (n : ℕ) (ns : List ℕ) (are : AreFlags ns (empty_sl
 
 module _ {M : Type 1} {𝓤 : Ura M} (𝓛 : Logic 𝓤) (R : RattleType) (t : Turn) where
   open 𝓛 use {H, A}
-
   open signs 𝓛 use {⟦◌⟧, ◌⊢◌, ◌∗◌}
+
   infix 26 ◌⊢◌
   infixr 35 ◌∗◌
-
   module _ (b ν : ℕ) where
     abbrev κ : Lft
     κ = age R t b ν

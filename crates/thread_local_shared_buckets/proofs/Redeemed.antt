@@ -91,11 +91,10 @@ module _ (R : RattleType) (n : ℕ) (ns : List ℕ) (cs : List (Option R.Denot))
 
 module _ {M : Type 1} {𝓤 : Ura M} (𝓛 : Logic 𝓤) (R : RattleType) (L : Laws R) where
   open 𝓛 use {H, A}
-
   open signs 𝓛 use {⟦◌⟧, ◌⊢◌, ◌∗◌}
+
   infix 26 ◌⊢◌
   infixr 35 ◌∗◌
-
   abbrev C : Type 0
   C = Option R.Denot
 

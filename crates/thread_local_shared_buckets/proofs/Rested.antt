@@ -39,11 +39,10 @@ use Rattle.thread_local_model.proofs.Signs.{signs}
 
 module _ {M : Type 1} {𝓤 : Ura M} (𝓛 : Logic 𝓤) where
   open 𝓛 use {H, A}
-
   open signs 𝓛 use {⟦◌⟧, ◌⊢◌, ◌∗◌}
+
   infix 26 ◌⊢◌
   infixr 35 ◌∗◌
-
   cell_room : (τ : Ty) (vs : List Val) (b o : ℕ) → ⟦ cell_raw full_share (bare τ ∷ []) vs b o ⟧ ⊢ ⟦ froom (bare τ) b o ⟧
   cell_room τ [] b o = never_e 𝓤 _
   cell_room τ (v ∷ []) b o = 𝓛.laws.at_room (bare τ) b o v

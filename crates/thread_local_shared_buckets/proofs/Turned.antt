@@ -64,11 +64,10 @@ pair_val v n = vstruct (vcons v (vcons (vint w64 n) vnil))
 
 module _ {M : Type 1} {𝓤 : Ura M} (𝓛 : Logic 𝓤) (R : RattleType) (L : Laws R) where
   open 𝓛 use {H, A}
-
   open signs 𝓛 use {⟦◌⟧, ◌⊢◌, ◌∗◌}
+
   infix 26 ◌⊢◌
   infixr 35 ◌∗◌
-
   abbrev C : Type 0
   C = Option R.Denot
 

@@ -71,8 +71,7 @@ find_spec 𝓤 𝓛 𝓜 𝓡 wired X L =
     (λ κs. ((λ x. value_of (kept_of x) ∷ []), (uint_vals w64, (uint_vals w64, tt))))
     (λ κs. ((λ x vs so. told (named_lft 2 0 tt κs) R (kept_of x) vs so.0), (uint_Tells w64, (uint_Tells w64, tt))))
     (λ κs qs bounds a gh are.
-    let h = a.0 in
-    let x : ℕ = a.1.0 in
+    let h = a.0 in let x : ℕ = a.1.0 in
     let num : ℕ = a.1.1.0 in
     let β : Lft = κs.0 in let q : Share = qs.0 in let others : Fml = fsep (flft κs.1.0 qs.1.0) ftrue in
     let ℓ = named_lft 2 0 tt κs in let G : RattleType = claim.the_row ℓ R in
@@ -86,10 +85,7 @@ find_spec 𝓤 𝓛 𝓜 𝓡 wired X L =
     let l₀ : Learnt X.Denot = h.learnt in
     let F₅ : G.Denot → Type 0 = λ r. Finds l₀ r.learnt in
     let gone : Learnt X.Denot = Missing in
-    let w : Ptr = h.bucket in
-    let wb : ℕ = block_of w in
-    let wo : ℕ = count_of w in
-    let i : ℕ = h.index in
+    let w : Ptr = h.bucket in let wb : ℕ = block_of w in let wo : ℕ = count_of w in let i : ℕ = h.index in
     let pl : ClaimFields = claim_fields h.id i w h.at h.sharing h.reserved in
     let y : (walk_of 𝓛 En hs c).Ghost = ((κs, qs, bounds, a, (u₀ ∷ [], (vint w64 x ∷ [], (vint w64 num ∷ [], tt)))), gh) in
     let Post : Val → SProp 𝓤 = (walk_of 𝓛 En hs c).post y in
@@ -180,12 +176,8 @@ find_spec 𝓤 𝓛 𝓜 𝓡 wired X L =
     by ! (leaves 𝓛 En hs c y (value_of m) r (tt, (tt, (tt, tt))) (tt, (tt, (tt, tt)))))
     (λ wrong. absurd wrong)))
     (λ pb po.
-    let p : Ptr = block_ptr pb po in
-    let k : ℕ = i / 64 in
-    let j : ℕ = i % 64 in
-    let at_word : ℕ = word_offset R (len R d) po k in
-    let e : ℕ = value_offset R po i in
-    let slot_at : Ptr = block_ptr pb e in
+    let p : Ptr = block_ptr pb po in let k : ℕ = i / 64 in let j : ℕ = i % 64 in
+    let at_word : ℕ = word_offset R (len R d) po k in let e : ℕ = value_offset R po i in let slot_at : Ptr = block_ptr pb e in
     lands_last ! refl (ptr_good p) $ exec ! 𝓣.C 𝓣.Λ Ev (after 2 fn.body) (at_ret Ev Post) $
     fsplit ! $ move ! (1 ∷ []) $ fsplit ! $ fpick ! (λ zz. move ! (0 ∷ 6 ∷ []) $
     use2 𝓛 (later (‵ (facts.fact ((zz.0.at ≡ p) × Sized R (len R d) p)) ⊛ ‵ (loaded R d t zz.0 β)))

@@ -81,16 +81,12 @@ publish_spec 𝓤 𝓛 𝓜 𝓡 wired X L =
     let Post : Val → SProp 𝓤 = (walk_of 𝓛 En hs c).post y in let h = a.0 in
     let ix : ℕ = a.1.0 in
     let num : ℕ = a.1.1.0 in
-    let x : X.Denot = a.1.1.1.0 in
-    let β : Lft = κs.0 in let q : Share = qs.0 in
+    let x : X.Denot = a.1.1.1.0 in let β : Lft = κs.0 in let q : Share = qs.0 in
     let υ : Lft = κs.1.0 in
     let r : Share = qs.1.0 in let others : Fml = fsep (flft υ r) ftrue in let ℓ = named_lft 2 0 tt κs in
     let G : RattleType = claim.the_row ℓ R in
     let u₀ : Val = value_of (kept_of h) in
-    let w : Ptr = h.bucket in
-    let wb : ℕ = block_of w in
-    let wo : ℕ = count_of w in
-    let i : ℕ = h.index in
+    let w : Ptr = h.bucket in let wb : ℕ = block_of w in let wo : ℕ = count_of w in let i : ℕ = h.index in
     let pl : ClaimFields = claim_fields h.id i w h.at h.sharing h.reserved in
     let seen = told ℓ R (kept_of h) vss.0 are.0.0 in
     let see_index = uint_Tells w64 ix vss.1.0 are.1.0 in
@@ -128,12 +124,8 @@ publish_spec 𝓤 𝓛 𝓜 𝓡 wired X L =
     let d : BucketView = z.0 in let t : Turn = z.1 in
     rewrite ! 0 (λ (k : Learnt X.Denot). ‵ (has R d t β pl k)) empty refl $ fpick ! (λ s. fsplit ! $
     fpick ! (λ leads. drop ! $ fsplit ! $ move ! (1 ∷ []) $ fsplit3 ! $
-    let pb : ℕ = block_of s.at in
-    let po : ℕ = count_of s.at in
-    let k : ℕ = i / 64 in
-    let j : ℕ = i % 64 in
-    let at_word : ℕ = word_offset R (len R d) (count_of s.at) k in
-    let e : ℕ = value_offset R (count_of s.at) i in
+    let pb : ℕ = block_of s.at in let po : ℕ = count_of s.at in let k : ℕ = i / 64 in let j : ℕ = i % 64 in
+    let at_word : ℕ = word_offset R (len R d) (count_of s.at) k in let e : ℕ = value_offset R (count_of s.at) i in
     let η : GName = name_at s.names i in
     let life : Lft = age R t pb s.block_life in
     let V : Fml = tracked_value R pb e η in

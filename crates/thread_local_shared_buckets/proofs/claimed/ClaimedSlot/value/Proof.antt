@@ -43,8 +43,7 @@ value_spec 𝓤 𝓛 𝓜 𝓡 wired X L =
     qed 𝓛 (((‵ (flft κ qs.0) ⊛ ‵ others) ⊛ ‵ (owns (types_at En.signature.params κs) a y.0.4))
     ∷ raw (fact 𝓤 _) ∷ raw (fact 𝓤 (is_some (value_held l₀) ≡ true)) ∷ []) ∵
     keep ! (2 ∷ 0 ∷ []) $ heard ! (is_some (value_held l₀) ≡ true) (λ asked.
-    let held = holding l₀ asked in
-    let x : X.Denot = held.0 in
+    let held = holding l₀ asked in let x : X.Denot = held.0 in
     split ! $ split ! $ move ! (2 ∷ []) $ fsplit ! $ fsplit ! $ keep ! (1 ∷ 3 ∷ 4 ∷ []) $
     enter ! _ _ _ _ _ $ alloc_all ! (λ l. pass_all ! refl ((tt, tt), tt) $ let Ev = env fn.locals l in
     splits_ref ! ℓ R κ h b o $ drop ! $

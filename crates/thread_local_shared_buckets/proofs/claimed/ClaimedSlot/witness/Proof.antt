@@ -1,6 +1,6 @@
 -- `witness` copies what a `&` to the claim holds that is told of its id.
 use Rattle.thread_local_model.proofs.Names.{◌≡◌, ℕ, [], ◌∷◌, true, refl, Option, dnil, a_type, named, vptr}
-use Rattle.thread_local_model.proofs.Names.{inst_fn, Lft, Fml, ftrue, fsep, flft, ‵, raw, ◌⊛◌, ◌$◌, ◌∵◌, !}
+use Rattle.thread_local_model.proofs.Names.{inst_fn, Lft, Fml, ftrue, fsep, flft, ‵, raw, ◌⊛◌, ◌$◌, ◌∵◌, ! }
 use Rattle.thread_local_model.proofs.Names.{qed, by, move, keep, drop, split, join, fsplit, fjoin, use1, rewrite}
 use Rattle.thread_local_model.proofs.Names.{no_more, and_then, returns, enter, alloc_all, pass_all, free_all, look_at}
 use Rattle.thread_local_model.proofs.Names.{get, sets, agg, fact, yes, RattleType, owns, types_at}
@@ -35,8 +35,7 @@ witness_spec 𝓤 𝓛 𝓜 𝓡 wired X L =
     qed 𝓛 (((‵ (flft κ qs.0) ⊛ ‵ others) ⊛ ‵ (owns (types_at En.signature.params κs) a y.0.4))
     ∷ raw (fact 𝓤 _) ∷ raw (fact 𝓤 Asked) ∷ []) ∵
     keep ! (2 ∷ 0 ∷ []) $ heard ! Asked (λ asked.
-    let held = holding l₀ asked in
-    let x : X.Denot = held.0 in
+    let held = holding l₀ asked in let x : X.Denot = held.0 in
     let r : S.Denot = record { marker = record {}; sharing = h.sharing; id = h.id; value = x } in
     split ! $ split ! $ move ! (2 ∷ []) $ fsplit ! $ fsplit ! $ keep ! (1 ∷ 3 ∷ 4 ∷ []) $
     enter ! _ _ _ _ _ $ alloc_all ! (λ l. pass_all ! refl ((tt, tt), tt) $

@@ -77,8 +77,7 @@ look_spec {M} 𝓤 𝓛 𝓜 𝓡 wired T L =
     let rest : Fml = fsep (flft κs.1.1.0 qs.1.1.0) (fsep (flft κs.1.1.1.0 qs.1.1.1.0) ftrue) in
     let ts : List (TokenView R.Denot) = a.1.1.1.0.now.tokens in
     let pt : Val = vptr a.1.1.1.0.ref_ptr.0 a.1.1.1.0.ref_ptr.1 in
-    let pb : ℕ = block_of p in
-    let w : ℕ = word_offset R many (count_of p) c₀ in let G : RattleType = Seen.the_row ℓ R in
+    let pb : ℕ = block_of p in let w : ℕ = word_offset R many (count_of p) c₀ in let G : RattleType = Seen.the_row ℓ R in
     let Of : G.Denot → Type 0 = λ s. (◌≡◌ {A = BucketView} s.of d) × (◌≡◌ {A = List ℕ} s.names h.names) × (s.chunk ≡ c₀) in
     let Inside : G.Denot → Type 0 = λ s.
     (bit : ℕ) → bit < 64 → is_set s.flags bit ≡ true → c₀ * 64 + bit < many in

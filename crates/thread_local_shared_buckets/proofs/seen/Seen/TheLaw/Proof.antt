@@ -17,7 +17,8 @@ pub shares : (a : NamedLft) (T : RattleType) (L : Laws T) → statement a T L
 shares a T L =
     of_Lends (C.struct a T) (C.the_codes T.Denot T.coded (P.the_row (ShrRef a.mir a.lft T)).coded)
     (C.the_heap a.lft T) (C.the_lent a.lft T)
-    (λ d p. said_laws (seen_owns T d.of d.at d.names d.chunk d.flags d.values a.lft) (λ M 𝓤 𝓛. seen_dup 𝓛 T L d.of d.at d.names d.chunk d.flags d.values a.lft)) (
+    (λ d p. said_laws (seen_owns T d.of d.at d.names d.chunk d.flags d.values a.lft)
+    (λ M 𝓤 𝓛. seen_dup 𝓛 T L d.of d.at d.names d.chunk d.flags d.values a.lft)) (
       copy_shared RawPtr-field RawPtr-copy,
       (
         copy_shared u64-field u64-copy,

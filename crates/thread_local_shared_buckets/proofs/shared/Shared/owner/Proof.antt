@@ -48,9 +48,7 @@ owner_spec 𝓤 𝓛 𝓜 𝓡 wired T L =
     (code.unfolded 𝓤 𝓛.H 𝓜 𝓡 wired (T, tt)) (λ κs. (mut_vals, tt))
     (λ κs. (mut_Tells (named 0) κs.0 Sh, tt)) (λ κs qs bounds a gh are.
     let b : ℕ = a.0.ref_ptr.0 in let o : ℕ = a.0.ref_ptr.1 in let d : TableView = a.0.now in let κ : Lft = κs.0 in
-    let q : Share = qs.0 in
-    let γ : GName = a.0.ghost_name in
-    let others : Fml = fsep (flft κs.1.0 qs.1.0) ftrue in
+    let q : Share = qs.0 in let γ : GName = a.0.ghost_name in let others : Fml = fsep (flft κs.1.0 qs.1.0) ftrue in
     let y : (walk_of 𝓛 En hs c).Ghost = ((κs, qs, bounds, a, (vptr b o ∷ [], tt)), gh) in
     let Post : Val → SProp 𝓤 = (walk_of 𝓛 En hs c).post y in
     qed 𝓛 (((‵ (flft κ q) ⊛ ‵ others) ⊛ ‵ (owns (types_at En.signature.params κs) a y.0.4))

@@ -63,8 +63,7 @@ value_spec {M} 𝓤 𝓛 𝓜 𝓡 wired T L =
     (λ κs qs bounds a gh are.
     let b : ℕ = a.0.ref_ptr.0 in let o : ℕ = a.0.ref_ptr.1 in let κ : Lft = κs.0 in let q : Share = qs.0 in
     let d : BucketView = a.0.now in let others : Fml = fsep (flft κs.1.0 qs.1.0) (fsep (flft κs.1.1.0 qs.1.1.0) ftrue) in
-    let i : ℕ = a.1.0 in let w = a.1.1.0.now in
-    let x : T.Denot = w.value in
+    let i : ℕ = a.1.0 in let w = a.1.1.0.now in let x : T.Denot = w.value in
     let id : ℕ = id_at d.bucket i in
     let p' : Val = vptr a.1.1.0.ref_ptr.0 a.1.1.0.ref_ptr.1 in
     let y : (walk_of 𝓛 En hs c).Ghost = ((κs, qs, bounds, a, (vptr b o ∷ [], (vint w64 i ∷ [], (p' ∷ [], tt)))), gh) in

@@ -1,6 +1,6 @@
 -- `tell` hands out the fact that a `&` to a `Shown` shows.
 use Rattle.thread_local_model.proofs.Names.{[], ◌∷◌, ℕ, refl, yes, a_type, named, vptr, vunit, inst_fn}
-use Rattle.thread_local_model.proofs.Names.{Lft, Share, Fml, ftrue, fsep, flft, ‵, raw, ◌⊛◌, ◌$◌, ◌∵◌, !}
+use Rattle.thread_local_model.proofs.Names.{Lft, Share, Fml, ftrue, fsep, flft, ‵, raw, ◌⊛◌, ◌$◌, ◌∵◌, ! }
 use Rattle.thread_local_model.proofs.Names.{qed, by, move, keep, drop, split, join, fsplit, fjoin, fpick, use1}
 use Rattle.thread_local_model.proofs.Names.{feq_i, of_opd, unit_lit, returns, enter, alloc_all, pass_all, free_all}
 use Rattle.thread_local_model.proofs.Names.{look_at, sets, env, RattleType, owns, types_at}
