@@ -7,7 +7,6 @@ use types.Kit.{‵, raw, ◌⊛◌, given, ◌$◌, ◌∵◌, !, qed, move, kee
 use types.Kit.{learn, suffices, frame, use2, feq_i}
 use types.Run.{of_opd, unit_lit, returns, enter}
 use types.ByLocal.{alloc_all, pass_all, free_all, look_at, sets}
-use contract.Running.{tables}
 use denote.Exit.{yes}
 use denote.Ref.{MutRef, mut_vals, mut_Tells}
 use denote.Signature.{plain}
@@ -31,9 +30,7 @@ stayed = (stay_ref (0 ∷ []) tt (plain (λ _. R)), (stay_dropped (plain (λ _. 
 
 pub extends_spec : {M : Type 1} → statement M
 extends_spec 𝓤 𝓛 𝓜 𝓡 wired =
-    let c = f.clauses 𝓛 𝓜.mem 𝓡.returns in
-    let W = walk_of 𝓛 f.ended stayed c in
-    let 𝓣 = tables 𝓤 𝓛.H 𝓜 𝓡 𝓡.env in
+    let c = f.clauses 𝓛 𝓜.mem 𝓡.returns in let W = walk_of 𝓛 f.ended stayed c in
     proved 𝓛 f.ended stayed c 𝓜 𝓡 (
       Goes-ref 𝓛 1 0 tt (plain (λ _. R)),
       (Goes-dropped 𝓛 1 (plain (λ _. right.the_row)) yes (λ κs x w. refl), tt),
@@ -42,15 +39,11 @@ extends_spec 𝓤 𝓛 𝓜 𝓡 wired =
     (λ κs. (mut_vals, ((λ x. token ∷ []), tt)))
     (λ κs. (mut_Tells (named 0) κs.0 R, ((λ x vs is. told (right.the_type).name vs is.0), tt)))
     (λ κs qs bounds a g are.
-    let r = a.0 in
-    let mine = a.1.0 in
-    let b = r.ref_ptr.0 in
-    let o = r.ref_ptr.1 in
+    let r = a.0 in let mine = a.1.0 in let b = r.ref_ptr.0 in let o = r.ref_ptr.1 in
     let s = r.now in
     let seen : List IdMove = mine.moves in
     let Early : Type 0 = IsPrefix seen s.moves in
-    let y : W.Ghost = ((κs, qs, bounds, a, (mut_vals r, (token ∷ [], tt))), g) in
-    let u : Val = vptr b o in
+    let y : W.Ghost = ((κs, qs, bounds, a, (mut_vals r, (token ∷ [], tt))), g) in let u : Val = vptr b o in
     qed 𝓛 (((‵ (flft κs.0 qs.0) ⊛ ‵ ftrue) ⊛ ‵ ((MutRef (named 0) κs.0 R).own_val r (u ∷ []))
     ⊛ ‵ (right.the_row.own_val mine (token ∷ [])) ⊛ ‵ ftrue)
     ∷ raw (f.requires-1 𝓛 κs 𝓜.mem 𝓡.returns r mine) ∷ []) ∵
@@ -69,5 +62,5 @@ extends_spec 𝓤 𝓛 𝓜 𝓡 wired =
     suffices ! _ (ends_at 𝓛 f.ended stayed c y vunit tt (s, (tt, tt)) (tt, (tt, tt))) $
     -- [two parts of self; the token; self's first part]
     move ! (3 ∷ 0 ∷ 1 ∷ []) $ fjoin3 ! $ nothing ! $ nothing ! $ fjoin ! $ move ! (1 ∷ 0 ∷ []) $ fjoin ! $
-    feq_i ! (List Val) (vunit ∷ []) (vunit ∷ []) refl $ move ! (1 ∷ 0 ∷ []) $ join ! $
+    feq_i ! _ (vunit ∷ []) _ refl $ move ! (1 ∷ 0 ∷ []) $ join ! $
     nothing ! $ move ! (2 ∷ 0 ∷ []) $ join ! $ join ! $ frame ! $ tells ! early $ tells_last ! refl)))))

@@ -10,7 +10,6 @@ use types.Owned.{basic}
 use types.Run.{no_more, and_then, returns, enter}
 use types.ByLocal.{alloc_all, pass_all, free_all, look_at, get, sets}
 use types.Part.{agg}
-use contract.Running.{tables}
 use denote.Builtin.{usize}
 use denote.Exit.{yes}
 use denote.Plain.{uint_vals, uint_Tells}
@@ -39,9 +38,7 @@ stayed = (stay_ref (0 ∷ []) tt (plain (λ _. R)), (stay_dropped (plain (λ _. 
 
 pub give_spec : {M : Type 1} → statement M
 give_spec 𝓤 𝓛 𝓜 𝓡 wired =
-    let c = f.clauses 𝓛 𝓜.mem 𝓡.returns in
-    let W = walk_of 𝓛 f.ended stayed c in
-    let 𝓣 = tables 𝓤 𝓛.H 𝓜 𝓡 𝓡.env in
+    let c = f.clauses 𝓛 𝓜.mem 𝓡.returns in let W = walk_of 𝓛 f.ended stayed c in
     proved 𝓛 f.ended stayed c 𝓜 𝓡 (
       Goes-ref 𝓛 1 0 tt (plain (λ _. R)),
       (Goes-dropped 𝓛 1 (plain (λ _. usize)) yes (λ κs x w. refl), (Goes-dropped 𝓛 1 (plain (λ _. tenure.the_row)) yes (λ κs x w. refl), tt)),
@@ -51,9 +48,7 @@ give_spec 𝓤 𝓛 𝓜 𝓡 wired =
     (λ κs. (mut_Tells (named 0) κs.0 R, (uint_Tells w64, ((λ x vs is. told (tenure.the_type).name vs is.0), tt)))) (λ κs qs bounds a g are.
     let r = a.0 in
     let id : ℕ = a.1.0 in
-    let mine = a.1.1.0 in
-    let b = r.ref_ptr.0 in
-    let o = r.ref_ptr.1 in
+    let mine = a.1.1.0 in let b = r.ref_ptr.0 in let o = r.ref_ptr.1 in
     let s = r.now in
     let more : List IdMove = noted s.moves (Give id) in
     let new = record s { moves = more } in

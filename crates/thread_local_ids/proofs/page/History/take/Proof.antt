@@ -10,7 +10,6 @@ use types.Owned.{basic}
 use types.Run.{no_more, and_then, returns, enter}
 use types.ByLocal.{alloc_all, pass_all, free_all, look_at, get, sets}
 use types.Part.{agg}
-use contract.Running.{tables}
 use denote.Ref.{MutRef, mut_vals, mut_Tells}
 use denote.Signature.{plain}
 use denote.Steps.{nothing, opens, closes}
@@ -32,20 +31,15 @@ stayed = (stay_ref (0 ∷ []) tt (plain (λ _. R)), tt)
 
 pub take_spec : {M : Type 1} → statement M
 take_spec 𝓤 𝓛 𝓜 𝓡 wired =
-    let c = f.clauses 𝓛 𝓜.mem 𝓡.returns in
-    let W = walk_of 𝓛 f.ended stayed c in
-    let 𝓣 = tables 𝓤 𝓛.H 𝓜 𝓡 𝓡.env in
+    let c = f.clauses 𝓛 𝓜.mem 𝓡.returns in let W = walk_of 𝓛 f.ended stayed c in
     proved 𝓛 f.ended stayed c 𝓜 𝓡 (Goes-ref 𝓛 1 0 tt (plain (λ _. R)), tt)
     f.Key.name code.function (code.unfolded 𝓤 𝓛.H 𝓜 𝓡 wired)
     (λ κs. (mut_vals, tt)) (λ κs. (mut_Tells (named 0) κs.0 R, tt)) (λ κs qs bounds a g are.
-    let r = a.0 in
-    let b = r.ref_ptr.0 in
-    let o = r.ref_ptr.1 in
+    let r = a.0 in let b = r.ref_ptr.0 in let o = r.ref_ptr.1 in
     let s = r.now in
     let more : List IdMove = noted s.moves Take in
     let new = record s { moves = more } in
-    let y : W.Ghost = ((κs, qs, bounds, a, (mut_vals r, tt)), g) in
-    let u : Val = vptr b o in
+    let y : W.Ghost = ((κs, qs, bounds, a, (mut_vals r, tt)), g) in let u : Val = vptr b o in
     qed 𝓛 (((‵ (flft κs.0 qs.0) ⊛ ‵ ftrue) ⊛ ‵ ((MutRef (named 0) κs.0 R).own_val r (u ∷ [])) ⊛ ‵ ftrue)
     ∷ ‵ ftrue ∷ []) ∵
     split ! $ split ! $ move ! (2 ∷ []) $ split ! $ keep ! (0 ∷ 2 ∷ []) $

@@ -1,7 +1,4 @@
 -- A `&` to a page holds what the page says, which can be had twice. Assumes `Logic`.
-use base.Logic.{snd∗}
-use base.Before.{before}
-use types.Logic.{sem}
 use denote.Param.Shared.{copy_shared}
 use denote.Struct.Laws.{field_copy}
 use denote.Struct.Lending.{of_Lends}
@@ -10,14 +7,11 @@ use Rattle.std.specs.contracts.marker.PhantomData as P
 use Rattle.thread_local_ids.specs.Rights.{page_owns}
 use Rattle.thread_local_ids.specs.contracts.page.Page as C
 use Rattle.thread_local_ids.proofs.MoveElements.{page_twice}
-use Rattle.thread_local_ids.proofs.Twice.{lends_twice}
+use Rattle.thread_local_ids.proofs.Twice.{lends_twice, said_laws}
 use Rattle.thread_local_ids.proofs.page.Page.TheLaw.Statement.{statement}
 
 pub shares : statement
 shares = of_Lends C.struct (C.the_codes (P.the_row unit).coded) C.the_heap C.the_lent
-    (λ d p. record {
-      contraction = λ M 𝓤 𝓛 κ. page_twice 𝓛 d.table d.moves;
-      mono = λ M 𝓤 𝓛 κ' κ. snd∗ 𝓤 (sem 𝓛 (before κ' κ)) (sem 𝓛 (page_owns d.table d.moves));
-    })
+    (λ d p. said_laws (page_owns d.table d.moves) (λ M 𝓤 𝓛. page_twice 𝓛 d.table d.moves))
     (copy_shared (P.the_field unit) (field_copy (P.the_type unit) tt), tt)
     (λ M 𝓤 𝓛 d p. lends_twice 𝓛 (page_owns d.table d.moves) (page_twice 𝓛 d.table d.moves) C.the_row.lives)

@@ -1,7 +1,4 @@
 -- A `&` to a tenure holds what its page says, which can be had twice. Assumes `Logic`.
-use base.Logic.{snd∗}
-use base.Before.{before}
-use types.Logic.{sem}
 use denote.Param.Shared.{copy_shared}
 use denote.Struct.Laws.{field_copy}
 use denote.Struct.Lending.{of_Lends}
@@ -11,14 +8,12 @@ use Rattle.thread_local_model.specs.IdMoves.{Take, noted}
 use Rattle.thread_local_ids.specs.Rights.{page_owns, tenure_of}
 use Rattle.thread_local_ids.specs.contracts.page.Tenure as C
 use Rattle.thread_local_ids.proofs.MoveElements.{page_twice, tenure_shows}
-use Rattle.thread_local_ids.proofs.Twice.{lends_shown}
+use Rattle.thread_local_ids.proofs.Twice.{lends_shown, said_laws}
 use Rattle.thread_local_ids.proofs.page.Tenure.TheLaw.Statement.{statement}
 
 pub shares : statement
 shares = of_Lends C.struct (C.the_codes (P.the_row unit).coded) C.the_heap C.the_lent
-    (λ d p. record {
-      contraction = λ M 𝓤 𝓛 κ. page_twice 𝓛 d.table (noted d.before Take);
-      mono = λ M 𝓤 𝓛 κ' κ. snd∗ 𝓤 (sem 𝓛 (before κ' κ)) (sem 𝓛 (page_owns d.table (noted d.before Take)));
-    })
+    (λ d p. said_laws (page_owns d.table (noted d.before Take)) (λ M 𝓤 𝓛. page_twice 𝓛 d.table (noted d.before Take)))
     (copy_shared (P.the_field unit) (field_copy (P.the_type unit) tt), tt)
-    (λ M 𝓤 𝓛 d p. lends_shown 𝓛 (tenure_of d.table d.before) (page_owns d.table (noted d.before Take)) (tenure_shows 𝓛 d.table d.before) C.the_row.lives)
+    (λ M 𝓤 𝓛 d p. lends_shown 𝓛 (tenure_of d.table d.before) (page_owns d.table (noted d.before Take))
+    (tenure_shows 𝓛 d.table d.before) C.the_row.lives)

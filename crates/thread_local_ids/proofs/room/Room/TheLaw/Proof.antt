@@ -1,7 +1,4 @@
 -- A `&` to a room holds what it says, which can be had twice. Assumes `Logic`.
-use base.Logic.{snd∗}
-use base.Before.{before}
-use types.Logic.{sem}
 use denote.Param.Shared.{copy_shared}
 use denote.Struct.Laws.{field_copy}
 use denote.Struct.Lending.{of_Lends}
@@ -10,14 +7,11 @@ use Rattle.std.specs.contracts.marker.PhantomData as P
 use Rattle.thread_local_ids.specs.Rights.{room_owns}
 use Rattle.thread_local_ids.specs.contracts.room.Room as C
 use Rattle.thread_local_ids.proofs.RoomElements.{room_twice}
-use Rattle.thread_local_ids.proofs.Twice.{lends_twice}
+use Rattle.thread_local_ids.proofs.Twice.{lends_twice, said_laws}
 use Rattle.thread_local_ids.proofs.room.Room.TheLaw.Statement.{statement}
 
 pub shares : statement
 shares = of_Lends C.struct (C.the_codes (P.the_row unit).coded) C.the_heap C.the_lent
-    (λ d p. record {
-      contraction = λ M 𝓤 𝓛 κ. room_twice 𝓛 d.table d.ids;
-      mono = λ M 𝓤 𝓛 κ' κ. snd∗ 𝓤 (sem 𝓛 (before κ' κ)) (sem 𝓛 (room_owns d.table d.ids));
-    })
+    (λ d p. said_laws (room_owns d.table d.ids) (λ M 𝓤 𝓛. room_twice 𝓛 d.table d.ids))
     (copy_shared (P.the_field unit) (field_copy (P.the_type unit) tt), tt)
     (λ M 𝓤 𝓛 d p. lends_twice 𝓛 (room_owns d.table d.ids) (room_twice 𝓛 d.table d.ids) C.the_row.lives)
