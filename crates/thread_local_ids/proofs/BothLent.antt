@@ -15,7 +15,6 @@ use Rattle.thread_local_model.proofs.Signs.{signs}
 
 module _ {M : Type 1} {𝓤 : Ura M} (𝓛 : Logic 𝓤) (A : RattleType) where
   open 𝓛 use {H, A as S}
-
   open signs 𝓛 use {⟦◌⟧}
 
   module _ (κ κ' : Lft) (r s : MutBor A.Denot) where

@@ -32,11 +32,10 @@ guard_laws β R L null_ptr x = said_shr_laws ffalse tt
 
 module _ {M : Type 1} {𝓤 : Ura M} (𝓛 : Logic 𝓤) where
   open 𝓛 use {H, A}
-
   open signs 𝓛 use {⟦◌⟧, ◌⊢◌, ◌∗◌}
+
   infix 26 ◌⊢◌
   infixr 35 ◌∗◌
-
   -- a guard's pointer to its lock isn't null
   pub placed : (β : Lft) (R : RattleType) (ok : R.Denot → Type 0) (p : Ptr) (x : R.Denot)
       → ⟦ guard_owns β R ok p x ⟧ ⊢ fact 𝓤 (InBlock p)

@@ -41,12 +41,11 @@ use Rattle.thread_local_model.proofs.Signs.{signs}
 module _ {M : Type 1} {𝓤 : Ura M} (𝓛 : Logic 𝓤) (m : Member) (g : Ghosts m.row.Denot) (d : LockView)
     (L : Lawful 𝓛 (row_of m)) (b o : ℕ) (κ : Lft) where
   open 𝓛 use {H, A}
-
   open signs 𝓛 use {⟦◌⟧, ◌⊢◌, ◌∗◌, ◌-∗◌}
+
   infix 26 ◌⊢◌
   infixr 35 ◌∗◌
   infixr 30 ◌-∗◌
-
   abbrev R : RattleType
   R = row_of m
 

@@ -52,9 +52,9 @@ raised a b h (some q) c d = absurd (not-OpDef-full_share q d.1.0.0)
 
 module _ {M : Type 1} {𝓤 : Ura M} (𝓛 : Logic 𝓤) (key : ℕ) where
   open signs 𝓛 use {⟦◌⟧, ◌⊢◌, ◌∗◌}
+
   infix 26 ◌⊢◌
   infixr 35 ◌∗◌
-
   abbrev row : Element → Row
   row a j = at_if (key == j) a
 

@@ -61,9 +61,9 @@ Line a b = IsPrefix a b ∨₁ IsPrefix b a
 
 module _ {M : Type 1} {𝓤 : Ura M} (𝓛 : Logic 𝓤) where
   open signs 𝓛 use {⟦◌⟧, ◌⊢◌, ◌∗◌}
+
   infix 26 ◌⊢◌
   infixr 35 ◌∗◌
-
   abbrev whole : ℕ → List IdMove → Element
   whole δ moves = (some full_share, kept δ moves)
 

@@ -36,9 +36,9 @@ reached_keyless table n = λ moves. ((λ _. tt), page_if_keyless table moves)
 
 module _ {M : Type 1} {𝓤 : Ura M} (𝓛 : Logic 𝓤) where
   open signs 𝓛 use {⟦◌⟧, ◌⊢◌, ◌∗◌}
+
   infix 26 ◌⊢◌
   infixr 35 ◌∗◌
-
   shown_if : (table : ℕ) (moves : List IdMove) → ⟦ page_owns table moves ⟧ ⊢ ⟦ page_if table moves ⟧
   shown_if table [] = qed 𝓛 (‵ (page_owns table []) ∷ []) ∵ drop ! $ nothing ! $ done !
   shown_if table (move ∷ moves) = id⊢ 𝓤 _

@@ -178,9 +178,9 @@ bounded_at n m false is d = cc
 
 module _ {M : Type 1} {𝓤 : Ura M} (𝓛 : Logic 𝓤) where
   open signs 𝓛 use {⟦◌⟧, ◌⊢◌, ◌∗◌}
+
   infix 26 ◌⊢◌
   infixr 35 ◌∗◌
-
   abbrev stays : ℕ → ℕ → Row
   stays id n j = count_if (id == j) n
 

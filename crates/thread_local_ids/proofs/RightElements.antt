@@ -94,9 +94,9 @@ is_out-above (x ∷ out) n low =
 
 module _ {M : Type 1} {𝓤 : Ura M} (𝓛 : Logic 𝓤) where
   open signs 𝓛 use {⟦◌⟧, ◌⊢◌, ◌∗◌}
+
   infix 26 ◌⊢◌
   infixr 35 ◌∗◌
-
   -- all rights of a new table, under a fresh name
   pub rights_new : emp 𝓤 ⊢ upd 𝓤 (ex 𝓤 (λ (γ : GName). ⟦ rights_own γ [] ⟧))
   unfolding rights_own

@@ -67,9 +67,9 @@ table_whole contents is =
 
 module _ {M : Type 1} {𝓤 : Ura M} (𝓛 : Logic 𝓤) (R : RattleType) where
   open signs 𝓛 use {⟦◌⟧, ◌⊢◌, ◌∗◌}
+
   infix 26 ◌⊢◌
   infixr 35 ◌∗◌
-
   abbrev Rows : Type 0
   Rows = List (List (Option R.Denot))
 

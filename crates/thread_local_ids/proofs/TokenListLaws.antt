@@ -36,9 +36,9 @@ same_name δ γ e = ap (λ (o : Option ℕ). elim o [ None ↦ δ | Some z ↦ z
 
 module _ {M : Type 1} {𝓤 : Ura M} (𝓛 : Logic 𝓤) (R : RattleType) where
   open signs 𝓛 use {⟦◌⟧, ◌⊢◌, ◌∗◌}
+
   infix 26 ◌⊢◌
   infixr 35 ◌∗◌
-
   abbrev Tokens : Type 0
   Tokens = List (TokenView R.Denot)
 

@@ -25,9 +25,9 @@ nameless named = cc
 
 module _ {M : Type 1} {𝓤 : Ura M} (𝓛 : Logic 𝓤) where
   open signs 𝓛 use {⟦◌⟧, ◌⊢◌, ◌∗◌}
+
   infix 26 ◌⊢◌
   infixr 35 ◌∗◌
-
   -- ---- under a name
   -- what is told of an id can be had twice
   told_twice : (γ : GName) (id : ℕ) (g : Gv) → ⟦ told γ id g ⟧ ⊢ ⟦ told γ id g ⟧ ∗ ⟦ told γ id g ⟧

@@ -1,7 +1,7 @@
 -- `new` puts a value that fits behind the word FREE.
 use Rattle.thread_local_model.proofs.Names.{◌≡◌, ℕ, ◌^◌, ◌&&◌, T, true, List, [], ◌∷◌, ◌++◌, sym, refl, subst, lit<}
 use Rattle.thread_local_model.proofs.Names.{w64, dcons, dnil, a_type, Val, vint, vstruct, vcons, vnil, has_ty, WT}
-use Rattle.thread_local_model.proofs.Names.{inst_fn, SProp, ent, id⊢, ftrue, fsep, WpFn, ‵, raw, ◌⊛◌, ◌$◌, ◌∵◌, !}
+use Rattle.thread_local_model.proofs.Names.{inst_fn, SProp, ent, id⊢, ftrue, fsep, WpFn, ‵, raw, ◌⊛◌, ◌$◌, ◌∵◌, ! }
 use Rattle.thread_local_model.proofs.Names.{qed, by, move, keep, drop, split, fsplit, fjoin, fjoin3, fpack}
 use Rattle.thread_local_model.proofs.Names.{rewrite, feq_i, flt_i, suffices, lit, of_opd, no_more, and_then, returns}
 use Rattle.thread_local_model.proofs.Names.{enter, alloc_all, pass_all, free_all, look_at, get, sets, agg, tables}

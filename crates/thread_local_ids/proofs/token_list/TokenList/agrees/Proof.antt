@@ -1,6 +1,6 @@
 -- The list's tokens of a witness's id have its value.
 use Rattle.thread_local_model.proofs.Names.{sym, ◌≡◌, List, [], ◌∷◌, refl, Some, Option, a_type, named}
-use Rattle.thread_local_model.proofs.Names.{vunit, inst_fn, ‵, raw, ◌⊛◌, given, ◌$◌, ◌∵◌, !}
+use Rattle.thread_local_model.proofs.Names.{vunit, inst_fn, ‵, raw, ◌⊛◌, given, ◌$◌, ◌∵◌, ! }
 use Rattle.thread_local_model.proofs.Names.{qed, by, move, keep, drop, split, fsplit, fsplit3, fjoin, learn}
 use Rattle.thread_local_model.proofs.Names.{feq_i, use2, of_opd, unit_lit, returns, enter, alloc_all, pass_all}
 use Rattle.thread_local_model.proofs.Names.{free_all, look_at, sets, yes, RattleType, owns}

@@ -1,6 +1,6 @@
 -- `and_of` puts what a witness shows before the list.
 use Rattle.thread_local_model.proofs.Names.{◌≡◌, List, [], ◌∷◌, refl, a_type, named}
-use Rattle.thread_local_model.proofs.Names.{inst_fn, ‵, raw, ◌⊛◌, ◌$◌, ◌∵◌, !}
+use Rattle.thread_local_model.proofs.Names.{inst_fn, ‵, raw, ◌⊛◌, ◌$◌, ◌∵◌, ! }
 use Rattle.thread_local_model.proofs.Names.{qed, by, move, keep, drop, split, fsplit, fsplit3, fjoin, no_more, and_then}
 use Rattle.thread_local_model.proofs.Names.{use1, returns, enter, alloc_all, pass_all, agg, get}
 use Rattle.thread_local_model.proofs.Names.{free_all, look_at, sets, yes, RattleType, owns}
