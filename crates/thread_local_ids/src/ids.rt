@@ -262,7 +262,12 @@ fn begun(manager: &ThreadIdManager) -> (Rights, History, Room)
 impl Drop for Ids {
     #[inline]
     fn drop(self) {
-        let Self { manager, rights: _, history: _, room: _ } = self;
+        let Self {
+            manager,
+            rights: _,
+            history: _,
+            room: _,
+        } = self;
         drop(manager);
     }
 }

@@ -59,6 +59,19 @@ impl<'a, T> Seen<'a, T> {
         };
         (witness, value)
     }
+
+    /// The same, without `published`. The proof that the check makes of a caller lets that clause go,
+    /// and a library carries no such proof: whoever uses the caller proves it anew.
+    #[inline]
+    pub(crate) fn lend_value(&self, bit: usize) -> (Witness<T>, &'a T)
+        requires within { bit < 64 }
+        requires set { is_set self.now.flags bit ≡ true }
+        ensures told { (result.0.sharing ≡ self.now.of.sharing)
+            × (result.0.id ≡ id_at self.now.of.bucket (self.now.chunk * 64 + bit))
+            × (result.0.value ≡ result.1.now) }
+    {
+        self.give(bit)
+    }
 }
 
 unsafe impl<T: Send> Send for Seen<'_, T> {}

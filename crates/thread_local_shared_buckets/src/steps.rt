@@ -75,7 +75,7 @@ fn take<'a, T>(
         }
     } else {
         match seen {
-            Some(seen) => seen.give(bit),
+            Some(seen) => seen.lend_value(bit),
             None => unreachable!(),
         }
     }

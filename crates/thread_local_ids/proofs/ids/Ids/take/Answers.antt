@@ -1,11 +1,11 @@
 -- The right to the least free id isn't out, since that id isn't held, and nor is its mark.
-use Rattle.std.proofs.Common.{rules, sym, ◌≡◌, ◌≢◌, ◌+◌, ◌^◌, ◌==◌, true, refl, ap, ◌∙◌, arith, if◌then◌else◌, ne_eqb}
-use Rattle.thread_local_model.specs.Held.{is_held, with_least}
-use Rattle.thread_local_model.specs.IdMoves.{held_after}
+use Rattle.std.proofs.Common.{rules, sym, ◌+◌, ◌-◌, ◌^◌, ℕ, true, ap, ◌∙◌, arith}
+use Rattle.thread_local_model.specs.Held.{is_held, least, with_least}
+use Rattle.thread_local_model.specs.IdMoves.{Take, held_after, noted}
 use Rattle.thread_local_model.proofs.IdMoveLaws.{after_take}
-use Rattle.thread_local_ids.specs.Rights.{is_out}
 use Rattle.thread_local_ids.specs.Tied.{TableIds}
 use Rattle.thread_local_model.proofs.HeldLaws.{least_free}
+use Rattle.thread_local_ids.proofs.OutLaws.{untouched}
 use Rattle.thread_local_ids.proofs.ids.Ids.take.Goals as goal
 
 pub take-right-requires : goal.take-right-requires
@@ -15,11 +15,8 @@ take-right-requires c = let held = c.self.inside.manager.held in let id = c.in_o
 pub take-mark-requires : goal.take-mark-requires
 take-mark-requires c = let held = c.self.inside.manager.held in let id = c.in_ok-id.id in let low = c.in_ok-id.ensures.ok.in_range in
     let out = c.self.inside.rights.out in
-    let beyond : id ≢ id + 2 ^ 63 = λ same. omega (arith, same) in
-    let left : (if id == id + 2 ^ 63 then true else is_out out (id + 2 ^ 63))
-    ≡ is_out out (id + 2 ^ 63) = rw (ne_eqb id (id + 2 ^ 63) beyond) refl in
     c.take-right.ensures.out (id + 2 ^ 63)
-    ∙ left
+    ∙ untouched true id (id + 2 ^ 63) out (λ same. omega (arith, same))
     ∙ (c.self.invariant.out id low).1
     ∙ ap (is_held held) c.in_ok-id.ensures.ok.least
     ∙ least_free held
@@ -52,3 +49,32 @@ invariant_of-self-2 c = record {
   room = omega (arith, c.self.invariant.room, c.in_ok-id.ensures.ok.room);
   room_table = c.self.invariant.room_table ∙ sym (c.take-mark.ensures.table ∙ c.take-right.ensures.table);
 }
+
+pub returns-clause-tenure : goal.returns-clause-tenure
+returns-clause-tenure c =
+    let tenure = c.take-tenure.ensures.tenure in (
+      tenure.0 ∙ c.self.invariant.table ∙ ap (λ (t : TableIds). t.table) c.self.view_is,
+      tenure.1 ∙ ap (λ (t : TableIds). t.moves) c.self.view_is,
+    )
+
+pub returns-clause-least : goal.returns-clause-least
+returns-clause-least c =
+    c.in_ok-id.ensures.ok.least
+    ∙ ap least (sym c.self.invariant.moves ∙ ap held_after (sym c.take-tenure.ensures.tenure.1))
+
+pub returns-clause-moves : goal.returns-clause-moves
+returns-clause-moves c = c.take-tenure.ensures.moves.1 ∙ ap (λ (t : TableIds). noted t.moves Take) c.self.view_is
+
+pub returns-clause-table : goal.returns-clause-table
+returns-clause-table c =
+    let id = c.in_ok-id.id in
+    let low = c.in_ok-id.ensures.ok.in_range in
+    let own : ℕ = 2 ^ 63 - 1 in (
+      c.take-mark.ensures.table ∙ c.take-right.ensures.table ∙ ap (λ (t : TableIds). t.table) c.self.view_is,
+      c.take-mark.ensures.out own
+          ∙ untouched true (id + 2 ^ 63) own c.take-right.new.self.out (λ same. omega (arith, same))
+          ∙ c.take-right.ensures.out own
+          ∙ untouched true id own c.self.inside.rights.out (λ same. omega (arith, same, low))
+          ∙ ap (λ (t : TableIds). t.table_right_is_out) c.self.view_is,
+      ap (λ (t : TableIds). t.room) c.self.view_is,
+    )
