@@ -162,11 +162,8 @@ impl<T> ThreadLocal<T> {
         ensures too_large { 2 ^ 63 ≤ capacity → result ≡ Err CapacityError.TooLarge }
         ensures not_too_large { result ≡ Err CapacityError.TooLarge → 2 ^ 63 ≤ capacity }
     {
-        if capacity >= 1 << 63 {
-            return Err(CapacityError::TooLarge);
-        }
-        let mut ids = Ids::with_room(alloc, capacity)?;
         let buckets = Buckets::with_capacity(alloc, capacity)?;
+        let mut ids = Ids::with_room(alloc, capacity)?;
         let right = ids.table_right();
         Ok(ThreadLocal::of(alloc, buckets, ids, right))
     }
