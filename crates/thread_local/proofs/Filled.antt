@@ -24,13 +24,6 @@ pub is_filled : {V : Type 0} (E : Type 0) (makes : V → Type 0) (view : LocalVi
     → IsFilled E makes view view
 is_filled E makes view holds = filled_at E makes view view.value refl holds
 
--- a call that fails at a view fails at each that is equal to it
-pub fails_at : {V E : Type 0} {makes : E → Type 0} {old seen new : LocalView V} {error : E}
-    → seen ≡ old → Fails makes seen new error
-    → Fails makes old new error
-fails_at {V} {E} {makes} {old} {seen} {new} {error} same fails =
-    subst (λ (view : LocalView V). Fails {V = V} {E = E} makes view new error) same fails
-
 -- a slot that shows no value is empty
 pub none_of : {V : Type 0} (value : Option V) → is_some value ≡ false → value ≡ None
 none_of None shows_none = refl

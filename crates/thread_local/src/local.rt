@@ -1,7 +1,6 @@
 //! What a thread has in a table: an id of its own, through which it finds or makes its value.
 ghost use Rattle.std.specs.Prelude.{◌≡◌, ◌≢◌, ◌-◌, ◌^◌, ◌<◌, nat_lt, ⊤, is_some, true, false, None, Some, Ok, Err};
 ghost use Rattle.std.specs.Prelude.{OnOk, OnErr, IfOk, IfErr, IsOk, IsSome, option_map, alloc_error, Result};
-ghost use Rattle.thread_local_model.specs.Learnt.{Missing, Vacant};
 ghost use Rattle.thread_local_model.specs.Place.{IsPlaceOf};
 ghost use Rattle.thread_local_model.specs.Answers.{Get, GetOr, Found, Refused, Failed, answer};
 ghost use Rattle.thread_local_model.specs.Cursor.{fresh_cursor};
@@ -21,8 +20,7 @@ use std::default::MadeWith;
 use std::fmt;
 use std::marker::Model;
 use std::sync::Wait;
-use thread_local_bucket_pointers::Block;
-use thread_local_ids::{HeldId, Page, Reached, Right, Tenure, Token, Told};
+use thread_local_ids::{HeldId, Page, Right, Tenure, Token, Told};
 use thread_local_shared_buckets::{Claim, Iter, Tokens};
 use thread_local_thread_id::Thread;
 
@@ -64,33 +62,6 @@ impl<'a, T, R: Wait> Model for Local<'a, T, R> {
     ghost view = { λ local. local_view local.table.now local.claim local.tenure.before };
 
     ghost invariant = { λ local. IsLocalOf local.table.now local.claim local.tenure };
-}
-
-/// Finds or makes the bucket of a claim that found none: the claim looks again, and installs one
-/// where there still is none.
-#[cold]
-#[inline(never)]
-fn make_bucket<T>(
-    alloc: &Global,
-    claim: &mut Claim<'_, T>,
-    thread: Thread,
-    reached: Reached,
-) -> Result<(), AllocError>
-    requires missing { claim.old.learnt ≡ Missing }
-    requires place { IsPlaceOf thread.bucket thread.index claim.old.id }
-    requires reached { (reached.table ≡ claim.old.table) × (claim.old.id < reached.ids) }
-    ensures same_slot { (claim.new.table ≡ claim.old.table)
-        × (claim.new.sharing ≡ claim.old.sharing)
-        × (claim.new.id ≡ claim.old.id) }
-    ensures ok { OnOk result (claim.new.learnt ≡ Vacant) }
-    ensures err { OnErr result (claim.new.learnt ≡ Missing) }
-{
-    claim.look_again(thread);
-    if claim.is_missing() {
-        let block = Block::new(alloc, thread.bucket_size())?;
-        claim.install(thread, block, reached, alloc);
-    }
-    Ok(())
 }
 
 impl<'a, T, R: Wait> Local<'a, T, R> {
@@ -232,11 +203,8 @@ impl<'a, T, R: Wait> Local<'a, T, R> {
         ensures err { OnErr result ((self.old.known ≡ false) × (self.new ≡ self.old)) }
     {
         let table = self.table;
-        if self.claim.is_missing() {
-            let reached = self.tenure.reached();
-            return make_bucket(&table.alloc, &mut self.claim, thread, reached);
-        }
-        Ok(())
+        let reached = self.tenure.reached();
+        self.claim.find_bucket(&table.alloc, thread, reached)
     }
 
     /// Publishes a value in the slot, which is vacant.
@@ -248,15 +216,12 @@ impl<'a, T, R: Wait> Local<'a, T, R> {
         self.claim.publish(thread, value);
     }
 
-    /// The value, where the slot holds one.
+    /// The value of a slot that holds one, without a test.
     fn value(&self) -> &T
         requires { self.now.value ≢ None }
         ensures { self.now.value ≡ Some result.now }
     {
-        match self.get() {
-            Some(value) => value,
-            None => unreachable!(),
-        }
+        self.claim.value()
     }
 
     /// Whether a value is published in the slot.

@@ -17,7 +17,6 @@ use crate::local::Local;
 use std::alloc::Global;
 use std::default::MadeWith;
 use std::marker::Model;
-use std::mem::replace;
 use std::sync::Wait;
 pub use thread_local_buckets::CapacityError;
 use thread_local_buckets::{Buckets, EntriesMut, IntoEntries, IntoIter, IterMut};
@@ -25,7 +24,7 @@ use thread_local_ids::{Ids, Lock, Right, Room};
 pub use thread_local_ids::{Book, Page, Token, Told};
 pub use thread_local_judged::{Judge, judge_sync, judge_value};
 use thread_local_model::walk::walk_lists_the_map;
-use thread_local_shared_buckets::{Entries, Iter, Shared, Tokens};
+use thread_local_shared_buckets::{Entries, Iter, Shared, Tokens, replace_with};
 use thread_local_thread_id::LocalError;
 
 // `buckets_mut`, `drain` and `get_mut` stand in table/lends.rt.
@@ -163,11 +162,8 @@ impl<T> ThreadLocal<T> {
         ensures too_large { 2 ^ 63 ≤ capacity → result ≡ Err CapacityError.TooLarge }
         ensures not_too_large { result ≡ Err CapacityError.TooLarge → 2 ^ 63 ≤ capacity }
     {
-        if capacity >= 1 << 63 {
-            return Err(CapacityError::TooLarge);
-        }
-        let mut ids = Ids::with_room(alloc, capacity)?;
         let buckets = Buckets::with_capacity(alloc, capacity)?;
+        let mut ids = Ids::with_room(alloc, capacity)?;
         let right = ids.table_right();
         Ok(ThreadLocal::of(alloc, buckets, ids, right))
     }
@@ -340,37 +336,46 @@ impl<T> ThreadLocal<T> {
         ensures reserved { self.new.reserved ≡ self.old.reserved }
         ensures grown { self.new.grown_by_ids ≡ true }
     {
-        self.cleared();
+        replace_with(self, (), emptied);
     }
 
-    /// `clear`, with a name for the sharing other than `past`.
-    fn cleared(&mut self)
+    /// `clear`, by value, with a name for the sharing other than `past`.
+    fn cleared(self) -> ThreadLocal<T>
     where
         T: Drop,
         ghost past: { Option ℕ }
-        ensures table { self.new.table ≢ self.old.table }
-        ensures sharing { IsSome self.new.sharing × (self.new.sharing ≢ past) }
-        ensures reserved { self.new.reserved ≡ self.old.reserved }
-        ensures grown { self.new.grown_by_ids ≡ true }
+        ensures table { result.table ≢ self.table }
+        ensures sharing { IsSome result.sharing × (result.sharing ≢ past) }
+        ensures reserved { result.reserved ≡ self.reserved }
+        ensures grown { result.grown_by_ids ≡ true }
     {
-        self.buckets.judged();
-        let alloc = self.alloc;
         let Self {
             buckets,
             ids,
             table_right: mut old,
             first: _,
             room: _,
-            alloc: _,
-        } = replace(self, ThreadLocal::empty(alloc));
+            alloc,
+        } = self;
+        buckets.judged();
         let mut buckets = buckets.into_buckets();
         buckets.clear();
         let mut ids = ids.into_inner();
         ids.clear();
         let mut fresh = ids.table_right();
         old.apart(&mut fresh);
-        *self = ThreadLocal::of(alloc, buckets, ids, fresh);
+        ThreadLocal::of(alloc, buckets, ids, fresh)
     }
+}
+
+/// What `clear` makes of a table.
+fn emptied<T: Drop>(table: ThreadLocal<T>, _: ()) -> (ThreadLocal<T>, ())
+    ensures table { result.0.table ≢ table.table }
+    ensures sharing { IsSome result.0.sharing × (result.0.sharing ≢ table.sharing) }
+    ensures reserved { result.0.reserved ≡ table.reserved }
+    ensures grown { result.0.grown_by_ids ≡ true }
+{
+    (table.cleared(), ())
 }
 
 impl<T: Sync> ThreadLocal<T> {

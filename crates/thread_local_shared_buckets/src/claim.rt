@@ -1,15 +1,15 @@
 //! A claim of a slot, in three states: its bucket was missing, the slot is vacant, the slot holds a
 //! value. It begins in any of them, and goes on from one to the next.
-ghost use Rattle.std.specs.Prelude.{◌≡◌, ◌≢◌, ◌/◌, ◌^◌, ◌<◌, ◌⊎◌, true, Some, IsSome, MatchBool, MatchOption};
+ghost use Rattle.std.specs.Prelude.{◌≡◌, ◌≢◌, ◌/◌, ◌^◌, ◌<◌, ◌⊎◌, true, Some, IsSome, is_some, OnOk, OnErr, MatchBool, MatchOption};
 ghost use Rattle.thread_local_model.specs.Learnt.{Unknown, Missing, Vacant, Holding, Finds, learnt_by_install, learnt_by_publish};
 ghost use Rattle.thread_local_model.specs.Place.{IsPlaceOf};
 ghost use Rattle.thread_local_bucket_pointers.specs.Slots.{empty_slots, flag_word_at};
-ghost use Rattle.thread_local_shared_buckets.specs.Known.{HasLooked};
+ghost use Rattle.thread_local_shared_buckets.specs.Known.{HasLooked, value_held, with_bucket};
 
 use crate::SharedBucket;
 use crate::claimed::ClaimedSlot;
 use crate::replaced::replace_with;
-use std::alloc::Global;
+use std::alloc::{AllocError, Global};
 use std::marker::Model;
 use thread_local_bucket_pointers::{Block, flag_word_at};
 use thread_local_ids::{HeldId, Reached, Right, Token};
@@ -20,8 +20,9 @@ use thread_local_thread_id::Thread;
 /// the slot: that the bucket was missing, that the slot is vacant, or the value that the slot
 /// holds.
 ///
-/// No call waits or takes memory. Only `look`, `look_again`, `install` and `publish` make atomic
-/// steps. These ask for the place of the id, which the caller computes once.
+/// No call waits, and only `find_bucket` takes memory. Only `look`, `look_again`, `find_bucket`,
+/// `install` and `publish` make atomic steps. These ask for the place of the id, which the caller
+/// computes once.
 pub struct Claim<'a, T> {
     slot: ClaimedSlot<'a, T>,
     held: HeldId,
@@ -133,6 +134,58 @@ impl<'a, T> Claim<'a, T> {
         }
     }
 
+    /// Finds the bucket or makes it, where it was missing. It is refused only where it has to make
+    /// one and memory is out. All ids up to this one were held at once.
+    #[inline]
+    pub fn find_bucket(
+        &mut self,
+        alloc: &Global,
+        thread: Thread,
+        reached: Reached,
+    ) -> Result<(), AllocError>
+        requires place { IsPlaceOf thread.bucket thread.index self.old.id }
+        requires reached { (reached.table ≡ self.old.table) × (self.old.id < reached.ids) }
+        ensures same_slot { (self.new.table ≡ self.old.table)
+            × (self.new.sharing ≡ self.old.sharing)
+            × (self.new.id ≡ self.old.id) }
+        ensures ok { OnOk result (self.new.learnt ≡ with_bucket self.old.learnt) }
+        ensures err { OnErr result ((self.old.learnt ≡ Missing) × (self.new.learnt ≡ Missing)) }
+        ensures reserved { self.new.reserved ≡ self.old.reserved }
+    {
+        if self.is_missing() {
+            return self.make_bucket(alloc, thread, reached);
+        }
+        Ok(())
+    }
+
+    /// `find_bucket` where it was missing: looks again, and installs a block where there still is
+    /// none.
+    #[cold]
+    #[inline(never)]
+    fn make_bucket(
+        &mut self,
+        alloc: &Global,
+        thread: Thread,
+        reached: Reached,
+    ) -> Result<(), AllocError>
+        requires missing { self.old.learnt ≡ Missing }
+        requires place { IsPlaceOf thread.bucket thread.index self.old.id }
+        requires reached { (reached.table ≡ self.old.table) × (self.old.id < reached.ids) }
+        ensures same_slot { (self.new.table ≡ self.old.table)
+            × (self.new.sharing ≡ self.old.sharing)
+            × (self.new.id ≡ self.old.id) }
+        ensures ok { OnOk result (self.new.learnt ≡ Vacant) }
+        ensures err { OnErr result (self.new.learnt ≡ Missing) }
+        ensures reserved { self.new.reserved ≡ self.old.reserved }
+    {
+        self.look_again(thread);
+        if self.is_missing() {
+            let block = Block::new(alloc, thread.bucket_size())?;
+            self.install(thread, block, reached, alloc);
+        }
+        Ok(())
+    }
+
     /// Publishes a value in a vacant slot: the value is written, and then the flag is set, by one
     /// atomic addition that never has to be tried again.
     pub fn publish(&mut self, thread: Thread, value: T)
@@ -181,6 +234,14 @@ impl<'a, T> Claim<'a, T> {
         } else {
             None
         }
+    }
+
+    /// The value of a slot that holds one, without a test, for as long as the claim is borrowed.
+    pub fn value(&self) -> &T
+        requires { is_some (value_held self.now.learnt) ≡ true }
+        ensures { self.now.learnt ≡ Holding result.now }
+    {
+        self.slot.value()
     }
 
     /// A token of what the slot was published with, where it holds a value. At run time it reads

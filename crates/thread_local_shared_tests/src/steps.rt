@@ -4,7 +4,7 @@ ghost use Rattle.thread_local_ids.specs.Rights.{taken_id};
 ghost use Rattle.thread_local_model.specs.Bits.{is_set};
 
 use std::alloc::Global;
-use thread_local_bucket_pointers::{Block, flag_word_at};
+use thread_local_bucket_pointers::flag_word_at;
 use thread_local_buckets::Buckets;
 use thread_local_ids::{HeldId, Ids, Right, Tenure, TokenList};
 use thread_local_shared_buckets::{Claim, Shared};
@@ -60,16 +60,11 @@ pub fn publish<T: Drop>(
     ensures id { (result.0.0.id ≡ held.0.id) × (result.0.1.id ≡ held.0.id) }
 {
     let mut claim = shared.claim(held.0, held.1);
-    if !claim.is_missing() {
-        return publish_claimed(claim, value);
-    }
     let thread = claim.place();
-    let Ok(block) = Block::new(&alloc, thread.bucket_size()) else {
+    if claim.find_bucket(&alloc, thread, tenure.reached()).is_err() {
         return (claim.give_up(), false);
-    };
-    claim.install(thread, block, tenure.reached(), &alloc);
-    claim.publish(thread, value);
-    (claim.give_up(), true)
+    }
+    publish_claimed(claim, value)
 }
 
 /// Publishes a value in a slot that is vacant, and answers whether it did.

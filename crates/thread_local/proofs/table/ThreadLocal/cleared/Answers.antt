@@ -1,5 +1,4 @@
-use Rattle.std.proofs.Common.{◌≢◌, ◌∙◌, sym, ap, subst, lit<}
-use Rattle.std.specs.Prelude.{IsSome}
+use Rattle.std.proofs.Common.{◌∙◌, sym, ap, lit<}
 use Rattle.thread_local_ids.specs.declared.right.Right.{Right}
 use Rattle.thread_local.specs.Tables.{ThreadLocalView}
 use Rattle.thread_local.proofs.table.ThreadLocal.cleared.Goals as goal
@@ -34,31 +33,25 @@ pub returns-clause-table : goal.returns-clause-table
 returns-clause-table g c = λ same.
     let right = c.table_right-fresh.ensures.right in
     c.apart.ensures.ids
-    (c.buckets.invariant.1
-    ∙ ap (λ (t : ThreadLocalView). t.table) c.buckets.view_is
-    ∙ ap (λ (t : ThreadLocalView). t.table) c.replace.ensures.value
+    (c.self.invariant.1
+    ∙ ap (λ (t : ThreadLocalView). t.table) c.self.view_is
     ∙ sym same
-    ∙ ap (λ (t : ThreadLocalView). t.table) c.drop.view_is
     ∙ c.of.ensures.table
     ∙ c.table_right-fresh.ensures.same.1
     ∙ sym right.0)
-    (c.buckets.invariant.2 ∙ sym right.1)
+    (c.self.invariant.2 ∙ sym right.1)
 
 pub returns-clause-sharing : goal.returns-clause-sharing
-returns-clause-sharing g c =
-    subst (λ (t : ThreadLocalView). IsSome t.sharing × (t.sharing ≢ g.past)) (sym c.drop.view_is) c.of.ensures.sharing
+returns-clause-sharing g c = c.of.ensures.sharing
 
 pub returns-clause-reserved : goal.returns-clause-reserved
 returns-clause-reserved g c =
-    ap (λ (t : ThreadLocalView). t.reserved) c.drop.view_is
-    ∙ c.of.ensures.reserved
+    c.of.ensures.reserved
     ∙ c.clear.ensures.reserved
     ∙ c.into_buckets-buckets.ensures
-    ∙ ap (λ (t : ThreadLocalView). t.reserved) c.buckets.view_is
-    ∙ ap (λ (t : ThreadLocalView). t.reserved) c.replace.ensures.value
+    ∙ ap (λ (t : ThreadLocalView). t.reserved) c.self.view_is
 
 pub returns-clause-grown : goal.returns-clause-grown
 returns-clause-grown g c =
-    ap (λ (t : ThreadLocalView). t.grown_by_ids) c.drop.view_is
-    ∙ c.of.ensures.grown
+    c.of.ensures.grown
     ∙ grown_cleared c.clear.new.self c.into_buckets-buckets.result.reserved c.clear.ensures.reserved c.clear.ensures.stands

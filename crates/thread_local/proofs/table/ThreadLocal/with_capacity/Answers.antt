@@ -1,10 +1,16 @@
-use Rattle.std.proofs.Common.{◌∙◌, ℕ, ◌<◌, ◌≤◌, ◌^◌, sym, lit<, arith}
+use Rattle.std.proofs.Common.{◌∙◌, ℕ, ◌<◌, ◌≤◌, ◌-◌, ◌^◌, sym, subst, lit<, arith}
+use Rattle.std.proofs.Math.Nat.{lt_of_not-le, min-eq_left}
+use Rattle.std.specs.Prelude.{min}
 use Rattle.thread_local.proofs.Told.{ok_not_err}
 use Rattle.thread_local.proofs.table.ThreadLocal.with_capacity.Goals as goal
 use Rattle.thread_local.proofs.Grown.{grown_with_capacity}
 
-not_large : (capacity : ℕ) → capacity < 2 ^ 63 → 2 ^ 63 ≤ capacity → ⊥
-not_large capacity small large = omega arith
+-- room for as many ids as a capacity that isn't too large, or for all, is room for the capacity
+fits : (capacity room : ℕ) → (2 ^ 63 ≤ capacity → ⊥) → min capacity (2 ^ 63 - 1) ≤ room → capacity ≤ room
+fits capacity room large least =
+    let small : capacity < 2 ^ 63 = lt_of_not-le large in
+    let low : capacity ≤ 2 ^ 63 - 1 = omega (arith, small) in
+    subst (λ (n : ℕ). n ≤ room) (min-eq_left low) least
 
 -- The search for these takes a second.
 pub of-requires : goal.of-requires
@@ -27,7 +33,16 @@ of-requires g c = λ κs within.
     )
 
 pub returns-clause-too_large : goal.returns-clause-too_large
-returns-clause-too_large g c = λ large. absurd (not_large c.args.capacity c.if-capacity.false large)
+returns-clause-too_large g c = λ large. absurd (ok_not_err (c.in_ok-buckets.ensures.too_large large))
+
+pub returns-in_err-ids-clause-too_large : goal.returns-in_err-ids-clause-too_large
+returns-in_err-ids-clause-too_large g c = λ large. absurd (ok_not_err (c.in_ok-buckets.ensures.too_large large))
+
+pub returns-clause-room : goal.returns-clause-room
+returns-clause-room g c =
+    subst (λ (room : ℕ). c.args.capacity ≤ room) (sym (c.of.ensures.room ∙ c.table_right-right.ensures.same.3))
+    (fits c.args.capacity c.in_ok-ids.ids.room (λ large. ok_not_err (c.in_ok-buckets.ensures.too_large large))
+    c.in_ok-ids.ensures.made_room)
 
 pub returns-clause-not_too_large : goal.returns-clause-not_too_large
 returns-clause-not_too_large g c = λ told. absurd (ok_not_err told)

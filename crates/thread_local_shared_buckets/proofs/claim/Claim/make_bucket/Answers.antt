@@ -1,8 +1,13 @@
-use Rattle.std.proofs.Common.{◌≡◌, ◌∙◌, ◌<◌, ℕ, Some, sym, ap, subst, ⊎_elim}
+use Rattle.std.proofs.Common.{◌≡◌, ◌∙◌, ◌<◌, ℕ, Some, Result, Ok, Err, sym, ap, subst, ⊎_elim}
+use Rattle.std.specs.Prelude.{OnErr}
 use Rattle.thread_local_model.specs.Learnt.{Learnt, Missing, Vacant, learnt_by_install}
 use Rattle.thread_local_model.specs.Place.{IsPlaceOf}
-use Rattle.thread_local.proofs.Filled.{on_err}
-use Rattle.thread_local.proofs.local.make_bucket.Goals as goal
+use Rattle.thread_local_shared_buckets.proofs.claim.Claim.make_bucket.Goals as goal
+
+-- a fact that holds anyway holds at an error
+on_err : {A E : Type 0} (result : Result A E) (P : Type 0) → P → OnErr result P
+on_err (Ok x) P holds = tt
+on_err (Err e) P holds = holds
 
 -- The search for these takes seconds.
 pub returns-in_err-block-clause-same_slot : goal.returns-in_err-block-clause-same_slot
@@ -47,3 +52,12 @@ install-requires-clause-reached g c = (
   c.requires.reached.0 ∙ sym c.look_again.ensures.same_slot.0,
   subst (λ (id : ℕ). id < c.args.reached.ids) (sym c.look_again.ensures.same_slot.2) c.requires.reached.1,
 )
+
+pub returns-in_err-block-clause-reserved : goal.returns-in_err-block-clause-reserved
+returns-in_err-block-clause-reserved g c = c.look_again.ensures.reserved.0
+
+pub returns-in_ok-block-clause-reserved : goal.returns-in_ok-block-clause-reserved
+returns-in_ok-block-clause-reserved g c = c.install.ensures.reserved ∙ c.look_again.ensures.reserved.0
+
+pub returns-else-is_missing-clause-reserved : goal.returns-else-is_missing-clause-reserved
+returns-else-is_missing-clause-reserved g c = c.look_again.ensures.reserved.0
