@@ -5,17 +5,20 @@
 //! A thread of the Rust crate is what a `Local` is there: it takes its id at its first call, here
 //! `opened::own_id`, and gives it back at its end. That end lies between the thread's last stamp and
 //! one that is drawn once it was joined. Each of several lines of threads starts and joins one thread
-//! after another.
+//! after another. In every eleventh table the threads of a round hold 1100 ids together.
 
 use std::env;
 use std::fmt::Write as _;
 use std::io::{self, Write as _};
 use std::sync::atomic::{AtomicU64, Ordering::SeqCst};
+use std::sync::Barrier;
 use std::thread;
 use thread_local::{opened, ThreadLocal};
 
 const ROUNDS: u64 = 8;
 const CALLS: u64 = 1000;
+const MANY: u64 = 1100;
+const OWNER: u64 = MANY;
 
 static CLOCK: AtomicU64 = AtomicU64::new(1);
 static MADE: AtomicU64 = AtomicU64::new(1);
@@ -60,14 +63,16 @@ fn walk(calls: &mut Vec<Call>, table: &ThreadLocal<u64>, most: usize) {
     });
 }
 
-/// What a thread calls, from its first stamp to its last. Its id is taken at the first call.
-fn live(table: &ThreadLocal<u64>, local: u64, count: u64, seed: u64) -> (Vec<Call>, u64) {
+/// What a thread calls, from its first stamp to its last. Its id is taken at the first call. At a
+/// gate it waits then until so many threads have theirs.
+fn live(table: &ThreadLocal<u64>, local: u64, count: u64, seed: u64, gate: Option<&Barrier>) -> (Vec<Call>, u64) {
     let mut calls = Vec::with_capacity(64);
     let mut state = seed;
     call(&mut calls, "local", || {
         let id = opened::own_id();
         format!("{local} - {id}")
     });
+    gate.map(Barrier::wait);
     for _ in 0..count {
         state = stirred(state);
         match (state >> 33) % 16 {
@@ -104,11 +109,40 @@ fn line(table: &ThreadLocal<u64>, count: u64, seed: u64) -> Vec<Call> {
         state = stirred(state);
         let (local, most, seed) = (fresh(), (state >> 40) % 24, state);
         let (mut made, before) =
-            thread::scope(|scope| scope.spawn(move || live(table, local, most, seed)).join().unwrap());
+            thread::scope(|scope| scope.spawn(move || live(table, local, most, seed, None)).join().unwrap());
         calls.append(&mut made);
         calls.push((before, stamp(), format!("drop {local} - -")));
     }
     calls
+}
+
+/// Lines of threads, side by side. Answers the calls of each.
+fn lines(table: &ThreadLocal<u64>, threads: u64, seed: u64) -> Vec<Vec<Call>> {
+    thread::scope(|scope| {
+        let started: Vec<_> = (0..threads)
+            .map(|thread| scope.spawn(move || line(table, CALLS / threads + 1, seed + thread)))
+            .collect();
+        started.into_iter().map(|thread| thread.join().unwrap()).collect()
+    })
+}
+
+/// Starts many threads, and joins them once each has its id. Answers the calls of each.
+fn crowd(table: &ThreadLocal<u64>, seed: u64) -> Vec<Vec<Call>> {
+    let gate = &Barrier::new(MANY as usize);
+    thread::scope(|scope| {
+        let started: Vec<_> = (0..MANY)
+            .map(|number| {
+                let (local, seed) = (fresh(), stirred(seed + number));
+                (local, scope.spawn(move || live(table, local, (seed >> 40) % 4, seed, Some(gate))))
+            })
+            .collect();
+        let ended = started.into_iter().map(|(local, thread)| {
+            let (mut calls, before) = thread.join().unwrap();
+            calls.push((before, stamp(), format!("drop {local} - -")));
+            calls
+        });
+        ended.collect()
+    })
 }
 
 /// What the owner calls after a round.
@@ -151,19 +185,12 @@ fn main() -> io::Result<()> {
         for round in 0..ROUNDS {
             writeln!(out, "round")?;
             let shared = &table;
-            let lines: Vec<Vec<Call>> = thread::scope(|scope| {
-                let started: Vec<_> = (0..threads)
-                    .map(|thread| {
-                        let seed = seed * 1_000_003 + (number * ROUNDS + round) * 64 + thread;
-                        scope.spawn(move || line(shared, CALLS / threads + 1, seed))
-                    })
-                    .collect();
-                started.into_iter().map(|thread| thread.join().unwrap()).collect()
-            });
+            let first = seed * 1_000_003 + (number * ROUNDS + round) * 64;
+            let lines = if number % 11 == 5 { crowd(shared, first) } else { lines(shared, threads, first) };
             for (thread, calls) in lines.into_iter().enumerate() {
                 print(&mut out, thread as u64, calls)?;
             }
-            print(&mut out, threads, between(&mut table, round))?;
+            print(&mut out, OWNER, between(&mut table, round))?;
         }
         let mut calls = Vec::new();
         call(&mut calls, "into_iter -", || {
@@ -174,7 +201,7 @@ fn main() -> io::Result<()> {
             }
             line
         });
-        print(&mut out, threads, calls)?;
+        print(&mut out, OWNER, calls)?;
     }
     out.flush()
 }

@@ -1,9 +1,9 @@
 //! Threads that race on one table. Each takes `Local`s, publishes, drops and walks at random, and
 //! checks what it finds; between rounds the table's owner checks what they left. The moves differ
-//! from run to run only by what the threads meet. The arguments are for how many seconds, and how
-//! many threads. What was counted is printed, and a check that failed ends in status 1. With no
-//! argument four threads race for a hundred rounds, and only what each such race counts alike is
-//! printed.
+//! from run to run only by what the threads meet. A call that is refused memory is counted, and the
+//! thread goes on. The arguments are for how many seconds, and how many threads. What was counted is
+//! printed, and a check that failed ends in status 1. With no argument four threads race for a
+//! hundred rounds, and only what each such race counts alike is printed.
 #![tactic(auto)]
 
 use std::alloc::{AllocError, Global};
@@ -65,12 +65,14 @@ impl Drop for Mark {
     }
 }
 
-/// What threads count together: values published and dropped, `Local`s taken, and what went wrong.
+/// What threads count together: values published and dropped, `Local`s taken, calls that were
+/// refused memory, and what went wrong.
 #[derive(Drop)]
 struct Counts {
     published: AtomicU64,
     dropped: Arc<AtomicU64, Global>,
     taken: AtomicU64,
+    refused: AtomicU64,
     faults: AtomicU64,
 }
 
@@ -80,6 +82,7 @@ impl Counts {
             published: AtomicU64::new(0),
             dropped: Arc::new(alloc, AtomicU64::new(0))?,
             taken: AtomicU64::new(0),
+            refused: AtomicU64::new(0),
             faults: AtomicU64::new(0),
         })
     }
@@ -88,6 +91,13 @@ impl Counts {
     fn standing(&self) -> u64 {
         let dropped = self.dropped.load(SeqCst);
         self.published.load(SeqCst).wrapping_sub(dropped)
+    }
+
+    /// Counts a call that was refused memory.
+    fn tell_of<T, E>(&self, answer: &Result<T, E>) {
+        if answer.is_err() {
+            self.refused.fetch_add(1, SeqCst);
+        }
     }
 
     /// Counts a fault where something doesn't hold.
@@ -164,7 +174,11 @@ impl<'a, R: Wait> Held<'a, R> {
                 drop(back);
                 Ok(())
             }
-            Err(SetError::Memory(_)) => Err(AllocError),
+            Err(SetError::Memory(back)) => {
+                counts.published.fetch_add(1, SeqCst);
+                drop(back);
+                Err(AllocError)
+            }
         }
     }
 
@@ -231,7 +245,7 @@ fn moves<R: Wait>(
         state = state
             .wrapping_mul(6364136223846793005)
             .wrapping_add(1442695040888963407);
-        make_move(table, rt, counts, &mut all, state)?;
+        counts.tell_of(&make_move(table, rt, counts, &mut all, state));
     }
     for held in all {
         held.give_back(counts);
@@ -252,8 +266,7 @@ fn round<R: Threads + Wait + Sync>(
         for number in 0..threads {
             let state = before.wrapping_mul(threads).wrapping_add(number);
             let started = scope.spawn(move || {
-                let moved = moves(table, rt, alloc, counts, state);
-                counts.expect(moved.is_ok());
+                counts.tell_of(&moves(table, rt, alloc, counts, state));
             });
             counts.expect(started.is_ok());
         }
@@ -331,12 +344,13 @@ fn tell<R: Print>(
 ) -> io::Result<()> {
     let taken = counts.taken.load(SeqCst);
     let published = counts.published.load(SeqCst);
+    let refused = counts.refused.load(SeqCst);
     let faults = counts.faults.load(SeqCst);
     print!(rt; "{threads} threads, {rounds} rounds, {taken} Locals taken, ")?;
     if let Until::Seconds(_) = until {
         print!(rt; "{published} values published and dropped, ")?;
     }
-    println!(rt; "{faults} faults")?;
+    println!(rt; "{refused} calls refused, {faults} faults")?;
     if faults == 0 {
         Ok(())
     } else {

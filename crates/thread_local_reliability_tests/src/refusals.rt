@@ -124,10 +124,11 @@ impl Publishing {
     {
         let (mut local, stood) = match taken(table, rt) {
             Ok(local) => (local, true),
-            Err(_) => {
+            Err(LocalError::Memory(_)) => {
                 let stood = earlier_stand();
                 (taken(table, rt)?, stood)
             }
+            Err(LocalError::Exhausted) => return Err(LocalError::Exhausted),
         };
         let done = match self.tried(&mut local, rt, number) {
             Ok(done) => done,

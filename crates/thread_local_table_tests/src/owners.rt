@@ -44,6 +44,11 @@ fn counted_in_a_table(table: &mut ThreadLocal<u32>) -> (usize, u128)
     counted(table.buckets_mut())
 }
 
+/// The same of the buckets that a table is taken apart into.
+fn counted_by_value(table: ThreadLocal<u32>) -> (usize, u128) {
+    counted(&mut table.into_buckets())
+}
+
 /// How many values of any type a table's buckets have.
 fn counted_of_any_type<T>(table: &mut ThreadLocal<T>) -> usize
     ensures { (table.new.table ≡ table.old.table) × (table.new.reserved ≡ table.old.reserved) }
@@ -59,6 +64,12 @@ fn put(table: &mut ThreadLocal<u32>, value: u32) -> Result<(), AllocError> {
     }
 }
 
+/// What a walk by value gives first, of three values.
+fn three_moved_out(table: ThreadLocal<u32>) -> [Option<u32>; 3] {
+    let mut values = table.into_iter();
+    [values.next(), values.next(), values.next()]
+}
+
 fn counted_twice(table: &mut ThreadLocal<u32>) -> ((usize, u128), usize) {
     (counted_in_a_table(table), counted_of_any_type(table))
 }
@@ -71,8 +82,13 @@ fn an_owner_finds_and_puts_values_in_a_table(rt: HostRuntime) -> Result<(), Fail
     let found = counted_twice(&mut table);
     let are_lent = lends(&mut table, &[7, 30]);
     assert_eq!(rt;
-        (published, found, are_lent),
-        (Some([None, Some(7), Some(7)]), ((2, 37), 2), true)
+        (published, found, are_lent, three_moved_out(table)),
+        (
+            Some([None, Some(7), Some(7)]),
+            ((2, 37), 2),
+            true,
+            [Some(7), Some(30), None]
+        )
     );
     Ok(())
 }
@@ -222,9 +238,10 @@ fn an_owner_reaches_a_value_by_its_id(rt: HostRuntime) -> Result<(), Fail> {
     put(&mut table, 30)?;
     let written = [2, 0, 3, 9223372036854775806].map(|id| write_at(&mut table, id, 40));
     let again = write_at(&mut table, 2, 50);
+    let past = past_the_last(&mut table);
     assert_eq!(rt;
-        (written, again, past_the_last(&mut table)),
-        ([Ok(30), Err(40), Err(40), Err(40)], Ok(40), true)
+        (written, again, past, counted_by_value(table)),
+        ([Ok(30), Err(40), Err(40), Err(40)], Ok(40), true, (1, 50))
     );
     Ok(())
 }

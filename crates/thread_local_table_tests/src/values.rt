@@ -133,6 +133,18 @@ fn a_slot_is_filled_once(rt: HostRuntime) {
     );
 }
 
+/// Whether a new `Local` sets its value, and sets it again.
+fn set_twice<R: Wait>(table: &ThreadLocal<u32>, rt: &R) -> Option<[bool; 2]> {
+    let mut local = table.local(rt).ok()?;
+    Some([local.set(4).is_ok(), local.set(5).is_ok()])
+}
+
+#[test]
+fn a_value_is_set_once(rt: HostRuntime) {
+    let table = numbers(rt.alloc());
+    assert_eq!(rt; set_twice(&table, &rt), Some([true, false]));
+}
+
 /// What a new `Local` is told when it publishes the default, and what it finds then.
 fn default_published<R: Wait>(table: &ThreadLocal<u32>, rt: &R) -> Option<[Option<u32>; 2]> {
     let mut local = table.local(rt).ok()?;
