@@ -238,7 +238,7 @@ impl<'a, T, R: Wait> Local<'a, T, R> {
         ensures ok { OnOk result (IsFilled ⊤ (F.post create) self.old self.new) }
         ensures err { OnErr result (IsRefused ⊤ self.old self.new) }
         ensures granted { self.old.known ≡ true → IsOk result }
-        ensures held { IsSome self.old.value → IsOk result }
+        ensures has_value { IsSome self.old.value → IsOk result }
     {
         if !self.is_published() {
             let thread = self.place();
@@ -255,7 +255,7 @@ impl<'a, T, R: Wait> Local<'a, T, R> {
         ensures ok { OnOk result (IsFilled ⊤ T.is_made_with self.old self.new) }
         ensures err { OnErr result (IsRefused ⊤ self.old self.new) }
         ensures granted { self.old.known ≡ true → IsOk result }
-        ensures held { IsSome self.old.value → IsOk result }
+        ensures has_value { IsSome self.old.value → IsOk result }
     {
         let table = self.table;
         let alloc = table.alloc;
@@ -330,7 +330,7 @@ impl<'a, T, R: Wait> Local<'a, T, R> {
             → Fails (λ e. F.post create (Err e)) self.old self.new error }
         ensures memory { result ≡ Err (TryError.Memory alloc_error) → IsRefused E self.old self.new }
         ensures granted { self.old.known ≡ true → result ≢ Err (TryError.Memory alloc_error) }
-        ensures held { IsSome self.old.value → IsOk result }
+        ensures has_value { IsSome self.old.value → IsOk result }
         ensures failed { IfErr result (λ error. IfCreate error (λ e. F.post create (Err e))) }
         ensures empty { OnErr result (self.new.value ≡ None) }
     {
@@ -367,7 +367,7 @@ impl<'a, T, R: Wait> Local<'a, T, R> {
             → (made : Result T E)
             → answer (knows self.old) (GetOr made true) ≡ Refused }
         ensures granted { self.old.known ≡ true → result ≢ Err (TryError.Memory alloc_error) }
-        ensures held { IsSome self.old.value → IsOk result }
+        ensures has_value { IsSome self.old.value → IsOk result }
         ensures failed { IfErr result (λ error. IfCreate error (λ e. F.post create (Err e))) }
     {
         self.try_fill(create)?;
@@ -392,7 +392,7 @@ impl<'a, T: Sync, R: Wait> Local<'a, T, R> {
             → Fails (λ e. F.post create (Err e)) self.old self.new error }
         ensures memory { result ≡ Err (TryError.Memory alloc_error) → IsRefused E self.old self.new }
         ensures granted { self.old.known ≡ true → result ≢ Err (TryError.Memory alloc_error) }
-        ensures held { IsSome self.old.value → IsOk result }
+        ensures has_value { IsSome self.old.value → IsOk result }
         ensures failed { IfErr result (λ error. IfCreate error (λ e. F.post create (Err e))) }
         ensures empty { OnErr result (self.new.value ≡ None) }
     {

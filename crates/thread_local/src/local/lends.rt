@@ -35,7 +35,7 @@ impl<'a, T, R: Wait> Local<'a, T, R> {
         ensures answers { MatchResult result (λ there. IsAnswered ⊤ (F.post create) self.old there.now) (λ _.
             (made : Result T ⊤) → answer (knows self.old) (GetOr made true) ≡ Refused) }
         ensures granted { self.old.known ≡ true → IsOk result }
-        ensures held { IsSome self.old.value → IsOk result }
+        ensures has_value { IsSome self.old.value → IsOk result }
     {
         self.fill(create)?;
         Ok(self.value())
@@ -59,7 +59,7 @@ impl<'a, T, R: Wait> Local<'a, T, R> {
         ensures answers { MatchResult result (λ there. IsAnswered ⊤ T.is_made_with self.old there.now) (λ _.
             (made : Result T ⊤) → answer (knows self.old) (GetOr made true) ≡ Refused) }
         ensures granted { self.old.known ≡ true → IsOk result }
-        ensures held { IsSome self.old.value → IsOk result }
+        ensures has_value { IsSome self.old.value → IsOk result }
     {
         self.fill_default()?;
         Ok(self.value())

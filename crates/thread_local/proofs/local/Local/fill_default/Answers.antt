@@ -7,5 +7,5 @@ returns-clause-err g c = c.fill.ensures.err
 pub returns-clause-granted : goal.returns-clause-granted
 returns-clause-granted g c = c.fill.ensures.granted
 
-pub returns-clause-held : goal.returns-clause-held
-returns-clause-held g c = c.fill.ensures.held
+pub returns-clause-has_value : goal.returns-clause-has_value
+returns-clause-has_value g c = c.fill.ensures.has_value

@@ -14,6 +14,6 @@ returns g c =
         leaves = tt;
         answers = answered fills;
         granted = λ _. refl;
-        held = λ _. refl;
+        has_value = λ _. refl;
       },
     )

@@ -19,8 +19,8 @@ returns-then-is_published-clause-memory g c = λ told. absurd (ok_not_err told)
 pub returns-then-is_published-clause-granted : goal.returns-then-is_published-clause-granted
 returns-then-is_published-clause-granted g c = λ known told. ok_not_err told
 
-pub returns-then-is_published-clause-held : goal.returns-then-is_published-clause-held
-returns-then-is_published-clause-held g c = λ some. refl
+pub returns-then-is_published-clause-has_value : goal.returns-then-is_published-clause-has_value
+returns-then-is_published-clause-has_value g c = λ some. refl
 
 pub find_bucket-requires-clause-empty : goal.find_bucket-requires-clause-empty
 find_bucket-requires-clause-empty g c = none_of c.args.self.now.value (sym c.is_published.ensures ∙ c.if-is_published.false)
@@ -39,8 +39,8 @@ returns-in_err-find_bucket-clause-memory g c =
 pub returns-in_err-find_bucket-clause-granted : goal.returns-in_err-find_bucket-clause-granted
 returns-in_err-find_bucket-clause-granted g c = λ known. absurd (false_not_true (sym c.in_err-find_bucket.ensures.err.0 ∙ known))
 
-pub returns-in_err-find_bucket-clause-held : goal.returns-in_err-find_bucket-clause-held
-returns-in_err-find_bucket-clause-held g c = λ some.
+pub returns-in_err-find_bucket-clause-has_value : goal.returns-in_err-find_bucket-clause-has_value
+returns-in_err-find_bucket-clause-has_value g c = λ some.
     absurd (false_not_true (subst (λ (value : Option g.row.T.Denot). IsSome value)
     (none_of c.args.self.now.value (sym c.is_published.ensures ∙ c.if-is_published.false))
     some))
@@ -86,11 +86,11 @@ returns-in-Err-clause-memory g c = λ told. absurd (create_not_memory told)
 pub returns-in-Err-clause-granted : goal.returns-in-Err-clause-granted
 returns-in-Err-clause-granted g c = λ known told. create_not_memory told
 
-pub returns-in-Ok-clause-held : goal.returns-in-Ok-clause-held
-returns-in-Ok-clause-held g c = λ some. refl
+pub returns-in-Ok-clause-has_value : goal.returns-in-Ok-clause-has_value
+returns-in-Ok-clause-has_value g c = λ some. refl
 
-pub returns-in-Err-clause-held : goal.returns-in-Err-clause-held
-returns-in-Err-clause-held g c = λ some.
+pub returns-in-Err-clause-has_value : goal.returns-in-Err-clause-has_value
+returns-in-Err-clause-has_value g c = λ some.
     absurd (false_not_true (subst (λ (value : Option g.row.T.Denot). IsSome value)
     (none_of c.args.self.now.value (sym c.is_published.ensures ∙ c.if-is_published.false))
     some))
