@@ -17,7 +17,7 @@ use thread_local_shared_buckets::Iter;
 
 fn crosses<X: Send + Sync>(_: &X) {}
 
-fn is_sent<X: Send>(_: &X) {}
+pub fn is_sent<X: Send>(_: &X) {}
 
 /// The second value of two is the first one's.
 fn first_of_two<R: Wait>(

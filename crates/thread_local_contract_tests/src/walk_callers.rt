@@ -1,14 +1,13 @@
 //! Callers of walks at concrete types and generic ones, which are proved and not run.
 ghost use Rattle.std.specs.Prelude.{◌≡◌, true, Some};
 
+use crate::callers::is_sent;
 use std::sync::Wait;
 use thread_local::ThreadLocal;
 use thread_local::local::Local;
 use thread_local_buckets::{IntoIter, IterMut};
 use thread_local_judged::judge_sync;
 use thread_local_shared_buckets::{Entries, Iter, Tokens};
-
-fn is_sent<X: Send>(_: &X) {}
 
 /// The walk of a `Local` that holds a value gives it.
 fn finds_own<R: Wait>(local: &Local<'_, u32, R>, number: u32) -> bool
