@@ -4,8 +4,6 @@ ghost use Rattle.thread_local_ids.specs.Rights.{taken_id};
 
 use std::mem::{forget, swap};
 use std::sync::Wait;
-use std::sync::atomic::AtomicBool;
-use std::sync::atomic::Ordering::SeqCst;
 use std::test::Fail;
 use std::thread;
 use std::thread::Threads;
@@ -25,30 +23,6 @@ fn take_two(ids: &mut Ids) -> Result<(Taken, Taken), LocalError>
     Ok((first, second))
 }
 
-/// Takes an id and gives it back, `times` times. Answers how often another thread had the same id
-/// at that moment, or that memory ran out.
-fn take_and_give<R: Wait>(
-    ids: &Lock<Ids>,
-    rt: &R,
-    used: &[AtomicBool; 4],
-    times: u64,
-) -> Result<u64, LocalError> {
-    let mut shared = 0u64;
-    for _ in 0..times {
-        let (held, right, tenure) = ids.lock(rt).take()?;
-        if let Some(mark) = used.get(held.id) {
-            if mark.swap(true, SeqCst) {
-                shared = shared.saturating_add(1);
-            }
-            mark.store(false, SeqCst);
-        } else {
-            shared = shared.saturating_add(1);
-        }
-        ids.lock(rt).give(held, right, tenure);
-    }
-    Ok(shared)
-}
-
 /// Gives an id back, and answers it.
 fn give_back<R: Wait>(ids: &Lock<Ids>, rt: &R, held: Taken) -> usize
     requires table { (held.1.table ≡ ids.now.tag)
@@ -62,7 +36,7 @@ fn give_back<R: Wait>(ids: &Lock<Ids>, rt: &R, held: Taken) -> usize
 }
 
 /// Takes an id, and never gives it back.
-fn take_for_ever<R: Wait>(ids: &Lock<Ids>, rt: &R) -> Result<usize, LocalError> {
+pub fn take_for_ever<R: Wait>(ids: &Lock<Ids>, rt: &R) -> Result<usize, LocalError> {
     Ok(ids.lock(rt).take()?.0.id)
 }
 
@@ -82,32 +56,6 @@ fn room_that_was_made_is_enough(rt: HostRuntime) -> Result<(), Fail> {
         assert_eq!(rt; ids.take()?.0.id, id);
     }
     assert!(rt; !ids.is_held(67));
-    Ok(())
-}
-
-#[test]
-fn threads_hold_unlike_ids(rt: HostRuntime) -> Result<(), Fail> {
-    let ids = Lock::new(Ids::new(rt.alloc()));
-    let used = [
-        AtomicBool::new(false),
-        AtomicBool::new(false),
-        AtomicBool::new(false),
-        AtomicBool::new(false),
-    ];
-    let (there, marks) = (&ids, &used);
-    let run = || take_and_give(there, &rt, marks, 10_000);
-    let (a, b) = thread::join(
-        &rt,
-        || thread::join(&rt, run, run),
-        || thread::join(&rt, run, run),
-    );
-    for shared in [a.0, a.1, b.0, b.1] {
-        assert_eq!(rt; shared, Ok(0));
-    }
-    // None of the ids is held, so the next are the first.
-    for id in 0..4 {
-        assert_eq!(rt; take_for_ever(&ids, &rt)?, id);
-    }
     Ok(())
 }
 

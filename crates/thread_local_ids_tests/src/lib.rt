@@ -10,8 +10,12 @@ mod lock;
 #[cfg(test)]
 mod manager;
 #[cfg(test)]
-mod moves;
-#[cfg(test)]
 mod place;
 #[cfg(test)]
+mod races;
+#[cfg(test)]
+mod refusals;
+#[cfg(test)]
 mod rights;
+#[cfg(test)]
+mod without_memory;

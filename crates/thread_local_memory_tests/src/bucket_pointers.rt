@@ -1,4 +1,4 @@
-//! The pointers of a table: values come back at any type, and each is dropped once.
+//! The pointers of a table: values come back at any type.
 ghost use Rattle.std.specs.Prelude.{◌≡◌, ◌^◌, ◌<◌, IfOk};
 
 use std::alloc::{AllocError, Global};
@@ -9,7 +9,7 @@ use thread_local_bucket_pointers::{BucketPointers, FlagSource};
 use thread_local_thread_id::Thread;
 
 /// A slot's place.
-fn place(bucket: usize, index: usize) -> Thread
+pub fn place(bucket: usize, index: usize) -> Thread
     requires { (bucket < 63) × (index < 2 ^ bucket) }
     ensures { (result.bucket ≡ bucket) × (result.index ≡ index) }
 {
@@ -42,18 +42,6 @@ fn written_over<T: Send + Drop>(
     *pointers.get_mut(place(4, 0)) = second;
     let value = pointers.get_mut(place(4, 0));
     Ok(replace(value, third))
-}
-
-/// A value that counts its drops.
-struct Counted<'a> {
-    drops: &'a Cell<u64>,
-}
-
-impl Drop for Counted<'_> {
-    fn drop(self) {
-        let Self { drops } = self;
-        drops.set(drops.get().saturating_add(1));
-    }
 }
 
 /// Whether a text comes back.
@@ -127,41 +115,5 @@ fn seen_beside(alloc: Global) -> Result<[bool; 4], AllocError> {
 fn values_are_written_over(rt: HostRuntime) -> Result<(), Fail> {
     assert_eq!(rt; text_written_over(rt.alloc())?.as_str(), "two");
     assert_eq!(rt; seen_beside(rt.alloc())?, [true, false, true, false]);
-    Ok(())
-}
-
-/// Fills three buckets but for two slots, and answers how many drops there are once one of them is
-/// released, and once another is.
-fn drops_counted<T: Drop, F: Fn() -> T, G: Fn() -> u64>(
-    alloc: Global,
-    make: F,
-    count: G,
-) -> Result<(u64, u64), AllocError>
-where
-    F: Drop,
-    G: Drop,
-    requires { (F.pre make) × (G.pre count) }
-{
-    let mut pointers = BucketPointers::new(alloc);
-    pointers.install(0)?;
-    pointers.install(1)?;
-    pointers.install(2)?;
-    pointers.publish(place(0, 0), make());
-    pointers.publish(place(1, 0), make());
-    pointers.publish(place(1, 1), make());
-    pointers.publish(place(2, 1), make());
-    pointers.publish(place(2, 3), make());
-    pointers.release(1);
-    let first = count();
-    pointers.release(2);
-    let released = count();
-    Ok((first, released))
-}
-
-#[test]
-fn each_value_is_dropped_once(rt: HostRuntime) -> Result<(), Fail> {
-    let drops = Cell::new(0u64);
-    let seen = drops_counted(rt.alloc(), || Counted { drops: &drops }, || drops.get())?;
-    assert_eq!(rt; (seen, drops.get()), ((2, 4), 5));
     Ok(())
 }

@@ -7,3 +7,5 @@ mod blocks;
 mod bucket_pointer;
 #[cfg(test)]
 mod bucket_pointers;
+#[cfg(test)]
+mod drops;

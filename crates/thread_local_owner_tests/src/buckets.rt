@@ -12,7 +12,9 @@ mod drains;
 mod drops;
 mod entries;
 mod places;
+mod refusals;
 mod walks;
+mod without_memory;
 
 /// Inserts a value, or says that memory was refused.
 fn insert<T: Drop>(buckets: &mut Buckets<T>, id: u32, value: T) -> Result<(), AllocError> {

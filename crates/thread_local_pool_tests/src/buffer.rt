@@ -2,13 +2,8 @@
 ghost use Rattle.std.specs.Prelude.{◌≡◌, [], IfOk};
 
 use std::alloc::{AllocError, Global};
-use std::io::Print;
-use std::mem::forget;
 use std::sync::Wait;
 use std::test::Fail;
-use std::thread;
-use std::thread::Threads;
-use thread_local::thread_id::LocalError;
 use thread_local_pool::{Buffer, Pool};
 
 /// What is written to an empty buffer is what stands in it.
@@ -21,7 +16,7 @@ fn one_byte<R: Wait>(buffer: &mut Buffer<'_, R>, byte: u8) -> Result<usize, Allo
 }
 
 /// Puts bytes into a buffer, as many as are asked for. Answers whether it was empty.
-fn fill<R: Wait>(mut buffer: Buffer<'_, R>, count: usize) -> Result<bool, AllocError> {
+pub fn fill<R: Wait>(mut buffer: Buffer<'_, R>, count: usize) -> Result<bool, AllocError> {
     let was_empty = buffer.bytes().is_empty();
     for _ in 0..count {
         buffer.bytes_mut().push(7)?;
@@ -34,34 +29,6 @@ fn has_room<R: Wait>(buffer: &Buffer<'_, R>) -> bool {
     buffer.bytes().is_empty() && buffer.bytes().capacity() >= 1000
 }
 
-/// Takes buffers one after another, as many as are asked for, and puts ten bytes into each. Answers
-/// whether each was empty.
-fn take_in_turn<R: Wait>(pool: &Pool<Vec<u8>>, rt: &R, count: usize) -> Result<bool, LocalError> {
-    for _ in 0..count {
-        let buffer = pool.buffer(rt)?;
-        if !fill(buffer, 10).map_err(LocalError::Memory)? {
-            return Ok(false);
-        }
-    }
-    Ok(true)
-}
-
-/// Two threads take a hundred buffers each.
-fn two_threads<R: Wait + Threads + Sync>(pool: &Pool<Vec<u8>>, rt: &R) -> bool {
-    let taken = thread::join(
-        rt,
-        || take_in_turn(pool, rt, 100),
-        || take_in_turn(pool, rt, 100),
-    );
-    matches!(taken, (Ok(true), Ok(true)))
-}
-
-/// Four threads take a hundred buffers each.
-fn four_threads<R: Wait + Threads + Sync>(pool: &Pool<Vec<u8>>, rt: &R) -> bool {
-    let taken = thread::join(rt, || two_threads(pool, rt), || two_threads(pool, rt));
-    taken.0 && taken.1
-}
-
 /// Whether a new buffer is empty, and has room for 1000 bytes.
 fn another_has_room<R: Wait>(pool: &Pool<Vec<u8>>, rt: &R) -> Option<bool> {
     let buffer = pool.buffer(rt).ok()?;
@@ -69,7 +36,7 @@ fn another_has_room<R: Wait>(pool: &Pool<Vec<u8>>, rt: &R) -> Option<bool> {
 }
 
 /// How many bytes a new buffer holds, and for how many it has room.
-fn measure_another<R: Wait>(pool: &Pool<Vec<u8>>, rt: &R) -> Option<(usize, usize)> {
+pub fn measure_another<R: Wait>(pool: &Pool<Vec<u8>>, rt: &R) -> Option<(usize, usize)> {
     let buffer = pool.buffer(rt).ok()?;
     let bytes = buffer.bytes();
     Some((bytes.len(), bytes.capacity()))
@@ -136,40 +103,6 @@ fn four_buffers_keep_their_room_and_a_fifth_has_none(rt: HostRuntime) -> Result<
     Ok(())
 }
 
-/// Puts 1000 bytes into a new buffer, and forgets it. Answers how many it held.
-fn fill_and_forget<R: Wait>(pool: &Pool<Vec<u8>>, rt: &R) -> Option<usize> {
-    let mut buffer = pool.buffer(rt).ok()?;
-    for _ in 0..1000 {
-        buffer.bytes_mut().push(7).ok()?;
-    }
-    let held = buffer.bytes().len();
-    forget(buffer);
-    Some(held)
-}
-
-#[test]
-fn a_forgotten_buffer_keeps_its_room_to_itself(rt: HostRuntime) -> Result<(), Fail> {
-    let pool = Pool::new(rt.alloc());
-    let held = fill_and_forget(&pool, &rt);
-    assert_eq!(rt;
-        (held, measure_another(&pool, &rt)),
-        (Some(1000), Some((0, 0)))
-    );
-    Ok(())
-}
-
-#[test]
-fn eight_threads_get_empty_buffers(rt: HostRuntime) -> Result<(), Fail> {
-    let pool = Pool::new(rt.alloc());
-    let taken = thread::join(
-        &rt,
-        || four_threads(&pool, &rt),
-        || four_threads(&pool, &rt),
-    );
-    assert_eq!(rt; taken, (true, true));
-    Ok(())
-}
-
 /// Of a vector that the pool has, how many bytes it holds and whether it has room for 1000. None
 /// where the pool had none.
 fn measure_what_was_left<R: Wait>(pool: &Pool, rt: &R, alloc: Global) -> Option<(usize, bool)> {
@@ -217,32 +150,5 @@ fn write_five<R: Wait>(pool: &Pool<Vec<u8>>, rt: &R) -> Option<(usize, bool)> {
 fn what_is_written_stands(rt: HostRuntime) -> Result<(), Fail> {
     let pool = Pool::new(rt.alloc());
     assert_eq!(rt; write_five(&pool, &rt), Some((1, true)));
-    Ok(())
-}
-
-/// A buffer, asked for once more where memory was refused.
-fn had<'a, R: Wait + Print>(pool: &'a Pool<Vec<u8>>, rt: &'a R) -> Option<Buffer<'a, R>> {
-    match pool.buffer(rt) {
-        Ok(buffer) => Some(buffer),
-        Err(LocalError::Memory(_)) => {
-            let _told = println!(rt; "refused: buffer");
-            pool.buffer(rt).ok()
-        }
-        Err(LocalError::Exhausted) => None,
-    }
-}
-
-/// How many bytes two buffers have that are held at once.
-fn lengths_of_two<R: Wait + Print>(pool: &Pool<Vec<u8>>, rt: &R) -> Option<[usize; 2]> {
-    let first = had(pool, rt)?;
-    let second = had(pool, rt)?;
-    Some([first.bytes().len(), second.bytes().len()])
-}
-
-// It holds whichever request for memory is refused: `tools/refusals` refuses each in turn.
-#[test]
-fn a_buffer_that_was_refused_is_had_the_second_time(rt: HostRuntime) -> Result<(), Fail> {
-    let pool = Pool::new(rt.alloc());
-    assert_eq!(rt; lengths_of_two(&pool, &rt), Some([0, 0]));
     Ok(())
 }

@@ -7,6 +7,14 @@ mod buffer;
 #[cfg(test)]
 mod cached;
 #[cfg(test)]
+mod drops;
+#[cfg(test)]
 mod padded;
 #[cfg(test)]
 mod pool;
+#[cfg(test)]
+mod races;
+#[cfg(test)]
+mod refusals;
+#[cfg(test)]
+mod without_memory;

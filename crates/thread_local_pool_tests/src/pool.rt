@@ -1,18 +1,11 @@
 //! Values of a pool: who makes them, how often, and what comes back.
 ghost use Rattle.std.specs.Prelude.{◌≡◌, true, IfOk, IfSome};
 
-use std::alloc::Global;
-use std::io::Print;
 use std::mem::forget;
-use std::sync::atomic::AtomicU64;
-use std::sync::atomic::Ordering::SeqCst;
-use std::sync::{Arc, Wait};
+use std::sync::Wait;
 use std::test::Fail;
-use std::thread;
-use std::thread::Threads;
 use thread_local::thread_id::LocalError;
-use thread_local_pool::{Pool, Pooled};
-use thread_local_test_helpers::counted::Counted;
+use thread_local_pool::Pool;
 
 /// A new value is what the closure made, and what is written to one stands in it.
 fn seven_or_another<R: Wait>(pool: &Pool<u32>, rt: &R) -> Result<bool, LocalError>
@@ -66,114 +59,6 @@ fn a_text_comes_back_with_its_room(rt: HostRuntime) -> Result<(), Fail> {
         return Err(Fail::from("a text is made once"));
     };
     assert_eq!(rt; (first.as_str(), second.as_str()), ("", "left"));
-    Ok(())
-}
-
-/// Takes values in turn, and counts those that are made.
-fn take_in_turn<R: Wait>(pool: &Pool<u64>, rt: &R, made: &AtomicU64, times: u64) -> bool {
-    for _ in 0..times {
-        let pooled = pool.get(rt, || made.fetch_add(1, SeqCst));
-        if pooled.is_err() {
-            return false;
-        }
-    }
-    true
-}
-
-/// Three threads take values in turn. Answers how many values were made.
-fn made_by_three<R: Wait + Threads + Sync>(pool: &Pool<u64>, rt: &R) -> Option<u64> {
-    let made = AtomicU64::new(0);
-    let taken = thread::join(
-        rt,
-        || take_in_turn(pool, rt, &made, 100),
-        || {
-            thread::join(
-                rt,
-                || take_in_turn(pool, rt, &made, 100),
-                || take_in_turn(pool, rt, &made, 100),
-            )
-        },
-    );
-    (taken == (true, (true, true))).then_some(made.load(SeqCst))
-}
-
-#[test]
-fn as_many_values_are_made_as_are_held_at_once(rt: HostRuntime) -> Result<(), Fail> {
-    let made = made_by_three(&Pool::new(rt.alloc()), &rt);
-    assert!(rt; matches!(made, Some(1..=3)));
-    Ok(())
-}
-
-/// A value that counts its drop, and counts that it is made.
-fn counted<'a, R: Wait>(
-    pool: &'a Pool<Option<Counted>>,
-    rt: &'a R,
-    drops: &Arc<AtomicU64, Global>,
-) -> Option<Pooled<'a, Option<Counted>, R>> {
-    pool.get(rt, || Counted::new(drops).ok()).ok()
-}
-
-/// Holds two values at once, lets one go and forgets the other, and takes two again. Answers whether
-/// each was new.
-fn hold_and_forget<R: Wait>(
-    pool: &Pool<Option<Counted>>,
-    rt: &R,
-    drops: &Arc<AtomicU64, Global>,
-) -> Option<[bool; 4]> {
-    let first = counted(pool, rt, drops)?;
-    let second = counted(pool, rt, drops)?;
-    let before = [first.is_new(), second.is_new()];
-    forget(first);
-    drop(second);
-    let third = counted(pool, rt, drops)?;
-    let fourth = counted(pool, rt, drops)?;
-    Some([before[0], before[1], third.is_new(), fourth.is_new()])
-}
-
-#[test]
-fn values_are_dropped_once_with_their_pool(rt: HostRuntime) -> Result<(), Fail> {
-    let drops = Arc::new(rt.alloc(), AtomicU64::new(0))?;
-    let pool = Pool::new(rt.alloc());
-    let were_new = hold_and_forget(&pool, &rt, &drops);
-    let while_it_lives = drops.load(SeqCst);
-    drop(pool);
-    assert_eq!(rt; were_new, Some([true, true, false, true]));
-    assert_eq!(rt; (while_it_lives, drops.load(SeqCst)), (0, 2));
-    Ok(())
-}
-
-/// A value of the pool, the second time where the first was refused, which is told. Answers None
-/// where the refusal called the closure, or the second time is refused.
-fn had<'a, R: Wait + Print>(
-    pool: &'a Pool<u64>,
-    rt: &'a R,
-    made: &AtomicU64,
-) -> Option<Pooled<'a, u64, R>> {
-    let before = made.load(SeqCst);
-    match pool.get(rt, || made.fetch_add(1, SeqCst)) {
-        Ok(pooled) => Some(pooled),
-        Err(_) => {
-            let _told = println!(rt; "refused: get");
-            if made.load(SeqCst) != before {
-                return None;
-            }
-            pool.get(rt, || made.fetch_add(1, SeqCst)).ok()
-        }
-    }
-}
-
-/// The numbers of two values that are held at once, and how many were made then.
-fn two_at_once<R: Wait + Print>(pool: &Pool<u64>, rt: &R) -> Option<(u64, u64, u64)> {
-    let made = AtomicU64::new(0);
-    let first = had(pool, rt, &made)?;
-    let second = had(pool, rt, &made)?;
-    Some((*first, *second, made.load(SeqCst)))
-}
-
-#[test]
-fn a_value_that_was_refused_is_had_the_second_time(rt: HostRuntime) -> Result<(), Fail> {
-    let pool = Pool::new(rt.alloc());
-    assert_eq!(rt; two_at_once(&pool, &rt), Some((0, 1, 2)));
     Ok(())
 }
 
@@ -321,27 +206,5 @@ fn a_value_that_is_taken_out_is_made_anew(rt: HostRuntime) -> Result<(), Fail> {
     let mut pool = Pool::new(rt.alloc());
     let taken = take_out(&pool, &rt);
     assert_eq!(rt; (taken, pool.slots()), (Some((5, true)), 1));
-    Ok(())
-}
-
-/// Has two counted values made and put back, and walks over the pool by value as far as the first.
-/// Answers how many were dropped before the walk is.
-fn walk_to_the_first<R: Wait>(
-    pool: Pool<Option<Counted>>,
-    rt: &R,
-    drops: &Arc<AtomicU64, Global>,
-) -> Option<u64> {
-    hold_and_forget(&pool, rt, drops)?;
-    let mut values = pool.into_iter();
-    drop(values.next());
-    Some(drops.load(SeqCst))
-}
-
-// The forgotten one isn't in the pool, so it is never dropped.
-#[test]
-fn a_walk_that_ends_early_drops_the_rest_of_a_pool(rt: HostRuntime) -> Result<(), Fail> {
-    let drops = Arc::new(rt.alloc(), AtomicU64::new(0))?;
-    let walked = walk_to_the_first(Pool::new(rt.alloc()), &rt, &drops);
-    assert_eq!(rt; (walked, drops.load(SeqCst)), (Some(1), 2));
     Ok(())
 }

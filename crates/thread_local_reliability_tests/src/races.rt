@@ -1,5 +1,7 @@
 //! Threads that use one table at once.
 
+mod walks;
+
 use std::alloc::Global;
 use std::sync::Wait;
 use std::sync::atomic::AtomicU32;

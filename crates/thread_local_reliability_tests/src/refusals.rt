@@ -2,8 +2,10 @@
 //! refused, with the second, and so on until no request is refused any more. Each test holds
 //! whichever it is, and says which call was refused; with ample memory it says nothing.
 
-ghost use Rattle.std.specs.Prelude.{◌-◌, ◌^◌, ◌<◌};
+mod cleared;
+pub(crate) mod held;
 
+use held::{four_publish, numbers};
 use std::alloc::{AllocError, Global};
 use std::cell::Cell;
 use std::io::Print;
@@ -12,8 +14,8 @@ use std::sync::Wait;
 use std::test::Fail;
 use thread_local::ThreadLocal;
 use thread_local::local::{Local, SetError, TryError};
-use thread_local_buckets::{Buckets, CapacityError, IntoIter};
-use thread_local_thread_id::{LocalError, Thread};
+use thread_local_buckets::{CapacityError, IntoIter};
+use thread_local_thread_id::LocalError;
 
 /// A call that publishes a value.
 #[derive(Clone, Copy, PartialEq, Eq)]
@@ -236,40 +238,105 @@ fn a_table_with_a_capacity_has_its_slots_or_is_refused(rt: HostRuntime) -> Resul
     Ok(())
 }
 
-/// Inserts a value, a second time where the first is refused, which is told. Answers whether the
-/// first then handed the value back, and the value was inserted.
-fn insert(buckets: &mut Buckets<u32>, id: usize, value: u32, rt: &impl Print) -> bool
-    requires { id < 2 ^ 63 - 1 }
-{
-    let refused = match buckets.insert(Thread::new(id), value) {
-        Ok(_) => None,
-        Err(back) => Some(back),
-    };
-    match refused {
-        None => true,
-        Some(back) => {
-            let _told = println!(rt; "refused: insert");
-            back == value && buckets.insert(Thread::new(id), back).is_ok()
-        }
-    }
-}
-
-#[test]
-fn a_refused_insert_hands_its_value_back(rt: HostRuntime) {
-    let mut buckets = Buckets::new(rt.alloc());
-    let as_promised = [
-        insert(&mut buckets, 0, 6, &rt),
-        insert(&mut buckets, 1, 7, &rt),
-        insert(&mut buckets, 3, 8, &rt),
-    ];
-    assert_eq!(rt;
-        (as_promised, first_four(buckets.into_iter())),
-        ([true; 3], [Some(6), Some(7), Some(8), None])
-    );
-}
-
 #[test]
 fn out_of_memory_never_stands_for_a_capacity_that_is_too_large(rt: HostRuntime) {
     let too_large = ThreadLocal::<u64>::with_capacity(rt.alloc(), 9223372036854775808);
     assert!(rt; matches!(too_large, Err(CapacityError::TooLarge)));
+}
+
+/// Which of four `Local`s that are held at once aren't refused memory when they publish.
+fn four_held_publish<R: Wait + Print>(
+    table: &ThreadLocal<u32>,
+    rt: &R,
+    alloc: Global,
+) -> Option<[bool; 4]> {
+    let mut locals = held::taken(table, rt, alloc, 4)?;
+    Some(four_publish(&mut locals))
+}
+
+/// A `Local`, or None where it was refused.
+fn had<'a, R: Wait + Print>(table: &'a ThreadLocal<u32>, rt: &'a R) -> Option<Local<'a, u32, R>> {
+    let local = table.local(rt).ok();
+    if local.is_none() {
+        let _told = println!(rt; "refused: local");
+    }
+    local
+}
+
+#[test]
+fn nothing_is_refused_within_the_capacity(rt: HostRuntime) -> Result<(), Fail> {
+    match ThreadLocal::<u32>::with_capacity(rt.alloc(), 4) {
+        Ok(table) => assert_eq!(rt; four_held_publish(&table, &rt, rt.alloc()), Some([true; 4])),
+        Err(error) => {
+            println!(rt; "refused: with_capacity")?;
+            assert!(rt; matches!(error, CapacityError::Memory(_)));
+        }
+    }
+    Ok(())
+}
+
+/// Publishes 6, and counts the calls of the closure. None is out of memory.
+fn publish_six<R: Wait>(local: &mut Local<'_, u32, R>, calls: &Cell<u32>) -> Option<u32> {
+    local
+        .get_or(|| {
+            calls.set(calls.get().wrapping_add(1));
+            6
+        })
+        .ok()
+        .copied()
+}
+
+/// Whether nothing was called and nothing is found after a refusal, and 6 is published then.
+fn is_published_then<R: Wait>(local: &mut Local<'_, u32, R>, calls: &Cell<u32>) -> bool {
+    calls.get() == 0 && local.get().is_none() && publish_six(local, calls) == Some(6)
+}
+
+/// Publishes 6, and once more where memory was refused. Answers whether the closure was called
+/// once, and only where nothing was refused.
+fn calls_once<R: Wait + Print>(mut local: Local<'_, u32, R>, rt: &R) -> bool {
+    let calls = Cell::new(0);
+    let mut as_promised = true;
+    if publish_six(&mut local, &calls).is_none() {
+        let _told = println!(rt; "refused: get_or");
+        as_promised = is_published_then(&mut local, &calls);
+    }
+    as_promised && calls.get() == 1 && local.get() == Some(&6)
+}
+
+#[test]
+fn a_refusal_calls_no_closure(rt: HostRuntime) -> Result<(), Fail> {
+    let table = numbers(rt.alloc());
+    let Some(local) = had(&table, &rt) else {
+        return Ok(());
+    };
+    assert!(rt; calls_once(local, &rt));
+    Ok(())
+}
+
+/// Whether a closure's error is told as such. None is out of memory.
+fn is_told<R: Wait>(local: &mut Local<'_, u32, R>, error: &'static str) -> Option<bool> {
+    match local.get_or_try(|| Err(error)) {
+        Err(TryError::Memory(_)) => None,
+        Err(TryError::Create(told)) => Some(told == error),
+        Ok(_) => Some(false),
+    }
+}
+
+/// Whether a second error is told as such after a first one, and then a value is published.
+fn publishes_after_errors<R: Wait + Print>(mut local: Local<'_, u32, R>, rt: &R) -> bool {
+    let Some(is_first_told) = is_told(&mut local, "a") else {
+        let _told = println!(rt; "refused: get_or_try");
+        return true;
+    };
+    is_first_told && is_told(&mut local, "b") == Some(true) && local.get_or(|| 9) == Ok(&9)
+}
+
+#[test]
+fn nothing_is_refused_after_an_error_of_the_closure(rt: HostRuntime) -> Result<(), Fail> {
+    let table = numbers(rt.alloc());
+    let Some(local) = had(&table, &rt) else {
+        return Ok(());
+    };
+    assert!(rt; publishes_after_errors(local, &rt));
+    Ok(())
 }

@@ -2,21 +2,16 @@
 //! every request is refused, and frees it before it compares.
 
 use crate::refusals::Publishing;
+use crate::refusals::held::numbers;
 use std::alloc::{AllocError, Global};
 use std::cell::Cell;
 use std::sync::Wait;
 use std::test::Fail;
 use thread_local::ThreadLocal;
 use thread_local::local::{Local, TryError};
-use thread_local_buckets::{Buckets, CapacityError};
-use thread_local_pool::Pool;
+use thread_local_buckets::CapacityError;
 use thread_local_test_helpers::memory::take_all;
-use thread_local_thread_id::{LocalError, Thread, ThreadIdManager};
-
-/// A table of numbers that asked for nothing yet.
-fn numbers(alloc: Global) -> ThreadLocal<u32> {
-    ThreadLocal::new(alloc)
-}
+use thread_local_thread_id::LocalError;
 
 /// A table of numbers with this capacity.
 fn with_capacity(alloc: Global, capacity: usize) -> Result<ThreadLocal<u32>, CapacityError> {
@@ -238,53 +233,6 @@ fn a_local_past_the_room_is_refused_and_comes_later(rt: HostRuntime) -> Result<(
     Ok(())
 }
 
-/// How many ids a manager gives without memory, each the least, of as many as are asked for.
-fn count_given(
-    manager: &mut ThreadIdManager,
-    alloc: Global,
-    asked: usize,
-) -> Result<usize, AllocError> {
-    let taken = take_all(alloc)?;
-    let mut count = 0usize;
-    for id in 0..asked {
-        if manager.alloc() != Ok(id) {
-            break;
-        }
-        count = count.saturating_add(1);
-    }
-    drop(taken);
-    Ok(count)
-}
-
-// The first word is the manager's own. Past it there is room for two and for three whole words, and
-// there may be more.
-#[test]
-fn room_for_ids_is_made_in_whole_words(rt: HostRuntime) -> Result<(), Fail> {
-    for (room, asked, given) in [(0, 65, 64), (3, 65, 64), (65, 128, 128), (129, 192, 192)] {
-        let mut manager = ThreadIdManager::with_room(rt.alloc(), room)?;
-        assert_eq!(rt; count_given(&mut manager, rt.alloc(), asked)?, given);
-    }
-    Ok(())
-}
-
-/// What an insert without memory answers, how many slots there are then, what the same insert
-/// answers with memory, and how many there are then.
-fn insert_twice(alloc: Global) -> Result<((Option<u32>, usize), (Option<u32>, usize)), AllocError> {
-    let mut buckets = Buckets::new(alloc);
-    let taken = take_all(alloc)?;
-    let refused = buckets.insert(Thread::new(0), 5u32).err();
-    let slots = buckets.slots();
-    drop(taken);
-    let granted = buckets.insert(Thread::new(0), 5).ok().copied();
-    Ok(((refused, slots), (granted, buckets.slots())))
-}
-
-#[test]
-fn a_refused_insert_hands_back_its_value_and_makes_no_slot(rt: HostRuntime) -> Result<(), Fail> {
-    assert_eq!(rt; insert_twice(rt.alloc())?, ((Some(5), 0), (Some(5), 1)));
-    Ok(())
-}
-
 /// Whether a capacity is refused memory, and whether one that is too large is told as such, where
 /// no memory is left.
 fn make_without_memory(alloc: Global) -> Result<(bool, bool), AllocError> {
@@ -301,46 +249,5 @@ fn make_without_memory(alloc: Global) -> Result<(bool, bool), AllocError> {
 #[test]
 fn a_capacity_that_is_too_large_is_told_without_memory(rt: HostRuntime) -> Result<(), Fail> {
     assert_eq!(rt; make_without_memory(rt.alloc())?, (true, true));
-    Ok(())
-}
-
-/// Whether a buffer is refused memory.
-fn is_buffer_refused<R: Wait>(pool: &Pool<Vec<u8>>, rt: &R) -> bool {
-    matches!(pool.buffer(rt), Err(LocalError::Memory(_)))
-}
-
-/// Whether a buffer is refused where no memory is left.
-fn is_buffer_refused_without_memory<R: Wait>(
-    pool: &Pool<Vec<u8>>,
-    rt: &R,
-    alloc: Global,
-) -> Result<bool, AllocError> {
-    let taken = take_all(alloc)?;
-    let is_refused = is_buffer_refused(pool, rt);
-    drop(taken);
-    Ok(is_refused)
-}
-
-/// Two buffers that are held at once, each asked for without memory first. Answers whether each was
-/// refused, and how many bytes it held when it came.
-fn take_two<R: Wait>(
-    pool: &Pool<Vec<u8>>,
-    rt: &R,
-    alloc: Global,
-) -> Result<[(bool, usize); 2], LocalError> {
-    let first_refused = is_buffer_refused_without_memory(pool, rt, alloc)?;
-    let first = pool.buffer(rt)?;
-    let second_refused = is_buffer_refused_without_memory(pool, rt, alloc)?;
-    let second = pool.buffer(rt)?;
-    Ok([
-        (first_refused, first.bytes().len()),
-        (second_refused, second.bytes().len()),
-    ])
-}
-
-#[test]
-fn a_refused_buffer_comes_later_and_is_empty(rt: HostRuntime) -> Result<(), Fail> {
-    let pool = Pool::new(rt.alloc());
-    assert_eq!(rt; take_two(&pool, &rt, rt.alloc())?, [(true, 0), (true, 0)]);
     Ok(())
 }

@@ -1,13 +1,11 @@
-//! Claims that are forgotten, sent or shared, and those of reserved buckets.
-ghost use Rattle.std.specs.Prelude.{◌≡◌};
+//! Claims that are sent or shared, and those of reserved buckets.
 
-use crate::steps::{Kept, first_three, left, look, publish, publish_claimed, take};
+use crate::steps::{Kept, left, publish_claimed, take};
 use std::cell::Cell;
-use std::mem::forget;
 use std::test::Fail;
 use std::thread;
 use thread_local_buckets::Buckets;
-use thread_local_ids::{HeldId, Ids, Right, TokenList};
+use thread_local_ids::{Ids, TokenList};
 use thread_local_judged::Judge;
 use thread_local_shared_buckets::{Claim, Shared};
 use thread_local_thread_id::Thread;
@@ -17,43 +15,6 @@ impl<T: Drop> Kept<'_, T> {
     fn publish(self, value: T) -> bool {
         publish_claimed(self.into_claim(), value).1
     }
-}
-
-/// What a new claim holds, which is forgotten then.
-fn found_and_forgotten(shared: &Shared<u32>, held: (HeldId, Right)) -> Option<u32>
-    requires table { (held.1.table ≡ shared.now.table) × (held.0.mark.table ≡ shared.now.table) }
-    requires id { held.1.id ≡ held.0.id }
-{
-    let claimed = Kept {
-        claim: shared.claim(held.0, held.1),
-    };
-    let found = claimed.claim.get().copied();
-    forget(claimed);
-    found
-}
-
-// The first is forgotten where a value stands, the second before its bucket does, which the third
-// then makes.
-#[test]
-fn a_forgotten_claim_costs_its_own_slot(rt: HostRuntime) -> Result<(), Fail> {
-    let mut ids = Ids::new(rt.alloc());
-    let mut buckets = Buckets::new(rt.alloc());
-    assert!(rt; buckets.insert(Thread::new(0), 5u32).is_ok());
-    let shared = Shared::new(buckets, &ids.table_right());
-    let found = [
-        found_and_forgotten(&shared, take(&mut ids)?),
-        found_and_forgotten(&shared, take(&mut ids)?),
-    ];
-    let (held, right, tenure) = ids.take()?;
-    let (_third, published) = publish(&shared, (held, right), &tenure, rt.alloc(), 6);
-    assert_eq!(rt; (found, published), ([Some(5), None], true));
-    let seen = [look(&shared, 0), look(&shared, 1), look(&shared, 2)];
-    assert_eq!(rt; seen, [Some(5), None, Some(6)]);
-    assert_eq!(rt;
-        first_three(shared.into_buckets()),
-        [Some(5), Some(6), None]
-    );
-    Ok(())
 }
 
 #[test]

@@ -1,14 +1,15 @@
-//! Each value is dropped once.
+//! Each value is dropped once, and a claim is forgotten.
 ghost use Rattle.std.specs.Prelude.{◌≡◌};
 
-use crate::steps::publish;
+use crate::steps::{Kept, first_three, look, publish, take};
 use std::alloc::Global;
+use std::mem::forget;
 use std::sync::atomic::AtomicU64;
 use std::sync::atomic::Ordering::SeqCst;
 use std::sync::{Arc, Wait};
 use std::test::Fail;
 use thread_local_buckets::Buckets;
-use thread_local_ids::{Ids, Lock, Rights};
+use thread_local_ids::{HeldId, Ids, Lock, Right, Rights};
 use thread_local_judged::judge_sync;
 use thread_local_shared_buckets::Shared;
 use thread_local_test_helpers::counted::Counted;
@@ -79,6 +80,43 @@ fn each_published_value_is_dropped_once(rt: HostRuntime) -> Result<(), Fail> {
     assert_eq!(rt;
         [published, given_way, taken, drops.load(SeqCst)],
         [100, 100, 101, 200]
+    );
+    Ok(())
+}
+
+/// What a new claim holds, which is forgotten then.
+fn found_and_forgotten(shared: &Shared<u32>, held: (HeldId, Right)) -> Option<u32>
+    requires table { (held.1.table ≡ shared.now.table) × (held.0.mark.table ≡ shared.now.table) }
+    requires id { held.1.id ≡ held.0.id }
+{
+    let claimed = Kept {
+        claim: shared.claim(held.0, held.1),
+    };
+    let found = claimed.claim.get().copied();
+    forget(claimed);
+    found
+}
+
+// The first is forgotten where a value stands, the second before its bucket does, which the third
+// then makes.
+#[test]
+fn a_forgotten_claim_costs_its_own_slot(rt: HostRuntime) -> Result<(), Fail> {
+    let mut ids = Ids::new(rt.alloc());
+    let mut buckets = Buckets::new(rt.alloc());
+    assert!(rt; buckets.insert(Thread::new(0), 5u32).is_ok());
+    let shared = Shared::new(buckets, &ids.table_right());
+    let found = [
+        found_and_forgotten(&shared, take(&mut ids)?),
+        found_and_forgotten(&shared, take(&mut ids)?),
+    ];
+    let (held, right, tenure) = ids.take()?;
+    let (_third, published) = publish(&shared, (held, right), &tenure, rt.alloc(), 6);
+    assert_eq!(rt; (found, published), ([Some(5), None], true));
+    let seen = [look(&shared, 0), look(&shared, 1), look(&shared, 2)];
+    assert_eq!(rt; seen, [Some(5), None, Some(6)]);
+    assert_eq!(rt;
+        first_three(shared.into_buckets()),
+        [Some(5), Some(6), None]
     );
     Ok(())
 }

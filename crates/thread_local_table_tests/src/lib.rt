@@ -2,19 +2,11 @@
 #![tactic(auto)]
 
 #[cfg(test)]
-mod cleared;
-#[cfg(test)]
-mod forgotten;
-#[cfg(test)]
-mod held;
-#[cfg(test)]
 mod ids;
 #[cfg(test)]
 mod locals;
 #[cfg(test)]
 mod owners;
-#[cfg(test)]
-mod refused;
 #[cfg(test)]
 mod slots;
 #[cfg(test)]

@@ -1,6 +1,7 @@
 //! What single `Local`s of numbers find and publish, and what an owner's walk lends.
 
 use std::alloc::Global;
+use std::mem::forget;
 use std::sync::Wait;
 use thread_local::ThreadLocal;
 use thread_local::local::Local;
@@ -45,4 +46,12 @@ pub fn lends(table: &mut ThreadLocal<u32>, expected: &[u32]) -> bool {
         }
     }
     values.next().is_none()
+}
+
+/// What the slot of a `Local` holds that publishes a number and is forgotten.
+pub fn publish_and_forget<R: Wait>(table: &ThreadLocal<u32>, rt: &R, number: u32) -> Option<u32> {
+    let mut local = table.local(rt).ok()?;
+    let held = published(&mut local, number);
+    forget(local);
+    held
 }

@@ -4,8 +4,7 @@ ghost use Rattle.thread_local_model.specs.Buckets.{values};
 ghost use Rattle.thread_local_model.specs.Walk.{walk};
 ghost use Rattle.thread_local_buckets.specs.IterMut.{iter_mut_rest};
 
-use crate::forgotten::publish_and_forget;
-use crate::locals::{lends, numbers, published_by_another};
+use crate::locals::{lends, numbers, publish_and_forget, published_by_another};
 use std::alloc::{AllocError, Global};
 use std::test::Fail;
 use thread_local::ThreadLocal;

@@ -241,21 +241,6 @@ fn a_default_replaces_no_value(rt: HostRuntime) {
     assert_eq!(rt; default_cells(&table, &rt), Some([3, 0, 3]));
 }
 
-/// Whether a new `Local` that publishes -3 is shown with it.
-fn shows_a_negative_number<R: Wait>(table: &ThreadLocal<i32>, rt: &R, alloc: Global) -> bool {
-    let Ok(mut local) = table.local(rt) else {
-        return false;
-    };
-    let told = local.get_or(|| -3).ok().copied();
-    told == Some(-3) && prints(&local, alloc, "ThreadLocal { local_data: Some(-3) }")
-}
-
-#[test]
-fn a_negative_number_is_shown(rt: HostRuntime) {
-    let table = ThreadLocal::<i32>::new(rt.alloc());
-    assert!(rt; shows_a_negative_number(&table, &rt, rt.alloc()));
-}
-
 /// Beside a first `Local`, one of its table and one of another publish 2 and 3, and the two are
 /// swapped. Answers what each was told, and what the first found before the third was taken, and
 /// after the swap.

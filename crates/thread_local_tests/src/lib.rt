@@ -1,14 +1,16 @@
 //! Examples that use `thread_local` as its users do, with their tests, and tests of the walks over a
-//! table and of what else the face has.
+//! table, of what is dropped or forgotten, and of what is printed.
 #![tactic(auto)]
 
 #[cfg(test)]
 mod counting;
 #[cfg(test)]
+mod drops;
+#[cfg(test)]
 mod errors;
 pub mod examples;
 #[cfg(test)]
-mod nested;
+mod misuse;
 #[cfg(test)]
 mod numbers;
 #[cfg(test)]

@@ -1,4 +1,4 @@
-//! Walks print their cursor.
+//! Walks print their cursor, and a `Local` its value.
 
 use crate::numbers::{publish_held, publishes};
 use std::alloc::Global;
@@ -74,4 +74,19 @@ fn the_three_walks_of_one_value_print_their_cursor(rt: HostRuntime) -> Result<()
     let moving = prints(&table.into_iter(), rt.alloc(), fresh);
     assert_eq!(rt; [published, shared, lending, moving], [true; 4]);
     Ok(())
+}
+
+/// Whether a new `Local` that publishes -3 is shown with it.
+fn shows_a_negative_number<R: Wait>(table: &ThreadLocal<i32>, rt: &R, alloc: Global) -> bool {
+    let Ok(mut local) = table.local(rt) else {
+        return false;
+    };
+    let told = local.get_or(|| -3).ok().copied();
+    told == Some(-3) && prints(&local, alloc, "ThreadLocal { local_data: Some(-3) }")
+}
+
+#[test]
+fn a_negative_number_is_shown(rt: HostRuntime) {
+    let table = ThreadLocal::<i32>::new(rt.alloc());
+    assert!(rt; shows_a_negative_number(&table, &rt, rt.alloc()));
 }

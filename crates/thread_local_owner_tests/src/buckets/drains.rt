@@ -3,10 +3,8 @@
 use super::insert;
 use super::walks::{has_left, three};
 use std::alloc::{AllocError, Global};
-use std::mem::forget;
 use std::test::Fail;
 use thread_local_buckets::Buckets;
-use thread_local_test_helpers::memory::take_all_but;
 use thread_local_test_helpers::printed::prints;
 use thread_local_thread_id::Thread;
 
@@ -42,7 +40,7 @@ fn a_drain_goes_by_ascending_id(rt: HostRuntime) -> Result<(), Fail> {
 }
 
 /// How many values there are, which are dropped.
-fn dropped(buckets: &mut Buckets<u32>) -> usize {
+pub fn dropped(buckets: &mut Buckets<u32>) -> usize {
     buckets.drain().len()
 }
 
@@ -79,44 +77,6 @@ fn drained_ids_are_empty_and_hold_values_again(rt: HostRuntime) -> Result<(), Fa
         (seen, buckets.slots()),
         ((false, false, Some(9)), 1 + 4 + 1024)
     );
-    Ok(())
-}
-
-// The bucket of this id takes 8 MiB.
-const FAR: u32 = 1048575;
-
-/// Whether a value is inserted in the same bucket again, and whether in a new one, once no memory
-/// is left.
-fn inserted_without_memory(alloc: Global) -> Result<(bool, bool), AllocError> {
-    let mut buckets = Buckets::new(alloc);
-    insert(&mut buckets, FAR, 5u64)?;
-    drop(buckets.drain());
-    let mut others = Buckets::new(alloc);
-    let _taken = take_all_but(alloc, 0)?;
-    let again = insert(&mut buckets, FAR, 6).is_ok();
-    Ok((again, insert(&mut others, FAR, 7u64).is_ok()))
-}
-
-#[test]
-fn a_second_round_asks_for_no_memory(rt: HostRuntime) -> Result<(), Fail> {
-    assert_eq!(rt; inserted_without_memory(rt.alloc())?, (true, false));
-    Ok(())
-}
-
-/// The first value of a drain that is forgotten then.
-fn first_of_forgotten(buckets: &mut Buckets<u32>) -> Option<u32> {
-    let mut walk = buckets.drain();
-    let first = walk.next();
-    forget(walk);
-    first
-}
-
-#[test]
-fn a_forgotten_drain_leaves_what_it_has_not_given(rt: HostRuntime) -> Result<(), Fail> {
-    let mut buckets = three(rt.alloc(), [0, 70, 1234])?;
-    let first = first_of_forgotten(&mut buckets);
-    let left = (dropped(&mut buckets), first_of_forgotten(&mut buckets));
-    assert_eq!(rt; (first, left), (Some(1), (2, None)));
     Ok(())
 }
 

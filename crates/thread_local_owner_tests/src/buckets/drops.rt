@@ -1,6 +1,8 @@
-//! Each value is dropped once, where the contracts leave it to be dropped.
+//! Each value is dropped once, where the contracts leave it to be dropped, and blocks are freed.
 
+use super::drains::dropped;
 use super::insert;
+use super::walks::three as three_numbers;
 use std::alloc::{AllocError, Global};
 use std::fs;
 use std::fs::{Files, OpenOptions};
@@ -10,6 +12,7 @@ use std::sync::atomic::AtomicU64;
 use std::sync::atomic::Ordering::SeqCst;
 use std::test::Fail;
 use thread_local_buckets::Buckets;
+use thread_local_test_helpers::memory::take_all_but;
 use thread_local_thread_id::Thread;
 
 struct Counted<'a> {
@@ -250,5 +253,34 @@ fn values_without_bytes_are_dropped_once(rt: HostRuntime) -> Result<(), Fail> {
     drop_but_the_first(buckets);
     assert_eq!(rt; fs::read(&rt, NOTES)?.len(), 3);
     fs::remove_file(&rt, NOTES)?;
+    Ok(())
+}
+
+// A thousand tables take 8 MiB each, where no more than 128 of them can be had at a time. Large values
+// in few slots, since each slot costs time.
+#[test]
+fn blocks_are_freed(rt: HostRuntime) -> Result<(), Fail> {
+    let _taken = take_all_but(rt.alloc(), 1 << 30)?;
+    for _ in 0..1000 {
+        let mut buckets = Buckets::<[u64; 512]>::with_capacity(rt.alloc(), 2047)?;
+        assert_eq!(rt; buckets.slots(), 2047);
+    }
+    Ok(())
+}
+
+/// The first value of a drain that is forgotten then.
+fn first_of_forgotten(buckets: &mut Buckets<u32>) -> Option<u32> {
+    let mut walk = buckets.drain();
+    let first = walk.next();
+    forget(walk);
+    first
+}
+
+#[test]
+fn a_forgotten_drain_leaves_what_it_has_not_given(rt: HostRuntime) -> Result<(), Fail> {
+    let mut buckets = three_numbers(rt.alloc(), [0, 70, 1234])?;
+    let first = first_of_forgotten(&mut buckets);
+    let left = (dropped(&mut buckets), first_of_forgotten(&mut buckets));
+    assert_eq!(rt; (first, left), (Some(1), (2, None)));
     Ok(())
 }

@@ -6,7 +6,6 @@ use std::cell::Cell;
 use std::io::Print;
 use std::test::Fail;
 use thread_local_buckets::{Buckets, CapacityError, IntoIter};
-use thread_local_test_helpers::memory::take_all_but;
 use thread_local_thread_id::Thread;
 
 #[test]
@@ -35,7 +34,7 @@ fn a_capacity_past_the_last_id_is_refused(rt: HostRuntime) -> Result<(), Fail> {
 
 /// Inserts a value and answers what stands at the id. Where memory is refused the value comes back
 /// and no bucket is new, and the same call succeeds; else the answer is `None`.
-fn put(rt: &impl Print, buckets: &mut Buckets<usize>, id: u32, value: usize) -> Option<usize> {
+pub fn put(rt: &impl Print, buckets: &mut Buckets<usize>, id: u32, value: usize) -> Option<usize> {
     let slots = buckets.slots();
     match buckets.insert(Thread::new(id as usize), value) {
         Ok(value) => return Some(*value),
@@ -56,7 +55,7 @@ fn put(rt: &impl Print, buckets: &mut Buckets<usize>, id: u32, value: usize) -> 
 }
 
 /// Whether a walk gives just these values.
-fn gives(buckets: Buckets<usize>, values: &[usize]) -> bool {
+pub fn gives(buckets: Buckets<usize>, values: &[usize]) -> bool {
     let mut walk = buckets.into_iter();
     for value in values {
         if walk.next() != Some(*value) {
@@ -109,45 +108,6 @@ fn one_value_is_written(rt: HostRuntime) -> Result<(), Fail> {
         ((Some(1), Some(2)), (true, true))
     );
     assert!(rt; gives(buckets, &[1, 7]));
-    Ok(())
-}
-
-#[test]
-fn a_refused_insert_hands_the_value_back(rt: HostRuntime) -> Result<(), Fail> {
-    let mut buckets = Buckets::new(rt.alloc());
-    for (id, value, slots) in [(0, 5, 1), (1, 6, 3), (3, 7, 7)] {
-        let stands = put(&rt, &mut buckets, id, value);
-        assert_eq!(rt;
-            (stands, buckets.slots()),
-            (Some(value), slots),
-            "after id {id}"
-        );
-    }
-    assert!(rt; gives(buckets, &[5, 6, 7]));
-    Ok(())
-}
-
-#[test]
-fn a_refused_capacity_says_so(rt: HostRuntime) -> Result<(), Fail> {
-    match Buckets::<u64>::with_capacity(rt.alloc(), 4) {
-        Ok(mut buckets) => assert_eq!(rt; buckets.slots(), 7),
-        Err(refused) => {
-            println!(rt; "refused: with_capacity")?;
-            assert!(rt; matches!(refused, CapacityError::Memory(_)));
-        }
-    }
-    Ok(())
-}
-
-// A thousand tables take 8 MiB each, where no more than 128 of them can be had at a time. Large values
-// in few slots, since each slot costs time.
-#[test]
-fn blocks_are_freed(rt: HostRuntime) -> Result<(), Fail> {
-    let _taken = take_all_but(rt.alloc(), 1 << 30)?;
-    for _ in 0..1000 {
-        let mut buckets = Buckets::<[u64; 512]>::with_capacity(rt.alloc(), 2047)?;
-        assert_eq!(rt; buckets.slots(), 2047);
-    }
     Ok(())
 }
 

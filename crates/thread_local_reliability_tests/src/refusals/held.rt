@@ -1,11 +1,20 @@
 //! `Local`s that are held at once.
 
-use crate::locals::published;
 use std::alloc::Global;
 use std::io::Print;
 use std::sync::Wait;
 use thread_local::ThreadLocal;
 use thread_local::local::Local;
+
+/// A table of numbers that asked for nothing yet.
+pub(crate) fn numbers(alloc: Global) -> ThreadLocal<u32> {
+    ThreadLocal::new(alloc)
+}
+
+/// Publishes a number. Answers what the slot holds then, or None where memory was refused.
+fn published<R: Wait>(local: &mut Local<'_, u32, R>, number: u32) -> Option<u32> {
+    local.get_or(|| number).ok().copied()
+}
 
 /// Room for so many `Local`s, asked for once more where it is refused.
 fn room<'a, R: Wait + Print>(

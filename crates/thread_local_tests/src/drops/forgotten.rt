@@ -132,3 +132,29 @@ fn a_forgotten_lending_walk_leaves_all_values(rt: HostRuntime) -> Result<(), Fai
     assert_eq!(rt; (given, left, drops.load(SeqCst)), (true, 3, 0));
     Ok(())
 }
+
+/// A `Local` is forgotten. Answers whether it was taken.
+fn forget_at_once<R: Wait>(table: &ThreadLocal<Counted>, rt: &R) -> bool {
+    match table.local(rt) {
+        Ok(local) => {
+            forget(local);
+            true
+        }
+        Err(_) => false,
+    }
+}
+
+#[test]
+fn a_forgotten_local_that_published_nothing_has_no_slot(rt: HostRuntime) -> Result<(), Fail> {
+    let drops = Arc::new(rt.alloc(), AtomicU64::new(0))?;
+    judge_sync::<Counted>();
+    let mut table = ThreadLocal::new(rt.alloc());
+    let forgotten = forget_at_once(&table, &rt);
+    let slots = table.slots();
+    let afresh = publish_afresh(&table, &rt, &drops) == Ok(true);
+    assert_eq!(rt;
+        (forgotten, slots, afresh, table.slots()),
+        (true, 0, true, 2)
+    );
+    Ok(())
+}

@@ -1,4 +1,6 @@
-//! Values are dropped with their table, once each.
+//! Values are dropped with their table, once each, and its memory is freed.
+
+mod forgotten;
 
 use std::alloc::Global;
 use std::sync::atomic::AtomicU64;
@@ -8,6 +10,7 @@ use std::test::Fail;
 use thread_local::ThreadLocal;
 use thread_local_judged::judge_sync;
 use thread_local_test_helpers::counted::Counted;
+use thread_local_test_helpers::memory::take_all_but;
 
 /// `Local`s that are held at once each publish a counted value, as many as are asked for. Answers
 /// whether none was refused.
@@ -81,5 +84,45 @@ fn clearing_drops_each_value_and_keeps_the_reserved_slots(rt: HostRuntime) -> Re
     assert!(rt; publish_counted(&table, &rt, rt.alloc(), &drops, 1));
     drop(table);
     assert_eq!(rt; drops.load(SeqCst), 4);
+    Ok(())
+}
+
+// These tables would hold more than 8 GB together if none were freed, where 1 GiB can be had. Large
+// values in few slots, since each slot costs time.
+#[test]
+fn a_thousand_large_tables_are_freed(rt: HostRuntime) -> Result<(), Fail> {
+    judge_sync::<[u64; 512]>();
+    let _taken = take_all_but(rt.alloc(), 1 << 30)?;
+    for _ in 0..1000 {
+        drop(ThreadLocal::<[u64; 512]>::with_capacity(rt.alloc(), 2047)?);
+    }
+    Ok(())
+}
+
+/// Publishes a value in a table of its own, and drops the table. Answers whether the table had one
+/// value. At a type with references in it the check doesn't find that `new` is given a judged type,
+/// but in a function that is generic as this one it does.
+fn pass_through_a_table<U: Send + Sync + Drop, R: Wait>(rt: &R, alloc: Global, value: U) -> bool {
+    let table = ThreadLocal::new(alloc);
+    let Ok(mut local) = table.local(rt) else {
+        return false;
+    };
+    let is_set = local.set(value).is_ok();
+    drop(local);
+    is_set && table.into_iter().len() == 1
+}
+
+#[test]
+fn a_table_drops_the_locals_that_it_keeps(rt: HostRuntime) -> Result<(), Fail> {
+    let numbers = ThreadLocal::new(rt.alloc());
+    let mut kept = numbers.local(&rt)?;
+    kept.get_or(|| 5u64)?;
+    let beside = numbers.local(&rt)?;
+    assert!(rt; pass_through_a_table(&rt, rt.alloc(), kept));
+    let next = numbers.local(&rt)?;
+    assert_eq!(rt;
+        (beside.id(), next.id(), next.get().copied()),
+        (1, 0, Some(5))
+    );
     Ok(())
 }

@@ -1,9 +1,6 @@
-//! What a cleared table keeps. `tools/refusals` runs these tests with the first request for memory
-//! refused, with the second, and so on until no request is refused any more. Each test holds
-//! whichever it is, and says which call was refused; with ample memory it says nothing.
+//! What a cleared table keeps.
 
-use crate::held::{four_publish, is_one_reserved, latter_four_publish, taken};
-use crate::locals::numbers;
+use super::held::{four_publish, is_one_reserved, latter_four_publish, numbers, taken};
 use std::alloc::Global;
 use std::io::Print;
 use std::sync::Wait;

@@ -1,0 +1,93 @@
+//! Values and buffers that are dropped, and some that are forgotten.
+
+use crate::buffer::measure_another;
+use std::alloc::Global;
+use std::mem::forget;
+use std::sync::atomic::AtomicU64;
+use std::sync::atomic::Ordering::SeqCst;
+use std::sync::{Arc, Wait};
+use std::test::Fail;
+use thread_local_pool::{Pool, Pooled};
+use thread_local_test_helpers::counted::Counted;
+
+/// A value that counts its drop, and counts that it is made.
+fn counted<'a, R: Wait>(
+    pool: &'a Pool<Option<Counted>>,
+    rt: &'a R,
+    drops: &Arc<AtomicU64, Global>,
+) -> Option<Pooled<'a, Option<Counted>, R>> {
+    pool.get(rt, || Counted::new(drops).ok()).ok()
+}
+
+/// Holds two values at once, lets one go and forgets the other, and takes two again. Answers whether
+/// each was new.
+fn hold_and_forget<R: Wait>(
+    pool: &Pool<Option<Counted>>,
+    rt: &R,
+    drops: &Arc<AtomicU64, Global>,
+) -> Option<[bool; 4]> {
+    let first = counted(pool, rt, drops)?;
+    let second = counted(pool, rt, drops)?;
+    let before = [first.is_new(), second.is_new()];
+    forget(first);
+    drop(second);
+    let third = counted(pool, rt, drops)?;
+    let fourth = counted(pool, rt, drops)?;
+    Some([before[0], before[1], third.is_new(), fourth.is_new()])
+}
+
+#[test]
+fn values_are_dropped_once_with_their_pool(rt: HostRuntime) -> Result<(), Fail> {
+    let drops = Arc::new(rt.alloc(), AtomicU64::new(0))?;
+    let pool = Pool::new(rt.alloc());
+    let were_new = hold_and_forget(&pool, &rt, &drops);
+    let while_it_lives = drops.load(SeqCst);
+    drop(pool);
+    assert_eq!(rt; were_new, Some([true, true, false, true]));
+    assert_eq!(rt; (while_it_lives, drops.load(SeqCst)), (0, 2));
+    Ok(())
+}
+
+/// Has two counted values made and put back, and walks over the pool by value as far as the first.
+/// Answers how many were dropped before the walk is.
+fn walk_to_the_first<R: Wait>(
+    pool: Pool<Option<Counted>>,
+    rt: &R,
+    drops: &Arc<AtomicU64, Global>,
+) -> Option<u64> {
+    hold_and_forget(&pool, rt, drops)?;
+    let mut values = pool.into_iter();
+    drop(values.next());
+    Some(drops.load(SeqCst))
+}
+
+// The forgotten one isn't in the pool, so it is never dropped.
+#[test]
+fn a_walk_that_ends_early_drops_the_rest_of_a_pool(rt: HostRuntime) -> Result<(), Fail> {
+    let drops = Arc::new(rt.alloc(), AtomicU64::new(0))?;
+    let walked = walk_to_the_first(Pool::new(rt.alloc()), &rt, &drops);
+    assert_eq!(rt; (walked, drops.load(SeqCst)), (Some(1), 2));
+    Ok(())
+}
+
+/// Puts 1000 bytes into a new buffer, and forgets it. Answers how many it held.
+fn fill_and_forget<R: Wait>(pool: &Pool<Vec<u8>>, rt: &R) -> Option<usize> {
+    let mut buffer = pool.buffer(rt).ok()?;
+    for _ in 0..1000 {
+        buffer.bytes_mut().push(7).ok()?;
+    }
+    let held = buffer.bytes().len();
+    forget(buffer);
+    Some(held)
+}
+
+#[test]
+fn a_forgotten_buffer_keeps_its_room_to_itself(rt: HostRuntime) -> Result<(), Fail> {
+    let pool = Pool::new(rt.alloc());
+    let held = fill_and_forget(&pool, &rt);
+    assert_eq!(rt;
+        (held, measure_another(&pool, &rt)),
+        (Some(1000), Some((0, 0)))
+    );
+    Ok(())
+}
