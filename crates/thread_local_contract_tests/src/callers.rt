@@ -17,6 +17,7 @@ use thread_local_shared_buckets::Iter;
 
 fn crosses<X: Send + Sync>(_: &X) {}
 
+/// Takes what may go to another thread.
 pub fn is_sent<X: Send>(_: &X) {}
 
 /// The second value of two is the first one's.
