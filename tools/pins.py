@@ -15,7 +15,7 @@ import os
 import re
 
 TOP = os.path.dirname(os.path.dirname(os.path.realpath(__file__)))
-CRATES = ("thread_local_model", "thread_local_schedule")
+CRATES = ("thread_local_base", "thread_local_schedule")
 
 # Operators that take formulas and hold where these do more often.
 LOGIC = {"IsTrue", "IsSome", "IsSomeAnd", "IfSome", "IfOk", "MatchOption", "AllByRecursion", "IsOk", "Contains"}

@@ -1868,7 +1868,7 @@ def try_wrong_bodies(seed, runs, length):
 
 # ---- names -----------------------------------------------------------------------------------------------
 
-CRATES = ("thread_local_model", "thread_local_schedule")
+CRATES = ("thread_local_base", "thread_local_schedule")
 
 
 def sources(pattern):

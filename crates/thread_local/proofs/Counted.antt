@@ -1,6 +1,6 @@
 -- How many ids are held, at least.
 use Rattle.std.proofs.Common.{ℕ, zero, suc, ◌≤◌, Bool, true, false, List, [], ◌∷◌, arith}
-use Rattle.thread_local_model.specs.Held.{held_count, HoldsAllBelow}
+use Rattle.thread_local_base.specs.Held.{held_count, HoldsAllBelow}
 
 -- as many as there are ids below a number, where all of these are held
 pub all_below_count : (n : ℕ) (held : List Bool) → HoldsAllBelow n held → n ≤ held_count held

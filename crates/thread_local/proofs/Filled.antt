@@ -2,7 +2,7 @@
 -- is filled, unless the closure fails or memory is refused.
 use Rattle.std.proofs.Common.{◌≡◌, subst, sym, Option, Some, None, Result, Ok, Err, Bool, is_some, true, false, refl, ap}
 use Rattle.std.specs.Prelude.{OnErr}
-use Rattle.thread_local_model.specs.Answers.{View, Answered, answer_or, view_after_or}
+use Rattle.thread_local_base.specs.Answers.{View, Answered, answer_or, view_after_or}
 use Rattle.thread_local.specs.Locals.{LocalView, knows, knowing, vacant, holding, IsFilled, IsAnswered, Fails, Fills, IsRefused}
 
 filled_at : {V : Type 0} (E : Type 0) (makes : V → Type 0) (view : LocalView V) (value : Option V)

@@ -3,11 +3,11 @@ use Rattle.std.proofs.Common.{◌≡◌, ◌∙◌, ℕ, ◌<◌, ◌≤◌, ◌
 use Rattle.std.specs.Prelude.{nat_lt}
 use Rattle.std.proofs.Math.Nat.{two-pow-succ}
 use Rattle.std.proofs.lemmas.Bool.{lt-ltb, ltb-true}
-use Rattle.thread_local_model.specs.Buckets.{stands, no_contents}
-use Rattle.thread_local_model.specs.Capacity.{binary_digits, reserved_slots, reserves_bucket}
-use Rattle.thread_local_model.specs.Owned.{Owned}
-use Rattle.thread_local_model.specs.Place.{id_at}
-use Rattle.thread_local_model.proofs.RowLaws.{row-no_contents}
+use Rattle.thread_local_base.specs.Buckets.{stands, no_contents}
+use Rattle.thread_local_base.specs.Capacity.{binary_digits, reserved_slots, reserves_bucket}
+use Rattle.thread_local_base.specs.Owned.{Owned}
+use Rattle.thread_local_base.specs.Place.{id_at}
+use Rattle.thread_local_base.proofs.RowLaws.{row-no_contents}
 use Rattle.thread_local_shared_buckets.specs.Grown.{only_reserved}
 use Rattle.thread_local_shared_buckets.proofs.GrownLaws.{only_reserved_if}
 

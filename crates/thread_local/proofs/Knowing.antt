@@ -1,12 +1,12 @@
 -- The view of a `Local`, by what its claim has learnt.
 use Rattle.std.proofs.Common.{◌≡◌, ◌∙◌, ℕ, ap}
-use Rattle.thread_local_model.specs.Learnt.{Learnt}
-use Rattle.thread_local_model.specs.Answers.{view_of}
+use Rattle.thread_local_base.specs.Learnt.{Learnt}
+use Rattle.thread_local_base.specs.Answers.{view_of}
 use Rattle.thread_local_shared_buckets.specs.Views.{ClaimView}
 use Rattle.thread_local.specs.Tables.{ThreadLocalView}
 use Rattle.thread_local.specs.Locals.{LocalView, local_view, knowing}
 use Rattle.std.specs.Prelude.{List}
-use Rattle.thread_local_model.specs.IdMoves.{IdMove}
+use Rattle.thread_local_base.specs.IdMoves.{IdMove}
 
 module _ {V : Type 0} (of : ThreadLocalView) (old new : ClaimView V) (before : List IdMove) (same : new.id ≡ old.id) where
   -- a claim of the same slot, which may have learnt something else

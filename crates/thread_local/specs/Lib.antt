@@ -1,12 +1,12 @@
-pub use Rattle.thread_local_model.specs.Buckets
-pub use Rattle.thread_local_model.specs.Held
-pub use Rattle.thread_local_model.specs.IdMoves
-pub use Rattle.thread_local_model.specs.Place
-pub use Rattle.thread_local_model.specs.Walk
+pub use Rattle.thread_local_base.specs.Buckets
+pub use Rattle.thread_local_base.specs.Held
+pub use Rattle.thread_local_base.specs.IdMoves
+pub use Rattle.thread_local_base.specs.Place
+pub use Rattle.thread_local_base.specs.Walk
 pub use Rattle.thread_local_ids.specs.TokenLists
 pub use Rattle.thread_local_ids.specs.Views
-pub use Rattle.thread_local_model.specs.Answers
-pub use Rattle.thread_local_model.specs.Learnt
+pub use Rattle.thread_local_base.specs.Answers
+pub use Rattle.thread_local_base.specs.Learnt
 pub mod Errors
 pub mod Owners
 pub mod Locals
@@ -16,5 +16,5 @@ pub use Rattle.thread_local_buckets.specs.IterMut
 pub use Rattle.thread_local_buckets.specs.Drain
 pub use Rattle.thread_local_shared_buckets.specs.Walks
 pub use Rattle.thread_local_shared_buckets.specs.TableView
-pub use Rattle.thread_local_model.specs.Capacity
+pub use Rattle.thread_local_base.specs.Capacity
 pub use Rattle.thread_local_judged.specs.Judged

@@ -5,10 +5,10 @@ use Rattle.std.specs.Prelude.{◌≡◌, ◌≢◌, ℕ, ◌<◌, ◌-◌, ◌^�
 use Rattle.std.specs.Prelude.{Err, refl}
 use base.Stored.{coded_bool}
 use Rattle.std.specs.Coded.{Coded, coded_option, coded_ℕ, coded×, code_by}
-use Rattle.thread_local_model.specs.Answers.{View, GetOr, Answered, Refused, Failed, Says, answer, view_of}
-use Rattle.thread_local_model.specs.Learnt.{Missing}
+use Rattle.thread_local_base.specs.Answers.{View, GetOr, Answered, Refused, Failed, Says, answer, view_of}
+use Rattle.thread_local_base.specs.Learnt.{Missing}
 use Rattle.thread_local_ids.specs.Views.{TokenView}
-use Rattle.thread_local_model.specs.IdMoves.{IdMove, Take, Give, moves_coded, noted}
+use Rattle.thread_local_base.specs.IdMoves.{IdMove, Take, Give, moves_coded, noted}
 use mathlib.Core.List.{IsPrefix}
 use Rattle.thread_local_ids.specs.declared.page.Tenure.{Tenure}
 use Rattle.thread_local_ids.specs.Rights.{taken_id}

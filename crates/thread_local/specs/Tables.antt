@@ -2,7 +2,7 @@
 use Rattle.std.specs.Prelude.{ℕ, Bool, Option, refl}
 use base.Stored.{coded_bool}
 use Rattle.std.specs.Coded.{Coded, coded_ℕ, coded_option, coded×, code_by}
-use Rattle.thread_local_model.specs.Owned.{Owned}
+use Rattle.thread_local_base.specs.Owned.{Owned}
 use Rattle.thread_local_shared_buckets.specs.TableView.{TableView}
 use Rattle.thread_local_shared_buckets.specs.Lent as buckets
 

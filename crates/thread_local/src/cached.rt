@@ -3,8 +3,8 @@
 ghost use Rattle.std.specs.Prelude.{◌≡◌, ◌≢◌, ◌-◌, ◌^◌, ◌<◌, length, true, Some, IfSome, IfOk, IsSome};
 ghost use Rattle.std.specs.Iterator.{YieldsFirst, YieldsFirstMut, UpTo, item_count};
 ghost use Rattle.std.specs.Iterator.SizeHint.{IsWithinCount};
-ghost use Rattle.thread_local_model.specs.Held.{least};
-ghost use Rattle.thread_local_model.specs.IdMoves.{held_after};
+ghost use Rattle.thread_local_base.specs.Held.{least};
+ghost use Rattle.thread_local_base.specs.IdMoves.{held_after};
 ghost use Rattle.thread_local_buckets.specs.IterMut.{iter_mut_rest, iter_mut_given};
 ghost use Rattle.thread_local_judged.specs.Judged.{Judged};
 
@@ -16,7 +16,7 @@ use std::marker::Model;
 use std::sync::Wait;
 use thread_local_buckets::{IntoIter, IterMut};
 use thread_local_judged::Judge;
-use thread_local_thread_id::LocalError;
+use thread_local_base::LocalError;
 
 /// A table with fewer calls. Deprecated: use `ThreadLocal`. Each call is the table's: it waits,
 /// takes memory, refuses and drops values where the table's does. What Rust's crate offers for the

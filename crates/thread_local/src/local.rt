@@ -1,11 +1,11 @@
 //! What a thread has in a table: an id of its own, through which it finds or makes its value.
 ghost use Rattle.std.specs.Prelude.{◌≡◌, ◌≢◌, ◌-◌, ◌^◌, ◌<◌, nat_lt, ⊤, is_some, true, false, None, Some, Ok, Err};
 ghost use Rattle.std.specs.Prelude.{OnOk, OnErr, IfOk, IfErr, IsOk, IsSome, option_map, alloc_error, Result};
-ghost use Rattle.thread_local_model.specs.Place.{IsPlaceOf};
-ghost use Rattle.thread_local_model.specs.Answers.{Get, GetOr, Found, Refused, Failed, answer};
-ghost use Rattle.thread_local_model.specs.Cursor.{fresh_cursor};
-ghost use Rattle.thread_local_model.specs.IdMoves.{Take, held_after, noted};
-ghost use Rattle.thread_local_model.specs.Held.{is_held};
+ghost use Rattle.thread_local_base.specs.Place.{IsPlaceOf};
+ghost use Rattle.thread_local_base.specs.Answers.{Get, GetOr, Found, Refused, Failed, answer};
+ghost use Rattle.thread_local_base.specs.Cursor.{fresh_cursor};
+ghost use Rattle.thread_local_base.specs.IdMoves.{Take, held_after, noted};
+ghost use Rattle.thread_local_base.specs.Held.{is_held};
 ghost use Rattle.thread_local_ids.specs.Rights.{taken_id};
 ghost use mathlib.Core.List.{IsPrefix};
 ghost use mathlib.Core.Logic.{◌∨₁◌};
@@ -22,7 +22,7 @@ use std::marker::Model;
 use std::sync::Wait;
 use thread_local_ids::{HeldId, Page, Right, Tenure, Token, Told};
 use thread_local_shared_buckets::{Claim, Iter, Tokens};
-use thread_local_thread_id::Thread;
+use thread_local_base::Thread;
 
 // `get_or` and `get_or_default` stand in local/lends.rt.
 mod lends;

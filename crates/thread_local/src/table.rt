@@ -4,11 +4,11 @@
 ghost use Rattle.std.specs.Prelude.{◌≡◌, ◌≢◌, ◌≤◌, ◌<◌, ◌-◌, ◌*◌, ◌^◌, ℕ, max, length};
 ghost use Rattle.std.specs.Prelude.{Option, true, false, None, Some, Err, alloc_error, IfOk, IsSome, map, []};
 ghost use Rattle.std.specs.List.Sorted.{IsStrictlyIncreasing};
-ghost use Rattle.thread_local_model.specs.Capacity.{reserved_slots};
+ghost use Rattle.thread_local_base.specs.Capacity.{reserved_slots};
 ghost use Rattle.thread_local_buckets.specs.IterMut.{iter_mut_given, entries_mut_given, entries_mut_rest};
 ghost use Rattle.thread_local_judged.specs.Judged.{Judged};
-ghost use Rattle.thread_local_model.specs.Held.{least, held_count, HoldsAllBelow};
-ghost use Rattle.thread_local_model.specs.IdMoves.{Take, held_after, noted};
+ghost use Rattle.thread_local_base.specs.Held.{least, held_count, HoldsAllBelow};
+ghost use Rattle.thread_local_base.specs.IdMoves.{Take, held_after, noted};
 ghost use mathlib.Core.List.{IsPrefix};
 ghost use Rattle.thread_local_shared_buckets.specs.Grown.{only_reserved};
 ghost use Rattle.thread_local_shared_buckets.specs.Walks.{fresh, fresh_with};
@@ -23,9 +23,9 @@ use thread_local_buckets::{Buckets, EntriesMut, IntoEntries, IntoIter, IterMut};
 use thread_local_ids::{Ids, Lock, Right, Room};
 pub use thread_local_ids::{Book, Page, Token, Told};
 pub use thread_local_judged::{Judge, judge_sync, judge_value};
-use thread_local_model::walk::walk_lists_the_map;
+use thread_local_base::walk::walk_lists_the_map;
 use thread_local_shared_buckets::{Entries, Iter, Shared, Tokens, replace_with};
-use thread_local_thread_id::LocalError;
+use thread_local_base::LocalError;
 
 // `buckets_mut`, `drain` and `get_mut` stand in table/lends.rt.
 mod lends;

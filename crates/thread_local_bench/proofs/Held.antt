@@ -1,8 +1,8 @@
 -- What is held where ids are taken one after another, and where one is given back and taken again.
 use Rattle.std.proofs.Common.{◌≡◌, ◌≢◌, ℕ, ◌+◌, ◌<◌, ◌≤◌, true, false, refl, sym, ◌∙◌, arith, ⊎_elim}
 use Rattle.std.proofs.lemmas.Bool.{eq-eqb, ne_eqb, cases_eq, cases_lt, both_ways}
-use Rattle.thread_local_model.specs.Held.{Manager, is_held, least, HoldsAllBelow, Takes, Gives}
-use Rattle.thread_local_model.proofs.HeldLaws.{least_free, least_lower, least_only}
+use Rattle.thread_local_base.specs.Held.{Manager, is_held, least, HoldsAllBelow, Takes, Gives}
+use Rattle.thread_local_base.proofs.HeldLaws.{least_free, least_lower, least_only}
 
 -- where every id below a number is held, one more is once an id is taken
 pub one_more : (old new : Manager) (n taken : ℕ) → HoldsAllBelow n old.held → Takes old new taken → HoldsAllBelow (n + 1) new.held

@@ -1,12 +1,12 @@
 //! Ids that are taken and given back, with few held and with many.
 ghost use Rattle.std.specs.Prelude.{◌≡◌, ◌<◌, IfOk};
-ghost use Rattle.thread_local_model.specs.Held.{HoldsAllBelow};
+ghost use Rattle.thread_local_base.specs.Held.{HoldsAllBelow};
 
 use crate::Round;
 use std::alloc::{AllocError, Global};
 use std::io;
 use std::time::{Clock, Instant};
-use thread_local_thread_id::ThreadIdManager;
+use thread_local_base::ThreadIdManager;
 
 /// Takes the first id and gives it back.
 pub(crate) fn few<R: Clock>(rt: &R, alloc: Global, pairs: u64) -> io::Result<Round> {

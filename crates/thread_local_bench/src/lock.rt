@@ -8,7 +8,7 @@ use std::thread::Threads;
 use std::time::{Clock, Instant};
 use std::{io, thread};
 use thread_local_ids::{Ids, Lock};
-use thread_local_thread_id::ThreadIdManager;
+use thread_local_base::ThreadIdManager;
 
 /// Prints the times of `pairs` pairs, five times. Each of four threads does a fourth of them.
 pub(crate) fn compare<R: Clock + Threads + Wait + Sync + Print>(

@@ -11,7 +11,7 @@ use thread_local::local::Local;
 use thread_local::{Padded, ThreadLocal};
 use thread_local_judged::Judge;
 use thread_local_pool::Pool;
-use thread_local_thread_id::LocalError;
+use thread_local_base::LocalError;
 
 /// The round in which so many threads used values so often, if the values say so. An operation is
 /// one use of each thread.

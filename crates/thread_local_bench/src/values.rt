@@ -5,7 +5,7 @@ use std::alloc::{AllocError, Global};
 use std::io;
 use std::time::{Clock, Instant};
 use thread_local_buckets::Buckets;
-use thread_local_thread_id::Thread;
+use thread_local_base::Thread;
 
 /// What a table is filled with.
 pub(crate) trait Value: Drop {

@@ -16,7 +16,7 @@ use std::alloc::Global;
 use std::io::{self, BufRead, BufReader, BufWriter, Print, Write};
 use std::sync::Wait;
 use thread_local::ThreadLocal;
-use thread_local_thread_id::ThreadIdManager;
+use thread_local_base::ThreadIdManager;
 
 /// The table with the manager, and the drops that its values count.
 #[derive(Drop)]

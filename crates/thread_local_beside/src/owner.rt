@@ -7,7 +7,7 @@ use std::alloc::{AllocError, Global};
 use std::io::{self, Write};
 use std::mem::replace;
 use thread_local::ThreadLocal;
-use thread_local_thread_id::Thread;
+use thread_local_base::Thread;
 
 /// How many ids there are.
 const IDS: usize = (1 << 63) - 1;

@@ -2,10 +2,10 @@
 use Rattle.std.proofs.Common.{◌≡◌, ◌≢◌, ℕ, ◌+◌, ◌^◌, ◌<◌, ◌≤◌, ◌⊎◌, List, length, Option, refl, sym, ◌∙◌, subst, arith}
 use Rattle.std.proofs.Common.{⊎_elim}
 use Rattle.std.proofs.lemmas.Bool.{cases_lt}
-use Rattle.thread_local_model.specs.Buckets.{Contents, row, IsTable}
-use Rattle.thread_local_model.specs.Rows.{with_row}
-use Rattle.thread_local_model.specs.Owner.{cleared_row}
-use Rattle.thread_local_model.proofs.RowLaws.{row-with_row-same, row-with_row-other, IsTable-with_row}
+use Rattle.thread_local_base.specs.Buckets.{Contents, row, IsTable}
+use Rattle.thread_local_base.specs.Rows.{with_row}
+use Rattle.thread_local_base.specs.Owner.{cleared_row}
+use Rattle.thread_local_base.proofs.RowLaws.{row-with_row-same, row-with_row-other, IsTable-with_row}
 use Rattle.thread_local_bucket_pointers.specs.Clearing.{AreCleared}
 
 -- no bucket is cleared yet

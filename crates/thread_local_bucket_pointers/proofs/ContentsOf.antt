@@ -4,9 +4,9 @@ use Rattle.std.proofs.Common.{ap, ◌∙◌, arith, Option, Some}
 use Rattle.std.specs.Prelude.{slice_index_or}
 use Rattle.std.proofs.lemmas.List.{map-set}
 use Rattle.std.proofs.Math.Seq.{map-set_same}
-use Rattle.thread_local_model.specs.Buckets.{Contents, row, no_contents, IsTable}
-use Rattle.thread_local_model.proofs.RowLaws.{row_whole}
-use Rattle.thread_local_model.specs.Rows.{with_row, with_slot}
+use Rattle.thread_local_base.specs.Buckets.{Contents, row, no_contents, IsTable}
+use Rattle.thread_local_base.proofs.RowLaws.{row_whole}
+use Rattle.thread_local_base.specs.Rows.{with_row, with_slot}
 use Rattle.thread_local_bucket_pointers.specs.declared.bucket_pointer.BucketPointer.{BucketPointer}
 use Rattle.thread_local_bucket_pointers.specs.declared.pointer_array.PointerArray.{PointerArray}
 use Rattle.thread_local_bucket_pointers.specs.Pointers.{null_pointer, with_pointer, pointers_with_value, slots_of, contents_of}

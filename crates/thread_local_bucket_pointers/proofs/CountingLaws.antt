@@ -7,18 +7,18 @@ use Rattle.std.specs.List.{count_by}
 use Rattle.std.proofs.lemmas.Bool.{cases_lt}
 use Rattle.std.proofs.lemmas.List.{get_or_past}
 use Rattle.std.proofs.lemmas.List.FromFn.{sum_by-map-range_with_len_more}
-use Rattle.thread_local_model.specs.Bits.{is_set, low_bits}
-use Rattle.thread_local_model.proofs.Word.{count_ones-counts}
-use Rattle.thread_local_model.specs.Place.{id_at}
-use Rattle.thread_local_model.specs.Buckets.{Contents, row, values}
-use Rattle.thread_local_model.specs.Rows.{value_in}
-use Rattle.thread_local_model.specs.Walk.{walk, walk_below}
-use Rattle.thread_local_model.proofs.WalkLaws.{walk_below-none, walk_below-add, length-walk_below}
-use Rattle.thread_local_model.specs.Owner.{NoneBelow}
-use Rattle.thread_local_model.specs.Counting.{count_below}
+use Rattle.thread_local_base.specs.Bits.{is_set, low_bits}
+use Rattle.thread_local_base.proofs.Word.{count_ones-counts}
+use Rattle.thread_local_base.specs.Place.{id_at}
+use Rattle.thread_local_base.specs.Buckets.{Contents, row, values}
+use Rattle.thread_local_base.specs.Rows.{value_in}
+use Rattle.thread_local_base.specs.Walk.{walk, walk_below}
+use Rattle.thread_local_base.proofs.WalkLaws.{walk_below-none, walk_below-add, length-walk_below}
+use Rattle.thread_local_base.specs.Owner.{NoneBelow}
+use Rattle.thread_local_base.specs.Counting.{count_below}
 use Rattle.thread_local_bucket_pointers.specs.Cursor.{IsAt, read_to}
 use Rattle.thread_local_bucket_pointers.specs.declared.cursor.RawIter.{RawIter}
-use Rattle.thread_local_model.proofs.TakingLaws.{count_below-slot, count_below-walk, walk_below-taken}
+use Rattle.thread_local_base.proofs.TakingLaws.{count_below-slot, count_below-walk, walk_below-taken}
 
 -- how many of the lowest bits of a word are set
 low_count : ℕ → ℕ → ℕ

@@ -1,10 +1,10 @@
 -- Taking one element's share out of `each`, and putting it back. Assumes `Logic`.
-use Rattle.thread_local_model.proofs.Names.{◌≡◌, ◌≢◌, ℕ, zero, suc, ◌+◌, ◌<◌, ◌≤◌, List, [], ◌∷◌, length, set, get_or}
-use Rattle.thread_local_model.proofs.Names.{refl, sym, arith, Ura, SProp, all, all_e, apply∗, Fml}
-use Rattle.thread_local_model.proofs.Names.{Logic, ‵, raw, ◌⊛◌, ◌$◌, ◌∵◌, !, qed, by, move, split, frame}
-use Rattle.thread_local_model.proofs.Names.{each as for_each, assume, use1, use2, rewrite, done}
+use Rattle.thread_local_base.proofs.Names.{◌≡◌, ◌≢◌, ℕ, zero, suc, ◌+◌, ◌<◌, ◌≤◌, List, [], ◌∷◌, length, set, get_or}
+use Rattle.thread_local_base.proofs.Names.{refl, sym, arith, Ura, SProp, all, all_e, apply∗, Fml}
+use Rattle.thread_local_base.proofs.Names.{Logic, ‵, raw, ◌⊛◌, ◌$◌, ◌∵◌, !, qed, by, move, split, frame}
+use Rattle.thread_local_base.proofs.Names.{each as for_each, assume, use1, use2, rewrite, done}
 use Rattle.thread_local_bucket_pointers.specs.Slots.{each}
-use Rattle.thread_local_model.proofs.Signs.{signs}
+use Rattle.thread_local_base.proofs.Signs.{signs}
 
 module _ {M : Type 1} {𝓤 : Ura M} (𝓛 : Logic 𝓤) where
   open signs 𝓛 use {⟦◌⟧, ◌⊢◌, ◌∗◌, ◌-∗◌}

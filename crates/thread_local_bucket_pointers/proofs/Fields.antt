@@ -1,7 +1,7 @@
 -- The data fields of a block, and of a retired one. Assumes `Logic`.
-use Rattle.thread_local_model.proofs.Names.{◌≡◌, ℕ, T, List, [], ◌∷◌, ◌++◌, refl, ap, ◌∙◌, arith, lit<, Ura, tcons}
-use Rattle.thread_local_model.proofs.Names.{tnil, ty_ptr, ty_struct, Val, vstruct, vcons, vnil, of_list, has_ty, WT}
-use Rattle.thread_local_model.proofs.Names.{ent, emp, Logic, sem, RattleType, Is, Ptr, block_ptr, null_ptr, ptr_val}
+use Rattle.thread_local_base.proofs.Names.{◌≡◌, ℕ, T, List, [], ◌∷◌, ◌++◌, refl, ap, ◌∙◌, arith, lit<, Ura, tcons}
+use Rattle.thread_local_base.proofs.Names.{tnil, ty_ptr, ty_struct, Val, vstruct, vcons, vnil, of_list, has_ty, WT}
+use Rattle.thread_local_base.proofs.Names.{ent, emp, Logic, sem, RattleType, Is, Ptr, block_ptr, null_ptr, ptr_val}
 use prog.Memory.{capped, size, align}
 use prog.Capped.{capped_is}
 use prog.RawLaws.{size-raw, align-raw}

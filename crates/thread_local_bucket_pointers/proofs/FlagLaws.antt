@@ -6,15 +6,15 @@ use Rattle.std.proofs.Math.Nat.{two-pow-succ}
 use Rattle.std.specs.Int.{trailing_zeros}
 use Rattle.std.proofs.lemmas.List.{get_or_past}
 use Rattle.std.proofs.lemmas.Bool.{cases_lt}
-use Rattle.thread_local_model.specs.Bits.{is_set, IsLowestSet}
-use Rattle.thread_local_model.proofs.Word.{lowest_set, is_set-zero}
-use Rattle.thread_local_model.specs.Place.{id_at}
-use Rattle.thread_local_model.specs.Buckets.{Contents, row, values}
-use Rattle.thread_local_model.specs.Rows.{value_in}
-use Rattle.thread_local_model.specs.Owner.{NoneBelow}
+use Rattle.thread_local_base.specs.Bits.{is_set, IsLowestSet}
+use Rattle.thread_local_base.proofs.Word.{lowest_set, is_set-zero}
+use Rattle.thread_local_base.specs.Place.{id_at}
+use Rattle.thread_local_base.specs.Buckets.{Contents, row, values}
+use Rattle.thread_local_base.specs.Rows.{value_in}
+use Rattle.thread_local_base.specs.Owner.{NoneBelow}
 use Rattle.thread_local_bucket_pointers.specs.Cursor.{AreFlagsAt, IsAt}
 use Rattle.thread_local_bucket_pointers.specs.declared.cursor.RawIter.{RawIter}
-use Rattle.thread_local_model.proofs.TakingLaws.{NoneBelow-slot}
+use Rattle.thread_local_base.proofs.TakingLaws.{NoneBelow-slot}
 
 -- a slot is the first that has a value, and these are the flags of its chunk, of which its own is
 -- the lowest that is set

@@ -1,8 +1,8 @@
 -- The arithmetic of a block: how many chunks it has, the offsets of its words and values, and what
 -- its words of flags say of its slots.
-use Rattle.thread_local_model.proofs.Names.{◌≡◌, ℕ, zero, suc, ◌+◌, ◌*◌, ◌^◌, ◌<◌, ◌≤◌, List, [], ◌∷◌, ◌++◌, length}
-use Rattle.thread_local_model.proofs.Names.{set, is_some, refl, sym, ap, ◌∙◌, subst, arith, lit<, mul-le-mul_right}
-use Rattle.thread_local_model.proofs.Names.{suc-mul, zero-mul, RattleType, lone, Option, None}
+use Rattle.thread_local_base.proofs.Names.{◌≡◌, ℕ, zero, suc, ◌+◌, ◌*◌, ◌^◌, ◌<◌, ◌≤◌, List, [], ◌∷◌, ◌++◌, length}
+use Rattle.thread_local_base.proofs.Names.{set, is_some, refl, sym, ap, ◌∙◌, subst, arith, lit<, mul-le-mul_right}
+use Rattle.thread_local_base.proofs.Names.{suc-mul, zero-mul, RattleType, lone, Option, None}
 use Rattle.std.specs.Prelude.{◌/◌, ◌%◌, replicate, slice_index}
 use Rattle.std.proofs.Common.{⊎_elim, le_of_lt, ap₂}
 use Rattle.std.proofs.lemmas.Bool.{cases_lt, cases_eq, eq-eqb, ne_eqb}
@@ -12,8 +12,8 @@ use mir.Val.{bytes}
 use prog.Memory.{size, align, up, capped}
 use prog.Capped.{capped_is}
 use prog.Align.{up-ge, align_w, align-bytes}
-use Rattle.thread_local_model.specs.Bits.{is_set, is_set_in, IsWordBut}
-use Rattle.thread_local_model.proofs.Words.{is_set_in-set, is_set_in-zeros, get_or-push_zero, is_set_in-push_zero}
+use Rattle.thread_local_base.specs.Bits.{is_set, is_set_in, IsWordBut}
+use Rattle.thread_local_base.proofs.Words.{is_set_in-set, is_set_in-zeros, get_or-push_zero, is_set_in-push_zero}
 use Rattle.thread_local_bucket_pointers.specs.Slots.{empty_slots, slot_value, chunks, AreFlagsFrom, AreFlags, stride}
 use Rattle.thread_local_bucket_pointers.specs.Slots.{value_words, slots_ty, Fits, flag_word_at}
 

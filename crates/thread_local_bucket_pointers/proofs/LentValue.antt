@@ -1,12 +1,12 @@
 -- A bucket's pointer while one of its values is lent. Assumes `Logic`.
-use Rattle.thread_local_model.proofs.Names.{◌≡◌, ℕ, ◌^◌, ◌<◌, true, List, [], ◌∷◌, length, set, Some, Ura, Val}
-use Rattle.thread_local_model.proofs.Names.{full_share, SProp, ent, sep, fsep, Logic, sem, ‵, raw, ◌⊛◌, ◌$◌, ◌∵◌, ! }
-use Rattle.thread_local_model.proofs.Names.{qed, move, split, fjoin, fpack, use3, done, RattleType, Ptr, block_of}
-use Rattle.thread_local_model.proofs.Names.{count_of, part_at, cell_at}
+use Rattle.thread_local_base.proofs.Names.{◌≡◌, ℕ, ◌^◌, ◌<◌, true, List, [], ◌∷◌, length, set, Some, Ura, Val}
+use Rattle.thread_local_base.proofs.Names.{full_share, SProp, ent, sep, fsep, Logic, sem, ‵, raw, ◌⊛◌, ◌$◌, ◌∵◌, ! }
+use Rattle.thread_local_base.proofs.Names.{qed, move, split, fjoin, fpack, use3, done, RattleType, Ptr, block_of}
+use Rattle.thread_local_base.proofs.Names.{count_of, part_at, cell_at}
 use Rattle.std.specs.Prelude.{◌/◌, ◌%◌}
 use denote.Memory.{part_of}
-use Rattle.thread_local_model.specs.Bits.{is_set}
-use Rattle.thread_local_model.proofs.Word.{same_bit}
+use Rattle.thread_local_base.specs.Bits.{is_set}
+use Rattle.thread_local_base.proofs.Word.{same_bit}
 use Rattle.thread_local_bucket_pointers.specs.LentValue.{with_slot_value}
 use Rattle.thread_local_bucket_pointers.specs.Slots.{value_offset, heap_token}
 use Rattle.thread_local_bucket_pointers.proofs.Slots.{Change, flags_of}

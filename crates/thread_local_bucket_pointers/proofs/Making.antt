@@ -1,11 +1,11 @@
 -- Making a block: its room is cut into slots, and the flags of one chunk after another are made.
 -- Assumes `Logic`.
-use Rattle.thread_local_model.proofs.Names.{◌≡◌, ℕ, suc, ◌+◌, List, [], ◌∷◌, ◌++◌, length, length-append, sym, refl}
-use Rattle.thread_local_model.proofs.Names.{ap, ◌∙◌, subst, arith, w64, Option, None, Ura, Ty, ty_int, SProp}
-use Rattle.thread_local_model.proofs.Names.{guard, Fml, ftrue, froom, Logic, ‵, ◌⊛◌, ◌$◌, ◌∵◌, !, qed, move}
-use Rattle.thread_local_model.proofs.Names.{drop, split3, fsplit, fsplit3, fjoin, fpick, fpack, check, frame, assume}
-use Rattle.thread_local_model.proofs.Names.{use1, use2, rewrite, done, RattleType, Ptr, block_ptr, block_of, count_of}
-use Rattle.thread_local_model.proofs.Names.{InBlock, nothing, word}
+use Rattle.thread_local_base.proofs.Names.{◌≡◌, ℕ, suc, ◌+◌, List, [], ◌∷◌, ◌++◌, length, length-append, sym, refl}
+use Rattle.thread_local_base.proofs.Names.{ap, ◌∙◌, subst, arith, w64, Option, None, Ura, Ty, ty_int, SProp}
+use Rattle.thread_local_base.proofs.Names.{guard, Fml, ftrue, froom, Logic, ‵, ◌⊛◌, ◌$◌, ◌∵◌, !, qed, move}
+use Rattle.thread_local_base.proofs.Names.{drop, split3, fsplit, fsplit3, fjoin, fpick, fpack, check, frame, assume}
+use Rattle.thread_local_base.proofs.Names.{use1, use2, rewrite, done, RattleType, Ptr, block_ptr, block_of, count_of}
+use Rattle.thread_local_base.proofs.Names.{InBlock, nothing, word}
 use Rattle.std.specs.Prelude.{replicate}
 use Rattle.std.proofs.lemmas.List.{length-replicate}
 use Rattle.thread_local_bucket_pointers.specs.Slots.{empty_slots, chunks, AreFlags, Fits, each, word_offset, flags_at, flag_room}
@@ -13,7 +13,7 @@ use Rattle.thread_local_bucket_pointers.specs.Slots.{flags_own, slot, back, bloc
 use Rattle.thread_local_bucket_pointers.proofs.Flags.{flags_none, flags_more}
 use Rattle.thread_local_bucket_pointers.proofs.Slots.{IsWordNear, word_is_near}
 use Rattle.thread_local_bucket_pointers.proofs.Rooms.{each_joined, block_cut}
-use Rattle.thread_local_model.proofs.Signs.{signs}
+use Rattle.thread_local_base.proofs.Signs.{signs}
 
 module _ {M : Type 1} {𝓤 : Ura M} (𝓛 : Logic 𝓤) (R : RattleType) where
   open 𝓛 use {H}

@@ -5,18 +5,18 @@ use Rattle.std.specs.Int.{w64, trailing_zeros}
 use Rattle.std.proofs.lemmas.Bool.{cases_eq, eq-eqb, ne_eqb, cases_lt}
 use Rattle.std.proofs.lemmas.Nat.{zero_from_ones}
 use Rattle.std.proofs.lemmas.List.{get_or-set_same, get_or-set_other}
-use Rattle.thread_local_model.specs.Bits.{IsLowestSet, IsWordBut}
-use Rattle.thread_local_model.specs.Place.{id_at}
-use Rattle.thread_local_model.specs.Buckets.{Contents, row, values}
-use Rattle.thread_local_model.specs.Walk.{walk, paired}
-use Rattle.thread_local_model.specs.Rows.{value_in, with_slot}
+use Rattle.thread_local_base.specs.Bits.{IsLowestSet, IsWordBut}
+use Rattle.thread_local_base.specs.Place.{id_at}
+use Rattle.thread_local_base.specs.Buckets.{Contents, row, values}
+use Rattle.thread_local_base.specs.Walk.{walk, paired}
+use Rattle.thread_local_base.specs.Rows.{value_in, with_slot}
 use Rattle.thread_local_bucket_pointers.proofs.CountingLaws.{counted_at_hand, few_at_hand, count_below-taken, walk-few}
 use Rattle.thread_local_bucket_pointers.proofs.FlagLaws.{IsFirst, first_at_hand}
-use Rattle.thread_local_model.proofs.RowLaws.{row-with_row-same, length-row-with_slot}
-use Rattle.thread_local_model.proofs.TakingLaws.{in_rows, taking}
-use Rattle.thread_local_model.proofs.ValueLaws.{values-id_at, values-with_slot-same, values-with_slot-other}
-use Rattle.thread_local_model.specs.Owner.{NoneBelow}
-use Rattle.thread_local_model.specs.Counting.{count_below}
+use Rattle.thread_local_base.proofs.RowLaws.{row-with_row-same, length-row-with_slot}
+use Rattle.thread_local_base.proofs.TakingLaws.{in_rows, taking}
+use Rattle.thread_local_base.proofs.ValueLaws.{values-id_at, values-with_slot-same, values-with_slot-other}
+use Rattle.thread_local_base.specs.Owner.{NoneBelow}
+use Rattle.thread_local_base.specs.Counting.{count_below}
 use Rattle.thread_local_bucket_pointers.specs.declared.cursor.RawIter.{RawIter}
 use Rattle.thread_local_bucket_pointers.specs.declared.cursor.OwnerCursor.{OwnerCursor}
 use Rattle.thread_local_bucket_pointers.specs.Cursor.{read_to, values_left, AreFlagsAt, IsAt, IsOwnerWalk}

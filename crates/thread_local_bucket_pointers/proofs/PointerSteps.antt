@@ -1,12 +1,12 @@
 -- A bucket's pointer as a value, and taking a slot or a chunk's word out of its block and putting
 -- it back. Assumes `Logic`.
-use Rattle.thread_local_model.proofs.Names.{◌≡◌, ℕ, ◌*◌, ◌<◌, List, [], ◌∷◌, ◌++◌, length, length-set, set, refl, sym}
-use Rattle.thread_local_model.proofs.Names.{ap, ◌∙◌, subst, arith, lit<, T, Option, Ura, Ty, ty_ptr, ty_struct, tcons}
-use Rattle.thread_local_model.proofs.Names.{tnil, Val, vstruct, vcons, vnil, of_list, has_ty, WT, SProp, ent}
-use Rattle.thread_local_model.proofs.Names.{ex, all, guard, emp, via, id⊢, apply∗, Fml, Logic, sem, ‵, raw, ◌⊛◌}
-use Rattle.thread_local_model.proofs.Names.{some, given, ◌$◌, ◌∵◌, !, qed, by, move, keep, drop, split, fsplit3}
-use Rattle.thread_local_model.proofs.Names.{fjoin3, fpick, fpack, pick, check, show, learn, frame, assume, use1, use2}
-use Rattle.thread_local_model.proofs.Names.{done, fact_i, RattleType, Is, Ptr, block_ptr, null_ptr, InBlock, ptr_val}
+use Rattle.thread_local_base.proofs.Names.{◌≡◌, ℕ, ◌*◌, ◌<◌, List, [], ◌∷◌, ◌++◌, length, length-set, set, refl, sym}
+use Rattle.thread_local_base.proofs.Names.{ap, ◌∙◌, subst, arith, lit<, T, Option, Ura, Ty, ty_ptr, ty_struct, tcons}
+use Rattle.thread_local_base.proofs.Names.{tnil, Val, vstruct, vcons, vnil, of_list, has_ty, WT, SProp, ent}
+use Rattle.thread_local_base.proofs.Names.{ex, all, guard, emp, via, id⊢, apply∗, Fml, Logic, sem, ‵, raw, ◌⊛◌}
+use Rattle.thread_local_base.proofs.Names.{some, given, ◌$◌, ◌∵◌, !, qed, by, move, keep, drop, split, fsplit3}
+use Rattle.thread_local_base.proofs.Names.{fjoin3, fpick, fpack, pick, check, show, learn, frame, assume, use1, use2}
+use Rattle.thread_local_base.proofs.Names.{done, fact_i, RattleType, Is, Ptr, block_ptr, null_ptr, InBlock, ptr_val}
 use Rattle.std.specs.Prelude.{◌/◌, not, nat_lt}
 use Rattle.std.proofs.lemmas.Bool.{lt-ltb}
 use mir.Val.{ptr_same, vnull}
@@ -22,7 +22,7 @@ use Rattle.thread_local_bucket_pointers.specs.Slots.{slot_value, block_ty, heap_
 use Rattle.thread_local_bucket_pointers.specs.PointerOwns.{pointer_owns}
 use Rattle.thread_local_bucket_pointers.specs.contracts.bucket_pointer.BucketPointer as one_pointer
 use Rattle.thread_local_bucket_pointers.proofs.Slots.{IsWordIn, IsSlotIn, Change, flags_of, slot_of, Back, slot_out, slot_back, word_out}
-use Rattle.thread_local_model.proofs.Signs.{signs}
+use Rattle.thread_local_base.proofs.Signs.{signs}
 
 abbrev pub pointer_val : Ptr → Val
 pointer_val p = vstruct (vcons (ptr_val p) vnil)

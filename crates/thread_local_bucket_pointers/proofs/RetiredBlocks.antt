@@ -1,14 +1,14 @@
 -- Retiring a block: its slots become room one by one, from the first on. Assumes `Logic`.
-use Rattle.thread_local_model.proofs.Names.{◌≡◌, ℕ, suc, ◌+◌, ◌*◌, ◌^◌, ◌<◌, List, [], ◌∷◌, ◌++◌, length}
-use Rattle.thread_local_model.proofs.Names.{length-append, set, sym, refl, ap, ◌∙◌, subst, arith, Option, Some, None}
-use Rattle.thread_local_model.proofs.Names.{Ura, Ty, SProp, ex, all, all_e, guard, apply∗}
-use Rattle.thread_local_model.proofs.Names.{Fml, ftrue, fsep, froom, Logic, ‵, raw, ◌⊛◌, given, learn, ◌$◌, ◌∵◌}
-use Rattle.thread_local_model.proofs.Names.{ !, qed, by, move, drop, split, fsplit, fsplit3, fjoin, fjoin3, fpick}
-use Rattle.thread_local_model.proofs.Names.{fpack, show, check, frame, assume, use1, use2, rewrite, done, RattleType}
-use Rattle.thread_local_model.proofs.Names.{Ptr, block_ptr, block_of, count_of, InBlock, nothing}
+use Rattle.thread_local_base.proofs.Names.{◌≡◌, ℕ, suc, ◌+◌, ◌*◌, ◌^◌, ◌<◌, List, [], ◌∷◌, ◌++◌, length}
+use Rattle.thread_local_base.proofs.Names.{length-append, set, sym, refl, ap, ◌∙◌, subst, arith, Option, Some, None}
+use Rattle.thread_local_base.proofs.Names.{Ura, Ty, SProp, ex, all, all_e, guard, apply∗}
+use Rattle.thread_local_base.proofs.Names.{Fml, ftrue, fsep, froom, Logic, ‵, raw, ◌⊛◌, given, learn, ◌$◌, ◌∵◌}
+use Rattle.thread_local_base.proofs.Names.{ !, qed, by, move, drop, split, fsplit, fsplit3, fjoin, fjoin3, fpick}
+use Rattle.thread_local_base.proofs.Names.{fpack, show, check, frame, assume, use1, use2, rewrite, done, RattleType}
+use Rattle.thread_local_base.proofs.Names.{Ptr, block_ptr, block_of, count_of, InBlock, nothing}
 use Rattle.std.specs.Prelude.{◌/◌, ◌%◌, is_some, slice_index, replicate, take, drop as but_first, if◌then◌else◌}
 use Rattle.std.proofs.lemmas.List.{take-append-drop, get_or-drop, length-replicate, replicate_more, set-get_or}
-use Rattle.thread_local_model.specs.Bits.{is_set}
+use Rattle.thread_local_base.specs.Bits.{is_set}
 use Rattle.thread_local_bucket_pointers.specs.Slots.{empty_slots, slot_value, chunks, Fits, AreWords, AreFlagsFrom, each, stride}
 use Rattle.thread_local_bucket_pointers.specs.Slots.{flags_at, flag_room, slot, back, block_ty, block_owns}
 use Rattle.thread_local_bucket_pointers.proofs.Each.{Put, each_at}
@@ -16,7 +16,7 @@ use Rattle.thread_local_bucket_pointers.proofs.Flags.{in_chunks, value_near, fla
 use Rattle.thread_local_bucket_pointers.proofs.Slots.{IsWordNear, word_is_near, flags_of}
 use Rattle.thread_local_bucket_pointers.proofs.Rooms.{each_cut, each_joined, words_room}
 use Rattle.thread_local_bucket_pointers.specs.Retired.{retired_owns, flags_left, rest}
-use Rattle.thread_local_model.proofs.Signs.{signs}
+use Rattle.thread_local_base.proofs.Signs.{signs}
 
 module _ {M : Type 1} {𝓤 : Ura M} (𝓛 : Logic 𝓤) (R : RattleType) where
   open 𝓛 use {H}

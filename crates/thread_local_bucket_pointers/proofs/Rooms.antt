@@ -1,18 +1,18 @@
 -- The room of a block, cut into room for each word and for each value, with the way back. Assumes
 -- `Logic`.
-use Rattle.thread_local_model.proofs.Names.{◌≡◌, ℕ, zero, suc, ◌+◌, ◌*◌, List, [], ◌∷◌, ◌++◌, length, refl, sym, ap}
-use Rattle.thread_local_model.proofs.Names.{◌∙◌, subst, arith, w64, suc-mul, zero-mul, Option, None, Ura, Ty, ty_int}
-use Rattle.thread_local_model.proofs.Names.{ty_array, tcons, tnil, bare, vint, SProp, id⊢, apply∗, Fml}
-use Rattle.thread_local_model.proofs.Names.{ftrue, fsep, froom, Logic, ‵, raw, ◌⊛◌, ◌$◌, ◌∵◌, !, qed, by, move}
-use Rattle.thread_local_model.proofs.Names.{drop, split, fsplit, fsplit3, fjoin, fjoin3, frame, assume, use1, rewrite}
-use Rattle.thread_local_model.proofs.Names.{done, RattleType, lone, nothing}
+use Rattle.thread_local_base.proofs.Names.{◌≡◌, ℕ, zero, suc, ◌+◌, ◌*◌, List, [], ◌∷◌, ◌++◌, length, refl, sym, ap}
+use Rattle.thread_local_base.proofs.Names.{◌∙◌, subst, arith, w64, suc-mul, zero-mul, Option, None, Ura, Ty, ty_int}
+use Rattle.thread_local_base.proofs.Names.{ty_array, tcons, tnil, bare, vint, SProp, id⊢, apply∗, Fml}
+use Rattle.thread_local_base.proofs.Names.{ftrue, fsep, froom, Logic, ‵, raw, ◌⊛◌, ◌$◌, ◌∵◌, !, qed, by, move}
+use Rattle.thread_local_base.proofs.Names.{drop, split, fsplit, fsplit3, fjoin, fjoin3, frame, assume, use1, rewrite}
+use Rattle.thread_local_base.proofs.Names.{done, RattleType, lone, nothing}
 use Rattle.std.specs.Prelude.{replicate}
 use prog.Memory.{size, up, align}
 use prog.RawLaws.{size-raw, align-raw}
 use Rattle.thread_local_bucket_pointers.proofs.Flags.{values_start, words_start}
 use Rattle.thread_local_bucket_pointers.specs.Slots.{empty_slots, chunks, each, stride, value_words, block_ty, word_offset}
 use Rattle.thread_local_bucket_pointers.specs.Slots.{value_offset, flags_at, flag_room, slot, back}
-use Rattle.thread_local_model.proofs.Signs.{signs}
+use Rattle.thread_local_base.proofs.Signs.{signs}
 
 module _ {M : Type 1} {𝓤 : Ura M} (𝓛 : Logic 𝓤) where
   open signs 𝓛 use {⟦◌⟧, ◌⊢◌, ◌∗◌, ◌-∗◌}

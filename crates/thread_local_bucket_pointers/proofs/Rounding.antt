@@ -1,6 +1,6 @@
 -- How many bytes a block takes, once it is rounded up to its alignment.
-use Rattle.thread_local_model.proofs.Names.{◌≡◌, ℕ, ◌+◌, ◌-◌, ◌*◌, ◌^◌, ◌<◌, ◌≤◌, refl, sym, ap, ◌∙◌, subst, arith}
-use Rattle.thread_local_model.proofs.Names.{lit<, RattleType, lone}
+use Rattle.thread_local_base.proofs.Names.{◌≡◌, ℕ, ◌+◌, ◌-◌, ◌*◌, ◌^◌, ◌<◌, ◌≤◌, refl, sym, ap, ◌∙◌, subst, arith}
+use Rattle.thread_local_base.proofs.Names.{lit<, RattleType, lone}
 use Rattle.std.specs.Prelude.{◌⊎◌, ◌%◌}
 use Rattle.std.proofs.Common.{zero, suc, inl, inr, ⊎_elim, one-mul, zero-mul, mul-le-mul_right}
 use mir.Syntax.{Width, w8, w16, w32, w64, w128}

@@ -1,22 +1,22 @@
 -- Taking a slot and its chunk's word out of a block, and putting them back. Assumes `Logic`.
-use Rattle.thread_local_model.proofs.Names.{◌≡◌, ◌≢◌, ℕ, ◌+◌, ◌*◌, ◌^◌, ◌<◌, List, [], ◌∷◌, length, length-set, set}
-use Rattle.thread_local_model.proofs.Names.{get_or, refl, sym, ap, ◌∙◌, subst, arith, lit<, T, false, Option, Some}
-use Rattle.thread_local_model.proofs.Names.{None, is_some, Ura, Ty, ty_ptr, has_ty, WT, SProp, ex, all}
-use Rattle.thread_local_model.proofs.Names.{all_e, guard, apply∗, Fml, ftrue, Logic, ‵, raw, ◌⊛◌, ◌$◌, ◌∵◌, ! }
-use Rattle.thread_local_model.proofs.Names.{qed, by, move, drop, split, fsplit, fsplit3, fjoin3, fpick, fpack, check}
-use Rattle.thread_local_model.proofs.Names.{show, frame, each as for_each, assume, use1, use2, rewrite, done}
-use Rattle.thread_local_model.proofs.Names.{RattleType, Ptr, block_ptr, null_ptr, ptr_val, block_of, count_of, InBlock}
-use Rattle.thread_local_model.proofs.Names.{nothing}
+use Rattle.thread_local_base.proofs.Names.{◌≡◌, ◌≢◌, ℕ, ◌+◌, ◌*◌, ◌^◌, ◌<◌, List, [], ◌∷◌, length, length-set, set}
+use Rattle.thread_local_base.proofs.Names.{get_or, refl, sym, ap, ◌∙◌, subst, arith, lit<, T, false, Option, Some}
+use Rattle.thread_local_base.proofs.Names.{None, is_some, Ura, Ty, ty_ptr, has_ty, WT, SProp, ex, all}
+use Rattle.thread_local_base.proofs.Names.{all_e, guard, apply∗, Fml, ftrue, Logic, ‵, raw, ◌⊛◌, ◌$◌, ◌∵◌, ! }
+use Rattle.thread_local_base.proofs.Names.{qed, by, move, drop, split, fsplit, fsplit3, fjoin3, fpick, fpack, check}
+use Rattle.thread_local_base.proofs.Names.{show, frame, each as for_each, assume, use1, use2, rewrite, done}
+use Rattle.thread_local_base.proofs.Names.{RattleType, Ptr, block_ptr, null_ptr, ptr_val, block_of, count_of, InBlock}
+use Rattle.thread_local_base.proofs.Names.{nothing}
 use Rattle.std.specs.Prelude.{◌/◌, ◌%◌, IsSome}
 use Rattle.std.proofs.Common.{true≢false, ⊎_elim}
 use Rattle.std.proofs.lemmas.Bool.{eq-eqb, ne_eqb, cases_eq}
 use Rattle.std.proofs.lemmas.List.{get_or-set_same, get_or-set_other, set-get_or}
-use Rattle.thread_local_model.specs.Bits.{is_set, IsWordBut}
+use Rattle.thread_local_base.specs.Bits.{is_set, IsWordBut}
 use Rattle.thread_local_bucket_pointers.specs.Slots.{slot_value, chunks, stride, value_words, Fits, flag_word_at, AreFlags, each}
 use Rattle.thread_local_bucket_pointers.specs.Slots.{flags_at, slot, back, flags_own, block_ty, block_owns}
 use Rattle.thread_local_bucket_pointers.proofs.Each.{Put, each_at}
 use Rattle.thread_local_bucket_pointers.proofs.Flags.{in_chunks, chunk_in, word_near, value_near, number_is, flag_read, flags_set}
-use Rattle.thread_local_model.proofs.Signs.{signs}
+use Rattle.thread_local_base.proofs.Signs.{signs}
 
 pub value_of : {X : Type 0} (v : Option X) → IsSome v → (x : X) × (v ≡ Some x)
 value_of None i = absurd (true≢false (sym i))

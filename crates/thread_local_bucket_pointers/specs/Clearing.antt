@@ -1,7 +1,7 @@
 -- What clears a part of a table's buckets.
 use Rattle.std.specs.Prelude.{◌≡◌, ℕ, ◌<◌, ◌≤◌, true}
-use Rattle.thread_local_model.specs.Buckets.{Contents, row, stands, IsTable}
-use Rattle.thread_local_model.specs.Owner.{cleared_row}
+use Rattle.thread_local_base.specs.Buckets.{Contents, row, stands, IsTable}
+use Rattle.thread_local_base.specs.Owner.{cleared_row}
 
 -- the buckets from `first` up to `end` are cleared, and the others are unchanged
 pub record AreCleared {V : Type 0} (old new : Contents V) (reserved first end : ℕ) : Type 0 where

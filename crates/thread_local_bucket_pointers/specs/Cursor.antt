@@ -1,11 +1,11 @@
 -- Where an owner's walk is: behind slots whose flags it has read. No slot before these has a value.
 use Rattle.std.specs.Prelude.{◌≡◌, ℕ, ◌+◌, ◌-◌, ◌*◌, ◌/◌, ◌%◌, ◌^◌, ◌<◌, ◌≤◌, min, length, is_some, count_ones}
-use Rattle.thread_local_model.specs.Bits.{is_set}
-use Rattle.thread_local_model.specs.Place.{id_at}
-use Rattle.thread_local_model.specs.Buckets.{Contents, row, values}
-use Rattle.thread_local_model.specs.Rows.{value_in}
-use Rattle.thread_local_model.specs.Walk.{walk}
-use Rattle.thread_local_model.specs.Owner.{NoneBelow}
+use Rattle.thread_local_base.specs.Bits.{is_set}
+use Rattle.thread_local_base.specs.Place.{id_at}
+use Rattle.thread_local_base.specs.Buckets.{Contents, row, values}
+use Rattle.thread_local_base.specs.Rows.{value_in}
+use Rattle.thread_local_base.specs.Walk.{walk}
+use Rattle.thread_local_base.specs.Owner.{NoneBelow}
 use Rattle.thread_local_bucket_pointers.specs.declared.cursor.RawIter.{RawIter}
 use Rattle.thread_local_bucket_pointers.specs.declared.cursor.OwnerCursor.{OwnerCursor}
 

@@ -5,7 +5,7 @@ use mir.Syntax.{Ty}
 use denote.RattleType.{RattleType}
 use denote.RawPtr.{Ptr, null_ptr}
 use Rattle.thread_local_bucket_pointers.specs.Slots.{block_owns}
-use Rattle.thread_local_model.specs.Fact.{fact}
+use Rattle.thread_local_base.specs.Fact.{fact}
 
 -- the pointer is null where there are no slots, and else points to a block of these
 abbrev pub pointer_owns : (R : RattleType) → (Ty → Ptr → Fml) → Ptr → List (Option R.Denot) → Fml

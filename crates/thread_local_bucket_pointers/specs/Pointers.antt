@@ -1,7 +1,7 @@
 -- A table's pointers, their contents, and the pointers once one of them or a value changes.
 use Rattle.std.specs.Prelude.{ℕ, List, Option, [], map, slice_set, slice_index_or}
 use denote.RawPtr.{null_ptr}
-use Rattle.thread_local_model.specs.Buckets.{Contents}
+use Rattle.thread_local_base.specs.Buckets.{Contents}
 use Rattle.thread_local_bucket_pointers.specs.declared.bucket_pointer.BucketPointer.{BucketPointer}
 use Rattle.thread_local_bucket_pointers.specs.LentValue.{with_slot_value}
 use Rattle.thread_local_bucket_pointers.specs.declared.pointer_array.PointerArray.{PointerArray}

@@ -5,7 +5,7 @@ use mir.Syntax.{Ty}
 use denote.RattleType.{RattleType}
 use denote.RawPtr.{Ptr, block_of, count_of, InBlock}
 use Rattle.thread_local_bucket_pointers.specs.Slots.{empty_slots, chunks, Fits, AreWords, AreFlagsFrom, each, flags_at, slot, block_ty, back}
-use Rattle.thread_local_model.specs.Fact.{fact}
+use Rattle.thread_local_base.specs.Fact.{fact}
 
 -- the slots after the first
 abbrev pub rest : {X : Type 0} → List (Option X) → List (Option X)

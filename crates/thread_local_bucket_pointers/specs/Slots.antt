@@ -20,8 +20,8 @@ use denote.RawPtr.{Ptr, block_of, count_of, InBlock}
 use Rattle.std.specs.Sync.RawAtomic.{word as atomic}
 use Rattle.std.specs.declared.alloc.Global.{Global}
 use Rattle.std.specs.contracts.impls.GlobalAllocator.TheImpl.{ghosts}
-use Rattle.thread_local_model.specs.Bits.{is_set_in}
-use Rattle.thread_local_model.specs.Fact.{fact}
+use Rattle.thread_local_base.specs.Bits.{is_set_in}
+use Rattle.thread_local_base.specs.Fact.{fact}
 
 -- n slots without a value
 abbrev pub empty_slots : {X : Type 0} → ℕ → List (Option X)

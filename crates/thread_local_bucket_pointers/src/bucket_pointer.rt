@@ -2,7 +2,7 @@
 ghost use Rattle.std.specs.Prelude.{◌≡◌, ◌⊎◌, ℕ, ◌+◌, ◌*◌, ◌/◌, ◌<◌, List, [], length, Option, Some, None, is_some, IsSome, nat_lt, slice_set};
 ghost use base.Stored.{coded_list};
 ghost use Rattle.std.specs.Coded.{coded_option};
-ghost use Rattle.thread_local_model.specs.Bits.{is_set};
+ghost use Rattle.thread_local_base.specs.Bits.{is_set};
 ghost use Rattle.thread_local_bucket_pointers.specs.Slots.{heap_token, slot_value, empty_slots, flag_word_at};
 ghost use Rattle.thread_local_bucket_pointers.specs.PointerOwns.{pointer_owns};
 

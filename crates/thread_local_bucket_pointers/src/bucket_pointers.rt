@@ -1,15 +1,15 @@
 //! The pointers of a table, which contracts see as its contents.
 ghost use Rattle.std.specs.Prelude.{◌≡◌, ℕ, ◌+◌, ◌*◌, ◌^◌, ◌<◌, true, false, [], length, Some, None, is_some, OnOk, OnErr, IsSome};
-ghost use Rattle.thread_local_model.specs.Bits.{is_set};
-ghost use Rattle.thread_local_model.specs.Buckets.{row, stands, no_contents, IsTable};
-ghost use Rattle.thread_local_model.specs.Rows.{value_in, with_row, with_slot, empty_row};
+ghost use Rattle.thread_local_base.specs.Bits.{is_set};
+ghost use Rattle.thread_local_base.specs.Buckets.{row, stands, no_contents, IsTable};
+ghost use Rattle.thread_local_base.specs.Rows.{value_in, with_row, with_slot, empty_row};
 ghost use Rattle.thread_local_bucket_pointers.specs.Cursor.{AreFlagsAt};
 
 use crate::pointer_array::PointerArray;
 use crate::{Block, FlagSource, flag_word_at};
 use std::alloc::{AllocError, Global};
 use std::marker::Model;
-use thread_local_thread_id::{Thread, bucket_size};
+use thread_local_base::{Thread, bucket_size};
 
 mod clearing;
 mod counting;
@@ -28,8 +28,8 @@ pub struct BucketPointers<T> {
 }
 
 impl<T> Model for BucketPointers<T> {
-    ghost use Rattle.thread_local_model.specs.Buckets.{Contents, IsTable};
-    ghost use Rattle.thread_local_model.specs.Code.{contents_coded};
+    ghost use Rattle.thread_local_base.specs.Buckets.{Contents, IsTable};
+    ghost use Rattle.thread_local_base.specs.Code.{contents_coded};
     ghost use Rattle.thread_local_bucket_pointers.specs.Pointers.{contents_of};
 
     ghost Value = { Contents T };

@@ -1,16 +1,16 @@
 //! How an owner's walk finds its next value: it reads the flags of 64 slots at a time, and skips
 //! flags that are all 0.
 ghost use Rattle.std.specs.Prelude.{◌≡◌, ◌+◌, ◌*◌, ◌^◌, ◌<◌, ◌≤◌, true, false, [], ◌∷◌, ℕ, length, Some, None, is_some, IsSome};
-ghost use Rattle.thread_local_model.specs.Bits.{is_set, IsLowestSet, IsWordBut};
-ghost use Rattle.thread_local_model.specs.Place.{id_at};
-ghost use Rattle.thread_local_model.specs.Buckets.{Contents, row, stands, values};
-ghost use Rattle.thread_local_model.specs.Rows.{value_in, with_slot};
-ghost use Rattle.thread_local_model.specs.Walk.{walk, paired};
-ghost use Rattle.thread_local_model.specs.Owner.{NoneBelow};
+ghost use Rattle.thread_local_base.specs.Bits.{is_set, IsLowestSet, IsWordBut};
+ghost use Rattle.thread_local_base.specs.Place.{id_at};
+ghost use Rattle.thread_local_base.specs.Buckets.{Contents, row, stands, values};
+ghost use Rattle.thread_local_base.specs.Rows.{value_in, with_slot};
+ghost use Rattle.thread_local_base.specs.Walk.{walk, paired};
+ghost use Rattle.thread_local_base.specs.Owner.{NoneBelow};
 ghost use Rattle.thread_local_bucket_pointers.specs.Cursor.{next_bucket, read_to, slot_at, values_left, AreFlagsAt, HasRead, IsAt, IsOwnerWalk, MayRead};
 
 use std::fmt;
-use thread_local_thread_id::BUCKETS;
+use thread_local_base::BUCKETS;
 
 /// What a walk reads: which buckets stand, and the flags of their slots, 64 to a word. A flag is
 /// set where its slot has a value. No call takes memory.

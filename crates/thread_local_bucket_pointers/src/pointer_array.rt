@@ -1,10 +1,10 @@
 //! The array of a table's pointers, one for each bucket.
 ghost use Rattle.std.specs.Prelude.{◌≡◌};
-ghost use Rattle.thread_local_model.specs.Buckets.{no_contents, IsTable};
+ghost use Rattle.thread_local_base.specs.Buckets.{no_contents, IsTable};
 ghost use Rattle.thread_local_bucket_pointers.specs.Pointers.{contents_of};
 
 use crate::bucket_pointer::BucketPointer;
-use thread_local_thread_id::BUCKETS;
+use thread_local_base::BUCKETS;
 
 mod lends;
 

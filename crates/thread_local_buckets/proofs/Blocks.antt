@@ -1,22 +1,22 @@
 -- A pointer is split into what doesn't change, its values and the rest, and put together again with
 -- any values in the same slots. Assumes `Logic`.
-use Rattle.thread_local_model.proofs.Names.{◌≡◌, ℕ, suc, ◌+◌, List, [], ◌∷◌, length, refl, sym, ap, ◌∙◌, subst, arith}
-use Rattle.thread_local_model.proofs.Names.{Bool, false, is_some, Option, Some, None, Ura, Fml, ftrue}
-use Rattle.thread_local_model.proofs.Names.{fsep, Logic, ‵, ◌⊛◌, given, ◌$◌, ◌∵◌, !, qed, by, move, drop, split}
-use Rattle.thread_local_model.proofs.Names.{fsplit, fsplit3, fjoin, fjoin3, fpick, fpack, learn, check, use1, use2}
-use Rattle.thread_local_model.proofs.Names.{rewrite, done, guard, guard_i, fact_use, RattleType, Ptr, null_ptr}
-use Rattle.thread_local_model.proofs.Names.{block_of, count_of, InBlock, nothing}
+use Rattle.thread_local_base.proofs.Names.{◌≡◌, ℕ, suc, ◌+◌, List, [], ◌∷◌, length, refl, sym, ap, ◌∙◌, subst, arith}
+use Rattle.thread_local_base.proofs.Names.{Bool, false, is_some, Option, Some, None, Ura, Fml, ftrue}
+use Rattle.thread_local_base.proofs.Names.{fsep, Logic, ‵, ◌⊛◌, given, ◌$◌, ◌∵◌, !, qed, by, move, drop, split}
+use Rattle.thread_local_base.proofs.Names.{fsplit, fsplit3, fjoin, fjoin3, fpick, fpack, learn, check, use1, use2}
+use Rattle.thread_local_base.proofs.Names.{rewrite, done, guard, guard_i, fact_use, RattleType, Ptr, null_ptr}
+use Rattle.thread_local_base.proofs.Names.{block_of, count_of, InBlock, nothing}
 use contract.Monad.{fact as said}
 use denote.RawPtr.{Testable}
 use Rattle.std.proofs.lemmas.Bool.{true≢false, false≢true}
 use Rattle.std.proofs.lemmas.List.{length-map}
 use Rattle.std.proofs.GlobalToken.{dealloc_token-Testable}
 use Rattle.thread_local_bucket_pointers.specs.Slots.{block_ty, chunks, Fits, AreFlags, flags_at, slot, each, flags, flags_own, back, heap_token}
-use Rattle.thread_local_model.specs.Fact.{fact}
+use Rattle.thread_local_base.specs.Fact.{fact}
 use Rattle.thread_local_bucket_pointers.specs.PointerOwns.{pointer_owns}
 use Rattle.thread_local_buckets.specs.Lent.{flagged, valued, bare, PointsTo}
 use Rattle.thread_local_buckets.proofs.Shapes.{has, slot_has}
-use Rattle.thread_local_model.proofs.Signs.{signs}
+use Rattle.thread_local_base.proofs.Signs.{signs}
 
 abbrev pub first_of : List Bool → Bool
 first_of [] = false

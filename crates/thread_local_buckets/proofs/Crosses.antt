@@ -1,6 +1,6 @@
 -- A loan may be sent to another thread where its values may.
-use Rattle.thread_local_model.proofs.Names.{ℕ, suc, ◌+◌, List, [], ◌∷◌, Option, Some, None, full_share, Fml}
-use Rattle.thread_local_model.proofs.Names.{RattleType, Ptr, block_of, count_of}
+use Rattle.thread_local_base.proofs.Names.{ℕ, suc, ◌+◌, List, [], ◌∷◌, Option, Some, None, full_share, Fml}
+use Rattle.thread_local_base.proofs.Names.{RattleType, Ptr, block_of, count_of}
 use base.Fml.{Lft, GName}
 use base.Shift.{Keyless}
 use denote.Exit.{Exit, unchanged, leaves, hidden, under}
@@ -8,7 +8,7 @@ use denote.Param.Send.{IsSend, Quiet, AllSend, part_keyless, owning_send, struct
 use denote.Ref.{NamedLft}
 use denote.Struct.Owning.{shape as fields_shape, fields, to}
 use denote.Struct.Struct.{exits_of}
-use Rattle.thread_local_model.specs.Buckets.{Contents}
+use Rattle.thread_local_base.specs.Buckets.{Contents}
 use Rattle.thread_local_bucket_pointers.specs.Slots.{each, flags_at, value_offset}
 use Rattle.thread_local_buckets.specs.Lent.{flagged, valued, frames, values_at, loan_owns}
 use Rattle.thread_local_buckets.specs.contracts.loan.Loan as loan

@@ -2,13 +2,13 @@
 use Rattle.std.proofs.Common.{◌≡◌, ◌≢◌, ℕ, ◌+◌, ◌<◌, ◌≤◌, inr, Bool, true, false, cond, eqb, length, [], None, sym, ◌∙◌, subst, arith, ⊎_elim}
 use Rattle.std.specs.Prelude.{nat_lt}
 use Rattle.std.proofs.lemmas.Bool.{cases_eq, cases_lt, cond-true, cond-false, eq-eqb, ne_eqb, lt-ltb, le-ltb}
-use Rattle.thread_local_model.specs.Buckets.{Contents, row, stands, values, no_contents, IsTable}
-use Rattle.thread_local_model.specs.Rows.{with_row, empty_row}
-use Rattle.thread_local_model.specs.Owner.{with_bucket}
-use Rattle.thread_local_model.proofs.FillingLaws.{IsFilled, IsTable-no_contents}
-use Rattle.thread_local_model.proofs.RowLaws.{IsTable-with_row, length-empty_row}
-use Rattle.thread_local_model.proofs.ValueLaws.{values-no_contents, stands-no_contents, values-with_empty_row}
-use Rattle.thread_local_model.proofs.StandingLaws.{stands-made}
+use Rattle.thread_local_base.specs.Buckets.{Contents, row, stands, values, no_contents, IsTable}
+use Rattle.thread_local_base.specs.Rows.{with_row, empty_row}
+use Rattle.thread_local_base.specs.Owner.{with_bucket}
+use Rattle.thread_local_base.proofs.FillingLaws.{IsFilled, IsTable-no_contents}
+use Rattle.thread_local_base.proofs.RowLaws.{IsTable-with_row, length-empty_row}
+use Rattle.thread_local_base.proofs.ValueLaws.{values-no_contents, stands-no_contents, values-with_empty_row}
+use Rattle.thread_local_base.proofs.StandingLaws.{stands-made}
 
 -- of the first n buckets, those from the given one on
 abbrev pub from : ℕ → ℕ → ℕ → Bool

@@ -1,9 +1,9 @@
 -- A walk with ids, and the one without.
 use Rattle.std.proofs.Common.{◌≡◌, ℕ, ◌-◌, ◌^◌, ◌<◌, List, [], ◌∷◌, length, map, Option, sym, ap, ◌∙◌, arith, ◌+◌, ◌≤◌, pow_pos}
 use Rattle.std.proofs.lemmas.List.{length-map, nil_from_length}
-use Rattle.thread_local_model.specs.Walk.{walk, paired}
-use Rattle.thread_local_model.proofs.PlaceLaws.{id_at-below}
-use Rattle.thread_local_model.proofs.WalkLaws.{map-walk_below}
+use Rattle.thread_local_base.specs.Walk.{walk, paired}
+use Rattle.thread_local_base.proofs.PlaceLaws.{id_at-below}
+use Rattle.thread_local_base.proofs.WalkLaws.{map-walk_below}
 
 -- what is left once an item is given is shorter
 pub shorter : {X : Type 0} (before after : List X) (x : X) → before ≡ x ∷ after → length after < length before

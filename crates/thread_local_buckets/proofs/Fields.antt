@@ -1,8 +1,8 @@
 -- The data fields of a loan, and what a pointer points to. Assumes `Logic`.
-use Rattle.thread_local_model.proofs.Names.{◌≡◌, ◌^◌, ◌<◌, T, true, List, [], ◌∷◌, ◌++◌, length, refl, ap, ◌∙◌, sym}
-use Rattle.thread_local_model.proofs.Names.{subst, lit<, arith, Ura, Val, vstruct, vcons, vnil, of_list}
-use Rattle.thread_local_model.proofs.Names.{ent, emp, Logic, sem, RattleType, Is, Ptr, InBlock, block_ptr}
-use Rattle.thread_local_model.proofs.Names.{null_ptr, ptr_val, count_of, Option}
+use Rattle.thread_local_base.proofs.Names.{◌≡◌, ◌^◌, ◌<◌, T, true, List, [], ◌∷◌, ◌++◌, length, refl, ap, ◌∙◌, sym}
+use Rattle.thread_local_base.proofs.Names.{subst, lit<, arith, Ura, Val, vstruct, vcons, vnil, of_list}
+use Rattle.thread_local_base.proofs.Names.{ent, emp, Logic, sem, RattleType, Is, Ptr, InBlock, block_ptr}
+use Rattle.thread_local_base.proofs.Names.{null_ptr, ptr_val, count_of, Option}
 use Rattle.std.specs.Prelude.{nat_lt, not}
 use mir.Val.{vnull, ptr_same, ptr_eq_ok}
 use denote.RawPtr.{tests_null}

@@ -1,14 +1,14 @@
 -- Taking one pointer, or the value of one slot, out of all of them, and putting it back. Assumes
 -- `Logic`.
-use Rattle.thread_local_model.proofs.Names.{◌≡◌, ℕ, zero, suc, ◌+◌, ◌*◌, ◌<◌, List, [], ◌∷◌, length, set, get_or, refl}
-use Rattle.thread_local_model.proofs.Names.{sym, arith, Option, None, Ura, SProp, all, all_e, apply∗}
-use Rattle.thread_local_model.proofs.Names.{never_e, Fml, Logic, ‵, raw, ◌⊛◌, ◌$◌, ◌∵◌, !, qed, move, split}
-use Rattle.thread_local_model.proofs.Names.{frame, each as for_each, assume, use1, use2, rewrite, done, RattleType}
-use Rattle.thread_local_model.proofs.Names.{Ptr, null_ptr, block_of, count_of}
+use Rattle.thread_local_base.proofs.Names.{◌≡◌, ℕ, zero, suc, ◌+◌, ◌*◌, ◌<◌, List, [], ◌∷◌, length, set, get_or, refl}
+use Rattle.thread_local_base.proofs.Names.{sym, arith, Option, None, Ura, SProp, all, all_e, apply∗}
+use Rattle.thread_local_base.proofs.Names.{never_e, Fml, Logic, ‵, raw, ◌⊛◌, ◌$◌, ◌∵◌, !, qed, move, split}
+use Rattle.thread_local_base.proofs.Names.{frame, each as for_each, assume, use1, use2, rewrite, done, RattleType}
+use Rattle.thread_local_base.proofs.Names.{Ptr, null_ptr, block_of, count_of}
 use Rattle.thread_local_bucket_pointers.specs.Slots.{each, slot_value}
 use Rattle.thread_local_bucket_pointers.proofs.Each.{each_at, Put}
 use Rattle.thread_local_buckets.specs.Lent.{valued, framed, frames, values_at}
-use Rattle.thread_local_model.proofs.Signs.{signs}
+use Rattle.thread_local_base.proofs.Signs.{signs}
 
 abbrev pub pointer : List Ptr → ℕ → Ptr
 pointer ps k = get_or ps k null_ptr

@@ -1,21 +1,21 @@
 -- Giving a value: the value of one slot is split from those that a loan has left. Assumes `Logic`.
-use Rattle.thread_local_model.proofs.Names.{◌≡◌, ℕ, ◌<◌, List, [], ◌∷◌, length, refl, sym, ap, subst, ◌∙◌}
-use Rattle.thread_local_model.proofs.Names.{is_some, Option, Some, None, Ura, SProp, ent, sep, ex, all, all_e, emp}
-use Rattle.thread_local_model.proofs.Names.{apply∗, Lft, Share, GName, Fml, ftrue, flft, fbor, fobs, Logic, sem, ‵}
-use Rattle.thread_local_model.proofs.Names.{raw, ◌⊛◌, some, later, ◌$◌, ◌∵◌, !, qed, move, keep, drop, split, split3}
-use Rattle.thread_local_model.proofs.Names.{fsplit, fjoin, fpick, fpack, pick, show, use1, use2, await, updating, now}
-use Rattle.thread_local_model.proofs.Names.{rewrite, group, done, open_ref, RattleType, Ptr, block_of, count_of, mem}
-use Rattle.thread_local_model.proofs.Names.{part_at, full_share, nothing}
+use Rattle.thread_local_base.proofs.Names.{◌≡◌, ℕ, ◌<◌, List, [], ◌∷◌, length, refl, sym, ap, subst, ◌∙◌}
+use Rattle.thread_local_base.proofs.Names.{is_some, Option, Some, None, Ura, SProp, ent, sep, ex, all, all_e, emp}
+use Rattle.thread_local_base.proofs.Names.{apply∗, Lft, Share, GName, Fml, ftrue, flft, fbor, fobs, Logic, sem, ‵}
+use Rattle.thread_local_base.proofs.Names.{raw, ◌⊛◌, some, later, ◌$◌, ◌∵◌, !, qed, move, keep, drop, split, split3}
+use Rattle.thread_local_base.proofs.Names.{fsplit, fjoin, fpick, fpack, pick, show, use1, use2, await, updating, now}
+use Rattle.thread_local_base.proofs.Names.{rewrite, group, done, open_ref, RattleType, Ptr, block_of, count_of, mem}
+use Rattle.thread_local_base.proofs.Names.{part_at, full_share, nothing}
 use types.Follow.{after₂, takes_two}
 use types.SemTy.{SemTy, Body}
-use Rattle.thread_local_model.specs.Buckets.{Contents}
-use Rattle.thread_local_model.specs.Owned.{Owned}
-use Rattle.thread_local_model.specs.Code.{owned_coded}
+use Rattle.thread_local_base.specs.Buckets.{Contents}
+use Rattle.thread_local_base.specs.Owned.{Owned}
+use Rattle.thread_local_base.specs.Code.{owned_coded}
 use Rattle.thread_local_bucket_pointers.specs.Slots.{slot_value, value_offset}
 use Rattle.thread_local_buckets.specs.Lent.{shape, values_at, Values, lent_as, lent_values}
 use Rattle.thread_local_buckets.proofs.Frames.{pointer, in_row, there, value_out, Value}
 use Rattle.thread_local_buckets.proofs.Shapes.{put, put_back, long, row_long, long_put, row_long_put, is_slot, slot-put}
-use Rattle.thread_local_model.proofs.TakingLaws.{shows_none}
+use Rattle.thread_local_base.proofs.TakingLaws.{shows_none}
 
 -- the contents with another value, or none, in a slot
 abbrev pub filled : {X : Type 0} → ℕ → ℕ → Option X → Contents X → Contents X

@@ -1,13 +1,13 @@
 -- What a loan has left once it has given the value of a slot.
-use Rattle.thread_local_model.proofs.Names.{◌≡◌, ℕ, zero, suc, ◌+◌, ◌≤◌, List, [], ◌∷◌, length, length-set, set}
-use Rattle.thread_local_model.proofs.Names.{get_or, refl, sym, ap, ◌∙◌, subst, arith, Option, None}
+use Rattle.thread_local_base.proofs.Names.{◌≡◌, ℕ, zero, suc, ◌+◌, ◌≤◌, List, [], ◌∷◌, length, length-set, set}
+use Rattle.thread_local_base.proofs.Names.{get_or, refl, sym, ap, ◌∙◌, subst, arith, Option, None}
 use Rattle.std.proofs.lemmas.List.{get_or-set_other}
 use Rattle.std.proofs.Common.{inl, inr, true, false}
 use Rattle.std.proofs.lemmas.Bool.{lt-ltb, ltb-true, true≢false}
 use Rattle.std.specs.Prelude.{nat_lt, ◌⊎◌, ◌^◌}
-use Rattle.thread_local_model.specs.Place.{id_at}
-use Rattle.thread_local_model.specs.Buckets.{Contents, row, IsTable}
-use Rattle.thread_local_model.specs.Rows.{with_slot}
+use Rattle.thread_local_base.specs.Place.{id_at}
+use Rattle.thread_local_base.specs.Buckets.{Contents, row, IsTable}
+use Rattle.thread_local_base.specs.Rows.{with_slot}
 use Rattle.thread_local_buckets.specs.Lent.{IsLeft}
 
 long_set : {A : Type 0} (rs : List (List A)) (k b : ℕ) (r : List A)

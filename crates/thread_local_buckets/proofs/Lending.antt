@@ -1,25 +1,25 @@
 -- Making a loan: the owner's borrow is split into what the loan owns and what is put aside. Assumes
 -- `Logic`.
-use Rattle.thread_local_model.proofs.Names.{◌≡◌, ℕ, ◌+◌, List, [], ◌∷◌, length, refl, sym, ap, ◌∙◌, subst, arith}
-use Rattle.thread_local_model.proofs.Names.{Option, Ura, SProp, ent, sep, ex, guard, Lft, Share, GName, Fml, ftrue}
-use Rattle.thread_local_model.proofs.Names.{fsep, flft, fbor, fobor, fobs, fauth, Logic, sem, ‵, raw, ◌⊛◌, some, later}
-use Rattle.thread_local_model.proofs.Names.{◌$◌, ◌∵◌, !, qed, by, move, keep, drop, split, split3, fsplit, fjoin}
-use Rattle.thread_local_model.proofs.Names.{fpick, fpack, pick, check, show, use1, use2, use3, await, updating, now}
-use Rattle.thread_local_model.proofs.Names.{rewrite, group, join, done, RattleType, Ptr, block_ptr, full_share, mem}
-use Rattle.thread_local_model.proofs.Names.{part_at, param, nothing, SemTy}
+use Rattle.thread_local_base.proofs.Names.{◌≡◌, ℕ, ◌+◌, List, [], ◌∷◌, length, refl, sym, ap, ◌∙◌, subst, arith}
+use Rattle.thread_local_base.proofs.Names.{Option, Ura, SProp, ent, sep, ex, guard, Lft, Share, GName, Fml, ftrue}
+use Rattle.thread_local_base.proofs.Names.{fsep, flft, fbor, fobor, fobs, fauth, Logic, sem, ‵, raw, ◌⊛◌, some, later}
+use Rattle.thread_local_base.proofs.Names.{◌$◌, ◌∵◌, !, qed, by, move, keep, drop, split, split3, fsplit, fjoin}
+use Rattle.thread_local_base.proofs.Names.{fpick, fpack, pick, check, show, use1, use2, use3, await, updating, now}
+use Rattle.thread_local_base.proofs.Names.{rewrite, group, join, done, RattleType, Ptr, block_ptr, full_share, mem}
+use Rattle.thread_local_base.proofs.Names.{part_at, param, nothing, SemTy}
 use types.SemTy.{Body}
 use base.Fml.{fseps}
 use denote.Param.Laws.{Laws}
 use types.Follow.{after, takes_beside}
 use Rattle.std.specs.Prelude.{◌⊎◌, ◌^◌}
 use Rattle.std.proofs.lemmas.List.{length-map}
-use Rattle.thread_local_model.specs.Buckets.{Contents, IsTable}
-use Rattle.thread_local_model.specs.Owned.{Owned}
-use Rattle.thread_local_model.specs.Code.{owned_coded}
+use Rattle.thread_local_base.specs.Buckets.{Contents, IsTable}
+use Rattle.thread_local_base.specs.Owned.{Owned}
+use Rattle.thread_local_base.specs.Code.{owned_coded}
 use Rattle.thread_local_bucket_pointers.specs.declared.bucket_pointer.BucketPointer.{BucketPointer}
 use Rattle.thread_local_bucket_pointers.specs.contracts.bucket_pointers.BucketPointers as all_pointers
 use Rattle.thread_local_buckets.specs.Lent.{shape, Known, Lending, lending, loan_owns, frames, Values, values_at, lent_as}
-use Rattle.thread_local_model.specs.Refilled.{refilled}
+use Rattle.thread_local_base.specs.Refilled.{refilled}
 use Rattle.thread_local_buckets.proofs.Opened.{open_pointers, close_pointers, Laid, Inside, view, good, remade}
 use Rattle.thread_local_buckets.proofs.Refills.{refilled_same}
 use Rattle.thread_local_buckets.proofs.Shapes.{row_long, long}

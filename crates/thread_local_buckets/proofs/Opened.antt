@@ -1,9 +1,9 @@
 -- A table's pointers in memory are 63 pointers one after another, and 63 such pointers are a
 -- table's. Assumes `Logic`.
-use Rattle.thread_local_model.proofs.Names.{◌≡◌, ℕ, ◌+◌, List, [], ◌∷◌, length, full_share, Ura, SProp, ex}
-use Rattle.thread_local_model.proofs.Names.{Logic, ‵, raw, ◌⊛◌, some, ◌$◌, ◌∵◌, !, qed, by, move, split}
-use Rattle.thread_local_model.proofs.Names.{fjoin, pick, show, use1, use2, feq_l, feq_i, join, done, RattleType}
-use Rattle.thread_local_model.proofs.Names.{Member, lone, part_at, param, param_laws}
+use Rattle.thread_local_base.proofs.Names.{◌≡◌, ℕ, ◌+◌, List, [], ◌∷◌, length, full_share, Ura, SProp, ex}
+use Rattle.thread_local_base.proofs.Names.{Logic, ‵, raw, ◌⊛◌, some, ◌$◌, ◌∵◌, !, qed, by, move, split}
+use Rattle.thread_local_base.proofs.Names.{fjoin, pick, show, use1, use2, feq_l, feq_i, join, done, RattleType}
+use Rattle.thread_local_base.proofs.Names.{Member, lone, part_at, param, param_laws}
 use base.Fml.{feq}
 use denote.Param.Laws.{Laws}
 use denote.Array.{Array, Array-Lawful}
@@ -15,7 +15,7 @@ use denote.Struct.Parts.{PartsBack}
 use denote.Struct.Pick.{rest_at, field_out, field_back}
 use Rattle.std.specs.contracts.alloc.Global as heap
 use Rattle.std.proofs.alloc.Global.TheLaws as heap_laws
-use Rattle.thread_local_model.specs.Buckets.{Contents}
+use Rattle.thread_local_base.specs.Buckets.{Contents}
 use Rattle.thread_local_bucket_pointers.specs.declared.bucket_pointer.BucketPointer.{BucketPointer}
 use Rattle.thread_local_bucket_pointers.specs.contracts.bucket_pointer.BucketPointer as one_pointer
 use Rattle.thread_local_bucket_pointers.proofs.bucket_pointer.BucketPointer.TheLaws as pointer_laws
@@ -24,7 +24,7 @@ use Rattle.thread_local_bucket_pointers.proofs.pointer_array.PointerArray.TheLaw
 use Rattle.thread_local_bucket_pointers.specs.contracts.bucket_pointers.BucketPointers as all_pointers
 use Rattle.thread_local_bucket_pointers.specs.contracts.bucket_pointers.BucketPointers.TheInside as inside
 use Rattle.thread_local_buckets.proofs.Taking.{side}
-use Rattle.thread_local_model.proofs.Signs.{signs}
+use Rattle.thread_local_base.proofs.Signs.{signs}
 
 module _ {M : Type 1} {𝓤 : Ura M} (𝓛 : Logic 𝓤) (X : RattleType) (L : Laws X) (b o : ℕ) where
   open signs 𝓛 use {⟦◌⟧, ◌⊢◌, ◌∗◌}

@@ -1,21 +1,21 @@
 -- Taking the word of one chunk out of the flags of a block, for reading. Assumes `Logic`.
-use Rattle.thread_local_model.proofs.Names.{◌≡◌, ℕ, ◌+◌, ◌*◌, ◌<◌, ◌≤◌, List, [], ◌∷◌, length, set, get_or, sym, refl}
-use Rattle.thread_local_model.proofs.Names.{ap, ◌∙◌, arith, is_some, Option, Ura, SProp, ex, all}
-use Rattle.thread_local_model.proofs.Names.{all_e, guard, apply∗, Fml, ftrue, Logic, ‵, raw, ◌⊛◌, ◌$◌, ◌∵◌, ! }
-use Rattle.thread_local_model.proofs.Names.{qed, move, drop, split, fsplit3, fjoin3, fpick, fpack, check, show, frame}
-use Rattle.thread_local_model.proofs.Names.{assume, use1, use2, rewrite, done, RattleType, Ptr, block_of, count_of}
-use Rattle.thread_local_model.proofs.Names.{nothing}
+use Rattle.thread_local_base.proofs.Names.{◌≡◌, ℕ, ◌+◌, ◌*◌, ◌<◌, ◌≤◌, List, [], ◌∷◌, length, set, get_or, sym, refl}
+use Rattle.thread_local_base.proofs.Names.{ap, ◌∙◌, arith, is_some, Option, Ura, SProp, ex, all}
+use Rattle.thread_local_base.proofs.Names.{all_e, guard, apply∗, Fml, ftrue, Logic, ‵, raw, ◌⊛◌, ◌$◌, ◌∵◌, ! }
+use Rattle.thread_local_base.proofs.Names.{qed, move, drop, split, fsplit3, fjoin3, fpick, fpack, check, show, frame}
+use Rattle.thread_local_base.proofs.Names.{assume, use1, use2, rewrite, done, RattleType, Ptr, block_of, count_of}
+use Rattle.thread_local_base.proofs.Names.{nothing}
 use Rattle.std.proofs.lemmas.List.{set-get_or}
-use Rattle.thread_local_model.specs.Bits.{is_set}
-use Rattle.thread_local_model.specs.Place.{id_at}
-use Rattle.thread_local_model.specs.Buckets.{Contents, row}
-use Rattle.thread_local_model.specs.Rows.{value_in}
+use Rattle.thread_local_base.specs.Bits.{is_set}
+use Rattle.thread_local_base.specs.Place.{id_at}
+use Rattle.thread_local_base.specs.Buckets.{Contents, row}
+use Rattle.thread_local_base.specs.Rows.{value_in}
 use Rattle.thread_local_bucket_pointers.specs.Slots.{chunks, AreFlags, each, flags_at, flags_own}
 use Rattle.thread_local_bucket_pointers.proofs.Each.{Put, each_at}
 use Rattle.thread_local_bucket_pointers.proofs.Flags.{chunk_in}
 use Rattle.thread_local_bucket_pointers.proofs.Slots.{IsWordOf, word_of}
 use Rattle.thread_local_buckets.specs.Lent.{flagged, IsLeft}
-use Rattle.thread_local_model.proofs.Signs.{signs}
+use Rattle.thread_local_base.proofs.Signs.{signs}
 
 -- where no value of a chunk was given, its word says the same of the whole contents as of those
 -- that are left

@@ -2,11 +2,11 @@
 use Rattle.std.proofs.Common.{◌≡◌, ℕ, ◌^◌, ◌⊎◌, List, [], length, get_or, refl, sym, ap, ◌∙◌, subst, Option, Some, None}
 use Rattle.std.proofs.Common.{nat_lt, IsTrue}
 use Rattle.std.specs.Prelude.{is_some}
-use Rattle.thread_local_model.specs.Place.{bucket_of, index_of}
-use Rattle.thread_local_model.specs.Buckets.{Contents, row, stands, values}
-use Rattle.thread_local_model.specs.Owned.{Owned, IsOwned}
-use Rattle.thread_local_model.specs.Refilled.{refilled_slot, refilled_rows, refilled}
-use Rattle.thread_local_model.proofs.RefilledLaws.{length-refilled_row, length-refilled_rows, refilled_row-at, refilled_rows-at}
+use Rattle.thread_local_base.specs.Place.{bucket_of, index_of}
+use Rattle.thread_local_base.specs.Buckets.{Contents, row, stands, values}
+use Rattle.thread_local_base.specs.Owned.{Owned, IsOwned}
+use Rattle.thread_local_base.specs.Refilled.{refilled_slot, refilled_rows, refilled}
+use Rattle.thread_local_base.proofs.RefilledLaws.{length-refilled_row, length-refilled_rows, refilled_row-at, refilled_rows-at}
 use Rattle.thread_local_buckets.specs.LendingValues.{owned_refilled}
 
 module _ {V : Type 0} where

@@ -1,9 +1,9 @@
 -- Contents refilled from contents with a value in the same slots are the latter.
-use Rattle.thread_local_model.proofs.Names.{◌≡◌, List, [], ◌∷◌, length, refl, ap, arith, is_some, Option, Some, None}
+use Rattle.thread_local_base.proofs.Names.{◌≡◌, List, [], ◌∷◌, length, refl, ap, arith, is_some, Option, Some, None}
 use Rattle.std.proofs.lemmas.Bool.{true≢false, false≢true}
-use Rattle.thread_local_model.specs.Buckets.{Contents}
+use Rattle.thread_local_base.specs.Buckets.{Contents}
 use Rattle.thread_local_buckets.specs.Lent.{shape}
-use Rattle.thread_local_model.specs.Refilled.{refilled_slot, refilled_row, refilled_rows, refilled}
+use Rattle.thread_local_base.specs.Refilled.{refilled_slot, refilled_row, refilled_rows, refilled}
 use Rattle.thread_local_buckets.proofs.Blocks.{first_of, rest_of}
 use Rattle.thread_local_buckets.proofs.Shapes.{has}
 use Rattle.thread_local_buckets.proofs.Taking.{first_row, rest_of_rows}

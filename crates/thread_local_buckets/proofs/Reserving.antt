@@ -1,9 +1,9 @@
 -- The reserved slots are slots of buckets that stand.
 use Rattle.std.proofs.Common.{◌≤◌, arith}
-use Rattle.thread_local_model.specs.Buckets.{stands, slots}
-use Rattle.thread_local_model.specs.Owned.{Owned, IsOwned}
-use Rattle.thread_local_model.proofs.CapacityLaws.{first_reserved}
-use Rattle.thread_local_model.proofs.SlotsLaws.{slots_of_first, slots_grow}
+use Rattle.thread_local_base.specs.Buckets.{stands, slots}
+use Rattle.thread_local_base.specs.Owned.{Owned, IsOwned}
+use Rattle.thread_local_base.proofs.CapacityLaws.{first_reserved}
+use Rattle.thread_local_base.proofs.SlotsLaws.{slots_of_first, slots_grow}
 
 -- the reserved slots are no more than the slots of the buckets that stand
 pub few_reserved : {V : Type 0} (owned : Owned V) → IsOwned owned → owned.reserved ≤ slots (stands owned.contents)

@@ -1,7 +1,7 @@
 -- Which slots have a value, after one value is taken out and after another is put back.
-use Rattle.thread_local_model.proofs.Names.{◌≡◌, ℕ, zero, suc, ◌<◌, List, [], ◌∷◌, length, length-set, set, get_or}
-use Rattle.thread_local_model.proofs.Names.{map, refl, sym, ap, ◌∙◌, subst, Bool, true, false, is_some, Option, Some}
-use Rattle.thread_local_model.proofs.Names.{None}
+use Rattle.thread_local_base.proofs.Names.{◌≡◌, ℕ, zero, suc, ◌<◌, List, [], ◌∷◌, length, length-set, set, get_or}
+use Rattle.thread_local_base.proofs.Names.{map, refl, sym, ap, ◌∙◌, subst, Bool, true, false, is_some, Option, Some}
+use Rattle.thread_local_base.proofs.Names.{None}
 use Rattle.std.proofs.lemmas.List.{set-set, set-get_or, get_or-set_same, map-set, length-map}
 use Rattle.thread_local_buckets.specs.Lent.{shape}
 

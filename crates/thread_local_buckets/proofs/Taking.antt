@@ -1,12 +1,12 @@
 -- A table's pointers are split into the pointers with their flags, the values and the rest, and put
 -- together again with any values in the same slots. Assumes `Logic`.
-use Rattle.thread_local_model.proofs.Names.{id⊢, ◌≡◌, ℕ, zero, ◌+◌, List, [], ◌∷◌, length, map, refl, sym, ap, arith}
-use Rattle.thread_local_model.proofs.Names.{full_share, Bool, Option, Ura, SProp, all, all_e, emp}
-use Rattle.thread_local_model.proofs.Names.{apply∗, Fml, ftrue, fsep, Logic, ‵, raw, ◌⊛◌, given, ◌$◌, ◌∵◌, !, qed}
-use Rattle.thread_local_model.proofs.Names.{by, move, keep, drop, split, split3, fsplit, fsplit3, fjoin, fjoin3, fpick}
-use Rattle.thread_local_model.proofs.Names.{fpack, learn, frame, each as for_each, assume, use1, use2, use3, rewrite}
-use Rattle.thread_local_model.proofs.Names.{feq_l, feq_i, done, RattleType, Ptr, ptr_val, ty_ptr, Val, Member, mem}
-use Rattle.thread_local_model.proofs.Names.{part_at, cell_at, cell, nothing, block_of, count_of, join}
+use Rattle.thread_local_base.proofs.Names.{id⊢, ◌≡◌, ℕ, zero, ◌+◌, List, [], ◌∷◌, length, map, refl, sym, ap, arith}
+use Rattle.thread_local_base.proofs.Names.{full_share, Bool, Option, Ura, SProp, all, all_e, emp}
+use Rattle.thread_local_base.proofs.Names.{apply∗, Fml, ftrue, fsep, Logic, ‵, raw, ◌⊛◌, given, ◌$◌, ◌∵◌, !, qed}
+use Rattle.thread_local_base.proofs.Names.{by, move, keep, drop, split, split3, fsplit, fsplit3, fjoin, fjoin3, fpick}
+use Rattle.thread_local_base.proofs.Names.{fpack, learn, frame, each as for_each, assume, use1, use2, use3, rewrite}
+use Rattle.thread_local_base.proofs.Names.{feq_l, feq_i, done, RattleType, Ptr, ptr_val, ty_ptr, Val, Member, mem}
+use Rattle.thread_local_base.proofs.Names.{part_at, cell_at, cell, nothing, block_of, count_of, join}
 use types.Share.{parts}
 use denote.RawPtr.{RawPtr, rawptr_Lawful}
 use denote.Memory.{part_of, shares}
@@ -21,7 +21,7 @@ use Rattle.thread_local_bucket_pointers.specs.contracts.bucket_pointer.BucketPoi
 use Rattle.thread_local_bucket_pointers.proofs.PointerSteps.{FieldsType}
 use Rattle.thread_local_buckets.specs.Lent.{shape, flagged, valued, PointsTo, frames, values_at}
 use Rattle.thread_local_buckets.proofs.Blocks.{rested, pointer_apart, pointer_whole}
-use Rattle.thread_local_model.proofs.Signs.{signs}
+use Rattle.thread_local_base.proofs.Signs.{signs}
 
 abbrev pub first_row : List (List Bool) → List Bool
 first_row [] = []

@@ -4,9 +4,9 @@ use Rattle.std.specs.Prelude.{ℕ, Some}
 use base.Fml.{GName, Fml}
 use denote.Follow.{both_by}
 use denote.RattleType.{RattleType}
-use Rattle.thread_local_model.specs.Owned.{Owned}
-use Rattle.thread_local_model.specs.Rows.{with_slot}
-use Rattle.thread_local_model.specs.Code.{owned_coded}
+use Rattle.thread_local_base.specs.Owned.{Owned}
+use Rattle.thread_local_base.specs.Rows.{with_slot}
+use Rattle.thread_local_base.specs.Code.{owned_coded}
 
 -- the loan's contents before end as those that it has left end, with the item's last value in the
 -- item's slot

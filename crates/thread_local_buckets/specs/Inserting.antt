@@ -2,8 +2,8 @@
 -- lends.
 use Rattle.std.specs.Prelude.{ℕ, Result}
 use Rattle.std.specs.Borrow.{LendsIfOk, MutBor, Fml, RattleType}
-use Rattle.thread_local_model.specs.Owned.{Owned}
-use Rattle.thread_local_model.specs.Owner.{with_published}
+use Rattle.thread_local_base.specs.Owned.{Owned}
+use Rattle.thread_local_base.specs.Owner.{with_published}
 use Rattle.thread_local_buckets.specs.contracts.buckets.Buckets.{the_row}
 
 -- the buckets with this bucket standing, and this value in one of its slots

@@ -2,9 +2,9 @@
 use Rattle.std.specs.Prelude.{◌≡◌, ℕ, is_some}
 use Rattle.std.specs.Borrow.{follows, MutBor, Fml, RattleType}
 use base.Fml.{GName}
-use Rattle.thread_local_model.specs.Buckets.{stands, values}
-use Rattle.thread_local_model.specs.Owned.{Owned}
-use Rattle.thread_local_model.specs.Refilled.{refilled}
+use Rattle.thread_local_base.specs.Buckets.{stands, values}
+use Rattle.thread_local_base.specs.Owned.{Owned}
+use Rattle.thread_local_base.specs.Refilled.{refilled}
 use Rattle.thread_local_buckets.specs.contracts.buckets.Buckets.{the_row}
 
 -- the buckets with other values in the same slots

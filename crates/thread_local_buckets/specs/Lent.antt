@@ -11,13 +11,13 @@ use denote.RattleType.{RattleType}
 use denote.Memory.{lone, part_at}
 use denote.RawPtr.{Ptr, block_ptr, null_ptr, block_of, count_of, InBlock}
 use Rattle.std.specs.Sync.RawAtomic.Pointer.{cell}
-use Rattle.thread_local_model.specs.Place.{id_at}
-use Rattle.thread_local_model.specs.Buckets.{Contents, row, IsTable}
-use Rattle.thread_local_model.specs.Rows.{value_in}
-use Rattle.thread_local_model.specs.Owned.{Owned}
-use Rattle.thread_local_model.specs.Code.{owned_coded}
+use Rattle.thread_local_base.specs.Place.{id_at}
+use Rattle.thread_local_base.specs.Buckets.{Contents, row, IsTable}
+use Rattle.thread_local_base.specs.Rows.{value_in}
+use Rattle.thread_local_base.specs.Owned.{Owned}
+use Rattle.thread_local_base.specs.Code.{owned_coded}
 use Rattle.thread_local_bucket_pointers.specs.Slots.{each, flags, value_offset, Fits}
-use Rattle.thread_local_model.specs.Fact.{fact}
+use Rattle.thread_local_base.specs.Fact.{fact}
 
 -- which slots have a value
 abbrev pub shape : {X : Type 0} → List (List (Option X)) → List (List Bool)

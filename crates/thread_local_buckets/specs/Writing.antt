@@ -1,7 +1,7 @@
 -- An owner's buckets while the value of one slot is lent for writing.
 use Rattle.std.specs.Prelude.{ℕ, Option}
 use Rattle.std.specs.Borrow.{LendsIf, MutBor, Fml, RattleType}
-use Rattle.thread_local_model.specs.Owned.{Owned}
+use Rattle.thread_local_base.specs.Owned.{Owned}
 use Rattle.thread_local_buckets.specs.Inserting.{owned_with}
 use Rattle.thread_local_buckets.specs.contracts.buckets.Buckets.{the_row}
 

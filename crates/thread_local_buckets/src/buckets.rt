@@ -3,14 +3,14 @@
 ghost use Rattle.std.specs.Prelude.{◌≡◌, ℕ, ◌^◌, ◌<◌, ◌≤◌, nat_lt, true, false, Option, Err, OnErr};
 ghost use Rattle.std.specs.Prelude.{IfOk, IfErr, unwrap_or, Some, MatchOption, ◌==◌, if◌then◌else◌};
 ghost use Rattle.std.specs.Borrow.{sem};
-ghost use Rattle.thread_local_model.specs.Place.{id_at};
-ghost use Rattle.thread_local_model.specs.Buckets.{row, stands, slots, values, no_contents};
-ghost use Rattle.thread_local_model.specs.Owned.{Owned, IsOwned};
-ghost use Rattle.thread_local_model.specs.Rows.{value_in};
-ghost use Rattle.thread_local_model.specs.Capacity.{binary_digits, reserves_bucket, reserved_slots};
-ghost use Rattle.thread_local_model.specs.Sheet.{moved};
-ghost use Rattle.thread_local_model.specs.Walk.{walk, paired, with_value};
-ghost use Rattle.thread_local_model.specs.Owner.{with_published, cleared_row, sheet_of, publish_or_keep};
+ghost use Rattle.thread_local_base.specs.Place.{id_at};
+ghost use Rattle.thread_local_base.specs.Buckets.{row, stands, slots, values, no_contents};
+ghost use Rattle.thread_local_base.specs.Owned.{Owned, IsOwned};
+ghost use Rattle.thread_local_base.specs.Rows.{value_in};
+ghost use Rattle.thread_local_base.specs.Capacity.{binary_digits, reserves_bucket, reserved_slots};
+ghost use Rattle.thread_local_base.specs.Sheet.{moved};
+ghost use Rattle.thread_local_base.specs.Walk.{walk, paired, with_value};
+ghost use Rattle.thread_local_base.specs.Owner.{with_published, cleared_row, sheet_of, publish_or_keep};
 
 use crate::drain::Drain;
 use crate::iter::{IntoEntries, IntoIter};
@@ -18,7 +18,7 @@ use crate::iter_mut::{EntriesMut, IterMut};
 use std::alloc::{AllocError, Global};
 use std::marker::Model;
 use thread_local_bucket_pointers::{BucketPointers, FlagSource};
-use thread_local_thread_id::{BUCKETS, Thread, bucket_size};
+use thread_local_base::{BUCKETS, Thread, bucket_size};
 
 mod lends;
 mod walking;
@@ -51,8 +51,8 @@ pub struct Buckets<T> {
 }
 
 impl<T> Model for Buckets<T> {
-    ghost use Rattle.thread_local_model.specs.Owned.{Owned, IsOwned};
-    ghost use Rattle.thread_local_model.specs.Code.{owned_coded};
+    ghost use Rattle.thread_local_base.specs.Owned.{Owned, IsOwned};
+    ghost use Rattle.thread_local_base.specs.Code.{owned_coded};
 
     ghost Value = { Owned T };
 

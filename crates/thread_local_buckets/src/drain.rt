@@ -4,7 +4,7 @@ ghost use Rattle.std.specs.Prelude.{◌≡◌, ◌<◌, ◌^◌, Some, IfSome};
 ghost use Rattle.std.specs.Iterator.{UpTo, at_most};
 ghost use Rattle.std.specs.Iterator.SizeHint.{IsWithinCount};
 ghost use Rattle.thread_local_bucket_pointers.specs.Cursor.{values_left};
-ghost use Rattle.thread_local_model.specs.Owner.{emptied};
+ghost use Rattle.thread_local_base.specs.Owner.{emptied};
 
 use crate::buckets::Buckets;
 use std::fmt;

@@ -24,8 +24,8 @@ pub struct IntoEntries<T> {
 
 impl<T> Model for IntoEntries<T> {
     ghost use Rattle.std.specs.Prelude.{ℕ, List};
-    ghost use Rattle.thread_local_model.specs.Buckets.{values};
-    ghost use Rattle.thread_local_model.specs.Walk.{walk, paired};
+    ghost use Rattle.thread_local_base.specs.Buckets.{values};
+    ghost use Rattle.thread_local_base.specs.Walk.{walk, paired};
 
     ghost Value = { List (ℕ × T) };
 

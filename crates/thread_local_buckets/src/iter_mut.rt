@@ -3,8 +3,8 @@ ghost use Rattle.std.specs.Prelude.{◌≡◌, ◌<◌, length, Some, IfSome};
 ghost use types.Logic.{sem};
 ghost use Rattle.std.specs.Iterator.{YieldsFirstMut, YieldsFirstBy, UpTo, item_count};
 ghost use Rattle.std.specs.Iterator.SizeHint.{IsWithinCount};
-ghost use Rattle.thread_local_model.specs.Buckets.{values};
-ghost use Rattle.thread_local_model.specs.Walk.{walk};
+ghost use Rattle.thread_local_base.specs.Buckets.{values};
+ghost use Rattle.thread_local_base.specs.Walk.{walk};
 ghost use Rattle.thread_local_buckets.specs.IterMut.{iter_mut_rest, iter_mut_name, iter_mut_given, entries_mut_rest};
 ghost use Rattle.thread_local_bucket_pointers.specs.Cursor.{HasRead, MayRead};
 ghost use Rattle.thread_local_buckets.specs.LendingValues.{LendsValues};
@@ -30,12 +30,12 @@ pub struct EntriesMut<'a, T> {
 impl<'a, T> Model for EntriesMut<'a, T> {
     ghost use Rattle.std.specs.Prelude.{ℕ, List, ◌<◌, ◌≤◌};
     ghost use base.Fml.{GName};
-    ghost use Rattle.thread_local_model.specs.Buckets.{values};
-    ghost use Rattle.thread_local_model.specs.Walk.{walk, paired};
+    ghost use Rattle.thread_local_base.specs.Buckets.{values};
+    ghost use Rattle.thread_local_base.specs.Walk.{walk, paired};
 
     ghost Value = { List (ℕ × T) × (GName × ℕ) };
 
-    ghost use Rattle.thread_local_model.specs.Owner.{NoneBelow};
+    ghost use Rattle.thread_local_base.specs.Owner.{NoneBelow};
     ghost use Rattle.thread_local_bucket_pointers.specs.Cursor.{read_to, IsOwnerWalk};
     ghost use Rattle.thread_local_buckets.specs.Entered.{IsEntered};
 

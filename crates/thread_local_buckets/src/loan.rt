@@ -2,19 +2,19 @@
 //! the loan lasts.
 ghost use Rattle.std.specs.Prelude.{true, false, [], ◌^◌, ◌≡◌, ◌≤◌, ◌<◌, ◌+◌, ◌*◌, ℕ, length, None, Some, is_some, IsSome};
 ghost use base.Fml.{GName, ftrue};
-ghost use Rattle.thread_local_model.specs.Place.{id_at};
-ghost use Rattle.thread_local_model.specs.Buckets.{Contents, row, stands, IsTable};
-ghost use Rattle.thread_local_model.specs.Rows.{value_in, with_slot};
-ghost use Rattle.thread_local_model.specs.Code.{contents_coded};
+ghost use Rattle.thread_local_base.specs.Place.{id_at};
+ghost use Rattle.thread_local_base.specs.Buckets.{Contents, row, stands, IsTable};
+ghost use Rattle.thread_local_base.specs.Rows.{value_in, with_slot};
+ghost use Rattle.thread_local_base.specs.Code.{contents_coded};
 ghost use types.Logic.{sem};
-ghost use Rattle.thread_local_model.specs.Bits.{is_set};
+ghost use Rattle.thread_local_base.specs.Bits.{is_set};
 ghost use Rattle.thread_local_bucket_pointers.specs.Slots.{flag_word_at};
 ghost use Rattle.thread_local_buckets.specs.Lent.{loan_owns};
 ghost use Rattle.thread_local_buckets.specs.Given.{ends_with_item};
 
 use std::marker::{Model, PhantomData};
 use thread_local_bucket_pointers::{Chunk, FlagSource, flag_word_at};
-use thread_local_thread_id::bucket_size;
+use thread_local_base::bucket_size;
 
 /// The pointers of an owner's buckets, lent to a walk that writes. It gives the values by ascending
 /// place, each at most once.

@@ -1,6 +1,6 @@
 -- What is known of a slot once the closure of a call failed.
 use Rattle.std.proofs.Common.{◌≡◌, subst, sym, ap, Option, None, Err, true, false}
-use Rattle.thread_local_model.specs.Answers.{view_after_or}
+use Rattle.thread_local_base.specs.Answers.{view_after_or}
 use Rattle.thread_local.specs.Locals.{LocalView, knows, Fails}
 
 -- the bucket stands

@@ -1,6 +1,6 @@
 -- No free id is lower than the least.
 use Rattle.std.proofs.Common.{◌≡◌, ℕ, zero, suc, ◌≤◌, Bool, true, false, List, [], ◌∷◌, arith}
-use Rattle.thread_local_model.specs.Held.{is_held, least}
+use Rattle.thread_local_base.specs.Held.{is_held, least}
 
 pub least_at_most : (held : List Bool) (id : ℕ) → is_held held id ≡ false → least held ≤ id
 least_at_most [] id free = omega arith

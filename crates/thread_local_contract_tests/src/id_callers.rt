@@ -11,7 +11,7 @@ use std::test::Fail;
 use thread_local::ThreadLocal;
 use thread_local::local::Local;
 use thread_local::table::{CapacityError, Page};
-use thread_local_thread_id::LocalError;
+use thread_local_base::LocalError;
 
 /// Two `Local`s in hand have two ids, each the least that wasn't held when it was taken.
 fn two_least<'a, T, R: Wait>(

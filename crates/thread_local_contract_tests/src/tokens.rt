@@ -2,7 +2,7 @@
 //! to the owner.
 ghost use Rattle.std.specs.Prelude.{◌≡◌, true, IfSome, IsSome, None, Some};
 ghost use Rattle.thread_local_judged.specs.Judged.{Judged};
-ghost use Rattle.thread_local_model.specs.Buckets.{values};
+ghost use Rattle.thread_local_base.specs.Buckets.{values};
 
 use std::alloc::Global;
 use std::cell::Cell;
@@ -16,7 +16,7 @@ use thread_local_buckets::Buckets;
 use thread_local_ids::Token;
 use thread_local_judged::{Judge, judge_sync};
 use thread_local_shared_buckets::Tokens;
-use thread_local_thread_id::Thread;
+use thread_local_base::Thread;
 
 /// Publishes a value with a new `Local`, and answers a token of what the slot holds.
 fn told<T: Send + Drop, R: Wait>(table: &ThreadLocal<T>, rt: &R, value: T) -> Option<Token<T>>

@@ -11,7 +11,7 @@ use types.Kit.{‵, ◌⊛◌, given, updating, now, check, done, ◌$◌, ◌�
 use denote.RattleType.{RattleType}
 use denote.Ref.{MutRef}
 use denote.Steps.{opens, closes}
-use Rattle.thread_local_model.proofs.Signs.{signs}
+use Rattle.thread_local_base.proofs.Signs.{signs}
 
 module _ {M : Type 1} {𝓤 : Ura M} (𝓛 : Logic 𝓤) (A : RattleType) where
   open 𝓛 use {H, A as S}

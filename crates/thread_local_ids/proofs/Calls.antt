@@ -36,7 +36,7 @@ use Rattle.std.proofs.raw_atomic.Calls.{fm, stored, marker, marker_laws, dict, p
 use Rattle.thread_local_ids.specs.contracts.word.exchange as step
 use Rattle.thread_local_ids.proofs.word.exchange.Symbol as step_is
 use Rattle.thread_local_ids.proofs.word.exchange.Met as step_met
-use Rattle.thread_local_model.proofs.Walking.{knows}
+use Rattle.thread_local_base.proofs.Walking.{knows}
 
 module _ {M : Type 1} {𝓤 : Ura M} (𝓛 : Logic 𝓤) (𝓜 : Model 𝓤 𝓛.H) (𝓡 : Running 𝓤 𝓛.H 𝓜) where
   open 𝓛 use {H, A}

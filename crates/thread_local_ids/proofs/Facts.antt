@@ -6,7 +6,7 @@ use base.Logic.{SProp, sep}
 use types.Logic.{Logic}
 use types.Kit.{Item, Seq, Step, step, prop, ◌$◌, by, frame}
 use contract.Monad.{fact, fact_i}
-use Rattle.thread_local_model.proofs.Walking.{knows}
+use Rattle.thread_local_base.proofs.Walking.{knows}
 
 module _ {M : Type 1} {𝓤 : Ura M} {𝓛 : Logic 𝓤} {K : Type 0} {Γ : List (Item 𝓤)} where
   pub tells : K → {φ : Type 0} {P : SProp 𝓤} → φ → Step K 𝓛 Γ (prop P) Γ (prop (sep 𝓤 (fact 𝓤 φ) P))

@@ -24,7 +24,7 @@ use denote.Steps.{nothing}
 use denote.Struct.Lending.{Lends, Lends-false}
 use Rattle.std.proofs.cell.BorrowLemmas.{by_one, unnest_before}
 use Rattle.thread_local_ids.specs.Locking.{offset, LockTurn, named_value, lock_kept, guarding, guard_owns, guard_shares}
-use Rattle.thread_local_model.proofs.Signs.{signs}
+use Rattle.thread_local_base.proofs.Signs.{signs}
 
 pub guard_laws : (β : Lft) (R : RattleType) → RowLaws R → (p : Ptr) (x : R.Denot) → ShrLaws (guard_shares β R p x)
 guard_laws β R L (block_ptr b o) x = within_shr_laws β (shared_of R x b (o + offset R)) (L x b (o + offset R))

@@ -32,11 +32,11 @@ use Rattle.std.specs.Sync.RawAtomic.{word}
 use Rattle.std.proofs.cell.BorrowLemmas.{flag}
 use Rattle.thread_local_ids.specs.Locking.{LockView, Fitting, offset, LockTurn, named_value, fitting, with_word}
 use Rattle.thread_local_ids.specs.Locking.{lock_invariant, lock_kept, guarding, lock_shares, guard_owns}
-use Rattle.thread_local_model.specs.Fact.{fact}
+use Rattle.thread_local_base.specs.Fact.{fact}
 use Rattle.thread_local_ids.specs.declared.lock.Fits.{Ghosts}
 use Rattle.thread_local_ids.specs.contracts.lock.Lock as C
 use Rattle.thread_local_ids.proofs.Words.{word_out, word_in}
-use Rattle.thread_local_model.proofs.Signs.{signs}
+use Rattle.thread_local_base.proofs.Signs.{signs}
 
 module _ {M : Type 1} {𝓤 : Ura M} (𝓛 : Logic 𝓤) (m : Member) (g : Ghosts m.row.Denot) (d : LockView)
     (L : Lawful 𝓛 (row_of m)) (b o : ℕ) (κ : Lft) where

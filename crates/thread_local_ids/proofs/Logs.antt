@@ -18,10 +18,10 @@ use base.Fml.{GName, Share}
 use types.Logic.{Logic}
 use types.Keyed.{keyed}
 use types.Owned.{own_sum, own_step}
-use Rattle.thread_local_model.specs.IdMoves.{IdMove, move_coded}
+use Rattle.thread_local_base.specs.IdMoves.{IdMove, move_coded}
 use Rattle.thread_local_ids.specs.Rights.{telling, Element, at_if, element_at}
 use Rattle.thread_local_ids.proofs.RightElements.{Row, at_key, at_each_key}
-use Rattle.thread_local_model.proofs.Signs.{signs}
+use Rattle.thread_local_base.proofs.Signs.{signs}
 
 sum_at : (t : Bool) (a b c : Element) → c ∈ telling.op a b → at_if t c ∈ at_key (at_if t a) (at_if t b)
 sum_at true a b c m = (Opt.some-mem-op-some_iff telling.op {a = a} {b = b} {c = c}).1 m

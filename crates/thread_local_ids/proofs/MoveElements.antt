@@ -17,14 +17,14 @@ use types.Owned.{own_new}
 use types.Kit.{‵, raw, given, ◌⊛◌, ◌$◌, ◌∵◌, !, qed, move, drop, split, fsplit, fjoin, fpick, fpack, pick}
 use types.Kit.{learn, check, frame, rewrite, suffices, settle, use0, use1, use2, done}
 use types.Kit as kit
-use Rattle.thread_local_model.specs.Held.{is_held}
-use Rattle.thread_local_model.specs.IdMoves.{IdMove, Take, Give, held_after, noted}
+use Rattle.thread_local_base.specs.Held.{is_held}
+use Rattle.thread_local_base.specs.IdMoves.{IdMove, Take, Give, held_after, noted}
 use Rattle.thread_local_ids.specs.Returns.{gives, counting, counts, counts_own, counts_page, tenure_owns}
 use Rattle.thread_local_ids.proofs.ReturnLaws.{gives_apart, taken, page_off, page_again, not_given}
 use Rattle.thread_local_ids.proofs.ReturnLaws.{given as given_count}
 use Rattle.thread_local_ids.specs.Rights.{Element, moves_key, moves_own, right_owns, kept, history_as, page_as, held_as}
 use Rattle.thread_local_ids.specs.Rights.{history_owns, page_owns, held_owns, taken_id, tenure_of}
-use Rattle.thread_local_model.proofs.Signs.{signs}
+use Rattle.thread_local_base.proofs.Signs.{signs}
 
 first : List IdMove → ℕ
 first [] = 0

@@ -9,12 +9,12 @@ use base.Shift.{Keyless}
 use types.Logic.{Logic}
 use types.Kit.{‵, given, ◌⊛◌, ◌$◌, ◌∵◌, !, qed, move, keep, drop, split, fsplit, fjoin, fpick, fpack, learn, check, use1, use2, done}
 use denote.Steps.{nothing}
-use Rattle.thread_local_model.specs.Held.{least, with_least}
-use Rattle.thread_local_model.specs.IdMoves.{IdMove, Take, held_after, noted}
-use Rattle.thread_local_model.proofs.IdMoveLaws.{after_take, peak_grows}
+use Rattle.thread_local_base.specs.Held.{least, with_least}
+use Rattle.thread_local_base.specs.IdMoves.{IdMove, Take, held_after, noted}
+use Rattle.thread_local_base.proofs.IdMoveLaws.{after_take, peak_grows}
 use Rattle.thread_local_ids.specs.Rights.{history_owns, page_owns, page_if, reached_by, reached_owns, taken_id}
 use Rattle.thread_local_ids.proofs.MoveElements.{page_twice, page_is_early, page_keyless}
-use Rattle.thread_local_model.proofs.Signs.{signs}
+use Rattle.thread_local_base.proofs.Signs.{signs}
 
 taken_in : (held : List Bool) → least held + 1 ≤ length (with_least held)
 taken_in [] = omega arith

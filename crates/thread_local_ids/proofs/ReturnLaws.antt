@@ -19,12 +19,12 @@ use base.Fml.{GName, Share, fown}
 use types.Logic.{Logic, sem}
 use types.Keyed.{keyed}
 use types.Owned.{own_sum, own_step, own_join}
-use Rattle.thread_local_model.specs.Held.{is_held, least, with_least, without}
-use Rattle.thread_local_model.proofs.HeldLaws.{least_free, is_held-with_least, is_held-without}
-use Rattle.thread_local_model.specs.IdMoves.{IdMove, Take, Give, held_from, held_after, noted}
+use Rattle.thread_local_base.specs.Held.{is_held, least, with_least, without}
+use Rattle.thread_local_base.proofs.HeldLaws.{least_free, is_held-with_least, is_held-without}
+use Rattle.thread_local_base.specs.IdMoves.{IdMove, Take, Give, held_from, held_after, noted}
 use Rattle.thread_local_ids.specs.Returns.{gives, counting, Count, count_of, counts, pages, count_if, counts_own, counts_page, tenure_owns}
-use Rattle.thread_local_model.proofs.IdMoveLaws.{held_apart, after_take, after_give}
-use Rattle.thread_local_model.proofs.Signs.{signs}
+use Rattle.thread_local_base.proofs.IdMoveLaws.{held_apart, after_take, after_give}
+use Rattle.thread_local_base.proofs.Signs.{signs}
 
 -- ---- lists
 pub gives_apart : (before later : List IdMove) (id : ℕ) → gives (before ++ later) id ≡ gives before id + gives later id

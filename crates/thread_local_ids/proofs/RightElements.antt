@@ -21,7 +21,7 @@ use types.Logic.{Logic}
 use types.Keyed.{keyed}
 use types.Owned.{own_new, own_sum, own_glued, own_join}
 use Rattle.thread_local_ids.specs.Rights.{is_out, less, telling, Element, element_if, right_owns, rights_own}
-use Rattle.thread_local_model.proofs.Signs.{signs}
+use Rattle.thread_local_base.proofs.Signs.{signs}
 
 -- what is out once an id's right is put back
 pub is_out-less : (out : List ℕ) (id j : ℕ) → is_out (less out id) j ≡ (if id == j then false else is_out out j)

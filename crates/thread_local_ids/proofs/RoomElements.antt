@@ -9,7 +9,7 @@ use base.Fml.{GName, Fml}
 use base.Shift.{Keyless}
 use types.Logic.{Logic, sem}
 use types.Kit.{‵, raw, ◌⊛◌, ◌$◌, ◌∵◌, !, qed, move, drop, split, suffices, settle, use1, done}
-use Rattle.thread_local_model.specs.IdMoves.{IdMove, Take, Give}
+use Rattle.thread_local_base.specs.IdMoves.{IdMove, Take, Give}
 use Rattle.thread_local_ids.specs.Rights.{is_out, element_at, room_key, room_owns, right_owns, rights_own}
 use Rattle.thread_local_ids.proofs.RightElements.{rights_cut}
 use Rattle.thread_local_ids.proofs.Logs.{O, shows, part_off, part_twice, grown}

@@ -4,7 +4,7 @@ use Rattle.std.proofs.Common.{arith, pow_pos, Option, None, Some, get_or}
 use Rattle.std.specs.Prelude.{◌⊎◌, slice_index_or}
 use Rattle.std.proofs.Math.Nat.{two-pow-succ}
 use Rattle.std.proofs.lemmas.List.{length-replicate, get_or-replicate, get_or_past}
-use Rattle.thread_local_model.proofs.PlaceLaws.{id_at-place, bucket_of-below, inside}
+use Rattle.thread_local_base.proofs.PlaceLaws.{id_at-place, bucket_of-below, inside}
 use mathlib.Core.Logic.{inl, inr}
 use seplogic.Ra.Ura.{Ura}
 use base.Logic.{SProp, emp, upd, upd_i}
@@ -15,11 +15,11 @@ use types.Kit.{‵, raw, ◌⊛◌, settle, suffices, frame, drop, move, keep, r
 use types.Kit.{done, ◌$◌, ◌∵◌, ! }
 use denote.RattleType.{RattleType}
 use denote.Steps.{nothing}
-use Rattle.thread_local_model.specs.Place.{id_at, bucket_of, index_of}
-use Rattle.thread_local_model.specs.Buckets.{Contents, IsTable, row, values}
+use Rattle.thread_local_base.specs.Place.{id_at, bucket_of, index_of}
+use Rattle.thread_local_base.specs.Buckets.{Contents, IsTable, row, values}
 use Rattle.thread_local_ids.specs.Told.{tells, all_tell, all_told_or_untold, whole_row, rows_telling, rows_tell}
 use Rattle.thread_local_ids.proofs.ToldElements.{all_end, all_dup, none_telling, source, all_drawn, told_at, tells_keyless}
-use Rattle.thread_local_model.proofs.Signs.{signs}
+use Rattle.thread_local_base.proofs.Signs.{signs}
 
 -- the row of a bucket is empty or whole
 abbrev pub IsWhole : {V : Type 0} → ℕ → List (Option V) → Type 0

@@ -14,7 +14,7 @@ use denote.Steps.{nothing}
 use denote.RawPtr.{block_ptr}
 use Rattle.std.specs.Sync.RawAtomic.{word, asks, always}
 use Rattle.thread_local_ids.specs.Locking.{LockTurn, with_word, lock_invariant}
-use Rattle.thread_local_model.proofs.Opened.{Lies, opened}
+use Rattle.thread_local_base.proofs.Opened.{Lies, opened}
 
 module _ {M : Type 1} {𝓤 : Ura M} (𝓛 : Logic 𝓤) (R : RattleType) (ok : R.Denot → Type 0) (b o : ℕ)
     (t : LockTurn) (q : Share) where

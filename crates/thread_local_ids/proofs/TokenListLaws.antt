@@ -26,7 +26,7 @@ use Rattle.thread_local_ids.specs.TokenLists.{AllOf, tell_each}
 use Rattle.thread_local_ids.specs.contracts.token_list.TokenList as TokenList
 use Rattle.thread_local_ids.proofs.Made.{token_val}
 use Rattle.thread_local_ids.proofs.ToldElements.{told_dup, telling_alike, tells_keyless}
-use Rattle.thread_local_model.proofs.Signs.{signs}
+use Rattle.thread_local_base.proofs.Signs.{signs}
 
 unnamed : IsSome {T = ℕ} None → ⊥
 unnamed named = cc

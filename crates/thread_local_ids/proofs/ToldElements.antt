@@ -17,7 +17,7 @@ use types.Kit.{◌$◌, ◌∵◌, ! }
 use types.Keyed.{entry, entries_from, entry_cut, entry_glue, entry_set, entries_take, entry_keyless, keyed, from}
 use denote.RattleType.{RattleType}
 use Rattle.thread_local_ids.specs.Told.{once, untold, told, untold_in, told_in, tells, told_or_untold, all_tell, all_told_or_untold}
-use Rattle.thread_local_model.proofs.Signs.{signs}
+use Rattle.thread_local_base.proofs.Signs.{signs}
 
 -- a sharing without a name has none
 nameless : IsSome {T = GName} None → ⊥

@@ -4,8 +4,8 @@ use Rattle.std.proofs.Common.{◌∙◌, subst, arith}
 use Rattle.std.specs.Prelude.{Contains, IsPermutation, slice_index_or}
 use Rattle.std.specs.List.{AllPairs, AllWithin}
 use Rattle.std.proofs.lemmas.List.{length-map, get_or-map}
-use Rattle.thread_local_model.specs.Walk.{walk}
-use Rattle.thread_local_model.proofs.EntriesLaws.{are_all}
+use Rattle.thread_local_base.specs.Walk.{walk}
+use Rattle.thread_local_base.proofs.EntriesLaws.{are_all}
 use Rattle.thread_local_ids.specs.Views.{TokenView}
 use Rattle.std.proofs.lemmas.Simd.{map-map}
 

@@ -15,7 +15,7 @@ use denote.Memory.{lone, mem, shared_of}
 use denote.RawPtr.{Ptr, block_ptr, null_ptr}
 use denote.Sharing.{said, beside, some, ends, always, within}
 use Rattle.std.specs.Sync.RawAtomic.{word}
-use Rattle.thread_local_model.specs.Fact.{fact}
+use Rattle.thread_local_base.specs.Fact.{fact}
 
 -- what a contract sees of a lock: the tag of its value, which never changes
 pub record LockView : Type 0 where

@@ -7,8 +7,8 @@ use base.Algebra.{Algebra}
 use base.Growing.{numbers, growing}
 use base.Fml.{Share, Fml, fown}
 use types.Keyed.{keyed}
-use Rattle.thread_local_model.specs.Held.{is_held}
-use Rattle.thread_local_model.specs.IdMoves.{IdMove, Take, Give, held_after}
+use Rattle.thread_local_base.specs.Held.{is_held}
+use Rattle.thread_local_base.specs.IdMoves.{IdMove, Take, Give, held_after}
 
 -- how often an id was given back
 abbrev pub gives : List IdMove → ℕ → ℕ

@@ -7,9 +7,9 @@ use base.Algebra.{Algebra}
 use base.Growing.{prefixes, growing}
 use base.Fml.{Share, Fml, ftrue, fown, fsep, fex}
 use types.Keyed.{keyed}
-use Rattle.thread_local_model.specs.Fact.{fact}
-use Rattle.thread_local_model.specs.Held.{least}
-use Rattle.thread_local_model.specs.IdMoves.{IdMove, Take, Give, move_coded, held_after, noted}
+use Rattle.thread_local_base.specs.Fact.{fact}
+use Rattle.thread_local_base.specs.Held.{least}
+use Rattle.thread_local_base.specs.IdMoves.{IdMove, Take, Give, move_coded, held_after, noted}
 use Rattle.thread_local_ids.specs.Returns.{gives, counts_own, counts_page, tenure_owns}
 
 -- whether an id is among those whose right is out

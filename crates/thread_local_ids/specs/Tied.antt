@@ -1,8 +1,8 @@
 -- What a contract sees of a table's ids, and how the held ids are tied to the rights that are out.
 use Rattle.std.specs.Prelude.{◌≡◌, ℕ, ◌+◌, ◌-◌, ◌^◌, ◌<◌, ◌≤◌, Bool, List}
-use Rattle.thread_local_model.specs.Held.{Manager, is_held}
+use Rattle.thread_local_base.specs.Held.{Manager, is_held}
 use Rattle.thread_local_ids.specs.Rights.{is_out}
-use Rattle.thread_local_model.specs.IdMoves.{IdMove, held_after}
+use Rattle.thread_local_base.specs.IdMoves.{IdMove, held_after}
 use Rattle.thread_local_ids.specs.declared.ids.Ids.TheInside.{Inside}
 
 -- the manager of ids, the name of the table that the rights are to, whether the table's right, to

@@ -2,7 +2,7 @@
 use Rattle.std.specs.Prelude.{◌≡◌, ◌≢◌, ℕ, ◌^◌, ◌<◌, List, [], ◌∷◌, Option, Some, IsSome, All}
 use base.Fml.{Fml, ftrue, fsep}
 use denote.RattleType.{RattleType}
-use Rattle.thread_local_model.specs.Place.{id_at}
+use Rattle.thread_local_base.specs.Place.{id_at}
 use Rattle.thread_local_ids.specs.Told.{tells}
 use Rattle.thread_local_ids.specs.Views.{TokenView}
 

@@ -11,10 +11,10 @@ use base.SetCodes.{coded}
 use base.Fml.{GName, Fml, ftrue, fsep}
 use types.Keyed.{entry}
 use denote.RattleType.{RattleType}
-use Rattle.thread_local_model.specs.Place.{id_at}
-use Rattle.thread_local_model.specs.Rows.{empty_row}
-use Rattle.thread_local_model.specs.Buckets.{Contents, IsTable}
-use Rattle.thread_local_model.specs.Fact.{fact}
+use Rattle.thread_local_base.specs.Place.{id_at}
+use Rattle.thread_local_base.specs.Rows.{empty_row}
+use Rattle.thread_local_base.specs.Buckets.{Contents, IsTable}
+use Rattle.thread_local_base.specs.Fact.{fact}
 
 abbrev code_of_code : Coded Gv
 code_of_code = record { code = λ g. g; inj = λ x y e. e }

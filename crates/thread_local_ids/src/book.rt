@@ -2,9 +2,9 @@
 ghost use Rattle.std.specs.Prelude.{◌≡◌, ◌≢◌, ◌-◌, ◌^◌, ◌<◌, ℕ, Option, Some, IsSome, All, map, length, IsPermutation};
 ghost use Rattle.std.specs.List.{AllPairs};
 ghost use Rattle.std.specs.Coded.{coded_option, coded_ℕ};
-ghost use Rattle.thread_local_model.specs.Buckets.{Contents, values};
-ghost use Rattle.thread_local_model.specs.Code.{contents_coded};
-ghost use Rattle.thread_local_model.specs.Walk.{walk};
+ghost use Rattle.thread_local_base.specs.Buckets.{Contents, values};
+ghost use Rattle.thread_local_base.specs.Code.{contents_coded};
+ghost use Rattle.thread_local_base.specs.Walk.{walk};
 ghost use Rattle.thread_local_ids.specs.Told.{book_owns};
 ghost use denote.Sharing.{said};
 

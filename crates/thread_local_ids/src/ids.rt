@@ -1,17 +1,17 @@
 //! An id of a table is held, with its right out, or it is free, with its right here.
 ghost use Rattle.std.specs.Prelude.{◌≡◌, ◌≢◌, ◌+◌, ◌-◌, ◌^◌, ◌≤◌, ◌<◌, ◌==◌, ℕ, min, true, false, [], length, if◌then◌else◌, IsOk, OnErr, IfOk};
-ghost use Rattle.thread_local_model.specs.IdMoves.{Take, Give, held_after, noted};
+ghost use Rattle.thread_local_base.specs.IdMoves.{Take, Give, held_after, noted};
 ghost use mathlib.Core.List.{IsPrefix};
 ghost use Rattle.thread_local_ids.specs.Rights.{is_out, taken_id};
 ghost use Rattle.std.specs.Prelude.{alloc_error};
-ghost use Rattle.thread_local_model.specs.Held.{is_held, HoldsAllBelow, Takes, Gives, NeedsMemory, IsExhausted};
+ghost use Rattle.thread_local_base.specs.Held.{is_held, HoldsAllBelow, Takes, Gives, NeedsMemory, IsExhausted};
 
 use crate::lock::Fits;
 use crate::{HeldId, History, Page, Reached, Right, Rights, Room, Tenure};
 use std::alloc::{AllocError, Global};
 use std::marker::Model;
-use thread_local_thread_id::manager::IDS;
-use thread_local_thread_id::{LocalError, ThreadIdManager};
+use thread_local_base::manager::IDS;
+use thread_local_base::{LocalError, ThreadIdManager};
 
 /// The mark of an id is the right to `id + FIRST_MARK`. That is no id: all ids are less than this
 /// number.

@@ -5,8 +5,8 @@ ghost use mathlib.Core.List.{IsPrefix};
 ghost use mathlib.Core.Logic.{◌∨₁◌};
 ghost use types.Logic.{sem};
 ghost use denote.Sharing.{said};
-ghost use Rattle.thread_local_model.specs.IdMoves.{IdMove, Take, Give, moves_coded, held_after, noted};
-ghost use Rattle.thread_local_model.specs.Held.{is_held};
+ghost use Rattle.thread_local_base.specs.IdMoves.{IdMove, Take, Give, moves_coded, held_after, noted};
+ghost use Rattle.thread_local_base.specs.Held.{is_held};
 ghost use Rattle.thread_local_ids.specs.Rights.{history_owns, page_owns, tenure_of, taken_id};
 
 use std::marker::{Model, PhantomData};

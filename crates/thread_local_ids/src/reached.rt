@@ -1,6 +1,6 @@
 //! How many ids of a table were held at once. No call does anything at run time.
 ghost use Rattle.std.specs.Prelude.{◌≡◌, ◌+◌, ◌≤◌, ℕ, length};
-ghost use Rattle.thread_local_model.specs.IdMoves.{held_after};
+ghost use Rattle.thread_local_base.specs.IdMoves.{held_after};
 ghost use Rattle.thread_local_ids.specs.Rights.{reached_owns, taken_id};
 
 use crate::{History, Tenure};

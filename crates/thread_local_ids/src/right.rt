@@ -8,7 +8,7 @@ ghost use Rattle.thread_local_ids.specs.Rights.{is_out, right_owns, rights_own};
 use crate::page::History;
 use crate::room::Room;
 use std::marker::{Model, PhantomData};
-use thread_local_thread_id::ThreadIdManager;
+use thread_local_base::ThreadIdManager;
 
 /// The right to one id of one table: no two values are the right to the same id.
 ///

@@ -8,7 +8,7 @@ use std::test::Fail;
 use std::thread;
 use std::thread::Threads;
 use thread_local_ids::{HeldId, Ids, Lock, Right, Tenure};
-use thread_local_thread_id::LocalError;
+use thread_local_base::LocalError;
 
 /// What a take answers.
 type Taken = (HeldId, Right, Tenure);

@@ -2,7 +2,7 @@
 use crate::refusals::{give, take_at_hand};
 use std::collections::BTreeSet;
 use std::test::Fail;
-use thread_local_thread_id::{LocalError, ThreadIdManager};
+use thread_local_base::{LocalError, ThreadIdManager};
 
 /// The least number that isn't in the set.
 fn least_absent(held: &BTreeSet<usize>) -> usize {

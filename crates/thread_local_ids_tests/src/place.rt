@@ -1,5 +1,5 @@
 //! The places of ids, at both ends of the range and between.
-use thread_local_thread_id::Thread;
+use thread_local_base::Thread;
 
 #[test]
 fn places_of_ids(rt: HostRuntime) {

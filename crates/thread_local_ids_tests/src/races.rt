@@ -8,7 +8,7 @@ use std::test::Fail;
 use std::thread;
 use std::thread::Threads;
 use thread_local_ids::{Ids, Lock};
-use thread_local_thread_id::LocalError;
+use thread_local_base::LocalError;
 
 /// Takes an id and gives it back, `times` times. Answers how often another thread had the same id
 /// at that moment, or that memory ran out.

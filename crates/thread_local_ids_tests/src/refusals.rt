@@ -3,7 +3,7 @@ use std::alloc::Global;
 use std::io::Print;
 use std::process::Abort;
 use std::test::Fail;
-use thread_local_thread_id::{LocalError, ThreadIdManager};
+use thread_local_base::{LocalError, ThreadIdManager};
 
 /// Takes an id; where memory is refused, nothing has changed and the same call succeeds.
 fn take(

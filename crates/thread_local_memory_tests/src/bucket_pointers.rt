@@ -6,7 +6,7 @@ use std::cell::Cell;
 use std::mem::replace;
 use std::test::Fail;
 use thread_local_bucket_pointers::{BucketPointers, FlagSource};
-use thread_local_thread_id::Thread;
+use thread_local_base::Thread;
 
 /// A slot's place.
 pub fn place(bucket: usize, index: usize) -> Thread

@@ -5,7 +5,7 @@
 
 use std::alloc::AllocError;
 use thread_local_buckets::Buckets;
-use thread_local_thread_id::Thread;
+use thread_local_base::Thread;
 
 mod callers;
 mod drains;

@@ -15,7 +15,7 @@ use std::test::Fail;
 use thread_local::ThreadLocal;
 use thread_local::local::{Local, SetError, TryError};
 use thread_local_buckets::{CapacityError, IntoIter};
-use thread_local_thread_id::LocalError;
+use thread_local_base::LocalError;
 
 /// A call that publishes a value.
 #[derive(Clone, Copy, PartialEq, Eq)]

@@ -1,11 +1,11 @@
 -- No step loses a call or makes one up.
 use Rattle.std.proofs.Common.{◌≡◌, ℕ, zero, suc, Bool, true, false, [], ◌∷◌, ◌++◌, Option, Some, None, Result, Ok, Err}
 use Rattle.std.proofs.Common.{IfSome, IsSomeAnd, refl, ap, sym, subst, inl, inr, cond}
-use Rattle.thread_local_model.specs.Answers.{Get, GetOr, Answer, Answered}
-use Rattle.thread_local_model.specs.Learnt.{Learnt, Missing, Vacant, Holding, learnt_by_load, learnt_by_look}
-use Rattle.thread_local_model.specs.Learnt.{learnt_by_install, learnt_by_publish}
+use Rattle.thread_local_base.specs.Answers.{Get, GetOr, Answer, Answered}
+use Rattle.thread_local_base.specs.Learnt.{Learnt, Missing, Vacant, Holding, learnt_by_load, learnt_by_look}
+use Rattle.thread_local_base.specs.Learnt.{learnt_by_install, learnt_by_publish}
 use Rattle.thread_local_schedule.specs.Table.{Table, published, bucket_stands, with_flag}
-use Rattle.thread_local_model.specs.Place.{bucket_of}
+use Rattle.thread_local_base.specs.Place.{bucket_of}
 use Rattle.thread_local_schedule.specs.Local.{Doing, Gets, Started, Private, Written, Local, after_call, may_look}
 use Rattle.thread_local_schedule.specs.Local.{learns, load_pointer, look_at_flag, make_bucket, offered, install_bucket}
 use Rattle.thread_local_schedule.specs.Local.{write_value, set_flag, reply, local_step, LocalStep, BeginGet, BeginGetOr}

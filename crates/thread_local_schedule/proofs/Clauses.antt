@@ -5,11 +5,11 @@ use Rattle.std.specs.Prelude.{◌≢◌, unwrap_or}
 use Rattle.thread_local_schedule.specs.Fits.{IsSameBucket}
 use Rattle.thread_local_schedule.proofs.TableLaws.{same_bucket}
 use Rattle.std.proofs.lemmas.Bool.{false≢true, and_parts, not-true, not-false, cond_both}
-use Rattle.thread_local_model.specs.Held.{is_held, least, HoldsAllBelow, is_granted}
-use Rattle.thread_local_model.specs.Capacity.{reserves_bucket, is_reserved}
-use Rattle.thread_local_model.specs.Sheet.{Sheet, new_sheet, Clear}
+use Rattle.thread_local_base.specs.Held.{is_held, least, HoldsAllBelow, is_granted}
+use Rattle.thread_local_base.specs.Capacity.{reserves_bucket, is_reserved}
+use Rattle.thread_local_base.specs.Sheet.{Sheet, new_sheet, Clear}
 use Rattle.thread_local_schedule.specs.TableMoves.{OfSheet, Drain, moved_by_if}
-use Rattle.thread_local_model.specs.Answers.{View, first_view}
+use Rattle.thread_local_base.specs.Answers.{View, first_view}
 use Rattle.thread_local_schedule.specs.Table.{empty_slot, slot_at, bucket_stands}
 use Rattle.thread_local_schedule.specs.Local.{Local, fresh_local}
 use Rattle.thread_local_schedule.specs.Cleared.{cleared}

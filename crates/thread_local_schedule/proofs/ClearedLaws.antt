@@ -3,8 +3,8 @@
 use Rattle.std.proofs.Common.{◌≡◌, ℕ, Bool, true, false, cond, Option, Some, None, is_some, IsTrue, refl, ap}
 use Rattle.std.specs.Prelude.{option_map}
 use Rattle.std.proofs.lemmas.Bool.{false≢true}
-use Rattle.thread_local_model.specs.Place.{bucket_of, index_of}
-use Rattle.thread_local_model.specs.Capacity.{reserves_bucket}
+use Rattle.thread_local_base.specs.Place.{bucket_of, index_of}
+use Rattle.thread_local_base.specs.Capacity.{reserves_bucket}
 use Rattle.thread_local_schedule.specs.Table.{Bucket, Table, empty_slot, slot_of, slot_at, published, bucket_stands}
 use Rattle.thread_local_schedule.specs.Fits.{number_at}
 use Rattle.thread_local_schedule.proofs.TableLaws.{same_function, published_unset}

@@ -4,19 +4,19 @@ use Rattle.std.proofs.Common.{◌≡◌, ℕ, ◌+◌, ◌-◌, ◌*◌, ◌^◌
 use Rattle.std.proofs.Common.{None, IsTrue, IfSome, refl, ap, sym, ◌∙◌, subst, arith, ⊎_elim}
 use Rattle.std.specs.Prelude.{option_map, Contains}
 use Rattle.std.proofs.lemmas.Bool.{cases_Bool, false≢true}
-use Rattle.thread_local_model.specs.Held.{is_held}
-use Rattle.thread_local_model.specs.Capacity.{is_reserved}
-use Rattle.thread_local_model.specs.Walk.{walk, walk_below}
-use Rattle.thread_local_model.specs.Buckets.{slots}
-use Rattle.thread_local_model.specs.Sheet.{Sheet, Publish}
+use Rattle.thread_local_base.specs.Held.{is_held}
+use Rattle.thread_local_base.specs.Capacity.{is_reserved}
+use Rattle.thread_local_base.specs.Walk.{walk, walk_below}
+use Rattle.thread_local_base.specs.Buckets.{slots}
+use Rattle.thread_local_base.specs.Sheet.{Sheet, Publish}
 use Rattle.thread_local_schedule.specs.TableMoves.{OfSheet, moved_by_if, IsMoveAllowed}
-use Rattle.thread_local_model.proofs.SlotsLaws.{slots_bounded}
-use Rattle.thread_local_model.proofs.WalkLaws.{walk_below-add, walk_below-none, length-walk_below}
-use Rattle.thread_local_model.proofs.AnswersLaws.{known_after_all}
+use Rattle.thread_local_base.proofs.SlotsLaws.{slots_bounded}
+use Rattle.thread_local_base.proofs.WalkLaws.{walk_below-add, walk_below-none, length-walk_below}
+use Rattle.thread_local_base.proofs.AnswersLaws.{known_after_all}
 use Rattle.thread_local_schedule.specs.Table.{Table, published, bucket_stands, made_table}
-use Rattle.thread_local_model.specs.Learnt.{Missing}
+use Rattle.thread_local_base.specs.Learnt.{Missing}
 use Rattle.thread_local_schedule.specs.Local.{Local, Doing, Private}
-use Rattle.thread_local_model.specs.Cursor.{is_complete}
+use Rattle.thread_local_base.specs.Cursor.{is_complete}
 use Rattle.thread_local_schedule.specs.SharedWalk.{SharedWalk}
 use Rattle.thread_local_schedule.proofs.WalkStepLaws.{complete_cursor}
 use Rattle.thread_local_schedule.specs.Fits.{IsLearnt, view_now, with_value_if}

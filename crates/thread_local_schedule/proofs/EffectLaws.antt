@@ -3,12 +3,12 @@ use Rattle.std.proofs.Common.{◌≡◌, ℕ, Bool, true, false, cond, eqb, Opti
 use Rattle.std.proofs.Common.{◌∙◌, subst}
 use Rattle.std.specs.Prelude.{◌↔◌, is_some, option_map, option_and_then, unwrap_or}
 use Rattle.std.proofs.lemmas.Bool.{false≢true}
-use Rattle.thread_local_model.specs.Place.{bucket_of}
-use Rattle.thread_local_model.specs.Held.{with_least, without}
-use Rattle.thread_local_model.specs.Walk.{with_value}
-use Rattle.thread_local_model.specs.Learnt.{Learnt, Unknown, Missing, Standing, Vacant, Holding, learnt_by_install}
-use Rattle.thread_local_model.specs.Learnt.{learnt_by_publish}
-use Rattle.thread_local_model.specs.Answers.{GetOr, Answered}
+use Rattle.thread_local_base.specs.Place.{bucket_of}
+use Rattle.thread_local_base.specs.Held.{with_least, without}
+use Rattle.thread_local_base.specs.Walk.{with_value}
+use Rattle.thread_local_base.specs.Learnt.{Learnt, Unknown, Missing, Standing, Vacant, Holding, learnt_by_install}
+use Rattle.thread_local_base.specs.Learnt.{learnt_by_publish}
+use Rattle.thread_local_base.specs.Answers.{GetOr, Answered}
 use Rattle.thread_local_schedule.specs.TableMoves.{TableMove, moved_by_if}
 use Rattle.thread_local_schedule.specs.Table.{Table, Slot, slot_at, value_of, published, bucket_stands, with_flag, with_fresh_bucket}
 use Rattle.thread_local_schedule.specs.Local.{Local, LocalStep, local_step, InstallBucket, WriteValue, SetFlag}

@@ -3,10 +3,10 @@ use Rattle.std.proofs.Common.{◌≡◌, ◌<◌, zero, suc, Bool, true, false, 
 use Rattle.std.proofs.Common.{IsTrue, IfSome, IsSomeAnd, refl, arith}
 use Rattle.std.specs.Prelude.{option_map, option_and_then, MatchOption}
 use Rattle.std.proofs.lemmas.Bool.{false≢true}
-use Rattle.thread_local_model.specs.Place.{bucket_of}
-use Rattle.thread_local_model.specs.Learnt.{Learnt, Unknown, Missing, Standing, Vacant, Holding, learnt_by_load}
-use Rattle.thread_local_model.specs.Learnt.{learnt_by_look, learnt_by_install, learnt_by_publish}
-use Rattle.thread_local_model.specs.Answers.{Failed, Answered, GetOr}
+use Rattle.thread_local_base.specs.Place.{bucket_of}
+use Rattle.thread_local_base.specs.Learnt.{Learnt, Unknown, Missing, Standing, Vacant, Holding, learnt_by_load}
+use Rattle.thread_local_base.specs.Learnt.{learnt_by_look, learnt_by_install, learnt_by_publish}
+use Rattle.thread_local_base.specs.Answers.{Failed, Answered, GetOr}
 use Rattle.thread_local_schedule.specs.Table.{Table, published, bucket_stands, with_flag}
 use Rattle.thread_local_schedule.specs.Local.{Doing, Gets, Started, Private, Written, Local, LocalStep, local_step}
 use Rattle.thread_local_schedule.specs.Local.{BeginGet, BeginGetOr, LoadPointer, LookAtFlag, MakeBucket, InstallBucket}

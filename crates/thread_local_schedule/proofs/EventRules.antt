@@ -4,10 +4,10 @@ use Rattle.std.proofs.Common.{Some, None}
 use Rattle.std.proofs.Common.{Result, Err, is_some, IsTrue, IfSome, IsSomeAnd, refl, ap, sym, ◌∙◌, subst, arith, ⊎_elim}
 use Rattle.std.specs.Prelude.{option_map, option_and_then, unwrap_or, IsSome}
 use Rattle.std.proofs.lemmas.Bool.{false≢true, cond_both, cases_Bool}
-use Rattle.thread_local_model.specs.Held.{is_granted, HoldsAllBelow}
-use Rattle.thread_local_model.proofs.HeldLaws.{needs-refused}
-use Rattle.thread_local_model.specs.Learnt.{Unknown, Missing, Vacant}
-use Rattle.thread_local_model.specs.Answers.{Failed}
+use Rattle.thread_local_base.specs.Held.{is_granted, HoldsAllBelow}
+use Rattle.thread_local_base.proofs.HeldLaws.{needs-refused}
+use Rattle.thread_local_base.specs.Learnt.{Unknown, Missing, Vacant}
+use Rattle.thread_local_base.specs.Answers.{Failed}
 use Rattle.thread_local_schedule.specs.Local.{Local, LocalStep, BeginGet, BeginGetOr, MakeBucket, WriteValue, local_step}
 use Rattle.thread_local_schedule.specs.Calls.{closure_of, HasNoCall, GoesDown, EndsWith}
 use Rattle.thread_local_schedule.proofs.EnabledSteps as step

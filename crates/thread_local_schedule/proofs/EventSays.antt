@@ -4,9 +4,9 @@ use Rattle.std.proofs.Common.{is_some, IsTrue, IfSome, refl, ap, sym, ◌∙◌,
 use Rattle.std.specs.Prelude.{option_map, unwrap_or}
 use Rattle.std.proofs.lemmas.Option.{none-some}
 use Rattle.std.proofs.lemmas.Bool.{cond_both, false≢true, eqb-false}
-use Rattle.thread_local_model.specs.Held.{held_count, without, is_granted}
+use Rattle.thread_local_base.specs.Held.{held_count, without, is_granted}
 use Rattle.thread_local_schedule.specs.TableMoves.{moved_by_if, IsMoveAllowed}
-use Rattle.thread_local_model.specs.Capacity.{reserves_bucket}
+use Rattle.thread_local_base.specs.Capacity.{reserves_bucket}
 use Rattle.thread_local_schedule.specs.Table.{Table, published}
 use Rattle.thread_local_schedule.specs.Local.{Local, LocalStep, local_step}
 use Rattle.thread_local_schedule.specs.SharedWalk.{fresh_walk, WalkStep, walk_step}
@@ -29,7 +29,7 @@ use Rattle.thread_local_schedule.proofs.PutLaws.{put_cases, still, put_other}
 use Rattle.thread_local_schedule.proofs.Parts.{kept_value, no_locals}
 use Rattle.thread_local_schedule.proofs.CoreLaws.{published_moves, publishing_allowed}
 use Rattle.thread_local_schedule.proofs.OptionLaws.{if_enabled, if_mapped, if_there, if_then}
-use Rattle.thread_local_model.proofs.HeldLaws as ids
+use Rattle.thread_local_base.proofs.HeldLaws as ids
 
 -- what every event says of the core after it, whether it is enabled or not
 pub record Says {V E : Type 0} (core : Core V E) (event : Event V E) (enabled : Bool) (after : Core V E) : Type 0 where

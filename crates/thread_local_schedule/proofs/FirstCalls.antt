@@ -1,8 +1,8 @@
 -- The five calls of a `Local` in a new table, computed.
 use Rattle.std.proofs.Common.{◌≡◌, [], ◌∷◌, Some, None, false, IsSomeAnd, refl}
-use Rattle.thread_local_model.specs.Place.{place, next_place, bucket_of, index_of}
-use Rattle.thread_local_model.specs.Capacity.{binary_digits}
-use Rattle.thread_local_model.specs.Answers.{Found, Answered, Refused, Failed}
+use Rattle.thread_local_base.specs.Place.{place, next_place, bucket_of, index_of}
+use Rattle.thread_local_base.specs.Capacity.{binary_digits}
+use Rattle.thread_local_base.specs.Answers.{Found, Answered, Refused, Failed}
 use Rattle.thread_local_schedule.specs.Table.{slot_at, published, bucket_stands, with_fresh_bucket, with_table_slot, made_table}
 use Rattle.thread_local_schedule.specs.Local.{fresh_local, local_step, local_steps, five_calls}
 

@@ -1,15 +1,15 @@
 -- The schedule of four `Local`s, computed step by step.
 use Rattle.std.proofs.Common.{◌≡◌, true, ℕ, [], ◌∷◌, Some, IsTrue, IsSomeAnd, refl}
-use Rattle.thread_local_model.specs.Place.{place, next_place, bucket_of, index_of}
-use Rattle.thread_local_model.specs.Capacity.{binary_digits, reserved_slots}
-use Rattle.thread_local_model.specs.Buckets.{slots, slots_below}
+use Rattle.thread_local_base.specs.Place.{place, next_place, bucket_of, index_of}
+use Rattle.thread_local_base.specs.Capacity.{binary_digits, reserved_slots}
+use Rattle.thread_local_base.specs.Buckets.{slots, slots_below}
 use Rattle.thread_local_schedule.specs.Table.{slot_at, published, bucket_stands, with_fresh_bucket, with_table_slot, made_table}
 use Rattle.thread_local_schedule.specs.Local.{local_step}
-use Rattle.thread_local_model.specs.Cursor.{is_complete}
+use Rattle.thread_local_base.specs.Cursor.{is_complete}
 use Rattle.thread_local_schedule.specs.SharedWalk.{walk_step}
 use Rattle.thread_local_schedule.specs.OwnerWalk.{owner_walk, owner_walk_below}
-use Rattle.thread_local_model.specs.Walk.{walk_below}
-use Rattle.thread_local_model.specs.Answers.{Found, Answered}
+use Rattle.thread_local_base.specs.Walk.{walk_below}
+use Rattle.thread_local_base.specs.Answers.{Found, Answered}
 use Rattle.thread_local_schedule.specs.Core.{peak, installed_slots}
 use Rattle.thread_local_schedule.specs.Events.{Owner, RewriteTable, ClearTable, step, happens, run, is_enabled}
 use Rattle.thread_local_schedule.specs.Story.{walk_on, whole_walk, four_publish, four_give_back, after_publishing}

@@ -2,7 +2,7 @@
 -- cleared.
 use Rattle.std.proofs.Common.{◌≡◌, ℕ, zero, suc, [], ◌∷◌, None, IsTrue, refl, ap, arith, subst, sym}
 use Rattle.std.specs.Prelude.{slice_get}
-use Rattle.thread_local_model.specs.Sheet.{new_sheet}
+use Rattle.thread_local_base.specs.Sheet.{new_sheet}
 use Rattle.thread_local_schedule.proofs.TableLaws.{same_function}
 use Rattle.thread_local_schedule.proofs.Kept.{run-fits}
 use Rattle.thread_local_schedule.specs.Table.{published}

@@ -1,8 +1,8 @@
 -- The peak against the number of held ids.
 use Rattle.std.proofs.Common.{◌≡◌, ℕ, zero, suc, ◌<◌, ◌≤◌, max, Bool, true, false, IsTrue, List, [], ◌∷◌, length, refl}
 use Rattle.std.proofs.Common.{arith}
-use Rattle.thread_local_model.specs.Held.{is_held, least, with_least, held_count}
-use Rattle.thread_local_model.proofs.HeldLaws.{held_count-with_least, least_bounded}
+use Rattle.thread_local_base.specs.Held.{is_held, least, with_least, held_count}
+use Rattle.thread_local_base.proofs.HeldLaws.{held_count-with_least, least_bounded}
 
 -- a held id is below the peak
 pub held_below : (held : List Bool) (id : ℕ) → IsTrue (is_held held id) → id < length held

@@ -3,10 +3,10 @@ use Rattle.std.proofs.Common.{◌≡◌, ℕ, ◌^◌, ◌<◌, Bool, true, fals
 use Rattle.std.proofs.Common.{IsTrue, IsSomeAnd, refl, ap, sym, ◌∙◌, subst}
 use Rattle.std.specs.Prelude.{◌≢◌, option_map}
 use Rattle.std.proofs.lemmas.Bool.{false≢true, cond_both}
-use Rattle.thread_local_model.specs.Held.{least, with_least, without, is_granted}
-use Rattle.thread_local_model.specs.IdMoves.{IdMove, Take as TakeNoted, Give as GiveNoted, held_after, noted}
-use Rattle.thread_local_model.proofs.IdMoveLaws.{after_take, after_give}
-use Rattle.thread_local_model.specs.Sheet.{Sheet, Take, Give, Publish, Keep, Rewrite, Clear}
+use Rattle.thread_local_base.specs.Held.{least, with_least, without, is_granted}
+use Rattle.thread_local_base.specs.IdMoves.{IdMove, Take as TakeNoted, Give as GiveNoted, held_after, noted}
+use Rattle.thread_local_base.proofs.IdMoveLaws.{after_take, after_give}
+use Rattle.thread_local_base.specs.Sheet.{Sheet, Take, Give, Publish, Keep, Rewrite, Clear}
 use Rattle.thread_local_schedule.specs.TableMoves.{TableMove, OfSheet, Drain, moved_by_if}
 use Rattle.thread_local_schedule.specs.Local.{Local, LocalStep}
 use Rattle.thread_local_schedule.specs.Fits.{value_set}

@@ -3,10 +3,10 @@ use Rattle.std.proofs.Common.{◌≡◌, ℕ, zero, suc, Bool, true, false, cond
 use Rattle.std.proofs.Common.{IfSome, refl, ap, sym, ◌∙◌, ⊎_elim}
 use Rattle.std.specs.Prelude.{option_map, option_and_then}
 use Rattle.std.proofs.lemmas.Bool.{cases_eq, ne_eqb, false≢true}
-use Rattle.thread_local_model.specs.Place.{bucket_of}
-use Rattle.thread_local_model.specs.Learnt.{Learnt, Missing, Vacant, Holding, learnt_by_load, learnt_by_look}
-use Rattle.thread_local_model.specs.Learnt.{learnt_by_install, learnt_by_publish}
-use Rattle.thread_local_model.specs.Answers.{Answered, GetOr}
+use Rattle.thread_local_base.specs.Place.{bucket_of}
+use Rattle.thread_local_base.specs.Learnt.{Learnt, Missing, Vacant, Holding, learnt_by_load, learnt_by_look}
+use Rattle.thread_local_base.specs.Learnt.{learnt_by_install, learnt_by_publish}
+use Rattle.thread_local_base.specs.Answers.{Answered, GetOr}
 use Rattle.thread_local_schedule.specs.Table.{Table, Slot, published, bucket_stands, with_flag, with_table_slot}
 use Rattle.thread_local_schedule.specs.Local.{Doing, Gets, Started, Private, Local, LocalStep, local_step, BeginGet}
 use Rattle.thread_local_schedule.specs.Local.{BeginGetOr, LoadPointer, LookAtFlag, MakeBucket, InstallBucket}

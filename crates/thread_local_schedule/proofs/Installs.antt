@@ -3,14 +3,14 @@ use Rattle.std.proofs.Common.{◌≡◌, ℕ, suc, Bool, true, false, cond, Opti
 use Rattle.std.proofs.Common.{IsSomeAnd, refl, ap, sym, ◌∙◌, subst}
 use Rattle.std.specs.Prelude.{unwrap_or}
 use Rattle.std.proofs.lemmas.Bool.{false≢true, cond_both}
-use Rattle.thread_local_model.specs.Place.{bucket_of}
-use Rattle.thread_local_model.specs.Held.{is_granted}
+use Rattle.thread_local_base.specs.Place.{bucket_of}
+use Rattle.thread_local_base.specs.Held.{is_granted}
 use Rattle.thread_local_schedule.specs.Table.{Bucket, Table, bucket_stands}
 use Rattle.thread_local_schedule.specs.Local.{LocalStep, InstallBucket, local_step}
 use Rattle.thread_local_schedule.proofs.Installing.{installs}
 use Rattle.thread_local_schedule.specs.SharedWalk.{fresh_walk, WalkStep, walk_step}
 use Rattle.thread_local_schedule.specs.Cleared.{emptied_bucket, cleared}
-use Rattle.thread_local_model.specs.Capacity.{reserves_bucket}
+use Rattle.thread_local_base.specs.Capacity.{reserves_bucket}
 use Rattle.thread_local_schedule.specs.Core.{Core, is_alone}
 use Rattle.thread_local_schedule.proofs.OwnerLaws.{bucket_stands-rewritten}
 use Rattle.thread_local_schedule.proofs.ClearedLaws.{bucket_stands-drained}

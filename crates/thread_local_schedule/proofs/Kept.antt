@@ -3,8 +3,8 @@ use Rattle.std.proofs.Common.{◌≡◌, ℕ, suc, Bool, true, false, cond, List
 use Rattle.std.proofs.Common.{ap, sym, ◌∙◌, arith}
 use Rattle.std.proofs.lemmas.Bool.{cond_both, ne_eqb, false≢true}
 use Rattle.std.specs.Prelude.{unwrap_or}
-use Rattle.thread_local_model.specs.Held.{is_held, least, with_least, without, is_exhausted, is_granted}
-use Rattle.thread_local_model.specs.Answers.{first_view}
+use Rattle.thread_local_base.specs.Held.{is_held, least, with_least, without, is_exhausted, is_granted}
+use Rattle.thread_local_base.specs.Answers.{first_view}
 use Rattle.thread_local_schedule.specs.Local.{Local, LocalStep, fresh_local, local_step}
 use Rattle.thread_local_schedule.specs.SharedWalk.{SharedWalk, fresh_walk, WalkStep, walk_step}
 use Rattle.thread_local_schedule.specs.Fits.{StepFits, value_set}
@@ -28,7 +28,7 @@ use Rattle.thread_local_schedule.proofs.Parts.{held_stays, least_held, fresh-Liv
 use Rattle.thread_local_schedule.proofs.Parts.{came_before, rewritten-fits, drained-fits, cleared-fits}
 use Rattle.thread_local_schedule.proofs.Takes.{granted_some, taken-ManagerFits}
 use Rattle.thread_local_schedule.proofs.OptionLaws.{if_enabled, unwrapped, if_mapped, if_both, if_there, if_then}
-use Rattle.thread_local_model.proofs.HeldLaws as ids
+use Rattle.thread_local_base.proofs.HeldLaws as ids
 
 pub take_id-fits : {V E : Type 0} (core : Core V E) (growth : ℕ) → is_exhausted core.manager ≡ false
     → CoreFits core

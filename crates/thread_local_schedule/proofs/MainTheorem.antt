@@ -3,8 +3,8 @@ use Rattle.std.proofs.Common.{◌≡◌, ℕ, ◌-◌, ◌^◌, ◌<◌, false, 
 use Rattle.std.specs.Prelude.{◌↔◌, Contains}
 use Rattle.std.specs.List.{AllByRecursion}
 use Rattle.std.specs.List.Sorted.{IsStrictlyIncreasing}
-use Rattle.thread_local_model.specs.Walk.{walk, paired}
-use Rattle.thread_local_model.proofs.WalkLaws.{map-walk_below, strictly_ascends, listed, in_list}
+use Rattle.thread_local_base.specs.Walk.{walk, paired}
+use Rattle.thread_local_base.proofs.WalkLaws.{map-walk_below, strictly_ascends, listed, in_list}
 use Rattle.thread_local_schedule.specs.OwnerWalk.{owner_walk}
 use Rattle.thread_local_schedule.specs.Core.{Core, made_core, shadow}
 use Rattle.thread_local_schedule.specs.CoreFits.{CoreFits}

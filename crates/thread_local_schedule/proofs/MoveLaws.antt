@@ -2,8 +2,8 @@
 use Rattle.std.proofs.Common.{◌≡◌, ℕ, Bool, true, false, ◌&&◌, not, cond, Option, Some, None, IsTrue, refl, sym}
 use Rattle.std.specs.Prelude.{◌≢◌}
 use Rattle.std.proofs.lemmas.Bool.{false≢true, cond_both}
-use Rattle.thread_local_model.specs.Held.{is_granted}
-use Rattle.thread_local_model.specs.Sheet.{Take, Give, Publish, Rewrite, Clear}
+use Rattle.thread_local_base.specs.Held.{is_granted}
+use Rattle.thread_local_base.specs.Sheet.{Take, Give, Publish, Rewrite, Clear}
 use Rattle.thread_local_schedule.specs.TableMoves.{TableMove, OfSheet, Drain}
 use Rattle.thread_local_schedule.specs.Local.{Local, LocalStep, SetFlag, Written}
 use Rattle.thread_local_schedule.specs.Core.{Core}

@@ -3,10 +3,10 @@ use Rattle.std.proofs.Common.{◌≡◌, ℕ, ◌<◌, ◌⊎◌, Bool, true, fa
 use Rattle.std.proofs.Common.{arith, ⊎_elim, inl, inr}
 use Rattle.std.specs.Prelude.{option_map}
 use Rattle.std.proofs.lemmas.Bool.{ltb-true}
-use Rattle.thread_local_model.specs.Capacity.{binary_digits, reserves_bucket}
+use Rattle.thread_local_base.specs.Capacity.{binary_digits, reserves_bucket}
 use Rattle.thread_local_schedule.specs.Table.{Table, Bucket, fresh_bucket, made_table}
 use Rattle.thread_local_schedule.specs.Local.{Local, fresh_local}
-use Rattle.thread_local_model.specs.Answers.{View}
+use Rattle.thread_local_base.specs.Answers.{View}
 use Rattle.thread_local_schedule.specs.OwnerWalk.{rewritten}
 use Rattle.thread_local_schedule.specs.Cleared.{cleared, drained}
 use Rattle.thread_local_schedule.specs.Fits.{number_at}

@@ -4,10 +4,10 @@ use Rattle.std.proofs.Common.{◌≡◌, ℕ, zero, suc, ◌⊎◌, Bool, cond, 
 use Rattle.std.proofs.Common.{IfSome, refl, ap, sym, ◌∙◌, arith, ⊎_elim, inl, inr}
 use Rattle.std.specs.Prelude.{option_map, option_and_then}
 use Rattle.std.proofs.lemmas.Bool.{cases_eq, eq-eqb}
-use Rattle.thread_local_model.specs.Place.{bucket_of}
-use Rattle.thread_local_model.specs.Answers.{GetOr, Answered}
-use Rattle.thread_local_model.specs.Learnt.{Learnt, Missing, Vacant, Holding, learnt_by_load, learnt_by_look}
-use Rattle.thread_local_model.specs.Learnt.{learnt_by_install, learnt_by_publish}
+use Rattle.thread_local_base.specs.Place.{bucket_of}
+use Rattle.thread_local_base.specs.Answers.{GetOr, Answered}
+use Rattle.thread_local_base.specs.Learnt.{Learnt, Missing, Vacant, Holding, learnt_by_load, learnt_by_look}
+use Rattle.thread_local_base.specs.Learnt.{learnt_by_install, learnt_by_publish}
 use Rattle.thread_local_schedule.specs.Table.{Table, Slot, published, bucket_stands, with_fresh_bucket, with_table_slot, with_flag}
 use Rattle.thread_local_schedule.specs.Local.{Doing, Gets, Started, Private, Written, Local, after_call, may_look}
 use Rattle.thread_local_schedule.specs.Local.{learns, load_pointer, look_at_flag, make_bucket, offered, install_bucket}

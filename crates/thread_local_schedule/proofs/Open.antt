@@ -6,7 +6,7 @@ use Rattle.thread_local_schedule.specs.Local.{LocalStep, local_step}
 use Rattle.thread_local_schedule.specs.SharedWalk.{WalkStep, walk_step}
 use Rattle.thread_local_schedule.specs.Core.{Core, is_alone}
 use Rattle.thread_local_schedule.proofs.OptionLaws.{if_enabled, unwrapped, if_there, if_then}
-use Rattle.thread_local_model.specs.Held.{is_granted}
+use Rattle.thread_local_base.specs.Held.{is_granted}
 use Rattle.thread_local_schedule.specs.Events.{Event, TakeId, OfLocal, GiveBack, Forget, BeginWalk, OfWalk, EndWalk}
 use Rattle.thread_local_schedule.specs.Events.{Owner, OwnerCall, RewriteTable, Slots, DrainTable, ClearTable, IntoIter, DropTable}
 use Rattle.thread_local_schedule.specs.Events.{take_id, with_step, of_local, is_idle, without_local, with_id_given}

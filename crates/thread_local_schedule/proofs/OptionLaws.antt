@@ -3,7 +3,7 @@ use Rattle.std.proofs.Common.{◌≡◌, Bool, true, false, cond, Option, Some, 
 use Rattle.std.proofs.Common.{IsSomeAnd, sym, subst}
 use Rattle.std.specs.Prelude.{option_map, option_and_then, unwrap_or}
 use Rattle.std.proofs.lemmas.Bool.{false≢true}
-use Rattle.thread_local_model.specs.Learnt.{Learnt, Missing}
+use Rattle.thread_local_base.specs.Learnt.{Learnt, Missing}
 use Rattle.thread_local_schedule.specs.Local.{Local, Doing, Started, closure_at_missing, make_bucket}
 use Rattle.thread_local_schedule.specs.Table.{Table}
 

@@ -4,10 +4,10 @@ use Rattle.std.proofs.Common.{◌≡◌, ℕ, zero, suc, ◌+◌, ◌-◌, ◌^�
 use Rattle.std.proofs.Common.{refl, ap, sym, ◌∙◌, subst, arith, pow_pos, add_comm}
 use Rattle.std.specs.Prelude.{option_map}
 use Rattle.std.proofs.Math.Nat.{two-pow-succ}
-use Rattle.thread_local_model.specs.Place.{bucket_of, index_of, id_at}
-use Rattle.thread_local_model.specs.Walk.{walk, walk_below}
-use Rattle.thread_local_model.proofs.PlaceLaws as place
-use Rattle.thread_local_model.proofs.WalkLaws.{walk_below-same, walk_below-none, walk_below-add}
+use Rattle.thread_local_base.specs.Place.{bucket_of, index_of, id_at}
+use Rattle.thread_local_base.specs.Walk.{walk, walk_below}
+use Rattle.thread_local_base.proofs.PlaceLaws as place
+use Rattle.thread_local_base.proofs.WalkLaws.{walk_below-same, walk_below-none, walk_below-add}
 use Rattle.thread_local_schedule.specs.Table.{Bucket, Table, value_of, slot_of, slot_at, published, bucket_stands}
 use Rattle.thread_local_schedule.specs.OwnerWalk.{values_in, owner_walk_below, owner_walk, rewritten_slot, rewritten_bucket, rewritten}
 use Rattle.thread_local_schedule.specs.Fits.{IsWritten, AllWritten, number_at}

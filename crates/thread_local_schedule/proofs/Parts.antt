@@ -6,10 +6,10 @@ use Rattle.std.proofs.lemmas.Bool.{cases_eq, cases_lt, cond_both, eq-eqb, ne_eqb
 use Rattle.std.specs.Prelude.{option_map}
 use Rattle.std.proofs.lemmas.Option.{none-some}
 use Rattle.std.proofs.Math.Nat.{two-pow-succ}
-use Rattle.thread_local_model.specs.Place.{bucket_of}
-use Rattle.thread_local_model.specs.Capacity.{binary_digits, reserves_bucket, is_reserved}
-use Rattle.thread_local_model.specs.Held.{Manager, is_held, least, with_least, given_to}
-use Rattle.thread_local_model.specs.Answers.{first_view}
+use Rattle.thread_local_base.specs.Place.{bucket_of}
+use Rattle.thread_local_base.specs.Capacity.{binary_digits, reserves_bucket, is_reserved}
+use Rattle.thread_local_base.specs.Held.{Manager, is_held, least, with_least, given_to}
+use Rattle.thread_local_base.specs.Answers.{first_view}
 use Rattle.thread_local_schedule.specs.Table.{Table, empty_slot, slot_at, made_table, published, bucket_stands}
 use Rattle.thread_local_schedule.specs.Local.{Local, fresh_local}
 use Rattle.thread_local_schedule.specs.SharedWalk.{SharedWalk}
@@ -29,9 +29,9 @@ use Rattle.thread_local_schedule.proofs.Numbers.{stepped-NumbersFit, made-Number
 use Rattle.thread_local_schedule.specs.Calls.{HasLearnt}
 use Rattle.thread_local_schedule.specs.Numbers.{NumbersGo}
 use Rattle.thread_local_schedule.specs.CoreFits.{ManagerFits, TableFits, LiveFits, LocalsFit, WalksFit, CoreFits}
-use Rattle.thread_local_model.proofs.PlaceLaws as place
-use Rattle.thread_local_model.proofs.CapacityLaws as reserve
-use Rattle.thread_local_model.proofs.HeldLaws as ids
+use Rattle.thread_local_base.proofs.PlaceLaws as place
+use Rattle.thread_local_base.proofs.CapacityLaws as reserve
+use Rattle.thread_local_base.proofs.HeldLaws as ids
 
 -- the Locals after one was replaced by another with its id
 pub locals_put : {V E : Type 0} (table : Table V) (held : List Bool) (capacity : ℕ)

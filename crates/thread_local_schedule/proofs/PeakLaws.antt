@@ -4,11 +4,11 @@ use Rattle.std.proofs.Common.{◌≡◌, ℕ, ◌-◌, ◌*◌, ◌^◌, ◌<◌
 use Rattle.std.proofs.Common.{IsTrue, refl, ap, ◌∙◌, subst, arith}
 use Rattle.std.specs.Prelude.{◌≢◌, Contains}
 use Rattle.std.proofs.lemmas.Bool.{and_left, and_right, ne_eqb}
-use Rattle.thread_local_model.specs.Held.{Manager, least, held_count, is_granted}
-use Rattle.thread_local_model.specs.Capacity.{reserves_bucket, reserved_slots, is_reserved}
-use Rattle.thread_local_model.specs.Buckets.{slots}
-use Rattle.thread_local_model.specs.Answers.{Answer, Refused, answers}
-use Rattle.thread_local_model.proofs.AnswersLaws.{none_refused}
+use Rattle.thread_local_base.specs.Held.{Manager, least, held_count, is_granted}
+use Rattle.thread_local_base.specs.Capacity.{reserves_bucket, reserved_slots, is_reserved}
+use Rattle.thread_local_base.specs.Buckets.{slots}
+use Rattle.thread_local_base.specs.Answers.{Answer, Refused, answers}
+use Rattle.thread_local_base.proofs.AnswersLaws.{none_refused}
 use Rattle.thread_local_schedule.specs.Table.{bucket_stands}
 use Rattle.thread_local_schedule.specs.Local.{Local, MakeBucket, local_step}
 use Rattle.thread_local_schedule.proofs.TableLaws.{same_function}
@@ -25,7 +25,7 @@ use Rattle.thread_local_schedule.proofs.SheetLaws.{same_capacity}
 use Rattle.thread_local_schedule.proofs.OptionLaws.{none_enabled, makes_none}
 use Rattle.thread_local_schedule.specs.Bounds.{most_after_all}
 use Rattle.thread_local_schedule.proofs.Clauses as clause
-use Rattle.thread_local_model.proofs.CapacityLaws as reserve
+use Rattle.thread_local_base.proofs.CapacityLaws as reserve
 
 -- each id taken is below 2^63 - 1
 pub ids : {V E : Type 0} (core : Core V E) (n : ℕ) (local : Local V E) → CoreFits core

@@ -3,9 +3,9 @@ use Rattle.std.proofs.Common.{◌≡◌, ℕ, zero, suc, ◌+◌, ◌-◌, ◌^�
 use Rattle.std.proofs.Common.{Some, None, IfSome, refl, ap, sym, ◌∙◌, subst, arith, ⊎_elim}
 use Rattle.std.specs.Prelude.{option_to_list, option_map}
 use Rattle.std.proofs.lemmas.Bool.{cases_order, ne_eqb, eq-eqb}
-use Rattle.thread_local_model.specs.Walk.{walk_below, walk, with_value}
-use Rattle.thread_local_model.proofs.WalkLaws.{walk_below-same, walk_below-none}
-use Rattle.thread_local_model.specs.Sheet.{Sheet, Take, Give, Publish, Keep, Rewrite, Clear}
+use Rattle.thread_local_base.specs.Walk.{walk_below, walk, with_value}
+use Rattle.thread_local_base.proofs.WalkLaws.{walk_below-same, walk_below-none}
+use Rattle.thread_local_base.specs.Sheet.{Sheet, Take, Give, Publish, Keep, Rewrite, Clear}
 use Rattle.thread_local_schedule.specs.TableMoves.{TableMove, OfSheet, Drain, moved_by_if, IsMoveAllowed}
 use Rattle.thread_local_schedule.specs.Core.{Core, made_core, shadow, peak}
 use Rattle.thread_local_schedule.specs.CoreFits.{CoreFits}

@@ -1,8 +1,8 @@
 -- What the words of the theorems say, each from the side on which it promises nothing.
 use Rattle.std.proofs.Common.{◌≡◌, ℕ, ◌^◌, ◌<◌, false, List, [], ◌∷◌, ◌++◌, Some, IsTrue, refl, ◌↔◌, ◌⊎◌, Bool, true}
 use Rattle.std.proofs.Common.{not, ◌&&◌, Option, None, IsSomeAnd, Result, sym, ap, ◌∙◌}
-use Rattle.thread_local_model.specs.Place.{bucket_of}
-use Rattle.thread_local_model.specs.Held.{held_count, is_granted}
+use Rattle.thread_local_base.specs.Place.{bucket_of}
+use Rattle.thread_local_base.specs.Held.{held_count, is_granted}
 use Rattle.thread_local_schedule.specs.Local.{Doing, Gets, Started, Private, Written, Local, LocalStep, MakeBucket}
 use Rattle.thread_local_schedule.specs.Numbers.{own_number}
 use Rattle.thread_local_schedule.specs.Core.{Core, private_slots}
@@ -14,7 +14,7 @@ use Rattle.thread_local_schedule.specs.Schedule.{ends_table, is_granted_take, ne
 use Rattle.thread_local_schedule.specs.Bounds.{TakesBelow, NothingRefused}
 use mathlib.Core.Logic.{inl, inr}
 use Rattle.std.proofs.Common.{suc, ⊎_elim}
-use Rattle.thread_local_model.specs.Answers.{Get, GetOr}
+use Rattle.thread_local_base.specs.Answers.{Get, GetOr}
 use Rattle.thread_local_schedule.specs.Calls.{gets_of, closure_of, CallsStay, GoesOn}
 use Rattle.thread_local_schedule.specs.Local.{LoadPointer, LookAtFlag, InstallBucket, WriteValue, Reply}
 use Rattle.std.proofs.lemmas.Bool.{false≢true, eqb-true}

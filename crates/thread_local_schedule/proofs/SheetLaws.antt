@@ -1,12 +1,12 @@
 -- How a move changes the peak and the capacity of a sheet.
 use Rattle.std.proofs.Common.{◌≡◌, suc, ◌≤◌, max, length, Option, Some, None, refl, arith, Bool, true, false, not, ◌&&◌}
 use Rattle.std.proofs.Common.{cond, sym}
-use Rattle.thread_local_model.specs.Held.{held_count}
-use Rattle.thread_local_model.specs.Sheet.{Sheet, Take, Give, Publish, Keep, Rewrite, Clear}
+use Rattle.thread_local_base.specs.Held.{held_count}
+use Rattle.thread_local_base.specs.Sheet.{Sheet, Take, Give, Publish, Keep, Rewrite, Clear}
 use Rattle.thread_local_schedule.specs.TableMoves.{TableMove, OfSheet, Drain, moved_by_if}
 use Rattle.thread_local_schedule.proofs.HeldCounts.{least-le-held_count, peak_after}
 use Rattle.std.proofs.lemmas.Bool.{false≢true}
-use Rattle.thread_local_model.proofs.HeldLaws as ids
+use Rattle.thread_local_base.proofs.HeldLaws as ids
 
 -- only a take raises the peak, and to at most one above the number of ids held before
 pub moved_peak : {V : Type 0} (sheet : Sheet V) (o : Option (TableMove V))

@@ -7,19 +7,19 @@ use Rattle.std.specs.List.{range_with_len}
 use Rattle.std.proofs.lemmas.Bool.{cases_eq, cases_lt, eq-eqb, ne_eqb, lt-ltb, le-ltb, false≢true}
 use Rattle.std.proofs.lemmas.List.{ext_get_or, get_or-set_same, get_or-set_other, get_or_past, length-replicate, get_or-replicate}
 use Rattle.std.proofs.lemmas.List.FromFn.{length-map-range_with_len, get_or-map-range_with_len}
-use Rattle.thread_local_model.specs.Place.{bucket_of, index_of, id_at}
-use Rattle.thread_local_model.specs.Buckets.{Contents, row, stands as stands_for_owner, values, no_contents, IsTable}
-use Rattle.thread_local_model.specs.Rows.{with_row, with_slot as with_owners_slot, empty_row}
-use Rattle.thread_local_model.specs.Capacity.{binary_digits, reserves_bucket, is_reserved}
-use Rattle.thread_local_model.proofs.CapacityLaws as reserve
-use Rattle.thread_local_model.specs.Walk.{walk}
-use Rattle.thread_local_model.proofs.PlaceLaws as place
-use Rattle.thread_local_model.proofs.WalkLaws.{walk_below-same}
-use Rattle.thread_local_model.specs.Owner.{with_bucket, with_published, emptied}
-use Rattle.thread_local_model.proofs.RowLaws.{row-with_row-same, row-with_row-other}
-use Rattle.thread_local_model.specs.Refilled.{refilled_slot, refilled_row, refilled}
-use Rattle.thread_local_model.proofs.FillingLaws.{contents-empty}
-use Rattle.thread_local_model.proofs.RefilledLaws.{length-refilled_row, length-refilled_rows, refilled_row-at, refilled_rows-at}
+use Rattle.thread_local_base.specs.Place.{bucket_of, index_of, id_at}
+use Rattle.thread_local_base.specs.Buckets.{Contents, row, stands as stands_for_owner, values, no_contents, IsTable}
+use Rattle.thread_local_base.specs.Rows.{with_row, with_slot as with_owners_slot, empty_row}
+use Rattle.thread_local_base.specs.Capacity.{binary_digits, reserves_bucket, is_reserved}
+use Rattle.thread_local_base.proofs.CapacityLaws as reserve
+use Rattle.thread_local_base.specs.Walk.{walk}
+use Rattle.thread_local_base.proofs.PlaceLaws as place
+use Rattle.thread_local_base.proofs.WalkLaws.{walk_below-same}
+use Rattle.thread_local_base.specs.Owner.{with_bucket, with_published, emptied}
+use Rattle.thread_local_base.proofs.RowLaws.{row-with_row-same, row-with_row-other}
+use Rattle.thread_local_base.specs.Refilled.{refilled_slot, refilled_row, refilled}
+use Rattle.thread_local_base.proofs.FillingLaws.{contents-empty}
+use Rattle.thread_local_base.proofs.RefilledLaws.{length-refilled_row, length-refilled_rows, refilled_row-at, refilled_rows-at}
 use Rattle.thread_local_schedule.specs.Table.{Slot, Bucket, fresh_bucket, Table, value_of, slot_of, slot_at, published}
 use Rattle.thread_local_schedule.specs.Table.{bucket_stands, made_table, with_fresh_bucket, with_slot_of}
 use Rattle.thread_local_schedule.specs.Table.{with_table_slot, with_flag}

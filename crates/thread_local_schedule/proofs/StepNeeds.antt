@@ -3,9 +3,9 @@ use Rattle.std.proofs.Common.{◌≡◌, ℕ, zero, suc, ◌<◌, ◌⊎◌, inl
 use Rattle.std.proofs.Common.{IsTrue, refl, ap, sym, ◌∙◌, ⊎_elim}
 use Rattle.std.specs.Prelude.{◌↔◌, ◌≢◌, nat_lt, option_map, option_and_then}
 use Rattle.std.proofs.lemmas.Bool.{false≢true, lt-ltb, ltb-true}
-use Rattle.thread_local_model.specs.Place.{bucket_of}
-use Rattle.thread_local_model.specs.Learnt.{Learnt, Unknown, Missing, Standing, Vacant, Holding, learnt_by_load, learnt_by_look}
-use Rattle.thread_local_model.specs.Learnt.{learnt_by_install, learnt_by_publish}
+use Rattle.thread_local_base.specs.Place.{bucket_of}
+use Rattle.thread_local_base.specs.Learnt.{Learnt, Unknown, Missing, Standing, Vacant, Holding, learnt_by_load, learnt_by_look}
+use Rattle.thread_local_base.specs.Learnt.{learnt_by_install, learnt_by_publish}
 use Rattle.thread_local_schedule.specs.Table.{Table, published, bucket_stands}
 use Rattle.thread_local_schedule.specs.Local.{Doing, Gets, Started, Private, Written, Local, LocalStep, local_step}
 use Rattle.thread_local_schedule.specs.Local.{BeginGet, BeginGetOr, LoadPointer, LookAtFlag, MakeBucket, InstallBucket}

@@ -2,12 +2,12 @@
 use Rattle.std.proofs.Common.{◌≡◌, ℕ, ◌^◌, Bool, true, false, cond, eqb, IsTrue, Option, Some, None, is_some, refl, ap}
 use Rattle.std.proofs.Common.{sym, ◌∙◌, arith, ⊎_elim}
 use Rattle.std.proofs.lemmas.Bool.{cases_eq, cases_Bool, eq-eqb, ne_eqb, false≢true}
-use Rattle.thread_local_model.specs.Place.{bucket_of, index_of}
-use Rattle.thread_local_model.proofs.PlaceLaws as place
+use Rattle.thread_local_base.specs.Place.{bucket_of, index_of}
+use Rattle.thread_local_base.proofs.PlaceLaws as place
 use Rattle.thread_local_schedule.specs.Table.{Slot, empty_slot, value_of, Bucket, fresh_bucket, Table, slot_of, slot_at}
 use Rattle.thread_local_schedule.specs.Table.{published, bucket_stands, with_fresh_bucket, with_slot_of}
 use Rattle.thread_local_schedule.specs.Table.{with_table_slot, made_table}
-use Rattle.thread_local_model.specs.Capacity.{reserves_bucket}
+use Rattle.thread_local_base.specs.Capacity.{reserves_bucket}
 use Rattle.thread_local_schedule.specs.Local.{offered}
 use Rattle.thread_local_schedule.specs.Fits.{number_at, IsSameBucket}
 use Rattle.std.specs.Prelude.{option_map}

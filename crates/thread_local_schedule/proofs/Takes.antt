@@ -2,10 +2,10 @@
 use Rattle.std.proofs.Common.{◌≡◌, ℕ, ◌-◌, ◌^◌, Bool, false, not, ◌&&◌, length, arith, ◌≤◌, ◌⊎◌, IsTrue, subst, ⊎_elim}
 use Rattle.std.proofs.Common.{inl, inr}
 use Rattle.std.proofs.lemmas.Bool.{eqb-false, and_parts, not-true, eqb-true, and_cases, not-false}
-use Rattle.thread_local_model.specs.Held.{Manager, least, HoldsAllBelow, is_exhausted, is_full, is_granted, taken_from}
+use Rattle.thread_local_base.specs.Held.{Manager, least, HoldsAllBelow, is_exhausted, is_full, is_granted, taken_from}
 use Rattle.thread_local_schedule.proofs.HeldCounts.{peak_after}
 use Rattle.thread_local_schedule.specs.CoreFits.{ManagerFits}
-use Rattle.thread_local_model.proofs.HeldLaws as ids
+use Rattle.thread_local_base.proofs.HeldLaws as ids
 
 -- a refused take finds every id held, or no room and no memory
 pub not_granted : (manager : Manager) (refused : Bool) → length manager.held ≤ manager.room → is_granted manager refused ≡ false

@@ -3,10 +3,10 @@
 use Rattle.std.proofs.Common.{◌≡◌, ℕ, ◌-◌, ◌*◌, ◌^◌, ◌<◌, ◌≤◌, Bool, false, List, [], ◌∷◌, length, Option, Some, None}
 use Rattle.std.proofs.Common.{IsTrue, refl, ap, ◌∙◌, arith, ⊎_elim}
 use Rattle.std.proofs.lemmas.Bool.{cases_Bool, lt-ltb, and_left, and_right}
-use Rattle.thread_local_model.specs.Held.{held_count}
-use Rattle.thread_local_model.specs.Sheet.{Take, Give, Publish}
+use Rattle.thread_local_base.specs.Held.{held_count}
+use Rattle.thread_local_base.specs.Sheet.{Take, Give, Publish}
 use Rattle.thread_local_schedule.specs.TableMoves.{TableMove, OfSheet}
-use Rattle.thread_local_model.specs.Capacity.{reserved_slots}
+use Rattle.thread_local_base.specs.Capacity.{reserved_slots}
 use Rattle.thread_local_schedule.specs.Local.{Local, LocalStep, MakeBucket}
 use Rattle.thread_local_schedule.specs.Fits.{value_set}
 use Rattle.thread_local_schedule.specs.Core.{Core, made_core, new_core, shadow, installed_slots, peak}
@@ -23,7 +23,7 @@ use Rattle.thread_local_schedule.proofs.Parts.{made_core-fits}
 use Rattle.thread_local_schedule.proofs.CoreLaws.{installed_bound}
 use Rattle.thread_local_schedule.proofs.SheetLaws.{moved_peak, same_peak}
 use Rattle.thread_local_schedule.proofs.OptionLaws.{not_mapped, not_if, none_enabled}
-use Rattle.thread_local_model.proofs.CapacityLaws as reserve
+use Rattle.thread_local_base.proofs.CapacityLaws as reserve
 
 -- the only move of a Local's step is a publishing
 not_published : {V E : Type 0} (o : Option (Local V E)) (step : LocalStep V E) (m : TableMove V)

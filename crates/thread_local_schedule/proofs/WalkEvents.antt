@@ -4,7 +4,7 @@ use Rattle.std.proofs.Common.{refl, ap, sym, ◌∙◌, subst, arith, ⊎_elim}
 use Rattle.std.specs.Prelude.{option_map, option_and_then, unwrap_or, suc, ◌++◌, [], ◌∷◌, ◌==◌, if◌then◌else◌}
 use Rattle.std.proofs.lemmas.Option.{none-some}
 use Rattle.std.proofs.lemmas.Bool.{false≢true, eqb-false, cond_both}
-use Rattle.thread_local_model.specs.Cursor.{is_complete, cursor_id, after_load, after_look}
+use Rattle.thread_local_base.specs.Cursor.{is_complete, cursor_id, after_load, after_look}
 use Rattle.thread_local_schedule.specs.Table.{Table, bucket_stands}
 use Rattle.thread_local_schedule.specs.Local.{LocalStep, local_step}
 use Rattle.thread_local_schedule.specs.SharedWalk.{SharedWalk, fresh_walk, with_pair, WalkStep, Load, Look, walk_step, next_step}
@@ -14,7 +14,7 @@ use Rattle.thread_local_schedule.specs.Core.{Core, shadow, is_alone}
 use Rattle.thread_local_schedule.specs.CoreFits.{CoreFits}
 use Rattle.thread_local_schedule.proofs.PutLaws.{put_cases, put_same, put_other, still}
 use Rattle.thread_local_schedule.proofs.OptionLaws.{if_enabled, if_there, if_then}
-use Rattle.thread_local_model.specs.Held.{is_granted}
+use Rattle.thread_local_base.specs.Held.{is_granted}
 use Rattle.thread_local_schedule.specs.Events.{Event, TakeId, OfLocal, GiveBack, Forget, BeginWalk, OfWalk, EndWalk}
 use Rattle.thread_local_schedule.specs.Events.{Owner, OwnerCall, RewriteTable, Slots, DrainTable, ClearTable, IntoIter, DropTable}
 use Rattle.thread_local_schedule.specs.Events.{take_id, with_step, of_local, is_idle, without_local, with_id_given}

@@ -7,12 +7,12 @@ use Rattle.std.proofs.lemmas.Bool.{cond_both, cases_lt, eqb-true, false≢true}
 use Rattle.std.proofs.lemmas.List.{map-append}
 use Rattle.std.proofs.lemmas.List.Elements.{Contains-append_left, Contains-append_right, Contains-append_cases}
 use Rattle.std.proofs.Math.Nat.{two-pow-succ}
-use Rattle.thread_local_model.specs.Place.{bucket_of, id_at}
-use Rattle.thread_local_model.specs.Walk.{IsAscendingBelow}
-use Rattle.thread_local_model.specs.Cursor.{Cursor, cursor_id, is_complete, may_load, at_next_bucket, at_place, after_load, after_look}
-use Rattle.thread_local_model.proofs.PlaceLaws as place
-use Rattle.thread_local_model.proofs.CursorLaws as cursors
-use Rattle.thread_local_model.proofs.WalkLaws.{ascends-push, Contains-one}
+use Rattle.thread_local_base.specs.Place.{bucket_of, id_at}
+use Rattle.thread_local_base.specs.Walk.{IsAscendingBelow}
+use Rattle.thread_local_base.specs.Cursor.{Cursor, cursor_id, is_complete, may_load, at_next_bucket, at_place, after_load, after_look}
+use Rattle.thread_local_base.proofs.PlaceLaws as place
+use Rattle.thread_local_base.proofs.CursorLaws as cursors
+use Rattle.thread_local_base.proofs.WalkLaws.{ascends-push, Contains-one}
 use Rattle.thread_local_schedule.proofs.TableLaws.{published_stands}
 use Rattle.thread_local_schedule.specs.Table.{Table, slot_of, slot_at, value_of, published, bucket_stands}
 use Rattle.thread_local_schedule.specs.SharedWalk.{SharedWalk, fresh_walk, walk_load, shown_at, with_pair, walk_look}

@@ -1,8 +1,8 @@
 -- What the bounds count over a schedule: the most ids held at once since a clear, and the
 -- publishings since a clear or a drain.
 use Rattle.std.specs.Prelude.{◌≡◌, ℕ, suc, ◌<◌, max, false, ◌&&◌, List, [], ◌∷◌, Option, Some, IsTrue, ⊤, if◌then◌else◌}
-use Rattle.thread_local_model.specs.Held.{held_count}
-use Rattle.thread_local_model.specs.Sheet.{Publish, Clear}
+use Rattle.thread_local_base.specs.Held.{held_count}
+use Rattle.thread_local_base.specs.Sheet.{Publish, Clear}
 use Rattle.thread_local_schedule.specs.TableMoves.{TableMove, OfSheet, Drain}
 use Rattle.thread_local_schedule.specs.Core.{Core}
 use Rattle.thread_local_schedule.specs.Events.{Event, is_enabled, happens}

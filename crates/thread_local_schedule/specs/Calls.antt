@@ -2,8 +2,8 @@
 -- recorded. And how many steps a call under way still needs.
 use Rattle.std.specs.Prelude.{◌≡◌, ℕ, zero, suc, ◌+◌, ◌<◌, ◌⊎◌, ⊤, Bool, true, false, [], ◌∷◌, ◌++◌, Option, Some, None}
 use Rattle.std.specs.Prelude.{IsSomeAnd, Result, Ok}
-use Rattle.thread_local_model.specs.Learnt.{Learnt, Unknown, Missing, Standing, Vacant, Holding}
-use Rattle.thread_local_model.specs.Answers.{Answer, Get, GetOr, Refused}
+use Rattle.thread_local_base.specs.Learnt.{Learnt, Unknown, Missing, Standing, Vacant, Holding}
+use Rattle.thread_local_base.specs.Answers.{Answer, Get, GetOr, Refused}
 use Rattle.thread_local_schedule.specs.Local.{Doing, Gets, Started, Private, Written, Local, LocalStep, BeginGet}
 use Rattle.thread_local_schedule.specs.Local.{BeginGetOr, MakeBucket, WriteValue, SetFlag, Reply}
 

@@ -1,7 +1,7 @@
 -- The table after a clear, which leaves the reserved buckets, and after a drain, which leaves every
 -- bucket: their slots are empty.
 use Rattle.std.specs.Prelude.{ℕ, Option, Some, None, if◌then◌else◌}
-use Rattle.thread_local_model.specs.Capacity.{reserves_bucket}
+use Rattle.thread_local_base.specs.Capacity.{reserves_bucket}
 use Rattle.thread_local_schedule.specs.Table.{Bucket, fresh_bucket, Table}
 
 -- the same bucket with empty slots

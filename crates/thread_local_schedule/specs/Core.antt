@@ -1,10 +1,10 @@
 -- The core of the model: a table with its id manager, its `Local`s and its walks.
 use Rattle.std.specs.Prelude.{ℕ, zero, suc, ◌+◌, ◌^◌, length, Bool, true, false, ◌&&◌, [], Option, None, is_none, ◌==◌}
 use Rattle.std.specs.Prelude.{if◌then◌else◌}
-use Rattle.thread_local_model.specs.Place.{bucket_of}
-use Rattle.thread_local_model.specs.Held.{Manager}
-use Rattle.thread_local_model.specs.Buckets.{slots}
-use Rattle.thread_local_model.specs.Sheet.{Sheet}
+use Rattle.thread_local_base.specs.Place.{bucket_of}
+use Rattle.thread_local_base.specs.Held.{Manager}
+use Rattle.thread_local_base.specs.Buckets.{slots}
+use Rattle.thread_local_base.specs.Sheet.{Sheet}
 use Rattle.thread_local_schedule.specs.Table.{Table, made_table, published, bucket_stands}
 use Rattle.thread_local_schedule.specs.Local.{Local, Doing, Private}
 use Rattle.thread_local_schedule.specs.SharedWalk.{SharedWalk}

@@ -1,8 +1,8 @@
 -- The invariant of a core, kept by every event, in its parts.
 use Rattle.std.specs.Prelude.{◌≢◌}
 use Rattle.std.proofs.Common.{◌≡◌, ℕ, ◌^◌, ◌-◌, ◌<◌, ◌≤◌, max, Bool, List, length, Option, Some, None, IsTrue}
-use Rattle.thread_local_model.specs.Held.{Manager, is_held}
-use Rattle.thread_local_model.specs.Capacity.{reserves_bucket, is_reserved}
+use Rattle.thread_local_base.specs.Held.{Manager, is_held}
+use Rattle.thread_local_base.specs.Capacity.{reserves_bucket, is_reserved}
 use Rattle.thread_local_schedule.specs.Table.{Table, published, bucket_stands}
 use Rattle.thread_local_schedule.specs.Local.{Local}
 use Rattle.thread_local_schedule.specs.SharedWalk.{SharedWalk}

@@ -1,8 +1,8 @@
 -- The events of a schedule, and the core after each.
 use Rattle.std.specs.Prelude.{ℕ, zero, suc, Bool, true, false, List, [], ◌∷◌, Option, Some, None, is_some, option_map}
 use Rattle.std.specs.Prelude.{option_and_then, unwrap_or, if◌then◌else◌}
-use Rattle.thread_local_model.specs.Held.{least, is_granted, taken_from, given_to}
-use Rattle.thread_local_model.specs.Answers.{first_view}
+use Rattle.thread_local_base.specs.Held.{least, is_granted, taken_from, given_to}
+use Rattle.thread_local_base.specs.Answers.{first_view}
 use Rattle.thread_local_schedule.specs.Local.{Doing, Gets, Local, fresh_local, LocalStep, local_step}
 use Rattle.thread_local_schedule.specs.Table.{Table}
 use Rattle.thread_local_schedule.specs.SharedWalk.{SharedWalk, fresh_walk, WalkStep, walk_step}

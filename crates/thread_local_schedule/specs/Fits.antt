@@ -1,10 +1,10 @@
 -- The invariant of a `Local` and its table, and what a step may change of both.
 use Rattle.std.specs.Prelude.{◌≡◌, ◌≢◌, ℕ, ◌⊎◌, false, Option, Some, None, option_map, IsTrue, is_some, IfSome, ⊤}
-use Rattle.thread_local_model.specs.Place.{bucket_of}
-use Rattle.thread_local_model.specs.Walk.{with_value}
-use Rattle.thread_local_model.specs.Answers.{View, answers, view_after_all}
+use Rattle.thread_local_base.specs.Place.{bucket_of}
+use Rattle.thread_local_base.specs.Walk.{with_value}
+use Rattle.thread_local_base.specs.Answers.{View, answers, view_after_all}
 use Rattle.thread_local_schedule.specs.Table.{Slot, Table, slot_at, published, bucket_stands}
-use Rattle.thread_local_model.specs.Learnt.{Learnt, Unknown, Missing, Standing, Vacant, Holding}
+use Rattle.thread_local_base.specs.Learnt.{Learnt, Unknown, Missing, Standing, Vacant, Holding}
 use Rattle.thread_local_schedule.specs.Local.{Doing, Gets, Started, Private, Written, Local, LocalStep, SetFlag, value_written}
 
 -- a slot whose flag is set holds the value that was written

@@ -1,7 +1,7 @@
 -- What a schedule does with the ids: the takes and gives, in the order in which they happen.
 use Rattle.std.specs.Prelude.{List, [], ◌∷◌, Option, Some}
-use Rattle.thread_local_model.specs.IdMoves.{IdMove, Take as TakeNoted, Give as GiveNoted, noted}
-use Rattle.thread_local_model.specs.Sheet.{Take, Give, Clear}
+use Rattle.thread_local_base.specs.IdMoves.{IdMove, Take as TakeNoted, Give as GiveNoted, noted}
+use Rattle.thread_local_base.specs.Sheet.{Take, Give, Clear}
 use Rattle.thread_local_schedule.specs.TableMoves.{TableMove, OfSheet}
 use Rattle.thread_local_schedule.specs.Core.{Core}
 use Rattle.thread_local_schedule.specs.Events.{Event, happens}

@@ -1,9 +1,9 @@
-pub use Rattle.thread_local_model.specs.Held
-pub use Rattle.thread_local_model.specs.Walk
-pub use Rattle.thread_local_model.specs.Cursor
-pub use Rattle.thread_local_model.specs.Capacity
-pub use Rattle.thread_local_model.specs.Sheet
-pub use Rattle.thread_local_model.specs.Answers
+pub use Rattle.thread_local_base.specs.Held
+pub use Rattle.thread_local_base.specs.Walk
+pub use Rattle.thread_local_base.specs.Cursor
+pub use Rattle.thread_local_base.specs.Capacity
+pub use Rattle.thread_local_base.specs.Sheet
+pub use Rattle.thread_local_base.specs.Answers
 pub mod Events
 pub mod TableMoves
 pub mod Schedule

@@ -2,10 +2,10 @@
 -- `get_or` family.
 use Rattle.std.specs.Prelude.{ℕ, zero, suc, Bool, true, false, List, [], ◌∷◌, ◌++◌, Option, Some, None, option_map}
 use Rattle.std.specs.Prelude.{option_and_then, Result, Ok, Err, if◌then◌else◌}
-use Rattle.thread_local_model.specs.Place.{bucket_of}
-use Rattle.thread_local_model.specs.Answers.{View, Call, Get, GetOr, Answer, Found, Answered, Refused, Failed}
-use Rattle.thread_local_model.specs.Learnt.{Learnt, Unknown, Missing, Vacant, Holding, learnt_by_load, learnt_by_look}
-use Rattle.thread_local_model.specs.Learnt.{learnt_by_install, learnt_by_publish}
+use Rattle.thread_local_base.specs.Place.{bucket_of}
+use Rattle.thread_local_base.specs.Answers.{View, Call, Get, GetOr, Answer, Found, Answered, Refused, Failed}
+use Rattle.thread_local_base.specs.Learnt.{Learnt, Unknown, Missing, Vacant, Holding, learnt_by_load, learnt_by_look}
+use Rattle.thread_local_base.specs.Learnt.{learnt_by_install, learnt_by_publish}
 use Rattle.thread_local_schedule.specs.Table.{Table, published, bucket_stands, with_fresh_bucket, with_written, with_flag}
 
 -- What a Local does: any number of gets are under way, or one publishing call. That one has begun,

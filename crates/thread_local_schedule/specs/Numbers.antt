@@ -1,7 +1,7 @@
 -- The numbers of buckets, by which the theorems tell one bucket from another, and what a step does
 -- to them.
 use Rattle.std.specs.Prelude.{◌≡◌, ℕ, ◌<◌, ◌≤◌, ◌⊎◌, Option, Some, None}
-use Rattle.thread_local_model.specs.Place.{bucket_of}
+use Rattle.thread_local_base.specs.Place.{bucket_of}
 use Rattle.thread_local_schedule.specs.Table.{Table}
 use Rattle.thread_local_schedule.specs.Local.{Doing, Private, Local}
 use Rattle.thread_local_schedule.specs.Fits.{number_at}

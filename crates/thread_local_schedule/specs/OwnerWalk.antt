@@ -1,7 +1,7 @@
 -- What an owner's walk gives, and what a table holds after the owner has written through it.
 use Rattle.std.specs.Prelude.{ℕ, zero, suc, ◌^◌, List, [], ◌++◌, Option, Some, None, option_map, if◌then◌else◌}
-use Rattle.thread_local_model.specs.Place.{id_at}
-use Rattle.thread_local_model.specs.Walk.{walk_below}
+use Rattle.thread_local_base.specs.Place.{id_at}
+use Rattle.thread_local_base.specs.Walk.{walk_below}
 use Rattle.thread_local_schedule.specs.Table.{Slot, Bucket, Table, value_of}
 
 -- what an owner finds in the bucket that a pointer leads to, by ascending index: the values of the

@@ -2,8 +2,8 @@
 -- reach.
 use Rattle.std.specs.Prelude.{◌≡◌, ℕ, ◌^◌, ◌<◌, Bool, true, false, not, ◌&&◌, List, [], ◌∷◌, Option, Some, None}
 use Rattle.std.specs.Prelude.{option_map, ⊤, ◌==◌, if◌then◌else◌}
-use Rattle.thread_local_model.specs.Held.{is_granted}
-use Rattle.thread_local_model.specs.Sheet.{Take, Give, Publish, Rewrite, Clear}
+use Rattle.thread_local_base.specs.Held.{is_granted}
+use Rattle.thread_local_base.specs.Sheet.{Take, Give, Publish, Rewrite, Clear}
 use Rattle.thread_local_schedule.specs.TableMoves.{TableMove, OfSheet, Drain}
 use Rattle.thread_local_schedule.specs.Local.{Local, LocalStep, MakeBucket}
 use Rattle.thread_local_schedule.specs.Fits.{value_set}

@@ -1,7 +1,7 @@
 -- A walk over a table that threads share, as two kinds of steps: a load of a pointer, and a look at
 -- a slot.
 use Rattle.std.specs.Prelude.{ℕ, suc, List, [], ◌∷◌, ◌++◌, Option, Some, None, is_some, ◌==◌, if◌then◌else◌}
-use Rattle.thread_local_model.specs.Cursor.{Cursor, fresh_cursor, cursor_id, may_load, after_load, after_look}
+use Rattle.thread_local_base.specs.Cursor.{Cursor, fresh_cursor, cursor_id, may_load, after_load, after_look}
 use Rattle.thread_local_schedule.specs.Table.{Table, slot_of, value_of, published, bucket_stands}
 
 -- A shared walk: its cursor, and a record of what was published at its first load, the ids and

@@ -1,7 +1,7 @@
 -- What the model's table shows to an owner: the slots of each bucket, by its pointer.
 use Rattle.std.specs.Prelude.{ℕ, ◌^◌, List, [], Option, Some, None, map}
 use Rattle.std.specs.List.{range_with_len}
-use Rattle.thread_local_model.specs.Buckets.{Contents}
+use Rattle.thread_local_base.specs.Buckets.{Contents}
 use Rattle.thread_local_schedule.specs.Table.{Bucket, Table, value_of}
 
 -- the row of a bucket, by its pointer: no slots where the pointer is null

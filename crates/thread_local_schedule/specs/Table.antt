@@ -1,8 +1,8 @@
 -- The model of a table: 63 pointers to buckets, and slots that hold a value and its flag.
 use Rattle.std.specs.Prelude.{ℕ, Bool, true, false, Option, Some, None, is_some, ◌==◌, if◌then◌else◌}
-use Rattle.thread_local_model.specs.Place.{bucket_of, index_of}
-use Rattle.thread_local_model.specs.Capacity.{binary_digits, reserves_bucket}
-use Rattle.thread_local_model.specs.Walk.{with_value}
+use Rattle.thread_local_base.specs.Place.{bucket_of, index_of}
+use Rattle.thread_local_base.specs.Capacity.{binary_digits, reserves_bucket}
+use Rattle.thread_local_base.specs.Walk.{with_value}
 
 -- a slot: what is written in it, if anything, and whether its flag is set
 pub record Slot (V : Type 0) : Type 0 where

@@ -1,6 +1,6 @@
 -- The moves of a table: those of a sheet, and a drain.
 use Rattle.std.specs.Prelude.{Option, Some, None, ⊤}
-use Rattle.thread_local_model.specs.Sheet.{Sheet, Move, moved, IsAllowed}
+use Rattle.thread_local_base.specs.Sheet.{Sheet, Move, moved, IsAllowed}
 
 -- a move of the sheet, or a drain of its values
 pub data TableMove (V : Type 0) : Type 0 where

@@ -1,8 +1,8 @@
 -- The invariant of a shared walk, and what each step adds to its record.
 use Rattle.std.specs.Prelude.{◌≡◌, ℕ, suc, ◌+◌, ◌<◌, List, [], ◌∷◌, ◌++◌, length, map, Contains, Option, Some, ◌==◌}
 use Rattle.std.specs.Prelude.{is_some, if◌then◌else◌}
-use Rattle.thread_local_model.specs.Walk.{IsAscendingBelow}
-use Rattle.thread_local_model.specs.Cursor.{cursor_id, after_load, after_look, CursorFits}
+use Rattle.thread_local_base.specs.Walk.{IsAscendingBelow}
+use Rattle.thread_local_base.specs.Cursor.{cursor_id, after_load, after_look, CursorFits}
 use Rattle.thread_local_schedule.specs.Table.{Table, published, bucket_stands}
 use Rattle.thread_local_schedule.specs.SharedWalk.{SharedWalk, with_pair, WalkStep, Load, Look}
 

@@ -1,6 +1,6 @@
 //! What a clear and a drain leave of a table.
 ghost use Rattle.std.specs.Prelude.{◌≡◌, ℕ, IsTrue};
-ghost use Rattle.thread_local_model.specs.Capacity.{reserves_bucket};
+ghost use Rattle.thread_local_base.specs.Capacity.{reserves_bucket};
 ghost use Rattle.thread_local_schedule.specs.Table.{Table, empty_slot, slot_at, bucket_stands};
 ghost use Rattle.thread_local_schedule.specs.Fits.{number_at};
 ghost use Rattle.thread_local_schedule.specs.Cleared.{cleared, drained};

@@ -1,9 +1,9 @@
 //! What each event changes of what is seen.
 ghost use Rattle.std.specs.Prelude.{◌≡◌, ◌≢◌, ℕ, ◌↔◌, ◌==◌, true, false, Some, Ok, IsTrue, IsSomeAnd, option_map, if◌then◌else◌};
-ghost use Rattle.thread_local_model.specs.Place.{bucket_of};
-ghost use Rattle.thread_local_model.specs.Held.{with_least, without};
-ghost use Rattle.thread_local_model.specs.Walk.{with_value};
-ghost use Rattle.thread_local_model.specs.Learnt.{Vacant, Holding};
+ghost use Rattle.thread_local_base.specs.Place.{bucket_of};
+ghost use Rattle.thread_local_base.specs.Held.{with_least, without};
+ghost use Rattle.thread_local_base.specs.Walk.{with_value};
+ghost use Rattle.thread_local_base.specs.Learnt.{Vacant, Holding};
 ghost use Rattle.thread_local_schedule.specs.Table.{slot_at, bucket_stands};
 ghost use Rattle.thread_local_schedule.specs.Local.{Local, Started, Written, InstallBucket, WriteValue, SetFlag};
 ghost use Rattle.thread_local_schedule.specs.Fits.{number_at};

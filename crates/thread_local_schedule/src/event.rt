@@ -1,13 +1,13 @@
 //! What every event needs and does, and which cores schedules reach.
 ghost use Rattle.std.specs.Prelude.{◌≡◌, ℕ, ◌+◌, ◌^◌, ◌<◌, ◌≤◌, Bool, true, false, Result, Err, Some, None, IsTrue};
 ghost use Rattle.std.specs.Prelude.{IsSome, IsSomeAnd, MatchOption, if◌then◌else◌, max, ◌-◌, []};
-ghost use Rattle.thread_local_model.specs.Held.{HoldsAllBelow};
-ghost use Rattle.thread_local_model.specs.Place.{bucket_of};
-ghost use Rattle.thread_local_model.specs.Learnt.{Unknown, Missing, Standing, Vacant, Holding};
-ghost use Rattle.thread_local_model.specs.Answers.{Failed};
+ghost use Rattle.thread_local_base.specs.Held.{HoldsAllBelow};
+ghost use Rattle.thread_local_base.specs.Place.{bucket_of};
+ghost use Rattle.thread_local_base.specs.Learnt.{Unknown, Missing, Standing, Vacant, Holding};
+ghost use Rattle.thread_local_base.specs.Answers.{Failed};
 ghost use Rattle.thread_local_schedule.specs.Table.{empty_slot, slot_at, bucket_stands};
 ghost use Rattle.thread_local_schedule.specs.Cleared.{cleared, drained};
-ghost use Rattle.thread_local_model.specs.Capacity.{reserves_bucket};
+ghost use Rattle.thread_local_base.specs.Capacity.{reserves_bucket};
 ghost use Rattle.thread_local_schedule.specs.Local.{Local, LocalStep, BeginGet, BeginGetOr, LoadPointer};
 ghost use Rattle.thread_local_schedule.specs.Local.{LookAtFlag, MakeBucket, InstallBucket, WriteValue};
 ghost use Rattle.thread_local_schedule.specs.Calls.{gets_of, closure_of, HasNoCall, steps_left, GoesDown, EndsWith};

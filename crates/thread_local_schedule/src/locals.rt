@@ -1,9 +1,9 @@
 //! What each atomic step of a `Local` keeps, and what its calls answer.
 ghost use Rattle.std.specs.Prelude.{◌≡◌, ◌≢◌, ℕ, ◌∷◌, [], Bool, false, Some, None, Result, Err, IsTrue, IsSome};
 ghost use Rattle.std.specs.Prelude.{IfSome, IsSomeAnd, MatchOption, if◌then◌else◌};
-ghost use Rattle.thread_local_model.specs.Place.{bucket_of};
-ghost use Rattle.thread_local_model.specs.Learnt.{Missing, Standing, Vacant, Holding};
-ghost use Rattle.thread_local_model.specs.Answers.{Found, Answered, Refused, Failed};
+ghost use Rattle.thread_local_base.specs.Place.{bucket_of};
+ghost use Rattle.thread_local_base.specs.Learnt.{Missing, Standing, Vacant, Holding};
+ghost use Rattle.thread_local_base.specs.Answers.{Found, Answered, Refused, Failed};
 ghost use Rattle.thread_local_schedule.specs.Table.{Table, made_table, published, bucket_stands};
 ghost use Rattle.thread_local_schedule.specs.Local.{Local, LocalStep, BeginGet, BeginGetOr, LoadPointer};
 ghost use Rattle.thread_local_schedule.specs.Local.{LookAtFlag, MakeBucket, InstallBucket, WriteValue, fresh_local};

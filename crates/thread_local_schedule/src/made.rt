@@ -1,6 +1,6 @@
 //! A new core fits, is open, and has no `Local` and no walk.
 ghost use Rattle.std.specs.Prelude.{◌≡◌, ℕ, ◌^◌, ◌<◌, false, None};
-ghost use Rattle.thread_local_model.specs.Sheet.{new_sheet};
+ghost use Rattle.thread_local_base.specs.Sheet.{new_sheet};
 ghost use Rattle.thread_local_schedule.specs.Core.{made_core, shadow};
 ghost use Rattle.thread_local_schedule.specs.CoreFits.{CoreFits};
 

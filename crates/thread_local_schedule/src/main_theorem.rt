@@ -2,9 +2,9 @@
 ghost use Rattle.std.specs.Prelude.{◌≡◌, ℕ, ◌-◌, ◌*◌, ◌^◌, ◌<◌, ◌≤◌, ◌↔◌, false, List, map, Contains, Some, IsTrue, IsSomeAnd};
 ghost use Rattle.std.specs.List.{AllByRecursion};
 ghost use Rattle.std.specs.List.Sorted.{IsStrictlyIncreasing};
-ghost use Rattle.thread_local_model.specs.Held.{least};
-ghost use Rattle.thread_local_model.specs.IdMoves.{held_after};
-ghost use Rattle.thread_local_model.specs.Walk.{walk, paired};
+ghost use Rattle.thread_local_base.specs.Held.{least};
+ghost use Rattle.thread_local_base.specs.IdMoves.{held_after};
+ghost use Rattle.thread_local_base.specs.Walk.{walk, paired};
 ghost use Rattle.thread_local_schedule.specs.OwnerWalk.{owner_walk};
 ghost use Rattle.thread_local_schedule.specs.Core.{made_core, new_core, shadow, installed_slots};
 ghost use Rattle.thread_local_schedule.specs.Events.{Event, OwnerCall, Owner, is_enabled, run};

@@ -2,15 +2,15 @@
 ghost use Rattle.std.specs.Prelude.{◌≡◌, ◌≢◌, ℕ, ◌-◌, ◌^◌, ◌<◌, ◌≤◌, ◌⊎◌, Bool, false, List, [], length, Contains};
 ghost use Rattle.std.specs.Prelude.{Some, None, IsTrue, IfSome, IsSomeAnd, ◌*◌, max, ◌∷◌, true, slice_get};
 ghost use Rattle.std.specs.Prelude.{if◌then◌else◌};
-ghost use Rattle.thread_local_model.specs.Held.{is_held, least, HoldsAllBelow, held_count};
-ghost use Rattle.thread_local_model.specs.Walk.{walk};
-ghost use Rattle.thread_local_model.specs.Cursor.{is_complete};
-ghost use Rattle.thread_local_model.specs.Capacity.{reserves_bucket, is_reserved, reserved_slots};
-ghost use Rattle.thread_local_model.specs.IdMoves.{held_after};
-ghost use Rattle.thread_local_model.specs.Sheet.{new_sheet};
+ghost use Rattle.thread_local_base.specs.Held.{is_held, least, HoldsAllBelow, held_count};
+ghost use Rattle.thread_local_base.specs.Walk.{walk};
+ghost use Rattle.thread_local_base.specs.Cursor.{is_complete};
+ghost use Rattle.thread_local_base.specs.Capacity.{reserves_bucket, is_reserved, reserved_slots};
+ghost use Rattle.thread_local_base.specs.IdMoves.{held_after};
+ghost use Rattle.thread_local_base.specs.Sheet.{new_sheet};
 ghost use Rattle.thread_local_schedule.specs.TableMoves.{moved_by_if, IsMoveAllowed};
 ghost use Rattle.thread_local_schedule.specs.IdHistory.{id_moves};
-ghost use Rattle.thread_local_model.specs.Answers.{answers, first_view, Answer, Refused, Found, Answered};
+ghost use Rattle.thread_local_base.specs.Answers.{answers, first_view, Answer, Refused, Found, Answered};
 ghost use Rattle.thread_local_schedule.specs.Table.{slot_at, bucket_stands};
 ghost use Rattle.thread_local_schedule.specs.Local.{Local, LocalStep, MakeBucket};
 ghost use Rattle.thread_local_schedule.specs.OwnerWalk.{owner_walk};
@@ -24,7 +24,7 @@ ghost use Rattle.thread_local_schedule.specs.Events.{OwnerCall, Owner, DrainTabl
 ghost use Rattle.thread_local_schedule.specs.Events.{IntoIter, DropTable, RewriteTable};
 ghost use Rattle.thread_local_schedule.specs.Schedule.{move, is_exclusive, is_of, IsAlone, is_refused};
 ghost use Rattle.thread_local_schedule.specs.Schedule.{is_granted_take, newcomer, IsReached, NoneTaken, ends_table};
-ghost use Rattle.thread_local_model.specs.Buckets.{slots};
+ghost use Rattle.thread_local_base.specs.Buckets.{slots};
 ghost use Rattle.thread_local_schedule.specs.Bounds.{most_held, publishings, TakesBelow, NothingRefused};
 ghost use Rattle.thread_local_schedule.specs.Story.{after_publishing, after_walking, after_next, after_all};
 

@@ -2,7 +2,7 @@
 ghost use Rattle.std.specs.Prelude.{◌≡◌, ℕ, ◌+◌, ◌≤◌, false, length, map, Contains, Some, None, is_some, IsTrue};
 ghost use Rattle.std.specs.Prelude.{IsSomeAnd, suc, ◌++◌, [], ◌∷◌, ◌==◌, if◌then◌else◌};
 ghost use Rattle.std.specs.List.Sorted.{IsStrictlyIncreasing};
-ghost use Rattle.thread_local_model.specs.Cursor.{is_complete, cursor_id, after_load, after_look};
+ghost use Rattle.thread_local_base.specs.Cursor.{is_complete, cursor_id, after_load, after_look};
 ghost use Rattle.thread_local_schedule.specs.Table.{bucket_stands};
 ghost use Rattle.thread_local_schedule.specs.SharedWalk.{SharedWalk, fresh_walk, next_step, Load, Look, with_pair};
 ghost use Rattle.thread_local_schedule.specs.Core.{Core, shadow};

@@ -1,11 +1,11 @@
 //! What the model's table shows to an owner, and how its events change that.
 ghost use Rattle.std.specs.Prelude.{◌≡◌, ℕ, ◌-◌, ◌^◌, ◌<◌, false, Some, option_map, IsTrue, None, unwrap_or};
-ghost use Rattle.thread_local_model.specs.Capacity.{reserves_bucket, reserved_slots};
-ghost use Rattle.thread_local_model.specs.Place.{bucket_of, index_of};
-ghost use Rattle.thread_local_model.specs.Buckets.{Contents, row, stands as stands_for_owner, values, no_contents, IsTable};
-ghost use Rattle.thread_local_model.specs.Walk.{walk};
-ghost use Rattle.thread_local_model.specs.Owner.{with_bucket, with_published, cleared_row, emptied};
-ghost use Rattle.thread_local_model.specs.Refilled.{refilled};
+ghost use Rattle.thread_local_base.specs.Capacity.{reserves_bucket, reserved_slots};
+ghost use Rattle.thread_local_base.specs.Place.{bucket_of, index_of};
+ghost use Rattle.thread_local_base.specs.Buckets.{Contents, row, stands as stands_for_owner, values, no_contents, IsTable};
+ghost use Rattle.thread_local_base.specs.Walk.{walk};
+ghost use Rattle.thread_local_base.specs.Owner.{with_bucket, with_published, cleared_row, emptied};
+ghost use Rattle.thread_local_base.specs.Refilled.{refilled};
 ghost use Rattle.thread_local_schedule.specs.Table.{Table, slot_at, published, bucket_stands, made_table, with_fresh_bucket, with_flag};
 ghost use Rattle.thread_local_schedule.specs.OwnerWalk.{owner_walk, rewritten};
 ghost use Rattle.thread_local_schedule.specs.Cleared.{cleared, drained};

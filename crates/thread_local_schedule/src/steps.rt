@@ -1,6 +1,6 @@
 //! When each step can happen, and when it can't.
 ghost use Rattle.std.specs.Prelude.{◌≡◌, ◌≢◌, ℕ, suc, ◌<◌, ◌⊎◌, ◌↔◌, Bool, false, Some, None, Result, IsTrue};
-ghost use Rattle.thread_local_model.specs.Learnt.{Unknown, Missing, Standing, Vacant, Holding};
+ghost use Rattle.thread_local_base.specs.Learnt.{Unknown, Missing, Standing, Vacant, Holding};
 ghost use Rattle.thread_local_schedule.specs.Local.{Local, Gets, Started, Private, Written, BeginGet, BeginGetOr};
 ghost use Rattle.thread_local_schedule.specs.Local.{LoadPointer, LookAtFlag, MakeBucket, InstallBucket, WriteValue};
 ghost use Rattle.thread_local_schedule.specs.Local.{SetFlag, Reply};

@@ -1,7 +1,7 @@
 //! What each step of a shared walk keeps, and what an owner's walk gives.
 ghost use Rattle.std.specs.Prelude.{◌≡◌, ℕ, ◌-◌, ◌^◌, Some, option_map, IsTrue, IfSome};
-ghost use Rattle.thread_local_model.specs.Walk.{walk};
-ghost use Rattle.thread_local_model.specs.Cursor.{cursor_id, is_complete};
+ghost use Rattle.thread_local_base.specs.Walk.{walk};
+ghost use Rattle.thread_local_base.specs.Cursor.{cursor_id, is_complete};
 ghost use Rattle.thread_local_schedule.specs.Table.{Table, published};
 ghost use Rattle.thread_local_schedule.specs.SharedWalk.{SharedWalk, WalkStep, fresh_walk, walk_step};
 ghost use Rattle.thread_local_schedule.specs.WalkFits.{WalkFits, Adds};

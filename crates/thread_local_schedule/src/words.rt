@@ -1,8 +1,8 @@
 //! What the words of the theorems say, each from the side on which it promises nothing.
 ghost use Rattle.std.specs.Prelude.{◌≡◌, ℕ, ◌+◌, ◌^◌, ◌<◌, ◌⊎◌, Bool, true, false, List, [], Some, None, IsTrue};
 ghost use Rattle.std.specs.Prelude.{◌≢◌, max, IsSomeAnd, ◌∷◌, ◌++◌, Result, ◌↔◌, suc, IsSome};
-ghost use Rattle.thread_local_model.specs.Held.{held_count, HoldsAllBelow, is_held};
-ghost use Rattle.thread_local_model.specs.Walk.{walk};
+ghost use Rattle.thread_local_base.specs.Held.{held_count, HoldsAllBelow, is_held};
+ghost use Rattle.thread_local_base.specs.Walk.{walk};
 ghost use Rattle.thread_local_schedule.specs.Table.{bucket_stands, Table, Slot};
 ghost use Rattle.thread_local_schedule.specs.Local.{Local, LocalStep, Doing, MakeBucket, Private, BeginGet};
 ghost use Rattle.thread_local_schedule.specs.Local.{BeginGetOr, LoadPointer, LookAtFlag, InstallBucket, WriteValue};
@@ -17,14 +17,14 @@ ghost use Rattle.thread_local_schedule.specs.Events.{RewriteTable, DrainTable, D
 ghost use Rattle.thread_local_schedule.specs.Schedule.{begins_walk, is_exclusive, is_of, is_of_walk, is_refused};
 ghost use Rattle.thread_local_schedule.specs.Schedule.{is_granted_take, newcomer, IsReached, NoneTaken, is_take};
 ghost use Rattle.thread_local_schedule.specs.Schedule.{ends_table, IsAlone, move};
-ghost use Rattle.thread_local_model.specs.Place.{bucket_of};
-ghost use Rattle.thread_local_model.specs.Buckets.{slots};
+ghost use Rattle.thread_local_base.specs.Place.{bucket_of};
+ghost use Rattle.thread_local_base.specs.Buckets.{slots};
 ghost use Rattle.thread_local_schedule.specs.Bounds.{TakesBelow, NothingRefused, most_held, publishings};
-ghost use Rattle.thread_local_model.specs.IdMoves.{Take, Give as IdGive, noted};
-ghost use Rattle.thread_local_model.specs.Sheet.{Sheet, Take as TakeLeast, Give, Publish, Rewrite, Clear};
+ghost use Rattle.thread_local_base.specs.IdMoves.{Take, Give as IdGive, noted};
+ghost use Rattle.thread_local_base.specs.Sheet.{Sheet, Take as TakeLeast, Give, Publish, Rewrite, Clear};
 ghost use Rattle.thread_local_schedule.specs.TableMoves.{OfSheet, Drain, IsMoveAllowed};
 ghost use Rattle.thread_local_schedule.specs.IdHistory.{id_moves};
-ghost use Rattle.thread_local_model.specs.Answers.{Answer, Refused, Call, Get, GetOr, View, answer, view_after, answers};
+ghost use Rattle.thread_local_base.specs.Answers.{Answer, Refused, Call, Get, GetOr, View, answer, view_after, answers};
 ghost use Rattle.thread_local_schedule.specs.Calls.{gets_of, closure_of, HasNoCall, GoesOn, steps_left, GoesDown};
 ghost use Rattle.thread_local_schedule.specs.Calls.{EndsWith};
 

@@ -15,11 +15,11 @@ use denote.RattleType.{RattleType}
 use denote.RawPtr.{block_of, count_of}
 use denote.Steps.{nothing}
 use Rattle.thread_local_ids.specs.Rights.{right_owns}
-use Rattle.thread_local_model.specs.Bits.{is_set}
+use Rattle.thread_local_base.specs.Bits.{is_set}
 use Rattle.thread_local_bucket_pointers.specs.Slots.{value_offset}
 use Rattle.thread_local_ids.specs.Told.{tells, untold_in}
 use Rattle.thread_local_ids.proofs.ToldElements.{tells_alike, telling_alike}
-use Rattle.thread_local_model.specs.Learnt.{Learnt, Unknown, Missing, Standing, Vacant, Holding}
+use Rattle.thread_local_base.specs.Learnt.{Learnt, Unknown, Missing, Standing, Vacant, Holding}
 use Rattle.thread_local_shared_buckets.specs.Shared.{name_at, BucketView, Turn, StandingBlock, Who, stays, lies_with_slot, len}
 use Rattle.thread_local_shared_buckets.specs.Shared.{Sized, block_code, bucket_invariant, kept, loaded, value_code}
 use Rattle.thread_local_shared_buckets.specs.Shared as slots
@@ -30,7 +30,7 @@ use Rattle.thread_local_shared_buckets.specs.Known.{HasLooked}
 use Rattle.thread_local_shared_buckets.specs.Claims.{ClaimFields, IsOf, IsKept, value_at, has_slot, has, has_at, claim_owns}
 use Rattle.thread_local_shared_buckets.proofs.Moves as moves
 use Rattle.thread_local_shared_buckets.proofs.Early as early
-use Rattle.thread_local_model.proofs.Signs.{signs}
+use Rattle.thread_local_base.proofs.Signs.{signs}
 use Rattle.thread_local_shared_buckets.proofs.Inside.{placed}
 
 module _ {M : Type 1} {𝓤 : Ura M} (𝓛 : Logic 𝓤) (R : RattleType) (x : R.Denot) where

@@ -1,8 +1,8 @@
 -- A walk begins and moves on.
 use Rattle.std.proofs.Common.{◌≡◌, ℕ, ◌<◌, ◌≤◌, Bool, true, false}
 use Rattle.std.proofs.Common.{Option, None, Some, IfSome, is_some, refl, ap, sym, ◌∙◌, subst, arith}
-use Rattle.thread_local_model.specs.Cursor.{cursor_id}
-use Rattle.thread_local_model.proofs.CursorLaws.{fresh_cursor-fits}
+use Rattle.thread_local_base.specs.Cursor.{cursor_id}
+use Rattle.thread_local_base.proofs.CursorLaws.{fresh_cursor-fits}
 use Rattle.thread_local_shared_buckets.specs.declared.row.Row.{Row}
 use Rattle.thread_local_bucket_pointers.specs.declared.cursor.RawIter.{RawIter}
 use Rattle.thread_local_bucket_pointers.specs.Cursor.{next_bucket}

@@ -3,8 +3,8 @@ use Rattle.std.proofs.Common.{◌≡◌, ◌≢◌, ℕ, ◌+◌, ◌/◌, ◌%�
 use Rattle.std.proofs.Common.{refl, ap, sym, ◌∙◌, subst, arith, ⊎_elim, inl, inr}
 use Rattle.std.proofs.Common.{MatchBool, Option, None, Some, IfSome}
 use Rattle.std.proofs.lemmas.Bool.{cond_both, eqb-true, eqb-false, eq-eqb, ne_eqb, cases_lt, cases_eq}
-use Rattle.thread_local_model.specs.Bits.{is_set, IsLowestSet, IsWordBut}
-use Rattle.thread_local_model.proofs.Word.{is_set-zero}
+use Rattle.thread_local_base.specs.Bits.{is_set, IsLowestSet, IsWordBut}
+use Rattle.thread_local_base.proofs.Word.{is_set-zero}
 use Rattle.thread_local_shared_buckets.specs.AtHand.{LiesOutside}
 
 pub both_so : (a b c d : ℕ) → a ≡ b → c ≡ d → cond (eqb a b) (eqb c d) false ≡ true

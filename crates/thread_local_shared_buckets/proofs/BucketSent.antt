@@ -11,7 +11,7 @@ use Rattle.thread_local_ids.proofs.ReachedElements.{reached_keyless}
 use Rattle.thread_local_ids.proofs.RightElements.{right_keyless}
 use Rattle.thread_local_judged.specs.Judged.{Judged}
 use Rattle.thread_local_ids.proofs.ToldElements.{untold_keyless, tells_keyless, told_or_untold_keyless, all_telling_keyless}
-use Rattle.thread_local_model.specs.Bits.{is_set_in}
+use Rattle.thread_local_base.specs.Bits.{is_set_in}
 use Rattle.thread_local_bucket_pointers.specs.Slots.{each, flags_at, empty_slots}
 use Rattle.thread_local_bucket_pointers.specs.Slots.{value_offset, block_ty}
 use Rattle.thread_local_shared_buckets.specs.Shared.{BucketView, Turn, StandingBlock, Who, free, claimed, early}

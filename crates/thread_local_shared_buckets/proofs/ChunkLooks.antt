@@ -21,11 +21,11 @@ use denote.Steps.{nothing}
 use denote.SharingLaws.{contraction}
 use denote.Param.Laws.{Laws}
 use Rattle.std.specs.Sync.RawAtomic.{asks, always, word}
-use Rattle.thread_local_model.proofs.Opened.{Lies}
-use Rattle.thread_local_model.proofs.Opened as bucket_opened
+use Rattle.thread_local_base.proofs.Opened.{Lies}
+use Rattle.thread_local_base.proofs.Opened as bucket_opened
 use Rattle.thread_local_judged.specs.Judged.{Shareable}
-use Rattle.thread_local_model.specs.Fact.{fact}
-use Rattle.thread_local_model.specs.Bits.{is_set, is_set_in}
+use Rattle.thread_local_base.specs.Fact.{fact}
+use Rattle.thread_local_base.specs.Bits.{is_set, is_set_in}
 use Rattle.thread_local_bucket_pointers.specs.Slots.{each, word_offset, value_offset, flags_at}
 use Rattle.thread_local_bucket_pointers.proofs.Each.{Put, each_at}
 use Rattle.thread_local_shared_buckets.specs.Shared.{BucketView, Turn, StandingBlock, Who, block_code, value_code}
@@ -39,7 +39,7 @@ use Rattle.thread_local_ids.specs.Views.{TokenView}
 use Rattle.thread_local_ids.specs.TokenLists.{AllOf, tell_each}
 use Rattle.thread_local_ids.proofs.TokenListLaws.{slot_agrees}
 use Rattle.thread_local_ids.proofs.ToldElements.{told_dup}
-use Rattle.thread_local_model.proofs.Signs.{signs}
+use Rattle.thread_local_base.proofs.Signs.{signs}
 
 -- a flag of a chunk, by the chunk's word
 set_at : (ns : List ℕ) (c word i : ℕ) → slice_index ns c ≡ word → i / 64 ≡ c → is_set word (i % 64) ≡ true

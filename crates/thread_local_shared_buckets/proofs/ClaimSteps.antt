@@ -15,14 +15,14 @@ use denote.RawPtr.{Ptr, block_ptr, count_of}
 use Rattle.std.specs.Sync.RawAtomic.{asks, always}
 use Rattle.thread_local_ids.specs.Rights.{right_owns}
 use Rattle.thread_local_bucket_pointers.specs.Slots.{word_offset}
-use Rattle.thread_local_model.specs.Fact.{fact}
-use Rattle.thread_local_model.specs.Bits.{is_set}
-use Rattle.thread_local_model.proofs.Word.{add_shifted, same_bit}
+use Rattle.thread_local_base.specs.Fact.{fact}
+use Rattle.thread_local_base.specs.Bits.{is_set}
+use Rattle.thread_local_base.proofs.Word.{add_shifted, same_bit}
 use Rattle.thread_local_shared_buckets.specs.Shared.{name_at, Who, free, claimed, len}
 use Rattle.thread_local_shared_buckets.specs.Claims.{claims_side, IsTold}
 use Rattle.thread_local_shared_buckets.proofs.SlotSteps as general
 use Rattle.thread_local_shared_buckets.proofs.Moves as moves
-use Rattle.thread_local_model.proofs.Signs.{signs}
+use Rattle.thread_local_base.proofs.Signs.{signs}
 use Rattle.thread_local_shared_buckets.proofs.Inside.{SlotAt}
 
 module _ {M : Type 1} {𝓤 : Ura M} (𝓛 : Logic 𝓤) (R : RattleType) (slot : SlotAt R) where

@@ -10,7 +10,7 @@ use Rattle.std.proofs.lemmas.List.Elements.{Contains-append_left, Contains-appen
 use Rattle.std.proofs.lemmas.List.Quantifiers.{all_pairs_push}
 use Rattle.std.proofs.lemmas.List.Sums.{sum_by-cons}
 use denote.Ref.{Bor}
-use Rattle.thread_local_model.specs.Cursor.{cursor_id}
+use Rattle.thread_local_base.specs.Cursor.{cursor_id}
 use Rattle.thread_local_ids.specs.Views.{TokenView}
 use Rattle.thread_local_ids.specs.TokenLists.{AllOf}
 use Rattle.thread_local_shared_buckets.specs.Walks.{WalkView, Owed, Meets, Goes, HasGiven, fresh_with}

@@ -13,8 +13,8 @@ use denote.RawPtr.{Ptr, block_ptr, null_ptr, block_of, count_of}
 use Rattle.std.specs.Sync.RawAtomic.Pointer.{cell}
 use Rattle.thread_local_ids.specs.Rights.{right_owns}
 use Rattle.thread_local_ids.proofs.RightElements.{right_once}
-use Rattle.thread_local_model.specs.Bits.{is_set}
-use Rattle.thread_local_model.proofs.Word.{same_bit}
+use Rattle.thread_local_base.specs.Bits.{is_set}
+use Rattle.thread_local_base.proofs.Word.{same_bit}
 use Rattle.thread_local_bucket_pointers.specs.Slots.{value_offset}
 use Rattle.thread_local_shared_buckets.specs.Shared.{name_at, BucketView, Turn, StandingBlock, Who, free, stays, lies_with_slot}
 use Rattle.thread_local_shared_buckets.specs.Shared.{unborn, all_unborn, slots_side, len, first, Sized, pending, standing}
@@ -25,7 +25,7 @@ use Rattle.thread_local_shared_buckets.proofs.Inside.{Next, quietly}
 use Rattle.thread_local_shared_buckets.proofs.Inside as inside
 use Rattle.thread_local_shared_buckets.proofs.SlotSteps as steps
 use Rattle.thread_local_shared_buckets.proofs.Moves as moves
-use Rattle.thread_local_model.proofs.Signs.{signs}
+use Rattle.thread_local_base.proofs.Signs.{signs}
 use Rattle.thread_local_shared_buckets.proofs.Inside.{placed}
 
 module _ {M : Type 1} {𝓤 : Ura M} (𝓛 : Logic 𝓤) (R : RattleType) where

@@ -1,5 +1,5 @@
 -- The machine value of a `Shown`, which has no bytes.
-use Rattle.thread_local_model.proofs.Names.{[], ◌∷◌, refl, Ura, Val, vstruct, vcons, vnil, ent, emp, Logic, sem, RattleType}
+use Rattle.thread_local_base.proofs.Names.{[], ◌∷◌, refl, Ura, Val, vstruct, vcons, vnil, ent, emp, Logic, sem, RattleType}
 use denote.Ref.{NamedLft}
 use denote.Shadow.{makes_shadow}
 use denote.Struct.Struct.{Struct}

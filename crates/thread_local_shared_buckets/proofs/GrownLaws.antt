@@ -11,9 +11,9 @@ use types.Logic.{Logic, sem}
 use types.Kit.{‵, ◌⊛◌, ◌$◌, ◌∵◌, !, qed, move, use0, use1, use2, split, fsplit, fjoin, rewrite, drop, done}
 use denote.RattleType.{RattleType}
 use denote.Steps.{nothing}
-use Rattle.thread_local_model.specs.Buckets.{row, stands, IsTable}
-use Rattle.thread_local_model.specs.Owned.{Owned}
-use Rattle.thread_local_model.specs.Place.{id_at}
+use Rattle.thread_local_base.specs.Buckets.{row, stands, IsTable}
+use Rattle.thread_local_base.specs.Owned.{Owned}
+use Rattle.thread_local_base.specs.Place.{id_at}
 use Rattle.thread_local_ids.specs.Rights.{reached_owns}
 use Rattle.thread_local_ids.specs.Told.{all_told_or_untold, whole_row, rows_telling}
 use Rattle.thread_local_ids.proofs.ReachedElements.{reached_none, reached_less}
@@ -21,7 +21,7 @@ use Rattle.thread_local_shared_buckets.specs.Shared.{BucketView, ids_shown, show
 use Rattle.thread_local_shared_buckets.specs.TableView.{TableView, bucket_view}
 use Rattle.thread_local_shared_buckets.specs.Grown.{is_among, stand_among_below, stand_among, only_reserved}
 use Rattle.thread_local_shared_buckets.specs.Lent.{adds_no_bucket, view_with}
-use Rattle.thread_local_model.proofs.Signs.{signs}
+use Rattle.thread_local_base.proofs.Signs.{signs}
 
 -- ---- which buckets stand
 both_so : (t r : Bool) → (if t then r else false) ≡ true → (t ≡ true) × (r ≡ true)

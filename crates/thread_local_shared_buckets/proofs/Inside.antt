@@ -19,8 +19,8 @@ use denote.RawPtr.{Ptr, block_ptr, null_ptr, block_of, count_of}
 use denote.Steps.{nothing}
 use Rattle.std.specs.Sync.RawAtomic.{word}
 use Rattle.std.specs.Sync.RawAtomic.Pointer.{cell}
-use Rattle.thread_local_model.specs.Bits.{is_set, is_set_in, IsWordBut}
-use Rattle.thread_local_model.proofs.Words.{is_set_in-set}
+use Rattle.thread_local_base.specs.Bits.{is_set, is_set_in, IsWordBut}
+use Rattle.thread_local_base.proofs.Words.{is_set_in-set}
 use Rattle.thread_local_bucket_pointers.specs.Slots.{AreWords, each, heap_token, block_ty, word_offset, value_offset, flags_at, back}
 use Rattle.thread_local_bucket_pointers.proofs.Each.{Put, each_at, each_turned}
 use Rattle.thread_local_bucket_pointers.proofs.Flags.{in_chunks}
@@ -28,7 +28,7 @@ use Rattle.thread_local_shared_buckets.specs.Shared.{name_at, BucketView, Turn, 
 use Rattle.thread_local_shared_buckets.specs.Shared.{block_code, shared_slot, numbered_slot, AreFlagWords, slots_under}
 use Rattle.thread_local_shared_buckets.specs.Shared.{len, first, Sized, settled, standing, beside_pointer}
 use Rattle.thread_local_shared_buckets.specs.Shared.{bucket_invariant}
-use Rattle.thread_local_model.proofs.Signs.{signs}
+use Rattle.thread_local_base.proofs.Signs.{signs}
 
 block_code-apart : {Z : Type 0} (s : StandingBlock) → block_code s ≡ gnil → Z
 block_code-apart s e = cc

@@ -4,14 +4,14 @@ use Rattle.std.proofs.Common.{⊎_elim, Option, None, Some, is_some}
 use Rattle.std.specs.Int.{bit_at}
 use Rattle.std.proofs.lemmas.Bool.{cases_eq}
 use Rattle.std.proofs.lemmas.Nat.Bits.{shr_and_one, bit_at-lt}
-use Rattle.thread_local_model.specs.Bits.{is_set}
+use Rattle.thread_local_base.specs.Bits.{is_set}
 use seplogic.Ra.Ura.{Ura}
 use base.Logic.{ent, id⊢}
 use base.Fml.{Lft, fsep, fex}
 use types.Logic.{Logic, sem}
 use denote.RattleType.{RattleType}
-use Rattle.thread_local_model.specs.Learnt.{Learnt, Unknown, Missing, Standing, Vacant, Holding, learnt_by_look, Finds}
-use Rattle.thread_local_model.specs.Fact.{fact}
+use Rattle.thread_local_base.specs.Learnt.{Learnt, Unknown, Missing, Standing, Vacant, Holding, learnt_by_look, Finds}
+use Rattle.thread_local_base.specs.Fact.{fact}
 use Rattle.thread_local_shared_buckets.specs.Shared.{BucketView, Turn, StandingBlock}
 use Rattle.thread_local_shared_buckets.specs.Known.{HasLooked, MayLook, looked_in_vain, state_by, value_held, found_as}
 use Rattle.thread_local_shared_buckets.specs.Claims.{ClaimFields, has_slot, has, claims_side, IsKept}

@@ -30,18 +30,18 @@ use Rattle.std.proofs.cell.BorrowLemmas.{by_one, unnest_before}
 use Rattle.thread_local_judged.specs.Judged.{Shareable, Judged}
 use Rattle.thread_local_ids.specs.Rights.{right_owns}
 use Rattle.thread_local_bucket_pointers.specs.Slots.{value_offset, content_at}
-use Rattle.thread_local_model.specs.Fact.{fact}
+use Rattle.thread_local_base.specs.Fact.{fact}
 use Rattle.thread_local_ids.specs.Told.{tells}
 use Rattle.thread_local_ids.proofs.ToldElements.{told_dup}
 use Rattle.thread_local_ids.proofs.Twice.{tells_laws}
 use Rattle.thread_local_shared_buckets.specs.Shared.{name_at, BucketView, Turn, StandingBlock, Sized, len, value_code}
 use Rattle.thread_local_shared_buckets.specs.Shared.{pinned, tracked_value, age, kept, loaded}
 use Rattle.thread_local_shared_buckets.specs.Shared as slots
-use Rattle.thread_local_model.specs.Learnt.{Learnt, Unknown, Missing, Standing, Vacant, Holding}
+use Rattle.thread_local_base.specs.Learnt.{Learnt, Unknown, Missing, Standing, Vacant, Holding}
 use Rattle.thread_local_shared_buckets.specs.Known.{value_held}
 use Rattle.thread_local_shared_buckets.specs.Claims.{ClaimFields, has_slot, IsKept, IsOf, has_at, claim_owns, value_at, lasts}
 use Rattle.thread_local_shared_buckets.specs.Claims.{shows_value, claim_shares}
-use Rattle.thread_local_model.proofs.Signs.{signs}
+use Rattle.thread_local_base.proofs.Signs.{signs}
 
 lasts_laws : (β : Lft) (R : RattleType) → RowLaws R → (b e : ℕ) (x : R.Denot) (j : Judged R) → ShrLaws (lasts R β b e x j)
 lasts_laws β R L b e x (inl j) = held_shr_laws β (shared_of R x b e) (L x b e)

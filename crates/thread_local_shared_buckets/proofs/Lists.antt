@@ -8,8 +8,8 @@ use Rattle.std.proofs.lemmas.List.{length-map, get_or_past}
 use Rattle.std.proofs.lemmas.List.FromFn.{length-map-range_with_len, get_or-map-range_with_len}
 use Rattle.std.specs.List.{range_with_len}
 use mathlib.Core.Logic.{inl, inr}
-use Rattle.thread_local_model.specs.Place.{id_at}
-use Rattle.thread_local_model.specs.Owned.{Owned, AreOfFirstBuckets, IsOwned}
+use Rattle.thread_local_base.specs.Place.{id_at}
+use Rattle.thread_local_base.specs.Owned.{Owned, AreOfFirstBuckets, IsOwned}
 use Rattle.thread_local_shared_buckets.specs.Shared.{BucketView}
 use Rattle.thread_local_shared_buckets.specs.Fit.{Fit}
 use Rattle.thread_local_shared_buckets.specs.TableView.{TableView, bucket_view, bucket_at, table_view_of, AreBuckets}

@@ -17,7 +17,7 @@ use denote.RawPtr.{Ptr, block_ptr, null_ptr}
 use denote.Steps.{nothing}
 use denote.SharingLaws.{ends_shr_laws}
 use Rattle.std.specs.Sync.RawAtomic.Pointer.{cell, asks_ptr}
-use Rattle.thread_local_model.specs.Fact.{fact}
+use Rattle.thread_local_base.specs.Fact.{fact}
 use Rattle.thread_local_ids.specs.Told.{untold_in, tells}
 use Rattle.thread_local_ids.proofs.ToldElements.{telling_alike}
 use Rattle.thread_local_ids.proofs.ReachedElements.{reached_twice}
@@ -27,8 +27,8 @@ use Rattle.thread_local_ids.proofs.TokenListLaws.{slot_agrees}
 use Rattle.thread_local_shared_buckets.proofs.ChunkLooks.{all_from}
 use Rattle.thread_local_shared_buckets.specs.Shared.{BucketView, Turn, StandingBlock, block_code, Sized, len, first, shown_by, grown}
 use Rattle.thread_local_shared_buckets.specs.Shared.{all_unborn, standing, beside_pointer, bucket_invariant, loaded}
-use Rattle.thread_local_model.proofs.Pointers.{Lies, opened}
-use Rattle.thread_local_model.proofs.Signs.{signs}
+use Rattle.thread_local_base.proofs.Pointers.{Lies, opened}
+use Rattle.thread_local_base.proofs.Signs.{signs}
 
 module _ {M : Type 1} {𝓤 : Ura M} (𝓛 : Logic 𝓤) (R : RattleType) (sharing : Option GName)
     (named : IsSome sharing) (table : ℕ) (t : Turn) (x : R.Denot) (Z : SProp 𝓤) where

@@ -2,7 +2,7 @@
 use Rattle.std.proofs.Common.{◌≡◌, ◌≢◌, ℕ, ◌+◌, ◌-◌, ◌*◌, ◌/◌, ◌%◌, ◌^◌, ◌<◌, ◌≤◌, ◌⊎◌, true, false}
 use Rattle.std.proofs.Common.{Option, None, Some, IfSome, refl, ap, sym, ◌∙◌, subst, arith, ⊎_elim, inl, inr}
 use Rattle.std.proofs.lemmas.Bool.{cases_lt, cases_eq}
-use Rattle.thread_local_model.specs.Bits.{is_set, IsWordBut}
+use Rattle.thread_local_base.specs.Bits.{is_set, IsWordBut}
 use Rattle.thread_local_shared_buckets.specs.Shared.{BucketView}
 use Rattle.thread_local_shared_buckets.specs.declared.seen.Seen.{Seen}
 use Rattle.thread_local_shared_buckets.specs.declared.row.Row.{Row}

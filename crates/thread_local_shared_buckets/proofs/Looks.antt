@@ -19,7 +19,7 @@ use Rattle.thread_local_shared_buckets.proofs.Rested.{opens_by}
 use Rattle.thread_local_shared_buckets.proofs.SlotSteps.{Stays, Had, Left, moved}
 use Rattle.thread_local_ids.specs.Told.{tells, told_or_untold}
 use Rattle.thread_local_ids.proofs.ToldElements.{tells_alike, telling_alike}
-use Rattle.thread_local_model.proofs.Signs.{signs}
+use Rattle.thread_local_base.proofs.Signs.{signs}
 use Rattle.std.proofs.lemmas.Option.{same_Some}
 use Rattle.thread_local_shared_buckets.proofs.Inside.{SlotAt}
 

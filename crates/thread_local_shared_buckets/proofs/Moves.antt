@@ -17,7 +17,7 @@ use Rattle.thread_local_shared_buckets.specs.Shared.{Turn, Who, free, claimed, e
 use Rattle.thread_local_shared_buckets.specs.Shared.{pinned_and_told, opened, holds, stays, lies_with_slot}
 use Rattle.thread_local_ids.specs.Told.{tells}
 use Rattle.thread_local_ids.proofs.ToldElements.{told_dup, tells_it}
-use Rattle.thread_local_model.proofs.Signs.{signs}
+use Rattle.thread_local_base.proofs.Signs.{signs}
 use Rattle.std.proofs.lemmas.Option.{same_Some}
 
 module _ {M : Type 1} {𝓤 : Ura M} (𝓛 : Logic 𝓤) where

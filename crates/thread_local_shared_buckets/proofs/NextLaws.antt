@@ -4,7 +4,7 @@ use Rattle.std.proofs.Common.{inl, inr, ⊎_elim}
 use Rattle.std.specs.Iterator.{MakesProgress}
 use denote.Ref.{Bor}
 use denote.RattleType.{RattleType}
-use Rattle.thread_local_model.specs.Cursor.{cursor_id}
+use Rattle.thread_local_base.specs.Cursor.{cursor_id}
 use Rattle.thread_local_ids.specs.Views.{TokenView}
 use Rattle.thread_local_ids.specs.declared.witness.Witness.{Witness}
 use Rattle.thread_local_shared_buckets.specs.Walks.{WalkView, Goes, GoesWithIds, GoesWithTokens, CanGo, ids_left}

@@ -29,7 +29,7 @@ use Rattle.std.specs.declared.alloc.Global.{Global}
 use Rattle.std.specs.contracts.impls.GlobalAllocator.TheImpl.{ghosts}
 use Rattle.std.proofs.GlobalToken.{dealloc_token-Testable}
 use Rattle.thread_local_ids.specs.Rights.{right_owns}
-use Rattle.thread_local_model.specs.Bits.{is_set_in}
+use Rattle.thread_local_base.specs.Bits.{is_set_in}
 use Rattle.thread_local_bucket_pointers.specs.Slots.{each, chunks, AreFlags, flags_at, block_ty, value_offset, content_at, slot}
 use Rattle.thread_local_bucket_pointers.specs.Slots.{flags, back, block_owns, empty_slots, slot_value, heap_token, Fits}
 use Rattle.thread_local_shared_buckets.specs.Shared.{BucketView, Turn, StandingBlock, Who, free, early, block_code}
@@ -38,9 +38,9 @@ use Rattle.thread_local_shared_buckets.specs.Shared.{numbered_slot, AreFlagWords
 use Rattle.thread_local_shared_buckets.specs.Shared.{slots_side, all_unborn, Sized, len, first, standing, beside_pointer, grown}
 use Rattle.thread_local_shared_buckets.specs.Shared.{bucket_invariant}
 use Rattle.thread_local_ids.specs.Told.{untold_in}
-use Rattle.thread_local_model.proofs.Pointers.{Compared, opened_to_compare, alike_null}
+use Rattle.thread_local_base.proofs.Pointers.{Compared, opened_to_compare, alike_null}
 use Rattle.thread_local_shared_buckets.proofs.Loads.{part, glimpse, parted}
-use Rattle.thread_local_model.proofs.Signs.{signs}
+use Rattle.thread_local_base.proofs.Signs.{signs}
 
 -- who has a slot that is born: the claim that took its pass before, or nobody
 abbrev who : Bool → Who

@@ -2,9 +2,9 @@
 use Rattle.std.proofs.Common.{◌≡◌, ◌≢◌, ℕ, ◌+◌, ◌-◌, ◌*◌, ◌^◌, ◌<◌, ◌≤◌, true, false}
 use Rattle.std.proofs.Common.{Option, None, Some, IfSome, option_map, refl, ap, sym, ◌∙◌, subst, arith, ⊎_elim, pow_mono}
 use Rattle.std.proofs.lemmas.Bool.{eq-eqb, cases_lt}
-use Rattle.thread_local_model.specs.Bits.{is_set, IsLowestSet, IsWordBut}
-use Rattle.thread_local_model.specs.Place.{id_at}
-use Rattle.thread_local_model.proofs.Word.{lowest_set}
+use Rattle.thread_local_base.specs.Bits.{is_set, IsLowestSet, IsWordBut}
+use Rattle.thread_local_base.specs.Place.{id_at}
+use Rattle.thread_local_base.proofs.Word.{lowest_set}
 use Rattle.std.specs.Int.{w64, trailing_zeros}
 use Rattle.thread_local_shared_buckets.specs.declared.seen.Seen.{Seen}
 use Rattle.thread_local_bucket_pointers.specs.declared.cursor.RawIter.{RawIter}

@@ -1,7 +1,7 @@
 -- The machine value of a shared bucket: its one field, the pointer. Assumes `Logic`.
-use Rattle.thread_local_model.proofs.Names.{[], ◌∷◌, refl, Ura, Val, vstruct}
-use Rattle.thread_local_model.proofs.Names.{vcons, vnil, ent, emp, Logic, sem, RattleType, Ptr}
-use Rattle.thread_local_model.proofs.Names.{ptr_val}
+use Rattle.thread_local_base.proofs.Names.{[], ◌∷◌, refl, Ura, Val, vstruct}
+use Rattle.thread_local_base.proofs.Names.{vcons, vnil, ent, emp, Logic, sem, RattleType, Ptr}
+use Rattle.thread_local_base.proofs.Names.{ptr_val}
 use denote.Shadow.{makes_shadow}
 use Rattle.thread_local_shared_buckets.specs.contracts.shared_bucket.SharedBucket.TheInside as inside
 

@@ -20,7 +20,7 @@ use denote.Param.Laws.{Laws}
 use Rattle.std.specs.declared.alloc.Global.{Global}
 use Rattle.std.specs.contracts.impls.GlobalAllocator.TheImpl.{ghosts}
 use Rattle.std.proofs.GlobalToken.{dealloc_token-Testable}
-use Rattle.thread_local_model.specs.Bits.{is_set_in}
+use Rattle.thread_local_base.specs.Bits.{is_set_in}
 use Rattle.thread_local_bucket_pointers.specs.Slots.{heap_token, chunks, each, AreFlags, flags_at, slot_value, block_ty, Fits}
 use Rattle.thread_local_bucket_pointers.specs.Slots.{value_offset, content_at, slot, flags_own, back}
 use Rattle.thread_local_bucket_pointers.specs.PointerOwns.{pointer_owns}
@@ -32,7 +32,7 @@ use Rattle.thread_local_ids.proofs.ReachedElements.{reached_none}
 use Rattle.thread_local_shared_buckets.proofs.GrownLaws.{row_known, shown_whole}
 use Rattle.thread_local_shared_buckets.proofs.Rested.{redeems}
 use Rattle.thread_local_shared_buckets.specs.Fit.{Fit}
-use Rattle.thread_local_model.proofs.Signs.{signs}
+use Rattle.thread_local_base.proofs.Signs.{signs}
 
 -- the bits of these words, from the index i on, say which of the slots hold a value
 abbrev Told : {V : Type 0} → List ℕ → ℕ → List (Option V) → Type 0

@@ -26,7 +26,7 @@ use denote.Param.Laws.{Laws}
 use Rattle.std.proofs.cell.BorrowLemmas.{by_one}
 use Rattle.thread_local_ids.specs.Rights.{right_owns}
 use Rattle.thread_local_judged.specs.Judged.{Shareable, Judged}
-use Rattle.thread_local_model.specs.Bits.{is_set_in}
+use Rattle.thread_local_base.specs.Bits.{is_set_in}
 use Rattle.thread_local_bucket_pointers.specs.Slots.{value_offset, content_at, each, back, empty_slots}
 use Rattle.thread_local_shared_buckets.specs.Shared.{Turn, Who, free, value_code, pinned, tracked_value, age}
 use Rattle.thread_local_shared_buckets.specs.Shared.{shared_value, opened, by as lent_by, stays, lies_with_slot, shared_slot_as}
@@ -35,7 +35,7 @@ use Rattle.thread_local_shared_buckets.specs.Shared.{rests, slot_rests_as, slot_
 use Rattle.thread_local_ids.specs.Told.{untold_in, tells, told_or_untold, all_told_or_untold}
 use Rattle.thread_local_ids.proofs.ToldElements.{told_dup}
 use Rattle.thread_local_shared_buckets.proofs.ClaimTokens.{tokens_from, token_off}
-use Rattle.thread_local_model.proofs.Signs.{signs}
+use Rattle.thread_local_base.proofs.Signs.{signs}
 
 module _ {M : Type 1} {𝓤 : Ura M} (𝓛 : Logic 𝓤) where
   open 𝓛 use {H, A}

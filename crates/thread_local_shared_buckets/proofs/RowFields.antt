@@ -1,9 +1,9 @@
 -- The machine value of a row, and that what a row owns can be duplicated. Assumes `Logic`.
-use Rattle.thread_local_model.proofs.Names.{◌≡◌, ℕ, T, List, [], ◌∷◌, ◌++◌, refl, ap, ◌∙◌, lit<, Ura, tcons, tnil}
-use Rattle.thread_local_model.proofs.Names.{ty_ptr, ty_struct, Val, vstruct, vcons, vnil, of_list, has_ty, WT, ent}
-use Rattle.thread_local_model.proofs.Names.{sep, emp, Lft, Fml, ftrue, Logic, sem, ‵, ◌⊛◌, ◌$◌, ◌∵◌, !, qed, move}
-use Rattle.thread_local_model.proofs.Names.{drop, split, fsplit, fsplit3, fjoin, fjoin3, fpick, fpack, frame, use1}
-use Rattle.thread_local_model.proofs.Names.{nothing, done, RattleType, Is, Ptr, block_ptr, null_ptr, ptr_val, length}
+use Rattle.thread_local_base.proofs.Names.{◌≡◌, ℕ, T, List, [], ◌∷◌, ◌++◌, refl, ap, ◌∙◌, lit<, Ura, tcons, tnil}
+use Rattle.thread_local_base.proofs.Names.{ty_ptr, ty_struct, Val, vstruct, vcons, vnil, of_list, has_ty, WT, ent}
+use Rattle.thread_local_base.proofs.Names.{sep, emp, Lft, Fml, ftrue, Logic, sem, ‵, ◌⊛◌, ◌$◌, ◌∵◌, !, qed, move}
+use Rattle.thread_local_base.proofs.Names.{drop, split, fsplit, fsplit3, fjoin, fjoin3, fpick, fpack, frame, use1}
+use Rattle.thread_local_base.proofs.Names.{nothing, done, RattleType, Is, Ptr, block_ptr, null_ptr, ptr_val, length}
 use base.Fml.{fbor, finv}
 use base.Before.{before}
 use types.Na.{before_dup}

@@ -1,9 +1,9 @@
 -- The machine value of what a look saw, and that what it owns can be duplicated. Assumes `Logic`.
-use Rattle.thread_local_model.proofs.Names.{◌≡◌, ℕ, ◌+◌, ◌^◌, ◌<◌, T, List, [], ◌∷◌, ◌++◌, refl, ◌∙◌, lit<, w64}
-use Rattle.thread_local_model.proofs.Names.{Ura, Val, vint, vstruct, vcons, vnil, of_list, has_ty, WT, ent, sep, emp}
-use Rattle.thread_local_model.proofs.Names.{Lft, Fml, ftrue, Logic, sem, ‵, ◌⊛◌, ◌$◌, ◌∵◌, !, qed, move, drop}
-use Rattle.thread_local_model.proofs.Names.{split, fsplit, fsplit3, fjoin, fjoin3, fpick, fpack, use1, nothing, done}
-use Rattle.thread_local_model.proofs.Names.{RattleType, Is, Ptr, block_ptr, null_ptr, ptr_val, ty_ptr, ty_struct, tcons, tnil}
+use Rattle.thread_local_base.proofs.Names.{◌≡◌, ℕ, ◌+◌, ◌^◌, ◌<◌, T, List, [], ◌∷◌, ◌++◌, refl, ◌∙◌, lit<, w64}
+use Rattle.thread_local_base.proofs.Names.{Ura, Val, vint, vstruct, vcons, vnil, of_list, has_ty, WT, ent, sep, emp}
+use Rattle.thread_local_base.proofs.Names.{Lft, Fml, ftrue, Logic, sem, ‵, ◌⊛◌, ◌$◌, ◌∵◌, !, qed, move, drop}
+use Rattle.thread_local_base.proofs.Names.{split, fsplit, fsplit3, fjoin, fjoin3, fpick, fpack, use1, nothing, done}
+use Rattle.thread_local_base.proofs.Names.{RattleType, Is, Ptr, block_ptr, null_ptr, ptr_val, ty_ptr, ty_struct, tcons, tnil}
 use Rattle.std.proofs.Common.{Bool, true, false, Some}
 use mir.Syntax.{Ty, ty_int}
 use base.Logic.{all_e}
@@ -24,7 +24,7 @@ use denote.Shadow.{makes_shadow}
 use denote.Struct.Struct.{Struct}
 use denote.Struct.Owning.{shape}
 use Rattle.std.specs.contracts.marker.PhantomData as marker
-use Rattle.thread_local_model.specs.Bits.{is_set_in}
+use Rattle.thread_local_base.specs.Bits.{is_set_in}
 use Rattle.thread_local_judged.specs.Judged.{Shareable}
 use Rattle.thread_local_bucket_pointers.specs.Slots.{each, value_offset}
 use Rattle.thread_local_ids.specs.Told.{tells}

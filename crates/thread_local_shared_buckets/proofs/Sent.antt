@@ -12,7 +12,7 @@ use Rattle.thread_local_ids.proofs.RightElements.{right_keyless}
 use Rattle.thread_local_bucket_pointers.specs.Slots.{value_offset}
 use Rattle.thread_local_shared_buckets.specs.Shared.{name_at, BucketView, Turn, StandingBlock, age, by, holds}
 use Rattle.thread_local_shared_buckets.proofs.BucketSent.{value_keyless, kept_keyless, row_keyless}
-use Rattle.thread_local_model.specs.Learnt.{Learnt, Unknown, Missing, Standing, Vacant, Holding}
+use Rattle.thread_local_base.specs.Learnt.{Learnt, Unknown, Missing, Standing, Vacant, Holding}
 use Rattle.thread_local_shared_buckets.specs.Claims.{ClaimFields, has_slot, has, claim_owns}
 
 module _ (R : RattleType) (sent : IsSend R) where

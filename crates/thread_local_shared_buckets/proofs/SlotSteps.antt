@@ -11,17 +11,17 @@ use denote.RattleType.{RattleType}
 use denote.RawPtr.{block_ptr, count_of}
 use denote.Steps.{nothing}
 use Rattle.std.specs.Sync.RawAtomic.{asks, always}
-use Rattle.thread_local_model.proofs.Opened.{Lies}
-use Rattle.thread_local_model.proofs.Opened as bucket_opened
-use Rattle.thread_local_model.specs.Bits.{is_set, IsWordBut}
-use Rattle.thread_local_model.proofs.Word.{same_bit}
+use Rattle.thread_local_base.proofs.Opened.{Lies}
+use Rattle.thread_local_base.proofs.Opened as bucket_opened
+use Rattle.thread_local_base.specs.Bits.{is_set, IsWordBut}
+use Rattle.thread_local_base.proofs.Word.{same_bit}
 use Rattle.thread_local_bucket_pointers.specs.Slots.{word_offset}
 use Rattle.thread_local_shared_buckets.specs.Shared.{name_at, Who, block_code, age}
 use Rattle.thread_local_shared_buckets.specs.Shared.{tracked_value, shared_slot_as, shared_slot, len}
 use Rattle.thread_local_shared_buckets.specs.Shared.{bucket_invariant, stays, lies_with_slot, holds}
 use Rattle.thread_local_shared_buckets.proofs.Inside as inside
 use Rattle.thread_local_shared_buckets.proofs.Inside.{Next, quietly, slot_in}
-use Rattle.thread_local_model.proofs.Signs.{signs}
+use Rattle.thread_local_base.proofs.Signs.{signs}
 use Rattle.thread_local_shared_buckets.proofs.Inside.{SlotAt}
 
 module _ {M : Type 1} {𝓤 : Ura M} (𝓛 : Logic 𝓤) (R : RattleType) (slot : SlotAt R) where

@@ -1,6 +1,6 @@
 -- What the number tells that a claim keeps for what it has learnt.
 use Rattle.std.proofs.Common.{◌≡◌, eqb, refl, is_some}
-use Rattle.thread_local_model.specs.Learnt.{Learnt, Unknown, Missing, Standing, Vacant, Holding}
+use Rattle.thread_local_base.specs.Learnt.{Learnt, Unknown, Missing, Standing, Vacant, Holding}
 use Rattle.thread_local_shared_buckets.specs.Known.{points_to_pointer, state_of, value_held}
 
 pub missing_by : {X : Type 0} (l : Learnt X) → eqb (state_of l) 0 ≡ points_to_pointer l

@@ -3,8 +3,8 @@ use Rattle.std.proofs.Common.{◌≡◌, ℕ, zero, suc, ◌+◌, ◌-◌, ◌^�
 use Rattle.std.proofs.Common.{◌++◌, IsTrue, refl, sym, subst, arith}
 use Rattle.std.specs.Prelude.{MatchBool}
 use Rattle.std.proofs.lemmas.Bool.{cond_both, eqb-true, lt-ltb}
-use Rattle.thread_local_model.specs.Cursor.{Cursor, cursor_id, may_load, at_next_bucket, at_place, after_load, after_look, CursorFits}
-use Rattle.thread_local_model.proofs.CursorLaws.{after_load-fits, after_look-fits, never_lower, after_look-id}
+use Rattle.thread_local_base.specs.Cursor.{Cursor, cursor_id, may_load, at_next_bucket, at_place, after_load, after_look, CursorFits}
+use Rattle.thread_local_base.proofs.CursorLaws.{after_load-fits, after_look-fits, never_lower, after_look-id}
 use Rattle.thread_local_shared_buckets.specs.Steps.{after_step, GivesNothing, Passes, Leads}
 
 -- a cursor of a walk that loads the bucket's pointer next

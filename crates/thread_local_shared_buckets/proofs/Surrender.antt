@@ -14,13 +14,13 @@ use denote.RattleType.{RattleType}
 use denote.RawPtr.{Ptr, block_of, count_of}
 use Rattle.thread_local_ids.specs.Rights.{right_owns}
 use Rattle.thread_local_bucket_pointers.specs.Slots.{value_offset}
-use Rattle.thread_local_model.specs.Fact.{fact}
+use Rattle.thread_local_base.specs.Fact.{fact}
 use Rattle.thread_local_shared_buckets.specs.Shared.{BucketView, Turn, StandingBlock, bucket_invariant}
-use Rattle.thread_local_model.specs.Learnt.{Learnt, Unknown, Missing, Standing, Vacant, Holding}
+use Rattle.thread_local_base.specs.Learnt.{Learnt, Unknown, Missing, Standing, Vacant, Holding}
 use Rattle.thread_local_shared_buckets.specs.Claims.{ClaimFields, IsOf, has_slot, has, claim_owns, claims_side}
 use Rattle.thread_local_shared_buckets.proofs.Early as early
 use Rattle.thread_local_shared_buckets.proofs.ClaimSteps as steps
-use Rattle.thread_local_model.proofs.Signs.{signs}
+use Rattle.thread_local_base.proofs.Signs.{signs}
 use Rattle.thread_local_shared_buckets.proofs.Inside.{placed}
 
 module _ {M : Type 1} {𝓤 : Ura M} (𝓛 : Logic 𝓤) (R : RattleType) (β : Lft) (table : ℕ) (c : ClaimFields) where

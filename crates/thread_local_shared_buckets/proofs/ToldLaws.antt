@@ -3,10 +3,10 @@ use Rattle.std.proofs.Common.{◌≡◌, ◌≢◌, ℕ, suc, ◌+◌, ◌-◌, 
 use Rattle.std.proofs.Common.{refl, ap, sym, ◌∙◌, subst, arith, ⊎_elim, inl, inr, pow_mono}
 use Rattle.std.specs.Prelude.{MatchOption, slice_index_or, All}
 use Rattle.std.proofs.lemmas.Bool.{cases_lt, cases_eq}
-use Rattle.thread_local_model.specs.Place.{id_at, bucket_of, index_of}
-use Rattle.thread_local_model.specs.Cursor.{cursor_id}
-use Rattle.thread_local_model.specs.Bits.{is_set, IsLowestSet, IsWordBut}
-use Rattle.thread_local_model.proofs.PlaceLaws.{id_at-place, inside}
+use Rattle.thread_local_base.specs.Place.{id_at, bucket_of, index_of}
+use Rattle.thread_local_base.specs.Cursor.{cursor_id}
+use Rattle.thread_local_base.specs.Bits.{is_set, IsLowestSet, IsWordBut}
+use Rattle.thread_local_base.proofs.PlaceLaws.{id_at-place, inside}
 use Rattle.thread_local_ids.specs.Views.{TokenView}
 use Rattle.thread_local_ids.specs.TokenLists.{AllOf, NoneIn}
 use Rattle.thread_local_bucket_pointers.specs.declared.cursor.RawIter.{RawIter}

@@ -24,8 +24,8 @@ use denote.Param.Laws.{Laws}
 use Rattle.std.proofs.cell.Inside.{one}
 use denote.Struct.Struct.{Struct, Shape, within}
 use Rattle.std.specs.contracts.alloc.Global as heap
-use Rattle.thread_local_model.specs.Buckets.{Contents, IsTable}
-use Rattle.thread_local_model.specs.Owned.{Owned, AreOfFirstBuckets, IsOwned}
+use Rattle.thread_local_base.specs.Buckets.{Contents, IsTable}
+use Rattle.thread_local_base.specs.Owned.{Owned, AreOfFirstBuckets, IsOwned}
 use Rattle.thread_local_judged.specs.Judged.{Judged}
 use Rattle.thread_local_bucket_pointers.specs.Slots.{heap_token}
 use Rattle.thread_local_bucket_pointers.specs.PointerOwns.{pointer_owns}
@@ -56,7 +56,7 @@ use Rattle.thread_local_shared_buckets.specs.Grown.{only_reserved}
 use Rattle.thread_local_shared_buckets.proofs.GrownLaws.{row_known, rows_known, rows_grown, known_apart, known_together}
 use Rattle.thread_local_shared_buckets.proofs.GrownLaws.{none_grown, less_grown, nothing_shown, lent_shown, view_again, grown_in}
 use Rattle.thread_local_shared_buckets.proofs.Redeemed.{redeems_bucket, rests_bucket}
-use Rattle.thread_local_model.proofs.Signs.{signs}
+use Rattle.thread_local_base.proofs.Signs.{signs}
 
 -- the machine value of an owner's pointers with the number of reserved slots
 abbrev pub pair_val : Val → ℕ → Val

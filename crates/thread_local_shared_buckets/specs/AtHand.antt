@@ -1,8 +1,8 @@
 -- What a walk has at hand: the flags that it loaded whose values it hasn't given.
 use Rattle.std.specs.Prelude.{◌≡◌, ℕ, ◌≢◌, ◌+◌, ◌-◌, ◌*◌, ◌/◌, ◌%◌, ◌^◌, ◌<◌, ◌≤◌, true, false, Option, None}
 use Rattle.std.specs.Prelude.{Some, IfSome, MatchOption, Bool, MatchBool, List}
-use Rattle.thread_local_model.specs.Bits.{is_set, IsWordBut}
-use Rattle.thread_local_model.specs.Place.{id_at}
+use Rattle.thread_local_base.specs.Bits.{is_set, IsWordBut}
+use Rattle.thread_local_base.specs.Place.{id_at}
 use Rattle.thread_local_shared_buckets.specs.Shared.{BucketView}
 use Rattle.thread_local_shared_buckets.specs.declared.row.Row.{Row}
 use Rattle.thread_local_shared_buckets.specs.declared.seen.Seen.{Seen}

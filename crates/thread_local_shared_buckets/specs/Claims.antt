@@ -4,8 +4,8 @@
 -- looked, the right lies in the bucket's invariant. Where the bucket was missing, the claim has the
 -- pass of its slot for it. Once the bucket stands, it has what the slot holds.
 use Rattle.std.specs.Prelude.{◌≡◌, ℕ, ◌+◌, ◌/◌, ◌^◌, ◌<◌, Bool, true, false, Option, None, Some, is_some}
-use Rattle.thread_local_model.specs.Place.{bucket_of, index_of}
-use Rattle.thread_local_model.specs.Learnt.{Learnt, Unknown, Missing, Standing, Vacant, Holding}
+use Rattle.thread_local_base.specs.Place.{bucket_of, index_of}
+use Rattle.thread_local_base.specs.Learnt.{Learnt, Unknown, Missing, Standing, Vacant, Holding}
 use Rattle.thread_local_shared_buckets.specs.Known.{state_of, value_held}
 use mathlib.Core.Logic.{inl, inr}
 use base.Fml.{Lft, GName, Fml, ffalse, fsep, fex}
@@ -16,7 +16,7 @@ use denote.Sharing.{said, beside, within, some, held, nothing}
 use Rattle.thread_local_ids.specs.Rights.{right_owns}
 use Rattle.thread_local_judged.specs.Judged.{Judged}
 use Rattle.thread_local_bucket_pointers.specs.Slots.{flag_word_at, value_offset}
-use Rattle.thread_local_model.specs.Fact.{fact}
+use Rattle.thread_local_base.specs.Fact.{fact}
 use Rattle.thread_local_ids.specs.Told.{tells}
 use Rattle.thread_local_shared_buckets.specs.Shared.{name_at, BucketView, Turn, StandingBlock, holds, first, len, kept, loaded}
 

@@ -1,8 +1,8 @@
 -- Whether the buckets of an owner that stand are among some.
 use Rattle.std.specs.Prelude.{ℕ, zero, suc, Bool, true, false, if◌then◌else◌, nat_lt}
-use Rattle.thread_local_model.specs.Buckets.{stands}
-use Rattle.thread_local_model.specs.Owned.{Owned}
-use Rattle.thread_local_model.specs.Place.{id_at}
+use Rattle.thread_local_base.specs.Buckets.{stands}
+use Rattle.thread_local_base.specs.Owned.{Owned}
+use Rattle.thread_local_base.specs.Place.{id_at}
 
 -- whether a bucket is among some if it stands
 abbrev pub is_among : Bool → Bool → Bool

@@ -1,7 +1,7 @@
 -- What a claim has learnt of its slot: nothing yet, that the bucket is missing, that the slot is
 -- vacant, or the value that it holds.
 use Rattle.std.specs.Prelude.{ℕ, Bool, true, false, Option, None, Some, ⊤}
-use Rattle.thread_local_model.specs.Learnt.{Learnt, Unknown, Missing, Standing, Vacant, Holding}
+use Rattle.thread_local_base.specs.Learnt.{Learnt, Unknown, Missing, Standing, Vacant, Holding}
 
 -- the claim has looked: its bucket was missing, or it has seen its slot. Every claim that a call
 -- hands out has

@@ -1,7 +1,7 @@
 -- What a contract sees of shared buckets once an owner's loan of them ends.
 use Rattle.std.specs.Prelude.{Bool, false, None, ◌==◌, if◌then◌else◌}
-use Rattle.thread_local_model.specs.Buckets.{stands}
-use Rattle.thread_local_model.specs.Owned.{Owned}
+use Rattle.thread_local_base.specs.Buckets.{stands}
+use Rattle.thread_local_base.specs.Owned.{Owned}
 use Rattle.thread_local_shared_buckets.specs.Grown.{stand_among}
 use Rattle.thread_local_shared_buckets.specs.TableView.{TableView}
 

@@ -3,7 +3,7 @@ pub mod TableView
 pub mod Grown
 pub mod Lent
 pub mod Parts
-pub use Rattle.thread_local_model.specs.Cursor
+pub use Rattle.thread_local_base.specs.Cursor
 pub mod Steps
 pub mod Walks
 pub mod Positions

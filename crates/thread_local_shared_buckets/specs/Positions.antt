@@ -1,8 +1,8 @@
 -- Where a walk is, by what its code keeps, as the model's cursor.
 use Rattle.std.specs.Prelude.{◌≡◌, ℕ, suc, ◌+◌, ◌^◌, ◌≤◌, ◌<◌, ◌==◌, ◌⊎◌, Bool, true, false, Option, Some, None, IfSome, option_map}
 use Rattle.std.specs.Prelude.{if◌then◌else◌}
-use Rattle.thread_local_model.specs.Place.{id_at}
-use Rattle.thread_local_model.specs.Cursor.{Cursor, cursor_id, CursorFits}
+use Rattle.thread_local_base.specs.Place.{id_at}
+use Rattle.thread_local_base.specs.Cursor.{Cursor, cursor_id, CursorFits}
 use denote.Ref.{Bor}
 use Rattle.thread_local_ids.specs.declared.witness.Witness.{Witness}
 use Rattle.thread_local_bucket_pointers.specs.declared.cursor.RawIter.{RawIter}

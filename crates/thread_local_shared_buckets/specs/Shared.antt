@@ -84,13 +84,13 @@ use denote.Memory.{shared_of}
 use denote.RawPtr.{Ptr, block_ptr, null_ptr, block_of, count_of, InBlock, Testable, coded_ptr}
 use denote.Sharing.{said, beside, some, ends, always}
 use Rattle.std.specs.Sync.RawAtomic.Pointer.{cell}
-use Rattle.thread_local_model.specs.Place.{id_at}
+use Rattle.thread_local_base.specs.Place.{id_at}
 use Rattle.thread_local_ids.specs.Rights.{right_owns, reached_owns}
 use Rattle.thread_local_judged.specs.Judged.{Shareable, Judged}
-use Rattle.thread_local_model.specs.Bits.{is_set_in}
+use Rattle.thread_local_base.specs.Bits.{is_set_in}
 use Rattle.thread_local_bucket_pointers.specs.Slots.{heap_token, chunks, each, AreWords, block_ty, Fits, value_offset, flags_at}
 use Rattle.thread_local_bucket_pointers.specs.Slots.{content_at, back, empty_slots}
-use Rattle.thread_local_model.specs.Fact.{fact}
+use Rattle.thread_local_base.specs.Fact.{fact}
 use Rattle.thread_local_ids.specs.Told.{untold_in, tells, told_or_untold, all_told_or_untold}
 
 -- 1. What is known of a bucket, of a sharing and of a block.

@@ -1,6 +1,6 @@
 -- The steps of one call of a walk: loads and looks, by what they find.
 use Rattle.std.specs.Prelude.{◌≡◌, Bool, false, List, [], ◌∷◌, IsTrue, MatchBool, if◌then◌else◌}
-use Rattle.thread_local_model.specs.Cursor.{Cursor, may_load, after_load, after_look}
+use Rattle.thread_local_base.specs.Cursor.{Cursor, may_load, after_load, after_look}
 
 -- the cursor after the next step, by what the step finds: a look finds a value or none, and a load
 -- finds the bucket or none

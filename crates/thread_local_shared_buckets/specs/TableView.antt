@@ -2,7 +2,7 @@
 use Rattle.std.specs.Prelude.{◌≡◌, ℕ, ◌<◌, Bool, false, Option, None, List, nat_lt, slice_index_or, refl}
 use base.Stored.{coded_bool}
 use Rattle.std.specs.Coded.{Coded, coded_ℕ, coded_option, coded×, code_by}
-use Rattle.thread_local_model.specs.Place.{id_at}
+use Rattle.thread_local_base.specs.Place.{id_at}
 use Rattle.thread_local_shared_buckets.specs.Shared.{BucketView}
 
 -- the name of the table, the sharing if that has a name, how many of the table's first slots are

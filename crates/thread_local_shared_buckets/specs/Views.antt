@@ -2,7 +2,7 @@
 use Rattle.std.specs.Prelude.{ℕ, Bool, Option, refl}
 use base.Stored.{coded_bool}
 use Rattle.std.specs.Coded.{Coded, coded×, coded_ℕ, coded_option, code_by}
-use Rattle.thread_local_model.specs.Learnt.{Learnt, learnt_coded}
+use Rattle.thread_local_base.specs.Learnt.{Learnt, learnt_coded}
 
 -- its table, the sharing if that has a name, its id, whether the id's bucket is reserved, and what it
 -- has learnt of the id's slot

@@ -1,8 +1,8 @@
 //! A claim of a slot, in three states: its bucket was missing, the slot is vacant, the slot holds a
 //! value. It begins in any of them, and goes on from one to the next.
 ghost use Rattle.std.specs.Prelude.{◌≡◌, ◌≢◌, ◌/◌, ◌^◌, ◌<◌, ◌⊎◌, true, Some, IsSome, is_some, OnOk, OnErr, MatchBool, MatchOption};
-ghost use Rattle.thread_local_model.specs.Learnt.{Unknown, Missing, Vacant, Holding, Finds, learnt_by_install, learnt_by_publish};
-ghost use Rattle.thread_local_model.specs.Place.{IsPlaceOf};
+ghost use Rattle.thread_local_base.specs.Learnt.{Unknown, Missing, Vacant, Holding, Finds, learnt_by_install, learnt_by_publish};
+ghost use Rattle.thread_local_base.specs.Place.{IsPlaceOf};
 ghost use Rattle.thread_local_bucket_pointers.specs.Slots.{empty_slots, flag_word_at};
 ghost use Rattle.thread_local_shared_buckets.specs.Known.{HasLooked, value_held, with_bucket};
 
@@ -13,7 +13,7 @@ use std::alloc::{AllocError, Global};
 use std::marker::Model;
 use thread_local_bucket_pointers::{Block, flag_word_at};
 use thread_local_ids::{HeldId, Reached, Right, Token};
-use thread_local_thread_id::Thread;
+use thread_local_base::Thread;
 
 /// The slot of an id, for the holder of the id, whose right lies with the slot meanwhile. Contracts
 /// see its table, the sharing, its id, whether its bucket is reserved, and what it has learnt of
@@ -30,7 +30,7 @@ pub struct Claim<'a, T> {
 
 impl<'a, T> Model for Claim<'a, T> {
     ghost use Rattle.std.specs.Prelude.{◌≡◌};
-    ghost use Rattle.thread_local_model.specs.Place.{index_of};
+    ghost use Rattle.thread_local_base.specs.Place.{index_of};
     ghost use Rattle.thread_local_shared_buckets.specs.Known.{HasLooked};
     ghost use Rattle.thread_local_shared_buckets.specs.Views.{ClaimView, claim_view_coded};
 

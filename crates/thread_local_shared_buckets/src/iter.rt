@@ -2,7 +2,7 @@
 ghost use Rattle.std.specs.Prelude.{◌≡◌, suc, ◌+◌, ◌-◌, ◌^◌, ◌<◌, ◌⊎◌, true, false, None, Some, IfSome, is_some, option_map};
 ghost use Rattle.std.specs.Iterator.{UpTo};
 ghost use Rattle.std.specs.Iterator.SizeHint.{IsWithinCount};
-ghost use Rattle.thread_local_model.specs.Cursor.{cursor_id};
+ghost use Rattle.thread_local_base.specs.Cursor.{cursor_id};
 ghost use Rattle.thread_local_judged.specs.Judged.{Shareable};
 ghost use Rattle.thread_local_shared_buckets.specs.Positions.{owed, OwnIsTold};
 ghost use Rattle.thread_local_shared_buckets.specs.Walks.{WalkView, fresh, fresh_with, Goes, CanGo, ids_left};
@@ -15,7 +15,7 @@ use std::iter::FusedIterator;
 use std::marker::Model;
 use thread_local_bucket_pointers::write_struct;
 use thread_local_ids::{Token, Told, Witness};
-use thread_local_thread_id::Thread;
+use thread_local_base::Thread;
 
 /// The values of shared buckets, by ascending id, each lent as `&`, while other threads may publish
 /// more. A value that is published behind the walk isn't given, and one ahead of it may be.

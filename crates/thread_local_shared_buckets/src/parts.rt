@@ -1,12 +1,12 @@
 //! What shared buckets consist of: 63 pointers, the heap, and the number of reserved slots, in the
 //! layout of an owner's buckets.
-ghost use Rattle.thread_local_model.specs.Owned.{AreOfFirstBuckets};
+ghost use Rattle.thread_local_base.specs.Owned.{AreOfFirstBuckets};
 ghost use Rattle.thread_local_shared_buckets.specs.TableView.{TableView, table_view_coded, table_view_of, AreBuckets};
 
 use crate::SharedBucket;
 use std::alloc::Global;
 use std::marker::Model;
-use thread_local_thread_id::BUCKETS;
+use thread_local_base::BUCKETS;
 
 /// The 63 buckets, by number.
 pub(crate) struct SharedArray<T> {

@@ -1,8 +1,8 @@
 //! The slots of a bucket that stands, seen by any thread: each is empty until its flag is set, and
 //! holds its value from then on.
 ghost use Rattle.std.specs.Prelude.{◌≡◌, ℕ, ◌+◌, ◌*◌, ◌^◌, ◌<◌, true, List};
-ghost use Rattle.thread_local_model.specs.Bits.{is_set};
-ghost use Rattle.thread_local_model.specs.Place.{id_at};
+ghost use Rattle.thread_local_base.specs.Bits.{is_set};
+ghost use Rattle.thread_local_base.specs.Place.{id_at};
 ghost use Rattle.thread_local_ids.specs.TokenLists.{AllOf};
 ghost use Rattle.thread_local_judged.specs.Judged.{Shareable};
 ghost use Rattle.thread_local_bucket_pointers.specs.Slots.{flag_word_at};

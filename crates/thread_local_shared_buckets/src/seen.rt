@@ -1,8 +1,8 @@
 //! What one load of a word of flags saw: which of the 64 slots of a chunk had a value.
 ghost use Rattle.std.specs.Prelude.{◌≡◌, ℕ, ◌+◌, ◌*◌, ◌<◌, true, List};
 ghost use types.Logic.{sem};
-ghost use Rattle.thread_local_model.specs.Bits.{is_set};
-ghost use Rattle.thread_local_model.specs.Place.{id_at};
+ghost use Rattle.thread_local_base.specs.Bits.{is_set};
+ghost use Rattle.thread_local_base.specs.Place.{id_at};
 ghost use Rattle.thread_local_shared_buckets.specs.Shared.{BucketView, bucket_view_coded, seen_owns, pinned_at};
 ghost use denote.Sharing.{said};
 ghost use denote.RawPtr.{Ptr, coded_ptr};

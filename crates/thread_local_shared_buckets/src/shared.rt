@@ -1,9 +1,9 @@
 //! A table's buckets while threads share them through a `&`. By value or through a `&mut` they are
 //! an owner's `Buckets` again.
 ghost use Rattle.std.specs.Prelude.{◌≡◌, ◌≢◌, ◌+◌, ◌-◌, ◌*◌, ◌^◌, ◌<◌, ◌≤◌, ℕ, max, true, false, None, Option, IfSome, IsSome};
-ghost use Rattle.thread_local_model.specs.Learnt.{Unknown, Missing, Finds};
-ghost use Rattle.thread_local_model.specs.Owned.{IsOwned, AreOfFirstBuckets};
-ghost use Rattle.thread_local_model.specs.Place.{bucket_of, id_at};
+ghost use Rattle.thread_local_base.specs.Learnt.{Unknown, Missing, Finds};
+ghost use Rattle.thread_local_base.specs.Owned.{IsOwned, AreOfFirstBuckets};
+ghost use Rattle.thread_local_base.specs.Place.{bucket_of, id_at};
 ghost use Rattle.thread_local_judged.specs.Judged.{Judged};
 ghost use Rattle.thread_local_ids.specs.TokenLists.{NoneIn};
 ghost use Rattle.thread_local_shared_buckets.specs.Known.{HasLooked};
@@ -18,7 +18,7 @@ use std::marker::{Move, Owns, PhantomData};
 use thread_local_bucket_pointers::BucketPointers;
 use thread_local_buckets::Buckets;
 use thread_local_ids::{Book, HeldId, Reached, Right, Token, TokenList};
-use thread_local_thread_id::{BUCKETS, Thread, bucket_size};
+use thread_local_base::{BUCKETS, Thread, bucket_size};
 
 mod lends;
 

@@ -1,6 +1,6 @@
 //! A value without bytes, by which a walk knows that threads may share the values that it lends.
 ghost use Rattle.thread_local_judged.specs.Judged.{Shareable};
-ghost use Rattle.thread_local_model.specs.Fact.{fact};
+ghost use Rattle.thread_local_base.specs.Fact.{fact};
 ghost use denote.Sharing.{said};
 
 use std::marker::{Model, PhantomData};

@@ -2,7 +2,7 @@
 //! loads the next words of flags first, until one has a flag that is set.
 ghost use Rattle.std.specs.Prelude.{◌≡◌, ◌≢◌, ◌+◌, ◌-◌, ◌*◌, ◌/◌, ◌%◌, ◌^◌, ◌<◌, ◌≤◌, ℕ, true, false, None, IfSome, MatchOption, option_map};
 ghost use Rattle.thread_local_judged.specs.Judged.{Shareable};
-ghost use Rattle.thread_local_model.specs.Bits.{IsWordBut};
+ghost use Rattle.thread_local_base.specs.Bits.{IsWordBut};
 ghost use Rattle.thread_local_ids.specs.TokenLists.{AllOf, NoneIn};
 ghost use Rattle.thread_local_shared_buckets.specs.Walks.{Meets};
 ghost use Rattle.thread_local_shared_buckets.specs.Positions.{past, lies_in, is_at, own_index, OwnIsTold, IsToldAt, MovesBehind};
@@ -13,7 +13,7 @@ use crate::shared::Shared;
 use crate::{Row, Seen};
 use thread_local_bucket_pointers::{RawIter, flag_word_at, without_first};
 use thread_local_ids::{TokenList, Told, Witness};
-use thread_local_thread_id::{BUCKETS, Thread, bucket_size};
+use thread_local_base::{BUCKETS, Thread, bucket_size};
 
 /// The walker's own value, the place of its id, and what shows that its slot was published with it.
 #[derive(Drop)]

@@ -8,7 +8,7 @@ use thread_local_buckets::Buckets;
 use thread_local_ids::{Ids, TokenList};
 use thread_local_judged::Judge;
 use thread_local_shared_buckets::{Claim, Shared};
-use thread_local_thread_id::Thread;
+use thread_local_base::Thread;
 
 impl<T: Drop> Kept<'_, T> {
     /// Publishes a value if the slot is vacant, and answers whether it did.

@@ -13,7 +13,7 @@ use thread_local_ids::{HeldId, Ids, Lock, Right, Rights};
 use thread_local_judged::judge_sync;
 use thread_local_shared_buckets::Shared;
 use thread_local_test_helpers::counted::Counted;
-use thread_local_thread_id::Thread;
+use thread_local_base::Thread;
 
 #[test]
 fn each_value_is_dropped_once(rt: HostRuntime) -> Result<(), Fail> {

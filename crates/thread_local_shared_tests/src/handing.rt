@@ -12,7 +12,7 @@ use thread_local_buckets::Buckets;
 use thread_local_ids::{HeldId, Ids, Right};
 use thread_local_judged::{Judge, judge_sync};
 use thread_local_shared_buckets::Shared;
-use thread_local_thread_id::Thread;
+use thread_local_base::Thread;
 
 /// Adds to the number at an id, and answers what was there.
 fn add(

@@ -2,7 +2,7 @@
 ghost use Rattle.std.specs.Prelude.{◌≡◌, ◌<◌, ◌^◌};
 ghost use Rattle.thread_local_bucket_pointers.specs.Slots.{empty_slots};
 ghost use Rattle.thread_local_ids.specs.Rights.{taken_id};
-ghost use Rattle.thread_local_model.specs.Place.{bucket_of};
+ghost use Rattle.thread_local_base.specs.Place.{bucket_of};
 
 use crate::steps::{Kept, left, look, publish_claimed, take};
 use std::alloc::Global;

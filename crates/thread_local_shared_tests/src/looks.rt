@@ -5,7 +5,7 @@ use std::test::Fail;
 use thread_local_buckets::Buckets;
 use thread_local_ids::Ids;
 use thread_local_shared_buckets::Shared;
-use thread_local_thread_id::Thread;
+use thread_local_base::Thread;
 
 /// What a walker finds at three ids, each in a bucket of its own, the last at neither end of its
 /// bucket.

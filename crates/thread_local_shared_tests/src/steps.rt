@@ -1,14 +1,14 @@
 //! What a test does with one id of a table.
 ghost use Rattle.std.specs.Prelude.{◌≡◌, ◌-◌, ◌^◌, ◌<◌, IfOk};
 ghost use Rattle.thread_local_ids.specs.Rights.{taken_id};
-ghost use Rattle.thread_local_model.specs.Bits.{is_set};
+ghost use Rattle.thread_local_base.specs.Bits.{is_set};
 
 use std::alloc::Global;
 use thread_local_bucket_pointers::flag_word_at;
 use thread_local_buckets::Buckets;
 use thread_local_ids::{HeldId, Ids, Right, Tenure, TokenList};
 use thread_local_shared_buckets::{Claim, Shared};
-use thread_local_thread_id::{LocalError, Thread};
+use thread_local_base::{LocalError, Thread};
 
 /// Takes an id that isn't given back.
 pub fn take(ids: &mut Ids) -> Result<(HeldId, Right), LocalError>

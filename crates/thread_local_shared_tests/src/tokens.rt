@@ -1,8 +1,8 @@
 //! What slots were published with, as tokens say it: to claims, to walkers and to an owner.
 ghost use Rattle.std.specs.Prelude.{◌≡◌, ◌≢◌, ◌-◌, ◌<◌, Some, IfSome, IsSome};
 ghost use Rattle.thread_local_ids.specs.Rights.{taken_id};
-ghost use Rattle.thread_local_model.specs.Buckets.{values};
-ghost use Rattle.thread_local_model.specs.Learnt.{Vacant};
+ghost use Rattle.thread_local_base.specs.Buckets.{values};
+ghost use Rattle.thread_local_base.specs.Learnt.{Vacant};
 
 use crate::steps::{publish, take};
 use std::alloc::Global;
@@ -12,7 +12,7 @@ use thread_local_buckets::Buckets;
 use thread_local_ids::{HeldId, Ids, Right, Tenure, Token};
 use thread_local_judged::{Judge, judge_sync};
 use thread_local_shared_buckets::{Claim, Shared};
-use thread_local_thread_id::Thread;
+use thread_local_base::Thread;
 
 /// Publishes a value, and answers a token of what the slot was published with.
 fn told<T: Drop>(

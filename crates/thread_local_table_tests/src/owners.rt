@@ -1,7 +1,7 @@
 //! What an owner finds in the buckets that a table lends.
 ghost use Rattle.std.specs.Prelude.{◌≡◌, true, length, sum};
-ghost use Rattle.thread_local_model.specs.Buckets.{values};
-ghost use Rattle.thread_local_model.specs.Walk.{walk};
+ghost use Rattle.thread_local_base.specs.Buckets.{values};
+ghost use Rattle.thread_local_base.specs.Walk.{walk};
 ghost use Rattle.thread_local_buckets.specs.IterMut.{iter_mut_rest};
 
 use crate::locals::{lends, numbers, publish_and_forget, published_by_another};
@@ -9,7 +9,7 @@ use std::alloc::{AllocError, Global};
 use std::test::Fail;
 use thread_local::ThreadLocal;
 use thread_local_buckets::{Buckets, IterMut};
-use thread_local_thread_id::Thread;
+use thread_local_base::Thread;
 
 /// How many values a walk lends, and their sum.
 fn lent(walk: IterMut<'_, u32>) -> (usize, u128)

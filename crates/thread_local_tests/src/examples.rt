@@ -1,7 +1,7 @@
 //! Programs of a few lines, as users of `thread_local` write them.
 ghost use Rattle.std.specs.Prelude.{◌≡◌, IfOk, None, length};
-ghost use Rattle.thread_local_model.specs.Buckets.{values};
-ghost use Rattle.thread_local_model.specs.Walk.{walk};
+ghost use Rattle.thread_local_base.specs.Buckets.{values};
+ghost use Rattle.thread_local_base.specs.Walk.{walk};
 
 use std::alloc::{AllocError, Global};
 use std::cell::Cell;

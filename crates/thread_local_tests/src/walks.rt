@@ -7,7 +7,7 @@ use std::thread;
 use std::thread::Threads;
 use thread_local::ThreadLocal;
 use thread_local_buckets::{IntoIter, IterMut};
-use thread_local_thread_id::LocalError;
+use thread_local_base::LocalError;
 
 /// Three `Local`s that were taken in order publish 1, 2 and 3, each in a thread of its own, which
 /// the end of the scope joins. Answers whether the threads were started.

@@ -4,9 +4,9 @@ use Rattle.std.proofs.Common.{◌++◌, length, get_or, take, drop, refl, ap, sy
 use Rattle.std.proofs.lemmas.List.{take_more}
 use Rattle.std.proofs.lemmas.Option.{slice_get-get_or}
 use Rattle.std.proofs.Math.Seq.{drop-cons}
-use Rattle.thread_local_model.specs.Held.{is_held, least, with_least, without, HoldsAllBelow}
-use Rattle.thread_local_model.specs.IdMoves.{IdMove, held_after, noted}
-use Rattle.thread_local_model.proofs.IdMoveLaws.{after_take, after_give}
+use Rattle.thread_local_base.specs.Held.{is_held, least, with_least, without, HoldsAllBelow}
+use Rattle.thread_local_base.specs.IdMoves.{IdMove, held_after, noted}
+use Rattle.thread_local_base.proofs.IdMoveLaws.{after_take, after_give}
 use Rattle.thread_local_tls.specs.Moves.{id_move, history_of, ids_given, MayMove, MayRun, GivesWhatIsNotHeld, RunsOutOfIds}
 use Rattle.thread_local_tls.specs.declared.moves.Move.{Move}
 use Rattle.thread_local_tls.specs.declared.moves.Move.TheVariants.{Take, Give}

@@ -3,7 +3,7 @@ use Rattle.std.specs.Prelude.{◌≡◌, ℕ, ◌++◌, List, [], ◌∷◌, Opt
 use Rattle.std.specs.Io.KnownBytes.{Appends, Keeps}
 use Rattle.thread_local_tls.specs.Moves.{ids_given}
 use Rattle.thread_local_tls.specs.Words.{IsRunnable, NamesMoves, MayBeRun, tally_of, lines_of}
-use Rattle.thread_local_thread_id.specs.declared.manager.LocalError.{LocalError}
+use Rattle.thread_local_base.specs.declared.manager.LocalError.{LocalError}
 use Rattle.thread_local_tls.specs.declared.fault.Fault.{Fault}
 use Rattle.thread_local_tls.specs.declared.fault.Fault.TheVariants.{Usage, Memory, Write}
 use Rattle.thread_local_tls.specs.declared.moves.IdsError.{IdsError}

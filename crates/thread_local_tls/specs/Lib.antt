@@ -1,4 +1,4 @@
-pub use Rattle.thread_local_model.specs.Held
+pub use Rattle.thread_local_base.specs.Held
 pub mod Limits
 pub mod Moves
 pub mod Words

@@ -1,8 +1,8 @@
 -- The moves of `tls ids`: which ids they take, and when they may run.
 use Rattle.std.specs.Prelude.{◌≡◌, ℕ, ◌-◌, ◌^◌, Bool, false, List, [], ◌∷◌, map, take, slice_get, Some, IsTrue}
-use Rattle.thread_local_model.specs.Held.{is_held, least, HoldsAllBelow}
-use Rattle.thread_local_model.specs.IdMoves as ids
-use Rattle.thread_local_model.specs.IdMoves.{IdMove, held_after, noted}
+use Rattle.thread_local_base.specs.Held.{is_held, least, HoldsAllBelow}
+use Rattle.thread_local_base.specs.IdMoves as ids
+use Rattle.thread_local_base.specs.IdMoves.{IdMove, held_after, noted}
 use Rattle.thread_local_tls.specs.declared.moves.Move.{Move}
 use Rattle.thread_local_tls.specs.declared.moves.Move.TheVariants.{Take, Give}
 

@@ -1,7 +1,7 @@
 //! Runs a command: reads the words, runs it, then writes its output, or the line of its fault.
 ghost use Rattle.std.specs.Prelude.{◌≡◌, ◌≤◌, ◌⊎◌, None, Some, Err, OnOk, IfErr, IsErrOf};
 ghost use Rattle.std.specs.Io.KnownBytes.{Appends, Keeps};
-ghost use Rattle.thread_local_thread_id.specs.declared.manager.LocalError.{LocalError};
+ghost use Rattle.thread_local_base.specs.declared.manager.LocalError.{LocalError};
 ghost use Rattle.thread_local_tls.specs.Words.{texts, tally_of, lines_of, MayNotRun, IsMisuse, IsRunnable, NamesMoves, MayBeRun};
 ghost use Rattle.thread_local_tls.specs.Limits.{IsWithinLimits};
 ghost use Rattle.thread_local_tls.specs.Faults.{Answers, AnswersIds, IsToldAndWritten, IsTold, MayBeRefused, IsRefused, IsCutOff};
@@ -11,7 +11,7 @@ use crate::moves::ids;
 use crate::words::{moves_named, tally_of};
 use std::alloc::Global;
 use std::io::Write;
-use thread_local_thread_id::LocalError;
+use thread_local_base::LocalError;
 
 /// Runs the command that the words name, and answers the program's status: 0 if it is done, 1 if
 /// memory, ids or a write was refused, 2 if the words are no command. The output goes to `out`,

@@ -5,7 +5,7 @@ ghost use Rattle.thread_local_tls.specs.Faults.{IsBegun};
 use crate::moves::IdsError;
 use std::alloc::{AllocError, AllocFailed};
 use std::io::Write;
-use thread_local_thread_id::LocalError;
+use thread_local_base::LocalError;
 
 /// Why the program ends with a status other than 0.
 #[derive(Clone, Copy)]

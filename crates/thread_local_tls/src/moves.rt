@@ -3,7 +3,7 @@ ghost use Rattle.std.specs.Prelude.{◌≡◌, [], IfOk, IsErrOf};
 ghost use Rattle.thread_local_tls.specs.Moves.{ids_given, MayRun, GivesWhatIsNotHeld, RunsOutOfIds};
 
 use std::alloc::{AllocError, Global};
-use thread_local_thread_id::{LocalError, ThreadIdManager};
+use thread_local_base::{LocalError, ThreadIdManager};
 
 /// A step of `tls ids`.
 #[derive(Clone, Copy)]

@@ -16,7 +16,7 @@ ghost use Rattle.thread_local_tls.specs.Limits.{IsWithinLimits};
 use crate::gate::Open;
 use crate::workers::tally;
 use std::process::ExitCode;
-use thread_local_thread_id::LocalError;
+use thread_local_base::LocalError;
 use thread_local_tls::{read_arguments, run};
 
 /// Answers the command line, on standard output and standard error.

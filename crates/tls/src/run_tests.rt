@@ -10,7 +10,7 @@ use std::process::Abort;
 use std::sync::Wait;
 use std::test::Fail;
 use std::thread::Threads;
-use thread_local_thread_id::LocalError;
+use thread_local_base::LocalError;
 use thread_local_tls::run;
 
 /// A writer over memory that fails at its write with this number, counted from 0, and at each flush

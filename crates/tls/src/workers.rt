@@ -14,7 +14,7 @@ use std::thread;
 use std::thread::Threads;
 use thread_local::ThreadLocal;
 use thread_local_judged::Judge;
-use thread_local_thread_id::LocalError;
+use thread_local_base::LocalError;
 
 /// Adds up the numbers from 1 to `numbers` with `workers` workers, each a thread: worker w adds
 /// each k with k mod `workers` = w in a cell of its own, and makes no step on shared memory

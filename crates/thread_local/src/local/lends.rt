@@ -6,7 +6,7 @@ ghost use types.Logic.{sem};
 ghost use denote.Follow.{follows_so};
 ghost use mathlib.Core.Option.{none};
 ghost use mir.Syntax.{named};
-ghost use Rattle.thread_local_model.specs.Answers.{GetOr, Refused, answer};
+ghost use Rattle.thread_local_base.specs.Answers.{GetOr, Refused, answer};
 ghost use Rattle.thread_local.specs.Locals.{knows, IsAnswered, Fills, IsRefused};
 ghost use Rattle.thread_local.specs.contracts.local.Local.{the_row};
 

@@ -1,14 +1,14 @@
 //! Clearing a table: every value is dropped, reserved buckets stay, and all others are freed.
 ghost use Rattle.std.specs.Prelude.{◌≡◌, ℕ, ◌+◌, ◌<◌, ◌≤◌, [], true, false, IsTrue};
-ghost use Rattle.thread_local_model.specs.Place.{id_at};
-ghost use Rattle.thread_local_model.specs.Buckets.{row, stands, IsTable};
-ghost use Rattle.thread_local_model.specs.Rows.{with_row, empty_row};
-ghost use Rattle.thread_local_model.specs.Owner.{cleared_row};
+ghost use Rattle.thread_local_base.specs.Place.{id_at};
+ghost use Rattle.thread_local_base.specs.Buckets.{row, stands, IsTable};
+ghost use Rattle.thread_local_base.specs.Rows.{with_row, empty_row};
+ghost use Rattle.thread_local_base.specs.Owner.{cleared_row};
 ghost use Rattle.thread_local_bucket_pointers.specs.Clearing.{AreCleared, AnyStands};
 
 use super::BucketPointers;
 use crate::FlagSource;
-use thread_local_thread_id::bucket_size;
+use thread_local_base::bucket_size;
 
 impl<T> BucketPointers<T> {
     /// Whether any of eight buckets stands, from this one on. Eight pointers are tested at once.

@@ -1,13 +1,13 @@
 //! Counting the values of a table by the flags of its slots, 64 at a time.
 ghost use Rattle.std.specs.Prelude.{◌≡◌, ◌≢◌, ◌+◌, ◌*◌, ◌/◌, ◌^◌, ◌<◌, ◌≤◌, min, length};
-ghost use Rattle.thread_local_model.specs.Place.{id_at};
-ghost use Rattle.thread_local_model.specs.Buckets.{row, values};
-ghost use Rattle.thread_local_model.specs.Walk.{walk};
-ghost use Rattle.thread_local_model.specs.Counting.{count_below};
+ghost use Rattle.thread_local_base.specs.Place.{id_at};
+ghost use Rattle.thread_local_base.specs.Buckets.{row, values};
+ghost use Rattle.thread_local_base.specs.Walk.{walk};
+ghost use Rattle.thread_local_base.specs.Counting.{count_below};
 
 use super::BucketPointers;
 use crate::FlagSource;
-use thread_local_thread_id::bucket_size;
+use thread_local_base::bucket_size;
 
 impl<T> BucketPointers<T> {
     /// The flags of eight chunks, from this one on, or-ed together. They are 0 exactly where none of

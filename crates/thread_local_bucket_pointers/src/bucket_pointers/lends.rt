@@ -3,12 +3,12 @@
 ghost use Rattle.std.specs.Prelude.{◌≡◌, ◌<◌, length, Some, IsSome};
 ghost use types.Logic.{sem};
 ghost use Rattle.std.specs.Borrow.{follows};
-ghost use Rattle.thread_local_model.specs.Buckets.{row};
-ghost use Rattle.thread_local_model.specs.Rows.{value_in, with_slot};
+ghost use Rattle.thread_local_base.specs.Buckets.{row};
+ghost use Rattle.thread_local_base.specs.Rows.{value_in, with_slot};
 ghost use Rattle.thread_local_bucket_pointers.specs.contracts.bucket_pointers.BucketPointers.{the_row};
 
 use super::BucketPointers;
-use thread_local_thread_id::Thread;
+use thread_local_base::Thread;
 
 impl<T> BucketPointers<T> {
     /// Lends the value in the slot of a place for writing.

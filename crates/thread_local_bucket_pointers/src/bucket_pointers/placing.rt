@@ -1,13 +1,13 @@
 //! What an owner does at the place of an id: make its bucket, look for a value, and publish one.
 ghost use Rattle.std.specs.Prelude.{◌≡◌, ◌<◌, [], true, false, length, Some, None, is_some, IsSome, OnOk, OnErr};
-ghost use Rattle.thread_local_model.specs.Buckets.{row, stands, IsTable};
-ghost use Rattle.thread_local_model.specs.Rows.{value_in, with_slot};
-ghost use Rattle.thread_local_model.specs.Owner.{with_bucket};
+ghost use Rattle.thread_local_base.specs.Buckets.{row, stands, IsTable};
+ghost use Rattle.thread_local_base.specs.Rows.{value_in, with_slot};
+ghost use Rattle.thread_local_base.specs.Owner.{with_bucket};
 
 use super::BucketPointers;
 use crate::FlagSource;
 use std::alloc::AllocError;
-use thread_local_thread_id::Thread;
+use thread_local_base::Thread;
 
 impl<T> BucketPointers<T> {
     /// Makes the bucket if it doesn't stand, and only then asks for memory. `Err` means out of

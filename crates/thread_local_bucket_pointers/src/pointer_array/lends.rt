@@ -5,8 +5,8 @@ ghost use types.Logic.{sem};
 ghost use Rattle.std.specs.Borrow.{follows};
 ghost use Rattle.thread_local_bucket_pointers.specs.contracts.bucket_pointer.BucketPointer.{the_row as pointer_row};
 ghost use Rattle.thread_local_bucket_pointers.specs.contracts.pointer_array.PointerArray.{the_row};
-ghost use Rattle.thread_local_model.specs.Buckets.{row};
-ghost use Rattle.thread_local_model.specs.Rows.{value_in};
+ghost use Rattle.thread_local_base.specs.Buckets.{row};
+ghost use Rattle.thread_local_base.specs.Rows.{value_in};
 ghost use Rattle.thread_local_bucket_pointers.specs.Pointers.{null_pointer, with_pointer, pointers_with_value, contents_of};
 
 use super::PointerArray;

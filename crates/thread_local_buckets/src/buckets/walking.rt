@@ -1,9 +1,9 @@
 //! The steps of the walks that move values out of an owner's buckets.
 ghost use Rattle.std.specs.Prelude.{◌≡◌, ◌+◌, ◌<◌, ◌∷◌};
-ghost use Rattle.thread_local_model.specs.Buckets.{values};
-ghost use Rattle.thread_local_model.specs.Walk.{walk, paired};
+ghost use Rattle.thread_local_base.specs.Buckets.{values};
+ghost use Rattle.thread_local_base.specs.Walk.{walk, paired};
 ghost use Rattle.thread_local_bucket_pointers.specs.Cursor.{values_left, IsOwnerWalk};
-ghost use Rattle.thread_local_model.specs.Owner.{emptied};
+ghost use Rattle.thread_local_base.specs.Owner.{emptied};
 ghost use Rattle.thread_local_buckets.specs.Emptied.{owned_emptied};
 
 use super::Buckets;

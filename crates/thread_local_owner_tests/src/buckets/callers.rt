@@ -1,15 +1,15 @@
 //! Callers whose own contracts follow from those of the calls.
 ghost use Rattle.std.specs.Prelude.{◌≡◌, ℕ, None, IfOk, IsSome, is_some, sum};
-ghost use Rattle.thread_local_model.specs.Buckets.{stands, values};
-ghost use Rattle.thread_local_model.specs.Rows.{value_in};
-ghost use Rattle.thread_local_model.specs.Walk.{walk};
-ghost use Rattle.thread_local_model.specs.Owner.{with_published};
+ghost use Rattle.thread_local_base.specs.Buckets.{stands, values};
+ghost use Rattle.thread_local_base.specs.Rows.{value_in};
+ghost use Rattle.thread_local_base.specs.Walk.{walk};
+ghost use Rattle.thread_local_base.specs.Owner.{with_published};
 
 use std::alloc::{AllocError, Global};
 use std::cell::Cell;
 use std::test::Fail;
 use thread_local_buckets::Buckets;
-use thread_local_thread_id::Thread;
+use thread_local_base::Thread;
 
 /// A caller at any type: a value that is inserted is what the walk gives first.
 fn inserted_and_taken<T: Send + Drop>(alloc: Global, value: T) -> Result<Option<T>, T> {

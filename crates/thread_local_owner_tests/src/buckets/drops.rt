@@ -13,7 +13,7 @@ use std::sync::atomic::Ordering::SeqCst;
 use std::test::Fail;
 use thread_local_buckets::Buckets;
 use thread_local_test_helpers::memory::take_all_but;
-use thread_local_thread_id::Thread;
+use thread_local_base::Thread;
 
 struct Counted<'a> {
     number: u32,

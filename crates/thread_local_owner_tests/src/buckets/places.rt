@@ -6,7 +6,7 @@ use std::cell::Cell;
 use std::io::Print;
 use std::test::Fail;
 use thread_local_buckets::{Buckets, CapacityError, IntoIter};
-use thread_local_thread_id::Thread;
+use thread_local_base::Thread;
 
 #[test]
 fn a_capacity_reserves_whole_buckets(rt: HostRuntime) -> Result<(), Fail> {

@@ -1,8 +1,8 @@
 //! A claim that found its bucket missing installs a block for it.
 ghost use Rattle.std.specs.Prelude.{◌≡◌, ◌^◌, ◌<◌, IfSome};
 ghost use Rattle.thread_local_bucket_pointers.specs.Slots.{empty_slots};
-ghost use Rattle.thread_local_model.specs.Learnt.{Missing, Vacant};
-ghost use Rattle.thread_local_model.specs.Place.{bucket_of};
+ghost use Rattle.thread_local_base.specs.Learnt.{Missing, Vacant};
+ghost use Rattle.thread_local_base.specs.Place.{bucket_of};
 
 use super::{ClaimedSlot, VACANT};
 use crate::SharedBucket;

@@ -1,6 +1,6 @@
 //! The value of a claim's slot, lent for longer than the claim.
 ghost use Rattle.std.specs.Prelude.{◌≡◌, true, is_some};
-ghost use Rattle.thread_local_model.specs.Learnt.{Holding};
+ghost use Rattle.thread_local_base.specs.Learnt.{Holding};
 ghost use Rattle.thread_local_shared_buckets.specs.Known.{value_held};
 
 use super::ClaimedSlot;

@@ -1,7 +1,7 @@
 //! What shows with which value a claim's slot was published (`witness`), and that a claim holds what
 //! another such thing says (`agrees`).
 ghost use Rattle.std.specs.Prelude.{◌≡◌, true, is_some, IsSome};
-ghost use Rattle.thread_local_model.specs.Learnt.{Holding};
+ghost use Rattle.thread_local_base.specs.Learnt.{Holding};
 ghost use Rattle.thread_local_shared_buckets.specs.Known.{HasLooked, value_held};
 
 use super::ClaimedSlot;

@@ -9,7 +9,7 @@ use thread_local_buckets::Buckets;
 use thread_local_ids::{Right, Token, TokenList, Told};
 use thread_local_judged::{Judge, judge_sync};
 use thread_local_shared_buckets::{Row, Shared, SharedBucket};
-use thread_local_thread_id::bucket_size;
+use thread_local_base::bucket_size;
 
 fn crosses<X: Send + Sync>(_there: &X) {}
 

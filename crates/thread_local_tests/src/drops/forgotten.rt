@@ -10,7 +10,7 @@ use thread_local::ThreadLocal;
 use thread_local::local::Local;
 use thread_local_judged::judge_sync;
 use thread_local_test_helpers::counted::Counted;
-use thread_local_thread_id::LocalError;
+use thread_local_base::LocalError;
 
 /// Publishes a counted value. Answers whether it did.
 fn publish_counted<R: Wait>(

@@ -1,5 +1,5 @@
 use Rattle.std.proofs.Common.{◌<◌}
-use Rattle.thread_local_model.specs.Held.{HoldsAllBelow}
+use Rattle.thread_local_base.specs.Held.{HoldsAllBelow}
 use Rattle.thread_local_bench.proofs.ids.highest.Given as goal
 
 -- the id is taken again

@@ -1,4 +1,4 @@
-use Rattle.thread_local_model.specs.Held.{HoldsAllBelow}
+use Rattle.thread_local_base.specs.Held.{HoldsAllBelow}
 use Rattle.thread_local_bench.proofs.ids.holding.Given as goal
 
 -- as many ids as were taken are held

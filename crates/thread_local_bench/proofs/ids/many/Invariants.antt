@@ -1,4 +1,4 @@
-use Rattle.thread_local_model.specs.Held.{HoldsAllBelow}
+use Rattle.thread_local_base.specs.Held.{HoldsAllBelow}
 use Rattle.thread_local_bench.proofs.ids.many.Given as goal
 
 -- each id is taken again

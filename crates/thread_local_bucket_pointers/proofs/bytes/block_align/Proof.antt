@@ -1,9 +1,9 @@
 -- `block_align` is the alignment of a block.
-use Rattle.thread_local_model.proofs.Names.{◌≡◌, ℕ, ◌^◌, ◌<◌, [], ◌∷◌, refl, ap, w64, a_type, Val, vint, inst_fn}
-use Rattle.thread_local_model.proofs.Names.{SProp, ftrue, ‵, raw, ◌⊛◌, ◌$◌, ◌∵◌, !, qed, by, keep, split}
-use Rattle.thread_local_model.proofs.Names.{fjoin, feq_i, flt_i, align_word, of_opd, returns, enter, alloc_all}
-use Rattle.thread_local_model.proofs.Names.{pass_all, free_all, look_at, sets, is, tables, RattleType}
-use Rattle.thread_local_model.proofs.Names.{nothing, param, layouts, alive, walk_of, proved, leaves}
+use Rattle.thread_local_base.proofs.Names.{◌≡◌, ℕ, ◌^◌, ◌<◌, [], ◌∷◌, refl, ap, w64, a_type, Val, vint, inst_fn}
+use Rattle.thread_local_base.proofs.Names.{SProp, ftrue, ‵, raw, ◌⊛◌, ◌$◌, ◌∵◌, !, qed, by, keep, split}
+use Rattle.thread_local_base.proofs.Names.{fjoin, feq_i, flt_i, align_word, of_opd, returns, enter, alloc_all}
+use Rattle.thread_local_base.proofs.Names.{pass_all, free_all, look_at, sets, is, tables, RattleType}
+use Rattle.thread_local_base.proofs.Names.{nothing, param, layouts, alive, walk_of, proved, leaves}
 use prog.Memory.{align}
 use prog.Capped.{capped_is}
 use Rattle.thread_local_bucket_pointers.specs.Slots.{slots_ty}
@@ -11,7 +11,7 @@ use Rattle.thread_local_bucket_pointers.specs.contracts.bytes.block_align.{ended
 use Rattle.thread_local_bucket_pointers.proofs.Rounding.{aligned_fits}
 use Rattle.thread_local_bucket_pointers.proofs.bytes.block_align.Statement.{statement}
 use Rattle.thread_local_bucket_pointers.proofs.bytes.block_align.Code as code
-use Rattle.thread_local_model.proofs.Walking.{knows}
+use Rattle.thread_local_base.proofs.Walking.{knows}
 
 pub block_align_spec : {M : Type 1} → statement M
 block_align_spec 𝓤 𝓛 𝓜 𝓡 wired T L =

@@ -1,16 +1,16 @@
 -- `value_size` is the size of a value.
-use Rattle.thread_local_model.proofs.Names.{◌≡◌, ℕ, ◌^◌, ◌<◌, [], ◌∷◌, refl, w64, a_type, Val, vint, inst_fn}
-use Rattle.thread_local_model.proofs.Names.{SProp, ftrue, ‵, raw, ◌⊛◌, ◌$◌, ◌∵◌, !, qed, by, keep, split}
-use Rattle.thread_local_model.proofs.Names.{fjoin, feq_i, flt_i, size_word, of_opd, returns, enter, alloc_all}
-use Rattle.thread_local_model.proofs.Names.{pass_all, free_all, look_at, sets, tables, RattleType}
-use Rattle.thread_local_model.proofs.Names.{nothing, param, layouts, alive, walk_of, proved, leaves}
+use Rattle.thread_local_base.proofs.Names.{◌≡◌, ℕ, ◌^◌, ◌<◌, [], ◌∷◌, refl, w64, a_type, Val, vint, inst_fn}
+use Rattle.thread_local_base.proofs.Names.{SProp, ftrue, ‵, raw, ◌⊛◌, ◌$◌, ◌∵◌, !, qed, by, keep, split}
+use Rattle.thread_local_base.proofs.Names.{fjoin, feq_i, flt_i, size_word, of_opd, returns, enter, alloc_all}
+use Rattle.thread_local_base.proofs.Names.{pass_all, free_all, look_at, sets, tables, RattleType}
+use Rattle.thread_local_base.proofs.Names.{nothing, param, layouts, alive, walk_of, proved, leaves}
 use prog.Memory.{capped}
 use prog.Capped.{capped_fits}
 use Rattle.thread_local_bucket_pointers.specs.Slots.{stride}
 use Rattle.thread_local_bucket_pointers.specs.contracts.chunk.value_size.{ended, clauses, Key.name as #self}
 use Rattle.thread_local_bucket_pointers.proofs.chunk.value_size.Statement.{statement}
 use Rattle.thread_local_bucket_pointers.proofs.chunk.value_size.Code as code
-use Rattle.thread_local_model.proofs.Walking.{knows}
+use Rattle.thread_local_base.proofs.Walking.{knows}
 
 pub value_size_spec : {M : Type 1} → statement M
 value_size_spec 𝓤 𝓛 𝓜 𝓡 wired T L =

@@ -1,8 +1,8 @@
 use Rattle.std.proofs.Common.{◌≡◌, ℕ, ◌+◌, ◌*◌, ◌<◌, ◌≤◌, ◌/◌, length, refl, sym, ap, ◌∙◌, subst, is_some, arith, ⊎_elim}
 use Rattle.std.proofs.lemmas.Bool.{cases_lt}
-use Rattle.thread_local_model.specs.Bits.{is_set}
-use Rattle.thread_local_model.specs.Buckets.{row}
-use Rattle.thread_local_model.specs.Rows.{value_in}
+use Rattle.thread_local_base.specs.Bits.{is_set}
+use Rattle.thread_local_base.specs.Buckets.{row}
+use Rattle.thread_local_base.specs.Rows.{value_in}
 use Rattle.thread_local_bucket_pointers.specs.Cursor.{AreFlagsAt, read_to}
 use Rattle.thread_local_bucket_pointers.specs.declared.cursor.RawIter.{RawIter}
 use Rattle.thread_local_bucket_pointers.proofs.FlagLaws.{none_at_hand, none_in_chunk, chunk_read, behind_chunk}

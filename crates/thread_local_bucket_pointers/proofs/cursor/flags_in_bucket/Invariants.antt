@@ -1,7 +1,7 @@
 use Rattle.std.proofs.Common.{◌≡◌, ℕ, ◌*◌, ◌≤◌}
-use Rattle.thread_local_model.specs.Place.{id_at}
-use Rattle.thread_local_model.specs.Buckets.{values}
-use Rattle.thread_local_model.specs.Owner.{NoneBelow}
+use Rattle.thread_local_base.specs.Place.{id_at}
+use Rattle.thread_local_base.specs.Buckets.{values}
+use Rattle.thread_local_base.specs.Owner.{NoneBelow}
 use Rattle.thread_local_bucket_pointers.proofs.cursor.flags_in_bucket.Given as goal
 
 -- no value stands before the chunk

@@ -1,12 +1,12 @@
 -- The walk goes from bucket to bucket until it finds flags that aren't 0.
 use Rattle.std.proofs.Common.{◌≡◌, ◌+◌, ◌-◌, ◌*◌, ◌^◌, ◌<◌, ◌≤◌, ℕ, sym, ◌∙◌, ap, subst, arith, [], refl, length}
-use Rattle.thread_local_model.specs.Place.{id_at}
-use Rattle.thread_local_model.specs.Buckets.{Contents, values, row}
-use Rattle.thread_local_model.specs.Owner.{NoneBelow}
+use Rattle.thread_local_base.specs.Place.{id_at}
+use Rattle.thread_local_base.specs.Buckets.{Contents, values, row}
+use Rattle.thread_local_base.specs.Owner.{NoneBelow}
 use Rattle.thread_local_bucket_pointers.specs.Cursor.{next_bucket, read_to, IsAt}
 use Rattle.thread_local_bucket_pointers.specs.declared.cursor.RawIter.{RawIter}
 use Rattle.thread_local_bucket_pointers.proofs.FlagLaws.{at_next_bucket}
-use Rattle.thread_local_model.proofs.TakingLaws.{id_at-next, NoneBelow-end, NoneBelow-absent, walk-met}
+use Rattle.thread_local_base.proofs.TakingLaws.{id_at-next, NoneBelow-end, NoneBelow-absent, walk-met}
 use Rattle.thread_local_bucket_pointers.proofs.cursor.next_flags.Goals as goal
 use Rattle.thread_local_bucket_pointers.proofs.cursor.next_flags.Goals.{then-stands+else-flags-ne0, else-stands}
 

@@ -1,7 +1,7 @@
 use Rattle.std.proofs.Common.{◌≡◌, ◌-◌, ◌<◌, ◌≤◌}
-use Rattle.thread_local_model.specs.Place.{id_at}
-use Rattle.thread_local_model.specs.Buckets.{values}
-use Rattle.thread_local_model.specs.Owner.{NoneBelow}
+use Rattle.thread_local_base.specs.Place.{id_at}
+use Rattle.thread_local_base.specs.Buckets.{values}
+use Rattle.thread_local_base.specs.Owner.{NoneBelow}
 use Rattle.thread_local_bucket_pointers.specs.Cursor.{read_to, IsAt}
 use Rattle.thread_local_bucket_pointers.proofs.cursor.next_flags.Given as goal
 

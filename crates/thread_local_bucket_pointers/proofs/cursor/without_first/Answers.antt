@@ -1,4 +1,4 @@
-use Rattle.thread_local_model.proofs.Word.{clear_lowest_at}
+use Rattle.thread_local_base.proofs.Word.{clear_lowest_at}
 use Rattle.thread_local_bucket_pointers.proofs.cursor.without_first.Goals as goal
 
 pub returns : goal.returns

@@ -1,7 +1,7 @@
 use Rattle.std.proofs.Common.{ℕ, zero, suc, ◌≡◌, ◌+◌, ◌-◌, sym, ap, ◌∙◌, refl, arith}
-use Rattle.thread_local_model.specs.Place.{bucket_of}
-use Rattle.thread_local_model.specs.Capacity.{binary_digits}
-use Rattle.thread_local_model.proofs.CapacityLaws.{no_digits}
+use Rattle.thread_local_base.specs.Place.{bucket_of}
+use Rattle.thread_local_base.specs.Capacity.{binary_digits}
+use Rattle.thread_local_base.proofs.CapacityLaws.{no_digits}
 use Rattle.thread_local_buckets.proofs.buckets.digits.Goals as goal
 
 -- a number above 0 has one digit more than the number of its predecessor's bucket

@@ -46,7 +46,7 @@ use Rattle.thread_local_ids.specs.contracts.word.exchange.{ended, clauses}
 use Rattle.thread_local_ids.specs.contracts.word.exchange.Key.{name as #self}
 use Rattle.thread_local_ids.proofs.word.exchange.Statement.{statement}
 use Rattle.thread_local_ids.proofs.word.exchange.Code as code
-use Rattle.thread_local_model.proofs.Bodies.{tail}
+use Rattle.thread_local_base.proofs.Bodies.{tail}
 use Rattle.thread_local_ids.proofs.Ordered.{order_made}
 
 abbrev step : ℕ → ℕ → ℕ → ℕ

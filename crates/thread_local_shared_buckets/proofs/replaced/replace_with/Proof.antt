@@ -48,7 +48,7 @@ use Rattle.thread_local_shared_buckets.specs.contracts.replaced.replace_with.F-F
 use Rattle.thread_local_shared_buckets.specs.contracts.replaced.replace_with.Key as key
 use Rattle.thread_local_shared_buckets.proofs.replaced.replace_with.Statement as stated
 use Rattle.thread_local_shared_buckets.proofs.replaced.replace_with.Code as code
-use Rattle.thread_local_model.proofs.Walking.{knows}
+use Rattle.thread_local_base.proofs.Walking.{knows}
 
 both : (a b : Bool) → T a → T b → T (a && (b && true))
 both true true s t = tt

@@ -2,7 +2,7 @@
 use Rattle.std.proofs.Common.{◌≡◌, ◌<◌, ◌^◌, ◌+◌, ◌/◌, ℕ, true, Option, None, IfSome, subst, sym, arith}
 use Rattle.thread_local_shared_buckets.specs.declared.row.Row.{Row}
 use Rattle.thread_local_shared_buckets.proofs.steps.look_on.Goals.{in-Some+else-loop-chunk-test, in_default}
-use Rattle.thread_local_model.specs.Bits.{is_set}
+use Rattle.thread_local_base.specs.Bits.{is_set}
 use Rattle.thread_local_shared_buckets.proofs.ToldLaws.{none_first, none_next, found_at, none_found, none_there}
 use Rattle.thread_local_shared_buckets.proofs.LookLaws.{read_at}
 use Rattle.thread_local_shared_buckets.proofs.BitLaws.{none_in_chunk, none_further, keeps_set}

@@ -1,5 +1,5 @@
 use Rattle.std.proofs.Common.{◌%◌, arith}
-use Rattle.thread_local_model.proofs.Word.{set_bit}
+use Rattle.thread_local_base.proofs.Word.{set_bit}
 use Rattle.thread_local_shared_buckets.proofs.steps.with_own.Goals as goal
 
 pub returns-then-index-chunk-clause-own : goal.returns-then-index-chunk-clause-own

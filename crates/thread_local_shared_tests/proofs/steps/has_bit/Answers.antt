@@ -1,4 +1,4 @@
-use Rattle.thread_local_model.proofs.Word.{is_set-test}
+use Rattle.thread_local_base.proofs.Word.{is_set-test}
 use Rattle.thread_local_shared_tests.proofs.steps.has_bit.Goals as goal
 
 pub returns : goal.returns

@@ -1,5 +1,5 @@
 use Rattle.std.proofs.Common.{◌≡◌, ℕ, List, Option, Some, Result, Ok, Err, OnOk, MatchOption, sym, ◌∙◌, subst}
-use Rattle.thread_local_thread_id.specs.declared.manager.LocalError.{LocalError}
+use Rattle.thread_local_base.specs.declared.manager.LocalError.{LocalError}
 use Rattle.thread_local_tls.specs.Words.{texts, tally_of}
 use Rattle.thread_local_tls.specs.Faults.{Answers, AnswersIds, IsToldAndWritten}
 use Rattle.thread_local_tls.specs.declared.fault.Fault.{Fault}

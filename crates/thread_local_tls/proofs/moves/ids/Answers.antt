@@ -1,6 +1,6 @@
 use Rattle.std.proofs.Common.{◌≡◌, Result, Ok, Err, sym, ap, ◌∙◌, append-nil, rules}
 use Rattle.std.specs.Result.{IsErrAnd}
-use Rattle.thread_local_thread_id.specs.declared.manager.LocalError.{LocalError}
+use Rattle.thread_local_base.specs.declared.manager.LocalError.{LocalError}
 use Rattle.thread_local_tls.specs.declared.moves.IdsError.{IdsError}
 use Rattle.thread_local_tls.specs.declared.moves.IdsError.TheVariants.{Local}
 use Rattle.thread_local_tls.proofs.MoveLaws.{IsRunTo-more, stops_at_give, stops_at_take}

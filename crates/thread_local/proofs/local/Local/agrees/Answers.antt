@@ -1,7 +1,7 @@
 use Rattle.std.proofs.Common.{◌∙◌, ℕ, Option, sym, ap, subst}
 use Rattle.std.specs.Prelude.{IsSome}
-use Rattle.thread_local_model.specs.Learnt.{Learnt}
-use Rattle.thread_local_model.specs.Answers.{view_of}
+use Rattle.thread_local_base.specs.Learnt.{Learnt}
+use Rattle.thread_local_base.specs.Answers.{view_of}
 use Rattle.thread_local_shared_buckets.specs.Views.{ClaimView}
 use Rattle.thread_local.specs.Locals.{LocalView, local_view, IsLocalOf}
 use Rattle.thread_local.proofs.local.Local.agrees.Goals as goal

@@ -1,5 +1,5 @@
 use Rattle.std.proofs.Common.{◌∙◌, sym, ap, subst}
-use Rattle.thread_local_model.specs.Place.{IsPlaceOf}
+use Rattle.thread_local_base.specs.Place.{IsPlaceOf}
 use Rattle.thread_local.specs.Locals.{LocalView, knows, knowing, holding}
 use Rattle.thread_local.proofs.Filled.{is_filled, none_of, filled_empty, refused_at, on_err}
 use Rattle.thread_local.proofs.local.Local.fill.Goals as goal

@@ -1,7 +1,7 @@
 use Rattle.std.proofs.Common.{◌≡◌, ◌∙◌, ℕ, sym, ap, subst}
 use Rattle.std.specs.Prelude.{List}
 use mathlib.Core.List.{IsPrefix}
-use Rattle.thread_local_model.specs.IdMoves.{IdMove, Take, Give, noted}
+use Rattle.thread_local_base.specs.IdMoves.{IdMove, Take, Give, noted}
 use Rattle.thread_local.specs.Locals.{LocalView}
 use Rattle.thread_local.specs.Tables.{ThreadLocalView}
 use Rattle.thread_local.proofs.local.Local.give_back.Goals as goal

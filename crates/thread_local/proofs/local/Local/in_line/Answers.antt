@@ -2,7 +2,7 @@ use Rattle.std.proofs.Common.{subst}
 use Rattle.std.specs.Prelude.{List}
 use mathlib.Core.List.{IsPrefix}
 use mathlib.Core.Logic.{◌∨₁◌}
-use Rattle.thread_local_model.specs.IdMoves.{IdMove, Take, noted}
+use Rattle.thread_local_base.specs.IdMoves.{IdMove, Take, noted}
 use Rattle.thread_local.proofs.local.Local.in_line.Goals as goal
 
 abbrev Line : List IdMove → List IdMove → Type 0

@@ -1,11 +1,11 @@
 use Rattle.std.proofs.Common.{◌≡◌, ◌∙◌, ◌⊎◌, inl, inr, ℕ, true, Some, None, option_map, sym, ap, lit<}
-use Rattle.thread_local_model.specs.Learnt.{Learnt, Missing, Vacant, Holding}
-use Rattle.thread_local_model.specs.Answers.{view_of}
+use Rattle.thread_local_base.specs.Learnt.{Learnt, Missing, Vacant, Holding}
+use Rattle.thread_local_base.specs.Answers.{view_of}
 use Rattle.thread_local_shared_buckets.specs.Views.{ClaimView}
 use Rattle.thread_local.specs.Tables.{ThreadLocalView}
 use Rattle.thread_local_shared_buckets.specs.Walks.{Owed, fresh_with}
 use Rattle.std.specs.Prelude.{List}
-use Rattle.thread_local_model.specs.IdMoves.{IdMove}
+use Rattle.thread_local_base.specs.IdMoves.{IdMove}
 use Rattle.thread_local.specs.Locals.{LocalView, local_view, own_of}
 use Rattle.thread_local.proofs.local.Local.iter_told.Goals as goal
 

@@ -1,9 +1,9 @@
 use Rattle.std.proofs.Common.{◌≡◌, ℕ, ◌<◌, ◌-◌, ◌^◌, true, Some, None, refl, sym, ap, subst, ◌∙◌}
-use Rattle.thread_local_model.specs.Place.{IsPlaceOf}
-use Rattle.thread_local_model.specs.Learnt.{Learnt, Unknown, Missing, Standing, Vacant, Holding, learnt_by_publish}
-use Rattle.thread_local_model.specs.Answers.{View, view_of}
+use Rattle.thread_local_base.specs.Place.{IsPlaceOf}
+use Rattle.thread_local_base.specs.Learnt.{Learnt, Unknown, Missing, Standing, Vacant, Holding, learnt_by_publish}
+use Rattle.thread_local_base.specs.Answers.{View, view_of}
 use Rattle.std.specs.Prelude.{List}
-use Rattle.thread_local_model.specs.IdMoves.{IdMove}
+use Rattle.thread_local_base.specs.IdMoves.{IdMove}
 use Rattle.thread_local_shared_buckets.specs.Known.{HasLooked}
 use Rattle.thread_local_shared_buckets.specs.Views.{ClaimView}
 use Rattle.thread_local.specs.Tables.{ThreadLocalView}

@@ -1,5 +1,5 @@
 use Rattle.std.proofs.Common.{◌∙◌, rules, sym, ap, subst, refl}
-use Rattle.thread_local_model.specs.Place.{IsPlaceOf}
+use Rattle.thread_local_base.specs.Place.{IsPlaceOf}
 use Rattle.thread_local.specs.Locals.{LocalView, knows, knowing, holding}
 use Rattle.thread_local.proofs.Filled.{none_of}
 use Rattle.thread_local.proofs.Told.{ok_not_err, occupied_not_memory, memory_not_occupied, same_occupied, same_memory}

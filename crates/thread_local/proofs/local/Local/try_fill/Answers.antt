@@ -1,6 +1,6 @@
 use Rattle.std.proofs.Common.{◌∙◌, Option, sym, ap, subst, refl}
 use Rattle.std.specs.Prelude.{IsSome}
-use Rattle.thread_local_model.specs.Place.{IsPlaceOf}
+use Rattle.thread_local_base.specs.Place.{IsPlaceOf}
 use Rattle.thread_local.specs.Locals.{LocalView, knows, knowing, holding}
 use Rattle.thread_local.proofs.Filled.{is_filled, none_of, filled_empty, fails_empty, refused_at, on_err}
 use Rattle.thread_local.proofs.Told.{false_not_true, ok_not_err, same_create, create_not_memory}

@@ -1,6 +1,6 @@
 use Rattle.std.proofs.Common.{◌≡◌, ◌∙◌, None, is_some, true, refl, sym, ap}
-use Rattle.thread_local_model.specs.Learnt.{Learnt, Unknown, Missing, Standing, Vacant, Holding}
-use Rattle.thread_local_model.specs.Answers.{view_of}
+use Rattle.thread_local_base.specs.Learnt.{Learnt, Unknown, Missing, Standing, Vacant, Holding}
+use Rattle.thread_local_base.specs.Answers.{view_of}
 use Rattle.thread_local_shared_buckets.specs.Known.{value_held}
 use Rattle.thread_local.specs.Locals.{LocalView}
 use Rattle.thread_local.proofs.local.Local.value.Goals as goal

@@ -1,8 +1,8 @@
 use Rattle.std.proofs.Common.{◌≡◌, ◌∙◌, ℕ, ◌<◌, ◌-◌, ◌^◌, sym, ap, subst, lit<}
 use Rattle.thread_local.specs.Tables.{ThreadLocalView}
 use Rattle.std.specs.Prelude.{List}
-use Rattle.thread_local_model.specs.Held.{least}
-use Rattle.thread_local_model.specs.IdMoves.{IdMove, held_after}
+use Rattle.thread_local_base.specs.Held.{least}
+use Rattle.thread_local_base.specs.IdMoves.{IdMove, held_after}
 use Rattle.thread_local.proofs.table.ThreadLocal.local.Goals as goal
 
 -- The search for these takes a second.

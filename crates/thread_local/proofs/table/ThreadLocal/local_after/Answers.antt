@@ -1,8 +1,8 @@
 use Rattle.std.proofs.Common.{rules, arith, ◌≤◌, ◌≡◌, ◌∙◌, sym, ap, lit<}
 use Rattle.thread_local.specs.Tables.{ThreadLocalView}
 use Rattle.std.specs.Prelude.{List, Bool}
-use Rattle.thread_local_model.specs.Held.{least, held_count, HoldsAllBelow}
-use Rattle.thread_local_model.specs.IdMoves.{IdMove, held_after}
+use Rattle.thread_local_base.specs.Held.{least, held_count, HoldsAllBelow}
+use Rattle.thread_local_base.specs.IdMoves.{IdMove, held_after}
 use Rattle.thread_local.proofs.Counted.{all_below_count}
 use Rattle.thread_local.proofs.table.ThreadLocal.local_after.Goals as goal
 

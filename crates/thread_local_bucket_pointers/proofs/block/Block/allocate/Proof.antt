@@ -1,16 +1,16 @@
 -- `allocate` asks the allocator for the room of a block.
-use Rattle.thread_local_model.proofs.Names.{◌∙◌, ◌≡◌, ℕ, ◌^◌, ◌<◌, [], ◌∷◌, sym, refl, arith, lit<, w64, true, false}
-use Rattle.thread_local_model.proofs.Names.{Ty, Body, a_type, dcons, dnil, named, Val, vint, vptr, vstruct, vcons}
-use Rattle.thread_local_model.proofs.Names.{vnil, WT, inst_fn, SProp, Lft, Share, Fml, ftrue, fsep, flft, ◌∵◌, ‵}
-use Rattle.thread_local_model.proofs.Names.{raw, ◌⊛◌, later, at_ret, any_q, ◌$◌, !, qed, by, move, keep, use0, use1}
-use Rattle.thread_local_model.proofs.Names.{use2, split, join, fsplit, fjoin, await, stop, fld, lit, align_word}
-use Rattle.thread_local_model.proofs.Names.{of_opd, no_more, and_then, first, exec, switches_on, returns, enter}
-use Rattle.thread_local_model.proofs.Names.{alloc_all, pass_all, free_all, look_at, get, get_in, get_tag, sets}
-use Rattle.thread_local_model.proofs.Names.{sets_last, lands_as, env, agg, whole, live, vrt, in_variant, tables, fact}
-use Rattle.thread_local_model.proofs.Names.{yes, RattleType, owns, types_at, plain, Ptr, block_ptr, nothing}
-use Rattle.thread_local_model.proofs.Names.{heard, param, bounded, RefOf, usize, shr_vals, shr_Tells, uint_vals}
-use Rattle.thread_local_model.proofs.Names.{uint_Tells, Stays, stay_dropped, walk_of, Goes-dropped, proved, leaves, fm}
-use Rattle.thread_local_model.proofs.Names.{after}
+use Rattle.thread_local_base.proofs.Names.{◌∙◌, ◌≡◌, ℕ, ◌^◌, ◌<◌, [], ◌∷◌, sym, refl, arith, lit<, w64, true, false}
+use Rattle.thread_local_base.proofs.Names.{Ty, Body, a_type, dcons, dnil, named, Val, vint, vptr, vstruct, vcons}
+use Rattle.thread_local_base.proofs.Names.{vnil, WT, inst_fn, SProp, Lft, Share, Fml, ftrue, fsep, flft, ◌∵◌, ‵}
+use Rattle.thread_local_base.proofs.Names.{raw, ◌⊛◌, later, at_ret, any_q, ◌$◌, !, qed, by, move, keep, use0, use1}
+use Rattle.thread_local_base.proofs.Names.{use2, split, join, fsplit, fjoin, await, stop, fld, lit, align_word}
+use Rattle.thread_local_base.proofs.Names.{of_opd, no_more, and_then, first, exec, switches_on, returns, enter}
+use Rattle.thread_local_base.proofs.Names.{alloc_all, pass_all, free_all, look_at, get, get_in, get_tag, sets}
+use Rattle.thread_local_base.proofs.Names.{sets_last, lands_as, env, agg, whole, live, vrt, in_variant, tables, fact}
+use Rattle.thread_local_base.proofs.Names.{yes, RattleType, owns, types_at, plain, Ptr, block_ptr, nothing}
+use Rattle.thread_local_base.proofs.Names.{heard, param, bounded, RefOf, usize, shr_vals, shr_Tells, uint_vals}
+use Rattle.thread_local_base.proofs.Names.{uint_Tells, Stays, stay_dropped, walk_of, Goes-dropped, proved, leaves, fm}
+use Rattle.thread_local_base.proofs.Names.{after}
 use base.Fml.{Incl-trans}
 use prog.Memory.{align, size, capped}
 use prog.Capped.{capped_fits}
@@ -31,7 +31,7 @@ use Rattle.thread_local_bucket_pointers.proofs.Fields.{block_val, block_good, ma
 use Rattle.thread_local_bucket_pointers.proofs.Making.{fresh}
 use Rattle.thread_local_bucket_pointers.proofs.block.Block.allocate.Statement.{statement}
 use Rattle.thread_local_bucket_pointers.proofs.block.Block.allocate.Code as code
-use Rattle.thread_local_model.proofs.Walking.{knows}
+use Rattle.thread_local_base.proofs.Walking.{knows}
 
 pub allocate_spec : {M : Type 1} → statement M
 allocate_spec 𝓤 𝓛 𝓜 𝓡 wired T Al L LA ga da dd met _ =

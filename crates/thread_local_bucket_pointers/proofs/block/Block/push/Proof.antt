@@ -1,17 +1,17 @@
 -- `push` writes 0 into the word of the next chunk.
-use Rattle.thread_local_model.proofs.Names.{◌≡◌, ℕ, ◌+◌, ◌-◌, suc, ◌*◌, ◌^◌, ◌<◌, List, [], ◌∷◌, length, sym, refl, ap}
-use Rattle.thread_local_model.proofs.Names.{◌∙◌, subst, arith, lit<, w64, Option, Ty, ty_int, a_type, dcons, dnil}
-use Rattle.thread_local_model.proofs.Names.{named, Val, vint, vptr, vunit, inst_fn, full_share, SProp, apply∗}
-use Rattle.thread_local_model.proofs.Names.{Fml, ftrue, fsep, froom, flft, sem, ‵, raw, ◌⊛◌, given, at_ret, ◌$◌, ◌∵◌}
-use Rattle.thread_local_model.proofs.Names.{ !, qed, by, move, keep, use1, use2, split, join, fsplit, fsplit3}
-use Rattle.thread_local_model.proofs.Names.{fjoin, fjoin3, learn, rewrite, feq_i, stop, fld, load, lit, unit_lit}
-use Rattle.thread_local_model.proofs.Names.{of_opd, bin, first, blocks, exec, returns, enter, init, assigns_last}
-use Rattle.thread_local_model.proofs.Names.{alloc_all, pass_all, free_all, look_at, get, through, sets, is, env, sub}
-use Rattle.thread_local_model.proofs.Names.{look_in, whole, tables, fact, yes, RattleType, owns, types_at}
-use Rattle.thread_local_model.proofs.Names.{plain, Ptr, block_ptr, block_of, count_of, at_block, InBlock, nothing}
-use Rattle.thread_local_model.proofs.Names.{heard, opens, closes, peeks, shows, param, bounded, usize, mut_vals}
-use Rattle.thread_local_model.proofs.Names.{mut_Tells, uint_vals, uint_Tells, Stays, stay_dropped, stay_ref, walk_of}
-use Rattle.thread_local_model.proofs.Names.{Goes-dropped, Goes-ref, cell_at, proved, leaves, word, after}
+use Rattle.thread_local_base.proofs.Names.{◌≡◌, ℕ, ◌+◌, ◌-◌, suc, ◌*◌, ◌^◌, ◌<◌, List, [], ◌∷◌, length, sym, refl, ap}
+use Rattle.thread_local_base.proofs.Names.{◌∙◌, subst, arith, lit<, w64, Option, Ty, ty_int, a_type, dcons, dnil}
+use Rattle.thread_local_base.proofs.Names.{named, Val, vint, vptr, vunit, inst_fn, full_share, SProp, apply∗}
+use Rattle.thread_local_base.proofs.Names.{Fml, ftrue, fsep, froom, flft, sem, ‵, raw, ◌⊛◌, given, at_ret, ◌$◌, ◌∵◌}
+use Rattle.thread_local_base.proofs.Names.{ !, qed, by, move, keep, use1, use2, split, join, fsplit, fsplit3}
+use Rattle.thread_local_base.proofs.Names.{fjoin, fjoin3, learn, rewrite, feq_i, stop, fld, load, lit, unit_lit}
+use Rattle.thread_local_base.proofs.Names.{of_opd, bin, first, blocks, exec, returns, enter, init, assigns_last}
+use Rattle.thread_local_base.proofs.Names.{alloc_all, pass_all, free_all, look_at, get, through, sets, is, env, sub}
+use Rattle.thread_local_base.proofs.Names.{look_in, whole, tables, fact, yes, RattleType, owns, types_at}
+use Rattle.thread_local_base.proofs.Names.{plain, Ptr, block_ptr, block_of, count_of, at_block, InBlock, nothing}
+use Rattle.thread_local_base.proofs.Names.{heard, opens, closes, peeks, shows, param, bounded, usize, mut_vals}
+use Rattle.thread_local_base.proofs.Names.{mut_Tells, uint_vals, uint_Tells, Stays, stay_dropped, stay_ref, walk_of}
+use Rattle.thread_local_base.proofs.Names.{Goes-dropped, Goes-ref, cell_at, proved, leaves, word, after}
 use Rattle.thread_local_bucket_pointers.specs.Slots.{chunks, value_words, word_offset, flag_word_at, block_owns}
 use Rattle.thread_local_bucket_pointers.proofs.Slots.{IsWordNear}
 use Rattle.thread_local_bucket_pointers.specs.contracts.block.Block as block
@@ -20,7 +20,7 @@ use Rattle.thread_local_bucket_pointers.proofs.Fields.{block_val, told}
 use Rattle.thread_local_bucket_pointers.proofs.Making.{next_room, Filled}
 use Rattle.thread_local_bucket_pointers.proofs.block.Block.push.Statement.{statement}
 use Rattle.thread_local_bucket_pointers.proofs.block.Block.push.Code as code
-use Rattle.thread_local_model.proofs.Walking.{knows}
+use Rattle.thread_local_base.proofs.Walking.{knows}
 
 pub push_spec : {M : Type 1} → statement M
 push_spec 𝓤 𝓛 𝓜 𝓡 wired T Al L _ ga da dd _ _ =

@@ -1,19 +1,19 @@
 -- `flags` reads the word of a chunk.
-use Rattle.thread_local_model.proofs.Names.{◌≡◌, ℕ, ◌+◌, ◌*◌, ◌^◌, ◌<◌, List, [], ◌∷◌, length, sym, refl, ap, ◌∙◌}
-use Rattle.thread_local_model.proofs.Names.{subst, w64, Option, a_type, named, Val, vint, vptr, inst_fn, full_share}
-use Rattle.thread_local_model.proofs.Names.{SProp, apply∗, Fml, ftrue, fsep, flft, sem, ‵, raw, ◌⊛◌, some, given}
-use Rattle.thread_local_model.proofs.Names.{at_ret, ◌$◌, ◌∵◌, !, qed, by, move, keep, use1, use2, split, join}
-use Rattle.thread_local_model.proofs.Names.{fsplit, fsplit3, fjoin, fjoin3, pick, learn, rewrite, feq_i, stop, fld}
-use Rattle.thread_local_model.proofs.Names.{load, look, of_opd, bin, lit, first, blocks, exec, returns, enter}
-use Rattle.thread_local_model.proofs.Names.{alloc_all, pass_all, free_all, look_at, get, through, sets, sets_last, is}
-use Rattle.thread_local_model.proofs.Names.{env, sub, look_in, whole, tables, fact, yes, RattleType, owns}
-use Rattle.thread_local_model.proofs.Names.{types_at, plain, Ptr, block_ptr, block_of, count_of, at_block, nothing}
-use Rattle.thread_local_model.proofs.Names.{heard, opens, closes, peeks, shows, param, layouts, usize, mut_vals}
-use Rattle.thread_local_model.proofs.Names.{mut_Tells, uint_vals, uint_Tells, Stays, stay_dropped, stay_ref, walk_of}
-use Rattle.thread_local_model.proofs.Names.{Goes-dropped, Goes-ref, cell_at, proved, leaves, after}
+use Rattle.thread_local_base.proofs.Names.{◌≡◌, ℕ, ◌+◌, ◌*◌, ◌^◌, ◌<◌, List, [], ◌∷◌, length, sym, refl, ap, ◌∙◌}
+use Rattle.thread_local_base.proofs.Names.{subst, w64, Option, a_type, named, Val, vint, vptr, inst_fn, full_share}
+use Rattle.thread_local_base.proofs.Names.{SProp, apply∗, Fml, ftrue, fsep, flft, sem, ‵, raw, ◌⊛◌, some, given}
+use Rattle.thread_local_base.proofs.Names.{at_ret, ◌$◌, ◌∵◌, !, qed, by, move, keep, use1, use2, split, join}
+use Rattle.thread_local_base.proofs.Names.{fsplit, fsplit3, fjoin, fjoin3, pick, learn, rewrite, feq_i, stop, fld}
+use Rattle.thread_local_base.proofs.Names.{load, look, of_opd, bin, lit, first, blocks, exec, returns, enter}
+use Rattle.thread_local_base.proofs.Names.{alloc_all, pass_all, free_all, look_at, get, through, sets, sets_last, is}
+use Rattle.thread_local_base.proofs.Names.{env, sub, look_in, whole, tables, fact, yes, RattleType, owns}
+use Rattle.thread_local_base.proofs.Names.{types_at, plain, Ptr, block_ptr, block_of, count_of, at_block, nothing}
+use Rattle.thread_local_base.proofs.Names.{heard, opens, closes, peeks, shows, param, layouts, usize, mut_vals}
+use Rattle.thread_local_base.proofs.Names.{mut_Tells, uint_vals, uint_Tells, Stays, stay_dropped, stay_ref, walk_of}
+use Rattle.thread_local_base.proofs.Names.{Goes-dropped, Goes-ref, cell_at, proved, leaves, after}
 use Rattle.std.specs.Prelude.{is_some}
 use types.Kit.{flt_i}
-use Rattle.thread_local_model.specs.Bits.{is_set}
+use Rattle.thread_local_base.specs.Bits.{is_set}
 use Rattle.thread_local_bucket_pointers.specs.Slots.{slot_value, value_words, flag_word_at, heap_token}
 use Rattle.thread_local_bucket_pointers.proofs.Slots.{IsWordIn, flags_of}
 use Rattle.thread_local_bucket_pointers.specs.PointerOwns.{pointer_owns}
@@ -22,7 +22,7 @@ use Rattle.thread_local_bucket_pointers.specs.contracts.bucket_pointer.BucketPoi
 use Rattle.thread_local_bucket_pointers.proofs.PointerSteps.{pointer_val, told, Same, pointer_chunk}
 use Rattle.thread_local_bucket_pointers.proofs.bucket_pointer.BucketPointer.flags.Statement.{statement}
 use Rattle.thread_local_bucket_pointers.proofs.bucket_pointer.BucketPointer.flags.Code as code
-use Rattle.thread_local_model.proofs.Walking.{knows}
+use Rattle.thread_local_base.proofs.Walking.{knows}
 
 pub flags_spec : {M : Type 1} → statement M
 flags_spec 𝓤 𝓛 𝓜 𝓡 wired T L =

@@ -1,22 +1,22 @@
 -- `get_mut` lends the value in a slot, and the pointer ends with what was written there.
-use Rattle.thread_local_model.proofs.Names.{◌≡◌, ℕ, ◌*◌, ◌^◌, ◌<◌, List, [], ◌∷◌, length, sym, refl, ap, ◌∙◌, subst}
-use Rattle.thread_local_model.proofs.Names.{w64, true, Option, Some, a_type, named, Val, vint, vptr, inst_fn}
-use Rattle.thread_local_model.proofs.Names.{full_share, SProp, id⊢, Lft, Share, GName, Fml, ftrue, fsep, flft, ‵}
-use Rattle.thread_local_model.proofs.Names.{raw, ◌⊛◌, some, given, later, at_ret, ◌$◌, ◌∵◌, !, qed, by, move, keep}
-use Rattle.thread_local_model.proofs.Names.{use1, split, split3, join, group, fsplit, fsplit3, fjoin, pick}
-use Rattle.thread_local_model.proofs.Names.{await, learn, rewrite, stop, fld, load, addr, size_word, of_opd, bin}
-use Rattle.thread_local_model.proofs.Names.{first, blocks, exec, returns, enter, alloc_all, pass_all, free_all}
-use Rattle.thread_local_model.proofs.Names.{look_at, get, through, sets, sets_last, is, env, sub, look_in, whole}
-use Rattle.thread_local_model.proofs.Names.{tables, fact, yes, no, RattleType, owns, types_at, plain, Ptr}
-use Rattle.thread_local_model.proofs.Names.{block_ptr, block_of, count_of, at_block, nothing, heard, opens, peeks}
-use Rattle.thread_local_model.proofs.Names.{shows, param, layouts, usize, mut_vals, mut_Tells, uint_vals, uint_Tells}
-use Rattle.thread_local_model.proofs.Names.{Stays, stay_dropped, walk_of, Goes-dropped, cell_at, proved, leaves, after}
+use Rattle.thread_local_base.proofs.Names.{◌≡◌, ℕ, ◌*◌, ◌^◌, ◌<◌, List, [], ◌∷◌, length, sym, refl, ap, ◌∙◌, subst}
+use Rattle.thread_local_base.proofs.Names.{w64, true, Option, Some, a_type, named, Val, vint, vptr, inst_fn}
+use Rattle.thread_local_base.proofs.Names.{full_share, SProp, id⊢, Lft, Share, GName, Fml, ftrue, fsep, flft, ‵}
+use Rattle.thread_local_base.proofs.Names.{raw, ◌⊛◌, some, given, later, at_ret, ◌$◌, ◌∵◌, !, qed, by, move, keep}
+use Rattle.thread_local_base.proofs.Names.{use1, split, split3, join, group, fsplit, fsplit3, fjoin, pick}
+use Rattle.thread_local_base.proofs.Names.{await, learn, rewrite, stop, fld, load, addr, size_word, of_opd, bin}
+use Rattle.thread_local_base.proofs.Names.{first, blocks, exec, returns, enter, alloc_all, pass_all, free_all}
+use Rattle.thread_local_base.proofs.Names.{look_at, get, through, sets, sets_last, is, env, sub, look_in, whole}
+use Rattle.thread_local_base.proofs.Names.{tables, fact, yes, no, RattleType, owns, types_at, plain, Ptr}
+use Rattle.thread_local_base.proofs.Names.{block_ptr, block_of, count_of, at_block, nothing, heard, opens, peeks}
+use Rattle.thread_local_base.proofs.Names.{shows, param, layouts, usize, mut_vals, mut_Tells, uint_vals, uint_Tells}
+use Rattle.thread_local_base.proofs.Names.{Stays, stay_dropped, walk_of, Goes-dropped, cell_at, proved, leaves, after}
 use denote.Builtin.{RefMutOf}
 use denote.Follow.{follows, Part, lends_Part}
 use denote.Ref.{MutBor, MutRef}
 use denote.Triple.Walked.{Goes-spent_ref}
 use Rattle.std.specs.Prelude.{◌/◌, ◌%◌, is_some, IsSome}
-use Rattle.thread_local_model.specs.Bits.{is_set}
+use Rattle.thread_local_base.specs.Bits.{is_set}
 use Rattle.thread_local_bucket_pointers.specs.LentValue.{with_slot_value}
 use Rattle.thread_local_bucket_pointers.proofs.LentValue.{Rest, back}
 use Rattle.thread_local_bucket_pointers.specs.Slots.{slot_value, stride, value_offset, content_at}
@@ -27,7 +27,7 @@ use Rattle.thread_local_bucket_pointers.specs.contracts.bucket_pointer.BucketPoi
 use Rattle.thread_local_bucket_pointers.proofs.PointerSteps.{pointer_val, told, Again, pointer_slot}
 use Rattle.thread_local_bucket_pointers.proofs.bucket_pointer.BucketPointer.get_mut.Statement.{statement}
 use Rattle.thread_local_bucket_pointers.proofs.bucket_pointer.BucketPointer.get_mut.Code as code
-use Rattle.thread_local_model.proofs.Walking.{knows}
+use Rattle.thread_local_base.proofs.Walking.{knows}
 
 pub get_mut_spec : {M : Type 1} → statement M
 get_mut_spec 𝓤 𝓛 𝓜 𝓡 wired T L =

@@ -1,13 +1,13 @@
 -- `lay` takes the block apart and writes its pointer.
-use Rattle.thread_local_model.proofs.Names.{◌≡◌, ℕ, ◌<◌, List, [], ◌∷◌, length, refl, Option, a_type, named, Val, vptr}
-use Rattle.thread_local_model.proofs.Names.{vunit, inst_fn, full_share, Fml, ftrue, fsep, flft, ‵, raw}
-use Rattle.thread_local_model.proofs.Names.{◌⊛◌, ◌$◌, ◌∵◌, !, qed, by, move, keep, drop, use0, use1, split, join}
-use Rattle.thread_local_model.proofs.Names.{fsplit, fsplit3, fjoin, fjoin3, rewrite, feq_i, stop, fld, unit_lit}
-use Rattle.thread_local_model.proofs.Names.{of_opd, returns, enter, assigns, alloc_all, pass_all, free_all, look_at}
-use Rattle.thread_local_model.proofs.Names.{get, get_in, through, sets, sub, whole, fact, no}
-use Rattle.thread_local_model.proofs.Names.{RattleType, owns, types_at, plain, Ptr, nothing, heard, opens, closes}
-use Rattle.thread_local_model.proofs.Names.{peeks, shows, param, layouts, mut_vals, mut_Tells, Stays, stay_dropped}
-use Rattle.thread_local_model.proofs.Names.{stay_ref, walk_of, Goes-dropped, Goes-ref, cell_at, proved, leaves}
+use Rattle.thread_local_base.proofs.Names.{◌≡◌, ℕ, ◌<◌, List, [], ◌∷◌, length, refl, Option, a_type, named, Val, vptr}
+use Rattle.thread_local_base.proofs.Names.{vunit, inst_fn, full_share, Fml, ftrue, fsep, flft, ‵, raw}
+use Rattle.thread_local_base.proofs.Names.{◌⊛◌, ◌$◌, ◌∵◌, !, qed, by, move, keep, drop, use0, use1, split, join}
+use Rattle.thread_local_base.proofs.Names.{fsplit, fsplit3, fjoin, fjoin3, rewrite, feq_i, stop, fld, unit_lit}
+use Rattle.thread_local_base.proofs.Names.{of_opd, returns, enter, assigns, alloc_all, pass_all, free_all, look_at}
+use Rattle.thread_local_base.proofs.Names.{get, get_in, through, sets, sub, whole, fact, no}
+use Rattle.thread_local_base.proofs.Names.{RattleType, owns, types_at, plain, Ptr, nothing, heard, opens, closes}
+use Rattle.thread_local_base.proofs.Names.{peeks, shows, param, layouts, mut_vals, mut_Tells, Stays, stay_dropped}
+use Rattle.thread_local_base.proofs.Names.{stay_ref, walk_of, Goes-dropped, Goes-ref, cell_at, proved, leaves}
 use types.Part.{store_in}
 use Rattle.std.specs.contracts.alloc.Global as heap
 use Rattle.std.specs.contracts.impls.GlobalAllocator.TheImpl.{ghosts}
@@ -21,7 +21,7 @@ use Rattle.thread_local_bucket_pointers.proofs.PointerSteps.{pointer_val, told, 
 use Rattle.thread_local_bucket_pointers.proofs.Slots.{ptr_good}
 use Rattle.thread_local_bucket_pointers.proofs.bucket_pointer.BucketPointer.lay.Statement.{statement}
 use Rattle.thread_local_bucket_pointers.proofs.bucket_pointer.BucketPointer.lay.Code as code
-use Rattle.thread_local_model.proofs.Walking.{knows}
+use Rattle.thread_local_base.proofs.Walking.{knows}
 
 pub lay_spec : {M : Type 1} → statement M
 lay_spec 𝓤 𝓛 𝓜 𝓡 wired T L =

@@ -1,14 +1,14 @@
 -- `lift` reads the pointer, and writes null.
-use Rattle.thread_local_model.proofs.Names.{◌≡◌, ℕ, ◌<◌, List, [], ◌∷◌, length, refl, Option, a_type, named, Val, vptr}
-use Rattle.thread_local_model.proofs.Names.{inst_fn, full_share, Fml, ftrue, fsep, flft, ‵, raw, ◌⊛◌, ◌$◌}
-use Rattle.thread_local_model.proofs.Names.{◌∵◌, !, qed, by, move, keep, drop, use0, use1, split, join, fsplit}
-use Rattle.thread_local_model.proofs.Names.{fsplit3, fjoin, fjoin3, fpack, rewrite, feq_i, stop, fld, load, lit}
-use Rattle.thread_local_model.proofs.Names.{of_opd, no_more, and_then, returns, enter, assigns, alloc_all, pass_all}
-use Rattle.thread_local_model.proofs.Names.{free_all, look_at, get, through, sets, agg, sub, look_in, whole}
-use Rattle.thread_local_model.proofs.Names.{fact, yes, RattleType, owns, types_at, plain, Ptr, null_ptr}
-use Rattle.thread_local_model.proofs.Names.{nothing, heard, opens, closes, peeks, shows, param, layouts, RefOf}
-use Rattle.thread_local_model.proofs.Names.{mut_vals, mut_Tells, shr_vals, shr_Tells, Stays, stay_dropped, stay_ref}
-use Rattle.thread_local_model.proofs.Names.{walk_of, Goes-dropped, Goes-ref, cell_at, proved, leaves}
+use Rattle.thread_local_base.proofs.Names.{◌≡◌, ℕ, ◌<◌, List, [], ◌∷◌, length, refl, Option, a_type, named, Val, vptr}
+use Rattle.thread_local_base.proofs.Names.{inst_fn, full_share, Fml, ftrue, fsep, flft, ‵, raw, ◌⊛◌, ◌$◌}
+use Rattle.thread_local_base.proofs.Names.{◌∵◌, !, qed, by, move, keep, drop, use0, use1, split, join, fsplit}
+use Rattle.thread_local_base.proofs.Names.{fsplit3, fjoin, fjoin3, fpack, rewrite, feq_i, stop, fld, load, lit}
+use Rattle.thread_local_base.proofs.Names.{of_opd, no_more, and_then, returns, enter, assigns, alloc_all, pass_all}
+use Rattle.thread_local_base.proofs.Names.{free_all, look_at, get, through, sets, agg, sub, look_in, whole}
+use Rattle.thread_local_base.proofs.Names.{fact, yes, RattleType, owns, types_at, plain, Ptr, null_ptr}
+use Rattle.thread_local_base.proofs.Names.{nothing, heard, opens, closes, peeks, shows, param, layouts, RefOf}
+use Rattle.thread_local_base.proofs.Names.{mut_vals, mut_Tells, shr_vals, shr_Tells, Stays, stay_dropped, stay_ref}
+use Rattle.thread_local_base.proofs.Names.{walk_of, Goes-dropped, Goes-ref, cell_at, proved, leaves}
 use types.Part.{store_in}
 use Rattle.std.specs.contracts.alloc.Global as heap
 use Rattle.std.specs.contracts.impls.GlobalAllocator.TheImpl.{ghosts}
@@ -21,7 +21,7 @@ use Rattle.thread_local_bucket_pointers.proofs.PointerSteps.{pointer_val, told, 
 use Rattle.thread_local_bucket_pointers.proofs.Slots.{ptr_good}
 use Rattle.thread_local_bucket_pointers.proofs.bucket_pointer.BucketPointer.lift.Statement.{statement}
 use Rattle.thread_local_bucket_pointers.proofs.bucket_pointer.BucketPointer.lift.Code as code
-use Rattle.thread_local_model.proofs.Walking.{knows}
+use Rattle.thread_local_base.proofs.Walking.{knows}
 
 pub lift_spec : {M : Type 1} → statement M
 lift_spec 𝓤 𝓛 𝓜 𝓡 wired T L =

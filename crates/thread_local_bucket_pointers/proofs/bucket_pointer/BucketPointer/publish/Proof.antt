@@ -1,20 +1,20 @@
 -- `publish` writes the value of a slot, and then sets its bit in its chunk's word.
-use Rattle.thread_local_model.proofs.Names.{◌≡◌, ℕ, ◌+◌, ◌*◌, ◌^◌, ◌<◌, List, [], ◌∷◌, ◌++◌, length, set, sym, refl}
-use Rattle.thread_local_model.proofs.Names.{ap, ◌∙◌, subst, lit<, w64, Option, Some, None, a_type, bare, Val, vint}
-use Rattle.thread_local_model.proofs.Names.{vptr, vunit, inst_fn, full_share, SProp, ent, id⊢, Fml, ftrue, fsep}
-use Rattle.thread_local_model.proofs.Names.{fat, froom, flft, WpFn, ‵, raw, ◌⊛◌, some, given, at_ret, ◌$◌, ◌∵◌, !, qed}
-use Rattle.thread_local_model.proofs.Names.{by, move, keep, use1, use3, split, split3, join, fsplit, fsplit3}
-use Rattle.thread_local_model.proofs.Names.{fjoin, fjoin3, pick, learn, suffices, rewrite, feq_i, stop, fld, load}
-use Rattle.thread_local_model.proofs.Names.{look, lit, unit_lit, size_word, of_opd, bin, first, blocks, exec, returns}
-use Rattle.thread_local_model.proofs.Names.{enter, init, store, assigns, assigns_last, alloc_all, pass_all, free_all}
-use Rattle.thread_local_model.proofs.Names.{look_at, get, through, sets, is, env, sub, look_in, whole, tables, fact}
-use Rattle.thread_local_model.proofs.Names.{yes, no, RattleType, owns, types_at, plain, Ptr, block_ptr}
-use Rattle.thread_local_model.proofs.Names.{block_of, count_of, at_block, nothing, heard, opens, closes, peeks, shows}
-use Rattle.thread_local_model.proofs.Names.{param, layout, layouts, param_laws, usize, Stays, stay_dropped, stay_ref}
-use Rattle.thread_local_model.proofs.Names.{walk_of, Goes-dropped, Goes-ref, cell_at, Member, proved_at, leaves, after}
-use Rattle.thread_local_model.proofs.Names.{one, gather}
+use Rattle.thread_local_base.proofs.Names.{◌≡◌, ℕ, ◌+◌, ◌*◌, ◌^◌, ◌<◌, List, [], ◌∷◌, ◌++◌, length, set, sym, refl}
+use Rattle.thread_local_base.proofs.Names.{ap, ◌∙◌, subst, lit<, w64, Option, Some, None, a_type, bare, Val, vint}
+use Rattle.thread_local_base.proofs.Names.{vptr, vunit, inst_fn, full_share, SProp, ent, id⊢, Fml, ftrue, fsep}
+use Rattle.thread_local_base.proofs.Names.{fat, froom, flft, WpFn, ‵, raw, ◌⊛◌, some, given, at_ret, ◌$◌, ◌∵◌, !, qed}
+use Rattle.thread_local_base.proofs.Names.{by, move, keep, use1, use3, split, split3, join, fsplit, fsplit3}
+use Rattle.thread_local_base.proofs.Names.{fjoin, fjoin3, pick, learn, suffices, rewrite, feq_i, stop, fld, load}
+use Rattle.thread_local_base.proofs.Names.{look, lit, unit_lit, size_word, of_opd, bin, first, blocks, exec, returns}
+use Rattle.thread_local_base.proofs.Names.{enter, init, store, assigns, assigns_last, alloc_all, pass_all, free_all}
+use Rattle.thread_local_base.proofs.Names.{look_at, get, through, sets, is, env, sub, look_in, whole, tables, fact}
+use Rattle.thread_local_base.proofs.Names.{yes, no, RattleType, owns, types_at, plain, Ptr, block_ptr}
+use Rattle.thread_local_base.proofs.Names.{block_of, count_of, at_block, nothing, heard, opens, closes, peeks, shows}
+use Rattle.thread_local_base.proofs.Names.{param, layout, layouts, param_laws, usize, Stays, stay_dropped, stay_ref}
+use Rattle.thread_local_base.proofs.Names.{walk_of, Goes-dropped, Goes-ref, cell_at, Member, proved_at, leaves, after}
+use Rattle.thread_local_base.proofs.Names.{one, gather}
 use Rattle.std.specs.Prelude.{◌/◌, ◌%◌, bit_or}
-use Rattle.thread_local_model.proofs.Word.{set_bit, set_fits, place_below, bit_fits, shifted_left}
+use Rattle.thread_local_base.proofs.Word.{set_bit, set_fits, place_below, bit_fits, shifted_left}
 use Rattle.thread_local_bucket_pointers.specs.Slots.{slot_value, stride, value_words, flag_word_at, value_offset, content_at, heap_token}
 use Rattle.thread_local_bucket_pointers.proofs.Slots.{IsSlotIn, Change, flags_of, slot_of}
 use Rattle.thread_local_bucket_pointers.proofs.Flags.{uncapped}
@@ -24,7 +24,7 @@ use Rattle.thread_local_bucket_pointers.specs.contracts.bucket_pointer.BucketPoi
 use Rattle.thread_local_bucket_pointers.proofs.PointerSteps.{pointer_val, told, Again, pointer_slot, pointer_again}
 use Rattle.thread_local_bucket_pointers.proofs.bucket_pointer.BucketPointer.publish.Statement.{statement}
 use Rattle.thread_local_bucket_pointers.proofs.bucket_pointer.BucketPointer.publish.Code as code
-use Rattle.thread_local_model.proofs.Walking.{knows}
+use Rattle.thread_local_base.proofs.Walking.{knows}
 
 pub publish_spec : {M : Type 1} → statement M
 publish_spec 𝓤 𝓛 𝓜 𝓡 wired T L =

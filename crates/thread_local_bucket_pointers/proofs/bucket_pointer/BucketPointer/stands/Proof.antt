@@ -1,13 +1,13 @@
 -- `stands` tests the pointer, which is null where there are no slots.
-use Rattle.thread_local_model.proofs.Names.{◌≡◌, ℕ, List, [], ◌∷◌, sym, refl, Bool, Option, a_type, named, Val, vptr}
-use Rattle.thread_local_model.proofs.Names.{inst_fn, full_share, guard_i, Fml, ftrue, fsep, flft, sem, ‵}
-use Rattle.thread_local_model.proofs.Names.{raw, ◌⊛◌, given, ◌$◌, ◌∵◌, !, qed, by, move, keep, use1, split, join}
-use Rattle.thread_local_model.proofs.Names.{fsplit, fsplit3, fjoin, fjoin3, learn, rewrite, feq_i, stop, fld, load}
-use Rattle.thread_local_model.proofs.Names.{lit, of_opd, bin, returns, enter, alloc_all, pass_all, free_all, look_at}
-use Rattle.thread_local_model.proofs.Names.{get, through, sets, sub, look_in, whole, fact_use}
-use Rattle.thread_local_model.proofs.Names.{RattleType, owns, types_at, plain, Ptr, ptr_val, nothing, opens, closes}
-use Rattle.thread_local_model.proofs.Names.{peeks, shows, param, layouts, mut_vals, mut_Tells, Stays, stay_ref}
-use Rattle.thread_local_model.proofs.Names.{walk_of, Goes-ref, cell_at, proved, leaves, length}
+use Rattle.thread_local_base.proofs.Names.{◌≡◌, ℕ, List, [], ◌∷◌, sym, refl, Bool, Option, a_type, named, Val, vptr}
+use Rattle.thread_local_base.proofs.Names.{inst_fn, full_share, guard_i, Fml, ftrue, fsep, flft, sem, ‵}
+use Rattle.thread_local_base.proofs.Names.{raw, ◌⊛◌, given, ◌$◌, ◌∵◌, !, qed, by, move, keep, use1, split, join}
+use Rattle.thread_local_base.proofs.Names.{fsplit, fsplit3, fjoin, fjoin3, learn, rewrite, feq_i, stop, fld, load}
+use Rattle.thread_local_base.proofs.Names.{lit, of_opd, bin, returns, enter, alloc_all, pass_all, free_all, look_at}
+use Rattle.thread_local_base.proofs.Names.{get, through, sets, sub, look_in, whole, fact_use}
+use Rattle.thread_local_base.proofs.Names.{RattleType, owns, types_at, plain, Ptr, ptr_val, nothing, opens, closes}
+use Rattle.thread_local_base.proofs.Names.{peeks, shows, param, layouts, mut_vals, mut_Tells, Stays, stay_ref}
+use Rattle.thread_local_base.proofs.Names.{walk_of, Goes-ref, cell_at, proved, leaves, length}
 use Rattle.std.specs.Prelude.{not, nat_lt}
 use mir.Val.{ptr_same, vnull, vbool}
 use types.Run.{un}
@@ -20,7 +20,7 @@ use Rattle.thread_local_bucket_pointers.proofs.PointerSteps.{pointer_val, told, 
 use Rattle.thread_local_bucket_pointers.proofs.Slots.{ptr_good}
 use Rattle.thread_local_bucket_pointers.proofs.bucket_pointer.BucketPointer.stands.Statement.{statement}
 use Rattle.thread_local_bucket_pointers.proofs.bucket_pointer.BucketPointer.stands.Code as code
-use Rattle.thread_local_model.proofs.Walking.{knows}
+use Rattle.thread_local_base.proofs.Walking.{knows}
 
 pub stands_spec : {M : Type 1} → statement M
 stands_spec 𝓤 𝓛 𝓜 𝓡 wired T L =

@@ -4,8 +4,8 @@ use Rattle.std.proofs.Common.{false, is_some, slice_set, refl, sym, subst, â—Œâˆ
 use Rattle.std.proofs.lemmas.Bool.{cases_eq, eq-eqb, ne_eqb}
 use Rattle.std.proofs.lemmas.List.{get_or-set_same, get_or-set_other}
 use Rattle.std.specs.Int.{bit_not}
-use Rattle.thread_local_model.specs.Bits.{is_set, IsWordBut}
-use Rattle.thread_local_model.proofs.Word.{clear_bit, place_below}
+use Rattle.thread_local_base.specs.Bits.{is_set, IsWordBut}
+use Rattle.thread_local_base.proofs.Word.{clear_bit, place_below}
 use Rattle.thread_local_bucket_pointers.specs.Slots.{slot_value}
 use Rattle.thread_local_bucket_pointers.specs.declared.bucket_pointer.BucketPointer.{BucketPointer}
 use Rattle.thread_local_bucket_pointers.proofs.bucket_pointer.BucketPointer.take.Goals as goal

@@ -1,20 +1,20 @@
 -- `take_and_store` stores the flags of a slot's chunk without the slot's own, and reads its value,
 -- which becomes room.
-use Rattle.thread_local_model.proofs.Names.{◌≡◌, ℕ, ◌+◌, ◌*◌, ◌^◌, ◌<◌, List, [], ◌∷◌, length, set, sym, refl, ap, ◌∙◌}
-use Rattle.thread_local_model.proofs.Names.{subst, w64, Option, Some, None, a_type, named, bare, Val, vint, vptr}
-use Rattle.thread_local_model.proofs.Names.{inst_fn, full_share, SProp, Fml, ftrue, fsep, froom, flft, ‵, raw}
-use Rattle.thread_local_model.proofs.Names.{◌⊛◌, some, given, at_ret, ◌$◌, ◌∵◌, !, qed, by, move, keep, use1}
-use Rattle.thread_local_model.proofs.Names.{use3, split, split3, join, fsplit, fsplit3, fjoin, fjoin3, pick, learn}
-use Rattle.thread_local_model.proofs.Names.{rewrite, feq_i, stop, fld, load, look_raw, lit, size_word, of_opd, bin}
-use Rattle.thread_local_model.proofs.Names.{first, blocks, exec, returns, enter, store, assigns, alloc_all, pass_all}
-use Rattle.thread_local_model.proofs.Names.{free_all, look_at, get, through, sets, sets_last, is, env, sub, look_in}
-use Rattle.thread_local_model.proofs.Names.{whole, tables, fact, yes, RattleType, owns, types_at, plain, Ptr}
-use Rattle.thread_local_model.proofs.Names.{block_ptr, block_of, count_of, at_block, nothing, heard, opens, closes}
-use Rattle.thread_local_model.proofs.Names.{peeks, shows, param, layout, layouts, param_laws, usize, u64, mut_vals}
-use Rattle.thread_local_model.proofs.Names.{mut_Tells, uint_vals, uint_Tells, Stays, stay_dropped, stay_ref, walk_of}
-use Rattle.thread_local_model.proofs.Names.{Goes-dropped, Goes-ref, cell_at, Member, proved, leaves, after, spread}
+use Rattle.thread_local_base.proofs.Names.{◌≡◌, ℕ, ◌+◌, ◌*◌, ◌^◌, ◌<◌, List, [], ◌∷◌, length, set, sym, refl, ap, ◌∙◌}
+use Rattle.thread_local_base.proofs.Names.{subst, w64, Option, Some, None, a_type, named, bare, Val, vint, vptr}
+use Rattle.thread_local_base.proofs.Names.{inst_fn, full_share, SProp, Fml, ftrue, fsep, froom, flft, ‵, raw}
+use Rattle.thread_local_base.proofs.Names.{◌⊛◌, some, given, at_ret, ◌$◌, ◌∵◌, !, qed, by, move, keep, use1}
+use Rattle.thread_local_base.proofs.Names.{use3, split, split3, join, fsplit, fsplit3, fjoin, fjoin3, pick, learn}
+use Rattle.thread_local_base.proofs.Names.{rewrite, feq_i, stop, fld, load, look_raw, lit, size_word, of_opd, bin}
+use Rattle.thread_local_base.proofs.Names.{first, blocks, exec, returns, enter, store, assigns, alloc_all, pass_all}
+use Rattle.thread_local_base.proofs.Names.{free_all, look_at, get, through, sets, sets_last, is, env, sub, look_in}
+use Rattle.thread_local_base.proofs.Names.{whole, tables, fact, yes, RattleType, owns, types_at, plain, Ptr}
+use Rattle.thread_local_base.proofs.Names.{block_ptr, block_of, count_of, at_block, nothing, heard, opens, closes}
+use Rattle.thread_local_base.proofs.Names.{peeks, shows, param, layout, layouts, param_laws, usize, u64, mut_vals}
+use Rattle.thread_local_base.proofs.Names.{mut_Tells, uint_vals, uint_Tells, Stays, stay_dropped, stay_ref, walk_of}
+use Rattle.thread_local_base.proofs.Names.{Goes-dropped, Goes-ref, cell_at, Member, proved, leaves, after, spread}
 use Rattle.std.specs.Prelude.{◌/◌, ◌%◌, is_some, IsSome}
-use Rattle.thread_local_model.specs.Bits.{is_set}
+use Rattle.thread_local_base.specs.Bits.{is_set}
 use Rattle.thread_local_bucket_pointers.specs.Slots.{slot_value, stride, value_words, flag_word_at, value_offset, content_at, heap_token}
 use Rattle.thread_local_bucket_pointers.proofs.Slots.{IsSlotIn, Change, flags_of, slot_of, value_of, leaves_slot}
 use Rattle.thread_local_bucket_pointers.proofs.Flags.{uncapped}
@@ -24,7 +24,7 @@ use Rattle.thread_local_bucket_pointers.specs.contracts.bucket_pointer.BucketPoi
 use Rattle.thread_local_bucket_pointers.proofs.PointerSteps.{pointer_val, told, Again, pointer_slot, pointer_again}
 use Rattle.thread_local_bucket_pointers.proofs.bucket_pointer.BucketPointer.take_and_store.Statement.{statement}
 use Rattle.thread_local_bucket_pointers.proofs.bucket_pointer.BucketPointer.take_and_store.Code as code
-use Rattle.thread_local_model.proofs.Walking.{knows}
+use Rattle.thread_local_base.proofs.Walking.{knows}
 
 pub take_and_store_spec : {M : Type 1} → statement M
 take_and_store_spec 𝓤 𝓛 𝓜 𝓡 wired T L =

@@ -1,9 +1,9 @@
 use Rattle.std.proofs.Common.{◌≡◌, ◌≢◌, ℕ, ◌+◌, ◌*◌, ◌^◌, ◌<◌, ◌≤◌, length, bit_or, refl, ap, ◌∙◌, arith, lit<, ⊎_elim}
 use Rattle.std.proofs.lemmas.Bool.{cases_eq}
 use Rattle.std.proofs.lemmas.Nat.{le_or_l, le_or_r}
-use Rattle.thread_local_model.specs.Place.{id_at}
-use Rattle.thread_local_model.specs.Buckets.{Contents, row, values}
-use Rattle.thread_local_model.specs.Counting.{count_below}
+use Rattle.thread_local_base.specs.Place.{id_at}
+use Rattle.thread_local_base.specs.Buckets.{Contents, row, values}
+use Rattle.thread_local_base.specs.Counting.{count_below}
 use Rattle.thread_local_bucket_pointers.proofs.Counting.{whole_counted, none_counted, some_counted}
 use Rattle.thread_local_bucket_pointers.proofs.bucket_pointers.BucketPointers.any_of_eight.Goals as goal
 

@@ -1,5 +1,5 @@
 use Rattle.std.proofs.Common.{◌≡◌, ℕ, ◌+◌, ◌<◌, ◌≤◌, true, false, []}
-use Rattle.thread_local_model.specs.Buckets.{row}
+use Rattle.thread_local_base.specs.Buckets.{row}
 use Rattle.thread_local_bucket_pointers.specs.Clearing.{AnyStands}
 use Rattle.thread_local_bucket_pointers.proofs.bucket_pointers.BucketPointers.any_stands.Given as goal
 

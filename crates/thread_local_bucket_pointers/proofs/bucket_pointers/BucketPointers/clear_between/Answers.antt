@@ -1,5 +1,5 @@
 use Rattle.std.proofs.Common.{◌≡◌, ℕ, ◌-◌, subst, arith}
-use Rattle.thread_local_model.specs.Buckets.{Contents, IsTable}
+use Rattle.thread_local_base.specs.Buckets.{Contents, IsTable}
 use Rattle.thread_local_bucket_pointers.specs.Clearing.{AreCleared}
 use Rattle.thread_local_bucket_pointers.proofs.Clearing.{AreCleared-none}
 use Rattle.thread_local_bucket_pointers.proofs.bucket_pointers.BucketPointers.clear_between.Goals as goal

@@ -1,10 +1,10 @@
 use Rattle.std.proofs.Common.{◌≡◌, ℕ, ◌+◌, ◌^◌, ◌<◌, ◌≤◌, true, false, inl, inr, [], refl, sym, arith, pow_pos}
 use Rattle.std.specs.Prelude.{nat_lt}
 use Rattle.std.proofs.lemmas.Bool.{cond-true, cond-false, lt-ltb, le-ltb}
-use Rattle.thread_local_model.specs.Place.{id_at}
-use Rattle.thread_local_model.specs.Buckets.{Contents, IsTable}
-use Rattle.thread_local_model.specs.Rows.{empty_row, with_row}
-use Rattle.thread_local_model.proofs.RowLaws.{length-empty_row}
+use Rattle.thread_local_base.specs.Place.{id_at}
+use Rattle.thread_local_base.specs.Buckets.{Contents, IsTable}
+use Rattle.thread_local_base.specs.Rows.{empty_row, with_row}
+use Rattle.thread_local_base.proofs.RowLaws.{length-empty_row}
 use Rattle.thread_local_bucket_pointers.specs.Clearing.{AreCleared}
 use Rattle.thread_local_bucket_pointers.proofs.Clearing.{AreCleared-none, AreCleared-more}
 use Rattle.thread_local_bucket_pointers.proofs.bucket_pointers.BucketPointers.clear_bucket.Goals as goal

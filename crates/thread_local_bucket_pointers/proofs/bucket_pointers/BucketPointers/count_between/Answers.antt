@@ -1,8 +1,8 @@
 use Rattle.std.proofs.Common.{◌≡◌, ◌+◌, ◌^◌, ◌≤◌, ◌*◌, sym, ◌∙◌, ap, suc, arith, pow_mono, add-one}
 use Rattle.std.proofs.Common.{[]}
 use Rattle.std.proofs.Math.Nat.{two-pow-succ}
-use Rattle.thread_local_model.specs.Buckets.{Contents, values, row}
-use Rattle.thread_local_model.proofs.TakingLaws.{count_below-absent, count_below-fits}
+use Rattle.thread_local_base.specs.Buckets.{Contents, values, row}
+use Rattle.thread_local_base.proofs.TakingLaws.{count_below-absent, count_below-fits}
 use Rattle.thread_local_bucket_pointers.proofs.Counting.{counted_at_first}
 use Rattle.thread_local_bucket_pointers.proofs.bucket_pointers.BucketPointers.count_between.Goals as goal
 use Rattle.thread_local_bucket_pointers.proofs.bucket_pointers.BucketPointers.count_between.Goals.{then-stands, else-stands}

@@ -1,10 +1,10 @@
 use Rattle.std.proofs.Common.{◌≡◌, ℕ, ◌+◌, ◌*◌, ◌/◌, ◌^◌, ◌<◌, ◌≤◌, min, length, refl, ap, ◌∙◌, subst, arith, lit<}
 use Rattle.std.proofs.Common.{pow_mono, pow_pos, suc}
 use Rattle.std.proofs.Math.Nat.{two-pow-succ}
-use Rattle.thread_local_model.specs.Buckets.{Contents, row, values}
-use Rattle.thread_local_model.specs.Place.{id_at}
-use Rattle.thread_local_model.specs.Counting.{count_below}
-use Rattle.thread_local_model.proofs.TakingLaws.{count_below-le}
+use Rattle.thread_local_base.specs.Buckets.{Contents, row, values}
+use Rattle.thread_local_base.specs.Place.{id_at}
+use Rattle.thread_local_base.specs.Counting.{count_below}
+use Rattle.thread_local_base.proofs.TakingLaws.{count_below-le}
 use Rattle.thread_local_bucket_pointers.proofs.Counting.{groups_inside}
 use Rattle.thread_local_bucket_pointers.proofs.bucket_pointers.BucketPointers.count_in_bucket.Goals as goal
 use Rattle.thread_local_bucket_pointers.proofs.bucket_pointers.BucketPointers.count_in_bucket.Goals.{then-any_of_eight-ne0}

@@ -1,8 +1,8 @@
 use Rattle.std.proofs.Common.{◌≡◌, ◌+◌, [], ℕ, sym, ◌∙◌, ap, refl, arith}
-use Rattle.thread_local_model.specs.Place.{id_at}
-use Rattle.thread_local_model.specs.Buckets.{Contents, values, row}
-use Rattle.thread_local_model.specs.Counting.{count_below}
-use Rattle.thread_local_model.proofs.TakingLaws.{count_below-zero, count_below-absent, count_below-fits}
+use Rattle.thread_local_base.specs.Place.{id_at}
+use Rattle.thread_local_base.specs.Buckets.{Contents, values, row}
+use Rattle.thread_local_base.specs.Counting.{count_below}
+use Rattle.thread_local_base.proofs.TakingLaws.{count_below-zero, count_below-absent, count_below-fits}
 use Rattle.thread_local_bucket_pointers.proofs.Counting.{counted_at_first}
 use Rattle.thread_local_bucket_pointers.proofs.bucket_pointers.BucketPointers.count_in_first.Goals as goal
 use Rattle.thread_local_bucket_pointers.proofs.bucket_pointers.BucketPointers.count_in_first.Goals.{then-stands, else-stands}

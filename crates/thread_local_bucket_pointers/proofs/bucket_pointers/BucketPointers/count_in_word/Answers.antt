@@ -1,8 +1,8 @@
 use Rattle.std.proofs.Common.{◌≡◌, ℕ, ◌+◌, ◌*◌, ◌^◌, ◌≤◌, min, sym, ap, ◌∙◌, arith, lit<, pow_mono, pow_pos}
-use Rattle.thread_local_model.specs.Place.{id_at}
-use Rattle.thread_local_model.specs.Buckets.{values}
-use Rattle.thread_local_model.specs.Counting.{count_below}
-use Rattle.thread_local_model.proofs.TakingLaws.{id_at-next}
+use Rattle.thread_local_base.specs.Place.{id_at}
+use Rattle.thread_local_base.specs.Buckets.{values}
+use Rattle.thread_local_base.specs.Counting.{count_below}
+use Rattle.thread_local_base.proofs.TakingLaws.{id_at-next}
 use Rattle.thread_local_bucket_pointers.proofs.bucket_pointers.BucketPointers.count_in_word.Goals as goal
 
 pub count_in_chunks-requires : goal.count_in_chunks-requires

@@ -1,8 +1,8 @@
 use Rattle.std.proofs.Common.{◌≡◌, ◌+◌, ◌-◌, ◌^◌, ◌≤◌, ◌<◌, ◌*◌, sym, ◌∙◌, ap, subst, ℕ, arith, []}
-use Rattle.thread_local_model.specs.Place.{id_at}
-use Rattle.thread_local_model.specs.Buckets.{Contents, values, row}
-use Rattle.thread_local_model.specs.Counting.{count_below}
-use Rattle.thread_local_model.proofs.TakingLaws.{count_below-fits, count_below-walk}
+use Rattle.thread_local_base.specs.Place.{id_at}
+use Rattle.thread_local_base.specs.Buckets.{Contents, values, row}
+use Rattle.thread_local_base.specs.Counting.{count_below}
+use Rattle.thread_local_base.proofs.TakingLaws.{count_below-fits, count_below-walk}
 use Rattle.thread_local_bucket_pointers.proofs.Counting.{absent_counted}
 use Rattle.thread_local_bucket_pointers.proofs.bucket_pointers.BucketPointers.count_values.Goals as goal
 use Rattle.thread_local_bucket_pointers.proofs.bucket_pointers.BucketPointers.count_values.Goals.{then-any_stands, else-any_stands}

@@ -1,7 +1,7 @@
 use Rattle.std.proofs.Common.{◌≡◌, ◌+◌, ◌*◌}
-use Rattle.thread_local_model.specs.Place.{id_at}
-use Rattle.thread_local_model.specs.Buckets.{values}
-use Rattle.thread_local_model.specs.Counting.{count_below}
+use Rattle.thread_local_base.specs.Place.{id_at}
+use Rattle.thread_local_base.specs.Buckets.{values}
+use Rattle.thread_local_base.specs.Counting.{count_below}
 use Rattle.thread_local_bucket_pointers.proofs.bucket_pointers.BucketPointers.count_values.Given as goal
 
 -- the values in the first seven buckets, and in the groups behind them so far

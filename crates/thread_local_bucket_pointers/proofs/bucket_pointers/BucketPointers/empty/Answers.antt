@@ -1,9 +1,9 @@
 use Rattle.std.proofs.Common.{◌≡◌, ◌^◌, ℕ, inr, length, List, Option, sym, ap, ◌∙◌, subst, true}
 use Rattle.std.proofs.lemmas.Bool.{ltb-true}
-use Rattle.thread_local_model.specs.Buckets.{Contents, row, stands, IsTable}
-use Rattle.thread_local_model.specs.Rows.{with_row, empty_row}
+use Rattle.thread_local_base.specs.Buckets.{Contents, row, stands, IsTable}
+use Rattle.thread_local_base.specs.Rows.{with_row, empty_row}
 use Rattle.thread_local_bucket_pointers.specs.Slots.{empty_slots}
-use Rattle.thread_local_model.proofs.RowLaws.{row_whole, IsTable-with_row, length-empty_row}
+use Rattle.thread_local_base.proofs.RowLaws.{row_whole, IsTable-with_row, length-empty_row}
 use Rattle.thread_local_bucket_pointers.specs.Pointers.{contents_of}
 use Rattle.thread_local_bucket_pointers.proofs.ContentsOf.{row_of_pointer, row_changes}
 use Rattle.thread_local_bucket_pointers.proofs.bucket_pointers.BucketPointers.empty.Goals as goal

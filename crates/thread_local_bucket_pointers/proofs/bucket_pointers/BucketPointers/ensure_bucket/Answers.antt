@@ -1,8 +1,8 @@
 use Rattle.std.proofs.Common.{◌≡◌, ◌∙◌, lit<, sym, ap}
 use Rattle.std.proofs.lemmas.Bool.{cond-true, cond-false}
-use Rattle.thread_local_model.specs.Buckets.{Contents, row, stands}
-use Rattle.thread_local_model.specs.Rows.{with_row, empty_row}
-use Rattle.thread_local_model.proofs.StandingLaws.{row-absent}
+use Rattle.thread_local_base.specs.Buckets.{Contents, row, stands}
+use Rattle.thread_local_base.specs.Rows.{with_row, empty_row}
+use Rattle.thread_local_base.proofs.StandingLaws.{row-absent}
 use Rattle.thread_local_bucket_pointers.proofs.bucket_pointers.BucketPointers.ensure_bucket.Goals as goal
 use Rattle.std.proofs.lemmas.Result.{on_ok_weaker, on_err_weaker}
 

@@ -1,6 +1,6 @@
 use Rattle.std.proofs.Common.{◌∙◌, ap, sym, subst, List, Option, None, length, is_some}
 use Rattle.std.specs.Prelude.{◌/◌, ◌<◌, ℕ, slice_index_or}
-use Rattle.thread_local_model.specs.Buckets.{Contents, IsTable}
+use Rattle.thread_local_base.specs.Buckets.{Contents, IsTable}
 use Rattle.thread_local_bucket_pointers.specs.Slots.{flag_word_at}
 use Rattle.thread_local_bucket_pointers.specs.contracts.bucket_pointers.BucketPointers.flag.{T-row}
 use Rattle.thread_local_bucket_pointers.proofs.ContentsOf.{size_of_pointer, row_seen, contents_stay}

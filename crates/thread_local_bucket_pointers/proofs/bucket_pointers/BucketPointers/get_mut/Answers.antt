@@ -1,7 +1,7 @@
 use Rattle.std.proofs.Common.{◌≡◌, refl, sym, ap, ◌∙◌, subst, Some}
-use Rattle.thread_local_model.specs.Buckets.{Contents, IsTable}
-use Rattle.thread_local_model.specs.Rows.{value_in, with_slot}
-use Rattle.thread_local_model.proofs.RowLaws.{IsTable-with_slot}
+use Rattle.thread_local_base.specs.Buckets.{Contents, IsTable}
+use Rattle.thread_local_base.specs.Rows.{value_in, with_slot}
+use Rattle.thread_local_base.proofs.RowLaws.{IsTable-with_slot}
 use Rattle.thread_local_bucket_pointers.specs.Pointers.{contents_of}
 use Rattle.thread_local_bucket_pointers.proofs.ContentsOf.{value_changes}
 use Rattle.thread_local_bucket_pointers.proofs.bucket_pointers.BucketPointers.get_mut.Goals as goal

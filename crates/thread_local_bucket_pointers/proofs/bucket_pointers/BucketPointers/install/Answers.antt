@@ -1,8 +1,8 @@
 use Rattle.std.proofs.Common.{◌≡◌, ◌^◌, ℕ, List, Option, length, inr, sym, ap, ◌∙◌, subst, arith, pow_pos}
-use Rattle.thread_local_model.specs.Buckets.{Contents, IsTable}
-use Rattle.thread_local_model.specs.Rows.{with_row, empty_row}
+use Rattle.thread_local_base.specs.Buckets.{Contents, IsTable}
+use Rattle.thread_local_base.specs.Rows.{with_row, empty_row}
 use Rattle.thread_local_bucket_pointers.specs.Slots.{empty_slots}
-use Rattle.thread_local_model.proofs.RowLaws.{IsTable-with_row, length-empty_row}
+use Rattle.thread_local_base.proofs.RowLaws.{IsTable-with_row, length-empty_row}
 use Rattle.thread_local_bucket_pointers.specs.Pointers.{contents_of}
 use Rattle.thread_local_bucket_pointers.proofs.ContentsOf.{row_changes, row_seen}
 use Rattle.thread_local_bucket_pointers.proofs.bucket_pointers.BucketPointers.install.Goals as goal

@@ -1,8 +1,8 @@
 use Rattle.std.proofs.Common.{◌∙◌, ◌<◌, ℕ, List, Option, None, is_some, length, lit<, sym, ap, subst}
 use Rattle.std.specs.Prelude.{slice_index_or}
 use Rattle.std.proofs.lemmas.Bool.{false≢true}
-use Rattle.thread_local_model.specs.Buckets.{Contents, row}
-use Rattle.thread_local_model.specs.Rows.{value_in}
+use Rattle.thread_local_base.specs.Buckets.{Contents, row}
+use Rattle.thread_local_base.specs.Rows.{value_in}
 use Rattle.thread_local_bucket_pointers.proofs.bucket_pointers.BucketPointers.is_published.Goals as goal
 
 -- The search for these takes a second.

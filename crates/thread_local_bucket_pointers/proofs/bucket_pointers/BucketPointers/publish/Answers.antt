@@ -1,8 +1,8 @@
 use Rattle.std.specs.Prelude.{◌/◌, ◌<◌, ℕ, slice_index_or}
 use Rattle.std.proofs.Common.{sym, ap, ◌∙◌, subst, List, Option, Some, None, length}
-use Rattle.thread_local_model.specs.Buckets.{Contents, IsTable}
-use Rattle.thread_local_model.specs.Rows.{with_slot}
-use Rattle.thread_local_model.proofs.RowLaws.{IsTable-with_slot}
+use Rattle.thread_local_base.specs.Buckets.{Contents, IsTable}
+use Rattle.thread_local_base.specs.Rows.{with_slot}
+use Rattle.thread_local_base.proofs.RowLaws.{IsTable-with_slot}
 use Rattle.thread_local_bucket_pointers.specs.Pointers.{contents_of}
 use Rattle.thread_local_bucket_pointers.specs.Slots.{flag_word_at}
 use Rattle.thread_local_bucket_pointers.specs.contracts.bucket_pointers.BucketPointers.publish.{T-row}

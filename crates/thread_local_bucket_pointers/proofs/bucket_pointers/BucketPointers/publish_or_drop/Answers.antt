@@ -1,9 +1,9 @@
 use Rattle.std.proofs.Common.{◌∙◌, ◌<◌, length, lit<, sym, ap, subst}
 use Rattle.std.proofs.lemmas.Bool.{false≢true}
-use Rattle.thread_local_model.specs.Buckets.{Contents, row}
-use Rattle.thread_local_model.specs.Rows.{value_in}
+use Rattle.thread_local_base.specs.Buckets.{Contents, row}
+use Rattle.thread_local_base.specs.Rows.{value_in}
 use Rattle.thread_local_bucket_pointers.proofs.bucket_pointers.BucketPointers.publish_or_drop.Goals as goal
-use Rattle.thread_local_model.proofs.TakingLaws.{shows_none}
+use Rattle.thread_local_base.proofs.TakingLaws.{shows_none}
 
 -- The search for these takes a second.
 pub publish-requires : goal.publish-requires

@@ -1,7 +1,7 @@
 use Rattle.std.proofs.Common.{◌≡◌, ◌⊎◌, ◌^◌, ℕ, List, [], length, inl, inr, refl, sym, ap, ◌∙◌, subst}
-use Rattle.thread_local_model.specs.Buckets.{Contents, row, IsTable}
-use Rattle.thread_local_model.specs.Rows.{with_row}
-use Rattle.thread_local_model.proofs.RowLaws.{IsTable-with_row}
+use Rattle.thread_local_base.specs.Buckets.{Contents, row, IsTable}
+use Rattle.thread_local_base.specs.Rows.{with_row}
+use Rattle.thread_local_base.proofs.RowLaws.{IsTable-with_row}
 use Rattle.thread_local_bucket_pointers.specs.Pointers.{contents_of}
 use Rattle.thread_local_bucket_pointers.proofs.ContentsOf.{row_changes, row_seen}
 use Rattle.thread_local_bucket_pointers.proofs.bucket_pointers.BucketPointers.release.Goals as goal

@@ -1,9 +1,9 @@
 use Rattle.std.proofs.Common.{◌∙◌, ap, sym, subst, List, Option, length}
 use Rattle.std.specs.Prelude.{nat_lt}
 use borrow.Author.Tests.{ltb-true}
-use Rattle.thread_local_model.specs.Buckets.{Contents, IsTable, row}
-use Rattle.thread_local_model.proofs.RowLaws.{row_whole}
-use Rattle.thread_local_model.proofs.StandingLaws.{row-absent}
+use Rattle.thread_local_base.specs.Buckets.{Contents, IsTable, row}
+use Rattle.thread_local_base.proofs.RowLaws.{row_whole}
+use Rattle.thread_local_base.proofs.StandingLaws.{row-absent}
 use Rattle.thread_local_bucket_pointers.proofs.ContentsOf.{row_seen, contents_stay}
 use Rattle.thread_local_bucket_pointers.proofs.bucket_pointers.BucketPointersFlagSource.stands.Goals as goal
 

@@ -1,6 +1,6 @@
 use Rattle.std.proofs.Common.{sym, subst}
-use Rattle.thread_local_model.specs.Buckets.{Contents, IsTable}
-use Rattle.thread_local_model.proofs.FillingLaws.{IsTable-no_contents}
+use Rattle.thread_local_base.specs.Buckets.{Contents, IsTable}
+use Rattle.thread_local_base.proofs.FillingLaws.{IsTable-no_contents}
 use Rattle.thread_local_bucket_pointers.proofs.ContentsOf.{no_contents_of}
 use Rattle.thread_local_bucket_pointers.proofs.pointer_array.PointerArray.null.Goals as goal
 

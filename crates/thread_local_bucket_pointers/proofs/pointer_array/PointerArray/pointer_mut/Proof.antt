@@ -34,7 +34,7 @@ use Rattle.thread_local_bucket_pointers.specs.contracts.pointer_array.PointerArr
 use Rattle.thread_local_bucket_pointers.proofs.Lent.{Rest, out, back}
 use Rattle.thread_local_bucket_pointers.proofs.pointer_array.PointerArray.pointer_mut.Statement.{statement}
 use Rattle.thread_local_bucket_pointers.proofs.pointer_array.PointerArray.pointer_mut.Code as code
-use Rattle.thread_local_model.proofs.Walking.{knows}
+use Rattle.thread_local_base.proofs.Walking.{knows}
 
 pub pointer_mut_spec : {M : Type 1} → statement M
 pointer_mut_spec 𝓤 𝓛 𝓜 𝓡 wired T L =

@@ -1,16 +1,16 @@
 -- `deallocate` gives the block's room back to the allocator.
-use Rattle.thread_local_model.proofs.Names.{◌∙◌, ◌≡◌, ℕ, ◌+◌, ◌^◌, ◌<◌, List, [], ◌∷◌, sym, refl, subst, arith, w64}
-use Rattle.thread_local_model.proofs.Names.{Option, Ty, a_type, dcons, dnil, named, Val, vint, vptr, vunit, inst_fn}
-use Rattle.thread_local_model.proofs.Names.{SProp, ent, id⊢, Lft, Share, Fml, ftrue, fsep, froom, flft, WpFn, ‵, raw}
-use Rattle.thread_local_model.proofs.Names.{◌⊛◌, given, later, at_ret, ◌$◌, ◌∵◌, !, qed, by, move, keep, use1, use3}
-use Rattle.thread_local_model.proofs.Names.{split, join, fsplit, fsplit3, fjoin, fpick, fpack, learn, suffices, await}
-use Rattle.thread_local_model.proofs.Names.{rewrite, feq_i, stop, fld, unit_lit, align_word, of_opd, no_more, and_then}
-use Rattle.thread_local_model.proofs.Names.{first, blocks, exec, returns, enter, alloc_all, pass_all, free_all}
-use Rattle.thread_local_model.proofs.Names.{look_at, get, get_in, sets, lands_last, env, sub, whole, tables, fact, yes}
-use Rattle.thread_local_model.proofs.Names.{no, RattleType, owns, types_at, plain, Ptr, block_ptr, block_of, count_of}
-use Rattle.thread_local_model.proofs.Names.{at_block, InBlock, nothing, heard, param, bounded, RefOf, usize, shr_vals}
-use Rattle.thread_local_model.proofs.Names.{shr_Tells, uint_vals, uint_Tells, Stays, stay_dropped, walk_of}
-use Rattle.thread_local_model.proofs.Names.{Goes-dropped, proved, leaves, fm, after, length}
+use Rattle.thread_local_base.proofs.Names.{◌∙◌, ◌≡◌, ℕ, ◌+◌, ◌^◌, ◌<◌, List, [], ◌∷◌, sym, refl, subst, arith, w64}
+use Rattle.thread_local_base.proofs.Names.{Option, Ty, a_type, dcons, dnil, named, Val, vint, vptr, vunit, inst_fn}
+use Rattle.thread_local_base.proofs.Names.{SProp, ent, id⊢, Lft, Share, Fml, ftrue, fsep, froom, flft, WpFn, ‵, raw}
+use Rattle.thread_local_base.proofs.Names.{◌⊛◌, given, later, at_ret, ◌$◌, ◌∵◌, !, qed, by, move, keep, use1, use3}
+use Rattle.thread_local_base.proofs.Names.{split, join, fsplit, fsplit3, fjoin, fpick, fpack, learn, suffices, await}
+use Rattle.thread_local_base.proofs.Names.{rewrite, feq_i, stop, fld, unit_lit, align_word, of_opd, no_more, and_then}
+use Rattle.thread_local_base.proofs.Names.{first, blocks, exec, returns, enter, alloc_all, pass_all, free_all}
+use Rattle.thread_local_base.proofs.Names.{look_at, get, get_in, sets, lands_last, env, sub, whole, tables, fact, yes}
+use Rattle.thread_local_base.proofs.Names.{no, RattleType, owns, types_at, plain, Ptr, block_ptr, block_of, count_of}
+use Rattle.thread_local_base.proofs.Names.{at_block, InBlock, nothing, heard, param, bounded, RefOf, usize, shr_vals}
+use Rattle.thread_local_base.proofs.Names.{shr_Tells, uint_vals, uint_Tells, Stays, stay_dropped, walk_of}
+use Rattle.thread_local_base.proofs.Names.{Goes-dropped, proved, leaves, fm, after, length}
 use base.Fml.{Incl-trans}
 use prog.Memory.{align, size, capped}
 use prog.Capped.{capped_fits}

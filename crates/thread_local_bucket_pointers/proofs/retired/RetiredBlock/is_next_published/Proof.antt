@@ -1,23 +1,23 @@
 -- `is_next_published` reads the flag of the next slot, which becomes room where the flag isn't set.
-use Rattle.thread_local_model.proofs.Names.{lit<, ◌≡◌, ℕ, ◌+◌, ◌*◌, ◌^◌, ◌<◌, List, [], ◌∷◌, length, sym, refl, ap}
-use Rattle.thread_local_model.proofs.Names.{◌∙◌, subst, w64, Bool, Option, Ty, a_type, dcons, dnil, named, Val, vint}
-use Rattle.thread_local_model.proofs.Names.{vptr, inst_fn, full_share, SProp, Fml, ftrue, fsep, flft, ‵, raw, ◌⊛◌}
-use Rattle.thread_local_model.proofs.Names.{given, at_ret, ◌$◌, ◌∵◌, !, qed, by, move, keep, use1, use2, split}
-use Rattle.thread_local_model.proofs.Names.{join, fsplit, fsplit3, fjoin, fjoin3, learn, rewrite, feq_i, stop, fld}
-use Rattle.thread_local_model.proofs.Names.{load, look, lit, of_opd, bin, first, blocks, exec, returns, enter}
-use Rattle.thread_local_model.proofs.Names.{alloc_all, pass_all, free_all, look_at, get, through, sets, sets_last, is}
-use Rattle.thread_local_model.proofs.Names.{env, sub, look_in, whole, tables, fact, yes, RattleType, owns}
-use Rattle.thread_local_model.proofs.Names.{types_at, plain, Ptr, block_ptr, block_of, count_of, at_block, nothing}
-use Rattle.thread_local_model.proofs.Names.{heard, opens, closes, peeks, shows, param, bounded, usize, mut_vals}
-use Rattle.thread_local_model.proofs.Names.{mut_Tells, uint_vals, uint_Tells, Stays, stay_dropped, stay_ref, walk_of}
-use Rattle.thread_local_model.proofs.Names.{Goes-dropped, Goes-ref, cell_at, proved, leaves, after}
+use Rattle.thread_local_base.proofs.Names.{lit<, ◌≡◌, ℕ, ◌+◌, ◌*◌, ◌^◌, ◌<◌, List, [], ◌∷◌, length, sym, refl, ap}
+use Rattle.thread_local_base.proofs.Names.{◌∙◌, subst, w64, Bool, Option, Ty, a_type, dcons, dnil, named, Val, vint}
+use Rattle.thread_local_base.proofs.Names.{vptr, inst_fn, full_share, SProp, Fml, ftrue, fsep, flft, ‵, raw, ◌⊛◌}
+use Rattle.thread_local_base.proofs.Names.{given, at_ret, ◌$◌, ◌∵◌, !, qed, by, move, keep, use1, use2, split}
+use Rattle.thread_local_base.proofs.Names.{join, fsplit, fsplit3, fjoin, fjoin3, learn, rewrite, feq_i, stop, fld}
+use Rattle.thread_local_base.proofs.Names.{load, look, lit, of_opd, bin, first, blocks, exec, returns, enter}
+use Rattle.thread_local_base.proofs.Names.{alloc_all, pass_all, free_all, look_at, get, through, sets, sets_last, is}
+use Rattle.thread_local_base.proofs.Names.{env, sub, look_in, whole, tables, fact, yes, RattleType, owns}
+use Rattle.thread_local_base.proofs.Names.{types_at, plain, Ptr, block_ptr, block_of, count_of, at_block, nothing}
+use Rattle.thread_local_base.proofs.Names.{heard, opens, closes, peeks, shows, param, bounded, usize, mut_vals}
+use Rattle.thread_local_base.proofs.Names.{mut_Tells, uint_vals, uint_Tells, Stays, stay_dropped, stay_ref, walk_of}
+use Rattle.thread_local_base.proofs.Names.{Goes-dropped, Goes-ref, cell_at, proved, leaves, after}
 use Rattle.std.specs.Prelude.{◌/◌, ◌%◌, is_some, bit_and, if◌then◌else◌}
 use base.Logic.{apply∗}
 use types.Kit.{some, pick}
 use types.Logic.{sem}
 use mir.Val.{vbool}
 use lib.Dec.{eqb}
-use Rattle.thread_local_model.proofs.Word.{is_set-test, masked_fits, place_below, bit_fits, shifted_right}
+use Rattle.thread_local_base.proofs.Word.{is_set-test, masked_fits, place_below, bit_fits, shifted_right}
 use Rattle.thread_local_bucket_pointers.specs.Slots.{slot_value, value_words, flag_word_at}
 use Rattle.thread_local_bucket_pointers.proofs.Slots.{flags_of}
 use Rattle.thread_local_bucket_pointers.specs.Retired.{retired_owns, rest}
@@ -27,7 +27,7 @@ use Rattle.thread_local_bucket_pointers.proofs.Fields.{block_val, told}
 use Rattle.thread_local_bucket_pointers.proofs.RetiredBlocks.{Shown, Again, next_word, looked}
 use Rattle.thread_local_bucket_pointers.proofs.retired.RetiredBlock.is_next_published.Statement.{statement}
 use Rattle.thread_local_bucket_pointers.proofs.retired.RetiredBlock.is_next_published.Code as code
-use Rattle.thread_local_model.proofs.Walking.{knows}
+use Rattle.thread_local_base.proofs.Walking.{knows}
 
 pub is_next_published_spec : {M : Type 1} → statement M
 is_next_published_spec 𝓤 𝓛 𝓜 𝓡 wired T Al L _ ga da dd _ _ =

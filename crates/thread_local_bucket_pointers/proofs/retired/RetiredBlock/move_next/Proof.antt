@@ -1,17 +1,17 @@
 -- `move_next` reads the value of the next slot, which becomes room, whatever its flag says.
-use Rattle.thread_local_model.proofs.Names.{◌≡◌, ℕ, ◌+◌, ◌*◌, ◌^◌, ◌<◌, List, [], ◌∷◌, length, sym, refl, ap, ◌∙◌}
-use Rattle.thread_local_model.proofs.Names.{subst, w64, Option, Some, Ty, a_type, dcons, dnil, named, Val, vint, vptr}
-use Rattle.thread_local_model.proofs.Names.{inst_fn, bare, full_share, SProp, Fml, ftrue, fsep, froom, flft, ‵}
-use Rattle.thread_local_model.proofs.Names.{raw, ◌⊛◌, given, at_ret, ◌$◌, ◌∵◌, !, qed, by, move, keep, use1}
-use Rattle.thread_local_model.proofs.Names.{use2, split, join, fsplit, fsplit3, fjoin, fjoin3, learn, rewrite, feq_i}
-use Rattle.thread_local_model.proofs.Names.{stop, fld, load, look_raw, size_word, of_opd, bin, first, blocks, exec}
-use Rattle.thread_local_model.proofs.Names.{returns, enter, alloc_all, pass_all, free_all, look_at, get, through, sets}
-use Rattle.thread_local_model.proofs.Names.{sets_last, is, env, sub, look_in, whole, tables, fact, yes}
-use Rattle.thread_local_model.proofs.Names.{RattleType, owns, types_at, plain, Ptr, block_ptr, block_of, count_of}
-use Rattle.thread_local_model.proofs.Names.{at_block, InBlock, nothing, heard, opens, closes, peeks, shows, param}
-use Rattle.thread_local_model.proofs.Names.{layout, param_laws, bounded, usize, mut_vals, mut_Tells, uint_vals}
-use Rattle.thread_local_model.proofs.Names.{uint_Tells, Stays, stay_dropped, stay_ref, walk_of, Goes-dropped, Goes-ref}
-use Rattle.thread_local_model.proofs.Names.{cell_at, Member, proved, leaves, after, spread}
+use Rattle.thread_local_base.proofs.Names.{◌≡◌, ℕ, ◌+◌, ◌*◌, ◌^◌, ◌<◌, List, [], ◌∷◌, length, sym, refl, ap, ◌∙◌}
+use Rattle.thread_local_base.proofs.Names.{subst, w64, Option, Some, Ty, a_type, dcons, dnil, named, Val, vint, vptr}
+use Rattle.thread_local_base.proofs.Names.{inst_fn, bare, full_share, SProp, Fml, ftrue, fsep, froom, flft, ‵}
+use Rattle.thread_local_base.proofs.Names.{raw, ◌⊛◌, given, at_ret, ◌$◌, ◌∵◌, !, qed, by, move, keep, use1}
+use Rattle.thread_local_base.proofs.Names.{use2, split, join, fsplit, fsplit3, fjoin, fjoin3, learn, rewrite, feq_i}
+use Rattle.thread_local_base.proofs.Names.{stop, fld, load, look_raw, size_word, of_opd, bin, first, blocks, exec}
+use Rattle.thread_local_base.proofs.Names.{returns, enter, alloc_all, pass_all, free_all, look_at, get, through, sets}
+use Rattle.thread_local_base.proofs.Names.{sets_last, is, env, sub, look_in, whole, tables, fact, yes}
+use Rattle.thread_local_base.proofs.Names.{RattleType, owns, types_at, plain, Ptr, block_ptr, block_of, count_of}
+use Rattle.thread_local_base.proofs.Names.{at_block, InBlock, nothing, heard, opens, closes, peeks, shows, param}
+use Rattle.thread_local_base.proofs.Names.{layout, param_laws, bounded, usize, mut_vals, mut_Tells, uint_vals}
+use Rattle.thread_local_base.proofs.Names.{uint_Tells, Stays, stay_dropped, stay_ref, walk_of, Goes-dropped, Goes-ref}
+use Rattle.thread_local_base.proofs.Names.{cell_at, Member, proved, leaves, after, spread}
 use Rattle.std.specs.Prelude.{IsSome}
 use base.Logic.{apply∗}
 use types.Logic.{sem}
@@ -25,7 +25,7 @@ use Rattle.thread_local_bucket_pointers.proofs.Fields.{block_val, told}
 use Rattle.thread_local_bucket_pointers.proofs.RetiredBlocks.{Emptied, next_slot}
 use Rattle.thread_local_bucket_pointers.proofs.retired.RetiredBlock.move_next.Statement.{statement}
 use Rattle.thread_local_bucket_pointers.proofs.retired.RetiredBlock.move_next.Code as code
-use Rattle.thread_local_model.proofs.Walking.{knows}
+use Rattle.thread_local_base.proofs.Walking.{knows}
 
 pub move_next_spec : {M : Type 1} → statement M
 move_next_spec 𝓤 𝓛 𝓜 𝓡 wired T Al L _ ga da dd _ _ =

@@ -1,12 +1,12 @@
 -- `of` takes the block's pointer.
-use Rattle.thread_local_model.proofs.Names.{◌≡◌, ℕ, List, [], ◌∷◌, refl, w64, Option, Ty, a_type, dcons, dnil, Val}
-use Rattle.thread_local_model.proofs.Names.{vint, inst_fn, Fml, ‵, raw, ◌⊛◌, ◌$◌, ◌∵◌, !, qed, by, move}
-use Rattle.thread_local_model.proofs.Names.{keep, use0, use1, split, fsplit, fjoin, rewrite, stop, fld, of_opd}
-use Rattle.thread_local_model.proofs.Names.{no_more, and_then, returns, enter, alloc_all, pass_all, free_all, look_at}
-use Rattle.thread_local_model.proofs.Names.{get, get_in, sets, agg, sub, whole, fact, yes, no}
-use Rattle.thread_local_model.proofs.Names.{RattleType, owns, types_at, plain, Ptr, nothing, heard, param, bounded}
-use Rattle.thread_local_model.proofs.Names.{alive, usize, uint_vals, uint_Tells, Stays, stay_dropped, walk_of}
-use Rattle.thread_local_model.proofs.Names.{Goes-dropped, proved, leaves}
+use Rattle.thread_local_base.proofs.Names.{◌≡◌, ℕ, List, [], ◌∷◌, refl, w64, Option, Ty, a_type, dcons, dnil, Val}
+use Rattle.thread_local_base.proofs.Names.{vint, inst_fn, Fml, ‵, raw, ◌⊛◌, ◌$◌, ◌∵◌, !, qed, by, move}
+use Rattle.thread_local_base.proofs.Names.{keep, use0, use1, split, fsplit, fjoin, rewrite, stop, fld, of_opd}
+use Rattle.thread_local_base.proofs.Names.{no_more, and_then, returns, enter, alloc_all, pass_all, free_all, look_at}
+use Rattle.thread_local_base.proofs.Names.{get, get_in, sets, agg, sub, whole, fact, yes, no}
+use Rattle.thread_local_base.proofs.Names.{RattleType, owns, types_at, plain, Ptr, nothing, heard, param, bounded}
+use Rattle.thread_local_base.proofs.Names.{alive, usize, uint_vals, uint_Tells, Stays, stay_dropped, walk_of}
+use Rattle.thread_local_base.proofs.Names.{Goes-dropped, proved, leaves}
 use Rattle.std.specs.Prelude.{take, drop as but_first}
 use Rattle.thread_local_bucket_pointers.specs.Slots.{empty_slots, block_owns}
 use Rattle.thread_local_bucket_pointers.specs.Retired.{retired_owns}
@@ -18,7 +18,7 @@ use Rattle.thread_local_bucket_pointers.proofs.Slots.{ptr_good}
 use Rattle.thread_local_bucket_pointers.proofs.RetiredBlocks.{starts_at}
 use Rattle.thread_local_bucket_pointers.proofs.retired.RetiredBlock.of.Statement.{statement}
 use Rattle.thread_local_bucket_pointers.proofs.retired.RetiredBlock.of.Code as code
-use Rattle.thread_local_model.proofs.Walking.{knows}
+use Rattle.thread_local_base.proofs.Walking.{knows}
 use Rattle.thread_local_bucket_pointers.proofs.Fields.{FieldsType, made}
 
 pub of_spec : {M : Type 1} → statement M

@@ -1,7 +1,7 @@
 use Rattle.std.proofs.Common.{◌≡◌, sym, ◌∙◌, subst}
-use Rattle.thread_local_model.specs.Owned.{Owned}
-use Rattle.thread_local_model.specs.Owner.{emptied}
-use Rattle.thread_local_model.proofs.EmptyingLaws.{emptied-none}
+use Rattle.thread_local_base.specs.Owned.{Owned}
+use Rattle.thread_local_base.specs.Owner.{emptied}
+use Rattle.thread_local_base.proofs.EmptyingLaws.{emptied-none}
 use Rattle.thread_local_buckets.proofs.buckets.Buckets.begin_walk.Goals as goal
 
 pub returns-clause-ends : goal.returns-clause-ends

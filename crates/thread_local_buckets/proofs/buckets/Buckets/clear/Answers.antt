@@ -1,9 +1,9 @@
 use Rattle.std.proofs.Common.{ap, ◌∙◌, arith}
 use Rattle.std.specs.Prelude.{nat_lt}
-use Rattle.thread_local_model.specs.Place.{id_at}
-use Rattle.thread_local_model.specs.Owned.{Owned}
-use Rattle.thread_local_model.specs.Owner.{cleared_row}
-use Rattle.thread_local_model.proofs.ClearingLaws.{row-cleared, stands-cleared, values-cleared, slots-cleared, IsOwned-cleared}
+use Rattle.thread_local_base.specs.Place.{id_at}
+use Rattle.thread_local_base.specs.Owned.{Owned}
+use Rattle.thread_local_base.specs.Owner.{cleared_row}
+use Rattle.thread_local_base.proofs.ClearingLaws.{row-cleared, stands-cleared, values-cleared, slots-cleared, IsOwned-cleared}
 use Rattle.thread_local_buckets.proofs.buckets.Buckets.clear.Goals as goal
 
 pub clear-requires : goal.clear-requires

@@ -2,11 +2,11 @@ use Rattle.std.proofs.Common.{◌≡◌, ℕ, List, [], Option, None, length, ma
 use Rattle.std.specs.Prelude.{nat_lt}
 use Rattle.std.proofs.lemmas.List.{length-map}
 use Rattle.std.proofs.Math.ListN.{get_or-map}
-use Rattle.thread_local_model.specs.Buckets.{Contents, row, stands, values}
-use Rattle.thread_local_model.specs.Owned.{Owned}
-use Rattle.thread_local_model.specs.Owner.{emptied}
-use Rattle.thread_local_model.specs.Walk.{walk}
-use Rattle.thread_local_model.proofs.EmptyingLaws.{values-emptied}
+use Rattle.thread_local_base.specs.Buckets.{Contents, row, stands, values}
+use Rattle.thread_local_base.specs.Owned.{Owned}
+use Rattle.thread_local_base.specs.Owner.{emptied}
+use Rattle.thread_local_base.specs.Walk.{walk}
+use Rattle.thread_local_base.proofs.EmptyingLaws.{values-emptied}
 use Rattle.thread_local_bucket_pointers.specs.Cursor.{IsOwnerWalk}
 use Rattle.thread_local_buckets.specs.Emptied.{owned_emptied}
 use Rattle.thread_local_buckets.proofs.DrainLaws.{keeps_along}

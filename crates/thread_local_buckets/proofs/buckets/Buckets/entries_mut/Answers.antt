@@ -1,7 +1,7 @@
 use Rattle.std.proofs.Common.{refl, ap, ◌∙◌}
-use Rattle.thread_local_model.specs.Buckets.{Contents, values}
-use Rattle.thread_local_model.specs.Owned.{Owned}
-use Rattle.thread_local_model.specs.Walk.{walk, paired}
+use Rattle.thread_local_base.specs.Buckets.{Contents, values}
+use Rattle.thread_local_base.specs.Owned.{Owned}
+use Rattle.thread_local_base.specs.Walk.{walk, paired}
 use Rattle.thread_local_buckets.specs.LendingValues.{owned_refilled}
 use Rattle.thread_local_buckets.proofs.Refilling.{refilled-stands, refilled-published}
 use Rattle.thread_local_buckets.proofs.buckets.Buckets.entries_mut.Goals as goal

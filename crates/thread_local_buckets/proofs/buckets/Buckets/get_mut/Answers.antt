@@ -2,16 +2,16 @@ use Rattle.std.proofs.Common.{◌≡◌, ◌<◌, ◌^◌, ℕ, true, false, Som
 use Rattle.std.specs.Prelude.{is_some, IsSome}
 use Rattle.std.proofs.lemmas.Bool.{cond-true}
 use mathlib.Core.Path.{fun_ext}
-use Rattle.thread_local_model.specs.Place.{id_at}
-use Rattle.thread_local_model.specs.Buckets.{Contents, row, stands, values, IsTable}
-use Rattle.thread_local_model.specs.Owned.{Owned, IsOwned}
-use Rattle.thread_local_model.specs.Rows.{value_in, with_slot, with_row, empty_row}
-use Rattle.thread_local_model.specs.Walk.{with_value}
-use Rattle.thread_local_model.specs.Owner.{with_published}
-use Rattle.thread_local_model.proofs.InsertingLaws.{published_values, IsOwned-with_published}
+use Rattle.thread_local_base.specs.Place.{id_at}
+use Rattle.thread_local_base.specs.Buckets.{Contents, row, stands, values, IsTable}
+use Rattle.thread_local_base.specs.Owned.{Owned, IsOwned}
+use Rattle.thread_local_base.specs.Rows.{value_in, with_slot, with_row, empty_row}
+use Rattle.thread_local_base.specs.Walk.{with_value}
+use Rattle.thread_local_base.specs.Owner.{with_published}
+use Rattle.thread_local_base.proofs.InsertingLaws.{published_values, IsOwned-with_published}
 use Rattle.thread_local_buckets.specs.Inserting.{owned_with}
 use Rattle.thread_local_buckets.proofs.buckets.Buckets.get_mut.Goals as goal
-use Rattle.thread_local_model.proofs.TakingLaws.{shows_none}
+use Rattle.thread_local_base.proofs.TakingLaws.{shows_none}
 
 -- the map has what was written, and is unchanged elsewhere
 map_of : {V : Type 0} (o now : Owned V) (b i : ℕ) → o ≡ now → IsTable o.contents → b < 63 → i < 2 ^ b

@@ -3,15 +3,15 @@ use Rattle.std.proofs.Common.{inr, refl, lit<, List, Option, is_some, set, get_o
 use Rattle.std.specs.Prelude.{unwrap_or, IsSome}
 use Rattle.std.proofs.lemmas.List.{get_or-set_same}
 use mathlib.Core.Path.{fun_ext}
-use Rattle.thread_local_model.specs.Place.{id_at}
-use Rattle.thread_local_model.specs.Buckets.{Contents, row, stands, IsTable}
-use Rattle.thread_local_model.specs.Owned.{Owned, IsOwned}
-use Rattle.thread_local_model.specs.Rows.{value_in, with_slot}
-use Rattle.thread_local_model.specs.Sheet.{moved}
-use Rattle.thread_local_model.specs.Owner.{with_bucket, with_published, sheet_of, publish_or_keep}
-use Rattle.thread_local_model.proofs.RowLaws.{row-with_row-same, length-row-with_slot}
-use Rattle.thread_local_model.proofs.StandingLaws.{row-absent, whole-with_bucket}
-use Rattle.thread_local_model.proofs.InsertingLaws.{ends, answers, rows-with_bucket, IsOwned-with_published, published_moves, published_stands}
+use Rattle.thread_local_base.specs.Place.{id_at}
+use Rattle.thread_local_base.specs.Buckets.{Contents, row, stands, IsTable}
+use Rattle.thread_local_base.specs.Owned.{Owned, IsOwned}
+use Rattle.thread_local_base.specs.Rows.{value_in, with_slot}
+use Rattle.thread_local_base.specs.Sheet.{moved}
+use Rattle.thread_local_base.specs.Owner.{with_bucket, with_published, sheet_of, publish_or_keep}
+use Rattle.thread_local_base.proofs.RowLaws.{row-with_row-same, length-row-with_slot}
+use Rattle.thread_local_base.proofs.StandingLaws.{row-absent, whole-with_bucket}
+use Rattle.thread_local_base.proofs.InsertingLaws.{ends, answers, rows-with_bucket, IsOwned-with_published, published_moves, published_stands}
 use Rattle.thread_local_buckets.specs.Inserting.{owned_with}
 use Rattle.thread_local_buckets.proofs.buckets.Buckets.insert.Goals as goal
 

@@ -1,5 +1,5 @@
 use Rattle.std.proofs.Common.{ℕ, map, refl, ap, ◌∙◌}
-use Rattle.thread_local_model.specs.Buckets.{values}
+use Rattle.thread_local_base.specs.Buckets.{values}
 use Rattle.thread_local_buckets.proofs.EntriesLaws.{walk_of_entries}
 use Rattle.thread_local_buckets.proofs.buckets.Buckets.iter_mut.Goals as goal
 

@@ -1,14 +1,14 @@
 -- `lend` takes the address of the pointers, and splits the owner's borrow to make what a loan owns.
-use Rattle.thread_local_model.proofs.Names.{◌≡◌, ℕ, ◌+◌, [], ◌∷◌, refl, ap, full_share, a_type, named, vptr}
-use Rattle.thread_local_model.proofs.Names.{inst_fn, SProp, ent, ex, sep, sem, Lft, Share, GName, Fml, ftrue}
-use Rattle.thread_local_model.proofs.Names.{fsep, flft, ‵, raw, ◌⊛◌, some, given, later, ◌$◌, ◌∵◌, !, qed, by, move}
-use Rattle.thread_local_model.proofs.Names.{keep, split, split3, join, fsplit, fsplit3, fjoin, pick, learn, group}
-use Rattle.thread_local_model.proofs.Names.{use0, use1, use2, await, stop, fld, addr, of_opd, returns, enter}
-use Rattle.thread_local_model.proofs.Names.{alloc_all, pass_all, free_all, look_at, get, through, sets, open_ref}
-use Rattle.thread_local_model.proofs.Names.{no, RattleType, owns, types_at, plain, named_lft}
-use Rattle.thread_local_model.proofs.Names.{block_ptr, nothing, mem, lone, part_at, param, param_laws, layouts, usize}
-use Rattle.thread_local_model.proofs.Names.{RefMutOf, mut_vals, mut_Tells, Stays, stay_dropped, walk_of, proved}
-use Rattle.thread_local_model.proofs.Names.{leaves, Member, w64}
+use Rattle.thread_local_base.proofs.Names.{◌≡◌, ℕ, ◌+◌, [], ◌∷◌, refl, ap, full_share, a_type, named, vptr}
+use Rattle.thread_local_base.proofs.Names.{inst_fn, SProp, ent, ex, sep, sem, Lft, Share, GName, Fml, ftrue}
+use Rattle.thread_local_base.proofs.Names.{fsep, flft, ‵, raw, ◌⊛◌, some, given, later, ◌$◌, ◌∵◌, !, qed, by, move}
+use Rattle.thread_local_base.proofs.Names.{keep, split, split3, join, fsplit, fsplit3, fjoin, pick, learn, group}
+use Rattle.thread_local_base.proofs.Names.{use0, use1, use2, await, stop, fld, addr, of_opd, returns, enter}
+use Rattle.thread_local_base.proofs.Names.{alloc_all, pass_all, free_all, look_at, get, through, sets, open_ref}
+use Rattle.thread_local_base.proofs.Names.{no, RattleType, owns, types_at, plain, named_lft}
+use Rattle.thread_local_base.proofs.Names.{block_ptr, nothing, mem, lone, part_at, param, param_laws, layouts, usize}
+use Rattle.thread_local_base.proofs.Names.{RefMutOf, mut_vals, mut_Tells, Stays, stay_dropped, walk_of, proved}
+use Rattle.thread_local_base.proofs.Names.{leaves, Member, w64}
 use types.Logic.{Logic}
 use types.Run.{no_more, and_then}
 use types.Part.{agg}
@@ -21,12 +21,12 @@ use denote.Plain.{uint_Lawful}
 use denote.Struct.Parts.{PartsBack}
 use denote.Struct.Pick.{rest_at, field_out, field_back}
 use denote.Triple.Walked.{Goes-spent_ref}
-use Rattle.thread_local_model.specs.Buckets.{Contents, IsTable}
-use Rattle.thread_local_model.specs.Owned.{Owned}
+use Rattle.thread_local_base.specs.Buckets.{Contents, IsTable}
+use Rattle.thread_local_base.specs.Owned.{Owned}
 use Rattle.thread_local_bucket_pointers.specs.contracts.bucket_pointers.BucketPointers as all_pointers
 use Rattle.thread_local_bucket_pointers.proofs.bucket_pointers.BucketPointers.TheLaws as pointers_laws
 use Rattle.thread_local_buckets.specs.Lent.{loan_owns}
-use Rattle.thread_local_model.specs.Refilled.{refilled}
+use Rattle.thread_local_base.specs.Refilled.{refilled}
 use Rattle.thread_local_buckets.specs.contracts.loan.Loan as loan
 use Rattle.thread_local_buckets.proofs.Fields.{FieldsType, loan_val, made}
 use Rattle.thread_local_buckets.proofs.Lending.{lends}
@@ -37,7 +37,7 @@ use Rattle.thread_local_buckets.specs.contracts.buckets.Buckets.lend.{ended, cla
 use Rattle.thread_local_buckets.proofs.Refilling.{IsOwned-refilled}
 use Rattle.thread_local_buckets.proofs.buckets.Buckets.lend.Statement.{statement}
 use Rattle.thread_local_buckets.proofs.buckets.Buckets.lend.Code as code
-use Rattle.thread_local_model.proofs.Walking.{knows}
+use Rattle.thread_local_base.proofs.Walking.{knows}
 
 module _ {M : Type 1} {𝓤 : Ura M} (𝓛 : Logic 𝓤) (X : RattleType) (L : Laws X) (b o : ℕ) (t : Owned (param 0 X).Denot) where
   abbrev R : RattleType

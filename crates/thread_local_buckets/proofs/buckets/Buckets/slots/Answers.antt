@@ -1,8 +1,8 @@
 use Rattle.std.proofs.Common.{◌≡◌, ◌^◌, ◌≤◌, ℕ, Bool, true, false, sym, ◌∙◌, ap, refl, arith, pow_mono}
-use Rattle.thread_local_model.specs.Buckets.{Contents, stands, slots}
-use Rattle.thread_local_model.specs.Owned.{Owned}
-use Rattle.thread_local_model.proofs.SlotsLaws.{slots_below-lt}
-use Rattle.thread_local_model.proofs.StandingLaws.{slots_below-zero, slots_below-standing, slots_below-absent, slots-all}
+use Rattle.thread_local_base.specs.Buckets.{Contents, stands, slots}
+use Rattle.thread_local_base.specs.Owned.{Owned}
+use Rattle.thread_local_base.proofs.SlotsLaws.{slots_below-lt}
+use Rattle.thread_local_base.proofs.StandingLaws.{slots_below-zero, slots_below-standing, slots_below-absent, slots-all}
 use Rattle.thread_local_buckets.proofs.Reserving.{few_reserved}
 use Rattle.thread_local_buckets.proofs.buckets.Buckets.slots.Goals as goal
 use Rattle.thread_local_buckets.proofs.buckets.Buckets.slots.Goals.{then-stands, else-stands}

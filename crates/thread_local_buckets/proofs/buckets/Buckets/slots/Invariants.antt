@@ -1,5 +1,5 @@
 use Rattle.std.proofs.Common.{◌≡◌}
-use Rattle.thread_local_model.specs.Buckets.{slots_below, stands}
+use Rattle.thread_local_base.specs.Buckets.{slots_below, stands}
 use Rattle.thread_local_buckets.proofs.buckets.Buckets.slots.Given as goal
 
 -- the slots of the buckets so far

@@ -1,14 +1,14 @@
 use Rattle.std.proofs.Common.{◌≡◌, ◌+◌, ◌-◌, ◌^◌, ◌<◌, ◌≤◌, ℕ, None, ◌∷◌, ap, sym, ◌∙◌, subst, length, arith, pow_pos, lit<}
 use Rattle.std.specs.Prelude.{IsSome, IsTrue, nat_lt}
-use Rattle.thread_local_model.specs.Buckets.{Contents, IsTable, row, values}
-use Rattle.thread_local_model.specs.Owned.{Owned, IsOwned}
-use Rattle.thread_local_model.specs.Rows.{value_in, with_slot}
-use Rattle.thread_local_model.specs.Owner.{emptied}
-use Rattle.thread_local_model.specs.Walk.{walk, paired}
+use Rattle.thread_local_base.specs.Buckets.{Contents, IsTable, row, values}
+use Rattle.thread_local_base.specs.Owned.{Owned, IsOwned}
+use Rattle.thread_local_base.specs.Rows.{value_in, with_slot}
+use Rattle.thread_local_base.specs.Owner.{emptied}
+use Rattle.thread_local_base.specs.Walk.{walk, paired}
 use Rattle.thread_local_bucket_pointers.specs.Cursor.{values_left, read_to, slot_at, AreFlagsAt, IsOwnerWalk}
 use Rattle.thread_local_bucket_pointers.specs.declared.cursor.OwnerCursor.{OwnerCursor}
-use Rattle.thread_local_model.proofs.RowLaws.{IsTable-with_slot, length-row-with_slot, row_whole}
-use Rattle.thread_local_model.proofs.EmptyingLaws.{emptied-with_slot, emptied-none}
+use Rattle.thread_local_base.proofs.RowLaws.{IsTable-with_slot, length-row-with_slot, row_whole}
+use Rattle.thread_local_base.proofs.EmptyingLaws.{emptied-with_slot, emptied-none}
 use Rattle.thread_local_buckets.specs.Emptied.{owned_emptied}
 use Rattle.thread_local_buckets.proofs.EntriesLaws.{IsNear, is_near}
 use Rattle.thread_local_buckets.proofs.buckets.Buckets.take_next.Goals as goal

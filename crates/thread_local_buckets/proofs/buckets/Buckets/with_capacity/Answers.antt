@@ -1,8 +1,8 @@
 use Rattle.std.proofs.Common.{◌≡◌, ◌+◌, ◌-◌, ◌^◌, ◌≤◌, ℕ, refl, subst, sym, ap, ◌∙◌, arith}
-use Rattle.thread_local_model.specs.Buckets.{Contents}
-use Rattle.thread_local_model.specs.Owned.{IsOwned}
-use Rattle.thread_local_model.specs.Capacity.{binary_digits}
-use Rattle.thread_local_model.proofs.FillingLaws.{IsFilled, IsOwned-filled, slots-filled, reserved-digits}
+use Rattle.thread_local_base.specs.Buckets.{Contents}
+use Rattle.thread_local_base.specs.Owned.{IsOwned}
+use Rattle.thread_local_base.specs.Capacity.{binary_digits}
+use Rattle.thread_local_base.proofs.FillingLaws.{IsFilled, IsOwned-filled, slots-filled, reserved-digits}
 use Rattle.thread_local_buckets.proofs.Descending.{IsFilledFrom, IsFilledFrom-none, IsFilledFrom-more, IsFilledFrom-all}
 use Rattle.thread_local_buckets.proofs.buckets.Buckets.with_capacity.Goals as goal
 

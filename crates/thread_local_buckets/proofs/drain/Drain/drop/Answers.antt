@@ -1,7 +1,7 @@
 use Rattle.std.proofs.Common.{ap, sym, ◌∙◌}
-use Rattle.thread_local_model.specs.Owned.{Owned}
-use Rattle.thread_local_model.specs.Owner.{emptied}
-use Rattle.thread_local_model.proofs.EmptyingLaws.{emptied-emptied}
+use Rattle.thread_local_base.specs.Owned.{Owned}
+use Rattle.thread_local_base.specs.Owner.{emptied}
+use Rattle.thread_local_base.proofs.EmptyingLaws.{emptied-emptied}
 use Rattle.thread_local_buckets.proofs.drain.Drain.drop.Goals as goal
 
 pub invariant_of-self : goal.invariant_of-self

@@ -1,5 +1,5 @@
 use Rattle.std.proofs.Common.{◌≡◌, ◌+◌, ◌<◌, ℕ, arith, ◌∷◌, List, map, refl, ap, sym, ◌∙◌}
-use Rattle.thread_local_model.specs.Buckets.{values}
+use Rattle.thread_local_base.specs.Buckets.{values}
 use Rattle.thread_local_buckets.proofs.EntriesLaws.{walk_of_entries}
 use Rattle.thread_local_buckets.proofs.drain.DrainIterator.next.Goals as goal
 

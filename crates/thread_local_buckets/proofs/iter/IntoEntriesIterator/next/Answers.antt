@@ -1,5 +1,5 @@
 use Rattle.std.proofs.Common.{sym, ◌∙◌}
-use Rattle.thread_local_model.specs.Buckets.{values}
+use Rattle.thread_local_base.specs.Buckets.{values}
 use Rattle.thread_local_buckets.proofs.EntriesLaws.{no_entries, shorter}
 use Rattle.thread_local_buckets.proofs.iter.IntoEntriesIterator.next.Goals as goal
 

@@ -1,9 +1,9 @@
 use Rattle.std.proofs.Common.{◌≡◌, ◌+◌, ◌-◌, ◌^◌, ◌<◌, ◌≤◌, ℕ, None, Some, ◌∷◌, ap, sym, ◌∙◌, subst, length, arith}
 use Rattle.std.specs.Prelude.{IsSome}
-use Rattle.thread_local_model.specs.Place.{id_at}
-use Rattle.thread_local_model.specs.Buckets.{Contents, row, values}
-use Rattle.thread_local_model.specs.Rows.{value_in, with_slot}
-use Rattle.thread_local_model.specs.Walk.{walk, paired}
+use Rattle.thread_local_base.specs.Place.{id_at}
+use Rattle.thread_local_base.specs.Buckets.{Contents, row, values}
+use Rattle.thread_local_base.specs.Rows.{value_in, with_slot}
+use Rattle.thread_local_base.specs.Walk.{walk, paired}
 use Rattle.thread_local_bucket_pointers.specs.Cursor.{slot_at, read_to, IsAt, IsOwnerWalk}
 use Rattle.thread_local_bucket_pointers.specs.declared.cursor.RawIter.{RawIter}
 use Rattle.thread_local_buckets.specs.Entered.{IsEntered}

@@ -3,22 +3,22 @@
 use types.Part.{store_in}
 use Rattle.thread_local_bucket_pointers.specs.Slots.{stride, value_offset}
 use Rattle.thread_local_bucket_pointers.proofs.Flags.{uncapped, value_near}
-use Rattle.thread_local_model.proofs.Names.{drop, is, size_word, assigns, unit_lit, vunit, cell, length, apply∗, sem}
-use Rattle.thread_local_model.proofs.Names.{◌≡◌, ℕ, ◌+◌, ◌*◌, ◌^◌, ◌<◌, List, [], ◌∷◌, sym, refl, ap, ◌∙◌, subst}
-use Rattle.thread_local_model.proofs.Names.{arith, w64, a_type, named, Val, vint, vptr, inst_fn, full_share, SProp}
-use Rattle.thread_local_model.proofs.Names.{Fml, ftrue, fsep, flft, ‵, raw, ◌⊛◌, at_ret, ◌$◌, ◌∵◌, !, qed, by}
-use Rattle.thread_local_model.proofs.Names.{move, keep, use0, use1, use2, split, join, fsplit, fsplit3, fjoin, fjoin3}
-use Rattle.thread_local_model.proofs.Names.{fpick, fpack, rewrite, feq_i, stop, fld, load, lit, of_opd, bin, first}
-use Rattle.thread_local_model.proofs.Names.{blocks, exec, returns, enter, look, alloc_all, pass_all, free_all, look_at}
-use Rattle.thread_local_model.proofs.Names.{get, through, sets, sets_last, env, sub, look_in, whole, bor_open}
-use Rattle.thread_local_model.proofs.Names.{obor_close, tables, yes, RattleType, owns, types_at, plain}
-use Rattle.thread_local_model.proofs.Names.{named_lft, Ptr, block_ptr, block_of, count_of, at_block, nothing, heard}
-use Rattle.thread_local_model.proofs.Names.{opens, closes, peeks, Is, shows, cell_at, param, layouts, usize, mut_vals}
-use Rattle.thread_local_model.proofs.Names.{mut_Tells, uint_vals, uint_Tells, Stays, stay_dropped, stay_ref, walk_of}
-use Rattle.thread_local_model.proofs.Names.{Goes-dropped, Goes-ref, proved, leaves}
+use Rattle.thread_local_base.proofs.Names.{drop, is, size_word, assigns, unit_lit, vunit, cell, length, apply∗, sem}
+use Rattle.thread_local_base.proofs.Names.{◌≡◌, ℕ, ◌+◌, ◌*◌, ◌^◌, ◌<◌, List, [], ◌∷◌, sym, refl, ap, ◌∙◌, subst}
+use Rattle.thread_local_base.proofs.Names.{arith, w64, a_type, named, Val, vint, vptr, inst_fn, full_share, SProp}
+use Rattle.thread_local_base.proofs.Names.{Fml, ftrue, fsep, flft, ‵, raw, ◌⊛◌, at_ret, ◌$◌, ◌∵◌, !, qed, by}
+use Rattle.thread_local_base.proofs.Names.{move, keep, use0, use1, use2, split, join, fsplit, fsplit3, fjoin, fjoin3}
+use Rattle.thread_local_base.proofs.Names.{fpick, fpack, rewrite, feq_i, stop, fld, load, lit, of_opd, bin, first}
+use Rattle.thread_local_base.proofs.Names.{blocks, exec, returns, enter, look, alloc_all, pass_all, free_all, look_at}
+use Rattle.thread_local_base.proofs.Names.{get, through, sets, sets_last, env, sub, look_in, whole, bor_open}
+use Rattle.thread_local_base.proofs.Names.{obor_close, tables, yes, RattleType, owns, types_at, plain}
+use Rattle.thread_local_base.proofs.Names.{named_lft, Ptr, block_ptr, block_of, count_of, at_block, nothing, heard}
+use Rattle.thread_local_base.proofs.Names.{opens, closes, peeks, Is, shows, cell_at, param, layouts, usize, mut_vals}
+use Rattle.thread_local_base.proofs.Names.{mut_Tells, uint_vals, uint_Tells, Stays, stay_dropped, stay_ref, walk_of}
+use Rattle.thread_local_base.proofs.Names.{Goes-dropped, Goes-ref, proved, leaves}
 use contract.Monad.{fact}
 use Rattle.std.proofs.alloc.Shapes.{after}
-use Rattle.thread_local_model.specs.Buckets.{row}
+use Rattle.thread_local_base.specs.Buckets.{row}
 use Rattle.thread_local_buckets.specs.Lent.{Lending, Known, lending, framed, frames, PointsTo}
 use Rattle.thread_local_buckets.specs.contracts.loan.Loan as loan
 use Rattle.thread_local_buckets.specs.contracts.loan.Loan.enter.{ended, clauses, Key.name as #self}
@@ -26,7 +26,7 @@ use Rattle.thread_local_buckets.proofs.Fields.{FieldsType, told, made, loan_val,
 use Rattle.thread_local_buckets.proofs.Frames.{pointer, in_row, Frame, frame_out}
 use Rattle.thread_local_buckets.proofs.loan.Loan.enter.Statement.{statement}
 use Rattle.thread_local_buckets.proofs.loan.Loan.enter.Code as code
-use Rattle.thread_local_model.proofs.Walking.{knows}
+use Rattle.thread_local_base.proofs.Walking.{knows}
 
 pub enter_spec : {M : Type 1} → statement M
 enter_spec 𝓤 𝓛 𝓜 𝓡 wired X L =

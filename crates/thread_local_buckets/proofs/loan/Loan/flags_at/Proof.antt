@@ -1,27 +1,27 @@
 -- `flags_at` reads a bucket's pointer, and the word of a chunk in the block that it points to.
-use Rattle.thread_local_model.proofs.Names.{drop, apply∗, sem, split3, is, length, is_some, cell, ◌≤◌, ◌≡◌, ℕ, ◌+◌}
-use Rattle.thread_local_model.proofs.Names.{◌*◌, ◌^◌, ◌<◌, List, [], ◌∷◌, sym, refl, ap, ◌∙◌, subst, arith, w64}
-use Rattle.thread_local_model.proofs.Names.{a_type, named, Val, vint, vptr, inst_fn, full_share, SProp, Fml}
-use Rattle.thread_local_model.proofs.Names.{ftrue, fsep, flft, ‵, raw, ◌⊛◌, given, at_ret, ◌$◌, ◌∵◌, !, qed, by, move}
-use Rattle.thread_local_model.proofs.Names.{keep, use1, use2, split, join, fsplit, fsplit3, fjoin, fjoin3, fpick}
-use Rattle.thread_local_model.proofs.Names.{fpack, learn, rewrite, feq_i, stop, fld, load, lit, of_opd, bin, first}
-use Rattle.thread_local_model.proofs.Names.{blocks, exec, returns, enter, look, alloc_all, pass_all, free_all, look_at}
-use Rattle.thread_local_model.proofs.Names.{get, through, sets, sets_last, env, sub, look_in, whole, bor_open}
-use Rattle.thread_local_model.proofs.Names.{obor_close, tables, yes, RattleType, owns, types_at, plain}
-use Rattle.thread_local_model.proofs.Names.{named_lft, Ptr, block_ptr, block_of, count_of, at_block, nothing, heard}
-use Rattle.thread_local_model.proofs.Names.{opens, closes, peeks, Is, shows, cell_at, param, layouts, usize, mut_vals}
-use Rattle.thread_local_model.proofs.Names.{mut_Tells, uint_vals, uint_Tells, Stays, stay_dropped, stay_ref, walk_of}
-use Rattle.thread_local_model.proofs.Names.{Goes-dropped, Goes-ref, proved, leaves, wand, some, pick, flt_i}
+use Rattle.thread_local_base.proofs.Names.{drop, apply∗, sem, split3, is, length, is_some, cell, ◌≤◌, ◌≡◌, ℕ, ◌+◌}
+use Rattle.thread_local_base.proofs.Names.{◌*◌, ◌^◌, ◌<◌, List, [], ◌∷◌, sym, refl, ap, ◌∙◌, subst, arith, w64}
+use Rattle.thread_local_base.proofs.Names.{a_type, named, Val, vint, vptr, inst_fn, full_share, SProp, Fml}
+use Rattle.thread_local_base.proofs.Names.{ftrue, fsep, flft, ‵, raw, ◌⊛◌, given, at_ret, ◌$◌, ◌∵◌, !, qed, by, move}
+use Rattle.thread_local_base.proofs.Names.{keep, use1, use2, split, join, fsplit, fsplit3, fjoin, fjoin3, fpick}
+use Rattle.thread_local_base.proofs.Names.{fpack, learn, rewrite, feq_i, stop, fld, load, lit, of_opd, bin, first}
+use Rattle.thread_local_base.proofs.Names.{blocks, exec, returns, enter, look, alloc_all, pass_all, free_all, look_at}
+use Rattle.thread_local_base.proofs.Names.{get, through, sets, sets_last, env, sub, look_in, whole, bor_open}
+use Rattle.thread_local_base.proofs.Names.{obor_close, tables, yes, RattleType, owns, types_at, plain}
+use Rattle.thread_local_base.proofs.Names.{named_lft, Ptr, block_ptr, block_of, count_of, at_block, nothing, heard}
+use Rattle.thread_local_base.proofs.Names.{opens, closes, peeks, Is, shows, cell_at, param, layouts, usize, mut_vals}
+use Rattle.thread_local_base.proofs.Names.{mut_Tells, uint_vals, uint_Tells, Stays, stay_dropped, stay_ref, walk_of}
+use Rattle.thread_local_base.proofs.Names.{Goes-dropped, Goes-ref, proved, leaves, wand, some, pick, flt_i}
 use contract.Monad.{fact}
 use Rattle.std.proofs.alloc.Shapes.{after}
-use Rattle.thread_local_model.specs.Buckets.{row, IsTable}
-use Rattle.thread_local_model.specs.Place.{id_at}
-use Rattle.thread_local_model.specs.Rows.{value_in}
-use Rattle.thread_local_model.specs.Bits.{is_set}
+use Rattle.thread_local_base.specs.Buckets.{row, IsTable}
+use Rattle.thread_local_base.specs.Place.{id_at}
+use Rattle.thread_local_base.specs.Rows.{value_in}
+use Rattle.thread_local_base.specs.Bits.{is_set}
 use Rattle.thread_local_bucket_pointers.specs.Slots.{value_words, flag_word_at, flags_at}
 use Rattle.thread_local_bucket_pointers.proofs.Flags.{chunk_in}
 use Rattle.thread_local_bucket_pointers.proofs.Slots.{IsWordOf, IsWordNear, word_is_near}
-use Rattle.thread_local_model.proofs.RowLaws.{row_whole}
+use Rattle.thread_local_base.proofs.RowLaws.{row_whole}
 use Rattle.thread_local_buckets.specs.Lent.{Lending, Known, lending, framed, frames, flagged, PointsTo}
 use Rattle.thread_local_buckets.specs.contracts.loan.Loan as loan
 use Rattle.thread_local_buckets.specs.contracts.loan.Loan.flags_at.{ended, clauses, Key.name as #self}
@@ -30,7 +30,7 @@ use Rattle.thread_local_buckets.proofs.Frames.{pointer, in_row, Frame, frame_out
 use Rattle.thread_local_buckets.proofs.Reading.{word_out, says_of_left}
 use Rattle.thread_local_buckets.proofs.loan.Loan.flags_at.Statement.{statement}
 use Rattle.thread_local_buckets.proofs.loan.Loan.flags_at.Code as code
-use Rattle.thread_local_model.proofs.Walking.{knows}
+use Rattle.thread_local_base.proofs.Walking.{knows}
 
 pub flags_at_spec : {M : Type 1} → statement M
 flags_at_spec 𝓤 𝓛 𝓜 𝓡 wired X L =

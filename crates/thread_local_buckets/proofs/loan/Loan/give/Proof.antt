@@ -1,26 +1,26 @@
 -- `give` computes the address of a slot's value, and splits the value from those that the loan has
 -- left.
-use Rattle.thread_local_model.proofs.Names.{drop, split3, Some, IsSome, pick, some, later, await, fobs, addr, MutBor}
-use Rattle.thread_local_model.proofs.Names.{mem, is, size_word, length, None, ◌≤◌, ◌≡◌, ℕ, ◌+◌, ◌*◌, ◌^◌, ◌<◌, List}
-use Rattle.thread_local_model.proofs.Names.{[], ◌∷◌, sym, refl, ap, ◌∙◌, subst, w64, a_type, named, Val, vint, vptr}
-use Rattle.thread_local_model.proofs.Names.{inst_fn, full_share, SProp, emp, GName, Fml, ftrue, fsep, flft, fbor, ‵}
-use Rattle.thread_local_model.proofs.Names.{raw, ◌⊛◌, at_ret, ◌$◌, ◌∵◌, !, qed, by, move, keep, use0, use2, split}
-use Rattle.thread_local_model.proofs.Names.{join, fsplit, fsplit3, fjoin, fjoin3, fpick, fpack, rewrite, feq_i, stop}
-use Rattle.thread_local_model.proofs.Names.{fld, load, of_opd, bin, first, blocks, exec, returns, enter, alloc_all}
-use Rattle.thread_local_model.proofs.Names.{pass_all, free_all, look_at, get, through, sets, sets_last, env, sub}
-use Rattle.thread_local_model.proofs.Names.{look_in, whole, tables, fact_i, yes, RattleType, owns, types_at, plain}
-use Rattle.thread_local_model.proofs.Names.{named_lft, Ptr, block_ptr, block_of, count_of, at_block, nothing, heard}
-use Rattle.thread_local_model.proofs.Names.{opens, closes, peeks, Is, shows, cell_at, param, layouts, usize, mut_vals}
-use Rattle.thread_local_model.proofs.Names.{mut_Tells, uint_vals, uint_Tells, Stays, stay_dropped, stay_ref, walk_of}
-use Rattle.thread_local_model.proofs.Names.{Goes-dropped, Goes-ref, proved, leaves}
+use Rattle.thread_local_base.proofs.Names.{drop, split3, Some, IsSome, pick, some, later, await, fobs, addr, MutBor}
+use Rattle.thread_local_base.proofs.Names.{mem, is, size_word, length, None, ◌≤◌, ◌≡◌, ℕ, ◌+◌, ◌*◌, ◌^◌, ◌<◌, List}
+use Rattle.thread_local_base.proofs.Names.{[], ◌∷◌, sym, refl, ap, ◌∙◌, subst, w64, a_type, named, Val, vint, vptr}
+use Rattle.thread_local_base.proofs.Names.{inst_fn, full_share, SProp, emp, GName, Fml, ftrue, fsep, flft, fbor, ‵}
+use Rattle.thread_local_base.proofs.Names.{raw, ◌⊛◌, at_ret, ◌$◌, ◌∵◌, !, qed, by, move, keep, use0, use2, split}
+use Rattle.thread_local_base.proofs.Names.{join, fsplit, fsplit3, fjoin, fjoin3, fpick, fpack, rewrite, feq_i, stop}
+use Rattle.thread_local_base.proofs.Names.{fld, load, of_opd, bin, first, blocks, exec, returns, enter, alloc_all}
+use Rattle.thread_local_base.proofs.Names.{pass_all, free_all, look_at, get, through, sets, sets_last, env, sub}
+use Rattle.thread_local_base.proofs.Names.{look_in, whole, tables, fact_i, yes, RattleType, owns, types_at, plain}
+use Rattle.thread_local_base.proofs.Names.{named_lft, Ptr, block_ptr, block_of, count_of, at_block, nothing, heard}
+use Rattle.thread_local_base.proofs.Names.{opens, closes, peeks, Is, shows, cell_at, param, layouts, usize, mut_vals}
+use Rattle.thread_local_base.proofs.Names.{mut_Tells, uint_vals, uint_Tells, Stays, stay_dropped, stay_ref, walk_of}
+use Rattle.thread_local_base.proofs.Names.{Goes-dropped, Goes-ref, proved, leaves}
 use types.SemTy.{Body}
 use contract.Monad.{fact}
 use denote.Follow.{both_by}
 use types.Follow.{after₂}
 use Rattle.std.proofs.alloc.Shapes.{after}
-use Rattle.thread_local_model.specs.Buckets.{Contents, row}
-use Rattle.thread_local_model.specs.Place.{id_at}
-use Rattle.thread_local_model.specs.Rows.{value_in, with_slot}
+use Rattle.thread_local_base.specs.Buckets.{Contents, row}
+use Rattle.thread_local_base.specs.Place.{id_at}
+use Rattle.thread_local_base.specs.Rows.{value_in, with_slot}
 use Rattle.thread_local_bucket_pointers.specs.Slots.{stride, value_offset}
 use Rattle.thread_local_bucket_pointers.proofs.Flags.{uncapped}
 use Rattle.thread_local_buckets.specs.Lent.{Lending, Known, lending, Values, lent_values, shape}

@@ -1,13 +1,13 @@
 -- `lend_value` hands its call on to `give`, and lets go what that says of the loan's end.
-use Rattle.thread_local_model.proofs.Names.{later, some, await, pick, addr, MutBor, ℕ, ◌+◌, List}
-use Rattle.thread_local_model.proofs.Names.{[], ◌∷◌, refl, ap, w64, a_type, named, Val, vint, vptr, inst_fn, SProp, Fml}
-use Rattle.thread_local_model.proofs.Names.{ftrue, fsep, flft, fbor, ‵, raw, ◌⊛◌, ◌$◌, ◌∵◌, !, qed, by, move, keep}
-use Rattle.thread_local_model.proofs.Names.{use1, split, split3, fsplit3, fjoin3, feq_i, feq_l, drop, stop, id⊢}
-use Rattle.thread_local_model.proofs.Names.{returns, enter, alloc_all, pass_all, free_all, look_at, get}
-use Rattle.thread_local_model.proofs.Names.{through, sets, lands_as, and_then, no_more}
-use Rattle.thread_local_model.proofs.Names.{tables, yes, RattleType, plain, named_lft, param, layouts, usize, mem}
-use Rattle.thread_local_model.proofs.Names.{mut_vals, mut_Tells, uint_vals, uint_Tells, Stays, stay_dropped, walk_of}
-use Rattle.thread_local_model.proofs.Names.{Goes-dropped, proved, leaves, fm}
+use Rattle.thread_local_base.proofs.Names.{later, some, await, pick, addr, MutBor, ℕ, ◌+◌, List}
+use Rattle.thread_local_base.proofs.Names.{[], ◌∷◌, refl, ap, w64, a_type, named, Val, vint, vptr, inst_fn, SProp, Fml}
+use Rattle.thread_local_base.proofs.Names.{ftrue, fsep, flft, fbor, ‵, raw, ◌⊛◌, ◌$◌, ◌∵◌, !, qed, by, move, keep}
+use Rattle.thread_local_base.proofs.Names.{use1, split, split3, fsplit3, fjoin3, feq_i, feq_l, drop, stop, id⊢}
+use Rattle.thread_local_base.proofs.Names.{returns, enter, alloc_all, pass_all, free_all, look_at, get}
+use Rattle.thread_local_base.proofs.Names.{through, sets, lands_as, and_then, no_more}
+use Rattle.thread_local_base.proofs.Names.{tables, yes, RattleType, plain, named_lft, param, layouts, usize, mem}
+use Rattle.thread_local_base.proofs.Names.{mut_vals, mut_Tells, uint_vals, uint_Tells, Stays, stay_dropped, walk_of}
+use Rattle.thread_local_base.proofs.Names.{Goes-dropped, proved, leaves, fm}
 use base.Fml.{fres}
 use types.SemTy.{Body}
 use denote.Steps.{only}

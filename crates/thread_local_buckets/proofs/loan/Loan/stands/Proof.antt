@@ -1,22 +1,22 @@
 -- `stands` reads a bucket's pointer.
-use Rattle.thread_local_model.proofs.Names.{drop, apply∗, sem, ◌≡◌, ℕ, ◌+◌, ◌*◌, ◌^◌, ◌<◌, List, [], ◌∷◌, sym, refl}
-use Rattle.thread_local_model.proofs.Names.{ap, ◌∙◌, subst, arith, w64, Bool, a_type, named, Val, vint, vptr, inst_fn}
-use Rattle.thread_local_model.proofs.Names.{full_share, SProp, Fml, ftrue, fsep, flft, ‵, raw, ◌⊛◌, at_ret, ◌$◌}
-use Rattle.thread_local_model.proofs.Names.{◌∵◌, !, qed, by, move, keep, use1, use2, split, join, fsplit}
-use Rattle.thread_local_model.proofs.Names.{fsplit3, fjoin, fjoin3, fpick, fpack, rewrite, feq_i, stop, fld, load, lit}
-use Rattle.thread_local_model.proofs.Names.{of_opd, bin, un, first, blocks, exec, returns, enter, look, alloc_all}
-use Rattle.thread_local_model.proofs.Names.{pass_all, free_all, look_at, get, through, sets, sets_last, env, sub}
-use Rattle.thread_local_model.proofs.Names.{look_in, whole, bor_open, obor_close, tables, yes, RattleType}
-use Rattle.thread_local_model.proofs.Names.{owns, types_at, plain, named_lft, Ptr, block_ptr, block_of, count_of}
-use Rattle.thread_local_model.proofs.Names.{at_block, nothing, heard, opens, closes, peeks, Is, shows, cell_at, param}
-use Rattle.thread_local_model.proofs.Names.{layouts, usize, mut_vals, mut_Tells, uint_vals, uint_Tells, Stays}
-use Rattle.thread_local_model.proofs.Names.{stay_dropped, stay_ref, walk_of, Goes-dropped, Goes-ref, proved, leaves}
+use Rattle.thread_local_base.proofs.Names.{drop, apply∗, sem, ◌≡◌, ℕ, ◌+◌, ◌*◌, ◌^◌, ◌<◌, List, [], ◌∷◌, sym, refl}
+use Rattle.thread_local_base.proofs.Names.{ap, ◌∙◌, subst, arith, w64, Bool, a_type, named, Val, vint, vptr, inst_fn}
+use Rattle.thread_local_base.proofs.Names.{full_share, SProp, Fml, ftrue, fsep, flft, ‵, raw, ◌⊛◌, at_ret, ◌$◌}
+use Rattle.thread_local_base.proofs.Names.{◌∵◌, !, qed, by, move, keep, use1, use2, split, join, fsplit}
+use Rattle.thread_local_base.proofs.Names.{fsplit3, fjoin, fjoin3, fpick, fpack, rewrite, feq_i, stop, fld, load, lit}
+use Rattle.thread_local_base.proofs.Names.{of_opd, bin, un, first, blocks, exec, returns, enter, look, alloc_all}
+use Rattle.thread_local_base.proofs.Names.{pass_all, free_all, look_at, get, through, sets, sets_last, env, sub}
+use Rattle.thread_local_base.proofs.Names.{look_in, whole, bor_open, obor_close, tables, yes, RattleType}
+use Rattle.thread_local_base.proofs.Names.{owns, types_at, plain, named_lft, Ptr, block_ptr, block_of, count_of}
+use Rattle.thread_local_base.proofs.Names.{at_block, nothing, heard, opens, closes, peeks, Is, shows, cell_at, param}
+use Rattle.thread_local_base.proofs.Names.{layouts, usize, mut_vals, mut_Tells, uint_vals, uint_Tells, Stays}
+use Rattle.thread_local_base.proofs.Names.{stay_dropped, stay_ref, walk_of, Goes-dropped, Goes-ref, proved, leaves}
 use contract.Monad.{fact}
 use mir.Val.{vbool, vnull, ptr_same}
 use denote.RawPtr.{ptr_val}
 use Rattle.std.specs.Prelude.{not, nat_lt}
 use Rattle.std.proofs.alloc.Shapes.{after}
-use Rattle.thread_local_model.specs.Buckets.{row, IsTable, stands}
+use Rattle.thread_local_base.specs.Buckets.{row, IsTable, stands}
 use Rattle.thread_local_buckets.specs.Lent.{Lending, Known, lending, framed, frames, PointsTo}
 use Rattle.thread_local_buckets.specs.contracts.loan.Loan as loan
 use Rattle.thread_local_buckets.specs.contracts.loan.Loan.stands.{ended, clauses, Key.name as #self}
@@ -27,7 +27,7 @@ use Rattle.thread_local_buckets.proofs.Frames.{pointer, in_row, Frame, frame_out
 use Rattle.thread_local_buckets.proofs.loan.Loan.stands.Statement.{statement}
 use Rattle.thread_local_buckets.proofs.loan.Loan.stands.Code as code
 use Rattle.thread_local_bucket_pointers.proofs.Slots.{ptr_good}
-use Rattle.thread_local_model.proofs.Walking.{knows}
+use Rattle.thread_local_base.proofs.Walking.{knows}
 
 pub stands_spec : {M : Type 1} → statement M
 stands_spec 𝓤 𝓛 𝓜 𝓡 wired X L =

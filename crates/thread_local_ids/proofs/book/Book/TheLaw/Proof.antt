@@ -13,7 +13,7 @@ use denote.Struct.Laws.{field_copy}
 use denote.Struct.Lending.{of_Lends}
 use Rattle.std.proofs.Common.{ℕ, Option}
 use Rattle.std.specs.contracts.marker.PhantomData as P
-use Rattle.thread_local_model.specs.Buckets.{Contents, IsTable}
+use Rattle.thread_local_base.specs.Buckets.{Contents, IsTable}
 use Rattle.thread_local_ids.specs.Told.{rows_tell, book_owns}
 use Rattle.thread_local_ids.specs.contracts.book.Book as C
 use Rattle.thread_local_ids.proofs.Rows.{rows_dup}

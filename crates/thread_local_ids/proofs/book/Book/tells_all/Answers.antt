@@ -2,7 +2,7 @@ use Rattle.std.proofs.Common.{◌≡◌, ◌∙◌, length, arith, subst}
 use Rattle.std.specs.List.{AllWithin}
 use Rattle.std.proofs.lemmas.List.{get_or_default}
 use Rattle.std.proofs.lemmas.List.Elements.{AllWithin-more}
-use Rattle.thread_local_model.specs.Buckets.{values}
+use Rattle.thread_local_base.specs.Buckets.{values}
 use Rattle.thread_local_ids.proofs.Whole.{IsIn, tokens_are_all}
 use Rattle.thread_local_ids.proofs.book.Book.tells_all.Goals as goal
 

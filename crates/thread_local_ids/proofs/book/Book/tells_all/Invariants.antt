@@ -1,7 +1,7 @@
 -- what the book tells so far
 use Rattle.std.proofs.Common.{◌≡◌, ◌-◌, ◌^◌, ◌<◌, Some}
 use Rattle.std.specs.List.{AllWithin}
-use Rattle.thread_local_model.specs.Buckets.{values}
+use Rattle.thread_local_base.specs.Buckets.{values}
 use Rattle.thread_local_ids.proofs.book.Book.tells_all.Given as goal
 
 abbrev pub invariant-loop-index : goal.invariant-loop-index

@@ -1,14 +1,14 @@
 -- What a book tells of an id is what a witness shows of it.
-use Rattle.thread_local_model.proofs.Names.{◌≡◌, ℕ, [], ◌∷◌, refl, Some, Option, a_type, named, vunit}
-use Rattle.thread_local_model.proofs.Names.{inst_fn, ‵, raw, ◌⊛◌, given, ◌$◌, ◌∵◌, !, qed, by, move, keep}
-use Rattle.thread_local_model.proofs.Names.{drop, split, fsplit, fsplit3, fjoin, learn, rewrite, feq_i, use2}
-use Rattle.thread_local_model.proofs.Names.{of_opd, unit_lit, returns, enter, alloc_all, pass_all, free_all, look_at}
-use Rattle.thread_local_model.proofs.Names.{sets, fact, RattleType, owns, types_at}
-use Rattle.thread_local_model.proofs.Names.{nothing, heard, param, layouts, shr_vals, shr_Tells, Stays}
-use Rattle.thread_local_model.proofs.Names.{walk_of, proved, leaves, alive, unhide}
+use Rattle.thread_local_base.proofs.Names.{◌≡◌, ℕ, [], ◌∷◌, refl, Some, Option, a_type, named, vunit}
+use Rattle.thread_local_base.proofs.Names.{inst_fn, ‵, raw, ◌⊛◌, given, ◌$◌, ◌∵◌, !, qed, by, move, keep}
+use Rattle.thread_local_base.proofs.Names.{drop, split, fsplit, fsplit3, fjoin, learn, rewrite, feq_i, use2}
+use Rattle.thread_local_base.proofs.Names.{of_opd, unit_lit, returns, enter, alloc_all, pass_all, free_all, look_at}
+use Rattle.thread_local_base.proofs.Names.{sets, fact, RattleType, owns, types_at}
+use Rattle.thread_local_base.proofs.Names.{nothing, heard, param, layouts, shr_vals, shr_Tells, Stays}
+use Rattle.thread_local_base.proofs.Names.{walk_of, proved, leaves, alive, unhide}
 use Rattle.std.proofs.Common.{IsSome, ◌-◌, ◌^◌, ◌<◌}
 use types.Kit.{fpick, use1}
-use Rattle.thread_local_model.specs.Buckets.{values}
+use Rattle.thread_local_base.specs.Buckets.{values}
 use Rattle.thread_local_ids.specs.Told.{tells}
 use Rattle.thread_local_ids.specs.contracts.book.Book as Book
 use Rattle.thread_local_ids.specs.contracts.witness.Witness as Witness
@@ -17,7 +17,7 @@ use Rattle.thread_local_ids.proofs.ToldElements.{tells_alike}
 use Rattle.thread_local_ids.specs.contracts.book.Book.tells_of.{ended, clauses, Key.name as #self}
 use Rattle.thread_local_ids.proofs.book.Book.tells_of.Statement.{statement}
 use Rattle.thread_local_ids.proofs.book.Book.tells_of.Code as code
-use Rattle.thread_local_model.proofs.Walking.{knows}
+use Rattle.thread_local_base.proofs.Walking.{knows}
 use Rattle.thread_local_ids.proofs.TwoLent.{both_stay, both_go}
 
 pub tells_of_spec : {M : Type 1} → statement M

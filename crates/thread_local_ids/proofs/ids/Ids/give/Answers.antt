@@ -1,9 +1,9 @@
 use Rattle.std.proofs.Common.{rules, ◌-◌, ◌^◌, ◌≤◌, ◌∙◌, sym, ap, subst, ℕ, false, arith}
 use Rattle.std.specs.Prelude.{List, Bool}
-use Rattle.thread_local_model.specs.Held.{Gives, without}
-use Rattle.thread_local_model.specs.IdMoves.{Give, held_after, noted}
+use Rattle.thread_local_base.specs.Held.{Gives, without}
+use Rattle.thread_local_base.specs.IdMoves.{Give, held_after, noted}
 use Rattle.thread_local_ids.specs.declared.page.History.{History}
-use Rattle.thread_local_model.proofs.IdMoveLaws.{after_give}
+use Rattle.thread_local_base.proofs.IdMoveLaws.{after_give}
 use Rattle.thread_local_ids.proofs.OutLaws.{untouched}
 use Rattle.thread_local_ids.specs.Tied.{TableIds}
 use Rattle.thread_local_ids.proofs.ids.Ids.give.Goals as goal

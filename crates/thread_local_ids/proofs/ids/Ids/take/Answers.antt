@@ -1,10 +1,10 @@
 -- The right to the least free id isn't out, since that id isn't held, and nor is its mark.
 use Rattle.std.proofs.Common.{rules, sym, ◌+◌, ◌-◌, ◌^◌, ℕ, true, ap, ◌∙◌, arith}
-use Rattle.thread_local_model.specs.Held.{is_held, least, with_least}
-use Rattle.thread_local_model.specs.IdMoves.{Take, held_after, noted}
-use Rattle.thread_local_model.proofs.IdMoveLaws.{after_take}
+use Rattle.thread_local_base.specs.Held.{is_held, least, with_least}
+use Rattle.thread_local_base.specs.IdMoves.{Take, held_after, noted}
+use Rattle.thread_local_base.proofs.IdMoveLaws.{after_take}
 use Rattle.thread_local_ids.specs.Tied.{TableIds}
-use Rattle.thread_local_model.proofs.HeldLaws.{least_free}
+use Rattle.thread_local_base.proofs.HeldLaws.{least_free}
 use Rattle.thread_local_ids.proofs.OutLaws.{untouched}
 use Rattle.thread_local_ids.proofs.ids.Ids.take.Goals as goal
 

@@ -2,8 +2,8 @@
 -- holds of them as they were at first. The search for all that follows takes two seconds.
 use Rattle.std.proofs.Common.{◌≡◌, ◌^◌, ◌-◌, ◌≤◌, ℕ, List, Bool, length, ap, sym, ◌∙◌, subst, arith, IfOk, OnErr}
 use Rattle.std.specs.Prelude.{IsTrue}
-use Rattle.thread_local_model.specs.Held.{HoldsAllBelow, Manager, Takes, is_held}
-use Rattle.thread_local_model.specs.IdMoves.{Take, held_after, noted}
+use Rattle.thread_local_base.specs.Held.{HoldsAllBelow, Manager, Takes, is_held}
+use Rattle.thread_local_base.specs.IdMoves.{Take, held_after, noted}
 use Rattle.thread_local_ids.specs.Tied.{TableIds, ids_of, IsTied}
 use Rattle.thread_local_ids.specs.declared.page.History.{History}
 use Rattle.thread_local_ids.specs.declared.ids.Ids.TheInside.{Inside}

@@ -1,12 +1,12 @@
 -- `into_inner` takes the value out, whatever the word is.
-use Rattle.thread_local_model.proofs.Names.{◌≡◌, ◌&&◌, T, true, List, [], ◌∷◌, ◌++◌, sym, refl, ◌∙◌, subst, w64, dcons}
-use Rattle.thread_local_model.proofs.Names.{dnil, a_type, Val, vint, vstruct, vcons, vnil, has_ty, inst_fn, SProp, ent}
-use Rattle.thread_local_model.proofs.Names.{id⊢, ftrue, fsep, WpFn, ‵, raw, ◌⊛◌, ◌$◌, ◌∵◌, !, qed, by, move, keep}
-use Rattle.thread_local_model.proofs.Names.{drop, split, fsplit, fsplit3, fjoin, fpick, rewrite, feq_l, suffices, stop}
-use Rattle.thread_local_model.proofs.Names.{fld, of_opd, returns, enter, alloc_all, pass_all, free_all, look_at, get}
-use Rattle.thread_local_model.proofs.Names.{get_in, sets, sub, whole, tables, no, RattleType, plain, nothing, peeks}
-use Rattle.thread_local_model.proofs.Names.{Is, shows, param, layout, bounded, alive, Stays, stay_dropped, walk_of}
-use Rattle.thread_local_model.proofs.Names.{Goes-dropped, El, lawful, Good, and_tt, proved_at, leaves}
+use Rattle.thread_local_base.proofs.Names.{◌≡◌, ◌&&◌, T, true, List, [], ◌∷◌, ◌++◌, sym, refl, ◌∙◌, subst, w64, dcons}
+use Rattle.thread_local_base.proofs.Names.{dnil, a_type, Val, vint, vstruct, vcons, vnil, has_ty, inst_fn, SProp, ent}
+use Rattle.thread_local_base.proofs.Names.{id⊢, ftrue, fsep, WpFn, ‵, raw, ◌⊛◌, ◌$◌, ◌∵◌, !, qed, by, move, keep}
+use Rattle.thread_local_base.proofs.Names.{drop, split, fsplit, fsplit3, fjoin, fpick, rewrite, feq_l, suffices, stop}
+use Rattle.thread_local_base.proofs.Names.{fld, of_opd, returns, enter, alloc_all, pass_all, free_all, look_at, get}
+use Rattle.thread_local_base.proofs.Names.{get_in, sets, sub, whole, tables, no, RattleType, plain, nothing, peeks}
+use Rattle.thread_local_base.proofs.Names.{Is, shows, param, layout, bounded, alive, Stays, stay_dropped, walk_of}
+use Rattle.thread_local_base.proofs.Names.{Goes-dropped, El, lawful, Good, and_tt, proved_at, leaves}
 use Rattle.std.proofs.mem.Param.{one}
 use mir.Val.{of_list}
 use types.Kit.{flt_l}

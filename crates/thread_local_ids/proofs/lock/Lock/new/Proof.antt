@@ -1,13 +1,13 @@
 -- `new` puts a value that fits behind the word FREE.
-use Rattle.thread_local_model.proofs.Names.{◌≡◌, ℕ, ◌^◌, ◌&&◌, T, true, List, [], ◌∷◌, ◌++◌, sym, refl, subst, lit<}
-use Rattle.thread_local_model.proofs.Names.{w64, dcons, dnil, a_type, Val, vint, vstruct, vcons, vnil, has_ty, WT}
-use Rattle.thread_local_model.proofs.Names.{inst_fn, SProp, ent, id⊢, ftrue, fsep, WpFn, ‵, raw, ◌⊛◌, ◌$◌, ◌∵◌, ! }
-use Rattle.thread_local_model.proofs.Names.{qed, by, move, keep, drop, split, fsplit, fjoin, fjoin3, fpack}
-use Rattle.thread_local_model.proofs.Names.{rewrite, feq_i, flt_i, suffices, lit, of_opd, no_more, and_then, returns}
-use Rattle.thread_local_model.proofs.Names.{enter, alloc_all, pass_all, free_all, look_at, get, sets, agg, tables}
-use Rattle.thread_local_model.proofs.Names.{fact, no, RattleType, owns, types_at, plain, nothing, heard, param}
-use Rattle.thread_local_model.proofs.Names.{layout, bounded, u64, alive, Stays, stay_dropped, walk_of, Goes-dropped}
-use Rattle.thread_local_model.proofs.Names.{El, lawful, Good, and_tt, proved_at, leaves}
+use Rattle.thread_local_base.proofs.Names.{◌≡◌, ℕ, ◌^◌, ◌&&◌, T, true, List, [], ◌∷◌, ◌++◌, sym, refl, subst, lit<}
+use Rattle.thread_local_base.proofs.Names.{w64, dcons, dnil, a_type, Val, vint, vstruct, vcons, vnil, has_ty, WT}
+use Rattle.thread_local_base.proofs.Names.{inst_fn, SProp, ent, id⊢, ftrue, fsep, WpFn, ‵, raw, ◌⊛◌, ◌$◌, ◌∵◌, ! }
+use Rattle.thread_local_base.proofs.Names.{qed, by, move, keep, drop, split, fsplit, fjoin, fjoin3, fpack}
+use Rattle.thread_local_base.proofs.Names.{rewrite, feq_i, flt_i, suffices, lit, of_opd, no_more, and_then, returns}
+use Rattle.thread_local_base.proofs.Names.{enter, alloc_all, pass_all, free_all, look_at, get, sets, agg, tables}
+use Rattle.thread_local_base.proofs.Names.{fact, no, RattleType, owns, types_at, plain, nothing, heard, param}
+use Rattle.thread_local_base.proofs.Names.{layout, bounded, u64, alive, Stays, stay_dropped, walk_of, Goes-dropped}
+use Rattle.thread_local_base.proofs.Names.{El, lawful, Good, and_tt, proved_at, leaves}
 use Rattle.std.proofs.mem.Param.{one}
 use base.Fml.{fex}
 use denote.RattleType.{Valss}
@@ -18,7 +18,7 @@ use Rattle.thread_local_ids.specs.contracts.lock.Lock.TheInside as inside
 use Rattle.thread_local_ids.specs.contracts.lock.Lock.new.{ended, clauses, Key.name as #self}
 use Rattle.thread_local_ids.proofs.lock.Lock.new.Statement.{statement}
 use Rattle.thread_local_ids.proofs.lock.Lock.new.Code as code
-use Rattle.thread_local_model.proofs.Walking.{knows}
+use Rattle.thread_local_base.proofs.Walking.{knows}
 
 pub new_spec : {M : Type 1} → statement M
 new_spec 𝓤 𝓛 𝓜 𝓡 wired X L g d _ =

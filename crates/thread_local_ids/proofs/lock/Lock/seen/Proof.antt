@@ -1,14 +1,14 @@
 -- `seen` is one load of the word: the right to the value stays where it is.
-use Rattle.thread_local_model.proofs.Names.{ℕ, ◌+◌, ◌^◌, [], ◌∷◌, refl, lit<, w64, dcons, dnil, a_type, named, Val}
-use Rattle.thread_local_model.proofs.Names.{vint, vptr, inst_fn, SProp, via, Lft, Share, Fml}
-use Rattle.thread_local_model.proofs.Names.{ftrue, fsep, flft, ‵, raw, ◌⊛◌, mean, at_ret, ◌$◌, ◌∵◌}
-use Rattle.thread_local_model.proofs.Names.{ !, qed, by, move, keep, split, join, fsplit, fjoin, fpick, pick}
-use Rattle.thread_local_model.proofs.Names.{use3, await, feq_i, flt_i, stop, fld, addr, lit, of_opd, no_more}
-use Rattle.thread_local_model.proofs.Names.{and_then, first, blocks, exec, Calls-last, returns, enter, alloc_all}
-use Rattle.thread_local_model.proofs.Names.{pass_all, free_all, look_at, get, through, sets, agg, lands_last, env, tables}
-use Rattle.thread_local_model.proofs.Names.{yes, RattleType, owns, types_at, plain, block_ptr, nothing}
-use Rattle.thread_local_model.proofs.Names.{unhide, param, bounded, RefOf, shr_vals, shr_Tells, Stays, stay_dropped}
-use Rattle.thread_local_model.proofs.Names.{walk_of, Goes-dropped, proved, leaves, fm, found, finds, tail}
+use Rattle.thread_local_base.proofs.Names.{ℕ, ◌+◌, ◌^◌, [], ◌∷◌, refl, lit<, w64, dcons, dnil, a_type, named, Val}
+use Rattle.thread_local_base.proofs.Names.{vint, vptr, inst_fn, SProp, via, Lft, Share, Fml}
+use Rattle.thread_local_base.proofs.Names.{ftrue, fsep, flft, ‵, raw, ◌⊛◌, mean, at_ret, ◌$◌, ◌∵◌}
+use Rattle.thread_local_base.proofs.Names.{ !, qed, by, move, keep, split, join, fsplit, fjoin, fpick, pick}
+use Rattle.thread_local_base.proofs.Names.{use3, await, feq_i, flt_i, stop, fld, addr, lit, of_opd, no_more}
+use Rattle.thread_local_base.proofs.Names.{and_then, first, blocks, exec, Calls-last, returns, enter, alloc_all}
+use Rattle.thread_local_base.proofs.Names.{pass_all, free_all, look_at, get, through, sets, agg, lands_last, env, tables}
+use Rattle.thread_local_base.proofs.Names.{yes, RattleType, owns, types_at, plain, block_ptr, nothing}
+use Rattle.thread_local_base.proofs.Names.{unhide, param, bounded, RefOf, shr_vals, shr_Tells, Stays, stay_dropped}
+use Rattle.thread_local_base.proofs.Names.{walk_of, Goes-dropped, proved, leaves, fm, found, finds, tail}
 use Rattle.std.proofs.raw_atomic.Calls.{loads, seq_cst}
 use Rattle.thread_local_ids.specs.Locking.{Fitting}
 use Rattle.thread_local_ids.specs.contracts.lock.Lock as lock
@@ -16,7 +16,7 @@ use Rattle.thread_local_ids.specs.contracts.lock.Lock.seen.{ended, clauses, Key.
 use Rattle.thread_local_ids.proofs.Steps.{looked}
 use Rattle.thread_local_ids.proofs.lock.Lock.seen.Statement.{statement}
 use Rattle.thread_local_ids.proofs.lock.Lock.seen.Code as code
-use Rattle.thread_local_model.proofs.Walking.{lends_token, returns_token}
+use Rattle.thread_local_base.proofs.Walking.{lends_token, returns_token}
 
 pub seen_spec : {M : Type 1} → statement M
 seen_spec 𝓤 𝓛 𝓜 𝓡 wired X L g d _ =

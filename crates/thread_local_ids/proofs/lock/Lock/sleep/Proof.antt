@@ -1,15 +1,15 @@
 -- `sleep` parks on the word, and takes nothing out of the lock's invariant.
-use Rattle.thread_local_model.proofs.Names.{ℕ, ◌+◌, [], ◌∷◌, refl, lit<, w64, dcons, dnil, a_type, named, Val}
-use Rattle.thread_local_model.proofs.Names.{vunit, vint, vptr, inst_fn, SProp, Lft, Share, Fml, ftrue}
-use Rattle.thread_local_model.proofs.Names.{fsep, flft, ‵, raw, ◌⊛◌, mean, at_ret, ◌$◌, ◌∵◌, !, qed, by}
-use Rattle.thread_local_model.proofs.Names.{move, keep, group, fsplit3, split, split3, join, fsplit, fjoin, fpick}
-use Rattle.thread_local_model.proofs.Names.{pick, use1, use3, await, feq_i, stop, fld, addr, lit, unit_lit}
-use Rattle.thread_local_model.proofs.Names.{of_opd, no_more, and_then, first, blocks, exec, Calls-last, returns, enter}
-use Rattle.thread_local_model.proofs.Names.{alloc_all, pass_all, free_all, look_at, get, through, sets, lands_last}
-use Rattle.thread_local_model.proofs.Names.{env, tables, fact, yes, RattleType, owns, types_at, plain}
-use Rattle.thread_local_model.proofs.Names.{block_ptr, nothing, heard, unhide, param, bounded, RefOf, u64, shr_vals}
-use Rattle.thread_local_model.proofs.Names.{shr_Tells, uint_vals, uint_Tells, Stays, stay_dropped, walk_of}
-use Rattle.thread_local_model.proofs.Names.{Goes-dropped, proved, leaves, fm, stored, has_stored, tail}
+use Rattle.thread_local_base.proofs.Names.{ℕ, ◌+◌, [], ◌∷◌, refl, lit<, w64, dcons, dnil, a_type, named, Val}
+use Rattle.thread_local_base.proofs.Names.{vunit, vint, vptr, inst_fn, SProp, Lft, Share, Fml, ftrue}
+use Rattle.thread_local_base.proofs.Names.{fsep, flft, ‵, raw, ◌⊛◌, mean, at_ret, ◌$◌, ◌∵◌, !, qed, by}
+use Rattle.thread_local_base.proofs.Names.{move, keep, group, fsplit3, split, split3, join, fsplit, fjoin, fpick}
+use Rattle.thread_local_base.proofs.Names.{pick, use1, use3, await, feq_i, stop, fld, addr, lit, unit_lit}
+use Rattle.thread_local_base.proofs.Names.{of_opd, no_more, and_then, first, blocks, exec, Calls-last, returns, enter}
+use Rattle.thread_local_base.proofs.Names.{alloc_all, pass_all, free_all, look_at, get, through, sets, lands_last}
+use Rattle.thread_local_base.proofs.Names.{env, tables, fact, yes, RattleType, owns, types_at, plain}
+use Rattle.thread_local_base.proofs.Names.{block_ptr, nothing, heard, unhide, param, bounded, RefOf, u64, shr_vals}
+use Rattle.thread_local_base.proofs.Names.{shr_Tells, uint_vals, uint_Tells, Stays, stay_dropped, walk_of}
+use Rattle.thread_local_base.proofs.Names.{Goes-dropped, proved, leaves, fm, stored, has_stored, tail}
 use contract.BorrowLft.{◌⊑◌}
 use Rattle.std.specs.Sync.RawAtomic.{asks, always}
 use Rattle.thread_local_ids.specs.Locking.{Fitting}
@@ -19,7 +19,7 @@ use Rattle.thread_local_ids.proofs.Steps.{looked}
 use Rattle.thread_local_ids.proofs.Calls.{lent, parks}
 use Rattle.thread_local_ids.proofs.lock.Lock.sleep.Statement.{statement}
 use Rattle.thread_local_ids.proofs.lock.Lock.sleep.Code as code
-use Rattle.thread_local_model.proofs.Walking.{lends_token, returns_token}
+use Rattle.thread_local_base.proofs.Walking.{lends_token, returns_token}
 
 pub sleep_spec : {M : Type 1} → statement M
 sleep_spec 𝓤 𝓛 𝓜 𝓡 wired X Z L laws g d g' d' _ may =

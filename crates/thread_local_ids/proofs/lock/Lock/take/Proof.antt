@@ -1,17 +1,17 @@
 -- `take` is one compare and exchange: where the word was FREE, the guard has the right to the
 -- value.
-use Rattle.thread_local_model.proofs.Names.{◌≡◌, ℕ, ◌+◌, [], ◌∷◌, refl, lit<, w64, dcons, dnil, a_type, named, Val}
-use Rattle.thread_local_model.proofs.Names.{vint, vptr, vcons, vnil, inst_fn, SProp, via, Lft}
-use Rattle.thread_local_model.proofs.Names.{Share, Fml, ftrue, fsep, flft, fbor, finv, ‵, raw, ◌⊛◌, mean}
-use Rattle.thread_local_model.proofs.Names.{at_ret, ◌$◌, ◌∵◌, !, qed, by, move, keep, drop, split, join, fsplit, fjoin}
-use Rattle.thread_local_model.proofs.Names.{fpick, fpack, pick, use0, use1, use3, await, rewrite, stop, fld}
-use Rattle.thread_local_model.proofs.Names.{addr, lit, of_opd, no_more, and_then, first, blocks, exec, Calls-last}
-use Rattle.thread_local_model.proofs.Names.{returns, enter, alloc_all, pass_all, free_all, look_at, get, through, sets}
-use Rattle.thread_local_model.proofs.Names.{sets_last, lands_last, env, agg, tables, fact, yes}
-use Rattle.thread_local_model.proofs.Names.{RattleType, owns, types_at, plain, named_lft, Ptr, block_ptr, nothing}
-use Rattle.thread_local_model.proofs.Names.{heard, unhide, param, bounded, RefOf, u64, shr_vals, shr_Tells, uint_vals}
-use Rattle.thread_local_model.proofs.Names.{uint_Tells, Stays, stay_dropped, walk_of, Goes-dropped, proved, leaves, fm}
-use Rattle.thread_local_model.proofs.Names.{found, finds, tail}
+use Rattle.thread_local_base.proofs.Names.{◌≡◌, ℕ, ◌+◌, [], ◌∷◌, refl, lit<, w64, dcons, dnil, a_type, named, Val}
+use Rattle.thread_local_base.proofs.Names.{vint, vptr, vcons, vnil, inst_fn, SProp, via, Lft}
+use Rattle.thread_local_base.proofs.Names.{Share, Fml, ftrue, fsep, flft, fbor, finv, ‵, raw, ◌⊛◌, mean}
+use Rattle.thread_local_base.proofs.Names.{at_ret, ◌$◌, ◌∵◌, !, qed, by, move, keep, drop, split, join, fsplit, fjoin}
+use Rattle.thread_local_base.proofs.Names.{fpick, fpack, pick, use0, use1, use3, await, rewrite, stop, fld}
+use Rattle.thread_local_base.proofs.Names.{addr, lit, of_opd, no_more, and_then, first, blocks, exec, Calls-last}
+use Rattle.thread_local_base.proofs.Names.{returns, enter, alloc_all, pass_all, free_all, look_at, get, through, sets}
+use Rattle.thread_local_base.proofs.Names.{sets_last, lands_last, env, agg, tables, fact, yes}
+use Rattle.thread_local_base.proofs.Names.{RattleType, owns, types_at, plain, named_lft, Ptr, block_ptr, nothing}
+use Rattle.thread_local_base.proofs.Names.{heard, unhide, param, bounded, RefOf, u64, shr_vals, shr_Tells, uint_vals}
+use Rattle.thread_local_base.proofs.Names.{uint_Tells, Stays, stay_dropped, walk_of, Goes-dropped, proved, leaves, fm}
+use Rattle.thread_local_base.proofs.Names.{found, finds, tail}
 use Rattle.std.proofs.Common.{◌≢◌, eqb→eq, Option, Some, None, IfSome}
 use mir.Syntax.{Body}
 use base.Before.{before}
@@ -29,7 +29,7 @@ use Rattle.thread_local_ids.proofs.Steps.{gained, exchanged}
 use Rattle.thread_local_ids.proofs.Fields.{guard_of, FieldsType, made}
 use Rattle.thread_local_ids.proofs.lock.Lock.take.Statement.{statement}
 use Rattle.thread_local_ids.proofs.lock.Lock.take.Code as code
-use Rattle.thread_local_model.proofs.Walking.{knows, lends_token, returns_token}
+use Rattle.thread_local_base.proofs.Walking.{knows, lends_token, returns_token}
 
 pub take_spec : {M : Type 1} → statement M
 take_spec 𝓤 𝓛 𝓜 𝓡 wired X L g d _ =

@@ -1,18 +1,18 @@
 -- `drop` swaps the word for FREE, which puts the right to the value back into the invariant, and
 -- wakes a thread that may sleep.
-use Rattle.thread_local_model.proofs.Names.{◌≡◌, T, ℕ, ◌+◌, ◌^◌, List, [], ◌∷◌, sym, refl, ap, subst, lit<, w64, dcons}
-use Rattle.thread_local_model.proofs.Names.{dnil, a_type, Val, has_ty, WT, vunit, vint, inst_fn, SProp, id⊢, via}
-use Rattle.thread_local_model.proofs.Names.{guard_i, Lft, Share, Fml, ftrue, fsep, flft, fbor, sem, ‵, raw}
-use Rattle.thread_local_model.proofs.Names.{◌⊛◌, some, given, later, mean, at_ret, ◌$◌, ◌∵◌, !, qed, by, move, keep}
-use Rattle.thread_local_model.proofs.Names.{drop, split, join, fsplit, fjoin, fpick, fpack, pick, learn, use1}
-use Rattle.thread_local_model.proofs.Names.{use3, await, rewrite, feq_i, feq_l, flt_i, stop, fld, addr, lit, unit_lit}
-use Rattle.thread_local_model.proofs.Names.{of_opd, no_more, and_then, first, blocks, exec, Calls-last, returns, enter}
-use Rattle.thread_local_model.proofs.Names.{alloc_all, pass_all, free_all, look_at, get, get_in, through, sets}
-use Rattle.thread_local_model.proofs.Names.{sets_last, lands_last, env, agg, sub, whole, tables, fact, fact_use}
-use Rattle.thread_local_model.proofs.Names.{no, RattleType, owns, types_at, plain, named_lft, Ptr, InBlock}
-use Rattle.thread_local_model.proofs.Names.{block_ptr, block_of, count_of, at_block, nothing, heard, param, bounded}
-use Rattle.thread_local_model.proofs.Names.{Stays, stay_dropped, walk_of, Goes-dropped, proved, leaves, fm, found}
-use Rattle.thread_local_model.proofs.Names.{finds, tail}
+use Rattle.thread_local_base.proofs.Names.{◌≡◌, T, ℕ, ◌+◌, ◌^◌, List, [], ◌∷◌, sym, refl, ap, subst, lit<, w64, dcons}
+use Rattle.thread_local_base.proofs.Names.{dnil, a_type, Val, has_ty, WT, vunit, vint, inst_fn, SProp, id⊢, via}
+use Rattle.thread_local_base.proofs.Names.{guard_i, Lft, Share, Fml, ftrue, fsep, flft, fbor, sem, ‵, raw}
+use Rattle.thread_local_base.proofs.Names.{◌⊛◌, some, given, later, mean, at_ret, ◌$◌, ◌∵◌, !, qed, by, move, keep}
+use Rattle.thread_local_base.proofs.Names.{drop, split, join, fsplit, fjoin, fpick, fpack, pick, learn, use1}
+use Rattle.thread_local_base.proofs.Names.{use3, await, rewrite, feq_i, feq_l, flt_i, stop, fld, addr, lit, unit_lit}
+use Rattle.thread_local_base.proofs.Names.{of_opd, no_more, and_then, first, blocks, exec, Calls-last, returns, enter}
+use Rattle.thread_local_base.proofs.Names.{alloc_all, pass_all, free_all, look_at, get, get_in, through, sets}
+use Rattle.thread_local_base.proofs.Names.{sets_last, lands_last, env, agg, sub, whole, tables, fact, fact_use}
+use Rattle.thread_local_base.proofs.Names.{no, RattleType, owns, types_at, plain, named_lft, Ptr, InBlock}
+use Rattle.thread_local_base.proofs.Names.{block_ptr, block_of, count_of, at_block, nothing, heard, param, bounded}
+use Rattle.thread_local_base.proofs.Names.{Stays, stay_dropped, walk_of, Goes-dropped, proved, leaves, fm, found}
+use Rattle.thread_local_base.proofs.Names.{finds, tail}
 use mir.Syntax.{Body, ty_unit}
 use base.Fml.{feq}
 use types.ByLocal.{is}
@@ -31,7 +31,7 @@ use Rattle.thread_local_ids.proofs.Fields.{guard_of, typed, told}
 use Rattle.thread_local_ids.proofs.Guards.{placed}
 use Rattle.thread_local_ids.proofs.lock.LockGuard.drop.Statement.{statement}
 use Rattle.thread_local_ids.proofs.lock.LockGuard.drop.Code as code
-use Rattle.thread_local_model.proofs.Walking.{lends_token, returns_token}
+use Rattle.thread_local_base.proofs.Walking.{lends_token, returns_token}
 
 pub drop_spec : {M : Type 1} → statement M
 drop_spec 𝓤 𝓛 𝓜 𝓡 wired X L g d d' _ _ =

@@ -19,10 +19,10 @@ use denote.Steps.{nothing, opens, closes, heard}
 use denote.Triple.Walked.{Stays, walk_of, stay_dropped, Goes-dropped, stay_ref, Goes-ref, ends_at}
 use Rattle.std.proofs.raw_atomic.Walks.{proved}
 use Rattle.thread_local_ids.specs.Rights.{history_owns, page_owns, tenure_of, taken_id}
-use Rattle.thread_local_model.specs.Held.{is_held}
-use Rattle.thread_local_model.specs.IdMoves.{held_after}
+use Rattle.thread_local_base.specs.Held.{is_held}
+use Rattle.thread_local_base.specs.IdMoves.{held_after}
 use contract.Monad.{fact}
-use Rattle.thread_local_model.specs.IdMoves.{IdMove, Give, noted}
+use Rattle.thread_local_base.specs.IdMoves.{IdMove, Give, noted}
 use Rattle.thread_local_ids.proofs.MoveElements.{note_give}
 use Rattle.thread_local_ids.proofs.Facts.{tells, tells_last}
 use Rattle.thread_local_ids.proofs.Markers.{token, told, Mark, made}

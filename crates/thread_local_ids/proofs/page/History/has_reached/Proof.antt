@@ -13,7 +13,7 @@ use denote.Signature.{plain}
 use denote.Steps.{nothing, opens, closes, heard}
 use denote.Triple.Walked.{Stays, walk_of, stay_dropped, Goes-dropped, stay_ref, Goes-ref, ends_at}
 use Rattle.std.proofs.raw_atomic.Walks.{proved}
-use Rattle.thread_local_model.specs.IdMoves.{held_after}
+use Rattle.thread_local_base.specs.IdMoves.{held_after}
 use Rattle.thread_local_ids.specs.Rights.{history_owns, reached_owns}
 use Rattle.thread_local_ids.proofs.ReachedElements.{reached_before}
 use Rattle.thread_local_ids.proofs.Facts.{tells, tells_last}

@@ -16,7 +16,7 @@ use denote.Steps.{nothing, opens, closes}
 use denote.Triple.Walked.{Stays, walk_of, stay_ref, Goes-ref, ends_at}
 use Rattle.std.proofs.raw_atomic.Walks.{proved}
 use Rattle.thread_local_ids.specs.Rights.{history_owns, tenure_of}
-use Rattle.thread_local_model.specs.IdMoves.{IdMove, Take, noted}
+use Rattle.thread_local_base.specs.IdMoves.{IdMove, Take, noted}
 use Rattle.thread_local_ids.proofs.MoveElements.{note_take}
 use Rattle.thread_local_ids.proofs.Facts.{tells, tells_last}
 use Rattle.thread_local_ids.proofs.Markers.{token, Mark, made}

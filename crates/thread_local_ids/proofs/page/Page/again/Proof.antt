@@ -1,16 +1,16 @@
 -- `again` copies what the page says.
-use Rattle.thread_local_model.proofs.Names.{◌≡◌, [], ◌∷◌, refl, named, Val, vptr, ‵, raw}
-use Rattle.thread_local_model.proofs.Names.{◌⊛◌, ◌$◌, ◌∵◌, !, qed, by, keep, drop, split, fsplit, fjoin, use0}
-use Rattle.thread_local_model.proofs.Names.{no_more, and_then, returns, enter, alloc_all, pass_all, free_all, look_at}
-use Rattle.thread_local_model.proofs.Names.{get, sets, agg, yes, RattleType, owns, types_at}
-use Rattle.thread_local_model.proofs.Names.{plain, nothing, RefOf, shr_vals, shr_Tells, Stays}
-use Rattle.thread_local_model.proofs.Names.{stay_dropped, walk_of, Goes-dropped, proved, leaves, alive, unhide}
+use Rattle.thread_local_base.proofs.Names.{◌≡◌, [], ◌∷◌, refl, named, Val, vptr, ‵, raw}
+use Rattle.thread_local_base.proofs.Names.{◌⊛◌, ◌$◌, ◌∵◌, !, qed, by, keep, drop, split, fsplit, fjoin, use0}
+use Rattle.thread_local_base.proofs.Names.{no_more, and_then, returns, enter, alloc_all, pass_all, free_all, look_at}
+use Rattle.thread_local_base.proofs.Names.{get, sets, agg, yes, RattleType, owns, types_at}
+use Rattle.thread_local_base.proofs.Names.{plain, nothing, RefOf, shr_vals, shr_Tells, Stays}
+use Rattle.thread_local_base.proofs.Names.{stay_dropped, walk_of, Goes-dropped, proved, leaves, alive, unhide}
 use Rattle.thread_local_ids.specs.contracts.page.Page as Page
 use Rattle.thread_local_ids.proofs.Markers.{token, Mark, made}
 use Rattle.thread_local_ids.specs.contracts.page.Page.again.{ended, clauses, Key.name as #self}
 use Rattle.thread_local_ids.proofs.page.Page.again.Statement.{statement}
 use Rattle.thread_local_ids.proofs.page.Page.again.Code as code
-use Rattle.thread_local_model.proofs.Walking.{knows}
+use Rattle.thread_local_base.proofs.Walking.{knows}
 
 pub again_spec : {M : Type 1} → statement M
 again_spec 𝓤 𝓛 𝓜 𝓡 wired =

@@ -1,22 +1,22 @@
 -- Of two pages of one table one extends the other.
-use Rattle.thread_local_model.proofs.Names.{sym, ◌≡◌, ℕ, List, [], ◌∷◌, refl, named}
-use Rattle.thread_local_model.proofs.Names.{Val, vptr, vunit, ‵, raw, ◌⊛◌, given, ◌$◌, ◌∵◌, ! }
-use Rattle.thread_local_model.proofs.Names.{qed, by, move, keep, drop, split, fsplit, fsplit3, fjoin, learn, rewrite}
-use Rattle.thread_local_model.proofs.Names.{feq_i, use2, of_opd, unit_lit, returns, enter, alloc_all, pass_all}
-use Rattle.thread_local_model.proofs.Names.{free_all, look_at, sets, fact, yes, RattleType, owns}
-use Rattle.thread_local_model.proofs.Names.{types_at, plain, nothing, heard, RefOf, shr_vals}
-use Rattle.thread_local_model.proofs.Names.{shr_Tells, Stays, stay_dropped, walk_of, Goes-dropped, proved, leaves}
-use Rattle.thread_local_model.proofs.Names.{alive, unhide}
+use Rattle.thread_local_base.proofs.Names.{sym, ◌≡◌, ℕ, List, [], ◌∷◌, refl, named}
+use Rattle.thread_local_base.proofs.Names.{Val, vptr, vunit, ‵, raw, ◌⊛◌, given, ◌$◌, ◌∵◌, ! }
+use Rattle.thread_local_base.proofs.Names.{qed, by, move, keep, drop, split, fsplit, fsplit3, fjoin, learn, rewrite}
+use Rattle.thread_local_base.proofs.Names.{feq_i, use2, of_opd, unit_lit, returns, enter, alloc_all, pass_all}
+use Rattle.thread_local_base.proofs.Names.{free_all, look_at, sets, fact, yes, RattleType, owns}
+use Rattle.thread_local_base.proofs.Names.{types_at, plain, nothing, heard, RefOf, shr_vals}
+use Rattle.thread_local_base.proofs.Names.{shr_Tells, Stays, stay_dropped, walk_of, Goes-dropped, proved, leaves}
+use Rattle.thread_local_base.proofs.Names.{alive, unhide}
 use mathlib.Core.List.{IsPrefix}
 use mathlib.Core.Logic.{◌∨₁◌}
-use Rattle.thread_local_model.specs.IdMoves.{IdMove}
+use Rattle.thread_local_base.specs.IdMoves.{IdMove}
 use Rattle.thread_local_ids.specs.Rights.{page_owns}
 use Rattle.thread_local_ids.specs.contracts.page.Page as Page
 use Rattle.thread_local_ids.proofs.MoveElements.{in_line}
 use Rattle.thread_local_ids.specs.contracts.page.Page.in_line.{ended, clauses, Key.name as #self}
 use Rattle.thread_local_ids.proofs.page.Page.in_line.Statement.{statement}
 use Rattle.thread_local_ids.proofs.page.Page.in_line.Code as code
-use Rattle.thread_local_model.proofs.Walking.{knows}
+use Rattle.thread_local_base.proofs.Walking.{knows}
 
 pub in_line_spec : {M : Type 1} → statement M
 in_line_spec 𝓤 𝓛 𝓜 𝓡 wired =

@@ -4,7 +4,7 @@ use denote.Struct.Laws.{field_copy}
 use denote.Struct.Lending.{of_Lends}
 use denote.Builtin.{unit}
 use Rattle.std.specs.contracts.marker.PhantomData as P
-use Rattle.thread_local_model.specs.IdMoves.{Take, noted}
+use Rattle.thread_local_base.specs.IdMoves.{Take, noted}
 use Rattle.thread_local_ids.specs.Rights.{page_owns, tenure_of}
 use Rattle.thread_local_ids.specs.contracts.page.Tenure as C
 use Rattle.thread_local_ids.proofs.MoveElements.{page_twice, tenure_shows}

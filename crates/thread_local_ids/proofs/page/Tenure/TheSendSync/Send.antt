@@ -1,6 +1,6 @@
 -- It may go to another thread: its elements name none.
 use denote.Param.Send.{IsSend}
-use Rattle.thread_local_model.specs.IdMoves.{Take, noted}
+use Rattle.thread_local_base.specs.IdMoves.{Take, noted}
 use Rattle.thread_local_ids.specs.Rights.{taken_id}
 use Rattle.thread_local_ids.specs.Returns.{gives}
 use Rattle.thread_local_ids.proofs.MoveElements.{page_keyless, held_keyless}

@@ -1,6 +1,6 @@
 -- Threads may share it: its elements name none.
 use denote.Param.Send.{IsSync}
-use Rattle.thread_local_model.specs.IdMoves.{Take, noted}
+use Rattle.thread_local_base.specs.IdMoves.{Take, noted}
 use Rattle.thread_local_ids.proofs.MoveElements.{page_keyless}
 use Rattle.thread_local_ids.specs.contracts.page.Tenure.{the_row}
 

@@ -14,7 +14,7 @@ use denote.Steps.{nothing, opens, closes, heard}
 use denote.Triple.Walked.{Stays, walk_of, stay_dropped, Goes-dropped, stay_ref, Goes-ref, ends_at}
 use Rattle.std.proofs.raw_atomic.Walks.{proved}
 use mathlib.Core.List.{IsPrefix}
-use Rattle.thread_local_model.specs.IdMoves.{IdMove, Take, noted}
+use Rattle.thread_local_base.specs.IdMoves.{IdMove, Take, noted}
 use Rattle.thread_local_ids.specs.Returns.{gives}
 use contract.Monad.{fact}
 use Rattle.thread_local_ids.specs.Rights.{tenure_of, page_owns, taken_id}

@@ -12,7 +12,7 @@ use types.ByLocal.{alloc_all, pass_all, free_all, look_at, get, sets}
 use types.Part.{agg}
 use contract.Monad.{fact}
 use denote.Ref.{mut_vals, mut_Tells}
-use Rattle.thread_local_model.proofs.Names.{RefOf, shr_vals, shr_Tells, owns, types_at, split3}
+use Rattle.thread_local_base.proofs.Names.{RefOf, shr_vals, shr_Tells, owns, types_at, split3}
 use denote.Signature.{plain}
 use denote.Exit.{yes}
 use denote.Steps.{nothing, opens, closes, heard}
@@ -22,7 +22,7 @@ use Rattle.thread_local_ids.specs.Rights.{is_out, room_key, room_owns, rights_ow
 use Rattle.thread_local_ids.proofs.RoomElements.{note_room}
 use Rattle.thread_local_ids.proofs.Facts.{tells, tells_last}
 use Rattle.thread_local_ids.proofs.Markers.{token, Mark, made}
-use Rattle.thread_local_thread_id.specs.contracts.manager.ThreadIdManager as manager
+use Rattle.thread_local_base.specs.contracts.manager.ThreadIdManager as manager
 use Rattle.thread_local_ids.specs.contracts.room.Room as room
 use Rattle.thread_local_ids.specs.contracts.right.Rights.{the_row as R}
 use Rattle.thread_local_ids.specs.contracts.right.Rights.note_room as f

@@ -1,19 +1,19 @@
 -- A table has one room.
-use Rattle.thread_local_model.proofs.Names.{sym, ◌≡◌, ℕ, [], ◌∷◌, refl, named}
-use Rattle.thread_local_model.proofs.Names.{Val, vptr, vunit, ‵, raw, ◌⊛◌, given, ◌$◌, ◌∵◌, ! }
-use Rattle.thread_local_model.proofs.Names.{qed, by, move, keep, drop, split, fsplit, fsplit3, fjoin, learn, rewrite}
-use Rattle.thread_local_model.proofs.Names.{feq_i, use2, of_opd, unit_lit, returns, enter, alloc_all, pass_all}
-use Rattle.thread_local_model.proofs.Names.{free_all, look_at, sets, fact, yes, RattleType, owns}
-use Rattle.thread_local_model.proofs.Names.{types_at, plain, nothing, heard, RefOf, shr_vals}
-use Rattle.thread_local_model.proofs.Names.{shr_Tells, Stays, stay_dropped, walk_of, Goes-dropped, proved, leaves}
-use Rattle.thread_local_model.proofs.Names.{alive, unhide}
+use Rattle.thread_local_base.proofs.Names.{sym, ◌≡◌, ℕ, [], ◌∷◌, refl, named}
+use Rattle.thread_local_base.proofs.Names.{Val, vptr, vunit, ‵, raw, ◌⊛◌, given, ◌$◌, ◌∵◌, ! }
+use Rattle.thread_local_base.proofs.Names.{qed, by, move, keep, drop, split, fsplit, fsplit3, fjoin, learn, rewrite}
+use Rattle.thread_local_base.proofs.Names.{feq_i, use2, of_opd, unit_lit, returns, enter, alloc_all, pass_all}
+use Rattle.thread_local_base.proofs.Names.{free_all, look_at, sets, fact, yes, RattleType, owns}
+use Rattle.thread_local_base.proofs.Names.{types_at, plain, nothing, heard, RefOf, shr_vals}
+use Rattle.thread_local_base.proofs.Names.{shr_Tells, Stays, stay_dropped, walk_of, Goes-dropped, proved, leaves}
+use Rattle.thread_local_base.proofs.Names.{alive, unhide}
 use Rattle.thread_local_ids.specs.Rights.{room_owns}
 use Rattle.thread_local_ids.specs.contracts.room.Room as Room
 use Rattle.thread_local_ids.proofs.RoomElements.{one_room}
 use Rattle.thread_local_ids.specs.contracts.room.Room.agrees.{ended, clauses, Key.name as #self}
 use Rattle.thread_local_ids.proofs.room.Room.agrees.Statement.{statement}
 use Rattle.thread_local_ids.proofs.room.Room.agrees.Code as code
-use Rattle.thread_local_model.proofs.Walking.{knows}
+use Rattle.thread_local_base.proofs.Walking.{knows}
 
 pub agrees_spec : {M : Type 1} → statement M
 agrees_spec 𝓤 𝓛 𝓜 𝓡 wired =

@@ -1,12 +1,12 @@
 -- The list's tokens of a witness's id have its value.
-use Rattle.thread_local_model.proofs.Names.{sym, ◌≡◌, List, [], ◌∷◌, refl, Some, Option, a_type, named}
-use Rattle.thread_local_model.proofs.Names.{vunit, inst_fn, ‵, raw, ◌⊛◌, given, ◌$◌, ◌∵◌, ! }
-use Rattle.thread_local_model.proofs.Names.{qed, by, move, keep, drop, split, fsplit, fsplit3, fjoin, learn}
-use Rattle.thread_local_model.proofs.Names.{feq_i, use2, of_opd, unit_lit, returns, enter, alloc_all, pass_all}
-use Rattle.thread_local_model.proofs.Names.{free_all, look_at, sets, RattleType, owns}
-use Rattle.thread_local_model.proofs.Names.{types_at, nothing, param, layouts, shr_vals}
-use Rattle.thread_local_model.proofs.Names.{shr_Tells, Stays, walk_of, proved, leaves}
-use Rattle.thread_local_model.proofs.Names.{alive, unhide, Fml}
+use Rattle.thread_local_base.proofs.Names.{sym, ◌≡◌, List, [], ◌∷◌, refl, Some, Option, a_type, named}
+use Rattle.thread_local_base.proofs.Names.{vunit, inst_fn, ‵, raw, ◌⊛◌, given, ◌$◌, ◌∵◌, ! }
+use Rattle.thread_local_base.proofs.Names.{qed, by, move, keep, drop, split, fsplit, fsplit3, fjoin, learn}
+use Rattle.thread_local_base.proofs.Names.{feq_i, use2, of_opd, unit_lit, returns, enter, alloc_all, pass_all}
+use Rattle.thread_local_base.proofs.Names.{free_all, look_at, sets, RattleType, owns}
+use Rattle.thread_local_base.proofs.Names.{types_at, nothing, param, layouts, shr_vals}
+use Rattle.thread_local_base.proofs.Names.{shr_Tells, Stays, walk_of, proved, leaves}
+use Rattle.thread_local_base.proofs.Names.{alive, unhide, Fml}
 use Rattle.thread_local_ids.specs.Told.{tells}
 use Rattle.thread_local_ids.specs.Views.{TokenView}
 use Rattle.thread_local_ids.specs.TokenLists.{AllOf, tell_each}
@@ -17,7 +17,7 @@ use Rattle.thread_local_ids.specs.contracts.token_list.TokenList.agrees.{ended, 
 use Rattle.thread_local_ids.proofs.token_list.TokenList.agrees.Statement.{statement}
 use Rattle.thread_local_ids.proofs.token_list.TokenList.agrees.Code as code
 use Rattle.std.proofs.lemmas.Option.{same_Some}
-use Rattle.thread_local_model.proofs.Walking.{knows}
+use Rattle.thread_local_base.proofs.Walking.{knows}
 use Rattle.thread_local_ids.proofs.TwoLent.{both_stay, both_go}
 
 pub agrees_spec : {M : Type 1} → statement M

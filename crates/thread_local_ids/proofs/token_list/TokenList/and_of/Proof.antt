@@ -1,12 +1,12 @@
 -- `and_of` puts what a witness shows before the list.
-use Rattle.thread_local_model.proofs.Names.{◌≡◌, List, [], ◌∷◌, refl, a_type, named}
-use Rattle.thread_local_model.proofs.Names.{inst_fn, ‵, raw, ◌⊛◌, ◌$◌, ◌∵◌, ! }
-use Rattle.thread_local_model.proofs.Names.{qed, by, move, keep, drop, split, fsplit, fsplit3, fjoin, no_more, and_then}
-use Rattle.thread_local_model.proofs.Names.{use1, returns, enter, alloc_all, pass_all, agg, get}
-use Rattle.thread_local_model.proofs.Names.{free_all, look_at, sets, RattleType, owns}
-use Rattle.thread_local_model.proofs.Names.{types_at, nothing, param, layouts, shr_vals}
-use Rattle.thread_local_model.proofs.Names.{shr_Tells, Stays, walk_of, proved, leaves}
-use Rattle.thread_local_model.proofs.Names.{alive, unhide}
+use Rattle.thread_local_base.proofs.Names.{◌≡◌, List, [], ◌∷◌, refl, a_type, named}
+use Rattle.thread_local_base.proofs.Names.{inst_fn, ‵, raw, ◌⊛◌, ◌$◌, ◌∵◌, ! }
+use Rattle.thread_local_base.proofs.Names.{qed, by, move, keep, drop, split, fsplit, fsplit3, fjoin, no_more, and_then}
+use Rattle.thread_local_base.proofs.Names.{use1, returns, enter, alloc_all, pass_all, agg, get}
+use Rattle.thread_local_base.proofs.Names.{free_all, look_at, sets, RattleType, owns}
+use Rattle.thread_local_base.proofs.Names.{types_at, nothing, param, layouts, shr_vals}
+use Rattle.thread_local_base.proofs.Names.{shr_Tells, Stays, walk_of, proved, leaves}
+use Rattle.thread_local_base.proofs.Names.{alive, unhide}
 use Rattle.thread_local_ids.specs.Views.{TokenView}
 use Rattle.thread_local_ids.specs.contracts.witness.Witness as Witness
 use Rattle.thread_local_ids.specs.contracts.token_list.TokenList as TokenList
@@ -15,7 +15,7 @@ use Rattle.thread_local_ids.proofs.TokenListLaws.{list_made}
 use Rattle.thread_local_ids.specs.contracts.token_list.TokenList.and_of.{ended, clauses, Key.name as #self}
 use Rattle.thread_local_ids.proofs.token_list.TokenList.and_of.Statement.{statement}
 use Rattle.thread_local_ids.proofs.token_list.TokenList.and_of.Code as code
-use Rattle.thread_local_model.proofs.Walking.{knows}
+use Rattle.thread_local_base.proofs.Walking.{knows}
 use Rattle.thread_local_ids.proofs.TwoLent.{both_stay, both_go}
 
 pub and_of_spec : {M : Type 1} → statement M

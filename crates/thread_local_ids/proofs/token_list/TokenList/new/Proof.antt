@@ -1,16 +1,16 @@
 -- `new` makes an empty list, which owns nothing.
-use Rattle.thread_local_model.proofs.Names.{◌≡◌, [], ◌∷◌, refl, a_type, Val, inst_fn, SProp, ftrue, ‵, raw, ◌⊛◌}
-use Rattle.thread_local_model.proofs.Names.{◌$◌, ◌∵◌, !, qed, by, keep, use1, split, no_more, get}
-use Rattle.thread_local_model.proofs.Names.{and_then, returns, enter, alloc_all, pass_all, free_all, look_at, sets}
-use Rattle.thread_local_model.proofs.Names.{agg, tables, RattleType, nothing, param, layouts}
-use Rattle.thread_local_model.proofs.Names.{alive, walk_of, proved, leaves}
+use Rattle.thread_local_base.proofs.Names.{◌≡◌, [], ◌∷◌, refl, a_type, Val, inst_fn, SProp, ftrue, ‵, raw, ◌⊛◌}
+use Rattle.thread_local_base.proofs.Names.{◌$◌, ◌∵◌, !, qed, by, keep, use1, split, no_more, get}
+use Rattle.thread_local_base.proofs.Names.{and_then, returns, enter, alloc_all, pass_all, free_all, look_at, sets}
+use Rattle.thread_local_base.proofs.Names.{agg, tables, RattleType, nothing, param, layouts}
+use Rattle.thread_local_base.proofs.Names.{alive, walk_of, proved, leaves}
 use Rattle.thread_local_ids.specs.contracts.token_list.TokenList as TokenList
 use Rattle.thread_local_ids.proofs.Made.{token_val}
 use Rattle.thread_local_ids.proofs.TokenListLaws.{list_made}
 use Rattle.thread_local_ids.specs.contracts.token_list.TokenList.new.{ended, clauses, Key.name as #self}
 use Rattle.thread_local_ids.proofs.token_list.TokenList.new.Statement.{statement}
 use Rattle.thread_local_ids.proofs.token_list.TokenList.new.Code as code
-use Rattle.thread_local_model.proofs.Walking.{knows}
+use Rattle.thread_local_base.proofs.Walking.{knows}
 
 pub new_spec : {M : Type 1} → statement M
 new_spec 𝓤 𝓛 𝓜 𝓡 wired T L =

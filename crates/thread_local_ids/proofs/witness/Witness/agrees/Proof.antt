@@ -1,12 +1,12 @@
 -- Two witnesses of one id in one sharing show one value.
-use Rattle.thread_local_model.proofs.Names.{sym, ◌≡◌, ℕ, [], ◌∷◌, refl, Some, Option, a_type, named}
-use Rattle.thread_local_model.proofs.Names.{vunit, inst_fn, ‵, raw, ◌⊛◌, given, ◌$◌, ◌∵◌, ! }
-use Rattle.thread_local_model.proofs.Names.{qed, by, move, keep, drop, split, fsplit, fsplit3, fjoin, learn, rewrite}
-use Rattle.thread_local_model.proofs.Names.{feq_i, use2, of_opd, unit_lit, returns, enter, alloc_all, pass_all}
-use Rattle.thread_local_model.proofs.Names.{free_all, look_at, sets, fact, RattleType, owns}
-use Rattle.thread_local_model.proofs.Names.{types_at, nothing, heard, param, layouts, shr_vals}
-use Rattle.thread_local_model.proofs.Names.{shr_Tells, Stays, walk_of, proved, leaves}
-use Rattle.thread_local_model.proofs.Names.{alive, unhide}
+use Rattle.thread_local_base.proofs.Names.{sym, ◌≡◌, ℕ, [], ◌∷◌, refl, Some, Option, a_type, named}
+use Rattle.thread_local_base.proofs.Names.{vunit, inst_fn, ‵, raw, ◌⊛◌, given, ◌$◌, ◌∵◌, ! }
+use Rattle.thread_local_base.proofs.Names.{qed, by, move, keep, drop, split, fsplit, fsplit3, fjoin, learn, rewrite}
+use Rattle.thread_local_base.proofs.Names.{feq_i, use2, of_opd, unit_lit, returns, enter, alloc_all, pass_all}
+use Rattle.thread_local_base.proofs.Names.{free_all, look_at, sets, fact, RattleType, owns}
+use Rattle.thread_local_base.proofs.Names.{types_at, nothing, heard, param, layouts, shr_vals}
+use Rattle.thread_local_base.proofs.Names.{shr_Tells, Stays, walk_of, proved, leaves}
+use Rattle.thread_local_base.proofs.Names.{alive, unhide}
 use Rattle.std.proofs.Common.{IsSome}
 use Rattle.thread_local_ids.specs.Told.{tells}
 use Rattle.thread_local_ids.specs.contracts.witness.Witness as Witness
@@ -15,7 +15,7 @@ use Rattle.thread_local_ids.specs.contracts.witness.Witness.agrees.{ended, claus
 use Rattle.thread_local_ids.proofs.witness.Witness.agrees.Statement.{statement}
 use Rattle.thread_local_ids.proofs.witness.Witness.agrees.Code as code
 use Rattle.std.proofs.lemmas.Option.{same_Some}
-use Rattle.thread_local_model.proofs.Walking.{knows}
+use Rattle.thread_local_base.proofs.Walking.{knows}
 use Rattle.thread_local_ids.proofs.TwoLent.{both_stay, both_go}
 
 pub agrees_spec : {M : Type 1} → statement M

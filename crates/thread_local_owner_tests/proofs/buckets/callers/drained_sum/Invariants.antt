@@ -1,7 +1,7 @@
 use Rattle.std.proofs.Common.{◌≡◌, ◌+◌, ◌*◌, ◌^◌, ◌≤◌}
 use Rattle.std.specs.Prelude.{sum}
-use Rattle.thread_local_model.specs.Buckets.{values}
-use Rattle.thread_local_model.specs.Walk.{walk}
+use Rattle.thread_local_base.specs.Buckets.{values}
+use Rattle.thread_local_base.specs.Walk.{walk}
 use Rattle.thread_local_buckets.specs.Drain.{drain_rest, drain_left, DrainCanStep}
 use Rattle.thread_local_owner_tests.proofs.buckets.callers.drained_sum.Given as goal
 

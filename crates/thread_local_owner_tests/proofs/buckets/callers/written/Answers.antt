@@ -1,11 +1,11 @@
 use Rattle.std.proofs.Common.{◌≡◌, ◌+◌, ◌<◌, ◌^◌, ℕ, sym, ap, ◌∙◌, Option, subst, arith}
 use Rattle.std.specs.Prelude.{unwrap_or}
-use Rattle.thread_local_model.specs.Buckets.{Contents, no_contents, IsTable}
-use Rattle.thread_local_model.specs.Rows.{value_in}
-use Rattle.thread_local_model.specs.Owner.{with_published}
-use Rattle.thread_local_model.proofs.ValueLaws.{slot-no_contents}
-use Rattle.thread_local_model.proofs.FillingLaws.{IsTable-no_contents}
-use Rattle.thread_local_model.proofs.InsertingLaws.{published_slot}
+use Rattle.thread_local_base.specs.Buckets.{Contents, no_contents, IsTable}
+use Rattle.thread_local_base.specs.Rows.{value_in}
+use Rattle.thread_local_base.specs.Owner.{with_published}
+use Rattle.thread_local_base.proofs.ValueLaws.{slot-no_contents}
+use Rattle.thread_local_base.proofs.FillingLaws.{IsTable-no_contents}
+use Rattle.thread_local_base.proofs.InsertingLaws.{published_slot}
 use Rattle.thread_local_owner_tests.proofs.buckets.callers.written.Goals as goal
 
 -- nothing stands in new buckets

@@ -1,6 +1,6 @@
 use Rattle.std.proofs.Common.{◌≡◌, ◌∙◌, Result, Ok, Err, sym, ap, refl}
 use Rattle.std.specs.Prelude.{OnOk, OnErr}
-use Rattle.thread_local_model.specs.Learnt.{Learnt, Unknown, Missing, Standing, Vacant, Holding}
+use Rattle.thread_local_base.specs.Learnt.{Learnt, Unknown, Missing, Standing, Vacant, Holding}
 use Rattle.thread_local_shared_buckets.specs.Known.{with_bucket}
 use Rattle.thread_local_shared_buckets.proofs.claim.Claim.find_bucket.Goals as goal
 

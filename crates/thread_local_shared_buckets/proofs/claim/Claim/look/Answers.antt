@@ -2,9 +2,9 @@
 use Rattle.std.proofs.Common.{◌≡◌, ℕ, ◌<◌, ◌/◌, ◌^◌, ap, sym, ◌∙◌, subst}
 use denote.RattleType.{RattleType}
 use denote.Param.{param}
-use Rattle.thread_local_model.specs.Learnt.{Learnt, Finds}
-use Rattle.thread_local_model.specs.Place.{bucket_of, index_of, id_at}
-use Rattle.thread_local_model.proofs.PlaceLaws.{id_at-place}
+use Rattle.thread_local_base.specs.Learnt.{Learnt, Finds}
+use Rattle.thread_local_base.specs.Place.{bucket_of, index_of, id_at}
+use Rattle.thread_local_base.proofs.PlaceLaws.{id_at-place}
 use Rattle.thread_local_bucket_pointers.specs.Slots.{flag_word_at}
 use Rattle.thread_local_shared_buckets.specs.Known.{MayLook}
 use Rattle.thread_local_shared_buckets.specs.Claims.{flag_word_of}

@@ -1,7 +1,7 @@
 use Rattle.std.proofs.Common.{◌≡◌, ◌∙◌, ◌<◌, ℕ, Some, Result, Ok, Err, sym, ap, subst, ⊎_elim}
 use Rattle.std.specs.Prelude.{OnErr}
-use Rattle.thread_local_model.specs.Learnt.{Learnt, Missing, Vacant, learnt_by_install}
-use Rattle.thread_local_model.specs.Place.{IsPlaceOf}
+use Rattle.thread_local_base.specs.Learnt.{Learnt, Missing, Vacant, learnt_by_install}
+use Rattle.thread_local_base.specs.Place.{IsPlaceOf}
 use Rattle.thread_local_shared_buckets.proofs.claim.Claim.make_bucket.Goals as goal
 
 -- a fact that holds anyway holds at an error

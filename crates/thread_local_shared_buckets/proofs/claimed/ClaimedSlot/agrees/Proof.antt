@@ -1,16 +1,16 @@
 -- `agrees` is a ghost step under the bucket's invariant: a claim that has found no value contradicts
 -- what is told of its id.
-use Rattle.thread_local_model.proofs.Names.{◌≡◌, ℕ, [], ◌∷◌, refl, sym, Some, Option, dnil, a_type, named, Val}
-use Rattle.thread_local_model.proofs.Names.{vptr, vunit, inst_fn, Lft, Share, Fml, ftrue, fsep, flft, ‵}
-use Rattle.thread_local_model.proofs.Names.{raw, ◌⊛◌, given, later, ◌$◌, ◌∵◌, !, qed, by, move, keep, drop, split}
-use Rattle.thread_local_model.proofs.Names.{split3, join, fsplit, fsplit3, fjoin, fjoin3, learn, await, use3}
-use Rattle.thread_local_model.proofs.Names.{rewrite, feq_i, of_opd, unit_lit, returns, enter, alloc_all, pass_all}
-use Rattle.thread_local_model.proofs.Names.{free_all, look_at, sets, fact, yes, RattleType, owns}
-use Rattle.thread_local_model.proofs.Names.{types_at, plain, named_lft, opens, closes, nothing, heard, unhide, param}
-use Rattle.thread_local_model.proofs.Names.{bounded, RefOf, mut_vals, mut_Tells, shr_vals, shr_Tells, Stays}
-use Rattle.thread_local_model.proofs.Names.{stay_dropped, stay_ref, walk_of, Goes-dropped, Goes-ref, proved, leaves}
+use Rattle.thread_local_base.proofs.Names.{◌≡◌, ℕ, [], ◌∷◌, refl, sym, Some, Option, dnil, a_type, named, Val}
+use Rattle.thread_local_base.proofs.Names.{vptr, vunit, inst_fn, Lft, Share, Fml, ftrue, fsep, flft, ‵}
+use Rattle.thread_local_base.proofs.Names.{raw, ◌⊛◌, given, later, ◌$◌, ◌∵◌, !, qed, by, move, keep, drop, split}
+use Rattle.thread_local_base.proofs.Names.{split3, join, fsplit, fsplit3, fjoin, fjoin3, learn, await, use3}
+use Rattle.thread_local_base.proofs.Names.{rewrite, feq_i, of_opd, unit_lit, returns, enter, alloc_all, pass_all}
+use Rattle.thread_local_base.proofs.Names.{free_all, look_at, sets, fact, yes, RattleType, owns}
+use Rattle.thread_local_base.proofs.Names.{types_at, plain, named_lft, opens, closes, nothing, heard, unhide, param}
+use Rattle.thread_local_base.proofs.Names.{bounded, RefOf, mut_vals, mut_Tells, shr_vals, shr_Tells, Stays}
+use Rattle.thread_local_base.proofs.Names.{stay_dropped, stay_ref, walk_of, Goes-dropped, Goes-ref, proved, leaves}
 use Rattle.std.proofs.Common.{IsSome}
-use Rattle.thread_local_model.specs.Learnt.{Learnt, Holding}
+use Rattle.thread_local_base.specs.Learnt.{Learnt, Holding}
 use Rattle.thread_local_ids.specs.Told.{tells}
 use Rattle.thread_local_ids.specs.contracts.witness.Witness as Witness
 use Rattle.thread_local_shared_buckets.specs.Known.{HasLooked}
@@ -20,7 +20,7 @@ use Rattle.thread_local_shared_buckets.specs.contracts.claimed.ClaimedSlot as cl
 use Rattle.thread_local_shared_buckets.specs.contracts.claimed.ClaimedSlot.agrees.{ended, clauses, Key.name as #self}
 use Rattle.thread_local_shared_buckets.proofs.claimed.ClaimedSlot.agrees.Statement.{statement}
 use Rattle.thread_local_shared_buckets.proofs.claimed.ClaimedSlot.agrees.Code as code
-use Rattle.thread_local_model.proofs.Walking.{knows}
+use Rattle.thread_local_base.proofs.Walking.{knows}
 
 pub agrees_spec : {M : Type 1} → statement M
 agrees_spec 𝓤 𝓛 𝓜 𝓡 wired X L =

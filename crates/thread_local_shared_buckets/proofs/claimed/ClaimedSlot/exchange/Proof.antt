@@ -1,19 +1,19 @@
 -- `exchange` lends the block for a lifetime of its own, and ends that lifetime if another block was
 -- installed first. Either way the claim finds its slot empty.
-use Rattle.thread_local_model.proofs.Names.{fpack, vint, w64, usize, uint_vals, uint_Tells, yes, ◌≡◌, ℕ, ◌+◌, ◌^◌}
-use Rattle.thread_local_model.proofs.Names.{false, sem, List, [], ◌∷◌, refl, sym, ap, ◌∙◌, lit<, Option, None, Some}
-use Rattle.thread_local_model.proofs.Names.{Body, a_type, Val, vptr, vcons, vnil, inst_fn, dnil, SProp, wand, emp, via}
-use Rattle.thread_local_model.proofs.Names.{apply∗, Lft, Share, Fml, ftrue, fsep, flft, fbor, ‵, raw, ◌⊛◌, some, given}
-use Rattle.thread_local_model.proofs.Names.{later, mean, at_ret, any_q, ◌$◌, ◌∵◌, !, qed, by, move, keep, drop, split}
-use Rattle.thread_local_model.proofs.Names.{join, fsplit, fsplit3, fjoin, fpick, pick, learn, rewrite, use0, use1}
-use Rattle.thread_local_model.proofs.Names.{use2, use3, await, group, stop, fld, addr, lit, of_opd, no_more, and_then}
-use Rattle.thread_local_model.proofs.Names.{first, blocks, exec, switches_on, returns, enter, alloc_all, pass_all}
-use Rattle.thread_local_model.proofs.Names.{free_all, look_at, get, get_in, get_tag, through, sets, sets_last}
-use Rattle.thread_local_model.proofs.Names.{lands_last, env, is, agg, sub, whole, live, vrt, in_variant, tables, fact}
-use Rattle.thread_local_model.proofs.Names.{fact_i, no, RattleType, owns, types_at, plain, Ptr, block_ptr, null_ptr}
-use Rattle.thread_local_model.proofs.Names.{block_of, count_of, at_block, InBlock, ptr_val, nothing, heard, param}
-use Rattle.thread_local_model.proofs.Names.{layout, Stays, stay_dropped, walk_of, Goes-dropped, proved, leaves, fm}
-use Rattle.thread_local_model.proofs.Names.{after, u64}
+use Rattle.thread_local_base.proofs.Names.{fpack, vint, w64, usize, uint_vals, uint_Tells, yes, ◌≡◌, ℕ, ◌+◌, ◌^◌}
+use Rattle.thread_local_base.proofs.Names.{false, sem, List, [], ◌∷◌, refl, sym, ap, ◌∙◌, lit<, Option, None, Some}
+use Rattle.thread_local_base.proofs.Names.{Body, a_type, Val, vptr, vcons, vnil, inst_fn, dnil, SProp, wand, emp, via}
+use Rattle.thread_local_base.proofs.Names.{apply∗, Lft, Share, Fml, ftrue, fsep, flft, fbor, ‵, raw, ◌⊛◌, some, given}
+use Rattle.thread_local_base.proofs.Names.{later, mean, at_ret, any_q, ◌$◌, ◌∵◌, !, qed, by, move, keep, drop, split}
+use Rattle.thread_local_base.proofs.Names.{join, fsplit, fsplit3, fjoin, fpick, pick, learn, rewrite, use0, use1}
+use Rattle.thread_local_base.proofs.Names.{use2, use3, await, group, stop, fld, addr, lit, of_opd, no_more, and_then}
+use Rattle.thread_local_base.proofs.Names.{first, blocks, exec, switches_on, returns, enter, alloc_all, pass_all}
+use Rattle.thread_local_base.proofs.Names.{free_all, look_at, get, get_in, get_tag, through, sets, sets_last}
+use Rattle.thread_local_base.proofs.Names.{lands_last, env, is, agg, sub, whole, live, vrt, in_variant, tables, fact}
+use Rattle.thread_local_base.proofs.Names.{fact_i, no, RattleType, owns, types_at, plain, Ptr, block_ptr, null_ptr}
+use Rattle.thread_local_base.proofs.Names.{block_of, count_of, at_block, InBlock, ptr_val, nothing, heard, param}
+use Rattle.thread_local_base.proofs.Names.{layout, Stays, stay_dropped, walk_of, Goes-dropped, proved, leaves, fm}
+use Rattle.thread_local_base.proofs.Names.{after, u64}
 use Rattle.std.proofs.Common.{IfSome, length, ◌*◌, ◌<◌, ◌≤◌, subst}
 use Rattle.std.proofs.lemmas.List.{length-replicate}
 use seplogic.Ra.Ura.{Ura}
@@ -45,11 +45,11 @@ use Rattle.std.specs.contracts.option.Option as Opt
 use Rattle.std.specs.declared.result.Result.TheVariants.{Ok, Err}
 use Rattle.std.specs.contracts.alloc.Global as heap
 use Rattle.std.specs.contracts.impls.GlobalAllocator.TheImpl.{ghosts}
-use Rattle.thread_local_model.specs.Place.{bucket_of}
-use Rattle.thread_local_model.proofs.PlaceLaws.{place-id_at}
+use Rattle.thread_local_base.specs.Place.{bucket_of}
+use Rattle.thread_local_base.proofs.PlaceLaws.{place-id_at}
 use Rattle.thread_local_bucket_pointers.specs.Slots.{block_owns, empty_slots, stride, Fits}
 use Rattle.thread_local_bucket_pointers.proofs.Flags.{value_near}
-use Rattle.thread_local_model.specs.Fact.{fact as said_fact}
+use Rattle.thread_local_base.specs.Fact.{fact as said_fact}
 use Rattle.thread_local_bucket_pointers.specs.contracts.block.Block as block
 use Rattle.thread_local_bucket_pointers.proofs.Fields as fields
 use Rattle.thread_local_ids.specs.Rights.{reached_owns}
@@ -62,8 +62,8 @@ use Rattle.thread_local_shared_buckets.specs.Shared.{BucketView, Turn, StandingB
 use Rattle.thread_local_shared_buckets.proofs.Loads.{glimpse}
 use Rattle.thread_local_shared_buckets.proofs.Offers as offers
 use Rattle.thread_local_shared_buckets.proofs.RowFields.{word_laws}
-use Rattle.thread_local_model.proofs.Pairs.{both, pair_in}
-use Rattle.thread_local_model.specs.Learnt.{Learnt, Missing, Vacant}
+use Rattle.thread_local_base.proofs.Pairs.{both, pair_in}
+use Rattle.thread_local_base.specs.Learnt.{Learnt, Missing, Vacant}
 use Rattle.thread_local_shared_buckets.specs.Claims.{ClaimFields, claim_fields, IsOf, value_at, has, claim_owns}
 use Rattle.thread_local_shared_buckets.specs.contracts.claimed.ClaimedSlot as claim
 use Rattle.thread_local_shared_buckets.specs.contracts.claimed.ClaimedSlot.exchange.{ended, clauses}

@@ -1,19 +1,19 @@
 -- `find` loads the bucket's pointer: at null, it takes the pass for the right. Else it loads the
 -- word of the slot's flag, and takes what the slot holds.
-use Rattle.thread_local_model.proofs.Names.{Option, lit<, ◌≡◌, ℕ, ◌+◌, ◌^◌, [], ◌∷◌, refl, sym, ap, ◌∙◌, subst, true}
-use Rattle.thread_local_model.proofs.Names.{a_type, Val, vptr, inst_fn, SProp, via, id⊢, Lft, Share}
-use Rattle.thread_local_model.proofs.Names.{Fml, ftrue, fsep, flft, fbor, finv, sem, ‵, raw, ◌⊛◌, later, mean}
-use Rattle.thread_local_model.proofs.Names.{at_ret, ◌$◌, ◌∵◌, !, qed, by, move, keep, drop, split, join, fsplit, fjoin}
-use Rattle.thread_local_model.proofs.Names.{fpick, fpack, pick, use0, use1, use2, use3, await, rewrite, group, fld}
-use Rattle.thread_local_model.proofs.Names.{stop, addr, lit, of_opd, no_more, and_then, first, blocks, exec}
-use Rattle.thread_local_model.proofs.Names.{Calls-last, returns, enter, alloc_all, pass_all, free_all, look_at, get}
-use Rattle.thread_local_model.proofs.Names.{get_in, through, sets, sets_last, size_word, lands_last, env, agg, sub}
-use Rattle.thread_local_model.proofs.Names.{whole, tables, fact, no, RattleType, owns, types_at, plain}
-use Rattle.thread_local_model.proofs.Names.{named_lft, Ptr, block_ptr, block_of, count_of, at_block, nothing, heard}
-use Rattle.thread_local_model.proofs.Names.{param, bounded, Stays, stay_dropped, walk_of, Goes-dropped, proved, leaves}
-use Rattle.thread_local_model.proofs.Names.{fm, found, finds, ◌*◌, ◌<◌, ◌≢◌, length, Bool, false, dnil, bin}
-use Rattle.thread_local_model.proofs.Names.{branches, is, null_ptr, ptr_val, u64, after, uint_vals, uint_Tells, usize}
-use Rattle.thread_local_model.proofs.Names.{yes, fsplit3, vint, w64}
+use Rattle.thread_local_base.proofs.Names.{Option, lit<, ◌≡◌, ℕ, ◌+◌, ◌^◌, [], ◌∷◌, refl, sym, ap, ◌∙◌, subst, true}
+use Rattle.thread_local_base.proofs.Names.{a_type, Val, vptr, inst_fn, SProp, via, id⊢, Lft, Share}
+use Rattle.thread_local_base.proofs.Names.{Fml, ftrue, fsep, flft, fbor, finv, sem, ‵, raw, ◌⊛◌, later, mean}
+use Rattle.thread_local_base.proofs.Names.{at_ret, ◌$◌, ◌∵◌, !, qed, by, move, keep, drop, split, join, fsplit, fjoin}
+use Rattle.thread_local_base.proofs.Names.{fpick, fpack, pick, use0, use1, use2, use3, await, rewrite, group, fld}
+use Rattle.thread_local_base.proofs.Names.{stop, addr, lit, of_opd, no_more, and_then, first, blocks, exec}
+use Rattle.thread_local_base.proofs.Names.{Calls-last, returns, enter, alloc_all, pass_all, free_all, look_at, get}
+use Rattle.thread_local_base.proofs.Names.{get_in, through, sets, sets_last, size_word, lands_last, env, agg, sub}
+use Rattle.thread_local_base.proofs.Names.{whole, tables, fact, no, RattleType, owns, types_at, plain}
+use Rattle.thread_local_base.proofs.Names.{named_lft, Ptr, block_ptr, block_of, count_of, at_block, nothing, heard}
+use Rattle.thread_local_base.proofs.Names.{param, bounded, Stays, stay_dropped, walk_of, Goes-dropped, proved, leaves}
+use Rattle.thread_local_base.proofs.Names.{fm, found, finds, ◌*◌, ◌<◌, ◌≢◌, length, Bool, false, dnil, bin}
+use Rattle.thread_local_base.proofs.Names.{branches, is, null_ptr, ptr_val, u64, after, uint_vals, uint_Tells, usize}
+use Rattle.thread_local_base.proofs.Names.{yes, fsplit3, vint, w64}
 use Rattle.std.proofs.Common.{◌⊎◌, inl, inr, ◌/◌, ◌%◌}
 use base.Fml.{fres}
 use base.Before.{before}
@@ -31,12 +31,12 @@ use Rattle.thread_local_ids.specs.Rights.{right_owns}
 use Rattle.thread_local_bucket_pointers.specs.Slots.{stride, value_words, word_offset, value_offset}
 use Rattle.thread_local_bucket_pointers.proofs.Flags.{in_chunks, value_near}
 use Rattle.thread_local_bucket_pointers.proofs.Slots.{IsWordNear, word_is_near, ptr_good}
-use Rattle.thread_local_model.specs.Bits.{is_set}
-use Rattle.thread_local_model.proofs.Word.{masked_fits, place_below, bit_fits, shifted_right}
-use Rattle.thread_local_model.specs.Fact as facts
+use Rattle.thread_local_base.specs.Bits.{is_set}
+use Rattle.thread_local_base.proofs.Word.{masked_fits, place_below, bit_fits, shifted_right}
+use Rattle.thread_local_base.specs.Fact as facts
 use Rattle.thread_local_shared_buckets.specs.Shared.{BucketView, Turn, StandingBlock, Sized, block_code, len, bucket_invariant, loaded}
 use Rattle.thread_local_shared_buckets.proofs.Loads.{glimpse, reaches, reads}
-use Rattle.thread_local_model.specs.Learnt.{Learnt, Missing, Vacant, Finds}
+use Rattle.thread_local_base.specs.Learnt.{Learnt, Missing, Vacant, Finds}
 use Rattle.thread_local_shared_buckets.specs.Known.{HasLooked, MayLook, looked_in_vain, state_by, found_as}
 use Rattle.thread_local_shared_buckets.proofs.Learning.{known_as, not_missing, kept_as, state_by-fits, state_by-flag}
 use Rattle.thread_local_shared_buckets.proofs.Learning.{finds_nothing, finds_slot, unfound, found as found_in}
@@ -49,7 +49,7 @@ use Rattle.thread_local_shared_buckets.proofs.ClaimedFields.{Kept, kept_of, valu
 use Rattle.thread_local_shared_buckets.proofs.ClaimedFields.{number_in, spaced, spaced_is}
 use Rattle.thread_local_shared_buckets.proofs.claimed.ClaimedSlot.find.Statement.{statement}
 use Rattle.thread_local_shared_buckets.proofs.claimed.ClaimedSlot.find.Code as code
-use Rattle.thread_local_model.proofs.Walking.{knows, lends_token, returns_token}
+use Rattle.thread_local_base.proofs.Walking.{knows, lends_token, returns_token}
 use Rattle.thread_local_shared_buckets.proofs.Inside.{placed}
 
 word_laws : Laws u64

@@ -1,13 +1,13 @@
 -- `give_up` is a ghost step under the bucket's invariant: what the claim has of the slot goes back,
 -- for the right.
-use Rattle.thread_local_model.proofs.Names.{◌≡◌, List, [], ◌∷◌, refl, ap, dnil, a_type, Val, inst_fn, id⊢}
-use Rattle.thread_local_model.proofs.Names.{Lft, Share, Fml, ftrue, fsep, flft, ‵, raw, ◌⊛◌, some, later, ◌$◌, ◌∵◌, ! }
-use Rattle.thread_local_model.proofs.Names.{qed, by, move, keep, drop, split, join, fsplit, fjoin, pick, use1}
-use Rattle.thread_local_model.proofs.Names.{use2, await, rewrite, no_more, returns, enter, alloc_all, pass_all}
-use Rattle.thread_local_model.proofs.Names.{free_all, look_at, env, fact, no, RattleType, owns}
-use Rattle.thread_local_model.proofs.Names.{types_at, plain, named_lft, nothing, heard, peeks, param, bounded, Stays}
-use Rattle.thread_local_model.proofs.Names.{stay_dropped, walk_of, Goes-dropped, proved, leaves, fm, Is, shows}
-use Rattle.thread_local_model.proofs.Names.{lands_as}
+use Rattle.thread_local_base.proofs.Names.{◌≡◌, List, [], ◌∷◌, refl, ap, dnil, a_type, Val, inst_fn, id⊢}
+use Rattle.thread_local_base.proofs.Names.{Lft, Share, Fml, ftrue, fsep, flft, ‵, raw, ◌⊛◌, some, later, ◌$◌, ◌∵◌, ! }
+use Rattle.thread_local_base.proofs.Names.{qed, by, move, keep, drop, split, join, fsplit, fjoin, pick, use1}
+use Rattle.thread_local_base.proofs.Names.{use2, await, rewrite, no_more, returns, enter, alloc_all, pass_all}
+use Rattle.thread_local_base.proofs.Names.{free_all, look_at, env, fact, no, RattleType, owns}
+use Rattle.thread_local_base.proofs.Names.{types_at, plain, named_lft, nothing, heard, peeks, param, bounded, Stays}
+use Rattle.thread_local_base.proofs.Names.{stay_dropped, walk_of, Goes-dropped, proved, leaves, fm, Is, shows}
+use Rattle.thread_local_base.proofs.Names.{lands_as}
 use denote.Steps.{only}
 use denote.Triple.Call.{calls_at}
 use denote.Triple.Spec.{triple_of}
@@ -23,7 +23,7 @@ use Rattle.thread_local_shared_buckets.proofs.ClaimedFields.{kept_of, value_of, 
 use Rattle.thread_local_shared_buckets.proofs.Surrender.{surrenders}
 use Rattle.thread_local_shared_buckets.proofs.claimed.ClaimedSlot.give_up.Statement.{statement}
 use Rattle.thread_local_shared_buckets.proofs.claimed.ClaimedSlot.give_up.Code as code
-use Rattle.thread_local_model.proofs.Walking.{knows}
+use Rattle.thread_local_base.proofs.Walking.{knows}
 
 pub give_up_spec : {M : Type 1} → statement M
 give_up_spec 𝓤 𝓛 𝓜 𝓡 wired X L =

@@ -1,20 +1,20 @@
 -- `hold` joins the right with what a `&` to the bucket shows.
-use Rattle.thread_local_model.proofs.Names.{Option, ◌≡◌, ℕ, ◌^◌, List, [], ◌∷◌, refl, sym, ap, ◌∙◌, w64, a_type, named}
-use Rattle.thread_local_model.proofs.Names.{Val, vptr, vint, vunit, of_opd, inst_fn, emp, id⊢, Lft, Share, Fml}
-use Rattle.thread_local_model.proofs.Names.{ftrue, fsep, flft, ‵, raw, ◌⊛◌, some, later, ◌$◌, ◌∵◌, !, qed, by, move}
-use Rattle.thread_local_model.proofs.Names.{keep, drop, split, join, fsplit, fjoin, fpick, fpack, pick, use0, use1}
-use Rattle.thread_local_model.proofs.Names.{await, rewrite, feq_l, stop, addr, no_more, and_then, returns, enter}
-use Rattle.thread_local_model.proofs.Names.{alloc_all, pass_all, free_all, look_at, get, through, sets, env, agg}
-use Rattle.thread_local_model.proofs.Names.{fact, fact_i, yes, RattleType, owns, types_at, plain, named_lft}
-use Rattle.thread_local_model.proofs.Names.{Ptr, block_ptr, nothing, heard, unhide, param, bounded, RefOf, shr_vals}
-use Rattle.thread_local_model.proofs.Names.{shr_Tells, uint_vals, uint_Tells, Stays, stay_dropped, walk_of}
-use Rattle.thread_local_model.proofs.Names.{Goes-dropped, proved, leaves, fm, ◌<◌, lit<, lit, arith, dnil, lands_as}
-use Rattle.thread_local_model.proofs.Names.{usize}
+use Rattle.thread_local_base.proofs.Names.{Option, ◌≡◌, ℕ, ◌^◌, List, [], ◌∷◌, refl, sym, ap, ◌∙◌, w64, a_type, named}
+use Rattle.thread_local_base.proofs.Names.{Val, vptr, vint, vunit, of_opd, inst_fn, emp, id⊢, Lft, Share, Fml}
+use Rattle.thread_local_base.proofs.Names.{ftrue, fsep, flft, ‵, raw, ◌⊛◌, some, later, ◌$◌, ◌∵◌, !, qed, by, move}
+use Rattle.thread_local_base.proofs.Names.{keep, drop, split, join, fsplit, fjoin, fpick, fpack, pick, use0, use1}
+use Rattle.thread_local_base.proofs.Names.{await, rewrite, feq_l, stop, addr, no_more, and_then, returns, enter}
+use Rattle.thread_local_base.proofs.Names.{alloc_all, pass_all, free_all, look_at, get, through, sets, env, agg}
+use Rattle.thread_local_base.proofs.Names.{fact, fact_i, yes, RattleType, owns, types_at, plain, named_lft}
+use Rattle.thread_local_base.proofs.Names.{Ptr, block_ptr, nothing, heard, unhide, param, bounded, RefOf, shr_vals}
+use Rattle.thread_local_base.proofs.Names.{shr_Tells, uint_vals, uint_Tells, Stays, stay_dropped, walk_of}
+use Rattle.thread_local_base.proofs.Names.{Goes-dropped, proved, leaves, fm, ◌<◌, lit<, lit, arith, dnil, lands_as}
+use Rattle.thread_local_base.proofs.Names.{usize}
 use base.Fml.{feq}
 use denote.Steps.{only}
 use denote.Triple.Call.{calls_at}
 use denote.Triple.Spec.{triple_of}
-use Rattle.thread_local_model.specs.Place.{id_at}
+use Rattle.thread_local_base.specs.Place.{id_at}
 use Rattle.thread_local_ids.specs.Rights.{right_owns}
 use Rattle.thread_local_ids.specs.contracts.right.Right as right
 use Rattle.thread_local_ids.specs.contracts.right.Right.lay_down as layer
@@ -22,14 +22,14 @@ use Rattle.thread_local_ids.proofs.Markers.{token, told as right_told}
 use Rattle.thread_local_ids.proofs.right.Right.lay_down.Met as layer_met
 use Rattle.thread_local_shared_buckets.specs.Shared.{BucketView, Turn}
 use Rattle.thread_local_shared_buckets.specs.contracts.shared_bucket.SharedBucket as one_bucket
-use Rattle.thread_local_model.specs.Learnt.{Learnt, Unknown}
+use Rattle.thread_local_base.specs.Learnt.{Learnt, Unknown}
 use Rattle.thread_local_shared_buckets.specs.Claims.{ClaimFields, claim_fields, IsOf, IsKept, has_at}
 use Rattle.thread_local_shared_buckets.specs.contracts.claimed.ClaimedSlot as claim
 use Rattle.thread_local_shared_buckets.specs.contracts.claimed.ClaimedSlot.hold.{ended, clauses, Key.name as #self}
 use Rattle.thread_local_shared_buckets.proofs.ClaimedFields.{Kept, value_of, FieldsType, fields_of, made, typed}
 use Rattle.thread_local_shared_buckets.proofs.claimed.ClaimedSlot.hold.Statement.{statement}
 use Rattle.thread_local_shared_buckets.proofs.claimed.ClaimedSlot.hold.Code as code
-use Rattle.thread_local_model.proofs.Walking.{knows}
+use Rattle.thread_local_base.proofs.Walking.{knows}
 
 pub hold_spec : {M : Type 1} → statement M
 hold_spec 𝓤 𝓛 𝓜 𝓡 wired X L =

@@ -1,22 +1,22 @@
 -- `lasting` lends the value that the slot holds for as long as the bucket is borrowed, since a `&`
 -- to it names no thread.
-use Rattle.thread_local_model.proofs.Names.{◌≡◌, ℕ, List, [], ◌∷◌, sym, refl, ap, ◌∙◌, true, dnil, a_type, named, Val}
-use Rattle.thread_local_model.proofs.Names.{vptr, inst_fn, SProp, Lft, Fml, ftrue, fsep, flft, ‵, raw, ◌⊛◌}
-use Rattle.thread_local_model.proofs.Names.{at_ret, ◌$◌, ◌∵◌, !, qed, by, move, keep, drop, split, join, fsplit, fjoin}
-use Rattle.thread_local_model.proofs.Names.{fpick, use1, rewrite, feq_i, stop, fld, addr, of_opd, first, blocks}
-use Rattle.thread_local_model.proofs.Names.{exec, returns, enter, alloc_all, pass_all, free_all, look_at, get, through}
-use Rattle.thread_local_model.proofs.Names.{sets, sets_last, env, sub, whole, look_in, tables, fact, yes}
-use Rattle.thread_local_model.proofs.Names.{RattleType, owns, types_at, named_lft, Ptr, block_ptr, block_of, count_of}
-use Rattle.thread_local_model.proofs.Names.{at_block, nothing, heard, peeks, Is, shows, cell_at, param, bounded}
-use Rattle.thread_local_model.proofs.Names.{shr_vals, shr_Tells, Stays, stay_dropped, walk_of, Goes-dropped, proved}
-use Rattle.thread_local_model.proofs.Names.{leaves, is_some, Ura, ent, id⊢, Logic, sem, load}
+use Rattle.thread_local_base.proofs.Names.{◌≡◌, ℕ, List, [], ◌∷◌, sym, refl, ap, ◌∙◌, true, dnil, a_type, named, Val}
+use Rattle.thread_local_base.proofs.Names.{vptr, inst_fn, SProp, Lft, Fml, ftrue, fsep, flft, ‵, raw, ◌⊛◌}
+use Rattle.thread_local_base.proofs.Names.{at_ret, ◌$◌, ◌∵◌, !, qed, by, move, keep, drop, split, join, fsplit, fjoin}
+use Rattle.thread_local_base.proofs.Names.{fpick, use1, rewrite, feq_i, stop, fld, addr, of_opd, first, blocks}
+use Rattle.thread_local_base.proofs.Names.{exec, returns, enter, alloc_all, pass_all, free_all, look_at, get, through}
+use Rattle.thread_local_base.proofs.Names.{sets, sets_last, env, sub, whole, look_in, tables, fact, yes}
+use Rattle.thread_local_base.proofs.Names.{RattleType, owns, types_at, named_lft, Ptr, block_ptr, block_of, count_of}
+use Rattle.thread_local_base.proofs.Names.{at_block, nothing, heard, peeks, Is, shows, cell_at, param, bounded}
+use Rattle.thread_local_base.proofs.Names.{shr_vals, shr_Tells, Stays, stay_dropped, walk_of, Goes-dropped, proved}
+use Rattle.thread_local_base.proofs.Names.{leaves, is_some, Ura, ent, id⊢, Logic, sem, load}
 use mathlib.Core.Logic.{inl, inr}
 use denote.Steps.{looks, shuts}
 use denote.Memory.{hidden_shr, shared_of}
 use denote.Param.Send.{IsSync}
 use Rattle.thread_local_judged.specs.Judged.{Shareable, Judged}
-use Rattle.thread_local_model.proofs.Bodies.{tail}
-use Rattle.thread_local_model.specs.Learnt.{Learnt, Holding}
+use Rattle.thread_local_base.proofs.Bodies.{tail}
+use Rattle.thread_local_base.specs.Learnt.{Learnt, Holding}
 use Rattle.thread_local_shared_buckets.specs.Known.{value_held}
 use Rattle.thread_local_shared_buckets.proofs.Learning.{holding}
 use Rattle.thread_local_shared_buckets.specs.Claims.{claim_fields, lasts, shows_value}
@@ -25,7 +25,7 @@ use Rattle.thread_local_shared_buckets.proofs.ClaimedFields.{kept_of, claim_at, 
 use Rattle.thread_local_shared_buckets.proofs.ClaimedFields.{fields_of, told, opened}
 use Rattle.thread_local_shared_buckets.proofs.claimed.ClaimedSlot.lasting.Statement.{statement}
 use Rattle.thread_local_shared_buckets.proofs.claimed.ClaimedSlot.lasting.Code as code
-use Rattle.thread_local_model.proofs.Walking.{knows}
+use Rattle.thread_local_base.proofs.Walking.{knows}
 
 lasts_of : {M : Type 1} {𝓤 : Ura M} (𝓛 : Logic 𝓤) (R : RattleType) → Shareable R
     → (β : Lft) (b e : ℕ) (x : R.Denot) (κ : Lft) (j : Judged R)

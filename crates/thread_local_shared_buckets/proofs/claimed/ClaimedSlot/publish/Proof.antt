@@ -1,19 +1,19 @@
 -- `publish` writes the value into the slot's room, shares it for good where it may be shared, and
 -- then sets the flag.
-use Rattle.thread_local_model.proofs.Names.{bin, ◌≡◌, ℕ, ◌+◌, ◌^◌, List, [], ◌∷◌, ◌++◌, length, sym, refl, ap, subst}
-use Rattle.thread_local_model.proofs.Names.{lit<, w64, Option, Some, None, a_type, bare, Val, vint, inst_fn}
-use Rattle.thread_local_model.proofs.Names.{full_share, SProp, ent, id⊢, via, Lft, Share, GName}
-use Rattle.thread_local_model.proofs.Names.{Fml, ftrue, fsep, fat, froom, flft, fbor, fex, fobs, fauth, WpFn, ‵, raw}
-use Rattle.thread_local_model.proofs.Names.{◌⊛◌, given, later, mean, at_ret, ◌$◌, ◌∵◌, !, qed, by, move, keep}
-use Rattle.thread_local_model.proofs.Names.{drop, use0, use1, use2, await, split, split3, join, pick, fsplit, fsplit3}
-use Rattle.thread_local_model.proofs.Names.{fjoin, fjoin3, fpick, fpack, learn, group, suffices, rewrite, stop, fld}
-use Rattle.thread_local_model.proofs.Names.{lit, of_opd, no_more, and_then, first, blocks, exec, returns, enter, init}
-use Rattle.thread_local_model.proofs.Names.{assigns_last, alloc_all, pass_all, free_all, look_at, get, get_in, through}
-use Rattle.thread_local_model.proofs.Names.{sets, lands_last, is, env, agg, sub, whole, tables, fact, no}
-use Rattle.thread_local_model.proofs.Names.{RattleType, owns, types_at, plain, Ptr, block_ptr, block_of, count_of}
-use Rattle.thread_local_model.proofs.Names.{uint_Tells, usize, yes, size_word, sets_last, ◌*◌, ◌∙◌, nothing, heard}
-use Rattle.thread_local_model.proofs.Names.{param, layout, param_laws, Stays, stay_dropped, walk_of, Goes-dropped}
-use Rattle.thread_local_model.proofs.Names.{Member, proved_at, leaves, fm, after, one, gather}
+use Rattle.thread_local_base.proofs.Names.{bin, ◌≡◌, ℕ, ◌+◌, ◌^◌, List, [], ◌∷◌, ◌++◌, length, sym, refl, ap, subst}
+use Rattle.thread_local_base.proofs.Names.{lit<, w64, Option, Some, None, a_type, bare, Val, vint, inst_fn}
+use Rattle.thread_local_base.proofs.Names.{full_share, SProp, ent, id⊢, via, Lft, Share, GName}
+use Rattle.thread_local_base.proofs.Names.{Fml, ftrue, fsep, fat, froom, flft, fbor, fex, fobs, fauth, WpFn, ‵, raw}
+use Rattle.thread_local_base.proofs.Names.{◌⊛◌, given, later, mean, at_ret, ◌$◌, ◌∵◌, !, qed, by, move, keep}
+use Rattle.thread_local_base.proofs.Names.{drop, use0, use1, use2, await, split, split3, join, pick, fsplit, fsplit3}
+use Rattle.thread_local_base.proofs.Names.{fjoin, fjoin3, fpick, fpack, learn, group, suffices, rewrite, stop, fld}
+use Rattle.thread_local_base.proofs.Names.{lit, of_opd, no_more, and_then, first, blocks, exec, returns, enter, init}
+use Rattle.thread_local_base.proofs.Names.{assigns_last, alloc_all, pass_all, free_all, look_at, get, get_in, through}
+use Rattle.thread_local_base.proofs.Names.{sets, lands_last, is, env, agg, sub, whole, tables, fact, no}
+use Rattle.thread_local_base.proofs.Names.{RattleType, owns, types_at, plain, Ptr, block_ptr, block_of, count_of}
+use Rattle.thread_local_base.proofs.Names.{uint_Tells, usize, yes, size_word, sets_last, ◌*◌, ◌∙◌, nothing, heard}
+use Rattle.thread_local_base.proofs.Names.{param, layout, param_laws, Stays, stay_dropped, walk_of, Goes-dropped}
+use Rattle.thread_local_base.proofs.Names.{Member, proved_at, leaves, fm, after, one, gather}
 use Rattle.std.proofs.Common.{◌<◌, ◌≤◌, ◌/◌, ◌%◌}
 use mir.Syntax.{dnil}
 use mir.Val.{vptr}
@@ -31,7 +31,7 @@ use denote.Signature.{named_lft}
 use Rattle.std.proofs.raw_atomic.Calls.{seq_cst, found, finds, adds}
 use Rattle.std.proofs.raw_atomic.PtrCalls.{seq_cst_good}
 use Rattle.std.specs.Coded.{coded_option}
-use Rattle.thread_local_model.proofs.Word.{place_below, bit_fits, shifted_left}
+use Rattle.thread_local_base.proofs.Word.{place_below, bit_fits, shifted_left}
 use Rattle.thread_local_judged.specs.Judged.{Judged}
 use Rattle.thread_local_ids.specs.Rights.{right_owns}
 use Rattle.thread_local_bucket_pointers.specs.Slots.{stride, value_words, word_offset, value_offset, content_at}
@@ -42,7 +42,7 @@ use Rattle.thread_local_shared_buckets.specs.Shared.{value_code, tracked_value, 
 use Rattle.thread_local_shared_buckets.specs.Shared.{bucket_invariant}
 use Rattle.thread_local_shared_buckets.proofs.Rested.{publishes}
 use Rattle.thread_local_ids.specs.Told.{tells}
-use Rattle.thread_local_model.specs.Learnt.{Learnt, Vacant, Holding}
+use Rattle.thread_local_base.specs.Learnt.{Learnt, Vacant, Holding}
 use Rattle.thread_local_shared_buckets.specs.Claims.{ClaimFields, flag_word_of, claim_fields, IsOf, IsKept, value_at, has, has_slot, has_at}
 use Rattle.thread_local_shared_buckets.specs.contracts.claimed.ClaimedSlot as claim
 use Rattle.thread_local_shared_buckets.specs.contracts.claimed.ClaimedSlot.publish.{ended, clauses, Key.name as #self}
@@ -52,7 +52,7 @@ use Rattle.thread_local_shared_buckets.proofs.ClaimedFields.{number_in, distance
 use Rattle.thread_local_shared_buckets.proofs.ClaimedFields.{spaced_is}
 use Rattle.thread_local_shared_buckets.proofs.claimed.ClaimedSlot.publish.Statement.{statement}
 use Rattle.thread_local_shared_buckets.proofs.claimed.ClaimedSlot.publish.Code as code
-use Rattle.thread_local_model.proofs.Walking.{knows, lends_token, returns_token}
+use Rattle.thread_local_base.proofs.Walking.{knows, lends_token, returns_token}
 use Rattle.thread_local_shared_buckets.proofs.Inside.{placed}
 
 pub publish_spec : {M : Type 1} → statement M

@@ -1,21 +1,21 @@
 -- `value` lends the value that the slot holds.
-use Rattle.thread_local_model.proofs.Names.{◌≡◌, ℕ, List, [], ◌∷◌, ◌++◌, sym, refl, ap, ◌∙◌, true, dnil, a_type, named}
-use Rattle.thread_local_model.proofs.Names.{Val, vptr, inst_fn, SProp, Lft, Fml, ftrue, fsep, flft, ‵, raw, ◌⊛◌}
-use Rattle.thread_local_model.proofs.Names.{at_ret, ◌$◌, ◌∵◌, !, qed, by, move, keep, drop, split, join, fsplit, fjoin}
-use Rattle.thread_local_model.proofs.Names.{fpick, use1, rewrite, feq_i, stop, fld, addr, of_opd, first, blocks}
-use Rattle.thread_local_model.proofs.Names.{exec, returns, enter, alloc_all, pass_all, free_all, look_at, get, through}
-use Rattle.thread_local_model.proofs.Names.{sets, sets_last, env, sub, whole, look_in, tables, fact, yes}
-use Rattle.thread_local_model.proofs.Names.{RattleType, owns, types_at, named_lft, Ptr, block_ptr, block_of, count_of}
-use Rattle.thread_local_model.proofs.Names.{at_block, nothing, heard, peeks, Is, shows, cell_at, param, bounded}
-use Rattle.thread_local_model.proofs.Names.{param_laws, shr_vals, shr_Tells, Stays, stay_dropped, walk_of}
-use Rattle.thread_local_model.proofs.Names.{Goes-dropped, proved, leaves, is_some, load}
+use Rattle.thread_local_base.proofs.Names.{◌≡◌, ℕ, List, [], ◌∷◌, ◌++◌, sym, refl, ap, ◌∙◌, true, dnil, a_type, named}
+use Rattle.thread_local_base.proofs.Names.{Val, vptr, inst_fn, SProp, Lft, Fml, ftrue, fsep, flft, ‵, raw, ◌⊛◌}
+use Rattle.thread_local_base.proofs.Names.{at_ret, ◌$◌, ◌∵◌, !, qed, by, move, keep, drop, split, join, fsplit, fjoin}
+use Rattle.thread_local_base.proofs.Names.{fpick, use1, rewrite, feq_i, stop, fld, addr, of_opd, first, blocks}
+use Rattle.thread_local_base.proofs.Names.{exec, returns, enter, alloc_all, pass_all, free_all, look_at, get, through}
+use Rattle.thread_local_base.proofs.Names.{sets, sets_last, env, sub, whole, look_in, tables, fact, yes}
+use Rattle.thread_local_base.proofs.Names.{RattleType, owns, types_at, named_lft, Ptr, block_ptr, block_of, count_of}
+use Rattle.thread_local_base.proofs.Names.{at_block, nothing, heard, peeks, Is, shows, cell_at, param, bounded}
+use Rattle.thread_local_base.proofs.Names.{param_laws, shr_vals, shr_Tells, Stays, stay_dropped, walk_of}
+use Rattle.thread_local_base.proofs.Names.{Goes-dropped, proved, leaves, is_some, load}
 use base.Fml.{Incl-refl}
 use contract.BorrowLft.{⊑_meet}
 use denote.Steps.{looks, shuts}
 use denote.Memory.{hidden_shr, shared_of}
 use denote.SharingLaws.{shortens}
-use Rattle.thread_local_model.proofs.Bodies.{tail}
-use Rattle.thread_local_model.specs.Learnt.{Learnt, Holding}
+use Rattle.thread_local_base.proofs.Bodies.{tail}
+use Rattle.thread_local_base.specs.Learnt.{Learnt, Holding}
 use Rattle.thread_local_shared_buckets.specs.Known.{value_held}
 use Rattle.thread_local_shared_buckets.proofs.Learning.{holding}
 use Rattle.thread_local_shared_buckets.specs.Claims.{claim_fields, shows_value}
@@ -24,7 +24,7 @@ use Rattle.thread_local_shared_buckets.proofs.ClaimedFields.{kept_of, claim_at, 
 use Rattle.thread_local_shared_buckets.proofs.ClaimedFields.{fields_of, told, opened}
 use Rattle.thread_local_shared_buckets.proofs.claimed.ClaimedSlot.value.Statement.{statement}
 use Rattle.thread_local_shared_buckets.proofs.claimed.ClaimedSlot.value.Code as code
-use Rattle.thread_local_model.proofs.Walking.{knows}
+use Rattle.thread_local_base.proofs.Walking.{knows}
 
 pub value_spec : {M : Type 1} → statement M
 value_spec 𝓤 𝓛 𝓜 𝓡 wired X L =

@@ -1,12 +1,12 @@
 -- `witness` copies what a `&` to the claim holds that is told of its id.
-use Rattle.thread_local_model.proofs.Names.{◌≡◌, ℕ, [], ◌∷◌, true, refl, Option, dnil, a_type, named, vptr}
-use Rattle.thread_local_model.proofs.Names.{inst_fn, Lft, Fml, ftrue, fsep, flft, ‵, raw, ◌⊛◌, ◌$◌, ◌∵◌, ! }
-use Rattle.thread_local_model.proofs.Names.{qed, by, move, keep, drop, split, join, fsplit, fjoin, use1, rewrite}
-use Rattle.thread_local_model.proofs.Names.{no_more, and_then, returns, enter, alloc_all, pass_all, free_all, look_at}
-use Rattle.thread_local_model.proofs.Names.{get, sets, agg, fact, yes, RattleType, owns, types_at}
-use Rattle.thread_local_model.proofs.Names.{named_lft, nothing, heard, param, bounded, shr_vals, shr_Tells, Stays}
-use Rattle.thread_local_model.proofs.Names.{stay_dropped, walk_of, Goes-dropped, proved, leaves, is_some}
-use Rattle.thread_local_model.specs.Learnt.{Learnt, Holding}
+use Rattle.thread_local_base.proofs.Names.{◌≡◌, ℕ, [], ◌∷◌, true, refl, Option, dnil, a_type, named, vptr}
+use Rattle.thread_local_base.proofs.Names.{inst_fn, Lft, Fml, ftrue, fsep, flft, ‵, raw, ◌⊛◌, ◌$◌, ◌∵◌, ! }
+use Rattle.thread_local_base.proofs.Names.{qed, by, move, keep, drop, split, join, fsplit, fjoin, use1, rewrite}
+use Rattle.thread_local_base.proofs.Names.{no_more, and_then, returns, enter, alloc_all, pass_all, free_all, look_at}
+use Rattle.thread_local_base.proofs.Names.{get, sets, agg, fact, yes, RattleType, owns, types_at}
+use Rattle.thread_local_base.proofs.Names.{named_lft, nothing, heard, param, bounded, shr_vals, shr_Tells, Stays}
+use Rattle.thread_local_base.proofs.Names.{stay_dropped, walk_of, Goes-dropped, proved, leaves, is_some}
+use Rattle.thread_local_base.specs.Learnt.{Learnt, Holding}
 use Rattle.thread_local_ids.specs.contracts.witness.Witness as Witness
 use Rattle.thread_local_ids.proofs.Made.{token_val, witness_made}
 use Rattle.thread_local_shared_buckets.specs.Known.{value_held}
@@ -16,7 +16,7 @@ use Rattle.thread_local_shared_buckets.specs.contracts.claimed.ClaimedSlot.witne
 use Rattle.thread_local_shared_buckets.proofs.ClaimedFields.{claim_at, claim_ref, splits_ref}
 use Rattle.thread_local_shared_buckets.proofs.claimed.ClaimedSlot.witness.Statement.{statement}
 use Rattle.thread_local_shared_buckets.proofs.claimed.ClaimedSlot.witness.Code as code
-use Rattle.thread_local_model.proofs.Walking.{knows}
+use Rattle.thread_local_base.proofs.Walking.{knows}
 
 pub witness_spec : {M : Type 1} → statement M
 witness_spec 𝓤 𝓛 𝓜 𝓡 wired X L =

@@ -1,5 +1,5 @@
 use Rattle.std.proofs.Common.{arith, pow_pos}
-use Rattle.thread_local_model.proofs.CursorLaws.{bounded}
+use Rattle.thread_local_base.proofs.CursorLaws.{bounded}
 use Rattle.thread_local_shared_buckets.specs.Positions.{resting}
 use Rattle.thread_local_shared_buckets.proofs.iter.Iter.last_id.Goals as goal
 

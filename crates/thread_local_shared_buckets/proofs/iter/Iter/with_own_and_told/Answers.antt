@@ -1,7 +1,7 @@
 -- The walk's own value is at the token's id, since the id at an id's place is that id.
 use Rattle.std.proofs.Common.{◌≡◌, ℕ, true, Some, ap, sym, ◌∙◌, lit<}
-use Rattle.thread_local_model.specs.Place.{id_at, bucket_of, index_of}
-use Rattle.thread_local_model.proofs.PlaceLaws.{id_at-place}
+use Rattle.thread_local_base.specs.Place.{id_at, bucket_of, index_of}
+use Rattle.thread_local_base.proofs.PlaceLaws.{id_at-place}
 use Rattle.thread_local_shared_buckets.specs.Walks.{WalkView, fresh_with}
 use Rattle.thread_local_shared_buckets.proofs.iter.Iter.with_own_and_told.Goals as goal
 

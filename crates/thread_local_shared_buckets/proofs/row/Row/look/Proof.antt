@@ -1,19 +1,19 @@
 -- `look` is one load of the word with the chunk's flags. It copies what is known of each slot whose flag
 -- is set.
-use Rattle.thread_local_model.proofs.Names.{◌≡◌, ℕ, ◌+◌, ◌*◌, ◌^◌, ◌<◌, List, [], ◌∷◌, length, refl, sym, ap, ◌∙◌}
-use Rattle.thread_local_model.proofs.Names.{subst, arith, lit<, w64, a_type, named, Val, vint, vptr}
-use Rattle.thread_local_model.proofs.Names.{inst_fn, SProp, ent, sep, via, Lft, Share, Fml, ftrue}
-use Rattle.thread_local_model.proofs.Names.{fsep, flft, fbor, sem, ‵, raw, ◌⊛◌, mean, at_ret, ◌$◌}
-use Rattle.thread_local_model.proofs.Names.{◌∵◌, !, qed, by, move, keep, drop, split, split3, join, fsplit, fsplit3}
-use Rattle.thread_local_model.proofs.Names.{fjoin, fjoin3, fpack, fpick, pick, use0, use1, use3, await, rewrite, stop}
-use Rattle.thread_local_model.proofs.Names.{fld, load, lit, size_word, of_opd, bin, no_more, and_then, first}
-use Rattle.thread_local_model.proofs.Names.{blocks, exec, returns, enter, alloc_all, pass_all, free_all}
-use Rattle.thread_local_model.proofs.Names.{look_at, get, through, sets, sets_last, lands_last, env, is, agg, sub}
-use Rattle.thread_local_model.proofs.Names.{look_in, whole, tables, fact, yes, RattleType, owns, types_at, plain}
-use Rattle.thread_local_model.proofs.Names.{Ptr, block_ptr, block_of, count_of, at_block, InBlock, nothing, heard}
-use Rattle.thread_local_model.proofs.Names.{peeks, Is, shows, cell_at, param, layouts, RefOf, usize, shr_vals}
-use Rattle.thread_local_model.proofs.Names.{shr_Tells, uint_vals, uint_Tells, Stays, stay_dropped, walk_of}
-use Rattle.thread_local_model.proofs.Names.{Goes-dropped, proved, leaves, fm, after, param_laws}
+use Rattle.thread_local_base.proofs.Names.{◌≡◌, ℕ, ◌+◌, ◌*◌, ◌^◌, ◌<◌, List, [], ◌∷◌, length, refl, sym, ap, ◌∙◌}
+use Rattle.thread_local_base.proofs.Names.{subst, arith, lit<, w64, a_type, named, Val, vint, vptr}
+use Rattle.thread_local_base.proofs.Names.{inst_fn, SProp, ent, sep, via, Lft, Share, Fml, ftrue}
+use Rattle.thread_local_base.proofs.Names.{fsep, flft, fbor, sem, ‵, raw, ◌⊛◌, mean, at_ret, ◌$◌}
+use Rattle.thread_local_base.proofs.Names.{◌∵◌, !, qed, by, move, keep, drop, split, split3, join, fsplit, fsplit3}
+use Rattle.thread_local_base.proofs.Names.{fjoin, fjoin3, fpack, fpick, pick, use0, use1, use3, await, rewrite, stop}
+use Rattle.thread_local_base.proofs.Names.{fld, load, lit, size_word, of_opd, bin, no_more, and_then, first}
+use Rattle.thread_local_base.proofs.Names.{blocks, exec, returns, enter, alloc_all, pass_all, free_all}
+use Rattle.thread_local_base.proofs.Names.{look_at, get, through, sets, sets_last, lands_last, env, is, agg, sub}
+use Rattle.thread_local_base.proofs.Names.{look_in, whole, tables, fact, yes, RattleType, owns, types_at, plain}
+use Rattle.thread_local_base.proofs.Names.{Ptr, block_ptr, block_of, count_of, at_block, InBlock, nothing, heard}
+use Rattle.thread_local_base.proofs.Names.{peeks, Is, shows, cell_at, param, layouts, RefOf, usize, shr_vals}
+use Rattle.thread_local_base.proofs.Names.{shr_Tells, uint_vals, uint_Tells, Stays, stay_dropped, walk_of}
+use Rattle.thread_local_base.proofs.Names.{Goes-dropped, proved, leaves, fm, after, param_laws}
 use Rattle.std.proofs.Common.{◌≤◌, pow_mono, le_of_lt, true}
 use base.Fml.{fres, fhide, fall}
 use types.Run.{Calls-last}
@@ -27,8 +27,8 @@ use denote.Struct.Lending.{lent_out}
 use Rattle.std.specs.contracts.marker.PhantomData as marker
 use Rattle.std.proofs.raw_atomic.Calls.{found, finds, loads, seq_cst}
 use Rattle.std.specs.Sync.RawAtomic.{asks, always}
-use Rattle.thread_local_model.specs.Bits.{is_set, is_set_in}
-use Rattle.thread_local_model.specs.Place.{id_at}
+use Rattle.thread_local_base.specs.Bits.{is_set, is_set_in}
+use Rattle.thread_local_base.specs.Place.{id_at}
 use Rattle.thread_local_ids.specs.Views.{TokenView}
 use Rattle.thread_local_ids.specs.TokenLists.{AllOf, tell_each}
 use Rattle.thread_local_ids.specs.contracts.token_list.TokenList as TokenList
@@ -47,7 +47,7 @@ use Rattle.thread_local_shared_buckets.specs.contracts.row.Row.look.{ended, clau
 use Rattle.thread_local_shared_buckets.proofs.RowFields.{row_val, FieldsType, told, opened}
 use Rattle.thread_local_shared_buckets.proofs.row.Row.look.Statement.{statement}
 use Rattle.thread_local_shared_buckets.proofs.row.Row.look.Code as code
-use Rattle.thread_local_model.proofs.Walking.{knows, lends_token, returns_token}
+use Rattle.thread_local_base.proofs.Walking.{knows, lends_token, returns_token}
 
 pub look_spec : {M : Type 1} → statement M
 look_spec {M} 𝓤 𝓛 𝓜 𝓡 wired T L =

@@ -1,12 +1,12 @@
 -- `flags` reads a field.
-use Rattle.thread_local_model.proofs.Names.{◌≡◌, ℕ, List, [], ◌∷◌, sym, refl, dnil, a_type, named, Val, vptr, vint}
-use Rattle.thread_local_model.proofs.Names.{w64, ◌^◌, inst_fn, Lft, Fml, ftrue, fsep, flft, ‵, raw, ◌⊛◌}
-use Rattle.thread_local_model.proofs.Names.{◌$◌, ◌∵◌, !, qed, by, move, keep, drop, split, join, fsplit, fjoin}
-use Rattle.thread_local_model.proofs.Names.{rewrite, feq_i, stop, fld, of_opd, returns, enter, alloc_all}
-use Rattle.thread_local_model.proofs.Names.{pass_all, free_all, look_at, through, sets, env, sub, whole, look_in}
-use Rattle.thread_local_model.proofs.Names.{yes, RattleType, owns, types_at, named_lft, nothing}
-use Rattle.thread_local_model.proofs.Names.{peeks, Is, shows, cell_at, param, bounded, shr_vals, shr_Tells, Stays}
-use Rattle.thread_local_model.proofs.Names.{stay_dropped, walk_of, Goes-dropped, proved, leaves, load}
+use Rattle.thread_local_base.proofs.Names.{◌≡◌, ℕ, List, [], ◌∷◌, sym, refl, dnil, a_type, named, Val, vptr, vint}
+use Rattle.thread_local_base.proofs.Names.{w64, ◌^◌, inst_fn, Lft, Fml, ftrue, fsep, flft, ‵, raw, ◌⊛◌}
+use Rattle.thread_local_base.proofs.Names.{◌$◌, ◌∵◌, !, qed, by, move, keep, drop, split, join, fsplit, fjoin}
+use Rattle.thread_local_base.proofs.Names.{rewrite, feq_i, stop, fld, of_opd, returns, enter, alloc_all}
+use Rattle.thread_local_base.proofs.Names.{pass_all, free_all, look_at, through, sets, env, sub, whole, look_in}
+use Rattle.thread_local_base.proofs.Names.{yes, RattleType, owns, types_at, named_lft, nothing}
+use Rattle.thread_local_base.proofs.Names.{peeks, Is, shows, cell_at, param, bounded, shr_vals, shr_Tells, Stays}
+use Rattle.thread_local_base.proofs.Names.{stay_dropped, walk_of, Goes-dropped, proved, leaves, load}
 use types.Kit.{flt_i}
 use denote.Steps.{looks, shuts}
 use denote.Ref.{ShrRef}
@@ -14,14 +14,14 @@ use denote.Memory.{hidden_shr}
 use denote.Struct.Lending.{lent_out}
 use base.Fml.{fhide}
 use Rattle.std.specs.contracts.marker.PhantomData as marker
-use Rattle.thread_local_model.proofs.Names.{plain, RefOf, use1}
+use Rattle.thread_local_base.proofs.Names.{plain, RefOf, use1}
 use Rattle.thread_local_shared_buckets.specs.Shared.{seen_owns}
 use Rattle.thread_local_shared_buckets.specs.contracts.seen.Seen as Seen
 use Rattle.thread_local_shared_buckets.specs.contracts.seen.Seen.flags.{ended, clauses, Key.name as #self}
 use Rattle.thread_local_shared_buckets.proofs.SeenFields.{seen_val, FieldsType, fields_of, told, in_word, opened}
 use Rattle.thread_local_shared_buckets.proofs.seen.Seen.flags.Statement.{statement}
 use Rattle.thread_local_shared_buckets.proofs.seen.Seen.flags.Code as code
-use Rattle.thread_local_model.proofs.Walking.{knows}
+use Rattle.thread_local_base.proofs.Walking.{knows}
 
 pub flags_spec : {M : Type 1} → statement M
 flags_spec 𝓤 𝓛 𝓜 𝓡 wired X L =

@@ -1,18 +1,18 @@
 -- `give` reads the value of a slot whose flag was seen set, and copies what is told of the slot's id.
-use Rattle.thread_local_model.proofs.Names.{◌≡◌, ℕ, ◌+◌, ◌*◌, ◌^◌, ◌<◌, List, [], ◌∷◌, length, refl, sym, ap, ◌∙◌}
-use Rattle.thread_local_model.proofs.Names.{subst, arith, w64, a_type, named, Val, vint, vptr}
-use Rattle.thread_local_model.proofs.Names.{inst_fn, SProp, Lft, Share, Fml, ftrue}
-use Rattle.thread_local_model.proofs.Names.{fsep, flft, sem, ‵, raw, ◌⊛◌, at_ret, ◌$◌}
-use Rattle.thread_local_model.proofs.Names.{◌∵◌, !, qed, by, move, keep, drop, split, split3, join, fsplit, fsplit3}
-use Rattle.thread_local_model.proofs.Names.{fjoin, fpick, use0, use1, use2, rewrite, feq_i, stop}
-use Rattle.thread_local_model.proofs.Names.{emp, fact_i, Option, fld, load, addr, size_word, of_opd, bin, no_more, and_then, first}
-use Rattle.thread_local_model.proofs.Names.{blocks, exec, returns, enter, alloc_all, pass_all, free_all}
-use Rattle.thread_local_model.proofs.Names.{look_at, get, through, sets, sets_last, env, is, agg, sub}
-use Rattle.thread_local_model.proofs.Names.{look_in, whole, tables, fact, yes, RattleType, owns, types_at, plain}
-use Rattle.thread_local_model.proofs.Names.{Ptr, block_ptr, block_of, count_of, nothing, heard}
-use Rattle.thread_local_model.proofs.Names.{peeks, Is, shows, cell_at, param, layouts, RefOf, usize, shr_vals}
-use Rattle.thread_local_model.proofs.Names.{shr_Tells, uint_vals, uint_Tells, Stays, stay_dropped, walk_of}
-use Rattle.thread_local_model.proofs.Names.{Goes-dropped, proved, leaves, after, param_laws}
+use Rattle.thread_local_base.proofs.Names.{◌≡◌, ℕ, ◌+◌, ◌*◌, ◌^◌, ◌<◌, List, [], ◌∷◌, length, refl, sym, ap, ◌∙◌}
+use Rattle.thread_local_base.proofs.Names.{subst, arith, w64, a_type, named, Val, vint, vptr}
+use Rattle.thread_local_base.proofs.Names.{inst_fn, SProp, Lft, Share, Fml, ftrue}
+use Rattle.thread_local_base.proofs.Names.{fsep, flft, sem, ‵, raw, ◌⊛◌, at_ret, ◌$◌}
+use Rattle.thread_local_base.proofs.Names.{◌∵◌, !, qed, by, move, keep, drop, split, split3, join, fsplit, fsplit3}
+use Rattle.thread_local_base.proofs.Names.{fjoin, fpick, use0, use1, use2, rewrite, feq_i, stop}
+use Rattle.thread_local_base.proofs.Names.{emp, fact_i, Option, fld, load, addr, size_word, of_opd, bin, no_more, and_then, first}
+use Rattle.thread_local_base.proofs.Names.{blocks, exec, returns, enter, alloc_all, pass_all, free_all}
+use Rattle.thread_local_base.proofs.Names.{look_at, get, through, sets, sets_last, env, is, agg, sub}
+use Rattle.thread_local_base.proofs.Names.{look_in, whole, tables, fact, yes, RattleType, owns, types_at, plain}
+use Rattle.thread_local_base.proofs.Names.{Ptr, block_ptr, block_of, count_of, nothing, heard}
+use Rattle.thread_local_base.proofs.Names.{peeks, Is, shows, cell_at, param, layouts, RefOf, usize, shr_vals}
+use Rattle.thread_local_base.proofs.Names.{shr_Tells, uint_vals, uint_Tells, Stays, stay_dropped, walk_of}
+use Rattle.thread_local_base.proofs.Names.{Goes-dropped, proved, leaves, after, param_laws}
 use Rattle.std.proofs.Common.{Bool, true, false, ⊎_elim, get_or, ◌≤◌, mul-le-mul_right}
 use base.Fml.{fhide}
 use base.Logic.{all, all_e}
@@ -26,11 +26,11 @@ use Rattle.thread_local_judged.specs.Judged.{Shareable}
 use denote.Struct.Lending.{lent_out}
 use Rattle.std.specs.contracts.marker.PhantomData as marker
 use Rattle.std.proofs.lemmas.Bool.{cases_lt}
-use Rattle.thread_local_model.specs.Bits.{is_set, is_set_in}
-use Rattle.thread_local_model.proofs.Pairs.{both, pair_in}
+use Rattle.thread_local_base.specs.Bits.{is_set, is_set_in}
+use Rattle.thread_local_base.proofs.Pairs.{both, pair_in}
 use Rattle.thread_local_bucket_pointers.specs.Slots.{stride, value_offset}
 use Rattle.thread_local_bucket_pointers.proofs.Flags.{uncapped, value_near}
-use Rattle.thread_local_model.specs.Place.{id_at}
+use Rattle.thread_local_base.specs.Place.{id_at}
 use Rattle.thread_local_ids.specs.contracts.witness.Witness as Witness
 use Rattle.thread_local_ids.proofs.Made.{token_val, witness_made}
 use Rattle.thread_local_shared_buckets.specs.Shared.{BucketView, name_at, first as first_id, if_set, seen_value, seen_slot, seen_owns}

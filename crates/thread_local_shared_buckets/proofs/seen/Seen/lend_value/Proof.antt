@@ -1,19 +1,19 @@
 -- `lend_value` hands its call on to `give`, and lets go that the slot's name holds the value.
-use Rattle.thread_local_model.proofs.Names.{later, some, await, pick, ◌≡◌, ℕ, ◌+◌, ◌*◌, List, [], ◌∷◌, ◌++◌, refl}
-use Rattle.thread_local_model.proofs.Names.{ap, ◌∙◌, w64, a_type, named, Val, vint, vptr, vstruct, of_list, inst_fn, SProp}
-use Rattle.thread_local_model.proofs.Names.{Fml, ftrue, fsep, flft, ‵, raw, ◌⊛◌, ◌$◌, ◌∵◌, !, qed, by, move, keep, use1}
-use Rattle.thread_local_model.proofs.Names.{split, split3, fsplit, fsplit3, fjoin, fpick, feq_i, feq_l, drop, id⊢}
-use Rattle.thread_local_model.proofs.Names.{returns, enter, alloc_all, pass_all, free_all, look_at, get}
-use Rattle.thread_local_model.proofs.Names.{lands_as, and_then, no_more, tables, yes, RattleType, plain, named_lft}
-use Rattle.thread_local_model.proofs.Names.{rewrite, peeks, Is, shows, param, layouts, RefOf, usize, shr_vals}
-use Rattle.thread_local_model.proofs.Names.{shr_Tells, uint_vals, uint_Tells, Stays, stay_dropped, walk_of, Goes-dropped}
-use Rattle.thread_local_model.proofs.Names.{proved, leaves, fm}
+use Rattle.thread_local_base.proofs.Names.{later, some, await, pick, ◌≡◌, ℕ, ◌+◌, ◌*◌, List, [], ◌∷◌, ◌++◌, refl}
+use Rattle.thread_local_base.proofs.Names.{ap, ◌∙◌, w64, a_type, named, Val, vint, vptr, vstruct, of_list, inst_fn, SProp}
+use Rattle.thread_local_base.proofs.Names.{Fml, ftrue, fsep, flft, ‵, raw, ◌⊛◌, ◌$◌, ◌∵◌, !, qed, by, move, keep, use1}
+use Rattle.thread_local_base.proofs.Names.{split, split3, fsplit, fsplit3, fjoin, fpick, feq_i, feq_l, drop, id⊢}
+use Rattle.thread_local_base.proofs.Names.{returns, enter, alloc_all, pass_all, free_all, look_at, get}
+use Rattle.thread_local_base.proofs.Names.{lands_as, and_then, no_more, tables, yes, RattleType, plain, named_lft}
+use Rattle.thread_local_base.proofs.Names.{rewrite, peeks, Is, shows, param, layouts, RefOf, usize, shr_vals}
+use Rattle.thread_local_base.proofs.Names.{shr_Tells, uint_vals, uint_Tells, Stays, stay_dropped, walk_of, Goes-dropped}
+use Rattle.thread_local_base.proofs.Names.{proved, leaves, fm}
 use denote.Ref.{ShrRef}
 use denote.Steps.{only}
 use denote.Triple.Call.{calls_at}
 use denote.Triple.Clauses.{at_exit}
 use denote.Triple.Spec.{triple_of}
-use Rattle.thread_local_model.proofs.Pairs.{both, pair_in}
+use Rattle.thread_local_base.proofs.Pairs.{both, pair_in}
 use Rattle.thread_local_ids.proofs.Made.{token_val}
 use Rattle.thread_local_ids.specs.contracts.witness.Witness as Witness
 use Rattle.thread_local_shared_buckets.specs.Shared.{pinned_at}

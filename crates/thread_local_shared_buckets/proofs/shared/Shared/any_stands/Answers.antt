@@ -2,7 +2,7 @@ use Rattle.std.proofs.Common.{◌≡◌, ℕ, ◌+◌, ◌<◌, ◌≤◌, sym, 
 use Rattle.std.proofs.lemmas.Bool.{cases_lt, or_parts}
 use Rattle.thread_local_ids.specs.TokenLists.{NoneIn}
 use Rattle.thread_local_shared_buckets.proofs.shared.Shared.any_stands.Goals as goal
-use Rattle.thread_local_model.proofs.TakingLaws.{shows_none}
+use Rattle.thread_local_base.proofs.TakingLaws.{shows_none}
 
 pub loop-at-preserved : goal.loop-at-preserved
 loop-at-preserved g c = λ none bucket low high.

@@ -23,12 +23,12 @@ use denote.Triple.Entry.{alive}
 use denote.Triple.Walked.{Stays, stay_dropped, walk_of, Goes-dropped}
 use Rattle.std.proofs.raw_atomic.Walks.{proved_at, leaves}
 use Rattle.std.proofs.cell.Inside.{Good}
-use Rattle.thread_local_model.specs.Owned.{IsOwned}
+use Rattle.thread_local_base.specs.Owned.{IsOwned}
 use Rattle.thread_local_bucket_pointers.specs.contracts.bucket_pointers.BucketPointers as all_pointers
 use Rattle.thread_local_ids.specs.Told.{book_owns}
 use Rattle.thread_local_ids.specs.contracts.book.Book as Book
 use Rattle.thread_local_ids.proofs.Made.{token_val, book_made}
-use Rattle.thread_local_model.proofs.Pairs.{both, pair_in}
+use Rattle.thread_local_base.proofs.Pairs.{both, pair_in}
 use Rattle.std.proofs.ResultValues.{and_tt}
 use denote.Struct.Tuple.{Tuple}
 use Rattle.thread_local_bucket_pointers.proofs.bucket_pointers.BucketPointers.TheLaws as pointers'
@@ -38,7 +38,7 @@ use Rattle.thread_local_shared_buckets.specs.contracts.shared.Shared.into_pointe
 use Rattle.thread_local_shared_buckets.proofs.Turned.{takes_pointers}
 use Rattle.thread_local_shared_buckets.proofs.shared.Shared.into_pointers.Statement.{statement}
 use Rattle.thread_local_shared_buckets.proofs.shared.Shared.into_pointers.Code as code
-use Rattle.thread_local_model.proofs.Walking.{knows}
+use Rattle.thread_local_base.proofs.Walking.{knows}
 
 pub into_pointers_spec : {M : Type 1} → statement M
 into_pointers_spec 𝓤 𝓛 𝓜 𝓡 wired T L =

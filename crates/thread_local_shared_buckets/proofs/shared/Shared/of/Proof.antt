@@ -29,7 +29,7 @@ use denote.Triple.Walked.{Stays, stay_dropped, walk_of, Goes-dropped}
 use Rattle.std.proofs.raw_atomic.Walks.{proved_at, leaves}
 use Rattle.std.proofs.cell.Inside.{one, Good}
 use Rattle.std.proofs.ResultValues.{and_tt}
-use Rattle.thread_local_model.specs.Owned.{IsOwned}
+use Rattle.thread_local_base.specs.Owned.{IsOwned}
 use Rattle.thread_local_ids.specs.Told.{rows_telling}
 use Rattle.thread_local_ids.proofs.ToldElements.{source, source_new}
 use Rattle.thread_local_ids.proofs.Rows.{table_whole, rows_drawn}
@@ -44,7 +44,7 @@ use Rattle.thread_local_shared_buckets.specs.contracts.shared.Shared.of.{ended, 
 use Rattle.thread_local_shared_buckets.proofs.Turned.{pair_val, makes_shared}
 use Rattle.thread_local_shared_buckets.proofs.shared.Shared.of.Statement.{statement}
 use Rattle.thread_local_shared_buckets.proofs.shared.Shared.of.Code as code
-use Rattle.thread_local_model.proofs.Walking.{knows}
+use Rattle.thread_local_base.proofs.Walking.{knows}
 
 pub of_spec : {M : Type 1} → statement M
 of_spec 𝓤 𝓛 𝓜 𝓡 wired T L =

@@ -34,7 +34,7 @@ use Rattle.thread_local_shared_buckets.specs.contracts.shared.Shared.owner.{ende
 use Rattle.thread_local_shared_buckets.proofs.Turned.{IsLent, AllGrown, lies_plain, lies_shared}
 use Rattle.thread_local_shared_buckets.proofs.shared.Shared.owner.Statement.{statement}
 use Rattle.thread_local_shared_buckets.proofs.shared.Shared.owner.Code as code
-use Rattle.thread_local_model.proofs.Walking.{knows}
+use Rattle.thread_local_base.proofs.Walking.{knows}
 
 pub owner_spec : {M : Type 1} → statement M
 owner_spec 𝓤 𝓛 𝓜 𝓡 wired T L =

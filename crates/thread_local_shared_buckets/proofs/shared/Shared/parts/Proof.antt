@@ -26,7 +26,7 @@ use Rattle.thread_local_shared_buckets.specs.contracts.shared.Shared as shared
 use Rattle.thread_local_shared_buckets.specs.contracts.shared.Shared.parts.{ended, clauses, Key.name as #self}
 use Rattle.thread_local_shared_buckets.proofs.shared.Shared.parts.Statement.{statement}
 use Rattle.thread_local_shared_buckets.proofs.shared.Shared.parts.Code as code
-use Rattle.thread_local_model.proofs.Walking.{knows}
+use Rattle.thread_local_base.proofs.Walking.{knows}
 
 pub parts_spec : {M : Type 1} → statement M
 parts_spec 𝓤 𝓛 𝓜 𝓡 wired T L =

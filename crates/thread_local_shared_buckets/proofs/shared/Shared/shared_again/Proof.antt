@@ -33,7 +33,7 @@ use Rattle.thread_local_shared_buckets.proofs.GrownLaws.{view_again, grown_again
 use Rattle.thread_local_shared_buckets.proofs.Turned.{shares_again}
 use Rattle.thread_local_shared_buckets.proofs.shared.Shared.shared_again.Statement.{statement}
 use Rattle.thread_local_shared_buckets.proofs.shared.Shared.shared_again.Code as code
-use Rattle.thread_local_model.proofs.Walking.{knows}
+use Rattle.thread_local_base.proofs.Walking.{knows}
 
 pub shared_again_spec : {M : Type 1} → statement M
 shared_again_spec 𝓤 𝓛 𝓜 𝓡 wired T L =

@@ -6,8 +6,8 @@ use Rattle.std.specs.Prelude.{max, nat_lt}
 use Rattle.std.proofs.Common.{add-one, arith, pow_mono, pow_pos, subst, ⊎_elim}
 use Rattle.std.proofs.Math.Nat.{two-pow-succ, le-max_left, le-max_right}
 use Rattle.std.proofs.lemmas.Bool.{cases_lt, ltb-true}
-use Rattle.thread_local_model.specs.Place.{id_at}
-use Rattle.thread_local_model.specs.Owned.{AreOfFirstBuckets}
+use Rattle.thread_local_base.specs.Place.{id_at}
+use Rattle.thread_local_base.specs.Owned.{AreOfFirstBuckets}
 use Rattle.thread_local_ids.specs.declared.reached.Reached.{Reached}
 use Rattle.thread_local_shared_buckets.specs.Shared.{ids_shown}
 use Rattle.thread_local_shared_buckets.proofs.shared.Shared.slots_reached.Goals as goal

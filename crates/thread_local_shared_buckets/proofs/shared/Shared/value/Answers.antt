@@ -1,7 +1,7 @@
 -- the witness is of the id at the place that is looked at
 use Rattle.std.proofs.Common.{◌≡◌, ℕ, ap, sym, ◌∙◌}
-use Rattle.thread_local_model.specs.Place.{index_of, id_at}
-use Rattle.thread_local_model.proofs.PlaceLaws.{id_at-place}
+use Rattle.thread_local_base.specs.Place.{index_of, id_at}
+use Rattle.thread_local_base.proofs.PlaceLaws.{id_at-place}
 use Rattle.thread_local_shared_buckets.specs.Shared.{BucketView}
 use Rattle.thread_local_shared_buckets.proofs.shared.Shared.value.Goals as goal
 

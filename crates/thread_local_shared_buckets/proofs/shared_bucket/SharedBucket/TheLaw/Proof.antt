@@ -11,7 +11,7 @@ use denote.SharingLaws.{said_shr_laws, some_shr_laws, beside_shr_laws, ends_shr_
 use denote.Param.Laws.{Laws}
 use Rattle.std.proofs.cell.BorrowLemmas.{by_one}
 use Rattle.thread_local_judged.specs.Judged.{Judged}
-use Rattle.thread_local_model.specs.Fact.{fact}
+use Rattle.thread_local_base.specs.Fact.{fact}
 use Rattle.thread_local_shared_buckets.specs.Shared.{Turn, bucket_invariant, kept, bucket_shares}
 use Rattle.thread_local_shared_buckets.proofs.Lent.{P, lends_by}
 use Rattle.thread_local_shared_buckets.proofs.shared_bucket.SharedBucket.TheLaw.Statement.{statement}

@@ -1,11 +1,11 @@
 -- `judged` hands out a fact that a `&` to the bucket says.
-use Rattle.thread_local_model.proofs.Names.{[], ◌∷◌, refl, yes, a_type, named, vptr, vunit, inst_fn}
-use Rattle.thread_local_model.proofs.Names.{Lft, Share, Fml, ftrue, fsep, flft, ‵, raw, ◌⊛◌, ◌$◌, ◌∵◌, !, qed, by}
-use Rattle.thread_local_model.proofs.Names.{move, keep, drop, split, join, fsplit, fjoin, fpick, feq_i, of_opd}
-use Rattle.thread_local_model.proofs.Names.{unit_lit, returns, enter, alloc_all, pass_all, free_all, look_at, sets}
-use Rattle.thread_local_model.proofs.Names.{env, RattleType, owns, types_at, plain, nothing}
-use Rattle.thread_local_model.proofs.Names.{param, layouts, RefOf, shr_vals, shr_Tells, Stays, stay_dropped, walk_of}
-use Rattle.thread_local_model.proofs.Names.{Goes-dropped, proved, leaves}
+use Rattle.thread_local_base.proofs.Names.{[], ◌∷◌, refl, yes, a_type, named, vptr, vunit, inst_fn}
+use Rattle.thread_local_base.proofs.Names.{Lft, Share, Fml, ftrue, fsep, flft, ‵, raw, ◌⊛◌, ◌$◌, ◌∵◌, !, qed, by}
+use Rattle.thread_local_base.proofs.Names.{move, keep, drop, split, join, fsplit, fjoin, fpick, feq_i, of_opd}
+use Rattle.thread_local_base.proofs.Names.{unit_lit, returns, enter, alloc_all, pass_all, free_all, look_at, sets}
+use Rattle.thread_local_base.proofs.Names.{env, RattleType, owns, types_at, plain, nothing}
+use Rattle.thread_local_base.proofs.Names.{param, layouts, RefOf, shr_vals, shr_Tells, Stays, stay_dropped, walk_of}
+use Rattle.thread_local_base.proofs.Names.{Goes-dropped, proved, leaves}
 use Rattle.std.proofs.Common.{ℕ}
 use denote.Opens.{unhide}
 use Rattle.thread_local_judged.specs.Judged.{Judged}
@@ -13,7 +13,7 @@ use Rattle.thread_local_shared_buckets.specs.contracts.shared_bucket.SharedBucke
 use Rattle.thread_local_shared_buckets.specs.contracts.shared_bucket.SharedBucket.judged.{ended, clauses, Key.name as #self}
 use Rattle.thread_local_shared_buckets.proofs.shared_bucket.SharedBucket.judged.Statement.{statement}
 use Rattle.thread_local_shared_buckets.proofs.shared_bucket.SharedBucket.judged.Code as code
-use Rattle.thread_local_model.proofs.Walking.{knows}
+use Rattle.thread_local_base.proofs.Walking.{knows}
 
 pub judged_spec : {M : Type 1} → statement M
 judged_spec 𝓤 𝓛 𝓜 𝓡 wired T L =

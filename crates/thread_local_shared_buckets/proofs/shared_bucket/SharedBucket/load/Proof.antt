@@ -1,16 +1,16 @@
 -- `load` is one load of the pointer: it takes a part of the token of the block's lifetime, and
 -- gives it up so that the row lasts.
-use Rattle.thread_local_model.proofs.Names.{◌≡◌, ℕ, ◌+◌, [], ◌∷◌, refl, sym, ◌∙◌, lit<, true, false, Option, None}
-use Rattle.thread_local_model.proofs.Names.{Some, a_type, named, Val, vptr, vcons, vnil, inst_fn, SProp}
-use Rattle.thread_local_model.proofs.Names.{via, sem, Lft, Share, Fml, ftrue, fsep, flft, fbor, ‵, raw, ◌⊛◌}
-use Rattle.thread_local_model.proofs.Names.{later, mean, at_ret, ◌$◌, ◌∵◌, !, qed, by, move, keep, drop, split}
-use Rattle.thread_local_model.proofs.Names.{join, fsplit, fsplit3, fjoin, fjoin3, fpick, fpack, pick, use0, use1, use2, use3}
-use Rattle.thread_local_model.proofs.Names.{await, stop, fld, addr, lit, of_opd, bin, no_more, and_then, first, blocks}
-use Rattle.thread_local_model.proofs.Names.{exec, branches, returns, enter, alloc_all, pass_all, free_all, look_at}
-use Rattle.thread_local_model.proofs.Names.{get, through, sets, sets_last, lands_last, env, agg, live, tables}
-use Rattle.thread_local_model.proofs.Names.{yes, RattleType, owns, types_at, plain, Ptr, block_ptr, null_ptr}
-use Rattle.thread_local_model.proofs.Names.{nothing, param, layouts, RefOf, u64, shr_vals, shr_Tells, Stays}
-use Rattle.thread_local_model.proofs.Names.{stay_dropped, walk_of, Goes-dropped, proved, leaves, fm, after}
+use Rattle.thread_local_base.proofs.Names.{◌≡◌, ℕ, ◌+◌, [], ◌∷◌, refl, sym, ◌∙◌, lit<, true, false, Option, None}
+use Rattle.thread_local_base.proofs.Names.{Some, a_type, named, Val, vptr, vcons, vnil, inst_fn, SProp}
+use Rattle.thread_local_base.proofs.Names.{via, sem, Lft, Share, Fml, ftrue, fsep, flft, fbor, ‵, raw, ◌⊛◌}
+use Rattle.thread_local_base.proofs.Names.{later, mean, at_ret, ◌$◌, ◌∵◌, !, qed, by, move, keep, drop, split}
+use Rattle.thread_local_base.proofs.Names.{join, fsplit, fsplit3, fjoin, fjoin3, fpick, fpack, pick, use0, use1, use2, use3}
+use Rattle.thread_local_base.proofs.Names.{await, stop, fld, addr, lit, of_opd, bin, no_more, and_then, first, blocks}
+use Rattle.thread_local_base.proofs.Names.{exec, branches, returns, enter, alloc_all, pass_all, free_all, look_at}
+use Rattle.thread_local_base.proofs.Names.{get, through, sets, sets_last, lands_last, env, agg, live, tables}
+use Rattle.thread_local_base.proofs.Names.{yes, RattleType, owns, types_at, plain, Ptr, block_ptr, null_ptr}
+use Rattle.thread_local_base.proofs.Names.{nothing, param, layouts, RefOf, u64, shr_vals, shr_Tells, Stays}
+use Rattle.thread_local_base.proofs.Names.{stay_dropped, walk_of, Goes-dropped, proved, leaves, fm, after}
 use Rattle.std.proofs.lemmas.Option.{none-some}
 use Rattle.std.proofs.Common.{IfSome, IsSome, List, arith}
 use Rattle.thread_local_ids.specs.Views.{TokenView}
@@ -29,7 +29,7 @@ use Rattle.std.proofs.raw_atomic.PtrCalls as calls
 use Rattle.std.proofs.raw_atomic.PtrCalls.{seq_cst_good}
 use Rattle.std.specs.contracts.option.Option as Opt
 use Rattle.thread_local_judged.specs.Judged.{Judged}
-use Rattle.thread_local_model.specs.Fact.{fact as said_fact}
+use Rattle.thread_local_base.specs.Fact.{fact as said_fact}
 use Rattle.thread_local_shared_buckets.specs.Shared.{BucketView, Sized, len, bucket_invariant, loaded, Found, row_as}
 use Rattle.thread_local_shared_buckets.specs.contracts.shared_bucket.SharedBucket as one_bucket
 use Rattle.thread_local_shared_buckets.specs.contracts.row.Row as Row
@@ -39,7 +39,7 @@ use Rattle.thread_local_shared_buckets.proofs.Loads.{glimpse, reaches, reads, No
 use Rattle.thread_local_shared_buckets.proofs.shared_bucket.SharedBucket.load.Statement.{statement}
 use Rattle.thread_local_shared_buckets.proofs.shared_bucket.SharedBucket.load.Code as code
 use Rattle.thread_local_bucket_pointers.proofs.Slots.{ptr_good}
-use Rattle.thread_local_model.proofs.Walking.{knows, lends_token, returns_token}
+use Rattle.thread_local_base.proofs.Walking.{knows, lends_token, returns_token}
 
 pub load_spec : {M : Type 1} → statement M
 load_spec 𝓤 𝓛 𝓜 𝓡 wired T L =

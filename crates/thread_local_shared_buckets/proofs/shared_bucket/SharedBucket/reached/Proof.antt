@@ -1,15 +1,15 @@
 -- `reached` is one load of the pointer, which copies what the block shows.
-use Rattle.thread_local_model.proofs.Names.{◌≡◌, ℕ, ◌+◌, [], ◌∷◌, refl, sym, ◌∙◌, lit<, true, false, Option, None}
-use Rattle.thread_local_model.proofs.Names.{Some, a_type, named, Val, vptr, vcons, vnil, inst_fn, SProp}
-use Rattle.thread_local_model.proofs.Names.{via, sem, Lft, Share, Fml, ftrue, fsep, flft, fbor, ‵, raw, ◌⊛◌}
-use Rattle.thread_local_model.proofs.Names.{mean, at_ret, ◌$◌, ◌∵◌, !, qed, by, move, keep, drop, split}
-use Rattle.thread_local_model.proofs.Names.{join, fsplit, fsplit3, fjoin, fpick, pick, use0, use1, use3}
-use Rattle.thread_local_model.proofs.Names.{await, stop, fld, addr, lit, of_opd, bin, no_more, and_then, first, blocks}
-use Rattle.thread_local_model.proofs.Names.{exec, branches, returns, enter, alloc_all, pass_all, free_all, look_at}
-use Rattle.thread_local_model.proofs.Names.{get, through, sets, sets_last, lands_last, env, agg, live, tables}
-use Rattle.thread_local_model.proofs.Names.{yes, RattleType, owns, types_at, plain, Ptr, block_ptr, null_ptr}
-use Rattle.thread_local_model.proofs.Names.{nothing, param, layouts, RefOf, u64, shr_vals, shr_Tells, Stays}
-use Rattle.thread_local_model.proofs.Names.{stay_dropped, walk_of, Goes-dropped, proved, leaves, fm, after}
+use Rattle.thread_local_base.proofs.Names.{◌≡◌, ℕ, ◌+◌, [], ◌∷◌, refl, sym, ◌∙◌, lit<, true, false, Option, None}
+use Rattle.thread_local_base.proofs.Names.{Some, a_type, named, Val, vptr, vcons, vnil, inst_fn, SProp}
+use Rattle.thread_local_base.proofs.Names.{via, sem, Lft, Share, Fml, ftrue, fsep, flft, fbor, ‵, raw, ◌⊛◌}
+use Rattle.thread_local_base.proofs.Names.{mean, at_ret, ◌$◌, ◌∵◌, !, qed, by, move, keep, drop, split}
+use Rattle.thread_local_base.proofs.Names.{join, fsplit, fsplit3, fjoin, fpick, pick, use0, use1, use3}
+use Rattle.thread_local_base.proofs.Names.{await, stop, fld, addr, lit, of_opd, bin, no_more, and_then, first, blocks}
+use Rattle.thread_local_base.proofs.Names.{exec, branches, returns, enter, alloc_all, pass_all, free_all, look_at}
+use Rattle.thread_local_base.proofs.Names.{get, through, sets, sets_last, lands_last, env, agg, live, tables}
+use Rattle.thread_local_base.proofs.Names.{yes, RattleType, owns, types_at, plain, Ptr, block_ptr, null_ptr}
+use Rattle.thread_local_base.proofs.Names.{nothing, param, layouts, RefOf, u64, shr_vals, shr_Tells, Stays}
+use Rattle.thread_local_base.proofs.Names.{stay_dropped, walk_of, Goes-dropped, proved, leaves, fm, after}
 use Rattle.std.proofs.Common.{IfSome, IsSome}
 use base.Logic.{id⊢}
 use Rattle.thread_local_ids.specs.contracts.reached.Reached as Reached
@@ -32,7 +32,7 @@ use Rattle.thread_local_shared_buckets.proofs.Loads.{glimpse, reads}
 use Rattle.thread_local_shared_buckets.proofs.shared_bucket.SharedBucket.reached.Statement.{statement}
 use Rattle.thread_local_shared_buckets.proofs.shared_bucket.SharedBucket.reached.Code as code
 use Rattle.thread_local_bucket_pointers.proofs.Slots.{ptr_good}
-use Rattle.thread_local_model.proofs.Walking.{knows, lends_token, returns_token}
+use Rattle.thread_local_base.proofs.Walking.{knows, lends_token, returns_token}
 
 pub reached_spec : {M : Type 1} → statement M
 reached_spec 𝓤 𝓛 𝓜 𝓡 wired T L =

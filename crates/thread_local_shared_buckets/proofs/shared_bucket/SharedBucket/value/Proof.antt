@@ -1,18 +1,18 @@
 -- `value` is one load of the pointer, which isn't null, since something is told of a slot of the
 -- bucket. A ghost step finds the value there, as a `&` to it names no thread.
-use Rattle.thread_local_model.proofs.Names.{◌≡◌, ℕ, ◌+◌, ◌*◌, ◌^◌, ◌<◌, [], ◌∷◌, length, refl, sym, ap, subst}
-use Rattle.thread_local_model.proofs.Names.{arith, never_e, group, w64, Some, dnil, a_type, named, Val, vint, vptr}
-use Rattle.thread_local_model.proofs.Names.{inst_fn, SProp, via, id⊢, Lft, Share, Fml, ftrue}
-use Rattle.thread_local_model.proofs.Names.{ffalse, fsep, flft, fbor, finv, sem, ‵, raw, ◌⊛◌, given, later, mean}
-use Rattle.thread_local_model.proofs.Names.{at_ret, ◌$◌, ◌∵◌, !, qed, by, move, keep, drop, split, join, fsplit}
-use Rattle.thread_local_model.proofs.Names.{fsplit3, fjoin, fpick, pick, learn, use1, use2, use3, await, rewrite}
-use Rattle.thread_local_model.proofs.Names.{feq_i, stop, fld, addr, lit, size_word, of_opd, bin, no_more, and_then}
-use Rattle.thread_local_model.proofs.Names.{first, blocks, exec, returns, enter, alloc_all, pass_all, free_all}
-use Rattle.thread_local_model.proofs.Names.{look_at, get, through, sets, sets_last, lands_last, env, is, agg, tables}
-use Rattle.thread_local_model.proofs.Names.{fact, yes, RattleType, owns, types_at, plain, Ptr, block_ptr}
-use Rattle.thread_local_model.proofs.Names.{null_ptr, block_of, count_of, nothing, heard, unhide, param, bounded}
-use Rattle.thread_local_model.proofs.Names.{RefOf, usize, u64, shr_vals, shr_Tells, uint_vals, uint_Tells, Stays}
-use Rattle.thread_local_model.proofs.Names.{stay_dropped, walk_of, Goes-dropped, proved, leaves, fm, after, param_laws}
+use Rattle.thread_local_base.proofs.Names.{◌≡◌, ℕ, ◌+◌, ◌*◌, ◌^◌, ◌<◌, [], ◌∷◌, length, refl, sym, ap, subst}
+use Rattle.thread_local_base.proofs.Names.{arith, never_e, group, w64, Some, dnil, a_type, named, Val, vint, vptr}
+use Rattle.thread_local_base.proofs.Names.{inst_fn, SProp, via, id⊢, Lft, Share, Fml, ftrue}
+use Rattle.thread_local_base.proofs.Names.{ffalse, fsep, flft, fbor, finv, sem, ‵, raw, ◌⊛◌, given, later, mean}
+use Rattle.thread_local_base.proofs.Names.{at_ret, ◌$◌, ◌∵◌, !, qed, by, move, keep, drop, split, join, fsplit}
+use Rattle.thread_local_base.proofs.Names.{fsplit3, fjoin, fpick, pick, learn, use1, use2, use3, await, rewrite}
+use Rattle.thread_local_base.proofs.Names.{feq_i, stop, fld, addr, lit, size_word, of_opd, bin, no_more, and_then}
+use Rattle.thread_local_base.proofs.Names.{first, blocks, exec, returns, enter, alloc_all, pass_all, free_all}
+use Rattle.thread_local_base.proofs.Names.{look_at, get, through, sets, sets_last, lands_last, env, is, agg, tables}
+use Rattle.thread_local_base.proofs.Names.{fact, yes, RattleType, owns, types_at, plain, Ptr, block_ptr}
+use Rattle.thread_local_base.proofs.Names.{null_ptr, block_of, count_of, nothing, heard, unhide, param, bounded}
+use Rattle.thread_local_base.proofs.Names.{RefOf, usize, u64, shr_vals, shr_Tells, uint_vals, uint_Tells, Stays}
+use Rattle.thread_local_base.proofs.Names.{stay_dropped, walk_of, Goes-dropped, proved, leaves, fm, after, param_laws}
 use Rattle.std.proofs.Common.{Option, IsSome}
 use base.Before.{before}
 use types.Na.{before_dup}
@@ -23,8 +23,8 @@ use denote.Param.Send.{IsSync}
 use Rattle.std.proofs.raw_atomic.Calls.{seq_cst}
 use Rattle.std.proofs.raw_atomic.PtrCalls as calls
 use Rattle.std.proofs.raw_atomic.PtrCalls.{seq_cst_good}
-use Rattle.thread_local_model.specs.Place.{id_at}
-use Rattle.thread_local_model.specs.Fact.{fact as said_fact}
+use Rattle.thread_local_base.specs.Place.{id_at}
+use Rattle.thread_local_base.specs.Fact.{fact as said_fact}
 use Rattle.thread_local_bucket_pointers.specs.Slots.{stride, value_offset}
 use Rattle.thread_local_bucket_pointers.proofs.Flags.{uncapped, value_near}
 use Rattle.thread_local_ids.specs.Told.{tells}
@@ -40,7 +40,7 @@ use Rattle.thread_local_shared_buckets.proofs.Looks.{finds}
 use Rattle.thread_local_shared_buckets.proofs.shared_bucket.SharedBucket.value.Statement.{statement}
 use Rattle.thread_local_shared_buckets.proofs.shared_bucket.SharedBucket.value.Code as code
 use Rattle.thread_local_bucket_pointers.proofs.Slots.{ptr_good}
-use Rattle.thread_local_model.proofs.Walking.{knows, lends_token, returns_token}
+use Rattle.thread_local_base.proofs.Walking.{knows, lends_token, returns_token}
 use Rattle.thread_local_shared_buckets.proofs.Inside.{placed}
 
 pub value_spec : {M : Type 1} → statement M

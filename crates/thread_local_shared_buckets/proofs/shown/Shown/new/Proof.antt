@@ -1,9 +1,9 @@
 -- `new` keeps the fact that the bound on the type gives.
-use Rattle.thread_local_model.proofs.Names.{[], ◌∷◌, refl, a_type, Val, inst_fn, SProp, ftrue, ‵, raw, ◌⊛◌, ◌$◌, ◌∵◌}
-use Rattle.thread_local_model.proofs.Names.{ !, qed, by, keep, use0, split, fjoin, fpack, no_more, and_then, returns}
-use Rattle.thread_local_model.proofs.Names.{enter, alloc_all, pass_all, free_all, look_at, get, sets, agg, tables}
-use Rattle.thread_local_model.proofs.Names.{fact, RattleType, nothing, heard, param, layouts, alive, Stays, walk_of}
-use Rattle.thread_local_model.proofs.Names.{proved, leaves}
+use Rattle.thread_local_base.proofs.Names.{[], ◌∷◌, refl, a_type, Val, inst_fn, SProp, ftrue, ‵, raw, ◌⊛◌, ◌$◌, ◌∵◌}
+use Rattle.thread_local_base.proofs.Names.{ !, qed, by, keep, use0, split, fjoin, fpack, no_more, and_then, returns}
+use Rattle.thread_local_base.proofs.Names.{enter, alloc_all, pass_all, free_all, look_at, get, sets, agg, tables}
+use Rattle.thread_local_base.proofs.Names.{fact, RattleType, nothing, heard, param, layouts, alive, Stays, walk_of}
+use Rattle.thread_local_base.proofs.Names.{proved, leaves}
 use denote.Param.Send.{IsSync}
 use denote.Signature.{named_lft}
 use Rattle.thread_local_judged.specs.Judged.{Shareable}

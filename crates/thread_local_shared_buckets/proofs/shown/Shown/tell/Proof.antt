@@ -1,24 +1,24 @@
 -- `tell` hands out the fact that a `&` to a `Shown` shows.
-use Rattle.thread_local_model.proofs.Names.{[], ◌∷◌, ℕ, refl, yes, a_type, named, vptr, vunit, inst_fn}
-use Rattle.thread_local_model.proofs.Names.{Lft, Share, Fml, ftrue, fsep, flft, ‵, raw, ◌⊛◌, ◌$◌, ◌∵◌, ! }
-use Rattle.thread_local_model.proofs.Names.{qed, by, move, keep, drop, split, join, fsplit, fjoin, fpick, use1}
-use Rattle.thread_local_model.proofs.Names.{feq_i, of_opd, unit_lit, returns, enter, alloc_all, pass_all, free_all}
-use Rattle.thread_local_model.proofs.Names.{look_at, sets, env, RattleType, owns, types_at}
-use Rattle.thread_local_model.proofs.Names.{plain, nothing, param, layouts, RefOf, shr_vals, shr_Tells, Stays}
-use Rattle.thread_local_model.proofs.Names.{stay_dropped, walk_of, Goes-dropped, proved, leaves}
+use Rattle.thread_local_base.proofs.Names.{[], ◌∷◌, ℕ, refl, yes, a_type, named, vptr, vunit, inst_fn}
+use Rattle.thread_local_base.proofs.Names.{Lft, Share, Fml, ftrue, fsep, flft, ‵, raw, ◌⊛◌, ◌$◌, ◌∵◌, ! }
+use Rattle.thread_local_base.proofs.Names.{qed, by, move, keep, drop, split, join, fsplit, fjoin, fpick, use1}
+use Rattle.thread_local_base.proofs.Names.{feq_i, of_opd, unit_lit, returns, enter, alloc_all, pass_all, free_all}
+use Rattle.thread_local_base.proofs.Names.{look_at, sets, env, RattleType, owns, types_at}
+use Rattle.thread_local_base.proofs.Names.{plain, nothing, param, layouts, RefOf, shr_vals, shr_Tells, Stays}
+use Rattle.thread_local_base.proofs.Names.{stay_dropped, walk_of, Goes-dropped, proved, leaves}
 use base.Fml.{fhide}
 use denote.Memory.{hidden_shr}
 use denote.Opens.{unhide}
 use denote.Signature.{named_lft}
 use denote.Struct.Lending.{lent_out}
-use Rattle.thread_local_model.specs.Fact.{fact as said_fact}
+use Rattle.thread_local_base.specs.Fact.{fact as said_fact}
 use Rattle.thread_local_judged.specs.Judged.{Shareable}
 use Rattle.thread_local_shared_buckets.specs.contracts.shown.Shown as Shown
 use Rattle.thread_local_shared_buckets.specs.contracts.shown.Shown.tell.{ended, clauses, Key.name as #self}
 use Rattle.thread_local_shared_buckets.proofs.Fields.{Bare}
 use Rattle.thread_local_shared_buckets.proofs.shown.Shown.tell.Statement.{statement}
 use Rattle.thread_local_shared_buckets.proofs.shown.Shown.tell.Code as code
-use Rattle.thread_local_model.proofs.Walking.{knows}
+use Rattle.thread_local_base.proofs.Walking.{knows}
 
 pub tell_spec : {M : Type 1} → statement M
 tell_spec 𝓤 𝓛 𝓜 𝓡 wired T L =

@@ -1,15 +1,15 @@
 -- `deref` lends the value that the guard has the right to.
-use Rattle.thread_local_model.proofs.Names.{◌≡◌, ℕ, ◌+◌, List, [], ◌∷◌, ◌++◌, sym, refl, ap, ◌∙◌, dcons, dnil, a_type}
-use Rattle.thread_local_model.proofs.Names.{named, Val, vptr, inst_fn, SProp, guard_i, Lft, Fml, ftrue, fsep}
-use Rattle.thread_local_model.proofs.Names.{flft, sem, ‵, raw, ◌⊛◌, given, at_ret, ◌$◌, ◌∵◌, !, qed, by, move, keep}
-use Rattle.thread_local_model.proofs.Names.{split, join, fsplit, fjoin, learn, use1, rewrite, feq_i, stop, fld}
-use Rattle.thread_local_model.proofs.Names.{hop, addr, of_opd, first, blocks, exec, returns, enter, alloc_all}
-use Rattle.thread_local_model.proofs.Names.{pass_all, free_all, look_at, get, through, sets, sets_last, env, sub}
-use Rattle.thread_local_model.proofs.Names.{whole, look_in, tables, fact_use, yes, RattleType, owns}
-use Rattle.thread_local_model.proofs.Names.{types_at, plain, named_lft, Ptr, InBlock, block_ptr, block_of, count_of}
-use Rattle.thread_local_model.proofs.Names.{at_block, nothing, peeks, unhide, Is, shows, cell_at, param, bounded}
-use Rattle.thread_local_model.proofs.Names.{param_laws, RefOf, shr_vals, shr_Tells, Stays, stay_dropped, walk_of}
-use Rattle.thread_local_model.proofs.Names.{Goes-dropped, proved, leaves, tail}
+use Rattle.thread_local_base.proofs.Names.{◌≡◌, ℕ, ◌+◌, List, [], ◌∷◌, ◌++◌, sym, refl, ap, ◌∙◌, dcons, dnil, a_type}
+use Rattle.thread_local_base.proofs.Names.{named, Val, vptr, inst_fn, SProp, guard_i, Lft, Fml, ftrue, fsep}
+use Rattle.thread_local_base.proofs.Names.{flft, sem, ‵, raw, ◌⊛◌, given, at_ret, ◌$◌, ◌∵◌, !, qed, by, move, keep}
+use Rattle.thread_local_base.proofs.Names.{split, join, fsplit, fjoin, learn, use1, rewrite, feq_i, stop, fld}
+use Rattle.thread_local_base.proofs.Names.{hop, addr, of_opd, first, blocks, exec, returns, enter, alloc_all}
+use Rattle.thread_local_base.proofs.Names.{pass_all, free_all, look_at, get, through, sets, sets_last, env, sub}
+use Rattle.thread_local_base.proofs.Names.{whole, look_in, tables, fact_use, yes, RattleType, owns}
+use Rattle.thread_local_base.proofs.Names.{types_at, plain, named_lft, Ptr, InBlock, block_ptr, block_of, count_of}
+use Rattle.thread_local_base.proofs.Names.{at_block, nothing, peeks, unhide, Is, shows, cell_at, param, bounded}
+use Rattle.thread_local_base.proofs.Names.{param_laws, RefOf, shr_vals, shr_Tells, Stays, stay_dropped, walk_of}
+use Rattle.thread_local_base.proofs.Names.{Goes-dropped, proved, leaves, tail}
 use base.Fml.{fhide, Incl-refl}
 use contract.BorrowLft.{⊑_meet}
 use denote.Steps.{looks, shuts}
@@ -25,7 +25,7 @@ use Rattle.thread_local_ids.proofs.Fields.{guard_of, FieldsType, told, opened}
 use Rattle.thread_local_ids.proofs.Guards.{seen}
 use Rattle.thread_local_ids.proofs.lock.lends.LockGuardDeref.deref.Statement.{statement}
 use Rattle.thread_local_ids.proofs.lock.lends.LockGuardDeref.deref.Code as code
-use Rattle.thread_local_model.proofs.Walking.{knows}
+use Rattle.thread_local_base.proofs.Walking.{knows}
 
 pub deref_spec : {M : Type 1} → statement M
 deref_spec 𝓤 𝓛 𝓜 𝓡 wired X L g d _ =

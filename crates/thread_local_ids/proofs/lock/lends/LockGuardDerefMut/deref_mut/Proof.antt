@@ -1,17 +1,17 @@
 -- `deref_mut` lends the value, and the guard follows what is written to it.
-use Rattle.thread_local_model.proofs.Names.{◌≡◌, ℕ, ◌+◌, List, [], ◌∷◌, sym, refl, ap, ◌∙◌, dcons, dnil, a_type, named}
-use Rattle.thread_local_model.proofs.Names.{Val, vptr, inst_fn, full_share, SProp, guard_i, Lft, GName, Share}
-use Rattle.thread_local_model.proofs.Names.{Fml, ftrue, fsep, fbor, flft, sem, ‵, raw, ◌⊛◌, some, given, later, at_ret}
-use Rattle.thread_local_model.proofs.Names.{◌$◌, ◌∵◌, !, qed, by, move, keep, split, split3, join, fsplit, fsplit3}
-use Rattle.thread_local_model.proofs.Names.{fjoin, fjoin3, fpick, fpack, pick, learn, use1, use2, use3, await}
-use Rattle.thread_local_model.proofs.Names.{rewrite, feq_i, stop, fld, hop, addr, of_opd, first, blocks, exec, returns}
-use Rattle.thread_local_model.proofs.Names.{enter, alloc_all, pass_all, free_all, look_at, get, through, sets}
-use Rattle.thread_local_model.proofs.Names.{sets_last, env, open_ref, sub, whole, look_in, tables}
-use Rattle.thread_local_model.proofs.Names.{fact_use, no, RattleType, owns, types_at, plain, named_lft, Ptr, InBlock}
-use Rattle.thread_local_model.proofs.Names.{block_ptr, block_of, count_of, at_block, nothing, peeks, Is, shows}
-use Rattle.thread_local_model.proofs.Names.{cell_at, part_at, mem, param, bounded, RefMutOf, mut_vals, mut_Tells}
-use Rattle.thread_local_model.proofs.Names.{follows, Stays, stay_dropped, walk_of, Goes-spent_ref, proved, leaves}
-use Rattle.thread_local_model.proofs.Names.{tail}
+use Rattle.thread_local_base.proofs.Names.{◌≡◌, ℕ, ◌+◌, List, [], ◌∷◌, sym, refl, ap, ◌∙◌, dcons, dnil, a_type, named}
+use Rattle.thread_local_base.proofs.Names.{Val, vptr, inst_fn, full_share, SProp, guard_i, Lft, GName, Share}
+use Rattle.thread_local_base.proofs.Names.{Fml, ftrue, fsep, fbor, flft, sem, ‵, raw, ◌⊛◌, some, given, later, at_ret}
+use Rattle.thread_local_base.proofs.Names.{◌$◌, ◌∵◌, !, qed, by, move, keep, split, split3, join, fsplit, fsplit3}
+use Rattle.thread_local_base.proofs.Names.{fjoin, fjoin3, fpick, fpack, pick, learn, use1, use2, use3, await}
+use Rattle.thread_local_base.proofs.Names.{rewrite, feq_i, stop, fld, hop, addr, of_opd, first, blocks, exec, returns}
+use Rattle.thread_local_base.proofs.Names.{enter, alloc_all, pass_all, free_all, look_at, get, through, sets}
+use Rattle.thread_local_base.proofs.Names.{sets_last, env, open_ref, sub, whole, look_in, tables}
+use Rattle.thread_local_base.proofs.Names.{fact_use, no, RattleType, owns, types_at, plain, named_lft, Ptr, InBlock}
+use Rattle.thread_local_base.proofs.Names.{block_ptr, block_of, count_of, at_block, nothing, peeks, Is, shows}
+use Rattle.thread_local_base.proofs.Names.{cell_at, part_at, mem, param, bounded, RefMutOf, mut_vals, mut_Tells}
+use Rattle.thread_local_base.proofs.Names.{follows, Stays, stay_dropped, walk_of, Goes-spent_ref, proved, leaves}
+use Rattle.thread_local_base.proofs.Names.{tail}
 use base.Fml.{fobs}
 use types.SemTy.{Body}
 use types.Mut.{close_ref}
@@ -27,7 +27,7 @@ use Rattle.thread_local_ids.proofs.Guards.{placed}
 use Rattle.thread_local_ids.proofs.Handed.{hands_value}
 use Rattle.thread_local_ids.proofs.lock.lends.LockGuardDerefMut.deref_mut.Statement.{statement}
 use Rattle.thread_local_ids.proofs.lock.lends.LockGuardDerefMut.deref_mut.Code as code
-use Rattle.thread_local_model.proofs.Walking.{knows}
+use Rattle.thread_local_base.proofs.Walking.{knows}
 
 pub deref_mut_spec : {M : Type 1} → statement M
 unfolding part_of

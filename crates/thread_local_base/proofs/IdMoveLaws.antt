@@ -1,0 +1,40 @@
+-- Which ids moves leave held.
+use Rattle.std.proofs.Common.{◌≡◌, ℕ, ◌+◌, ◌≤◌, ◌==◌, Bool, true, false, List, [], ◌∷◌, ◌++◌, length, if◌then◌else◌, refl, sym, subst, arith}
+use mathlib.Core.List.{IsPrefix}
+use Rattle.thread_local_base.proofs.HeldLaws.{length-with_least, length-without}
+use Rattle.thread_local_base.specs.Held.{least, with_least, without}
+use Rattle.thread_local_base.specs.IdMoves.{IdMove, Take, Give, held_from, held_after, noted}
+
+pub held_apart : (held : List Bool) (before later : List IdMove)
+    → held_from held (before ++ later) ≡ held_from (held_from held before) later
+held_apart held [] later = refl
+held_apart held (Take ∷ before) later = held_apart (with_least held) before later
+held_apart held (Give id ∷ before) later = held_apart (without held id) before later
+
+pub after_take : (moves : List IdMove) → held_after (noted moves Take) ≡ with_least (held_after moves)
+after_take moves = held_apart [] moves (Take ∷ [])
+
+pub after_give : (moves : List IdMove) (id : ℕ) → held_after (noted moves (Give id)) ≡ without (held_after moves) id
+after_give moves id = held_apart [] moves (Give id ∷ [])
+
+-- the peak never falls
+peak_from : (held : List Bool) (moves : List IdMove) → length held ≤ length (held_from held moves)
+peak_from held [] = omega arith
+peak_from held (Take ∷ moves) =
+    let more : length held ≤ length (with_least held) = taken (least held == length held) (length-with_least held) in
+    let rest : length (with_least held) ≤ length (held_from (with_least held) moves) = peak_from (with_least held) moves in
+    omega (arith, more, rest)
+  where
+    taken : (t : Bool) → length (with_least held) ≡ (if t then length held + 1 else length held) → length held ≤ length (with_least held)
+    taken true e = omega (arith, e)
+    taken false e = omega (arith, e)
+peak_from held (Give id ∷ moves) =
+    let same : length (without held id) ≡ length held = length-without held id in
+    let rest : length (without held id) ≤ length (held_from (without held id) moves) = peak_from (without held id) moves in
+    omega (arith, same, rest)
+
+-- a later page has no lower peak
+pub peak_grows : (before later : List IdMove) → IsPrefix before later → length (held_after before) ≤ length (held_after later)
+peak_grows before later early =
+    subst (λ (l : List IdMove). length (held_after before) ≤ length (held_after l)) early.1
+    (subst (λ (h : List Bool). length (held_after before) ≤ length h) (sym (held_apart [] before early.0)) (peak_from (held_after before) early.0))

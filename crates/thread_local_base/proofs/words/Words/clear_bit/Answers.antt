@@ -1,0 +1,29 @@
+use Rattle.std.proofs.Common.{◌%◌, ◌∙◌, false}
+use Rattle.thread_local_base.proofs.Word.{clear_bit, place_below}
+use Rattle.std.proofs.lemmas.List.{length-set}
+use Rattle.thread_local_base.proofs.WordList.{first_bit, later_bit, first_written, later_written}
+use Rattle.thread_local_base.proofs.words.Words.clear_bit.Goals as goal
+
+pub returns-then-bit-lt64-clause-bits : goal.returns-then-bit-lt64-clause-bits
+returns-then-bit-lt64-clause-bits c =
+    let bit = c.args.bit in
+    first_bit c.self.inside c.args.self.now bit _ false c.self.invariant c.self.view_is c.requires c.if-bit-lt64.true
+    (clear_bit c.self.inside.first (bit % 64) (place_below bit))
+
+pub returns-else-bit-lt64-clause-bits : goal.returns-else-bit-lt64-clause-bits
+returns-else-bit-lt64-clause-bits c =
+    let bit = c.args.bit in
+    let word = c.index_mut.result.now in
+    later_bit c.self.inside c.args.self.now bit word _ false c.self.invariant c.self.view_is
+    c.requires c.if-bit-lt64.false c.index_mut.ensures.value
+    (clear_bit word (bit % 64) (place_below bit))
+
+-- The search for these takes a while.
+pub returns-then-bit-lt64-clause-len : goal.returns-then-bit-lt64-clause-len
+returns-then-bit-lt64-clause-len c = first_written c.self.inside c.args.self.now _ c.self.view_is
+
+pub returns-else-bit-lt64-clause-len : goal.returns-else-bit-lt64-clause-len
+returns-else-bit-lt64-clause-len c = later_written c.self.inside c.args.self.now _ _ c.self.view_is
+
+pub invariant_of-self-else-bit-lt64 : goal.invariant_of-self-else-bit-lt64
+invariant_of-self-else-bit-lt64 c = length-set c.self.inside.rest.items _ _ ∙ c.self.invariant
