@@ -1,11 +1,12 @@
 //! Why a slot stays empty, or isn't filled by a value at hand.
-ghost use Rattle.std.specs.Prelude.{◌≡◌, Some};
+ghost use Rattle.std.specs.Prelude.{◌≡◌, Some, alloc_error};
 ghost use Rattle.thread_local.specs.Errors.{try_error_text, set_error_text};
 ghost use Rattle.thread_local.specs.declared.error.TryError.TheVariants.{Memory};
 
 use std::alloc::AllocError;
 use std::error::Error;
 use std::fmt;
+use thread_local_base::LocalError;
 
 /// Why `get_or_try` and `try_fill` leave the slot empty.
 #[derive(Clone, Copy, Debug, Drop, PartialEq, Eq)]
@@ -30,6 +31,16 @@ impl<E> From<AllocError> for TryError<E> {
 
     fn from(refused: AllocError) -> TryError<E> {
         TryError::Memory(refused)
+    }
+}
+
+/// For a function that takes a `Local` and fills it. That every id is held counts as memory that is
+/// out, which a program meets first.
+impl<E> From<LocalError> for TryError<E> {
+    ghost from_gives = { λ _ error. error ≡ Memory alloc_error };
+
+    fn from(_: LocalError) -> TryError<E> {
+        TryError::Memory(AllocError)
     }
 }
 

@@ -49,11 +49,18 @@ fn refused<E: From<AllocError>>() -> Result<(), E> {
     Ok(())
 }
 
+/// What `?` makes of an id that was refused.
+fn refused_an_id<E: From<LocalError>>() -> Result<(), E> {
+    Err(LocalError::Exhausted)?;
+    Ok(())
+}
+
 #[test]
 fn errors_are_made_of_missing_memory(rt: HostRuntime) -> Result<(), Fail> {
     assert!(rt; matches!(refused::<LocalError>(), Err(LocalError::Memory(_))));
     assert!(rt; matches!(refused::<CapacityError>(), Err(CapacityError::Memory(_))));
     assert!(rt; matches!(refused::<TryError<u8>>(), Err(TryError::Memory(_))));
+    assert!(rt; matches!(refused_an_id::<TryError<u8>>(), Err(TryError::Memory(_))));
     Ok(())
 }
 
