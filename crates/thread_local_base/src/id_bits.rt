@@ -78,41 +78,14 @@ impl IdBits {
     {
         let id = self.least_free();
         if id < 64 {
-            self.alloc_first(id);
+            // The first 64 ids are the bits of the first word, which needs no memory.
+            self.words.begin();
+            self.hold(id);
             return Ok(());
         }
         if !self.has_room(id) {
-            return self.alloc_further(id);
+            self.make_room(id)?;
         }
-        self.hold(id);
-        Ok(())
-    }
-
-    /// `alloc` of one of the first 64 ids, which are the bits of the first word. It needs no
-    /// memory.
-    #[inline]
-    fn alloc_first(&mut self, id: usize)
-        requires least { id ≡ least self.old.held }
-        requires first { id < 64 }
-        ensures { Takes self.old self.new id }
-    {
-        self.make_first_room();
-        self.hold(id);
-    }
-
-    /// `alloc` of an id past the first 64, where there is no room for it.
-    #[cold]
-    #[inline(never)]
-    fn alloc_further(&mut self, id: usize) -> Result<(), LocalError>
-        requires least { id ≡ least self.old.held }
-        requires further { 64 ≤ id }
-        requires no_room { self.old.room ≤ id }
-        ensures ok { OnOk result (Takes self.old self.new id) }
-        ensures memory { result ≡ Err (LocalError.Memory alloc_error) → NeedsMemory self.old }
-        ensures exhausted { result ≡ Err LocalError.Exhausted → IsExhausted self.old }
-        ensures err { OnErr result (self.new ≡ self.old) }
-    {
-        self.make_room(id)?;
         self.hold(id);
         Ok(())
     }
@@ -139,19 +112,9 @@ impl IdBits {
         id < IDS && id / 64 < self.words.len()
     }
 
-    /// Makes room for the return of the first 64 ids, where there is none. It needs no memory.
-    #[inline]
-    fn make_first_room(&mut self)
-        ensures held { self.new.held ≡ self.old.held }
-        ensures first { 64 ≤ self.new.room }
-        ensures room { self.old.room ≤ self.new.room }
-        ensures few { self.new.room ≤ self.old.room + 64 }
-        ensures kept { 0 < self.old.room → self.new.room ≡ self.old.room }
-    {
-        self.words.begin();
-    }
-
     /// Makes room for the bit of an id past the first 64, for which there is none.
+    #[cold]
+    #[inline(never)]
     fn make_room(&mut self, id: usize) -> Result<(), LocalError>
         requires least { id ≡ least self.old.held }
         requires further { 64 ≤ id }

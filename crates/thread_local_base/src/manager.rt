@@ -119,8 +119,11 @@ impl ThreadIdManager {
         requires { IsTrue (is_held self.old.held id) }
         ensures { Gives self.old self.new id }
     {
-        settle(&mut self.bits, self.returned);
+        let before = self.returned;
         self.returned = id;
+        if before != IDS {
+            self.bits.free(before);
+        }
     }
 
     /// Takes every id back. The peak starts again from 0, and the room stays.
@@ -130,18 +133,5 @@ impl ThreadIdManager {
     {
         self.bits.clear();
         self.returned = IDS;
-    }
-}
-
-/// Clears the bit of the id that was given back last, where there is one.
-#[inline(always)]
-fn settle(bits: &mut IdBits, returned: usize)
-    requires returned { (returned ≡ 2 ^ 63 - 1) ⊎ IsTrue (is_held bits.old.held returned) }
-    requires in_range { length bits.old.held ≤ 2 ^ 63 - 1 }
-    ensures held { bits.new.held ≡ without bits.old.held returned }
-    ensures room { bits.new.room ≡ bits.old.room }
-{
-    if returned != IDS {
-        bits.free(returned);
     }
 }

@@ -61,14 +61,7 @@ impl Thread {
         ensures bucket { bucket_of result ≡ self.now.bucket }
         ensures index { index_of result ≡ self.now.index }
     {
-        self.index + (self.bucket_size() - 1)
-    }
-
-    /// How many slots the bucket of the place has.
-    pub fn bucket_size(&self) -> usize
-        ensures { result ≡ 2 ^ self.now.bucket }
-    {
-        bucket_size(self.bucket)
+        self.index + (bucket_size(self.bucket) - 1)
     }
 }
 

@@ -83,7 +83,7 @@ impl<T, A: Allocator> Block<T, A> {
     pub fn release(self, alloc: &A, len: usize)
         requires { (self.heap ≡ alloc.now) × (self.slots ≡ empty_slots len) × (self.left ≡ 0) }
     {
-        RetiredBlock::of(self, len).free(alloc, len);
+        RetiredBlock::of(self, len).deallocate(alloc, len, bytes_of_block::<T>(len));
     }
 }
 

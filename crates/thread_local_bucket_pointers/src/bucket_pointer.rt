@@ -6,6 +6,7 @@ ghost use Rattle.thread_local_base.specs.Bits.{is_set};
 ghost use Rattle.thread_local_bucket_pointers.specs.Slots.{heap_token, slot_value, empty_slots, flag_word_at};
 ghost use Rattle.thread_local_bucket_pointers.specs.PointerOwns.{pointer_owns};
 
+use crate::bytes::bytes_of_block;
 use crate::{Block, Chunk, RetiredBlock, flag_word_at};
 use std::alloc::Global;
 use std::marker::{Model, PhantomData};
@@ -25,13 +26,6 @@ impl<T> Model for BucketPointer<T> {
 }
 
 impl<T> BucketPointer<T> {
-    /// A null pointer.
-    pub fn null() -> BucketPointer<T>
-        ensures { result.slots ≡ [] }
-    {
-        BucketPointer { at: null_mut() }
-    }
-
     /// Whether it points to a block.
     #[inline]
     pub fn stands(&mut self) -> bool
@@ -64,18 +58,6 @@ impl<T> BucketPointer<T> {
             at,
             marker: PhantomData,
         }
-    }
-
-    /// Whether the slot has a value, by its flag in the word of this number.
-    #[inline]
-    pub fn is_published(&mut self, index: usize, flag_word: usize) -> bool
-        requires in_block { index < length self.old.slots }
-        requires flag_word { flag_word ≡ flag_word_at T.row (length self.old.slots) (index / 64) }
-        ensures value { result ≡ is_some (slot_value self.old.slots index) }
-        ensures same { self.new ≡ self.old }
-    {
-        let flags = self.flags(index / 64, flag_word);
-        flags >> (index % 64) & 1 == 1
     }
 
     /// The flags of a chunk's slots, a bit each: the word of this number. The bits past the last
@@ -152,7 +134,7 @@ impl<T: Drop> BucketPointer<T> {
     {
         'slots: for index in 0..len {
             let flag_word = flag_word_at::<T>(len, index / 64);
-            if self.is_published(index, flag_word) {
+            if self.flags(index / 64, flag_word) >> (index % 64) & 1 == 1 {
                 drop(self.take(index, flag_word));
             }
         }
@@ -171,7 +153,7 @@ impl<T: Drop> BucketPointer<T> {
         'slots: for index in 0..len {
             retired.drop_next(index, len);
         }
-        retired.free(alloc, len);
+        retired.deallocate(alloc, len, bytes_of_block::<T>(len));
     }
 }
 
@@ -180,7 +162,7 @@ impl<T> Default for BucketPointer<T> {
     ghost is_default = { λ pointer. pointer.slots ≡ [] };
 
     fn default() -> Self {
-        BucketPointer::null()
+        BucketPointer { at: null_mut() }
     }
 }
 

@@ -19,9 +19,8 @@ mod placing;
 /// The pointers of a table, one for each of its buckets, and the heap that their blocks come from.
 /// Contracts see the contents.
 ///
-/// Only `install` and `ensure_bucket` take memory, and no call takes a lock. A value's drop may
-/// wait: `release`, `clear` and `publish_or_drop` drop values. Dropping the pointers drops every
-/// value and frees every block.
+/// Only `ensure_bucket` takes memory, and no call takes a lock. A value's drop may wait: `clear` and
+/// `publish_or_drop` drop values. Dropping the pointers drops every value and frees every block.
 pub struct BucketPointers<T> {
     pointers: PointerArray<T>,
     alloc: Global,
@@ -50,35 +49,6 @@ impl<T> BucketPointers<T> {
             pointers: PointerArray::null(),
             alloc,
         }
-    }
-
-    /// Makes the bucket, with all its slots empty. It asks for memory once. `Err` means out of
-    /// memory, and nothing has changed.
-    pub fn install(&mut self, bucket: usize) -> Result<(), AllocError>
-        requires in_table { bucket < 63 }
-        requires absent { row self.old bucket ≡ [] }
-        ensures ok { OnOk result (self.new ≡ with_row self.old bucket (empty_row bucket)) }
-        ensures err { OnErr result (self.new ≡ self.old) }
-        ensures table { IsTable self.old }
-    {
-        let alloc = self.alloc;
-        let block = Block::new(&alloc, bucket_size(bucket))?;
-        self.pointers.pointer_mut(bucket).lay(block);
-        Ok(())
-    }
-
-    /// The flag of a slot, whose bucket must stand.
-    #[inline]
-    fn flag(&mut self, thread: Thread) -> bool
-        requires { thread.index < length (row self.old thread.bucket) }
-        ensures value { result ≡ is_some (value_in self.old thread.bucket thread.index) }
-        ensures table { IsTable self.old }
-        ensures same { self.new ≡ self.old }
-    {
-        let flag_word = flag_word_at::<T>(bucket_size(thread.bucket), thread.index / 64);
-        self.pointers
-            .pointer_mut(thread.bucket)
-            .is_published(thread.index, flag_word)
     }
 
     /// Publishes a value in the slot of a place, which must be empty.
@@ -113,22 +83,9 @@ impl<T> BucketPointers<T> {
     }
 }
 
-impl<T: Drop> BucketPointers<T> {
-    /// Drops the values of a bucket and frees it. It does nothing to a bucket that doesn't stand.
-    pub fn release(&mut self, bucket: usize)
-        requires { bucket < 63 }
-        ensures after { self.new ≡ with_row self.old bucket [] }
-        ensures table { IsTable self.old }
-    {
-        let alloc = self.alloc;
-        let pointer = self.pointers.pointer_mut(bucket);
-        pointer.release(bucket_size(bucket), &alloc);
-    }
-}
-
 impl<T: Drop> Drop for BucketPointers<T> {
     fn drop(mut self) {
-        self.release_all();
+        self.clear(0);
         let Self { pointers, alloc: _ } = self;
         drop(pointers);
     }

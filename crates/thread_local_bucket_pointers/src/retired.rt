@@ -8,7 +8,6 @@ ghost use prog.Memory.{size};
 ghost use Rattle.thread_local_bucket_pointers.specs.Retired.{retired_owns, rest};
 
 use crate::block::Block;
-use crate::bytes::bytes_of_block;
 use crate::chunk::{Chunk, flag_word_at};
 use std::alloc::Allocator;
 use std::marker::{Model, PhantomData};
@@ -79,15 +78,8 @@ impl<T, A: Allocator> RetiredBlock<T, A> {
         unsafe { (self.at as *mut T).add(index).read() }
     }
 
-    /// Frees the block, once all its slots are room.
-    pub fn free(self, alloc: &A, len: usize)
-        requires { (self.heap ≡ alloc.now) × (self.slots ≡ []) × (self.gone ≡ len) }
-    {
-        self.deallocate(alloc, len, bytes_of_block::<T>(len));
-    }
-
-    /// Frees the block, which takes `bytes`.
-    fn deallocate(self, alloc: &A, len: usize, bytes: usize)
+    /// Frees the block, once all its slots are room. It takes `bytes`.
+    pub fn deallocate(self, alloc: &A, len: usize, bytes: usize)
         requires left { (self.heap ≡ alloc.now) × (self.slots ≡ []) × (self.gone ≡ len) }
         requires size { Fits T.row len → bytes ≡ size (slots_ty T.row len) }
     {

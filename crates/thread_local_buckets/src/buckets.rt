@@ -17,8 +17,8 @@ use crate::iter::{IntoEntries, IntoIter};
 use crate::iter_mut::{EntriesMut, IterMut};
 use std::alloc::{AllocError, Global};
 use std::marker::Model;
-use thread_local_bucket_pointers::{BucketPointers, FlagSource};
 use thread_local_base::{BUCKETS, Thread, bucket_size};
+use thread_local_bucket_pointers::{BucketPointers, FlagSource};
 
 mod lends;
 mod walking;

@@ -13,8 +13,8 @@ ghost use Rattle.thread_local_buckets.specs.Lent.{loan_owns};
 ghost use Rattle.thread_local_buckets.specs.Given.{ends_with_item};
 
 use std::marker::{Model, PhantomData};
-use thread_local_bucket_pointers::{Chunk, FlagSource, flag_word_at};
 use thread_local_base::bucket_size;
+use thread_local_bucket_pointers::{Chunk, FlagSource, flag_word_at};
 
 /// The pointers of an owner's buckets, lent to a walk that writes. It gives the values by ascending
 /// place, each at most once.
@@ -48,36 +48,8 @@ impl<'a, T> Model for Loan<'a, T> {
 }
 
 impl<'a, T> Loan<'a, T> {
-    /// Whether the bucket stands.
-    #[inline]
-    pub fn stands(&mut self, bucket: usize) -> bool
-        requires { bucket < 63 }
-        ensures same { self.new ≡ self.old }
-        ensures value { result ≡ stands self.old.contents bucket }
-        ensures whole { result ≡ true → length (row self.old.contents bucket) ≡ 2 ^ bucket }
-        ensures absent { result ≡ false → row self.old.contents bucket ≡ [] }
-        ensures table { IsTable self.old.contents }
-    {
-        let block = unsafe { *self.pointers.add(bucket) };
-        !block.is_null()
-    }
-
-    /// The flags of a chunk's slots, of which no value has been given yet.
-    #[inline]
-    pub fn flags(&mut self, bucket: usize, chunk: usize) -> u64
-        requires in_table { bucket < 63 }
-        requires in_bucket { chunk * 64 < length (row self.old.contents bucket) }
-        requires ahead { self.old.given ≤ id_at bucket (chunk * 64) }
-        ensures same { self.new ≡ self.old }
-        ensures value { (bit : ℕ)
-            → bit < 64
-            → is_set result bit ≡ is_some (value_in self.old.contents bucket (chunk * 64 + bit)) }
-        ensures table { IsTable self.old.contents }
-    {
-        self.flags_at(bucket, chunk, flag_word_at::<T>(bucket_size(bucket), chunk))
-    }
-
-    /// The same, by the number of the chunk's word.
+    /// The flags of a chunk's slots, of which no value has been given yet, by the number of their
+    /// word.
     #[inline]
     fn flags_at(&mut self, bucket: usize, chunk: usize, flag_word: usize) -> u64
         requires in_table { bucket < 63 }
@@ -161,14 +133,33 @@ impl<T> FlagSource for Loan<'_, T> {
 
     ghost given = { λ loan. loan.given };
 
+    /// Whether the bucket stands.
     #[inline]
-    fn stands(&mut self, bucket: usize) -> bool {
-        self.stands(bucket)
+    fn stands(&mut self, bucket: usize) -> bool
+        requires { bucket < 63 }
+        ensures same { self.new ≡ self.old }
+        ensures value { result ≡ stands self.old.contents bucket }
+        ensures whole { result ≡ true → length (row self.old.contents bucket) ≡ 2 ^ bucket }
+        ensures absent { result ≡ false → row self.old.contents bucket ≡ [] }
+        ensures table { IsTable self.old.contents }
+    {
+        let block = unsafe { *self.pointers.add(bucket) };
+        !block.is_null()
     }
 
+    /// The flags of a chunk's slots, of which no value has been given yet.
     #[inline]
-    fn flags(&mut self, bucket: usize, chunk: usize) -> u64 {
-        self.flags(bucket, chunk)
+    fn flags(&mut self, bucket: usize, chunk: usize) -> u64
+        requires in_table { bucket < 63 }
+        requires in_bucket { chunk * 64 < length (row self.old.contents bucket) }
+        requires ahead { self.old.given ≤ id_at bucket (chunk * 64) }
+        ensures same { self.new ≡ self.old }
+        ensures value { (bit : ℕ)
+            → bit < 64
+            → is_set result bit ≡ is_some (value_in self.old.contents bucket (chunk * 64 + bit)) }
+        ensures table { IsTable self.old.contents }
+    {
+        self.flags_at(bucket, chunk, flag_word_at::<T>(bucket_size(bucket), chunk))
     }
 }
 

@@ -1,5 +1,5 @@
 //! The places of ids, at both ends of the range and between.
-use thread_local_base::Thread;
+use thread_local_base::{Thread, bucket_size};
 
 #[test]
 fn places_of_ids(rt: HostRuntime) {
@@ -24,7 +24,7 @@ fn places_of_ids(rt: HostRuntime) {
             (
                 thread.bucket,
                 thread.index,
-                thread.bucket_size(),
+                bucket_size(thread.bucket),
                 thread.id()
             ),
             (bucket, index, size, id)

@@ -95,24 +95,3 @@ impl<A: Judge, B: Judge, C: Judge, D: Judge> Judge for (A, B, C, D) {
         D::judge();
     }
 }
-
-impl<A: Judge, B: Judge, C: Judge, D: Judge, E: Judge> Judge for (A, B, C, D, E) {
-    fn judge() {
-        A::judge();
-        B::judge();
-        C::judge();
-        D::judge();
-        E::judge();
-    }
-}
-
-impl<A: Judge, B: Judge, C: Judge, D: Judge, E: Judge, F: Judge> Judge for (A, B, C, D, E, F) {
-    fn judge() {
-        A::judge();
-        B::judge();
-        C::judge();
-        D::judge();
-        E::judge();
-        F::judge();
-    }
-}

@@ -11,7 +11,7 @@ use thread_local_bucket_pointers::{Block, BucketPointer, flag_word_at};
 fn there_and_back<T: Send + Drop>(alloc: Global, value: T) -> Result<T, AllocError>
     ensures { IfOk result (λ x. x ≡ value) }
 {
-    let mut pointer = BucketPointer::null();
+    let mut pointer = BucketPointer::default();
     pointer.lay(Block::new(&alloc, 4)?);
     let number = flag_word_at::<T>(4, 0);
     pointer.publish(2, number, value);
@@ -22,14 +22,14 @@ fn there_and_back<T: Send + Drop>(alloc: Global, value: T) -> Result<T, AllocErr
 
 /// Whether there is a block, whether it has a value, and what is there once it was written over.
 fn seen_at_a_cell(alloc: Global) -> Result<(bool, bool, u64), AllocError> {
-    let mut pointer = BucketPointer::null();
+    let mut pointer = BucketPointer::default();
     pointer.lay(Block::new(&alloc, 1)?);
     let number = flag_word_at::<Cell<u64>>(1, 0);
     pointer.publish(0, number, Cell::new(1u64));
     pointer.get_mut(0).set(2);
     let seen = (
         pointer.stands(),
-        pointer.is_published(0, number),
+        pointer.flags(0, number) == 1,
         pointer.take(0, number).get(),
     );
     pointer.release(1, &alloc);
@@ -39,7 +39,7 @@ fn seen_at_a_cell(alloc: Global) -> Result<(bool, bool, u64), AllocError> {
 /// The flags of a block of two chunks in which three slots have values: of each chunk, and of the
 /// first once its last value is taken.
 fn flags_of_two_chunks(alloc: Global) -> Result<[u64; 3], AllocError> {
-    let mut pointer = BucketPointer::null();
+    let mut pointer = BucketPointer::default();
     pointer.lay(Block::new(&alloc, 128)?);
     let (first, second) = (flag_word_at::<u64>(128, 0), flag_word_at::<u64>(128, 1));
     pointer.publish(0, first, 1u64);

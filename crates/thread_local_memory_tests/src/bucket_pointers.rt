@@ -5,8 +5,8 @@ use std::alloc::{AllocError, Global};
 use std::cell::Cell;
 use std::mem::replace;
 use std::test::Fail;
-use thread_local_bucket_pointers::{BucketPointers, FlagSource};
 use thread_local_base::Thread;
+use thread_local_bucket_pointers::{BucketPointers, FlagSource};
 
 /// A slot's place.
 pub fn place(bucket: usize, index: usize) -> Thread
@@ -21,7 +21,7 @@ fn there_and_back<T: Send + Drop>(alloc: Global, first: T, second: T) -> Result<
     ensures { IfOk result (λ x. x ≡ first) }
 {
     let mut pointers = BucketPointers::new(alloc);
-    pointers.install(3)?;
+    pointers.ensure_bucket(3)?;
     pointers.publish(place(3, 5), first);
     let value = pointers.get_mut(place(3, 5));
     Ok(replace(value, second))
@@ -37,7 +37,7 @@ fn written_over<T: Send + Drop>(
     ensures { IfOk result (λ x. x ≡ second) }
 {
     let mut pointers = BucketPointers::new(alloc);
-    pointers.install(4)?;
+    pointers.ensure_bucket(4)?;
     pointers.publish(place(4, 0), first);
     *pointers.get_mut(place(4, 0)) = second;
     let value = pointers.get_mut(place(4, 0));
@@ -83,9 +83,9 @@ fn values_come_back_at_any_type(rt: HostRuntime) -> Result<(), Fail> {
 #[test]
 fn a_block_that_is_too_large_is_refused(rt: HostRuntime) -> Result<(), Fail> {
     let mut pointers = BucketPointers::<u64>::new(rt.alloc());
-    assert!(rt; pointers.install(62).is_err());
+    assert!(rt; pointers.ensure_bucket(62).is_err());
     assert!(rt; !pointers.stands(62));
-    pointers.install(10)?;
+    pointers.ensure_bucket(10)?;
     assert!(rt; pointers.stands(10));
     Ok(())
 }
@@ -101,7 +101,7 @@ fn text_written_over(alloc: Global) -> Result<String, AllocError> {
 /// one stand.
 fn seen_beside(alloc: Global) -> Result<[bool; 4], AllocError> {
     let mut pointers = BucketPointers::new(alloc);
-    pointers.install(2)?;
+    pointers.ensure_bucket(2)?;
     pointers.publish(place(2, 3), 1u32);
     Ok([
         pointers.is_published(place(2, 3)),

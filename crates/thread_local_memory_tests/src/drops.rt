@@ -18,38 +18,41 @@ impl Drop for Counted<'_> {
     }
 }
 
-/// Fills three buckets but for two slots, and answers how many drops there are once one of them is
-/// released, and once another is.
+/// Fills three buckets but for two slots, clears the pointers where that is wanted, and answers how
+/// many drops there are before the pointers are dropped.
 fn drops_counted<T: Drop, F: Fn() -> T, G: Fn() -> u64>(
     alloc: Global,
+    clears: bool,
     make: F,
     count: G,
-) -> Result<(u64, u64), AllocError>
+) -> Result<u64, AllocError>
 where
     F: Drop,
     G: Drop,
     requires { (F.pre make) × (G.pre count) }
 {
     let mut pointers = BucketPointers::new(alloc);
-    pointers.install(0)?;
-    pointers.install(1)?;
-    pointers.install(2)?;
+    pointers.ensure_bucket(0)?;
+    pointers.ensure_bucket(1)?;
+    pointers.ensure_bucket(2)?;
     pointers.publish(place(0, 0), make());
     pointers.publish(place(1, 0), make());
     pointers.publish(place(1, 1), make());
     pointers.publish(place(2, 1), make());
     pointers.publish(place(2, 3), make());
-    pointers.release(1);
-    let first = count();
-    pointers.release(2);
-    let released = count();
-    Ok((first, released))
+    if clears {
+        pointers.clear(0);
+    }
+    Ok(count())
 }
 
 #[test]
 fn each_value_is_dropped_once(rt: HostRuntime) -> Result<(), Fail> {
     let drops = Cell::new(0u64);
-    let seen = drops_counted(rt.alloc(), || Counted { drops: &drops }, || drops.get())?;
-    assert_eq!(rt; (seen, drops.get()), ((2, 4), 5));
+    let alloc = rt.alloc();
+    let before = drops_counted(alloc, false, || Counted { drops: &drops }, || drops.get())?;
+    let dropped = drops.get();
+    let cleared = drops_counted(alloc, true, || Counted { drops: &drops }, || drops.get())?;
+    assert_eq!(rt; (before, dropped, cleared, drops.get()), (0, 5, 10, 10));
     Ok(())
 }

@@ -11,9 +11,9 @@ use crate::claimed::ClaimedSlot;
 use crate::replaced::replace_with;
 use std::alloc::{AllocError, Global};
 use std::marker::Model;
+use thread_local_base::{Thread, bucket_size};
 use thread_local_bucket_pointers::{Block, flag_word_at};
 use thread_local_ids::{HeldId, Reached, Right, Token};
-use thread_local_base::Thread;
 
 /// The slot of an id, for the holder of the id, whose right lies with the slot meanwhile. Contracts
 /// see its table, the sharing, its id, whether its bucket is reserved, and what it has learnt of
@@ -130,7 +130,7 @@ impl<'a, T> Claim<'a, T> {
             slot.exchange(index, block, reached)
         });
         if let Some(block) = back {
-            block.release(alloc, thread.bucket_size());
+            block.release(alloc, bucket_size(thread.bucket));
         }
     }
 
@@ -180,7 +180,7 @@ impl<'a, T> Claim<'a, T> {
     {
         self.look_again(thread);
         if self.is_missing() {
-            let block = Block::new(alloc, thread.bucket_size())?;
+            let block = Block::new(alloc, bucket_size(thread.bucket))?;
             self.install(thread, block, reached, alloc);
         }
         Ok(())
@@ -314,5 +314,5 @@ impl<'a, T: Sync> Claim<'a, T> {
 fn flag_word_of<T>(thread: Thread) -> usize
     ensures { result ≡ flag_word_at T.row (2 ^ thread.bucket) (thread.index / 64) }
 {
-    flag_word_at::<T>(thread.bucket_size(), thread.index / 64)
+    flag_word_at::<T>(bucket_size(thread.bucket), thread.index / 64)
 }

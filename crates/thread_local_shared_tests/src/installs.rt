@@ -9,6 +9,7 @@ use std::alloc::Global;
 use std::cell::{Cell, RefCell};
 use std::sync::Wait;
 use std::test::Fail;
+use thread_local_base::bucket_size;
 use thread_local_bucket_pointers::Block;
 use thread_local_buckets::Buckets;
 use thread_local_ids::{HeldId, Ids, Lock, Reached, Right, Tenure};
@@ -33,7 +34,7 @@ impl<'a, T> Early<'a, T> {
         let mut claim = kept.into_claim();
         let thread = claim.place();
         if !claim.is_missing() {
-            block.release(alloc, thread.bucket_size());
+            block.release(alloc, bucket_size(thread.bucket));
             claim.give_up();
             return None;
         }
@@ -43,7 +44,7 @@ impl<'a, T> Early<'a, T> {
 
     /// Makes a block, offers it and gives the claim up. Answers whether it did.
     fn offer(self, alloc: &Global) -> bool {
-        let Ok(block) = Block::new(alloc, self.kept.claim.place().bucket_size()) else {
+        let Ok(block) = Block::new(alloc, bucket_size(self.kept.claim.place().bucket)) else {
             return false;
         };
         match self.offered(block, alloc) {
@@ -153,9 +154,9 @@ fn offer_two(
     other: Early<'_, u32>,
     alloc: &Global,
 ) -> Option<[(Option<u32>, bool); 2]> {
-    let size = one.kept.claim.place().bucket_size();
+    let size = bucket_size(one.kept.claim.place().bucket);
     let first = Block::new(alloc, size).ok()?;
-    let second = match Block::new(alloc, other.kept.claim.place().bucket_size()) {
+    let second = match Block::new(alloc, bucket_size(other.kept.claim.place().bucket)) {
         Ok(block) => block,
         Err(_) => {
             first.release(alloc, size);

@@ -8,7 +8,7 @@ use thread_local_bucket_pointers::flag_word_at;
 use thread_local_buckets::Buckets;
 use thread_local_ids::{HeldId, Ids, Right, Tenure, TokenList};
 use thread_local_shared_buckets::{Claim, Shared};
-use thread_local_base::{LocalError, Thread};
+use thread_local_base::{LocalError, Thread, bucket_size};
 
 /// Takes an id that isn't given back.
 pub fn take(ids: &mut Ids) -> Result<(HeldId, Right), LocalError>
@@ -109,7 +109,7 @@ pub fn look(shared: &Shared<u32>, id: usize) -> Option<u32>
     let told = TokenList::new();
     let row = shared.load(thread.bucket, &told)?;
     let chunk = thread.index / 64;
-    let flag_word = flag_word_at::<u32>(thread.bucket_size(), chunk);
+    let flag_word = flag_word_at::<u32>(bucket_size(thread.bucket), chunk);
     let seen = row.look(chunk, flag_word, &told);
     let bit = thread.index % 64;
     if !has_bit(seen.flags(), bit) {

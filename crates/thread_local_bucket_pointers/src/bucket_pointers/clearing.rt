@@ -32,16 +32,6 @@ impl<T> BucketPointers<T> {
 }
 
 impl<T: Drop> BucketPointers<T> {
-    /// Drops the values of a bucket that stands, and keeps the bucket.
-    fn empty(&mut self, bucket: usize)
-        requires in_table { bucket < 63 }
-        requires stands { stands self.old bucket ≡ true }
-        ensures after { self.new ≡ with_row self.old bucket (empty_row bucket) }
-        ensures table { IsTable self.old }
-    {
-        self.pointers.pointer_mut(bucket).empty(bucket_size(bucket));
-    }
-
     /// Drops the values of a bucket, and frees it unless it has one of the first `reserved` slots.
     #[inline]
     fn clear_bucket(&mut self, bucket: usize, reserved: usize)
@@ -49,10 +39,12 @@ impl<T: Drop> BucketPointers<T> {
         requires standing { id_at bucket 0 < reserved → IsTrue (stands self.old bucket) }
         ensures { AreCleared self.old self.new reserved bucket (bucket + 1) }
     {
-        if bucket_size(bucket) <= reserved {
-            self.empty(bucket);
+        let alloc = self.alloc;
+        let size = bucket_size(bucket);
+        if size <= reserved {
+            self.pointers.pointer_mut(bucket).empty(size);
         } else {
-            self.release(bucket);
+            self.pointers.pointer_mut(bucket).release(size, &alloc);
         }
     }
 
@@ -92,8 +84,8 @@ impl<T: Drop> BucketPointers<T> {
 
     /// Drops every value. A bucket that has one of the first `reserved` slots stays, and every
     /// other is freed. Behind the first seven buckets, eight of which none stands are skipped at once.
-    #[inline(always)]
-    fn clear_all(&mut self, reserved: usize)
+    #[inline(never)]
+    pub fn clear(&mut self, reserved: usize)
         requires standing { (bucket : ℕ) → bucket < 63 → id_at bucket 0 < reserved → IsTrue (stands self.old bucket) }
         ensures rows { (bucket : ℕ) → bucket < 63 → row self.new bucket ≡ cleared_row reserved bucket }
         ensures table { IsTable self.new }
@@ -106,25 +98,5 @@ impl<T: Drop> BucketPointers<T> {
             }
         }
         self.clear_between(0, 7, reserved);
-    }
-
-    /// Drops every value. A bucket that has one of the first `reserved` slots stays, and every
-    /// other is freed.
-    #[inline(never)]
-    pub fn clear(&mut self, reserved: usize)
-        requires standing { (bucket : ℕ) → bucket < 63 → id_at bucket 0 < reserved → IsTrue (stands self.old bucket) }
-        ensures rows { (bucket : ℕ) → bucket < 63 → row self.new bucket ≡ cleared_row reserved bucket }
-        ensures table { IsTable self.new }
-    {
-        self.clear_all(reserved);
-    }
-
-    /// Drops every value and frees every bucket. It stands apart from `clear`, so that no bucket is
-    /// asked whether it is reserved.
-    #[inline(never)]
-    pub(super) fn release_all(&mut self)
-        ensures { (bucket : ℕ) → bucket < 63 → row self.new bucket ≡ [] }
-    {
-        self.clear_all(0);
     }
 }

@@ -94,19 +94,7 @@ impl<T> BucketPointers<T> {
         count
     }
 
-    /// How many values a bucket of at most 64 slots has. Their flags are one word.
-    #[inline]
-    fn count_in_word(&mut self, bucket: usize) -> usize
-        requires small { bucket < 7 }
-        requires whole { length (row self.old bucket) ≡ 2 ^ bucket }
-        ensures same { self.new ≡ self.old }
-        ensures counted { count_below (values self.old) (id_at bucket 0) + result
-            ≡ count_below (values self.old) (id_at (bucket + 1) 0) }
-    {
-        self.count_in_chunks(bucket, 0, 1)
-    }
-
-    /// How many values the first seven buckets have.
+    /// How many values the first seven buckets have. The flags of each are one word.
     #[inline]
     fn count_in_first(&mut self) -> usize
         ensures same { self.new ≡ self.old }
@@ -115,7 +103,7 @@ impl<T> BucketPointers<T> {
         let mut count = 0;
         for bucket in 0..7 {
             if self.stands(bucket) {
-                count += self.count_in_word(bucket);
+                count += self.count_in_chunks(bucket, 0, 1);
             }
         }
         count

@@ -5,13 +5,13 @@ ghost use Rattle.thread_local_base.specs.Rows.{value_in, with_slot};
 ghost use Rattle.thread_local_base.specs.Owner.{with_bucket};
 
 use super::BucketPointers;
-use crate::FlagSource;
+use crate::{Block, FlagSource};
 use std::alloc::AllocError;
-use thread_local_base::Thread;
+use thread_local_base::{Thread, bucket_size};
 
 impl<T> BucketPointers<T> {
-    /// Makes the bucket if it doesn't stand, and only then asks for memory. `Err` means out of
-    /// memory, and nothing has changed.
+    /// Makes the bucket if it doesn't stand, with all its slots empty, and only then asks for memory,
+    /// once. `Err` means out of memory, and nothing has changed.
     pub fn ensure_bucket(&mut self, bucket: usize) -> Result<(), AllocError>
         requires { bucket < 63 }
         ensures ok { OnOk result (self.new ≡ with_bucket self.old bucket) }
@@ -23,7 +23,10 @@ impl<T> BucketPointers<T> {
         if self.stands(bucket) {
             return Ok(());
         }
-        self.install(bucket)
+        let alloc = self.alloc;
+        let block = Block::new(&alloc, bucket_size(bucket))?;
+        self.pointers.pointer_mut(bucket).lay(block);
+        Ok(())
     }
 
     /// Whether the slot of a place has a value. The bucket need not stand.
@@ -33,7 +36,8 @@ impl<T> BucketPointers<T> {
         ensures within { result ≡ true → thread.index < length (row self.old thread.bucket) }
         ensures stands { result ≡ true → stands self.old thread.bucket ≡ true }
     {
-        self.stands(thread.bucket) && self.flag(thread)
+        self.stands(thread.bucket)
+            && self.flags(thread.bucket, thread.index / 64) >> (thread.index % 64) & 1 == 1
     }
 }
 

@@ -8,7 +8,7 @@ use std::thread::Threads;
 use thread_local::ThreadLocal;
 use thread_local::local::Local;
 use thread_local_shared_buckets::Iter;
-use thread_local_base::Thread;
+use thread_local_base::{Thread, bucket_size};
 
 /// How many `Local`s publish during a walk.
 const LOCALS: u64 = 24;
@@ -23,7 +23,7 @@ fn has_passed(walk: &Iter<'_, u64>, alloc: Global, id: usize, given: u64) -> boo
     }
     let place = Thread::new(id);
     let behind = place.index.saturating_add(1);
-    let size = place.bucket_size();
+    let size = bucket_size(place.bucket);
     let (Ok(text), Ok(expected)) = (
         format!(in alloc; "{walk:?}"),
         format!(in alloc;

@@ -75,8 +75,8 @@ slots-preserved g c =
       one_less c.slots.retired.slots c.drop_next.new.self.slots c.slots.index c.args.len after.1 kept.2 c.slots-test.true,
     )
 
-pub free-requires : goal.free-requires
-free-requires g c =
+pub deallocate-requires-clause-left : goal.deallocate-requires-clause-left
+deallocate-requires-clause-left g c =
     let kept = c.slots.invariant in
     let end : (n i len : ℕ) → n + i ≡ len → len ≤ i → i ≡ len = λ n i len all past. omega (arith, all, past) in (
       kept.0,

@@ -1,26 +1,11 @@
-use Rattle.std.proofs.Common.{◌∙◌, ◌<◌, ℕ, List, Option, None, is_some, length, lit<, sym, ap, subst}
+use Rattle.std.proofs.Common.{◌∙◌, ◌<◌, ℕ, List, Option, None, is_some, sym, ap, subst}
 use Rattle.std.specs.Prelude.{slice_index_or}
 use Rattle.std.proofs.lemmas.Bool.{false≢true}
-use Rattle.thread_local_base.specs.Buckets.{Contents, row}
-use Rattle.thread_local_base.specs.Rows.{value_in}
 use Rattle.thread_local_bucket_pointers.proofs.bucket_pointers.BucketPointers.is_published.Goals as goal
 
 -- The search for these takes a second.
-pub flag-requires : goal.flag-requires
-flag-requires g c = (
-  lit< tt,
-  subst (λ (k : Contents g.row.T.Denot). c.args.thread.index < length (row k c.args.thread.bucket))
-      (sym c.stands.ensures.same)
-      (subst (λ (n : ℕ). c.args.thread.index < n) (sym (c.stands.ensures.whole c.if-stands.true)) c.args.thread.in_bucket),
-)
-
 pub returns-then-stands-clause-same : goal.returns-then-stands-clause-same
-returns-then-stands-clause-same g c = c.flag.ensures.same ∙ c.stands.ensures.same
-
-pub returns-then-stands-clause-value : goal.returns-then-stands-clause-value
-returns-then-stands-clause-value g c =
-    c.flag.ensures.value
-    ∙ ap (λ (k : Contents g.row.T.Denot). is_some (value_in k c.args.thread.bucket c.args.thread.index)) c.stands.ensures.same
+returns-then-stands-clause-same g c = c.flags.ensures.same ∙ c.stands.ensures.same
 
 pub returns-then-stands-clause-within : goal.returns-then-stands-clause-within
 returns-then-stands-clause-within g c = λ published.

@@ -1,18 +1,18 @@
--- `null` makes a null pointer, which owns nothing.
+-- `default` makes a null pointer, which owns nothing.
 use Rattle.thread_local_base.proofs.Names.{◌≡◌, [], ◌∷◌, refl, a_type, Val, inst_fn, SProp, ftrue, ‵, raw, ◌⊛◌}
 use Rattle.thread_local_base.proofs.Names.{◌$◌, ◌∵◌, !, qed, by, keep, use0, split, fjoin, fpack, lit, no_more}
 use Rattle.thread_local_base.proofs.Names.{and_then, returns, enter, alloc_all, pass_all, free_all, look_at, sets}
 use Rattle.thread_local_base.proofs.Names.{agg, tables, RattleType, null_ptr, nothing, param, layouts}
 use Rattle.thread_local_base.proofs.Names.{alive, walk_of, proved, leaves}
 use Rattle.thread_local_bucket_pointers.specs.contracts.bucket_pointer.BucketPointer as one_pointer
-use Rattle.thread_local_bucket_pointers.specs.contracts.bucket_pointer.BucketPointer.null.{ended, clauses, Key.name as #self}
+use Rattle.thread_local_bucket_pointers.specs.contracts.bucket_pointer.BucketPointerDefault.default.{ended, clauses, Key.name as #self}
 use Rattle.thread_local_bucket_pointers.proofs.PointerSteps.{pointer_val, pointer_good, FieldsType, made}
-use Rattle.thread_local_bucket_pointers.proofs.bucket_pointer.BucketPointer.null.Statement.{statement}
-use Rattle.thread_local_bucket_pointers.proofs.bucket_pointer.BucketPointer.null.Code as code
+use Rattle.thread_local_bucket_pointers.proofs.bucket_pointer.BucketPointerDefault.default.Statement.{statement}
+use Rattle.thread_local_bucket_pointers.proofs.bucket_pointer.BucketPointerDefault.default.Code as code
 use Rattle.thread_local_base.proofs.Walking.{knows}
 
-pub null_spec : {M : Type 1} → statement M
-null_spec 𝓤 𝓛 𝓜 𝓡 wired T L =
+pub default_spec : {M : Type 1} → statement M
+default_spec 𝓤 𝓛 𝓜 𝓡 wired T L =
     let 𝓣 = tables 𝓤 𝓛.H 𝓜 𝓡 𝓡.env in let R : RattleType = param 0 T in let PointerRow : RattleType = one_pointer.the_row R in
     let En = ended T in let c = clauses T 𝓛 𝓜.mem 𝓡.returns in let inst = layouts (a_type ∷ []) (T, tt) in
     let fn = inst_fn inst code.function in

@@ -1,7 +1,7 @@
 use Rattle.std.proofs.Common.{subst}
 use Rattle.thread_local_base.specs.Buckets.{Contents, IsTable}
 use Rattle.thread_local_bucket_pointers.proofs.Clearing.{AreCleared-none}
-use Rattle.thread_local_bucket_pointers.proofs.bucket_pointers.BucketPointers.clear_all.Goals as goal
+use Rattle.thread_local_bucket_pointers.proofs.bucket_pointers.BucketPointers.clear.Goals as goal
 
 pub loop-done-init : goal.loop-done-init
 loop-done-init g c =
